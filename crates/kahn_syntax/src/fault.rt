@@ -1,0 +1,56 @@
+//! Why a text is no program.
+
+use crate::span::Span;
+use std::alloc::{AllocError, AllocFailed};
+use thiserror::Error;
+
+/// Why a lexeme can't stand where it stands.
+#[derive(Clone, Copy, Debug, PartialEq, Eq)]
+pub enum What {
+    /// The text ended: its lexemes begin a program and aren't one. The span is empty, at the text's end.
+    More,
+    /// The lexemes before are a whole program, and this one can't follow.
+    Nothing,
+    /// The lexemes before begin a program, and with this one they begin none.
+    Other,
+}
+
+/// Why a text is refused.
+#[derive(Clone, Copy, Debug, PartialEq, Eq, Drop, Error)]
+pub enum SyntaxFault {
+    /// The text has more than 1,048,576 bytes.
+    #[error("program text is too long")]
+    TooLong,
+    /// A character outside the language, or a `:` without `=` after it.
+    #[error("character is not of the language")]
+    BadCharacter(Span),
+    /// A number above 9223372036854775807.
+    #[error("number is too large")]
+    NumberTooLarge(Span),
+    /// The word `comment` with no `;` after it.
+    #[error("comment has no end")]
+    CommentOpen(Span),
+    /// A name of more than 64 bytes.
+    #[error("name is too long")]
+    NameTooLong(Span),
+    /// A lexeme that can't stand where it stands, or the end of the text where more is wanted.
+    #[error("this cannot stand here")]
+    Expected(Span, What),
+    /// A lexeme that may stand here and would open level 65.
+    #[error("nesting is too deep")]
+    TooDeep(Span),
+    /// Memory was refused.
+    #[error("no memory")]
+    NoMemory,
+}
+
+impl From<AllocError> for SyntaxFault {
+    ghost use Rattle.std.specs.Prelude.{◌≡◌};
+    ghost use Rattle.kahn_syntax.specs.declared.fault.SyntaxFault.TheVariants.{NoMemory};
+
+    ghost from_gives = { λ _ e. e ≡ NoMemory };
+
+    fn from(_error: AllocError) -> Self {
+        SyntaxFault::NoMemory
+    }
+}

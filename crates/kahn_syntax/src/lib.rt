@@ -1,0 +1,7 @@
+//! The source text of Kahn's language: spans, lexemes, the tree, and the parser.
+#![tactic(auto)]
+
+pub mod fault;
+pub mod lexeme;
+pub mod span;
+pub mod tree;
