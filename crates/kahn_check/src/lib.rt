@@ -1,0 +1,4 @@
+//! Checked networks: names, kinds and wiring.
+#![tactic(auto)]
+
+pub mod network;
