@@ -1,0 +1,118 @@
+-- Continuations are no more than doing one thing after another.
+use mathlib.Core.Path.{fun_ext}
+use Rattle.std.proofs.Common.{◌≡◌, ℕ, zero, suc, ◌-◌, Bool, true, false, List, [], ◌∷◌, refl, ap, ◌∙◌, Result, Ok, Err, neg_ℤ, not, slice_set, arith, zero-add, suc-add}
+use Rattle.kahn_streams.specs.declared.value.Value.{Value}
+use Rattle.kahn_streams.specs.declared.value.Value.TheVariants.{Logical}
+use Rattle.kahn_streams.specs.declared.value.Failure.{Failure}
+use Rattle.kahn_syntax.specs.Syntax.{Expr, Literal, Variable, Wait, Negate, Not, Binary, Conditional, Stmt, Skip, Assign, Send, Print, Seq, If, While, Repeat}
+use Rattle.kahn_streams.specs.Arithmetic.{number, truth, ranged, apply}
+use Rattle.kahn_streams.specs.Script.{Port, Parameter, Printer, Tapes, Script, Give, Fail, Waits, Sends, Turns, Rest, Outcome, Got, Dry, Fault, Cut, Reached, after_event, after_send, put, wait_at, play}
+use Rattle.kahn_streams.specs.Meaning.{Store, constant, settle, value_of, turns_of, script_of}
+use Rattle.kahn_streams.specs.Compose.{go_on, and_so, ExpressionsCompose, StatementsCompose}
+
+-- x, and f on what it gives
+abbrev graft : {A B : Type 0} → Script A → (A → Script B) → Script B
+graft (Give a) f = f a
+graft (Fail k) f = Fail k
+graft (Waits q go) f = Waits q (λ v. graft (go v) f)
+graft (Sends p v s) f = Sends p v (graft s f)
+graft (Turns s) f = Turns (graft s f)
+graft Rest f = Rest
+
+less : {A B : Type 0} (n : ℕ) (o : Outcome A) (r : Reached A) (f : A → Script B) →
+    after_event (go_on n o r f) ≡ go_on (suc n) o (after_event r) f
+less n (Got a) r f =
+    let e : suc n - suc r.events ≡ n - r.events = omega arith in
+    rw (e, suc-add) refl
+less n (Dry q) r f = refl
+less n (Fault k) r f = refl
+less n Cut r f = refl
+
+less_send : {A B : Type 0} (n : ℕ) (p : Port) (v : Value) (o : Outcome A) (r : Reached A) (f : A → Script B) →
+    after_send p v (go_on n o r f) ≡ go_on (suc n) o (after_send p v r) f
+less_send n p v (Got a) r f =
+    let e : suc n - suc r.events ≡ n - r.events = omega arith in
+    rw (e, suc-add) refl
+less_send n p v (Dry q) r f = refl
+less_send n p v (Fault k) r f = refl
+less_send n p v Cut r f = refl
+
+graft_wait : {A B : Type 0} (n q : ℕ) (T : Tapes) (vs : List Value) (go : ℕ → Value → Tapes → Reached A) (go' : ℕ → Value → Tapes → Reached B) (f : A → Script B) →
+    ((m : ℕ) (v : Value) (U : Tapes) → go' m v U ≡ and_so m (go m v U) f) →
+    wait_at n q T vs go' ≡ and_so n (wait_at n q T vs go) f
+graft_wait n q T [] go go' f h = refl
+graft_wait zero q T (v ∷ vs) go go' f h = refl
+graft_wait (suc n) q T (v ∷ vs) go go' f h = ap after_event (h n v (put T q vs)) ∙ less n _ _ f
+
+play_graft : {A B : Type 0} (n : ℕ) (x : Script A) (f : A → Script B) (T : Tapes) →
+    play n (graft x f) T ≡ and_so n (play n x T) f
+play_graft n (Give a) f T =
+    let e : n - 0 ≡ n = omega arith in
+    rw (e, zero-add) refl
+play_graft n (Fail k) f T = refl
+play_graft n (Waits q go) f T =
+    graft_wait n q T (T q) (λ m v U. play m (go v) U) (λ m v U. play m (graft (go v) f) U) f (λ m v U. play_graft m (go v) f U)
+play_graft zero (Sends p v s) f T = refl
+play_graft (suc n) (Sends p v s) f T = ap (after_send p v) (play_graft n s f T) ∙ less_send n p v _ _ f
+play_graft zero (Turns s) f T = refl
+play_graft (suc n) (Turns s) f T = ap after_event (play_graft n s f T) ∙ less n _ _ f
+play_graft n Rest f T = refl
+
+settle_graft : {A B : Type 0} (r : Result Value Failure) (f : Value → Script A) (g : A → Script B) →
+    settle r (λ v. graft (f v) g) ≡ graft (settle r f) g
+settle_graft (Ok v) f g = refl
+settle_graft (Err k) f g = refl
+
+by_graft : {A B : Type 0} (b : Bool) (x y : Script A) (x' y' : Script B) (g : A → Script B) → x' ≡ graft x g → y' ≡ graft y g →
+    (elim b [ true ↦ x' | false ↦ y' ]) ≡ graft (elim b [ true ↦ x | false ↦ y ]) g
+by_graft true x y x' y' g h h' = h
+by_graft false x y x' y' g h h' = h'
+
+-- it is enough that what goes on is grafted
+value_graft : {A B : Type 0} (e : Expr) (s : Store) (f : Value → Script A) (f' : Value → Script B) (g : A → Script B) →
+    ((v : Value) → f' v ≡ graft (f v) g) → value_of e s f' ≡ graft (value_of e s f) g
+value_graft (Literal c) s f f' g h = h (constant c)
+value_graft (Variable x) s f f' g h = h _
+value_graft (Wait q) s f f' g h = ap (Waits q) (fun_ext h)
+value_graft (Negate e) s f f' g h =
+    value_graft e s _ _ g (λ v. ap (settle (ranged (neg_ℤ (number v)))) (fun_ext h) ∙ settle_graft (ranged (neg_ℤ (number v))) f g)
+value_graft (Not e) s f f' g h = value_graft e s _ _ g (λ v. h (Logical (not (truth v))))
+value_graft (Binary o a b) s f f' g h =
+    value_graft a s _ _ g (λ v. value_graft b s _ _ g (λ w. ap (settle (apply o v w)) (fun_ext h) ∙ settle_graft (apply o v w) f g))
+value_graft (Conditional t a b) s f f' g h =
+    value_graft t s _ _ g (λ v. by_graft (truth v) _ _ _ _ g (value_graft a s f f' g h) (value_graft b s f f' g h))
+
+pub expressions_compose : (B : Type 0) → ExpressionsCompose B
+expressions_compose B n e s next T =
+    ap (λ x. play n x T) (value_graft e s Give next next (λ v. refl)) ∙ play_graft n (value_of e s Give) next T
+
+turns_graft : {A B : Type 0} (k : ℕ)
+    (test : Store → (Value → Script A) → Script A) (test' : Store → (Value → Script B) → Script B)
+    (body : Store → (Store → Script A) → Script A) (body' : Store → (Store → Script B) → Script B) (g : A → Script B) →
+    ((r : Store) (f : Value → Script A) (f' : Value → Script B) → ((v : Value) → f' v ≡ graft (f v) g) → test' r f' ≡ graft (test r f) g) →
+    ((r : Store) (f : Store → Script A) (f' : Store → Script B) → ((v : Store) → f' v ≡ graft (f v) g) → body' r f' ≡ graft (body r f) g) →
+    (s : Store) (f : Store → Script A) (f' : Store → Script B) → ((r : Store) → f' r ≡ graft (f r) g) →
+    turns_of k test' body' s f' ≡ graft (turns_of k test body s f) g
+turns_graft zero test test' body body' g ht hb s f f' h = refl
+turns_graft (suc k) test test' body body' g ht hb s f f' h =
+    ap Turns (ht s _ _ (λ v. by_graft (truth v) _ _ _ _ g
+    (hb s _ _ (λ r. turns_graft k test test' body body' g ht hb r f f' h))
+    (h s)))
+
+script_graft : {A B : Type 0} (k : ℕ) (b : Stmt) (s : Store) (f : Store → Script A) (f' : Store → Script B) (g : A → Script B) →
+    ((r : Store) → f' r ≡ graft (f r) g) → script_of k b s f' ≡ graft (script_of k b s f) g
+script_graft k Skip s f f' g h = h s
+script_graft k (Assign x e) s f f' g h = value_graft e s _ _ g (λ v. h (slice_set s x v))
+script_graft k (Send e q) s f f' g h = value_graft e s _ _ g (λ v. ap (Sends (Parameter q) v) (h s))
+script_graft k (Print e) s f f' g h = value_graft e s _ _ g (λ v. ap (Sends Printer v) (h s))
+script_graft k (Seq a b) s f f' g h = script_graft k a s _ _ g (λ r. script_graft k b r f f' g h)
+script_graft k (If t a b) s f f' g h =
+    value_graft t s _ _ g (λ v. by_graft (truth v) _ _ _ _ g (script_graft k a s f f' g h) (script_graft k b s f f' g h))
+script_graft k (While t b) s f f' g h =
+    turns_graft k _ _ _ _ g (λ r x x' e. value_graft t r x x' g e) (λ r x x' e. script_graft k b r x x' g e) s f f' h
+script_graft k (Repeat b) s f f' g h =
+    turns_graft k _ _ _ _ g (λ r x x' e. e (Logical true)) (λ r x x' e. script_graft k b r x x' g e) s f f' h
+
+pub statements_compose : (B : Type 0) → StatementsCompose B
+statements_compose B n k b s next T =
+    ap (λ x. play n x T) (script_graft k b s Give next next (λ r. refl)) ∙ play_graft n (script_of k b s Give) next T

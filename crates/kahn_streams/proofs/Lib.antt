@@ -1,0 +1,9 @@
+pub mod Examples
+pub mod Frame
+pub mod Fuel
+pub mod Proved
+pub mod Runs
+pub mod Sampled
+pub mod Finished
+pub mod Composed
+pub mod Loops

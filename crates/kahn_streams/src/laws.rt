@@ -1,0 +1,86 @@
+//! The laws of the meaning. Each function does nothing: its contract is the law.
+
+ghost use Rattle.kahn_streams.specs.Compose.{ExpressionsCompose, StatementsCompose, LoopsUnroll};
+ghost use Rattle.kahn_streams.specs.Laws.{IsChain, HasOneValue, IsSolved, IsSolution, IsBelow, Frame, IsQuiet, IsSettled, SendsStand, InputsGrow, IsCounted, IsUnrolled, IsDetermined};
+ghost use Rattle.kahn_streams.specs.Meaning.{Store, exec};
+ghost use Rattle.kahn_check.specs.Network.{Network};
+ghost use Rattle.kahn_streams.specs.Solution.{Inputs, Histories, Ending};
+ghost use Rattle.kahn_streams.specs.Sample.{Sample};
+ghost use Rattle.kahn_streams.specs.Script.{Script, Tapes, play};
+ghost use Rattle.kahn_streams.specs.Steps.{Step, Follows, RanBy, taken, sends_of, halted, empty};
+ghost use Rattle.kahn_syntax.specs.Syntax.{Expr, Stmt};
+ghost use Rattle.kahn_streams.specs.declared.value.Value.{Value};
+ghost use Rattle.std.specs.Prelude.{ℕ, suc, [], List, length, ◌≡◌};
+
+/// Each iterate is a prefix of the next.
+pub fn chain()
+    ensures { (N : Network) (I : Inputs) → IsChain N I }
+{}
+
+/// At most one value stands at a place.
+pub fn one_value()
+    ensures { (N : Network) (I : Inputs) → HasOneValue N I }
+{}
+
+/// The limit of the iterates is a solution.
+pub fn solves()
+    ensures { (N : Network) (I : Inputs) → IsSolved N I }
+{}
+
+/// It is below any solution, an infinite one too.
+pub fn least()
+    ensures { (N : Network) (I : Inputs) (T : ℕ → Histories) → IsSolution N I T → IsBelow N I T }
+{}
+
+/// Values past what was taken don't matter.
+pub fn frame()
+    ensures { (N : Network) → Frame N }
+{}
+
+/// The value at place k of X in the sample network is k mod 2.
+pub fn sample()
+    ensures { Sample }
+{}
+
+/// Quiet histories are the whole solution, with its ends.
+pub fn settles()
+    ensures { (N : Network) (I : Inputs) (A : Histories) (o : ℕ → Ending) (e : ℕ → ℕ) → IsQuiet N I A o e → IsSettled N I A o e }
+{}
+
+/// What a process sends on tapes that begin the solution stands in the solution.
+pub fn sends_stand()
+    ensures { (N : Network) (I : Inputs) → SendsStand N I }
+{}
+
+/// Longer inputs give longer iterates.
+pub fn inputs_grow()
+    ensures { (N : Network) → InputsGrow N }
+{}
+
+/// With just the events done and the values taken, all is taken and the same is sent.
+pub fn replays()
+    ensures { (s s' : Script Store) (steps : List Step) → Follows s steps s' → play (length steps) s (taken steps) ≡ record { outcome = halted s'; left = empty; events = length steps; sent = sends_of steps } }
+{}
+
+/// What is reached is reached by steps.
+pub fn ran_by_steps()
+    ensures { (n : ℕ) (s : Script Store) (T : Tapes) → RanBy s T (play n s T) }
+{}
+
+/// The meaning goes by cases on the syntax: first a part, and then the rest on what is left.
+pub fn composes()
+    ensures expressions { ExpressionsCompose Value }
+    ensures statements { StatementsCompose Store }
+    ensures loops { (t : Expr) (b : Stmt) → LoopsUnroll t b }
+{}
+
+/// At most n events are done, and just n where the outcome is cut; how far loops are unrolled makes no difference.
+pub fn counts()
+    ensures counted { (N : Network) (n p : ℕ) (H : Histories) → IsCounted N n p H }
+    ensures unrolled { (N : Network) → IsUnrolled N }
+{}
+
+/// The whole of a line and the end of a process are determined.
+pub fn determined()
+    ensures { (N : Network) (I : Inputs) → IsDetermined N I }
+{}
