@@ -7,3 +7,4 @@ pub mod Sampled
 pub mod Finished
 pub mod Composed
 pub mod Loops
+pub mod Token_lists

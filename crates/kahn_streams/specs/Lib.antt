@@ -6,3 +6,5 @@ pub mod Laws
 pub mod Steps
 pub mod Compose
 pub mod Sample
+pub mod Tokens
+pub mod Streams

@@ -1,6 +1,10 @@
 //! Values, tokens, inputs, and what a network means: the least solution of its equations, with its laws.
 #![tactic(auto)]
 
+pub mod about;
 pub mod arithmetic;
+pub mod input;
 pub mod laws;
+pub mod memory;
+pub mod token;
 pub mod value;

@@ -1,0 +1,26 @@
+-- What contracts say of lists of tokens.
+use Rattle.std.specs.Prelude.{◌≡◌, ℕ, suc, List, [], ◌∷◌, Some, slice_get}
+use Rattle.kahn_syntax.specs.declared.tree.Program.{Program}
+use Rattle.kahn_streams.specs.declared.value.Value.{Value}
+use Rattle.kahn_streams.specs.declared.value.Line.{Line}
+use Rattle.kahn_streams.specs.declared.token.Token.{Token}
+use Rattle.kahn_streams.specs.Tokens.{Lists, Holds}
+
+-- the token is of this network and this input
+abbrev pub IsOf : Program → Lists → Token → Type 0
+IsOf network input t = (t.network.value ≡ network) × (t.input.value ≡ input)
+
+-- these are tokens of the line, at the places from this one on
+abbrev pub Follow : Line → ℕ → List Token → Type 0
+Follow line from [] = Unit {0}
+Follow line from (t ∷ ts) = (t.line ≡ line) × (t.place ≡ from) × Follow line (suc from) ts
+
+-- these are tokens of this network and this input
+abbrev pub AllOf : Program → Lists → List Token → Type 0
+AllOf network input [] = Unit {0}
+AllOf network input (t ∷ ts) = IsOf network input t × AllOf network input ts
+
+-- the stream of a line: the token at each index stands on the line, at that place, in the solution
+abbrev pub IsRightStream : Program → Lists → Line → List Token → Type 0
+IsRightStream network input line ts =
+    (k : ℕ) (t : Token) → slice_get ts k ≡ Some t → (t.line ≡ line) × (t.place ≡ k) × Holds network input line k t.value
