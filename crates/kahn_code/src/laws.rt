@@ -1,0 +1,14 @@
+//! What flat code means. The function does nothing: its contract is the law.
+
+ghost use Rattle.std.specs.Prelude.{◌≡◌, ℕ, List, length};
+ghost use Rattle.kahn_streams.specs.declared.value.Value.{Value};
+ghost use Rattle.kahn_streams.specs.Meaning.{Store, exec};
+ghost use Rattle.kahn_streams.specs.Script.{Tapes, play};
+ghost use Rattle.kahn_syntax.specs.Syntax.{Stmt};
+ghost use Rattle.kahn_code.specs.Flat.{stmt_code, code_script, opened};
+
+/// With any number of events and on any tapes, the flat code of a statement does what the statement does, where it
+/// has as many slots as instructions.
+pub fn compiles()
+    ensures { (b : Stmt) (n : ℕ) (s : Store) (T : Tapes) → play n (code_script (stmt_code b) n (opened (length (stmt_code b)) s)) T ≡ exec n b s T }
+{}

@@ -1,0 +1,5 @@
+//! Flat code of processes, and the cells that run it.
+#![tactic(auto)]
+
+pub mod instruction;
+pub mod laws;
