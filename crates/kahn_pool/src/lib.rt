@@ -4,4 +4,4 @@
 pub mod answer;
 pub mod bench;
 pub mod laws;
-pub mod one;
+pub mod rounds;
