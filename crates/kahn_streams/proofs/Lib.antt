@@ -8,3 +8,4 @@ pub mod Finished
 pub mod Composed
 pub mod Loops
 pub mod Token_lists
+pub mod Found

@@ -4,11 +4,12 @@ ghost use Rattle.kahn_streams.specs.Compose.{ExpressionsCompose, StatementsCompo
 ghost use Rattle.kahn_streams.specs.Laws.{IsChain, HasOneValue, IsSolved, IsSolution, IsBelow, Frame, IsQuiet, IsSettled, SendsStand, InputsGrow, IsCounted, IsUnrolled, IsDetermined};
 ghost use Rattle.kahn_streams.specs.Meaning.{Store, exec};
 ghost use Rattle.kahn_check.specs.Network.{Network};
-ghost use Rattle.kahn_streams.specs.Solution.{Inputs, Histories, Ending};
+ghost use Rattle.kahn_streams.specs.Solution.{Inputs, Histories, Ending, Stands};
 ghost use Rattle.kahn_streams.specs.Sample.{Sample};
 ghost use Rattle.kahn_streams.specs.Script.{Script, Tapes, play};
 ghost use Rattle.kahn_streams.specs.Steps.{Step, Follows, RanBy, taken, sends_of, halted, empty};
 ghost use Rattle.kahn_syntax.specs.Syntax.{Expr, Stmt};
+ghost use Rattle.kahn_streams.specs.declared.value.Line.{Line};
 ghost use Rattle.kahn_streams.specs.declared.value.Value.{Value};
 ghost use Rattle.std.specs.Prelude.{ℕ, suc, [], List, length, ◌≡◌};
 
@@ -83,4 +84,9 @@ pub fn counts()
 /// The whole of a line and the end of a process are determined.
 pub fn determined()
     ensures { (N : Network) (I : Inputs) → IsDetermined N I }
+{}
+
+/// Where a value is known to stand somewhere in the solution there is an iterate that has it.
+pub fn found()
+    ensures { (N : Network) (I : Inputs) (c : Line) (k : ℕ) (v : Value) → ∥ (Stands N I c k v) ∥₁ → Stands N I c k v }
 {}

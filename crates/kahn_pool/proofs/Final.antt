@@ -1,0 +1,95 @@
+-- The answer after the last round.
+use Rattle.std.proofs.Common.{arith, ◌≡◌, ◌⊎◌, inl, inr, ℕ, zero, suc, ◌+◌, List, [], ◌∷◌, ◌++◌, length, map, sum_by, take, refl, sym, ap, ◌∙◌, subst, Some, None, slice_get, Bool, true, false}
+use Rattle.std.proofs.lemmas.List.Sums.{sum_by-cons}
+use Rattle.kahn_streams.specs.declared.value.Line.{Line}
+use Rattle.kahn_streams.specs.Solution.{source}
+use Rattle.kahn_pool.specs.declared.answer.Answer.{Answer}
+use Rattle.kahn_pool.specs.declared.answer.End.{End}
+use Rattle.kahn_pool.specs.declared.answer.Stream.{Stream}
+use Rattle.kahn_pool.specs.declared.answer.Outcome.TheVariants.{More}
+use Rattle.kahn_pool.specs.declared.answer.Verdict.{Verdict}
+use Rattle.kahn_pool.specs.declared.answer.Verdict.TheVariants.{Finished, Bound}
+use Rattle.kahn_pool.specs.Right.{events_of, line_of, stream_lines}
+use Rattle.kahn_pool.specs.Gathered.{View, view_at, AreWithin, IsFrom, IsGathered}
+use Rattle.kahn_pool.specs.Bench.{State, view_events, IsLast, IsVerdict, AreStreams}
+use Rattle.kahn_pool.proofs.Turns.{push_get}
+
+same_sums : (cs : List View) (xs : List End) → length xs ≡ length cs →
+    ((p : ℕ) (x : End) → slice_get xs p ≡ Some x → x.events ≡ (view_at cs p).events) → sum_by events_of xs ≡ sum_by view_events cs
+same_sums [] [] l h = refl
+same_sums [] (x ∷ xs) l h = absurd (omega (arith, l))
+same_sums (c ∷ cs) [] l h = absurd (omega (arith, l))
+same_sums (c ∷ cs) (x ∷ xs) l h =
+    let r : sum_by events_of xs ≡ sum_by view_events cs = same_sums cs xs (omega (arith, l)) (λ p. h (suc p)) in
+    let a : sum_by events_of (x ∷ xs) ≡ x.events + sum_by events_of xs = sum_by-cons events_of x xs in
+    let b : sum_by view_events (c ∷ cs) ≡ c.events + sum_by view_events cs = sum_by-cons view_events c cs in
+    let e : x.events ≡ c.events = h zero x refl in
+    omega (arith, r, a, b, e)
+
+pub gathered : (s : State) (bound left : ℕ) (memory : Bool) (a : Answer) → IsLast s bound left memory a.ends.items →
+    AreStreams s a.streams.items (stream_lines s.network None) → IsVerdict memory a.ends.items a.verdict →
+    AreWithin s.network s.input s.cells → a.events + left ≡ bound → IsGathered s.network s.input bound None a
+gathered s bound left memory a last streams rule within count =
+    record {
+      cells = s.cells;
+      known = last.known;
+      instances = last.size;
+      each = λ p x h. (last.ends p x h).0 a.verdict;
+      channels = within;
+      lines = streams.named;
+      streams = λ x h. streams.each h.0 x h.1;
+      finished = λ f. (finished_by a.verdict f rule).1;
+      bounded = λ f. bounded (bound_by a.verdict f rule);
+      total = sums;
+      within = omega (arith, count);
+    }
+  where
+    finished_by : (v : Verdict) → v ≡ Finished → IsVerdict memory a.ends.items v → IsVerdict memory a.ends.items Finished
+    finished_by v f h = subst (IsVerdict memory a.ends.items) f h
+
+    bound_by : (v : Verdict) → v ≡ Bound → IsVerdict memory a.ends.items v → IsVerdict memory a.ends.items Bound
+    bound_by v f h = subst (IsVerdict memory a.ends.items) f h
+
+    bounded : IsVerdict memory a.ends.items Bound → (a.events ≡ bound) × ((p : ℕ) × (x : End) × (slice_get a.ends.items p ≡ Some x) × (x.outcome ≡ More))
+    bounded h = (used ((last.ends h.1.0 h.1.1 h.1.2).1 h.1.3), h.1)
+      where
+        used : (left ≡ 0) ⊎ (memory ≡ true) → a.events ≡ bound
+        used (inl e) = omega (arith, e, count)
+        used (inr e) = let f : true ≡ false = sym e ∙ h.0 in absurd cc
+
+    sums : a.events ≡ sum_by events_of a.ends.items
+    sums =
+        let t : sum_by view_events s.cells + left ≡ bound = last.total in
+        let l : length a.ends.items ≡ length s.cells = last.size ∙ sym last.known in
+        let e : sum_by events_of a.ends.items ≡ sum_by view_events s.cells =
+        same_sums s.cells a.ends.items l (λ p x h. ((last.ends p x h).0 a.verdict).count)
+        in
+        omega (arith, t, e, count)
+
+-- ---- streams
+
+take_more : (ls : List Line) (i : ℕ) (x : Line) → slice_get ls i ≡ Some x → take (suc i) ls ≡ take i ls ++ x ∷ []
+take_more [] i x e = absurd cc
+take_more (l ∷ ls) zero x e = ap (λ y. y ∷ []) (same e)
+  where
+    same : Some l ≡ Some x → l ≡ x
+    same f = cc
+take_more (l ∷ ls) (suc i) x e = ap (λ r. l ∷ r) (take_more ls i x e)
+
+map_push : (ss : List Stream) (x : Stream) → map line_of (ss ++ x ∷ []) ≡ map line_of ss ++ x.line ∷ []
+map_push [] x = refl
+map_push (y ∷ ss) x = ap (λ r. y.line ∷ r) (map_push ss x)
+
+pub streams_push : (s : State) (ss : List Stream) (ls : List Line) (i : ℕ) (x : Stream) → slice_get ls i ≡ Some x.line →
+    IsFrom s.network s.input None s.cells (source s.network x.line) x.line x.tokens.items →
+    AreStreams s ss (take i ls) → AreStreams s (ss ++ x ∷ []) (take (suc i) ls)
+streams_push s ss ls i x e from h =
+    record {
+      named = map_push ss x ∙ (ap (λ l. l ++ x.line ∷ []) h.named ∙ sym (take_more ls i x.line e));
+      each = λ j y f. by j y (push_get ss x y j f);
+    }
+  where
+    by : (j : ℕ) (y : Stream) → (slice_get ss j ≡ Some y) ⊎ ((j ≡ length ss) × (x ≡ y)) →
+        IsFrom s.network s.input None s.cells (source s.network y.line) y.line y.tokens.items
+    by j y (inl f) = h.each j y f
+    by j y (inr f) = subst (λ u. IsFrom s.network s.input None s.cells (source s.network u.line) u.line u.tokens.items) f.1 from

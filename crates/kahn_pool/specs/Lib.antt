@@ -1,0 +1,4 @@
+pub mod Right
+pub mod Gathered
+pub mod Bench
+pub mod Parameters

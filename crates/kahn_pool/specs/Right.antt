@@ -1,0 +1,132 @@
+-- The right answer of a run: what it says of streams, events and ends, for a network, an input, a bound and a watched
+-- channel. It names no schedule. (This project's profile, over the solution of Kahn's paper.)
+use Rattle.std.specs.Prelude.{◌≡◌, ℕ, suc, ◌==◌, ◌≤◌, ◌||◌, Bool, true, false, List, [], ◌∷◌, ◌++◌, length, map, sum_by, Option, Some, None, slice_get, slice_index_or, if◌then◌else◌}
+use Rattle.kahn_streams.specs.declared.value.Value.{Value}
+use Rattle.kahn_streams.specs.declared.value.Line.{Line}
+use Rattle.kahn_streams.specs.declared.value.Line.TheVariants.{Channel, Print}
+use Rattle.kahn_syntax.specs.declared.tree.Role.{Role}
+use Rattle.kahn_syntax.specs.declared.tree.Role.TheVariants as role
+use Rattle.kahn_syntax.specs.Syntax.{prints_in}
+use Rattle.kahn_syntax.specs.declared.tree.Kind.{Kind}
+use Rattle.kahn_streams.specs.Script.{Dry}
+use Rattle.kahn_streams.specs.Solution as net
+use Rattle.kahn_check.specs.Network.{role_at, Network, Instance, Reads, instance_at, actual_at, Given, Written}
+use Rattle.kahn_streams.specs.Solution.{Histories, Inputs, exec_at, out, source, input_list, iterate, IsPrefix, Stands, IsWhole, HasEnd, ending}
+use Rattle.kahn_streams.specs.Laws.{IsExtended}
+use Rattle.kahn_pool.specs.declared.answer.Answer.{Answer}
+use Rattle.kahn_pool.specs.declared.answer.Stream.{Stream}
+use Rattle.kahn_pool.specs.declared.answer.End.{End}
+use Rattle.kahn_streams.specs.declared.token.Token.{Token}
+use Rattle.kahn_pool.specs.declared.answer.Verdict.{Verdict}
+use Rattle.kahn_pool.specs.declared.answer.Verdict.TheVariants.{Finished, Bound, Memory}
+use Rattle.kahn_pool.specs.declared.answer.Outcome.{Outcome}
+use Rattle.kahn_pool.specs.declared.answer.Outcome.TheVariants.{Ended, Waits, Faulted, More}
+
+-- ---- which streams an answer has
+
+abbrev pub is_output : Role → Bool
+is_output role.Inner = false
+is_output role.Input = false
+is_output role.Output = true
+
+abbrev pub is_watched : Option ℕ → ℕ → Bool
+is_watched None c = false
+is_watched (Some w) c = w == c
+
+abbrev pub is_streamed : Network → Option ℕ → ℕ → Bool
+is_streamed N watch c = is_output (role_at N c) || is_watched watch c
+
+-- the output and the watched channels from c on, in order of declaration
+abbrev pub channel_lines : Option ℕ → List (Kind × Role) → ℕ → List Line
+channel_lines watch [] c = []
+channel_lines watch (r ∷ rest) c =
+    if is_output r.1 || is_watched watch c then Channel c ∷ channel_lines watch rest (suc c) else channel_lines watch rest (suc c)
+
+-- the print streams of the instances from p on
+abbrev pub print_lines : List Instance → ℕ → List Line
+print_lines [] p = []
+print_lines (i ∷ rest) p = if prints_in i.body then Print p ∷ print_lines rest (suc p) else print_lines rest (suc p)
+
+abbrev pub stream_lines : Network → Option ℕ → List Line
+stream_lines N watch = channel_lines watch N.channels 0 ++ print_lines N.instances 0
+
+-- ---- parts of an answer
+
+abbrev pub line_of : Stream → Line
+line_of s = s.line
+
+abbrev pub value_of : Token → Value
+value_of t = t.value
+
+abbrev pub values_of : Stream → List Value
+values_of s = map value_of s.tokens.items
+
+abbrev pub events_of : End → ℕ
+events_of x = x.events
+
+abbrev pub HasStream : Answer → Stream → Type 0
+HasStream a s = (j : ℕ) × (slice_get a.streams.items j ≡ Some s)
+
+-- x is the end of instance p
+abbrev pub HasEndAt : Answer → ℕ → End → Type 0
+HasEndAt a p x = slice_get a.ends.items p ≡ Some x
+
+-- ---- where an instance stands
+
+-- on T instance p is dry at its parameter on c after e events
+abbrev pub IsDryOn : Network → Histories → ℕ → ℕ → ℕ → Type 0
+IsDryOn N T p e c =
+    (q : ℕ) × (actual_at (instance_at N p) q ≡ Reads c) × ((exec_at N e p T).outcome ≡ Dry q) × ((exec_at N e p T).events ≡ e)
+
+-- want of memory can leave values where a reader does not come to them
+abbrev pub IsWaiting : Verdict → Network → Histories → ℕ → ℕ → ℕ → Type 0
+IsWaiting Finished N A p e c = IsDryOn N A p e c
+IsWaiting Bound N A p e c = IsDryOn N A p e c
+IsWaiting Memory N A p e c = (T : Histories) × IsExtended T A × IsDryOn N T p e c
+
+abbrev pub IsOutcome : Verdict → Network → Histories → ℕ → ℕ → Outcome → Type 0
+IsOutcome v N A p e Ended = ending (exec_at N e p A).outcome ≡ Some net.Ended
+IsOutcome v N A p e (Faulted k) = ending (exec_at N e p A).outcome ≡ Some (net.Faulted k)
+IsOutcome v N A p e (Waits c) = IsWaiting v N A p e c
+IsOutcome v N A p e More = (exec_at N (suc e) p A).events ≡ suc e
+
+-- the end of p in the solution
+abbrev pub IsEnd : Network → Inputs → ℕ → Outcome → ℕ → Type 0
+IsEnd N I p Ended e = HasEnd N I p net.Ended e
+IsEnd N I p (Faulted k) e = HasEnd N I p (net.Faulted k) e
+IsEnd N I p (Waits c) e = (q : ℕ) × (actual_at (instance_at N p) q ≡ Reads c) × HasEnd N I p (net.Waiting q) e
+IsEnd N I p More e = ⊥
+
+-- ---- the right answer
+
+pub record IsRight (N : Network) (I : Inputs) (bound : ℕ) (watch : Option ℕ) (a : Answer) : Type 0 where
+  -- its streams are those that are named; the token at index k of the stream of line c has line c, place k, and a value that stands there
+  pub named : map line_of a.streams.items ≡ stream_lines N watch
+  pub tokens : (s : Stream) (k : ℕ) (t : Token) → HasStream a s → slice_get s.tokens.items k ≡ Some t →
+      (t.line ≡ s.line) × (t.place ≡ k) × Stands N I s.line k t.value
+  -- there are tapes, the input lists on the input channels and else prefixes of some iterate, such that each instance
+  -- does its events on them and sends them on each line that it writes; the values of each answered stream are theirs
+  pub tapes : Histories
+  pub inputs : (c : Line) → source N c ≡ Given → tapes c ≡ input_list I c
+  pub others : (c : Line) → (n : ℕ) × IsPrefix (tapes c) (iterate N I n c)
+  pub instances : length a.ends.items ≡ length N.instances
+  pub does : (p : ℕ) (x : End) → HasEndAt a p x → (exec_at N x.events p tapes).events ≡ x.events
+  pub sends : (p : ℕ) (x : End) → HasEndAt a p x → (c : Line) → source N c ≡ Written p → out N x.events p tapes c ≡ tapes c
+  pub values : (s : Stream) → HasStream a s → values_of s ≡ tapes s.line
+  -- each outcome is that of its instance on the tapes
+  pub outcomes : (p : ℕ) (x : End) → HasEndAt a p x → IsOutcome a.verdict N tapes p x.events x.outcome
+  -- `events` is the sum, and at most the bound
+  pub total : a.events ≡ sum_by events_of a.ends.items
+  pub within : a.events ≤ bound
+  -- a finished answer has the whole of each line and the end of each instance
+  pub whole : a.verdict ≡ Finished → (s : Stream) → HasStream a s → IsWhole N I s.line (values_of s)
+  pub ended : a.verdict ≡ Finished → (p : ℕ) (x : End) → HasEndAt a p x → IsEnd N I p x.outcome x.events
+  -- where the bound stopped it, the bound is used up and some instance has a next event
+  pub bounded : a.verdict ≡ Bound → (a.events ≡ bound) × ((p : ℕ) × (x : End) × HasEndAt a p x × (x.outcome ≡ More))
+
+-- two answers that say the same
+pub record AreOne (a b : Answer) : Type 0 where
+  pub lines : map line_of a.streams.items ≡ map line_of b.streams.items
+  pub values : map values_of a.streams.items ≡ map values_of b.streams.items
+  pub ends : a.ends.items ≡ b.ends.items
+  pub events : a.events ≡ b.events

@@ -1,0 +1,44 @@
+//! Answers of a run.
+
+use kahn_streams::token::Token;
+use kahn_streams::value::{Failure, Line};
+
+/// Why a run stopped.
+#[derive(Clone, Copy, Debug, PartialEq, Eq)]
+pub enum Verdict {
+    Finished,
+    Bound,
+    Memory,
+}
+
+/// Where an instance stands.
+#[derive(Clone, Copy, Debug, PartialEq, Eq)]
+pub enum Outcome {
+    Ended,
+    Waits(usize),
+    Faulted(Failure),
+    More,
+}
+
+/// The end of an instance.
+#[derive(Clone, Copy, Debug, PartialEq, Eq)]
+pub struct End {
+    pub outcome: Outcome,
+    pub events: u64,
+}
+
+/// What was sent on a line.
+#[derive(Drop)]
+pub struct Stream {
+    pub line: Line,
+    pub tokens: Vec<Token>,
+}
+
+/// The answer of a run.
+#[derive(Drop)]
+pub struct Answer {
+    pub verdict: Verdict,
+    pub streams: Vec<Stream>,
+    pub ends: Vec<End>,
+    pub events: u64,
+}

@@ -1,0 +1,63 @@
+//! Cells on plain queues, as a run asks them.
+
+ghost use Rattle.kahn_check.specs.Network.{instance_at, actual_at, Reads};
+ghost use Rattle.kahn_streams.specs.Solution.{source};
+ghost use Rattle.kahn_pool.specs.Bench.{State, Paused, AreStreams, events_at};
+ghost use Rattle.kahn_pool.specs.Gathered.{view_at, AreWithin, IsFrom};
+ghost use Rattle.kahn_pool.specs.Right.{stream_lines};
+ghost use Rattle.kahn_pool.specs.declared.bench.Pause.TheVariants as pause;
+ghost use Rattle.std.specs.Prelude.{◌≡◌, ℕ, ◌+◌, ◌<◌, ◌≤◌, ◌^◌, length, slice_set, slice_get, IfOk, None, Some};
+
+use crate::answer::Stream;
+use kahn_streams::value::Failure;
+
+/// Why a cell stopped.
+#[derive(Clone, Copy, Debug, PartialEq, Eq)]
+pub enum Pause {
+    Spent,
+    Dry(usize),
+    Ended,
+    Fault(Failure),
+    NoMemory,
+}
+
+/// The cells of a network, over plain queues.
+pub trait Bench {
+    // the network, the input, and what is seen of each cell
+    ghost state: { Self → State };
+
+    fn instance_count(&self) -> usize
+        ensures count { result ≡ length (state self.now).network.instances }
+        ensures known { length (state self.now).cells ≡ length (state self.now).network.instances };
+
+    /// Runs a cell for at most so many events.
+    fn run(&mut self, instance: usize, quantum: u64) -> Pause
+        requires here { instance < length (state self.old).network.instances }
+        requires bound { events_at (state self.old) instance + quantum < 2 ^ 48 }
+        ensures same { ((state self.new).network ≡ (state self.old).network) × ((state self.new).input ≡ (state self.old).input) }
+        // the other cells are left as they are
+        ensures only { (state self.new).cells ≡ slice_set (state self.old).cells instance (view_at (state self.new).cells instance) }
+        ensures events { (events_at (state self.old) instance ≤ events_at (state self.new) instance) × (events_at (state self.new) instance ≤ events_at (state self.old) instance + quantum) }
+        // where no event was done all is as before
+        ensures still { events_at (state self.new) instance ≡ events_at (state self.old) instance → state self.new ≡ state self.old }
+        ensures paused { Paused (state self.new) instance result }
+        ensures spent { result ≡ pause.Spent → events_at (state self.new) instance ≡ events_at (state self.old) instance + quantum }
+        ensures wanted { result ≡ pause.NoMemory → events_at (state self.new) instance < events_at (state self.old) instance + quantum };
+
+    /// How many events an instance has done.
+    fn events(&self, instance: usize) -> u64
+        requires { instance < length (state self.now).network.instances }
+        ensures { result ≡ events_at (state self.now) instance };
+
+    /// The channel that a parameter reads.
+    fn channel(&self, instance: usize, parameter: usize) -> usize
+        ensures { (c : ℕ) → actual_at (instance_at (state self.now).network instance) parameter ≡ Reads c → result ≡ c };
+
+    /// No reader took more than was given.
+    fn within(&self)
+        ensures { AreWithin (state self.now).network (state self.now).input (state self.now).cells };
+
+    /// The streams of the answer: what the writers kept. It takes no memory.
+    fn into_streams(self) -> Vec<Stream>
+        ensures { AreStreams (state self) result.items (stream_lines (state self).network None) };
+}

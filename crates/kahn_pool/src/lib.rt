@@ -1,0 +1,7 @@
+//! Runs of a network, and what their answers mean.
+#![tactic(auto)]
+
+pub mod answer;
+pub mod bench;
+pub mod laws;
+pub mod rounds;
