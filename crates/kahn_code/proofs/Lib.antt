@@ -1,2 +1,4 @@
 pub mod Fit
 pub mod Flattened
+pub mod Patch
+pub mod Rows
