@@ -2,3 +2,5 @@ pub mod Fit
 pub mod Flattened
 pub mod Patch
 pub mod Rows
+pub mod Lists
+pub mod Stand

@@ -1,7 +1,11 @@
 -- Lists whose values stand.
-use Rattle.std.proofs.Common.{arith, ◌≡◌, ◌⊎◌, inl, inr, ℕ, zero, suc, ◌+◌, ◌<◌, ◌≤◌, max, List, [], ◌∷◌, ◌++◌, length, map, refl, sym, ap, ◌∙◌, subst, Some, None, slice_get, append-nil, length-append}
+use Rattle.std.proofs.Common.{arith, ◌≡◌, ◌⊎◌, inl, inr, ℕ, zero, suc, ◌+◌, ◌<◌, ◌≤◌, max, List, [], ◌∷◌, ◌++◌, length, map, refl, sym, ap, ◌∙◌, subst, Some, None, slice_get, append-nil, length-append, le_refl, eq-or-lt_of_le, le_of_suc-le-suc}
 use Rattle.std.proofs.Math.Nat.{le-max_left, le-max_right}
 use mathlib.Core.Path.{fun_ext}
+use Rattle.std.proofs.lemmas.List.{get_or_past, map-append}
+use Rattle.kahn_syntax.specs.Syntax.{Number}
+use Rattle.std.proofs.Common.{pos, slice_index_or}
+use Rattle.kahn_streams.proofs.Frame.{Begins}
 use Rattle.kahn_check.specs.Network.{Network, Actual, Reads, Writes, Hands, instance_at, actual_at, Written}
 use Rattle.kahn_streams.specs.declared.value.Value.{Value}
 use Rattle.kahn_streams.specs.declared.value.Line.{Line}
@@ -50,6 +54,27 @@ stand_in N I c xs h =
 
 -- ---- what is sent on tapes whose values stand, stands
 
+pub reads_past : (acts : List Actual) (q d : ℕ) → length acts ≤ q → slice_index_or acts q (Hands (Number (pos 0))) ≡ Reads d → ⊥
+reads_past acts q d le e =
+    let f : slice_index_or acts q (Hands (Number (pos 0))) ≡ Hands (Number (pos 0)) = get_or_past acts q (Hands (Number (pos 0))) le in
+    let g : Hands (Number (pos 0)) ≡ Reads d = sym f ∙ e in
+    cc
+
+pub writes_past : (acts : List Actual) (q d : ℕ) → length acts ≤ q → slice_index_or acts q (Hands (Number (pos 0))) ≡ Writes d → ⊥
+writes_past acts q d le e =
+    let f : slice_index_or acts q (Hands (Number (pos 0))) ≡ Hands (Number (pos 0)) = get_or_past acts q (Hands (Number (pos 0))) le in
+    let g : Hands (Number (pos 0)) ≡ Writes d = sym f ∙ e in
+    cc
+
+pub split_at : (q n : ℕ) → (q < n) ⊎ (n ≤ q)
+split_at q zero = inr (omega arith)
+split_at zero (suc n) = inl (omega arith)
+split_at (suc q) (suc n) = by (split_at q n)
+  where
+    by : (q < n) ⊎ (n ≤ q) → (suc q < suc n) ⊎ (suc n ≤ suc q)
+    by (inl h) = inl (omega (arith, h))
+    by (inr h) = inr (omega (arith, h))
+
 module _ (N : Network) (I : Inputs) (p : ℕ) (T : Tapes) (stand : (q d : ℕ) → actual_at (instance_at N p) q ≡ Reads d → AllStand N I (Channel d) (T q)) (none : (q : ℕ) → ((d : ℕ) → actual_at (instance_at N p) q ≡ Reads d → ⊥) → T q ≡ []) where
   abbrev Begun : ℕ → ℕ → Type 0
   Begun m q = IsPrefix (T q) (tapes_of (instance_at N p) (iterate N I m) q)
@@ -73,7 +98,7 @@ module _ (N : Network) (I : Inputs) (p : ℕ) (T : Tapes) (stand : (q d : ℕ) �
   below_begun (suc b) = join (one_begun b) (below_begun b)
     where
       split : (q : ℕ) → q < suc b → (q ≡ b) ⊎ (q < b)
-      split q lt = omega (arith, lt)
+      split q lt = eq-or-lt_of_le (le_of_suc-le-suc lt)
 
       each : (one : (m : ℕ) × Begun m b) (rest : (m : ℕ) × ((q : ℕ) → q < b → Begun m q)) (q : ℕ) → (q ≡ b) ⊎ (q < b) → Begun (max one.0 rest.0) q
       each one rest q (inl e) = subst (Begun (max one.0 rest.0)) (sym e) (more_begun one.0 _ b (le-max_left one.0 rest.0) one.1)
@@ -81,3 +106,64 @@ module _ (N : Network) (I : Inputs) (p : ℕ) (T : Tapes) (stand : (q d : ℕ) �
 
       join : ((m : ℕ) × Begun m b) → ((m : ℕ) × ((q : ℕ) → q < b → Begun m q)) → (m : ℕ) × ((q : ℕ) → q < suc b → Begun m q)
       join one rest = (max one.0 rest.0, λ q lt. each one rest q (split q lt))
+
+  all_begun : (m : ℕ) × ((q : ℕ) → Begun m q)
+  all_begun = by (below_begun (length (instance_at N p).actuals))
+    where
+      each : (r : (m : ℕ) × ((q : ℕ) → q < length (instance_at N p).actuals → Begun m q)) (q : ℕ) → (q < length (instance_at N p).actuals) ⊎ (length (instance_at N p).actuals ≤ q) → Begun r.0 q
+      each r q (inl lt) = r.1 q lt
+      each r q (inr le) = nothing_begun r.0 q (none q (λ d e. reads_past (instance_at N p).actuals q d le e))
+
+      by : ((m : ℕ) × ((q : ℕ) → q < length (instance_at N p).actuals → Begun m q)) → (m : ℕ) × ((q : ℕ) → Begun m q)
+      by r = (r.0, λ q. each r q (split_at q (length (instance_at N p).actuals)))
+
+  pub sent_stands : (n k : ℕ) (c : Line) (v : Value) → source N c ≡ Written p → slice_get (sent_on N n p T c) k ≡ Some v → Stands N I c k v
+  sent_stands n k c v s e =
+      let m = all_begun.0 in
+      let more : Tapes = λ q. (all_begun.1 q).0 in
+      let tapes : tapes_of (instance_at N p) (iterate N I m) ≡ and_more T more = fun_ext (λ q. (all_begun.1 q).1) in
+      let b : Begins (exec_on N n p T).sent (exec_at N n p (iterate N I m)).sent = rw tapes (grows_play n n (script_at N n p) T more (le_refl n)) in
+      let begins : IsPrefix (sent_on N n p T c) (out N n p (iterate N I m) c) =
+      (values_at (goes_to N p c) b.0, ap (values_at (goes_to N p c)) b.1 ∙ values_append (goes_to N p c) (exec_on N n p T).sent b.0)
+      in
+      (suc (max n m), prefix_get _ _ (prefix_trans _ _ _ begins (solves N I c p n m s)) k v e)
+
+-- ---- one token more
+
+some_token : {t u : Token} → Some t ≡ Some u → t ≡ u
+some_token e = cc
+
+at_push : (ts : List Token) (t : Token) (k : ℕ) (u : Token) → slice_get (ts ++ t ∷ []) k ≡ Some u → (slice_get ts k ≡ Some u) ⊎ ((k ≡ length ts) × (t ≡ u))
+at_push [] t zero u e = inr (refl, some_token e)
+at_push [] t (suc k) u e = absurd cc
+at_push (x ∷ ts) t zero u e = inl e
+at_push (x ∷ ts) t (suc k) u e = by (at_push ts t k u e)
+  where
+    by : (slice_get ts k ≡ Some u) ⊎ ((k ≡ length ts) × (t ≡ u)) → (slice_get ts k ≡ Some u) ⊎ ((suc k ≡ suc (length ts)) × (t ≡ u))
+    by (inl h) = inl h
+    by (inr h) = inr (ap suc h.0, h.1)
+
+long_map : (ts : List Token) → length (map token_value ts) ≡ length ts
+long_map [] = refl
+long_map (t ∷ ts) = ap suc (long_map ts)
+
+pub kept_none : (c : Line) → IsKept c [] []
+kept_none c = record { values = refl; places = λ k t e. absurd cc }
+
+pub kept_long : (c : Line) (vs : List Value) (ts : List Token) → IsKept c vs ts → length ts ≡ length vs
+kept_long c vs ts h = sym (long_map ts) ∙ ap length h.values
+
+pub kept_push : (c : Line) (vs : List Value) (ts : List Token) (v : Value) (t : Token) → IsKept c vs ts → t.line ≡ c → t.place ≡ length vs → t.value ≡ v →
+    IsKept c (vs ++ v ∷ []) (ts ++ t ∷ [])
+kept_push c vs ts v t h l p w =
+    record {
+      values = map-append token_value ts (t ∷ []) ∙ ap (λ x. map token_value ts ++ x ∷ []) w ∙ ap (λ xs. xs ++ v ∷ []) h.values;
+      places = λ k u e. by k u (at_push ts t k u e);
+    }
+  where
+    size : length vs ≡ length ts
+    size = ap length (sym h.values) ∙ long_map ts
+
+    by : (k : ℕ) (u : Token) → (slice_get ts k ≡ Some u) ⊎ ((k ≡ length ts) × (t ≡ u)) → (u.line ≡ c) × (u.place ≡ k)
+    by k u (inl e) = h.places k u e
+    by k u (inr e) = (ap (λ x. x.line) (sym e.1) ∙ l, ap (λ x. x.place) (sym e.1) ∙ p ∙ size ∙ sym e.0)

@@ -1,3 +1,4 @@
 pub mod Flat
 pub mod Cells
 pub mod Standing
+pub mod Machines

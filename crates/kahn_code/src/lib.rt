@@ -4,3 +4,4 @@
 pub mod emit;
 pub mod instruction;
 pub mod laws;
+pub mod machine;
