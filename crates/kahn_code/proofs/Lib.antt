@@ -4,3 +4,4 @@ pub mod Patch
 pub mod Rows
 pub mod Lists
 pub mod Stand
+pub mod Uses

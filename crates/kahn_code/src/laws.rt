@@ -12,8 +12,3 @@ ghost use Rattle.kahn_code.specs.Flat.{stmt_code, code_script, opened};
 pub fn compiles()
     ensures { (b : Stmt) (n : ℕ) (s : Store) (T : Tapes) → play n (code_script (stmt_code b) n (opened (length (stmt_code b)) s)) T ≡ exec n b s T }
 {}
-
-#[tactic(auto, using(crate::proofs::Stand::same_or_not))]
-pub fn probe()
-    ensures { (xs : List Value) → length xs ≡ length xs }
-{}

@@ -1,0 +1,31 @@
+-- What the parameters of an instance are for.
+use Rattle.std.proofs.Common.{◌≡◌, ℕ, zero, suc, List, [], ◌∷◌, map, refl, ap, ◌∙◌, slice_index_or, pos, Bool}
+use Rattle.kahn_syntax.specs.Syntax.{Number}
+use Rattle.kahn_check.specs.Network.{Network, Actual, Reads, Writes, Hands, instance_at, actual_at, role_at}
+use Rattle.kahn_code.specs.declared.body.Body.{Body}
+use Rattle.kahn_code.specs.declared.body.Use.{Use}
+use Rattle.kahn_code.specs.declared.body.Use.TheVariants as u
+use Rattle.kahn_code.specs.Cells.{is_output}
+use Rattle.kahn_code.specs.Machines.{use_of, IsBody}
+
+use_map : (N : Network) (acts : List Actual) (q : ℕ) →
+    slice_index_or (map (use_of N) acts) q u.Value ≡ use_of N (slice_index_or acts q (Hands (Number (pos 0))))
+use_map N [] q = refl
+use_map N (a ∷ acts) zero = refl
+use_map N (a ∷ acts) (suc q) = use_map N acts q
+
+pub use_at : {A : Type 0} (N : Network) (p : ℕ) (b : Body A) (q : ℕ) → IsBody N p b → slice_index_or b.uses.items q u.Value ≡ use_of N (actual_at (instance_at N p) q)
+use_at N p b q h = ap (λ l. slice_index_or l q u.Value) h.uses ∙ use_map N (instance_at N p).actuals q
+
+pub reads_by : (N : Network) (a : Actual) → u.Reads ≡ use_of N a → (d : ℕ) × (a ≡ Reads d)
+reads_by N (Reads d) e = (d, refl)
+reads_by N (Writes d) e = absurd cc
+reads_by N (Hands v) e = absurd cc
+
+pub writes_by : (N : Network) (a : Actual) (c : ℕ) (b : Bool) → u.Writes c b ≡ use_of N a → (a ≡ Writes c) × (is_output (role_at N c) ≡ b)
+writes_by N (Reads d) c b e = absurd cc
+writes_by N (Writes d) c b e = let f : d ≡ c = cc in let g : b ≡ is_output (role_at N d) = cc in (ap Writes f, ap (λ x. is_output (role_at N x)) (ap (λ x. x) (let h : c ≡ d = cc in h)) ∙ (let k : is_output (role_at N d) ≡ b = cc in k))
+writes_by N (Hands v) c b e = absurd cc
+
+pub not_reads : (N : Network) (a : Actual) (w : Use) → w ≡ use_of N a → (w ≡ u.Reads → ⊥) → (d : ℕ) → a ≡ Reads d → ⊥
+not_reads N a w e ne d f = ne (e ∙ ap (use_of N) f)
