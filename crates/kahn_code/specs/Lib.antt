@@ -2,3 +2,5 @@ pub mod Flat
 pub mod Cells
 pub mod Standing
 pub mod Machines
+pub mod Seats
+pub mod Progress
