@@ -5,4 +5,6 @@ pub mod Rows
 pub mod Lists
 pub mod Stand
 pub mod Uses
+pub mod Kept
+pub mod Asks
 pub mod Sit
