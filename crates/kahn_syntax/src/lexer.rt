@@ -123,3 +123,6 @@ pub fn lex(alloc: Global, text: &str) -> Result<Vec<Lexeme>, SyntaxFault>
     }
     Ok(found)
 }
+
+#[cfg(test)]
+mod tests;
