@@ -8,6 +8,7 @@ use Rattle.kahn_streams.specs.declared.value.Value.TheVariants.{Integer, Logical
 use Rattle.kahn_check.specs.Network.{Network, kind_at}
 use Rattle.kahn_streams.specs.Solution.{Inputs}
 
+-- an integer is of the kind of integers, a truth value of the logical kind
 abbrev pub kind_of_value : Value → Kind
 kind_of_value (Integer z) = KindOf.Integer
 kind_of_value (Logical b) = KindOf.Logical
@@ -16,6 +17,6 @@ kind_of_value (Logical b) = KindOf.Logical
 abbrev pub AreOfKind : Kind → List Value → Type 0
 AreOfKind k vs = AllByRecursion (λ v. kind_of_value v ≡ k) vs
 
--- the list of each channel has the channel's kind
+-- the list of each channel has the channel's kind; only those of input channels are ever read
 abbrev pub FitsKinds : Network → Inputs → Type 0
 FitsKinds N I = (c : ℕ) → AreOfKind (kind_at N c) (I c)
