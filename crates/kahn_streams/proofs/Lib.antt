@@ -9,3 +9,5 @@ pub mod Composed
 pub mod Loops
 pub mod Token_lists
 pub mod Found
+pub mod Kinded
+pub mod Kinded_networks

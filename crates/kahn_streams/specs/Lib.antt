@@ -9,3 +9,4 @@ pub mod Sample
 pub mod Tokens
 pub mod Streams
 pub mod Examples
+pub mod Kinded
