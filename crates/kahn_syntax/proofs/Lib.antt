@@ -1,3 +1,5 @@
 pub mod Keywords
 pub mod Lexing
+pub mod OneList
 pub mod Runs
+pub mod Signs

@@ -2,7 +2,8 @@
 
 mod forms;
 
-ghost use Rattle.std.specs.Prelude.{◌≡◌, ℕ, ◌+◌, ◌<◌, ◌≤◌, length, slice_index, IfOk, IfErr};
+ghost use Rattle.std.specs.Prelude.{◌≡◌, ℕ, ◌+◌, ◌<◌, ◌≤◌, List, length, slice_index, IfOk, IfErr};
+ghost use Rattle.kahn_syntax.specs.declared.lexeme.Lexeme.{Lexeme};
 ghost use Rattle.kahn_syntax.specs.Lexemes.{IsBlank, IsWord, IsRun, IsLongest, IsLexFault, Lexed, most_bytes};
 ghost use Rattle.kahn_syntax.specs.Items.{IsItem, IsFaultAt};
 
@@ -123,6 +124,11 @@ pub fn lex(alloc: Global, text: &str) -> Result<Vec<Lexeme>, SyntaxFault>
     }
     Ok(found)
 }
+
+/// The law that a text has one list of lexemes.
+pub fn one_list()
+    ensures { (text : List ℕ) (xs ys : List Lexeme) → Lexed text 0 (length text) xs → Lexed text 0 (length text) ys → xs ≡ ys }
+{}
 
 #[cfg(test)]
 mod tests;
