@@ -1,3 +1,4 @@
+pub mod Cuts
 pub mod Keywords
 pub mod Lexing
 pub mod OneList

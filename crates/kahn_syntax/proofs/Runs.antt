@@ -1,25 +1,12 @@
--- Words and runs of digits as parts of a text: where they may be cut off, and the value of a run.
-use Rattle.std.proofs.Common.{◌≡◌, ℕ, ◌+◌, ◌-◌, ◌*◌, ◌≤◌, ◌<◌, ◌⊎◌, List, length, get_or, drop, subst, arith, ⊎_elim, Result, Err, ℤ, length-drop, length-take, w64}
-use Rattle.std.specs.Prelude.{IsUtf8, IsCharBoundary, slice_range}
+-- The value of a run of digits.
+use Rattle.std.proofs.Common.{◌≡◌, ℕ, ◌+◌, ◌-◌, ◌*◌, ◌≤◌, ◌<◌, ◌⊎◌, List, length, get_or, drop, arith, ⊎_elim, Result, Err, ℤ, length-drop, length-take, w64}
+use Rattle.std.specs.Prelude.{slice_range}
 use Rattle.std.specs.Int.{IsInRange}
 use Rattle.std.specs.Str.Parse.{digits_value, ParsesSigned}
 use Rattle.std.proofs.lemmas.List.{get_or-take, get_or-drop}
-use Rattle.std.proofs.lemmas.Str.{IsCharBoundary-after_ascii}
 use Rattle.std.proofs.lemmas.Str.Parse.{parse_signed_digits, numerals_by_value, tells_by_index, IsNumeralModel}
 use Rattle.std.proofs.lemmas.Bool.Decides.{nat_tests}
 use Rattle.kahn_syntax.specs.Lexemes.{IsRun}
-
-pub cut_after : (text : List ℕ) (b : ℕ) → IsUtf8 text → 0 < b → b ≤ length text → get_or text (b - 1) 0 < 128 → IsCharBoundary text b
-cut_after text b utf8 some inside ascii =
-    let e : (b - 1) + 1 ≡ b = omega arith in
-    subst (IsCharBoundary text) e (IsCharBoundary-after_ascii text (b - 1) utf8 (omega arith) ascii)
-
--- a run of digits may be cut off behind
-pub run_cut : (text : List ℕ) (a b : ℕ) → IsUtf8 text → b ≤ length text → IsRun text a b → IsCharBoundary text b
-run_cut text a b utf8 inside run =
-    let some : a < b = run.0 in
-    let last : (48 ≤ get_or text (b - 1) 0) × (get_or text (b - 1) 0 ≤ 57) = run.1 (b - 1) (omega arith) (omega arith) in
-    cut_after text b utf8 (omega arith) inside (omega arith)
 
 abbrev pub AreDigits : List ℕ → Type 0
 AreDigits ds = (i : ℕ) → i < length ds → IsInRange 48 57 (get_or ds i 0)

@@ -152,9 +152,9 @@ most_bytes = 1048576
 abbrev pub IsReached : List ℕ → ℕ → Type 0
 IsReached text a = (length text ≤ most_bytes) × ((xs : List Lexeme) × Lexed text 0 a xs)
 
--- one character of the text: no other begins within
+-- one character of the text: it may be cut before and behind, and not within
 abbrev pub IsCharacter : List ℕ → Span → Type 0
-IsCharacter text at = (at.from < at.to) × IsCharBoundary text at.to × ((i : ℕ) → at.from < i → i < at.to → ¬ (IsCharBoundary text i))
+IsCharacter text at = (at.from < at.to) × IsCharBoundary text at.from × IsCharBoundary text at.to × ((i : ℕ) → at.from < i → i < at.to → ¬ (IsCharBoundary text i))
 
 -- a character that isn't blank and where no form begins
 abbrev pub IsBadCharacter : List ℕ → Span → Type 0

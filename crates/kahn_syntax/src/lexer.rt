@@ -2,7 +2,7 @@
 
 mod forms;
 
-ghost use Rattle.std.specs.Prelude.{◌≡◌, ℕ, ◌+◌, ◌<◌, ◌≤◌, List, length, slice_index, IfOk, IfErr};
+ghost use Rattle.std.specs.Prelude.{◌≡◌, ℕ, ◌+◌, ◌<◌, ◌≤◌, List, length, slice_index, IfOk, IfErr, IsCharBoundary};
 ghost use Rattle.kahn_syntax.specs.declared.lexeme.Lexeme.{Lexeme};
 ghost use Rattle.kahn_syntax.specs.Lexemes.{IsBlank, IsWord, IsRun, IsLongest, IsLexFault, Lexed, most_bytes};
 ghost use Rattle.kahn_syntax.specs.Items.{IsItem, IsFaultAt};
@@ -75,6 +75,7 @@ fn number_item(text: &str, span: Span) -> Result<Item, SyntaxFault>
 /// What stands at a place that isn't blank.
 fn item_at(text: &str, from: usize) -> Result<Item, SyntaxFault>
     requires inside { from < length text.now }
+    requires cut { IsCharBoundary text.now from }
     requires dark { ¬ (IsBlank (slice_index text.now from)) }
     ensures item { IfOk result (IsItem text.now from) }
     ensures fault { IfErr result (IsFaultAt text.now from) }

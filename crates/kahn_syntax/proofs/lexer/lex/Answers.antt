@@ -1,6 +1,8 @@
 use Rattle.std.proofs.Common.{List, arith, refl, sym, subst}
 use Rattle.kahn_syntax.specs.declared.lexeme.Lexeme.{Lexeme}
 use Rattle.kahn_syntax.specs.Lexemes.{Lexed, no_gap}
+use Rattle.std.proofs.lemmas.Str.{IsCharBoundary-start}
+use Rattle.kahn_syntax.proofs.Cuts.{lexed_cut}
 use Rattle.kahn_syntax.proofs.Lexing.{blank_next, comment_next, lexeme_next}
 use Rattle.kahn_syntax.proofs.lexer.lex.Goals as goal
 
@@ -24,3 +26,8 @@ text-preserved c =
       inside = item.1.longest.inside;
       lexed = lexeme_next _ _ c.text.at c.text.found.items _ c.in-Lexeme.lexeme c.text.invariant.lexed item.1 item.0 c.in_ok-push-in-Lexeme.ensures.items;
     }
+
+pub item_at-requires-clause-cut : goal.item_at-requires-clause-cut
+item_at-requires-clause-cut c =
+    let text = c.args.text.now in
+    lexed_cut text 0 c.text.at c.text.found.items c.utf8.text (IsCharBoundary-start text c.utf8.text) c.text.invariant.lexed

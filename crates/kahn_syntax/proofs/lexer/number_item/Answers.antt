@@ -1,5 +1,6 @@
 use Rattle.std.proofs.Common.{refl}
-use Rattle.kahn_syntax.proofs.Runs.{run_cut, run_large}
+use Rattle.kahn_syntax.proofs.Cuts.{run_cut}
+use Rattle.kahn_syntax.proofs.Runs.{run_large}
 use Rattle.kahn_syntax.proofs.lexer.number_item.Goals as goal
 
 pub range-requires-clause-end_boundary : goal.range-requires-clause-end_boundary
