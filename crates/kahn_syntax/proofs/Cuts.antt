@@ -1,5 +1,5 @@
 -- Where a text may be cut: behind blanks, comments and lexemes.
-use Rattle.std.proofs.Common.{◌≡◌, ℕ, suc, ◌+◌, ◌-◌, ◌≤◌, ◌<◌, ◌⊎◌, ◌++◌, List, [], ◌∷◌, length, get_or, drop, refl, sym, ap, subst, ◌∙◌, arith, inl, inr, ⊎_elim, add-one}
+use Rattle.std.proofs.Common.{◌≡◌, ℕ, suc, ◌+◌, ◌-◌, ◌≤◌, ◌<◌, ◌⊎◌, ◌++◌, List, [], ◌∷◌, length, get_or, drop, refl, sym, ap, subst, ◌∙◌, arith, inl, inr, add-one}
 use Rattle.std.specs.Prelude.{IsUtf8, IsCharBoundary}
 use Rattle.std.proofs.Math.Seq.{drop-cons}
 use Rattle.std.proofs.Math.Utf8.{encode}
@@ -11,7 +11,7 @@ use Rattle.kahn_syntax.specs.declared.lexeme.Class.{Class}
 use Rattle.kahn_syntax.specs.declared.lexeme.Class.TheVariants as class
 use Rattle.kahn_syntax.specs.declared.lexeme.Sign.{Sign}
 use Rattle.kahn_syntax.specs.declared.lexeme.Sign.TheVariants.{Becomes, Open, Close, Comma, Semicolon, Plus, Minus, Times, Equal, Unequal, Less, AtMost, Greater, AtLeast, Not}
-use Rattle.kahn_syntax.specs.Lexemes.{IsBlank, IsLetter, IsWordByte, IsWord, IsRun, IsSign, IsOfClass, Stands, IsComment, Gap, no_gap, then_blank, then_comment, Lexed}
+use Rattle.kahn_syntax.specs.Lexemes.{IsBlank, IsLetter, IsWordByte, IsWord, IsRun, IsSign, IsOfClass, Stands, Gap, no_gap, then_blank, then_comment, Lexed}
 
 -- behind an ASCII byte
 pub cut_after : (text : List ℕ) (i b : ℕ) → IsUtf8 text → i + 1 ≡ b → i < length text → get_or text i 0 < 128 → IsCharBoundary text b

@@ -1,5 +1,5 @@
 -- The keywords, each at a place of its own.
-use Rattle.std.proofs.Common.{◌≡◌, ℕ, ◌<◌, List, [], ◌∷◌, map, get_or, refl, lit<, ap, ◌∙◌, sym, Option, Some, None, find, bytes_eq}
+use Rattle.std.proofs.Common.{◌≡◌, ℕ, ◌<◌, List, [], ◌∷◌, map, get_or, refl, lit<, lit≤, length, ◌≤◌, ap, ◌∙◌, sym, Option, Some, None, find, bytes_eq}
 use Rattle.std.specs.Prelude.{codes}
 use Rattle.std.specs.Char.{to_ascii_lowercase}
 use Rattle.kahn_syntax.specs.declared.lexeme.Keyword.{Keyword}
@@ -118,3 +118,34 @@ pub not_comment : (k : Keyword) → letters_of k ≡ codes "comment" → ⊥
 not_comment k e =
     let f : Some k ≡ None = sym (named_keyword k) ∙ ap keyword_named e in
     cc
+
+-- no keyword is longer than a name may be
+pub keyword_short : (k : Keyword) → length (letters_of k) ≤ 64
+keyword_short And = lit≤ tt
+keyword_short Begin = lit≤ tt
+keyword_short Channel = lit≤ tt
+keyword_short Div = lit≤ tt
+keyword_short Do = lit≤ tt
+keyword_short Else = lit≤ tt
+keyword_short End = lit≤ tt
+keyword_short False = lit≤ tt
+keyword_short If = lit≤ tt
+keyword_short In = lit≤ tt
+keyword_short Input = lit≤ tt
+keyword_short Integer = lit≤ tt
+keyword_short Logical = lit≤ tt
+keyword_short Mod = lit≤ tt
+keyword_short Not = lit≤ tt
+keyword_short On = lit≤ tt
+keyword_short Or = lit≤ tt
+keyword_short Out = lit≤ tt
+keyword_short Output = lit≤ tt
+keyword_short Par = lit≤ tt
+keyword_short Print = lit≤ tt
+keyword_short Process = lit≤ tt
+keyword_short Repeat = lit≤ tt
+keyword_short Send = lit≤ tt
+keyword_short Then = lit≤ tt
+keyword_short True = lit≤ tt
+keyword_short Wait = lit≤ tt
+keyword_short While = lit≤ tt

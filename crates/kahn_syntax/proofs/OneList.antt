@@ -1,25 +1,24 @@
 -- A text has one list of lexemes.
-use Rattle.std.proofs.Common.{◌≡◌, ℕ, ◌+◌, ◌≤◌, ◌<◌, ◌⊎◌, List, [], ◌∷◌, length, get_or, refl, sym, ap, subst, ◌∙◌, arith, inl, inr, ⊎_elim, pos}
-use Rattle.std.specs.Prelude.{codes, slice_range}
+use Rattle.std.proofs.Common.{◌≡◌, ℕ, ◌+◌, ◌≤◌, ◌<◌, ◌⊎◌, List, [], ◌∷◌, get_or, refl, sym, ap, subst, ◌∙◌, arith, inl, inr}
 use Rattle.std.proofs.lemmas.Bool.Decides.{nat_tests}
 use Rattle.kahn_syntax.specs.declared.lexeme.Lexeme.{Lexeme}
 use Rattle.kahn_syntax.specs.declared.lexeme.Class.{Class}
 use Rattle.kahn_syntax.specs.declared.lexeme.Class.TheVariants.{Word, Name, Number, Sign}
-use Rattle.kahn_syntax.specs.Lexemes.{IsBlank, IsWord, IsRun, IsSign, HasForm, IsLongest, IsCommentWord, IsOfClass, Stands, Closes, IsComment, Gap, no_gap, then_blank, then_comment, Lexed}
+use Rattle.kahn_syntax.specs.Lexemes.{IsBlank, IsRun, HasForm, IsLongest, IsCommentWord, IsOfClass, Stands, Closes, IsComment, Gap, no_gap, then_blank, then_comment, Lexed}
 use Rattle.kahn_syntax.proofs.Keywords.{same_keyword, not_comment}
 use Rattle.kahn_syntax.proofs.Signs.{sign_begins, same_sign, sign_letter, sign_digit, sign_blank, letter_digit, letter_blank, digit_blank}
 
 -- forms
 
-run_first : (text : List ℕ) (a b : ℕ) → IsRun text a b → (48 ≤ get_or text a 0) × (get_or text a 0 ≤ 57)
+pub run_first : (text : List ℕ) (a b : ℕ) → IsRun text a b → (48 ≤ get_or text a 0) × (get_or text a 0 ≤ 57)
 run_first text a b run = let some : a < b = run.0 in run.1 a (omega arith) some
 
-form_grows : (text : List ℕ) (a b : ℕ) → HasForm text a b → a < b
+pub form_grows : (text : List ℕ) (a b : ℕ) → HasForm text a b → a < b
 form_grows text a b (inl word) = word.0
 form_grows text a b (inr (inl run)) = run.0
 form_grows text a b (inr (inr (s, sign))) = (sign_begins text s a b sign).grows
 
-form_dark : (text : List ℕ) (a b : ℕ) → HasForm text a b → IsBlank (get_or text a 0) → ⊥
+pub form_dark : (text : List ℕ) (a b : ℕ) → HasForm text a b → IsBlank (get_or text a 0) → ⊥
 form_dark text a b (inl word) blank = letter_blank _ word.1 blank
 form_dark text a b (inr (inl run)) blank = digit_blank _ (run_first text a b run) blank
 form_dark text a b (inr (inr (s, sign))) blank = sign_blank _ (sign_begins text s a b sign).byte blank
@@ -27,7 +26,7 @@ form_dark text a b (inr (inr (s, sign))) blank = sign_blank _ (sign_begins text 
 order : (b c : ℕ) → (b ≡ c) ⊎ (b < c) ⊎ (c < b)
 order b c = grind (arith, nat_tests)
 
-same_end : (text : List ℕ) (a b c : ℕ) → IsLongest text a b → IsLongest text a c → b ≡ c
+pub same_end : (text : List ℕ) (a b c : ℕ) → IsLongest text a b → IsLongest text a c → b ≡ c
 same_end text a b c p q = go (order b c)
   where
     go : (b ≡ c) ⊎ (b < c) ⊎ (c < b) → b ≡ c
@@ -55,7 +54,7 @@ same_class text a b (Sign s) Name p q = absurd (sign_letter _ (sign_begins text 
 same_class text a b (Sign s) (Number n) p q = absurd (sign_digit _ (sign_begins text s a b p).byte (run_first text a b q.0))
 same_class text a b (Sign s) (Sign t) p q = ap Sign (same_sign text s t a b p q)
 
-no_comment : (text : List ℕ) (a b : ℕ) (u : Class) → IsOfClass text u a b → IsCommentWord text a b → ⊥
+pub no_comment : (text : List ℕ) (a b : ℕ) (u : Class) → IsOfClass text u a b → IsCommentWord text a b → ⊥
 no_comment text a b (Word k) p q = not_comment k (sym p.1 ∙ q.1)
 no_comment text a b Name p q = p.2 q.1
 no_comment text a b (Number n) p q = letter_digit _ q.0.1 (run_first text a b p.0)
@@ -69,21 +68,21 @@ same_close text a b c p q = go (order p.0 q.0)
     go (inr (inl sooner)) = absurd (q.5 p.0 p.2 sooner p.4)
     go (inr (inr later)) = absurd (p.5 q.0 q.2 later q.4)
 
-same_comment : (text : List ℕ) (a b c : ℕ) → IsComment text a b → IsComment text a c → b ≡ c
+pub same_comment : (text : List ℕ) (a b c : ℕ) → IsComment text a b → IsComment text a c → b ≡ c
 same_comment text a b c p q =
     let e : p.0 ≡ q.0 = same_end text a p.0 q.0 p.1 q.1 in
     same_close text q.0 b c (subst (λ (m : ℕ). Closes text m b) e p.3) q.3
 
-comment_grows : (text : List ℕ) (a b : ℕ) → IsComment text a b → a < b
+pub comment_grows : (text : List ℕ) (a b : ℕ) → IsComment text a b → a < b
 comment_grows text a b c =
     let word : a < c.0 = form_grows text a c.0 c.1.form in
     omega (arith, c.3.1, c.3.2)
 
-comment_dark : (text : List ℕ) (a b : ℕ) → IsComment text a b → IsBlank (get_or text a 0) → ⊥
+pub comment_dark : (text : List ℕ) (a b : ℕ) → IsComment text a b → IsBlank (get_or text a 0) → ⊥
 comment_dark text a b c blank = form_dark text a c.0 c.1.form blank
 
 -- what stands from a place to the end, read from the left
-data Walk (text : List ℕ) (n : ℕ) : ℕ → List Lexeme → Type 0 where
+pub data Walk (text : List ℕ) (n : ℕ) : ℕ → List Lexeme → Type 0 where
   ends : {a : ℕ} → a ≡ n → Walk text n a []
   blank : {a : ℕ} {xs : List Lexeme} → IsBlank (get_or text a 0) → Walk text n (a + 1) xs → Walk text n a xs
   comment : {a : ℕ} {xs : List Lexeme} (m : ℕ) → IsComment text a m → Walk text n m xs → Walk text n a xs
@@ -94,13 +93,13 @@ walk_gap text n a b xs no_gap w = w
 walk_gap text n a b xs (then_blank g dark) w = walk_gap text n a _ xs g (blank dark w)
 walk_gap text n a b xs (then_comment g c) w = walk_gap text n a _ xs g (comment b c w)
 
-walk : (text : List ℕ) (n a : ℕ) (xs : List Lexeme) → Lexed text a n xs → Walk text n a xs
+pub walk : (text : List ℕ) (n a : ℕ) (xs : List Lexeme) → Lexed text a n xs → Walk text n a xs
 walk text n a [] gap = walk_gap text n a n [] gap (ends refl)
 walk text n a (x ∷ xs) (gap, stands, rest) =
     walk_gap text n a x.span.from (x ∷ xs) gap (lexeme x refl stands (walk text n x.span.to xs rest))
 
 -- the end isn't before the place
-walk_le : (text : List ℕ) (n a : ℕ) (xs : List Lexeme) → Walk text n a xs → a ≤ n
+pub walk_le : (text : List ℕ) (n a : ℕ) (xs : List Lexeme) → Walk text n a xs → a ≤ n
 walk_le text n a xs (ends e) = omega arith
 walk_le text n a xs (blank b w) = let h : a + 1 ≤ n = walk_le text n (a + 1) xs w in omega arith
 walk_le text n a xs (comment m c w) =
@@ -112,7 +111,7 @@ walk_le text n a xs (lexeme x e stands w) =
     let g : x.span.from < x.span.to = form_grows text x.span.from x.span.to stands.longest.form in
     omega arith
 
-same_lexeme : (text : List ℕ) (a : ℕ) (x y : Lexeme) → x.span.from ≡ a → y.span.from ≡ a → Stands text x → Stands text y → x ≡ y
+pub same_lexeme : (text : List ℕ) (a : ℕ) (x y : Lexeme) → x.span.from ≡ a → y.span.from ≡ a → Stands text x → Stands text y → x ≡ y
 same_lexeme text a x y e f p q =
     let from : x.span.from ≡ y.span.from = e ∙ sym f in
     let to : x.span.to ≡ y.span.to =
@@ -122,10 +121,10 @@ same_lexeme text a x y e f p q =
     let what : x.what ≡ y.what = same_class text y.span.from y.span.to _ _ here q.class in
     λ i. record { span = record { from = from i; to = to i }; what = what i }
 
-lexeme_dark : (text : List ℕ) (a : ℕ) (x : Lexeme) → x.span.from ≡ a → Stands text x → IsBlank (get_or text a 0) → ⊥
+pub lexeme_dark : (text : List ℕ) (a : ℕ) (x : Lexeme) → x.span.from ≡ a → Stands text x → IsBlank (get_or text a 0) → ⊥
 lexeme_dark text a x e p dark = form_dark text x.span.from x.span.to p.longest.form (subst (λ (m : ℕ). IsBlank (get_or text m 0)) (sym e) dark)
 
-lexeme_comment : (text : List ℕ) (a m : ℕ) (x : Lexeme) → x.span.from ≡ a → Stands text x → IsComment text a m → ⊥
+pub lexeme_comment : (text : List ℕ) (a m : ℕ) (x : Lexeme) → x.span.from ≡ a → Stands text x → IsComment text a m → ⊥
 lexeme_comment text a m x e p c =
     let long : IsLongest text a x.span.to = subst (λ (k : ℕ). IsLongest text k x.span.to) e p.longest in
     let to : x.span.to ≡ c.0 = same_end text a x.span.to c.0 long c.1 in

@@ -107,16 +107,21 @@ letters_of word.While = codes "while"
 abbrev pub IsSpelled : List ℕ → List ℕ → Type 0
 IsSpelled letters bytes = str_to_ascii_lowercase bytes ≡ letters
 
+-- the largest number
+abbrev pub largest_number : ℕ
+largest_number = 9223372036854775807
+
 abbrev pub IsCommentWord : List ℕ → ℕ → ℕ → Type 0
 IsCommentWord text a b = IsWord text a b × IsSpelled (codes "comment") (slice_range text a b)
 
 -- the bytes from a to b are a lexeme of this class: a keyword; any other word of at most 64 bytes but `comment`; a run of
--- digits with its value; a sign
+-- digits with its value, up to the largest number; a sign
 abbrev pub IsOfClass : List ℕ → Class → ℕ → ℕ → Type 0
 IsOfClass text (class.Word k) a b = IsWord text a b × IsSpelled (letters_of k) (slice_range text a b)
 IsOfClass text class.Name a b = IsWord text a b × (b ≤ a + 64) × ¬ (IsSpelled (codes "comment") (slice_range text a b))
     × ((k : Keyword) → ¬ (IsSpelled (letters_of k) (slice_range text a b)))
 IsOfClass text (class.Number n) a b = IsRun text a b × (n ≡ pos (digits_value 10 (slice_range text a b)))
+    × (digits_value 10 (slice_range text a b) ≤ largest_number)
 IsOfClass text (class.Sign s) a b = IsSign text s a b
 
 -- a lexeme of the text, where it stands
@@ -161,10 +166,10 @@ abbrev pub IsBadCharacter : List ℕ → Span → Type 0
 IsBadCharacter text at = IsCharacter text at × ¬ (IsBlank (slice_index text at.from))
     × ((n : ℕ) → n ≤ length text → ¬ (HasForm text at.from n))
 
--- a run of digits above 9223372036854775807
+-- a run of digits above the largest number
 abbrev pub IsLargeNumber : List ℕ → Span → Type 0
 IsLargeNumber text at = IsLongest text at.from at.to × IsRun text at.from at.to
-    × (9223372036854775807 < digits_value 10 (slice_range text at.from at.to))
+    × (largest_number < digits_value 10 (slice_range text at.from at.to))
 
 -- the word `comment` with no semicolon after it
 abbrev pub IsOpenComment : List ℕ → Span → Type 0

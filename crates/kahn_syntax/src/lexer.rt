@@ -103,6 +103,7 @@ fn item_at(text: &str, from: usize) -> Result<Item, SyntaxFault>
 pub fn lex(alloc: Global, text: &str) -> Result<Vec<Lexeme>, SyntaxFault>
     ensures lexed { IfOk result (λ v. (length text.now ≤ most_bytes) × Lexed text.now 0 (length text.now) v.items) }
     ensures fault { IfErr result (IsLexFault text.now) }
+    ensures only { IfErr result (λ e. (xs : List Lexeme) → length text.now ≤ most_bytes → Lexed text.now 0 (length text.now) xs → e ≡ SyntaxFault.NoMemory) }
 {
     if text.len() > MOST_BYTES {
         return Err(SyntaxFault::TooLong);
