@@ -1,17 +1,19 @@
 -- Where a text may be cut: behind blanks, comments and lexemes.
 use Rattle.std.proofs.Common.{◌≡◌, ℕ, suc, ◌+◌, ◌-◌, ◌≤◌, ◌<◌, ◌⊎◌, ◌++◌, List, [], ◌∷◌, length, get_or, drop, refl, sym, ap, subst, ◌∙◌, arith, inl, inr, add-one}
-use Rattle.std.specs.Prelude.{IsUtf8, IsCharBoundary}
+use Rattle.std.specs.Prelude.{IsUtf8, IsCharBoundary, All}
 use Rattle.std.proofs.Math.Seq.{drop-cons}
 use Rattle.std.proofs.Math.Utf8.{encode}
 use Rattle.std.proofs.lemmas.List.{get_or_past}
 use Rattle.std.proofs.lemmas.Str.{IsUtf8-drop, IsCharBoundary-after_ascii, IsCharBoundary-past_char}
 use Rattle.std.proofs.lemmas.Bool.Decides.{nat_tests}
+use Rattle.std.proofs.lemmas.List.Elements.{All-nil, All-cons}
+use Rattle.kahn_syntax.proofs.OneList.{form_grows}
 use Rattle.kahn_syntax.specs.declared.lexeme.Lexeme.{Lexeme}
 use Rattle.kahn_syntax.specs.declared.lexeme.Class.{Class}
 use Rattle.kahn_syntax.specs.declared.lexeme.Class.TheVariants as class
 use Rattle.kahn_syntax.specs.declared.lexeme.Sign.{Sign}
 use Rattle.kahn_syntax.specs.declared.lexeme.Sign.TheVariants.{Becomes, Open, Close, Comma, Semicolon, Plus, Minus, Times, Equal, Unequal, Less, AtMost, Greater, AtLeast, Not}
-use Rattle.kahn_syntax.specs.Lexemes.{IsBlank, IsLetter, IsWordByte, IsWord, IsRun, IsSign, IsOfClass, Stands, Gap, no_gap, then_blank, then_comment, Lexed}
+use Rattle.kahn_syntax.specs.Lexemes.{IsBlank, IsLetter, IsWordByte, IsWord, IsRun, IsSign, IsOfClass, IsSlice, Stands, Gap, no_gap, then_blank, then_comment, Lexed}
 
 -- behind an ASCII byte
 pub cut_after : (text : List ℕ) (i b : ℕ) → IsUtf8 text → i + 1 ≡ b → i < length text → get_or text i 0 < 128 → IsCharBoundary text b
@@ -111,6 +113,15 @@ gap_cut text a c utf8 cut (then_blank {b = b} g blank) =
     let ascii : (0 < get_or text b 0) × (get_or text b 0 < 128) = blank_ascii _ blank in
     cut_after text b (b + 1) utf8 refl (read_inside text b ascii.0) ascii.1
 gap_cut text a b utf8 cut (then_comment g c) = cut_after text c.3.0 b utf8 (sym c.3.1) c.3.3 (omega (arith, c.3.4))
+
+-- each lexeme may be cut out
+pub lexed_slices : (text : List ℕ) (a b : ℕ) (xs : List Lexeme) → IsUtf8 text → IsCharBoundary text a → Lexed text a b xs → All (IsSlice text) xs
+lexed_slices text a b [] utf8 cut gap = All-nil (IsSlice text)
+lexed_slices text a b (x ∷ xs) utf8 cut (gap, stands, rest) =
+    let before : IsCharBoundary text x.span.from = gap_cut text a x.span.from utf8 cut gap in
+    let behind : IsCharBoundary text x.span.to = lexeme_cut text x utf8 before stands in
+    let slice : IsSlice text x = (form_grows text x.span.from x.span.to stands.longest.form, stands.longest.inside, before, behind) in
+    All-cons (IsSlice text) x xs slice (lexed_slices text x.span.to b xs utf8 behind rest)
 
 -- behind all of them
 pub lexed_cut : (text : List ℕ) (a b : ℕ) (xs : List Lexeme) → IsUtf8 text → IsCharBoundary text a → Lexed text a b xs → IsCharBoundary text b

@@ -129,6 +129,11 @@ pub record Stands (text : List ℕ) (x : Lexeme) : Type 0 where
   pub longest : IsLongest text x.span.from x.span.to
   pub class : IsOfClass text x.what x.span.from x.span.to
 
+-- a lexeme's bytes are a part of the text, and may be cut out of it
+abbrev pub IsSlice : List ℕ → Lexeme → Type 0
+IsSlice text x = (x.span.from < x.span.to) × (x.span.to ≤ length text)
+    × IsCharBoundary text x.span.from × IsCharBoundary text x.span.to
+
 -- the first semicolon from a on is the byte before b
 abbrev pub Closes : List ℕ → ℕ → ℕ → Type 0
 Closes text a b = (e : ℕ) × (b ≡ e + 1) × (a ≤ e) × (e < length text) × (slice_index text e ≡ 59)
