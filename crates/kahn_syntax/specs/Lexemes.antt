@@ -17,9 +17,11 @@ use Rattle.kahn_syntax.specs.declared.fault.SyntaxFault.TheVariants.{TooLong, Ba
 abbrev pub IsBlank : ℕ → Type 0
 IsBlank b = (b ≡ 32) ⊎ (b ≡ 9) ⊎ (b ≡ 13) ⊎ (b ≡ 10)
 
+-- an ASCII digit
 abbrev pub IsDigit : ℕ → Type 0
 IsDigit b = (48 ≤ b) × (b ≤ 57)
 
+-- an ASCII letter
 abbrev pub IsLetter : ℕ → Type 0
 IsLetter b = ((65 ≤ b) × (b ≤ 90)) ⊎ ((97 ≤ b) × (b ≤ 122))
 
@@ -107,10 +109,11 @@ letters_of word.While = codes "while"
 abbrev pub IsSpelled : List ℕ → List ℕ → Type 0
 IsSpelled letters bytes = str_to_ascii_lowercase bytes ≡ letters
 
--- the largest number
+-- the greatest value that a number may have
 abbrev pub largest_number : ℕ
 largest_number = 9223372036854775807
 
+-- the word `comment`, in any letter case
 abbrev pub IsCommentWord : List ℕ → ℕ → ℕ → Type 0
 IsCommentWord text a b = IsWord text a b × IsSpelled (codes "comment") (slice_range text a b)
 
@@ -166,7 +169,7 @@ IsReached text a = (length text ≤ most_bytes) × ((xs : List Lexeme) × Lexed 
 abbrev pub IsCharacter : List ℕ → Span → Type 0
 IsCharacter text at = (at.from < at.to) × IsCharBoundary text at.from × IsCharBoundary text at.to × ((i : ℕ) → at.from < i → i < at.to → ¬ (IsCharBoundary text i))
 
--- a character that isn't blank and where no form begins
+-- a character that isn't blank and where no form begins, as a `:` without `=` after it
 abbrev pub IsBadCharacter : List ℕ → Span → Type 0
 IsBadCharacter text at = IsCharacter text at × ¬ (IsBlank (slice_index text at.from))
     × ((n : ℕ) → n ≤ length text → ¬ (HasForm text at.from n))
@@ -185,7 +188,7 @@ IsOpenComment text at = IsLongest text at.from at.to × IsCommentWord text at.fr
 abbrev pub IsLongName : List ℕ → Span → Type 0
 IsLongName text at = IsLongest text at.from at.to × IsWord text at.from at.to × (at.from + 64 < at.to)
 
--- the first fault that a text's lexemes have
+-- the first fault of a text's lexemes: a text that is too long has no other, and memory may be wanted at any place
 abbrev pub IsLexFault : List ℕ → SyntaxFault → Type 0
 IsLexFault text TooLong = most_bytes < length text
 IsLexFault text (BadCharacter at) = IsReached text at.from × IsBadCharacter text at
