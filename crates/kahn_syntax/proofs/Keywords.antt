@@ -1,5 +1,6 @@
 -- The keywords, each at a place of its own.
-use Rattle.std.proofs.Common.{◌≡◌, ℕ, ◌<◌, List, [], ◌∷◌, map, get_or, refl, lit<, ap, ◌∙◌, sym, Option, Some, None, cond}
+use Rattle.std.proofs.Common.{◌≡◌, ℕ, ◌<◌, List, [], ◌∷◌, map, get_or, refl, lit<, lit≤, length, ◌≤◌, ap, ◌∙◌, sym, Option, Some, None, find, bytes_eq}
+use Rattle.std.specs.Prelude.{codes}
 use Rattle.std.specs.Char.{to_ascii_lowercase}
 use Rattle.kahn_syntax.specs.declared.lexeme.Keyword.{Keyword}
 use Rattle.kahn_syntax.specs.declared.lexeme.Keyword.TheVariants.{And, Begin, Channel, Div, Do, Else, End, False, If, In, Input, Integer, Logical, Mod, Not, On, Or, Out, Output, Par, Print, Process, Repeat, Send, Then, True, Wait, While}
@@ -73,3 +74,78 @@ lower_letters Then = refl
 lower_letters True = refl
 lower_letters Wait = refl
 lower_letters While = refl
+
+-- no two keywords have the same letters, and none has those of `comment`
+abbrev keyword_named : List ℕ → Option Keyword
+keyword_named letters = find (λ k. bytes_eq (letters_of k) letters) all_keywords
+
+named_keyword : (k : Keyword) → keyword_named (letters_of k) ≡ Some k
+named_keyword And = refl
+named_keyword Begin = refl
+named_keyword Channel = refl
+named_keyword Div = refl
+named_keyword Do = refl
+named_keyword Else = refl
+named_keyword End = refl
+named_keyword False = refl
+named_keyword If = refl
+named_keyword In = refl
+named_keyword Input = refl
+named_keyword Integer = refl
+named_keyword Logical = refl
+named_keyword Mod = refl
+named_keyword Not = refl
+named_keyword On = refl
+named_keyword Or = refl
+named_keyword Out = refl
+named_keyword Output = refl
+named_keyword Par = refl
+named_keyword Print = refl
+named_keyword Process = refl
+named_keyword Repeat = refl
+named_keyword Send = refl
+named_keyword Then = refl
+named_keyword True = refl
+named_keyword Wait = refl
+named_keyword While = refl
+
+pub same_keyword : (k l : Keyword) → letters_of k ≡ letters_of l → k ≡ l
+same_keyword k l e =
+    let f : Some k ≡ Some l = sym (named_keyword k) ∙ (ap keyword_named e ∙ named_keyword l) in
+    cc
+
+pub not_comment : (k : Keyword) → letters_of k ≡ codes "comment" → ⊥
+not_comment k e =
+    let f : Some k ≡ None = sym (named_keyword k) ∙ ap keyword_named e in
+    cc
+
+-- no keyword is longer than a name may be
+pub keyword_short : (k : Keyword) → length (letters_of k) ≤ 64
+keyword_short And = lit≤ tt
+keyword_short Begin = lit≤ tt
+keyword_short Channel = lit≤ tt
+keyword_short Div = lit≤ tt
+keyword_short Do = lit≤ tt
+keyword_short Else = lit≤ tt
+keyword_short End = lit≤ tt
+keyword_short False = lit≤ tt
+keyword_short If = lit≤ tt
+keyword_short In = lit≤ tt
+keyword_short Input = lit≤ tt
+keyword_short Integer = lit≤ tt
+keyword_short Logical = lit≤ tt
+keyword_short Mod = lit≤ tt
+keyword_short Not = lit≤ tt
+keyword_short On = lit≤ tt
+keyword_short Or = lit≤ tt
+keyword_short Out = lit≤ tt
+keyword_short Output = lit≤ tt
+keyword_short Par = lit≤ tt
+keyword_short Print = lit≤ tt
+keyword_short Process = lit≤ tt
+keyword_short Repeat = lit≤ tt
+keyword_short Send = lit≤ tt
+keyword_short Then = lit≤ tt
+keyword_short True = lit≤ tt
+keyword_short Wait = lit≤ tt
+keyword_short While = lit≤ tt

@@ -1,3 +1,7 @@
+pub mod Cuts
 pub mod Keywords
 pub mod Lexing
+pub mod NoList
+pub mod OneList
 pub mod Runs
+pub mod Signs

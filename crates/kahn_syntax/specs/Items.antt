@@ -1,6 +1,5 @@
 -- What the lexer meets at one place of a text.
 use Rattle.std.specs.Prelude.{◌≡◌, ℕ, List}
-use Rattle.kahn_syntax.specs.declared.lexeme.Lexeme.{Lexeme}
 use Rattle.kahn_syntax.specs.declared.lexer.Item.{Item}
 use Rattle.kahn_syntax.specs.declared.lexer.Item.TheVariants as item
 use Rattle.kahn_syntax.specs.declared.lexer.forms.Form.{Form}

@@ -17,9 +17,11 @@ use Rattle.kahn_syntax.specs.declared.fault.SyntaxFault.TheVariants.{TooLong, Ba
 abbrev pub IsBlank : ℕ → Type 0
 IsBlank b = (b ≡ 32) ⊎ (b ≡ 9) ⊎ (b ≡ 13) ⊎ (b ≡ 10)
 
+-- an ASCII digit
 abbrev pub IsDigit : ℕ → Type 0
 IsDigit b = (48 ≤ b) × (b ≤ 57)
 
+-- an ASCII letter
 abbrev pub IsLetter : ℕ → Type 0
 IsLetter b = ((65 ≤ b) × (b ≤ 90)) ⊎ ((97 ≤ b) × (b ≤ 122))
 
@@ -107,22 +109,33 @@ letters_of word.While = codes "while"
 abbrev pub IsSpelled : List ℕ → List ℕ → Type 0
 IsSpelled letters bytes = str_to_ascii_lowercase bytes ≡ letters
 
+-- the greatest value that a number may have
+abbrev pub largest_number : ℕ
+largest_number = 9223372036854775807
+
+-- the word `comment`, in any letter case
 abbrev pub IsCommentWord : List ℕ → ℕ → ℕ → Type 0
 IsCommentWord text a b = IsWord text a b × IsSpelled (codes "comment") (slice_range text a b)
 
 -- the bytes from a to b are a lexeme of this class: a keyword; any other word of at most 64 bytes but `comment`; a run of
--- digits with its value; a sign
+-- digits with its value, up to the largest number; a sign
 abbrev pub IsOfClass : List ℕ → Class → ℕ → ℕ → Type 0
 IsOfClass text (class.Word k) a b = IsWord text a b × IsSpelled (letters_of k) (slice_range text a b)
 IsOfClass text class.Name a b = IsWord text a b × (b ≤ a + 64) × ¬ (IsSpelled (codes "comment") (slice_range text a b))
     × ((k : Keyword) → ¬ (IsSpelled (letters_of k) (slice_range text a b)))
 IsOfClass text (class.Number n) a b = IsRun text a b × (n ≡ pos (digits_value 10 (slice_range text a b)))
+    × (digits_value 10 (slice_range text a b) ≤ largest_number)
 IsOfClass text (class.Sign s) a b = IsSign text s a b
 
 -- a lexeme of the text, where it stands
 pub record Stands (text : List ℕ) (x : Lexeme) : Type 0 where
   pub longest : IsLongest text x.span.from x.span.to
   pub class : IsOfClass text x.what x.span.from x.span.to
+
+-- a lexeme's bytes are a part of the text, and may be cut out of it
+abbrev pub IsSlice : List ℕ → Lexeme → Type 0
+IsSlice text x = (x.span.from < x.span.to) × (x.span.to ≤ length text)
+    × IsCharBoundary text x.span.from × IsCharBoundary text x.span.to
 
 -- the first semicolon from a on is the byte before b
 abbrev pub Closes : List ℕ → ℕ → ℕ → Type 0
@@ -152,19 +165,19 @@ most_bytes = 1048576
 abbrev pub IsReached : List ℕ → ℕ → Type 0
 IsReached text a = (length text ≤ most_bytes) × ((xs : List Lexeme) × Lexed text 0 a xs)
 
--- one character of the text: no other begins within
+-- one character of the text: it may be cut before and behind, and not within
 abbrev pub IsCharacter : List ℕ → Span → Type 0
-IsCharacter text at = (at.from < at.to) × IsCharBoundary text at.to × ((i : ℕ) → at.from < i → i < at.to → ¬ (IsCharBoundary text i))
+IsCharacter text at = (at.from < at.to) × IsCharBoundary text at.from × IsCharBoundary text at.to × ((i : ℕ) → at.from < i → i < at.to → ¬ (IsCharBoundary text i))
 
--- a character that isn't blank and where no form begins
+-- a character that isn't blank and where no form begins, as a `:` without `=` after it
 abbrev pub IsBadCharacter : List ℕ → Span → Type 0
 IsBadCharacter text at = IsCharacter text at × ¬ (IsBlank (slice_index text at.from))
     × ((n : ℕ) → n ≤ length text → ¬ (HasForm text at.from n))
 
--- a run of digits above 9223372036854775807
+-- a run of digits above the largest number
 abbrev pub IsLargeNumber : List ℕ → Span → Type 0
 IsLargeNumber text at = IsLongest text at.from at.to × IsRun text at.from at.to
-    × (9223372036854775807 < digits_value 10 (slice_range text at.from at.to))
+    × (largest_number < digits_value 10 (slice_range text at.from at.to))
 
 -- the word `comment` with no semicolon after it
 abbrev pub IsOpenComment : List ℕ → Span → Type 0
@@ -175,7 +188,7 @@ IsOpenComment text at = IsLongest text at.from at.to × IsCommentWord text at.fr
 abbrev pub IsLongName : List ℕ → Span → Type 0
 IsLongName text at = IsLongest text at.from at.to × IsWord text at.from at.to × (at.from + 64 < at.to)
 
--- the first fault that a text's lexemes have
+-- the first fault of a text's lexemes: a text that is too long has no other, and memory may be wanted at any place
 abbrev pub IsLexFault : List ℕ → SyntaxFault → Type 0
 IsLexFault text TooLong = most_bytes < length text
 IsLexFault text (BadCharacter at) = IsReached text at.from × IsBadCharacter text at

@@ -2,8 +2,9 @@
 
 mod forms;
 
-ghost use Rattle.std.specs.Prelude.{◌≡◌, ℕ, ◌+◌, ◌<◌, ◌≤◌, length, slice_index, IfOk, IfErr};
-ghost use Rattle.kahn_syntax.specs.Lexemes.{IsBlank, IsWord, IsRun, IsLongest, IsLexFault, Lexed, most_bytes};
+ghost use Rattle.std.specs.Prelude.{◌≡◌, ℕ, ◌+◌, ◌<◌, ◌≤◌, List, length, slice_index, All, IfOk, IfErr, IsCharBoundary};
+ghost use Rattle.kahn_syntax.specs.declared.lexeme.Lexeme.{Lexeme};
+ghost use Rattle.kahn_syntax.specs.Lexemes.{IsBlank, IsWord, IsRun, IsLongest, IsLexFault, IsSlice, Lexed, most_bytes};
 ghost use Rattle.kahn_syntax.specs.Items.{IsItem, IsFaultAt};
 
 use crate::fault::SyntaxFault;
@@ -74,6 +75,7 @@ fn number_item(text: &str, span: Span) -> Result<Item, SyntaxFault>
 /// What stands at a place that isn't blank.
 fn item_at(text: &str, from: usize) -> Result<Item, SyntaxFault>
     requires inside { from < length text.now }
+    requires cut { IsCharBoundary text.now from }
     requires dark { ¬ (IsBlank (slice_index text.now from)) }
     ensures item { IfOk result (IsItem text.now from) }
     ensures fault { IfErr result (IsFaultAt text.now from) }
@@ -100,7 +102,12 @@ fn item_at(text: &str, from: usize) -> Result<Item, SyntaxFault>
 /// A text of more than 1,048,576 bytes is refused before all else. Then the first fault in the text is answered.
 pub fn lex(alloc: Global, text: &str) -> Result<Vec<Lexeme>, SyntaxFault>
     ensures lexed { IfOk result (λ v. (length text.now ≤ most_bytes) × Lexed text.now 0 (length text.now) v.items) }
+    ensures slices { IfOk result (λ v. All (IsSlice text.now) v.items) }
+
     ensures fault { IfErr result (IsLexFault text.now) }
+
+    // A text that has lexemes is refused for want of memory alone.
+    ensures only { IfErr result (λ e. (xs : List Lexeme) → length text.now ≤ most_bytes → Lexed text.now 0 (length text.now) xs → e ≡ SyntaxFault.NoMemory) }
 {
     if text.len() > MOST_BYTES {
         return Err(SyntaxFault::TooLong);
@@ -123,6 +130,11 @@ pub fn lex(alloc: Global, text: &str) -> Result<Vec<Lexeme>, SyntaxFault>
     }
     Ok(found)
 }
+
+/// The law that a text has one list of lexemes.
+pub fn one_list()
+    ensures { (text : List ℕ) (xs ys : List Lexeme) → Lexed text 0 (length text) xs → Lexed text 0 (length text) ys → xs ≡ ys }
+{}
 
 #[cfg(test)]
 mod tests;

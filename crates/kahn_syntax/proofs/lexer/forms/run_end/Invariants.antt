@@ -1,4 +1,4 @@
-use Rattle.std.proofs.Common.{◌≡◌, ◌≤◌, ◌<◌, ◌-◌, ℕ, length, get_or}
+use Rattle.std.proofs.Common.{◌≤◌, ◌<◌, ◌-◌, ℕ, length, get_or}
 use Rattle.kahn_syntax.specs.Lexemes.{IsDigit}
 use Rattle.kahn_syntax.proofs.lexer.forms.run_end.Given as goal
 
