@@ -103,7 +103,7 @@ in_names P c kind j role r (x ∷ xs) rest h all = by (bytes_eq c (bytes_of x)) 
         inl (x, bytes_true c (bytes_of x) e, subst (λ z. P (x, (z, role))) same (subst (λ z. P (x, (j, z))) alike all.0))
     by false e i go = go i
 
-all_left : {X : Type 0} (P : X → Type 0) (xs ys : List X) → AllByRecursion P (xs ++ ys) → AllByRecursion P xs
+pub all_left : {X : Type 0} (P : X → Type 0) (xs ys : List X) → AllByRecursion P (xs ++ ys) → AllByRecursion P xs
 all_left P [] ys h = tt
 all_left P (x ∷ xs) ys h = (h.0, all_left P xs ys h.1)
 
@@ -130,13 +130,13 @@ a_channel P c kind role (D.Process p ∷ rest) h all = by (bytes_eq c (bytes_of 
 
 -- ---- hand-overs
 
-abbrev IsServed : Direction → Role → List Side → Type 0
+abbrev pub IsServed : Direction → Role → List Side → Type 0
 IsServed d role es = AtMostOne es × (is_closed d role ≡ true → es ≡ [])
 
 single : (es : List Side) → IsOne es → AtMostOne es
 single es h = subst AtMostOne (sym h.1) tt
 
-served : (t : Program) (n : Name) (kind : Kind) (role : Role) (d : Direction) → IsWired t (n, (kind, role)) → IsServed d role (ends d (bytes_of n) (handed_from t 0 t.instances.items))
+pub served : (t : Program) (n : Name) (kind : Kind) (role : Role) (d : Direction) → IsWired t (n, (kind, role)) → IsServed d role (ends d (bytes_of n) (handed_from t 0 t.instances.items))
 served t n kind Inner Out h = (single (writers t (bytes_of n)) h.0, λ i. cc)
 served t n kind Inner In h = (single (readers t (bytes_of n)) h.1, λ i. cc)
 served t n kind Input Out h = (subst AtMostOne (sym h.0) tt, λ i. h.0)
