@@ -3,5 +3,6 @@
 
 pub mod fault;
 pub mod lexeme;
+pub mod parser;
 pub mod span;
 pub mod tree;
