@@ -5,5 +5,6 @@ pub mod fault;
 pub mod keyword;
 pub mod lexeme;
 pub mod lexer;
+pub mod parser;
 pub mod span;
 pub mod tree;
