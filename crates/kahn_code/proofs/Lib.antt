@@ -7,4 +7,5 @@ pub mod Stand
 pub mod Uses
 pub mod Kept
 pub mod Asks
+pub mod Driven
 pub mod Sit
