@@ -1,0 +1,206 @@
+//! A lane hands tokens over in segments, in the order of their places.
+ghost use Rattle.std.specs.Prelude.{◌≡◌, ◌+◌, ◌≤◌, ◌<◌, ◌^◌, ◌⊎◌, true, false, IfOk, IfErr, IsSome, MatchResult, MatchOption, MatchBool, IsTrue, Some};
+ghost use Rattle.kahn_lane.specs.Places.{lane_name, token_name};
+ghost use Rattle.std.specs.VecDeque.{deque_len};
+ghost use Rattle.kahn_lane.specs.LaneEnds.{sender_lane, receiver_lane, sender_name, receiver_name, flushed, sent, HasRoom, taken, IsReady, known, left, SameSender, SameReceiver};
+
+use crate::fault::LaneFault;
+use crate::name::make_tag;
+use crate::segments::{
+    Bare, Behind, Flushed, InPlaces, Mark, Receiver, Segment, Sender, Sides, Starts, Stolen, Tells,
+};
+use crossbeam_deque::{Steal, Worker};
+use kahn_check::network::Network;
+use kahn_streams::input::Input;
+use kahn_streams::memory::NoMemory;
+use kahn_streams::token::Token;
+use kahn_streams::value::Line;
+use std::alloc::Allocator;
+use std::collections::VecDeque;
+use std::mem;
+
+const TRIES: usize = 64;
+
+const SEGMENT: usize = 64;
+
+/// The two ends of a new lane for the tokens of a channel.
+pub fn lane<A: Allocator + Clone + Drop>(
+    alloc: A,
+    network: &Network,
+    input: &Input,
+    channel: usize,
+) -> Result<(Sender<A>, Receiver<A>), LaneFault>
+    ensures lane { IfOk result (λ r. sender_lane r.0 ≡ receiver_lane r.1) }
+    ensures name { IfOk result (λ r. (sender_name r.0 ≡ Some (lane_name network.now input.now channel)) × (receiver_name r.1 ≡ Some (lane_name network.now input.now channel))) }
+    ensures start { IfOk result (λ r. (sent r.0 ≡ 0) × (flushed r.0 ≡ 0) × (taken r.1 ≡ 0) × (known r.1 ≡ 0)) }
+{
+    let left = VecDeque::new(alloc.clone()?);
+    let right = VecDeque::new(alloc.clone()?);
+    let name = Segment {
+        tag: Some(make_tag(network, input, Line::Channel(channel))),
+        tokens: VecDeque::new(alloc.clone()?),
+    };
+    let mut worker = Worker::<Segment<A>, A, Mark, InPlaces>::fifo_as(alloc, 1)?;
+    let Ok(()) = worker.push_as::<Tells>(name) else {
+        return Err(LaneFault::NoMemory);
+    };
+    let Some(_) = worker.pop_as::<Starts>() else {
+        unreachable!()
+    };
+    let stealer = worker.stealer()?;
+    let pass = worker.another::<Sides>();
+    let sender = Sender {
+        worker,
+        current: left,
+        flushed: 0,
+    };
+    let receiver = Receiver {
+        stealer,
+        pass,
+        current: right,
+        taken: 0,
+    };
+    Ok((sender, receiver))
+}
+
+impl<A: Allocator + Clone + Drop> Sender<A> {
+    /// Makes place for one token. Where the open segment is full it is flushed first.
+    pub fn room(&mut self) -> Result<(), NoMemory>
+        ensures same { SameSender self.old self.new × (sent self.new ≡ sent self.old) }
+        ensures room { IfOk result (λ _. HasRoom self.new) }
+        ensures flushed { (flushed self.new ≡ flushed self.old) ⊎ ((sent self.old ≡ flushed self.old + 64) × (flushed self.new ≡ sent self.old)) }
+    {
+        if self.current.len() >= SEGMENT {
+            self.flush()?;
+        }
+        match self.current.reserve(1) {
+            Ok(()) => Ok(()),
+            Err(_) => Err(NoMemory),
+        }
+    }
+
+    /// Makes the open segment visible, and answers how many tokens are so far. A refusal keeps the segment.
+    pub fn flush(&mut self) -> Result<u64, NoMemory>
+        ensures same { SameSender self.old self.new × (sent self.new ≡ sent self.old) }
+        ensures flushed { MatchResult result (λ n. (n ≡ sent self.old) × (flushed self.new ≡ sent self.old)) (λ _. flushed self.new ≡ flushed self.old) }
+    {
+        if self.current.is_empty() {
+            return Ok(self.flushed);
+        }
+        let Ok(alloc) = self.current.allocator().clone() else {
+            return Err(NoMemory);
+        };
+        let count = self.current.len() as u64;
+        let tokens = mem::replace(&mut self.current, VecDeque::new(alloc));
+        match self
+            .worker
+            .push_as::<Flushed>(Segment { tag: None, tokens })
+        {
+            Ok(()) => {
+                self.flushed += count;
+                Ok(self.flushed)
+            }
+            Err(segment) => {
+                self.current = segment.tokens;
+                Err(NoMemory)
+            }
+        }
+    }
+}
+
+impl<A: Allocator> Sender<A> {
+    /// Puts the next token into the open segment.
+    pub fn put(&mut self, token: Token)
+        requires room { HasRoom self.old }
+        requires token { (sender_name self.old ≡ Some (token_name token)) × (token.place ≡ sent self.old) × (sent self.old < 2 ^ 48) }
+        ensures same { SameSender self.old self.new × (flushed self.new ≡ flushed self.old) }
+        ensures sent { sent self.new ≡ sent self.old + 1 }
+    {
+        self.current.push_back_reserved(token);
+    }
+
+    pub fn sent(&self) -> u64
+        ensures { result ≡ sent self.now }
+    {
+        self.flushed + self.current.len() as u64
+    }
+
+    pub fn flushed(&self) -> u64
+        ensures { result ≡ flushed self.now }
+    {
+        self.flushed
+    }
+}
+
+impl<A: Allocator + Drop> Receiver<A> {
+    /// Whether the next `take` gives a token.
+    pub fn ready(&mut self) -> bool
+        ensures same { SameReceiver self.old self.new × (taken self.new ≡ taken self.old) × (known self.new ≡ known self.old) }
+        ensures ready { result ≡ true → IsReady self.new }
+        ensures still { IsReady self.old → result ≡ true }
+        ensures dry { result ≡ false → (known self.old ≤ taken self.old) ⊎ (left self.old + 64 ≤ left self.new) }
+    {
+        !self.current.is_empty() || self.refill()
+    }
+
+    /// The next token. `None` only where all that was flushed was taken, at one moment of the call, or after 64 answers of `Retry`.
+    pub fn take(&mut self) -> Option<Token>
+        ensures same { SameReceiver self.old self.new × (known self.new ≡ known self.old) }
+        ensures ready { IsReady self.old → IsSome result }
+        ensures rule { MatchOption result ((taken self.new ≡ taken self.old) × ((known self.old ≤ taken self.old) ⊎ (left self.old + 64 ≤ left self.new))) (λ t. (receiver_name self.old ≡ Some (token_name t)) × (t.place ≡ taken self.old) × (taken self.new ≡ taken self.old + 1)) }
+    {
+        if !self.ready() {
+            return None;
+        }
+        let Some(token) = self.current.pop_front() else {
+            unreachable!()
+        };
+        self.taken += 1;
+        Some(token)
+    }
+
+    pub fn taken(&self) -> u64
+        ensures { result ≡ taken self.now }
+    {
+        self.taken
+    }
+
+    // Steals the next segment, where the open one is used up.
+    fn refill(&mut self) -> bool
+        requires { deque_len self.old.current ≡ 0 }
+        ensures same { SameReceiver self.old self.new × (taken self.new ≡ taken self.old) × (known self.new ≡ known self.old) }
+        ensures ready { result ≡ true → IsReady self.new }
+        ensures dry { result ≡ false → (known self.old ≤ taken self.old) ⊎ (left self.old + 64 ≤ left self.new) }
+    {
+        for _ in 0..TRIES {
+            match self.stealer.steal_as::<Stolen>(&mut self.pass) {
+                Steal::Success(segment) => {
+                    self.current = segment.tokens;
+                    return true;
+                }
+                Steal::Empty => return false,
+                Steal::Retry => {}
+            }
+        }
+        false
+    }
+}
+
+/// How many tokens are flushed and not taken.
+pub fn meet<A: Allocator>(sender: &mut Sender<A>, receiver: &mut Receiver<A>) -> u64
+    requires { sender_lane sender.old ≡ receiver_lane receiver.old }
+    ensures sender { SameSender sender.old sender.new × (sent sender.new ≡ sent sender.old) × (flushed sender.new ≡ flushed sender.old) }
+    ensures receiver { SameReceiver receiver.old receiver.new × (taken receiver.new ≡ taken receiver.old) }
+    ensures ready { IsReady receiver.old → IsReady receiver.new }
+    ensures rule { taken receiver.old + result ≡ flushed sender.old }
+    ensures known { known receiver.new ≡ flushed sender.old }
+{
+    let bare = sender.worker.another::<Bare>();
+    let pass = mem::replace(&mut receiver.pass, bare);
+    sender.worker.absorb::<Sides>(pass);
+    let _segments = sender.worker.len_as::<Behind>();
+    let pass = sender.worker.another::<Sides>();
+    let bare = mem::replace(&mut receiver.pass, pass);
+    sender.worker.absorb::<Bare>(bare);
+    sender.flushed - receiver.taken
+}
