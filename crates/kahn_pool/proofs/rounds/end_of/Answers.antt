@@ -3,9 +3,9 @@ use Rattle.std.proofs.Common.{sym, ap, ◌∙◌}
 use Rattle.kahn_check.specs.Network.{Reads}
 use Rattle.kahn_streams.specs.Solution.{exec_at}
 use Rattle.kahn_pool.specs.Bench.{events_at}
-use Rattle.kahn_pool.proofs.Rounds.{told_as, told_dry}
-use Rattle.kahn_pool.proofs.one.end_of.Goals as goal
-use Rattle.kahn_pool.proofs.one.end_of.Goals.{in-Spent, in-NoMemory, in-Ended, in-Fault, in-Dry}
+use Rattle.kahn_pool.proofs.Turns.{told_as, told_dry}
+use Rattle.kahn_pool.proofs.rounds.end_of.Goals as goal
+use Rattle.kahn_pool.proofs.rounds.end_of.Goals.{in-Spent, in-NoMemory, in-Ended, in-Fault, in-Dry}
 
 pub returns-clause-rests : goal.returns-clause-rests
 returns-clause-rests g c v =

@@ -1,6 +1,6 @@
-use Rattle.std.proofs.Common.{◌≡◌, ◌+◌, length}
+use Rattle.std.proofs.Common.{◌≡◌, ◌≤◌, ◌+◌, length, vec_capacity}
 use Rattle.kahn_pool.specs.Bench.{all_events, weight}
-use Rattle.kahn_pool.proofs.one.last_round.Given as goal
+use Rattle.kahn_pool.proofs.rounds.last_round.Given as goal
 
 abbrev pub invariant-rounds : goal.invariant-rounds
 invariant-rounds g l = record {
@@ -8,6 +8,7 @@ invariant-rounds g l = record {
   input : (g.B.Bench.state l.bench).input ≡ (g.B.Bench.state l.fn.bench).input;
   known : length (g.B.Bench.state l.bench).cells ≡ length (g.B.Bench.state l.bench).network.instances;
   total : all_events (g.B.Bench.state l.bench) + l.left ≡ all_events (g.B.Bench.state l.fn.bench) + l.fn.bound;
+  room : length (g.B.Bench.state l.bench).network.instances ≤ vec_capacity l.ends;
 }
 
 abbrev pub decreases-rounds : goal.decreases-rounds

@@ -1,7 +1,7 @@
 use Rattle.std.proofs.Common.{◌≡◌, ◌+◌, ◌-◌, ◌<◌, ◌≤◌, arith, length, ap, ◌∙◌, subst}
 use Rattle.kahn_pool.specs.Bench.{events_at}
-use Rattle.kahn_pool.proofs.Rounds.{run_bound, goes_on}
-use Rattle.kahn_pool.proofs.one.Round.step.Goals as goal
+use Rattle.kahn_pool.proofs.Turns.{run_bound, goes_on}
+use Rattle.kahn_pool.proofs.rounds.Round.step.Goals as goal
 
 pub run-stopped-requires-clause-bound : goal.run-stopped-requires-clause-bound
 run-stopped-requires-clause-bound g c =
@@ -9,14 +9,14 @@ run-stopped-requires-clause-bound g c =
     (run_bound (g.B.Bench.state c.args.bench.now).cells c.args.instance c.args.self.now.left c.args.self.now.memory c.requires.bound)
 
 pub returns-clause-goes : goal.returns-clause-goes
-returns-clause-goes g c e s0 w0 t0 go =
+returns-clause-goes g c s0 w0 t0 go =
     let s = g.B.Bench.state c.args.bench.now in
     let t = g.B.Bench.state c.run-stopped.new.self in
     let p = c.args.instance in
     let a : c.events-before.result ≡ events_at s p = c.events-before.ensures in
     let b : c.events.result ≡ events_at t p = c.events.ensures in
     let up : events_at s p ≤ events_at t p = c.run-stopped.ensures.events.0 in
-    rw (c.in_ok-push.ensures.items, c.mark.ensures.ends)
+    rw (c.push_reserved.ensures.items, c.mark.ensures.ends)
     (goes_on s0 w0 t0 s t p c.args.self.now.left c.mark.new.self.left (c.events.result - c.events-before.result)
     c.args.self.now.memory c.mark.new.self.memory c.args.self.now.moved c.mark.new.self.moved c.run-stopped.result c.end_of.result
     c.args.self.now.ends.items go
