@@ -1,6 +1,10 @@
-//! A relay hands items over one by one, in order.
-ghost use Rattle.std.specs.Prelude.{◌≡◌, ℕ, ◌+◌, ◌≤◌, ◌<◌, ◌⊎◌, List, [], ◌∷◌, ◌++◌, length, IfOk, MatchResult, MatchOption};
-ghost use Rattle.kahn_lane.specs.Ends.{giver_relay, taker_relay, given, got, known, left};
+//! The calls of a relay: items pass between two threads one by one, in order, and any number of them may be under
+//! way.
+//!
+//! A taker that finds nothing says so at once. It never holds its thread.
+
+ghost use Rattle.std.specs.Prelude.{◌≡◌, ◌+◌, ◌≤◌, ◌<◌, ◌⊎◌, List, [], ◌∷◌, ◌++◌, length, IfOk, MatchResult, MatchOption};
+ghost use Rattle.kahn_lane.specs.RelayEnds.{giver_relay, taker_relay, given, got, known, left};
 
 use crate::ends::{Blank, Giver, Got, InOrder, Log, Roles, Sent, Taker, Total};
 use crate::fault::LaneFault;
@@ -9,13 +13,15 @@ use kahn_streams::memory::NoMemory;
 use std::alloc::Allocator;
 use std::mem;
 
+// How often a steal that came between two others is tried again.
 const TRIES: usize = 64;
 
-/// The two ends of a new relay.
+/// The two ends of a new relay, which may go to different threads. Nothing was given or taken yet.
 pub fn relay<T: Drop, A: Allocator + Clone + Drop>(
     alloc: A,
 ) -> Result<(Giver<T, A>, Taker<T, A>), LaneFault>
-    ensures { IfOk result (λ r. (giver_relay r.0 ≡ taker_relay r.1) × (given r.0 ≡ []) × (got r.1 ≡ []) × (known r.1 ≡ 0)) }
+    ensures one { IfOk result (λ r. giver_relay r.0 ≡ taker_relay r.1) }
+    ensures start { IfOk result (λ r. (given r.0 ≡ []) × (got r.1 ≡ []) × (known r.1 ≡ 0)) }
 {
     let mut worker = Worker::<T, A, Log<T>, InOrder>::fifo_as(alloc, 1)?;
     let stealer = worker.stealer()?;
@@ -24,7 +30,8 @@ pub fn relay<T: Drop, A: Allocator + Clone + Drop>(
 }
 
 impl<T, A: Allocator> Giver<T, A> {
-    /// Gives the item back where there is no memory.
+    /// Gives an item. Where memory is refused the item comes back and nothing was given; the first item that is ever
+    /// given is never refused.
     pub fn give(&mut self, item: T) -> Result<(), (NoMemory, T)>
         ensures same { giver_relay self.new ≡ giver_relay self.old }
         ensures rule { MatchResult result (λ _. given self.new ≡ given self.old ++ item ∷ []) (λ e. (e.1 ≡ item) × (given self.new ≡ given self.old) × (0 < length (given self.old))) }
@@ -37,7 +44,9 @@ impl<T, A: Allocator> Giver<T, A> {
 }
 
 impl<T, A: Allocator> Taker<T, A> {
-    /// The next item. `None` only where the deque was empty at one moment of the call, or after 64 answers of `Retry`.
+    /// The next item. `None` comes only where the deque was empty at one moment of the call, so that all that is
+    /// known to have been given was taken, or after 64 steals that each met another one: then 64 items have left the
+    /// deque that this end didn't know to have left it. It takes no memory.
     pub fn take(&mut self) -> Option<T>
         ensures same { (taker_relay self.new ≡ taker_relay self.old) × (known self.new ≡ known self.old) }
         ensures rule { MatchOption result ((got self.new ≡ got self.old) × ((known self.old ≤ length (got self.old)) ⊎ (left self.old + 64 ≤ left self.new))) (λ x. got self.new ≡ got self.old ++ x ∷ []) }
@@ -52,7 +61,8 @@ impl<T, A: Allocator> Taker<T, A> {
         None
     }
 
-    /// How many items were given and not taken: what was taken is a prefix of what was given.
+    /// With both ends of a relay in one thread: how many items were given and not taken. What was taken is a prefix
+    /// of what was given. It takes no memory.
     pub fn meet(&mut self, giver: &mut Giver<T, A>) -> u64
         requires { giver_relay giver.old ≡ taker_relay self.old }
         ensures same { (giver_relay giver.new ≡ giver_relay giver.old) × (taker_relay self.new ≡ taker_relay self.old) × (given giver.new ≡ given giver.old) × (got self.new ≡ got self.old) }
