@@ -21,10 +21,11 @@ module _ {A : Type 0} where
   abbrev pub receiver_name : Receiver A → Named
   receiver_name r = (view r.pass).reads_on
 
-  -- how many tokens were flushed, and how many were put
+  -- how many tokens were flushed
   abbrev pub flushed : Sender A → ℕ
   flushed s = s.flushed
 
+  -- how many tokens were put
   abbrev pub sent : Sender A → ℕ
   sent s = s.flushed + deque_len s.current
 
@@ -48,6 +49,7 @@ module _ {A : Type 0} where
   abbrev pub left : Receiver A → ℕ
   left r = left_front r.pass
 
+  -- it is an end of the same lane, for the same tokens
   abbrev pub SameSender : Sender A → Sender A → Type 0
   SameSender old new = (sender_lane new ≡ sender_lane old) × (sender_name new ≡ sender_name old)
 

@@ -1,15 +1,22 @@
-//! A lane hands tokens over in segments, in the order of their places.
+//! The calls of a lane: tokens of one channel pass between two threads in segments, in the order of their places.
+//!
+//! The writer asks for room, puts a token into its open segment, and flushes the segment where it is full or where
+//! the reader is to see it. The reader steals a segment where its own is used up, and takes its tokens one by one.
+//! No call ever holds its thread.
+
 ghost use Rattle.std.specs.Prelude.{◌≡◌, ◌+◌, ◌≤◌, ◌<◌, ◌^◌, ◌⊎◌, true, false, IfOk, IfErr, IsSome, MatchResult, MatchOption, MatchBool, IsTrue, Some};
-ghost use Rattle.kahn_lane.specs.Places.{lane_name, token_name};
 ghost use Rattle.std.specs.VecDeque.{deque_len};
+ghost use Rattle.crossbeam_deque.specs.Handles.{worker_view, worker_deque, stealer_deque, stealer_flavor};
+ghost use Rattle.kahn_lane.specs.Places.{lane_name, token_name, tag_name, owner};
 ghost use Rattle.kahn_lane.specs.LaneEnds.{sender_lane, receiver_lane, sender_name, receiver_name, flushed, sent, HasRoom, taken, IsReady, known, left, SameSender, SameReceiver};
 
 use crate::fault::LaneFault;
-use crate::name::make_tag;
+use crate::name::{Tag, make_tag};
 use crate::segments::{
-    Bare, Behind, Flushed, InPlaces, Mark, Receiver, Segment, Sender, Sides, Starts, Stolen, Tells,
+    Bare, Behind, Flushed, LaneStealer, LaneWorker, Receiver, Segment, Sender, Sides, Starting,
+    Stolen, Telling,
 };
-use crossbeam_deque::{Steal, Worker};
+use crossbeam_deque::Steal;
 use kahn_check::network::Network;
 use kahn_streams::input::Input;
 use kahn_streams::memory::NoMemory;
@@ -19,11 +26,36 @@ use std::alloc::Allocator;
 use std::collections::VecDeque;
 use std::mem;
 
+// How often a steal that came between two others is tried again.
 const TRIES: usize = 64;
 
+// How many tokens a segment has at most.
 const SEGMENT: usize = 64;
 
-/// The two ends of a new lane for the tokens of a channel.
+// The deque of a new lane that begins at the tag's place, with its name known to both ends.
+fn opened<A: Allocator + Clone + Drop>(
+    alloc: A,
+    tag: Tag,
+) -> Result<(LaneWorker<A>, LaneStealer<A>), LaneFault>
+    ensures one { IfOk result (λ r. (worker_deque r.0 ≡ stealer_deque r.1) × (stealer_flavor r.1 ≡ 0)) }
+    ensures view { IfOk result (λ r. worker_view r.0 ≡ owner (Some (tag_name tag)) tag.from) }
+{
+    let head = Segment {
+        tag: Some(tag),
+        tokens: VecDeque::new(alloc.clone()?),
+    };
+    let mut worker = LaneWorker::<A>::fifo_as(alloc, 1)?;
+    let Ok(()) = worker.push_as::<Telling>(head) else {
+        return Err(LaneFault::NoMemory);
+    };
+    let Some(_) = worker.pop_as::<Starting>() else {
+        unreachable!()
+    };
+    let stealer = worker.stealer()?;
+    Ok((worker, stealer))
+}
+
+/// The two ends of a new lane for the tokens of a channel, which may go to different threads. Nothing was put yet.
 pub fn lane<A: Allocator + Clone + Drop>(
     alloc: A,
     network: &Network,
@@ -36,18 +68,8 @@ pub fn lane<A: Allocator + Clone + Drop>(
 {
     let left = VecDeque::new(alloc.clone()?);
     let right = VecDeque::new(alloc.clone()?);
-    let name = Segment {
-        tag: Some(make_tag(network, input, Line::Channel(channel))),
-        tokens: VecDeque::new(alloc.clone()?),
-    };
-    let mut worker = Worker::<Segment<A>, A, Mark, InPlaces>::fifo_as(alloc, 1)?;
-    let Ok(()) = worker.push_as::<Tells>(name) else {
-        return Err(LaneFault::NoMemory);
-    };
-    let Some(_) = worker.pop_as::<Starts>() else {
-        unreachable!()
-    };
-    let stealer = worker.stealer()?;
+    let tag = make_tag(network, input, Line::Channel(channel));
+    let (mut worker, stealer) = opened(alloc, tag)?;
     let pass = worker.another::<Sides>();
     let sender = Sender {
         worker,

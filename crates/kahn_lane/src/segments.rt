@@ -1,8 +1,20 @@
 //! The two ends of a lane, and the rule of its deque.
+//!
+//! A lane is a ruled deque of segments, each a run of tokens at consecutive places. The writer fills an open segment
+//! and then pushes it; the reader steals one and takes its tokens out. Each end carries a pass, a value without
+//! bytes in which contracts read what that end knows: the writer's how many tokens were flushed, the reader's how
+//! many were stolen. The rule, which each step keeps, says that the deque has just the tokens of the places between
+//! the two numbers, in order. So the token that comes out next always stands at the place that is the number of
+//! those taken: none is skipped, and none comes twice.
+//!
+//! The rule of a deque is fixed before any network or input is there, so it can't name them. A lane learns them from
+//! a first segment, without tokens, which its maker pushes and takes out again before the ends are parted.
+
 ghost use Rattle.std.specs.Prelude.{◌≡◌, ◌+◌, ◌≤◌, ◌^◌, is_some, true, false};
 ghost use Rattle.std.specs.VecDeque.{deque_len};
 ghost use Rattle.crossbeam_deque.specs.Handles.{view, worker_view, worker_index, worker_capacity, stealer_deque, stealer_flavor};
-ghost use Rattle.kahn_lane.specs.Places.{Placed, Placed-prop};
+ghost use Rattle.kahn_lane.specs.Places.{Placed, Placed-prop, stage-prop};
+ghost use Rattle.kahn_lane.specs.declared.segments.Stage.TheVariants.{Running};
 
 use crate::name::{LaneName, Tag};
 use crossbeam_deque::protocol::{Join, Lesson, Outcome, Protocol, Split};
@@ -11,17 +23,26 @@ use kahn_streams::token::Token;
 use std::alloc::{Allocator, Global};
 use std::collections::VecDeque;
 
-/// A task of a lane's deque: tokens at consecutive places. The first one only tells what the tokens are of, and has none.
+/// A run of tokens at consecutive places. The first one of a lane tells what the tokens are of, and has none.
 #[derive(Drop)]
 pub struct Segment<A: Allocator = Global> {
     pub(crate) tag: Option<Tag>,
     pub(crate) tokens: VecDeque<Token, A>,
 }
 
-// What a pass may do (flush, steal), on which channel, and in numbers what it has done. `stage` is 0 before the channel is told, 1 while it is told and 2 from then on.
-// No value of it is made.
+/// How far the making of a lane has come: it has no name yet, its name is in the deque, or it is known to both ends.
+#[derive(Clone, Copy, Debug, PartialEq, Eq)]
+pub enum Stage {
+    Opening,
+    Telling,
+    Running,
+}
+
+/// What a pass may do (flush, steal), what the tokens are of, as far as it knows, and how many tokens it knows to
+/// have been flushed by it, stolen by it, and flushed when the ends last met. Contracts alone speak of it: no value of
+/// it is made.
 pub struct Mark {
-    pub stage: u64,
+    pub stage: Stage,
     pub writes: bool,
     pub reads: bool,
     pub writes_on: Option<LaneName>,
@@ -31,6 +52,7 @@ pub struct Mark {
     pub known: u64,
 }
 
+/// The rule of a lane: tokens come out in the order of their places.
 pub struct InPlaces;
 
 impl<A: Allocator> Protocol<Segment<A>, Mark> for InPlaces {
@@ -44,27 +66,28 @@ impl<A: Allocator> Protocol<Segment<A>, Mark> for InPlaces {
     ghost guest = { spent };
 }
 
-// The worker tells the channel, and takes that segment out again.
-pub struct Tells;
+/// The first segment tells what the tokens are of.
+pub struct Telling;
 
-impl<A: Allocator> Outcome<Segment<A>, Mark> for Tells {
-    ghost use Rattle.kahn_lane.specs.LaneRule.{Told};
+impl<A: Allocator> Outcome<Segment<A>, Mark> for Telling {
+    ghost use Rattle.kahn_lane.specs.LaneRule.{Tells};
 
-    ghost then = { λ _. Told };
+    ghost then = { λ _. Tells };
 }
 
-pub struct Starts;
+/// The first segment is taken out again, and the lane begins. It can't be missing.
+pub struct Starting;
 
-impl<A: Allocator> Outcome<Segment<A>, Mark> for Starts {
+impl<A: Allocator> Outcome<Segment<A>, Mark> for Starting {
     ghost use Rattle.std.specs.Prelude.{◌≡◌};
     ghost use Rattle.kahn_lane.specs.Places.{owner};
 
-    ghost then = { λ v _ w. w ≡ owner v.writes_on };
+    ghost then = { λ v _ w. w ≡ owner v.writes_on v.flushed };
 
     ghost empty = { λ _. ⊥ };
 }
 
-// The right to steal goes to another pass, or comes back.
+/// The right to steal goes to another pass, or comes back.
 pub struct Sides;
 
 impl Split<Mark> for Sides {
@@ -83,7 +106,7 @@ impl Join<Mark> for Sides {
     ghost spent = { spent };
 }
 
-// A pass without rights comes, or goes.
+/// A pass without rights comes, or goes.
 pub struct Bare;
 
 impl Split<Mark> for Bare {
@@ -97,11 +120,12 @@ impl Split<Mark> for Bare {
 impl Join<Mark> for Bare {
     ghost use Rattle.kahn_lane.specs.Places.{spent};
 
-    ghost both = { λ v w. v };
+    ghost both = { λ v _. v };
 
     ghost spent = { spent };
 }
 
+/// A segment is flushed.
 pub struct Flushed;
 
 impl<A: Allocator> Outcome<Segment<A>, Mark> for Flushed {
@@ -110,6 +134,7 @@ impl<A: Allocator> Outcome<Segment<A>, Mark> for Flushed {
     ghost then = { Flushes };
 }
 
+/// A segment is stolen. An empty deque tells that all that is known to have been flushed was stolen.
 pub struct Stolen;
 
 impl<A: Allocator> Outcome<Segment<A>, Mark> for Stolen {
@@ -121,6 +146,7 @@ impl<A: Allocator> Outcome<Segment<A>, Mark> for Stolen {
     ghost empty = { λ v. v.known ≤ v.stolen };
 }
 
+/// A pass with both rights sees that no more was stolen than was flushed.
 pub struct Behind;
 
 impl<A: Allocator> Lesson<Segment<A>, Mark> for Behind {
@@ -129,13 +155,19 @@ impl<A: Allocator> Lesson<Segment<A>, Mark> for Behind {
     ghost fact = { λ v _. v.stolen ≤ v.flushed };
 }
 
-/// The writer's end, with its open segment.
+/// The deque of a lane, as its owner sees it.
+pub(crate) type LaneWorker<A> = Worker<Segment<A>, A, Mark, InPlaces>;
+
+/// The deque of a lane, as the reader sees it.
+pub(crate) type LaneStealer<A> = Stealer<Segment<A>, A, Mark, InPlaces>;
+
+/// The writer's end of a lane, with its open segment.
 #[derive(Drop)]
 pub struct Sender<A: Allocator = Global> {
-    pub(crate) worker: Worker<Segment<A>, A, Mark, InPlaces>,
+    pub(crate) worker: LaneWorker<A>,
     pub(crate) current: VecDeque<Token, A>,
     pub(crate) flushed: u64,
-    ghost stage: { (worker_view worker).stage ≡ 2 },
+    ghost stage: { (worker_view worker).stage ≡ Running } by { stage-prop (worker_view worker).stage Running },
     ghost writes: { (worker_view worker).writes ≡ true },
     ghost counted: { (worker_view worker).flushed ≡ flushed },
     ghost placed: { Placed (worker_view worker).writes_on flushed current.items } by { Placed-prop (worker_view worker).writes_on flushed current.items },
@@ -143,10 +175,10 @@ pub struct Sender<A: Allocator = Global> {
     ghost limited: { flushed + deque_len current ≤ 2 ^ 48 },
 }
 
-/// The reader's end, with its open segment.
+/// The reader's end of a lane, with its open segment.
 #[derive(Drop)]
 pub struct Receiver<A: Allocator = Global> {
-    pub(crate) stealer: Stealer<Segment<A>, A, Mark, InPlaces>,
+    pub(crate) stealer: LaneStealer<A>,
     pub(crate) pass: Pass<Segment<A>, Mark, A>,
     pub(crate) current: VecDeque<Token, A>,
     pub(crate) taken: u64,
@@ -155,7 +187,7 @@ pub struct Receiver<A: Allocator = Global> {
     ghost hand: { is_some pass.me.hand ≡ false },
     ghost spare: { is_some pass.me.spare ≡ false },
     ghost in_order: { stealer_flavor stealer ≡ 0 },
-    ghost stage: { (view pass).stage ≡ 2 },
+    ghost stage: { (view pass).stage ≡ Running } by { stage-prop (view pass).stage Running },
     ghost reads: { (view pass).reads ≡ true },
     ghost counted: { (view pass).stolen ≡ taken + deque_len current },
     ghost placed: { Placed (view pass).reads_on taken current.items } by { Placed-prop (view pass).reads_on taken current.items },
