@@ -4,7 +4,7 @@
 //! the reader is to see it. The reader steals a segment where its own is used up, and takes its tokens one by one.
 //! No call ever holds its thread.
 
-ghost use Rattle.std.specs.Prelude.{◌≡◌, ◌+◌, ◌≤◌, ◌<◌, ◌^◌, ◌⊎◌, true, false, IfOk, IfErr, IsSome, MatchResult, MatchOption, MatchBool, IsTrue, Some};
+ghost use Rattle.std.specs.Prelude.{◌≡◌, ◌+◌, ◌≤◌, ◌<◌, ◌^◌, ◌⊎◌, true, false, IfOk, IsOk, IsSome, MatchResult, MatchOption, Some};
 ghost use Rattle.std.specs.VecDeque.{deque_len};
 ghost use Rattle.crossbeam_deque.specs.Handles.{worker_view, worker_deque, stealer_deque, stealer_flavor};
 ghost use Rattle.kahn_lane.specs.Places.{lane_name, token_name, tag_name, owner};
@@ -86,11 +86,13 @@ pub fn lane<A: Allocator + Clone + Drop>(
 }
 
 impl<A: Allocator + Clone + Drop> Sender<A> {
-    /// Makes place for one token. Where the open segment is full it is flushed first.
+    /// Makes place for one token. Where the open segment has 64 tokens it is flushed first. Where memory is refused
+    /// all tokens stay, and those of a full segment may have been flushed. Where there is place already it takes none.
     pub fn room(&mut self) -> Result<(), NoMemory>
         ensures same { SameSender self.old self.new × (sent self.new ≡ sent self.old) }
         ensures room { IfOk result (λ _. HasRoom self.new) }
         ensures flushed { (flushed self.new ≡ flushed self.old) ⊎ ((sent self.old ≡ flushed self.old + 64) × (flushed self.new ≡ sent self.old)) }
+        ensures spare { HasRoom self.old → IsOk result }
     {
         if self.current.len() >= SEGMENT {
             self.flush()?;
@@ -101,10 +103,12 @@ impl<A: Allocator + Clone + Drop> Sender<A> {
         }
     }
 
-    /// Makes the open segment visible, and answers how many tokens are so far. A refusal keeps the segment.
+    /// Flushes the open segment, so that the reader can take its tokens, and answers how many tokens were flushed so
+    /// far, which is all that were put. Where memory is refused the segment stays open. An empty one needs none.
     pub fn flush(&mut self) -> Result<u64, NoMemory>
         ensures same { SameSender self.old self.new × (sent self.new ≡ sent self.old) }
         ensures flushed { MatchResult result (λ n. (n ≡ sent self.old) × (flushed self.new ≡ sent self.old)) (λ _. flushed self.new ≡ flushed self.old) }
+        ensures idle { sent self.old ≡ flushed self.old → IsOk result }
     {
         if self.current.is_empty() {
             return Ok(self.flushed);
@@ -131,7 +135,7 @@ impl<A: Allocator + Clone + Drop> Sender<A> {
 }
 
 impl<A: Allocator> Sender<A> {
-    /// Puts the next token into the open segment.
+    /// Puts the next token into the open segment, for which `room` has made place. It takes no memory.
     pub fn put(&mut self, token: Token)
         requires room { HasRoom self.old }
         requires token { (sender_name self.old ≡ Some (token_name token)) × (token.place ≡ sent self.old) × (sent self.old < 2 ^ 48) }
@@ -141,12 +145,14 @@ impl<A: Allocator> Sender<A> {
         self.current.push_back_reserved(token);
     }
 
+    /// How many tokens were put so far, flushed or not: the place of the next one.
     pub fn sent(&self) -> u64
         ensures { result ≡ sent self.now }
     {
         self.flushed + self.current.len() as u64
     }
 
+    /// How many tokens were flushed so far, also after a refusal.
     pub fn flushed(&self) -> u64
         ensures { result ≡ flushed self.now }
     {
@@ -155,7 +161,7 @@ impl<A: Allocator> Sender<A> {
 }
 
 impl<A: Allocator + Drop> Receiver<A> {
-    /// Whether the next `take` gives a token.
+    /// Whether there is a token for the next `take`. `false` comes only as `None` does there. It takes no memory.
     pub fn ready(&mut self) -> bool
         ensures same { SameReceiver self.old self.new × (taken self.new ≡ taken self.old) × (known self.new ≡ known self.old) }
         ensures ready { result ≡ true → IsReady self.new }
@@ -165,7 +171,10 @@ impl<A: Allocator + Drop> Receiver<A> {
         !self.current.is_empty() || self.refill()
     }
 
-    /// The next token. `None` only where all that was flushed was taken, at one moment of the call, or after 64 answers of `Retry`.
+    /// The next token, which stands at the place that is the number of tokens taken. `None` comes only where the deque
+    /// was empty at one moment of the call, so that all that is known to have been flushed was taken, or after 64
+    /// steals that each met another step: then 64 segments have left the deque that this end didn't know to have left
+    /// it. It takes no memory.
     pub fn take(&mut self) -> Option<Token>
         ensures same { SameReceiver self.old self.new × (known self.new ≡ known self.old) }
         ensures ready { IsReady self.old → IsSome result }
@@ -181,6 +190,7 @@ impl<A: Allocator + Drop> Receiver<A> {
         Some(token)
     }
 
+    /// How many tokens were taken so far: the place of the next one.
     pub fn taken(&self) -> u64
         ensures { result ≡ taken self.now }
     {
@@ -208,7 +218,7 @@ impl<A: Allocator + Drop> Receiver<A> {
     }
 }
 
-/// How many tokens are flushed and not taken.
+/// With both ends of a lane in one thread: how many tokens were flushed and not taken. It takes no memory.
 pub fn meet<A: Allocator>(sender: &mut Sender<A>, receiver: &mut Receiver<A>) -> u64
     requires { sender_lane sender.old ≡ receiver_lane receiver.old }
     ensures sender { SameSender sender.old sender.new × (sent sender.new ≡ sent sender.old) × (flushed sender.new ≡ flushed sender.old) }
