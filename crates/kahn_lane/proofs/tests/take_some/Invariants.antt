@@ -1,4 +1,4 @@
-use Rattle.std.proofs.Common.{◌≡◌, ◌≤◌}
+use Rattle.std.proofs.Common.{◌≡◌}
 use Rattle.kahn_lane.specs.RelayEnds.{taker_relay}
 use Rattle.kahn_lane.proofs.tests.take_some.Given as goal
 
