@@ -1,6 +1,9 @@
+pub mod Blocks
 pub mod Declared
 pub mod Instanced
 pub mod Levels
 pub mod Lists
+pub mod OneTree
 pub mod Rows
 pub mod Statements
+pub mod Unique
