@@ -7,5 +7,4 @@ pub mod Stand
 pub mod Uses
 pub mod Kept
 pub mod Asks
-pub mod Driven
 pub mod Sit

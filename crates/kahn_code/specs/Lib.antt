@@ -4,4 +4,3 @@ pub mod Standing
 pub mod Machines
 pub mod Seats
 pub mod Progress
-pub mod Code

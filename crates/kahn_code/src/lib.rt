@@ -2,7 +2,6 @@
 #![tactic(auto)]
 
 pub mod body;
-pub mod code;
 pub mod emit;
 pub mod instruction;
 pub mod laws;
