@@ -7,4 +7,8 @@ pub mod Stand
 pub mod Uses
 pub mod Kept
 pub mod Asks
+pub mod Driven
+pub mod Arguments
+pub mod Bodies
+pub mod Celled
 pub mod Sit

@@ -4,3 +4,5 @@ pub mod Standing
 pub mod Machines
 pub mod Seats
 pub mod Progress
+pub mod Code
+pub mod Told

@@ -2,6 +2,8 @@
 #![tactic(auto)]
 
 pub mod body;
+pub mod cell;
+pub mod code;
 pub mod emit;
 pub mod instruction;
 pub mod laws;
