@@ -1,0 +1,4 @@
+pub mod Names
+pub mod Report
+pub mod Written
+pub mod Reading
