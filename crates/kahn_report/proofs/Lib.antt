@@ -1,3 +1,6 @@
 pub mod Pieces
 pub mod Ends
 pub mod Declared
+pub mod Parts
+pub mod Words
+pub mod Scanned

@@ -2,3 +2,4 @@ pub mod Names
 pub mod Report
 pub mod Written
 pub mod Reading
+pub mod Entries

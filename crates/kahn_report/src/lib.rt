@@ -2,6 +2,8 @@
 #![tactic(auto)]
 
 pub mod calls;
+mod heads;
 pub mod names;
 pub mod read;
+mod values;
 pub mod write;
