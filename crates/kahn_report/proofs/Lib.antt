@@ -4,3 +4,4 @@ pub mod Declared
 pub mod Parts
 pub mod Words
 pub mod Scanned
+pub mod Lines

@@ -1,11 +1,20 @@
 -- The input text: which entries a text spells, line by line.
-use Rattle.std.specs.Prelude.{◌≡◌, ◌≢◌, ℕ, ◌+◌, ◌-◌, ◌≤◌, ◌<◌, List, [], ◌∷◌, ◌++◌, length, slice_index, Bool, true, false, ◌==◌, ◌||◌, codes, All, take, if◌then◌else◌, ◌⊎◌, drop}
+use Rattle.std.specs.Prelude.{string_bytes, ◌≡◌, ◌≢◌, ℕ, ◌+◌, ◌-◌, ◌≤◌, ◌<◌, List, [], ◌∷◌, ◌++◌, length, slice_index, Bool, true, false, ◌==◌, ◌||◌, codes, All, take, if◌then◌else◌, ◌⊎◌, drop}
 use Rattle.std.specs.List.{slice_split}
 use Rattle.std.specs.Char.{is_ascii_alphabetic, is_ascii_alphanumeric}
 use Rattle.std.specs.Str.{str_eq_ignore_ascii_case}
 use Rattle.std.specs.Str.Parse.{IsNumeral, without_leading_sign, signed_digits_value}
 use Rattle.kahn_streams.specs.declared.value.Value.{Value}
 use Rattle.kahn_streams.specs.declared.value.Value.TheVariants.{Integer, Logical}
+use Rattle.std.specs.declared.string.String.{String}
+use Rattle.std.specs.declared.vec.Vec.{Vec}
+use Rattle.std.specs.declared.alloc.Global.{Global}
+use Rattle.kahn_report.specs.declared.entries.LineFault.{LineFault}
+use Rattle.kahn_report.specs.declared.entries.LineFault.TheVariants.{NoHead, NoValues}
+use Rattle.kahn_report.specs.declared.entries.LineFault.TheVariants as line_fault
+use Rattle.kahn_report.specs.declared.entries.TextFault.{TextFault}
+use Rattle.kahn_report.specs.declared.entries.TextFault.TheVariants.{BadLine, BadValue, TooLong}
+use Rattle.kahn_report.specs.declared.entries.TextFault.TheVariants as text_fault
 use mir.Val.{SFits as FitsSigned}
 use mir.Syntax.{w64}
 
@@ -96,3 +105,24 @@ HasNoValues line = ((name : List ℕ) × (rest : List ℕ) × HasHead line name 
 abbrev pub IsFirst : (List ℕ → Type 0) → List ℕ → ℕ → Type 0
 IsFirst P text n = (before : List (List ℕ)) × (line : List ℕ) × (after : List (List ℕ))
     × (lines_of text ≡ before ++ (line ∷ after)) × (n ≡ length before + 1) × All IsGood before × P (content line)
+
+-- why a line is no entry
+abbrev pub IsLineFault : List ℕ → LineFault → Type 0
+IsLineFault line NoHead = HasNoHead line
+IsLineFault line NoValues = HasNoValues line
+IsLineFault line line_fault.NoMemory = Unit {0}
+
+-- an entry as the code holds it
+abbrev pub entry_of : (String Global × Vec Value Global) → Entry
+entry_of entry = (string_bytes entry.0, entry.1.items)
+
+-- the text is within its limit and spells the entries
+abbrev pub IsInputText : List ℕ → List Entry → Type 0
+IsInputText text entries = (length text ≤ most_bytes) × AreEntries (lines_of text) entries
+
+-- why an input text has no entries: it is too long, or else its first line that is neither blank nor an entry
+abbrev pub IsTextFault : List ℕ → TextFault → Type 0
+IsTextFault text (BadLine n) = (length text ≤ most_bytes) × IsFirst HasNoHead text n
+IsTextFault text (BadValue n) = (length text ≤ most_bytes) × IsFirst HasNoValues text n
+IsTextFault text TooLong = most_bytes < length text
+IsTextFault text text_fault.NoMemory = length text ≤ most_bytes

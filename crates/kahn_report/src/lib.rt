@@ -2,8 +2,11 @@
 #![tactic(auto)]
 
 pub mod calls;
+pub mod entries;
 mod heads;
 pub mod names;
 pub mod read;
+#[cfg(test)]
+mod tests;
 mod values;
 pub mod write;
