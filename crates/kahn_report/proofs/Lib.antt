@@ -5,3 +5,4 @@ pub mod Parts
 pub mod Words
 pub mod Scanned
 pub mod Lines
+pub mod Right_lines
