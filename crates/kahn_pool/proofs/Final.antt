@@ -12,7 +12,7 @@ use Rattle.kahn_pool.specs.declared.answer.Verdict.TheVariants.{Finished, Bound}
 use Rattle.kahn_pool.specs.Right.{events_of, line_of, stream_lines}
 use Rattle.kahn_pool.specs.Gathered.{View, view_at, AreWithin, IsFrom, IsGathered}
 use Rattle.kahn_pool.specs.Bench.{State, view_events, IsLast, IsVerdict, AreStreams}
-use Rattle.kahn_pool.proofs.Rounds.{push_get}
+use Rattle.kahn_pool.proofs.Turns.{push_get}
 
 same_sums : (cs : List View) (xs : List End) → length xs ≡ length cs →
     ((p : ℕ) (x : End) → slice_get xs p ≡ Some x → x.events ≡ (view_at cs p).events) → sum_by events_of xs ≡ sum_by view_events cs

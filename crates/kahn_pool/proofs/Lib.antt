@@ -1,7 +1,7 @@
 pub mod Lists
 pub mod Events
 pub mod Assembled
-pub mod Rounds
+pub mod Turns
 pub mod Final
 pub mod Channels
 pub mod Unique

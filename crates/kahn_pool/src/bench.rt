@@ -2,15 +2,14 @@
 
 ghost use Rattle.kahn_check.specs.Network.{instance_at, actual_at, Reads};
 ghost use Rattle.kahn_streams.specs.Solution.{source};
-ghost use Rattle.kahn_pool.specs.Bench.{State, Paused, events_at};
+ghost use Rattle.kahn_pool.specs.Bench.{State, Paused, AreStreams, events_at};
 ghost use Rattle.kahn_pool.specs.Gathered.{view_at, AreWithin, IsFrom};
 ghost use Rattle.kahn_pool.specs.Right.{stream_lines};
 ghost use Rattle.kahn_pool.specs.declared.bench.Pause.TheVariants as pause;
 ghost use Rattle.std.specs.Prelude.{◌≡◌, ℕ, ◌+◌, ◌<◌, ◌≤◌, ◌^◌, length, slice_set, slice_get, IfOk, None, Some};
 
-use kahn_streams::token::Token;
-use kahn_streams::value::{Failure, Line};
-use std::alloc::{AllocError, Global};
+use crate::answer::Stream;
+use kahn_streams::value::Failure;
 
 /// Why a cell stopped.
 #[derive(Clone, Copy, Debug, PartialEq, Eq)]
@@ -54,15 +53,11 @@ pub trait Bench {
     fn channel(&self, instance: usize, parameter: usize) -> usize
         ensures { (c : ℕ) → actual_at (instance_at (state self.now).network instance) parameter ≡ Reads c → result ≡ c };
 
-    /// The lines of the streams.
-    fn lines(&self, alloc: Global) -> Result<Vec<Line>, AllocError>
-        ensures { IfOk result (λ ls. ls.items ≡ stream_lines (state self.now).network None) };
-
-    /// What was sent on the line of a stream.
-    fn stream(&self, alloc: Global, line: Line) -> Result<Vec<Token>, AllocError>
-        ensures { IfOk result (λ ts. (k : ℕ) → slice_get (stream_lines (state self.now).network None) k ≡ Some line → IsFrom (state self.now).network (state self.now).input None (state self.now).cells (source (state self.now).network line) line ts.items) };
-
     /// No reader took more than was given.
     fn within(&self)
         ensures { AreWithin (state self.now).network (state self.now).input (state self.now).cells };
+
+    /// The streams of the answer: what the writers kept. It takes no memory.
+    fn into_streams(self) -> Vec<Stream>
+        ensures { AreStreams (state self) result.items (stream_lines (state self).network None) };
 }

@@ -1,4 +1,4 @@
-pub mod Examples
+pub mod Computed
 pub mod Frame
 pub mod Fuel
 pub mod Proved

@@ -1,6 +1,7 @@
 //! The laws of the meaning. Each function does nothing: its contract is the law.
 
 ghost use Rattle.kahn_streams.specs.Compose.{ExpressionsCompose, StatementsCompose, LoopsUnroll};
+ghost use Rattle.kahn_streams.specs.Examples.{Counting, Doubling, Overflowing, Ring, OwnChannel, Alternating, Silent, LimitedSample};
 ghost use Rattle.kahn_streams.specs.Laws.{IsChain, HasOneValue, IsSolved, IsSolution, IsBelow, Frame, IsQuiet, IsSettled, SendsStand, InputsGrow, IsCounted, IsUnrolled, IsDetermined};
 ghost use Rattle.kahn_streams.specs.Meaning.{Store, exec};
 ghost use Rattle.kahn_check.specs.Network.{Network};
@@ -89,4 +90,16 @@ pub fn determined()
 /// Where a value is known to stand somewhere in the solution there is an iterate that has it.
 pub fn found()
     ensures { (N : Network) (I : Inputs) (c : Line) (k : ℕ) (v : Value) → ∥ (Stands N I c k v) ∥₁ → Stands N I c k v }
+{}
+
+/// The definitions at work on small networks.
+pub fn examples()
+    ensures counting { Counting }
+    ensures doubling { Doubling }
+    ensures overflowing { Overflowing }
+    ensures ring { Ring }
+    ensures own_channel { OwnChannel }
+    ensures alternating { Alternating }
+    ensures silent { Silent }
+    ensures limited_sample { LimitedSample }
 {}

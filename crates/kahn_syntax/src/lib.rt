@@ -2,6 +2,8 @@
 #![tactic(auto)]
 
 pub mod fault;
+pub mod keyword;
 pub mod lexeme;
+pub mod lexer;
 pub mod span;
 pub mod tree;

@@ -1,0 +1,61 @@
+//! Who writes, or who reads, each channel.
+
+ghost use Rattle.std.specs.Prelude.{◌≡◌, ◌++◌, ◌∷◌, [], MatchResult, None};
+ghost use Rattle.std.specs.Map.{lookup};
+ghost use Rattle.std.proofs.Common.{bytes_eq};
+ghost use Rattle.kahn_syntax.specs.View.{bytes_of};
+
+use crate::fault::CheckFault;
+use indexmap::IndexMap;
+use kahn_syntax::tree::Name;
+use std::alloc::Global;
+use std::marker::Model;
+
+/// An instance and a parameter.
+pub type End = (usize, usize);
+
+/// By the channel's name, the end that has this side of it.
+#[derive(Drop)]
+pub struct Sides {
+    ends: IndexMap<String, (usize, usize)>,
+}
+
+impl Model for Sides {
+    ghost use Rattle.std.specs.Prelude.{List, ℕ, map, string_bytes};
+
+    ghost Value = { List (List ℕ × (ℕ × ℕ)) };
+
+    ghost view = { λ s. map (λ e. (string_bytes e.0, e.1)) s.ends.entries };
+}
+
+impl Sides {
+    /// Nobody yet.
+    pub fn new(alloc: Global) -> Sides
+        ensures { result ≡ [] }
+    {
+        Sides {
+            ends: IndexMap::new(alloc),
+        }
+    }
+
+    /// Who has this side of the channel.
+    pub fn find(&self, name: &Name) -> Option<(usize, usize)>
+        ensures { result ≡ lookup (bytes_eq (bytes_of name.now)) self.now }
+    {
+        self.ends.get(name.text.as_str()).copied()
+    }
+
+    /// Hands over a side that nobody has yet.
+    pub fn hand(&mut self, name: &Name, end: (usize, usize)) -> Result<(), CheckFault>
+        requires { lookup (bytes_eq (bytes_of name.now)) self.old ≡ None }
+        ensures { MatchResult result (λ u. self.new ≡ self.old ++ (bytes_of name.now, end) ∷ []) (λ f. f ≡ CheckFault.NoMemory) }
+    {
+        let Ok(key) = name.text.clone() else {
+            return Err(CheckFault::NoMemory);
+        };
+        match self.ends.insert(key, end) {
+            Ok(_) => Ok(()),
+            Err(_) => Err(CheckFault::NoMemory),
+        }
+    }
+}

@@ -1,7 +1,0 @@
-use Rattle.std.proofs.Common.{◌≡◌, ℕ, false, slice_get, Some, ◌<◌}
-use Rattle.kahn_pool.specs.declared.answer.End.{End}
-use Rattle.kahn_pool.specs.declared.answer.Outcome.TheVariants.{More}
-use Rattle.kahn_pool.proofs.one.verdict_of.Given as goal
-
-abbrev pub invariant-loop-end : goal.invariant-loop-end
-invariant-loop-end l = (l.memory ≡ false) × ((p : ℕ) (x : End) → p < l.end-index → slice_get l.ends p ≡ Some x → x.outcome ≡ More → ⊥)

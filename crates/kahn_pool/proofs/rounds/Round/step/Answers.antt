@@ -1,0 +1,37 @@
+use Rattle.std.proofs.Common.{◌≡◌, ◌+◌, ◌-◌, ◌<◌, ◌≤◌, arith, length, ap, ◌∙◌, subst}
+use Rattle.kahn_pool.specs.Bench.{events_at}
+use Rattle.kahn_pool.proofs.Turns.{run_bound, goes_on}
+use Rattle.kahn_pool.proofs.rounds.Round.step.Goals as goal
+
+pub run-stopped-requires-clause-bound : goal.run-stopped-requires-clause-bound
+run-stopped-requires-clause-bound g c =
+    rw c.quantum-quantum.ensures
+    (run_bound (g.B.Bench.state c.args.bench.now).cells c.args.instance c.args.self.now.left c.args.self.now.memory c.requires.bound)
+
+pub returns-clause-goes : goal.returns-clause-goes
+returns-clause-goes g c s0 w0 t0 go =
+    let s = g.B.Bench.state c.args.bench.now in
+    let t = g.B.Bench.state c.run-stopped.new.self in
+    let p = c.args.instance in
+    let a : c.events-before.result ≡ events_at s p = c.events-before.ensures in
+    let b : c.events.result ≡ events_at t p = c.events.ensures in
+    let up : events_at s p ≤ events_at t p = c.run-stopped.ensures.events.0 in
+    rw (c.push_reserved.ensures.items, c.mark.ensures.ends)
+    (goes_on s0 w0 t0 s t p c.args.self.now.left c.mark.new.self.left (c.events.result - c.events-before.result)
+    c.args.self.now.memory c.mark.new.self.memory c.args.self.now.moved c.mark.new.self.moved c.run-stopped.result c.end_of.result
+    c.args.self.now.ends.items go
+    (record {
+      network = c.run-stopped.ensures.same.0;
+      input = c.run-stopped.ensures.same.1;
+      only = c.run-stopped.ensures.only;
+      up = up;
+      still = c.run-stopped.ensures.still;
+      spent = λ z. c.run-stopped.ensures.spent z ∙ ap (λ q. events_at s p + q) c.quantum-quantum.ensures;
+      wanted = λ z. subst (λ q. events_at t p < events_at s p + q) c.quantum-quantum.ensures (c.run-stopped.ensures.wanted z);
+      rests = c.end_of.ensures.rests;
+      more = c.end_of.ensures.more;
+    })
+    (let k : length s.cells ≡ length s.network.instances = c.requires.known in let h : p < length s.network.instances = c.requires.here in omega (arith, k, h))
+    (omega (arith, a, b, up))
+    c.mark.ensures.left
+    c.mark.ensures.marked)

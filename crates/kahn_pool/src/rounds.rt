@@ -1,0 +1,169 @@
+//! A run on one thread: round after round, until a round in which nothing was done.
+
+ghost use Rattle.kahn_streams.specs.Solution.{source};
+ghost use Rattle.kahn_pool.specs.Bench.{State, Paused, Rests, Goes, Marked, AreEnds, IsLast, IsVerdict, AreStreams, events_at, all_events, weight};
+ghost use Rattle.kahn_pool.specs.Gathered.{IsFrom};
+ghost use Rattle.kahn_pool.specs.Right.{IsRight, line_of, stream_lines};
+ghost use Rattle.kahn_pool.specs.declared.answer.Outcome.TheVariants as outcome;
+ghost use Rattle.kahn_pool.specs.declared.answer.Stream.{Stream};
+ghost use Rattle.kahn_pool.specs.declared.bench.Pause.TheVariants as pause;
+ghost use Rattle.std.specs.Prelude.{vec_len, vec_capacity};
+ghost use Rattle.std.specs.Prelude.{◌≡◌, ◌⊎◌, ◌<◌, ◌≤◌, ◌+◌, ◌^◌, ℕ, suc, length, map, true, false, IsTrue, IsFalse, slice_get, Some, None, IfOk, IsOk, cond};
+
+use crate::answer::{Answer, End, Outcome, Verdict};
+use crate::bench::{Bench, Pause};
+use crate::laws;
+
+// A round in which each cell is run once.
+#[derive(Drop)]
+struct Round {
+    left: u64,
+    memory: bool,
+    moved: bool,
+    ends: Vec<End>,
+}
+
+// The end of an instance that stands so.
+fn end_of<B: Bench>(bench: &B, instance: usize, stopped: Pause) -> End
+    requires here { instance < length (B.state bench.now).network.instances }
+    requires paused { Paused (B.state bench.now) instance stopped }
+    ensures rests { Rests (B.state bench.now) instance result }
+    ensures more { result.outcome ≡ outcome.More → (stopped ≡ pause.Spent) ⊎ (stopped ≡ pause.NoMemory) }
+{
+    let outcome = match stopped {
+        Pause::Spent => Outcome::More,
+        Pause::NoMemory => Outcome::More,
+        Pause::Ended => Outcome::Ended,
+        Pause::Fault(failure) => Outcome::Faulted(failure),
+        Pause::Dry(parameter) => Outcome::Waits(bench.channel(instance, parameter)),
+    };
+    End {
+        outcome,
+        events: bench.events(instance),
+    }
+}
+
+impl Round {
+    // Marks what was done.
+    fn mark(&mut self, done: u64, stopped: Pause)
+        requires { done ≤ self.old.left }
+        ensures left { self.new.left + done ≡ self.old.left }
+        ensures marked { Marked stopped done self.old.memory self.old.moved self.new.memory self.new.moved }
+        ensures ends { self.new.ends ≡ self.old.ends }
+    {
+        self.left -= done;
+        if done > 0 {
+            self.moved = true;
+        }
+        if matches!(stopped, Pause::NoMemory) {
+            self.memory = true;
+            self.moved = true;
+        }
+    }
+
+    // How many events a cell may do.
+    fn quantum(&self) -> u64
+        ensures { result ≡ cond self.now.memory 0 self.now.left }
+    {
+        if self.memory { 0 } else { self.left }
+    }
+
+    // Runs one cell.
+    fn step<B: Bench>(&mut self, bench: &mut B, instance: usize)
+        requires here { instance < length (B.state bench.old).network.instances }
+        requires known { length (B.state bench.old).cells ≡ length (B.state bench.old).network.instances }
+        requires bound { all_events (B.state bench.old) + self.old.left < 2 ^ 48 }
+        requires room { vec_len self.old.ends < vec_capacity self.old.ends }
+        ensures goes { (s0 : State) (w0 t0 : ℕ) → Goes s0 w0 t0 (B.state bench.old) self.old.left self.old.memory self.old.moved self.old.ends.items instance → Goes s0 w0 t0 (B.state bench.new) self.new.left self.new.memory self.new.moved self.new.ends.items (suc instance) }
+        ensures same { ((B.state bench.new).network ≡ (B.state bench.old).network) × ((B.state bench.new).input ≡ (B.state bench.old).input) }
+        ensures size { vec_len self.new.ends ≡ vec_len self.old.ends + 1 }
+        ensures room { vec_capacity self.new.ends ≡ vec_capacity self.old.ends }
+    {
+        let before = bench.events(instance);
+        let quantum = self.quantum();
+        let stopped = bench.run(instance, quantum);
+        let done = bench.events(instance) - before;
+        self.mark(done, stopped);
+        self.ends.push_reserved(end_of(bench, instance, stopped));
+    }
+}
+
+// One round. Its ends go into the list that it is given, which has room for all.
+fn one_round<B: Bench>(bench: &mut B, mut ends: Vec<End>, left: u64, memory: bool) -> Round
+    requires bound { all_events (B.state bench.old) + left < 2 ^ 48 }
+    requires known { length (B.state bench.old).cells ≡ length (B.state bench.old).network.instances }
+    requires room { length (B.state bench.old).network.instances ≤ vec_capacity ends }
+    ensures goes { Goes (B.state bench.old) (weight left memory) (all_events (B.state bench.old) + left) (B.state bench.new) result.left result.memory result.moved result.ends.items (length (B.state bench.new).network.instances) }
+    ensures same { ((B.state bench.new).network ≡ (B.state bench.old).network) × ((B.state bench.new).input ≡ (B.state bench.old).input) }
+    ensures room { vec_capacity result.ends ≡ vec_capacity ends }
+{
+    let count = bench.instance_count();
+    ends.clear();
+    let mut round = Round {
+        left,
+        memory,
+        moved: false,
+        ends,
+    };
+    for instance in 0..count {
+        round.step(bench, instance);
+    }
+    round
+}
+
+// Rounds, until one in which nothing was done.
+fn last_round<B: Bench>(bench: &mut B, ends: Vec<End>, bound: u64) -> Round
+    requires bound { all_events (B.state bench.old) + bound < 2 ^ 48 }
+    requires known { length (B.state bench.old).cells ≡ length (B.state bench.old).network.instances }
+    requires room { length (B.state bench.old).network.instances ≤ vec_capacity ends }
+    ensures last { IsLast (B.state bench.new) (all_events (B.state bench.old) + bound) result.left result.memory result.ends.items }
+    ensures same { ((B.state bench.new).network ≡ (B.state bench.old).network) × ((B.state bench.new).input ≡ (B.state bench.old).input) }
+{
+    let mut ends = ends;
+    let mut left = bound;
+    let mut memory = false;
+    'rounds: loop {
+        let round = one_round(bench, ends, left, memory);
+        if !round.moved {
+            return round;
+        }
+        ends = round.ends;
+        left = round.left;
+        memory = round.memory;
+    }
+}
+
+// The rule of verdicts.
+fn verdict_of(memory: bool, ends: &[End]) -> Verdict
+    ensures { IsVerdict memory ends.now result }
+{
+    if memory {
+        return Verdict::Memory;
+    }
+    for end in ends {
+        if matches!(end.outcome, Outcome::More) {
+            return Verdict::Bound;
+        }
+    }
+    Verdict::Finished
+}
+
+/// Runs the cells of a bench on one thread, and answers right. The list of ends has room for each instance.
+pub fn run_bench<B: Bench>(mut bench: B, ends: Vec<End>, bound: u64) -> Answer
+    requires bound { bound < 2 ^ 48 }
+    requires fresh { all_events (B.state bench) ≡ 0 }
+    requires known { length (B.state bench).cells ≡ length (B.state bench).network.instances }
+    requires room { length (B.state bench).network.instances ≤ vec_capacity ends }
+    ensures right { IsRight (B.state bench).network (B.state bench).input bound None result }
+{
+    let last = last_round(&mut bench, ends, bound);
+    bench.within();
+    laws::assembled();
+    let verdict = verdict_of(last.memory, &last.ends);
+    Answer {
+        verdict,
+        streams: bench.into_streams(),
+        events: bound - last.left,
+        ends: last.ends,
+    }
+}
