@@ -17,3 +17,4 @@ pub mod Hot
 pub mod Ends
 pub mod Woken
 pub mod Wired
+pub mod Emptied

@@ -1,5 +1,5 @@
 -- The rule holds of a new board.
-use Rattle.std.proofs.Common.{◌≡◌, ℕ, zero, suc, ◌+◌, ◌*◌, ◌/◌, ◌%◌, ◌^◌, ◌<◌, ◌≤◌, subst, List, [], ◌∷◌, map, length, replicate, get_or, sym, refl, ap, ◌∙◌, arith, Option, Some, None}
+use Rattle.std.proofs.Common.{◌≡◌, ℕ, zero, suc, ◌+◌, ◌*◌, ◌/◌, ◌%◌, ◌^◌, ◌<◌, ◌≤◌, subst, List, [], ◌∷◌, map, drop, length, replicate, get_or, sym, refl, ap, ◌∙◌, arith, Option, Some, None}
 use mathlib.Core.Option.{some, some-injective, some-ne-none}
 use lib.ListN.{get_elem?}
 use Rattle.std.proofs.lemmas.List.{length-map}
@@ -44,6 +44,12 @@ there_is (x ∷ xs) zero h = (x, refl)
 there_is (x ∷ xs) (suc i) h = there_is xs i (omega arith)
 
 module _ {T : Type 0} where
+  pub map_some_once : (xs ys : List T) → map Some xs ≡ map Some ys → xs ≡ ys
+  map_some_once [] [] e = refl
+  map_some_once [] (y ∷ ys) e = absurd (omega (arith, ap length e))
+  map_some_once (x ∷ xs) [] e = absurd (omega (arith, ap length e))
+  map_some_once (x ∷ xs) (y ∷ ys) e = let head = same_some x y (ap (λ (l : List (Option T)). elim l [ [] ↦ Some x | z ∷ zs ↦ z ]) e) in let tail = map_some_once xs ys (ap (drop 1) e) in λ i. head i ∷ tail i
+
   -- a cell that is at home
   of_home : (cells : List T) (i : ℕ) (y : T) → get_elem? (map some (map Some cells)) i ≡ some (some (Some y)) → get_elem? cells i ≡ some y
   of_home [] i y e = absurd (some-ne-none (some (Some y)) (sym e))
@@ -103,6 +109,19 @@ module _ {T : Type 0} (told : T → Option Tale) (w : Wires) where
     pub count_is : get_or words (8 * (w.instances + length numbers) + 8) 0 ≡ w.instances
     pub not_halted : get_or words (8 * (w.instances + length numbers) + 16) 0 ≡ 0
     pub twice : (c : ℕ) → c < length numbers → get_or words (8 * (w.instances + c)) 0 ≡ 2 * get_or numbers c 0
+
+  -- by the number of instances that the code has
+  pub start_by : (n bound : ℕ) (words numbers : List ℕ) → n ≡ w.instances → length words ≡ 8 * (n + length numbers) + 24 → ((p : ℕ) → p < n → get_or words (8 * p) 0 ≡ 0)
+      → (get_or words (8 * (n + length numbers)) 0 ≡ bound) × (get_or words (8 * (n + length numbers) + 8) 0 ≡ n) × (get_or words (8 * (n + length numbers) + 16) 0 ≡ 0)
+      → ((c : ℕ) → c < length numbers → get_or words (8 * (n + c)) 0 ≡ 2 * get_or numbers c 0) → Starts bound words numbers
+  start_by n bound words numbers same long zeros hot twice = let at : (k : ℕ) → get_or words (8 * (n + length numbers) + k) 0 ≡ get_or words (8 * (w.instances + length numbers) + k) 0 = λ k. ap (λ (j : ℕ). get_or words (8 * (j + length numbers) + k) 0) same in record {
+    long = omega (arith, long, same);
+    zeros = λ p h. zeros p (omega (arith, same));
+    budget_is = sym (ap (λ (j : ℕ). get_or words (8 * (j + length numbers)) 0) same) ∙ hot.0;
+    count_is = sym (at 8) ∙ (hot.1 ∙ same);
+    not_halted = sym (at 16) ∙ hot.2;
+    twice = λ c h. sym (ap (λ (j : ℕ). get_or words (8 * (j + c)) 0) same) ∙ twice c h;
+  }
 
   pub opens : (bound : ℕ) (words numbers : List ℕ) (cells : List T) → Opens told w bound numbers cells → Starts bound words numbers
       → Whole told w record { bound = bound; events = events_of told cells; published = published w words } (start words cells)

@@ -7,7 +7,7 @@ use Rattle.kahn_board.specs.Wires.{Wires}
 use Rattle.kahn_board.specs.Hands.{Lists, Facts, Carries}
 use Rattle.kahn_board.specs.Place.{total, only}
 use Rattle.kahn_board.proofs.Moved.{only_yes}
-use Rattle.kahn_board.specs.Plays.{Sat, noted, took, gave, Got, GaveUp}
+use Rattle.kahn_board.specs.Plays.{Sat, noted, took, gave, waking, Got, GaveUp}
 use Rattle.kahn_board.specs.Rule.{view, blank}
 use Rattle.kahn_board.specs.Cuts.{HoldsNothing}
 use Rattle.std.proofs.lemmas.List.{length-replicate}
@@ -99,6 +99,10 @@ module _ {T : Type 0} (told : T → Option Tale) (w : Wires) where
         length-set m.0.got p got.1 ∙ f.7,
       ) in
       subst (λ (k : TableId × Sat T × List ℕ × ℕ). Facts k.1 k.0 k.2 k.3) (λ i. (sym same i, sym got.3 i, sym is i, sym same_room i)) now
+
+  -- a seat that woke a reader
+  pub facts_waking : (m : Sat T) (z : TableId) (items : List ℕ) (room c count p q : ℕ) → Facts m z items room → Facts (waking m.0 c count p q, m.1) z items room
+  facts_waking m z items room c count p q f = (f.0, f.1, ap (λ (k : ℕ). 8 * (z.slots + k) + 24) (length-set m.0.flushed c count) ∙ f.2, f.3, f.4, f.5, f.6, f.7)
 
   pub room_for : (m : Sat T) (z : TableId) (items : List ℕ) (room p : ℕ) → Facts m z items room → get_or m.0.hands p 0 ≡ 0 → p < z.slots → length items < room
   room_for m z items room p f free inside = omega (arith, has_room items m.0.hands p f.4 f.5 (omega (arith, f.1)) free, f.1, f.6)

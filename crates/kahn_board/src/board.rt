@@ -1,5 +1,5 @@
 // The board, and the seats that step on it.
-ghost use Rattle.std.specs.Prelude.{◌≡◌, ◌≢◌, ℕ, ◌+◌, ◌*◌, ◌^◌, ◌<◌, ◌≤◌, [], ◌∷◌, ◌++◌, map, drop, length, Option, slice_index, slice_index_or, None};
+ghost use Rattle.std.specs.Prelude.{◌≡◌, ◌≢◌, ℕ, ◌+◌, ◌*◌, ◌^◌, ◌<◌, ◌≤◌, [], ◌∷◌, ◌++◌, map, drop, length, Option, slice_index, slice_index_or, None, Some};
 ghost use Rattle.std.specs.VecDeque.{deque_capacity};
 ghost use Rattle.std.specs.Vec.{vec_capacity};
 ghost use Rattle.kahn_board.specs.Hands.{Facts};
@@ -102,6 +102,19 @@ pub struct Board<T: Told> {
     ghost limits: { (instances ≤ 256) × (channels ≤ 1024) },
     ghost roomy: { (room.items ≡ []) × (instances ≤ vec_capacity room) },
     ghost read: { (length readers.items ≡ channels) × ((c : ℕ) → c < channels → slice_index_or readers.items c None ≡ (wired table.shared.key).reader c) },
+}
+
+impl<T: Told> Board<T> {
+    // Who reads the channel, where somebody does.
+    fn reader(&self, channel: usize) -> usize
+        requires { (channel < self.now.channels) × ((p : ℕ) × ((wired self.now.table.shared.key).reader channel ≡ Some p)) }
+        ensures { (wired self.now.table.shared.key).reader channel ≡ Some result }
+    {
+        let Some(reader) = self.readers[channel] else {
+            unreachable!()
+        };
+        reader
+    }
 }
 
 /// The token of one worker.
@@ -243,7 +256,7 @@ impl<T: Told> Seat<T> {
         if found % 2 == 0 {
             return None;
         }
-        let reader = board.readers[channel].unwrap();
+        let reader = board.reader(channel);
         self.held.push_front_reserved(reader);
         Some(reader)
     }
