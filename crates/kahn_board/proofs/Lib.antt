@@ -18,3 +18,4 @@ pub mod Ends
 pub mod Woken
 pub mod Wired
 pub mod Emptied
+pub mod Sole
