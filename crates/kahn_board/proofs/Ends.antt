@@ -35,10 +35,10 @@ module _ {T : Type 0} (told : T → Option Tale) (w : Wires) (d : Deal) where
     sum_is f z = one_term f s.views id v me (λ j u ne e. ap f (others_spent j u ne e) ∙ z)
 
     pub budget_left : budget w s.words + v.done ≡ d.bound
-    budget_left = omega (arith, a.second.budgeted.adds_up, sum_is (λ u. u.drawn) refl, sum_is (λ u. u.done) refl, free.1)
+    budget_left = omega (arith, a.reckoned.budgeted.adds_up, sum_is (λ u. u.drawn) refl, sum_is (λ u. u.done) refl, free.1)
 
-    pub events_left : d.events + v.done ≡ below a.second.tally w.instances + v.loose
-    events_left = omega (arith, a.second.budgeted.tallied, sum_is (λ u. u.done) refl, sum_is (λ u. u.loose) refl)
+    pub events_left : d.events + v.done ≡ below a.reckoned.tally w.instances + v.loose
+    events_left = omega (arith, a.reckoned.budgeted.tallied, sum_is (λ u. u.done) refl, sum_is (λ u. u.loose) refl)
 
     pub all_left : v.stage ≡ 1 → AllLeft s
     all_left one = (
@@ -52,16 +52,16 @@ module _ {T : Type 0} (told : T → Option Tale) (w : Wires) (d : Deal) where
     at_rest p y ready cells back not_halted inside home is z = absurd (omega arith)
     at_rest p y (held j) cells back not_halted inside home is z = absurd (omega arith)
     at_rest p y (parked c) cells back not_halted inside home is z = let t = a.ruled.parking.reads p c inside is in
-        inr (c, published w s.words c, t.0, t.1, a.ruled.parking.waits p c y inside is home, ((λ none_writes. a.second.lasting.fixed c t.0 none_writes),
-        (λ q l m u near writes there sends flushes. let at_home = back q u near there in a.second.lasting.flushed_all q u near at_home not_halted c l m sends flushes ∙ (a.ruled.parking.flushes q c m u near at_home flushes).2)))
+        inr (c, published w s.words c, t.0, t.1, a.ruled.parking.waits p c y inside is home, ((λ none_writes. a.reckoned.lasting.fixed c t.0 none_writes),
+        (λ q l m u near writes there sends flushes. let at_home = back q u near there in a.reckoned.lasting.flushed_all q u near at_home not_halted c l m sends flushes ∙ (a.ruled.parking.flushes q c m u near at_home flushes).2)))
     at_rest p y over cells back not_halted inside home is z = inl (a.ruled.parking.ends p y inside is home)
 
     pub by_done : (cells : List (Option T)) → ((q : ℕ) (z : T) → q < w.instances → get_elem? cells q ≡ some (Some z) → IsHome s q z) → v.stage ≡ 1
         → (halted w s.words ≢ 0) ⊎ ((budget w s.words ≡ 0) ⊎ ((p : ℕ) (y : T) → p < w.instances → get_elem? cells p ≡ some (Some y) → IsAtRest told w d cells p y))
     by_done cells back one = dite (ℕ_discrete (halted w s.words) 0)
         (λ not_halted. ⊎_elim (λ h. absurd (h not_halted)) (λ t. ⊎_elim
-        (λ quiet_now. inr (inr (λ p y inside there. at_rest p y (a.place p) cells back not_halted inside (back p y inside there) refl ((quiet_here told w d s a.place a.ruled a.second.counted quiet_now).0 p inside))))
-        (λ h. inr (inl h.0)) t) (a.second.leaving.left (all_left one)))
+        (λ quiet_now. inr (inr (λ p y inside there. at_rest p y (a.place p) cells back not_halted inside (back p y inside there) refl ((quiet_here told w d s a.place a.ruled a.reckoned.counted quiet_now).0 p inside))))
+        (λ h. inr (inl h.0)) t) (a.reckoned.leaving.left (all_left one)))
         (λ ne. inl ne)
 
 read_as : (l : List ℕ) (i a : ℕ) → get_elem? l i ≡ some a → get_or l i 0 ≡ a
@@ -81,7 +81,7 @@ module _ {T : Type 0} (told : T → Option Tale) (w : Wires) (d : Deal) where
       let h_is : halted w s.words ≡ h = ap (λ (k : ℕ). get_or s.words k 0) (sym at_j) ∙ (ap (λ (l : List ℕ). get_or l j 0) words ∙ read_as ws j h reads_h) in record {
         each = (ap length same ∙ (sym long ∙ a.ruled.deep), λ p near. (let t = home p near in (t.0, there p t.0 t.1)));
         budget_is = omega (arith, budget_left told w d s a id v me all free, b_is);
-        events = (a.second.tally, (λ p y near e. a.second.budgeted.tells p y near (back p y near e)), events_left told w d s a id v me all free);
-        halt_seen = λ two. flags (λ z. a.second.lasting.saw_halted id v me two (h_is ∙ z));
+        events = (a.reckoned.tally, (λ p y near e. a.reckoned.budgeted.tells p y near (back p y near e)), events_left told w d s a id v me all free);
+        halt_seen = λ two. flags (λ z. a.reckoned.lasting.saw_halted id v me two (h_is ∙ z));
         by_done = λ one. ⊎_elim (λ ne. inl (flags (λ z. ne (h_is ∙ z)))) (λ t. ⊎_elim (λ z. inr (inl (sym b_is ∙ z))) (λ f. inr (inr f)) t) (by_done told w d s a id v me all free cells back one);
       }

@@ -41,7 +41,7 @@ module _ {T : Type 0} (told : T → Option Tale) (w : Wires) (d : Deal) where
   at_hot s a i k id m v me fit past parts hands flushed idle = record {
     place = a.place;
     ruled = stays told w s a.place a.ruled (set s.words i k) id m v me fit parts hands flushed (length-set s.words i k) (λ q h. get_or-set_other s.words i (8 * q) k 0 (λ e. omega arith));
-    second = idles told w d s a.place a.second id m.0 v (set s.words i k) me idle;
+    reckoned = idles told w d s a.place a.reckoned id m.0 v (set s.words i k) me idle;
   }
 
   -- a load
@@ -50,7 +50,7 @@ module _ {T : Type 0} (told : T → Option Tale) (w : Wires) (d : Deal) where
   at_load s a i id m v me fit parts hands flushed idle = subst (λ (l : List ℕ). Whole told w d (state told w l s.homes (set s.views id v))) (sym (set-get_or s.words i 0)) record {
     place = a.place;
     ruled = stays told w s a.place a.ruled s.words id m v me fit parts hands flushed refl (λ q h. refl);
-    second = idles told w d s a.place a.second id m.0 v s.words me idle;
+    reckoned = idles told w d s a.place a.reckoned id m.0 v s.words me idle;
   }
 
   -- what a look sees, where it is true
@@ -62,8 +62,8 @@ module _ {T : Type 0} (told : T → Option Tale) (w : Wires) (d : Deal) where
     drawing = refl;
     tallying = refl;
     counting = refl;
-    pairs = a.second.counted.pairs id m.0 me;
-    few = a.second.counted.few id m.0 me;
+    pairs = a.reckoned.counted.pairs id m.0 me;
+    few = a.reckoned.counted.few id m.0 me;
     still_quiet = λ e. e;
     still_halted = λ e. e;
     saw_quiet = quiet_is;
@@ -75,7 +75,7 @@ module _ {T : Type 0} (told : T → Option Tale) (w : Wires) (d : Deal) where
   pub looks_halted : (n id : ℕ) (m : Sat T) (i : ℕ) → Fit told w m → i ≡ 8 * (w.instances + w.channels) + 16 → Allows (Whole told w d) n id m i (λ y. y) (sees_halted (step n i 0 0 none) m)
   looks_halted n id m i fit at s a wide me _ = let r : ℕ = get_or s.words i 0 in let is : r ≡ halted w s.words = ap (λ (k : ℕ). get_or s.words k 0) at in
       dite (ℕ_discrete r 0)
-      (λ z. (noted m.0 r, keeps, tt, unchanged told w d s a i id m r me fit, ((λ ne. absurd (ne z)), λ _. ((λ two. a.second.lasting.saw_halted id m.0 me two (sym is ∙ z)), refl))))
+      (λ z. (noted m.0 r, keeps, tt, unchanged told w d s a i id m r me fit, ((λ ne. absurd (ne z)), λ _. ((λ two. a.reckoned.lasting.saw_halted id m.0 me two (sym is ∙ z)), refl))))
       (λ ne. let yes : halted w s.words ≢ 0 = (λ z. ne (is ∙ z)) in
       (saw m.0 2 (leaves_as m.0) r, keeps, tt, sights s a i id m 2 r me fit (λ e. absurd (omega (arith, e))) (λ _. yes) (inl yes), ((λ _. refl), λ z. absurd (ne z))))
 
@@ -84,12 +84,12 @@ module _ {T : Type 0} (told : T → Option Tale) (w : Wires) (d : Deal) where
       dite (ℕ_discrete r 0)
       (λ z. let yes : count w s.words ≡ 0 = sym is ∙ z in
       (saw m.0 1 (leaves_as m.0) r, keeps, tt, sights s a i id m 1 r me fit (λ _. yes) (λ e. absurd (omega (arith, e))) (inr (inl yes)), ((λ _. refl), λ ne. absurd (ne z))))
-      (λ ne. (noted m.0 r, keeps, tt, unchanged told w d s a i id m r me fit, ((λ z. absurd (ne z)), λ _. ((λ one. ne (is ∙ a.second.lasting.saw_quiet id m.0 me one)), refl))))
+      (λ ne. (noted m.0 r, keeps, tt, unchanged told w d s a i id m r me fit, ((λ z. absurd (ne z)), λ _. ((λ one. ne (is ∙ a.reckoned.lasting.saw_quiet id m.0 me one)), refl))))
 
   pub looks_budget : (n id : ℕ) (m : Sat T) (i : ℕ) → Fit told w m → i ≡ 8 * (w.instances + w.channels) → Allows (Whole told w d) n id m i (λ y. y) (sees_budget (step n i 0 0 none) m)
   looks_budget n id m i fit at s a wide me _ = let r : ℕ = get_or s.words i 0 in let is : r ≡ budget w s.words = ap (λ (k : ℕ). get_or s.words k 0) at in
       dite (ℕ_discrete r 0)
-      (λ z. (saw m.0 m.0.seen (leaves_as m.0) r, keeps, tt, sights s a i id m m.0.seen r me fit (a.second.lasting.saw_quiet id m.0 me) (a.second.lasting.saw_halted id m.0 me) (inr (inr (sym is ∙ z))), ((λ _. refl), λ ne. absurd (ne z))))
+      (λ z. (saw m.0 m.0.seen (leaves_as m.0) r, keeps, tt, sights s a i id m m.0.seen r me fit (a.reckoned.lasting.saw_quiet id m.0 me) (a.reckoned.lasting.saw_halted id m.0 me) (inr (inr (sym is ∙ z))), ((λ _. refl), λ ne. absurd (ne z))))
       (λ ne. (noted m.0 r, keeps, tt, unchanged told w d s a i id m r me fit, ((λ z. absurd (ne z)), λ _. refl)))
 
   pub notes : (n id : ℕ) (m : Sat T) (i : ℕ) → Fit told w m → Allows (Whole told w d) n id m i (λ y. y) (looked (step n i 0 0 none) m)
@@ -110,12 +110,12 @@ module _ {T : Type 0} (told : T → Option Tale) (w : Wires) (d : Deal) where
         drawing = omega (arith, now, was, sum, ap (λ (u : View). u.drawn) is, ap (λ (u : View). u.done) is);
         tallying = omega (arith, moved, ap (λ (u : View). u.loose) is, ap (λ (u : View). u.done) is);
         counting = omega (arith, counts, ap (λ (u : View). length u.owed) is, ap (λ (u : View). u.down) is);
-        pairs = subst (λ (u : View). Owes u.hands u.owed) (sym is) (a.second.counted.pairs id m.0 me);
-        few = subst (λ (u : View). u.down ≤ 2 ^ 32 * u.parts) (sym is) (a.second.counted.few id m.0 me);
+        pairs = subst (λ (u : View). Owes u.hands u.owed) (sym is) (a.reckoned.counted.pairs id m.0 me);
+        few = subst (λ (u : View). u.down ≤ 2 ^ 32 * u.parts) (sym is) (a.reckoned.counted.few id m.0 me);
         still_quiet = λ e. counts ∙ e;
         still_halted = λ ne e. ne (sym halts_same ∙ e);
-        saw_quiet = λ e. counts ∙ a.second.lasting.saw_quiet id m.0 me (sym (ap (λ (u : View). u.seen) is) ∙ e);
-        saw_halted = λ e z. a.second.lasting.saw_halted id m.0 me (sym (ap (λ (u : View). u.seen) is) ∙ e) (sym halts_same ∙ z);
+        saw_quiet = λ e. counts ∙ a.reckoned.lasting.saw_quiet id m.0 me (sym (ap (λ (u : View). u.seen) is) ∙ e);
+        saw_halted = λ e z. a.reckoned.lasting.saw_halted id m.0 me (sym (ap (λ (u : View). u.seen) is) ∙ e) (sym halts_same ∙ z);
         fixed = λ c h none. ap (λ (j : ℕ). j / 2) (get_or-set_other s.words i (8 * (w.instances + c)) k 0 (λ e. omega arith));
         leaves = λ h. absurd (omega (arith, ap (λ (u : View). u.stage) is));
       }
@@ -131,9 +131,9 @@ module _ {T : Type 0} (told : T → Option Tale) (w : Wires) (d : Deal) where
         (
           (λ _. (
             refl,
-            (λ p is_in. let b = a.second.budgeted in let inside = a.second.counted.inside id m.0 me p (omega (arith, is_in)) in
+            (λ p is_in. let b = a.reckoned.budgeted in let inside = a.reckoned.counted.inside id m.0 me p (omega (arith, is_in)) in
                 let was : budget w s.words ≡ r = ap (λ (j : ℕ). get_or s.words j 0) (sym at) in
-                omega (arith, b.small, b.adds_up, b.tallied, b.got_is id m.0 me p inside is_in, below-term a.second.tally w.instances p inside, hit, was)),
+                omega (arith, b.small, b.adds_up, b.tallied, b.got_is id m.0 me p inside is_in, below-term a.reckoned.tally w.instances p inside, hit, was)),
           )),
           (λ miss. absurd (miss hit)),
         ),
@@ -141,7 +141,7 @@ module _ {T : Type 0} (told : T → Option Tale) (w : Wires) (d : Deal) where
       (λ miss. (noted m.0 r, keeps, tt, unchanged told w d s a i id m r me fit, ((λ hit. absurd (miss hit)), λ _. refl)))
 
   pub gives_back : (n id : ℕ) (m : Sat T) (i k : ℕ) → Fit told w m → i ≡ 8 * (w.instances + w.channels) → k ≤ m.0.drawn → Allows (Whole told w d) n id m i (λ y. (y + k) % 2 ^ 64) (gave_back (step n i k 0 none) m)
-  gives_back n id m i k fit at less s a wide me _ = let r : ℕ = get_or s.words i 0 in let new : ℕ = (r + k) % 2 ^ 64 in let b = a.second.budgeted in let small = b.small in let sum = b.adds_up in
+  gives_back n id m i k fit at less s a wide me _ = let r : ℕ = get_or s.words i 0 in let new : ℕ = (r + k) % 2 ^ 64 in let b = a.reckoned.budgeted in let small = b.small in let sum = b.adds_up in
       let mine = term_le (λ (v : View). v.drawn) s.views id m.0 me in
       let was : budget w s.words ≡ r = ap (λ (j : ℕ). get_or s.words j 0) (sym at) in
       let is : new ≡ r + k = omega arith in
@@ -165,17 +165,17 @@ module _ {T : Type 0} (told : T → Option Tale) (w : Wires) (d : Deal) where
         tallying = omega (arith, loose, done);
         counting = omega (arith, now, was, sum);
         pairs = subst (λ (l : List ℕ). Owes l v.owed) (sym hands) pairs;
-        few = omega (arith, less, parts, a.second.counted.few id m.0 me);
+        few = omega (arith, less, parts, a.reckoned.counted.few id m.0 me);
         still_quiet = λ e. absurd (not_quiet e);
         still_halted = λ ne e. ne (sym halts_same ∙ e);
-        saw_quiet = λ e. absurd (not_quiet (a.second.lasting.saw_quiet id m.0 me (sym seen ∙ e)));
-        saw_halted = λ e z. a.second.lasting.saw_halted id m.0 me (sym seen ∙ e) (sym halts_same ∙ z);
+        saw_quiet = λ e. absurd (not_quiet (a.reckoned.lasting.saw_quiet id m.0 me (sym seen ∙ e)));
+        saw_halted = λ e z. a.reckoned.lasting.saw_halted id m.0 me (sym seen ∙ e) (sym halts_same ∙ z);
         fixed = λ c h none. ap (λ (j : ℕ). j / 2) (get_or-set_other s.words i (8 * (w.instances + c)) k 0 (λ e. omega arith));
         leaves = λ h. absurd (omega (arith, stage));
       }
 
   pub counts_up : (n id : ℕ) (m : Sat T) (i : ℕ) → Fit told w m → i ≡ 8 * (w.instances + w.channels) + 8 → w.instances ≤ 256 → 0 < length m.0.owed → Allows (Whole told w d) n id m i (λ y. (y + 1) % 2 ^ 64) (counted_up (step n i 1 0 none) m)
-  counts_up n id m i fit at few owes s a wide me _ = let r : ℕ = get_or s.words i 0 in let new : ℕ = (r + 1) % 2 ^ 64 in let c = a.second.counted in let sum = c.adds_up in
+  counts_up n id m i fit at few owes s a wide me _ = let r : ℕ = get_or s.words i 0 in let new : ℕ = (r + 1) % 2 ^ 64 in let c = a.reckoned.counted in let sum = c.adds_up in
       let was : count w s.words ≡ r = ap (λ (j : ℕ). get_or s.words j 0) (sym at) in
       let downs = downs_few told w d s a.place a.ruled c in let ups = below-le (λ p. is_up (a.place p)) w.instances (λ q. up_small (a.place q)) in
       let is : new ≡ r + 1 = omega arith in let mine = term_le (λ (v : View). length v.owed) s.views id m.0 me in
@@ -183,7 +183,7 @@ module _ {T : Type 0} (told : T → Option Tale) (w : Wires) (d : Deal) where
       (paid_up m.0 r, keeps, tt, counts s a i new id m (paid_up m.0 r) me fit at (omega (arith, one_less m.0.owed owes)) (owes_paid m.0.hands m.0.owed (c.pairs id m.0 me)) (omega arith) some_left refl refl refl refl refl refl refl refl refl, refl)
 
   pub counts_down : (n id : ℕ) (m : Sat T) (i : ℕ) → Fit told w m → i ≡ 8 * (w.instances + w.channels) + 8 → 0 < m.0.down → Allows (Whole told w d) n id m i (λ y. (y + (2 ^ 64 - 1)) % 2 ^ 64) (counted_down (step n i 1 0 none) m)
-  counts_down n id m i fit at owes s a wide me small = let r : ℕ = get_or s.words i 0 in let new : ℕ = (r + (2 ^ 64 - 1)) % 2 ^ 64 in let c = a.second.counted in let sum = c.adds_up in
+  counts_down n id m i fit at owes s a wide me small = let r : ℕ = get_or s.words i 0 in let new : ℕ = (r + (2 ^ 64 - 1)) % 2 ^ 64 in let c = a.reckoned.counted in let sum = c.adds_up in
       let was : count w s.words ≡ r = ap (λ (j : ℕ). get_or s.words j 0) (sym at) in
       let mine = term_le (λ (v : View). v.down) s.views id m.0 me in let less = (owed_less_here told w d s a.place a.ruled c).0 in
       let is : new + 1 ≡ r = omega arith in
@@ -200,8 +200,8 @@ module _ {T : Type 0} (told : T → Option Tale) (w : Wires) (d : Deal) where
         drawing = omega (arith, budgets_same);
         tallying = refl;
         counting = omega (arith, counts_same);
-        pairs = a.second.counted.pairs id m.0 me;
-        few = a.second.counted.few id m.0 me;
+        pairs = a.reckoned.counted.pairs id m.0 me;
+        few = a.reckoned.counted.few id m.0 me;
         still_quiet = λ e. counts_same ∙ e;
         still_halted = λ _. now;
         saw_quiet = λ e. absurd (omega (arith, e));

@@ -19,3 +19,4 @@ pub mod Woken
 pub mod Wired
 pub mod Emptied
 pub mod Sole
+pub mod Limits

@@ -128,7 +128,7 @@ module _ {T : Type 0} (told : T → Option Tale) (w : Wires) where
   opens bound words numbers cells o b = let at : (k : ℕ) → get_or words (8 * (w.instances + length numbers) + k) 0 ≡ get_or words (8 * (w.instances + w.channels) + k) 0 = λ k. ap (λ (j : ℕ). get_or words (8 * (w.instances + j) + k) 0) o.numbers_are in record {
     place = λ _. ready;
     ruled = opens_first bound words numbers cells o b.long b.zeros b.twice;
-    second = record {
+    reckoned = record {
       tally = tally_of told cells;
       budgeted = record {
         small = o.few;

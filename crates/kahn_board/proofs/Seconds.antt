@@ -1,4 +1,4 @@
--- The second pass over the steps of the first.
+-- What is reckoned, over the steps that move no instance, that take one, and that give one up.
 use Rattle.std.proofs.Common.{◌≡◌, ℕ, zero, suc, ◌+◌, ◌-◌, ◌*◌, ◌^◌, ◌<◌, ◌≤◌, ◌≢◌, ◌⊎◌, inl, inr, ⊎_elim, List, [], ◌∷◌, length, get_or, set, sym, refl, ap, ◌∙◌, subst, arith, Option, Some, None, length-set, get_or-set_same, get_or-set_other}
 use mathlib.Core.Logic.{dite}
 use native.Mathlib.Decide.{ℕ_discrete, dec_le}
@@ -12,7 +12,7 @@ use Rattle.kahn_board.specs.Counts.{Owed, Owes, is_up, below}
 use Rattle.kahn_board.specs.Calls.{Unowed}
 use Rattle.kahn_board.specs.Place.{Place, held, held_by, moved, total}
 use Rattle.kahn_board.specs.Plays.{Sat, IsIn, SeesMore, gave}
-use Rattle.kahn_board.specs.Rule.{St, Deal, view, published, budget, count, halted, Ruled, IsHome, Second}
+use Rattle.kahn_board.specs.Rule.{St, Deal, view, published, budget, count, halted, Ruled, IsHome, Reckoned}
 use Rattle.kahn_board.specs.declared.view.View.{View}
 use Rattle.kahn_board.proofs.Moved.{at_moved, is_held, held_no, held_yes}
 use Rattle.kahn_board.proofs.Counting.{inside_of}
@@ -28,7 +28,7 @@ ups_same place place' e zero = refl
 ups_same place place' e (suc n) = omega (arith, ups_same place place' e n, ap is_up (e n))
 
 module _ {T : Type 0} (told : T → Option Tale) (w : Wires) (d : Deal) where
-  -- what a step on a word of the first pass leaves
+  -- what a step on a word of an instance or a channel leaves
   pub record SameHot (ws ws' : List ℕ) : Type 0 where
     pub budget_same : budget w ws' ≡ budget w ws
     pub count_same : count w ws' ≡ count w ws
@@ -57,7 +57,7 @@ module _ {T : Type 0} (told : T → Option Tale) (w : Wires) (d : Deal) where
     pub fixed : (c : ℕ) → c < w.channels → w.writer c ≡ None → published w ws c ≡ published w s.words c
     pub leaves : v'.stage ≤ 1 → (v'.drawn ≡ 0) × ((halted w ws ≢ 0) ⊎ ((count w ws ≡ 0) ⊎ (budget w ws ≡ 0)))
 
-  pub idles : (s : St T) (place : ℕ → Place) (q₀ : Second told w d place s) (id : ℕ) (v v' : View) (ws : List ℕ) → get_elem? s.views id ≡ some v → Idle s v v' ws → Second told w d place (state told w ws s.homes (set s.views id v'))
+  pub idles : (s : St T) (place : ℕ → Place) (q₀ : Reckoned told w d place s) (id : ℕ) (v v' : View) (ws : List ℕ) → get_elem? s.views id ≡ some v → Idle s v v' ws → Reckoned told w d place (state told w ws s.homes (set s.views id v'))
   idles s place q₀ id v v' ws me m = turned_kept told w d s place place q₀ q₀.tally id v v' ws s.homes record {
     mine = me;
     drawing = m.drawing;
@@ -79,11 +79,11 @@ module _ {T : Type 0} (told : T → Option Tale) (w : Wires) (d : Deal) where
   }
 
   -- a step that takes the instance p, with the counts up that are owed after it
-  pub takes_second : (s : St T) (place : ℕ → Place) (r : Ruled told w place s) (q₀ : Second told w d place s) (i k id : ℕ) (m : Sat T) (p : ℕ) (L : List ℕ) (owed : Owed) (seen found : ℕ)
+  pub takes_second : (s : St T) (place : ℕ → Place) (r : Ruled told w place s) (q₀ : Reckoned told w d place s) (i k id : ℕ) (m : Sat T) (p : ℕ) (L : List ℕ) (owed : Owed) (seen found : ℕ)
       → get_elem? s.views id ≡ some m.0 → p < w.instances → length m.0.hands ≡ w.instances → length m.0.got ≡ w.instances → i < 8 * (w.instances + w.channels)
       → get_or m.0.hands p 0 ≡ 0 → is_up (place p) + length owed ≡ length m.0.owed + 1 → Owes (set m.0.hands p 1) owed → SeesMore m.0.seen seen → (seen ≡ 2 → halted w s.words ≢ 0)
       → ((c : ℕ) → c < w.channels → w.writer c ≡ None → published w (set s.words i k) c ≡ published w s.words c)
-      → Second told w d (moved place p (held id)) (state told w (set s.words i k) (set s.homes p none) (set s.views id (view m.0.parts (set m.0.hands p 1) L (set m.0.got p (q₀.tally p)) m.0.drawn m.0.done m.0.loose owed m.0.down seen 2 (m.0.steps + 1) found)))
+      → Reckoned told w d (moved place p (held id)) (state told w (set s.words i k) (set s.homes p none) (set s.views id (view m.0.parts (set m.0.hands p 1) L (set m.0.got p (q₀.tally p)) m.0.drawn m.0.done m.0.loose owed m.0.down seen 2 (m.0.steps + 1) found)))
   takes_second s place r q₀ i k id m p L owed seen found me inside long got_long near free counts pairs sees halted_is fixed =
       let ws = set s.words i k in let same = hot s.words i k near in let v = m.0 in let hs : List (maybe.Option (Option T)) = set s.homes p none in
       let v' : View = view v.parts (set v.hands p 1) L (set v.got p (q₀.tally p)) v.drawn v.done v.loose owed v.down seen 2 (v.steps + 1) found in
@@ -113,11 +113,11 @@ module _ {T : Type 0} (told : T → Option Tale) (w : Wires) (d : Deal) where
       }
 
   -- a step that gives the instance p with the cell y up, which then stands at x, with `more` counts down to pay
-  pub gives_second : (s : St T) (place : ℕ → Place) (r : Ruled told w place s) (q₀ : Second told w d place s) (i k id : ℕ) (v : View) (p : ℕ) (y : T) (x : Place) (more found : ℕ)
+  pub gives_second : (s : St T) (place : ℕ → Place) (r : Ruled told w place s) (q₀ : Reckoned told w d place s) (i k id : ℕ) (v : View) (p : ℕ) (y : T) (x : Place) (more found : ℕ)
       → get_elem? s.views id ≡ some v → p < w.instances → length v.hands ≡ w.instances → i < 8 * (w.instances + w.channels) → 0 < v.parts
       → place p ≡ held id → IsIn v p → is_up x + more ≡ 1 → Unowed p v.owed → v.down < 2 ^ 32 → Accounts (told y) (get_or v.got p 0) v.loose → (v.seen ≡ 2) ⊎ FlushedAll (told y)
       → ((c : ℕ) → c < w.channels → published w (set s.words i k) c ≡ published w s.words c)
-      → Second told w d (moved place p x) (state told w (set s.words i k) (set s.homes p (some (Some y))) (set s.views id (gave v p (told y) more found)))
+      → Reckoned told w d (moved place p x) (state told w (set s.words i k) (set s.homes p (some (Some y))) (set s.views id (gave v p (told y) more found)))
   gives_second s place r q₀ i k id v p y x more found me inside long near alive is is_in ups free few accounts flushed fixed =
       let ws = set s.words i k in let same = hot s.words i k near in let hs : List (maybe.Option (Option T)) = set s.homes p (some (Some y)) in
       let v' : View = gave v p (told y) more found in let g = get_or v.got p 0 in let e' = events_past (told y) g in
@@ -155,7 +155,7 @@ module _ {T : Type 0} (told : T → Option Tale) (w : Wires) (d : Deal) where
       }
 
   -- the same places, in other words
-  pub replaced : (s : St T) (place place' : ℕ → Place) → ((q : ℕ) → place q ≡ place' q) → Second told w d place s → Second told w d place' s
+  pub replaced : (s : St T) (place place' : ℕ → Place) → ((q : ℕ) → place q ≡ place' q) → Reckoned told w d place s → Reckoned told w d place' s
   replaced s place place' same q₀ = record {
     tally = q₀.tally;
     budgeted = q₀.budgeted;

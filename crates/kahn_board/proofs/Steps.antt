@@ -10,7 +10,7 @@ use lib.Seq.{set-get_or}
 use Rattle.kahn_board.specs.Counts.{Owed, Owes, is_up}
 use Rattle.kahn_board.specs.Calls.{Leaves, Unowed}
 use Rattle.kahn_board.specs.Plays.{SeesMore, took, gave, told_of, waking}
-use Rattle.kahn_board.specs.Rule.{Deal, Whole, Second, halted, count, budget}
+use Rattle.kahn_board.specs.Rule.{Deal, Whole, Reckoned, halted, count, budget}
 use Rattle.kahn_board.proofs.Seconds.{SameHot, hot, Idle, idles, takes_second, gives_second, replaced}
 use Rattle.kahn_board.proofs.Changes.{owes_more, owes_woken, one_longer}
 use prog.Atomic.{either}
@@ -184,18 +184,18 @@ module _ {T : Type 0} (told : T → Option Tale) (w : Wires) (d : Deal) where
   unchanged s a i id m r me fit = subst (λ (l : List ℕ). Whole told w d (state told w l s.homes (set s.views id (noted m.0 r)))) (sym (set-get_or s.words i 0)) record {
     place = a.place;
     ruled = stays told w s a.place a.ruled s.words id m (noted m.0 r) me fit refl refl refl refl (λ q h. refl);
-    second = idles told w d s a.place a.second id m.0 (noted m.0 r) s.words me record {
+    reckoned = idles told w d s a.place a.reckoned id m.0 (noted m.0 r) s.words me record {
       hands_same = refl;
       got_same = refl;
       drawing = refl;
       tallying = refl;
       counting = refl;
-      pairs = a.second.counted.pairs id m.0 me;
-      few = a.second.counted.few id m.0 me;
+      pairs = a.reckoned.counted.pairs id m.0 me;
+      few = a.reckoned.counted.few id m.0 me;
       still_quiet = λ e. e;
       still_halted = λ e. e;
-      saw_quiet = a.second.lasting.saw_quiet id m.0 me;
-      saw_halted = a.second.lasting.saw_halted id m.0 me;
+      saw_quiet = a.reckoned.lasting.saw_quiet id m.0 me;
+      saw_halted = a.reckoned.lasting.saw_halted id m.0 me;
       fixed = λ c h none. refl;
       leaves = λ h. absurd (omega arith);
     };
@@ -205,7 +205,7 @@ module _ {T : Type 0} (told : T → Option Tale) (w : Wires) (d : Deal) where
   pub sees : (s : St T) (a : Whole told w d s) (id : ℕ) (v : View) (p : ℕ) (y : T) → get_elem? s.views id ≡ some v → p < w.instances → IsHome s p y
       → (seen : ℕ) × SeesMore v.seen seen × (seen ≡ 2 → halted w s.words ≢ 0) × ((seen ≡ 2) ⊎ FlushedAll (told y))
   sees s a id v p y me inside home = dite (ℕ_discrete (halted w s.words) 0)
-      (λ zero_now. (v.seen, inl refl, a.second.lasting.saw_halted id v me, inr (a.second.lasting.flushed_all p y inside home zero_now)))
+      (λ zero_now. (v.seen, inl refl, a.reckoned.lasting.saw_halted id v me, inr (a.reckoned.lasting.flushed_all p y inside home zero_now)))
       (λ ne. (2, inr refl, (λ _. ne), inl refl))
 
   claims : (n id : ℕ) (m : Sat T) (p : ℕ) (said : maybe.Option (Option T)) → Fit told w m → p < w.instances → Allows (Whole told w d) n id m (8 * p) (λ y. either (eqb y 0) 1 y) (claimed told w p (step n (8 * p) 0 1 said) m)
@@ -215,7 +215,7 @@ module _ {T : Type 0} (told : T → Option Tale) (w : Wires) (d : Deal) where
       let is : place p ≡ ready = code_ready (place p) (sym (r.one_pair.word_is p inside) ∙ hit) in
       let cell = subst (λ (z : Place). Stands z (get_elem? s.homes p)) is (r.one_pair.cell_is p inside) in
       let y : T = cell.0 in let ws = set s.words (8 * p) 1 in let L : List ℕ = halves w ws in
-      let wide' = r.wide in let e : ℕ = a.second.tally p in let saw_it = sees s a id m.0 p y me inside cell.1 in let seen : ℕ = saw_it.0 in
+      let wide' = r.wide in let e : ℕ = a.reckoned.tally p in let saw_it = sees s a id m.0 p y me inside cell.1 in let seen : ℕ = saw_it.0 in
       let v' : View = took m.0 p L e seen 0 in
       let free : get_or m.0.hands p 0 ≡ 0 = r.one_pair.hands_are id m.0 me p inside ∙ ap (held_by id) is in
       let pub_same : (c : ℕ) → published w ws c ≡ published w s.words c = λ c. ap half (get_or-set_other s.words (8 * p) (8 * (w.instances + c)) 1 0 (λ e. omega arith)) in (
@@ -228,8 +228,8 @@ module _ {T : Type 0} (told : T → Option Tale) (w : Wires) (d : Deal) where
               (λ q h. at_moved (λ k z. k < w.instances → get_or ws (8 * k) 0 ≡ word_code z) place p (held id) q (λ _. get_or-set_same s.words (8 * p) 1 0 (omega arith)) (λ ne l. get_or-set_other s.words (8 * p) (8 * q) 1 0 (λ e. ne (omega arith)) ∙ r.one_pair.word_is q l) h)
               (λ c near. ap (λ (k : ℕ). k % 2) (get_or-set_other s.words (8 * p) (8 * (w.instances + c)) 1 0 (λ e. omega arith)) ∙ (r.parking.marks c near ∙ sym (mark_same place p (held id) (w.reader c) c (sym (ap (parked_on c) is)))))
               (λ c near. inl (pub_same c));
-          second = takes_second told w d s place r a.second (8 * p) 1 id m p L m.0.owed seen 0 me inside fit.hands_long fit.got_long (omega arith) free
-              (omega (arith, ap is_up is)) (owes_more m.0.hands p m.0.owed free (a.second.counted.pairs id m.0 me)) saw_it.1 saw_it.2 (λ c near none. pub_same c);
+          reckoned = takes_second told w d s place r a.reckoned (8 * p) 1 id m p L m.0.owed seen 0 me inside fit.hands_long fit.got_long (omega arith) free
+              (omega (arith, ap is_up is)) (owes_more m.0.hands p m.0.owed free (a.reckoned.counted.pairs id m.0 me)) saw_it.1 saw_it.2 (λ c near none. pub_same c);
         },
         (
           (λ _. (
@@ -243,7 +243,7 @@ module _ {T : Type 0} (told : T → Option Tale) (w : Wires) (d : Deal) where
               halves_long w ws ∙ sym fit.flushed_long,
               (λ q c h near one writes. half_at w ws c near ∙ (pub_same c ∙ sym (r.known id m.0 me q c h one near writes))),
               (λ c k tells. let t = r.parking.flushes p c k y inside cell.1 tells in (t.1, t.0, t.2 ∙ (sym (pub_same c) ∙ sym (half_at w ws c t.0)))),
-              a.second.budgeted.tells p y inside cell.1,
+              a.reckoned.budgeted.tells p y inside cell.1,
               saw_it.1,
               saw_it.3,
             ),
@@ -274,7 +274,7 @@ module _ {T : Type 0} (told : T → Option Tale) (w : Wires) (d : Deal) where
             stands
             (λ c e. absurd (omega (arith, unparked c, ap (parked_on c) e, parked_yes c)))
             ends leaves.0;
-          second = gives_second told w d s place r a.second (8 * p) new id v p y x (new / 2) new me inside fit.hands_long (omega arith) fit.alive is is_in ups leaves.3 few leaves.1 leaves.2
+          reckoned = gives_second told w d s place r a.reckoned (8 * p) new id v p y x (new / 2) new me inside fit.hands_long (omega arith) fit.alive is is_in ups leaves.3 few leaves.1 leaves.2
               (λ c near. ap half (get_or-set_other s.words (8 * p) (8 * (w.instances + c)) new 0 (λ e. omega arith)));
         },
         (y, refl, refl),
@@ -310,7 +310,7 @@ module _ {T : Type 0} (told : T → Option Tale) (w : Wires) (d : Deal) where
             (λ d e. subst (λ (k : ℕ). (k < w.channels) × (w.reader k ≡ Some p) × TellsWait (told y) k (published w ws k)) (parked_apart c d e) (near, reads, subst (TellsWait (told y) c) (sym num) waits))
             (λ e. absurd (omega (arith, ap word_code e)))
             leaves.0;
-          second = gives_second told w d s place r a.second i new id v p y (parked c) 1 x me inside fit.hands_long (omega arith) fit.alive is is_in refl leaves.3 few leaves.1 leaves.2 same;
+          reckoned = gives_second told w d s place r a.reckoned i new id v p y (parked c) 1 x me inside fit.hands_long (omega arith) fit.alive is is_in refl leaves.3 few leaves.1 leaves.2 same;
         },
         ((λ _. (y, refl, refl)), λ miss. absurd (miss hit)),
       ))
@@ -376,18 +376,18 @@ module _ {T : Type 0} (told : T → Option Tale) (w : Wires) (d : Deal) where
             alive = fit.alive;
             parts = refl;
           };
-          second = replaced told w d _ place (moved place q₀ (held id)) (λ q. sym (stay q)) (idles told w d s place a.second id m.0 v' ws me record {
+          reckoned = replaced told w d _ place (moved place q₀ (held id)) (λ q. sym (stay q)) (idles told w d s place a.reckoned id m.0 v' ws me record {
             hands_same = refl;
             got_same = refl;
             drawing = omega (arith, hots.budget_same);
             tallying = refl;
             counting = omega (arith, hots.count_same);
-            pairs = a.second.counted.pairs id m.0 me;
-            few = a.second.counted.few id m.0 me;
+            pairs = a.reckoned.counted.pairs id m.0 me;
+            few = a.reckoned.counted.few id m.0 me;
             still_quiet = λ e. hots.count_same ∙ e;
             still_halted = λ ne e. ne (sym hots.halted_same ∙ e);
-            saw_quiet = λ e. hots.count_same ∙ a.second.lasting.saw_quiet id m.0 me e;
-            saw_halted = λ e z. a.second.lasting.saw_halted id m.0 me e (sym hots.halted_same ∙ z);
+            saw_quiet = λ e. hots.count_same ∙ a.reckoned.lasting.saw_quiet id m.0 me e;
+            saw_halted = λ e z. a.reckoned.lasting.saw_halted id m.0 me e (sym hots.halted_same ∙ z);
             fixed = fixed;
             leaves = λ h. absurd (omega arith);
           });
@@ -397,7 +397,7 @@ module _ {T : Type 0} (told : T → Option Tale) (w : Wires) (d : Deal) where
       (λ not_even. let odd : x % 2 ≡ 1 = omega arith in let t = marked place (w.reader c) c (sym (r.parking.marks c near) ∙ (ap (λ (k : ℕ). k % 2) x_is ∙ odd)) in
       let p : ℕ = t.0 in let on_c : place p ≡ parked c = t.2 in let inside : p < w.instances = reader_in p t.1 in
       let cell = subst (λ (z : Place). Stands z (get_elem? s.homes p)) on_c (r.one_pair.cell_is p inside) in let y : T = cell.0 in let L : List ℕ = halves w ws in
-      let e : ℕ = a.second.tally p in let saw_it = sees s a id m.0 p y me inside cell.1 in let seen : ℕ = saw_it.0 in
+      let e : ℕ = a.reckoned.tally p in let saw_it = sees s a id m.0 p y me inside cell.1 in let seen : ℕ = saw_it.0 in
       let free : get_or m.0.hands p 0 ≡ 0 = r.one_pair.hands_are id m.0 me p inside ∙ ap (held_by id) on_c in
       let v' : View = took (waking m.0 c (new / 2) p q₀) p L e seen x in (
         v',
@@ -418,9 +418,9 @@ module _ {T : Type 0} (told : T → Option Tale) (w : Wires) (d : Deal) where
                 (λ wr. the_writer q (ap w.writer (sym e) ∙ wr)),
               )))
               (λ ne. inl (elsewhere_same d ne)));
-          second = takes_second told w d s place r a.second i new id m p L (m.0.owed ++ (p, q₀) ∷ []) seen x me inside fit.hands_long fit.got_long (omega arith) free
+          reckoned = takes_second told w d s place r a.reckoned i new id m p L (m.0.owed ++ (p, q₀) ∷ []) seen x me inside fit.hands_long fit.got_long (omega arith) free
               (omega (arith, ap is_up on_c, one_longer m.0.owed (p, q₀)))
-              (owes_woken m.0.hands p q₀ m.0.owed free (get_or-set_same m.0.hands p 1 0 (omega (arith, fit.hands_long))) is_in (a.second.counted.pairs id m.0 me)) saw_it.1 saw_it.2 fixed;
+              (owes_woken m.0.hands p q₀ m.0.owed free (get_or-set_same m.0.hands p 1 0 (omega (arith, fit.hands_long))) is_in (a.reckoned.counted.pairs id m.0 me)) saw_it.1 saw_it.2 fixed;
         },
         (
           (λ even. absurd (not_even even)),
@@ -444,7 +444,7 @@ module _ {T : Type 0} (told : T → Option Tale) (w : Wires) (d : Deal) where
                 u.0,
                 u.2 ∙ (sym (elsewhere_same d (λ e. omega (arith, ap (parked_on c) (sym on_c ∙ the_writer p (ap w.writer (sym e) ∙ u.1)), parked_yes c))) ∙ sym (half_at w ws d u.0)),
               )),
-              a.second.budgeted.tells p y inside cell.1,
+              a.reckoned.budgeted.tells p y inside cell.1,
               saw_it.1,
               saw_it.3,
             ),

@@ -1,8 +1,9 @@
--- The rule of a board's table: what is true between any two steps.
--- Word p of the instance p is 0 where it is ready, 1 where it is held or parked, 2 where it is over.
--- Word n + c of the channel c, among n instances, is 2 k, or 2 k + 1 where the reader is parked on it, k being the number published.
+-- The rule of a board's table: what is true between any two steps of any seats.
+-- Words stand eight apart, each in a cache line of its own. Among n instances and m channels:
+-- word 8 p of the instance p is 0 where it is ready, 1 where it is held or parked, 2 where it is over;
+-- word 8 (n + c) of the channel c is 2 k, or 2 k + 1 where the reader is parked on it, k being the number published;
+-- the budget, the count and halted stand at 8 (n + m), 8 (n + m + 1) and 8 (n + m + 2).
 -- Slot p has the cell of the instance p.
--- The words budget, count and halted stand past these, each on a line of its own.
 use Rattle.std.specs.Prelude.{◌≡◌, ◌≢◌, ◌⊎◌, ℕ, ◌+◌, ◌*◌, ◌/◌, ◌%◌, ◌^◌, ◌<◌, ◌≤◌, List, [], length, slice_index, replicate, Some}
 use Rattle.std.specs.Prelude as std
 use mathlib.Core.Option.{Option, none, some}
@@ -14,18 +15,22 @@ use Rattle.kahn_board.specs.Place.{Place, ready, held, parked, over, word_code, 
 use Rattle.kahn_board.specs.Counts.{Owed, Owes, is_up, below}
 use Rattle.kahn_board.specs.declared.view.View.{View}
 
+-- the parts of a board's first seat
 abbrev pub all_parts : ℕ
 all_parts = 65536
 
 abbrev pub view : ℕ → List ℕ → List ℕ → List ℕ → ℕ → ℕ → ℕ → Owed → ℕ → ℕ → ℕ → ℕ → ℕ → View
 view parts hands flushed got drawn done loose owed down seen stage steps found = record { parts = parts; hands = hands; flushed = flushed; got = got; drawn = drawn; done = done; loose = loose; owed = owed; down = down; seen = seen; stage = stage; steps = steps; found = found }
 
+-- the view of a seat that was joined to another
 abbrev pub spent : View
 spent = view 0 [] [] [] 0 0 0 [] 0 0 0 0 0
 
+-- the view of a seat that has so many parts, and has and knows nothing, among n instances and k channels
 abbrev pub blank : ℕ → ℕ → ℕ → View
 blank n k parts = view parts (replicate n 0) (replicate k 0) (replicate n 0) 0 0 0 [] 0 0 0 0 0
 
+-- the view of the first seat
 abbrev pub opening_view : Wires → View
 opening_view w = blank w.instances w.channels all_parts
 
@@ -33,7 +38,6 @@ opening_view w = blank w.instances w.channels all_parts
 abbrev pub published : Wires → List ℕ → ℕ → ℕ
 published w words c = slice_index words (8 * (w.instances + c)) / 2
 
--- a line of eight words between each two of them
 abbrev pub budget_at : Wires → ℕ
 budget_at w = 8 * (w.instances + w.channels)
 
@@ -43,15 +47,19 @@ count_at w = 8 * (w.instances + w.channels) + 8
 abbrev pub halted_at : Wires → ℕ
 halted_at w = 8 * (w.instances + w.channels) + 16
 
+-- how many events may still be drawn
 abbrev pub budget : Wires → List ℕ → ℕ
 budget w words = slice_index words (budget_at w)
 
+-- how many instances may go on, by what the seats have paid so far
 abbrev pub count : Wires → List ℕ → ℕ
 count w words = slice_index words (count_at w)
 
+-- 0 until a seat has halted the run
 abbrev pub halted : Wires → List ℕ → ℕ
 halted w words = slice_index words (halted_at w)
 
+-- the table: its words, the cells at home, and the views of all seats
 abbrev pub St : Type 0 → Type 0
 St T = State (std.Option T) View
 
@@ -92,11 +100,12 @@ module _ {T : Type 0} where
   abbrev pub Known : Wires → St T → Type 0
   Known w s = (j : ℕ) (v : View) → get_elem? s.views j ≡ some v → (p c : ℕ) → p < w.instances → slice_index v.hands p ≡ 1 → c < w.channels → w.writer c ≡ Some p → slice_index v.flushed c ≡ published w s.words c
 
+  -- the parts add up, and a seat without a part is a spent one
   pub record Parts (s : St T) : Type 0 where
     pub all : total (λ v. v.parts) s.views ≡ all_parts
     pub none_spent : (j : ℕ) (v : View) → get_elem? s.views j ≡ some v → v.parts ≡ 0 → v ≡ spent
 
-  -- the first pass
+  -- where instances and cells stand
   pub record Ruled (told : T → std.Option Tale) (w : Wires) (place : ℕ → Place) (s : St T) : Type 0 where
     pub wide : length s.words ≡ 8 * (w.instances + w.channels) + 24
     pub deep : length s.homes ≡ w.instances
@@ -105,7 +114,8 @@ module _ {T : Type 0} where
     pub known : Known w s
     pub parts : Parts s
 
-  -- `tally p` is what the cell of p told when it was last given up
+  -- no event is drawn twice or lost: budget, undone draws and events told as done are the bound.
+  -- What is told as done is told by cells, but for those that no cell has told yet: `tally p` is what the cell of p told when it was last given up
   pub record Budgeted (told : T → std.Option Tale) (w : Wires) (d : Deal) (tally : ℕ → ℕ) (s : St T) : Type 0 where
     pub small : d.bound + d.events < 2 ^ 48
     pub adds_up : budget w s.words + total (λ v. v.drawn) s.views + total (λ v. v.done) s.views ≡ d.bound
@@ -113,6 +123,7 @@ module _ {T : Type 0} where
     pub tells : (p : ℕ) (y : T) → p < w.instances → IsHome s p y → TellsEvents (told y) (tally p)
     pub got_is : (j : ℕ) (v : View) → get_elem? s.views j ≡ some v → (p : ℕ) → p < w.instances → slice_index v.hands p ≡ 1 → slice_index v.got p ≡ tally p
 
+  -- the count is the number of instances neither parked nor over, but for what is owed to it; who owes a count up holds the woken reader and its waker
   pub record CountIs (w : Wires) (place : ℕ → Place) (s : St T) : Type 0 where
     pub adds_up : count w s.words + total (λ v. length v.owed) s.views ≡ below (λ p. is_up (place p)) w.instances + total (λ v. v.down) s.views
     pub pairs : (j : ℕ) (v : View) → get_elem? s.views j ≡ some v → Owes v.hands v.owed
@@ -131,22 +142,25 @@ module _ {T : Type 0} where
   abbrev pub AllLeft : St T → Type 0
   AllLeft s = ((j : ℕ) (v : View) → get_elem? s.views j ≡ some v → v.stage ≤ 1) × ((j : ℕ) × (v : View) × (get_elem? s.views j ≡ some v) × (v.stage ≡ 1))
 
+  -- the run is halted, or quiet, or out of budget with no draw undone
   abbrev pub Stopped : Wires → St T → Type 0
   Stopped w s = (halted w s.words ≢ 0) ⊎ ((count w s.words ≡ 0) ⊎ ((budget w s.words ≡ 0) × (total (λ v. v.drawn) s.views ≡ 0)))
 
+  -- once all seats have left there is a reason; a seat that has left has no draw
   pub record Leaving (w : Wires) (s : St T) : Type 0 where
     pub idle : (j : ℕ) (v : View) → get_elem? s.views j ≡ some v → v.stage ≤ 1 → v.drawn ≡ 0
     pub left : AllLeft s → Stopped w s
 
-  -- the second pass
-  pub record Second (told : T → std.Option Tale) (w : Wires) (d : Deal) (place : ℕ → Place) (s : St T) : Type 0 where
+  -- budget, count, what lasts, and leaving
+  pub record Reckoned (told : T → std.Option Tale) (w : Wires) (d : Deal) (place : ℕ → Place) (s : St T) : Type 0 where
     pub tally : ℕ → ℕ
     pub budgeted : Budgeted told w d tally s
     pub counted : CountIs w place s
     pub lasting : Lasting told w d s
     pub leaving : Leaving w s
 
+  -- the rule
   pub record Whole (told : T → std.Option Tale) (w : Wires) (d : Deal) (s : St T) : Type 0 where
     pub place : ℕ → Place
     pub ruled : Ruled told w place s
-    pub second : Second told w d place s
+    pub reckoned : Reckoned told w d place s

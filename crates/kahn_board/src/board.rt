@@ -1,4 +1,5 @@
-// The board, and the seats that step on it.
+//! The board, and the seats that step on it.
+
 ghost use Rattle.std.specs.Prelude.{◌≡◌, ◌≢◌, ℕ, ◌+◌, ◌*◌, ◌^◌, ◌<◌, ◌≤◌, [], ◌∷◌, ◌++◌, map, drop, length, Option, slice_index, slice_index_or, None, Some};
 ghost use Rattle.std.specs.VecDeque.{deque_capacity};
 ghost use Rattle.std.specs.Vec.{vec_capacity};
@@ -7,87 +8,13 @@ ghost use Rattle.kahn_board.specs.Dealt.{wired};
 
 use crate::rule::{Rule, Terms, Told};
 use crate::view::View;
-use atomic_table::{Play, Table};
+use crate::plays::{
+    CountingDown, CountingUp, Drawing, GivingBack, Halting, Notes, SeesBudget, SeesCount, SeesHalted,
+};
+use atomic_table::Table;
 use std::alloc::Global;
 use std::collections::VecDeque;
 use std::marker::Brand;
-
-impl<T> Play<Option<T>, View> for Brand {
-    ghost then = { λ _ _ _ _. Unit {0} };
-}
-
-// What each step on a word past the channels tells.
-pub struct Notes;
-
-impl<T> Play<Option<T>, View> for Notes {
-    ghost use Rattle.kahn_board.specs.Plays.{looked};
-
-    ghost then = { looked };
-}
-
-pub struct Drawing;
-
-impl<T> Play<Option<T>, View> for Drawing {
-    ghost use Rattle.kahn_board.specs.Plays.{drew};
-
-    ghost then = { drew };
-}
-
-pub struct GivingBack;
-
-impl<T> Play<Option<T>, View> for GivingBack {
-    ghost use Rattle.kahn_board.specs.Plays.{gave_back};
-
-    ghost then = { gave_back };
-}
-
-pub struct CountingUp;
-
-impl<T> Play<Option<T>, View> for CountingUp {
-    ghost use Rattle.kahn_board.specs.Plays.{counted_up};
-
-    ghost then = { counted_up };
-}
-
-pub struct CountingDown;
-
-impl<T> Play<Option<T>, View> for CountingDown {
-    ghost use Rattle.kahn_board.specs.Plays.{counted_down};
-
-    ghost then = { counted_down };
-}
-
-pub struct Halting;
-
-impl<T> Play<Option<T>, View> for Halting {
-    ghost use Rattle.kahn_board.specs.Plays.{halts};
-
-    ghost then = { halts };
-}
-
-pub struct SeesHalted;
-
-impl<T> Play<Option<T>, View> for SeesHalted {
-    ghost use Rattle.kahn_board.specs.Plays.{sees_halted};
-
-    ghost then = { sees_halted };
-}
-
-pub struct SeesCount;
-
-impl<T> Play<Option<T>, View> for SeesCount {
-    ghost use Rattle.kahn_board.specs.Plays.{sees_count};
-
-    ghost then = { sees_count };
-}
-
-pub struct SeesBudget;
-
-impl<T> Play<Option<T>, View> for SeesBudget {
-    ghost use Rattle.kahn_board.specs.Plays.{sees_budget};
-
-    ghost then = { sees_budget };
-}
 
 /// Where the cells of a network stand.
 pub struct Board<T: Told> {

@@ -5,6 +5,7 @@ mod board;
 mod closing;
 mod opening;
 mod passing;
+mod plays;
 mod rule;
 #[cfg(test)]
 mod tests;
