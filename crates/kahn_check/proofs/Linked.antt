@@ -21,9 +21,10 @@ use Rattle.kahn_syntax.specs.View.{bytes_of}
 use Rattle.kahn_check.specs.declared.fault.CheckFault.{CheckFault}
 use Rattle.kahn_check.specs.declared.fault.CheckFault.TheVariants.{NoWriter, NoReader}
 use Rattle.kahn_check.specs.Faults.{verdict, IsMet, wrong}
-use Rattle.kahn_check.specs.Wiring.{entries, Global, IsChannel, IsProcess, declared_of, declared_channels, global, End, Handover, handed, handed_in, handed_by, handed_from, parameters_of, same_direction, ends, writers, readers, IsWellWired}
+use Rattle.kahn_check.specs.Wiring.{entries, Global, IsChannel, IsProcess, declared_of, declared_channels, global, Handover, handed, handed_in, handed_by, handed_from, parameters_of, same_direction, ends, writers, readers, IsWellWired, side_at}
+use Rattle.kahn_check.specs.declared.sides.Side.{Side}
 use Rattle.kahn_check.specs.Order.{too_many, miscounted, is_closed, overtaken, misplaced, argument_faults, arguments_faults, made_faults, instance_faults, missing, side_faults, sides_faults, declaration_faults, faults}
-use Rattle.kahn_check.specs.Tables.{Side, held, taken, side_of, misplaced_in, place_faults, places_faults, made_in, meant, handed_to, handed_all, seats_faults, side_in, sides_in}
+use Rattle.kahn_check.specs.Tables.{Ends, held, taken, side_of, misplaced_in, place_faults, places_faults, made_in, meant, handed_to, handed_all, seats_faults, side_in, sides_in}
 use Rattle.kahn_check.proofs.Wired.{Table, well_wired}
 use Rattle.kahn_check.proofs.Placed.{taken_append}
 use Rattle.kahn_check.proofs.Declared.{met_first, met_after}
@@ -32,12 +33,12 @@ use Rattle.kahn_check.proofs.Walk.{verdict_err}
 use Rattle.std.specs.declared.vec.Vec.{Vec}
 use Rattle.std.specs.declared.alloc.Global.{Global as Heap}
 
-pub sides_more : (w r : Side) (xs ys : List (Name × (Kind × Role))) → sides_in w r (xs ++ ys) ≡ sides_in w r xs ++ sides_in w r ys
+pub sides_more : (w r : Ends) (xs ys : List (Name × (Kind × Role))) → sides_in w r (xs ++ ys) ≡ sides_in w r xs ++ sides_in w r ys
 sides_more w r [] ys = refl
 sides_more w r (x ∷ xs) ys = ap (λ z. side_in w r x.0 x.1.1 ++ z) (sides_more w r xs ys) ∙ sym (append_assoc (side_in w r x.0 x.1.1) (sides_in w r xs) (sides_in w r ys))
 
 -- the table has the first of the ends
-abbrev first : List End → List End
+abbrev first : List Side → List Side
 first [] = []
 first (e ∷ es) = e ∷ []
 
@@ -51,7 +52,7 @@ headed d c (h ∷ hs) = by (same_direction d h.direction) (bytes_eq c h.channel)
     by true false e i = ap (λ z. held (cond z (Some h.end) (lookup (bytes_eq c) (taken d hs)))) e ∙ i
     by false b e i = i
 
-misplaced_first : (d : Direction) (k : Kind) (o : Option Global) (es : List End) (at : Span) → misplaced d k o (first es) at ≡ misplaced d k o es at
+misplaced_first : (d : Direction) (k : Kind) (o : Option Global) (es : List Side) (at : Span) → misplaced d k o (first es) at ≡ misplaced d k o es at
 misplaced_first d k o [] at = refl
 misplaced_first d k None (e ∷ es) at = refl
 misplaced_first d k (Some (IsProcess p)) (e ∷ es) at = refl
@@ -61,11 +62,11 @@ misplaced_first d k (Some (IsChannel kind role)) (e ∷ es) at = ap (λ z. wrong
     by true = refl
     by false = refl
 
-missing_first : (es : List End) (f : CheckFault) → missing (first es) f ≡ missing es f
+missing_first : (es : List Side) (f : CheckFault) → missing (first es) f ≡ missing es f
 missing_first [] f = refl
 missing_first (e ∷ es) f = refl
 
-abbrev table : Program → Table
+abbrev pub table : Program → Table
 table t = entries (declared_of t.declarations.items)
 
 link_argument : (t : Program) (before : List Handover) (w : Taking) (x : Argument) → place_faults (table t) (taken Out before) (taken In before) w x ≡ argument_faults t before w x
@@ -82,7 +83,7 @@ link_arguments : (t : Program) (before : List Handover) (i q : ℕ) (ps : List P
 link_arguments t before i q [] xs = refl
 link_arguments t before i q (p ∷ ps) [] = refl
 link_arguments t before i q (p ∷ ps) (x ∷ xs) =
-    let one = handed (i, q) p.taking x in
+    let one = handed (side_at i q) p.taking x in
     let w = sym (taken_append Out before one) in
     let r = sym (taken_append In before one) in
     (λ j. link_argument t before p.taking x j ++ places_faults (table t) (w j) (r j) i (suc q) ps xs)
@@ -139,43 +140,23 @@ met_instances t f none h =
     met_after (declaration_faults [] 0 t.declarations.items) _ f none
     (met_first (instance_faults t [] 0 t.instances.items) _ f (subst (λ z. IsMet z f) (link_instances t [] 0 t.instances.items) h))
 
-pub met_sides : (t : Program) (f : CheckFault) → declaration_faults [] 0 t.declarations.items ≡ [] → seats_faults (table t) [] [] 0 t.instances.items ≡ [] →
-    verdict (sides_in (taken Out (handed_all (table t) 0 t.instances.items)) (taken In (handed_all (table t) 0 t.instances.items)) (declared_channels t.declarations.items)) (tt {0}) ≡ Err f → IsMet (faults t) f
-met_sides t f none seats h =
-    let same = ap (λ z. sides_in (taken Out z) (taken In z) (declared_channels t.declarations.items)) (link_handed t 0 t.instances.items) ∙ link_sides t (declared_channels t.declarations.items) in
-    met_after (declaration_faults [] 0 t.declarations.items) _ f none
-    (met_after (instance_faults t [] 0 t.instances.items) _ f (sym (link_instances t [] 0 t.instances.items) ∙ seats) (inr (ap (λ z. verdict z (tt {0})) (sym same) ∙ h)))
-
-no_fault : (xs : List CheckFault) → verdict xs (tt {0}) ≡ Ok (tt {0}) → xs ≡ []
-no_fault [] h = refl
-no_fault (x ∷ xs) h = cc
-
-pub whole : (t : Program) → declaration_faults [] 0 t.declarations.items ≡ [] → seats_faults (table t) [] [] 0 t.instances.items ≡ [] →
-    verdict (sides_in (taken Out (handed_all (table t) 0 t.instances.items)) (taken In (handed_all (table t) 0 t.instances.items)) (declared_channels t.declarations.items)) (tt {0}) ≡ Ok (tt {0}) → IsWellWired t
-whole t none seats h =
-    let same = ap (λ z. sides_in (taken Out z) (taken In z) (declared_channels t.declarations.items)) (link_handed t 0 t.instances.items) ∙ link_sides t (declared_channels t.declarations.items) in
-    well_wired t (both (declaration_faults [] 0 t.declarations.items) _ none
-    (both (instance_faults t [] 0 t.instances.items) _ (sym (link_instances t [] 0 t.instances.items) ∙ seats) (sym same ∙ no_fault _ h)))
-
--- the same of what the walk has found
-pub well_wired_by : (t : Program) (g : Table) (w r : Side) → g ≡ table t → declaration_faults [] 0 t.declarations.items ≡ [] → seats_faults g [] [] 0 t.instances.items ≡ [] →
-    w ≡ taken Out (handed_all g 0 t.instances.items) → r ≡ taken In (handed_all g 0 t.instances.items) → verdict (sides_in w r (declared_channels t.declarations.items)) (tt {0}) ≡ Ok (tt {0}) → IsWellWired t
-well_wired_by t g w r is none seats hw hr h =
-    let wt = hw ∙ ap (λ z. taken Out (handed_all z 0 t.instances.items)) is in
-    let rt = hr ∙ ap (λ z. taken In (handed_all z 0 t.instances.items)) is in
-    whole t none (subst (λ z. seats_faults z [] [] 0 t.instances.items ≡ []) is seats)
-    (sym (λ j. verdict (sides_in (wt j) (rt j) (declared_channels t.declarations.items)) (tt {0})) ∙ h)
-
 pub handed_same : (t : Program) (d : Direction) → taken d (handed_all (table t) 0 t.instances.items) ≡ taken d (handed_from t 0 t.instances.items)
 handed_same t d = ap (taken d) (link_handed t 0 t.instances.items)
 
-pub sides_step : (w r : Side) (kind : Kind) (role : Role) (names : Vec Name Heap) (rest : List Declaration) → verdict (sides_in w r (map (λ n. (n, (kind, role))) names.items)) (tt {0}) ≡ Ok (tt {0}) →
-    verdict (sides_in w r (declared_channels (D.Channels kind role names ∷ rest))) (tt {0}) ≡ verdict (sides_in w r (declared_channels rest)) (tt {0})
-sides_step w r kind role names rest h =
-    ap (λ z. verdict z (tt {0})) (sides_more w r (map (λ n. (n, (kind, role))) names.items) (declared_channels rest) ∙ ap (λ z. z ++ sides_in w r (declared_channels rest)) (no_fault _ h))
+pub met_sides : (t : Program) (g : Table) (w r : Ends) (f : CheckFault) → g ≡ table t → declaration_faults [] 0 t.declarations.items ≡ [] → seats_faults g [] [] 0 t.instances.items ≡ [] →
+    w ≡ taken Out (handed_all g 0 t.instances.items) → r ≡ taken In (handed_all g 0 t.instances.items) → IsMet (sides_in w r (declared_channels t.declarations.items)) f → IsMet (faults t) f
+met_sides t g w r f is none seats hw hr h =
+    let wt = hw ∙ ap (λ z. taken Out (handed_all z 0 t.instances.items)) is ∙ handed_same t Out in
+    let rt = hr ∙ ap (λ z. taken In (handed_all z 0 t.instances.items)) is ∙ handed_same t In in
+    let same = (λ j. sides_in (wt j) (rt j) (declared_channels t.declarations.items)) ∙ link_sides t (declared_channels t.declarations.items) in
+    met_after (declaration_faults [] 0 t.declarations.items) _ f none
+    (met_after (instance_faults t [] 0 t.instances.items) _ f (sym (link_instances t [] 0 t.instances.items) ∙ subst (λ z. seats_faults z [] [] 0 t.instances.items ≡ []) is seats) (subst (λ z. IsMet z f) same h))
 
-pub sides_err : (w r : Side) (kind : Kind) (role : Role) (names : Vec Name Heap) (rest : List Declaration) (f : CheckFault) → verdict (sides_in w r (map (λ n. (n, (kind, role))) names.items)) (tt {0}) ≡ Err f →
-    verdict (sides_in w r (declared_channels (D.Channels kind role names ∷ rest))) (tt {0}) ≡ Err f
-sides_err w r kind role names rest f h =
-    ap (λ z. verdict z (tt {0})) (sides_more w r (map (λ n. (n, (kind, role))) names.items) (declared_channels rest))
-    ∙ verdict_err (sides_in w r (map (λ n. (n, (kind, role))) names.items)) (sides_in w r (declared_channels rest)) (tt {0}) (tt {0}) f h
+pub whole : (t : Program) (g : Table) (w r : Ends) → g ≡ table t → declaration_faults [] 0 t.declarations.items ≡ [] → seats_faults g [] [] 0 t.instances.items ≡ [] →
+    w ≡ taken Out (handed_all g 0 t.instances.items) → r ≡ taken In (handed_all g 0 t.instances.items) → sides_in w r (declared_channels t.declarations.items) ≡ [] → IsWellWired t
+whole t g w r is none seats hw hr h =
+    let wt = hw ∙ ap (λ z. taken Out (handed_all z 0 t.instances.items)) is ∙ handed_same t Out in
+    let rt = hr ∙ ap (λ z. taken In (handed_all z 0 t.instances.items)) is ∙ handed_same t In in
+    let same = (λ j. sides_in (wt j) (rt j) (declared_channels t.declarations.items)) ∙ link_sides t (declared_channels t.declarations.items) in
+    well_wired t (both (declaration_faults [] 0 t.declarations.items) _ none
+    (both (instance_faults t [] 0 t.instances.items) _ (sym (link_instances t [] 0 t.instances.items) ∙ subst (λ z. seats_faults z [] [] 0 t.instances.items ≡ []) is seats) (sym same ∙ h)))

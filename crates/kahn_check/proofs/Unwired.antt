@@ -25,7 +25,8 @@ use Rattle.kahn_syntax.specs.declared.tree.Program.{Program}
 use Rattle.kahn_syntax.specs.View.{bytes_of}
 use Rattle.kahn_check.specs.declared.fault.CheckFault.{CheckFault}
 use Rattle.kahn_check.specs.declared.fault.CheckFault.TheVariants.{TooMany, WrongCount}
-use Rattle.kahn_check.specs.Wiring.{locals_of, scope_of, entries, Global, IsChannel, IsProcess, declared_of, declared_channels, processes_of, global, End, Handover, handed, handed_in, handed_by, handed_from, parameters_of, same_direction, ends, writers, readers, IsOne, IsWired, Fits, AllFit, IsMade, IsSound, IsWellWired}
+use Rattle.kahn_check.specs.Wiring.{locals_of, scope_of, entries, Global, IsChannel, IsProcess, declared_of, declared_channels, processes_of, global, Handover, handed, handed_in, handed_by, handed_from, parameters_of, same_direction, ends, writers, readers, IsOne, IsWired, Fits, AllFit, IsMade, IsSound, IsWellWired, side_at}
+use Rattle.kahn_check.specs.declared.sides.Side.{Side}
 use Rattle.kahn_check.specs.Order.{too_many, repeated, twice, process_faults, channel_faults, declaration_faults, is_closed, second, overtaken, misplaced, argument_faults, arguments_faults, miscounted, made_faults, instance_faults, missing, side_faults, sides_faults, faults}
 use Rattle.kahn_check.specs.Faults.{wrong}
 use Rattle.kahn_check.proofs.Typed.{nil_left, nil_right, both, disagrees_body, kind_right}
@@ -102,7 +103,7 @@ in_names P c kind j role r (x ∷ xs) rest h all = by (bytes_eq c (bytes_of x)) 
         inl (x, bytes_true c (bytes_of x) e, subst (λ z. P (x, (z, role))) same (subst (λ z. P (x, (j, z))) alike all.0))
     by false e i go = go i
 
-all_left : {X : Type 0} (P : X → Type 0) (xs ys : List X) → AllByRecursion P (xs ++ ys) → AllByRecursion P xs
+pub all_left : {X : Type 0} (P : X → Type 0) (xs ys : List X) → AllByRecursion P (xs ++ ys) → AllByRecursion P xs
 all_left P [] ys h = tt
 all_left P (x ∷ xs) ys h = (h.0, all_left P xs ys h.1)
 
@@ -129,13 +130,13 @@ a_channel P c kind role (D.Process p ∷ rest) h all = by (bytes_eq c (bytes_of 
 
 -- ---- hand-overs
 
-abbrev IsServed : Direction → Role → List End → Type 0
+abbrev pub IsServed : Direction → Role → List Side → Type 0
 IsServed d role es = AtMostOne es × (is_closed d role ≡ true → es ≡ [])
 
-single : (es : List End) → IsOne es → AtMostOne es
+single : (es : List Side) → IsOne es → AtMostOne es
 single es h = subst AtMostOne (sym h.1) tt
 
-served : (t : Program) (n : Name) (kind : Kind) (role : Role) (d : Direction) → IsWired t (n, (kind, role)) → IsServed d role (ends d (bytes_of n) (handed_from t 0 t.instances.items))
+pub served : (t : Program) (n : Name) (kind : Kind) (role : Role) (d : Direction) → IsWired t (n, (kind, role)) → IsServed d role (ends d (bytes_of n) (handed_from t 0 t.instances.items))
 served t n kind Inner Out h = (single (writers t (bytes_of n)) h.0, λ i. cc)
 served t n kind Inner In h = (single (readers t (bytes_of n)) h.1, λ i. cc)
 served t n kind Input Out h = (subst AtMostOne (sym h.0) tt, λ i. h.0)
@@ -148,12 +149,12 @@ IsServedIn t = (d : Direction) (c : List ℕ) (kind : Kind) (role : Role) → lo
     IsServed d role (ends d c (handed_from t 0 t.instances.items))
 
 -- nothing comes before one of at most one
-first_of : (xs ys : List End) (e : End) → AtMostOne (xs ++ e ∷ ys) → xs ≡ []
+first_of : (xs ys : List Side) (e : Side) → AtMostOne (xs ++ e ∷ ys) → xs ≡ []
 first_of [] ys e h = refl
 first_of (x ∷ []) ys e h = absurd h
 first_of (x ∷ (y ∷ xs)) ys e h = absurd h
 
-not_nil : (xs ys : List End) (e : End) → xs ++ e ∷ ys ≡ [] → ⊥
+not_nil : (xs ys : List Side) (e : Side) → xs ++ e ∷ ys ≡ [] → ⊥
 not_nil [] ys e h = cc
 not_nil (x ∷ xs) ys e h = cc
 
@@ -161,17 +162,17 @@ same_self : (d : Direction) → same_direction d d ≡ true
 same_self In = refl
 same_self Out = refl
 
-hit : (d : Direction) (k : Kind) (e : End) (n : Name) (hs : List Handover) → ends d (bytes_of n) (handed e (T.Channel d k) (A.Channel n) ++ hs) ≡ e ∷ ends d (bytes_of n) hs
+hit : (d : Direction) (k : Kind) (e : Side) (n : Name) (hs : List Handover) → ends d (bytes_of n) (handed e (T.Channel d k) (A.Channel n) ++ hs) ≡ e ∷ ends d (bytes_of n) hs
 hit d k e n hs =
     ap (λ b. cond (b && bytes_eq (bytes_of n) (bytes_of n)) (e ∷ ends d (bytes_of n) hs) (ends d (bytes_of n) hs)) (same_self d)
     ∙ ap (λ b. cond b (e ∷ ends d (bytes_of n) hs) (ends d (bytes_of n) hs)) (bytes_self (bytes_of n))
 
-unplaced : (d : Direction) (k : Kind) (o : Option Global) (role : Role) (taken : List End) (at : Span) → o ≡ Some (IsChannel k role) → is_closed d role ≡ false → taken ≡ [] → misplaced d k o taken at ≡ []
+unplaced : (d : Direction) (k : Kind) (o : Option Global) (role : Role) (taken : List Side) (at : Span) → o ≡ Some (IsChannel k role) → is_closed d role ≡ false → taken ≡ [] → misplaced d k o taken at ≡ []
 unplaced d k o role taken at h i j =
     ap (λ z. misplaced d k z taken at) h
     ∙ both (wrong k k at) _ (kind_right k k at refl) (ap (λ b. overtaken d b taken at) i ∙ ap (λ z. overtaken d false z at) j)
 
-unargument : (t : Program) (before after : List Handover) (e : End) (w : Taking) (x : Argument) → IsServedIn t → Fits t w x →
+unargument : (t : Program) (before after : List Handover) (e : Side) (w : Taking) (x : Argument) → IsServedIn t → Fits t w x →
     before ++ (handed e w x ++ after) ≡ handed_from t 0 t.instances.items → argument_faults t before w x ≡ []
 unargument t before after e (T.Channel d k) (A.Channel n) serve h all =
     let role = h.0 in
@@ -198,11 +199,11 @@ unarguments t before after i q [] [] serve h all = (refl, refl)
 unarguments t before after i q [] (x ∷ xs) serve h all = absurd h
 unarguments t before after i q (p ∷ ps) [] serve h all = absurd h
 unarguments t before after i q (p ∷ ps) (x ∷ xs) serve h all =
-    let one = handed (i, q) p.taking x in
+    let one = handed (side_at i q) p.taking x in
     let rest = handed_in i (suc q) ps xs in
     let here = ap (λ z. before ++ z) (sym (append_assoc one rest after)) ∙ all in
     let go = unarguments t (before ++ one) after i (suc q) ps xs serve h.1 (append_assoc before one (rest ++ after) ∙ here) in
-    (ap suc go.0, both (argument_faults t before p.taking x) _ (unargument t before (rest ++ after) (i, q) p.taking x serve h.0 here) go.1)
+    (ap suc go.0, both (argument_faults t before p.taking x) _ (unargument t before (rest ++ after) (side_at i q) p.taking x serve h.0 here) go.1)
 
 recounted : (n m : ℕ) (at : Span) → n ≡ m → miscounted n m at ≡ []
 recounted n m at h = by (nat_eq n m) refl
@@ -230,7 +231,7 @@ uninstances t before i (x ∷ xs) serve h le all =
 
 -- ---- channels
 
-present : (es : List End) (f : CheckFault) → IsOne es → missing es f ≡ []
+present : (es : List Side) (f : CheckFault) → IsOne es → missing es f ≡ []
 present es f h = ap (λ z. missing z f) h.1
 
 unside : (t : Program) (n : Name) (kind : Kind) (role : Role) → IsWired t (n, (kind, role)) → side_faults t n role ≡ []

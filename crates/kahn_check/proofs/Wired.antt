@@ -25,7 +25,8 @@ use Rattle.kahn_syntax.specs.declared.tree.Program.{Program}
 use Rattle.kahn_syntax.specs.View.{bytes_of}
 use Rattle.kahn_check.specs.declared.fault.CheckFault.{CheckFault}
 use Rattle.kahn_check.specs.Faults.{body_faults, wrong}
-use Rattle.kahn_check.specs.Wiring.{locals_of, scope_of, entries, Global, IsChannel, IsProcess, declared_of, declared_channels, processes_of, global, End, Handover, handed, handed_in, handed_by, handed_from, parameters_of, same_direction, ends, writers, readers, IsOne, IsWired, Fits, AllFit, IsMade, IsSound, IsWellWired}
+use Rattle.kahn_check.specs.Wiring.{locals_of, scope_of, entries, Global, IsChannel, IsProcess, declared_of, declared_channels, processes_of, global, Handover, handed, handed_in, handed_by, handed_from, parameters_of, same_direction, ends, writers, readers, IsOne, IsWired, Fits, AllFit, IsMade, IsSound, IsWellWired, side_at}
+use Rattle.kahn_check.specs.declared.sides.Side.{Side}
 use Rattle.kahn_check.specs.Order.{too_many, repeated, twice, process_faults, channel_faults, declaration_faults, is_closed, second, overtaken, misplaced, argument_faults, arguments_faults, miscounted, made_faults, instance_faults, missing, side_faults, sides_faults, faults}
 use Rattle.kahn_check.proofs.Typed.{nil_left, nil_right, both, agrees_body, kind_known}
 
@@ -96,7 +97,7 @@ sound p h =
 
 -- ---- hand-overs
 
-abbrev pub AtMostOne : List End → Type 0
+abbrev pub AtMostOne : List Side → Type 0
 AtMostOne [] = Unit {0}
 AtMostOne (e ∷ []) = Unit {0}
 AtMostOne (e ∷ f ∷ es) = ⊥
@@ -120,13 +121,13 @@ ends_append d c (x ∷ xs) ys = by (same_direction d x.direction && bytes_eq c x
     by true h = ap (λ r. x.end ∷ r) h
     by false h = h
 
-pub placed : (d : Direction) (k : Kind) (o : Option Global) (taken : List End) (at : Span) → misplaced d k o taken at ≡ [] →
+pub placed : (d : Direction) (k : Kind) (o : Option Global) (taken : List Side) (at : Span) → misplaced d k o taken at ≡ [] →
     (role : Role) × (o ≡ Some (IsChannel k role)) × (is_closed d role ≡ false) × (taken ≡ [])
 placed d k None taken at h = cc
 placed d k (Some (IsProcess p)) taken at h = cc
 placed d k (Some (IsChannel kind role)) taken at h = by (is_closed d role) refl taken (nil_right (wrong k kind at) _ h) (kind_known k kind at (nil_left (wrong k kind at) _ h))
   where
-    by : (b : Bool) → is_closed d role ≡ b → (xs : List End) → overtaken d b xs at ≡ [] → kind ≡ k →
+    by : (b : Bool) → is_closed d role ≡ b → (xs : List Side) → overtaken d b xs at ≡ [] → kind ≡ k →
         (r : Role) × (Some (IsChannel kind role) ≡ Some (IsChannel k r)) × (is_closed d r ≡ false) × (xs ≡ [])
     by true e xs i same = cc
     by false e [] i same = (role, ap (λ z. Some (IsChannel z role)) same, e, refl)
@@ -144,7 +145,7 @@ and_true true false h = cc
 and_true false b h = cc
 
 -- one more argument
-pub fair_argument : (t : Program) (before : List Handover) (e : End) (w : Taking) (x : Argument) → argument_faults t before w x ≡ [] → (d : Direction) (c : List ℕ) →
+pub fair_argument : (t : Program) (before : List Handover) (e : Side) (w : Taking) (x : Argument) → argument_faults t before w x ≡ [] → (d : Direction) (c : List ℕ) →
     IsFair (entries (declared_of t.declarations.items)) d c before → IsFair (entries (declared_of t.declarations.items)) d c (before ++ handed e w x)
 fair_argument t before e (T.Channel o k) (A.Channel n) h d c fair =
     let g = entries (declared_of t.declarations.items) in
@@ -180,9 +181,9 @@ pub fair_arguments : (t : Program) (before : List Handover) (i q : ℕ) (ps : Li
 fair_arguments t before i q [] xs h d c fair = rw (append-nil before) fair
 fair_arguments t before i q (p ∷ ps) [] h d c fair = rw (append-nil before) fair
 fair_arguments t before i q (p ∷ ps) (x ∷ xs) h d c fair =
-    let one = handed (i, q) p.taking x in
+    let one = handed (side_at i q) p.taking x in
     let here = argument_faults t before p.taking x in
-    let f = fair_argument t before (i, q) p.taking x (nil_left here _ h) d c fair in
+    let f = fair_argument t before (side_at i q) p.taking x (nil_left here _ h) d c fair in
     let go = fair_arguments t (before ++ one) i (suc q) ps xs (nil_right here _ h) d c f in
     subst (IsFair (entries (declared_of t.declarations.items)) d c) (append_assoc before one (handed_in i (suc q) ps xs)) go
 
@@ -200,7 +201,7 @@ all_fit t before i q [] (x ∷ xs) e h = absurd (omega arith)
 all_fit t before i q (p ∷ ps) [] e h = absurd (omega arith)
 all_fit t before i q (p ∷ ps) (x ∷ xs) e h =
     let here = argument_faults t before p.taking x in
-    (fits t before p.taking x (nil_left here _ h), all_fit t (before ++ handed (i, q) p.taking x) i (suc q) ps xs (omega arith) (nil_right here _ h))
+    (fits t before p.taking x (nil_left here _ h), all_fit t (before ++ handed (side_at i q) p.taking x) i (suc q) ps xs (omega arith) (nil_right here _ h))
 
 counted : (n m : ℕ) (at : Span) → miscounted n m at ≡ [] → n ≡ m
 counted n m at h = by (nat_eq n m) refl h
@@ -248,7 +249,7 @@ all_made t before i (x ∷ xs) h le =
 
 -- ---- channels
 
-someone : (es : List End) (f : CheckFault) → missing es f ≡ [] → AtMostOne es → IsOne es
+someone : (es : List Side) (f : CheckFault) → missing es f ≡ [] → AtMostOne es → IsOne es
 someone [] f h a = cc
 someone (e ∷ []) f h a = (e, refl)
 someone (e ∷ g ∷ es) f h a = absurd a

@@ -5,3 +5,5 @@ pub mod Wiring
 pub mod Order
 pub mod Globals
 pub mod Tables
+pub mod Sides
+pub mod Wires

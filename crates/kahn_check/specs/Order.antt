@@ -22,7 +22,8 @@ use Rattle.kahn_syntax.specs.declared.tree.Instance.{Instance}
 use Rattle.kahn_syntax.specs.declared.tree.Program.{Program}
 use Rattle.kahn_syntax.specs.View.{bytes_of}
 use Rattle.kahn_check.specs.Faults.{wrong, body_faults}
-use Rattle.kahn_check.specs.Wiring.{locals_of, scope_of, entries, Global, IsChannel, IsProcess, declared_of, declared_channels, global, End, Handover, handed, handed_by, handed_from, ends, writers, readers}
+use Rattle.kahn_check.specs.Wiring.{locals_of, scope_of, entries, Global, IsChannel, IsProcess, declared_of, declared_channels, global, Handover, handed, handed_by, handed_from, ends, writers, readers, side_at}
+use Rattle.kahn_check.specs.declared.sides.Side.{Side}
 use Rattle.kahn_check.specs.declared.fault.CheckFault.{CheckFault}
 use Rattle.kahn_check.specs.declared.fault.CheckFault.TheVariants.{DeclaredTwice, Unknown, WrongCount, ChannelExpected, ValueExpected, NoWriter, TwoWriters, NoReader, TwoReaders, TooMany}
 
@@ -73,12 +74,12 @@ second Out at = TwoWriters at
 second In at = TwoReaders at
 
 -- a channel that is handed over where `taken` have it in that direction already
-abbrev pub overtaken : Direction → Bool → List End → Span → List CheckFault
+abbrev pub overtaken : Direction → Bool → List Side → Span → List CheckFault
 overtaken d true taken at = second d at ∷ []
 overtaken d false [] at = []
 overtaken d false (e ∷ taken) at = second d at ∷ []
 
-abbrev pub misplaced : Direction → Kind → Option Global → List End → Span → List CheckFault
+abbrev pub misplaced : Direction → Kind → Option Global → List Side → Span → List CheckFault
 misplaced d k None taken at = Unknown at ∷ []
 misplaced d k (Some (IsProcess p)) taken at = ChannelExpected at ∷ []
 misplaced d k (Some (IsChannel kind role)) taken at = wrong k kind at ++ overtaken d (is_closed d role) taken at
@@ -96,7 +97,7 @@ abbrev pub arguments_faults : Program → List Handover → ℕ → ℕ → List
 arguments_faults t before i q [] xs = []
 arguments_faults t before i q (p ∷ ps) [] = []
 arguments_faults t before i q (p ∷ ps) (x ∷ xs) =
-    argument_faults t before p.taking x ++ arguments_faults t (before ++ handed (i, q) p.taking x) i (suc q) ps xs
+    argument_faults t before p.taking x ++ arguments_faults t (before ++ handed (side_at i q) p.taking x) i (suc q) ps xs
 
 abbrev pub miscounted : ℕ → ℕ → Span → List CheckFault
 miscounted wanted found at = if nat_eq wanted found then [] else WrongCount at ∷ []
@@ -115,7 +116,7 @@ instance_faults t before i (x ∷ xs) =
 
 -- ---- channels
 
-abbrev pub missing : List End → CheckFault → List CheckFault
+abbrev pub missing : List Side → CheckFault → List CheckFault
 missing [] f = f ∷ []
 missing (e ∷ es) f = []
 

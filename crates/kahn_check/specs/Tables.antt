@@ -18,31 +18,32 @@ use Rattle.kahn_syntax.specs.declared.tree.Argument.TheVariants as A
 use Rattle.kahn_syntax.specs.View.{bytes_of}
 use Rattle.kahn_check.specs.Faults.{wrong}
 use Rattle.kahn_syntax.specs.declared.tree.Instance.{Instance}
-use Rattle.kahn_check.specs.Wiring.{Global, IsChannel, IsProcess, End, Handover, handed, handed_in, parameters_of, same_direction}
+use Rattle.kahn_check.specs.Wiring.{Global, IsChannel, IsProcess, Handover, handed, handed_in, parameters_of, same_direction, side_at}
+use Rattle.kahn_check.specs.declared.sides.Side.{Side}
 use Rattle.kahn_check.specs.Order.{misplaced, too_many, miscounted, missing}
 use Rattle.kahn_check.specs.declared.fault.CheckFault.{CheckFault}
 use Rattle.kahn_check.specs.declared.fault.CheckFault.TheVariants.{Unknown, ChannelExpected, ValueExpected, NoWriter, NoReader}
 
 -- by a channel's name, the end that has this side of it
-abbrev pub Side : Type 0
-Side = List (List ℕ × End)
+abbrev pub Ends : Type 0
+Ends = List (List ℕ × Side)
 
-abbrev pub held : Option End → List End
+abbrev pub held : Option Side → List Side
 held None = []
 held (Some e) = e ∷ []
 
-abbrev pub taken : Direction → List Handover → Side
+abbrev pub taken : Direction → List Handover → Ends
 taken d [] = []
 taken d (h ∷ hs) = if same_direction d h.direction then (h.channel, h.end) ∷ taken d hs else taken d hs
 
-abbrev pub misplaced_in : List (List ℕ × Global) → Side → Direction → Kind → Name → List CheckFault
+abbrev pub misplaced_in : List (List ℕ × Global) → Ends → Direction → Kind → Name → List CheckFault
 misplaced_in g s d k n = misplaced d k (lookup (bytes_eq (bytes_of n)) g) (held (lookup (bytes_eq (bytes_of n)) s)) n.span
 
-abbrev pub side_of : Direction → Side → Side → Side
+abbrev pub side_of : Direction → Ends → Ends → Ends
 side_of Out w r = w
 side_of In w r = r
 
-abbrev pub place_faults : List (List ℕ × Global) → Side → Side → Taking → Argument → List CheckFault
+abbrev pub place_faults : List (List ℕ × Global) → Ends → Ends → Taking → Argument → List CheckFault
 place_faults g w r (T.Channel d k) (A.Channel n) = misplaced_in g (side_of d w r) d k n
 place_faults g w r (T.Channel d k) (A.Number z at) = ChannelExpected at ∷ []
 place_faults g w r (T.Channel d k) (A.Logical b at) = ChannelExpected at ∷ []
@@ -50,13 +51,13 @@ place_faults g w r (T.Value k) (A.Channel n) = ValueExpected n.span ∷ []
 place_faults g w r (T.Value k) (A.Number z at) = wrong k K.Integer at
 place_faults g w r (T.Value k) (A.Logical b at) = wrong k K.Logical at
 
-abbrev pub places_faults : List (List ℕ × Global) → Side → Side → ℕ → ℕ → List Parameter → List Argument → List CheckFault
+abbrev pub places_faults : List (List ℕ × Global) → Ends → Ends → ℕ → ℕ → List Parameter → List Argument → List CheckFault
 places_faults g w r i q [] xs = []
 places_faults g w r i q (p ∷ ps) [] = []
 places_faults g w r i q (p ∷ ps) (x ∷ xs) =
-    place_faults g w r p.taking x ++ places_faults g (w ++ taken Out (handed (i, q) p.taking x)) (r ++ taken In (handed (i, q) p.taking x)) i (suc q) ps xs
+    place_faults g w r p.taking x ++ places_faults g (w ++ taken Out (handed (side_at i q) p.taking x)) (r ++ taken In (handed (side_at i q) p.taking x)) i (suc q) ps xs
 
-abbrev pub made_in : List (List ℕ × Global) → Side → Side → ℕ → Option Global → Instance → List CheckFault
+abbrev pub made_in : List (List ℕ × Global) → Ends → Ends → ℕ → Option Global → Instance → List CheckFault
 made_in g w r i None x = Unknown x.process.span ∷ []
 made_in g w r i (Some (IsChannel kind role)) x = Unknown x.process.span ∷ []
 made_in g w r i (Some (IsProcess p)) x =
@@ -72,16 +73,16 @@ abbrev pub handed_all : List (List ℕ × Global) → ℕ → List Instance → 
 handed_all g i [] = []
 handed_all g i (x ∷ xs) = handed_to g i x ++ handed_all g (suc i) xs
 
-abbrev pub seats_faults : List (List ℕ × Global) → Side → Side → ℕ → List Instance → List CheckFault
+abbrev pub seats_faults : List (List ℕ × Global) → Ends → Ends → ℕ → List Instance → List CheckFault
 seats_faults g w r i [] = []
 seats_faults g w r i (x ∷ xs) =
     too_many 256 i x.process.span ++ (made_in g w r i (meant g x) x ++ seats_faults g (w ++ taken Out (handed_to g i x)) (r ++ taken In (handed_to g i x)) (suc i) xs)
 
-abbrev pub side_in : Side → Side → Name → Role → List CheckFault
+abbrev pub side_in : Ends → Ends → Name → Role → List CheckFault
 side_in w r n Inner = missing (held (lookup (bytes_eq (bytes_of n)) w)) (NoWriter n.span) ++ missing (held (lookup (bytes_eq (bytes_of n)) r)) (NoReader n.span)
 side_in w r n Input = missing (held (lookup (bytes_eq (bytes_of n)) r)) (NoReader n.span)
 side_in w r n Output = missing (held (lookup (bytes_eq (bytes_of n)) w)) (NoWriter n.span)
 
-abbrev pub sides_in : Side → Side → List (Name × (Kind × Role)) → List CheckFault
+abbrev pub sides_in : Ends → Ends → List (Name × (Kind × Role)) → List CheckFault
 sides_in w r [] = []
 sides_in w r (c ∷ cs) = side_in w r c.0 c.1.1 ++ sides_in w r cs

@@ -23,6 +23,7 @@ use Rattle.kahn_syntax.specs.declared.tree.Program.{Program}
 use Rattle.kahn_syntax.specs.View.{bytes_of, body_of}
 use Rattle.kahn_check.specs.Kinds.{Agrees}
 use Rattle.kahn_check.specs.Faults.{Scope}
+use Rattle.kahn_check.specs.declared.sides.Side.{Side}
 
 -- ---- what is declared
 
@@ -64,16 +65,16 @@ global t n = lookup (bytes_eq (bytes_of n)) (entries (declared_of t.declarations
 -- ---- who writes and who reads
 
 -- where a channel is handed over: the instance and the parameter
-abbrev pub End : Type 0
-End = ℕ × ℕ
+abbrev pub side_at : ℕ → ℕ → Side
+side_at i q = record { instance = i; parameter = q }
 
 -- a channel's name as it is handed over: to be written or to be read, and where
 pub record Handover : Type 0 where
   pub direction : Direction
   pub channel : List ℕ
-  pub end : End
+  pub end : Side
 
-abbrev pub handed : End → Taking → Argument → List Handover
+abbrev pub handed : Side → Taking → Argument → List Handover
 handed e (T.Channel d k) (A.Channel n) = record { direction = d; channel = bytes_of n; end = e } ∷ []
 handed e (T.Channel d k) (A.Number z at) = []
 handed e (T.Channel d k) (A.Logical b at) = []
@@ -83,7 +84,7 @@ handed e (T.Value k) x = []
 abbrev pub handed_in : ℕ → ℕ → List Parameter → List Argument → List Handover
 handed_in i q [] xs = []
 handed_in i q (p ∷ ps) [] = []
-handed_in i q (p ∷ ps) (x ∷ xs) = handed (i, q) p.taking x ++ handed_in i (suc q) ps xs
+handed_in i q (p ∷ ps) (x ∷ xs) = handed (side_at i q) p.taking x ++ handed_in i (suc q) ps xs
 
 abbrev pub parameters_of : Option Global → List Parameter
 parameters_of None = []
@@ -104,21 +105,21 @@ same_direction Out In = false
 same_direction Out Out = true
 
 -- the ends of the channel of that name in that direction, in order
-abbrev pub ends : Direction → List ℕ → List Handover → List End
+abbrev pub ends : Direction → List ℕ → List Handover → List Side
 ends d c [] = []
 ends d c (h ∷ hs) = if same_direction d h.direction && bytes_eq c h.channel then h.end ∷ ends d c hs else ends d c hs
 
 -- everyone who writes the channel of that name, and everyone who reads it
-abbrev pub writers : Program → List ℕ → List End
+abbrev pub writers : Program → List ℕ → List Side
 writers t c = ends Out c (handed_from t 0 t.instances.items)
 
-abbrev pub readers : Program → List ℕ → List End
+abbrev pub readers : Program → List ℕ → List Side
 readers t c = ends In c (handed_from t 0 t.instances.items)
 
 -- ---- well wired
 
-abbrev pub IsOne : List End → Type 0
-IsOne ends = (e : End) × (ends ≡ e ∷ [])
+abbrev pub IsOne : List Side → Type 0
+IsOne ends = (e : Side) × (ends ≡ e ∷ [])
 
 abbrev pub IsWired : Program → Name × (Kind × Role) → Type 0
 IsWired t (n, (kind, Inner)) = IsOne (writers t (bytes_of n)) × IsOne (readers t (bytes_of n))

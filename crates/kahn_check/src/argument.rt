@@ -11,7 +11,7 @@ ghost use Rattle.kahn_check.specs.Tables.{misplaced_in, place_faults, taken};
 use crate::expression::agree;
 use crate::fault::CheckFault;
 use crate::globals::{Entry, Globals};
-use crate::sides::Sides;
+use crate::sides::{Side, Sides};
 use kahn_syntax::tree::{Argument, Direction, Kind, Name, Role, Taking};
 
 /// Whether no instance may stand at that side of the channel.
@@ -42,7 +42,7 @@ pub fn hand_over(
     direction: Direction,
     kind: Kind,
     name: &Name,
-    end: (usize, usize),
+    end: Side,
 ) -> Result<(), CheckFault>
     ensures { MatchResult result (λ u. (side.new ≡ side.old ++ (bytes_of name.now, end) ∷ []) × (misplaced_in (known globals.now) side.old direction kind name.now ≡ [])) (λ f. IsMet (misplaced_in (known globals.now) side.old direction kind name.now) f) }
 {
@@ -69,7 +69,7 @@ pub fn place(
     readers: &mut Sides,
     taking: Taking,
     argument: &Argument,
-    end: (usize, usize),
+    end: Side,
 ) -> Result<(), CheckFault>
     ensures { MatchResult result (λ u. (writers.new ≡ writers.old ++ taken Direction.Out (handed end taking argument.now)) × (readers.new ≡ readers.old ++ taken Direction.In (handed end taking argument.now)) × (place_faults (known globals.now) writers.old readers.old taking argument.now ≡ [])) (λ f. IsMet (place_faults (known globals.now) writers.old readers.old taking argument.now) f) }
 {

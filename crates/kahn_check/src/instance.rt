@@ -9,7 +9,7 @@ ghost use Rattle.kahn_check.specs.Tables.{places_faults, taken, handed_all, seat
 use crate::argument::place;
 use crate::fault::CheckFault;
 use crate::globals::{Entry, Globals};
-use crate::sides::Sides;
+use crate::sides::{Side, Sides};
 use kahn_syntax::tree::{Argument, Direction, Instance, Parameter};
 use std::alloc::Global;
 
@@ -33,7 +33,10 @@ pub fn places(
             readers,
             parameters[number].taking,
             argument,
-            (instance, number),
+            Side {
+                instance,
+                parameter: number,
+            },
         )?;
     }
     Ok(())

@@ -4,14 +4,15 @@
 
 pub mod argument;
 pub mod declarations;
-pub mod ends;
 pub mod expression;
 pub mod fault;
 pub mod globals;
 pub mod instance;
 pub mod laws;
 pub mod network;
+pub mod numbers;
 pub mod process;
 pub mod scope;
 pub mod sides;
 pub mod statement;
+pub mod wires;

@@ -1,11 +1,17 @@
-use Rattle.std.proofs.Common.{rules, arith, ◌≡◌, ◌∙◌, sym, ap, subst, [], Err, Ok}
-use Rattle.kahn_syntax.specs.declared.tree.Direction.TheVariants.{In, Out}
-use Rattle.kahn_check.specs.Faults.{verdict, IsMet}
+use Rattle.std.proofs.Common.{rules, ◌≡◌, ◌∙◌, subst, [], map, IsSome}
+use Rattle.std.specs.List.{AllByRecursion}
+use Rattle.kahn_syntax.specs.View.{bytes_of}
+use Rattle.kahn_check.specs.Network.{process_of}
+use Rattle.kahn_check.specs.Faults.{IsMet}
 use Rattle.kahn_check.specs.Globals.{known}
 use Rattle.kahn_check.specs.Order.{declaration_faults}
 use Rattle.kahn_check.specs.Tables.{seats_faults, sides_in, taken, handed_all}
+use Rattle.kahn_syntax.specs.declared.tree.Direction.TheVariants.{In, Out}
 use Rattle.kahn_check.specs.Wiring.{declared_channels, entries, declared_of}
-use Rattle.kahn_check.proofs.Linked.{well_wired_by, met_instances, met_sides}
+use Rattle.kahn_check.proofs.Linked.{table, whole, met_instances, met_sides}
+use Rattle.kahn_check.proofs.Kept.{all_declared}
+use Rattle.kahn_check.proofs.Lines.{lines_by}
+use Rattle.kahn_check.specs.Wires.{shown, lines_in}
 use Rattle.kahn_check.proofs.network.check.Goals as goal
 
 pub returns-in_err-writers : goal.returns-in_err-writers
@@ -18,26 +24,41 @@ returns-in_err-writers c =
     let here = met_instances t f none (subst (λ z. IsMet (seats_faults z [] [] 0 t.instances.items) f) k m) in
     search (rules, here)
 
-pub returns-in_err-all_sides : goal.returns-in_err-all_sides
-returns-in_err-all_sides c =
+pub returns-in_err-wires : goal.returns-in_err-wires
+returns-in_err-wires c =
     let t = c.args.program in
-    let f = c.in_err-all_sides.field-0.0 in
-    let g = known c.in_ok-globals.globals in
-    let k : g ≡ entries (declared_of t.declarations.items) = search rules in
-    let none : declaration_faults [] 0 t.declarations.items ≡ [] = search rules in
-    let seats : seats_faults g [] [] 0 t.instances.items ≡ [] = search rules in
-    let w : c.in_ok-writers.writers ≡ taken Out (handed_all g 0 t.instances.items) = search rules in
-    let r : c.in_ok-writers.readers ≡ taken In (handed_all g 0 t.instances.items) = search rules in
-    let m : verdict (sides_in c.in_ok-writers.writers c.in_ok-writers.readers (declared_channels t.declarations.items)) (tt {0}) ≡ Err f = search rules in
-    let here = met_sides t f none (subst (λ z. seats_faults z [] [] 0 t.instances.items ≡ []) k seats)
-    (sym (λ j. verdict (sides_in ((w ∙ ap (λ z. taken Out (handed_all z 0 t.instances.items)) k) j) ((r ∙ ap (λ z. taken In (handed_all z 0 t.instances.items)) k) j) (declared_channels t.declarations.items)) (tt {0})) ∙ m) in
+    let f = c.in_err-wires.field-0.0 in
+    let m : IsMet (sides_in c.in_ok-writers.writers c.in_ok-writers.readers (declared_channels t.declarations.items)) f = search rules in
+    let here = met_sides t (known c.in_ok-globals.globals) c.in_ok-writers.writers c.in_ok-writers.readers f (search rules) (search rules) (search rules) (search rules) (search rules) m in
     search (rules, here)
+
+pub processes-requires : goal.processes-requires
+processes-requires c =
+    let t = c.args.program in
+    let wired = whole t (known c.in_ok-globals.globals) c.in_ok-writers.writers c.in_ok-writers.readers (search rules) (search rules) (search rules) (search rules) (search rules) (search rules) in
+    let ds : t.declarations.items ≡ c.deref-3.result.now = search rules in
+    let xs : t.instances.items ≡ c.deref-4.result.now = search rules in
+    subst (λ z. AllByRecursion (λ i. IsSome (process_of z (bytes_of i.process))) c.deref-4.result.now) ds
+    (subst (λ z. AllByRecursion (λ i. IsSome (process_of t.declarations.items (bytes_of i.process))) z) xs (all_declared t t.instances.items wired.instances))
 
 pub invariant_of-result : goal.invariant_of-result
 invariant_of-result c =
-    well_wired_by c.args.program (known c.in_ok-globals.globals) c.in_ok-writers.writers c.in_ok-writers.readers (search rules) (search rules) (search rules) (search rules) (search rules) (search rules)
+    let t = c.args.program in
+    let g = known c.in_ok-globals.globals in
+    let wired = whole t g c.in_ok-writers.writers c.in_ok-writers.readers (search rules) (search rules) (search rules) (search rules) (search rules) (search rules) in
+    let same = lines_by t g c.in_ok-writers.writers c.in_ok-writers.readers (search rules) (search rules) (search rules) in
+    let kept : map shown c.in_ok-wires.wires.items ≡ lines_in c.in_ok-writers.writers c.in_ok-writers.readers (declared_channels t.declarations.items) = search rules in
+    record { wired = wired; lines = kept ∙ same; numbers = search rules }
 
 pub returns : goal.returns
 returns c =
-    let here = well_wired_by c.args.program (known c.in_ok-globals.globals) c.in_ok-writers.writers c.in_ok-writers.readers (search rules) (search rules) (search rules) (search rules) (search rules) (search rules) in
+    let t = c.args.program in
+    let g = known c.in_ok-globals.globals in
+    let is : g ≡ table t = c.in_ok-globals.ensures.0 in
+    let none : declaration_faults [] 0 t.declarations.items ≡ [] = c.in_ok-globals.ensures.1 in
+    let seats : seats_faults g [] [] 0 t.instances.items ≡ [] = search rules in
+    let w : c.in_ok-writers.writers ≡ taken Out (handed_all g 0 t.instances.items) = search rules in
+    let r : c.in_ok-writers.readers ≡ taken In (handed_all g 0 t.instances.items) = search rules in
+    let ends : sides_in c.in_ok-writers.writers c.in_ok-writers.readers (declared_channels t.declarations.items) ≡ [] = search rules in
+    let here = whole t g c.in_ok-writers.writers c.in_ok-writers.readers is none seats w r ends in
     search (rules, here)
