@@ -15,6 +15,17 @@ pub struct Wiring {
     pub readers: Vec<Option<usize>, Global>,
 }
 
+// The instance that reads the channel.
+fn reader_of(network: &Network, channel: usize) -> Option<usize>
+    requires { channel < (wires network.now).channels }
+    ensures { result ≡ (wires network.now).reader channel }
+{
+    match network.reader(channel) {
+        Some(side) => Some(side.instance),
+        None => None,
+    }
+}
+
 impl Wiring {
     /// That of a network.
     pub fn of(alloc: Global, network: &Network) -> Result<Wiring, NoMemory>
@@ -22,9 +33,17 @@ impl Wiring {
         ensures limits { IfOk result (λ w. (w.instances ≤ 256) × (w.channels ≤ 1024)) }
         ensures readers { IfOk result (λ w. (length w.readers.items ≡ w.channels) × ((c : ℕ) → c < w.channels → slice_index_or w.readers.items c None ≡ (wires network.now).reader c)) }
     {
+        let _program = network.program();
         let instances = network.instances();
-        let _ = alloc;
-        let _ = instances;
-        Err(NoMemory)
+        let channels = network.channels();
+        let mut readers = Vec::with_capacity(alloc, channels)?;
+        for channel in 0..channels {
+            readers.push_reserved(reader_of(network, channel));
+        }
+        Ok(Wiring {
+            instances,
+            channels,
+            readers,
+        })
     }
 }
