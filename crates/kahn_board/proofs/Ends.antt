@@ -43,8 +43,8 @@ module _ {T : Type 0} (told : T → Option Tale) (w : Wires) (d : Deal) where
     pub all_left : v.stage ≡ 1 → AllLeft s
     all_left one = (
       (λ j u e. dite (ℕ_discrete j id)
-      (λ is. let same : v ≡ u = some-injective v u (sym me ∙ (sym (ap (λ (k : ℕ). get_elem? s.views k) is) ∙ e)) in omega (arith, one, ap (λ (k : View). k.stage) same))
-      (λ ne. omega (arith, ap (λ (k : View). k.stage) (others_spent j u ne e)))),
+          (λ is. let same : v ≡ u = some-injective v u (sym me ∙ (sym (ap (λ (k : ℕ). get_elem? s.views k) is) ∙ e)) in omega (arith, one, ap (λ (k : View). k.stage) same))
+          (λ ne. omega (arith, ap (λ (k : View). k.stage) (others_spent j u ne e)))),
       (id, v, me, one),
     )
 
@@ -52,8 +52,17 @@ module _ {T : Type 0} (told : T → Option Tale) (w : Wires) (d : Deal) where
     at_rest p y ready cells back not_halted inside home is z = absurd (omega arith)
     at_rest p y (held j) cells back not_halted inside home is z = absurd (omega arith)
     at_rest p y (parked c) cells back not_halted inside home is z = let t = a.ruled.parking.reads p c inside is in
-        inr (c, published w s.words c, t.0, t.1, a.ruled.parking.waits p c y inside is home, ((λ none_writes. a.reckoned.lasting.fixed c t.0 none_writes),
-        (λ q l m u near writes there sends flushes. let at_home = back q u near there in a.reckoned.lasting.flushed_all q u near at_home not_halted c l m sends flushes ∙ (a.ruled.parking.flushes q c m u near at_home flushes).2)))
+        inr (
+          c,
+          published w s.words c,
+          t.0,
+          t.1,
+          a.ruled.parking.waits p c y inside is home,
+          (
+            (λ none_writes. a.reckoned.lasting.fixed c t.0 none_writes),
+            (λ q l m u near writes there sends flushes. let at_home = back q u near there in a.reckoned.lasting.flushed_all q u near at_home not_halted c l m sends flushes ∙ (a.ruled.parking.flushes q c m u near at_home flushes).2),
+          ),
+        )
     at_rest p y over cells back not_halted inside home is z = inl (a.ruled.parking.ends p y inside is home)
 
     pub by_done : (cells : List (Option T)) → ((q : ℕ) (z : T) → q < w.instances → get_elem? cells q ≡ some (Some z) → IsHome s q z) → v.stage ≡ 1

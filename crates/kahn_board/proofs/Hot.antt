@@ -193,22 +193,27 @@ module _ {T : Type 0} (told : T → Option Tale) (w : Wires) (d : Deal) where
   stops n id m i new fit at one s a wide me _ = let long = a.ruled.wide in let ws = set s.words i new in
       let now : halted w ws ≢ 0 = (λ z. absurd (omega (arith, z, one, ap (λ (j : ℕ). get_or ws j 0) (sym at), get_or-set_same s.words i new 0 (omega arith)))) in
       let counts_same : count w ws ≡ count w s.words = get_or-set_other s.words i (8 * (w.instances + w.channels) + 8) new 0 (λ e. omega arith) in
-      let budgets_same : budget w ws ≡ budget w s.words = get_or-set_other s.words i (8 * (w.instances + w.channels)) new 0 (λ e. omega arith) in
-      (saw m.0 2 2 new, keeps, tt, at_hot s a i new id m (saw m.0 2 2 new) me fit (omega arith) refl refl refl record {
-        hands_same = refl;
-        got_same = refl;
-        drawing = omega (arith, budgets_same);
-        tallying = refl;
-        counting = omega (arith, counts_same);
-        pairs = a.reckoned.counted.pairs id m.0 me;
-        few = a.reckoned.counted.few id m.0 me;
-        still_quiet = λ e. counts_same ∙ e;
-        still_halted = λ _. now;
-        saw_quiet = λ e. absurd (omega (arith, e));
-        saw_halted = λ _. now;
-        fixed = λ c h none. ap (λ (j : ℕ). j / 2) (get_or-set_other s.words i (8 * (w.instances + c)) new 0 (λ e. omega arith));
-        leaves = λ h. absurd (omega arith);
-      }, refl)
+      let budgets_same : budget w ws ≡ budget w s.words = get_or-set_other s.words i (8 * (w.instances + w.channels)) new 0 (λ e. omega arith) in (
+        saw m.0 2 2 new,
+        keeps,
+        tt,
+        at_hot s a i new id m (saw m.0 2 2 new) me fit (omega arith) refl refl refl record {
+          hands_same = refl;
+          got_same = refl;
+          drawing = omega (arith, budgets_same);
+          tallying = refl;
+          counting = omega (arith, counts_same);
+          pairs = a.reckoned.counted.pairs id m.0 me;
+          few = a.reckoned.counted.few id m.0 me;
+          still_quiet = λ e. counts_same ∙ e;
+          still_halted = λ _. now;
+          saw_quiet = λ e. absurd (omega (arith, e));
+          saw_halted = λ _. now;
+          fixed = λ c h none. ap (λ (j : ℕ). j / 2) (get_or-set_other s.words i (8 * (w.instances + c)) new 0 (λ e. omega arith));
+          leaves = λ h. absurd (omega arith);
+        },
+        refl,
+      )
 
   -- after steps that leave what a seat keeps of its own view
   pub still_fit : (m m' : Sat T) (v : View) → m' ≡ (v, m.1) → v.parts ≡ m.0.parts → v.hands ≡ m.0.hands → v.flushed ≡ m.0.flushed → v.got ≡ m.0.got → Fit told w m → Fit told w m'

@@ -20,8 +20,14 @@ with_name kind role n = (n, (kind, role))
 
 as_many : (ds : List Declaration) → length (channels_of ds) ≡ length (declared_channels ds)
 as_many [] = refl
-as_many (D.Channels kind role names ∷ rest) = omega (arith, as_many rest, length-append (map (with_bytes kind role) names.items) (channels_of rest), length-append (map (with_name kind role) names.items) (declared_channels rest),
-    length-map names.items (with_bytes kind role), length-map names.items (with_name kind role))
+as_many (D.Channels kind role names ∷ rest) = omega (
+  arith,
+  as_many rest,
+  length-append (map (with_bytes kind role) names.items) (channels_of rest),
+  length-append (map (with_name kind role) names.items) (declared_channels rest),
+  length-map names.items (with_bytes kind role),
+  length-map names.items (with_name kind role),
+)
 as_many (D.Process p ∷ rest) = as_many rest
 
 mapped : {A B : Type 0} (f : A → B) (xs : List A) (n : ℕ) → length xs ≤ n → length (map f xs) ≤ n

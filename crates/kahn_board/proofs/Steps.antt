@@ -174,7 +174,6 @@ module _ {T : Type 0} (told : T → Option Tale) (w : Wires) where
         parts = parts_is;
       }
 
-
 module _ {T : Type 0} (told : T → Option Tale) (w : Wires) (d : Deal) where
   abbrev pub Goes : (St T) → ℕ → ℕ → Sat T → (ℕ → Sat T → Type 0) → ℕ → Type 0
   Goes s i id m then k = (v : View) × (a : Act (Option T)) × Valid s.homes m.1 a × Whole told w d (stepped s i k id m.1 v a) × then (get_or s.words i 0) (v, carried_after m.1 a)
@@ -268,12 +267,12 @@ module _ {T : Type 0} (told : T → Option Tale) (w : Wires) (d : Deal) where
         record {
           place = moved place p x;
           ruled = gives_up told w s place r (8 * p) new id v more p y x (gave v p (told y) (new / 2) new) refl refl refl me fit inside is_in free
-            (λ q h. at_moved (λ k z. k < w.instances → get_or ws (8 * k) 0 ≡ word_code z) place p x q (λ _. get_or-set_same s.words (8 * p) new 0 (omega arith) ∙ codes) (λ ne l. get_or-set_other s.words (8 * p) (8 * q) new 0 (λ e. ne (omega arith)) ∙ r.one_pair.word_is q l) h)
-            (λ c near. ap (λ (k : ℕ). k % 2) (get_or-set_other s.words (8 * p) (8 * (w.instances + c)) new 0 (λ e. omega arith)) ∙ (r.parking.marks c near ∙ sym (mark_same place p x (w.reader c) c (unparked c ∙ sym (ap (parked_on c) is)))))
-            (λ c near. ap half (get_or-set_other s.words (8 * p) (8 * (w.instances + c)) new 0 (λ e. omega arith)))
-            stands
-            (λ c e. absurd (omega (arith, unparked c, ap (parked_on c) e, parked_yes c)))
-            ends leaves.0;
+              (λ q h. at_moved (λ k z. k < w.instances → get_or ws (8 * k) 0 ≡ word_code z) place p x q (λ _. get_or-set_same s.words (8 * p) new 0 (omega arith) ∙ codes) (λ ne l. get_or-set_other s.words (8 * p) (8 * q) new 0 (λ e. ne (omega arith)) ∙ r.one_pair.word_is q l) h)
+              (λ c near. ap (λ (k : ℕ). k % 2) (get_or-set_other s.words (8 * p) (8 * (w.instances + c)) new 0 (λ e. omega arith)) ∙ (r.parking.marks c near ∙ sym (mark_same place p x (w.reader c) c (unparked c ∙ sym (ap (parked_on c) is)))))
+              (λ c near. ap half (get_or-set_other s.words (8 * p) (8 * (w.instances + c)) new 0 (λ e. omega arith)))
+              stands
+              (λ c e. absurd (omega (arith, unparked c, ap (parked_on c) e, parked_yes c)))
+              ends leaves.0;
           reckoned = gives_second told w d s place r a.reckoned (8 * p) new id v p y x (new / 2) new me inside fit.hands_long (omega arith) fit.alive is is_in ups leaves.3 few leaves.1 leaves.2
               (λ c near. ap half (get_or-set_other s.words (8 * p) (8 * (w.instances + c)) new 0 (λ e. omega arith)));
         },
@@ -299,17 +298,17 @@ module _ {T : Type 0} (told : T → Option Tale) (w : Wires) (d : Deal) where
         record {
           place = moved place p (parked c);
           ruled = gives_up told w s place r i new id v more p y (parked c) (gave v p (told y) 1 x) refl refl refl me fit inside is_in (λ j. refl)
-            (λ q h. at_moved (λ k z. k < w.instances → get_or ws (8 * k) 0 ≡ word_code z) place p (parked c) q
-            (λ l. else_where (8 * p) (λ e. omega arith) ∙ (r.one_pair.word_is p l ∙ ap word_code is)) (λ ne l. else_where (8 * q) (λ e. omega arith) ∙ r.one_pair.word_is q l) h)
-            (λ d near_d. dite (ℕ_discrete d c)
-            (λ e. subst (λ (k : ℕ). get_or ws (8 * (w.instances + k)) 0 % 2 ≡ mark_of (moved place p (parked c)) (w.reader k) k) (sym e)
-            (let odd : get_or ws (8 * (w.instances + c)) 0 % 2 ≡ 1 = omega (arith, now) in odd ∙ sym (ap (λ (o : Option ℕ). mark_of (moved place p (parked c)) o c) reads ∙ (ap (parked_on c) (moved_here place p (parked c)) ∙ parked_yes c))))
-            (λ ne. ap (λ (k : ℕ). k % 2) (else_where (8 * (w.instances + d)) (λ e. ne (omega arith))) ∙ (r.parking.marks d near_d ∙ sym (mark_same place p (parked c) (w.reader d) d (parked_no d c (λ e. ne (sym e)) ∙ sym (ap (parked_on d) is))))))
-            same
-            (y, refl)
-            (λ d e. subst (λ (k : ℕ). (k < w.channels) × (w.reader k ≡ Some p) × TellsWait (told y) k (published w ws k)) (parked_apart c d e) (near, reads, subst (TellsWait (told y) c) (sym num) waits))
-            (λ e. absurd (omega (arith, ap word_code e)))
-            leaves.0;
+              (λ q h. at_moved (λ k z. k < w.instances → get_or ws (8 * k) 0 ≡ word_code z) place p (parked c) q
+              (λ l. else_where (8 * p) (λ e. omega arith) ∙ (r.one_pair.word_is p l ∙ ap word_code is)) (λ ne l. else_where (8 * q) (λ e. omega arith) ∙ r.one_pair.word_is q l) h)
+              (λ d near_d. dite (ℕ_discrete d c)
+              (λ e. subst (λ (k : ℕ). get_or ws (8 * (w.instances + k)) 0 % 2 ≡ mark_of (moved place p (parked c)) (w.reader k) k) (sym e)
+              (let odd : get_or ws (8 * (w.instances + c)) 0 % 2 ≡ 1 = omega (arith, now) in odd ∙ sym (ap (λ (o : Option ℕ). mark_of (moved place p (parked c)) o c) reads ∙ (ap (parked_on c) (moved_here place p (parked c)) ∙ parked_yes c))))
+              (λ ne. ap (λ (k : ℕ). k % 2) (else_where (8 * (w.instances + d)) (λ e. ne (omega arith))) ∙ (r.parking.marks d near_d ∙ sym (mark_same place p (parked c) (w.reader d) d (parked_no d c (λ e. ne (sym e)) ∙ sym (ap (parked_on d) is))))))
+              same
+              (y, refl)
+              (λ d e. subst (λ (k : ℕ). (k < w.channels) × (w.reader k ≡ Some p) × TellsWait (told y) k (published w ws k)) (parked_apart c d e) (near, reads, subst (TellsWait (told y) c) (sym num) waits))
+              (λ e. absurd (omega (arith, ap word_code e)))
+              leaves.0;
           reckoned = gives_second told w d s place r a.reckoned i new id v p y (parked c) 1 x me inside fit.hands_long (omega arith) fit.alive is is_in refl leaves.3 few leaves.1 leaves.2 same;
         },
         ((λ _. (y, refl, refl)), λ miss. absurd (miss hit)),

@@ -6,11 +6,12 @@ ghost use Rattle.std.specs.Vec.{vec_capacity};
 ghost use Rattle.kahn_board.specs.Hands.{Facts};
 ghost use Rattle.kahn_board.specs.Dealt.{wired};
 
+use crate::plays::{
+    CountingDown, CountingUp, Drawing, GivingBack, Halting, Notes, SeesBudget, SeesCount,
+    SeesHalted,
+};
 use crate::rule::{Rule, Terms, Told};
 use crate::view::View;
-use crate::plays::{
-    CountingDown, CountingUp, Drawing, GivingBack, Halting, Notes, SeesBudget, SeesCount, SeesHalted,
-};
 use atomic_table::Table;
 use std::alloc::Global;
 use std::collections::VecDeque;
@@ -144,7 +145,10 @@ impl<T: Told> Seat<T> {
             Rest::Ready => 0,
             Rest::Over => 2,
         };
-        board.table.shared.store::<Brand>(&mut self.seat, 8 * p, new);
+        board
+            .table
+            .shared
+            .store::<Brand>(&mut self.seat, 8 * p, new);
         let _ = self.held.pop_front();
     }
 

@@ -2,7 +2,6 @@
 ghost use Rattle.std.specs.Prelude.{◌≡◌, ℕ, ◌+◌, ◌*◌, ◌^◌, ◌<◌, ◌≤◌, [], Option, Some, length, slice_index, replicate, IfOk, IfErr};
 ghost use mathlib.Core.Option.{some};
 ghost use lib.ListN.{get_elem?};
-
 ghost use Rattle.kahn_board.specs.Dealt.{dealt, wired};
 ghost use Rattle.kahn_board.specs.Closing.{Closes};
 ghost use Rattle.kahn_board.specs.Cuts.{HoldsNothing, IsFree, kept_part, cut_part, joined};
@@ -39,7 +38,11 @@ impl Join<View> for Both {
 
 impl<T: Told> Board<T> {
     /// A second seat, with one part of the first.
-    pub fn split(&self, alloc: Global, seat: Seat<T>) -> Result<(Seat<T>, Seat<T>), (NoMemory, Seat<T>)>
+    pub fn split(
+        &self,
+        alloc: Global,
+        seat: Seat<T>,
+    ) -> Result<(Seat<T>, Seat<T>), (NoMemory, Seat<T>)>
         requires { (seat.seat.table_id ≡ self.now.table.shared.table_id) × (1 < seat.seat.me.0.parts) × IsFree seat.seat.me.0 }
         ensures made { IfOk result (λ t. (t.0.seat.table_id ≡ seat.seat.table_id) × (t.0.seat.id ≡ seat.seat.id) × (t.0.seat.me ≡ (kept_part seat.seat.me.0, seat.seat.me.1)) × (t.1.seat.table_id ≡ seat.seat.table_id) × (t.1.seat.me ≡ (cut_part seat.seat.me.0, []))) }
         ensures refused { IfErr result (λ e. e.1 ≡ seat) }

@@ -1,4 +1,4 @@
-//! Where the cells of a network stand, while several threads work on them.
+//! Where the cells of a network stand while several workers run them: one pair of hands for each cell, a budget of events, and a reason to stop.
 #![tactic(auto)]
 
 mod board;
@@ -7,8 +7,6 @@ mod opening;
 mod passing;
 mod plays;
 mod rule;
-#[cfg(test)]
-mod tests;
 mod view;
 mod wiring;
 

@@ -58,10 +58,7 @@ fn into_slots<T>(
 }
 
 // The cells go back into their room.
-fn out_of_slots<T>(
-    mut slots: Vec<Option<T>, Global>,
-    mut cells: Vec<T, Global>,
-) -> Vec<T, Global>
+fn out_of_slots<T>(mut slots: Vec<Option<T>, Global>, mut cells: Vec<T, Global>) -> Vec<T, Global>
     requires full { (xs : List T) × (slots.items ≡ map Some xs) }
     requires room { (cells.items ≡ []) × (length slots.items ≤ vec_capacity cells) }
     ensures { slots.items ≡ map Some result.items }

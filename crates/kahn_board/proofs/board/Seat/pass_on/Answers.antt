@@ -23,9 +23,13 @@ set_down-requires-clause-few g c = let e = c.in-Some.ensures in let n = c.publis
 pub returns-clause-same : goal.returns-clause-same
 returns-clause-same g c = let e = c.in-Some.ensures in let n = c.publish-woken.new.self in let t = e.1.1.2 in let got = t.4 in let p = c.in-Some.reader in let me = c.args.self.now.seat.me in
     let k = woken_ready g.T.Told.told (wired c.args.board.now.table.shared.key) c.args.self.now.seat.me n.seat.me c.count_up.new.self.seat.me n.seat.table_id n.held.items _ c.in-Some.reader t.0 c.args.channel c.args.count e.1.0 c.count_up.ensures.1.0 t.1 n.facts c.requires.owes.0 t.4 c.count_up.ensures.1.1 in
-    let f = c.set_down.ensures in let gave = f.1 k.0.1.0 k.0.1.1 in
-    ((f.0.0 ∙ (c.count_up.ensures.0.0 ∙ e.0.0), f.0.1 ∙ (c.count_up.ensures.0.1 ∙ e.0.1)), ap (λ v. v.owed) gave.1 ∙ k.1, omega (arith, ap (λ v. v.down) gave.1, k.2), ap (λ v. v.drawn) gave.1 ∙ k.3,
-      ap (λ v. v.parts) gave.1 ∙ (ap (λ m. m.0.parts) c.count_up.ensures.1.1 ∙ ap (λ m. m.0.parts) got.3))
+    let f = c.set_down.ensures in let gave = f.1 k.0.1.0 k.0.1.1 in (
+      (f.0.0 ∙ (c.count_up.ensures.0.0 ∙ e.0.0), f.0.1 ∙ (c.count_up.ensures.0.1 ∙ e.0.1)),
+      ap (λ v. v.owed) gave.1 ∙ k.1,
+      omega (arith, ap (λ v. v.down) gave.1, k.2),
+      ap (λ v. v.drawn) gave.1 ∙ k.3,
+      ap (λ v. v.parts) gave.1 ∙ (ap (λ m. m.0.parts) c.count_up.ensures.1.1 ∙ ap (λ m. m.0.parts) got.3),
+    )
 
 pub returns-clause-hands : goal.returns-clause-hands
 returns-clause-hands g c = let e = c.in-Some.ensures in let n = c.publish-woken.new.self in let t = e.1.1.2 in let got = t.4 in let p = c.in-Some.reader in let me = c.args.self.now.seat.me in
