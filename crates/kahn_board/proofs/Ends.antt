@@ -1,18 +1,18 @@
 -- What the rule says once all seats are one.
-use Rattle.std.proofs.Common.{◌≡◌, ◌≢◌, ℕ, zero, suc, ◌+◌, ◌*◌, ◌<◌, ◌≤◌, ◌⊎◌, inl, inr, ⊎_elim, List, [], ◌∷◌, length, get_or, sym, refl, ap, ◌∙◌, subst, arith, Bool, true, Option, Some, None}
+use Rattle.std.proofs.Common.{◌≡◌, ◌≢◌, ℕ, zero, suc, ◌+◌, ◌*◌, ◌<◌, ◌⊎◌, inl, inr, ⊎_elim, List, [], ◌∷◌, length, get_or, sym, refl, ap, ◌∙◌, subst, arith, Bool, true, Option, Some}
 use mathlib.Core.Logic.{dite}
 use native.Mathlib.Decide.{ℕ_discrete}
 use mathlib.Core.Option.{some, some-injective, some-ne-none}
 use lib.ListN.{get_elem?}
-use Rattle.kahn_board.specs.Tale.{Tale, TellsWait, sent_of, flushed_of}
+use Rattle.kahn_board.specs.Tale.{Tale}
 use Rattle.kahn_board.specs.Wires.{Wires}
 use Rattle.kahn_board.specs.Counts.{is_up, below}
 use Rattle.kahn_board.specs.Place.{Place, ready, held, parked, over, total}
-use Rattle.kahn_board.specs.Rule.{St, Deal, spent, all_parts, published, budget, count, halted, IsHome, Ruled, Whole, AllLeft, Stopped}
+use Rattle.kahn_board.specs.Rule.{St, Deal, spent, all_parts, published, budget, halted, IsHome, Whole, AllLeft}
 use Rattle.kahn_board.specs.Cuts.{IsFree}
 use Rattle.kahn_board.specs.Closing.{IsAtRest, Closes}
 use Rattle.kahn_board.specs.declared.view.View.{View}
-use Rattle.kahn_board.proofs.Sums.{terms_le, total-set}
+use Rattle.kahn_board.proofs.Sums.{terms_le}
 use Rattle.kahn_board.proofs.Turns.{quiet_here, all_none}
 use Rattle.kahn_board.proofs.Steps.{same_some}
 use Rattle.kahn_board.proofs.Reseats.{all_home}

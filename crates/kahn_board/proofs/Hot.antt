@@ -1,9 +1,8 @@
 -- The steps on the words budget, count and halted.
-use Rattle.std.proofs.Common.{◌≡◌, ℕ, zero, suc, ◌+◌, ◌-◌, ◌*◌, ◌/◌, ◌%◌, ◌^◌, ◌<◌, ◌≤◌, ◌≢◌, ◌⊎◌, inl, inr, eqb, List, [], ◌∷◌, drop, length, get_or, set, sym, refl, ap, ◌∙◌, subst, arith, Option, Some, None, length-set, get_or-set_same, get_or-set_other}
+use Rattle.std.proofs.Common.{◌≡◌, ℕ, zero, suc, ◌+◌, ◌-◌, ◌*◌, ◌/◌, ◌%◌, ◌^◌, ◌<◌, ◌≤◌, ◌≢◌, ◌⊎◌, inl, inr, eqb, List, length, get_or, set, sym, refl, ap, ◌∙◌, subst, arith, Option, length-set, get_or-set_same, get_or-set_other}
 use mathlib.Core.Logic.{dite}
 use native.Mathlib.Decide.{ℕ_discrete}
 use mathlib.Core.Option.{some, none}
-use mathlib.Core.Option as maybe
 use lib.ListN.{get_elem?}
 use lib.Seq.{set-get_or}
 use prog.Atomic.{either}
@@ -12,9 +11,9 @@ use Rattle.atomic_table.proofs.Lists.{exchanged}
 use Rattle.kahn_board.specs.Tale.{Tale}
 use Rattle.kahn_board.specs.Wires.{Wires}
 use Rattle.kahn_board.specs.Counts.{Owes, is_up, below}
-use Rattle.kahn_board.specs.Place.{Place, ready, held, parked, over, total}
-use Rattle.kahn_board.specs.Rule.{St, Deal, Whole, published, budget, count, halted, all_parts}
-use Rattle.kahn_board.specs.Plays.{Sat, IsIn, noted, saw, leaves_as, burden, with_draw, undrawn, paid_up, paid_down, looked, drew, gave_back, counted_up, counted_down, halts, sees_halted, sees_count, sees_budget}
+use Rattle.kahn_board.specs.Place.{Place, ready, held, parked, over}
+use Rattle.kahn_board.specs.Rule.{St, Deal, Whole, budget, count, halted}
+use Rattle.kahn_board.specs.Plays.{Sat, noted, saw, leaves_as, with_draw, undrawn, paid_up, paid_down, looked, drew, gave_back, counted_up, counted_down, halts, sees_halted, sees_count, sees_budget}
 use Rattle.kahn_board.specs.declared.view.View.{View}
 use Rattle.kahn_board.proofs.Sums.{term_le}
 use Rattle.kahn_board.proofs.Counting.{below-le}

@@ -1,5 +1,5 @@
 -- A checked network is within its limits.
-use Rattle.std.proofs.Common.{◌≡◌, ℕ, ◌+◌, ◌≤◌, List, [], ◌∷◌, ◌++◌, map, length, length-append, ap, sym, refl, ◌∙◌, arith}
+use Rattle.std.proofs.Common.{◌≡◌, ℕ, ◌≤◌, List, [], ◌∷◌, map, length, length-append, refl, arith}
 use Rattle.std.proofs.lemmas.List.{length-map}
 use Rattle.kahn_syntax.specs.View.{bytes_of}
 use Rattle.kahn_syntax.specs.declared.tree.Name.{Name}

@@ -1,5 +1,5 @@
 -- The rule holds of a new board.
-use Rattle.std.proofs.Common.{◌≡◌, ℕ, zero, suc, ◌+◌, ◌*◌, ◌/◌, ◌%◌, ◌^◌, ◌<◌, ◌≤◌, subst, List, [], ◌∷◌, map, drop, length, replicate, get_or, sym, refl, ap, ◌∙◌, arith, Option, Some, None}
+use Rattle.std.proofs.Common.{◌≡◌, ℕ, zero, suc, ◌+◌, ◌*◌, ◌%◌, ◌^◌, ◌<◌, ◌≤◌, subst, List, [], ◌∷◌, map, drop, length, replicate, get_or, sym, refl, ap, ◌∙◌, arith, Option, Some, None}
 use mathlib.Core.Option.{some, some-injective, some-ne-none}
 use lib.ListN.{get_elem?}
 use Rattle.std.proofs.lemmas.List.{length-map}
@@ -7,7 +7,7 @@ use Rattle.atomic_table.specs.Table.{opening}
 use Rattle.atomic_table.proofs.Lists.{at_map}
 use Rattle.kahn_board.specs.Tale.{Tale, TellsEvents, events_past}
 use Rattle.kahn_board.specs.Wires.{Wires}
-use Rattle.kahn_board.specs.Place.{ready, mark_of, total}
+use Rattle.kahn_board.specs.Place.{ready, mark_of}
 use Rattle.kahn_board.specs.Rule.{St, opening_view, published, Ruled, Whole}
 use Rattle.kahn_board.specs.Dealt.{events_of}
 use Rattle.kahn_board.specs.Counts.{Owes, below}

@@ -1,5 +1,5 @@
 -- What a seat's own facts give to its steps, and how each step keeps them.
-use Rattle.std.proofs.Common.{◌≡◌, ℕ, zero, suc, replicate, ◌+◌, ◌*◌, ◌<◌, ◌≤◌, List, [], ◌∷◌, ◌++◌, ◌≢◌, inl, inr, map, drop, length, get_or, set, length-set, arith, sym, refl, ap, ◌∙◌, subst, Option, Some}
+use Rattle.std.proofs.Common.{◌≡◌, ℕ, zero, suc, replicate, ◌+◌, ◌*◌, ◌<◌, ◌≤◌, List, [], ◌∷◌, ◌++◌, ◌≢◌, inl, inr, map, drop, length, get_or, length-set, arith, sym, refl, ap, ◌∙◌, subst, Option, Some}
 use Rattle.atomic_table.specs.Seated.{TableId}
 use Rattle.atomic_table.specs.Table.{rest, turned as shifted}
 use Rattle.kahn_board.specs.Tale.{Tale}
@@ -8,7 +8,7 @@ use Rattle.kahn_board.specs.Hands.{Lists, Facts, Carries}
 use Rattle.kahn_board.specs.Place.{total, only}
 use Rattle.kahn_board.proofs.Moved.{only_yes}
 use Rattle.kahn_board.specs.Plays.{Sat, noted, took, gave, waking, Got, GaveUp}
-use Rattle.kahn_board.specs.Rule.{view, blank}
+use Rattle.kahn_board.specs.Rule.{blank}
 use Rattle.kahn_board.specs.Cuts.{HoldsNothing}
 use Rattle.std.proofs.lemmas.List.{length-replicate}
 use Rattle.kahn_board.proofs.Steps.{Fit}

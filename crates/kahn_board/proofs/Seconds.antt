@@ -1,24 +1,24 @@
 -- What is reckoned, over the steps that move no instance, that take one, and that give one up.
-use Rattle.std.proofs.Common.{◌≡◌, ℕ, zero, suc, ◌+◌, ◌-◌, ◌*◌, ◌^◌, ◌<◌, ◌≤◌, ◌≢◌, ◌⊎◌, inl, inr, ⊎_elim, List, [], ◌∷◌, length, get_or, set, sym, refl, ap, ◌∙◌, subst, arith, Option, Some, None, length-set, get_or-set_same, get_or-set_other}
+use Rattle.std.proofs.Common.{◌≡◌, ℕ, zero, suc, ◌+◌, ◌*◌, ◌^◌, ◌<◌, ◌≤◌, ◌≢◌, ◌⊎◌, ⊎_elim, List, length, get_or, set, sym, refl, ap, ◌∙◌, subst, arith, Option, Some, None, length-set, get_or-set_same, get_or-set_other}
 use mathlib.Core.Logic.{dite}
-use native.Mathlib.Decide.{ℕ_discrete, dec_le}
+use native.Mathlib.Decide.{ℕ_discrete}
 use mathlib.Core.Option.{some, none, some-injective, some-ne-none}
 use mathlib.Core.Option as maybe
 use lib.ListN.{get_elem?}
-use Rattle.atomic_table.proofs.Lists.{at_set, set_here, set_else}
+use Rattle.atomic_table.proofs.Lists.{set_here, set_else}
 use Rattle.kahn_board.specs.Tale.{Tale, TellsEvents, FlushedAll, Accounts, events_past}
 use Rattle.kahn_board.specs.Wires.{Wires}
 use Rattle.kahn_board.specs.Counts.{Owed, Owes, is_up, below}
 use Rattle.kahn_board.specs.Calls.{Unowed}
-use Rattle.kahn_board.specs.Place.{Place, held, held_by, moved, total}
+use Rattle.kahn_board.specs.Place.{Place, held, held_by, moved}
 use Rattle.kahn_board.specs.Plays.{Sat, IsIn, SeesMore, gave}
 use Rattle.kahn_board.specs.Rule.{St, Deal, view, published, budget, count, halted, Ruled, IsHome, Reckoned}
 use Rattle.kahn_board.specs.declared.view.View.{View}
-use Rattle.kahn_board.proofs.Moved.{at_moved, is_held, held_no, held_yes}
+use Rattle.kahn_board.proofs.Moved.{held_no}
 use Rattle.kahn_board.proofs.Counting.{inside_of}
 use Rattle.kahn_board.proofs.Keeps.{state}
-use Rattle.kahn_board.proofs.Turns.{Turn, turned_kept}
-use Rattle.kahn_board.proofs.Changes.{ups_moved, putting, put_here, put_else, sum_put, owes_more, owes_less, tells_past, accounted}
+use Rattle.kahn_board.proofs.Turns.{turned_kept}
+use Rattle.kahn_board.proofs.Changes.{ups_moved, putting, put_here, put_else, sum_put, owes_less, tells_past, accounted}
 
 same_some : {T : Type 0} (y z : T) → Some y ≡ Some z → y ≡ z
 same_some y z e = ap (λ o. elim o [ None ↦ y | Some x ↦ x ]) e

@@ -1,17 +1,16 @@
 -- What a call owes at each step on a word.
-use Rattle.std.proofs.Common.{◌≡◌, ℕ, zero, suc, ◌+◌, ◌*◌, ◌/◌, ◌%◌, ◌^◌, ◌<◌, ◌≢◌, ◌⊎◌, inl, inr, ⊎_elim, List, [], ◌∷◌, ◌++◌, map, drop, take, length, get_or, set, sym, refl, ap, ◌∙◌, subst, arith, Option, Some, None, length-set, length-drop, get_or-set_same, get_or-set_other, get_or-drop, eqb}
+use Rattle.std.proofs.Common.{◌≡◌, ℕ, zero, suc, ◌+◌, ◌*◌, ◌/◌, ◌%◌, ◌^◌, ◌<◌, ◌≢◌, ◌⊎◌, inl, inr, ⊎_elim, List, [], ◌∷◌, ◌++◌, length, get_or, set, sym, refl, ap, ◌∙◌, subst, arith, Option, Some, None, length-set, get_or-set_same, get_or-set_other, eqb}
 use mathlib.Core.Logic.{dite}
 use native.Mathlib.Decide.{ℕ_discrete}
 use mathlib.Core.Option.{some, none, some-injective, some-ne-none}
 use mathlib.Core.Option as maybe
-use lib.ListN.{get_elem?, get_or-map}
-use Rattle.std.proofs.lemmas.List.{length-map, get_or-take, length-take-le}
+use lib.ListN.{get_elem?}
 use lib.Seq.{set-get_or}
-use Rattle.kahn_board.specs.Counts.{Owed, Owes, is_up}
-use Rattle.kahn_board.specs.Calls.{Leaves, Unowed}
+use Rattle.kahn_board.specs.Counts.{is_up}
+use Rattle.kahn_board.specs.Calls.{Leaves}
 use Rattle.kahn_board.specs.Plays.{SeesMore, took, gave, told_of, waking}
-use Rattle.kahn_board.specs.Rule.{Deal, Whole, Reckoned, halted, count, budget}
-use Rattle.kahn_board.proofs.Seconds.{SameHot, hot, Idle, idles, takes_second, gives_second, replaced}
+use Rattle.kahn_board.specs.Rule.{Deal, Whole, halted, count}
+use Rattle.kahn_board.proofs.Seconds.{hot, idles, takes_second, gives_second, replaced}
 use Rattle.kahn_board.proofs.Changes.{owes_more, owes_woken, one_longer}
 use prog.Atomic.{either}
 use Rattle.atomic_table.specs.Table.{step, Act, keeps, takes, gives, Valid, carried_after, stepped, Allows}

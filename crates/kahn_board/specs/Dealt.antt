@@ -1,5 +1,5 @@
 -- What a board was given.
-use Rattle.std.specs.Prelude.{ℕ, List, slice_index, Option}
+use Rattle.std.specs.Prelude.{ℕ, List, Option}
 use Rattle.kahn_board.specs.Tale.{Tale, events_past}
 use Rattle.kahn_board.specs.Place.{total}
 use Rattle.kahn_board.specs.Wires.{Wires, wires}

@@ -1,10 +1,9 @@
 -- What each step tells its seat: of the step, the seat before, the number found and the seat after.
-use Rattle.std.specs.Prelude.{◌≡◌, ◌≢◌, ◌⊎◌, ℕ, ◌+◌, ◌-◌, ◌*◌, ◌/◌, ◌%◌, ◌^◌, ◌<◌, ◌≤◌, ◌==◌, cond, List, [], ◌∷◌, ◌++◌, drop, length, slice_index, slice_set, Option, Some}
+use Rattle.std.specs.Prelude.{◌≡◌, ◌≢◌, ◌⊎◌, ℕ, ◌+◌, ◌-◌, ◌/◌, ◌%◌, ◌^◌, ◌<◌, ◌==◌, cond, List, [], ◌∷◌, ◌++◌, drop, length, slice_index, slice_set, Option, Some}
 use Rattle.atomic_table.specs.Table.{Me, Step, rest}
 use Rattle.kahn_board.specs.Tale.{Tale, TellsWait, TellsEvents, FlushedAll, flushed_of, events_past}
 use Rattle.kahn_board.specs.Wires.{Wires}
 use Rattle.kahn_board.specs.Rule.{view}
-use Rattle.kahn_board.specs.Counts.{Owed}
 use Rattle.kahn_board.specs.Place.{total}
 use Rattle.kahn_board.specs.declared.view.View.{View}
 

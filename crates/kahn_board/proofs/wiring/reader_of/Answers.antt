@@ -1,4 +1,4 @@
-use Rattle.std.proofs.Common.{◌≡◌, ◌<◌, ℕ, sym, ap, subst}
+use Rattle.std.proofs.Common.{◌<◌, ℕ, sym, ap, subst}
 use Rattle.kahn_check.specs.declared.sides.Side.{Side}
 use Rattle.kahn_board.proofs.Limits.{counts_are}
 use Rattle.kahn_board.proofs.Sole.{sole_reader, no_reader}

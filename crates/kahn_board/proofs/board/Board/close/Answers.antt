@@ -1,6 +1,5 @@
 use Rattle.std.proofs.Common.{arith, ◌+◌, ◌*◌, ne_eqb, ◌≡◌, length, ap, ◌∙◌}
 use Rattle.std.specs.Slots.{slots_filled, slots_items}
-use lib.ListN.{get_elem?}
 use mathlib.Core.Bool.{not}
 use Rattle.kahn_board.specs.Dealt.{wired}
 use Rattle.kahn_board.proofs.Closes.{one_more, all_read, still_filled, emptied}

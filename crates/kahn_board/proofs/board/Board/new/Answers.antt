@@ -1,10 +1,10 @@
-use Rattle.std.proofs.Common.{◌≡◌, ℕ, ◌+◌, ◌*◌, ◌/◌, ◌<◌, get_or, Option, Some, List, [], map, length, arith, sym, ap, ◌∙◌, subst, refl}
+use Rattle.std.proofs.Common.{◌≡◌, ℕ, ◌+◌, ◌*◌, get_or, Option, Some, List, length, arith, sym, ap, ◌∙◌, subst}
 use Rattle.std.proofs.lemmas.List.{length-map}
 use Rattle.atomic_table.specs.Table.{opening}
 use Rattle.kahn_syntax.specs.declared.tree.Program.{Program}
 use Rattle.kahn_board.specs.Wires.{wires}
 use Rattle.kahn_board.specs.Rule.{Whole, opening_view, published}
-use Rattle.kahn_board.specs.Dealt.{dealt, wired, events_of}
+use Rattle.kahn_board.specs.Dealt.{wired, events_of}
 use Rattle.kahn_board.proofs.Opens.{opens, start_by, map_some_once}
 use Rattle.kahn_board.proofs.board.Board.new.Goals as goal
 

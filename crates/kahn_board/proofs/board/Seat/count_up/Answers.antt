@@ -1,4 +1,4 @@
-use Rattle.std.proofs.Common.{rules, refl, arith}
+use Rattle.std.proofs.Common.{rules, arith}
 use Rattle.kahn_board.specs.Dealt.{dealt, wired}
 use Rattle.kahn_board.proofs.Hot.{counts_up}
 use Rattle.kahn_board.proofs.Seats.{fit}

@@ -1,4 +1,4 @@
-use Rattle.std.proofs.Common.{rules, refl, arith, ap, ◌∙◌}
+use Rattle.std.proofs.Common.{rules, refl, arith}
 use Rattle.kahn_board.specs.Dealt.{dealt, wired}
 use Rattle.kahn_board.specs.Plays.{noted}
 use Rattle.kahn_board.proofs.Hot.{looks_halted, looks_count, looks_budget, still_fit}
