@@ -1,0 +1,25 @@
+use Rattle.std.proofs.Common.{arith, ◌+◌, ◌*◌, ne_eqb, ◌≡◌, length, ap, ◌∙◌}
+use Rattle.std.specs.Slots.{slots_filled, slots_items}
+use mathlib.Core.Bool.{not}
+use Rattle.kahn_board.specs.Dealt.{wired}
+use Rattle.kahn_board.proofs.Closes.{one_more, all_read, still_filled, emptied}
+use Rattle.kahn_board.specs.Dealt.{dealt}
+use Rattle.kahn_board.proofs.Ends.{closes}
+use Rattle.kahn_board.proofs.board.Board.close.Goals as goal
+
+pub loop-i-preserved : goal.loop-i-preserved
+loop-i-preserved g c = let v = c.loop-i.invariant in let e = c.take.ensures in let i = c.loop-i.i in let old = slots_filled c.loop-i.closed.slots in let new = slots_filled c.take.new.self.slots in (
+  (λ k near past. still_filled old new i k e.others.1 (λ is. past (omega arith)) (v.0 k (omega (arith, e.others.2)) (λ h. past (omega arith)))),
+  (λ k below. emptied old new i k e.others.1 (λ ne. v.1 k (omega arith))),
+  e.others.2 ∙ v.2,
+  e.others.0 ∙ v.3,
+  one_more _ _ _ _ i _ v.3 v.4 e.value c.push_reserved.ensures.items,
+  c.push_reserved.ensures.capacity ∙ v.5,
+)
+
+pub returns : goal.returns
+returns g c = let b = c.args.self in let told = g.T.Told.told in let v = c.loop-i.invariant in let f = c.close_with-closed.ensures.values.2 in let k = b.table.shared.key in let w = wired k in let d = dealt told k in
+    let xs = slots_items c.close_with-closed.result.slots in let n = b.instances in
+    let long : length xs ≡ n = omega (arith, f.3, f.1.0.ruled.deep, b.counts.0) in
+    let is = all_read xs c.loop-i.room.items c.loop-i.i n long c.loop-i.auto.i-end c.loop-i-test.false v.4 in
+    closes told w d f.0 f.1.0 _ _ f.1.1 c.requires.1 c.requires.2 _ xs _ f.2 f.3 f.4 is (8 * (n + b.channels)) (8 * (n + b.channels) + 16) c.word-budget.result c.word-halted.result (omega (arith, b.counts.0, b.counts.1)) (omega (arith, b.counts.0, b.counts.1)) c.word-budget.ensures c.word-halted.ensures _ (λ ne. ap not (ne_eqb c.word-halted.result 0 ne))

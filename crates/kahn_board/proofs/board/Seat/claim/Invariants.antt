@@ -1,0 +1,7 @@
+use Rattle.std.proofs.Common.{◌/◌}
+use Rattle.kahn_board.specs.Plays.{claimed}
+use Rattle.kahn_board.specs.Dealt.{wired}
+use Rattle.kahn_board.proofs.board.Seat.claim.Given as goal
+
+abbrev pub ghosts-compare_exchange : goal.ghosts-compare_exchange
+ghosts-compare_exchange g a = record { then = claimed g.T.Told.told (wired a.self.now.key) (a.word / 8) }

@@ -1,0 +1,7 @@
+use Rattle.std.proofs.Common.{◌/◌}
+use Rattle.kahn_board.specs.Plays.{set_down}
+use Rattle.kahn_board.specs.Dealt.{wired}
+use Rattle.kahn_board.proofs.board.Seat.set_down.Given as goal
+
+abbrev pub ghosts-store : goal.ghosts-store
+ghosts-store g a = record { then = λ st m r n. set_down g.T.Told.told (wired a.self.now.key) (a.word / 8) st m r n }

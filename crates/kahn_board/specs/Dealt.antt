@@ -1,0 +1,21 @@
+-- What a board was given.
+use Rattle.std.specs.Prelude.{ℕ, List, Option}
+use Rattle.kahn_board.specs.Tale.{Tale, events_past}
+use Rattle.kahn_board.specs.Place.{total}
+use Rattle.kahn_board.specs.Wires.{Wires, wires}
+use Rattle.kahn_board.specs.Rule.{Deal, published}
+use Rattle.kahn_board.specs.declared.rule.Terms.{Terms}
+
+module _ {T : Type 0} where
+  -- the wires of the network that it was made for
+  abbrev pub wired : Terms T → Wires
+  wired key = wires key.network.value
+
+module _ {T : Type 0} (told : T → Option Tale) where
+  -- the events that the cells tell when the board is made
+  abbrev pub events_of : List T → ℕ
+  events_of cells = total (λ y. events_past (told y) 0) cells
+
+  -- the numbers published at the start are those of the first words
+  abbrev pub dealt : Terms T → Deal
+  dealt key = record { bound = key.bound; events = events_of key.cells.value.items; published = published (wired key) key.words.value.items }

@@ -1,0 +1,307 @@
+//! The board, and the seats that step on it.
+
+ghost use Rattle.std.specs.Prelude.{◌≡◌, ◌≢◌, ℕ, ◌+◌, ◌*◌, ◌^◌, ◌<◌, ◌≤◌, [], ◌∷◌, ◌++◌, map, drop, length, Option, slice_index, slice_index_or, None, Some};
+ghost use Rattle.std.specs.VecDeque.{deque_capacity};
+ghost use Rattle.std.specs.Vec.{vec_capacity};
+ghost use Rattle.kahn_board.specs.Hands.{Facts};
+ghost use Rattle.kahn_board.specs.Dealt.{wired};
+
+use crate::plays::{
+    CountingDown, CountingUp, Drawing, GivingBack, Halting, Notes, SeesBudget, SeesCount,
+    SeesHalted,
+};
+use crate::rule::{Rule, Terms, Told};
+use crate::view::View;
+use atomic_table::Table;
+use std::alloc::Global;
+use std::collections::VecDeque;
+use std::marker::Brand;
+
+/// Where the cells of a network stand.
+pub struct Board<T: Told> {
+    pub table: Table<Option<T>, View, Terms<T>, Rule<T>, Global>,
+    pub instances: usize,
+    pub channels: usize,
+    pub readers: Vec<Option<usize>, Global>,
+    // The room of the list that `close` hands out.
+    pub room: Vec<Option<T>, Global>,
+    ghost sized: { (table.shared.table_id.words ≡ 8 * (instances + channels) + 24) × (table.shared.table_id.slots ≡ instances) },
+    ghost counts: { ((wired table.shared.key).instances ≡ instances) × ((wired table.shared.key).channels ≡ channels) },
+    ghost limits: { (instances ≤ 256) × (channels ≤ 1024) },
+    ghost roomy: { (room.items ≡ []) × (instances ≤ vec_capacity room) },
+    ghost read: { (length readers.items ≡ channels) × ((c : ℕ) → c < channels → slice_index_or readers.items c None ≡ (wired table.shared.key).reader c) },
+}
+
+impl<T: Told> Board<T> {
+    // Who reads the channel, where somebody does.
+    fn reader(&self, channel: usize) -> usize
+        requires { (channel < self.now.channels) × ((p : ℕ) × ((wired self.now.table.shared.key).reader channel ≡ Some p)) }
+        ensures { (wired self.now.table.shared.key).reader channel ≡ Some result }
+    {
+        let Some(reader) = self.readers[channel] else {
+            unreachable!()
+        };
+        reader
+    }
+}
+
+/// The token of one worker.
+#[derive(Drop)]
+pub struct Seat<T> {
+    pub seat: atomic_table::Seat<Option<T>, View>,
+    // The instances in its hands, the one whose slot it took last first.
+    pub held: VecDeque<usize, Global>,
+    ghost facts: { Facts seat.me seat.table_id held.items (deque_capacity held) },
+}
+
+impl<T: Told> Seat<T> {
+    ghost use Rattle.kahn_board.specs.Calls.{Claims, IsSameSeat, IsFirst, KeepsAll, Swaps, Leaves, OwesFew, GivesUp, Parks, Publishes, Draws, GivesBack, CountsUp, CountsDown, Halts, Looks};
+    ghost use Rattle.kahn_board.specs.Tale.{TellsEnd, TellsWait};
+    ghost use Rattle.kahn_board.specs.declared.board.Rest.TheVariants.{Over};
+    ghost use Rattle.kahn_board.specs.Plays.{IsIn};
+    ghost use Rattle.kahn_board.specs.Hands.{Carries};
+    ghost use Rattle.atomic_table.specs.Table.{turned as shifted};
+    ghost use Rattle.kahn_board.specs.Dealt.{wired};
+    ghost use Rattle.kahn_board.specs.Rest.{downs_of};
+
+    pub fn claim(&mut self, board: &Board<T>, p: usize) -> Option<()>
+        requires { (self.old.seat.table_id ≡ board.now.table.shared.table_id) × (p < board.now.instances) }
+        ensures { Claims T.told (wired board.now.table.shared.key) self.old self.new p result }
+    {
+        let found = board
+            .table
+            .shared
+            .compare_exchange::<Brand>(&mut self.seat, 8 * p, 0, 1);
+        if found != 0 {
+            return None;
+        }
+        self.held.push_front_reserved(p);
+        Some(())
+    }
+
+    fn first(&self) -> usize
+        requires { 0 < length self.now.held.items }
+        ensures { result ≡ slice_index self.now.held.items 0 }
+    {
+        *self.held.front().unwrap()
+    }
+
+    // The first slot goes behind the others.
+    fn turn(&mut self)
+        requires { 0 < length self.old.held.items }
+        ensures { IsSameSeat self.old self.new × (self.new.seat.me ≡ (self.old.seat.me.0, shifted self.old.seat.me.1)) × (self.new.held.items ≡ drop 1 self.old.held.items ++ slice_index self.old.held.items 0 ∷ []) }
+    {
+        let first = self.held.pop_front().unwrap();
+        self.held.push_back_reserved(first);
+        self.seat.turn();
+    }
+
+    // Its slot comes first.
+    fn bring(&mut self, p: usize)
+        requires { IsIn self.old.seat.me.0 p }
+        ensures same { IsSameSeat self.old self.new × (self.new.seat.me.0 ≡ self.old.seat.me.0) }
+        ensures first { IsFirst self.new p }
+        ensures kept { KeepsAll self.old self.new }
+    {
+        while self.first() != p {
+            self.turn();
+        }
+    }
+
+    /// Moves the cell out.
+    pub fn cell(&mut self, board: &Board<T>, p: usize) -> T
+        requires board { self.old.seat.table_id ≡ board.now.table.shared.table_id }
+        requires held { IsIn self.old.seat.me.0 p × ((y : T) × Carries self.old.seat.me.1 p (Some y)) }
+        ensures { Swaps self.old self.new p (Some result) None }
+    {
+        self.bring(p);
+        board
+            .table
+            .shared
+            .exchange(&mut self.seat, p, None)
+            .unwrap()
+    }
+
+    /// Puts the cell in.
+    pub fn put_back(&mut self, board: &Board<T>, p: usize, cell: T)
+        requires board { self.old.seat.table_id ≡ board.now.table.shared.table_id }
+        requires held { IsIn self.old.seat.me.0 p × Carries self.old.seat.me.1 p None }
+        ensures { Swaps self.old self.new p None (Some cell) }
+    {
+        self.bring(p);
+        let old = board.table.shared.exchange(&mut self.seat, p, Some(cell));
+        let None = old else { unreachable!() };
+    }
+
+    /// The instance is ready again, or over.
+    pub fn set_down(&mut self, board: &Board<T>, p: usize, rest: Rest)
+        requires board { self.old.seat.table_id ≡ board.now.table.shared.table_id }
+        requires held { IsIn self.old.seat.me.0 p × ((y : T) × Carries self.old.seat.me.1 p (Some y) × Leaves T.told (wired board.now.table.shared.key) self.old.seat.me.0 p y × (rest ≡ Over → TellsEnd (T.told y))) }
+        requires few { OwesFew self.old.seat.me.0 }
+        ensures { GivesUp T.told self.old self.new p (downs_of rest) }
+    {
+        self.bring(p);
+        let new = match rest {
+            Rest::Ready => 0,
+            Rest::Over => 2,
+        };
+        board
+            .table
+            .shared
+            .store::<Brand>(&mut self.seat, 8 * p, new);
+        let _ = self.held.pop_front();
+    }
+
+    /// The instance waits on the channel, unless other than `taken` tokens of it are published.
+    pub fn park(&mut self, board: &Board<T>, p: usize, channel: usize, taken: u64) -> bool
+        requires board { self.old.seat.table_id ≡ board.now.table.shared.table_id }
+        requires reads { (channel < board.now.channels) × ((wired board.now.table.shared.key).reader channel ≡ Some p) × (taken < 2 ^ 48) }
+        requires held { IsIn self.old.seat.me.0 p × ((y : T) × Carries self.old.seat.me.1 p (Some y) × Leaves T.told (wired board.now.table.shared.key) self.old.seat.me.0 p y × TellsWait (T.told y) channel taken) }
+        requires few { OwesFew self.old.seat.me.0 }
+        ensures { Parks T.told self.old self.new p taken result }
+    {
+        self.bring(p);
+        let word = 8 * (board.instances + channel);
+        let found = board
+            .table
+            .shared
+            .compare_exchange::<Brand>(&mut self.seat, word, 2 * taken, 2 * taken + 1);
+        if found != 2 * taken {
+            return false;
+        }
+        let _ = self.held.pop_front();
+        true
+    }
+
+    /// So many tokens of the channel are published. Where its reader was parked on it, the seat has the reader now.
+    pub fn publish(&mut self, board: &Board<T>, channel: usize, count: u64) -> Option<usize>
+        requires board { self.old.seat.table_id ≡ board.now.table.shared.table_id }
+        requires writer { (channel < board.now.channels) × (count < 2 ^ 48) × ((q : ℕ) × ((wired board.now.table.shared.key).writer channel ≡ Some q) × IsIn self.old.seat.me.0 q) }
+        ensures { Publishes T.told (wired board.now.table.shared.key) self.old self.new channel count result }
+    {
+        let word = 8 * (board.instances + channel);
+        let found = board
+            .table
+            .shared
+            .swap::<Brand>(&mut self.seat, word, 2 * count);
+        if found % 2 == 0 {
+            return None;
+        }
+        let reader = board.reader(channel);
+        self.held.push_front_reserved(reader);
+        Some(reader)
+    }
+
+    /// Pays the count up that is owed longest.
+    pub fn count_up(&mut self, board: &Board<T>)
+        requires board { self.old.seat.table_id ≡ board.now.table.shared.table_id }
+        requires owes { 0 < length self.old.seat.me.0.owed }
+        ensures { CountsUp self.old self.new }
+    {
+        let word = 8 * (board.instances + board.channels) + 8;
+        board
+            .table
+            .shared
+            .fetch_add::<CountingUp>(&mut self.seat, word, 1);
+    }
+
+    /// Pays a count down.
+    pub fn count_down(&mut self, board: &Board<T>)
+        requires board { self.old.seat.table_id ≡ board.now.table.shared.table_id }
+        requires owes { 0 < self.old.seat.me.0.down }
+        ensures { CountsDown self.old self.new }
+    {
+        let word = 8 * (board.instances + board.channels) + 8;
+        board
+            .table
+            .shared
+            .fetch_sub::<CountingDown>(&mut self.seat, word, 1);
+    }
+
+    /// Draws up to `quantum` events from the budget.
+    pub fn draw(&mut self, board: &Board<T>, quantum: u64) -> Draw
+        requires board { self.old.seat.table_id ≡ board.now.table.shared.table_id }
+        requires ready { (0 < quantum) × (self.old.seat.me.0.drawn ≡ 0) }
+        ensures { Draws self.old self.new quantum result }
+    {
+        let word = 8 * (board.instances + board.channels);
+        let shared = &board.table.shared;
+        let found = shared.load::<Notes>(&mut self.seat, word);
+        if found == 0 {
+            return Draw::Empty;
+        }
+        let n = quantum.min(found);
+        if shared.compare_exchange::<Drawing>(&mut self.seat, word, found, found - n) == found {
+            Draw::Got(n)
+        } else {
+            Draw::Lost
+        }
+    }
+
+    /// So many events of the draw weren't done, the others were.
+    pub fn give_back(&mut self, board: &Board<T>, n: u64)
+        requires board { self.old.seat.table_id ≡ board.now.table.shared.table_id }
+        requires drawn { n ≤ self.old.seat.me.0.drawn }
+        ensures { GivesBack self.old self.new n }
+    {
+        let word = 8 * (board.instances + board.channels);
+        board
+            .table
+            .shared
+            .fetch_add::<GivingBack>(&mut self.seat, word, n);
+    }
+
+    /// The run is to stop.
+    pub fn halt(&mut self, board: &Board<T>)
+        requires board { self.old.seat.table_id ≡ board.now.table.shared.table_id }
+        ensures { Halts self.old self.new }
+    {
+        let word = 8 * (board.instances + board.channels) + 16;
+        board.table.shared.store::<Halting>(&mut self.seat, word, 1);
+    }
+
+    /// Whether there is a reason to leave.
+    pub fn look(&mut self, board: &Board<T>) -> Look
+        requires board { self.old.seat.table_id ≡ board.now.table.shared.table_id }
+        ensures { Looks self.old self.new result }
+    {
+        let hot = 8 * (board.instances + board.channels);
+        let shared = &board.table.shared;
+        if shared.load::<SeesHalted>(&mut self.seat, hot + 16) != 0 {
+            return Look::Halted;
+        }
+        if shared.load::<SeesCount>(&mut self.seat, hot + 8) == 0 {
+            return Look::Quiet;
+        }
+        if shared.load::<SeesBudget>(&mut self.seat, hot) == 0 {
+            Look::NoBudget
+        } else {
+            Look::Go
+        }
+    }
+}
+
+/// How an instance is set down.
+#[derive(Clone, Copy)]
+pub enum Rest {
+    Ready,
+    Over,
+}
+
+/// What a draw got.
+#[derive(Clone, Copy)]
+pub enum Draw {
+    Got(u64),
+    /// Another step came between.
+    Lost,
+    Empty,
+}
+
+/// What a look saw.
+#[derive(Clone, Copy)]
+pub enum Look {
+    Halted,
+    Quiet,
+    NoBudget,
+    Go,
+}

@@ -1,0 +1,16 @@
+//! Where the cells of a network stand while several workers run them: one pair of hands for each cell, a budget of events, and a reason to stop.
+#![tactic(auto)]
+
+mod board;
+mod closing;
+mod opening;
+mod passing;
+mod plays;
+mod rule;
+mod view;
+mod wiring;
+
+pub use board::{Board, Draw, Look, Rest, Seat};
+pub use closing::Closed;
+pub use rule::{Rule, Terms, Told};
+pub use view::View;

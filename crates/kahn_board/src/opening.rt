@@ -1,0 +1,176 @@
+//! How a board is made.
+
+ghost use Rattle.std.specs.Prelude.{◌≡◌, ℕ, ◌+◌, ◌*◌, ◌^◌, ◌<◌, ◌≤◌, List, length, slice_index, slice_index_or, replicate, [], IfOk, IfErr, Some, None, map};
+ghost use Rattle.std.specs.Vec.{vec_capacity};
+ghost use Rattle.std.specs.VecDeque.{deque_capacity};
+ghost use Rattle.kahn_board.specs.Opening.{Opens};
+ghost use Rattle.kahn_board.specs.Wires.{wires};
+ghost use Rattle.kahn_board.specs.Dealt.{dealt};
+ghost use Rattle.kahn_board.specs.Rule.{opening_view};
+
+use crate::board::{Board, Seat};
+use crate::rule::{Terms, Told};
+use crate::wiring::Wiring;
+use atomic_table::{Refused, Table};
+use kahn_check::network::Network;
+use kahn_streams::memory::NoMemory;
+use std::alloc::{AllocError, Global};
+use std::collections::VecDeque;
+use std::snapshot::Snapshot;
+
+// The first words, eight apart: 0 for each instance, twice the number published for each channel, the bound, the
+// number of instances, and 0.
+fn lay_words(
+    alloc: Global,
+    instances: usize,
+    published: &[u64],
+    bound: u64,
+) -> Result<Vec<u64>, AllocError>
+    requires { (instances ≤ 256) × (length published.now ≤ 1024) × ((c : ℕ) → c < length published.now → slice_index published.now c < 2 ^ 48) }
+    ensures long { IfOk result (λ v. length v.items ≡ 8 * (instances + length published.now) + 24) }
+    ensures ready { IfOk result (λ v. (p : ℕ) → p < instances → slice_index v.items (8 * p) ≡ 0) }
+    ensures hot { IfOk result (λ v. (slice_index v.items (8 * (instances + length published.now)) ≡ bound) × (slice_index v.items (8 * (instances + length published.now) + 8) ≡ instances) × (slice_index v.items (8 * (instances + length published.now) + 16) ≡ 0)) }
+    ensures numbers { IfOk result (λ v. (c : ℕ) → c < length published.now → slice_index v.items (8 * (instances + c)) ≡ 2 * slice_index published.now c) }
+{
+    let hot = 8 * (instances + published.len());
+    let mut words = Vec::from_elem(alloc, 0, hot + 24)?;
+    words[hot] = bound;
+    words[hot + 8] = instances as u64;
+    for c in 0..published.len() {
+        words[8 * (instances + c)] = 2 * published[c];
+    }
+    Ok(words)
+}
+
+// The cells go into slots, and their room is left.
+fn into_slots<T>(
+    mut cells: Vec<T, Global>,
+    mut slots: Vec<Option<T>, Global>,
+) -> (Vec<T, Global>, Vec<Option<T>, Global>)
+    requires { (slots.items ≡ []) × (length cells.items ≤ vec_capacity slots) }
+    ensures { (result.0.items ≡ []) × (vec_capacity result.0 ≡ vec_capacity cells) × (result.1.items ≡ map Some cells.items) }
+{
+    cells.reverse();
+    while let Some(cell) = cells.pop() {
+        slots.push_reserved(Some(cell));
+    }
+    (cells, slots)
+}
+
+// The cells go back into their room.
+fn out_of_slots<T>(mut slots: Vec<Option<T>, Global>, mut cells: Vec<T, Global>) -> Vec<T, Global>
+    requires full { (xs : List T) × (slots.items ≡ map Some xs) }
+    requires room { (cells.items ≡ []) × (length slots.items ≤ vec_capacity cells) }
+    ensures { slots.items ≡ map Some result.items }
+{
+    while let Some(slot) = slots.pop() {
+        let Some(cell) = slot else { unreachable!() };
+        cells.push_reserved(cell);
+    }
+    slots.destroy_empty();
+    cells.reverse();
+    cells
+}
+
+// All that a board takes memory for, but its table.
+struct Grown<T> {
+    wiring: Wiring,
+    words: Vec<u64, Global>,
+    held: VecDeque<usize, Global>,
+    room: Vec<Option<T>, Global>,
+    slots: Vec<Option<T>, Global>,
+}
+
+impl<T> Grown<T> {
+    fn new(
+        alloc: Global,
+        network: &Network,
+        published: &[u64],
+        bound: u64,
+    ) -> Result<Grown<T>, NoMemory>
+        requires { (length published.now ≡ (wires network.now).channels) × ((c : ℕ) → c < length published.now → slice_index published.now c < 2 ^ 48) }
+        ensures counts { IfOk result (λ w. (w.wiring.instances ≡ (wires network.now).instances) × (w.wiring.channels ≡ (wires network.now).channels)) }
+        ensures limits { IfOk result (λ w. (w.wiring.instances ≤ 256) × (w.wiring.channels ≤ 1024)) }
+        ensures readers { IfOk result (λ w. (length w.wiring.readers.items ≡ w.wiring.channels) × ((c : ℕ) → c < w.wiring.channels → slice_index_or w.wiring.readers.items c None ≡ (wires network.now).reader c)) }
+        ensures long { IfOk result (λ w. length w.words.items ≡ 8 * (w.wiring.instances + length published.now) + 24) }
+        ensures ready { IfOk result (λ w. (p : ℕ) → p < w.wiring.instances → slice_index w.words.items (8 * p) ≡ 0) }
+        ensures hot { IfOk result (λ w. (slice_index w.words.items (8 * (w.wiring.instances + length published.now)) ≡ bound) × (slice_index w.words.items (8 * (w.wiring.instances + length published.now) + 8) ≡ w.wiring.instances) × (slice_index w.words.items (8 * (w.wiring.instances + length published.now) + 16) ≡ 0)) }
+        ensures numbers { IfOk result (λ w. (c : ℕ) → c < length published.now → slice_index w.words.items (8 * (w.wiring.instances + c)) ≡ 2 * slice_index published.now c) }
+        ensures rooms { IfOk result (λ w. (w.held.items ≡ []) × (w.wiring.instances ≤ deque_capacity w.held) × (w.room.items ≡ []) × (w.wiring.instances ≤ vec_capacity w.room) × (w.slots.items ≡ []) × (w.wiring.instances ≤ vec_capacity w.slots)) }
+    {
+        let wiring = Wiring::of(alloc, network)?;
+        let words = lay_words(alloc, wiring.instances, published, bound)?;
+        let held = VecDeque::with_capacity(alloc, wiring.instances)?;
+        let room = Vec::with_capacity(alloc, wiring.instances)?;
+        let Ok(slots) = Vec::with_capacity(alloc, wiring.instances) else {
+            room.destroy_empty();
+            return Err(NoMemory);
+        };
+        Ok(Grown {
+            wiring,
+            words,
+            held,
+            room,
+            slots,
+        })
+    }
+}
+
+impl<T: Told> Board<T> {
+    /// A board and its first seat. All instances are ready, of channel c `published[c]` tokens are published, the
+    /// budget is the bound and the count is the number of instances. `NoMemory` comes with the cells.
+    pub fn new(
+        alloc: Global,
+        network: &Network,
+        published: &[u64],
+        cells: Vec<T, Global>,
+        bound: u64,
+    ) -> Result<(Board<T>, Seat<T>), (NoMemory, Vec<T, Global>)>
+        requires { Opens T.told (wires network.now) bound published.now cells.items }
+        ensures seat { IfOk result (λ t. (t.1.seat.table_id ≡ t.0.table.shared.table_id) × (t.1.seat.me ≡ (opening_view (wires network.now), []))) }
+        ensures board { IfOk result (λ t. (t.0.table.shared.key.network.value ≡ network.now) × (t.0.table.shared.key.bound ≡ bound) × (t.0.table.shared.key.cells.value ≡ cells)) }
+        ensures published { IfOk result (λ t. (c : ℕ) → c < length published.now → (dealt T.told t.0.table.shared.key).published c ≡ slice_index published.now c) }
+        ensures refused { IfErr result (λ e. e.1.items ≡ cells.items) }
+    {
+        let grown = match Grown::new(alloc, network, published, bound) {
+            Ok(grown) => grown,
+            Err(fault) => return Err((fault, cells)),
+        };
+        let Grown {
+            wiring,
+            words,
+            held,
+            room,
+            slots,
+        } = grown;
+        let terms = Terms {
+            network: Snapshot::of(network),
+            words: Snapshot::of(&words),
+            cells: Snapshot::of(&cells),
+            bound,
+        };
+        let (cells, slots) = into_slots(cells, slots);
+        match Table::new(alloc, words.as_slice(), slots, &terms) {
+            Err(Refused { slots }) => {
+                room.destroy_empty();
+                Err((NoMemory, out_of_slots(slots, cells)))
+            }
+            Ok((table, seat)) => {
+                cells.destroy_empty();
+                let Wiring {
+                    instances,
+                    channels,
+                    readers,
+                } = wiring;
+                let board = Board {
+                    table,
+                    instances,
+                    channels,
+                    readers,
+                    room,
+                };
+                Ok((board, Seat { seat, held }))
+            }
+        }
+    }
+}

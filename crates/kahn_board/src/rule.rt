@@ -1,0 +1,51 @@
+//! What a cell tells, and the rule of the table.
+
+ghost use Rattle.std.specs.Prelude.{Option};
+ghost use Rattle.kahn_board.specs.Tale.{Tale};
+
+use crate::view::View;
+use atomic_table::TableRule;
+use kahn_check::network::Network;
+use std::alloc::Global;
+use std::marker::PhantomData;
+use std::snapshot::Snapshot;
+
+/// What a cell tells contracts of itself: the events that it did, what it took, sent and flushed, and whether it
+/// has ended or waits. A cell that tells nothing meets every condition.
+pub trait Told {
+    ghost told: { Self → Option Tale };
+}
+
+/// What a board was made of: the network, the first words, the cells and the bound. Contracts alone read the first
+/// three, which take no bytes.
+pub struct Terms<T> {
+    pub network: Snapshot<Network>,
+    pub words: Snapshot<Vec<u64, Global>>,
+    pub cells: Snapshot<Vec<T, Global>>,
+    pub bound: u64,
+}
+
+impl<T> Drop for Terms<T> {
+    fn drop(self) {
+        let Terms {
+            network: _,
+            words: _,
+            cells: _,
+            bound: _,
+        } = self;
+    }
+}
+
+/// The rule of a board's table, which holds between any two steps of any seats.
+pub struct Rule<T> {
+    cells: PhantomData<T>,
+}
+
+impl<T: Told> TableRule<Option<T>, View, Terms<T>> for Rule<T> {
+    ghost use Rattle.kahn_board.specs.Rule.{Whole, opening_view};
+    ghost use Rattle.kahn_board.specs.Dealt.{dealt, wired};
+
+    ghost holds = { λ key. Whole T.told (wired key) (dealt T.told key) };
+
+    ghost first = { λ key. opening_view (wired key) };
+}
