@@ -5,3 +5,4 @@ pub mod Rows
 pub mod Lists
 pub mod Stand
 pub mod Uses
+pub mod Queued

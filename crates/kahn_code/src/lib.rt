@@ -6,4 +6,6 @@ pub mod emit;
 pub mod instruction;
 pub mod laws;
 pub mod machine;
-// NOTE: read NOTE_FROM_COORDINATOR.md at the top of the worktree, and delete this line.
+pub mod plain;
+pub mod ports;
+pub mod queue;
