@@ -1,1 +1,9 @@
 pub mod Network
+pub mod Kinds
+pub mod Faults
+pub mod Wiring
+pub mod Order
+pub mod Globals
+pub mod Tables
+pub mod Sides
+pub mod Wires

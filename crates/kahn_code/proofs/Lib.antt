@@ -6,3 +6,6 @@ pub mod Lists
 pub mod Stand
 pub mod Uses
 pub mod Queued
+pub mod Kept
+pub mod Asks
+pub mod Sit

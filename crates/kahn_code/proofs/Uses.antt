@@ -29,3 +29,6 @@ writes_by N (Hands v) c b e = absurd cc
 
 pub not_reads : (N : Network) (a : Actual) (w : Use) → w ≡ use_of N a → (w ≡ u.Reads → ⊥) → (d : ℕ) → a ≡ Reads d → ⊥
 not_reads N a w e ne d f = ne (e ∙ ap (use_of N) f)
+
+pub not_writes : (N : Network) (a : Actual) (w : Use) → w ≡ use_of N a → ((c : ℕ) (b : Bool) → w ≡ u.Writes c b → ⊥) → (d : ℕ) → a ≡ Writes d → ⊥
+not_writes N a w e ne d f = ne d (is_output (role_at N d)) (e ∙ ap (use_of N) f)

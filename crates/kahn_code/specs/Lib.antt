@@ -5,3 +5,4 @@ pub mod Machines
 pub mod Seats
 pub mod Queues
 pub mod Lines
+pub mod Progress

@@ -8,4 +8,6 @@ pub mod laws;
 pub mod machine;
 pub mod plain;
 pub mod ports;
+pub mod progress;
 pub mod queue;
+pub mod steps;

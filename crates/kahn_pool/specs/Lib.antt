@@ -2,3 +2,4 @@ pub mod Right
 pub mod Gathered
 pub mod Bench
 pub mod Parameters
+pub mod Limits

@@ -3,5 +3,7 @@
 
 pub mod answer;
 pub mod bench;
+pub mod config;
+pub mod gate;
 pub mod laws;
 pub mod rounds;

@@ -1,4 +1,4 @@
-pub mod Examples
+pub mod Computed
 pub mod Frame
 pub mod Fuel
 pub mod Proved
@@ -9,3 +9,5 @@ pub mod Composed
 pub mod Loops
 pub mod Token_lists
 pub mod Found
+pub mod Kinded
+pub mod Kinded_networks

@@ -8,3 +8,5 @@ pub mod Compose
 pub mod Sample
 pub mod Tokens
 pub mod Streams
+pub mod Examples
+pub mod Kinded

@@ -1,15 +1,20 @@
 //! The laws of the meaning. Each function does nothing: its contract is the law.
 
 ghost use Rattle.kahn_streams.specs.Compose.{ExpressionsCompose, StatementsCompose, LoopsUnroll};
+ghost use Rattle.kahn_streams.specs.Examples.{Counting, Doubling, Overflowing, Ring, OwnChannel, Alternating, Silent, LimitedSample};
+ghost use Rattle.kahn_streams.specs.Kinded.{AreOfKind, FitsKinds};
 ghost use Rattle.kahn_streams.specs.Laws.{IsChain, HasOneValue, IsSolved, IsSolution, IsBelow, Frame, IsQuiet, IsSettled, SendsStand, InputsGrow, IsCounted, IsUnrolled, IsDetermined};
 ghost use Rattle.kahn_streams.specs.Meaning.{Store, exec};
-ghost use Rattle.kahn_check.specs.Network.{Network};
-ghost use Rattle.kahn_streams.specs.Solution.{Inputs, Histories, Ending, Stands};
+ghost use Rattle.kahn_check.specs.Network.{Network, kind_at, network_of};
+ghost use Rattle.kahn_check.specs.Wiring.{IsWellWired};
+ghost use Rattle.kahn_streams.specs.Solution.{Inputs, Histories, Ending, Stands, iterate};
 ghost use Rattle.kahn_streams.specs.Sample.{Sample};
 ghost use Rattle.kahn_streams.specs.Script.{Script, Tapes, play};
 ghost use Rattle.kahn_streams.specs.Steps.{Step, Follows, RanBy, taken, sends_of, halted, empty};
 ghost use Rattle.kahn_syntax.specs.Syntax.{Expr, Stmt};
+ghost use Rattle.kahn_syntax.specs.declared.tree.Program.{Program};
 ghost use Rattle.kahn_streams.specs.declared.value.Line.{Line};
+ghost use Rattle.kahn_streams.specs.declared.value.Line.TheVariants.{Channel};
 ghost use Rattle.kahn_streams.specs.declared.value.Value.{Value};
 ghost use Rattle.std.specs.Prelude.{ℕ, suc, [], List, length, ◌≡◌};
 
@@ -89,4 +94,22 @@ pub fn determined()
 /// Where a value is known to stand somewhere in the solution there is an iterate that has it.
 pub fn found()
     ensures { (N : Network) (I : Inputs) (c : Line) (k : ℕ) (v : Value) → ∥ (Stands N I c k v) ∥₁ → Stands N I c k v }
+{}
+
+/// Every value of an iterate on a channel has the channel's kind, where the program is well wired and each input list has
+/// the kind of its channel.
+pub fn kinds()
+    ensures { (t : Program) (I : Inputs) → IsWellWired t → FitsKinds (network_of t) I → (n c : ℕ) → AreOfKind (kind_at (network_of t) c) (iterate (network_of t) I n (Channel c)) }
+{}
+
+/// The definitions at work on small networks.
+pub fn examples()
+    ensures counting { Counting }
+    ensures doubling { Doubling }
+    ensures overflowing { Overflowing }
+    ensures ring { Ring }
+    ensures own_channel { OwnChannel }
+    ensures alternating { Alternating }
+    ensures silent { Silent }
+    ensures limited_sample { LimitedSample }
 {}

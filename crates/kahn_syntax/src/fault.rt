@@ -54,3 +54,14 @@ impl From<AllocError> for SyntaxFault {
         SyntaxFault::NoMemory
     }
 }
+
+impl<T: Drop> From<AllocFailed<T>> for SyntaxFault {
+    ghost use Rattle.std.specs.Prelude.{◌≡◌};
+    ghost use Rattle.kahn_syntax.specs.declared.fault.SyntaxFault.TheVariants.{NoMemory};
+
+    ghost from_gives = { λ _ e. e ≡ NoMemory };
+
+    fn from(_error: AllocFailed<T>) -> Self {
+        SyntaxFault::NoMemory
+    }
+}

@@ -2,6 +2,9 @@
 #![tactic(auto)]
 
 pub mod fault;
+pub mod keyword;
 pub mod lexeme;
+pub mod lexer;
+pub mod parser;
 pub mod span;
 pub mod tree;

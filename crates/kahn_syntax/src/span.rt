@@ -1,5 +1,9 @@
 //! Places in a program's text.
 
+ghost use Rattle.std.specs.Prelude.{◌≡◌, ◌-◌, ◌≤◌, ◌==◌, not, length};
+ghost use Rattle.std.specs.List.{suffix_len};
+ghost use Rattle.kahn_syntax.specs.Place.{line_of, column_of};
+
 /// A half-open range of bytes of the text: from `from`, up to and without `to`.
 #[derive(Clone, Copy, Debug, PartialEq, Eq)]
 pub struct Span {
@@ -7,4 +11,45 @@ pub struct Span {
     pub from: usize,
     /// The byte after the last one.
     pub to: usize,
+}
+
+impl Span {
+    /// The line and the column of the span's first byte in its text, both from 1. The column counts bytes.
+    pub fn place(&self, text: &str) -> (usize, usize)
+        requires { self.now.from ≤ length text.now }
+        ensures line { result.0 ≡ line_of text.now self.now.from }
+        ensures column { result.1 ≡ column_of text.now self.now.from }
+    {
+        let before = &text.as_bytes()[..self.from];
+        let line = before.iter().filter(|byte| **byte == b'\n').count() + 1;
+        let column = before.len() - line_start(before) + 1;
+        (line, column)
+    }
+}
+
+/// Where the last line of a text begins.
+fn line_start(text: &[u8]) -> usize
+    ensures within { result ≤ length text.now }
+    ensures line { length text.now - result ≡ suffix_len (λ b. not (b == 10)) text.now }
+{
+    let mut at = text.len();
+    'bytes: while at > 0 && text[at - 1] != b'\n' {
+        at -= 1;
+    }
+    at
+}
+
+#[cfg(test)]
+mod tests {
+    use super::*;
+
+    #[test]
+    fn places_in_three_lines(rt: HostRuntime) {
+        let text = "begin\n  x\r\n\u{ac}y";
+        assert_eq!(rt; Span { from: 0, to: 5 }.place(text), (1, 1));
+        assert_eq!(rt; Span { from: 5, to: 6 }.place(text), (1, 6));
+        assert_eq!(rt; Span { from: 8, to: 9 }.place(text), (2, 3));
+        assert_eq!(rt; Span { from: 13, to: 14 }.place(text), (3, 3));
+        assert_eq!(rt; Span { from: 14, to: 14 }.place(text), (3, 4));
+    }
 }

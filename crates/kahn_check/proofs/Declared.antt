@@ -1,0 +1,108 @@
+-- The declarations in turn.
+use Rattle.std.proofs.Common.{◌≡◌, ℕ, suc, ◌+◌, ◌≤◌, ◌<◌, Bool, true, false, cond, List, [], ◌∷◌, ◌++◌, map, Option, None, Some, IsSome, Result, Ok, Err, refl, ap, sym, ◌∙◌, subst, bytes_eq, append_assoc, arith, nat_lt, length, ◌⊎◌, inl, inr}
+use Rattle.std.specs.Map.{lookup}
+use Rattle.kahn_syntax.specs.declared.tree.Name.{Name}
+use Rattle.kahn_syntax.specs.declared.tree.Kind.{Kind}
+use Rattle.kahn_syntax.specs.declared.tree.Role.{Role}
+use Rattle.kahn_syntax.specs.View.{bytes_of}
+use Rattle.kahn_check.specs.declared.fault.CheckFault.{CheckFault}
+use Rattle.kahn_check.specs.declared.fault.CheckFault.TheVariants.{DeclaredTwice, TooMany}
+use Rattle.kahn_check.specs.Faults.{verdict, IsMet}
+use Rattle.kahn_check.specs.Wiring as Wiring
+use Rattle.kahn_check.specs.Wiring.{entries, declared_of, IsChannel, IsProcess}
+use Rattle.kahn_check.specs.Order.{too_many, repeated, channel_faults, process_faults, declaration_faults}
+use Rattle.kahn_check.proofs.Wired.{Table, as_channels}
+use Rattle.kahn_check.proofs.Walk.{verdict_err}
+use Rattle.std.proofs.lemmas.List.{map-append}
+use Rattle.kahn_syntax.specs.declared.tree.Process.{Process}
+use Rattle.kahn_syntax.specs.declared.tree.Declaration.{Declaration}
+use Rattle.kahn_syntax.specs.declared.tree.Declaration.TheVariants as D
+use Rattle.std.specs.declared.vec.Vec.{Vec}
+use Rattle.std.specs.declared.alloc.Global.{Global}
+
+within : (n : ℕ) → n < 1024 → nat_lt n 1024 ≡ true
+within n h = by (nat_lt n 1024) refl
+  where
+    by : (b : Bool) → nat_lt n 1024 ≡ b → b ≡ true
+    by true e = refl
+    by false e = absurd (grind (arith, e, h))
+
+beyond : (n : ℕ) → 1024 ≤ n → nat_lt n 1024 ≡ false
+beyond n h = by (nat_lt n 1024) refl
+  where
+    by : (b : Bool) → nat_lt n 1024 ≡ b → b ≡ false
+    by true e = absurd (grind (arith, e, h))
+    by false e = refl
+
+pub channel_new : (g : Table) (n : ℕ) (kind : Kind) (role : Role) (x : Name) (xs : List Name) → n < 1024 → lookup (bytes_eq (bytes_of x)) g ≡ None →
+    channel_faults g n kind role (x ∷ xs) ≡ channel_faults (g ++ (bytes_of x, IsChannel kind role) ∷ []) (n + 1) kind role xs
+channel_new g n kind role x xs lt h =
+    let rest = channel_faults (g ++ (bytes_of x, IsChannel kind role) ∷ []) (suc n) kind role xs in
+    let step : suc n ≡ n + 1 = omega arith in
+    ap (λ b. cond b [] (TooMany x.span ∷ []) ++ (repeated (lookup (bytes_eq (bytes_of x)) g) x.span ++ rest)) (within n lt)
+    ∙ ap (λ o. repeated o x.span ++ rest) h
+    ∙ ap (λ m. channel_faults (g ++ (bytes_of x, IsChannel kind role) ∷ []) m kind role xs) step
+
+pub channel_limit : (g : Table) (n : ℕ) (kind : Kind) (role : Role) (x : Name) (xs : List Name) → 1024 ≤ n → verdict (channel_faults g n kind role (x ∷ xs)) (tt {0}) ≡ Err (TooMany x.span)
+channel_limit g n kind role x xs h =
+    ap (λ b. verdict (cond b [] (TooMany x.span ∷ []) ++ (repeated (lookup (bytes_eq (bytes_of x)) g) x.span ++ channel_faults (g ++ (bytes_of x, IsChannel kind role) ∷ []) (suc n) kind role xs)) (tt {0})) (beyond n h)
+
+pub channel_known : (g : Table) (n : ℕ) (kind : Kind) (role : Role) (x : Name) (xs : List Name) → n < 1024 → IsSome (lookup (bytes_eq (bytes_of x)) g) →
+    verdict (channel_faults g n kind role (x ∷ xs)) (tt {0}) ≡ Err (DeclaredTwice x.span)
+channel_known g n kind role x xs lt h =
+    ap (λ b. verdict (cond b [] (TooMany x.span ∷ []) ++ (repeated (lookup (bytes_eq (bytes_of x)) g) x.span ++ channel_faults (g ++ (bytes_of x, IsChannel kind role) ∷ []) (suc n) kind role xs)) (tt {0})) (within n lt)
+    ∙ by (lookup (bytes_eq (bytes_of x)) g) h
+  where
+    by : (o : Option Wiring.Global) → IsSome o → verdict (repeated o x.span ++ channel_faults (g ++ (bytes_of x, IsChannel kind role) ∷ []) (suc n) kind role xs) (tt {0}) ≡ Err (DeclaredTwice x.span)
+    by None i = cc
+    by (Some y) i = refl
+
+pub more_channels : (g : Table) (kind : Kind) (role : Role) (x : Name) (xs : List Name) →
+    (g ++ (bytes_of x, IsChannel kind role) ∷ []) ++ entries (as_channels kind role xs) ≡ g ++ entries (as_channels kind role (x ∷ xs))
+more_channels g kind role x xs = append_assoc g ((bytes_of x, IsChannel kind role) ∷ []) (entries (as_channels kind role xs))
+
+-- ---- whole declarations
+
+pub met_first : (xs ys : List CheckFault) (f : CheckFault) → IsMet xs f → IsMet (xs ++ ys) f
+met_first xs ys f (inl h) = inl h
+met_first xs ys f (inr h) = inr (verdict_err xs ys (tt {0}) (tt {0}) f h)
+
+pub met_after : (xs ys : List CheckFault) (f : CheckFault) → xs ≡ [] → IsMet ys f → IsMet (xs ++ ys) f
+met_after xs ys f h i = subst (λ z. IsMet (z ++ ys) f) (sym h) i
+
+pub channels_done : (g : Table) (n : ℕ) (kind : Kind) (role : Role) (names : Vec Name Global) (rest : List Declaration) → channel_faults g n kind role names.items ≡ [] →
+    declaration_faults g n (D.Channels kind role names ∷ rest) ≡ declaration_faults (g ++ entries (as_channels kind role names.items)) (n + length names.items) rest
+channels_done g n kind role names rest h = ap (λ z. z ++ declaration_faults (g ++ entries (as_channels kind role names.items)) (n + length names.items) rest) h
+
+pub channels_met : (g : Table) (n : ℕ) (kind : Kind) (role : Role) (names : Vec Name Global) (rest : List Declaration) (f : CheckFault) → IsMet (channel_faults g n kind role names.items) f →
+    IsMet (declaration_faults g n (D.Channels kind role names ∷ rest)) f
+channels_met g n kind role names rest f h = met_first (channel_faults g n kind role names.items) _ f h
+
+pub process_done : (g : Table) (n : ℕ) (p : Process) (rest : List Declaration) → lookup (bytes_eq (bytes_of p.name)) g ≡ None → process_faults p ≡ [] →
+    declaration_faults g n (D.Process p ∷ rest) ≡ declaration_faults (g ++ (bytes_of p.name, IsProcess p) ∷ []) n rest
+process_done g n p rest h i =
+    let after = declaration_faults (g ++ (bytes_of p.name, IsProcess p) ∷ []) n rest in
+    ap (λ o. repeated o p.name.span ++ (process_faults p ++ after)) h ∙ ap (λ z. z ++ after) i
+
+pub process_known : (g : Table) (n : ℕ) (p : Process) (rest : List Declaration) → IsSome (lookup (bytes_eq (bytes_of p.name)) g) →
+    IsMet (declaration_faults g n (D.Process p ∷ rest)) (DeclaredTwice p.name.span)
+process_known g n p rest h = inr (by (lookup (bytes_eq (bytes_of p.name)) g) h)
+  where
+    by : (o : Option Wiring.Global) → IsSome o → verdict (repeated o p.name.span ++ (process_faults p ++ declaration_faults (g ++ (bytes_of p.name, IsProcess p) ∷ []) n rest)) (tt {0}) ≡ Err (DeclaredTwice p.name.span)
+    by None i = cc
+    by (Some y) i = refl
+
+pub process_met : (g : Table) (n : ℕ) (p : Process) (rest : List Declaration) (f : CheckFault) → lookup (bytes_eq (bytes_of p.name)) g ≡ None → IsMet (process_faults p) f →
+    IsMet (declaration_faults g n (D.Process p ∷ rest)) f
+process_met g n p rest f h i =
+    met_after (repeated (lookup (bytes_eq (bytes_of p.name)) g) p.name.span) _ f (ap (λ o. repeated o p.name.span) h) (met_first (process_faults p) _ f i)
+
+pub more_declared : (g : Table) (kind : Kind) (role : Role) (names : Vec Name Global) (rest : List Declaration) →
+    (g ++ entries (as_channels kind role names.items)) ++ entries (declared_of rest) ≡ g ++ entries (declared_of (D.Channels kind role names ∷ rest))
+more_declared g kind role names rest =
+    append_assoc g (entries (as_channels kind role names.items)) (entries (declared_of rest))
+    ∙ ap (λ z. g ++ z) (sym (map-append (λ (e : Name × Wiring.Global). (bytes_of e.0, e.1)) (as_channels kind role names.items) (declared_of rest)))
+
+pub more_process : (g : Table) (p : Process) (rest : List Declaration) →
+    (g ++ (bytes_of p.name, IsProcess p) ∷ []) ++ entries (declared_of rest) ≡ g ++ entries (declared_of (D.Process p ∷ rest))
+more_process g p rest = append_assoc g ((bytes_of p.name, IsProcess p) ∷ []) (entries (declared_of rest))

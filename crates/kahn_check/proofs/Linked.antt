@@ -1,0 +1,162 @@
+-- What is wrong by the tables is what is wrong by the definition.
+use Rattle.std.proofs.Common.{◌≡◌, ℕ, suc, Bool, true, false, cond, ◌&&◌, ◌⊎◌, inl, inr, List, [], ◌∷◌, ◌++◌, map, length, Option, None, Some, Result, Ok, Err, refl, ap, sym, ◌∙◌, subst, bytes_eq, append_assoc}
+use Rattle.std.specs.Map.{lookup}
+use Rattle.kahn_syntax.specs.declared.span.Span.{Span}
+use Rattle.kahn_syntax.specs.declared.tree.Name.{Name}
+use Rattle.kahn_syntax.specs.declared.tree.Kind.{Kind}
+use Rattle.kahn_syntax.specs.declared.tree.Role.{Role}
+use Rattle.kahn_syntax.specs.declared.tree.Role.TheVariants.{Inner, Input, Output}
+use Rattle.kahn_syntax.specs.declared.tree.Direction.{Direction}
+use Rattle.kahn_syntax.specs.declared.tree.Direction.TheVariants.{In, Out}
+use Rattle.kahn_syntax.specs.declared.tree.Taking.{Taking}
+use Rattle.kahn_syntax.specs.declared.tree.Taking.TheVariants as T
+use Rattle.kahn_syntax.specs.declared.tree.Parameter.{Parameter}
+use Rattle.kahn_syntax.specs.declared.tree.Declaration.{Declaration}
+use Rattle.kahn_syntax.specs.declared.tree.Declaration.TheVariants as D
+use Rattle.kahn_syntax.specs.declared.tree.Argument.{Argument}
+use Rattle.kahn_syntax.specs.declared.tree.Argument.TheVariants as A
+use Rattle.kahn_syntax.specs.declared.tree.Instance.{Instance}
+use Rattle.kahn_syntax.specs.declared.tree.Program.{Program}
+use Rattle.kahn_syntax.specs.View.{bytes_of}
+use Rattle.kahn_check.specs.declared.fault.CheckFault.{CheckFault}
+use Rattle.kahn_check.specs.declared.fault.CheckFault.TheVariants.{NoWriter, NoReader}
+use Rattle.kahn_check.specs.Faults.{verdict, IsMet, wrong}
+use Rattle.kahn_check.specs.Wiring.{entries, Global, IsChannel, IsProcess, declared_of, declared_channels, global, Handover, handed, handed_in, handed_by, handed_from, parameters_of, same_direction, ends, writers, readers, IsWellWired, side_at}
+use Rattle.kahn_check.specs.declared.sides.Side.{Side}
+use Rattle.kahn_check.specs.Order.{too_many, miscounted, is_closed, overtaken, misplaced, argument_faults, arguments_faults, made_faults, instance_faults, missing, side_faults, sides_faults, declaration_faults, faults}
+use Rattle.kahn_check.specs.Tables.{Ends, held, taken, side_of, misplaced_in, place_faults, places_faults, made_in, meant, handed_to, handed_all, seats_faults, side_in, sides_in}
+use Rattle.kahn_check.proofs.Wired.{Table, well_wired}
+use Rattle.kahn_check.proofs.Placed.{taken_append}
+use Rattle.kahn_check.proofs.Declared.{met_first, met_after}
+use Rattle.kahn_check.proofs.Typed.{both}
+use Rattle.kahn_check.proofs.Walk.{verdict_err}
+use Rattle.std.specs.declared.vec.Vec.{Vec}
+use Rattle.std.specs.declared.alloc.Global.{Global as Heap}
+
+pub sides_more : (w r : Ends) (xs ys : List (Name × (Kind × Role))) → sides_in w r (xs ++ ys) ≡ sides_in w r xs ++ sides_in w r ys
+sides_more w r [] ys = refl
+sides_more w r (x ∷ xs) ys = ap (λ z. side_in w r x.0 x.1.1 ++ z) (sides_more w r xs ys) ∙ sym (append_assoc (side_in w r x.0 x.1.1) (sides_in w r xs) (sides_in w r ys))
+
+-- the table has the first of the ends
+abbrev first : List Side → List Side
+first [] = []
+first (e ∷ es) = e ∷ []
+
+headed : (d : Direction) (c : List ℕ) (hs : List Handover) → held (lookup (bytes_eq c) (taken d hs)) ≡ first (ends d c hs)
+headed d c [] = refl
+headed d c (h ∷ hs) = by (same_direction d h.direction) (bytes_eq c h.channel) refl (headed d c hs)
+  where
+    by : (a b : Bool) → bytes_eq c h.channel ≡ b → held (lookup (bytes_eq c) (taken d hs)) ≡ first (ends d c hs) →
+        held (lookup (bytes_eq c) (cond a ((h.channel, h.end) ∷ taken d hs) (taken d hs))) ≡ first (cond (a && b) (h.end ∷ ends d c hs) (ends d c hs))
+    by true true e i = ap (λ z. held (cond z (Some h.end) (lookup (bytes_eq c) (taken d hs)))) e
+    by true false e i = ap (λ z. held (cond z (Some h.end) (lookup (bytes_eq c) (taken d hs)))) e ∙ i
+    by false b e i = i
+
+misplaced_first : (d : Direction) (k : Kind) (o : Option Global) (es : List Side) (at : Span) → misplaced d k o (first es) at ≡ misplaced d k o es at
+misplaced_first d k o [] at = refl
+misplaced_first d k None (e ∷ es) at = refl
+misplaced_first d k (Some (IsProcess p)) (e ∷ es) at = refl
+misplaced_first d k (Some (IsChannel kind role)) (e ∷ es) at = ap (λ z. wrong k kind at ++ z) (by (is_closed d role))
+  where
+    by : (b : Bool) → overtaken d b (e ∷ []) at ≡ overtaken d b (e ∷ es) at
+    by true = refl
+    by false = refl
+
+missing_first : (es : List Side) (f : CheckFault) → missing (first es) f ≡ missing es f
+missing_first [] f = refl
+missing_first (e ∷ es) f = refl
+
+abbrev pub table : Program → Table
+table t = entries (declared_of t.declarations.items)
+
+link_argument : (t : Program) (before : List Handover) (w : Taking) (x : Argument) → place_faults (table t) (taken Out before) (taken In before) w x ≡ argument_faults t before w x
+link_argument t before (T.Channel Out k) (A.Channel n) = ap (λ z. misplaced Out k (global t n) z n.span) (headed Out (bytes_of n) before) ∙ misplaced_first Out k (global t n) (ends Out (bytes_of n) before) n.span
+link_argument t before (T.Channel In k) (A.Channel n) = ap (λ z. misplaced In k (global t n) z n.span) (headed In (bytes_of n) before) ∙ misplaced_first In k (global t n) (ends In (bytes_of n) before) n.span
+link_argument t before (T.Channel d k) (A.Number z at) = refl
+link_argument t before (T.Channel d k) (A.Logical b at) = refl
+link_argument t before (T.Value k) (A.Channel n) = refl
+link_argument t before (T.Value k) (A.Number z at) = refl
+link_argument t before (T.Value k) (A.Logical b at) = refl
+
+link_arguments : (t : Program) (before : List Handover) (i q : ℕ) (ps : List Parameter) (xs : List Argument) →
+    places_faults (table t) (taken Out before) (taken In before) i q ps xs ≡ arguments_faults t before i q ps xs
+link_arguments t before i q [] xs = refl
+link_arguments t before i q (p ∷ ps) [] = refl
+link_arguments t before i q (p ∷ ps) (x ∷ xs) =
+    let one = handed (side_at i q) p.taking x in
+    let w = sym (taken_append Out before one) in
+    let r = sym (taken_append In before one) in
+    (λ j. link_argument t before p.taking x j ++ places_faults (table t) (w j) (r j) i (suc q) ps xs)
+    ∙ ap (λ z. argument_faults t before p.taking x ++ z) (link_arguments t (before ++ one) i (suc q) ps xs)
+
+link_made : (t : Program) (before : List Handover) (i : ℕ) (o : Option Global) (x : Instance) → made_in (table t) (taken Out before) (taken In before) i o x ≡ made_faults t before i o x
+link_made t before i None x = refl
+link_made t before i (Some (IsChannel kind role)) x = refl
+link_made t before i (Some (IsProcess p)) x =
+    ap (λ z. miscounted (length p.parameters.items) (length x.arguments.items) x.process.span ++ z) (link_arguments t before i 0 p.parameters.items x.arguments.items)
+
+pub link_instances : (t : Program) (before : List Handover) (i : ℕ) (xs : List Instance) → seats_faults (table t) (taken Out before) (taken In before) i xs ≡ instance_faults t before i xs
+link_instances t before i [] = refl
+link_instances t before i (x ∷ xs) =
+    let one = handed_by t i x in
+    let w = sym (taken_append Out before one) in
+    let r = sym (taken_append In before one) in
+    (λ j. too_many 256 i x.process.span ++ (link_made t before i (global t x.process) x j ++ seats_faults (table t) (w j) (r j) (suc i) xs))
+    ∙ ap (λ z. too_many 256 i x.process.span ++ (made_faults t before i (global t x.process) x ++ z)) (link_instances t (before ++ one) (suc i) xs)
+
+link_handed : (t : Program) (i : ℕ) (xs : List Instance) → handed_all (table t) i xs ≡ handed_from t i xs
+link_handed t i [] = refl
+link_handed t i (x ∷ xs) = ap (λ z. handed_by t i x ++ z) (link_handed t (suc i) xs)
+
+abbrev all_handed : Program → List Handover
+all_handed t = handed_from t 0 t.instances.items
+
+link_side : (t : Program) (n : Name) (role : Role) → side_in (taken Out (all_handed t)) (taken In (all_handed t)) n role ≡ side_faults t n role
+link_side t n role =
+    let w = headed Out (bytes_of n) (all_handed t) in
+    let r = headed In (bytes_of n) (all_handed t) in
+    let no_writer = ap (λ z. missing z (NoWriter n.span)) w ∙ missing_first (writers t (bytes_of n)) (NoWriter n.span) in
+    let no_reader = ap (λ z. missing z (NoReader n.span)) r ∙ missing_first (readers t (bytes_of n)) (NoReader n.span) in
+    by role no_writer no_reader
+  where
+    by : (o : Role) → missing (held (lookup (bytes_eq (bytes_of n)) (taken Out (all_handed t)))) (NoWriter n.span) ≡ missing (writers t (bytes_of n)) (NoWriter n.span) →
+        missing (held (lookup (bytes_eq (bytes_of n)) (taken In (all_handed t)))) (NoReader n.span) ≡ missing (readers t (bytes_of n)) (NoReader n.span) →
+        side_in (taken Out (all_handed t)) (taken In (all_handed t)) n o ≡ side_faults t n o
+    by Inner a b = λ j. a j ++ b j
+    by Input a b = b
+    by Output a b = a
+
+link_sides : (t : Program) (cs : List (Name × (Kind × Role))) → sides_in (taken Out (all_handed t)) (taken In (all_handed t)) cs ≡ sides_faults t cs
+link_sides t [] = refl
+link_sides t (c ∷ cs) = λ j. link_side t c.0 c.1.1 j ++ link_sides t cs j
+
+-- ---- what `check` puts together
+
+pub met_declarations : (t : Program) (f : CheckFault) → IsMet (declaration_faults [] 0 t.declarations.items) f → IsMet (faults t) f
+met_declarations t f h = met_first (declaration_faults [] 0 t.declarations.items) _ f h
+
+pub met_instances : (t : Program) (f : CheckFault) → declaration_faults [] 0 t.declarations.items ≡ [] → IsMet (seats_faults (table t) [] [] 0 t.instances.items) f → IsMet (faults t) f
+met_instances t f none h =
+    met_after (declaration_faults [] 0 t.declarations.items) _ f none
+    (met_first (instance_faults t [] 0 t.instances.items) _ f (subst (λ z. IsMet z f) (link_instances t [] 0 t.instances.items) h))
+
+pub handed_same : (t : Program) (d : Direction) → taken d (handed_all (table t) 0 t.instances.items) ≡ taken d (handed_from t 0 t.instances.items)
+handed_same t d = ap (taken d) (link_handed t 0 t.instances.items)
+
+pub met_sides : (t : Program) (g : Table) (w r : Ends) (f : CheckFault) → g ≡ table t → declaration_faults [] 0 t.declarations.items ≡ [] → seats_faults g [] [] 0 t.instances.items ≡ [] →
+    w ≡ taken Out (handed_all g 0 t.instances.items) → r ≡ taken In (handed_all g 0 t.instances.items) → IsMet (sides_in w r (declared_channels t.declarations.items)) f → IsMet (faults t) f
+met_sides t g w r f is none seats hw hr h =
+    let wt = hw ∙ ap (λ z. taken Out (handed_all z 0 t.instances.items)) is ∙ handed_same t Out in
+    let rt = hr ∙ ap (λ z. taken In (handed_all z 0 t.instances.items)) is ∙ handed_same t In in
+    let same = (λ j. sides_in (wt j) (rt j) (declared_channels t.declarations.items)) ∙ link_sides t (declared_channels t.declarations.items) in
+    met_after (declaration_faults [] 0 t.declarations.items) _ f none
+    (met_after (instance_faults t [] 0 t.instances.items) _ f (sym (link_instances t [] 0 t.instances.items) ∙ subst (λ z. seats_faults z [] [] 0 t.instances.items ≡ []) is seats) (subst (λ z. IsMet z f) same h))
+
+pub whole : (t : Program) (g : Table) (w r : Ends) → g ≡ table t → declaration_faults [] 0 t.declarations.items ≡ [] → seats_faults g [] [] 0 t.instances.items ≡ [] →
+    w ≡ taken Out (handed_all g 0 t.instances.items) → r ≡ taken In (handed_all g 0 t.instances.items) → sides_in w r (declared_channels t.declarations.items) ≡ [] → IsWellWired t
+whole t g w r is none seats hw hr h =
+    let wt = hw ∙ ap (λ z. taken Out (handed_all z 0 t.instances.items)) is ∙ handed_same t Out in
+    let rt = hr ∙ ap (λ z. taken In (handed_all z 0 t.instances.items)) is ∙ handed_same t In in
+    let same = (λ j. sides_in (wt j) (rt j) (declared_channels t.declarations.items)) ∙ link_sides t (declared_channels t.declarations.items) in
+    well_wired t (both (declaration_faults [] 0 t.declarations.items) _ none
+    (both (instance_faults t [] 0 t.instances.items) _ (sym (link_instances t [] 0 t.instances.items) ∙ subst (λ z. seats_faults z [] [] 0 t.instances.items ≡ []) is seats) (sym same ∙ h)))

@@ -1,0 +1,129 @@
+-- Arguments and instances in turn, by tables.
+use Rattle.std.proofs.Common.{◌≡◌, ℕ, suc, ◌+◌, ◌≤◌, ◌<◌, Bool, true, false, cond, ◌⊎◌, inl, inr, List, [], ◌∷◌, ◌++◌, map, length, Option, None, Some, Result, Ok, Err, refl, ap, sym, ◌∙◌, subst, bytes_eq, append_assoc, arith, nat_lt, nat_eq}
+use Rattle.std.specs.Map.{lookup}
+use Rattle.kahn_syntax.specs.declared.tree.Name.{Name}
+use Rattle.kahn_syntax.specs.declared.tree.Kind.{Kind}
+use Rattle.kahn_syntax.specs.declared.tree.Role.{Role}
+use Rattle.kahn_syntax.specs.declared.tree.Direction.{Direction}
+use Rattle.kahn_syntax.specs.declared.tree.Direction.TheVariants.{In, Out}
+use Rattle.kahn_syntax.specs.declared.tree.Process.{Process}
+use Rattle.kahn_syntax.specs.declared.tree.Parameter.{Parameter}
+use Rattle.kahn_syntax.specs.declared.tree.Argument.{Argument}
+use Rattle.kahn_syntax.specs.declared.tree.Instance.{Instance}
+use Rattle.kahn_syntax.specs.View.{bytes_of}
+use Rattle.kahn_check.specs.declared.fault.CheckFault.{CheckFault}
+use Rattle.kahn_check.specs.declared.fault.CheckFault.TheVariants.{TooMany, Unknown, WrongCount}
+use Rattle.kahn_check.specs.Faults.{verdict, IsMet}
+use Rattle.kahn_check.specs.Wiring.{Global, IsChannel, IsProcess, Handover, handed, handed_in, parameters_of, same_direction, side_at}
+use Rattle.kahn_check.specs.declared.sides.Side.{Side}
+use Rattle.kahn_check.specs.Order.{too_many, miscounted}
+use Rattle.kahn_check.specs.Tables.{Ends, taken, place_faults, places_faults, made_in, meant, handed_to, handed_all, seats_faults}
+use Rattle.kahn_check.proofs.Wired.{Table}
+use Rattle.kahn_check.proofs.Declared.{met_first, met_after}
+
+pub taken_append : (d : Direction) (xs ys : List Handover) → taken d (xs ++ ys) ≡ taken d xs ++ taken d ys
+taken_append d [] ys = refl
+taken_append d (x ∷ xs) ys = by (same_direction d x.direction) (taken_append d xs ys)
+  where
+    by : (b : Bool) → taken d (xs ++ ys) ≡ taken d xs ++ taken d ys →
+        cond b ((x.channel, x.end) ∷ taken d (xs ++ ys)) (taken d (xs ++ ys)) ≡ cond b ((x.channel, x.end) ∷ taken d xs) (taken d xs) ++ taken d ys
+    by true h = ap (λ r. (x.channel, x.end) ∷ r) h
+    by false h = h
+
+pub taken_more : (d : Direction) (s : Ends) (i q : ℕ) (p : Parameter) (ps : List Parameter) (x : Argument) (xs : List Argument) →
+    (s ++ taken d (handed (side_at i q) p.taking x)) ++ taken d (handed_in i (q + 1) ps xs) ≡ s ++ taken d (handed_in i q (p ∷ ps) (x ∷ xs))
+taken_more d s i q p ps x xs =
+    let step : q + 1 ≡ suc q = omega arith in
+    append_assoc s (taken d (handed (side_at i q) p.taking x)) (taken d (handed_in i (q + 1) ps xs))
+    ∙ ap (λ m. s ++ (taken d (handed (side_at i q) p.taking x) ++ taken d (handed_in i m ps xs))) step
+    ∙ ap (λ z. s ++ z) (sym (taken_append d (handed (side_at i q) p.taking x) (handed_in i (suc q) ps xs)))
+
+pub places_step : (g : Table) (w r : Ends) (i q : ℕ) (p : Parameter) (ps : List Parameter) (x : Argument) (xs : List Argument) → place_faults g w r p.taking x ≡ [] →
+    places_faults g w r i q (p ∷ ps) (x ∷ xs) ≡ places_faults g (w ++ taken Out (handed (side_at i q) p.taking x)) (r ++ taken In (handed (side_at i q) p.taking x)) i (q + 1) ps xs
+places_step g w r i q p ps x xs h =
+    let step : suc q ≡ q + 1 = omega arith in
+    ap (λ z. z ++ places_faults g (w ++ taken Out (handed (side_at i q) p.taking x)) (r ++ taken In (handed (side_at i q) p.taking x)) i (suc q) ps xs) h
+    ∙ ap (λ m. places_faults g (w ++ taken Out (handed (side_at i q) p.taking x)) (r ++ taken In (handed (side_at i q) p.taking x)) i m ps xs) step
+
+pub places_met : (g : Table) (w r : Ends) (i q : ℕ) (p : Parameter) (ps : List Parameter) (x : Argument) (xs : List Argument) (f : CheckFault) → IsMet (place_faults g w r p.taking x) f →
+    IsMet (places_faults g w r i q (p ∷ ps) (x ∷ xs)) f
+places_met g w r i q p ps x xs f h = met_first (place_faults g w r p.taking x) _ f h
+
+-- ---- instances
+
+under : (n : ℕ) → n < 256 → nat_lt n 256 ≡ true
+under n h = by (nat_lt n 256) refl
+  where
+    by : (b : Bool) → nat_lt n 256 ≡ b → b ≡ true
+    by true e = refl
+    by false e = absurd (grind (arith, e, h))
+
+over : (n : ℕ) → 256 ≤ n → nat_lt n 256 ≡ false
+over n h = by (nat_lt n 256) refl
+  where
+    by : (b : Bool) → nat_lt n 256 ≡ b → b ≡ false
+    by true e = absurd (grind (arith, e, h))
+    by false e = refl
+
+alike : (n m : ℕ) → n ≡ m → nat_eq n m ≡ true
+alike n m h = by (nat_eq n m) refl
+  where
+    by : (b : Bool) → nat_eq n m ≡ b → b ≡ true
+    by true e = refl
+    by false e = absurd (grind (arith, e, h))
+
+unlike : (n m : ℕ) → (n ≡ m → ⊥) → nat_eq n m ≡ false
+unlike n m h = by (nat_eq n m) refl
+  where
+    by : (b : Bool) → nat_eq n m ≡ b → b ≡ false
+    by true e = absurd (h (grind (arith, e)))
+    by false e = refl
+
+seat_opened : (g : Table) (w r : Ends) (i : ℕ) (x : Instance) (xs : List Instance) → i < 256 → (o : Option Global) → meant g x ≡ o →
+    seats_faults g w r i (x ∷ xs) ≡ made_in g w r i o x ++ seats_faults g (w ++ taken Out (handed_in i 0 (parameters_of o) x.arguments.items)) (r ++ taken In (handed_in i 0 (parameters_of o) x.arguments.items)) (suc i) xs
+seat_opened g w r i x xs lt o h =
+    ap (λ b. cond b [] (TooMany x.process.span ∷ []) ++ (made_in g w r i (meant g x) x ++ seats_faults g (w ++ taken Out (handed_to g i x)) (r ++ taken In (handed_to g i x)) (suc i) xs)) (under i lt)
+    ∙ ap (λ z. made_in g w r i z x ++ seats_faults g (w ++ taken Out (handed_in i 0 (parameters_of z) x.arguments.items)) (r ++ taken In (handed_in i 0 (parameters_of z) x.arguments.items)) (suc i) xs) h
+
+pub seats_limit : (g : Table) (w r : Ends) (i : ℕ) (x : Instance) (xs : List Instance) → 256 ≤ i → IsMet (seats_faults g w r i (x ∷ xs)) (TooMany x.process.span)
+seats_limit g w r i x xs h =
+    inr (ap (λ b. verdict (cond b [] (TooMany x.process.span ∷ []) ++ (made_in g w r i (meant g x) x ++ seats_faults g (w ++ taken Out (handed_to g i x)) (r ++ taken In (handed_to g i x)) (suc i) xs)) (tt {0})) (over i h))
+
+pub seats_unknown : (g : Table) (w r : Ends) (i : ℕ) (x : Instance) (xs : List Instance) → i < 256 → meant g x ≡ None → IsMet (seats_faults g w r i (x ∷ xs)) (Unknown x.process.span)
+seats_unknown g w r i x xs lt h = inr (ap (λ z. verdict z (tt {0})) (seat_opened g w r i x xs lt None h))
+
+pub seats_channel : (g : Table) (w r : Ends) (i : ℕ) (x : Instance) (xs : List Instance) (kind : Kind) (role : Role) → i < 256 → meant g x ≡ Some (IsChannel kind role) → IsMet (seats_faults g w r i (x ∷ xs)) (Unknown x.process.span)
+seats_channel g w r i x xs kind role lt h = inr (ap (λ z. verdict z (tt {0})) (seat_opened g w r i x xs lt (Some (IsChannel kind role)) h))
+
+pub seats_count : (g : Table) (w r : Ends) (i : ℕ) (x : Instance) (xs : List Instance) (p : Process) → i < 256 → meant g x ≡ Some (IsProcess p) →
+    (length p.parameters.items ≡ length x.arguments.items → ⊥) → IsMet (seats_faults g w r i (x ∷ xs)) (WrongCount x.process.span)
+seats_count g w r i x xs p lt h ne =
+    inr (ap (λ z. verdict z (tt {0})) (seat_opened g w r i x xs lt (Some (IsProcess p)) h)
+    ∙ ap (λ b. verdict ((cond b [] (WrongCount x.process.span ∷ []) ++ places_faults g w r i 0 p.parameters.items x.arguments.items) ++ seats_faults g (w ++ taken Out (handed_in i 0 p.parameters.items x.arguments.items)) (r ++ taken In (handed_in i 0 p.parameters.items x.arguments.items)) (suc i) xs) (tt {0})) (unlike _ _ ne))
+
+pub seats_met : (g : Table) (w r : Ends) (i : ℕ) (x : Instance) (xs : List Instance) (p : Process) (f : CheckFault) → i < 256 → meant g x ≡ Some (IsProcess p) →
+    length p.parameters.items ≡ length x.arguments.items → IsMet (places_faults g w r i 0 p.parameters.items x.arguments.items) f → IsMet (seats_faults g w r i (x ∷ xs)) f
+seats_met g w r i x xs p f lt h e m =
+    subst (λ z. IsMet z f) (sym (seat_opened g w r i x xs lt (Some (IsProcess p)) h))
+    (met_first (made_in g w r i (Some (IsProcess p)) x) _ f
+    (met_after (miscounted (length p.parameters.items) (length x.arguments.items) x.process.span) _ f (ap (λ b. cond b [] (WrongCount x.process.span ∷ [])) (alike _ _ e)) m))
+
+pub seats_step : (g : Table) (w r : Ends) (i : ℕ) (x : Instance) (xs : List Instance) (p : Process) → i < 256 → meant g x ≡ Some (IsProcess p) →
+    length p.parameters.items ≡ length x.arguments.items → places_faults g w r i 0 p.parameters.items x.arguments.items ≡ [] →
+    seats_faults g w r i (x ∷ xs) ≡ seats_faults g (w ++ taken Out (handed_in i 0 p.parameters.items x.arguments.items)) (r ++ taken In (handed_in i 0 p.parameters.items x.arguments.items)) (i + 1) xs
+seats_step g w r i x xs p lt h e none =
+    let step : suc i ≡ i + 1 = omega arith in
+    let rest = λ (m : ℕ). seats_faults g (w ++ taken Out (handed_in i 0 p.parameters.items x.arguments.items)) (r ++ taken In (handed_in i 0 p.parameters.items x.arguments.items)) m xs in
+    seat_opened g w r i x xs lt (Some (IsProcess p)) h
+    ∙ ap (λ b. (cond b [] (WrongCount x.process.span ∷ []) ++ places_faults g w r i 0 p.parameters.items x.arguments.items) ++ rest (suc i)) (alike _ _ e)
+    ∙ ap (λ z. z ++ rest (suc i)) none
+    ∙ ap rest step
+
+pub seats_more : (d : Direction) (g : Table) (s : Ends) (i : ℕ) (x : Instance) (xs : List Instance) (p : Process) → meant g x ≡ Some (IsProcess p) →
+    (s ++ taken d (handed_in i 0 p.parameters.items x.arguments.items)) ++ taken d (handed_all g (i + 1) xs) ≡ s ++ taken d (handed_all g i (x ∷ xs))
+seats_more d g s i x xs p h =
+    let step : i + 1 ≡ suc i = omega arith in
+    append_assoc s (taken d (handed_in i 0 p.parameters.items x.arguments.items)) (taken d (handed_all g (i + 1) xs))
+    ∙ ap (λ m. s ++ (taken d (handed_in i 0 p.parameters.items x.arguments.items) ++ taken d (handed_all g m xs))) step
+    ∙ ap (λ z. s ++ z) (sym (taken_append d (handed_in i 0 p.parameters.items x.arguments.items) (handed_all g (suc i) xs)))
+    ∙ ap (λ o. s ++ taken d (handed_in i 0 (parameters_of o) x.arguments.items ++ handed_all g (suc i) xs)) (sym h)

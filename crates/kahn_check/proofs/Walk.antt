@@ -1,0 +1,105 @@
+-- How the first fault of a list goes by its parts, and rows as lists.
+use Rattle.std.proofs.Common.{◌≡◌, ℕ, Bool, true, false, cond, List, [], ◌∷◌, ◌++◌, map, Option, None, Some, Result, Ok, Err, refl, ap, sym, ◌∙◌, string_bytes, bytes_eq, append_assoc}
+use Rattle.std.specs.Map.{lookup}
+use Rattle.std.specs.String.{string_eq}
+use Rattle.indexmap.specs.IndexMap.{insert_entry}
+use Rattle.std.specs.declared.string.String.{String}
+use Rattle.kahn_syntax.specs.declared.span.Span.{Span}
+use Rattle.kahn_syntax.specs.declared.tree.Kind.{Kind}
+use Rattle.kahn_syntax.specs.declared.tree.Taking.{Taking}
+use Rattle.kahn_syntax.specs.declared.tree.Form.{Row_of-Operand, end_of-Operand, more_of-Operand}
+use Rattle.kahn_syntax.specs.declared.tree.Form.TheBlock.{items-the_row-Operand}
+use Rattle.kahn_syntax.specs.declared.tree.Operand.{Operand}
+use Rattle.kahn_syntax.specs.declared.tree.Action.{Row_of-Statement, end_of-Statement, more_of-Statement}
+use Rattle.kahn_syntax.specs.declared.tree.Action.TheBlock.{items-the_row-Statement}
+use Rattle.kahn_check.specs.Kinds.{takes, gives}
+use Rattle.kahn_check.specs.declared.fault.CheckFault.{CheckFault}
+use Rattle.kahn_check.specs.Faults.{Scope, find, verdict, wrong_first, wrong_second, spanning, faults_in, kind_of, level_faults, level_kind, row_faults, body_faults, faults_of}
+
+pub find_named : {A X : Type 0} (x : List ℕ) (es : List (String A × X)) →
+    lookup (λ k. bytes_eq x (string_bytes k)) es ≡ lookup (bytes_eq x) (map (λ e. (string_bytes e.0, e.1)) es)
+find_named x [] = refl
+find_named x (e ∷ es) = ap (cond (bytes_eq x (string_bytes e.0)) (Some e.1)) (find_named x es)
+
+-- a part without faults is passed over
+pub verdict_ok : {A B : Type 0} (xs ys : List CheckFault) (a b : A) (c : B) → verdict xs a ≡ Ok b → verdict (xs ++ ys) c ≡ verdict ys c
+verdict_ok [] ys a b c h = refl
+verdict_ok (x ∷ xs) ys a b c h = cc
+
+-- the first fault of a part is the first fault
+pub verdict_err : {A B : Type 0} (xs ys : List CheckFault) (a : A) (c : B) (f : CheckFault) → verdict xs a ≡ Err f → verdict (xs ++ ys) c ≡ Err f
+verdict_err [] ys a c f h = cc
+verdict_err (x ∷ xs) ys a c f h = cc
+
+pub verdict_value : {A : Type 0} (xs : List CheckFault) (a b : A) → verdict xs a ≡ Ok b → a ≡ b
+verdict_value [] a b h = cc
+verdict_value (x ∷ xs) a b h = cc
+
+pub verdict_none : {A B : Type 0} (xs : List CheckFault) (a b : A) (c : B) → verdict xs a ≡ Ok b → verdict xs c ≡ Ok c
+verdict_none [] a b c h = refl
+verdict_none (x ∷ xs) a b c h = cc
+
+pub verdict_same : {A B : Type 0} (xs : List CheckFault) (a : A) (c : B) (f : CheckFault) → verdict xs a ≡ Err f → verdict xs c ≡ Err f
+verdict_same [] a c f h = cc
+verdict_same (x ∷ xs) a c f h = cc
+
+-- ---- the operands of a level, as a list
+
+abbrev pub list_faults : Scope → Kind → Span → List Operand → List CheckFault
+list_faults s k done [] = []
+list_faults s k done (o ∷ rest) =
+    wrong_first (takes o.operator) k done ++ (faults_in s o.expression.form ++ (wrong_second (takes o.operator) k (kind_of s o.expression.form) o.expression.span ++ list_faults s (gives o.operator) (spanning done o.expression.span) rest))
+
+abbrev pub list_kind : Kind → List Operand → Kind
+list_kind k [] = k
+list_kind k (o ∷ rest) = list_kind (gives o.operator) rest
+
+pub level_listed : {m : _} (s : Scope) (k : Kind) (done : Span) (row : Row_of-Operand m) →
+    level_faults s k done row ≡ list_faults s k done (items-the_row-Operand m row)
+level_listed s k done end_of-Operand = refl
+level_listed s k done (more_of-Operand o at e rest) =
+    ap (λ r. wrong_first (takes o) k done ++ (faults_in s e ++ (wrong_second (takes o) k (kind_of s e) at ++ r))) (level_listed s (gives o) (spanning done at) rest)
+
+pub level_kinds : {m : _} (k : Kind) (row : Row_of-Operand m) → level_kind k row ≡ list_kind k (items-the_row-Operand m row)
+level_kinds k end_of-Operand = refl
+level_kinds k (more_of-Operand o at e rest) = level_kinds (gives o) rest
+
+pub row_listed : {m : _} (s : Scope) (row : Row_of-Statement m) → row_faults s row ≡ body_faults s (items-the_row-Statement m row)
+row_listed s end_of-Statement = refl
+row_listed s (more_of-Statement at a rest) = ap (λ r. faults_of s a ++ r) (row_listed s rest)
+
+-- a level, once its first operand has been looked at
+pub level_start : {m : _} (s : Scope) (fs : List CheckFault) (k0 k : Kind) (at : Span) (row : Row_of-Operand m) → Ok k ≡ verdict fs k0 →
+    verdict (list_faults s k at (items-the_row-Operand m row)) (list_kind k (items-the_row-Operand m row)) ≡ verdict (fs ++ level_faults s k0 at row) (level_kind k0 row)
+level_start {m} s fs k0 k at row h =
+    let e : k ≡ k0 = sym (verdict_value fs k0 k (sym h)) in
+    rw e
+    (sym (verdict_ok fs (level_faults s k0 at row) k0 k (level_kind k0 row) (sym h) ∙ (λ i. verdict (level_listed s k0 at row i) (level_kinds k0 row i))))
+
+pub list_start : (s : Scope) (fs : List CheckFault) (k0 k : Kind) (at : Span) (xs : List Operand) → Ok k ≡ verdict fs k0 →
+    verdict (list_faults s k at xs) (list_kind k xs) ≡ verdict (fs ++ list_faults s k0 at xs) (list_kind k0 xs)
+list_start s fs k0 k at xs h =
+    let e : k ≡ k0 = sym (verdict_value fs k0 k (sym h)) in
+    rw e (sym (verdict_ok fs (list_faults s k0 at xs) k0 k (list_kind k0 xs) (sym h)))
+
+-- ---- a name that is declared
+
+abbrev pub named : {A X : Type 0} → List (String A × X) → List (List ℕ × X)
+named es = map (λ e. (string_bytes e.0, e.1)) es
+
+pub insert_named : {A X : Type 0} (es : List (String A × X)) (k : String A) (w : X) → lookup (bytes_eq (string_bytes k)) (named es) ≡ None →
+    named (insert_entry string_eq es k w) ≡ named es ++ (string_bytes k, w) ∷ []
+insert_named [] k w h = refl
+insert_named (e ∷ es) k w h = by (bytes_eq (string_bytes k) (string_bytes e.0)) h (insert_named es k w)
+  where
+    by : (b : Bool) → cond b (Some e.1) (lookup (bytes_eq (string_bytes k)) (named es)) ≡ None →
+        (lookup (bytes_eq (string_bytes k)) (named es) ≡ None → named (insert_entry string_eq es k w) ≡ named es ++ (string_bytes k, w) ∷ []) →
+        named (cond b ((e.0, w) ∷ es) (e ∷ insert_entry string_eq es k w)) ≡ named (e ∷ es) ++ (string_bytes k, w) ∷ []
+    by true i go = cc
+    by false i go = ap (λ r. (string_bytes e.0, e.1) ∷ r) (go i)
+
+pub declared_name : {A X : Type 0} (es : List (String A × X)) (k : String A) (w : X) (x : List ℕ) (now : List (List ℕ × X)) →
+    string_bytes k ≡ x → named es ≡ now → lookup (bytes_eq x) now ≡ None → named (insert_entry string_eq es k w) ≡ now ++ (x, w) ∷ []
+declared_name es k w x now h i n =
+    let m : lookup (bytes_eq (string_bytes k)) (named es) ≡ None = rw (h, i) n in
+    rw (← i, ← h) (insert_named es k w m)

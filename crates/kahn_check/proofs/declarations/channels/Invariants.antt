@@ -1,0 +1,16 @@
+use Rattle.std.proofs.Common.{◌≡◌, ◌≤◌, ◌+◌, ◌++◌, [], map, drop}
+use Rattle.kahn_check.specs.Globals.{known}
+use Rattle.kahn_check.specs.Wiring.{entries, IsChannel}
+use Rattle.kahn_check.specs.Order.{channel_faults}
+use Rattle.kahn_check.proofs.Wired.{as_channels}
+use Rattle.kahn_check.proofs.declarations.channels.Given as goal
+
+abbrev pub invariant-loop-name : goal.invariant-loop-name
+invariant-loop-name l =
+    let rest = drop l.name-index l.names in
+    record {
+      number : l.declared ≡ l.count + l.name-index;
+      limit : l.declared ≤ 1024;
+      same : channel_faults (known l.globals) l.declared l.kind l.role rest ≡ channel_faults (known l.fn.globals) l.count l.kind l.role l.names;
+      all : known l.globals ++ entries (as_channels l.kind l.role rest) ≡ known l.fn.globals ++ entries (as_channels l.kind l.role l.names);
+    }

@@ -1,0 +1,6 @@
+use Rattle.kahn_check.proofs.Wired.{well_wired}
+use Rattle.kahn_check.proofs.Unwired.{faultless}
+use Rattle.kahn_check.proofs.laws.exact.Goals as goal
+
+pub returns : goal.returns
+returns c = record { sound = well_wired; complete = faultless }

@@ -1,0 +1,21 @@
+use Rattle.std.proofs.Common.{rules, arith, ◌≡◌, Ok, sym, ◌∙◌, ◌++◌}
+use Rattle.kahn_check.proofs.Walk.{row_listed, verdict_ok, verdict_err}
+use Rattle.kahn_check.specs.Faults.{verdict, find, faults_in, kind_of, misused, wrong, kind_in}
+use Rattle.kahn_syntax.specs.View.{bytes_of}
+use Rattle.kahn_syntax.specs.declared.tree.Direction.TheVariants.{Out}
+use Rattle.kahn_syntax.specs.declared.tree.Action.TheViews.{the_lemmas}
+use Rattle.kahn_check.proofs.statement.+statement.Goals as goal
+
+pub loop-inner-init : goal.loop-inner-init
+loop-inner-init t c = search (rules, the_lemmas, row_listed)
+
+pub returns-in_err-wanted-in-Send : goal.returns-in_err-wanted-in-Send
+returns-in_err-wanted-in-Send t c =
+    let s = c.args.scope.now in
+    let e = c.in-Send.expression in
+    let n = c.in-Send.name in
+    let mis = misused Out (find s (bytes_of n)) n.span in
+    let was : verdict (faults_in s e.form) (kind_of s e.form) ≡ Ok c.in_ok-found-in-Send.found = search rules in
+    let h = verdict_ok (faults_in s e.form) (mis ++ wrong (kind_in (find s (bytes_of n))) (kind_of s e.form) e.span) _ _ (tt {0}) was in
+    let i = verdict_err mis (wrong (kind_in (find s (bytes_of n))) (kind_of s e.form) e.span) (kind_in (find s (bytes_of n))) (tt {0}) in
+    grind (arith, h, i)

@@ -1,0 +1,147 @@
+-- What is wrong with a program, in the order in which it is looked for. Only the first is answered: what is
+-- listed after it is of no import.
+use Rattle.std.specs.Prelude.{◌≡◌, ◌⊎◌, ℕ, Bool, true, false, List, [], ◌∷◌, ◌++◌, map, Option, None, Some, Result, Ok, Err, string_bytes, if◌then◌else◌}
+use Rattle.std.proofs.Common.{bytes_eq}
+use Rattle.std.specs.Map.{lookup}
+use Rattle.kahn_syntax.specs.declared.span.Span.{Span}
+use Rattle.kahn_syntax.specs.declared.tree.Name.{Name}
+use Rattle.kahn_syntax.specs.declared.tree.Kind.{Kind}
+use Rattle.kahn_syntax.specs.declared.tree.Kind.TheVariants.{Integer, Logical}
+use Rattle.kahn_syntax.specs.declared.tree.Operator.{Operator}
+use Rattle.kahn_syntax.specs.declared.tree.Direction.{Direction}
+use Rattle.kahn_syntax.specs.declared.tree.Direction.TheVariants.{In, Out}
+use Rattle.kahn_syntax.specs.declared.tree.Taking.{Taking}
+use Rattle.kahn_syntax.specs.declared.tree.Taking.TheVariants.{Channel, Value}
+use Rattle.kahn_syntax.specs.declared.tree.Form as F
+use Rattle.kahn_syntax.specs.declared.tree.Form.{Form, Number, Variable, Wait, Negate', Not', Bracket', Level', Conditional', Row_of-Operand, end_of-Operand, more_of-Operand}
+use Rattle.kahn_syntax.specs.declared.tree.Expression.{Expression}
+use Rattle.kahn_syntax.specs.declared.tree.Action.{Action, Empty, Assign, Send, Print, Block', If', While', Repeat', Row_of-Statement, end_of-Statement, more_of-Statement, Held-Action-If-2, None', Some'}
+use Rattle.kahn_syntax.specs.declared.tree.Statement.{Statement}
+use Rattle.kahn_syntax.specs.View.{bytes_of}
+use Rattle.kahn_check.specs.Kinds.{takes, gives}
+use Rattle.kahn_check.specs.declared.fault.CheckFault.{CheckFault}
+use Rattle.kahn_check.specs.declared.fault.CheckFault.TheVariants.{Unknown, WrongKind, ChannelExpected, ValueExpected, WrongDirection, NoMemory}
+
+-- what the names of a process stand for, in order of declaration
+abbrev pub Scope : Type 0
+Scope = List (List ℕ × Taking)
+
+abbrev pub find : Scope → List ℕ → Option Taking
+find s x = lookup (bytes_eq x) s
+
+-- the first fault, or what a part without faults gives
+abbrev pub verdict : {A : Type 0} → List CheckFault → A → Result A CheckFault
+verdict [] a = Ok a
+verdict (f ∷ fs) a = Err f
+
+-- want of memory, which may come at any growth, or the first fault of the list
+abbrev pub IsMet : List CheckFault → CheckFault → Type 0
+IsMet fs f = (f ≡ NoMemory) ⊎ (verdict fs (tt {0}) ≡ Err f)
+
+abbrev pub same_kind : Kind → Kind → Bool
+same_kind Integer Integer = true
+same_kind Integer Logical = false
+same_kind Logical Integer = false
+same_kind Logical Logical = true
+
+-- where kind `wanted` stands, kind `found` is wrong unless it is the same
+abbrev pub wrong : Kind → Kind → Span → List CheckFault
+wrong wanted found at = if same_kind wanted found then [] else WrongKind at ∷ []
+
+-- a name that is read or assigned as a variable
+abbrev pub misread : Option Taking → Span → List CheckFault
+misread None at = Unknown at ∷ []
+misread (Some (Channel d k)) at = ValueExpected at ∷ []
+misread (Some (Value k)) at = []
+
+-- a name that is used as a channel in the direction `wanted`
+abbrev pub misused : Direction → Option Taking → Span → List CheckFault
+misused wanted None at = Unknown at ∷ []
+misused wanted (Some (Value k)) at = ChannelExpected at ∷ []
+misused In (Some (Channel In k)) at = []
+misused In (Some (Channel Out k)) at = WrongDirection at ∷ []
+misused Out (Some (Channel In k)) at = WrongDirection at ∷ []
+misused Out (Some (Channel Out k)) at = []
+
+-- the kind of a value, or of the values of a channel
+abbrev pub kind_in : Option Taking → Kind
+kind_in None = Integer
+kind_in (Some (Channel d k)) = k
+kind_in (Some (Value k)) = k
+
+-- the kind of a level after its first operand
+abbrev pub level_kind : {m : _} → Kind → Row_of-Operand m → Kind
+level_kind k end_of-Operand = k
+level_kind k (more_of-Operand o at e rest) = level_kind (gives o) rest
+
+-- the kind of an expression that has no fault inside
+abbrev pub kind_of : Scope → Form → Kind
+kind_of s (Number z) = Integer
+kind_of s (F.Logical b) = Logical
+kind_of s (Variable x) = kind_in (find s (bytes_of x))
+kind_of s (Wait q) = kind_in (find s (bytes_of q))
+kind_of s (Negate' p at e) = Integer
+kind_of s (Not' p at e) = Logical
+kind_of s (Bracket' p at e) = kind_of s e
+kind_of s (Level' p at e shape rest) = level_kind (kind_of s e) rest
+kind_of s (Conditional' p at t q at' a r at'' b) = kind_of s a
+
+-- the first operand's kind, by the operator after it
+abbrev pub wrong_first : Option Kind → Kind → Span → List CheckFault
+wrong_first None found at = []
+wrong_first (Some wanted) found at = wrong wanted found at
+
+-- the second operand's kind, by the operator before it and the first operand's kind
+abbrev pub wrong_second : Option Kind → Kind → Kind → Span → List CheckFault
+wrong_second None first found at = wrong first found at
+wrong_second (Some wanted) first found at = wrong wanted found at
+
+abbrev pub spanning : Span → Span → Span
+spanning a b = record { from = a.from; to = b.to }
+
+abbrev mutual
+  -- what is wrong inside an expression, from left to right, and the kind of an operand after its inside
+  pub faults_in : Scope → Form → List CheckFault
+  faults_in s (Number z) = []
+  faults_in s (F.Logical b) = []
+  faults_in s (Variable x) = misread (find s (bytes_of x)) x.span
+  faults_in s (Wait q) = misused In (find s (bytes_of q)) q.span
+  faults_in s (Negate' p at e) = faults_in s e ++ wrong Integer (kind_of s e) at
+  faults_in s (Not' p at e) = faults_in s e ++ wrong Logical (kind_of s e) at
+  faults_in s (Bracket' p at e) = faults_in s e
+  faults_in s (Level' p at e shape rest) = faults_in s e ++ level_faults s (kind_of s e) at rest
+  faults_in s (Conditional' p at t q at' a r at'' b) =
+      (faults_in s t ++ wrong Logical (kind_of s t) at) ++ (faults_in s a ++ (faults_in s b ++ wrong (kind_of s a) (kind_of s b) at''))
+
+  -- the same of the operands of a level after the first, where what stands before has kind k and span `done`
+  pub level_faults : {m : _} → Scope → Kind → Span → Row_of-Operand m → List CheckFault
+  level_faults s k done end_of-Operand = []
+  level_faults s k done (more_of-Operand o at e rest) =
+      wrong_first (takes o) k done ++ (faults_in s e ++ (wrong_second (takes o) k (kind_of s e) at ++ level_faults s (gives o) (spanning done at) rest))
+
+-- an expression where kind k is wanted: its inside, then its kind
+abbrev pub faults_as : Kind → Scope → Expression → List CheckFault
+faults_as k s e = faults_in s e.form ++ wrong k (kind_of s e.form) e.span
+
+abbrev mutual
+  pub faults_of : Scope → Action → List CheckFault
+  faults_of s Empty = []
+  faults_of s (Assign x e) = misread (find s (bytes_of x)) x.span ++ faults_as (kind_in (find s (bytes_of x))) s e
+  faults_of s (Send e q) = faults_in s e.form ++ (misused Out (find s (bytes_of q)) q.span ++ wrong (kind_in (find s (bytes_of q))) (kind_of s e.form) e.span)
+  faults_of s (Print e) = faults_in s e.form
+  faults_of s (Block' shape row) = row_faults s row
+  faults_of s (If' t p at a b) = faults_as Logical s t ++ (faults_of s a ++ else_faults s b)
+  faults_of s (While' t p at a) = faults_as Logical s t ++ faults_of s a
+  faults_of s (Repeat' p at a) = faults_of s a
+
+  pub row_faults : {m : _} → Scope → Row_of-Statement m → List CheckFault
+  row_faults s end_of-Statement = []
+  row_faults s (more_of-Statement at a rest) = faults_of s a ++ row_faults s rest
+
+  pub else_faults : Scope → Held-Action-If-2 → List CheckFault
+  else_faults s None' = []
+  else_faults s (Some' p at a) = faults_of s a
+
+abbrev pub body_faults : Scope → List Statement → List CheckFault
+body_faults s [] = []
+body_faults s (t ∷ rest) = faults_of s t.action ++ body_faults s rest

@@ -1,0 +1,57 @@
+//! The declarations of a program, in text order.
+
+ghost use Rattle.std.specs.Prelude.{◌≡◌, ◌≤◌, ◌+◌, ◌++◌, [], MatchResult, map, length};
+ghost use Rattle.kahn_check.specs.Faults.{IsMet};
+ghost use Rattle.kahn_check.specs.Globals.{known};
+ghost use Rattle.kahn_check.specs.Wiring.{entries, declared_of, IsChannel};
+ghost use Rattle.kahn_check.specs.Order.{channel_faults, declaration_faults};
+
+use crate::fault::CheckFault;
+use crate::globals::{Entry, Globals};
+use crate::process::check_process;
+use kahn_syntax::tree::{Declaration, Kind, Name, Program, Role};
+use std::alloc::Global;
+
+/// The names of a channel declaration, of which `count` are declared before. Answers how many are declared then.
+#[tactic(auto, using(crate::proofs::Declared::channel_new, crate::proofs::Declared::channel_limit, crate::proofs::Declared::channel_known, crate::proofs::Declared::more_channels))]
+pub fn channels<'p>(
+    globals: &mut Globals<'p>,
+    count: usize,
+    kind: Kind,
+    role: Role,
+    names: &[Name],
+) -> Result<usize, CheckFault>
+    requires { count ≤ 1024 }
+    ensures { MatchResult result (λ n. (n ≡ count + length names.now) × (n ≤ 1024) × (known globals.new ≡ known globals.old ++ entries (map (λ x. (x, IsChannel kind role)) names.now)) × (channel_faults (known globals.old) count kind role names.now ≡ [])) (λ f. IsMet (channel_faults (known globals.old) count kind role names.now) f) }
+{
+    let mut declared = count;
+    for name in names {
+        if declared >= 1024 {
+            return Err(CheckFault::TooMany(name.span));
+        }
+        globals.declare(name, Entry::Channel(kind, role))?;
+        declared += 1;
+    }
+    Ok(declared)
+}
+
+/// What the names of the program stand for, where no declaration is wrong.
+#[tactic(auto, using(crate::proofs::Declared::channels_done, crate::proofs::Declared::channels_met, crate::proofs::Declared::process_done, crate::proofs::Declared::process_known, crate::proofs::Declared::process_met, crate::proofs::Declared::more_declared, crate::proofs::Declared::more_process))]
+pub fn declarations<'p>(alloc: Global, program: &'p Program) -> Result<Globals<'p>, CheckFault>
+    ensures { MatchResult result (λ g. (known g ≡ entries (declared_of program.now.declarations.items)) × (declaration_faults [] 0 program.now.declarations.items ≡ [])) (λ f. IsMet (declaration_faults [] 0 program.now.declarations.items) f) }
+{
+    let mut globals = Globals::new(alloc);
+    let mut count = 0;
+    for declaration in &program.declarations {
+        match declaration {
+            Declaration::Channels(kind, role, names) => {
+                count = channels(&mut globals, count, *kind, *role, names)?;
+            }
+            Declaration::Process(process) => {
+                globals.declare(&process.name, Entry::Process(process))?;
+                check_process(alloc, process)?;
+            }
+        }
+    }
+    Ok(globals)
+}

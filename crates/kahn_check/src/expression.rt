@@ -1,0 +1,171 @@
+//! The kinds of expressions.
+
+ghost use Rattle.std.specs.Prelude.{◌≡◌, Option, Some, None};
+ghost use Rattle.kahn_check.specs.Faults.{verdict, wrong, wrong_first, wrong_second, misread, misused, kind_in, find, faults_in, kind_of, faults_as};
+ghost use Rattle.kahn_check.specs.Kinds.{takes, gives};
+ghost use Rattle.kahn_syntax.specs.View.{bytes_of};
+
+use crate::fault::CheckFault;
+use crate::scope::Scope;
+use kahn_syntax::span::Span;
+use kahn_syntax::tree::{Direction, Expression, Form, Kind, Name, Operator, Taking};
+
+/// The kind that an operator takes. The operands of `=` and `<>` are of any one kind.
+pub fn operand_kind(operator: Operator) -> Option<Kind>
+    ensures { result ≡ takes operator }
+{
+    match operator {
+        Operator::Or | Operator::And => Some(Kind::Logical),
+        Operator::Equal | Operator::Unequal => None,
+        Operator::Less
+        | Operator::AtMost
+        | Operator::Greater
+        | Operator::AtLeast
+        | Operator::Add
+        | Operator::Subtract
+        | Operator::Multiply
+        | Operator::Divide
+        | Operator::Remainder => Some(Kind::Integer),
+    }
+}
+
+/// The kind that an operator gives.
+pub fn result_kind(operator: Operator) -> Kind
+    ensures { result ≡ gives operator }
+{
+    match operator {
+        Operator::Or
+        | Operator::And
+        | Operator::Equal
+        | Operator::Unequal
+        | Operator::Less
+        | Operator::AtMost
+        | Operator::Greater
+        | Operator::AtLeast => Kind::Logical,
+        Operator::Add
+        | Operator::Subtract
+        | Operator::Multiply
+        | Operator::Divide
+        | Operator::Remainder => Kind::Integer,
+    }
+}
+
+/// Whether the kind that was found is the one that is wanted.
+pub fn agree(wanted: Kind, found: Kind, span: Span) -> Result<(), CheckFault>
+    ensures { result ≡ verdict (wrong wanted found span) tt }
+{
+    match (wanted, found) {
+        (Kind::Integer, Kind::Integer) | (Kind::Logical, Kind::Logical) => Ok(()),
+        (Kind::Integer, Kind::Logical) | (Kind::Logical, Kind::Integer) => {
+            Err(CheckFault::WrongKind(span))
+        }
+    }
+}
+
+/// The kind of the variable or value parameter of that name.
+pub fn variable(scope: &Scope, name: &Name) -> Result<Kind, CheckFault>
+    ensures { result ≡ verdict (misread (find scope.now (bytes_of name.now)) name.now.span) (kind_in (find scope.now (bytes_of name.now))) }
+{
+    match scope.find(name) {
+        None => Err(CheckFault::Unknown(name.span)),
+        Some(Taking::Channel(_, _)) => Err(CheckFault::ValueExpected(name.span)),
+        Some(Taking::Value(kind)) => Ok(kind),
+    }
+}
+
+/// The kind of the channel parameter of that name and that direction.
+pub fn channel(scope: &Scope, name: &Name, wanted: Direction) -> Result<Kind, CheckFault>
+    ensures { result ≡ verdict (misused wanted (find scope.now (bytes_of name.now)) name.now.span) (kind_in (find scope.now (bytes_of name.now))) }
+{
+    match scope.find(name) {
+        None => Err(CheckFault::Unknown(name.span)),
+        Some(Taking::Value(_)) => Err(CheckFault::ChannelExpected(name.span)),
+        Some(Taking::Channel(found, kind)) => match (wanted, found) {
+            (Direction::In, Direction::In) | (Direction::Out, Direction::Out) => Ok(kind),
+            (Direction::In, Direction::Out) | (Direction::Out, Direction::In) => {
+                Err(CheckFault::WrongDirection(name.span))
+            }
+        },
+    }
+}
+
+/// The kind of what stands before an operator is one that it takes.
+pub fn agree_first(operator: Operator, found: Kind, span: Span) -> Result<(), CheckFault>
+    ensures { result ≡ verdict (wrong_first (takes operator) found span) tt }
+{
+    match operand_kind(operator) {
+        None => Ok(()),
+        Some(wanted) => agree(wanted, found, span),
+    }
+}
+
+/// The kind of what stands after an operator fits what stands before it.
+pub fn agree_second(
+    operator: Operator,
+    first: Kind,
+    found: Kind,
+    span: Span,
+) -> Result<(), CheckFault>
+    ensures { result ≡ verdict (wrong_second (takes operator) first found span) tt }
+{
+    match operand_kind(operator) {
+        None => agree(first, found, span),
+        Some(wanted) => agree(wanted, found, span),
+    }
+}
+
+/// The kind of an expression: what is wrong inside it comes first, from left to right.
+#[tactic(auto, using(crate::proofs::Walk::verdict_ok, crate::proofs::Walk::verdict_err, crate::proofs::Walk::verdict_none, crate::proofs::Walk::verdict_same))]
+pub fn kind(scope: &Scope, expression: &Expression) -> Result<Kind, CheckFault>
+    ensures { result ≡ verdict (faults_in scope.now expression.now.form) (kind_of scope.now expression.now.form) }
+{
+    match &expression.form {
+        Form::Number(_) => Ok(Kind::Integer),
+        Form::Logical(_) => Ok(Kind::Logical),
+        Form::Variable(name) => variable(scope, name),
+        Form::Wait(name) => channel(scope, name, Direction::In),
+        Form::Negate(inner) => {
+            let found = kind(scope, inner)?;
+            agree(Kind::Integer, found, inner.span)?;
+            Ok(Kind::Integer)
+        }
+        Form::Not(inner) => {
+            let found = kind(scope, inner)?;
+            agree(Kind::Logical, found, inner.span)?;
+            Ok(Kind::Logical)
+        }
+        Form::Bracket(inner) => kind(scope, inner),
+        Form::Level(first, rest) => {
+            let mut before = kind(scope, first)?;
+            let mut done = first.span;
+            for operand in rest {
+                agree_first(operand.operator, before, done)?;
+                let found = kind(scope, &operand.expression)?;
+                agree_second(operand.operator, before, found, operand.expression.span)?;
+                before = result_kind(operand.operator);
+                done = Span {
+                    from: done.from,
+                    to: operand.expression.span.to,
+                };
+            }
+            Ok(before)
+        }
+        Form::Conditional(test, yes, no) => {
+            let found = kind(scope, test)?;
+            agree(Kind::Logical, found, test.span)?;
+            let first = kind(scope, yes)?;
+            let second = kind(scope, no)?;
+            agree(first, second, no.span)?;
+            Ok(first)
+        }
+    }
+}
+
+/// Whether an expression has the kind that is wanted: its inside, then its kind.
+#[tactic(auto, using(crate::proofs::Walk::verdict_ok, crate::proofs::Walk::verdict_err, crate::proofs::Walk::verdict_none, crate::proofs::Walk::verdict_same))]
+pub fn expect(scope: &Scope, expression: &Expression, wanted: Kind) -> Result<(), CheckFault>
+    ensures { result ≡ verdict (faults_as wanted scope.now expression.now) tt }
+{
+    let found = kind(scope, expression)?;
+    agree(wanted, found, expression.span)
+}

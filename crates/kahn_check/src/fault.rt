@@ -1,0 +1,60 @@
+//! What can be wrong with a program.
+
+use kahn_syntax::span::Span;
+use std::alloc::AllocError;
+use thiserror::Error;
+
+/// The first thing that is wrong with a program, and where it stands.
+#[derive(Clone, Copy, Debug, PartialEq, Eq, Drop, Error)]
+pub enum CheckFault {
+    /// A name is declared where the same name space has it already. The span is the later name's.
+    #[error("name is declared twice")]
+    DeclaredTwice(Span),
+    /// A name that isn't declared, or an instance of what is no process.
+    #[error("name is not declared")]
+    Unknown(Span),
+    /// An operand, an expression or an argument of another kind than is wanted.
+    #[error("kind does not agree")]
+    WrongKind(Span),
+    /// More or fewer arguments than parameters. The span is the instance's name.
+    #[error("number of arguments does not agree")]
+    WrongCount(Span),
+    /// What isn't a channel, where a channel is wanted.
+    #[error("a channel is expected")]
+    ChannelExpected(Span),
+    /// A channel, where a value is wanted.
+    #[error("a value is expected")]
+    ValueExpected(Span),
+    /// A wait on a channel parameter that is written, or a send on one that is read.
+    #[error("direction does not agree")]
+    WrongDirection(Span),
+    /// A channel that isn't an input and that nobody writes. The span is its declared name.
+    #[error("channel has no writer")]
+    NoWriter(Span),
+    /// A channel that is handed over to be written, and is an input or has a writer. The span is the argument.
+    #[error("channel has two writers")]
+    TwoWriters(Span),
+    /// A channel that isn't an output and that nobody reads. The span is its declared name.
+    #[error("channel has no reader")]
+    NoReader(Span),
+    /// A channel that is handed over to be read, and is an output or has a reader. The span is the argument.
+    #[error("channel has two readers")]
+    TwoReaders(Span),
+    /// The 1,025th channel or the 257th instance. The span is its name.
+    #[error("limit is exceeded")]
+    TooMany(Span),
+    /// Memory was refused.
+    #[error("no memory")]
+    NoMemory,
+}
+
+impl From<AllocError> for CheckFault {
+    ghost use Rattle.std.specs.Prelude.{◌≡◌};
+    ghost use Rattle.kahn_check.specs.declared.fault.CheckFault.TheVariants.{NoMemory};
+
+    ghost from_gives = { λ _ e. e ≡ NoMemory };
+
+    fn from(_error: AllocError) -> Self {
+        CheckFault::NoMemory
+    }
+}

@@ -1,0 +1,28 @@
+//! The laws of the definitions. Each function does nothing: its contract is the law.
+
+ghost use Rattle.kahn_syntax.specs.declared.tree.Program.{Program};
+ghost use Rattle.std.specs.Prelude.{◌≡◌, ◌<◌, [], ℕ, length};
+ghost use Rattle.std.specs.List.{AllByRecursion};
+ghost use Rattle.kahn_check.specs.Network.{network_of, role_at};
+ghost use Rattle.kahn_check.specs.Order.{faults};
+ghost use Rattle.kahn_check.specs.Sides.{IsServed, IsFit};
+ghost use Rattle.kahn_check.specs.Wiring.{IsWellWired};
+
+/// A program is well wired exactly where the walk finds no fault.
+pub fn exact()
+    ensures sound { (t : Program) → faults t ≡ [] → IsWellWired t }
+    ensures complete { (t : Program) → IsWellWired t → faults t ≡ [] }
+{}
+
+/// Each channel of a well wired program has one writer and one reader, but for an input no writer
+/// and for an output no reader.
+pub fn served()
+    ensures { (t : Program) → IsWellWired t → (c : ℕ) → c < length (network_of t).channels → IsServed (network_of t) c (role_at (network_of t) c) }
+{}
+
+/// In each instance of a well wired program every name is used as what it stands for: a channel
+/// parameter for the kind and the direction of the channel that is handed to it, a value parameter
+/// for the kind of its value, and a variable for its kind. The channels are those of the network.
+pub fn fit()
+    ensures { (t : Program) → IsWellWired t → AllByRecursion (IsFit (network_of t)) (network_of t).instances }
+{}

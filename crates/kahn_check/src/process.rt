@@ -1,0 +1,36 @@
+//! Whether a process is sound: its names, and then its statements.
+
+ghost use Rattle.std.specs.Prelude.{◌≡◌, [], MatchResult};
+ghost use Rattle.kahn_check.specs.Faults.{IsMet};
+ghost use Rattle.kahn_check.specs.Wiring.{locals_of, scope_of};
+ghost use Rattle.kahn_check.specs.Order.{twice, process_faults};
+
+use crate::fault::CheckFault;
+use crate::scope::Scope;
+use crate::statement::body;
+use kahn_syntax::tree::{Process, Taking};
+use std::alloc::Global;
+
+/// The names of a process, its parameters first and then its variables.
+#[tactic(auto, using(crate::proofs::Names::twice_new, crate::proofs::Names::twice_known, crate::proofs::Names::more_entries))]
+pub fn locals(alloc: Global, process: &Process) -> Result<Scope, CheckFault>
+    ensures { MatchResult result (λ s. (s ≡ scope_of process.now) × (twice [] (locals_of process.now) ≡ [])) (λ f. IsMet (twice [] (locals_of process.now)) f) }
+{
+    let mut scope = Scope::new(alloc);
+    for parameter in &process.parameters {
+        scope.declare(&parameter.name, parameter.taking)?;
+    }
+    for variable in &process.variables {
+        scope.declare(&variable.name, Taking::Value(variable.kind))?;
+    }
+    Ok(scope)
+}
+
+/// The first thing that is wrong in a process.
+#[tactic(auto, using(crate::proofs::Walk::verdict_ok, crate::proofs::Walk::verdict_err))]
+pub fn check_process(alloc: Global, process: &Process) -> Result<(), CheckFault>
+    ensures { MatchResult result (λ u. process_faults process.now ≡ []) (λ f. IsMet (process_faults process.now) f) }
+{
+    let scope = locals(alloc, process)?;
+    body(&scope, &process.statements)
+}

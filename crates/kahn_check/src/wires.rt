@@ -1,0 +1,117 @@
+//! The declared channels, each with the writer and the reader that its role asks for.
+
+ghost use Rattle.std.specs.Prelude.{◌≡◌, ◌++◌, [], MatchResult, map};
+ghost use Rattle.kahn_check.specs.Faults.{verdict, IsMet};
+ghost use Rattle.kahn_check.specs.Tables.{side_in, sides_in};
+ghost use Rattle.kahn_check.specs.Wires.{shown, line_in, lines_in};
+ghost use Rattle.kahn_check.specs.Wiring.{declared_channels};
+
+use crate::fault::CheckFault;
+use crate::sides::{Side, Sides};
+use kahn_syntax::tree::{Declaration, Kind, Name, Role};
+use std::alloc::Global;
+
+/// A declared channel, and where its two sides are.
+#[derive(Drop)]
+pub struct Wire {
+    pub name: String,
+    pub kind: Kind,
+    pub role: Role,
+    pub writer: Option<Side>,
+    pub reader: Option<Side>,
+}
+
+/// Whether the sides of a channel that must be taken are taken.
+pub fn side(writers: &Sides, readers: &Sides, name: &Name, role: Role) -> Result<(), CheckFault>
+    ensures { result ≡ verdict (side_in writers.now readers.now name.now role) tt }
+{
+    match role {
+        Role::Inner => {
+            if writers.find(name).is_none() {
+                return Err(CheckFault::NoWriter(name.span));
+            }
+            if readers.find(name).is_none() {
+                return Err(CheckFault::NoReader(name.span));
+            }
+            Ok(())
+        }
+        Role::Input => {
+            if readers.find(name).is_none() {
+                return Err(CheckFault::NoReader(name.span));
+            }
+            Ok(())
+        }
+        Role::Output => {
+            if writers.find(name).is_none() {
+                return Err(CheckFault::NoWriter(name.span));
+            }
+            Ok(())
+        }
+    }
+}
+
+/// One channel, where none of its sides is missing.
+pub fn make_wire(
+    writers: &Sides,
+    readers: &Sides,
+    kind: Kind,
+    role: Role,
+    name: &Name,
+) -> Result<Wire, CheckFault>
+    ensures { MatchResult result (λ w. (shown w ≡ line_in writers.now readers.now (name.now, (kind, role))) × (side_in writers.now readers.now name.now role ≡ [])) (λ f. IsMet (side_in writers.now readers.now name.now role) f) }
+{
+    side(writers, readers, name, role)?;
+    let Ok(text) = name.text.clone() else {
+        return Err(CheckFault::NoMemory);
+    };
+    Ok(Wire {
+        name: text,
+        kind,
+        role,
+        writer: writers.find(name),
+        reader: readers.find(name),
+    })
+}
+
+/// The channels of one declaration.
+#[tactic(auto, using(crate::proofs::Lines::lines_step, crate::proofs::Lines::lines_met, crate::proofs::Lines::lines_more))]
+pub fn add_wires(
+    wires: &mut Vec<Wire>,
+    writers: &Sides,
+    readers: &Sides,
+    kind: Kind,
+    role: Role,
+    names: &[Name],
+) -> Result<(), CheckFault>
+    ensures { MatchResult result (λ u. (map shown wires.new.items ≡ map shown wires.old.items ++ lines_in writers.now readers.now (map (λ n. (n, (kind, role))) names.now)) × (sides_in writers.now readers.now (map (λ n. (n, (kind, role))) names.now) ≡ [])) (λ f. IsMet (sides_in writers.now readers.now (map (λ n. (n, (kind, role))) names.now)) f) }
+{
+    for name in names {
+        let next = make_wire(writers, readers, kind, role, name)?;
+        if wires.push(next).is_err() {
+            return Err(CheckFault::NoMemory);
+        }
+    }
+    Ok(())
+}
+
+/// All channels, in order of declaration.
+#[tactic(auto, using(crate::proofs::Lines::all_step, crate::proofs::Lines::all_met, crate::proofs::Lines::all_more))]
+pub fn all_wires(
+    alloc: Global,
+    writers: &Sides,
+    readers: &Sides,
+    declarations: &[Declaration],
+) -> Result<Vec<Wire>, CheckFault>
+    ensures { MatchResult result (λ w. (map shown w.items ≡ lines_in writers.now readers.now (declared_channels declarations.now)) × (sides_in writers.now readers.now (declared_channels declarations.now) ≡ [])) (λ f. IsMet (sides_in writers.now readers.now (declared_channels declarations.now)) f) }
+{
+    let mut wires = Vec::new(alloc);
+    for declaration in declarations {
+        match declaration {
+            Declaration::Channels(kind, role, names) => {
+                add_wires(&mut wires, writers, readers, *kind, *role, names)?;
+            }
+            Declaration::Process(_) => {}
+        }
+    }
+    Ok(wires)
+}

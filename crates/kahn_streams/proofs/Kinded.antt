@@ -1,0 +1,204 @@
+-- What a process does keeps kinds: from values of the right kinds, on tapes of the right kinds, it sends values of
+-- the right kinds.
+use Rattle.std.proofs.Common.{◌≡◌, ℕ, zero, suc, ◌+ℤ◌, ◌-ℤ◌, ◌*ℤ◌, ◌==◌, ℤ, neg_ℤ, int_div, int_rem, Bool, true, false, not, List, [], ◌∷◌, Option, Some, Result, Ok, Err, refl, sym, ◌∙◌, subst, eqb-true, slice_get, slice_set, if◌then◌else◌}
+use Rattle.std.specs.List.{AllByRecursion}
+use Rattle.kahn_syntax.specs.declared.tree.Kind.{Kind}
+use Rattle.kahn_syntax.specs.declared.tree.Kind.TheVariants as K
+use Rattle.kahn_syntax.specs.declared.tree.Operator.{Operator}
+use Rattle.kahn_syntax.specs.declared.tree.Operator.TheVariants.{Or, And, Equal, Unequal, Less, AtMost, Greater, AtLeast, Add, Subtract, Multiply, Divide, Remainder}
+use Rattle.kahn_syntax.specs.declared.tree.Direction.TheVariants.{In, Out}
+use Rattle.kahn_syntax.specs.declared.tree.Taking.{Taking}
+use Rattle.kahn_syntax.specs.declared.tree.Taking.TheVariants as T
+use Rattle.kahn_syntax.specs.Syntax.{Constant, Number, Truth, Expr, Literal, Variable, Wait, Negate, Not, Binary, Conditional, Stmt, Skip, Assign, Send, Print, Seq, If, While, Repeat}
+use Rattle.kahn_check.specs.Kinds.{gives, constant_kind, HasKind, Agrees}
+use Rattle.kahn_streams.specs.declared.value.Value.{Value}
+use Rattle.kahn_streams.specs.declared.value.Value.TheVariants.{Integer, Logical}
+use Rattle.kahn_streams.specs.declared.value.Failure.{Failure}
+use Rattle.kahn_streams.specs.declared.value.Failure.TheVariants.{Overflow, Division}
+use Rattle.kahn_streams.specs.Arithmetic.{number, truth, fits_64, is_zero, ranged, apply}
+use Rattle.kahn_streams.specs.Script.{Port, Parameter, Printer, Tapes, Script, Give, Fail, Waits, Sends, Turns, Rest, Reached, put, wait_at, play}
+use Rattle.kahn_streams.specs.Meaning.{Store, constant, read, settle, value_of, turns_of, script_of}
+use Rattle.kahn_streams.specs.Kinded.{kind_of_value}
+
+-- ---- stores
+
+abbrev pub HoldsKind : Taking → Value → Type 0
+HoldsKind (T.Channel d k) v = Unit {0}
+HoldsKind (T.Value k) v = kind_of_value v ≡ k
+
+-- each value of the store has the kind of its name
+abbrev pub IsStored : List Taking → Store → Type 0
+IsStored [] [] = Unit {0}
+IsStored [] (v ∷ vs) = ⊥
+IsStored (t ∷ ts) [] = ⊥
+IsStored (t ∷ ts) (v ∷ vs) = HoldsKind t v × IsStored ts vs
+
+holds : (t : Taking) (k : Kind) (v : Value) → HoldsKind t v → Some t ≡ Some (T.Value k) → kind_of_value v ≡ k
+holds (T.Channel d j) k v h e = cc
+holds (T.Value j) k v h e =
+    let same : j ≡ k = cc in
+    h ∙ same
+
+held : (t : Taking) (k : Kind) (v : Value) → Some t ≡ Some (T.Value k) → kind_of_value v ≡ k → HoldsKind t v
+held (T.Channel d j) k v e h = tt
+held (T.Value j) k v e h =
+    let same : j ≡ k = cc in
+    h ∙ sym same
+
+read_kept : (w : List Taking) (s : Store) (x : ℕ) (k : Kind) → IsStored w s → slice_get w x ≡ Some (T.Value k) → kind_of_value (read s x) ≡ k
+read_kept [] [] x k h e = cc
+read_kept [] (v ∷ vs) x k h e = absurd h
+read_kept (t ∷ ts) [] x k h e = absurd h
+read_kept (t ∷ ts) (v ∷ vs) zero k h e = holds t k v h.0 e
+read_kept (t ∷ ts) (v ∷ vs) (suc x) k h e = read_kept ts vs x k h.1 e
+
+set_kept : (w : List Taking) (s : Store) (x : ℕ) (k : Kind) (u : Value) → IsStored w s → slice_get w x ≡ Some (T.Value k) → kind_of_value u ≡ k →
+    IsStored w (slice_set s x u)
+set_kept [] [] x k u h e i = tt
+set_kept [] (v ∷ vs) x k u h e i = absurd h
+set_kept (t ∷ ts) [] x k u h e i = absurd h
+set_kept (t ∷ ts) (v ∷ vs) zero k u h e i = (held t k u e i, h.1)
+set_kept (t ∷ ts) (v ∷ vs) (suc x) k u h e i = (h.0, set_kept ts vs x k u h.1 e i)
+
+-- ---- operators
+
+-- a result, if there is one, has this kind
+abbrev GivesKind : Kind → Result Value Failure → Type 0
+GivesKind k (Ok v) = kind_of_value v ≡ k
+GivesKind k (Err f) = Unit {0}
+
+fits_by : (b : Bool) (z : ℤ) → GivesKind K.Integer (if b then Ok (Integer z) else Err Overflow)
+fits_by true z = refl
+fits_by false z = tt
+
+ranged_kept : (z : ℤ) → GivesKind K.Integer (ranged z)
+ranged_kept z = fits_by (fits_64 z) z
+
+unless_zero : (b : Bool) (z : ℤ) → GivesKind K.Integer (if b then Err Division else ranged z)
+unless_zero true z = tt
+unless_zero false z = ranged_kept z
+
+apply_kept : (o : Operator) (v u : Value) → GivesKind (gives o) (apply o v u)
+apply_kept Or v u = refl
+apply_kept And v u = refl
+apply_kept Equal v u = refl
+apply_kept Unequal v u = refl
+apply_kept Less v u = refl
+apply_kept AtMost v u = refl
+apply_kept Greater v u = refl
+apply_kept AtLeast v u = refl
+apply_kept Add v u = ranged_kept (number v +ℤ number u)
+apply_kept Subtract v u = ranged_kept (number v -ℤ number u)
+apply_kept Multiply v u = ranged_kept (number v *ℤ number u)
+apply_kept Divide v u = unless_zero (is_zero (number u)) (int_div (number v) (number u))
+apply_kept Remainder v u = unless_zero (is_zero (number u)) (int_rem (number v) (number u))
+
+-- ---- scripts
+
+-- a value that may be taken from this parameter, and one that may be sent there
+abbrev pub IsTaken : List Taking → ℕ → Value → Type 0
+IsTaken w q v = slice_get w q ≡ Some (T.Channel In (kind_of_value v))
+
+abbrev pub IsSent : List Taking → Port × Value → Type 0
+IsSent w (Parameter q, v) = slice_get w q ≡ Some (T.Channel Out (kind_of_value v))
+IsSent w (Printer, v) = Unit {0}
+
+-- as long as what it takes has the right kinds, what it sends has the right kinds
+abbrev pub IsKept : {A : Type 0} → List Taking → Script A → Type 0
+IsKept w (Give a) = Unit {0}
+IsKept w (Fail k) = Unit {0}
+IsKept w (Waits q go) = (v : Value) → IsTaken w q v → IsKept w (go v)
+IsKept w (Sends p v s) = IsSent w (p, v) × IsKept w s
+IsKept w (Turns s) = IsKept w s
+IsKept w Rest = Unit {0}
+
+settle_kept : {A : Type 0} (w : List Taking) (k : Kind) (r : Result Value Failure) (next : Value → Script A) → GivesKind k r →
+    ((v : Value) → kind_of_value v ≡ k → IsKept w (next v)) → IsKept w (settle r next)
+settle_kept w k (Ok v) next h g = g v h
+settle_kept w k (Err f) next h g = tt
+
+kept_by : {A : Type 0} (w : List Taking) (b : Bool) (s t : Script A) → IsKept w s → IsKept w t → IsKept w (elim b [ true ↦ s | false ↦ t ])
+kept_by w true s t h i = h
+kept_by w false s t h i = i
+
+constant_kept : (c : Constant) → kind_of_value (constant c) ≡ constant_kind c
+constant_kept (Number z) = refl
+constant_kept (Truth b) = refl
+
+same_taken : (k j : Kind) (o : Option Taking) → o ≡ Some (T.Channel In k) → o ≡ Some (T.Channel In j) → j ≡ k
+same_taken k j o h e = cc
+
+value_kept : {A : Type 0} (w : List Taking) (e : Expr) (k : Kind) (s : Store) (next : Value → Script A) → HasKind w e k → IsStored w s →
+    ((v : Value) → kind_of_value v ≡ k → IsKept w (next v)) → IsKept w (value_of e s next)
+value_kept w (Literal c) k s next h i g = g (constant c) (constant_kept c ∙ sym h)
+value_kept w (Variable x) k s next h i g = g (read s x) (read_kept w s x k i h)
+value_kept w (Wait q) k s next h i g = λ v e. g v (same_taken k (kind_of_value v) (slice_get w q) h e)
+value_kept w (Negate e) k s next h i g =
+    value_kept w e K.Integer s _ h.0 i (λ v j. settle_kept w K.Integer (ranged (neg_ℤ (number v))) next (ranged_kept (neg_ℤ (number v))) (λ u l. g u (l ∙ sym h.1)))
+value_kept w (Not e) k s next h i g = value_kept w e K.Logical s _ h.0 i (λ v j. g (Logical (not (truth v))) (sym h.1))
+value_kept w (Binary o a b) k s next h i g =
+    value_kept w a h.0.0 s _ h.0.2 i (λ v j.
+    value_kept w b h.0.0 s _ h.0.3 i (λ u l.
+    settle_kept w (gives o) (apply o v u) next (apply_kept o v u) (λ x m. g x (m ∙ sym h.1))))
+value_kept w (Conditional t a b) k s next h i g =
+    value_kept w t K.Logical s _ h.0 i (λ v j.
+    kept_by w (truth v) _ _ (value_kept w a k s next h.1 i g) (value_kept w b k s next h.2 i g))
+
+-- a body that goes on from stores of the right kinds to such stores
+abbrev Passes : {A X : Type 0} → List Taking → (X → Type 0) → (Store → (X → Script A) → Script A) → Type 0
+Passes {A} {X} w P f = (s : Store) (next : X → Script A) → IsStored w s → ((x : X) → P x → IsKept w (next x)) → IsKept w (f s next)
+
+turns_kept : {A : Type 0} (w : List Taking) (k : ℕ) (test : Store → (Value → Script A) → Script A) (body : Store → (Store → Script A) → Script A) →
+    Passes w (λ v. kind_of_value v ≡ K.Logical) test → Passes w (IsStored w) body → Passes w (IsStored w) (turns_of k test body)
+turns_kept w zero test body ht hb s next i g = tt
+turns_kept w (suc k) test body ht hb s next i g =
+    ht s _ i (λ v j. kept_by w (truth v) _ _ (hb s _ i (λ r l. turns_kept w k test body ht hb r next l g)) (g s i))
+
+pub script_kept : {A : Type 0} (w : List Taking) (k : ℕ) (b : Stmt) (s : Store) (next : Store → Script A) → Agrees w b → IsStored w s →
+    ((r : Store) → IsStored w r → IsKept w (next r)) → IsKept w (script_of k b s next)
+script_kept w k Skip s next h i g = g s i
+script_kept w k (Assign x e) s next h i g =
+    value_kept w e h.0 s _ h.2 i (λ v j. g (slice_set s x v) (set_kept w s x h.0 v i h.1 j))
+script_kept w k (Send e q) s next h i g =
+    value_kept w e h.0 s _ h.2 i (λ v j. (subst (λ z. slice_get w q ≡ Some (T.Channel Out z)) (sym j) h.1, g s i))
+script_kept w k (Print e) s next h i g = value_kept w e h.0 s _ h.1 i (λ v j. (tt, g s i))
+script_kept w k (Seq a b) s next h i g = script_kept w k a s _ h.0 i (λ r j. script_kept w k b r next h.1 j g)
+script_kept w k (If t a b) s next h i g =
+    value_kept w t K.Logical s _ h.0 i (λ v j.
+    kept_by w (truth v) _ _ (script_kept w k a s next h.1 i g) (script_kept w k b s next h.2 i g))
+script_kept w k (While t b) s next h i g =
+    turns_kept w k _ _ (λ r f j l. value_kept w t K.Logical r f h.0 j l) (λ r f j l. script_kept w k b r f h.1 j l) s next i g
+script_kept w k (Repeat b) s next h i g =
+    turns_kept w k _ _ (λ r f j l. l (Logical true) refl) (λ r f j l. script_kept w k b r f h j l) s next i g
+
+-- ---- runs
+
+-- each tape has the kind of its parameter
+abbrev pub AreTapesKept : List Taking → Tapes → Type 0
+AreTapesKept w U = (q : ℕ) → AllByRecursion (IsTaken w q) (U q)
+
+put_by : (w : List Taking) (U : Tapes) (q : ℕ) (vs : List Value) → AreTapesKept w U → AllByRecursion (IsTaken w q) vs → (r : ℕ) (b : Bool) → (r == q) ≡ b →
+    AllByRecursion (IsTaken w r) (if b then vs else U r)
+put_by w U q vs h i r true e = subst (λ x. AllByRecursion (IsTaken w x) vs) (sym (eqb-true r q e)) i
+put_by w U q vs h i r false e = h r
+
+wait_kept : {A : Type 0} (w : List Taking) (n q : ℕ) (U : Tapes) (vs : List Value) (go : ℕ → Value → Tapes → Reached A) →
+    AreTapesKept w U → AllByRecursion (IsTaken w q) vs →
+    ((m : ℕ) (v : Value) (V : Tapes) → IsTaken w q v → AreTapesKept w V → AllByRecursion (IsSent w) (go m v V).sent) →
+    AllByRecursion (IsSent w) (wait_at n q U vs go).sent
+wait_kept w n q U [] go h i step = tt
+wait_kept w zero q U (v ∷ vs) go h i step = tt
+wait_kept w (suc n) q U (v ∷ vs) go h i step = step n v (put U q vs) i.0 (λ r. put_by w U q vs h i.1 r (r == q) refl)
+
+-- all that is sent has the kind of the parameter it is sent to
+pub play_kept : {A : Type 0} (w : List Taking) (n : ℕ) (s : Script A) (U : Tapes) → IsKept w s → AreTapesKept w U →
+    AllByRecursion (IsSent w) (play n s U).sent
+play_kept w n (Give a) U h i = tt
+play_kept w n (Fail k) U h i = tt
+play_kept w n (Waits q go) U h i =
+    wait_kept w n q U (U q) (λ m v V. play m (go v) V) i (i q) (λ m v V e j. play_kept w m (go v) V (h v e) j)
+play_kept w zero (Sends p v s) U h i = tt
+play_kept w (suc n) (Sends p v s) U h i = (h.0, play_kept w n s U h.1 i)
+play_kept w zero (Turns s) U h i = tt
+play_kept w (suc n) (Turns s) U h i = play_kept w n s U h i
+play_kept w n Rest U h i = tt

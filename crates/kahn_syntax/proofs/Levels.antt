@@ -1,0 +1,77 @@
+-- Operators of one level with their operands, read one after another.
+use Rattle.std.proofs.Common.{◌≡◌, ℕ, ◌+◌, ◌≤◌, ◌<◌, ◌≢◌, max, List, [], ◌∷◌, ◌++◌, refl, sym, ap, ◌∙◌, subst, arith}
+use Rattle.kahn_syntax.specs.declared.tree.Operand.{Operand}
+use Rattle.kahn_syntax.specs.declared.parser.operator.Level.{Level}
+use Rattle.kahn_syntax.specs.declared.parser.operator.Level.TheVariants.{Or, And, Sum, Term}
+use Rattle.kahn_syntax.specs.Terminals.{Terminal}
+use Rattle.kahn_syntax.specs.Trees.{ExpressionTree, level, OperandTrees, no_operand, operand, operator_terminal, expression_words, operands_words, expression_nesting, operands_nesting, rank, first_rank, binds, Formed, FormedOperands, IsOne}
+use Rattle.kahn_syntax.specs.Drawn.{expression_of, operands_of}
+use Rattle.kahn_syntax.specs.Reads.{Fits, joined, rank_of}
+
+-- how many functions are called below an operand of this level before a lexeme is read
+abbrev pub height : Level → ℕ
+height Or = 9
+height And = 7
+height Sum = 3
+height Term = 1
+
+operands_words_more : (os : List Operand) (o : Operand) (r : List Terminal) →
+    operands_words (operands_of (os ++ o ∷ [])) r ≡ operands_words (operands_of os) (operator_terminal o.operator ∷ expression_words (expression_of o.expression) r)
+operands_words_more [] o r = refl
+operands_words_more (u ∷ os) o r = ap (λ x. operator_terminal u.operator ∷ expression_words (expression_of u.expression) x) (operands_words_more os o r)
+
+pub operands_words_next : (input rest after left : List Terminal) (first : ExpressionTree) (os os' : List Operand) (o : Operand) → os' ≡ os ++ o ∷ [] →
+    input ≡ expression_words first (operands_words (operands_of os) rest) → rest ≡ operator_terminal o.operator ∷ after →
+    after ≡ expression_words (expression_of o.expression) left → input ≡ expression_words first (operands_words (operands_of os') left)
+operands_words_next input rest after left first os os' o e p q r =
+    p ∙ ap (λ x. expression_words first (operands_words (operands_of os) x)) (q ∙ ap (λ x. operator_terminal o.operator ∷ x) r)
+    ∙ ap (expression_words first) (sym (operands_words_more os o left))
+    ∙ ap (λ x. expression_words first (operands_words (operands_of x) left)) (sym e)
+
+operands_nesting_more : (os : List Operand) (o : Operand) (m : ℕ) → operands_nesting (operands_of os) ≤ m → expression_nesting (expression_of o.expression) ≤ m →
+    operands_nesting (operands_of (os ++ o ∷ [])) ≤ m
+operands_nesting_more [] o m a b = omega arith
+operands_nesting_more (u ∷ os) o m a b = omega (arith, operands_nesting_more os o m (omega arith) b)
+
+pub operands_nesting_next : (d : ℕ) (first : ExpressionTree) (os os' : List Operand) (o : Operand) → os' ≡ os ++ o ∷ [] →
+    d + max (expression_nesting first) (operands_nesting (operands_of os)) ≤ 64 → d + expression_nesting (expression_of o.expression) ≤ 64 →
+    d + max (expression_nesting first) (operands_nesting (operands_of os')) ≤ 64
+operands_nesting_next d first os os' o e a b =
+    let m = max (operands_nesting (operands_of os)) (expression_nesting (expression_of o.expression)) in
+    let c = operands_nesting_more os o m (omega arith) (omega arith) in
+    omega (arith, c, ap (λ x. operands_nesting (operands_of x)) e)
+
+formed_more : (n : ℕ) (os : List Operand) (o : Operand) → FormedOperands n (operands_of os) → rank o.operator ≡ n → Fits (n + 1) (expression_of o.expression) →
+    FormedOperands n (operands_of (os ++ o ∷ []))
+formed_more n [] o h r f = (r, omega (arith, f.0), f.1, tt)
+formed_more n (u ∷ os) o h r f = (h.0, h.1, h.2, formed_more n os o h.3 r f)
+
+pub formed_next : (n : ℕ) (os os' : List Operand) (o : Operand) → os' ≡ os ++ o ∷ [] → FormedOperands n (operands_of os) → rank o.operator ≡ n →
+    Fits (n + 1) (expression_of o.expression) → FormedOperands n (operands_of os')
+formed_next n os os' o e h r f = rw e (formed_more n os o h r f)
+
+joined_some : (e : ExpressionTree) (os : List Operand) → os ≢ [] → level e (operands_of os) ≡ joined e (operands_of os)
+joined_some e [] h = absurd (h refl)
+joined_some e (o ∷ os) h = refl
+
+pub joined_made : (e : ExpressionTree) (os : List Operand) (row : OperandTrees) → row ≡ operands_of os → os ≢ [] → level e row ≡ joined e (operands_of os)
+joined_made e os row p h = ap (level e) p ∙ joined_some e os h
+
+pub joined_words : (e : ExpressionTree) (os : OperandTrees) (r : List Terminal) → expression_words (joined e os) r ≡ expression_words e (operands_words os r)
+joined_words e no_operand r = refl
+joined_words e (operand o f os) r = refl
+
+pub joined_nesting : (e : ExpressionTree) (os : OperandTrees) → expression_nesting (joined e os) ≤ max (expression_nesting e) (operands_nesting os)
+joined_nesting e no_operand = omega arith
+joined_nesting e (operand o f os) = omega arith
+
+joined_fits : (n : ℕ) (e : ExpressionTree) (os : OperandTrees) → n ≢ 4 → 0 < n → Fits (n + 1) e → FormedOperands n os → Fits n (joined e os)
+joined_fits n e no_operand a b f h = (omega (arith, f.0), f.1)
+joined_fits n e (operand o g os) a b f h =
+    (omega (arith, h.0), (omega (arith, h.0, f.0), f.1, omega (arith, h.0), subst (λ k. FormedOperands k (operand o g os)) (sym h.0) h, λ four. absurd (a (sym h.0 ∙ four))))
+
+pub level_fits : (l : Level) (e : ExpressionTree) (os : OperandTrees) → Fits (rank_of l + 1) e → FormedOperands (rank_of l) os → Fits (rank_of l) (joined e os)
+level_fits Or e os f h = joined_fits 1 e os (λ x. cc) (omega arith) f h
+level_fits And e os f h = joined_fits 2 e os (λ x. cc) (omega arith) f h
+level_fits Sum e os f h = joined_fits 5 e os (λ x. cc) (omega arith) f h
+level_fits Term e os f h = joined_fits 6 e os (λ x. cc) (omega arith) f h

@@ -1,0 +1,13 @@
+pub mod Cuts
+pub mod Keywords
+pub mod Lexing
+pub mod NoList
+pub mod OneList
+pub mod Runs
+pub mod Signs
+pub mod Declared
+pub mod Instanced
+pub mod Levels
+pub mod Lists
+pub mod Rows
+pub mod Statements

@@ -1,0 +1,117 @@
+-- A text with a fault has no list of lexemes.
+use Rattle.std.proofs.Common.{◌≡◌, ℕ, ◌+◌, ◌-◌, ◌≤◌, ◌<◌, List, length, get_or, sym, ap, subst, ◌∙◌, arith}
+use Rattle.std.proofs.lemmas.List.{length-map}
+use Rattle.std.specs.Prelude.{codes, slice_range}
+use Rattle.std.specs.Char.{to_ascii_lowercase}
+use Rattle.std.specs.Str.Parse.{digits_value}
+use Rattle.kahn_syntax.specs.declared.fault.SyntaxFault.{SyntaxFault}
+use Rattle.kahn_syntax.specs.declared.fault.SyntaxFault.TheVariants.{TooLong, BadCharacter, NumberTooLarge, CommentOpen, NameTooLong, Expected, TooDeep, NoMemory}
+use Rattle.kahn_syntax.specs.declared.lexeme.Lexeme.{Lexeme}
+use Rattle.kahn_syntax.specs.declared.lexeme.Class.{Class}
+use Rattle.kahn_syntax.specs.declared.lexeme.Class.TheVariants.{Word, Name, Number, Sign}
+use Rattle.kahn_syntax.specs.Lexemes.{IsBlank, IsWord, IsRun, HasForm, IsLongest, IsSpelled, IsCommentWord, IsOfClass, Stands, Closes, IsComment, Lexed, largest_number, letters_of}
+use Rattle.kahn_syntax.specs.Items.{IsFaultAt}
+use Rattle.kahn_syntax.proofs.Keywords.{keyword_short}
+use Rattle.kahn_syntax.proofs.OneList.{Walk, ends, blank, comment, lexeme, walk, walk_le, run_first, form_grows, form_dark, same_end, no_comment, comment_grows, comment_dark, same_comment, same_lexeme, lexeme_dark, lexeme_comment}
+use Rattle.kahn_syntax.proofs.Runs.{length_slice}
+use Rattle.kahn_syntax.proofs.Signs.{sign_begins, sign_letter, sign_digit, letter_digit}
+
+abbrev Rest : List ℕ → ℕ → ℕ → Type 0
+Rest text n a = (zs : List Lexeme) × Walk text n a zs
+
+-- what is read from the left up to a is read on from there
+along : (text : List ℕ) (n a c : ℕ) (xs ys : List Lexeme) → a ≤ n → Walk text a c xs → Walk text n c ys → Rest text n a
+along text n a c _ ys h (ends e) w = (ys, subst (λ (k : ℕ). Walk text n k ys) e w)
+along text n a c xs _ h (blank b v) (ends f) = let le : c + 1 ≤ a = walk_le text a (c + 1) xs v in absurd (omega arith)
+along text n a c xs ys h (blank b v) (blank b' w) = along text n a (c + 1) xs ys h v w
+along text n a c xs ys h (blank b v) (comment m k w) = absurd (comment_dark text c m k b)
+along text n a c xs _ h (blank b v) (lexeme y f q w) = absurd (lexeme_dark text c y f q b)
+along text n a c xs _ h (comment m k v) (ends f) =
+    let le : m ≤ a = walk_le text a m xs v in
+    let g : c < m = comment_grows text c m k in
+    absurd (omega arith)
+along text n a c xs ys h (comment m k v) (blank b w) = absurd (comment_dark text c m k b)
+along text n a c xs ys h (comment m k v) (comment m' k' w) =
+    along text n a m xs ys h v (subst (λ (j : ℕ). Walk text n j ys) (sym (same_comment text c m m' k k')) w)
+along text n a c xs _ h (comment m k v) (lexeme y f q w) = absurd (lexeme_comment text c m y f q k)
+along text n a c _ _ h (lexeme x e p v) (ends f) =
+    let le : x.span.to ≤ a = walk_le text a x.span.to _ v in
+    let g : x.span.from < x.span.to = form_grows text x.span.from x.span.to p.longest.form in
+    absurd (omega arith)
+along text n a c _ ys h (lexeme x e p v) (blank b w) = absurd (lexeme_dark text c x e p b)
+along text n a c _ ys h (lexeme x e p v) (comment m k w) = absurd (lexeme_comment text c m x e p k)
+along text n a c _ _ h (lexeme {xs = xs} x e p v) (lexeme {xs = ys} y f q w) =
+    let same : x ≡ y = same_lexeme text c x y e f p q in
+    along text n a x.span.to xs ys h v (subst (λ (z : Lexeme). Walk text n z.span.to ys) (sym same) w)
+
+-- nothing is read on from a place where neither a blank nor a comment nor a lexeme stands
+stops : (text : List ℕ) (n a : ℕ) (zs : List Lexeme) → a < n → (IsBlank (get_or text a 0) → ⊥) → ((m : ℕ) → IsComment text a m → ⊥)
+    → ((x : Lexeme) → x.span.from ≡ a → Stands text x → ⊥) → Walk text n a zs → ⊥
+stops text n a _ h b c l (ends e) = absurd (omega arith)
+stops text n a zs h b c l (blank dark w) = b dark
+stops text n a zs h b c l (comment m k w) = c m k
+stops text n a _ h b c l (lexeme x e p w) = l x e p
+
+-- the same where a form stands that is no comment's word with its end and no lexeme
+stops_long : (text : List ℕ) (a b : ℕ) (zs : List Lexeme) → IsLongest text a b → (IsCommentWord text a b → (m : ℕ) → Closes text b m → ⊥)
+    → ((u : Class) → IsOfClass text u a b → ⊥) → Walk text (length text) a zs → ⊥
+stops_long text a b zs long c l w =
+    let g : a < b = form_grows text a b long.form in
+    stops text (length text) a zs (omega (arith, long.inside)) (form_dark text a b long.form)
+    (λ m k.
+    let e : k.0 ≡ b = same_end text a k.0 b k.1 long in
+    c (subst (λ (j : ℕ). IsCommentWord text a j) e k.2) m (subst (λ (j : ℕ). Closes text j m) e k.3))
+    (λ x e p.
+    let from : IsLongest text a x.span.to = subst (λ (j : ℕ). IsLongest text j x.span.to) e p.longest in
+    let to : x.span.to ≡ b = same_end text a x.span.to b from long in
+    l x.what (subst (λ (j : ℕ). IsOfClass text x.what a j) to (subst (λ (j : ℕ). IsOfClass text x.what j x.span.to) e p.class)))
+    w
+
+spelled_length : (text letters : List ℕ) (a b : ℕ) → a ≤ b → b ≤ length text → IsSpelled letters (slice_range text a b) → b - a ≡ length letters
+spelled_length text letters a b order inside spelled =
+    let bytes : List ℕ = slice_range text a b in
+    sym (length_slice text a b order inside) ∙ (sym (length-map bytes to_ascii_lowercase) ∙ ap length spelled)
+
+large_class : (text : List ℕ) (a b : ℕ) (u : Class) → IsRun text a b → largest_number < digits_value 10 (slice_range text a b) → IsOfClass text u a b → ⊥
+large_class text a b (Word k) run large p = letter_digit _ p.0.1 (run_first text a b run)
+large_class text a b Name run large p = letter_digit _ p.0.1 (run_first text a b run)
+large_class text a b (Number n) run large p = absurd (omega (arith, large, p.2))
+large_class text a b (Sign s) run large p = sign_digit _ (sign_begins text s a b p).byte (run_first text a b run)
+
+long_class : (text : List ℕ) (a b : ℕ) (u : Class) → b ≤ length text → IsWord text a b → a + 64 < b → IsOfClass text u a b → ⊥
+long_class text a b (Word k) inside word long p =
+    let e : b - a ≡ length (letters_of k) = spelled_length text (letters_of k) a b (omega arith) inside p.1 in
+    let short : length (letters_of k) ≤ 64 = keyword_short k in
+    omega arith
+long_class text a b Name inside word long p = omega (arith, p.1)
+long_class text a b (Number n) inside word long p = letter_digit _ word.1 (run_first text a b p.0)
+long_class text a b (Sign s) inside word long p = sign_letter _ (sign_begins text s a b p).byte word.1
+
+fault_stops : (text : List ℕ) (a : ℕ) (e : SyntaxFault) (zs : List Lexeme) → IsFaultAt text a e → Walk text (length text) a zs → ⊥
+fault_stops text a TooLong zs h w = h
+fault_stops text a (BadCharacter at) zs (e, bad) w =
+    stops text (length text) at.from zs (omega (arith, bad.0.0, bad.0.2.0)) bad.1 (λ m k. bad.2 k.0 k.1.inside k.1.form)
+    (λ x f p. bad.2 x.span.to p.longest.inside (subst (λ (j : ℕ). HasForm text j x.span.to) f p.longest.form))
+    (subst (λ (j : ℕ). Walk text (length text) j zs) (sym e) w)
+fault_stops text a (NumberTooLarge at) zs (e, large) w =
+    stops_long text at.from at.to zs large.0 (λ word m k. letter_digit _ word.0.1 (run_first text at.from at.to large.1))
+    (λ u p. large_class text at.from at.to u large.1 large.2 p) (subst (λ (j : ℕ). Walk text (length text) j zs) (sym e) w)
+fault_stops text a (CommentOpen at) zs (e, opens) w =
+    stops_long text at.from at.to zs opens.0 (λ word m k. opens.2 k.0 k.2 k.3 k.4) (λ u p. no_comment text at.from at.to u p opens.1)
+    (subst (λ (j : ℕ). Walk text (length text) j zs) (sym e) w)
+fault_stops text a (NameTooLong at) zs (e, long) w =
+    stops_long text at.from at.to zs long.0
+    (λ word m k.
+    let seven : at.to - at.from ≡ 7 = spelled_length text (codes "comment") at.from at.to (omega (arith, long.2)) long.0.inside word.1 in
+    absurd (omega (arith, long.2)))
+    (λ u p. long_class text at.from at.to u long.0.inside long.1 long.2 p) (subst (λ (j : ℕ). Walk text (length text) j zs) (sym e) w)
+fault_stops text a (Expected at what) zs h w = h
+fault_stops text a (TooDeep at) zs h w = h
+fault_stops text a NoMemory zs h w = h
+
+-- a fault at a, with lexemes before, leaves the text without lexemes
+pub no_list : (text : List ℕ) (a : ℕ) (e : SyntaxFault) (xs ys : List Lexeme) → a ≤ length text → Lexed text 0 a xs → IsFaultAt text a e →
+    Lexed text 0 (length text) ys → ⊥
+no_list text a e xs ys inside before fault whole =
+    let rest = along text (length text) a 0 xs ys inside (walk text a 0 xs before) (walk text (length text) 0 ys whole) in
+    fault_stops text a e rest.0 fault rest.1

@@ -1,0 +1,51 @@
+-- Statements that are read one after another.
+use Rattle.std.proofs.Common.{◌≡◌, ℕ, ◌+◌, ◌≤◌, max, List, [], ◌∷◌, ◌++◌, refl, sym, ap, ◌∙◌, arith}
+use Rattle.kahn_syntax.specs.declared.lexeme.Sign.TheVariants as mark
+use Rattle.kahn_syntax.specs.declared.tree.Statement.{Statement}
+use Rattle.kahn_syntax.specs.Terminals.{Terminal, sign}
+use Rattle.kahn_syntax.specs.Trees.{statement_words, statements_words, further_words, statement_nesting, statements_nesting, FormedStatement, FormedStatements, AreSome}
+use Rattle.kahn_syntax.specs.Drawn.{statement_of, statements_of}
+
+further_more : (ss : List Statement) (s : Statement) (r : List Terminal) →
+    further_words (statements_of (ss ++ s ∷ [])) r ≡ further_words (statements_of ss) (sign mark.Semicolon ∷ statement_words (statement_of s) r)
+further_more [] s r = refl
+further_more (u ∷ ss) s r = ap (λ x. sign mark.Semicolon ∷ statement_words (statement_of u) x) (further_more ss s r)
+
+statements_more : (ss : List Statement) (s : Statement) (r : List Terminal) → AreSome (statements_of ss) →
+    statements_words (statements_of (ss ++ s ∷ [])) r ≡ statements_words (statements_of ss) (sign mark.Semicolon ∷ statement_words (statement_of s) r)
+statements_more [] s r h = absurd h
+statements_more (u ∷ ss) s r h = ap (statement_words (statement_of u)) (further_more ss s r)
+
+pub statements_words_next : (input rest after left : List Terminal) (ss ss' : List Statement) (s : Statement) → ss' ≡ ss ++ s ∷ [] → AreSome (statements_of ss) →
+    input ≡ statements_words (statements_of ss) rest → rest ≡ sign mark.Semicolon ∷ after → after ≡ statement_words (statement_of s) left →
+    input ≡ statements_words (statements_of ss') left
+statements_words_next input rest after left ss ss' s e h p q r =
+    p ∙ ap (statements_words (statements_of ss)) (q ∙ ap (λ x. sign mark.Semicolon ∷ x) r) ∙ sym (statements_more ss s left h)
+    ∙ ap (λ x. statements_words (statements_of x) left) (sym e)
+
+formed_more : (ss : List Statement) (s : Statement) → FormedStatements (statements_of ss) → FormedStatement (statement_of s) → FormedStatements (statements_of (ss ++ s ∷ []))
+formed_more [] s h f = (f, tt)
+formed_more (u ∷ ss) s h f = (h.0, formed_more ss s h.1 f)
+
+pub formed_next : (ss ss' : List Statement) (s : Statement) → ss' ≡ ss ++ s ∷ [] → FormedStatements (statements_of ss) → FormedStatement (statement_of s) →
+    FormedStatements (statements_of ss')
+formed_next ss ss' s e h f = rw e (formed_more ss s h f)
+
+some_more : (ss : List Statement) (s : Statement) → AreSome (statements_of (ss ++ s ∷ []))
+some_more [] s = tt
+some_more (u ∷ ss) s = tt
+
+pub some_next : (ss ss' : List Statement) (s : Statement) → ss' ≡ ss ++ s ∷ [] → AreSome (statements_of ss')
+some_next ss ss' s e = rw e (some_more ss s)
+
+nesting_more : (ss : List Statement) (s : Statement) (m : ℕ) → statements_nesting (statements_of ss) ≤ m → statement_nesting (statement_of s) ≤ m →
+    statements_nesting (statements_of (ss ++ s ∷ [])) ≤ m
+nesting_more [] s m a b = omega arith
+nesting_more (u ∷ ss) s m a b = omega (arith, nesting_more ss s m (omega arith) b)
+
+pub nesting_next : (d : ℕ) (ss ss' : List Statement) (s : Statement) → ss' ≡ ss ++ s ∷ [] → d + statements_nesting (statements_of ss) ≤ 64 →
+    d + statement_nesting (statement_of s) ≤ 64 → d + statements_nesting (statements_of ss') ≤ 64
+nesting_next d ss ss' s e a b =
+    let m = max (statements_nesting (statements_of ss)) (statement_nesting (statement_of s)) in
+    let c = nesting_more ss s m (omega arith) (omega arith) in
+    omega (arith, c, ap (λ x. statements_nesting (statements_of x)) e)

@@ -1,0 +1,11 @@
+use Rattle.std.proofs.Common.{subst, sym, arith}
+use Rattle.kahn_syntax.specs.declared.lexeme.Keyword.{Keyword}
+use Rattle.kahn_syntax.specs.Lexemes.{letters_of, IsSpelled}
+use Rattle.kahn_syntax.proofs.Keywords.{placed}
+use Rattle.kahn_syntax.proofs.lexeme.Keyword.named.Goals as goal
+
+pub returns-clause-none : goal.returns-clause-none
+returns-clause-none c k spelled =
+    let p = placed k in
+    c.keywords.invariant.passed p.place (omega (arith, p.below))
+    (subst (λ (x : Keyword). IsSpelled (letters_of x) c.args.word.now) (sym p.is) spelled)

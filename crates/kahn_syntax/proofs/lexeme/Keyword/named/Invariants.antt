@@ -1,0 +1,12 @@
+use Rattle.std.proofs.Common.{◌≡◌, ℕ, ◌<◌, get_or}
+use Rattle.kahn_syntax.specs.declared.lexeme.Keyword.TheVariants.{And}
+use Rattle.kahn_syntax.specs.Lexemes.{letters_of, IsSpelled}
+use Rattle.kahn_syntax.proofs.Keywords.{all_keywords}
+use Rattle.kahn_syntax.proofs.lexeme.Keyword.named.Given as goal
+
+abbrev pub invariant-keywords : goal.invariant-keywords
+invariant-keywords l =
+    record {
+      items : l.keyword-items ≡ all_keywords;
+      passed : (i : ℕ) → i < l.keyword-index → ¬ (IsSpelled (letters_of (get_or all_keywords i And)) l.word);
+    }

@@ -1,0 +1,7 @@
+use Rattle.std.proofs.Common.{◌≡◌, ◌++◌, map}
+use Rattle.kahn_syntax.specs.Programs.{variable}
+use Rattle.kahn_syntax.specs.Drawn.{name_of, variable_of}
+use Rattle.kahn_syntax.proofs.parser.declaration.add_variables.Given as goal
+
+abbrev pub invariant-loop-name : goal.invariant-loop-name
+invariant-loop-name l = map variable_of l.variables.items ≡ map variable_of l.initial.variables.items ++ map (variable l.kind) (map name_of l.yielded)

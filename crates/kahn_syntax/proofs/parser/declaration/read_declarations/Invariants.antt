@@ -1,0 +1,15 @@
+use Rattle.std.proofs.Common.{◌≤◌, length, map}
+use Rattle.kahn_syntax.specs.Terminals.{terminals}
+use Rattle.kahn_syntax.specs.Programs.{Declarations, declarations_nesting}
+use Rattle.kahn_syntax.specs.Drawn.{declaration_of}
+use Rattle.kahn_syntax.proofs.parser.declaration.read_declarations.Given as goal
+
+abbrev pub invariant-declarations : goal.invariant-declarations
+invariant-declarations l = record {
+  words : Declarations (map declaration_of l.declarations.items) (terminals l.text l.input) (terminals l.text l.rest);
+  nesting : declarations_nesting (map declaration_of l.declarations.items) ≤ 64;
+  shorter : length l.rest ≤ length l.input;
+}
+
+abbrev pub decreases-declarations : goal.decreases-declarations
+decreases-declarations l = length l.rest

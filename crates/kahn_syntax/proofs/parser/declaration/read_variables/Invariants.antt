@@ -1,0 +1,14 @@
+use Rattle.std.proofs.Common.{◌≤◌, length, map}
+use Rattle.kahn_syntax.specs.Terminals.{terminals}
+use Rattle.kahn_syntax.specs.Programs.{Variables}
+use Rattle.kahn_syntax.specs.Drawn.{variable_of}
+use Rattle.kahn_syntax.proofs.parser.declaration.read_variables.Given as goal
+
+abbrev pub invariant-variables : goal.invariant-variables
+invariant-variables l = record {
+  words : Variables (map variable_of l.variables.items) (terminals l.text l.input) (terminals l.text l.rest);
+  shorter : length l.rest ≤ length l.input;
+}
+
+abbrev pub decreases-variables : goal.decreases-variables
+decreases-variables l = length l.rest

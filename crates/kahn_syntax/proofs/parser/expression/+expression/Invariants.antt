@@ -1,0 +1,36 @@
+use Rattle.std.proofs.Common.{◌≡◌, ◌≤◌, ◌<◌, ◌+◌, ◌*◌, length, max}
+use Rattle.kahn_syntax.specs.Terminals.{terminals}
+use Rattle.kahn_syntax.specs.Trees.{expression_words, operands_words, expression_nesting, operands_nesting, FormedOperands}
+use Rattle.kahn_syntax.specs.Drawn.{expression_of, operands_of}
+use Rattle.kahn_syntax.specs.Reads.{rank_of}
+use Rattle.kahn_syntax.proofs.Levels.{height}
+use Rattle.kahn_syntax.proofs.parser.expression.+expression.Given as goal
+
+abbrev pub decreases-read_denial : goal.decreases-read_denial
+decreases-read_denial l = 12 * length l.input.now + 6
+
+abbrev pub decreases-read_expression : goal.decreases-read_expression
+decreases-read_expression l = 12 * length l.input.now + 11
+
+abbrev pub decreases-read_factor : goal.decreases-read_factor
+decreases-read_factor l = 12 * length l.input.now
+
+abbrev pub decreases-read_level : goal.decreases-read_level
+decreases-read_level l = 12 * length l.input.now + (height l.level + 1)
+
+abbrev pub decreases-read_operand : goal.decreases-read_operand
+decreases-read_operand l = 12 * length l.input.now + height l.level
+
+abbrev pub decreases-read_relation : goal.decreases-read_relation
+decreases-read_relation l = 12 * length l.input.now + 5
+
+abbrev pub invariant-read_level-operands : goal.invariant-read_level-operands
+invariant-read_level-operands l = record {
+  words : terminals l.text l.input ≡ expression_words (expression_of l.first) (operands_words (operands_of l.further.items) (terminals l.text l.rest));
+  formed : FormedOperands (rank_of l.level) (operands_of l.further.items);
+  nesting : l.depth + max (expression_nesting (expression_of l.first)) (operands_nesting (operands_of l.further.items)) ≤ 64;
+  shorter : length l.rest < length l.input;
+}
+
+abbrev pub decreases-read_level-operands : goal.decreases-read_level-operands
+decreases-read_level-operands l = length l.rest

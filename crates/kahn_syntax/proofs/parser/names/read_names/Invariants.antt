@@ -1,0 +1,15 @@
+use Rattle.std.proofs.Common.{◌≡◌, ◌<◌, length, map}
+use Rattle.kahn_syntax.specs.Terminals.{terminals}
+use Rattle.kahn_syntax.specs.Drawn.{name_of}
+use Rattle.kahn_syntax.specs.Programs.{names_words, AreNames}
+use Rattle.kahn_syntax.proofs.parser.names.read_names.Given as goal
+
+abbrev pub invariant-names : goal.invariant-names
+invariant-names l = record {
+  words : terminals l.text l.input ≡ names_words (map name_of l.names.items) (terminals l.text l.rest);
+  some : AreNames (map name_of l.names.items);
+  shorter : length l.rest < length l.input;
+}
+
+abbrev pub decreases-names : goal.decreases-names
+decreases-names l = length l.rest

@@ -1,0 +1,29 @@
+use Rattle.std.proofs.Common.{◌≡◌, ◌≤◌, ◌+◌, ◌*◌, length}
+use Rattle.kahn_syntax.specs.Terminals.{terminals}
+use Rattle.kahn_syntax.specs.Trees.{statements_words, statements_nesting, FormedStatements, AreSome}
+use Rattle.kahn_syntax.specs.Drawn.{statements_of}
+use Rattle.kahn_syntax.proofs.parser.statement.+statement.Given as goal
+
+abbrev pub decreases-read_if : goal.decreases-read_if
+decreases-read_if l = 4 * length l.input.now + 1
+
+abbrev pub decreases-read_simple : goal.decreases-read_simple
+decreases-read_simple l = 4 * length l.input.now
+
+abbrev pub decreases-read_statement : goal.decreases-read_statement
+decreases-read_statement l = 4 * length l.input.now + 2
+
+abbrev pub decreases-read_statements : goal.decreases-read_statements
+decreases-read_statements l = 4 * length l.input.now + 3
+
+abbrev pub invariant-read_statements-statements : goal.invariant-read_statements-statements
+invariant-read_statements-statements l = record {
+  words : terminals l.text l.input ≡ statements_words (statements_of l.statements.items) (terminals l.text l.rest);
+  formed : FormedStatements (statements_of l.statements.items);
+  some : AreSome (statements_of l.statements.items);
+  nesting : l.depth + statements_nesting (statements_of l.statements.items) ≤ 64;
+  shorter : length l.rest ≤ length l.input;
+}
+
+abbrev pub decreases-read_statements-statements : goal.decreases-read_statements-statements
+decreases-read_statements-statements l = length l.rest

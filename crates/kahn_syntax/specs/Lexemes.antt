@@ -1,0 +1,200 @@
+-- The lexemes of a text: forms, classes, and the list that a text has.
+use Rattle.std.specs.Prelude.{◌≡◌, ℕ, ◌+◌, ◌≤◌, ◌<◌, ◌⊎◌, List, [], ◌∷◌, pos, length, slice_index, slice_range, codes, IsCharBoundary}
+use Rattle.std.specs.Str.{str_to_ascii_lowercase}
+use Rattle.std.specs.Str.Parse.{digits_value}
+use Rattle.kahn_syntax.specs.declared.span.Span.{Span}
+use Rattle.kahn_syntax.specs.declared.lexeme.Lexeme.{Lexeme}
+use Rattle.kahn_syntax.specs.declared.lexeme.Class.{Class}
+use Rattle.kahn_syntax.specs.declared.lexeme.Class.TheVariants as class
+use Rattle.kahn_syntax.specs.declared.lexeme.Keyword.{Keyword}
+use Rattle.kahn_syntax.specs.declared.lexeme.Keyword.TheVariants as word
+use Rattle.kahn_syntax.specs.declared.lexeme.Sign.{Sign}
+use Rattle.kahn_syntax.specs.declared.lexeme.Sign.TheVariants as sign
+use Rattle.kahn_syntax.specs.declared.fault.SyntaxFault.{SyntaxFault}
+use Rattle.kahn_syntax.specs.declared.fault.SyntaxFault.TheVariants.{TooLong, BadCharacter, NumberTooLarge, CommentOpen, NameTooLong, Expected, TooDeep, NoMemory}
+
+-- space, tab, CR and LF
+abbrev pub IsBlank : ℕ → Type 0
+IsBlank b = (b ≡ 32) ⊎ (b ≡ 9) ⊎ (b ≡ 13) ⊎ (b ≡ 10)
+
+-- an ASCII digit
+abbrev pub IsDigit : ℕ → Type 0
+IsDigit b = (48 ≤ b) × (b ≤ 57)
+
+-- an ASCII letter
+abbrev pub IsLetter : ℕ → Type 0
+IsLetter b = ((65 ≤ b) × (b ≤ 90)) ⊎ ((97 ≤ b) × (b ≤ 122))
+
+-- letters, digits and `_`
+abbrev pub IsWordByte : ℕ → Type 0
+IsWordByte b = IsLetter b ⊎ IsDigit b ⊎ (b ≡ 95)
+
+-- the bytes from a to b are a word: it begins with a letter
+abbrev pub IsWord : List ℕ → ℕ → ℕ → Type 0
+IsWord text a b = (a < b) × IsLetter (slice_index text a) × ((i : ℕ) → a < i → i < b → IsWordByte (slice_index text i))
+
+-- the bytes from a to b are a run of digits
+abbrev pub IsRun : List ℕ → ℕ → ℕ → Type 0
+IsRun text a b = (a < b) × ((i : ℕ) → a ≤ i → i < b → IsDigit (slice_index text i))
+
+-- the bytes of a sign; U+00AC takes two
+abbrev pub bytes_of_sign : Sign → List ℕ
+bytes_of_sign sign.Becomes = codes ":="
+bytes_of_sign sign.Open = codes "("
+bytes_of_sign sign.Close = codes ")"
+bytes_of_sign sign.Comma = codes ","
+bytes_of_sign sign.Semicolon = codes ";"
+bytes_of_sign sign.Plus = codes "+"
+bytes_of_sign sign.Minus = codes "-"
+bytes_of_sign sign.Times = codes "*"
+bytes_of_sign sign.Equal = codes "="
+bytes_of_sign sign.Unequal = codes "<>"
+bytes_of_sign sign.Less = codes "<"
+bytes_of_sign sign.AtMost = codes "<="
+bytes_of_sign sign.Greater = codes ">"
+bytes_of_sign sign.AtLeast = codes ">="
+bytes_of_sign sign.Not = 0xC2 ∷ 0xAC ∷ []
+
+-- the bytes from a to b are these
+abbrev pub HasBytes : List ℕ → ℕ → ℕ → List ℕ → Type 0
+HasBytes text a b [] = a ≡ b
+HasBytes text a b (c ∷ cs) = (slice_index text a ≡ c) × HasBytes text (a + 1) b cs
+
+-- the bytes from a to b are the sign
+abbrev pub IsSign : List ℕ → Sign → ℕ → ℕ → Type 0
+IsSign text s a b = HasBytes text a b (bytes_of_sign s)
+
+-- the bytes from a to b have a form
+abbrev pub HasForm : List ℕ → ℕ → ℕ → Type 0
+HasForm text a b = IsWord text a b ⊎ IsRun text a b ⊎ ((s : Sign) × IsSign text s a b)
+
+-- they have a form, and nothing longer from a has one
+pub record IsLongest (text : List ℕ) (a b : ℕ) : Type 0 where
+  pub inside : b ≤ length text
+  pub form : HasForm text a b
+  pub longest : (n : ℕ) → b < n → n ≤ length text → HasForm text a n → ⊥
+
+-- the letters of a keyword, in lower case
+abbrev pub letters_of : Keyword → List ℕ
+letters_of word.And = codes "and"
+letters_of word.Begin = codes "begin"
+letters_of word.Channel = codes "channel"
+letters_of word.Div = codes "div"
+letters_of word.Do = codes "do"
+letters_of word.Else = codes "else"
+letters_of word.End = codes "end"
+letters_of word.False = codes "false"
+letters_of word.If = codes "if"
+letters_of word.In = codes "in"
+letters_of word.Input = codes "input"
+letters_of word.Integer = codes "integer"
+letters_of word.Logical = codes "logical"
+letters_of word.Mod = codes "mod"
+letters_of word.Not = codes "not"
+letters_of word.On = codes "on"
+letters_of word.Or = codes "or"
+letters_of word.Out = codes "out"
+letters_of word.Output = codes "output"
+letters_of word.Par = codes "par"
+letters_of word.Print = codes "print"
+letters_of word.Process = codes "process"
+letters_of word.Repeat = codes "repeat"
+letters_of word.Send = codes "send"
+letters_of word.Then = codes "then"
+letters_of word.True = codes "true"
+letters_of word.Wait = codes "wait"
+letters_of word.While = codes "while"
+
+-- these bytes are that word, in any letter case
+abbrev pub IsSpelled : List ℕ → List ℕ → Type 0
+IsSpelled letters bytes = str_to_ascii_lowercase bytes ≡ letters
+
+-- the greatest value that a number may have
+abbrev pub largest_number : ℕ
+largest_number = 9223372036854775807
+
+-- the word `comment`, in any letter case
+abbrev pub IsCommentWord : List ℕ → ℕ → ℕ → Type 0
+IsCommentWord text a b = IsWord text a b × IsSpelled (codes "comment") (slice_range text a b)
+
+-- the bytes from a to b are a lexeme of this class: a keyword; any other word of at most 64 bytes but `comment`; a run of
+-- digits with its value, up to the largest number; a sign
+abbrev pub IsOfClass : List ℕ → Class → ℕ → ℕ → Type 0
+IsOfClass text (class.Word k) a b = IsWord text a b × IsSpelled (letters_of k) (slice_range text a b)
+IsOfClass text class.Name a b = IsWord text a b × (b ≤ a + 64) × ¬ (IsSpelled (codes "comment") (slice_range text a b))
+    × ((k : Keyword) → ¬ (IsSpelled (letters_of k) (slice_range text a b)))
+IsOfClass text (class.Number n) a b = IsRun text a b × (n ≡ pos (digits_value 10 (slice_range text a b)))
+    × (digits_value 10 (slice_range text a b) ≤ largest_number)
+IsOfClass text (class.Sign s) a b = IsSign text s a b
+
+-- a lexeme of the text, where it stands
+pub record Stands (text : List ℕ) (x : Lexeme) : Type 0 where
+  pub longest : IsLongest text x.span.from x.span.to
+  pub class : IsOfClass text x.what x.span.from x.span.to
+
+-- a lexeme's bytes are a part of the text, and may be cut out of it
+abbrev pub IsSlice : List ℕ → Lexeme → Type 0
+IsSlice text x = (x.span.from < x.span.to) × (x.span.to ≤ length text)
+    × IsCharBoundary text x.span.from × IsCharBoundary text x.span.to
+
+-- the first semicolon from a on is the byte before b
+abbrev pub Closes : List ℕ → ℕ → ℕ → Type 0
+Closes text a b = (e : ℕ) × (b ≡ e + 1) × (a ≤ e) × (e < length text) × (slice_index text e ≡ 59)
+    × ((i : ℕ) → a ≤ i → i < e → ¬ (slice_index text i ≡ 59))
+
+-- a comment: the word, which is the longest there, then all through the next semicolon
+abbrev pub IsComment : List ℕ → ℕ → ℕ → Type 0
+IsComment text a b = (m : ℕ) × IsLongest text a m × IsCommentWord text a m × Closes text m b
+
+-- blanks and comments alone stand from a to b
+pub data Gap (text : List ℕ) (a : ℕ) : ℕ → Type 0 where
+  no_gap : Gap text a a
+  then_blank : {b : ℕ} → Gap text a b → IsBlank (slice_index text b) → Gap text a (b + 1)
+  then_comment : {b c : ℕ} → Gap text a b → IsComment text b c → Gap text a c
+
+-- these are the lexemes of the text from a to b: each stands there, and only blanks and comments stand between
+abbrev pub Lexed : List ℕ → ℕ → ℕ → List Lexeme → Type 0
+Lexed text a b [] = Gap text a b
+Lexed text a b (x ∷ xs) = Gap text a x.span.from × Stands text x × Lexed text x.span.to b xs
+
+-- the most bytes that a text may have
+abbrev pub most_bytes : ℕ
+most_bytes = 1048576
+
+-- the text isn't too long, and up to a it is lexemes, blanks and comments: a fault at a is the first
+abbrev pub IsReached : List ℕ → ℕ → Type 0
+IsReached text a = (length text ≤ most_bytes) × ((xs : List Lexeme) × Lexed text 0 a xs)
+
+-- one character of the text: it may be cut before and behind, and not within
+abbrev pub IsCharacter : List ℕ → Span → Type 0
+IsCharacter text at = (at.from < at.to) × IsCharBoundary text at.from × IsCharBoundary text at.to × ((i : ℕ) → at.from < i → i < at.to → ¬ (IsCharBoundary text i))
+
+-- a character that isn't blank and where no form begins, as a `:` without `=` after it
+abbrev pub IsBadCharacter : List ℕ → Span → Type 0
+IsBadCharacter text at = IsCharacter text at × ¬ (IsBlank (slice_index text at.from))
+    × ((n : ℕ) → n ≤ length text → ¬ (HasForm text at.from n))
+
+-- a run of digits above the largest number
+abbrev pub IsLargeNumber : List ℕ → Span → Type 0
+IsLargeNumber text at = IsLongest text at.from at.to × IsRun text at.from at.to
+    × (largest_number < digits_value 10 (slice_range text at.from at.to))
+
+-- the word `comment` with no semicolon after it
+abbrev pub IsOpenComment : List ℕ → Span → Type 0
+IsOpenComment text at = IsLongest text at.from at.to × IsCommentWord text at.from at.to
+    × ((i : ℕ) → at.to ≤ i → i < length text → ¬ (slice_index text i ≡ 59))
+
+-- a word of more than 64 bytes
+abbrev pub IsLongName : List ℕ → Span → Type 0
+IsLongName text at = IsLongest text at.from at.to × IsWord text at.from at.to × (at.from + 64 < at.to)
+
+-- the first fault of a text's lexemes: a text that is too long has no other, and memory may be wanted at any place
+abbrev pub IsLexFault : List ℕ → SyntaxFault → Type 0
+IsLexFault text TooLong = most_bytes < length text
+IsLexFault text (BadCharacter at) = IsReached text at.from × IsBadCharacter text at
+IsLexFault text (NumberTooLarge at) = IsReached text at.from × IsLargeNumber text at
+IsLexFault text (CommentOpen at) = IsReached text at.from × IsOpenComment text at
+IsLexFault text (NameTooLong at) = IsReached text at.from × IsLongName text at
+IsLexFault text (Expected at what) = ⊥
+IsLexFault text (TooDeep at) = ⊥
+IsLexFault text NoMemory = length text ≤ most_bytes

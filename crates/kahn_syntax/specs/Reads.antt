@@ -1,0 +1,50 @@
+-- What each function of the parser reads, and where it stops.
+use Rattle.std.specs.Prelude.{◌≡◌, ℕ, List, ◌≤◌, ◌<◌, Contains}
+use Rattle.kahn_syntax.specs.declared.fault.SyntaxFault.{SyntaxFault}
+use Rattle.kahn_syntax.specs.declared.fault.SyntaxFault.TheVariants as fault
+use Rattle.kahn_syntax.specs.declared.fault.SyntaxFault.TheVariants.{Expected}
+use Rattle.kahn_syntax.specs.declared.fault.What.TheVariants.{More}
+use Rattle.kahn_syntax.specs.declared.parser.cursor.Stop.{Stop}
+use Rattle.kahn_syntax.specs.declared.parser.cursor.Stop.TheVariants.{Refused, TooDeep, NoMemory}
+use Rattle.kahn_syntax.specs.declared.parser.operator.Level.{Level}
+use Rattle.kahn_syntax.specs.declared.parser.operator.Level.TheVariants.{Or, And, Sum, Term}
+use Rattle.kahn_syntax.specs.declared.lexeme.Lexeme.{Lexeme}
+use Rattle.kahn_syntax.specs.Trees.{ExpressionTree, OperandTrees, no_operand, operand, level, binds, Formed}
+
+-- how many lexemes are left at the fault, with the one at which it stands
+abbrev pub left_of : Stop → ℕ
+left_of (Refused whole left) = left
+left_of (TooDeep left) = left
+left_of NoMemory = 0
+
+-- where the nesting is too deep, a lexeme is left
+abbrev pub Deepens : Stop → Type 0
+Deepens (TooDeep left) = 0 < left
+Deepens _ = Unit {0}
+
+-- No more than this number of lexemes are left at the fault.
+abbrev pub Within : ℕ → Stop → Type 0
+Within n e = (left_of e ≤ n) × Deepens e
+
+-- A fault of these lexemes, of a text of this length: it stands at one of them, or at the end of the text.
+abbrev pub StandsAt : ℕ → List Lexeme → SyntaxFault → Type 0
+StandsAt end lexemes (Expected span More) = (span.from ≡ end) × (span.to ≡ end)
+StandsAt end lexemes (Expected span _) = (x : Lexeme) × Contains lexemes x × (span ≡ x.span)
+StandsAt end lexemes (fault.TooDeep span) = (x : Lexeme) × Contains lexemes x × (span ≡ x.span)
+StandsAt end lexemes fault.NoMemory = Unit {0}
+StandsAt end lexemes _ = ⊥
+
+-- an expression that may stand at this level
+abbrev pub Fits : ℕ → ExpressionTree → Type 0
+Fits n e = (n ≤ binds e) × Formed e
+
+abbrev pub rank_of : Level → ℕ
+rank_of Or = 1
+rank_of And = 2
+rank_of Sum = 5
+rank_of Term = 6
+
+-- the node of a level, or the first operand alone where there is no other
+abbrev pub joined : ExpressionTree → OperandTrees → ExpressionTree
+joined e no_operand = e
+joined e (operand o f os) = level e (operand o f os)

@@ -1,0 +1,162 @@
+//! The forms of lexemes: words, runs of digits and signs.
+
+ghost use Rattle.std.specs.Prelude.{◌≡◌, ℕ, ◌+◌, ◌≤◌, ◌<◌, ◌↔◌, ◌∷◌, [], IsTrue, length, slice_index, IfSome, IfNone};
+ghost use Rattle.kahn_syntax.specs.declared.lexeme.Sign.{Sign};
+ghost use Rattle.kahn_syntax.specs.Lexemes.{IsBlank, IsDigit, IsLetter, IsWordByte, IsSign, IsLongest, HasForm, Closes, bytes_of_sign};
+ghost use Rattle.kahn_syntax.specs.Items.{IsOfForm, form_end};
+
+use crate::lexeme::Sign;
+
+/// A form that the text has at a place, with the place after it.
+#[derive(Clone, Copy, Debug, PartialEq, Eq)]
+pub enum Form {
+    Word(usize),
+    Run(usize),
+    Sign(Sign, usize),
+}
+
+/// Whether it is a space, a tab, a CR or an LF.
+pub fn is_blank(b: u8) -> bool
+    ensures { IsTrue result ↔ IsBlank b }
+{
+    b == b' ' || b == b'\t' || b == b'\r' || b == b'\n'
+}
+
+fn is_digit(b: u8) -> bool
+    ensures { IsTrue result ↔ IsDigit b }
+{
+    b'0' <= b && b <= b'9'
+}
+
+fn is_letter(b: u8) -> bool
+    ensures { IsTrue result ↔ IsLetter b }
+{
+    b'A' <= b && b <= b'Z' || b'a' <= b && b <= b'z'
+}
+
+fn is_word_byte(b: u8) -> bool
+    ensures { IsTrue result ↔ IsWordByte b }
+{
+    is_letter(b) || is_digit(b) || b == b'_'
+}
+
+/// Where the bytes of a word end.
+fn word_end(text: &[u8], from: usize) -> usize
+    requires { from ≤ length text.now }
+    ensures low { from ≤ result }
+    ensures high { result ≤ length text.now }
+    ensures bytes { (i : ℕ) → from ≤ i → i < result → IsWordByte (slice_index text.now i) }
+    ensures end { result < length text.now → IsWordByte (slice_index text.now result) → ⊥ }
+{
+    let mut at = from;
+    'bytes: while at < text.len() {
+        if !is_word_byte(text[at]) {
+            return at;
+        }
+        at += 1;
+    }
+    at
+}
+
+/// Where the digits of a number end.
+fn run_end(text: &[u8], from: usize) -> usize
+    requires { from ≤ length text.now }
+    ensures low { from ≤ result }
+    ensures high { result ≤ length text.now }
+    ensures bytes { (i : ℕ) → from ≤ i → i < result → IsDigit (slice_index text.now i) }
+    ensures end { result < length text.now → IsDigit (slice_index text.now result) → ⊥ }
+{
+    let mut at = from;
+    'digits: while at < text.len() {
+        if !is_digit(text[at]) {
+            return at;
+        }
+        at += 1;
+    }
+    at
+}
+
+/// The sign of these two bytes.
+fn sign_of_two(first: u8, second: u8) -> Option<Sign>
+    ensures some { IfSome result (λ s. bytes_of_sign s ≡ first ∷ second ∷ []) }
+    ensures none { IfNone result ((s : Sign) → ¬ (bytes_of_sign s ≡ first ∷ second ∷ [])) }
+{
+    match (first, second) {
+        (b':', b'=') => Some(Sign::Becomes),
+        (b'<', b'>') => Some(Sign::Unequal),
+        (b'<', b'=') => Some(Sign::AtMost),
+        (b'>', b'=') => Some(Sign::AtLeast),
+        (0xC2, 0xAC) => Some(Sign::Not),
+        _ => None,
+    }
+}
+
+/// The sign of this byte.
+fn sign_of_one(byte: u8) -> Option<Sign>
+    ensures some { IfSome result (λ s. bytes_of_sign s ≡ byte ∷ []) }
+    ensures none { IfNone result ((s : Sign) → ¬ (bytes_of_sign s ≡ byte ∷ [])) }
+{
+    match byte {
+        b'(' => Some(Sign::Open),
+        b')' => Some(Sign::Close),
+        b',' => Some(Sign::Comma),
+        b';' => Some(Sign::Semicolon),
+        b'+' => Some(Sign::Plus),
+        b'-' => Some(Sign::Minus),
+        b'*' => Some(Sign::Times),
+        b'=' => Some(Sign::Equal),
+        b'<' => Some(Sign::Less),
+        b'>' => Some(Sign::Greater),
+        _ => None,
+    }
+}
+
+/// The longest sign that begins here, if one does, with the place after it.
+fn sign_at(text: &[u8], from: usize) -> Option<(Sign, usize)>
+    requires { from < length text.now }
+    ensures inside { IfSome result (λ r. (from < r.1) × (r.1 ≤ length text.now)) }
+    ensures sign { IfSome result (λ r. IsSign text.now r.0 from r.1) }
+    ensures longest { IfSome result (λ r. (s : Sign) (n : ℕ) → r.1 < n → n ≤ length text.now → ¬ (IsSign text.now s from n)) }
+    ensures none { IfNone result ((s : Sign) (n : ℕ) → n ≤ length text.now → ¬ (IsSign text.now s from n)) }
+{
+    if from + 1 < text.len() {
+        if let Some(sign) = sign_of_two(text[from], text[from + 1]) {
+            return Some((sign, from + 2));
+        }
+    }
+    let sign = sign_of_one(text[from])?;
+    Some((sign, from + 1))
+}
+
+/// The longest form that begins here, if one does.
+pub fn form_at(text: &[u8], from: usize) -> Option<Form>
+    requires { from < length text.now }
+    ensures some { IfSome result (λ f. IsLongest text.now from (form_end f) × IsOfForm text.now f from) }
+    ensures none { IfNone result ((n : ℕ) → n ≤ length text.now → ¬ (HasForm text.now from n)) }
+{
+    let byte = text[from];
+    if is_letter(byte) {
+        return Some(Form::Word(word_end(text, from + 1)));
+    }
+    if is_digit(byte) {
+        return Some(Form::Run(run_end(text, from + 1)));
+    }
+    let (sign, to) = sign_at(text, from)?;
+    Some(Form::Sign(sign, to))
+}
+
+/// Where a comment ends whose word ends here, if it does: after the next semicolon.
+pub fn comment_end(text: &[u8], from: usize) -> Option<usize>
+    requires { from ≤ length text.now }
+    ensures found { IfSome result (λ b. Closes text.now from b × (b ≤ length text.now)) }
+    ensures none { IfNone result ((i : ℕ) → from ≤ i → i < length text.now → ¬ (slice_index text.now i ≡ 59)) }
+{
+    let mut at = from;
+    'bytes: while at < text.len() {
+        if text[at] == b';' {
+            return Some(at + 1);
+        }
+        at += 1;
+    }
+    None
+}

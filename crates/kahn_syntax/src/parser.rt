@@ -1,0 +1,35 @@
+//! The parser: from the lexemes of a text to its tree, by recursive descent.
+//!
+//! Lists are read by loops, and recursion goes no deeper than the nesting of the text, which is limited.
+
+ghost use Rattle.std.specs.Prelude.{◌≤◌, IfOk, IfErr};
+ghost use Rattle.kahn_syntax.specs.Drawn.{program_of};
+ghost use Rattle.kahn_syntax.specs.Programs.{nesting};
+ghost use Rattle.kahn_syntax.specs.Texts.{IsProgram, IsTextFault};
+
+pub mod build;
+pub mod cursor;
+pub mod declaration;
+pub mod expression;
+pub mod names;
+pub mod operator;
+pub mod program;
+pub mod statement;
+
+use crate::fault::SyntaxFault;
+use crate::lexer::lex;
+use crate::tree::Program;
+use program::parse_lexemes;
+use std::alloc::Global;
+
+/// The program that a text is. Faults of lexemes come before all others, over the whole text.
+pub fn parse(alloc: Global, text: &str) -> Result<Program, SyntaxFault>
+    ensures spells { IfOk result (IsProgram text.now) }
+    ensures nesting { IfOk result (λ p. nesting (program_of p) ≤ 64) }
+    ensures fault { IfErr result (IsTextFault text.now) }
+{
+    match lex(alloc, text) {
+        Ok(lexemes) => parse_lexemes(alloc, text, &lexemes),
+        Err(fault) => Err(fault),
+    }
+}

@@ -1,0 +1,219 @@
+//! Declarations of channels and processes.
+
+ghost use Rattle.std.specs.Prelude.{◌≡◌, ◌≤◌, ◌<◌, ◌+◌, ◌++◌, ◌∷◌, ℕ, List, length, map, IfOk, IfErr, IfSome};
+ghost use Rattle.kahn_syntax.specs.declared.lexeme.Keyword.TheVariants as keyword;
+ghost use Rattle.kahn_syntax.specs.declared.lexeme.Sign.TheVariants as mark;
+ghost use Rattle.kahn_syntax.specs.declared.parser.cursor.Stop.TheVariants.{NoMemory};
+ghost use Rattle.kahn_syntax.specs.Terminals.{terminals, word, sign};
+ghost use Rattle.kahn_syntax.specs.Programs.{kind_terminal, role_words, taking_words, names_words, AreNames, Parameters, Variables, Declares, Declarations, declaration_nesting, declarations_nesting, parameter, variable};
+ghost use Rattle.kahn_syntax.specs.Drawn.{name_of};
+ghost use Rattle.kahn_syntax.specs.Drawn.{parameter_of, variable_of, process_of, declaration_of};
+ghost use Rattle.kahn_syntax.specs.Reads.{Within};
+
+use crate::lexeme::{Class, Keyword, Lexeme, Sign};
+use crate::parser::cursor::{Read, Stop, expect, next};
+use crate::parser::names::{read_name, read_names};
+use crate::parser::statement::read_statements;
+use crate::tree::{Declaration, Direction, Kind, Name, Parameter, Process, Role, Taking, Variable};
+use std::alloc::Global;
+
+// The kind that stands first, and the lexemes after it.
+fn next_kind(input: &[Lexeme]) -> Option<(Kind, &[Lexeme])>
+    ensures first { IfSome result (λ r. (text : List ℕ) → terminals text input.now ≡ kind_terminal r.0 ∷ terminals text r.1.now) }
+    ensures shorter { IfSome result (λ r. length input.now ≡ length r.1.now + 1) }
+{
+    match next(input)? {
+        (Class::Word(Keyword::Integer), rest) => Some((Kind::Integer, rest)),
+        (Class::Word(Keyword::Logical), rest) => Some((Kind::Logical, rest)),
+        _ => None,
+    }
+}
+
+/// The declarations that stand first, each with the semicolon after it: none or more.
+pub fn read_declarations<'t>(
+    alloc: Global,
+    text: &str,
+    input: &'t [Lexeme],
+) -> Read<'t, Vec<Declaration>>
+    ensures words { IfOk result (λ r. Declarations (map declaration_of r.0.items) (terminals text.now input.now) (terminals text.now r.1.now)) }
+    ensures nesting { IfOk result (λ r. declarations_nesting (map declaration_of r.0.items) ≤ 64) }
+    ensures shorter { IfOk result (λ r. length r.1.now ≤ length input.now) }
+    ensures within { IfErr result (λ e. Within (length input.now) e) }
+{
+    let mut declarations = Vec::new(alloc);
+    let mut rest = input;
+    'declarations: while begins_declaration(rest) {
+        let (declaration, after) = read_declaration(alloc, text, rest)?;
+        let after = expect(after, Class::Sign(Sign::Semicolon))?;
+        declarations.push(declaration)?;
+        rest = after;
+    }
+    Ok((declarations, rest))
+}
+
+// Whether a declaration stands first: a name begins an instance.
+fn begins_declaration(input: &[Lexeme]) -> bool {
+    matches!(
+        next(input),
+        Some((
+            Class::Word(Keyword::Integer | Keyword::Logical | Keyword::Process),
+            _
+        ))
+    )
+}
+
+// A declaration.
+fn read_declaration<'t>(alloc: Global, text: &str, input: &'t [Lexeme]) -> Read<'t, Declaration>
+    ensures words { IfOk result (λ r. Declares (declaration_of r.0) (terminals text.now input.now) (terminals text.now r.1.now)) }
+    ensures nesting { IfOk result (λ r. declaration_nesting (declaration_of r.0) ≤ 64) }
+    ensures shorter { IfOk result (λ r. length r.1.now < length input.now) }
+    ensures within { IfErr result (λ e. Within (length input.now) e) }
+{
+    match next_kind(input) {
+        Some((kind, rest)) => {
+            let (role, rest) = read_role(rest);
+            let rest = expect(rest, Class::Word(Keyword::Channel))?;
+            let (names, rest) = read_names(alloc, text, rest)?;
+            Ok((Declaration::Channels(kind, role, names), rest))
+        }
+        None => {
+            let (process, rest) = read_process(alloc, text, input)?;
+            Ok((Declaration::Process(process), rest))
+        }
+    }
+}
+
+// The role that stands before `channel`, where one stands.
+fn read_role(input: &[Lexeme]) -> (Role, &[Lexeme])
+    ensures words { (text : List ℕ) → terminals text input.now ≡ role_words result.0 (terminals text result.1.now) }
+    ensures shorter { length result.1.now ≤ length input.now }
+{
+    match next(input) {
+        Some((Class::Word(Keyword::Input), rest)) => (Role::Input, rest),
+        Some((Class::Word(Keyword::Output), rest)) => (Role::Output, rest),
+        _ => (Role::Inner, input),
+    }
+}
+
+// A process with its body.
+fn read_process<'t>(alloc: Global, text: &str, input: &'t [Lexeme]) -> Read<'t, Process>
+    ensures words { IfOk result (λ r. Declares (process_of r.0) (terminals text.now input.now) (terminals text.now r.1.now)) }
+    ensures nesting { IfOk result (λ r. declaration_nesting (process_of r.0) ≤ 64) }
+    ensures shorter { IfOk result (λ r. length r.1.now < length input.now) }
+    ensures within { IfErr result (λ e. Within (length input.now) e) }
+{
+    let rest = expect(input, Class::Word(Keyword::Process))?;
+    let (name, rest) = read_name(alloc, text, rest)?;
+    let rest = expect(rest, Class::Sign(Sign::Open))?;
+    let (parameters, rest) = read_parameters(alloc, text, rest)?;
+    let rest = expect(rest, Class::Sign(Sign::Close))?;
+    let rest = expect(rest, Class::Sign(Sign::Semicolon))?;
+    let rest = expect(rest, Class::Word(Keyword::Begin))?;
+    let (variables, rest) = read_variables(alloc, text, rest)?;
+    let (statements, rest) = read_statements(alloc, text, rest, 0)?;
+    let rest = expect(rest, Class::Word(Keyword::End))?;
+    let process = Process {
+        name,
+        parameters,
+        variables,
+        statements,
+    };
+    Ok((process, rest))
+}
+
+// The groups of parameters, with semicolons between: none or more.
+fn read_parameters<'t>(alloc: Global, text: &str, input: &'t [Lexeme]) -> Read<'t, Vec<Parameter>>
+    ensures words { IfOk result (λ r. Parameters (map parameter_of r.0.items) (terminals text.now input.now) (terminals text.now r.1.now)) }
+    ensures shorter { IfOk result (λ r. length r.1.now ≤ length input.now) }
+    ensures within { IfErr result (λ e. Within (length input.now) e) }
+{
+    let mut parameters = Vec::new(alloc);
+    if next_kind(input).is_none() {
+        return Ok((parameters, input));
+    }
+    let (first, mut rest) = read_group(alloc, text, input)?;
+    add_parameters(&mut parameters, first.taking, first.names)?;
+    'groups: while let Some((Class::Sign(Sign::Semicolon), after)) = next(rest) {
+        let (further, left) = read_group(alloc, text, after)?;
+        add_parameters(&mut parameters, further.taking, further.names)?;
+        rest = left;
+    }
+    Ok((parameters, rest))
+}
+
+// Names of parameters that take the same.
+#[derive(Drop)]
+struct Group {
+    taking: Taking,
+    names: Vec<Name>,
+}
+
+// A group of parameters.
+fn read_group<'t>(alloc: Global, text: &str, input: &'t [Lexeme]) -> Read<'t, Group>
+    ensures words { IfOk result (λ r. terminals text.now input.now ≡ taking_words r.0.taking (names_words (map name_of r.0.names.items) (terminals text.now r.1.now))) }
+    ensures some { IfOk result (λ r. AreNames (map name_of r.0.names.items)) }
+    ensures shorter { IfOk result (λ r. length r.1.now < length input.now) }
+    ensures within { IfErr result (λ e. Within (length input.now) e) }
+{
+    let Some((kind, rest)) = next_kind(input) else {
+        return Err(Stop::Refused(false, input.len()));
+    };
+    let (taking, rest) = read_taking(kind, rest);
+    let (names, rest) = read_names(alloc, text, rest)?;
+    Ok((Group { taking, names }, rest))
+}
+
+// What the parameters of a group of this kind take.
+fn read_taking(kind: Kind, input: &[Lexeme]) -> (Taking, &[Lexeme])
+    ensures words { (text : List ℕ) → kind_terminal kind ∷ terminals text input.now ≡ taking_words result.0 (terminals text result.1.now) }
+    ensures shorter { length result.1.now ≤ length input.now }
+{
+    match next(input) {
+        Some((Class::Word(Keyword::In), rest)) => (Taking::Channel(Direction::In, kind), rest),
+        Some((Class::Word(Keyword::Out), rest)) => (Taking::Channel(Direction::Out, kind), rest),
+        _ => (Taking::Value(kind), input),
+    }
+}
+
+// Parameters of these names.
+fn add_parameters(
+    parameters: &mut Vec<Parameter>,
+    taking: Taking,
+    names: Vec<Name>,
+) -> Result<(), Stop>
+    ensures added { IfOk result (λ _. map parameter_of parameters.new.items ≡ map parameter_of parameters.old.items ++ map (parameter taking) (map name_of names.items)) }
+    ensures stop { IfErr result (λ e. e ≡ NoMemory) }
+{
+    for name in names {
+        parameters.push(Parameter { taking, name })?;
+    }
+    Ok(())
+}
+
+// The variables of a body: none or more.
+fn read_variables<'t>(alloc: Global, text: &str, input: &'t [Lexeme]) -> Read<'t, Vec<Variable>>
+    ensures words { IfOk result (λ r. Variables (map variable_of r.0.items) (terminals text.now input.now) (terminals text.now r.1.now)) }
+    ensures shorter { IfOk result (λ r. length r.1.now ≤ length input.now) }
+    ensures within { IfErr result (λ e. Within (length input.now) e) }
+{
+    let mut variables = Vec::new(alloc);
+    let mut rest = input;
+    'variables: while let Some((kind, after)) = next_kind(rest) {
+        let (names, after) = read_names(alloc, text, after)?;
+        let after = expect(after, Class::Sign(Sign::Semicolon))?;
+        add_variables(&mut variables, kind, names)?;
+        rest = after;
+    }
+    Ok((variables, rest))
+}
+
+// Variables of these names.
+fn add_variables(variables: &mut Vec<Variable>, kind: Kind, names: Vec<Name>) -> Result<(), Stop>
+    ensures added { IfOk result (λ _. map variable_of variables.new.items ≡ map variable_of variables.old.items ++ map (variable kind) (map name_of names.items)) }
+    ensures stop { IfErr result (λ e. e ≡ NoMemory) }
+{
+    for name in names {
+        variables.push(Variable { kind, name })?;
+    }
+    Ok(())
+}

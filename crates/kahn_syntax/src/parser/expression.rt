@@ -1,0 +1,238 @@
+//! Expressions.
+
+ghost use Rattle.std.specs.Prelude.{◌≡◌, ◌≤◌, ◌<◌, ◌+◌, length, IfOk, IfErr};
+ghost use Rattle.kahn_syntax.specs.declared.lexeme.Keyword.TheVariants as keyword;
+ghost use Rattle.kahn_syntax.specs.declared.lexeme.Class.TheVariants as class;
+ghost use Rattle.kahn_syntax.specs.Terminals.{terminals, First};
+ghost use Rattle.kahn_syntax.specs.Trees.{expression_words, expression_nesting};
+ghost use Rattle.kahn_syntax.specs.Drawn.{expression_of};
+ghost use Rattle.kahn_syntax.specs.Reads.{Within, Fits, rank_of};
+
+use crate::lexeme::{Class, Keyword, Lexeme, Sign};
+use crate::parser::build::{bracketed, chosen, compared, denied, levelled, negated};
+use crate::parser::cursor::{Read, Stop, deeper, expect, next, reach};
+use crate::parser::names::read_name;
+use crate::parser::operator::{Level, next_comparison, next_not, next_operator};
+use crate::tree::{Expression, Form, Operand};
+use std::alloc::Global;
+
+/// An expression.
+#[cycle(expression)]
+pub fn read_expression<'t>(
+    alloc: Global,
+    text: &str,
+    input: &'t [Lexeme],
+    depth: usize,
+) -> Read<'t, Expression>
+    requires { depth ≤ 64 }
+    ensures words { IfOk result (λ r. terminals text.now input.now ≡ expression_words (expression_of r.0) (terminals text.now r.1.now)) }
+    ensures fits { IfOk result (λ r. Fits 0 (expression_of r.0)) }
+    ensures nesting { IfOk result (λ r. depth + expression_nesting (expression_of r.0) ≤ 64) }
+    ensures shorter { IfOk result (λ r. length r.1.now < length input.now) }
+    ensures within { IfErr result (λ e. Within (length input.now) e) }
+{
+    let Some((Class::Word(Keyword::If), rest)) = next(input) else {
+        return read_level(alloc, text, input, Level::Or, depth);
+    };
+    let inner = deeper(input, depth)?;
+    let (test, rest) = read_expression(alloc, text, rest, inner)?;
+    let rest = expect(rest, Class::Word(Keyword::Then))?;
+    let (yes, rest) = read_expression(alloc, text, rest, inner)?;
+    let rest = expect(rest, Class::Word(Keyword::Else))?;
+    let (no, rest) = read_expression(alloc, text, rest, inner)?;
+    let expression = chosen(alloc, reach(input, rest), test, yes, no)?;
+    Ok((expression, rest))
+}
+
+// Operands with operators of this level between.
+#[cycle(expression)]
+fn read_level<'t>(
+    alloc: Global,
+    text: &str,
+    input: &'t [Lexeme],
+    level: Level,
+    depth: usize,
+) -> Read<'t, Expression>
+    requires { depth ≤ 64 }
+    ensures words { IfOk result (λ r. terminals text.now input.now ≡ expression_words (expression_of r.0) (terminals text.now r.1.now)) }
+    ensures fits { IfOk result (λ r. Fits (rank_of level) (expression_of r.0)) }
+    ensures nesting { IfOk result (λ r. depth + expression_nesting (expression_of r.0) ≤ 64) }
+    ensures shorter { IfOk result (λ r. length r.1.now < length input.now) }
+    ensures within { IfErr result (λ e. Within (length input.now) e) }
+{
+    let (first, mut rest) = read_operand(alloc, text, input, level, depth)?;
+    let mut further = Vec::new(alloc);
+    'operands: while let Some((operator, after)) = next_operator(rest, level) {
+        let (expression, left) = read_operand(alloc, text, after, level, depth)?;
+        further.push(Operand {
+            operator,
+            expression,
+        })?;
+        rest = left;
+    }
+    let expression = levelled(alloc, reach(input, rest), first, further)?;
+    Ok((expression, rest))
+}
+
+// An operand of this level.
+#[cycle(expression)]
+fn read_operand<'t>(
+    alloc: Global,
+    text: &str,
+    input: &'t [Lexeme],
+    level: Level,
+    depth: usize,
+) -> Read<'t, Expression>
+    requires { depth ≤ 64 }
+    ensures words { IfOk result (λ r. terminals text.now input.now ≡ expression_words (expression_of r.0) (terminals text.now r.1.now)) }
+    ensures fits { IfOk result (λ r. Fits (rank_of level + 1) (expression_of r.0)) }
+    ensures nesting { IfOk result (λ r. depth + expression_nesting (expression_of r.0) ≤ 64) }
+    ensures shorter { IfOk result (λ r. length r.1.now < length input.now) }
+    ensures within { IfErr result (λ e. Within (length input.now) e) }
+{
+    match level {
+        Level::Or => read_level(alloc, text, input, Level::And, depth),
+        Level::And => read_denial(alloc, text, input, depth),
+        Level::Sum => read_level(alloc, text, input, Level::Term, depth),
+        Level::Term => read_factor(alloc, text, input, depth),
+    }
+}
+
+// A relation, with `not` before it or without.
+#[cycle(expression)]
+fn read_denial<'t>(
+    alloc: Global,
+    text: &str,
+    input: &'t [Lexeme],
+    depth: usize,
+) -> Read<'t, Expression>
+    requires { depth ≤ 64 }
+    ensures words { IfOk result (λ r. terminals text.now input.now ≡ expression_words (expression_of r.0) (terminals text.now r.1.now)) }
+    ensures fits { IfOk result (λ r. Fits 3 (expression_of r.0)) }
+    ensures nesting { IfOk result (λ r. depth + expression_nesting (expression_of r.0) ≤ 64) }
+    ensures shorter { IfOk result (λ r. length r.1.now < length input.now) }
+    ensures within { IfErr result (λ e. Within (length input.now) e) }
+{
+    let Some(rest) = next_not(input) else {
+        return read_relation(alloc, text, input, depth);
+    };
+    let inner = deeper(input, depth)?;
+    let (operand, rest) = read_denial(alloc, text, rest, inner)?;
+    let expression = denied(alloc, reach(input, rest), operand)?;
+    Ok((expression, rest))
+}
+
+// A sum, or two with a comparison between.
+#[cycle(expression)]
+fn read_relation<'t>(
+    alloc: Global,
+    text: &str,
+    input: &'t [Lexeme],
+    depth: usize,
+) -> Read<'t, Expression>
+    requires { depth ≤ 64 }
+    ensures words { IfOk result (λ r. terminals text.now input.now ≡ expression_words (expression_of r.0) (terminals text.now r.1.now)) }
+    ensures fits { IfOk result (λ r. Fits 4 (expression_of r.0)) }
+    ensures nesting { IfOk result (λ r. depth + expression_nesting (expression_of r.0) ≤ 64) }
+    ensures shorter { IfOk result (λ r. length r.1.now < length input.now) }
+    ensures within { IfErr result (λ e. Within (length input.now) e) }
+{
+    let (left, rest) = read_level(alloc, text, input, Level::Sum, depth)?;
+    let Some((operator, after)) = next_comparison(rest) else {
+        return Ok((left, rest));
+    };
+    let (right, rest) = read_level(alloc, text, after, Level::Sum, depth)?;
+    let expression = compared(alloc, reach(input, rest), left, operator, right)?;
+    Ok((expression, rest))
+}
+
+// An operand that no operator parts.
+#[cycle(expression)]
+fn read_factor<'t>(
+    alloc: Global,
+    text: &str,
+    input: &'t [Lexeme],
+    depth: usize,
+) -> Read<'t, Expression>
+    requires { depth ≤ 64 }
+    ensures words { IfOk result (λ r. terminals text.now input.now ≡ expression_words (expression_of r.0) (terminals text.now r.1.now)) }
+    ensures fits { IfOk result (λ r. Fits 7 (expression_of r.0)) }
+    ensures nesting { IfOk result (λ r. depth + expression_nesting (expression_of r.0) ≤ 64) }
+    ensures shorter { IfOk result (λ r. length r.1.now < length input.now) }
+    ensures within { IfErr result (λ e. Within (length input.now) e) }
+{
+    match next(input) {
+        Some((Class::Number(number), rest)) => Ok((
+            Expression {
+                span: reach(input, rest),
+                form: Form::Number(number),
+            },
+            rest,
+        )),
+        Some((Class::Word(Keyword::True), rest)) => Ok((
+            Expression {
+                span: reach(input, rest),
+                form: Form::Logical(true),
+            },
+            rest,
+        )),
+        Some((Class::Word(Keyword::False), rest)) => Ok((
+            Expression {
+                span: reach(input, rest),
+                form: Form::Logical(false),
+            },
+            rest,
+        )),
+        Some((Class::Word(Keyword::Wait), rest)) => read_wait(alloc, text, input, rest),
+        Some((Class::Sign(Sign::Minus), rest)) => {
+            let inner = deeper(input, depth)?;
+            let (operand, rest) = read_factor(alloc, text, rest, inner)?;
+            let expression = negated(alloc, reach(input, rest), operand)?;
+            Ok((expression, rest))
+        }
+        Some((Class::Sign(Sign::Open), rest)) => {
+            let inner = deeper(input, depth)?;
+            let (inside, rest) = read_expression(alloc, text, rest, inner)?;
+            let rest = expect(rest, Class::Sign(Sign::Close))?;
+            let expression = bracketed(alloc, reach(input, rest), inside)?;
+            Ok((expression, rest))
+        }
+        _ => {
+            let (name, rest) = read_name(alloc, text, input)?;
+            Ok((
+                Expression {
+                    span: name.span,
+                    form: Form::Variable(name),
+                },
+                rest,
+            ))
+        }
+    }
+}
+
+// A channel in brackets, after the `wait` that the input begins with.
+fn read_wait<'t>(
+    alloc: Global,
+    text: &str,
+    input: &'t [Lexeme],
+    rest: &'t [Lexeme],
+) -> Read<'t, Expression>
+    requires first { First (class.Word keyword.Wait) input.now rest.now }
+    requires follows { length input.now ≡ length rest.now + 1 }
+    ensures words { IfOk result (λ r. terminals text.now input.now ≡ expression_words (expression_of r.0) (terminals text.now r.1.now)) }
+    ensures fits { IfOk result (λ r. Fits 7 (expression_of r.0)) }
+    ensures nesting { IfOk result (λ r. expression_nesting (expression_of r.0) ≡ 0) }
+    ensures shorter { IfOk result (λ r. length r.1.now < length input.now) }
+    ensures within { IfErr result (λ e. Within (length input.now) e) }
+{
+    let rest = expect(rest, Class::Sign(Sign::Open))?;
+    let (name, rest) = read_name(alloc, text, rest)?;
+    let rest = expect(rest, Class::Sign(Sign::Close))?;
+    Ok((
+        Expression {
+            span: reach(input, rest),
+            form: Form::Wait(name),
+        },
+        rest,
+    ))
+}

@@ -1,0 +1,71 @@
+//! Operators of two operands, by their levels.
+
+ghost use Rattle.std.specs.Prelude.{◌≡◌, ◌+◌, List, ℕ, ◌∷◌, length, IfSome};
+ghost use Rattle.kahn_syntax.specs.declared.lexeme.Keyword.TheVariants as keyword;
+ghost use Rattle.kahn_syntax.specs.Terminals.{word, terminals};
+ghost use Rattle.kahn_syntax.specs.Trees.{operator_terminal, rank};
+ghost use Rattle.kahn_syntax.specs.Reads.{rank_of};
+
+use crate::lexeme::{Class, Keyword, Lexeme, Sign};
+use crate::parser::cursor::next;
+use crate::tree::Operator;
+
+/// A level whose operators may follow one another. From `Or` to `Term` they bind tighter.
+#[derive(Clone, Copy, Debug, PartialEq, Eq)]
+pub enum Level {
+    Or,
+    And,
+    Sum,
+    Term,
+}
+
+/// The comparison that stands first, and the lexemes after it.
+pub fn next_comparison(input: &[Lexeme]) -> Option<(Operator, &[Lexeme])>
+    ensures first { IfSome result (λ r. (text : List ℕ) → terminals text input.now ≡ operator_terminal r.0 ∷ terminals text r.1.now) }
+    ensures ranked { IfSome result (λ r. rank r.0 ≡ 4) }
+    ensures shorter { IfSome result (λ r. length input.now ≡ length r.1.now + 1) }
+{
+    let (class, rest) = next(input)?;
+    let operator = match class {
+        Class::Sign(Sign::Equal) => Operator::Equal,
+        Class::Sign(Sign::Unequal) => Operator::Unequal,
+        Class::Sign(Sign::Less) => Operator::Less,
+        Class::Sign(Sign::AtMost) => Operator::AtMost,
+        Class::Sign(Sign::Greater) => Operator::Greater,
+        Class::Sign(Sign::AtLeast) => Operator::AtLeast,
+        _ => return None,
+    };
+    Some((operator, rest))
+}
+
+/// The operator of this level that stands first, and the lexemes after it.
+pub fn next_operator(input: &[Lexeme], level: Level) -> Option<(Operator, &[Lexeme])>
+    ensures first { IfSome result (λ r. (text : List ℕ) → terminals text input.now ≡ operator_terminal r.0 ∷ terminals text r.1.now) }
+    ensures ranked { IfSome result (λ r. rank r.0 ≡ rank_of level) }
+    ensures shorter { IfSome result (λ r. length input.now ≡ length r.1.now + 1) }
+{
+    let (class, rest) = next(input)?;
+    let operator = match (level, class) {
+        (Level::Or, Class::Word(Keyword::Or)) => Operator::Or,
+        (Level::And, Class::Word(Keyword::And)) => Operator::And,
+        (Level::Sum, Class::Sign(Sign::Plus)) => Operator::Add,
+        (Level::Sum, Class::Sign(Sign::Minus)) => Operator::Subtract,
+        (Level::Term, Class::Sign(Sign::Times)) => Operator::Multiply,
+        (Level::Term, Class::Word(Keyword::Div)) => Operator::Divide,
+        (Level::Term, Class::Word(Keyword::Mod)) => Operator::Remainder,
+        _ => return None,
+    };
+    Some((operator, rest))
+}
+
+/// The lexemes after `not`, where it stands first in one of its two forms.
+pub fn next_not(input: &[Lexeme]) -> Option<&[Lexeme]>
+    ensures first { IfSome result (λ r. (text : List ℕ) → terminals text input.now ≡ word keyword.Not ∷ terminals text r.now) }
+    ensures shorter { IfSome result (λ r. length input.now ≡ length r.now + 1) }
+{
+    match next(input)? {
+        (Class::Word(Keyword::Not), rest) => Some(rest),
+        (Class::Sign(Sign::Not), rest) => Some(rest),
+        _ => None,
+    }
+}
