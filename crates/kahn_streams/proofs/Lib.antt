@@ -11,3 +11,4 @@ pub mod Token_lists
 pub mod Found
 pub mod Kinded
 pub mod Kinded_networks
+pub mod Given_values

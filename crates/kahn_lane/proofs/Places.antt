@@ -1,0 +1,27 @@
+-- Tokens at consecutive places, and what they are of.
+use Rattle.std.proofs.Common.{◌≡◌, ℕ, ◌+◌, List, [], ◌∷◌, ◌++◌, length, Some, None, arith, ap, sym}
+use Rattle.kahn_syntax.specs.declared.tree.Program.{Program}
+use Rattle.kahn_streams.specs.Tokens.{Lists}
+use Rattle.kahn_streams.specs.Streams.{IsOf}
+use Rattle.kahn_streams.specs.declared.token.Token.{Token}
+use Rattle.kahn_streams.specs.declared.value.Line.TheVariants.{Channel}
+use Rattle.kahn_lane.specs.declared.name.LaneName.{LaneName}
+use Rattle.kahn_lane.specs.Places.{Named, Placed, token_name, lane_name}
+
+pub placed_more : (c : Named) (n : ℕ) (ts : List Token) (t : Token) → Placed c n ts → c ≡ Some (token_name t) → t.place ≡ n + length ts → Placed c n (ts ++ t ∷ [])
+placed_more c n [] t h on at = ((on, omega (arith, at)), tt)
+placed_more c n (x ∷ xs) t h on at = (h.0, placed_more c (n + 1) xs t h.1 on (omega (arith, at)))
+
+-- a token of a network and an input, on a channel, has the name of that channel's lane
+pub token_name-is_of : (network : Program) (input : Lists) (channel : ℕ) (t : Token) → IsOf network input t → t.line ≡ Channel channel → token_name t ≡ lane_name network input channel
+token_name-is_of network input channel t of on i = record { network = of.0 i; input = of.1 i; line = on i }
+
+abbrev name_or : LaneName → Named → LaneName
+name_or n None = n
+name_or n (Some m) = m
+
+-- a token that has the name of a channel's lane is of its network and its input, on the channel
+pub is_of-token_name : (network : Program) (input : Lists) (channel : ℕ) (t : Token) → Some (lane_name network input channel) ≡ Some (token_name t) → IsOf network input t × (t.line ≡ Channel channel)
+is_of-token_name network input channel t e =
+    let same : lane_name network input channel ≡ token_name t = ap (name_or (token_name t)) e in
+    ((ap (λ (n : LaneName). n.network) (sym same), ap (λ (n : LaneName). n.input) (sym same)), ap (λ (n : LaneName). n.line) (sym same))

@@ -1,0 +1,57 @@
+-- What a contract sees of the two ends of a lane.
+use Rattle.std.specs.Prelude.{◌≡◌, ℕ, ◌+◌, ◌<◌}
+use Rattle.std.specs.VecDeque.{deque_len, deque_capacity}
+use Rattle.kahn_lane.specs.Places.{Named}
+use Rattle.crossbeam_deque.specs.Handles.{view, taken as left_front, worker_view, worker_deque, stealer_deque}
+use Rattle.kahn_lane.specs.declared.segments.Sender.{Sender}
+use Rattle.kahn_lane.specs.declared.segments.Receiver.{Receiver}
+
+module _ {A : Type 0} where
+  -- which lane it is an end of
+  abbrev pub sender_lane : Sender A → (ℕ × ℕ) × A
+  sender_lane s = worker_deque s.worker
+
+  abbrev pub receiver_lane : Receiver A → (ℕ × ℕ) × A
+  receiver_lane r = stealer_deque r.stealer
+
+  -- what the tokens are of
+  abbrev pub sender_name : Sender A → Named
+  sender_name s = (worker_view s.worker).writes_on
+
+  abbrev pub receiver_name : Receiver A → Named
+  receiver_name r = (view r.pass).reads_on
+
+  -- how many tokens were flushed
+  abbrev pub flushed : Sender A → ℕ
+  flushed s = s.flushed
+
+  -- how many tokens were put
+  abbrev pub sent : Sender A → ℕ
+  sent s = s.flushed + deque_len s.current
+
+  -- there is place for a token
+  abbrev pub HasRoom : Sender A → Type 0
+  HasRoom s = (deque_len s.current < 64) × (deque_len s.current < deque_capacity s.current)
+
+  -- how many tokens were taken
+  abbrev pub taken : Receiver A → ℕ
+  taken r = r.taken
+
+  -- the next take gives a token
+  abbrev pub IsReady : Receiver A → Type 0
+  IsReady r = 0 < deque_len r.current
+
+  -- how many tokens this end knows to have been flushed, from the last meeting
+  abbrev pub known : Receiver A → ℕ
+  known r = (view r.pass).known
+
+  -- how many segments this end knows to have left the deque
+  abbrev pub left : Receiver A → ℕ
+  left r = left_front r.pass
+
+  -- it is an end of the same lane, for the same tokens
+  abbrev pub SameSender : Sender A → Sender A → Type 0
+  SameSender old new = (sender_lane new ≡ sender_lane old) × (sender_name new ≡ sender_name old)
+
+  abbrev pub SameReceiver : Receiver A → Receiver A → Type 0
+  SameReceiver old new = (receiver_lane new ≡ receiver_lane old) × (receiver_name new ≡ receiver_name old)

@@ -1,0 +1,87 @@
+-- Tokens at consecutive places, and what a pass of a lane knows.
+use Rattle.std.specs.Prelude.{◌≡◌, ℕ, ◌+◌, Bool, true, false, List, [], ◌∷◌, ⊤, Option, Some, None}
+use Rattle.std.specs.Coded.{Coded-set, coded_ℕ, coded_option, ×_prop, Unit-prop}
+use Rattle.kahn_syntax.specs.declared.tree.Program.{Program}
+use Rattle.kahn_streams.specs.Tokens.{Lists}
+use Rattle.kahn_streams.specs.declared.value.Line.TheVariants.{Channel}
+use Rattle.kahn_streams.specs.declared.token.Token.{Token}
+use Rattle.kahn_lane.specs.contracts.name.LaneName as lane_name_type
+use Rattle.kahn_lane.specs.contracts.segments.Stage as stage_type
+use Rattle.kahn_lane.specs.declared.name.LaneName.{LaneName}
+use Rattle.kahn_lane.specs.declared.name.Tag.{Tag}
+use Rattle.kahn_lane.specs.declared.segments.Mark.{Mark}
+use Rattle.kahn_lane.specs.declared.segments.Stage.{Stage}
+use Rattle.kahn_lane.specs.declared.segments.Stage.TheVariants.{Opening, Telling, Running}
+
+-- what the tokens of a lane are of, where it is known
+abbrev pub Named : Type 0
+Named = Option LaneName
+
+-- a channel of a program's network, for an input
+abbrev pub lane_name : Program → Lists → ℕ → LaneName
+lane_name network input channel = record { network = network; input = input; line = Channel channel }
+
+-- what a token is of
+abbrev pub token_name : Token → LaneName
+token_name t = record { network = t.network.value; input = t.input.value; line = t.line }
+
+-- what a tag names
+abbrev pub tag_name : Tag → LaneName
+tag_name t = record { network = t.network.value; input = t.input.value; line = t.line }
+
+abbrev pub told : Option Tag → Named
+told None = None
+told (Some t) = Some (tag_name t)
+
+-- the place at which the lane of a tag begins
+abbrev pub first_place : Option Tag → ℕ
+first_place None = 0
+first_place (Some t) = t.from
+
+-- these tokens are of this name, and stand at the places from n on
+abbrev pub Placed : Named → ℕ → List Token → Type 0
+Placed c n [] = ⊤
+Placed c n (t ∷ ts) = ((c ≡ Some (token_name t)) × (t.place ≡ n)) × Placed c (n + 1) ts
+
+pub name-prop : (a b : Named) → IsProp (a ≡ b)
+name-prop a b = Coded-set (coded_option lane_name_type.the_row.coded) a b
+
+pub Placed-prop : (c : Named) (n : ℕ) (ts : List Token) → IsProp (Placed c n ts)
+Placed-prop c n [] = Unit-prop
+Placed-prop c n (t ∷ ts) =
+    ×_prop (×_prop (name-prop c (Some (token_name t))) (Coded-set coded_ℕ t.place n)) (Placed-prop c (n + 1) ts)
+
+pub stage-prop : (a b : Stage) → IsProp (a ≡ b)
+stage-prop a b = Coded-set stage_type.the_row.coded a b
+
+abbrev pub mark : Stage → Bool → Bool → Named → Named → ℕ → ℕ → ℕ → Mark
+mark s a b c d f t k =
+    record { stage = s; writes = a; reads = b; writes_on = c; reads_on = d; flushed = f; stolen = t; known = k }
+
+-- the first pass, before the lane has a name
+abbrev pub opening : Mark
+opening = mark Opening true true None None 0 0 0
+
+-- the first pass, while the deque holds the name and the first place
+abbrev pub telling : Named → ℕ → Mark
+telling c n = mark Telling true true c c n n n
+
+-- a pass with both rights
+abbrev pub both : Named → Named → ℕ → ℕ → ℕ → Mark
+both c d f t k = mark Running true true c d f t k
+
+-- the first pass of a lane that begins at a place
+abbrev pub owner : Named → ℕ → Mark
+owner c n = both c c n n n
+
+-- a pass that may flush
+abbrev pub writing : Named → ℕ → Mark
+writing c f = mark Running true false c None f 0 0
+
+-- a pass that may steal
+abbrev pub reading : Named → ℕ → ℕ → Mark
+reading d t k = mark Running false true None d 0 t k
+
+-- a pass without rights
+abbrev pub spent : Mark
+spent = mark Running false false None None 0 0 0

@@ -1,0 +1,25 @@
+//! What the making of a lane or a relay refuses with.
+
+use kahn_streams::memory::NoMemory;
+use std::alloc::AllocError;
+use thiserror::Error;
+
+/// Why a lane or a relay couldn't be made.
+#[derive(PartialEq, Eq, Debug, Drop, Error)]
+pub enum LaneFault {
+    /// Memory was refused.
+    #[error("no memory")]
+    NoMemory,
+}
+
+impl From<AllocError> for LaneFault {
+    fn from(_error: AllocError) -> LaneFault {
+        LaneFault::NoMemory
+    }
+}
+
+impl From<NoMemory> for LaneFault {
+    fn from(_error: NoMemory) -> LaneFault {
+        LaneFault::NoMemory
+    }
+}

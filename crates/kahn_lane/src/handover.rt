@@ -1,0 +1,81 @@
+//! The calls of a relay: items pass between two threads one by one, in order, and any number of them may be under
+//! way.
+//!
+//! A taker that finds nothing says so at once. It never holds its thread.
+
+ghost use Rattle.std.specs.Prelude.{◌≡◌, ◌+◌, ◌≤◌, ◌<◌, ◌⊎◌, List, [], ◌∷◌, ◌++◌, length, IfOk, MatchResult, MatchOption};
+ghost use Rattle.kahn_lane.specs.RelayEnds.{giver_relay, taker_relay, given, got, known, left};
+
+use crate::ends::{Blank, Giver, Got, InOrder, Log, Roles, Sent, Taker, Total};
+use crate::fault::LaneFault;
+use crossbeam_deque::{Steal, Worker};
+use kahn_streams::memory::NoMemory;
+use std::alloc::Allocator;
+use std::mem;
+
+// How often a steal that came between two others is tried again.
+const TRIES: usize = 64;
+
+/// The two ends of a new relay, which may go to different threads. Nothing was given or taken yet.
+pub fn relay<T: Drop, A: Allocator + Clone + Drop>(
+    alloc: A,
+) -> Result<(Giver<T, A>, Taker<T, A>), LaneFault>
+    ensures one { IfOk result (λ r. giver_relay r.0 ≡ taker_relay r.1) }
+    ensures start { IfOk result (λ r. (given r.0 ≡ []) × (got r.1 ≡ []) × (known r.1 ≡ 0)) }
+{
+    let mut worker = Worker::<T, A, Log<T>, InOrder>::fifo_as(alloc, 1)?;
+    let stealer = worker.stealer()?;
+    let pass = worker.another::<Roles>();
+    Ok((Giver { worker }, Taker { stealer, pass }))
+}
+
+impl<T, A: Allocator> Giver<T, A> {
+    /// Gives an item. Where memory is refused the item comes back and nothing was given; the first item that is ever
+    /// given is never refused.
+    pub fn give(&mut self, item: T) -> Result<(), (NoMemory, T)>
+        ensures same { giver_relay self.new ≡ giver_relay self.old }
+        ensures rule { MatchResult result (λ _. given self.new ≡ given self.old ++ item ∷ []) (λ e. (e.1 ≡ item) × (given self.new ≡ given self.old) × (0 < length (given self.old))) }
+    {
+        match self.worker.push_as::<Sent>(item) {
+            Ok(()) => Ok(()),
+            Err(item) => Err((NoMemory, item)),
+        }
+    }
+}
+
+impl<T, A: Allocator> Taker<T, A> {
+    /// The next item. `None` comes only where the deque was empty at one moment of the call, so that all that is
+    /// known to have been given was taken, or after 64 steals that each met another one: then 64 items have left the
+    /// deque that this end didn't know to have left it. It takes no memory.
+    pub fn take(&mut self) -> Option<T>
+        ensures same { (taker_relay self.new ≡ taker_relay self.old) × (known self.new ≡ known self.old) }
+        ensures rule { MatchOption result ((got self.new ≡ got self.old) × ((known self.old ≤ length (got self.old)) ⊎ (left self.old + 64 ≤ left self.new))) (λ x. got self.new ≡ got self.old ++ x ∷ []) }
+    {
+        for _ in 0..TRIES {
+            match self.stealer.steal_as::<Got>(&mut self.pass) {
+                Steal::Success(item) => return Some(item),
+                Steal::Empty => return None,
+                Steal::Retry => {}
+            }
+        }
+        None
+    }
+
+    /// With both ends of a relay in one thread: how many items were given and not taken. What was taken is a prefix
+    /// of what was given. It takes no memory.
+    pub fn meet(&mut self, giver: &mut Giver<T, A>) -> u64
+        requires { giver_relay giver.old ≡ taker_relay self.old }
+        ensures same { (giver_relay giver.new ≡ giver_relay giver.old) × (taker_relay self.new ≡ taker_relay self.old) × (given giver.new ≡ given giver.old) × (got self.new ≡ got self.old) }
+        ensures rule { (items : List T) × (given giver.old ≡ got self.old ++ items) × (length items ≡ result) }
+        ensures known { known self.new ≡ length (given giver.old) }
+    {
+        let blank = giver.worker.another::<Blank>();
+        let pass = mem::replace(&mut self.pass, blank);
+        giver.worker.absorb::<Roles>(pass);
+        let count = giver.worker.len_as::<Total>();
+        let pass = giver.worker.another::<Roles>();
+        let blank = mem::replace(&mut self.pass, pass);
+        giver.worker.absorb::<Blank>(blank);
+        count as u64
+    }
+}

@@ -1,0 +1,238 @@
+//! The calls of a lane: tokens of one channel pass between two threads in segments, in the order of their places.
+//!
+//! The writer asks for room, puts a token into its open segment, and flushes the segment where it is full or where
+//! the reader is to see it. The reader steals a segment where its own is used up, and takes its tokens one by one.
+//! No call ever holds its thread.
+
+ghost use Rattle.std.specs.Prelude.{◌≡◌, ◌+◌, ◌≤◌, ◌<◌, ◌^◌, ◌⊎◌, true, false, IfOk, IsOk, IsSome, MatchResult, MatchOption, Some};
+ghost use Rattle.std.specs.VecDeque.{deque_len};
+ghost use Rattle.crossbeam_deque.specs.Handles.{worker_view, worker_deque, stealer_deque, stealer_flavor};
+ghost use Rattle.kahn_lane.specs.Places.{lane_name, token_name, tag_name, owner};
+ghost use Rattle.kahn_lane.specs.LaneEnds.{sender_lane, receiver_lane, sender_name, receiver_name, flushed, sent, HasRoom, taken, IsReady, known, left, SameSender, SameReceiver};
+
+use crate::fault::LaneFault;
+use crate::name::{Tag, make_tag};
+use crate::segments::{
+    Bare, Behind, Flushed, LaneStealer, LaneWorker, Receiver, Segment, Sender, Sides, Starting,
+    Stolen, Telling,
+};
+use crossbeam_deque::Steal;
+use kahn_check::network::Network;
+use kahn_streams::input::Input;
+use kahn_streams::memory::NoMemory;
+use kahn_streams::token::Token;
+use kahn_streams::value::Line;
+use std::alloc::Allocator;
+use std::collections::VecDeque;
+use std::mem;
+
+// How often a steal that came between two others is tried again.
+const TRIES: usize = 64;
+
+// How many tokens a segment has at most.
+const SEGMENT: usize = 64;
+
+// The deque of a new lane that begins at the tag's place, with its name known to both ends.
+fn opened<A: Allocator + Clone + Drop>(
+    alloc: A,
+    tag: Tag,
+) -> Result<(LaneWorker<A>, LaneStealer<A>), LaneFault>
+    ensures one { IfOk result (λ r. (worker_deque r.0 ≡ stealer_deque r.1) × (stealer_flavor r.1 ≡ 0)) }
+    ensures view { IfOk result (λ r. worker_view r.0 ≡ owner (Some (tag_name tag)) tag.from) }
+{
+    let head = Segment {
+        tag: Some(tag),
+        tokens: VecDeque::new(alloc.clone()?),
+    };
+    let mut worker = LaneWorker::<A>::fifo_as(alloc, 1)?;
+    let Ok(()) = worker.push_as::<Telling>(head) else {
+        return Err(LaneFault::NoMemory);
+    };
+    let Some(_) = worker.pop_as::<Starting>() else {
+        unreachable!()
+    };
+    let stealer = worker.stealer()?;
+    Ok((worker, stealer))
+}
+
+/// The two ends of a new lane for the tokens of a channel, which may go to different threads. Nothing was put yet.
+pub fn lane<A: Allocator + Clone + Drop>(
+    alloc: A,
+    network: &Network,
+    input: &Input,
+    channel: usize,
+) -> Result<(Sender<A>, Receiver<A>), LaneFault>
+    ensures lane { IfOk result (λ r. sender_lane r.0 ≡ receiver_lane r.1) }
+    ensures name { IfOk result (λ r. (sender_name r.0 ≡ Some (lane_name network.now input.now channel)) × (receiver_name r.1 ≡ Some (lane_name network.now input.now channel))) }
+    ensures start { IfOk result (λ r. (sent r.0 ≡ 0) × (flushed r.0 ≡ 0) × (taken r.1 ≡ 0) × (known r.1 ≡ 0)) }
+{
+    let left = VecDeque::new(alloc.clone()?);
+    let right = VecDeque::new(alloc.clone()?);
+    let tag = make_tag(network, input, Line::Channel(channel));
+    let (mut worker, stealer) = opened(alloc, tag)?;
+    let pass = worker.another::<Sides>();
+    let sender = Sender {
+        worker,
+        current: left,
+        flushed: 0,
+    };
+    let receiver = Receiver {
+        stealer,
+        pass,
+        current: right,
+        taken: 0,
+    };
+    Ok((sender, receiver))
+}
+
+impl<A: Allocator + Clone + Drop> Sender<A> {
+    /// Makes place for one token. Where the open segment has 64 tokens it is flushed first. Where memory is refused
+    /// all tokens stay, and those of a full segment may have been flushed. Where there is place already it takes none.
+    pub fn room(&mut self) -> Result<(), NoMemory>
+        ensures same { SameSender self.old self.new × (sent self.new ≡ sent self.old) }
+        ensures room { IfOk result (λ _. HasRoom self.new) }
+        ensures flushed { (flushed self.new ≡ flushed self.old) ⊎ ((sent self.old ≡ flushed self.old + 64) × (flushed self.new ≡ sent self.old)) }
+        ensures spare { HasRoom self.old → IsOk result }
+    {
+        if self.current.len() >= SEGMENT {
+            self.flush()?;
+        }
+        match self.current.reserve(1) {
+            Ok(()) => Ok(()),
+            Err(_) => Err(NoMemory),
+        }
+    }
+
+    /// Flushes the open segment, so that the reader can take its tokens, and answers how many tokens were flushed so
+    /// far, which is all that were put. Where memory is refused the segment stays open. An empty one needs none.
+    pub fn flush(&mut self) -> Result<u64, NoMemory>
+        ensures same { SameSender self.old self.new × (sent self.new ≡ sent self.old) }
+        ensures flushed { MatchResult result (λ n. (n ≡ sent self.old) × (flushed self.new ≡ sent self.old)) (λ _. flushed self.new ≡ flushed self.old) }
+        ensures idle { sent self.old ≡ flushed self.old → IsOk result }
+    {
+        if self.current.is_empty() {
+            return Ok(self.flushed);
+        }
+        let Ok(alloc) = self.current.allocator().clone() else {
+            return Err(NoMemory);
+        };
+        let count = self.current.len() as u64;
+        let tokens = mem::replace(&mut self.current, VecDeque::new(alloc));
+        match self
+            .worker
+            .push_as::<Flushed>(Segment { tag: None, tokens })
+        {
+            Ok(()) => {
+                self.flushed += count;
+                Ok(self.flushed)
+            }
+            Err(segment) => {
+                self.current = segment.tokens;
+                Err(NoMemory)
+            }
+        }
+    }
+}
+
+impl<A: Allocator> Sender<A> {
+    /// Puts the next token into the open segment, for which `room` has made place. It takes no memory.
+    pub fn put(&mut self, token: Token)
+        requires room { HasRoom self.old }
+        requires token { (sender_name self.old ≡ Some (token_name token)) × (token.place ≡ sent self.old) × (sent self.old < 2 ^ 48) }
+        ensures same { SameSender self.old self.new × (flushed self.new ≡ flushed self.old) }
+        ensures sent { sent self.new ≡ sent self.old + 1 }
+    {
+        self.current.push_back_reserved(token);
+    }
+
+    /// How many tokens were put so far, flushed or not: the place of the next one.
+    pub fn sent(&self) -> u64
+        ensures { result ≡ sent self.now }
+    {
+        self.flushed + self.current.len() as u64
+    }
+
+    /// How many tokens were flushed so far, also after a refusal.
+    pub fn flushed(&self) -> u64
+        ensures { result ≡ flushed self.now }
+    {
+        self.flushed
+    }
+}
+
+impl<A: Allocator + Drop> Receiver<A> {
+    /// Whether there is a token for the next `take`. `false` comes only as `None` does there. It takes no memory.
+    pub fn ready(&mut self) -> bool
+        ensures same { SameReceiver self.old self.new × (taken self.new ≡ taken self.old) × (known self.new ≡ known self.old) }
+        ensures ready { result ≡ true → IsReady self.new }
+        ensures still { IsReady self.old → result ≡ true }
+        ensures dry { result ≡ false → (known self.old ≤ taken self.old) ⊎ (left self.old + 64 ≤ left self.new) }
+    {
+        !self.current.is_empty() || self.refill()
+    }
+
+    /// The next token, which stands at the place that is the number of tokens taken. `None` comes only where the deque
+    /// was empty at one moment of the call, so that all that is known to have been flushed was taken, or after 64
+    /// steals that each met another step: then 64 segments have left the deque that this end didn't know to have left
+    /// it. It takes no memory.
+    pub fn take(&mut self) -> Option<Token>
+        ensures same { SameReceiver self.old self.new × (known self.new ≡ known self.old) }
+        ensures ready { IsReady self.old → IsSome result }
+        ensures rule { MatchOption result ((taken self.new ≡ taken self.old) × ((known self.old ≤ taken self.old) ⊎ (left self.old + 64 ≤ left self.new))) (λ t. (receiver_name self.old ≡ Some (token_name t)) × (t.place ≡ taken self.old) × (taken self.new ≡ taken self.old + 1)) }
+    {
+        if !self.ready() {
+            return None;
+        }
+        let Some(token) = self.current.pop_front() else {
+            unreachable!()
+        };
+        self.taken += 1;
+        Some(token)
+    }
+
+    /// How many tokens were taken so far: the place of the next one.
+    pub fn taken(&self) -> u64
+        ensures { result ≡ taken self.now }
+    {
+        self.taken
+    }
+
+    // Steals the next segment, where the open one is used up.
+    fn refill(&mut self) -> bool
+        requires { deque_len self.old.current ≡ 0 }
+        ensures same { SameReceiver self.old self.new × (taken self.new ≡ taken self.old) × (known self.new ≡ known self.old) }
+        ensures ready { result ≡ true → IsReady self.new }
+        ensures dry { result ≡ false → (known self.old ≤ taken self.old) ⊎ (left self.old + 64 ≤ left self.new) }
+    {
+        for _ in 0..TRIES {
+            match self.stealer.steal_as::<Stolen>(&mut self.pass) {
+                Steal::Success(segment) => {
+                    self.current = segment.tokens;
+                    return true;
+                }
+                Steal::Empty => return false,
+                Steal::Retry => {}
+            }
+        }
+        false
+    }
+}
+
+/// With both ends of a lane in one thread: how many tokens were flushed and not taken. It takes no memory.
+pub fn meet<A: Allocator>(sender: &mut Sender<A>, receiver: &mut Receiver<A>) -> u64
+    requires { sender_lane sender.old ≡ receiver_lane receiver.old }
+    ensures sender { SameSender sender.old sender.new × (sent sender.new ≡ sent sender.old) × (flushed sender.new ≡ flushed sender.old) }
+    ensures receiver { SameReceiver receiver.old receiver.new × (taken receiver.new ≡ taken receiver.old) }
+    ensures ready { IsReady receiver.old → IsReady receiver.new }
+    ensures rule { taken receiver.old + result ≡ flushed sender.old }
+    ensures known { known receiver.new ≡ flushed sender.old }
+{
+    let bare = sender.worker.another::<Bare>();
+    let pass = mem::replace(&mut receiver.pass, bare);
+    sender.worker.absorb::<Sides>(pass);
+    let _segments = sender.worker.len_as::<Behind>();
+    let pass = sender.worker.another::<Sides>();
+    let bare = mem::replace(&mut receiver.pass, pass);
+    sender.worker.absorb::<Bare>(bare);
+    sender.flushed - receiver.taken
+}

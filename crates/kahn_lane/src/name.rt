@@ -1,0 +1,52 @@
+//! What the tokens of a lane are of.
+//!
+//! A lane keeps that all its tokens are of one network, one input and one channel. These are named for contracts
+//! alone: a `LaneName` is never made, and a `Tag` has the bytes of its line and its number alone.
+
+ghost use Rattle.std.specs.Prelude.{◌≡◌, ◌≤◌, ◌^◌};
+ghost use Rattle.kahn_streams.specs.Tokens.{Names};
+
+use kahn_check::network::Network;
+use kahn_streams::about::About;
+use kahn_streams::input::Input;
+use kahn_streams::value::Line;
+
+/// A network, an input and a line. Contracts alone speak of it: no value of it is made.
+pub struct LaneName {
+    pub network: Network,
+    pub input: Input,
+    pub line: Line,
+}
+
+/// What the tokens of a lane are of, and the place of the first of them.
+#[derive(Drop)]
+pub struct Tag {
+    pub line: Line,
+    pub from: u64,
+    pub network: About<Network>,
+    pub input: About<Input>,
+    ghost limited: { from ≤ 2 ^ 48 },
+}
+
+// The tag for the names of something at hand.
+fn tag_by<X, Y>(_x: &X, _y: &Y, line: Line, from: u64) -> Tag
+    ghost names: { Names }
+    requires { from ≤ 2 ^ 48 }
+    ensures here { (result.line ≡ line) × (result.from ≡ from) }
+    ensures names { (result.network.value ≡ names.network) × (result.input.value ≡ names.input) }
+{
+    Tag {
+        line,
+        from,
+        network: About::named(),
+        input: About::named(),
+    }
+}
+
+/// The tag of a line of this network, for this input, from its first place on.
+pub(crate) fn make_tag(network: &Network, input: &Input, line: Line) -> Tag
+    ensures here { (result.line ≡ line) × (result.from ≡ 0) }
+    ensures names { (result.network.value ≡ network.now) × (result.input.value ≡ input.now) }
+{
+    tag_by(network, input, line, 0)
+}

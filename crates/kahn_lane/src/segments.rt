@@ -1,0 +1,195 @@
+//! The two ends of a lane, and the rule of its deque.
+//!
+//! A lane is a ruled deque of segments, each a run of tokens at consecutive places. The writer fills an open segment
+//! and then pushes it; the reader steals one and takes its tokens out. Each end carries a pass, a value without
+//! bytes in which contracts read what that end knows: the writer's how many tokens were flushed, the reader's how
+//! many were stolen. The rule, which each step keeps, says that the deque has just the tokens of the places between
+//! the two numbers, in order. So the token that comes out next always stands at the place that is the number of
+//! those taken: none is skipped, and none comes twice.
+//!
+//! The rule of a deque is fixed before any network or input is there, so it can't name them. A lane learns them from
+//! a first segment, without tokens, which its maker pushes and takes out again before the ends are parted.
+
+ghost use Rattle.std.specs.Prelude.{◌≡◌, ◌+◌, ◌≤◌, ◌^◌, is_some, true, false};
+ghost use Rattle.std.specs.VecDeque.{deque_len};
+ghost use Rattle.crossbeam_deque.specs.Handles.{view, worker_view, worker_index, worker_capacity, stealer_deque, stealer_flavor};
+ghost use Rattle.kahn_lane.specs.Places.{Placed, Placed-prop, stage-prop};
+ghost use Rattle.kahn_lane.specs.declared.segments.Stage.TheVariants.{Running};
+
+use crate::name::{LaneName, Tag};
+use crossbeam_deque::protocol::{Join, Lesson, Outcome, Protocol, Split};
+use crossbeam_deque::{Pass, Stealer, Worker};
+use kahn_streams::token::Token;
+use std::alloc::{Allocator, Global};
+use std::collections::VecDeque;
+
+/// A run of tokens at consecutive places. The first one of a lane tells what the tokens are of, and has none.
+#[derive(Drop)]
+pub struct Segment<A: Allocator = Global> {
+    pub(crate) tag: Option<Tag>,
+    pub(crate) tokens: VecDeque<Token, A>,
+}
+
+/// How far the making of a lane has come: it has no name yet, its name is in the deque, or it is known to both ends.
+#[derive(Clone, Copy, Debug, PartialEq, Eq)]
+pub enum Stage {
+    Opening,
+    Telling,
+    Running,
+}
+
+/// What a pass may do (flush, steal), what the tokens are of, as far as it knows, and how many tokens it knows to
+/// have been flushed by it, stolen by it, and flushed when the ends last met. Contracts alone speak of it: no value of
+/// it is made.
+pub struct Mark {
+    pub stage: Stage,
+    pub writes: bool,
+    pub reads: bool,
+    pub writes_on: Option<LaneName>,
+    pub reads_on: Option<LaneName>,
+    pub flushed: u64,
+    pub stolen: u64,
+    pub known: u64,
+}
+
+/// The rule of a lane: tokens come out in the order of their places.
+pub struct InPlaces;
+
+impl<A: Allocator> Protocol<Segment<A>, Mark> for InPlaces {
+    ghost use Rattle.kahn_lane.specs.Places.{opening, spent};
+    ghost use Rattle.kahn_lane.specs.LaneRule.{Laned};
+
+    ghost holds = { Laned };
+
+    ghost first = { opening };
+
+    ghost guest = { spent };
+}
+
+/// The first segment tells what the tokens are of.
+pub struct Telling;
+
+impl<A: Allocator> Outcome<Segment<A>, Mark> for Telling {
+    ghost use Rattle.kahn_lane.specs.LaneRule.{Tells};
+
+    ghost then = { λ _. Tells };
+}
+
+/// The first segment is taken out again, and the lane begins. It can't be missing.
+pub struct Starting;
+
+impl<A: Allocator> Outcome<Segment<A>, Mark> for Starting {
+    ghost use Rattle.std.specs.Prelude.{◌≡◌};
+    ghost use Rattle.kahn_lane.specs.Places.{owner};
+
+    ghost then = { λ v _ w. w ≡ owner v.writes_on v.flushed };
+
+    ghost empty = { λ _. ⊥ };
+}
+
+/// The right to steal goes to another pass, or comes back.
+pub struct Sides;
+
+impl Split<Mark> for Sides {
+    ghost use Rattle.kahn_lane.specs.Places.{writing, reading};
+
+    ghost left = { λ v. writing v.writes_on v.flushed };
+
+    ghost right = { λ v. reading v.reads_on v.stolen v.flushed };
+}
+
+impl Join<Mark> for Sides {
+    ghost use Rattle.kahn_lane.specs.Places.{both, spent};
+
+    ghost both = { λ v w. both v.writes_on w.reads_on v.flushed w.stolen w.known };
+
+    ghost spent = { spent };
+}
+
+/// A pass without rights comes, or goes.
+pub struct Bare;
+
+impl Split<Mark> for Bare {
+    ghost use Rattle.kahn_lane.specs.Places.{spent};
+
+    ghost left = { λ v. v };
+
+    ghost right = { λ _. spent };
+}
+
+impl Join<Mark> for Bare {
+    ghost use Rattle.kahn_lane.specs.Places.{spent};
+
+    ghost both = { λ v _. v };
+
+    ghost spent = { spent };
+}
+
+/// A segment is flushed.
+pub struct Flushed;
+
+impl<A: Allocator> Outcome<Segment<A>, Mark> for Flushed {
+    ghost use Rattle.kahn_lane.specs.LaneRule.{Flushes};
+
+    ghost then = { Flushes };
+}
+
+/// A segment is stolen. An empty deque tells that all that is known to have been flushed was stolen.
+pub struct Stolen;
+
+impl<A: Allocator> Outcome<Segment<A>, Mark> for Stolen {
+    ghost use Rattle.std.specs.Prelude.{◌≤◌};
+    ghost use Rattle.kahn_lane.specs.LaneRule.{Steals};
+
+    ghost then = { Steals };
+
+    ghost empty = { λ v. v.known ≤ v.stolen };
+}
+
+/// A pass with both rights sees that no more was stolen than was flushed.
+pub struct Behind;
+
+impl<A: Allocator> Lesson<Segment<A>, Mark> for Behind {
+    ghost use Rattle.std.specs.Prelude.{◌≤◌};
+
+    ghost fact = { λ v _. v.stolen ≤ v.flushed };
+}
+
+/// The deque of a lane, as its owner sees it.
+pub(crate) type LaneWorker<A> = Worker<Segment<A>, A, Mark, InPlaces>;
+
+/// The deque of a lane, as the reader sees it.
+pub(crate) type LaneStealer<A> = Stealer<Segment<A>, A, Mark, InPlaces>;
+
+/// The writer's end of a lane, with its open segment.
+#[derive(Drop)]
+pub struct Sender<A: Allocator = Global> {
+    pub(crate) worker: LaneWorker<A>,
+    pub(crate) current: VecDeque<Token, A>,
+    pub(crate) flushed: u64,
+    ghost stage: { (worker_view worker).stage ≡ Running } by { stage-prop (worker_view worker).stage Running },
+    ghost writes: { (worker_view worker).writes ≡ true },
+    ghost counted: { (worker_view worker).flushed ≡ flushed },
+    ghost placed: { Placed (worker_view worker).writes_on flushed current.items } by { Placed-prop (worker_view worker).writes_on flushed current.items },
+    ghost short: { deque_len current ≤ 64 },
+    ghost limited: { flushed + deque_len current ≤ 2 ^ 48 },
+}
+
+/// The reader's end of a lane, with its open segment.
+#[derive(Drop)]
+pub struct Receiver<A: Allocator = Global> {
+    pub(crate) stealer: LaneStealer<A>,
+    pub(crate) pass: Pass<Segment<A>, Mark, A>,
+    pub(crate) current: VecDeque<Token, A>,
+    pub(crate) taken: u64,
+    ghost rows: { pass.rows ≡ (stealer_deque stealer).0 },
+    ghost heap: { pass.heap ≡ (stealer_deque stealer).1 },
+    ghost hand: { is_some pass.me.hand ≡ false },
+    ghost spare: { is_some pass.me.spare ≡ false },
+    ghost in_order: { stealer_flavor stealer ≡ 0 },
+    ghost stage: { (view pass).stage ≡ Running } by { stage-prop (view pass).stage Running },
+    ghost reads: { (view pass).reads ≡ true },
+    ghost counted: { (view pass).stolen ≡ taken + deque_len current },
+    ghost placed: { Placed (view pass).reads_on taken current.items } by { Placed-prop (view pass).reads_on taken current.items },
+    ghost limited: { taken + deque_len current ≤ 2 ^ 48 },
+}
