@@ -8,4 +8,5 @@ pub mod Uses
 pub mod Queued
 pub mod Kept
 pub mod Asks
+pub mod Driven
 pub mod Sit

@@ -6,3 +6,4 @@ pub mod Seats
 pub mod Queues
 pub mod Lines
 pub mod Progress
+pub mod Code

@@ -2,6 +2,7 @@
 #![tactic(auto)]
 
 pub mod body;
+pub mod code;
 pub mod emit;
 pub mod instruction;
 pub mod laws;

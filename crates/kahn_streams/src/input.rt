@@ -55,6 +55,7 @@ impl Input {
         requires { channel < length (network_of network.now).channels }
         ensures token { IfSome result (λ t. (t.line ≡ Channel channel) × (t.place ≡ place) × (slice_get (inputs_of self.now channel) place ≡ Some t.value)) }
         ensures names { IfSome result (λ t. (t.network.value ≡ network.now) × (t.input.value ≡ self.now)) }
+        ensures given { IfSome result (λ _. role_at (network_of network.now) channel ≡ InputRole) }
         ensures none { IfNone result (role_at (network_of network.now) channel ≡ InputRole → length (inputs_of self.now channel) ≤ place) }
     {
         if network.channel(channel).role != Role::Input {
@@ -79,4 +80,24 @@ fn value_at(values: &[Value], place: u64) -> Option<Value>
     ensures { result ≡ slice_get values.now place }
 {
     values.get(place as usize).copied()
+}
+
+#[cfg(test)]
+mod tests {
+    use super::*;
+    use kahn_check::network::check;
+    use kahn_syntax::parser::parse;
+    use std::test::Fail;
+
+    #[test]
+    fn an_empty_input_fits_its_network(rt: HostRuntime) -> Result<(), Fail> {
+        let text =
+            "begin integer input channel A; integer output channel B; process double(integer in U; integer out W); begin repeat send 2 * wait(U) on W end; double(A, B) end";
+        let network = check(rt.alloc(), parse(rt.alloc(), text)?)?;
+        let input = Input::none(rt.alloc(), &network)?;
+        assert!(rt; input.fits(&network));
+        assert_eq!(rt; network.channels(), 2);
+        assert!(rt; input.token(&network, 0, 0).is_none());
+        Ok(())
+    }
 }

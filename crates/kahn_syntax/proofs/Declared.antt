@@ -1,5 +1,5 @@
 -- Declarations and their parts that are read one after another.
-use Rattle.std.proofs.Common.{◌≡◌, ℕ, ◌+◌, ◌≤◌, max, List, [], ◌∷◌, ◌++◌, map, refl, sym, ap, ◌∙◌, subst, append_assoc, append-nil, arith}
+use Rattle.std.proofs.Common.{◌≡◌, ℕ, ◌≤◌, List, [], ◌∷◌, ◌++◌, map, refl, sym, ap, ◌∙◌, subst, append_assoc, append-nil, arith}
 use Rattle.kahn_syntax.specs.declared.lexeme.Keyword.TheVariants as keyword
 use Rattle.kahn_syntax.specs.declared.lexeme.Sign.TheVariants as mark
 use Rattle.kahn_syntax.specs.declared.tree.Kind.{Kind}

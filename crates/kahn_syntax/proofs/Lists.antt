@@ -1,7 +1,6 @@
 -- Lists that are read one member after another.
-use Rattle.std.proofs.Common.{◌≡◌, ℕ, ◌+◌, ◌-◌, ◌≤◌, List, [], ◌∷◌, ◌++◌, length, get_or, take, drop, map, refl, sym, ap, ◌∙◌, arith, ◌<◌, length-drop, subst}
+use Rattle.std.proofs.Common.{◌≡◌, ◌+◌, ◌-◌, ◌≤◌, List, [], ◌∷◌, ◌++◌, length, get_or, take, drop, map, refl, sym, ap, ◌∙◌, arith, ◌<◌, length-drop, subst}
 use Rattle.std.proofs.lemmas.List.{take_all, drop_more}
-use Rattle.kahn_syntax.specs.declared.span.Span.{Span}
 use Rattle.kahn_syntax.specs.declared.lexeme.Sign.TheVariants as mark
 use Rattle.kahn_syntax.specs.declared.lexeme.Class.{Class}
 use Rattle.kahn_syntax.specs.declared.lexeme.Lexeme.{Lexeme}

@@ -1,5 +1,5 @@
 -- Rows inside of trees, and the lists that they are.
-use Rattle.std.proofs.Common.{◌≡◌, ℕ, List, [], ◌∷◌, refl, ap, ◌∙◌, Vec, Global}
+use Rattle.std.proofs.Common.{◌≡◌, refl, ap, ◌∙◌, Vec, Global}
 use Rattle.kahn_syntax.specs.declared.tree.Form.{Row_of-Operand, end_of-Operand, more_of-Operand, items-the_row-Operand, items_hidden-the_row-Operand-0}
 use Rattle.kahn_syntax.specs.declared.tree.Form.TheBlock.{hidden-the_row-Operand-0}
 use Rattle.kahn_syntax.specs.declared.tree.Operand.{Operand}

@@ -1,12 +1,9 @@
 -- Trees as contracts see them: what each spells, which are of the grammar, and how deep they nest.
-use Rattle.std.specs.Prelude.{◌≡◌, ℕ, ℤ, Bool, true, false, List, [], ◌∷◌, ◌+◌, ◌≤◌, ◌<◌, max}
+use Rattle.std.specs.Prelude.{◌≡◌, ℕ, ℤ, Bool, true, false, List, ◌∷◌, ◌+◌, ◌≤◌, ◌<◌, max}
 use Rattle.kahn_syntax.specs.declared.lexeme.Keyword.TheVariants as keyword
 use Rattle.kahn_syntax.specs.declared.lexeme.Sign.TheVariants as mark
 use Rattle.kahn_syntax.specs.declared.tree.Operator.{Operator}
 use Rattle.kahn_syntax.specs.declared.tree.Operator.TheVariants as operator
-use Rattle.kahn_syntax.specs.declared.tree.Kind.{Kind}
-use Rattle.kahn_syntax.specs.declared.tree.Role.{Role}
-use Rattle.kahn_syntax.specs.declared.tree.Taking.{Taking}
 use Rattle.kahn_syntax.specs.Terminals as terminal
 use Rattle.kahn_syntax.specs.Terminals.{Terminal, word, sign}
 

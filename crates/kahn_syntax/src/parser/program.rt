@@ -5,8 +5,8 @@ ghost use Rattle.kahn_syntax.specs.declared.lexeme.Keyword.TheVariants as keywor
 ghost use Rattle.kahn_syntax.specs.declared.lexeme.Sign.TheVariants as mark;
 ghost use Rattle.kahn_syntax.specs.declared.lexeme.Class.TheVariants as class;
 ghost use Rattle.kahn_syntax.specs.declared.lexeme.Lexeme.{Lexeme};
-ghost use Rattle.kahn_syntax.specs.Terminals.{terminals, First, sign};
-ghost use Rattle.kahn_syntax.specs.Programs.{Spells, nesting, Instances, Instantiates, Arguments, Argues, MaybeSemicolon};
+ghost use Rattle.kahn_syntax.specs.Terminals.{Terminal, terminals, First, sign};
+ghost use Rattle.kahn_syntax.specs.Programs.{ProgramTree, Spells, nesting, Instances, Instantiates, Arguments, Argues, MaybeSemicolon};
 ghost use Rattle.kahn_syntax.specs.Drawn.{argument_of, instance_of, program_of};
 ghost use Rattle.kahn_syntax.specs.Reads.{Within, StandsAt};
 
@@ -21,9 +21,10 @@ use std::alloc::Global;
 
 /// The program that the lexemes of a text are.
 pub fn parse_lexemes(alloc: Global, text: &str, lexemes: &[Lexeme]) -> Result<Program, SyntaxFault>
-    // The program is spelled by the lexemes, within the limit of nesting.
+    // The program is spelled by the lexemes, within the limit of nesting, and no other is.
     ensures spells { IfOk result (λ p. Spells (program_of p) (terminals text.now lexemes.now)) }
     ensures nesting { IfOk result (λ p. nesting (program_of p) ≤ 64) }
+    ensures only { IfOk result (λ p. (t : ProgramTree) → Spells t (terminals text.now lexemes.now) → t ≡ program_of p) }
     // A fault stands at one of the lexemes, or at the end of the text.
     ensures stands { IfErr result (λ e. StandsAt (length text.now) lexemes.now e) }
 {
@@ -32,6 +33,11 @@ pub fn parse_lexemes(alloc: Global, text: &str, lexemes: &[Lexeme]) -> Result<Pr
         Err(stop) => Err(fault_of(text, lexemes, stop)),
     }
 }
+
+/// No two trees spell one list of lexemes.
+pub fn one_tree()
+    ensures { (t u : ProgramTree) (ks : List Terminal) → Spells t ks → Spells u ks → t ≡ u }
+{}
 
 // The fault of these lexemes where reading stopped.
 fn fault_of(text: &str, lexemes: &[Lexeme], stop: Stop) -> SyntaxFault

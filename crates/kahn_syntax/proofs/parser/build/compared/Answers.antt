@@ -1,7 +1,6 @@
-use Rattle.std.proofs.Common.{rules, ◌≡◌, ap, ◌∙◌, ◌++◌, ◌∷◌, [], List, sym}
-use Rattle.kahn_syntax.specs.declared.tree.Operand.{Operand}
+use Rattle.std.proofs.Common.{ap, ◌∙◌, ◌++◌, ◌∷◌, []}
 use Rattle.kahn_syntax.specs.declared.tree.Form.TheBlock.{hidden-the_row-Operand-0}
-use Rattle.kahn_syntax.specs.Trees.{level, operand, no_operand}
+use Rattle.kahn_syntax.specs.Trees.{level}
 use Rattle.kahn_syntax.specs.Drawn.{form_of, operands_of, operands_row}
 use Rattle.kahn_syntax.proofs.Rows.{operands_made}
 use Rattle.kahn_syntax.proofs.parser.build.compared.Goals as goal

@@ -1,6 +1,4 @@
-use Rattle.std.proofs.Common.{◌≡◌, ap, ◌∙◌, sym, arith}
-use Rattle.kahn_syntax.specs.Terminals.{terminals}
-use Rattle.kahn_syntax.specs.Trees.{expression_words}
+use Rattle.std.proofs.Common.{arith}
 use Rattle.kahn_syntax.specs.Drawn.{expression_of}
 use Rattle.kahn_syntax.proofs.Levels.{operands_words_next, operands_nesting_next, formed_next}
 use Rattle.kahn_syntax.proofs.parser.expression.+expression.Goals as goal
