@@ -58,9 +58,10 @@ next_set qs c w w' (Writes d) l at r g = by (same_or d c)
 pub taken_moves : (qs : List Waiting) (act : ℕ → Actual) (q c : ℕ) (w w' : Waiting) → act q ≡ Reads c →
     ((r : ℕ) → act r ≡ Reads c → r ≡ q) → c < length qs → slice_get qs c ≡ Some w → w'.taken ≡ w.taken + 1 → w'.waiting + 1 ≡ w.waiting →
     Moved (λ r. next_at qs (act r)) (λ r. next_at (slice_set qs c w') (act r)) q
-taken_moves qs act q c w w' reads once l at more less =
-    (ap (next_at (slice_set qs c w')) reads ∙ ap taken_of (set_here qs c w' l) ∙ more ∙ step ∙ ap suc (sym (ap taken_of at)) ∙ ap suc (sym (ap (next_at qs) reads)),
-    λ r other. next_set qs c w w' (act r) l at (λ e. absurd (other (once r e))) (λ e. omega (arith, more, less)))
+taken_moves qs act q c w w' reads once l at more less = (
+  ap (next_at (slice_set qs c w')) reads ∙ ap taken_of (set_here qs c w' l) ∙ more ∙ step ∙ ap suc (sym (ap taken_of at)) ∙ ap suc (sym (ap (next_at qs) reads)),
+  λ r other. next_set qs c w w' (act r) l at (λ e. absurd (other (once r e))) (λ e. omega (arith, more, less)),
+)
   where
     step : w.taken + 1 ≡ suc w.taken
     step = omega arith
@@ -69,9 +70,10 @@ taken_moves qs act q c w w' reads once l at more less =
 pub given_moves : (qs : List Waiting) (act : ℕ → Actual) (q c : ℕ) (w w' : Waiting) → act q ≡ Writes c →
     ((r : ℕ) → act r ≡ Writes c → r ≡ q) → c < length qs → slice_get qs c ≡ Some w → w'.taken ≡ w.taken → w'.waiting ≡ w.waiting + 1 →
     Moved (λ r. next_at qs (act r)) (λ r. next_at (slice_set qs c w') (act r)) q
-given_moves qs act q c w w' writes once l at same more =
-    (ap (next_at (slice_set qs c w')) writes ∙ ap given_of (set_here qs c w' l) ∙ step ∙ ap suc (sym (ap given_of at)) ∙ ap suc (sym (ap (next_at qs) writes)),
-    λ r other. next_set qs c w w' (act r) l at (λ e. same) (λ e. absurd (other (once r e))))
+given_moves qs act q c w w' writes once l at same more = (
+  ap (next_at (slice_set qs c w')) writes ∙ ap given_of (set_here qs c w' l) ∙ step ∙ ap suc (sym (ap given_of at)) ∙ ap suc (sym (ap (next_at qs) writes)),
+  λ r other. next_set qs c w w' (act r) l at (λ e. same) (λ e. absurd (other (once r e))),
+)
   where
     step : w'.taken + w'.waiting ≡ suc (w.taken + w.waiting)
     step = omega (arith, same, more)
@@ -98,10 +100,11 @@ queued_set s routes c w w' h l at same size = record {
     named d v e (inr n) = h.named d v (sym (set_else s.queues c d w' n) ∙ e)
     named d v e (inl i) =
         let f : w' ≡ v = some_is (sym (set_here s.queues c w' l) ∙ ap (slice_get (slice_set s.queues c w')) (sym i) ∙ e) in
-        let o = h.named c w at in
-        (ap (λ (x : Waiting). x.channel) (sym f) ∙ same.2 ∙ o.0 ∙ sym i,
-        ap (λ (x : Waiting). x.network) (sym f) ∙ same.0 ∙ o.1,
-        ap (λ (x : Waiting). x.input) (sym f) ∙ same.1 ∙ o.2)
+        let o = h.named c w at in (
+          ap (λ (x : Waiting). x.channel) (sym f) ∙ same.2 ∙ o.0 ∙ sym i,
+          ap (λ (x : Waiting). x.network) (sym f) ∙ same.0 ∙ o.1,
+          ap (λ (x : Waiting). x.input) (sym f) ∙ same.1 ∙ o.2,
+        )
 
 -- what the table has for a parameter of the instance whose ports they are
 pub routed_at : (s : Lines) (routes table : List (List (Option ℕ))) (i q c : ℕ) (o : Option ℕ) → AreQueued s routes → i ≡ s.instance →
@@ -217,10 +220,11 @@ pub is_written_here : (n : Lines) (routes : List (List (Option ℕ))) (q d c : �
     IsWritten (record { network = n.network; input = n.input; instance = n.instance }) q (next_at n.queues (actual_of n q)) t →
     IsOf w.network w.input t × (t.line ≡ Channel w.channel) × (t.place ≡ w.taken + w.waiting)
 is_written_here n routes q d c w t h writes is at told =
-    let o = h.named c w at in
-    ((told.names.0 ∙ sym o.1, told.names.1 ∙ sym o.2),
-    told.line d writes ∙ ap Channel (sym (o.0 ∙ is)),
-    told.place ∙ next_written n q d c w writes is at)
+    let o = h.named c w at in (
+      (told.names.0 ∙ sym o.1, told.names.1 ∙ sym o.2),
+      told.line d writes ∙ ap Channel (sym (o.0 ∙ is)),
+      told.place ∙ next_written n q d c w writes is at,
+    )
 
 -- whether tokens wait
 pub waits_there : (n : Lines) (q d c : ℕ) (w : Waiting) → actual_of n q ≡ Reads d → c ≡ d → slice_get n.queues c ≡ Some w →

@@ -1,7 +1,7 @@
 -- What contracts see of the plain queues of all channels.
-use Rattle.std.specs.Prelude.{◌≡◌, ℕ, ◌+◌, ◌<◌, List, [], length, Option, Some, None, slice_get, slice_index_or}
+use Rattle.std.specs.Prelude.{◌≡◌, ℕ, ◌+◌, ◌<◌, List, [], length, map, Option, Some, None, slice_get, slice_index_or}
 use Rattle.kahn_syntax.specs.declared.tree.Program.{Program}
-use Rattle.kahn_check.specs.Network.{Actual, Reads, Writes, Hands, network_of, instance_at, actual_at}
+use Rattle.kahn_check.specs.Network.{Network, Actual, Reads, Writes, Hands, network_of, instance_at, actual_at}
 use Rattle.kahn_streams.specs.Tokens.{Lists}
 use Rattle.kahn_code.specs.Queues.{Waiting}
 
@@ -57,3 +57,13 @@ pub record AreQueued (s : Lines) (routes : List (List (Option ℕ))) : Type 0 wh
       actual_at (instance_at (network_of s.network) p) r ≡ Reads c → q ≡ r
   pub writers : (p q r c : ℕ) → actual_at (instance_at (network_of s.network) p) q ≡ Writes c →
       actual_at (instance_at (network_of s.network) p) r ≡ Writes c → q ≡ r
+
+abbrev pub route_of : Actual → Option ℕ
+route_of (Reads c) = Some c
+route_of (Writes c) = Some c
+route_of (Hands v) = None
+
+-- a row for each instance, with the channel of each parameter
+pub record AreRoutes (N : Network) (routes : List (List (Option ℕ))) : Type 0 where
+  pub count : length routes ≡ length N.instances
+  pub each : (p : ℕ) → p < length N.instances → slice_index_or routes p [] ≡ map route_of (instance_at N p).actuals
