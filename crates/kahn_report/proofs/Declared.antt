@@ -1,0 +1,43 @@
+-- The names of the declared channels, declaration by declaration.
+use Rattle.std.proofs.Common.{drop-cons, ◌≡◌, ℕ, zero, suc, ◌-◌, ◌<◌, ◌≤◌, List, [], ◌∷◌, ◌++◌, length, map, drop, get_or, slice_index_or, ap, arith, refl, sym, ◌∙◌}
+use Rattle.kahn_syntax.specs.declared.tree.Kind.{Kind}
+use Rattle.kahn_syntax.specs.declared.tree.Role.{Role}
+use Rattle.kahn_syntax.specs.declared.tree.Name.{Name}
+use Rattle.kahn_syntax.specs.declared.tree.Declaration.{Declaration}
+use Rattle.kahn_syntax.specs.declared.tree.Declaration.TheVariants as D
+use Rattle.std.specs.declared.vec.Vec.{Vec}
+use Rattle.std.specs.declared.alloc.Global.{Global}
+use Rattle.kahn_syntax.specs.View.{bytes_of}
+use Rattle.kahn_check.specs.Network.{channels_of}
+use Rattle.kahn_report.specs.Names.{channel_names}
+
+abbrev pub Row : Type 0
+Row = List ℕ × (Kind × Role)
+
+-- a name of the first names
+pub first_name : (ns : List Name) (k : Kind) (r : Role) (rest : List Row) (n : ℕ) (d : Name) → n < length ns
+    → slice_index_or (map (λ c. c.0) (map (λ x. (bytes_of x, (k, r))) ns ++ rest)) n [] ≡ bytes_of (get_or ns n d)
+first_name [] k r rest n d below = absurd (omega (arith, below))
+first_name (x ∷ ns) k r rest zero d below = refl
+first_name (x ∷ ns) k r rest (suc n) d below = first_name ns k r rest n d (omega (arith, below))
+
+-- a name past them
+pub later_name : (ns : List Name) (k : Kind) (r : Role) (rest : List Row) (n : ℕ) → length ns ≤ n
+    → slice_index_or (map (λ c. c.0) (map (λ x. (bytes_of x, (k, r))) ns ++ rest)) n [] ≡ slice_index_or (map (λ c. c.0) rest) (n - length ns) []
+later_name [] k r rest n past =
+    let e : n ≡ n - 0 = omega arith in
+    ap (λ i. slice_index_or (map (λ c. c.0) rest) i []) e
+later_name (x ∷ ns) k r rest zero past = absurd (omega (arith, past))
+later_name (x ∷ ns) k r rest (suc n) past =
+    let e : n - length ns ≡ suc n - suc (length ns) = omega arith in
+    later_name ns k r rest n (omega (arith, past)) ∙ ap (λ i. slice_index_or (map (λ c. c.0) rest) i []) e
+
+-- the declaration at i, and those that follow
+pub at_declaration : (ds : List Declaration) (i : ℕ) (d x : Declaration) → i < length ds → x ≡ get_or ds i d → drop i ds ≡ x ∷ drop (suc i) ds
+at_declaration ds i d x below is = drop-cons ds i d below ∙ ap (λ y. y ∷ drop (suc i) ds) (sym is)
+
+pub name_at : (ds : List Declaration) (i n : ℕ) (d x : Declaration) (k : Kind) (r : Role) (ns : Vec Name Global) (w : Name) → i < length ds → x ≡ get_or ds i d → x ≡ D.Channels k r ns → n < length ns.items
+    → slice_index_or (channel_names (drop i ds)) n [] ≡ bytes_of (get_or ns.items n w)
+name_at ds i n d x k r ns w below is form here =
+    ap (λ l. slice_index_or (channel_names l) n []) (at_declaration ds i d x below is ∙ ap (λ y. y ∷ drop (suc i) ds) form)
+    ∙ first_name ns.items k r (channels_of (drop (suc i) ds)) n w here

@@ -1,0 +1,8 @@
+use Rattle.kahn_report.proofs.Pieces.{fails, flushed}
+use Rattle.kahn_report.proofs.write.write_line_counted.Goals as goal
+
+pub returns-in_err-put_all-clause-text : goal.returns-in_err-put_all-clause-text
+returns-in_err-put_all-clause-text g c = fails _ _ _ _ c.from_residual.ensures.0 c.in_err-put_all.ensures.text
+
+pub returns-clause-text : goal.returns-clause-text
+returns-clause-text g c = flushed _ _ _ _ _ c.in_ok-put_all.ensures.text c.flush.ensures

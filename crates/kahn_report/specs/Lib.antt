@@ -1,0 +1,5 @@
+pub mod Names
+pub mod Report
+pub mod Written
+pub mod Reading
+pub mod Entries

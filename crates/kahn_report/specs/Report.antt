@@ -1,0 +1,95 @@
+-- The report text of an answer of a network: a function of the program and the answer, line by line. Each line ends
+-- with a line feed and has no blank at its end.
+use Rattle.std.specs.Prelude.{ℕ, ◌+◌, ◌<◌, List, [], ◌∷◌, ◌++◌, codes, decimal, flat_map, All, true, false}
+use Rattle.std.specs.Fmt.{signed_decimal}
+use Rattle.std.specs.List.{concat}
+use Rattle.kahn_report.specs.Names.{channel_name, process_name, channel_count, instance_count}
+use Rattle.kahn_syntax.specs.declared.tree.Program.{Program}
+use Rattle.kahn_streams.specs.declared.value.Value.{Value}
+use Rattle.kahn_streams.specs.declared.value.Value.TheVariants.{Integer, Logical}
+use Rattle.kahn_streams.specs.declared.value.Line.{Line}
+use Rattle.kahn_streams.specs.declared.value.Line.TheVariants.{Channel, Print}
+use Rattle.kahn_streams.specs.declared.value.Failure.TheVariants.{Overflow, Division}
+use Rattle.kahn_streams.specs.declared.token.Token.{Token}
+use Rattle.kahn_pool.specs.declared.answer.Stream.{Stream}
+use Rattle.kahn_pool.specs.declared.answer.Outcome.{Outcome}
+use Rattle.kahn_pool.specs.declared.answer.Outcome.TheVariants.{Ended, Waits, Faulted, More}
+use Rattle.kahn_pool.specs.declared.answer.End.{End}
+use Rattle.kahn_pool.specs.declared.answer.Verdict.{Verdict}
+use Rattle.kahn_pool.specs.declared.answer.Verdict.TheVariants.{Finished, Bound, Memory}
+use Rattle.kahn_pool.specs.declared.answer.Answer.{Answer}
+
+-- what ends a line
+abbrev pub line_feed : List ℕ
+line_feed = 10 ∷ []
+
+-- a value as it is printed: decimal, with a minus where it is negative, or true or false
+abbrev pub value_text : Value → List ℕ
+value_text (Integer n) = signed_decimal n
+value_text (Logical true) = codes "true"
+value_text (Logical false) = codes "false"
+
+-- a space and the value
+abbrev pub token_text : Token → List ℕ
+token_text token = concat (codes " " ∷ value_text token.value ∷ [])
+
+-- what a stream's line begins with: the name of its channel, or the number from 1 and the name of its process
+abbrev pub line_head : Program → Line → List ℕ
+line_head program (Channel channel) = concat (channel_name program channel ∷ codes ":" ∷ [])
+line_head program (Print instance) = concat (codes "print " ∷ decimal (instance + 1) ∷ codes " " ∷ process_name program instance ∷ codes ":" ∷ [])
+
+-- a stream's line: a space and the value for each of its tokens
+abbrev pub stream_text : Program → Stream → List ℕ
+stream_text program stream = line_head program stream.line ++ (flat_map token_text stream.tokens.items ++ line_feed)
+
+-- how an instance stands
+abbrev pub outcome_word : Outcome → List ℕ
+outcome_word Ended = codes "ended"
+outcome_word (Waits channel) = codes "waits on "
+outcome_word (Faulted Overflow) = codes "fault overflow"
+outcome_word (Faulted Division) = codes "fault division"
+outcome_word More = codes "wants more"
+
+-- the name of the channel on which it waits
+abbrev pub waited_name : Program → Outcome → List ℕ
+waited_name program Ended = []
+waited_name program (Waits channel) = channel_name program channel
+waited_name program (Faulted kind) = []
+waited_name program More = []
+
+-- an instance's line, of its number, its process, how it stands, its channel and its events
+abbrev pub end_words : List ℕ → List ℕ → List ℕ → List ℕ → List ℕ → List ℕ
+end_words number name word channel events = concat (codes "end " ∷ number ∷ codes " " ∷ name ∷ codes ": " ∷ word ∷ channel ∷ codes " after " ∷ events ∷ line_feed ∷ [])
+
+-- an instance's line
+abbrev pub end_text : Program → ℕ → End → List ℕ
+end_text program instance end = end_words (decimal (instance + 1)) (process_name program instance) (outcome_word end.outcome) (waited_name program end.outcome) (decimal end.events)
+
+-- the lines of the ends, the first of which is that of the given instance
+abbrev pub ends_text : Program → ℕ → List End → List ℕ
+ends_text program instance [] = []
+ends_text program instance (end ∷ ends) = end_text program instance end ++ ends_text program (instance + 1) ends
+
+-- how the run ended
+abbrev pub verdict_text : Verdict → List ℕ
+verdict_text Finished = codes "finished "
+verdict_text Bound = codes "stopped by bound "
+verdict_text Memory = codes "stopped by memory "
+
+-- the last line, with the sum of the events
+abbrev pub last_text : Answer → List ℕ
+last_text answer = concat (verdict_text answer.verdict ∷ decimal answer.events ∷ line_feed ∷ [])
+
+-- the report text: the streams, the instances in order, and how the run ended
+abbrev pub report_text : Program → Answer → List ℕ
+report_text program answer = flat_map (stream_text program) answer.streams.items
+    ++ (ends_text program 0 answer.ends.items ++ last_text answer)
+
+-- the line is one of the network's
+abbrev pub IsLine : Program → Line → Type 0
+IsLine program (Channel channel) = channel < channel_count program
+IsLine program (Print instance) = instance < instance_count program
+
+-- each stream is of a line of the network
+abbrev pub HasItsLines : Program → Answer → Type 0
+HasItsLines program answer = All (λ stream. IsLine program stream.line) answer.streams.items

@@ -1,0 +1,118 @@
+//! The entries of an input text, line by line.
+
+ghost use Rattle.std.specs.Prelude.{◌≡◌, ◌↔◌, IsTrue, List, MatchResult, MatchOption, map};
+ghost use Rattle.kahn_report.specs.Entries.{IsBlank, IsEntry, IsLineFault, IsTextFault, IsInputText, content as content_of, entry_of};
+
+use crate::heads::{head_of, is_blank};
+use crate::values::{ValuesFault, read_values};
+use kahn_streams::value::Value;
+use std::alloc::Global;
+use thiserror::Error;
+
+/// The most bytes of an input text.
+pub const MOST_BYTES: usize = 16777216;
+
+/// Why an input text is refused. Lines are counted from 1, skipped ones too.
+#[derive(Clone, Copy, Debug, PartialEq, Eq, Drop, Error)]
+pub enum TextFault {
+    /// A line that isn't blank and doesn't begin with a name and a colon.
+    #[error("input line {0}: not a name and a colon")]
+    BadLine(usize),
+    /// A line with what is no value after its colon.
+    #[error("input line {0}: not a value")]
+    BadValue(usize),
+    /// The text has more than 16,777,216 bytes.
+    #[error("input text is too long")]
+    TooLong,
+    /// Memory was refused.
+    #[error("no memory")]
+    NoMemory,
+}
+
+/// Why a line is no entry.
+#[derive(Clone, Copy, Debug, PartialEq, Eq)]
+pub(crate) enum LineFault {
+    /// It has no name and colon.
+    NoHead,
+    /// It has no values after its colon.
+    NoValues,
+    /// Memory was refused.
+    NoMemory,
+}
+
+/// A line without one carriage return before its end.
+fn content(line: &[u8]) -> &[u8]
+    ensures { result.now ≡ content_of line.now }
+{
+    match line.last() {
+        Some(b'\r') => &line[..line.len() - 1],
+        _ => line,
+    }
+}
+
+/// Whether a line has blanks alone, or nothing.
+fn is_blank_line(line: &[u8]) -> bool
+    ensures { IsTrue result ↔ IsBlank line.now }
+{
+    line.iter().all(|byte| is_blank(*byte))
+}
+
+/// Reads a line that isn't blank.
+fn read_entry(alloc: Global, line: &[u8]) -> Result<(String, Vec<Value>), LineFault>
+    requires { ¬ IsBlank line.now }
+    ensures { MatchResult result (λ entry. IsEntry line.now (entry_of entry)) (IsLineFault line.now) }
+{
+    let Some(head) = head_of(line) else {
+        return Err(LineFault::NoHead);
+    };
+    let values = match read_values(alloc, head.rest) {
+        Ok(values) => values,
+        Err(ValuesFault::NoValue) => return Err(LineFault::NoValues),
+        Err(ValuesFault::NoMemory) => return Err(LineFault::NoMemory),
+    };
+    match String::from_str(alloc, head.name) {
+        Ok(name) => Ok((name, values)),
+        Err(_) => Err(LineFault::NoMemory),
+    }
+}
+
+/// Reads a line, which is an entry where it isn't blank.
+fn read_line(alloc: Global, line: &[u8]) -> Result<Option<(String, Vec<Value>)>, LineFault>
+    ensures { MatchResult result (λ read. MatchOption read (IsBlank (content_of line.now)) (λ entry. IsEntry (content_of line.now) (entry_of entry)))
+        (IsLineFault (content_of line.now)) }
+{
+    let line = content(line);
+    if is_blank_line(line) {
+        return Ok(None);
+    }
+    match read_entry(alloc, line) {
+        Ok(entry) => Ok(Some(entry)),
+        Err(fault) => Err(fault),
+    }
+}
+
+/// Reads the entries of an input text: the names of channels, and their values.
+pub fn read_entries(alloc: Global, text: &str) -> Result<Vec<(String, Vec<Value>)>, TextFault>
+    ensures { MatchResult result (λ entries. IsInputText text.now (map entry_of entries.items)) (IsTextFault text.now) }
+{
+    if text.len() > MOST_BYTES {
+        return Err(TextFault::TooLong);
+    }
+    let mut entries = Vec::new(alloc);
+    let mut number = 0;
+    for line in text.as_bytes().split(|byte| *byte == b'\n') {
+        number += 1;
+        match read_line(alloc, line) {
+            Ok(None) => {}
+            Ok(Some(entry)) => {
+                if entries.push(entry).is_err() {
+                    return Err(TextFault::NoMemory);
+                }
+            }
+            Err(LineFault::NoHead) => return Err(TextFault::BadLine(number)),
+            Err(LineFault::NoValues) => return Err(TextFault::BadValue(number)),
+            Err(LineFault::NoMemory) => return Err(TextFault::NoMemory),
+        }
+    }
+    Ok(entries)
+}

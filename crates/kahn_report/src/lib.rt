@@ -1,0 +1,12 @@
+//! Texts in and out of a run: the input text, the report text, and reading and writing them.
+#![tactic(auto)]
+
+pub mod calls;
+pub mod entries;
+mod heads;
+pub mod names;
+pub mod read;
+#[cfg(test)]
+mod tests;
+mod values;
+pub mod write;

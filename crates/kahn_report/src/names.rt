@@ -1,0 +1,33 @@
+//! The names of a network's channels and processes.
+
+ghost use Rattle.std.specs.Prelude.{◌≡◌};
+ghost use Rattle.kahn_report.specs.Names.{channel_name, process_name};
+
+use kahn_check::network::Network;
+use kahn_syntax::tree::Declaration;
+
+/// The declared name of a channel, or nothing past the last. It takes no memory.
+pub fn channel_name(network: &Network, channel: usize) -> &str
+    ensures { result.now ≡ channel_name network.now channel }
+{
+    let mut number = channel;
+    for declaration in &network.program().declarations {
+        if let Declaration::Channels(_, _, names) = declaration {
+            if let Some(name) = names.get(number) {
+                return name.text.as_str();
+            }
+            number -= names.len();
+        }
+    }
+    ""
+}
+
+/// The name of an instance's process, or nothing past the last. It takes no memory.
+pub fn process_name(network: &Network, instance: usize) -> &str
+    ensures { result.now ≡ process_name network.now instance }
+{
+    match network.program().instances.get(instance) {
+        Some(found) => found.process.text.as_str(),
+        None => "",
+    }
+}

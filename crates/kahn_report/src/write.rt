@@ -1,0 +1,334 @@
+//! The report text, written piece by piece.
+
+ghost use Rattle.std.specs.Prelude.{◌≡◌, ℕ, ◌+◌, ◌<◌, ◌≤◌, length, decimal, ◌++◌, [], ◌∷◌, codes, flat_map, All};
+ghost use Rattle.std.specs.List.{concat};
+ghost use Rattle.std.specs.Io.KnownBytes.{Keeps};
+ghost use Rattle.kahn_report.specs.Written.{Writes};
+ghost use Rattle.kahn_report.specs.Report.{report_text, value_text, line_head, stream_text, outcome_word, waited_name, end_words, end_text, ends_text, last_text, IsLine, HasItsLines};
+
+use crate::calls::Calls;
+use crate::names::{channel_name, process_name};
+use itoa::Buffer;
+use kahn_check::network::Network;
+use kahn_pool::answer::{Answer, End, Outcome, Stream, Verdict};
+use kahn_streams::value::{Failure, Line, Value};
+use std::io::Write;
+use std::marker::Brand;
+use std::sync::ledger::{Blank, Ledger};
+use thiserror::Error;
+
+/// Why a text wasn't written whole.
+#[derive(Clone, Copy, Debug, PartialEq, Eq, Error)]
+pub enum WriteFault {
+    #[error("a write failed")]
+    Failed,
+    #[error("a write took no byte")]
+    Zero,
+}
+
+/// Writes bytes, by as many writes as it takes.
+fn put<W: Write, L: Ledger>(
+    writer: &mut W,
+    writes: &mut Calls<L>,
+    bytes: &[u8],
+) -> Result<(), WriteFault>
+    ensures text { Writes (W.contents writer.old) (W.contents writer.new) result bytes.now }
+    ensures few { writes.new ≤ writes.old + length bytes.now }
+{
+    let mut rest = bytes;
+    while !rest.is_empty() {
+        writes.tick();
+        match writer.write(rest) {
+            Ok(0) => return Err(WriteFault::Zero),
+            Ok(count) => rest = &rest[count..],
+            Err(_) => return Err(WriteFault::Failed),
+        }
+    }
+    Ok(())
+}
+
+/// Writes pieces one after another.
+fn put_all<W: Write, L: Ledger>(
+    writer: &mut W,
+    writes: &mut Calls<L>,
+    pieces: &[&[u8]],
+) -> Result<(), WriteFault>
+    ensures text { Writes (W.contents writer.old) (W.contents writer.new) result (flat_map (λ piece. piece.now) pieces.now) }
+    ensures few { writes.new ≤ writes.old + length (flat_map (λ piece. piece.now) pieces.now) }
+{
+    for piece in pieces {
+        put(writer, writes, piece)?;
+    }
+    Ok(())
+}
+
+/// Writes a space and a value.
+fn put_value<W: Write, L: Ledger>(
+    writer: &mut W,
+    writes: &mut Calls<L>,
+    value: Value,
+) -> Result<(), WriteFault>
+    ensures text { Writes (W.contents writer.old) (W.contents writer.new) result (concat (codes " " ∷ value_text value ∷ [])) }
+    ensures few { writes.new ≤ writes.old + length (concat (codes " " ∷ value_text value ∷ [])) }
+{
+    let mut buffer = Buffer::new();
+    let text = match value {
+        Value::Integer(number) => buffer.format(number),
+        Value::Logical(true) => "true",
+        Value::Logical(false) => "false",
+    };
+    put_all(writer, writes, &[b" ", text.as_bytes()])
+}
+
+/// Writes what a stream's line begins with.
+fn put_head<W: Write, L: Ledger>(
+    writer: &mut W,
+    writes: &mut Calls<L>,
+    network: &Network,
+    line: Line,
+) -> Result<(), WriteFault>
+    requires { IsLine network.now line }
+    ensures text { Writes (W.contents writer.old) (W.contents writer.new) result (line_head network.now line) }
+    ensures few { writes.new ≤ writes.old + length (line_head network.now line) }
+{
+    match line {
+        Line::Channel(channel) => {
+            let name = channel_name(network, channel).as_bytes();
+            put_all(writer, writes, &[name, b":"])
+        }
+        Line::Print(instance) => {
+            let mut buffer = Buffer::new();
+            let number = buffer.format(instance + 1).as_bytes();
+            let name = process_name(network, instance).as_bytes();
+            put_all(writer, writes, &[b"print ", number, b" ", name, b":"])
+        }
+    }
+}
+
+/// Writes a stream's line.
+fn put_stream<W: Write, L: Ledger>(
+    writer: &mut W,
+    writes: &mut Calls<L>,
+    network: &Network,
+    stream: &Stream,
+) -> Result<(), WriteFault>
+    requires { IsLine network.now stream.now.line }
+    ensures text { Writes (W.contents writer.old) (W.contents writer.new) result (stream_text network.now stream.now) }
+    ensures few { writes.new ≤ writes.old + length (stream_text network.now stream.now) }
+{
+    put_head(writer, writes, network, stream.line)?;
+    for token in &stream.tokens {
+        put_value(writer, writes, token.value())?;
+    }
+    put(writer, writes, b"\n")
+}
+
+/// Says how an instance stood.
+fn outcome_word(outcome: Outcome) -> &'static str
+    ensures { result.now ≡ outcome_word outcome }
+{
+    match outcome {
+        Outcome::Ended => "ended",
+        Outcome::Waits(_) => "waits on ",
+        Outcome::Faulted(Failure::Overflow) => "fault overflow",
+        Outcome::Faulted(Failure::Division) => "fault division",
+        Outcome::More => "wants more",
+    }
+}
+
+/// The name of the channel on which an instance waits, or nothing.
+fn waited_name(network: &Network, outcome: Outcome) -> &str
+    ensures { result.now ≡ waited_name network.now outcome }
+{
+    match outcome {
+        Outcome::Waits(channel) => channel_name(network, channel),
+        _ => "",
+    }
+}
+
+/// Writes an instance's line.
+fn put_end<W: Write, L: Ledger>(
+    writer: &mut W,
+    writes: &mut Calls<L>,
+    network: &Network,
+    instance: usize,
+    end: End,
+) -> Result<(), WriteFault>
+    requires { instance < usize.MAX }
+    ensures text { Writes (W.contents writer.old) (W.contents writer.new) result (end_text network.now instance end) }
+    ensures few { writes.new ≤ writes.old + length (end_text network.now instance end) }
+{
+    let mut first = Buffer::new();
+    let mut second = Buffer::new();
+    let number = first.format(instance + 1).as_bytes();
+    let events = second.format(end.events).as_bytes();
+    let name = process_name(network, instance).as_bytes();
+    let word = outcome_word(end.outcome).as_bytes();
+    let channel = waited_name(network, end.outcome).as_bytes();
+    put_words(writer, writes, number, name, word, channel, events)
+}
+
+/// Writes an instance's line of its parts.
+fn put_words<'a, W: Write, L: Ledger>(
+    writer: &mut W,
+    writes: &mut Calls<L>,
+    number: &'a [u8],
+    name: &'a [u8],
+    word: &'a [u8],
+    channel: &'a [u8],
+    events: &'a [u8],
+) -> Result<(), WriteFault>
+    ensures text { Writes (W.contents writer.old) (W.contents writer.new) result (end_words number.now name.now word.now channel.now events.now) }
+    ensures few { writes.new ≤ writes.old + length (end_words number.now name.now word.now channel.now events.now) }
+{
+    put_all(
+        writer,
+        writes,
+        &[
+            b"end ", number, b" ", name, b": ", word, channel, b" after ", events, b"\n",
+        ],
+    )
+}
+
+/// Writes the last line.
+fn put_last<W: Write, L: Ledger>(
+    writer: &mut W,
+    writes: &mut Calls<L>,
+    answer: &Answer,
+) -> Result<(), WriteFault>
+    ensures text { Writes (W.contents writer.old) (W.contents writer.new) result (last_text answer.now) }
+    ensures few { writes.new ≤ writes.old + length (last_text answer.now) }
+{
+    let mut buffer = Buffer::new();
+    let events = buffer.format(answer.events).as_bytes();
+    let word: &[u8] = match answer.verdict {
+        Verdict::Finished => b"finished ",
+        Verdict::Bound => b"stopped by bound ",
+        Verdict::Memory => b"stopped by memory ",
+    };
+    put_all(writer, writes, &[word, events, b"\n"])
+}
+
+/// Writes the lines of the streams.
+fn put_streams<W: Write, L: Ledger>(
+    writer: &mut W,
+    writes: &mut Calls<L>,
+    network: &Network,
+    streams: &[Stream],
+) -> Result<(), WriteFault>
+    requires { All (λ stream. IsLine network.now stream.line) streams.now }
+    ensures text { Writes (W.contents writer.old) (W.contents writer.new) result (flat_map (stream_text network.now) streams.now) }
+    ensures few { writes.new ≤ writes.old + length (flat_map (stream_text network.now) streams.now) }
+{
+    for stream in streams {
+        put_stream(writer, writes, network, stream)?;
+    }
+    Ok(())
+}
+
+/// Writes the lines of the instances.
+fn put_ends<W: Write, L: Ledger>(
+    writer: &mut W,
+    writes: &mut Calls<L>,
+    network: &Network,
+    ends: &[End],
+) -> Result<(), WriteFault>
+    ensures text { Writes (W.contents writer.old) (W.contents writer.new) result (ends_text network.now 0 ends.now) }
+    ensures few { writes.new ≤ writes.old + length (ends_text network.now 0 ends.now) }
+{
+    for (instance, end) in ends.iter().enumerate() {
+        put_end(writer, writes, network, instance, *end)?;
+    }
+    Ok(())
+}
+
+/// Flushes a writer, which leaves what it holds.
+fn flush<W: Write>(writer: &mut W) -> Result<(), WriteFault>
+    ensures { Keeps (W.contents writer.old) (W.contents writer.new) }
+{
+    match writer.flush() {
+        Ok(()) => Ok(()),
+        Err(_) => Err(WriteFault::Failed),
+    }
+}
+
+/// Writes the report text and flushes, and counts its writes.
+pub fn write_counted<W: Write, L: Ledger>(
+    writer: &mut W,
+    writes: &mut Calls<L>,
+    network: &Network,
+    answer: &Answer,
+) -> Result<(), WriteFault>
+    requires { HasItsLines network.now answer.now }
+    ensures text { Writes (W.contents writer.old) (W.contents writer.new) result (report_text network.now answer.now) }
+    ensures few { writes.new ≤ writes.old + length (report_text network.now answer.now) }
+{
+    put_streams(writer, writes, network, &answer.streams)?;
+    put_ends(writer, writes, network, &answer.ends)?;
+    put_last(writer, writes, answer)?;
+    flush(writer)
+}
+
+/// Opens a count, and writes.
+fn write_opened<W: Write, L: Ledger>(
+    writer: &mut W,
+    blank: Blank,
+    network: &Network,
+    answer: &Answer,
+) -> Result<(), WriteFault>
+    requires name { blank.name ≡ L.name }
+    requires parts { blank.parts ≡ L.parts }
+    requires some { 0 < blank.parts }
+    requires lines { HasItsLines network.now answer.now }
+    ensures { Writes (W.contents writer.old) (W.contents writer.new) result (report_text network.now answer.now) }
+{
+    let mut writes = Calls::<L>::open(blank);
+    write_counted(writer, &mut writes, network, answer)
+}
+
+/// Writes the report text of an answer of a network, and flushes. After a fault a prefix of it went out.
+pub fn write_report<W: Write>(
+    writer: &mut W,
+    network: &Network,
+    answer: &Answer,
+) -> Result<(), WriteFault>
+    requires { HasItsLines network.now answer.now }
+    ensures { Writes (W.contents writer.old) (W.contents writer.new) result (report_text network.now answer.now) }
+{
+    write_opened::<W, Brand>(writer, Blank::new(1), network, answer)
+}
+
+/// Writes pieces one after another and flushes, and counts the writes.
+pub fn write_line_counted<W: Write, L: Ledger>(
+    writer: &mut W,
+    writes: &mut Calls<L>,
+    pieces: &[&[u8]],
+) -> Result<(), WriteFault>
+    ensures text { Writes (W.contents writer.old) (W.contents writer.new) result (flat_map (λ piece. piece.now) pieces.now) }
+    ensures few { writes.new ≤ writes.old + length (flat_map (λ piece. piece.now) pieces.now) }
+{
+    put_all(writer, writes, pieces)?;
+    flush(writer)
+}
+
+/// Opens a count, and writes a line.
+fn write_line_opened<W: Write, L: Ledger>(
+    writer: &mut W,
+    blank: Blank,
+    pieces: &[&[u8]],
+) -> Result<(), WriteFault>
+    requires name { blank.name ≡ L.name }
+    requires parts { blank.parts ≡ L.parts }
+    requires some { 0 < blank.parts }
+    ensures { Writes (W.contents writer.old) (W.contents writer.new) result (flat_map (λ piece. piece.now) pieces.now) }
+{
+    let mut writes = Calls::<L>::open(blank);
+    write_line_counted(writer, &mut writes, pieces)
+}
+
+/// Writes pieces one after another, and flushes. After a fault a prefix of them went out.
+pub fn write_line<W: Write>(writer: &mut W, pieces: &[&[u8]]) -> Result<(), WriteFault>
+    ensures { Writes (W.contents writer.old) (W.contents writer.new) result (flat_map (λ piece. piece.now) pieces.now) }
+{
+    write_line_opened::<W, Brand>(writer, Blank::new(1), pieces)
+}
