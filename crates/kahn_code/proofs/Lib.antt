@@ -5,6 +5,7 @@ pub mod Rows
 pub mod Lists
 pub mod Stand
 pub mod Uses
+pub mod Queued
 pub mod Kept
 pub mod Asks
 pub mod Driven

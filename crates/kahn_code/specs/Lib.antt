@@ -3,6 +3,8 @@ pub mod Cells
 pub mod Standing
 pub mod Machines
 pub mod Seats
+pub mod Queues
+pub mod Lines
 pub mod Progress
 pub mod Code
 pub mod Told

@@ -8,7 +8,9 @@ pub mod emit;
 pub mod instruction;
 pub mod laws;
 pub mod machine;
+pub mod plain;
 pub mod ports;
 pub mod progress;
+pub mod queue;
+pub mod routes;
 pub mod steps;
-// NOTE: read NOTE_FROM_COORDINATOR.md at the top of the worktree, and delete this line.

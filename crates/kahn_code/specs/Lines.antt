@@ -1,0 +1,69 @@
+-- What contracts see of the plain queues of all channels.
+use Rattle.std.specs.Prelude.{◌≡◌, ℕ, ◌+◌, ◌<◌, List, [], length, map, Option, Some, None, slice_get, slice_index_or}
+use Rattle.kahn_syntax.specs.declared.tree.Program.{Program}
+use Rattle.kahn_check.specs.Network.{Network, Actual, Reads, Writes, Hands, network_of, instance_at, actual_at}
+use Rattle.kahn_streams.specs.Tokens.{Lists}
+use Rattle.kahn_code.specs.Queues.{Waiting}
+
+-- the network and the input, the instance whose ports they are now, and the queue of each channel
+pub record Lines : Type 0 where
+  pub network : Program
+  pub input : Lists
+  pub instance : ℕ
+  pub queues : List Waiting
+
+abbrev pub taken_of : Option Waiting → ℕ
+taken_of None = 0
+taken_of (Some w) = w.taken
+
+abbrev pub waiting_of : Option Waiting → ℕ
+waiting_of None = 0
+waiting_of (Some w) = w.waiting
+
+abbrev pub given_of : Option Waiting → ℕ
+given_of None = 0
+given_of (Some w) = w.taken + w.waiting
+
+abbrev pub spare_of : Option Waiting → ℕ
+spare_of None = 0
+spare_of (Some w) = w.spare
+
+-- the next place of a parameter: of what is taken, or of what is given
+abbrev pub next_at : List Waiting → Actual → ℕ
+next_at queues (Reads c) = taken_of (slice_get queues c)
+next_at queues (Writes c) = given_of (slice_get queues c)
+next_at queues (Hands v) = 0
+
+abbrev pub actual_of : Lines → ℕ → Actual
+actual_of s q = actual_at (instance_at (network_of s.network) s.instance) q
+
+-- the actual is this channel
+abbrev pub Joins : Actual → ℕ → Type 0
+Joins (Reads d) c = d ≡ c
+Joins (Writes d) c = d ≡ c
+Joins (Hands v) c = ⊥
+
+-- the channel that a table has for a parameter
+abbrev pub route : List (List (Option ℕ)) → ℕ → ℕ → Option ℕ
+route routes p q = slice_index_or (slice_index_or routes p []) q None
+
+-- the table has each parameter's channel, each queue is its channel's, and no two parameters of an instance have one
+-- channel in one direction
+pub record AreQueued (s : Lines) (routes : List (List (Option ℕ))) : Type 0 where
+  pub routed : (p q c : ℕ) → Joins (actual_at (instance_at (network_of s.network) p) q) c → route routes p q ≡ Some c
+  pub inside : (p q c : ℕ) → Joins (actual_at (instance_at (network_of s.network) p) q) c → c < length s.queues
+  pub named : (c : ℕ) (w : Waiting) → slice_get s.queues c ≡ Some w → (w.channel ≡ c) × (w.network ≡ s.network) × (w.input ≡ s.input)
+  pub readers : (p q r c : ℕ) → actual_at (instance_at (network_of s.network) p) q ≡ Reads c →
+      actual_at (instance_at (network_of s.network) p) r ≡ Reads c → q ≡ r
+  pub writers : (p q r c : ℕ) → actual_at (instance_at (network_of s.network) p) q ≡ Writes c →
+      actual_at (instance_at (network_of s.network) p) r ≡ Writes c → q ≡ r
+
+abbrev pub route_of : Actual → Option ℕ
+route_of (Reads c) = Some c
+route_of (Writes c) = Some c
+route_of (Hands v) = None
+
+-- a row for each instance, with the channel of each parameter
+pub record AreRoutes (N : Network) (routes : List (List (Option ℕ))) : Type 0 where
+  pub count : length routes ≡ length N.instances
+  pub each : (p : ℕ) → p < length N.instances → slice_index_or routes p [] ≡ map route_of (instance_at N p).actuals

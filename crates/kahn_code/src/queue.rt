@@ -1,0 +1,94 @@
+//! The plain queue of a channel.
+
+ghost use Rattle.std.specs.Prelude.{◌≡◌, ◌<◌, ◌≤◌, ◌+◌, ◌^◌, [], length, IfSome, IfNone, OnOk, IsTrue, ◌↔◌};
+ghost use Rattle.kahn_streams.specs.declared.value.Line.TheVariants.{Channel};
+ghost use Rattle.kahn_streams.specs.Streams.{IsOf};
+
+use kahn_check::network::Network;
+use kahn_streams::about::About;
+use kahn_streams::input::Input;
+use kahn_streams::memory::NoMemory;
+use kahn_streams::token::Token;
+use std::alloc::Allocator;
+use std::collections::VecDeque;
+use std::marker::Model;
+
+/// The tokens of a channel that were put and not taken, in place order.
+#[derive(Drop)]
+pub struct Queue<A: Allocator> {
+    network: About<Network>,
+    input: About<Input>,
+    channel: usize,
+    taken: u64,
+    tokens: VecDeque<Token, A>,
+}
+
+impl<A: Allocator> Model for Queue<A> {
+    ghost use Rattle.kahn_syntax.specs.contracts.tree.Action as action;
+    ghost use Rattle.kahn_syntax.specs.contracts.tree.Form as form;
+    ghost use Rattle.std.specs.Coded.{codes};
+    ghost use Rattle.std.specs.Prelude.{◌-◌, length};
+    ghost use Rattle.std.specs.VecDeque.{deque_len, deque_capacity};
+    ghost use Rattle.kahn_streams.specs.declared.value.Line.TheVariants.{Channel};
+    ghost use Rattle.kahn_streams.specs.Streams.{Follow, AllOf};
+    ghost use Rattle.kahn_code.specs.Queues.{Waiting};
+
+    ghost Value = { Waiting };
+
+    ghost coded = { Prim.hlevel (codes, action.the_row.coded, form.the_row.coded) };
+
+    ghost view = { λ q. record { network = q.network.value; input = q.input.value; channel = q.channel; taken = q.taken; waiting = length q.tokens.items; spare = deque_capacity q.tokens - deque_len q.tokens } };
+
+    ghost invariant = { λ q. Follow (Channel q.channel) q.taken q.tokens.items × AllOf q.network.value q.input.value q.tokens.items };
+}
+
+impl<A: Allocator> Queue<A> {
+    /// The token of the next place. None where none waits.
+    pub fn take(&mut self) -> Option<Token>
+        requires { self.old.taken < 2 ^ 48 }
+        ensures names { (self.new.network ≡ self.old.network) × (self.new.input ≡ self.old.input) × (self.new.channel ≡ self.old.channel) }
+        ensures token { IfSome result (λ t. IsOf self.old.network self.old.input t × (t.line ≡ Channel self.old.channel) × (t.place ≡ self.old.taken)) }
+        ensures moved { IfSome result (λ _. (self.new.taken ≡ self.old.taken + 1) × (self.new.waiting + 1 ≡ self.old.waiting)) }
+        ensures none { IfNone result ((self.new ≡ self.old) × (self.old.waiting ≡ 0)) }
+    {
+        let token = self.tokens.pop_front()?;
+        self.taken += 1;
+        Some(token)
+    }
+
+    /// Makes room for one token more.
+    pub fn room(&mut self) -> Result<(), NoMemory>
+        ensures names { (self.new.network ≡ self.old.network) × (self.new.input ≡ self.old.input) × (self.new.channel ≡ self.old.channel) }
+        ensures counts { (self.new.taken ≡ self.old.taken) × (self.new.waiting ≡ self.old.waiting) }
+        ensures room { OnOk result (0 < self.new.spare) }
+    {
+        self.tokens.reserve(1)?;
+        Ok(())
+    }
+
+    /// Puts the token of the next place.
+    pub fn put(&mut self, token: Token)
+        requires room { 0 < self.old.spare }
+        requires names { IsOf self.old.network self.old.input token }
+        requires line { token.line ≡ Channel self.old.channel }
+        requires place { token.place ≡ self.old.taken + self.old.waiting }
+        ensures names { (self.new.network ≡ self.old.network) × (self.new.input ≡ self.old.input) × (self.new.channel ≡ self.old.channel) }
+        ensures counts { (self.new.taken ≡ self.old.taken) × (self.new.waiting ≡ self.old.waiting + 1) }
+    {
+        self.tokens.push_back_reserved(token);
+    }
+
+    /// How many tokens wait.
+    pub fn len(&self) -> usize
+        ensures { result ≡ self.now.waiting }
+    {
+        self.tokens.len()
+    }
+
+    /// Whether none waits.
+    pub fn is_empty(&self) -> bool
+        ensures { IsTrue result ↔ (self.now.waiting ≡ 0) }
+    {
+        self.tokens.is_empty()
+    }
+}
