@@ -13,3 +13,4 @@ pub mod Arguments
 pub mod Bodies
 pub mod Celled
 pub mod Sit
+pub mod Routed

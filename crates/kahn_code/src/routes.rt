@@ -24,6 +24,7 @@ fn route_for(network: &Network, taking: Taking, argument: &Argument) -> Option<u
 }
 
 // The channel of each parameter of an instance.
+#[tactic(auto, using(crate::proofs::Arguments::actual_more, crate::proofs::Arguments::actual_none))]
 fn row_for<A: Allocator + Copy + Drop>(
     alloc: A,
     network: &Network,
@@ -56,6 +57,7 @@ fn row_of<A: Allocator + Copy + Drop>(
 }
 
 /// The channel of each parameter of each instance.
+#[tactic(auto, using(crate::proofs::Routed::no_rows, crate::proofs::Routed::one_row, crate::proofs::Routed::all_rows))]
 pub fn routes<A: Allocator + Copy + Drop>(
     alloc: A,
     network: &Network,

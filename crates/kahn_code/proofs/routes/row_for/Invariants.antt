@@ -1,0 +1,10 @@
+use Rattle.std.proofs.Common.{◌≡◌, ◌++◌, map, drop}
+use Rattle.kahn_check.specs.Network.{actuals_of}
+use Rattle.kahn_check.specs.Sides.{channel_names}
+use Rattle.kahn_code.specs.Lines.{route_of}
+use Rattle.kahn_code.proofs.routes.row_for.Given as goal
+
+abbrev pub invariant-loop-number : goal.invariant-loop-number
+invariant-loop-number g l =
+    (l.row.items ++ map route_of (actuals_of (channel_names l.network) (drop l.number l.parameters) (drop l.number l.arguments)))
+    ≡ map route_of (actuals_of (channel_names l.network) l.parameters l.arguments)
