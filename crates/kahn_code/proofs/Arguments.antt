@@ -1,5 +1,5 @@
 -- The arguments of an instance and the names of channels, one by one.
-use Rattle.std.proofs.Common.{◌≡◌, ◌≤◌, ◌⊎◌, inl, inr, ℕ, zero, suc, ◌+◌, Bool, true, false, List, [], ◌∷◌, ◌++◌, length, map, drop, Option, Some, None, refl, sym, ap, ◌∙◌, subst, slice_get, arith, append_assoc, append-nil, if◌then◌else◌, add-one}
+use Rattle.std.proofs.Common.{◌≡◌, ℕ, zero, suc, ◌+◌, true, false, List, [], ◌∷◌, ◌++◌, map, drop, Some, None, refl, sym, ap, ◌∙◌, slice_get, arith, append_assoc, append-nil, if◌then◌else◌, add-one}
 use Rattle.std.proofs.Common.{bytes_eq}
 use Rattle.kahn_syntax.specs.declared.tree.Parameter.{Parameter}
 use Rattle.kahn_syntax.specs.declared.tree.Argument.{Argument}

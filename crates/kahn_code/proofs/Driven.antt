@@ -1,18 +1,16 @@
 -- In a well wired program each channel that an instance writes has that instance alone as its writer.
-use Rattle.std.proofs.Common.{arith, ◌≡◌, ◌⊎◌, inl, inr, ℕ, ◌<◌, ◌≤◌, length, Option, Some, None, refl, sym, ap, ◌∙◌, subst, slice_get, slice_index_or, pos}
+use Rattle.std.proofs.Common.{◌≡◌, ◌⊎◌, inl, inr, ℕ, ◌<◌, ◌≤◌, length, Option, Some, None, sym, ap, ◌∙◌, subst, slice_get, pos}
 use Rattle.std.proofs.lemmas.Option.{slice_get-get_or}
 use Rattle.std.proofs.lemmas.List.{get_or_past}
 use Rattle.kahn_syntax.specs.declared.tree.Program.{Program}
 use Rattle.kahn_syntax.specs.Syntax.{Number}
-use Rattle.kahn_check.specs.Network.{Network, Instance, Actual, Reads, Writes, Hands, network_of, instance_at, actual_at, Source, Given, Written, idle, channel_source}
+use Rattle.kahn_check.specs.Network.{Network, Writes, Hands, network_of, instance_at, actual_at, Written, idle, channel_source}
 use Rattle.kahn_check.specs.Sides.{IsWriter, IsOnly, IsListed, IsFit, source_of}
 use Rattle.kahn_check.specs.Wiring.{IsWellWired}
 use Rattle.kahn_check.specs.declared.sides.Side.{Side}
 use Rattle.kahn_check.proofs.Fitted.{instances_fit}
 use Rattle.kahn_check.proofs.Numbered.{all_at}
 use Rattle.kahn_check.proofs.Sided.{one_writer, sourced, declared_there}
-use Rattle.kahn_streams.specs.declared.value.Line.TheVariants.{Channel}
-use Rattle.kahn_streams.specs.Solution.{source}
 use Rattle.kahn_code.specs.Cells.{AreDriven}
 use Rattle.kahn_code.proofs.Lists.{split_at, writes_past}
 

@@ -1,5 +1,5 @@
 -- Lists whose values stand.
-use Rattle.std.proofs.Common.{arith, ◌≡◌, ◌⊎◌, inl, inr, ℕ, zero, suc, ◌+◌, ◌<◌, ◌≤◌, max, List, [], ◌∷◌, ◌++◌, length, map, refl, sym, ap, ◌∙◌, subst, Some, None, slice_get, append-nil, length-append, le_refl, eq-or-lt_of_le, le_of_suc-le-suc}
+use Rattle.std.proofs.Common.{arith, ◌≡◌, ◌⊎◌, inl, inr, ℕ, zero, suc, ◌<◌, ◌≤◌, max, List, [], ◌∷◌, ◌++◌, length, map, refl, sym, ap, ◌∙◌, subst, Some, None, slice_get, le_refl, eq-or-lt_of_le, le_of_suc-le-suc}
 use Rattle.std.proofs.Math.Nat.{le-max_left, le-max_right}
 use mathlib.Core.Path.{fun_ext}
 use Rattle.std.proofs.lemmas.List.{get_or_past, map-append}
@@ -9,10 +9,10 @@ use Rattle.kahn_streams.proofs.Frame.{Begins}
 use Rattle.kahn_check.specs.Network.{Network, Actual, Reads, Writes, Hands, instance_at, actual_at, Written}
 use Rattle.kahn_streams.specs.declared.value.Value.{Value}
 use Rattle.kahn_streams.specs.declared.value.Line.{Line}
-use Rattle.kahn_streams.specs.declared.value.Line.TheVariants.{Channel, Print}
+use Rattle.kahn_streams.specs.declared.value.Line.TheVariants.{Channel}
 use Rattle.kahn_streams.specs.declared.token.Token.{Token}
-use Rattle.kahn_streams.specs.Script.{Port, Tapes, play}
-use Rattle.kahn_streams.specs.Solution.{Inputs, iterate, IsPrefix, Stands, opening, tape_of, tapes_of, goes_to, values_at, source, out, exec_at}
+use Rattle.kahn_streams.specs.Script.{Tapes}
+use Rattle.kahn_streams.specs.Solution.{Inputs, iterate, IsPrefix, Stands, tapes_of, goes_to, values_at, source, out, exec_at}
 use Rattle.kahn_streams.proofs.Frame.{and_more, grows_play}
 use Rattle.kahn_streams.proofs.Proved.{some_same, prefix_get, prefix_trans, iterates_rise, feeds, solves, script_at, values_append}
 use Rattle.kahn_code.specs.Cells.{AllStand, IsKept, token_value, exec_on, sent_on}
