@@ -14,3 +14,5 @@ pub mod Bodies
 pub mod Celled
 pub mod Sit
 pub mod Routed
+pub mod Readers
+pub mod Opened

@@ -1,8 +1,11 @@
 -- What contracts see of the plain queues of all channels.
 use Rattle.std.specs.Prelude.{◌≡◌, ℕ, ◌+◌, ◌<◌, List, [], length, map, Option, Some, None, slice_get, slice_index_or}
 use Rattle.kahn_syntax.specs.declared.tree.Program.{Program}
-use Rattle.kahn_check.specs.Network.{Network, Actual, Reads, Writes, Hands, network_of, instance_at, actual_at}
-use Rattle.kahn_streams.specs.Tokens.{Lists}
+use Rattle.kahn_check.specs.Network.{Network, Actual, Reads, Writes, Hands, network_of, instance_at, actual_at, role_at}
+use Rattle.kahn_syntax.specs.declared.tree.Role.{Role}
+use Rattle.kahn_syntax.specs.declared.tree.Role.TheVariants.{Inner, Input, Output}
+use Rattle.kahn_streams.specs.declared.value.Value.{Value}
+use Rattle.kahn_streams.specs.Tokens.{Lists, inputs_of}
 use Rattle.kahn_code.specs.Queues.{Waiting}
 
 -- the network and the input, the instance whose ports they are now, and the queue of each channel
@@ -67,3 +70,22 @@ route_of (Hands v) = None
 pub record AreRoutes (N : Network) (routes : List (List (Option ℕ))) : Type 0 where
   pub count : length routes ≡ length N.instances
   pub each : (p : ℕ) → p < length N.instances → slice_index_or routes p [] ≡ map route_of (instance_at N p).actuals
+
+-- how many tokens a queue has at the start: the values of an input channel
+abbrev pub at_first : Role → List Value → ℕ
+at_first Input values = length values
+at_first Inner values = 0
+at_first Output values = 0
+
+-- the queue of channel c before anything was taken or put
+pub record IsFirst (t : Program) (lists : Lists) (c : ℕ) (w : Waiting) : Type 0 where
+  pub network : w.network ≡ t
+  pub input : w.input ≡ lists
+  pub channel : w.channel ≡ c
+  pub taken : w.taken ≡ 0
+  pub waiting : w.waiting ≡ at_first (role_at (network_of t) c) (inputs_of lists c)
+
+-- a queue for each channel, before anything was taken or put
+pub record AreFirst (t : Program) (lists : Lists) (queues : List Waiting) : Type 0 where
+  pub count : length queues ≡ length (network_of t).channels
+  pub each : (c : ℕ) (w : Waiting) → slice_get queues c ≡ Some w → IsFirst t lists c w

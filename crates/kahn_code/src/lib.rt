@@ -8,6 +8,7 @@ pub mod emit;
 pub mod instruction;
 pub mod laws;
 pub mod machine;
+pub mod opening;
 pub mod plain;
 pub mod ports;
 pub mod progress;

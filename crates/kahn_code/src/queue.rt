@@ -3,6 +3,7 @@
 ghost use Rattle.std.specs.Prelude.{◌≡◌, ◌<◌, ◌≤◌, ◌+◌, ◌^◌, [], length, IfSome, IfNone, OnOk, IsTrue, ◌↔◌};
 ghost use Rattle.kahn_streams.specs.declared.value.Line.TheVariants.{Channel};
 ghost use Rattle.kahn_streams.specs.Streams.{IsOf};
+ghost use Rattle.kahn_streams.specs.Tokens.{Names};
 
 use kahn_check::network::Network;
 use kahn_streams::about::About;
@@ -43,6 +44,29 @@ impl<A: Allocator> Model for Queue<A> {
 }
 
 impl<A: Allocator> Queue<A> {
+    /// An empty queue of a channel.
+    pub fn new(alloc: A, network: &Network, input: &Input, channel: usize) -> Queue<A>
+        ensures names { (result.network ≡ network.now) × (result.input ≡ input.now) × (result.channel ≡ channel) }
+        ensures empty { (result.taken ≡ 0) × (result.waiting ≡ 0) }
+    {
+        Queue::named(alloc, network, input, channel)
+    }
+
+    // An empty queue of a channel of the network and the input that are named.
+    fn named(alloc: A, _network: &Network, _input: &Input, channel: usize) -> Queue<A>
+        ghost names: { Names }
+        ensures names { (result.network ≡ names.network) × (result.input ≡ names.input) × (result.channel ≡ channel) }
+        ensures empty { (result.taken ≡ 0) × (result.waiting ≡ 0) }
+    {
+        Queue {
+            network: About::named(),
+            input: About::named(),
+            channel,
+            taken: 0,
+            tokens: VecDeque::new(alloc),
+        }
+    }
+
     /// The token of the next place. None where none waits.
     pub fn take(&mut self) -> Option<Token>
         requires { self.old.taken < 2 ^ 48 }
