@@ -16,3 +16,4 @@ pub mod Sit
 pub mod Routed
 pub mod Readers
 pub mod Opened
+pub mod Joined

@@ -47,23 +47,22 @@ module _ (t : Program) (wired : IsWellWired t) where
       let there : slice_get i.actuals q ≡ Some (actual_at i q) = slice_get-get_or i.actuals q (Hands (Number (pos 0))) (joins_parameter N p q c j) in
       listed_joins N (actual_at i q) c (all_at (IsListed N) i.actuals q (actual_at i q) fit.1 there) j
 
+  joins : (p q c : ℕ) → actual_at (instance_at N p) q ≡ Reads c → Joins (actual_at (instance_at N p) q) c
+  joins p q c e = subst (λ a. Joins a c) (sym e) refl
+
+  reads : (p q c : ℕ) → actual_at (instance_at N p) q ≡ Reads c → IsReader N c (record { instance = p; parameter = q })
+  reads p q c e = ((joins_within N p q c (joins p q c e), joins_parameter N p q c (joins p q c e)), e)
+
+  one_side : (p q p' r c : ℕ) (o : Option Side) → IsReader N c (record { instance = p; parameter = q }) → IsReader N c (record { instance = p'; parameter = r }) →
+      IsOnly (IsReader N c) o → (p ≡ p') × (q ≡ r)
+  one_side p q p' r c None a b none = absurd (none (record { instance = p; parameter = q }) a)
+  one_side p q p' r c (Some s) a b one =
+      let first = one.1 (record { instance = p; parameter = q }) a in
+      let second = one.1 (record { instance = p'; parameter = r }) b in
+      (ap (λ (u : Side). u.instance) first ∙ sym (ap (λ (u : Side). u.instance) second),
+      ap (λ (u : Side). u.parameter) first ∙ sym (ap (λ (u : Side). u.parameter) second))
+
   pub reads_once : (p q p' r c : ℕ) → actual_at (instance_at N p) q ≡ Reads c → actual_at (instance_at N p') r ≡ Reads c → (p ≡ p') × (q ≡ r)
-  reads_once p q p' r c e f = by _ (one_reader t wired c d.0 d.1)
-    where
-      joins : (p q : ℕ) → actual_at (instance_at N p) q ≡ Reads c → Joins (actual_at (instance_at N p) q) c
-      joins p q e = subst (λ a. Joins a c) (sym e) refl
-
-      d : _
-      d = declared_there t c (joins_listed p q c (joins p q e))
-
-      side : ℕ → ℕ → Side
-      side p q = record { instance = p; parameter = q }
-
-      reads : (p q : ℕ) → actual_at (instance_at N p) q ≡ Reads c → IsReader N c (side p q)
-      reads p q e = ((joins_within N p q c (joins p q e), joins_parameter N p q c (joins p q e)), e)
-
-      by : (o : Option Side) → IsOnly (IsReader N c) o → (p ≡ p') × (q ≡ r)
-      by None none = absurd (none (side p q) (reads p q e))
-      by (Some s) one =
-          let same : side p q ≡ side p' r = one.1 (side p q) (reads p q e) ∙ sym (one.1 (side p' r) (reads p' r f)) in
-          (ap (λ u. u.instance) same, ap (λ u. u.parameter) same)
+  reads_once p q p' r c e f =
+      let d = declared_there t c (joins_listed p q c (joins p q c e)) in
+      one_side p q p' r c _ (reads p q c e) (reads p' r c f) (one_reader t wired c d.0 d.1)

@@ -1,10 +1,16 @@
 //! Every channel of a network in a plain queue, for a run on one thread.
 
-ghost use Rattle.std.specs.Prelude.{◌≡◌, ℕ, ◌<◌, length, map, slice_index_or, slice_get, Some, None};
-ghost use Rattle.kahn_code.specs.Lines.{Lines, Joins, actual_of, waiting_of, spare_of, next_at, route};
+ghost use Rattle.std.specs.Prelude.{◌≡◌, ℕ, ◌<◌, length, map, slice_index_or, slice_get, Some, None, IfOk};
+ghost use Rattle.kahn_check.specs.Network.{network_of};
+ghost use Rattle.kahn_check.specs.Wiring.{IsWellWired};
+ghost use Rattle.kahn_streams.specs.Tokens.{Names};
+ghost use Rattle.kahn_code.specs.Lines.{Lines, AreFirst, AreRoutes, Joins, actual_of, waiting_of, spare_of, next_at, route};
 
+use crate::code::CodeFault;
+use crate::opening::first_queues;
 use crate::ports::Ports;
 use crate::queue::Queue;
+use crate::routes::routes;
 use kahn_check::network::Network;
 use kahn_streams::about::About;
 use kahn_streams::input::Input;
@@ -37,6 +43,58 @@ impl<A: Allocator> Model for Plain<A> {
     ghost view = { λ s. record { network = s.network.value; input = s.input.value; instance = s.instance; queues = s.queues.items } };
 
     ghost invariant = { λ s. AreQueued (record { network = s.network.value; input = s.input.value; instance = s.instance; queues = s.queues.items }) (map (λ v. v.items) s.routes.items) };
+}
+
+impl<A: Allocator + Copy + Drop> Plain<A> {
+    /// The queues of a network before anything was taken or put: each input channel has its whole list. It refuses only
+    /// where memory was refused.
+    pub fn new(alloc: A, network: &Network, input: &Input) -> Result<Plain<A>, CodeFault>
+        ensures names { IfOk result (λ p. (p.network ≡ network.now) × (p.input ≡ input.now)) }
+        ensures first { IfOk result (λ p. AreFirst network.now input.now p.queues) }
+    {
+        let table = routes(alloc, network)?;
+        let queues = first_queues(alloc, network, input)?;
+        let _program = network.program();
+        Ok(joined(table, queues, network, input))
+    }
+}
+
+// The plain queues of the network and the input that are named.
+#[tactic(auto, using(crate::proofs::Joined::queued))]
+fn named<A: Allocator>(
+    routes: Vec<Vec<Option<usize>, A>, A>,
+    queues: Vec<Queue<A>, A>,
+    _network: &Network,
+    _input: &Input,
+) -> Plain<A>
+    ghost names: { Names }
+    requires routes { AreRoutes (network_of names.network) (map (λ v. v.items) routes.items) }
+    requires queues { AreFirst names.network names.input queues.items }
+    requires wired { IsWellWired names.network }
+    ensures { (result.network ≡ names.network) × (result.input ≡ names.input) × (result.queues ≡ queues.items) }
+{
+    Plain {
+        network: About::named(),
+        input: About::named(),
+        instance: 0,
+        routes,
+        queues,
+    }
+}
+
+// The plain queues of a network and an input.
+fn joined<A: Allocator>(
+    routes: Vec<Vec<Option<usize>, A>, A>,
+    queues: Vec<Queue<A>, A>,
+    network: &Network,
+    input: &Input,
+) -> Plain<A>
+    requires routes { AreRoutes (network_of network.now) (map (λ v. v.items) routes.items) }
+    requires queues { AreFirst network.now input.now queues.items }
+    requires wired { IsWellWired network.now }
+    ensures { (result.network ≡ network.now) × (result.input ≡ input.now) × (result.queues ≡ queues.items) }
+{
+    named(routes, queues, network, input)
 }
 
 impl<A: Allocator> Plain<A> {

@@ -1,0 +1,34 @@
+-- Queues and routes of one network and input are the plain queues of all channels.
+use Rattle.std.proofs.Common.{arith, ◌≡◌, ℕ, zero, suc, ◌<◌, List, [], ◌∷◌, length, map, Option, Some, None, refl, sym, ap, ◌∙◌, subst, slice_get, slice_index_or, pos, le_of_suc-le-suc}
+use Rattle.kahn_syntax.specs.declared.tree.Program.{Program}
+use Rattle.kahn_syntax.specs.Syntax.{Number}
+use Rattle.kahn_check.specs.Network.{Network, Actual, Reads, Writes, Hands, network_of, instance_at, actual_at}
+use Rattle.kahn_check.specs.Wiring.{IsWellWired}
+use Rattle.kahn_streams.specs.Tokens.{Lists}
+use Rattle.kahn_code.specs.Queues.{Waiting}
+use Rattle.kahn_code.specs.Lines.{AreFirst, AreQueued, AreRoutes, Joins, route, route_of}
+use Rattle.kahn_code.proofs.Driven.{driven}
+use Rattle.kahn_code.proofs.Readers.{joins_within, joins_parameter, joins_listed, reads_once}
+
+routed_at : (acts : List Actual) (q : ℕ) → q < length acts → slice_index_or (map route_of acts) q None ≡ route_of (slice_index_or acts q (Hands (Number (pos 0))))
+routed_at [] q l = absurd (omega (arith, l))
+routed_at (a ∷ acts) zero l = refl
+routed_at (a ∷ acts) (suc q) l = routed_at acts q (le_of_suc-le-suc l)
+
+joined_route : (a : Actual) (c : ℕ) → Joins a c → route_of a ≡ Some c
+joined_route (Reads d) c j = ap Some j
+joined_route (Writes d) c j = ap Some j
+joined_route (Hands v) c j = absurd j
+
+pub queued : (t : Program) (lists : Lists) (i : ℕ) (queues : List Waiting) (rows : List (List (Option ℕ))) → IsWellWired t →
+    AreRoutes (network_of t) rows → AreFirst t lists queues → AreQueued (record { network = t; input = lists; instance = i; queues = queues }) rows
+queued t lists i queues rows wired table first = record {
+  routed = λ p q c j.
+      let N = network_of t in
+      ap (λ row. slice_index_or row q None) (table.each p (joins_within N p q c j)) ∙
+      routed_at (instance_at N p).actuals q (joins_parameter N p q c j) ∙ joined_route (actual_at (instance_at N p) q) c j;
+  inside = λ p q c j. subst (λ n. c < n) (sym first.count) (joins_listed t wired p q c j);
+  named = λ c w at. let f = first.each c w at in (f.channel, f.network, f.input);
+  readers = λ p q r c e f. (reads_once t wired p q p r c e f).1;
+  writers = λ p q r c e f. (driven t wired).once p q r c e f;
+}
