@@ -58,9 +58,10 @@ module _ (t : Program) (wired : IsWellWired t) where
   one_side p q p' r c None a b none = absurd (none (record { instance = p; parameter = q }) a)
   one_side p q p' r c (Some s) a b one =
       let first = one.1 (record { instance = p; parameter = q }) a in
-      let second = one.1 (record { instance = p'; parameter = r }) b in
-      (ap (λ (u : Side). u.instance) first ∙ sym (ap (λ (u : Side). u.instance) second),
-      ap (λ (u : Side). u.parameter) first ∙ sym (ap (λ (u : Side). u.parameter) second))
+      let second = one.1 (record { instance = p'; parameter = r }) b in (
+        ap (λ (u : Side). u.instance) first ∙ sym (ap (λ (u : Side). u.instance) second),
+        ap (λ (u : Side). u.parameter) first ∙ sym (ap (λ (u : Side). u.parameter) second),
+      )
 
   pub reads_once : (p q p' r c : ℕ) → actual_at (instance_at N p) q ≡ Reads c → actual_at (instance_at N p') r ≡ Reads c → (p ≡ p') × (q ≡ r)
   reads_once p q p' r c e f =
