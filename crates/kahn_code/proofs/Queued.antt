@@ -4,10 +4,12 @@ use Rattle.std.proofs.lemmas.Option.{slice_get-get_or}
 use Rattle.kahn_streams.specs.declared.token.Token.{Token}
 use Rattle.kahn_streams.specs.declared.value.Line.TheVariants.{Channel}
 use Rattle.kahn_streams.specs.Streams.{IsOf}
-use Rattle.kahn_check.specs.Network.{Actual, Reads, Writes, Hands, network_of, instance_at, actual_at}
+use Rattle.kahn_syntax.specs.declared.tree.Role.TheVariants.{Input}
+use Rattle.kahn_check.specs.Network.{Actual, Reads, Writes, Hands, network_of, instance_at, actual_at, role_at}
+use Rattle.kahn_streams.specs.Tokens.{inputs_of}
 use Rattle.kahn_code.specs.Queues.{Waiting}
-use Rattle.kahn_code.specs.Lines.{Lines, AreQueued, Joins, actual_of, route, next_at, taken_of, given_of, waiting_of, spare_of}
-use Rattle.kahn_code.specs.Seats.{IsRead, IsWritten, Stays, Moved}
+use Rattle.kahn_code.specs.Lines.{Lines, AreQueued, Joins, actual_of, route, next_at, place_at, taken_of, given_of, waiting_of, spare_of}
+use Rattle.kahn_code.specs.Seats.{IsRead, IsWritten, Stays, Moved, Leaves}
 
 same_or : (d c : ℕ) → (d ≡ c) ⊎ (d ≡ c → ⊥)
 same_or zero zero = inl refl
@@ -86,15 +88,28 @@ room_stays qs act c w w' l at t n r = next_set qs c w w' (act r) l at (λ e. t) 
 -- queues of which one changed, by its own channel's tokens, are queues still
 pub queued_set : (s : Lines) (routes : List (List (Option ℕ))) (c : ℕ) (w w' : Waiting) → AreQueued s routes → c < length s.queues →
     slice_get s.queues c ≡ Some w → (w'.network ≡ w.network) × (w'.input ≡ w.input) × (w'.channel ≡ w.channel) →
+    (role_at (network_of s.network) c ≡ Input → w'.taken + w'.waiting ≡ w.taken + w.waiting) →
     length (slice_set s.queues c w') ≡ length s.queues → AreQueued (record s { queues = slice_set s.queues c w' }) routes
-queued_set s routes c w w' h l at same size = record {
+queued_set s routes c w w' h l at same sums size = record {
   routed = h.routed;
   inside = λ p q d j. subst (λ n. d < n) (sym size) (h.inside p q d j);
   named = λ d v e. named d v e (same_or d c);
   readers = h.readers;
   writers = h.writers;
+  reader = h.reader;
+  writer = h.writer;
+  unwritten = h.unwritten;
+  given = λ d v e i. given d v e i (same_or d c);
 }
   where
+    given : (d : ℕ) (v : Waiting) → slice_get (slice_set s.queues c w') d ≡ Some v → role_at (network_of s.network) d ≡ Input →
+        (d ≡ c) ⊎ (d ≡ c → ⊥) → v.taken + v.waiting ≡ length (inputs_of s.input d)
+    given d v e i (inr n) = h.given d v (sym (set_else s.queues c d w' n) ∙ e) i
+    given d v e i (inl is) =
+        let f : w' ≡ v = some_is (sym (set_here s.queues c w' l) ∙ ap (slice_get (slice_set s.queues c w')) (sym is) ∙ e) in
+        let at_c : role_at (network_of s.network) c ≡ Input = ap (role_at (network_of s.network)) (sym is) ∙ i in
+        ap (λ (x : Waiting). x.taken + x.waiting) (sym f) ∙ sums at_c ∙ h.given c w at at_c ∙ ap (λ k. length (inputs_of s.input k)) (sym is)
+
     named : (d : ℕ) (v : Waiting) → slice_get (slice_set s.queues c w') d ≡ Some v → (d ≡ c) ⊎ (d ≡ c → ⊥) →
         (v.channel ≡ d) × (v.network ≡ s.network) × (v.input ≡ s.input)
     named d v e (inr n) = h.named d v (sym (set_else s.queues c d w' n) ∙ e)
@@ -179,6 +194,36 @@ pub places_stay : (n : Lines) (c : ℕ) (w w' : Waiting) → c < length n.queues
     (w'.taken ≡ w.taken) × (w'.waiting ≡ w.waiting) →
     Stays (λ r. next_at n.queues (actual_of n r)) (λ r. next_at (changed n c w').queues (actual_of (changed n c w') r))
 places_stay n c w w' l at counts = room_stays n.queues (actual_of n) c w w' l at counts.0 counts.1
+
+-- the places of the other instances stay where a token is taken, where one is put, and where none moves
+pub reads_alone : (n : Lines) (routes : List (List (Option ℕ))) (q d c : ℕ) (w w' : Waiting) → AreQueued n routes →
+    actual_of n q ≡ Reads d → c ≡ d → c < length n.queues → slice_get n.queues c ≡ Some w →
+    (w'.taken + w'.waiting ≡ w.taken + w.waiting) →
+    Leaves (record { network = n.network; input = n.input; instance = n.instance }) (place_at n) (place_at (changed n c w'))
+reads_alone n routes q d c w w' h reads is l at sums p r other =
+    next_set n.queues c w w' (actual_at (instance_at (network_of n.network) p) r) l at
+    (λ e. absurd (other (h.reader p r n.instance q c e (reads ∙ ap Reads (sym is))))) (λ e. sums)
+
+pub writes_alone : (n : Lines) (routes : List (List (Option ℕ))) (q d c : ℕ) (w w' : Waiting) → AreQueued n routes →
+    actual_of n q ≡ Writes d → c ≡ d → c < length n.queues → slice_get n.queues c ≡ Some w →
+    (w'.taken ≡ w.taken) →
+    Leaves (record { network = n.network; input = n.input; instance = n.instance }) (place_at n) (place_at (changed n c w'))
+writes_alone n routes q d c w w' h writes is l at same p r other =
+    next_set n.queues c w w' (actual_at (instance_at (network_of n.network) p) r) l at
+    (λ e. same) (λ e. absurd (other (h.writer p r n.instance q c e (writes ∙ ap Writes (sym is)))))
+
+pub all_stay : (n : Lines) (c : ℕ) (w w' : Waiting) → c < length n.queues → slice_get n.queues c ≡ Some w →
+    (w'.taken ≡ w.taken) × (w'.waiting ≡ w.waiting) →
+    Leaves (record { network = n.network; input = n.input; instance = n.instance }) (place_at n) (place_at (changed n c w'))
+all_stay n c w w' l at counts p r other =
+    next_set n.queues c w w' (actual_at (instance_at (network_of n.network) p) r) l at (λ e. counts.0)
+    (λ e. let a = counts.0 in let b = counts.1 in omega (arith, a, b))
+
+-- taken or not, as many are given as before
+pub same_sum : (w w' : Waiting) (o : Option Token) → IfSome o (λ _. (w'.taken ≡ w.taken + 1) × (w'.waiting + 1 ≡ w.waiting)) →
+    IfNone o ((w' ≡ w) × (w.waiting ≡ 0)) → w'.taken + w'.waiting ≡ w.taken + w.waiting
+same_sum w w' (Some t) counts none = let a = counts.0 in let b = counts.1 in omega (arith, a, b)
+same_sum w w' None counts none = ap (λ (x : Waiting). x.taken + x.waiting) none.0
 
 -- none waits where the queue has none
 pub is_dry_at : (n : Lines) (q d c : ℕ) (w w' : Waiting) → actual_of n q ≡ Reads d → c ≡ d → c < length n.queues → w'.waiting ≡ 0 →

@@ -50,8 +50,8 @@ Joins (Hands v) c = ⊥
 abbrev pub route : List (List (Option ℕ)) → ℕ → ℕ → Option ℕ
 route routes p q = slice_index_or (slice_index_or routes p []) q None
 
--- the table has each parameter's channel, each queue is its channel's, and no two parameters of an instance have one
--- channel in one direction
+-- the table has each parameter's channel, each queue is its channel's, no two parameters have one channel in one
+-- direction, nobody writes an input channel, and what was put on an input channel is its list
 pub record AreQueued (s : Lines) (routes : List (List (Option ℕ))) : Type 0 where
   pub routed : (p q c : ℕ) → Joins (actual_at (instance_at (network_of s.network) p) q) c → route routes p q ≡ Some c
   pub inside : (p q c : ℕ) → Joins (actual_at (instance_at (network_of s.network) p) q) c → c < length s.queues
@@ -60,6 +60,23 @@ pub record AreQueued (s : Lines) (routes : List (List (Option ℕ))) : Type 0 wh
       actual_at (instance_at (network_of s.network) p) r ≡ Reads c → q ≡ r
   pub writers : (p q r c : ℕ) → actual_at (instance_at (network_of s.network) p) q ≡ Writes c →
       actual_at (instance_at (network_of s.network) p) r ≡ Writes c → q ≡ r
+  pub reader : (p q o r c : ℕ) → actual_at (instance_at (network_of s.network) p) q ≡ Reads c →
+      actual_at (instance_at (network_of s.network) o) r ≡ Reads c → p ≡ o
+  pub writer : (p q o r c : ℕ) → actual_at (instance_at (network_of s.network) p) q ≡ Writes c →
+      actual_at (instance_at (network_of s.network) o) r ≡ Writes c → p ≡ o
+  pub unwritten : (p q c : ℕ) → actual_at (instance_at (network_of s.network) p) q ≡ Writes c → role_at (network_of s.network) c ≡ Input → ⊥
+  pub given : (c : ℕ) (w : Waiting) → slice_get s.queues c ≡ Some w → role_at (network_of s.network) c ≡ Input →
+      w.taken + w.waiting ≡ length (inputs_of s.input c)
+
+-- the next place of a parameter of an instance
+abbrev pub place_at : Lines → ℕ → ℕ → ℕ
+place_at s p q = next_at s.queues (actual_at (instance_at (network_of s.network) p) q)
+
+-- each channel that is handed over has a queue, and what was put on an input channel is its list
+pub record AreCounted (s : Lines) : Type 0 where
+  pub inside : (p q c : ℕ) → Joins (actual_at (instance_at (network_of s.network) p) q) c → c < length s.queues
+  pub given : (c : ℕ) (w : Waiting) → slice_get s.queues c ≡ Some w → role_at (network_of s.network) c ≡ Input →
+      w.taken + w.waiting ≡ length (inputs_of s.input c)
 
 abbrev pub route_of : Actual → Option ℕ
 route_of (Reads c) = Some c

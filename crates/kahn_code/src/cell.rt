@@ -1,12 +1,13 @@
 //! A cell: one process of a network on its way.
 
-ghost use Rattle.std.specs.Prelude.{◌≡◌, ℕ, ◌+◌, ◌*◌, ◌^◌, ◌<◌, ◌≤◌, length, [], replicate, slice_index_or, IfOk};
+ghost use Rattle.std.specs.Prelude.{◌≡◌, ℕ, ◌+◌, ◌*◌, ◌^◌, ◌<◌, ◌≤◌, length, [], map, replicate, slice_index_or, IfOk};
 ghost use Rattle.kahn_check.specs.Network.{network_of, instance_at};
 ghost use Rattle.kahn_streams.specs.Tokens.{Lists, inputs_of};
 ghost use Rattle.kahn_code.specs.Flat.{stmt_code};
 ghost use Rattle.kahn_streams.specs.Solution.{opening};
 ghost use Rattle.kahn_streams.specs.Tokens.{Names};
 ghost use Rattle.kahn_code.specs.Progress.{Paused, IsPause, core_of, opening_core};
+ghost use Rattle.kahn_code.specs.Seats.{Leaves};
 ghost use Rattle.kahn_code.specs.Told.{seat_of, told_of, told_view, IsAt, IsStanding, IsStill};
 
 use crate::code::{Code, CodeFault};
@@ -30,6 +31,13 @@ pub struct Cell<A: Allocator + Copy + Drop = Global> {
     progress: Progress<A>,
     network: About<Network>,
     input: About<Input>,
+}
+
+/// What a cell kept: of each parameter what it sent there, where it is kept, and what it printed, in place order.
+#[derive(Drop)]
+pub struct Kept<A: Allocator + Drop = Global> {
+    pub kept: Vec<Vec<Token, A>, A>,
+    pub printed: Vec<Token, A>,
 }
 
 impl<A: Allocator + Copy + Drop> Model for Cell<A> {
@@ -82,6 +90,7 @@ impl<A: Allocator + Copy + Drop> Cell<A> {
         requires events { self.old.events + quantum < 2 ^ 48 }
         ensures names { (self.new.network ≡ self.old.network) × (self.new.input ≡ self.old.input) × (self.new.instance ≡ self.old.instance) × (self.new.watch ≡ self.old.watch) }
         ensures ports { P.seat ports.new ≡ seat_of self.new }
+        ensures others { Leaves (P.seat ports.old) (P.others ports.old) (P.others ports.new) }
         ensures at { IsAt self.new (P.next ports.new) }
         // What the source says of the cell and of the pause.
         ensures paused { Paused (network_of self.new.network) (inputs_of self.new.input) self.new.watch self.new.instance (told_view self.new) (IsPause (network_of self.new.network) self.new.instance (P.is_dry ports.new) (P.is_ready ports.new) (self.new.events ≡ self.old.events + quantum) result) }
@@ -124,6 +133,17 @@ impl<A: Allocator + Copy + Drop> Cell<A> {
         ensures { result.now ≡ slice_index_or self.now.kept parameter [] }
     {
         self.progress.kept_at(parameter)
+    }
+
+    /// What it kept, without the cell. It takes no memory.
+    pub fn into_lists(self) -> Kept<A>
+        ensures kept { map (λ v. v.items) result.kept.items ≡ self.kept }
+        ensures printed { result.printed.items ≡ self.printed }
+    {
+        Kept {
+            kept: self.progress.kept,
+            printed: self.progress.printed,
+        }
     }
 
     /// The tokens of its print stream.

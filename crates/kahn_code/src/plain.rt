@@ -1,10 +1,10 @@
 //! Every channel of a network in a plain queue, for a run on one thread.
 
 ghost use Rattle.std.specs.Prelude.{◌≡◌, ℕ, ◌<◌, length, map, slice_index_or, slice_get, Some, None, IfOk};
-ghost use Rattle.kahn_check.specs.Network.{network_of};
+ghost use Rattle.kahn_check.specs.Network.{network_of, instance_at, actual_at};
 ghost use Rattle.kahn_check.specs.Wiring.{IsWellWired};
 ghost use Rattle.kahn_streams.specs.Tokens.{Names};
-ghost use Rattle.kahn_code.specs.Lines.{Lines, AreFirst, AreRoutes, Joins, actual_of, waiting_of, spare_of, next_at, route};
+ghost use Rattle.kahn_code.specs.Lines.{Lines, AreCounted, AreFirst, AreRoutes, Joins, actual_of, waiting_of, spare_of, next_at, route};
 
 use crate::code::CodeFault;
 use crate::opening::first_queues;
@@ -105,7 +105,21 @@ impl<A: Allocator> Plain<A> {
         self.instance = instance;
     }
 
-    // The channel of a parameter.
+    /// The channel of a parameter of an instance. None where it has none.
+    pub fn channel(&self, instance: usize, parameter: usize) -> Option<usize>
+        ensures { (c : ℕ) → Joins (actual_at (instance_at (network_of self.now.network) instance) parameter) c → result ≡ Some c }
+    {
+        route_at(&self.routes, instance, parameter)
+    }
+
+    /// Says that the queues are all there, and how much was put on the input channels: its contract is what it does.
+    pub fn counted(&self)
+        ensures { AreCounted self.now }
+    {
+        let _instance = self.instance;
+    }
+
+    // The channel of a parameter of the instance.
     fn channel_of(&self, parameter: usize) -> usize
         requires { (c : ℕ) × Joins (actual_of self.now parameter) c }
         ensures channel { (c : ℕ) → Joins (actual_of self.now parameter) c → result ≡ c }
@@ -145,11 +159,13 @@ fn route_at<A: Allocator>(
 impl<A: Allocator> Ports for Plain<A> {
     ghost use Rattle.std.specs.Prelude.{◌≡◌, ◌<◌, ℕ, slice_get};
     ghost use Rattle.kahn_check.specs.Network.{Reads, Writes};
-    ghost use Rattle.kahn_code.specs.Lines.{actual_of, next_at, waiting_of, spare_of};
+    ghost use Rattle.kahn_code.specs.Lines.{actual_of, next_at, place_at, waiting_of, spare_of};
 
     ghost seat = { λ s. record { network = s.network; input = s.input; instance = s.instance } };
 
     ghost next = { λ s q. next_at s.queues (actual_of s q) };
+
+    ghost others = { λ s p q. place_at s p q };
 
     ghost is_ready = { λ s q. (c : ℕ) → actual_of s q ≡ Reads c → 0 < waiting_of (slice_get s.queues c) };
 

@@ -1,7 +1,7 @@
 //! Where an instance takes and puts tokens.
 
 ghost use Rattle.std.specs.Prelude.{◌≡◌, ℕ, ◌<◌, ◌^◌, IfSome, IfNone, IsSome, IsTrue, IsFalse, OnOk};
-ghost use Rattle.kahn_code.specs.Seats.{Seat, DoesRead, DoesWrite, IsRead, IsWritten, Stays, Moved};
+ghost use Rattle.kahn_code.specs.Seats.{Seat, DoesRead, DoesWrite, IsRead, IsWritten, Stays, Moved, Leaves};
 
 use kahn_streams::memory::NoMemory;
 use kahn_streams::token::Token;
@@ -14,6 +14,9 @@ pub trait Ports {
 
     // the next place of each channel parameter
     ghost next: { Self → ℕ → ℕ };
+
+    // the next place of each parameter of each instance, as far as these ports have them
+    ghost others: { Self → ℕ → ℕ → ℕ };
 
     // the next take gives a token
     ghost is_ready: { Self → ℕ → Type 0 };
@@ -28,6 +31,7 @@ pub trait Ports {
     fn ready(&mut self, parameter: usize) -> bool
         requires { DoesRead (seat self.old) parameter }
         ensures seat { seat self.new ≡ seat self.old }
+        ensures others { Leaves (seat self.old) (others self.old) (others self.new) }
         ensures next { Stays (next self.old) (next self.new) }
         ensures yes { IsTrue result → is_ready self.new parameter }
         ensures dry { IsFalse result → is_dry self.new parameter };
@@ -37,6 +41,7 @@ pub trait Ports {
         requires reads { DoesRead (seat self.old) parameter }
         requires bound { next self.old parameter < 2 ^ 48 }
         ensures seat { seat self.new ≡ seat self.old }
+        ensures others { Leaves (seat self.old) (others self.old) (others self.new) }
         ensures token { IfSome result (λ t. IsRead (seat self.old) parameter (next self.old parameter) t) }
         ensures moved { IfSome result (λ _. Moved (next self.old) (next self.new) parameter) }
         ensures stays { IfNone result (Stays (next self.old) (next self.new)) }
@@ -47,6 +52,7 @@ pub trait Ports {
     fn room(&mut self, parameter: usize) -> Result<(), NoMemory>
         requires { DoesWrite (seat self.old) parameter }
         ensures seat { seat self.new ≡ seat self.old }
+        ensures others { Leaves (seat self.old) (others self.old) (others self.new) }
         ensures next { Stays (next self.old) (next self.new) }
         ensures room { OnOk result (has_room self.new parameter) };
 
@@ -57,5 +63,6 @@ pub trait Ports {
         requires room { has_room self.old parameter }
         requires token { IsWritten (seat self.old) parameter (next self.old parameter) token }
         ensures seat { seat self.new ≡ seat self.old }
+        ensures others { Leaves (seat self.old) (others self.old) (others self.new) }
         ensures moved { Moved (next self.old) (next self.new) parameter };
 }

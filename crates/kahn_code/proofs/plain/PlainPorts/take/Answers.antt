@@ -1,8 +1,9 @@
 use Rattle.std.proofs.Common.{◌≡◌, ◌<◌, ◌+◌, ℕ, List, Option, map, length, sym, ap, ◌∙◌, subst, slice_get, Some, IfSome, IfNone}
+use Rattle.std.proofs.lemmas.List.{length-set}
 use Rattle.kahn_check.specs.Network.{Reads, Writes}
-use Rattle.kahn_code.specs.Lines.{Lines, AreQueued, actual_of, next_at, waiting_of, spare_of}
+use Rattle.kahn_code.specs.Lines.{Lines, AreQueued, actual_of, next_at, waiting_of, spare_of, place_at}
 use Rattle.kahn_code.specs.Queues.{Waiting}
-use Rattle.kahn_code.specs.Seats.{Stays, Moved}
+use Rattle.kahn_code.specs.Seats.{Stays, Moved, Leaves}
 use Rattle.kahn_code.proofs.Queued
 use Rattle.kahn_code.proofs.plain.PlainPorts.take.Goals as goal
 
@@ -93,3 +94,30 @@ returns-clause-some g c ready =
     (Queued.found_at _ ch w (subst (λ (x : Lines). ch < length x.queues) (sym c.self.view_is) inside) c.index_mut.ensures.value)
     in
     Queued.some_where_ready n c.args.parameter c.requires.reads.0 ch w c.take.result c.requires.reads.1 is at ready (Queued.if_none _ _ c.take.result (λ same. same.1) c.take.ensures.none)
+
+pub returns-clause-others : goal.returns-clause-others
+returns-clause-others g c =
+    let n = c.args.self.now in
+    let ch = c.channel_of-channel.result in
+    let is = c.channel_of-channel.ensures.channel c.requires.reads.0 (Queued.reads_joins _ _ c.requires.reads.1) in
+    let w = c.index_mut.result.now in
+    let inside : ch < length n.queues = c.channel_of-channel.ensures.inside in
+    let at : slice_get n.queues ch ≡ Some w =
+    subst (λ (x : Lines). slice_get x.queues ch ≡ Some w) c.self.view_is
+    (Queued.found_at _ ch w (subst (λ (x : Lines). ch < length x.queues) (sym c.self.view_is) inside) c.index_mut.ensures.value)
+    in
+    let h : AreQueued n (map (λ v. v.items) c.self.inside.routes.items) =
+    subst (λ (x : Lines). AreQueued x (map (λ v. v.items) c.self.inside.routes.items)) c.self.view_is c.self.invariant in
+    let w' : Waiting = c.take.new.self in
+    subst (λ (s : Lines). Leaves (record { network = n.network; input = n.input; instance = n.instance }) (place_at n) (place_at (Queued.changed s ch w'))) (sym c.self.view_is)
+    (Queued.reads_alone n _ c.args.parameter c.requires.reads.0 ch w w' h c.requires.reads.1 is inside at (Queued.same_sum w w' c.take.result c.take.ensures.moved c.take.ensures.none))
+
+pub invariant_of-self : goal.invariant_of-self
+invariant_of-self g c =
+    let i = c.self.inside in
+    let s : Lines = record { network = i.network.value; input = i.input.value; instance = i.instance; queues = i.queues.items } in
+    let ch = c.channel_of-channel.result in
+    let w = c.index_mut.result.now in
+    let inside : ch < length s.queues = subst (λ (x : Lines). ch < length x.queues) (sym c.self.view_is) c.channel_of-channel.ensures.inside in
+    Queued.queued_set s _ ch w c.take.new.self c.self.invariant inside (Queued.found_at s.queues ch w inside c.index_mut.ensures.value)
+    c.take.ensures.names (λ e. Queued.same_sum w c.take.new.self c.take.result c.take.ensures.moved c.take.ensures.none) (length-set s.queues ch c.take.new.self)
