@@ -6,4 +6,5 @@ pub mod Order
 pub mod Globals
 pub mod Tables
 pub mod Sides
+pub mod Sources
 pub mod Wires

@@ -11,4 +11,5 @@ pub mod Token_lists
 pub mod Found
 pub mod Kinded
 pub mod Kinded_networks
+pub mod Dry
 pub mod Given_values

@@ -5,11 +5,11 @@ ghost use Rattle.kahn_streams.specs.Examples.{Counting, Doubling, Overflowing, R
 ghost use Rattle.kahn_streams.specs.Kinded.{AreOfKind, FitsKinds};
 ghost use Rattle.kahn_streams.specs.Laws.{IsChain, HasOneValue, IsSolved, IsSolution, IsBelow, Frame, IsQuiet, IsSettled, SendsStand, InputsGrow, IsCounted, IsUnrolled, IsDetermined};
 ghost use Rattle.kahn_streams.specs.Meaning.{Store, exec};
-ghost use Rattle.kahn_check.specs.Network.{Network, kind_at, network_of};
+ghost use Rattle.kahn_check.specs.Network.{Network, Reads, actual_at, instance_at, kind_at, network_of};
 ghost use Rattle.kahn_check.specs.Wiring.{IsWellWired};
-ghost use Rattle.kahn_streams.specs.Solution.{Inputs, Histories, Ending, Stands, iterate};
+ghost use Rattle.kahn_streams.specs.Solution.{Inputs, Histories, Ending, Stands, iterate, opening};
 ghost use Rattle.kahn_streams.specs.Sample.{Sample};
-ghost use Rattle.kahn_streams.specs.Script.{Script, Tapes, play};
+ghost use Rattle.kahn_streams.specs.Script.{Script, Tapes, Dry, play};
 ghost use Rattle.kahn_streams.specs.Steps.{Step, Follows, RanBy, taken, sends_of, halted, empty};
 ghost use Rattle.kahn_syntax.specs.Syntax.{Expr, Stmt};
 ghost use Rattle.kahn_syntax.specs.declared.tree.Program.{Program};
@@ -100,6 +100,11 @@ pub fn found()
 /// the kind of its channel.
 pub fn kinds()
     ensures { (t : Program) (I : Inputs) → IsWellWired t → FitsKinds (network_of t) I → (n c : ℕ) → AreOfKind (kind_at (network_of t) c) (iterate (network_of t) I n (Channel c)) }
+{}
+
+/// In a well wired program a process runs dry only at a parameter that reads a channel.
+pub fn dry_reads()
+    ensures { (t : Program) → IsWellWired t → (n p q : ℕ) (T : Tapes) → (exec n (instance_at (network_of t) p).body (opening (instance_at (network_of t) p)) T).outcome ≡ Dry q → (d : ℕ) × (actual_at (instance_at (network_of t) p) q ≡ Reads d) }
 {}
 
 /// The definitions at work on small networks.
