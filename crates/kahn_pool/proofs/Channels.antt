@@ -5,12 +5,13 @@ use Rattle.kahn_streams.specs.declared.value.Value.{Value}
 use Rattle.kahn_streams.specs.declared.value.Line.{Line}
 use Rattle.kahn_streams.specs.declared.value.Line.TheVariants.{Channel, Print}
 use Rattle.kahn_syntax.specs.Syntax.{Number}
-use Rattle.kahn_streams.specs.Script.{Tapes}
-use Rattle.kahn_streams.specs.Meaning.{exec}
+use Rattle.kahn_streams.specs.Script.{Tapes, Outcome}
+use Rattle.kahn_streams.specs.Meaning.{Store, exec}
 use Rattle.kahn_check.specs.Network.{Network, Actual, Reads, Writes, Hands, instance_at, actual_at}
 use Rattle.kahn_streams.specs.Solution.{Inputs, Histories, tape_of, tapes_of, exec_at, out, opening, values_at, goes_to}
-use Rattle.kahn_pool.specs.Gathered.{View, Stood, AllStand, IsKept}
-use Rattle.kahn_pool.specs.Parameters.{exec_on, sent_on, StoodBy, ReadsOnce}
+use Rattle.kahn_code.specs.Cells.{View, AllStand, IsKept, exec_on, sent_on, StoodBy}
+use Rattle.kahn_pool.specs.Gathered.{Stood}
+use Rattle.kahn_pool.specs.Parameters.{ReadsOnce}
 
 abbrev reads_here : Actual → ℕ → Bool
 reads_here (Reads c) d = c == d
@@ -112,8 +113,8 @@ module _ (N : Network) (I : Inputs) (watch : Option ℕ) (p : ℕ) (c : View) (o
       by (inl h) = inl h.1
       by (inr h) = inr (h.0, d, refl, h.1)
 
-  pub by_channel : Stood N I watch p c
-  by_channel =
+  abbrev stood : Stood N I watch p c
+  stood =
       record {
         tapes = H;
         does = ap (λ r. r.events) same_exec ∙ s.does;
@@ -125,3 +126,11 @@ module _ (N : Network) (I : Inputs) (watch : Option ℕ) (p : ℕ) (c : View) (o
         kept = λ q d r h. subst (λ l. IsKept (Channel d) l (c.kept q)) (sym (same_sends (Channel d))) (s.kept q d r h);
         printed = subst (λ l. IsKept (Print p) l c.printed) (sym (same_sends (Print p))) s.printed;
       }
+
+  pub by_channel : Stood N I watch p c
+  by_channel = stood
+
+  -- what is said of the outcome by the tapes of the parameters is said by the tapes of the channels
+  pub told_by_channel : (P : Outcome Store → Type 0) → P (exec_on N c.events p s.tapes).outcome →
+      (h : Stood N I watch p c) × P (exec_at N c.events p h.tapes).outcome
+  told_by_channel P o = (stood, subst P (sym (ap (λ r. r.outcome) same_exec)) o)

@@ -1,8 +1,9 @@
 -- The answer after the last round.
-use Rattle.std.proofs.Common.{arith, ◌≡◌, ◌⊎◌, inl, inr, ℕ, zero, suc, ◌+◌, List, [], ◌∷◌, ◌++◌, length, map, sum_by, take, refl, sym, ap, ◌∙◌, subst, Some, None, slice_get, Bool, true, false}
+use Rattle.std.proofs.Common.{arith, ◌≡◌, ◌⊎◌, inl, inr, ℕ, zero, suc, ◌+◌, List, [], ◌∷◌, ◌++◌, length, map, sum_by, take, refl, sym, ap, ◌∙◌, subst, Some, slice_get, Bool, true, false}
 use Rattle.std.proofs.lemmas.List.Sums.{sum_by-cons}
 use Rattle.kahn_streams.specs.declared.value.Line.{Line}
 use Rattle.kahn_streams.specs.Solution.{source}
+use Rattle.kahn_code.specs.Cells.{View}
 use Rattle.kahn_pool.specs.declared.answer.Answer.{Answer}
 use Rattle.kahn_pool.specs.declared.answer.End.{End}
 use Rattle.kahn_pool.specs.declared.answer.Stream.{Stream}
@@ -10,7 +11,7 @@ use Rattle.kahn_pool.specs.declared.answer.Outcome.TheVariants.{More}
 use Rattle.kahn_pool.specs.declared.answer.Verdict.{Verdict}
 use Rattle.kahn_pool.specs.declared.answer.Verdict.TheVariants.{Finished, Bound}
 use Rattle.kahn_pool.specs.Right.{events_of, line_of, stream_lines}
-use Rattle.kahn_pool.specs.Gathered.{View, view_at, AreWithin, IsFrom, IsGathered}
+use Rattle.kahn_pool.specs.Gathered.{view_at, AreWithin, IsFrom, IsGathered}
 use Rattle.kahn_pool.specs.Bench.{State, view_events, IsLast, IsVerdict, AreStreams}
 use Rattle.kahn_pool.proofs.Turns.{push_get}
 
@@ -27,8 +28,8 @@ same_sums (c ∷ cs) (x ∷ xs) l h =
     omega (arith, r, a, b, e)
 
 pub gathered : (s : State) (bound left : ℕ) (memory : Bool) (a : Answer) → IsLast s bound left memory a.ends.items →
-    AreStreams s a.streams.items (stream_lines s.network None) → IsVerdict memory a.ends.items a.verdict →
-    AreWithin s.network s.input s.cells → a.events + left ≡ bound → IsGathered s.network s.input bound None a
+    AreStreams s a.streams.items (stream_lines s.network s.watch) → IsVerdict memory a.ends.items a.verdict →
+    AreWithin s.network s.input s.cells → a.events + left ≡ bound → IsGathered s.network s.input bound s.watch a
 gathered s bound left memory a last streams rule within count =
     record {
       cells = s.cells;
@@ -81,7 +82,7 @@ map_push [] x = refl
 map_push (y ∷ ss) x = ap (λ r. y.line ∷ r) (map_push ss x)
 
 pub streams_push : (s : State) (ss : List Stream) (ls : List Line) (i : ℕ) (x : Stream) → slice_get ls i ≡ Some x.line →
-    IsFrom s.network s.input None s.cells (source s.network x.line) x.line x.tokens.items →
+    IsFrom s.network s.input s.watch s.cells (source s.network x.line) x.line x.tokens.items →
     AreStreams s ss (take i ls) → AreStreams s (ss ++ x ∷ []) (take (suc i) ls)
 streams_push s ss ls i x e from h =
     record {
@@ -90,6 +91,6 @@ streams_push s ss ls i x e from h =
     }
   where
     by : (j : ℕ) (y : Stream) → (slice_get ss j ≡ Some y) ⊎ ((j ≡ length ss) × (x ≡ y)) →
-        IsFrom s.network s.input None s.cells (source s.network y.line) y.line y.tokens.items
+        IsFrom s.network s.input s.watch s.cells (source s.network y.line) y.line y.tokens.items
     by j y (inl f) = h.each j y f
-    by j y (inr f) = subst (λ u. IsFrom s.network s.input None s.cells (source s.network u.line) u.line u.tokens.items) f.1 from
+    by j y (inr f) = subst (λ u. IsFrom s.network s.input s.watch s.cells (source s.network u.line) u.line u.tokens.items) f.1 from

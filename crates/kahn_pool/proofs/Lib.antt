@@ -5,3 +5,4 @@ pub mod Turns
 pub mod Final
 pub mod Channels
 pub mod Unique
+pub mod Bridged

@@ -7,8 +7,7 @@ use Rattle.kahn_check.specs.Network.{Network}
 use Rattle.kahn_streams.specs.Solution.{Inputs, iterate, IsPrefix}
 use Rattle.kahn_streams.proofs.Proved.{some_same, prefix_get, one_value, iterates_rise}
 use Rattle.kahn_streams.specs.declared.token.Token.{Token}
-use Rattle.kahn_pool.specs.Right.{value_of}
-use Rattle.kahn_pool.specs.Gathered.{AllStand}
+use Rattle.kahn_code.specs.Cells.{AllStand, token_value}
 
 -- a list that agrees with a longer one begins it
 pub agree : (xs ys : List Value) → length xs ≤ length ys →
@@ -81,7 +80,7 @@ more_of_it xs ys h l = by h.0 h.1
     by [] f = let e : length ys ≡ length xs = ap length (f ∙ append-nil xs) in absurd (omega (arith, l, e))
     by (z ∷ zs) f = (z, zs, f)
 
-pub map_get : (ts : List Token) (k : ℕ) (t : Token) → slice_get ts k ≡ Some t → slice_get (map value_of ts) k ≡ Some t.value
+pub map_get : (ts : List Token) (k : ℕ) (t : Token) → slice_get ts k ≡ Some t → slice_get (map token_value ts) k ≡ Some t.value
 map_get [] k t e = absurd cc
 map_get (x ∷ ts) zero t e = let same : x ≡ t = some_token e in ap (λ y. Some y.value) same
   where

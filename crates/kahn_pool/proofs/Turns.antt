@@ -3,14 +3,15 @@ use Rattle.std.proofs.Common.{arith, ◌≡◌, ◌⊎◌, inl, inr, ℕ, zero, 
 use Rattle.std.proofs.lemmas.List.Sums.{sum_by-cons}
 use Rattle.kahn_streams.specs.Script as script
 use Rattle.kahn_streams.specs.Meaning.{Store}
+use Rattle.kahn_code.specs.Cells.{View}
 use Rattle.kahn_pool.specs.declared.answer.End.{End}
 use Rattle.kahn_pool.specs.declared.answer.Outcome.{Outcome}
 use Rattle.kahn_pool.specs.declared.answer.Verdict.{Verdict}
-use Rattle.kahn_pool.specs.declared.bench.Pause.{Pause}
-use Rattle.kahn_pool.specs.declared.bench.Pause.TheVariants as pause
+use Rattle.kahn_code.specs.declared.progress.Pause.{Pause}
+use Rattle.kahn_code.specs.declared.progress.Pause.TheVariants as pause
 use Rattle.kahn_pool.specs.declared.answer.Outcome.TheVariants.{More, Waits}
 use Rattle.kahn_check.specs.Network.{Reads, actual_at, instance_at}
-use Rattle.kahn_pool.specs.Gathered.{View, view_at, IsTold, TookAll}
+use Rattle.kahn_pool.specs.Gathered.{view_at, IsTold, TookAll}
 use Rattle.kahn_pool.specs.Bench.{State, IsPaused, Rests, events_at, view_events, all_events, weight, AreEnds, Goes, Marked}
 
 -- a pause and an outcome that say the same
@@ -88,6 +89,7 @@ push_get (z ∷ xs) x y (suc k) e = later (push_get xs x y k e)
 pub record Ran (s s' : State) (p quantum : ℕ) (z : Pause) (x : End) : Type 0 where
   pub network : s'.network ≡ s.network
   pub input : s'.input ≡ s.input
+  pub watch : s'.watch ≡ s.watch
   pub only : s'.cells ≡ slice_set s.cells p (view_at s'.cells p)
   pub up : events_at s p ≤ events_at s' p
   pub still : events_at s' p ≡ events_at s p → s' ≡ s
@@ -119,6 +121,7 @@ module _ (s0 : State) (w0 t0 : ℕ) (s s' : State) (p left left' done : ℕ) (me
       record {
         network = ran.network ∙ go.network;
         input = ran.input ∙ go.input;
+        watch = ran.watch ∙ go.watch;
         known = known;
         total = total;
         size = size;
@@ -133,6 +136,7 @@ module _ (s0 : State) (w0 t0 : ℕ) (s s' : State) (p left left' done : ℕ) (me
       record {
         network = ran.network ∙ go.network;
         input = ran.input ∙ go.input;
+        watch = ran.watch ∙ go.watch;
         known = known;
         total = total;
         size = size;

@@ -1,17 +1,18 @@
 -- A run over cells.
-use Rattle.std.specs.Prelude.{◌≡◌, ◌⊎◌, ℕ, ◌+◌, ◌<◌, ◌≤◌, Bool, true, false, List, length, map, sum_by, Some, None, slice_get, cond}
+use Rattle.std.specs.Prelude.{◌≡◌, ◌⊎◌, ℕ, ◌+◌, ◌<◌, ◌≤◌, Bool, true, false, List, length, map, sum_by, Option, Some, slice_get, cond}
 use Rattle.kahn_streams.specs.Script as script
 use Rattle.kahn_streams.specs.Script.{Dry, Cut}
 use Rattle.kahn_streams.specs.Meaning.{Store}
 use Rattle.kahn_streams.specs.Solution as net
 use Rattle.kahn_check.specs.Network.{Network, Reads, instance_at, actual_at}
 use Rattle.kahn_streams.specs.Solution.{Inputs, exec_at, source, ending}
+use Rattle.kahn_code.specs.declared.progress.Pause.{Pause}
+use Rattle.kahn_code.specs.declared.progress.Pause.TheVariants as pause
+use Rattle.kahn_code.specs.Cells.{View}
 use Rattle.kahn_pool.specs.declared.answer.End.{End}
 use Rattle.kahn_pool.specs.declared.answer.Outcome.TheVariants.{More}
 use Rattle.kahn_pool.specs.declared.answer.Verdict.{Verdict}
-use Rattle.kahn_pool.specs.declared.bench.Pause.{Pause}
-use Rattle.kahn_pool.specs.declared.bench.Pause.TheVariants as pause
-use Rattle.kahn_pool.specs.Gathered.{View, view_at, Stood, TookAll, HasUntaken, IsAtRest, IsFrom}
+use Rattle.kahn_pool.specs.Gathered.{view_at, Stood, TookAll, HasUntaken, IsAtRest, IsFrom}
 use Rattle.kahn_pool.specs.Right.{line_of}
 use Rattle.kahn_pool.specs.declared.answer.Stream.{Stream}
 use Rattle.kahn_pool.specs.declared.answer.Verdict.TheVariants.{Finished, Bound, Memory}
@@ -20,6 +21,7 @@ use Rattle.kahn_streams.specs.declared.value.Line.{Line}
 pub record State : Type 0 where
   pub network : Network
   pub input : Inputs
+  pub watch : Option ℕ
   pub cells : List View
 
 abbrev pub events_at : State → ℕ → ℕ
@@ -35,11 +37,11 @@ IsPaused s p pause.Spent o = (o ≡ Cut) ⊎ HasUntaken s.network s.input s.cell
 IsPaused s p pause.NoMemory o = o ≡ Cut
 
 pub record Paused (s : State) (p : ℕ) (z : Pause) : Type 0 where
-  pub stood : Stood s.network s.input None p (view_at s.cells p)
+  pub stood : Stood s.network s.input s.watch p (view_at s.cells p)
   pub told : IsPaused s p z (exec_at s.network (events_at s p) p stood.tapes).outcome
 
 abbrev pub Rests : State → ℕ → End → Type 0
-Rests s p x = (v : Verdict) → IsAtRest s.network s.input None s.cells v p x
+Rests s p x = (v : Verdict) → IsAtRest s.network s.input s.watch s.cells v p x
 
 -- ---- rounds
 
@@ -63,6 +65,7 @@ AreEnds s left memory ends =
 pub record Goes (s0 : State) (w0 t0 : ℕ) (s : State) (left : ℕ) (memory moved : Bool) (ends : List End) (k : ℕ) : Type 0 where
   pub network : s.network ≡ s0.network
   pub input : s.input ≡ s0.input
+  pub watch : s.watch ≡ s0.watch
   pub known : length s.cells ≡ length s.network.instances
   pub total : all_events s + left ≡ t0
   pub size : length ends ≡ k
@@ -92,4 +95,4 @@ IsVerdict memory ends Bound = (memory ≡ false) × ((p : ℕ) × (x : End) × (
 -- these are the streams of the answer
 pub record AreStreams (s : State) (streams : List Stream) (lines : List Line) : Type 0 where
   pub named : map line_of streams ≡ lines
-  pub each : (j : ℕ) (x : Stream) → slice_get streams j ≡ Some x → IsFrom s.network s.input None s.cells (source s.network x.line) x.line x.tokens.items
+  pub each : (j : ℕ) (x : Stream) → slice_get streams j ≡ Some x → IsFrom s.network s.input s.watch s.cells (source s.network x.line) x.line x.tokens.items

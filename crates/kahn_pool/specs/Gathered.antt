@@ -1,6 +1,5 @@
 -- Cells at rest, and the answer that is put together from them.
-use Rattle.std.specs.Prelude.{◌≡◌, ◌⊎◌, ℕ, ◌<◌, ◌≤◌, List, [], length, map, sum_by, Option, Some, slice_get, slice_index_or, true}
-use Rattle.kahn_streams.specs.declared.value.Value.{Value}
+use Rattle.std.specs.Prelude.{◌≡◌, ◌⊎◌, ℕ, ◌<◌, ◌≤◌, List, [], length, map, sum_by, Option, Some, slice_index_or, true}
 use Rattle.kahn_streams.specs.declared.value.Line.{Line}
 use Rattle.kahn_streams.specs.declared.value.Line.TheVariants.{Channel, Print}
 use Rattle.kahn_streams.specs.Script as script
@@ -9,7 +8,7 @@ use Rattle.kahn_streams.specs.Steps.{empty}
 use Rattle.kahn_streams.specs.Meaning.{Store}
 use Rattle.kahn_streams.specs.Solution as net
 use Rattle.kahn_check.specs.Network.{Network, Reads, Writes, instance_at, actual_at, Source, Given, Written, Nobody}
-use Rattle.kahn_streams.specs.Solution.{Histories, Inputs, exec_at, out, source, fed, Stands, ending}
+use Rattle.kahn_streams.specs.Solution.{Histories, Inputs, exec_at, out, source, fed, ending}
 use Rattle.kahn_pool.specs.declared.answer.Answer.{Answer}
 use Rattle.kahn_pool.specs.declared.answer.Stream.{Stream}
 use Rattle.kahn_pool.specs.declared.answer.End.{End}
@@ -18,30 +17,14 @@ use Rattle.kahn_pool.specs.declared.answer.Verdict.{Verdict}
 use Rattle.kahn_pool.specs.declared.answer.Verdict.TheVariants.{Finished, Bound, Memory}
 use Rattle.kahn_pool.specs.declared.answer.Outcome.{Outcome}
 use Rattle.kahn_pool.specs.declared.answer.Outcome.TheVariants.{Ended, Waits, Faulted, More}
-use Rattle.kahn_pool.specs.Right.{line_of, value_of, events_of, stream_lines, is_streamed, HasStream, HasEndAt}
-
--- each of these values stands at its place of c
-abbrev pub AllStand : Network → Inputs → Line → List Value → Type 0
-AllStand N I c vs = (k : ℕ) (v : Value) → slice_get vs k ≡ Some v → Stands N I c k v
-
--- what contracts see of a cell: its number of events, and by parameter how many values it took and sent and the tokens that it kept
-pub record View : Type 0 where
-  pub events : ℕ
-  pub taken : ℕ → ℕ
-  pub sent : ℕ → ℕ
-  pub kept : ℕ → List Token
-  pub printed : List Token
+use Rattle.kahn_code.specs.Cells.{AllStand, View, IsKept, is_streamed}
+use Rattle.kahn_pool.specs.Right.{line_of, events_of, stream_lines, HasStream, HasEndAt}
 
 abbrev pub nothing : View
 nothing = record { events = 0; taken = λ q. 0; sent = λ q. 0; kept = λ q. []; printed = [] }
 
 abbrev pub view_at : List View → ℕ → View
 view_at cells p = slice_index_or cells p nothing
-
--- these tokens are those values of the line, in place order
-pub record IsKept (c : Line) (vs : List Value) (ts : List Token) : Type 0 where
-  pub values : map value_of ts ≡ vs
-  pub places : (k : ℕ) (t : Token) → slice_get ts k ≡ Some t → (t.line ≡ c) × (t.place ≡ k)
 
 -- What the cell of instance p says: on the values that it took the process does its events and takes all of them; these
 -- values stand on the channels that it reads; it sent so many, and kept what it sent on streams.

@@ -1,18 +1,18 @@
 -- The right answer of a run: what it says of streams, events and ends, for a network, an input, a bound and a watched
 -- channel. It names no schedule. (This project's profile, over the solution of Kahn's paper.)
-use Rattle.std.specs.Prelude.{◌≡◌, ℕ, suc, ◌==◌, ◌≤◌, ◌||◌, Bool, true, false, List, [], ◌∷◌, ◌++◌, length, map, sum_by, Option, Some, None, slice_get, slice_index_or, if◌then◌else◌}
+use Rattle.std.specs.Prelude.{◌≡◌, ℕ, suc, ◌≤◌, ◌||◌, List, [], ◌∷◌, ◌++◌, length, map, sum_by, Option, Some, slice_get, if◌then◌else◌}
 use Rattle.kahn_streams.specs.declared.value.Value.{Value}
 use Rattle.kahn_streams.specs.declared.value.Line.{Line}
 use Rattle.kahn_streams.specs.declared.value.Line.TheVariants.{Channel, Print}
 use Rattle.kahn_syntax.specs.declared.tree.Role.{Role}
-use Rattle.kahn_syntax.specs.declared.tree.Role.TheVariants as role
 use Rattle.kahn_syntax.specs.Syntax.{prints_in}
 use Rattle.kahn_syntax.specs.declared.tree.Kind.{Kind}
 use Rattle.kahn_streams.specs.Script.{Dry}
 use Rattle.kahn_streams.specs.Solution as net
-use Rattle.kahn_check.specs.Network.{role_at, Network, Instance, Reads, instance_at, actual_at, Given, Written}
+use Rattle.kahn_check.specs.Network.{Network, Instance, Reads, instance_at, actual_at, Given, Written}
 use Rattle.kahn_streams.specs.Solution.{Histories, Inputs, exec_at, out, source, input_list, iterate, IsPrefix, Stands, IsWhole, HasEnd, ending}
 use Rattle.kahn_streams.specs.Laws.{IsExtended}
+use Rattle.kahn_code.specs.Cells.{is_output, is_watched, token_value}
 use Rattle.kahn_pool.specs.declared.answer.Answer.{Answer}
 use Rattle.kahn_pool.specs.declared.answer.Stream.{Stream}
 use Rattle.kahn_pool.specs.declared.answer.End.{End}
@@ -23,18 +23,6 @@ use Rattle.kahn_pool.specs.declared.answer.Outcome.{Outcome}
 use Rattle.kahn_pool.specs.declared.answer.Outcome.TheVariants.{Ended, Waits, Faulted, More}
 
 -- ---- which streams an answer has
-
-abbrev pub is_output : Role → Bool
-is_output role.Inner = false
-is_output role.Input = false
-is_output role.Output = true
-
-abbrev pub is_watched : Option ℕ → ℕ → Bool
-is_watched None c = false
-is_watched (Some w) c = w == c
-
-abbrev pub is_streamed : Network → Option ℕ → ℕ → Bool
-is_streamed N watch c = is_output (role_at N c) || is_watched watch c
 
 -- the output and the watched channels from c on, in order of declaration
 abbrev pub channel_lines : Option ℕ → List (Kind × Role) → ℕ → List Line
@@ -55,11 +43,8 @@ stream_lines N watch = channel_lines watch N.channels 0 ++ print_lines N.instanc
 abbrev pub line_of : Stream → Line
 line_of s = s.line
 
-abbrev pub value_of : Token → Value
-value_of t = t.value
-
 abbrev pub values_of : Stream → List Value
-values_of s = map value_of s.tokens.items
+values_of s = map token_value s.tokens.items
 
 abbrev pub events_of : End → ℕ
 events_of x = x.events

@@ -5,25 +5,15 @@ ghost use Rattle.kahn_streams.specs.Solution.{source};
 ghost use Rattle.kahn_pool.specs.Bench.{State, Paused, AreStreams, events_at};
 ghost use Rattle.kahn_pool.specs.Gathered.{view_at, AreWithin, IsFrom};
 ghost use Rattle.kahn_pool.specs.Right.{stream_lines};
-ghost use Rattle.kahn_pool.specs.declared.bench.Pause.TheVariants as pause;
+ghost use Rattle.kahn_code.specs.declared.progress.Pause.TheVariants as pause;
 ghost use Rattle.std.specs.Prelude.{◌≡◌, ℕ, ◌+◌, ◌<◌, ◌≤◌, ◌^◌, length, slice_set, slice_get, IfOk, None, Some};
 
 use crate::answer::Stream;
-use kahn_streams::value::Failure;
-
-/// Why a cell stopped.
-#[derive(Clone, Copy, Debug, PartialEq, Eq)]
-pub enum Pause {
-    Spent,
-    Dry(usize),
-    Ended,
-    Fault(Failure),
-    NoMemory,
-}
+use kahn_code::progress::Pause;
 
 /// The cells of a network, over plain queues.
 pub trait Bench {
-    // the network, the input, and what is seen of each cell
+    // the network, the input, the watched channel, and what is seen of each cell
     ghost state: { Self → State };
 
     fn instance_count(&self) -> usize
@@ -34,7 +24,7 @@ pub trait Bench {
     fn run(&mut self, instance: usize, quantum: u64) -> Pause
         requires here { instance < length (state self.old).network.instances }
         requires bound { events_at (state self.old) instance + quantum < 2 ^ 48 }
-        ensures same { ((state self.new).network ≡ (state self.old).network) × ((state self.new).input ≡ (state self.old).input) }
+        ensures same { ((state self.new).network ≡ (state self.old).network) × ((state self.new).input ≡ (state self.old).input) × ((state self.new).watch ≡ (state self.old).watch) }
         // the other cells are left as they are
         ensures only { (state self.new).cells ≡ slice_set (state self.old).cells instance (view_at (state self.new).cells instance) }
         ensures events { (events_at (state self.old) instance ≤ events_at (state self.new) instance) × (events_at (state self.new) instance ≤ events_at (state self.old) instance + quantum) }
@@ -59,5 +49,5 @@ pub trait Bench {
 
     /// The streams of the answer: what the writers kept. It takes no memory.
     fn into_streams(self) -> Vec<Stream>
-        ensures { AreStreams (state self) result.items (stream_lines (state self).network None) };
+        ensures { AreStreams (state self) result.items (stream_lines (state self).network (state self).watch) };
 }

@@ -6,13 +6,14 @@ ghost use Rattle.kahn_pool.specs.Gathered.{IsFrom};
 ghost use Rattle.kahn_pool.specs.Right.{IsRight, line_of, stream_lines};
 ghost use Rattle.kahn_pool.specs.declared.answer.Outcome.TheVariants as outcome;
 ghost use Rattle.kahn_pool.specs.declared.answer.Stream.{Stream};
-ghost use Rattle.kahn_pool.specs.declared.bench.Pause.TheVariants as pause;
+ghost use Rattle.kahn_code.specs.declared.progress.Pause.TheVariants as pause;
 ghost use Rattle.std.specs.Prelude.{vec_len, vec_capacity};
 ghost use Rattle.std.specs.Prelude.{◌≡◌, ◌⊎◌, ◌<◌, ◌≤◌, ◌+◌, ◌^◌, ℕ, suc, length, map, true, false, IsTrue, IsFalse, slice_get, Some, None, IfOk, IsOk, cond};
 
 use crate::answer::{Answer, End, Outcome, Verdict};
-use crate::bench::{Bench, Pause};
+use crate::bench::Bench;
 use crate::laws;
+use kahn_code::progress::Pause;
 
 // A round in which each cell is run once.
 #[derive(Drop)]
@@ -75,7 +76,7 @@ impl Round {
         requires bound { all_events (B.state bench.old) + self.old.left < 2 ^ 48 }
         requires room { vec_len self.old.ends < vec_capacity self.old.ends }
         ensures goes { (s0 : State) (w0 t0 : ℕ) → Goes s0 w0 t0 (B.state bench.old) self.old.left self.old.memory self.old.moved self.old.ends.items instance → Goes s0 w0 t0 (B.state bench.new) self.new.left self.new.memory self.new.moved self.new.ends.items (suc instance) }
-        ensures same { ((B.state bench.new).network ≡ (B.state bench.old).network) × ((B.state bench.new).input ≡ (B.state bench.old).input) }
+        ensures same { ((B.state bench.new).network ≡ (B.state bench.old).network) × ((B.state bench.new).input ≡ (B.state bench.old).input) × ((B.state bench.new).watch ≡ (B.state bench.old).watch) }
         ensures size { vec_len self.new.ends ≡ vec_len self.old.ends + 1 }
         ensures room { vec_capacity self.new.ends ≡ vec_capacity self.old.ends }
     {
@@ -94,7 +95,7 @@ fn one_round<B: Bench>(bench: &mut B, mut ends: Vec<End>, left: u64, memory: boo
     requires known { length (B.state bench.old).cells ≡ length (B.state bench.old).network.instances }
     requires room { length (B.state bench.old).network.instances ≤ vec_capacity ends }
     ensures goes { Goes (B.state bench.old) (weight left memory) (all_events (B.state bench.old) + left) (B.state bench.new) result.left result.memory result.moved result.ends.items (length (B.state bench.new).network.instances) }
-    ensures same { ((B.state bench.new).network ≡ (B.state bench.old).network) × ((B.state bench.new).input ≡ (B.state bench.old).input) }
+    ensures same { ((B.state bench.new).network ≡ (B.state bench.old).network) × ((B.state bench.new).input ≡ (B.state bench.old).input) × ((B.state bench.new).watch ≡ (B.state bench.old).watch) }
     ensures room { vec_capacity result.ends ≡ vec_capacity ends }
 {
     let count = bench.instance_count();
@@ -117,7 +118,7 @@ fn last_round<B: Bench>(bench: &mut B, ends: Vec<End>, bound: u64) -> Round
     requires known { length (B.state bench.old).cells ≡ length (B.state bench.old).network.instances }
     requires room { length (B.state bench.old).network.instances ≤ vec_capacity ends }
     ensures last { IsLast (B.state bench.new) (all_events (B.state bench.old) + bound) result.left result.memory result.ends.items }
-    ensures same { ((B.state bench.new).network ≡ (B.state bench.old).network) × ((B.state bench.new).input ≡ (B.state bench.old).input) }
+    ensures same { ((B.state bench.new).network ≡ (B.state bench.old).network) × ((B.state bench.new).input ≡ (B.state bench.old).input) × ((B.state bench.new).watch ≡ (B.state bench.old).watch) }
 {
     let mut ends = ends;
     let mut left = bound;
@@ -154,7 +155,7 @@ pub fn run_bench<B: Bench>(mut bench: B, ends: Vec<End>, bound: u64) -> Answer
     requires fresh { all_events (B.state bench) ≡ 0 }
     requires known { length (B.state bench).cells ≡ length (B.state bench).network.instances }
     requires room { length (B.state bench).network.instances ≤ vec_capacity ends }
-    ensures right { IsRight (B.state bench).network (B.state bench).input bound None result }
+    ensures right { IsRight (B.state bench).network (B.state bench).input bound (B.state bench).watch result }
 {
     let last = last_round(&mut bench, ends, bound);
     bench.within();

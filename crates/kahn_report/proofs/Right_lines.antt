@@ -11,7 +11,8 @@ use Rattle.kahn_streams.specs.declared.value.Line.{Line}
 use Rattle.kahn_streams.specs.declared.value.Line.TheVariants.{Channel, Print}
 use Rattle.kahn_pool.specs.declared.answer.Stream.{Stream}
 use Rattle.kahn_pool.specs.declared.answer.Answer.{Answer}
-use Rattle.kahn_pool.specs.Right.{is_output, is_watched, channel_lines, print_lines, stream_lines, line_of}
+use Rattle.kahn_code.specs.Cells.{is_output, is_watched}
+use Rattle.kahn_pool.specs.Right.{channel_lines, print_lines, stream_lines, line_of}
 use Rattle.kahn_report.specs.Names.{channel_count, instance_count}
 use Rattle.kahn_report.specs.Report.{IsLine, HasItsLines}
 

@@ -1,4 +1,4 @@
-use Rattle.std.proofs.Common.{◌≡◌, ◌≤◌, ◌+◌, length, vec_len, vec_capacity, arith, refl, sym, ap, subst, ◌∙◌, add-one}
+use Rattle.std.proofs.Common.{◌+◌, length, sym, ap, ◌∙◌, add-one}
 use Rattle.kahn_pool.specs.Bench.{all_events, weight}
 use Rattle.kahn_pool.proofs.rounds.one_round.Goals as goal
 

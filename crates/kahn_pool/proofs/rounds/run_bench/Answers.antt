@@ -1,4 +1,4 @@
-use Rattle.std.proofs.Common.{◌≡◌, ◌+◌, ◌-◌, subst, arith, None}
+use Rattle.std.proofs.Common.{◌≡◌, ◌+◌, ◌-◌, subst, arith}
 use Rattle.kahn_pool.specs.Bench.{all_events, IsLast, IsVerdict}
 use Rattle.kahn_pool.specs.Right.{IsRight}
 use Rattle.kahn_pool.specs.declared.answer.Answer.{Answer}
@@ -7,6 +7,7 @@ use Rattle.kahn_pool.proofs.rounds.run_bench.Goals as goal
 
 pub returns : goal.returns
 returns g c =
+    let start = g.B.Bench.state c.args.bench in
     let s = g.B.Bench.state c.last_round-last.new.bench in
     let b = c.args.bound in
     let last = c.last_round-last.result in
@@ -18,11 +19,12 @@ returns g c =
     let a : Answer = record { verdict = c.verdict_of-verdict.result; streams = c.into_streams.result; ends = last.ends; events = b - last.left } in
     let total : all_events s + last.left ≡ b = h.total in
     record {
-      right = subst (λ n. IsRight n (g.B.Bench.state c.args.bench).input b None a) c.last_round-last.ensures.same.0
-          (subst (λ i. IsRight s.network i b None a) c.last_round-last.ensures.same.1
-          (c.assembled.ensures s.network s.input b None a
+      right = subst (λ n. IsRight n start.input b start.watch a) c.last_round-last.ensures.same.0
+          (subst (λ i. IsRight s.network i b start.watch a) c.last_round-last.ensures.same.1
+          (subst (λ w. IsRight s.network s.input b w a) c.last_round-last.ensures.same.2
+          (c.assembled.ensures s.network s.input b s.watch a
           (gathered s b last.left last.memory a h c.into_streams.ensures
           (subst (λ ends. IsVerdict last.memory ends c.verdict_of-verdict.result) c.deref.ensures.value c.verdict_of-verdict.ensures)
           c.within.ensures
-          (omega (arith, total)))));
+          (omega (arith, total))))));
     }

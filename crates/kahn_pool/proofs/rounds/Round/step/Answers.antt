@@ -23,6 +23,7 @@ returns-clause-goes g c s0 w0 t0 go =
     (record {
       network = c.run-stopped.ensures.same.0;
       input = c.run-stopped.ensures.same.1;
+      watch = c.run-stopped.ensures.same.2;
       only = c.run-stopped.ensures.only;
       up = up;
       still = c.run-stopped.ensures.still;
