@@ -6,3 +6,5 @@ pub mod Final
 pub mod Channels
 pub mod Unique
 pub mod Bridged
+pub mod Benched
+pub mod Laid

@@ -41,6 +41,7 @@ pub trait Bench {
 
     /// The channel that a parameter reads.
     fn channel(&self, instance: usize, parameter: usize) -> usize
+        requires { (c : ℕ) × (actual_at (instance_at (state self.now).network instance) parameter ≡ Reads c) }
         ensures { (c : ℕ) → actual_at (instance_at (state self.now).network instance) parameter ≡ Reads c → result ≡ c };
 
     /// No reader took more than was given.

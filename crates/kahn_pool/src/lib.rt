@@ -7,3 +7,5 @@ pub mod config;
 pub mod gate;
 pub mod laws;
 pub mod rounds;
+pub mod streams;
+pub mod workbench;

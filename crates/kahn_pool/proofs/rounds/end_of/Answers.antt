@@ -1,8 +1,8 @@
 use Rattle.std.proofs.Common.{inl}
-use Rattle.std.proofs.Common.{sym, ap, ◌∙◌}
+use Rattle.std.proofs.Common.{sym, ap, ◌∙◌, subst}
 use Rattle.kahn_check.specs.Network.{Reads}
 use Rattle.kahn_streams.specs.Solution.{exec_at}
-use Rattle.kahn_pool.specs.Bench.{events_at}
+use Rattle.kahn_pool.specs.Bench.{IsPaused, events_at}
 use Rattle.kahn_pool.proofs.Turns.{told_as, told_dry}
 use Rattle.kahn_pool.proofs.rounds.end_of.Goals as goal
 use Rattle.kahn_pool.proofs.rounds.end_of.Goals.{in-Spent, in-NoMemory, in-Ended, in-Fault, in-Dry}
@@ -24,3 +24,11 @@ returns-clause-rests g c v =
         | in-Dry w ↦ told_as s p v o _ _ _ _ w.in-Dry.is w.outcome-is h.told (λ y. told_dry s p v o w.in-Dry.parameter w.channel.result (y.1 ∙ ap Reads (sym (w.channel.ensures y.0 y.1))) y)
       ];
     }
+
+pub channel-requires : goal.channel-requires
+channel-requires g c =
+    let s = g.B.Bench.state c.args.bench.now in
+    let p = c.args.instance in
+    let h = c.requires.paused in
+    let told = subst (λ z. IsPaused s p z (exec_at s.network (events_at s p) p h.stood.tapes).outcome) c.in-Dry.is h.told in
+    (told.0, told.1)

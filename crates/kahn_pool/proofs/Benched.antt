@@ -1,0 +1,423 @@
+-- Cells that stand where their queues stand.
+use Rattle.std.proofs.Common.{arith, ◌≡◌, ◌⊎◌, inl, inr, ℕ, zero, suc, ◌+◌, ◌<◌, ◌≤◌, List, [], ◌∷◌, length, map, refl, sym, ap, ◌∙◌, subst, Option, Some, None, slice_get, slice_set, slice_index_or, false, le_of_suc-le-suc, length-set}
+use Rattle.kahn_syntax.specs.declared.tree.Program.{Program}
+use Rattle.kahn_syntax.specs.declared.tree.Role.TheVariants.{Inner, Input}
+use Rattle.kahn_check.specs.Network.{Network, Reads, Writes, Source, Given, Written, network_of, instance_at, actual_at, role_at, channel_source}
+use Rattle.kahn_check.specs.Wiring.{IsWellWired}
+use Rattle.kahn_check.specs.Sources.{IsFed}
+use Rattle.kahn_check.proofs.Sourced.{reads}
+use Rattle.kahn_streams.specs.declared.value.Line.TheVariants.{Channel}
+use Rattle.kahn_streams.specs.Solution.{Inputs, source}
+use Rattle.kahn_streams.specs.Tokens.{inputs_of}
+use Rattle.kahn_code.specs.Cells.{View, exec_on, is_output}
+use Rattle.kahn_code.specs.Lines.{Lines as Queues, AreCounted, Joins, actual_of, place_at, next_at, taken_of, given_of, waiting_of}
+use Rattle.kahn_code.specs.Queues.{Waiting}
+use Rattle.kahn_code.specs.Seats.{Seat, Leaves}
+use Rattle.kahn_code.specs.Standing.{count}
+use Rattle.kahn_code.specs.Told.{Told, told_view, seat_of, IsAt, IsStill}
+use Rattle.kahn_code.proofs.Readers.{joins_within}
+use Rattle.kahn_pool.specs.Gathered.{IsGiven, AreWithin, TookAll, view_at, nothing}
+use Rattle.kahn_pool.specs.Bench.{State}
+use Rattle.kahn_streams.specs.declared.value.Value.{Value}
+use Rattle.kahn_pool.specs.Workbench.{Table, IsLaid, IsSeated, state_of}
+use Rattle.kahn_pool.specs.Bench.{Paused, events_at}
+use Rattle.kahn_code.specs.declared.progress.Pause.{Pause}
+use Rattle.kahn_code.specs.declared.progress.Pause.TheVariants as pause
+use Rattle.kahn_code.specs.Progress as code
+use Rattle.kahn_code.specs.Progress.{IsPause}
+use Rattle.kahn_code.proofs.Readers.{reads_once}
+use Rattle.kahn_streams.proofs.Dry.{dry_reads}
+use Rattle.kahn_pool.proofs.Bridged.{bridge}
+
+-- ---- lists
+
+pub some_one : {X : Type 0} {x y : X} → Some x ≡ Some y → x ≡ y
+some_one e = cc
+
+pub got : {X : Type 0} (xs : List X) (i : ℕ) → i < length xs → (x : X) × (slice_get xs i ≡ Some x)
+got [] i l = absurd (omega (arith, l))
+got (x ∷ xs) zero l = (x, refl)
+got (x ∷ xs) (suc i) l = got xs i (le_of_suc-le-suc l)
+
+pub mapped : {X Y : Type 0} (f : X → Y) (xs : List X) (i : ℕ) (x : X) (d : Y) → slice_get xs i ≡ Some x → slice_index_or (map f xs) i d ≡ f x
+mapped f [] i x d e = absurd cc
+mapped f (y ∷ xs) zero x d e = ap f (some_is e)
+  where
+    some_is : Some y ≡ Some x → y ≡ x
+    some_is h = cc
+mapped f (y ∷ xs) (suc i) x d e = mapped f xs i x d e
+
+pub map_set : {X Y : Type 0} (f : X → Y) (xs : List X) (i : ℕ) (x : X) → map f (slice_set xs i x) ≡ slice_set (map f xs) i (f x)
+map_set f [] i x = refl
+map_set f (y ∷ xs) zero x = refl
+map_set f (y ∷ xs) (suc i) x = ap (λ l. f y ∷ l) (map_set f xs i x)
+
+pub set_same : {Y : Type 0} (ys : List Y) (i : ℕ) (y : Y) → slice_get ys i ≡ Some y → slice_set ys i y ≡ ys
+set_same [] i y e = refl
+set_same (z ∷ ys) zero y e = ap (λ w. w ∷ ys) (some_is e)
+  where
+    some_is : Some z ≡ Some y → y ≡ z
+    some_is h = cc
+set_same (z ∷ ys) (suc i) y e = ap (λ l. z ∷ l) (set_same ys i y e)
+
+pub get_map : {X Y : Type 0} (f : X → Y) (xs : List X) (i : ℕ) (x : X) → slice_get xs i ≡ Some x → slice_get (map f xs) i ≡ Some (f x)
+get_map f [] i x e = absurd cc
+get_map f (y ∷ xs) zero x e = ap (λ z. Some (f z)) (some_one e)
+get_map f (y ∷ xs) (suc i) x e = get_map f xs i x e
+
+pub set_here : {X : Type 0} (xs : List X) (i : ℕ) (x : X) → i < length xs → slice_get (slice_set xs i x) i ≡ Some x
+set_here [] i x l = absurd (omega (arith, l))
+set_here (y ∷ xs) zero x l = refl
+set_here (y ∷ xs) (suc i) x l = set_here xs i x (le_of_suc-le-suc l)
+
+pub set_else : {X : Type 0} (xs : List X) (i j : ℕ) (x : X) → (j ≡ i → ⊥) → slice_get (slice_set xs i x) j ≡ slice_get xs j
+set_else [] i j x n = refl
+set_else (y ∷ xs) zero zero x n = absurd (n refl)
+set_else (y ∷ xs) zero (suc j) x n = refl
+set_else (y ∷ xs) (suc i) zero x n = refl
+set_else (y ∷ xs) (suc i) (suc j) x n = set_else xs i j x (λ e. n (ap suc e))
+
+same_or : (d c : ℕ) → (d ≡ c) ⊎ (d ≡ c → ⊥)
+same_or zero zero = inl refl
+same_or zero (suc c) = inr (λ e. absurd (omega (arith, e)))
+same_or (suc d) zero = inr (λ e. absurd (omega (arith, e)))
+same_or (suc d) (suc c) = step (same_or d c)
+  where
+    step : (d ≡ c) ⊎ (d ≡ c → ⊥) → (suc d ≡ suc c) ⊎ (suc d ≡ suc c → ⊥)
+    step (inl e) = inl (ap suc e)
+    step (inr n) = inr (λ e. n (omega (arith, e)))
+
+-- ---- a cell that is seated
+
+module _ (b : Table) (laid : IsLaid b) where
+  abbrev N : Network
+  N = network_of b.network
+
+  abbrev I : Inputs
+  I = inputs_of b.input
+
+  abbrev views : List View
+  views = map told_view b.cells
+
+  pub seated_at : (p : ℕ) → p < length N.instances → (c : Told) × (slice_get b.cells p ≡ Some c) × IsSeated b p c
+  seated_at p l =
+      let g = got b.cells p (subst (λ n. p < n) (sym laid.count) l) in
+      (g.0, g.1, laid.each p g.0 g.1)
+
+  pub viewed : (p : ℕ) (c : Told) → slice_get b.cells p ≡ Some c → view_at views p ≡ told_view c
+  viewed p c e = mapped told_view b.cells p c nothing e
+
+  actual_same : (p q : ℕ) (c : Told) → IsSeated b p c → actual_at (instance_at (network_of c.network) c.instance) q ≡ actual_at (instance_at N p) q
+  actual_same p q c s =
+      ap (λ t. actual_at (instance_at (network_of t) c.instance) q) s.network ∙ ap (λ i. actual_at (instance_at N i) q) s.instance
+
+  place_same : (p q : ℕ) → place_at b.queues p q ≡ next_at b.queues.queues (actual_at (instance_at N p) q)
+  place_same p q = ap (λ t. next_at b.queues.queues (actual_at (instance_at (network_of t) p) q)) laid.network
+
+  pub taken_there : (p q d : ℕ) (c : Told) → IsSeated b p c → actual_at (instance_at N p) q ≡ Reads d →
+      taken_of (slice_get b.queues.queues d) ≡ count c.taken q
+  taken_there p q d c s e =
+      sym (ap (next_at b.queues.queues) e) ∙ sym (place_same p q) ∙ s.at.reads q d (actual_same p q c s ∙ e)
+
+  pub sent_there : (p q d : ℕ) (c : Told) → IsSeated b p c → actual_at (instance_at N p) q ≡ Writes d → is_output (role_at N d) ≡ false →
+      given_of (slice_get b.queues.queues d) ≡ count c.sent q
+  sent_there p q d c s e inner =
+      sym (ap (next_at b.queues.queues) e) ∙ sym (place_same p q) ∙
+      s.at.writes q d (actual_same p q c s ∙ e) (ap (λ t. is_output (role_at (network_of t) d)) s.network ∙ inner)
+
+  -- ---- what was given and what was taken
+
+  module _ (counted : AreCounted b.queues) where
+    joins : (p q d : ℕ) → actual_at (instance_at N p) q ≡ Reads d → Joins (actual_at (instance_at N p) q) d
+    joins p q d e = subst (λ a. Joins a d) (sym e) refl
+
+    queue_at : (p q d : ℕ) → actual_at (instance_at N p) q ≡ Reads d → (w : Waiting) × (slice_get b.queues.queues d ≡ Some w)
+    queue_at p q d e =
+        got b.queues.queues d
+        (counted.inside p q d (subst (λ t. Joins (actual_at (instance_at (network_of t) p) q) d) (sym laid.network) (joins p q d e)))
+
+    put_there : (d : ℕ) (w : Waiting) → slice_get b.queues.queues d ≡ Some w → IsFed N d → IsGiven N I views d (source N (Channel d)) (w.taken + w.waiting)
+    put_there d w at (inl s) =
+        let role = ap (λ t. role_at (network_of t) d) laid.network ∙ s.1 in
+        subst (λ k. IsGiven N I views d k (w.taken + w.waiting)) (sym s.0)
+        (sym (counted.given d w at role ∙ ap (λ (l : List (List Value)). length (inputs_of l d)) laid.input))
+    put_there d w at (inr s) =
+        let c = seated_at s.0 (joins_within N s.0 s.1 d (subst (λ a. Joins a d) (sym s.3) refl)) in
+        let sum = sym (sent_there s.0 s.1 d c.0 c.2 s.3 (ap is_output s.4)) ∙ ap given_of at in
+        subst (λ k. IsGiven N I views d k (w.taken + w.waiting)) (sym s.2)
+        (s.1, s.3, ap (λ v. v.sent s.1) (viewed s.0 c.0 c.1) ∙ sum)
+
+    pub given_there : (p q d : ℕ) → actual_at (instance_at N p) q ≡ Reads d →
+        (w : Waiting) × (slice_get b.queues.queues d ≡ Some w) × IsGiven N I views d (source N (Channel d)) (w.taken + w.waiting) ×
+        ((view_at views p).taken q ≡ w.taken)
+    given_there p q d e =
+        let w = queue_at p q d e in
+        let c = seated_at p (joins_within N p q d (joins p q d e)) in (
+          w.0,
+          w.1,
+          put_there d w.0 w.1 (reads b.network laid.wired p q d e),
+          ap (λ v. v.taken q) (viewed p c.0 c.1) ∙ sym (taken_there p q d c.0 c.2 e) ∙ ap taken_of w.1,
+        )
+
+    pub within : AreWithin N I views
+    within p q d e =
+        let g = given_there p q d e in
+        let t = g.3 in
+        (g.0.taken + g.0.waiting, g.2, omega (arith, t))
+
+    -- where none waits all was taken
+    pub took_all : (p q d : ℕ) → actual_at (instance_at N p) q ≡ Reads d → waiting_of (slice_get b.queues.queues d) ≡ 0 → TookAll N I views p q d
+    took_all p q d e none =
+        let g = given_there p q d e in
+        let t = g.3 in
+        let z = sym (ap waiting_of g.1) ∙ none in
+        let sum : g.0.taken + g.0.waiting ≡ (view_at views p).taken q = omega (arith, t, z) in
+        subst (λ n. IsGiven N I views d (source N (Channel d)) n) sum g.2
+
+    pub left_some : (p q d : ℕ) → actual_at (instance_at N p) q ≡ Reads d → 0 < waiting_of (slice_get b.queues.queues d) →
+        (n : ℕ) × IsGiven N I views d (source N (Channel d)) n × ((view_at views p).taken q < n)
+    left_some p q d e some =
+        let g = given_there p q d e in
+        let t = g.3 in
+        let z = ap waiting_of g.1 in
+        (g.0.taken + g.0.waiting, g.2, omega (arith, t, z, some))
+
+-- ---- a cell runs
+
+-- the same program, input, instance and watched channel
+abbrev pub IsSame : Told → Told → Type 0
+IsSame old new = (new.network ≡ old.network) × (new.input ≡ old.input) × (new.instance ≡ old.instance) × (new.watch ≡ old.watch)
+
+abbrev pub ran : Table → ℕ → Told → Queues → Table
+ran b p c q = record { network = b.network; input = b.input; watch = b.watch; code = b.code; cells = slice_set b.cells p c; queues = q }
+
+-- the queues as the ports of instance p
+abbrev pub ports_of : Queues → Seat
+ports_of q = record { network = q.network; input = q.input; instance = q.instance }
+
+pub laid_after : (b : Table) → IsLaid b → (p : ℕ) (c c' : Told) (q : Queues) → slice_get b.cells p ≡ Some c → IsSame c c' →
+    ports_of q ≡ seat_of c' → IsAt c' (λ r. next_at q.queues (actual_at (instance_at (network_of q.network) q.instance) r)) →
+    Leaves (record { network = b.queues.network; input = b.queues.input; instance = p }) (place_at b.queues) (place_at q) → IsLaid (ran b p c' q)
+laid_after b laid p c c' q at same seat stands leaves = record {
+  wired = laid.wired;
+  code = laid.code;
+  count = length-set b.cells p c' ∙ laid.count;
+  each = λ o d e. each o d e (same_or o p);
+  network = ap (λ (s : Seat). s.network) seat ∙ same.0 ∙ old.network;
+  input = ap (λ (s : Seat). s.input) seat ∙ same.1 ∙ old.input;
+}
+  where
+    old : IsSeated b p c
+    old = laid.each p c at
+
+    here : p < length b.cells
+    here = within_get b.cells p c at
+      where
+        within_get : (xs : List Told) (i : ℕ) (x : Told) → slice_get xs i ≡ Some x → i < length xs
+        within_get [] i x e = absurd cc
+        within_get (y ∷ xs) zero x e = omega arith
+        within_get (y ∷ xs) (suc i) x e = let r = within_get xs i x e in omega (arith, r)
+
+    is : q.instance ≡ p
+    is = ap (λ (s : Seat). s.instance) seat ∙ same.2 ∙ old.instance
+
+    mine : IsSeated (ran b p c' q) p c'
+    mine = record {
+      network = same.0 ∙ old.network;
+      input = same.1 ∙ old.input;
+      instance = same.2 ∙ old.instance;
+      watch = same.3 ∙ old.watch;
+      at = subst (λ i. IsAt c' (λ r. next_at q.queues (actual_at (instance_at (network_of q.network) i) r))) is stands;
+    }
+
+    each : (o : ℕ) (d : Told) → slice_get (slice_set b.cells p c') o ≡ Some d → (o ≡ p) ⊎ (o ≡ p → ⊥) → IsSeated (ran b p c' q) o d
+    each o d e (inl i) =
+        let f : c' ≡ d = some_one (sym (set_here b.cells p c' here) ∙ ap (slice_get (slice_set b.cells p c')) (sym i) ∙ e) in
+        subst (λ k. IsSeated (ran b p c' q) k d) (sym i) (subst (λ x. IsSeated (ran b p c' q) p x) f mine)
+    each o d e (inr n) =
+        let s : IsSeated b o d = laid.each o d (sym (set_else b.cells p o c' n) ∙ e) in
+        record {
+          network = s.network;
+          input = s.input;
+          instance = s.instance;
+          watch = s.watch;
+          at = record {
+            reads = λ r k h. leaves o r n ∙ s.at.reads r k h;
+            writes = λ r k h inner. leaves o r n ∙ s.at.writes r k h inner;
+          };
+        }
+
+-- ---- what rounds see of it
+
+view_same : (c c' : Told) → c'.events ≡ c.events → IsStill c c' → told_view c' ≡ told_view c
+view_same c c' e s = cc
+
+pub views_after : (b : Table) (p : ℕ) (c c' : Told) (q : Queues) → slice_get b.cells p ≡ Some c →
+    (state_of (ran b p c' q)).cells ≡ slice_set (state_of b).cells p (view_at (state_of (ran b p c' q)).cells p)
+views_after b p c c' q at =
+    map_set told_view b.cells p c' ∙
+    ap (slice_set (map told_view b.cells) p)
+    (sym (mapped told_view (slice_set b.cells p c') p c' nothing (set_here b.cells p c' (here b.cells p c at))))
+  where
+    here : (xs : List Told) (i : ℕ) (x : Told) → slice_get xs i ≡ Some x → i < length xs
+    here [] i x e = absurd cc
+    here (y ∷ xs) zero x e = omega arith
+    here (y ∷ xs) (suc i) x e = let r = here xs i x e in omega (arith, r)
+
+pub view_after : (b : Table) (p : ℕ) (c c' : Told) (q : Queues) → slice_get b.cells p ≡ Some c →
+    view_at (state_of (ran b p c' q)).cells p ≡ told_view c'
+view_after b p c c' q at = mapped told_view (slice_set b.cells p c') p c' nothing (set_here b.cells p c' (here b.cells p c at))
+  where
+    here : (xs : List Told) (i : ℕ) (x : Told) → slice_get xs i ≡ Some x → i < length xs
+    here [] i x e = absurd cc
+    here (y ∷ xs) zero x e = omega arith
+    here (y ∷ xs) (suc i) x e = let r = here xs i x e in omega (arith, r)
+
+pub still_after : (b : Table) (p : ℕ) (c c' : Told) (q : Queues) → slice_get b.cells p ≡ Some c → c'.events ≡ c.events → IsStill c c' →
+    state_of (ran b p c' q) ≡ state_of b
+still_after b p c c' q at e s =
+    ap (λ l. let r : State = record { network = network_of b.network; input = inputs_of b.input; watch = b.watch; cells = l } in r)
+    (map_set told_view b.cells p c' ∙ ap (slice_set (map told_view b.cells) p) (view_same c c' e s) ∙
+    set_same (map told_view b.cells) p (told_view c) (get_map told_view b.cells p c at))
+
+-- the channel that was found for a parameter
+pub channel_is : (b : Table) → IsLaid b → (p q d : ℕ) (o : Option ℕ) → ((c : ℕ) → Joins (actual_at (instance_at (network_of b.queues.network) p) q) c → o ≡ Some c) →
+    actual_at (instance_at (network_of b.network) p) q ≡ Reads d → o ≡ Some d
+channel_is b laid p q d o h e =
+    h d (subst (λ t. Joins (actual_at (instance_at (network_of t) p) q) d) (sym laid.network) (subst (λ a. Joins a d) (sym e) refl))
+
+pub not_none : {d : ℕ} → None ≡ Some d → ⊥
+not_none e = cc
+
+-- ---- one run of a cell
+
+within_get : {X : Type 0} (xs : List X) (i : ℕ) (x : X) → slice_get xs i ≡ Some x → i < length xs
+within_get [] i x e = absurd cc
+within_get (y ∷ xs) zero x e = omega arith
+within_get (y ∷ xs) (suc i) x e = let r = within_get xs i x e in omega (arith, r)
+
+pub found : (b : Table) → IsLaid b → (p : ℕ) (c d : Told) → p < length (network_of b.network).instances → c ≡ slice_index_or b.cells p d → slice_get b.cells p ≡ Some c
+found b laid p c d l is = by (got b.cells p (subst (λ n. p < n) (sym laid.count) l))
+  where
+    or_else : (xs : List Told) (i : ℕ) (x : Told) → slice_get xs i ≡ Some x → slice_index_or xs i d ≡ x
+    or_else [] i x e = absurd cc
+    or_else (y ∷ xs) zero x e = some_one e
+    or_else (y ∷ xs) (suc i) x e = or_else xs i x e
+
+    by : (x : Told) × (slice_get b.cells p ≡ Some x) → slice_get b.cells p ≡ Some c
+    by g = g.1 ∙ ap Some (sym (is ∙ or_else b.cells p g.0 g.1))
+
+module _ (b : Table) (laid : IsLaid b) (p : ℕ) (c : Told) (at : slice_get b.cells p ≡ Some c) where
+  abbrev lent : Queues
+  lent = record { network = b.queues.network; input = b.queues.input; instance = p; queues = b.queues.queues }
+
+  seated : IsSeated b p c
+  seated = laid.each p c at
+
+  pub code_is : b.code ≡ c.network
+  code_is = laid.code ∙ sym seated.network
+
+  pub here_is : c.instance < length (network_of c.network).instances
+  here_is =
+      subst (λ t. c.instance < length (network_of t).instances) (sym seated.network)
+      (subst (λ i. i < length (network_of b.network).instances) (sym seated.instance) (subst (λ n. p < n) laid.count (within_get b.cells p c at)))
+
+  pub ports_are : (q : Queues) → q ≡ lent → ports_of q ≡ seat_of c
+  ports_are q is =
+      ap ports_of is ∙
+      ap (λ t. let s : Seat = record { network = t; input = b.queues.input; instance = p } in s) (laid.network ∙ sym seated.network) ∙
+      ap (λ t. let s : Seat = record { network = c.network; input = t; instance = p } in s) (laid.input ∙ sym seated.input) ∙
+      ap (λ t. let s : Seat = record { network = c.network; input = c.input; instance = t } in s) (sym seated.instance)
+
+  pub at_is : (q : Queues) → q ≡ lent → IsAt c (λ r. next_at q.queues (actual_of q r))
+  at_is q is = subst (λ (x : Queues). IsAt c (λ r. next_at x.queues (actual_of x r))) (sym is) seated.at
+
+  module _ (c' : Told) (q q' : Queues) (is : q ≡ lent) (same : IsSame c c') (seat : ports_of q' ≡ seat_of c')
+      (stands : IsAt c' (λ r. next_at q'.queues (actual_of q' r))) (leaves : Leaves (ports_of q) (place_at q) (place_at q')) where
+    pub laid_now : IsLaid (ran b p c' q')
+    laid_now = laid_after b laid p c c' q' at same seat stands (subst (λ (x : Queues). Leaves (ports_of x) (place_at x) (place_at q')) is leaves)
+
+    mine : IsSeated (ran b p c' q') p c'
+    mine = laid_now.each p c' (set_here b.cells p c' (within_get b.cells p c at))
+
+    own_actual : (r : ℕ) → actual_of q' r ≡ actual_at (instance_at (network_of b.network) p) r
+    own_actual r =
+        ap (λ (s : Seat). actual_at (instance_at (network_of s.network) s.instance) r) seat ∙
+        ap (λ t. actual_at (instance_at (network_of t) c'.instance) r) mine.network ∙
+        ap (λ i. actual_at (instance_at (network_of b.network) i) r) mine.instance
+
+    module _ (counted : AreCounted q') (quantum : ℕ) (z : Pause)
+        (paused : code.Paused (network_of c'.network) (inputs_of c'.input) c'.watch c'.instance (told_view c')
+            (IsPause (network_of c'.network) c'.instance
+            (λ r. (d : ℕ) → actual_of q' r ≡ Reads d → waiting_of (slice_get q'.queues d) ≡ 0)
+            (λ r. (d : ℕ) → actual_of q' r ≡ Reads d → 0 < waiting_of (slice_get q'.queues d))
+            (c'.events ≡ c.events + quantum) z)) where
+      abbrev now : State
+      now = state_of (ran b p c' q')
+
+      abbrev dry : ℕ → Type 0
+      dry r = (d : ℕ) → actual_of q' r ≡ Reads d → waiting_of (slice_get q'.queues d) ≡ 0
+
+      abbrev ready : ℕ → Type 0
+      ready r = (d : ℕ) → actual_of q' r ≡ Reads d → 0 < waiting_of (slice_get q'.queues d)
+
+      paused_here : code.Paused (network_of b.network) (inputs_of b.input) b.watch p (told_view c')
+          (IsPause (network_of b.network) p dry ready (c'.events ≡ c.events + quantum) z)
+      paused_here =
+          subst (λ i. code.Paused (network_of b.network) (inputs_of b.input) b.watch i (told_view c') (IsPause (network_of b.network) i dry ready (c'.events ≡ c.events + quantum) z)) mine.instance
+          (subst (λ w. code.Paused (network_of b.network) (inputs_of b.input) w c'.instance (told_view c') (IsPause (network_of b.network) c'.instance dry ready (c'.events ≡ c.events + quantum) z)) mine.watch
+          (subst (λ l. code.Paused (network_of b.network) (inputs_of l) c'.watch c'.instance (told_view c') (IsPause (network_of b.network) c'.instance dry ready (c'.events ≡ c.events + quantum) z)) mine.input
+          (subst (λ t. code.Paused (network_of t) (inputs_of c'.input) c'.watch c'.instance (told_view c') (IsPause (network_of t) c'.instance dry ready (c'.events ≡ c.events + quantum) z)) mine.network paused)))
+
+      pub paused_now : Paused now p z
+      paused_now =
+          bridge now p dry ready (c'.events ≡ c.events + quantum)
+          (λ n r T e. dry_reads b.network laid.wired n p r T e)
+          (λ r d e h. took_all (ran b p c' q') laid_now counted p r d e (h d (own_actual r ∙ e)))
+          (λ r d e h. left_some (ran b p c' q') laid_now counted p r d e (h d (own_actual r ∙ e)))
+          (told_view c') z (view_after b p c c' q' at)
+          (λ r s d e f. (reads_once b.network laid.wired p r p s d e f).1) paused_here
+
+    before : (view_at (state_of b).cells p).events ≡ c.events
+    before = ap (λ v. v.events) (viewed b laid p c at)
+
+    after : (view_at (state_of (ran b p c' q')).cells p).events ≡ c'.events
+    after = ap (λ v. v.events) (view_after b p c c' q' at)
+
+    pub events_now : (quantum : ℕ) → (c.events ≤ c'.events) × (c'.events ≤ c.events + quantum) →
+        (events_at (state_of b) p ≤ events_at (state_of (ran b p c' q')) p) × (events_at (state_of (ran b p c' q')) p ≤ events_at (state_of b) p + quantum)
+    events_now quantum h =
+        let x = before in
+        let y = after in
+        let l = h.0 in
+        let m = h.1 in
+        (omega (arith, x, y, l), omega (arith, x, y, m))
+
+    pub still_now : (c'.events ≡ c.events → IsStill c c') → events_at (state_of (ran b p c' q')) p ≡ events_at (state_of b) p →
+        state_of (ran b p c' q') ≡ state_of b
+    still_now h e = let s = sym after ∙ e ∙ before in still_after b p c c' q' at s (h s)
+
+    pub spent_now : (quantum : ℕ) (dry ready : ℕ → Type 0) (z : Pause) →
+        code.Paused (network_of c'.network) (inputs_of c'.input) c'.watch c'.instance (told_view c') (IsPause (network_of c'.network) c'.instance dry ready (c'.events ≡ c.events + quantum) z) →
+        z ≡ pause.Spent → events_at (state_of (ran b p c' q')) p ≡ events_at (state_of b) p + quantum
+    spent_now quantum dry ready z h e =
+        let s = (subst (λ z. IsPause (network_of c'.network) c'.instance dry ready (c'.events ≡ c.events + quantum) z (exec_on (network_of c'.network) c'.events c'.instance h.stood.tapes).outcome) e h.is).0 in
+        let x = before in
+        let y = after in
+        omega (arith, s, x, y)
+
+    pub wanted_now : (quantum : ℕ) (dry ready : ℕ → Type 0) (z : Pause) →
+        code.Paused (network_of c'.network) (inputs_of c'.input) c'.watch c'.instance (told_view c') (IsPause (network_of c'.network) c'.instance dry ready (c'.events ≡ c.events + quantum) z) →
+        c'.events ≤ c.events + quantum → z ≡ pause.NoMemory → events_at (state_of (ran b p c' q')) p < events_at (state_of b) p + quantum
+    wanted_now quantum dry ready z h most e =
+        let s = (subst (λ z. IsPause (network_of c'.network) c'.instance dry ready (c'.events ≡ c.events + quantum) z (exec_on (network_of c'.network) c'.events c'.instance h.stood.tapes).outcome) e h.is).1 in
+        let x = before in
+        let y = after in
+        let l : c'.events < c.events + quantum = less c'.events (c.events + quantum) most s in
+        omega (arith, l, x, y)
+      where
+        less : (m n : ℕ) → m ≤ n → (m ≡ n → ⊥) → m < n
+        less zero zero le other = absurd (other refl)
+        less zero (suc n) le other = omega arith
+        less (suc m) zero le other = absurd (omega (arith, le))
+        less (suc m) (suc n) le other = let r = less m n (omega (arith, le)) (λ e. other (ap suc e)) in omega (arith, r)

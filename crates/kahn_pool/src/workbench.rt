@@ -1,0 +1,183 @@
+//! The cells of a network over its plain queues.
+
+ghost use Rattle.kahn_check.specs.Network.{network_of};
+ghost use Rattle.kahn_pool.specs.Bench.{all_events};
+ghost use Rattle.kahn_streams.specs.Tokens.{Lists};
+ghost use Rattle.kahn_pool.specs.Workbench.{Table, AreOpen, AreOpening, AreKeptOf, AreReady, state_of};
+ghost use Rattle.std.specs.Prelude.{◌≡◌, ◌≤◌, ℕ, [], length, map, IfOk, vec_capacity};
+
+use crate::answer::Stream;
+use crate::bench::Bench;
+use crate::streams::{empty_streams, fill, watched_input};
+use kahn_check::network::Network;
+use kahn_code::cell::{Cell, Kept};
+use kahn_code::code::{Code, CodeFault, compile};
+use kahn_code::plain::Plain;
+use kahn_code::progress::Pause;
+use kahn_code::steps::Steps;
+use kahn_streams::input::Input;
+use std::alloc::Global;
+use std::marker::Model;
+use std::sync::ledger::Ledger;
+
+/// The cells of a network over its plain queues, with room for all that the answer of a run wants.
+#[derive(Drop)]
+pub struct Workbench<'n, L: Ledger> {
+    network: &'n Network,
+    input: &'n Input,
+    watch: Option<usize>,
+    code: Code,
+    cells: Vec<Cell>,
+    queues: Plain<Global>,
+    steps: Steps<L>,
+    streams: Vec<Stream>,
+    kept: Vec<Kept>,
+}
+
+impl<'n, L: Ledger> Model for Workbench<'n, L> {
+    ghost use Rattle.kahn_syntax.specs.contracts.tree.Action as action;
+    ghost use Rattle.kahn_syntax.specs.contracts.tree.Form as form;
+    ghost use Rattle.std.specs.Coded.{codes};
+    ghost use Rattle.std.specs.Prelude.{vec_capacity};
+    ghost use Rattle.kahn_pool.specs.Workbench.{Table, IsLaid, AreReady};
+
+    ghost Value = { Table };
+
+    ghost coded = { Prim.hlevel (codes, action.the_row.coded, form.the_row.coded) };
+
+    ghost view = { λ b. record { network = b.network.now; input = b.input.now; watch = b.watch; code = b.code.network.value; cells = b.cells.items; queues = b.queues } };
+
+    ghost invariant = { λ b.
+        IsLaid (record { network = b.network.now; input = b.input.now; watch = b.watch; code = b.code.network.value; cells = b.cells.items; queues = b.queues })
+        × AreReady b.network.now b.input.now b.watch b.streams.items b.kept.items (vec_capacity b.kept) };
+}
+
+// The cells of all instances at their openings, for the input that is named.
+fn named_cells(
+    alloc: Global,
+    network: &Network,
+    code: &Code,
+    _input: &Input,
+    watch: Option<usize>,
+) -> Result<Vec<Cell>, CodeFault>
+    ghost input: { Lists }
+    requires code { code.now.network.value ≡ network.now }
+    ensures { IfOk result (λ cells. AreOpening network.now input watch cells.items (length (network_of network.now).instances)) }
+{
+    let mut cells = Vec::new(alloc);
+    for instance in 0..network.instances() {
+        cells.push(Cell::new(alloc, code, instance, watch)?)?;
+    }
+    Ok(cells)
+}
+
+// The cells of all instances at their openings.
+fn opening_cells(
+    alloc: Global,
+    network: &Network,
+    code: &Code,
+    input: &Input,
+    watch: Option<usize>,
+) -> Result<Vec<Cell>, CodeFault>
+    requires code { code.now.network.value ≡ network.now }
+    ensures { IfOk result (λ cells. AreOpening network.now input.now watch cells.items (length (network_of network.now).instances)) }
+{
+    named_cells(alloc, network, code, input, watch)
+}
+
+// The streams of an answer, in which a watched input channel has its whole list.
+fn opening_streams(
+    alloc: Global,
+    network: &Network,
+    input: &Input,
+    watch: Option<usize>,
+) -> Result<Vec<Stream>, CodeFault>
+    ensures { IfOk result (λ streams. AreOpen network.now input.now watch streams.items) }
+{
+    let mut streams = empty_streams(alloc, network, watch)?;
+    watched_input(network, input, &mut streams)?;
+    Ok(streams)
+}
+
+// What each cell kept. The list that is given has room for all.
+fn all_kept(cells: Vec<Cell>, mut kept: Vec<Kept>) -> Vec<Kept>
+    requires empty { kept.items ≡ [] }
+    requires room { length cells.items ≤ vec_capacity kept }
+    ensures { AreKeptOf cells.items result.items }
+{
+    for cell in cells {
+        kept.push_reserved(cell.into_lists());
+    }
+    kept
+}
+
+impl<'n, L: Ledger> Workbench<'n, L> {
+    /// All processes at their openings. It refuses only where memory was refused.
+    pub fn new(
+        alloc: Global,
+        network: &'n Network,
+        input: &'n Input,
+        watch: Option<usize>,
+        steps: Steps<L>,
+    ) -> Result<Workbench<'n, L>, CodeFault>
+        ensures names { IfOk result (λ b. (b.network ≡ network.now) × (b.input ≡ input.now) × (b.watch ≡ watch)) }
+        ensures fresh { IfOk result (λ b. all_events (state_of b) ≡ 0) }
+    {
+        let code = compile(alloc, network)?;
+        let cells = opening_cells(alloc, network, &code, input, watch)?;
+        let queues = Plain::new(alloc, network, input)?;
+        let streams = opening_streams(alloc, network, input, watch)?;
+        let kept = Vec::with_capacity(alloc, network.instances())?;
+        let _program = network.program();
+        Ok(Workbench {
+            network,
+            input,
+            watch,
+            code,
+            cells,
+            queues,
+            steps,
+            streams,
+            kept,
+        })
+    }
+}
+
+impl<'n, L: Ledger> Bench for Workbench<'n, L> {
+    ghost use Rattle.kahn_pool.specs.Workbench.{state_of};
+
+    ghost state = { state_of };
+
+    fn instance_count(&self) -> usize {
+        self.network.instances()
+    }
+
+    fn run(&mut self, instance: usize, quantum: u64) -> Pause {
+        self.queues.at(instance);
+        let pause = self.cells[instance].run(&self.code, quantum, &mut self.queues, &mut self.steps);
+        self.queues.counted();
+        pause
+    }
+
+    fn events(&self, instance: usize) -> u64 {
+        self.cells[instance].events()
+    }
+
+    fn channel(&self, instance: usize, parameter: usize) -> usize {
+        match self.queues.channel(instance, parameter) {
+            Some(channel) => channel,
+            None => unreachable!(),
+        }
+    }
+
+    fn within(&self) {
+        self.queues.counted();
+    }
+
+    fn into_streams(self) -> Vec<Stream> {
+        let mut kept = all_kept(self.cells, self.kept);
+        let mut streams = self.streams;
+        fill(self.network, &mut streams, &mut kept);
+        streams
+    }
+}
