@@ -6,3 +6,8 @@ pub mod Final
 pub mod Channels
 pub mod Unique
 pub mod Bridged
+pub mod Named
+pub mod Filled
+pub mod Giving
+pub mod Printing
+pub mod Seen

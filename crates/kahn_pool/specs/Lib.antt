@@ -3,3 +3,4 @@ pub mod Gathered
 pub mod Bench
 pub mod Parameters
 pub mod Limits
+pub mod Streams

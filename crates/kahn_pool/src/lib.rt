@@ -7,3 +7,4 @@ pub mod config;
 pub mod gate;
 pub mod laws;
 pub mod rounds;
+pub mod streams;
