@@ -139,6 +139,7 @@ impl<A: Allocator + Copy + Drop> Cell<A> {
     pub fn into_lists(self) -> Kept<A>
         ensures kept { map (λ v. v.items) result.kept.items ≡ self.kept }
         ensures printed { result.printed.items ≡ self.printed }
+        ensures parameters { length result.kept.items ≡ length (instance_at (network_of self.network) self.instance).actuals }
     {
         Kept {
             kept: self.progress.kept,

@@ -291,7 +291,7 @@ not_none e = cc
 
 -- ---- one run of a cell
 
-within_get : {X : Type 0} (xs : List X) (i : ℕ) (x : X) → slice_get xs i ≡ Some x → i < length xs
+pub within_get : {X : Type 0} (xs : List X) (i : ℕ) (x : X) → slice_get xs i ≡ Some x → i < length xs
 within_get [] i x e = absurd cc
 within_get (y ∷ xs) zero x e = omega arith
 within_get (y ∷ xs) (suc i) x e = let r = within_get xs i x e in omega (arith, r)
@@ -348,10 +348,10 @@ module _ (b : Table) (laid : IsLaid b) (p : ℕ) (c : Told) (at : slice_get b.ce
 
     module _ (counted : AreCounted q') (quantum : ℕ) (z : Pause)
         (paused : code.Paused (network_of c'.network) (inputs_of c'.input) c'.watch c'.instance (told_view c')
-            (IsPause (network_of c'.network) c'.instance
-            (λ r. (d : ℕ) → actual_of q' r ≡ Reads d → waiting_of (slice_get q'.queues d) ≡ 0)
-            (λ r. (d : ℕ) → actual_of q' r ≡ Reads d → 0 < waiting_of (slice_get q'.queues d))
-            (c'.events ≡ c.events + quantum) z)) where
+        (IsPause (network_of c'.network) c'.instance
+        (λ r. (d : ℕ) → actual_of q' r ≡ Reads d → waiting_of (slice_get q'.queues d) ≡ 0)
+        (λ r. (d : ℕ) → actual_of q' r ≡ Reads d → 0 < waiting_of (slice_get q'.queues d))
+        (c'.events ≡ c.events + quantum) z)) where
       abbrev now : State
       now = state_of (ran b p c' q')
 

@@ -1,5 +1,6 @@
 -- Cells at their openings over queues from which nothing was taken.
 use Rattle.std.proofs.Common.{arith, ◌≡◌, ◌⊎◌, inl, inr, ℕ, zero, suc, ◌+◌, ◌<◌, ◌≤◌, List, [], ◌∷◌, ◌++◌, length, map, replicate, sum_by, refl, sym, ap, ◌∙◌, subst, Option, Some, None, slice_get, slice_index_or, Bool, true, false}
+use Rattle.std.proofs.lemmas.List.Sums.{sum_by-cons}
 use Rattle.kahn_syntax.specs.declared.tree.Program.{Program}
 use Rattle.kahn_syntax.specs.declared.tree.Role.{Role}
 use Rattle.kahn_syntax.specs.declared.tree.Role.TheVariants.{Inner, Input, Output}
@@ -118,4 +119,5 @@ no_events [] h = refl
 no_events (c ∷ cells) h =
     let a = h zero c refl in
     let b = no_events cells (λ p x e. h (suc p) x e) in
-    ap (λ n. n + sum_by view_events (map told_view cells)) a ∙ b
+    let s : sum_by view_events (map told_view (c ∷ cells)) ≡ c.events + sum_by view_events (map told_view cells) = sum_by-cons view_events (told_view c) (map told_view cells) in
+    omega (arith, s, a, b)

@@ -8,3 +8,9 @@ pub mod Unique
 pub mod Bridged
 pub mod Benched
 pub mod Laid
+pub mod Named
+pub mod Filled
+pub mod Giving
+pub mod Printing
+pub mod Seen
+pub mod Kept_sizes

@@ -4,3 +4,4 @@ pub mod Bench
 pub mod Parameters
 pub mod Limits
 pub mod Workbench
+pub mod Streams

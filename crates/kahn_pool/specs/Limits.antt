@@ -1,5 +1,15 @@
 -- The limits on the numbers of a run (this project's profile).
 use Rattle.std.specs.Prelude.{ℕ, ◌≤◌, ◌<◌, ◌^◌}
+use Rattle.kahn_pool.specs.declared.config.RunFault.{RunFault}
+use Rattle.kahn_pool.specs.declared.config.RunFault.TheVariants as fault
 
 abbrev pub IsInRange : ℕ → ℕ → ℕ → Type 0
 IsInRange workers quantum bound = (1 ≤ workers) × (workers ≤ 16) × (1 ≤ quantum) × (quantum ≤ 1000000) × (bound < 2 ^ 48)
+
+-- why a run on one thread is refused
+abbrev pub IsRefused : ℕ → RunFault → Type 0
+IsRefused bound fault.BadConfig = 2 ^ 48 ≤ bound
+IsRefused bound fault.NoMemory = bound < 2 ^ 48
+IsRefused bound fault.UnknownWatch = ⊥
+IsRefused bound fault.NoThread = ⊥
+IsRefused bound fault.Stalled = ⊥

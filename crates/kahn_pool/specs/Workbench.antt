@@ -1,18 +1,15 @@
 -- The cells of a network over its plain queues, as a run on one thread has them.
 use Rattle.std.specs.Prelude.{◌≡◌, ℕ, ◌<◌, ◌≤◌, List, [], length, map, replicate, Option, Some, slice_get}
 use Rattle.kahn_syntax.specs.declared.tree.Program.{Program}
-use Rattle.kahn_check.specs.Network.{network_of, instance_at, Given}
+use Rattle.kahn_check.specs.Network.{network_of, instance_at}
 use Rattle.kahn_check.specs.Wiring.{IsWellWired}
 use Rattle.kahn_streams.specs.Tokens.{Lists, inputs_of}
 use Rattle.kahn_code.specs.Lines.{Lines as Queues, place_at}
 use Rattle.kahn_code.specs.Told.{Told, told_view, IsAt}
-use Rattle.kahn_code.specs.Cells.{IsKept}
 use Rattle.kahn_code.specs.declared.cell.Kept.{Kept}
-use Rattle.kahn_streams.specs.declared.token.Token.{Token}
-use Rattle.kahn_streams.specs.declared.value.Line.TheVariants.{Channel}
-use Rattle.kahn_streams.specs.Solution.{source}
 use Rattle.kahn_pool.specs.Bench.{State}
 use Rattle.kahn_pool.specs.Right.{line_of, stream_lines}
+use Rattle.kahn_pool.specs.Streams.{HasInputs, kept_lists, printed_list}
 use Rattle.kahn_pool.specs.declared.answer.Stream.{Stream}
 
 -- the program and the input, the watched channel, the program of the code, the cells and the queues
@@ -60,11 +57,10 @@ pub record AreOpening (t : Program) (lists : Lists) (watch : Option ℕ) (cells 
   pub count : length cells ≡ n
   pub each : (p : ℕ) (c : Told) → slice_get cells p ≡ Some c → IsOpening t lists watch p c
 
--- the streams of an answer before any token was moved: an input channel has its whole list
+-- the streams of an answer before any cell's token was moved there: an input channel has its whole list
 pub record AreOpen (t : Program) (lists : Lists) (watch : Option ℕ) (streams : List Stream) : Type 0 where
   pub lines : map line_of streams ≡ stream_lines (network_of t) watch
-  pub given : (j c : ℕ) (x : Stream) → slice_get streams j ≡ Some x → x.line ≡ Channel c → source (network_of t) (Channel c) ≡ Given →
-      IsKept (Channel c) (inputs_of lists c) x.tokens.items
+  pub given : HasInputs (network_of t) (inputs_of lists) streams
 
 -- there are streams, and room for what each cell kept
 pub record AreReady {A : Type 0} (t : Program) (lists : Lists) (watch : Option ℕ) (streams : List Stream) (kept : List A) (room : ℕ) : Type 0 where
@@ -72,13 +68,14 @@ pub record AreReady {A : Type 0} (t : Program) (lists : Lists) (watch : Option �
   pub empty : kept ≡ []
   pub enough : length (network_of t).instances ≤ room
 
-abbrev pub kept_on : {A : Type 0} → Kept A → List (List Token)
-kept_on k = map (λ v. v.items) k.kept.items
+abbrev pub parameters_of : {A : Type 0} → Kept A → ℕ
+parameters_of k = length k.kept.items
 
-abbrev pub printed_on : {A : Type 0} → Kept A → List Token
-printed_on k = k.printed.items
+abbrev pub actuals_of : Told → ℕ
+actuals_of c = length (instance_at (network_of c.network) c.instance).actuals
 
 -- these are the lists that the cells kept
 pub record AreKeptOf {A : Type 0} (cells : List Told) (kept : List (Kept A)) : Type 0 where
-  pub sent : map kept_on kept ≡ map (λ (c : Told). c.kept) cells
-  pub printed : map printed_on kept ≡ map (λ (c : Told). c.printed) cells
+  pub sent : map kept_lists kept ≡ map (λ (c : Told). c.kept) cells
+  pub printed : map printed_list kept ≡ map (λ (c : Told). c.printed) cells
+  pub parameters : map parameters_of kept ≡ map actuals_of cells

@@ -3,6 +3,7 @@
 ghost use Rattle.std.specs.Prelude.{◌↔◌, IsTrue};
 ghost use Rattle.kahn_pool.specs.Limits.{IsInRange};
 
+use kahn_code::code::CodeFault;
 use kahn_streams::memory::NoMemory;
 use thiserror::Error;
 
@@ -59,6 +60,17 @@ pub enum RunFault {
     /// The workers left and the run neither finished nor reached its bound nor wanted memory.
     #[error("workers stalled")]
     Stalled,
+}
+
+impl From<CodeFault> for RunFault {
+    ghost use Rattle.std.specs.Prelude.{◌≡◌};
+    ghost use Rattle.kahn_pool.specs.declared.config.RunFault.TheVariants.{NoMemory as Wants};
+
+    ghost from_gives = { λ _ e. e ≡ Wants };
+
+    fn from(_error: CodeFault) -> RunFault {
+        RunFault::NoMemory
+    }
 }
 
 impl From<NoMemory> for RunFault {

@@ -6,6 +6,7 @@ pub mod bench;
 pub mod config;
 pub mod gate;
 pub mod laws;
+pub mod one;
 pub mod rounds;
 pub mod streams;
 pub mod workbench;

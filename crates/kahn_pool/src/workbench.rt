@@ -154,7 +154,12 @@ impl<'n, L: Ledger> Bench for Workbench<'n, L> {
 
     fn run(&mut self, instance: usize, quantum: u64) -> Pause {
         self.queues.at(instance);
-        let pause = self.cells[instance].run(&self.code, quantum, &mut self.queues, &mut self.steps);
+        let pause = self.cells[instance].run(
+            &self.code,
+            quantum,
+            &mut self.queues,
+            &mut self.steps,
+        );
         self.queues.counted();
         pause
     }

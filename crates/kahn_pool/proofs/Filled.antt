@@ -1,0 +1,246 @@
+-- Streams filled from the lists of the cells, one by one.
+use Rattle.std.proofs.Common.{arith, ◌≡◌, ◌⊎◌, inl, inr, ℕ, zero, suc, ◌<◌, ◌≤◌, List, [], ◌∷◌, length, map, Some, refl, sym, ap, ◌∙◌, subst, slice_get, slice_set, slice_index_or}
+use Rattle.std.proofs.lemmas.List.{map-set, length-map, length-set, get_or-set_same, get_or-set_other, get_or-map}
+use Rattle.std.proofs.lemmas.Option.{slice_get_within, slice_get-get_or}
+use Rattle.kahn_streams.specs.declared.value.Line.{Line}
+use Rattle.kahn_streams.specs.declared.value.Line.TheVariants.{Channel, Print}
+use Rattle.kahn_streams.specs.declared.token.Token.{Token}
+use Rattle.kahn_streams.specs.Solution.{source}
+use Rattle.kahn_check.specs.Network.{Network, Writes, Source, Given, Written, Nobody, instance_at, actual_at}
+use Rattle.kahn_code.specs.declared.cell.Kept.{Kept}
+use Rattle.kahn_code.specs.Cells.{IsKept}
+use Rattle.kahn_pool.specs.declared.answer.Stream.{Stream}
+use Rattle.kahn_pool.specs.Bench.{State, AreStreams}
+use Rattle.kahn_pool.specs.Gathered.{view_at, IsFrom}
+use Rattle.kahn_pool.specs.Right.{line_of, stream_lines}
+use Rattle.kahn_pool.specs.Streams.{AreNamed, IsDeclared, IsFilled, AreFilled, AreLists, KeepsOthers, HasInputs, kept_lists, kept_in, printed_list, printed_in}
+use Rattle.kahn_pool.proofs.Named.{HasLine, has_line, line_at, stream_before, declared, once}
+
+-- ---- numbers that are one or differ
+
+same_or : (a b : ℕ) → (a ≡ b) ⊎ (a ≡ b → ⊥)
+same_or zero zero = inl refl
+same_or zero (suc b) = inr (λ e. omega (arith, e))
+same_or (suc a) zero = inr (λ e. omega (arith, e))
+same_or (suc a) (suc b) = by (same_or a b)
+  where
+    by : (a ≡ b) ⊎ (a ≡ b → ⊥) → (suc a ≡ suc b) ⊎ (suc a ≡ suc b → ⊥)
+    by (inl e) = inl (ap suc e)
+    by (inr n) = inr (λ e. n (omega (arith, e)))
+
+pub lower : (a b : ℕ) → a < suc b → (a ≡ b → ⊥) → a < b
+lower zero zero h d = absurd (d refl)
+lower zero (suc b) h d = omega arith
+lower (suc a) zero h d = absurd (omega (arith, h))
+lower (suc a) (suc b) h d = let r : a < b = lower a b (omega (arith, h)) (λ e. d (ap suc e)) in omega (arith, r)
+
+-- ---- lists of which one changed
+
+pub set_get : {X : Type 0} (xs : List X) (n j : ℕ) (y z : X) → slice_get (slice_set xs n y) j ≡ Some z → ((j ≡ n) × (y ≡ z)) ⊎ ((j ≡ n → ⊥) × (slice_get xs j ≡ Some z))
+set_get [] n j y z e = absurd cc
+set_get (x ∷ xs) zero zero y z e = inl (refl, same e)
+  where
+    same : Some y ≡ Some z → y ≡ z
+    same f = cc
+set_get (x ∷ xs) zero (suc j) y z e = inr (λ f. omega (arith, f), e)
+set_get (x ∷ xs) (suc n) zero y z e = inr (λ f. omega (arith, f), e)
+set_get (x ∷ xs) (suc n) (suc j) y z e = by (set_get xs n j y z e)
+  where
+    by : ((j ≡ n) × (y ≡ z)) ⊎ ((j ≡ n → ⊥) × (slice_get xs j ≡ Some z)) → ((suc j ≡ suc n) × (y ≡ z)) ⊎ ((suc j ≡ suc n → ⊥) × (slice_get xs j ≡ Some z))
+    by (inl h) = inl (ap suc h.0, h.1)
+    by (inr h) = inr (λ f. h.0 (omega (arith, f)), h.1)
+
+pub set_else : {X : Type 0} (xs : List X) (n j : ℕ) (y : X) → (j ≡ n → ⊥) → slice_get (slice_set xs n y) j ≡ slice_get xs j
+set_else [] n j y f = refl
+set_else (x ∷ xs) zero zero y f = absurd (f refl)
+set_else (x ∷ xs) zero (suc j) y f = refl
+set_else (x ∷ xs) (suc n) zero y f = refl
+set_else (x ∷ xs) (suc n) (suc j) y f = set_else xs n j y (λ e. f (ap suc e))
+
+pub set_lines : (xs : List Stream) (n : ℕ) (x y : Stream) → slice_get xs n ≡ Some x → y.line ≡ x.line → map line_of (slice_set xs n y) ≡ map line_of xs
+set_lines [] n x y e f = refl
+set_lines (z ∷ xs) zero x y e f = let g : x ≡ z = same e in ap (λ l. l ∷ map line_of xs) (f ∙ ap (λ s. s.line) g)
+  where
+    same : Some z ≡ Some x → x ≡ z
+    same h = cc
+set_lines (z ∷ xs) (suc n) x y e f = ap (λ ls. z.line ∷ ls) (set_lines xs n x y e f)
+
+-- ---- one list of a cell changed
+
+module _ {A : Type 0} (N : Network) (ls : List (Kept A)) (p : ℕ) (l l' : Kept A) (here : p < length ls) (at : l ≡ slice_index_or ls p l) where
+  found : slice_get ls p ≡ Some l
+  found = slice_get-get_or ls p l here ∙ ap (λ x. Some x) (sym at)
+
+  -- what is seen of the cell is as before
+  lists_set : {X : Type 0} (f : Kept A → X) (d : X) (r : ℕ) → (p ≡ r → f l' ≡ f l) → slice_index_or (map f (slice_set ls p l')) r d ≡ slice_index_or (map f ls) r d
+  lists_set f d r same = ap (λ xs. slice_index_or xs r d) (map-set f ls p l') ∙ by (same_or r p)
+    where
+      by : (r ≡ p) ⊎ (r ≡ p → ⊥) → slice_index_or (slice_set (map f ls) p (f l')) r d ≡ slice_index_or (map f ls) r d
+      by (inl e) =
+          let a : slice_index_or (slice_set (map f ls) p (f l')) p d ≡ f l' = get_or-set_same (map f ls) p (f l') d (shorter) in
+          let b : slice_index_or (map f ls) p d ≡ f l = get_or-map f ls p l d here ∙ ap f (sym at) in
+          subst (λ k. slice_index_or (slice_set (map f ls) p (f l')) k d ≡ slice_index_or (map f ls) k d) (sym e) (a ∙ (same (sym e) ∙ sym b))
+        where
+          shorter : p < length (map f ls)
+          shorter = let m : length (map f ls) ≡ length ls = length-map ls f in omega (arith, here, m)
+      by (inr n) = get_or-set_other (map f ls) p r (f l') d n
+
+  lists_here : {X : Type 0} (f : Kept A → X) (d : X) → slice_index_or (map f ls) p d ≡ f l
+  lists_here f d = get_or-map f ls p l d here ∙ ap f (sym at)
+
+  same_lists : length l'.kept.items ≡ length l.kept.items → AreLists N ls → AreLists N (slice_set ls p l')
+  same_lists e are = record {
+    count = length-set ls p l' ∙ are.count;
+    parameters = λ r m f. by r m (set_get ls p r l' m f);
+  }
+    where
+      by : (r : ℕ) (m : Kept A) → ((r ≡ p) × (l' ≡ m)) ⊎ ((r ≡ p → ⊥) × (slice_get ls r ≡ Some m)) → length m.kept.items ≡ length (instance_at N r).actuals
+      by r m (inl h) =
+          let f : length l'.kept.items ≡ length (instance_at N p).actuals = e ∙ are.parameters p l found in
+          subst (λ k. length m.kept.items ≡ length (instance_at N k).actuals) (sym h.0) (subst (λ x. length x.kept.items ≡ length (instance_at N p).actuals) h.1 f)
+      by r m (inr h) = are.parameters r m h.1
+
+  -- the list of a parameter that writes channel c is taken
+  pub kept_taken : (q c : ℕ) (before after : List Token) → actual_at (instance_at N p) q ≡ Writes c →
+      kept_lists l' ≡ slice_set (kept_lists l) q before → l'.printed ≡ l.printed → after ≡ slice_index_or (kept_lists l) q [] → AreLists N ls →
+      AreLists N (slice_set ls p l') × (after ≡ kept_in ls p q) × KeepsOthers N (Channel c) ls (slice_set ls p l')
+  kept_taken q c before after w e f g are =
+      (same_lists size are, g ∙ ap (λ xs. slice_index_or xs q []) (sym (lists_here kept_lists [])), λ d n. others d n)
+    where
+      size : length l'.kept.items ≡ length l.kept.items
+      size = sym (length-map l'.kept.items (λ v. v.items)) ∙ (ap length e ∙ (length-set (kept_lists l) q before ∙ length-map l.kept.items (λ v. v.items)))
+
+      other_kept : (r s : ℕ) → (p ≡ r → q ≡ s → ⊥) → kept_in (slice_set ls p l') r s ≡ kept_in ls r s
+      other_kept r s n = by (same_or r p)
+        where
+          by : (r ≡ p) ⊎ (r ≡ p → ⊥) → kept_in (slice_set ls p l') r s ≡ kept_in ls r s
+          by (inl h) = subst (λ k. kept_in (slice_set ls p l') k s ≡ kept_in ls k s) (sym h) (a ∙ sym b)
+            where
+              a : kept_in (slice_set ls p l') p s ≡ slice_index_or (kept_lists l) s []
+              a = ap (λ xs. slice_index_or xs s []) (new_here ∙ e) ∙ get_or-set_other (kept_lists l) q s before [] (λ k. n (sym h) (sym k))
+                where
+                  new_here : slice_index_or (map kept_lists (slice_set ls p l')) p [] ≡ kept_lists l'
+                  new_here = get_or-map kept_lists (slice_set ls p l') p l' [] (let k : length (slice_set ls p l') ≡ length ls = length-set ls p l' in omega (arith, here, k))
+                      ∙ ap kept_lists (get_or-set_same ls p l' l' here)
+
+              b : kept_in ls p s ≡ slice_index_or (kept_lists l) s []
+              b = ap (λ xs. slice_index_or xs s []) (lists_here kept_lists [])
+          by (inr h) = ap (λ xs. slice_index_or xs s []) (lists_set kept_lists [] r (λ k. absurd (h (sym k))))
+
+      others : (d : Line) → (d ≡ Channel c → ⊥) → (ts us : List Token) → IsFilled N (slice_set ls p l') (source N d) d ts us → IsFilled N ls (source N d) d ts us
+      others d n ts us = by d n (source N d)
+        where
+          by : (d : Line) → (d ≡ Channel c → ⊥) → (o : Source) → IsFilled N (slice_set ls p l') o d ts us → IsFilled N ls o d ts us
+          by d n Given h = h
+          by d n Nobody h = h
+          by (Print r) n (Written t) h = h ∙ lists_set printed_list [] t (λ k. ap (λ v. v.items) f)
+          by (Channel b) n (Written t) (s, v, h) = (s, v, h ∙ other_kept t s (λ j k. n (ap Channel (same (sym v ∙ (subst (λ i. actual_at (instance_at N t) i ≡ Writes c) k (subst (λ i. actual_at (instance_at N i) q ≡ Writes c) j w)))))))
+            where
+              same : Writes b ≡ Writes c → b ≡ c
+              same k = cc
+
+  -- the list of the print stream is taken
+  pub printed_taken : (after : List Token) → l'.kept ≡ l.kept → after ≡ l.printed.items → AreLists N ls →
+      AreLists N (slice_set ls p l') × (after ≡ printed_in ls p) × KeepsOthers N (Print p) ls (slice_set ls p l')
+  printed_taken after e f are =
+      (same_lists (ap (λ v. length v.items) e) are, f ∙ sym (lists_here printed_list []), λ d n. others d n)
+    where
+      others : (d : Line) → (d ≡ Print p → ⊥) → (ts us : List Token) → IsFilled N (slice_set ls p l') (source N d) d ts us → IsFilled N ls (source N d) d ts us
+      others (Print r) n ts us h = h ∙ lists_set printed_list [] r (λ k. absurd (n (ap Print (sym k))))
+      others (Channel b) n ts us h = by (source N (Channel b)) h
+        where
+          by : (o : Source) → IsFilled N (slice_set ls p l') o (Channel b) ts us → IsFilled N ls o (Channel b) ts us
+          by Given h = h
+          by Nobody h = h
+          by (Written t) (s, v, h) = (s, v, h ∙ ap (λ xs. slice_index_or xs s []) (lists_set kept_lists [] t (λ k. ap (λ v. map (λ u. u.items) v.items) e)))
+
+-- ---- the first streams are filled
+
+pub record Filling {A : Type 0} (N : Network) (ls : List (Kept A)) (old : List Stream) (ks : List (Kept A)) (now : List Stream) (n : ℕ) : Type 0 where
+  pub named : AreNamed N old
+  pub lines : map line_of now ≡ map line_of old
+  pub lists : AreLists N ks
+  pub done : (j : ℕ) (x y : Stream) → j < n → slice_get old j ≡ Some x → slice_get now j ≡ Some y → IsFilled N ls (source N y.line) y.line x.tokens.items y.tokens.items
+  pub rest : (j : ℕ) → n ≤ j → slice_get now j ≡ slice_get old j
+  -- the lists of the further lines are as at first
+  pub held : (j : ℕ) (x : Stream) → n ≤ j → slice_get old j ≡ Some x → (ts us : List Token) →
+      IsFilled N ks (source N x.line) x.line ts us → IsFilled N ls (source N x.line) x.line ts us
+
+pub filling_starts : {A : Type 0} (N : Network) (ls : List (Kept A)) (old : List Stream) → AreNamed N old → AreLists N ls → Filling N ls old ls old 0
+filling_starts N ls old named lists = record {
+  named = named;
+  lines = refl;
+  lists = lists;
+  done = λ j x y l e f. absurd (omega (arith, l));
+  rest = λ j l. refl;
+  held = λ j x l e ts us h. h;
+}
+
+module _ {A : Type 0} (N : Network) (ls : List (Kept A)) (old : List Stream) (ks : List (Kept A)) (now : List Stream) (n : ℕ) (f : Filling N ls old ks now n) where
+  pub next_declared : (x : Stream) → slice_get now n ≡ Some x → IsDeclared N x.line
+  next_declared x e = declared N old n x f.named (sym (f.rest n (omega arith)) ∙ e)
+
+  pub filling_goes : (ks' : List (Kept A)) (x y : Stream) → slice_get now n ≡ Some x → y.line ≡ x.line → AreLists N ks' →
+      IsFilled N ks (source N x.line) x.line x.tokens.items y.tokens.items → KeepsOthers N x.line ks ks' → Filling N ls old ks' (slice_set now n y) (suc n)
+  filling_goes ks' x y e same lists filled others = record {
+    named = f.named;
+    lines = set_lines now n x y e same ∙ f.lines;
+    lists = lists;
+    done = λ j u v l a b. done_at j u v l a (set_get now n j y v b);
+    rest = λ j l. set_else now n j y (λ k. omega (arith, k, l)) ∙ f.rest j (omega (arith, l));
+    held = λ j u l a ts us h. f.held j u (omega (arith, l)) a ts us (others u.line (λ k. apart j u l a k) ts us h);
+  }
+    where
+      at_first : slice_get old n ≡ Some x
+      at_first = sym (f.rest n (omega arith)) ∙ e
+
+      apart : (j : ℕ) (u : Stream) → suc n ≤ j → slice_get old j ≡ Some u → u.line ≡ x.line → ⊥
+      apart j u l a k = let m : j ≡ n = once N old j n u x f.named a at_first k in omega (arith, l, m)
+
+      done_at : (j : ℕ) (u v : Stream) → j < suc n → slice_get old j ≡ Some u → ((j ≡ n) × (y ≡ v)) ⊎ ((j ≡ n → ⊥) × (slice_get now j ≡ Some v)) →
+          IsFilled N ls (source N v.line) v.line u.tokens.items v.tokens.items
+      done_at j u v l a (inr h) = f.done j u v (lower j n l h.0) a h.1
+      done_at j u v l a (inl h) =
+          subst (λ w. IsFilled N ls (source N w.line) w.line u.tokens.items w.tokens.items) h.1
+          (subst (λ d. IsFilled N ls (source N d) d u.tokens.items y.tokens.items) (sym same)
+          (subst (λ w. IsFilled N ls (source N x.line) x.line w.tokens.items y.tokens.items) one (f.held n x (omega arith) at_first x.tokens.items y.tokens.items filled)))
+        where
+          one : x ≡ u
+          one = some_stream (sym at_first ∙ (ap (slice_get old) (sym h.0) ∙ a))
+            where
+              some_stream : Some x ≡ Some u → x ≡ u
+              some_stream k = cc
+
+  pub filling_ends : n ≡ length now → AreFilled N ls old now
+  filling_ends e = record { lines = f.lines; each = λ j x y a b. f.done j x y (let l : j < length now = slice_get_within now j y b in omega (arith, e, l)) a b }
+
+-- ---- the streams of an answer
+
+-- streams that are filled from the lists of these cells are those of the answer
+module _ {A : Type 0} (s : State) (ls : List (Kept A)) (old new : List Stream)
+    (named : map line_of old ≡ stream_lines s.network s.watch)
+    (filled : AreFilled s.network ls old new)
+    (kept : (p q : ℕ) → kept_in ls p q ≡ (view_at s.cells p).kept q)
+    (printed : (p : ℕ) → printed_in ls p ≡ (view_at s.cells p).printed)
+    (given : HasInputs s.network s.input old) where
+  pub are_streams : AreStreams s new (stream_lines s.network s.watch)
+  are_streams = record { named = filled.lines ∙ named; each = each }
+    where
+      turn : (j : ℕ) (x y : Stream) (d : Line) (o : Source) → slice_get old j ≡ Some x → x.line ≡ d → source s.network d ≡ o → HasLine s.network s.watch d →
+          IsFilled s.network ls o d x.tokens.items y.tokens.items → IsFrom s.network s.input s.watch s.cells o d y.tokens.items
+      turn j x y (Channel c) Given a b e l h = subst (IsKept (Channel c) (s.input c)) (sym h) (given j c x a b e)
+      turn j x y (Channel c) (Written p) a b e l (q, w, h) = (q, w, l.1, h ∙ kept p q)
+      turn j x y (Channel c) Nobody a b e l h = absurd h
+      turn j x y (Print r) Given a b e l h = absurd (differ e)
+        where
+          differ : Written r ≡ Given → ⊥
+          differ k = cc
+      turn j x y (Print r) (Written p) a b e l h = h ∙ printed p
+      turn j x y (Print r) Nobody a b e l h = absurd h
+
+      each : (j : ℕ) (y : Stream) → slice_get new j ≡ Some y → IsFrom s.network s.input s.watch s.cells (source s.network y.line) y.line y.tokens.items
+      each j y e =
+          let x = stream_before old new j y filled.lines e in
+          turn j x.0 y y.line (source s.network y.line) x.1 x.2 refl
+          (has_line s.network s.watch j y.line (line_at new (stream_lines s.network s.watch) j y (filled.lines ∙ named) e))
+          (filled.each j x.0 y x.1 e)

@@ -1,0 +1,191 @@
+-- Streams of input channels, which get the whole list of the input.
+use Rattle.std.proofs.Common.{arith, ◌≡◌, ◌⊎◌, inl, inr, ℕ, suc, ◌+◌, ◌-◌, ◌<◌, ◌≤◌, Bool, true, false, if◌then◌else◌, List, [], ◌∷◌, ◌++◌, length, map, Some, None, refl, sym, ap, ◌∙◌, subst, slice_get, slice_set, append_assoc, append-nil}
+use Rattle.std.specs.List.{All}
+use Rattle.std.proofs.lemmas.List.{length-map, map-append}
+use Rattle.std.proofs.lemmas.Option.{slice_get_within, get_or_from_slice_get}
+use Rattle.kahn_syntax.specs.declared.tree.Role.{Role}
+use Rattle.kahn_syntax.specs.declared.tree.Role.TheVariants.{Inner, Input, Output}
+use Rattle.kahn_streams.specs.declared.value.Value.{Value}
+use Rattle.kahn_streams.specs.declared.value.Line.{Line}
+use Rattle.kahn_streams.specs.declared.value.Line.TheVariants.{Channel, Print}
+use Rattle.kahn_streams.specs.declared.token.Token.{Token}
+use Rattle.kahn_streams.specs.Solution.{Inputs, source, IsPrefix}
+use Rattle.kahn_check.specs.Network.{Network, Instance, Source, Given, Written, Nobody, any_written, first_writer, source_by, channel_source, role_at}
+use Rattle.kahn_code.specs.Cells.{IsKept, token_value}
+use Rattle.kahn_pool.specs.declared.answer.Stream.{Stream}
+use Rattle.kahn_pool.specs.Right.{line_of}
+use Rattle.kahn_pool.specs.Streams.{AreNamed, IsDeclared, IsBare, HasInput, HaveInput, HasInputs}
+use Rattle.kahn_pool.proofs.Named.{declared, stream_before}
+use Rattle.kahn_pool.proofs.Filled.{set_get, set_else, set_lines, lower}
+use Rattle.kahn_pool.proofs.Turns.{push_get}
+
+-- ---- the list of a channel, token by token
+
+-- these tokens begin the list
+pub record IsBegun (c : ℕ) (vs : List Value) (ts : List Token) : Type 0 where
+  pub values : IsPrefix (map token_value ts) vs
+  pub places : (k : ℕ) (t : Token) → slice_get ts k ≡ Some t → (t.line ≡ Channel c) × (t.place ≡ k)
+
+pub begun_none : (c : ℕ) (vs : List Value) (ts : List Token) → ts ≡ [] → IsBegun c vs ts
+begun_none c vs ts e = subst (IsBegun c vs) (sym e) (record { values = (vs, refl); places = λ k t f. absurd cc })
+
+seam : (xs ys : List Value) → slice_get (xs ++ ys) (length xs) ≡ slice_get ys 0
+seam [] ys = refl
+seam (x ∷ xs) ys = seam xs ys
+
+prefix_more : (xs vs : List Value) (v : Value) → IsPrefix xs vs → slice_get vs (length xs) ≡ Some v → IsPrefix (xs ++ v ∷ []) vs
+prefix_more xs vs v (zs, e) f = by zs e
+  where
+    by : (zs : List Value) → vs ≡ xs ++ zs → IsPrefix (xs ++ v ∷ []) vs
+    by [] e = let g : None ≡ Some v = sym (seam xs []) ∙ (ap (λ l. slice_get l (length xs)) (sym e) ∙ f) in absurd cc
+    by (z ∷ zs) e =
+        let g : Some z ≡ Some v = sym (seam xs (z ∷ zs)) ∙ (ap (λ l. slice_get l (length xs)) (sym e) ∙ f) in
+        (zs, e ∙ (ap (λ y. xs ++ y ∷ zs) (same g) ∙ sym (append_assoc xs (v ∷ []) zs)))
+      where
+        same : Some z ≡ Some v → z ≡ v
+        same h = cc
+
+pub begun_more : (c : ℕ) (vs : List Value) (ts us : List Token) (t : Token) (n : ℕ) → IsBegun c vs ts → us ≡ ts ++ t ∷ [] → n ≡ length ts →
+    t.line ≡ Channel c → t.place ≡ n → slice_get vs n ≡ Some t.value → IsBegun c vs us
+begun_more c vs ts us t n b u e line place v = subst (IsBegun c vs) (sym u) (record {
+  values = subst (λ l. IsPrefix l vs) (sym (map-append token_value ts (t ∷ []))) (prefix_more (map token_value ts) vs t.value b.values (ap (slice_get vs) (length-map ts token_value ∙ sym e) ∙ v));
+  places = λ k w f. by k w (push_get ts t w k f);
+})
+  where
+    by : (k : ℕ) (w : Token) → (slice_get ts k ≡ Some w) ⊎ ((k ≡ length ts) × (t ≡ w)) → (w.line ≡ Channel c) × (w.place ≡ k)
+    by k w (inl f) = b.places k w f
+    by k w (inr (f, g)) = (ap (λ x. x.line) (sym g) ∙ line, ap (λ x. x.place) (sym g) ∙ (place ∙ (e ∙ sym f)))
+
+pub begun_within : (c : ℕ) (vs : List Value) (ts : List Token) → IsBegun c vs ts → length ts ≤ length vs
+begun_within c vs ts b = by b.values
+  where
+    by : IsPrefix (map token_value ts) vs → length ts ≤ length vs
+    by (zs, e) =
+        let l : length vs ≡ length (map token_value ts ++ zs) = ap length e in
+        let m : length (map token_value ts) ≡ length ts = length-map ts token_value in
+        let k : length (map token_value ts) ≤ length (map token_value ts ++ zs) = longer (map token_value ts) zs in
+        omega (arith, l, m, k)
+      where
+        longer : (xs ys : List Value) → length xs ≤ length (xs ++ ys)
+        longer [] ys = omega arith
+        longer (x ∷ xs) ys = let r : length xs ≤ length (xs ++ ys) = longer xs ys in omega (arith, r)
+
+pub begun_all : (c : ℕ) (vs : List Value) (ts : List Token) → IsBegun c vs ts → length vs ≤ length ts → IsKept (Channel c) vs ts
+begun_all c vs ts b le = record { values = by b.values; places = b.places }
+  where
+    by : IsPrefix (map token_value ts) vs → map token_value ts ≡ vs
+    by ([], e) = sym (append-nil (map token_value ts)) ∙ sym e
+    by (z ∷ zs, e) =
+        let l : length vs ≡ length (map token_value ts ++ z ∷ zs) = ap length e in
+        let m : length (map token_value ts) ≡ length ts = length-map ts token_value in
+        let k : length (map token_value ts ++ z ∷ zs) ≡ length (map token_value ts) + suc (length zs) = lengths (map token_value ts) in
+        absurd (omega (arith, l, m, k, le))
+      where
+        lengths : (xs : List Value) → length (xs ++ z ∷ zs) ≡ length xs + suc (length zs)
+        lengths [] = omega arith
+        lengths (x ∷ xs) = let r : length (xs ++ z ∷ zs) ≡ length xs + suc (length zs) = lengths xs in omega (arith, r)
+
+pub falls : (a n m : ℕ) → n < a → m ≡ suc n → a - m < a - n
+falls a n m l e = omega (arith, l, e)
+
+-- ---- where a channel's values come from
+
+no_given : (is : List Instance) (p c : ℕ) → first_writer is p c ≡ Given → ⊥
+no_given [] p c e = cc
+no_given (i ∷ is) p c e = by (no_given is (suc p) c) (any_written i.actuals c) refl
+  where
+    by : (first_writer is (suc p) c ≡ Given → ⊥) → (b : Bool) → any_written i.actuals c ≡ b → ⊥
+    by go true f = let g : Written p ≡ Given = subst (λ b. (if b then Written p else first_writer is (suc p) c) ≡ Given) f e in cc
+    by go false f = go (subst (λ b. (if b then Written p else first_writer is (suc p) c) ≡ Given) f e)
+
+role_given : (r : Role) (s : Source) → (s ≡ Given → ⊥) → source_by r s ≡ Given → r ≡ Input
+role_given Input s n e = refl
+role_given Inner s n e = absurd (n e)
+role_given Output s n e = absurd (n e)
+
+given_role : (r : Role) (s : Source) → r ≡ Input → source_by r s ≡ Given
+given_role r s e = ap (λ x. source_by x s) e
+
+pub channel_given : (N : Network) (I : Inputs) (c : ℕ) (before after : List Token) → (role_at N c ≡ Input → IsKept (Channel c) (I c) after) →
+    ((role_at N c ≡ Input → ⊥) → after ≡ before) → HasInput I (source N (Channel c)) (Channel c) before after
+channel_given N I c before after f g = by (source N (Channel c)) refl
+  where
+    by : (o : Source) → channel_source N c ≡ o → HasInput I o (Channel c) before after
+    by Given e = f (role_given (role_at N c) (first_writer N.instances 0 c) (no_given N.instances 0 c) e)
+    by (Written p) e = g (λ r. absurd (let h : Given ≡ Written p = sym (given_role (role_at N c) (first_writer N.instances 0 c) r) ∙ e in cc))
+    by Nobody e = g (λ r. absurd (let h : Given ≡ Nobody = sym (given_role (role_at N c) (first_writer N.instances 0 c) r) ∙ e in cc))
+
+-- ---- the first streams have their input
+
+pub record Giving (N : Network) (I : Inputs) (old now : List Stream) (n : ℕ) : Type 0 where
+  pub named : AreNamed N old
+  pub bare : All IsBare old
+  pub lines : map line_of now ≡ map line_of old
+  pub done : (j : ℕ) (x y : Stream) → j < n → slice_get old j ≡ Some x → slice_get now j ≡ Some y → HasInput I (source N y.line) y.line x.tokens.items y.tokens.items
+  pub rest : (j : ℕ) → n ≤ j → slice_get now j ≡ slice_get old j
+
+pub giving_starts : (N : Network) (I : Inputs) (old : List Stream) → AreNamed N old → All IsBare old → Giving N I old old 0
+giving_starts N I old named bare = record {
+  named = named;
+  bare = bare;
+  lines = refl;
+  done = λ j x y l e f. absurd (omega (arith, l));
+  rest = λ j l. refl;
+}
+
+module _ (N : Network) (I : Inputs) (old now : List Stream) (n : ℕ) (f : Giving N I old now n) where
+  at_first : (x : Stream) → slice_get now n ≡ Some x → slice_get old n ≡ Some x
+  at_first x e = sym (f.rest n (omega arith)) ∙ e
+
+  pub giving_declared : (x : Stream) → slice_get now n ≡ Some x → IsDeclared N x.line
+  giving_declared x e = declared N old n x f.named (at_first x e)
+
+  pub giving_bare : (x : Stream) → slice_get now n ≡ Some x → IsBare x
+  giving_bare x e =
+      let g = at_first x e in
+      subst IsBare (get_or_from_slice_get old n x x g) (f.bare n x (slice_get_within old n x g))
+
+  pub giving_goes : (x y : Stream) → slice_get now n ≡ Some x → y.line ≡ x.line →
+      HasInput I (source N x.line) x.line x.tokens.items y.tokens.items → Giving N I old (slice_set now n y) (suc n)
+  giving_goes x y e same given = record {
+    named = f.named;
+    bare = f.bare;
+    lines = set_lines now n x y e same ∙ f.lines;
+    done = λ j u v l a b. done_at j u v l a (set_get now n j y v b);
+    rest = λ j l. set_else now n j y (λ k. omega (arith, k, l)) ∙ f.rest j (omega (arith, l));
+  }
+    where
+      done_at : (j : ℕ) (u v : Stream) → j < suc n → slice_get old j ≡ Some u → ((j ≡ n) × (y ≡ v)) ⊎ ((j ≡ n → ⊥) × (slice_get now j ≡ Some v)) →
+          HasInput I (source N v.line) v.line u.tokens.items v.tokens.items
+      done_at j u v l a (inr h) = f.done j u v (lower j n l h.0) a h.1
+      done_at j u v l a (inl h) =
+          subst (λ w. HasInput I (source N w.line) w.line u.tokens.items w.tokens.items) h.1
+          (subst (λ d. HasInput I (source N d) d u.tokens.items y.tokens.items) (sym same)
+          (subst (λ w. HasInput I (source N x.line) x.line w.tokens.items y.tokens.items) one given))
+        where
+          one : x ≡ u
+          one = some_stream (sym (at_first x e) ∙ (ap (slice_get old) (sym h.0) ∙ a))
+            where
+              some_stream : Some x ≡ Some u → x ≡ u
+              some_stream k = cc
+
+  pub giving_ends : n ≡ length now → HaveInput N I old now
+  giving_ends e = record { lines = f.lines; each = λ j x y a b. f.done j x y (let l : j < length now = slice_get_within now j y b in omega (arith, e, l)) a b }
+
+-- each stream of an input channel has the whole list
+pub have_inputs : (N : Network) (I : Inputs) (old new : List Stream) → HaveInput N I old new → HasInputs N I new
+have_inputs N I old new h j c y e at given =
+    let x = stream_before old new j y h.lines e in
+    by (source N y.line) (subst (λ d. source N d ≡ Given) (sym at) given) (h.each j x.0 y x.1 e)
+  where
+    by : (o : Source) → o ≡ Given → HasInput I o y.line (stream_before old new j y h.lines e).0.tokens.items y.tokens.items → IsKept (Channel c) (I c) y.tokens.items
+    by Given f k = on y.line at k
+      where
+        on : (d : Line) → d ≡ Channel c → HasInput I Given d (stream_before old new j y h.lines e).0.tokens.items y.tokens.items → IsKept (Channel c) (I c) y.tokens.items
+        on (Channel b) g k = subst (λ n. IsKept (Channel n) (I n) y.tokens.items) (same g) k
+          where
+            same : Channel b ≡ Channel c → b ≡ c
+            same m = cc
+        on (Print r) g k = absurd cc
+    by (Written p) f k = absurd cc
+    by Nobody f k = absurd cc

@@ -1,0 +1,75 @@
+-- The lines that are still to come, and the statements of a block.
+use Rattle.std.proofs.Common.{arith, ◌≡◌, ℕ, zero, suc, ◌<◌, ◌||◌, Bool, true, false, if◌then◌else◌, List, [], ◌∷◌, ◌++◌, length, drop, Option, refl, sym, ap, ◌∙◌, slice_index_or, append_assoc, append-nil}
+use Rattle.kahn_syntax.specs.declared.tree.Kind.TheVariants.{Integer}
+use Rattle.kahn_syntax.specs.declared.tree.Role.TheVariants.{Inner}
+use Rattle.kahn_syntax.specs.declared.tree.Action.{Row_of-Statement, end_of-Statement, more_of-Statement}
+use Rattle.kahn_syntax.specs.declared.tree.Action.TheBlock.{items-the_row-Statement}
+use Rattle.kahn_syntax.specs.declared.tree.Statement.{Statement}
+use Rattle.kahn_syntax.specs.Syntax.{prints_in}
+use Rattle.kahn_syntax.specs.View.{Scope, statement_of, stmt_of, row_of, body_of}
+use Rattle.kahn_streams.specs.declared.value.Line.{Line}
+use Rattle.kahn_streams.specs.declared.value.Line.TheVariants.{Channel, Print}
+use Rattle.kahn_check.specs.Network.{Network, instance_at, idle}
+use Rattle.kahn_code.specs.Cells.{is_streamed}
+use Rattle.kahn_pool.specs.Right.{channel_lines, print_lines}
+
+-- ---- statements
+
+abbrev pub any_prints : Scope → List Statement → Bool
+any_prints names [] = false
+any_prints names (s ∷ rest) = prints_in (statement_of names s) || any_prints names rest
+
+pub block_prints : {m : _} (names : Scope) (row : Row_of-Statement m) → prints_in (row_of names row) ≡ any_prints names (items-the_row-Statement m row)
+block_prints names end_of-Statement = refl
+block_prints names (more_of-Statement at a rest) = ap (λ b. prints_in (stmt_of names a) || b) (block_prints names rest)
+
+pub body_prints : (names : Scope) (ss : List Statement) → prints_in (body_of names ss) ≡ any_prints names ss
+body_prints names [] = refl
+body_prints names (s ∷ rest) = ap (λ b. prints_in (statement_of names s) || b) (body_prints names rest)
+
+-- ---- lines
+
+drop_all : {X : Type 0} (xs : List X) (n : ℕ) → n ≡ length xs → drop n xs ≡ []
+drop_all [] zero e = refl
+drop_all [] (suc n) e = refl
+drop_all (x ∷ xs) zero e = absurd (omega (arith, e))
+drop_all (x ∷ xs) (suc n) e = drop_all xs n (omega (arith, e))
+
+drop_one : {X : Type 0} (xs : List X) (n : ℕ) (d : X) → n < length xs → drop n xs ≡ slice_index_or xs n d ∷ drop (suc n) xs
+drop_one [] n d l = absurd (omega (arith, l))
+drop_one (x ∷ xs) zero d l = refl
+drop_one (x ∷ xs) (suc n) d l = drop_one xs n d (omega (arith, l))
+
+add_one : (before after rest whole : List Line) (x : Line) → after ≡ before ++ x ∷ [] → before ++ x ∷ rest ≡ whole → after ++ rest ≡ whole
+add_one before after rest whole x e f = ap (λ l. l ++ rest) e ∙ (append_assoc before (x ∷ []) rest ∙ f)
+
+one_line : (b : Bool) (x : Line) (rest : List Line) (before after whole : List Line) → before ++ (if b then x ∷ rest else rest) ≡ whole →
+    (b ≡ true → after ≡ before ++ x ∷ []) → (b ≡ false → after ≡ before) → after ++ rest ≡ whole
+one_line true x rest before after whole e f g = add_one before after rest whole x (f refl) e
+one_line false x rest before after whole e f g = ap (λ l. l ++ rest) (g refl) ∙ e
+
+pub channel_more : (N : Network) (watch : Option ℕ) (c : ℕ) (before after whole : List Line) → c < length N.channels →
+    before ++ channel_lines watch (drop c N.channels) c ≡ whole →
+    (is_streamed N watch c ≡ true → after ≡ before ++ Channel c ∷ []) → (is_streamed N watch c ≡ false → after ≡ before) →
+    after ++ channel_lines watch (drop (suc c) N.channels) (suc c) ≡ whole
+channel_more N watch c before after whole l e f g =
+    one_line (is_streamed N watch c) (Channel c) (channel_lines watch (drop (suc c) N.channels) (suc c)) before after whole
+    (ap (λ rows. before ++ channel_lines watch rows c) (sym (drop_one N.channels c (Integer, Inner) l)) ∙ e) f g
+
+pub channels_end : (N : Network) (watch : Option ℕ) (c : ℕ) (now whole : List Line) → c ≡ length N.channels →
+    now ++ channel_lines watch (drop c N.channels) c ≡ whole → now ≡ whole
+channels_end N watch c now whole l e =
+    sym (append-nil now) ∙ (ap (λ rows. now ++ channel_lines watch rows c) (sym (drop_all N.channels c l)) ∙ e)
+
+pub print_more : (N : Network) (p : ℕ) (before after whole : List Line) → p < length N.instances →
+    before ++ print_lines (drop p N.instances) p ≡ whole →
+    (prints_in (instance_at N p).body ≡ true → after ≡ before ++ Print p ∷ []) → (prints_in (instance_at N p).body ≡ false → after ≡ before) →
+    after ++ print_lines (drop (suc p) N.instances) (suc p) ≡ whole
+print_more N p before after whole l e f g =
+    one_line (prints_in (instance_at N p).body) (Print p) (print_lines (drop (suc p) N.instances) (suc p)) before after whole
+    (ap (λ is. before ++ print_lines is p) (sym (drop_one N.instances p idle l)) ∙ e) f g
+
+pub prints_end : (N : Network) (p : ℕ) (now whole : List Line) → p ≡ length N.instances →
+    now ++ print_lines (drop p N.instances) p ≡ whole → now ≡ whole
+prints_end N p now whole l e =
+    sym (append-nil now) ∙ (ap (λ is. now ++ print_lines is p) (sym (drop_all N.instances p l)) ∙ e)

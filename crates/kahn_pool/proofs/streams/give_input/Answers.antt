@@ -1,0 +1,16 @@
+use Rattle.std.proofs.Common.{sym, subst}
+use Rattle.kahn_check.specs.Network.{network_of}
+use Rattle.kahn_streams.specs.Solution.{source}
+use Rattle.kahn_streams.specs.Tokens.{inputs_of}
+use Rattle.kahn_pool.specs.Streams.{HasInput}
+use Rattle.kahn_pool.proofs.Giving.{channel_given}
+use Rattle.kahn_pool.proofs.streams.give_input.Goals as goal
+
+pub returns-in_ok-give_list-clause-given : goal.returns-in_ok-give_list-clause-given
+returns-in_ok-give_list-clause-given c =
+    let N = network_of c.args.network.now in
+    let I = inputs_of c.args.input.now in
+    let before = c.args.stream.now.tokens.items in
+    let after = c.give_list.new.tokens.items in
+    subst (λ d. HasInput I (source N d) d before after) (sym c.in-Channel.is)
+    (channel_given N I c.in-Channel.channel before after c.in_ok-give_list.ensures.given c.in_ok-give_list.ensures.others)

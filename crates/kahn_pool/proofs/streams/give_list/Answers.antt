@@ -1,0 +1,29 @@
+use Rattle.std.proofs.Common.{rules, arith, ◌≡◌, inl, inr, ◌+◌, [], ◌∷◌, length, length-append, ap, ◌∙◌}
+use Rattle.std.proofs.lemmas.Option.{slice_get_within}
+use Rattle.kahn_streams.specs.Tokens.{inputs_of}
+use Rattle.kahn_pool.proofs.Giving.{begun_none, begun_more, falls}
+use Rattle.kahn_pool.proofs.streams.give_list.Goals as goal
+
+pub tokens-init : goal.tokens-init
+tokens-init c =
+    record { begun = begun_none c.args.channel (inputs_of c.args.input.now c.args.channel) c.args.tokens.now.items c.requires.bare; given = inl c.requires.bare }
+
+pub tokens-smaller : goal.tokens-smaller
+tokens-smaller c =
+    let vs = inputs_of c.args.input.now c.args.channel in
+    let old = c.tokens.tokens.items in
+    let token = c.in-Some.token in
+    let e : c.len.result ≡ length old = search rules in
+    let l = slice_get_within vs c.len.result token.value c.in-Some.ensures.token.2 in
+    let m : length c.push.new.self.items ≡ length old + 1 = ap length c.in_ok-push.ensures.items ∙ length-append old (token ∷ []) in
+    falls (length vs) (length old) (length c.push.new.self.items) (omega (arith, e, l)) (omega (arith, m))
+
+pub tokens-preserved : goal.tokens-preserved
+tokens-preserved c =
+    let old = c.tokens.tokens.items in
+    let e : c.len.result ≡ length old = search rules in
+    record {
+      begun = begun_more c.args.channel (inputs_of c.args.input.now c.args.channel) old c.push.new.self.items c.in-Some.token c.len.result
+          c.tokens.invariant.begun c.in_ok-push.ensures.items e c.in-Some.ensures.token.0 c.in-Some.ensures.token.1 c.in-Some.ensures.token.2;
+      given = inr c.in-Some.ensures.given;
+    }

@@ -1,0 +1,15 @@
+use Rattle.std.proofs.Common.{◌≡◌, ◌⊎◌, ◌-◌, [], length}
+use Rattle.kahn_syntax.specs.declared.tree.Role.TheVariants.{Input}
+use Rattle.kahn_check.specs.Network.{network_of, role_at}
+use Rattle.kahn_streams.specs.Tokens.{inputs_of}
+use Rattle.kahn_pool.proofs.Giving.{IsBegun}
+use Rattle.kahn_pool.proofs.streams.give_list.Given as goal
+
+abbrev pub invariant-tokens : goal.invariant-tokens
+invariant-tokens l = record {
+  begun : IsBegun l.channel (inputs_of l.input l.channel) l.tokens.items;
+  given : (l.tokens.items ≡ []) ⊎ (role_at (network_of l.network) l.channel ≡ Input);
+}
+
+abbrev pub decreases-tokens : goal.decreases-tokens
+decreases-tokens l = length (inputs_of l.input l.channel) - length l.tokens.items

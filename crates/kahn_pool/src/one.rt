@@ -1,0 +1,78 @@
+//! A run on the caller's thread.
+
+ghost use Rattle.kahn_check.specs.Network.{network_of};
+ghost use Rattle.kahn_pool.specs.Limits.{IsRefused};
+ghost use Rattle.kahn_pool.specs.Right.{IsRight};
+ghost use Rattle.kahn_streams.specs.Tokens.{inputs_of};
+ghost use Rattle.std.specs.Prelude.{◌≡◌, ◌<◌, ◌^◌, ℕ, length, IfOk, IfErr, MatchResult, None};
+
+use crate::answer::Answer;
+use crate::config::{MOST_BOUND, RunFault};
+use crate::rounds::run_bench;
+use crate::workbench::Workbench;
+use kahn_check::network::Network;
+use kahn_code::code::CodeFault;
+use kahn_code::steps::Steps;
+use kahn_streams::input::Input;
+use std::alloc::Global;
+use std::marker::Brand;
+use std::sync::ledger::{Blank, Ledger};
+
+// Counts steps on a ledger of its own, and runs.
+fn run_opened<L: Ledger>(
+    alloc: Global,
+    blank: Blank,
+    network: &Network,
+    input: &Input,
+    watch: Option<usize>,
+    bound: u64,
+) -> Result<Answer, CodeFault>
+    requires name { blank.name ≡ L.name }
+    requires parts { blank.parts ≡ L.parts }
+    requires some { 0 < blank.parts }
+    requires bound { bound < 2 ^ 48 }
+    ensures { IfOk result (IsRight (network_of network.now) (inputs_of input.now) bound watch) }
+{
+    let steps = Steps::<L>::open(blank);
+    let ends = Vec::with_capacity(alloc, network.instances())?;
+    let bench = Workbench::new(alloc, network, input, watch, steps)?;
+    Ok(run_bench(bench, ends, bound))
+}
+
+/// Runs a network on the caller's thread, with a watched channel or none. It refuses only where memory was refused
+/// before the first event.
+pub fn run_watched(
+    alloc: Global,
+    network: &Network,
+    input: &Input,
+    watch: Option<usize>,
+    bound: u64,
+) -> Result<Answer, CodeFault>
+    requires fits { length input.now ≡ length (network_of network.now).channels }
+    requires bound { bound < 2 ^ 48 }
+    ensures { IfOk result (IsRight (network_of network.now) (inputs_of input.now) bound watch) }
+{
+    run_opened::<Brand>(alloc, Blank::new(1), network, input, watch, bound)
+}
+
+/// Runs a network on the caller's thread over plain queues, without a watched channel, for at most `bound` events. The
+/// input fits the network.
+///
+/// It refuses with `BadConfig` exactly where the bound is 2^48 or more, and with `NoMemory` where memory was refused
+/// before the first event. Memory that is refused later stops the run: its answer has the verdict `Memory`.
+pub fn run_one(
+    alloc: Global,
+    network: &Network,
+    input: Input,
+    bound: u64,
+) -> Result<Answer, RunFault>
+    requires fits { length input ≡ length (network_of network.now).channels }
+    ensures right { IfOk result (IsRight (network_of network.now) (inputs_of input) bound None) }
+    ensures refused { IfErr result (IsRefused bound) }
+    ensures answered { IfOk result (λ _. bound < 2 ^ 48) }
+{
+    if bound > MOST_BOUND {
+        return Err(RunFault::BadConfig);
+    }
+    Ok(run_watched(alloc, network, &input, None, bound)?)
+}

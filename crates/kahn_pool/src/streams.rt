@@ -1,0 +1,238 @@
+//! The streams of an answer: their lines, and the tokens that fill them.
+
+ghost use Rattle.std.specs.Prelude.{◌≡◌, ◌<◌, ◌++◌, ◌∷◌, [], length, map, slice_set, slice_index_or, IfOk, OnOk};
+ghost use Rattle.std.specs.List.{All};
+ghost use Rattle.kahn_syntax.specs.Syntax.{prints_in};
+ghost use Rattle.kahn_syntax.specs.View.{Scope, body_of, names_of, statement_of};
+ghost use Rattle.kahn_check.specs.Network.{network_of, instance_at, role_at};
+ghost use Rattle.kahn_syntax.specs.declared.tree.Role.TheVariants.{Input as InputRole};
+ghost use Rattle.kahn_streams.specs.declared.value.Line.TheVariants.{Channel as ChannelLine};
+ghost use Rattle.kahn_streams.specs.Solution.{source};
+ghost use Rattle.kahn_streams.specs.Tokens.{inputs_of};
+ghost use Rattle.kahn_code.specs.Cells.{IsKept, is_streamed};
+ghost use Rattle.kahn_pool.specs.Right.{line_of, channel_lines, print_lines, stream_lines};
+ghost use Rattle.kahn_pool.specs.Streams.{AreNamed, IsDeclared, IsBare, kept_lists, AreLists, IsFilled, AreFilled, KeepsOthers, HasInput, HasInputs, HaveInput};
+
+use crate::answer::Stream;
+use kahn_check::network::Network;
+use kahn_check::sides::Side;
+use kahn_code::cell::Kept;
+use kahn_streams::input::Input;
+use kahn_streams::memory::NoMemory;
+use kahn_streams::token::Token;
+use kahn_streams::value::Line;
+use kahn_syntax::tree::{Action, Process, Role, Statement};
+use std::alloc::Global;
+use std::mem;
+
+/// Whether a statement prints anywhere.
+pub fn prints(statement: &Statement) -> bool
+    ensures { (names : Scope) → result ≡ prints_in (statement_of names statement.now) }
+{
+    match &statement.action {
+        Action::Empty => false,
+        Action::Assign(_, _) => false,
+        Action::Send(_, _) => false,
+        Action::Print(_) => true,
+        Action::Block(statements) => {
+            for inner in statements {
+                if prints(inner) {
+                    return true;
+                }
+            }
+            false
+        }
+        Action::If(_, yes, no) => {
+            prints(yes)
+                || match no {
+                    Some(no) => prints(no),
+                    None => false,
+                }
+        }
+        Action::While(_, body) => prints(body),
+        Action::Repeat(body) => prints(body),
+    }
+}
+
+// Whether a process prints anywhere.
+fn process_prints(process: &Process) -> bool
+    ensures { result ≡ prints_in (body_of (names_of process.now) process.now.statements.items) }
+{
+    for statement in &process.statements {
+        if prints(statement) {
+            return true;
+        }
+    }
+    false
+}
+
+// Whether the process of an instance prints anywhere.
+fn instance_prints(network: &Network, instance: usize) -> bool
+    requires { instance < length (network_of network.now).instances }
+    ensures { result ≡ prints_in (instance_at (network_of network.now) instance).body }
+{
+    process_prints(network.instance(instance).process)
+}
+
+// Whether a channel has a stream.
+fn has_stream(network: &Network, watch: Option<usize>, channel: usize) -> bool
+    requires { channel < length (network_of network.now).channels }
+    ensures { result ≡ is_streamed (network_of network.now) watch channel }
+{
+    network.channel(channel).role == Role::Output || watch == Some(channel)
+}
+
+// One stream more, without tokens.
+fn add_stream(alloc: Global, streams: &mut Vec<Stream>, line: Line) -> Result<(), NoMemory>
+    ensures lines { OnOk result (map line_of streams.new.items ≡ map line_of streams.old.items ++ line ∷ []) }
+    ensures bare { OnOk result (All IsBare streams.old.items → All IsBare streams.new.items) }
+{
+    streams.push(Stream {
+        line,
+        tokens: Vec::new(alloc),
+    })?;
+    Ok(())
+}
+
+// The streams of the channels.
+fn add_channels(
+    alloc: Global,
+    streams: &mut Vec<Stream>,
+    network: &Network,
+    watch: Option<usize>,
+) -> Result<(), NoMemory>
+    ensures lines { OnOk result (map line_of streams.new.items ≡ map line_of streams.old.items ++ channel_lines watch (network_of network.now).channels 0) }
+    ensures bare { OnOk result (All IsBare streams.old.items → All IsBare streams.new.items) }
+{
+    for channel in 0..network.channels() {
+        if has_stream(network, watch, channel) {
+            add_stream(alloc, streams, Line::Channel(channel))?;
+        }
+    }
+    Ok(())
+}
+
+// The print streams.
+fn add_prints(alloc: Global, streams: &mut Vec<Stream>, network: &Network) -> Result<(), NoMemory>
+    ensures lines { OnOk result (map line_of streams.new.items ≡ map line_of streams.old.items ++ print_lines (network_of network.now).instances 0) }
+    ensures bare { OnOk result (All IsBare streams.old.items → All IsBare streams.new.items) }
+{
+    for instance in 0..network.instances() {
+        if instance_prints(network, instance) {
+            add_stream(alloc, streams, Line::Print(instance))?;
+        }
+    }
+    Ok(())
+}
+
+/// The streams of an answer, in order of declaration, without tokens: those of the output channels and of the channel
+/// `watch`, and then the print streams. It refuses only where memory was refused.
+pub fn empty_streams(
+    alloc: Global,
+    network: &Network,
+    watch: Option<usize>,
+) -> Result<Vec<Stream>, NoMemory>
+    ensures lines { IfOk result (λ streams. map line_of streams.items ≡ stream_lines (network_of network.now) watch) }
+    ensures bare { IfOk result (λ streams. All IsBare streams.items) }
+{
+    let mut streams = Vec::new(alloc);
+    add_channels(alloc, &mut streams, network, watch)?;
+    add_prints(alloc, &mut streams, network)?;
+    Ok(streams)
+}
+
+// Hands over what was kept on a parameter, for these tokens.
+fn exchange_kept(lists: &mut Kept, parameter: usize, tokens: &mut Vec<Token>)
+    requires { parameter < length lists.old.kept.items }
+    ensures kept { kept_lists lists.new ≡ slice_set (kept_lists lists.old) parameter tokens.old.items }
+    ensures tokens { tokens.new.items ≡ slice_index_or (kept_lists lists.old) parameter [] }
+    ensures printed { lists.new.printed ≡ lists.old.printed }
+{
+    mem::swap(&mut lists.kept[parameter], tokens);
+}
+
+// Fills the stream of a channel or of a print stream, from the lists.
+fn fill_one(network: &Network, stream: &mut Stream, lists: &mut Vec<Kept>)
+    requires declared { IsDeclared (network_of network.now) stream.old.line }
+    requires lists { AreLists (network_of network.now) lists.old.items }
+    ensures line { stream.new.line ≡ stream.old.line }
+    ensures lists { AreLists (network_of network.now) lists.new.items }
+    ensures filled { IsFilled (network_of network.now) lists.old.items (source (network_of network.now) stream.old.line) stream.old.line stream.old.tokens.items stream.new.tokens.items }
+    ensures others { KeepsOthers (network_of network.now) stream.old.line lists.old.items lists.new.items }
+{
+    match stream.line {
+        Line::Channel(channel) => {
+            if let Some(
+                Side {
+                    instance,
+                    parameter,
+                },
+            ) = network.writer(channel)
+            {
+                exchange_kept(&mut lists[instance], parameter, &mut stream.tokens);
+            }
+        }
+        Line::Print(instance) => mem::swap(&mut lists[instance].printed, &mut stream.tokens),
+    }
+}
+
+/// Fills each stream from what the cells kept: that of a channel with what its writer kept on the parameter, and a
+/// print stream with what was printed. A stream of an input channel stays. It takes no memory.
+pub fn fill(network: &Network, streams: &mut Vec<Stream>, lists: &mut Vec<Kept>)
+    requires named { AreNamed (network_of network.now) streams.old.items }
+    requires lists { AreLists (network_of network.now) lists.old.items }
+    ensures { AreFilled (network_of network.now) lists.old.items streams.old.items streams.new.items }
+{
+    for number in 0..streams.len() {
+        fill_one(network, &mut streams[number], lists);
+    }
+}
+
+// The whole list of an input channel.
+fn give_list(
+    network: &Network,
+    input: &Input,
+    channel: usize,
+    tokens: &mut Vec<Token>,
+) -> Result<(), NoMemory>
+    requires here { channel < length (network_of network.now).channels }
+    requires bare { tokens.old.items ≡ [] }
+    ensures given { OnOk result (role_at (network_of network.now) channel ≡ InputRole → IsKept (ChannelLine channel) (inputs_of input.now channel) tokens.new.items) }
+    ensures others { OnOk result ((role_at (network_of network.now) channel ≡ InputRole → ⊥) → tokens.new.items ≡ tokens.old.items) }
+{
+    'tokens: while let Some(token) = input.token(network, channel, tokens.len() as u64) {
+        tokens.push(token)?;
+    }
+    Ok(())
+}
+
+// The whole list of the channel, where the stream is that of an input channel.
+fn give_input(network: &Network, input: &Input, stream: &mut Stream) -> Result<(), NoMemory>
+    requires declared { IsDeclared (network_of network.now) stream.old.line }
+    requires bare { IsBare stream.old }
+    ensures line { stream.new.line ≡ stream.old.line }
+    ensures given { OnOk result (HasInput (inputs_of input.now) (source (network_of network.now) stream.old.line) stream.old.line stream.old.tokens.items stream.new.tokens.items) }
+{
+    if let Line::Channel(channel) = stream.line {
+        give_list(network, input, channel, &mut stream.tokens)?;
+    }
+    Ok(())
+}
+
+/// Gives each stream of an input channel the whole list of that channel; the others stay. It refuses only where memory
+/// was refused.
+pub fn watched_input(
+    network: &Network,
+    input: &Input,
+    streams: &mut Vec<Stream>,
+) -> Result<(), NoMemory>
+    requires named { AreNamed (network_of network.now) streams.old.items }
+    requires bare { All IsBare streams.old.items }
+    ensures each { OnOk result (HaveInput (network_of network.now) (inputs_of input.now) streams.old.items streams.new.items) }
+    ensures given { OnOk result (HasInputs (network_of network.now) (inputs_of input.now) streams.new.items) }
+{
+    for number in 0..streams.len() {
+        give_input(network, input, &mut streams[number])?;
+    }
+    Ok(())
+}
