@@ -8,3 +8,5 @@ pub mod gate;
 pub mod laws;
 pub mod rounds;
 pub mod streams;
+#[cfg(test)]
+mod tests;
