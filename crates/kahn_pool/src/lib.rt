@@ -10,3 +10,6 @@ pub mod one;
 pub mod rounds;
 pub mod streams;
 pub mod workbench;
+
+#[cfg(test)]
+mod tests;

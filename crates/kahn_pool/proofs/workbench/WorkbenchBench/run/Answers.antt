@@ -133,4 +133,3 @@ returns-clause-wanted g c =
     let at = Benched.found b laid p cell _ here c.index_mut.ensures.value in
     subst (λ (x : Table). c.run-pause.result ≡ pause.NoMemory → events_at (state_of (Benched.ran b p c.run-pause.new.self c.run-pause.new.ports)) p < events_at (state_of x) p + c.args.quantum) c.self.view_is
     (Benched.wanted_now b laid p cell at c.run-pause.new.self c.at.new.self c.run-pause.new.ports c.at.ensures c.run-pause.ensures.names c.run-pause.ensures.ports c.run-pause.ensures.at c.run-pause.ensures.others c.args.quantum _ _ c.run-pause.result c.run-pause.ensures.paused c.run-pause.ensures.events.1)
-
