@@ -12,3 +12,4 @@ pub mod Found
 pub mod Kinded
 pub mod Kinded_networks
 pub mod Given_values
+pub mod Entered
