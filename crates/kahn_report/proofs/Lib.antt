@@ -6,3 +6,4 @@ pub mod Words
 pub mod Scanned
 pub mod Lines
 pub mod Right_lines
+pub mod Told

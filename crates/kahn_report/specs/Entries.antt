@@ -1,20 +1,18 @@
 -- The input text: which entries a text spells, line by line.
-use Rattle.std.specs.Prelude.{string_bytes, ◌≡◌, ◌≢◌, ℕ, ◌+◌, ◌-◌, ◌≤◌, ◌<◌, List, [], ◌∷◌, ◌++◌, length, slice_index, Bool, true, false, ◌==◌, ◌||◌, codes, All, take, if◌then◌else◌, ◌⊎◌, drop}
+use Rattle.std.specs.Prelude.{◌≡◌, ◌≢◌, ℕ, ◌+◌, ◌-◌, ◌≤◌, ◌<◌, List, [], ◌∷◌, ◌++◌, length, slice_index, Bool, true, false, ◌==◌, ◌||◌, codes, All, take, if◌then◌else◌, ◌⊎◌, drop}
 use Rattle.std.specs.List.{slice_split}
 use Rattle.std.specs.Char.{is_ascii_alphabetic, is_ascii_alphanumeric}
 use Rattle.std.specs.Str.{str_eq_ignore_ascii_case}
 use Rattle.std.specs.Str.Parse.{IsNumeral, without_leading_sign, signed_digits_value}
 use Rattle.kahn_streams.specs.declared.value.Value.{Value}
 use Rattle.kahn_streams.specs.declared.value.Value.TheVariants.{Integer, Logical}
-use Rattle.std.specs.declared.string.String.{String}
-use Rattle.std.specs.declared.vec.Vec.{Vec}
-use Rattle.std.specs.declared.alloc.Global.{Global}
+use Rattle.kahn_streams.specs.Entries.{Entry}
 use Rattle.kahn_report.specs.declared.entries.LineFault.{LineFault}
 use Rattle.kahn_report.specs.declared.entries.LineFault.TheVariants.{NoHead, NoValues}
 use Rattle.kahn_report.specs.declared.entries.LineFault.TheVariants as line_fault
-use Rattle.kahn_report.specs.declared.entries.TextFault.{TextFault}
-use Rattle.kahn_report.specs.declared.entries.TextFault.TheVariants.{BadLine, BadValue, TooLong}
-use Rattle.kahn_report.specs.declared.entries.TextFault.TheVariants as text_fault
+use Rattle.kahn_report.specs.declared.entries.EntriesFault.{EntriesFault}
+use Rattle.kahn_report.specs.declared.entries.EntriesFault.TheVariants.{BadLine, BadValue, TooLong}
+use Rattle.kahn_report.specs.declared.entries.EntriesFault.TheVariants as entries_fault
 use mir.Val.{SFits as FitsSigned}
 use mir.Syntax.{w64}
 
@@ -64,10 +62,6 @@ Spells ((byte ∷ bytes) ∷ parts) (value ∷ values) = IsValue (byte ∷ bytes
 abbrev pub AreValues : List ℕ → List Value → Type 0
 AreValues text values = Spells (slice_split is_blank text) values
 
--- an entry: a name and the values of that channel
-abbrev pub Entry : Type 0
-Entry = List ℕ × List Value
-
 -- the line spells the entry
 abbrev pub IsEntry : List ℕ → Entry → Type 0
 IsEntry line entry = (rest : List ℕ) × HasHead line entry.0 rest × AreValues rest entry.1
@@ -112,17 +106,13 @@ IsLineFault line NoHead = HasNoHead line
 IsLineFault line NoValues = HasNoValues line
 IsLineFault line line_fault.NoMemory = Unit {0}
 
--- an entry as the code holds it
-abbrev pub entry_of : (String Global × Vec Value Global) → Entry
-entry_of entry = (string_bytes entry.0, entry.1.items)
-
 -- the text is within its limit and spells the entries
 abbrev pub IsInputText : List ℕ → List Entry → Type 0
 IsInputText text entries = (length text ≤ most_bytes) × AreEntries (lines_of text) entries
 
 -- why an input text has no entries: it is too long, or else its first line that is neither blank nor an entry
-abbrev pub IsTextFault : List ℕ → TextFault → Type 0
-IsTextFault text (BadLine n) = (length text ≤ most_bytes) × IsFirst HasNoHead text n
-IsTextFault text (BadValue n) = (length text ≤ most_bytes) × IsFirst HasNoValues text n
-IsTextFault text TooLong = most_bytes < length text
-IsTextFault text text_fault.NoMemory = length text ≤ most_bytes
+abbrev pub IsEntriesFault : List ℕ → EntriesFault → Type 0
+IsEntriesFault text (BadLine n) = (length text ≤ most_bytes) × IsFirst HasNoHead text n
+IsEntriesFault text (BadValue n) = (length text ≤ most_bytes) × IsFirst HasNoValues text n
+IsEntriesFault text TooLong = most_bytes < length text
+IsEntriesFault text entries_fault.NoMemory = length text ≤ most_bytes

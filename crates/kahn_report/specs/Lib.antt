@@ -3,3 +3,4 @@ pub mod Report
 pub mod Written
 pub mod Reading
 pub mod Entries
+pub mod Inputs

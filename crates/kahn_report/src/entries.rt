@@ -1,7 +1,8 @@
 //! The entries of an input text, line by line.
 
 ghost use Rattle.std.specs.Prelude.{◌≡◌, ◌↔◌, IsTrue, List, MatchResult, MatchOption, map};
-ghost use Rattle.kahn_report.specs.Entries.{IsBlank, IsEntry, IsLineFault, IsTextFault, IsInputText, content as content_of, entry_of};
+ghost use Rattle.kahn_report.specs.Entries.{IsBlank, IsEntry, IsLineFault, IsEntriesFault, IsInputText, content as content_of};
+ghost use Rattle.kahn_streams.specs.Entries.{entry_of};
 
 use crate::heads::{head_of, is_blank};
 use crate::values::{ValuesFault, read_values};
@@ -12,9 +13,9 @@ use thiserror::Error;
 /// The most bytes of an input text.
 pub const MOST_BYTES: usize = 16777216;
 
-/// Why an input text is refused. Lines are counted from 1, skipped ones too.
+/// Why an input text has no entries. Lines are counted from 1, skipped ones too.
 #[derive(Clone, Copy, Debug, PartialEq, Eq, Drop, Error)]
-pub enum TextFault {
+pub enum EntriesFault {
     /// A line that isn't blank and doesn't begin with a name and a colon.
     #[error("input line {0}: not a name and a colon")]
     BadLine(usize),
@@ -92,11 +93,11 @@ fn read_line(alloc: Global, line: &[u8]) -> Result<Option<(String, Vec<Value>)>,
 }
 
 /// Reads the entries of an input text: the names of channels, and their values.
-pub fn read_entries(alloc: Global, text: &str) -> Result<Vec<(String, Vec<Value>)>, TextFault>
-    ensures { MatchResult result (λ entries. IsInputText text.now (map entry_of entries.items)) (IsTextFault text.now) }
+pub fn read_entries(alloc: Global, text: &str) -> Result<Vec<(String, Vec<Value>)>, EntriesFault>
+    ensures { MatchResult result (λ entries. IsInputText text.now (map entry_of entries.items)) (IsEntriesFault text.now) }
 {
     if text.len() > MOST_BYTES {
-        return Err(TextFault::TooLong);
+        return Err(EntriesFault::TooLong);
     }
     let mut entries = Vec::new(alloc);
     let mut number = 0;
@@ -106,12 +107,12 @@ pub fn read_entries(alloc: Global, text: &str) -> Result<Vec<(String, Vec<Value>
             Ok(None) => {}
             Ok(Some(entry)) => {
                 if entries.push(entry).is_err() {
-                    return Err(TextFault::NoMemory);
+                    return Err(EntriesFault::NoMemory);
                 }
             }
-            Err(LineFault::NoHead) => return Err(TextFault::BadLine(number)),
-            Err(LineFault::NoValues) => return Err(TextFault::BadValue(number)),
-            Err(LineFault::NoMemory) => return Err(TextFault::NoMemory),
+            Err(LineFault::NoHead) => return Err(EntriesFault::BadLine(number)),
+            Err(LineFault::NoValues) => return Err(EntriesFault::BadValue(number)),
+            Err(LineFault::NoMemory) => return Err(EntriesFault::NoMemory),
         }
     }
     Ok(entries)

@@ -4,6 +4,7 @@
 pub mod calls;
 pub mod entries;
 mod heads;
+pub mod input;
 pub mod names;
 pub mod read;
 #[cfg(test)]

@@ -2,7 +2,7 @@
 
 ghost use Rattle.std.specs.Prelude.{Some};
 
-use crate::entries::{TextFault, read_entries};
+use crate::entries::{EntriesFault, read_entries};
 use crate::read::{ReadFault, read_text};
 use crate::write::{WriteFault, write_line};
 use kahn_streams::value::Value;
@@ -162,13 +162,13 @@ fn reads_fail_at_each_call(rt: HostRuntime) -> Result<(), Fail> {
 #[test]
 fn refused_entries(rt: HostRuntime) {
     let refused = [
-        ("A: 1 x", TextFault::BadValue(1)),
-        ("1A: 2", TextFault::BadLine(1)),
-        ("\n \t\r\nA 1", TextFault::BadLine(3)),
-        ("A: 9223372036854775808", TextFault::BadValue(1)),
-        ("A: 1\nB: +2\nC", TextFault::BadValue(2)),
-        ("A: 1\r\r", TextFault::BadValue(1)),
-        ("A: trues", TextFault::BadValue(1)),
+        ("A: 1 x", EntriesFault::BadValue(1)),
+        ("1A: 2", EntriesFault::BadLine(1)),
+        ("\n \t\r\nA 1", EntriesFault::BadLine(3)),
+        ("A: 9223372036854775808", EntriesFault::BadValue(1)),
+        ("A: 1\nB: +2\nC", EntriesFault::BadValue(2)),
+        ("A: 1\r\r", EntriesFault::BadValue(1)),
+        ("A: trues", EntriesFault::BadValue(1)),
     ];
     for (text, fault) in refused {
         assert_eq!(rt; read_entries(rt.alloc(), text).err(), Some(fault), "{text}");

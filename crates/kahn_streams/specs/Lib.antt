@@ -10,3 +10,4 @@ pub mod Tokens
 pub mod Streams
 pub mod Examples
 pub mod Kinded
+pub mod Entries

@@ -1,11 +1,14 @@
 //! The lists that are fed to the input channels.
 
-ghost use Rattle.std.specs.Prelude.{◌≡◌, ◌<◌, ◌≤◌, ◌↔◌, IsTrue, IfSome, IfNone, IfOk, length, slice_get, slice_index_or, [], replicate};
+ghost use Rattle.std.specs.Prelude.{◌≡◌, ◌<◌, ◌≤◌, ◌↔◌, ◌⊎◌, IsTrue, IfSome, IfNone, IfOk, MatchResult, length, map, slice_get, slice_index_or, slice_set, [], replicate};
+ghost use Rattle.kahn_streams.specs.Entries.{entry_of, IsMadeOf, IsFirstRefused};
+ghost use Rattle.kahn_streams.specs.Kinded.{FitsKinds};
 ghost use Rattle.kahn_streams.specs.Tokens.{inputs_of};
 ghost use Rattle.kahn_streams.specs.declared.value.Line.TheVariants.{Channel};
 ghost use Rattle.kahn_check.specs.Network.{network_of, role_at};
 ghost use Rattle.kahn_syntax.specs.declared.tree.Role.TheVariants.{Input as InputRole};
 
+use crate::entries::{InputFault, channel_for};
 use crate::memory::NoMemory;
 use crate::token::Token;
 use crate::value::{Line, Value};
@@ -39,6 +42,38 @@ impl Input {
             lists.push(Vec::new(alloc))?;
         }
         Ok(Input { lists })
+    }
+
+    /// The input of these entries, each of which names an input channel and has its values; a channel that no entry names
+    /// has the empty list. The first entry with which something is wrong is refused, by its place from 1. It refuses with
+    /// `NoMemory` where memory was refused.
+    pub fn new(
+        alloc: Global,
+        network: &Network,
+        entries: Vec<(String, Vec<Value>)>,
+    ) -> Result<Input, InputFault>
+        ensures made { MatchResult result (IsMadeOf network.now (map entry_of entries.items))
+            (λ fault. (fault ≡ InputFault.NoMemory) ⊎ IsFirstRefused network.now (map entry_of entries.items) fault) }
+        ensures kinds { IfOk result (λ i. FitsKinds (network_of network.now) (inputs_of i)) }
+    {
+        let mut input = Input::none(alloc, network)?;
+        let mut given = vec![in alloc; false; network.channels()]?;
+        let mut number = 0;
+        for (name, values) in entries {
+            number += 1;
+            let channel = channel_for(network, &given, &name, &values, number)?;
+            given[channel] = true;
+            input.give(channel, values);
+        }
+        Ok(input)
+    }
+
+    // Gives a channel its list, which takes no copy.
+    fn give(&mut self, channel: usize, values: Vec<Value>)
+        requires { channel < length self.old }
+        ensures { self.new ≡ slice_set self.old channel values.items }
+    {
+        self.lists[channel] = values;
     }
 
     /// Whether the input was made for a network with as many channels. It takes no memory.
@@ -85,19 +120,132 @@ fn value_at(values: &[Value], place: u64) -> Option<Value>
 #[cfg(test)]
 mod tests {
     use super::*;
+    use crate::entries::MOST_VALUES;
     use kahn_check::network::check;
     use kahn_syntax::parser::parse;
     use std::test::Fail;
 
-    #[test]
-    fn an_empty_input_fits_its_network(rt: HostRuntime) -> Result<(), Fail> {
+    type Entry = (String, Vec<Value>);
+
+    fn doubling(alloc: Global) -> Result<Network, Fail> {
         let text =
             "begin integer input channel A; integer output channel B; process double(integer in U; integer out W); begin repeat send 2 * wait(U) on W end; double(A, B) end";
-        let network = check(rt.alloc(), parse(rt.alloc(), text)?)?;
+        Ok(check(alloc, parse(alloc, text)?)?)
+    }
+
+    fn entry(alloc: Global, name: &str, value: Value, count: usize) -> Result<Entry, Fail> {
+        Ok((
+            String::from_str(alloc, name)?,
+            vec![in alloc; value; count]?,
+        ))
+    }
+
+    fn refusal(alloc: Global, entries: Vec<Entry>) -> Result<Option<InputFault>, Fail> {
+        let network = doubling(alloc)?;
+        Ok(Input::new(alloc, &network, entries).err())
+    }
+
+    // Why a sole entry is refused.
+    fn refusal_of(
+        alloc: Global,
+        name: &str,
+        value: Value,
+        count: usize,
+    ) -> Result<Option<InputFault>, Fail> {
+        refusal(alloc, vec![in alloc; entry(alloc, name, value, count)?]?)
+    }
+
+    fn token_value(input: &Input, network: &Network, channel: usize, place: u64) -> Option<Value> {
+        if network.channels() <= channel {
+            return None;
+        }
+        let token = input.token(network, channel, place)?;
+        Some(token.value())
+    }
+
+    #[test]
+    fn an_empty_input_fits_its_network(rt: HostRuntime) -> Result<(), Fail> {
+        let network = doubling(rt.alloc())?;
         let input = Input::none(rt.alloc(), &network)?;
         assert!(rt; input.fits(&network));
         assert_eq!(rt; network.channels(), 2);
         assert!(rt; input.token(&network, 0, 0).is_none());
+        Ok(())
+    }
+
+    #[test]
+    fn an_input_has_its_values(rt: HostRuntime) -> Result<(), Fail> {
+        let alloc = rt.alloc();
+        let network = doubling(alloc)?;
+        let values = vec![in alloc; Value::Integer(1), Value::Integer(-2), Value::Integer(3)]?;
+        let entries = vec![in alloc; (String::from_str(alloc, "A")?, values)]?;
+        let input = Input::new(alloc, &network, entries)?;
+        assert!(rt; input.fits(&network));
+        assert_eq!(rt;
+            token_value(&input, &network, 0, 0),
+            Some(Value::Integer(1))
+        );
+        assert_eq!(rt;
+            token_value(&input, &network, 0, 1),
+            Some(Value::Integer(-2))
+        );
+        assert_eq!(rt;
+            token_value(&input, &network, 0, 2),
+            Some(Value::Integer(3))
+        );
+        assert_eq!(rt; token_value(&input, &network, 0, 3), None);
+        assert_eq!(rt; token_value(&input, &network, 1, 0), None);
+        Ok(())
+    }
+
+    #[test]
+    fn an_entry_names_an_input_channel(rt: HostRuntime) -> Result<(), Fail> {
+        let alloc = rt.alloc();
+        let one = Value::Integer(1);
+        assert_eq!(rt;
+            refusal_of(alloc, "Q", one, 0)?,
+            Some(InputFault::UnknownName(1))
+        );
+        assert_eq!(rt;
+            refusal_of(alloc, "begin", one, 1)?,
+            Some(InputFault::UnknownName(1))
+        );
+        assert_eq!(rt;
+            refusal_of(alloc, "B", one, 1)?,
+            Some(InputFault::NotAnInput(1))
+        );
+        assert_eq!(rt; refusal_of(alloc, "A", one, 1)?, None);
+        Ok(())
+    }
+
+    #[test]
+    fn a_channel_is_given_once(rt: HostRuntime) -> Result<(), Fail> {
+        let alloc = rt.alloc();
+        let first = entry(alloc, "A", Value::Integer(1), 0)?;
+        let second = entry(alloc, "A", Value::Logical(true), 1)?;
+        let entries = vec![in alloc; first, second]?;
+        assert_eq!(rt; refusal(alloc, entries)?, Some(InputFault::GivenTwice(2)));
+        Ok(())
+    }
+
+    #[test]
+    fn values_are_few_and_of_the_kind(rt: HostRuntime) -> Result<(), Fail> {
+        let alloc = rt.alloc();
+        let (one, yes) = (Value::Integer(1), Value::Logical(true));
+        assert_eq!(rt;
+            refusal_of(alloc, "A", yes, 1)?,
+            Some(InputFault::WrongKind(1))
+        );
+        assert_eq!(rt; MOST_VALUES, 1_048_576);
+        assert_eq!(rt; refusal_of(alloc, "A", one, 1_048_576)?, None);
+        assert_eq!(rt;
+            refusal_of(alloc, "A", one, 1_048_577)?,
+            Some(InputFault::TooMany(1))
+        );
+        assert_eq!(rt;
+            refusal_of(alloc, "A", yes, 1_048_577)?,
+            Some(InputFault::WrongKind(1))
+        );
         Ok(())
     }
 }

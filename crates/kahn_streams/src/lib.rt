@@ -3,6 +3,7 @@
 
 pub mod about;
 pub mod arithmetic;
+pub mod entries;
 pub mod input;
 pub mod laws;
 pub mod memory;

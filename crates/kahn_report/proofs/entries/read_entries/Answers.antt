@@ -2,7 +2,8 @@ use Rattle.std.proofs.Common.{rules, tests, ◌≡◌, ◌∙◌, ◌==◌, ap, 
 use Rattle.std.proofs.lemmas.List.{length_push, map-append}
 use Rattle.std.proofs.lemmas.Iterator.Splits.{YieldsList-from_slice_split}
 use Rattle.std.proofs.lemmas.Iterator.Consumers.{YieldsList-turn, YieldsList-end}
-use Rattle.kahn_report.specs.Entries.{lines_of, entry_of, content, IsEntry, IsBlank, HasNoHead, HasNoValues, most_bytes}
+use Rattle.kahn_streams.specs.Entries.{entry_of}
+use Rattle.kahn_report.specs.Entries.{lines_of, content, IsEntry, IsBlank, HasNoHead, HasNoValues, most_bytes}
 use Rattle.kahn_report.proofs.Parts.{from_part}
 use Rattle.kahn_report.proofs.Lines.{all_blank, all_entry, good_more, first_such, all_read}
 use Rattle.kahn_report.proofs.entries.read_entries.Goals as goal

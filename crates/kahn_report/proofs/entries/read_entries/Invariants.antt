@@ -1,6 +1,7 @@
 -- The entries so far are those of the lines so far, each of which is blank or an entry.
 use Rattle.std.proofs.Common.{◌≡◌, ℕ, List, ◌++◌, length, map, take, drop, All}
-use Rattle.kahn_report.specs.Entries.{Entry, AreEntries, IsGood, entry_of, lines_of}
+use Rattle.kahn_streams.specs.Entries.{Entry, entry_of}
+use Rattle.kahn_report.specs.Entries.{AreEntries, IsGood, lines_of}
 use Rattle.kahn_report.proofs.entries.read_entries.Given as goal
 
 abbrev pub invariant-loop-line : goal.invariant-loop-line

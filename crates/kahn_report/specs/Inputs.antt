@@ -1,0 +1,40 @@
+-- The input that an input text stands for, and why a text stands for none.
+use Rattle.std.specs.Prelude.{◌≤◌, ℕ, List, length}
+use Rattle.kahn_syntax.specs.declared.tree.Program.{Program}
+use Rattle.kahn_streams.specs.declared.entries.InputFault.{InputFault}
+use Rattle.kahn_streams.specs.declared.entries.InputFault.TheVariants as input_fault
+use Rattle.kahn_streams.specs.Entries.{Entry, IsFirstRefused, IsMadeOf}
+use Rattle.kahn_streams.specs.Tokens.{Lists}
+use Rattle.kahn_report.specs.declared.entries.EntriesFault.{EntriesFault}
+use Rattle.kahn_report.specs.declared.entries.EntriesFault.TheVariants as entries_fault
+use Rattle.kahn_report.specs.declared.input.TextFault.{TextFault}
+use Rattle.kahn_report.specs.declared.input.TextFault.TheVariants.{BadLine, BadValue, Input, TooLong, NoMemory}
+use Rattle.kahn_report.specs.Entries.{IsInputText, IsEntriesFault, most_bytes}
+
+-- the text spells entries with which nothing is wrong, and which give the channels these lists
+abbrev pub StandsFor : Program → List ℕ → Lists → Type 0
+StandsFor t text lists = (entries : List Entry) × IsInputText text entries × IsMadeOf t entries lists
+
+-- why a text stands for no input: it spells no entries, or else one of its entries is refused
+abbrev pub IsTextFault : Program → List ℕ → TextFault → Type 0
+IsTextFault t text (BadLine n) = IsEntriesFault text (entries_fault.BadLine n)
+IsTextFault t text (BadValue n) = IsEntriesFault text (entries_fault.BadValue n)
+IsTextFault t text (Input fault) = (entries : List Entry) × IsInputText text entries × IsFirstRefused t entries fault
+IsTextFault t text TooLong = IsEntriesFault text entries_fault.TooLong
+IsTextFault t text NoMemory = length text ≤ most_bytes
+
+-- a fault of the entries as a fault of the text
+abbrev pub told_of_entries : EntriesFault → TextFault
+told_of_entries (entries_fault.BadLine n) = BadLine n
+told_of_entries (entries_fault.BadValue n) = BadValue n
+told_of_entries entries_fault.TooLong = TooLong
+told_of_entries entries_fault.NoMemory = NoMemory
+
+-- a fault of the input as a fault of the text: want of memory is the text's own
+abbrev pub told_of_input : InputFault → TextFault
+told_of_input (input_fault.UnknownName n) = Input (input_fault.UnknownName n)
+told_of_input (input_fault.NotAnInput n) = Input (input_fault.NotAnInput n)
+told_of_input (input_fault.GivenTwice n) = Input (input_fault.GivenTwice n)
+told_of_input (input_fault.WrongKind n) = Input (input_fault.WrongKind n)
+told_of_input (input_fault.TooMany n) = Input (input_fault.TooMany n)
+told_of_input input_fault.NoMemory = NoMemory

@@ -1,0 +1,212 @@
+-- Entries, one by one: the number of a name, what is given, and the lists.
+use Rattle.std.proofs.Common.{arith, ◌≡◌, ◌≢◌, ◌⊎◌, inl, inr, ℕ, zero, suc, ◌+◌, ◌<◌, ◌==◌, Bool, true, false, List, [], ◌∷◌, ◌++◌, length, map, take, drop, replicate, set, get_or, Some, refl, sym, ap, ◌∙◌, subst, slice_get, slice_index_or, if◌then◌else◌, add-one, bytes_eq, eq-eqb, length-set, get_or-set_same, get_or-set_other}
+use Rattle.std.proofs.lemmas.Bool.{eqb-true, eqb-false}
+use Rattle.std.proofs.lemmas.List.{length-map, length-replicate, take-append-le, take-map}
+use Rattle.std.proofs.lemmas.Option.{slice_get_read, slice_get-map}
+use Rattle.std.specs.Option.{option_map}
+use Rattle.kahn_syntax.specs.declared.tree.Program.{Program}
+use Rattle.kahn_syntax.specs.View.{Scope, place_of}
+use Rattle.kahn_check.specs.Network.{network_of, kind_at, channels_of}
+use Rattle.kahn_check.specs.Sides.{channel_names}
+use Rattle.kahn_streams.specs.declared.entries.InputFault.{InputFault}
+use Rattle.kahn_streams.specs.Kinded.{AreOfKind, FitsKinds}
+use Rattle.kahn_streams.specs.Tokens.{Lists, inputs_of}
+use Rattle.kahn_streams.specs.Entries.{Entry, channel_of, is_given, list_for, IsFit, IsRefused, AreFit, IsFirstRefused, IsMadeOf}
+
+-- ---- the number of a name
+
+drop_some : {A : Type 0} (xs : List A) (k : ℕ) (x : A) → slice_get xs k ≡ Some x → drop k xs ≡ x ∷ drop (suc k) xs
+drop_some [] k x e = absurd cc
+drop_some (y ∷ xs) zero x e = let f : y ≡ x = cc in ap (λ z. z ∷ xs) f
+drop_some (y ∷ xs) (suc k) x e = drop_some xs k x e
+
+place_there : (names : Scope) (k : ℕ) (x y : List ℕ) → slice_get names k ≡ Some y →
+    place_of (drop k names) x ≡ (if bytes_eq x y then 0 else suc (place_of (drop (suc k) names) x))
+place_there names k x y e = ap (λ l. place_of l x) (drop_some names k y e)
+
+pub place_found : (names : Scope) (k n : ℕ) (x y : List ℕ) → slice_get names k ≡ Some y → n ≡ k + place_of (drop k names) x → bytes_eq x y ≡ true → k ≡ n
+place_found names k n x y e f g =
+    let h : place_of (drop k names) x ≡ 0 = place_there names k x y e ∙ ap (λ b. if b then 0 else suc (place_of (drop (suc k) names) x)) g in
+    omega (arith, f, h)
+
+pub place_missed : (names : Scope) (k n : ℕ) (x y : List ℕ) → slice_get names k ≡ Some y → n ≡ k + place_of (drop k names) x → bytes_eq x y ≡ false → n ≡ k + 1 + place_of (drop (k + 1) names) x
+place_missed names k n x y e f g =
+    let h : place_of (drop k names) x ≡ suc (place_of (drop (suc k) names) x) = place_there names k x y e ∙ ap (λ b. if b then 0 else suc (place_of (drop (suc k) names) x)) g in
+    let i : place_of (drop (suc k) names) x ≡ place_of (drop (k + 1) names) x = ap (λ j. place_of (drop j names) x) (sym (add-one k)) in
+    omega (arith, f, h, i)
+
+-- as many names as channels
+pub names_count : (t : Program) → length (channel_names t) ≡ length (network_of t).channels
+names_count t = length-map (channels_of t.declarations.items) (λ c. c.0) ∙ sym (length-map (channels_of t.declarations.items) (λ c. c.1))
+
+-- ---- what is given after one entry more
+
+both_true : (b : Bool) → (if b then true else true) ≡ true
+both_true true = refl
+both_true false = refl
+
+given_same : (t : Program) (es : List Entry) (e : Entry) → is_given t (es ++ e ∷ []) (channel_of t e) ≡ true
+given_same t [] e = ap (λ b. if b then true else false) (eq-eqb (channel_of t e) (channel_of t e) refl)
+given_same t (x ∷ es) e =
+    ap (λ b. if channel_of t x == channel_of t e then true else b) (given_same t es e) ∙ both_true (channel_of t x == channel_of t e)
+
+not_same : (a b : ℕ) (v : Bool) → (a == b) ≡ v → a ≢ b → v ≡ false
+not_same a b true e n = absurd (n (eqb-true a b e))
+not_same a b false e n = refl
+
+given_other : (t : Program) (es : List Entry) (e : Entry) (c : ℕ) → channel_of t e ≢ c → is_given t (es ++ e ∷ []) c ≡ is_given t es c
+given_other t [] e c n = ap (λ b. if b then true else false) (not_same (channel_of t e) c (channel_of t e == c) refl n)
+given_other t (x ∷ es) e c n = ap (λ b. if channel_of t x == c then true else b) (given_other t es e c n)
+
+-- ---- the lists after one entry more
+
+false_first : (b r : Bool) → (if b then true else r) ≡ false → (b ≡ false) × (r ≡ false)
+false_first true r e = absurd cc
+false_first false r e = (refl, e)
+
+list_same : (t : Program) (es : List Entry) (e : Entry) → is_given t es (channel_of t e) ≡ false → list_for t (es ++ e ∷ []) (channel_of t e) ≡ e.1
+list_same t [] e f = ap (λ b. if b then e.1 else []) (eq-eqb (channel_of t e) (channel_of t e) refl)
+list_same t (x ∷ es) e f =
+    let g = false_first (channel_of t x == channel_of t e) (is_given t es (channel_of t e)) f in
+    ap (λ b. if b then x.1 else list_for t (es ++ e ∷ []) (channel_of t e)) g.0 ∙ list_same t es e g.1
+
+list_other : (t : Program) (es : List Entry) (e : Entry) (c : ℕ) → channel_of t e ≢ c → list_for t (es ++ e ∷ []) c ≡ list_for t es c
+list_other t [] e c n = ap (λ b. if b then e.1 else []) (not_same (channel_of t e) c (channel_of t e == c) refl n)
+list_other t (x ∷ es) e c n = ap (λ l. if channel_of t x == c then x.1 else l) (list_other t es e c n)
+
+-- ---- the entries that are fit
+
+some_in_none : {A : Type 0} {B : Type 0} (k : ℕ) (x : A) → slice_get [] k ≡ Some x → B
+some_in_none k x e = absurd cc
+
+pub none_fit : (t : Program) → AreFit t []
+none_fit t k e at = some_in_none k e at
+
+Last : (es : List Entry) (x : Entry) (k : ℕ) (e : Entry) → Type 0
+Last es x k e = ((k < length es) × (slice_get es k ≡ Some e)) ⊎ ((k ≡ length es) × (x ≡ e))
+
+last : (es : List Entry) (x : Entry) (k : ℕ) (e : Entry) → slice_get (es ++ x ∷ []) k ≡ Some e → Last es x k e
+unfolding Last
+last [] x zero e at = inr (refl, cc)
+last [] x (suc k) e at = some_in_none k e at
+last (y ∷ es) x zero e at = inl (omega arith, at)
+last (y ∷ es) x (suc k) e at = elim (last es x k e at) [ inl h ↦ inl (omega (arith, h.0), h.1) | inr h ↦ inr (ap suc h.0, h.1) ]
+
+take_all : (es : List Entry) (x : Entry) → take (length es) (es ++ x ∷ []) ≡ es
+take_all [] x = refl
+take_all (y ∷ es) x = ap (λ l. y ∷ l) (take_all es x)
+
+pub fit_more : (t : Program) (es : List Entry) (x : Entry) → AreFit t es → IsFit t (is_given t es (channel_of t x)) x → AreFit t (es ++ x ∷ [])
+unfolding Last
+fit_more t es x all one k e at =
+    elim (last es x k e at) [
+      | inl h ↦ subst (λ l. IsFit t (is_given t l (channel_of t e)) e) (sym (take-append-le k es (x ∷ []) (omega (arith, h.0)))) (all k e h.1)
+      | inr h ↦ subst (λ n. IsFit t (is_given t (take n (es ++ x ∷ [])) (channel_of t e)) e) (sym h.0)
+          (subst (λ l. IsFit t (is_given t l (channel_of t e)) e) (sym (take_all es x))
+          (subst (λ y. IsFit t (is_given t es (channel_of t y)) y) h.1 one))
+    ]
+
+-- ---- the flags and the lists, after the first entries
+
+pub record AreFilled (t : Program) (done : List Entry) (flags : List Bool) (lists : Lists) : Type 0 where
+  pub made : IsMadeOf t done lists
+  pub size : length flags ≡ length (network_of t).channels
+  pub marks : (c : ℕ) → slice_index_or flags c false ≡ is_given t done c
+
+none_of : {A : Type 0} (n c : ℕ) (x : A) → slice_index_or (replicate n x) c x ≡ x
+none_of zero c x = refl
+none_of (suc n) zero x = refl
+none_of (suc n) (suc c) x = none_of n c x
+
+pub none_filled : (t : Program) (n : ℕ) (flags : List Bool) (lists : Lists) → n ≡ length (network_of t).channels → flags ≡ replicate n false → lists ≡ replicate n [] → AreFilled t [] flags lists
+none_filled t n flags lists e f l = record {
+  made = record {
+    fit = none_fit t;
+    count = ap length l ∙ length-replicate n [] ∙ e;
+    lists = λ c. ap (λ x. slice_index_or x c []) l ∙ none_of n c [];
+  };
+  size = ap length f ∙ length-replicate n false ∙ e;
+  marks = λ c. ap (λ x. slice_index_or x c false) f ∙ none_of n c false;
+}
+
+same_or_not : (a b : ℕ) (v : Bool) → (a == b) ≡ v → (a ≡ b) ⊎ (a ≢ b)
+same_or_not a b true e = inl (eqb-true a b e)
+same_or_not a b false e = inr (eqb-false a b e)
+
+module _ (t : Program) (done : List Entry) (flags : List Bool) (lists : Lists) (x : Entry) (h : AreFilled t done flags lists) where
+  marks_more : IsFit t (is_given t done (channel_of t x)) x → (c : ℕ) → slice_index_or (set flags (channel_of t x) true) c false ≡ is_given t (done ++ x ∷ []) c
+  marks_more fit c = elim (same_or_not (channel_of t x) c (channel_of t x == c) refl) [
+    | inl e ↦ subst (λ d. slice_index_or (set flags (channel_of t x) true) d false ≡ is_given t (done ++ x ∷ []) d) e
+        (get_or-set_same flags (channel_of t x) true false (omega (arith, fit.named, h.size, names_count t)) ∙ sym (given_same t done x))
+    | inr n ↦ get_or-set_other flags (channel_of t x) c true false (λ e. n (sym e)) ∙ h.marks c ∙ sym (given_other t done x c n)
+  ]
+
+  lists_more : IsFit t (is_given t done (channel_of t x)) x → (c : ℕ) → inputs_of (set lists (channel_of t x) x.1) c ≡ list_for t (done ++ x ∷ []) c
+  lists_more fit c = elim (same_or_not (channel_of t x) c (channel_of t x == c) refl) [
+    | inl e ↦ subst (λ d. inputs_of (set lists (channel_of t x) x.1) d ≡ list_for t (done ++ x ∷ []) d) e
+        (get_or-set_same lists (channel_of t x) x.1 [] (omega (arith, fit.named, h.made.count, names_count t)) ∙ sym (list_same t done x fit.first))
+    | inr n ↦ get_or-set_other lists (channel_of t x) c x.1 [] (λ e. n (sym e)) ∙ h.made.lists c ∙ sym (list_other t done x c n)
+  ]
+
+  more_here : IsFit t (is_given t done (channel_of t x)) x → AreFilled t (done ++ x ∷ []) (set flags (channel_of t x) true) (set lists (channel_of t x) x.1)
+  more_here fit = record {
+    made = record {
+      fit = fit_more t done x h.made.fit fit;
+      count = length-set lists (channel_of t x) x.1 ∙ h.made.count;
+      lists = lists_more fit;
+    };
+    size = length-set flags (channel_of t x) true ∙ h.size;
+    marks = marks_more fit;
+  }
+
+  -- one entry more
+  pub more_filled : (c : ℕ) → c ≡ channel_of t x → IsFit t (slice_index_or flags (channel_of t x) false) x → AreFilled t (done ++ x ∷ []) (set flags c true) (set lists c x.1)
+  more_filled c is fit =
+      subst (λ d. AreFilled t (done ++ x ∷ []) (set flags d true) (set lists d x.1)) (sym is)
+      (more_here (subst (λ b. IsFit t b x) (h.marks (channel_of t x)) fit))
+
+  -- the first entry that is refused
+  pub first_refused : (all : List Entry) (k n : ℕ) (fault : InputFault) → slice_get all k ≡ Some x → done ≡ take k all → n ≡ k + 1 →
+      IsRefused t (slice_index_or flags (channel_of t x) false) x n fault → IsFirstRefused t all fault
+  first_refused all k n fault at are is refused = (
+    k,
+    x,
+    at,
+    subst (AreFit t) are h.made.fit,
+    subst (λ m. IsRefused t (is_given t (take k all) (channel_of t x)) x m fault) is
+        (subst (λ b. IsRefused t b x n fault) (h.marks (channel_of t x) ∙ ap (λ l. is_given t l (channel_of t x)) are) refused),
+  )
+
+-- ---- kinds
+
+list_kinded : (t : Program) (es : List Entry) → ((k : ℕ) (e : Entry) → slice_get es k ≡ Some e → AreOfKind (kind_at (network_of t) (channel_of t e)) e.1)
+    → (c : ℕ) → AreOfKind (kind_at (network_of t) c) (list_for t es c)
+list_kinded t [] h c = tt
+list_kinded t (x ∷ es) h c = by (channel_of t x == c) refl (list_kinded t es (λ k. h (suc k)) c)
+  where
+    by : (b : Bool) → (channel_of t x == c) ≡ b → AreOfKind (kind_at (network_of t) c) (list_for t es c)
+        → AreOfKind (kind_at (network_of t) c) (if b then x.1 else list_for t es c)
+    by true e rest = subst (λ d. AreOfKind (kind_at (network_of t) d) x.1) (eqb-true (channel_of t x) c e) (h zero x refl)
+    by false e rest = rest
+
+-- the lists of fit entries have the kinds of their channels
+pub kinds_fit : (t : Program) (es : List Entry) (lists : Lists) → IsMadeOf t es lists → FitsKinds (network_of t) (inputs_of lists)
+kinds_fit t es lists made c =
+    subst (AreOfKind (kind_at (network_of t) c)) (sym (made.lists c)) (list_kinded t es (λ k e at. (made.fit k e at).kinded) c)
+
+-- ---- the entries, one after another
+
+map_same : {A : Type 0} (xs : List A) → map (λ x. x) xs ≡ xs
+map_same [] = refl
+map_same (x ∷ xs) = ap (λ l. x ∷ l) (map_same xs)
+
+-- the entry that is read
+pub read_here : {A : Type 0} (f : A → Entry) (all : List A) (k : ℕ) (x : A) → k < length all → x ≡ get_or all k x → slice_get (map f all) k ≡ Some (f x)
+read_here f all k x below is = slice_get-map f all k ∙ ap (option_map f) (slice_get_read all (length all) k x refl below is)
+
+-- the entries that are read
+pub read_so_far : {A : Type 0} (f : A → Entry) (done all : List A) → map (λ x. x) done ≡ take (length done) all → map f done ≡ take (length done) (map f all)
+read_so_far f done all e = ap (map f) (sym (map_same done) ∙ e) ∙ sym (take-map f (length done) all)
+
+pub read_all : {A : Type 0} (f : A → Entry) (done all : List A) → map (λ x. x) done ≡ all → map f done ≡ map f all
+read_all f done all e = ap (map f) (sym (map_same done) ∙ e)

@@ -1,0 +1,119 @@
+//! The entries from which an input is made: names of channels, each with its values.
+
+ghost use Rattle.std.specs.Prelude.{◌≡◌, ◌↔◌, ◌<◌, ◌≤◌, IsTrue, MatchOption, MatchResult, false, length, slice_index_or};
+ghost use Rattle.kahn_syntax.specs.View.{place_of};
+ghost use Rattle.kahn_check.specs.Network.{network_of};
+ghost use Rattle.kahn_check.specs.Sides.{channel_names};
+ghost use Rattle.kahn_streams.specs.Entries.{IsFit, IsRefused};
+ghost use Rattle.kahn_streams.specs.Kinded.{AreOfKind};
+
+use crate::memory::NoMemory;
+use crate::value::Value;
+use kahn_check::network::Network;
+use kahn_syntax::tree::{Kind, Role};
+use std::alloc::AllocError;
+use thiserror::Error;
+
+/// The most values of one channel.
+pub const MOST_VALUES: usize = 1048576;
+
+/// Why an input is refused. The number is that of the entry, counted from 1. An entry is refused by the first of these
+/// that holds of it.
+#[derive(Clone, Copy, Debug, PartialEq, Eq, Drop, Error)]
+pub enum InputFault {
+    /// No channel has the name.
+    #[error("input entry {0}: no such channel")]
+    UnknownName(usize),
+    /// The channel isn't an input channel.
+    #[error("input entry {0}: not an input channel")]
+    NotAnInput(usize),
+    /// An entry before it names the same channel.
+    #[error("input entry {0}: given twice")]
+    GivenTwice(usize),
+    /// One of the values isn't of the channel's kind.
+    #[error("input entry {0}: kind does not agree")]
+    WrongKind(usize),
+    /// There are more than 1,048,576 values.
+    #[error("input entry {0}: too many values")]
+    TooMany(usize),
+    /// Memory was refused.
+    #[error("no memory")]
+    NoMemory,
+}
+
+impl From<AllocError> for InputFault {
+    ghost use Rattle.std.specs.Prelude.{◌≡◌};
+    ghost use Rattle.kahn_streams.specs.declared.entries.InputFault.TheVariants.{NoMemory};
+
+    ghost from_gives = { λ _ e. e ≡ NoMemory };
+
+    fn from(_error: AllocError) -> InputFault {
+        InputFault::NoMemory
+    }
+}
+
+impl From<NoMemory> for InputFault {
+    ghost use Rattle.std.specs.Prelude.{◌≡◌};
+    ghost use Rattle.kahn_streams.specs.declared.entries.InputFault.TheVariants.{NoMemory};
+
+    ghost from_gives = { λ _ e. e ≡ NoMemory };
+
+    fn from(_error: NoMemory) -> InputFault {
+        InputFault::NoMemory
+    }
+}
+
+/// The number of the channel of that name, counted from 0 in order of declaration. None where no channel has the name.
+/// It takes no memory.
+#[tactic(auto, using(crate::proofs::Entered::place_found, crate::proofs::Entered::place_missed, crate::proofs::Entered::names_count))]
+pub fn channel_named(network: &Network, name: &str) -> Option<usize>
+    ensures { MatchOption result (length (channel_names network.now) ≤ place_of (channel_names network.now) name.now)
+        (λ c. (c ≡ place_of (channel_names network.now) name.now) × (c < length (channel_names network.now))) }
+{
+    for channel in 0..network.channels() {
+        if name == network.channel(channel).name {
+            return Some(channel);
+        }
+    }
+    None
+}
+
+// Whether each of the values is of the kind.
+fn are_of_kind(values: &[Value], kind: Kind) -> bool
+    ensures { IsTrue result ↔ AreOfKind kind values.now }
+{
+    values.iter().all(|value| value.kind() == kind)
+}
+
+// The channel of an entry, or why the entry with that number is refused. Given are the channels that an entry before it
+// names.
+pub(crate) fn channel_for(
+    network: &Network,
+    given: &[bool],
+    name: &str,
+    values: &[Value],
+    entry: usize,
+) -> Result<usize, InputFault>
+    requires { length given.now ≡ length (network_of network.now).channels }
+    ensures { let channel = place_of (channel_names network.now) name.now in
+        MatchResult result (λ c. (c ≡ channel) × IsFit network.now (slice_index_or given.now channel false) (name.now, values.now))
+        (IsRefused network.now (slice_index_or given.now channel false) (name.now, values.now) entry) }
+{
+    let Some(channel) = channel_named(network, name) else {
+        return Err(InputFault::UnknownName(entry));
+    };
+    let declared = network.channel(channel);
+    if declared.role != Role::Input {
+        return Err(InputFault::NotAnInput(entry));
+    }
+    if given[channel] {
+        return Err(InputFault::GivenTwice(entry));
+    }
+    if !are_of_kind(values, declared.kind) {
+        return Err(InputFault::WrongKind(entry));
+    }
+    if values.len() > MOST_VALUES {
+        return Err(InputFault::TooMany(entry));
+    }
+    Ok(channel)
+}
