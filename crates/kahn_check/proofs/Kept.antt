@@ -14,6 +14,7 @@ use Rattle.kahn_syntax.specs.declared.tree.Declaration.{Declaration}
 use Rattle.kahn_syntax.specs.declared.tree.Declaration.TheVariants as D
 use Rattle.kahn_syntax.specs.declared.tree.Program.{Program}
 use Rattle.kahn_syntax.specs.View.{bytes_of}
+use Rattle.kahn_check.specs.Made.{IsMadeOf}
 use Rattle.kahn_check.specs.Network as N
 use Rattle.kahn_check.specs.Network.{network_of, instance_at, instance_from, kind_at, role_at, channel_source, process_of, idle}
 use Rattle.kahn_check.specs.Sides.{IsOnly, IsWriter, IsReader, source_of, channel_names}
@@ -129,19 +130,25 @@ process_count t ws ns h =
 pub number_within : (t : Program) (ws : List Wire) (ns : List ℕ) → IsKept t ws ns → (p k : ℕ) → slice_get ns p ≡ Some k → k < length t.declarations.items
 number_within t ws ns h p k at = let d = declared_number t ws ns h p k at in within t.declarations.items k (D.Process d.process) d.declared
 
-pub instance_kept : (t : Program) (ws : List Wire) (ns : List ℕ) → IsKept t ws ns → (p k : ℕ) → slice_get ns p ≡ Some k → (x : Instance) (q : Process) → slice_get t.instances.items p ≡ Some x →
-    slice_get t.declarations.items k ≡ Some (D.Process q) → instance_at (network_of t) p ≡ instance_from (channel_names t) (Some q) x.arguments.items
-instance_kept t ws ns h p k at x q is declared =
+pub instance_declared : (t : Program) (ws : List Wire) (ns : List ℕ) → IsKept t ws ns → (p k : ℕ) → slice_get ns p ≡ Some k → (x : Instance) (q : Process) → slice_get t.instances.items p ≡ Some x →
+    slice_get t.declarations.items k ≡ Some (D.Process q) → IsMadeOf t p q x.arguments.items
+instance_declared t ws ns h p k at x q is declared =
     let d = declared_number t ws ns h p k at in
     let same : d.instance ≡ x = by (sym d.there ∙ is) in
     let alike : d.process ≡ q = of_declared (sym d.declared ∙ declared) in
-    instance_made t p x (Some q) is (ap (λ (z : Instance). process_of t.declarations.items (bytes_of z.process)) (sym same) ∙ d.named ∙ ap Some alike)
+    (x, is, ap (λ (z : Instance). process_of t.declarations.items (bytes_of z.process)) (sym same) ∙ d.named ∙ ap Some alike, refl)
   where
     by : {a b : Instance} → Some a ≡ Some b → a ≡ b
     by i = cc
 
     of_declared : {a b : Process} → Some (D.Process a) ≡ Some (D.Process b) → a ≡ b
     of_declared i = cc
+
+pub instance_kept : (t : Program) (ws : List Wire) (ns : List ℕ) → IsKept t ws ns → (p k : ℕ) → slice_get ns p ≡ Some k → (x : Instance) (q : Process) → slice_get t.instances.items p ≡ Some x →
+    slice_get t.declarations.items k ≡ Some (D.Process q) → instance_at (network_of t) p ≡ instance_from (channel_names t) (Some q) x.arguments.items
+instance_kept t ws ns h p k at x q is declared =
+    let d = instance_declared t ws ns h p k at x q is declared in
+    instance_made t p d.0 (Some q) d.1 d.2 ∙ ap (instance_from (channel_names t) (Some q)) d.3
 
 pub never_channels : (t : Program) (ws : List Wire) (ns : List ℕ) → IsKept t ws ns → (p k : ℕ) → slice_get ns p ≡ Some k → (d : Declaration) → slice_get t.declarations.items k ≡ Some d → the_declared (Some d) ≡ None → ⊥
 never_channels t ws ns h p k at d declared none =

@@ -7,4 +7,5 @@ pub mod Globals
 pub mod Tables
 pub mod Sides
 pub mod Sources
+pub mod Made
 pub mod Wires

@@ -3,6 +3,7 @@
 ghost use Rattle.std.specs.Prelude.{◌≡◌, ◌<◌, MatchResult, Some, length, slice_get, slice_index_or, ℕ};
 ghost use Rattle.kahn_syntax.specs.View.{bytes_of};
 ghost use Rattle.kahn_check.specs.Faults.{IsMet};
+ghost use Rattle.kahn_check.specs.Made.{IsMadeOf};
 ghost use Rattle.kahn_check.specs.Network.{network_of, instance_at, instance_from, kind_at, role_at, channel_source, process_of};
 ghost use Rattle.kahn_check.specs.Order.{faults};
 ghost use Rattle.kahn_check.specs.Sides.{IsOnly, IsWriter, IsReader, source_of, channel_names};
@@ -138,6 +139,7 @@ impl Network {
     /// The instance with that number, counted from 0 in text order.
     pub fn instance(&self, instance: usize) -> Instance<'_>
         requires { instance < length (network_of self.now).instances }
+        ensures declared { IsMadeOf self.now instance result.process.now result.arguments.now }
         ensures made { instance_at (network_of self.now) instance ≡ instance_from (channel_names self.now) (Some result.process.now) result.arguments.now }
     {
         let number = self.processes[instance];

@@ -1,5 +1,7 @@
 //! Programs that are refused, each with its first fault, and programs that are accepted.
 
+mod limits;
+
 use crate::fault::CheckFault;
 use crate::network::check;
 use kahn_syntax::parser::parse;
@@ -26,6 +28,14 @@ fn names_are_declared_once(rt: HostRuntime) {
     );
     let text = "begin process p(); begin print A end; p() end";
     assert_eq!(rt; fault(text, &rt), Some(CheckFault::Unknown(at(31, 32))));
+}
+
+#[test]
+fn a_logical_value_is_printed(rt: HostRuntime) -> Result<(), Fail> {
+    let text = "begin process p(); begin print true end; p() end";
+    let network = check(rt.alloc(), parse(rt.alloc(), text)?)?;
+    assert_eq!(rt; network.instances(), 1);
+    Ok(())
 }
 
 #[test]

@@ -1,10 +1,11 @@
 use Rattle.std.proofs.Common.{rules, arith, ◌≡◌, ◌∙◌, sym, ap, subst, ◌<◌, length, Some, None, refl}
 use Rattle.kahn_syntax.specs.declared.tree.Declaration.TheVariants as D
+use Rattle.kahn_check.specs.Made.{IsMadeOf}
 use Rattle.kahn_check.specs.Network.{network_of, instance_at, instance_from}
 use Rattle.kahn_check.specs.Sides.{channel_names}
 use Rattle.kahn_check.specs.Wires.{the_process}
 use Rattle.kahn_check.proofs.Numbered.{at_index}
-use Rattle.kahn_check.proofs.Kept.{process_count, instance_count, number_within, instance_kept, never_channels}
+use Rattle.kahn_check.proofs.Kept.{process_count, instance_count, number_within, instance_declared, instance_kept, never_channels}
 use Rattle.kahn_check.proofs.network.Network.instance.Goals as goal
 
 pub index-requires : goal.index-requires
@@ -36,8 +37,30 @@ unreachable-requires c =
     let none : the_process (Some d) ≡ None = rw c.in-Channels.is refl in
     never_channels t c.self.inside.wires.items ns c.self.invariant p k at d declared none
 
-pub returns : goal.returns
-returns c =
+pub returns-clause-declared : goal.returns-clause-declared
+returns-clause-declared c =
+    let t = c.self.inside.program in
+    let ns = c.self.inside.processes.items in
+    let p = c.args.instance in
+    let k = c.index-number.result.now in
+    let count = process_count t c.self.inside.wires.items ns c.self.invariant in
+    let lt = subst (λ z. p < length (network_of z).instances) (sym c.self.view_is) c.requires in
+    let within_ns = subst (λ z. p < z) (sym count) lt in
+    let at = at_index ns p k within_ns (search rules) in
+    let x = c.index-in-Process.result.now in
+    let q = c.in-Process.process in
+    let here = number_within t c.self.inside.wires.items ns c.self.invariant p k at in
+    let is : c.index.result.now ≡ D.Process q = c.in-Process.is in
+    let declared = at_index t.declarations.items k c.index.result.now here (search rules) ∙ ap Some is in
+    let within_xs : p < length t.instances.items = subst (λ z. p < z) (instance_count t) lt in
+    let there = at_index t.instances.items p x within_xs (search rules) in
+    let made = instance_declared t c.self.inside.wires.items ns c.self.invariant p k at x q there declared in
+    let now = subst (λ z. IsMadeOf z p q x.arguments.items) c.self.view_is made in
+    let handed = now.3 in
+    (now.0, now.1, now.2, search (rules, handed))
+
+pub returns-clause-made : goal.returns-clause-made
+returns-clause-made c =
     let t = c.self.inside.program in
     let ns = c.self.inside.processes.items in
     let p = c.args.instance in
