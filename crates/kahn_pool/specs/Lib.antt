@@ -5,3 +5,4 @@ pub mod Parameters
 pub mod Limits
 pub mod Workbench
 pub mod Streams
+pub mod Runs

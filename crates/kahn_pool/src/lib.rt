@@ -8,8 +8,8 @@ pub mod gate;
 pub mod laws;
 pub mod one;
 pub mod rounds;
+pub mod run;
 pub mod streams;
-pub mod workbench;
-
 #[cfg(test)]
 mod tests;
+pub mod workbench;

@@ -7,3 +7,4 @@ pub mod Scanned
 pub mod Lines
 pub mod Right_lines
 pub mod Told
+pub mod Worked

@@ -4,3 +4,4 @@ pub mod Written
 pub mod Reading
 pub mod Entries
 pub mod Inputs
+pub mod Work

@@ -18,7 +18,7 @@ use std::sync::ledger::{Blank, Ledger};
 use thiserror::Error;
 
 /// Why a text wasn't written whole.
-#[derive(Clone, Copy, Debug, PartialEq, Eq, Error)]
+#[derive(Clone, Copy, Debug, PartialEq, Eq, Drop, Error)]
 pub enum WriteFault {
     #[error("a write failed")]
     Failed,

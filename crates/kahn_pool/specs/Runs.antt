@@ -1,0 +1,42 @@
+-- What a run is asked for, and why it is refused (this project's profile).
+use Rattle.std.specs.Prelude.{◌≡◌, ℕ, ◌<◌, ◌≤◌, List, length, Option, Some, None, string_bytes}
+use Rattle.std.specs.declared.string.String.{String}
+use Rattle.std.specs.declared.alloc.Global.{Global}
+use Rattle.kahn_syntax.specs.declared.tree.Program.{Program}
+use Rattle.kahn_syntax.specs.View.{place_of}
+use Rattle.kahn_check.specs.Network.{network_of}
+use Rattle.kahn_check.specs.Sides.{channel_names}
+use Rattle.kahn_streams.specs.Tokens.{Lists, inputs_of}
+use Rattle.kahn_pool.specs.declared.answer.Answer.{Answer}
+use Rattle.kahn_pool.specs.declared.config.Config.{Config}
+use Rattle.kahn_pool.specs.declared.config.RunFault.{RunFault}
+use Rattle.kahn_pool.specs.declared.config.RunFault.TheVariants as fault
+use Rattle.kahn_pool.specs.Limits.{IsInRange}
+use Rattle.kahn_pool.specs.Right.{IsRight}
+
+-- each number is within its limit
+abbrev pub IsAllowed : Config → Type 0
+IsAllowed config = IsInRange config.workers config.quantum config.bound
+
+-- the channel of the name that is to be watched, or none where none is named
+abbrev pub IsWatched : Program → Option (String Global) → Option ℕ → Type 0
+IsWatched t None watch = watch ≡ None
+IsWatched t (Some name) watch = (watch ≡ Some (place_of (channel_names t) (string_bytes name))) × (place_of (channel_names t) (string_bytes name) < length (channel_names t))
+
+-- a channel is to be watched, and none has its name
+abbrev pub IsUndeclared : Program → Option (String Global) → Type 0
+IsUndeclared t None = ⊥
+IsUndeclared t (Some name) = length (channel_names t) ≤ place_of (channel_names t) (string_bytes name)
+
+-- the right answer, with the channel that is to be watched
+abbrev pub IsRun : Program → Lists → Config → Answer → Type 0
+IsRun t lists config a =
+    IsAllowed config × ((watch : Option ℕ) × IsWatched t config.watch watch × IsRight (network_of t) (inputs_of lists) config.bound watch a)
+
+-- why there is none: first the numbers, then the watched channel, then what the run itself wants
+abbrev pub IsUnrun : Program → Config → RunFault → Type 0
+IsUnrun t config fault.BadConfig = IsAllowed config → ⊥
+IsUnrun t config fault.UnknownWatch = IsAllowed config × IsUndeclared t config.watch
+IsUnrun t config fault.NoMemory = IsAllowed config × ((watch : Option ℕ) × IsWatched t config.watch watch)
+IsUnrun t config fault.NoThread = IsAllowed config × ((watch : Option ℕ) × IsWatched t config.watch watch)
+IsUnrun t config fault.Stalled = ⊥

@@ -1,0 +1,62 @@
+-- What the whole work does, from the bytes of the texts to the bytes of the report.
+use Rattle.std.specs.Prelude.{◌≡◌, ◌⊎◌, ℕ, ◌≤◌, List, Option, Result, Ok, Err}
+use Rattle.std.specs.Io.KnownBytes.{Appends}
+use Rattle.kahn_syntax.specs.declared.fault.SyntaxFault.{SyntaxFault}
+use Rattle.kahn_syntax.specs.declared.tree.Program.{Program}
+use Rattle.kahn_syntax.specs.Drawn.{program_of}
+use Rattle.kahn_syntax.specs.Programs.{nesting}
+use Rattle.kahn_syntax.specs.Texts.{IsProgram, IsTextFault as IsSyntaxFault}
+use Rattle.kahn_check.specs.Order.{faults}
+use Rattle.kahn_check.specs.Faults.{IsMet}
+use Rattle.kahn_check.specs.Wiring.{IsWellWired}
+use Rattle.kahn_streams.specs.Tokens.{Lists}
+use Rattle.kahn_pool.specs.declared.answer.Answer.{Answer}
+use Rattle.kahn_pool.specs.declared.answer.Verdict.{Verdict}
+use Rattle.kahn_pool.specs.declared.config.Config.{Config}
+use Rattle.kahn_pool.specs.Runs.{IsRun, IsUnrun}
+use Rattle.kahn_report.specs.declared.work.WorkFault.{WorkFault}
+use Rattle.kahn_report.specs.declared.work.WorkFault.TheVariants.{Syntax, Check, Text, Run, Write}
+use Rattle.kahn_report.specs.Inputs.{StandsFor, IsTextFault}
+use Rattle.kahn_report.specs.Report.{report_text}
+use Rattle.kahn_report.specs.Written.{AppendsFront}
+
+-- the text spells this program, whose nesting is within its limit
+abbrev pub IsParsed : List ℕ → Program → Type 0
+IsParsed text t = IsProgram text t × (nesting (program_of t) ≤ 64)
+
+-- the text spells this program, which is well wired
+abbrev pub IsChecked : List ℕ → Program → Type 0
+IsChecked text t = IsParsed text t × IsWellWired t
+
+-- the right answer for what the two texts stand for
+abbrev pub IsAnswered : List ℕ → List ℕ → Config → Program → Lists → Answer → Type 0
+IsAnswered program input config t lists a = IsChecked program t × StandsFor t input lists × IsRun t lists config a
+
+-- why a text is no well wired program
+abbrev pub IsUnchecked : List ℕ → WorkFault → Type 0
+IsUnchecked program (Syntax f) = IsSyntaxFault program f
+IsUnchecked program (Check f) = (t : Program) × IsParsed program t × IsMet (faults t) f
+IsUnchecked program (Text f) = ⊥
+IsUnchecked program (Run f) = ⊥
+IsUnchecked program (Write f) = ⊥
+
+-- why there is no answer for a network and an input text
+abbrev pub IsUnanswered : Program → List ℕ → Config → WorkFault → Type 0
+IsUnanswered t input config (Syntax f) = ⊥
+IsUnanswered t input config (Check f) = ⊥
+IsUnanswered t input config (Text f) = IsTextFault t input f
+IsUnanswered t input config (Run f) = (lists : Lists) × StandsFor t input lists × IsUnrun t config f
+IsUnanswered t input config (Write f) = ⊥
+
+-- the report of a right answer went out, or why not: the first of the faults in this order, after which nothing was
+-- written, or the writer's, after which a prefix of such a report was
+abbrev pub IsWorked : List ℕ → List ℕ → Config → Option (List ℕ) → Option (List ℕ) → Result Verdict WorkFault → Type 0
+IsWorked program input config old new (Ok verdict) =
+    (t : Program) × (lists : Lists) × (a : Answer) × IsAnswered program input config t lists a × (a.verdict ≡ verdict) × Appends old new (report_text t a)
+IsWorked program input config old new (Err (Syntax f)) = IsSyntaxFault program f × (new ≡ old)
+IsWorked program input config old new (Err (Check f)) = ((t : Program) × IsParsed program t × IsMet (faults t) f) × (new ≡ old)
+IsWorked program input config old new (Err (Text f)) = ((t : Program) × IsChecked program t × IsTextFault t input f) × (new ≡ old)
+IsWorked program input config old new (Err (Run f)) =
+    ((t : Program) × (lists : Lists) × IsChecked program t × StandsFor t input lists × IsUnrun t config f) × (new ≡ old)
+IsWorked program input config old new (Err (Write f)) =
+    (t : Program) × (lists : Lists) × (a : Answer) × IsAnswered program input config t lists a × AppendsFront old new (report_text t a)

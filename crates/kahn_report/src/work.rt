@@ -1,0 +1,140 @@
+//! The whole work: from a program text and an input text to a report.
+
+ghost use Rattle.kahn_report.specs.Work.{IsChecked, IsUnanswered, IsUnchecked, IsWorked};
+ghost use Rattle.kahn_report.specs.Inputs.{StandsFor};
+ghost use Rattle.kahn_pool.specs.Runs.{IsRun};
+ghost use Rattle.kahn_streams.specs.Tokens.{Lists};
+ghost use Rattle.std.specs.Prelude.{MatchResult};
+
+use crate::input::{TextFault, read_input};
+use crate::write::{WriteFault, write_report};
+use kahn_check::fault::CheckFault;
+use kahn_check::network::{Network, check};
+use kahn_pool::answer::{Answer, Verdict};
+use kahn_pool::config::{Config, RunFault};
+use kahn_pool::gate::Gate;
+use kahn_pool::run::run;
+use kahn_syntax::fault::SyntaxFault;
+use kahn_syntax::parser::parse;
+use std::alloc::Global;
+use std::io::Write;
+use std::sync::Wait;
+use std::thread::Threads;
+use thiserror::Error;
+
+/// Why no report was written, or not the whole of it. After each of them but `Write` nothing was written.
+#[derive(Clone, Copy, Debug, PartialEq, Eq, Drop, Error)]
+pub enum WorkFault {
+    /// The program text isn't of the language.
+    #[error("{0}")]
+    Syntax(SyntaxFault),
+    /// The program isn't well wired.
+    #[error("{0}")]
+    Check(CheckFault),
+    /// The input text stands for no input of the network.
+    #[error("{0}")]
+    Text(TextFault),
+    /// The run was refused.
+    #[error("{0}")]
+    Run(RunFault),
+    /// The report could not be written. A prefix of it was.
+    #[error("{0}")]
+    Write(WriteFault),
+}
+
+impl From<SyntaxFault> for WorkFault {
+    ghost use Rattle.std.specs.Prelude.{◌≡◌};
+    ghost use Rattle.kahn_report.specs.declared.work.WorkFault.TheVariants.{Syntax};
+
+    ghost from_gives = { λ fault told. told ≡ Syntax fault };
+
+    fn from(fault: SyntaxFault) -> WorkFault {
+        WorkFault::Syntax(fault)
+    }
+}
+
+impl From<CheckFault> for WorkFault {
+    ghost use Rattle.std.specs.Prelude.{◌≡◌};
+    ghost use Rattle.kahn_report.specs.declared.work.WorkFault.TheVariants.{Check};
+
+    ghost from_gives = { λ fault told. told ≡ Check fault };
+
+    fn from(fault: CheckFault) -> WorkFault {
+        WorkFault::Check(fault)
+    }
+}
+
+impl From<TextFault> for WorkFault {
+    ghost use Rattle.std.specs.Prelude.{◌≡◌};
+    ghost use Rattle.kahn_report.specs.declared.work.WorkFault.TheVariants.{Text};
+
+    ghost from_gives = { λ fault told. told ≡ Text fault };
+
+    fn from(fault: TextFault) -> WorkFault {
+        WorkFault::Text(fault)
+    }
+}
+
+impl From<RunFault> for WorkFault {
+    ghost use Rattle.std.specs.Prelude.{◌≡◌};
+    ghost use Rattle.kahn_report.specs.declared.work.WorkFault.TheVariants.{Run};
+
+    ghost from_gives = { λ fault told. told ≡ Run fault };
+
+    fn from(fault: RunFault) -> WorkFault {
+        WorkFault::Run(fault)
+    }
+}
+
+// The network of a program text.
+fn checked(alloc: Global, program: &str) -> Result<Network, WorkFault>
+    ensures { MatchResult result (IsChecked program.now) (IsUnchecked program.now) }
+{
+    let tree = parse(alloc, program)?;
+    Ok(check(alloc, tree)?)
+}
+
+// The answer of a network for an input text.
+fn answered<R: Threads + Wait + Sync, G: Gate>(
+    rt: &R,
+    alloc: Global,
+    network: &Network,
+    text: &str,
+    config: Config,
+    gate: &G,
+) -> Result<Answer, WorkFault>
+    ensures { MatchResult result (λ a. (lists : Lists) × StandsFor network.now text.now lists × IsRun network.now lists config a) (IsUnanswered network.now text.now config) }
+{
+    let input = read_input(alloc, text, network)?;
+    Ok(run(rt, alloc, network, input, config, gate)?)
+}
+
+/// Reads a program and an input, runs the program, and writes the report of its answer: from the bytes of the texts to
+/// the bytes of the report. Nothing is written before the answer stands; where a write fails a prefix of the report went
+/// out.
+///
+/// Faults are found in this order: of the program text, of the network, of the input text, of the run, of the writer.
+pub fn work<R: Threads + Wait + Sync, G: Gate, W: Write>(
+    rt: &R,
+    alloc: Global,
+    program: &str,
+    input: &str,
+    config: Config,
+    gate: &G,
+    writer: &mut W,
+) -> Result<Verdict, WorkFault>
+    ensures { IsWorked program.now input.now config (W.contents writer.old) (W.contents writer.new) result }
+{
+    let network = match checked(alloc, program) {
+        Ok(network) => network,
+        Err(fault) => return Err(fault),
+    };
+    let answer = match answered(rt, alloc, &network, input, config, gate) {
+        Ok(answer) => answer,
+        Err(fault) => return Err(fault),
+    };
+    match write_report(writer, &network, &answer) {
+        Ok(()) => Ok(answer.verdict),
+        Err(fault) => Err(WorkFault::Write(fault)),
+    }
+}
