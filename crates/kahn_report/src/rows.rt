@@ -9,7 +9,8 @@ use std::sync::Wait;
 use std::test::Fail;
 use std::thread::Threads;
 
-static COUNT: &str = "Begin Integer output channel W;\n  Process count(integer out W; integer N);\n  Begin integer I;\n    while I < N do begin send I on W; I := I + 1 end\n  End;\n  count(W, 3)\nEnd;\n";
+static COUNT: &str =
+    "Begin Integer output channel W;\n  Process count(integer out W; integer N);\n  Begin integer I;\n    while I < N do begin send I on W; I := I + 1 end\n  End;\n  count(W, 3)\nEnd;\n";
 
 static DOUBLE: &str =
     "begin integer input channel A; integer output channel B; process double(integer in U; integer out W); begin repeat send 2 * wait(U) on W end; double(A, B) end";
@@ -25,14 +26,16 @@ static SELF: &str =
 
 static SILENT: &str = "begin process p(); begin repeat begin end end; p() end";
 
-static UNREAD: &str = "begin integer channel X; process count(integer out W; integer N); begin integer I; while I < N do begin send I on W; I := I + 1 end end; process two(integer in U); begin integer I; I := wait(U); I := wait(U) end; count(X, 5) par two(X) end";
+static UNREAD: &str =
+    "begin integer channel X; process count(integer out W; integer N); begin integer I; while I < N do begin send I on W; I := I + 1 end end; process two(integer in U); begin integer I; I := wait(U); I := wait(U) end; count(X, 5) par two(X) end";
 
 static ALTERNATE: &str =
     "begin integer input channel A, B; process alt(integer in U, V); begin integer I; repeat begin I := wait(U); I := wait(V) end end; alt(A, B) end";
 
 static MARKS: &str = "BEGIN PROCESS p(); Begin logical B; B := \u{ac} B; End; p(); End;";
 
-static FOUR_TURNS: &str = "Begin Integer channel X, Y, Z, T1, T2; Process f(integer in U, V; integer out W); Begin integer I, N; logical B; B := true; while N < 4 do Begin I := if B then wait(U) else wait(V); print(I); send I on W; B := not B; N := N + 1 End; End; Process g(integer in U; integer out V, W); Begin integer I; logical B; B := true; Repeat Begin I := wait(U); if B then send I on V else send I on W; B := not B; End; End; Process h(integer in U; integer out V; integer INIT); Begin integer I; send INIT on V; Repeat Begin I := wait(U); send I on V; End; End; Comment: body of the main program; f(Y, Z, X) par g(X, T1, T2) par h(T1, Y, 0) par h(T2, Z, 1) End;";
+static FOUR_TURNS: &str =
+    "Begin Integer channel X, Y, Z, T1, T2; Process f(integer in U, V; integer out W); Begin integer I, N; logical B; B := true; while N < 4 do Begin I := if B then wait(U) else wait(V); print(I); send I on W; B := not B; N := N + 1 End; End; Process g(integer in U; integer out V, W); Begin integer I; logical B; B := true; Repeat Begin I := wait(U); if B then send I on V else send I on W; B := not B; End; End; Process h(integer in U; integer out V; integer INIT); Begin integer I; send INIT on V; Repeat Begin I := wait(U); send I on V; End; End; Comment: body of the main program; f(Y, Z, X) par g(X, T1, T2) par h(T1, Y, 0) par h(T2, Z, 1) End;";
 
 // The report of a program, and its verdict.
 fn reported<R: Threads + Wait + Sync>(
@@ -86,13 +89,63 @@ fn the_counting_process(rt: HostRuntime) -> Result<(), Fail> {
 #[test]
 fn doubling(rt: HostRuntime) -> Result<(), Fail> {
     let whole = "B: 2 4 6\nend 1 double: waits on A after 10\nfinished 10\n";
-    assert!(rt; reports(&rt, rt.alloc(), DOUBLE, "A: 1 2 3", 1000000, Verdict::Finished, whole));
-    assert!(rt; reports(&rt, rt.alloc(), DOUBLE, "A: 1 2 3", 10, Verdict::Finished, whole));
+    assert!(rt;
+        reports(
+            &rt,
+            rt.alloc(),
+            DOUBLE,
+            "A: 1 2 3",
+            1000000,
+            Verdict::Finished,
+            whole
+        )
+    );
+    assert!(rt;
+        reports(
+            &rt,
+            rt.alloc(),
+            DOUBLE,
+            "A: 1 2 3",
+            10,
+            Verdict::Finished,
+            whole
+        )
+    );
     let none = "B:\nend 1 double: waits on A after 1\nfinished 1\n";
-    assert!(rt; reports(&rt, rt.alloc(), DOUBLE, "A:", 1000000, Verdict::Finished, none));
-    assert!(rt; reports(&rt, rt.alloc(), DOUBLE, "", 1000000, Verdict::Finished, none));
+    assert!(rt;
+        reports(
+            &rt,
+            rt.alloc(),
+            DOUBLE,
+            "A:",
+            1000000,
+            Verdict::Finished,
+            none
+        )
+    );
+    assert!(rt;
+        reports(
+            &rt,
+            rt.alloc(),
+            DOUBLE,
+            "",
+            1000000,
+            Verdict::Finished,
+            none
+        )
+    );
     let top = "B: 9223372036854775807\nend 1 top: fault overflow after 5\nfinished 5\n";
-    assert!(rt; reports(&rt, rt.alloc(), TOP, "A: 0 1", 1000000, Verdict::Finished, top));
+    assert!(rt;
+        reports(
+            &rt,
+            rt.alloc(),
+            TOP,
+            "A: 0 1",
+            1000000,
+            Verdict::Finished,
+            top
+        )
+    );
     Ok(())
 }
 
@@ -110,18 +163,59 @@ fn rings(rt: HostRuntime) -> Result<(), Fail> {
 #[test]
 fn values_that_nobody_reads(rt: HostRuntime) -> Result<(), Fail> {
     let unread = "end 1 count: ended after 11\nend 2 two: ended after 2\nfinished 13\n";
-    assert!(rt; reports(&rt, rt.alloc(), UNREAD, "", 1000000, Verdict::Finished, unread));
+    assert!(rt;
+        reports(
+            &rt,
+            rt.alloc(),
+            UNREAD,
+            "",
+            1000000,
+            Verdict::Finished,
+            unread
+        )
+    );
     let one = "end 1 alt: waits on B after 5\nfinished 5\n";
-    assert!(rt; reports(&rt, rt.alloc(), ALTERNATE, "A: 1 2 3\nB: 9\n", 1000000, Verdict::Finished, one));
+    assert!(rt;
+        reports(
+            &rt,
+            rt.alloc(),
+            ALTERNATE,
+            "A: 1 2 3\nB: 9\n",
+            1000000,
+            Verdict::Finished,
+            one
+        )
+    );
     let marks = "end 1 p: ended after 0\nfinished 0\n";
-    assert!(rt; reports(&rt, rt.alloc(), MARKS, "", 1000000, Verdict::Finished, marks));
+    assert!(rt;
+        reports(
+            &rt,
+            rt.alloc(),
+            MARKS,
+            "",
+            1000000,
+            Verdict::Finished,
+            marks
+        )
+    );
     Ok(())
 }
 
 #[test]
 fn the_sample_with_four_turns(rt: HostRuntime) -> Result<(), Fail> {
-    let ends = "print 1 f: 0 1 0 1\nend 1 f: ended after 17\nend 2 g: waits on X after 13\nend 3 h: waits on T1 after 8\nend 4 h: waits on T2 after 8\nfinished 46\n";
-    assert!(rt; reports(&rt, rt.alloc(), FOUR_TURNS, "", 1000000, Verdict::Finished, ends));
+    let ends =
+        "print 1 f: 0 1 0 1\nend 1 f: ended after 17\nend 2 g: waits on X after 13\nend 3 h: waits on T1 after 8\nend 4 h: waits on T2 after 8\nfinished 46\n";
+    assert!(rt;
+        reports(
+            &rt,
+            rt.alloc(),
+            FOUR_TURNS,
+            "",
+            1000000,
+            Verdict::Finished,
+            ends
+        )
+    );
     assert!(rt; reports(&rt, rt.alloc(), FOUR_TURNS, "", 46, Verdict::Finished, ends));
     match reported(&rt, rt.alloc(), FOUR_TURNS, "", 45) {
         Ok((verdict, written)) => {

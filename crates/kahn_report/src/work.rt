@@ -53,17 +53,6 @@ impl From<SyntaxFault> for WorkFault {
     }
 }
 
-impl From<CheckFault> for WorkFault {
-    ghost use Rattle.std.specs.Prelude.{◌≡◌};
-    ghost use Rattle.kahn_report.specs.declared.work.WorkFault.TheVariants.{Check};
-
-    ghost from_gives = { λ fault told. told ≡ Check fault };
-
-    fn from(fault: CheckFault) -> WorkFault {
-        WorkFault::Check(fault)
-    }
-}
-
 impl From<TextFault> for WorkFault {
     ghost use Rattle.std.specs.Prelude.{◌≡◌};
     ghost use Rattle.kahn_report.specs.declared.work.WorkFault.TheVariants.{Text};
@@ -75,23 +64,15 @@ impl From<TextFault> for WorkFault {
     }
 }
 
-impl From<RunFault> for WorkFault {
-    ghost use Rattle.std.specs.Prelude.{◌≡◌};
-    ghost use Rattle.kahn_report.specs.declared.work.WorkFault.TheVariants.{Run};
-
-    ghost from_gives = { λ fault told. told ≡ Run fault };
-
-    fn from(fault: RunFault) -> WorkFault {
-        WorkFault::Run(fault)
-    }
-}
-
 // The network of a program text.
 fn checked(alloc: Global, program: &str) -> Result<Network, WorkFault>
     ensures { MatchResult result (IsChecked program.now) (IsUnchecked program.now) }
 {
     let tree = parse(alloc, program)?;
-    Ok(check(alloc, tree)?)
+    match check(alloc, tree) {
+        Ok(network) => Ok(network),
+        Err(fault) => Err(WorkFault::Check(fault)),
+    }
 }
 
 // The answer of a network for an input text.
@@ -106,7 +87,10 @@ fn answered<R: Threads + Wait + Sync, G: Gate>(
     ensures { MatchResult result (λ a. (lists : Lists) × StandsFor network.now text.now lists × IsRun network.now lists config a) (IsUnanswered network.now text.now config) }
 {
     let input = read_input(alloc, text, network)?;
-    Ok(run(rt, alloc, network, input, config, gate)?)
+    match run(rt, alloc, network, input, config, gate) {
+        Ok(answer) => Ok(answer),
+        Err(fault) => Err(WorkFault::Run(fault)),
+    }
 }
 
 /// Reads a program and an input, runs the program, and writes the report of its answer: from the bytes of the texts to
