@@ -1,6 +1,7 @@
 //! Programs that are refused, each with its first fault, and programs that are accepted.
 
 mod limits;
+mod walk;
 
 use crate::fault::CheckFault;
 use crate::network::check;
