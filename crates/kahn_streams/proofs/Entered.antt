@@ -129,7 +129,7 @@ none_filled t n flags lists e f l = record {
   marks = λ c. ap (λ x. slice_index_or x c false) f ∙ none_of n c false;
 }
 
-same_or_not : (a b : ℕ) (v : Bool) → (a == b) ≡ v → (a ≡ b) ⊎ (a ≢ b)
+pub same_or_not : (a b : ℕ) (v : Bool) → (a == b) ≡ v → (a ≡ b) ⊎ (a ≢ b)
 same_or_not a b true e = inl (eqb-true a b e)
 same_or_not a b false e = inr (eqb-false a b e)
 

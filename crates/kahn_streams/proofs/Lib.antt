@@ -13,3 +13,4 @@ pub mod Kinded
 pub mod Kinded_networks
 pub mod Given_values
 pub mod Entered
+pub mod Fed
