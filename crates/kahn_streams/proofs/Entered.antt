@@ -113,7 +113,7 @@ pub record AreFilled (t : Program) (done : List Entry) (flags : List Bool) (list
   pub size : length flags ≡ length (network_of t).channels
   pub marks : (c : ℕ) → slice_index_or flags c false ≡ is_given t done c
 
-none_of : {A : Type 0} (n c : ℕ) (x : A) → slice_index_or (replicate n x) c x ≡ x
+pub none_of : {A : Type 0} (n c : ℕ) (x : A) → slice_index_or (replicate n x) c x ≡ x
 none_of zero c x = refl
 none_of (suc n) zero x = refl
 none_of (suc n) (suc c) x = none_of n c x

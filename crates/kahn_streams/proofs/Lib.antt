@@ -14,3 +14,4 @@ pub mod Kinded_networks
 pub mod Given_values
 pub mod Entered
 pub mod Fed
+pub mod Few

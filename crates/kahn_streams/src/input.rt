@@ -20,7 +20,8 @@ use kahn_syntax::tree::Role;
 use std::alloc::Global;
 use std::marker::Model;
 
-/// The values of the input channels of a network. Contracts see one list for each channel, in order of declaration.
+/// The values of the input channels of a network, at most 1,048,576 for each. Contracts see one list for each channel, in
+/// order of declaration.
 #[derive(Drop)]
 pub struct Input {
     lists: Vec<Vec<Value>>,
@@ -28,15 +29,19 @@ pub struct Input {
 
 impl Model for Input {
     ghost use Rattle.std.specs.Prelude.{map};
+    ghost use Rattle.kahn_streams.specs.Entries.{AreFew};
     ghost use Rattle.kahn_streams.specs.Tokens.{Lists};
 
     ghost Value = { Lists };
 
     ghost view = { λ i. map (λ l. l.items) i.lists.items };
+
+    ghost invariant = { λ i. AreFew (map (λ l. l.items) i.lists.items) };
 }
 
 impl Input {
     /// The input that gives each channel of the network the empty list.
+    #[tactic(auto, using(crate::proofs::Few::none_few))]
     pub fn none(alloc: Global, network: &Network) -> Result<Input, NoMemory>
         ensures { IfOk result (λ i. i ≡ replicate (length (network_of network.now).channels) []) }
     {
@@ -73,7 +78,8 @@ impl Input {
 
     // Gives a channel its list, which takes no copy.
     fn give(&mut self, channel: usize, values: Vec<Value>)
-        requires { channel < length self.old }
+        requires here { channel < length self.old }
+        requires few { length values.items ≤ most_values }
         ensures { self.new ≡ slice_set self.old channel values.items }
     {
         self.lists[channel] = values;
@@ -115,7 +121,8 @@ impl Input {
 
     // Appends values to the list of a channel.
     fn append(&mut self, channel: usize, mut values: Vec<Value>) -> Result<(), NoMemory>
-        requires { channel < length self.old }
+        requires here { channel < length self.old }
+        requires few { length (inputs_of self.old channel) + length values.items ≤ most_values }
         ensures { self.new ≡ (if is_ok result then slice_set self.old channel (inputs_of self.old channel ++ values.items) else self.old) }
     {
         self.lists[channel].append(&mut values)?;
@@ -157,9 +164,18 @@ impl Input {
         Some(Token::first(network, self, Line::Channel(channel), place, value))
     }
 
+    /// The number of values of a channel, at most 1,048,576. It takes no memory.
+    pub fn count(&self, channel: usize) -> usize
+        ensures count { result ≡ length (inputs_of self.now channel) }
+        ensures few { result ≤ most_values }
+    {
+        self.list(channel).len()
+    }
+
     // The list of a channel.
     fn list(&self, channel: usize) -> &[Value]
-        ensures { result.now ≡ inputs_of self.now channel }
+        ensures list { result.now ≡ inputs_of self.now channel }
+        ensures few { length result.now ≤ most_values }
     {
         match self.lists.get(channel) {
             Some(list) => list.as_slice(),
@@ -252,6 +268,7 @@ mod tests {
         );
         assert_eq!(rt; token_value(&input, &network, 0, 3), None);
         assert_eq!(rt; token_value(&input, &network, 1, 0), None);
+        assert_eq!(rt; (input.count(0), input.count(1)), (3, 0));
         Ok(())
     }
 
