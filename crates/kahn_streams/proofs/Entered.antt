@@ -113,7 +113,7 @@ pub record AreFilled (t : Program) (done : List Entry) (flags : List Bool) (list
   pub size : length flags ≡ length (network_of t).channels
   pub marks : (c : ℕ) → slice_index_or flags c false ≡ is_given t done c
 
-none_of : {A : Type 0} (n c : ℕ) (x : A) → slice_index_or (replicate n x) c x ≡ x
+pub none_of : {A : Type 0} (n c : ℕ) (x : A) → slice_index_or (replicate n x) c x ≡ x
 none_of zero c x = refl
 none_of (suc n) zero x = refl
 none_of (suc n) (suc c) x = none_of n c x
@@ -129,7 +129,7 @@ none_filled t n flags lists e f l = record {
   marks = λ c. ap (λ x. slice_index_or x c false) f ∙ none_of n c false;
 }
 
-same_or_not : (a b : ℕ) (v : Bool) → (a == b) ≡ v → (a ≡ b) ⊎ (a ≢ b)
+pub same_or_not : (a b : ℕ) (v : Bool) → (a == b) ≡ v → (a ≡ b) ⊎ (a ≢ b)
 same_or_not a b true e = inl (eqb-true a b e)
 same_or_not a b false e = inr (eqb-false a b e)
 

@@ -14,3 +14,5 @@ pub mod Kinded_networks
 pub mod Dry
 pub mod Given_values
 pub mod Entered
+pub mod Fed
+pub mod Few

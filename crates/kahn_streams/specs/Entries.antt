@@ -19,6 +19,10 @@ use Rattle.kahn_streams.specs.Tokens.{Lists, inputs_of}
 abbrev pub most_values : ℕ
 most_values = 1048576
 
+-- no list has more
+abbrev pub AreFew : Lists → Type 0
+AreFew lists = (c : ℕ) → length (inputs_of lists c) ≤ most_values
+
 -- a name, and the values for the channel of that name
 abbrev pub Entry : Type 0
 Entry = List ℕ × List Value

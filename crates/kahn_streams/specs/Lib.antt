@@ -11,3 +11,4 @@ pub mod Streams
 pub mod Examples
 pub mod Kinded
 pub mod Entries
+pub mod Feeds

@@ -79,7 +79,7 @@ pub fn channel_named(network: &Network, name: &str) -> Option<usize>
 }
 
 // Whether each of the values is of the kind.
-fn are_of_kind(values: &[Value], kind: Kind) -> bool
+pub(crate) fn are_of_kind(values: &[Value], kind: Kind) -> bool
     ensures { IsTrue result ↔ AreOfKind kind values.now }
 {
     values.iter().all(|value| value.kind() == kind)

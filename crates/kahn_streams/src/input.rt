@@ -1,14 +1,17 @@
 //! The lists that are fed to the input channels.
 
-ghost use Rattle.std.specs.Prelude.{◌≡◌, ◌<◌, ◌≤◌, ◌↔◌, ◌⊎◌, IsTrue, IfSome, IfNone, IfOk, MatchResult, length, map, slice_get, slice_index_or, slice_set, [], replicate};
-ghost use Rattle.kahn_streams.specs.Entries.{entry_of, IsMadeOf, IsFirstRefused};
+ghost use Rattle.std.specs.Prelude.{◌≡◌, ◌+◌, ◌++◌, ◌<◌, ◌≤◌, ◌↔◌, ◌⊎◌, if◌then◌else◌, is_ok, IsTrue, IfSome, IfNone, IfOk, MatchResult, length, map, slice_get, slice_index_or, slice_set, [], replicate};
+ghost use Rattle.kahn_streams.specs.Entries.{entry_of, most_values, IsMadeOf, IsFirstRefused};
+ghost use Rattle.kahn_streams.specs.Feeds.{IsFed, IsUnwelcome};
+ghost use Rattle.kahn_streams.specs.Laws.{AreInputsExtended};
 ghost use Rattle.kahn_streams.specs.Kinded.{FitsKinds};
 ghost use Rattle.kahn_streams.specs.Tokens.{inputs_of};
 ghost use Rattle.kahn_streams.specs.declared.value.Line.TheVariants.{Channel};
 ghost use Rattle.kahn_check.specs.Network.{network_of, role_at};
 ghost use Rattle.kahn_syntax.specs.declared.tree.Role.TheVariants.{Input as InputRole};
 
-use crate::entries::{InputFault, channel_for};
+use crate::entries::{InputFault, MOST_VALUES, channel_for};
+use crate::feeds::{FeedFault, channel_meant};
 use crate::memory::NoMemory;
 use crate::token::Token;
 use crate::value::{Line, Value};
@@ -17,7 +20,8 @@ use kahn_syntax::tree::Role;
 use std::alloc::Global;
 use std::marker::Model;
 
-/// The values of the input channels of a network. Contracts see one list for each channel, in order of declaration.
+/// The values of the input channels of a network, at most 1,048,576 for each. Contracts see one list for each channel, in
+/// order of declaration.
 #[derive(Drop)]
 pub struct Input {
     lists: Vec<Vec<Value>>,
@@ -25,15 +29,19 @@ pub struct Input {
 
 impl Model for Input {
     ghost use Rattle.std.specs.Prelude.{map};
+    ghost use Rattle.kahn_streams.specs.Entries.{AreFew};
     ghost use Rattle.kahn_streams.specs.Tokens.{Lists};
 
     ghost Value = { Lists };
 
     ghost view = { λ i. map (λ l. l.items) i.lists.items };
+
+    ghost invariant = { λ i. AreFew (map (λ l. l.items) i.lists.items) };
 }
 
 impl Input {
     /// The input that gives each channel of the network the empty list.
+    #[tactic(auto, using(crate::proofs::Few::none_few))]
     pub fn none(alloc: Global, network: &Network) -> Result<Input, NoMemory>
         ensures { IfOk result (λ i. i ≡ replicate (length (network_of network.now).channels) []) }
     {
@@ -70,10 +78,66 @@ impl Input {
 
     // Gives a channel its list, which takes no copy.
     fn give(&mut self, channel: usize, values: Vec<Value>)
-        requires { channel < length self.old }
+        requires here { channel < length self.old }
+        requires few { length values.items ≤ most_values }
         ensures { self.new ≡ slice_set self.old channel values.items }
     {
         self.lists[channel] = values;
+    }
+
+    /// Appends values to the list of the input channel of that name. It refuses a name of no channel, then a channel that
+    /// is no input, then a value of another kind than the channel's, then what would make more than 1,048,576 values of
+    /// the channel, and then where memory was refused. A refusal leaves the input as it was.
+    pub fn extend(
+        &mut self,
+        network: &Network,
+        channel: &str,
+        values: Vec<Value>,
+    ) -> Result<(), FeedFault>
+        requires { length self.old ≡ length (network_of network.now).channels }
+        ensures fed { MatchResult result (λ _. IsFed network.now self.old (channel.now, values.items) self.new)
+            (λ fault. (self.new ≡ self.old) × IsUnwelcome network.now self.old (channel.now, values.items) fault) }
+        ensures kinds { FitsKinds (network_of network.now) (inputs_of self.old) → FitsKinds (network_of network.now) (inputs_of self.new) }
+        ensures grown { AreInputsExtended (inputs_of self.old) (inputs_of self.new) }
+        ensures size { length self.new ≡ length self.old }
+    {
+        let number = channel_meant(network, channel, &values)?;
+        if !self.has_room(number, values.len()) {
+            return Err(FeedFault::TooMany);
+        }
+        self.append(number, values)?;
+        Ok(())
+    }
+
+    // Whether that many values more aren't too many for a channel.
+    fn has_room(&self, channel: usize, count: usize) -> bool
+        ensures { IsTrue result ↔ (length (inputs_of self.now channel) + count ≤ most_values) }
+    {
+        match self.list(channel).len().checked_add(count) {
+            Some(total) => total <= MOST_VALUES,
+            None => false,
+        }
+    }
+
+    // Appends values to the list of a channel.
+    fn append(&mut self, channel: usize, mut values: Vec<Value>) -> Result<(), NoMemory>
+        requires here { channel < length self.old }
+        requires few { length (inputs_of self.old channel) + length values.items ≤ most_values }
+        ensures { self.new ≡ (if is_ok result then slice_set self.old channel (inputs_of self.old channel ++ values.items) else self.old) }
+    {
+        self.lists[channel].append(&mut values)?;
+        Ok(())
+    }
+
+    /// A token of an input whose lists are prefixes of those of this one, as a token of this input: the same line, place
+    /// and value. It takes no memory.
+    #[tactic(auto, using(crate::proofs::Fed::lifted))]
+    pub fn lift(&self, token: Token) -> Token
+        requires { AreInputsExtended (inputs_of token.input.value) (inputs_of self.now) }
+        ensures here { (result.line ≡ token.line) × (result.place ≡ token.place) × (result.value ≡ token.value) }
+        ensures names { (result.network.value ≡ token.network.value) × (result.input.value ≡ self.now) }
+    {
+        token.moved(self)
     }
 
     /// Whether the input was made for a network with as many channels. It takes no memory.
@@ -100,9 +164,18 @@ impl Input {
         Some(Token::first(network, self, Line::Channel(channel), place, value))
     }
 
+    /// The number of values of a channel, at most 1,048,576. It takes no memory.
+    pub fn count(&self, channel: usize) -> usize
+        ensures count { result ≡ length (inputs_of self.now channel) }
+        ensures few { result ≤ most_values }
+    {
+        self.list(channel).len()
+    }
+
     // The list of a channel.
     fn list(&self, channel: usize) -> &[Value]
-        ensures { result.now ≡ inputs_of self.now channel }
+        ensures list { result.now ≡ inputs_of self.now channel }
+        ensures few { length result.now ≤ most_values }
     {
         match self.lists.get(channel) {
             Some(list) => list.as_slice(),
@@ -195,6 +268,7 @@ mod tests {
         );
         assert_eq!(rt; token_value(&input, &network, 0, 3), None);
         assert_eq!(rt; token_value(&input, &network, 1, 0), None);
+        assert_eq!(rt; (input.count(0), input.count(1)), (3, 0));
         Ok(())
     }
 
@@ -245,6 +319,115 @@ mod tests {
         assert_eq!(rt;
             refusal_of(alloc, "A", yes, 1_048_577)?,
             Some(InputFault::WrongKind(1))
+        );
+        Ok(())
+    }
+
+    // Feeds so many of one value.
+    fn feed(
+        alloc: Global,
+        input: &mut Input,
+        name: &str,
+        value: Value,
+        count: usize,
+    ) -> Result<Result<(), FeedFault>, Fail> {
+        let network = doubling(alloc)?;
+        let values = vec![in alloc; value; count]?;
+        if !input.fits(&network) {
+            return Ok(Err(FeedFault::NoMemory));
+        }
+        Ok(input.extend(&network, name, values))
+    }
+
+    #[test]
+    fn values_are_fed(rt: HostRuntime) -> Result<(), Fail> {
+        let alloc = rt.alloc();
+        let network = doubling(alloc)?;
+        let mut input = Input::none(alloc, &network)?;
+        assert_eq!(rt; feed(alloc, &mut input, "A", Value::Integer(1), 2)?, Ok(()));
+        assert_eq!(rt; feed(alloc, &mut input, "A", Value::Integer(3), 1)?, Ok(()));
+        assert_eq!(rt;
+            token_value(&input, &network, 0, 0),
+            Some(Value::Integer(1))
+        );
+        assert_eq!(rt;
+            token_value(&input, &network, 0, 1),
+            Some(Value::Integer(1))
+        );
+        assert_eq!(rt;
+            token_value(&input, &network, 0, 2),
+            Some(Value::Integer(3))
+        );
+        assert_eq!(rt; token_value(&input, &network, 0, 3), None);
+        Ok(())
+    }
+
+    #[test]
+    fn unwelcome_values(rt: HostRuntime) -> Result<(), Fail> {
+        let alloc = rt.alloc();
+        let network = doubling(alloc)?;
+        let mut input = Input::none(alloc, &network)?;
+        let (one, yes) = (Value::Integer(1), Value::Logical(true));
+        let refused = [
+            ("Q", yes, 1, FeedFault::UnknownName),
+            ("B", yes, 1, FeedFault::NotAnInput),
+            ("A", yes, 1, FeedFault::WrongKind),
+            ("A", one, 1_048_577, FeedFault::TooMany),
+        ];
+        for (name, value, count, fault) in refused {
+            assert_eq!(rt; feed(alloc, &mut input, name, value, count)?, Err(fault));
+            assert_eq!(rt; token_value(&input, &network, 0, 0), None);
+        }
+        Ok(())
+    }
+
+    #[test]
+    fn feeds_add_up(rt: HostRuntime) -> Result<(), Fail> {
+        let alloc = rt.alloc();
+        let network = doubling(alloc)?;
+        let mut input = Input::none(alloc, &network)?;
+        let seven = Value::Integer(7);
+        assert_eq!(rt; feed(alloc, &mut input, "A", seven, 1_048_576)?, Ok(()));
+        assert_eq!(rt;
+            feed(alloc, &mut input, "A", seven, 1)?,
+            Err(FeedFault::TooMany)
+        );
+        assert_eq!(rt; feed(alloc, &mut input, "A", seven, 0)?, Ok(()));
+        assert_eq!(rt; token_value(&input, &network, 0, 1_048_575), Some(seven));
+        Ok(())
+    }
+
+    // The place and the value of the first token, lifted over a feed.
+    fn lifted(
+        alloc: Global,
+        network: &Network,
+        input: &mut Input,
+    ) -> Result<Option<(u64, Value)>, Fail> {
+        let values = vec![in alloc; Value::Integer(6)]?;
+        if network.channels() == 0 || !input.fits(network) {
+            return Ok(None);
+        }
+        let Some(token) = input.token(network, 0, 0) else {
+            return Ok(None);
+        };
+        let _fed = input.extend(network, "A", values);
+        let token = input.lift(token);
+        Ok(Some((token.place(), token.value())))
+    }
+
+    #[test]
+    fn a_token_is_lifted(rt: HostRuntime) -> Result<(), Fail> {
+        let alloc = rt.alloc();
+        let network = doubling(alloc)?;
+        let mut input = Input::none(alloc, &network)?;
+        assert_eq!(rt; lifted(alloc, &network, &mut input)?, None);
+        let first = feed(alloc, &mut input, "A", Value::Integer(5), 1)?;
+        assert_eq!(rt; first, Ok(()));
+        let token = lifted(alloc, &network, &mut input)?;
+        assert_eq!(rt; token, Some((0, Value::Integer(5))));
+        assert_eq!(rt;
+            token_value(&input, &network, 0, 1),
+            Some(Value::Integer(6))
         );
         Ok(())
     }

@@ -4,6 +4,7 @@
 pub mod about;
 pub mod arithmetic;
 pub mod entries;
+pub mod feeds;
 pub mod input;
 pub mod laws;
 pub mod memory;

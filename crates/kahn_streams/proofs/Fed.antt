@@ -1,0 +1,103 @@
+-- Values that are fed: what they leave, and tokens of the input before.
+use Rattle.std.proofs.Common.{arith, ◌≡◌, ◌≢◌, inl, inr, ℕ, ◌<◌, ◌≤◌, ◌==◌, Bool, true, false, List, [], ◌∷◌, ◌++◌, length, map, set, get_or, refl, sym, ap, ◌∙◌, subst, eq-eqb, eqb-true, append-nil, length-set, get_or-set_same, get_or-set_other, if◌then◌else◌}
+use Rattle.std.proofs.Math.Logic.{∥∥₁_elim, ∥∥₁_prop}
+use Rattle.std.proofs.lemmas.List.{get_or-map, length-map, map-set, set-get_or}
+use Rattle.kahn_syntax.specs.declared.tree.Kind.{Kind}
+use Rattle.kahn_syntax.specs.declared.tree.Program.{Program}
+use Rattle.kahn_check.specs.Network.{network_of, kind_at}
+use Rattle.kahn_streams.specs.declared.value.Value.{Value}
+use Rattle.kahn_streams.specs.declared.value.Line.{Line}
+use Rattle.kahn_streams.specs.Entries.{Entry, channel_of, most_values}
+use Rattle.kahn_streams.specs.Feeds.{IsMeant, IsFed, fed_to, total}
+use Rattle.kahn_streams.specs.Kinded.{AreOfKind, FitsKinds}
+use Rattle.kahn_streams.specs.Laws.{AreInputsExtended}
+use Rattle.kahn_streams.specs.Solution.{Stands}
+use Rattle.kahn_streams.specs.Tokens.{Lists, inputs_of, Holds}
+use Rattle.kahn_streams.proofs.Proved.{prefix_get}
+use Rattle.kahn_streams.proofs.Finished.{inputs_grow}
+use Rattle.kahn_streams.proofs.Entered.{names_count, same_or_not}
+
+fed_same : (t : Program) (e : Entry) → fed_to t e (channel_of t e) ≡ e.1
+fed_same t e = ap (λ b. if b then e.1 else []) (eq-eqb (channel_of t e) (channel_of t e) refl)
+
+fed_other : (t : Program) (e : Entry) (c : ℕ) → channel_of t e ≢ c → fed_to t e c ≡ []
+fed_other t e c n = by (channel_of t e == c) refl
+  where
+    by : (b : Bool) → (channel_of t e == c) ≡ b → (if b then e.1 else []) ≡ []
+    by true h = absurd (n (eqb-true (channel_of t e) c h))
+    by false h = refl
+
+module _ (t : Program) (before : Lists) (e : Entry) where
+  lists_fed : channel_of t e < length before → (c : ℕ)
+      → inputs_of (set before (channel_of t e) (inputs_of before (channel_of t e) ++ e.1)) c ≡ inputs_of before c ++ fed_to t e c
+  lists_fed below c = elim (same_or_not (channel_of t e) c (channel_of t e == c) refl) [
+    | inl h ↦ subst (λ d. inputs_of (set before (channel_of t e) (inputs_of before (channel_of t e) ++ e.1)) d ≡ inputs_of before d ++ fed_to t e d) h
+        (get_or-set_same before (channel_of t e) (inputs_of before (channel_of t e) ++ e.1) [] below
+        ∙ ap (λ l. inputs_of before (channel_of t e) ++ l) (sym (fed_same t e)))
+    | inr n ↦ get_or-set_other before (channel_of t e) c (inputs_of before (channel_of t e) ++ e.1) [] (λ h. n (sym h))
+        ∙ sym (append-nil (inputs_of before c)) ∙ ap (λ l. inputs_of before c ++ l) (sym (fed_other t e c n))
+  ]
+
+  -- one channel is fed
+  pub fed : (c : ℕ) (after : Lists) → length before ≡ length (network_of t).channels → c ≡ channel_of t e → IsMeant t e → total t before e ≤ most_values
+      → after ≡ set before c (inputs_of before c ++ e.1) → IsFed t before e after
+  fed c after fits is meant within made =
+      let here : after ≡ set before (channel_of t e) (inputs_of before (channel_of t e) ++ e.1) = made ∙ ap (λ d. set before d (inputs_of before d ++ e.1)) is in
+      record {
+        meant = meant;
+        within = within;
+        count = ap length here ∙ length-set before (channel_of t e) (inputs_of before (channel_of t e) ++ e.1);
+        lists = λ d. ap (λ l. inputs_of l d) here ∙ lists_fed (omega (arith, meant.named, fits, names_count t)) d;
+      }
+
+-- the lists before are prefixes of those after
+pub fed_grown : (t : Program) (before : Lists) (e : Entry) (after : Lists) → IsFed t before e after → AreInputsExtended (inputs_of before) (inputs_of after)
+fed_grown t before e after h c = (fed_to t e c, h.lists c)
+
+pub same_grown : (before after : Lists) → after ≡ before → AreInputsExtended (inputs_of before) (inputs_of after)
+same_grown before after h c = ([], ap (λ l. inputs_of l c) h ∙ sym (append-nil (inputs_of before c)))
+
+-- ---- kinds
+
+kinds_append : (k : Kind) (xs ys : List Value) → AreOfKind k xs → AreOfKind k ys → AreOfKind k (xs ++ ys)
+kinds_append k [] ys f g = g
+kinds_append k (x ∷ xs) ys f g = (f.0, kinds_append k xs ys f.1 g)
+
+fed_kinded : (t : Program) (e : Entry) → IsMeant t e → (c : ℕ) → AreOfKind (kind_at (network_of t) c) (fed_to t e c)
+fed_kinded t e h c = by (channel_of t e == c) refl
+  where
+    by : (b : Bool) → (channel_of t e == c) ≡ b → AreOfKind (kind_at (network_of t) c) (if b then e.1 else [])
+    by true i = subst (λ d. AreOfKind (kind_at (network_of t) d) e.1) (eqb-true (channel_of t e) c i) h.kinded
+    by false i = tt
+
+pub fed_kinds : (t : Program) (before : Lists) (e : Entry) (after : Lists) → IsFed t before e after
+    → FitsKinds (network_of t) (inputs_of before) → FitsKinds (network_of t) (inputs_of after)
+fed_kinds t before e after h fits c =
+    subst (AreOfKind (kind_at (network_of t) c)) (sym (h.lists c))
+    (kinds_append (kind_at (network_of t) c) (inputs_of before c) (fed_to t e c) (fits c) (fed_kinded t e h.meant c))
+
+-- ---- tokens
+
+-- what stands for an input stands for a longer one
+pub lifted : (t : Program) (before after : Lists) (line : Line) (place : ℕ) (v : Value) → AreInputsExtended (inputs_of before) (inputs_of after)
+    → Holds t before line place v → Holds t after line place v
+lifted t before after line place v grown h =
+    ∥∥₁_elim h ∥∥₁_prop (λ (s : Stands (network_of t) (inputs_of before) line place v).
+    ∣ (s.0, prefix_get _ _ (inputs_grow (network_of t) (inputs_of before) (inputs_of after) grown s.0 line) place v s.1) ∣₁)
+
+-- ---- the list at hand, as one of all lists
+
+module _ {A : Type 0} (f : A → List Value) (xs : List A) (lists : Lists) (c : ℕ) (x y : A) (view : map f xs ≡ lists) (below : c < length lists) (at : x ≡ get_or xs c x) where
+  here : f x ≡ inputs_of lists c
+  here =
+      let within : c < length xs = subst (λ n. c < n) (ap length (sym view) ∙ length-map xs f) below in
+      ap f at ∙ sym (get_or-map f xs c x [] within) ∙ ap (λ l. inputs_of l c) view
+
+  placed : map f (set xs c y) ≡ set lists c (f y)
+  placed = map-set f xs c y ∙ ap (λ l. set l c (f y)) view
+
+  pub item_fed : (vs : List Value) → f y ≡ f x ++ vs → map f (set xs c y) ≡ set lists c (inputs_of lists c ++ vs)
+  item_fed vs h = placed ∙ ap (λ l. set lists c l) (h ∙ ap (λ l. l ++ vs) here)
+
+  pub item_kept : f y ≡ f x → map f (set xs c y) ≡ lists
+  item_kept h = placed ∙ ap (λ l. set lists c l) (h ∙ here) ∙ set-get_or lists c []

@@ -1,0 +1,67 @@
+//! Values that are fed to an input which stands already.
+
+ghost use Rattle.std.specs.Prelude.{◌≡◌, ◌<◌, ◌≤◌, MatchResult, length};
+ghost use Rattle.kahn_syntax.specs.View.{place_of};
+ghost use Rattle.kahn_check.specs.Network.{network_of, kind_at, role_at};
+ghost use Rattle.kahn_check.specs.Sides.{channel_names};
+ghost use Rattle.kahn_streams.specs.Feeds.{IsMeant, IsNotMeant};
+
+use crate::entries::{are_of_kind, channel_named};
+use crate::memory::NoMemory;
+use crate::value::Value;
+use kahn_check::network::Network;
+use kahn_syntax::tree::Role;
+use thiserror::Error;
+
+/// Why values aren't fed to an input, by the first of these that holds.
+#[derive(Clone, Copy, Debug, PartialEq, Eq, Drop, Error)]
+pub enum FeedFault {
+    /// No channel has the name.
+    #[error("no such channel")]
+    UnknownName,
+    /// The channel isn't an input channel.
+    #[error("not an input channel")]
+    NotAnInput,
+    /// One of the values isn't of the channel's kind.
+    #[error("kind does not agree")]
+    WrongKind,
+    /// The channel would have more than 1,048,576 values.
+    #[error("too many values")]
+    TooMany,
+    /// Memory was refused.
+    #[error("no memory")]
+    NoMemory,
+}
+
+impl From<NoMemory> for FeedFault {
+    ghost use Rattle.std.specs.Prelude.{◌≡◌};
+    ghost use Rattle.kahn_streams.specs.declared.feeds.FeedFault.TheVariants.{NoMemory};
+
+    ghost from_gives = { λ _ e. e ≡ NoMemory };
+
+    fn from(_error: NoMemory) -> FeedFault {
+        FeedFault::NoMemory
+    }
+}
+
+// The channel for which the values are meant, or why there is none.
+pub(crate) fn channel_meant(
+    network: &Network,
+    name: &str,
+    values: &[Value],
+) -> Result<usize, FeedFault>
+    ensures { MatchResult result (λ c. (c ≡ place_of (channel_names network.now) name.now) × IsMeant network.now (name.now, values.now))
+        (IsNotMeant network.now (name.now, values.now)) }
+{
+    let Some(channel) = channel_named(network, name) else {
+        return Err(FeedFault::UnknownName);
+    };
+    let declared = network.channel(channel);
+    if declared.role != Role::Input {
+        return Err(FeedFault::NotAnInput);
+    }
+    if !are_of_kind(values, declared.kind) {
+        return Err(FeedFault::WrongKind);
+    }
+    Ok(channel)
+}
