@@ -1,5 +1,7 @@
 //! Programs and inputs with the reports that an independent reading of the language gives them.
 
+mod language;
+
 use crate::work::{WorkFault, work};
 use kahn_pool::answer::Verdict;
 use kahn_pool::config::{Config, RunFault};
