@@ -60,9 +60,9 @@ at_most_all (c ∷ cs) (suc p) =
     let t : (view_at cs p).events ≤ sum_by view_events (c ∷ cs) = omega (arith, b, r) in
     t
 
-pub run_bound : (cs : List View) (p left : ℕ) (b : Bool) → sum_by view_events cs + left < 2 ^ 48 → (view_at cs p).events + cond b 0 left < 2 ^ 48
-run_bound cs p left true h = let r = at_most_all cs p in omega (arith, h, r)
-run_bound cs p left false h = let r = at_most_all cs p in omega (arith, h, r)
+pub run_bound : (cs : List View) (p left quantum : ℕ) (b : Bool) → sum_by view_events cs + left < 2 ^ 48 → quantum ≤ cond b 0 left → (view_at cs p).events + quantum < 2 ^ 48
+run_bound cs p left quantum true h most = let r = at_most_all cs p in omega (arith, h, most, r)
+run_bound cs p left quantum false h most = let r = at_most_all cs p in omega (arith, h, most, r)
 
 pub set_length : (cs : List View) (p : ℕ) (v : View) → length (slice_set cs p v) ≡ length cs
 set_length [] p v = refl
@@ -99,8 +99,9 @@ pub record Ran (s s' : State) (p quantum : ℕ) (z : Pause) (x : End) : Type 0 w
   pub more : x.outcome ≡ More → (z ≡ pause.Spent) ⊎ (z ≡ pause.NoMemory)
 
 module _ (s0 : State) (w0 t0 : ℕ) (s s' : State) (p left left' done : ℕ) (memory memory' moved moved' : Bool) (z : Pause) (x : End)
-    (ends : List End) (go : Goes s0 w0 t0 s left memory moved ends p) (ran : Ran s s' p (cond memory 0 left) z x)
-    (here : p < length s.cells) (counts : events_at s p + done ≡ events_at s' p) (lefts : left' + done ≡ left) where
+    (ends : List End) (go : Goes s0 w0 t0 s left memory moved ends p) (quantum : ℕ) (ran : Ran s s' p quantum z x)
+    (here : p < length s.cells) (counts : events_at s p + done ≡ events_at s' p) (lefts : left' + done ≡ left)
+    (most : quantum ≤ cond memory 0 left) (none : quantum ≡ 0 → (left ≡ 0) ⊎ (memory ≡ true)) where
   total : all_events s' + left' ≡ t0
   total =
       let a : all_events s' ≡ sum_by view_events (slice_set s.cells p (view_at s'.cells p)) = ap (λ l. sum_by view_events l) ran.only in
@@ -154,9 +155,8 @@ module _ (s0 : State) (w0 t0 : ℕ) (s s' : State) (p left left' done : ℕ) (me
       same_state : s' ≡ s
       same_state = ran.still (omega (arith, counts, d))
 
-      out_of : (b : Bool) → memory ≡ b → events_at s' p ≡ events_at s p + cond b 0 left → (left ≡ 0) ⊎ (memory ≡ true)
-      out_of true e f = inr e
-      out_of false e f = inl (omega (arith, f, counts, d))
+      out_of : events_at s' p ≡ events_at s p + quantum → (left ≡ 0) ⊎ (memory ≡ true)
+      out_of f = none (omega (arith, f, counts, d))
 
       one : x.outcome ≡ More → (left' ≡ 0) ⊎ (memory' ≡ true)
       one f = by (ran.more f)
@@ -166,7 +166,7 @@ module _ (s0 : State) (w0 t0 : ℕ) (s s' : State) (p left left' done : ℕ) (me
           turn (inr a) = inr (m ∙ a)
 
           by : (z ≡ pause.Spent) ⊎ (z ≡ pause.NoMemory) → (left' ≡ 0) ⊎ (memory' ≡ true)
-          by (inl a) = turn (out_of memory refl (ran.spent a))
+          by (inl a) = turn (out_of (ran.spent a))
           by (inr a) = absurd (never a)
 
       still : moved ≡ false → AreEnds s' left' memory' (ends ++ x ∷ [])
@@ -185,8 +185,11 @@ module _ (s0 : State) (w0 t0 : ℕ) (s s' : State) (p left left' done : ℕ) (me
   pub goes_on : Marked z done memory moved memory' moved' → Goes s0 w0 t0 s' left' memory' moved' (ends ++ x ∷ []) (suc p)
   goes_on (inl h) = goes_moved h.2 (lighter memory refl (ran.wanted h.0))
     where
-      lighter : (b : Bool) → memory ≡ b → events_at s' p < events_at s p + cond b 0 left → weight left' memory' < weight left memory
-      lighter true e f = absurd (let u : events_at s p ≤ events_at s' p = ran.up in omega (arith, u, f))
+      lighter : (b : Bool) → memory ≡ b → events_at s' p < events_at s p + quantum → weight left' memory' < weight left memory
+      lighter true e f =
+          let u : events_at s p ≤ events_at s' p = ran.up in
+          let m : quantum ≤ 0 = subst (λ b. quantum ≤ cond b 0 left) e most in
+          absurd (omega (arith, u, m, f))
       lighter false e f = rw (h.1, e) (omega (arith, lefts))
   goes_on (inr (never, m, inl h)) = goes_moved h.1 (rw m (let d = h.0 in omega (arith, lefts, d)))
   goes_on (inr (never, m, inr h)) = goes_still h.0 never m h.1

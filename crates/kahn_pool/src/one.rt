@@ -18,6 +18,9 @@ use std::alloc::Global;
 use std::marker::Brand;
 use std::sync::ledger::{Blank, Ledger};
 
+// How many events a process may do before the next one is run.
+const QUANTUM: u64 = 1000;
+
 // Counts steps on a ledger of its own, and runs.
 fn run_opened<L: Ledger>(
     alloc: Global,
@@ -25,8 +28,10 @@ fn run_opened<L: Ledger>(
     network: &Network,
     input: &Input,
     watch: Option<usize>,
+    quantum: u64,
     bound: u64,
 ) -> Result<Answer, CodeFault>
+    requires quantum { 0 < quantum }
     requires name { blank.name ≡ L.name }
     requires parts { blank.parts ≡ L.parts }
     requires some { 0 < blank.parts }
@@ -36,23 +41,26 @@ fn run_opened<L: Ledger>(
     let steps = Steps::<L>::open(blank);
     let ends = Vec::with_capacity(alloc, network.instances())?;
     let bench = Workbench::new(alloc, network, input, watch, steps)?;
-    Ok(run_bench(bench, ends, bound))
+    Ok(run_bench(bench, ends, quantum, bound))
 }
 
-/// Runs a network on the caller's thread, with a watched channel or none. It refuses only where memory was refused
+/// Runs a network on the caller's thread, with a watched channel or none, each process for at most `quantum` events
+/// before the next one. It refuses only where memory was refused
 /// before the first event.
 pub fn run_watched(
     alloc: Global,
     network: &Network,
     input: &Input,
     watch: Option<usize>,
+    quantum: u64,
     bound: u64,
 ) -> Result<Answer, CodeFault>
+    requires quantum { 0 < quantum }
     requires fits { length input.now ≡ length (network_of network.now).channels }
     requires bound { bound < 2 ^ 48 }
     ensures { IfOk result (IsRight (network_of network.now) (inputs_of input.now) bound watch) }
 {
-    run_opened::<Brand>(alloc, Blank::new(1), network, input, watch, bound)
+    run_opened::<Brand>(alloc, Blank::new(1), network, input, watch, quantum, bound)
 }
 
 /// Runs a network on the caller's thread over plain queues, without a watched channel, for at most `bound` events. The
@@ -74,5 +82,5 @@ pub fn run_one(
     if bound > MOST_BOUND {
         return Err(RunFault::BadConfig);
     }
-    Ok(run_watched(alloc, network, &input, None, bound)?)
+    Ok(run_watched(alloc, network, &input, None, QUANTUM, bound)?)
 }

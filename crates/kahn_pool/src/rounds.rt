@@ -18,6 +18,7 @@ use kahn_code::progress::Pause;
 // A round in which each cell is run once.
 #[derive(Drop)]
 struct Round {
+    share: u64,
     left: u64,
     memory: bool,
     moved: bool,
@@ -51,6 +52,7 @@ impl Round {
         ensures left { self.new.left + done ≡ self.old.left }
         ensures marked { Marked stopped done self.old.memory self.old.moved self.new.memory self.new.moved }
         ensures ends { self.new.ends ≡ self.old.ends }
+        ensures share { self.new.share ≡ self.old.share }
     {
         self.left -= done;
         if done > 0 {
@@ -64,9 +66,17 @@ impl Round {
 
     // How many events a cell may do.
     fn quantum(&self) -> u64
-        ensures { result ≡ cond self.now.memory 0 self.now.left }
+        requires { 0 < self.now.share }
+        ensures most { result ≤ cond self.now.memory 0 self.now.left }
+        ensures none { result ≡ 0 → (self.now.left ≡ 0) ⊎ (self.now.memory ≡ true) }
     {
-        if self.memory { 0 } else { self.left }
+        if self.memory {
+            0
+        } else if self.left < self.share {
+            self.left
+        } else {
+            self.share
+        }
     }
 
     // Runs one cell.
@@ -75,6 +85,8 @@ impl Round {
         requires known { length (B.state bench.old).cells ≡ length (B.state bench.old).network.instances }
         requires bound { all_events (B.state bench.old) + self.old.left < 2 ^ 48 }
         requires room { vec_len self.old.ends < vec_capacity self.old.ends }
+        requires share { 0 < self.old.share }
+        ensures share { self.new.share ≡ self.old.share }
         ensures goes { (s0 : State) (w0 t0 : ℕ) → Goes s0 w0 t0 (B.state bench.old) self.old.left self.old.memory self.old.moved self.old.ends.items instance → Goes s0 w0 t0 (B.state bench.new) self.new.left self.new.memory self.new.moved self.new.ends.items (suc instance) }
         ensures same { ((B.state bench.new).network ≡ (B.state bench.old).network) × ((B.state bench.new).input ≡ (B.state bench.old).input) × ((B.state bench.new).watch ≡ (B.state bench.old).watch) }
         ensures size { vec_len self.new.ends ≡ vec_len self.old.ends + 1 }
@@ -90,7 +102,14 @@ impl Round {
 }
 
 // One round. Its ends go into the list that it is given, which has room for all.
-fn one_round<B: Bench>(bench: &mut B, mut ends: Vec<End>, left: u64, memory: bool) -> Round
+fn one_round<B: Bench>(
+    bench: &mut B,
+    mut ends: Vec<End>,
+    share: u64,
+    left: u64,
+    memory: bool,
+) -> Round
+    requires share { 0 < share }
     requires bound { all_events (B.state bench.old) + left < 2 ^ 48 }
     requires known { length (B.state bench.old).cells ≡ length (B.state bench.old).network.instances }
     requires room { length (B.state bench.old).network.instances ≤ vec_capacity ends }
@@ -101,6 +120,7 @@ fn one_round<B: Bench>(bench: &mut B, mut ends: Vec<End>, left: u64, memory: boo
     let count = bench.instance_count();
     ends.clear();
     let mut round = Round {
+        share,
         left,
         memory,
         moved: false,
@@ -113,7 +133,8 @@ fn one_round<B: Bench>(bench: &mut B, mut ends: Vec<End>, left: u64, memory: boo
 }
 
 // Rounds, until one in which nothing was done.
-fn last_round<B: Bench>(bench: &mut B, ends: Vec<End>, bound: u64) -> Round
+fn last_round<B: Bench>(bench: &mut B, ends: Vec<End>, quantum: u64, bound: u64) -> Round
+    requires share { 0 < quantum }
     requires bound { all_events (B.state bench.old) + bound < 2 ^ 48 }
     requires known { length (B.state bench.old).cells ≡ length (B.state bench.old).network.instances }
     requires room { length (B.state bench.old).network.instances ≤ vec_capacity ends }
@@ -124,7 +145,7 @@ fn last_round<B: Bench>(bench: &mut B, ends: Vec<End>, bound: u64) -> Round
     let mut left = bound;
     let mut memory = false;
     'rounds: loop {
-        let round = one_round(bench, ends, left, memory);
+        let round = one_round(bench, ends, quantum, left, memory);
         if !round.moved {
             return round;
         }
@@ -149,15 +170,17 @@ fn verdict_of(memory: bool, ends: &[End]) -> Verdict
     Verdict::Finished
 }
 
-/// Runs the cells of a bench on one thread, and answers right. The list of ends has room for each instance.
-pub fn run_bench<B: Bench>(mut bench: B, ends: Vec<End>, bound: u64) -> Answer
+/// Runs the cells of a bench on one thread, each for at most `quantum` events at a time, and answers right. The list of
+/// ends has room for each instance.
+pub fn run_bench<B: Bench>(mut bench: B, ends: Vec<End>, quantum: u64, bound: u64) -> Answer
+    requires quantum { 0 < quantum }
     requires bound { bound < 2 ^ 48 }
     requires fresh { all_events (B.state bench) ≡ 0 }
     requires known { length (B.state bench).cells ≡ length (B.state bench).network.instances }
     requires room { length (B.state bench).network.instances ≤ vec_capacity ends }
     ensures right { IsRight (B.state bench).network (B.state bench).input bound (B.state bench).watch result }
 {
-    let last = last_round(&mut bench, ends, bound);
+    let last = last_round(&mut bench, ends, quantum, bound);
     bench.within();
     laws::assembled();
     let verdict = verdict_of(last.memory, &last.ends);

@@ -35,7 +35,7 @@ fn watched(network: &Network, name: &Option<String>) -> Result<Option<usize>, Ru
 /// It refuses with `BadConfig` where a number of the configuration is out of its limit, then with `UnknownWatch` where
 /// no channel has the name that is to be watched, and with `NoMemory` where memory was refused before the first event.
 /// Memory that is refused later stops the run: its answer has the verdict `Memory`. For now one thread, the caller's,
-/// does all the work, and no gate is entered.
+/// does all the work, round after round, and no gate is entered.
 pub fn run<R: Threads + Wait + Sync, G: Gate>(
     _rt: &R,
     alloc: Global,
@@ -51,5 +51,12 @@ pub fn run<R: Threads + Wait + Sync, G: Gate>(
         return Err(RunFault::BadConfig);
     }
     let watch = watched(network, &config.watch)?;
-    Ok(run_watched(alloc, network, &input, watch, config.bound)?)
+    Ok(run_watched(
+        alloc,
+        network,
+        &input,
+        watch,
+        config.quantum,
+        config.bound,
+    )?)
 }

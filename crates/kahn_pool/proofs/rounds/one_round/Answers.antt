@@ -11,5 +11,6 @@ loop-instance-preserved g c =
       count = i.count ∙ ap (λ n. length n.instances) (sym c.step.ensures.same.0);
       size = c.step.ensures.size ∙ ap (λ n. n + 1) i.size ∙ add-one c.loop-instance.instance;
       room = rw c.step.ensures.room i.room;
+      share = c.step.ensures.share ∙ i.share;
       capacity = c.step.ensures.room ∙ i.capacity;
     })

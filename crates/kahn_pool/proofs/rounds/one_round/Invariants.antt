@@ -8,5 +8,6 @@ invariant-loop-instance g l = record {
   count : l.count ≡ length (g.B.Bench.state l.bench).network.instances;
   size : vec_len l.round.ends ≡ l.instance;
   room : l.count ≤ vec_capacity l.round.ends;
+  share : l.round.share ≡ l.fn.share;
   capacity : vec_capacity l.round.ends ≡ vec_capacity l.fn.ends;
 }

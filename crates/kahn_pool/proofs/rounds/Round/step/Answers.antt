@@ -5,8 +5,7 @@ use Rattle.kahn_pool.proofs.rounds.Round.step.Goals as goal
 
 pub run-stopped-requires-clause-bound : goal.run-stopped-requires-clause-bound
 run-stopped-requires-clause-bound g c =
-    rw c.quantum-quantum.ensures
-    (run_bound (g.B.Bench.state c.args.bench.now).cells c.args.instance c.args.self.now.left c.args.self.now.memory c.requires.bound)
+    run_bound (g.B.Bench.state c.args.bench.now).cells c.args.instance c.args.self.now.left c.quantum-quantum.result c.args.self.now.memory c.requires.bound c.quantum-quantum.ensures.most
 
 pub returns-clause-goes : goal.returns-clause-goes
 returns-clause-goes g c s0 w0 t0 go =
@@ -19,7 +18,7 @@ returns-clause-goes g c s0 w0 t0 go =
     rw (c.push_reserved.ensures.items, c.mark.ensures.ends)
     (goes_on s0 w0 t0 s t p c.args.self.now.left c.mark.new.self.left (c.events.result - c.events-before.result)
     c.args.self.now.memory c.mark.new.self.memory c.args.self.now.moved c.mark.new.self.moved c.run-stopped.result c.end_of.result
-    c.args.self.now.ends.items go
+    c.args.self.now.ends.items go c.quantum-quantum.result
     (record {
       network = c.run-stopped.ensures.same.0;
       input = c.run-stopped.ensures.same.1;
@@ -27,12 +26,12 @@ returns-clause-goes g c s0 w0 t0 go =
       only = c.run-stopped.ensures.only;
       up = up;
       still = c.run-stopped.ensures.still;
-      spent = λ z. c.run-stopped.ensures.spent z ∙ ap (λ q. events_at s p + q) c.quantum-quantum.ensures;
-      wanted = λ z. subst (λ q. events_at t p < events_at s p + q) c.quantum-quantum.ensures (c.run-stopped.ensures.wanted z);
+      spent = c.run-stopped.ensures.spent;
+      wanted = c.run-stopped.ensures.wanted;
       rests = c.end_of.ensures.rests;
       more = c.end_of.ensures.more;
     })
     (let k : length s.cells ≡ length s.network.instances = c.requires.known in let h : p < length s.network.instances = c.requires.here in omega (arith, k, h))
     (omega (arith, a, b, up))
-    c.mark.ensures.left
+    c.mark.ensures.left c.quantum-quantum.ensures.most c.quantum-quantum.ensures.none
     c.mark.ensures.marked)
