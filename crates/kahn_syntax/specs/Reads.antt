@@ -1,5 +1,5 @@
 -- What each function of the parser reads, and where it stops.
-use Rattle.std.specs.Prelude.{◌≡◌, ℕ, List, ◌≤◌, ◌<◌, Contains}
+use Rattle.std.specs.Prelude.{◌≡◌, ℕ, List, [], ◌∷◌, ◌≤◌, ◌<◌, Contains}
 use Rattle.kahn_syntax.specs.declared.fault.SyntaxFault.{SyntaxFault}
 use Rattle.kahn_syntax.specs.declared.fault.SyntaxFault.TheVariants as fault
 use Rattle.kahn_syntax.specs.declared.fault.SyntaxFault.TheVariants.{Expected}
@@ -9,6 +9,8 @@ use Rattle.kahn_syntax.specs.declared.parser.cursor.Stop.TheVariants.{Refused, T
 use Rattle.kahn_syntax.specs.declared.parser.operator.Level.{Level}
 use Rattle.kahn_syntax.specs.declared.parser.operator.Level.TheVariants.{Or, And, Sum, Term}
 use Rattle.kahn_syntax.specs.declared.lexeme.Lexeme.{Lexeme}
+use Rattle.kahn_syntax.specs.Terminals.{Terminal, terminals}
+use Rattle.kahn_syntax.specs.Machine.{Part, ProgramPart, levels, Refuses, TooFar, fate}
 use Rattle.kahn_syntax.specs.Trees.{ExpressionTree, OperandTrees, no_operand, operand, level, binds, Formed}
 
 -- how many lexemes are left at the fault, with the one at which it stands
@@ -48,3 +50,19 @@ rank_of Term = 6
 abbrev pub joined : ExpressionTree → OperandTrees → ExpressionTree
 joined e no_operand = e
 joined e (operand o f os) = level e (operand o f os)
+
+-- Whatever is open below it, with so many levels: the part is read, and rest is left of the input.
+abbrev pub Reads : List ℕ → ℕ → Part → List Lexeme → List Lexeme → Type 0
+Reads text depth part input rest = (s : List Part) → levels s ≡ depth → fate 64 (part ∷ s) (terminals text input) ≡ fate 64 s (terminals text rest)
+
+-- The part isn't read, and here is why.
+abbrev pub Stops : List ℕ → ℕ → Part → List Lexeme → Stop → Type 0
+Stops text depth part input (Refused whole left) = (s : List Part) → levels s ≡ depth → fate 64 (part ∷ s) (terminals text input) ≡ Refuses whole left
+Stops text depth part input (TooDeep left) = (s : List Part) → levels s ≡ depth → fate 64 (part ∷ s) (terminals text input) ≡ TooFar left
+Stops text depth part input NoMemory = Unit {0}
+
+-- The list isn't a program, and here is why.
+abbrev pub Halts : List Terminal → Stop → Type 0
+Halts ks (Refused whole left) = fate 64 (ProgramPart ∷ []) ks ≡ Refuses whole left
+Halts ks (TooDeep left) = fate 64 (ProgramPart ∷ []) ks ≡ TooFar left
+Halts ks NoMemory = Unit {0}
