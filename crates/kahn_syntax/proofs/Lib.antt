@@ -21,3 +21,6 @@ pub mod WholePrograms
 pub mod Viable
 pub mod Reached
 pub mod Meaning
+pub mod Moves
+pub mod Proper
+pub mod Negative

@@ -6,7 +6,7 @@ use Rattle.kahn_syntax.specs.declared.parser.cursor.Stop.{Stop}
 use Rattle.kahn_syntax.specs.declared.parser.cursor.Stop.TheVariants.{Refused, TooDeep, NoMemory}
 use Rattle.kahn_syntax.specs.Terminals.{Terminal, terminal, terminals}
 use Rattle.kahn_syntax.specs.Programs.{ProgramTree, program, Spells, MaybeSemicolon, nesting}
-use Rattle.kahn_syntax.specs.Faults.{IsWhole, Begins, BeginsWithin, IsNothing, IsOther, IsTooDeep, StandsAt}
+use Rattle.kahn_syntax.specs.Faults.{IsWhole, Begins, BeginsWithin, IsNothing, IsOther, IsTooDeep, StandsAt, Placed}
 use Rattle.kahn_syntax.specs.Machine.{ProgramPart, Fate, Refuses, TooFar, fate}
 use Rattle.kahn_syntax.specs.Reads.{Halts}
 use Rattle.kahn_syntax.proofs.WholePrograms.{whole_program}
@@ -64,11 +64,6 @@ deep_of before x r = (
   λ t c p. far_deeper t (before ++ x ∷ c) (length c + 1) p (r.far c),
 )
 
--- the lexeme with this span, where so many are left
-abbrev pub Placed : List Lexeme → Span → ℕ → Type 0
-Placed lexemes span left =
-    (before : List Lexeme) × (x : Lexeme) × (after : List Lexeme) × (lexemes ≡ before ++ x ∷ after) × (span ≡ x.span) × (length after + 1 ≡ left)
-
 split_fate : (text : List ℕ) (lexemes before after : List Lexeme) (x : Lexeme) (f : Fate) → lexemes ≡ before ++ x ∷ after → fate 64 (ProgramPart ∷ []) (terminals text lexemes) ≡ f →
     fate 64 (ProgramPart ∷ []) (terminals text before ++ terminal text x.what x.span ∷ terminals text after) ≡ f
 split_fate text lexemes before after x f e h =
@@ -122,3 +117,9 @@ refused_left text lexemes b n h = omega (arith, refuses_left 64 (terminals text 
 pub deep_left : (text : List ℕ) (lexemes : List Lexeme) (n : ℕ) → Halts (terminals text lexemes) (TooDeep n) → (n ≤ length lexemes) × (0 < n)
 deep_left text lexemes n h =
     let r = far_left 64 (terminals text lexemes) (ProgramPart ∷ []) n h in (omega (arith, r.0, terminals_length text lexemes), r.1)
+
+pub deep_memory : (n : ℕ) → TooDeep n ≡ NoMemory → ⊥
+deep_memory n e = cc
+
+pub refused_memory : (b : Bool) (n : ℕ) → Refused b n ≡ NoMemory → ⊥
+refused_memory b n e = cc

@@ -1,5 +1,5 @@
 -- Why a list of lexemes is refused.
-use Rattle.std.specs.Prelude.{◌≡◌, ℕ, List, [], ◌∷◌, ◌++◌, ◌≤◌, ◌<◌, length}
+use Rattle.std.specs.Prelude.{◌≡◌, ℕ, List, [], ◌∷◌, ◌++◌, ◌+◌, ◌≤◌, ◌<◌, length}
 use Rattle.kahn_syntax.specs.declared.lexeme.Lexeme.{Lexeme}
 use Rattle.kahn_syntax.specs.declared.span.Span.{Span}
 use Rattle.kahn_syntax.specs.declared.fault.SyntaxFault.{SyntaxFault}
@@ -48,3 +48,8 @@ IsFault text lexemes (Expected span Other) = StandsAt text lexemes span IsOther
 IsFault text lexemes (fault.TooDeep span) = StandsAt text lexemes span IsTooDeep
 IsFault text lexemes fault.NoMemory = Unit {0}
 IsFault text lexemes _ = ⊥
+
+-- the lexeme with this span stands in the list, and so many are left from it on
+abbrev pub Placed : List Lexeme → Span → ℕ → Type 0
+Placed lexemes span left =
+    (before : List Lexeme) × (x : Lexeme) × (after : List Lexeme) × (lexemes ≡ before ++ x ∷ after) × (span ≡ x.span) × (length after + 1 ≡ left)
