@@ -27,20 +27,20 @@ EndsAfter (while_do t a) r = EndsStatement r
 EndsAfter (repeat a) r = EndsStatement r
 EndsAfter _ r = EndsSimple r
 
-simple_expression : (r : List Terminal) → EndsSimple r → Ends 1 r
+pub simple_expression : (r : List Terminal) → EndsSimple r → Ends 1 r
 simple_expression [] h = absurd h
 simple_expression (sign mark.Semicolon ∷ r) h = omega arith
 simple_expression (word keyword.End ∷ r) h = omega arith
 simple_expression (word keyword.Else ∷ r) h = omega arith
 simple_expression (_ ∷ r) h = absurd h
 
-statement_simple : (r : List Terminal) → EndsStatement r → EndsSimple r
+pub statement_simple : (r : List Terminal) → EndsStatement r → EndsSimple r
 statement_simple [] h = absurd h
 statement_simple (sign mark.Semicolon ∷ r) h = tt
 statement_simple (word keyword.End ∷ r) h = tt
 statement_simple (_ ∷ r) h = absurd h
 
-statement_after : (t : StatementTree) (r : List Terminal) → EndsStatement r → EndsAfter t r
+pub statement_after : (t : StatementTree) (r : List Terminal) → EndsStatement r → EndsAfter t r
 statement_after empty r h = statement_simple r h
 statement_after (assign n e) r h = statement_simple r h
 statement_after (send e n) r h = statement_simple r h
@@ -51,7 +51,7 @@ statement_after (if_else t a b) r h = h
 statement_after (while_do t a) r h = h
 statement_after (repeat a) r h = h
 
-simple_after : (t : StatementTree) (r : List Terminal) → IsSimple t → EndsSimple r → EndsAfter t r
+pub simple_after : (t : StatementTree) (r : List Terminal) → IsSimple t → EndsSimple r → EndsAfter t r
 simple_after empty r s h = h
 simple_after (assign n e) r s h = h
 simple_after (send e n) r s h = h
@@ -62,7 +62,7 @@ simple_after (if_else t a b) r s h = absurd s
 simple_after (while_do t a) r s h = absurd s
 simple_after (repeat a) r s h = absurd s
 
-no_more : (ss : StatementTrees) (r : List Terminal) → EndsStatement r → EndsStatement (further_words ss r)
+pub no_more : (ss : StatementTrees) (r : List Terminal) → EndsStatement r → EndsStatement (further_words ss r)
 no_more no_statement r h = h
 no_more (statement s ss) r h = tt
 
@@ -75,7 +75,7 @@ abbrev pub EndsBlock : List Terminal → Type 0
 EndsBlock (word keyword.End ∷ r) = Unit {0}
 EndsBlock _ = ⊥
 
-block_statement : (r : List Terminal) → EndsBlock r → EndsStatement r
+pub block_statement : (r : List Terminal) → EndsBlock r → EndsStatement r
 block_statement [] h = absurd h
 block_statement (word keyword.End ∷ r) h = tt
 block_statement (_ ∷ r) h = absurd h

@@ -14,3 +14,13 @@ pub mod Runs
 pub mod Signs
 pub mod Statements
 pub mod Unique
+pub mod Steps
+pub mod WholeExpressions
+pub mod WholeStatements
+pub mod WholePrograms
+pub mod Viable
+pub mod Reached
+pub mod Meaning
+pub mod Moves
+pub mod Proper
+pub mod Negative

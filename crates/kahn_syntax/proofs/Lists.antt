@@ -1,11 +1,13 @@
 -- Lists that are read one member after another.
-use Rattle.std.proofs.Common.{◌≡◌, ◌+◌, ◌-◌, ◌≤◌, List, [], ◌∷◌, ◌++◌, length, get_or, take, drop, map, refl, sym, ap, ◌∙◌, arith, ◌<◌, length-drop, subst}
+use Rattle.std.proofs.Common.{◌≡◌, ℕ, ◌+◌, ◌-◌, ◌≤◌, List, [], ◌∷◌, ◌++◌, length, get_or, take, drop, map, refl, sym, ap, ◌∙◌, arith, ◌<◌, length-drop, subst}
 use Rattle.std.proofs.lemmas.List.{take_all, drop_more}
 use Rattle.kahn_syntax.specs.declared.lexeme.Sign.TheVariants as mark
 use Rattle.kahn_syntax.specs.declared.lexeme.Class.{Class}
+use Rattle.kahn_syntax.specs.declared.lexeme.Class.TheVariants as class
+use Rattle.kahn_syntax.specs.declared.span.Span.{Span}
 use Rattle.kahn_syntax.specs.declared.lexeme.Lexeme.{Lexeme}
 use Rattle.kahn_syntax.specs.declared.tree.Name.{Name}
-use Rattle.kahn_syntax.specs.Terminals.{Terminal, sign, name, terminals, First}
+use Rattle.kahn_syntax.specs.Terminals.{Terminal, sign, name, terminals, First, IsUnsigned, IsProper, AreProper}
 use Rattle.kahn_syntax.specs.Drawn.{name_of}
 use Rattle.kahn_syntax.specs.Programs.{names_words, further_names_words, AreNames}
 
@@ -48,3 +50,22 @@ next_list xs d h =
 pub next_made : (xs : List Lexeme) (d : Lexeme) → 1 ≤ length xs →
     First (get_or xs 0 d).what xs (take (length xs - 1) (drop 1 xs)) × (length xs ≡ length (take (length xs - 1) (drop 1 xs)) + 1)
 next_made xs d h = (first_made xs _ (get_or xs 0 d) (next_list xs d h), omega (arith, h, length-drop 1 xs, ap length (take_all (length xs - 1) (drop 1 xs) (omega (arith, length-drop 1 xs)))))
+
+is_unsigned : (text : List ℕ) (c : Class) (at : Span) → IsProper text c at → IsUnsigned c
+is_unsigned text (class.Word w) at h = tt
+is_unsigned text class.Name at h = tt
+is_unsigned text (class.Number n) at h = h
+is_unsigned text (class.Sign s) at h = tt
+
+next_both : (text : List ℕ) (xs : List Lexeme) (d : Lexeme) → 1 ≤ length xs → AreProper text xs →
+    IsUnsigned (get_or xs 0 d).what × AreProper text (take (length xs - 1) (drop 1 xs))
+next_both text xs d h p =
+    let q : AreProper text (get_or xs 0 d ∷ take (length xs - 1) (drop 1 xs)) = subst (AreProper text) (next_list xs d h) p in
+    (is_unsigned text (get_or xs 0 d).what (get_or xs 0 d).span q.0, q.1)
+
+pub next_unsigned : (text : List ℕ) (xs : List Lexeme) (d : Lexeme) → 1 ≤ length xs → AreProper text xs → IsUnsigned (get_or xs 0 d).what
+next_unsigned text xs d h p = (next_both text xs d h p).0
+
+pub next_proper : (text : List ℕ) (xs : List Lexeme) → 1 ≤ length xs → AreProper text xs → AreProper text (take (length xs - 1) (drop 1 xs))
+next_proper text [] h p = absurd (omega (arith, h))
+next_proper text (x ∷ xs) h p = (next_both text (x ∷ xs) x h p).1

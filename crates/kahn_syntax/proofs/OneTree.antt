@@ -107,7 +107,7 @@ same_groups (g ∷ gs) (h ∷ hs) x y a b e =
 same_parameters : (ps qs : List ParameterTree) (ks x y : List Terminal) → Parameters ps ks (sign mark.Close ∷ x) → Parameters qs ks (sign mark.Close ∷ y) → (ps ≡ qs) × (x ≡ y)
 same_parameters ps qs ks x y (gs, a, e, p) (hs, b, f, q) = let z = same_groups gs hs x y a b (sym p ∙ q) in (e ∙ ap groups_parameters z.0 ∙ sym f, z.1)
 
-abbrev NoKind : List Terminal → Type 0
+abbrev pub NoKind : List Terminal → Type 0
 NoKind (word keyword.Integer ∷ r) = ⊥
 NoKind (word keyword.Logical ∷ r) = ⊥
 NoKind _ = Unit {0}
@@ -116,7 +116,7 @@ no_kind : (k : Kind) (r x : List Terminal) → NoKind r → r ≡ kind_terminal 
 no_kind kind.Integer r x h e = let f : NoKind (word keyword.Integer ∷ x) = subst NoKind e h in f
 no_kind kind.Logical r x h e = let f : NoKind (word keyword.Logical ∷ x) = subst NoKind e h in f
 
-statements_start : (ss : StatementTrees) (r : List Terminal) → AreSome ss → NoKind (statements_words ss (word keyword.End ∷ r))
+pub statements_start : (ss : StatementTrees) (r : List Terminal) → AreSome ss → NoKind (statements_words ss (word keyword.End ∷ r))
 statements_start no_statement r h = absurd h
 statements_start (statement empty no_statement) r h = tt
 statements_start (statement empty (statement s ss)) r h = tt
@@ -165,7 +165,7 @@ same_declares (process n ps vs body) (process m qs ws rump) ks r q x y (a, b, e,
     (cc, tail_is _ _ _ _ u.1)
 
 -- the list begins with a name
-abbrev Named : List Terminal → Type 0
+abbrev pub Named : List Terminal → Type 0
 Named (name n ∷ r) = Unit {0}
 Named _ = ⊥
 
@@ -231,7 +231,7 @@ same_instantiates (instance n xs) (instance m ys) ks r q (a, e, h) (b, f, g) =
     let named : n ≡ m = cc in
     let z = same_arguments xs ys a r q h (subst (λ k. Arguments ys k (sign mark.Close ∷ q)) first g) in (cc, z.1)
 
-abbrev NoPar : List Terminal → Type 0
+abbrev pub NoPar : List Terminal → Type 0
 NoPar (word keyword.Par ∷ r) = ⊥
 NoPar _ = Unit {0}
 
@@ -257,11 +257,11 @@ same_instances (i ∷ is) (j ∷ js) ks r q x y (m, p, h) (m', p', h') =
 named_instantiates : (i : InstanceTree) (ks r : List Terminal) → Instantiates i ks r → Named ks
 named_instantiates (instance n xs) ks r (m, e, h) = let f : Named (name n ∷ sign mark.Open ∷ m) = tt in subst Named (sym e) f
 
-named_instances : (is : List InstanceTree) (ks r : List Terminal) → Instances is ks r → Named ks
+pub named_instances : (is : List InstanceTree) (ks r : List Terminal) → Instances is ks r → Named ks
 named_instances [] ks r h = absurd h
 named_instances (i ∷ is) ks r (m, p, h) = named_instantiates i ks m p
 
-no_par_end : (c d e : List Terminal) → MaybeSemicolon c d → d ≡ word keyword.End ∷ e → NoPar c
+pub no_par_end : (c d e : List Terminal) → MaybeSemicolon c d → d ≡ word keyword.End ∷ e → NoPar c
 no_par_end c d e h p =
     let one : NoPar (sign mark.Semicolon ∷ d) = tt in
     let two : NoPar (word keyword.End ∷ e) = tt in

@@ -1,42 +1,22 @@
 -- No two trees spell one list: expressions.
-use Rattle.std.proofs.Common.{◌≡◌, ℕ, zero, suc, ◌+◌, ◌*◌, ◌≤◌, ◌<◌, ◌≢◌, List, [], ◌∷◌, true, false, Option, Some, None, ◌⊎◌, ⊎_elim, refl, sym, ap, ◌∙◌, subst, arith}
+use Rattle.std.proofs.Common.{◌≡◌, ℕ, zero, suc, ◌+◌, ◌*◌, ◌≤◌, ◌<◌, ◌≢◌, List, [], ◌∷◌, true, false, Some, ◌⊎◌, ⊎_elim, refl, sym, ap, ◌∙◌, subst, arith}
 use Rattle.std.proofs.lemmas.Bool.Decides.{nat_tests}
 use Rattle.kahn_syntax.specs.declared.lexeme.Keyword.TheVariants as keyword
 use Rattle.kahn_syntax.specs.declared.lexeme.Sign.TheVariants as mark
 use Rattle.kahn_syntax.specs.declared.tree.Operator.{Operator}
 use Rattle.kahn_syntax.specs.declared.tree.Operator.TheVariants as operator
 use Rattle.kahn_syntax.specs.Terminals.{Terminal, word, sign}
-use Rattle.kahn_syntax.specs.Trees.{ExpressionTree, number, truth, variable, wait, negation, denial, bracket, level, conditional, OperandTrees, no_operand, operand, operator_terminal, expression_words, operands_words, rank, Formed, FormedOperands}
+use Rattle.kahn_syntax.specs.Trees.{ExpressionTree, number, truth, variable, wait, negation, denial, bracket, level, conditional, OperandTrees, no_operand, operand, operator_terminal, expression_words, operands_words, expression_nesting, operands_nesting, rank, IsOne, Formed, FormedOperands}
 use Rattle.kahn_syntax.specs.Reads.{Fits, joined}
+use Rattle.kahn_syntax.specs.Rungs.{operator_of, rank_or, Rung, whole, ors, ands, denials, relations, sums, terms, factors, at}
 use Rattle.kahn_syntax.proofs.Levels.{joined_words}
-
--- the operator that a terminal is, where it is one
-abbrev pub operator_of : Terminal → Option Operator
-operator_of (word keyword.Or) = Some operator.Or
-operator_of (word keyword.And) = Some operator.And
-operator_of (sign mark.Equal) = Some operator.Equal
-operator_of (sign mark.Unequal) = Some operator.Unequal
-operator_of (sign mark.Less) = Some operator.Less
-operator_of (sign mark.AtMost) = Some operator.AtMost
-operator_of (sign mark.Greater) = Some operator.Greater
-operator_of (sign mark.AtLeast) = Some operator.AtLeast
-operator_of (sign mark.Plus) = Some operator.Add
-operator_of (sign mark.Minus) = Some operator.Subtract
-operator_of (sign mark.Times) = Some operator.Multiply
-operator_of (word keyword.Div) = Some operator.Divide
-operator_of (word keyword.Mod) = Some operator.Remainder
-operator_of _ = None
-
-abbrev pub rank_or : Option Operator → ℕ
-rank_or None = 0
-rank_or (Some o) = rank o
 
 -- the list doesn't go on with an operator of this level or of a tighter one
 abbrev pub Ends : ℕ → List Terminal → Type 0
 Ends n [] = Unit {0}
 Ends n (k ∷ r) = rank_or (operator_of k) < n
 
-is_operator : (o : Operator) → operator_of (operator_terminal o) ≡ Some o
+pub is_operator : (o : Operator) → operator_of (operator_terminal o) ≡ Some o
 is_operator operator.Or = refl
 is_operator operator.And = refl
 is_operator operator.Equal = refl
@@ -51,7 +31,7 @@ is_operator operator.Multiply = refl
 is_operator operator.Divide = refl
 is_operator operator.Remainder = refl
 
-rank_within : (o : Operator) → (rank o ≤ 6) × (0 < rank o) × (rank o ≢ 3)
+pub rank_within : (o : Operator) → (rank o ≤ 6) × (0 < rank o) × (rank o ≢ 3)
 rank_within operator.Or = (omega arith, omega arith, λ e. omega arith)
 rank_within operator.And = (omega arith, omega arith, λ e. omega arith)
 rank_within operator.Equal = (omega arith, omega arith, λ e. omega arith)
@@ -82,7 +62,7 @@ pub ends_more : (n m : ℕ) (r : List Terminal) → n ≤ m → Ends n r → End
 ends_more n m [] h e = tt
 ends_more n m (k ∷ r) h e = omega (arith, h, e)
 
-ends_operand : (n : ℕ) (os : OperandTrees) (r : List Terminal) → FormedOperands n os → Ends n r → Ends (n + 1) (operands_words os r)
+pub ends_operand : (n : ℕ) (os : OperandTrees) (r : List Terminal) → FormedOperands n os → Ends n r → Ends (n + 1) (operands_words os r)
 ends_operand n no_operand r h e = ends_more n (n + 1) r (omega arith) e
 ends_operand n (operand o f os) r h e = omega (arith, h.0, ap rank_or (is_operator o))
 
@@ -90,7 +70,7 @@ no_operator : (n : ℕ) (o : Operator) (x r : List Terminal) → rank o ≡ n �
 no_operator n o x r h e p = let f : Ends n (operator_terminal o ∷ x) = subst (Ends n) p e in omega (arith, h, f, ap rank_or (is_operator o))
 
 abbrev mutual
-  size : ExpressionTree → ℕ
+  pub size : ExpressionTree → ℕ
   size (number n) = 1
   size (truth b) = 1
   size (variable n) = 1
@@ -101,32 +81,11 @@ abbrev mutual
   size (level e os) = size e + sizes os + 1
   size (conditional t a b) = size t + size a + size b + 1
 
-  sizes : OperandTrees → ℕ
+  pub sizes : OperandTrees → ℕ
   sizes no_operand = 0
   sizes (operand o e os) = size e + sizes os + 1
 
--- the levels of the grammar
-data Rung : Type 0 where
-  whole : Rung
-  ors : Rung
-  ands : Rung
-  denials : Rung
-  relations : Rung
-  sums : Rung
-  terms : Rung
-  factors : Rung
-
-abbrev at : Rung → ℕ
-at whole = 0
-at ors = 1
-at ands = 2
-at denials = 3
-at relations = 4
-at sums = 5
-at terms = 6
-at factors = 7
-
-abbrev above : Rung → ℕ
+abbrev pub above : Rung → ℕ
 above whole = 7
 above ors = 6
 above ands = 5
@@ -137,7 +96,7 @@ above terms = 1
 above factors = 0
 
 -- the tightest operator that ends what stands there
-abbrev stop : Rung → ℕ
+abbrev pub stop : Rung → ℕ
 stop whole = 1
 stop ors = 1
 stop ands = 2
@@ -155,22 +114,30 @@ abbrev Known : ℕ → Type 0
 Known k = (l : Rung) (t u : ExpressionTree) (r q : List Terminal) → 8 * size t + above l < k → Fits (at l) t → Fits (at l) u → Ends (stop l) r → Ends (stop l) q →
     expression_words t r ≡ expression_words u q → Same t u r q
 
+abbrev pub IsNoneOrOne : OperandTrees → Type 0
+IsNoneOrOne no_operand = Unit {0}
+IsNoneOrOne (operand o e os) = IsOne (operand o e os)
+
 -- a tree of a level as its first operand and the others
-record Split (n : ℕ) (t : ExpressionTree) : Type 0 where
-  first : ExpressionTree
-  rest : OperandTrees
-  is : t ≡ joined first rest
-  fits : Fits (n + 1) first
-  formed : FormedOperands n rest
-  small : size first + sizes rest ≤ size t
+pub record Split (n : ℕ) (t : ExpressionTree) : Type 0 where
+  pub first : ExpressionTree
+  pub rest : OperandTrees
+  pub is : t ≡ joined first rest
+  pub fits : Fits (n + 1) first
+  pub formed : FormedOperands n rest
+  pub small : size first + sizes rest ≤ size t
+  pub nests : expression_nesting first ≤ expression_nesting t
+  pub nest : operands_nesting rest ≤ expression_nesting t
+  -- comparisons don't follow one another
+  pub one : n ≡ 4 → IsNoneOrOne rest
 
 alone : (n : ℕ) (t : ExpressionTree) → Fits (n + 1) t → Split n t
-alone n t f = record { first = t; rest = no_operand; is = refl; fits = f; formed = tt; small = omega arith }
+alone n t f = record { first = t; rest = no_operand; is = refl; fits = f; formed = tt; small = omega arith; nests = omega arith; nest = omega arith; one = λ e. tt }
 
-le_or : (a b : ℕ) → (a ≤ b) ⊎ (b < a)
+pub le_or : (a b : ℕ) → (a ≤ b) ⊎ (b < a)
 le_or a b = grind (arith, nat_tests)
 
-split : (n : ℕ) (t : ExpressionTree) → 0 < n → n ≢ 3 → n ≤ 6 → Fits n t → Split n t
+pub split : (n : ℕ) (t : ExpressionTree) → 0 < n → n ≢ 3 → n ≤ 6 → Fits n t → Split n t
 split n (number z) a b c f = alone n (number z) (omega arith, tt)
 split n (truth z) a b c f = alone n (truth z) (omega arith, tt)
 split n (variable z) a b c f = alone n (variable z) (omega arith, tt)
@@ -190,6 +157,9 @@ split n (level e (operand o g os)) a b c f =
       fits = (omega (arith, f.1.0), f.1.1);
       formed = subst (λ j. FormedOperands j (operand o g os)) same f.1.3;
       small = omega arith;
+      nests = omega arith;
+      nest = omega arith;
+      one = λ e. f.1.4 (same ∙ e);
     })
     (le_or (n + 1) (rank o))
 
@@ -217,7 +187,7 @@ chain k n l known a s v c d b t u r q small f g x y e =
     (i.is ∙ ap (λ m. joined m i.rest) z.0 ∙ ap (joined j.first) w.0 ∙ sym j.is, w.1)
 
 -- nothing but a conditional expression begins with `if`
-no_if : (t : ExpressionTree) (r x : List Terminal) → Fits 1 t → expression_words t r ≡ word keyword.If ∷ x → ⊥
+pub no_if : (t : ExpressionTree) (r x : List Terminal) → Fits 1 t → expression_words t r ≡ word keyword.If ∷ x → ⊥
 no_if (number z) r x f e = absurd cc
 no_if (truth true) r x f e = absurd cc
 no_if (truth false) r x f e = absurd cc
@@ -230,7 +200,7 @@ no_if (conditional a b c) r x f e = absurd (omega (arith, f.0))
 no_if (level t os) r x f e = no_if t (operands_words os r) x (omega (arith, f.0, f.1.0), f.1.1) e
 
 -- nothing tighter than a denial begins with `not`
-no_not : (t : ExpressionTree) (r x : List Terminal) → Fits 4 t → expression_words t r ≡ word keyword.Not ∷ x → ⊥
+pub no_not : (t : ExpressionTree) (r x : List Terminal) → Fits 4 t → expression_words t r ≡ word keyword.Not ∷ x → ⊥
 no_not (number z) r x f e = absurd cc
 no_not (truth true) r x f e = absurd cc
 no_not (truth false) r x f e = absurd cc
@@ -243,11 +213,11 @@ no_not (conditional a b c) r x f e = absurd (omega (arith, f.0))
 no_not (level t os) r x f e = no_not t (operands_words os r) x (omega (arith, f.0, f.1.0), f.1.1) e
 
 -- a conditional expression, or one of a tighter level
-data Whole (t : ExpressionTree) : Type 0 where
+pub data Whole (t : ExpressionTree) : Type 0 where
   is_if : (a b c : ExpressionTree) → t ≡ conditional a b c → Formed a → Formed b → Formed c → size a + size b + size c + 1 ≤ size t → Whole t
   is_tighter : Fits 1 t → Whole t
 
-open_whole : (t : ExpressionTree) → Fits 0 t → Whole t
+pub open_whole : (t : ExpressionTree) → Fits 0 t → Whole t
 open_whole (number z) f = is_tighter (omega arith, tt)
 open_whole (truth z) f = is_tighter (omega arith, tt)
 open_whole (variable z) f = is_tighter (omega arith, tt)
@@ -258,7 +228,7 @@ open_whole (denial t) f = is_tighter (omega arith, f.1)
 open_whole (level t os) f = is_tighter (omega (arith, f.1.2), f.1)
 open_whole (conditional a b c) f = is_if a b c refl f.1.0 f.1.1 f.1.2 (omega arith)
 
-data Denial (t : ExpressionTree) : Type 0 where
+pub data Denial (t : ExpressionTree) : Type 0 where
   is_not : (a : ExpressionTree) → t ≡ denial a → Fits 3 a → size a + 1 ≤ size t → Denial t
   is_relation : Fits 4 t → Denial t
 
@@ -269,7 +239,7 @@ open_level t (operand o e os) f = is_relation (strict (rank o) f.0 (rank_within 
     strict : (n : ℕ) → 3 ≤ n → n ≢ 3 → 4 ≤ n
     strict n a b = omega (arith, a, b)
 
-open_denial : (t : ExpressionTree) → Fits 3 t → Denial t
+pub open_denial : (t : ExpressionTree) → Fits 3 t → Denial t
 open_denial (number z) f = is_relation (omega arith, tt)
 open_denial (truth z) f = is_relation (omega arith, tt)
 open_denial (variable z) f = is_relation (omega arith, tt)
@@ -280,7 +250,7 @@ open_denial (conditional a b c) f = absurd (omega (arith, f.0))
 open_denial (denial a) f = is_not a refl f.1 (omega arith)
 open_denial (level t os) f = open_level t os f
 
-level_low : (t : ExpressionTree) (os : OperandTrees) → Fits 7 (level t os) → ⊥
+pub level_low : (t : ExpressionTree) (os : OperandTrees) → Fits 7 (level t os) → ⊥
 level_low t no_operand f = absurd (omega (arith, f.0))
 level_low t (operand o e os) f = absurd (omega (arith, f.0, (rank_within o).0))
 

@@ -1,5 +1,5 @@
 -- The alphabet of the grammar, and the terminals that lexemes are.
-use Rattle.std.specs.Prelude.{◌≡◌, ℕ, ℤ, List, [], ◌∷◌, slice_range}
+use Rattle.std.specs.Prelude.{◌≡◌, ◌≤◌, ℕ, ℤ, pos, List, [], ◌∷◌, length, slice_range, IsCharBoundary}
 use Rattle.kahn_syntax.specs.declared.span.Span.{Span}
 use Rattle.kahn_syntax.specs.declared.lexeme.Keyword.{Keyword}
 use Rattle.kahn_syntax.specs.declared.lexeme.Keyword.TheVariants as keyword
@@ -8,6 +8,7 @@ use Rattle.kahn_syntax.specs.declared.lexeme.Sign.TheVariants as mark
 use Rattle.kahn_syntax.specs.declared.lexeme.Class.{Class}
 use Rattle.kahn_syntax.specs.declared.lexeme.Class.TheVariants as class
 use Rattle.kahn_syntax.specs.declared.lexeme.Lexeme.{Lexeme}
+use Rattle.kahn_syntax.specs.Lexemes.{largest_number}
 
 -- a keyword, a sign, a number with its value, or a name with its bytes
 pub data Terminal : Type 0 where
@@ -31,6 +32,20 @@ terminal text (class.Sign s) at = sign_terminal s
 abbrev pub terminals : List ℕ → List Lexeme → List Terminal
 terminals text [] = []
 terminals text (x ∷ xs) = terminal text x.what x.span ∷ terminals text xs
+
+-- a number has no sign, and is one of 64 bits
+abbrev pub IsUnsigned : Class → Type 0
+IsUnsigned (class.Number n) = (m : ℕ) × (n ≡ pos m) × (m ≤ largest_number)
+IsUnsigned _ = Unit {0}
+
+-- as the lexer makes it, where a name's bytes may be cut out of the text
+abbrev pub IsProper : List ℕ → Class → Span → Type 0
+IsProper text class.Name at = (at.from ≤ at.to) × (at.to ≤ length text) × IsCharBoundary text at.from × IsCharBoundary text at.to
+IsProper text c at = IsUnsigned c
+
+abbrev pub AreProper : List ℕ → List Lexeme → Type 0
+AreProper text [] = Unit {0}
+AreProper text (x ∷ xs) = IsProper text x.what x.span × AreProper text xs
 
 -- the input begins with a lexeme of this class, and the rest follows it
 abbrev pub First : Class → List Lexeme → List Lexeme → Type 0

@@ -7,7 +7,7 @@ use Rattle.kahn_syntax.specs.Lexemes.{Lexed, most_bytes, IsLexFault}
 use Rattle.kahn_syntax.specs.Terminals.{terminals}
 use Rattle.kahn_syntax.specs.Programs.{Spells}
 use Rattle.kahn_syntax.specs.Drawn.{program_of}
-use Rattle.kahn_syntax.specs.Reads.{StandsAt}
+use Rattle.kahn_syntax.specs.Faults.{IsFault}
 
 -- these are the lexemes of the text, which is within its limit
 abbrev pub AreLexemes : List ℕ → List Lexeme → Type 0
@@ -17,6 +17,6 @@ AreLexemes text xs = (length text ≤ most_bytes) × Lexed text 0 (length text) 
 abbrev pub IsProgram : List ℕ → Program → Type 0
 IsProgram text p = (xs : List Lexeme) × AreLexemes text xs × Spells (program_of p) (terminals text xs)
 
--- a fault of a lexeme, or one at a lexeme or at the end of the text
+-- a fault of a lexeme, or one of the grammar
 abbrev pub IsTextFault : List ℕ → SyntaxFault → Type 0
-IsTextFault text e = IsLexFault text e ⊎ ((xs : List Lexeme) × AreLexemes text xs × StandsAt (length text) xs e)
+IsTextFault text e = IsLexFault text e ⊎ ((xs : List Lexeme) × AreLexemes text xs × IsFault text xs e)

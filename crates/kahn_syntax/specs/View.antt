@@ -7,7 +7,6 @@ use Rattle.kahn_syntax.specs.declared.tree.Form.{Form, Number, Logical, Variable
 use Rattle.kahn_syntax.specs.declared.tree.Expression.{Expression}
 use Rattle.kahn_syntax.specs.declared.tree.Action.{Action, Empty, Assign, Send, Print, Block', If', While', Repeat', Row_of-Statement, end_of-Statement, more_of-Statement, Held-Action-If-2, None', Some'}
 use Rattle.kahn_syntax.specs.declared.tree.Statement.{Statement}
-use Rattle.kahn_syntax.specs.declared.tree.Parameter.{Parameter}
 use Rattle.kahn_syntax.specs.declared.tree.Process.{Process}
 use Rattle.kahn_syntax.specs.Syntax as S
 

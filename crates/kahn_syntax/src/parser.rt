@@ -2,10 +2,13 @@
 //!
 //! Lists are read by loops, and recursion goes no deeper than the nesting of the text, which is limited.
 
-ghost use Rattle.std.specs.Prelude.{◌≤◌, IfOk, IfErr};
+ghost use Rattle.std.specs.Prelude.{◌≡◌, ◌≤◌, List, IfOk, IfErr};
+ghost use Rattle.kahn_syntax.specs.declared.fault.SyntaxFault.TheVariants as SyntaxFault;
+ghost use Rattle.kahn_syntax.specs.declared.lexeme.Lexeme.{Lexeme};
+ghost use Rattle.kahn_syntax.specs.Terminals.{terminals};
 ghost use Rattle.kahn_syntax.specs.Drawn.{program_of};
-ghost use Rattle.kahn_syntax.specs.Programs.{nesting};
-ghost use Rattle.kahn_syntax.specs.Texts.{IsProgram, IsTextFault};
+ghost use Rattle.kahn_syntax.specs.Programs.{ProgramTree, Spells, nesting};
+ghost use Rattle.kahn_syntax.specs.Texts.{AreLexemes, IsProgram, IsTextFault};
 
 pub mod build;
 pub mod cursor;
@@ -26,6 +29,8 @@ use std::alloc::Global;
 pub fn parse(alloc: Global, text: &str) -> Result<Program, SyntaxFault>
     ensures spells { IfOk result (IsProgram text.now) }
     ensures nesting { IfOk result (λ p. nesting (program_of p) ≤ 64) }
+    // A text that is a program within the limits is refused for want of memory alone.
+    ensures found { IfErr result (λ e. (xs : List Lexeme) (t : ProgramTree) → AreLexemes text.now xs → Spells t (terminals text.now xs) → nesting t ≤ 64 → e ≡ SyntaxFault.NoMemory) }
     ensures fault { IfErr result (IsTextFault text.now) }
 {
     match lex(alloc, text) {

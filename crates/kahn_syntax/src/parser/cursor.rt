@@ -1,9 +1,9 @@
 //! The lexemes that are still to be read, and why reading stops.
 
-ghost use Rattle.std.specs.Prelude.{◌≡◌, ◌≤◌, ◌<◌, ◌+◌, [], length, IfOk, IfErr, MatchOption};
-ghost use Rattle.kahn_syntax.specs.Terminals.{First};
-ghost use Rattle.kahn_syntax.specs.Reads.{Within};
-ghost use Rattle.kahn_syntax.specs.declared.parser.cursor.Stop.TheVariants.{NoMemory};
+ghost use Rattle.std.specs.Prelude.{◌≡◌, ℕ, ◌≤◌, ◌<◌, ◌+◌, List, [], false, length, IfOk, IfErr, IfSome, IfNone, MatchOption};
+ghost use Rattle.kahn_syntax.specs.Terminals.{First, AreProper, IsUnsigned};
+ghost use Rattle.kahn_syntax.specs.Reads.{IsAbsent};
+ghost use Rattle.kahn_syntax.specs.declared.parser.cursor.Stop.TheVariants.{Refused, TooDeep, NoMemory};
 
 use crate::lexeme::{Class, Lexeme};
 use crate::span::Span;
@@ -44,7 +44,9 @@ pub type Read<'t, T> = Result<(T, &'t [Lexeme]), Stop>;
 
 /// What the first lexeme is, and the lexemes after it.
 pub fn next(input: &[Lexeme]) -> Option<(Class, &[Lexeme])>
-    ensures { MatchOption result (input.now ≡ []) (λ r. First r.0 input.now r.1.now × (length input.now ≡ length r.1.now + 1)) }
+    ensures first { MatchOption result (input.now ≡ []) (λ r. First r.0 input.now r.1.now × (length input.now ≡ length r.1.now + 1)) }
+    ensures unsigned { IfSome result (λ r. (text : List ℕ) → AreProper text input.now → IsUnsigned r.0) }
+    ensures proper { IfSome result (λ r. (text : List ℕ) → AreProper text input.now → AreProper text r.1.now) }
 {
     match input {
         [] => None,
@@ -52,24 +54,37 @@ pub fn next(input: &[Lexeme]) -> Option<(Class, &[Lexeme])>
     }
 }
 
+/// The lexemes after the first, where it is of this class.
+pub fn past(input: &[Lexeme], wanted: Class) -> Option<&[Lexeme]>
+    ensures first { IfSome result (λ r. First wanted input.now r.now) }
+    ensures shorter { IfSome result (λ r. length input.now ≡ length r.now + 1) }
+    ensures proper { IfSome result (λ r. (text : List ℕ) → AreProper text input.now → AreProper text r.now) }
+    ensures absent { IfNone result (IsAbsent wanted input.now) }
+{
+    match next(input) {
+        Some((class, rest)) if class == wanted => Some(rest),
+        _ => None,
+    }
+}
+
 /// The lexemes after the first, which must be of this class.
 pub fn expect(input: &[Lexeme], wanted: Class) -> Result<&[Lexeme], Stop>
     ensures first { IfOk result (λ r. First wanted input.now r.now) }
     ensures shorter { IfOk result (λ r. length input.now ≡ length r.now + 1) }
-    ensures within { IfErr result (λ e. Within (length input.now) e) }
+    ensures proper { IfOk result (λ r. (text : List ℕ) → AreProper text input.now → AreProper text r.now) }
+    ensures stop { IfErr result (λ e. IsAbsent wanted input.now × (e ≡ Refused false (length input.now))) }
 {
-    match next(input) {
-        Some((class, rest)) if class == wanted => Ok(rest),
-        _ => Err(Stop::Refused(false, input.len())),
+    match past(input, wanted) {
+        Some(rest) => Ok(rest),
+        None => Err(Stop::Refused(false, input.len())),
     }
 }
 
 /// The nesting inside of the level that the first lexeme opens.
 pub fn deeper(input: &[Lexeme], depth: usize) -> Result<usize, Stop>
-    requires some { 0 < length input.now }
-    requires deep { depth ≤ 64 }
+    requires { depth ≤ 64 }
     ensures deeper { IfOk result (λ inner. (inner ≡ depth + 1) × (inner ≤ 64)) }
-    ensures within { IfErr result (λ e. Within (length input.now) e) }
+    ensures stop { IfErr result (λ e. (depth ≡ 64) × (e ≡ TooDeep (length input.now))) }
 {
     if depth == DEEPEST {
         return Err(Stop::TooDeep(input.len()));

@@ -1,17 +1,18 @@
 //! Declarations of channels and processes.
 
-ghost use Rattle.std.specs.Prelude.{◌≡◌, ◌≤◌, ◌<◌, ◌+◌, ◌++◌, ◌∷◌, ℕ, List, length, map, IfOk, IfErr, IfSome};
+ghost use Rattle.std.specs.Prelude.{◌≡◌, ◌≤◌, ◌<◌, ◌+◌, ◌++◌, ◌∷◌, ℕ, List, [], length, map, is_some, IfOk, IfErr, IfSome};
 ghost use Rattle.kahn_syntax.specs.declared.lexeme.Keyword.TheVariants as keyword;
 ghost use Rattle.kahn_syntax.specs.declared.lexeme.Sign.TheVariants as mark;
 ghost use Rattle.kahn_syntax.specs.declared.parser.cursor.Stop.TheVariants.{NoMemory};
-ghost use Rattle.kahn_syntax.specs.Terminals.{terminals, word, sign};
+ghost use Rattle.kahn_syntax.specs.Terminals.{terminals, word, sign, AreProper};
 ghost use Rattle.kahn_syntax.specs.Programs.{kind_terminal, role_words, taking_words, names_words, AreNames, Parameters, Variables, Declares, Declarations, declaration_nesting, declarations_nesting, parameter, variable};
 ghost use Rattle.kahn_syntax.specs.Drawn.{name_of};
 ghost use Rattle.kahn_syntax.specs.Drawn.{parameter_of, variable_of, process_of, declaration_of};
-ghost use Rattle.kahn_syntax.specs.Reads.{Within};
+ghost use Rattle.kahn_syntax.specs.Machine.{DeclarationsPart, DeclarationPart, ProcessPart, RolePart, GroupsPart, GroupPart, TakingPart, VariablesPart, leads_kind, leads_declaration};
+ghost use Rattle.kahn_syntax.specs.Reads.{Reads, Stops};
 
 use crate::lexeme::{Class, Keyword, Lexeme, Sign};
-use crate::parser::cursor::{Read, Stop, expect, next};
+use crate::parser::cursor::{Read, Stop, expect, next, past};
 use crate::parser::names::{read_name, read_names};
 use crate::parser::statement::read_statements;
 use crate::tree::{Declaration, Direction, Kind, Name, Parameter, Process, Role, Taking, Variable};
@@ -21,6 +22,8 @@ use std::alloc::Global;
 fn next_kind(input: &[Lexeme]) -> Option<(Kind, &[Lexeme])>
     ensures first { IfSome result (λ r. (text : List ℕ) → terminals text input.now ≡ kind_terminal r.0 ∷ terminals text r.1.now) }
     ensures shorter { IfSome result (λ r. length input.now ≡ length r.1.now + 1) }
+    ensures proper { IfSome result (λ r. (text : List ℕ) → AreProper text input.now → AreProper text r.1.now) }
+    ensures leads { (text : List ℕ) → leads_kind (terminals text input.now) ≡ is_some result }
 {
     match next(input)? {
         (Class::Word(Keyword::Integer), rest) => Some((Kind::Integer, rest)),
@@ -35,10 +38,13 @@ pub fn read_declarations<'t>(
     text: &str,
     input: &'t [Lexeme],
 ) -> Read<'t, Vec<Declaration>>
+    requires proper { AreProper text.now input.now }
     ensures words { IfOk result (λ r. Declarations (map declaration_of r.0.items) (terminals text.now input.now) (terminals text.now r.1.now)) }
     ensures nesting { IfOk result (λ r. declarations_nesting (map declaration_of r.0.items) ≤ 64) }
     ensures shorter { IfOk result (λ r. length r.1.now ≤ length input.now) }
-    ensures within { IfErr result (λ e. Within (length input.now) e) }
+    ensures proper { IfOk result (λ r. AreProper text.now r.1.now) }
+    ensures reads { IfOk result (λ r. Reads text.now 0 (DeclarationsPart ∷ []) input.now r.1.now) }
+    ensures stops { IfErr result (λ e. Stops text.now 0 (DeclarationsPart ∷ []) input.now e) }
 {
     let mut declarations = Vec::new(alloc);
     let mut rest = input;
@@ -52,7 +58,9 @@ pub fn read_declarations<'t>(
 }
 
 // Whether a declaration stands first: a name begins an instance.
-fn begins_declaration(input: &[Lexeme]) -> bool {
+fn begins_declaration(input: &[Lexeme]) -> bool
+    ensures { (text : List ℕ) → leads_declaration (terminals text input.now) ≡ result }
+{
     matches!(
         next(input),
         Some((
@@ -64,10 +72,13 @@ fn begins_declaration(input: &[Lexeme]) -> bool {
 
 // A declaration.
 fn read_declaration<'t>(alloc: Global, text: &str, input: &'t [Lexeme]) -> Read<'t, Declaration>
+    requires proper { AreProper text.now input.now }
     ensures words { IfOk result (λ r. Declares (declaration_of r.0) (terminals text.now input.now) (terminals text.now r.1.now)) }
     ensures nesting { IfOk result (λ r. declaration_nesting (declaration_of r.0) ≤ 64) }
     ensures shorter { IfOk result (λ r. length r.1.now < length input.now) }
-    ensures within { IfErr result (λ e. Within (length input.now) e) }
+    ensures proper { IfOk result (λ r. AreProper text.now r.1.now) }
+    ensures reads { IfOk result (λ r. Reads text.now 0 (DeclarationPart ∷ []) input.now r.1.now) }
+    ensures stops { IfErr result (λ e. Stops text.now 0 (DeclarationPart ∷ []) input.now e) }
 {
     match next_kind(input) {
         Some((kind, rest)) => {
@@ -86,6 +97,8 @@ fn read_declaration<'t>(alloc: Global, text: &str, input: &'t [Lexeme]) -> Read<
 // The role that stands before `channel`, where one stands.
 fn read_role(input: &[Lexeme]) -> (Role, &[Lexeme])
     ensures words { (text : List ℕ) → terminals text input.now ≡ role_words result.0 (terminals text result.1.now) }
+    ensures proper { (text : List ℕ) → AreProper text input.now → AreProper text result.1.now }
+    ensures reads { (text : List ℕ) → Reads text 0 (RolePart ∷ []) input.now result.1.now }
     ensures shorter { length result.1.now ≤ length input.now }
 {
     match next(input) {
@@ -97,10 +110,13 @@ fn read_role(input: &[Lexeme]) -> (Role, &[Lexeme])
 
 // A process with its body.
 fn read_process<'t>(alloc: Global, text: &str, input: &'t [Lexeme]) -> Read<'t, Process>
+    requires proper { AreProper text.now input.now }
     ensures words { IfOk result (λ r. Declares (process_of r.0) (terminals text.now input.now) (terminals text.now r.1.now)) }
     ensures nesting { IfOk result (λ r. declaration_nesting (process_of r.0) ≤ 64) }
     ensures shorter { IfOk result (λ r. length r.1.now < length input.now) }
-    ensures within { IfErr result (λ e. Within (length input.now) e) }
+    ensures proper { IfOk result (λ r. AreProper text.now r.1.now) }
+    ensures reads { IfOk result (λ r. Reads text.now 0 (ProcessPart ∷ []) input.now r.1.now) }
+    ensures stops { IfErr result (λ e. Stops text.now 0 (ProcessPart ∷ []) input.now e) }
 {
     let rest = expect(input, Class::Word(Keyword::Process))?;
     let (name, rest) = read_name(alloc, text, rest)?;
@@ -123,9 +139,12 @@ fn read_process<'t>(alloc: Global, text: &str, input: &'t [Lexeme]) -> Read<'t, 
 
 // The groups of parameters, with semicolons between: none or more.
 fn read_parameters<'t>(alloc: Global, text: &str, input: &'t [Lexeme]) -> Read<'t, Vec<Parameter>>
+    requires proper { AreProper text.now input.now }
     ensures words { IfOk result (λ r. Parameters (map parameter_of r.0.items) (terminals text.now input.now) (terminals text.now r.1.now)) }
     ensures shorter { IfOk result (λ r. length r.1.now ≤ length input.now) }
-    ensures within { IfErr result (λ e. Within (length input.now) e) }
+    ensures proper { IfOk result (λ r. AreProper text.now r.1.now) }
+    ensures reads { IfOk result (λ r. Reads text.now 0 (GroupsPart ∷ []) input.now r.1.now) }
+    ensures stops { IfErr result (λ e. Stops text.now 0 (GroupsPart ∷ []) input.now e) }
 {
     let mut parameters = Vec::new(alloc);
     if next_kind(input).is_none() {
@@ -133,7 +152,7 @@ fn read_parameters<'t>(alloc: Global, text: &str, input: &'t [Lexeme]) -> Read<'
     }
     let (first, mut rest) = read_group(alloc, text, input)?;
     add_parameters(&mut parameters, first.taking, first.names)?;
-    'groups: while let Some((Class::Sign(Sign::Semicolon), after)) = next(rest) {
+    'groups: while let Some(after) = past(rest, Class::Sign(Sign::Semicolon)) {
         let (further, left) = read_group(alloc, text, after)?;
         add_parameters(&mut parameters, further.taking, further.names)?;
         rest = left;
@@ -150,10 +169,13 @@ struct Group {
 
 // A group of parameters.
 fn read_group<'t>(alloc: Global, text: &str, input: &'t [Lexeme]) -> Read<'t, Group>
+    requires proper { AreProper text.now input.now }
     ensures words { IfOk result (λ r. terminals text.now input.now ≡ taking_words r.0.taking (names_words (map name_of r.0.names.items) (terminals text.now r.1.now))) }
     ensures some { IfOk result (λ r. AreNames (map name_of r.0.names.items)) }
     ensures shorter { IfOk result (λ r. length r.1.now < length input.now) }
-    ensures within { IfErr result (λ e. Within (length input.now) e) }
+    ensures proper { IfOk result (λ r. AreProper text.now r.1.now) }
+    ensures reads { IfOk result (λ r. Reads text.now 0 (GroupPart ∷ []) input.now r.1.now) }
+    ensures stops { IfErr result (λ e. Stops text.now 0 (GroupPart ∷ []) input.now e) }
 {
     let Some((kind, rest)) = next_kind(input) else {
         return Err(Stop::Refused(false, input.len()));
@@ -166,6 +188,8 @@ fn read_group<'t>(alloc: Global, text: &str, input: &'t [Lexeme]) -> Read<'t, Gr
 // What the parameters of a group of this kind take.
 fn read_taking(kind: Kind, input: &[Lexeme]) -> (Taking, &[Lexeme])
     ensures words { (text : List ℕ) → kind_terminal kind ∷ terminals text input.now ≡ taking_words result.0 (terminals text result.1.now) }
+    ensures proper { (text : List ℕ) → AreProper text input.now → AreProper text result.1.now }
+    ensures reads { (text : List ℕ) → Reads text 0 (TakingPart ∷ []) input.now result.1.now }
     ensures shorter { length result.1.now ≤ length input.now }
 {
     match next(input) {
@@ -192,9 +216,12 @@ fn add_parameters(
 
 // The variables of a body: none or more.
 fn read_variables<'t>(alloc: Global, text: &str, input: &'t [Lexeme]) -> Read<'t, Vec<Variable>>
+    requires proper { AreProper text.now input.now }
     ensures words { IfOk result (λ r. Variables (map variable_of r.0.items) (terminals text.now input.now) (terminals text.now r.1.now)) }
     ensures shorter { IfOk result (λ r. length r.1.now ≤ length input.now) }
-    ensures within { IfErr result (λ e. Within (length input.now) e) }
+    ensures proper { IfOk result (λ r. AreProper text.now r.1.now) }
+    ensures reads { IfOk result (λ r. Reads text.now 0 (VariablesPart ∷ []) input.now r.1.now) }
+    ensures stops { IfErr result (λ e. Stops text.now 0 (VariablesPart ∷ []) input.now e) }
 {
     let mut variables = Vec::new(alloc);
     let mut rest = input;

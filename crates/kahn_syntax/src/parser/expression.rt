@@ -1,16 +1,18 @@
 //! Expressions.
 
-ghost use Rattle.std.specs.Prelude.{◌≡◌, ◌≤◌, ◌<◌, ◌+◌, length, IfOk, IfErr};
+ghost use Rattle.std.specs.Prelude.{◌≡◌, ℕ, ◌≤◌, ◌<◌, ◌+◌, [], ◌∷◌, length, IfOk, IfErr};
 ghost use Rattle.kahn_syntax.specs.declared.lexeme.Keyword.TheVariants as keyword;
 ghost use Rattle.kahn_syntax.specs.declared.lexeme.Class.TheVariants as class;
-ghost use Rattle.kahn_syntax.specs.Terminals.{terminals, First};
+ghost use Rattle.kahn_syntax.specs.Terminals.{terminals, First, AreProper};
 ghost use Rattle.kahn_syntax.specs.Trees.{expression_words, expression_nesting};
 ghost use Rattle.kahn_syntax.specs.Drawn.{expression_of};
-ghost use Rattle.kahn_syntax.specs.Reads.{Within, Fits, rank_of};
+ghost use Rattle.kahn_syntax.specs.Reads.{Fits, rank_of, Reads, Stops};
+ghost use Rattle.kahn_syntax.specs.Rungs.{whole, denials, relations, factors, tighter, rung_of};
+ghost use Rattle.kahn_syntax.specs.Machine.{ExpressionPart};
 
 use crate::lexeme::{Class, Keyword, Lexeme, Sign};
 use crate::parser::build::{bracketed, chosen, compared, denied, levelled, negated};
-use crate::parser::cursor::{Read, Stop, deeper, expect, next, reach};
+use crate::parser::cursor::{Read, Stop, deeper, expect, next, past, reach};
 use crate::parser::names::read_name;
 use crate::parser::operator::{Level, next_comparison, next_not, next_operator};
 use crate::tree::{Expression, Form, Operand};
@@ -24,14 +26,17 @@ pub fn read_expression<'t>(
     input: &'t [Lexeme],
     depth: usize,
 ) -> Read<'t, Expression>
-    requires { depth ≤ 64 }
+    requires depth { depth ≤ 64 }
+    requires proper { AreProper text.now input.now }
     ensures words { IfOk result (λ r. terminals text.now input.now ≡ expression_words (expression_of r.0) (terminals text.now r.1.now)) }
     ensures fits { IfOk result (λ r. Fits 0 (expression_of r.0)) }
     ensures nesting { IfOk result (λ r. depth + expression_nesting (expression_of r.0) ≤ 64) }
     ensures shorter { IfOk result (λ r. length r.1.now < length input.now) }
-    ensures within { IfErr result (λ e. Within (length input.now) e) }
+    ensures proper { IfOk result (λ r. AreProper text.now r.1.now) }
+    ensures reads { IfOk result (λ r. Reads text.now depth (ExpressionPart whole ∷ []) input.now r.1.now) }
+    ensures stops { IfErr result (λ e. Stops text.now depth (ExpressionPart whole ∷ []) input.now e) }
 {
-    let Some((Class::Word(Keyword::If), rest)) = next(input) else {
+    let Some(rest) = past(input, Class::Word(Keyword::If)) else {
         return read_level(alloc, text, input, Level::Or, depth);
     };
     let inner = deeper(input, depth)?;
@@ -53,12 +58,15 @@ fn read_level<'t>(
     level: Level,
     depth: usize,
 ) -> Read<'t, Expression>
-    requires { depth ≤ 64 }
+    requires depth { depth ≤ 64 }
+    requires proper { AreProper text.now input.now }
     ensures words { IfOk result (λ r. terminals text.now input.now ≡ expression_words (expression_of r.0) (terminals text.now r.1.now)) }
     ensures fits { IfOk result (λ r. Fits (rank_of level) (expression_of r.0)) }
     ensures nesting { IfOk result (λ r. depth + expression_nesting (expression_of r.0) ≤ 64) }
     ensures shorter { IfOk result (λ r. length r.1.now < length input.now) }
-    ensures within { IfErr result (λ e. Within (length input.now) e) }
+    ensures proper { IfOk result (λ r. AreProper text.now r.1.now) }
+    ensures reads { IfOk result (λ r. Reads text.now depth (ExpressionPart (rung_of level) ∷ []) input.now r.1.now) }
+    ensures stops { IfErr result (λ e. Stops text.now depth (ExpressionPart (rung_of level) ∷ []) input.now e) }
 {
     let (first, mut rest) = read_operand(alloc, text, input, level, depth)?;
     let mut further = Vec::new(alloc);
@@ -83,12 +91,15 @@ fn read_operand<'t>(
     level: Level,
     depth: usize,
 ) -> Read<'t, Expression>
-    requires { depth ≤ 64 }
+    requires depth { depth ≤ 64 }
+    requires proper { AreProper text.now input.now }
     ensures words { IfOk result (λ r. terminals text.now input.now ≡ expression_words (expression_of r.0) (terminals text.now r.1.now)) }
     ensures fits { IfOk result (λ r. Fits (rank_of level + 1) (expression_of r.0)) }
     ensures nesting { IfOk result (λ r. depth + expression_nesting (expression_of r.0) ≤ 64) }
     ensures shorter { IfOk result (λ r. length r.1.now < length input.now) }
-    ensures within { IfErr result (λ e. Within (length input.now) e) }
+    ensures proper { IfOk result (λ r. AreProper text.now r.1.now) }
+    ensures reads { IfOk result (λ r. Reads text.now depth (ExpressionPart (tighter (rung_of level)) ∷ []) input.now r.1.now) }
+    ensures stops { IfErr result (λ e. Stops text.now depth (ExpressionPart (tighter (rung_of level)) ∷ []) input.now e) }
 {
     match level {
         Level::Or => read_level(alloc, text, input, Level::And, depth),
@@ -106,12 +117,15 @@ fn read_denial<'t>(
     input: &'t [Lexeme],
     depth: usize,
 ) -> Read<'t, Expression>
-    requires { depth ≤ 64 }
+    requires depth { depth ≤ 64 }
+    requires proper { AreProper text.now input.now }
     ensures words { IfOk result (λ r. terminals text.now input.now ≡ expression_words (expression_of r.0) (terminals text.now r.1.now)) }
     ensures fits { IfOk result (λ r. Fits 3 (expression_of r.0)) }
     ensures nesting { IfOk result (λ r. depth + expression_nesting (expression_of r.0) ≤ 64) }
     ensures shorter { IfOk result (λ r. length r.1.now < length input.now) }
-    ensures within { IfErr result (λ e. Within (length input.now) e) }
+    ensures proper { IfOk result (λ r. AreProper text.now r.1.now) }
+    ensures reads { IfOk result (λ r. Reads text.now depth (ExpressionPart denials ∷ []) input.now r.1.now) }
+    ensures stops { IfErr result (λ e. Stops text.now depth (ExpressionPart denials ∷ []) input.now e) }
 {
     let Some(rest) = next_not(input) else {
         return read_relation(alloc, text, input, depth);
@@ -130,12 +144,15 @@ fn read_relation<'t>(
     input: &'t [Lexeme],
     depth: usize,
 ) -> Read<'t, Expression>
-    requires { depth ≤ 64 }
+    requires depth { depth ≤ 64 }
+    requires proper { AreProper text.now input.now }
     ensures words { IfOk result (λ r. terminals text.now input.now ≡ expression_words (expression_of r.0) (terminals text.now r.1.now)) }
     ensures fits { IfOk result (λ r. Fits 4 (expression_of r.0)) }
     ensures nesting { IfOk result (λ r. depth + expression_nesting (expression_of r.0) ≤ 64) }
     ensures shorter { IfOk result (λ r. length r.1.now < length input.now) }
-    ensures within { IfErr result (λ e. Within (length input.now) e) }
+    ensures proper { IfOk result (λ r. AreProper text.now r.1.now) }
+    ensures reads { IfOk result (λ r. Reads text.now depth (ExpressionPart relations ∷ []) input.now r.1.now) }
+    ensures stops { IfErr result (λ e. Stops text.now depth (ExpressionPart relations ∷ []) input.now e) }
 {
     let (left, rest) = read_level(alloc, text, input, Level::Sum, depth)?;
     let Some((operator, after)) = next_comparison(rest) else {
@@ -154,12 +171,15 @@ fn read_factor<'t>(
     input: &'t [Lexeme],
     depth: usize,
 ) -> Read<'t, Expression>
-    requires { depth ≤ 64 }
+    requires depth { depth ≤ 64 }
+    requires proper { AreProper text.now input.now }
     ensures words { IfOk result (λ r. terminals text.now input.now ≡ expression_words (expression_of r.0) (terminals text.now r.1.now)) }
     ensures fits { IfOk result (λ r. Fits 7 (expression_of r.0)) }
     ensures nesting { IfOk result (λ r. depth + expression_nesting (expression_of r.0) ≤ 64) }
     ensures shorter { IfOk result (λ r. length r.1.now < length input.now) }
-    ensures within { IfErr result (λ e. Within (length input.now) e) }
+    ensures proper { IfOk result (λ r. AreProper text.now r.1.now) }
+    ensures reads { IfOk result (λ r. Reads text.now depth (ExpressionPart factors ∷ []) input.now r.1.now) }
+    ensures stops { IfErr result (λ e. Stops text.now depth (ExpressionPart factors ∷ []) input.now e) }
 {
     match next(input) {
         Some((Class::Number(number), rest)) => Ok((
@@ -197,7 +217,7 @@ fn read_factor<'t>(
             let expression = bracketed(alloc, reach(input, rest), inside)?;
             Ok((expression, rest))
         }
-        _ => {
+        Some((Class::Name, _)) => {
             let (name, rest) = read_name(alloc, text, input)?;
             Ok((
                 Expression {
@@ -207,6 +227,7 @@ fn read_factor<'t>(
                 rest,
             ))
         }
+        _ => Err(Stop::Refused(false, input.len())),
     }
 }
 
@@ -218,12 +239,15 @@ fn read_wait<'t>(
     rest: &'t [Lexeme],
 ) -> Read<'t, Expression>
     requires first { First (class.Word keyword.Wait) input.now rest.now }
+    requires proper { AreProper text.now rest.now }
     requires follows { length input.now ≡ length rest.now + 1 }
     ensures words { IfOk result (λ r. terminals text.now input.now ≡ expression_words (expression_of r.0) (terminals text.now r.1.now)) }
     ensures fits { IfOk result (λ r. Fits 7 (expression_of r.0)) }
     ensures nesting { IfOk result (λ r. expression_nesting (expression_of r.0) ≡ 0) }
     ensures shorter { IfOk result (λ r. length r.1.now < length input.now) }
-    ensures within { IfErr result (λ e. Within (length input.now) e) }
+    ensures proper { IfOk result (λ r. AreProper text.now r.1.now) }
+    ensures reads { IfOk result (λ r. (depth : ℕ) → depth ≤ 64 → Reads text.now depth (ExpressionPart factors ∷ []) input.now r.1.now) }
+    ensures stops { IfErr result (λ e. (depth : ℕ) → depth ≤ 64 → Stops text.now depth (ExpressionPart factors ∷ []) input.now e) }
 {
     let rest = expect(rest, Class::Sign(Sign::Open))?;
     let (name, rest) = read_name(alloc, text, rest)?;

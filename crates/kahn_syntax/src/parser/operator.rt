@@ -1,8 +1,10 @@
 //! Operators of two operands, by their levels.
 
-ghost use Rattle.std.specs.Prelude.{◌≡◌, ◌+◌, List, ℕ, ◌∷◌, length, IfSome};
+ghost use Rattle.std.specs.Prelude.{◌≡◌, ◌+◌, List, ℕ, ◌∷◌, false, length, IfSome, IfNone};
 ghost use Rattle.kahn_syntax.specs.declared.lexeme.Keyword.TheVariants as keyword;
-ghost use Rattle.kahn_syntax.specs.Terminals.{word, terminals};
+ghost use Rattle.kahn_syntax.specs.Terminals.{word, terminals, AreProper};
+ghost use Rattle.kahn_syntax.specs.Rungs.{Lacks};
+ghost use Rattle.kahn_syntax.specs.Machine.{NotToken, leads};
 ghost use Rattle.kahn_syntax.specs.Trees.{operator_terminal, rank};
 ghost use Rattle.kahn_syntax.specs.Reads.{rank_of};
 
@@ -23,6 +25,8 @@ pub enum Level {
 pub fn next_comparison(input: &[Lexeme]) -> Option<(Operator, &[Lexeme])>
     ensures first { IfSome result (λ r. (text : List ℕ) → terminals text input.now ≡ operator_terminal r.0 ∷ terminals text r.1.now) }
     ensures ranked { IfSome result (λ r. rank r.0 ≡ 4) }
+    ensures proper { IfSome result (λ r. (text : List ℕ) → AreProper text input.now → AreProper text r.1.now) }
+    ensures lacks { IfNone result ((text : List ℕ) → Lacks 4 (terminals text input.now)) }
     ensures shorter { IfSome result (λ r. length input.now ≡ length r.1.now + 1) }
 {
     let (class, rest) = next(input)?;
@@ -42,6 +46,8 @@ pub fn next_comparison(input: &[Lexeme]) -> Option<(Operator, &[Lexeme])>
 pub fn next_operator(input: &[Lexeme], level: Level) -> Option<(Operator, &[Lexeme])>
     ensures first { IfSome result (λ r. (text : List ℕ) → terminals text input.now ≡ operator_terminal r.0 ∷ terminals text r.1.now) }
     ensures ranked { IfSome result (λ r. rank r.0 ≡ rank_of level) }
+    ensures proper { IfSome result (λ r. (text : List ℕ) → AreProper text input.now → AreProper text r.1.now) }
+    ensures lacks { IfNone result ((text : List ℕ) → Lacks (rank_of level) (terminals text input.now)) }
     ensures shorter { IfSome result (λ r. length input.now ≡ length r.1.now + 1) }
 {
     let (class, rest) = next(input)?;
@@ -61,6 +67,8 @@ pub fn next_operator(input: &[Lexeme], level: Level) -> Option<(Operator, &[Lexe
 /// The lexemes after `not`, where it stands first in one of its two forms.
 pub fn next_not(input: &[Lexeme]) -> Option<&[Lexeme]>
     ensures first { IfSome result (λ r. (text : List ℕ) → terminals text input.now ≡ word keyword.Not ∷ terminals text r.now) }
+    ensures proper { IfSome result (λ r. (text : List ℕ) → AreProper text input.now → AreProper text r.now) }
+    ensures lacks { IfNone result ((text : List ℕ) → leads NotToken (terminals text input.now) ≡ false) }
     ensures shorter { IfSome result (λ r. length input.now ≡ length r.now + 1) }
 {
     match next(input)? {

@@ -1,18 +1,19 @@
 //! Instances and whole programs.
 
-ghost use Rattle.std.specs.Prelude.{◌≡◌, ◌≤◌, ◌<◌, ◌+◌, [], ◌∷◌, ℕ, List, Contains, length, map, IfOk, IfErr};
+ghost use Rattle.std.specs.Prelude.{◌≡◌, ◌≤◌, ◌<◌, ◌+◌, [], ◌∷◌, ℕ, ℤ, neg_ℤ, List, false, length, map, IfOk, IfErr, IfSome, IfNone};
 ghost use Rattle.kahn_syntax.specs.declared.lexeme.Keyword.TheVariants as keyword;
 ghost use Rattle.kahn_syntax.specs.declared.lexeme.Sign.TheVariants as mark;
-ghost use Rattle.kahn_syntax.specs.declared.lexeme.Class.TheVariants as class;
-ghost use Rattle.kahn_syntax.specs.declared.lexeme.Lexeme.{Lexeme};
-ghost use Rattle.kahn_syntax.specs.Terminals.{Terminal, terminals, First, sign};
+ghost use Rattle.kahn_syntax.specs.Terminals.{Terminal, terminals, AreProper, sign, number};
+ghost use Rattle.kahn_syntax.specs.Machine.{NumberToken, leads, InstancePart, ArgumentsPart, ArgumentPart, TailPart, InstancesTail, LastTail};
+ghost use Rattle.kahn_syntax.specs.Faults.{Placed, IsFault};
+ghost use Rattle.kahn_syntax.specs.declared.fault.SyntaxFault.TheVariants as SyntaxFault;
 ghost use Rattle.kahn_syntax.specs.Programs.{ProgramTree, Spells, nesting, Instances, Instantiates, Arguments, Argues, MaybeSemicolon};
 ghost use Rattle.kahn_syntax.specs.Drawn.{argument_of, instance_of, program_of};
-ghost use Rattle.kahn_syntax.specs.Reads.{Within, StandsAt};
+ghost use Rattle.kahn_syntax.specs.Reads.{Reads, Stops, Halts};
 
 use crate::fault::{SyntaxFault, What};
 use crate::lexeme::{Class, Keyword, Lexeme, Sign};
-use crate::parser::cursor::{Read, Stop, expect, next, reach};
+use crate::parser::cursor::{Read, Stop, expect, next, past, reach};
 use crate::parser::declaration::read_declarations;
 use crate::parser::names::read_name;
 use crate::span::Span;
@@ -21,12 +22,15 @@ use std::alloc::Global;
 
 /// The program that the lexemes of a text are.
 pub fn parse_lexemes(alloc: Global, text: &str, lexemes: &[Lexeme]) -> Result<Program, SyntaxFault>
+    requires proper { AreProper text.now lexemes.now }
     // The program is spelled by the lexemes, within the limit of nesting, and no other is.
     ensures spells { IfOk result (λ p. Spells (program_of p) (terminals text.now lexemes.now)) }
     ensures nesting { IfOk result (λ p. nesting (program_of p) ≤ 64) }
     ensures only { IfOk result (λ p. (t : ProgramTree) → Spells t (terminals text.now lexemes.now) → t ≡ program_of p) }
-    // A fault stands at one of the lexemes, or at the end of the text.
-    ensures stands { IfErr result (λ e. StandsAt (length text.now) lexemes.now e) }
+    // What a program within the limit spells is refused for want of memory alone.
+    ensures found { IfErr result (λ e. (t : ProgramTree) → Spells t (terminals text.now lexemes.now) → nesting t ≤ 64 → e ≡ SyntaxFault.NoMemory) }
+    // A fault stands at the first lexeme of which it is true, or at the end of the text.
+    ensures fault { IfErr result (λ e. IsFault text.now lexemes.now e) }
 {
     match read_program(alloc, text, lexemes) {
         Ok(program) => Ok(program),
@@ -41,8 +45,9 @@ pub fn one_tree()
 
 // The fault of these lexemes where reading stopped.
 fn fault_of(text: &str, lexemes: &[Lexeme], stop: Stop) -> SyntaxFault
-    requires { Within (length lexemes.now) stop }
-    ensures { StandsAt (length text.now) lexemes.now result }
+    requires halts { Halts (terminals text.now lexemes.now) stop }
+    ensures found { (t : ProgramTree) → Spells t (terminals text.now lexemes.now) → nesting t ≤ 64 → result ≡ SyntaxFault.NoMemory }
+    ensures fault { IsFault text.now lexemes.now result }
 {
     match stop {
         Stop::NoMemory => SyntaxFault::NoMemory,
@@ -64,16 +69,17 @@ fn fault_of(text: &str, lexemes: &[Lexeme], stop: Stop) -> SyntaxFault
 fn span_at(lexemes: &[Lexeme], left: usize) -> Span
     requires some { 0 < left }
     requires in_range { left ≤ length lexemes.now }
-    ensures { (x : Lexeme) × Contains lexemes.now x × (result ≡ x.span) }
+    ensures { Placed lexemes.now result left }
 {
     lexemes[lexemes.len() - left].span
 }
 
 // A whole program.
 fn read_program(alloc: Global, text: &str, lexemes: &[Lexeme]) -> Result<Program, Stop>
+    requires proper { AreProper text.now lexemes.now }
     ensures spells { IfOk result (λ p. Spells (program_of p) (terminals text.now lexemes.now)) }
     ensures nesting { IfOk result (λ p. nesting (program_of p) ≤ 64) }
-    ensures within { IfErr result (λ e. Within (length lexemes.now) e) }
+    ensures halts { IfErr result (λ e. Halts (terminals text.now lexemes.now) e) }
 {
     let rest = expect(lexemes, Class::Word(Keyword::Begin))?;
     let (declarations, rest) = read_declarations(alloc, text, rest)?;
@@ -94,23 +100,28 @@ fn read_program(alloc: Global, text: &str, lexemes: &[Lexeme]) -> Result<Program
 fn past_semicolon(input: &[Lexeme]) -> &[Lexeme]
     ensures words { (text : List ℕ) → MaybeSemicolon (terminals text input.now) (terminals text result.now) }
     ensures shorter { length result.now ≤ length input.now }
+    ensures proper { (text : List ℕ) → AreProper text input.now → AreProper text result.now }
+    ensures reads { (text : List ℕ) → Reads text 0 (TailPart LastTail ∷ []) input.now result.now }
 {
-    match next(input) {
-        Some((Class::Sign(Sign::Semicolon), rest)) => rest,
-        _ => input,
+    match past(input, Class::Sign(Sign::Semicolon)) {
+        Some(rest) => rest,
+        None => input,
     }
 }
 
 // One instance or more, with `par` between.
 fn read_instances<'t>(alloc: Global, text: &str, input: &'t [Lexeme]) -> Read<'t, Vec<Instance>>
+    requires proper { AreProper text.now input.now }
     ensures words { IfOk result (λ r. Instances (map instance_of r.0.items) (terminals text.now input.now) (terminals text.now r.1.now)) }
     ensures shorter { IfOk result (λ r. length r.1.now < length input.now) }
-    ensures within { IfErr result (λ e. Within (length input.now) e) }
+    ensures proper { IfOk result (λ r. AreProper text.now r.1.now) }
+    ensures reads { IfOk result (λ r. Reads text.now 0 (InstancePart ∷ TailPart InstancesTail ∷ []) input.now r.1.now) }
+    ensures stops { IfErr result (λ e. Stops text.now 0 (InstancePart ∷ TailPart InstancesTail ∷ []) input.now e) }
 {
     let (first, mut rest) = read_instance(alloc, text, input)?;
     let mut instances = Vec::new(alloc);
     instances.push(first)?;
-    'instances: while let Some((Class::Word(Keyword::Par), after)) = next(rest) {
+    'instances: while let Some(after) = past(rest, Class::Word(Keyword::Par)) {
         let (instance, left) = read_instance(alloc, text, after)?;
         instances.push(instance)?;
         rest = left;
@@ -120,9 +131,12 @@ fn read_instances<'t>(alloc: Global, text: &str, input: &'t [Lexeme]) -> Read<'t
 
 // An instance.
 fn read_instance<'t>(alloc: Global, text: &str, input: &'t [Lexeme]) -> Read<'t, Instance>
+    requires proper { AreProper text.now input.now }
     ensures words { IfOk result (λ r. Instantiates (instance_of r.0) (terminals text.now input.now) (terminals text.now r.1.now)) }
     ensures shorter { IfOk result (λ r. length r.1.now < length input.now) }
-    ensures within { IfErr result (λ e. Within (length input.now) e) }
+    ensures proper { IfOk result (λ r. AreProper text.now r.1.now) }
+    ensures reads { IfOk result (λ r. Reads text.now 0 (InstancePart ∷ []) input.now r.1.now) }
+    ensures stops { IfErr result (λ e. Stops text.now 0 (InstancePart ∷ []) input.now e) }
 {
     let (process, rest) = read_name(alloc, text, input)?;
     let rest = expect(rest, Class::Sign(Sign::Open))?;
@@ -132,17 +146,20 @@ fn read_instance<'t>(alloc: Global, text: &str, input: &'t [Lexeme]) -> Read<'t,
 
 // The arguments of an instance, with commas between, and the bracket after them: none or more.
 fn read_arguments<'t>(alloc: Global, text: &str, input: &'t [Lexeme]) -> Read<'t, Vec<Argument>>
+    requires proper { AreProper text.now input.now }
     ensures words { IfOk result (λ r. Arguments (map argument_of r.0.items) (terminals text.now input.now) (sign mark.Close ∷ terminals text.now r.1.now)) }
     ensures shorter { IfOk result (λ r. length r.1.now < length input.now) }
-    ensures within { IfErr result (λ e. Within (length input.now) e) }
+    ensures proper { IfOk result (λ r. AreProper text.now r.1.now) }
+    ensures reads { IfOk result (λ r. Reads text.now 0 (ArgumentsPart ∷ []) input.now r.1.now) }
+    ensures stops { IfErr result (λ e. Stops text.now 0 (ArgumentsPart ∷ []) input.now e) }
 {
     let mut arguments = Vec::new(alloc);
-    if let Some((Class::Sign(Sign::Close), rest)) = next(input) {
+    if let Some(rest) = past(input, Class::Sign(Sign::Close)) {
         return Ok((arguments, rest));
     }
     let (first, mut rest) = read_argument(alloc, text, input)?;
     arguments.push(first)?;
-    'arguments: while let Some((Class::Sign(Sign::Comma), after)) = next(rest) {
+    'arguments: while let Some(after) = past(rest, Class::Sign(Sign::Comma)) {
         let (argument, left) = read_argument(alloc, text, after)?;
         arguments.push(argument)?;
         rest = left;
@@ -153,9 +170,12 @@ fn read_arguments<'t>(alloc: Global, text: &str, input: &'t [Lexeme]) -> Read<'t
 
 // An argument.
 fn read_argument<'t>(alloc: Global, text: &str, input: &'t [Lexeme]) -> Read<'t, Argument>
+    requires proper { AreProper text.now input.now }
     ensures words { IfOk result (λ r. Argues (argument_of r.0) (terminals text.now input.now) (terminals text.now r.1.now)) }
     ensures shorter { IfOk result (λ r. length r.1.now < length input.now) }
-    ensures within { IfErr result (λ e. Within (length input.now) e) }
+    ensures proper { IfOk result (λ r. AreProper text.now r.1.now) }
+    ensures reads { IfOk result (λ r. Reads text.now 0 (ArgumentPart ∷ []) input.now r.1.now) }
+    ensures stops { IfErr result (λ e. Stops text.now 0 (ArgumentPart ∷ []) input.now e) }
 {
     match next(input) {
         Some((Class::Number(number), rest)) => Ok((
@@ -170,27 +190,30 @@ fn read_argument<'t>(alloc: Global, text: &str, input: &'t [Lexeme]) -> Read<'t,
             Argument::Logical(false, reach(input, rest)),
             rest,
         )),
-        Some((Class::Sign(Sign::Minus), rest)) => read_negative(input, rest),
-        _ => {
+        Some((Class::Sign(Sign::Minus), rest)) => {
+            let Some((number, after)) = next_negative(rest) else {
+                return Err(Stop::Refused(false, rest.len()));
+            };
+            Ok((Argument::Number(number, reach(input, after)), after))
+        }
+        Some((Class::Name, _)) => {
             let (name, rest) = read_name(alloc, text, input)?;
             Ok((Argument::Channel(name), rest))
         }
+        _ => Err(Stop::Refused(false, input.len())),
     }
 }
 
-// A number, after the minus that the input begins with.
-fn read_negative<'t>(input: &'t [Lexeme], rest: &'t [Lexeme]) -> Read<'t, Argument>
-    requires first { First (class.Sign mark.Minus) input.now rest.now }
-    requires follows { length input.now ≡ length rest.now + 1 }
-    ensures words { IfOk result (λ r. (text : List ℕ) → Argues (argument_of r.0) (terminals text input.now) (terminals text r.1.now)) }
-    ensures shorter { IfOk result (λ r. length r.1.now < length input.now) }
-    ensures within { IfErr result (λ e. Within (length input.now) e) }
+// The number that stands first, with the other sign, and the lexemes after it.
+#[tactic(auto, using(crate::proofs::Negative::negative_fits))]
+fn next_negative(input: &[Lexeme]) -> Option<(i64, &[Lexeme])>
+    ensures number { IfSome result (λ r. (n : ℤ) × (r.0 ≡ neg_ℤ n) × ((text : List ℕ) → terminals text input.now ≡ number n ∷ terminals text r.1.now)) }
+    ensures shorter { IfSome result (λ r. length input.now ≡ length r.1.now + 1) }
+    ensures proper { IfSome result (λ r. (text : List ℕ) → AreProper text input.now → AreProper text r.1.now) }
+    ensures absent { IfNone result ((text : List ℕ) → AreProper text input.now → leads NumberToken (terminals text input.now) ≡ false) }
 {
-    let Some((Class::Number(number), after)) = next(rest) else {
-        return Err(Stop::Refused(false, rest.len()));
-    };
-    match number.checked_neg() {
-        Some(negative) => Ok((Argument::Number(negative, reach(input, after)), after)),
-        None => Err(Stop::Refused(false, rest.len())),
+    match next(input)? {
+        (Class::Number(number), rest) => Some((number.checked_neg()?, rest)),
+        _ => None,
     }
 }

@@ -1,16 +1,17 @@
 //! Statements.
 
-ghost use Rattle.std.specs.Prelude.{◌≡◌, ◌≤◌, ◌<◌, ◌+◌, length, IfOk, IfErr};
+ghost use Rattle.std.specs.Prelude.{◌≡◌, ◌≤◌, ◌<◌, ◌+◌, [], ◌∷◌, true, length, IfOk, IfErr};
 ghost use Rattle.kahn_syntax.specs.declared.lexeme.Keyword.TheVariants as keyword;
 ghost use Rattle.kahn_syntax.specs.declared.lexeme.Class.TheVariants as class;
-ghost use Rattle.kahn_syntax.specs.Terminals.{terminals, First};
+ghost use Rattle.kahn_syntax.specs.Terminals.{terminals, First, AreProper};
 ghost use Rattle.kahn_syntax.specs.Trees.{statement_words, statements_words, statement_nesting, statements_nesting, FormedStatement, FormedStatements, IsSimple, AreSome};
 ghost use Rattle.kahn_syntax.specs.Drawn.{statement_of, statements_of};
-ghost use Rattle.kahn_syntax.specs.Reads.{Within};
+ghost use Rattle.kahn_syntax.specs.Reads.{Reads, Stops};
+ghost use Rattle.kahn_syntax.specs.Machine.{NameToken, leads, StatementsTail, StatementPart, SimplePart, TailPart};
 
 use crate::lexeme::{Class, Keyword, Lexeme, Sign};
 use crate::parser::build::{block, if_else, if_then, repeated, while_do};
-use crate::parser::cursor::{Read, deeper, expect, next, reach};
+use crate::parser::cursor::{Read, deeper, expect, next, past, reach};
 use crate::parser::expression::read_expression;
 use crate::parser::names::read_name;
 use crate::tree::{Action, Statement};
@@ -24,18 +25,21 @@ pub fn read_statements<'t>(
     input: &'t [Lexeme],
     depth: usize,
 ) -> Read<'t, Vec<Statement>>
-    requires { depth ≤ 64 }
+    requires depth { depth ≤ 64 }
+    requires proper { AreProper text.now input.now }
     ensures words { IfOk result (λ r. terminals text.now input.now ≡ statements_words (statements_of r.0.items) (terminals text.now r.1.now)) }
     ensures formed { IfOk result (λ r. FormedStatements (statements_of r.0.items)) }
     ensures some { IfOk result (λ r. AreSome (statements_of r.0.items)) }
     ensures nesting { IfOk result (λ r. depth + statements_nesting (statements_of r.0.items) ≤ 64) }
     ensures shorter { IfOk result (λ r. length r.1.now ≤ length input.now) }
-    ensures within { IfErr result (λ e. Within (length input.now) e) }
+    ensures proper { IfOk result (λ r. AreProper text.now r.1.now) }
+    ensures reads { IfOk result (λ r. Reads text.now depth (StatementPart ∷ TailPart StatementsTail ∷ []) input.now r.1.now) }
+    ensures stops { IfErr result (λ e. Stops text.now depth (StatementPart ∷ TailPart StatementsTail ∷ []) input.now e) }
 {
     let (first, mut rest) = read_statement(alloc, text, input, depth)?;
     let mut statements = Vec::new(alloc);
     statements.push(first)?;
-    'statements: while let Some((Class::Sign(Sign::Semicolon), after)) = next(rest) {
+    'statements: while let Some(after) = past(rest, Class::Sign(Sign::Semicolon)) {
         let (statement, left) = read_statement(alloc, text, after, depth)?;
         statements.push(statement)?;
         rest = left;
@@ -51,12 +55,15 @@ fn read_statement<'t>(
     input: &'t [Lexeme],
     depth: usize,
 ) -> Read<'t, Statement>
-    requires { depth ≤ 64 }
+    requires depth { depth ≤ 64 }
+    requires proper { AreProper text.now input.now }
     ensures words { IfOk result (λ r. terminals text.now input.now ≡ statement_words (statement_of r.0) (terminals text.now r.1.now)) }
     ensures formed { IfOk result (λ r. FormedStatement (statement_of r.0)) }
     ensures nesting { IfOk result (λ r. depth + statement_nesting (statement_of r.0) ≤ 64) }
     ensures shorter { IfOk result (λ r. length r.1.now ≤ length input.now) }
-    ensures within { IfErr result (λ e. Within (length input.now) e) }
+    ensures proper { IfOk result (λ r. AreProper text.now r.1.now) }
+    ensures reads { IfOk result (λ r. Reads text.now depth (StatementPart ∷ []) input.now r.1.now) }
+    ensures stops { IfErr result (λ e. Stops text.now depth (StatementPart ∷ []) input.now e) }
 {
     match next(input) {
         Some((Class::Word(Keyword::If), rest)) => read_if(alloc, text, input, rest, depth),
@@ -90,17 +97,20 @@ fn read_if<'t>(
     requires first { First (class.Word keyword.If) input.now rest.now }
     requires follows { length input.now ≡ length rest.now + 1 }
     requires depth { depth ≤ 64 }
+    requires proper { AreProper text.now rest.now }
     ensures words { IfOk result (λ r. terminals text.now input.now ≡ statement_words (statement_of r.0) (terminals text.now r.1.now)) }
     ensures formed { IfOk result (λ r. FormedStatement (statement_of r.0)) }
     ensures nesting { IfOk result (λ r. depth + statement_nesting (statement_of r.0) ≤ 64) }
     ensures shorter { IfOk result (λ r. length r.1.now < length input.now) }
-    ensures within { IfErr result (λ e. Within (length input.now) e) }
+    ensures proper { IfOk result (λ r. AreProper text.now r.1.now) }
+    ensures reads { IfOk result (λ r. Reads text.now depth (StatementPart ∷ []) input.now r.1.now) }
+    ensures stops { IfErr result (λ e. Stops text.now depth (StatementPart ∷ []) input.now e) }
 {
     let inner = deeper(input, depth)?;
     let (test, rest) = read_expression(alloc, text, rest, inner)?;
     let rest = expect(rest, Class::Word(Keyword::Then))?;
     let (yes, rest) = read_simple(alloc, text, rest, inner)?;
-    let Some((Class::Word(Keyword::Else), after)) = next(rest) else {
+    let Some(after) = past(rest, Class::Word(Keyword::Else)) else {
         let statement = if_then(alloc, reach(input, rest), test, yes)?;
         return Ok((statement, rest));
     };
@@ -117,13 +127,16 @@ fn read_simple<'t>(
     input: &'t [Lexeme],
     depth: usize,
 ) -> Read<'t, Statement>
-    requires { depth ≤ 64 }
+    requires depth { depth ≤ 64 }
+    requires proper { AreProper text.now input.now }
     ensures words { IfOk result (λ r. terminals text.now input.now ≡ statement_words (statement_of r.0) (terminals text.now r.1.now)) }
     ensures formed { IfOk result (λ r. FormedStatement (statement_of r.0)) }
     ensures simple { IfOk result (λ r. IsSimple (statement_of r.0)) }
     ensures nesting { IfOk result (λ r. depth + statement_nesting (statement_of r.0) ≤ 64) }
     ensures shorter { IfOk result (λ r. length r.1.now ≤ length input.now) }
-    ensures within { IfErr result (λ e. Within (length input.now) e) }
+    ensures proper { IfOk result (λ r. AreProper text.now r.1.now) }
+    ensures reads { IfOk result (λ r. Reads text.now depth (SimplePart ∷ []) input.now r.1.now) }
+    ensures stops { IfErr result (λ e. Stops text.now depth (SimplePart ∷ []) input.now e) }
 {
     match next(input) {
         Some((Class::Name, _)) => read_assign(alloc, text, input, depth),
@@ -161,13 +174,17 @@ fn read_assign<'t>(
     input: &'t [Lexeme],
     depth: usize,
 ) -> Read<'t, Statement>
-    requires { depth ≤ 64 }
+    requires depth { depth ≤ 64 }
+    requires proper { AreProper text.now input.now }
+    requires named { leads NameToken (terminals text.now input.now) ≡ true }
     ensures words { IfOk result (λ r. terminals text.now input.now ≡ statement_words (statement_of r.0) (terminals text.now r.1.now)) }
     ensures formed { IfOk result (λ r. FormedStatement (statement_of r.0)) }
     ensures simple { IfOk result (λ r. IsSimple (statement_of r.0)) }
     ensures nesting { IfOk result (λ r. depth + statement_nesting (statement_of r.0) ≤ 64) }
     ensures shorter { IfOk result (λ r. length r.1.now < length input.now) }
-    ensures within { IfErr result (λ e. Within (length input.now) e) }
+    ensures proper { IfOk result (λ r. AreProper text.now r.1.now) }
+    ensures reads { IfOk result (λ r. Reads text.now depth (SimplePart ∷ []) input.now r.1.now) }
+    ensures stops { IfErr result (λ e. Stops text.now depth (SimplePart ∷ []) input.now e) }
 {
     let (name, rest) = read_name(alloc, text, input)?;
     let rest = expect(rest, Class::Sign(Sign::Becomes))?;
@@ -192,12 +209,15 @@ fn read_send<'t>(
     requires first { First (class.Word keyword.Send) input.now rest.now }
     requires follows { length input.now ≡ length rest.now + 1 }
     requires depth { depth ≤ 64 }
+    requires proper { AreProper text.now rest.now }
     ensures words { IfOk result (λ r. terminals text.now input.now ≡ statement_words (statement_of r.0) (terminals text.now r.1.now)) }
     ensures formed { IfOk result (λ r. FormedStatement (statement_of r.0)) }
     ensures simple { IfOk result (λ r. IsSimple (statement_of r.0)) }
     ensures nesting { IfOk result (λ r. depth + statement_nesting (statement_of r.0) ≤ 64) }
     ensures shorter { IfOk result (λ r. length r.1.now < length input.now) }
-    ensures within { IfErr result (λ e. Within (length input.now) e) }
+    ensures proper { IfOk result (λ r. AreProper text.now r.1.now) }
+    ensures reads { IfOk result (λ r. Reads text.now depth (SimplePart ∷ []) input.now r.1.now) }
+    ensures stops { IfErr result (λ e. Stops text.now depth (SimplePart ∷ []) input.now e) }
 {
     let (value, rest) = read_expression(alloc, text, rest, depth)?;
     let rest = expect(rest, Class::Word(Keyword::On))?;

@@ -2,6 +2,7 @@
 
 use super::parse;
 use crate::fault::{SyntaxFault, What};
+use crate::lexer::lex;
 use crate::span::Span;
 use std::test::Fail;
 
@@ -141,5 +142,45 @@ fn long_lists_are_read_and_dropped(rt: HostRuntime) -> Result<(), Fail> {
         fault(repeated(&rt, statements, 500_000)?.as_str(), &rt),
         None
     );
+    Ok(())
+}
+
+// The largest text of this beginning that is the first so many lexemes of the whole.
+fn cut<'t>(text: &'t str, end: usize) -> &'t str {
+    match text.get(..end) {
+        Some(part) => part,
+        None => text,
+    }
+}
+
+#[test]
+fn each_beginning_of_the_counting_process_wants_more(rt: HostRuntime) -> Result<(), Fail> {
+    let lexemes = lex(rt.alloc(), COUNTING)?;
+    // Without its last semicolon the program is whole.
+    let beginnings = lexemes.len() - 2;
+    assert_eq!(rt; beginnings, 46);
+    for lexeme in lexemes.iter().take(beginnings) {
+        let end = lexeme.span.to;
+        assert_eq!(rt; fault(cut(COUNTING, end), &rt), expected(end, end, What::More));
+    }
+    Ok(())
+}
+
+#[test]
+fn a_number_too_large_comes_first(rt: HostRuntime) {
+    assert_eq!(rt;
+        fault(
+            "begin integer output channel W; process s(integer out A); begin send 9223372036854775808 on A end; s(W) par s(W) end",
+            &rt
+        ),
+        Some(SyntaxFault::NumberTooLarge(Span { from: 69, to: 88 }))
+    );
+}
+
+#[test]
+fn brackets_of_64_levels(rt: HostRuntime) -> Result<(), Fail> {
+    let opened = repeated(&rt, ["begin process p(); begin print ", "(", "1"], 64)?;
+    let text = repeated(&rt, [opened.as_str(), ")", " end; p() end"], 64)?;
+    assert_eq!(rt; fault(text.as_str(), &rt), None);
     Ok(())
 }

@@ -1,5 +1,11 @@
-use Rattle.kahn_syntax.proofs.Lists.{next_made}
+use Rattle.kahn_syntax.proofs.Lists.{next_made, next_unsigned, next_proper}
 use Rattle.kahn_syntax.proofs.parser.cursor.next.Goals as goal
 
-pub returns-in-len1-up : goal.returns-in-len1-up
-returns-in-len1-up c = next_made c.args.input.now _ c.in-len1-up.len_at_least
+pub returns-in-len1-up-clause-first : goal.returns-in-len1-up-clause-first
+returns-in-len1-up-clause-first c = next_made c.args.input.now _ c.in-len1-up.len_at_least
+
+pub returns-in-len1-up-clause-unsigned : goal.returns-in-len1-up-clause-unsigned
+returns-in-len1-up-clause-unsigned c = λ text h. next_unsigned text c.args.input.now _ c.in-len1-up.len_at_least h
+
+pub returns-in-len1-up-clause-proper : goal.returns-in-len1-up-clause-proper
+returns-in-len1-up-clause-proper c = λ text h. next_proper text c.args.input.now c.in-len1-up.len_at_least h

@@ -1,11 +1,35 @@
-use Rattle.std.proofs.Common.{arith}
+use Rattle.std.proofs.Common.{rules, true, map, ◌++◌, ◌≡◌, false, refl, [], ◌∷◌, arith, sym, ap, ◌∙◌, subst}
+use Rattle.std.proofs.lemmas.Result.{err_from_is_err_and}
+use Rattle.kahn_syntax.specs.declared.lexeme.Keyword.TheVariants as keyword
+use Rattle.kahn_syntax.specs.declared.lexeme.Sign.TheVariants as mark
+use Rattle.kahn_syntax.specs.declared.lexeme.Class.TheVariants as class
+use Rattle.kahn_syntax.specs.Terminals.{word, sign, name, terminals}
+use Rattle.kahn_syntax.specs.Rungs.{whole, ors, denials, relations, sums, factors, rung_of, tighter}
+use Rattle.kahn_syntax.specs.Machine.{leads_kind, leads_declaration, BecomesToken, BeginToken, ChannelToken, CloseToken, CommaToken, DoToken, ElseToken, EndToken, IfToken, NameToken, NotToken, NumberToken, OnToken, OpenToken, ParToken, ProcessToken, SemicolonToken, ThenToken, NamesTail, StatementsTail, GroupsTail, ArgumentsTail, InstancesTail, ElseTail, LastTail, ProgramPart, DeclarationsPart, DeclarationPart, ProcessPart, RolePart, GroupsPart, GroupPart, TakingPart, VariablesPart, StatementPart, SimplePart, ExpressionPart, OperatorsPart, InstancePart, ArgumentsPart, ArgumentPart, TailPart, TokenPart, LevelPart}
+use Rattle.kahn_syntax.specs.Drawn.{name_of, expression_of, statement_of}
+use Rattle.kahn_syntax.proofs.Moves.{kind_moves, opens_groups, groups_end, variables_end, opens_process, opens_declarations, declarations_end, no_group, no_process, then, then_stops, call, call_stops, call_two, call_two_stops, one, deep, token, expected, goes, ends, level_ends, absent, unexpected, no_name, no_memory}
 use Rattle.kahn_syntax.proofs.Declared.{declarations_next, declarations_nesting_next}
 use Rattle.kahn_syntax.proofs.parser.declaration.read_declarations.Goals as goal
 
+pub returns-in_err-declaration-clause-stops : goal.returns-in_err-declaration-clause-stops
+returns-in_err-declaration-clause-stops c =
+    let a : leads_declaration (terminals c.args.text.now c.declarations.rest.now) ≡ true = search rules in let p = err_from_is_err_and c.from_residual.result c.from_residual.ensures.1 in rw (p.1, p.2) (then_stops c.args.text.now 0 (DeclarationsPart ∷ []) (DeclarationPart ∷ TokenPart SemicolonToken ∷ DeclarationsPart ∷ []) c.args.input.now c.declarations.rest.now _ (then c.args.text.now 0 (DeclarationsPart ∷ []) (DeclarationsPart ∷ []) (DeclarationPart ∷ TokenPart SemicolonToken ∷ DeclarationsPart ∷ []) c.args.input.now c.declarations.rest.now c.declarations.rest.now (c.declarations.invariant.reads) (opens_declarations c.args.text.now [] c.declarations.rest.now a)) (call_stops c.args.text.now 0 0 (DeclarationPart) (TokenPart SemicolonToken ∷ DeclarationsPart ∷ []) c.declarations.rest.now _ (λ s l. omega (arith, l)) c.in_err-declaration.ensures.stops))
+
+pub returns-in_err-after-clause-stops : goal.returns-in_err-after-clause-stops
+returns-in_err-after-clause-stops c =
+    let a : leads_declaration (terminals c.args.text.now c.declarations.rest.now) ≡ true = search rules in let p = err_from_is_err_and c.from_residual-in_err-after.result c.from_residual-in_err-after.ensures.1 in rw (p.1, p.2) (then_stops c.args.text.now 0 (DeclarationsPart ∷ []) (TokenPart SemicolonToken ∷ DeclarationsPart ∷ []) c.args.input.now c.in_ok-declaration.after.now _ (then c.args.text.now 0 (DeclarationsPart ∷ []) (DeclarationPart ∷ TokenPart SemicolonToken ∷ DeclarationsPart ∷ []) (TokenPart SemicolonToken ∷ DeclarationsPart ∷ []) c.args.input.now c.declarations.rest.now c.in_ok-declaration.after.now (then c.args.text.now 0 (DeclarationsPart ∷ []) (DeclarationsPart ∷ []) (DeclarationPart ∷ TokenPart SemicolonToken ∷ DeclarationsPart ∷ []) c.args.input.now c.declarations.rest.now c.declarations.rest.now (c.declarations.invariant.reads) (opens_declarations c.args.text.now [] c.declarations.rest.now a)) (call c.args.text.now 0 0 (DeclarationPart) (TokenPart SemicolonToken ∷ DeclarationsPart ∷ []) c.declarations.rest.now c.in_ok-declaration.after.now (λ s l. omega (arith, l)) c.in_ok-declaration.ensures.reads)) (unexpected c.args.text.now 0 SemicolonToken (DeclarationsPart ∷ []) (class.Sign mark.Semicolon) c.in_ok-declaration.after.now _ refl c.in_err-after.ensures.stop))
+
 pub declarations-preserved : goal.declarations-preserved
 declarations-preserved c =
+    let a : leads_declaration (terminals c.args.text.now c.declarations.rest.now) ≡ true = search rules in 
     record {
       words = declarations_next _ _ _ _ _ _ _ c.in_ok-push.ensures.items c.declarations.invariant.words c.in_ok-declaration.ensures.words (c.in_ok-after.ensures.first.1 c.args.text.now);
       nesting = declarations_nesting_next _ _ _ c.in_ok-push.ensures.items c.declarations.invariant.nesting c.in_ok-declaration.ensures.nesting;
       shorter = omega (arith, c.in_ok-after.ensures.shorter, c.in_ok-declaration.ensures.shorter, c.declarations.invariant.shorter);
+      proper = c.in_ok-after.ensures.proper c.args.text.now c.in_ok-declaration.ensures.proper;
+      reads = (then c.args.text.now 0 (DeclarationsPart ∷ []) (TokenPart SemicolonToken ∷ DeclarationsPart ∷ []) (DeclarationsPart ∷ []) c.args.input.now c.in_ok-declaration.after.now c.in_ok-after.after.now (then c.args.text.now 0 (DeclarationsPart ∷ []) (DeclarationPart ∷ TokenPart SemicolonToken ∷ DeclarationsPart ∷ []) (TokenPart SemicolonToken ∷ DeclarationsPart ∷ []) c.args.input.now c.declarations.rest.now c.in_ok-declaration.after.now (then c.args.text.now 0 (DeclarationsPart ∷ []) (DeclarationsPart ∷ []) (DeclarationPart ∷ TokenPart SemicolonToken ∷ DeclarationsPart ∷ []) c.args.input.now c.declarations.rest.now c.declarations.rest.now (c.declarations.invariant.reads) (opens_declarations c.args.text.now [] c.declarations.rest.now a)) (call c.args.text.now 0 0 (DeclarationPart) (TokenPart SemicolonToken ∷ DeclarationsPart ∷ []) c.declarations.rest.now c.in_ok-declaration.after.now (λ s l. omega (arith, l)) c.in_ok-declaration.ensures.reads)) (expected c.args.text.now 0 SemicolonToken (DeclarationsPart ∷ []) (class.Sign mark.Semicolon) c.in_ok-declaration.after.now c.in_ok-after.after.now (λ s l. omega (arith, l)) refl c.in_ok-after.ensures.first));
     }
+
+pub returns-clause-reads : goal.returns-clause-reads
+returns-clause-reads c = let a : leads_declaration (terminals c.args.text.now c.declarations.rest.now) ≡ false = search rules in (then c.args.text.now 0 (DeclarationsPart ∷ []) (DeclarationsPart ∷ []) ([]) c.args.input.now c.declarations.rest.now c.declarations.rest.now (c.declarations.invariant.reads) (declarations_end c.args.text.now [] c.declarations.rest.now a))
+

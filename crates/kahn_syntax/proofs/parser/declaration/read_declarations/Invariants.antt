@@ -1,5 +1,7 @@
-use Rattle.std.proofs.Common.{◌≤◌, length, map}
-use Rattle.kahn_syntax.specs.Terminals.{terminals}
+use Rattle.std.proofs.Common.{◌≤◌, [], ◌∷◌, length, map}
+use Rattle.kahn_syntax.specs.Terminals.{terminals, AreProper}
+use Rattle.kahn_syntax.specs.Machine.{DeclarationsPart}
+use Rattle.kahn_syntax.specs.Reads.{Moves}
 use Rattle.kahn_syntax.specs.Programs.{Declarations, declarations_nesting}
 use Rattle.kahn_syntax.specs.Drawn.{declaration_of}
 use Rattle.kahn_syntax.proofs.parser.declaration.read_declarations.Given as goal
@@ -9,6 +11,8 @@ invariant-declarations l = record {
   words : Declarations (map declaration_of l.declarations.items) (terminals l.text l.input) (terminals l.text l.rest);
   nesting : declarations_nesting (map declaration_of l.declarations.items) ≤ 64;
   shorter : length l.rest ≤ length l.input;
+  proper : AreProper l.text l.rest;
+  reads : Moves l.text 0 (DeclarationsPart ∷ []) (DeclarationsPart ∷ []) l.input l.rest;
 }
 
 abbrev pub decreases-declarations : goal.decreases-declarations

@@ -1,29 +1,56 @@
-use Rattle.std.proofs.Common.{◌++◌, map, ap, ◌∙◌, arith}
-use Rattle.kahn_syntax.specs.declared.lexeme.Class.TheVariants as class
+use Rattle.std.proofs.Common.{rules, true, map, ◌++◌, ◌≡◌, false, refl, [], ◌∷◌, arith, sym, ap, ◌∙◌, subst}
+use Rattle.std.proofs.lemmas.Result.{err_from_is_err_and}
+use Rattle.kahn_syntax.specs.declared.lexeme.Keyword.TheVariants as keyword
 use Rattle.kahn_syntax.specs.declared.lexeme.Sign.TheVariants as mark
+use Rattle.kahn_syntax.specs.declared.lexeme.Class.TheVariants as class
+use Rattle.kahn_syntax.specs.Terminals.{word, sign, name, terminals}
+use Rattle.kahn_syntax.specs.Rungs.{whole, ors, denials, relations, sums, factors, rung_of, tighter}
+use Rattle.kahn_syntax.specs.Machine.{leads_kind, leads_declaration, BecomesToken, BeginToken, ChannelToken, CloseToken, CommaToken, DoToken, ElseToken, EndToken, IfToken, NameToken, NotToken, NumberToken, OnToken, OpenToken, ParToken, ProcessToken, SemicolonToken, ThenToken, NamesTail, StatementsTail, GroupsTail, ArgumentsTail, InstancesTail, ElseTail, LastTail, ProgramPart, DeclarationsPart, DeclarationPart, ProcessPart, RolePart, GroupsPart, GroupPart, TakingPart, VariablesPart, StatementPart, SimplePart, ExpressionPart, OperatorsPart, InstancePart, ArgumentsPart, ArgumentPart, TailPart, TokenPart, LevelPart}
+use Rattle.kahn_syntax.specs.Drawn.{name_of, expression_of, statement_of}
+use Rattle.kahn_syntax.proofs.Moves.{kind_moves, opens_groups, groups_end, variables_end, opens_process, opens_declarations, declarations_end, no_group, no_process, then, then_stops, call, call_stops, call_two, call_two_stops, one, deep, token, expected, goes, ends, level_ends, absent, unexpected, no_name, no_memory}
 use Rattle.kahn_syntax.specs.Programs.{parameter}
-use Rattle.kahn_syntax.specs.Drawn.{name_of, parameter_of}
-use Rattle.kahn_syntax.proofs.Lists.{first_of}
+use Rattle.kahn_syntax.specs.Drawn.{parameter_of}
 use Rattle.kahn_syntax.proofs.Declared.{parameters_first, parameters_next}
 use Rattle.kahn_syntax.proofs.parser.declaration.read_parameters.Goals as goal
+
+pub returns-then-is_none-clause-reads : goal.returns-then-is_none-clause-reads
+returns-then-is_none-clause-reads c = let a : leads_kind (terminals c.args.text.now c.args.input.now) ≡ false = search rules in groups_end c.args.text.now [] c.args.input.now a
+
+pub returns-in_err-first-clause-stops : goal.returns-in_err-first-clause-stops
+returns-in_err-first-clause-stops c =
+    let a : leads_kind (terminals c.args.text.now c.args.input.now) ≡ true = search rules in let p = err_from_is_err_and c.from_residual.result c.from_residual.ensures.1 in rw (p.1, p.2) (then_stops c.args.text.now 0 (GroupsPart ∷ []) (GroupPart ∷ TailPart GroupsTail ∷ []) c.args.input.now c.args.input.now _ (opens_groups c.args.text.now [] c.args.input.now a) (call_stops c.args.text.now 0 0 (GroupPart) (TailPart GroupsTail ∷ []) c.args.input.now _ (λ s l. omega (arith, l)) c.in_err-first.ensures.stops))
+
+pub read_group-requires-in-Some : goal.read_group-requires-in-Some
+read_group-requires-in-Some c = record { proper = c.in-Some.ensures.proper c.args.text.now c.groups.invariant.proper }
+
+pub returns-in_err-further-clause-stops : goal.returns-in_err-further-clause-stops
+returns-in_err-further-clause-stops c =
+    let p = err_from_is_err_and c.from_residual-in_err-further.result c.from_residual-in_err-further.ensures.1 in rw (p.1, p.2) (then_stops c.args.text.now 0 (GroupsPart ∷ []) (GroupPart ∷ TailPart GroupsTail ∷ []) c.args.input.now c.in-Some.after.now _ (then c.args.text.now 0 (GroupsPart ∷ []) (TailPart GroupsTail ∷ []) (GroupPart ∷ TailPart GroupsTail ∷ []) c.args.input.now c.groups.rest.now c.in-Some.after.now (c.groups.invariant.reads) (goes c.args.text.now 0 GroupsTail ([]) (class.Sign mark.Semicolon) c.groups.rest.now c.in-Some.after.now (λ s l. omega (arith, l)) refl c.in-Some.ensures.first)) (call_stops c.args.text.now 0 0 (GroupPart) (TailPart GroupsTail ∷ []) c.in-Some.after.now _ (λ s l. omega (arith, l)) c.in_err-further.ensures.stops))
 
 pub groups-init : goal.groups-init
 groups-init c =
     let g = c.in_ok-first.first in
+    let a : leads_kind (terminals c.args.text.now c.args.input.now) ≡ true = search rules in 
     record {
       words = parameters_first _ g.taking (map name_of g.names.items) _ _ c.in_ok-first.ensures.some
           (c.in_ok-add_parameters.ensures.added ∙ ap (λ xs. map parameter_of xs ++ map (parameter g.taking) (map name_of g.names.items)) c.new-parameters.ensures.items)
           c.in_ok-first.ensures.words;
       shorter = omega (arith, c.in_ok-first.ensures.shorter);
+      proper = c.in_ok-first.ensures.proper;
+      reads = (then c.args.text.now 0 (GroupsPart ∷ []) (GroupPart ∷ TailPart GroupsTail ∷ []) (TailPart GroupsTail ∷ []) c.args.input.now c.args.input.now c.in_ok-first.rest.now (opens_groups c.args.text.now [] c.args.input.now a) (call c.args.text.now 0 0 (GroupPart) (TailPart GroupsTail ∷ []) c.args.input.now c.in_ok-first.rest.now (λ s l. omega (arith, l)) c.in_ok-first.ensures.reads));
     }
 
 pub groups-preserved : goal.groups-preserved
 groups-preserved c =
-    let m = c.in-Some-Sign-Semicolon-default in
     let g = c.in_ok-further.further in
-    let f = first_of _ (class.Sign mark.Semicolon) c.groups.rest.now m.after.now (m.field-0-0-is ∙ ap class.Sign m.field-0-0-0-is) m.ensures.0 in
     record {
-      words = parameters_next _ _ g.taking (map name_of g.names.items) _ _ _ _ c.groups.invariant.words (f.1 c.args.text.now) c.in_ok-further.ensures.words
+      words = parameters_next _ _ g.taking (map name_of g.names.items) _ _ _ _ c.groups.invariant.words (c.in-Some.ensures.first.1 c.args.text.now) c.in_ok-further.ensures.words
           c.in_ok-further.ensures.some c.in_ok-add_parameters-2.ensures.added;
-      shorter = omega (arith, m.ensures.1, c.in_ok-further.ensures.shorter, c.groups.invariant.shorter);
+      shorter = omega (arith, c.in-Some.ensures.shorter, c.in_ok-further.ensures.shorter, c.groups.invariant.shorter);
+      proper = c.in_ok-further.ensures.proper;
+      reads = (then c.args.text.now 0 (GroupsPart ∷ []) (GroupPart ∷ TailPart GroupsTail ∷ []) (TailPart GroupsTail ∷ []) c.args.input.now c.in-Some.after.now c.in_ok-further.left.now (then c.args.text.now 0 (GroupsPart ∷ []) (TailPart GroupsTail ∷ []) (GroupPart ∷ TailPart GroupsTail ∷ []) c.args.input.now c.groups.rest.now c.in-Some.after.now (c.groups.invariant.reads) (goes c.args.text.now 0 GroupsTail ([]) (class.Sign mark.Semicolon) c.groups.rest.now c.in-Some.after.now (λ s l. omega (arith, l)) refl c.in-Some.ensures.first)) (call c.args.text.now 0 0 (GroupPart) (TailPart GroupsTail ∷ []) c.in-Some.after.now c.in_ok-further.left.now (λ s l. omega (arith, l)) c.in_ok-further.ensures.reads));
     }
+
+pub returns-clause-reads : goal.returns-clause-reads
+returns-clause-reads c = (then c.args.text.now 0 (GroupsPart ∷ []) (TailPart GroupsTail ∷ []) ([]) c.args.input.now c.groups.rest.now c.groups.rest.now (c.groups.invariant.reads) (ends c.args.text.now 0 GroupsTail ([]) (class.Sign mark.Semicolon) c.groups.rest.now refl c.in_default.ensures.absent))
+

@@ -1,7 +1,26 @@
-use Rattle.std.proofs.Common.{map, arith}
-use Rattle.kahn_syntax.specs.Drawn.{name_of}
+use Rattle.std.proofs.Common.{rules, true, map, ◌++◌, ◌≡◌, false, refl, [], ◌∷◌, arith, sym, ap, ◌∙◌, subst}
+use Rattle.std.proofs.lemmas.Result.{err_from_is_err_and}
+use Rattle.kahn_syntax.specs.declared.lexeme.Keyword.TheVariants as keyword
+use Rattle.kahn_syntax.specs.declared.lexeme.Sign.TheVariants as mark
+use Rattle.kahn_syntax.specs.declared.lexeme.Class.TheVariants as class
+use Rattle.kahn_syntax.specs.Terminals.{word, sign, name, terminals}
+use Rattle.kahn_syntax.specs.Rungs.{whole, ors, denials, relations, sums, factors, rung_of, tighter}
+use Rattle.kahn_syntax.specs.Machine.{leads_kind, leads_declaration, BecomesToken, BeginToken, ChannelToken, CloseToken, CommaToken, DoToken, ElseToken, EndToken, IfToken, NameToken, NotToken, NumberToken, OnToken, OpenToken, ParToken, ProcessToken, SemicolonToken, ThenToken, NamesTail, StatementsTail, GroupsTail, ArgumentsTail, InstancesTail, ElseTail, LastTail, ProgramPart, DeclarationsPart, DeclarationPart, ProcessPart, RolePart, GroupsPart, GroupPart, TakingPart, VariablesPart, StatementPart, SimplePart, ExpressionPart, OperatorsPart, InstancePart, ArgumentsPart, ArgumentPart, TailPart, TokenPart, LevelPart}
+use Rattle.kahn_syntax.specs.Drawn.{name_of, expression_of, statement_of}
+use Rattle.kahn_syntax.proofs.Moves.{kind_moves, opens_groups, groups_end, variables_end, opens_process, opens_declarations, declarations_end, no_group, no_process, then, then_stops, call, call_stops, call_two, call_two_stops, one, deep, token, expected, goes, ends, level_ends, absent, unexpected, no_name, no_memory}
 use Rattle.kahn_syntax.proofs.Declared.{variables_next}
 use Rattle.kahn_syntax.proofs.parser.declaration.read_variables.Goals as goal
+
+pub read_names-requires : goal.read_names-requires
+read_names-requires c = record { proper = c.in-Some.ensures.proper c.args.text.now c.variables.invariant.proper }
+
+pub returns-in_err-names-clause-stops : goal.returns-in_err-names-clause-stops
+returns-in_err-names-clause-stops c =
+    let p = err_from_is_err_and c.from_residual.result c.from_residual.ensures.1 in rw (p.1, p.2) (then_stops c.args.text.now 0 (VariablesPart ∷ []) (TokenPart NameToken ∷ TailPart NamesTail ∷ TokenPart SemicolonToken ∷ VariablesPart ∷ []) c.args.input.now c.in-Some.after.now _ (then c.args.text.now 0 (VariablesPart ∷ []) (VariablesPart ∷ []) (TokenPart NameToken ∷ TailPart NamesTail ∷ TokenPart SemicolonToken ∷ VariablesPart ∷ []) c.args.input.now c.variables.rest.now c.in-Some.after.now (c.variables.invariant.reads) (kind_moves c.args.text.now 0 VariablesPart [] (TokenPart NameToken ∷ TailPart NamesTail ∷ TokenPart SemicolonToken ∷ VariablesPart ∷ []) c.in-Some.kind c.variables.rest.now c.in-Some.after.now (λ s l. omega (arith, l)) (λ s. refl) (λ s. refl) (c.in-Some.ensures.first c.args.text.now))) (call_two_stops c.args.text.now 0 0 (TokenPart NameToken) (TailPart NamesTail) (TokenPart SemicolonToken ∷ VariablesPart ∷ []) c.in-Some.after.now _ (λ s l. omega (arith, l)) c.in_err-names.ensures.stops))
+
+pub returns-in_err-after-clause-stops : goal.returns-in_err-after-clause-stops
+returns-in_err-after-clause-stops c =
+    let p = err_from_is_err_and c.from_residual-in_err-after.result c.from_residual-in_err-after.ensures.1 in rw (p.1, p.2) (then_stops c.args.text.now 0 (VariablesPart ∷ []) (TokenPart SemicolonToken ∷ VariablesPart ∷ []) c.args.input.now c.in_ok-names.after.now _ (then c.args.text.now 0 (VariablesPart ∷ []) (TokenPart NameToken ∷ TailPart NamesTail ∷ TokenPart SemicolonToken ∷ VariablesPart ∷ []) (TokenPart SemicolonToken ∷ VariablesPart ∷ []) c.args.input.now c.in-Some.after.now c.in_ok-names.after.now (then c.args.text.now 0 (VariablesPart ∷ []) (VariablesPart ∷ []) (TokenPart NameToken ∷ TailPart NamesTail ∷ TokenPart SemicolonToken ∷ VariablesPart ∷ []) c.args.input.now c.variables.rest.now c.in-Some.after.now (c.variables.invariant.reads) (kind_moves c.args.text.now 0 VariablesPart [] (TokenPart NameToken ∷ TailPart NamesTail ∷ TokenPart SemicolonToken ∷ VariablesPart ∷ []) c.in-Some.kind c.variables.rest.now c.in-Some.after.now (λ s l. omega (arith, l)) (λ s. refl) (λ s. refl) (c.in-Some.ensures.first c.args.text.now))) (call_two c.args.text.now 0 0 (TokenPart NameToken) (TailPart NamesTail) (TokenPart SemicolonToken ∷ VariablesPart ∷ []) c.in-Some.after.now c.in_ok-names.after.now (λ s l. omega (arith, l)) c.in_ok-names.ensures.reads)) (unexpected c.args.text.now 0 SemicolonToken (VariablesPart ∷ []) (class.Sign mark.Semicolon) c.in_ok-names.after.now _ refl c.in_err-after.ensures.stop))
 
 pub variables-preserved : goal.variables-preserved
 variables-preserved c =
@@ -9,4 +28,10 @@ variables-preserved c =
       words = variables_next _ _ c.in-Some.kind (map name_of c.in_ok-names.names.items) _ _ _ _ _ c.variables.invariant.words (c.in-Some.ensures.first c.args.text.now)
           c.in_ok-names.ensures.words (c.in_ok-after.ensures.first.1 c.args.text.now) c.in_ok-names.ensures.some c.in_ok-add_variables.ensures.added;
       shorter = omega (arith, c.in-Some.ensures.shorter, c.in_ok-names.ensures.shorter, c.in_ok-after.ensures.shorter, c.variables.invariant.shorter);
+      proper = c.in_ok-after.ensures.proper c.args.text.now c.in_ok-names.ensures.proper;
+      reads = (then c.args.text.now 0 (VariablesPart ∷ []) (TokenPart SemicolonToken ∷ VariablesPart ∷ []) (VariablesPart ∷ []) c.args.input.now c.in_ok-names.after.now c.in_ok-after.after.now (then c.args.text.now 0 (VariablesPart ∷ []) (TokenPart NameToken ∷ TailPart NamesTail ∷ TokenPart SemicolonToken ∷ VariablesPart ∷ []) (TokenPart SemicolonToken ∷ VariablesPart ∷ []) c.args.input.now c.in-Some.after.now c.in_ok-names.after.now (then c.args.text.now 0 (VariablesPart ∷ []) (VariablesPart ∷ []) (TokenPart NameToken ∷ TailPart NamesTail ∷ TokenPart SemicolonToken ∷ VariablesPart ∷ []) c.args.input.now c.variables.rest.now c.in-Some.after.now (c.variables.invariant.reads) (kind_moves c.args.text.now 0 VariablesPart [] (TokenPart NameToken ∷ TailPart NamesTail ∷ TokenPart SemicolonToken ∷ VariablesPart ∷ []) c.in-Some.kind c.variables.rest.now c.in-Some.after.now (λ s l. omega (arith, l)) (λ s. refl) (λ s. refl) (c.in-Some.ensures.first c.args.text.now))) (call_two c.args.text.now 0 0 (TokenPart NameToken) (TailPart NamesTail) (TokenPart SemicolonToken ∷ VariablesPart ∷ []) c.in-Some.after.now c.in_ok-names.after.now (λ s l. omega (arith, l)) c.in_ok-names.ensures.reads)) (expected c.args.text.now 0 SemicolonToken (VariablesPart ∷ []) (class.Sign mark.Semicolon) c.in_ok-names.after.now c.in_ok-after.after.now (λ s l. omega (arith, l)) refl c.in_ok-after.ensures.first));
     }
+
+pub returns-clause-reads : goal.returns-clause-reads
+returns-clause-reads c = (then c.args.text.now 0 (VariablesPart ∷ []) (VariablesPart ∷ []) ([]) c.args.input.now c.variables.rest.now c.variables.rest.now (c.variables.invariant.reads) (variables_end c.args.text.now [] c.variables.rest.now (c.in_default.ensures.leads c.args.text.now)))
+

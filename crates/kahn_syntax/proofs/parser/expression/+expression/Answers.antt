@@ -1,7 +1,41 @@
-use Rattle.std.proofs.Common.{arith}
-use Rattle.kahn_syntax.specs.Drawn.{expression_of}
+use Rattle.std.proofs.Common.{rules, ◌≡◌, false, refl, [], ◌∷◌, arith, sym, ap, ◌∙◌, subst}
+use Rattle.std.proofs.lemmas.Result.{err_from_is_err_and}
+use Rattle.kahn_syntax.specs.declared.lexeme.Keyword.TheVariants as keyword
+use Rattle.kahn_syntax.specs.declared.lexeme.Sign.TheVariants as mark
+use Rattle.kahn_syntax.specs.declared.lexeme.Class.TheVariants as class
+use Rattle.kahn_syntax.specs.Terminals.{word, sign, name, terminals}
+use Rattle.kahn_syntax.specs.Rungs.{whole, ors, denials, relations, sums, factors, rung_of, tighter}
+use Rattle.kahn_syntax.specs.Machine.{BecomesToken, BeginToken, ChannelToken, CloseToken, CommaToken, DoToken, ElseToken, EndToken, IfToken, NameToken, NotToken, NumberToken, OnToken, OpenToken, ParToken, ProcessToken, SemicolonToken, ThenToken, NamesTail, StatementsTail, GroupsTail, ArgumentsTail, InstancesTail, ElseTail, LastTail, ProgramPart, DeclarationsPart, DeclarationPart, ProcessPart, RolePart, GroupsPart, GroupPart, TakingPart, VariablesPart, StatementPart, SimplePart, ExpressionPart, OperatorsPart, InstancePart, ArgumentsPart, ArgumentPart, TailPart, TokenPart, LevelPart}
+use Rattle.kahn_syntax.specs.Drawn.{name_of, expression_of, statement_of}
+use Rattle.kahn_syntax.proofs.Moves.{opens_whole, opens_denial, opens_chain, operators_end, comparison, level_chain, operator_more, level_end, only_memory, leads_factor, no_factor, reads_by, stops_by, then, then_stops, call, call_stops, call_two, call_two_stops, one, deep, token, expected, goes, ends, level_ends, absent, unexpected, no_name, no_memory}
+use Rattle.kahn_syntax.specs.Trees.{expression_words, operands_words, operands_nesting, FormedOperands}
+use Rattle.kahn_syntax.specs.Drawn.{operands_of}
+use Rattle.kahn_syntax.specs.Reads.{rank_of}
+use Rattle.kahn_syntax.proofs.Lists.{first_of}
 use Rattle.kahn_syntax.proofs.Levels.{operands_words_next, operands_nesting_next, formed_next}
 use Rattle.kahn_syntax.proofs.parser.expression.+expression.Goals as goal
+
+pub read_level-returns-in_err-first-clause-stops : goal.read_level-returns-in_err-first-clause-stops
+read_level-returns-in_err-first-clause-stops t c =
+    let p = err_from_is_err_and c.from_residual.result c.from_residual.ensures.1 in rw (p.1, p.2) (then_stops c.args.text.now c.args.depth (ExpressionPart (rung_of c.args.level) ∷ []) (ExpressionPart (tighter (rung_of c.args.level)) ∷ OperatorsPart (rung_of c.args.level) ∷ []) c.args.input.now c.args.input.now _ (opens_chain c.args.text.now c.args.depth (rung_of c.args.level) [] c.args.input.now (level_chain c.args.level)) (call_stops c.args.text.now c.args.depth c.args.depth (ExpressionPart (tighter (rung_of c.args.level))) (OperatorsPart (rung_of c.args.level) ∷ []) c.args.input.now _ (λ s l. omega (arith, l, c.requires.1.1.0)) c.in_err-first.ensures.stops))
+
+pub read_level-read_operand-requires-in-Some : goal.read_level-read_operand-requires-in-Some
+read_level-read_operand-requires-in-Some t c = (omega (arith, c.requires.1.0, c.in-Some.ensures.shorter, c.operands.invariant.shorter), (c.requires.1.1.0, c.in-Some.ensures.proper c.args.text.now c.operands.invariant.proper))
+
+pub read_level-returns-in_err-expression-clause-stops : goal.read_level-returns-in_err-expression-clause-stops
+read_level-returns-in_err-expression-clause-stops t c =
+    let p = err_from_is_err_and c.from_residual-in_err-expression.result c.from_residual-in_err-expression.ensures.1 in rw (p.1, p.2) (then_stops c.args.text.now c.args.depth (ExpressionPart (rung_of c.args.level) ∷ []) (ExpressionPart (tighter (rung_of c.args.level)) ∷ OperatorsPart (rung_of c.args.level) ∷ []) c.args.input.now c.in-Some.after.now _ (then c.args.text.now c.args.depth (ExpressionPart (rung_of c.args.level) ∷ []) (OperatorsPart (rung_of c.args.level) ∷ []) (ExpressionPart (tighter (rung_of c.args.level)) ∷ OperatorsPart (rung_of c.args.level) ∷ []) c.args.input.now c.operands.rest.now c.in-Some.after.now (c.operands.invariant.reads) (operator_more c.args.text.now c.args.depth c.args.level c.in-Some.operator [] c.operands.rest.now c.in-Some.after.now (λ s l. omega (arith, l, c.requires.1.1.0)) c.in-Some.ensures.ranked (c.in-Some.ensures.first c.args.text.now))) (call_stops c.args.text.now c.args.depth c.args.depth (ExpressionPart (tighter (rung_of c.args.level))) (OperatorsPart (rung_of c.args.level) ∷ []) c.in-Some.after.now _ (λ s l. omega (arith, l, c.requires.1.1.0)) c.in_err-expression.ensures.stops))
+
+pub read_level-operands-init : goal.read_level-operands-init
+read_level-operands-init t c =
+    record {
+      words = c.in_ok-first.ensures.words ∙ ap (λ os. expression_words (expression_of c.in_ok-first.first) (operands_words (operands_of os) (terminals c.args.text.now c.in_ok-first.rest.now))) (sym c.new-further.ensures.items);
+      formed = subst (λ os. FormedOperands (rank_of c.args.level) (operands_of os)) (sym c.new-further.ensures.items) tt;
+      nesting = omega (arith, ap (λ os. operands_nesting (operands_of os)) c.new-further.ensures.items, c.in_ok-first.ensures.nesting);
+      shorter = c.in_ok-first.ensures.shorter;
+      proper = c.in_ok-first.ensures.proper;
+      reads = (then c.args.text.now c.args.depth (ExpressionPart (rung_of c.args.level) ∷ []) (ExpressionPart (tighter (rung_of c.args.level)) ∷ OperatorsPart (rung_of c.args.level) ∷ []) (OperatorsPart (rung_of c.args.level) ∷ []) c.args.input.now c.args.input.now c.in_ok-first.rest.now (opens_chain c.args.text.now c.args.depth (rung_of c.args.level) [] c.args.input.now (level_chain c.args.level)) (call c.args.text.now c.args.depth c.args.depth (ExpressionPart (tighter (rung_of c.args.level))) (OperatorsPart (rung_of c.args.level) ∷ []) c.args.input.now c.in_ok-first.rest.now (λ s l. omega (arith, l, c.requires.1.1.0)) c.in_ok-first.ensures.reads));
+    }
 
 pub read_level-operands-preserved : goal.read_level-operands-preserved
 read_level-operands-preserved t c =
@@ -10,4 +44,121 @@ read_level-operands-preserved t c =
       formed = formed_next _ _ _ _ c.in_ok-push.ensures.items c.operands.invariant.formed c.in-Some.ensures.ranked c.in_ok-expression.ensures.fits;
       nesting = operands_nesting_next _ (expression_of c.in_ok-first.first) _ _ _ c.in_ok-push.ensures.items c.operands.invariant.nesting c.in_ok-expression.ensures.nesting;
       shorter = omega (arith, c.in-Some.ensures.shorter, c.in_ok-expression.ensures.shorter, c.operands.invariant.shorter);
+      proper = c.in_ok-expression.ensures.proper;
+      reads = (then c.args.text.now c.args.depth (ExpressionPart (rung_of c.args.level) ∷ []) (ExpressionPart (tighter (rung_of c.args.level)) ∷ OperatorsPart (rung_of c.args.level) ∷ []) (OperatorsPart (rung_of c.args.level) ∷ []) c.args.input.now c.in-Some.after.now c.in_ok-expression.left.now (then c.args.text.now c.args.depth (ExpressionPart (rung_of c.args.level) ∷ []) (OperatorsPart (rung_of c.args.level) ∷ []) (ExpressionPart (tighter (rung_of c.args.level)) ∷ OperatorsPart (rung_of c.args.level) ∷ []) c.args.input.now c.operands.rest.now c.in-Some.after.now (c.operands.invariant.reads) (operator_more c.args.text.now c.args.depth c.args.level c.in-Some.operator [] c.operands.rest.now c.in-Some.after.now (λ s l. omega (arith, l, c.requires.1.1.0)) c.in-Some.ensures.ranked (c.in-Some.ensures.first c.args.text.now))) (call c.args.text.now c.args.depth c.args.depth (ExpressionPart (tighter (rung_of c.args.level))) (OperatorsPart (rung_of c.args.level) ∷ []) c.in-Some.after.now c.in_ok-expression.left.now (λ s l. omega (arith, l, c.requires.1.1.0)) c.in_ok-expression.ensures.reads));
     }
+
+pub read_denial-returns-in_err-inner-clause-stops : goal.read_denial-returns-in_err-inner-clause-stops
+read_denial-returns-in_err-inner-clause-stops t c =
+    let p = err_from_is_err_and c.from_residual.result c.from_residual.ensures.1 in rw (p.1, p.2) (deep c.args.text.now c.args.depth (ExpressionPart denials) ([]) (ExpressionPart denials ∷ LevelPart ∷ []) (word keyword.Not) c.args.input.now c.in-Some.rest.now _ (λ s l. omega (arith, l, c.in_err-inner.ensures.stop.0)) (λ s. refl) (c.in-Some.ensures.first c.args.text.now) c.in_err-inner.ensures.stop.1)
+
+pub read_denial-read_denial-requires : goal.read_denial-read_denial-requires
+read_denial-read_denial-requires t c = (omega (arith, c.requires.1.0, c.in-Some.ensures.shorter), (c.in_ok-inner.ensures.deeper.1, c.in-Some.ensures.proper c.args.text.now c.requires.1.1.1))
+
+pub read_denial-returns-clause-reads : goal.read_denial-returns-clause-reads
+read_denial-returns-clause-reads t c = (then c.args.text.now c.args.depth (ExpressionPart denials ∷ []) (LevelPart ∷ []) ([]) c.args.input.now c.in_ok-operand.rest.now c.in_ok-operand.rest.now (then c.args.text.now c.args.depth (ExpressionPart denials ∷ []) (ExpressionPart denials ∷ LevelPart ∷ []) (LevelPart ∷ []) c.args.input.now c.in-Some.rest.now c.in_ok-operand.rest.now (one c.args.text.now c.args.depth (ExpressionPart denials) ([]) (ExpressionPart denials ∷ LevelPart ∷ []) (word keyword.Not) c.args.input.now c.in-Some.rest.now (λ s l. omega (arith, l, c.requires.1.1.0, c.in_ok-inner.ensures.deeper.0, c.in_ok-inner.ensures.deeper.1)) (λ s. refl) (c.in-Some.ensures.first c.args.text.now)) (call c.args.text.now c.args.depth c.in_ok-inner.inner (ExpressionPart denials) (LevelPart ∷ []) c.in-Some.rest.now c.in_ok-operand.rest.now (λ s l. omega (arith, l, c.requires.1.1.0, c.in_ok-inner.ensures.deeper.0, c.in_ok-inner.ensures.deeper.1)) c.in_ok-operand.ensures.reads)) (level_ends c.args.text.now c.args.depth [] c.in_ok-operand.rest.now))
+
+pub read_relation-returns-in_err-left-clause-stops : goal.read_relation-returns-in_err-left-clause-stops
+read_relation-returns-in_err-left-clause-stops t c =
+    let p = err_from_is_err_and c.from_residual.result c.from_residual.ensures.1 in rw (p.1, p.2) (then_stops c.args.text.now c.args.depth (ExpressionPart relations ∷ []) (ExpressionPart sums ∷ OperatorsPart relations ∷ []) c.args.input.now c.args.input.now _ (opens_chain c.args.text.now c.args.depth relations [] c.args.input.now tt) (call_stops c.args.text.now c.args.depth c.args.depth (ExpressionPart sums) (OperatorsPart relations ∷ []) c.args.input.now _ (λ s l. omega (arith, l, c.requires.1.1.0)) c.in_err-left.ensures.stops))
+
+pub read_relation-returns-in_default-clause-reads : goal.read_relation-returns-in_default-clause-reads
+read_relation-returns-in_default-clause-reads t c = (then c.args.text.now c.args.depth (ExpressionPart relations ∷ []) (OperatorsPart relations ∷ []) ([]) c.args.input.now c.in_ok-left.rest.now c.in_ok-left.rest.now (then c.args.text.now c.args.depth (ExpressionPart relations ∷ []) (ExpressionPart sums ∷ OperatorsPart relations ∷ []) (OperatorsPart relations ∷ []) c.args.input.now c.args.input.now c.in_ok-left.rest.now (opens_chain c.args.text.now c.args.depth relations [] c.args.input.now tt) (call c.args.text.now c.args.depth c.args.depth (ExpressionPart sums) (OperatorsPart relations ∷ []) c.args.input.now c.in_ok-left.rest.now (λ s l. omega (arith, l, c.requires.1.1.0)) c.in_ok-left.ensures.reads)) (operators_end c.args.text.now c.args.depth relations [] c.in_ok-left.rest.now (c.in_default.ensures.lacks c.args.text.now)))
+
+pub read_relation-read_level-requires-2 : goal.read_relation-read_level-requires-2
+read_relation-read_level-requires-2 t c = (omega (arith, c.requires.1.0, c.in-Some.ensures.shorter, c.in_ok-left.ensures.shorter), (c.requires.1.1.0, c.in-Some.ensures.proper c.args.text.now c.in_ok-left.ensures.proper))
+
+pub read_relation-returns-in_err-right-clause-stops : goal.read_relation-returns-in_err-right-clause-stops
+read_relation-returns-in_err-right-clause-stops t c =
+    let p = err_from_is_err_and c.from_residual-in_err-right.result c.from_residual-in_err-right.ensures.1 in rw (p.1, p.2) (then_stops c.args.text.now c.args.depth (ExpressionPart relations ∷ []) (ExpressionPart sums ∷ []) c.args.input.now c.in-Some.after.now _ (then c.args.text.now c.args.depth (ExpressionPart relations ∷ []) (OperatorsPart relations ∷ []) (ExpressionPart sums ∷ []) c.args.input.now c.in_ok-left.rest.now c.in-Some.after.now (then c.args.text.now c.args.depth (ExpressionPart relations ∷ []) (ExpressionPart sums ∷ OperatorsPart relations ∷ []) (OperatorsPart relations ∷ []) c.args.input.now c.args.input.now c.in_ok-left.rest.now (opens_chain c.args.text.now c.args.depth relations [] c.args.input.now tt) (call c.args.text.now c.args.depth c.args.depth (ExpressionPart sums) (OperatorsPart relations ∷ []) c.args.input.now c.in_ok-left.rest.now (λ s l. omega (arith, l, c.requires.1.1.0)) c.in_ok-left.ensures.reads)) (comparison c.args.text.now c.args.depth c.in-Some.operator [] c.in_ok-left.rest.now c.in-Some.after.now (λ s l. omega (arith, l, c.requires.1.1.0)) c.in-Some.ensures.ranked (c.in-Some.ensures.first c.args.text.now))) (call_stops c.args.text.now c.args.depth c.args.depth (ExpressionPart sums) ([]) c.in-Some.after.now _ (λ s l. omega (arith, l, c.requires.1.1.0)) c.in_err-right.ensures.stops))
+
+pub read_relation-returns-clause-reads : goal.read_relation-returns-clause-reads
+read_relation-returns-clause-reads t c = (then c.args.text.now c.args.depth (ExpressionPart relations ∷ []) (ExpressionPart sums ∷ []) ([]) c.args.input.now c.in-Some.after.now c.in_ok-right.rest.now (then c.args.text.now c.args.depth (ExpressionPart relations ∷ []) (OperatorsPart relations ∷ []) (ExpressionPart sums ∷ []) c.args.input.now c.in_ok-left.rest.now c.in-Some.after.now (then c.args.text.now c.args.depth (ExpressionPart relations ∷ []) (ExpressionPart sums ∷ OperatorsPart relations ∷ []) (OperatorsPart relations ∷ []) c.args.input.now c.args.input.now c.in_ok-left.rest.now (opens_chain c.args.text.now c.args.depth relations [] c.args.input.now tt) (call c.args.text.now c.args.depth c.args.depth (ExpressionPart sums) (OperatorsPart relations ∷ []) c.args.input.now c.in_ok-left.rest.now (λ s l. omega (arith, l, c.requires.1.1.0)) c.in_ok-left.ensures.reads)) (comparison c.args.text.now c.args.depth c.in-Some.operator [] c.in_ok-left.rest.now c.in-Some.after.now (λ s l. omega (arith, l, c.requires.1.1.0)) c.in-Some.ensures.ranked (c.in-Some.ensures.first c.args.text.now))) (call c.args.text.now c.args.depth c.args.depth (ExpressionPart sums) ([]) c.in-Some.after.now c.in_ok-right.rest.now (λ s l. omega (arith, l, c.requires.1.1.0)) c.in_ok-right.ensures.reads))
+
+pub read_expression-returns-in_default-clause-reads : goal.read_expression-returns-in_default-clause-reads
+read_expression-returns-in_default-clause-reads t c = reads_by c.args.text.now c.args.depth (ExpressionPart whole ∷ []) (ExpressionPart ors ∷ []) c.args.input.now c.read_level.result (λ x. x.1.now) (opens_whole c.args.text.now c.args.depth [] c.args.input.now c.in_default.ensures.absent) c.read_level.ensures.reads
+
+pub read_expression-returns-in_default-clause-stops : goal.read_expression-returns-in_default-clause-stops
+read_expression-returns-in_default-clause-stops t c = stops_by c.args.text.now c.args.depth (ExpressionPart whole ∷ []) (ExpressionPart ors ∷ []) c.args.input.now c.read_level.result (opens_whole c.args.text.now c.args.depth [] c.args.input.now c.in_default.ensures.absent) c.read_level.ensures.stops
+
+pub read_expression-returns-in_err-inner-clause-stops : goal.read_expression-returns-in_err-inner-clause-stops
+read_expression-returns-in_err-inner-clause-stops t c =
+    let p = err_from_is_err_and c.from_residual.result c.from_residual.ensures.1 in rw (p.1, p.2) (deep c.args.text.now c.args.depth (ExpressionPart whole) ([]) (ExpressionPart whole ∷ TokenPart ThenToken ∷ ExpressionPart whole ∷ TokenPart ElseToken ∷ ExpressionPart whole ∷ LevelPart ∷ []) (word keyword.If) c.args.input.now c.in-Some.rest.now _ (λ s l. omega (arith, l, c.in_err-inner.ensures.stop.0)) (λ s. refl) (c.in-Some.ensures.first.1 c.args.text.now) c.in_err-inner.ensures.stop.1)
+
+pub read_expression-read_expression-requires : goal.read_expression-read_expression-requires
+read_expression-read_expression-requires t c = (omega (arith, c.requires.1.0, c.in-Some.ensures.shorter), (c.in_ok-inner.ensures.deeper.1, c.in-Some.ensures.proper c.args.text.now c.requires.1.1.1))
+
+pub read_expression-returns-in_err-test-clause-stops : goal.read_expression-returns-in_err-test-clause-stops
+read_expression-returns-in_err-test-clause-stops t c =
+    let p = err_from_is_err_and c.from_residual-in_err-test.result c.from_residual-in_err-test.ensures.1 in rw (p.1, p.2) (then_stops c.args.text.now c.args.depth (ExpressionPart whole ∷ []) (ExpressionPart whole ∷ TokenPart ThenToken ∷ ExpressionPart whole ∷ TokenPart ElseToken ∷ ExpressionPart whole ∷ LevelPart ∷ []) c.args.input.now c.in-Some.rest.now _ (one c.args.text.now c.args.depth (ExpressionPart whole) ([]) (ExpressionPart whole ∷ TokenPart ThenToken ∷ ExpressionPart whole ∷ TokenPart ElseToken ∷ ExpressionPart whole ∷ LevelPart ∷ []) (word keyword.If) c.args.input.now c.in-Some.rest.now (λ s l. omega (arith, l, c.requires.1.1.0, c.in_ok-inner.ensures.deeper.0, c.in_ok-inner.ensures.deeper.1)) (λ s. refl) (c.in-Some.ensures.first.1 c.args.text.now)) (call_stops c.args.text.now c.args.depth c.in_ok-inner.inner (ExpressionPart whole) (TokenPart ThenToken ∷ ExpressionPart whole ∷ TokenPart ElseToken ∷ ExpressionPart whole ∷ LevelPart ∷ []) c.in-Some.rest.now _ (λ s l. omega (arith, l, c.requires.1.1.0, c.in_ok-inner.ensures.deeper.0, c.in_ok-inner.ensures.deeper.1)) c.in_err-test.ensures.stops))
+
+pub read_expression-returns-in_err-rest-clause-stops : goal.read_expression-returns-in_err-rest-clause-stops
+read_expression-returns-in_err-rest-clause-stops t c =
+    let p = err_from_is_err_and c.from_residual-in_err-rest.result c.from_residual-in_err-rest.ensures.1 in rw (p.1, p.2) (then_stops c.args.text.now c.args.depth (ExpressionPart whole ∷ []) (TokenPart ThenToken ∷ ExpressionPart whole ∷ TokenPart ElseToken ∷ ExpressionPart whole ∷ LevelPart ∷ []) c.args.input.now c.in_ok-test.rest.now _ (then c.args.text.now c.args.depth (ExpressionPart whole ∷ []) (ExpressionPart whole ∷ TokenPart ThenToken ∷ ExpressionPart whole ∷ TokenPart ElseToken ∷ ExpressionPart whole ∷ LevelPart ∷ []) (TokenPart ThenToken ∷ ExpressionPart whole ∷ TokenPart ElseToken ∷ ExpressionPart whole ∷ LevelPart ∷ []) c.args.input.now c.in-Some.rest.now c.in_ok-test.rest.now (one c.args.text.now c.args.depth (ExpressionPart whole) ([]) (ExpressionPart whole ∷ TokenPart ThenToken ∷ ExpressionPart whole ∷ TokenPart ElseToken ∷ ExpressionPart whole ∷ LevelPart ∷ []) (word keyword.If) c.args.input.now c.in-Some.rest.now (λ s l. omega (arith, l, c.requires.1.1.0, c.in_ok-inner.ensures.deeper.0, c.in_ok-inner.ensures.deeper.1)) (λ s. refl) (c.in-Some.ensures.first.1 c.args.text.now)) (call c.args.text.now c.args.depth c.in_ok-inner.inner (ExpressionPart whole) (TokenPart ThenToken ∷ ExpressionPart whole ∷ TokenPart ElseToken ∷ ExpressionPart whole ∷ LevelPart ∷ []) c.in-Some.rest.now c.in_ok-test.rest.now (λ s l. omega (arith, l, c.requires.1.1.0, c.in_ok-inner.ensures.deeper.0, c.in_ok-inner.ensures.deeper.1)) c.in_ok-test.ensures.reads)) (unexpected c.args.text.now c.args.depth ThenToken (ExpressionPart whole ∷ TokenPart ElseToken ∷ ExpressionPart whole ∷ LevelPart ∷ []) (class.Word keyword.Then) c.in_ok-test.rest.now _ refl c.in_err-rest.ensures.stop))
+
+pub read_expression-read_expression-requires-2 : goal.read_expression-read_expression-requires-2
+read_expression-read_expression-requires-2 t c = (omega (arith, c.requires.1.0, c.in-Some.ensures.shorter, c.in_ok-test.ensures.shorter, c.in_ok-rest.ensures.shorter), (c.in_ok-inner.ensures.deeper.1, c.in_ok-rest.ensures.proper c.args.text.now c.in_ok-test.ensures.proper))
+
+pub read_expression-returns-in_err-yes-clause-stops : goal.read_expression-returns-in_err-yes-clause-stops
+read_expression-returns-in_err-yes-clause-stops t c =
+    let p = err_from_is_err_and c.from_residual-in_err-yes.result c.from_residual-in_err-yes.ensures.1 in rw (p.1, p.2) (then_stops c.args.text.now c.args.depth (ExpressionPart whole ∷ []) (ExpressionPart whole ∷ TokenPart ElseToken ∷ ExpressionPart whole ∷ LevelPart ∷ []) c.args.input.now c.in_ok-rest.rest.now _ (then c.args.text.now c.args.depth (ExpressionPart whole ∷ []) (TokenPart ThenToken ∷ ExpressionPart whole ∷ TokenPart ElseToken ∷ ExpressionPart whole ∷ LevelPart ∷ []) (ExpressionPart whole ∷ TokenPart ElseToken ∷ ExpressionPart whole ∷ LevelPart ∷ []) c.args.input.now c.in_ok-test.rest.now c.in_ok-rest.rest.now (then c.args.text.now c.args.depth (ExpressionPart whole ∷ []) (ExpressionPart whole ∷ TokenPart ThenToken ∷ ExpressionPart whole ∷ TokenPart ElseToken ∷ ExpressionPart whole ∷ LevelPart ∷ []) (TokenPart ThenToken ∷ ExpressionPart whole ∷ TokenPart ElseToken ∷ ExpressionPart whole ∷ LevelPart ∷ []) c.args.input.now c.in-Some.rest.now c.in_ok-test.rest.now (one c.args.text.now c.args.depth (ExpressionPart whole) ([]) (ExpressionPart whole ∷ TokenPart ThenToken ∷ ExpressionPart whole ∷ TokenPart ElseToken ∷ ExpressionPart whole ∷ LevelPart ∷ []) (word keyword.If) c.args.input.now c.in-Some.rest.now (λ s l. omega (arith, l, c.requires.1.1.0, c.in_ok-inner.ensures.deeper.0, c.in_ok-inner.ensures.deeper.1)) (λ s. refl) (c.in-Some.ensures.first.1 c.args.text.now)) (call c.args.text.now c.args.depth c.in_ok-inner.inner (ExpressionPart whole) (TokenPart ThenToken ∷ ExpressionPart whole ∷ TokenPart ElseToken ∷ ExpressionPart whole ∷ LevelPart ∷ []) c.in-Some.rest.now c.in_ok-test.rest.now (λ s l. omega (arith, l, c.requires.1.1.0, c.in_ok-inner.ensures.deeper.0, c.in_ok-inner.ensures.deeper.1)) c.in_ok-test.ensures.reads)) (expected c.args.text.now c.args.depth ThenToken (ExpressionPart whole ∷ TokenPart ElseToken ∷ ExpressionPart whole ∷ LevelPart ∷ []) (class.Word keyword.Then) c.in_ok-test.rest.now c.in_ok-rest.rest.now (λ s l. omega (arith, l, c.requires.1.1.0, c.in_ok-inner.ensures.deeper.0, c.in_ok-inner.ensures.deeper.1)) refl c.in_ok-rest.ensures.first)) (call_stops c.args.text.now c.args.depth c.in_ok-inner.inner (ExpressionPart whole) (TokenPart ElseToken ∷ ExpressionPart whole ∷ LevelPart ∷ []) c.in_ok-rest.rest.now _ (λ s l. omega (arith, l, c.requires.1.1.0, c.in_ok-inner.ensures.deeper.0, c.in_ok-inner.ensures.deeper.1)) c.in_err-yes.ensures.stops))
+
+pub read_expression-returns-in_err-rest-2-clause-stops : goal.read_expression-returns-in_err-rest-2-clause-stops
+read_expression-returns-in_err-rest-2-clause-stops t c =
+    let p = err_from_is_err_and c.from_residual-in_err-rest-2.result c.from_residual-in_err-rest-2.ensures.1 in rw (p.1, p.2) (then_stops c.args.text.now c.args.depth (ExpressionPart whole ∷ []) (TokenPart ElseToken ∷ ExpressionPart whole ∷ LevelPart ∷ []) c.args.input.now c.in_ok-yes.rest.now _ (then c.args.text.now c.args.depth (ExpressionPart whole ∷ []) (ExpressionPart whole ∷ TokenPart ElseToken ∷ ExpressionPart whole ∷ LevelPart ∷ []) (TokenPart ElseToken ∷ ExpressionPart whole ∷ LevelPart ∷ []) c.args.input.now c.in_ok-rest.rest.now c.in_ok-yes.rest.now (then c.args.text.now c.args.depth (ExpressionPart whole ∷ []) (TokenPart ThenToken ∷ ExpressionPart whole ∷ TokenPart ElseToken ∷ ExpressionPart whole ∷ LevelPart ∷ []) (ExpressionPart whole ∷ TokenPart ElseToken ∷ ExpressionPart whole ∷ LevelPart ∷ []) c.args.input.now c.in_ok-test.rest.now c.in_ok-rest.rest.now (then c.args.text.now c.args.depth (ExpressionPart whole ∷ []) (ExpressionPart whole ∷ TokenPart ThenToken ∷ ExpressionPart whole ∷ TokenPart ElseToken ∷ ExpressionPart whole ∷ LevelPart ∷ []) (TokenPart ThenToken ∷ ExpressionPart whole ∷ TokenPart ElseToken ∷ ExpressionPart whole ∷ LevelPart ∷ []) c.args.input.now c.in-Some.rest.now c.in_ok-test.rest.now (one c.args.text.now c.args.depth (ExpressionPart whole) ([]) (ExpressionPart whole ∷ TokenPart ThenToken ∷ ExpressionPart whole ∷ TokenPart ElseToken ∷ ExpressionPart whole ∷ LevelPart ∷ []) (word keyword.If) c.args.input.now c.in-Some.rest.now (λ s l. omega (arith, l, c.requires.1.1.0, c.in_ok-inner.ensures.deeper.0, c.in_ok-inner.ensures.deeper.1)) (λ s. refl) (c.in-Some.ensures.first.1 c.args.text.now)) (call c.args.text.now c.args.depth c.in_ok-inner.inner (ExpressionPart whole) (TokenPart ThenToken ∷ ExpressionPart whole ∷ TokenPart ElseToken ∷ ExpressionPart whole ∷ LevelPart ∷ []) c.in-Some.rest.now c.in_ok-test.rest.now (λ s l. omega (arith, l, c.requires.1.1.0, c.in_ok-inner.ensures.deeper.0, c.in_ok-inner.ensures.deeper.1)) c.in_ok-test.ensures.reads)) (expected c.args.text.now c.args.depth ThenToken (ExpressionPart whole ∷ TokenPart ElseToken ∷ ExpressionPart whole ∷ LevelPart ∷ []) (class.Word keyword.Then) c.in_ok-test.rest.now c.in_ok-rest.rest.now (λ s l. omega (arith, l, c.requires.1.1.0, c.in_ok-inner.ensures.deeper.0, c.in_ok-inner.ensures.deeper.1)) refl c.in_ok-rest.ensures.first)) (call c.args.text.now c.args.depth c.in_ok-inner.inner (ExpressionPart whole) (TokenPart ElseToken ∷ ExpressionPart whole ∷ LevelPart ∷ []) c.in_ok-rest.rest.now c.in_ok-yes.rest.now (λ s l. omega (arith, l, c.requires.1.1.0, c.in_ok-inner.ensures.deeper.0, c.in_ok-inner.ensures.deeper.1)) c.in_ok-yes.ensures.reads)) (unexpected c.args.text.now c.args.depth ElseToken (ExpressionPart whole ∷ LevelPart ∷ []) (class.Word keyword.Else) c.in_ok-yes.rest.now _ refl c.in_err-rest-2.ensures.stop))
+
+pub read_expression-read_expression-requires-3 : goal.read_expression-read_expression-requires-3
+read_expression-read_expression-requires-3 t c = (omega (arith, c.requires.1.0, c.in-Some.ensures.shorter, c.in_ok-test.ensures.shorter, c.in_ok-rest.ensures.shorter, c.in_ok-yes.ensures.shorter, c.in_ok-rest-2.ensures.shorter), (c.in_ok-inner.ensures.deeper.1, c.in_ok-rest-2.ensures.proper c.args.text.now c.in_ok-yes.ensures.proper))
+
+pub read_expression-returns-in_err-no-clause-stops : goal.read_expression-returns-in_err-no-clause-stops
+read_expression-returns-in_err-no-clause-stops t c =
+    let p = err_from_is_err_and c.from_residual-in_err-no.result c.from_residual-in_err-no.ensures.1 in rw (p.1, p.2) (then_stops c.args.text.now c.args.depth (ExpressionPart whole ∷ []) (ExpressionPart whole ∷ LevelPart ∷ []) c.args.input.now c.in_ok-rest-2.rest.now _ (then c.args.text.now c.args.depth (ExpressionPart whole ∷ []) (TokenPart ElseToken ∷ ExpressionPart whole ∷ LevelPart ∷ []) (ExpressionPart whole ∷ LevelPart ∷ []) c.args.input.now c.in_ok-yes.rest.now c.in_ok-rest-2.rest.now (then c.args.text.now c.args.depth (ExpressionPart whole ∷ []) (ExpressionPart whole ∷ TokenPart ElseToken ∷ ExpressionPart whole ∷ LevelPart ∷ []) (TokenPart ElseToken ∷ ExpressionPart whole ∷ LevelPart ∷ []) c.args.input.now c.in_ok-rest.rest.now c.in_ok-yes.rest.now (then c.args.text.now c.args.depth (ExpressionPart whole ∷ []) (TokenPart ThenToken ∷ ExpressionPart whole ∷ TokenPart ElseToken ∷ ExpressionPart whole ∷ LevelPart ∷ []) (ExpressionPart whole ∷ TokenPart ElseToken ∷ ExpressionPart whole ∷ LevelPart ∷ []) c.args.input.now c.in_ok-test.rest.now c.in_ok-rest.rest.now (then c.args.text.now c.args.depth (ExpressionPart whole ∷ []) (ExpressionPart whole ∷ TokenPart ThenToken ∷ ExpressionPart whole ∷ TokenPart ElseToken ∷ ExpressionPart whole ∷ LevelPart ∷ []) (TokenPart ThenToken ∷ ExpressionPart whole ∷ TokenPart ElseToken ∷ ExpressionPart whole ∷ LevelPart ∷ []) c.args.input.now c.in-Some.rest.now c.in_ok-test.rest.now (one c.args.text.now c.args.depth (ExpressionPart whole) ([]) (ExpressionPart whole ∷ TokenPart ThenToken ∷ ExpressionPart whole ∷ TokenPart ElseToken ∷ ExpressionPart whole ∷ LevelPart ∷ []) (word keyword.If) c.args.input.now c.in-Some.rest.now (λ s l. omega (arith, l, c.requires.1.1.0, c.in_ok-inner.ensures.deeper.0, c.in_ok-inner.ensures.deeper.1)) (λ s. refl) (c.in-Some.ensures.first.1 c.args.text.now)) (call c.args.text.now c.args.depth c.in_ok-inner.inner (ExpressionPart whole) (TokenPart ThenToken ∷ ExpressionPart whole ∷ TokenPart ElseToken ∷ ExpressionPart whole ∷ LevelPart ∷ []) c.in-Some.rest.now c.in_ok-test.rest.now (λ s l. omega (arith, l, c.requires.1.1.0, c.in_ok-inner.ensures.deeper.0, c.in_ok-inner.ensures.deeper.1)) c.in_ok-test.ensures.reads)) (expected c.args.text.now c.args.depth ThenToken (ExpressionPart whole ∷ TokenPart ElseToken ∷ ExpressionPart whole ∷ LevelPart ∷ []) (class.Word keyword.Then) c.in_ok-test.rest.now c.in_ok-rest.rest.now (λ s l. omega (arith, l, c.requires.1.1.0, c.in_ok-inner.ensures.deeper.0, c.in_ok-inner.ensures.deeper.1)) refl c.in_ok-rest.ensures.first)) (call c.args.text.now c.args.depth c.in_ok-inner.inner (ExpressionPart whole) (TokenPart ElseToken ∷ ExpressionPart whole ∷ LevelPart ∷ []) c.in_ok-rest.rest.now c.in_ok-yes.rest.now (λ s l. omega (arith, l, c.requires.1.1.0, c.in_ok-inner.ensures.deeper.0, c.in_ok-inner.ensures.deeper.1)) c.in_ok-yes.ensures.reads)) (expected c.args.text.now c.args.depth ElseToken (ExpressionPart whole ∷ LevelPart ∷ []) (class.Word keyword.Else) c.in_ok-yes.rest.now c.in_ok-rest-2.rest.now (λ s l. omega (arith, l, c.requires.1.1.0, c.in_ok-inner.ensures.deeper.0, c.in_ok-inner.ensures.deeper.1)) refl c.in_ok-rest-2.ensures.first)) (call_stops c.args.text.now c.args.depth c.in_ok-inner.inner (ExpressionPart whole) (LevelPart ∷ []) c.in_ok-rest-2.rest.now _ (λ s l. omega (arith, l, c.requires.1.1.0, c.in_ok-inner.ensures.deeper.0, c.in_ok-inner.ensures.deeper.1)) c.in_err-no.ensures.stops))
+
+pub read_expression-returns-clause-reads : goal.read_expression-returns-clause-reads
+read_expression-returns-clause-reads t c = (then c.args.text.now c.args.depth (ExpressionPart whole ∷ []) (LevelPart ∷ []) ([]) c.args.input.now c.in_ok-no.rest.now c.in_ok-no.rest.now (then c.args.text.now c.args.depth (ExpressionPart whole ∷ []) (ExpressionPart whole ∷ LevelPart ∷ []) (LevelPart ∷ []) c.args.input.now c.in_ok-rest-2.rest.now c.in_ok-no.rest.now (then c.args.text.now c.args.depth (ExpressionPart whole ∷ []) (TokenPart ElseToken ∷ ExpressionPart whole ∷ LevelPart ∷ []) (ExpressionPart whole ∷ LevelPart ∷ []) c.args.input.now c.in_ok-yes.rest.now c.in_ok-rest-2.rest.now (then c.args.text.now c.args.depth (ExpressionPart whole ∷ []) (ExpressionPart whole ∷ TokenPart ElseToken ∷ ExpressionPart whole ∷ LevelPart ∷ []) (TokenPart ElseToken ∷ ExpressionPart whole ∷ LevelPart ∷ []) c.args.input.now c.in_ok-rest.rest.now c.in_ok-yes.rest.now (then c.args.text.now c.args.depth (ExpressionPart whole ∷ []) (TokenPart ThenToken ∷ ExpressionPart whole ∷ TokenPart ElseToken ∷ ExpressionPart whole ∷ LevelPart ∷ []) (ExpressionPart whole ∷ TokenPart ElseToken ∷ ExpressionPart whole ∷ LevelPart ∷ []) c.args.input.now c.in_ok-test.rest.now c.in_ok-rest.rest.now (then c.args.text.now c.args.depth (ExpressionPart whole ∷ []) (ExpressionPart whole ∷ TokenPart ThenToken ∷ ExpressionPart whole ∷ TokenPart ElseToken ∷ ExpressionPart whole ∷ LevelPart ∷ []) (TokenPart ThenToken ∷ ExpressionPart whole ∷ TokenPart ElseToken ∷ ExpressionPart whole ∷ LevelPart ∷ []) c.args.input.now c.in-Some.rest.now c.in_ok-test.rest.now (one c.args.text.now c.args.depth (ExpressionPart whole) ([]) (ExpressionPart whole ∷ TokenPart ThenToken ∷ ExpressionPart whole ∷ TokenPart ElseToken ∷ ExpressionPart whole ∷ LevelPart ∷ []) (word keyword.If) c.args.input.now c.in-Some.rest.now (λ s l. omega (arith, l, c.requires.1.1.0, c.in_ok-inner.ensures.deeper.0, c.in_ok-inner.ensures.deeper.1)) (λ s. refl) (c.in-Some.ensures.first.1 c.args.text.now)) (call c.args.text.now c.args.depth c.in_ok-inner.inner (ExpressionPart whole) (TokenPart ThenToken ∷ ExpressionPart whole ∷ TokenPart ElseToken ∷ ExpressionPart whole ∷ LevelPart ∷ []) c.in-Some.rest.now c.in_ok-test.rest.now (λ s l. omega (arith, l, c.requires.1.1.0, c.in_ok-inner.ensures.deeper.0, c.in_ok-inner.ensures.deeper.1)) c.in_ok-test.ensures.reads)) (expected c.args.text.now c.args.depth ThenToken (ExpressionPart whole ∷ TokenPart ElseToken ∷ ExpressionPart whole ∷ LevelPart ∷ []) (class.Word keyword.Then) c.in_ok-test.rest.now c.in_ok-rest.rest.now (λ s l. omega (arith, l, c.requires.1.1.0, c.in_ok-inner.ensures.deeper.0, c.in_ok-inner.ensures.deeper.1)) refl c.in_ok-rest.ensures.first)) (call c.args.text.now c.args.depth c.in_ok-inner.inner (ExpressionPart whole) (TokenPart ElseToken ∷ ExpressionPart whole ∷ LevelPart ∷ []) c.in_ok-rest.rest.now c.in_ok-yes.rest.now (λ s l. omega (arith, l, c.requires.1.1.0, c.in_ok-inner.ensures.deeper.0, c.in_ok-inner.ensures.deeper.1)) c.in_ok-yes.ensures.reads)) (expected c.args.text.now c.args.depth ElseToken (ExpressionPart whole ∷ LevelPart ∷ []) (class.Word keyword.Else) c.in_ok-yes.rest.now c.in_ok-rest-2.rest.now (λ s l. omega (arith, l, c.requires.1.1.0, c.in_ok-inner.ensures.deeper.0, c.in_ok-inner.ensures.deeper.1)) refl c.in_ok-rest-2.ensures.first)) (call c.args.text.now c.args.depth c.in_ok-inner.inner (ExpressionPart whole) (LevelPart ∷ []) c.in_ok-rest-2.rest.now c.in_ok-no.rest.now (λ s l. omega (arith, l, c.requires.1.1.0, c.in_ok-inner.ensures.deeper.0, c.in_ok-inner.ensures.deeper.1)) c.in_ok-no.ensures.reads)) (level_ends c.args.text.now c.args.depth [] c.in_ok-no.rest.now))
+
+pub read_factor-returns-in-Some-Number-default-clause-proper : goal.read_factor-returns-in-Some-Number-default-clause-proper
+read_factor-returns-in-Some-Number-default-clause-proper t c = c.in-Some-Number-default.ensures.proper c.args.text.now c.requires.1.1.1
+
+pub read_factor-returns-in-Some-Word-True-default-clause-proper : goal.read_factor-returns-in-Some-Word-True-default-clause-proper
+read_factor-returns-in-Some-Word-True-default-clause-proper t c = c.in-Some-Word-True-default.ensures.proper c.args.text.now c.requires.1.1.1
+
+pub read_factor-returns-in-Some-Word-False-default-clause-proper : goal.read_factor-returns-in-Some-Word-False-default-clause-proper
+read_factor-returns-in-Some-Word-False-default-clause-proper t c = c.in-Some-Word-False-default.ensures.proper c.args.text.now c.requires.1.1.1
+
+pub read_factor-read_wait-requires-clause-proper : goal.read_factor-read_wait-requires-clause-proper
+read_factor-read_wait-requires-clause-proper t c = c.in-Some-Word-Wait-default.ensures.proper c.args.text.now c.requires.1.1.1
+
+pub read_factor-returns-in_err-inner-in-Some-Sign-Minus-default-clause-stops : goal.read_factor-returns-in_err-inner-in-Some-Sign-Minus-default-clause-stops
+read_factor-returns-in_err-inner-in-Some-Sign-Minus-default-clause-stops t c =
+    let p = err_from_is_err_and c.from_residual.result c.from_residual.ensures.1 in rw (p.1, p.2) (deep c.args.text.now c.args.depth (ExpressionPart factors) ([]) (ExpressionPart factors ∷ LevelPart ∷ []) (sign mark.Minus) c.args.input.now c.in-Some-Sign-Minus-default.rest.now _ (λ s l. omega (arith, l, c.in_err-inner-in-Some-Sign-Minus-default.ensures.stop.0)) (λ s. refl) ((first_of _ (class.Sign mark.Minus) c.args.input.now c.in-Some-Sign-Minus-default.rest.now (c.in-Some-Sign-Minus-default.field-0-0-is ∙ ap class.Sign c.in-Some-Sign-Minus-default.field-0-0-0-is) c.in-Some-Sign-Minus-default.ensures.first.0).1 c.args.text.now) c.in_err-inner-in-Some-Sign-Minus-default.ensures.stop.1)
+
+pub read_factor-read_factor-requires : goal.read_factor-read_factor-requires
+read_factor-read_factor-requires t c = (omega (arith, c.requires.1.0, c.in-Some-Sign-Minus-default.ensures.first.1), (c.in_ok-inner-in-Some-Sign-Minus-default.ensures.deeper.1, c.in-Some-Sign-Minus-default.ensures.proper c.args.text.now c.requires.1.1.1))
+
+pub read_factor-returns-in_ok-expression-in-Some-Sign-Minus-default-clause-reads : goal.read_factor-returns-in_ok-expression-in-Some-Sign-Minus-default-clause-reads
+read_factor-returns-in_ok-expression-in-Some-Sign-Minus-default-clause-reads t c = (then c.args.text.now c.args.depth (ExpressionPart factors ∷ []) (LevelPart ∷ []) ([]) c.args.input.now c.in_ok-operand-in-Some-Sign-Minus-default.rest.now c.in_ok-operand-in-Some-Sign-Minus-default.rest.now (then c.args.text.now c.args.depth (ExpressionPart factors ∷ []) (ExpressionPart factors ∷ LevelPart ∷ []) (LevelPart ∷ []) c.args.input.now c.in-Some-Sign-Minus-default.rest.now c.in_ok-operand-in-Some-Sign-Minus-default.rest.now (one c.args.text.now c.args.depth (ExpressionPart factors) ([]) (ExpressionPart factors ∷ LevelPart ∷ []) (sign mark.Minus) c.args.input.now c.in-Some-Sign-Minus-default.rest.now (λ s l. omega (arith, l, c.requires.1.1.0, c.in_ok-inner-in-Some-Sign-Minus-default.ensures.deeper.0, c.in_ok-inner-in-Some-Sign-Minus-default.ensures.deeper.1)) (λ s. refl) ((first_of _ (class.Sign mark.Minus) c.args.input.now c.in-Some-Sign-Minus-default.rest.now (c.in-Some-Sign-Minus-default.field-0-0-is ∙ ap class.Sign c.in-Some-Sign-Minus-default.field-0-0-0-is) c.in-Some-Sign-Minus-default.ensures.first.0).1 c.args.text.now)) (call c.args.text.now c.args.depth c.in_ok-inner-in-Some-Sign-Minus-default.inner (ExpressionPart factors) (LevelPart ∷ []) c.in-Some-Sign-Minus-default.rest.now c.in_ok-operand-in-Some-Sign-Minus-default.rest.now (λ s l. omega (arith, l, c.requires.1.1.0, c.in_ok-inner-in-Some-Sign-Minus-default.ensures.deeper.0, c.in_ok-inner-in-Some-Sign-Minus-default.ensures.deeper.1)) c.in_ok-operand-in-Some-Sign-Minus-default.ensures.reads)) (level_ends c.args.text.now c.args.depth [] c.in_ok-operand-in-Some-Sign-Minus-default.rest.now))
+
+pub read_factor-returns-in_err-inner-in-Some-Sign-Open-default-clause-stops : goal.read_factor-returns-in_err-inner-in-Some-Sign-Open-default-clause-stops
+read_factor-returns-in_err-inner-in-Some-Sign-Open-default-clause-stops t c =
+    let p = err_from_is_err_and c.from_residual-in_err-inner-in-Some-Sign-Open-default.result c.from_residual-in_err-inner-in-Some-Sign-Open-default.ensures.1 in rw (p.1, p.2) (deep c.args.text.now c.args.depth (ExpressionPart factors) ([]) (ExpressionPart whole ∷ TokenPart CloseToken ∷ LevelPart ∷ []) (sign mark.Open) c.args.input.now c.in-Some-Sign-Open-default.rest.now _ (λ s l. omega (arith, l, c.in_err-inner-in-Some-Sign-Open-default.ensures.stop.0)) (λ s. refl) ((first_of _ (class.Sign mark.Open) c.args.input.now c.in-Some-Sign-Open-default.rest.now (c.in-Some-Sign-Open-default.field-0-0-is ∙ ap class.Sign c.in-Some-Sign-Open-default.field-0-0-0-is) c.in-Some-Sign-Open-default.ensures.first.0).1 c.args.text.now) c.in_err-inner-in-Some-Sign-Open-default.ensures.stop.1)
+
+pub read_factor-read_expression-requires : goal.read_factor-read_expression-requires
+read_factor-read_expression-requires t c = (omega (arith, c.requires.1.0, c.in-Some-Sign-Open-default.ensures.first.1), (c.in_ok-inner-in-Some-Sign-Open-default.ensures.deeper.1, c.in-Some-Sign-Open-default.ensures.proper c.args.text.now c.requires.1.1.1))
+
+pub read_factor-returns-in_err-rest-in-Some-Sign-Open-default-clause-stops : goal.read_factor-returns-in_err-rest-in-Some-Sign-Open-default-clause-stops
+read_factor-returns-in_err-rest-in-Some-Sign-Open-default-clause-stops t c =
+    let p = err_from_is_err_and c.from_residual-in_err-rest-in-Some-Sign-Open-default.result c.from_residual-in_err-rest-in-Some-Sign-Open-default.ensures.1 in rw (p.1, p.2) (then_stops c.args.text.now c.args.depth (ExpressionPart factors ∷ []) (TokenPart CloseToken ∷ LevelPart ∷ []) c.args.input.now c.in_ok-inside-in-Some-Sign-Open-default.rest.now _ (then c.args.text.now c.args.depth (ExpressionPart factors ∷ []) (ExpressionPart whole ∷ TokenPart CloseToken ∷ LevelPart ∷ []) (TokenPart CloseToken ∷ LevelPart ∷ []) c.args.input.now c.in-Some-Sign-Open-default.rest.now c.in_ok-inside-in-Some-Sign-Open-default.rest.now (one c.args.text.now c.args.depth (ExpressionPart factors) ([]) (ExpressionPart whole ∷ TokenPart CloseToken ∷ LevelPart ∷ []) (sign mark.Open) c.args.input.now c.in-Some-Sign-Open-default.rest.now (λ s l. omega (arith, l, c.requires.1.1.0, c.in_ok-inner-in-Some-Sign-Open-default.ensures.deeper.0, c.in_ok-inner-in-Some-Sign-Open-default.ensures.deeper.1)) (λ s. refl) ((first_of _ (class.Sign mark.Open) c.args.input.now c.in-Some-Sign-Open-default.rest.now (c.in-Some-Sign-Open-default.field-0-0-is ∙ ap class.Sign c.in-Some-Sign-Open-default.field-0-0-0-is) c.in-Some-Sign-Open-default.ensures.first.0).1 c.args.text.now)) (call c.args.text.now c.args.depth c.in_ok-inner-in-Some-Sign-Open-default.inner (ExpressionPart whole) (TokenPart CloseToken ∷ LevelPart ∷ []) c.in-Some-Sign-Open-default.rest.now c.in_ok-inside-in-Some-Sign-Open-default.rest.now (λ s l. omega (arith, l, c.requires.1.1.0, c.in_ok-inner-in-Some-Sign-Open-default.ensures.deeper.0, c.in_ok-inner-in-Some-Sign-Open-default.ensures.deeper.1)) c.in_ok-inside-in-Some-Sign-Open-default.ensures.reads)) (unexpected c.args.text.now c.args.depth CloseToken (LevelPart ∷ []) (class.Sign mark.Close) c.in_ok-inside-in-Some-Sign-Open-default.rest.now _ refl c.in_err-rest-in-Some-Sign-Open-default.ensures.stop))
+
+pub read_factor-returns-in_ok-expression-in-Some-Sign-Open-default-clause-proper : goal.read_factor-returns-in_ok-expression-in-Some-Sign-Open-default-clause-proper
+read_factor-returns-in_ok-expression-in-Some-Sign-Open-default-clause-proper t c = c.in_ok-rest-in-Some-Sign-Open-default.ensures.proper c.args.text.now c.in_ok-inside-in-Some-Sign-Open-default.ensures.proper
+
+pub read_factor-returns-in_ok-expression-in-Some-Sign-Open-default-clause-reads : goal.read_factor-returns-in_ok-expression-in-Some-Sign-Open-default-clause-reads
+read_factor-returns-in_ok-expression-in-Some-Sign-Open-default-clause-reads t c = (then c.args.text.now c.args.depth (ExpressionPart factors ∷ []) (LevelPart ∷ []) ([]) c.args.input.now c.in_ok-rest-in-Some-Sign-Open-default.rest.now c.in_ok-rest-in-Some-Sign-Open-default.rest.now (then c.args.text.now c.args.depth (ExpressionPart factors ∷ []) (TokenPart CloseToken ∷ LevelPart ∷ []) (LevelPart ∷ []) c.args.input.now c.in_ok-inside-in-Some-Sign-Open-default.rest.now c.in_ok-rest-in-Some-Sign-Open-default.rest.now (then c.args.text.now c.args.depth (ExpressionPart factors ∷ []) (ExpressionPart whole ∷ TokenPart CloseToken ∷ LevelPart ∷ []) (TokenPart CloseToken ∷ LevelPart ∷ []) c.args.input.now c.in-Some-Sign-Open-default.rest.now c.in_ok-inside-in-Some-Sign-Open-default.rest.now (one c.args.text.now c.args.depth (ExpressionPart factors) ([]) (ExpressionPart whole ∷ TokenPart CloseToken ∷ LevelPart ∷ []) (sign mark.Open) c.args.input.now c.in-Some-Sign-Open-default.rest.now (λ s l. omega (arith, l, c.requires.1.1.0, c.in_ok-inner-in-Some-Sign-Open-default.ensures.deeper.0, c.in_ok-inner-in-Some-Sign-Open-default.ensures.deeper.1)) (λ s. refl) ((first_of _ (class.Sign mark.Open) c.args.input.now c.in-Some-Sign-Open-default.rest.now (c.in-Some-Sign-Open-default.field-0-0-is ∙ ap class.Sign c.in-Some-Sign-Open-default.field-0-0-0-is) c.in-Some-Sign-Open-default.ensures.first.0).1 c.args.text.now)) (call c.args.text.now c.args.depth c.in_ok-inner-in-Some-Sign-Open-default.inner (ExpressionPart whole) (TokenPart CloseToken ∷ LevelPart ∷ []) c.in-Some-Sign-Open-default.rest.now c.in_ok-inside-in-Some-Sign-Open-default.rest.now (λ s l. omega (arith, l, c.requires.1.1.0, c.in_ok-inner-in-Some-Sign-Open-default.ensures.deeper.0, c.in_ok-inner-in-Some-Sign-Open-default.ensures.deeper.1)) c.in_ok-inside-in-Some-Sign-Open-default.ensures.reads)) (expected c.args.text.now c.args.depth CloseToken (LevelPart ∷ []) (class.Sign mark.Close) c.in_ok-inside-in-Some-Sign-Open-default.rest.now c.in_ok-rest-in-Some-Sign-Open-default.rest.now (λ s l. omega (arith, l, c.requires.1.1.0, c.in_ok-inner-in-Some-Sign-Open-default.ensures.deeper.0, c.in_ok-inner-in-Some-Sign-Open-default.ensures.deeper.1)) refl c.in_ok-rest-in-Some-Sign-Open-default.ensures.first)) (level_ends c.args.text.now c.args.depth [] c.in_ok-rest-in-Some-Sign-Open-default.rest.now))
+
+pub read_factor-returns-in_err-name-in-Some-Name-default-clause-stops : goal.read_factor-returns-in_err-name-in-Some-Name-default-clause-stops
+read_factor-returns-in_err-name-in-Some-Name-default-clause-stops t c =
+    let p = err_from_is_err_and c.from_residual-in_err-name-in-Some-Name-default.result c.from_residual-in_err-name-in-Some-Name-default.ensures.1 in rw (p.1, p.2) (only_memory c.args.text.now c.args.depth (ExpressionPart factors ∷ []) c.args.input.now _ _ (first_of _ class.Name c.args.input.now c.in-Some-Name-default.field-0-1.now c.in-Some-Name-default.field-0-0-is c.in-Some-Name-default.ensures.first.0) c.in_err-name-in-Some-Name-default.ensures.stop)
+
+pub read_factor-returns-in_default-clause-stops : goal.read_factor-returns-in_default-clause-stops
+read_factor-returns-in_default-clause-stops t c = let a : leads_factor (terminals c.args.text.now c.args.input.now) ≡ false = search rules in no_factor c.args.text.now c.args.depth c.args.input.now a

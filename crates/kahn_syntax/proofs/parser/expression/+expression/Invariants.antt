@@ -1,8 +1,10 @@
-use Rattle.std.proofs.Common.{◌≡◌, ◌≤◌, ◌<◌, ◌+◌, ◌*◌, length, max}
-use Rattle.kahn_syntax.specs.Terminals.{terminals}
+use Rattle.std.proofs.Common.{◌≡◌, ◌≤◌, ◌<◌, ◌+◌, ◌*◌, [], ◌∷◌, length, max}
+use Rattle.kahn_syntax.specs.Terminals.{terminals, AreProper}
 use Rattle.kahn_syntax.specs.Trees.{expression_words, operands_words, expression_nesting, operands_nesting, FormedOperands}
 use Rattle.kahn_syntax.specs.Drawn.{expression_of, operands_of}
-use Rattle.kahn_syntax.specs.Reads.{rank_of}
+use Rattle.kahn_syntax.specs.Reads.{rank_of, Moves}
+use Rattle.kahn_syntax.specs.Rungs.{rung_of}
+use Rattle.kahn_syntax.specs.Machine.{ExpressionPart, OperatorsPart}
 use Rattle.kahn_syntax.proofs.Levels.{height}
 use Rattle.kahn_syntax.proofs.parser.expression.+expression.Given as goal
 
@@ -30,6 +32,8 @@ invariant-read_level-operands l = record {
   formed : FormedOperands (rank_of l.level) (operands_of l.further.items);
   nesting : l.depth + max (expression_nesting (expression_of l.first)) (operands_nesting (operands_of l.further.items)) ≤ 64;
   shorter : length l.rest < length l.input;
+  proper : AreProper l.text l.rest;
+  reads : Moves l.text l.depth (ExpressionPart (rung_of l.level) ∷ []) (OperatorsPart (rung_of l.level) ∷ []) l.input l.rest;
 }
 
 abbrev pub decreases-read_level-operands : goal.decreases-read_level-operands

@@ -1,15 +1,59 @@
-use Rattle.std.proofs.Common.{ap, ◌∙◌, arith}
-use Rattle.kahn_syntax.specs.declared.lexeme.Class.TheVariants as class
+use Rattle.std.proofs.Common.{rules, true, ◌≢◌, map, ◌≡◌, false, refl, [], ◌∷◌, arith, sym, ap, ◌∙◌, subst}
+use Rattle.std.proofs.lemmas.Result.{err_from_is_err_and}
+use Rattle.kahn_syntax.specs.declared.lexeme.Keyword.TheVariants as keyword
 use Rattle.kahn_syntax.specs.declared.lexeme.Sign.TheVariants as mark
-use Rattle.kahn_syntax.proofs.Lists.{first_of}
-use Rattle.kahn_syntax.proofs.Instanced.{arguments_next}
+use Rattle.kahn_syntax.specs.declared.lexeme.Class.TheVariants as class
+use Rattle.kahn_syntax.specs.Terminals.{word, sign, name, terminals}
+use Rattle.kahn_syntax.specs.Rungs.{whole, ors, denials, relations, sums, factors, rung_of, tighter}
+use Rattle.kahn_syntax.specs.Machine.{BecomesToken, BeginToken, ChannelToken, CloseToken, CommaToken, DoToken, ElseToken, EndToken, IfToken, NameToken, NotToken, NumberToken, OnToken, OpenToken, ParToken, ProcessToken, SemicolonToken, ThenToken, NamesTail, StatementsTail, GroupsTail, ArgumentsTail, InstancesTail, ElseTail, LastTail, ProgramPart, DeclarationsPart, DeclarationPart, ProcessPart, RolePart, GroupsPart, GroupPart, TakingPart, VariablesPart, StatementPart, SimplePart, ExpressionPart, OperatorsPart, InstancePart, ArgumentsPart, ArgumentPart, TailPart, TokenPart, LevelPart}
+use Rattle.kahn_syntax.specs.Drawn.{name_of, expression_of, statement_of}
+use Rattle.kahn_syntax.proofs.Moves.{opens_arguments, no_program, no_instance, leads_argument, no_argument, memory_alone, only_memory, whole_end, halts, then, then_stops, call, call_stops, call_two, call_two_stops, one, deep, token, expected, goes, ends, level_ends, absent, unexpected, no_name, no_memory}
+use Rattle.std.proofs.Common.{◌++◌}
+use Rattle.kahn_syntax.proofs.Instanced.{arguments_next, arguments_first}
 use Rattle.kahn_syntax.proofs.parser.program.read_arguments.Goals as goal
+
+pub returns-in-Some-clause-proper : goal.returns-in-Some-clause-proper
+returns-in-Some-clause-proper c = c.in-Some.ensures.proper c.args.text.now c.requires.proper
+
+pub returns-in-Some-clause-reads : goal.returns-in-Some-clause-reads
+returns-in-Some-clause-reads c = (one c.args.text.now 0 (ArgumentsPart) ([]) ([]) (sign mark.Close) c.args.input.now c.in-Some.rest.now (λ s l. omega (arith, l)) (λ s. refl) (c.in-Some.ensures.first.1 c.args.text.now))
+
+pub returns-in_err-first-clause-stops : goal.returns-in_err-first-clause-stops
+returns-in_err-first-clause-stops c =
+    let p = err_from_is_err_and c.from_residual.result c.from_residual.ensures.1 in rw (p.1, p.2) (then_stops c.args.text.now 0 (ArgumentsPart ∷ []) (ArgumentPart ∷ TailPart ArgumentsTail ∷ TokenPart CloseToken ∷ []) c.args.input.now c.args.input.now _ (opens_arguments c.args.text.now [] c.args.input.now c.in_default.ensures.absent) (call_stops c.args.text.now 0 0 (ArgumentPart) (TailPart ArgumentsTail ∷ TokenPart CloseToken ∷ []) c.args.input.now _ (λ s l. omega (arith, l)) c.in_err-first.ensures.stops))
+
+pub read_argument-requires-in-Some-past : goal.read_argument-requires-in-Some-past
+read_argument-requires-in-Some-past c = record { proper = c.in-Some-past.ensures.proper c.args.text.now c.arguments.invariant.proper }
+
+pub returns-in_err-argument-clause-stops : goal.returns-in_err-argument-clause-stops
+returns-in_err-argument-clause-stops c =
+    let p = err_from_is_err_and c.from_residual-in_err-argument.result c.from_residual-in_err-argument.ensures.1 in rw (p.1, p.2) (then_stops c.args.text.now 0 (ArgumentsPart ∷ []) (ArgumentPart ∷ TailPart ArgumentsTail ∷ TokenPart CloseToken ∷ []) c.args.input.now c.in-Some-past.after.now _ (then c.args.text.now 0 (ArgumentsPart ∷ []) (TailPart ArgumentsTail ∷ TokenPart CloseToken ∷ []) (ArgumentPart ∷ TailPart ArgumentsTail ∷ TokenPart CloseToken ∷ []) c.args.input.now c.arguments.rest.now c.in-Some-past.after.now (c.arguments.invariant.reads) (goes c.args.text.now 0 ArgumentsTail (TokenPart CloseToken ∷ []) (class.Sign mark.Comma) c.arguments.rest.now c.in-Some-past.after.now (λ s l. omega (arith, l)) refl c.in-Some-past.ensures.first)) (call_stops c.args.text.now 0 0 (ArgumentPart) (TailPart ArgumentsTail ∷ TokenPart CloseToken ∷ []) c.in-Some-past.after.now _ (λ s l. omega (arith, l)) c.in_err-argument.ensures.stops))
+
+pub arguments-init : goal.arguments-init
+arguments-init c =
+    record {
+      words = arguments_first _ c.in_ok-first.first _ _ (c.in_ok-push.ensures.items ∙ ap (λ xs. xs ++ c.in_ok-first.first ∷ []) c.new-arguments.ensures.items) c.in_ok-first.ensures.words;
+      shorter = c.in_ok-first.ensures.shorter;
+      proper = c.in_ok-first.ensures.proper;
+      reads = (then c.args.text.now 0 (ArgumentsPart ∷ []) (ArgumentPart ∷ TailPart ArgumentsTail ∷ TokenPart CloseToken ∷ []) (TailPart ArgumentsTail ∷ TokenPart CloseToken ∷ []) c.args.input.now c.args.input.now c.in_ok-first.rest.now (opens_arguments c.args.text.now [] c.args.input.now c.in_default.ensures.absent) (call c.args.text.now 0 0 (ArgumentPart) (TailPart ArgumentsTail ∷ TokenPart CloseToken ∷ []) c.args.input.now c.in_ok-first.rest.now (λ s l. omega (arith, l)) c.in_ok-first.ensures.reads));
+    }
 
 pub arguments-preserved : goal.arguments-preserved
 arguments-preserved c =
-    let m = c.in-Some-Sign-Comma-default in
-    let f = first_of _ (class.Sign mark.Comma) c.arguments.rest.now m.after.now (m.field-0-0-is ∙ ap class.Sign m.field-0-0-0-is) m.ensures.0 in
     record {
-      words = arguments_next _ _ _ _ _ _ _ c.in_ok-push-2.ensures.items c.arguments.invariant.words (f.1 c.args.text.now) c.in_ok-argument.ensures.words;
-      shorter = omega (arith, m.ensures.1, c.in_ok-argument.ensures.shorter, c.arguments.invariant.shorter);
+      words = arguments_next _ _ _ _ _ _ _ c.in_ok-push-2.ensures.items c.arguments.invariant.words (c.in-Some-past.ensures.first.1 c.args.text.now) c.in_ok-argument.ensures.words;
+      shorter = omega (arith, c.in-Some-past.ensures.shorter, c.in_ok-argument.ensures.shorter, c.arguments.invariant.shorter);
+      proper = c.in_ok-argument.ensures.proper;
+      reads = (then c.args.text.now 0 (ArgumentsPart ∷ []) (ArgumentPart ∷ TailPart ArgumentsTail ∷ TokenPart CloseToken ∷ []) (TailPart ArgumentsTail ∷ TokenPart CloseToken ∷ []) c.args.input.now c.in-Some-past.after.now c.in_ok-argument.left.now (then c.args.text.now 0 (ArgumentsPart ∷ []) (TailPart ArgumentsTail ∷ TokenPart CloseToken ∷ []) (ArgumentPart ∷ TailPart ArgumentsTail ∷ TokenPart CloseToken ∷ []) c.args.input.now c.arguments.rest.now c.in-Some-past.after.now (c.arguments.invariant.reads) (goes c.args.text.now 0 ArgumentsTail (TokenPart CloseToken ∷ []) (class.Sign mark.Comma) c.arguments.rest.now c.in-Some-past.after.now (λ s l. omega (arith, l)) refl c.in-Some-past.ensures.first)) (call c.args.text.now 0 0 (ArgumentPart) (TailPart ArgumentsTail ∷ TokenPart CloseToken ∷ []) c.in-Some-past.after.now c.in_ok-argument.left.now (λ s l. omega (arith, l)) c.in_ok-argument.ensures.reads));
     }
+
+pub returns-in_err-rest-clause-stops : goal.returns-in_err-rest-clause-stops
+returns-in_err-rest-clause-stops c =
+    let p = err_from_is_err_and c.from_residual-in_err-rest.result c.from_residual-in_err-rest.ensures.1 in rw (p.1, p.2) (then_stops c.args.text.now 0 (ArgumentsPart ∷ []) (TokenPart CloseToken ∷ []) c.args.input.now c.arguments.rest.now _ (then c.args.text.now 0 (ArgumentsPart ∷ []) (TailPart ArgumentsTail ∷ TokenPart CloseToken ∷ []) (TokenPart CloseToken ∷ []) c.args.input.now c.arguments.rest.now c.arguments.rest.now (c.arguments.invariant.reads) (ends c.args.text.now 0 ArgumentsTail (TokenPart CloseToken ∷ []) (class.Sign mark.Comma) c.arguments.rest.now refl c.in_default-past.ensures.absent)) (unexpected c.args.text.now 0 CloseToken ([]) (class.Sign mark.Close) c.arguments.rest.now _ refl c.in_err-rest.ensures.stop))
+
+pub returns-clause-proper : goal.returns-clause-proper
+returns-clause-proper c = c.in_ok-rest.ensures.proper c.args.text.now c.arguments.invariant.proper
+
+pub returns-clause-reads : goal.returns-clause-reads
+returns-clause-reads c = (then c.args.text.now 0 (ArgumentsPart ∷ []) (TokenPart CloseToken ∷ []) ([]) c.args.input.now c.arguments.rest.now c.in_ok-rest.rest.now (then c.args.text.now 0 (ArgumentsPart ∷ []) (TailPart ArgumentsTail ∷ TokenPart CloseToken ∷ []) (TokenPart CloseToken ∷ []) c.args.input.now c.arguments.rest.now c.arguments.rest.now (c.arguments.invariant.reads) (ends c.args.text.now 0 ArgumentsTail (TokenPart CloseToken ∷ []) (class.Sign mark.Comma) c.arguments.rest.now refl c.in_default-past.ensures.absent)) (expected c.args.text.now 0 CloseToken ([]) (class.Sign mark.Close) c.arguments.rest.now c.in_ok-rest.rest.now (λ s l. omega (arith, l)) refl c.in_ok-rest.ensures.first))
+

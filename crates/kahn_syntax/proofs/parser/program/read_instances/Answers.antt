@@ -1,15 +1,46 @@
-use Rattle.std.proofs.Common.{ap, ◌∙◌, arith}
-use Rattle.kahn_syntax.specs.declared.lexeme.Class.TheVariants as class
+use Rattle.std.proofs.Common.{rules, true, ◌≢◌, map, ◌≡◌, false, refl, [], ◌∷◌, arith, sym, ap, ◌∙◌, subst}
+use Rattle.std.proofs.lemmas.Result.{err_from_is_err_and}
 use Rattle.kahn_syntax.specs.declared.lexeme.Keyword.TheVariants as keyword
-use Rattle.kahn_syntax.proofs.Lists.{first_of}
-use Rattle.kahn_syntax.proofs.Instanced.{instances_next}
+use Rattle.kahn_syntax.specs.declared.lexeme.Sign.TheVariants as mark
+use Rattle.kahn_syntax.specs.declared.lexeme.Class.TheVariants as class
+use Rattle.kahn_syntax.specs.Terminals.{word, sign, name, terminals}
+use Rattle.kahn_syntax.specs.Rungs.{whole, ors, denials, relations, sums, factors, rung_of, tighter}
+use Rattle.kahn_syntax.specs.Machine.{BecomesToken, BeginToken, ChannelToken, CloseToken, CommaToken, DoToken, ElseToken, EndToken, IfToken, NameToken, NotToken, NumberToken, OnToken, OpenToken, ParToken, ProcessToken, SemicolonToken, ThenToken, NamesTail, StatementsTail, GroupsTail, ArgumentsTail, InstancesTail, ElseTail, LastTail, ProgramPart, DeclarationsPart, DeclarationPart, ProcessPart, RolePart, GroupsPart, GroupPart, TakingPart, VariablesPart, StatementPart, SimplePart, ExpressionPart, OperatorsPart, InstancePart, ArgumentsPart, ArgumentPart, TailPart, TokenPart, LevelPart}
+use Rattle.kahn_syntax.specs.Drawn.{name_of, expression_of, statement_of}
+use Rattle.kahn_syntax.proofs.Moves.{opens_arguments, no_program, no_instance, leads_argument, no_argument, memory_alone, only_memory, whole_end, halts, then, then_stops, call, call_stops, call_two, call_two_stops, one, deep, token, expected, goes, ends, level_ends, absent, unexpected, no_name, no_memory}
+use Rattle.std.proofs.Common.{◌++◌}
+use Rattle.kahn_syntax.proofs.Instanced.{instances_next, instances_first}
 use Rattle.kahn_syntax.proofs.parser.program.read_instances.Goals as goal
+
+pub returns-in_err-first-clause-stops : goal.returns-in_err-first-clause-stops
+returns-in_err-first-clause-stops c =
+    let p = err_from_is_err_and c.from_residual.result c.from_residual.ensures.1 in rw (p.1, p.2) (call_stops c.args.text.now 0 0 (InstancePart) (TailPart InstancesTail ∷ []) c.args.input.now _ (λ s l. omega (arith, l)) c.in_err-first.ensures.stops)
+
+pub read_instance-requires-in-Some : goal.read_instance-requires-in-Some
+read_instance-requires-in-Some c = record { proper = c.in-Some.ensures.proper c.args.text.now c.instances.invariant.proper }
+
+pub returns-in_err-instance-clause-stops : goal.returns-in_err-instance-clause-stops
+returns-in_err-instance-clause-stops c =
+    let p = err_from_is_err_and c.from_residual-in_err-instance.result c.from_residual-in_err-instance.ensures.1 in rw (p.1, p.2) (then_stops c.args.text.now 0 (InstancePart ∷ TailPart InstancesTail ∷ []) (InstancePart ∷ TailPart InstancesTail ∷ []) c.args.input.now c.in-Some.after.now _ (then c.args.text.now 0 (InstancePart ∷ TailPart InstancesTail ∷ []) (TailPart InstancesTail ∷ []) (InstancePart ∷ TailPart InstancesTail ∷ []) c.args.input.now c.instances.rest.now c.in-Some.after.now (c.instances.invariant.reads) (goes c.args.text.now 0 InstancesTail ([]) (class.Word keyword.Par) c.instances.rest.now c.in-Some.after.now (λ s l. omega (arith, l)) refl c.in-Some.ensures.first)) (call_stops c.args.text.now 0 0 (InstancePart) (TailPart InstancesTail ∷ []) c.in-Some.after.now _ (λ s l. omega (arith, l)) c.in_err-instance.ensures.stops))
+
+pub instances-init : goal.instances-init
+instances-init c =
+    record {
+      words = instances_first _ c.in_ok-first.first _ _ (c.in_ok-push.ensures.items ∙ ap (λ xs. xs ++ c.in_ok-first.first ∷ []) c.new-instances.ensures.items) c.in_ok-first.ensures.words;
+      shorter = c.in_ok-first.ensures.shorter;
+      proper = c.in_ok-first.ensures.proper;
+      reads = (call c.args.text.now 0 0 (InstancePart) (TailPart InstancesTail ∷ []) c.args.input.now c.in_ok-first.rest.now (λ s l. omega (arith, l)) c.in_ok-first.ensures.reads);
+    }
 
 pub instances-preserved : goal.instances-preserved
 instances-preserved c =
-    let m = c.in-Some-Word-Par-default in
-    let f = first_of _ (class.Word keyword.Par) c.instances.rest.now m.after.now (m.field-0-0-is ∙ ap class.Word m.field-0-0-0-is) m.ensures.0 in
     record {
-      words = instances_next _ _ _ _ _ _ _ c.in_ok-push-2.ensures.items c.instances.invariant.words (f.1 c.args.text.now) c.in_ok-instance.ensures.words;
-      shorter = omega (arith, m.ensures.1, c.in_ok-instance.ensures.shorter, c.instances.invariant.shorter);
+      words = instances_next _ _ _ _ _ _ _ c.in_ok-push-2.ensures.items c.instances.invariant.words (c.in-Some.ensures.first.1 c.args.text.now) c.in_ok-instance.ensures.words;
+      shorter = omega (arith, c.in-Some.ensures.shorter, c.in_ok-instance.ensures.shorter, c.instances.invariant.shorter);
+      proper = c.in_ok-instance.ensures.proper;
+      reads = (then c.args.text.now 0 (InstancePart ∷ TailPart InstancesTail ∷ []) (InstancePart ∷ TailPart InstancesTail ∷ []) (TailPart InstancesTail ∷ []) c.args.input.now c.in-Some.after.now c.in_ok-instance.left.now (then c.args.text.now 0 (InstancePart ∷ TailPart InstancesTail ∷ []) (TailPart InstancesTail ∷ []) (InstancePart ∷ TailPart InstancesTail ∷ []) c.args.input.now c.instances.rest.now c.in-Some.after.now (c.instances.invariant.reads) (goes c.args.text.now 0 InstancesTail ([]) (class.Word keyword.Par) c.instances.rest.now c.in-Some.after.now (λ s l. omega (arith, l)) refl c.in-Some.ensures.first)) (call c.args.text.now 0 0 (InstancePart) (TailPart InstancesTail ∷ []) c.in-Some.after.now c.in_ok-instance.left.now (λ s l. omega (arith, l)) c.in_ok-instance.ensures.reads));
     }
+
+pub returns-clause-reads : goal.returns-clause-reads
+returns-clause-reads c = (then c.args.text.now 0 (InstancePart ∷ TailPart InstancesTail ∷ []) (TailPart InstancesTail ∷ []) ([]) c.args.input.now c.instances.rest.now c.instances.rest.now (c.instances.invariant.reads) (ends c.args.text.now 0 InstancesTail ([]) (class.Word keyword.Par) c.instances.rest.now refl c.in_default.ensures.absent))
+

@@ -1,5 +1,5 @@
-use Rattle.std.proofs.Common.{◌-◌, ◌<◌, length, get_or, refl, arith}
-use Rattle.std.proofs.lemmas.List.{get_or_default}
+use Rattle.std.proofs.Common.{◌≡◌, ◌+◌, ◌-◌, ◌<◌, ◌++◌, ◌∷◌, length, take, drop, get_or, refl, sym, ap, ◌∙◌, arith, length-drop}
+use Rattle.std.proofs.lemmas.List.{take-append-drop, drop_more}
 use Rattle.kahn_syntax.proofs.parser.program.span_at.Goals as goal
 
 pub returns : goal.returns
@@ -7,4 +7,4 @@ returns c =
     let xs = c.args.lexemes.now in
     let i = length xs - c.args.left in
     let low : i < length xs = omega (arith, c.requires.some, c.requires.in_range) in
-    (get_or xs i _, (i, low, get_or_default xs i _ _ low), refl)
+    (take i xs, get_or xs i _, drop (i + 1) xs, sym (take-append-drop i xs) ∙ ap (λ y. take i xs ++ y) (drop_more xs i _ low), refl, omega (arith, length-drop (i + 1) xs, low))

@@ -1,18 +1,175 @@
-use Rattle.std.proofs.Common.{ap, ◌∙◌, arith}
-use Rattle.kahn_syntax.specs.declared.lexeme.Class.TheVariants as class
+use Rattle.std.proofs.Common.{rules, ◌≡◌, false, refl, [], ◌∷◌, arith, sym, ap, ◌∙◌, subst}
+use Rattle.std.proofs.lemmas.Result.{err_from_is_err_and}
+use Rattle.kahn_syntax.specs.declared.lexeme.Keyword.TheVariants as keyword
 use Rattle.kahn_syntax.specs.declared.lexeme.Sign.TheVariants as mark
+use Rattle.kahn_syntax.specs.declared.lexeme.Class.TheVariants as class
+use Rattle.kahn_syntax.specs.Terminals.{word, sign, name, terminals}
+use Rattle.kahn_syntax.specs.Rungs.{whole, ors, denials, relations, sums, factors, rung_of, tighter}
+use Rattle.kahn_syntax.specs.Machine.{leads, BecomesToken, BeginToken, ChannelToken, CloseToken, CommaToken, DoToken, ElseToken, EndToken, IfToken, NameToken, NotToken, NumberToken, OnToken, OpenToken, ParToken, ProcessToken, SemicolonToken, ThenToken, NamesTail, StatementsTail, GroupsTail, ArgumentsTail, InstancesTail, ElseTail, LastTail, ProgramPart, DeclarationsPart, DeclarationPart, ProcessPart, RolePart, GroupsPart, GroupPart, TakingPart, VariablesPart, StatementPart, SimplePart, ExpressionPart, OperatorsPart, InstancePart, ArgumentsPart, ArgumentPart, TailPart, TokenPart, LevelPart}
+use Rattle.kahn_syntax.specs.Drawn.{name_of, expression_of, statement_of}
+use Rattle.kahn_syntax.proofs.Moves.{memory_alone, leads_statement, opens_simple, leads_simple, simple_ends, reads_by, stops_by, then, then_stops, call, call_stops, call_two, call_two_stops, one, deep, token, expected, goes, ends, level_ends, absent, unexpected, no_name, no_memory}
 use Rattle.kahn_syntax.proofs.Lists.{first_of}
 use Rattle.kahn_syntax.proofs.Statements.{statements_words_next, formed_next, some_next, nesting_next}
 use Rattle.kahn_syntax.proofs.parser.statement.+statement.Goals as goal
 
+pub read_statements-returns-in_err-first-clause-stops : goal.read_statements-returns-in_err-first-clause-stops
+read_statements-returns-in_err-first-clause-stops t c =
+    let p = err_from_is_err_and c.from_residual.result c.from_residual.ensures.1 in rw (p.1, p.2) (call_stops c.args.text.now c.args.depth c.args.depth (StatementPart) (TailPart StatementsTail ∷ []) c.args.input.now _ (λ s l. omega (arith, l, c.requires.1.1.0)) c.in_err-first.ensures.stops)
+
+pub read_statements-read_statement-requires-in-Some : goal.read_statements-read_statement-requires-in-Some
+read_statements-read_statement-requires-in-Some t c = (omega (arith, c.requires.1.0, c.in-Some.ensures.shorter, c.statements.invariant.shorter), (c.requires.1.1.0, c.in-Some.ensures.proper c.args.text.now c.statements.invariant.proper))
+
+pub read_statements-returns-in_err-statement-clause-stops : goal.read_statements-returns-in_err-statement-clause-stops
+read_statements-returns-in_err-statement-clause-stops t c =
+    let p = err_from_is_err_and c.from_residual-in_err-statement.result c.from_residual-in_err-statement.ensures.1 in rw (p.1, p.2) (then_stops c.args.text.now c.args.depth (StatementPart ∷ TailPart StatementsTail ∷ []) (StatementPart ∷ TailPart StatementsTail ∷ []) c.args.input.now c.in-Some.after.now _ (then c.args.text.now c.args.depth (StatementPart ∷ TailPart StatementsTail ∷ []) (TailPart StatementsTail ∷ []) (StatementPart ∷ TailPart StatementsTail ∷ []) c.args.input.now c.statements.rest.now c.in-Some.after.now (c.statements.invariant.reads) (goes c.args.text.now c.args.depth StatementsTail ([]) (class.Sign mark.Semicolon) c.statements.rest.now c.in-Some.after.now (λ s l. omega (arith, l, c.requires.1.1.0)) refl c.in-Some.ensures.first)) (call_stops c.args.text.now c.args.depth c.args.depth (StatementPart) (TailPart StatementsTail ∷ []) c.in-Some.after.now _ (λ s l. omega (arith, l, c.requires.1.1.0)) c.in_err-statement.ensures.stops))
+
+pub read_statements-statements-init : goal.read_statements-statements-init
+read_statements-statements-init t c =
+    record {
+      words = search rules;
+      formed = search rules;
+      some = search rules;
+      nesting = search rules;
+      shorter = c.in_ok-first.ensures.shorter;
+      proper = c.in_ok-first.ensures.proper;
+      reads = (call c.args.text.now c.args.depth c.args.depth (StatementPart) (TailPart StatementsTail ∷ []) c.args.input.now c.in_ok-first.rest.now (λ s l. omega (arith, l, c.requires.1.1.0)) c.in_ok-first.ensures.reads);
+    }
+
 pub read_statements-statements-preserved : goal.read_statements-statements-preserved
 read_statements-statements-preserved t c =
-    let m = c.in-Some-Sign-Semicolon-default in
-    let f = first_of _ (class.Sign mark.Semicolon) c.statements.rest.now m.after.now (m.field-0-0-is ∙ ap class.Sign m.field-0-0-0-is) m.ensures.0 in
     record {
-      words = statements_words_next _ _ _ _ _ _ _ c.in_ok-push-2.ensures.items c.statements.invariant.some c.statements.invariant.words (f.1 c.args.text.now) c.in_ok-statement.ensures.words;
+      words = statements_words_next _ _ _ _ _ _ _ c.in_ok-push-2.ensures.items c.statements.invariant.some c.statements.invariant.words (c.in-Some.ensures.first.1 c.args.text.now) c.in_ok-statement.ensures.words;
       formed = formed_next _ _ _ c.in_ok-push-2.ensures.items c.statements.invariant.formed c.in_ok-statement.ensures.formed;
       some = some_next _ _ _ c.in_ok-push-2.ensures.items;
       nesting = nesting_next _ _ _ _ c.in_ok-push-2.ensures.items c.statements.invariant.nesting c.in_ok-statement.ensures.nesting;
-      shorter = omega (arith, m.ensures.1, c.in_ok-statement.ensures.shorter, c.statements.invariant.shorter);
+      shorter = omega (arith, c.in-Some.ensures.shorter, c.in_ok-statement.ensures.shorter, c.statements.invariant.shorter);
+      proper = c.in_ok-statement.ensures.proper;
+      reads = (then c.args.text.now c.args.depth (StatementPart ∷ TailPart StatementsTail ∷ []) (StatementPart ∷ TailPart StatementsTail ∷ []) (TailPart StatementsTail ∷ []) c.args.input.now c.in-Some.after.now c.in_ok-statement.left.now (then c.args.text.now c.args.depth (StatementPart ∷ TailPart StatementsTail ∷ []) (TailPart StatementsTail ∷ []) (StatementPart ∷ TailPart StatementsTail ∷ []) c.args.input.now c.statements.rest.now c.in-Some.after.now (c.statements.invariant.reads) (goes c.args.text.now c.args.depth StatementsTail ([]) (class.Sign mark.Semicolon) c.statements.rest.now c.in-Some.after.now (λ s l. omega (arith, l, c.requires.1.1.0)) refl c.in-Some.ensures.first)) (call c.args.text.now c.args.depth c.args.depth (StatementPart) (TailPart StatementsTail ∷ []) c.in-Some.after.now c.in_ok-statement.left.now (λ s l. omega (arith, l, c.requires.1.1.0)) c.in_ok-statement.ensures.reads));
     }
+
+pub read_statements-returns-clause-reads : goal.read_statements-returns-clause-reads
+read_statements-returns-clause-reads t c = (then c.args.text.now c.args.depth (StatementPart ∷ TailPart StatementsTail ∷ []) (TailPart StatementsTail ∷ []) ([]) c.args.input.now c.statements.rest.now c.statements.rest.now (c.statements.invariant.reads) (ends c.args.text.now c.args.depth StatementsTail ([]) (class.Sign mark.Semicolon) c.statements.rest.now refl c.in_default.ensures.absent))
+
+pub read_statement-read_if-requires : goal.read_statement-read_if-requires
+read_statement-read_if-requires t c = (omega (arith, c.requires.1.0, c.in-Some-Word-If-default.ensures.first.1), ((first_of _ (class.Word keyword.If) c.args.input.now c.in-Some-Word-If-default.rest.now (c.in-Some-Word-If-default.field-0-0-is ∙ ap class.Word c.in-Some-Word-If-default.field-0-0-0-is) c.in-Some-Word-If-default.ensures.first.0), (c.in-Some-Word-If-default.ensures.first.1, (c.requires.1.1.0, c.in-Some-Word-If-default.ensures.proper c.args.text.now c.requires.1.1.1))))
+
+pub read_statement-returns-in_err-inner-in-Some-Word-While-default-clause-stops : goal.read_statement-returns-in_err-inner-in-Some-Word-While-default-clause-stops
+read_statement-returns-in_err-inner-in-Some-Word-While-default-clause-stops t c =
+    let p = err_from_is_err_and c.from_residual.result c.from_residual.ensures.1 in rw (p.1, p.2) (deep c.args.text.now c.args.depth (StatementPart) ([]) (ExpressionPart whole ∷ TokenPart DoToken ∷ StatementPart ∷ LevelPart ∷ []) (word keyword.While) c.args.input.now c.in-Some-Word-While-default.rest.now _ (λ s l. omega (arith, l, c.in_err-inner-in-Some-Word-While-default.ensures.stop.0)) (λ s. refl) ((first_of _ (class.Word keyword.While) c.args.input.now c.in-Some-Word-While-default.rest.now (c.in-Some-Word-While-default.field-0-0-is ∙ ap class.Word c.in-Some-Word-While-default.field-0-0-0-is) c.in-Some-Word-While-default.ensures.first.0).1 c.args.text.now) c.in_err-inner-in-Some-Word-While-default.ensures.stop.1)
+
+pub read_statement-read_expression-requires-clause-proper : goal.read_statement-read_expression-requires-clause-proper
+read_statement-read_expression-requires-clause-proper t c = c.in-Some-Word-While-default.ensures.proper c.args.text.now c.requires.1.1.1
+
+pub read_statement-returns-in_err-test-in-Some-Word-While-default-clause-stops : goal.read_statement-returns-in_err-test-in-Some-Word-While-default-clause-stops
+read_statement-returns-in_err-test-in-Some-Word-While-default-clause-stops t c =
+    let p = err_from_is_err_and c.from_residual-in_err-test-in-Some-Word-While-default.result c.from_residual-in_err-test-in-Some-Word-While-default.ensures.1 in rw (p.1, p.2) (then_stops c.args.text.now c.args.depth (StatementPart ∷ []) (ExpressionPart whole ∷ TokenPart DoToken ∷ StatementPart ∷ LevelPart ∷ []) c.args.input.now c.in-Some-Word-While-default.rest.now _ (one c.args.text.now c.args.depth (StatementPart) ([]) (ExpressionPart whole ∷ TokenPart DoToken ∷ StatementPart ∷ LevelPart ∷ []) (word keyword.While) c.args.input.now c.in-Some-Word-While-default.rest.now (λ s l. omega (arith, l, c.requires.1.1.0, c.in_ok-inner-in-Some-Word-While-default.ensures.deeper.0, c.in_ok-inner-in-Some-Word-While-default.ensures.deeper.1)) (λ s. refl) ((first_of _ (class.Word keyword.While) c.args.input.now c.in-Some-Word-While-default.rest.now (c.in-Some-Word-While-default.field-0-0-is ∙ ap class.Word c.in-Some-Word-While-default.field-0-0-0-is) c.in-Some-Word-While-default.ensures.first.0).1 c.args.text.now)) (call_stops c.args.text.now c.args.depth c.in_ok-inner-in-Some-Word-While-default.inner (ExpressionPart whole) (TokenPart DoToken ∷ StatementPart ∷ LevelPart ∷ []) c.in-Some-Word-While-default.rest.now _ (λ s l. omega (arith, l, c.requires.1.1.0, c.in_ok-inner-in-Some-Word-While-default.ensures.deeper.0, c.in_ok-inner-in-Some-Word-While-default.ensures.deeper.1)) c.in_err-test-in-Some-Word-While-default.ensures.stops))
+
+pub read_statement-returns-in_err-rest-in-Some-Word-While-default-clause-stops : goal.read_statement-returns-in_err-rest-in-Some-Word-While-default-clause-stops
+read_statement-returns-in_err-rest-in-Some-Word-While-default-clause-stops t c =
+    let p = err_from_is_err_and c.from_residual-in_err-rest-in-Some-Word-While-default.result c.from_residual-in_err-rest-in-Some-Word-While-default.ensures.1 in rw (p.1, p.2) (then_stops c.args.text.now c.args.depth (StatementPart ∷ []) (TokenPart DoToken ∷ StatementPart ∷ LevelPart ∷ []) c.args.input.now c.in_ok-test-in-Some-Word-While-default.rest.now _ (then c.args.text.now c.args.depth (StatementPart ∷ []) (ExpressionPart whole ∷ TokenPart DoToken ∷ StatementPart ∷ LevelPart ∷ []) (TokenPart DoToken ∷ StatementPart ∷ LevelPart ∷ []) c.args.input.now c.in-Some-Word-While-default.rest.now c.in_ok-test-in-Some-Word-While-default.rest.now (one c.args.text.now c.args.depth (StatementPart) ([]) (ExpressionPart whole ∷ TokenPart DoToken ∷ StatementPart ∷ LevelPart ∷ []) (word keyword.While) c.args.input.now c.in-Some-Word-While-default.rest.now (λ s l. omega (arith, l, c.requires.1.1.0, c.in_ok-inner-in-Some-Word-While-default.ensures.deeper.0, c.in_ok-inner-in-Some-Word-While-default.ensures.deeper.1)) (λ s. refl) ((first_of _ (class.Word keyword.While) c.args.input.now c.in-Some-Word-While-default.rest.now (c.in-Some-Word-While-default.field-0-0-is ∙ ap class.Word c.in-Some-Word-While-default.field-0-0-0-is) c.in-Some-Word-While-default.ensures.first.0).1 c.args.text.now)) (call c.args.text.now c.args.depth c.in_ok-inner-in-Some-Word-While-default.inner (ExpressionPart whole) (TokenPart DoToken ∷ StatementPart ∷ LevelPart ∷ []) c.in-Some-Word-While-default.rest.now c.in_ok-test-in-Some-Word-While-default.rest.now (λ s l. omega (arith, l, c.requires.1.1.0, c.in_ok-inner-in-Some-Word-While-default.ensures.deeper.0, c.in_ok-inner-in-Some-Word-While-default.ensures.deeper.1)) c.in_ok-test-in-Some-Word-While-default.ensures.reads)) (unexpected c.args.text.now c.args.depth DoToken (StatementPart ∷ LevelPart ∷ []) (class.Word keyword.Do) c.in_ok-test-in-Some-Word-While-default.rest.now _ refl c.in_err-rest-in-Some-Word-While-default.ensures.stop))
+
+pub read_statement-read_statement-requires : goal.read_statement-read_statement-requires
+read_statement-read_statement-requires t c = (omega (arith, c.requires.1.0, c.in-Some-Word-While-default.ensures.first.1, c.in_ok-test-in-Some-Word-While-default.ensures.shorter, c.in_ok-rest-in-Some-Word-While-default.ensures.shorter), (c.in_ok-inner-in-Some-Word-While-default.ensures.deeper.1, c.in_ok-rest-in-Some-Word-While-default.ensures.proper c.args.text.now c.in_ok-test-in-Some-Word-While-default.ensures.proper))
+
+pub read_statement-returns-in_err-turn-in-Some-Word-While-default-clause-stops : goal.read_statement-returns-in_err-turn-in-Some-Word-While-default-clause-stops
+read_statement-returns-in_err-turn-in-Some-Word-While-default-clause-stops t c =
+    let p = err_from_is_err_and c.from_residual-in_err-turn-in-Some-Word-While-default.result c.from_residual-in_err-turn-in-Some-Word-While-default.ensures.1 in rw (p.1, p.2) (then_stops c.args.text.now c.args.depth (StatementPart ∷ []) (StatementPart ∷ LevelPart ∷ []) c.args.input.now c.in_ok-rest-in-Some-Word-While-default.rest.now _ (then c.args.text.now c.args.depth (StatementPart ∷ []) (TokenPart DoToken ∷ StatementPart ∷ LevelPart ∷ []) (StatementPart ∷ LevelPart ∷ []) c.args.input.now c.in_ok-test-in-Some-Word-While-default.rest.now c.in_ok-rest-in-Some-Word-While-default.rest.now (then c.args.text.now c.args.depth (StatementPart ∷ []) (ExpressionPart whole ∷ TokenPart DoToken ∷ StatementPart ∷ LevelPart ∷ []) (TokenPart DoToken ∷ StatementPart ∷ LevelPart ∷ []) c.args.input.now c.in-Some-Word-While-default.rest.now c.in_ok-test-in-Some-Word-While-default.rest.now (one c.args.text.now c.args.depth (StatementPart) ([]) (ExpressionPart whole ∷ TokenPart DoToken ∷ StatementPart ∷ LevelPart ∷ []) (word keyword.While) c.args.input.now c.in-Some-Word-While-default.rest.now (λ s l. omega (arith, l, c.requires.1.1.0, c.in_ok-inner-in-Some-Word-While-default.ensures.deeper.0, c.in_ok-inner-in-Some-Word-While-default.ensures.deeper.1)) (λ s. refl) ((first_of _ (class.Word keyword.While) c.args.input.now c.in-Some-Word-While-default.rest.now (c.in-Some-Word-While-default.field-0-0-is ∙ ap class.Word c.in-Some-Word-While-default.field-0-0-0-is) c.in-Some-Word-While-default.ensures.first.0).1 c.args.text.now)) (call c.args.text.now c.args.depth c.in_ok-inner-in-Some-Word-While-default.inner (ExpressionPart whole) (TokenPart DoToken ∷ StatementPart ∷ LevelPart ∷ []) c.in-Some-Word-While-default.rest.now c.in_ok-test-in-Some-Word-While-default.rest.now (λ s l. omega (arith, l, c.requires.1.1.0, c.in_ok-inner-in-Some-Word-While-default.ensures.deeper.0, c.in_ok-inner-in-Some-Word-While-default.ensures.deeper.1)) c.in_ok-test-in-Some-Word-While-default.ensures.reads)) (expected c.args.text.now c.args.depth DoToken (StatementPart ∷ LevelPart ∷ []) (class.Word keyword.Do) c.in_ok-test-in-Some-Word-While-default.rest.now c.in_ok-rest-in-Some-Word-While-default.rest.now (λ s l. omega (arith, l, c.requires.1.1.0, c.in_ok-inner-in-Some-Word-While-default.ensures.deeper.0, c.in_ok-inner-in-Some-Word-While-default.ensures.deeper.1)) refl c.in_ok-rest-in-Some-Word-While-default.ensures.first)) (call_stops c.args.text.now c.args.depth c.in_ok-inner-in-Some-Word-While-default.inner (StatementPart) (LevelPart ∷ []) c.in_ok-rest-in-Some-Word-While-default.rest.now _ (λ s l. omega (arith, l, c.requires.1.1.0, c.in_ok-inner-in-Some-Word-While-default.ensures.deeper.0, c.in_ok-inner-in-Some-Word-While-default.ensures.deeper.1)) c.in_err-turn-in-Some-Word-While-default.ensures.stops))
+
+pub read_statement-returns-in_ok-statement-in-Some-Word-While-default-clause-reads : goal.read_statement-returns-in_ok-statement-in-Some-Word-While-default-clause-reads
+read_statement-returns-in_ok-statement-in-Some-Word-While-default-clause-reads t c = (then c.args.text.now c.args.depth (StatementPart ∷ []) (LevelPart ∷ []) ([]) c.args.input.now c.in_ok-turn-in-Some-Word-While-default.rest.now c.in_ok-turn-in-Some-Word-While-default.rest.now (then c.args.text.now c.args.depth (StatementPart ∷ []) (StatementPart ∷ LevelPart ∷ []) (LevelPart ∷ []) c.args.input.now c.in_ok-rest-in-Some-Word-While-default.rest.now c.in_ok-turn-in-Some-Word-While-default.rest.now (then c.args.text.now c.args.depth (StatementPart ∷ []) (TokenPart DoToken ∷ StatementPart ∷ LevelPart ∷ []) (StatementPart ∷ LevelPart ∷ []) c.args.input.now c.in_ok-test-in-Some-Word-While-default.rest.now c.in_ok-rest-in-Some-Word-While-default.rest.now (then c.args.text.now c.args.depth (StatementPart ∷ []) (ExpressionPart whole ∷ TokenPart DoToken ∷ StatementPart ∷ LevelPart ∷ []) (TokenPart DoToken ∷ StatementPart ∷ LevelPart ∷ []) c.args.input.now c.in-Some-Word-While-default.rest.now c.in_ok-test-in-Some-Word-While-default.rest.now (one c.args.text.now c.args.depth (StatementPart) ([]) (ExpressionPart whole ∷ TokenPart DoToken ∷ StatementPart ∷ LevelPart ∷ []) (word keyword.While) c.args.input.now c.in-Some-Word-While-default.rest.now (λ s l. omega (arith, l, c.requires.1.1.0, c.in_ok-inner-in-Some-Word-While-default.ensures.deeper.0, c.in_ok-inner-in-Some-Word-While-default.ensures.deeper.1)) (λ s. refl) ((first_of _ (class.Word keyword.While) c.args.input.now c.in-Some-Word-While-default.rest.now (c.in-Some-Word-While-default.field-0-0-is ∙ ap class.Word c.in-Some-Word-While-default.field-0-0-0-is) c.in-Some-Word-While-default.ensures.first.0).1 c.args.text.now)) (call c.args.text.now c.args.depth c.in_ok-inner-in-Some-Word-While-default.inner (ExpressionPart whole) (TokenPart DoToken ∷ StatementPart ∷ LevelPart ∷ []) c.in-Some-Word-While-default.rest.now c.in_ok-test-in-Some-Word-While-default.rest.now (λ s l. omega (arith, l, c.requires.1.1.0, c.in_ok-inner-in-Some-Word-While-default.ensures.deeper.0, c.in_ok-inner-in-Some-Word-While-default.ensures.deeper.1)) c.in_ok-test-in-Some-Word-While-default.ensures.reads)) (expected c.args.text.now c.args.depth DoToken (StatementPart ∷ LevelPart ∷ []) (class.Word keyword.Do) c.in_ok-test-in-Some-Word-While-default.rest.now c.in_ok-rest-in-Some-Word-While-default.rest.now (λ s l. omega (arith, l, c.requires.1.1.0, c.in_ok-inner-in-Some-Word-While-default.ensures.deeper.0, c.in_ok-inner-in-Some-Word-While-default.ensures.deeper.1)) refl c.in_ok-rest-in-Some-Word-While-default.ensures.first)) (call c.args.text.now c.args.depth c.in_ok-inner-in-Some-Word-While-default.inner (StatementPart) (LevelPart ∷ []) c.in_ok-rest-in-Some-Word-While-default.rest.now c.in_ok-turn-in-Some-Word-While-default.rest.now (λ s l. omega (arith, l, c.requires.1.1.0, c.in_ok-inner-in-Some-Word-While-default.ensures.deeper.0, c.in_ok-inner-in-Some-Word-While-default.ensures.deeper.1)) c.in_ok-turn-in-Some-Word-While-default.ensures.reads)) (level_ends c.args.text.now c.args.depth [] c.in_ok-turn-in-Some-Word-While-default.rest.now))
+
+pub read_statement-returns-in_err-inner-in-Some-Word-Repeat-default-clause-stops : goal.read_statement-returns-in_err-inner-in-Some-Word-Repeat-default-clause-stops
+read_statement-returns-in_err-inner-in-Some-Word-Repeat-default-clause-stops t c =
+    let p = err_from_is_err_and c.from_residual-in_err-inner-in-Some-Word-Repeat-default.result c.from_residual-in_err-inner-in-Some-Word-Repeat-default.ensures.1 in rw (p.1, p.2) (deep c.args.text.now c.args.depth (StatementPart) ([]) (StatementPart ∷ LevelPart ∷ []) (word keyword.Repeat) c.args.input.now c.in-Some-Word-Repeat-default.rest.now _ (λ s l. omega (arith, l, c.in_err-inner-in-Some-Word-Repeat-default.ensures.stop.0)) (λ s. refl) ((first_of _ (class.Word keyword.Repeat) c.args.input.now c.in-Some-Word-Repeat-default.rest.now (c.in-Some-Word-Repeat-default.field-0-0-is ∙ ap class.Word c.in-Some-Word-Repeat-default.field-0-0-0-is) c.in-Some-Word-Repeat-default.ensures.first.0).1 c.args.text.now) c.in_err-inner-in-Some-Word-Repeat-default.ensures.stop.1)
+
+pub read_statement-read_statement-requires-in-Some-Word-Repeat-default : goal.read_statement-read_statement-requires-in-Some-Word-Repeat-default
+read_statement-read_statement-requires-in-Some-Word-Repeat-default t c = (omega (arith, c.requires.1.0, c.in-Some-Word-Repeat-default.ensures.first.1), (c.in_ok-inner-in-Some-Word-Repeat-default.ensures.deeper.1, c.in-Some-Word-Repeat-default.ensures.proper c.args.text.now c.requires.1.1.1))
+
+pub read_statement-returns-in_err-turn-in-Some-Word-Repeat-default-clause-stops : goal.read_statement-returns-in_err-turn-in-Some-Word-Repeat-default-clause-stops
+read_statement-returns-in_err-turn-in-Some-Word-Repeat-default-clause-stops t c =
+    let p = err_from_is_err_and c.from_residual-in_err-turn-in-Some-Word-Repeat-default.result c.from_residual-in_err-turn-in-Some-Word-Repeat-default.ensures.1 in rw (p.1, p.2) (then_stops c.args.text.now c.args.depth (StatementPart ∷ []) (StatementPart ∷ LevelPart ∷ []) c.args.input.now c.in-Some-Word-Repeat-default.rest.now _ (one c.args.text.now c.args.depth (StatementPart) ([]) (StatementPart ∷ LevelPart ∷ []) (word keyword.Repeat) c.args.input.now c.in-Some-Word-Repeat-default.rest.now (λ s l. omega (arith, l, c.requires.1.1.0, c.in_ok-inner-in-Some-Word-Repeat-default.ensures.deeper.0, c.in_ok-inner-in-Some-Word-Repeat-default.ensures.deeper.1)) (λ s. refl) ((first_of _ (class.Word keyword.Repeat) c.args.input.now c.in-Some-Word-Repeat-default.rest.now (c.in-Some-Word-Repeat-default.field-0-0-is ∙ ap class.Word c.in-Some-Word-Repeat-default.field-0-0-0-is) c.in-Some-Word-Repeat-default.ensures.first.0).1 c.args.text.now)) (call_stops c.args.text.now c.args.depth c.in_ok-inner-in-Some-Word-Repeat-default.inner (StatementPart) (LevelPart ∷ []) c.in-Some-Word-Repeat-default.rest.now _ (λ s l. omega (arith, l, c.requires.1.1.0, c.in_ok-inner-in-Some-Word-Repeat-default.ensures.deeper.0, c.in_ok-inner-in-Some-Word-Repeat-default.ensures.deeper.1)) c.in_err-turn-in-Some-Word-Repeat-default.ensures.stops))
+
+pub read_statement-returns-in_ok-statement-in-Some-Word-Repeat-default-clause-reads : goal.read_statement-returns-in_ok-statement-in-Some-Word-Repeat-default-clause-reads
+read_statement-returns-in_ok-statement-in-Some-Word-Repeat-default-clause-reads t c = (then c.args.text.now c.args.depth (StatementPart ∷ []) (LevelPart ∷ []) ([]) c.args.input.now c.in_ok-turn-in-Some-Word-Repeat-default.rest.now c.in_ok-turn-in-Some-Word-Repeat-default.rest.now (then c.args.text.now c.args.depth (StatementPart ∷ []) (StatementPart ∷ LevelPart ∷ []) (LevelPart ∷ []) c.args.input.now c.in-Some-Word-Repeat-default.rest.now c.in_ok-turn-in-Some-Word-Repeat-default.rest.now (one c.args.text.now c.args.depth (StatementPart) ([]) (StatementPart ∷ LevelPart ∷ []) (word keyword.Repeat) c.args.input.now c.in-Some-Word-Repeat-default.rest.now (λ s l. omega (arith, l, c.requires.1.1.0, c.in_ok-inner-in-Some-Word-Repeat-default.ensures.deeper.0, c.in_ok-inner-in-Some-Word-Repeat-default.ensures.deeper.1)) (λ s. refl) ((first_of _ (class.Word keyword.Repeat) c.args.input.now c.in-Some-Word-Repeat-default.rest.now (c.in-Some-Word-Repeat-default.field-0-0-is ∙ ap class.Word c.in-Some-Word-Repeat-default.field-0-0-0-is) c.in-Some-Word-Repeat-default.ensures.first.0).1 c.args.text.now)) (call c.args.text.now c.args.depth c.in_ok-inner-in-Some-Word-Repeat-default.inner (StatementPart) (LevelPart ∷ []) c.in-Some-Word-Repeat-default.rest.now c.in_ok-turn-in-Some-Word-Repeat-default.rest.now (λ s l. omega (arith, l, c.requires.1.1.0, c.in_ok-inner-in-Some-Word-Repeat-default.ensures.deeper.0, c.in_ok-inner-in-Some-Word-Repeat-default.ensures.deeper.1)) c.in_ok-turn-in-Some-Word-Repeat-default.ensures.reads)) (level_ends c.args.text.now c.args.depth [] c.in_ok-turn-in-Some-Word-Repeat-default.rest.now))
+
+pub read_statement-returns-in_default-clause-reads : goal.read_statement-returns-in_default-clause-reads
+read_statement-returns-in_default-clause-reads t c = let a : leads_statement (terminals c.args.text.now c.args.input.now) ≡ false = search rules in reads_by c.args.text.now c.args.depth (StatementPart ∷ []) (SimplePart ∷ []) c.args.input.now c.read_simple.result (λ x. x.1.now) (opens_simple c.args.text.now c.args.depth [] c.args.input.now a) c.read_simple.ensures.reads
+
+pub read_statement-returns-in_default-clause-stops : goal.read_statement-returns-in_default-clause-stops
+read_statement-returns-in_default-clause-stops t c = let a : leads_statement (terminals c.args.text.now c.args.input.now) ≡ false = search rules in stops_by c.args.text.now c.args.depth (StatementPart ∷ []) (SimplePart ∷ []) c.args.input.now c.read_simple.result (opens_simple c.args.text.now c.args.depth [] c.args.input.now a) c.read_simple.ensures.stops
+
+pub read_if-returns-in_err-inner-clause-stops : goal.read_if-returns-in_err-inner-clause-stops
+read_if-returns-in_err-inner-clause-stops t c =
+    let p = err_from_is_err_and c.from_residual.result c.from_residual.ensures.1 in rw (p.1, p.2) (deep c.args.text.now c.args.depth (StatementPart) ([]) (ExpressionPart whole ∷ TokenPart ThenToken ∷ SimplePart ∷ TailPart ElseTail ∷ LevelPart ∷ []) (word keyword.If) c.args.input.now c.args.rest.now _ (λ s l. omega (arith, l, c.in_err-inner.ensures.stop.0)) (λ s. refl) (c.requires.1.1.0.1 c.args.text.now) c.in_err-inner.ensures.stop.1)
+
+pub read_if-returns-in_err-test-clause-stops : goal.read_if-returns-in_err-test-clause-stops
+read_if-returns-in_err-test-clause-stops t c =
+    let p = err_from_is_err_and c.from_residual-in_err-test.result c.from_residual-in_err-test.ensures.1 in rw (p.1, p.2) (then_stops c.args.text.now c.args.depth (StatementPart ∷ []) (ExpressionPart whole ∷ TokenPart ThenToken ∷ SimplePart ∷ TailPart ElseTail ∷ LevelPart ∷ []) c.args.input.now c.args.rest.now _ (one c.args.text.now c.args.depth (StatementPart) ([]) (ExpressionPart whole ∷ TokenPart ThenToken ∷ SimplePart ∷ TailPart ElseTail ∷ LevelPart ∷ []) (word keyword.If) c.args.input.now c.args.rest.now (λ s l. omega (arith, l, c.requires.1.1.1.1.0, c.in_ok-inner.ensures.deeper.0, c.in_ok-inner.ensures.deeper.1)) (λ s. refl) (c.requires.1.1.0.1 c.args.text.now)) (call_stops c.args.text.now c.args.depth c.in_ok-inner.inner (ExpressionPart whole) (TokenPart ThenToken ∷ SimplePart ∷ TailPart ElseTail ∷ LevelPart ∷ []) c.args.rest.now _ (λ s l. omega (arith, l, c.requires.1.1.1.1.0, c.in_ok-inner.ensures.deeper.0, c.in_ok-inner.ensures.deeper.1)) c.in_err-test.ensures.stops))
+
+pub read_if-returns-in_err-rest-clause-stops : goal.read_if-returns-in_err-rest-clause-stops
+read_if-returns-in_err-rest-clause-stops t c =
+    let p = err_from_is_err_and c.from_residual-in_err-rest.result c.from_residual-in_err-rest.ensures.1 in rw (p.1, p.2) (then_stops c.args.text.now c.args.depth (StatementPart ∷ []) (TokenPart ThenToken ∷ SimplePart ∷ TailPart ElseTail ∷ LevelPart ∷ []) c.args.input.now c.in_ok-test.rest.now _ (then c.args.text.now c.args.depth (StatementPart ∷ []) (ExpressionPart whole ∷ TokenPart ThenToken ∷ SimplePart ∷ TailPart ElseTail ∷ LevelPart ∷ []) (TokenPart ThenToken ∷ SimplePart ∷ TailPart ElseTail ∷ LevelPart ∷ []) c.args.input.now c.args.rest.now c.in_ok-test.rest.now (one c.args.text.now c.args.depth (StatementPart) ([]) (ExpressionPart whole ∷ TokenPart ThenToken ∷ SimplePart ∷ TailPart ElseTail ∷ LevelPart ∷ []) (word keyword.If) c.args.input.now c.args.rest.now (λ s l. omega (arith, l, c.requires.1.1.1.1.0, c.in_ok-inner.ensures.deeper.0, c.in_ok-inner.ensures.deeper.1)) (λ s. refl) (c.requires.1.1.0.1 c.args.text.now)) (call c.args.text.now c.args.depth c.in_ok-inner.inner (ExpressionPart whole) (TokenPart ThenToken ∷ SimplePart ∷ TailPart ElseTail ∷ LevelPart ∷ []) c.args.rest.now c.in_ok-test.rest.now (λ s l. omega (arith, l, c.requires.1.1.1.1.0, c.in_ok-inner.ensures.deeper.0, c.in_ok-inner.ensures.deeper.1)) c.in_ok-test.ensures.reads)) (unexpected c.args.text.now c.args.depth ThenToken (SimplePart ∷ TailPart ElseTail ∷ LevelPart ∷ []) (class.Word keyword.Then) c.in_ok-test.rest.now _ refl c.in_err-rest.ensures.stop))
+
+pub read_if-read_simple-requires : goal.read_if-read_simple-requires
+read_if-read_simple-requires t c = (omega (arith, c.requires.1.0, c.requires.1.1.1.0, c.in_ok-test.ensures.shorter, c.in_ok-rest.ensures.shorter), (c.in_ok-inner.ensures.deeper.1, c.in_ok-rest.ensures.proper c.args.text.now c.in_ok-test.ensures.proper))
+
+pub read_if-returns-in_err-yes-clause-stops : goal.read_if-returns-in_err-yes-clause-stops
+read_if-returns-in_err-yes-clause-stops t c =
+    let p = err_from_is_err_and c.from_residual-in_err-yes.result c.from_residual-in_err-yes.ensures.1 in rw (p.1, p.2) (then_stops c.args.text.now c.args.depth (StatementPart ∷ []) (SimplePart ∷ TailPart ElseTail ∷ LevelPart ∷ []) c.args.input.now c.in_ok-rest.rest.now _ (then c.args.text.now c.args.depth (StatementPart ∷ []) (TokenPart ThenToken ∷ SimplePart ∷ TailPart ElseTail ∷ LevelPart ∷ []) (SimplePart ∷ TailPart ElseTail ∷ LevelPart ∷ []) c.args.input.now c.in_ok-test.rest.now c.in_ok-rest.rest.now (then c.args.text.now c.args.depth (StatementPart ∷ []) (ExpressionPart whole ∷ TokenPart ThenToken ∷ SimplePart ∷ TailPart ElseTail ∷ LevelPart ∷ []) (TokenPart ThenToken ∷ SimplePart ∷ TailPart ElseTail ∷ LevelPart ∷ []) c.args.input.now c.args.rest.now c.in_ok-test.rest.now (one c.args.text.now c.args.depth (StatementPart) ([]) (ExpressionPart whole ∷ TokenPart ThenToken ∷ SimplePart ∷ TailPart ElseTail ∷ LevelPart ∷ []) (word keyword.If) c.args.input.now c.args.rest.now (λ s l. omega (arith, l, c.requires.1.1.1.1.0, c.in_ok-inner.ensures.deeper.0, c.in_ok-inner.ensures.deeper.1)) (λ s. refl) (c.requires.1.1.0.1 c.args.text.now)) (call c.args.text.now c.args.depth c.in_ok-inner.inner (ExpressionPart whole) (TokenPart ThenToken ∷ SimplePart ∷ TailPart ElseTail ∷ LevelPart ∷ []) c.args.rest.now c.in_ok-test.rest.now (λ s l. omega (arith, l, c.requires.1.1.1.1.0, c.in_ok-inner.ensures.deeper.0, c.in_ok-inner.ensures.deeper.1)) c.in_ok-test.ensures.reads)) (expected c.args.text.now c.args.depth ThenToken (SimplePart ∷ TailPart ElseTail ∷ LevelPart ∷ []) (class.Word keyword.Then) c.in_ok-test.rest.now c.in_ok-rest.rest.now (λ s l. omega (arith, l, c.requires.1.1.1.1.0, c.in_ok-inner.ensures.deeper.0, c.in_ok-inner.ensures.deeper.1)) refl c.in_ok-rest.ensures.first)) (call_stops c.args.text.now c.args.depth c.in_ok-inner.inner (SimplePart) (TailPart ElseTail ∷ LevelPart ∷ []) c.in_ok-rest.rest.now _ (λ s l. omega (arith, l, c.requires.1.1.1.1.0, c.in_ok-inner.ensures.deeper.0, c.in_ok-inner.ensures.deeper.1)) c.in_err-yes.ensures.stops))
+
+pub read_if-returns-in_default-clause-reads : goal.read_if-returns-in_default-clause-reads
+read_if-returns-in_default-clause-reads t c = (then c.args.text.now c.args.depth (StatementPart ∷ []) (LevelPart ∷ []) ([]) c.args.input.now c.in_ok-yes.rest.now c.in_ok-yes.rest.now (then c.args.text.now c.args.depth (StatementPart ∷ []) (TailPart ElseTail ∷ LevelPart ∷ []) (LevelPart ∷ []) c.args.input.now c.in_ok-yes.rest.now c.in_ok-yes.rest.now (then c.args.text.now c.args.depth (StatementPart ∷ []) (SimplePart ∷ TailPart ElseTail ∷ LevelPart ∷ []) (TailPart ElseTail ∷ LevelPart ∷ []) c.args.input.now c.in_ok-rest.rest.now c.in_ok-yes.rest.now (then c.args.text.now c.args.depth (StatementPart ∷ []) (TokenPart ThenToken ∷ SimplePart ∷ TailPart ElseTail ∷ LevelPart ∷ []) (SimplePart ∷ TailPart ElseTail ∷ LevelPart ∷ []) c.args.input.now c.in_ok-test.rest.now c.in_ok-rest.rest.now (then c.args.text.now c.args.depth (StatementPart ∷ []) (ExpressionPart whole ∷ TokenPart ThenToken ∷ SimplePart ∷ TailPart ElseTail ∷ LevelPart ∷ []) (TokenPart ThenToken ∷ SimplePart ∷ TailPart ElseTail ∷ LevelPart ∷ []) c.args.input.now c.args.rest.now c.in_ok-test.rest.now (one c.args.text.now c.args.depth (StatementPart) ([]) (ExpressionPart whole ∷ TokenPart ThenToken ∷ SimplePart ∷ TailPart ElseTail ∷ LevelPart ∷ []) (word keyword.If) c.args.input.now c.args.rest.now (λ s l. omega (arith, l, c.requires.1.1.1.1.0, c.in_ok-inner.ensures.deeper.0, c.in_ok-inner.ensures.deeper.1)) (λ s. refl) (c.requires.1.1.0.1 c.args.text.now)) (call c.args.text.now c.args.depth c.in_ok-inner.inner (ExpressionPart whole) (TokenPart ThenToken ∷ SimplePart ∷ TailPart ElseTail ∷ LevelPart ∷ []) c.args.rest.now c.in_ok-test.rest.now (λ s l. omega (arith, l, c.requires.1.1.1.1.0, c.in_ok-inner.ensures.deeper.0, c.in_ok-inner.ensures.deeper.1)) c.in_ok-test.ensures.reads)) (expected c.args.text.now c.args.depth ThenToken (SimplePart ∷ TailPart ElseTail ∷ LevelPart ∷ []) (class.Word keyword.Then) c.in_ok-test.rest.now c.in_ok-rest.rest.now (λ s l. omega (arith, l, c.requires.1.1.1.1.0, c.in_ok-inner.ensures.deeper.0, c.in_ok-inner.ensures.deeper.1)) refl c.in_ok-rest.ensures.first)) (call c.args.text.now c.args.depth c.in_ok-inner.inner (SimplePart) (TailPart ElseTail ∷ LevelPart ∷ []) c.in_ok-rest.rest.now c.in_ok-yes.rest.now (λ s l. omega (arith, l, c.requires.1.1.1.1.0, c.in_ok-inner.ensures.deeper.0, c.in_ok-inner.ensures.deeper.1)) c.in_ok-yes.ensures.reads)) (ends c.args.text.now c.args.depth ElseTail (LevelPart ∷ []) (class.Word keyword.Else) c.in_ok-yes.rest.now refl c.in_default.ensures.absent)) (level_ends c.args.text.now c.args.depth [] c.in_ok-yes.rest.now))
+
+pub read_if-read_statement-requires : goal.read_if-read_statement-requires
+read_if-read_statement-requires t c = (omega (arith, c.requires.1.0, c.requires.1.1.1.0, c.in_ok-test.ensures.shorter, c.in_ok-rest.ensures.shorter, c.in_ok-yes.ensures.shorter, c.in-Some.ensures.shorter), (c.in_ok-inner.ensures.deeper.1, c.in-Some.ensures.proper c.args.text.now c.in_ok-yes.ensures.proper))
+
+pub read_if-returns-in_err-no-clause-stops : goal.read_if-returns-in_err-no-clause-stops
+read_if-returns-in_err-no-clause-stops t c =
+    let p = err_from_is_err_and c.from_residual-in_err-no.result c.from_residual-in_err-no.ensures.1 in rw (p.1, p.2) (then_stops c.args.text.now c.args.depth (StatementPart ∷ []) (StatementPart ∷ LevelPart ∷ []) c.args.input.now c.in-Some.after.now _ (then c.args.text.now c.args.depth (StatementPart ∷ []) (TailPart ElseTail ∷ LevelPart ∷ []) (StatementPart ∷ LevelPart ∷ []) c.args.input.now c.in_ok-yes.rest.now c.in-Some.after.now (then c.args.text.now c.args.depth (StatementPart ∷ []) (SimplePart ∷ TailPart ElseTail ∷ LevelPart ∷ []) (TailPart ElseTail ∷ LevelPart ∷ []) c.args.input.now c.in_ok-rest.rest.now c.in_ok-yes.rest.now (then c.args.text.now c.args.depth (StatementPart ∷ []) (TokenPart ThenToken ∷ SimplePart ∷ TailPart ElseTail ∷ LevelPart ∷ []) (SimplePart ∷ TailPart ElseTail ∷ LevelPart ∷ []) c.args.input.now c.in_ok-test.rest.now c.in_ok-rest.rest.now (then c.args.text.now c.args.depth (StatementPart ∷ []) (ExpressionPart whole ∷ TokenPart ThenToken ∷ SimplePart ∷ TailPart ElseTail ∷ LevelPart ∷ []) (TokenPart ThenToken ∷ SimplePart ∷ TailPart ElseTail ∷ LevelPart ∷ []) c.args.input.now c.args.rest.now c.in_ok-test.rest.now (one c.args.text.now c.args.depth (StatementPart) ([]) (ExpressionPart whole ∷ TokenPart ThenToken ∷ SimplePart ∷ TailPart ElseTail ∷ LevelPart ∷ []) (word keyword.If) c.args.input.now c.args.rest.now (λ s l. omega (arith, l, c.requires.1.1.1.1.0, c.in_ok-inner.ensures.deeper.0, c.in_ok-inner.ensures.deeper.1)) (λ s. refl) (c.requires.1.1.0.1 c.args.text.now)) (call c.args.text.now c.args.depth c.in_ok-inner.inner (ExpressionPart whole) (TokenPart ThenToken ∷ SimplePart ∷ TailPart ElseTail ∷ LevelPart ∷ []) c.args.rest.now c.in_ok-test.rest.now (λ s l. omega (arith, l, c.requires.1.1.1.1.0, c.in_ok-inner.ensures.deeper.0, c.in_ok-inner.ensures.deeper.1)) c.in_ok-test.ensures.reads)) (expected c.args.text.now c.args.depth ThenToken (SimplePart ∷ TailPart ElseTail ∷ LevelPart ∷ []) (class.Word keyword.Then) c.in_ok-test.rest.now c.in_ok-rest.rest.now (λ s l. omega (arith, l, c.requires.1.1.1.1.0, c.in_ok-inner.ensures.deeper.0, c.in_ok-inner.ensures.deeper.1)) refl c.in_ok-rest.ensures.first)) (call c.args.text.now c.args.depth c.in_ok-inner.inner (SimplePart) (TailPart ElseTail ∷ LevelPart ∷ []) c.in_ok-rest.rest.now c.in_ok-yes.rest.now (λ s l. omega (arith, l, c.requires.1.1.1.1.0, c.in_ok-inner.ensures.deeper.0, c.in_ok-inner.ensures.deeper.1)) c.in_ok-yes.ensures.reads)) (goes c.args.text.now c.args.depth ElseTail (LevelPart ∷ []) (class.Word keyword.Else) c.in_ok-yes.rest.now c.in-Some.after.now (λ s l. omega (arith, l, c.requires.1.1.1.1.0, c.in_ok-inner.ensures.deeper.0, c.in_ok-inner.ensures.deeper.1)) refl c.in-Some.ensures.first)) (call_stops c.args.text.now c.args.depth c.in_ok-inner.inner (StatementPart) (LevelPart ∷ []) c.in-Some.after.now _ (λ s l. omega (arith, l, c.requires.1.1.1.1.0, c.in_ok-inner.ensures.deeper.0, c.in_ok-inner.ensures.deeper.1)) c.in_err-no.ensures.stops))
+
+pub read_if-returns-clause-reads : goal.read_if-returns-clause-reads
+read_if-returns-clause-reads t c = (then c.args.text.now c.args.depth (StatementPart ∷ []) (LevelPart ∷ []) ([]) c.args.input.now c.in_ok-no.rest.now c.in_ok-no.rest.now (then c.args.text.now c.args.depth (StatementPart ∷ []) (StatementPart ∷ LevelPart ∷ []) (LevelPart ∷ []) c.args.input.now c.in-Some.after.now c.in_ok-no.rest.now (then c.args.text.now c.args.depth (StatementPart ∷ []) (TailPart ElseTail ∷ LevelPart ∷ []) (StatementPart ∷ LevelPart ∷ []) c.args.input.now c.in_ok-yes.rest.now c.in-Some.after.now (then c.args.text.now c.args.depth (StatementPart ∷ []) (SimplePart ∷ TailPart ElseTail ∷ LevelPart ∷ []) (TailPart ElseTail ∷ LevelPart ∷ []) c.args.input.now c.in_ok-rest.rest.now c.in_ok-yes.rest.now (then c.args.text.now c.args.depth (StatementPart ∷ []) (TokenPart ThenToken ∷ SimplePart ∷ TailPart ElseTail ∷ LevelPart ∷ []) (SimplePart ∷ TailPart ElseTail ∷ LevelPart ∷ []) c.args.input.now c.in_ok-test.rest.now c.in_ok-rest.rest.now (then c.args.text.now c.args.depth (StatementPart ∷ []) (ExpressionPart whole ∷ TokenPart ThenToken ∷ SimplePart ∷ TailPart ElseTail ∷ LevelPart ∷ []) (TokenPart ThenToken ∷ SimplePart ∷ TailPart ElseTail ∷ LevelPart ∷ []) c.args.input.now c.args.rest.now c.in_ok-test.rest.now (one c.args.text.now c.args.depth (StatementPart) ([]) (ExpressionPart whole ∷ TokenPart ThenToken ∷ SimplePart ∷ TailPart ElseTail ∷ LevelPart ∷ []) (word keyword.If) c.args.input.now c.args.rest.now (λ s l. omega (arith, l, c.requires.1.1.1.1.0, c.in_ok-inner.ensures.deeper.0, c.in_ok-inner.ensures.deeper.1)) (λ s. refl) (c.requires.1.1.0.1 c.args.text.now)) (call c.args.text.now c.args.depth c.in_ok-inner.inner (ExpressionPart whole) (TokenPart ThenToken ∷ SimplePart ∷ TailPart ElseTail ∷ LevelPart ∷ []) c.args.rest.now c.in_ok-test.rest.now (λ s l. omega (arith, l, c.requires.1.1.1.1.0, c.in_ok-inner.ensures.deeper.0, c.in_ok-inner.ensures.deeper.1)) c.in_ok-test.ensures.reads)) (expected c.args.text.now c.args.depth ThenToken (SimplePart ∷ TailPart ElseTail ∷ LevelPart ∷ []) (class.Word keyword.Then) c.in_ok-test.rest.now c.in_ok-rest.rest.now (λ s l. omega (arith, l, c.requires.1.1.1.1.0, c.in_ok-inner.ensures.deeper.0, c.in_ok-inner.ensures.deeper.1)) refl c.in_ok-rest.ensures.first)) (call c.args.text.now c.args.depth c.in_ok-inner.inner (SimplePart) (TailPart ElseTail ∷ LevelPart ∷ []) c.in_ok-rest.rest.now c.in_ok-yes.rest.now (λ s l. omega (arith, l, c.requires.1.1.1.1.0, c.in_ok-inner.ensures.deeper.0, c.in_ok-inner.ensures.deeper.1)) c.in_ok-yes.ensures.reads)) (goes c.args.text.now c.args.depth ElseTail (LevelPart ∷ []) (class.Word keyword.Else) c.in_ok-yes.rest.now c.in-Some.after.now (λ s l. omega (arith, l, c.requires.1.1.1.1.0, c.in_ok-inner.ensures.deeper.0, c.in_ok-inner.ensures.deeper.1)) refl c.in-Some.ensures.first)) (call c.args.text.now c.args.depth c.in_ok-inner.inner (StatementPart) (LevelPart ∷ []) c.in-Some.after.now c.in_ok-no.rest.now (λ s l. omega (arith, l, c.requires.1.1.1.1.0, c.in_ok-inner.ensures.deeper.0, c.in_ok-inner.ensures.deeper.1)) c.in_ok-no.ensures.reads)) (level_ends c.args.text.now c.args.depth [] c.in_ok-no.rest.now))
+
+pub read_simple-read_assign-requires-clause-named : goal.read_simple-read_assign-requires-clause-named
+read_simple-read_assign-requires-clause-named t c = ap (leads NameToken) ((first_of _ class.Name c.args.input.now c.in-Some-Name-default.field-0-1.now c.in-Some-Name-default.field-0-0-is c.in-Some-Name-default.ensures.first.0).1 c.args.text.now)
+
+pub read_simple-read_send-requires-clause-first : goal.read_simple-read_send-requires-clause-first
+read_simple-read_send-requires-clause-first t c = (first_of _ (class.Word keyword.Send) c.args.input.now c.in-Some-Word-Send-default.rest.now (c.in-Some-Word-Send-default.field-0-0-is ∙ ap class.Word c.in-Some-Word-Send-default.field-0-0-0-is) c.in-Some-Word-Send-default.ensures.first.0)
+
+pub read_simple-read_send-requires-clause-proper : goal.read_simple-read_send-requires-clause-proper
+read_simple-read_send-requires-clause-proper t c = c.in-Some-Word-Send-default.ensures.proper c.args.text.now c.requires.1.1.1
+
+pub read_simple-read_expression-requires-clause-proper : goal.read_simple-read_expression-requires-clause-proper
+read_simple-read_expression-requires-clause-proper t c = c.in-Some-Word-Print-default.ensures.proper c.args.text.now c.requires.1.1.1
+
+pub read_simple-returns-in_err-value-in-Some-Word-Print-default-clause-stops : goal.read_simple-returns-in_err-value-in-Some-Word-Print-default-clause-stops
+read_simple-returns-in_err-value-in-Some-Word-Print-default-clause-stops t c =
+    let p = err_from_is_err_and c.from_residual.result c.from_residual.ensures.1 in rw (p.1, p.2) (then_stops c.args.text.now c.args.depth (SimplePart ∷ []) (ExpressionPart whole ∷ []) c.args.input.now c.in-Some-Word-Print-default.rest.now _ (one c.args.text.now c.args.depth (SimplePart) ([]) (ExpressionPart whole ∷ []) (word keyword.Print) c.args.input.now c.in-Some-Word-Print-default.rest.now (λ s l. omega (arith, l, c.requires.1.1.0)) (λ s. refl) ((first_of _ (class.Word keyword.Print) c.args.input.now c.in-Some-Word-Print-default.rest.now (c.in-Some-Word-Print-default.field-0-0-is ∙ ap class.Word c.in-Some-Word-Print-default.field-0-0-0-is) c.in-Some-Word-Print-default.ensures.first.0).1 c.args.text.now)) (call_stops c.args.text.now c.args.depth c.args.depth (ExpressionPart whole) ([]) c.in-Some-Word-Print-default.rest.now _ (λ s l. omega (arith, l, c.requires.1.1.0)) c.in_err-value-in-Some-Word-Print-default.ensures.stops))
+
+pub read_simple-returns-in_ok-value-in-Some-Word-Print-default-clause-reads : goal.read_simple-returns-in_ok-value-in-Some-Word-Print-default-clause-reads
+read_simple-returns-in_ok-value-in-Some-Word-Print-default-clause-reads t c = (then c.args.text.now c.args.depth (SimplePart ∷ []) (ExpressionPart whole ∷ []) ([]) c.args.input.now c.in-Some-Word-Print-default.rest.now c.in_ok-value-in-Some-Word-Print-default.rest.now (one c.args.text.now c.args.depth (SimplePart) ([]) (ExpressionPart whole ∷ []) (word keyword.Print) c.args.input.now c.in-Some-Word-Print-default.rest.now (λ s l. omega (arith, l, c.requires.1.1.0)) (λ s. refl) ((first_of _ (class.Word keyword.Print) c.args.input.now c.in-Some-Word-Print-default.rest.now (c.in-Some-Word-Print-default.field-0-0-is ∙ ap class.Word c.in-Some-Word-Print-default.field-0-0-0-is) c.in-Some-Word-Print-default.ensures.first.0).1 c.args.text.now)) (call c.args.text.now c.args.depth c.args.depth (ExpressionPart whole) ([]) c.in-Some-Word-Print-default.rest.now c.in_ok-value-in-Some-Word-Print-default.rest.now (λ s l. omega (arith, l, c.requires.1.1.0)) c.in_ok-value-in-Some-Word-Print-default.ensures.reads))
+
+pub read_simple-returns-in_err-inner-in-Some-Word-Begin-default-clause-stops : goal.read_simple-returns-in_err-inner-in-Some-Word-Begin-default-clause-stops
+read_simple-returns-in_err-inner-in-Some-Word-Begin-default-clause-stops t c =
+    let p = err_from_is_err_and c.from_residual-in_err-inner-in-Some-Word-Begin-default.result c.from_residual-in_err-inner-in-Some-Word-Begin-default.ensures.1 in rw (p.1, p.2) (deep c.args.text.now c.args.depth (SimplePart) ([]) (StatementPart ∷ TailPart StatementsTail ∷ TokenPart EndToken ∷ LevelPart ∷ []) (word keyword.Begin) c.args.input.now c.in-Some-Word-Begin-default.rest.now _ (λ s l. omega (arith, l, c.in_err-inner-in-Some-Word-Begin-default.ensures.stop.0)) (λ s. refl) ((first_of _ (class.Word keyword.Begin) c.args.input.now c.in-Some-Word-Begin-default.rest.now (c.in-Some-Word-Begin-default.field-0-0-is ∙ ap class.Word c.in-Some-Word-Begin-default.field-0-0-0-is) c.in-Some-Word-Begin-default.ensures.first.0).1 c.args.text.now) c.in_err-inner-in-Some-Word-Begin-default.ensures.stop.1)
+
+pub read_simple-read_statements-requires : goal.read_simple-read_statements-requires
+read_simple-read_statements-requires t c = (omega (arith, c.requires.1.0, c.in-Some-Word-Begin-default.ensures.first.1), (c.in_ok-inner-in-Some-Word-Begin-default.ensures.deeper.1, c.in-Some-Word-Begin-default.ensures.proper c.args.text.now c.requires.1.1.1))
+
+pub read_simple-returns-in_err-statements-in-Some-Word-Begin-default-clause-stops : goal.read_simple-returns-in_err-statements-in-Some-Word-Begin-default-clause-stops
+read_simple-returns-in_err-statements-in-Some-Word-Begin-default-clause-stops t c =
+    let p = err_from_is_err_and c.from_residual-in_err-statements-in-Some-Word-Begin-default.result c.from_residual-in_err-statements-in-Some-Word-Begin-default.ensures.1 in rw (p.1, p.2) (then_stops c.args.text.now c.args.depth (SimplePart ∷ []) (StatementPart ∷ TailPart StatementsTail ∷ TokenPart EndToken ∷ LevelPart ∷ []) c.args.input.now c.in-Some-Word-Begin-default.rest.now _ (one c.args.text.now c.args.depth (SimplePart) ([]) (StatementPart ∷ TailPart StatementsTail ∷ TokenPart EndToken ∷ LevelPart ∷ []) (word keyword.Begin) c.args.input.now c.in-Some-Word-Begin-default.rest.now (λ s l. omega (arith, l, c.requires.1.1.0, c.in_ok-inner-in-Some-Word-Begin-default.ensures.deeper.0, c.in_ok-inner-in-Some-Word-Begin-default.ensures.deeper.1)) (λ s. refl) ((first_of _ (class.Word keyword.Begin) c.args.input.now c.in-Some-Word-Begin-default.rest.now (c.in-Some-Word-Begin-default.field-0-0-is ∙ ap class.Word c.in-Some-Word-Begin-default.field-0-0-0-is) c.in-Some-Word-Begin-default.ensures.first.0).1 c.args.text.now)) (call_two_stops c.args.text.now c.args.depth c.in_ok-inner-in-Some-Word-Begin-default.inner (StatementPart) (TailPart StatementsTail) (TokenPart EndToken ∷ LevelPart ∷ []) c.in-Some-Word-Begin-default.rest.now _ (λ s l. omega (arith, l, c.requires.1.1.0, c.in_ok-inner-in-Some-Word-Begin-default.ensures.deeper.0, c.in_ok-inner-in-Some-Word-Begin-default.ensures.deeper.1)) c.in_err-statements-in-Some-Word-Begin-default.ensures.stops))
+
+pub read_simple-returns-in_err-rest-in-Some-Word-Begin-default-clause-stops : goal.read_simple-returns-in_err-rest-in-Some-Word-Begin-default-clause-stops
+read_simple-returns-in_err-rest-in-Some-Word-Begin-default-clause-stops t c =
+    let p = err_from_is_err_and c.from_residual-in_err-rest-in-Some-Word-Begin-default.result c.from_residual-in_err-rest-in-Some-Word-Begin-default.ensures.1 in rw (p.1, p.2) (then_stops c.args.text.now c.args.depth (SimplePart ∷ []) (TokenPart EndToken ∷ LevelPart ∷ []) c.args.input.now c.in_ok-statements-in-Some-Word-Begin-default.rest.now _ (then c.args.text.now c.args.depth (SimplePart ∷ []) (StatementPart ∷ TailPart StatementsTail ∷ TokenPart EndToken ∷ LevelPart ∷ []) (TokenPart EndToken ∷ LevelPart ∷ []) c.args.input.now c.in-Some-Word-Begin-default.rest.now c.in_ok-statements-in-Some-Word-Begin-default.rest.now (one c.args.text.now c.args.depth (SimplePart) ([]) (StatementPart ∷ TailPart StatementsTail ∷ TokenPart EndToken ∷ LevelPart ∷ []) (word keyword.Begin) c.args.input.now c.in-Some-Word-Begin-default.rest.now (λ s l. omega (arith, l, c.requires.1.1.0, c.in_ok-inner-in-Some-Word-Begin-default.ensures.deeper.0, c.in_ok-inner-in-Some-Word-Begin-default.ensures.deeper.1)) (λ s. refl) ((first_of _ (class.Word keyword.Begin) c.args.input.now c.in-Some-Word-Begin-default.rest.now (c.in-Some-Word-Begin-default.field-0-0-is ∙ ap class.Word c.in-Some-Word-Begin-default.field-0-0-0-is) c.in-Some-Word-Begin-default.ensures.first.0).1 c.args.text.now)) (call_two c.args.text.now c.args.depth c.in_ok-inner-in-Some-Word-Begin-default.inner (StatementPart) (TailPart StatementsTail) (TokenPart EndToken ∷ LevelPart ∷ []) c.in-Some-Word-Begin-default.rest.now c.in_ok-statements-in-Some-Word-Begin-default.rest.now (λ s l. omega (arith, l, c.requires.1.1.0, c.in_ok-inner-in-Some-Word-Begin-default.ensures.deeper.0, c.in_ok-inner-in-Some-Word-Begin-default.ensures.deeper.1)) c.in_ok-statements-in-Some-Word-Begin-default.ensures.reads)) (unexpected c.args.text.now c.args.depth EndToken (LevelPart ∷ []) (class.Word keyword.End) c.in_ok-statements-in-Some-Word-Begin-default.rest.now _ refl c.in_err-rest-in-Some-Word-Begin-default.ensures.stop))
+
+pub read_simple-returns-in_ok-rest-in-Some-Word-Begin-default-clause-proper : goal.read_simple-returns-in_ok-rest-in-Some-Word-Begin-default-clause-proper
+read_simple-returns-in_ok-rest-in-Some-Word-Begin-default-clause-proper t c = c.in_ok-rest-in-Some-Word-Begin-default.ensures.proper c.args.text.now c.in_ok-statements-in-Some-Word-Begin-default.ensures.proper
+
+pub read_simple-returns-in_ok-rest-in-Some-Word-Begin-default-clause-reads : goal.read_simple-returns-in_ok-rest-in-Some-Word-Begin-default-clause-reads
+read_simple-returns-in_ok-rest-in-Some-Word-Begin-default-clause-reads t c = (then c.args.text.now c.args.depth (SimplePart ∷ []) (LevelPart ∷ []) ([]) c.args.input.now c.in_ok-rest-in-Some-Word-Begin-default.rest.now c.in_ok-rest-in-Some-Word-Begin-default.rest.now (then c.args.text.now c.args.depth (SimplePart ∷ []) (TokenPart EndToken ∷ LevelPart ∷ []) (LevelPart ∷ []) c.args.input.now c.in_ok-statements-in-Some-Word-Begin-default.rest.now c.in_ok-rest-in-Some-Word-Begin-default.rest.now (then c.args.text.now c.args.depth (SimplePart ∷ []) (StatementPart ∷ TailPart StatementsTail ∷ TokenPart EndToken ∷ LevelPart ∷ []) (TokenPart EndToken ∷ LevelPart ∷ []) c.args.input.now c.in-Some-Word-Begin-default.rest.now c.in_ok-statements-in-Some-Word-Begin-default.rest.now (one c.args.text.now c.args.depth (SimplePart) ([]) (StatementPart ∷ TailPart StatementsTail ∷ TokenPart EndToken ∷ LevelPart ∷ []) (word keyword.Begin) c.args.input.now c.in-Some-Word-Begin-default.rest.now (λ s l. omega (arith, l, c.requires.1.1.0, c.in_ok-inner-in-Some-Word-Begin-default.ensures.deeper.0, c.in_ok-inner-in-Some-Word-Begin-default.ensures.deeper.1)) (λ s. refl) ((first_of _ (class.Word keyword.Begin) c.args.input.now c.in-Some-Word-Begin-default.rest.now (c.in-Some-Word-Begin-default.field-0-0-is ∙ ap class.Word c.in-Some-Word-Begin-default.field-0-0-0-is) c.in-Some-Word-Begin-default.ensures.first.0).1 c.args.text.now)) (call_two c.args.text.now c.args.depth c.in_ok-inner-in-Some-Word-Begin-default.inner (StatementPart) (TailPart StatementsTail) (TokenPart EndToken ∷ LevelPart ∷ []) c.in-Some-Word-Begin-default.rest.now c.in_ok-statements-in-Some-Word-Begin-default.rest.now (λ s l. omega (arith, l, c.requires.1.1.0, c.in_ok-inner-in-Some-Word-Begin-default.ensures.deeper.0, c.in_ok-inner-in-Some-Word-Begin-default.ensures.deeper.1)) c.in_ok-statements-in-Some-Word-Begin-default.ensures.reads)) (expected c.args.text.now c.args.depth EndToken (LevelPart ∷ []) (class.Word keyword.End) c.in_ok-statements-in-Some-Word-Begin-default.rest.now c.in_ok-rest-in-Some-Word-Begin-default.rest.now (λ s l. omega (arith, l, c.requires.1.1.0, c.in_ok-inner-in-Some-Word-Begin-default.ensures.deeper.0, c.in_ok-inner-in-Some-Word-Begin-default.ensures.deeper.1)) refl c.in_ok-rest-in-Some-Word-Begin-default.ensures.first)) (level_ends c.args.text.now c.args.depth [] c.in_ok-rest-in-Some-Word-Begin-default.rest.now))
+
+pub read_simple-returns-in_default-clause-reads : goal.read_simple-returns-in_default-clause-reads
+read_simple-returns-in_default-clause-reads t c = let a : leads_simple (terminals c.args.text.now c.args.input.now) ≡ false = search rules in simple_ends c.args.text.now c.args.depth [] c.args.input.now a
+

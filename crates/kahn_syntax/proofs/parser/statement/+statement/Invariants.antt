@@ -1,5 +1,7 @@
-use Rattle.std.proofs.Common.{◌≡◌, ◌≤◌, ◌+◌, ◌*◌, length}
-use Rattle.kahn_syntax.specs.Terminals.{terminals}
+use Rattle.std.proofs.Common.{◌≡◌, ◌≤◌, ◌+◌, ◌*◌, [], ◌∷◌, length}
+use Rattle.kahn_syntax.specs.Terminals.{terminals, AreProper}
+use Rattle.kahn_syntax.specs.Machine.{StatementsTail, StatementPart, TailPart}
+use Rattle.kahn_syntax.specs.Reads.{Moves}
 use Rattle.kahn_syntax.specs.Trees.{statements_words, statements_nesting, FormedStatements, AreSome}
 use Rattle.kahn_syntax.specs.Drawn.{statements_of}
 use Rattle.kahn_syntax.proofs.parser.statement.+statement.Given as goal
@@ -23,6 +25,8 @@ invariant-read_statements-statements l = record {
   some : AreSome (statements_of l.statements.items);
   nesting : l.depth + statements_nesting (statements_of l.statements.items) ≤ 64;
   shorter : length l.rest ≤ length l.input;
+  proper : AreProper l.text l.rest;
+  reads : Moves l.text l.depth (StatementPart ∷ TailPart StatementsTail ∷ []) (TailPart StatementsTail ∷ []) l.input l.rest;
 }
 
 abbrev pub decreases-read_statements-statements : goal.decreases-read_statements-statements

@@ -1,0 +1,440 @@
+-- How the parts that are open go on, over what the parser reads.
+use Rattle.std.proofs.Common.{◌≡◌, ◌≢◌, ℕ, ◌+◌, ◌≤◌, ◌<◌, List, [], ◌∷◌, ◌++◌, ◌⊎◌, ⊎_elim, length, Bool, true, false, Some, None, Result, Ok, Err, IfOk, IfErr, true≢false, refl, sym, ap, ◌∙◌, subst, arith}
+use Rattle.kahn_syntax.specs.declared.span.Span.{Span}
+use Rattle.kahn_syntax.specs.declared.lexeme.Keyword.TheVariants as keyword
+use Rattle.kahn_syntax.specs.declared.lexeme.Sign.TheVariants as mark
+use Rattle.kahn_syntax.specs.declared.lexeme.Class.{Class}
+use Rattle.kahn_syntax.specs.declared.lexeme.Class.TheVariants as class
+use Rattle.kahn_syntax.specs.declared.lexeme.Lexeme.{Lexeme}
+use Rattle.kahn_syntax.specs.declared.parser.cursor.Stop.{Stop}
+use Rattle.kahn_syntax.specs.declared.parser.cursor.Stop.TheVariants.{Refused, TooDeep, NoMemory}
+use Rattle.kahn_syntax.specs.Terminals.{Terminal, word, sign, name, terminal, terminals, First}
+use Rattle.kahn_syntax.specs.Terminals as terminals_are
+use Rattle.kahn_syntax.specs.Machine.{Token, BecomesToken, BeginToken, ChannelToken, CloseToken, CommaToken, DoToken, ElseToken, EndToken, IfToken, NameToken, NotToken, NumberToken, OnToken, OpenToken, ParToken, ProcessToken, SemicolonToken, ThenToken, takes, leads, class_of, Tail, NamesTail, StatementsTail, GroupsTail, ArgumentsTail, InstancesTail, ElseTail, LastTail, lead, goes_on, again, leads_kind, leads_declaration, Part, ProgramPart, DeclarationsPart, DeclarationPart, ProcessPart, RolePart, GroupsPart, GroupPart, TakingPart, VariablesPart, InstancePart, ArgumentsPart, ArgumentPart, ExpressionPart, OperatorsPart, StatementPart, SimplePart, TailPart, TokenPart, LevelPart, levels, may_end, step, Refuses, TooFar, onward, fate}
+use Rattle.kahn_syntax.specs.declared.tree.Operator.{Operator}
+use Rattle.kahn_syntax.specs.declared.parser.operator.Level.{Level}
+use Rattle.kahn_syntax.specs.declared.parser.operator.Level.TheVariants.{Or, And, Sum, Term}
+use Rattle.kahn_syntax.specs.Trees.{operator_terminal, rank}
+use Rattle.kahn_syntax.specs.Rungs.{Rung, whole, ors, ands, denials, relations, sums, terms, factors, at, tighter, rung_of, Lacks}
+use Rattle.kahn_syntax.specs.declared.tree.Kind.{Kind}
+use Rattle.kahn_syntax.specs.Programs.{kind_terminal}
+use Rattle.kahn_syntax.specs.Reads.{IsAbsent, Reads, Moves, Stops, Halts, rank_of}
+use Rattle.kahn_syntax.proofs.WholePrograms.{take_kind}
+use Rattle.kahn_syntax.proofs.Steps.{go, skip_level, skip_tail, take_tail, take_token, no_token, IsChain, open_chain, open_whole, open_denial, skip_operators, take_operator}
+use Rattle.kahn_syntax.proofs.Reached.{go_none, go_far}
+use Rattle.kahn_syntax.proofs.Meaning.{terminals_length}
+
+-- so many levels are open below and in these parts
+abbrev pub Bound : ℕ → List Part → Type 0
+Bound d qs = (s : List Part) → levels s ≡ d → levels (qs ++ s) ≤ 64
+
+abbrev pub Depth : ℕ → List Part → ℕ → Type 0
+Depth d qs e = (s : List Part) → levels s ≡ d → levels (qs ++ s) ≡ e
+
+-- one after the other
+pub then : (text : List ℕ) (d : ℕ) (p q r : List Part) (i j k : List Lexeme) → Moves text d p q i j → Moves text d q r j k → Moves text d p r i k
+then text d p q r i j k f g = λ s l. f s l ∙ g s l
+
+pub then_stops : (text : List ℕ) (d : ℕ) (p q : List Part) (i j : List Lexeme) (e : Stop) → Moves text d p q i j → Stops text d q j e → Stops text d p i e
+then_stops text d p q i j (Refused w n) f g = λ s l. f s l ∙ g s l
+then_stops text d p q i j (TooDeep n) f g = λ s l. f s l ∙ g s l
+then_stops text d p q i j NoMemory f g = tt
+
+-- a part above others
+pub call : (text : List ℕ) (d e : ℕ) (p : Part) (qs : List Part) (i j : List Lexeme) → Depth d qs e → Reads text e (p ∷ []) i j → Moves text d (p ∷ qs) qs i j
+call text d e p qs i j b f = λ s l. f (qs ++ s) (b s l)
+
+pub call_stops : (text : List ℕ) (d e : ℕ) (p : Part) (qs : List Part) (i : List Lexeme) (x : Stop) → Depth d qs e → Stops text e (p ∷ []) i x → Stops text d (p ∷ qs) i x
+call_stops text d e p qs i (Refused w n) b f = λ s l. f (qs ++ s) (b s l)
+call_stops text d e p qs i (TooDeep n) b f = λ s l. f (qs ++ s) (b s l)
+call_stops text d e p qs i NoMemory b f = tt
+
+-- two parts above others
+pub call_two : (text : List ℕ) (d e : ℕ) (p q : Part) (qs : List Part) (i j : List Lexeme) → Depth d qs e → Reads text e (p ∷ q ∷ []) i j → Moves text d (p ∷ q ∷ qs) qs i j
+call_two text d e p q qs i j b f = λ s l. f (qs ++ s) (b s l)
+
+pub call_two_stops : (text : List ℕ) (d e : ℕ) (p q : Part) (qs : List Part) (i : List Lexeme) (x : Stop) → Depth d qs e → Stops text e (p ∷ q ∷ []) i x →
+    Stops text d (p ∷ q ∷ qs) i x
+call_two_stops text d e p q qs i (Refused w n) b f = λ s l. f (qs ++ s) (b s l)
+call_two_stops text d e p q qs i (TooDeep n) b f = λ s l. f (qs ++ s) (b s l)
+call_two_stops text d e p q qs i NoMemory b f = tt
+
+-- one terminal
+pub one : (text : List ℕ) (d : ℕ) (p : Part) (qs rs : List Part) (k : Terminal) (i j : List Lexeme) → Bound d rs → ((s : List Part) → step (p ∷ qs ++ s) k ≡ Some (rs ++ s)) →
+    terminals text i ≡ k ∷ terminals text j → Moves text d (p ∷ qs) rs i j
+one text d p qs rs k i j b f e = λ s l. ap (fate 64 (p ∷ qs ++ s)) e ∙ go 64 (p ∷ qs ++ s) (rs ++ s) k (terminals text j) (f s) (b s l)
+
+-- one that opens a level too many
+pub deep : (text : List ℕ) (d : ℕ) (p : Part) (qs rs : List Part) (k : Terminal) (i j : List Lexeme) (x : Stop) → ((s : List Part) → levels s ≡ d → 64 < levels (rs ++ s)) →
+    ((s : List Part) → step (p ∷ qs ++ s) k ≡ Some (rs ++ s)) → terminals text i ≡ k ∷ terminals text j → x ≡ TooDeep (length i) → Stops text d (p ∷ qs) i x
+deep text d p qs rs k i j x b f e q =
+    let n : length (terminals text j) + 1 ≡ length i = omega (arith, ap length e, terminals_length text i) in
+    subst (Stops text d (p ∷ qs) i) (sym q)
+    (λ s l. ap (fate 64 (p ∷ qs ++ s)) e ∙ (go_far 64 (p ∷ qs ++ s) (rs ++ s) k (terminals text j) (f s) (b s l) ∙ ap TooFar n))
+
+pub token : (text : List ℕ) (d : ℕ) (t : Token) (qs : List Part) (k : Terminal) (i j : List Lexeme) → Bound d qs → takes t k ≡ true →
+    terminals text i ≡ k ∷ terminals text j → Moves text d (TokenPart t ∷ qs) qs i j
+token text d t qs k i j b h e = λ s l. ap (fate 64 (TokenPart t ∷ qs ++ s)) e ∙ take_token t 64 (qs ++ s) k (terminals text j) h (b s l)
+
+goes_append : (t : Tail) (qs s : List Part) → goes_on t (qs ++ s) ≡ goes_on t qs ++ s
+goes_append NamesTail qs s = refl
+goes_append StatementsTail qs s = refl
+goes_append GroupsTail qs s = refl
+goes_append ArgumentsTail qs s = refl
+goes_append InstancesTail qs s = refl
+goes_append ElseTail qs s = refl
+goes_append LastTail qs s = refl
+
+levels_goes : (t : Tail) (s : List Part) → levels (goes_on t s) ≡ levels s
+levels_goes NamesTail s = refl
+levels_goes StatementsTail s = refl
+levels_goes GroupsTail s = refl
+levels_goes ArgumentsTail s = refl
+levels_goes InstancesTail s = refl
+levels_goes ElseTail s = refl
+levels_goes LastTail s = refl
+
+some_is : (c e : Class) → Some c ≡ Some e → c ≡ e
+some_is c e p = cc
+
+-- a lexeme of the token's class is the token
+class_takes : (t : Token) (c : Class) (text : List ℕ) (at : Span) → class_of t ≡ Some c → takes t (terminal text c at) ≡ true
+class_takes BecomesToken c text at e = subst (λ x. takes BecomesToken (terminal text x at) ≡ true) (some_is (class.Sign mark.Becomes) c e) refl
+class_takes BeginToken c text at e = subst (λ x. takes BeginToken (terminal text x at) ≡ true) (some_is (class.Word keyword.Begin) c e) refl
+class_takes ChannelToken c text at e = subst (λ x. takes ChannelToken (terminal text x at) ≡ true) (some_is (class.Word keyword.Channel) c e) refl
+class_takes CloseToken c text at e = subst (λ x. takes CloseToken (terminal text x at) ≡ true) (some_is (class.Sign mark.Close) c e) refl
+class_takes CommaToken c text at e = subst (λ x. takes CommaToken (terminal text x at) ≡ true) (some_is (class.Sign mark.Comma) c e) refl
+class_takes DoToken c text at e = subst (λ x. takes DoToken (terminal text x at) ≡ true) (some_is (class.Word keyword.Do) c e) refl
+class_takes ElseToken c text at e = subst (λ x. takes ElseToken (terminal text x at) ≡ true) (some_is (class.Word keyword.Else) c e) refl
+class_takes EndToken c text at e = subst (λ x. takes EndToken (terminal text x at) ≡ true) (some_is (class.Word keyword.End) c e) refl
+class_takes IfToken c text at e = subst (λ x. takes IfToken (terminal text x at) ≡ true) (some_is (class.Word keyword.If) c e) refl
+class_takes NameToken c text at e = subst (λ x. takes NameToken (terminal text x at) ≡ true) (some_is class.Name c e) refl
+class_takes OnToken c text at e = subst (λ x. takes OnToken (terminal text x at) ≡ true) (some_is (class.Word keyword.On) c e) refl
+class_takes OpenToken c text at e = subst (λ x. takes OpenToken (terminal text x at) ≡ true) (some_is (class.Sign mark.Open) c e) refl
+class_takes ParToken c text at e = subst (λ x. takes ParToken (terminal text x at) ≡ true) (some_is (class.Word keyword.Par) c e) refl
+class_takes ProcessToken c text at e = subst (λ x. takes ProcessToken (terminal text x at) ≡ true) (some_is (class.Word keyword.Process) c e) refl
+class_takes SemicolonToken c text at e = subst (λ x. takes SemicolonToken (terminal text x at) ≡ true) (some_is (class.Sign mark.Semicolon) c e) refl
+class_takes ThenToken c text at e = subst (λ x. takes ThenToken (terminal text x at) ≡ true) (some_is (class.Word keyword.Then) c e) refl
+class_takes NotToken c text at e = absurd cc
+class_takes NumberToken c text at e = absurd cc
+
+-- an awaited lexeme
+pub expected : (text : List ℕ) (d : ℕ) (t : Token) (qs : List Part) (c : Class) (i j : List Lexeme) → Bound d qs → class_of t ≡ Some c → First c i j →
+    Moves text d (TokenPart t ∷ qs) qs i j
+expected text d t qs c i j b h f = token text d t qs (terminal text c f.0) i j b (class_takes t c text f.0 h) (f.1 text)
+
+-- a lexeme with which a tail goes on
+pub goes : (text : List ℕ) (d : ℕ) (t : Tail) (qs : List Part) (c : Class) (i j : List Lexeme) → Bound d qs → class_of (lead t) ≡ Some c → First c i j →
+    Moves text d (TailPart t ∷ qs) (goes_on t qs) i j
+goes text d t qs c i j b h f = λ s l.
+    ap (fate 64 (TailPart t ∷ qs ++ s)) (f.1 text)
+    ∙ (take_tail t 64 (qs ++ s) (terminal text c f.0) (terminals text j) (class_takes (lead t) c text f.0 h) (omega (arith, b s l, levels_goes t (qs ++ s)))
+    ∙ ap (λ x. fate 64 x (terminals text j)) (goes_append t qs s))
+
+-- a tail that ends
+pub ends : (text : List ℕ) (d : ℕ) (t : Tail) (qs : List Part) (c : Class) (i : List Lexeme) → class_of (lead t) ≡ Some c → IsAbsent c i → Moves text d (TailPart t ∷ qs) qs i i
+ends text d t qs c i h a = λ s l. skip_tail t 64 (qs ++ s) (terminals text i) (a (lead t) h text)
+
+pub level_ends : (text : List ℕ) (d : ℕ) (qs : List Part) (i : List Lexeme) → Moves text d (LevelPart ∷ qs) qs i i
+level_ends text d qs i = λ s l. skip_level 64 (qs ++ s) (terminals text i)
+
+pub absent : (text : List ℕ) (d : ℕ) (t : Token) (qs : List Part) (i : List Lexeme) (x : Stop) → leads t (terminals text i) ≡ false → x ≡ Refused false (length i) →
+    Stops text d (TokenPart t ∷ qs) i x
+absent text d t qs i x h e =
+    subst (Stops text d (TokenPart t ∷ qs) i) (sym e) (λ s l. no_token t 64 (qs ++ s) (terminals text i) h ∙ ap (Refuses false) (terminals_length text i))
+
+-- an awaited lexeme that isn't there
+pub unexpected : (text : List ℕ) (d : ℕ) (t : Token) (qs : List Part) (c : Class) (i : List Lexeme) (x : Stop) → class_of t ≡ Some c →
+    IsAbsent c i × (x ≡ Refused false (length i)) → Stops text d (TokenPart t ∷ qs) i x
+unexpected text d t qs c i x h (a, e) = absent text d t qs i x (a t h text) e
+
+pub no_name : (text : List ℕ) (d : ℕ) (qs : List Part) (i : List Lexeme) (x : Stop) →
+    (x ≡ NoMemory) ⊎ ((leads NameToken (terminals text i) ≡ false) × (x ≡ Refused false (length i))) → Stops text d (TokenPart NameToken ∷ qs) i x
+no_name text d qs i x h =
+    ⊎_elim (λ e. subst (Stops text d (TokenPart NameToken ∷ qs) i) (sym e) tt) (λ (a, e). absent text d NameToken qs i x a e) h
+
+pub no_memory : (text : List ℕ) (d : ℕ) (qs : List Part) (i : List Lexeme) (x : Stop) → x ≡ NoMemory → Stops text d qs i x
+no_memory text d qs i x e = subst (Stops text d qs i) (sym e) tt
+
+if_leads : (r : List Terminal) → leads IfToken r ≡ false → (x : List Terminal) → r ≡ word keyword.If ∷ x → ⊥
+if_leads r h x e = true≢false (ap (leads IfToken) (sym e) ∙ h)
+
+not_leads : (r : List Terminal) → leads NotToken r ≡ false → (x : List Terminal) → r ≡ word keyword.Not ∷ x → ⊥
+not_leads r h x e = true≢false (ap (leads NotToken) (sym e) ∙ h)
+
+-- an expression of the next tighter level
+pub opens_whole : (text : List ℕ) (d : ℕ) (qs : List Part) (i : List Lexeme) → IsAbsent (class.Word keyword.If) i → Moves text d (ExpressionPart whole ∷ qs) (ExpressionPart ors ∷ qs) i i
+opens_whole text d qs i a = λ s l. open_whole 64 (qs ++ s) (terminals text i) (if_leads (terminals text i) (a IfToken refl text))
+
+pub opens_denial : (text : List ℕ) (d : ℕ) (qs : List Part) (i : List Lexeme) → leads NotToken (terminals text i) ≡ false →
+    Moves text d (ExpressionPart denials ∷ qs) (ExpressionPart relations ∷ qs) i i
+opens_denial text d qs i a = λ s l. open_denial 64 (qs ++ s) (terminals text i) (not_leads (terminals text i) a)
+
+pub opens_chain : (text : List ℕ) (d : ℕ) (g : Rung) (qs : List Part) (i : List Lexeme) → IsChain g → Moves text d (ExpressionPart g ∷ qs) (ExpressionPart (tighter g) ∷ OperatorsPart g ∷ qs) i i
+opens_chain text d g qs i h = λ s l. open_chain g 64 (qs ++ s) (terminals text i) h
+
+pub operators_end : (text : List ℕ) (d : ℕ) (g : Rung) (qs : List Part) (i : List Lexeme) → Lacks (at g) (terminals text i) → Moves text d (OperatorsPart g ∷ qs) qs i i
+operators_end text d g qs i h = λ s l. skip_operators g 64 (qs ++ s) (terminals text i) h
+
+pub comparison : (text : List ℕ) (d : ℕ) (o : Operator) (qs : List Part) (i j : List Lexeme) → Bound d qs → rank o ≡ 4 → terminals text i ≡ operator_terminal o ∷ terminals text j →
+    Moves text d (OperatorsPart relations ∷ qs) (ExpressionPart sums ∷ qs) i j
+comparison text d o qs i j b h e = λ s l. ap (fate 64 (OperatorsPart relations ∷ qs ++ s)) e ∙ take_operator relations 64 (qs ++ s) o (terminals text j) h (b s l)
+
+level_at : (v : Level) → at (rung_of v) ≡ rank_of v
+level_at Or = refl
+level_at And = refl
+level_at Sum = refl
+level_at Term = refl
+
+pub level_chain : (v : Level) → IsChain (rung_of v)
+level_chain Or = tt
+level_chain And = tt
+level_chain Sum = tt
+level_chain Term = tt
+
+level_again : (v : Level) (s : List Part) → again (rung_of v) s ≡ OperatorsPart (rung_of v) ∷ s
+level_again Or s = refl
+level_again And s = refl
+level_again Sum s = refl
+level_again Term s = refl
+
+-- an operator of the level, of which more may follow
+pub operator_more : (text : List ℕ) (d : ℕ) (v : Level) (o : Operator) (qs : List Part) (i j : List Lexeme) → Bound d qs → rank o ≡ rank_of v →
+    terminals text i ≡ operator_terminal o ∷ terminals text j →
+    Moves text d (OperatorsPart (rung_of v) ∷ qs) (ExpressionPart (tighter (rung_of v)) ∷ OperatorsPart (rung_of v) ∷ qs) i j
+operator_more text d v o qs i j b h e = λ s l.
+    ap (fate 64 (OperatorsPart (rung_of v) ∷ qs ++ s)) e
+    ∙ (take_operator (rung_of v) 64 (qs ++ s) o (terminals text j) (h ∙ sym (level_at v)) (b s l)
+    ∙ ap (λ x. fate 64 (ExpressionPart (tighter (rung_of v)) ∷ x) (terminals text j)) (level_again v (qs ++ s)))
+
+-- no operator of the level follows
+pub level_end : (text : List ℕ) (d : ℕ) (v : Level) (qs : List Part) (i : List Lexeme) → Lacks (rank_of v) (terminals text i) →
+    Moves text d (OperatorsPart (rung_of v) ∷ qs) qs i i
+level_end text d v qs i h = operators_end text d (rung_of v) qs i (subst (λ n. Lacks n (terminals text i)) (sym (level_at v)) h)
+
+-- what a call answers, where it reads the same by another way
+pub reads_by : {X E : Type 0} (text : List ℕ) (d : ℕ) (p q : List Part) (i : List Lexeme) (r : Result X E) (rest : X → List Lexeme) → Moves text d p q i i →
+    IfOk r (λ x. Reads text d q i (rest x)) → IfOk r (λ x. Reads text d p i (rest x))
+reads_by text d p q i (Ok x) rest f h = λ s l. f s l ∙ h s l
+reads_by text d p q i (Err x) rest f h = h
+
+pub stops_by : {A : Type 0} (text : List ℕ) (d : ℕ) (p q : List Part) (i : List Lexeme) (r : Result A Stop) → Moves text d p q i i →
+    IfErr r (λ x. Stops text d q i x) → IfErr r (λ x. Stops text d p i x)
+stops_by text d p q i (Ok x) f h = h
+stops_by text d p q i (Err x) f h = then_stops text d p q i i x f h
+
+-- where a name stands first, memory alone is wanted
+pub only_memory : (text : List ℕ) (d : ℕ) (qs : List Part) (i j : List Lexeme) (x : Stop) → First class.Name i j →
+    (x ≡ NoMemory) ⊎ ((leads NameToken (terminals text i) ≡ false) × (x ≡ Refused false (length i))) → Stops text d qs i x
+only_memory text d qs i j x f h =
+    ⊎_elim (λ e. no_memory text d qs i x e) (λ (a, e). absurd (true≢false (sym (ap (leads NameToken) (f.1 text)) ∙ a))) h
+
+-- a factor begins here
+abbrev pub leads_factor : List Terminal → Bool
+leads_factor (terminals_are.number z ∷ r) = true
+leads_factor (name n ∷ r) = true
+leads_factor (word keyword.True ∷ r) = true
+leads_factor (word keyword.False ∷ r) = true
+leads_factor (word keyword.Wait ∷ r) = true
+leads_factor (sign mark.Minus ∷ r) = true
+leads_factor (sign mark.Open ∷ r) = true
+leads_factor _ = false
+
+refuses_factor : (s : List Part) (ks : List Terminal) → leads_factor ks ≡ false → fate 64 (ExpressionPart factors ∷ s) ks ≡ Refuses false (length ks)
+refuses_factor s [] h = refl
+refuses_factor s (terminals_are.number z ∷ r) h = absurd (true≢false h)
+refuses_factor s (name n ∷ r) h = absurd (true≢false h)
+refuses_factor s (word keyword.True ∷ r) h = absurd (true≢false h)
+refuses_factor s (word keyword.False ∷ r) h = absurd (true≢false h)
+refuses_factor s (word keyword.Wait ∷ r) h = absurd (true≢false h)
+refuses_factor s (sign mark.Minus ∷ r) h = absurd (true≢false h)
+refuses_factor s (sign mark.Open ∷ r) h = absurd (true≢false h)
+refuses_factor s (k ∷ r) h = ap (Refuses false) (omega arith)
+
+pub no_factor : (text : List ℕ) (d : ℕ) (i : List Lexeme) → leads_factor (terminals text i) ≡ false → Stops text d (ExpressionPart factors ∷ []) i (Refused false (length i))
+no_factor text d i h = λ s l. refuses_factor s (terminals text i) h ∙ ap (Refuses false) (terminals_length text i)
+
+-- where a name stands first, memory alone is wanted
+pub memory_alone : (text : List ℕ) (d : ℕ) (qs : List Part) (i : List Lexeme) (x : Stop) → leads NameToken (terminals text i) ≡ true →
+    (x ≡ NoMemory) ⊎ ((leads NameToken (terminals text i) ≡ false) × (x ≡ Refused false (length i))) → Stops text d qs i x
+memory_alone text d qs i x f h = ⊎_elim (λ e. no_memory text d qs i x e) (λ (a, e). absurd (true≢false (sym f ∙ a))) h
+
+-- a statement begins here that no `else` may follow
+abbrev pub leads_statement : List Terminal → Bool
+leads_statement (word keyword.If ∷ r) = true
+leads_statement (word keyword.While ∷ r) = true
+leads_statement (word keyword.Repeat ∷ r) = true
+leads_statement _ = false
+
+open_simple : (s : List Part) (ks : List Terminal) → leads_statement ks ≡ false → fate 64 (StatementPart ∷ s) ks ≡ fate 64 (SimplePart ∷ s) ks
+open_simple s [] h = refl
+open_simple s (word keyword.If ∷ r) h = absurd (true≢false h)
+open_simple s (word keyword.While ∷ r) h = absurd (true≢false h)
+open_simple s (word keyword.Repeat ∷ r) h = absurd (true≢false h)
+open_simple s (k ∷ r) h = refl
+
+pub opens_simple : (text : List ℕ) (d : ℕ) (qs : List Part) (i : List Lexeme) → leads_statement (terminals text i) ≡ false → Moves text d (StatementPart ∷ qs) (SimplePart ∷ qs) i i
+opens_simple text d qs i h = λ s l. open_simple (qs ++ s) (terminals text i) h
+
+-- a statement that isn't empty begins here
+abbrev pub leads_simple : List Terminal → Bool
+leads_simple (name n ∷ r) = true
+leads_simple (word keyword.Send ∷ r) = true
+leads_simple (word keyword.Print ∷ r) = true
+leads_simple (word keyword.Begin ∷ r) = true
+leads_simple _ = false
+
+skip_simple : (s : List Part) (ks : List Terminal) → leads_simple ks ≡ false → fate 64 (SimplePart ∷ s) ks ≡ fate 64 s ks
+skip_simple s [] h = refl
+skip_simple s (name n ∷ r) h = absurd (true≢false h)
+skip_simple s (word keyword.Send ∷ r) h = absurd (true≢false h)
+skip_simple s (word keyword.Print ∷ r) h = absurd (true≢false h)
+skip_simple s (word keyword.Begin ∷ r) h = absurd (true≢false h)
+skip_simple s (k ∷ r) h = refl
+
+-- the empty statement
+pub simple_ends : (text : List ℕ) (d : ℕ) (qs : List Part) (i : List Lexeme) → leads_simple (terminals text i) ≡ false → Moves text d (SimplePart ∷ qs) qs i i
+simple_ends text d qs i h = λ s l. skip_simple (qs ++ s) (terminals text i) h
+
+-- a kind, where one stands first
+pub kind_moves : (text : List ℕ) (d : ℕ) (p : Part) (qs rs : List Part) (k : Kind) (i j : List Lexeme) → Bound d rs → ((s : List Part) → step (p ∷ qs ++ s) (word keyword.Integer) ≡ Some (rs ++ s)) →
+    ((s : List Part) → step (p ∷ qs ++ s) (word keyword.Logical) ≡ Some (rs ++ s)) → terminals text i ≡ kind_terminal k ∷ terminals text j → Moves text d (p ∷ qs) rs i j
+kind_moves text d p qs rs k i j b f g e = λ s l. ap (fate 64 (p ∷ qs ++ s)) e ∙ take_kind k 64 (p ∷ qs ++ s) (rs ++ s) (terminals text j) (f s) (g s) (b s l)
+
+open_groups : (s : List Part) (ks : List Terminal) → leads_kind ks ≡ true → fate 64 (GroupsPart ∷ s) ks ≡ fate 64 (GroupPart ∷ TailPart GroupsTail ∷ s) ks
+open_groups s [] h = absurd (true≢false (sym h))
+open_groups s (word keyword.Integer ∷ r) h = refl
+open_groups s (word keyword.Logical ∷ r) h = refl
+open_groups s (k ∷ r) h = absurd (true≢false (sym h))
+
+skip_groups : (s : List Part) (ks : List Terminal) → leads_kind ks ≡ false → fate 64 (GroupsPart ∷ s) ks ≡ fate 64 s ks
+skip_groups s [] h = refl
+skip_groups s (word keyword.Integer ∷ r) h = absurd (true≢false h)
+skip_groups s (word keyword.Logical ∷ r) h = absurd (true≢false h)
+skip_groups s (k ∷ r) h = refl
+
+skip_variables : (s : List Part) (ks : List Terminal) → leads_kind ks ≡ false → fate 64 (VariablesPart ∷ s) ks ≡ fate 64 s ks
+skip_variables s [] h = refl
+skip_variables s (word keyword.Integer ∷ r) h = absurd (true≢false h)
+skip_variables s (word keyword.Logical ∷ r) h = absurd (true≢false h)
+skip_variables s (k ∷ r) h = refl
+
+refuses_group : (s : List Part) (ks : List Terminal) → leads_kind ks ≡ false → fate 64 (GroupPart ∷ s) ks ≡ Refuses false (length ks)
+refuses_group s [] h = refl
+refuses_group s (word keyword.Integer ∷ r) h = absurd (true≢false h)
+refuses_group s (word keyword.Logical ∷ r) h = absurd (true≢false h)
+refuses_group s (k ∷ r) h = ap (Refuses false) (omega arith)
+
+open_process : (s : List Part) (ks : List Terminal) → leads_kind ks ≡ false → fate 64 (DeclarationPart ∷ s) ks ≡ fate 64 (ProcessPart ∷ s) ks
+open_process s [] h = refl
+open_process s (word keyword.Integer ∷ r) h = absurd (true≢false h)
+open_process s (word keyword.Logical ∷ r) h = absurd (true≢false h)
+open_process s (k ∷ r) h = refl
+
+refuses_process : (s : List Part) (ks : List Terminal) → leads ProcessToken ks ≡ false → fate 64 (ProcessPart ∷ s) ks ≡ Refuses false (length ks)
+refuses_process s [] h = refl
+refuses_process s (word keyword.Process ∷ r) h = absurd (true≢false h)
+refuses_process s (k ∷ r) h = ap (Refuses false) (omega arith)
+
+refuses_program : (s : List Part) (ks : List Terminal) → leads BeginToken ks ≡ false → fate 64 (ProgramPart ∷ s) ks ≡ Refuses false (length ks)
+refuses_program s [] h = refl
+refuses_program s (word keyword.Begin ∷ r) h = absurd (true≢false h)
+refuses_program s (k ∷ r) h = ap (Refuses false) (omega arith)
+
+refuses_instance : (s : List Part) (ks : List Terminal) → leads NameToken ks ≡ false → fate 64 (InstancePart ∷ s) ks ≡ Refuses false (length ks)
+refuses_instance s [] h = refl
+refuses_instance s (name n ∷ r) h = absurd (true≢false h)
+refuses_instance s (k ∷ r) h = ap (Refuses false) (omega arith)
+
+open_arguments : (s : List Part) (ks : List Terminal) → leads CloseToken ks ≡ false → fate 64 (ArgumentsPart ∷ s) ks ≡ fate 64 (ArgumentPart ∷ TailPart ArgumentsTail ∷ TokenPart CloseToken ∷ s) ks
+open_arguments s [] h = refl
+open_arguments s (sign mark.Close ∷ r) h = absurd (true≢false h)
+open_arguments s (k ∷ r) h = refl
+
+open_declarations : (s : List Part) (ks : List Terminal) → leads_declaration ks ≡ true → fate 64 (DeclarationsPart ∷ s) ks ≡ fate 64 (DeclarationPart ∷ TokenPart SemicolonToken ∷ DeclarationsPart ∷ s) ks
+open_declarations s [] h = absurd (true≢false (sym h))
+open_declarations s (word keyword.Integer ∷ r) h = refl
+open_declarations s (word keyword.Logical ∷ r) h = refl
+open_declarations s (word keyword.Process ∷ r) h = refl
+open_declarations s (k ∷ r) h = absurd (true≢false (sym h))
+
+skip_declarations : (s : List Part) (ks : List Terminal) → leads_declaration ks ≡ false → fate 64 (DeclarationsPart ∷ s) ks ≡ fate 64 s ks
+skip_declarations s [] h = refl
+skip_declarations s (word keyword.Integer ∷ r) h = absurd (true≢false h)
+skip_declarations s (word keyword.Logical ∷ r) h = absurd (true≢false h)
+skip_declarations s (word keyword.Process ∷ r) h = absurd (true≢false h)
+skip_declarations s (k ∷ r) h = refl
+
+-- an argument begins here
+abbrev pub leads_argument : List Terminal → Bool
+leads_argument (name n ∷ r) = true
+leads_argument (terminals_are.number z ∷ r) = true
+leads_argument (word keyword.True ∷ r) = true
+leads_argument (word keyword.False ∷ r) = true
+leads_argument (sign mark.Minus ∷ r) = true
+leads_argument _ = false
+
+refuses_argument : (s : List Part) (ks : List Terminal) → leads_argument ks ≡ false → fate 64 (ArgumentPart ∷ s) ks ≡ Refuses false (length ks)
+refuses_argument s [] h = refl
+refuses_argument s (name n ∷ r) h = absurd (true≢false h)
+refuses_argument s (terminals_are.number z ∷ r) h = absurd (true≢false h)
+refuses_argument s (word keyword.True ∷ r) h = absurd (true≢false h)
+refuses_argument s (word keyword.False ∷ r) h = absurd (true≢false h)
+refuses_argument s (sign mark.Minus ∷ r) h = absurd (true≢false h)
+refuses_argument s (k ∷ r) h = ap (Refuses false) (omega arith)
+
+pub opens_groups : (text : List ℕ) (qs : List Part) (i : List Lexeme) → leads_kind (terminals text i) ≡ true → Moves text 0 (GroupsPart ∷ qs) (GroupPart ∷ TailPart GroupsTail ∷ qs) i i
+opens_groups text qs i h = λ s l. open_groups (qs ++ s) (terminals text i) h
+
+pub groups_end : (text : List ℕ) (qs : List Part) (i : List Lexeme) → leads_kind (terminals text i) ≡ false → Moves text 0 (GroupsPart ∷ qs) qs i i
+groups_end text qs i h = λ s l. skip_groups (qs ++ s) (terminals text i) h
+
+pub variables_end : (text : List ℕ) (qs : List Part) (i : List Lexeme) → leads_kind (terminals text i) ≡ false → Moves text 0 (VariablesPart ∷ qs) qs i i
+variables_end text qs i h = λ s l. skip_variables (qs ++ s) (terminals text i) h
+
+pub opens_process : (text : List ℕ) (qs : List Part) (i : List Lexeme) → leads_kind (terminals text i) ≡ false → Moves text 0 (DeclarationPart ∷ qs) (ProcessPart ∷ qs) i i
+opens_process text qs i h = λ s l. open_process (qs ++ s) (terminals text i) h
+
+pub opens_arguments : (text : List ℕ) (qs : List Part) (i : List Lexeme) → IsAbsent (class.Sign mark.Close) i →
+    Moves text 0 (ArgumentsPart ∷ qs) (ArgumentPart ∷ TailPart ArgumentsTail ∷ TokenPart CloseToken ∷ qs) i i
+opens_arguments text qs i h = λ s l. open_arguments (qs ++ s) (terminals text i) (h CloseToken refl text)
+
+pub opens_declarations : (text : List ℕ) (qs : List Part) (i : List Lexeme) → leads_declaration (terminals text i) ≡ true →
+    Moves text 0 (DeclarationsPart ∷ qs) (DeclarationPart ∷ TokenPart SemicolonToken ∷ DeclarationsPart ∷ qs) i i
+opens_declarations text qs i h = λ s l. open_declarations (qs ++ s) (terminals text i) h
+
+pub declarations_end : (text : List ℕ) (qs : List Part) (i : List Lexeme) → leads_declaration (terminals text i) ≡ false → Moves text 0 (DeclarationsPart ∷ qs) qs i i
+declarations_end text qs i h = λ s l. skip_declarations (qs ++ s) (terminals text i) h
+
+-- a part that refuses what stands first
+refused_by : (text : List ℕ) (p : Part) (qs : List Part) (i : List Lexeme) (x : Stop) → ((s : List Part) → fate 64 (p ∷ s) (terminals text i) ≡ Refuses false (length (terminals text i))) →
+    x ≡ Refused false (length i) → Stops text 0 (p ∷ qs) i x
+refused_by text p qs i x f e = subst (Stops text 0 (p ∷ qs) i) (sym e) (λ s l. f (qs ++ s) ∙ ap (Refuses false) (terminals_length text i))
+
+pub no_group : (text : List ℕ) (qs : List Part) (i : List Lexeme) (x : Stop) → leads_kind (terminals text i) ≡ false → x ≡ Refused false (length i) → Stops text 0 (GroupPart ∷ qs) i x
+no_group text qs i x h e = refused_by text GroupPart qs i x (λ s. refuses_group s (terminals text i) h) e
+
+pub no_process : (text : List ℕ) (qs : List Part) (i : List Lexeme) (x : Stop) → IsAbsent (class.Word keyword.Process) i × (x ≡ Refused false (length i)) → Stops text 0 (ProcessPart ∷ qs) i x
+no_process text qs i x (a, e) = refused_by text ProcessPart qs i x (λ s. refuses_process s (terminals text i) (a ProcessToken refl text)) e
+
+pub no_program : (text : List ℕ) (qs : List Part) (i : List Lexeme) (x : Stop) → IsAbsent (class.Word keyword.Begin) i × (x ≡ Refused false (length i)) → Stops text 0 (ProgramPart ∷ qs) i x
+no_program text qs i x (a, e) = refused_by text ProgramPart qs i x (λ s. refuses_program s (terminals text i) (a BeginToken refl text)) e
+
+pub no_instance : (text : List ℕ) (qs : List Part) (i : List Lexeme) (x : Stop) → (x ≡ NoMemory) ⊎ ((leads NameToken (terminals text i) ≡ false) × (x ≡ Refused false (length i))) →
+    Stops text 0 (InstancePart ∷ qs) i x
+no_instance text qs i x h =
+    ⊎_elim (λ e. no_memory text 0 (InstancePart ∷ qs) i x e) (λ (a, e). refused_by text InstancePart qs i x (λ s. refuses_instance s (terminals text i) a) e) h
+
+pub no_argument : (text : List ℕ) (qs : List Part) (i : List Lexeme) → leads_argument (terminals text i) ≡ false → Stops text 0 (ArgumentPart ∷ qs) i (Refused false (length i))
+no_argument text qs i h = refused_by text ArgumentPart qs i (Refused false (length i)) (λ s. refuses_argument s (terminals text i) h) refl
+
+-- the whole of a program that isn't one
+pub halts : (text : List ℕ) (i : List Lexeme) (x : Stop) → Stops text 0 (ProgramPart ∷ []) i x → Halts (terminals text i) x
+halts text i (Refused w n) f = f [] refl
+halts text i (TooDeep n) f = f [] refl
+halts text i NoMemory f = tt
+
+-- after a whole program nothing may stand
+pub whole_end : (text : List ℕ) (i : List Lexeme) → i ≢ [] → fate 64 [] (terminals text i) ≡ Refuses true (length i)
+whole_end text [] h = absurd (h refl)
+whole_end text (x ∷ xs) h = ap (Refuses true) (omega (arith, terminals_length text xs))

@@ -1,0 +1,21 @@
+-- The lexemes of a text are as the lexer makes them.
+use Rattle.std.proofs.Common.{◌≡◌, ℕ, ◌<◌, ◌≤◌, List, [], ◌∷◌, arith}
+use Rattle.std.specs.Prelude.{All}
+use Rattle.std.proofs.lemmas.List.Elements.{All-head, All-tail}
+use Rattle.kahn_syntax.specs.declared.span.Span.{Span}
+use Rattle.kahn_syntax.specs.declared.lexeme.Lexeme.{Lexeme}
+use Rattle.kahn_syntax.specs.declared.lexeme.Class.{Class}
+use Rattle.kahn_syntax.specs.declared.lexeme.Class.TheVariants as class
+use Rattle.kahn_syntax.specs.Lexemes.{IsOfClass, IsSlice, Lexed}
+use Rattle.kahn_syntax.specs.Terminals.{IsProper, AreProper}
+
+proper : (text : List ℕ) (c : Class) (at : Span) → IsOfClass text c at.from at.to → IsSlice text (record { span = at; what = c }) → IsProper text c at
+proper text (class.Word w) at h s = tt
+proper text class.Name at h s = (omega (arith, s.0), s.1, s.2, s.3)
+proper text (class.Number n) at h s = (_, h.1, h.2)
+proper text (class.Sign g) at h s = tt
+
+pub lexed_proper : (text : List ℕ) (a b : ℕ) (xs : List Lexeme) → Lexed text a b xs → All (IsSlice text) xs → AreProper text xs
+lexed_proper text a b [] l s = tt
+lexed_proper text a b (x ∷ xs) (gap, stands, rest) s =
+    (proper text x.what x.span stands.class (All-head (IsSlice text) x xs s), lexed_proper text x.span.to b xs rest (All-tail (IsSlice text) x xs s))

@@ -1,0 +1,33 @@
+use Rattle.std.proofs.Common.{rules, true, map, ◌++◌, ◌≡◌, false, refl, [], ◌∷◌, arith, sym, ap, ◌∙◌, subst}
+use Rattle.std.proofs.lemmas.Result.{err_from_is_err_and}
+use Rattle.kahn_syntax.specs.declared.lexeme.Keyword.TheVariants as keyword
+use Rattle.kahn_syntax.specs.declared.lexeme.Sign.TheVariants as mark
+use Rattle.kahn_syntax.specs.declared.lexeme.Class.TheVariants as class
+use Rattle.kahn_syntax.specs.Terminals.{word, sign, name, terminals}
+use Rattle.kahn_syntax.specs.Rungs.{whole, ors, denials, relations, sums, factors, rung_of, tighter}
+use Rattle.kahn_syntax.specs.Machine.{leads_kind, leads_declaration, BecomesToken, BeginToken, ChannelToken, CloseToken, CommaToken, DoToken, ElseToken, EndToken, IfToken, NameToken, NotToken, NumberToken, OnToken, OpenToken, ParToken, ProcessToken, SemicolonToken, ThenToken, NamesTail, StatementsTail, GroupsTail, ArgumentsTail, InstancesTail, ElseTail, LastTail, ProgramPart, DeclarationsPart, DeclarationPart, ProcessPart, RolePart, GroupsPart, GroupPart, TakingPart, VariablesPart, StatementPart, SimplePart, ExpressionPart, OperatorsPart, InstancePart, ArgumentsPart, ArgumentPart, TailPart, TokenPart, LevelPart}
+use Rattle.kahn_syntax.specs.Drawn.{name_of, expression_of, statement_of}
+use Rattle.kahn_syntax.proofs.Moves.{kind_moves, opens_groups, groups_end, variables_end, opens_process, opens_declarations, declarations_end, no_group, no_process, then, then_stops, call, call_stops, call_two, call_two_stops, one, deep, token, expected, goes, ends, level_ends, absent, unexpected, no_name, no_memory}
+use Rattle.kahn_syntax.proofs.parser.declaration.read_declaration.Goals as goal
+
+pub returns-in_err-rest-in-Some-clause-stops : goal.returns-in_err-rest-in-Some-clause-stops
+returns-in_err-rest-in-Some-clause-stops c =
+    let p = err_from_is_err_and c.from_residual.result c.from_residual.ensures.1 in rw (p.1, p.2) (then_stops c.args.text.now 0 (DeclarationPart ∷ []) (TokenPart ChannelToken ∷ TokenPart NameToken ∷ TailPart NamesTail ∷ []) c.args.input.now c.read_role-role.result.1.now _ (then c.args.text.now 0 (DeclarationPart ∷ []) (RolePart ∷ TokenPart ChannelToken ∷ TokenPart NameToken ∷ TailPart NamesTail ∷ []) (TokenPart ChannelToken ∷ TokenPart NameToken ∷ TailPart NamesTail ∷ []) c.args.input.now c.in-Some.rest.now c.read_role-role.result.1.now (kind_moves c.args.text.now 0 DeclarationPart [] (RolePart ∷ TokenPart ChannelToken ∷ TokenPart NameToken ∷ TailPart NamesTail ∷ []) c.in-Some.kind c.args.input.now c.in-Some.rest.now (λ s l. omega (arith, l)) (λ s. refl) (λ s. refl) (c.in-Some.ensures.first c.args.text.now)) (call c.args.text.now 0 0 (RolePart) (TokenPart ChannelToken ∷ TokenPart NameToken ∷ TailPart NamesTail ∷ []) c.in-Some.rest.now c.read_role-role.result.1.now (λ s l. omega (arith, l)) (c.read_role-role.ensures.reads c.args.text.now))) (unexpected c.args.text.now 0 ChannelToken (TokenPart NameToken ∷ TailPart NamesTail ∷ []) (class.Word keyword.Channel) c.read_role-role.result.1.now _ refl c.in_err-rest-in-Some.ensures.stop))
+
+pub read_names-requires : goal.read_names-requires
+read_names-requires c = record { proper = c.in_ok-rest-in-Some.ensures.proper c.args.text.now (c.read_role-role.ensures.proper c.args.text.now (c.in-Some.ensures.proper c.args.text.now c.requires.proper)) }
+
+pub returns-in_err-names-in-Some-clause-stops : goal.returns-in_err-names-in-Some-clause-stops
+returns-in_err-names-in-Some-clause-stops c =
+    let p = err_from_is_err_and c.from_residual-in_err-names-in-Some.result c.from_residual-in_err-names-in-Some.ensures.1 in rw (p.1, p.2) (then_stops c.args.text.now 0 (DeclarationPart ∷ []) (TokenPart NameToken ∷ TailPart NamesTail ∷ []) c.args.input.now c.in_ok-rest-in-Some.rest.now _ (then c.args.text.now 0 (DeclarationPart ∷ []) (TokenPart ChannelToken ∷ TokenPart NameToken ∷ TailPart NamesTail ∷ []) (TokenPart NameToken ∷ TailPart NamesTail ∷ []) c.args.input.now c.read_role-role.result.1.now c.in_ok-rest-in-Some.rest.now (then c.args.text.now 0 (DeclarationPart ∷ []) (RolePart ∷ TokenPart ChannelToken ∷ TokenPart NameToken ∷ TailPart NamesTail ∷ []) (TokenPart ChannelToken ∷ TokenPart NameToken ∷ TailPart NamesTail ∷ []) c.args.input.now c.in-Some.rest.now c.read_role-role.result.1.now (kind_moves c.args.text.now 0 DeclarationPart [] (RolePart ∷ TokenPart ChannelToken ∷ TokenPart NameToken ∷ TailPart NamesTail ∷ []) c.in-Some.kind c.args.input.now c.in-Some.rest.now (λ s l. omega (arith, l)) (λ s. refl) (λ s. refl) (c.in-Some.ensures.first c.args.text.now)) (call c.args.text.now 0 0 (RolePart) (TokenPart ChannelToken ∷ TokenPart NameToken ∷ TailPart NamesTail ∷ []) c.in-Some.rest.now c.read_role-role.result.1.now (λ s l. omega (arith, l)) (c.read_role-role.ensures.reads c.args.text.now))) (expected c.args.text.now 0 ChannelToken (TokenPart NameToken ∷ TailPart NamesTail ∷ []) (class.Word keyword.Channel) c.read_role-role.result.1.now c.in_ok-rest-in-Some.rest.now (λ s l. omega (arith, l)) refl c.in_ok-rest-in-Some.ensures.first)) (call_two_stops c.args.text.now 0 0 (TokenPart NameToken) (TailPart NamesTail) ([]) c.in_ok-rest-in-Some.rest.now _ (λ s l. omega (arith, l)) c.in_err-names-in-Some.ensures.stops))
+
+pub returns-in_ok-names-in-Some-clause-reads : goal.returns-in_ok-names-in-Some-clause-reads
+returns-in_ok-names-in-Some-clause-reads c = (then c.args.text.now 0 (DeclarationPart ∷ []) (TokenPart NameToken ∷ TailPart NamesTail ∷ []) ([]) c.args.input.now c.in_ok-rest-in-Some.rest.now c.in_ok-names-in-Some.rest.now (then c.args.text.now 0 (DeclarationPart ∷ []) (TokenPart ChannelToken ∷ TokenPart NameToken ∷ TailPart NamesTail ∷ []) (TokenPart NameToken ∷ TailPart NamesTail ∷ []) c.args.input.now c.read_role-role.result.1.now c.in_ok-rest-in-Some.rest.now (then c.args.text.now 0 (DeclarationPart ∷ []) (RolePart ∷ TokenPart ChannelToken ∷ TokenPart NameToken ∷ TailPart NamesTail ∷ []) (TokenPart ChannelToken ∷ TokenPart NameToken ∷ TailPart NamesTail ∷ []) c.args.input.now c.in-Some.rest.now c.read_role-role.result.1.now (kind_moves c.args.text.now 0 DeclarationPart [] (RolePart ∷ TokenPart ChannelToken ∷ TokenPart NameToken ∷ TailPart NamesTail ∷ []) c.in-Some.kind c.args.input.now c.in-Some.rest.now (λ s l. omega (arith, l)) (λ s. refl) (λ s. refl) (c.in-Some.ensures.first c.args.text.now)) (call c.args.text.now 0 0 (RolePart) (TokenPart ChannelToken ∷ TokenPart NameToken ∷ TailPart NamesTail ∷ []) c.in-Some.rest.now c.read_role-role.result.1.now (λ s l. omega (arith, l)) (c.read_role-role.ensures.reads c.args.text.now))) (expected c.args.text.now 0 ChannelToken (TokenPart NameToken ∷ TailPart NamesTail ∷ []) (class.Word keyword.Channel) c.read_role-role.result.1.now c.in_ok-rest-in-Some.rest.now (λ s l. omega (arith, l)) refl c.in_ok-rest-in-Some.ensures.first)) (call_two c.args.text.now 0 0 (TokenPart NameToken) (TailPart NamesTail) ([]) c.in_ok-rest-in-Some.rest.now c.in_ok-names-in-Some.rest.now (λ s l. omega (arith, l)) c.in_ok-names-in-Some.ensures.reads))
+
+pub returns-in_err-process-in-None-clause-stops : goal.returns-in_err-process-in-None-clause-stops
+returns-in_err-process-in-None-clause-stops c =
+    let p = err_from_is_err_and c.from_residual-in_err-process-in-None.result c.from_residual-in_err-process-in-None.ensures.1 in rw (p.1, p.2) (then_stops c.args.text.now 0 (DeclarationPart ∷ []) (ProcessPart ∷ []) c.args.input.now c.args.input.now _ (opens_process c.args.text.now [] c.args.input.now (c.in-None.ensures.leads c.args.text.now)) (call_stops c.args.text.now 0 0 (ProcessPart) ([]) c.args.input.now _ (λ s l. omega (arith, l)) c.in_err-process-in-None.ensures.stops))
+
+pub returns-in_ok-process-in-None-clause-reads : goal.returns-in_ok-process-in-None-clause-reads
+returns-in_ok-process-in-None-clause-reads c = (then c.args.text.now 0 (DeclarationPart ∷ []) (ProcessPart ∷ []) ([]) c.args.input.now c.args.input.now c.in_ok-process-in-None.rest.now (opens_process c.args.text.now [] c.args.input.now (c.in-None.ensures.leads c.args.text.now)) (call c.args.text.now 0 0 (ProcessPart) ([]) c.args.input.now c.in_ok-process-in-None.rest.now (λ s l. omega (arith, l)) c.in_ok-process-in-None.ensures.reads))
+

@@ -1,0 +1,25 @@
+use Rattle.std.proofs.Common.{rules, true, map, ◌++◌, ◌≡◌, false, refl, [], ◌∷◌, arith, sym, ap, ◌∙◌, subst}
+use Rattle.std.proofs.lemmas.Result.{err_from_is_err_and}
+use Rattle.kahn_syntax.specs.declared.lexeme.Keyword.TheVariants as keyword
+use Rattle.kahn_syntax.specs.declared.lexeme.Sign.TheVariants as mark
+use Rattle.kahn_syntax.specs.declared.lexeme.Class.TheVariants as class
+use Rattle.kahn_syntax.specs.Terminals.{word, sign, name, terminals}
+use Rattle.kahn_syntax.specs.Rungs.{whole, ors, denials, relations, sums, factors, rung_of, tighter}
+use Rattle.kahn_syntax.specs.Machine.{leads_kind, leads_declaration, BecomesToken, BeginToken, ChannelToken, CloseToken, CommaToken, DoToken, ElseToken, EndToken, IfToken, NameToken, NotToken, NumberToken, OnToken, OpenToken, ParToken, ProcessToken, SemicolonToken, ThenToken, NamesTail, StatementsTail, GroupsTail, ArgumentsTail, InstancesTail, ElseTail, LastTail, ProgramPart, DeclarationsPart, DeclarationPart, ProcessPart, RolePart, GroupsPart, GroupPart, TakingPart, VariablesPart, StatementPart, SimplePart, ExpressionPart, OperatorsPart, InstancePart, ArgumentsPart, ArgumentPart, TailPart, TokenPart, LevelPart}
+use Rattle.kahn_syntax.specs.Drawn.{name_of, expression_of, statement_of}
+use Rattle.kahn_syntax.proofs.Moves.{kind_moves, opens_groups, groups_end, variables_end, opens_process, opens_declarations, declarations_end, no_group, no_process, then, then_stops, call, call_stops, call_two, call_two_stops, one, deep, token, expected, goes, ends, level_ends, absent, unexpected, no_name, no_memory}
+use Rattle.kahn_syntax.proofs.parser.declaration.read_group.Goals as goal
+
+pub returns-in_default-clause-stops : goal.returns-in_default-clause-stops
+returns-in_default-clause-stops c = no_group c.args.text.now [] c.args.input.now _ (c.in_default.ensures.leads c.args.text.now) refl
+
+pub read_names-requires : goal.read_names-requires
+read_names-requires c = record { proper = c.read_taking-taking.ensures.proper c.args.text.now (c.in-Some.ensures.proper c.args.text.now c.requires.proper) }
+
+pub returns-in_err-names-clause-stops : goal.returns-in_err-names-clause-stops
+returns-in_err-names-clause-stops c =
+    let p = err_from_is_err_and c.from_residual.result c.from_residual.ensures.1 in rw (p.1, p.2) (then_stops c.args.text.now 0 (GroupPart ∷ []) (TokenPart NameToken ∷ TailPart NamesTail ∷ []) c.args.input.now c.read_taking-taking.result.1.now _ (then c.args.text.now 0 (GroupPart ∷ []) (TakingPart ∷ TokenPart NameToken ∷ TailPart NamesTail ∷ []) (TokenPart NameToken ∷ TailPart NamesTail ∷ []) c.args.input.now c.in-Some.rest.now c.read_taking-taking.result.1.now (kind_moves c.args.text.now 0 GroupPart [] ((TakingPart ∷ TokenPart NameToken ∷ TailPart NamesTail ∷ [])) c.in-Some.kind c.args.input.now c.in-Some.rest.now (λ s l. omega (arith, l)) (λ s. refl) (λ s. refl) (c.in-Some.ensures.first c.args.text.now)) (call c.args.text.now 0 0 (TakingPart) (TokenPart NameToken ∷ TailPart NamesTail ∷ []) c.in-Some.rest.now c.read_taking-taking.result.1.now (λ s l. omega (arith, l)) (c.read_taking-taking.ensures.reads c.args.text.now))) (call_two_stops c.args.text.now 0 0 (TokenPart NameToken) (TailPart NamesTail) ([]) c.read_taking-taking.result.1.now _ (λ s l. omega (arith, l)) c.in_err-names.ensures.stops))
+
+pub returns-clause-reads : goal.returns-clause-reads
+returns-clause-reads c = (then c.args.text.now 0 (GroupPart ∷ []) (TokenPart NameToken ∷ TailPart NamesTail ∷ []) ([]) c.args.input.now c.read_taking-taking.result.1.now c.in_ok-names.rest.now (then c.args.text.now 0 (GroupPart ∷ []) (TakingPart ∷ TokenPart NameToken ∷ TailPart NamesTail ∷ []) (TokenPart NameToken ∷ TailPart NamesTail ∷ []) c.args.input.now c.in-Some.rest.now c.read_taking-taking.result.1.now (kind_moves c.args.text.now 0 GroupPart [] ((TakingPart ∷ TokenPart NameToken ∷ TailPart NamesTail ∷ [])) c.in-Some.kind c.args.input.now c.in-Some.rest.now (λ s l. omega (arith, l)) (λ s. refl) (λ s. refl) (c.in-Some.ensures.first c.args.text.now)) (call c.args.text.now 0 0 (TakingPart) (TokenPart NameToken ∷ TailPart NamesTail ∷ []) c.in-Some.rest.now c.read_taking-taking.result.1.now (λ s l. omega (arith, l)) (c.read_taking-taking.ensures.reads c.args.text.now))) (call_two c.args.text.now 0 0 (TokenPart NameToken) (TailPart NamesTail) ([]) c.read_taking-taking.result.1.now c.in_ok-names.rest.now (λ s l. omega (arith, l)) c.in_ok-names.ensures.reads))
+

@@ -1,0 +1,37 @@
+use Rattle.std.proofs.Common.{rules, true, ◌≢◌, map, ◌≡◌, false, refl, [], ◌∷◌, arith, sym, ap, ◌∙◌, subst}
+use Rattle.std.proofs.lemmas.Result.{err_from_is_err_and}
+use Rattle.kahn_syntax.specs.declared.lexeme.Keyword.TheVariants as keyword
+use Rattle.kahn_syntax.specs.declared.lexeme.Sign.TheVariants as mark
+use Rattle.kahn_syntax.specs.declared.lexeme.Class.TheVariants as class
+use Rattle.kahn_syntax.specs.Terminals.{word, sign, name, terminals}
+use Rattle.kahn_syntax.specs.Rungs.{whole, ors, denials, relations, sums, factors, rung_of, tighter}
+use Rattle.kahn_syntax.specs.Machine.{BecomesToken, BeginToken, ChannelToken, CloseToken, CommaToken, DoToken, ElseToken, EndToken, IfToken, NameToken, NotToken, NumberToken, OnToken, OpenToken, ParToken, ProcessToken, SemicolonToken, ThenToken, NamesTail, StatementsTail, GroupsTail, ArgumentsTail, InstancesTail, ElseTail, LastTail, ProgramPart, DeclarationsPart, DeclarationPart, ProcessPart, RolePart, GroupsPart, GroupPart, TakingPart, VariablesPart, StatementPart, SimplePart, ExpressionPart, OperatorsPart, InstancePart, ArgumentsPart, ArgumentPart, TailPart, TokenPart, LevelPart}
+use Rattle.kahn_syntax.specs.Drawn.{name_of, expression_of, statement_of}
+use Rattle.kahn_syntax.proofs.Moves.{opens_arguments, no_program, no_instance, leads_argument, no_argument, memory_alone, only_memory, whole_end, halts, then, then_stops, call, call_stops, call_two, call_two_stops, one, deep, token, expected, goes, ends, level_ends, absent, unexpected, no_name, no_memory}
+use Rattle.std.proofs.Common.{length}
+use Rattle.kahn_syntax.specs.declared.parser.cursor.Stop.TheVariants.{Refused}
+use Rattle.kahn_syntax.proofs.Lists.{first_of}
+use Rattle.kahn_syntax.proofs.parser.program.read_argument.Goals as goal
+
+pub returns-in-Some-Number-default-clause-proper : goal.returns-in-Some-Number-default-clause-proper
+returns-in-Some-Number-default-clause-proper c = c.in-Some-Number-default.ensures.proper c.args.text.now c.requires.proper
+
+pub returns-in-Some-Word-True-default-clause-proper : goal.returns-in-Some-Word-True-default-clause-proper
+returns-in-Some-Word-True-default-clause-proper c = c.in-Some-Word-True-default.ensures.proper c.args.text.now c.requires.proper
+
+pub returns-in-Some-Word-False-default-clause-proper : goal.returns-in-Some-Word-False-default-clause-proper
+returns-in-Some-Word-False-default-clause-proper c = c.in-Some-Word-False-default.ensures.proper c.args.text.now c.requires.proper
+
+pub returns-in_err-name-in-Some-Name-default-clause-stops : goal.returns-in_err-name-in-Some-Name-default-clause-stops
+returns-in_err-name-in-Some-Name-default-clause-stops c =
+    let p = err_from_is_err_and c.from_residual.result c.from_residual.ensures.1 in rw (p.1, p.2) (only_memory c.args.text.now 0 (ArgumentPart ∷ []) c.args.input.now _ _ (first_of _ class.Name c.args.input.now c.in-Some-Name-default.field-0-1.now c.in-Some-Name-default.field-0-0-is c.in-Some-Name-default.ensures.first.0) c.in_err-name-in-Some-Name-default.ensures.stop)
+
+pub returns-in_default-clause-stops : goal.returns-in_default-clause-stops
+returns-in_default-clause-stops c = let a : leads_argument (terminals c.args.text.now c.args.input.now) ≡ false = search rules in no_argument c.args.text.now [] c.args.input.now a
+
+pub returns-in-Some-clause-proper : goal.returns-in-Some-clause-proper
+returns-in-Some-clause-proper c = c.in-Some.ensures.proper c.args.text.now (c.in-Some-Sign-Minus-default.ensures.proper c.args.text.now c.requires.proper)
+
+pub returns-in_default-next_negative-clause-stops : goal.returns-in_default-next_negative-clause-stops
+returns-in_default-next_negative-clause-stops c = then_stops c.args.text.now 0 (ArgumentPart ∷ []) (TokenPart NumberToken ∷ []) c.args.input.now c.in-Some-Sign-Minus-default.rest.now (Refused false (length c.in-Some-Sign-Minus-default.rest.now)) (one c.args.text.now 0 (ArgumentPart) ([]) (TokenPart NumberToken ∷ []) (sign mark.Minus) c.args.input.now c.in-Some-Sign-Minus-default.rest.now (λ s l. omega (arith, l)) (λ s. refl) ((first_of _ (class.Sign mark.Minus) c.args.input.now c.in-Some-Sign-Minus-default.rest.now (c.in-Some-Sign-Minus-default.field-0-0-is ∙ ap class.Sign c.in-Some-Sign-Minus-default.field-0-0-0-is) c.in-Some-Sign-Minus-default.ensures.first.0).1 c.args.text.now)) (absent c.args.text.now 0 NumberToken [] c.in-Some-Sign-Minus-default.rest.now (Refused false (length c.in-Some-Sign-Minus-default.rest.now)) (c.in_default-next_negative.ensures.absent c.args.text.now (c.in-Some-Sign-Minus-default.ensures.proper c.args.text.now c.requires.proper)) refl)
+

@@ -1,0 +1,30 @@
+use Rattle.std.proofs.Common.{rules, true, ◌≢◌, map, ◌≡◌, false, refl, [], ◌∷◌, arith, sym, ap, ◌∙◌, subst}
+use Rattle.std.proofs.lemmas.Result.{err_from_is_err_and}
+use Rattle.kahn_syntax.specs.declared.lexeme.Keyword.TheVariants as keyword
+use Rattle.kahn_syntax.specs.declared.lexeme.Sign.TheVariants as mark
+use Rattle.kahn_syntax.specs.declared.lexeme.Class.TheVariants as class
+use Rattle.kahn_syntax.specs.Terminals.{word, sign, name, terminals}
+use Rattle.kahn_syntax.specs.Rungs.{whole, ors, denials, relations, sums, factors, rung_of, tighter}
+use Rattle.kahn_syntax.specs.Machine.{BecomesToken, BeginToken, ChannelToken, CloseToken, CommaToken, DoToken, ElseToken, EndToken, IfToken, NameToken, NotToken, NumberToken, OnToken, OpenToken, ParToken, ProcessToken, SemicolonToken, ThenToken, NamesTail, StatementsTail, GroupsTail, ArgumentsTail, InstancesTail, ElseTail, LastTail, ProgramPart, DeclarationsPart, DeclarationPart, ProcessPart, RolePart, GroupsPart, GroupPart, TakingPart, VariablesPart, StatementPart, SimplePart, ExpressionPart, OperatorsPart, InstancePart, ArgumentsPart, ArgumentPart, TailPart, TokenPart, LevelPart}
+use Rattle.kahn_syntax.specs.Drawn.{name_of, expression_of, statement_of}
+use Rattle.kahn_syntax.proofs.Moves.{opens_arguments, no_program, no_instance, leads_argument, no_argument, memory_alone, only_memory, whole_end, halts, then, then_stops, call, call_stops, call_two, call_two_stops, one, deep, token, expected, goes, ends, level_ends, absent, unexpected, no_name, no_memory}
+use Rattle.kahn_syntax.proofs.parser.program.read_instance.Goals as goal
+
+pub returns-in_err-process-clause-stops : goal.returns-in_err-process-clause-stops
+returns-in_err-process-clause-stops c =
+    let p = err_from_is_err_and c.from_residual.result c.from_residual.ensures.1 in rw (p.1, p.2) (no_instance c.args.text.now [] c.args.input.now _ c.in_err-process.ensures.stop)
+
+pub returns-in_err-rest-clause-stops : goal.returns-in_err-rest-clause-stops
+returns-in_err-rest-clause-stops c =
+    let p = err_from_is_err_and c.from_residual-in_err-rest.result c.from_residual-in_err-rest.ensures.1 in rw (p.1, p.2) (then_stops c.args.text.now 0 (InstancePart ∷ []) (TokenPart OpenToken ∷ ArgumentsPart ∷ []) c.args.input.now c.in_ok-process.rest.now _ (one c.args.text.now 0 (InstancePart) ([]) (TokenPart OpenToken ∷ ArgumentsPart ∷ []) (name (name_of c.in_ok-process.process)) c.args.input.now c.in_ok-process.rest.now (λ s l. omega (arith, l)) (λ s. refl) c.in_ok-process.ensures.words) (unexpected c.args.text.now 0 OpenToken (ArgumentsPart ∷ []) (class.Sign mark.Open) c.in_ok-process.rest.now _ refl c.in_err-rest.ensures.stop))
+
+pub read_arguments-requires : goal.read_arguments-requires
+read_arguments-requires c = record { proper = c.in_ok-rest.ensures.proper c.args.text.now c.in_ok-process.ensures.proper }
+
+pub returns-in_err-arguments-clause-stops : goal.returns-in_err-arguments-clause-stops
+returns-in_err-arguments-clause-stops c =
+    let p = err_from_is_err_and c.from_residual-in_err-arguments.result c.from_residual-in_err-arguments.ensures.1 in rw (p.1, p.2) (then_stops c.args.text.now 0 (InstancePart ∷ []) (ArgumentsPart ∷ []) c.args.input.now c.in_ok-rest.rest.now _ (then c.args.text.now 0 (InstancePart ∷ []) (TokenPart OpenToken ∷ ArgumentsPart ∷ []) (ArgumentsPart ∷ []) c.args.input.now c.in_ok-process.rest.now c.in_ok-rest.rest.now (one c.args.text.now 0 (InstancePart) ([]) (TokenPart OpenToken ∷ ArgumentsPart ∷ []) (name (name_of c.in_ok-process.process)) c.args.input.now c.in_ok-process.rest.now (λ s l. omega (arith, l)) (λ s. refl) c.in_ok-process.ensures.words) (expected c.args.text.now 0 OpenToken (ArgumentsPart ∷ []) (class.Sign mark.Open) c.in_ok-process.rest.now c.in_ok-rest.rest.now (λ s l. omega (arith, l)) refl c.in_ok-rest.ensures.first)) (call_stops c.args.text.now 0 0 (ArgumentsPart) ([]) c.in_ok-rest.rest.now _ (λ s l. omega (arith, l)) c.in_err-arguments.ensures.stops))
+
+pub returns-clause-reads : goal.returns-clause-reads
+returns-clause-reads c = (then c.args.text.now 0 (InstancePart ∷ []) (ArgumentsPart ∷ []) ([]) c.args.input.now c.in_ok-rest.rest.now c.in_ok-arguments.rest.now (then c.args.text.now 0 (InstancePart ∷ []) (TokenPart OpenToken ∷ ArgumentsPart ∷ []) (ArgumentsPart ∷ []) c.args.input.now c.in_ok-process.rest.now c.in_ok-rest.rest.now (one c.args.text.now 0 (InstancePart) ([]) (TokenPart OpenToken ∷ ArgumentsPart ∷ []) (name (name_of c.in_ok-process.process)) c.args.input.now c.in_ok-process.rest.now (λ s l. omega (arith, l)) (λ s. refl) c.in_ok-process.ensures.words) (expected c.args.text.now 0 OpenToken (ArgumentsPart ∷ []) (class.Sign mark.Open) c.in_ok-process.rest.now c.in_ok-rest.rest.now (λ s l. omega (arith, l)) refl c.in_ok-rest.ensures.first)) (call c.args.text.now 0 0 (ArgumentsPart) ([]) c.in_ok-rest.rest.now c.in_ok-arguments.rest.now (λ s l. omega (arith, l)) c.in_ok-arguments.ensures.reads))
+

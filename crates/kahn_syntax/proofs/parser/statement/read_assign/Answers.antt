@@ -1,0 +1,30 @@
+use Rattle.std.proofs.Common.{rules, ◌≡◌, false, refl, [], ◌∷◌, arith, sym, ap, ◌∙◌, subst}
+use Rattle.std.proofs.lemmas.Result.{err_from_is_err_and}
+use Rattle.kahn_syntax.specs.declared.lexeme.Keyword.TheVariants as keyword
+use Rattle.kahn_syntax.specs.declared.lexeme.Sign.TheVariants as mark
+use Rattle.kahn_syntax.specs.declared.lexeme.Class.TheVariants as class
+use Rattle.kahn_syntax.specs.Terminals.{word, sign, name, terminals}
+use Rattle.kahn_syntax.specs.Rungs.{whole, ors, denials, relations, sums, factors, rung_of, tighter}
+use Rattle.kahn_syntax.specs.Machine.{BecomesToken, BeginToken, ChannelToken, CloseToken, CommaToken, DoToken, ElseToken, EndToken, IfToken, NameToken, NotToken, NumberToken, OnToken, OpenToken, ParToken, ProcessToken, SemicolonToken, ThenToken, NamesTail, StatementsTail, GroupsTail, ArgumentsTail, InstancesTail, ElseTail, LastTail, ProgramPart, DeclarationsPart, DeclarationPart, ProcessPart, RolePart, GroupsPart, GroupPart, TakingPart, VariablesPart, StatementPart, SimplePart, ExpressionPart, OperatorsPart, InstancePart, ArgumentsPart, ArgumentPart, TailPart, TokenPart, LevelPart}
+use Rattle.kahn_syntax.specs.Drawn.{name_of, expression_of, statement_of}
+use Rattle.kahn_syntax.proofs.Moves.{memory_alone, leads_statement, opens_simple, leads_simple, simple_ends, reads_by, stops_by, then, then_stops, call, call_stops, call_two, call_two_stops, one, deep, token, expected, goes, ends, level_ends, absent, unexpected, no_name, no_memory}
+use Rattle.kahn_syntax.proofs.parser.statement.read_assign.Goals as goal
+
+pub returns-in_err-name-clause-stops : goal.returns-in_err-name-clause-stops
+returns-in_err-name-clause-stops c =
+    let p = err_from_is_err_and c.from_residual.result c.from_residual.ensures.1 in rw (p.1, p.2) (memory_alone c.args.text.now c.args.depth (SimplePart ∷ []) c.args.input.now _ c.requires.named c.in_err-name.ensures.stop)
+
+pub returns-in_err-rest-clause-stops : goal.returns-in_err-rest-clause-stops
+returns-in_err-rest-clause-stops c =
+    let p = err_from_is_err_and c.from_residual-in_err-rest.result c.from_residual-in_err-rest.ensures.1 in rw (p.1, p.2) (then_stops c.args.text.now c.args.depth (SimplePart ∷ []) (TokenPart BecomesToken ∷ ExpressionPart whole ∷ []) c.args.input.now c.in_ok-name.rest.now _ (one c.args.text.now c.args.depth (SimplePart) ([]) (TokenPart BecomesToken ∷ ExpressionPart whole ∷ []) (name (name_of c.in_ok-name.name)) c.args.input.now c.in_ok-name.rest.now (λ s l. omega (arith, l, c.requires.depth)) (λ s. refl) c.in_ok-name.ensures.words) (unexpected c.args.text.now c.args.depth BecomesToken (ExpressionPart whole ∷ []) (class.Sign mark.Becomes) c.in_ok-name.rest.now _ refl c.in_err-rest.ensures.stop))
+
+pub read_expression-requires-clause-proper : goal.read_expression-requires-clause-proper
+read_expression-requires-clause-proper c = c.in_ok-rest.ensures.proper c.args.text.now c.in_ok-name.ensures.proper
+
+pub returns-in_err-value-clause-stops : goal.returns-in_err-value-clause-stops
+returns-in_err-value-clause-stops c =
+    let p = err_from_is_err_and c.from_residual-in_err-value.result c.from_residual-in_err-value.ensures.1 in rw (p.1, p.2) (then_stops c.args.text.now c.args.depth (SimplePart ∷ []) (ExpressionPart whole ∷ []) c.args.input.now c.in_ok-rest.rest.now _ (then c.args.text.now c.args.depth (SimplePart ∷ []) (TokenPart BecomesToken ∷ ExpressionPart whole ∷ []) (ExpressionPart whole ∷ []) c.args.input.now c.in_ok-name.rest.now c.in_ok-rest.rest.now (one c.args.text.now c.args.depth (SimplePart) ([]) (TokenPart BecomesToken ∷ ExpressionPart whole ∷ []) (name (name_of c.in_ok-name.name)) c.args.input.now c.in_ok-name.rest.now (λ s l. omega (arith, l, c.requires.depth)) (λ s. refl) c.in_ok-name.ensures.words) (expected c.args.text.now c.args.depth BecomesToken (ExpressionPart whole ∷ []) (class.Sign mark.Becomes) c.in_ok-name.rest.now c.in_ok-rest.rest.now (λ s l. omega (arith, l, c.requires.depth)) refl c.in_ok-rest.ensures.first)) (call_stops c.args.text.now c.args.depth c.args.depth (ExpressionPart whole) ([]) c.in_ok-rest.rest.now _ (λ s l. omega (arith, l, c.requires.depth)) c.in_err-value.ensures.stops))
+
+pub returns-clause-reads : goal.returns-clause-reads
+returns-clause-reads c = (then c.args.text.now c.args.depth (SimplePart ∷ []) (ExpressionPart whole ∷ []) ([]) c.args.input.now c.in_ok-rest.rest.now c.in_ok-value.rest.now (then c.args.text.now c.args.depth (SimplePart ∷ []) (TokenPart BecomesToken ∷ ExpressionPart whole ∷ []) (ExpressionPart whole ∷ []) c.args.input.now c.in_ok-name.rest.now c.in_ok-rest.rest.now (one c.args.text.now c.args.depth (SimplePart) ([]) (TokenPart BecomesToken ∷ ExpressionPart whole ∷ []) (name (name_of c.in_ok-name.name)) c.args.input.now c.in_ok-name.rest.now (λ s l. omega (arith, l, c.requires.depth)) (λ s. refl) c.in_ok-name.ensures.words) (expected c.args.text.now c.args.depth BecomesToken (ExpressionPart whole ∷ []) (class.Sign mark.Becomes) c.in_ok-name.rest.now c.in_ok-rest.rest.now (λ s l. omega (arith, l, c.requires.depth)) refl c.in_ok-rest.ensures.first)) (call c.args.text.now c.args.depth c.args.depth (ExpressionPart whole) ([]) c.in_ok-rest.rest.now c.in_ok-value.rest.now (λ s l. omega (arith, l, c.requires.depth)) c.in_ok-value.ensures.reads))
+

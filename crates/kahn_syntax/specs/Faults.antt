@@ -1,0 +1,55 @@
+-- Why a list of lexemes is refused.
+use Rattle.std.specs.Prelude.{◌≡◌, ℕ, List, [], ◌∷◌, ◌++◌, ◌+◌, ◌≤◌, ◌<◌, length}
+use Rattle.kahn_syntax.specs.declared.lexeme.Lexeme.{Lexeme}
+use Rattle.kahn_syntax.specs.declared.span.Span.{Span}
+use Rattle.kahn_syntax.specs.declared.fault.SyntaxFault.{SyntaxFault}
+use Rattle.kahn_syntax.specs.declared.fault.SyntaxFault.TheVariants as fault
+use Rattle.kahn_syntax.specs.declared.fault.SyntaxFault.TheVariants.{Expected}
+use Rattle.kahn_syntax.specs.declared.fault.What.TheVariants.{More, Nothing, Other}
+use Rattle.kahn_syntax.specs.Terminals.{Terminal, terminal, terminals}
+use Rattle.kahn_syntax.specs.Programs.{ProgramTree, Spells, nesting}
+
+-- some tree spells it
+abbrev pub IsWhole : List Terminal → Type 0
+IsWhole ks = (t : ProgramTree) × Spells t ks
+
+-- It begins a program: some tree spells it with more terminals after it.
+abbrev pub Begins : List Terminal → Type 0
+Begins ks = (t : ProgramTree) × (after : List Terminal) × Spells t (ks ++ after)
+
+-- some tree of at most 64 levels does
+abbrev pub BeginsWithin : List Terminal → Type 0
+BeginsWithin ks = (t : ProgramTree) × (after : List Terminal) × Spells t (ks ++ after) × (nesting t ≤ 64)
+
+-- the terminals before are a whole program, and this one can't follow
+abbrev pub IsNothing : List Terminal → Terminal → Type 0
+IsNothing before k = IsWhole before × ¬ (Begins (before ++ k ∷ []))
+
+-- the terminals before begin a program and are none, and with this one they begin none
+abbrev pub IsOther : List Terminal → Terminal → Type 0
+IsOther before k = Begins before × ¬ (IsWhole before) × ¬ (Begins (before ++ k ∷ []))
+
+-- This one may stand here, and each program that begins so has more than 64 levels; one that begins without it has not.
+abbrev pub IsTooDeep : List Terminal → Terminal → Type 0
+IsTooDeep before k = BeginsWithin before × Begins (before ++ k ∷ [])
+    × ((t : ProgramTree) (after : List Terminal) → Spells t (before ++ k ∷ after) → 64 < nesting t)
+
+-- the lexeme with this span stands in the list, and P holds of the terminals before it and of its own
+abbrev pub StandsAt : List ℕ → List Lexeme → Span → (List Terminal → Terminal → Type 0) → Type 0
+StandsAt text lexemes span P = (before : List Lexeme) × (x : Lexeme) × (after : List Lexeme) × (lexemes ≡ before ++ x ∷ after) × (span ≡ x.span)
+    × P (terminals text before) (terminal text x.what x.span)
+
+-- The fault of these lexemes of the text, at the first lexeme of which it is true. Memory may be wanted at any place.
+abbrev pub IsFault : List ℕ → List Lexeme → SyntaxFault → Type 0
+IsFault text lexemes (Expected span More) = (span.from ≡ length text) × (span.to ≡ length text)
+    × Begins (terminals text lexemes) × ¬ (IsWhole (terminals text lexemes))
+IsFault text lexemes (Expected span Nothing) = StandsAt text lexemes span IsNothing
+IsFault text lexemes (Expected span Other) = StandsAt text lexemes span IsOther
+IsFault text lexemes (fault.TooDeep span) = StandsAt text lexemes span IsTooDeep
+IsFault text lexemes fault.NoMemory = Unit {0}
+IsFault text lexemes _ = ⊥
+
+-- the lexeme with this span stands in the list, and so many are left from it on
+abbrev pub Placed : List Lexeme → Span → ℕ → Type 0
+Placed lexemes span left =
+    (before : List Lexeme) × (x : Lexeme) × (after : List Lexeme) × (lexemes ≡ before ++ x ∷ after) × (span ≡ x.span) × (length after + 1 ≡ left)
