@@ -1,5 +1,6 @@
 //! Programs and inputs with the reports that an independent reading of the language gives them.
 
+mod examples;
 mod language;
 
 use crate::work::{WorkFault, work};
