@@ -145,7 +145,7 @@ fn long_lists_are_read_and_dropped(rt: HostRuntime) -> Result<(), Fail> {
     Ok(())
 }
 
-// The largest text of this beginning that is the first so many lexemes of the whole.
+// The first bytes of a text.
 fn cut<'t>(text: &'t str, end: usize) -> &'t str {
     match text.get(..end) {
         Some(part) => part,
@@ -157,11 +157,14 @@ fn cut<'t>(text: &'t str, end: usize) -> &'t str {
 fn each_beginning_of_the_counting_process_wants_more(rt: HostRuntime) -> Result<(), Fail> {
     let lexemes = lex(rt.alloc(), COUNTING)?;
     // Without its last semicolon the program is whole.
-    let beginnings = lexemes.len() - 2;
+    let beginnings = lexemes.len().saturating_sub(2);
     assert_eq!(rt; beginnings, 46);
     for lexeme in lexemes.iter().take(beginnings) {
         let end = lexeme.span.to;
-        assert_eq!(rt; fault(cut(COUNTING, end), &rt), expected(end, end, What::More));
+        assert_eq!(rt;
+            fault(cut(COUNTING, end), &rt),
+            expected(end, end, What::More)
+        );
     }
     Ok(())
 }

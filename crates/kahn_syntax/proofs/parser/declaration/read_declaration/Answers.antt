@@ -30,4 +30,3 @@ returns-in_err-process-in-None-clause-stops c =
 
 pub returns-in_ok-process-in-None-clause-reads : goal.returns-in_ok-process-in-None-clause-reads
 returns-in_ok-process-in-None-clause-reads c = (then c.args.text.now 0 (DeclarationPart ∷ []) (ProcessPart ∷ []) ([]) c.args.input.now c.args.input.now c.in_ok-process-in-None.rest.now (opens_process c.args.text.now [] c.args.input.now (c.in-None.ensures.leads c.args.text.now)) (call c.args.text.now 0 0 (ProcessPart) ([]) c.args.input.now c.in_ok-process-in-None.rest.now (λ s l. omega (arith, l)) c.in_ok-process-in-None.ensures.reads))
-

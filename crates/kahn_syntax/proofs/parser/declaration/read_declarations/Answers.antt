@@ -21,7 +21,7 @@ returns-in_err-after-clause-stops c =
 
 pub declarations-preserved : goal.declarations-preserved
 declarations-preserved c =
-    let a : leads_declaration (terminals c.args.text.now c.declarations.rest.now) ≡ true = search rules in 
+    let a : leads_declaration (terminals c.args.text.now c.declarations.rest.now) ≡ true = search rules in
     record {
       words = declarations_next _ _ _ _ _ _ _ c.in_ok-push.ensures.items c.declarations.invariant.words c.in_ok-declaration.ensures.words (c.in_ok-after.ensures.first.1 c.args.text.now);
       nesting = declarations_nesting_next _ _ _ c.in_ok-push.ensures.items c.declarations.invariant.nesting c.in_ok-declaration.ensures.nesting;
@@ -32,4 +32,3 @@ declarations-preserved c =
 
 pub returns-clause-reads : goal.returns-clause-reads
 returns-clause-reads c = let a : leads_declaration (terminals c.args.text.now c.declarations.rest.now) ≡ false = search rules in (then c.args.text.now 0 (DeclarationsPart ∷ []) (DeclarationsPart ∷ []) ([]) c.args.input.now c.declarations.rest.now c.declarations.rest.now (c.declarations.invariant.reads) (declarations_end c.args.text.now [] c.declarations.rest.now a))
-

@@ -22,4 +22,3 @@ returns-in_err-names-clause-stops c =
 
 pub returns-clause-reads : goal.returns-clause-reads
 returns-clause-reads c = (then c.args.text.now 0 (GroupPart ∷ []) (TokenPart NameToken ∷ TailPart NamesTail ∷ []) ([]) c.args.input.now c.read_taking-taking.result.1.now c.in_ok-names.rest.now (then c.args.text.now 0 (GroupPart ∷ []) (TakingPart ∷ TokenPart NameToken ∷ TailPart NamesTail ∷ []) (TokenPart NameToken ∷ TailPart NamesTail ∷ []) c.args.input.now c.in-Some.rest.now c.read_taking-taking.result.1.now (kind_moves c.args.text.now 0 GroupPart [] ((TakingPart ∷ TokenPart NameToken ∷ TailPart NamesTail ∷ [])) c.in-Some.kind c.args.input.now c.in-Some.rest.now (λ s l. omega (arith, l)) (λ s. refl) (λ s. refl) (c.in-Some.ensures.first c.args.text.now)) (call c.args.text.now 0 0 (TakingPart) (TokenPart NameToken ∷ TailPart NamesTail ∷ []) c.in-Some.rest.now c.read_taking-taking.result.1.now (λ s l. omega (arith, l)) (c.read_taking-taking.ensures.reads c.args.text.now))) (call_two c.args.text.now 0 0 (TokenPart NameToken) (TailPart NamesTail) ([]) c.read_taking-taking.result.1.now c.in_ok-names.rest.now (λ s l. omega (arith, l)) c.in_ok-names.ensures.reads))
-

@@ -30,7 +30,7 @@ returns-in_err-further-clause-stops c =
 pub groups-init : goal.groups-init
 groups-init c =
     let g = c.in_ok-first.first in
-    let a : leads_kind (terminals c.args.text.now c.args.input.now) ≡ true = search rules in 
+    let a : leads_kind (terminals c.args.text.now c.args.input.now) ≡ true = search rules in
     record {
       words = parameters_first _ g.taking (map name_of g.names.items) _ _ c.in_ok-first.ensures.some
           (c.in_ok-add_parameters.ensures.added ∙ ap (λ xs. map parameter_of xs ++ map (parameter g.taking) (map name_of g.names.items)) c.new-parameters.ensures.items)
@@ -53,4 +53,3 @@ groups-preserved c =
 
 pub returns-clause-reads : goal.returns-clause-reads
 returns-clause-reads c = (then c.args.text.now 0 (GroupsPart ∷ []) (TailPart GroupsTail ∷ []) ([]) c.args.input.now c.groups.rest.now c.groups.rest.now (c.groups.invariant.reads) (ends c.args.text.now 0 GroupsTail ([]) (class.Sign mark.Semicolon) c.groups.rest.now refl c.in_default.ensures.absent))
-

@@ -34,4 +34,3 @@ variables-preserved c =
 
 pub returns-clause-reads : goal.returns-clause-reads
 returns-clause-reads c = (then c.args.text.now 0 (VariablesPart ∷ []) (VariablesPart ∷ []) ([]) c.args.input.now c.variables.rest.now c.variables.rest.now (c.variables.invariant.reads) (variables_end c.args.text.now [] c.variables.rest.now (c.in_default.ensures.leads c.args.text.now)))
-

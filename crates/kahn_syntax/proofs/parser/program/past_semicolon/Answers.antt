@@ -15,4 +15,3 @@ returns-in-Some-clause-reads c = λ text. goes text 0 LastTail [] (class.Sign ma
 
 pub returns-in-None-clause-reads : goal.returns-in-None-clause-reads
 returns-in-None-clause-reads c = λ text. ends text 0 LastTail [] (class.Sign mark.Semicolon) c.args.input.now refl c.in-None.ensures.absent
-

@@ -34,4 +34,3 @@ returns-in-Some-clause-proper c = c.in-Some.ensures.proper c.args.text.now (c.in
 
 pub returns-in_default-next_negative-clause-stops : goal.returns-in_default-next_negative-clause-stops
 returns-in_default-next_negative-clause-stops c = then_stops c.args.text.now 0 (ArgumentPart ∷ []) (TokenPart NumberToken ∷ []) c.args.input.now c.in-Some-Sign-Minus-default.rest.now (Refused false (length c.in-Some-Sign-Minus-default.rest.now)) (one c.args.text.now 0 (ArgumentPart) ([]) (TokenPart NumberToken ∷ []) (sign mark.Minus) c.args.input.now c.in-Some-Sign-Minus-default.rest.now (λ s l. omega (arith, l)) (λ s. refl) ((first_of _ (class.Sign mark.Minus) c.args.input.now c.in-Some-Sign-Minus-default.rest.now (c.in-Some-Sign-Minus-default.field-0-0-is ∙ ap class.Sign c.in-Some-Sign-Minus-default.field-0-0-0-is) c.in-Some-Sign-Minus-default.ensures.first.0).1 c.args.text.now)) (absent c.args.text.now 0 NumberToken [] c.in-Some-Sign-Minus-default.rest.now (Refused false (length c.in-Some-Sign-Minus-default.rest.now)) (c.in_default-next_negative.ensures.absent c.args.text.now (c.in-Some-Sign-Minus-default.ensures.proper c.args.text.now c.requires.proper)) refl)
-

@@ -56,4 +56,3 @@ returns-clause-proper c = c.in_ok-rest.ensures.proper c.args.text.now c.argument
 
 pub returns-clause-reads : goal.returns-clause-reads
 returns-clause-reads c = (then c.args.text.now 0 (ArgumentsPart ∷ []) (TokenPart CloseToken ∷ []) ([]) c.args.input.now c.arguments.rest.now c.in_ok-rest.rest.now (then c.args.text.now 0 (ArgumentsPart ∷ []) (TailPart ArgumentsTail ∷ TokenPart CloseToken ∷ []) (TokenPart CloseToken ∷ []) c.args.input.now c.arguments.rest.now c.arguments.rest.now (c.arguments.invariant.reads) (ends c.args.text.now 0 ArgumentsTail (TokenPart CloseToken ∷ []) (class.Sign mark.Comma) c.arguments.rest.now refl c.in_default-past.ensures.absent)) (expected c.args.text.now 0 CloseToken ([]) (class.Sign mark.Close) c.arguments.rest.now c.in_ok-rest.rest.now (λ s l. omega (arith, l)) refl c.in_ok-rest.ensures.first))
-

@@ -27,4 +27,3 @@ returns-in_err-arguments-clause-stops c =
 
 pub returns-clause-reads : goal.returns-clause-reads
 returns-clause-reads c = (then c.args.text.now 0 (InstancePart ∷ []) (ArgumentsPart ∷ []) ([]) c.args.input.now c.in_ok-rest.rest.now c.in_ok-arguments.rest.now (then c.args.text.now 0 (InstancePart ∷ []) (TokenPart OpenToken ∷ ArgumentsPart ∷ []) (ArgumentsPart ∷ []) c.args.input.now c.in_ok-process.rest.now c.in_ok-rest.rest.now (one c.args.text.now 0 (InstancePart) ([]) (TokenPart OpenToken ∷ ArgumentsPart ∷ []) (name (name_of c.in_ok-process.process)) c.args.input.now c.in_ok-process.rest.now (λ s l. omega (arith, l)) (λ s. refl) c.in_ok-process.ensures.words) (expected c.args.text.now 0 OpenToken (ArgumentsPart ∷ []) (class.Sign mark.Open) c.in_ok-process.rest.now c.in_ok-rest.rest.now (λ s l. omega (arith, l)) refl c.in_ok-rest.ensures.first)) (call c.args.text.now 0 0 (ArgumentsPart) ([]) c.in_ok-rest.rest.now c.in_ok-arguments.rest.now (λ s l. omega (arith, l)) c.in_ok-arguments.ensures.reads))
-

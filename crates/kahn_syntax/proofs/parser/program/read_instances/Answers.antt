@@ -43,4 +43,3 @@ instances-preserved c =
 
 pub returns-clause-reads : goal.returns-clause-reads
 returns-clause-reads c = (then c.args.text.now 0 (InstancePart ∷ TailPart InstancesTail ∷ []) (TailPart InstancesTail ∷ []) ([]) c.args.input.now c.instances.rest.now c.instances.rest.now (c.instances.invariant.reads) (ends c.args.text.now 0 InstancesTail ([]) (class.Word keyword.Par) c.instances.rest.now refl c.in_default.ensures.absent))
-

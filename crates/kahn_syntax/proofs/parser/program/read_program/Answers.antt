@@ -31,4 +31,3 @@ returns-in_err-rest-2-clause-halts c =
 
 pub returns-else-is_empty-clause-halts : goal.returns-else-is_empty-clause-halts
 returns-else-is_empty-clause-halts c = let a : c.past_semicolon-rest.result.now ≢ [] = search rules in (then c.args.text.now 0 (ProgramPart ∷ []) (TailPart LastTail ∷ []) ([]) c.args.lexemes.now c.in_ok-rest-2.rest.now c.past_semicolon-rest.result.now (then c.args.text.now 0 (ProgramPart ∷ []) (TokenPart EndToken ∷ TailPart LastTail ∷ []) (TailPart LastTail ∷ []) c.args.lexemes.now c.past_semicolon.result.now c.in_ok-rest-2.rest.now (then c.args.text.now 0 (ProgramPart ∷ []) (TailPart LastTail ∷ TokenPart EndToken ∷ TailPart LastTail ∷ []) (TokenPart EndToken ∷ TailPart LastTail ∷ []) c.args.lexemes.now c.in_ok-instances.rest.now c.past_semicolon.result.now (then c.args.text.now 0 (ProgramPart ∷ []) (InstancePart ∷ TailPart InstancesTail ∷ TailPart LastTail ∷ TokenPart EndToken ∷ TailPart LastTail ∷ []) (TailPart LastTail ∷ TokenPart EndToken ∷ TailPart LastTail ∷ []) c.args.lexemes.now c.in_ok-declarations.rest.now c.in_ok-instances.rest.now (then c.args.text.now 0 (ProgramPart ∷ []) (DeclarationsPart ∷ InstancePart ∷ TailPart InstancesTail ∷ TailPart LastTail ∷ TokenPart EndToken ∷ TailPart LastTail ∷ []) (InstancePart ∷ TailPart InstancesTail ∷ TailPart LastTail ∷ TokenPart EndToken ∷ TailPart LastTail ∷ []) c.args.lexemes.now c.in_ok-rest.rest.now c.in_ok-declarations.rest.now (one c.args.text.now 0 (ProgramPart) ([]) (DeclarationsPart ∷ InstancePart ∷ TailPart InstancesTail ∷ TailPart LastTail ∷ TokenPart EndToken ∷ TailPart LastTail ∷ []) (word keyword.Begin) c.args.lexemes.now c.in_ok-rest.rest.now (λ s l. omega (arith, l)) (λ s. refl) (c.in_ok-rest.ensures.first.1 c.args.text.now)) (call c.args.text.now 0 0 (DeclarationsPart) (InstancePart ∷ TailPart InstancesTail ∷ TailPart LastTail ∷ TokenPart EndToken ∷ TailPart LastTail ∷ []) c.in_ok-rest.rest.now c.in_ok-declarations.rest.now (λ s l. omega (arith, l)) c.in_ok-declarations.ensures.reads)) (call_two c.args.text.now 0 0 (InstancePart) (TailPart InstancesTail) (TailPart LastTail ∷ TokenPart EndToken ∷ TailPart LastTail ∷ []) c.in_ok-declarations.rest.now c.in_ok-instances.rest.now (λ s l. omega (arith, l)) c.in_ok-instances.ensures.reads)) (call c.args.text.now 0 0 (TailPart LastTail) (TokenPart EndToken ∷ TailPart LastTail ∷ []) c.in_ok-instances.rest.now c.past_semicolon.result.now (λ s l. omega (arith, l)) (c.past_semicolon.ensures.reads c.args.text.now))) (expected c.args.text.now 0 EndToken (TailPart LastTail ∷ []) (class.Word keyword.End) c.past_semicolon.result.now c.in_ok-rest-2.rest.now (λ s l. omega (arith, l)) refl c.in_ok-rest-2.ensures.first)) (call c.args.text.now 0 0 (TailPart LastTail) ([]) c.in_ok-rest-2.rest.now c.past_semicolon-rest.result.now (λ s l. omega (arith, l)) (c.past_semicolon-rest.ensures.reads c.args.text.now))) [] refl ∙ whole_end c.args.text.now c.past_semicolon-rest.result.now a
-

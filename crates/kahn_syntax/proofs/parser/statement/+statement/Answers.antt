@@ -172,4 +172,3 @@ read_simple-returns-in_ok-rest-in-Some-Word-Begin-default-clause-reads t c = (th
 
 pub read_simple-returns-in_default-clause-reads : goal.read_simple-returns-in_default-clause-reads
 read_simple-returns-in_default-clause-reads t c = let a : leads_simple (terminals c.args.text.now c.args.input.now) ≡ false = search rules in simple_ends c.args.text.now c.args.depth [] c.args.input.now a
-

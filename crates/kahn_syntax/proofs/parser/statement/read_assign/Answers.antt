@@ -27,4 +27,3 @@ returns-in_err-value-clause-stops c =
 
 pub returns-clause-reads : goal.returns-clause-reads
 returns-clause-reads c = (then c.args.text.now c.args.depth (SimplePart ∷ []) (ExpressionPart whole ∷ []) ([]) c.args.input.now c.in_ok-rest.rest.now c.in_ok-value.rest.now (then c.args.text.now c.args.depth (SimplePart ∷ []) (TokenPart BecomesToken ∷ ExpressionPart whole ∷ []) (ExpressionPart whole ∷ []) c.args.input.now c.in_ok-name.rest.now c.in_ok-rest.rest.now (one c.args.text.now c.args.depth (SimplePart) ([]) (TokenPart BecomesToken ∷ ExpressionPart whole ∷ []) (name (name_of c.in_ok-name.name)) c.args.input.now c.in_ok-name.rest.now (λ s l. omega (arith, l, c.requires.depth)) (λ s. refl) c.in_ok-name.ensures.words) (expected c.args.text.now c.args.depth BecomesToken (ExpressionPart whole ∷ []) (class.Sign mark.Becomes) c.in_ok-name.rest.now c.in_ok-rest.rest.now (λ s l. omega (arith, l, c.requires.depth)) refl c.in_ok-rest.ensures.first)) (call c.args.text.now c.args.depth c.args.depth (ExpressionPart whole) ([]) c.in_ok-rest.rest.now c.in_ok-value.rest.now (λ s l. omega (arith, l, c.requires.depth)) c.in_ok-value.ensures.reads))
-

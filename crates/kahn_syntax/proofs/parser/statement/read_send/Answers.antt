@@ -27,4 +27,3 @@ returns-in_err-name-clause-stops c =
 
 pub returns-clause-reads : goal.returns-clause-reads
 returns-clause-reads c = (then c.args.text.now c.args.depth (SimplePart ∷ []) (TokenPart NameToken ∷ []) ([]) c.args.input.now c.in_ok-rest.rest.now c.in_ok-name.rest.now (then c.args.text.now c.args.depth (SimplePart ∷ []) (TokenPart OnToken ∷ TokenPart NameToken ∷ []) (TokenPart NameToken ∷ []) c.args.input.now c.in_ok-value.rest.now c.in_ok-rest.rest.now (then c.args.text.now c.args.depth (SimplePart ∷ []) (ExpressionPart whole ∷ TokenPart OnToken ∷ TokenPart NameToken ∷ []) (TokenPart OnToken ∷ TokenPart NameToken ∷ []) c.args.input.now c.args.rest.now c.in_ok-value.rest.now (one c.args.text.now c.args.depth (SimplePart) ([]) (ExpressionPart whole ∷ TokenPart OnToken ∷ TokenPart NameToken ∷ []) (word keyword.Send) c.args.input.now c.args.rest.now (λ s l. omega (arith, l, c.requires.depth)) (λ s. refl) (c.requires.first.1 c.args.text.now)) (call c.args.text.now c.args.depth c.args.depth (ExpressionPart whole) (TokenPart OnToken ∷ TokenPart NameToken ∷ []) c.args.rest.now c.in_ok-value.rest.now (λ s l. omega (arith, l, c.requires.depth)) c.in_ok-value.ensures.reads)) (expected c.args.text.now c.args.depth OnToken (TokenPart NameToken ∷ []) (class.Word keyword.On) c.in_ok-value.rest.now c.in_ok-rest.rest.now (λ s l. omega (arith, l, c.requires.depth)) refl c.in_ok-rest.ensures.first)) (token c.args.text.now c.args.depth NameToken ([]) (name (name_of c.in_ok-name.name)) c.in_ok-rest.rest.now c.in_ok-name.rest.now (λ s l. omega (arith, l, c.requires.depth)) refl c.in_ok-name.ensures.words))
-
