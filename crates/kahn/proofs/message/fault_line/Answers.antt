@@ -1,0 +1,12 @@
+use Rattle.std.proofs.Common.{rules}
+use Rattle.kahn.proofs.Renamed.{told}
+use Rattle.kahn.proofs.message.fault_line.Goals as goal
+
+pub returns-in-Open : goal.returns-in-Open
+returns-in-Open g c = told _ _ _ _ _ c.put_two.ensures (search rules)
+
+pub returns-in-Program : goal.returns-in-Program
+returns-in-Program g c = told _ _ _ _ _ c.put_read.ensures (search rules)
+
+pub returns-in-InputText : goal.returns-in-InputText
+returns-in-InputText g c = told _ _ _ _ _ c.put_read-in-InputText.ensures (search rules)

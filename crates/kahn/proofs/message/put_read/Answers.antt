@@ -1,0 +1,8 @@
+use Rattle.std.proofs.Common.{ap}
+use Rattle.kahn.specs.Message.{read_line}
+use Rattle.kahn.proofs.Renamed.{told}
+use Rattle.kahn.proofs.message.put_read.Goals as goal
+
+pub returns-in-NotUtf8 : goal.returns-in-NotUtf8
+returns-in-NotUtf8 g c =
+    told _ _ _ _ _ c.put_two-in-NotUtf8.ensures (ap (read_line c.args.path.now c.args.long.now) c.in-NotUtf8.is)
