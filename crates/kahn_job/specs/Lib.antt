@@ -1,0 +1,5 @@
+-- The words of this crate's contracts.
+pub mod Feeding
+pub mod Ends
+pub mod Ways
+pub mod Berths

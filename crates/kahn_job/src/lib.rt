@@ -1,0 +1,6 @@
+//! A process of a network together with the ends of its channels, which travel with it from worker to worker.
+#![tactic(auto)]
+
+mod feed;
+mod port;
+pub mod ports;
