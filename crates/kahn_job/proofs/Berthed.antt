@@ -11,9 +11,9 @@ use Rattle.kahn_code.specs.Cells.{is_output}
 use Rattle.kahn_code.specs.Seats.{IsRead, IsWritten, Stays, Moved}
 use Rattle.kahn_lane.specs.Places.{lane_name, token_name}
 use Rattle.kahn_lane.proofs.Places.{token_name-is_of, is_of-token_name}
-use Rattle.kahn_job.specs.Ends.{End, IsSame}
+use Rattle.kahn_job.specs.Ends.{End, IsSame, IsFlushed}
 use Rattle.kahn_job.specs.Ways.{nothing}
-use Rattle.kahn_job.specs.Berths.{Berth, AreServed, AreSame, Serves, end_at, seat_at}
+use Rattle.kahn_job.specs.Berths.{AreServed, Serves, end_at, HasFlushed, HaveFlushed, AreFlushed}
 
 same_or : (d c : ℕ) → (d ≡ c) ⊎ (d ≡ c → ⊥)
 same_or zero zero = inl refl
@@ -147,3 +147,74 @@ pub is_written : (t : Program) (lists : Lists) (p : ℕ) (es : List End) → Are
 is_written t lists p es h q d writes inner k w =
     let s = serves_written t lists p es h q d writes inner in
     (s.1 ∙ ap Some (sym (token_name-is_of t lists d k w.names (w.line d writes))), w.place)
+
+pub none_flushed : (es : List End) → HaveFlushed es es
+none_flushed es = record {
+  count = refl;
+  each = λ q. record { same = same_self (end_at es q); next = refl; flushed = inl refl };
+}
+
+-- one end more was flushed, or refused
+pub flushed_set : (old es : List End) (q : ℕ) (e : End) → HaveFlushed old es → q < length es → IsSame (end_at es q) e →
+    e.next ≡ (end_at es q).next → (e.flushed ≡ (end_at es q).flushed) ⊎ IsFlushed e → HaveFlushed old (slice_set es q e)
+flushed_set old es q e h l same next how = record {
+  count = length-set es q e ∙ h.count;
+  each = λ r. at r (same_or r q);
+}
+  where
+    further : (a b : End) → HasFlushed a b → IsSame b e → e.next ≡ b.next → (e.flushed ≡ b.flushed) ⊎ IsFlushed e → HasFlushed a e
+    further a b g s n f = record {
+      same = same_then a b e g.same s;
+      next = n ∙ g.next;
+      flushed = how_flushed f g.flushed;
+    }
+      where
+        still : IsFlushed b → e.flushed ≡ b.flushed → IsFlushed e
+        still is i = λ w. i ∙ is (sym s.writes ∙ w) ∙ sym n
+
+        how_flushed : (e.flushed ≡ b.flushed) ⊎ IsFlushed e → (b.flushed ≡ a.flushed) ⊎ IsFlushed b → (e.flushed ≡ a.flushed) ⊎ IsFlushed e
+        how_flushed (inr x) y = inr x
+        how_flushed (inl x) (inl y) = inl (x ∙ y)
+        how_flushed (inl x) (inr y) = inr (still y x)
+
+    at : (r : ℕ) → (r ≡ q) ⊎ (r ≡ q → ⊥) → HasFlushed (end_at old r) (end_at (slice_set es q e) r)
+    at r (inr n) = subst (λ x. HasFlushed (end_at old r) x) (sym (set_else es q r e n)) (h.each r)
+    at r (inl i) =
+        subst (λ k. HasFlushed (end_at old k) (end_at (slice_set es q e) k)) (sym i)
+        (subst (λ x. HasFlushed (end_at old q) x) (sym (set_here es q e l)) (further (end_at old q) (end_at es q) (h.each q) same next how))
+
+-- the first n ends were flushed
+abbrev pub UpTo : ℕ → List End → Type 0
+UpTo n es = (r : ℕ) → r < n → IsFlushed (end_at es r)
+
+pub up_to_more : (es : List End) (n : ℕ) (e : End) → UpTo n es → n < length es → IsFlushed e → UpTo (n + 1) (slice_set es n e)
+up_to_more es n e h l is r less = by (same_or r n)
+  where
+    by : (r ≡ n) ⊎ (r ≡ n → ⊥) → IsFlushed (end_at (slice_set es n e) r)
+    by (inl i) = subst (λ k. IsFlushed (end_at (slice_set es n e) k)) (sym i) (subst IsFlushed (sym (set_here es n e l)) is)
+    by (inr x) = subst IsFlushed (sym (set_else es n r e x)) (h r (below r n (omega (arith, less)) x))
+      where
+        below : (r n : ℕ) → r < suc n → (r ≡ n → ⊥) → r < n
+        below zero zero l o = absurd (o refl)
+        below zero (suc n) l o = omega arith
+        below (suc r) zero l o = absurd (omega (arith, l))
+        below (suc r) (suc n) l o = let b = below r n (omega (arith, l)) (λ e. o (ap suc e)) in omega (arith, b)
+
+past_none : (es : List End) (q : ℕ) → (q < length es) ⊎ (end_at es q ≡ nothing)
+past_none [] q = inr refl
+past_none (x ∷ es) zero = inl (omega arith)
+past_none (x ∷ es) (suc q) = by (past_none es q)
+  where
+    by : (q < length es) ⊎ (end_at es q ≡ nothing) → (suc q < length (x ∷ es)) ⊎ (end_at (x ∷ es) (suc q) ≡ nothing)
+    by (inl l) = inl (omega (arith, l))
+    by (inr e) = inr e
+
+nothing_flushed : IsFlushed nothing
+nothing_flushed e = let h : false ≡ true = e in absurd cc
+
+pub all_up : (es : List End) (n : ℕ) → UpTo n es → n ≡ length es → AreFlushed es
+all_up es n h is q = by (past_none es q)
+  where
+    by : (q < length es) ⊎ (end_at es q ≡ nothing) → IsFlushed (end_at es q)
+    by (inl l) = h q (omega (arith, l, is))
+    by (inr e) = subst IsFlushed (sym e) nothing_flushed

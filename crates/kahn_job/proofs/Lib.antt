@@ -1,1 +1,2 @@
-mod Berthed
+pub mod Berthed
+pub mod Manned

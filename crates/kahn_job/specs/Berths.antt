@@ -1,12 +1,12 @@
 -- What contracts see of the ends of an instance's channels.
-use Rattle.std.specs.Prelude.{◌≡◌, ℕ, true, false, List, length, Some, slice_index_or}
+use Rattle.std.specs.Prelude.{◌≡◌, ◌⊎◌, ℕ, true, false, List, length, Some, slice_index_or}
 use Rattle.kahn_syntax.specs.declared.tree.Program.{Program}
 use Rattle.kahn_check.specs.Network.{Actual, Reads, Writes, Hands, network_of, instance_at, actual_at, role_at}
 use Rattle.kahn_streams.specs.Tokens.{Lists}
 use Rattle.kahn_code.specs.Cells.{is_output}
 use Rattle.kahn_code.specs.Seats.{Seat}
 use Rattle.kahn_lane.specs.Places.{lane_name}
-use Rattle.kahn_job.specs.Ends.{End, IsSame}
+use Rattle.kahn_job.specs.Ends.{End, IsSame, IsFlushed}
 use Rattle.kahn_job.specs.Ways.{nothing}
 
 -- the network, the input and the instance, and the end that each parameter has
@@ -33,7 +33,17 @@ pub record AreServed (t : Program) (lists : Lists) (p : ℕ) (ends : List End) :
   pub count : length ends ≡ length (instance_at (network_of t) p).actuals
   pub each : (q : ℕ) → Serves t lists (actual_at (instance_at (network_of t) p) q) (end_at ends q)
 
--- each end is the same end, and those that stay where they are
-pub record AreSame (old new : List End) : Type 0 where
+-- it is the same end, where it stood, and what was put was flushed or as much is flushed as before
+pub record HasFlushed (old new : End) : Type 0 where
+  pub same : IsSame old new
+  pub next : new.next ≡ old.next
+  pub flushed : (new.flushed ≡ old.flushed) ⊎ IsFlushed new
+
+-- so for all ends
+pub record HaveFlushed (old new : List End) : Type 0 where
   pub count : length new ≡ length old
-  pub each : (q : ℕ) → IsSame (end_at old q) (end_at new q)
+  pub each : (q : ℕ) → HasFlushed (end_at old q) (end_at new q)
+
+-- on each channel what was put was flushed
+abbrev pub AreFlushed : List End → Type 0
+AreFlushed ends = (q : ℕ) → IsFlushed (end_at ends q)

@@ -3,3 +3,4 @@ pub mod Feeding
 pub mod Ends
 pub mod Ways
 pub mod Berths
+pub mod Works

@@ -2,5 +2,8 @@
 #![tactic(auto)]
 
 mod feed;
+pub mod job;
 mod port;
 pub mod ports;
+
+pub use job::Job;

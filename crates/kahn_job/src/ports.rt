@@ -1,8 +1,7 @@
 //! The ends of the channels of an instance.
 
-ghost use Rattle.std.specs.Prelude.{◌≡◌, ◌<◌, length, IfOk, MatchResult};
-ghost use Rattle.kahn_job.specs.Berths.{AreServed, AreSame, end_at, seat_at};
-ghost use Rattle.kahn_job.specs.Ends.{IsFlushed};
+ghost use Rattle.std.specs.Prelude.{◌≡◌, ◌<◌, length, OnOk};
+ghost use Rattle.kahn_job.specs.Berths.{AreFlushed, AreServed, HaveFlushed, end_at, seat_at};
 
 use crate::port::Port;
 use kahn_check::network::Network;
@@ -68,4 +67,42 @@ impl<'n> Ports for Ends<'n> {
     fn put(&mut self, parameter: usize, token: Token) {
         self.ports[parameter].put(token);
     }
+}
+
+impl<'n> Ends<'n> {
+    /// Flushes what was put on each channel, so that its reader can take it. It stops at the first refusal, which leaves
+    /// the tokens where they are.
+    pub fn flush(&mut self) -> Result<(), NoMemory>
+        ensures seat { seat_at self.new ≡ seat_at self.old }
+        ensures each { HaveFlushed self.old.ends self.new.ends }
+        ensures all { OnOk result (AreFlushed self.new.ends) }
+    {
+        flush_all(&mut self.ports)
+    }
+
+    /// Says that each parameter has the end of its channel: its contract is what it does.
+    pub fn served(&self)
+        ensures { AreServed self.now.network self.now.input self.now.instance self.now.ends }
+    {
+        let _instance = self.instance;
+    }
+
+    /// How many tokens were flushed on a parameter. It takes no memory.
+    pub fn flushed(&self, parameter: usize) -> u64
+        requires { parameter < length self.now.ends }
+        ensures { result ≡ (end_at self.now.ends parameter).flushed }
+    {
+        self.ports[parameter].flushed()
+    }
+}
+
+// Flushes each end, up to the first refusal.
+fn flush_all(ports: &mut [Port]) -> Result<(), NoMemory>
+    ensures each { HaveFlushed ports.old ports.new }
+    ensures all { OnOk result (AreFlushed ports.new) }
+{
+    for parameter in 0..ports.len() {
+        ports[parameter].flush()?;
+    }
+    Ok(())
 }
