@@ -4,3 +4,4 @@ pub mod Ends
 pub mod Ways
 pub mod Berths
 pub mod Works
+pub mod Openings

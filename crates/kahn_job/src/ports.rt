@@ -70,6 +70,24 @@ impl<'n> Ports for Ends<'n> {
 }
 
 impl<'n> Ends<'n> {
+    /// The ends of an instance of a network, for an input.
+    pub(crate) fn new(
+        network: &'n Network,
+        input: &'n Input,
+        instance: usize,
+        ports: Vec<Port<'n>>,
+    ) -> Ends<'n>
+        requires { AreServed network.now input.now instance ports.items }
+        ensures { result ≡ record { network = network.now; input = input.now; instance = instance; ends = ports.entry.items } }
+    {
+        Ends {
+            network,
+            input,
+            instance,
+            ports,
+        }
+    }
+
     /// Flushes what was put on each channel, so that its reader can take it. It stops at the first refusal, which leaves
     /// the tokens where they are.
     pub fn flush(&mut self) -> Result<(), NoMemory>
