@@ -1,0 +1,104 @@
+-- Jobs before their first events, one by one.
+use Rattle.std.proofs.Common.{arith, ◌≡◌, ◌⊎◌, inl, inr, ℕ, zero, suc, ◌+◌, ◌<◌, ◌≤◌, List, [], ◌∷◌, ◌++◌, length, replicate, refl, sym, ap, ◌∙◌, subst, Option, Some, None, slice_get, slice_set, slice_index_or, length-append}
+use Rattle.std.proofs.lemmas.List.{length-set}
+use Rattle.kahn_syntax.specs.declared.tree.Program.{Program}
+use Rattle.kahn_check.specs.Network.{Actual, Reads, Writes, Hands, network_of, instance_at, actual_at}
+use Rattle.kahn_check.specs.Wiring.{IsWellWired}
+use Rattle.kahn_check.proofs.Sourced.{reads_listed, writes_listed}
+use Rattle.kahn_streams.specs.Tokens.{Lists}
+use Rattle.kahn_code.specs.Lines.{Joins}
+use Rattle.kahn_code.specs.Seats.{Seat}
+use Rattle.kahn_code.specs.Standing.{count}
+use Rattle.kahn_code.specs.Told.{Told, IsAt, seat_of}
+use Rattle.kahn_job.specs.Ends.{End}
+use Rattle.kahn_job.specs.Berths.{AreServed, Serves, end_at, seat_at}
+use Rattle.kahn_job.specs.Works.{Work, IsManned}
+use Rattle.kahn_job.specs.Openings.{AreHanded, AreOpening, IsFresh, IsOpening, IsReadyRow, end_in}
+use Rattle.kahn_job.proofs.Handed.{row_else}
+
+count_zero : (n q : ℕ) → count (replicate n zero) q ≡ zero
+count_zero zero q = refl
+count_zero (suc n) zero = refl
+count_zero (suc n) (suc q) = count_zero n q
+
+pub manned_first : (t : Program) (lists : Lists) (watch : Option ℕ) (p : ℕ) (c : Told) (row : List End) → IsOpening t lists watch p c →
+    IsReadyRow t lists p row → p < length (network_of t).instances → IsManned c (record { network = t; input = lists; instance = p; ends = row })
+manned_first t lists watch p c row o r l = record {
+  seat = seats (sym o.network) (sym o.input) (sym o.instance);
+  here = subst (λ i. i < length (network_of c.network).instances) (sym o.instance) (subst (λ k. p < length (network_of k).instances) (sym o.network) l);
+  at = record {
+    reads = λ q d e. (r.fresh q).0 ∙ sym (ap (λ x. slice_index_or x q 0) o.taken ∙ count_zero _ q);
+    writes = λ q d e inner. (r.fresh q).0 ∙ sym (ap (λ x. slice_index_or x q 0) o.sent ∙ count_zero _ q);
+  };
+}
+  where
+    seats : t ≡ c.network → lists ≡ c.input → p ≡ c.instance → seat_at (record { network = t; input = lists; instance = p; ends = row }) ≡ seat_of c
+    seats a b d = λ i. record { network = a i; input = b i; instance = d i }
+
+-- the rows from instance n on are those of their instances
+pub record AreLeft (t : Program) (lists : Lists) (n : ℕ) (rows : List (List End)) : Type 0 where
+  pub count : length rows ≡ length (network_of t).instances
+  pub each : (p : ℕ) → n ≤ p → IsReadyRow t lists p (slice_index_or rows p [])
+
+all_served : (t : Program) (wired : IsWellWired t) (lists : Lists) (p q : ℕ) (e : End) (a : Actual) → actual_at (instance_at (network_of t) p) q ≡ a →
+    ((d : ℕ) → Joins a d → d < length (network_of t).channels → Serves t lists a e) → Serves t lists a e
+all_served t wired lists p q e (Reads d) i h = h d refl (reads_listed t wired p q d i)
+all_served t wired lists p q e (Writes d) i h = h d refl (writes_listed t wired p q d i)
+all_served t wired lists p q e (Hands v) i h = tt
+
+pub all_left : (t : Program) (lists : Lists) (rows : List (List End)) → IsWellWired t → AreHanded t lists (length (network_of t).channels) rows → AreLeft t lists 0 rows
+all_left t lists rows wired h = record {
+  count = h.count;
+  each = λ p l. record {
+    served = record {
+      count = h.sizes p;
+      each = λ q. all_served t wired lists p q (end_in rows p q) (actual_at (instance_at (network_of t) p) q) refl (h.each p q);
+    };
+    fresh = h.fresh p;
+  };
+}
+
+pub less_left : (t : Program) (lists : Lists) (n : ℕ) (rows more : List (List End)) → AreLeft t lists n rows → more ≡ slice_set rows n [] → AreLeft t lists (n + 1) more
+less_left t lists n rows more h e = subst (AreLeft t lists (n + 1)) (sym e) (record {
+  count = length-set rows n [] ∙ h.count;
+  each = λ p l. subst (IsReadyRow t lists p) (sym (row_else rows n p [] (apart p l))) (h.each p (omega (arith, l)));
+})
+  where
+    apart : (p : ℕ) → n + 1 ≤ p → p ≡ n → ⊥
+    apart p l i = absurd (omega (arith, l, i))
+
+pub no_jobs : (t : Program) (lists : Lists) (watch : Option ℕ) (jobs : List Work) → jobs ≡ [] → AreOpening t lists watch jobs 0
+no_jobs t lists watch jobs e = subst (λ l. AreOpening t lists watch l 0) (sym e) (record { count = refl; each = λ p w a. absurd (none p w a) })
+  where
+    none : (p : ℕ) (w : Work) → slice_get [] p ≡ Some w → ⊥
+    none p w e = cc
+
+some_one : {v w : Work} → Some v ≡ Some w → v ≡ w
+some_one e = cc
+
+abbrev Begun : Program → Lists → Option ℕ → ℕ → Work → Type 0
+Begun t lists watch p w = IsOpening t lists watch p w.cell × ((q : ℕ) → IsFresh (end_at w.ends q))
+
+pub one_job : (t : Program) (lists : Lists) (watch : Option ℕ) (jobs all : List Work) (n : ℕ) (w : Work) → AreOpening t lists watch jobs n →
+    IsOpening t lists watch n w.cell × ((q : ℕ) → IsFresh (end_at w.ends q)) → all ≡ jobs ++ w ∷ [] → AreOpening t lists watch all (n + 1)
+one_job t lists watch jobs all n w h o is =
+    subst (λ l. AreOpening t lists watch l (n + 1)) (sym is)
+    (record {
+      count = let l = length-append jobs (w ∷ []) in let c = h.count in omega (arith, l, c);
+      each = λ p x e. by p x (last jobs n p x h.count e);
+    })
+  where
+    last : (xs : List Work) (k : ℕ) (p : ℕ) (x : Work) → length xs ≡ k → slice_get (xs ++ w ∷ []) p ≡ Some x → (slice_get xs p ≡ Some x) ⊎ ((p ≡ k) × (w ≡ x))
+    last [] k zero x e f = inr (e, some_one f)
+    last [] k (suc p) x e f = absurd cc
+    last (y ∷ xs) zero p x e f = absurd (omega (arith, e))
+    last (y ∷ xs) (suc k) zero x e f = inl f
+    last (y ∷ xs) (suc k) (suc p) x e f = by (last xs k p x (omega (arith, e)) f)
+      where
+        by : (slice_get xs p ≡ Some x) ⊎ ((p ≡ k) × (w ≡ x)) → (slice_get (y ∷ xs) (suc p) ≡ Some x) ⊎ ((suc p ≡ suc k) × (w ≡ x))
+        by (inl a) = inl a
+        by (inr a) = inr (ap suc a.0, a.1)
+
+    by : (p : ℕ) (x : Work) → (slice_get jobs p ≡ Some x) ⊎ ((p ≡ n) × (w ≡ x)) → Begun t lists watch p x
+    by p x (inl a) = h.each p x a
+    by p x (inr a) = subst (λ y. Begun t lists watch p y) a.1 (subst (λ k. Begun t lists watch k w) (sym a.0) o)

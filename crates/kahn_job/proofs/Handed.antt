@@ -1,0 +1,218 @@
+-- The ends of a channel come to the parameters that it is handed to.
+use Rattle.std.proofs.Common.{arith, ◌≡◌, ◌⊎◌, inl, inr, ℕ, zero, suc, ◌+◌, ◌<◌, List, [], ◌∷◌, ◌++◌, length, replicate, refl, sym, ap, ◌∙◌, subst, true, false, Option, Some, None, slice_set, slice_index_or, le_of_suc-le-suc}
+use Rattle.std.proofs.lemmas.List.{length-set}
+use Rattle.kahn_syntax.specs.declared.tree.Program.{Program}
+use Rattle.kahn_syntax.specs.declared.tree.Role.{Role}
+use Rattle.kahn_syntax.specs.declared.tree.Role.TheVariants.{Inner, Input, Output}
+use Rattle.kahn_check.specs.Network.{Network, Actual, Reads, Writes, Hands, network_of, instance_at, actual_at, role_at}
+use Rattle.kahn_check.specs.Sides.{IsWriter, IsReader, IsOnly, IsWithin}
+use Rattle.kahn_check.specs.Wiring.{IsWellWired, side_at}
+use Rattle.kahn_check.specs.Sources.{IsFed}
+use Rattle.kahn_check.specs.declared.sides.Side.{Side}
+use Rattle.kahn_check.proofs.Sourced.{handed_within, reads, writes, reads_listed, writes_listed}
+use Rattle.kahn_streams.specs.Tokens.{Lists}
+use Rattle.kahn_code.specs.Cells.{is_output}
+use Rattle.kahn_code.specs.Lines.{Joins}
+use Rattle.kahn_lane.specs.Places.{lane_name}
+use Rattle.kahn_job.specs.Ends.{End}
+use Rattle.kahn_job.specs.Ways.{nothing}
+use Rattle.kahn_job.specs.Berths.{Serves, AreServed, end_at}
+use Rattle.kahn_job.specs.Openings.{AreEndsOf, AreHanded, IsFresh, end_in, placed}
+use Rattle.kahn_job.proofs.Berthed as ends
+
+pub replicate_more : (n : ℕ) (e : End) → replicate n e ++ e ∷ [] ≡ replicate (n + 1) e
+replicate_more n e = more n ∙ ap (λ k. replicate k e) step
+  where
+    more : (n : ℕ) → replicate n e ++ e ∷ [] ≡ replicate (suc n) e
+    more zero = refl
+    more (suc n) = ap (λ l. e ∷ l) (more n)
+
+    step : suc n ≡ n + 1
+    step = omega arith
+
+same_or : (d c : ℕ) → (d ≡ c) ⊎ (d ≡ c → ⊥)
+same_or zero zero = inl refl
+same_or zero (suc c) = inr (λ e. absurd (omega (arith, e)))
+same_or (suc d) zero = inr (λ e. absurd (omega (arith, e)))
+same_or (suc d) (suc c) = step (same_or d c)
+  where
+    step : (d ≡ c) ⊎ (d ≡ c → ⊥) → (suc d ≡ suc c) ⊎ (suc d ≡ suc c → ⊥)
+    step (inl e) = inl (ap suc e)
+    step (inr n) = inr (λ e. n (omega (arith, e)))
+
+pub row_here : (rows : List (List End)) (p : ℕ) (r : List End) → p < length rows → slice_index_or (slice_set rows p r) p [] ≡ r
+row_here [] p r l = absurd (omega (arith, l))
+row_here (x ∷ rows) zero r l = refl
+row_here (x ∷ rows) (suc p) r l = row_here rows p r (le_of_suc-le-suc l)
+
+pub row_else : (rows : List (List End)) (p o : ℕ) (r : List End) → (o ≡ p → ⊥) → slice_index_or (slice_set rows p r) o [] ≡ slice_index_or rows o []
+row_else [] p o r n = refl
+row_else (x ∷ rows) zero zero r n = absurd (n refl)
+row_else (x ∷ rows) zero (suc o) r n = refl
+row_else (x ∷ rows) (suc p) zero r n = refl
+row_else (x ∷ rows) (suc p) (suc o) r n = row_else rows p o r (λ e. n (ap suc e))
+
+-- where an end belongs there is a place for it
+abbrev pub HasPlace : List (List End) → Option Side → Type 0
+HasPlace rows side = (s : Side) → side ≡ Some s → (s.instance < length rows) × (s.parameter < length (slice_index_or rows s.instance []))
+
+-- a parameter has the new end or the old one
+abbrev Found : List (List End) → Option Side → End → ℕ → ℕ → Type 0
+Found rows side e p q =
+    ((side ≡ Some (side_at p q)) × (end_in (placed rows side e) p q ≡ e))
+    ⊎ ((side ≡ Some (side_at p q) → ⊥) × (end_in (placed rows side e) p q ≡ end_in rows p q))
+
+none_some : {s : Side} → None ≡ Some s → ⊥
+none_some e = cc
+
+some_one : {s u : Side} → Some s ≡ Some u → s ≡ u
+some_one e = cc
+
+pub found : (rows : List (List End)) (side : Option Side) (e : End) → HasPlace rows side → (p q : ℕ) → Found rows side e p q
+found rows None e h p q = inr (none_some, refl)
+found rows (Some s) e h p q = by (same_or p s.instance) (same_or q s.parameter)
+  where
+    row : List End
+    row = slice_set (slice_index_or rows s.instance []) s.parameter e
+
+    l : (s.instance < length rows) × (s.parameter < length (slice_index_or rows s.instance []))
+    l = h s refl
+
+    by : (p ≡ s.instance) ⊎ (p ≡ s.instance → ⊥) → (q ≡ s.parameter) ⊎ (q ≡ s.parameter → ⊥) → Found rows (Some s) e p q
+    by (inr n) y = inr (λ i. n (ap (λ (u : Side). u.instance) (sym (some_one i))), ap (λ r. end_at r q) (row_else rows s.instance p row n))
+    by (inl x) (inr n) = inr (
+      λ i. n (ap (λ (u : Side). u.parameter) (sym (some_one i))),
+      ap (λ k. end_at (slice_index_or (slice_set rows s.instance row) k []) q) x ∙ ap (λ r. end_at r q) (row_here rows s.instance row l.0) ∙
+          ends.set_else (slice_index_or rows s.instance []) s.parameter q e n ∙ ap (λ k. end_at (slice_index_or rows k []) q) (sym x),
+    )
+    by (inl x) (inl y) = inl (
+      ap Some (λ i. record { instance = sym x i; parameter = sym y i }),
+      ap (λ k. end_at (slice_index_or (slice_set rows s.instance row) k []) q) x ∙ ap (λ r. end_at r q) (row_here rows s.instance row l.0) ∙
+          ap (end_at row) y ∙ ends.set_here (slice_index_or rows s.instance []) s.parameter e l.1,
+    )
+
+pub placed_count : (rows : List (List End)) (side : Option Side) (e : End) → length (placed rows side e) ≡ length rows
+placed_count rows None e = refl
+placed_count rows (Some s) e = length-set rows s.instance (slice_set (slice_index_or rows s.instance []) s.parameter e)
+
+pub placed_sizes : (rows : List (List End)) (side : Option Side) (e : End) → HasPlace rows side → (p : ℕ) →
+    length (slice_index_or (placed rows side e) p []) ≡ length (slice_index_or rows p [])
+placed_sizes rows None e h p = refl
+placed_sizes rows (Some s) e h p = by (same_or p s.instance)
+  where
+    row : List End
+    row = slice_set (slice_index_or rows s.instance []) s.parameter e
+
+    l : (s.instance < length rows) × (s.parameter < length (slice_index_or rows s.instance []))
+    l = h s refl
+
+    by : (p ≡ s.instance) ⊎ (p ≡ s.instance → ⊥) → length (slice_index_or (slice_set rows s.instance row) p []) ≡ length (slice_index_or rows p [])
+    by (inr n) = ap (λ (r : List End). length r) (row_else rows s.instance p row n)
+    by (inl x) =
+        ap (λ k. length (slice_index_or (slice_set rows s.instance row) k [])) x ∙ ap (λ (r : List End). length r) (row_here rows s.instance row l.0) ∙
+        length-set (slice_index_or rows s.instance []) s.parameter e ∙ ap (λ k. length (slice_index_or rows k [])) (sym x)
+
+pub has_place : (t : Program) (lists : Lists) (k : ℕ) (rows : List (List End)) (side : Option Side) (P : Side → Type 0) → AreHanded t lists k rows →
+    ((s : Side) → P s → IsWithin (network_of t) s) → IsOnly P side → HasPlace rows side
+has_place t lists k rows side P h w only s e =
+    let i = w s (at side only e) in (subst (λ n. s.instance < n) (sym h.count) i.0, subst (λ n. s.parameter < n) (sym (h.sizes s.instance)) i.1)
+  where
+    at : (o : Option Side) → IsOnly P o → o ≡ Some s → P s
+    at None none e = absurd (none_some e)
+    at (Some u) one e = subst P (some_one e) one.0
+
+-- the one that passes is the one that was found
+only_one : (P : Side → Type 0) (side : Option Side) (s : Side) → IsOnly P side → P s → side ≡ Some s
+only_one P None s none p = absurd (none s p)
+only_one P (Some u) s one p = ap Some (sym (one.1 s p))
+
+only_passes : (P : Side → Type 0) (side : Option Side) (s : Side) → IsOnly P side → side ≡ Some s → P s
+only_passes P None s none e = absurd (none_some e)
+only_passes P (Some u) s one e = subst P (some_one e) one.0
+
+not_output : (r : Role) → (r ≡ Input → ⊥) → is_output r ≡ false → r ≡ Inner
+not_output Inner n e = refl
+not_output Input n e = absurd (n refl)
+not_output Output n e = let h : true ≡ false = e in absurd cc
+
+fed_role : (N : Network) (c : ℕ) → role_at N c ≡ Input → role_at N c ≡ Output → ⊥
+fed_role N c i o = let e : Input ≡ Output = sym i ∙ o in absurd cc
+
+inner_role : (N : Network) (c : ℕ) → role_at N c ≡ Inner → role_at N c ≡ Output → ⊥
+inner_role N c i o = let e : Inner ≡ Output = sym i ∙ o in absurd cc
+
+module _ (t : Program) (wired : IsWellWired t) (lists : Lists) (c : ℕ) (x y : End) (e : AreEndsOf t lists c x y) where
+  abbrev N : Network
+  N = network_of t
+
+  serves_reader : (p q : ℕ) → actual_at (instance_at N p) q ≡ Reads c → Serves t lists (actual_at (instance_at N p) q) y
+  serves_reader p q r = subst (λ a. Serves t lists a y) (sym r) (e.takes (never (reads t wired p q c r)))
+    where
+      never : IsFed N c → role_at N c ≡ Output → ⊥
+      never (inl f) = fed_role N c f.1
+      never (inr f) = inner_role N c f.4
+
+  serves_writer : (p q : ℕ) → actual_at (instance_at N p) q ≡ Writes c → Serves t lists (actual_at (instance_at N p) q) x
+  serves_writer p q w = subst (λ a. Serves t lists a x) (sym w) (λ o. e.puts (not_output (role_at N c) (writes t wired p q c w).1 o))
+
+  module _ (rows : List (List End)) (h : AreHanded t lists c rows) (w r : Option Side) (ow : IsOnly (IsWriter N c) w) (oo : IsOnly (IsReader N c) r) where
+    abbrev first : List (List End)
+    first = placed rows w x
+
+    pub place_w : HasPlace rows w
+    place_w = has_place t lists c rows w (IsWriter N c) h (λ s p. p.0) ow
+
+    pub place_r : HasPlace first r
+    place_r s i =
+        let l = has_place t lists c rows r (IsReader N c) h (λ s p. p.0) oo s i in (
+          subst (λ n. s.instance < n) (sym (placed_count rows w x)) l.0,
+          subst (λ n. s.parameter < n) (sym (placed_sizes rows w x place_w s.instance)) l.1,
+        )
+
+    -- what was handed over before is none of this channel
+    before : (p q d : ℕ) (a : Actual) → actual_at (instance_at N p) q ≡ a → (w ≡ Some (side_at p q) → ⊥) → (r ≡ Some (side_at p q) → ⊥) →
+        Joins a d → d < c + 1 → Serves t lists (actual_at (instance_at N p) q) (end_in rows p q)
+    before p q d a is nw nr j l = by (same_or d c)
+      where
+        here : (a : Actual) → actual_at (instance_at N p) q ≡ a → Joins a c → ⊥
+        here (Reads b) i j =
+            let at : actual_at (instance_at N p) q ≡ Reads c = i ∙ ap Reads j in
+            nr (only_one (IsReader N c) r (side_at p q) oo (handed_within N p q c (subst (λ a. Joins a c) (sym i) j), at))
+        here (Writes b) i j =
+            let at : actual_at (instance_at N p) q ≡ Writes c = i ∙ ap Writes j in
+            nw (only_one (IsWriter N c) w (side_at p q) ow (handed_within N p q c (subst (λ a. Joins a c) (sym i) j), at))
+        here (Hands v) i j = j
+
+        less : (d c : ℕ) → d < suc c → (d ≡ c → ⊥) → d < c
+        less zero zero l o = absurd (o refl)
+        less zero (suc c) l o = omega arith
+        less (suc d) zero l o = absurd (omega (arith, l))
+        less (suc d) (suc c) l o = let b = less d c (omega (arith, l)) (λ e. o (ap suc e)) in omega (arith, b)
+
+        by : (d ≡ c) ⊎ (d ≡ c → ⊥) → Serves t lists (actual_at (instance_at N p) q) (end_in rows p q)
+        by (inl s) = absurd (here a is (subst (Joins a) s j))
+        by (inr n) = h.each p q d (subst (λ a. Joins a d) (sym is) j) (less d c (omega (arith, l)) n)
+
+    pub handed_more : AreHanded t lists (c + 1) (placed first r y)
+    handed_more = record {
+      count = placed_count first r y ∙ placed_count rows w x ∙ h.count;
+      sizes = λ p. placed_sizes first r y place_r p ∙ placed_sizes rows w x place_w p ∙ h.sizes p;
+      each = λ p q d j l. at p q d j l (found first r y place_r p q) (found rows w x place_w p q);
+      fresh = λ p q. new p q (found first r y place_r p q) (found rows w x place_w p q);
+    }
+      where
+        at : (p q d : ℕ) → Joins (actual_at (instance_at N p) q) d → d < c + 1 → Found first r y p q → Found rows w x p q →
+            Serves t lists (actual_at (instance_at N p) q) (end_in (placed first r y) p q)
+        at p q d j l (inl a) b =
+            subst (λ z. Serves t lists (actual_at (instance_at N p) q) z) (sym a.1)
+            (serves_reader p q (only_passes (IsReader N c) r (side_at p q) oo a.0).1)
+        at p q d j l (inr a) (inl b) =
+            subst (λ z. Serves t lists (actual_at (instance_at N p) q) z) (sym (a.1 ∙ b.1))
+            (serves_writer p q (only_passes (IsWriter N c) w (side_at p q) ow b.0).1)
+        at p q d j l (inr a) (inr b) =
+            subst (λ z. Serves t lists (actual_at (instance_at N p) q) z) (sym (a.1 ∙ b.1)) (before p q d _ refl b.0 a.0 j l)
+
+        new : (p q : ℕ) → Found first r y p q → Found rows w x p q → IsFresh (end_in (placed first r y) p q)
+        new p q (inl a) b = subst IsFresh (sym a.1) e.new_reader
+        new p q (inr a) (inl b) = subst IsFresh (sym (a.1 ∙ b.1)) e.new_writer
+        new p q (inr a) (inr b) = subst IsFresh (sym (a.1 ∙ b.1)) (h.fresh p q)

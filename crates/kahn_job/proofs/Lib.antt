@@ -1,0 +1,5 @@
+pub mod Berthed
+pub mod Manned
+pub mod Handed
+pub mod Bare
+pub mod Begun

@@ -1,0 +1,49 @@
+-- What contracts see of the end of a channel that a parameter has.
+use Rattle.std.specs.Prelude.{◌≡◌, ◌⊎◌, ℕ, ◌<◌, ◌≤◌, Bool, true, Option}
+use Rattle.std.specs.declared.alloc.Global.{Global}
+use Rattle.kahn_lane.specs.Places.{Named}
+
+-- which lane it is an end of
+abbrev pub Lane : Type 0
+Lane = (ℕ × ℕ) × Global
+
+pub record End : Type 0 where
+  -- tokens are taken here, or put here; neither where the parameter has no end
+  pub reads : Bool
+  pub writes : Bool
+  -- the lane, where it is the end of one, and what its tokens are of
+  pub lane : Option Lane
+  pub name : Named
+  -- the place of the next token
+  pub next : ℕ
+  -- how many tokens wait at hand; how many there are as far as this end knows; how many segments it knows to have left
+  pub waiting : ℕ
+  pub known : ℕ
+  pub left : ℕ
+  -- how many tokens were flushed; how many stand in the open segment, and for how many it has memory
+  pub flushed : ℕ
+  pub filled : ℕ
+  pub capacity : ℕ
+
+-- it is the same end, of the same channel
+pub record IsSame (old new : End) : Type 0 where
+  pub reads : new.reads ≡ old.reads
+  pub writes : new.writes ≡ old.writes
+  pub lane : new.lane ≡ old.lane
+  pub name : new.name ≡ old.name
+
+-- the next take gives a token
+abbrev pub IsReady : End → Type 0
+IsReady e = 0 < e.waiting
+
+-- all tokens that it knew of were taken, or 64 steals met another step: then so many segments have left the lane
+abbrev pub IsDry : End → Type 0
+IsDry e = (e.known ≤ e.next) ⊎ (64 ≤ e.left)
+
+-- there is room for one token
+abbrev pub HasRoom : End → Type 0
+HasRoom e = (e.filled < 64) × (e.filled < e.capacity)
+
+-- what was put was flushed
+abbrev pub IsFlushed : End → Type 0
+IsFlushed e = e.writes ≡ true → e.flushed ≡ e.next

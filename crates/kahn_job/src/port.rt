@@ -1,0 +1,193 @@
+//! The end of a channel that a parameter has.
+
+ghost use Rattle.std.specs.Prelude.{◌≡◌, ◌⊎◌, ◌<◌, ◌+◌, ◌^◌, true, length, Some, IfSome, IfNone, IsSome, IsTrue, IsFalse, OnOk, MatchResult};
+ghost use Rattle.kahn_check.specs.Network.{network_of, role_at};
+ghost use Rattle.kahn_lane.specs.Places.{token_name};
+ghost use Rattle.kahn_syntax.specs.declared.tree.Role.TheVariants.{Input as InputRole};
+ghost use Rattle.kahn_job.specs.Ends.{IsSame, IsReady, IsDry, HasRoom, IsFlushed};
+ghost use Rattle.kahn_job.specs.Ways.{taking, feeding, putting, nothing};
+
+use crate::feed::Feed;
+use kahn_check::network::Network;
+use kahn_lane::{Receiver, Sender};
+use kahn_streams::input::Input;
+use kahn_streams::memory::NoMemory;
+use kahn_streams::token::Token;
+use std::marker::Model;
+
+// What a parameter does.
+#[derive(Drop)]
+pub(crate) enum Way<'n> {
+    Takes(Receiver),
+    Feeds(Feed<'n>),
+    Puts(Sender),
+    Nothing,
+}
+
+/// The end of a channel that a parameter has: it takes from an inner channel or from an input channel, or puts into an
+/// inner channel. A parameter that has a value or an output channel has no end.
+#[derive(Drop)]
+pub(crate) struct Port<'n> {
+    way: Way<'n>,
+}
+
+impl<'n> Model for Port<'n> {
+    ghost use Rattle.kahn_syntax.specs.contracts.tree.Action as action;
+    ghost use Rattle.kahn_syntax.specs.contracts.tree.Form as form;
+    ghost use Rattle.std.specs.Coded.{codes};
+    ghost use Rattle.kahn_job.specs.Ends.{End};
+
+    ghost Value = { End };
+
+    ghost coded = { Prim.hlevel (codes, action.the_row.coded, form.the_row.coded) };
+
+    ghost use Rattle.kahn_job.specs.Ways.{end_of};
+
+    ghost view = { λ p. end_of p.way };
+}
+
+impl<'n> Port<'n> {
+    /// The reader's end of a lane.
+    pub(crate) fn takes(receiver: Receiver) -> Port<'n>
+        ensures { result ≡ taking receiver }
+    {
+        Port {
+            way: Way::Takes(receiver),
+        }
+    }
+
+    /// The list of an input channel, from its first value on.
+    pub(crate) fn feeds(network: &'n Network, input: &'n Input, channel: usize) -> Port<'n>
+        requires inside { channel < length (network_of network.now).channels }
+        requires given { role_at (network_of network.now) channel ≡ InputRole }
+        ensures { result ≡ feeding (record { network = network.now; input = input.now; channel = channel; next = 0 }) }
+    {
+        Port {
+            way: Way::Feeds(Feed::new(network, input, channel)),
+        }
+    }
+
+    /// The writer's end of a lane.
+    pub(crate) fn puts(sender: Sender) -> Port<'n>
+        ensures { result ≡ putting sender }
+    {
+        Port {
+            way: Way::Puts(sender),
+        }
+    }
+
+    /// No end.
+    pub(crate) fn nothing() -> Port<'n>
+        ensures { result ≡ nothing }
+    {
+        Port { way: Way::Nothing }
+    }
+
+    /// Whether the next `take` gives a token. It takes no memory.
+    pub(crate) fn ready(&mut self) -> bool
+        requires { self.old.reads ≡ true }
+        ensures same { IsSame self.old self.new }
+        ensures counts { (self.new.next ≡ self.old.next) × (self.new.known ≡ self.old.known) }
+        ensures yes { IsTrue result → IsReady self.new }
+        ensures dry { IsFalse result → IsDry self.new }
+    {
+        match &mut self.way {
+            Way::Takes(receiver) => receiver.ready(),
+            Way::Feeds(feed) => feed.is_ready(),
+            Way::Puts(_) => false,
+            Way::Nothing => false,
+        }
+    }
+
+    /// The token of the next place. It takes no memory.
+    pub(crate) fn take(&mut self) -> Option<Token>
+        requires reads { self.old.reads ≡ true }
+        requires bound { self.old.next < 2 ^ 48 }
+        ensures same { IsSame self.old self.new }
+        ensures known { self.new.known ≡ self.old.known }
+        ensures token { IfSome result (λ t. (self.old.name ≡ Some (token_name t)) × (t.place ≡ self.old.next)) }
+        ensures moved { IfSome result (λ _. self.new.next ≡ self.old.next + 1) }
+        ensures none { IfNone result ((self.new.next ≡ self.old.next) × IsDry self.new) }
+        ensures some { IsReady self.old → IsSome result }
+    {
+        match &mut self.way {
+            Way::Takes(receiver) => receiver.take(),
+            Way::Feeds(feed) => feed.take(),
+            Way::Puts(_) => None,
+            Way::Nothing => None,
+        }
+    }
+
+    /// Makes room for one token. Where the open segment is full it is flushed first.
+    pub(crate) fn room(&mut self) -> Result<(), NoMemory>
+        requires { self.old.writes ≡ true }
+        ensures same { IsSame self.old self.new }
+        ensures counts { (self.new.next ≡ self.old.next) × ((self.new.flushed ≡ self.old.flushed) ⊎ (self.new.flushed ≡ self.old.next)) }
+        ensures room { OnOk result (HasRoom self.new) }
+    {
+        match &mut self.way {
+            Way::Takes(_) => Ok(()),
+            Way::Feeds(_) => Ok(()),
+            Way::Puts(sender) => sender.room(),
+            Way::Nothing => Ok(()),
+        }
+    }
+
+    /// Puts the token of the next place. It takes no memory.
+    pub(crate) fn put(&mut self, token: Token)
+        requires writes { self.old.writes ≡ true }
+        requires bound { self.old.next < 2 ^ 48 }
+        requires room { HasRoom self.old }
+        requires token { (self.old.name ≡ Some (token_name token)) × (token.place ≡ self.old.next) }
+        ensures same { IsSame self.old self.new }
+        ensures moved { (self.new.next ≡ self.old.next + 1) × (self.new.flushed ≡ self.old.flushed) }
+    {
+        match &mut self.way {
+            Way::Takes(_) => {}
+            Way::Feeds(_) => {}
+            Way::Puts(sender) => sender.put(token),
+            Way::Nothing => {}
+        }
+    }
+
+    /// Flushes what was put, so that the reader can take it. A refusal leaves the tokens in the open segment.
+    pub(crate) fn flush(&mut self) -> Result<(), NoMemory>
+        ensures same { IsSame self.old self.new }
+        ensures counts { (self.new.next ≡ self.old.next) × (self.new.known ≡ self.old.known) }
+        ensures flushed { MatchResult result (λ _. IsFlushed self.new) (λ _. self.new.flushed ≡ self.old.flushed) }
+    {
+        match &mut self.way {
+            Way::Takes(_) => {}
+            Way::Feeds(_) => {}
+            Way::Puts(sender) => {
+                sender.flush()?;
+            }
+            Way::Nothing => {}
+        }
+        Ok(())
+    }
+
+    /// The place of the next token. It takes no memory.
+    pub(crate) fn next(&self) -> u64
+        ensures { result ≡ self.now.next }
+    {
+        match &self.way {
+            Way::Takes(receiver) => receiver.taken(),
+            Way::Feeds(feed) => feed.next(),
+            Way::Puts(sender) => sender.sent(),
+            Way::Nothing => 0,
+        }
+    }
+
+    /// How many tokens were flushed. It takes no memory.
+    pub(crate) fn flushed(&self) -> u64
+        ensures { result ≡ self.now.flushed }
+    {
+        match &self.way {
+            Way::Takes(_) => 0,
+            Way::Feeds(_) => 0,
+            Way::Puts(sender) => sender.flushed(),
+            Way::Nothing => 0,
+        }
+    }
+}
