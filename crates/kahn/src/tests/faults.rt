@@ -3,6 +3,7 @@
 use crate::fault::{Fault, status};
 use crate::message::fault_line;
 use kahn_check::fault::CheckFault;
+use kahn_check::network::check;
 use kahn_pool::answer::Verdict;
 use kahn_pool::config::RunFault;
 use kahn_report::input::TextFault;
@@ -11,6 +12,7 @@ use kahn_report::work::WorkFault;
 use kahn_report::write::WriteFault;
 use kahn_streams::entries::InputFault;
 use kahn_syntax::fault::{SyntaxFault, What};
+use kahn_syntax::parser::parse;
 use kahn_syntax::span::Span;
 use std::alloc::Global;
 use std::test::Fail;
@@ -265,4 +267,24 @@ fn statuses_of_reports(rt: HostRuntime) {
     assert_eq!(rt; status(&Ok(Verdict::Finished)), 0);
     assert_eq!(rt; status(&Ok(Verdict::Bound)), 3);
     assert_eq!(rt; status(&Ok(Verdict::Memory)), 4);
+}
+
+static TWO_WRITERS: &str =
+    "begin integer output channel W; process s(integer out A); begin send 1 on A end; s(W) par s(W) end";
+
+#[test]
+fn two_writers_of_a_channel(rt: HostRuntime) -> Result<(), Fail> {
+    let told = check(rt.alloc(), parse(rt.alloc(), TWO_WRITERS)?);
+    assert!(rt; told.is_err());
+    if let Err(fault) = told {
+        let fault = Fault::Work(WorkFault::Check(fault));
+        let mut written = Vec::new(rt.alloc());
+        fault_line(&fault, TWO_WRITERS, &mut written)?;
+        assert_eq!(rt;
+            written.as_slice(),
+            b"kahn: 1:93: channel has two writers\n".as_slice()
+        );
+        assert_eq!(rt; status(&Err(fault)), 1);
+    }
+    Ok(())
 }
