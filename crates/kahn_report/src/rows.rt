@@ -2,6 +2,7 @@
 
 mod examples;
 mod language;
+mod limits;
 
 use crate::work::{WorkFault, work};
 use kahn_pool::answer::Verdict;
