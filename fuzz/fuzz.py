@@ -1,0 +1,355 @@
+"""Random programs and inputs, valid and broken: the built program against reference.py.
+
+    fuzz.py PROGRAM COUNT [SEED]      prints each difference, and keeps its texts in /tmp/kahn-fuzz
+"""
+import os
+import random
+import re
+import subprocess
+import sys
+from concurrent.futures import ThreadPoolExecutor
+
+sys.path.insert(0, os.path.dirname(os.path.abspath(__file__)))
+import reference as ref
+
+ROOM = "/tmp/kahn-fuzz"
+KINDS = ("integer", "logical")
+NUMBERS = (0, 1, 2, 3, 5, 7, 10, 1000, 2**31, 2**62, 2**63 - 1)
+
+
+class Maker:
+    def __init__(self, rng):
+        self.r = rng
+
+    def pick(self, *xs):
+        return self.r.choice(xs)
+
+    def chance(self, p):
+        return self.r.random() < p
+
+    def case(self, word):
+        return self.pick(word, word, word, word.upper(), word.capitalize())
+
+    def blank(self):
+        return self.pick(" ", " ", " ", "\n", "\t", "\r\n", " comment a; ", "\n  ", "  ")
+
+    # ---- expressions
+    def expr(self, kind, depth):
+        if depth <= 0 or self.chance(0.3):
+            return self.leaf(kind)
+        if self.chance(0.12):
+            return f"if {self.expr('logical', depth - 1)} then {self.expr(kind, depth - 1)} else {self.expr(kind, depth - 1)}" if self.chance(0.3) else \
+                f"(if {self.expr('logical', depth - 1)} then {self.expr(kind, depth - 1)} else {self.expr(kind, depth - 1)})"
+        if kind == "integer":
+            form = self.r.random()
+            if form < 0.15:
+                return f"-{self.part('integer', depth)}"
+            sign = self.pick("+", "-", "*", "div", "mod", "+", "-")
+            out = self.part("integer", depth)
+            for _ in range(self.r.randint(1, 3)):
+                out += f" {sign} {self.part('integer', depth)}"
+                sign = self.pick("+", "-", "*", "div", "mod")
+            return out
+        form = self.r.random()
+        if form < 0.2:
+            return f"{self.pick('not ', 'NOT ', '¬', '¬ ')}{self.part('logical', depth)}"
+        if form < 0.4:
+            return f"{self.part('logical', depth)} {self.pick('and', 'or')} {self.part('logical', depth)}"
+        if form < 0.55:
+            return f"{self.part('logical', depth)} {self.pick('=', '<>')} {self.part('logical', depth)}"
+        return f"{self.part('integer', depth)} {self.pick('=', '<>', '<', '<=', '>', '>=')} {self.part('integer', depth)}"
+
+    def part(self, kind, depth):
+        if self.chance(0.5):
+            return self.leaf(kind)
+        return f"({self.expr(kind, depth - 1)})"
+
+    def leaf(self, kind):
+        values = [n for n, k in self.values if k == kind]
+        ins = [n for n, k in self.ins if k == kind]
+        form = self.r.random()
+        if ins and form < 0.35:
+            return f"wait({self.r.choice(ins)})"
+        if values and form < 0.75:
+            return self.r.choice(values)
+        if kind == "logical":
+            return self.pick("true", "false", "TRUE")
+        n = self.r.choice(NUMBERS) if self.chance(0.4) else self.r.randint(0, 9)
+        return ("0" if self.chance(0.05) else "") + str(n)
+
+    # ---- statements
+    def simple(self, depth):
+        form = self.r.random()
+        if form < 0.3 and self.outs:
+            n, k = self.r.choice(self.outs)
+            return f"send {self.expr(k, 2)} on {n}"
+        if form < 0.45:
+            return f"print {self.expr(self.pick(*KINDS), 2)}"
+        if form < 0.75 and self.values:
+            n, k = self.r.choice(self.values)
+            return f"{n} := {self.expr(k, 2)}"
+        if form < 0.92 and depth > 0:
+            return self.block(depth - 1)
+        return ""
+
+    def block(self, depth):
+        many = [self.statement(depth) for _ in range(self.r.randint(1, 4))]
+        return f"{self.case('begin')} {('; ' if self.chance(0.8) else ';').join(many)} {self.case('end')}"
+
+    def statement(self, depth):
+        form = self.r.random()
+        if depth <= 0 or form < 0.6:
+            return self.simple(depth)
+        if form < 0.75:
+            out = f"if {self.expr('logical', 2)} then {self.simple(depth - 1)}"
+            return out + (f" else {self.statement(depth - 1)}" if self.chance(0.5) else "")
+        if form < 0.9:
+            counters = [n for n, k in self.values if k == "integer"]
+            if counters and self.chance(0.7):
+                n = self.r.choice(counters)
+                return f"while {n} < {self.r.randint(1, 6)} do begin {n} := {n} + 1; {self.statement(depth - 1)} end"
+            return f"while {self.expr('logical', 2)} do {self.statement(depth - 1)}"
+        return f"repeat {self.block(depth - 1)}"
+
+    # ---- programs
+    def program(self):
+        count = self.r.randint(1, 5)
+        ends = [[] for _ in range(count)]  # of each instance: (way, kind, channel)
+        channels = []
+        for i in range(self.r.randint(0, 7)):
+            role = self.pick("inner", "inner", "inner", "input", "output")
+            kind = self.pick("integer", "integer", "integer", "logical")
+            name = f"{self.pick('X', 'Y', 'chan_', 'Z')}{i}"
+            channels.append((name, kind, role))
+            if role != "input":
+                self.r.choice(ends).append(("out", kind, name))
+            if role != "output":
+                self.r.choice(ends).append(("in", kind, name))
+        self.channels = channels
+        declarations = [f"{self.case(k)}{'' if role == 'inner' else ' ' + self.case(role)} channel {n}" for n, k, role in channels]
+        instances, made = [], {}
+        for i, mine in enumerate(ends):
+            self.r.shuffle(mine)
+            extra = [("value", self.pick(*KINDS)) for _ in range(self.r.randint(0, 2))]
+            shape = tuple((w, k) for w, k, _ in mine) + tuple(extra)
+            if shape in made and self.chance(0.5):
+                process = made[shape]
+            else:
+                process = f"{self.pick('p', 'q', 'Proc', 'f_')}{i}"
+                made[shape] = process
+                declarations.append(self.process(process, shape))
+            args = [c for _, _, c in mine]
+            for _, kind in extra:
+                args.append(self.pick("true", "false") if kind == "logical" else str(self.r.choice((-1, 1)) * self.r.choice(NUMBERS)))
+            instances.append(f"{process}({', '.join(args)})")
+        # processes stand after or before channels, in any order
+        self.r.shuffle(declarations)
+        text = f"{self.case('begin')} " + "".join(d + ";\n" for d in declarations) + f"{self.pick(' par ', ' PAR ').join(instances)}" \
+            + self.pick("", ";") + f" {self.case('end')}" + self.pick("", ";", ";\n", "\n")
+        if self.chance(0.3):
+            text = re.sub(r" ", lambda m: self.blank() if self.chance(0.15) else " ", text)
+        return text
+
+    def process(self, name, shape):
+        self.ins, self.outs, self.values, groups = [], [], [], []
+        for k, (way, kind) in enumerate(shape):
+            n = f"{self.pick('a', 'b', 'U')}{k}"
+            if way == "in":
+                self.ins.append((n, kind))
+            elif way == "out":
+                self.outs.append((n, kind))
+            else:
+                self.values.append((n, kind))
+            groups.append(f"{kind}{' ' + way if way != 'value' else ''} {n}")
+        variables = ""
+        for k in range(self.r.randint(0, 3)):
+            n, kind = f"v{k}", self.pick(*KINDS)
+            self.values.append((n, kind))
+            variables += f"{kind} {n}; "
+        many = [self.statement(3) for _ in range(self.r.randint(1, 4))]
+        if self.chance(0.5):
+            many.append(f"repeat {self.block(2)}")
+        if self.chance(0.3) and self.ins and self.outs:
+            (i, ki), (o, ko) = self.r.choice(self.ins), self.r.choice(self.outs)
+            if ki == ko:
+                many.append(f"repeat send wait({i}) on {o}")
+        return f"process {name}({'; '.join(groups)}); begin {variables}{'; '.join(many)} end"
+
+    # ---- inputs
+    def input(self):
+        out = []
+        for n, kind, role in self.channels:
+            if role == "input" and self.chance(0.85):
+                values = [str(self.r.randint(-9, 9)) if self.chance(0.9) else str(self.r.choice((-1, 1)) * self.r.choice(NUMBERS))
+                          for _ in range(self.r.randint(0, 8))]
+                if kind == "logical":
+                    values = [self.pick("true", "false", "TRUE", "False") for _ in values]
+                blank = self.pick(" ", " ", "\t", "  ")
+                out.append(self.pick("", "", " ", "\t") + n + self.pick("", "", " ") + ":" + self.pick("", " ") + blank.join(values) + self.pick("", " "))
+        self.r.shuffle(out)
+        text = self.pick("\n", "\r\n", "\n\n", "\n \t\n").join(out)
+        return text + self.pick("", "\n", "\r\n", "\r")
+
+
+LEXEMES = re.compile(r"\w+|:=|<>|<=|>=|\s+|.", re.S)
+ODD = ["begin", "end", ";", "(", ")", ",", "if", "then", "else", "while", "do", "repeat", "wait", "send", "on", "par", "process",
+       "integer", "logical", "channel", "input", "output", "in", "out", "true", "false", "not", "¬", "-", "+", "*", "div", "mod", "=",
+       "<", "<=", "<>", ":=", "print", "X0", "Y1", "p0", "q1", "v0", "v1", "a0", "b1", "U0", "1", "0", "9223372036854775808", "comment", ":",
+       "é", "_", "#", "a" * 64, "a" * 65, "comment x;", "or", "and", "\0", "\u00a0", "9223372036854775807", "007"]
+
+
+def broken(rng, text):
+    """A text with some lexemes taken out, put in, exchanged or doubled, or bytes changed."""
+    parts = LEXEMES.findall(text)
+    for _ in range(rng.choice((1, 1, 1, 2, 3))):
+        form = rng.random()
+        dark = [i for i, p in enumerate(parts) if p.strip()]
+        if not dark:
+            break
+        i = rng.choice(dark)
+        if form < 0.2:
+            del parts[i]
+        elif form < 0.4:
+            parts.insert(i, rng.choice(ODD) + " ")
+        elif form < 0.6:
+            parts[i] = rng.choice(ODD)
+        elif form < 0.75:
+            j = rng.choice(dark)
+            parts[i], parts[j] = parts[j], parts[i]
+        elif form < 0.85:
+            parts.insert(i, parts[i] + " ")
+        elif form < 0.9:
+            del parts[i:]
+        else:
+            # a name for another name
+            names = [p for p in parts if p[0].isalpha() and p.lower() not in ref.KEYWORDS]
+            if names and parts[i] in names:
+                parts[i] = rng.choice(names)
+    return "".join(parts)
+
+
+def renamed(rng, text):
+    """A text with a name, a kind, a direction or a literal put in the place of another of its sort."""
+    parts = LEXEMES.findall(text)
+    sorts = (lambda p: p.lower() in ("integer", "logical"), lambda p: p.lower() in ("in", "out"), lambda p: p.lower() in ("input", "output"),
+             lambda p: p[0].isdigit() or p.lower() in ("true", "false"), lambda p: p in ("+", "<", "=", "and", "or", "*", "<>", "mod"))
+    for _ in range(rng.choice((1, 1, 2))):
+        sort = rng.choice(sorts) if rng.random() < 0.4 else lambda p: p[0].isalpha() and p.lower() not in ref.KEYWORDS
+        at = [i for i, p in enumerate(parts) if sort(p)]
+        if at:
+            parts[rng.choice(at)] = parts[rng.choice(at)]
+    return "".join(parts)
+
+
+def deep(rng):
+    """A text near the limit of nesting."""
+    n = rng.randint(62, 66)
+    form = rng.randint(0, 6)
+    if form == 0:
+        e = "(" * n + "1" + ")" * n
+        return f"begin process p(); begin print {e} end; p() end"
+    if form == 1:
+        return f"begin process p(); begin logical B; B := {'not ' * n}true end; p() end"
+    if form == 2:
+        return f"begin process p(); begin integer I; I := {'-' * n}1 end; p() end"
+    if form == 3:
+        return f"begin process p(); begin {'begin ' * n}{'end ' * n} end; p() end"
+    if form == 4:
+        return f"begin process p(); begin {'if true then ' + ' else if false then ' * (n - 1)} end; p() end"
+    if form == 5:
+        return f"begin process p(); begin print {'if true then ' * n}1{' else 2' * n} end; p() end"
+    return f"begin process p(); begin {'while false do ' * n} end; p() end"
+
+
+def bytes_of(rng, text):
+    data = text.encode()
+    if rng.random() < 0.01 and data:
+        at = rng.randrange(len(data))
+        data = data[:at] + bytes([rng.randrange(128, 256)]) + data[at + 1:]
+    return data
+
+
+def case(seed):
+    rng = random.Random(seed)
+    maker = Maker(rng)
+    text = maker.program()
+    source = maker.input()
+    form = rng.random()
+    if form < 0.2:
+        text = broken(rng, text)
+    elif form < 0.45:
+        text = renamed(rng, text)
+    elif form < 0.53:
+        source = broken(rng, source) if source else rng.choice((": 1", "X0", "A: x", "a: +1", "X0: 1", "begin:", "a" * 65 + ": 1"))
+    elif form < 0.56:
+        text = deep(rng)
+    names = [n for n, _, _ in maker.channels] + (["Q", "p0"] if rng.random() < 0.2 else [])
+    watch = rng.choice(names) if names and rng.random() < 0.3 else None
+    bound = rng.choice((None, None, 0, 1, 5, 10, 37, 100, 1000, 3000))
+    return (bytes_of(rng, text), bytes_of(rng, source) if rng.random() < 0.9 else None, watch, bound if bound is not None else rng.randint(0, 5000),
+            rng.choice((None, 1, 2, 3, 8, 16)), rng.choice((None, 1, 2, 7, 1000000)), rng.random() < 0.5)
+
+
+def words_of(watch, bound, workers, quantum):
+    out = ["--bound", str(bound)]
+    for name, value in (("--watch", watch), ("--workers", workers), ("--quantum", quantum)):
+        if value is not None:
+            out += [name, str(value)]
+    return out
+
+
+def one(program, seed):
+    text, source, watch, bound, workers, quantum, piped = case(seed)
+    at = f"{ROOM}/{seed}"
+    words = [program, *words_of(watch, bound, workers, quantum)]
+    open(at + ".kahn", "wb").write(text)
+    if source is not None:
+        open(at + ".input", "wb").write(source)
+        words += ["--input", at + ".input"]
+    if not piped:
+        words.append(at + ".kahn")
+    try:
+        ran = subprocess.run(words, input=text if piped else b"", capture_output=True, timeout=60)
+    except subprocess.TimeoutExpired:
+        return seed, "hangs", words
+    wanted = ref.run(text, source, bound, watch, ("standard input" if piped else at + ".kahn", at + ".input"))
+    what = None
+    if wanted.status is None:
+        what = None
+    elif ran.returncode != wanted.status:
+        what = f"status {ran.returncode}, not {wanted.status}: {ran.stderr[:200]!r} not {(wanted.err or b'')[:200]!r}"
+    elif ran.stderr != wanted.err:
+        what = f"standard error {ran.stderr!r}, not {wanted.err!r}"
+    elif wanted.stopped:
+        what = wanted.stopped(ran.stdout)
+    elif ran.stdout != wanted.out:
+        what = f"standard output {ran.stdout!r}, not {wanted.out!r}"
+    if what is None:
+        for name in (at + ".kahn", at + ".input"):
+            if os.path.exists(name):
+                os.remove(name)
+        kind = "skipped" if wanted.status is None else (wanted.err or b"").split(b": ")[-1].decode().strip() or ("stopped" if wanted.stopped else "finished")
+        return seed, None, kind
+    return seed, what, words
+
+
+def main():
+    program, count = sys.argv[1], int(sys.argv[2])
+    first = int(sys.argv[3]) if len(sys.argv) > 3 else 1
+    os.makedirs(ROOM, exist_ok=True)
+    kinds, wrong = {}, 0
+    with ThreadPoolExecutor(2) as pool:
+        for seed, what, more in pool.map(lambda s: one(program, s), range(first, first + count)):
+            if what is None:
+                more = re.sub(r"\d+", "N", more)
+                kinds[more] = kinds.get(more, 0) + 1
+            else:
+                wrong += 1
+                print(f"{seed}: {what}\n   {' '.join(more)}", flush=True)
+    for kind in sorted(kinds, key=kinds.get, reverse=True):
+        print(f"{kinds[kind]:6} {kind}")
+    print(f"{count} cases, {wrong} differ")
+
+
+if __name__ == "__main__":
+    main()
