@@ -39,6 +39,11 @@ got [] i l = absurd (omega (arith, l))
 got (x ∷ xs) zero l = (x, refl)
 got (x ∷ xs) (suc i) l = got xs i (le_of_suc-le-suc l)
 
+pub within_get : {X : Type 0} (xs : List X) (i : ℕ) (x : X) → slice_get xs i ≡ Some x → i < length xs
+within_get [] i x e = absurd cc
+within_get (y ∷ xs) zero x e = omega arith
+within_get (y ∷ xs) (suc i) x e = let r = within_get xs i x e in omega (arith, r)
+
 pub mapped : {X Y : Type 0} (f : X → Y) (xs : List X) (i : ℕ) (x : X) (d : Y) → slice_get xs i ≡ Some x → slice_index_or (map f xs) i d ≡ f x
 mapped f [] i x d e = absurd cc
 mapped f (y ∷ xs) zero x d e = ap f (some_is e)
@@ -212,11 +217,6 @@ laid_after b laid p c c' q at same seat stands leaves = record {
 
     here : p < length b.cells
     here = within_get b.cells p c at
-      where
-        within_get : (xs : List Told) (i : ℕ) (x : Told) → slice_get xs i ≡ Some x → i < length xs
-        within_get [] i x e = absurd cc
-        within_get (y ∷ xs) zero x e = omega arith
-        within_get (y ∷ xs) (suc i) x e = let r = within_get xs i x e in omega (arith, r)
 
     is : q.instance ≡ p
     is = ap (λ (s : Seat). s.instance) seat ∙ same.2 ∙ old.instance
@@ -257,21 +257,11 @@ pub views_after : (b : Table) (p : ℕ) (c c' : Told) (q : Queues) → slice_get
 views_after b p c c' q at =
     map_set told_view b.cells p c' ∙
     ap (slice_set (map told_view b.cells) p)
-    (sym (mapped told_view (slice_set b.cells p c') p c' nothing (set_here b.cells p c' (here b.cells p c at))))
-  where
-    here : (xs : List Told) (i : ℕ) (x : Told) → slice_get xs i ≡ Some x → i < length xs
-    here [] i x e = absurd cc
-    here (y ∷ xs) zero x e = omega arith
-    here (y ∷ xs) (suc i) x e = let r = here xs i x e in omega (arith, r)
+    (sym (mapped told_view (slice_set b.cells p c') p c' nothing (set_here b.cells p c' (within_get b.cells p c at))))
 
 pub view_after : (b : Table) (p : ℕ) (c c' : Told) (q : Queues) → slice_get b.cells p ≡ Some c →
     view_at (state_of (ran b p c' q)).cells p ≡ told_view c'
-view_after b p c c' q at = mapped told_view (slice_set b.cells p c') p c' nothing (set_here b.cells p c' (here b.cells p c at))
-  where
-    here : (xs : List Told) (i : ℕ) (x : Told) → slice_get xs i ≡ Some x → i < length xs
-    here [] i x e = absurd cc
-    here (y ∷ xs) zero x e = omega arith
-    here (y ∷ xs) (suc i) x e = let r = here xs i x e in omega (arith, r)
+view_after b p c c' q at = mapped told_view (slice_set b.cells p c') p c' nothing (set_here b.cells p c' (within_get b.cells p c at))
 
 pub still_after : (b : Table) (p : ℕ) (c c' : Told) (q : Queues) → slice_get b.cells p ≡ Some c → c'.events ≡ c.events → IsStill c c' →
     state_of (ran b p c' q) ≡ state_of b
@@ -290,11 +280,6 @@ pub not_none : {d : ℕ} → None ≡ Some d → ⊥
 not_none e = cc
 
 -- ---- one run of a cell
-
-pub within_get : {X : Type 0} (xs : List X) (i : ℕ) (x : X) → slice_get xs i ≡ Some x → i < length xs
-within_get [] i x e = absurd cc
-within_get (y ∷ xs) zero x e = omega arith
-within_get (y ∷ xs) (suc i) x e = let r = within_get xs i x e in omega (arith, r)
 
 pub found : (b : Table) → IsLaid b → (p : ℕ) (c d : Told) → p < length (network_of b.network).instances → c ≡ slice_index_or b.cells p d → slice_get b.cells p ≡ Some c
 found b laid p c d l is = by (got b.cells p (subst (λ n. p < n) (sym laid.count) l))

@@ -29,8 +29,9 @@ fn watched(network: &Network, name: &Option<String>) -> Result<Option<usize>, Ru
     }
 }
 
-/// Runs a network with an input that fits it. The answer depends on the configuration's bound and watched channel alone,
-/// and a finished one on neither: what a channel carries doesn't depend on the speeds of the processes.
+/// Runs a network with an input that fits it. Its answer is right, whatever the number of workers and the quantum are. A
+/// finished answer is the same for all of them and for every bound; of one that was stopped, which events were done may
+/// depend on them, and never what stands at a place of a stream.
 ///
 /// It refuses with `BadConfig` where a number of the configuration is out of its limit, then with `UnknownWatch` where
 /// no channel has the name that is to be watched, and with `NoMemory` where memory was refused before the first event.
@@ -51,12 +52,5 @@ pub fn run<R: Threads + Wait + Sync, G: Gate>(
         return Err(RunFault::BadConfig);
     }
     let watch = watched(network, &config.watch)?;
-    Ok(run_watched(
-        alloc,
-        network,
-        &input,
-        watch,
-        config.quantum,
-        config.bound,
-    )?)
+    Ok(run_watched(alloc, network, &input, watch, config.quantum, config.bound)?)
 }

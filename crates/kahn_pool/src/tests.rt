@@ -39,11 +39,14 @@ fn an_empty_input_gives_an_empty_stream(rt: HostRuntime) -> Result<(), Fail> {
     Ok(())
 }
 
-static COUNT: &str = "begin integer output channel W; process count(integer out W; integer N); begin integer I; while I < N do begin send I on W; I := I + 1 end end; count(W, 3) end";
+static COUNT: &str =
+    "begin integer output channel W; process count(integer out W; integer N); begin integer I; while I < N do begin send I on W; I := I + 1 end end; count(W, 3) end";
 
-static OVERFLOW: &str = "begin integer output channel W; process p(integer out W); begin integer I; I := 9223372036854775807; send I on W; I := I + 1; send I on W end; p(W) end";
+static OVERFLOW: &str =
+    "begin integer output channel W; process p(integer out W); begin integer I; I := 9223372036854775807; send I on W; I := I + 1; send I on W end; p(W) end";
 
-static DOUBLE: &str = "begin integer input channel A; integer output channel B; process double(integer in U; integer out W); begin repeat send 2 * wait(U) on W end; double(A, B) end";
+static DOUBLE: &str =
+    "begin integer input channel A; integer output channel B; process double(integer in U; integer out W); begin repeat send 2 * wait(U) on W end; double(A, B) end";
 
 // The answer of a run with the empty input.
 fn answer_of(alloc: Global, text: &str, bound: u64) -> Result<Answer, Fail> {
@@ -81,7 +84,10 @@ fn the_counting_process_within_its_bounds(rt: HostRuntime) -> Result<(), Fail> {
         assert_eq!(rt; answer.verdict, verdict);
         assert_eq!(rt; answer.events, events);
         assert_eq!(rt; answer.ends.as_slice(), [end(outcome, events)].as_slice());
-        assert_eq!(rt; integers(rt.alloc(), &answer, 0)?.as_slice(), [0, 1, 2].as_slice());
+        assert_eq!(rt;
+            integers(rt.alloc(), &answer, 0)?.as_slice(),
+            [0, 1, 2].as_slice()
+        );
     }
     let none = answer_of(rt.alloc(), COUNT, 0)?;
     assert_eq!(rt; none.verdict, Verdict::Bound);
@@ -94,8 +100,14 @@ fn the_counting_process_within_its_bounds(rt: HostRuntime) -> Result<(), Fail> {
 fn an_overflow_is_an_end(rt: HostRuntime) -> Result<(), Fail> {
     let answer = answer_of(rt.alloc(), OVERFLOW, 1000000)?;
     assert_eq!(rt; answer.verdict, Verdict::Finished);
-    assert_eq!(rt; answer.ends.as_slice(), [end(Outcome::Faulted(Failure::Overflow), 1)].as_slice());
-    assert_eq!(rt; integers(rt.alloc(), &answer, 0)?.as_slice(), [9223372036854775807].as_slice());
+    assert_eq!(rt;
+        answer.ends.as_slice(),
+        [end(Outcome::Faulted(Failure::Overflow), 1)].as_slice()
+    );
+    assert_eq!(rt;
+        integers(rt.alloc(), &answer, 0)?.as_slice(),
+        [9223372036854775807].as_slice()
+    );
     Ok(())
 }
 
@@ -110,8 +122,14 @@ fn doubled_values(rt: HostRuntime) -> Result<(), Fail> {
     if input.fits(&network) {
         let answer = run_one(alloc, &network, input, 100)?;
         assert_eq!(rt; answer.verdict, Verdict::Finished);
-        assert_eq!(rt; answer.ends.as_slice(), [end(Outcome::Waits(0), 10)].as_slice());
-        assert_eq!(rt; integers(alloc, &answer, 0)?.as_slice(), [14, 14, 14].as_slice());
+        assert_eq!(rt;
+            answer.ends.as_slice(),
+            [end(Outcome::Waits(0), 10)].as_slice()
+        );
+        assert_eq!(rt;
+            integers(alloc, &answer, 0)?.as_slice(),
+            [14, 14, 14].as_slice()
+        );
     }
     Ok(())
 }
