@@ -12,6 +12,7 @@ pub mod OneTree
 pub mod Rows
 pub mod Runs
 pub mod Signs
+pub mod Spanning
 pub mod Statements
 pub mod Unique
 pub mod Steps

@@ -9,6 +9,7 @@ use Rattle.kahn_syntax.specs.declared.lexeme.Lexeme.{Lexeme}
 use Rattle.kahn_syntax.specs.declared.tree.Name.{Name}
 use Rattle.kahn_syntax.specs.Terminals.{Terminal, sign, name, terminals, First, IsUnsigned, IsProper, AreProper}
 use Rattle.kahn_syntax.specs.Drawn.{name_of}
+use Rattle.kahn_syntax.specs.Spans.{IsPast}
 use Rattle.kahn_syntax.specs.Programs.{names_words, further_names_words, AreNames}
 
 pub first_of : (c d : Class) (xs rest : List Lexeme) → c ≡ d → First c xs rest → First d xs rest
@@ -41,7 +42,7 @@ are_names_more (m ∷ ns) n = tt
 pub are_names_next : (ns ns' : List Name) (n : Name) → ns' ≡ ns ++ n ∷ [] → AreNames (map name_of ns')
 are_names_next ns ns' n e = rw e (are_names_more ns n)
 
-next_list : (xs : List Lexeme) (d : Lexeme) → 1 ≤ length xs → xs ≡ get_or xs 0 d ∷ take (length xs - 1) (drop 1 xs)
+pub next_list : (xs : List Lexeme) (d : Lexeme) → 1 ≤ length xs → xs ≡ get_or xs 0 d ∷ take (length xs - 1) (drop 1 xs)
 next_list xs d h =
     let low : 0 < length xs = omega (arith, h) in
     let e : drop 0 xs ≡ get_or xs 0 d ∷ drop (0 + 1) xs = drop_more xs 0 d low in
@@ -50,6 +51,10 @@ next_list xs d h =
 pub next_made : (xs : List Lexeme) (d : Lexeme) → 1 ≤ length xs →
     First (get_or xs 0 d).what xs (take (length xs - 1) (drop 1 xs)) × (length xs ≡ length (take (length xs - 1) (drop 1 xs)) + 1)
 next_made xs d h = (first_made xs _ (get_or xs 0 d) (next_list xs d h), omega (arith, h, length-drop 1 xs, ap length (take_all (length xs - 1) (drop 1 xs) (omega (arith, length-drop 1 xs)))))
+
+pub next_passed : (xs : List Lexeme) → 1 ≤ length xs → IsPast xs (take (length xs - 1) (drop 1 xs))
+next_passed [] h = absurd (omega (arith, h))
+next_passed (x ∷ xs) h = (x, next_list (x ∷ xs) x h)
 
 is_unsigned : (text : List ℕ) (c : Class) (at : Span) → IsProper text c at → IsUnsigned c
 is_unsigned text (class.Word w) at h = tt

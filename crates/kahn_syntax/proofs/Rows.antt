@@ -1,5 +1,5 @@
 -- Rows inside of trees, and the lists that they are.
-use Rattle.std.proofs.Common.{◌≡◌, refl, ap, ◌∙◌, Vec, Global}
+use Rattle.std.proofs.Common.{◌≡◌, ℕ, List, refl, sym, subst, ap, ◌∙◌, Vec, Global}
 use Rattle.kahn_syntax.specs.declared.tree.Form.{Row_of-Operand, end_of-Operand, more_of-Operand, items-the_row-Operand, items_hidden-the_row-Operand-0}
 use Rattle.kahn_syntax.specs.declared.tree.Form.TheBlock.{hidden-the_row-Operand-0}
 use Rattle.kahn_syntax.specs.declared.tree.Operand.{Operand}
@@ -7,6 +7,8 @@ use Rattle.kahn_syntax.specs.declared.tree.Action.{Row_of-Statement, end_of-Stat
 use Rattle.kahn_syntax.specs.declared.tree.Action.TheBlock.{hidden-the_row-Statement-0}
 use Rattle.kahn_syntax.specs.declared.tree.Statement.{Statement}
 use Rattle.kahn_syntax.specs.Trees.{operand, statement}
+use Rattle.kahn_syntax.specs.declared.lexeme.Lexeme.{Lexeme}
+use Rattle.kahn_syntax.specs.Spans.{OperandRowSpans, OperandsSpan, StatementRowSpans, FurtherRowSpans, StatementsSpan, FurtherStatementsSpan}
 use Rattle.kahn_syntax.specs.Drawn.{form_of, operands_row, operands_of, action_of, statements_row, statements_of}
 
 operands_shown : (n : _) (row : Row_of-Operand n) → operands_row row ≡ operands_of (items-the_row-Operand n row)
@@ -22,3 +24,24 @@ statements_shown n (more_of-Statement at a rest) = ap (statement (action_of a)) 
 
 pub statements_made : (rest : Vec Statement Global) → statements_row (hidden-the_row-Statement-0 rest) ≡ statements_of rest.items
 statements_made rest = statements_shown _ (hidden-the_row-Statement-0 rest) ∙ ap statements_of (items_hidden-the_row-Statement-0 rest)
+
+operands_spans_shown : (text : List ℕ) (n : _) (row : Row_of-Operand n) (xs r : List Lexeme) → OperandsSpan text (items-the_row-Operand n row) xs r → OperandRowSpans text row xs r
+operands_spans_shown text n end_of-Operand xs r h = h
+operands_spans_shown text n (more_of-Operand o at e rest) xs r (a, b, t, p, h) = (a, b, t, p, operands_spans_shown text _ rest b r h)
+
+pub operands_row_spans : (text : List ℕ) (rest : Vec Operand Global) (xs r : List Lexeme) → OperandsSpan text rest.items xs r → OperandRowSpans text (hidden-the_row-Operand-0 rest) xs r
+operands_row_spans text rest xs r h =
+    operands_spans_shown text _ (hidden-the_row-Operand-0 rest) xs r (subst (λ os. OperandsSpan text os xs r) (sym (items_hidden-the_row-Operand-0 rest)) h)
+
+further_spans_shown : (text : List ℕ) (n : _) (row : Row_of-Statement n) (xs r : List Lexeme) →
+    FurtherStatementsSpan text (items-the_row-Statement n row) xs r → FurtherRowSpans text row xs r
+further_spans_shown text n end_of-Statement xs r h = h
+further_spans_shown text n (more_of-Statement at s rest) xs r (a, b, t, p, h) = (a, b, t, p, further_spans_shown text _ rest b r h)
+
+statements_spans_shown : (text : List ℕ) (n : _) (row : Row_of-Statement n) (xs r : List Lexeme) → StatementsSpan text (items-the_row-Statement n row) xs r → StatementRowSpans text row xs r
+statements_spans_shown text n end_of-Statement xs r h = h
+statements_spans_shown text n (more_of-Statement at s rest) xs r (a, p, h) = (a, p, further_spans_shown text _ rest a r h)
+
+pub statements_row_spans : (text : List ℕ) (rest : Vec Statement Global) (xs r : List Lexeme) → StatementsSpan text rest.items xs r → StatementRowSpans text (hidden-the_row-Statement-0 rest) xs r
+statements_row_spans text rest xs r h =
+    statements_spans_shown text _ (hidden-the_row-Statement-0 rest) xs r (subst (λ ss. StatementsSpan text ss xs r) (sym (items_hidden-the_row-Statement-0 rest)) h)

@@ -8,6 +8,7 @@ use Rattle.kahn_syntax.specs.Terminals.{terminals}
 use Rattle.kahn_syntax.specs.Programs.{Spells}
 use Rattle.kahn_syntax.specs.Drawn.{program_of}
 use Rattle.kahn_syntax.specs.Faults.{IsFault}
+use Rattle.kahn_syntax.specs.Spans.{ProgramSpans}
 
 -- these are the lexemes of the text, which is within its limit
 abbrev pub AreLexemes : List ℕ → List Lexeme → Type 0
@@ -16,6 +17,10 @@ AreLexemes text xs = (length text ≤ most_bytes) × Lexed text 0 (length text) 
 -- the text's lexemes are spelled by the program
 abbrev pub IsProgram : List ℕ → Program → Type 0
 IsProgram text p = (xs : List Lexeme) × AreLexemes text xs × Spells (program_of p) (terminals text xs)
+
+-- the program's parts have their spans over the text's lexemes
+abbrev pub HasSpans : List ℕ → Program → Type 0
+HasSpans text p = (xs : List Lexeme) × AreLexemes text xs × ProgramSpans text p xs
 
 -- a fault of a lexeme, or one of the grammar
 abbrev pub IsTextFault : List ℕ → SyntaxFault → Type 0

@@ -1,10 +1,16 @@
 //! Nodes of the tree, made of their parts.
 
-ghost use Rattle.std.specs.Prelude.{◌≡◌, IfOk, IfErr};
+ghost use Rattle.std.specs.Prelude.{◌≡◌, ℕ, List, IfOk, IfErr};
+ghost use Rattle.kahn_syntax.specs.declared.lexeme.Keyword.TheVariants as keyword;
+ghost use Rattle.kahn_syntax.specs.declared.lexeme.Sign.TheVariants as mark;
+ghost use Rattle.kahn_syntax.specs.declared.lexeme.Lexeme.{Lexeme};
 ghost use Rattle.kahn_syntax.specs.declared.parser.cursor.Stop.TheVariants.{NoMemory};
 ghost use Rattle.kahn_syntax.specs.Drawn.{expression_of, operands_of, statement_of, statements_of};
 ghost use Rattle.kahn_syntax.specs.Reads.{joined};
+ghost use Rattle.kahn_syntax.specs.Spans.{Takes, Covers, ExpressionSpans, OperandsSpan, StatementSpans, StatementsSpan};
+ghost use Rattle.kahn_syntax.specs.Terminals.{word, sign};
 ghost use Rattle.kahn_syntax.specs.Trees as tree;
+ghost use Rattle.kahn_syntax.specs.Trees.{operator_terminal};
 
 use crate::parser::cursor::Stop;
 use crate::span::Span;
@@ -14,6 +20,7 @@ use std::alloc::Global;
 /// Minus an operand.
 pub fn negated(alloc: Global, span: Span, operand: Expression) -> Result<Expression, Stop>
     ensures built { IfOk result (λ e. expression_of e ≡ tree.negation (expression_of operand)) }
+    ensures spans { IfOk result (λ e. (text : List ℕ) (xs a r : List Lexeme) → Covers span xs r → Takes text (sign mark.Minus) xs a → ExpressionSpans text operand a r → ExpressionSpans text e xs r) }
     ensures stop { IfErr result (λ e. e ≡ NoMemory) }
 {
     let operand = Box::new(alloc, operand)?;
@@ -26,6 +33,7 @@ pub fn negated(alloc: Global, span: Span, operand: Expression) -> Result<Express
 /// The denial of an operand.
 pub fn denied(alloc: Global, span: Span, operand: Expression) -> Result<Expression, Stop>
     ensures built { IfOk result (λ e. expression_of e ≡ tree.denial (expression_of operand)) }
+    ensures spans { IfOk result (λ e. (text : List ℕ) (xs a r : List Lexeme) → Covers span xs r → Takes text (word keyword.Not) xs a → ExpressionSpans text operand a r → ExpressionSpans text e xs r) }
     ensures stop { IfErr result (λ e. e ≡ NoMemory) }
 {
     let operand = Box::new(alloc, operand)?;
@@ -38,6 +46,7 @@ pub fn denied(alloc: Global, span: Span, operand: Expression) -> Result<Expressi
 /// An expression in brackets.
 pub fn bracketed(alloc: Global, span: Span, inside: Expression) -> Result<Expression, Stop>
     ensures built { IfOk result (λ e. expression_of e ≡ tree.bracket (expression_of inside)) }
+    ensures spans { IfOk result (λ e. (text : List ℕ) (xs a b r : List Lexeme) → Covers span xs r → Takes text (sign mark.Open) xs a → ExpressionSpans text inside a b → Takes text (sign mark.Close) b r → ExpressionSpans text e xs r) }
     ensures stop { IfErr result (λ e. e ≡ NoMemory) }
 {
     let inside = Box::new(alloc, inside)?;
@@ -55,6 +64,7 @@ pub fn levelled(
     further: Vec<Operand>,
 ) -> Result<Expression, Stop>
     ensures built { IfOk result (λ e. expression_of e ≡ joined (expression_of first) (operands_of further.items)) }
+    ensures spans { IfOk result (λ e. (text : List ℕ) (xs a r : List Lexeme) → Covers span xs r → ExpressionSpans text first xs a → OperandsSpan text further.items a r → ExpressionSpans text e xs r) }
     ensures stop { IfErr result (λ e. e ≡ NoMemory) }
 {
     if further.is_empty() {
@@ -76,6 +86,7 @@ pub fn compared(
     right: Expression,
 ) -> Result<Expression, Stop>
     ensures built { IfOk result (λ e. expression_of e ≡ tree.level (expression_of left) (tree.operand operator (expression_of right) tree.no_operand)) }
+    ensures spans { IfOk result (λ e. (text : List ℕ) (xs a b r : List Lexeme) → Covers span xs r → ExpressionSpans text left xs a → Takes text (operator_terminal operator) a b → ExpressionSpans text right b r → ExpressionSpans text e xs r) }
     ensures stop { IfErr result (λ e. e ≡ NoMemory) }
 {
     let mut further = Vec::new(alloc);
@@ -99,6 +110,7 @@ pub fn chosen(
     no: Expression,
 ) -> Result<Expression, Stop>
     ensures built { IfOk result (λ e. expression_of e ≡ tree.conditional (expression_of test) (expression_of yes) (expression_of no)) }
+    ensures spans { IfOk result (λ e. (text : List ℕ) (xs a b c d g r : List Lexeme) → Covers span xs r → Takes text (word keyword.If) xs a → ExpressionSpans text test a b → Takes text (word keyword.Then) b c → ExpressionSpans text yes c d → Takes text (word keyword.Else) d g → ExpressionSpans text no g r → ExpressionSpans text e xs r) }
     ensures stop { IfErr result (λ e. e ≡ NoMemory) }
 {
     let test = Box::new(alloc, test)?;
@@ -118,6 +130,7 @@ pub fn if_then(
     yes: Statement,
 ) -> Result<Statement, Stop>
     ensures built { IfOk result (λ e. statement_of e ≡ tree.if_then (expression_of test) (statement_of yes)) }
+    ensures spans { IfOk result (λ e. (text : List ℕ) (xs a b c r : List Lexeme) → Covers span xs r → Takes text (word keyword.If) xs a → ExpressionSpans text test a b → Takes text (word keyword.Then) b c → StatementSpans text yes c r → StatementSpans text e xs r) }
     ensures stop { IfErr result (λ e. e ≡ NoMemory) }
 {
     let yes = Box::new(alloc, yes)?;
@@ -136,6 +149,7 @@ pub fn if_else(
     no: Statement,
 ) -> Result<Statement, Stop>
     ensures built { IfOk result (λ e. statement_of e ≡ tree.if_else (expression_of test) (statement_of yes) (statement_of no)) }
+    ensures spans { IfOk result (λ e. (text : List ℕ) (xs a b c d g r : List Lexeme) → Covers span xs r → Takes text (word keyword.If) xs a → ExpressionSpans text test a b → Takes text (word keyword.Then) b c → StatementSpans text yes c d → Takes text (word keyword.Else) d g → StatementSpans text no g r → StatementSpans text e xs r) }
     ensures stop { IfErr result (λ e. e ≡ NoMemory) }
 {
     let yes = Box::new(alloc, yes)?;
@@ -154,6 +168,7 @@ pub fn while_do(
     turn: Statement,
 ) -> Result<Statement, Stop>
     ensures built { IfOk result (λ e. statement_of e ≡ tree.while_do (expression_of test) (statement_of turn)) }
+    ensures spans { IfOk result (λ e. (text : List ℕ) (xs a b c r : List Lexeme) → Covers span xs r → Takes text (word keyword.While) xs a → ExpressionSpans text test a b → Takes text (word keyword.Do) b c → StatementSpans text turn c r → StatementSpans text e xs r) }
     ensures stop { IfErr result (λ e. e ≡ NoMemory) }
 {
     let turn = Box::new(alloc, turn)?;
@@ -166,6 +181,7 @@ pub fn while_do(
 /// A loop without an end.
 pub fn repeated(alloc: Global, span: Span, turn: Statement) -> Result<Statement, Stop>
     ensures built { IfOk result (λ e. statement_of e ≡ tree.repeat (statement_of turn)) }
+    ensures spans { IfOk result (λ e. (text : List ℕ) (xs a r : List Lexeme) → Covers span xs r → Takes text (word keyword.Repeat) xs a → StatementSpans text turn a r → StatementSpans text e xs r) }
     ensures stop { IfErr result (λ e. e ≡ NoMemory) }
 {
     let turn = Box::new(alloc, turn)?;
@@ -177,7 +193,8 @@ pub fn repeated(alloc: Global, span: Span, turn: Statement) -> Result<Statement,
 
 /// A block of statements.
 pub fn block(span: Span, statements: Vec<Statement>) -> Statement
-    ensures { statement_of result ≡ tree.block (statements_of statements.items) }
+    ensures built { statement_of result ≡ tree.block (statements_of statements.items) }
+    ensures spans { (text : List ℕ) (xs a b r : List Lexeme) → Covers span xs r → Takes text (word keyword.Begin) xs a → StatementsSpan text statements.items a b → Takes text (word keyword.End) b r → StatementSpans text result xs r }
 {
     Statement {
         span: Some(span),

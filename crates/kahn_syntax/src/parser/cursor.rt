@@ -2,7 +2,9 @@
 
 ghost use Rattle.std.specs.Prelude.{◌≡◌, ℕ, ◌≤◌, ◌<◌, ◌+◌, List, [], false, length, IfOk, IfErr, IfSome, IfNone, MatchOption};
 ghost use Rattle.kahn_syntax.specs.Terminals.{First, AreProper, IsUnsigned};
+ghost use Rattle.kahn_syntax.specs.Faults.{Placed};
 ghost use Rattle.kahn_syntax.specs.Reads.{IsAbsent};
+ghost use Rattle.kahn_syntax.specs.Spans.{IsPast, Covers};
 ghost use Rattle.kahn_syntax.specs.declared.parser.cursor.Stop.TheVariants.{Refused, TooDeep, NoMemory};
 
 use crate::lexeme::{Class, Lexeme};
@@ -45,6 +47,7 @@ pub type Read<'t, T> = Result<(T, &'t [Lexeme]), Stop>;
 /// What the first lexeme is, and the lexemes after it.
 pub fn next(input: &[Lexeme]) -> Option<(Class, &[Lexeme])>
     ensures first { MatchOption result (input.now ≡ []) (λ r. First r.0 input.now r.1.now × (length input.now ≡ length r.1.now + 1)) }
+    ensures passed { IfSome result (λ r. IsPast input.now r.1.now) }
     ensures unsigned { IfSome result (λ r. (text : List ℕ) → AreProper text input.now → IsUnsigned r.0) }
     ensures proper { IfSome result (λ r. (text : List ℕ) → AreProper text input.now → AreProper text r.1.now) }
 {
@@ -57,6 +60,7 @@ pub fn next(input: &[Lexeme]) -> Option<(Class, &[Lexeme])>
 /// The lexemes after the first, where it is of this class.
 pub fn past(input: &[Lexeme], wanted: Class) -> Option<&[Lexeme]>
     ensures first { IfSome result (λ r. First wanted input.now r.now) }
+    ensures passed { IfSome result (λ r. IsPast input.now r.now) }
     ensures shorter { IfSome result (λ r. length input.now ≡ length r.now + 1) }
     ensures proper { IfSome result (λ r. (text : List ℕ) → AreProper text input.now → AreProper text r.now) }
     ensures absent { IfNone result (IsAbsent wanted input.now) }
@@ -70,6 +74,7 @@ pub fn past(input: &[Lexeme], wanted: Class) -> Option<&[Lexeme]>
 /// The lexemes after the first, which must be of this class.
 pub fn expect(input: &[Lexeme], wanted: Class) -> Result<&[Lexeme], Stop>
     ensures first { IfOk result (λ r. First wanted input.now r.now) }
+    ensures passed { IfOk result (λ r. IsPast input.now r.now) }
     ensures shorter { IfOk result (λ r. length input.now ≡ length r.now + 1) }
     ensures proper { IfOk result (λ r. (text : List ℕ) → AreProper text input.now → AreProper text r.now) }
     ensures stop { IfErr result (λ e. IsAbsent wanted input.now × (e ≡ Refused false (length input.now))) }
@@ -95,9 +100,21 @@ pub fn deeper(input: &[Lexeme], depth: usize) -> Result<usize, Stop>
 /// The span of what was read: from its first lexeme to the last one before the rest.
 pub fn reach(input: &[Lexeme], rest: &[Lexeme]) -> Span
     requires { length rest.now < length input.now }
+    ensures { Covers result input.now rest.now }
 {
+    let first = span_at(input, input.len());
+    let last = span_at(input, rest.len() + 1);
     Span {
-        from: input[0].span.from,
-        to: input[input.len() - rest.len() - 1].span.to,
+        from: first.from,
+        to: last.to,
     }
+}
+
+/// The span of the lexeme at which so many are left.
+pub fn span_at(lexemes: &[Lexeme], left: usize) -> Span
+    requires some { 0 < left }
+    requires in_range { left ≤ length lexemes.now }
+    ensures { Placed lexemes.now result left }
+{
+    lexemes[lexemes.len() - left].span
 }

@@ -10,6 +10,7 @@ ghost use Rattle.kahn_syntax.specs.Drawn.{name_of};
 ghost use Rattle.kahn_syntax.specs.Drawn.{parameter_of, variable_of, process_of, declaration_of};
 ghost use Rattle.kahn_syntax.specs.Machine.{DeclarationsPart, DeclarationPart, ProcessPart, RolePart, GroupsPart, GroupPart, TakingPart, VariablesPart, leads_kind, leads_declaration};
 ghost use Rattle.kahn_syntax.specs.Reads.{Reads, Stops};
+ghost use Rattle.kahn_syntax.specs.Spans.{IsPast, DeclarationsSpan, DeclarationSpans, RoleSpans, ProcessSpans, ParametersSpan, GroupSpans, DirectionSpans, VariablesSpan, group, together, kind_of, parameters_of, variables_of};
 
 use crate::lexeme::{Class, Keyword, Lexeme, Sign};
 use crate::parser::cursor::{Read, Stop, expect, next, past};
@@ -21,6 +22,7 @@ use std::alloc::Global;
 // The kind that stands first, and the lexemes after it.
 fn next_kind(input: &[Lexeme]) -> Option<(Kind, &[Lexeme])>
     ensures first { IfSome result (λ r. (text : List ℕ) → terminals text input.now ≡ kind_terminal r.0 ∷ terminals text r.1.now) }
+    ensures passed { IfSome result (λ r. IsPast input.now r.1.now) }
     ensures shorter { IfSome result (λ r. length input.now ≡ length r.1.now + 1) }
     ensures proper { IfSome result (λ r. (text : List ℕ) → AreProper text input.now → AreProper text r.1.now) }
     ensures leads { (text : List ℕ) → leads_kind (terminals text input.now) ≡ is_some result }
@@ -40,6 +42,7 @@ pub fn read_declarations<'t>(
 ) -> Read<'t, Vec<Declaration>>
     requires proper { AreProper text.now input.now }
     ensures words { IfOk result (λ r. Declarations (map declaration_of r.0.items) (terminals text.now input.now) (terminals text.now r.1.now)) }
+    ensures spans { IfOk result (λ r. DeclarationsSpan text.now r.0.items input.now r.1.now) }
     ensures nesting { IfOk result (λ r. declarations_nesting (map declaration_of r.0.items) ≤ 64) }
     ensures shorter { IfOk result (λ r. length r.1.now ≤ length input.now) }
     ensures proper { IfOk result (λ r. AreProper text.now r.1.now) }
@@ -74,6 +77,7 @@ fn begins_declaration(input: &[Lexeme]) -> bool
 fn read_declaration<'t>(alloc: Global, text: &str, input: &'t [Lexeme]) -> Read<'t, Declaration>
     requires proper { AreProper text.now input.now }
     ensures words { IfOk result (λ r. Declares (declaration_of r.0) (terminals text.now input.now) (terminals text.now r.1.now)) }
+    ensures spans { IfOk result (λ r. DeclarationSpans text.now r.0 input.now r.1.now) }
     ensures nesting { IfOk result (λ r. declaration_nesting (declaration_of r.0) ≤ 64) }
     ensures shorter { IfOk result (λ r. length r.1.now < length input.now) }
     ensures proper { IfOk result (λ r. AreProper text.now r.1.now) }
@@ -97,6 +101,7 @@ fn read_declaration<'t>(alloc: Global, text: &str, input: &'t [Lexeme]) -> Read<
 // The role that stands before `channel`, where one stands.
 fn read_role(input: &[Lexeme]) -> (Role, &[Lexeme])
     ensures words { (text : List ℕ) → terminals text input.now ≡ role_words result.0 (terminals text result.1.now) }
+    ensures spans { (text : List ℕ) → RoleSpans text result.0 input.now result.1.now }
     ensures proper { (text : List ℕ) → AreProper text input.now → AreProper text result.1.now }
     ensures reads { (text : List ℕ) → Reads text 0 (RolePart ∷ []) input.now result.1.now }
     ensures shorter { length result.1.now ≤ length input.now }
@@ -112,6 +117,7 @@ fn read_role(input: &[Lexeme]) -> (Role, &[Lexeme])
 fn read_process<'t>(alloc: Global, text: &str, input: &'t [Lexeme]) -> Read<'t, Process>
     requires proper { AreProper text.now input.now }
     ensures words { IfOk result (λ r. Declares (process_of r.0) (terminals text.now input.now) (terminals text.now r.1.now)) }
+    ensures spans { IfOk result (λ r. ProcessSpans text.now r.0 input.now r.1.now) }
     ensures nesting { IfOk result (λ r. declaration_nesting (process_of r.0) ≤ 64) }
     ensures shorter { IfOk result (λ r. length r.1.now < length input.now) }
     ensures proper { IfOk result (λ r. AreProper text.now r.1.now) }
@@ -141,6 +147,7 @@ fn read_process<'t>(alloc: Global, text: &str, input: &'t [Lexeme]) -> Read<'t, 
 fn read_parameters<'t>(alloc: Global, text: &str, input: &'t [Lexeme]) -> Read<'t, Vec<Parameter>>
     requires proper { AreProper text.now input.now }
     ensures words { IfOk result (λ r. Parameters (map parameter_of r.0.items) (terminals text.now input.now) (terminals text.now r.1.now)) }
+    ensures spans { IfOk result (λ r. ParametersSpan text.now r.0.items input.now r.1.now) }
     ensures shorter { IfOk result (λ r. length r.1.now ≤ length input.now) }
     ensures proper { IfOk result (λ r. AreProper text.now r.1.now) }
     ensures reads { IfOk result (λ r. Reads text.now 0 (GroupsPart ∷ []) input.now r.1.now) }
@@ -171,6 +178,7 @@ struct Group {
 fn read_group<'t>(alloc: Global, text: &str, input: &'t [Lexeme]) -> Read<'t, Group>
     requires proper { AreProper text.now input.now }
     ensures words { IfOk result (λ r. terminals text.now input.now ≡ taking_words r.0.taking (names_words (map name_of r.0.names.items) (terminals text.now r.1.now))) }
+    ensures spans { IfOk result (λ r. GroupSpans text.now (group r.0.taking r.0.names.items) input.now r.1.now) }
     ensures some { IfOk result (λ r. AreNames (map name_of r.0.names.items)) }
     ensures shorter { IfOk result (λ r. length r.1.now < length input.now) }
     ensures proper { IfOk result (λ r. AreProper text.now r.1.now) }
@@ -188,6 +196,8 @@ fn read_group<'t>(alloc: Global, text: &str, input: &'t [Lexeme]) -> Read<'t, Gr
 // What the parameters of a group of this kind take.
 fn read_taking(kind: Kind, input: &[Lexeme]) -> (Taking, &[Lexeme])
     ensures words { (text : List ℕ) → kind_terminal kind ∷ terminals text input.now ≡ taking_words result.0 (terminals text result.1.now) }
+    ensures spans { (text : List ℕ) → DirectionSpans text result.0 input.now result.1.now }
+    ensures kind { kind_of result.0 ≡ kind }
     ensures proper { (text : List ℕ) → AreProper text input.now → AreProper text result.1.now }
     ensures reads { (text : List ℕ) → Reads text 0 (TakingPart ∷ []) input.now result.1.now }
     ensures shorter { length result.1.now ≤ length input.now }
@@ -206,6 +216,7 @@ fn add_parameters(
     names: Vec<Name>,
 ) -> Result<(), Stop>
     ensures added { IfOk result (λ _. map parameter_of parameters.new.items ≡ map parameter_of parameters.old.items ++ map (parameter taking) (map name_of names.items)) }
+    ensures items { IfOk result (λ _. parameters.new.items ≡ parameters.old.items ++ parameters_of (group taking names.items)) }
     ensures stop { IfErr result (λ e. e ≡ NoMemory) }
 {
     for name in names {
@@ -218,6 +229,7 @@ fn add_parameters(
 fn read_variables<'t>(alloc: Global, text: &str, input: &'t [Lexeme]) -> Read<'t, Vec<Variable>>
     requires proper { AreProper text.now input.now }
     ensures words { IfOk result (λ r. Variables (map variable_of r.0.items) (terminals text.now input.now) (terminals text.now r.1.now)) }
+    ensures spans { IfOk result (λ r. VariablesSpan text.now r.0.items input.now r.1.now) }
     ensures shorter { IfOk result (λ r. length r.1.now ≤ length input.now) }
     ensures proper { IfOk result (λ r. AreProper text.now r.1.now) }
     ensures reads { IfOk result (λ r. Reads text.now 0 (VariablesPart ∷ []) input.now r.1.now) }
@@ -237,6 +249,7 @@ fn read_variables<'t>(alloc: Global, text: &str, input: &'t [Lexeme]) -> Read<'t
 // Variables of these names.
 fn add_variables(variables: &mut Vec<Variable>, kind: Kind, names: Vec<Name>) -> Result<(), Stop>
     ensures added { IfOk result (λ _. map variable_of variables.new.items ≡ map variable_of variables.old.items ++ map (variable kind) (map name_of names.items)) }
+    ensures items { IfOk result (λ _. variables.new.items ≡ variables.old.items ++ variables_of (together kind names.items)) }
     ensures stop { IfErr result (λ e. e ≡ NoMemory) }
 {
     for name in names {

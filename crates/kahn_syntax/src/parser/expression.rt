@@ -6,6 +6,7 @@ ghost use Rattle.kahn_syntax.specs.declared.lexeme.Class.TheVariants as class;
 ghost use Rattle.kahn_syntax.specs.Terminals.{terminals, First, AreProper};
 ghost use Rattle.kahn_syntax.specs.Trees.{expression_words, expression_nesting};
 ghost use Rattle.kahn_syntax.specs.Drawn.{expression_of};
+ghost use Rattle.kahn_syntax.specs.Spans.{IsPast, ExpressionSpans};
 ghost use Rattle.kahn_syntax.specs.Reads.{Fits, rank_of, Reads, Stops};
 ghost use Rattle.kahn_syntax.specs.Rungs.{whole, denials, relations, factors, tighter, rung_of};
 ghost use Rattle.kahn_syntax.specs.Machine.{ExpressionPart};
@@ -29,6 +30,7 @@ pub fn read_expression<'t>(
     requires depth { depth ≤ 64 }
     requires proper { AreProper text.now input.now }
     ensures words { IfOk result (λ r. terminals text.now input.now ≡ expression_words (expression_of r.0) (terminals text.now r.1.now)) }
+    ensures spans { IfOk result (λ r. ExpressionSpans text.now r.0 input.now r.1.now) }
     ensures fits { IfOk result (λ r. Fits 0 (expression_of r.0)) }
     ensures nesting { IfOk result (λ r. depth + expression_nesting (expression_of r.0) ≤ 64) }
     ensures shorter { IfOk result (λ r. length r.1.now < length input.now) }
@@ -61,6 +63,7 @@ fn read_level<'t>(
     requires depth { depth ≤ 64 }
     requires proper { AreProper text.now input.now }
     ensures words { IfOk result (λ r. terminals text.now input.now ≡ expression_words (expression_of r.0) (terminals text.now r.1.now)) }
+    ensures spans { IfOk result (λ r. ExpressionSpans text.now r.0 input.now r.1.now) }
     ensures fits { IfOk result (λ r. Fits (rank_of level) (expression_of r.0)) }
     ensures nesting { IfOk result (λ r. depth + expression_nesting (expression_of r.0) ≤ 64) }
     ensures shorter { IfOk result (λ r. length r.1.now < length input.now) }
@@ -94,6 +97,7 @@ fn read_operand<'t>(
     requires depth { depth ≤ 64 }
     requires proper { AreProper text.now input.now }
     ensures words { IfOk result (λ r. terminals text.now input.now ≡ expression_words (expression_of r.0) (terminals text.now r.1.now)) }
+    ensures spans { IfOk result (λ r. ExpressionSpans text.now r.0 input.now r.1.now) }
     ensures fits { IfOk result (λ r. Fits (rank_of level + 1) (expression_of r.0)) }
     ensures nesting { IfOk result (λ r. depth + expression_nesting (expression_of r.0) ≤ 64) }
     ensures shorter { IfOk result (λ r. length r.1.now < length input.now) }
@@ -120,6 +124,7 @@ fn read_denial<'t>(
     requires depth { depth ≤ 64 }
     requires proper { AreProper text.now input.now }
     ensures words { IfOk result (λ r. terminals text.now input.now ≡ expression_words (expression_of r.0) (terminals text.now r.1.now)) }
+    ensures spans { IfOk result (λ r. ExpressionSpans text.now r.0 input.now r.1.now) }
     ensures fits { IfOk result (λ r. Fits 3 (expression_of r.0)) }
     ensures nesting { IfOk result (λ r. depth + expression_nesting (expression_of r.0) ≤ 64) }
     ensures shorter { IfOk result (λ r. length r.1.now < length input.now) }
@@ -147,6 +152,7 @@ fn read_relation<'t>(
     requires depth { depth ≤ 64 }
     requires proper { AreProper text.now input.now }
     ensures words { IfOk result (λ r. terminals text.now input.now ≡ expression_words (expression_of r.0) (terminals text.now r.1.now)) }
+    ensures spans { IfOk result (λ r. ExpressionSpans text.now r.0 input.now r.1.now) }
     ensures fits { IfOk result (λ r. Fits 4 (expression_of r.0)) }
     ensures nesting { IfOk result (λ r. depth + expression_nesting (expression_of r.0) ≤ 64) }
     ensures shorter { IfOk result (λ r. length r.1.now < length input.now) }
@@ -174,6 +180,7 @@ fn read_factor<'t>(
     requires depth { depth ≤ 64 }
     requires proper { AreProper text.now input.now }
     ensures words { IfOk result (λ r. terminals text.now input.now ≡ expression_words (expression_of r.0) (terminals text.now r.1.now)) }
+    ensures spans { IfOk result (λ r. ExpressionSpans text.now r.0 input.now r.1.now) }
     ensures fits { IfOk result (λ r. Fits 7 (expression_of r.0)) }
     ensures nesting { IfOk result (λ r. depth + expression_nesting (expression_of r.0) ≤ 64) }
     ensures shorter { IfOk result (λ r. length r.1.now < length input.now) }
@@ -241,7 +248,9 @@ fn read_wait<'t>(
     requires first { First (class.Word keyword.Wait) input.now rest.now }
     requires proper { AreProper text.now rest.now }
     requires follows { length input.now ≡ length rest.now + 1 }
+    requires passed { IsPast input.now rest.now }
     ensures words { IfOk result (λ r. terminals text.now input.now ≡ expression_words (expression_of r.0) (terminals text.now r.1.now)) }
+    ensures spans { IfOk result (λ r. ExpressionSpans text.now r.0 input.now r.1.now) }
     ensures fits { IfOk result (λ r. Fits 7 (expression_of r.0)) }
     ensures nesting { IfOk result (λ r. expression_nesting (expression_of r.0) ≡ 0) }
     ensures shorter { IfOk result (λ r. length r.1.now < length input.now) }

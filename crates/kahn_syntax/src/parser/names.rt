@@ -6,6 +6,7 @@ ghost use Rattle.kahn_syntax.specs.Terminals.{name, terminals, AreProper};
 ghost use Rattle.kahn_syntax.specs.Machine.{NameToken, leads, names_then};
 ghost use Rattle.kahn_syntax.specs.Drawn.{name_of};
 ghost use Rattle.kahn_syntax.specs.Reads.{Reads, Stops};
+ghost use Rattle.kahn_syntax.specs.Spans.{NameSpans, NamesSpan};
 ghost use Rattle.kahn_syntax.specs.Programs.{names_words, AreNames};
 
 use crate::lexeme::{Class, Lexeme, Sign};
@@ -17,6 +18,7 @@ use std::alloc::Global;
 pub fn read_name<'t>(alloc: Global, text: &str, input: &'t [Lexeme]) -> Read<'t, Name>
     requires proper { AreProper text.now input.now }
     ensures words { IfOk result (λ r. terminals text.now input.now ≡ name (name_of r.0) ∷ terminals text.now r.1.now) }
+    ensures spans { IfOk result (λ r. NameSpans text.now r.0 input.now r.1.now) }
     ensures shorter { IfOk result (λ r. length input.now ≡ length r.1.now + 1) }
     ensures proper { IfOk result (λ r. AreProper text.now r.1.now) }
     ensures stop { IfErr result (λ e. (e ≡ NoMemory) ⊎ ((leads NameToken (terminals text.now input.now) ≡ false) × (e ≡ Refused false (length input.now)))) }
@@ -46,6 +48,7 @@ pub fn read_name<'t>(alloc: Global, text: &str, input: &'t [Lexeme]) -> Read<'t,
 pub fn read_names<'t>(alloc: Global, text: &str, input: &'t [Lexeme]) -> Read<'t, Vec<Name>>
     requires proper { AreProper text.now input.now }
     ensures words { IfOk result (λ r. terminals text.now input.now ≡ names_words (map name_of r.0.items) (terminals text.now r.1.now)) }
+    ensures spans { IfOk result (λ r. NamesSpan text.now r.0.items input.now r.1.now) }
     ensures some { IfOk result (λ r. AreNames (map name_of r.0.items)) }
     ensures shorter { IfOk result (λ r. length r.1.now < length input.now) }
     ensures proper { IfOk result (λ r. AreProper text.now r.1.now) }

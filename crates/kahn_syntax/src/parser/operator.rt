@@ -7,6 +7,7 @@ ghost use Rattle.kahn_syntax.specs.Rungs.{Lacks};
 ghost use Rattle.kahn_syntax.specs.Machine.{NotToken, leads};
 ghost use Rattle.kahn_syntax.specs.Trees.{operator_terminal, rank};
 ghost use Rattle.kahn_syntax.specs.Reads.{rank_of};
+ghost use Rattle.kahn_syntax.specs.Spans.{IsPast};
 
 use crate::lexeme::{Class, Keyword, Lexeme, Sign};
 use crate::parser::cursor::next;
@@ -24,6 +25,7 @@ pub enum Level {
 /// The comparison that stands first, and the lexemes after it.
 pub fn next_comparison(input: &[Lexeme]) -> Option<(Operator, &[Lexeme])>
     ensures first { IfSome result (λ r. (text : List ℕ) → terminals text input.now ≡ operator_terminal r.0 ∷ terminals text r.1.now) }
+    ensures passed { IfSome result (λ r. IsPast input.now r.1.now) }
     ensures ranked { IfSome result (λ r. rank r.0 ≡ 4) }
     ensures proper { IfSome result (λ r. (text : List ℕ) → AreProper text input.now → AreProper text r.1.now) }
     ensures lacks { IfNone result ((text : List ℕ) → Lacks 4 (terminals text input.now)) }
@@ -45,6 +47,7 @@ pub fn next_comparison(input: &[Lexeme]) -> Option<(Operator, &[Lexeme])>
 /// The operator of this level that stands first, and the lexemes after it.
 pub fn next_operator(input: &[Lexeme], level: Level) -> Option<(Operator, &[Lexeme])>
     ensures first { IfSome result (λ r. (text : List ℕ) → terminals text input.now ≡ operator_terminal r.0 ∷ terminals text r.1.now) }
+    ensures passed { IfSome result (λ r. IsPast input.now r.1.now) }
     ensures ranked { IfSome result (λ r. rank r.0 ≡ rank_of level) }
     ensures proper { IfSome result (λ r. (text : List ℕ) → AreProper text input.now → AreProper text r.1.now) }
     ensures lacks { IfNone result ((text : List ℕ) → Lacks (rank_of level) (terminals text input.now)) }
@@ -67,6 +70,7 @@ pub fn next_operator(input: &[Lexeme], level: Level) -> Option<(Operator, &[Lexe
 /// The lexemes after `not`, where it stands first in one of its two forms.
 pub fn next_not(input: &[Lexeme]) -> Option<&[Lexeme]>
     ensures first { IfSome result (λ r. (text : List ℕ) → terminals text input.now ≡ word keyword.Not ∷ terminals text r.now) }
+    ensures passed { IfSome result (λ r. IsPast input.now r.now) }
     ensures proper { IfSome result (λ r. (text : List ℕ) → AreProper text input.now → AreProper text r.now) }
     ensures lacks { IfNone result ((text : List ℕ) → leads NotToken (terminals text input.now) ≡ false) }
     ensures shorter { IfSome result (λ r. length input.now ≡ length r.now + 1) }

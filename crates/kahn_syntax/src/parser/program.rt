@@ -5,15 +5,17 @@ ghost use Rattle.kahn_syntax.specs.declared.lexeme.Keyword.TheVariants as keywor
 ghost use Rattle.kahn_syntax.specs.declared.lexeme.Sign.TheVariants as mark;
 ghost use Rattle.kahn_syntax.specs.Terminals.{Terminal, terminals, AreProper, sign, number};
 ghost use Rattle.kahn_syntax.specs.Machine.{NumberToken, leads, InstancePart, ArgumentsPart, ArgumentPart, TailPart, InstancesTail, LastTail};
-ghost use Rattle.kahn_syntax.specs.Faults.{Placed, IsFault};
+ghost use Rattle.kahn_syntax.specs.Faults.{IsFault};
 ghost use Rattle.kahn_syntax.specs.declared.fault.SyntaxFault.TheVariants as SyntaxFault;
 ghost use Rattle.kahn_syntax.specs.Programs.{ProgramTree, Spells, nesting, Instances, Instantiates, Arguments, Argues, MaybeSemicolon};
 ghost use Rattle.kahn_syntax.specs.Drawn.{argument_of, instance_of, program_of};
+ghost use Rattle.kahn_syntax.specs.declared.lexeme.Lexeme.{Lexeme};
+ghost use Rattle.kahn_syntax.specs.Spans.{IsPast, Takes, MayPart, ArgumentSpans, ArgumentsSpan, InstanceSpans, InstancesSpan, ProgramSpans};
 ghost use Rattle.kahn_syntax.specs.Reads.{Reads, Stops, Halts};
 
 use crate::fault::{SyntaxFault, What};
 use crate::lexeme::{Class, Keyword, Lexeme, Sign};
-use crate::parser::cursor::{Read, Stop, expect, next, past, reach};
+use crate::parser::cursor::{Read, Stop, expect, next, past, reach, span_at};
 use crate::parser::declaration::read_declarations;
 use crate::parser::names::read_name;
 use crate::span::Span;
@@ -25,6 +27,8 @@ pub fn parse_lexemes(alloc: Global, text: &str, lexemes: &[Lexeme]) -> Result<Pr
     requires proper { AreProper text.now lexemes.now }
     // The program is spelled by the lexemes, within the limit of nesting, and no other is.
     ensures spells { IfOk result (λ p. Spells (program_of p) (terminals text.now lexemes.now)) }
+    // Each name, statement and expression has the span from its first to its last lexeme.
+    ensures spans { IfOk result (λ p. ProgramSpans text.now p lexemes.now) }
     ensures nesting { IfOk result (λ p. nesting (program_of p) ≤ 64) }
     ensures only { IfOk result (λ p. (t : ProgramTree) → Spells t (terminals text.now lexemes.now) → t ≡ program_of p) }
     // What a program within the limit spells is refused for want of memory alone.
@@ -65,19 +69,11 @@ fn fault_of(text: &str, lexemes: &[Lexeme], stop: Stop) -> SyntaxFault
     }
 }
 
-// The span of the lexeme at which so many are left.
-fn span_at(lexemes: &[Lexeme], left: usize) -> Span
-    requires some { 0 < left }
-    requires in_range { left ≤ length lexemes.now }
-    ensures { Placed lexemes.now result left }
-{
-    lexemes[lexemes.len() - left].span
-}
-
 // A whole program.
 fn read_program(alloc: Global, text: &str, lexemes: &[Lexeme]) -> Result<Program, Stop>
     requires proper { AreProper text.now lexemes.now }
     ensures spells { IfOk result (λ p. Spells (program_of p) (terminals text.now lexemes.now)) }
+    ensures spans { IfOk result (λ p. ProgramSpans text.now p lexemes.now) }
     ensures nesting { IfOk result (λ p. nesting (program_of p) ≤ 64) }
     ensures halts { IfErr result (λ e. Halts (terminals text.now lexemes.now) e) }
 {
@@ -99,6 +95,7 @@ fn read_program(alloc: Global, text: &str, lexemes: &[Lexeme]) -> Result<Program
 // The lexemes after a semicolon, where one stands first.
 fn past_semicolon(input: &[Lexeme]) -> &[Lexeme]
     ensures words { (text : List ℕ) → MaybeSemicolon (terminals text input.now) (terminals text result.now) }
+    ensures spans { (text : List ℕ) → MayPart text input.now result.now }
     ensures shorter { length result.now ≤ length input.now }
     ensures proper { (text : List ℕ) → AreProper text input.now → AreProper text result.now }
     ensures reads { (text : List ℕ) → Reads text 0 (TailPart LastTail ∷ []) input.now result.now }
@@ -113,6 +110,7 @@ fn past_semicolon(input: &[Lexeme]) -> &[Lexeme]
 fn read_instances<'t>(alloc: Global, text: &str, input: &'t [Lexeme]) -> Read<'t, Vec<Instance>>
     requires proper { AreProper text.now input.now }
     ensures words { IfOk result (λ r. Instances (map instance_of r.0.items) (terminals text.now input.now) (terminals text.now r.1.now)) }
+    ensures spans { IfOk result (λ r. InstancesSpan text.now r.0.items input.now r.1.now) }
     ensures shorter { IfOk result (λ r. length r.1.now < length input.now) }
     ensures proper { IfOk result (λ r. AreProper text.now r.1.now) }
     ensures reads { IfOk result (λ r. Reads text.now 0 (InstancePart ∷ TailPart InstancesTail ∷ []) input.now r.1.now) }
@@ -133,6 +131,7 @@ fn read_instances<'t>(alloc: Global, text: &str, input: &'t [Lexeme]) -> Read<'t
 fn read_instance<'t>(alloc: Global, text: &str, input: &'t [Lexeme]) -> Read<'t, Instance>
     requires proper { AreProper text.now input.now }
     ensures words { IfOk result (λ r. Instantiates (instance_of r.0) (terminals text.now input.now) (terminals text.now r.1.now)) }
+    ensures spans { IfOk result (λ r. InstanceSpans text.now r.0 input.now r.1.now) }
     ensures shorter { IfOk result (λ r. length r.1.now < length input.now) }
     ensures proper { IfOk result (λ r. AreProper text.now r.1.now) }
     ensures reads { IfOk result (λ r. Reads text.now 0 (InstancePart ∷ []) input.now r.1.now) }
@@ -148,6 +147,7 @@ fn read_instance<'t>(alloc: Global, text: &str, input: &'t [Lexeme]) -> Read<'t,
 fn read_arguments<'t>(alloc: Global, text: &str, input: &'t [Lexeme]) -> Read<'t, Vec<Argument>>
     requires proper { AreProper text.now input.now }
     ensures words { IfOk result (λ r. Arguments (map argument_of r.0.items) (terminals text.now input.now) (sign mark.Close ∷ terminals text.now r.1.now)) }
+    ensures spans { IfOk result (λ r. (a : List Lexeme) × ArgumentsSpan text.now r.0.items input.now a × Takes text.now (sign mark.Close) a r.1.now) }
     ensures shorter { IfOk result (λ r. length r.1.now < length input.now) }
     ensures proper { IfOk result (λ r. AreProper text.now r.1.now) }
     ensures reads { IfOk result (λ r. Reads text.now 0 (ArgumentsPart ∷ []) input.now r.1.now) }
@@ -172,6 +172,7 @@ fn read_arguments<'t>(alloc: Global, text: &str, input: &'t [Lexeme]) -> Read<'t
 fn read_argument<'t>(alloc: Global, text: &str, input: &'t [Lexeme]) -> Read<'t, Argument>
     requires proper { AreProper text.now input.now }
     ensures words { IfOk result (λ r. Argues (argument_of r.0) (terminals text.now input.now) (terminals text.now r.1.now)) }
+    ensures spans { IfOk result (λ r. ArgumentSpans text.now r.0 input.now r.1.now) }
     ensures shorter { IfOk result (λ r. length r.1.now < length input.now) }
     ensures proper { IfOk result (λ r. AreProper text.now r.1.now) }
     ensures reads { IfOk result (λ r. Reads text.now 0 (ArgumentPart ∷ []) input.now r.1.now) }
@@ -208,6 +209,7 @@ fn read_argument<'t>(alloc: Global, text: &str, input: &'t [Lexeme]) -> Read<'t,
 #[tactic(auto, using(crate::proofs::Negative::negative_fits))]
 fn next_negative(input: &[Lexeme]) -> Option<(i64, &[Lexeme])>
     ensures number { IfSome result (λ r. (n : ℤ) × (r.0 ≡ neg_ℤ n) × ((text : List ℕ) → terminals text input.now ≡ number n ∷ terminals text r.1.now)) }
+    ensures passed { IfSome result (λ r. IsPast input.now r.1.now) }
     ensures shorter { IfSome result (λ r. length input.now ≡ length r.1.now + 1) }
     ensures proper { IfSome result (λ r. (text : List ℕ) → AreProper text input.now → AreProper text r.1.now) }
     ensures absent { IfNone result ((text : List ℕ) → AreProper text input.now → leads NumberToken (terminals text input.now) ≡ false) }

@@ -6,6 +6,7 @@ ghost use Rattle.kahn_syntax.specs.declared.lexeme.Class.TheVariants as class;
 ghost use Rattle.kahn_syntax.specs.Terminals.{terminals, First, AreProper};
 ghost use Rattle.kahn_syntax.specs.Trees.{statement_words, statements_words, statement_nesting, statements_nesting, FormedStatement, FormedStatements, IsSimple, AreSome};
 ghost use Rattle.kahn_syntax.specs.Drawn.{statement_of, statements_of};
+ghost use Rattle.kahn_syntax.specs.Spans.{IsPast, StatementSpans, StatementsSpan};
 ghost use Rattle.kahn_syntax.specs.Reads.{Reads, Stops};
 ghost use Rattle.kahn_syntax.specs.Machine.{NameToken, leads, StatementsTail, StatementPart, SimplePart, TailPart};
 
@@ -28,6 +29,7 @@ pub fn read_statements<'t>(
     requires depth { depth ≤ 64 }
     requires proper { AreProper text.now input.now }
     ensures words { IfOk result (λ r. terminals text.now input.now ≡ statements_words (statements_of r.0.items) (terminals text.now r.1.now)) }
+    ensures spans { IfOk result (λ r. StatementsSpan text.now r.0.items input.now r.1.now) }
     ensures formed { IfOk result (λ r. FormedStatements (statements_of r.0.items)) }
     ensures some { IfOk result (λ r. AreSome (statements_of r.0.items)) }
     ensures nesting { IfOk result (λ r. depth + statements_nesting (statements_of r.0.items) ≤ 64) }
@@ -58,6 +60,7 @@ fn read_statement<'t>(
     requires depth { depth ≤ 64 }
     requires proper { AreProper text.now input.now }
     ensures words { IfOk result (λ r. terminals text.now input.now ≡ statement_words (statement_of r.0) (terminals text.now r.1.now)) }
+    ensures spans { IfOk result (λ r. StatementSpans text.now r.0 input.now r.1.now) }
     ensures formed { IfOk result (λ r. FormedStatement (statement_of r.0)) }
     ensures nesting { IfOk result (λ r. depth + statement_nesting (statement_of r.0) ≤ 64) }
     ensures shorter { IfOk result (λ r. length r.1.now ≤ length input.now) }
@@ -98,7 +101,9 @@ fn read_if<'t>(
     requires follows { length input.now ≡ length rest.now + 1 }
     requires depth { depth ≤ 64 }
     requires proper { AreProper text.now rest.now }
+    requires passed { IsPast input.now rest.now }
     ensures words { IfOk result (λ r. terminals text.now input.now ≡ statement_words (statement_of r.0) (terminals text.now r.1.now)) }
+    ensures spans { IfOk result (λ r. StatementSpans text.now r.0 input.now r.1.now) }
     ensures formed { IfOk result (λ r. FormedStatement (statement_of r.0)) }
     ensures nesting { IfOk result (λ r. depth + statement_nesting (statement_of r.0) ≤ 64) }
     ensures shorter { IfOk result (λ r. length r.1.now < length input.now) }
@@ -130,6 +135,7 @@ fn read_simple<'t>(
     requires depth { depth ≤ 64 }
     requires proper { AreProper text.now input.now }
     ensures words { IfOk result (λ r. terminals text.now input.now ≡ statement_words (statement_of r.0) (terminals text.now r.1.now)) }
+    ensures spans { IfOk result (λ r. StatementSpans text.now r.0 input.now r.1.now) }
     ensures formed { IfOk result (λ r. FormedStatement (statement_of r.0)) }
     ensures simple { IfOk result (λ r. IsSimple (statement_of r.0)) }
     ensures nesting { IfOk result (λ r. depth + statement_nesting (statement_of r.0) ≤ 64) }
@@ -178,6 +184,7 @@ fn read_assign<'t>(
     requires proper { AreProper text.now input.now }
     requires named { leads NameToken (terminals text.now input.now) ≡ true }
     ensures words { IfOk result (λ r. terminals text.now input.now ≡ statement_words (statement_of r.0) (terminals text.now r.1.now)) }
+    ensures spans { IfOk result (λ r. StatementSpans text.now r.0 input.now r.1.now) }
     ensures formed { IfOk result (λ r. FormedStatement (statement_of r.0)) }
     ensures simple { IfOk result (λ r. IsSimple (statement_of r.0)) }
     ensures nesting { IfOk result (λ r. depth + statement_nesting (statement_of r.0) ≤ 64) }
@@ -210,7 +217,9 @@ fn read_send<'t>(
     requires follows { length input.now ≡ length rest.now + 1 }
     requires depth { depth ≤ 64 }
     requires proper { AreProper text.now rest.now }
+    requires passed { IsPast input.now rest.now }
     ensures words { IfOk result (λ r. terminals text.now input.now ≡ statement_words (statement_of r.0) (terminals text.now r.1.now)) }
+    ensures spans { IfOk result (λ r. StatementSpans text.now r.0 input.now r.1.now) }
     ensures formed { IfOk result (λ r. FormedStatement (statement_of r.0)) }
     ensures simple { IfOk result (λ r. IsSimple (statement_of r.0)) }
     ensures nesting { IfOk result (λ r. depth + statement_nesting (statement_of r.0) ≤ 64) }

@@ -4,6 +4,7 @@ use super::parse;
 use crate::fault::{SyntaxFault, What};
 use crate::lexer::lex;
 use crate::span::Span;
+use crate::tree::{Declaration, Program};
 use std::test::Fail;
 
 const COUNTING: &str =
@@ -11,6 +12,10 @@ const COUNTING: &str =
 
 const SAMPLE: &str =
     "Begin\n  Integer channel X, Y, Z, T1, T2;\n  Process f(integer in U, V; integer out W);\n  Begin integer I; logical B;\n    B := true;\n    Repeat Begin\n      I := if B then wait(U) else wait(V);\n      print(I);\n      send I on W;\n      B := not B;\n    End;\n  End;\n  Process g(integer in U; integer out V, W);\n  Begin integer I; logical B;\n    B := true;\n    Repeat Begin\n      I := wait(U);\n      if B then send I on V else send I on W;\n      B := not B;\n    End;\n  End;\n  Process h(integer in U; integer out V; integer INIT);\n  Begin integer I;\n    send INIT on V;\n    Repeat Begin\n      I := wait(U);\n      send I on V;\n    End;\n  End;\n  Comment: body of the main program;\n  f(Y, Z, X) par g(X, T1, T2) par h(T1, Y, 0) par h(T2, Z, 1)\nEnd;\n";
+
+const SILENT: &str = "begin process p(); begin repeat begin end end; p() end";
+
+const MOST_BYTES: usize = 1_048_576;
 
 fn fault(text: &str, rt: &HostRuntime) -> Option<SyntaxFault> {
     parse(rt.alloc(), text).err()
@@ -185,5 +190,143 @@ fn brackets_of_64_levels(rt: HostRuntime) -> Result<(), Fail> {
     let opened = repeated(&rt, ["begin process p(); begin print ", "(", "1"], 64)?;
     let text = repeated(&rt, [opened.as_str(), ")", " end; p() end"], 64)?;
     assert_eq!(rt; fault(text.as_str(), &rt), None);
+    Ok(())
+}
+
+// Whether the text goes on to a program, or its last lexeme can't stand.
+fn is_unfinished(found: Option<SyntaxFault>) -> bool {
+    matches!(
+        found,
+        Some(SyntaxFault::Expected(_, What::More | What::Other))
+    )
+}
+
+#[test]
+fn each_prefix_of_the_counting_process(rt: HostRuntime) {
+    let last_end = COUNTING.len().saturating_sub(2);
+    for end in 0..last_end {
+        let prefix = cut(COUNTING, end);
+        let found = fault(prefix, &rt);
+        let colon = Span {
+            from: end.saturating_sub(1),
+            to: end,
+        };
+        let wanted = if prefix.ends_with(":") {
+            found == Some(SyntaxFault::BadCharacter(colon))
+        } else {
+            is_unfinished(found)
+        };
+        assert!(rt; wanted, "at {end}");
+    }
+    for end in last_end..COUNTING.len() {
+        assert_eq!(rt; fault(cut(COUNTING, end), &rt), None);
+    }
+}
+
+#[test]
+fn as_many_bytes_as_there_may_be(rt: HostRuntime) -> Result<(), Fail> {
+    let blanks = MOST_BYTES.saturating_sub(SILENT.len());
+    let mut text = repeated(&rt, [SILENT, " ", ""], blanks)?;
+    assert_eq!(rt; text.len(), MOST_BYTES);
+    assert_eq!(rt; fault(text.as_str(), &rt), None);
+    text.push_str(" ")?;
+    assert_eq!(rt; fault(text.as_str(), &rt), Some(SyntaxFault::TooLong));
+    Ok(())
+}
+
+#[test]
+fn a_process_with_64_letters(rt: HostRuntime) -> Result<(), Fail> {
+    let head = repeated(&rt, ["begin process ", "n", "(); begin end; "], 64)?;
+    let text = repeated(&rt, [head.as_str(), "n", "() end"], 64)?;
+    assert_eq!(rt; fault(text.as_str(), &rt), None);
+    Ok(())
+}
+
+#[test]
+fn a_process_with_65_letters(rt: HostRuntime) -> Result<(), Fail> {
+    let text = repeated(&rt, ["begin process ", "n", "(); begin end; p() end"], 65)?;
+    assert_eq!(rt;
+        fault(text.as_str(), &rt),
+        Some(SyntaxFault::NameTooLong(Span { from: 14, to: 79 }))
+    );
+    Ok(())
+}
+
+#[test]
+fn a_comment_without_an_end(rt: HostRuntime) -> Result<(), Fail> {
+    let text = repeated(&rt, [SILENT, " comment", " of the end"], 1)?;
+    assert_eq!(rt;
+        fault(text.as_str(), &rt),
+        Some(SyntaxFault::CommentOpen(Span { from: 55, to: 62 }))
+    );
+    Ok(())
+}
+
+#[test]
+fn texts_of_other_faults_are_programs(rt: HostRuntime) {
+    for text in [
+        "begin logical channel X; process p(); begin end; p() end",
+        "begin integer channel X, X; process p(); begin end; p() end",
+        "begin process p(); begin print A end; p() end",
+        "begin process p(); begin print true end; p() end",
+        "begin process p(); begin end; p(1) end",
+        "begin process p(); begin integer A; print wait(A) end; p() end",
+        "begin integer channel X; process p(integer out W); begin print W end; p(X) end",
+        "begin integer channel X; process p(integer out W); begin print wait(W) end; p(X) end",
+        "begin integer channel X; process s(integer out A); begin send 1 on A end; s(X) end",
+        "begin logical channel X; process s(integer out A); begin send 1 on A end; s(X) end",
+        "begin logical input channel A; logical output channel B; process inv(logical in U; logical out W); begin repeat send not wait(U) on W end; inv(A, B) end",
+    ] {
+        assert_eq!(rt; fault(text, &rt), None, "at {text}");
+    }
+}
+
+#[test]
+fn sample_programs(rt: HostRuntime) {
+    for text in [
+        "begin integer input channel A; integer output channel B;\n  process double(integer in U; integer out W);\n  begin repeat send 2 * wait(U) on W end;\n  double(A, B)\nend\n",
+        "begin integer input channel A; integer output channel B;\n  process top(integer in U; integer out W);\n  begin repeat send 9223372036854775807 + wait(U) on W end;\n  top(A, B)\nend\n",
+        "begin integer channel X, Y;\n  process c(integer in U; integer out W);\n  begin integer I; I := wait(U); send I on W end;\n  c(X, Y) par c(Y, X)\nend\n",
+        "begin integer channel X;\n  process p(integer in U; integer out W);\n  begin integer I; send 1 on W; print wait(U); I := wait(U) end;\n  p(X, X)\nend\n",
+        SILENT,
+        "begin integer input channel A, B;\n  process alt(integer in U, V);\n  begin integer I; repeat begin I := wait(U); I := wait(V) end end;\n  alt(A, B)\nend\n",
+        "begin integer channel X;\n  process count(integer out W; integer N);\n  begin integer I;\n    while I < N do begin send I on W; I := I + 1 end\n  end;\n  process two(integer in U);\n  begin integer I; I := wait(U); I := wait(U) end;\n  count(X, 5) par two(X)\nend\n",
+        "begin integer channel X0, X1, X2; integer output channel W;\n  process count(integer out W; integer N);\n  begin integer I;\n    while I < N do begin send I on W; I := I + 1 end\n  end;\n  process copy(integer in U; integer out W);\n  begin repeat send wait(U) on W end;\n  count(X0, 64) par copy(X0, X1) par copy(X1, X2) par copy(X2, W)\nend\n",
+        "begin integer output channel V, W;\n  process count(integer out W; integer N);\n  begin integer I;\n    while I < N do begin send I on W; I := I + 1 end\n  end;\n  count(V, 3) par count(W, 3)\nend\n",
+        "begin integer channel X, Y, Z, T1, T2;\n  process f(integer in U, V; integer out W);\n  begin integer I, N; logical B;\n    B := true;\n    while N < 4 do begin\n      I := if B then wait(U) else wait(V);\n      print(I);\n      send I on W;\n      B := not B;\n      N := N + 1\n    end;\n  end;\n  f(Y, Z, X)\nend\n",
+    ] {
+        assert_eq!(rt; fault(text, &rt), None, "at {text}");
+    }
+}
+
+// The spans of the statements of the first process.
+fn statement_spans(program: &Program, rt: &HostRuntime) -> Result<Vec<Option<Span>>, Fail> {
+    let mut spans = Vec::new(rt.alloc());
+    for declaration in program.declarations.iter() {
+        if let Declaration::Process(process) = declaration {
+            for statement in process.statements.iter() {
+                spans.push(statement.span)?;
+            }
+        }
+    }
+    Ok(spans)
+}
+
+#[test]
+fn statements_have_the_spans_of_their_lexemes(rt: HostRuntime) -> Result<(), Fail> {
+    let text =
+        "begin process p(); begin integer A; A := (1 + A); ; if A = 1 then else print - 2; while true do ; send A on A end; p() end";
+    let program = parse(rt.alloc(), text)?;
+    let wanted = [
+        Some(Span { from: 36, to: 48 }),
+        None,
+        Some(Span { from: 52, to: 80 }),
+        Some(Span { from: 82, to: 95 }),
+        Some(Span { from: 98, to: 109 }),
+    ];
+    assert_eq!(rt;
+        statement_spans(&program, &rt)?.as_slice(),
+        wanted.as_slice()
+    );
     Ok(())
 }

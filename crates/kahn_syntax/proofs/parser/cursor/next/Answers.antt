@@ -1,4 +1,4 @@
-use Rattle.kahn_syntax.proofs.Lists.{next_made, next_unsigned, next_proper}
+use Rattle.kahn_syntax.proofs.Lists.{next_made, next_passed, next_unsigned, next_proper}
 use Rattle.kahn_syntax.proofs.parser.cursor.next.Goals as goal
 
 pub returns-in-len1-up-clause-first : goal.returns-in-len1-up-clause-first
@@ -9,3 +9,6 @@ returns-in-len1-up-clause-unsigned c = λ text h. next_unsigned text c.args.inpu
 
 pub returns-in-len1-up-clause-proper : goal.returns-in-len1-up-clause-proper
 returns-in-len1-up-clause-proper c = λ text h. next_proper text c.args.input.now c.in-len1-up.len_at_least h
+
+pub returns-in-len1-up-clause-passed : goal.returns-in-len1-up-clause-passed
+returns-in-len1-up-clause-passed c = next_passed c.args.input.now c.in-len1-up.len_at_least

@@ -8,6 +8,8 @@ use Rattle.kahn_syntax.specs.Rungs.{whole, ors, denials, relations, sums, factor
 use Rattle.kahn_syntax.specs.Machine.{leads_kind, leads_declaration, BecomesToken, BeginToken, ChannelToken, CloseToken, CommaToken, DoToken, ElseToken, EndToken, IfToken, NameToken, NotToken, NumberToken, OnToken, OpenToken, ParToken, ProcessToken, SemicolonToken, ThenToken, NamesTail, StatementsTail, GroupsTail, ArgumentsTail, InstancesTail, ElseTail, LastTail, ProgramPart, DeclarationsPart, DeclarationPart, ProcessPart, RolePart, GroupsPart, GroupPart, TakingPart, VariablesPart, StatementPart, SimplePart, ExpressionPart, OperatorsPart, InstancePart, ArgumentsPart, ArgumentPart, TailPart, TokenPart, LevelPart}
 use Rattle.kahn_syntax.specs.Drawn.{name_of, expression_of, statement_of}
 use Rattle.kahn_syntax.proofs.Moves.{kind_moves, opens_groups, groups_end, variables_end, opens_process, opens_declarations, declarations_end, no_group, no_process, then, then_stops, call, call_stops, call_two, call_two_stops, one, deep, token, expected, goes, ends, level_ends, absent, unexpected, no_name, no_memory}
+use Rattle.kahn_syntax.proofs.Spanning as S
+use Rattle.kahn_syntax.specs.Programs.{kind_terminal}
 use Rattle.kahn_syntax.proofs.parser.declaration.read_declaration.Goals as goal
 
 pub returns-in_err-rest-in-Some-clause-stops : goal.returns-in_err-rest-in-Some-clause-stops
@@ -30,3 +32,18 @@ returns-in_err-process-in-None-clause-stops c =
 
 pub returns-in_ok-process-in-None-clause-reads : goal.returns-in_ok-process-in-None-clause-reads
 returns-in_ok-process-in-None-clause-reads c = (then c.args.text.now 0 (DeclarationPart ∷ []) (ProcessPart ∷ []) ([]) c.args.input.now c.args.input.now c.in_ok-process-in-None.rest.now (opens_process c.args.text.now [] c.args.input.now (c.in-None.ensures.leads c.args.text.now)) (call c.args.text.now 0 0 (ProcessPart) ([]) c.args.input.now c.in_ok-process-in-None.rest.now (λ s l. omega (arith, l)) c.in_ok-process-in-None.ensures.reads))
+
+pub returns-in_ok-names-in-Some-clause-spans : goal.returns-in_ok-names-in-Some-clause-spans
+returns-in_ok-names-in-Some-clause-spans c =
+    let T = c.args.text.now in (
+      c.in-Some.rest.now,
+      c.read_role-role.result.1.now,
+      c.in_ok-rest-in-Some.rest.now,
+      (S.takes T (kind_terminal c.in-Some.kind) c.args.input.now c.in-Some.rest.now c.in-Some.ensures.passed (c.in-Some.ensures.first T)),
+      c.read_role-role.ensures.spans T,
+      (S.takes T (word keyword.Channel) c.read_role-role.result.1.now c.in_ok-rest-in-Some.rest.now c.in_ok-rest-in-Some.ensures.passed (c.in_ok-rest-in-Some.ensures.first.1 T)),
+      c.in_ok-names-in-Some.ensures.spans,
+    )
+
+pub returns-in_ok-process-in-None-clause-spans : goal.returns-in_ok-process-in-None-clause-spans
+returns-in_ok-process-in-None-clause-spans c = c.in_ok-process-in-None.ensures.spans

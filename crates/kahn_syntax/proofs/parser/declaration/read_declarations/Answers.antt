@@ -9,6 +9,7 @@ use Rattle.kahn_syntax.specs.Machine.{leads_kind, leads_declaration, BecomesToke
 use Rattle.kahn_syntax.specs.Drawn.{name_of, expression_of, statement_of}
 use Rattle.kahn_syntax.proofs.Moves.{kind_moves, opens_groups, groups_end, variables_end, opens_process, opens_declarations, declarations_end, no_group, no_process, then, then_stops, call, call_stops, call_two, call_two_stops, one, deep, token, expected, goes, ends, level_ends, absent, unexpected, no_name, no_memory}
 use Rattle.kahn_syntax.proofs.Declared.{declarations_next, declarations_nesting_next}
+use Rattle.kahn_syntax.proofs.Spanning as S
 use Rattle.kahn_syntax.proofs.parser.declaration.read_declarations.Goals as goal
 
 pub returns-in_err-declaration-clause-stops : goal.returns-in_err-declaration-clause-stops
@@ -24,6 +25,8 @@ declarations-preserved c =
     let a : leads_declaration (terminals c.args.text.now c.declarations.rest.now) ≡ true = search rules in
     record {
       words = declarations_next _ _ _ _ _ _ _ c.in_ok-push.ensures.items c.declarations.invariant.words c.in_ok-declaration.ensures.words (c.in_ok-after.ensures.first.1 c.args.text.now);
+      spans = (let T = c.args.text.now in S.declarations_next T _ _ _ c.args.input.now c.declarations.rest.now c.in_ok-declaration.after.now c.in_ok-after.after.now c.in_ok-push.ensures.items c.declarations.invariant.spans c.in_ok-declaration.ensures.spans
+          (S.takes T (sign mark.Semicolon) c.in_ok-declaration.after.now c.in_ok-after.after.now c.in_ok-after.ensures.passed (c.in_ok-after.ensures.first.1 T)));
       nesting = declarations_nesting_next _ _ _ c.in_ok-push.ensures.items c.declarations.invariant.nesting c.in_ok-declaration.ensures.nesting;
       shorter = omega (arith, c.in_ok-after.ensures.shorter, c.in_ok-declaration.ensures.shorter, c.declarations.invariant.shorter);
       proper = c.in_ok-after.ensures.proper c.args.text.now c.in_ok-declaration.ensures.proper;

@@ -8,6 +8,8 @@ use Rattle.kahn_syntax.specs.Rungs.{whole, ors, denials, relations, sums, factor
 use Rattle.kahn_syntax.specs.Machine.{leads_kind, leads_declaration, BecomesToken, BeginToken, ChannelToken, CloseToken, CommaToken, DoToken, ElseToken, EndToken, IfToken, NameToken, NotToken, NumberToken, OnToken, OpenToken, ParToken, ProcessToken, SemicolonToken, ThenToken, NamesTail, StatementsTail, GroupsTail, ArgumentsTail, InstancesTail, ElseTail, LastTail, ProgramPart, DeclarationsPart, DeclarationPart, ProcessPart, RolePart, GroupsPart, GroupPart, TakingPart, VariablesPart, StatementPart, SimplePart, ExpressionPart, OperatorsPart, InstancePart, ArgumentsPart, ArgumentPart, TailPart, TokenPart, LevelPart}
 use Rattle.kahn_syntax.specs.Drawn.{name_of, expression_of, statement_of}
 use Rattle.kahn_syntax.proofs.Moves.{kind_moves, opens_groups, groups_end, variables_end, opens_process, opens_declarations, declarations_end, no_group, no_process, then, then_stops, call, call_stops, call_two, call_two_stops, one, deep, token, expected, goes, ends, level_ends, absent, unexpected, no_name, no_memory}
+use Rattle.kahn_syntax.proofs.Spanning as S
+use Rattle.kahn_syntax.specs.Programs.{kind_terminal}
 use Rattle.kahn_syntax.proofs.parser.declaration.read_group.Goals as goal
 
 pub returns-in_default-clause-stops : goal.returns-in_default-clause-stops
@@ -22,3 +24,9 @@ returns-in_err-names-clause-stops c =
 
 pub returns-clause-reads : goal.returns-clause-reads
 returns-clause-reads c = (then c.args.text.now 0 (GroupPart ∷ []) (TokenPart NameToken ∷ TailPart NamesTail ∷ []) ([]) c.args.input.now c.read_taking-taking.result.1.now c.in_ok-names.rest.now (then c.args.text.now 0 (GroupPart ∷ []) (TakingPart ∷ TokenPart NameToken ∷ TailPart NamesTail ∷ []) (TokenPart NameToken ∷ TailPart NamesTail ∷ []) c.args.input.now c.in-Some.rest.now c.read_taking-taking.result.1.now (kind_moves c.args.text.now 0 GroupPart [] ((TakingPart ∷ TokenPart NameToken ∷ TailPart NamesTail ∷ [])) c.in-Some.kind c.args.input.now c.in-Some.rest.now (λ s l. omega (arith, l)) (λ s. refl) (λ s. refl) (c.in-Some.ensures.first c.args.text.now)) (call c.args.text.now 0 0 (TakingPart) (TokenPart NameToken ∷ TailPart NamesTail ∷ []) c.in-Some.rest.now c.read_taking-taking.result.1.now (λ s l. omega (arith, l)) (c.read_taking-taking.ensures.reads c.args.text.now))) (call_two c.args.text.now 0 0 (TokenPart NameToken) (TailPart NamesTail) ([]) c.read_taking-taking.result.1.now c.in_ok-names.rest.now (λ s l. omega (arith, l)) c.in_ok-names.ensures.reads))
+
+pub returns-clause-spans : goal.returns-clause-spans
+returns-clause-spans c =
+    let T = c.args.text.now in
+    S.group_spans T _ c.in-Some.kind _ c.args.input.now c.in-Some.rest.now c.read_taking-taking.result.1.now c.in_ok-names.rest.now c.read_taking-taking.ensures.kind
+    (S.takes T (kind_terminal c.in-Some.kind) c.args.input.now c.in-Some.rest.now c.in-Some.ensures.passed (c.in-Some.ensures.first T)) (c.read_taking-taking.ensures.spans T) c.in_ok-names.ensures.spans

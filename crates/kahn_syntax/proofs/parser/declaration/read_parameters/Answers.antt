@@ -11,6 +11,8 @@ use Rattle.kahn_syntax.proofs.Moves.{kind_moves, opens_groups, groups_end, varia
 use Rattle.kahn_syntax.specs.Programs.{parameter}
 use Rattle.kahn_syntax.specs.Drawn.{parameter_of}
 use Rattle.kahn_syntax.proofs.Declared.{parameters_first, parameters_next}
+use Rattle.kahn_syntax.proofs.Spanning as S
+use Rattle.kahn_syntax.specs.Spans.{group, parameters_of}
 use Rattle.kahn_syntax.proofs.parser.declaration.read_parameters.Goals as goal
 
 pub returns-then-is_none-clause-reads : goal.returns-then-is_none-clause-reads
@@ -35,6 +37,8 @@ groups-init c =
       words = parameters_first _ g.taking (map name_of g.names.items) _ _ c.in_ok-first.ensures.some
           (c.in_ok-add_parameters.ensures.added ∙ ap (λ xs. map parameter_of xs ++ map (parameter g.taking) (map name_of g.names.items)) c.new-parameters.ensures.items)
           c.in_ok-first.ensures.words;
+      spans = S.parameters_first c.args.text.now _ (group g.taking g.names.items) c.args.input.now c.in_ok-first.rest.now
+          (c.in_ok-add_parameters.ensures.items ∙ ap (λ xs. xs ++ parameters_of (group g.taking g.names.items)) c.new-parameters.ensures.items) c.in_ok-first.ensures.spans;
       shorter = omega (arith, c.in_ok-first.ensures.shorter);
       proper = c.in_ok-first.ensures.proper;
       reads = (then c.args.text.now 0 (GroupsPart ∷ []) (GroupPart ∷ TailPart GroupsTail ∷ []) (TailPart GroupsTail ∷ []) c.args.input.now c.args.input.now c.in_ok-first.rest.now (opens_groups c.args.text.now [] c.args.input.now a) (call c.args.text.now 0 0 (GroupPart) (TailPart GroupsTail ∷ []) c.args.input.now c.in_ok-first.rest.now (λ s l. omega (arith, l)) c.in_ok-first.ensures.reads));
@@ -46,6 +50,8 @@ groups-preserved c =
     record {
       words = parameters_next _ _ g.taking (map name_of g.names.items) _ _ _ _ c.groups.invariant.words (c.in-Some.ensures.first.1 c.args.text.now) c.in_ok-further.ensures.words
           c.in_ok-further.ensures.some c.in_ok-add_parameters-2.ensures.added;
+      spans = S.parameters_next c.args.text.now _ _ (group g.taking g.names.items) c.args.input.now c.groups.rest.now c.in-Some.after.now c.in_ok-further.left.now c.in_ok-add_parameters-2.ensures.items c.groups.invariant.spans
+          (S.takes c.args.text.now (sign mark.Semicolon) c.groups.rest.now c.in-Some.after.now c.in-Some.ensures.passed (c.in-Some.ensures.first.1 c.args.text.now)) c.in_ok-further.ensures.spans;
       shorter = omega (arith, c.in-Some.ensures.shorter, c.in_ok-further.ensures.shorter, c.groups.invariant.shorter);
       proper = c.in_ok-further.ensures.proper;
       reads = (then c.args.text.now 0 (GroupsPart ∷ []) (GroupPart ∷ TailPart GroupsTail ∷ []) (TailPart GroupsTail ∷ []) c.args.input.now c.in-Some.after.now c.in_ok-further.left.now (then c.args.text.now 0 (GroupsPart ∷ []) (TailPart GroupsTail ∷ []) (GroupPart ∷ TailPart GroupsTail ∷ []) c.args.input.now c.groups.rest.now c.in-Some.after.now (c.groups.invariant.reads) (goes c.args.text.now 0 GroupsTail ([]) (class.Sign mark.Semicolon) c.groups.rest.now c.in-Some.after.now (λ s l. omega (arith, l)) refl c.in-Some.ensures.first)) (call c.args.text.now 0 0 (GroupPart) (TailPart GroupsTail ∷ []) c.in-Some.after.now c.in_ok-further.left.now (λ s l. omega (arith, l)) c.in_ok-further.ensures.reads));
@@ -53,3 +59,9 @@ groups-preserved c =
 
 pub returns-clause-reads : goal.returns-clause-reads
 returns-clause-reads c = (then c.args.text.now 0 (GroupsPart ∷ []) (TailPart GroupsTail ∷ []) ([]) c.args.input.now c.groups.rest.now c.groups.rest.now (c.groups.invariant.reads) (ends c.args.text.now 0 GroupsTail ([]) (class.Sign mark.Semicolon) c.groups.rest.now refl c.in_default.ensures.absent))
+
+pub returns-then-is_none-clause-spans : goal.returns-then-is_none-clause-spans
+returns-then-is_none-clause-spans c = ([], c.new-parameters.ensures.items, refl)
+
+pub returns-clause-spans : goal.returns-clause-spans
+returns-clause-spans c = S.some_are_parameters c.args.text.now _ c.args.input.now c.groups.rest.now c.groups.invariant.spans

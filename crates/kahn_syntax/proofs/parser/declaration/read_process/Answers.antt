@@ -8,6 +8,7 @@ use Rattle.kahn_syntax.specs.Rungs.{whole, ors, denials, relations, sums, factor
 use Rattle.kahn_syntax.specs.Machine.{leads_kind, leads_declaration, BecomesToken, BeginToken, ChannelToken, CloseToken, CommaToken, DoToken, ElseToken, EndToken, IfToken, NameToken, NotToken, NumberToken, OnToken, OpenToken, ParToken, ProcessToken, SemicolonToken, ThenToken, NamesTail, StatementsTail, GroupsTail, ArgumentsTail, InstancesTail, ElseTail, LastTail, ProgramPart, DeclarationsPart, DeclarationPart, ProcessPart, RolePart, GroupsPart, GroupPart, TakingPart, VariablesPart, StatementPart, SimplePart, ExpressionPart, OperatorsPart, InstancePart, ArgumentsPart, ArgumentPart, TailPart, TokenPart, LevelPart}
 use Rattle.kahn_syntax.specs.Drawn.{name_of, expression_of, statement_of}
 use Rattle.kahn_syntax.proofs.Moves.{kind_moves, opens_groups, groups_end, variables_end, opens_process, opens_declarations, declarations_end, no_group, no_process, then, then_stops, call, call_stops, call_two, call_two_stops, one, deep, token, expected, goes, ends, level_ends, absent, unexpected, no_name, no_memory}
+use Rattle.kahn_syntax.proofs.Spanning as S
 use Rattle.kahn_syntax.proofs.parser.declaration.read_process.Goals as goal
 
 pub returns-in_err-rest-clause-stops : goal.returns-in_err-rest-clause-stops
@@ -64,3 +65,28 @@ returns-clause-proper c = c.in_ok-rest-6.ensures.proper c.args.text.now c.in_ok-
 
 pub returns-clause-reads : goal.returns-clause-reads
 returns-clause-reads c = (then c.args.text.now 0 (ProcessPart ∷ []) (TokenPart EndToken ∷ []) ([]) c.args.input.now c.in_ok-statements.rest.now c.in_ok-rest-6.rest.now (then c.args.text.now 0 (ProcessPart ∷ []) (StatementPart ∷ TailPart StatementsTail ∷ TokenPart EndToken ∷ []) (TokenPart EndToken ∷ []) c.args.input.now c.in_ok-variables.rest.now c.in_ok-statements.rest.now (then c.args.text.now 0 (ProcessPart ∷ []) (VariablesPart ∷ StatementPart ∷ TailPart StatementsTail ∷ TokenPart EndToken ∷ []) (StatementPart ∷ TailPart StatementsTail ∷ TokenPart EndToken ∷ []) c.args.input.now c.in_ok-rest-5.rest.now c.in_ok-variables.rest.now (then c.args.text.now 0 (ProcessPart ∷ []) (TokenPart BeginToken ∷ VariablesPart ∷ StatementPart ∷ TailPart StatementsTail ∷ TokenPart EndToken ∷ []) (VariablesPart ∷ StatementPart ∷ TailPart StatementsTail ∷ TokenPart EndToken ∷ []) c.args.input.now c.in_ok-rest-4.rest.now c.in_ok-rest-5.rest.now (then c.args.text.now 0 (ProcessPart ∷ []) (TokenPart SemicolonToken ∷ TokenPart BeginToken ∷ VariablesPart ∷ StatementPart ∷ TailPart StatementsTail ∷ TokenPart EndToken ∷ []) (TokenPart BeginToken ∷ VariablesPart ∷ StatementPart ∷ TailPart StatementsTail ∷ TokenPart EndToken ∷ []) c.args.input.now c.in_ok-rest-3.rest.now c.in_ok-rest-4.rest.now (then c.args.text.now 0 (ProcessPart ∷ []) (TokenPart CloseToken ∷ TokenPart SemicolonToken ∷ TokenPart BeginToken ∷ VariablesPart ∷ StatementPart ∷ TailPart StatementsTail ∷ TokenPart EndToken ∷ []) (TokenPart SemicolonToken ∷ TokenPart BeginToken ∷ VariablesPart ∷ StatementPart ∷ TailPart StatementsTail ∷ TokenPart EndToken ∷ []) c.args.input.now c.in_ok-parameters.rest.now c.in_ok-rest-3.rest.now (then c.args.text.now 0 (ProcessPart ∷ []) (GroupsPart ∷ TokenPart CloseToken ∷ TokenPart SemicolonToken ∷ TokenPart BeginToken ∷ VariablesPart ∷ StatementPart ∷ TailPart StatementsTail ∷ TokenPart EndToken ∷ []) (TokenPart CloseToken ∷ TokenPart SemicolonToken ∷ TokenPart BeginToken ∷ VariablesPart ∷ StatementPart ∷ TailPart StatementsTail ∷ TokenPart EndToken ∷ []) c.args.input.now c.in_ok-rest-2.rest.now c.in_ok-parameters.rest.now (then c.args.text.now 0 (ProcessPart ∷ []) (TokenPart OpenToken ∷ GroupsPart ∷ TokenPart CloseToken ∷ TokenPart SemicolonToken ∷ TokenPart BeginToken ∷ VariablesPart ∷ StatementPart ∷ TailPart StatementsTail ∷ TokenPart EndToken ∷ []) (GroupsPart ∷ TokenPart CloseToken ∷ TokenPart SemicolonToken ∷ TokenPart BeginToken ∷ VariablesPart ∷ StatementPart ∷ TailPart StatementsTail ∷ TokenPart EndToken ∷ []) c.args.input.now c.in_ok-name.rest.now c.in_ok-rest-2.rest.now (then c.args.text.now 0 (ProcessPart ∷ []) (TokenPart NameToken ∷ TokenPart OpenToken ∷ GroupsPart ∷ TokenPart CloseToken ∷ TokenPart SemicolonToken ∷ TokenPart BeginToken ∷ VariablesPart ∷ StatementPart ∷ TailPart StatementsTail ∷ TokenPart EndToken ∷ []) (TokenPart OpenToken ∷ GroupsPart ∷ TokenPart CloseToken ∷ TokenPart SemicolonToken ∷ TokenPart BeginToken ∷ VariablesPart ∷ StatementPart ∷ TailPart StatementsTail ∷ TokenPart EndToken ∷ []) c.args.input.now c.in_ok-rest.rest.now c.in_ok-name.rest.now (one c.args.text.now 0 (ProcessPart) ([]) (TokenPart NameToken ∷ TokenPart OpenToken ∷ GroupsPart ∷ TokenPart CloseToken ∷ TokenPart SemicolonToken ∷ TokenPart BeginToken ∷ VariablesPart ∷ StatementPart ∷ TailPart StatementsTail ∷ TokenPart EndToken ∷ []) (word keyword.Process) c.args.input.now c.in_ok-rest.rest.now (λ s l. omega (arith, l)) (λ s. refl) (c.in_ok-rest.ensures.first.1 c.args.text.now)) (token c.args.text.now 0 NameToken (TokenPart OpenToken ∷ GroupsPart ∷ TokenPart CloseToken ∷ TokenPart SemicolonToken ∷ TokenPart BeginToken ∷ VariablesPart ∷ StatementPart ∷ TailPart StatementsTail ∷ TokenPart EndToken ∷ []) (name (name_of c.in_ok-name.name)) c.in_ok-rest.rest.now c.in_ok-name.rest.now (λ s l. omega (arith, l)) refl c.in_ok-name.ensures.words)) (expected c.args.text.now 0 OpenToken (GroupsPart ∷ TokenPart CloseToken ∷ TokenPart SemicolonToken ∷ TokenPart BeginToken ∷ VariablesPart ∷ StatementPart ∷ TailPart StatementsTail ∷ TokenPart EndToken ∷ []) (class.Sign mark.Open) c.in_ok-name.rest.now c.in_ok-rest-2.rest.now (λ s l. omega (arith, l)) refl c.in_ok-rest-2.ensures.first)) (call c.args.text.now 0 0 (GroupsPart) (TokenPart CloseToken ∷ TokenPart SemicolonToken ∷ TokenPart BeginToken ∷ VariablesPart ∷ StatementPart ∷ TailPart StatementsTail ∷ TokenPart EndToken ∷ []) c.in_ok-rest-2.rest.now c.in_ok-parameters.rest.now (λ s l. omega (arith, l)) c.in_ok-parameters.ensures.reads)) (expected c.args.text.now 0 CloseToken (TokenPart SemicolonToken ∷ TokenPart BeginToken ∷ VariablesPart ∷ StatementPart ∷ TailPart StatementsTail ∷ TokenPart EndToken ∷ []) (class.Sign mark.Close) c.in_ok-parameters.rest.now c.in_ok-rest-3.rest.now (λ s l. omega (arith, l)) refl c.in_ok-rest-3.ensures.first)) (expected c.args.text.now 0 SemicolonToken (TokenPart BeginToken ∷ VariablesPart ∷ StatementPart ∷ TailPart StatementsTail ∷ TokenPart EndToken ∷ []) (class.Sign mark.Semicolon) c.in_ok-rest-3.rest.now c.in_ok-rest-4.rest.now (λ s l. omega (arith, l)) refl c.in_ok-rest-4.ensures.first)) (expected c.args.text.now 0 BeginToken (VariablesPart ∷ StatementPart ∷ TailPart StatementsTail ∷ TokenPart EndToken ∷ []) (class.Word keyword.Begin) c.in_ok-rest-4.rest.now c.in_ok-rest-5.rest.now (λ s l. omega (arith, l)) refl c.in_ok-rest-5.ensures.first)) (call c.args.text.now 0 0 (VariablesPart) (StatementPart ∷ TailPart StatementsTail ∷ TokenPart EndToken ∷ []) c.in_ok-rest-5.rest.now c.in_ok-variables.rest.now (λ s l. omega (arith, l)) c.in_ok-variables.ensures.reads)) (call_two c.args.text.now 0 0 (StatementPart) (TailPart StatementsTail) (TokenPart EndToken ∷ []) c.in_ok-variables.rest.now c.in_ok-statements.rest.now (λ s l. omega (arith, l)) c.in_ok-statements.ensures.reads)) (expected c.args.text.now 0 EndToken ([]) (class.Word keyword.End) c.in_ok-statements.rest.now c.in_ok-rest-6.rest.now (λ s l. omega (arith, l)) refl c.in_ok-rest-6.ensures.first))
+
+pub returns-clause-spans : goal.returns-clause-spans
+returns-clause-spans c =
+    let T = c.args.text.now in
+    record {
+      a = c.in_ok-rest.rest.now;
+      b = c.in_ok-name.rest.now;
+      c = c.in_ok-rest-2.rest.now;
+      d = c.in_ok-parameters.rest.now;
+      e = c.in_ok-rest-3.rest.now;
+      f = c.in_ok-rest-4.rest.now;
+      g = c.in_ok-rest-5.rest.now;
+      h = c.in_ok-variables.rest.now;
+      i = c.in_ok-statements.rest.now;
+      begins = (S.takes T (word keyword.Process) c.args.input.now c.in_ok-rest.rest.now c.in_ok-rest.ensures.passed (c.in_ok-rest.ensures.first.1 T));
+      named = c.in_ok-name.ensures.spans;
+      opened = (S.takes T (sign mark.Open) c.in_ok-name.rest.now c.in_ok-rest-2.rest.now c.in_ok-rest-2.ensures.passed (c.in_ok-rest-2.ensures.first.1 T));
+      parameters = c.in_ok-parameters.ensures.spans;
+      closed = (S.takes T (sign mark.Close) c.in_ok-parameters.rest.now c.in_ok-rest-3.rest.now c.in_ok-rest-3.ensures.passed (c.in_ok-rest-3.ensures.first.1 T));
+      parted = (S.takes T (sign mark.Semicolon) c.in_ok-rest-3.rest.now c.in_ok-rest-4.rest.now c.in_ok-rest-4.ensures.passed (c.in_ok-rest-4.ensures.first.1 T));
+      begun = (S.takes T (word keyword.Begin) c.in_ok-rest-4.rest.now c.in_ok-rest-5.rest.now c.in_ok-rest-5.ensures.passed (c.in_ok-rest-5.ensures.first.1 T));
+      variables = c.in_ok-variables.ensures.spans;
+      statements = c.in_ok-statements.ensures.spans;
+      ended = (S.takes T (word keyword.End) c.in_ok-statements.rest.now c.in_ok-rest-6.rest.now c.in_ok-rest-6.ensures.passed (c.in_ok-rest-6.ensures.first.1 T));
+    }

@@ -9,6 +9,10 @@ use Rattle.kahn_syntax.specs.Machine.{leads_kind, leads_declaration, BecomesToke
 use Rattle.kahn_syntax.specs.Drawn.{name_of, expression_of, statement_of}
 use Rattle.kahn_syntax.proofs.Moves.{kind_moves, opens_groups, groups_end, variables_end, opens_process, opens_declarations, declarations_end, no_group, no_process, then, then_stops, call, call_stops, call_two, call_two_stops, one, deep, token, expected, goes, ends, level_ends, absent, unexpected, no_name, no_memory}
 use Rattle.kahn_syntax.proofs.Declared.{variables_next}
+use Rattle.kahn_syntax.proofs.Spanning as S
+use Rattle.kahn_syntax.specs.Programs.{kind_terminal}
+use Rattle.kahn_syntax.specs.Drawn.{variable_of}
+use Rattle.kahn_syntax.specs.Programs.{Variables}
 use Rattle.kahn_syntax.proofs.parser.declaration.read_variables.Goals as goal
 
 pub read_names-requires : goal.read_names-requires
@@ -27,6 +31,8 @@ variables-preserved c =
     record {
       words = variables_next _ _ c.in-Some.kind (map name_of c.in_ok-names.names.items) _ _ _ _ _ c.variables.invariant.words (c.in-Some.ensures.first c.args.text.now)
           c.in_ok-names.ensures.words (c.in_ok-after.ensures.first.1 c.args.text.now) c.in_ok-names.ensures.some c.in_ok-add_variables.ensures.added;
+      spans = (let T = c.args.text.now in S.variables_next T _ _ c.in-Some.kind c.in_ok-names.names.items c.args.input.now c.variables.rest.now c.in-Some.after.now c.in_ok-names.after.now c.in_ok-after.after.now c.in_ok-add_variables.ensures.items c.variables.invariant.spans
+          (S.takes T (kind_terminal c.in-Some.kind) c.variables.rest.now c.in-Some.after.now c.in-Some.ensures.passed (c.in-Some.ensures.first T)) c.in_ok-names.ensures.spans (S.takes T (sign mark.Semicolon) c.in_ok-names.after.now c.in_ok-after.after.now c.in_ok-after.ensures.passed (c.in_ok-after.ensures.first.1 T)));
       shorter = omega (arith, c.in-Some.ensures.shorter, c.in_ok-names.ensures.shorter, c.in_ok-after.ensures.shorter, c.variables.invariant.shorter);
       proper = c.in_ok-after.ensures.proper c.args.text.now c.in_ok-names.ensures.proper;
       reads = (then c.args.text.now 0 (VariablesPart ∷ []) (TokenPart SemicolonToken ∷ VariablesPart ∷ []) (VariablesPart ∷ []) c.args.input.now c.in_ok-names.after.now c.in_ok-after.after.now (then c.args.text.now 0 (VariablesPart ∷ []) (TokenPart NameToken ∷ TailPart NamesTail ∷ TokenPart SemicolonToken ∷ VariablesPart ∷ []) (TokenPart SemicolonToken ∷ VariablesPart ∷ []) c.args.input.now c.in-Some.after.now c.in_ok-names.after.now (then c.args.text.now 0 (VariablesPart ∷ []) (VariablesPart ∷ []) (TokenPart NameToken ∷ TailPart NamesTail ∷ TokenPart SemicolonToken ∷ VariablesPart ∷ []) c.args.input.now c.variables.rest.now c.in-Some.after.now (c.variables.invariant.reads) (kind_moves c.args.text.now 0 VariablesPart [] (TokenPart NameToken ∷ TailPart NamesTail ∷ TokenPart SemicolonToken ∷ VariablesPart ∷ []) c.in-Some.kind c.variables.rest.now c.in-Some.after.now (λ s l. omega (arith, l)) (λ s. refl) (λ s. refl) (c.in-Some.ensures.first c.args.text.now))) (call_two c.args.text.now 0 0 (TokenPart NameToken) (TailPart NamesTail) (TokenPart SemicolonToken ∷ VariablesPart ∷ []) c.in-Some.after.now c.in_ok-names.after.now (λ s l. omega (arith, l)) c.in_ok-names.ensures.reads)) (expected c.args.text.now 0 SemicolonToken (VariablesPart ∷ []) (class.Sign mark.Semicolon) c.in_ok-names.after.now c.in_ok-after.after.now (λ s l. omega (arith, l)) refl c.in_ok-after.ensures.first));
@@ -34,3 +40,14 @@ variables-preserved c =
 
 pub returns-clause-reads : goal.returns-clause-reads
 returns-clause-reads c = (then c.args.text.now 0 (VariablesPart ∷ []) (VariablesPart ∷ []) ([]) c.args.input.now c.variables.rest.now c.variables.rest.now (c.variables.invariant.reads) (variables_end c.args.text.now [] c.variables.rest.now (c.in_default.ensures.leads c.args.text.now)))
+
+pub variables-init : goal.variables-init
+variables-init c =
+    let k = terminals c.args.text.now c.args.input.now in
+    record {
+      words = subst (λ vs. Variables (map variable_of vs) k k) (sym c.new-variables.ensures.items) ([], tt, refl, refl);
+      spans = ([], c.new-variables.ensures.items, refl);
+      shorter = omega arith;
+      proper = c.requires.proper;
+      reads = λ s l. refl;
+    }

@@ -4,11 +4,13 @@ use Rattle.kahn_syntax.specs.Machine.{VariablesPart}
 use Rattle.kahn_syntax.specs.Reads.{Moves}
 use Rattle.kahn_syntax.specs.Programs.{Variables}
 use Rattle.kahn_syntax.specs.Drawn.{variable_of}
+use Rattle.kahn_syntax.specs.Spans.{VariablesSpan}
 use Rattle.kahn_syntax.proofs.parser.declaration.read_variables.Given as goal
 
 abbrev pub invariant-variables : goal.invariant-variables
 invariant-variables l = record {
   words : Variables (map variable_of l.variables.items) (terminals l.text l.input) (terminals l.text l.rest);
+  spans : VariablesSpan l.text l.variables.items l.input l.rest;
   shorter : length l.rest ≤ length l.input;
   proper : AreProper l.text l.rest;
   reads : Moves l.text 0 (VariablesPart ∷ []) (VariablesPart ∷ []) l.input l.rest;

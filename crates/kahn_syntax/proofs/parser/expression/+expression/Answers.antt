@@ -3,12 +3,18 @@ use Rattle.std.proofs.lemmas.Result.{err_from_is_err_and}
 use Rattle.kahn_syntax.specs.declared.lexeme.Keyword.TheVariants as keyword
 use Rattle.kahn_syntax.specs.declared.lexeme.Sign.TheVariants as mark
 use Rattle.kahn_syntax.specs.declared.lexeme.Class.TheVariants as class
-use Rattle.kahn_syntax.specs.Terminals.{word, sign, name, terminals}
+use Rattle.kahn_syntax.specs.Terminals.{word, sign, name, number, terminals}
 use Rattle.kahn_syntax.specs.Rungs.{whole, ors, denials, relations, sums, factors, rung_of, tighter}
 use Rattle.kahn_syntax.specs.Machine.{BecomesToken, BeginToken, ChannelToken, CloseToken, CommaToken, DoToken, ElseToken, EndToken, IfToken, NameToken, NotToken, NumberToken, OnToken, OpenToken, ParToken, ProcessToken, SemicolonToken, ThenToken, NamesTail, StatementsTail, GroupsTail, ArgumentsTail, InstancesTail, ElseTail, LastTail, ProgramPart, DeclarationsPart, DeclarationPart, ProcessPart, RolePart, GroupsPart, GroupPart, TakingPart, VariablesPart, StatementPart, SimplePart, ExpressionPart, OperatorsPart, InstancePart, ArgumentsPart, ArgumentPart, TailPart, TokenPart, LevelPart}
 use Rattle.kahn_syntax.specs.Drawn.{name_of, expression_of, statement_of}
 use Rattle.kahn_syntax.proofs.Moves.{opens_whole, opens_denial, opens_chain, operators_end, comparison, level_chain, operator_more, level_end, only_memory, leads_factor, no_factor, reads_by, stops_by, then, then_stops, call, call_stops, call_two, call_two_stops, one, deep, token, expected, goes, ends, level_ends, absent, unexpected, no_name, no_memory}
-use Rattle.kahn_syntax.specs.Trees.{expression_words, operands_words, operands_nesting, FormedOperands}
+use Rattle.std.proofs.Common.{w64}
+use Rattle.std.proofs.lemmas.Int.{to_z-of_z}
+use Rattle.kahn_syntax.proofs.Negative.{number_fits}
+use Rattle.kahn_syntax.specs.Terminals.{IsUnsigned}
+use Rattle.kahn_syntax.specs.Spans.{Takes, OperandsSpan}
+use Rattle.kahn_syntax.proofs.Spanning as S
+use Rattle.kahn_syntax.specs.Trees.{operator_terminal, expression_words, operands_words, operands_nesting, FormedOperands}
 use Rattle.kahn_syntax.specs.Drawn.{operands_of}
 use Rattle.kahn_syntax.specs.Reads.{rank_of}
 use Rattle.kahn_syntax.proofs.Lists.{first_of}
@@ -30,6 +36,7 @@ pub read_level-operands-init : goal.read_level-operands-init
 read_level-operands-init t c =
     record {
       words = c.in_ok-first.ensures.words ∙ ap (λ os. expression_words (expression_of c.in_ok-first.first) (operands_words (operands_of os) (terminals c.args.text.now c.in_ok-first.rest.now))) (sym c.new-further.ensures.items);
+      spans = (c.in_ok-first.rest.now, c.in_ok-first.ensures.spans, subst (λ os. OperandsSpan c.args.text.now os c.in_ok-first.rest.now c.in_ok-first.rest.now) (sym c.new-further.ensures.items) refl);
       formed = subst (λ os. FormedOperands (rank_of c.args.level) (operands_of os)) (sym c.new-further.ensures.items) tt;
       nesting = omega (arith, ap (λ os. operands_nesting (operands_of os)) c.new-further.ensures.items, c.in_ok-first.ensures.nesting);
       shorter = c.in_ok-first.ensures.shorter;
@@ -41,6 +48,7 @@ pub read_level-operands-preserved : goal.read_level-operands-preserved
 read_level-operands-preserved t c =
     record {
       words = operands_words_next _ _ _ _ (expression_of c.in_ok-first.first) _ _ _ c.in_ok-push.ensures.items c.operands.invariant.words (c.in-Some.ensures.first c.args.text.now) c.in_ok-expression.ensures.words;
+      spans = (c.operands.invariant.spans.0, c.operands.invariant.spans.1, S.operands_next c.args.text.now _ _ _ _ c.operands.rest.now c.in-Some.after.now c.in_ok-expression.left.now c.in_ok-push.ensures.items c.operands.invariant.spans.2 (S.takes c.args.text.now (operator_terminal c.in-Some.operator) c.operands.rest.now c.in-Some.after.now c.in-Some.ensures.passed (c.in-Some.ensures.first c.args.text.now)) c.in_ok-expression.ensures.spans);
       formed = formed_next _ _ _ _ c.in_ok-push.ensures.items c.operands.invariant.formed c.in-Some.ensures.ranked c.in_ok-expression.ensures.fits;
       nesting = operands_nesting_next _ (expression_of c.in_ok-first.first) _ _ _ c.in_ok-push.ensures.items c.operands.invariant.nesting c.in_ok-expression.ensures.nesting;
       shorter = omega (arith, c.in-Some.ensures.shorter, c.in_ok-expression.ensures.shorter, c.operands.invariant.shorter);
@@ -162,3 +170,59 @@ read_factor-returns-in_err-name-in-Some-Name-default-clause-stops t c =
 
 pub read_factor-returns-in_default-clause-stops : goal.read_factor-returns-in_default-clause-stops
 read_factor-returns-in_default-clause-stops t c = let a : leads_factor (terminals c.args.text.now c.args.input.now) ≡ false = search rules in no_factor c.args.text.now c.args.depth c.args.input.now a
+
+pub read_denial-returns-clause-spans : goal.read_denial-returns-clause-spans
+read_denial-returns-clause-spans t c =
+    let T = c.args.text.now in
+    c.in_ok-expression.ensures.spans T c.args.input.now c.in-Some.rest.now c.in_ok-operand.rest.now c.reach.ensures
+    (S.takes T (word keyword.Not) c.args.input.now c.in-Some.rest.now c.in-Some.ensures.passed (c.in-Some.ensures.first T)) c.in_ok-operand.ensures.spans
+
+pub read_expression-returns-clause-spans : goal.read_expression-returns-clause-spans
+read_expression-returns-clause-spans t c =
+    let T = c.args.text.now in
+    c.in_ok-expression.ensures.spans T c.args.input.now c.in-Some.rest.now c.in_ok-test.rest.now c.in_ok-rest.rest.now c.in_ok-yes.rest.now c.in_ok-rest-2.rest.now c.in_ok-no.rest.now c.reach.ensures
+    (S.takes T (word keyword.If) c.args.input.now c.in-Some.rest.now c.in-Some.ensures.passed (c.in-Some.ensures.first.1 T)) c.in_ok-test.ensures.spans
+    (S.takes T (word keyword.Then) c.in_ok-test.rest.now c.in_ok-rest.rest.now c.in_ok-rest.ensures.passed (c.in_ok-rest.ensures.first.1 T)) c.in_ok-yes.ensures.spans
+    (S.takes T (word keyword.Else) c.in_ok-yes.rest.now c.in_ok-rest-2.rest.now c.in_ok-rest-2.ensures.passed (c.in_ok-rest-2.ensures.first.1 T)) c.in_ok-no.ensures.spans
+
+pub read_factor-returns-in-Some-Number-default-clause-spans : goal.read_factor-returns-in-Some-Number-default-clause-spans
+read_factor-returns-in-Some-Number-default-clause-spans t c =
+    let T = c.args.text.now in
+    let u = subst IsUnsigned c.in-Some-Number-default.field-0-0-is (c.in-Some-Number-default.ensures.unsigned T c.requires.1.1.1) in (
+      c.reach.ensures,
+      subst (λ z. Takes T (number z) c.args.input.now c.in-Some-Number-default.rest.now) (sym (to_z-of_z w64 c.in-Some-Number-default.number (number_fits c.in-Some-Number-default.number u.0 u.1 u.2)))
+          (S.takes T (number c.in-Some-Number-default.number) c.args.input.now c.in-Some-Number-default.rest.now c.in-Some-Number-default.ensures.passed ((first_of _ (class.Number c.in-Some-Number-default.number) c.args.input.now c.in-Some-Number-default.rest.now c.in-Some-Number-default.field-0-0-is c.in-Some-Number-default.ensures.first.0).1 T)),
+    )
+
+pub read_factor-returns-in-Some-Word-True-default-clause-spans : goal.read_factor-returns-in-Some-Word-True-default-clause-spans
+read_factor-returns-in-Some-Word-True-default-clause-spans t c =
+    let T = c.args.text.now in
+    (c.reach-in-Some-Word-True-default.ensures, (S.takes T (word keyword.True) c.args.input.now c.in-Some-Word-True-default.rest.now c.in-Some-Word-True-default.ensures.passed ((first_of _ (class.Word keyword.True) c.args.input.now c.in-Some-Word-True-default.rest.now (c.in-Some-Word-True-default.field-0-0-is ∙ ap class.Word c.in-Some-Word-True-default.field-0-0-0-is) c.in-Some-Word-True-default.ensures.first.0).1 T)))
+
+pub read_factor-returns-in-Some-Word-False-default-clause-spans : goal.read_factor-returns-in-Some-Word-False-default-clause-spans
+read_factor-returns-in-Some-Word-False-default-clause-spans t c =
+    let T = c.args.text.now in
+    (c.reach-in-Some-Word-False-default.ensures, (S.takes T (word keyword.False) c.args.input.now c.in-Some-Word-False-default.rest.now c.in-Some-Word-False-default.ensures.passed ((first_of _ (class.Word keyword.False) c.args.input.now c.in-Some-Word-False-default.rest.now (c.in-Some-Word-False-default.field-0-0-is ∙ ap class.Word c.in-Some-Word-False-default.field-0-0-0-is) c.in-Some-Word-False-default.ensures.first.0).1 T)))
+
+pub read_factor-returns-in_ok-expression-in-Some-Sign-Minus-default-clause-spans : goal.read_factor-returns-in_ok-expression-in-Some-Sign-Minus-default-clause-spans
+read_factor-returns-in_ok-expression-in-Some-Sign-Minus-default-clause-spans t c =
+    let T = c.args.text.now in
+    c.in_ok-expression-in-Some-Sign-Minus-default.ensures.spans T c.args.input.now c.in-Some-Sign-Minus-default.rest.now c.in_ok-operand-in-Some-Sign-Minus-default.rest.now c.reach-in-Some-Sign-Minus-default.ensures
+    (S.takes T (sign mark.Minus) c.args.input.now c.in-Some-Sign-Minus-default.rest.now c.in-Some-Sign-Minus-default.ensures.passed ((first_of _ (class.Sign mark.Minus) c.args.input.now c.in-Some-Sign-Minus-default.rest.now (c.in-Some-Sign-Minus-default.field-0-0-is ∙ ap class.Sign c.in-Some-Sign-Minus-default.field-0-0-0-is) c.in-Some-Sign-Minus-default.ensures.first.0).1 T)) c.in_ok-operand-in-Some-Sign-Minus-default.ensures.spans
+
+pub read_factor-returns-in_ok-expression-in-Some-Sign-Open-default-clause-spans : goal.read_factor-returns-in_ok-expression-in-Some-Sign-Open-default-clause-spans
+read_factor-returns-in_ok-expression-in-Some-Sign-Open-default-clause-spans t c =
+    let T = c.args.text.now in
+    c.in_ok-expression-in-Some-Sign-Open-default.ensures.spans T c.args.input.now c.in-Some-Sign-Open-default.rest.now c.in_ok-inside-in-Some-Sign-Open-default.rest.now c.in_ok-rest-in-Some-Sign-Open-default.rest.now c.reach-in-Some-Sign-Open-default.ensures
+    (S.takes T (sign mark.Open) c.args.input.now c.in-Some-Sign-Open-default.rest.now c.in-Some-Sign-Open-default.ensures.passed ((first_of _ (class.Sign mark.Open) c.args.input.now c.in-Some-Sign-Open-default.rest.now (c.in-Some-Sign-Open-default.field-0-0-is ∙ ap class.Sign c.in-Some-Sign-Open-default.field-0-0-0-is) c.in-Some-Sign-Open-default.ensures.first.0).1 T)) c.in_ok-inside-in-Some-Sign-Open-default.ensures.spans (S.takes T (sign mark.Close) c.in_ok-inside-in-Some-Sign-Open-default.rest.now c.in_ok-rest-in-Some-Sign-Open-default.rest.now c.in_ok-rest-in-Some-Sign-Open-default.ensures.passed (c.in_ok-rest-in-Some-Sign-Open-default.ensures.first.1 T))
+
+pub read_level-returns-clause-spans : goal.read_level-returns-clause-spans
+read_level-returns-clause-spans t c =
+    let T = c.args.text.now in
+    c.in_ok-expression-2.ensures.spans T c.args.input.now c.operands.invariant.spans.0 c.operands.rest.now c.reach.ensures c.operands.invariant.spans.1 c.operands.invariant.spans.2
+
+pub read_relation-returns-clause-spans : goal.read_relation-returns-clause-spans
+read_relation-returns-clause-spans t c =
+    let T = c.args.text.now in
+    c.in_ok-expression.ensures.spans T c.args.input.now c.in_ok-left.rest.now c.in-Some.after.now c.in_ok-right.rest.now c.reach.ensures c.in_ok-left.ensures.spans
+    (S.takes T (operator_terminal c.in-Some.operator) c.in_ok-left.rest.now c.in-Some.after.now c.in-Some.ensures.passed (c.in-Some.ensures.first T)) c.in_ok-right.ensures.spans

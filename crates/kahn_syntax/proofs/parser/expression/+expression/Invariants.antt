@@ -1,4 +1,6 @@
-use Rattle.std.proofs.Common.{◌≡◌, ◌≤◌, ◌<◌, ◌+◌, ◌*◌, [], ◌∷◌, length, max}
+use Rattle.std.proofs.Common.{◌≡◌, ◌≤◌, ◌<◌, ◌+◌, ◌*◌, List, [], ◌∷◌, length, max}
+use Rattle.kahn_syntax.specs.declared.lexeme.Lexeme.{Lexeme}
+use Rattle.kahn_syntax.specs.Spans.{ExpressionSpans, OperandsSpan}
 use Rattle.kahn_syntax.specs.Terminals.{terminals, AreProper}
 use Rattle.kahn_syntax.specs.Trees.{expression_words, operands_words, expression_nesting, operands_nesting, FormedOperands}
 use Rattle.kahn_syntax.specs.Drawn.{expression_of, operands_of}
@@ -29,6 +31,7 @@ decreases-read_relation l = 12 * length l.input.now + 5
 abbrev pub invariant-read_level-operands : goal.invariant-read_level-operands
 invariant-read_level-operands l = record {
   words : terminals l.text l.input ≡ expression_words (expression_of l.first) (operands_words (operands_of l.further.items) (terminals l.text l.rest));
+  spans : (a : List Lexeme) × ExpressionSpans l.text l.first l.input a × OperandsSpan l.text l.further.items a l.rest;
   formed : FormedOperands (rank_of l.level) (operands_of l.further.items);
   nesting : l.depth + max (expression_nesting (expression_of l.first)) (operands_nesting (operands_of l.further.items)) ≤ 64;
   shorter : length l.rest < length l.input;

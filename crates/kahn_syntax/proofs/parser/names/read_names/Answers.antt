@@ -2,10 +2,11 @@ use Rattle.std.proofs.Common.{refl, [], ◌∷◌, arith}
 use Rattle.std.proofs.lemmas.Result.{err_from_is_err_and}
 use Rattle.kahn_syntax.specs.declared.lexeme.Sign.TheVariants as mark
 use Rattle.kahn_syntax.specs.declared.lexeme.Class.TheVariants as class
-use Rattle.kahn_syntax.specs.Terminals.{name}
+use Rattle.kahn_syntax.specs.Terminals.{name, sign}
 use Rattle.kahn_syntax.specs.Machine.{NameToken, NamesTail, TailPart, names_then}
 use Rattle.kahn_syntax.specs.Drawn.{name_of}
 use Rattle.kahn_syntax.proofs.Lists.{names_next, are_names_next}
+use Rattle.kahn_syntax.proofs.Spanning as S
 use Rattle.kahn_syntax.proofs.Moves.{then, then_stops, token, goes, ends, no_name}
 use Rattle.kahn_syntax.proofs.parser.names.read_names.Goals as goal
 
@@ -28,6 +29,7 @@ names-preserved c =
     record {
       words = names_next _ _ _ _ _ _ _ c.in_ok-push-2.ensures.items c.names.invariant.some c.names.invariant.words (c.in-Some.ensures.first.1 c.args.text.now) c.in_ok-name.ensures.words;
       some = are_names_next _ _ _ c.in_ok-push-2.ensures.items;
+      spans = S.names_next c.args.text.now _ _ _ _ _ c.in-Some.after.now c.in_ok-name.left.now c.in_ok-push-2.ensures.items c.names.invariant.spans (S.takes c.args.text.now (sign mark.Comma) _ _ c.in-Some.ensures.passed (c.in-Some.ensures.first.1 c.args.text.now)) c.in_ok-name.ensures.spans;
       shorter = omega (arith, c.in-Some.ensures.shorter, c.in_ok-name.ensures.shorter, c.names.invariant.shorter);
       proper = c.in_ok-name.ensures.proper;
       reads = then c.args.text.now 0 (names_then []) (TailPart NamesTail ∷ []) (TailPart NamesTail ∷ []) c.args.input.now c.names.rest.now _ c.names.invariant.reads

@@ -11,6 +11,12 @@ use Rattle.kahn_syntax.proofs.Moves.{opens_arguments, no_program, no_instance, l
 use Rattle.std.proofs.Common.{length}
 use Rattle.kahn_syntax.specs.declared.parser.cursor.Stop.TheVariants.{Refused}
 use Rattle.kahn_syntax.proofs.Lists.{first_of}
+use Rattle.kahn_syntax.proofs.Spanning as S
+use Rattle.std.proofs.Common.{inl, inr, w64}
+use Rattle.std.proofs.lemmas.Int.{to_z-of_z}
+use Rattle.kahn_syntax.proofs.Negative.{number_fits}
+use Rattle.kahn_syntax.specs.Terminals.{IsUnsigned, number}
+use Rattle.kahn_syntax.specs.Spans.{Takes}
 use Rattle.kahn_syntax.proofs.parser.program.read_argument.Goals as goal
 
 pub returns-in-Some-Number-default-clause-proper : goal.returns-in-Some-Number-default-clause-proper
@@ -34,3 +40,35 @@ returns-in-Some-clause-proper c = c.in-Some.ensures.proper c.args.text.now (c.in
 
 pub returns-in_default-next_negative-clause-stops : goal.returns-in_default-next_negative-clause-stops
 returns-in_default-next_negative-clause-stops c = then_stops c.args.text.now 0 (ArgumentPart ∷ []) (TokenPart NumberToken ∷ []) c.args.input.now c.in-Some-Sign-Minus-default.rest.now (Refused false (length c.in-Some-Sign-Minus-default.rest.now)) (one c.args.text.now 0 (ArgumentPart) ([]) (TokenPart NumberToken ∷ []) (sign mark.Minus) c.args.input.now c.in-Some-Sign-Minus-default.rest.now (λ s l. omega (arith, l)) (λ s. refl) ((first_of _ (class.Sign mark.Minus) c.args.input.now c.in-Some-Sign-Minus-default.rest.now (c.in-Some-Sign-Minus-default.field-0-0-is ∙ ap class.Sign c.in-Some-Sign-Minus-default.field-0-0-0-is) c.in-Some-Sign-Minus-default.ensures.first.0).1 c.args.text.now)) (absent c.args.text.now 0 NumberToken [] c.in-Some-Sign-Minus-default.rest.now (Refused false (length c.in-Some-Sign-Minus-default.rest.now)) (c.in_default-next_negative.ensures.absent c.args.text.now (c.in-Some-Sign-Minus-default.ensures.proper c.args.text.now c.requires.proper)) refl)
+
+pub returns-in-Some-Number-default-clause-spans : goal.returns-in-Some-Number-default-clause-spans
+returns-in-Some-Number-default-clause-spans c =
+    let T = c.args.text.now in
+    let u = subst IsUnsigned c.in-Some-Number-default.field-0-0-is (c.in-Some-Number-default.ensures.unsigned T c.requires.proper) in (
+      c.reach.ensures,
+      inl (subst (λ z. Takes T (number z) c.args.input.now c.in-Some-Number-default.rest.now) (sym (to_z-of_z w64 c.in-Some-Number-default.number (number_fits c.in-Some-Number-default.number u.0 u.1 u.2)))
+          (S.takes T (number c.in-Some-Number-default.number) c.args.input.now c.in-Some-Number-default.rest.now c.in-Some-Number-default.ensures.passed ((first_of _ (class.Number c.in-Some-Number-default.number) c.args.input.now c.in-Some-Number-default.rest.now c.in-Some-Number-default.field-0-0-is c.in-Some-Number-default.ensures.first.0).1 T))),
+    )
+
+pub returns-in-Some-Word-True-default-clause-spans : goal.returns-in-Some-Word-True-default-clause-spans
+returns-in-Some-Word-True-default-clause-spans c =
+    let T = c.args.text.now in
+    (c.reach-in-Some-Word-True-default.ensures, (S.takes T (word keyword.True) c.args.input.now c.in-Some-Word-True-default.rest.now c.in-Some-Word-True-default.ensures.passed ((first_of _ (class.Word keyword.True) c.args.input.now c.in-Some-Word-True-default.rest.now (c.in-Some-Word-True-default.field-0-0-is ∙ ap class.Word c.in-Some-Word-True-default.field-0-0-0-is) c.in-Some-Word-True-default.ensures.first.0).1 T)))
+
+pub returns-in-Some-Word-False-default-clause-spans : goal.returns-in-Some-Word-False-default-clause-spans
+returns-in-Some-Word-False-default-clause-spans c =
+    let T = c.args.text.now in
+    (c.reach-in-Some-Word-False-default.ensures, (S.takes T (word keyword.False) c.args.input.now c.in-Some-Word-False-default.rest.now c.in-Some-Word-False-default.ensures.passed ((first_of _ (class.Word keyword.False) c.args.input.now c.in-Some-Word-False-default.rest.now (c.in-Some-Word-False-default.field-0-0-is ∙ ap class.Word c.in-Some-Word-False-default.field-0-0-0-is) c.in-Some-Word-False-default.ensures.first.0).1 T)))
+
+pub returns-in-Some-clause-spans : goal.returns-in-Some-clause-spans
+returns-in-Some-clause-spans c =
+    let T = c.args.text.now in (
+      c.reach-in-Some-Sign-Minus-default.ensures,
+      inr (
+        c.in-Some.ensures.number.0,
+        c.in-Some-Sign-Minus-default.rest.now,
+        search rules,
+        (S.takes T (sign mark.Minus) c.args.input.now c.in-Some-Sign-Minus-default.rest.now c.in-Some-Sign-Minus-default.ensures.passed ((first_of _ (class.Sign mark.Minus) c.args.input.now c.in-Some-Sign-Minus-default.rest.now (c.in-Some-Sign-Minus-default.field-0-0-is ∙ ap class.Sign c.in-Some-Sign-Minus-default.field-0-0-0-is) c.in-Some-Sign-Minus-default.ensures.first.0).1 T)),
+        S.takes T (number c.in-Some.ensures.number.0) c.in-Some-Sign-Minus-default.rest.now c.in-Some.after.now c.in-Some.ensures.passed (c.in-Some.ensures.number.2 T),
+      ),
+    )

@@ -10,6 +10,8 @@ use Rattle.kahn_syntax.specs.Drawn.{name_of, expression_of, statement_of}
 use Rattle.kahn_syntax.proofs.Moves.{opens_arguments, no_program, no_instance, leads_argument, no_argument, memory_alone, only_memory, whole_end, halts, then, then_stops, call, call_stops, call_two, call_two_stops, one, deep, token, expected, goes, ends, level_ends, absent, unexpected, no_name, no_memory}
 use Rattle.std.proofs.Common.{◌++◌}
 use Rattle.kahn_syntax.proofs.Instanced.{arguments_next, arguments_first}
+use Rattle.kahn_syntax.proofs.Spanning as S
+use Rattle.kahn_syntax.specs.Spans.{ArgumentsSpan}
 use Rattle.kahn_syntax.proofs.parser.program.read_arguments.Goals as goal
 
 pub returns-in-Some-clause-proper : goal.returns-in-Some-clause-proper
@@ -33,6 +35,7 @@ pub arguments-init : goal.arguments-init
 arguments-init c =
     record {
       words = arguments_first _ c.in_ok-first.first _ _ (c.in_ok-push.ensures.items ∙ ap (λ xs. xs ++ c.in_ok-first.first ∷ []) c.new-arguments.ensures.items) c.in_ok-first.ensures.words;
+      spans = S.arguments_first c.args.text.now _ c.in_ok-first.first c.args.input.now c.in_ok-first.rest.now (c.in_ok-push.ensures.items ∙ ap (λ xs. xs ++ c.in_ok-first.first ∷ []) c.new-arguments.ensures.items) c.in_ok-first.ensures.spans;
       shorter = c.in_ok-first.ensures.shorter;
       proper = c.in_ok-first.ensures.proper;
       reads = (then c.args.text.now 0 (ArgumentsPart ∷ []) (ArgumentPart ∷ TailPart ArgumentsTail ∷ TokenPart CloseToken ∷ []) (TailPart ArgumentsTail ∷ TokenPart CloseToken ∷ []) c.args.input.now c.args.input.now c.in_ok-first.rest.now (opens_arguments c.args.text.now [] c.args.input.now c.in_default.ensures.absent) (call c.args.text.now 0 0 (ArgumentPart) (TailPart ArgumentsTail ∷ TokenPart CloseToken ∷ []) c.args.input.now c.in_ok-first.rest.now (λ s l. omega (arith, l)) c.in_ok-first.ensures.reads));
@@ -42,6 +45,8 @@ pub arguments-preserved : goal.arguments-preserved
 arguments-preserved c =
     record {
       words = arguments_next _ _ _ _ _ _ _ c.in_ok-push-2.ensures.items c.arguments.invariant.words (c.in-Some-past.ensures.first.1 c.args.text.now) c.in_ok-argument.ensures.words;
+      spans = (let T = c.args.text.now in S.arguments_next T _ _ _ c.args.input.now c.arguments.rest.now c.in-Some-past.after.now c.in_ok-argument.left.now c.in_ok-push-2.ensures.items c.arguments.invariant.spans
+          (S.takes T (sign mark.Comma) c.arguments.rest.now c.in-Some-past.after.now c.in-Some-past.ensures.passed (c.in-Some-past.ensures.first.1 T)) c.in_ok-argument.ensures.spans);
       shorter = omega (arith, c.in-Some-past.ensures.shorter, c.in_ok-argument.ensures.shorter, c.arguments.invariant.shorter);
       proper = c.in_ok-argument.ensures.proper;
       reads = (then c.args.text.now 0 (ArgumentsPart ∷ []) (ArgumentPart ∷ TailPart ArgumentsTail ∷ TokenPart CloseToken ∷ []) (TailPart ArgumentsTail ∷ TokenPart CloseToken ∷ []) c.args.input.now c.in-Some-past.after.now c.in_ok-argument.left.now (then c.args.text.now 0 (ArgumentsPart ∷ []) (TailPart ArgumentsTail ∷ TokenPart CloseToken ∷ []) (ArgumentPart ∷ TailPart ArgumentsTail ∷ TokenPart CloseToken ∷ []) c.args.input.now c.arguments.rest.now c.in-Some-past.after.now (c.arguments.invariant.reads) (goes c.args.text.now 0 ArgumentsTail (TokenPart CloseToken ∷ []) (class.Sign mark.Comma) c.arguments.rest.now c.in-Some-past.after.now (λ s l. omega (arith, l)) refl c.in-Some-past.ensures.first)) (call c.args.text.now 0 0 (ArgumentPart) (TailPart ArgumentsTail ∷ TokenPart CloseToken ∷ []) c.in-Some-past.after.now c.in_ok-argument.left.now (λ s l. omega (arith, l)) c.in_ok-argument.ensures.reads));
@@ -56,3 +61,13 @@ returns-clause-proper c = c.in_ok-rest.ensures.proper c.args.text.now c.argument
 
 pub returns-clause-reads : goal.returns-clause-reads
 returns-clause-reads c = (then c.args.text.now 0 (ArgumentsPart ∷ []) (TokenPart CloseToken ∷ []) ([]) c.args.input.now c.arguments.rest.now c.in_ok-rest.rest.now (then c.args.text.now 0 (ArgumentsPart ∷ []) (TailPart ArgumentsTail ∷ TokenPart CloseToken ∷ []) (TokenPart CloseToken ∷ []) c.args.input.now c.arguments.rest.now c.arguments.rest.now (c.arguments.invariant.reads) (ends c.args.text.now 0 ArgumentsTail (TokenPart CloseToken ∷ []) (class.Sign mark.Comma) c.arguments.rest.now refl c.in_default-past.ensures.absent)) (expected c.args.text.now 0 CloseToken ([]) (class.Sign mark.Close) c.arguments.rest.now c.in_ok-rest.rest.now (λ s l. omega (arith, l)) refl c.in_ok-rest.ensures.first))
+
+pub returns-in-Some-clause-spans : goal.returns-in-Some-clause-spans
+returns-in-Some-clause-spans c =
+    let T = c.args.text.now in
+    (c.args.input.now, subst (λ us. ArgumentsSpan T us c.args.input.now c.args.input.now) (sym c.new-arguments.ensures.items) refl, (S.takes T (sign mark.Close) c.args.input.now c.in-Some.rest.now c.in-Some.ensures.passed (c.in-Some.ensures.first.1 T)))
+
+pub returns-clause-spans : goal.returns-clause-spans
+returns-clause-spans c =
+    let T = c.args.text.now in
+    (c.arguments.rest.now, S.some_are_arguments T _ c.args.input.now c.arguments.rest.now c.arguments.invariant.spans, (S.takes T (sign mark.Close) c.arguments.rest.now c.in_ok-rest.rest.now c.in_ok-rest.ensures.passed (c.in_ok-rest.ensures.first.1 T)))

@@ -8,6 +8,7 @@ use Rattle.kahn_syntax.specs.Rungs.{whole, ors, denials, relations, sums, factor
 use Rattle.kahn_syntax.specs.Machine.{BecomesToken, BeginToken, ChannelToken, CloseToken, CommaToken, DoToken, ElseToken, EndToken, IfToken, NameToken, NotToken, NumberToken, OnToken, OpenToken, ParToken, ProcessToken, SemicolonToken, ThenToken, NamesTail, StatementsTail, GroupsTail, ArgumentsTail, InstancesTail, ElseTail, LastTail, ProgramPart, DeclarationsPart, DeclarationPart, ProcessPart, RolePart, GroupsPart, GroupPart, TakingPart, VariablesPart, StatementPart, SimplePart, ExpressionPart, OperatorsPart, InstancePart, ArgumentsPart, ArgumentPart, TailPart, TokenPart, LevelPart}
 use Rattle.kahn_syntax.specs.Drawn.{name_of, expression_of, statement_of}
 use Rattle.kahn_syntax.proofs.Moves.{opens_arguments, no_program, no_instance, leads_argument, no_argument, memory_alone, only_memory, whole_end, halts, then, then_stops, call, call_stops, call_two, call_two_stops, one, deep, token, expected, goes, ends, level_ends, absent, unexpected, no_name, no_memory}
+use Rattle.kahn_syntax.proofs.Spanning as S
 use Rattle.kahn_syntax.proofs.parser.program.read_instance.Goals as goal
 
 pub returns-in_err-process-clause-stops : goal.returns-in_err-process-clause-stops
@@ -27,3 +28,15 @@ returns-in_err-arguments-clause-stops c =
 
 pub returns-clause-reads : goal.returns-clause-reads
 returns-clause-reads c = (then c.args.text.now 0 (InstancePart ∷ []) (ArgumentsPart ∷ []) ([]) c.args.input.now c.in_ok-rest.rest.now c.in_ok-arguments.rest.now (then c.args.text.now 0 (InstancePart ∷ []) (TokenPart OpenToken ∷ ArgumentsPart ∷ []) (ArgumentsPart ∷ []) c.args.input.now c.in_ok-process.rest.now c.in_ok-rest.rest.now (one c.args.text.now 0 (InstancePart) ([]) (TokenPart OpenToken ∷ ArgumentsPart ∷ []) (name (name_of c.in_ok-process.process)) c.args.input.now c.in_ok-process.rest.now (λ s l. omega (arith, l)) (λ s. refl) c.in_ok-process.ensures.words) (expected c.args.text.now 0 OpenToken (ArgumentsPart ∷ []) (class.Sign mark.Open) c.in_ok-process.rest.now c.in_ok-rest.rest.now (λ s l. omega (arith, l)) refl c.in_ok-rest.ensures.first)) (call c.args.text.now 0 0 (ArgumentsPart) ([]) c.in_ok-rest.rest.now c.in_ok-arguments.rest.now (λ s l. omega (arith, l)) c.in_ok-arguments.ensures.reads))
+
+pub returns-clause-spans : goal.returns-clause-spans
+returns-clause-spans c =
+    let T = c.args.text.now in (
+      c.in_ok-process.rest.now,
+      c.in_ok-rest.rest.now,
+      c.in_ok-arguments.ensures.spans.0,
+      c.in_ok-process.ensures.spans,
+      (S.takes T (sign mark.Open) c.in_ok-process.rest.now c.in_ok-rest.rest.now c.in_ok-rest.ensures.passed (c.in_ok-rest.ensures.first.1 T)),
+      c.in_ok-arguments.ensures.spans.1,
+      c.in_ok-arguments.ensures.spans.2,
+    )

@@ -10,6 +10,7 @@ use Rattle.kahn_syntax.specs.Drawn.{name_of, expression_of, statement_of}
 use Rattle.kahn_syntax.proofs.Moves.{opens_arguments, no_program, no_instance, leads_argument, no_argument, memory_alone, only_memory, whole_end, halts, then, then_stops, call, call_stops, call_two, call_two_stops, one, deep, token, expected, goes, ends, level_ends, absent, unexpected, no_name, no_memory}
 use Rattle.std.proofs.Common.{◌++◌}
 use Rattle.kahn_syntax.proofs.Instanced.{instances_next, instances_first}
+use Rattle.kahn_syntax.proofs.Spanning as S
 use Rattle.kahn_syntax.proofs.parser.program.read_instances.Goals as goal
 
 pub returns-in_err-first-clause-stops : goal.returns-in_err-first-clause-stops
@@ -27,6 +28,7 @@ pub instances-init : goal.instances-init
 instances-init c =
     record {
       words = instances_first _ c.in_ok-first.first _ _ (c.in_ok-push.ensures.items ∙ ap (λ xs. xs ++ c.in_ok-first.first ∷ []) c.new-instances.ensures.items) c.in_ok-first.ensures.words;
+      spans = S.instances_first c.args.text.now _ c.in_ok-first.first c.args.input.now c.in_ok-first.rest.now (c.in_ok-push.ensures.items ∙ ap (λ xs. xs ++ c.in_ok-first.first ∷ []) c.new-instances.ensures.items) c.in_ok-first.ensures.spans;
       shorter = c.in_ok-first.ensures.shorter;
       proper = c.in_ok-first.ensures.proper;
       reads = (call c.args.text.now 0 0 (InstancePart) (TailPart InstancesTail ∷ []) c.args.input.now c.in_ok-first.rest.now (λ s l. omega (arith, l)) c.in_ok-first.ensures.reads);
@@ -36,6 +38,8 @@ pub instances-preserved : goal.instances-preserved
 instances-preserved c =
     record {
       words = instances_next _ _ _ _ _ _ _ c.in_ok-push-2.ensures.items c.instances.invariant.words (c.in-Some.ensures.first.1 c.args.text.now) c.in_ok-instance.ensures.words;
+      spans = (let T = c.args.text.now in S.instances_next T _ _ _ c.args.input.now c.instances.rest.now c.in-Some.after.now c.in_ok-instance.left.now c.in_ok-push-2.ensures.items c.instances.invariant.spans
+          (S.takes T (word keyword.Par) c.instances.rest.now c.in-Some.after.now c.in-Some.ensures.passed (c.in-Some.ensures.first.1 T)) c.in_ok-instance.ensures.spans);
       shorter = omega (arith, c.in-Some.ensures.shorter, c.in_ok-instance.ensures.shorter, c.instances.invariant.shorter);
       proper = c.in_ok-instance.ensures.proper;
       reads = (then c.args.text.now 0 (InstancePart ∷ TailPart InstancesTail ∷ []) (InstancePart ∷ TailPart InstancesTail ∷ []) (TailPart InstancesTail ∷ []) c.args.input.now c.in-Some.after.now c.in_ok-instance.left.now (then c.args.text.now 0 (InstancePart ∷ TailPart InstancesTail ∷ []) (TailPart InstancesTail ∷ []) (InstancePart ∷ TailPart InstancesTail ∷ []) c.args.input.now c.instances.rest.now c.in-Some.after.now (c.instances.invariant.reads) (goes c.args.text.now 0 InstancesTail ([]) (class.Word keyword.Par) c.instances.rest.now c.in-Some.after.now (λ s l. omega (arith, l)) refl c.in-Some.ensures.first)) (call c.args.text.now 0 0 (InstancePart) (TailPart InstancesTail ∷ []) c.in-Some.after.now c.in_ok-instance.left.now (λ s l. omega (arith, l)) c.in_ok-instance.ensures.reads));

@@ -1,4 +1,4 @@
-use Rattle.std.proofs.Common.{rules, ◌≡◌, false, refl, [], ◌∷◌, arith, sym, ap, ◌∙◌, subst}
+use Rattle.std.proofs.Common.{rules, ◌≡◌, false, refl, [], ◌∷◌, arith, sym, ap, ◌∙◌, ◌++◌, subst}
 use Rattle.std.proofs.lemmas.Result.{err_from_is_err_and}
 use Rattle.kahn_syntax.specs.declared.lexeme.Keyword.TheVariants as keyword
 use Rattle.kahn_syntax.specs.declared.lexeme.Sign.TheVariants as mark
@@ -9,6 +9,7 @@ use Rattle.kahn_syntax.specs.Machine.{leads, BecomesToken, BeginToken, ChannelTo
 use Rattle.kahn_syntax.specs.Drawn.{name_of, expression_of, statement_of}
 use Rattle.kahn_syntax.proofs.Moves.{memory_alone, leads_statement, opens_simple, leads_simple, simple_ends, reads_by, stops_by, then, then_stops, call, call_stops, call_two, call_two_stops, one, deep, token, expected, goes, ends, level_ends, absent, unexpected, no_name, no_memory}
 use Rattle.kahn_syntax.proofs.Lists.{first_of}
+use Rattle.kahn_syntax.proofs.Spanning as S
 use Rattle.kahn_syntax.proofs.Statements.{statements_words_next, formed_next, some_next, nesting_next}
 use Rattle.kahn_syntax.proofs.parser.statement.+statement.Goals as goal
 
@@ -27,6 +28,7 @@ pub read_statements-statements-init : goal.read_statements-statements-init
 read_statements-statements-init t c =
     record {
       words = search rules;
+      spans = S.statements_first c.args.text.now _ c.in_ok-first.first c.args.input.now c.in_ok-first.rest.now (c.in_ok-push.ensures.items ∙ ap (λ xs. xs ++ c.in_ok-first.first ∷ []) c.new-statements.ensures.items) c.in_ok-first.ensures.spans;
       formed = search rules;
       some = search rules;
       nesting = search rules;
@@ -39,6 +41,7 @@ pub read_statements-statements-preserved : goal.read_statements-statements-prese
 read_statements-statements-preserved t c =
     record {
       words = statements_words_next _ _ _ _ _ _ _ c.in_ok-push-2.ensures.items c.statements.invariant.some c.statements.invariant.words (c.in-Some.ensures.first.1 c.args.text.now) c.in_ok-statement.ensures.words;
+      spans = S.statements_next c.args.text.now _ _ _ _ c.statements.rest.now c.in-Some.after.now c.in_ok-statement.left.now c.in_ok-push-2.ensures.items c.statements.invariant.spans (S.takes c.args.text.now (sign mark.Semicolon) _ _ c.in-Some.ensures.passed (c.in-Some.ensures.first.1 c.args.text.now)) c.in_ok-statement.ensures.spans;
       formed = formed_next _ _ _ c.in_ok-push-2.ensures.items c.statements.invariant.formed c.in_ok-statement.ensures.formed;
       some = some_next _ _ _ c.in_ok-push-2.ensures.items;
       nesting = nesting_next _ _ _ _ c.in_ok-push-2.ensures.items c.statements.invariant.nesting c.in_ok-statement.ensures.nesting;
@@ -51,7 +54,7 @@ pub read_statements-returns-clause-reads : goal.read_statements-returns-clause-r
 read_statements-returns-clause-reads t c = (then c.args.text.now c.args.depth (StatementPart ∷ TailPart StatementsTail ∷ []) (TailPart StatementsTail ∷ []) ([]) c.args.input.now c.statements.rest.now c.statements.rest.now (c.statements.invariant.reads) (ends c.args.text.now c.args.depth StatementsTail ([]) (class.Sign mark.Semicolon) c.statements.rest.now refl c.in_default.ensures.absent))
 
 pub read_statement-read_if-requires : goal.read_statement-read_if-requires
-read_statement-read_if-requires t c = (omega (arith, c.requires.1.0, c.in-Some-Word-If-default.ensures.first.1), ((first_of _ (class.Word keyword.If) c.args.input.now c.in-Some-Word-If-default.rest.now (c.in-Some-Word-If-default.field-0-0-is ∙ ap class.Word c.in-Some-Word-If-default.field-0-0-0-is) c.in-Some-Word-If-default.ensures.first.0), (c.in-Some-Word-If-default.ensures.first.1, (c.requires.1.1.0, c.in-Some-Word-If-default.ensures.proper c.args.text.now c.requires.1.1.1))))
+read_statement-read_if-requires t c = (omega (arith, c.requires.1.0, c.in-Some-Word-If-default.ensures.first.1), ((first_of _ (class.Word keyword.If) c.args.input.now c.in-Some-Word-If-default.rest.now (c.in-Some-Word-If-default.field-0-0-is ∙ ap class.Word c.in-Some-Word-If-default.field-0-0-0-is) c.in-Some-Word-If-default.ensures.first.0), (c.in-Some-Word-If-default.ensures.first.1, (c.requires.1.1.0, (c.in-Some-Word-If-default.ensures.proper c.args.text.now c.requires.1.1.1, c.in-Some-Word-If-default.ensures.passed)))))
 
 pub read_statement-returns-in_err-inner-in-Some-Word-While-default-clause-stops : goal.read_statement-returns-in_err-inner-in-Some-Word-While-default-clause-stops
 read_statement-returns-in_err-inner-in-Some-Word-While-default-clause-stops t c =
@@ -172,3 +175,51 @@ read_simple-returns-in_ok-rest-in-Some-Word-Begin-default-clause-reads t c = (th
 
 pub read_simple-returns-in_default-clause-reads : goal.read_simple-returns-in_default-clause-reads
 read_simple-returns-in_default-clause-reads t c = let a : leads_simple (terminals c.args.text.now c.args.input.now) ≡ false = search rules in simple_ends c.args.text.now c.args.depth [] c.args.input.now a
+
+pub read_statements-returns-clause-spans : goal.read_statements-returns-clause-spans
+read_statements-returns-clause-spans t c = S.some_are_statements c.args.text.now _ c.args.input.now c.statements.rest.now c.statements.invariant.spans
+
+pub read_statement-returns-in_ok-statement-in-Some-Word-While-default-clause-spans : goal.read_statement-returns-in_ok-statement-in-Some-Word-While-default-clause-spans
+read_statement-returns-in_ok-statement-in-Some-Word-While-default-clause-spans t c =
+    let T = c.args.text.now in
+    c.in_ok-statement-in-Some-Word-While-default.ensures.spans T c.args.input.now c.in-Some-Word-While-default.rest.now c.in_ok-test-in-Some-Word-While-default.rest.now c.in_ok-rest-in-Some-Word-While-default.rest.now c.in_ok-turn-in-Some-Word-While-default.rest.now c.reach.ensures
+    (S.takes T (word keyword.While) c.args.input.now c.in-Some-Word-While-default.rest.now c.in-Some-Word-While-default.ensures.passed ((first_of _ (class.Word keyword.While) c.args.input.now c.in-Some-Word-While-default.rest.now (c.in-Some-Word-While-default.field-0-0-is ∙ ap class.Word c.in-Some-Word-While-default.field-0-0-0-is) c.in-Some-Word-While-default.ensures.first.0).1 T)) c.in_ok-test-in-Some-Word-While-default.ensures.spans
+    (S.takes T (word keyword.Do) c.in_ok-test-in-Some-Word-While-default.rest.now c.in_ok-rest-in-Some-Word-While-default.rest.now c.in_ok-rest-in-Some-Word-While-default.ensures.passed (c.in_ok-rest-in-Some-Word-While-default.ensures.first.1 T)) c.in_ok-turn-in-Some-Word-While-default.ensures.spans
+
+pub read_statement-returns-in_ok-statement-in-Some-Word-Repeat-default-clause-spans : goal.read_statement-returns-in_ok-statement-in-Some-Word-Repeat-default-clause-spans
+read_statement-returns-in_ok-statement-in-Some-Word-Repeat-default-clause-spans t c =
+    let T = c.args.text.now in
+    c.in_ok-statement-in-Some-Word-Repeat-default.ensures.spans T c.args.input.now c.in-Some-Word-Repeat-default.rest.now c.in_ok-turn-in-Some-Word-Repeat-default.rest.now c.reach-in-Some-Word-Repeat-default.ensures
+    (S.takes T (word keyword.Repeat) c.args.input.now c.in-Some-Word-Repeat-default.rest.now c.in-Some-Word-Repeat-default.ensures.passed ((first_of _ (class.Word keyword.Repeat) c.args.input.now c.in-Some-Word-Repeat-default.rest.now (c.in-Some-Word-Repeat-default.field-0-0-is ∙ ap class.Word c.in-Some-Word-Repeat-default.field-0-0-0-is) c.in-Some-Word-Repeat-default.ensures.first.0).1 T)) c.in_ok-turn-in-Some-Word-Repeat-default.ensures.spans
+
+pub read_if-returns-in_default-clause-spans : goal.read_if-returns-in_default-clause-spans
+read_if-returns-in_default-clause-spans t c =
+    let T = c.args.text.now in
+    c.in_ok-statement.ensures.spans T c.args.input.now c.args.rest.now c.in_ok-test.rest.now c.in_ok-rest.rest.now c.in_ok-yes.rest.now c.reach.ensures
+    (S.takes T (word keyword.If) c.args.input.now c.args.rest.now c.requires.1.1.1.1.1.1 (c.requires.1.1.0.1 T)) c.in_ok-test.ensures.spans
+    (S.takes T (word keyword.Then) c.in_ok-test.rest.now c.in_ok-rest.rest.now c.in_ok-rest.ensures.passed (c.in_ok-rest.ensures.first.1 T)) c.in_ok-yes.ensures.spans
+
+pub read_if-returns-clause-spans : goal.read_if-returns-clause-spans
+read_if-returns-clause-spans t c =
+    let T = c.args.text.now in
+    c.in_ok-statement-2.ensures.spans T c.args.input.now c.args.rest.now c.in_ok-test.rest.now c.in_ok-rest.rest.now c.in_ok-yes.rest.now c.in-Some.after.now c.in_ok-no.rest.now c.reach-2.ensures
+    (S.takes T (word keyword.If) c.args.input.now c.args.rest.now c.requires.1.1.1.1.1.1 (c.requires.1.1.0.1 T)) c.in_ok-test.ensures.spans
+    (S.takes T (word keyword.Then) c.in_ok-test.rest.now c.in_ok-rest.rest.now c.in_ok-rest.ensures.passed (c.in_ok-rest.ensures.first.1 T)) c.in_ok-yes.ensures.spans
+    (S.takes T (word keyword.Else) c.in_ok-yes.rest.now c.in-Some.after.now c.in-Some.ensures.passed (c.in-Some.ensures.first.1 T)) c.in_ok-no.ensures.spans
+
+pub read_simple-returns-in_ok-value-in-Some-Word-Print-default-clause-spans : goal.read_simple-returns-in_ok-value-in-Some-Word-Print-default-clause-spans
+read_simple-returns-in_ok-value-in-Some-Word-Print-default-clause-spans t c =
+    let T = c.args.text.now in
+    (c.reach.ensures, (c.in-Some-Word-Print-default.rest.now, (S.takes T (word keyword.Print) c.args.input.now c.in-Some-Word-Print-default.rest.now c.in-Some-Word-Print-default.ensures.passed ((first_of _ (class.Word keyword.Print) c.args.input.now c.in-Some-Word-Print-default.rest.now (c.in-Some-Word-Print-default.field-0-0-is ∙ ap class.Word c.in-Some-Word-Print-default.field-0-0-0-is) c.in-Some-Word-Print-default.ensures.first.0).1 T)), c.in_ok-value-in-Some-Word-Print-default.ensures.spans))
+
+pub read_simple-returns-in_ok-rest-in-Some-Word-Begin-default-clause-spans : goal.read_simple-returns-in_ok-rest-in-Some-Word-Begin-default-clause-spans
+read_simple-returns-in_ok-rest-in-Some-Word-Begin-default-clause-spans t c =
+    let T = c.args.text.now in
+    c.block.ensures.spans T c.args.input.now c.in-Some-Word-Begin-default.rest.now c.in_ok-statements-in-Some-Word-Begin-default.rest.now c.in_ok-rest-in-Some-Word-Begin-default.rest.now c.reach-in-Some-Word-Begin-default.ensures
+    (S.takes T (word keyword.Begin) c.args.input.now c.in-Some-Word-Begin-default.rest.now c.in-Some-Word-Begin-default.ensures.passed ((first_of _ (class.Word keyword.Begin) c.args.input.now c.in-Some-Word-Begin-default.rest.now (c.in-Some-Word-Begin-default.field-0-0-is ∙ ap class.Word c.in-Some-Word-Begin-default.field-0-0-0-is) c.in-Some-Word-Begin-default.ensures.first.0).1 T)) c.in_ok-statements-in-Some-Word-Begin-default.ensures.spans
+    (S.takes T (word keyword.End) c.in_ok-statements-in-Some-Word-Begin-default.rest.now c.in_ok-rest-in-Some-Word-Begin-default.rest.now c.in_ok-rest-in-Some-Word-Begin-default.ensures.passed (c.in_ok-rest-in-Some-Word-Begin-default.ensures.first.1 T))
+
+pub read_simple-returns-in_default-clause-spans : goal.read_simple-returns-in_default-clause-spans
+read_simple-returns-in_default-clause-spans t c =
+    let T = c.args.text.now in
+    (refl, refl)

@@ -4,6 +4,7 @@ use Rattle.kahn_syntax.specs.Machine.{StatementsTail, StatementPart, TailPart}
 use Rattle.kahn_syntax.specs.Reads.{Moves}
 use Rattle.kahn_syntax.specs.Trees.{statements_words, statements_nesting, FormedStatements, AreSome}
 use Rattle.kahn_syntax.specs.Drawn.{statements_of}
+use Rattle.kahn_syntax.proofs.Spanning.{SomeStatements}
 use Rattle.kahn_syntax.proofs.parser.statement.+statement.Given as goal
 
 abbrev pub decreases-read_if : goal.decreases-read_if
@@ -21,6 +22,7 @@ decreases-read_statements l = 4 * length l.input.now + 3
 abbrev pub invariant-read_statements-statements : goal.invariant-read_statements-statements
 invariant-read_statements-statements l = record {
   words : terminals l.text l.input ≡ statements_words (statements_of l.statements.items) (terminals l.text l.rest);
+  spans : SomeStatements l.text l.statements.items l.input l.rest;
   formed : FormedStatements (statements_of l.statements.items);
   some : AreSome (statements_of l.statements.items);
   nesting : l.depth + statements_nesting (statements_of l.statements.items) ≤ 64;

@@ -7,6 +7,7 @@ use Rattle.kahn_syntax.specs.Terminals.{word, sign, name, terminals}
 use Rattle.kahn_syntax.specs.Rungs.{whole, ors, denials, relations, sums, factors, rung_of, tighter}
 use Rattle.kahn_syntax.specs.Machine.{BecomesToken, BeginToken, ChannelToken, CloseToken, CommaToken, DoToken, ElseToken, EndToken, IfToken, NameToken, NotToken, NumberToken, OnToken, OpenToken, ParToken, ProcessToken, SemicolonToken, ThenToken, NamesTail, StatementsTail, GroupsTail, ArgumentsTail, InstancesTail, ElseTail, LastTail, ProgramPart, DeclarationsPart, DeclarationPart, ProcessPart, RolePart, GroupsPart, GroupPart, TakingPart, VariablesPart, StatementPart, SimplePart, ExpressionPart, OperatorsPart, InstancePart, ArgumentsPart, ArgumentPart, TailPart, TokenPart, LevelPart}
 use Rattle.kahn_syntax.specs.Drawn.{name_of, expression_of, statement_of}
+use Rattle.kahn_syntax.proofs.Spanning as S
 use Rattle.kahn_syntax.proofs.Moves.{memory_alone, leads_statement, opens_simple, leads_simple, simple_ends, reads_by, stops_by, then, then_stops, call, call_stops, call_two, call_two_stops, one, deep, token, expected, goes, ends, level_ends, absent, unexpected, no_name, no_memory}
 use Rattle.kahn_syntax.proofs.parser.statement.read_assign.Goals as goal
 
@@ -27,3 +28,8 @@ returns-in_err-value-clause-stops c =
 
 pub returns-clause-reads : goal.returns-clause-reads
 returns-clause-reads c = (then c.args.text.now c.args.depth (SimplePart ∷ []) (ExpressionPart whole ∷ []) ([]) c.args.input.now c.in_ok-rest.rest.now c.in_ok-value.rest.now (then c.args.text.now c.args.depth (SimplePart ∷ []) (TokenPart BecomesToken ∷ ExpressionPart whole ∷ []) (ExpressionPart whole ∷ []) c.args.input.now c.in_ok-name.rest.now c.in_ok-rest.rest.now (one c.args.text.now c.args.depth (SimplePart) ([]) (TokenPart BecomesToken ∷ ExpressionPart whole ∷ []) (name (name_of c.in_ok-name.name)) c.args.input.now c.in_ok-name.rest.now (λ s l. omega (arith, l, c.requires.depth)) (λ s. refl) c.in_ok-name.ensures.words) (expected c.args.text.now c.args.depth BecomesToken (ExpressionPart whole ∷ []) (class.Sign mark.Becomes) c.in_ok-name.rest.now c.in_ok-rest.rest.now (λ s l. omega (arith, l, c.requires.depth)) refl c.in_ok-rest.ensures.first)) (call c.args.text.now c.args.depth c.args.depth (ExpressionPart whole) ([]) c.in_ok-rest.rest.now c.in_ok-value.rest.now (λ s l. omega (arith, l, c.requires.depth)) c.in_ok-value.ensures.reads))
+
+pub returns-clause-spans : goal.returns-clause-spans
+returns-clause-spans c =
+    let T = c.args.text.now in
+    (c.reach.ensures, (c.in_ok-name.rest.now, c.in_ok-rest.rest.now, c.in_ok-name.ensures.spans, (S.takes T (sign mark.Becomes) c.in_ok-name.rest.now c.in_ok-rest.rest.now c.in_ok-rest.ensures.passed (c.in_ok-rest.ensures.first.1 T)), c.in_ok-value.ensures.spans))

@@ -7,6 +7,7 @@ use Rattle.kahn_syntax.specs.Terminals.{word, sign, name, terminals}
 use Rattle.kahn_syntax.specs.Rungs.{whole, ors, denials, relations, sums, factors, rung_of, tighter}
 use Rattle.kahn_syntax.specs.Machine.{BecomesToken, BeginToken, ChannelToken, CloseToken, CommaToken, DoToken, ElseToken, EndToken, IfToken, NameToken, NotToken, NumberToken, OnToken, OpenToken, ParToken, ProcessToken, SemicolonToken, ThenToken, NamesTail, StatementsTail, GroupsTail, ArgumentsTail, InstancesTail, ElseTail, LastTail, ProgramPart, DeclarationsPart, DeclarationPart, ProcessPart, RolePart, GroupsPart, GroupPart, TakingPart, VariablesPart, StatementPart, SimplePart, ExpressionPart, OperatorsPart, InstancePart, ArgumentsPart, ArgumentPart, TailPart, TokenPart, LevelPart}
 use Rattle.kahn_syntax.specs.Drawn.{name_of, expression_of, statement_of}
+use Rattle.kahn_syntax.proofs.Spanning as S
 use Rattle.kahn_syntax.proofs.Moves.{memory_alone, leads_statement, opens_simple, leads_simple, simple_ends, reads_by, stops_by, then, then_stops, call, call_stops, call_two, call_two_stops, one, deep, token, expected, goes, ends, level_ends, absent, unexpected, no_name, no_memory}
 use Rattle.kahn_syntax.proofs.parser.statement.read_send.Goals as goal
 
@@ -27,3 +28,8 @@ returns-in_err-name-clause-stops c =
 
 pub returns-clause-reads : goal.returns-clause-reads
 returns-clause-reads c = (then c.args.text.now c.args.depth (SimplePart ∷ []) (TokenPart NameToken ∷ []) ([]) c.args.input.now c.in_ok-rest.rest.now c.in_ok-name.rest.now (then c.args.text.now c.args.depth (SimplePart ∷ []) (TokenPart OnToken ∷ TokenPart NameToken ∷ []) (TokenPart NameToken ∷ []) c.args.input.now c.in_ok-value.rest.now c.in_ok-rest.rest.now (then c.args.text.now c.args.depth (SimplePart ∷ []) (ExpressionPart whole ∷ TokenPart OnToken ∷ TokenPart NameToken ∷ []) (TokenPart OnToken ∷ TokenPart NameToken ∷ []) c.args.input.now c.args.rest.now c.in_ok-value.rest.now (one c.args.text.now c.args.depth (SimplePart) ([]) (ExpressionPart whole ∷ TokenPart OnToken ∷ TokenPart NameToken ∷ []) (word keyword.Send) c.args.input.now c.args.rest.now (λ s l. omega (arith, l, c.requires.depth)) (λ s. refl) (c.requires.first.1 c.args.text.now)) (call c.args.text.now c.args.depth c.args.depth (ExpressionPart whole) (TokenPart OnToken ∷ TokenPart NameToken ∷ []) c.args.rest.now c.in_ok-value.rest.now (λ s l. omega (arith, l, c.requires.depth)) c.in_ok-value.ensures.reads)) (expected c.args.text.now c.args.depth OnToken (TokenPart NameToken ∷ []) (class.Word keyword.On) c.in_ok-value.rest.now c.in_ok-rest.rest.now (λ s l. omega (arith, l, c.requires.depth)) refl c.in_ok-rest.ensures.first)) (token c.args.text.now c.args.depth NameToken ([]) (name (name_of c.in_ok-name.name)) c.in_ok-rest.rest.now c.in_ok-name.rest.now (λ s l. omega (arith, l, c.requires.depth)) refl c.in_ok-name.ensures.words))
+
+pub returns-clause-spans : goal.returns-clause-spans
+returns-clause-spans c =
+    let T = c.args.text.now in
+    (c.reach.ensures, (c.args.rest.now, c.in_ok-value.rest.now, c.in_ok-rest.rest.now, S.takes T (word keyword.Send) c.args.input.now c.args.rest.now c.requires.passed (c.requires.first.1 T), c.in_ok-value.ensures.spans, (S.takes T (word keyword.On) c.in_ok-value.rest.now c.in_ok-rest.rest.now c.in_ok-rest.ensures.passed (c.in_ok-rest.ensures.first.1 T)), c.in_ok-name.ensures.spans))

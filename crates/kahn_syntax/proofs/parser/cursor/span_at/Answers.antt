@@ -1,6 +1,6 @@
 use Rattle.std.proofs.Common.{◌≡◌, ◌+◌, ◌-◌, ◌<◌, ◌++◌, ◌∷◌, length, take, drop, get_or, refl, sym, ap, ◌∙◌, arith, length-drop}
 use Rattle.std.proofs.lemmas.List.{take-append-drop, drop_more}
-use Rattle.kahn_syntax.proofs.parser.program.span_at.Goals as goal
+use Rattle.kahn_syntax.proofs.parser.cursor.span_at.Goals as goal
 
 pub returns : goal.returns
 returns c =

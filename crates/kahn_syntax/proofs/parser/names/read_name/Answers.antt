@@ -1,0 +1,9 @@
+use Rattle.std.proofs.Common.{refl, get_or, arith}
+use Rattle.std.proofs.lemmas.Grind.{common_steps}
+use Rattle.kahn_syntax.proofs.Spanning.{name_first}
+use Rattle.kahn_syntax.proofs.parser.names.read_name.Goals as goal
+
+pub returns-in_ok-copy-in-Name-clause-spans : goal.returns-in_ok-copy-in-Name-clause-spans
+returns-in_ok-copy-in-Name-clause-spans c =
+    name_first c.args.text.now (record { text = c.in_ok-copy-in-Name.copy; span = (get_or c.args.input.now 0 _).span }) c.args.input.now _ c.in-Name.len_at_least refl
+    (grind (arith, common_steps))
