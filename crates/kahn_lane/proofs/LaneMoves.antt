@@ -9,7 +9,7 @@ use Rattle.kahn_lane.specs.declared.segments.Segment.{Segment}
 use Rattle.kahn_lane.specs.declared.segments.Stage.{Stage}
 use Rattle.kahn_lane.specs.declared.segments.Stage.TheVariants.{Opening, Telling, Running}
 use Rattle.kahn_lane.specs.Places.{Named, told, first_place, mark, opening, telling, both, owner, writing, reading, spent}
-use Rattle.kahn_lane.specs.LaneRule.{size, Filled, Chain, Writes, Reads, Fits, IsRunning, IsOpening, IsTelling, Laned, Tells, Flushes, Steals}
+use Rattle.kahn_lane.specs.LaneRule.{size, Filled, Chain, Writes, Reads, Fits, IsRunning, IsOpening, IsTelling, Laned, Tells, Flushes, Steals, Empties}
 use Rattle.kahn_lane.proofs.Views.{at_end, All, all_set, all_one, one, all_more}
 
 -- a pass without rights fits any rule
@@ -187,6 +187,26 @@ module _ (A : Type 0) where
       )
   steals port v stage may (s ∷ t ∷ r) items views some_left few laned at = absurd (omega (arith, few))
 
+  -- the same for a pass that may flush too, which knows how many were flushed
+  pub empties : (port : ℕ) (v : Mark) → v.stage ≡ Running → v.writes ≡ true → v.reads ≡ true → Takes (Laned {A = A}) port v 1 (Empties v)
+  empties port v stage both_rights may [] items views some_left few laned at = absurd (omega (arith, some_left))
+  empties port v stage both_rights may (s ∷ []) items views some_left few laned at =
+      let h = running (s ∷ items) views port v laned at stage in
+      let wr = (h.fits port v at).1 both_rights in
+      let rd = (h.fits port v at).2 may in
+      let t = steals port v stage may (s ∷ []) items views some_left few laned at in
+      let below = chain_le h.name (h.stolen + size s) h.flushed items h.chain.1 in
+      (t.0, t.1, (t.2.0, omega (arith, below, wr.2, rd.2), t.2.2))
+  empties port v stage both_rights may (s ∷ t ∷ r) items views some_left few laned at = absurd (omega (arith, few))
+
+  -- it finds the deque empty only where all that was flushed was taken out
+  pub finds_all : (port : ℕ) (v : Mark) → v.stage ≡ Running → v.writes ≡ true → v.reads ≡ true → Finds (Laned {A = A}) port v (v.stolen ≡ v.flushed)
+  finds_all port v stage a b views laned at =
+      let h = running [] views port v laned at stage in
+      let mine = h.fits port v at in
+      let met : h.stolen ≡ h.flushed = h.chain in
+      omega (arith, (mine.1 a).2, (mine.2 b).2, met)
+
   -- where the deque is empty, all that was flushed has been stolen
   pub finds : (port : ℕ) (v : Mark) → v.stage ≡ Running → v.reads ≡ true → FindsFew (Laned {A = A}) 0 port v (v.known ≤ v.stolen)
   finds port v stage may items views few laned at =
@@ -282,12 +302,12 @@ module _ (A : Type 0) where
         fits = all_set F (set views port v) other spent (no_rights h.writer h.reader h.name h.flushed h.stolen other) (λ j y _ e. old j y e);
       }))
 
-  -- a pass with both rights sees that no more was stolen than was flushed
-  pub behind : (port : ℕ) (v : Mark) → v.stage ≡ Running → v.writes ≡ true → v.reads ≡ true → Learns (Laned {A = A}) port v (λ _. v.stolen ≤ v.flushed)
+  -- a pass with both rights sees that no more was stolen than was flushed, of the same name
+  pub behind : (port : ℕ) (v : Mark) → v.stage ≡ Running → v.writes ≡ true → v.reads ≡ true → Learns (Laned {A = A}) port v (λ _. (v.stolen ≤ v.flushed) × (v.writes_on ≡ v.reads_on))
   behind port v stage a b items views laned at =
       let h = running items views port v laned at stage in
       let mine = h.fits port v at in
       let wr = mine.1 a in
       let rd = mine.2 b in
       let le = chain_le h.name h.stolen h.flushed items h.chain in
-      omega (arith, le, wr.2, rd.2)
+      (omega (arith, le, wr.2, rd.2), wr.1 ∙ sym rd.1)

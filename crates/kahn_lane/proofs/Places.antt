@@ -6,7 +6,7 @@ use Rattle.kahn_streams.specs.Streams.{IsOf}
 use Rattle.kahn_streams.specs.declared.token.Token.{Token}
 use Rattle.kahn_streams.specs.declared.value.Line.TheVariants.{Channel}
 use Rattle.kahn_lane.specs.declared.name.LaneName.{LaneName}
-use Rattle.kahn_lane.specs.Places.{Named, Placed, token_name, lane_name}
+use Rattle.kahn_lane.specs.Places.{Named, Placed, token_name, lane_name, moved_to}
 
 pub placed_more : (c : Named) (n : ℕ) (ts : List Token) (t : Token) → Placed c n ts → c ≡ Some (token_name t) → t.place ≡ n + length ts → Placed c n (ts ++ t ∷ [])
 placed_more c n [] t h on at = ((on, omega (arith, at)), tt)
@@ -25,3 +25,10 @@ pub is_of-token_name : (network : Program) (input : Lists) (channel : ℕ) (t : 
 is_of-token_name network input channel t e =
     let same : lane_name network input channel ≡ token_name t = ap (name_or (token_name t)) e in
     ((ap (λ (n : LaneName). n.network) (sym same), ap (λ (n : LaneName). n.input) (sym same)), ap (λ (n : LaneName). n.line) (sym same))
+
+-- a token that was lifted to an input has the name that it had, for this input
+pub token_name-moved : (input : Lists) (t u : Token) → u.line ≡ t.line → u.network.value ≡ t.network.value → u.input.value ≡ input → moved_to input (token_name t) ≡ token_name u
+token_name-moved input t u line network is = λ i. record { network = sym network i; input = sym is i; line = sym line i }
+
+pub same_name : (a b : LaneName) → Some a ≡ Some b → a ≡ b
+same_name a b e = ap (name_or a) e

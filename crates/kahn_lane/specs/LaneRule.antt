@@ -78,3 +78,10 @@ module _ {A : Type 0} where
   Steals v (s ∷ ss) w =
       Filled v.reads_on v.stolen s × (v.stolen + size s ≤ 2 ^ 48)
       × (w ≡ mark v.stage v.writes v.reads v.writes_on v.reads_on v.flushed (v.stolen + size s) v.known)
+
+  -- a segment is taken out where both ends are, whose tokens stand at the next places, up to those that were flushed
+  abbrev pub Empties : Mark → List (Segment A) → Mark → Type 0
+  Empties v [] w = ⊥
+  Empties v (s ∷ ss) w =
+      Filled v.reads_on v.stolen s × (v.stolen + size s ≤ v.flushed)
+      × (w ≡ mark v.stage v.writes v.reads v.writes_on v.reads_on v.flushed (v.stolen + size s) v.known)

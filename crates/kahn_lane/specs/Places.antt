@@ -29,6 +29,10 @@ token_name t = record { network = t.network.value; input = t.input.value; line =
 abbrev pub tag_name : Tag → LaneName
 tag_name t = record { network = t.network.value; input = t.input.value; line = t.line }
 
+-- the same line and network, for another input
+abbrev pub moved_to : Lists → LaneName → LaneName
+moved_to input n = record { network = n.network; input = input; line = n.line }
+
 abbrev pub told : Option Tag → Named
 told None = None
 told (Some t) = Some (tag_name t)
@@ -42,6 +46,9 @@ first_place (Some t) = t.from
 abbrev pub Placed : Named → ℕ → List Token → Type 0
 Placed c n [] = ⊤
 Placed c n (t ∷ ts) = ((c ≡ Some (token_name t)) × (t.place ≡ n)) × Placed c (n + 1) ts
+
+pub lane_name-prop : (a b : LaneName) → IsProp (a ≡ b)
+lane_name-prop a b = Coded-set lane_name_type.the_row.coded a b
 
 pub name-prop : (a b : Named) → IsProp (a ≡ b)
 name-prop a b = Coded-set (coded_option lane_name_type.the_row.coded) a b

@@ -6,7 +6,7 @@
 
 ghost use Rattle.std.specs.Prelude.{◌≡◌, ◌+◌, ◌≤◌, ◌<◌, ◌^◌, ◌⊎◌, true, false, IfOk, IsOk, IsSome, MatchResult, MatchOption, Some};
 ghost use Rattle.std.specs.VecDeque.{deque_len};
-ghost use Rattle.crossbeam_deque.specs.Handles.{worker_view, worker_deque, stealer_deque, stealer_flavor};
+ghost use Rattle.crossbeam_deque.specs.Handles.{worker_view, worker_deque, worker_flavor, stealer_deque, stealer_flavor};
 ghost use Rattle.kahn_lane.specs.Places.{lane_name, token_name, tag_name, owner};
 ghost use Rattle.kahn_lane.specs.LaneEnds.{sender_lane, receiver_lane, sender_name, receiver_name, flushed, sent, HasRoom, taken, IsReady, known, left, SameSender, SameReceiver};
 
@@ -37,7 +37,7 @@ fn opened<A: Allocator + Clone + Drop>(
     alloc: A,
     tag: Tag,
 ) -> Result<(LaneWorker<A>, LaneStealer<A>), LaneFault>
-    ensures one { IfOk result (λ r. (worker_deque r.0 ≡ stealer_deque r.1) × (stealer_flavor r.1 ≡ 0)) }
+    ensures one { IfOk result (λ r. (worker_deque r.0 ≡ stealer_deque r.1) × (worker_flavor r.0 ≡ 0) × (stealer_flavor r.1 ≡ 0)) }
     ensures view { IfOk result (λ r. worker_view r.0 ≡ owner (Some (tag_name tag)) tag.from) }
 {
     let head = Segment {
@@ -55,6 +55,38 @@ fn opened<A: Allocator + Clone + Drop>(
     Ok((worker, stealer))
 }
 
+// The two ends of a new lane that begins at the place of two like tags. The sender keeps the second.
+pub(crate) fn lane_from<A: Allocator + Clone + Drop>(
+    alloc: A,
+    head: Tag,
+    tag: Tag,
+) -> Result<(Sender<A>, Receiver<A>), LaneFault>
+    requires { (tag_name head ≡ tag_name tag) × (head.from ≡ tag.from) }
+    ensures lane { IfOk result (λ r. sender_lane r.0 ≡ receiver_lane r.1) }
+    ensures name { IfOk result (λ r. (sender_name r.0 ≡ Some (tag_name tag)) × (receiver_name r.1 ≡ Some (tag_name tag))) }
+    ensures start { IfOk result (λ r. (sent r.0 ≡ tag.from) × (flushed r.0 ≡ tag.from) × (taken r.1 ≡ tag.from) × (known r.1 ≡ tag.from)) }
+    ensures dry { IfOk result (λ r. deque_len r.1.current ≡ 0) }
+{
+    let left = VecDeque::new(alloc.clone()?);
+    let right = VecDeque::new(alloc.clone()?);
+    let (mut worker, stealer) = opened(alloc, head)?;
+    let pass = worker.another::<Sides>();
+    let from = tag.from;
+    let sender = Sender {
+        worker,
+        tag,
+        current: left,
+        flushed: from,
+    };
+    let receiver = Receiver {
+        stealer,
+        pass,
+        current: right,
+        taken: from,
+    };
+    Ok((sender, receiver))
+}
+
 /// The two ends of a new lane for the tokens of a channel, which may go to different threads. Nothing was put yet.
 pub fn lane<A: Allocator + Clone + Drop>(
     alloc: A,
@@ -66,23 +98,10 @@ pub fn lane<A: Allocator + Clone + Drop>(
     ensures name { IfOk result (λ r. (sender_name r.0 ≡ Some (lane_name network.now input.now channel)) × (receiver_name r.1 ≡ Some (lane_name network.now input.now channel))) }
     ensures start { IfOk result (λ r. (sent r.0 ≡ 0) × (flushed r.0 ≡ 0) × (taken r.1 ≡ 0) × (known r.1 ≡ 0)) }
 {
-    let left = VecDeque::new(alloc.clone()?);
-    let right = VecDeque::new(alloc.clone()?);
-    let tag = make_tag(network, input, Line::Channel(channel));
-    let (mut worker, stealer) = opened(alloc, tag)?;
-    let pass = worker.another::<Sides>();
-    let sender = Sender {
-        worker,
-        current: left,
-        flushed: 0,
-    };
-    let receiver = Receiver {
-        stealer,
-        pass,
-        current: right,
-        taken: 0,
-    };
-    Ok((sender, receiver))
+    let line = Line::Channel(channel);
+    let head = make_tag(network, input, line);
+    let tag = make_tag(network, input, line);
+    lane_from(alloc, head, tag)
 }
 
 impl<A: Allocator + Clone + Drop> Sender<A> {
@@ -225,6 +244,8 @@ pub fn meet<A: Allocator>(sender: &mut Sender<A>, receiver: &mut Receiver<A>) ->
     ensures receiver { SameReceiver receiver.old receiver.new × (taken receiver.new ≡ taken receiver.old) }
     ensures ready { IsReady receiver.old → IsReady receiver.new }
     ensures rule { taken receiver.old + result ≡ flushed sender.old }
+    // What waits at hand is of these.
+    ensures held { deque_len receiver.old.current ≤ result }
     ensures known { known receiver.new ≡ flushed sender.old }
 {
     let bare = sender.worker.another::<Bare>();

@@ -10,14 +10,17 @@ pub mod ends;
 pub mod fault;
 pub mod handover;
 pub mod lanes;
+pub mod lifted;
 pub mod name;
 pub mod segments;
+pub mod settling;
 
 pub use ends::{Giver, Taker};
 pub use fault::LaneFault;
 pub use handover::relay;
 pub use lanes::{lane, meet};
 pub use segments::{Receiver, Sender};
+pub use settling::settle;
 
 #[cfg(test)]
 mod tests;

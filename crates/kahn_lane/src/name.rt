@@ -50,3 +50,12 @@ pub(crate) fn make_tag(network: &Network, input: &Input, line: Line) -> Tag
 {
     tag_by(network, input, line, 0)
 }
+
+/// The tag of the same line and network for another input, from this place on.
+pub(crate) fn move_tag(tag: &Tag, input: &Input, from: u64) -> Tag
+    requires { from ≤ 2 ^ 48 }
+    ensures here { (result.line ≡ tag.now.line) × (result.from ≡ from) }
+    ensures names { (result.network.value ≡ tag.now.network.value) × (result.input.value ≡ input.now) }
+{
+    tag_by(tag, input, tag.line, from)
+}

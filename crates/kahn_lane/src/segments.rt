@@ -10,10 +10,10 @@
 //! The rule of a deque is fixed before any network or input is there, so it can't name them. A lane learns them from
 //! a first segment, without tokens, which its maker pushes and takes out again before the ends are parted.
 
-ghost use Rattle.std.specs.Prelude.{◌≡◌, ◌+◌, ◌≤◌, ◌^◌, is_some, true, false};
+ghost use Rattle.std.specs.Prelude.{◌≡◌, ◌+◌, ◌≤◌, ◌^◌, is_some, true, false, Some};
 ghost use Rattle.std.specs.VecDeque.{deque_len};
-ghost use Rattle.crossbeam_deque.specs.Handles.{view, worker_view, worker_index, worker_capacity, stealer_deque, stealer_flavor};
-ghost use Rattle.kahn_lane.specs.Places.{Placed, Placed-prop, stage-prop};
+ghost use Rattle.crossbeam_deque.specs.Handles.{view, worker_view, worker_flavor, worker_index, worker_capacity, stealer_deque, stealer_flavor};
+ghost use Rattle.kahn_lane.specs.Places.{Placed, Placed-prop, tag_name, name-prop, stage-prop};
 ghost use Rattle.kahn_lane.specs.declared.segments.Stage.TheVariants.{Running};
 
 use crate::name::{LaneName, Tag};
@@ -146,13 +146,25 @@ impl<A: Allocator> Outcome<Segment<A>, Mark> for Stolen {
     ghost empty = { λ v. v.known ≤ v.stolen };
 }
 
-/// A pass with both rights sees that no more was stolen than was flushed.
+/// A pass with both rights takes a segment out. An empty deque tells that all that was flushed was taken out.
+pub struct Emptied;
+
+impl<A: Allocator> Outcome<Segment<A>, Mark> for Emptied {
+    ghost use Rattle.std.specs.Prelude.{◌≡◌};
+    ghost use Rattle.kahn_lane.specs.LaneRule.{Empties};
+
+    ghost then = { Empties };
+
+    ghost empty = { λ v. v.stolen ≡ v.flushed };
+}
+
+/// A pass with both rights sees that no more was stolen than was flushed, of the same name.
 pub struct Behind;
 
 impl<A: Allocator> Lesson<Segment<A>, Mark> for Behind {
-    ghost use Rattle.std.specs.Prelude.{◌≤◌};
+    ghost use Rattle.std.specs.Prelude.{◌≡◌, ◌≤◌};
 
-    ghost fact = { λ v _. v.stolen ≤ v.flushed };
+    ghost fact = { λ v _. (v.stolen ≤ v.flushed) × (v.writes_on ≡ v.reads_on) };
 }
 
 /// The deque of a lane, as its owner sees it.
@@ -161,14 +173,17 @@ pub(crate) type LaneWorker<A> = Worker<Segment<A>, A, Mark, InPlaces>;
 /// The deque of a lane, as the reader sees it.
 pub(crate) type LaneStealer<A> = Stealer<Segment<A>, A, Mark, InPlaces>;
 
-/// The writer's end of a lane, with its open segment.
+/// The writer's end of a lane, with its open segment. Its tag tells what the tokens are of.
 #[derive(Drop)]
 pub struct Sender<A: Allocator = Global> {
     pub(crate) worker: LaneWorker<A>,
+    pub(crate) tag: Tag,
     pub(crate) current: VecDeque<Token, A>,
     pub(crate) flushed: u64,
     ghost stage: { (worker_view worker).stage ≡ Running } by { stage-prop (worker_view worker).stage Running },
+    ghost in_order: { worker_flavor worker ≡ 0 },
     ghost writes: { (worker_view worker).writes ≡ true },
+    ghost named: { (worker_view worker).writes_on ≡ Some (tag_name tag) } by { name-prop (worker_view worker).writes_on (Some (tag_name tag)) },
     ghost counted: { (worker_view worker).flushed ≡ flushed },
     ghost placed: { Placed (worker_view worker).writes_on flushed current.items } by { Placed-prop (worker_view worker).writes_on flushed current.items },
     ghost short: { deque_len current ≤ 64 },

@@ -9,6 +9,8 @@ use std::test::*;
 use std::thread;
 use std::thread::Threads;
 
+mod tokens;
+
 #[test]
 fn a_relay_hands_over_in_order(rt: HostRuntime) -> Result<(), Fail> {
     let (mut giver, mut taker) = relay::<char, _>(rt.alloc())?;

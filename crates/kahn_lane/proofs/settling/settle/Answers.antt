@@ -1,0 +1,10 @@
+use Rattle.std.proofs.Common.{subst, sym, ◌∙◌}
+use Rattle.kahn_lane.specs.Settles.{IsGrown}
+use Rattle.kahn_lane.specs.declared.name.LaneName.{LaneName}
+use Rattle.kahn_lane.proofs.Places.{same_name}
+use Rattle.kahn_lane.proofs.settling.settle.Goals as goal
+
+pub gather-tokens-requires-clause-grown : goal.gather-tokens-requires-clause-grown
+gather-tokens-requires-clause-grown g c =
+    let r = c.requires.grown in
+    subst (λ (n : LaneName). IsGrown n c.args.input.now) (same_name _ _ (sym r.1 ∙ c.args.sender.named)) r.2

@@ -1,0 +1,22 @@
+//! Tokens on their way to a lane for an input that has grown.
+
+ghost use Rattle.std.specs.Prelude.{◌≡◌, Some};
+ghost use Rattle.kahn_lane.specs.Places.{Placed, Placed-prop, lane_name-prop, moved_to, tag_name};
+
+use crate::name::Tag;
+use kahn_streams::token::Token;
+use std::alloc::{Allocator, Global};
+use std::collections::VecDeque;
+
+/// Tokens at consecutive places that were of one input and are lifted to another.
+#[derive(Drop)]
+pub(crate) struct Lifted<A: Allocator = Global> {
+    // What they were of, and what they are of now.
+    pub(crate) from: Tag,
+    pub(crate) to: Tag,
+    // The place of the first of them.
+    pub(crate) first: u64,
+    pub(crate) tokens: VecDeque<Token, A>,
+    ghost moved: { tag_name to ≡ moved_to to.input.value (tag_name from) } by { lane_name-prop (tag_name to) (moved_to to.input.value (tag_name from)) },
+    ghost placed: { Placed (Some (tag_name to)) first tokens.items } by { Placed-prop (Some (tag_name to)) first tokens.items },
+}

@@ -1,0 +1,195 @@
+//! A lane goes on with an input that has grown.
+//!
+//! The tokens of a lane are of one input, so a lane whose input has grown is made anew: both ends are taken apart, the
+//! tokens that weren't taken are lifted to the input, in order, and a lane for this input begins where the old one
+//! ended, with all of them in the reader's hands.
+
+ghost use Rattle.std.specs.Prelude.{◌≡◌, ◌+◌, ◌≤◌, ◌<◌, ◌^◌, [], true, Some, IfOk, IfErr};
+ghost use Rattle.std.specs.VecDeque.{deque_len, deque_capacity};
+ghost use Rattle.crossbeam_deque.specs.Handles.{worker_view, worker_flavor};
+ghost use Rattle.kahn_lane.specs.Places.{Placed, moved_to, tag_name, token_name};
+ghost use Rattle.kahn_lane.specs.LaneEnds.{sender_lane, receiver_lane, sender_name, receiver_name, flushed, sent, taken, IsReady, known};
+ghost use Rattle.kahn_lane.specs.Settles.{IsGrown, LiftsTo, SameLifted};
+ghost use Rattle.kahn_lane.specs.declared.name.LaneName.{LaneName};
+ghost use Rattle.kahn_lane.specs.declared.segments.Stage.TheVariants.{Running};
+
+use crate::fault::LaneFault;
+use crate::lanes::lane_from;
+use crate::lifted::Lifted;
+use crate::name::move_tag;
+use crate::segments::{Behind, Emptied, LaneWorker, Receiver, Sender, Sides};
+use kahn_streams::input::Input;
+use kahn_streams::memory::NoMemory;
+use kahn_streams::token::Token;
+use std::alloc::{Allocator, Global};
+use std::collections::VecDeque;
+
+impl<A: Allocator + Drop> Lifted<A> {
+    // Lifts the next token.
+    fn put(&mut self, input: &Input, token: Token)
+        requires room { deque_len self.old.tokens < deque_capacity self.old.tokens }
+        requires next { (token_name token ≡ tag_name self.old.from) × (token.place ≡ self.old.first + deque_len self.old.tokens) }
+        requires input { LiftsTo self.old input.now }
+        ensures same { SameLifted self.old self.new }
+        ensures more { deque_len self.new.tokens ≡ deque_len self.old.tokens + 1 }
+    {
+        self.tokens.push_back_reserved(input.lift(token));
+    }
+
+    // Lifts the next tokens.
+    fn put_all(&mut self, input: &Input, mut tokens: VecDeque<Token, A>)
+        requires room { deque_len self.old.tokens + deque_len tokens ≤ deque_capacity self.old.tokens }
+        requires next { Placed (Some (tag_name self.old.from)) (self.old.first + deque_len self.old.tokens) tokens.items }
+        requires input { LiftsTo self.old input.now }
+        ensures same { SameLifted self.old self.new }
+        ensures more { deque_len self.new.tokens ≡ deque_len self.old.tokens + deque_len tokens }
+    {
+        while let Some(token) = tokens.pop_front() {
+            self.put(input, token);
+        }
+    }
+
+    // Lifts the tokens of all segments in the deque, whose worker has both rights.
+    fn put_rest(&mut self, input: &Input, worker: &mut LaneWorker<A>)
+        requires room { (worker_view worker.old).flushed ≤ self.old.first + deque_capacity self.old.tokens }
+        requires worker { (worker_flavor worker.old ≡ 0) × ((worker_view worker.old).stage ≡ Running) × ((worker_view worker.old).writes ≡ true) × ((worker_view worker.old).reads ≡ true) }
+        requires next { ((worker_view worker.old).reads_on ≡ Some (tag_name self.old.from)) × ((worker_view worker.old).stolen ≡ self.old.first + deque_len self.old.tokens) }
+        requires input { LiftsTo self.old input.now }
+        ensures same { SameLifted self.old self.new }
+        ensures all { self.new.first + deque_len self.new.tokens ≡ (worker_view worker.old).flushed }
+    {
+        while let Some(segment) = worker.pop_as::<Emptied>() {
+            self.put_all(input, segment.tokens);
+        }
+    }
+}
+
+// What a settled lane is made of: both ends of a lane that begins where the old one ended, and room for the tokens that
+// weren't taken.
+#[derive(Drop)]
+struct Prepared<A: Allocator = Global> {
+    sender: Sender<A>,
+    receiver: Receiver<A>,
+    tokens: VecDeque<Token, A>,
+}
+
+// Takes all memory that settling needs.
+fn prepare<A: Allocator + Clone + Drop>(
+    sender: &Sender<A>,
+    receiver: &Receiver<A>,
+    input: &Input,
+) -> Result<Prepared<A>, LaneFault>
+    ensures lane { IfOk result (λ p. sender_lane p.sender ≡ receiver_lane p.receiver) }
+    ensures name { IfOk result (λ p. (sender_name p.sender ≡ Some (moved_to input.now (tag_name sender.now.tag))) × (receiver_name p.receiver ≡ Some (moved_to input.now (tag_name sender.now.tag)))) }
+    ensures start { IfOk result (λ p. (sent p.sender ≡ sent sender.now) × (flushed p.sender ≡ sent sender.now) × (taken p.receiver ≡ sent sender.now) × (known p.receiver ≡ sent sender.now)) }
+    ensures dry { IfOk result (λ p. deque_len p.receiver.current ≡ 0) }
+    ensures room { IfOk result (λ p. (p.tokens.items ≡ []) × (sent sender.now ≤ taken receiver.now + deque_capacity p.tokens)) }
+{
+    let end = sender.sent();
+    let count = end.saturating_sub(receiver.taken()) as usize;
+    let tokens = VecDeque::with_capacity(sender.current.allocator().clone()?, count)?;
+    let head = move_tag(&sender.tag, input, end);
+    let tag = move_tag(&sender.tag, input, end);
+    let (sender, receiver) = lane_from(sender.current.allocator().clone()?, head, tag)?;
+    Ok(Prepared {
+        sender,
+        receiver,
+        tokens,
+    })
+}
+
+// The tokens of a lane that weren't taken, lifted to the input.
+fn gather<A: Allocator + Clone + Drop>(
+    sender: Sender<A>,
+    receiver: Receiver<A>,
+    input: &Input,
+    tokens: VecDeque<Token, A>,
+) -> VecDeque<Token, A>
+    requires lane { sender_lane sender ≡ receiver_lane receiver }
+    requires grown { IsGrown (tag_name sender.tag) input.now }
+    requires room { (tokens.items ≡ []) × (sent sender ≤ taken receiver + deque_capacity tokens) }
+    ensures placed { Placed (Some (moved_to input.now (tag_name sender.tag))) (taken receiver) result.items }
+    ensures all { taken receiver + deque_len result ≡ sent sender }
+{
+    let Sender {
+        mut worker,
+        tag,
+        current: last,
+        flushed: _,
+    } = sender;
+    let Receiver {
+        stealer: _,
+        pass,
+        current: first,
+        taken,
+    } = receiver;
+    worker.absorb::<Sides>(pass);
+    let _segments = worker.len_as::<Behind>();
+    let mut lifted = Lifted {
+        to: move_tag(&tag, input, taken),
+        from: tag,
+        first: taken,
+        tokens,
+    };
+    lifted.put_all(input, first);
+    lifted.put_rest(input, &mut worker);
+    lifted.put_all(input, last);
+    lifted.tokens
+}
+
+// The receiver with these tokens in its hands, which stand before the place where its lane begins.
+fn with_tokens<A: Allocator + Drop>(
+    receiver: Receiver<A>,
+    tokens: VecDeque<Token, A>,
+    from: u64,
+) -> Receiver<A>
+    requires dry { deque_len receiver.current ≡ 0 }
+    requires all { from + deque_len tokens ≡ taken receiver }
+    requires placed { Placed (receiver_name receiver) from tokens.items }
+    ensures same { (receiver_lane result ≡ receiver_lane receiver) × (receiver_name result ≡ receiver_name receiver) × (known result ≡ known receiver) }
+    ensures tokens { (taken result ≡ from) × (deque_len result.current ≡ deque_len tokens) }
+{
+    let Receiver {
+        stealer,
+        pass,
+        current: _,
+        taken: _,
+    } = receiver;
+    Receiver {
+        stealer,
+        pass,
+        current: tokens,
+        taken: from,
+    }
+}
+
+/// The two ends of a lane for an input whose lists begin with those of the lane's own: as many tokens were sent and
+/// taken, all that were sent are flushed, and all that weren't taken are in the receiver's hands. Where memory is
+/// refused both ends come back as they were.
+pub fn settle<A: Allocator + Clone + Drop>(
+    sender: Sender<A>,
+    receiver: Receiver<A>,
+    input: &Input,
+) -> Result<(Sender<A>, Receiver<A>), (NoMemory, Sender<A>, Receiver<A>)>
+    requires lane { sender_lane sender ≡ receiver_lane receiver }
+    requires grown { (n : LaneName) × (sender_name sender ≡ Some n) × IsGrown n input.now }
+    ensures lane { IfOk result (λ r. sender_lane r.0 ≡ receiver_lane r.1) }
+    ensures name { IfOk result (λ r. (n : LaneName) → sender_name sender ≡ Some n → (sender_name r.0 ≡ Some (moved_to input.now n)) × (receiver_name r.1 ≡ Some (moved_to input.now n))) }
+    ensures counts { IfOk result (λ r. (sent r.0 ≡ sent sender) × (flushed r.0 ≡ sent sender) × (taken r.1 ≡ taken receiver) × (known r.1 ≡ sent sender)) }
+    ensures ready { IfOk result (λ r. taken receiver < sent sender → IsReady r.1) }
+    ensures refused { IfErr result (λ e. (e.1 ≡ sender) × (e.2 ≡ receiver)) }
+{
+    let Ok(
+        Prepared {
+            sender: next,
+            receiver: behind,
+            tokens,
+        },
+    ) = prepare(&sender, &receiver, input)
+    else {
+        return Err((NoMemory, sender, receiver));
+    };
+    let taken = receiver.taken();
+    let tokens = gather(sender, receiver, input, tokens);
+    Ok((next, with_tokens(behind, tokens, taken)))
+}
