@@ -12,8 +12,10 @@ pub mod Driven
 pub mod Arguments
 pub mod Bodies
 pub mod Celled
+pub mod Few
 pub mod Sit
 pub mod Routed
 pub mod Readers
 pub mod Opened
 pub mod Joined
+pub mod Grouped

@@ -8,3 +8,4 @@ pub mod Lines
 pub mod Progress
 pub mod Code
 pub mod Told
+pub mod Groups

@@ -7,8 +7,8 @@ ghost use Rattle.kahn_code.specs.Flat.{stmt_code};
 ghost use Rattle.kahn_streams.specs.Solution.{opening};
 ghost use Rattle.kahn_streams.specs.Tokens.{Names};
 ghost use Rattle.kahn_code.specs.Progress.{Paused, IsPause, core_of, opening_core};
-ghost use Rattle.kahn_code.specs.Seats.{Leaves};
-ghost use Rattle.kahn_code.specs.Told.{seat_of, told_of, told_view, IsAt, IsStanding, IsStill};
+ghost use Rattle.kahn_code.specs.Seats.{Leaves, Grows};
+ghost use Rattle.kahn_code.specs.Told.{AreCounts, seat_of, told_of, told_view, IsAt, IsStanding, IsStill};
 
 use crate::code::{Code, CodeFault};
 use crate::ports::Ports;
@@ -91,6 +91,8 @@ impl<A: Allocator + Copy + Drop> Cell<A> {
         ensures names { (self.new.network ≡ self.old.network) × (self.new.input ≡ self.old.input) × (self.new.instance ≡ self.old.instance) × (self.new.watch ≡ self.old.watch) }
         ensures ports { P.seat ports.new ≡ seat_of self.new }
         ensures others { Leaves (P.seat ports.old) (P.others ports.old) (P.others ports.new) }
+        ensures which { P.which ports.new ≡ P.which ports.old }
+        ensures delivered { Grows (P.delivered ports.old) (P.delivered ports.new) }
         ensures at { IsAt self.new (P.next ports.new) }
         // What the source says of the cell and of the pause.
         ensures paused { Paused (network_of self.new.network) (inputs_of self.new.input) self.new.watch self.new.instance (told_view self.new) (IsPause (network_of self.new.network) self.new.instance (P.is_dry ports.new) (P.is_ready ports.new) (self.new.events ≡ self.old.events + quantum) result) }
@@ -111,6 +113,14 @@ impl<A: Allocator + Copy + Drop> Cell<A> {
         self.progress.events
     }
 
+    /// The number of parameters of its process.
+    pub fn parameters(&self) -> usize
+        ensures number { result ≡ length (instance_at (network_of self.now.network) self.now.instance).actuals }
+        ensures lists { (result ≡ length self.now.taken) × (result ≡ length self.now.sent) × (result ≡ length self.now.kept) }
+    {
+        self.progress.taken.len()
+    }
+
     /// How many tokens it took on a parameter.
     pub fn taken(&self, parameter: usize) -> u64
         requires { parameter < length self.now.taken }
@@ -125,6 +135,14 @@ impl<A: Allocator + Copy + Drop> Cell<A> {
         ensures { result ≡ slice_index_or self.now.sent parameter 0 }
     {
         self.progress.sent_at(parameter)
+    }
+
+    /// Says that its counts are those of its parameters, and that none is greater than its events: its contract is what it
+    /// does.
+    pub fn sized(&self)
+        ensures { AreCounts self.now }
+    {
+        let _events = self.progress.events;
     }
 
     /// The tokens that it keeps of what it sent on a parameter.

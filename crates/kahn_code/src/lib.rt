@@ -15,3 +15,5 @@ pub mod progress;
 pub mod queue;
 pub mod routes;
 pub mod steps;
+#[cfg(test)]
+mod tests;

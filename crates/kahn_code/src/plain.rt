@@ -167,6 +167,12 @@ impl<A: Allocator> Ports for Plain<A> {
 
     ghost others = { λ s p q. place_at s p q };
 
+    ghost Identity = { Unit {0} };
+
+    ghost which = { λ s. tt };
+
+    ghost delivered = { λ s q. 0 };
+
     ghost is_ready = { λ s q. (c : ℕ) → actual_of s q ≡ Reads c → 0 < waiting_of (slice_get s.queues c) };
 
     ghost is_dry = { λ s q. (c : ℕ) → actual_of s q ≡ Reads c → waiting_of (slice_get s.queues c) ≡ 0 };

@@ -1,7 +1,7 @@
 //! Where an instance takes and puts tokens.
 
 ghost use Rattle.std.specs.Prelude.{◌≡◌, ℕ, ◌<◌, ◌^◌, IfSome, IfNone, IsSome, IsTrue, IsFalse, OnOk};
-ghost use Rattle.kahn_code.specs.Seats.{Seat, DoesRead, DoesWrite, IsRead, IsWritten, Stays, Moved, Leaves};
+ghost use Rattle.kahn_code.specs.Seats.{Seat, DoesRead, DoesWrite, IsRead, IsWritten, Stays, Moved, Leaves, Grows};
 
 use kahn_streams::memory::NoMemory;
 use kahn_streams::token::Token;
@@ -18,6 +18,14 @@ pub trait Ports {
     // the next place of each parameter of each instance, as far as these ports have them
     ghost others: { Self → ℕ → ℕ → ℕ };
 
+    // which ends these are
+    ghost Identity: { Type 0 };
+
+    ghost which: { Self → Identity };
+
+    // how many tokens that were put on each parameter were handed on to the reader
+    ghost delivered: { Self → ℕ → ℕ };
+
     // the next take gives a token
     ghost is_ready: { Self → ℕ → Type 0 };
 
@@ -32,6 +40,8 @@ pub trait Ports {
         requires { DoesRead (seat self.old) parameter }
         ensures seat { seat self.new ≡ seat self.old }
         ensures others { Leaves (seat self.old) (others self.old) (others self.new) }
+        ensures which { which self.new ≡ which self.old }
+        ensures delivered { Grows (delivered self.old) (delivered self.new) }
         ensures next { Stays (next self.old) (next self.new) }
         ensures yes { IsTrue result → is_ready self.new parameter }
         ensures dry { IsFalse result → is_dry self.new parameter };
@@ -42,6 +52,8 @@ pub trait Ports {
         requires bound { next self.old parameter < 2 ^ 48 }
         ensures seat { seat self.new ≡ seat self.old }
         ensures others { Leaves (seat self.old) (others self.old) (others self.new) }
+        ensures which { which self.new ≡ which self.old }
+        ensures delivered { Grows (delivered self.old) (delivered self.new) }
         ensures token { IfSome result (λ t. IsRead (seat self.old) parameter (next self.old parameter) t) }
         ensures moved { IfSome result (λ _. Moved (next self.old) (next self.new) parameter) }
         ensures stays { IfNone result (Stays (next self.old) (next self.new)) }
@@ -53,6 +65,8 @@ pub trait Ports {
         requires { DoesWrite (seat self.old) parameter }
         ensures seat { seat self.new ≡ seat self.old }
         ensures others { Leaves (seat self.old) (others self.old) (others self.new) }
+        ensures which { which self.new ≡ which self.old }
+        ensures delivered { Grows (delivered self.old) (delivered self.new) }
         ensures next { Stays (next self.old) (next self.new) }
         ensures room { OnOk result (has_room self.new parameter) };
 
@@ -64,5 +78,7 @@ pub trait Ports {
         requires token { IsWritten (seat self.old) parameter (next self.old parameter) token }
         ensures seat { seat self.new ≡ seat self.old }
         ensures others { Leaves (seat self.old) (others self.old) (others self.new) }
+        ensures which { which self.new ≡ which self.old }
+        ensures delivered { Grows (delivered self.old) (delivered self.new) }
         ensures moved { Moved (next self.old) (next self.new) parameter };
 }

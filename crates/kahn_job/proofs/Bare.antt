@@ -57,6 +57,7 @@ all_bare t lists rows n h e = record {
   count = h.count ∙ e;
   sizes = λ p. size p (split_at p n);
   each = λ p q d j l. absurd (omega (arith, l));
+  joined = λ p r o q d i j l. absurd (omega (arith, l));
   fresh = λ p q. subst IsFresh (sym (bare p q (split_at p n))) (refl, refl);
 }
   where

@@ -10,7 +10,7 @@ use Rattle.kahn_code.specs.Lines.{Joins}
 use Rattle.kahn_code.specs.Seats.{Seat}
 use Rattle.kahn_code.specs.Standing.{count}
 use Rattle.kahn_code.specs.Told.{Told, IsAt, seat_of}
-use Rattle.kahn_job.specs.Ends.{End}
+use Rattle.kahn_job.specs.Ends.{End, ShareLane}
 use Rattle.kahn_job.specs.Berths.{AreServed, Serves, end_at, seat_at}
 use Rattle.kahn_job.specs.Works.{Work, IsManned}
 use Rattle.kahn_job.specs.Openings.{AreHanded, AreOpening, IsFresh, IsOpening, IsReadyRow, end_in}
@@ -35,10 +35,11 @@ manned_first t lists watch p c row o r l = record {
     seats : t ≡ c.network → lists ≡ c.input → p ≡ c.instance → seat_at (record { network = t; input = lists; instance = p; ends = row }) ≡ seat_of c
     seats a b d = λ i. record { network = a i; input = b i; instance = d i }
 
--- the rows from instance n on are those of their instances
-pub record AreLeft (t : Program) (lists : Lists) (n : ℕ) (rows : List (List End)) : Type 0 where
+-- of all rows those from instance n on are left
+pub record AreLeft (t : Program) (lists : Lists) (all : List (List End)) (n : ℕ) (rows : List (List End)) : Type 0 where
   pub count : length rows ≡ length (network_of t).instances
   pub each : (p : ℕ) → n ≤ p → IsReadyRow t lists p (slice_index_or rows p [])
+  pub same : (p : ℕ) → n ≤ p → slice_index_or rows p [] ≡ slice_index_or all p []
 
 all_served : (t : Program) (wired : IsWellWired t) (lists : Lists) (p q : ℕ) (e : End) (a : Actual) → actual_at (instance_at (network_of t) p) q ≡ a →
     ((d : ℕ) → Joins a d → d < length (network_of t).channels → Serves t lists a e) → Serves t lists a e
@@ -46,29 +47,39 @@ all_served t wired lists p q e (Reads d) i h = h d refl (reads_listed t wired p 
 all_served t wired lists p q e (Writes d) i h = h d refl (writes_listed t wired p q d i)
 all_served t wired lists p q e (Hands v) i h = tt
 
-pub all_left : (t : Program) (lists : Lists) (rows : List (List End)) → IsWellWired t → AreHanded t lists (length (network_of t).channels) rows → AreLeft t lists 0 rows
+pub all_left : (t : Program) (lists : Lists) (rows : List (List End)) → IsWellWired t → AreHanded t lists (length (network_of t).channels) rows → AreLeft t lists rows 0 rows
 all_left t lists rows wired h = record {
   count = h.count;
   each = λ p l. record {
     served = record {
       count = h.sizes p;
       each = λ q. all_served t wired lists p q (end_in rows p q) (actual_at (instance_at (network_of t) p) q) refl (h.each p q);
+      behind = λ q. let flushed = (h.fresh p q).1 in omega (arith, flushed);
     };
     fresh = h.fresh p;
   };
+  same = λ p l. refl;
 }
 
-pub less_left : (t : Program) (lists : Lists) (n : ℕ) (rows more : List (List End)) → AreLeft t lists n rows → more ≡ slice_set rows n [] → AreLeft t lists (n + 1) more
-less_left t lists n rows more h e = subst (AreLeft t lists (n + 1)) (sym e) (record {
+pub less_left : (t : Program) (lists : Lists) (all : List (List End)) (n : ℕ) (rows more : List (List End)) → AreLeft t lists all n rows →
+    more ≡ slice_set rows n [] → AreLeft t lists all (n + 1) more
+less_left t lists all n rows more h e = subst (AreLeft t lists all (n + 1)) (sym e) (record {
   count = length-set rows n [] ∙ h.count;
   each = λ p l. subst (IsReadyRow t lists p) (sym (row_else rows n p [] (apart p l))) (h.each p (omega (arith, l)));
+  same = λ p l. row_else rows n p [] (apart p l) ∙ h.same p (omega (arith, l));
 })
   where
     apart : (p : ℕ) → n + 1 ≤ p → p ≡ n → ⊥
     apart p l i = absurd (omega (arith, l, i))
 
-pub no_jobs : (t : Program) (lists : Lists) (watch : Option ℕ) (jobs : List Work) → jobs ≡ [] → AreOpening t lists watch jobs 0
-no_jobs t lists watch jobs e = subst (λ l. AreOpening t lists watch l 0) (sym e) (record { count = refl; each = λ p w a. absurd (none p w a) })
+-- the first n jobs are those of their instances, with the ends of their rows
+pub record AreBegun (t : Program) (lists : Lists) (watch : Option ℕ) (all : List (List End)) (jobs : List Work) (n : ℕ) : Type 0 where
+  pub count : length jobs ≡ n
+  pub each : (p : ℕ) (w : Work) → slice_get jobs p ≡ Some w → IsOpening t lists watch p w.cell × (w.ends ≡ slice_index_or all p [])
+
+pub no_jobs : (t : Program) (lists : Lists) (watch : Option ℕ) (all : List (List End)) (jobs : List Work) → jobs ≡ [] → AreBegun t lists watch all jobs 0
+no_jobs t lists watch all jobs e =
+    subst (λ l. AreBegun t lists watch all l 0) (sym e) (record { count = refl; each = λ p w a. absurd (none p w a) })
   where
     none : (p : ℕ) (w : Work) → slice_get [] p ≡ Some w → ⊥
     none p w e = cc
@@ -76,13 +87,13 @@ no_jobs t lists watch jobs e = subst (λ l. AreOpening t lists watch l 0) (sym e
 some_one : {v w : Work} → Some v ≡ Some w → v ≡ w
 some_one e = cc
 
-abbrev Begun : Program → Lists → Option ℕ → ℕ → Work → Type 0
-Begun t lists watch p w = IsOpening t lists watch p w.cell × ((q : ℕ) → IsFresh (end_at w.ends q))
+abbrev Begun : Program → Lists → Option ℕ → List (List End) → ℕ → Work → Type 0
+Begun t lists watch all p w = IsOpening t lists watch p w.cell × (w.ends ≡ slice_index_or all p [])
 
-pub one_job : (t : Program) (lists : Lists) (watch : Option ℕ) (jobs all : List Work) (n : ℕ) (w : Work) → AreOpening t lists watch jobs n →
-    IsOpening t lists watch n w.cell × ((q : ℕ) → IsFresh (end_at w.ends q)) → all ≡ jobs ++ w ∷ [] → AreOpening t lists watch all (n + 1)
-one_job t lists watch jobs all n w h o is =
-    subst (λ l. AreOpening t lists watch l (n + 1)) (sym is)
+pub one_job : (t : Program) (lists : Lists) (watch : Option ℕ) (all : List (List End)) (jobs more : List Work) (n : ℕ) (w : Work) →
+    AreBegun t lists watch all jobs n → Begun t lists watch all n w → more ≡ jobs ++ w ∷ [] → AreBegun t lists watch all more (n + 1)
+one_job t lists watch all jobs more n w h o is =
+    subst (λ l. AreBegun t lists watch all l (n + 1)) (sym is)
     (record {
       count = let l = length-append jobs (w ∷ []) in let c = h.count in omega (arith, l, c);
       each = λ p x e. by p x (last jobs n p x h.count e);
@@ -99,6 +110,24 @@ one_job t lists watch jobs all n w h o is =
         by (inl a) = inl a
         by (inr a) = inr (ap suc a.0, a.1)
 
-    by : (p : ℕ) (x : Work) → (slice_get jobs p ≡ Some x) ⊎ ((p ≡ n) × (w ≡ x)) → Begun t lists watch p x
+    by : (p : ℕ) (x : Work) → (slice_get jobs p ≡ Some x) ⊎ ((p ≡ n) × (w ≡ x)) → Begun t lists watch all p x
     by p x (inl a) = h.each p x a
-    by p x (inr a) = subst (λ y. Begun t lists watch p y) a.1 (subst (λ k. Begun t lists watch k w) (sym a.0) o)
+    by p x (inr a) = subst (λ y. Begun t lists watch all p y) a.1 (subst (λ k. Begun t lists watch all k w) (sym a.0) o)
+
+-- the job of the next instance has the row that is left
+pub begun : (t : Program) (lists : Lists) (watch : Option ℕ) (all rows : List (List End)) (n : ℕ) (row : List End) (w : Work) →
+    AreLeft t lists all n rows → row ≡ slice_index_or rows n [] → IsOpening t lists watch n w.cell × (w.ends ≡ row) →
+    IsOpening t lists watch n w.cell × (w.ends ≡ slice_index_or all n [])
+begun t lists watch all rows n row w h e o = (o.0, o.1 ∙ e ∙ h.same n (omega arith))
+
+pub all_opening : (t : Program) (wired : IsWellWired t) (lists : Lists) (watch : Option ℕ) (all : List (List End)) (jobs : List Work) (n : ℕ) →
+    AreHanded t lists (length (network_of t).channels) all → AreBegun t lists watch all jobs n → n ≡ length (network_of t).instances →
+    AreOpening t lists watch jobs
+all_opening t wired lists watch all jobs n h b e = record {
+  count = b.count ∙ e;
+  each = λ p w i. let o = b.each p w i in (o.0, λ q. subst (λ row. IsFresh (end_at row q)) (sym o.1) (h.fresh p q));
+  joined = λ p r o q d w v i j x y.
+      subst (λ row. ShareLane (end_at row o) (end_at v.ends q)) (sym (b.each p w i).1)
+      (subst (λ row. ShareLane (end_at (slice_index_or all p []) o) (end_at row q)) (sym (b.each r v j).1)
+      (h.joined p r o q d x y (writes_listed t wired p o d x)));
+}

@@ -1,5 +1,5 @@
 -- Ends of an instance's channels, one of which changes.
-use Rattle.std.proofs.Common.{arith, ◌≡◌, ◌⊎◌, inl, inr, ℕ, zero, suc, ◌+◌, ◌<◌, List, [], ◌∷◌, length, refl, sym, ap, ◌∙◌, subst, Bool, true, false, Option, Some, None, slice_set, slice_index_or, le_of_suc-le-suc}
+use Rattle.std.proofs.Common.{arith, ◌≡◌, ◌⊎◌, inl, inr, ℕ, zero, suc, ◌+◌, ◌<◌, ◌≤◌, List, [], ◌∷◌, length, map, refl, sym, ap, ◌∙◌, subst, Bool, true, false, Option, Some, None, slice_set, slice_index_or, le_of_suc-le-suc}
 use Rattle.std.proofs.lemmas.List.{length-set}
 use Rattle.kahn_syntax.specs.declared.tree.Program.{Program}
 use Rattle.kahn_check.specs.Network.{Actual, Reads, Writes, Hands, network_of, instance_at, actual_at, role_at}
@@ -8,12 +8,12 @@ use Rattle.kahn_streams.specs.declared.value.Line.TheVariants.{Channel}
 use Rattle.kahn_streams.specs.Tokens.{Lists}
 use Rattle.kahn_streams.specs.Streams.{IsOf}
 use Rattle.kahn_code.specs.Cells.{is_output}
-use Rattle.kahn_code.specs.Seats.{IsRead, IsWritten, Stays, Moved}
+use Rattle.kahn_code.specs.Seats.{DoesRead, DoesWrite, Grows, IsRead, IsWritten, Stays, Moved}
 use Rattle.kahn_lane.specs.Places.{lane_name, token_name}
 use Rattle.kahn_lane.proofs.Places.{token_name-is_of, is_of-token_name}
-use Rattle.kahn_job.specs.Ends.{End, IsSame, IsFlushed}
+use Rattle.kahn_job.specs.Ends.{Advances, End, Identity, IsSame, IsFlushed, identity_of}
 use Rattle.kahn_job.specs.Ways.{nothing}
-use Rattle.kahn_job.specs.Berths.{AreServed, Serves, end_at, HasFlushed, HaveFlushed, AreFlushed}
+use Rattle.kahn_job.specs.Berths.{Berth, AreServed, Serves, end_at, identities, seat_at, HasFlushed, HaveAdvanced, HaveFlushed, HasStayed, HaveStayed, AreFlushed}
 
 same_or : (d c : ℕ) → (d ≡ c) ⊎ (d ≡ c → ⊥)
 same_or zero zero = inl refl
@@ -63,7 +63,7 @@ writes_one : {c d : ℕ} → Writes c ≡ Writes d → c ≡ d
 writes_one e = cc
 
 still_serves : (t : Program) (lists : Lists) (a : Actual) (old new : End) → IsSame old new → Serves t lists a old → Serves t lists a new
-still_serves t lists (Reads d) old new same s = (same.reads ∙ s.0, same.name ∙ s.1)
+still_serves t lists (Reads d) old new same s = (same.reads ∙ s.0, same.name ∙ s.1, λ i. same.lane ∙ s.2 i)
 still_serves t lists (Writes d) old new same s = λ inner. let h = s inner in (same.writes ∙ h.0, same.name ∙ h.1)
 still_serves t lists (Hands v) old new same s = tt
 
@@ -88,24 +88,74 @@ module _ (t : Program) (lists : Lists) (p : ℕ) (es : List End) (h : AreServed 
 
   pub serves_read : (q d : ℕ) → actual_at (instance_at (network_of t) p) q ≡ Reads d →
       ((end_at es q).reads ≡ true) × ((end_at es q).name ≡ Some (lane_name t lists d))
-  serves_read q d e = subst (λ a. Serves t lists a (end_at es q)) e (h.each q)
+  serves_read q d e = let s : Serves t lists (Reads d) (end_at es q) = subst (λ a. Serves t lists a (end_at es q)) e (h.each q) in (s.0, s.1)
 
   pub serves_written : (q d : ℕ) → actual_at (instance_at (network_of t) p) q ≡ Writes d → is_output (role_at (network_of t) d) ≡ false →
       ((end_at es q).writes ≡ true) × ((end_at es q).name ≡ Some (lane_name t lists d))
   serves_written q d e = subst (λ a. Serves t lists a (end_at es q)) e (h.each q)
 
-  pub served_set : (q : ℕ) (e : End) → q < length es → IsSame (end_at es q) e → AreServed t lists p (slice_set es q e)
-  served_set q e l same = record {
+  pub served_set : (q : ℕ) (e : End) → q < length es → IsSame (end_at es q) e → Advances (end_at es q) e → AreServed t lists p (slice_set es q e)
+  served_set q e l same further = record {
     count = length-set es q e ∙ h.count;
     each = λ r. at r (same_or r q);
+    behind = λ r. less r (same_or r q);
   }
     where
+      less : (r : ℕ) → (r ≡ q) ⊎ (r ≡ q → ⊥) → (end_at (slice_set es q e) r).flushed ≤ (end_at (slice_set es q e) r).next
+      less r (inr n) = subst (λ x. x.flushed ≤ x.next) (sym (set_else es q r e n)) (h.behind r)
+      less r (inl i) =
+          subst (λ k. (end_at (slice_set es q e) k).flushed ≤ (end_at (slice_set es q e) k).next) (sym i)
+          (subst (λ x. x.flushed ≤ x.next) (sym (set_here es q e l)) further.1)
+
       at : (r : ℕ) → (r ≡ q) ⊎ (r ≡ q → ⊥) → Serves t lists (actual_at (instance_at (network_of t) p) r) (end_at (slice_set es q e) r)
       at r (inr n) = subst (λ x. Serves t lists (actual_at (instance_at (network_of t) p) r) x) (sym (set_else es q r e n)) (h.each r)
       at r (inl i) =
           subst (λ k. Serves t lists (actual_at (instance_at (network_of t) p) k) (end_at (slice_set es q e) k)) (sym i)
           (subst (λ x. Serves t lists (actual_at (instance_at (network_of t) p) q) x) (sym (set_here es q e l))
           (still_serves t lists (actual_at (instance_at (network_of t) p) q) (end_at es q) e same (h.each q)))
+
+same_identity : (old new : End) → IsSame old new → identity_of new ≡ identity_of old
+same_identity old new s = λ i. record { reads = s.reads i; writes = s.writes i; lane = s.lane i; name = s.name i }
+
+pub identities_set : (es : List End) (q : ℕ) (e : End) → q < length es → IsSame (end_at es q) e → identities (slice_set es q e) ≡ identities es
+identities_set [] q e l s = refl
+identities_set (x ∷ es) zero e l s = ap (λ i. i ∷ identities es) (same_identity x e s)
+identities_set (x ∷ es) (suc q) e l s = ap (λ l. identity_of x ∷ l) (identities_set es q e (le_of_suc-le-suc l) s)
+
+pub grows_set : (es : List End) (q : ℕ) (e : End) → q < length es → Advances (end_at es q) e →
+    Grows (λ r. (end_at es r).flushed) (λ r. (end_at (slice_set es q e) r).flushed)
+grows_set es q e l further r = by (same_or r q)
+  where
+    by : (r ≡ q) ⊎ (r ≡ q → ⊥) → (end_at es r).flushed ≤ (end_at (slice_set es q e) r).flushed
+    by (inr n) = let same = ap (λ (x : End). x.flushed) (set_else es q r e n) in omega (arith, same)
+    by (inl i) =
+        subst (λ k. (end_at es k).flushed ≤ (end_at (slice_set es q e) k).flushed) (sym i)
+        (let here = ap (λ (x : End). x.flushed) (set_here es q e l) in let more = further.0 in omega (arith, here, more))
+
+identity_same : (old new : End) → identity_of new ≡ identity_of old → IsSame old new
+identity_same old new e = record {
+  reads = ap (λ (i : Identity). i.reads) e;
+  writes = ap (λ (i : Identity). i.writes) e;
+  lane = ap (λ (i : Identity). i.lane) e;
+  name = ap (λ (i : Identity). i.name) e;
+}
+
+identities_size : (es : List End) → length (identities es) ≡ length es
+identities_size [] = refl
+identities_size (x ∷ es) = ap suc (identities_size es)
+
+identity_at : (es : List End) (q : ℕ) → slice_index_or (identities es) q (identity_of nothing) ≡ identity_of (end_at es q)
+identity_at [] q = refl
+identity_at (x ∷ es) zero = refl
+identity_at (x ∷ es) (suc q) = identity_at es q
+
+pub advanced : (old new : List End) → identities new ≡ identities old → Grows (λ q. (end_at old q).flushed) (λ q. (end_at new q).flushed) → HaveAdvanced old new
+advanced old new e g = record {
+  count = sym (identities_size new) ∙ ap (λ (l : List Identity). length l) e ∙ identities_size old;
+  same = λ q. identity_same (end_at old q) (end_at new q)
+      (sym (identity_at new q) ∙ ap (λ l. slice_index_or l q (identity_of nothing)) e ∙ identity_at old q);
+  flushed = g;
+}
 
 -- no next place changes where the end's stays
 pub stays_set : (es : List End) (q : ℕ) (e : End) → q < length es → e.next ≡ (end_at es q).next →
@@ -151,37 +201,64 @@ is_written t lists p es h q d writes inner k w =
 pub none_flushed : (es : List End) → HaveFlushed es es
 none_flushed es = record {
   count = refl;
-  each = λ q. record { same = same_self (end_at es q); next = refl; flushed = inl refl };
+  each = λ q. record { same = same_self (end_at es q); next = refl; flushed = inl refl; grows = omega arith };
 }
 
 -- one end more was flushed, or refused
 pub flushed_set : (old es : List End) (q : ℕ) (e : End) → HaveFlushed old es → q < length es → IsSame (end_at es q) e →
-    e.next ≡ (end_at es q).next → (e.flushed ≡ (end_at es q).flushed) ⊎ IsFlushed e → HaveFlushed old (slice_set es q e)
-flushed_set old es q e h l same next how = record {
+    e.next ≡ (end_at es q).next → (e.flushed ≡ (end_at es q).flushed) ⊎ (e.flushed ≡ e.next) → Advances (end_at es q) e → HaveFlushed old (slice_set es q e)
+flushed_set old es q e h l same next how advances = record {
   count = length-set es q e ∙ h.count;
   each = λ r. at r (same_or r q);
 }
   where
-    further : (a b : End) → HasFlushed a b → IsSame b e → e.next ≡ b.next → (e.flushed ≡ b.flushed) ⊎ IsFlushed e → HasFlushed a e
-    further a b g s n f = record {
+    further : (a b : End) → HasFlushed a b → IsSame b e → e.next ≡ b.next → (e.flushed ≡ b.flushed) ⊎ (e.flushed ≡ e.next) → Advances b e → HasFlushed a e
+    further a b g s n f m = record {
       same = same_then a b e g.same s;
       next = n ∙ g.next;
       flushed = how_flushed f g.flushed;
+      grows = let one = g.grows in let two = m.0 in omega (arith, one, two);
     }
       where
-        still : IsFlushed b → e.flushed ≡ b.flushed → IsFlushed e
-        still is i = λ w. i ∙ is (sym s.writes ∙ w) ∙ sym n
-
-        how_flushed : (e.flushed ≡ b.flushed) ⊎ IsFlushed e → (b.flushed ≡ a.flushed) ⊎ IsFlushed b → (e.flushed ≡ a.flushed) ⊎ IsFlushed e
+        how_flushed : (e.flushed ≡ b.flushed) ⊎ (e.flushed ≡ e.next) → (b.flushed ≡ a.flushed) ⊎ (b.flushed ≡ b.next) →
+            (e.flushed ≡ a.flushed) ⊎ (e.flushed ≡ e.next)
         how_flushed (inr x) y = inr x
         how_flushed (inl x) (inl y) = inl (x ∙ y)
-        how_flushed (inl x) (inr y) = inr (still y x)
+        how_flushed (inl x) (inr y) = inr (x ∙ y ∙ sym n)
 
     at : (r : ℕ) → (r ≡ q) ⊎ (r ≡ q → ⊥) → HasFlushed (end_at old r) (end_at (slice_set es q e) r)
     at r (inr n) = subst (λ x. HasFlushed (end_at old r) x) (sym (set_else es q r e n)) (h.each r)
     at r (inl i) =
         subst (λ k. HasFlushed (end_at old k) (end_at (slice_set es q e) k)) (sym i)
-        (subst (λ x. HasFlushed (end_at old q) x) (sym (set_here es q e l)) (further (end_at old q) (end_at es q) (h.each q) same next how))
+        (subst (λ x. HasFlushed (end_at old q) x) (sym (set_here es q e l)) (further (end_at old q) (end_at es q) (h.each q) same next how advances))
+
+pub served_flushed : (t : Program) (lists : Lists) (p : ℕ) (old new : List End) → AreServed t lists p old → HaveFlushed old new → AreServed t lists p new
+served_flushed t lists p old new h f = record {
+  count = f.count ∙ h.count;
+  each = λ q. still_serves t lists (actual_at (instance_at (network_of t) p) q) (end_at old q) (end_at new q) (f.each q).same (h.each q);
+  behind = λ q. by (end_at old q) (end_at new q) (h.behind q) (f.each q).next (f.each q).flushed;
+}
+  where
+    by : (a b : End) → a.flushed ≤ a.next → b.next ≡ a.next → (b.flushed ≡ a.flushed) ⊎ (b.flushed ≡ b.next) → b.flushed ≤ b.next
+    by a b l n (inl e) = omega (arith, l, n, e)
+    by a b l n (inr e) = omega (arith, e)
+
+-- one end that these ports take from or put on has changed
+module _ (seen : Berth) (t : Program) (lists : Lists) (p : ℕ) (es : List End) (is : record { network = t; input = lists; instance = p; ends = es } ≡ seen)
+    (h : AreServed t lists p es) (q : ℕ) (old new : End) (at : old ≡ slice_index_or es q old) (same : IsSame old new) where
+  identities_at : q < length es → identities (slice_set es q new) ≡ identities seen.ends
+  identities_at l =
+      identities_set es q new l (subst (λ x. IsSame x new) (sym (found es q old old l at)) same) ∙ ap (λ (b : Berth). identities b.ends) is
+
+  pub identities_read : DoesRead (seat_at seen) q → identities (slice_set es q new) ≡ identities seen.ends
+  identities_read reads =
+      let r : DoesRead (record { network = t; input = lists; instance = p }) q = subst (λ (b : Berth). DoesRead (seat_at b) q) (sym is) reads in
+      identities_at (within_read t lists p es h q r.0 r.1)
+
+  pub identities_written : DoesWrite (seat_at seen) q → identities (slice_set es q new) ≡ identities seen.ends
+  identities_written writes =
+      let w : DoesWrite (record { network = t; input = lists; instance = p }) q = subst (λ (b : Berth). DoesWrite (seat_at b) q) (sym is) writes in
+      identities_at (within_written t lists p es h q w.0 w.1)
 
 -- the first n ends were flushed
 abbrev pub UpTo : ℕ → List End → Type 0
@@ -218,3 +295,98 @@ all_up es n h is q = by (past_none es q)
     by : (q < length es) ⊎ (end_at es q ≡ nothing) → IsFlushed (end_at es q)
     by (inl l) = h q (omega (arith, l, is))
     by (inr e) = subst IsFlushed (sym e) nothing_flushed
+
+none_true : false ≡ true → ⊥
+none_true e = cc
+
+pub within_writes : (es : List End) (q : ℕ) → (end_at es q).writes ≡ true → q < length es
+within_writes es q w = by (past_none es q)
+  where
+    by : (q < length es) ⊎ (end_at es q ≡ nothing) → q < length es
+    by (inl l) = l
+    by (inr e) = absurd (none_true (sym (ap (λ (x : End). x.writes) e) ∙ w))
+
+pub within_reads : (es : List End) (q : ℕ) → (end_at es q).reads ≡ true → q < length es
+within_reads es q r = by (past_none es q)
+  where
+    by : (q < length es) ⊎ (end_at es q ≡ nothing) → q < length es
+    by (inl l) = l
+    by (inr e) = absurd (none_true (sym (ap (λ (x : End). x.reads) e) ∙ r))
+
+stayed_self : (e : End) → HasStayed e e
+stayed_self e = record { same = same_self e; next = refl; flushed = refl; ready = λ r. r }
+
+-- one end stays so
+pub stayed_set : (es : List End) (q : ℕ) (e : End) → q < length es → HasStayed (end_at es q) e → HaveStayed es (slice_set es q e)
+stayed_set es q e l s = record {
+  count = length-set es q e;
+  each = λ r. at r (same_or r q);
+}
+  where
+    at : (r : ℕ) → (r ≡ q) ⊎ (r ≡ q → ⊥) → HasStayed (end_at es r) (end_at (slice_set es q e) r)
+    at r (inr n) = subst (λ x. HasStayed (end_at es r) x) (sym (set_else es q r e n)) (stayed_self (end_at es r))
+    at r (inl i) =
+        subst (λ k. HasStayed (end_at es k) (end_at (slice_set es q e) k)) (sym i)
+        (subst (λ x. HasStayed (end_at es q) x) (sym (set_here es q e l)) s)
+
+-- two ends stay so, of which one was away meanwhile
+pub stayed_two : (es : List End) (o q : ℕ) (none w r : End) → (o ≡ q → ⊥) → o < length es → q < length es → HasStayed (end_at es o) w →
+    HasStayed (end_at es q) r → HaveStayed es (slice_set (slice_set (slice_set es q none) o w) q r)
+stayed_two es o q none w r apart lo lq sw sr = record {
+  count = length-set (slice_set away o w) q r ∙ length-set away o w ∙ length-set es q none;
+  each = λ k. at k (same_or k q) (same_or k o);
+}
+  where
+    away : List End
+    away = slice_set es q none
+
+    there : q < length (slice_set away o w)
+    there = let one = length-set away o w in let two = length-set es q none in omega (arith, one, two, lq)
+
+    here : o < length away
+    here = let two = length-set es q none in omega (arith, two, lo)
+
+    at : (k : ℕ) → (k ≡ q) ⊎ (k ≡ q → ⊥) → (k ≡ o) ⊎ (k ≡ o → ⊥) → HasStayed (end_at es k) (end_at (slice_set (slice_set away o w) q r) k)
+    at k (inl i) y =
+        subst (λ k. HasStayed (end_at es k) (end_at (slice_set (slice_set away o w) q r) k)) (sym i)
+        (subst (λ x. HasStayed (end_at es q) x) (sym (set_here (slice_set away o w) q r there)) sr)
+    at k (inr n) (inl i) =
+        subst (λ x. HasStayed (end_at es k) x) (sym (set_else (slice_set away o w) q k r n))
+        (subst (λ k. HasStayed (end_at es k) (end_at (slice_set away o w) k)) (sym i)
+        (subst (λ x. HasStayed (end_at es o) x) (sym (set_here away o w here)) sw))
+    at k (inr n) (inr m) =
+        subst (λ x. HasStayed (end_at es k) x) (sym (set_else (slice_set away o w) q k r n ∙ set_else away o k w m ∙ set_else es q k none n))
+        (stayed_self (end_at es k))
+
+pub served_stayed : (t : Program) (lists : Lists) (p : ℕ) (old new : List End) → AreServed t lists p old → HaveStayed old new → AreServed t lists p new
+served_stayed t lists p old new h f = record {
+  count = f.count ∙ h.count;
+  each = λ q. still_serves t lists (actual_at (instance_at (network_of t) p) q) (end_at old q) (end_at new q) (f.each q).same (h.each q);
+  behind = λ q. let was = h.behind q in let one = (f.each q).next in let two = (f.each q).flushed in omega (arith, was, one, two);
+}
+
+any_end : (es : List End) (q : ℕ) (d : End) → q < length es → slice_index_or es q d ≡ end_at es q
+any_end [] q d l = absurd (omega (arith, l))
+any_end (x ∷ es) zero d l = refl
+any_end (x ∷ es) (suc q) d l = any_end es q d (le_of_suc-le-suc l)
+
+-- an end that is away meets another one, and comes back
+module _ (es : List End) (o q : ℕ) (apart : o ≡ q → ⊥) (writes : (end_at es o).writes ≡ true) (reads : (end_at es q).reads ≡ true) (none d a : End)
+    (is : a ≡ slice_index_or es q d) where
+  reader_is : a ≡ end_at es q
+  reader_is = is ∙ any_end es q d (within_reads es q reads)
+
+  writer_is : (d : End) → slice_index_or (slice_set es q none) o d ≡ end_at es o
+  writer_is d =
+      let l = within_writes es o writes in
+      let n = length-set es q none in
+      any_end (slice_set es q none) o d (omega (arith, l, n)) ∙ set_else es q o none apart
+
+  pub met_ends : (w r b : End) → HasStayed (slice_index_or (slice_set es q none) o b) w → HasStayed a r →
+      HaveStayed es (slice_set (slice_set (slice_set es q none) o w) q r)
+  met_ends w r b hw hr =
+      stayed_two es o q none w r apart (within_writes es o writes) (within_reads es q reads) (subst (λ x. HasStayed x w) (writer_is b) hw)
+      (subst (λ x. HasStayed x r) reader_is hr)
+
+  pub met_count : (b : End) (n : ℕ) → a.next + n ≡ (slice_index_or (slice_set es q none) o b).flushed → (end_at es q).next + n ≡ (end_at es o).flushed
+  met_count b n e = ap (λ (x : End). x.next + n) (sym reader_is) ∙ e ∙ ap (λ (x : End). x.flushed) (writer_is b)

@@ -14,7 +14,7 @@ use Rattle.kahn_streams.specs.Tokens.{Lists}
 use Rattle.kahn_code.specs.Cells.{is_output}
 use Rattle.kahn_code.specs.Lines.{Joins}
 use Rattle.kahn_lane.specs.Places.{lane_name}
-use Rattle.kahn_job.specs.Ends.{End}
+use Rattle.kahn_job.specs.Ends.{End, ShareLane}
 use Rattle.kahn_job.specs.Ways.{nothing}
 use Rattle.kahn_job.specs.Berths.{Serves, AreServed, end_at}
 use Rattle.kahn_job.specs.Openings.{AreEndsOf, AreHanded, IsFresh, end_in, placed}
@@ -141,12 +141,15 @@ fed_role N c i o = let e : Input ≡ Output = sym i ∙ o in absurd cc
 inner_role : (N : Network) (c : ℕ) → role_at N c ≡ Inner → role_at N c ≡ Output → ⊥
 inner_role N c i o = let e : Inner ≡ Output = sym i ∙ o in absurd cc
 
+pub inner_is_not_input : {r : Role} → r ≡ Inner → r ≡ Input → ⊥
+inner_is_not_input a b = let e : Inner ≡ Input = sym a ∙ b in absurd cc
+
 module _ (t : Program) (wired : IsWellWired t) (lists : Lists) (c : ℕ) (x y : End) (e : AreEndsOf t lists c x y) where
   abbrev N : Network
   N = network_of t
 
   serves_reader : (p q : ℕ) → actual_at (instance_at N p) q ≡ Reads c → Serves t lists (actual_at (instance_at N p) q) y
-  serves_reader p q r = subst (λ a. Serves t lists a y) (sym r) (e.takes (never (reads t wired p q c r)))
+  serves_reader p q r = subst (λ a. Serves t lists a y) (sym r) (let h = e.takes (never (reads t wired p q c r)) in (h.0, h.1, e.feeds))
     where
       never : IsFed N c → role_at N c ≡ Output → ⊥
       never (inl f) = fed_role N c f.1
@@ -193,11 +196,63 @@ module _ (t : Program) (wired : IsWellWired t) (lists : Lists) (c : ℕ) (x y : 
         by (inl s) = absurd (here a is (subst (Joins a) s j))
         by (inr n) = h.each p q d (subst (λ a. Joins a d) (sym is) j) (less d c (omega (arith, l)) n)
 
+    writer_end : (p o : ℕ) → actual_at (instance_at N p) o ≡ Writes c → Found first r y p o → Found rows w x p o → end_in (placed first r y) p o ≡ x
+    writer_end p o i (inl a) b = let e : Reads c ≡ Writes c = sym (only_passes (IsReader N c) r (side_at p o) oo a.0).1 ∙ i in absurd cc
+    writer_end p o i (inr a) (inl b) = a.1 ∙ b.1
+    writer_end p o i (inr a) (inr b) =
+        absurd (b.0 (only_one (IsWriter N c) w (side_at p o) ow (handed_within N p o c (subst (λ a. Joins a c) (sym i) refl), i)))
+
+    reader_end : (p q : ℕ) → actual_at (instance_at N p) q ≡ Reads c → Found first r y p q → end_in (placed first r y) p q ≡ y
+    reader_end p q i (inl a) = a.1
+    reader_end p q i (inr a) =
+        absurd (a.0 (only_one (IsReader N c) r (side_at p q) oo (handed_within N p q c (subst (λ a. Joins a c) (sym i) refl), i)))
+
+    -- the ends of another channel stay where they are
+    else_end : (p q d : ℕ) → Joins (actual_at (instance_at N p) q) d → (d ≡ c → ⊥) → Found first r y p q → Found rows w x p q →
+        end_in (placed first r y) p q ≡ end_in rows p q
+    else_end p q d j n (inl a) b =
+        absurd (n (sym (subst (λ z. Joins z d) (only_passes (IsReader N c) r (side_at p q) oo a.0).1 j)))
+    else_end p q d j n (inr a) (inl b) =
+        absurd (n (sym (subst (λ z. Joins z d) (only_passes (IsWriter N c) w (side_at p q) ow b.0).1 j)))
+    else_end p q d j n (inr a) (inr b) = a.1 ∙ b.1
+
+    -- a channel that is both written and read goes from process to process
+    is_inner : (p q s o : ℕ) → actual_at (instance_at N p) o ≡ Writes c → actual_at (instance_at N s) q ≡ Reads c → role_at N c ≡ Inner
+    is_inner p q s o i j = by (reads t wired s q c j)
+      where
+        by : IsFed N c → role_at N c ≡ Inner
+        by (inl f) = absurd ((writes t wired p o c i).1 f.1)
+        by (inr f) = f.4
+
+    both_ends : (p s o q d : ℕ) → actual_at (instance_at N p) o ≡ Writes d → actual_at (instance_at N s) q ≡ Reads d → d < c + 1 → (d ≡ c) ⊎ (d ≡ c → ⊥) →
+        ShareLane (end_in (placed first r y) p o) (end_in (placed first r y) s q)
+    both_ends p s o q d i j l (inl same) =
+        let i' : actual_at (instance_at N p) o ≡ Writes c = i ∙ ap Writes same in
+        let j' : actual_at (instance_at N s) q ≡ Reads c = j ∙ ap Reads same in
+        subst (λ z. ShareLane z (end_in (placed first r y) s q)) (sym (writer_end p o i' (found first r y place_r p o) (found rows w x place_w p o)))
+        (subst (λ z. ShareLane x z) (sym (reader_end s q j' (found first r y place_r s q))) (e.lane (is_inner p q s o i' j')))
+    both_ends p s o q d i j l (inr n) =
+        subst (λ z. ShareLane z (end_in (placed first r y) s q))
+        (sym (else_end p o d (subst (λ a. Joins a d) (sym i) refl) n (found first r y place_r p o) (found rows w x place_w p o)))
+        (subst (λ z. ShareLane (end_in rows p o) z)
+        (sym (else_end s q d (subst (λ a. Joins a d) (sym j) refl) n (found first r y place_r s q) (found rows w x place_w s q)))
+        (h.joined p s o q d i j (less d c l n)))
+      where
+        less : (d c : ℕ) → d < c + 1 → (d ≡ c → ⊥) → d < c
+        less d c l n = nearer d c (omega (arith, l)) n
+          where
+            nearer : (d c : ℕ) → d < suc c → (d ≡ c → ⊥) → d < c
+            nearer zero zero l o = absurd (o refl)
+            nearer zero (suc c) l o = omega arith
+            nearer (suc d) zero l o = absurd (omega (arith, l))
+            nearer (suc d) (suc c) l o = let b = nearer d c (omega (arith, l)) (λ e. o (ap suc e)) in omega (arith, b)
+
     pub handed_more : AreHanded t lists (c + 1) (placed first r y)
     handed_more = record {
       count = placed_count first r y ∙ placed_count rows w x ∙ h.count;
       sizes = λ p. placed_sizes first r y place_r p ∙ placed_sizes rows w x place_w p ∙ h.sizes p;
       each = λ p q d j l. at p q d j l (found first r y place_r p q) (found rows w x place_w p q);
+      joined = λ p s o q d i j l. both_ends p s o q d i j l (same_or d c);
       fresh = λ p q. new p q (found first r y place_r p q) (found rows w x place_w p q);
     }
       where

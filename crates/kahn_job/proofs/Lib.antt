@@ -3,3 +3,5 @@ pub mod Manned
 pub mod Handed
 pub mod Bare
 pub mod Begun
+pub mod Fed
+pub mod Crossing

@@ -8,7 +8,7 @@ use Rattle.kahn_code.specs.Seats.{Seat}
 use Rattle.kahn_code.specs.Standing.{count}
 use Rattle.kahn_code.specs.Told.{Told, IsAt, seat_of}
 use Rattle.kahn_job.specs.Ends.{End}
-use Rattle.kahn_job.specs.Berths.{Berth, AreServed, AreFlushed, HaveFlushed, end_at, seat_at}
+use Rattle.kahn_job.specs.Berths.{Berth, AreServed, AreFlushed, HaveFlushed, HaveStayed, end_at, seat_at}
 use Rattle.kahn_job.specs.Works.{Work, IsManned, IsJob, IsDelivered}
 use Rattle.kahn_job.proofs.Berthed.{serves_written}
 
@@ -24,6 +24,17 @@ is_job c b m h = record { here = m.here; served = served_cell c b m h; at = m.at
 -- a flush leaves the ends where they stand
 pub manned_flushed : (c : Told) (b b' : Berth) → IsManned c b → seat_at b' ≡ seat_at b → HaveFlushed b.ends b'.ends → IsManned c b'
 manned_flushed c b b' m same h = record {
+  seat = same ∙ m.seat;
+  here = m.here;
+  at = record {
+    reads = λ q d e. (h.each q).next ∙ m.at.reads q d e;
+    writes = λ q d e inner. (h.each q).next ∙ m.at.writes q d e inner;
+  };
+}
+
+-- so does a meeting
+pub manned_stayed : (c : Told) (b b' : Berth) → IsManned c b → seat_at b' ≡ seat_at b → HaveStayed b.ends b'.ends → IsManned c b'
+manned_stayed c b b' m same h = record {
   seat = same ∙ m.seat;
   here = m.here;
   at = record {

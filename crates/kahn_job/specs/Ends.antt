@@ -1,5 +1,5 @@
 -- What contracts see of the end of a channel that a parameter has.
-use Rattle.std.specs.Prelude.{◌≡◌, ◌⊎◌, ℕ, ◌<◌, ◌≤◌, Bool, true, Option}
+use Rattle.std.specs.Prelude.{◌≡◌, ◌⊎◌, ℕ, ◌<◌, ◌≤◌, Bool, true, Option, Some}
 use Rattle.std.specs.declared.alloc.Global.{Global}
 use Rattle.kahn_lane.specs.Places.{Named}
 
@@ -25,12 +25,30 @@ pub record End : Type 0 where
   pub filled : ℕ
   pub capacity : ℕ
 
+-- what of an end never changes
+pub record Identity : Type 0 where
+  pub reads : Bool
+  pub writes : Bool
+  pub lane : Option Lane
+  pub name : Named
+
+abbrev pub identity_of : End → Identity
+identity_of e = record { reads = e.reads; writes = e.writes; lane = e.lane; name = e.name }
+
 -- it is the same end, of the same channel
 pub record IsSame (old new : End) : Type 0 where
   pub reads : new.reads ≡ old.reads
   pub writes : new.writes ≡ old.writes
   pub lane : new.lane ≡ old.lane
   pub name : new.name ≡ old.name
+
+-- they are the two ends of one lane
+abbrev pub ShareLane : End → End → Type 0
+ShareLane a b = (l : Lane) × (a.lane ≡ Some l) × (b.lane ≡ Some l)
+
+-- nothing that was flushed is taken back, and no more is flushed than was put
+abbrev pub Advances : End → End → Type 0
+Advances old new = (old.flushed ≤ new.flushed) × (new.flushed ≤ new.next)
 
 -- the next take gives a token
 abbrev pub IsReady : End → Type 0

@@ -1,13 +1,13 @@
 //! A job: one process of a network on its way, with the ends of its channels.
 
-ghost use Rattle.std.specs.Prelude.{◌≡◌, ◌+◌, ◌*◌, ◌^◌, ◌<◌, ◌≤◌, length, map, slice_index_or, OnOk};
+ghost use Rattle.std.specs.Prelude.{◌≡◌, ◌+◌, ◌*◌, ◌^◌, ◌<◌, ◌≤◌, true, length, map, slice_index_or, OnOk};
 ghost use Rattle.kahn_check.specs.Network.{network_of, instance_at};
 ghost use Rattle.kahn_streams.specs.Tokens.{inputs_of};
 ghost use Rattle.kahn_code.specs.Flat.{stmt_code};
 ghost use Rattle.kahn_code.specs.Progress.{Paused, IsPause};
-ghost use Rattle.kahn_code.specs.Told.{told_view, IsStill};
-ghost use Rattle.kahn_job.specs.Ends.{IsDry, IsReady};
-ghost use Rattle.kahn_job.specs.Berths.{HaveFlushed, end_at};
+ghost use Rattle.kahn_code.specs.Told.{AreCounts, told_view, IsStill};
+ghost use Rattle.kahn_job.specs.Ends.{IsDry, IsReady, ShareLane};
+ghost use Rattle.kahn_job.specs.Berths.{HaveAdvanced, HaveFlushed, HaveStayed, IsFed, end_at};
 ghost use Rattle.kahn_job.specs.Works.{IsDelivered, IsJob, IsManned};
 
 use crate::ports::Ends;
@@ -62,6 +62,8 @@ impl<'n> Job<'n> {
         ensures events { (self.old.cell.events ≤ self.new.cell.events) × (self.new.cell.events ≤ self.old.cell.events + quantum) }
         // Where no event was done, counts and lists are as before.
         ensures still { self.new.cell.events ≡ self.old.cell.events → IsStill self.old.cell self.new.cell }
+        // The ends are the same, and what was flushed stays so.
+        ensures ends { HaveAdvanced self.old.ends self.new.ends }
         // How many instructions were executed.
         ensures cost { steps.new ≤ steps.old + (quantum + 1) * length (stmt_code (instance_at (network_of self.old.cell.network) self.old.cell.instance).body) }
     {
@@ -80,11 +82,58 @@ impl<'n> Job<'n> {
         flushed
     }
 
+    /// With the job of its reader in one thread: how many tokens were flushed on an output and not taken. Both jobs stay as
+    /// they are, but for what the reader knows: all that were flushed. It takes no memory.
+    pub fn meet(&mut self, output: usize, reader: &mut Job<'n>, input: usize) -> u64
+        requires writes { (end_at self.old.ends output).writes ≡ true }
+        requires reads { (end_at reader.old.ends input).reads ≡ true }
+        requires lane { ShareLane (end_at self.old.ends output) (end_at reader.old.ends input) }
+        ensures cells { (self.new.cell ≡ self.old.cell) × (reader.new.cell ≡ reader.old.cell) }
+        ensures writer { HaveStayed self.old.ends self.new.ends }
+        ensures reader { HaveStayed reader.old.ends reader.new.ends }
+        ensures known { (end_at reader.new.ends input).known ≡ (end_at self.old.ends output).flushed }
+        ensures count { (end_at reader.old.ends input).next + result ≡ (end_at self.old.ends output).flushed }
+        ensures held { (end_at reader.old.ends input).waiting ≤ result }
+    {
+        self.ends.meet(output, &mut reader.ends, input)
+    }
+
+    /// The same, where it reads what it writes.
+    pub fn meet_self(&mut self, output: usize, input: usize) -> u64
+        requires apart { output ≡ input → ⊥ }
+        requires writes { (end_at self.old.ends output).writes ≡ true }
+        requires reads { (end_at self.old.ends input).reads ≡ true }
+        requires lane { ShareLane (end_at self.old.ends output) (end_at self.old.ends input) }
+        ensures cell { self.new.cell ≡ self.old.cell }
+        ensures ends { HaveStayed self.old.ends self.new.ends }
+        ensures known { (end_at self.new.ends input).known ≡ (end_at self.old.ends output).flushed }
+        ensures count { (end_at self.old.ends input).next + result ≡ (end_at self.old.ends output).flushed }
+        ensures held { (end_at self.old.ends input).waiting ≤ result }
+    {
+        self.ends.meet_self(output, input)
+    }
+
     /// Says that the ends are those of its cell's channels, and stand where the cell stands: its contract is what it does.
     pub fn manned(&self)
         ensures { IsJob self.now }
     {
         self.ends.served();
+    }
+
+    /// Says that of an input channel no more is ready on a parameter than its list has: its contract is what it does.
+    pub fn fed(&self, parameter: usize)
+        requires { parameter < length self.now.ends }
+        ensures { IsFed (end_at self.now.ends parameter) }
+    {
+        self.ends.fed(parameter);
+    }
+
+    /// Says that its cell's counts are those of its parameters, and that none is greater than its events: its contract is
+    /// what it does.
+    pub fn sized(&self)
+        ensures { AreCounts self.now.cell }
+    {
+        self.cell.sized();
     }
 
     /// The number of its events.

@@ -8,6 +8,7 @@ pub mod opening;
 mod port;
 pub mod ports;
 mod rows;
+pub mod sends;
 
 pub use fault::JobFault;
 pub use job::Job;

@@ -1,10 +1,9 @@
 //! The jobs of a network before their first events.
 
-ghost use Rattle.std.specs.Prelude.{◌≡◌, ◌<◌, ℕ, length, IfOk};
+ghost use Rattle.std.specs.Prelude.{◌≡◌, ◌<◌, length, IfOk};
 ghost use Rattle.kahn_check.specs.Network.{network_of};
 ghost use Rattle.kahn_streams.specs.Tokens.{Lists};
-ghost use Rattle.kahn_job.specs.Berths.{end_at};
-ghost use Rattle.kahn_job.specs.Openings.{AreOpening, IsFresh, IsOpening, IsReadyRow};
+ghost use Rattle.kahn_job.specs.Openings.{AreOpening, IsOpening, IsReadyRow};
 
 use crate::fault::JobFault;
 use crate::job::Job;
@@ -63,7 +62,7 @@ fn opening_job<'n>(
     requires code { code.now.network.value ≡ network.now }
     requires here { instance < length (network_of network.now).instances }
     requires row { IsReadyRow network.now input.now instance row }
-    ensures { IfOk result (λ job. IsOpening network.now input.now watch instance job.cell × ((q : ℕ) → IsFresh (end_at job.ends q))) }
+    ensures { IfOk result (λ job. IsOpening network.now input.now watch instance job.cell × (job.ends ≡ row.entry)) }
 {
     let cell = opening_cell(alloc, network, code, instance, watch, input)?;
     let ends = Ends::new(network, input, instance, row.into_ports());
@@ -80,7 +79,7 @@ pub fn jobs<'n>(
     watch: Option<usize>,
 ) -> Result<Vec<Job<'n>>, JobFault>
     requires { code.now.network.value ≡ network.now }
-    ensures { IfOk result (λ jobs. AreOpening network.now input.now watch jobs.items (length (network_of network.now).instances)) }
+    ensures { IfOk result (λ jobs. AreOpening network.now input.now watch jobs.items) }
 {
     let _program = network.program();
     let mut rows = all_rows(alloc, network, input)?;

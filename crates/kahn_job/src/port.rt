@@ -1,15 +1,17 @@
 //! The end of a channel that a parameter has.
 
-ghost use Rattle.std.specs.Prelude.{◌≡◌, ◌⊎◌, ◌<◌, ◌+◌, ◌^◌, true, length, Some, IfSome, IfNone, IsSome, IsTrue, IsFalse, OnOk, MatchResult};
+ghost use Rattle.std.specs.Prelude.{◌≡◌, ◌⊎◌, ◌<◌, ◌≤◌, ◌+◌, ◌^◌, true, length, Some, IfSome, IfNone, IsSome, IsTrue, IsFalse, OnOk, MatchResult};
 ghost use Rattle.kahn_check.specs.Network.{network_of, role_at};
+ghost use Rattle.kahn_lane.specs.LaneEnds.{SameSender, flushed, sender_lane, sent};
 ghost use Rattle.kahn_lane.specs.Places.{token_name};
 ghost use Rattle.kahn_syntax.specs.declared.tree.Role.TheVariants.{Input as InputRole};
-ghost use Rattle.kahn_job.specs.Ends.{IsSame, IsReady, IsDry, HasRoom, IsFlushed};
+ghost use Rattle.kahn_job.specs.Ends.{Advances, IsSame, IsReady, IsDry, HasRoom, IsFlushed, ShareLane};
+ghost use Rattle.kahn_job.specs.Berths.{HasStayed, IsFed};
 ghost use Rattle.kahn_job.specs.Ways.{taking, feeding, putting, nothing};
 
 use crate::feed::Feed;
 use kahn_check::network::Network;
-use kahn_lane::{Receiver, Sender};
+use kahn_lane::{Receiver, Sender, meet};
 use kahn_streams::input::Input;
 use kahn_streams::memory::NoMemory;
 use kahn_streams::token::Token;
@@ -87,6 +89,7 @@ impl<'n> Port<'n> {
     pub(crate) fn ready(&mut self) -> bool
         requires { self.old.reads ≡ true }
         ensures same { IsSame self.old self.new }
+        ensures advances { Advances self.old self.new }
         ensures counts { (self.new.next ≡ self.old.next) × (self.new.known ≡ self.old.known) }
         ensures yes { IsTrue result → IsReady self.new }
         ensures dry { IsFalse result → IsDry self.new }
@@ -104,6 +107,7 @@ impl<'n> Port<'n> {
         requires reads { self.old.reads ≡ true }
         requires bound { self.old.next < 2 ^ 48 }
         ensures same { IsSame self.old self.new }
+        ensures advances { Advances self.old self.new }
         ensures known { self.new.known ≡ self.old.known }
         ensures token { IfSome result (λ t. (self.old.name ≡ Some (token_name t)) × (t.place ≡ self.old.next)) }
         ensures moved { IfSome result (λ _. self.new.next ≡ self.old.next + 1) }
@@ -122,6 +126,7 @@ impl<'n> Port<'n> {
     pub(crate) fn room(&mut self) -> Result<(), NoMemory>
         requires { self.old.writes ≡ true }
         ensures same { IsSame self.old self.new }
+        ensures advances { Advances self.old self.new }
         ensures counts { (self.new.next ≡ self.old.next) × ((self.new.flushed ≡ self.old.flushed) ⊎ (self.new.flushed ≡ self.old.next)) }
         ensures room { OnOk result (HasRoom self.new) }
     {
@@ -140,6 +145,7 @@ impl<'n> Port<'n> {
         requires room { HasRoom self.old }
         requires token { (self.old.name ≡ Some (token_name token)) × (token.place ≡ self.old.next) }
         ensures same { IsSame self.old self.new }
+        ensures advances { Advances self.old self.new }
         ensures moved { (self.new.next ≡ self.old.next + 1) × (self.new.flushed ≡ self.old.flushed) }
     {
         match &mut self.way {
@@ -153,8 +159,10 @@ impl<'n> Port<'n> {
     /// Flushes what was put, so that the reader can take it. A refusal leaves the tokens in the open segment.
     pub(crate) fn flush(&mut self) -> Result<(), NoMemory>
         ensures same { IsSame self.old self.new }
+        ensures advances { Advances self.old self.new }
         ensures counts { (self.new.next ≡ self.old.next) × (self.new.known ≡ self.old.known) }
         ensures flushed { MatchResult result (λ _. IsFlushed self.new) (λ _. self.new.flushed ≡ self.old.flushed) }
+        ensures all { (self.new.flushed ≡ self.old.flushed) ⊎ (self.new.flushed ≡ self.new.next) }
     {
         match &mut self.way {
             Way::Takes(_) => {}
@@ -165,6 +173,52 @@ impl<'n> Port<'n> {
             Way::Nothing => {}
         }
         Ok(())
+    }
+
+    /// With the reader's end of its lane in one thread: how many tokens were flushed and not taken. The reader knows then
+    /// of all that were flushed. It takes no memory.
+    pub(crate) fn meet(&mut self, reader: &mut Port<'n>) -> u64
+        requires writes { self.old.writes ≡ true }
+        requires reads { reader.old.reads ≡ true }
+        requires lane { ShareLane self.old reader.old }
+        ensures writer { HasStayed self.old self.new }
+        ensures reader { HasStayed reader.old reader.new }
+        ensures known { reader.new.known ≡ self.old.flushed }
+        ensures count { reader.old.next + result ≡ self.old.flushed }
+        ensures held { reader.old.waiting ≤ result }
+    {
+        match &mut self.way {
+            Way::Takes(_) => unreachable!(),
+            Way::Feeds(_) => unreachable!(),
+            Way::Puts(sender) => reader.meet_sender(sender),
+            Way::Nothing => unreachable!(),
+        }
+    }
+
+    // The same, where this is the reader's end.
+    fn meet_sender(&mut self, sender: &mut Sender) -> u64
+        requires reads { self.old.reads ≡ true }
+        requires lane { self.old.lane ≡ Some (sender_lane sender.old) }
+        ensures writer { SameSender sender.old sender.new × (sent sender.new ≡ sent sender.old) × (flushed sender.new ≡ flushed sender.old) }
+        ensures reader { HasStayed self.old self.new }
+        ensures known { self.new.known ≡ flushed sender.old }
+        ensures count { self.old.next + result ≡ flushed sender.old }
+        ensures held { self.old.waiting ≤ result }
+    {
+        match &mut self.way {
+            Way::Takes(receiver) => meet(sender, receiver),
+            Way::Feeds(_) => unreachable!(),
+            Way::Puts(_) => unreachable!(),
+            Way::Nothing => unreachable!(),
+        }
+    }
+
+    /// Says that of an input channel no more is ready than its list has: its contract is what it does.
+    #[tactic(auto, using(crate::proofs::Fed::fed))]
+    pub(crate) fn fed(&self)
+        ensures { IsFed self.now }
+    {
+        let _way = &self.way;
     }
 
     /// The place of the next token. It takes no memory.

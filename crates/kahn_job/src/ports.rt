@@ -1,7 +1,8 @@
 //! The ends of the channels of an instance.
 
-ghost use Rattle.std.specs.Prelude.{◌≡◌, ◌<◌, length, OnOk};
-ghost use Rattle.kahn_job.specs.Berths.{AreFlushed, AreServed, HaveFlushed, end_at, seat_at};
+ghost use Rattle.std.specs.Prelude.{◌≡◌, ◌<◌, ◌≤◌, ◌+◌, true, length, OnOk};
+ghost use Rattle.kahn_job.specs.Berths.{AreFlushed, AreServed, HaveFlushed, HaveStayed, IsFed, end_at, seat_at};
+ghost use Rattle.kahn_job.specs.Ends.{ShareLane};
 
 use crate::port::Port;
 use kahn_check::network::Network;
@@ -10,6 +11,7 @@ use kahn_streams::input::Input;
 use kahn_streams::memory::NoMemory;
 use kahn_streams::token::Token;
 use std::marker::Model;
+use std::mem;
 
 /// The ends of the channels of an instance, one for each parameter. What the instance reads it takes from a lane or from
 /// the list of an input channel; what it writes it puts into a lane. Nothing is put on an output channel.
@@ -37,14 +39,21 @@ impl<'n> Model for Ends<'n> {
 }
 
 impl<'n> Ports for Ends<'n> {
-    ghost use Rattle.kahn_job.specs.Berths.{seat_at, end_at};
-    ghost use Rattle.kahn_job.specs.Ends.{IsReady, IsDry, HasRoom};
+    ghost use Rattle.std.specs.Prelude.{List};
+    ghost use Rattle.kahn_job.specs.Berths.{seat_at, end_at, identities};
+    ghost use Rattle.kahn_job.specs.Ends.{Identity, IsReady, IsDry, HasRoom};
 
     ghost seat = { seat_at };
 
     ghost next = { λ s q. (end_at s.ends q).next };
 
     ghost others = { λ s p q. 0 };
+
+    ghost Identity = { List Identity };
+
+    ghost which = { λ s. identities s.ends };
+
+    ghost delivered = { λ s q. (end_at s.ends q).flushed };
 
     ghost is_ready = { λ s q. IsReady (end_at s.ends q) };
 
@@ -105,6 +114,45 @@ impl<'n> Ends<'n> {
         let _instance = self.instance;
     }
 
+    /// With the ends of its reader in one thread: how many tokens were flushed on an output and not taken. It takes no
+    /// memory.
+    pub(crate) fn meet(&mut self, output: usize, reader: &mut Ends<'n>, input: usize) -> u64
+        requires writes { (end_at self.old.ends output).writes ≡ true }
+        requires reads { (end_at reader.old.ends input).reads ≡ true }
+        requires lane { ShareLane (end_at self.old.ends output) (end_at reader.old.ends input) }
+        ensures seats { (seat_at self.new ≡ seat_at self.old) × (seat_at reader.new ≡ seat_at reader.old) }
+        ensures writer { HaveStayed self.old.ends self.new.ends }
+        ensures reader { HaveStayed reader.old.ends reader.new.ends }
+        ensures known { (end_at reader.new.ends input).known ≡ (end_at self.old.ends output).flushed }
+        ensures count { (end_at reader.old.ends input).next + result ≡ (end_at self.old.ends output).flushed }
+        ensures held { (end_at reader.old.ends input).waiting ≤ result }
+    {
+        meet_at(&mut self.ports, output, &mut reader.ports, input)
+    }
+
+    /// The same, of an output that it reads itself.
+    pub(crate) fn meet_self(&mut self, output: usize, input: usize) -> u64
+        requires apart { output ≡ input → ⊥ }
+        requires writes { (end_at self.old.ends output).writes ≡ true }
+        requires reads { (end_at self.old.ends input).reads ≡ true }
+        requires lane { ShareLane (end_at self.old.ends output) (end_at self.old.ends input) }
+        ensures seat { seat_at self.new ≡ seat_at self.old }
+        ensures ends { HaveStayed self.old.ends self.new.ends }
+        ensures known { (end_at self.new.ends input).known ≡ (end_at self.old.ends output).flushed }
+        ensures count { (end_at self.old.ends input).next + result ≡ (end_at self.old.ends output).flushed }
+        ensures held { (end_at self.old.ends input).waiting ≤ result }
+    {
+        meet_within(&mut self.ports, output, input)
+    }
+
+    /// Says that of an input channel no more is ready on a parameter than its list has: its contract is what it does.
+    pub fn fed(&self, parameter: usize)
+        requires { parameter < length self.now.ends }
+        ensures { IsFed (end_at self.now.ends parameter) }
+    {
+        self.ports[parameter].fed();
+    }
+
     /// How many tokens were flushed on a parameter. It takes no memory.
     pub fn flushed(&self, parameter: usize) -> u64
         requires { parameter < length self.now.ends }
@@ -112,6 +160,42 @@ impl<'n> Ends<'n> {
     {
         self.ports[parameter].flushed()
     }
+}
+
+// A meeting of an end with one of another instance.
+fn meet_at<'n>(
+    writers: &mut [Port<'n>],
+    output: usize,
+    readers: &mut [Port<'n>],
+    input: usize,
+) -> u64
+    requires writes { (end_at writers.old output).writes ≡ true }
+    requires reads { (end_at readers.old input).reads ≡ true }
+    requires lane { ShareLane (end_at writers.old output) (end_at readers.old input) }
+    ensures writer { HaveStayed writers.old writers.new }
+    ensures reader { HaveStayed readers.old readers.new }
+    ensures known { (end_at readers.new input).known ≡ (end_at writers.old output).flushed }
+    ensures count { (end_at readers.old input).next + result ≡ (end_at writers.old output).flushed }
+    ensures held { (end_at readers.old input).waiting ≤ result }
+{
+    writers[output].meet(&mut readers[input])
+}
+
+// A meeting of two ends of one instance.
+fn meet_within<'n>(ports: &mut [Port<'n>], output: usize, input: usize) -> u64
+    requires apart { output ≡ input → ⊥ }
+    requires writes { (end_at ports.old output).writes ≡ true }
+    requires reads { (end_at ports.old input).reads ≡ true }
+    requires lane { ShareLane (end_at ports.old output) (end_at ports.old input) }
+    ensures ends { HaveStayed ports.old ports.new }
+    ensures known { (end_at ports.new input).known ≡ (end_at ports.old output).flushed }
+    ensures count { (end_at ports.old input).next + result ≡ (end_at ports.old output).flushed }
+    ensures held { (end_at ports.old input).waiting ≤ result }
+{
+    let mut reader = mem::replace(&mut ports[input], Port::nothing());
+    let waiting = ports[output].meet(&mut reader);
+    ports[input] = reader;
+    waiting
 }
 
 // Flushes each end, up to the first refusal.

@@ -1,6 +1,7 @@
-use Rattle.kahn_job.specs.Openings.{AreOpening}
-use Rattle.kahn_job.proofs.Begun.{AreLeft}
+use Rattle.kahn_job.proofs.Begun.{AreBegun, AreLeft}
 use Rattle.kahn_job.proofs.opening.jobs.Given as goal
 
 abbrev pub invariant-loop-instance : goal.invariant-loop-instance
-invariant-loop-instance l = AreLeft l.network l.input l.instance l.rows.items × AreOpening l.network l.input l.watch l.jobs.items l.instance
+invariant-loop-instance l =
+    AreLeft l.network l.input l.initial.rows.items l.instance l.rows.items
+    × AreBegun l.network l.input l.watch l.initial.rows.items l.jobs.items l.instance
