@@ -26,8 +26,8 @@ one_term f [] id v e h = absurd (some-ne-none v (sym e))
 one_term f (x ∷ xs) zero v e h = let rest_zero : total f xs ≡ 0 = none_left f xs (λ j u k. h (suc j) u (λ z. omega arith) k) in omega (arith, rest_zero, ap f (some-injective x v e))
 one_term f (x ∷ xs) (suc id) v e h = omega (arith, h 0 x (λ z. omega arith) refl, one_term f xs id v e (λ j u ne k. h (suc j) u (λ z. ne (omega arith)) k))
 
-module _ {T : Type 0} (told : T → Option Tale) (w : Wires) (d : Deal) where
-  module _ (s : St T) (a : Whole told w d s) (id : ℕ) (v : View) (me : get_elem? s.views id ≡ some v) (all : v.parts ≡ all_parts) (free : IsFree v) where
+module _ {T : Type 0} (told : T → Option Tale) (belongs : ℕ → T → Type 0) (w : Wires) (d : Deal) where
+  module _ (s : St T) (a : Whole told belongs w d s) (id : ℕ) (v : View) (me : get_elem? s.views id ≡ some v) (all : v.parts ≡ all_parts) (free : IsFree v) where
     others_spent : (j : ℕ) (u : View) → j ≢ id → get_elem? s.views j ≡ some u → u ≡ spent
     others_spent j u ne e = a.ruled.parts.none_spent j u e (omega (arith, terms_le (λ (k : View). k.parts) s.views id j v u ne me e, a.ruled.parts.all))
 
@@ -48,7 +48,7 @@ module _ {T : Type 0} (told : T → Option Tale) (w : Wires) (d : Deal) where
       (id, v, me, one),
     )
 
-    at_rest : (p : ℕ) (y : T) (x : Place) (cells : List (Option T)) → ((q : ℕ) (z : T) → q < w.instances → get_elem? cells q ≡ some (Some z) → IsHome s q z) → halted w s.words ≡ 0 → p < w.instances → IsHome s p y → a.place p ≡ x → is_up x ≡ 0 → IsAtRest told w d cells p y
+    at_rest : (p : ℕ) (y : T) (x : Place) (cells : List (Option T)) → ((q : ℕ) (z : T) → q < w.instances → get_elem? cells q ≡ some (Some z) → IsHome s q z) → halted w s.words ≡ 0 → p < w.instances → IsHome s p y → a.place p ≡ x → is_up x ≡ 0 → IsAtRest told belongs w d cells p y
     at_rest p y ready cells back not_halted inside home is z = absurd (omega arith)
     at_rest p y (held j) cells back not_halted inside home is z = absurd (omega arith)
     at_rest p y (parked c) cells back not_halted inside home is z = let t = a.ruled.parking.reads p c inside is in
@@ -66,10 +66,10 @@ module _ {T : Type 0} (told : T → Option Tale) (w : Wires) (d : Deal) where
     at_rest p y over cells back not_halted inside home is z = inl (a.ruled.parking.ends p y inside is home)
 
     pub by_done : (cells : List (Option T)) → ((q : ℕ) (z : T) → q < w.instances → get_elem? cells q ≡ some (Some z) → IsHome s q z) → v.stage ≡ 1
-        → (halted w s.words ≢ 0) ⊎ ((budget w s.words ≡ 0) ⊎ ((p : ℕ) (y : T) → p < w.instances → get_elem? cells p ≡ some (Some y) → IsAtRest told w d cells p y))
+        → (halted w s.words ≢ 0) ⊎ ((budget w s.words ≡ 0) ⊎ ((p : ℕ) (y : T) → p < w.instances → get_elem? cells p ≡ some (Some y) → IsAtRest told belongs w d cells p y))
     by_done cells back one = dite (ℕ_discrete (halted w s.words) 0)
         (λ not_halted. ⊎_elim (λ h. absurd (h not_halted)) (λ t. ⊎_elim
-        (λ quiet_now. inr (inr (λ p y inside there. at_rest p y (a.place p) cells back not_halted inside (back p y inside there) refl ((quiet_here told w d s a.place a.ruled a.reckoned.counted quiet_now).0 p inside))))
+        (λ quiet_now. inr (inr (λ p y inside there. at_rest p y (a.place p) cells back not_halted inside (back p y inside there) refl ((quiet_here told belongs w d s a.place a.ruled a.reckoned.counted quiet_now).0 p inside))))
         (λ h. inr (inl h.0)) t) (a.reckoned.leaving.left (all_left one)))
         (λ ne. inl ne)
 
@@ -78,19 +78,20 @@ read_as [] i a e = absurd (some-ne-none a (sym e))
 read_as (x ∷ xs) zero a e = some-injective x a e
 read_as (x ∷ xs) (suc i) a e = read_as xs i a e
 
-module _ {T : Type 0} (told : T → Option Tale) (w : Wires) (d : Deal) where
-  pub closes : (s : St T) (a : Whole told w d s) (id : ℕ) (v : View) → get_elem? s.views id ≡ some v → v.parts ≡ all_parts → IsFree v → (ws : List ℕ) (xs cells : List (Option T)) → s.words ≡ ws → length s.homes ≡ length xs
+module _ {T : Type 0} (told : T → Option Tale) (belongs : ℕ → T → Type 0) (w : Wires) (d : Deal) where
+  pub closes : (s : St T) (a : Whole told belongs w d s) (id : ℕ) (v : View) → get_elem? s.views id ≡ some v → v.parts ≡ all_parts → IsFree v → (ws : List ℕ) (xs cells : List (Option T)) → s.words ≡ ws → length s.homes ≡ length xs
       → ((k : ℕ) (y : Option T) → get_elem? s.homes k ≡ some (some y) → get_elem? xs k ≡ some y) → cells ≡ xs → (i j b h : ℕ) → i ≡ 8 * (w.instances + w.channels) → j ≡ 8 * (w.instances + w.channels) + 16 → get_elem? ws i ≡ some b → get_elem? ws j ≡ some h
-      → (flag : Bool) → (h ≢ 0 → flag ≡ true) → Closes told w d cells v b flag
+      → (flag : Bool) → (h ≢ 0 → flag ≡ true) → Closes told belongs w d cells v b flag
   closes s a id v me all free ws xs cells words long values same i j b h at_i at_j reads_b reads_h flag flags =
-      let home = all_home told w s a.place a.ruled id v me all free.0 in
+      let home = all_home told belongs w s a.place a.ruled id v me all free.0 in
       let there : (p : ℕ) (y : T) → IsHome s p y → get_elem? cells p ≡ some (Some y) = λ p y e. ap (λ (l : List (Option T)). get_elem? l p) same ∙ values p (Some y) e in
       let back : (q : ℕ) (z : T) → q < w.instances → get_elem? cells q ≡ some (Some z) → IsHome s q z = λ q z near e. (let t = home q near in subst (λ (u : T). IsHome s q u) (same_some t.0 z (some-injective (Some t.0) (Some z) (sym (there q t.0 t.1) ∙ e))) t.1) in
       let b_is : budget w s.words ≡ b = ap (λ (k : ℕ). get_or s.words k 0) (sym at_i) ∙ (ap (λ (l : List ℕ). get_or l i 0) words ∙ read_as ws i b reads_b) in
       let h_is : halted w s.words ≡ h = ap (λ (k : ℕ). get_or s.words k 0) (sym at_j) ∙ (ap (λ (l : List ℕ). get_or l j 0) words ∙ read_as ws j h reads_h) in record {
         each = (ap length same ∙ (sym long ∙ a.ruled.deep), λ p near. (let t = home p near in (t.0, there p t.0 t.1)));
-        budget_is = omega (arith, budget_left told w d s a id v me all free, b_is);
-        events = (a.reckoned.tally, (λ p y near e. a.reckoned.budgeted.tells p y near (back p y near e)), events_left told w d s a id v me all free);
+        belonging = λ p y near e. a.reckoned.lasting.belonging p y near (back p y near e);
+        budget_is = omega (arith, budget_left told belongs w d s a id v me all free, b_is);
+        events = (a.reckoned.tally, (λ p y near e. a.reckoned.budgeted.tells p y near (back p y near e)), events_left told belongs w d s a id v me all free);
         halt_seen = λ two. flags (λ z. a.reckoned.lasting.saw_halted id v me two (h_is ∙ z));
-        by_done = λ one. ⊎_elim (λ ne. inl (flags (λ z. ne (h_is ∙ z)))) (λ t. ⊎_elim (λ z. inr (inl (sym b_is ∙ z))) (λ f. inr (inr f)) t) (by_done told w d s a id v me all free cells back one);
+        by_done = λ one. ⊎_elim (λ ne. inl (flags (λ z. ne (h_is ∙ z)))) (λ t. ⊎_elim (λ z. inr (inl (sym b_is ∙ z))) (λ f. inr (inr f)) t) (by_done told belongs w d s a id v me all free cells back one);
       }

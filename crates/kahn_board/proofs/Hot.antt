@@ -33,28 +33,28 @@ up_small (held j) = omega arith
 up_small (parked c) = omega arith
 up_small over = omega arith
 
-module _ {T : Type 0} (told : T → Option Tale) (w : Wires) (d : Deal) where
+module _ {T : Type 0} (told : T → Option Tale) (belongs : ℕ → T → Type 0) (w : Wires) (d : Deal) where
   -- a step on such a word
-  at_hot : (s : St T) (a : Whole told w d s) (i k id : ℕ) (m : Sat T) (v : View) → get_elem? s.views id ≡ some m.0 → Fit told w m → 8 * (w.instances + w.channels) ≤ i → v.parts ≡ m.0.parts → v.hands ≡ m.0.hands → v.flushed ≡ m.0.flushed
-      → Idle told w d s m.0 v (set s.words i k) → Whole told w d (stepped s i k id m.1 v keeps)
+  at_hot : (s : St T) (a : Whole told belongs w d s) (i k id : ℕ) (m : Sat T) (v : View) → get_elem? s.views id ≡ some m.0 → Fit told w m → 8 * (w.instances + w.channels) ≤ i → v.parts ≡ m.0.parts → v.hands ≡ m.0.hands → v.flushed ≡ m.0.flushed
+      → Idle told belongs w d s m.0 v (set s.words i k) → Whole told belongs w d (stepped s i k id m.1 v keeps)
   at_hot s a i k id m v me fit past parts hands flushed idle = record {
     place = a.place;
     ruled = stays told w s a.place a.ruled (set s.words i k) id m v me fit parts hands flushed (length-set s.words i k) (λ q h. get_or-set_other s.words i (8 * q) k 0 (λ e. omega arith));
-    reckoned = idles told w d s a.place a.reckoned id m.0 v (set s.words i k) me idle;
+    reckoned = idles told belongs w d s a.place a.reckoned id m.0 v (set s.words i k) me idle;
   }
 
   -- a load
-  at_load : (s : St T) (a : Whole told w d s) (i id : ℕ) (m : Sat T) (v : View) → get_elem? s.views id ≡ some m.0 → Fit told w m → v.parts ≡ m.0.parts → v.hands ≡ m.0.hands → v.flushed ≡ m.0.flushed
-      → Idle told w d s m.0 v s.words → Whole told w d (stepped s i (get_or s.words i 0) id m.1 v keeps)
-  at_load s a i id m v me fit parts hands flushed idle = subst (λ (l : List ℕ). Whole told w d (state told w l s.homes (set s.views id v))) (sym (set-get_or s.words i 0)) record {
+  at_load : (s : St T) (a : Whole told belongs w d s) (i id : ℕ) (m : Sat T) (v : View) → get_elem? s.views id ≡ some m.0 → Fit told w m → v.parts ≡ m.0.parts → v.hands ≡ m.0.hands → v.flushed ≡ m.0.flushed
+      → Idle told belongs w d s m.0 v s.words → Whole told belongs w d (stepped s i (get_or s.words i 0) id m.1 v keeps)
+  at_load s a i id m v me fit parts hands flushed idle = subst (λ (l : List ℕ). Whole told belongs w d (state told w l s.homes (set s.views id v))) (sym (set-get_or s.words i 0)) record {
     place = a.place;
     ruled = stays told w s a.place a.ruled s.words id m v me fit parts hands flushed refl (λ q h. refl);
-    reckoned = idles told w d s a.place a.reckoned id m.0 v s.words me idle;
+    reckoned = idles told belongs w d s a.place a.reckoned id m.0 v s.words me idle;
   }
 
   -- what a look sees, where it is true
-  sights : (s : St T) (a : Whole told w d s) (i id : ℕ) (m : Sat T) (seen r : ℕ) → get_elem? s.views id ≡ some m.0 → Fit told w m → (seen ≡ 1 → count w s.words ≡ 0) → (seen ≡ 2 → halted w s.words ≢ 0)
-      → (halted w s.words ≢ 0) ⊎ ((count w s.words ≡ 0) ⊎ (budget w s.words ≡ 0)) → Whole told w d (stepped s i (get_or s.words i 0) id m.1 (saw m.0 seen (leaves_as m.0) r) keeps)
+  sights : (s : St T) (a : Whole told belongs w d s) (i id : ℕ) (m : Sat T) (seen r : ℕ) → get_elem? s.views id ≡ some m.0 → Fit told w m → (seen ≡ 1 → count w s.words ≡ 0) → (seen ≡ 2 → halted w s.words ≢ 0)
+      → (halted w s.words ≢ 0) ⊎ ((count w s.words ≡ 0) ⊎ (budget w s.words ≡ 0)) → Whole told belongs w d (stepped s i (get_or s.words i 0) id m.1 (saw m.0 seen (leaves_as m.0) r) keeps)
   sights s a i id m seen r me fit quiet_is halted_is stopped = at_load s a i id m (saw m.0 seen (leaves_as m.0) r) me fit refl refl refl record {
     hands_same = refl;
     got_same = refl;
@@ -71,33 +71,33 @@ module _ {T : Type 0} (told : T → Option Tale) (w : Wires) (d : Deal) where
     leaves = λ h. (let free = leaves_free m.0 h in omega arith, stopped);
   }
 
-  pub looks_halted : (n id : ℕ) (m : Sat T) (i : ℕ) → Fit told w m → i ≡ 8 * (w.instances + w.channels) + 16 → Allows (Whole told w d) n id m i (λ y. y) (sees_halted (step n i 0 0 none) m)
+  pub looks_halted : (n id : ℕ) (m : Sat T) (i : ℕ) → Fit told w m → i ≡ 8 * (w.instances + w.channels) + 16 → Allows (Whole told belongs w d) n id m i (λ y. y) (sees_halted (step n i 0 0 none) m)
   looks_halted n id m i fit at s a wide me _ = let r : ℕ = get_or s.words i 0 in let is : r ≡ halted w s.words = ap (λ (k : ℕ). get_or s.words k 0) at in
       dite (ℕ_discrete r 0)
-      (λ z. (noted m.0 r, keeps, tt, unchanged told w d s a i id m r me fit, ((λ ne. absurd (ne z)), λ _. ((λ two. a.reckoned.lasting.saw_halted id m.0 me two (sym is ∙ z)), refl))))
+      (λ z. (noted m.0 r, keeps, tt, unchanged told belongs w d s a i id m r me fit, ((λ ne. absurd (ne z)), λ _. ((λ two. a.reckoned.lasting.saw_halted id m.0 me two (sym is ∙ z)), refl))))
       (λ ne. let yes : halted w s.words ≢ 0 = (λ z. ne (is ∙ z)) in
       (saw m.0 2 (leaves_as m.0) r, keeps, tt, sights s a i id m 2 r me fit (λ e. absurd (omega (arith, e))) (λ _. yes) (inl yes), ((λ _. refl), λ z. absurd (ne z))))
 
-  pub looks_count : (n id : ℕ) (m : Sat T) (i : ℕ) → Fit told w m → i ≡ 8 * (w.instances + w.channels) + 8 → Allows (Whole told w d) n id m i (λ y. y) (sees_count (step n i 0 0 none) m)
+  pub looks_count : (n id : ℕ) (m : Sat T) (i : ℕ) → Fit told w m → i ≡ 8 * (w.instances + w.channels) + 8 → Allows (Whole told belongs w d) n id m i (λ y. y) (sees_count (step n i 0 0 none) m)
   looks_count n id m i fit at s a wide me _ = let r : ℕ = get_or s.words i 0 in let is : r ≡ count w s.words = ap (λ (k : ℕ). get_or s.words k 0) at in
       dite (ℕ_discrete r 0)
       (λ z. let yes : count w s.words ≡ 0 = sym is ∙ z in
       (saw m.0 1 (leaves_as m.0) r, keeps, tt, sights s a i id m 1 r me fit (λ _. yes) (λ e. absurd (omega (arith, e))) (inr (inl yes)), ((λ _. refl), λ ne. absurd (ne z))))
-      (λ ne. (noted m.0 r, keeps, tt, unchanged told w d s a i id m r me fit, ((λ z. absurd (ne z)), λ _. ((λ one. ne (is ∙ a.reckoned.lasting.saw_quiet id m.0 me one)), refl))))
+      (λ ne. (noted m.0 r, keeps, tt, unchanged told belongs w d s a i id m r me fit, ((λ z. absurd (ne z)), λ _. ((λ one. ne (is ∙ a.reckoned.lasting.saw_quiet id m.0 me one)), refl))))
 
-  pub looks_budget : (n id : ℕ) (m : Sat T) (i : ℕ) → Fit told w m → i ≡ 8 * (w.instances + w.channels) → Allows (Whole told w d) n id m i (λ y. y) (sees_budget (step n i 0 0 none) m)
+  pub looks_budget : (n id : ℕ) (m : Sat T) (i : ℕ) → Fit told w m → i ≡ 8 * (w.instances + w.channels) → Allows (Whole told belongs w d) n id m i (λ y. y) (sees_budget (step n i 0 0 none) m)
   looks_budget n id m i fit at s a wide me _ = let r : ℕ = get_or s.words i 0 in let is : r ≡ budget w s.words = ap (λ (k : ℕ). get_or s.words k 0) at in
       dite (ℕ_discrete r 0)
       (λ z. (saw m.0 m.0.seen (leaves_as m.0) r, keeps, tt, sights s a i id m m.0.seen r me fit (a.reckoned.lasting.saw_quiet id m.0 me) (a.reckoned.lasting.saw_halted id m.0 me) (inr (inr (sym is ∙ z))), ((λ _. refl), λ ne. absurd (ne z))))
-      (λ ne. (noted m.0 r, keeps, tt, unchanged told w d s a i id m r me fit, ((λ z. absurd (ne z)), λ _. refl)))
+      (λ ne. (noted m.0 r, keeps, tt, unchanged told belongs w d s a i id m r me fit, ((λ z. absurd (ne z)), λ _. refl)))
 
-  pub notes : (n id : ℕ) (m : Sat T) (i : ℕ) → Fit told w m → Allows (Whole told w d) n id m i (λ y. y) (looked (step n i 0 0 none) m)
-  notes n id m i fit s a wide me _ = (noted m.0 (get_or s.words i 0), keeps, tt, unchanged told w d s a i id m (get_or s.words i 0) me fit, refl)
+  pub notes : (n id : ℕ) (m : Sat T) (i : ℕ) → Fit told w m → Allows (Whole told belongs w d) n id m i (λ y. y) (looked (step n i 0 0 none) m)
+  notes n id m i fit s a wide me _ = (noted m.0 (get_or s.words i 0), keeps, tt, unchanged told belongs w d s a i id m (get_or s.words i 0) me fit, refl)
 
   -- a step that moves events between the budget, the draw and those done
-  budgets : (s : St T) (a : Whole told w d s) (i k id : ℕ) (m : Sat T) (drawn done loose r : ℕ) → get_elem? s.views id ≡ some m.0 → Fit told w m → i ≡ 8 * (w.instances + w.channels) → k + drawn + done ≡ get_or s.words i 0 + m.0.drawn + m.0.done → loose + m.0.done ≡ m.0.loose + done
+  budgets : (s : St T) (a : Whole told belongs w d s) (i k id : ℕ) (m : Sat T) (drawn done loose r : ℕ) → get_elem? s.views id ≡ some m.0 → Fit told w m → i ≡ 8 * (w.instances + w.channels) → k + drawn + done ≡ get_or s.words i 0 + m.0.drawn + m.0.done → loose + m.0.done ≡ m.0.loose + done
       → (v : View) → v ≡ record { parts = m.0.parts; hands = m.0.hands; flushed = m.0.flushed; got = m.0.got; drawn = drawn; done = done; loose = loose; owed = m.0.owed; down = m.0.down; seen = m.0.seen; stage = 2; steps = m.0.steps + 1; found = r }
-      → Whole told w d (stepped s i k id m.1 v keeps)
+      → Whole told belongs w d (stepped s i k id m.1 v keeps)
   budgets s a i k id m drawn done loose r me fit at sum moved v is = let wide = a.ruled.wide in let ws = set s.words i k in
       let now : budget w ws ≡ k = ap (λ (j : ℕ). get_or ws j 0) (sym at) ∙ get_or-set_same s.words i k 0 (omega arith) in
       let was : budget w s.words ≡ get_or s.words i 0 = ap (λ (j : ℕ). get_or s.words j 0) (sym at) in
@@ -119,9 +119,9 @@ module _ {T : Type 0} (told : T → Option Tale) (w : Wires) (d : Deal) where
         leaves = λ h. absurd (omega (arith, ap (λ (u : View). u.stage) is));
       }
 
-  pub draws : (n id : ℕ) (m : Sat T) (i old new : ℕ) → Fit told w m → i ≡ 8 * (w.instances + w.channels) → new ≤ old → m.0.drawn ≡ 0 → Allows (Whole told w d) n id m i (λ y. either (eqb y old) new y) (drew (step n i old new none) m)
+  pub draws : (n id : ℕ) (m : Sat T) (i old new : ℕ) → Fit told w m → i ≡ 8 * (w.instances + w.channels) → new ≤ old → m.0.drawn ≡ 0 → Allows (Whole told belongs w d) n id m i (λ y. either (eqb y old) new y) (drew (step n i old new none) m)
   draws n id m i old new fit at less none_left s a wide me _ = let r : ℕ = get_or s.words i 0 in
-      exchanged r old new (Goes told w d s i id m (drew (step n i old new none) m))
+      exchanged r old new (Goes told belongs w d s i id m (drew (step n i old new none) m))
       (λ hit. (
         with_draw m.0 (old - new) r,
         keeps,
@@ -137,9 +137,9 @@ module _ {T : Type 0} (told : T → Option Tale) (w : Wires) (d : Deal) where
           (λ miss. absurd (miss hit)),
         ),
       ))
-      (λ miss. (noted m.0 r, keeps, tt, unchanged told w d s a i id m r me fit, ((λ hit. absurd (miss hit)), λ _. refl)))
+      (λ miss. (noted m.0 r, keeps, tt, unchanged told belongs w d s a i id m r me fit, ((λ hit. absurd (miss hit)), λ _. refl)))
 
-  pub gives_back : (n id : ℕ) (m : Sat T) (i k : ℕ) → Fit told w m → i ≡ 8 * (w.instances + w.channels) → k ≤ m.0.drawn → Allows (Whole told w d) n id m i (λ y. (y + k) % 2 ^ 64) (gave_back (step n i k 0 none) m)
+  pub gives_back : (n id : ℕ) (m : Sat T) (i k : ℕ) → Fit told w m → i ≡ 8 * (w.instances + w.channels) → k ≤ m.0.drawn → Allows (Whole told belongs w d) n id m i (λ y. (y + k) % 2 ^ 64) (gave_back (step n i k 0 none) m)
   gives_back n id m i k fit at less s a wide me _ = let r : ℕ = get_or s.words i 0 in let new : ℕ = (r + k) % 2 ^ 64 in let b = a.reckoned.budgeted in let small = b.small in let sum = b.adds_up in
       let mine = term_le (λ (v : View). v.drawn) s.views id m.0 me in
       let was : budget w s.words ≡ r = ap (λ (j : ℕ). get_or s.words j 0) (sym at) in
@@ -147,10 +147,10 @@ module _ {T : Type 0} (told : T → Option Tale) (w : Wires) (d : Deal) where
       (undrawn m.0 k r, keeps, tt, budgets s a i new id m 0 (m.0.done + (m.0.drawn - k)) (m.0.loose + (m.0.drawn - k)) r me fit at (omega arith) (omega arith) (undrawn m.0 k r) refl, refl)
 
   -- a step on the count
-  counts : (s : St T) (a : Whole told w d s) (i k id : ℕ) (m : Sat T) (v : View) → get_elem? s.views id ≡ some m.0 → Fit told w m → i ≡ 8 * (w.instances + w.channels) + 8
+  counts : (s : St T) (a : Whole told belongs w d s) (i k id : ℕ) (m : Sat T) (v : View) → get_elem? s.views id ≡ some m.0 → Fit told w m → i ≡ 8 * (w.instances + w.channels) + 8
       → k + length v.owed + m.0.down ≡ get_or s.words i 0 + length m.0.owed + v.down → Owes m.0.hands v.owed → v.down ≤ m.0.down → get_or s.words i 0 ≢ 0
       → v.parts ≡ m.0.parts → v.hands ≡ m.0.hands → v.flushed ≡ m.0.flushed → v.got ≡ m.0.got → v.drawn ≡ m.0.drawn → v.done ≡ m.0.done → v.loose ≡ m.0.loose → v.seen ≡ m.0.seen → v.stage ≡ 2
-      → Whole told w d (stepped s i k id m.1 v keeps)
+      → Whole told belongs w d (stepped s i k id m.1 v keeps)
   counts s a i k id m v me fit at sum pairs less some_left parts hands flushed got drawn done loose seen stage = let wide = a.ruled.wide in let ws = set s.words i k in
       let now : count w ws ≡ k = ap (λ (j : ℕ). get_or ws j 0) (sym at) ∙ get_or-set_same s.words i k 0 (omega arith) in
       let was : count w s.words ≡ get_or s.words i 0 = ap (λ (j : ℕ). get_or s.words j 0) (sym at) in
@@ -173,22 +173,22 @@ module _ {T : Type 0} (told : T → Option Tale) (w : Wires) (d : Deal) where
         leaves = λ h. absurd (omega (arith, stage));
       }
 
-  pub counts_up : (n id : ℕ) (m : Sat T) (i : ℕ) → Fit told w m → i ≡ 8 * (w.instances + w.channels) + 8 → w.instances ≤ 256 → 0 < length m.0.owed → Allows (Whole told w d) n id m i (λ y. (y + 1) % 2 ^ 64) (counted_up (step n i 1 0 none) m)
+  pub counts_up : (n id : ℕ) (m : Sat T) (i : ℕ) → Fit told w m → i ≡ 8 * (w.instances + w.channels) + 8 → w.instances ≤ 256 → 0 < length m.0.owed → Allows (Whole told belongs w d) n id m i (λ y. (y + 1) % 2 ^ 64) (counted_up (step n i 1 0 none) m)
   counts_up n id m i fit at few owes s a wide me _ = let r : ℕ = get_or s.words i 0 in let new : ℕ = (r + 1) % 2 ^ 64 in let c = a.reckoned.counted in let sum = c.adds_up in
       let was : count w s.words ≡ r = ap (λ (j : ℕ). get_or s.words j 0) (sym at) in
-      let downs = downs_few told w d s a.place a.ruled c in let ups = below-le (λ p. is_up (a.place p)) w.instances (λ q. up_small (a.place q)) in
+      let downs = downs_few told belongs w d s a.place a.ruled c in let ups = below-le (λ p. is_up (a.place p)) w.instances (λ q. up_small (a.place q)) in
       let is : new ≡ r + 1 = omega arith in let mine = term_le (λ (v : View). length v.owed) s.views id m.0 me in
-      let some_left : r ≢ 0 = (λ z. let q = quiet_here told w d s a.place a.ruled c (was ∙ z) in absurd (omega (arith, q.1))) in
+      let some_left : r ≢ 0 = (λ z. let q = quiet_here told belongs w d s a.place a.ruled c (was ∙ z) in absurd (omega (arith, q.1))) in
       (paid_up m.0 r, keeps, tt, counts s a i new id m (paid_up m.0 r) me fit at (omega (arith, one_less m.0.owed owes)) (owes_paid m.0.hands m.0.owed (c.pairs id m.0 me)) (omega arith) some_left refl refl refl refl refl refl refl refl refl, refl)
 
-  pub counts_down : (n id : ℕ) (m : Sat T) (i : ℕ) → Fit told w m → i ≡ 8 * (w.instances + w.channels) + 8 → 0 < m.0.down → Allows (Whole told w d) n id m i (λ y. (y + (2 ^ 64 - 1)) % 2 ^ 64) (counted_down (step n i 1 0 none) m)
+  pub counts_down : (n id : ℕ) (m : Sat T) (i : ℕ) → Fit told w m → i ≡ 8 * (w.instances + w.channels) + 8 → 0 < m.0.down → Allows (Whole told belongs w d) n id m i (λ y. (y + (2 ^ 64 - 1)) % 2 ^ 64) (counted_down (step n i 1 0 none) m)
   counts_down n id m i fit at owes s a wide me small = let r : ℕ = get_or s.words i 0 in let new : ℕ = (r + (2 ^ 64 - 1)) % 2 ^ 64 in let c = a.reckoned.counted in let sum = c.adds_up in
       let was : count w s.words ≡ r = ap (λ (j : ℕ). get_or s.words j 0) (sym at) in
-      let mine = term_le (λ (v : View). v.down) s.views id m.0 me in let less = (owed_less_here told w d s a.place a.ruled c).0 in
+      let mine = term_le (λ (v : View). v.down) s.views id m.0 me in let less = (owed_less_here told belongs w d s a.place a.ruled c).0 in
       let is : new + 1 ≡ r = omega arith in
       (paid_down m.0 r, keeps, tt, counts s a i new id m (paid_down m.0 r) me fit at (omega arith) (c.pairs id m.0 me) (omega arith) (λ z. omega arith) refl refl refl refl refl refl refl refl refl, refl)
 
-  pub stops : (n id : ℕ) (m : Sat T) (i new : ℕ) → Fit told w m → i ≡ 8 * (w.instances + w.channels) + 16 → new ≡ 1 → Allows (Whole told w d) n id m i (λ _. new) (λ _. halts (step n i new 0 none) m new)
+  pub stops : (n id : ℕ) (m : Sat T) (i new : ℕ) → Fit told w m → i ≡ 8 * (w.instances + w.channels) + 16 → new ≡ 1 → Allows (Whole told belongs w d) n id m i (λ _. new) (λ _. halts (step n i new 0 none) m new)
   stops n id m i new fit at one s a wide me _ = let long = a.ruled.wide in let ws = set s.words i new in
       let now : halted w ws ≢ 0 = (λ z. absurd (omega (arith, z, one, ap (λ (j : ℕ). get_or ws j 0) (sym at), get_or-set_same s.words i new 0 (omega arith)))) in
       let counts_same : count w ws ≡ count w s.words = get_or-set_other s.words i (8 * (w.instances + w.channels) + 8) new 0 (λ e. omega arith) in

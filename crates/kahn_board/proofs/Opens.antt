@@ -72,11 +72,19 @@ module _ {T : Type 0} (told : T → Option Tale) where
   of_cell (x ∷ xs) zero y e = subst (λ u. TellsEvents (told y) (events_past (told u) 0)) (sym (some-injective x y e)) (tells_past (told y) 0)
   of_cell (x ∷ xs) (suc p) y e = of_cell xs p y e
 
-module _ {T : Type 0} (told : T → Option Tale) (w : Wires) where
+module _ {T : Type 0} (after : T → T → Type 0) where
+  -- the cell y belongs to the instance p, by the cells given
+  abbrev pub given : List T → ℕ → T → Type 0
+  given cells p y = (x : T) → get_elem? cells p ≡ some x → after x y
+
+  itself : (cells : List T) (p : ℕ) (y : T) → get_elem? cells p ≡ some y → after y y → given cells p y
+  itself cells p y e same x f = subst (λ (u : T). after u y) (some-injective y x (sym e ∙ f)) same
+
+module _ {T : Type 0} (told : T → Option Tale) (after : T → T → Type 0) (w : Wires) where
   abbrev start : List ℕ → List T → St T
   start words cells = opening words (map Some cells) (opening_view w)
 
-  opens_first : (bound : ℕ) (words numbers : List ℕ) (cells : List T) → Opens told w bound numbers cells → length words ≡ 8 * (w.instances + length numbers) + 24 → ((p : ℕ) → p < w.instances → get_or words (8 * p) 0 ≡ 0)
+  opens_first : (bound : ℕ) (words numbers : List ℕ) (cells : List T) → Opens told after w bound numbers cells → length words ≡ 8 * (w.instances + length numbers) + 24 → ((p : ℕ) → p < w.instances → get_or words (8 * p) 0 ≡ 0)
       → ((c : ℕ) → c < length numbers → get_or words (8 * (w.instances + c)) 0 ≡ 2 * get_or numbers c 0) → Ruled told w (λ _. ready) (start words cells)
   opens_first bound words numbers cells o long zeros twice = record {
     wide = omega (arith, long, o.numbers_are);
@@ -123,8 +131,8 @@ module _ {T : Type 0} (told : T → Option Tale) (w : Wires) where
     twice = λ c h. sym (ap (λ (j : ℕ). get_or words (8 * (j + c)) 0) same) ∙ twice c h;
   }
 
-  pub opens : (bound : ℕ) (words numbers : List ℕ) (cells : List T) → Opens told w bound numbers cells → Starts bound words numbers
-      → Whole told w record { bound = bound; events = events_of told cells; published = published w words } (start words cells)
+  pub opens : (bound : ℕ) (words numbers : List ℕ) (cells : List T) → Opens told after w bound numbers cells → Starts bound words numbers
+      → Whole told (given after cells) w record { bound = bound; events = events_of told cells; published = published w words } (start words cells)
   opens bound words numbers cells o b = let at : (k : ℕ) → get_or words (8 * (w.instances + length numbers) + k) 0 ≡ get_or words (8 * (w.instances + w.channels) + k) 0 = λ k. ap (λ (j : ℕ). get_or words (8 * (w.instances + j) + k) 0) o.numbers_are in record {
     place = λ _. ready;
     ruled = opens_first bound words numbers cells o b.long b.zeros b.twice;
@@ -147,6 +155,7 @@ module _ {T : Type 0} (told : T → Option Tale) (w : Wires) where
         saw_quiet = λ j v e one. let t = at_first (opening_view w) v j e in absurd (omega (arith, ap (λ (u : View). u.seen) t.1, one));
         saw_halted = λ j v e two. let t = at_first (opening_view w) v j e in absurd (omega (arith, ap (λ (u : View). u.seen) t.1, two));
         flushed_all = λ p y h home _. o.flushed_all p y (of_home cells p y home);
+        belonging = λ p y h home. (let there = of_home cells p y home in itself after cells p y there (o.selves p y there));
         fixed = λ c near none_writes. refl;
       };
       leaving = record {

@@ -16,39 +16,39 @@ use Rattle.kahn_board.specs.Calls.{Leaves}
 use Rattle.kahn_board.proofs.Counting.{inside_of}
 use Rattle.kahn_board.proofs.Seats.{at_front, fit}
 
-module _ {T : Type 0} (told : T → Option Tale) (w : Wires) where
+module _ {T : Type 0} (told : T → Option Tale) (belongs : ℕ → T → Type 0) (w : Wires) where
   -- a seat of this board, with the cell y of the instance p first
   pub record Up (m : Sat T) (p : ℕ) (y : T) : Type 0 where
     pub fit : Fit told w m
     pub is : m ≡ (m.0, (p, Some y) ∷ rest m.1)
     pub is_in : IsIn m.0 p
     pub inside : p < w.instances
-    pub leaves : Leaves told w m.0 p y
+    pub leaves : Leaves told belongs w m.0 p y
     pub few : m.0.down < 2 ^ 32
 
   pub up : (m : Sat T) (z z' : TableId) (items : List ℕ) (room p : ℕ) (y : T) (n k : ℕ) → Facts m z items room → z ≡ z' → (z'.words ≡ 8 * (n + k) + 24) × (z'.slots ≡ n) → (w.instances ≡ n) × (w.channels ≡ k)
-      → (x : Option T) × (m.1 ≡ (p, x) ∷ rest m.1) → Carries m.1 p (Some y) → IsIn m.0 p → Leaves told w m.0 p y → m.0.down < 2 ^ 32 → Up m p y
+      → (x : Option T) × (m.1 ≡ (p, x) ∷ rest m.1) → Carries m.1 p (Some y) → IsIn m.0 p → Leaves told belongs w m.0 p y → m.0.down < 2 ^ 32 → Up m p y
   up m z z' items room p y n k f same sized wired first has is_in leaves few = let fits = fit told w m z z' items room n k f same sized wired in
       record { fit = fits; is = at_front m z items room p y f first has; is_in = is_in; inside = (let near = inside_of m.0.hands p (omega (arith, is_in)) in omega (arith, fits.hands_long)); leaves = leaves; few = few }
 
   refit : (m : Sat T) (p : ℕ) (y : T) → Up m p y → Fit told w (m.0, (p, Some y) ∷ rest m.1)
   refit m p y u = subst (Fit told w) u.is u.fit
 
-module _ {T : Type 0} (told : T → Option Tale) (w : Wires) (d : Deal) where
-  pub readies : (n id : ℕ) (m : Sat T) (p p' : ℕ) (y : T) (new : ℕ) → Up told w m p y → p' ≡ p → new ≡ 0 → Allows (Whole told w d) n id m (8 * p) (λ _. new) (λ _. set_down told w p' (step n (8 * p) new 0 none) m new)
-  readies n id m p p' y new u same is = subst (λ (k : Sat T × ℕ). Allows (Whole told w d) n id k.0 (8 * p) (λ _. new) (λ _. set_down told w k.1 (step n (8 * p) new 0 none) k.0 new)) (λ i. (sym u.is i, sym same i))
-      (sets_down told w d n id m.0 (rest m.1) p y ready new (refit told w m p y u) u.inside u.is_in is (λ j. refl) (λ c. refl) (y, refl) (λ e. absurd (omega (arith, ap word_code e))) (omega arith) u.leaves u.few)
+module _ {T : Type 0} (told : T → Option Tale) (belongs : ℕ → T → Type 0) (w : Wires) (d : Deal) where
+  pub readies : (n id : ℕ) (m : Sat T) (p p' : ℕ) (y : T) (new : ℕ) → Up told belongs w m p y → p' ≡ p → new ≡ 0 → Allows (Whole told belongs w d) n id m (8 * p) (λ _. new) (λ _. set_down told w p' (step n (8 * p) new 0 none) m new)
+  readies n id m p p' y new u same is = subst (λ (k : Sat T × ℕ). Allows (Whole told belongs w d) n id k.0 (8 * p) (λ _. new) (λ _. set_down told w k.1 (step n (8 * p) new 0 none) k.0 new)) (λ i. (sym u.is i, sym same i))
+      (sets_down told belongs w d n id m.0 (rest m.1) p y ready new (refit told belongs w m p y u) u.inside u.is_in is (λ j. refl) (λ c. refl) (y, refl) (λ e. absurd (omega (arith, ap word_code e))) (omega arith) u.leaves u.few)
 
-  pub ends : (n id : ℕ) (m : Sat T) (p p' : ℕ) (y : T) (new : ℕ) → Up told w m p y → p' ≡ p → new ≡ 2 → TellsEnd (told y) → Allows (Whole told w d) n id m (8 * p) (λ _. new) (λ _. set_down told w p' (step n (8 * p) new 0 none) m new)
-  ends n id m p p' y new u same is told_end = subst (λ (k : Sat T × ℕ). Allows (Whole told w d) n id k.0 (8 * p) (λ _. new) (λ _. set_down told w k.1 (step n (8 * p) new 0 none) k.0 new)) (λ i. (sym u.is i, sym same i))
-      (sets_down told w d n id m.0 (rest m.1) p y over new (refit told w m p y u) u.inside u.is_in is (λ j. refl) (λ c. refl) (y, refl) (λ _. told_end) (omega arith) u.leaves u.few)
+  pub ends : (n id : ℕ) (m : Sat T) (p p' : ℕ) (y : T) (new : ℕ) → Up told belongs w m p y → p' ≡ p → new ≡ 2 → TellsEnd (told y) → Allows (Whole told belongs w d) n id m (8 * p) (λ _. new) (λ _. set_down told w p' (step n (8 * p) new 0 none) m new)
+  ends n id m p p' y new u same is told_end = subst (λ (k : Sat T × ℕ). Allows (Whole told belongs w d) n id k.0 (8 * p) (λ _. new) (λ _. set_down told w k.1 (step n (8 * p) new 0 none) k.0 new)) (λ i. (sym u.is i, sym same i))
+      (sets_down told belongs w d n id m.0 (rest m.1) p y over new (refit told belongs w m p y u) u.inside u.is_in is (λ j. refl) (λ c. refl) (y, refl) (λ _. told_end) (omega arith) u.leaves u.few)
 
-  pub parks_at : (n id : ℕ) (m : Sat T) (p : ℕ) (y : T) (c i taken old new : ℕ) (said : maybe.Option (Option T)) → Up told w m p y → i ≡ 8 * (w.instances + c) → c < w.channels → w.reader c ≡ Some p → old ≡ 2 * taken → new ≡ 2 * taken + 1 → TellsWait (told y) c taken
-      → Allows (Whole told w d) n id m i (λ z. either (eqb z old) new z) (parked_or_not told w (first_of m.1) (step n i old new said) m)
-  parks_at n id m p y c i taken old new said u at near reads olds news waits = subst (λ (k : Sat T). Allows (Whole told w d) n id k i (λ z. either (eqb z old) new z) (parked_or_not told w (first_of k.1) (step n i old new said) k)) (sym u.is)
-      (parks told w d n id m.0 (rest m.1) p y c i taken old new said (refit told w m p y u) u.inside u.is_in at near reads olds news waits u.leaves u.few)
+  pub parks_at : (n id : ℕ) (m : Sat T) (p : ℕ) (y : T) (c i taken old new : ℕ) (said : maybe.Option (Option T)) → Up told belongs w m p y → i ≡ 8 * (w.instances + c) → c < w.channels → w.reader c ≡ Some p → old ≡ 2 * taken → new ≡ 2 * taken + 1 → TellsWait (told y) c taken
+      → Allows (Whole told belongs w d) n id m i (λ z. either (eqb z old) new z) (parked_or_not told w (first_of m.1) (step n i old new said) m)
+  parks_at n id m p y c i taken old new said u at near reads olds news waits = subst (λ (k : Sat T). Allows (Whole told belongs w d) n id k i (λ z. either (eqb z old) new z) (parked_or_not told w (first_of k.1) (step n i old new said) k)) (sym u.is)
+      (parks told belongs w d n id m.0 (rest m.1) p y c i taken old new said (refit told belongs w m p y u) u.inside u.is_in at near reads olds news waits u.leaves u.few)
 
   pub publishes_at : (n id : ℕ) (m : Sat T) (c i c' q count new : ℕ) → Fit told w m → i ≡ 8 * (w.instances + c) → c' ≡ c → c < w.channels → w.writer c ≡ Some q → q < w.instances → IsIn m.0 q → ((p : ℕ) → w.reader c ≡ Some p → p < w.instances) → new ≡ 2 * count
-      → Allows (Whole told w d) n id m i (λ _. new) (publishes told w c' (step n i new 0 none) m)
-  publishes_at n id m c i c' q count new f at same near writes writer_in is_in reader_in news = subst (λ (k : ℕ). Allows (Whole told w d) n id m i (λ _. new) (publishes told w k (step n i new 0 none) m)) (sym same)
-      (publishing told w d n id m c i q count new f at near writes writer_in is_in reader_in news)
+      → Allows (Whole told belongs w d) n id m i (λ _. new) (publishes told belongs w c' (step n i new 0 none) m)
+  publishes_at n id m c i c' q count new f at same near writes writer_in is_in reader_in news = subst (λ (k : ℕ). Allows (Whole told belongs w d) n id m i (λ _. new) (publishes told belongs w k (step n i new 0 none) m)) (sym same)
+      (publishing told belongs w d n id m c i q count new f at near writes writer_in is_in reader_in news)

@@ -25,16 +25,15 @@ module _ {T : Type 0} (told : T → Option Tale) (w : Wires) where
     (λ q x ne has. subst (λ (k : Sat T). Carries k.1 q x) (sym t.2) (carries_rest (rest m.1) p (Some y) q x ne (subst (λ (l : List (ℕ × Option T)). Carries l q x) t.1 (keeps q x has)))),
   )
 
-module _ {T : Type 0} (told : T → Option Tale) (w : Wires) where
+module _ {T : Type 0} (told : T → Option Tale) (belongs : ℕ → T → Type 0) (w : Wires) where
   -- what is told of the channel c' is told of c
-  pub woke : (first : ℕ) (m n : Sat T) (c' c r reader count : ℕ) → c' ≡ c → publishes told w c' (step 0 0 first 0 none) m r n → r % 2 ≡ 1 → first ≡ 2 * count → w.reader c ≡ Some reader
-      → (q : ℕ) × (y : T) × (w.writer c ≡ Some q) × TellsWait (told y) c (r / 2) × Got told w (waking m.0 c count reader q, m.1) reader r n y
-  woke first m n c' c r reader count same play odd twice reads = let t = (subst (λ (k : ℕ). publishes told w k (step 0 0 first 0 none) m r n) same play).1 odd in
+  pub woke : (first : ℕ) (m n : Sat T) (c' c r reader count : ℕ) → c' ≡ c → publishes told belongs w c' (step 0 0 first 0 none) m r n → r % 2 ≡ 1 → first ≡ 2 * count → w.reader c ≡ Some reader
+      → (q : ℕ) × (y : T) × (w.writer c ≡ Some q) × TellsWait (told y) c (r / 2) × Got told belongs w (waking m.0 c count reader q, m.1) reader r n y
+  woke first m n c' c r reader count same play odd twice reads = let t = (subst (λ (k : ℕ). publishes told belongs w k (step 0 0 first 0 none) m r n) same play).1 odd in
       let half_is : first / 2 ≡ count = omega arith in
-      let got = subst (λ (k : ℕ). Got told w (waking m.0 c k t.0 t.1, m.1) t.0 r n t.2) half_is t.6 in
-      (t.1, t.2, t.4, t.5, subst (λ (k : ℕ). Got told w (waking m.0 c count k t.1, m.1) k r n t.2) (same_some t.0 reader (sym t.3 ∙ reads)) got)
+      let got = subst (λ (k : ℕ). Got told belongs w (waking m.0 c k t.0 t.1, m.1) t.0 r n t.2) half_is t.6 in
+      (t.1, t.2, t.4, t.5, subst (λ (k : ℕ). Got told belongs w (waking m.0 c count k t.1, m.1) k r n t.2) (same_some t.0 reader (sym t.3 ∙ reads)) got)
 
-module _ {T : Type 0} (told : T → Option Tale) (w : Wires) where
   -- what is told of the instance p' is told of p
-  pub claimed_here : (m n : Sat T) (p p' r : ℕ) → p' ≡ p → claimed told w p' (step 0 0 0 0 none) m r n → claimed told w p (step 0 0 0 0 none) m r n
-  claimed_here m n p p' r same h = subst (λ (k : ℕ). claimed told w k (step 0 0 0 0 none) m r n) same h
+  pub claimed_here : (m n : Sat T) (p p' r : ℕ) → p' ≡ p → claimed told belongs w p' (step 0 0 0 0 none) m r n → claimed told belongs w p (step 0 0 0 0 none) m r n
+  claimed_here m n p p' r same h = subst (λ (k : ℕ). claimed told belongs w k (step 0 0 0 0 none) m r n) same h

@@ -57,6 +57,16 @@ module _ {T : Type 0} where
   carries_first c p x y h (inl e) = ap (λ (z : ℕ × Option T). z.1) e
   carries_first c p x y h (inr k) = absurd (omega (arith, only_yes p, carries_numbered c p y k))
 
+  carries_same : (c : Slots T) (p : ℕ) (x y : Option T) → total (only p) (numbers c) ≤ 1 → Carries c p x → Carries c p y → x ≡ y
+  carries_same [] p x y h k l = absurd k
+  carries_same (u ∷ us) p x y h (inl e) l = carries_first us p x y (subst (λ (n : ℕ). only p n + total (only p) (numbers us) ≤ 1) (ap (λ (z : ℕ × Option T). z.0) e) h) (subst (λ (z : ℕ × Option T). Carries (z ∷ us) p y) e l)
+  carries_same (u ∷ us) p x y h (inr k) (inl f) = sym (carries_first us p y x (subst (λ (n : ℕ). only p n + total (only p) (numbers us) ≤ 1) (ap (λ (z : ℕ × Option T). z.0) f) h) (inr k))
+  carries_same (u ∷ us) p x y h (inr k) (inr l) = carries_same us p x y (omega (arith, h)) k l
+
+  -- a seat has one thing of p
+  pub carries_once : (m : Sat T) (z : TableId) (items : List ℕ) (room p : ℕ) (x y : Option T) → Facts m z items room → Carries m.1 p x → Carries m.1 p y → x ≡ y
+  carries_once m z items room p x y f k l = carries_same m.1 p x y (omega (arith, ap (total (only p)) f.3, f.4 p, f.5 p)) k l
+
   pub carries_others : (c : Slots T) (p : ℕ) (x z : Option T) (q : ℕ) (y : Option T) → q ≢ p → Carries ((p, x) ∷ c) q y → Carries ((p, z) ∷ c) q y
   carries_others c p x z q y ne (inl e) = absurd (ne (sym (ap (λ (k : ℕ × Option T). k.0) e)))
   carries_others c p x z q y ne (inr h) = inr h
@@ -85,21 +95,6 @@ module _ {T : Type 0} (told : T → Option Tale) (w : Wires) where
   pub facts_noted : (m m' : Sat T) (z z' : TableId) (items : List ℕ) (room r : ℕ) → Facts m z items room → z' ≡ z → m' ≡ (noted m.0 r, m.1) → Facts m' z' items room
   facts_noted m m' z z' items room r f same is = subst (λ (k : TableId × Sat T). Facts k.1 k.0 items room) (λ i. (sym same i, sym is i)) f
 
-  pub facts_took : (m m' : Sat T) (z z' : TableId) (items items' : List ℕ) (room room' p r : ℕ) (y : T) → Facts m z items room → z' ≡ z → Got told w m p r m' y → items' ≡ p ∷ items → room' ≡ room → p < z.slots → Facts m' z' items' room'
-  facts_took m m' z z' items items' room room' p r y f same got is same_room inside =
-      let v = took m.0 p got.0 got.1 got.2 r in
-      let now : Facts (v, (p, Some y) ∷ m.1) z (p ∷ items) room = (
-        f.0,
-        length-set m.0.hands p 1 ∙ f.1,
-        ap (λ (k : ℕ). 8 * (z.slots + k) + 24) got.5 ∙ f.2,
-        ap (λ (l : List ℕ). p ∷ l) f.3,
-        took_one items m.0.hands p f.4 (omega (arith, f.1)) got.4,
-        put_once m.0.hands p 1 (omega (arith, f.1)) (omega arith) f.5,
-        f.6,
-        length-set m.0.got p got.1 ∙ f.7,
-      ) in
-      subst (λ (k : TableId × Sat T × List ℕ × ℕ). Facts k.1 k.0 k.2 k.3) (λ i. (sym same i, sym got.3 i, sym is i, sym same_room i)) now
-
   -- a seat that woke a reader
   pub facts_waking : (m : Sat T) (z : TableId) (items : List ℕ) (room c count p q : ℕ) → Facts m z items room → Facts (waking m.0 c count p q, m.1) z items room
   facts_waking m z items room c count p q f = (f.0, f.1, ap (λ (k : ℕ). 8 * (z.slots + k) + 24) (length-set m.0.flushed c count) ∙ f.2, f.3, f.4, f.5, f.6, f.7)
@@ -124,6 +119,22 @@ module _ {T : Type 0} (told : T → Option Tale) (w : Wires) where
         f.7,
       ) in
       subst (λ (k : TableId × Sat T × List ℕ × ℕ). Facts k.1 k.0 k.2 k.3) (λ i. (sym same i, sym given i, sym (is_items ∙ ap (drop 1) listed) i, sym same_room i)) now
+
+module _ {T : Type 0} (told : T → Option Tale) (belongs : ℕ → T → Type 0) (w : Wires) where
+  pub facts_took : (m m' : Sat T) (z z' : TableId) (items items' : List ℕ) (room room' p r : ℕ) (y : T) → Facts m z items room → z' ≡ z → Got told belongs w m p r m' y → items' ≡ p ∷ items → room' ≡ room → p < z.slots → Facts m' z' items' room'
+  facts_took m m' z z' items items' room room' p r y f same got is same_room inside =
+      let v = took m.0 p got.0 got.1 got.2 r in
+      let now : Facts (v, (p, Some y) ∷ m.1) z (p ∷ items) room = (
+        f.0,
+        length-set m.0.hands p 1 ∙ f.1,
+        ap (λ (k : ℕ). 8 * (z.slots + k) + 24) got.5 ∙ f.2,
+        ap (λ (l : List ℕ). p ∷ l) f.3,
+        took_one items m.0.hands p f.4 (omega (arith, f.1)) got.4,
+        put_once m.0.hands p 1 (omega (arith, f.1)) (omega arith) f.5,
+        f.6,
+        length-set m.0.got p got.1 ∙ f.7,
+      ) in
+      subst (λ (k : TableId × Sat T × List ℕ × ℕ). Facts k.1 k.0 k.2 k.3) (λ i. (sym same i, sym got.3 i, sym is i, sym same_room i)) now
 
 pub zeros : (n i : ℕ) → get_or {A = ℕ} (replicate n 0) i 0 ≡ 0
 zeros zero i = refl

@@ -27,7 +27,7 @@ ups_same : (place place' : ℕ → Place) → ((q : ℕ) → place q ≡ place' 
 ups_same place place' e zero = refl
 ups_same place place' e (suc n) = omega (arith, ups_same place place' e n, ap is_up (e n))
 
-module _ {T : Type 0} (told : T → Option Tale) (w : Wires) (d : Deal) where
+module _ {T : Type 0} (told : T → Option Tale) (belongs : ℕ → T → Type 0) (w : Wires) (d : Deal) where
   -- what a step on a word of an instance or a channel leaves
   pub record SameHot (ws ws' : List ℕ) : Type 0 where
     pub budget_same : budget w ws' ≡ budget w ws
@@ -57,8 +57,8 @@ module _ {T : Type 0} (told : T → Option Tale) (w : Wires) (d : Deal) where
     pub fixed : (c : ℕ) → c < w.channels → w.writer c ≡ None → published w ws c ≡ published w s.words c
     pub leaves : v'.stage ≤ 1 → (v'.drawn ≡ 0) × ((halted w ws ≢ 0) ⊎ ((count w ws ≡ 0) ⊎ (budget w ws ≡ 0)))
 
-  pub idles : (s : St T) (place : ℕ → Place) (q₀ : Reckoned told w d place s) (id : ℕ) (v v' : View) (ws : List ℕ) → get_elem? s.views id ≡ some v → Idle s v v' ws → Reckoned told w d place (state told w ws s.homes (set s.views id v'))
-  idles s place q₀ id v v' ws me m = turned_kept told w d s place place q₀ q₀.tally id v v' ws s.homes record {
+  pub idles : (s : St T) (place : ℕ → Place) (q₀ : Reckoned told belongs w d place s) (id : ℕ) (v v' : View) (ws : List ℕ) → get_elem? s.views id ≡ some v → Idle s v v' ws → Reckoned told belongs w d place (state told w ws s.homes (set s.views id v'))
+  idles s place q₀ id v v' ws me m = turned_kept told belongs w d s place place q₀ q₀.tally id v v' ws s.homes record {
     mine = me;
     drawing = m.drawing;
     tallying = omega (arith, m.tallying);
@@ -74,23 +74,24 @@ module _ {T : Type 0} (told : T → Option Tale) (w : Wires) (d : Deal) where
     saw_quiet = m.saw_quiet;
     saw_halted = m.saw_halted;
     flushed_all = λ q y h home zero_now. q₀.lasting.flushed_all q y h home (dite (ℕ_discrete (halted w s.words) 0) (λ e. e) (λ ne. absurd (m.still_halted ne zero_now)));
+    belonging = q₀.lasting.belonging;
     fixed = m.fixed;
     leaves = m.leaves;
   }
 
   -- a step that takes the instance p, with the counts up that are owed after it
-  pub takes_second : (s : St T) (place : ℕ → Place) (r : Ruled told w place s) (q₀ : Reckoned told w d place s) (i k id : ℕ) (m : Sat T) (p : ℕ) (L : List ℕ) (owed : Owed) (seen found : ℕ)
+  pub takes_second : (s : St T) (place : ℕ → Place) (r : Ruled told w place s) (q₀ : Reckoned told belongs w d place s) (i k id : ℕ) (m : Sat T) (p : ℕ) (L : List ℕ) (owed : Owed) (seen found : ℕ)
       → get_elem? s.views id ≡ some m.0 → p < w.instances → length m.0.hands ≡ w.instances → length m.0.got ≡ w.instances → i < 8 * (w.instances + w.channels)
       → get_or m.0.hands p 0 ≡ 0 → is_up (place p) + length owed ≡ length m.0.owed + 1 → Owes (set m.0.hands p 1) owed → SeesMore m.0.seen seen → (seen ≡ 2 → halted w s.words ≢ 0)
       → ((c : ℕ) → c < w.channels → w.writer c ≡ None → published w (set s.words i k) c ≡ published w s.words c)
-      → Reckoned told w d (moved place p (held id)) (state told w (set s.words i k) (set s.homes p none) (set s.views id (view m.0.parts (set m.0.hands p 1) L (set m.0.got p (q₀.tally p)) m.0.drawn m.0.done m.0.loose owed m.0.down seen 2 (m.0.steps + 1) found)))
+      → Reckoned told belongs w d (moved place p (held id)) (state told w (set s.words i k) (set s.homes p none) (set s.views id (view m.0.parts (set m.0.hands p 1) L (set m.0.got p (q₀.tally p)) m.0.drawn m.0.done m.0.loose owed m.0.down seen 2 (m.0.steps + 1) found)))
   takes_second s place r q₀ i k id m p L owed seen found me inside long got_long near free counts pairs sees halted_is fixed =
       let ws = set s.words i k in let same = hot s.words i k near in let v = m.0 in let hs : List (maybe.Option (Option T)) = set s.homes p none in
       let v' : View = view v.parts (set v.hands p 1) L (set v.got p (q₀.tally p)) v.drawn v.done v.loose owed v.down seen 2 (v.steps + 1) found in
       let was_home : (q : ℕ) (y : T) → get_elem? hs q ≡ some (some (Some y)) → IsHome s q y = λ q y home. dite (ℕ_discrete q p)
       (λ e. absurd (some-ne-none (Some y) (some-injective (some (Some y)) none (sym home ∙ (ap (λ (j : ℕ). get_elem? hs j) e ∙ set_here s.homes p none (omega (arith, r.deep)))))))
       (λ ne. sym (set_else s.homes p q none ne) ∙ home) in
-      turned_kept told w d s place (moved place p (held id)) q₀ q₀.tally id v v' ws hs record {
+      turned_kept told belongs w d s place (moved place p (held id)) q₀ q₀.tally id v v' ws hs record {
         mine = me;
         drawing = omega (arith, same.budget_same);
         tallying = refl;
@@ -108,17 +109,18 @@ module _ {T : Type 0} (told : T → Option Tale) (w : Wires) (d : Deal) where
         saw_quiet = λ e. same.count_same ∙ ⊎_elim (λ is. q₀.lasting.saw_quiet id v me (sym is ∙ e)) (λ is. absurd (omega arith)) sees;
         saw_halted = λ e z. halted_is e (sym same.halted_same ∙ z);
         flushed_all = λ q y h home zero_now. q₀.lasting.flushed_all q y h (was_home q y home) (sym same.halted_same ∙ zero_now);
+        belonging = λ q y h home. q₀.lasting.belonging q y h (was_home q y home);
         fixed = fixed;
         leaves = λ h. absurd (omega arith);
       }
 
   -- a step that gives the instance p with the cell y up, which then stands at x, with `more` counts down to pay
-  pub gives_second : (s : St T) (place : ℕ → Place) (r : Ruled told w place s) (q₀ : Reckoned told w d place s) (i k id : ℕ) (v : View) (p : ℕ) (y : T) (x : Place) (more found : ℕ)
+  pub gives_second : (s : St T) (place : ℕ → Place) (r : Ruled told w place s) (q₀ : Reckoned told belongs w d place s) (i k id : ℕ) (v : View) (p : ℕ) (y : T) (x : Place) (more found : ℕ)
       → get_elem? s.views id ≡ some v → p < w.instances → length v.hands ≡ w.instances → i < 8 * (w.instances + w.channels) → 0 < v.parts
-      → place p ≡ held id → IsIn v p → is_up x + more ≡ 1 → Unowed p v.owed → v.down < 2 ^ 32 → Accounts (told y) (get_or v.got p 0) v.loose → (v.seen ≡ 2) ⊎ FlushedAll (told y)
+      → place p ≡ held id → IsIn v p → is_up x + more ≡ 1 → Unowed p v.owed → v.down < 2 ^ 32 → Accounts (told y) (get_or v.got p 0) v.loose → (v.seen ≡ 2) ⊎ FlushedAll (told y) → belongs p y
       → ((c : ℕ) → c < w.channels → published w (set s.words i k) c ≡ published w s.words c)
-      → Reckoned told w d (moved place p x) (state told w (set s.words i k) (set s.homes p (some (Some y))) (set s.views id (gave v p (told y) more found)))
-  gives_second s place r q₀ i k id v p y x more found me inside long near alive is is_in ups free few accounts flushed fixed =
+      → Reckoned told belongs w d (moved place p x) (state told w (set s.words i k) (set s.homes p (some (Some y))) (set s.views id (gave v p (told y) more found)))
+  gives_second s place r q₀ i k id v p y x more found me inside long near alive is is_in ups free few accounts flushed of_p fixed =
       let ws = set s.words i k in let same = hot s.words i k near in let hs : List (maybe.Option (Option T)) = set s.homes p (some (Some y)) in
       let v' : View = gave v p (told y) more found in let g = get_or v.got p 0 in let e' = events_past (told y) g in
       let g_is : g ≡ q₀.tally p = q₀.budgeted.got_is id v me p inside is_in in
@@ -126,7 +128,7 @@ module _ {T : Type 0} (told : T → Option Tale) (w : Wires) (d : Deal) where
       let acc = accounted (told y) g v.loose accounts in let acc₀ = acc.0 in let acc₁ = acc.1 in
       let here : get_elem? hs p ≡ some (some (Some y)) = set_here s.homes p (some (Some y)) (omega (arith, r.deep)) in
       let the_cell : (z : T) → get_elem? hs p ≡ some (some (Some z)) → y ≡ z = λ z e. same_some y z (some-injective (Some y) (Some z) (some-injective (some (Some y)) (some (Some z)) (sym here ∙ e))) in
-      turned_kept told w d s place (moved place p x) q₀ tally' id v v' ws hs record {
+      turned_kept told belongs w d s place (moved place p x) q₀ tally' id v v' ws hs record {
         mine = me;
         drawing = omega (arith, same.budget_same);
         tallying = omega (arith, sum_put q₀.tally p e' w.instances inside, g_is);
@@ -150,12 +152,15 @@ module _ {T : Type 0} (told : T → Option Tale) (w : Wires) (d : Deal) where
             (λ e. let home' : get_elem? hs p ≡ some (some (Some z)) = ap (λ (j : ℕ). get_elem? hs j) (sym e) ∙ home in
             subst (λ (u : T). FlushedAll (told u)) (the_cell z home') (⊎_elim (λ two. absurd (q₀.lasting.saw_halted id v me two (sym same.halted_same ∙ zero_now))) (λ f. f) flushed))
             (λ ne. q₀.lasting.flushed_all q z h (sym (set_else s.homes p q (some (Some y)) ne) ∙ home) (sym same.halted_same ∙ zero_now));
+        belonging = λ q z h home. dite (ℕ_discrete q p)
+            (λ e. subst (λ (j : ℕ). belongs j z) (sym e) (subst (λ (u : T). belongs p u) (the_cell z (ap (λ (j : ℕ). get_elem? hs j) (sym e) ∙ home)) of_p))
+            (λ ne. q₀.lasting.belonging q z h (sym (set_else s.homes p q (some (Some y)) ne) ∙ home));
         fixed = λ c h none. fixed c h;
         leaves = λ h. absurd (omega arith);
       }
 
   -- the same places, in other words
-  pub replaced : (s : St T) (place place' : ℕ → Place) → ((q : ℕ) → place q ≡ place' q) → Reckoned told w d place s → Reckoned told w d place' s
+  pub replaced : (s : St T) (place place' : ℕ → Place) → ((q : ℕ) → place q ≡ place' q) → Reckoned told belongs w d place s → Reckoned told belongs w d place' s
   replaced s place place' same q₀ = record {
     tally = q₀.tally;
     budgeted = q₀.budgeted;

@@ -173,16 +173,16 @@ module _ {T : Type 0} (told : T → Option Tale) (w : Wires) where
         parts = parts_is;
       }
 
-module _ {T : Type 0} (told : T → Option Tale) (w : Wires) (d : Deal) where
+module _ {T : Type 0} (told : T → Option Tale) (belongs : ℕ → T → Type 0) (w : Wires) (d : Deal) where
   abbrev pub Goes : (St T) → ℕ → ℕ → Sat T → (ℕ → Sat T → Type 0) → ℕ → Type 0
-  Goes s i id m then k = (v : View) × (a : Act (Option T)) × Valid s.homes m.1 a × Whole told w d (stepped s i k id m.1 v a) × then (get_or s.words i 0) (v, carried_after m.1 a)
+  Goes s i id m then k = (v : View) × (a : Act (Option T)) × Valid s.homes m.1 a × Whole told belongs w d (stepped s i k id m.1 v a) × then (get_or s.words i 0) (v, carried_after m.1 a)
 
   -- a step that changes nothing
-  pub unchanged : (s : St T) (a : Whole told w d s) (i id : ℕ) (m : Sat T) (r : ℕ) → get_elem? s.views id ≡ some m.0 → Fit told w m → Whole told w d (stepped s i (get_or s.words i 0) id m.1 (noted m.0 r) keeps)
-  unchanged s a i id m r me fit = subst (λ (l : List ℕ). Whole told w d (state told w l s.homes (set s.views id (noted m.0 r)))) (sym (set-get_or s.words i 0)) record {
+  pub unchanged : (s : St T) (a : Whole told belongs w d s) (i id : ℕ) (m : Sat T) (r : ℕ) → get_elem? s.views id ≡ some m.0 → Fit told w m → Whole told belongs w d (stepped s i (get_or s.words i 0) id m.1 (noted m.0 r) keeps)
+  unchanged s a i id m r me fit = subst (λ (l : List ℕ). Whole told belongs w d (state told w l s.homes (set s.views id (noted m.0 r)))) (sym (set-get_or s.words i 0)) record {
     place = a.place;
     ruled = stays told w s a.place a.ruled s.words id m (noted m.0 r) me fit refl refl refl refl (λ q h. refl);
-    reckoned = idles told w d s a.place a.reckoned id m.0 (noted m.0 r) s.words me record {
+    reckoned = idles told belongs w d s a.place a.reckoned id m.0 (noted m.0 r) s.words me record {
       hands_same = refl;
       got_same = refl;
       drawing = refl;
@@ -200,14 +200,14 @@ module _ {T : Type 0} (told : T → Option Tale) (w : Wires) (d : Deal) where
   }
 
   -- what a seat sees of the run as it takes a cell: whether it is halted
-  pub sees : (s : St T) (a : Whole told w d s) (id : ℕ) (v : View) (p : ℕ) (y : T) → get_elem? s.views id ≡ some v → p < w.instances → IsHome s p y
+  pub sees : (s : St T) (a : Whole told belongs w d s) (id : ℕ) (v : View) (p : ℕ) (y : T) → get_elem? s.views id ≡ some v → p < w.instances → IsHome s p y
       → (seen : ℕ) × SeesMore v.seen seen × (seen ≡ 2 → halted w s.words ≢ 0) × ((seen ≡ 2) ⊎ FlushedAll (told y))
   sees s a id v p y me inside home = dite (ℕ_discrete (halted w s.words) 0)
       (λ zero_now. (v.seen, inl refl, a.reckoned.lasting.saw_halted id v me, inr (a.reckoned.lasting.flushed_all p y inside home zero_now)))
       (λ ne. (2, inr refl, (λ _. ne), inl refl))
 
-  claims : (n id : ℕ) (m : Sat T) (p : ℕ) (said : maybe.Option (Option T)) → Fit told w m → p < w.instances → Allows (Whole told w d) n id m (8 * p) (λ y. either (eqb y 0) 1 y) (claimed told w p (step n (8 * p) 0 1 said) m)
-  claims n id m p said fit inside s a wide me _ = let then = claimed told w p (step n (8 * p) 0 1 said) m in let x : ℕ = get_or s.words (8 * p) 0 in let place = a.place in let r = a.ruled in
+  claims : (n id : ℕ) (m : Sat T) (p : ℕ) (said : maybe.Option (Option T)) → Fit told w m → p < w.instances → Allows (Whole told belongs w d) n id m (8 * p) (λ y. either (eqb y 0) 1 y) (claimed told belongs w p (step n (8 * p) 0 1 said) m)
+  claims n id m p said fit inside s a wide me _ = let then = claimed told belongs w p (step n (8 * p) 0 1 said) m in let x : ℕ = get_or s.words (8 * p) 0 in let place = a.place in let r = a.ruled in
       exchanged x 0 1 (Goes s (8 * p) id m then)
       (λ hit.
       let is : place p ≡ ready = code_ready (place p) (sym (r.one_pair.word_is p inside) ∙ hit) in
@@ -226,7 +226,7 @@ module _ {T : Type 0} (told : T → Option Tale) (w : Wires) (d : Deal) where
               (λ q h. at_moved (λ k z. k < w.instances → get_or ws (8 * k) 0 ≡ word_code z) place p (held id) q (λ _. get_or-set_same s.words (8 * p) 1 0 (omega arith)) (λ ne l. get_or-set_other s.words (8 * p) (8 * q) 1 0 (λ e. ne (omega arith)) ∙ r.one_pair.word_is q l) h)
               (λ c near. ap (λ (k : ℕ). k % 2) (get_or-set_other s.words (8 * p) (8 * (w.instances + c)) 1 0 (λ e. omega arith)) ∙ (r.parking.marks c near ∙ sym (mark_same place p (held id) (w.reader c) c (sym (ap (parked_on c) is)))))
               (λ c near. inl (pub_same c));
-          reckoned = takes_second told w d s place r a.reckoned (8 * p) 1 id m p L m.0.owed seen 0 me inside fit.hands_long fit.got_long (omega arith) free
+          reckoned = takes_second told belongs w d s place r a.reckoned (8 * p) 1 id m p L m.0.owed seen 0 me inside fit.hands_long fit.got_long (omega arith) free
               (omega (arith, ap is_up is)) (owes_more m.0.hands p m.0.owed free (a.reckoned.counted.pairs id m.0 me)) saw_it.1 saw_it.2 (λ c near none. pub_same c);
         },
         (
@@ -244,6 +244,7 @@ module _ {T : Type 0} (told : T → Option Tale) (w : Wires) (d : Deal) where
               a.reckoned.budgeted.tells p y inside cell.1,
               saw_it.1,
               saw_it.3,
+              a.reckoned.lasting.belonging p y inside cell.1,
             ),
           )),
           (λ miss. absurd (miss hit)),
@@ -252,12 +253,12 @@ module _ {T : Type 0} (told : T → Option Tale) (w : Wires) (d : Deal) where
       (λ miss. (noted m.0 x, keeps, tt, unchanged s a (8 * p) id m x me fit, ((λ hit. absurd (miss hit)), λ _. refl)))
 
   -- the instance read off the word
-  pub claims_at : (n id : ℕ) (m : Sat T) (p p' : ℕ) (said : maybe.Option (Option T)) → Fit told w m → p < w.instances → p' ≡ p → Allows (Whole told w d) n id m (8 * p) (λ y. either (eqb y 0) 1 y) (claimed told w p' (step n (8 * p) 0 1 said) m)
-  claims_at n id m p p' said fit inside same = subst (λ (k : ℕ). Allows (Whole told w d) n id m (8 * p) (λ y. either (eqb y 0) 1 y) (claimed told w k (step n (8 * p) 0 1 said) m)) (sym same) (claims n id m p said fit inside)
+  pub claims_at : (n id : ℕ) (m : Sat T) (p p' : ℕ) (said : maybe.Option (Option T)) → Fit told w m → p < w.instances → p' ≡ p → Allows (Whole told belongs w d) n id m (8 * p) (λ y. either (eqb y 0) 1 y) (claimed told belongs w p' (step n (8 * p) 0 1 said) m)
+  claims_at n id m p p' said fit inside same = subst (λ (k : ℕ). Allows (Whole told belongs w d) n id m (8 * p) (λ y. either (eqb y 0) 1 y) (claimed told belongs w k (step n (8 * p) 0 1 said) m)) (sym same) (claims n id m p said fit inside)
 
   pub sets_down : (n id : ℕ) (v : View) (more : List (ℕ × Option T)) (p : ℕ) (y : T) (x : Place) (new : ℕ) → Fit told w (v, (p, Some y) ∷ more) → p < w.instances → IsIn v p
-      → new ≡ word_code x → ((j : ℕ) → held_by j x ≡ 0) → ((c : ℕ) → parked_on c x ≡ 0) → Stands x (some (some (Some y))) → (x ≡ over → TellsEnd (told y)) → is_up x + new / 2 ≡ 1 → Leaves told w v p y → v.down < 2 ^ 32
-      → Allows (Whole told w d) n id (v, (p, Some y) ∷ more) (8 * p) (λ _. new) (λ _. set_down told w p (step n (8 * p) new 0 none) (v, (p, Some y) ∷ more) new)
+      → new ≡ word_code x → ((j : ℕ) → held_by j x ≡ 0) → ((c : ℕ) → parked_on c x ≡ 0) → Stands x (some (some (Some y))) → (x ≡ over → TellsEnd (told y)) → is_up x + new / 2 ≡ 1 → Leaves told belongs w v p y → v.down < 2 ^ 32
+      → Allows (Whole told belongs w d) n id (v, (p, Some y) ∷ more) (8 * p) (λ _. new) (λ _. set_down told w p (step n (8 * p) new 0 none) (v, (p, Some y) ∷ more) new)
   sets_down n id v more p y x new fit inside is_in codes free unparked stands ends ups leaves few s a wide me _ = let place = a.place in let r = a.ruled in let wide' = r.wide in let ws = set s.words (8 * p) new in
       let is = mine_is told w s place r id (v, []) p me inside is_in in (
         gave v p (told y) (new / 2) new,
@@ -272,15 +273,15 @@ module _ {T : Type 0} (told : T → Option Tale) (w : Wires) (d : Deal) where
               stands
               (λ c e. absurd (omega (arith, unparked c, ap (parked_on c) e, parked_yes c)))
               ends leaves.0;
-          reckoned = gives_second told w d s place r a.reckoned (8 * p) new id v p y x (new / 2) new me inside fit.hands_long (omega arith) fit.alive is is_in ups leaves.3 few leaves.1 leaves.2
+          reckoned = gives_second told belongs w d s place r a.reckoned (8 * p) new id v p y x (new / 2) new me inside fit.hands_long (omega arith) fit.alive is is_in ups leaves.3 few leaves.1 leaves.2 leaves.4
               (λ c near. ap half (get_or-set_other s.words (8 * p) (8 * (w.instances + c)) new 0 (λ e. omega arith)));
         },
         (y, refl, refl),
       )
 
   pub parks : (n id : ℕ) (v : View) (more : List (ℕ × Option T)) (p : ℕ) (y : T) (c i taken : ℕ) (old new : ℕ) (said : maybe.Option (Option T)) → Fit told w (v, (p, Some y) ∷ more) → p < w.instances → IsIn v p
-      → i ≡ 8 * (w.instances + c) → c < w.channels → w.reader c ≡ Some p → old ≡ 2 * taken → new ≡ 2 * taken + 1 → TellsWait (told y) c taken → Leaves told w v p y → v.down < 2 ^ 32
-      → Allows (Whole told w d) n id (v, (p, Some y) ∷ more) i (λ z. either (eqb z old) new z) (parked_or_not told w p (step n i old new said) (v, (p, Some y) ∷ more))
+      → i ≡ 8 * (w.instances + c) → c < w.channels → w.reader c ≡ Some p → old ≡ 2 * taken → new ≡ 2 * taken + 1 → TellsWait (told y) c taken → Leaves told belongs w v p y → v.down < 2 ^ 32
+      → Allows (Whole told belongs w d) n id (v, (p, Some y) ∷ more) i (λ z. either (eqb z old) new z) (parked_or_not told w p (step n i old new said) (v, (p, Some y) ∷ more))
   parks n id v more p y c i taken old new said fit inside is_in at near reads olds news waits leaves few s a wide me _ = let place = a.place in let r = a.ruled in
       let m : Sat T = (v, (p, Some y) ∷ more) in let then = parked_or_not told w p (step n i old new said) m in let x : ℕ = get_or s.words i 0 in
       exchanged x old new (Goes s i id m then)
@@ -308,7 +309,7 @@ module _ {T : Type 0} (told : T → Option Tale) (w : Wires) (d : Deal) where
               (λ d e. subst (λ (k : ℕ). (k < w.channels) × (w.reader k ≡ Some p) × TellsWait (told y) k (published w ws k)) (parked_apart c d e) (near, reads, subst (TellsWait (told y) c) (sym num) waits))
               (λ e. absurd (omega (arith, ap word_code e)))
               leaves.0;
-          reckoned = gives_second told w d s place r a.reckoned i new id v p y (parked c) 1 x me inside fit.hands_long (omega arith) fit.alive is is_in refl leaves.3 few leaves.1 leaves.2 same;
+          reckoned = gives_second told belongs w d s place r a.reckoned i new id v p y (parked c) 1 x me inside fit.hands_long (omega arith) fit.alive is is_in refl leaves.3 few leaves.1 leaves.2 leaves.4 same;
         },
         ((λ _. (y, refl, refl)), λ miss. absurd (miss hit)),
       ))
@@ -321,9 +322,9 @@ module _ {T : Type 0} (told : T → Option Tale) (w : Wires) (d : Deal) where
   marked place (Some p) c e = (p, refl, is_parked c (place p) e)
 
   pub publishing : (n id : ℕ) (m : Sat T) (c i q₀ count new : ℕ) → Fit told w m → i ≡ 8 * (w.instances + c) → c < w.channels → w.writer c ≡ Some q₀ → q₀ < w.instances → IsIn m.0 q₀
-      → ((p : ℕ) → w.reader c ≡ Some p → p < w.instances) → new ≡ 2 * count → Allows (Whole told w d) n id m i (λ _. new) (publishes told w c (step n i new 0 none) m)
+      → ((p : ℕ) → w.reader c ≡ Some p → p < w.instances) → new ≡ 2 * count → Allows (Whole told belongs w d) n id m i (λ _. new) (publishes told belongs w c (step n i new 0 none) m)
   publishing n id m c i q₀ count new fit at near writes writer_in is_in reader_in news s a wide me _ = let place = a.place in let r = a.ruled in
-      let then = publishes told w c (step n i new 0 none) m in let x : ℕ = get_or s.words i 0 in let ws = set s.words i new in let wide' = r.wide in
+      let then = publishes told belongs w c (step n i new 0 none) m in let x : ℕ = get_or s.words i 0 in let ws = set s.words i new in let wide' = r.wide in
       let is = mine_is told w s place r id m q₀ me writer_in is_in in
       let here : get_or ws i 0 ≡ new = get_or-set_same s.words i new 0 (omega arith) in
       let else_where : (k : ℕ) → k ≢ i → get_or ws k 0 ≡ get_or s.words k 0 = λ k ne. get_or-set_other s.words i k new 0 ne in
@@ -339,7 +340,7 @@ module _ {T : Type 0} (told : T → Option Tale) (w : Wires) (d : Deal) where
       (λ even. let cell = subst (λ (z : Place). Stands z (get_elem? s.homes q₀)) is (r.one_pair.cell_is q₀ writer_in) in let v' : View = noted (told_of m.0 c (new / 2)) x in
       let stay : (q : ℕ) → moved place q₀ (held id) q ≡ place q = λ q. at_moved (λ k z. z ≡ place k) place q₀ (held id) q (sym is) (λ _. refl) in
       let unmarked : (d : ℕ) → mark_of (moved place q₀ (held id)) (w.reader d) d ≡ mark_of place (w.reader d) d = λ d. mark_same place q₀ (held id) (w.reader d) d (sym (ap (parked_on d) is)) in
-      let hots = hot told w d s.words i new (omega arith) in (
+      let hots = hot told belongs w d s.words i new (omega arith) in (
         v',
         keeps,
         tt,
@@ -374,7 +375,7 @@ module _ {T : Type 0} (told : T → Option Tale) (w : Wires) (d : Deal) where
             alive = fit.alive;
             parts = refl;
           };
-          reckoned = replaced told w d _ place (moved place q₀ (held id)) (λ q. sym (stay q)) (idles told w d s place a.reckoned id m.0 v' ws me record {
+          reckoned = replaced told belongs w d _ place (moved place q₀ (held id)) (λ q. sym (stay q)) (idles told belongs w d s place a.reckoned id m.0 v' ws me record {
             hands_same = refl;
             got_same = refl;
             drawing = omega (arith, hots.budget_same);
@@ -416,7 +417,7 @@ module _ {T : Type 0} (told : T → Option Tale) (w : Wires) (d : Deal) where
                 (λ wr. the_writer q (ap w.writer (sym e) ∙ wr)),
               )))
               (λ ne. inl (elsewhere_same d ne)));
-          reckoned = takes_second told w d s place r a.reckoned i new id m p L (m.0.owed ++ (p, q₀) ∷ []) seen x me inside fit.hands_long fit.got_long (omega arith) free
+          reckoned = takes_second told belongs w d s place r a.reckoned i new id m p L (m.0.owed ++ (p, q₀) ∷ []) seen x me inside fit.hands_long fit.got_long (omega arith) free
               (omega (arith, ap is_up on_c, one_longer m.0.owed (p, q₀)))
               (owes_woken m.0.hands p q₀ m.0.owed free (get_or-set_same m.0.hands p 1 0 (omega (arith, fit.hands_long))) is_in (a.reckoned.counted.pairs id m.0 me)) saw_it.1 saw_it.2 fixed;
         },
@@ -445,6 +446,7 @@ module _ {T : Type 0} (told : T → Option Tale) (w : Wires) (d : Deal) where
               a.reckoned.budgeted.tells p y inside cell.1,
               saw_it.1,
               saw_it.3,
+              a.reckoned.lasting.belonging p y inside cell.1,
             ),
           )),
         ),

@@ -1,5 +1,7 @@
 -- What a board was given.
-use Rattle.std.specs.Prelude.{ℕ, List, Option}
+use Rattle.std.specs.Prelude.{◌≡◌, ℕ, List, Option}
+use mathlib.Core.Option.{some}
+use lib.ListN.{get_elem?}
 use Rattle.kahn_board.specs.Tale.{Tale, events_past}
 use Rattle.kahn_board.specs.Place.{total}
 use Rattle.kahn_board.specs.Wires.{Wires, wires}
@@ -10,6 +12,10 @@ module _ {T : Type 0} where
   -- the wires of the network that it was made for
   abbrev pub wired : Terms T → Wires
   wired key = wires key.network.value
+
+  -- the cell y belongs to the instance p: it is a later state of the one that was given for p
+  abbrev pub belongs : (T → T → Type 0) → Terms T → ℕ → T → Type 0
+  belongs after key p y = (x : T) → get_elem? key.cells.value.items p ≡ some x → after x y
 
 module _ {T : Type 0} (told : T → Option Tale) where
   -- the events that the cells tell when the board is made

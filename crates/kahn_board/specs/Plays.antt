@@ -68,15 +68,6 @@ abbrev pub SeesMore : ℕ → ℕ → Type 0
 SeesMore old new = (new ≡ old) ⊎ (new ≡ 2)
 
 module _ {T : Type 0} (told : T → Option Tale) (w : Wires) where
-  -- the seat took the cell y of the instance p: what y tells as flushed is published; it has flushed all that it sent, or the run is halted
-  abbrev pub Got : Sat T → ℕ → ℕ → Sat T → T → Type 0
-  Got m p r n y = (L : List ℕ) × (e : ℕ) × (seen : ℕ) × (n ≡ (took m.0 p L e seen r, (p, Some y) ∷ m.1)) × (slice_index m.0.hands p ≡ 0) × (length L ≡ length m.0.flushed)
-      × Agrees w m.0 L × ((c k : ℕ) → flushed_of (told y) c ≡ Some k → (w.writer c ≡ Some p) × (c < w.channels) × (k ≡ slice_index L c))
-      × TellsEvents (told y) e × SeesMore m.0.seen seen × ((seen ≡ 2) ⊎ FlushedAll (told y))
-
-  abbrev pub claimed : ℕ → Play T
-  claimed p st m r n = (r ≡ 0 → (y : T) × Got m p 0 n y) × (r ≢ 0 → n ≡ (noted m.0 r, m.1))
-
   -- the seat gave up the instance p with the cell y, whose slot it took last
   abbrev pub GaveUp : Sat T → ℕ → ℕ → ℕ → Sat T → T → Type 0
   GaveUp m p more r n y = n ≡ (gave m.0 p (told y) more r, rest m.1)
@@ -91,6 +82,16 @@ module _ {T : Type 0} (told : T → Option Tale) (w : Wires) where
 
   abbrev pub parked_or_not : ℕ → Play T
   parked_or_not p st m r n = (r ≡ st.first → (y : T) × TheFirst m p y × GaveUp m p 1 r n y) × (r ≢ st.first → (r % 2 ≡ 0) × (n ≡ (noted m.0 r, m.1)))
+
+module _ {T : Type 0} (told : T → Option Tale) (belongs : ℕ → T → Type 0) (w : Wires) where
+  -- the seat took the cell y of the instance p: what y tells as flushed is published; it has flushed all that it sent, or the run is halted; it belongs to p
+  abbrev pub Got : Sat T → ℕ → ℕ → Sat T → T → Type 0
+  Got m p r n y = (L : List ℕ) × (e : ℕ) × (seen : ℕ) × (n ≡ (took m.0 p L e seen r, (p, Some y) ∷ m.1)) × (slice_index m.0.hands p ≡ 0) × (length L ≡ length m.0.flushed)
+      × Agrees w m.0 L × ((c k : ℕ) → flushed_of (told y) c ≡ Some k → (w.writer c ≡ Some p) × (c < w.channels) × (k ≡ slice_index L c))
+      × TellsEvents (told y) e × SeesMore m.0.seen seen × ((seen ≡ 2) ⊎ FlushedAll (told y)) × belongs p y
+
+  abbrev pub claimed : ℕ → Play T
+  claimed p st m r n = (r ≡ 0 → (y : T) × Got m p 0 n y) × (r ≢ 0 → n ≡ (noted m.0 r, m.1))
 
   -- where the number found was odd, the seat took the reader's cell, which waits on the channel c and took all that was published
   abbrev pub publishes : ℕ → Play T

@@ -131,11 +131,12 @@ module _ {T : Type 0} where
     -- so the count doesn't wrap
     pub few : (j : ℕ) (v : View) → get_elem? s.views j ≡ some v → v.down ≤ 2 ^ 32 * v.parts
 
-  -- what a seat saw stays so; the words of channels that no instance writes stay; a cell at home has flushed all that it sent, unless halted
-  pub record Lasting (told : T → std.Option Tale) (w : Wires) (d : Deal) (s : St T) : Type 0 where
+  -- what a seat saw stays so; the words of channels that no instance writes stay; a cell at home has flushed all that it sent, unless halted, and belongs to its instance
+  pub record Lasting (told : T → std.Option Tale) (belongs : ℕ → T → Type 0) (w : Wires) (d : Deal) (s : St T) : Type 0 where
     pub saw_quiet : (j : ℕ) (v : View) → get_elem? s.views j ≡ some v → v.seen ≡ 1 → count w s.words ≡ 0
     pub saw_halted : (j : ℕ) (v : View) → get_elem? s.views j ≡ some v → v.seen ≡ 2 → halted w s.words ≢ 0
     pub flushed_all : (p : ℕ) (y : T) → p < w.instances → IsHome s p y → halted w s.words ≡ 0 → FlushedAll (told y)
+    pub belonging : (p : ℕ) (y : T) → p < w.instances → IsHome s p y → belongs p y
     pub fixed : (c : ℕ) → c < w.channels → w.writer c ≡ std.None → published w s.words c ≡ d.published c
 
   -- where one seat is done and all others are done or unused
@@ -152,15 +153,15 @@ module _ {T : Type 0} where
     pub left : AllLeft s → Stopped w s
 
   -- budget, count, what lasts, and leaving
-  pub record Reckoned (told : T → std.Option Tale) (w : Wires) (d : Deal) (place : ℕ → Place) (s : St T) : Type 0 where
+  pub record Reckoned (told : T → std.Option Tale) (belongs : ℕ → T → Type 0) (w : Wires) (d : Deal) (place : ℕ → Place) (s : St T) : Type 0 where
     pub tally : ℕ → ℕ
     pub budgeted : Budgeted told w d tally s
     pub counted : CountIs w place s
-    pub lasting : Lasting told w d s
+    pub lasting : Lasting told belongs w d s
     pub leaving : Leaving w s
 
   -- the rule
-  pub record Whole (told : T → std.Option Tale) (w : Wires) (d : Deal) (s : St T) : Type 0 where
+  pub record Whole (told : T → std.Option Tale) (belongs : ℕ → T → Type 0) (w : Wires) (d : Deal) (s : St T) : Type 0 where
     pub place : ℕ → Place
     pub ruled : Ruled told w place s
-    pub reckoned : Reckoned told w d place s
+    pub reckoned : Reckoned told belongs w d place s

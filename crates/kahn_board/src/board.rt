@@ -61,12 +61,12 @@ impl<T: Told> Seat<T> {
     ghost use Rattle.kahn_board.specs.Plays.{IsIn};
     ghost use Rattle.kahn_board.specs.Hands.{Carries};
     ghost use Rattle.atomic_table.specs.Table.{turned as shifted};
-    ghost use Rattle.kahn_board.specs.Dealt.{wired};
+    ghost use Rattle.kahn_board.specs.Dealt.{belongs, wired};
     ghost use Rattle.kahn_board.specs.Rest.{downs_of};
 
     pub fn claim(&mut self, board: &Board<T>, p: usize) -> Option<()>
         requires { (self.old.seat.table_id ≡ board.now.table.shared.table_id) × (p < board.now.instances) }
-        ensures { Claims T.told (wired board.now.table.shared.key) self.old self.new p result }
+        ensures { Claims T.told (belongs T.after board.now.table.shared.key) (wired board.now.table.shared.key) self.old self.new p result }
     {
         let found = board
             .table
@@ -108,11 +108,12 @@ impl<T: Told> Seat<T> {
         }
     }
 
-    /// Moves the cell out.
+    /// Moves the cell out: the only one that the seat has of the instance.
     pub fn cell(&mut self, board: &Board<T>, p: usize) -> T
         requires board { self.old.seat.table_id ≡ board.now.table.shared.table_id }
         requires held { IsIn self.old.seat.me.0 p × ((y : T) × Carries self.old.seat.me.1 p (Some y)) }
-        ensures { Swaps self.old self.new p (Some result) None }
+        ensures swaps { Swaps self.old self.new p (Some result) None }
+        ensures only { (y : T) → Carries self.old.seat.me.1 p (Some y) → y ≡ result }
     {
         self.bring(p);
         board
@@ -136,7 +137,7 @@ impl<T: Told> Seat<T> {
     /// The instance is ready again, or over.
     pub fn set_down(&mut self, board: &Board<T>, p: usize, rest: Rest)
         requires board { self.old.seat.table_id ≡ board.now.table.shared.table_id }
-        requires held { IsIn self.old.seat.me.0 p × ((y : T) × Carries self.old.seat.me.1 p (Some y) × Leaves T.told (wired board.now.table.shared.key) self.old.seat.me.0 p y × (rest ≡ Over → TellsEnd (T.told y))) }
+        requires held { IsIn self.old.seat.me.0 p × ((y : T) × Carries self.old.seat.me.1 p (Some y) × Leaves T.told (belongs T.after board.now.table.shared.key) (wired board.now.table.shared.key) self.old.seat.me.0 p y × (rest ≡ Over → TellsEnd (T.told y))) }
         requires few { OwesFew self.old.seat.me.0 }
         ensures { GivesUp T.told self.old self.new p (downs_of rest) }
     {
@@ -156,7 +157,7 @@ impl<T: Told> Seat<T> {
     pub fn park(&mut self, board: &Board<T>, p: usize, channel: usize, taken: u64) -> bool
         requires board { self.old.seat.table_id ≡ board.now.table.shared.table_id }
         requires reads { (channel < board.now.channels) × ((wired board.now.table.shared.key).reader channel ≡ Some p) × (taken < 2 ^ 48) }
-        requires held { IsIn self.old.seat.me.0 p × ((y : T) × Carries self.old.seat.me.1 p (Some y) × Leaves T.told (wired board.now.table.shared.key) self.old.seat.me.0 p y × TellsWait (T.told y) channel taken) }
+        requires held { IsIn self.old.seat.me.0 p × ((y : T) × Carries self.old.seat.me.1 p (Some y) × Leaves T.told (belongs T.after board.now.table.shared.key) (wired board.now.table.shared.key) self.old.seat.me.0 p y × TellsWait (T.told y) channel taken) }
         requires few { OwesFew self.old.seat.me.0 }
         ensures { Parks T.told self.old self.new p taken result }
     {
@@ -177,7 +178,7 @@ impl<T: Told> Seat<T> {
     pub fn publish(&mut self, board: &Board<T>, channel: usize, count: u64) -> Option<usize>
         requires board { self.old.seat.table_id ≡ board.now.table.shared.table_id }
         requires writer { (channel < board.now.channels) × (count < 2 ^ 48) × ((q : ℕ) × ((wired board.now.table.shared.key).writer channel ≡ Some q) × IsIn self.old.seat.me.0 q) }
-        ensures { Publishes T.told (wired board.now.table.shared.key) self.old self.new channel count result }
+        ensures { Publishes T.told (belongs T.after board.now.table.shared.key) (wired board.now.table.shared.key) self.old self.new channel count result }
     {
         let word = 8 * (board.instances + channel);
         let found = board

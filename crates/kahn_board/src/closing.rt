@@ -2,7 +2,7 @@
 ghost use Rattle.std.specs.Prelude.{◌≡◌, ℕ, ◌+◌, ◌*◌, ◌^◌, ◌<◌, ◌≤◌, [], Option, Some, length, slice_index, replicate, IfOk, IfErr};
 ghost use mathlib.Core.Option.{some};
 ghost use lib.ListN.{get_elem?};
-ghost use Rattle.kahn_board.specs.Dealt.{dealt, wired};
+ghost use Rattle.kahn_board.specs.Dealt.{belongs, dealt, wired};
 ghost use Rattle.kahn_board.specs.Closing.{Closes};
 ghost use Rattle.kahn_board.specs.Cuts.{HoldsNothing, IsFree, kept_part, cut_part, joined};
 ghost use Rattle.kahn_board.specs.Rule.{all_parts};
@@ -82,7 +82,7 @@ impl<T: Told> Board<T> {
     /// Each cell, in order, the budget, and whether the run was halted.
     pub fn close(self, seat: Seat<T>) -> Closed<T>
         requires { (seat.seat.table_id ≡ self.table.shared.table_id) × (seat.seat.me.0.parts ≡ all_parts) × IsFree seat.seat.me.0 }
-        ensures { Closes T.told (wired self.table.shared.key) (dealt T.told self.table.shared.key) result.cells.items seat.seat.me.0 result.budget result.halted }
+        ensures { Closes T.told (belongs T.after self.table.shared.key) (wired self.table.shared.key) (dealt T.told self.table.shared.key) result.cells.items seat.seat.me.0 result.budget result.halted }
     {
         let Board {
             table,

@@ -14,3 +14,7 @@ pub use board::{Board, Draw, Look, Rest, Seat};
 pub use closing::Closed;
 pub use rule::{Rule, Terms, Told};
 pub use view::View;
+pub use wiring::{reader_of, writer_of};
+
+#[cfg(test)]
+mod tests;

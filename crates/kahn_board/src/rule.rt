@@ -14,6 +14,9 @@ use std::snapshot::Snapshot;
 /// has ended or waits. A cell that tells nothing meets every condition.
 pub trait Told {
     ghost told: { Self → Option Tale };
+
+    /// The second is a later state of the first. The board asks no law of it.
+    ghost after: { Self → Self → Type 0 };
 }
 
 /// What a board was made of: the network, the first words, the cells and the bound. Contracts alone read the first
@@ -43,9 +46,9 @@ pub struct Rule<T> {
 
 impl<T: Told> TableRule<Option<T>, View, Terms<T>> for Rule<T> {
     ghost use Rattle.kahn_board.specs.Rule.{Whole, opening_view};
-    ghost use Rattle.kahn_board.specs.Dealt.{dealt, wired};
+    ghost use Rattle.kahn_board.specs.Dealt.{belongs, dealt, wired};
 
-    ghost holds = { λ key. Whole T.told (wired key) (dealt T.told key) };
+    ghost holds = { λ key. Whole T.told (belongs T.after key) (wired key) (dealt T.told key) };
 
     ghost first = { λ key. opening_view (wired key) };
 }

@@ -15,12 +15,23 @@ pub struct Wiring {
     pub readers: Vec<Option<usize>, Global>,
 }
 
-// The instance that reads the channel.
-fn reader_of(network: &Network, channel: usize) -> Option<usize>
+/// The instance that reads the channel, where one does; none reads an output channel. It takes no memory.
+pub fn reader_of(network: &Network, channel: usize) -> Option<usize>
     requires { channel < (wires network.now).channels }
     ensures { result ≡ (wires network.now).reader channel }
 {
     match network.reader(channel) {
+        Some(side) => Some(side.instance),
+        None => None,
+    }
+}
+
+/// The instance that writes the channel, where one does; none writes an input channel. It takes no memory.
+pub fn writer_of(network: &Network, channel: usize) -> Option<usize>
+    requires { channel < (wires network.now).channels }
+    ensures { result ≡ (wires network.now).writer channel }
+{
+    match network.writer(channel) {
         Some(side) => Some(side.instance),
         None => None,
     }

@@ -1,7 +1,7 @@
 use Rattle.std.proofs.Common.{arith, ◌+◌, ◌*◌, ne_eqb, ◌≡◌, length, ap, ◌∙◌}
 use Rattle.std.specs.Slots.{slots_filled, slots_items}
 use mathlib.Core.Bool.{not}
-use Rattle.kahn_board.specs.Dealt.{wired}
+use Rattle.kahn_board.specs.Dealt.{belongs, wired}
 use Rattle.kahn_board.proofs.Closes.{one_more, all_read, still_filled, emptied}
 use Rattle.kahn_board.specs.Dealt.{dealt}
 use Rattle.kahn_board.proofs.Ends.{closes}
@@ -18,8 +18,8 @@ loop-i-preserved g c = let v = c.loop-i.invariant in let e = c.take.ensures in l
 )
 
 pub returns : goal.returns
-returns g c = let b = c.args.self in let told = g.T.Told.told in let v = c.loop-i.invariant in let f = c.close_with-closed.ensures.values.2 in let k = b.table.shared.key in let w = wired k in let d = dealt told k in
+returns g c = let b = c.args.self in let told = g.T.Told.told in let v = c.loop-i.invariant in let f = c.close_with-closed.ensures.values.2 in let k = b.table.shared.key in let own = belongs g.T.Told.after k in let w = wired k in let d = dealt told k in
     let xs = slots_items c.close_with-closed.result.slots in let n = b.instances in
     let long : length xs ≡ n = omega (arith, f.3, f.1.0.ruled.deep, b.counts.0) in
     let is = all_read xs c.loop-i.room.items c.loop-i.i n long c.loop-i.auto.i-end c.loop-i-test.false v.4 in
-    closes told w d f.0 f.1.0 _ _ f.1.1 c.requires.1 c.requires.2 _ xs _ f.2 f.3 f.4 is (8 * (n + b.channels)) (8 * (n + b.channels) + 16) c.word-budget.result c.word-halted.result (omega (arith, b.counts.0, b.counts.1)) (omega (arith, b.counts.0, b.counts.1)) c.word-budget.ensures c.word-halted.ensures _ (λ ne. ap not (ne_eqb c.word-halted.result 0 ne))
+    closes told own w d f.0 f.1.0 _ _ f.1.1 c.requires.1 c.requires.2 _ xs _ f.2 f.3 f.4 is (8 * (n + b.channels)) (8 * (n + b.channels) + 16) c.word-budget.result c.word-halted.result (omega (arith, b.counts.0, b.counts.1)) (omega (arith, b.counts.0, b.counts.1)) c.word-budget.ensures c.word-halted.ensures _ (λ ne. ap not (ne_eqb c.word-halted.result 0 ne))

@@ -1,5 +1,5 @@
 use Rattle.std.proofs.Common.{rules, ◌≡◌, ℕ, ◌*◌, ◌/◌, sym, ap, ◌∙◌, subst, arith}
-use Rattle.kahn_board.specs.Dealt.{dealt, wired}
+use Rattle.kahn_board.specs.Dealt.{belongs, dealt, wired}
 use Rattle.kahn_board.specs.Calls.{Leaves}
 use Rattle.kahn_board.specs.Plays.{IsIn, TheFirst, GaveUp}
 use Rattle.kahn_board.specs.Rest.{downs_of}
@@ -9,14 +9,14 @@ use Rattle.kahn_board.proofs.board.Seat.set_down.Goals.{in-Ready, in-Over}
 use Rattle.kahn_board.proofs.board.Seat.set_down.Goals as goal
 
 pub store-requires : goal.store-requires
-store-requires g c = let b = c.args.board.now in let told = g.T.Told.told in let k = b.table.shared.key in let w = wired k in let d = dealt told k in
+store-requires g c = let b = c.args.board.now in let told = g.T.Told.told in let k = b.table.shared.key in let own = belongs g.T.Told.after k in let w = wired k in let d = dealt told k in
     let s = c.bring.new.self in let p = c.args.p in let is_in = c.requires.held.0 in
     let had = c.requires.held.1 in let y = had.0 in let same = c.bring.ensures.same in let z = b.table.shared.table_id in
-    let u : Up told w s.seat.me p y = up told w s.seat.me s.seat.table_id z s.held.items _ p y b.instances b.channels s.facts (same.0.0 ∙ c.requires.board) b.sized b.counts c.bring.ensures.first (c.bring.ensures.kept p _ had.1)
-    (subst (λ v. IsIn v p) (sym same.1) is_in) (subst (λ v. Leaves told w v p y) (sym same.1) had.2) (omega (arith, ap (λ v. v.down) same.1, c.requires.few)) in (
+    let u : Up told own w s.seat.me p y = up told own w s.seat.me s.seat.table_id z s.held.items _ p y b.instances b.channels s.facts (same.0.0 ∙ c.requires.board) b.sized b.counts c.bring.ensures.first (c.bring.ensures.kept p _ had.1)
+    (subst (λ v. IsIn v p) (sym same.1) is_in) (subst (λ v. Leaves told own w v p y) (sym same.1) had.2) (omega (arith, ap (λ v. v.down) same.1, c.requires.few)) in (
       search rules,
       omega (arith, u.inside, b.sized.0, b.counts.0),
-      elim c.match-rest.branch [ in-Ready k ↦ readies told w d _ _ _ p _ y _ u (omega arith) k.new-is | in-Over k ↦ ends told w d _ _ _ p _ y _ u (omega arith) k.new-is (had.3 k.in-Over.is) ],
+      elim c.match-rest.branch [ in-Ready k ↦ readies told own w d _ _ _ p _ y _ u (omega arith) k.new-is | in-Over k ↦ ends told own w d _ _ _ p _ y _ u (omega arith) k.new-is (had.3 k.in-Over.is) ],
     )
 
 pub returns : goal.returns
