@@ -1,0 +1,4 @@
+pub mod Drawn
+pub mod Left
+pub mod Passed
+pub mod Joined

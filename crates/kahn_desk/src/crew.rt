@@ -1,0 +1,69 @@
+//! The seats of several workers, from one and to one.
+
+ghost use Rattle.std.specs.Prelude.{◌≡◌, ℕ, ◌+◌, ◌<◌, ◌≤◌, length, All, IfOk, IfErr};
+ghost use Rattle.kahn_board.specs.Rule.{all_parts};
+ghost use Rattle.kahn_desk.specs.Turn.{IsIdle};
+ghost use Rattle.kahn_desk.specs.Crew.{parts_of, done_of};
+
+use kahn_board::{Board, Seat, Told};
+use kahn_streams::memory::NoMemory;
+use std::alloc::Global;
+
+/// So many seats from one. `NoMemory` comes with the one seat.
+pub fn split_all<T: Told>(
+    alloc: Global,
+    board: &Board<T>,
+    seat: Seat<T>,
+    count: usize,
+) -> Result<Vec<Seat<T>, Global>, (NoMemory, Seat<T>)>
+    requires board { seat.seat.table_id ≡ board.now.table.shared.table_id }
+    requires whole { IsIdle seat × (seat.seat.me.0.parts ≡ all_parts) }
+    requires few { (1 ≤ count) × (count ≤ 16) }
+    ensures counted { IfOk result (λ v. length v.items ≡ count) }
+    ensures each { IfOk result (λ v. All (λ s. (s.seat.table_id ≡ seat.seat.table_id) × IsIdle s) v.items) }
+    ensures sums { IfOk result (λ v. (parts_of v.items ≡ all_parts) × (done_of v.items ≡ seat.seat.me.0.done)) }
+    ensures refused { IfErr result (λ e. (e.1.seat.table_id ≡ seat.seat.table_id) × IsIdle e.1 × (e.1.seat.me.0.parts ≡ all_parts) × (e.1.seat.me.0.done ≡ seat.seat.me.0.done)) }
+{
+    let Ok(mut seats) = Vec::with_capacity(alloc, count) else {
+        return Err((NoMemory, seat));
+    };
+    let mut first = seat;
+    for _ in 1..count {
+        match board.split(alloc, first) {
+            Ok((kept, second)) => {
+                first = kept;
+                seats.push_reserved(second);
+            }
+            Err((fault, kept)) => return Err((fault, join_rest(board, kept, seats))),
+        }
+    }
+    seats.push_reserved(first);
+    Ok(seats)
+}
+
+// One seat of the first and the others.
+fn join_rest<T: Told>(board: &Board<T>, first: Seat<T>, mut others: Vec<Seat<T>, Global>) -> Seat<T>
+    requires first { (first.seat.table_id ≡ board.now.table.shared.table_id) × IsIdle first }
+    requires others { All (λ s. (s.seat.table_id ≡ board.now.table.shared.table_id) × IsIdle s) others.items }
+    ensures same { (result.seat.table_id ≡ first.seat.table_id) × IsIdle result }
+    ensures sums { (result.seat.me.0.parts ≡ first.seat.me.0.parts + parts_of others.items) × (result.seat.me.0.done ≡ first.seat.me.0.done + done_of others.items) }
+    ensures left { All (λ s. s.seat.me.0.stage ≤ 1) others.items → first.seat.me.0.stage ≡ 1 → result.seat.me.0.stage ≡ 1 }
+{
+    let mut seat = first;
+    while let Some(other) = others.pop() {
+        seat = board.join(seat, other);
+    }
+    others.destroy_empty();
+    seat
+}
+
+/// One seat of all that have left.
+pub fn join_all<T: Told>(board: &Board<T>, mut seats: Vec<Seat<T>, Global>) -> Seat<T>
+    requires some { 0 < length seats.items }
+    requires each { All (λ s. (s.seat.table_id ≡ board.now.table.shared.table_id) × IsIdle s × (s.seat.me.0.stage ≡ 1)) seats.items }
+    ensures idle { (result.seat.table_id ≡ board.now.table.shared.table_id) × IsIdle result × (result.seat.me.0.stage ≡ 1) }
+    ensures sums { (result.seat.me.0.parts ≡ parts_of seats.items) × (result.seat.me.0.done ≡ done_of seats.items) }
+{
+    let first = seats.pop().unwrap();
+    join_rest(board, first, seats)
+}

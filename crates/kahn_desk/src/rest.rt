@@ -1,0 +1,65 @@
+//! How an instance is set down at the end of a turn, and whether another turn comes.
+
+ghost use Rattle.std.specs.Prelude.{◌≡◌, ◌≢◌, ◌⊎◌, ℕ, ◌^◌, ◌<◌, true, false, Option, Some};
+ghost use Rattle.kahn_board.specs.Dealt.{belongs, wired};
+ghost use Rattle.kahn_board.specs.Tale.{TellsEnd, TellsWait};
+ghost use Rattle.kahn_desk.specs.Turn.{IsIdle, IsSeatOf, Holds, Found, Fits};
+
+use kahn_board::{Board, Look, Rest, Seat, Told};
+
+/// The instance is ready for another turn.
+pub fn rest_ready<T: Told>(seat: &mut Seat<T>, board: &Board<T>, p: usize)
+    requires board { seat.old.seat.table_id ≡ board.now.table.shared.table_id }
+    requires holds { (l : ℕ) × (y : T) × Holds p 0 l (Some y) seat.old × Fits T.told (belongs T.after board.now.table.shared.key) (wired board.now.table.shared.key) p y seat.old.seat.me.0 }
+    ensures same { IsSeatOf seat.old seat.new }
+    ensures idle { IsIdle seat.new }
+{
+    seat.set_down(board, p, Rest::Ready);
+}
+
+/// The instance has ended.
+pub fn rest_over<T: Told>(seat: &mut Seat<T>, board: &Board<T>, p: usize)
+    requires board { seat.old.seat.table_id ≡ board.now.table.shared.table_id }
+    requires holds { (l : ℕ) × (y : T) × Holds p 0 l (Some y) seat.old × Fits T.told (belongs T.after board.now.table.shared.key) (wired board.now.table.shared.key) p y seat.old.seat.me.0 × TellsEnd (T.told y) }
+    ensures same { IsSeatOf seat.old seat.new }
+    ensures idle { IsIdle seat.new }
+{
+    seat.set_down(board, p, Rest::Over);
+    seat.count_down(board);
+}
+
+/// The instance waits on the channel, of which it took so many tokens. False where others are published: then it is
+/// ready for another turn.
+pub fn rest_dry<T: Told>(
+    seat: &mut Seat<T>,
+    board: &Board<T>,
+    p: usize,
+    channel: usize,
+    taken: u64,
+) -> bool
+    requires board { seat.old.seat.table_id ≡ board.now.table.shared.table_id }
+    requires reads { (channel < board.now.channels) × ((wired board.now.table.shared.key).reader channel ≡ Some p) × (taken < 2 ^ 48) }
+    requires holds { (l : ℕ) × (y : T) × Holds p 0 l (Some y) seat.old × Fits T.told (belongs T.after board.now.table.shared.key) (wired board.now.table.shared.key) p y seat.old.seat.me.0 × TellsWait (T.told y) channel taken }
+    ensures same { IsSeatOf seat.old seat.new }
+    ensures idle { IsIdle seat.new }
+{
+    if !seat.park(board, p, channel, taken) {
+        rest_ready(seat, board, p);
+        return false;
+    }
+    seat.count_down(board);
+    true
+}
+
+/// Whether another turn comes. False once the run is halted, or no instance can go on, or the budget is empty, which
+/// the seat saw, or found 0: then it has left.
+pub fn go_on<T: Told>(seat: &mut Seat<T>, board: &Board<T>) -> bool
+    requires board { seat.old.seat.table_id ≡ board.now.table.shared.table_id }
+    requires idle { IsIdle seat.old }
+    ensures same { IsSeatOf seat.old seat.new }
+    ensures idle { IsIdle seat.new }
+    ensures goes { result ≡ true → (seat.old.seat.me.0.seen ≢ 2) × (seat.old.seat.me.0.seen ≢ 1) × ((r : ℕ) × (r ≢ 0) × Found seat.old.seat.me.0 seat.new.seat.me.0 r) }
+    ensures left { result ≡ false → (seat.new.seat.me.0.stage ≡ 1) × ((seat.new.seat.me.0.seen ≡ 2) ⊎ Found seat.old.seat.me.0 seat.new.seat.me.0 0) }
+{
+    matches!(seat.look(board), Look::Go)
+}

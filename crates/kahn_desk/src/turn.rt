@@ -1,0 +1,115 @@
+//! The calls of a turn, from the pick of an instance to the give back of what was not done.
+
+ghost use Rattle.std.specs.Prelude.{◌≡◌, ◌≢◌, ℕ, ◌+◌, ◌-◌, ◌^◌, ◌<◌, ◌≤◌, slice_index, true, false, Option, Some, None, IfSome, IfNone};
+ghost use Rattle.kahn_board.specs.Dealt.{belongs, wired};
+ghost use Rattle.kahn_desk.specs.Turn.{IsIdle, IsSeatOf, Holds, Found, Knows, Tells, Fits};
+
+use kahn_board::{Board, Draw, Rest, Seat, Told};
+use std::sync::Wait;
+
+/// Takes the instance, where it is ready. False where it is not, since another worker has it, or it waits, or it is
+/// over: then the number found is not 0.
+pub fn pick<T: Told>(seat: &mut Seat<T>, board: &Board<T>, p: usize) -> bool
+    requires board { seat.old.seat.table_id ≡ board.now.table.shared.table_id }
+    requires idle { IsIdle seat.old }
+    requires inside { p < board.now.instances }
+    ensures same { IsSeatOf seat.old seat.new }
+    ensures picked { result ≡ true → (y : T) × Holds p 0 0 (Some y) seat.new × Fits T.told (belongs T.after board.now.table.shared.key) (wired board.now.table.shared.key) p y seat.new.seat.me.0 }
+    ensures left { result ≡ false → IsIdle seat.new × ((r : ℕ) × (r ≢ 0) × Found seat.old.seat.me.0 seat.new.seat.me.0 r) }
+{
+    seat.claim(board, p).is_some()
+}
+
+/// Draws events from the budget, one up to `quantum`, again while other workers come between. `None` where the budget
+/// is empty: the number found is 0.
+pub fn draw_some<T: Told>(
+    rt: &impl Wait,
+    seat: &mut Seat<T>,
+    board: &Board<T>,
+    p: usize,
+    quantum: u64,
+) -> Option<u64>
+    requires board { seat.old.seat.table_id ≡ board.now.table.shared.table_id }
+    requires holds { (x : Option T) × Holds p 0 0 x seat.old }
+    requires some { 0 < quantum }
+    ensures same { IsSeatOf seat.old seat.new }
+    ensures knows { Knows (wired board.now.table.shared.key) p seat.old.seat.me.0 seat.new.seat.me.0 }
+    ensures drawn { IfSome result (λ n. (0 < n) × (n ≤ quantum) × (slice_index seat.new.seat.me.0.got p + n < 2 ^ 48) × ((x : Option T) → Holds p 0 0 x seat.old → Holds p n 0 x seat.new)) }
+    ensures empty { IfNone result (Found seat.old.seat.me.0 seat.new.seat.me.0 0 × ((x : Option T) → Holds p 0 0 x seat.old → Holds p 0 0 x seat.new)) }
+{
+    for _ in rt.forever() {
+        match seat.draw(board, quantum) {
+            Draw::Got(n) => return Some(n),
+            Draw::Empty => return None,
+            Draw::Lost => {}
+        }
+    }
+    unreachable!()
+}
+
+/// Moves the cell out of its slot.
+pub fn take_cell<T: Told>(seat: &mut Seat<T>, board: &Board<T>, p: usize) -> T
+    requires board { seat.old.seat.table_id ≡ board.now.table.shared.table_id }
+    requires holds { (n : ℕ) × (l : ℕ) × (y : T) × Holds p n l (Some y) seat.old }
+    ensures same { IsSeatOf seat.old seat.new × (seat.new.seat.me.0 ≡ seat.old.seat.me.0) }
+    ensures holds { (n l : ℕ) (y : T) → Holds p n l (Some y) seat.old → Holds p n l None seat.new }
+    ensures cell { (n l : ℕ) (y : T) → Holds p n l (Some y) seat.old → y ≡ result }
+{
+    seat.cell(board, p)
+}
+
+/// Puts the cell into its slot.
+pub fn put<T: Told>(seat: &mut Seat<T>, board: &Board<T>, p: usize, cell: T)
+    requires board { seat.old.seat.table_id ≡ board.now.table.shared.table_id }
+    requires holds { (n : ℕ) × (l : ℕ) × Holds p n l None seat.old }
+    ensures same { IsSeatOf seat.old seat.new × (seat.new.seat.me.0 ≡ seat.old.seat.me.0) }
+    ensures holds { (n l : ℕ) → Holds p n l None seat.old → Holds p n l (Some cell) seat.new }
+{
+    seat.put_back(board, p, cell);
+}
+
+/// So many tokens of the channel are published. Answers the reader where it waited on the channel: it is ready again.
+/// `None` where the one step was all there was to do.
+pub fn tell<T: Told>(
+    seat: &mut Seat<T>,
+    board: &Board<T>,
+    p: usize,
+    channel: usize,
+    count: u64,
+) -> Option<usize>
+    requires board { seat.old.seat.table_id ≡ board.now.table.shared.table_id }
+    requires holds { (n : ℕ) × (l : ℕ) × (x : Option T) × Holds p n l x seat.old }
+    requires writes { (channel < board.now.channels) × ((wired board.now.table.shared.key).writer channel ≡ Some p) × (count < 2 ^ 48) }
+    ensures same { IsSeatOf seat.old seat.new }
+    ensures holds { (n l : ℕ) (x : Option T) → Holds p n l x seat.old → Holds p n l x seat.new }
+    ensures tells { Tells (wired board.now.table.shared.key) p channel count seat.old.seat.me.0 seat.new.seat.me.0 }
+    ensures woken { IfSome result (λ r. (r < board.now.instances) × ((wired board.now.table.shared.key).reader channel ≡ Some r)) }
+    ensures alone { IfNone result (seat.new.seat.me.0.steps ≡ seat.old.seat.me.0.steps + 1) }
+{
+    let reader = seat.publish(board, channel, count)?;
+    seat.count_up(board);
+    seat.set_down(board, reader, Rest::Ready);
+    Some(reader)
+}
+
+/// The run is to stop: each worker leaves after its turn.
+pub fn stop<T: Told>(seat: &mut Seat<T>, board: &Board<T>)
+    requires { seat.old.seat.table_id ≡ board.now.table.shared.table_id }
+    ensures same { IsSeatOf seat.old seat.new }
+    ensures holds { (p n l : ℕ) (x : Option T) → Holds p n l x seat.old → Holds p n l x seat.new }
+    ensures idle { IsIdle seat.old → IsIdle seat.new }
+    ensures halted { (seat.new.seat.me.0.seen ≡ 2) × (seat.new.seat.me.0.flushed ≡ seat.old.seat.me.0.flushed) × (seat.new.seat.me.0.got ≡ seat.old.seat.me.0.got) }
+{
+    seat.halt(board);
+}
+
+/// So many events of the draw were not done, the others were.
+pub fn give<T: Told>(seat: &mut Seat<T>, board: &Board<T>, p: usize, undone: u64)
+    requires board { seat.old.seat.table_id ≡ board.now.table.shared.table_id }
+    requires holds { (n : ℕ) × (x : Option T) × Holds p n 0 x seat.old × (undone ≤ n) }
+    ensures same { IsSeatOf seat.old seat.new }
+    ensures knows { Knows (wired board.now.table.shared.key) p seat.old.seat.me.0 seat.new.seat.me.0 }
+    ensures holds { (n : ℕ) (x : Option T) → Holds p n 0 x seat.old → Holds p 0 (n - undone) x seat.new }
+{
+    seat.give_back(board, undone);
+}
