@@ -1,0 +1,100 @@
+-- Workers with their seats.
+use Rattle.std.proofs.Common.{arith, ◌≡◌, ℕ, zero, suc, ◌+◌, ◌<◌, List, [], ◌∷◌, ◌++◌, length, All, sum_by, slice_index_or, refl, sym, ap, ◌∙◌, subst, Option, Some, option_to_list}
+use Rattle.std.proofs.lemmas.List.{get_or_append_left, get_or_push, length-append}
+use Rattle.std.proofs.lemmas.List.Elements.{All-push}
+use Rattle.std.proofs.lemmas.List.Sums.{sum_by_push, sum_by-cons}
+use Rattle.atomic_table.specs.Seated.{TableId}
+use Rattle.kahn_board.specs.declared.board.Seat.{Seat}
+use Rattle.kahn_desk.specs.Crew.{parts_of}
+use Rattle.kahn_desk.specs.Turn.{IsIdle}
+use Rattle.kahn_crew.specs.Crews.{HasGone, IsSeated, crew_parts}
+use Rattle.kahn_crew.specs.Tasks.{Tasked}
+use Rattle.kahn_crew.specs.declared.worker.Worker.{Worker}
+
+all_but_last : {A : Type 0} (P : A → Type 0) (xs : List A) (x : A) → All P (xs ++ x ∷ []) → All P xs × P x
+all_but_last P xs x all = (
+  (λ k d near. subst P (get_or_append_left xs (x ∷ []) d k near) (all k d (omega (arith, near, length-append xs (x ∷ []))))),
+  subst P (get_or_push xs x x (length xs) refl) (all (length xs) x (omega (arith, length-append xs (x ∷ [])))),
+)
+
+-- sums of lists that are alike at each place
+sum_same : {A : Type 0} (f : A → ℕ) (xs ys : List A) → length ys ≡ length xs → ((i : ℕ) (d : A) → i < length xs → f (slice_index_or ys i d) ≡ f (slice_index_or xs i d)) → sum_by f ys ≡ sum_by f xs
+sum_same f [] [] e h = refl
+sum_same f [] (y ∷ ys) e h = absurd (omega (arith, e))
+sum_same f (x ∷ xs) [] e h = absurd (omega (arith, e))
+sum_same f (x ∷ xs) (y ∷ ys) e h =
+    let head : f y ≡ f x = h 0 x (omega arith) in
+    let rest = sum_same f xs ys (omega (arith, e)) (λ i d lt. h (suc i) d (omega (arith, lt))) in
+    omega (arith, head, rest, sum_by-cons f x xs, sum_by-cons f y ys)
+
+abbrev pub IsOf : TableId → Seat Tasked → Type 0
+IsOf z s = (s.seat.table_id ≡ z) × IsIdle s
+
+abbrev pub IsOver : TableId → Seat Tasked → Type 0
+IsOver z s = (s.seat.table_id ≡ z) × IsIdle s × (s.seat.me.0.stage ≡ 1)
+
+-- of all seats some have a worker, and the others wait
+pub record Manned (z : TableId) (all left : List (Seat Tasked)) (workers : List Worker) : Type 0 where
+  pub seated : All (IsSeated z) workers
+  pub idle : All (IsOf z) left
+  pub sums : crew_parts workers + parts_of left ≡ parts_of all
+  pub count : length workers + length left ≡ length all
+
+pub none_manned : (z : TableId) (all : List (Seat Tasked)) (workers : List Worker) → workers ≡ [] → All (IsOf z) all → Manned z all all workers
+none_manned z all workers e h = record {
+  seated = λ k d lt. absurd (omega (arith, lt, ap length e));
+  idle = h;
+  sums = omega (arith, ap crew_parts e);
+  count = omega (arith, ap length e);
+}
+
+pub one_manned : (z : TableId) (all left rest : List (Seat Tasked)) (s : Seat Tasked) (workers more : List Worker) (w : Worker) → Manned z all left workers →
+    left ≡ rest ++ s ∷ [] → more ≡ workers ++ w ∷ [] → w.seat ≡ s → Manned z all rest more
+one_manned z all left rest s workers more w m e f is =
+    let t = all_but_last (IsOf z) rest s (subst (All (IsOf z)) e m.idle) in record {
+      seated = subst (All (IsSeated z)) (sym f) (All-push (IsSeated z) workers w m.seated (subst (IsOf z) (sym is) t.1));
+      idle = t.0;
+      sums = omega (arith, m.sums, ap parts_of e, sum_by_push (λ (s : Seat Tasked). s.seat.me.0.parts) rest s, ap crew_parts f, sum_by_push (λ (w : Worker). w.seat.seat.me.0.parts) workers w, ap (λ (s : Seat Tasked). s.seat.me.0.parts) is);
+      count = omega (arith, m.count, ap length e, length-append rest (s ∷ []), ap length f, length-append workers (w ∷ []));
+    }
+
+-- of all workers some gave back their seats
+pub record Dismissed (z : TableId) (all left : List Worker) (seats : List (Seat Tasked)) : Type 0 where
+  pub over : All (IsOver z) seats
+  pub gone : All (HasGone z) left
+  pub sums : parts_of seats + crew_parts left ≡ crew_parts all
+  pub count : length seats + length left ≡ length all
+
+pub none_dismissed : (z : TableId) (all : List Worker) (seats : List (Seat Tasked)) → seats ≡ [] → All (HasGone z) all → Dismissed z all all seats
+none_dismissed z all seats e h = record {
+  over = λ k d lt. absurd (omega (arith, lt, ap length e));
+  gone = h;
+  sums = omega (arith, ap parts_of e);
+  count = omega (arith, ap length e);
+}
+
+pub one_dismissed : (z : TableId) (all left rest : List Worker) (w : Worker) (seats more : List (Seat Tasked)) (s : Seat Tasked) → Dismissed z all left seats →
+    left ≡ rest ++ w ∷ [] → more ≡ seats ++ s ∷ [] → w.seat ≡ s → Dismissed z all rest more
+one_dismissed z all left rest w seats more s m e f is =
+    let t = all_but_last (HasGone z) rest w (subst (All (HasGone z)) e m.gone) in record {
+      over = subst (All (IsOver z)) (sym f) (All-push (IsOver z) seats s m.over (subst (IsOver z) is t.1));
+      gone = t.0;
+      sums = omega (arith, m.sums, ap crew_parts e, sum_by_push (λ (w : Worker). w.seat.seat.me.0.parts) rest w, ap parts_of f, sum_by_push (λ (s : Seat Tasked). s.seat.me.0.parts) seats s, ap (λ (s : Seat Tasked). s.seat.me.0.parts) is);
+      count = omega (arith, m.count, ap length e, length-append rest (w ∷ []), ap length f, length-append seats (s ∷ []));
+    }
+
+-- all have worked
+pub all_gone : (z : TableId) (old new : List Worker) → length new ≡ length old →
+    ((i : ℕ) (d : Worker) → i < length old → HasGone z (slice_index_or new i d) × ((slice_index_or new i d).seat.seat.me.0.parts ≡ (slice_index_or old i d).seat.seat.me.0.parts)) →
+    All (HasGone z) new × (crew_parts new ≡ crew_parts old)
+all_gone z old new e h = (
+  (λ i d lt. (h i d (omega (arith, lt, e))).0),
+  sum_same (λ (w : Worker). w.seat.seat.me.0.parts) old new e (λ i d lt. (h i d lt).1),
+)
+
+-- one is taken from the end
+pub one_less : {A B : Type 0} (old new : List A) (o : Option A) (h : A) (seats rest : List B) (s : B) → length old ≡ length seats → old ≡ new ++ option_to_list o → o ≡ Some h →
+    seats ≡ rest ++ s ∷ [] → length new ≡ length rest
+one_less old new o h seats rest s even e f g =
+    let a : old ≡ new ++ h ∷ [] = e ∙ ap (λ (p : Option _). new ++ option_to_list p) f in
+    omega (arith, even, ap length a, length-append new (h ∷ []), ap length g, length-append rest (s ∷ []))

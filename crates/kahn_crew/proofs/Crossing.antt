@@ -1,0 +1,102 @@
+-- Which types may go from one thread to another, or be shared by threads, part by part.
+--     task_send, seat_send, worker_send      a task, a worker's seat and a worker may go to another thread
+--     empty_sync      threads may share an empty list, also where they may not share what it is for
+--     board_sync      threads may share a board of what may go from one to another
+--     floor_sync      threads may share what the workers of a run share
+use mathlib.Core.Path.{◌≡◌, sym, subst}
+use mathlib.Core.List.{[], ◌∷◌}
+use base.Fml.{ftrue}
+use base.Shift.{Keyless}
+use denote.Builtin.{u64, usize}
+use denote.Exit.{Entries}
+use denote.RattleType.{RattleType, Denots}
+use denote.RawPtr.{Ptr, block_ptr, null_ptr, block_of, count_of, in_block}
+use denote.Struct.Declared as S
+use denote.Struct.Owning as owning
+use denote.Ref.{NamedLft}
+use denote.Param.Send.{IsSend, IsSync, SyncAt, FieldsAt, sendable, struct_send, recorded_send, view_send, struct_sync, struct_sync_at, array_sync_at, recorded_sync, view_sync, shr_sync}
+use Rattle.std.proofs.Crossing as std
+use Rattle.std.proofs.option.Option.TheSendSync as option
+use Rattle.std.specs.contracts.alloc.Global as Heap
+use Rattle.std.specs.contracts.impls.GlobalAllocator.TheImpl.{ghosts}
+use Rattle.std.specs.contracts.option.Option as Option
+use Rattle.std.specs.contracts.vec.Vec as Vec
+use Rattle.atomic_table.specs.contracts.owned.Table as Table
+use Rattle.atomic_table.proofs.owned.Table.TheSendSync as table
+use Rattle.kahn_code.specs.contracts.code.Code as Code
+use Rattle.kahn_code.proofs.code.Code.TheSendSync as code
+use Rattle.kahn_job.proofs.Crossing.{network_sync, job_send}
+use Rattle.kahn_board.specs.contracts.board.Board as Board
+use Rattle.kahn_board.specs.contracts.board.Seat as Seat
+use Rattle.kahn_board.specs.contracts.rule.Rule as Rule
+use Rattle.kahn_board.specs.contracts.rule.RuleTableRuleOptionViewTerms.TheImpl as rule
+use Rattle.kahn_board.specs.contracts.rule.Terms as Terms
+use Rattle.kahn_board.specs.contracts.view.View as View
+use Rattle.kahn_board.specs.declared.rule.Told.{Ghosts}
+use Rattle.kahn_board.proofs.board.Seat.TheSendSync as seat
+use Rattle.kahn_crew.specs.contracts.floor.Floor as Floor
+use Rattle.kahn_crew.proofs.hints.Hints.TheSendSync as hints
+use Rattle.kahn_crew.proofs.standing.Standing.TheSendSync as standing
+use Rattle.kahn_crew.specs.contracts.routes.Routes as Routes
+use Rattle.kahn_crew.specs.contracts.routes.Routes.TheInside as InRoutes
+use Rattle.kahn_crew.specs.contracts.task.Task as Task
+use Rattle.kahn_crew.specs.contracts.task.Task.TheInside as InTask
+use Rattle.kahn_crew.specs.contracts.task.TaskTold.TheImpl as told
+use Rattle.kahn_crew.specs.contracts.worker.Worker as Worker
+
+module _ (a : NamedLft) where
+  pub task_send : IsSend (Task.the_row a)
+  task_send = view_send (InTask.the_row a) _ _ _ _ (recorded_send (InTask.the_field a).row _ _ (InTask.the_type a).to_one
+      (struct_send (S.shape (InTask.the_type a)) (job_send a, (standing.the_field_send, (std.Vec-send u64 (search sendable), tt)))))
+
+  seat_field_send : IsSend (Seat.the_field (Task.the_row a)).row
+  seat_field_send = seat.the_field_send (Task.the_row a) task_send
+
+  pub seat_send : IsSend (Seat.the_row (Task.the_row a))
+  seat_send = seat.the_send (Task.the_row a) task_send
+
+  pub worker_send : IsSend (Worker.the_row a)
+  worker_send = recorded_send (Worker.the_field a).row _ _ (Worker.the_type a).to_one
+      (struct_send (S.shape (Worker.the_type a)) (seat_field_send, (hints.the_field_send, (search sendable, tt))))
+
+in_block_keyless : (p : Ptr) → Keyless (in_block p ftrue)
+in_block_keyless (block_ptr b o) = tt
+in_block_keyless null_ptr = tt
+
+empty_sync : (T : RattleType) (d : (Vec.the_row T Heap.the_row ghosts).Denot) → d.items ≡ [] → SyncAt (Vec.the_row T Heap.the_row ghosts) d
+empty_sync T d none = let O = Vec.the_type T Heap.the_row ghosts in λ b o κ. (
+  (struct_sync (owning.shape O) (search sendable, (search sendable, (search sendable, (std.sync, tt))))).shared (owning.to O d) b o κ,
+  (tt, (in_block_keyless d.ptr, array_sync_at T d.len d.items (subst (Entries (SyncAt T)) (sym none) tt) (block_of d.ptr) (count_of d.ptr) κ)),
+)
+
+with_last : (R₁ R₂ R₃ R₄ R₅ : RattleType) → IsSync R₁ → IsSync R₂ → IsSync R₃ → IsSync R₄ → (a : Denots (R₁ ∷ R₂ ∷ R₃ ∷ R₄ ∷ R₅ ∷ [])) → SyncAt R₅ a.1.1.1.1.0 → FieldsAt SyncAt (R₁ ∷ R₂ ∷ R₃ ∷ R₄ ∷ R₅ ∷ []) a
+with_last R₁ R₂ R₃ R₄ R₅ s₁ s₂ s₃ s₄ a s = (s₁.shared a.0, (s₂.shared a.1.0, (s₃.shared a.1.1.0, (s₄.shared a.1.1.1.0, (s, tt)))))
+
+module _ (T : RattleType) (g : Ghosts T.Denot) (s : IsSend T) where
+  abbrev in_table : RattleType
+  in_table = (Table.the_field (Option.the_row T) View.the_row (Terms.the_row T) (Rule.the_row T) Heap.the_row (rule.ghosts T g rule.no_dict) ghosts).row
+
+  table_sync : IsSync in_table
+  table_sync = table.the_field_sync (Option.the_row T) View.the_row (Terms.the_row T) (Rule.the_row T) Heap.the_row (rule.ghosts T g rule.no_dict) ghosts (option.the_send T s) std.send std.sync std.frees
+
+  readers_sync : IsSync (Vec.the_row (Option.the_row usize) Heap.the_row ghosts)
+  readers_sync = std.Vec-sync (Option.the_row usize) (option.the_sync usize (search sendable))
+
+  pub board_sync : IsSync (Board.the_row T g)
+  board_sync = let B = Board.the_type T g in record {
+    shared = λ d. struct_sync_at (S.shape B) (B.to d)
+        (with_last in_table usize usize (Vec.the_row (Option.the_row usize) Heap.the_row ghosts) (Vec.the_row (Option.the_row T) Heap.the_row ghosts) table_sync (search sendable) (search sendable) readers_sync (B.to d)
+        (empty_sync (Option.the_row T) d.room d.roomy.0));
+  }
+
+code_sync : IsSync (Code.the_row Heap.the_row ghosts)
+code_sync = code.the_sync Heap.the_row ghosts std.sync
+
+module _ (b : NamedLft) where
+  routes_sync : IsSync (Routes.the_row b)
+  routes_sync = view_sync (InRoutes.the_row b) _ _ _ _ (recorded_sync (InRoutes.the_field b).row _ _ (InRoutes.the_type b).to_one
+      (struct_sync (S.shape (InRoutes.the_type b)) (shr_sync _ _ _ network_sync, (std.Vec-sync _ (std.Vec-sync _ (option.the_sync usize (search sendable))), tt))))
+
+  pub floor_sync : (a : NamedLft) → IsSync (Floor.the_row a b)
+  floor_sync a = recorded_sync (Floor.the_field a b).row _ _ (Floor.the_type a b).to_one
+      (struct_sync (S.shape (Floor.the_type a b)) (shr_sync _ _ _ (board_sync (Task.the_row b) told.ghosts (task_send b)), (shr_sync _ _ _ routes_sync, (shr_sync _ _ _ code_sync, (search sendable, tt)))))

@@ -1,0 +1,9 @@
+pub mod Found
+pub mod Wirings
+pub mod Publishing
+pub mod Resting
+pub mod Started
+pub mod Ended
+pub mod Crewed
+pub mod Trues
+pub mod Crossing

@@ -1,0 +1,114 @@
+-- What is published agrees with what the seat knows.
+use Rattle.std.proofs.Common.{arith, ◌≡◌, ◌≢◌, ◌⊎◌, inl, inr, ℕ, ◌+◌, ◌<◌, ◌≤◌, ◌^◌, Bool, true, false, List, length, refl, sym, ap, ◌∙◌, subst, Option, Some, None, slice_set, slice_index_or, if◌then◌else◌}
+use mathlib.Core.Logic.{dite}
+use native.Mathlib.Decide.{ℕ_discrete}
+use Rattle.std.proofs.lemmas.List.{get_or-set_same, get_or-set_other}
+use Rattle.kahn_syntax.specs.declared.tree.Program.{Program}
+use Rattle.kahn_check.specs.Network.{Network, Actual, Reads, Writes, Hands, network_of, instance_at, actual_at, role_at}
+use Rattle.kahn_check.specs.Wiring.{IsWellWired}
+use Rattle.kahn_code.specs.Cells.{is_output}
+use Rattle.kahn_code.specs.Standing.{count}
+use Rattle.kahn_code.specs.Lines.{Joins}
+use Rattle.kahn_code.proofs.Driven.{driven}
+use Rattle.kahn_code.proofs.Readers.{joins_parameter}
+use Rattle.kahn_board.specs.Wires.{wires}
+use Rattle.kahn_board.specs.declared.view.View.{View}
+use Rattle.kahn_job.specs.Berths.{end_at}
+use Rattle.kahn_job.specs.Works.{Work}
+use Rattle.kahn_desk.specs.Turn.{Tells}
+use Rattle.kahn_board.specs.Plays.{SeesMore}
+use Rattle.kahn_job.specs.Works.{IsJob}
+use Rattle.kahn_code.specs.Told.{AreCounts}
+use Rattle.kahn_crew.specs.Floors.{HasKept, IsTaskOf}
+use Rattle.kahn_crew.specs.Tasks.{Tasked, AgreesWith, IsPublished, handed, width_of, written_by}
+use Rattle.kahn_crew.proofs.Wirings.{target, writer_is, written_inside}
+
+none_some : {c : ℕ} → None ≡ Some c → ⊥
+none_some e = cc
+
+some_same : {c d : ℕ} → Some d ≡ Some c → d ≡ c
+some_same e = cc
+
+writes_same : {c d : ℕ} → Writes d ≡ Writes c → d ≡ c
+writes_same e = cc
+
+written_in : (b : Bool) (d c : ℕ) → (if b then None else Some d) ≡ Some c → (d ≡ c) × (b ≡ false)
+written_in true d c e = absurd (none_some e)
+written_in false d c e = (some_same e, refl)
+
+pub written_so : (N : Network) (a : Actual) (c : ℕ) → written_by N a ≡ Some c → (a ≡ Writes c) × (is_output (role_at N c) ≡ false)
+written_so N (Reads d) c e = absurd (none_some e)
+written_so N (Writes d) c e =
+    let f = written_in (is_output (role_at N d)) d c e in
+    (ap Writes f.0, ap (λ k. is_output (role_at N k)) (sym f.0) ∙ f.1)
+written_so N (Hands v) c e = absurd (none_some e)
+
+module _ (t : Program) (wired : IsWellWired t) where
+  abbrev At : ℕ → ℕ → Actual
+  At p o = actual_at (instance_at (network_of t) p) o
+
+  pub handed_is : (w : Work) (p o : ℕ) → w.cell.network ≡ t → w.cell.instance ≡ p → handed w o ≡ At p o
+  handed_is w p o n i = ap (λ k. actual_at (instance_at (network_of k) w.cell.instance) o) n ∙ ap (λ k. actual_at (instance_at (network_of t) k) o) i
+
+  pub inner_is : (w : Work) (c : ℕ) → w.cell.network ≡ t → is_output (role_at (network_of w.cell.network) c) ≡ is_output (role_at (network_of t) c)
+  inner_is w c n = ap (λ k. is_output (role_at (network_of k) c)) n
+
+  -- nothing is to be published where no channel between processes is written
+  pub nothing_written : (x : Tasked) (p o : ℕ) → IsTaskOf t p x → written_by (network_of t) (At p o) ≡ None → IsPublished x o
+  nothing_written x p o is e c h inner =
+      absurd (none_some (sym e ∙ target t wired p o c (sym (handed_is x.work p o is.0 is.1) ∙ h) (sym (inner_is x.work c is.0) ∙ inner)))
+
+  -- nor past the last parameter
+  pub nothing_past : (x : Tasked) (p o : ℕ) → IsTaskOf t p x → width_of x.work ≤ o → IsPublished x o
+  nothing_past x p o is past c h inner =
+      let lt = joins_parameter (network_of x.work.cell.network) x.work.cell.instance o c (subst (λ a. Joins a c) (sym h) refl) in
+      absurd (omega (arith, lt, past))
+
+  -- a number that is told
+  pub agrees_told : (x : Tasked) (p o c k : ℕ) (old new : View) → IsTaskOf t p x → written_by (network_of t) (At p o) ≡ Some c → o < length x.published →
+      Tells (wires t) p c k old new → AgreesWith x.work x.published old.flushed → AgreesWith x.work (slice_set x.published o k) new.flushed
+  agrees_told x p o c k old new is e lt tells agrees r d h inner =
+      let here = written_so (network_of t) (At p o) c e in
+      let there : At p r ≡ Writes d = sym (handed_is x.work p r is.0 is.1) ∙ h in
+      dite (ℕ_discrete d c)
+      (λ same.
+      let q : r ≡ o = (driven t wired).once p r o c (there ∙ ap Writes same) here.0 in
+      ap (λ j. count (slice_set x.published o k) j) q ∙ (get_or-set_same x.published o k 0 lt ∙ (sym tells.here ∙ ap (λ j. count new.flushed j) (sym same))))
+      (λ ne.
+      let apart : r ≢ o = (λ q. ne (writes_same (sym there ∙ (ap (λ j. At p j) q ∙ here.0)))) in
+      get_or-set_other x.published o r k 0 apart ∙ (agrees r d h inner ∙ sym (tells.others d ne (written_inside t wired p r d there) (writer_is t wired p r d there))))
+
+  -- how many are flushed is a number of 48 bits
+  pub flushed_few : (x : Tasked) (p o c : ℕ) → IsTaskOf t p x → written_by (network_of t) (At p o) ≡ Some c → IsJob x.work → AreCounts x.work.cell →
+      x.work.cell.events < 2 ^ 48 → (end_at x.work.ends o).flushed < 2 ^ 48
+  flushed_few x p o c is e job counts few =
+      let here = written_so (network_of t) (At p o) c e in
+      let h : handed x.work o ≡ Writes c = handed_is x.work p o is.0 is.1 ∙ here.0 in
+      let inner = inner_is x.work c is.0 ∙ here.1 in
+      let a = job.served.behind o in
+      let b = job.at.writes o c h inner in
+      let d = counts.sent_few o c h in
+      omega (arith, a, b, d, few)
+
+-- ---- one after the other
+
+sees_still : (a b c : ℕ) → SeesMore a b → SeesMore b c → SeesMore a c
+sees_still a b c (inl e) (inl f) = inl (f ∙ e)
+sees_still a b c (inr e) (inl f) = inr (f ∙ e)
+sees_still a b c (inl e) (inr f) = inr f
+sees_still a b c (inr e) (inr f) = inr f
+
+pub kept_still : (p : ℕ) (a b c : View) → HasKept p a b → HasKept p b c → HasKept p a c
+kept_still p a b c f g = record { got = g.got ∙ f.got; seen = sees_still a.seen b.seen c.seen f.seen g.seen }
+
+-- what was published stays so where the numbers stay
+carried : (x y : Tasked) (r : ℕ) → y.work ≡ x.work → count y.published r ≡ count x.published r → IsPublished x r → IsPublished y r
+carried x y r same e h c f inner =
+    e ∙ (h c (subst (λ (w : Work). handed w r ≡ Writes c) same f) (subst (λ (w : Work). is_output (role_at (network_of w.cell.network) c) ≡ false) same inner)
+    ∙ ap (λ (w : Work). (end_at w.ends r).flushed) (sym same))
+
+-- one parameter more
+pub published_more : (x y : Tasked) (k : ℕ) → y.work ≡ x.work → ((r : ℕ) → r ≢ k → count y.published r ≡ count x.published r) →
+    ((r : ℕ) → r < k → IsPublished x r) → IsPublished y k → (r : ℕ) → r < k + 1 → IsPublished y r
+published_more x y k same others all here r lt =
+    dite (ℕ_discrete r k) (λ e. subst (λ j. IsPublished y j) (sym e) here) (λ ne. carried x y r same (others r ne) (all r (omega (arith, lt, ne))))

@@ -1,0 +1,224 @@
+-- A task that is set down.
+use Rattle.std.proofs.Common.{arith, ◌≡◌, ◌⊎◌, inl, inr, ⊎_elim, ℕ, zero, suc, ◌+◌, ◌-◌, ◌<◌, ◌≤◌, ◌^◌, false, List, [], ◌∷◌, length, refl, sym, ap, ◌∙◌, subst, Option, Some, None, slice_index}
+use mathlib.Core.Option.{some}
+use lib.ListN.{get_elem?}
+use Rattle.kahn_syntax.specs.declared.tree.Program.{Program}
+use Rattle.kahn_check.specs.Network.{Actual, Reads, Writes, Hands, network_of, instance_at, actual_at, role_at}
+use Rattle.kahn_check.specs.Wiring.{IsWellWired}
+use Rattle.kahn_code.specs.Cells.{is_output}
+use Rattle.kahn_code.specs.Lines.{route_of}
+use Rattle.kahn_code.specs.Standing.{count}
+use Rattle.kahn_code.specs.Told.{AreCounts}
+use Rattle.kahn_streams.proofs.Dry.{dry_reads}
+use Rattle.kahn_board.specs.Dealt.{belongs}
+use Rattle.kahn_board.specs.Wires.{Wires, wires}
+use Rattle.kahn_board.specs.Plays.{SeesMore}
+use Rattle.kahn_board.specs.Tale.{FlushedAll, TellsWait, sent_of, flushed_of}
+use Rattle.kahn_board.specs.declared.rule.Terms.{Terms}
+use Rattle.kahn_board.specs.declared.view.View.{View}
+use Rattle.kahn_desk.specs.Turn.{Fits, Knows}
+use Rattle.kahn_job.specs.Berths.{HaveAdvanced, end_at}
+use Rattle.kahn_job.specs.Ends.{IsSame}
+use Rattle.kahn_job.specs.Works.{Work, IsDelivered}
+use Rattle.kahn_crew.specs.declared.standing.Standing.TheVariants as standing
+use Rattle.kahn_crew.specs.declared.turn.Due.TheVariants as due
+use Rattle.kahn_crew.specs.Floors.{IsFloor, IsTaskOf, HasKept}
+use Rattle.kahn_crew.specs.Rests.{IsDue}
+use Rattle.kahn_crew.specs.Tasks.{Tasked, AgreesWith, HasStanding, IsLater, IsPublished, count_on, handed, read_by, reads_at, told_of, told_on, waits_on, writes_at}
+use Rattle.kahn_crew.proofs.Wirings.{reads_first, writes_first, first_writes, reader_is, writer_is, read_inside, written_inside}
+use Rattle.kahn_crew.proofs.Publishing.{handed_is, inner_is}
+
+-- ---- later states
+
+pub later_here : (x : Tasked) → IsLater x x
+later_here x = record {
+  network = refl;
+  input = refl;
+  instance = refl;
+  watch = refl;
+  ends = record {
+    count = refl;
+    same = λ q. record { reads = refl; writes = refl; lane = refl; name = refl };
+    flushed = λ q. omega arith;
+  };
+}
+
+pub later_still : (x y z : Tasked) → IsLater x y → IsLater y z → IsLater x z
+later_still x y z a b = record {
+  network = b.network ∙ a.network;
+  input = b.input ∙ a.input;
+  instance = b.instance ∙ a.instance;
+  watch = b.watch ∙ a.watch;
+  ends = record {
+    count = b.ends.count ∙ a.ends.count;
+    same = λ q. record {
+      reads = (b.ends.same q).reads ∙ (a.ends.same q).reads;
+      writes = (b.ends.same q).writes ∙ (a.ends.same q).writes;
+      lane = (b.ends.same q).lane ∙ (a.ends.same q).lane;
+      name = (b.ends.same q).name ∙ (a.ends.same q).name;
+    };
+    flushed = λ q. omega (arith, a.ends.flushed q, b.ends.flushed q);
+  };
+}
+
+pub belongs_later : (key : Terms Tasked) (p : ℕ) (y x : Tasked) → belongs IsLater key p y → IsLater y x → belongs IsLater key p x
+belongs_later key p y x b l z e = later_still z y x (b z e) l
+
+found_at : {A : Type 0} (xs : List A) (p : ℕ) → p < length xs → (x : A) × (get_elem? xs p ≡ some x)
+found_at [] p h = absurd (omega (arith, h))
+found_at (x ∷ xs) zero h = (x, refl)
+found_at (x ∷ xs) (suc p) h = found_at xs p (omega (arith, h))
+
+-- a task that belongs to p is that of p
+pub task_of : (key : Terms Tasked) (t code : Program) (p : ℕ) (y : Tasked) → IsFloor key t code → p < length (network_of t).instances →
+    belongs IsLater key p y → IsTaskOf t p y
+task_of key t code p y floor lt b =
+    let f = found_at key.cells.value.items p (omega (arith, floor.count, lt)) in
+    let l = b f.0 f.1 in
+    let is = floor.cells p f.0 f.1 in
+    (l.network ∙ is.0, l.instance ∙ is.1)
+
+-- ---- what is told
+
+none_some : {k : ℕ} → None ≡ Some k → ⊥
+none_some e = cc
+
+some_same : {k l : ℕ} → Some k ≡ Some l → k ≡ l
+some_same e = cc
+
+told_some : (xs : List ℕ) (m : Option ℕ) (k : ℕ) → told_on xs m ≡ Some k → (o : ℕ) × (m ≡ Some o) × (count xs o ≡ k)
+told_some xs None k e = absurd (none_some e)
+told_some xs (Some o) k e = (o, refl, some_same e)
+
+sees_two : (a b : ℕ) → SeesMore a b → a ≡ 2 → b ≡ 2
+sees_two a b (inl e) h = e ∙ h
+sees_two a b (inr e) h = e
+
+module _ (t : Program) (wired : IsWellWired t) where
+  own : (w : Work) → w.cell.network ≡ t → IsWellWired w.cell.network
+  own w n = subst IsWellWired (sym n) wired
+
+  -- what a task tells as published is known
+  pub agrees_with : (key : Terms Tasked) (p : ℕ) (y : Tasked) (v : View) → IsTaskOf t p y → Fits told_of (belongs IsLater key) (wires t) p y v →
+      AgreesWith y.work y.published v.flushed
+  agrees_with key p y v is fits o c h inner =
+      let w = y.work in
+      let at : writes_at w c ≡ Some o = writes_first w.cell.network (own w is.0) w.cell.instance o c h inner in
+      (fits.published c (count y.published o) (ap (told_on y.published) at)).2
+
+  pub published_is : (p : ℕ) (x : Tasked) (v : View) → IsTaskOf t p x → AgreesWith x.work x.published v.flushed → (c l : ℕ) → flushed_of (told_of x) c ≡ Some l →
+      (c < (wires t).channels) × ((wires t).writer c ≡ Some p) × (l ≡ slice_index v.flushed c)
+  published_is p x v is agrees c l e =
+      let w = x.work in
+      let f = told_some x.published (writes_at w c) l e in
+      let h = first_writes w.cell.network (own w is.0) w.cell.instance f.0 c f.1 in
+      let at : actual_at (instance_at (network_of t) p) f.0 ≡ Writes c = sym (handed_is t wired w p f.0 is.0 is.1) ∙ h.0 in
+      (written_inside t wired p f.0 c at, writer_is t wired p f.0 c at, sym f.2 ∙ agrees f.0 c h.0 h.1)
+
+  flushed_all : (x : Tasked) → x.work.cell.network ≡ t → ((o : ℕ) → IsPublished x o) → IsDelivered x.work → FlushedAll (told_of x)
+  flushed_all x n published delivered c k l e f =
+      let w = x.work in
+      let a = told_some w.cell.sent (writes_at w c) k e in
+      let b = told_some x.published (writes_at w c) l f in
+      let same : a.0 ≡ b.0 = some_same (sym a.1 ∙ b.1) in
+      let h = first_writes w.cell.network (own w n) w.cell.instance b.0 c b.1 in
+      sym a.2 ∙ (ap (count w.cell.sent) same ∙ (sym (delivered b.0 c h.0 h.1) ∙ (sym (published b.0 c h.0 h.1) ∙ b.2)))
+
+  -- a task that was run, flushed and published may be left
+  pub fits_after : (key : Terms Tasked) (p : ℕ) (y x : Tasked) (v : View) → IsTaskOf t p x → belongs IsLater key p y → IsLater y x →
+      AgreesWith x.work x.published v.flushed → ((o : ℕ) → IsPublished x o) → (v.seen ≡ 2) ⊎ IsDelivered x.work →
+      x.work.cell.events ≡ slice_index v.got p + v.loose → Fits told_of (belongs IsLater key) (wires t) p x v
+  fits_after key p y x v is b l agrees published delivered events = record {
+    published = published_is p x v is agrees;
+    events = events;
+    flushed = ⊎_elim (λ e. inl e) (λ d. inr (flushed_all x is.0 published d)) delivered;
+    belonging = belongs_later key p y x b l;
+  }
+
+  -- a seat that knows as much of p finds the task as fit
+  pub fits_still : (key : Terms Tasked) (p : ℕ) (y : Tasked) (old new : View) → IsTaskOf t p y → Knows (wires t) p old new → new.loose ≡ old.loose →
+      Fits told_of (belongs IsLater key) (wires t) p y old → Fits told_of (belongs IsLater key) (wires t) p y new
+  fits_still key p y old new is knows loose fits = record {
+    published = λ c l e. let f = fits.published c l e in (f.0, f.1, f.2 ∙ sym (knows.flushed c f.0 f.1));
+    events = let f : y.work.cell.events ≡ slice_index old.got p + old.loose = fits.events in let g = knows.got in omega (arith, f, g, loose);
+    flushed = ⊎_elim (λ e. inl (sees_two old.seen new.seen knows.seen e)) (λ d. inr d) fits.flushed;
+    belonging = fits.belonging;
+  }
+
+  -- what a task waits on that is dry
+  pub due_waits : (p : ℕ) (x : Tasked) (q c : ℕ) → IsTaskOf t p x → HasStanding x.work (standing.Dry q) → x.standing ≡ standing.Dry q →
+      route_of (actual_at (instance_at (network_of t) p) q) ≡ Some c → x.work.cell.events < 2 ^ 48 → AreCounts x.work.cell →
+      IsDue (wires t) p x (due.Waits c (count x.work.cell.taken q))
+  due_waits p x q c is paused stands route few counts =
+      let w = x.work in
+      let r = dry_reads w.cell.network (own w is.0) w.cell.events w.cell.instance q paused.stood.tapes paused.is in
+      let at : actual_at (instance_at (network_of t) p) q ≡ Reads r.0 = sym (handed_is t wired w p q is.0 is.1) ∙ r.1 in
+      let same : r.0 ≡ c = some_same (sym (ap route_of at) ∙ route) in
+      let here : handed w q ≡ Reads c = r.1 ∙ ap Reads same in
+      let reads : reads_at w c ≡ Some q = reads_first w.cell.network (own w is.0) w.cell.instance q c here in
+      let there : actual_at (instance_at (network_of t) p) q ≡ Reads c = at ∙ ap Reads same in (
+        read_inside t wired p q c there,
+        reader_is t wired p q c there,
+        omega (arith, counts.taken_few q, few),
+        (subst (λ s. waits_on w s ≡ Some c) (sym stands) (ap read_by here), ap (count_on w.cell.taken) reads),
+      )
+
+  pub dry_routed : (p : ℕ) (x : Tasked) (q : ℕ) → IsTaskOf t p x → HasStanding x.work (standing.Dry q) → route_of (actual_at (instance_at (network_of t) p) q) ≡ None → ⊥
+  dry_routed p x q is paused route =
+      let w = x.work in
+      let r = dry_reads w.cell.network (own w is.0) w.cell.events w.cell.instance q paused.stood.tapes paused.is in
+      let at : actual_at (instance_at (network_of t) p) q ≡ Reads r.0 = sym (handed_is t wired w p q is.0 is.1) ∙ r.1 in
+      none_some (sym route ∙ ap route_of at)
+
+-- ---- after a turn
+
+handed_same : (v w : Work) (o : ℕ) → w.cell.network ≡ v.cell.network → w.cell.instance ≡ v.cell.instance → handed w o ≡ handed v o
+handed_same v w o n i =
+    ap (λ k. actual_at (instance_at (network_of k) w.cell.instance) o) n ∙ ap (λ k. actual_at (instance_at (network_of v.cell.network) k) o) i
+
+-- of the same instance, with the same numbers published
+pub agrees_later : (y x : Tasked) (known : List ℕ) → IsLater y x → x.published ≡ y.published → AgreesWith y.work y.published known →
+    AgreesWith x.work x.published known
+agrees_later y x known l same agrees o c h inner =
+    ap (λ k. count k o) same ∙
+    agrees o c (sym (handed_same y.work x.work o l.network l.instance) ∙ h) (ap (λ k. is_output (role_at (network_of k) c)) (sym l.network) ∙ inner)
+
+pub task_later : (t : Program) (p : ℕ) (y x : Tasked) → IsTaskOf t p y → IsLater y x → IsTaskOf t p x
+task_later t p y x is l = (l.network ∙ is.0, l.instance ∙ is.1)
+
+later_work : (x y z : Tasked) → IsLater x y → z.work ≡ y.work → IsLater x z
+later_work x y z l same = subst (λ (w : Work). IsLater x (record { work = w; standing = z.standing; published = z.published })) (sym same)
+    (record { network = l.network; input = l.input; instance = l.instance; watch = l.watch; ends = l.ends })
+
+pub task_work : (t : Program) (p : ℕ) (y x : Tasked) → IsTaskOf t p y → x.work ≡ y.work → IsTaskOf t p x
+task_work t p y x is same = (ap (λ (w : Work). w.cell.network) same ∙ is.0, ap (λ (w : Work). w.cell.instance) same ∙ is.1)
+
+module _ (t : Program) (wired : IsWellWired t) where
+  agrees_known : (p : ℕ) (x : Tasked) (old new : View) → IsTaskOf t p x → Knows (wires t) p old new → AgreesWith x.work x.published old.flushed →
+      AgreesWith x.work x.published new.flushed
+  agrees_known p x old new is knows agrees o c h inner =
+      let at : actual_at (instance_at (network_of t) p) o ≡ Writes c = sym (handed_is t wired x.work p o is.0 is.1) ∙ h in
+      agrees o c h inner ∙ sym (knows.flushed c (written_inside t wired p o c at) (writer_is t wired p o c at))
+
+  pub fits_spent : (key : Terms Tasked) (p done : ℕ) (x y z : Tasked) (v0 v1 v2 v3 : View) → IsTaskOf t p x →
+      Fits told_of (belongs IsLater key) (wires t) p x v0 → v0.loose ≡ 0 →
+      IsLater x y → y.work.cell.events ≡ x.work.cell.events + done → HasKept p v0 v1 → (v1.seen ≡ 2) ⊎ IsDelivered y.work →
+      z.work ≡ y.work → HasKept p v1 v2 → AgreesWith z.work z.published v2.flushed → ((o : ℕ) → IsPublished z o) →
+      Knows (wires t) p v2 v3 → v3.loose ≡ done → Fits told_of (belongs IsLater key) (wires t) p z v3
+  fits_spent key p done x y z v0 v1 v2 v3 is fits none l events first delivered same second agrees published knows loose =
+      let l2 = later_work x y z l same in
+      let isz = task_later t p x z is l2 in
+      let e0 : x.work.cell.events ≡ slice_index v0.got p + v0.loose = fits.events in
+      let e2 : z.work.cell.events ≡ y.work.cell.events = ap (λ (w : Work). w.cell.events) same in
+      let g1 = first.got in
+      let g2 = second.got in
+      let g3 = knows.got in
+      fits_after t wired key p x z v3 isz fits.belonging l2 (agrees_known p z v2 v3 isz knows agrees) published
+      (⊎_elim (λ e. inl (sees_two v2.seen v3.seen knows.seen (sees_two v1.seen v2.seen second.seen e)))
+      (λ d. inr (subst IsDelivered (sym same) d)) delivered)
+      (omega (arith, e0, e2, events, none, g1, g2, g3, loose))
+
+-- the board has as many instances as the network
+pub instances_of : (t : Program) → (wires t).instances ≡ length (network_of t).instances
+unfolding wires
+instances_of t = refl

@@ -1,0 +1,17 @@
+use denote.Param.Send.{sendable}
+use Rattle.kahn_crew.proofs.Crewed.{all_gone}
+use Rattle.kahn_crew.proofs.Crossing.{floor_sync, worker_send}
+use Rattle.kahn_crew.proofs.crew.work_all.Goals as goal
+
+pub returns : goal.returns
+returns g c =
+    let t = all_gone c.args.floor.now.board.now.table.shared.table_id c.args.workers.now c.labor_all.new.hands c.labor_all.ensures.count c.labor_all.ensures.each in
+    record { count = c.labor_all.ensures.count; each = t.0; sums = t.1 }
+
+-- a worker may go to another thread
+pub labor_all-requires-send-T : goal.labor_all-requires-send-T
+labor_all-requires-send-T g c κs = search (worker_send, sendable) depth 20
+
+-- threads may share the floor
+pub labor_all-requires-sync-C : goal.labor_all-requires-sync-C
+labor_all-requires-sync-C g c κs = search (floor_sync, sendable) depth 20

@@ -1,0 +1,16 @@
+use Rattle.std.proofs.Common.{◌≡◌, ℕ, ◌<◌, Option, None}
+use Rattle.kahn_desk.specs.Turn.{Holds, IsSeatOf}
+use Rattle.kahn_crew.specs.Floors.{HasKept}
+use Rattle.kahn_crew.specs.Tasks.{AgreesWith, IsPublished, width_of}
+use Rattle.kahn_crew.proofs.publish.publish_all.Given as goal
+
+abbrev pub invariant-loop-parameter : goal.invariant-loop-parameter
+invariant-loop-parameter l = record {
+  same : IsSeatOf l.fn.seat l.seat;
+  holds : (n m : ℕ) → Holds l.fn.p n m None l.fn.seat → Holds l.fn.p n m None l.seat;
+  kept : HasKept l.fn.p l.fn.seat.seat.me.0 l.seat.seat.me.0;
+  work : l.task.work ≡ l.fn.task.work;
+  standing : l.task.standing ≡ l.fn.task.standing;
+  agrees : AgreesWith l.task.work l.task.published l.seat.seat.me.0.flushed;
+  all : (r : ℕ) → r < l.parameter → IsPublished l.task r;
+}

@@ -1,0 +1,43 @@
+use Rattle.std.proofs.Common.{arith, ◌≡◌, sym, ◌∙◌, subst, ℕ, Option, Some, None}
+use Rattle.kahn_syntax.specs.declared.tree.Program.{Program}
+use Rattle.kahn_board.specs.Dealt.{belongs}
+use Rattle.kahn_board.specs.Wires.{wires}
+use Rattle.kahn_desk.specs.Turn.{Fits, Holds, Knows}
+use Rattle.kahn_crew.specs.Floors.{IsTaskOf}
+use Rattle.kahn_crew.specs.Tasks.{IsLater, told_of}
+use Rattle.kahn_crew.proofs.Resting.{fits_still, task_of}
+use Rattle.kahn_crew.proofs.turn.turn.Goals as goal
+
+pub spend-requires-clause-holds : goal.spend-requires-clause-holds
+spend-requires-clause-holds g c =
+    let t = c.args.floor.now.routes.now in
+    let key = c.args.floor.now.board.now.table.shared.key in
+    let code = c.args.floor.now.code.now.network.value in
+    let p = c.args.p in
+    let h = c.requires.holds in
+    let y = h.0 in
+    let is : IsTaskOf t p y = task_of key t code p y c.requires.floor c.requires.inside h.2.belonging in
+    let old = c.args.seat.now.seat.me.0 in
+    let new = c.draw_some.new.seat.seat.me.0 in
+    let fits : Fits told_of (belongs IsLater key) (wires t) p y old = subst (λ (k : Program). Fits told_of (belongs IsLater key) (wires k) p y old) c.requires.floor.network h.2 in
+    let knows : Knows (wires t) p old new = subst (λ (k : Program). Knows (wires k) p old new) c.requires.floor.network c.draw_some.ensures.knows in
+    let holds : Holds p c.in-Some.drawn 0 (Some y) c.draw_some.new.seat = c.in-Some.ensures.drawn.3 (Some y) h.1 in
+    let after = fits_still t c.wired.ensures key p y old new is knows (holds.loose ∙ sym h.1.loose) fits in
+    (y, holds, subst (λ (k : Program). Fits told_of (belongs IsLater key) (wires k) p y new) (sym c.requires.floor.network) after)
+
+pub rest_ready-requires-clause-holds : goal.rest_ready-requires-clause-holds
+rest_ready-requires-clause-holds g c =
+    let t = c.args.floor.now.routes.now in
+    let key = c.args.floor.now.board.now.table.shared.key in
+    let code = c.args.floor.now.code.now.network.value in
+    let p = c.args.p in
+    let h = c.requires.holds in
+    let y = h.0 in
+    let is : IsTaskOf t p y = task_of key t code p y c.requires.floor c.requires.inside h.2.belonging in
+    let old = c.args.seat.now.seat.me.0 in
+    let new = c.draw_some.new.seat.seat.me.0 in
+    let fits : Fits told_of (belongs IsLater key) (wires t) p y old = subst (λ (k : Program). Fits told_of (belongs IsLater key) (wires k) p y old) c.requires.floor.network h.2 in
+    let knows : Knows (wires t) p old new = subst (λ (k : Program). Knows (wires k) p old new) c.requires.floor.network c.draw_some.ensures.knows in
+    let holds : Holds p 0 0 (Some y) c.draw_some.new.seat = c.in-None.ensures.empty.1 (Some y) h.1 in
+    let after = fits_still t c.wired.ensures key p y old new is knows (holds.loose ∙ sym h.1.loose) fits in
+    (0, y, holds, subst (λ (k : Program). Fits told_of (belongs IsLater key) (wires k) p y new) (sym c.requires.floor.network) after)

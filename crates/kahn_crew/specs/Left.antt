@@ -1,0 +1,36 @@
+-- How the tasks of a run stand once all workers have left.
+use Rattle.std.specs.Prelude.{◌≡◌, ◌⊎◌, ℕ, ◌+◌, ◌<◌, Bool, true, List, length, sum_by, Option, Some, slice_get}
+use Rattle.kahn_syntax.specs.declared.tree.Program.{Program}
+use Rattle.kahn_syntax.specs.declared.tree.Role.TheVariants.{Input}
+use Rattle.kahn_check.specs.Network.{Reads, Writes, network_of, role_at}
+use Rattle.kahn_streams.specs.Tokens.{Lists, inputs_of}
+use Rattle.kahn_code.specs.Standing.{count}
+use Rattle.kahn_job.specs.Works.{Work}
+use Rattle.kahn_job.specs.Openings.{AreOpening}
+use Rattle.kahn_crew.specs.declared.standing.Standing.TheVariants as standing
+use Rattle.kahn_crew.specs.Tasks.{Tasked, IsLater, handed, is_over}
+
+abbrev pub task_events : Tasked → ℕ
+task_events x = x.work.cell.events
+
+-- k tokens of the channel d are all that was sent there, or the whole list of an input channel
+pub record AreAll (t : Program) (lists : Lists) (tasks : List Tasked) (d k : ℕ) : Type 0 where
+  pub given : role_at (network_of t) d ≡ Input → k ≡ length (inputs_of lists d)
+  pub sent : (r o : ℕ) (z : Tasked) → slice_get tasks r ≡ Some z → handed z.work o ≡ Writes d → count z.work.cell.sent o ≡ k
+
+-- the task has ended, or waits on a channel of which it took all
+abbrev pub IsAtRest : Program → Lists → List Tasked → Tasked → Type 0
+IsAtRest t lists tasks x =
+    (is_over x.standing ≡ true)
+    ⊎ ((q d : ℕ) × (x.standing ≡ standing.Dry q) × (handed x.work q ≡ Reads d) × AreAll t lists tasks d (count x.work.cell.taken q))
+
+-- the tasks of all instances after a run of at most `bound` events from their openings: so much of the bound is left,
+-- and the run was halted, or the bound is used up, or all are at rest
+pub record HaveLeft (t : Program) (lists : Lists) (watch : Option ℕ) (bound : ℕ) (tasks : List Tasked) (budget : ℕ) (halted : Bool) : Type 0 where
+  pub count : length tasks ≡ length (network_of t).instances
+  pub jobs : List Work
+  pub opened : AreOpening t lists watch jobs
+  pub later : (p : ℕ) (w : Work) (x : Tasked) → slice_get jobs p ≡ Some w → slice_get tasks p ≡ Some x →
+      (y : Tasked) × (y.work ≡ w) × IsLater y x
+  pub events : budget + sum_by task_events tasks ≡ bound
+  pub over : (halted ≡ true) ⊎ ((budget ≡ 0) ⊎ ((p : ℕ) (x : Tasked) → slice_get tasks p ≡ Some x → IsAtRest t lists tasks x))

@@ -1,0 +1,191 @@
+//! A crew: all workers of a run, each in a thread of its own where one can be made.
+
+ghost use Rattle.std.specs.Prelude.{◌≡◌, ◌<◌, ◌≤◌, ◌^◌, [], length, All, IfOk, IfErr};
+ghost use Rattle.std.specs.Vec.{vec_capacity};
+ghost use Rattle.kahn_board.specs.Rule.{all_parts};
+ghost use Rattle.kahn_desk.specs.Crew.{parts_of};
+ghost use Rattle.kahn_desk.specs.Turn.{IsIdle, IsSeatOf};
+ghost use Rattle.kahn_crew.specs.Crews.{HasGone, IsSeated, IsWhole, crew_parts};
+ghost use Rattle.kahn_crew.specs.Floors.{IsFloor};
+ghost use Rattle.kahn_crew.specs.Left.{HaveLeft};
+
+use crate::closing::{discard, leave};
+use crate::floor::Floor;
+use crate::gate::Gate;
+use crate::hints::Hints;
+use crate::labor::{Hand, labor_all};
+use crate::left::Left;
+use crate::opening::open_board;
+use crate::plan::Plan;
+use crate::rooms::Rooms;
+use crate::routes::Routes;
+use crate::task::Task;
+use crate::worker::Worker;
+use kahn_board::{Board, Seat};
+use kahn_check::network::Network;
+use kahn_code::code::Code;
+use kahn_desk::{join_all, split_all};
+use kahn_streams::input::Input;
+use kahn_streams::memory::NoMemory;
+use std::alloc::Global;
+use std::sync::Wait;
+use std::thread::Threads;
+
+// A worker for each seat.
+fn man<'n>(
+    board: &Board<Task<'n>>,
+    mut seats: Vec<Seat<Task<'n>>>,
+    mut hints: Vec<Hints>,
+    mut workers: Vec<Worker<'n>>,
+) -> Vec<Worker<'n>>
+    requires hints { length hints.items ≡ length seats.items }
+    requires room { (workers.items ≡ []) × (length seats.items ≤ vec_capacity workers) }
+    requires each { All (λ s. (s.seat.table_id ≡ board.now.table.shared.table_id) × IsIdle s) seats.items }
+    ensures count { length result.items ≡ length seats.entry.items }
+    ensures each { All (IsSeated board.now.table.shared.table_id) result.items }
+    ensures sums { crew_parts result.items ≡ parts_of seats.entry.items }
+{
+    while let Some(seat) = seats.pop() {
+        let hints = hints.pop().unwrap();
+        workers.push_reserved(Worker {
+            seat,
+            hints,
+            start: seats.len(),
+        });
+    }
+    workers
+}
+
+// The seats of workers that have left.
+fn dismiss<'n>(
+    board: &Board<Task<'n>>,
+    mut workers: Vec<Worker<'n>>,
+    mut seats: Vec<Seat<Task<'n>>>,
+) -> Vec<Seat<Task<'n>>>
+    requires room { (seats.items ≡ []) × (length workers.items ≤ vec_capacity seats) }
+    requires each { All (HasGone board.now.table.shared.table_id) workers.items }
+    ensures count { length result.items ≡ length workers.entry.items }
+    ensures each { All (λ s. (s.seat.table_id ≡ board.now.table.shared.table_id) × IsIdle s × (s.seat.me.0.stage ≡ 1)) result.items }
+    ensures sums { parts_of result.items ≡ crew_parts workers.entry.items }
+{
+    while let Some(worker) = workers.pop() {
+        let Worker {
+            seat,
+            hints: _,
+            start: _,
+        } = worker;
+        seats.push_reserved(seat);
+    }
+    seats
+}
+
+// What all workers of a crew share.
+#[derive(Drop)]
+struct Shift<'b, 'c, 'n, R, G> {
+    rt: &'b R,
+    floor: &'b Floor<'c, 'n>,
+    gate: &'b G,
+}
+
+impl<'b, 'c, 'n, R: Wait + Sync, G: Gate + Sync> Hand<Shift<'b, 'c, 'n, R, G>> for Worker<'n> {
+    ghost use Rattle.std.specs.Prelude.{◌≡◌, ◌<◌};
+    ghost use Rattle.kahn_crew.specs.Crews.{HasGone, IsSeated};
+    ghost use Rattle.kahn_crew.specs.Floors.{IsFloor};
+
+    ghost may = { λ s w. IsFloor s.floor.now.board.now.table.shared.key s.floor.now.routes.now s.floor.now.code.now.network.value × (0 < s.floor.now.quantum) × IsSeated s.floor.now.board.now.table.shared.table_id w };
+
+    ghost did = { λ s old new. HasGone s.floor.now.board.now.table.shared.table_id new × (new.seat.seat.me.0.parts ≡ old.seat.seat.me.0.parts) };
+
+    fn labor(&mut self, shared: &Shift<'b, 'c, 'n, R, G>) {
+        self.work(shared.rt, shared.floor, shared.gate);
+    }
+}
+
+// All work at the same time, each until it has left. Where no thread can be made for a worker, its work is done by
+// another thread.
+fn work_all<'n, R: Threads + Wait + Sync, G: Gate + Sync>(
+    rt: &R,
+    floor: &Floor<'_, 'n>,
+    gate: &G,
+    workers: &mut [Worker<'n>],
+)
+    requires floor { IsFloor floor.now.board.now.table.shared.key floor.now.routes.now floor.now.code.now.network.value }
+    requires quantum { 0 < floor.now.quantum }
+    requires some { 0 < length workers.old }
+    requires each { All (IsSeated floor.now.board.now.table.shared.table_id) workers.old }
+    ensures count { length workers.new ≡ length workers.old }
+    ensures each { All (HasGone floor.now.board.now.table.shared.table_id) workers.new }
+    ensures sums { crew_parts workers.new ≡ crew_parts workers.old }
+{
+    labor_all(rt, &Shift { rt, floor, gate }, workers);
+}
+
+// The board's one seat, once a crew has worked and left. `NoMemory` comes with the one seat, before anybody worked.
+fn employ<'n, R: Threads + Wait + Sync, G: Gate + Sync>(
+    rt: &R,
+    alloc: Global,
+    floor: &Floor<'_, 'n>,
+    gate: &G,
+    seat: Seat<Task<'n>>,
+    rooms: Rooms<'n>,
+) -> Result<Seat<Task<'n>>, (NoMemory, Seat<Task<'n>>)>
+    requires floor { IsFloor floor.now.board.now.table.shared.key floor.now.routes.now floor.now.code.now.network.value }
+    requires quantum { 0 < floor.now.quantum }
+    requires seat { IsWhole floor.now.board.now.table.shared.table_id seat }
+    requires few { (1 ≤ length rooms.hints.items) × (length rooms.hints.items ≤ 16) }
+    requires rooms { (rooms.workers.items ≡ []) × (length rooms.hints.items ≤ vec_capacity rooms.workers) × (rooms.seats.items ≡ []) × (length rooms.hints.items ≤ vec_capacity rooms.seats) }
+    ensures left { IfOk result (λ s. IsWhole floor.now.board.now.table.shared.table_id s × (s.seat.me.0.stage ≡ 1)) }
+    ensures refused { IfErr result (λ e. IsWhole floor.now.board.now.table.shared.table_id e.1) }
+{
+    let Rooms {
+        hints,
+        workers,
+        seats: room,
+    } = rooms;
+    match split_all(alloc, floor.board, seat, hints.len()) {
+        Ok(seats) => {
+            let mut workers = man(floor.board, seats, hints, workers);
+            work_all(rt, floor, gate, workers.as_mut_slice());
+            let seats = dismiss(floor.board, workers, room);
+            Ok(join_all(floor.board, seats))
+        }
+        Err(refused) => Err(refused),
+    }
+}
+
+/// Runs a network on its input by several workers, from the openings of all instances until every worker has left: the
+/// run was halted since memory was refused to a worker, or the bound is used up, or every instance has ended or waits
+/// on a channel of which it took all. It refuses only where memory was refused before the first event.
+pub fn run_crew<'n, R: Threads + Wait + Sync, G: Gate + Sync>(
+    rt: &R,
+    alloc: Global,
+    network: &'n Network,
+    input: &'n Input,
+    code: &Code,
+    plan: Plan,
+    gate: &G,
+) -> Result<Left<'n>, NoMemory>
+    requires code { code.now.network.value ≡ network.now }
+    requires few { (1 ≤ plan.workers) × (plan.workers ≤ 16) }
+    requires quantum { 0 < plan.quantum }
+    requires bound { plan.bound < 2 ^ 48 }
+    ensures { IfOk result (λ left. HaveLeft network.now input.now plan.watch plan.bound left.tasks.items left.budget left.halted) }
+{
+    let routes = Routes::new(alloc, network)?;
+    let rooms = Rooms::new(alloc, plan.workers, network.instances())?;
+    let room = Vec::with_capacity(alloc, network.instances())?;
+    let (board, seat) = open_board(alloc, network, input, code, &routes, plan)?;
+    let floor = Floor {
+        board: &board,
+        routes: &routes,
+        code,
+        quantum: plan.quantum,
+    };
+    match employ(rt, alloc, &floor, gate, seat, rooms) {
+        Ok(seat) => Ok(leave(board, seat, room, network, input, plan)),
+        Err((fault, seat)) => {
+            discard(board, seat);
+            Err(fault)
+        }
+    }
+}

@@ -1,0 +1,48 @@
+//! Hints: the numbers of instances that may be ready.
+
+use crossbeam_deque::{Steal, Stealer, Worker};
+use kahn_streams::memory::NoMemory;
+use std::alloc::AllocError;
+
+/// The hints of one worker: its own, and those of the others, which it may steal. A hint that is out of date does no harm.
+#[derive(Drop)]
+pub struct Hints {
+    own: Worker<usize>,
+    others: Vec<Stealer<usize>>,
+}
+
+impl Hints {
+    /// The hints of a worker.
+    pub fn new(own: Worker<usize>, others: Vec<Stealer<usize>>) -> Hints {
+        Hints { own, others }
+    }
+
+    /// What others take the hints with.
+    pub fn stealer(&self) -> Result<Stealer<usize>, AllocError> {
+        self.own.stealer()
+    }
+
+    /// Another worker's hints, which it may steal.
+    pub fn add(&mut self, other: Stealer<usize>) -> Result<(), NoMemory> {
+        self.others.push(other)?;
+        Ok(())
+    }
+
+    /// One hint more. False where memory was refused.
+    pub fn push(&mut self, instance: usize) -> bool {
+        self.own.push(instance).is_ok()
+    }
+
+    /// A hint of its own, or else one of another worker.
+    pub fn next(&mut self) -> Option<usize> {
+        if let Some(instance) = self.own.pop() {
+            return Some(instance);
+        }
+        for other in self.others.iter() {
+            if let Steal::Success(instance) = other.steal() {
+                return Some(instance);
+            }
+        }
+        None
+    }
+}

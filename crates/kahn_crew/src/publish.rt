@@ -1,0 +1,96 @@
+//! What a task flushed is told to the board, so that the readers that wait for it go on.
+
+ghost use Rattle.std.specs.Prelude.{◌≡◌, ◌≢◌, ℕ, ◌<◌, ◌^◌, None, Option};
+ghost use Rattle.kahn_code.specs.Standing.{count};
+ghost use Rattle.kahn_desk.specs.Turn.{Holds, IsIdle, IsSeatOf};
+ghost use Rattle.kahn_crew.specs.Floors.{HasKept, IsFloor, IsTaskOf};
+ghost use Rattle.kahn_crew.specs.Tasks.{AgreesWith, IsPublished, Tasked, width_of};
+
+use crate::floor::Floor;
+use crate::hints::Hints;
+use crate::task::Task;
+use kahn_board::Seat;
+use kahn_desk::{stop, tell};
+
+// Publishes what was flushed on a parameter, where it is more than before. Answers the reader that it woke.
+pub(crate) fn publish_one<'n>(
+    floor: &Floor<'_, 'n>,
+    seat: &mut Seat<Task<'n>>,
+    task: &mut Task<'n>,
+    p: usize,
+    parameter: usize,
+) -> Option<usize>
+    requires board { seat.old.seat.table_id ≡ floor.now.board.now.table.shared.table_id }
+    requires floor { IsFloor floor.now.board.now.table.shared.key floor.now.routes.now floor.now.code.now.network.value }
+    requires holds { (n : ℕ) × (l : ℕ) × Holds p n l None seat.old }
+    requires task { IsTaskOf floor.now.routes.now p task.old }
+    requires few { task.old.work.cell.events < 2 ^ 48 }
+    requires agrees { AgreesWith task.old.work task.old.published seat.old.seat.me.0.flushed }
+    requires inside { parameter < width_of task.old.work }
+    ensures same { IsSeatOf seat.old seat.new }
+    ensures holds { (n l : ℕ) → Holds p n l None seat.old → Holds p n l None seat.new }
+    ensures kept { HasKept p seat.old.seat.me.0 seat.new.seat.me.0 }
+    ensures task { (task.new.work ≡ task.old.work) × (task.new.standing ≡ task.old.standing) }
+    ensures agrees { AgreesWith task.new.work task.new.published seat.new.seat.me.0.flushed }
+    ensures published { IsPublished task.new parameter }
+    ensures others { (r : ℕ) → r ≢ parameter → count task.new.published r ≡ count task.old.published r }
+{
+    floor.routes.wired();
+    task.parameters();
+    let channel = floor.routes.target(p, parameter)?;
+    let count = task.flushed(parameter);
+    if count == task.published(parameter) {
+        return None;
+    }
+    task.mark(parameter, count);
+    tell(seat, floor.board, p, channel, count)
+}
+
+/// Hints at an instance that is ready, where there is one. Where memory is refused the run is to stop.
+pub(crate) fn hint<'n>(
+    floor: &Floor<'_, 'n>,
+    seat: &mut Seat<Task<'n>>,
+    hints: &mut Hints,
+    woken: Option<usize>,
+)
+    requires { seat.old.seat.table_id ≡ floor.now.board.now.table.shared.table_id }
+    ensures same { IsSeatOf seat.old seat.new }
+    ensures holds { (p n l : ℕ) (x : Option Tasked) → Holds p n l x seat.old → Holds p n l x seat.new }
+    ensures idle { IsIdle seat.old → IsIdle seat.new }
+    ensures kept { (p : ℕ) → HasKept p seat.old.seat.me.0 seat.new.seat.me.0 }
+    ensures flushed { seat.new.seat.me.0.flushed ≡ seat.old.seat.me.0.flushed }
+{
+    let Some(instance) = woken else {
+        return;
+    };
+    if !hints.push(instance) {
+        stop(seat, floor.board);
+    }
+}
+
+/// Publishes all that was flushed on each parameter, and hints at the readers that it woke.
+pub(crate) fn publish_all<'n>(
+    floor: &Floor<'_, 'n>,
+    seat: &mut Seat<Task<'n>>,
+    hints: &mut Hints,
+    task: &mut Task<'n>,
+    p: usize,
+)
+    requires board { seat.old.seat.table_id ≡ floor.now.board.now.table.shared.table_id }
+    requires floor { IsFloor floor.now.board.now.table.shared.key floor.now.routes.now floor.now.code.now.network.value }
+    requires holds { (n : ℕ) × (l : ℕ) × Holds p n l None seat.old }
+    requires task { IsTaskOf floor.now.routes.now p task.old }
+    requires few { task.old.work.cell.events < 2 ^ 48 }
+    requires agrees { AgreesWith task.old.work task.old.published seat.old.seat.me.0.flushed }
+    ensures same { IsSeatOf seat.old seat.new }
+    ensures holds { (n l : ℕ) → Holds p n l None seat.old → Holds p n l None seat.new }
+    ensures kept { HasKept p seat.old.seat.me.0 seat.new.seat.me.0 }
+    ensures task { (task.new.work ≡ task.old.work) × (task.new.standing ≡ task.old.standing) }
+    ensures agrees { AgreesWith task.new.work task.new.published seat.new.seat.me.0.flushed }
+    ensures all { (r : ℕ) → IsPublished task.new r }
+{
+    for parameter in 0..task.parameters() {
+        let woken = publish_one(floor, seat, task, p, parameter);
+        hint(floor, seat, hints, woken);
+    }
+}

@@ -1,0 +1,97 @@
+//! What a crew takes memory for, before the board stands.
+
+ghost use Rattle.std.specs.Prelude.{◌≡◌, ◌<◌, ◌≤◌, [], length, IfOk, OnOk};
+ghost use Rattle.std.specs.Vec.{vec_capacity};
+
+use crate::hints::Hints;
+use crate::task::Task;
+use crate::worker::Worker;
+use crossbeam_deque::Worker as Deque;
+use kahn_board::Seat;
+use kahn_streams::memory::NoMemory;
+use std::alloc::Global;
+
+/// The hints of all workers, and lists with room for the workers and for their seats.
+#[derive(Drop)]
+pub(crate) struct Rooms<'n> {
+    pub(crate) hints: Vec<Hints>,
+    pub(crate) workers: Vec<Worker<'n>>,
+    pub(crate) seats: Vec<Seat<Task<'n>>>,
+}
+
+// Hints for so many workers, each with room for that many hints.
+fn bare_hints(alloc: Global, workers: usize, instances: usize) -> Result<Vec<Hints>, NoMemory>
+    ensures { IfOk result (λ v. length v.items ≡ workers) }
+{
+    let mut all = Vec::with_capacity(alloc, workers)?;
+    for _ in 0..workers {
+        let own = Deque::new_fifo(alloc, instances)?;
+        let others = Vec::with_capacity(alloc, workers)?;
+        all.push_reserved(Hints::new(own, others));
+    }
+    Ok(all)
+}
+
+// A worker may steal the hints of all others.
+fn share_with(all: &mut [Hints], worker: usize) -> Result<(), NoMemory>
+    requires { worker < length all.old }
+    ensures { length all.new ≡ length all.old }
+{
+    for other in 0..all.len() {
+        if other != worker {
+            let stealer = all[other].stealer()?;
+            all[worker].add(stealer)?;
+        }
+    }
+    Ok(())
+}
+
+// Hints of all instances, to one worker after another.
+fn hint_all(all: &mut [Hints], instances: usize) -> Result<(), NoMemory>
+    requires { 0 < length all.old }
+    ensures { length all.new ≡ length all.old }
+{
+    let workers = all.len();
+    for instance in 0..instances {
+        if !all[instance % workers].push(instance) {
+            return Err(NoMemory);
+        }
+    }
+    Ok(())
+}
+
+// The hints of so many workers, with those of all instances.
+fn first_hints(alloc: Global, workers: usize, instances: usize) -> Result<Vec<Hints>, NoMemory>
+    requires { 0 < workers }
+    ensures { IfOk result (λ v. length v.items ≡ workers) }
+{
+    let mut all = bare_hints(alloc, workers, instances)?;
+    for worker in 0..workers {
+        share_with(&mut all, worker)?;
+    }
+    hint_all(&mut all, instances)?;
+    Ok(all)
+}
+
+impl<'n> Rooms<'n> {
+    /// For so many workers and that many instances.
+    pub(crate) fn new(
+        alloc: Global,
+        workers: usize,
+        instances: usize,
+    ) -> Result<Rooms<'n>, NoMemory>
+        requires { 0 < workers }
+        ensures hints { IfOk result (λ r. length r.hints.items ≡ workers) }
+        ensures workers { IfOk result (λ r. (r.workers.items ≡ []) × (workers ≤ vec_capacity r.workers)) }
+        ensures seats { IfOk result (λ r. (r.seats.items ≡ []) × (workers ≤ vec_capacity r.seats)) }
+    {
+        let hints = first_hints(alloc, workers, instances)?;
+        let room = Vec::with_capacity(alloc, workers)?;
+        let seats = Vec::with_capacity(alloc, workers)?;
+        Ok(Rooms {
+            hints,
+            workers: room,
+            seats,
+        })
+    }
+}

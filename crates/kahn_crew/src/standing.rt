@@ -1,0 +1,35 @@
+//! Where a process stood when it was last run.
+
+ghost use Rattle.std.specs.Prelude.{◌≡◌};
+ghost use Rattle.kahn_crew.specs.Tasks.{standing_after};
+
+use kahn_code::progress::Pause;
+use kahn_streams::value::Failure;
+
+/// Where a process stood when it was last run, as far as more runs can't change it.
+#[derive(Clone, Copy, Debug, PartialEq, Eq)]
+pub enum Standing {
+    /// It may go on, as far as is known.
+    Going,
+    /// It has ended.
+    Ended,
+    /// It has faulted.
+    Faulted(Failure),
+    /// It waits on this parameter, and has taken all that it found there.
+    Dry(usize),
+}
+
+impl Standing {
+    /// The standing that a pause tells.
+    pub fn after(pause: Pause) -> Standing
+        ensures { result ≡ standing_after pause }
+    {
+        match pause {
+            Pause::Spent => Standing::Going,
+            Pause::NoMemory => Standing::Going,
+            Pause::Ended => Standing::Ended,
+            Pause::Fault(failure) => Standing::Faulted(failure),
+            Pause::Dry(parameter) => Standing::Dry(parameter),
+        }
+    }
+}

@@ -1,0 +1,213 @@
+//! A task: a job with what the workers have to know of it.
+
+ghost use Rattle.std.specs.Prelude.{◌≡◌, ℕ, ◌+◌, ◌*◌, ◌^◌, ◌<◌, ◌≤◌, true, length, map, replicate, slice_set, slice_index_or, IfOk, OnOk};
+ghost use Rattle.kahn_check.specs.Network.{network_of, instance_at};
+ghost use Rattle.kahn_streams.specs.Tokens.{inputs_of};
+ghost use Rattle.kahn_code.specs.Flat.{stmt_code};
+ghost use Rattle.kahn_code.specs.Progress.{Paused, IsPause};
+ghost use Rattle.kahn_code.specs.Standing.{count};
+ghost use Rattle.kahn_code.specs.Told.{AreCounts, told_view};
+ghost use Rattle.kahn_job.specs.Ends.{IsDry, IsReady, ShareLane};
+ghost use Rattle.kahn_job.specs.Berths.{HaveFlushed, IsFed, end_at};
+ghost use Rattle.kahn_job.specs.Works.{IsDelivered, IsJob};
+ghost use Rattle.kahn_crew.specs.Tasks.{HasMet, IsLater, IsTrueOf, standing_after, width_of};
+ghost use Rattle.kahn_crew.specs.declared.standing.Standing.TheVariants.{Going as IsGoing};
+
+use crate::standing::Standing;
+use kahn_board::Told;
+use kahn_code::cell::Kept;
+use kahn_code::code::Code;
+use kahn_code::progress::Pause;
+use kahn_code::steps::Steps;
+use kahn_job::Job;
+use kahn_streams::memory::NoMemory;
+use std::alloc::Global;
+use std::marker::Model;
+use std::sync::ledger::Ledger;
+
+/// A job on its way from worker to worker, with where its process stood when it was last run, and by parameter how many
+/// of the tokens that it sent are published.
+#[derive(Drop)]
+pub struct Task<'n> {
+    job: Job<'n>,
+    standing: Standing,
+    published: Vec<u64>,
+}
+
+impl<'n> Model for Task<'n> {
+    ghost use Rattle.kahn_syntax.specs.contracts.tree.Action as action;
+    ghost use Rattle.kahn_syntax.specs.contracts.tree.Form as form;
+    ghost use Rattle.std.specs.Coded.{codes};
+    ghost use Rattle.std.specs.Prelude.{◌≡◌, length};
+    ghost use Rattle.kahn_crew.specs.Tasks.{Tasked, IsTrueOf, width_of};
+
+    ghost Value = { Tasked };
+
+    ghost coded = { Prim.hlevel (codes, action.the_row.coded, form.the_row.coded) };
+
+    ghost view = { λ t. record { work = t.job; standing = t.standing; published = t.published.items } };
+
+    ghost invariant = { λ t. IsTrueOf t.job t.standing × (length t.published.items ≡ width_of t.job) };
+}
+
+impl<'n> Told for Task<'n> {
+    ghost use Rattle.kahn_crew.specs.Tasks.{IsLater, told_of};
+
+    ghost told = { told_of };
+
+    ghost after = { IsLater };
+}
+
+impl<'n> Task<'n> {
+    /// The task of a job with so many parameters, of which nothing is published.
+    pub fn new(alloc: Global, job: Job<'n>, parameters: usize) -> Result<Task<'n>, NoMemory>
+        requires { parameters ≡ width_of job }
+        ensures { IfOk result (λ t. t ≡ record { work = job.entry; standing = IsGoing; published = replicate parameters 0 }) }
+    {
+        let published = vec![in alloc; 0; parameters]?;
+        Ok(Task {
+            job,
+            standing: Standing::Going,
+            published,
+        })
+    }
+
+    /// Runs for at most so many events. What it sent may stand in open segments until `flush`. With a quantum of 0 it only
+    /// says what comes next.
+    pub fn run<L: Ledger>(&mut self, code: &Code, quantum: u64, steps: &mut Steps<L>) -> Pause
+        requires code { code.now.network.value ≡ self.old.work.cell.network }
+        requires events { self.old.work.cell.events + quantum < 2 ^ 48 }
+        ensures later { IsLater self.old self.new }
+        ensures events { (self.old.work.cell.events ≤ self.new.work.cell.events) × (self.new.work.cell.events ≤ self.old.work.cell.events + quantum) }
+        // What the source says of the cell and of the pause.
+        ensures paused { Paused (network_of self.new.work.cell.network) (inputs_of self.new.work.cell.input) self.new.work.cell.watch self.new.work.cell.instance (told_view self.new.work.cell) (IsPause (network_of self.new.work.cell.network) self.new.work.cell.instance (λ q. IsDry (end_at self.new.work.ends q)) (λ q. IsReady (end_at self.new.work.ends q)) (self.new.work.cell.events ≡ self.old.work.cell.events + quantum) result) }
+        ensures standing { self.new.standing ≡ standing_after result }
+        ensures published { self.new.published ≡ self.old.published }
+    {
+        let pause = self.job.run(code, quantum, steps);
+        self.standing = Standing::after(pause);
+        pause
+    }
+
+    /// Flushes what was sent on each channel, so that its reader can take it. A refusal leaves the tokens where they are.
+    pub fn flush(&mut self) -> Result<(), NoMemory>
+        ensures later { IsLater self.old self.new }
+        ensures cell { self.new.work.cell ≡ self.old.work.cell }
+        ensures standing { self.new.standing ≡ self.old.standing }
+        ensures published { self.new.published ≡ self.old.published }
+        ensures all { OnOk result (IsDelivered self.new.work) }
+    {
+        self.job.flush()
+    }
+
+    /// Where the process stood when it was last run.
+    pub fn standing(&self) -> Standing
+        ensures result { result ≡ self.now.standing }
+        ensures said { IsTrueOf self.now.work self.now.standing }
+    {
+        self.standing
+    }
+
+    /// The number of its events.
+    pub fn events(&self) -> u64
+        ensures { result ≡ self.now.work.cell.events }
+    {
+        self.job.events()
+    }
+
+    /// How many parameters it has.
+    pub fn parameters(&self) -> usize
+        ensures width { result ≡ width_of self.now.work }
+        ensures lists { (length self.now.published ≡ result) × (length self.now.work.ends ≡ result) }
+        ensures job { IsJob self.now.work }
+        ensures counts { AreCounts self.now.work.cell }
+    {
+        self.job.manned();
+        self.job.sized();
+        self.published.len()
+    }
+
+    /// How many tokens it took on a parameter.
+    pub fn taken(&self, parameter: usize) -> u64
+        requires { parameter < length self.now.work.cell.taken }
+        ensures { result ≡ count self.now.work.cell.taken parameter }
+    {
+        self.job.taken(parameter)
+    }
+
+    /// How many tokens it sent on a parameter.
+    pub fn sent(&self, parameter: usize) -> u64
+        requires { parameter < length self.now.work.cell.sent }
+        ensures { result ≡ count self.now.work.cell.sent parameter }
+    {
+        self.job.sent(parameter)
+    }
+
+    /// How many tokens it flushed on a parameter.
+    pub fn flushed(&self, parameter: usize) -> u64
+        requires { parameter < length self.now.work.ends }
+        ensures { result ≡ (end_at self.now.work.ends parameter).flushed }
+    {
+        self.job.flushed(parameter)
+    }
+
+    /// How many tokens of a parameter are published.
+    pub fn published(&self, parameter: usize) -> u64
+        requires { parameter < length self.now.published }
+        ensures { result ≡ count self.now.published parameter }
+    {
+        self.published[parameter]
+    }
+
+    /// Marks so many tokens of a parameter as published.
+    pub fn mark(&mut self, parameter: usize, number: u64)
+        requires { parameter < length self.old.published }
+        ensures { self.new ≡ record { work = self.old.work; standing = self.old.standing; published = slice_set self.old.published parameter number } }
+    {
+        self.published[parameter] = number;
+    }
+
+    /// With the task of its reader in one thread: how many tokens were flushed on an output and not taken. Both tasks stay
+    /// where they are. It takes no memory.
+    pub fn meet(&mut self, output: usize, reader: &mut Task<'n>, input: usize) -> u64
+        requires writes { (end_at self.old.work.ends output).writes ≡ true }
+        requires reads { (end_at reader.old.work.ends input).reads ≡ true }
+        requires lane { ShareLane (end_at self.old.work.ends output) (end_at reader.old.work.ends input) }
+        ensures writer { HasMet self.old self.new }
+        ensures reader { HasMet reader.old reader.new }
+        ensures count { (end_at reader.old.work.ends input).next + result ≡ (end_at self.old.work.ends output).flushed }
+        ensures held { (end_at reader.old.work.ends input).waiting ≤ result }
+    {
+        self.job.meet(output, &mut reader.job, input)
+    }
+
+    /// The same, where it reads what it writes.
+    pub fn meet_self(&mut self, output: usize, input: usize) -> u64
+        requires apart { output ≡ input → ⊥ }
+        requires writes { (end_at self.old.work.ends output).writes ≡ true }
+        requires reads { (end_at self.old.work.ends input).reads ≡ true }
+        requires lane { ShareLane (end_at self.old.work.ends output) (end_at self.old.work.ends input) }
+        ensures met { HasMet self.old self.new }
+        ensures count { (end_at self.old.work.ends input).next + result ≡ (end_at self.old.work.ends output).flushed }
+        ensures held { (end_at self.old.work.ends input).waiting ≤ result }
+    {
+        self.job.meet_self(output, input)
+    }
+
+    /// Says that of an input channel no more is ready on a parameter than its list has: its contract is what it does.
+    pub fn fed(&self, parameter: usize)
+        requires { parameter < length self.now.work.ends }
+        ensures { IsFed (end_at self.now.work.ends parameter) }
+    {
+        self.job.fed(parameter);
+    }
+
+    /// What its cell kept, without the task. It takes no memory.
+    pub fn into_lists(self) -> Kept
+        ensures kept { map (λ v. v.items) result.kept.items ≡ self.entry.work.cell.kept }
+        ensures printed { result.printed.items ≡ self.entry.work.cell.printed }
+        ensures parameters { length result.kept.items ≡ width_of self.entry.work }
+    {
+        self.job.into_lists()
+    }
+}

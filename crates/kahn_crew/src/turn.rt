@@ -1,0 +1,179 @@
+//! A turn: an instance is run for a draw of events, and set down where it stands then.
+
+ghost use Rattle.std.specs.Prelude.{◌≡◌, ◌⊎◌, ℕ, ◌+◌, ◌<◌, ◌≤◌, ◌^◌, length, slice_index, OnErr, Option, Some};
+ghost use Rattle.kahn_check.specs.Network.{network_of};
+ghost use Rattle.kahn_board.specs.Dealt.{belongs, wired};
+ghost use Rattle.kahn_job.specs.Works.{IsDelivered};
+ghost use Rattle.kahn_desk.specs.Turn.{Fits, Holds, IsIdle, IsSeatOf};
+ghost use Rattle.kahn_crew.specs.Floors.{HasKept, IsFloor, IsTaskOf};
+ghost use Rattle.kahn_crew.specs.Rests.{IsDue};
+ghost use Rattle.kahn_crew.specs.Tasks.{IsLater, Tasked, told_of};
+
+use crate::floor::Floor;
+use crate::gate::Gate;
+use crate::hints::Hints;
+use crate::publish::{hint, publish_all};
+use crate::standing::Standing;
+use crate::task::Task;
+use kahn_board::Seat;
+use kahn_code::progress::Pause;
+use kahn_code::steps::Steps;
+use kahn_desk::{draw_some, give, put, rest_dry, rest_over, rest_ready, stop, take_cell};
+use kahn_streams::memory::NoMemory;
+use std::sync::Wait;
+use std::sync::ledger::Ledger;
+
+/// How an instance is to be set down.
+#[derive(Clone, Copy)]
+pub(crate) enum Due {
+    Ready,
+    Over,
+    /// It waits on the channel, of which it took so many tokens.
+    Waits(usize, u64),
+}
+
+// How a task is to be set down.
+fn due_of<'n>(floor: &Floor<'_, 'n>, task: &Task<'n>, p: usize) -> Due
+    requires floor { IsFloor floor.now.board.now.table.shared.key floor.now.routes.now floor.now.code.now.network.value }
+    requires task { IsTaskOf floor.now.routes.now p task.now }
+    requires inside { p < length (network_of floor.now.routes.now).instances }
+    requires few { task.now.work.cell.events < 2 ^ 48 }
+    ensures { IsDue (wired floor.now.board.now.table.shared.key) p task.now result }
+{
+    task.parameters();
+    floor.routes.wired();
+    match task.standing() {
+        Standing::Going => Due::Ready,
+        Standing::Ended => Due::Over,
+        Standing::Faulted(_) => Due::Over,
+        Standing::Dry(parameter) => match floor.routes.channel(p, parameter) {
+            Some(channel) => Due::Waits(channel, task.taken(parameter)),
+            None => unreachable!(),
+        },
+    }
+}
+
+// Where memory was refused the run is to stop.
+fn heed<'n>(
+    floor: &Floor<'_, 'n>,
+    seat: &mut Seat<Task<'n>>,
+    pause: Pause,
+    flushed: Result<(), NoMemory>,
+)
+    requires { seat.old.seat.table_id ≡ floor.now.board.now.table.shared.table_id }
+    ensures same { IsSeatOf seat.old seat.new }
+    ensures holds { (p n l : ℕ) (x : Option Tasked) → Holds p n l x seat.old → Holds p n l x seat.new }
+    ensures kept { (p : ℕ) → HasKept p seat.old.seat.me.0 seat.new.seat.me.0 }
+    ensures known { seat.new.seat.me.0.flushed ≡ seat.old.seat.me.0.flushed }
+    ensures refused { OnErr flushed (seat.new.seat.me.0.seen ≡ 2) }
+{
+    if flushed.is_ok() && !matches!(pause, Pause::NoMemory) {
+        return;
+    }
+    stop(seat, floor.board);
+}
+
+// Runs a task for at most so many events and flushes what it sent. Answers how many events it did. Where memory was refused
+// the run is to stop.
+fn run_task<'n, L: Ledger>(
+    floor: &Floor<'_, 'n>,
+    seat: &mut Seat<Task<'n>>,
+    task: &mut Task<'n>,
+    drawn: u64,
+    steps: &mut Steps<L>,
+) -> u64
+    requires board { seat.old.seat.table_id ≡ floor.now.board.now.table.shared.table_id }
+    requires code { floor.now.code.now.network.value ≡ task.old.work.cell.network }
+    requires few { task.old.work.cell.events + drawn < 2 ^ 48 }
+    ensures same { IsSeatOf seat.old seat.new }
+    ensures holds { (p n l : ℕ) (x : Option Tasked) → Holds p n l x seat.old → Holds p n l x seat.new }
+    ensures kept { (p : ℕ) → HasKept p seat.old.seat.me.0 seat.new.seat.me.0 }
+    ensures known { seat.new.seat.me.0.flushed ≡ seat.old.seat.me.0.flushed }
+    ensures later { IsLater task.old task.new }
+    ensures published { task.new.published ≡ task.old.published }
+    ensures events { (task.new.work.cell.events ≡ task.old.work.cell.events + result) × (result ≤ drawn) }
+    ensures delivered { (seat.new.seat.me.0.seen ≡ 2) ⊎ IsDelivered task.new.work }
+{
+    let before = task.events();
+    let pause = task.run(floor.code, drawn, steps);
+    let flushed = task.flush();
+    heed(floor, seat, pause, flushed);
+    task.events() - before
+}
+
+// Sets an instance down.
+fn rest<'n>(floor: &Floor<'_, 'n>, seat: &mut Seat<Task<'n>>, hints: &mut Hints, p: usize, due: Due)
+    requires board { seat.old.seat.table_id ≡ floor.now.board.now.table.shared.table_id }
+    requires wires { ((wired floor.now.board.now.table.shared.key).channels ≡ floor.now.board.now.channels) }
+    requires holds { (l : ℕ) × (y : Tasked) × Holds p 0 l (Some y) seat.old × Fits told_of (belongs IsLater floor.now.board.now.table.shared.key) (wired floor.now.board.now.table.shared.key) p y seat.old.seat.me.0 × IsDue (wired floor.now.board.now.table.shared.key) p y due }
+    ensures same { IsSeatOf seat.old seat.new }
+    ensures idle { IsIdle seat.new }
+{
+    match due {
+        Due::Ready => {
+            rest_ready(seat, floor.board, p);
+            hint(floor, seat, hints, Some(p));
+        }
+        Due::Over => rest_over(seat, floor.board, p),
+        Due::Waits(channel, taken) => {
+            if !rest_dry(seat, floor.board, p, channel, taken) {
+                hint(floor, seat, hints, Some(p));
+            }
+        }
+    }
+}
+
+// Runs an instance for the events that were drawn, and sets it down.
+fn spend<'n, L: Ledger>(
+    floor: &Floor<'_, 'n>,
+    seat: &mut Seat<Task<'n>>,
+    hints: &mut Hints,
+    p: usize,
+    drawn: u64,
+    steps: &mut Steps<L>,
+)
+    requires board { seat.old.seat.table_id ≡ floor.now.board.now.table.shared.table_id }
+    requires floor { IsFloor floor.now.board.now.table.shared.key floor.now.routes.now floor.now.code.now.network.value }
+    requires inside { p < length (network_of floor.now.routes.now).instances }
+    requires few { slice_index seat.old.seat.me.0.got p + drawn < 2 ^ 48 }
+    requires holds { (y : Tasked) × Holds p drawn 0 (Some y) seat.old × Fits told_of (belongs IsLater floor.now.board.now.table.shared.key) (wired floor.now.board.now.table.shared.key) p y seat.old.seat.me.0 }
+    ensures same { IsSeatOf seat.old seat.new }
+    ensures idle { IsIdle seat.new }
+{
+    floor.routes.wired();
+    let mut task = take_cell(seat, floor.board, p);
+    let done = run_task(floor, seat, &mut task, drawn, steps);
+    publish_all(floor, seat, hints, &mut task, p);
+    let due = due_of(floor, &task, p);
+    put(seat, floor.board, p, task);
+    give(seat, floor.board, p, drawn - done);
+    rest(floor, seat, hints, p, due);
+}
+
+/// A turn of an instance that was picked: it is run for a part of the budget, where some is left, and set down.
+pub(crate) fn turn<'n, R: Wait, G: Gate, L: Ledger>(
+    rt: &R,
+    floor: &Floor<'_, 'n>,
+    gate: &G,
+    seat: &mut Seat<Task<'n>>,
+    hints: &mut Hints,
+    p: usize,
+    steps: &mut Steps<L>,
+)
+    requires board { seat.old.seat.table_id ≡ floor.now.board.now.table.shared.table_id }
+    requires floor { IsFloor floor.now.board.now.table.shared.key floor.now.routes.now floor.now.code.now.network.value }
+    requires inside { p < length (network_of floor.now.routes.now).instances }
+    requires quantum { 0 < floor.now.quantum }
+    requires holds { (y : Tasked) × Holds p 0 0 (Some y) seat.old × Fits told_of (belongs IsLater floor.now.board.now.table.shared.key) (wired floor.now.board.now.table.shared.key) p y seat.old.seat.me.0 }
+    ensures same { IsSeatOf seat.old seat.new }
+    ensures idle { IsIdle seat.new }
+{
+    floor.routes.wired();
+    match draw_some(rt, seat, floor.board, p, floor.quantum) {
+        Some(drawn) => {
+            gate.enter(p);
+            spend(floor, seat, hints, p, drawn, steps);
+        }
+        None => rest_ready(seat, floor.board, p),
+    }
+}

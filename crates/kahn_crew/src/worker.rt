@@ -1,0 +1,145 @@
+//! A worker: it takes one instance after another, until there is a reason to leave.
+
+ghost use Rattle.std.specs.Prelude.{◌≡◌, ◌<◌, length, IfSome, IfNone, Some};
+ghost use Rattle.kahn_check.specs.Network.{network_of};
+ghost use Rattle.kahn_board.specs.Dealt.{belongs, wired};
+ghost use Rattle.kahn_desk.specs.Turn.{Fits, Holds, IsIdle, IsSeatOf};
+ghost use Rattle.kahn_crew.specs.Floors.{IsFloor};
+ghost use Rattle.kahn_crew.specs.Tasks.{IsLater, Tasked, told_of};
+
+use crate::floor::Floor;
+use crate::gate::Gate;
+use crate::hints::Hints;
+use crate::task::Task;
+use crate::turn::turn;
+use crossbeam_utils::Backoff;
+use kahn_board::Seat;
+use kahn_code::steps::Steps;
+use kahn_desk::{go_on, pick};
+use std::marker::Brand;
+use std::sync::Wait;
+use std::sync::ledger::{Blank, Ledger};
+
+/// A worker: its seat at the board, its hints, and the instance at which it begins to look where it has none.
+#[derive(Drop)]
+pub struct Worker<'n> {
+    pub seat: Seat<Task<'n>>,
+    pub hints: Hints,
+    pub start: usize,
+}
+
+// Picks an instance that a hint names.
+fn pick_hinted<'n>(
+    floor: &Floor<'_, 'n>,
+    seat: &mut Seat<Task<'n>>,
+    hints: &mut Hints,
+) -> Option<usize>
+    requires board { seat.old.seat.table_id ≡ floor.now.board.now.table.shared.table_id }
+    requires idle { IsIdle seat.old }
+    ensures same { IsSeatOf seat.old seat.new }
+    ensures picked { IfSome result (λ p. (p < floor.now.board.now.instances) × ((y : Tasked) × Holds p 0 0 (Some y) seat.new × Fits told_of (belongs IsLater floor.now.board.now.table.shared.key) (wired floor.now.board.now.table.shared.key) p y seat.new.seat.me.0)) }
+    ensures left { IfNone result (IsIdle seat.new) }
+{
+    for _ in 0..floor.board.instances {
+        let Some(p) = hints.next() else {
+            return None;
+        };
+        if p < floor.board.instances && pick(seat, floor.board, p) {
+            return Some(p);
+        }
+    }
+    None
+}
+
+// Picks an instance that is ready, from the one with that number on, round all of them.
+fn pick_any<'n>(floor: &Floor<'_, 'n>, seat: &mut Seat<Task<'n>>, start: usize) -> Option<usize>
+    requires board { seat.old.seat.table_id ≡ floor.now.board.now.table.shared.table_id }
+    requires idle { IsIdle seat.old }
+    ensures same { IsSeatOf seat.old seat.new }
+    ensures picked { IfSome result (λ p. (p < floor.now.board.now.instances) × ((y : Tasked) × Holds p 0 0 (Some y) seat.new × Fits told_of (belongs IsLater floor.now.board.now.table.shared.key) (wired floor.now.board.now.table.shared.key) p y seat.new.seat.me.0)) }
+    ensures left { IfNone result (IsIdle seat.new) }
+{
+    let count = floor.board.instances;
+    for step in 0..count {
+        let p = (start % count + step) % count;
+        if pick(seat, floor.board, p) {
+            return Some(p);
+        }
+    }
+    None
+}
+
+// Picks an instance: one that a hint names, or else any that is ready.
+fn pick_next<'n>(
+    floor: &Floor<'_, 'n>,
+    seat: &mut Seat<Task<'n>>,
+    hints: &mut Hints,
+    start: usize,
+) -> Option<usize>
+    requires board { seat.old.seat.table_id ≡ floor.now.board.now.table.shared.table_id }
+    requires idle { IsIdle seat.old }
+    ensures same { IsSeatOf seat.old seat.new }
+    ensures picked { IfSome result (λ p. (p < floor.now.board.now.instances) × ((y : Tasked) × Holds p 0 0 (Some y) seat.new × Fits told_of (belongs IsLater floor.now.board.now.table.shared.key) (wired floor.now.board.now.table.shared.key) p y seat.new.seat.me.0)) }
+    ensures left { IfNone result (IsIdle seat.new) }
+{
+    match pick_hinted(floor, seat, hints) {
+        Some(p) => Some(p),
+        None => pick_any(floor, seat, start),
+    }
+}
+
+// Turn after turn, until there is a reason to leave.
+fn turns<'n, R: Wait, G: Gate, L: Ledger>(
+    rt: &R,
+    floor: &Floor<'_, 'n>,
+    gate: &G,
+    worker: &mut Worker<'n>,
+    blank: Blank,
+)
+    requires board { worker.old.seat.seat.table_id ≡ floor.now.board.now.table.shared.table_id }
+    requires floor { IsFloor floor.now.board.now.table.shared.key floor.now.routes.now floor.now.code.now.network.value }
+    requires quantum { 0 < floor.now.quantum }
+    requires idle { IsIdle worker.old.seat }
+    requires name { blank.name ≡ L.name }
+    requires parts { blank.parts ≡ L.parts }
+    requires some { 0 < blank.parts }
+    ensures same { IsSeatOf worker.old.seat worker.new.seat }
+    ensures left { IsIdle worker.new.seat × (worker.new.seat.seat.me.0.stage ≡ 1) }
+{
+    let mut steps = Steps::<L>::open(blank);
+    let backoff = Backoff::new();
+    for _ in rt.forever() {
+        if !go_on(&mut worker.seat, floor.board) {
+            return;
+        }
+        match pick_next(floor, &mut worker.seat, &mut worker.hints, worker.start) {
+            Some(p) => {
+                backoff.reset();
+                turn(
+                    rt,
+                    floor,
+                    gate,
+                    &mut worker.seat,
+                    &mut worker.hints,
+                    p,
+                    &mut steps,
+                );
+            }
+            None => backoff.snooze(),
+        }
+    }
+}
+
+impl<'n> Worker<'n> {
+    /// Works until the run is halted, or no instance can go on, or the budget is empty.
+    pub fn work<R: Wait, G: Gate>(&mut self, rt: &R, floor: &Floor<'_, 'n>, gate: &G)
+        requires board { self.old.seat.seat.table_id ≡ floor.now.board.now.table.shared.table_id }
+        requires floor { IsFloor floor.now.board.now.table.shared.key floor.now.routes.now floor.now.code.now.network.value }
+        requires quantum { 0 < floor.now.quantum }
+        requires idle { IsIdle self.old.seat }
+        ensures same { IsSeatOf self.old.seat self.new.seat }
+        ensures left { IsIdle self.new.seat × (self.new.seat.seat.me.0.stage ≡ 1) }
+    {
+        turns::<R, G, Brand>(rt, floor, gate, self, Blank::new(1));
+    }
+}
