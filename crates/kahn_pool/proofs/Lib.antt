@@ -5,6 +5,7 @@ pub mod Turns
 pub mod Final
 pub mod Channels
 pub mod Unique
+pub mod Sizes
 pub mod Bridged
 pub mod Benched
 pub mod Laid
@@ -14,3 +15,9 @@ pub mod Giving
 pub mod Printing
 pub mod Seen
 pub mod Kept_sizes
+pub mod Settled
+pub mod Meets
+pub mod Ended
+pub mod Rests
+pub mod Over
+pub mod Kept

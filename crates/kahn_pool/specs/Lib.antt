@@ -1,4 +1,5 @@
 pub mod Right
+pub mod Exact
 pub mod Gathered
 pub mod Bench
 pub mod Parameters
@@ -6,3 +7,6 @@ pub mod Limits
 pub mod Workbench
 pub mod Streams
 pub mod Runs
+pub mod Rested
+pub mod Meetings
+pub mod Gathers

@@ -1,16 +1,3 @@
 //! Gates: what a worker passes before it runs a process.
 
-/// Is entered just before each quantum of an instance. What is answered is right for every gate; a gate that waits
-/// makes the run wait.
-pub trait Gate: Sync {
-    /// The instance is about to run.
-    fn enter(&self, instance: usize);
-}
-
-/// The gate that does nothing.
-#[derive(Clone, Copy, Debug, Default, PartialEq, Eq)]
-pub struct Open;
-
-impl Gate for Open {
-    fn enter(&self, _instance: usize) {}
-}
+pub use kahn_crew::gate::{Gate, Open};

@@ -1,15 +1,16 @@
 //! Laws of answers. Each function does nothing: its contract is the law.
 
 ghost use Rattle.kahn_check.specs.Network.{Network};
-ghost use Rattle.kahn_streams.specs.Solution.{Inputs, Stands};
+ghost use Rattle.kahn_streams.specs.Solution.{HasSize, Inputs};
 ghost use Rattle.kahn_streams.specs.declared.value.Line.{Line};
 ghost use Rattle.kahn_streams.specs.declared.value.Value.{Value};
 ghost use Rattle.kahn_code.specs.Cells.{StoodBy, View};
 ghost use Rattle.kahn_pool.specs.Gathered.{IsGathered, Stood};
+ghost use Rattle.kahn_pool.specs.Exact.{AreBegun, Settles};
 ghost use Rattle.kahn_pool.specs.Parameters.{ReadsOnce};
 ghost use Rattle.kahn_pool.specs.Right.{AreOne, IsRight};
 ghost use Rattle.kahn_pool.specs.declared.answer.Answer.{Answer};
-ghost use Rattle.kahn_pool.specs.declared.answer.Verdict.TheVariants.{Finished};
+ghost use Rattle.kahn_pool.specs.declared.answer.Verdict.TheVariants.{Finished, Memory};
 ghost use Rattle.std.specs.Prelude.{◌≡◌, ℕ, Option};
 
 /// What a cell says by the numbers of its parameters says the same by channels.
@@ -25,4 +26,21 @@ pub fn assembled()
 /// Finished answers for one network, input and watch say the same, whatever their bounds.
 pub fn finished_is_one()
     ensures { (N : Network) (I : Inputs) (watch : Option ℕ) (n m : ℕ) (a b : Answer) → IsRight N I n watch a → IsRight N I m watch b → a.verdict ≡ Finished → b.verdict ≡ Finished → AreOne a b }
+{}
+
+/// Want of memory apart, a right answer is finished exactly where the size of the solution is a number at most the bound;
+/// a finished one has done just so many events.
+pub fn finished_exactly()
+    ensures settles { (N : Network) (I : Inputs) (bound : ℕ) (watch : Option ℕ) (a : Answer) → IsRight N I bound watch a → Settles N I bound a.verdict }
+    ensures counted { (N : Network) (I : Inputs) (bound : ℕ) (watch : Option ℕ) (a : Answer) → IsRight N I bound watch a → a.verdict ≡ Finished → HasSize N I a.events }
+{}
+
+/// Right answers for one network, input and bound have one verdict, want of memory apart.
+pub fn verdict_is_one()
+    ensures { (N : Network) (I : Inputs) (bound : ℕ) (watch other : Option ℕ) (a b : Answer) → IsRight N I bound watch a → IsRight N I bound other b → (a.verdict ≡ Memory → ⊥) → (b.verdict ≡ Memory → ⊥) → a.verdict ≡ b.verdict }
+{}
+
+/// Each stream of a right answer begins the history of its line, however the run stopped.
+pub fn stopped_begins()
+    ensures { (N : Network) (I : Inputs) (bound : ℕ) (watch : Option ℕ) (a : Answer) → IsRight N I bound watch a → AreBegun N I a }
 {}

@@ -1,6 +1,7 @@
 //! A run on the caller's thread.
 
 ghost use Rattle.kahn_check.specs.Network.{network_of};
+ghost use Rattle.kahn_pool.specs.Exact.{Settles};
 ghost use Rattle.kahn_pool.specs.Limits.{IsRefused};
 ghost use Rattle.kahn_pool.specs.Right.{IsRight};
 ghost use Rattle.kahn_streams.specs.Tokens.{inputs_of};
@@ -8,6 +9,7 @@ ghost use Rattle.std.specs.Prelude.{◌≡◌, ◌<◌, ◌^◌, ℕ, length, If
 
 use crate::answer::Answer;
 use crate::config::{MOST_BOUND, RunFault};
+use crate::laws;
 use crate::rounds::run_bench;
 use crate::workbench::Workbench;
 use kahn_check::network::Network;
@@ -67,7 +69,8 @@ pub fn run_watched(
 /// input fits the network.
 ///
 /// It refuses with `BadConfig` exactly where the bound is 2^48 or more, and with `NoMemory` where memory was refused
-/// before the first event. Memory that is refused later stops the run: its answer has the verdict `Memory`.
+/// before the first event. Memory that is refused later stops the run: its answer has the verdict `Memory`. Else the
+/// verdict is `Finished` exactly where the size of the solution is at most the bound.
 pub fn run_one(
     alloc: Global,
     network: &Network,
@@ -76,11 +79,13 @@ pub fn run_one(
 ) -> Result<Answer, RunFault>
     requires fits { length input ≡ length (network_of network.now).channels }
     ensures right { IfOk result (IsRight (network_of network.now) (inputs_of input) bound None) }
+    ensures exact { IfOk result (λ a. Settles (network_of network.now) (inputs_of input) bound a.verdict) }
     ensures refused { IfErr result (IsRefused bound) }
     ensures answered { IfOk result (λ _. bound < 2 ^ 48) }
 {
     if bound > MOST_BOUND {
         return Err(RunFault::BadConfig);
     }
+    laws::finished_exactly();
     Ok(run_watched(alloc, network, &input, None, QUANTUM, bound)?)
 }

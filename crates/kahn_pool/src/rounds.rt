@@ -155,8 +155,8 @@ fn last_round<B: Bench>(bench: &mut B, ends: Vec<End>, quantum: u64, bound: u64)
     }
 }
 
-// The rule of verdicts.
-fn verdict_of(memory: bool, ends: &[End]) -> Verdict
+/// The rule of verdicts.
+pub(crate) fn verdict_of(memory: bool, ends: &[End]) -> Verdict
     ensures { IsVerdict memory ends.now result }
 {
     if memory {

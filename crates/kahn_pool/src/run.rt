@@ -1,15 +1,19 @@
 //! Runs of a network.
 
 ghost use Rattle.kahn_check.specs.Network.{network_of};
+ghost use Rattle.kahn_pool.specs.Exact.{Settles};
 ghost use Rattle.kahn_pool.specs.Runs.{IsRun, IsUndeclared, IsUnrun, IsWatched};
 ghost use Rattle.kahn_pool.specs.declared.config.RunFault.TheVariants.{UnknownWatch};
-ghost use Rattle.std.specs.Prelude.{◌≡◌, length, MatchResult};
+ghost use Rattle.kahn_streams.specs.Tokens.{inputs_of};
+ghost use Rattle.std.specs.Prelude.{◌≡◌, length, IfOk, MatchResult};
 
 use crate::answer::Answer;
 use crate::config::{Config, RunFault};
 use crate::gate::Gate;
-use crate::one::run_watched;
+use crate::laws;
+use crate::workers::run_workers;
 use kahn_check::network::Network;
+use kahn_crew::Plan;
 use kahn_streams::entries::channel_named;
 use kahn_streams::input::Input;
 use std::alloc::Global;
@@ -29,28 +33,37 @@ fn watched(network: &Network, name: &Option<String>) -> Result<Option<usize>, Ru
     }
 }
 
-/// Runs a network with an input that fits it. Its answer is right, whatever the number of workers and the quantum are. A
-/// finished answer is the same for all of them and for every bound; of one that was stopped, which events were done may
-/// depend on them, and never what stands at a place of a stream.
+/// Runs a network with an input that fits it. Its answer is right, whatever the number of workers and the quantum are.
+/// Where its verdict isn't `Memory` it is `Finished` exactly where the size of the solution is at most the bound, so the
+/// two change no verdict. A finished answer is the same for all of them and for every bound; of one that was stopped, which
+/// events were done may depend on them, and never what stands at a place of a stream.
 ///
 /// It refuses with `BadConfig` where a number of the configuration is out of its limit, then with `UnknownWatch` where
 /// no channel has the name that is to be watched, and with `NoMemory` where memory was refused before the first event.
-/// Memory that is refused later stops the run: its answer has the verdict `Memory`. For now one thread, the caller's,
-/// does all the work, round after round, and no gate is entered.
-pub fn run<R: Threads + Wait + Sync, G: Gate>(
-    _rt: &R,
+/// Memory that is refused later stops the run: its answer has the verdict `Memory`. Each worker has a thread of its own
+/// where one can be made; where not, another thread does its work. Before each quantum of an instance the gate is entered.
+pub fn run<R: Threads + Wait + Sync, G: Gate + Sync>(
+    rt: &R,
     alloc: Global,
     network: &Network,
     input: Input,
     config: Config,
-    _gate: &G,
+    gate: &G,
 ) -> Result<Answer, RunFault>
     requires fits { length input ≡ length (network_of network.now).channels }
-    ensures { MatchResult result (IsRun network.now input config) (IsUnrun network.now config) }
+    ensures told { MatchResult result (IsRun network.now input config) (IsUnrun network.now config) }
+    ensures exact { IfOk result (λ a. Settles (network_of network.now) (inputs_of input) config.bound a.verdict) }
 {
     if !config.is_in_range() {
         return Err(RunFault::BadConfig);
     }
     let watch = watched(network, &config.watch)?;
-    Ok(run_watched(alloc, network, &input, watch, config.quantum, config.bound)?)
+    laws::finished_exactly();
+    let plan = Plan {
+        watch,
+        workers: config.workers as usize,
+        quantum: config.quantum,
+        bound: config.bound,
+    };
+    Ok(run_workers(rt, alloc, network, &input, plan, gate)?)
 }

@@ -85,8 +85,8 @@ fn opening_cells(
     named_cells(alloc, network, code, input, watch)
 }
 
-// The streams of an answer, in which a watched input channel has its whole list.
-fn opening_streams(
+/// The streams of an answer, in which a watched input channel has its whole list.
+pub(crate) fn opening_streams(
     alloc: Global,
     network: &Network,
     input: &Input,

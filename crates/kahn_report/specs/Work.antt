@@ -6,13 +6,15 @@ use Rattle.kahn_syntax.specs.declared.tree.Program.{Program}
 use Rattle.kahn_syntax.specs.Drawn.{program_of}
 use Rattle.kahn_syntax.specs.Programs.{nesting}
 use Rattle.kahn_syntax.specs.Texts.{IsProgram, IsTextFault as IsSyntaxFault}
+use Rattle.kahn_check.specs.Network.{network_of}
 use Rattle.kahn_check.specs.Order.{faults}
 use Rattle.kahn_check.specs.Faults.{IsMet}
 use Rattle.kahn_check.specs.Wiring.{IsWellWired}
-use Rattle.kahn_streams.specs.Tokens.{Lists}
+use Rattle.kahn_streams.specs.Tokens.{Lists, inputs_of}
 use Rattle.kahn_pool.specs.declared.answer.Answer.{Answer}
 use Rattle.kahn_pool.specs.declared.answer.Verdict.{Verdict}
 use Rattle.kahn_pool.specs.declared.config.Config.{Config}
+use Rattle.kahn_pool.specs.Exact.{Settles}
 use Rattle.kahn_pool.specs.Runs.{IsRun, IsUnrun}
 use Rattle.kahn_report.specs.declared.work.WorkFault.{WorkFault}
 use Rattle.kahn_report.specs.declared.work.WorkFault.TheVariants.{Syntax, Check, Text, Run, Write}
@@ -31,6 +33,11 @@ IsChecked text t = IsParsed text t × IsWellWired t
 -- the right answer for what the two texts stand for
 abbrev pub IsAnswered : List ℕ → List ℕ → Config → Program → Lists → Answer → Type 0
 IsAnswered program input config t lists a = IsChecked program t × StandsFor t input lists × IsRun t lists config a
+
+-- want of memory apart, the run of what the two texts stand for finished exactly where its solution is within the bound
+abbrev pub IsSettled : List ℕ → List ℕ → Config → Verdict → Type 0
+IsSettled program input config verdict =
+    (t : Program) × (lists : Lists) × IsChecked program t × StandsFor t input lists × Settles (network_of t) (inputs_of lists) config.bound verdict
 
 -- why a text is no well wired program
 abbrev pub IsUnchecked : List ℕ → WorkFault → Type 0

@@ -3,6 +3,9 @@
 mod examples;
 mod language;
 mod limits;
+mod watched;
+mod workers;
+mod writers;
 
 use crate::work::{WorkFault, work};
 use kahn_pool::answer::Verdict;

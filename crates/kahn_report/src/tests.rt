@@ -13,12 +13,12 @@ use std::test::Fail;
 
 /// A writer that takes one byte a call, and fails, or takes none, at a call.
 #[derive(Drop)]
-struct Slow {
-    taken: Vec<u8>,
-    calls: usize,
-    fails_at: usize,
-    stops_at: usize,
-    flush_fails: bool,
+pub struct Slow {
+    pub taken: Vec<u8>,
+    pub calls: usize,
+    pub fails_at: usize,
+    pub stops_at: usize,
+    pub flush_fails: bool,
 }
 
 impl Write for Slow {
@@ -70,7 +70,7 @@ impl Read for Drip<'_> {
     }
 }
 
-fn slow_writer(alloc: Global) -> Slow {
+pub fn slow_writer(alloc: Global) -> Slow {
     Slow {
         taken: Vec::new(alloc),
         calls: 0,

@@ -1,10 +1,10 @@
 //! The whole work: from a program text and an input text to a report.
 
-ghost use Rattle.kahn_report.specs.Work.{IsChecked, IsUnanswered, IsUnchecked, IsWorked};
+ghost use Rattle.kahn_report.specs.Work.{IsChecked, IsSettled, IsUnanswered, IsUnchecked, IsWorked};
 ghost use Rattle.kahn_report.specs.Inputs.{StandsFor};
 ghost use Rattle.kahn_pool.specs.Runs.{IsRun};
 ghost use Rattle.kahn_streams.specs.Tokens.{Lists};
-ghost use Rattle.std.specs.Prelude.{MatchResult};
+ghost use Rattle.std.specs.Prelude.{IfOk, MatchResult};
 
 use crate::input::{TextFault, read_input};
 use crate::write::{WriteFault, write_report};
@@ -76,7 +76,7 @@ fn checked(alloc: Global, program: &str) -> Result<Network, WorkFault>
 }
 
 // The answer of a network for an input text.
-fn answered<R: Threads + Wait + Sync, G: Gate>(
+fn answered<R: Threads + Wait + Sync, G: Gate + Sync>(
     rt: &R,
     alloc: Global,
     network: &Network,
@@ -97,8 +97,10 @@ fn answered<R: Threads + Wait + Sync, G: Gate>(
 /// the bytes of the report. Nothing is written before the answer stands; where a write fails a prefix of the report went
 /// out.
 ///
+/// The verdict, where it isn't `Memory`, is `Finished` exactly where the size of the solution is at most the bound.
+///
 /// Faults are found in this order: of the program text, of the network, of the input text, of the run, of the writer.
-pub fn work<R: Threads + Wait + Sync, G: Gate, W: Write>(
+pub fn work<R: Threads + Wait + Sync, G: Gate + Sync, W: Write>(
     rt: &R,
     alloc: Global,
     program: &str,
@@ -107,7 +109,8 @@ pub fn work<R: Threads + Wait + Sync, G: Gate, W: Write>(
     gate: &G,
     writer: &mut W,
 ) -> Result<Verdict, WorkFault>
-    ensures { IsWorked program.now input.now config (W.contents writer.old) (W.contents writer.new) result }
+    ensures told { IsWorked program.now input.now config (W.contents writer.old) (W.contents writer.new) result }
+    ensures exact { IfOk result (IsSettled program.now input.now config) }
 {
     let network = match checked(alloc, program) {
         Ok(network) => network,

@@ -1,0 +1,161 @@
+-- The ends of tasks.
+use Rattle.std.proofs.Common.{arith, ◌≡◌, ◌⊎◌, inl, inr, ℕ, zero, suc, ◌+◌, ◌<◌, ◌≤◌, List, [], ◌∷◌, ◌++◌, length, refl, sym, ap, ◌∙◌, subst, Option, Some, None, slice_get, slice_index_or, length-append}
+use Rattle.kahn_syntax.specs.declared.tree.Program.{Program}
+use Rattle.kahn_syntax.specs.declared.tree.Role.TheVariants.{Inner, Input}
+use Rattle.kahn_check.specs.Network.{Actual, Reads, Writes, network_of, instance_at, actual_at, role_at}
+use Rattle.kahn_check.specs.Sides.{IsWriter, IsReader, IsOnly}
+use Rattle.kahn_check.specs.Sources.{IsFed}
+use Rattle.kahn_check.specs.Wiring.{IsWellWired, side_at}
+use Rattle.kahn_check.specs.declared.sides.Side.{Side}
+use Rattle.kahn_check.proofs.Sourced.{handed_within, reads, reads_listed, writes}
+use Rattle.kahn_streams.specs.Tokens.{Lists, inputs_of}
+use Rattle.kahn_code.specs.Lines.{Joins}
+use Rattle.kahn_code.proofs.Readers.{joins_parameter}
+use Rattle.kahn_code.specs.Standing.{count}
+use Rattle.kahn_crew.specs.declared.standing.Standing.TheVariants as standing
+use Rattle.kahn_crew.specs.Tasks.{Tasked, handed}
+use Rattle.kahn_crew.specs.Left.{AreAll}
+use Rattle.kahn_pool.specs.Rested.{AreEndsOf, AreTold, IsDryOf, IsEndOf, IsToldAs}
+use Rattle.kahn_pool.specs.declared.answer.End.{End}
+use Rattle.kahn_pool.specs.declared.answer.Outcome.{Outcome}
+use Rattle.kahn_pool.specs.declared.answer.Outcome.TheVariants as outcome
+use Rattle.kahn_pool.proofs.Turns.{push_get}
+
+pub some_one : {X : Type 0} {x y : X} → Some x ≡ Some y → x ≡ y
+some_one e = cc
+
+writer_side : (t : Program) (p q c : ℕ) → actual_at (instance_at (network_of t) p) q ≡ Writes c → IsWriter (network_of t) c (side_at p q)
+writer_side t p q c e = (handed_within (network_of t) p q c (subst (λ a. Joins a c) (sym e) refl), e)
+
+reader_side : (t : Program) (p q c : ℕ) → actual_at (instance_at (network_of t) p) q ≡ Reads c → IsReader (network_of t) c (side_at p q)
+reader_side t p q c e = (handed_within (network_of t) p q c (subst (λ a. Joins a c) (sym e) refl), e)
+
+module _ (t : Program) (tasks : List Tasked) (h : AreTold t tasks) where
+  pub handed_as : (p q : ℕ) (x : Tasked) → slice_get tasks p ≡ Some x → handed x.work q ≡ actual_at (instance_at (network_of t) p) q
+  handed_as p q x e =
+      ap (λ k. actual_at (instance_at (network_of k) x.work.cell.instance) q) (h.network p x e) ∙
+      ap (λ i. actual_at (instance_at (network_of t) i) q) (h.instance p x e)
+
+  pub sent_all : (lists : Lists) (c : ℕ) (w : Side) (x : Tasked) (n : ℕ) → IsWellWired t → IsOnly (IsWriter (network_of t) c) (Some w) → slice_get tasks w.instance ≡ Some x →
+      n ≡ count x.work.cell.sent w.parameter → AreAll t lists tasks c n
+  sent_all lists c w x n wired only at e = record {
+    given = λ r. absurd ((writes t wired w.instance w.parameter c only.0.1).1 r);
+    sent = λ r o z f k.
+        let s = only.1 (side_at r o) (writer_side t r o c (sym (handed_as r o z f) ∙ k)) in
+        let i : r ≡ w.instance = ap (λ (u : Side). u.instance) s in
+        let q : o ≡ w.parameter = ap (λ (u : Side). u.parameter) s in
+        let same : z ≡ x = some_one (sym f ∙ ap (slice_get tasks) i ∙ at) in
+        ap (λ y. count y.work.cell.sent o) same ∙ ap (count x.work.cell.sent) q ∙ sym e;
+  }
+
+  pub given_all : (lists : Lists) (c : ℕ) (n : ℕ) → IsOnly (IsWriter (network_of t) c) None → n ≡ length (inputs_of lists c) → AreAll t lists tasks c n
+  given_all lists c n none e = record {
+    given = λ r. e;
+    sent = λ r o z f k. absurd (none (side_at r o) (writer_side t r o c (sym (handed_as r o z f) ∙ k)));
+  }
+
+-- all is one number
+pub one_number : (t : Program) (lists : Lists) (tasks : List Tasked) (p q d k n : ℕ) → IsWellWired t → AreTold t tasks →
+    actual_at (instance_at (network_of t) p) q ≡ Reads d → AreAll t lists tasks d n → AreAll t lists tasks d k → k ≡ n
+one_number t lists tasks p q d k n wired h r a b = by (reads t wired p q d r)
+  where
+    got : {X : Type 0} (xs : List X) (i : ℕ) → i < length xs → (x : X) × (slice_get xs i ≡ Some x)
+    got [] i l = absurd (omega (arith, l))
+    got (x ∷ xs) zero l = (x, refl)
+    got (x ∷ xs) (suc i) l = got xs i (omega (arith, l))
+
+    by : IsFed (network_of t) d → k ≡ n
+    by (inl f) = b.given f.1 ∙ sym (a.given f.1)
+    by (inr f) =
+        let w = writer_side t f.0 f.1 d f.3 in
+        let g = got tasks f.0 (subst (λ m. f.0 < m) (sym h.count) w.0.0) in
+        let at = handed_as t tasks h f.0 f.1 g.0 g.1 ∙ f.3 in
+        sym (b.sent f.0 f.1 g.0 g.1 at) ∙ a.sent f.0 f.1 g.0 g.1 at
+
+-- ---- the channel that a parameter reads
+
+pub is_reader : (t : Program) (c p q : ℕ) (s : Side) → IsOnly (IsReader (network_of t) c) (Some s) → s.instance ≡ p → s.parameter ≡ q →
+    actual_at (instance_at (network_of t) p) q ≡ Reads c
+is_reader t c p q s only i k =
+    ap (λ n. actual_at (instance_at (network_of t) n) q) (sym i) ∙ ap (actual_at (instance_at (network_of t) s.instance)) (sym k) ∙ only.0.1
+
+-- channel c is not the one
+pub other_reader : (t : Program) (c p q : ℕ) (s : Side) → IsOnly (IsReader (network_of t) c) (Some s) → (s.instance ≡ p → s.parameter ≡ q → ⊥) →
+    actual_at (instance_at (network_of t) p) q ≡ Reads c → ⊥
+other_reader t c p q s only n e =
+    let h = only.1 (side_at p q) (reader_side t p q c e) in
+    n (sym (ap (λ (u : Side). u.instance) h)) (sym (ap (λ (u : Side). u.parameter) h))
+
+pub no_reader : (t : Program) (c p q : ℕ) → IsOnly (IsReader (network_of t) c) None → actual_at (instance_at (network_of t) p) q ≡ Reads c → ⊥
+no_reader t c p q none e = none (side_at p q) (reader_side t p q c e)
+
+pub none_more : (P : ℕ → Type 0) (n : ℕ) → ((c : ℕ) → c < n → P c → ⊥) → (P n → ⊥) → (c : ℕ) → c < suc n → P c → ⊥
+none_more P n h last c l = by (same_or c n)
+  where
+    same_or : (a b : ℕ) → (a ≡ b) ⊎ (a ≡ b → ⊥)
+    same_or zero zero = inl refl
+    same_or zero (suc b) = inr (λ e. absurd (omega (arith, e)))
+    same_or (suc a) zero = inr (λ e. absurd (omega (arith, e)))
+    same_or (suc a) (suc b) = step (same_or a b)
+      where
+        step : (a ≡ b) ⊎ (a ≡ b → ⊥) → (suc a ≡ suc b) ⊎ (suc a ≡ suc b → ⊥)
+        step (inl e) = inl (ap suc e)
+        step (inr o) = inr (λ e. o (omega (arith, e)))
+
+    less : (a b : ℕ) → a < suc b → (a ≡ b → ⊥) → a < b
+    less zero zero l o = absurd (o refl)
+    less zero (suc b) l o = omega arith
+    less (suc a) zero l o = absurd (omega (arith, l))
+    less (suc a) (suc b) l o = let r = less a b (omega (arith, l)) (λ e. o (ap suc e)) in omega (arith, r)
+
+    by : (c ≡ n) ⊎ (c ≡ n → ⊥) → P c → ⊥
+    by (inl e) k = last (subst P e k)
+    by (inr o) k = h c (less c n l o) k
+
+pub none_all : (t : Program) (p q n : ℕ) → IsWellWired t → n ≡ length (network_of t).channels →
+    ((c : ℕ) → c < n → actual_at (instance_at (network_of t) p) q ≡ Reads c → ⊥) → (c : ℕ) → actual_at (instance_at (network_of t) p) q ≡ Reads c → ⊥
+none_all t p q n wired is h c e = let l = reads_listed t wired p q c e in h c (omega (arith, l, is)) e
+
+-- ---- what stands in the answer
+
+pub dry_told : (t : Program) (lists : Lists) (tasks : List Tasked) (p q c n k : ℕ) → IsWellWired t → AreTold t tasks →
+    actual_at (instance_at (network_of t) p) q ≡ Reads c → AreAll t lists tasks c n → (x : Tasked) → slice_get tasks p ≡ Some x → k ≡ count x.work.cell.taken q →
+    x.standing ≡ standing.Dry q → (k ≡ n → IsToldAs t lists tasks x (outcome.Waits c)) × ((k ≡ n → ⊥) → IsToldAs t lists tasks x outcome.More)
+dry_told t lists tasks p q c n k wired h r all x at is s = (
+  λ e. (q, s, handed_as t tasks h p q x at ∙ r, subst (AreAll t lists tasks c) (sym e ∙ is) all),
+  λ n'. inr (q, c, s, handed_as t tasks h p q x at ∙ r, λ a. n' (is ∙ one_number t lists tasks p q c _ n wired h r all a)),
+)
+
+-- ---- all ends
+
+pub no_ends : (t : Program) (lists : Lists) (tasks : List Tasked) (ends : List End) → ends ≡ [] → AreEndsOf t lists tasks ends 0
+no_ends t lists tasks ends e = record { count = ap length e; each = λ p x y a b. absurd (none p y (ap (λ l. slice_get l p) (sym e) ∙ b)) }
+  where
+    none : (p : ℕ) (y : End) → slice_get [] p ≡ Some y → ⊥
+    none p y b = cc
+
+pub more_ends : (t : Program) (lists : Lists) (tasks : List Tasked) (ends : List End) (n : ℕ) (y : End) → AreEndsOf t lists tasks ends n →
+    ((x : Tasked) → slice_get tasks n ≡ Some x → IsEndOf t lists tasks x y) → AreEndsOf t lists tasks (ends ++ y ∷ []) (suc n)
+more_ends t lists tasks ends n y h last = record {
+  count = length-append ends (y ∷ []) ∙ (let c = h.count in omega (arith, c));
+  each = λ p x z a b. by p x z a (push_get ends y z p b);
+}
+  where
+    by : (p : ℕ) (x : Tasked) (z : End) → slice_get tasks p ≡ Some x → (slice_get ends p ≡ Some z) ⊎ ((p ≡ length ends) × (y ≡ z)) → IsEndOf t lists tasks x z
+    by p x z a (inl e) = h.each p x z a e
+    by p x z a (inr e) = subst (IsEndOf t lists tasks x) e.1 (last x (ap (slice_get tasks) (sym (e.0 ∙ h.count)) ∙ a))
+
+pub taken_long : (t : Program) (tasks : List Tasked) (p q d n : ℕ) (x : Tasked) → AreTold t tasks → slice_get tasks p ≡ Some x →
+    actual_at (instance_at (network_of t) p) q ≡ Reads d → n ≡ length (instance_at (network_of x.work.cell.network) x.work.cell.instance).actuals → q < n
+taken_long t tasks p q d n x h at e is =
+    let l = joins_parameter (network_of t) p q d (subst (λ a. Joins a d) (sym e) refl) in
+    let same : length (instance_at (network_of x.work.cell.network) x.work.cell.instance).actuals ≡ length (instance_at (network_of t) p).actuals =
+    ap (λ k. length (instance_at (network_of k) x.work.cell.instance).actuals) (h.network p x at) ∙
+    ap (λ i. length (instance_at (network_of t) i).actuals) (h.instance p x at)
+    in
+    omega (arith, l, same, is)
+
+pub reader_at : (t : Program) (c p q : ℕ) (s : Side) → IsOnly (IsReader (network_of t) c) (Some s) →
+    actual_at (instance_at (network_of t) p) q ≡ Reads c → (s.instance ≡ p) × (s.parameter ≡ q)
+reader_at t c p q s only e =
+    let h = only.1 (side_at p q) (reader_side t p q c e) in (sym (ap (λ (u : Side). u.instance) h), sym (ap (λ (u : Side). u.parameter) h))

@@ -1,0 +1,262 @@
+-- A run that is over.
+use Rattle.std.proofs.Common.{arith, ◌≡◌, ◌⊎◌, inl, inr, ℕ, zero, suc, ◌+◌, ◌^◌, ◌<◌, ◌≤◌, Bool, true, false, List, [], ◌∷◌, length, map, sum_by, refl, sym, ap, ◌∙◌, subst, Option, Some, None, slice_get}
+use Rattle.std.proofs.lemmas.List.{length-map}
+use Rattle.std.proofs.lemmas.List.Sums.{sum_by-cons}
+use Rattle.kahn_syntax.specs.declared.tree.Program.{Program}
+use Rattle.kahn_check.specs.Network.{Reads, Writes, network_of, instance_at, actual_at}
+use Rattle.kahn_check.specs.Wiring.{IsWellWired}
+use Rattle.kahn_streams.specs.Tokens.{Lists, inputs_of}
+use Rattle.kahn_code.specs.Cells.{View}
+use Rattle.kahn_code.specs.Standing.{count}
+use Rattle.kahn_code.specs.Told.{Told, told_view}
+use Rattle.kahn_job.specs.Ends.{IsSame, ShareLane}
+use Rattle.kahn_job.specs.Berths.{end_at}
+use Rattle.kahn_job.specs.Works.{Work}
+use Rattle.kahn_job.specs.Openings.{IsOpening}
+use Rattle.kahn_crew.specs.declared.standing.Standing.TheVariants as standing
+use Rattle.kahn_crew.specs.Tasks.{Tasked, IsLater, handed, is_over}
+use Rattle.kahn_crew.specs.Left.{AreAll, HaveLeft, IsAtRest, task_events}
+use Rattle.kahn_pool.specs.Meetings.{AreJoined, HaveMet, IsBehindOn}
+use Rattle.kahn_pool.specs.Rested.{AreEndsOf, AreTasks, HaveSettled, IsEndOf, IsSettled, IsTaskOf, IsToldAs, Settles, cell_of, state_of}
+use Rattle.kahn_pool.specs.Gathers.{HasEnded}
+use Rattle.kahn_pool.specs.declared.answer.Answer.{Answer}
+use Rattle.kahn_pool.specs.declared.answer.End.{End}
+use Rattle.kahn_pool.specs.declared.answer.Outcome.TheVariants as outcome
+use Rattle.kahn_pool.specs.declared.answer.Verdict.{Verdict}
+use Rattle.kahn_pool.specs.declared.answer.Verdict.TheVariants as verdict
+use Rattle.kahn_pool.specs.Bench.{IsLast, IsVerdict, Rests, view_events}
+use Rattle.kahn_pool.proofs.Benched.{got, some_one, within_get}
+use Rattle.kahn_pool.proofs.Rests as rests
+
+going_over : true ≡ false → ⊥
+going_over e = cc
+
+-- ---- after each was asked
+
+-- one did no more than all
+pub at_most : (xs : List Tasked) (p : ℕ) (x : Tasked) → slice_get xs p ≡ Some x → x.work.cell.events ≤ sum_by task_events xs
+at_most [] p x e = absurd cc
+at_most (y ∷ xs) zero x e =
+    let b : sum_by task_events (y ∷ xs) ≡ y.work.cell.events + sum_by task_events xs = sum_by-cons task_events y xs in
+    let s : y.work.cell.events ≡ x.work.cell.events = ap task_events (some_one e) in
+    let l : x.work.cell.events ≤ sum_by task_events (y ∷ xs) = omega (arith, b, s) in
+    l
+at_most (y ∷ xs) (suc p) x e =
+    let b : sum_by task_events (y ∷ xs) ≡ y.work.cell.events + sum_by task_events xs = sum_by-cons task_events y xs in
+    let r : x.work.cell.events ≤ sum_by task_events xs = at_most xs p x e in
+    let l : x.work.cell.events ≤ sum_by task_events (y ∷ xs) = omega (arith, b, r) in
+    l
+
+same_sum : (xs ys : List Tasked) → length ys ≡ length xs →
+    ((p : ℕ) (x y : Tasked) → slice_get xs p ≡ Some x → slice_get ys p ≡ Some y → y.work.cell.events ≡ x.work.cell.events) → sum_by task_events ys ≡ sum_by task_events xs
+same_sum [] [] l h = refl
+same_sum [] (y ∷ ys) l h = absurd (omega (arith, l))
+same_sum (x ∷ xs) [] l h = absurd (omega (arith, l))
+same_sum (x ∷ xs) (y ∷ ys) l h =
+    let r : sum_by task_events ys ≡ sum_by task_events xs = same_sum xs ys (omega (arith, l)) (λ p. h (suc p)) in
+    let a : sum_by task_events (y ∷ ys) ≡ y.work.cell.events + sum_by task_events ys = sum_by-cons task_events y ys in
+    let b : sum_by task_events (x ∷ xs) ≡ x.work.cell.events + sum_by task_events xs = sum_by-cons task_events x xs in
+    let e : y.work.cell.events ≡ x.work.cell.events = h zero x y refl refl in
+    let s : sum_by task_events (y ∷ ys) ≡ sum_by task_events (x ∷ xs) = omega (arith, a, b, e, r) in
+    s
+
+module _ (t : Program) (lists : Lists) (watch : Option ℕ) (bound : ℕ) (old : List Tasked) (budget : ℕ) (halted : Bool)
+    (left : HaveLeft t lists watch bound old budget halted) where
+  job_at : (p : ℕ) (x : Tasked) → slice_get old p ≡ Some x → (w : Work) × (slice_get left.jobs p ≡ Some w)
+  job_at p x e =
+      let l = within_get old p x e in
+      let a = left.count in
+      let b = left.opened.count in
+      got left.jobs p (omega (arith, l, a, b))
+
+  pub left_network : (p : ℕ) (x : Tasked) → slice_get old p ≡ Some x → x.work.cell.network ≡ t
+  left_network p x e =
+      let w = job_at p x e in
+      let l = left.later p w.0 x w.1 e in
+      l.2.network ∙ ap (λ (k : Work). k.cell.network) l.1 ∙ (left.opened.each p w.0 w.1).0.network
+
+  left_task : (p : ℕ) (x : Tasked) → slice_get old p ≡ Some x → IsTaskOf t lists watch p x
+  left_task p x e =
+      let w = job_at p x e in
+      let l = left.later p w.0 x w.1 e in
+      let o : IsOpening t lists watch p w.0.cell = (left.opened.each p w.0 w.1).0 in
+      record {
+        network = l.2.network ∙ ap (λ (k : Work). k.cell.network) l.1 ∙ o.network;
+        input = l.2.input ∙ ap (λ (k : Work). k.cell.input) l.1 ∙ o.input;
+        instance = l.2.instance ∙ ap (λ (k : Work). k.cell.instance) l.1 ∙ o.instance;
+        watched = l.2.watch ∙ ap (λ (k : Work). k.cell.watch) l.1 ∙ o.watched;
+      }
+
+  pub left_bound : bound < 2 ^ 48 → (p : ℕ) (x : Tasked) → slice_get old p ≡ Some x → x.work.cell.events < 2 ^ 48
+  left_bound b p x e = let m = at_most old p x e in let s = left.events in omega (arith, b, m, s)
+
+  lane_of : (p q : ℕ) (x : Tasked) (w : Work) (at : slice_get left.jobs p ≡ Some w) (e : slice_get old p ≡ Some x) → (end_at x.work.ends q).lane ≡ (end_at w.ends q).lane
+  lane_of p q x w at e =
+      let l = left.later p w x at e in
+      (l.2.ends.same q).lane ∙ ap (λ (k : Work). (end_at k.ends q).lane) l.1
+
+  module _ (new : List Tasked) (h : HaveSettled old new) where
+    was : (p : ℕ) (y : Tasked) → slice_get new p ≡ Some y → (x : Tasked) × (slice_get old p ≡ Some x)
+    was p y e = let l = within_get new p y e in let n = h.count in got old p (omega (arith, l, n))
+
+    step : (p : ℕ) (y : Tasked) (e : slice_get new p ≡ Some y) → Settles (was p y e).0 y
+    step p y e = h.each p (was p y e).0 y (was p y e).1 e
+
+    of_new : (p : ℕ) (y : Tasked) → slice_get new p ≡ Some y → IsTaskOf t lists watch p y
+    of_new p y e =
+        let x = was p y e in
+        let o = left_task p x.0 x.1 in
+        let l = (step p y e).later in
+        record { network = l.network ∙ o.network; input = l.input ∙ o.input; instance = l.instance ∙ o.instance; watched = l.watch ∙ o.watched }
+
+    lane_new : (p q : ℕ) (y : Tasked) (e : slice_get new p ≡ Some y) → (end_at y.work.ends q).lane ≡ (end_at (job_at p (was p y e).0 (was p y e).1).0.ends q).lane
+    lane_new p q y e =
+        let x = was p y e in
+        ((step p y e).later.ends.same q).lane ∙ lane_of p q x.0 (job_at p x.0 x.1).0 (job_at p x.0 x.1).1 x.1
+
+    joined_new : AreJoined t new
+    joined_new = record {
+      count = h.count ∙ left.count;
+      network = λ p y e. (of_new p y e).network;
+      instance = λ p y e. (of_new p y e).instance;
+      joined = λ p r o q d y z e f w k.
+          let x = was p y e in
+          let u = was r z f in
+          let a = job_at p x.0 x.1 in
+          let b = job_at r u.0 u.1 in
+          let s = left.opened.joined p r o q d a.0 b.0 a.1 b.1 w k in
+          (s.0, lane_new p o y e ∙ s.1, lane_new r q z f ∙ s.2);
+    }
+
+    going_apart : (x : Tasked) → IsAtRest t lists old x → x.standing ≡ standing.Going → ⊥
+    going_apart x (inl o) g = going_over (sym o ∙ ap is_over g)
+    going_apart x (inr (q, d, s, r, k)) g = differ (sym s ∙ g)
+      where
+        differ : standing.Dry q ≡ standing.Going → ⊥
+        differ f = cc
+
+    rest_new : ((p : ℕ) (x : Tasked) → slice_get old p ≡ Some x → IsAtRest t lists old x) → (p : ℕ) (y : Tasked) → slice_get new p ≡ Some y → IsAtRest t lists new y
+    rest_new rest p y e =
+        let x = was p y e in
+        subst (IsAtRest t lists new) (sym (same p y e)) (by x.0 (rest p x.0 x.1))
+      where
+        same : (p : ℕ) (y : Tasked) (e : slice_get new p ≡ Some y) → y ≡ (was p y e).0
+        same p y e = (step p y e).still (going_apart (was p y e).0 (rest p (was p y e).0 (was p y e).1))
+
+        all : (d k : ℕ) → AreAll t lists old d k → AreAll t lists new d k
+        all d k a = record {
+          given = a.given;
+          sent = λ r o z f w.
+              let u = was r z f in
+              let s = same r z f in
+              ap (λ (v : Tasked). count v.work.cell.sent o) s ∙ a.sent r o u.0 u.1 (ap (λ (v : Tasked). handed v.work o) (sym s) ∙ w);
+        }
+
+        by : (x : Tasked) → IsAtRest t lists old x → IsAtRest t lists new x
+        by x (inl o) = inl o
+        by x (inr (q, d, s, r, a)) = inr (q, d, s, r, all d (count x.work.cell.taken q) a)
+
+    pub has_ended : HasEnded t lists watch bound new budget halted
+    has_ended = record {
+      tasks_of = record { count = h.count ∙ left.count; each = of_new };
+      joined = joined_new;
+      settled = λ p y e. (step p y e).settled;
+      events = let a = left.events in let b = same_sum old new h.count (λ p x y e f. (h.each p x y e f).events) in omega (arith, a, b);
+      over = over left.over;
+    }
+      where
+        over : (halted ≡ true) ⊎ ((budget ≡ 0) ⊎ ((p : ℕ) (x : Tasked) → slice_get old p ≡ Some x → IsAtRest t lists old x)) →
+            (halted ≡ true) ⊎ ((budget ≡ 0) ⊎ ((p : ℕ) (x : Tasked) → slice_get new p ≡ Some x → IsAtRest t lists new x))
+        over (inl a) = inl a
+        over (inr (inl b)) = inr (inl b)
+        over (inr (inr c)) = inr (inr (rest_new c))
+
+-- ---- the answer
+
+sum_views : (xs : List Tasked) → sum_by view_events (map told_view (map cell_of xs)) ≡ sum_by task_events xs
+sum_views [] = refl
+sum_views (x ∷ xs) =
+    let r : sum_by view_events (map told_view (map cell_of xs)) ≡ sum_by task_events xs = sum_views xs in
+    let a : sum_by view_events (map told_view (map cell_of (x ∷ xs))) ≡ x.work.cell.events + sum_by view_events (map told_view (map cell_of xs)) =
+    sum_by-cons view_events (told_view x.work.cell) (map told_view (map cell_of xs))
+    in
+    let b : sum_by task_events (x ∷ xs) ≡ x.work.cell.events + sum_by task_events xs = sum_by-cons task_events x xs in
+    let s : sum_by view_events (map told_view (map cell_of (x ∷ xs))) ≡ sum_by task_events (x ∷ xs) = omega (arith, a, b, r) in
+    s
+
+module _ (t : Program) (wired : IsWellWired t) (lists : Lists) (watch : Option ℕ) (bound : ℕ) (tasks : List Tasked) (budget : ℕ) (halted : Bool)
+    (h : HasEnded t lists watch bound tasks budget halted) (behind : (c : ℕ) → IsBehindOn t tasks c) (ends : List End)
+    (are : AreEndsOf t lists tasks ends (length tasks)) where
+  -- a task at rest wants no more
+  no_more : (x : Tasked) → IsAtRest t lists tasks x → IsToldAs t lists tasks x outcome.More → ⊥
+  no_more x (inl o) (inl g) = going_over (sym o ∙ ap is_over g)
+  no_more x (inl o) (inr (q, d, s, r, k)) = going_over (sym o ∙ ap is_over s)
+  no_more x (inr (q, d, s, r, a)) (inl g) = differ (sym s ∙ g)
+    where
+      differ : standing.Dry q ≡ standing.Going → ⊥
+      differ f = cc
+  no_more x (inr (q, d, s, r, a)) (inr (q', d', s', r', n)) =
+      let e : q ≡ q' = same (sym s ∙ s') in
+      let f : d ≡ d' = channel (sym r ∙ ap (handed x.work) e ∙ r') in
+      n (subst (λ k. AreAll t lists tasks k (count x.work.cell.taken q')) f (subst (λ k. AreAll t lists tasks d (count x.work.cell.taken k)) e a))
+    where
+      same : {q p : ℕ} → standing.Dry q ≡ standing.Dry p → q ≡ p
+      same f = cc
+
+      channel : {c d : ℕ} → Reads c ≡ Reads d → c ≡ d
+      channel f = cc
+
+  pub is_last : IsLast (state_of t lists watch tasks) bound budget halted ends
+  is_last = record {
+    known = length-map (map cell_of tasks) told_view ∙ length-map tasks cell_of ∙ h.tasks_of.count;
+    total = let a = sum_views tasks in let b = h.events in omega (arith, a, b);
+    size = are.count ∙ h.tasks_of.count;
+    ends = λ p y e. one p y e (task p y e);
+  }
+    where
+      task : (p : ℕ) (y : End) → slice_get ends p ≡ Some y → (x : Tasked) × (slice_get tasks p ≡ Some x)
+      task p y e = let l = within_get ends p y e in let n = are.count in got tasks p (omega (arith, l, n))
+
+      more : (x : Tasked) (p : ℕ) → slice_get tasks p ≡ Some x → IsToldAs t lists tasks x outcome.More →
+          (halted ≡ true) ⊎ ((budget ≡ 0) ⊎ ((p : ℕ) (x : Tasked) → slice_get tasks p ≡ Some x → IsAtRest t lists tasks x)) → (budget ≡ 0) ⊎ (halted ≡ true)
+      more x p e m (inl a) = inr a
+      more x p e m (inr (inl b)) = inl b
+      more x p e m (inr (inr c)) = absurd (no_more x (c p x e) m)
+
+      one : (p : ℕ) (y : End) → slice_get ends p ≡ Some y → (x : Tasked) × (slice_get tasks p ≡ Some x) →
+          Rests (state_of t lists watch tasks) p y × (y.outcome ≡ outcome.More → (budget ≡ 0) ⊎ (halted ≡ true))
+      one p y e x =
+          let k = are.each p x.0 y x.1 e in
+          (rests.rests t wired lists watch tasks h.tasks_of h.settled behind p x.0 y x.1 k, λ m. more x.0 p x.1 (subst (IsToldAs t lists tasks x.0) m k.told) h.over)
+
+-- the verdict is that of want of memory exactly where memory was refused
+pub memory_alone : (memory : Bool) (ends : List End) (v : Verdict) → IsVerdict memory ends v → (v ≡ verdict.Memory → memory ≡ true) × (memory ≡ true → v ≡ verdict.Memory)
+memory_alone memory ends verdict.Memory h = (λ e. h, λ m. refl)
+memory_alone memory ends verdict.Finished h = (λ e. absurd cc, λ m. absurd (going_over (sym m ∙ h.0)))
+memory_alone memory ends verdict.Bound h = (λ e. absurd cc, λ m. absurd (going_over (sym m ∙ h.0)))
+
+pub same_cells : (xs ys : List Tasked) → HaveMet xs ys → map cell_of ys ≡ map cell_of xs
+same_cells [] [] h = refl
+same_cells [] (y ∷ ys) h = absurd (let n = h.count in omega (arith, n))
+same_cells (x ∷ xs) [] h = absurd (let n = h.count in omega (arith, n))
+same_cells (x ∷ xs) (y ∷ ys) h =
+    let a = (h.each 0 x y refl refl).cell in
+    let b = same_cells xs ys (record { count = let n = h.count in omega (arith, n); each = λ p. h.each (suc p) }) in
+    λ i. a i ∷ b i
+
+pub tasks_met : (t : Program) (lists : Lists) (watch : Option ℕ) (xs ys : List Tasked) → AreTasks t lists watch xs → HaveMet xs ys → AreTasks t lists watch ys
+tasks_met t lists watch xs ys of m = record { count = m.count ∙ of.count; each = λ p y e. by p y e (was p y e) }
+  where
+    was : (p : ℕ) (y : Tasked) → slice_get ys p ≡ Some y → (x : Tasked) × (slice_get xs p ≡ Some x)
+    was p y e = let l = within_get ys p y e in let n = m.count in got xs p (omega (arith, l, n))
+
+    by : (p : ℕ) (y : Tasked) → slice_get ys p ≡ Some y → (x : Tasked) × (slice_get xs p ≡ Some x) → IsTaskOf t lists watch p y
+    by p y e x =
+        let c = (m.each p x.0 y x.1 e).cell in
+        let o = of.each p x.0 x.1 in
+        record {
+          network = ap (λ (k : Told). k.network) c ∙ o.network;
+          input = ap (λ (k : Told). k.input) c ∙ o.input;
+          instance = ap (λ (k : Told). k.instance) c ∙ o.instance;
+          watched = ap (λ (k : Told). k.watch) c ∙ o.watched;
+        }

@@ -1,0 +1,239 @@
+-- What settled tasks whose ends have met say of the cells.
+use Rattle.std.proofs.Common.{arith, ◌≡◌, ◌⊎◌, inl, inr, ℕ, zero, suc, ◌+◌, ◌<◌, ◌≤◌, List, [], ◌∷◌, ◌++◌, length, map, refl, sym, ap, ◌∙◌, subst, Option, Some, None, slice_get, length-append}
+use Rattle.kahn_syntax.specs.declared.tree.Program.{Program}
+use Rattle.kahn_syntax.specs.declared.tree.Role.{Role}
+use Rattle.kahn_syntax.specs.declared.tree.Role.TheVariants.{Inner, Input}
+use Rattle.kahn_check.specs.Network.{Network, Actual, Reads, Writes, Source, Given, Written, network_of, instance_at, actual_at, role_at, channel_source}
+use Rattle.kahn_check.specs.Sources.{IsFed as IsFedBy}
+use Rattle.kahn_check.specs.Wiring.{IsWellWired}
+use Rattle.kahn_check.proofs.Sourced.{reads, writes}
+use Rattle.kahn_streams.specs.declared.value.Value.{Value}
+use Rattle.kahn_streams.specs.declared.value.Line.TheVariants.{Channel}
+use Rattle.kahn_streams.specs.Meaning.{Store}
+use Rattle.kahn_streams.specs.Script as script
+use Rattle.kahn_streams.specs.Script.{Cut, Dry}
+use Rattle.kahn_streams.specs.Solution.{Inputs, exec_at, fed, iterate, out, source}
+use Rattle.kahn_streams.specs.Tokens.{Lists, inputs_of}
+use Rattle.kahn_streams.proofs.Dry.{dry_reads}
+use Rattle.kahn_code.specs.Cells.{AllStand, View, exec_on}
+use Rattle.kahn_code.specs.Lines.{Joins}
+use Rattle.kahn_code.specs.Progress as code
+use Rattle.kahn_code.specs.Standing.{count}
+use Rattle.kahn_code.specs.Told.{Told, told_view}
+use Rattle.kahn_code.proofs.Driven.{driven}
+use Rattle.kahn_code.proofs.Readers.{joins_within, reads_once}
+use Rattle.kahn_job.specs.Ends.{End as PortEnd, IsReady}
+use Rattle.kahn_job.specs.Berths.{Serves, end_at}
+use Rattle.kahn_job.specs.Works.{Work}
+use Rattle.kahn_crew.specs.declared.standing.Standing.{Standing}
+use Rattle.kahn_crew.specs.declared.standing.Standing.TheVariants as standing
+use Rattle.kahn_crew.specs.Tasks.{Tasked, handed}
+use Rattle.kahn_crew.specs.Left.{AreAll}
+use Rattle.kahn_pool.specs.Meetings.{IsBehindOn}
+use Rattle.kahn_pool.specs.Rested.{AreTasks, AreTold, IsDryOf, IsEndOf, IsSaid, IsSettled, IsTaskOf, IsToldAs, cell_of, state_of}
+use Rattle.kahn_pool.specs.declared.answer.End.{End}
+use Rattle.kahn_pool.specs.declared.answer.Outcome.{Outcome}
+use Rattle.kahn_pool.specs.declared.answer.Outcome.TheVariants as outcome
+use Rattle.kahn_pool.specs.declared.answer.Verdict.{Verdict}
+use Rattle.kahn_pool.specs.Bench.{State, Rests}
+use Rattle.kahn_pool.specs.Gathered.{AreWithin, IsGiven, IsTold, Stood, TookAll, nothing, view_at}
+use Rattle.kahn_pool.proofs.Benched.{get_map, got, mapped, some_one}
+use Rattle.kahn_pool.proofs.Channels.{told_by_channel}
+use Rattle.kahn_pool.proofs.Lists.{stand_in}
+use Rattle.kahn_pool.proofs.Ended.{one_number}
+
+-- what stands on an input channel is of its list
+iter_given : (N : Network) (I : Inputs) (d n : ℕ) → source N (Channel d) ≡ Given → iterate N I n (Channel d) ≡ I d
+iter_given N I d zero e = ap (λ s. fed s I (λ p. []) (Channel d)) e
+iter_given N I d (suc n) e = ap (λ s. fed s I (λ p. out N n p (iterate N I n) (Channel d)) (Channel d)) e
+
+list_long : (N : Network) (I : Inputs) (d : ℕ) (xs : List Value) → source N (Channel d) ≡ Given → AllStand N I (Channel d) xs → length xs ≤ length (I d)
+list_long N I d xs e h =
+    let p = stand_in N I (Channel d) xs h in
+    let l : length (I d) ≡ length xs + length p.1.0 = ap length (sym (iter_given N I d p.0 e) ∙ p.1.1) ∙ length-append xs p.1.0 in
+    omega (arith, l)
+
+role_apart : {r : Role} → r ≡ Inner → r ≡ Input → ⊥
+role_apart a b = let e : Inner ≡ Input = sym a ∙ b in absurd cc
+
+written_one : {p r : ℕ} → Written p ≡ Written r → p ≡ r
+written_one e = cc
+
+reads_one : {c d : ℕ} → Reads c ≡ Reads d → c ≡ d
+reads_one e = cc
+
+less : (m n : ℕ) → m ≤ n → (m ≡ n → ⊥) → m < n
+less zero zero le other = absurd (other refl)
+less zero (suc n) le other = omega arith
+less (suc m) zero le other = absurd (omega (arith, le))
+less (suc m) (suc n) le other = let r = less m n (omega (arith, le)) (λ e. other (ap suc e)) in omega (arith, r)
+
+module _ (t : Program) (wired : IsWellWired t) (lists : Lists) (watch : Option ℕ) (tasks : List Tasked) (of : AreTasks t lists watch tasks)
+    (settled : (p : ℕ) (x : Tasked) → slice_get tasks p ≡ Some x → IsSettled x) where
+  abbrev N : Network
+  N = network_of t
+
+  abbrev I : Inputs
+  I = inputs_of lists
+
+  abbrev cells : List View
+  cells = map told_view (map cell_of tasks)
+
+  pub viewed : (p : ℕ) (x : Tasked) → slice_get tasks p ≡ Some x → view_at cells p ≡ told_view x.work.cell
+  viewed p x e = mapped told_view (map cell_of tasks) p x.work.cell nothing (get_map cell_of tasks p x e)
+
+  handed_as : (p q : ℕ) (x : Tasked) → slice_get tasks p ≡ Some x → handed x.work q ≡ actual_at (instance_at N p) q
+  handed_as p q x e =
+      let o = of.each p x e in
+      ap (λ k. actual_at (instance_at (network_of k) x.work.cell.instance) q) o.network ∙ ap (λ i. actual_at (instance_at N i) q) o.instance
+
+  pub task_at : (p : ℕ) → p < length N.instances → (x : Tasked) × (slice_get tasks p ≡ Some x)
+  task_at p l = got tasks p (subst (λ n. p < n) (sym of.count) l)
+
+  joins_read : (p q d : ℕ) → actual_at (instance_at N p) q ≡ Reads d → p < length N.instances
+  joins_read p q d e = joins_within N p q d (subst (λ a. Joins a d) (sym e) refl)
+
+  joins_write : (p q d : ℕ) → actual_at (instance_at N p) q ≡ Writes d → p < length N.instances
+  joins_write p q d e = joins_within N p q d (subst (λ a. Joins a d) (sym e) refl)
+
+  -- by the names of the run
+  pub says_here : (p : ℕ) (x : Tasked) → slice_get tasks p ≡ Some x → code.Paused N I watch p (told_view x.work.cell) (IsSaid x.work x.standing)
+  says_here p x e =
+      let o = of.each p x e in
+      let h = (settled p x e).says in
+      subst (λ i. code.Paused N I watch i (told_view x.work.cell) (IsSaid x.work x.standing)) o.instance
+      (subst (λ w. code.Paused N I w x.work.cell.instance (told_view x.work.cell) (IsSaid x.work x.standing)) o.watched
+      (subst (λ l. code.Paused N (inputs_of l) x.work.cell.watch x.work.cell.instance (told_view x.work.cell) (IsSaid x.work x.standing)) o.input
+      (subst (λ k. code.Paused (network_of k) (inputs_of x.work.cell.input) x.work.cell.watch x.work.cell.instance (told_view x.work.cell) (IsSaid x.work x.standing)) o.network h)))
+
+  pub dry_of : (p q : ℕ) (x : Tasked) → slice_get tasks p ≡ Some x → x.standing ≡ standing.Dry q → IsDryOf t p q
+  dry_of p q x e s =
+      let h = says_here p x e in
+      dry_reads t wired x.work.cell.events p q h.stood.tapes (subst (λ k. IsSaid x.work k (exec_on N x.work.cell.events p h.stood.tapes).outcome) s h.is)
+
+  pub are_told : AreTold t tasks
+  are_told = record {
+    count = of.count;
+    network = λ p x e. (of.each p x e).network;
+    instance = λ p x e. (of.each p x e).instance;
+    dry = dry_of;
+  }
+
+  module _ (behind : (c : ℕ) → IsBehindOn t tasks c) where
+    -- what was given to a channel that is read, and what its reader took of it
+    record IsCounted (p q d : ℕ) (x : Tasked) (n : ℕ) : Type 0 where
+      pub given : IsGiven N I cells d (source N (Channel d)) n
+      pub all : AreAll t lists tasks d n
+      pub within : count x.work.cell.taken q ≤ n
+      pub more : IsReady (end_at x.work.ends q) → count x.work.cell.taken q < n
+
+    counted : (p q d : ℕ) (x : Tasked) → slice_get tasks p ≡ Some x → actual_at (instance_at N p) q ≡ Reads d → (n : ℕ) × IsCounted p q d x n
+    counted p q d x e r = by (reads t wired p q d r)
+      where
+        o : IsTaskOf t lists watch p x
+        o = of.each p x e
+
+        list_is : length (inputs_of x.work.cell.input d) ≡ length (I d)
+        list_is = ap (λ l. length (inputs_of l d)) o.input
+
+        input_here : role_at N d ≡ Input → role_at (network_of x.work.cell.network) d ≡ Input
+        input_here i = ap (λ k. role_at (network_of k) d) o.network ∙ i
+
+        serves : Serves x.work.cell.network x.work.cell.input (Reads d) (end_at x.work.ends q)
+        serves =
+            subst (λ a. Serves x.work.cell.network x.work.cell.input a (end_at x.work.ends q)) (handed_as p q x e ∙ r) ((settled p x e).job.served.each q)
+
+        next_is : (end_at x.work.ends q).next ≡ count x.work.cell.taken q
+        next_is = (settled p x e).job.at.reads q d (handed_as p q x e ∙ r)
+
+        by : IsFedBy N d → (n : ℕ) × IsCounted p q d x n
+        by (inl f) = (
+          length (I d),
+          record {
+            given = subst (λ s. IsGiven N I cells d s (length (I d))) (sym f.0) refl;
+            all = record {
+              given = λ i. refl;
+              sent = λ s w z g k. absurd ((writes t wired s w d (sym (handed_as s w z g) ∙ k)).1 f.1);
+            };
+            within =
+                let h = says_here p x e in
+                let l = list_long N I d (h.stood.tapes q) f.0 (h.stood.stand q d r) in
+                let m : length (h.stood.tapes q) ≡ count x.work.cell.taken q = h.stood.took q in
+                omega (arith, l, m);
+            more = λ ready.
+                let l = (settled p x e).fed q x.work.cell.network x.work.cell.input d (serves.2 (input_here f.1)) serves.1 ready in
+                let a = next_is in
+                let b = list_is in
+                omega (arith, l, a, b);
+          },
+        )
+        by (inr f) =
+            let y = task_at f.0 (joins_write f.0 f.1 d f.3) in
+            let h = behind d f.0 p f.1 q y.0 x y.1 e f.3 r in (
+              count y.0.work.cell.sent f.1,
+              record {
+                given = subst (λ s. IsGiven N I cells d s (count y.0.work.cell.sent f.1)) (sym f.2) (f.1, f.3, ap (λ v. v.sent f.1) (viewed f.0 y.0 y.1));
+                all = record {
+                  given = λ i. absurd (role_apart f.4 i);
+                  sent = λ s w z g k.
+                      let a : actual_at (instance_at N s) w ≡ Writes d = sym (handed_as s w z g) ∙ k in
+                      let i : s ≡ f.0 = written_one (sym (writes t wired s w d a).0 ∙ f.2) in
+                      let same : z ≡ y.0 = some_one (sym g ∙ ap (slice_get tasks) i ∙ y.1) in
+                      let v : w ≡ f.1 = (driven t wired).once f.0 w f.1 d (subst (λ n. actual_at (instance_at N n) w ≡ Writes d) i a) f.3 in
+                      ap (λ u. count u.work.cell.sent w) same ∙ ap (count y.0.work.cell.sent) v;
+                };
+                within = h.within;
+                more = h.more;
+              },
+            )
+
+    pub within : AreWithin N I cells
+    within p q d r =
+        let x = task_at p (joins_read p q d r) in
+        let h = counted p q d x.0 x.1 r in
+        let v : (view_at cells p).taken q ≡ count x.0.work.cell.taken q = ap (λ u. u.taken q) (viewed p x.0 x.1) in
+        let le = h.1.within in
+        (h.0, h.1.given, omega (arith, v, le))
+
+    told_as : (v : Verdict) (p : ℕ) (x : Tasked) → slice_get tasks p ≡ Some x → (u : Outcome) → IsToldAs t lists tasks x u → (o : script.Outcome Store) →
+        IsSaid x.work x.standing o → IsTold v N I cells p o u
+    told_as v p x e outcome.Ended h o k = subst (λ s. IsSaid x.work s o) h k
+    told_as v p x e (outcome.Faulted f) h o k = subst (λ s. IsSaid x.work s o) h k
+    told_as v p x e (outcome.Waits c) (q, s, r, all) o k =
+        let here : actual_at (instance_at N p) q ≡ Reads c = sym (handed_as p q x e) ∙ r in
+        let h = counted p q c x e here in
+        let w : (view_at cells p).taken q ≡ count x.work.cell.taken q = ap (λ u. u.taken q) (viewed p x e) in
+        let n : h.0 ≡ (view_at cells p).taken q = one_number t lists tasks p q c h.0 (count x.work.cell.taken q) wired are_told here all h.1.all ∙ sym w in
+        (q, here, subst (λ s. IsSaid x.work s o) s k, inr (subst (λ m. IsGiven N I cells c (source N (Channel c)) m) n h.1.given))
+    told_as v p x e outcome.More (inl s) o k = by (subst (λ s. IsSaid x.work s o) s k)
+      where
+        by : IsSaid x.work standing.Going o → IsTold v N I cells p o outcome.More
+        by (inl c) = inl c
+        by (inr (q, d, r, dry, ready)) =
+            let here : actual_at (instance_at N p) q ≡ Reads d = sym (handed_as p q x e) ∙ r in
+            let h = counted p q d x e here in
+            let w : (view_at cells p).taken q ≡ count x.work.cell.taken q = ap (λ u. u.taken q) (viewed p x e) in
+            let m = h.1.more ready in
+            inr (q, d, h.0, here, dry, h.1.given, omega (arith, w, m))
+    told_as v p x e outcome.More (inr (q, d, s, r, not)) o k =
+        let here : actual_at (instance_at N p) q ≡ Reads d = sym (handed_as p q x e) ∙ r in
+        let h = counted p q d x e here in
+        let w : (view_at cells p).taken q ≡ count x.work.cell.taken q = ap (λ u. u.taken q) (viewed p x e) in
+        let m = less (count x.work.cell.taken q) h.0 h.1.within (λ i. not (subst (AreAll t lists tasks d) (sym i) h.1.all)) in
+        inr (q, d, h.0, here, subst (λ s. IsSaid x.work s o) s k, h.1.given, omega (arith, w, m))
+
+    pub rests : (p : ℕ) (x : Tasked) (y : End) → slice_get tasks p ≡ Some x → IsEndOf t lists tasks x y → Rests (state_of t lists watch tasks) p y
+    rests p x y e h v = record {
+      stood = told.0;
+      count = h.events ∙ sym (ap (λ u. u.events) (viewed p x e));
+      told = told.1;
+    }
+      where
+        paused : code.Paused N I watch p (told_view x.work.cell) (IsSaid x.work x.standing)
+        paused = says_here p x e
+
+        told : (k : Stood N I watch p (view_at cells p)) × IsTold v N I cells p (exec_at N (view_at cells p).events p k.tapes).outcome y.outcome
+        told =
+            subst (λ u. (k : Stood N I watch p u) × IsTold v N I cells p (exec_at N u.events p k.tapes).outcome y.outcome) (sym (viewed p x e))
+            (told_by_channel N I watch p (told_view x.work.cell) (λ r s d f g. (reads_once t wired p r p s d f g).1) paused.stood
+            (λ o. IsTold v N I cells p o y.outcome) (told_as v p x e y.outcome h.told _ paused.is))

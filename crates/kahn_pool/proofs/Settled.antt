@@ -1,0 +1,177 @@
+-- Tasks that are asked what comes next.
+use Rattle.std.proofs.Common.{arith, ◌≡◌, ◌⊎◌, inl, inr, ℕ, zero, suc, ◌+◌, ◌<◌, ◌≤◌, List, [], ◌∷◌, length, refl, sym, ap, ◌∙◌, subst, le_refl, Option, Some, None, slice_get, slice_set, slice_index_or, le_of_suc-le-suc}
+use Rattle.std.proofs.lemmas.List.{length-set}
+use Rattle.kahn_check.specs.Network.{network_of}
+use Rattle.kahn_streams.specs.Meaning.{Store}
+use Rattle.kahn_streams.specs.Script as script
+use Rattle.kahn_streams.specs.Tokens.{inputs_of}
+use Rattle.kahn_code.specs.declared.progress.Pause.{Pause}
+use Rattle.kahn_code.specs.declared.progress.Pause.TheVariants as pause
+use Rattle.kahn_code.specs.Cells.{exec_on}
+use Rattle.kahn_code.specs.Progress.{Paused, IsPause}
+use Rattle.kahn_code.specs.Told.{told_view}
+use Rattle.kahn_job.specs.Ends.{End, IsReady, IsSame}
+use Rattle.kahn_job.specs.Berths.{HaveAdvanced, IsFed, end_at}
+use Rattle.kahn_job.specs.Ways.{nothing}
+use Rattle.kahn_job.specs.Works.{Work, IsJob}
+use Rattle.kahn_crew.specs.declared.standing.Standing.{Standing}
+use Rattle.kahn_crew.specs.declared.standing.Standing.TheVariants as standing
+use Rattle.kahn_crew.specs.Tasks.{Tasked, IsLater, IsTrueOf, IsStanding, standing_after}
+use Rattle.kahn_pool.specs.Rested.{HaveSettled, IsSaid, IsSettled, Says, Settles}
+
+-- ---- input channels
+
+nothing_fed : IsFed nothing
+nothing_fed t lists d none name ready = absurd (omega (arith, ready))
+
+past_none : (es : List End) (q : ℕ) → (q < length es) ⊎ (end_at es q ≡ nothing)
+past_none [] q = inr refl
+past_none (x ∷ es) zero = inl (omega arith)
+past_none (x ∷ es) (suc q) = by (past_none es q)
+  where
+    by : (q < length es) ⊎ (end_at es q ≡ nothing) → (suc q < length (x ∷ es)) ⊎ (end_at (x ∷ es) (suc q) ≡ nothing)
+    by (inl l) = inl (omega (arith, l))
+    by (inr e) = inr e
+
+pub fed_all : (es : List End) (n : ℕ) → length es ≡ n → ((q : ℕ) → q < n → IsFed (end_at es q)) → (q : ℕ) → IsFed (end_at es q)
+fed_all es n is h q = by (past_none es q)
+  where
+    by : (q < length es) ⊎ (end_at es q ≡ nothing) → IsFed (end_at es q)
+    by (inl l) = h q (omega (arith, l, is))
+    by (inr e) = subst IsFed (sym e) nothing_fed
+
+pub fed_more : (es : List End) (n : ℕ) → ((q : ℕ) → q < n → IsFed (end_at es q)) → IsFed (end_at es n) → (q : ℕ) → q < suc n → IsFed (end_at es q)
+fed_more es n h last q l = by (same_or q n)
+  where
+    same_or : (a b : ℕ) → (a ≡ b) ⊎ (a ≡ b → ⊥)
+    same_or zero zero = inl refl
+    same_or zero (suc b) = inr (λ e. absurd (omega (arith, e)))
+    same_or (suc a) zero = inr (λ e. absurd (omega (arith, e)))
+    same_or (suc a) (suc b) = step (same_or a b)
+      where
+        step : (a ≡ b) ⊎ (a ≡ b → ⊥) → (suc a ≡ suc b) ⊎ (suc a ≡ suc b → ⊥)
+        step (inl e) = inl (ap suc e)
+        step (inr o) = inr (λ e. o (omega (arith, e)))
+
+    less : (a b : ℕ) → a < suc b → (a ≡ b → ⊥) → a < b
+    less zero zero l o = absurd (o refl)
+    less zero (suc b) l o = omega arith
+    less (suc a) zero l o = absurd (omega (arith, l))
+    less (suc a) (suc b) l o = let r = less a b (omega (arith, l)) (λ e. o (ap suc e)) in omega (arith, r)
+
+    by : (q ≡ n) ⊎ (q ≡ n → ⊥) → IsFed (end_at es q)
+    by (inl e) = subst (λ k. IsFed (end_at es k)) (sym e) last
+    by (inr o) = h q (less q n l o)
+
+-- ---- what a standing says
+
+pub says_still : (w : Work) (s : Standing) → (s ≡ standing.Going → ⊥) → IsTrueOf w s → Says w s
+says_still w standing.Going n h = absurd (n refl)
+says_still w standing.Ended n h = h
+says_still w (standing.Faulted k) n h = h
+says_still w (standing.Dry q) n h = h
+
+pub says_ran : (w : Work) (s : Standing) (z : Pause) (dry : ℕ → Type 0) (spent : Type 0) → s ≡ standing_after z →
+    Paused (network_of w.cell.network) (inputs_of w.cell.input) w.cell.watch w.cell.instance (told_view w.cell)
+    (IsPause (network_of w.cell.network) w.cell.instance dry (λ q. IsReady (end_at w.ends q)) spent z) → Says w s
+says_ran w s z dry spent e h = subst (Says w) (sym e) (record { stood = h.stood; is = by z _ h.is })
+  where
+    by : (z : Pause) (o : script.Outcome Store) → IsPause (network_of w.cell.network) w.cell.instance dry (λ q. IsReady (end_at w.ends q)) spent z o →
+        IsSaid w (standing_after z) o
+    by pause.Spent o k = k.1
+    by pause.NoMemory o k = inl k.0
+    by pause.Ended o k = k
+    by (pause.Fault f) o k = k
+    by (pause.Dry q) o k = k.0
+
+-- ---- tasks
+
+pub later_self : (x : Tasked) → IsLater x x
+later_self x = record {
+  network = refl;
+  input = refl;
+  instance = refl;
+  watch = refl;
+  ends = record { count = refl; same = λ q. record { reads = refl; writes = refl; lane = refl; name = refl }; flushed = λ q. le_refl (end_at x.work.ends q).flushed };
+}
+
+pub settles_still : (x : Tasked) → IsSettled x → Settles x x
+settles_still x h = record { later = later_self x; events = refl; still = λ n. refl; settled = h }
+
+pub settles_ran : (x y : Tasked) → x.standing ≡ standing.Going → IsLater x y → (x.work.cell.events ≤ y.work.cell.events) × (y.work.cell.events ≤ x.work.cell.events + 0) →
+    IsSettled y → Settles x y
+settles_ran x y going later events h = record {
+  later = later;
+  events = let a = events.0 in let b = events.1 in omega (arith, a, b);
+  still = λ o. absurd (o going);
+  settled = h;
+}
+
+-- the first n are settled
+pub record SettledTo (old new : List Tasked) (n : ℕ) : Type 0 where
+  pub count : length new ≡ length old
+  pub done : (p : ℕ) (x y : Tasked) → p < n → slice_get old p ≡ Some x → slice_get new p ≡ Some y → Settles x y
+  pub rest : (p : ℕ) → n ≤ p → slice_get new p ≡ slice_get old p
+
+pub none_settled : (old : List Tasked) → SettledTo old old 0
+none_settled old = record { count = refl; done = λ p x y l e f. absurd (omega (arith, l)); rest = λ p l. refl }
+
+set_get : (xs : List Tasked) (n j : ℕ) (y z : Tasked) → slice_get (slice_set xs n y) j ≡ Some z → ((j ≡ n) × (y ≡ z)) ⊎ ((j ≡ n → ⊥) × (slice_get xs j ≡ Some z))
+set_get [] n j y z e = absurd cc
+set_get (x ∷ xs) zero zero y z e = inl (refl, same e)
+  where
+    same : Some y ≡ Some z → y ≡ z
+    same f = cc
+set_get (x ∷ xs) zero (suc j) y z e = inr (λ f. omega (arith, f), e)
+set_get (x ∷ xs) (suc n) zero y z e = inr (λ f. omega (arith, f), e)
+set_get (x ∷ xs) (suc n) (suc j) y z e = by (set_get xs n j y z e)
+  where
+    by : ((j ≡ n) × (y ≡ z)) ⊎ ((j ≡ n → ⊥) × (slice_get xs j ≡ Some z)) → ((suc j ≡ suc n) × (y ≡ z)) ⊎ ((suc j ≡ suc n → ⊥) × (slice_get xs j ≡ Some z))
+    by (inl h) = inl (ap suc h.0, h.1)
+    by (inr h) = inr (λ f. h.0 (omega (arith, f)), h.1)
+
+set_else : (xs : List Tasked) (n j : ℕ) (y : Tasked) → (j ≡ n → ⊥) → slice_get (slice_set xs n y) j ≡ slice_get xs j
+set_else [] n j y f = refl
+set_else (x ∷ xs) zero zero y f = absurd (f refl)
+set_else (x ∷ xs) zero (suc j) y f = refl
+set_else (x ∷ xs) (suc n) zero y f = refl
+set_else (x ∷ xs) (suc n) (suc j) y f = set_else xs n j y (λ e. f (ap suc e))
+
+lower : (a b : ℕ) → a < suc b → (a ≡ b → ⊥) → a < b
+lower zero zero h d = absurd (d refl)
+lower zero (suc b) h d = omega arith
+lower (suc a) zero h d = absurd (omega (arith, h))
+lower (suc a) (suc b) h d = let r : a < b = lower a b (omega (arith, h)) (λ e. d (ap suc e)) in omega (arith, r)
+
+some_one : {x y : Tasked} → Some x ≡ Some y → x ≡ y
+some_one e = cc
+
+module _ (old new : List Tasked) (n : ℕ) (h : SettledTo old new n) where
+  pub next_old : (x : Tasked) → slice_get new n ≡ Some x → slice_get old n ≡ Some x
+  next_old x e = sym (h.rest n (le_refl n)) ∙ e
+
+  pub one_settled : (x y : Tasked) → slice_get new n ≡ Some x → Settles x y → SettledTo old (slice_set new n y) (suc n)
+  one_settled x y at s = record {
+    count = length-set new n y ∙ h.count;
+    done = λ p u v l a b. by p u v l a (set_get new n p y v b);
+    rest = λ p l. set_else new n p y (λ e. absurd (omega (arith, e, l))) ∙ h.rest p (omega (arith, l));
+  }
+    where
+      by : (p : ℕ) (u v : Tasked) → p < suc n → slice_get old p ≡ Some u → ((p ≡ n) × (y ≡ v)) ⊎ ((p ≡ n → ⊥) × (slice_get new p ≡ Some v)) → Settles u v
+      by p u v l a (inl k) =
+          subst (λ w. Settles u w) k.1 (subst (λ w. Settles w y) (some_one (sym (next_old x at) ∙ ap (slice_get old) (sym k.0) ∙ a)) s)
+      by p u v l a (inr k) = h.done p u v (lower p n l k.0) a k.1
+
+  pub all_settled : n ≡ length new → HaveSettled old new
+  all_settled e = record { count = h.count; each = λ p x y a b. h.done p x y (below new p y b (le_of n (length new) e)) a b }
+    where
+      le_of : (a b : ℕ) → a ≡ b → b ≤ a
+      le_of a b e = omega (arith, e)
+
+      within : (xs : List Tasked) (p : ℕ) (y : Tasked) → slice_get xs p ≡ Some y → p < length xs
+      within [] p y f = absurd cc
+      within (x ∷ xs) zero y f = omega arith
+      within (x ∷ xs) (suc p) y f = let r = within xs p y f in omega (arith, r)
+
+      below : (xs : List Tasked) (p : ℕ) (y : Tasked) → slice_get xs p ≡ Some y → length xs ≤ n → p < n
+      below xs p y f le = let r = within xs p y f in omega (arith, r, le)

@@ -1,0 +1,34 @@
+use Rattle.std.proofs.Common.{◌≡◌, inl, sym, ap, ◌∙◌, subst, Some, slice_get}
+use Rattle.std.proofs.lemmas.Option.{slice_get-get_or}
+use Rattle.kahn_crew.specs.Tasks.{Tasked}
+use Rattle.kahn_pool.specs.Rested.{IsToldAs}
+use Rattle.kahn_pool.proofs.Ended.{some_one}
+use Rattle.kahn_pool.proofs.ends.end_of.Goals as goal
+use Rattle.kahn_pool.proofs.ends.end_of.Goals.{in-Going, in-Ended, in-Faulted, in-Dry}
+
+pub dry_outcome-outcome-requires-clause-reads : goal.dry_outcome-outcome-requires-clause-reads
+dry_outcome-outcome-requires-clause-reads c =
+    let tasks = c.args.tasks.now in
+    let p = c.args.instance in
+    let y = c.index-tasks-instance.result in
+    let at : slice_get tasks p ≡ Some y = slice_get-get_or tasks p y c.requires.here ∙ ap (λ (z : Tasked). Some z) (sym c.index-tasks-instance.is) in
+    c.requires.told.dry p c.in-Dry.parameter y at (sym c.standing.ensures.result ∙ c.in-Dry.is)
+
+pub returns : goal.returns
+returns c x e =
+    let t = c.args.network.now in
+    let tasks = c.args.tasks.now in
+    let p = c.args.instance in
+    let y = c.index-tasks-instance.result in
+    let at : slice_get tasks p ≡ Some y = slice_get-get_or tasks p y c.requires.here ∙ ap (λ (z : Tasked). Some z) (sym c.index-tasks-instance.is) in
+    let same : y ≡ x = some_one (sym at ∙ e) in
+    let stands : x.standing ≡ c.standing.result = ap (λ (z : Tasked). z.standing) (sym same) ∙ sym c.standing.ensures.result in
+    record {
+      events = c.events.ensures ∙ ap (λ (z : Tasked). z.work.cell.events) same;
+      told = elim c.match-standing.branch [
+        | in-Going w ↦ subst (IsToldAs t c.args.input.now tasks x) (sym w.outcome-is) (inl (stands ∙ w.in-Going.is))
+        | in-Ended w ↦ subst (IsToldAs t c.args.input.now tasks x) (sym w.outcome-is) (stands ∙ w.in-Ended.is)
+        | in-Faulted w ↦ subst (IsToldAs t c.args.input.now tasks x) (sym w.outcome-is) (stands ∙ w.in-Faulted.is)
+        | in-Dry w ↦ subst (IsToldAs t c.args.input.now tasks x) (sym w.outcome-is) (w.dry_outcome-outcome.ensures x e (stands ∙ w.in-Dry.is))
+      ];
+    }

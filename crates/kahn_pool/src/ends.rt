@@ -1,0 +1,124 @@
+//! The ends of all instances, from where their tasks stand.
+
+ghost use Rattle.std.specs.Prelude.{◌≡◌, ◌↔◌, ℕ, ◌<◌, ◌≤◌, length, Some, IfSome, IfNone, IsTrue, slice_get, vec_capacity};
+ghost use Rattle.kahn_check.specs.Network.{network_of, instance_at, actual_at, Reads};
+ghost use Rattle.kahn_crew.specs.Left.{AreAll};
+ghost use Rattle.kahn_crew.specs.Tasks.{Tasked};
+ghost use Rattle.kahn_pool.specs.Rested.{AreEndsOf, AreTold, IsDryOf, IsEndOf, IsToldAs};
+ghost use Rattle.kahn_crew.specs.declared.standing.Standing.TheVariants as standing;
+
+use crate::answer::{End, Outcome};
+use kahn_check::network::Network;
+use kahn_check::sides::Side;
+use kahn_crew::{Standing, Task};
+use kahn_streams::input::Input;
+
+// Whether it is this parameter of this instance.
+fn is_side(side: Side, instance: usize, parameter: usize) -> bool
+    ensures { IsTrue result ↔ ((side.instance ≡ instance) × (side.parameter ≡ parameter)) }
+{
+    side.instance == instance && side.parameter == parameter
+}
+
+// Whether a parameter reads a channel.
+fn does_read(network: &Network, channel: usize, instance: usize, parameter: usize) -> bool
+    requires { channel < length (network_of network.now).channels }
+    ensures { IsTrue result ↔ (actual_at (instance_at (network_of network.now) instance) parameter ≡ Reads channel) }
+{
+    match network.reader(channel) {
+        Some(side) => is_side(side, instance, parameter),
+        None => false,
+    }
+}
+
+// The channel that a parameter reads.
+fn channel_read(network: &Network, instance: usize, parameter: usize) -> Option<usize>
+    ensures some { IfSome result (λ c. actual_at (instance_at (network_of network.now) instance) parameter ≡ Reads c) }
+    ensures none { IfNone result ((c : ℕ) → actual_at (instance_at (network_of network.now) instance) parameter ≡ Reads c → ⊥) }
+{
+    let _program = network.program();
+    for channel in 0..network.channels() {
+        if does_read(network, channel, instance, parameter) {
+            return Some(channel);
+        }
+    }
+    None
+}
+
+// How many tokens were given to a channel: its writer sent them, or the input has them.
+fn given(network: &Network, input: &Input, tasks: &[Task], channel: usize) -> u64
+    requires here { channel < length (network_of network.now).channels }
+    requires told { AreTold network.now tasks.now }
+    ensures { AreAll network.now input.now tasks.now channel result }
+{
+    let _program = network.program();
+    match network.writer(channel) {
+        Some(side) => {
+            let task = &tasks[side.instance];
+            let _parameters = task.parameters();
+            task.sent(side.parameter)
+        }
+        None => input.count(channel) as u64,
+    }
+}
+
+// What stands in the answer for an instance that is dry on a parameter.
+fn dry_outcome(
+    network: &Network,
+    input: &Input,
+    tasks: &[Task],
+    instance: usize,
+    parameter: usize,
+) -> Outcome
+    requires here { instance < length tasks.now }
+    requires told { AreTold network.now tasks.now }
+    requires reads { IsDryOf network.now instance parameter }
+    ensures { (x : Tasked) → slice_get tasks.now instance ≡ Some x → x.standing ≡ standing.Dry parameter → IsToldAs network.now input.now tasks.now x result }
+{
+    match channel_read(network, instance, parameter) {
+        Some(channel) => {
+            let task = &tasks[instance];
+            let _program = network.program();
+            let _parameters = task.parameters();
+            let taken = task.taken(parameter);
+            if taken == given(network, input, tasks, channel) {
+                Outcome::Waits(channel)
+            } else {
+                Outcome::More
+            }
+        }
+        None => unreachable!(),
+    }
+}
+
+// The end of an instance.
+fn end_of(network: &Network, input: &Input, tasks: &[Task], instance: usize) -> End
+    requires here { instance < length tasks.now }
+    requires told { AreTold network.now tasks.now }
+    ensures { (x : Tasked) → slice_get tasks.now instance ≡ Some x → IsEndOf network.now input.now tasks.now x result }
+{
+    let task = &tasks[instance];
+    let outcome = match task.standing() {
+        Standing::Going => Outcome::More,
+        Standing::Ended => Outcome::Ended,
+        Standing::Faulted(failure) => Outcome::Faulted(failure),
+        Standing::Dry(parameter) => dry_outcome(network, input, tasks, instance, parameter),
+    };
+    End {
+        outcome,
+        events: task.events(),
+    }
+}
+
+/// The ends of all instances. The list that is given has room for all.
+pub fn ends_of(network: &Network, input: &Input, tasks: &[Task], mut ends: Vec<End>) -> Vec<End>
+    requires told { AreTold network.now tasks.now }
+    requires room { length tasks.now ≤ vec_capacity ends }
+    ensures { AreEndsOf network.now input.now tasks.now result.items (length tasks.now) }
+{
+    ends.clear();
+    for instance in 0..tasks.len() {
+        ends.push_reserved(end_of(network, input, tasks, instance));
+    }
+    ends
+}

@@ -1,0 +1,67 @@
+//! Each task that may go on is asked once more what comes next.
+
+ghost use Rattle.std.specs.Prelude.{◌≡◌, ℕ, ◌^◌, ◌<◌, length, Some, slice_get};
+ghost use Rattle.kahn_job.specs.Berths.{IsFed, end_at};
+ghost use Rattle.kahn_crew.specs.Tasks.{Tasked};
+ghost use Rattle.kahn_pool.specs.Rested.{HaveSettled, IsSettled, Settles};
+ghost use Rattle.kahn_crew.specs.declared.standing.Standing.TheVariants as standing;
+
+use kahn_code::code::Code;
+use kahn_code::steps::Steps;
+use kahn_crew::{Standing, Task};
+use std::sync::ledger::Ledger;
+
+// Says that of an input channel no more is ready than its list has: its contract is what it does.
+fn fed(task: &Task)
+    ensures { (q : ℕ) → IsFed (end_at task.now.work.ends q) }
+{
+    for parameter in 0..task.parameters() {
+        task.fed(parameter);
+    }
+}
+
+// Says what is known of a task that may not go on: its contract is what it does.
+fn keep(task: &Task)
+    requires { task.now.standing ≡ standing.Going → ⊥ }
+    ensures { IsSettled task.now }
+{
+    let _standing = task.standing();
+    let _parameters = task.parameters();
+    fed(task);
+}
+
+// Asks a task that may go on what comes next. No event is done, and no memory is taken.
+fn ask<L: Ledger>(task: &mut Task, code: &Code, steps: &mut Steps<L>)
+    requires going { task.old.standing ≡ standing.Going }
+    requires code { code.now.network.value ≡ task.old.work.cell.network }
+    requires bound { task.old.work.cell.events < 2 ^ 48 }
+    ensures { Settles task.old task.new }
+{
+    let _pause = task.run(code, 0, steps);
+    let _parameters = task.parameters();
+    fed(task);
+}
+
+// Asks a task what comes next, where it may go on.
+fn settle<L: Ledger>(task: &mut Task, code: &Code, steps: &mut Steps<L>)
+    requires code { code.now.network.value ≡ task.old.work.cell.network }
+    requires bound { task.old.work.cell.events < 2 ^ 48 }
+    ensures { Settles task.old task.new }
+{
+    if task.standing() == Standing::Going {
+        ask(task, code, steps);
+    } else {
+        keep(task);
+    }
+}
+
+/// Asks each task that may go on what comes next.
+pub fn settle_all<L: Ledger>(tasks: &mut Vec<Task>, code: &Code, steps: &mut Steps<L>)
+    requires code { (p : ℕ) (x : Tasked) → slice_get tasks.old.items p ≡ Some x → code.now.network.value ≡ x.work.cell.network }
+    requires bound { (p : ℕ) (x : Tasked) → slice_get tasks.old.items p ≡ Some x → x.work.cell.events < 2 ^ 48 }
+    ensures { HaveSettled tasks.old.items tasks.new.items }
+{
+    for instance in 0..tasks.len() {
+        settle(&mut tasks[instance], code, steps);
+    }
+}

@@ -1,0 +1,65 @@
+//! A run by several workers.
+
+ghost use Rattle.kahn_check.specs.Network.{network_of};
+ghost use Rattle.kahn_pool.specs.Right.{IsRight};
+ghost use Rattle.kahn_streams.specs.Tokens.{inputs_of};
+ghost use Rattle.std.specs.Prelude.{◌≡◌, ◌<◌, ◌≤◌, ◌^◌, IfOk};
+
+use crate::answer::Answer;
+use crate::gate::Gate;
+use crate::gather::{Room, answer_of};
+use kahn_check::network::Network;
+use kahn_code::code::{CodeFault, compile};
+use kahn_code::steps::Steps;
+use kahn_crew::{Plan, run_crew};
+use kahn_streams::input::Input;
+use std::alloc::Global;
+use std::marker::Brand;
+use std::sync::Wait;
+use std::sync::ledger::{Blank, Ledger};
+use std::thread::Threads;
+
+// Counts the steps of the last look at each task on a ledger of its own, and runs.
+fn run_counted<R: Threads + Wait + Sync, G: Gate + Sync, L: Ledger>(
+    rt: &R,
+    alloc: Global,
+    blank: Blank,
+    network: &Network,
+    input: &Input,
+    plan: Plan,
+    gate: &G,
+) -> Result<Answer, CodeFault>
+    requires name { blank.name ≡ L.name }
+    requires parts { blank.parts ≡ L.parts }
+    requires some { 0 < blank.parts }
+    requires few { (1 ≤ plan.workers) × (plan.workers ≤ 16) }
+    requires quantum { 0 < plan.quantum }
+    requires bound { plan.bound < 2 ^ 48 }
+    ensures { IfOk result (IsRight (network_of network.now) (inputs_of input.now) plan.bound plan.watch) }
+{
+    let mut steps = Steps::<L>::open(blank);
+    let code = compile(alloc, network)?;
+    let room = Room::new(alloc, network, input, plan.watch)?;
+    let left = run_crew(rt, alloc, network, input, &code, plan, gate)?;
+    Ok(answer_of(
+        network, input, plan.watch, plan.bound, left, &code, room, &mut steps,
+    ))
+}
+
+/// Runs a network by several workers, each in a thread of its own where one can be made, and answers right. It refuses
+/// only where memory was refused before the first event.
+pub fn run_workers<R: Threads + Wait + Sync, G: Gate + Sync>(
+    rt: &R,
+    alloc: Global,
+    network: &Network,
+    input: &Input,
+    plan: Plan,
+    gate: &G,
+) -> Result<Answer, CodeFault>
+    requires few { (1 ≤ plan.workers) × (plan.workers ≤ 16) }
+    requires quantum { 0 < plan.quantum }
+    requires bound { plan.bound < 2 ^ 48 }
+    ensures { IfOk result (IsRight (network_of network.now) (inputs_of input.now) plan.bound plan.watch) }
+{
+    run_counted::<R, G, Brand>(rt, alloc, Blank::new(1), network, input, plan, gate)
+}
