@@ -1,9 +1,10 @@
 #!/usr/bin/env bash
 # Prints the time and the events a second of each workload, by the program that `./kahn` builds. With arguments: how many
-# workers (default 1).
+# workers (default 1), and then the workloads that are wanted (default all).
 set -eu
 top=$(cd "$(dirname "${BASH_SOURCE[0]}")/.." && pwd)
 workers=${1:-1}
+wanted=" ${*:2} "
 work=$(mktemp -d)
 trap 'rm -rf "$work"' EXIT
 
@@ -26,6 +27,7 @@ trap 'rm -rf "$work"' EXIT
 
 measure() {
   local name=$1 file=$2 start end events
+  case "$wanted" in "  " | *" $name "*) ;; *) return 0 ;; esac
   start=$(date +%s%N)
   "$top/kahn" "$file" --workers "$workers" --bound 281474976710655 > "$work/report"
   end=$(date +%s%N)

@@ -1,0 +1,147 @@
+#!/usr/bin/env bash
+# Runs the program on files, streams and words that go wrong, and compares its exit status and what it says with what
+# docs/formats.md lists. It isn't part of the gate. Its last line counts the cases that passed and failed.
+set -u
+top=$(cd "$(dirname "${BASH_SOURCE[0]}")/.." && pwd)
+kahn="$top/kahn"
+work=$(mktemp -d)
+trap 'rm -rf "$work"' EXIT
+cd "$work" || exit 2
+count="$top/examples/count.kahn"
+double="$top/examples/double.kahn"
+"$kahn" --help > help 2> /dev/null || { echo "the program can't be run"; exit 2; }
+
+passed=0
+failed=0
+
+# say NAME STATUS OUTPUT ERROR: compares with what the last run left in the files status, output and error.
+say() {
+  local name=$1
+  printf '%s' "$2" > wanted_status
+  printf '%b' "$3" > wanted_output
+  printf '%b' "$4" > wanted_error
+  local same=yes part
+  for part in status output error; do
+    if ! cmp -s "wanted_$part" "$part"; then
+      same=no
+      echo "FAILED $name: $part is '$(head -c 300 "$part")', wanted '$(cat "wanted_$part")'"
+    fi
+  done
+  if [ $same = yes ]; then passed=$((passed + 1)); else failed=$((failed + 1)); fi
+}
+
+# run WORD..: runs the program on the words, with standard input as it is.
+run() {
+  "$kahn" "$@" > output 2> error
+  printf '%s' $? > status
+}
+
+report='W: 0 1 2\nend 1 count: ended after 7\nfinished 7\n'
+
+run < "$count"
+say "a program on standard input" 0 "$report" ''
+run "$count" < /dev/null
+say "a program in a file" 0 "$report" ''
+run "$count" --bound 6 < /dev/null
+say "a run that its bound stops" 3 'W: 0 1 2\nend 1 count: wants more after 6\nstopped by bound 6\n' ''
+
+# texts that aren't UTF-8
+printf 'begin \377' > bytes
+run < bytes
+say "standard input that isn't UTF-8" 5 '' 'kahn: standard input is not UTF-8\n'
+run bytes < /dev/null
+say "a program that isn't UTF-8" 5 '' 'kahn: bytes is not UTF-8\n'
+printf 'A: 1\200\n' > input
+run "$double" --input input < /dev/null
+say "an input that isn't UTF-8" 5 '' 'kahn: input is not UTF-8\n'
+
+# files that can't be read
+run nothing < /dev/null
+say "a program that isn't there" 5 '' 'kahn: cannot read nothing\n'
+run "$double" --input nothing < /dev/null
+say "an input that isn't there" 5 '' 'kahn: cannot read nothing\n'
+mkdir folder
+run folder < /dev/null
+say "a folder as the program" 5 '' 'kahn: cannot read folder\n'
+run "$double" --input folder < /dev/null
+say "a folder as the input" 5 '' 'kahn: cannot read folder\n'
+run < folder
+say "a folder as standard input" 5 '' 'kahn: cannot read standard input\n'
+run <&-
+say "no standard input" 5 '' 'kahn: cannot read standard input\n'
+if [ "$(id -u)" != 0 ]; then
+  printf '' > closed
+  chmod 000 closed
+  run closed < /dev/null
+  say "a program that may not be read" 5 '' 'kahn: cannot read closed\n'
+fi
+
+# texts that are too long, and such as are just not
+head -c 1048577 /dev/zero | tr '\0' ' ' > long
+run long < /dev/null
+say "a program of 1,048,577 bytes" 1 '' 'kahn: program text is too long\n'
+{ cat "$count"; head -c $((1048576 - $(wc -c < "$count"))) /dev/zero | tr '\0' ' '; } > most
+run most < /dev/null
+say "a program of 1,048,576 bytes" 0 "$report" ''
+head -c 16777217 /dev/zero | tr '\0' '\n' > long
+run "$double" --input long < /dev/null
+say "an input of 16,777,217 bytes" 1 '' 'kahn: input text is too long\n'
+head -c 16777216 /dev/zero | tr '\0' '\n' > most
+run "$double" --input most < /dev/null
+say "an input of 16,777,216 bytes" 0 'B:\nend 1 double: waits on A after 1\nfinished 1\n' ''
+
+# texts that are refused
+printf 'begin' > text
+run text < /dev/null
+say "a text that ends too early" 1 '' 'kahn: 1:6: text ends too early\n'
+printf 'begin integer output channel W; process s(integer out A); begin send 1 on A end; s(W) par s(W) end' > text
+run text < /dev/null
+say "two writers" 1 '' 'kahn: 1:93: channel has two writers\n'
+printf 'A: 1\n\nB 2\n' > input
+run "$double" --input input < /dev/null
+say "a line of the input without a colon" 1 '' 'kahn: input line 3: not a name and a colon\n'
+printf 'A: 1\nQ: 2\n' > input
+run "$double" --input input < /dev/null
+say "an entry of no channel" 1 '' 'kahn: input entry 2: no such channel\n'
+run "$count" --watch Q < /dev/null
+say "a watched channel that isn't declared" 6 '' 'kahn: watched channel is not declared\n'
+
+# reports that can't be written
+"$kahn" "$count" > /dev/full 2> error < /dev/null
+printf '%s' $? > status
+: > output
+say "a full disk" 5 '' 'kahn: report could not be written\n'
+"$kahn" "$count" >&- 2> error < /dev/null
+printf '%s' $? > status
+say "no standard output" 5 '' 'kahn: report could not be written\n'
+{ sleep 0.5; "$kahn" "$count" 2> error < /dev/null; printf '%s' $? > status; } | true
+say "a pipe that nobody reads" 5 '' 'kahn: report could not be written\n'
+{ sleep 0.5; "$kahn" "$double" --input long_values 2> error < /dev/null; printf '%s' $? > status; } | true
+say "a fault beside a pipe that nobody reads" 5 '' 'kahn: cannot read long_values\n'
+awk 'BEGIN { printf "A:"; for (i = 0; i < 200000; i++) printf " %d", i; print "" }' > values
+{ "$kahn" "$double" --input values --bound 281474976710655 2> error < /dev/null; printf '%s' $? > status; } | head -c 10 > some
+say "a pipe that is read in part" 5 '' 'kahn: report could not be written\n'
+
+# a fault line that can't be written changes no status
+"$kahn" nothing > output 2> /dev/full < /dev/null
+printf '%s' $? > status
+: > error
+say "a fault line on a full disk" 5 '' ''
+"$kahn" text > output 2>&- < /dev/null
+printf '%s' $? > status
+say "no standard error" 1 '' ''
+
+# the command line
+run --quick < /dev/null
+printf '' > wanted
+[ "$(cat status)" = 2 ] && [ ! -s output ] && [ -s error ]
+if [ $? = 0 ]; then passed=$((passed + 1)); else failed=$((failed + 1)); echo "FAILED an option that isn't one"; fi
+run "$(printf '\377')" < /dev/null
+[ "$(cat status)" = 2 ] && [ ! -s output ] && [ -s error ]
+if [ $? = 0 ]; then passed=$((passed + 1)); else failed=$((failed + 1)); echo "FAILED a word that isn't UTF-8"; fi
+run --help < /dev/null
+[ "$(cat status)" = 0 ] && [ -s output ] && [ ! -s error ]
+if [ $? = 0 ]; then passed=$((passed + 1)); else failed=$((failed + 1)); echo "FAILED the help"; fi
+
+echo "$passed passed, $failed failed"
+[ $failed = 0 ]
