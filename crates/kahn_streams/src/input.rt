@@ -323,6 +323,29 @@ mod tests {
         Ok(())
     }
 
+    fn inverting(alloc: Global) -> Result<Network, Fail> {
+        let text =
+            "begin logical input channel A; logical output channel B; process inv(logical in U; logical out W); begin repeat send not wait(U) on W end; inv(A, B) end";
+        Ok(check(alloc, parse(alloc, text)?)?)
+    }
+
+    #[test]
+    fn a_logical_channel_takes_logical_values(rt: HostRuntime) -> Result<(), Fail> {
+        let alloc = rt.alloc();
+        let network = inverting(alloc)?;
+        let (one, yes) = (Value::Integer(1), Value::Logical(true));
+        let mixed = vec![in alloc; (String::from_str(alloc, "A")?, vec![in alloc; yes, one]?)]?;
+        assert_eq!(rt;
+            Input::new(alloc, &network, mixed).err(),
+            Some(InputFault::WrongKind(1))
+        );
+        let logical = vec![in alloc; entry(alloc, "A", yes, 2)?]?;
+        let input = Input::new(alloc, &network, logical)?;
+        assert_eq!(rt; token_value(&input, &network, 0, 1), Some(yes));
+        assert_eq!(rt; token_value(&input, &network, 0, 2), None);
+        Ok(())
+    }
+
     // Feeds so many of one value.
     fn feed(
         alloc: Global,
