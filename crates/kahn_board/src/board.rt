@@ -64,6 +64,8 @@ impl<T: Told> Seat<T> {
     ghost use Rattle.kahn_board.specs.Dealt.{belongs, wired};
     ghost use Rattle.kahn_board.specs.Rest.{downs_of};
 
+    /// Takes the instance into the seat's hands where it is ready, with its cell at home. `None` where it isn't ready: then
+    /// all stays as it is.
     pub fn claim(&mut self, board: &Board<T>, p: usize) -> Option<()>
         requires { (self.old.seat.table_id ≡ board.now.table.shared.table_id) × (p < board.now.instances) }
         ensures { Claims T.told (belongs T.after board.now.table.shared.key) (wired board.now.table.shared.key) self.old self.new p result }

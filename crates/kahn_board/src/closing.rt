@@ -1,4 +1,5 @@
-// Seats are split and joined, and the board is closed.
+//! Seats are split and joined, and the board is closed.
+
 ghost use Rattle.std.specs.Prelude.{◌≡◌, ℕ, ◌+◌, ◌*◌, ◌^◌, ◌<◌, ◌≤◌, [], Option, Some, length, slice_index, replicate, IfOk, IfErr};
 ghost use mathlib.Core.Option.{some};
 ghost use lib.ListN.{get_elem?};
@@ -15,6 +16,7 @@ use kahn_streams::memory::NoMemory;
 use std::alloc::Global;
 use std::collections::VecDeque;
 
+/// How a seat's view is cut in two: the second part is an unused seat.
 pub struct Cut;
 
 impl Split<View> for Cut {
@@ -25,6 +27,7 @@ impl Split<View> for Cut {
     ghost right = { cut_part };
 }
 
+/// How the views of two seats are put together: the second is spent.
 pub struct Both;
 
 impl Join<View> for Both {

@@ -4,7 +4,6 @@
 mod board;
 mod closing;
 mod opening;
-mod passing;
 mod plays;
 mod rule;
 mod view;
