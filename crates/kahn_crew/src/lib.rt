@@ -2,28 +2,27 @@
 #![tactic(auto)]
 
 mod closing;
-pub mod crew;
-pub mod floor;
-pub mod gate;
-pub mod hints;
+mod crew;
+mod floor;
+mod gate;
+mod hints;
 mod labor;
-pub mod left;
+mod left;
 mod opening;
-pub mod plan;
+mod plan;
 mod publish;
 mod rooms;
-pub mod routes;
-pub mod sends;
-pub mod standing;
-pub mod task;
-pub mod turn;
-pub mod worker;
+mod routes;
+mod standing;
+mod task;
+#[cfg(test)]
+mod tests;
+mod turn;
+mod worker;
 
 pub use crew::run_crew;
-pub use floor::Floor;
 pub use gate::{Gate, Open};
 pub use left::Left;
 pub use plan::Plan;
-pub use routes::Routes;
 pub use standing::Standing;
 pub use task::Task;

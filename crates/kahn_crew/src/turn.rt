@@ -1,13 +1,15 @@
 //! A turn: an instance is run for a draw of events, and set down where it stands then.
 
-ghost use Rattle.std.specs.Prelude.{◌≡◌, ◌⊎◌, ℕ, ◌+◌, ◌<◌, ◌≤◌, ◌^◌, length, slice_index, OnErr, Option, Some};
+ghost use Rattle.std.specs.Prelude.{◌≡◌, ◌⊎◌, ℕ, ◌+◌, ◌<◌, ◌≤◌, ◌^◌, length, slice_index, OnErr, OnOk, Option, Some};
 ghost use Rattle.kahn_check.specs.Network.{network_of};
 ghost use Rattle.kahn_board.specs.Dealt.{belongs, wired};
+ghost use Rattle.kahn_code.specs.declared.progress.Pause.TheVariants.{NoMemory as IsWant};
 ghost use Rattle.kahn_job.specs.Works.{IsDelivered};
 ghost use Rattle.kahn_desk.specs.Turn.{Fits, Holds, IsIdle, IsSeatOf};
 ghost use Rattle.kahn_crew.specs.Floors.{HasKept, IsFloor, IsTaskOf};
 ghost use Rattle.kahn_crew.specs.Rests.{IsDue};
 ghost use Rattle.kahn_crew.specs.Tasks.{IsLater, Tasked, told_of};
+ghost use Rattle.kahn_crew.specs.declared.standing.Standing.TheVariants.{Going as IsGoing};
 
 use crate::floor::Floor;
 use crate::gate::Gate;
@@ -53,7 +55,7 @@ fn due_of<'n>(floor: &Floor<'_, 'n>, task: &Task<'n>, p: usize) -> Due
     }
 }
 
-// Where memory was refused the run is to stop.
+// Where memory was refused, for an event or for a segment, the run is to stop. Otherwise the seat stays as it is.
 fn heed<'n>(
     floor: &Floor<'_, 'n>,
     seat: &mut Seat<Task<'n>>,
@@ -66,6 +68,8 @@ fn heed<'n>(
     ensures kept { (p : ℕ) → HasKept p seat.old.seat.me.0 seat.new.seat.me.0 }
     ensures known { seat.new.seat.me.0.flushed ≡ seat.old.seat.me.0.flushed }
     ensures refused { OnErr flushed (seat.new.seat.me.0.seen ≡ 2) }
+    ensures wanted { pause ≡ IsWant → seat.new.seat.me.0.seen ≡ 2 }
+    ensures stays { OnOk flushed ((pause ≡ IsWant → ⊥) → seat.new ≡ seat.old) }
 {
     if flushed.is_ok() && !matches!(pause, Pause::NoMemory) {
         return;
@@ -93,6 +97,8 @@ fn run_task<'n, L: Ledger>(
     ensures published { task.new.published ≡ task.old.published }
     ensures events { (task.new.work.cell.events ≡ task.old.work.cell.events + result) × (result ≤ drawn) }
     ensures delivered { (seat.new.seat.me.0.seen ≡ 2) ⊎ IsDelivered task.new.work }
+    // A task that may go on did all the events, or the run is to stop.
+    ensures spent { task.new.standing ≡ IsGoing → (task.new.work.cell.events ≡ task.old.work.cell.events + drawn) ⊎ (seat.new.seat.me.0.seen ≡ 2) }
 {
     let before = task.events();
     let pause = task.run(floor.code, drawn, steps);

@@ -1,14 +1,15 @@
 //! A process of a network together with the ends of its channels, which travel with it from worker to worker.
 #![tactic(auto)]
 
-pub mod fault;
+mod fault;
 mod feed;
-pub mod job;
-pub mod opening;
+mod job;
+mod opening;
 mod port;
-pub mod ports;
+mod ports;
 mod rows;
-pub mod sends;
+#[cfg(test)]
+mod tests;
 
 pub use fault::JobFault;
 pub use job::Job;
