@@ -17,7 +17,7 @@ use Rattle.kahn_crew.specs.declared.standing.Standing.TheVariants as standing
 use Rattle.kahn_crew.specs.Tasks.{Tasked, IsLater, handed, is_over}
 use Rattle.kahn_crew.specs.Left.{AreAll, HaveLeft, IsAtRest, task_events}
 use Rattle.kahn_pool.specs.Meetings.{AreJoined, HaveMet, IsBehindOn}
-use Rattle.kahn_pool.specs.Rested.{AreEndsOf, AreTasks, HaveSettled, IsEndOf, IsSettled, IsTaskOf, IsToldAs, Settles, cell_of, state_of}
+use Rattle.kahn_pool.specs.Rested.{AreEndsOf, AreTasks, HaveSettled, IsEndOf, IsSettled, IsTaskOf, IsToldAs, SettlesTo, cell_of, state_of}
 use Rattle.kahn_pool.specs.Gathers.{HasEnded}
 use Rattle.kahn_pool.specs.declared.answer.Answer.{Answer}
 use Rattle.kahn_pool.specs.declared.answer.End.{End}
@@ -99,7 +99,7 @@ module _ (t : Program) (lists : Lists) (watch : Option ℕ) (bound : ℕ) (old :
     was : (p : ℕ) (y : Tasked) → slice_get new p ≡ Some y → (x : Tasked) × (slice_get old p ≡ Some x)
     was p y e = let l = within_get new p y e in let n = h.count in got old p (omega (arith, l, n))
 
-    step : (p : ℕ) (y : Tasked) (e : slice_get new p ≡ Some y) → Settles (was p y e).0 y
+    step : (p : ℕ) (y : Tasked) (e : slice_get new p ≡ Some y) → SettlesTo (was p y e).0 y
     step p y e = h.each p (was p y e).0 y (was p y e).1 e
 
     of_new : (p : ℕ) (y : Tasked) → slice_get new p ≡ Some y → IsTaskOf t lists watch p y

@@ -17,7 +17,7 @@ use Rattle.kahn_job.specs.Works.{Work, IsJob}
 use Rattle.kahn_crew.specs.declared.standing.Standing.{Standing}
 use Rattle.kahn_crew.specs.declared.standing.Standing.TheVariants as standing
 use Rattle.kahn_crew.specs.Tasks.{Tasked, IsLater, IsTrueOf, IsStanding, standing_after}
-use Rattle.kahn_pool.specs.Rested.{HaveSettled, IsSaid, IsSettled, Says, Settles}
+use Rattle.kahn_pool.specs.Rested.{HaveSettled, IsSaid, IsSettled, Says, SettlesTo}
 
 -- ---- input channels
 
@@ -95,11 +95,11 @@ later_self x = record {
   ends = record { count = refl; same = λ q. record { reads = refl; writes = refl; lane = refl; name = refl }; flushed = λ q. le_refl (end_at x.work.ends q).flushed };
 }
 
-pub settles_still : (x : Tasked) → IsSettled x → Settles x x
+pub settles_still : (x : Tasked) → IsSettled x → SettlesTo x x
 settles_still x h = record { later = later_self x; events = refl; still = λ n. refl; settled = h }
 
 pub settles_ran : (x y : Tasked) → x.standing ≡ standing.Going → IsLater x y → (x.work.cell.events ≤ y.work.cell.events) × (y.work.cell.events ≤ x.work.cell.events + 0) →
-    IsSettled y → Settles x y
+    IsSettled y → SettlesTo x y
 settles_ran x y going later events h = record {
   later = later;
   events = let a = events.0 in let b = events.1 in omega (arith, a, b);
@@ -110,7 +110,7 @@ settles_ran x y going later events h = record {
 -- the first n are settled
 pub record SettledTo (old new : List Tasked) (n : ℕ) : Type 0 where
   pub count : length new ≡ length old
-  pub done : (p : ℕ) (x y : Tasked) → p < n → slice_get old p ≡ Some x → slice_get new p ≡ Some y → Settles x y
+  pub done : (p : ℕ) (x y : Tasked) → p < n → slice_get old p ≡ Some x → slice_get new p ≡ Some y → SettlesTo x y
   pub rest : (p : ℕ) → n ≤ p → slice_get new p ≡ slice_get old p
 
 pub none_settled : (old : List Tasked) → SettledTo old old 0
@@ -150,16 +150,16 @@ module _ (old new : List Tasked) (n : ℕ) (h : SettledTo old new n) where
   pub next_old : (x : Tasked) → slice_get new n ≡ Some x → slice_get old n ≡ Some x
   next_old x e = sym (h.rest n (le_refl n)) ∙ e
 
-  pub one_settled : (x y : Tasked) → slice_get new n ≡ Some x → Settles x y → SettledTo old (slice_set new n y) (suc n)
+  pub one_settled : (x y : Tasked) → slice_get new n ≡ Some x → SettlesTo x y → SettledTo old (slice_set new n y) (suc n)
   one_settled x y at s = record {
     count = length-set new n y ∙ h.count;
     done = λ p u v l a b. by p u v l a (set_get new n p y v b);
     rest = λ p l. set_else new n p y (λ e. absurd (omega (arith, e, l))) ∙ h.rest p (omega (arith, l));
   }
     where
-      by : (p : ℕ) (u v : Tasked) → p < suc n → slice_get old p ≡ Some u → ((p ≡ n) × (y ≡ v)) ⊎ ((p ≡ n → ⊥) × (slice_get new p ≡ Some v)) → Settles u v
+      by : (p : ℕ) (u v : Tasked) → p < suc n → slice_get old p ≡ Some u → ((p ≡ n) × (y ≡ v)) ⊎ ((p ≡ n → ⊥) × (slice_get new p ≡ Some v)) → SettlesTo u v
       by p u v l a (inl k) =
-          subst (λ w. Settles u w) k.1 (subst (λ w. Settles w y) (some_one (sym (next_old x at) ∙ ap (slice_get old) (sym k.0) ∙ a)) s)
+          subst (λ w. SettlesTo u w) k.1 (subst (λ w. SettlesTo w y) (some_one (sym (next_old x at) ∙ ap (slice_get old) (sym k.0) ∙ a)) s)
       by p u v l a (inr k) = h.done p u v (lower p n l k.0) a k.1
 
   pub all_settled : n ≡ length new → HaveSettled old new

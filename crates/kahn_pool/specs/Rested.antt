@@ -59,7 +59,7 @@ pub record IsSettled (x : Tasked) : Type 0 where
   pub fed : (q : ℕ) → IsFed (end_at x.work.ends q)
 
 -- the first task was settled: the second is a later state of it, after as many events; one that may not go on is the same
-pub record Settles (old new : Tasked) : Type 0 where
+pub record SettlesTo (old new : Tasked) : Type 0 where
   pub later : IsLater old new
   pub events : new.work.cell.events ≡ old.work.cell.events
   pub still : (old.standing ≡ standing.Going → ⊥) → new ≡ old
@@ -67,7 +67,7 @@ pub record Settles (old new : Tasked) : Type 0 where
 
 pub record HaveSettled (old new : List Tasked) : Type 0 where
   pub count : length new ≡ length old
-  pub each : (p : ℕ) (x y : Tasked) → slice_get old p ≡ Some x → slice_get new p ≡ Some y → Settles x y
+  pub each : (p : ℕ) (x y : Tasked) → slice_get old p ≡ Some x → slice_get new p ≡ Some y → SettlesTo x y
 
 -- ---- ends
 

@@ -1,3 +1,3 @@
 //! Gates: what a worker passes before it runs a process.
 
-pub use kahn_crew::gate::{Gate, Open};
+pub use kahn_crew::{Gate, Open};

@@ -2,19 +2,19 @@
 #![tactic(auto)]
 
 pub mod answer;
-pub mod bench;
+mod bench;
 pub mod config;
 mod ends;
 pub mod gate;
-pub mod gather;
+mod gather;
 pub mod laws;
 mod meeting;
 pub mod one;
-pub mod rounds;
+mod rounds;
 pub mod run;
 mod settle;
-pub mod streams;
+mod streams;
 #[cfg(test)]
 mod tests;
-pub mod workbench;
-pub mod workers;
+mod workbench;
+mod workers;

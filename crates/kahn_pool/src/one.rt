@@ -46,10 +46,10 @@ fn run_opened<L: Ledger>(
     Ok(run_bench(bench, ends, quantum, bound))
 }
 
-/// Runs a network on the caller's thread, with a watched channel or none, each process for at most `quantum` events
-/// before the next one. It refuses only where memory was refused
-/// before the first event.
-pub fn run_watched(
+// Runs a network on the caller's thread, with a watched channel or none, each process for at most `quantum` events
+// before the next one. It refuses only where memory was refused
+// before the first event.
+fn run_watched(
     alloc: Global,
     network: &Network,
     input: &Input,

@@ -3,7 +3,7 @@
 ghost use Rattle.std.specs.Prelude.{◌≡◌, ℕ, ◌^◌, ◌<◌, length, Some, slice_get};
 ghost use Rattle.kahn_job.specs.Berths.{IsFed, end_at};
 ghost use Rattle.kahn_crew.specs.Tasks.{Tasked};
-ghost use Rattle.kahn_pool.specs.Rested.{HaveSettled, IsSettled, Settles};
+ghost use Rattle.kahn_pool.specs.Rested.{HaveSettled, IsSettled, SettlesTo};
 ghost use Rattle.kahn_crew.specs.declared.standing.Standing.TheVariants as standing;
 
 use kahn_code::code::Code;
@@ -35,7 +35,7 @@ fn ask<L: Ledger>(task: &mut Task, code: &Code, steps: &mut Steps<L>)
     requires going { task.old.standing ≡ standing.Going }
     requires code { code.now.network.value ≡ task.old.work.cell.network }
     requires bound { task.old.work.cell.events < 2 ^ 48 }
-    ensures { Settles task.old task.new }
+    ensures { SettlesTo task.old task.new }
 {
     let _pause = task.run(code, 0, steps);
     let _parameters = task.parameters();
@@ -46,7 +46,7 @@ fn ask<L: Ledger>(task: &mut Task, code: &Code, steps: &mut Steps<L>)
 fn settle<L: Ledger>(task: &mut Task, code: &Code, steps: &mut Steps<L>)
     requires code { code.now.network.value ≡ task.old.work.cell.network }
     requires bound { task.old.work.cell.events < 2 ^ 48 }
-    ensures { Settles task.old task.new }
+    ensures { SettlesTo task.old task.new }
 {
     if task.standing() == Standing::Going {
         ask(task, code, steps);
