@@ -1,8 +1,12 @@
 //! Programs and inputs with the reports that an independent reading of the language gives them.
 
 mod examples;
+mod gates;
 mod language;
 mod limits;
+mod one;
+mod random;
+mod refusals;
 mod watched;
 mod workers;
 mod writers;
@@ -16,7 +20,7 @@ use std::sync::Wait;
 use std::test::Fail;
 use std::thread::Threads;
 
-static COUNT: &str =
+pub(crate) static COUNT: &str =
     "Begin Integer output channel W;\n  Process count(integer out W; integer N);\n  Begin integer I;\n    while I < N do begin send I on W; I := I + 1 end\n  End;\n  count(W, 3)\nEnd;\n";
 
 static DOUBLE: &str =
@@ -44,17 +48,19 @@ static MARKS: &str = "BEGIN PROCESS p(); Begin logical B; B := \u{ac} B; End; p(
 static FOUR_TURNS: &str =
     "Begin Integer channel X, Y, Z, T1, T2; Process f(integer in U, V; integer out W); Begin integer I, N; logical B; B := true; while N < 4 do Begin I := if B then wait(U) else wait(V); print(I); send I on W; B := not B; N := N + 1 End; End; Process g(integer in U; integer out V, W); Begin integer I; logical B; B := true; Repeat Begin I := wait(U); if B then send I on V else send I on W; B := not B; End; End; Process h(integer in U; integer out V; integer INIT); Begin integer I; send INIT on V; Repeat Begin I := wait(U); send I on V; End; End; Comment: body of the main program; f(Y, Z, X) par g(X, T1, T2) par h(T1, Y, 0) par h(T2, Z, 1) End;";
 
-// The report of a program, and its verdict.
-fn reported<R: Threads + Wait + Sync>(
+// The report of a program by so many workers, each of which runs a process for at most `quantum` events, and its verdict.
+fn reported_by<R: Threads + Wait + Sync>(
     rt: &R,
     alloc: Global,
     program: &str,
     input: &str,
+    workers: u64,
+    quantum: u64,
     bound: u64,
 ) -> Result<(Verdict, Vec<u8>), WorkFault> {
     let config = Config {
-        workers: 4,
-        quantum: 1000,
+        workers,
+        quantum,
         bound,
         watch: None,
     };
@@ -63,7 +69,18 @@ fn reported<R: Threads + Wait + Sync>(
     Ok((verdict, written))
 }
 
-// Whether the report of a program is this text.
+// The report of a program by four workers, and its verdict.
+fn reported<R: Threads + Wait + Sync>(
+    rt: &R,
+    alloc: Global,
+    program: &str,
+    input: &str,
+    bound: u64,
+) -> Result<(Verdict, Vec<u8>), WorkFault> {
+    reported_by(rt, alloc, program, input, 4, 1000, bound)
+}
+
+// Whether the report of a program is this text, by one worker, by four and by sixteen.
 fn reports<R: Threads + Wait + Sync>(
     rt: &R,
     alloc: Global,
@@ -73,10 +90,16 @@ fn reports<R: Threads + Wait + Sync>(
     verdict: Verdict,
     report: &str,
 ) -> bool {
-    match reported(rt, alloc, program, input, bound) {
-        Ok((told, written)) => told == verdict && written.as_slice() == report.as_bytes(),
-        Err(_) => false,
+    for workers in [1, 4, 16] {
+        let Ok((told, written)) = reported_by(rt, alloc, program, input, workers, 1000, bound)
+        else {
+            return false;
+        };
+        if told != verdict || written.as_slice() != report.as_bytes() {
+            return false;
+        }
     }
+    true
 }
 
 #[test]

@@ -4,6 +4,7 @@ ghost use Rattle.std.specs.Prelude.{Some};
 
 use crate::entries::{EntriesFault, read_entries};
 use crate::read::{ReadFault, read_text};
+use crate::rows::COUNT;
 use crate::write::{WriteFault, write_line};
 use kahn_streams::value::Value;
 use std::alloc::Global;
@@ -147,15 +148,24 @@ fn reads_within_a_limit(rt: HostRuntime) -> Result<(), Fail> {
 
 #[test]
 fn reads_fail_at_each_call(rt: HostRuntime) -> Result<(), Fail> {
-    for call in 1..13usize {
+    let calls = COUNT.len().saturating_add(1);
+    for call in 0..calls {
         let mut reader = Drip {
-            left: LINE.as_slice(),
+            left: COUNT.as_bytes(),
             calls: 0,
-            fails_at: call,
+            fails_at: call.saturating_add(1),
         };
-        let result = read_text(rt.alloc(), &mut reader, 100);
+        let result = read_text(rt.alloc(), &mut reader, 1000);
         assert_eq!(rt; result.err(), Some(ReadFault::Failed));
     }
+    let mut reader = Drip {
+        left: COUNT.as_bytes(),
+        calls: 0,
+        fails_at: 0,
+    };
+    let text = read_text(rt.alloc(), &mut reader, 1000).expect(&rt, "no read fails");
+    assert_eq!(rt; text.as_str(), COUNT);
+    assert_eq!(rt; reader.calls, calls);
     Ok(())
 }
 

@@ -1,9 +1,12 @@
 //! Operators, kinds, faults and chains of processes.
 
-use super::{COUNT, reported, reports};
+use super::{COUNT, reported, reported_by, reports};
+use itoa::Buffer;
 use kahn_pool::answer::Verdict;
 use std::alloc::Global;
+use std::sync::Wait;
 use std::test::Fail;
+use std::thread::Threads;
 
 #[test]
 fn an_overflow_after_one_event(rt: HostRuntime) -> Result<(), Fail> {
@@ -107,11 +110,14 @@ fn logical_values(rt: HostRuntime) -> Result<(), Fail> {
             mixed
         )
     );
+    let sole = "begin process p(); begin print true end; p() end";
+    let truth = "print 1 p: true\nend 1 p: ended after 1\nfinished 1\n";
+    assert!(rt; reports(&rt, rt.alloc(), sole, "", 1000000, Verdict::Finished, truth));
     Ok(())
 }
 
 // A chain of three copies after a count to this number.
-fn chain(alloc: Global, number: &str) -> Result<String, Fail> {
+pub(super) fn chain(alloc: Global, number: &str) -> Result<String, Fail> {
     let mut text = String::from_str(
         alloc,
         "begin integer channel X0, X1, X2; integer output channel W; process count(integer out W; integer N); begin integer I; while I < N do begin send I on W; I := I + 1 end end; process copy(integer in U; integer out W); begin repeat send wait(U) on W end; count(X0, ",
@@ -121,28 +127,57 @@ fn chain(alloc: Global, number: &str) -> Result<String, Fail> {
     Ok(text)
 }
 
+// The report of a chain of copies, by eight workers that run a process for one event at a time.
+fn chained<R: Threads + Wait + Sync>(rt: &R, alloc: Global, number: &str) -> Result<Vec<u8>, Fail> {
+    let program = chain(alloc, number)?;
+    let (_, written) = reported_by(rt, alloc, program.as_str(), "", 8, 1, 2000000)?;
+    Ok(written)
+}
+
+// How many words stand behind the first one of a line, where they are 0, 1, 2 and so on.
+fn counted(line: &[u8]) -> Option<usize> {
+    let mut next = 0usize;
+    for word in line.split(|byte| *byte == b' ').skip(1) {
+        let mut buffer = Buffer::new();
+        if word != buffer.format(next).as_bytes() {
+            return None;
+        }
+        next = next.saturating_add(1);
+    }
+    Some(next)
+}
+
+// Whether the first line of a report has the numbers below this one in order, and the report ends so.
+fn is_count(report: &[u8], number: usize, end: &str) -> bool {
+    let mut lines = report.split(|byte| *byte == b'\n');
+    match lines.next() {
+        Some(first) => {
+            first.starts_with(b"W: ")
+                && counted(first) == Some(number)
+                && report.ends_with(end.as_bytes())
+        }
+        None => false,
+    }
+}
+
 #[test]
 fn a_chain_of_copies(rt: HostRuntime) -> Result<(), Fail> {
-    let numbers = [
-        ("64", "\nfinished 708\n"),
-        ("65", "\nfinished 719\n"),
-        ("1000", "\nfinished 11004\n"),
+    let rows = [
+        ("64", 64, "\nfinished 708\n"),
+        ("65", 65, "\nfinished 719\n"),
+        ("1000", 1000, "\nfinished 11004\n"),
     ];
-    for (number, last) in numbers {
-        let program = chain(rt.alloc(), number)?;
-        match reported(&rt, rt.alloc(), program.as_str(), "", 2000000) {
-            Ok((verdict, written)) => {
-                assert_eq!(rt; verdict, Verdict::Finished);
-                assert!(rt;
-                    written
-                        .as_slice()
-                        .starts_with(b"W: 0 1 2 3 4 5 6 7 8 9 10 ")
-                );
-                assert!(rt; written.as_slice().ends_with(last.as_bytes()));
-            }
-            Err(_) => assert!(rt; false),
-        }
+    for (number, count, end) in rows {
+        let report = chained(&rt, rt.alloc(), number)?;
+        assert!(rt; is_count(&report, count, end), "{number}");
     }
+    Ok(())
+}
+
+#[test]
+fn a_long_chain_of_copies(rt: HostRuntime) -> Result<(), Fail> {
+    let report = chained(&rt, rt.alloc(), "100000")?;
+    assert!(rt; is_count(&report, 100000, "\nfinished 1100004\n"));
     Ok(())
 }
 

@@ -13,7 +13,7 @@ use std::thread::Threads;
 static FAULT: &str =
     "begin integer channel X; integer output channel W; process d(integer out W); begin integer I; I := 2; while true do begin send 6 div I on W; I := I - 1 end end; process copy(integer in U; integer out W); begin repeat send wait(U) on W end; d(X) par copy(X, W) end";
 
-static SAMPLE: &str =
+pub(super) static SAMPLE: &str =
     "Begin Integer channel X, Y, Z, T1, T2; Process f(integer in U, V; integer out W); Begin integer I; logical B; B := true; Repeat Begin I := if B then wait(U) else wait(V); print(I); send I on W; B := not B; End; End; Process g(integer in U; integer out V, W); Begin integer I; logical B; B := true; Repeat Begin I := wait(U); if B then send I on V else send I on W; B := not B; End; End; Process h(integer in U; integer out V; integer INIT); Begin integer I; send INIT on V; Repeat Begin I := wait(U); send I on V; End; End; Comment: body of the main program; f(Y, Z, X) par g(X, T1, T2) par h(T1, Y, 0) par h(T2, Z, 1) End;";
 
 // The report with a watched channel, and its verdict.

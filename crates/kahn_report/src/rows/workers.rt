@@ -11,11 +11,13 @@ fn four_turns_by_any_number_of_workers(rt: HostRuntime) -> Result<(), Fail> {
         "print 1 f: 0 1 0 1\nend 1 f: ended after 17\nend 2 g: waits on X after 13\nend 3 h: waits on T1 after 8\nend 4 h: waits on T2 after 8\nfinished 46\n";
     for workers in [1, 2, 16] {
         for quantum in [1, 7, 1000000] {
-            let told = watched(&rt, rt.alloc(), FOUR_TURNS, None, workers, quantum, 46);
-            assert!(rt; told.is_ok());
-            if let Ok((verdict, written)) = told {
-                assert_eq!(rt; verdict, Verdict::Finished);
-                assert_eq!(rt; written.as_slice(), report.as_bytes());
+            for bound in [46, 1000000] {
+                let told = watched(&rt, rt.alloc(), FOUR_TURNS, None, workers, quantum, bound);
+                assert!(rt; told.is_ok());
+                if let Ok((verdict, written)) = told {
+                    assert_eq!(rt; verdict, Verdict::Finished);
+                    assert_eq!(rt; written.as_slice(), report.as_bytes());
+                }
             }
         }
     }
