@@ -1,2 +1,4 @@
 pub mod Status
 pub mod Message
+pub mod Line
+pub mod Texts

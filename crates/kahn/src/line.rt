@@ -1,7 +1,13 @@
 //! The command line.
 
+ghost use Rattle.std.specs.Prelude.{◌≡◌, IfOk, codes, false, map, option_map, string_bytes};
+ghost use Rattle.clap.specs.Words.{app_of, first_value, found_of, new_app, one_text, rule_of};
+ghost use Rattle.kahn.specs.Line.{kahn_app, number_rule, text_rule, IsRead, IsSet, IsTold, ReadsOr};
+ghost use Rattle.kahn.specs.declared.line.LineFault.TheVariants.{NoMemory};
+
+use clap::builder::ValueParser;
 use clap::error::ErrorKind;
-use clap::{Arg, ArgMatches, Command, value_parser};
+use clap::{Arg, ArgMatches, Command};
 use kahn_pool::config::Config;
 use std::alloc::{AllocError, Global};
 use std::convert::AsStr;
@@ -63,6 +69,8 @@ pub enum LineFault {
 }
 
 impl From<clap::Error> for LineFault {
+    ghost from_gives = { λ error fault. IsTold error fault };
+
     fn from(error: clap::Error) -> LineFault {
         match error.kind() {
             ErrorKind::OutOfMemory => LineFault::NoMemory,
@@ -72,46 +80,90 @@ impl From<clap::Error> for LineFault {
 }
 
 impl From<AllocError> for LineFault {
+    ghost from_gives = { λ _ fault. fault ≡ NoMemory };
+
     fn from(_error: AllocError) -> LineFault {
         LineFault::NoMemory
     }
 }
 
+/// An option with a text.
+fn text_arg<'a>(alloc: Global, name: &'a str, value: &'a str, help: &'a str) -> Arg<'a>
+    ensures rule { rule_of result ≡ text_rule name.entry.now }
+    ensures local { result.global ≡ false }
+{
+    Arg::new(alloc, name)
+        .long(name)
+        .value_name(value)
+        .help(help)
+}
+
+/// An option with a number from `least` to `most`, and what it is where the words don't say.
+fn number_arg<'a>(
+    alloc: Global,
+    name: &'a str,
+    least: u64,
+    most: u64,
+    given: &'a str,
+    help: &'a str,
+) -> Arg<'a>
+    ensures rule { rule_of result ≡ number_rule name.entry.now least most given.entry.now }
+    ensures local { result.global ≡ false }
+{
+    text_arg(alloc, name, "N", help)
+        .value_parser(ValueParser::unsigned(least, most))
+        .default_value(given)
+}
+
+/// The program's name and the texts round its options in the help.
+fn bare<'a>(alloc: Global) -> Result<Command<'a>, AllocError>
+    ensures { IfOk result (λ c. app_of c ≡ new_app (codes "kahn")) }
+{
+    Ok(
+        Command::new(alloc, "kahn")
+            .bin_name("kahn")?
+            .about(ABOUT)
+            .after_help(MORE),
+    )
+}
+
 /// The rules of the command line.
-fn command<'a>(alloc: Global) -> Result<Command<'a>, AllocError> {
+fn command<'a>(alloc: Global) -> Result<Command<'a>, AllocError>
+    ensures { IfOk result (λ c. app_of c ≡ kahn_app) }
+{
     let program = Arg::new(alloc, "PROGRAM").help(
         "File of the program text; standard input where it is left out",
     );
-    let input = Arg::new(alloc, "input")
-        .long("input")
-        .value_name("FILE")
-        .help("File of the input text, lines such as `A: 1 2 3`: an input channel and its values");
-    let workers = Arg::new(alloc, "workers")
-        .long("workers")
-        .value_name("N")
-        .value_parser(value_parser!(u64).range(1..=16))
-        .default_value("4")
-        .help("Number of threads, 1 to 16");
-    let quantum = Arg::new(alloc, "quantum")
-        .long("quantum")
-        .value_name("N")
-        .value_parser(value_parser!(u64).range(1..=1_000_000))
-        .default_value("1000")
-        .help("Events that a process does at a time, 1 to 1000000");
-    let bound = Arg::new(alloc, "bound")
-        .long("bound")
-        .value_name("N")
-        .value_parser(value_parser!(u64).range(0..=281_474_976_710_655))
-        .default_value("1000000")
-        .help("Events after which the run is stopped, 0 to 281474976710655");
-    let watch = Arg::new(alloc, "watch")
-        .long("watch")
-        .value_name("NAME")
-        .help("A channel that is reported too, besides the output channels");
-    Command::new(alloc, "kahn")
-        .bin_name("kahn")?
-        .about(ABOUT)
-        .after_help(MORE)
+    let input = text_arg(
+        alloc,
+        "input",
+        "FILE",
+        "File of the input text, lines such as `A: 1 2 3`: an input channel and its values",
+    );
+    let workers = number_arg(alloc, "workers", 1, 16, "4", "Number of threads, 1 to 16");
+    let quantum = number_arg(
+        alloc,
+        "quantum",
+        1,
+        1_000_000,
+        "1000",
+        "Events that a process does at a time, 1 to 1000000",
+    );
+    let bound = number_arg(
+        alloc,
+        "bound",
+        0,
+        281_474_976_710_655,
+        "1000000",
+        "Events after which the run is stopped, 0 to 281474976710655",
+    );
+    let watch = text_arg(
+        alloc,
+        "watch",
+        "NAME",
+        "A channel that is reported too, besides the output channels",
+    );
+    bare(alloc)?
         .arg(program)?
         .arg(input)?
         .arg(workers)?
@@ -121,26 +173,39 @@ fn command<'a>(alloc: Global) -> Result<Command<'a>, AllocError> {
 }
 
 /// A copy of a text, where there is one.
-fn copied(alloc: Global, text: Option<&str>) -> Result<Option<String>, AllocError> {
+fn copied(alloc: Global, text: Option<&str>) -> Result<Option<String>, AllocError>
+    ensures { IfOk result (λ copy. option_map string_bytes copy ≡ option_map (λ t. t.now) text.entry) }
+{
     match text {
         Some(text) => Ok(Some(String::from_str(alloc, text)?)),
         None => Ok(None),
     }
 }
 
+/// The number that was found for a name, or another one where none was.
+fn number_or(matches: &ArgMatches<'_>, name: &str, other: u64) -> u64
+    ensures { ReadsOr other (one_text (found_of matches.now) name.now) result }
+{
+    matches.get_one::<u64>(name).unwrap_or(other)
+}
+
 /// How the run is set up.
-fn config_of(alloc: Global, matches: &ArgMatches<'_>) -> Result<Config, AllocError> {
+fn config_of(alloc: Global, matches: &ArgMatches<'_>) -> Result<Config, AllocError>
+    ensures { IfOk result (IsSet (found_of matches.now)) }
+{
     Ok(Config {
-        workers: matches.get_one::<u64>("workers").unwrap_or(4),
-        quantum: matches.get_one::<u64>("quantum").unwrap_or(1000),
-        bound: matches.get_one::<u64>("bound").unwrap_or(1_000_000),
+        workers: number_or(matches, "workers", 4),
+        quantum: number_or(matches, "quantum", 1000),
+        bound: number_or(matches, "bound", 1_000_000),
         watch: copied(alloc, matches.get_str("watch"))?,
     })
 }
 
 /// Reads the words of a command line, the first of which is the name of the program. It refuses with `Refused` where
 /// clap refuses the words, and where they ask for the help, and with `NoMemory` where memory was refused.
-pub fn read_line<'a, S: AsStr>(alloc: Global, words: &'a [S]) -> Result<Options, LineFault> {
+pub fn read_line<'a, S: AsStr>(alloc: Global, words: &'a [S]) -> Result<Options, LineFault>
+    ensures { IsRead (map S.text words.now) result }
+{
     let matches = command(alloc)?.try_get_matches_from(words)?;
     Ok(Options {
         program: copied(alloc, matches.get_str("PROGRAM"))?,

@@ -9,50 +9,69 @@ use crate::fault::Fault;
 use itoa::Buffer;
 use kahn_check::fault::CheckFault;
 use kahn_pool::config::RunFault;
+use kahn_report::calls::Calls;
 use kahn_report::input::TextFault;
 use kahn_report::read::ReadFault;
 use kahn_report::work::WorkFault;
-use kahn_report::write::{WriteFault, write_line};
+use kahn_report::write::{WriteFault, write_line_counted};
 use kahn_streams::entries::InputFault;
 use kahn_syntax::fault::{SyntaxFault, What};
 use kahn_syntax::span::Span;
 use std::io::Write;
+use std::marker::Brand;
+use std::sync::ledger::{Blank, Ledger};
 
 /// Writes a line of words alone.
-fn put_words<W: Write>(writer: &mut W, words: &str) -> Result<(), WriteFault>
-    ensures { Writes (W.contents writer.old) (W.contents writer.new) result (words_line words.now) }
+fn put_words<W: Write, L: Ledger>(
+    writer: &mut W,
+    writes: &mut Calls<L>,
+    words: &str,
+) -> Result<(), WriteFault>
+    ensures text { Writes (W.contents writer.old) (W.contents writer.new) result (words_line words.now) }
+    ensures few { writes.new ≤ writes.old + length (words_line words.now) }
 {
-    write_line(writer, &[b"kahn: ", words.as_bytes(), b"\n"])
+    write_line_counted(writer, writes, &[b"kahn: ", words.as_bytes(), b"\n"])
 }
 
 /// Writes that memory was refused.
-fn put_memory<W: Write>(writer: &mut W) -> Result<(), WriteFault>
-    ensures { Writes (W.contents writer.old) (W.contents writer.new) result memory_line }
+fn put_memory<W: Write, L: Ledger>(writer: &mut W, writes: &mut Calls<L>) -> Result<(), WriteFault>
+    ensures text { Writes (W.contents writer.old) (W.contents writer.new) result memory_line }
+    ensures few { writes.new ≤ writes.old + length memory_line }
 {
-    put_words(writer, "no memory")
+    put_words(writer, writes, "no memory")
 }
 
 /// Writes a line of two parts.
-fn put_two<'a, W: Write>(writer: &mut W, first: &'a str, second: &'a str) -> Result<(), WriteFault>
-    ensures { Writes (W.contents writer.old) (W.contents writer.new) result (two_line first.now second.now) }
+fn put_two<'a, W: Write, L: Ledger>(
+    writer: &mut W,
+    writes: &mut Calls<L>,
+    first: &'a str,
+    second: &'a str,
+) -> Result<(), WriteFault>
+    ensures text { Writes (W.contents writer.old) (W.contents writer.new) result (two_line first.now second.now) }
+    ensures few { writes.new ≤ writes.old + length (two_line first.now second.now) }
 {
-    write_line(
+    write_line_counted(
         writer,
+        writes,
         &[b"kahn: ", first.as_bytes(), second.as_bytes(), b"\n"],
     )
 }
 
 /// Writes a line with a number, or what stands for one, between its words.
-fn put_between<'a, W: Write>(
+fn put_between<'a, W: Write, L: Ledger>(
     writer: &mut W,
+    writes: &mut Calls<L>,
     before: &'a str,
     between: &'a str,
     after: &'a str,
 ) -> Result<(), WriteFault>
-    ensures { Writes (W.contents writer.old) (W.contents writer.new) result (between_line before.now between.now after.now) }
+    ensures text { Writes (W.contents writer.old) (W.contents writer.new) result (between_line before.now between.now after.now) }
+    ensures few { writes.new ≤ writes.old + length (between_line before.now between.now after.now) }
 {
-    write_line(
+    write_line_counted(
         writer,
+        writes,
         &[
             b"kahn: ",
             before.as_bytes(),
@@ -64,29 +83,34 @@ fn put_between<'a, W: Write>(
 }
 
 /// Writes a line with a number between its words.
-fn put_number<W: Write>(
+fn put_number<W: Write, L: Ledger>(
     writer: &mut W,
+    writes: &mut Calls<L>,
     before: &str,
     number: usize,
     after: &str,
 ) -> Result<(), WriteFault>
-    ensures { Writes (W.contents writer.old) (W.contents writer.new) result (between_line before.now (decimal number) after.now) }
+    ensures text { Writes (W.contents writer.old) (W.contents writer.new) result (between_line before.now (decimal number) after.now) }
+    ensures few { writes.new ≤ writes.old + length (between_line before.now (decimal number) after.now) }
 {
     let mut buffer = Buffer::new();
-    put_between(writer, before, buffer.format(number), after)
+    put_between(writer, writes, before, buffer.format(number), after)
 }
 
 /// Writes a line with two numbers before its words.
-fn put_place<'a, W: Write>(
+fn put_place<'a, W: Write, L: Ledger>(
     writer: &mut W,
+    writes: &mut Calls<L>,
     line: &'a str,
     column: &'a str,
     words: &'a str,
 ) -> Result<(), WriteFault>
-    ensures { Writes (W.contents writer.old) (W.contents writer.new) result (concat (codes "kahn: " ∷ line.now ∷ codes ":" ∷ column.now ∷ codes ": " ∷ words.now ∷ codes "\n" ∷ [])) }
+    ensures text { Writes (W.contents writer.old) (W.contents writer.new) result (concat (codes "kahn: " ∷ line.now ∷ codes ":" ∷ column.now ∷ codes ": " ∷ words.now ∷ codes "\n" ∷ [])) }
+    ensures few { writes.new ≤ writes.old + length (concat (codes "kahn: " ∷ line.now ∷ codes ":" ∷ column.now ∷ codes ": " ∷ words.now ∷ codes "\n" ∷ [])) }
 {
-    write_line(
+    write_line_counted(
         writer,
+        writes,
         &[
             b"kahn: ",
             line.as_bytes(),
@@ -100,33 +124,43 @@ fn put_place<'a, W: Write>(
 }
 
 /// Writes a line with the place of a byte of the program text.
-fn put_byte<W: Write>(
+fn put_byte<W: Write, L: Ledger>(
     writer: &mut W,
+    writes: &mut Calls<L>,
     program: &str,
     from: usize,
     words: &str,
 ) -> Result<(), WriteFault>
     requires { from ≤ length program.now }
-    ensures { Writes (W.contents writer.old) (W.contents writer.new) result (place_line program.now from words.now) }
+    ensures text { Writes (W.contents writer.old) (W.contents writer.new) result (place_line program.now from words.now) }
+    ensures few { writes.new ≤ writes.old + length (place_line program.now from words.now) }
 {
     let (line, column) = Span { from, to: from }.place(program);
     let mut first = Buffer::new();
     let mut second = Buffer::new();
-    put_place(writer, first.format(line), second.format(column), words)
+    put_place(
+        writer,
+        writes,
+        first.format(line),
+        second.format(column),
+        words,
+    )
 }
 
 /// Writes a line with the place of a byte, where there is one.
-fn put_placed<W: Write>(
+fn put_placed<W: Write, L: Ledger>(
     writer: &mut W,
+    writes: &mut Calls<L>,
     program: &str,
     place: Option<usize>,
     words: &str,
 ) -> Result<(), WriteFault>
-    ensures { Writes (W.contents writer.old) (W.contents writer.new) result (placed_line program.now place words.now) }
+    ensures text { Writes (W.contents writer.old) (W.contents writer.new) result (placed_line program.now place words.now) }
+    ensures few { writes.new ≤ writes.old + length (placed_line program.now place words.now) }
 {
     match place {
-        Some(from) => put_byte(writer, program, from.min(program.len()), words),
-        None => put_words(writer, words),
+        Some(from) => put_byte(writer, writes, program, from.min(program.len()), words),
+        None => put_words(writer, writes, words),
     }
 }
 
@@ -215,8 +249,13 @@ fn check_words(fault: CheckFault) -> &'static str
 }
 
 /// Writes the line of an entry of the input text.
-fn put_entry<W: Write>(writer: &mut W, fault: InputFault) -> Result<(), WriteFault>
-    ensures { Writes (W.contents writer.old) (W.contents writer.new) result (entry_line fault) }
+fn put_entry<W: Write, L: Ledger>(
+    writer: &mut W,
+    writes: &mut Calls<L>,
+    fault: InputFault,
+) -> Result<(), WriteFault>
+    ensures text { Writes (W.contents writer.old) (W.contents writer.new) result (entry_line fault) }
+    ensures few { writes.new ≤ writes.old + length (entry_line fault) }
 {
     let (entry, words) = match fault {
         InputFault::UnknownName(entry) => (entry, ": no such channel"),
@@ -224,32 +263,45 @@ fn put_entry<W: Write>(writer: &mut W, fault: InputFault) -> Result<(), WriteFau
         InputFault::GivenTwice(entry) => (entry, ": given twice"),
         InputFault::WrongKind(entry) => (entry, ": kind does not agree"),
         InputFault::TooMany(entry) => (entry, ": too many values"),
-        InputFault::NoMemory => return put_memory(writer),
+        InputFault::NoMemory => return put_memory(writer, writes),
     };
-    put_number(writer, "input entry ", entry, words)
+    put_number(writer, writes, "input entry ", entry, words)
 }
 
 /// Writes the line of an input text that is refused.
-fn put_text<W: Write>(writer: &mut W, fault: TextFault) -> Result<(), WriteFault>
-    ensures { Writes (W.contents writer.old) (W.contents writer.new) result (text_line fault) }
+fn put_text<W: Write, L: Ledger>(
+    writer: &mut W,
+    writes: &mut Calls<L>,
+    fault: TextFault,
+) -> Result<(), WriteFault>
+    ensures text { Writes (W.contents writer.old) (W.contents writer.new) result (text_line fault) }
+    ensures few { writes.new ≤ writes.old + length (text_line fault) }
 {
     match fault {
         TextFault::BadLine(line) => put_number(
             writer,
+            writes,
             "input line ",
             line,
             ": not a name and a colon",
         ),
-        TextFault::BadValue(line) => { put_number(writer, "input line ", line, ": not a value") }
-        TextFault::Input(fault) => put_entry(writer, fault),
-        TextFault::TooLong => put_words(writer, "input text is too long"),
-        TextFault::NoMemory => put_memory(writer),
+        TextFault::BadValue(line) => {
+            put_number(writer, writes, "input line ", line, ": not a value")
+        }
+        TextFault::Input(fault) => put_entry(writer, writes, fault),
+        TextFault::TooLong => put_words(writer, writes, "input text is too long"),
+        TextFault::NoMemory => put_memory(writer, writes),
     }
 }
 
 /// Writes the line of a run that has no answer.
-fn put_run<W: Write>(writer: &mut W, fault: RunFault) -> Result<(), WriteFault>
-    ensures { Writes (W.contents writer.old) (W.contents writer.new) result (run_line fault) }
+fn put_run<W: Write, L: Ledger>(
+    writer: &mut W,
+    writes: &mut Calls<L>,
+    fault: RunFault,
+) -> Result<(), WriteFault>
+    ensures text { Writes (W.contents writer.old) (W.contents writer.new) result (run_line fault) }
+    ensures few { writes.new ≤ writes.old + length (run_line fault) }
 {
     let words = match fault {
         RunFault::BadConfig => "configuration is out of range",
@@ -258,46 +310,56 @@ fn put_run<W: Write>(writer: &mut W, fault: RunFault) -> Result<(), WriteFault>
         RunFault::NoThread => "no thread",
         RunFault::Stalled => "workers stalled",
     };
-    put_words(writer, words)
+    put_words(writer, writes, words)
 }
 
 /// Writes the line of a run without a report.
-fn put_work<W: Write>(writer: &mut W, program: &str, fault: WorkFault) -> Result<(), WriteFault>
-    ensures { Writes (W.contents writer.old) (W.contents writer.new) result (work_line program.now fault) }
+fn put_work<W: Write, L: Ledger>(
+    writer: &mut W,
+    writes: &mut Calls<L>,
+    program: &str,
+    fault: WorkFault,
+) -> Result<(), WriteFault>
+    ensures text { Writes (W.contents writer.old) (W.contents writer.new) result (work_line program.now fault) }
+    ensures few { writes.new ≤ writes.old + length (work_line program.now fault) }
 {
     match fault {
         WorkFault::Syntax(fault) => put_placed(
             writer,
+            writes,
             program,
             syntax_place(fault),
             syntax_words(fault),
         ),
         WorkFault::Check(fault) => put_placed(
             writer,
+            writes,
             program,
             check_place(fault),
             check_words(fault),
         ),
-        WorkFault::Text(fault) => put_text(writer, fault),
-        WorkFault::Run(fault) => put_run(writer, fault),
-        WorkFault::Write(_) => put_words(writer, "report could not be written"),
+        WorkFault::Text(fault) => put_text(writer, writes, fault),
+        WorkFault::Run(fault) => put_run(writer, writes, fault),
+        WorkFault::Write(_) => put_words(writer, writes, "report could not be written"),
     }
 }
 
 /// Writes the line of a text that wasn't read: its path, and what is said where it is too long.
-fn put_read<W: Write>(
+fn put_read<W: Write, L: Ledger>(
     writer: &mut W,
+    writes: &mut Calls<L>,
     path: &str,
     long: &str,
     fault: ReadFault,
 ) -> Result<(), WriteFault>
-    ensures { Writes (W.contents writer.old) (W.contents writer.new) result (read_line path.now long.now fault) }
+    ensures text { Writes (W.contents writer.old) (W.contents writer.new) result (read_line path.now long.now fault) }
+    ensures few { writes.new ≤ writes.old + length (read_line path.now long.now fault) }
 {
     match fault {
-        ReadFault::Failed => put_two(writer, "cannot read ", path),
-        ReadFault::TooLong => put_words(writer, long),
-        ReadFault::NotUtf8 => put_two(writer, path, " is not UTF-8"),
-        ReadFault::NoMemory => put_memory(writer),
+        ReadFault::Failed => put_two(writer, writes, "cannot read ", path),
+        ReadFault::TooLong => put_words(writer, writes, long),
+        ReadFault::NotUtf8 => put_two(writer, writes, path, " is not UTF-8"),
+        ReadFault::NoMemory => put_memory(writer, writes),
     }
 }
 
@@ -311,25 +373,62 @@ fn path_words(path: &Option<String>) -> &str
     }
 }
 
-/// Writes the line of a fault and a line feed, and flushes. A span in the fault is one of the program text; one that lies
-/// beyond it is told as its end. After a fault of the writer a prefix of the line went out. It takes no memory.
-pub fn fault_line<W: Write>(fault: &Fault, program: &str, writer: &mut W) -> Result<(), WriteFault>
-    ensures { Writes (W.contents writer.old) (W.contents writer.new) result (fault_text program.now fault.now) }
+/// Writes the line of a fault as `fault_line` does, and counts its writes: at most one for each byte of the line.
+pub fn line_counted<W: Write, L: Ledger>(
+    fault: &Fault,
+    program: &str,
+    writer: &mut W,
+    writes: &mut Calls<L>,
+) -> Result<(), WriteFault>
+    ensures text { Writes (W.contents writer.old) (W.contents writer.new) result (fault_text program.now fault.now) }
+    ensures few { writes.new ≤ writes.old + length (fault_text program.now fault.now) }
 {
     match fault {
-        Fault::Open(path) => put_two(writer, "cannot read ", path.as_str()),
+        Fault::Open(path) => put_two(writer, writes, "cannot read ", path.as_str()),
         Fault::Program(path, fault) => put_read(
             writer,
+            writes,
             path_words(path),
             "program text is too long",
             *fault,
         ),
         Fault::InputText(path, fault) => put_read(
             writer,
+            writes,
             path.as_str(),
             "input text is too long",
             *fault,
         ),
-        Fault::Work(fault) => put_work(writer, program, *fault),
+        Fault::Work(fault) => put_work(writer, writes, program, *fault),
     }
+}
+
+/// A fault, and the program text that its spans are of.
+#[derive(Clone, Copy)]
+struct Told<'a> {
+    fault: &'a Fault,
+    program: &'a str,
+}
+
+/// Opens a count, and writes the line of a fault.
+fn line_opened<W: Write, L: Ledger>(
+    writer: &mut W,
+    blank: Blank,
+    told: &Told<'_>,
+) -> Result<(), WriteFault>
+    requires name { blank.name ≡ L.name }
+    requires parts { blank.parts ≡ L.parts }
+    requires some { 0 < blank.parts }
+    ensures { Writes (W.contents writer.old) (W.contents writer.new) result (fault_text told.now.program.now told.now.fault.now) }
+{
+    let mut writes = Calls::<L>::open(blank);
+    line_counted(told.fault, told.program, writer, &mut writes)
+}
+
+/// Writes the line of a fault and a line feed, and flushes. A span in the fault is one of the program text; one that lies
+/// beyond it is told as its end. After a fault of the writer a prefix of the line went out. It takes no memory.
+pub fn fault_line<W: Write>(fault: &Fault, program: &str, writer: &mut W) -> Result<(), WriteFault>
+    ensures { Writes (W.contents writer.old) (W.contents writer.new) result (fault_text program.now fault.now) }
+{
+    line_opened::<W, Brand>(writer, Blank::new(1), &Told { fault, program })
 }

@@ -1,4 +1,5 @@
-// The command line, the lines of faults, and the statuses.
+// The command line, the lines of faults, the writers that they go to, and the statuses.
 
 mod faults;
 mod lines;
+mod writers;

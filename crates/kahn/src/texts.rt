@@ -1,5 +1,8 @@
 //! The texts that a run is given.
 
+ghost use Rattle.std.specs.Prelude.{◌≡◌, ◌≤◌, IfOk, MatchResult, None, [], length, string_bytes};
+ghost use Rattle.kahn.specs.Texts.{AreWithin, IsOfProgram, IsOfInput, IsOfTexts};
+
 use crate::fault::Fault;
 use kahn_report::read::{ReadFault, read_text};
 use std::alloc::Global;
@@ -22,7 +25,9 @@ pub struct Texts {
 }
 
 /// Reads the program text from the file of that path, or from standard input.
-fn program_text<R: Runtime + AllocGlobal>(rt: &R, path: Option<String>) -> Result<String, Fault> {
+fn program_text<R: Runtime + AllocGlobal>(rt: &R, path: Option<String>) -> Result<String, Fault>
+    ensures { MatchResult result (λ text. length (string_bytes text) ≤ 1048576) (IsOfProgram path) }
+{
     let Some(path) = path else {
         return match read_text(rt.alloc(), &mut rt.reader(), MOST_PROGRAM_BYTES) {
             Ok(text) => Ok(text),
@@ -39,7 +44,10 @@ fn program_text<R: Runtime + AllocGlobal>(rt: &R, path: Option<String>) -> Resul
 }
 
 /// Reads the input text from the file of that path.
-fn input_text<R: Runtime + AllocGlobal>(rt: &R, path: Option<String>) -> Result<String, Fault> {
+fn input_text<R: Runtime + AllocGlobal>(rt: &R, path: Option<String>) -> Result<String, Fault>
+    ensures within { MatchResult result (λ text. length (string_bytes text) ≤ 16777216) (IsOfInput path) }
+    ensures empty { IfOk result (λ text. path ≡ None → string_bytes text ≡ []) }
+{
     let Some(path) = path else {
         return Ok(String::new(rt.alloc()));
     };
@@ -52,12 +60,14 @@ fn input_text<R: Runtime + AllocGlobal>(rt: &R, path: Option<String>) -> Result<
     }
 }
 
-/// Opens and reads the program text, and then the input text, each with its limit.
+/// Opens and reads the program text, and then the input text, each within its limit. A fault names the path that was given.
 pub fn read_texts<R: Runtime + AllocGlobal>(
     rt: &R,
     program: Option<String>,
     input: Option<String>,
-) -> Result<Texts, Fault> {
+) -> Result<Texts, Fault>
+    ensures { MatchResult result (AreWithin input) (IsOfTexts program input) }
+{
     let program = program_text(rt, program)?;
     let input = input_text(rt, input)?;
     Ok(Texts { program, input })

@@ -249,8 +249,13 @@ fn texts_that_were_not_read(rt: HostRuntime) -> Result<(), Fail> {
             5
         ),
         (
-            Fault::InputText(path, ReadFault::NotUtf8),
-            "kahn: a.k is not UTF-8\n",
+            Fault::InputText(path, ReadFault::NoMemory),
+            "kahn: no memory\n",
+            4
+        ),
+        (
+            Fault::InputText(String::from_str(alloc, "b")?, ReadFault::NotUtf8),
+            "kahn: b is not UTF-8\n",
             5
         ),
     ]?;
