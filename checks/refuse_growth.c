@@ -1,0 +1,59 @@
+// Refuses the growth of memory whose number the variable FAIL_AT names, counted from 1. For checks/memory.sh, which loads
+// it before the program.
+#include <errno.h>
+#include <stdatomic.h>
+#include <stddef.h>
+#include <stdlib.h>
+
+void *__libc_malloc(size_t);
+void *__libc_realloc(void *, size_t);
+void *__libc_calloc(size_t, size_t);
+void *__libc_memalign(size_t, size_t);
+
+static atomic_long growths;
+
+static int is_refused(void) {
+  const char *at = getenv("FAIL_AT");
+  long number = atomic_fetch_add(&growths, 1) + 1;
+  return at && number == atol(at);
+}
+
+void *malloc(size_t size) {
+  if (is_refused()) {
+    errno = ENOMEM;
+    return NULL;
+  }
+  return __libc_malloc(size);
+}
+
+void *realloc(void *old, size_t size) {
+  if (is_refused()) {
+    errno = ENOMEM;
+    return NULL;
+  }
+  return __libc_realloc(old, size);
+}
+
+void *calloc(size_t count, size_t size) {
+  if (is_refused()) {
+    errno = ENOMEM;
+    return NULL;
+  }
+  return __libc_calloc(count, size);
+}
+
+void *aligned_alloc(size_t alignment, size_t size) {
+  if (is_refused()) {
+    errno = ENOMEM;
+    return NULL;
+  }
+  return __libc_memalign(alignment, size);
+}
+
+int posix_memalign(void **place, size_t alignment, size_t size) {
+  void *block = is_refused() ? NULL : __libc_memalign(alignment, size);
+  if (!block)
+    return ENOMEM;
+  *place = block;
+  return 0;
+}
