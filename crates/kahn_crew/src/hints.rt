@@ -33,11 +33,13 @@ impl Hints {
         self.own.push(instance).is_ok()
     }
 
-    /// A hint of its own, or else one of another worker.
+    /// A hint of its own.
     pub fn next(&mut self) -> Option<usize> {
-        if let Some(instance) = self.own.pop() {
-            return Some(instance);
-        }
+        self.own.pop()
+    }
+
+    /// A hint of another worker.
+    pub fn steal(&mut self) -> Option<usize> {
         for other in self.others.iter() {
             if let Steal::Success(instance) = other.steal() {
                 return Some(instance);

@@ -20,6 +20,9 @@ use std::marker::Brand;
 use std::sync::Wait;
 use std::sync::ledger::{Blank, Ledger};
 
+// How often a worker without hints of its own pauses before it looks elsewhere: for some tens of microseconds.
+const PAUSES: usize = 64;
+
 /// A worker: its seat at the board, its hints, and the instance at which it begins to look where it has none.
 #[derive(Drop)]
 pub struct Worker<'n> {
@@ -28,11 +31,12 @@ pub struct Worker<'n> {
     pub start: usize,
 }
 
-// Picks an instance that a hint names.
+// Picks an instance that a hint names: one of the worker's own, or one that it steals.
 fn pick_hinted<'n>(
     floor: &Floor<'_, 'n>,
     seat: &mut Seat<Task<'n>>,
     hints: &mut Hints,
+    steals: bool,
 ) -> Option<usize>
     requires board { seat.old.seat.table_id ≡ floor.now.board.now.table.shared.table_id }
     requires idle { IsIdle seat.old }
@@ -41,7 +45,8 @@ fn pick_hinted<'n>(
     ensures left { IfNone result (IsIdle seat.new) }
 {
     for _ in 0..floor.board.instances {
-        let Some(p) = hints.next() else {
+        let found = if steals { hints.steal() } else { hints.next() };
+        let Some(p) = found else {
             return None;
         };
         if p < floor.board.instances && pick(seat, floor.board, p) {
@@ -69,22 +74,42 @@ fn pick_any<'n>(floor: &Floor<'_, 'n>, seat: &mut Seat<Task<'n>>, start: usize) 
     None
 }
 
-// Picks an instance: one that a hint names, or else any that is ready.
-fn pick_next<'n>(
+// Picks an instance where the worker has no hints of its own: one that another's hint names, or else any that is ready. It
+// waits a little first, so that an instance is seldom taken from the worker that woke it.
+fn pick_elsewhere<'n>(
     floor: &Floor<'_, 'n>,
-    seat: &mut Seat<Task<'n>>,
-    hints: &mut Hints,
-    start: usize,
+    worker: &mut Worker<'n>,
+    backoff: &Backoff,
 ) -> Option<usize>
-    requires board { seat.old.seat.table_id ≡ floor.now.board.now.table.shared.table_id }
-    requires idle { IsIdle seat.old }
-    ensures same { IsSeatOf seat.old seat.new }
-    ensures picked { IfSome result (λ p. (p < floor.now.board.now.instances) × ((y : Tasked) × Holds p 0 0 (Some y) seat.new × Fits told_of (belongs IsLater floor.now.board.now.table.shared.key) (wired floor.now.board.now.table.shared.key) p y seat.new.seat.me.0)) }
-    ensures left { IfNone result (IsIdle seat.new) }
+    requires board { worker.old.seat.seat.table_id ≡ floor.now.board.now.table.shared.table_id }
+    requires idle { IsIdle worker.old.seat }
+    ensures same { IsSeatOf worker.old.seat worker.new.seat }
+    ensures picked { IfSome result (λ p. (p < floor.now.board.now.instances) × ((y : Tasked) × Holds p 0 0 (Some y) worker.new.seat × Fits told_of (belongs IsLater floor.now.board.now.table.shared.key) (wired floor.now.board.now.table.shared.key) p y worker.new.seat.seat.me.0)) }
+    ensures left { IfNone result (IsIdle worker.new.seat) }
 {
-    match pick_hinted(floor, seat, hints) {
+    for _ in 0..PAUSES {
+        backoff.snooze();
+    }
+    match pick_hinted(floor, &mut worker.seat, &mut worker.hints, true) {
         Some(p) => Some(p),
-        None => pick_any(floor, seat, start),
+        None => pick_any(floor, &mut worker.seat, worker.start),
+    }
+}
+
+// Picks an instance.
+fn pick_next<'n>(floor: &Floor<'_, 'n>, worker: &mut Worker<'n>, backoff: &Backoff) -> Option<usize>
+    requires board { worker.old.seat.seat.table_id ≡ floor.now.board.now.table.shared.table_id }
+    requires idle { IsIdle worker.old.seat }
+    ensures same { IsSeatOf worker.old.seat worker.new.seat }
+    ensures picked { IfSome result (λ p. (p < floor.now.board.now.instances) × ((y : Tasked) × Holds p 0 0 (Some y) worker.new.seat × Fits told_of (belongs IsLater floor.now.board.now.table.shared.key) (wired floor.now.board.now.table.shared.key) p y worker.new.seat.seat.me.0)) }
+    ensures left { IfNone result (IsIdle worker.new.seat) }
+{
+    match pick_hinted(floor, &mut worker.seat, &mut worker.hints, false) {
+        Some(p) => {
+            backoff.reset();
+            Some(p)
+        }
+        None => pick_elsewhere(floor, worker, backoff),
     }
 }
 
@@ -112,20 +137,16 @@ fn turns<'n, R: Wait, G: Gate, L: Ledger>(
         if !go_on(&mut worker.seat, floor.board) {
             return;
         }
-        match pick_next(floor, &mut worker.seat, &mut worker.hints, worker.start) {
-            Some(p) => {
-                backoff.reset();
-                turn(
-                    rt,
-                    floor,
-                    gate,
-                    &mut worker.seat,
-                    &mut worker.hints,
-                    p,
-                    &mut steps,
-                );
-            }
-            None => backoff.snooze(),
+        if let Some(p) = pick_next(floor, worker, &backoff) {
+            turn(
+                rt,
+                floor,
+                gate,
+                &mut worker.seat,
+                &mut worker.hints,
+                p,
+                &mut steps,
+            );
         }
     }
 }
