@@ -1,4 +1,1 @@
-pub mod Status
-pub mod Message
-pub mod Line
 pub mod Texts

@@ -2,8 +2,8 @@
 use Rattle.std.specs.Prelude.{◌≡◌, ◌≤◌, ◌⊎◌, [], Option, Some, None, length, string_bytes}
 use Rattle.std.specs.declared.alloc.Global.{Global}
 use Rattle.std.specs.declared.string.String.{String}
-use Rattle.kahn.specs.declared.fault.Fault.{Fault}
-use Rattle.kahn.specs.declared.fault.Fault.TheVariants.{Open, Program, InputText, Work}
+use Rattle.kahn_fault.specs.declared.fault.Fault.{Fault}
+use Rattle.kahn_fault.specs.declared.fault.Fault.TheVariants.{Open, Program, InputText, Work}
 use Rattle.kahn.specs.declared.texts.Texts.{Texts}
 
 -- each text is within its limit, and the input text is empty where no path is given

@@ -1,20 +1,14 @@
 //! Runs a network of processes and channels, and writes the report.
 #![tactic(auto)]
 
-mod fault;
-mod line;
-mod message;
-#[cfg(test)]
-mod tests;
 mod texts;
 
-use fault::{Fault, status};
+use kahn_fault::{Fault, fault_line, status};
+use kahn_line::{LineFault, Options, read_line};
 use kahn_pool::answer::Verdict;
 use kahn_pool::config::{Config, RunFault};
 use kahn_pool::gate::Open;
 use kahn_report::work::{WorkFault, work};
-use line::{LineFault, Options, read_line};
-use message::fault_line;
 use std::io::{BufWriter, ErrorKind, Write};
 use std::process::ExitCode;
 use std::rt::Runtime;

@@ -3,7 +3,7 @@
 ghost use Rattle.std.specs.Prelude.{◌≡◌, ◌≤◌, IfOk, MatchResult, None, [], length, string_bytes};
 ghost use Rattle.kahn.specs.Texts.{AreWithin, IsOfProgram, IsOfInput, IsOfTexts};
 
-use crate::fault::Fault;
+use kahn_fault::Fault;
 use kahn_report::read::{ReadFault, read_text};
 use std::alloc::Global;
 use std::fs;

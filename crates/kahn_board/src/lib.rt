@@ -14,6 +14,3 @@ pub use closing::Closed;
 pub use rule::{Rule, Terms, Told};
 pub use view::View;
 pub use wiring::{reader_of, writer_of};
-
-#[cfg(test)]
-mod tests;

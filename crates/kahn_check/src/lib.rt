@@ -15,6 +15,4 @@ pub mod process;
 pub mod scope;
 pub mod sides;
 pub mod statement;
-#[cfg(test)]
-mod tests;
 pub mod wires;

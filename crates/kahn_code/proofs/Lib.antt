@@ -18,4 +18,3 @@ pub mod Routed
 pub mod Readers
 pub mod Opened
 pub mod Joined
-pub mod Grouped

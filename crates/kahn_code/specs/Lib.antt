@@ -8,4 +8,3 @@ pub mod Lines
 pub mod Progress
 pub mod Code
 pub mod Told
-pub mod Groups

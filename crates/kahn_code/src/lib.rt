@@ -15,5 +15,3 @@ pub mod progress;
 pub mod queue;
 pub mod routes;
 pub mod steps;
-#[cfg(test)]
-mod tests;

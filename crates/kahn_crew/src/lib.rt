@@ -15,8 +15,6 @@ mod rooms;
 mod routes;
 mod standing;
 mod task;
-#[cfg(test)]
-mod tests;
 mod turn;
 mod worker;
 

@@ -2,4 +2,3 @@ pub mod Drawn
 pub mod Left
 pub mod Passed
 pub mod Joined
-mod Silent

@@ -3,8 +3,6 @@
 
 mod crew;
 mod rest;
-#[cfg(test)]
-mod tests;
 mod turn;
 
 pub use crew::{join_all, split_all};

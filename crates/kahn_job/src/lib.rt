@@ -8,8 +8,6 @@ mod opening;
 mod port;
 mod ports;
 mod rows;
-#[cfg(test)]
-mod tests;
 
 pub use fault::JobFault;
 pub use job::Job;

@@ -21,6 +21,3 @@ pub use handover::relay;
 pub use lanes::{lane, meet};
 pub use segments::{Receiver, Sender};
 pub use settling::settle;
-
-#[cfg(test)]
-mod tests;

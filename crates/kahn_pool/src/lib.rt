@@ -14,7 +14,5 @@ mod rounds;
 pub mod run;
 mod settle;
 mod streams;
-#[cfg(test)]
-mod tests;
 mod workbench;
 mod workers;

@@ -7,10 +7,6 @@ mod heads;
 pub mod input;
 pub mod names;
 pub mod read;
-#[cfg(test)]
-mod rows;
-#[cfg(test)]
-mod tests;
 mod values;
 pub mod work;
 pub mod write;

@@ -135,6 +135,3 @@ pub fn lex(alloc: Global, text: &str) -> Result<Vec<Lexeme>, SyntaxFault>
 pub fn one_list()
     ensures { (text : List ℕ) (xs ys : List Lexeme) → Lexed text 0 (length text) xs → Lexed text 0 (length text) ys → xs ≡ ys }
 {}
-
-#[cfg(test)]
-mod tests;

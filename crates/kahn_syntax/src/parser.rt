@@ -40,6 +40,3 @@ pub fn parse(alloc: Global, text: &str) -> Result<Program, SyntaxFault>
         Err(fault) => Err(fault),
     }
 }
-
-#[cfg(test)]
-mod tests;

@@ -1,2 +1,0 @@
-pub mod Renamed
-pub mod Asked

@@ -1,0 +1,162 @@
+-- What the program says of a fault: one line.
+use Rattle.std.specs.Prelude.{ℕ, List, [], ◌∷◌, codes, decimal, length, min, string_bytes, Option}
+use Rattle.std.specs.Prelude.{Some, None}
+use Rattle.std.specs.List.{concat}
+use Rattle.std.specs.declared.alloc.Global.{Global}
+use Rattle.std.specs.declared.string.String.{String}
+use Rattle.kahn_syntax.specs.Place.{line_of, column_of}
+use Rattle.kahn_syntax.specs.declared.fault.SyntaxFault.{SyntaxFault}
+use Rattle.kahn_syntax.specs.declared.fault.SyntaxFault.TheVariants as syntax
+use Rattle.kahn_syntax.specs.declared.fault.What.{What}
+use Rattle.kahn_syntax.specs.declared.fault.What.TheVariants.{More, Nothing, Other}
+use Rattle.kahn_check.specs.declared.fault.CheckFault.{CheckFault}
+use Rattle.kahn_check.specs.declared.fault.CheckFault.TheVariants as checked
+use Rattle.kahn_streams.specs.declared.entries.InputFault.{InputFault}
+use Rattle.kahn_streams.specs.declared.entries.InputFault.TheVariants as input
+use Rattle.kahn_pool.specs.declared.config.RunFault.{RunFault}
+use Rattle.kahn_pool.specs.declared.config.RunFault.TheVariants as run
+use Rattle.kahn_report.specs.declared.input.TextFault.{TextFault}
+use Rattle.kahn_report.specs.declared.input.TextFault.TheVariants as text
+use Rattle.kahn_report.specs.declared.read.ReadFault.{ReadFault}
+use Rattle.kahn_report.specs.declared.read.ReadFault.TheVariants as read
+use Rattle.kahn_report.specs.declared.work.WorkFault.{WorkFault}
+use Rattle.kahn_report.specs.declared.work.WorkFault.TheVariants as work
+use Rattle.kahn_fault.specs.declared.fault.Fault.{Fault}
+use Rattle.kahn_fault.specs.declared.fault.Fault.TheVariants.{Open, Program, InputText, Work}
+
+-- a line of words alone
+abbrev pub words_line : List ℕ → List ℕ
+words_line words = concat (codes "kahn: " ∷ words ∷ codes "\n" ∷ [])
+
+-- a line of two parts: words and a path
+abbrev pub two_line : List ℕ → List ℕ → List ℕ
+two_line first second = concat (codes "kahn: " ∷ first ∷ second ∷ codes "\n" ∷ [])
+
+-- a line with a number between its words
+abbrev pub between_line : List ℕ → List ℕ → List ℕ → List ℕ
+between_line before between after = concat (codes "kahn: " ∷ before ∷ between ∷ after ∷ codes "\n" ∷ [])
+
+-- a line with the line and the column of a byte of the program text, each from 1
+abbrev pub place_line : List ℕ → ℕ → List ℕ → List ℕ
+place_line program from words = concat (codes "kahn: " ∷ decimal (line_of program from) ∷ codes ":" ∷ decimal (column_of program from) ∷ codes ": " ∷ words ∷ codes "\n" ∷ [])
+
+-- a line with the place of a byte, where there is one; beyond the text it is told as the text's end
+abbrev pub placed_line : List ℕ → Option ℕ → List ℕ → List ℕ
+placed_line program None words = words_line words
+placed_line program (Some from) words = place_line program (min from (length program)) words
+
+-- of memory that was refused
+abbrev pub memory_line : List ℕ
+memory_line = words_line (codes "no memory")
+
+-- why a lexeme can't stand where it stands
+abbrev pub what_words : What → List ℕ
+what_words Other = codes "this cannot stand here"
+what_words More = codes "text ends too early"
+what_words Nothing = codes "text goes on after the program"
+
+-- where a text is no program: the byte, where there is one
+abbrev pub syntax_place : SyntaxFault → Option ℕ
+syntax_place syntax.TooLong = None
+syntax_place (syntax.BadCharacter span) = Some span.from
+syntax_place (syntax.NumberTooLarge span) = Some span.from
+syntax_place (syntax.CommentOpen span) = Some span.from
+syntax_place (syntax.NameTooLong span) = Some span.from
+syntax_place (syntax.Expected span what) = Some span.from
+syntax_place (syntax.TooDeep span) = Some span.from
+syntax_place syntax.NoMemory = None
+
+-- why a text is no program
+abbrev pub syntax_words : SyntaxFault → List ℕ
+syntax_words syntax.TooLong = codes "program text is too long"
+syntax_words (syntax.BadCharacter span) = codes "character is not of the language"
+syntax_words (syntax.NumberTooLarge span) = codes "number is too large"
+syntax_words (syntax.CommentOpen span) = codes "comment has no end"
+syntax_words (syntax.NameTooLong span) = codes "name is too long"
+syntax_words (syntax.Expected span what) = what_words what
+syntax_words (syntax.TooDeep span) = codes "nesting is too deep"
+syntax_words syntax.NoMemory = codes "no memory"
+
+-- where a program is refused
+abbrev pub check_place : CheckFault → Option ℕ
+check_place (checked.DeclaredTwice span) = Some span.from
+check_place (checked.Unknown span) = Some span.from
+check_place (checked.WrongKind span) = Some span.from
+check_place (checked.WrongCount span) = Some span.from
+check_place (checked.ChannelExpected span) = Some span.from
+check_place (checked.ValueExpected span) = Some span.from
+check_place (checked.WrongDirection span) = Some span.from
+check_place (checked.NoWriter span) = Some span.from
+check_place (checked.TwoWriters span) = Some span.from
+check_place (checked.NoReader span) = Some span.from
+check_place (checked.TwoReaders span) = Some span.from
+check_place (checked.TooMany span) = Some span.from
+check_place checked.NoMemory = None
+
+-- why a program is refused
+abbrev pub check_words : CheckFault → List ℕ
+check_words (checked.DeclaredTwice span) = codes "name is declared twice"
+check_words (checked.Unknown span) = codes "name is not declared"
+check_words (checked.WrongKind span) = codes "kind does not agree"
+check_words (checked.WrongCount span) = codes "number of arguments does not agree"
+check_words (checked.ChannelExpected span) = codes "a channel is expected"
+check_words (checked.ValueExpected span) = codes "a value is expected"
+check_words (checked.WrongDirection span) = codes "direction does not agree"
+check_words (checked.NoWriter span) = codes "channel has no writer"
+check_words (checked.TwoWriters span) = codes "channel has two writers"
+check_words (checked.NoReader span) = codes "channel has no reader"
+check_words (checked.TwoReaders span) = codes "channel has two readers"
+check_words (checked.TooMany span) = codes "limit is exceeded"
+check_words checked.NoMemory = codes "no memory"
+
+-- of an entry of the input text, by its place from 1
+abbrev pub entry_line : InputFault → List ℕ
+entry_line (input.UnknownName n) = between_line (codes "input entry ") (decimal n) (codes ": no such channel")
+entry_line (input.NotAnInput n) = between_line (codes "input entry ") (decimal n) (codes ": not an input channel")
+entry_line (input.GivenTwice n) = between_line (codes "input entry ") (decimal n) (codes ": given twice")
+entry_line (input.WrongKind n) = between_line (codes "input entry ") (decimal n) (codes ": kind does not agree")
+entry_line (input.TooMany n) = between_line (codes "input entry ") (decimal n) (codes ": too many values")
+entry_line input.NoMemory = memory_line
+
+-- of an input text that is refused, by its line from 1
+abbrev pub text_line : TextFault → List ℕ
+text_line (text.BadLine n) = between_line (codes "input line ") (decimal n) (codes ": not a name and a colon")
+text_line (text.BadValue n) = between_line (codes "input line ") (decimal n) (codes ": not a value")
+text_line (text.Input fault) = entry_line fault
+text_line text.TooLong = words_line (codes "input text is too long")
+text_line text.NoMemory = memory_line
+
+-- of a run that has no answer
+abbrev pub run_line : RunFault → List ℕ
+run_line run.BadConfig = words_line (codes "configuration is out of range")
+run_line run.UnknownWatch = words_line (codes "watched channel is not declared")
+run_line run.NoMemory = memory_line
+run_line run.NoThread = words_line (codes "no thread")
+run_line run.Stalled = words_line (codes "workers stalled")
+
+-- of a run without a report
+abbrev pub work_line : List ℕ → WorkFault → List ℕ
+work_line program (work.Syntax fault) = placed_line program (syntax_place fault) (syntax_words fault)
+work_line program (work.Check fault) = placed_line program (check_place fault) (check_words fault)
+work_line program (work.Text fault) = text_line fault
+work_line program (work.Run fault) = run_line fault
+work_line program (work.Write fault) = words_line (codes "report could not be written")
+
+-- of a text that wasn't read, by its path and what is said where it is too long
+abbrev pub read_line : List ℕ → List ℕ → ReadFault → List ℕ
+read_line path long read.Failed = two_line (codes "cannot read ") path
+read_line path long read.TooLong = words_line long
+read_line path long read.NotUtf8 = two_line path (codes " is not UTF-8")
+read_line path long read.NoMemory = memory_line
+
+-- what a path is called
+abbrev pub path_words : Option (String Global) → List ℕ
+path_words (Some path) = string_bytes path
+path_words None = codes "standard input"
+
+-- the line of a fault over a program text
+abbrev pub fault_text : List ℕ → Fault → List ℕ
+fault_text program (Open path) = two_line (codes "cannot read ") (string_bytes path)
+fault_text program (Program path fault) = read_line (path_words path) (codes "program text is too long") fault
+fault_text program (InputText path fault) = read_line (string_bytes path) (codes "input text is too long") fault
+fault_text program (Work fault) = work_line program fault

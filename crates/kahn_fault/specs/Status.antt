@@ -1,0 +1,46 @@
+-- The status that the program ends with.
+use Rattle.std.specs.Prelude.{ℕ, Result}
+use Rattle.std.specs.declared.result.Result.TheVariants.{Ok, Err}
+use Rattle.kahn_syntax.specs.declared.fault.SyntaxFault.TheVariants as syntax
+use Rattle.kahn_check.specs.declared.fault.CheckFault.TheVariants as checked
+use Rattle.kahn_streams.specs.declared.entries.InputFault.TheVariants as input
+use Rattle.kahn_pool.specs.declared.answer.Verdict.{Verdict}
+use Rattle.kahn_pool.specs.declared.answer.Verdict.TheVariants.{Finished, Bound, Memory}
+use Rattle.kahn_pool.specs.declared.config.RunFault.TheVariants as run
+use Rattle.kahn_report.specs.declared.input.TextFault.TheVariants as text
+use Rattle.kahn_report.specs.declared.read.ReadFault.{ReadFault}
+use Rattle.kahn_report.specs.declared.read.ReadFault.TheVariants as read
+use Rattle.kahn_report.specs.declared.work.WorkFault.{WorkFault}
+use Rattle.kahn_report.specs.declared.work.WorkFault.TheVariants as work
+use Rattle.kahn_fault.specs.declared.fault.Fault.{Fault}
+use Rattle.kahn_fault.specs.declared.fault.Fault.TheVariants.{Open, Program, InputText, Work}
+
+-- of a text that wasn't read
+abbrev pub read_status : ReadFault → ℕ
+read_status read.Failed = 5
+read_status read.TooLong = 1
+read_status read.NotUtf8 = 5
+read_status read.NoMemory = 4
+
+-- of a run without a report
+abbrev pub work_status : WorkFault → ℕ
+work_status (work.Syntax syntax.NoMemory) = 4
+work_status (work.Syntax fault) = 1
+work_status (work.Check checked.NoMemory) = 4
+work_status (work.Check fault) = 1
+work_status (work.Text text.NoMemory) = 4
+work_status (work.Text (text.Input input.NoMemory)) = 4
+work_status (work.Text fault) = 1
+work_status (work.Run run.NoMemory) = 4
+work_status (work.Run fault) = 6
+work_status (work.Write fault) = 5
+
+-- of an answer
+abbrev pub status_of : Result Verdict Fault → ℕ
+status_of (Ok Finished) = 0
+status_of (Ok Bound) = 3
+status_of (Ok Memory) = 4
+status_of (Err (Open path)) = 5
+status_of (Err (Program path fault)) = read_status fault
+status_of (Err (InputText path fault)) = read_status fault
+status_of (Err (Work fault)) = work_status fault

@@ -1,0 +1,69 @@
+//! Why a run has no report, and what the program ends with.
+
+ghost use Rattle.std.specs.Prelude.{◌≡◌};
+ghost use Rattle.kahn_fault.specs.Status.{read_status, work_status, status_of};
+
+use kahn_check::fault::CheckFault;
+use kahn_pool::answer::Verdict;
+use kahn_pool::config::RunFault;
+use kahn_report::input::TextFault;
+use kahn_report::read::ReadFault;
+use kahn_report::work::WorkFault;
+use kahn_streams::entries::InputFault;
+use kahn_syntax::fault::SyntaxFault;
+
+/// Why a run has no report.
+#[derive(Debug, PartialEq, Eq, Drop)]
+pub enum Fault {
+    /// The file of that path couldn't be opened.
+    Open(String),
+    /// The program text couldn't be read from the file of that path, or from standard input.
+    Program(Option<String>, ReadFault),
+    /// The input text couldn't be read from the file of that path.
+    InputText(String, ReadFault),
+    /// The texts were read, and the run has no report.
+    Work(WorkFault),
+}
+
+/// The status of a text that wasn't read.
+fn read_status(fault: ReadFault) -> u8
+    ensures { result ≡ read_status fault }
+{
+    match fault {
+        ReadFault::TooLong => 1,
+        ReadFault::NoMemory => 4,
+        ReadFault::Failed | ReadFault::NotUtf8 => 5,
+    }
+}
+
+/// The status of a run without a report.
+fn work_status(fault: WorkFault) -> u8
+    ensures { result ≡ work_status fault }
+{
+    match fault {
+        WorkFault::Syntax(SyntaxFault::NoMemory)
+        | WorkFault::Check(CheckFault::NoMemory)
+        | WorkFault::Text(TextFault::NoMemory)
+        | WorkFault::Text(TextFault::Input(InputFault::NoMemory))
+        | WorkFault::Run(RunFault::NoMemory) => 4,
+        WorkFault::Syntax(_) | WorkFault::Check(_) | WorkFault::Text(_) => 1,
+        WorkFault::Run(_) => 6,
+        WorkFault::Write(_) => 5,
+    }
+}
+
+/// The status that the program ends with: 0 where the run finished, 1 where a text is refused, 3 where the bound
+/// stopped the run, 4 where want of memory did or where memory was refused, 5 where a file or standard input couldn't be
+/// read or wasn't UTF-8, or where the report couldn't be written, and 6 where the run is refused. It takes no memory.
+pub fn status(answer: &Result<Verdict, Fault>) -> u8
+    ensures { result ≡ status_of answer.now }
+{
+    match answer {
+        Ok(Verdict::Finished) => 0,
+        Ok(Verdict::Bound) => 3,
+        Ok(Verdict::Memory) => 4,
+        Err(Fault::Open(_)) => 5,
+        Err(Fault::Program(_, fault) | Fault::InputText(_, fault)) => read_status(*fault),
+        Err(Fault::Work(fault)) => work_status(*fault),
+    }
+}

@@ -1,0 +1,8 @@
+//! Why a run has no report: the line that tells it, and the status that the program ends with.
+#![tactic(auto)]
+
+mod fault;
+mod message;
+
+pub use fault::{Fault, status};
+pub use message::{fault_line, line_counted};

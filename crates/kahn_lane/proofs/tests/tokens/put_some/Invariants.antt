@@ -1,5 +1,0 @@
-use Rattle.kahn_lane.specs.LaneEnds.{SameSender}
-use Rattle.kahn_lane.proofs.tests.tokens.put_some.Given as goal
-
-abbrev pub invariant-loop-done : goal.invariant-loop-done
-invariant-loop-done g l = SameSender l.initial.sender l.sender

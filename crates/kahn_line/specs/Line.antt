@@ -1,0 +1,79 @@
+-- What the words of a command line ask for, in the words of the library that reads them.
+use Rattle.std.specs.Prelude.{◌≡◌, ◌≢◌, ◌⊎◌, ◌<◌, ◌^◌, ⊤, ℕ, List, [], ◌∷◌, Option, Some, None, Result, codes, option_map, string_bytes}
+use Rattle.std.specs.declared.result.Result.TheVariants.{Ok, Err}
+use Rattle.std.specs.Str.Parse.{IsNumeral, digits_value, without_leading_plus}
+use Rattle.clap.specs.Words.{App, Rule, Text, IsAmong, fault_of, first_of, first_value, kind_of, matches_of, new_app, new_rule, one_of, one_text, with_rule}
+use Rattle.clap.specs.declared.error.Error.{Error}
+use Rattle.clap.specs.declared.error.kind.ErrorKind.TheVariants.{OutOfMemory}
+use Rattle.clap.specs.declared.builder.value_parser.ValueParser.TheVariants.{Unsigned}
+use Rattle.clap.specs.declared.parser.matches.Found.{Found}
+use Rattle.kahn_pool.specs.Limits.{IsInRange}
+use Rattle.kahn_pool.specs.declared.config.Config.{Config}
+use Rattle.kahn_line.specs.declared.line.Options.{Options}
+use Rattle.kahn_line.specs.declared.line.LineFault.{LineFault}
+use Rattle.kahn_line.specs.declared.line.LineFault.TheVariants.{Refused, NoMemory}
+
+-- an option with a text, as `--input FILE`
+abbrev pub text_rule : Text → Rule
+text_rule name = record (new_rule name) { long = Some name; value_names = 1 }
+
+-- an option with a number from `least` to `most`, and what it is where the words don't say
+abbrev pub number_rule : Text → ℕ → ℕ → Text → Rule
+number_rule name least most given =
+    record (text_rule name) { parser = Some (Unsigned least most); defaults = given ∷ [] }
+
+-- the options, and the program text's path without a name
+abbrev pub kahn_app : App
+kahn_app =
+    with_rule (with_rule (with_rule (with_rule (with_rule (with_rule (new_app (codes "kahn"))
+    (new_rule (codes "PROGRAM")))
+    (text_rule (codes "input")))
+    (number_rule (codes "workers") 1 16 (codes "4")))
+    (number_rule (codes "quantum") 1 1000000 (codes "1000")))
+    (number_rule (codes "bound") 0 281474976710655 (codes "1000000")))
+    (text_rule (codes "watch"))
+
+-- the text that the words give for a name
+abbrev pub text_of : List Text → Text → Option Text
+text_of words name = first_of name (matches_of kahn_app words)
+
+-- a number as it is written, and `other` where nothing is
+abbrev pub number_or : ℕ → Option Text → ℕ
+number_or other None = other
+number_or other (Some text) = digits_value 10 (without_leading_plus text)
+
+-- the number that the words give for a name
+abbrev pub number_of : List Text → Text → ℕ → ℕ
+number_of words name other = number_or other (one_of name (matches_of kahn_app words))
+
+-- the options are those that the words name, and its numbers are within their limits
+pub record IsAsked (words : List Text) (o : Options) : Type 0 where
+  pub program : option_map string_bytes o.program ≡ text_of words (codes "PROGRAM")
+  pub input : option_map string_bytes o.input ≡ text_of words (codes "input")
+  pub watch : option_map string_bytes o.config.watch ≡ text_of words (codes "watch")
+  pub workers : o.config.workers ≡ number_of words (codes "workers") 4
+  pub quantum : o.config.quantum ≡ number_of words (codes "quantum") 1000
+  pub bound : o.config.bound ≡ number_of words (codes "bound") 1000000
+  pub in_range : IsInRange o.config.workers o.config.quantum o.config.bound
+
+-- the number that a text is read as, where it is one of 64 bits; `other` where there is no text
+abbrev pub ReadsOr : ℕ → Option Text → ℕ → Type 0
+ReadsOr other None n = n ≡ other
+ReadsOr other (Some text) n = IsNumeral 10 (without_leading_plus text) → digits_value 10 (without_leading_plus text) < 2 ^ 64 → n ≡ number_or other (Some text)
+
+-- a run is set up by what was found
+pub record IsSet (f : Found) (c : Config) : Type 0 where
+  pub workers : ReadsOr 4 (one_text f (codes "workers")) c.workers
+  pub quantum : ReadsOr 1000 (one_text f (codes "quantum")) c.quantum
+  pub bound : ReadsOr 1000000 (one_text f (codes "bound")) c.bound
+  pub watch : option_map string_bytes c.watch ≡ first_value f (codes "watch")
+
+-- an error of the library is told as want of memory, or as it is
+abbrev pub IsTold : Error → LineFault → Type 0
+IsTold e fault = ((kind_of e ≡ OutOfMemory) × (fault ≡ NoMemory)) ⊎ ((kind_of e ≢ OutOfMemory) × (fault ≡ Refused e))
+
+-- what the words ask for; or what is at fault in them, and `--help` is such a fault; or want of memory
+abbrev pub IsRead : List Text → Result Options LineFault → Type 0
+IsRead words (Ok o) = IsAsked words o × (fault_of kahn_app words ≡ [])
+IsRead words (Err (Refused e)) = IsAmong (kind_of e) (fault_of kahn_app words)
+IsRead words (Err NoMemory) = ⊤

@@ -1,0 +1,215 @@
+//! The command line.
+
+ghost use Rattle.std.specs.Prelude.{◌≡◌, IfOk, codes, false, map, option_map, string_bytes};
+ghost use Rattle.clap.specs.Words.{app_of, first_value, found_of, new_app, one_text, rule_of};
+ghost use Rattle.kahn_line.specs.Line.{kahn_app, number_rule, text_rule, IsRead, IsSet, IsTold, ReadsOr};
+ghost use Rattle.kahn_line.specs.declared.line.LineFault.TheVariants.{NoMemory};
+
+use clap::builder::ValueParser;
+use clap::error::ErrorKind;
+use clap::{Arg, ArgMatches, Command};
+use kahn_pool::config::Config;
+use std::alloc::{AllocError, Global};
+use std::convert::AsStr;
+use thiserror::Error;
+
+static ABOUT: &str =
+    "Runs a network of processes that send one another values over channels, and reports what was sent.";
+
+// What stands after the options in the help.
+static MORE: &str = "\
+A program that sends 0, 1 and 2 on its output channel W:
+
+  begin integer output channel W;
+    process count(integer out W; integer N);
+    begin integer I;
+      while I < N do begin send I on W; I := I + 1 end
+    end;
+    count(W, 3)
+  end
+
+Its report, with the values of W, how each process stands, and how the run ended:
+
+  W: 0 1 2
+  end 1 count: ended after 7
+  finished 7
+
+Events are counted: a wait that takes a value, a send, a print, and each turn of a loop. The workers and the quantum
+change no value of any channel.
+
+Exit status:
+  0  report written: the run finished
+  1  program or input refused
+  2  command line refused
+  3  report written: the run was stopped by the bound
+  4  no memory; a report whose last line says so may have been written
+  5  a file can't be read or isn't UTF-8, or the report can't be written
+  6  run refused: the watched channel isn't declared, or no thread could be started";
+
+/// What the command line asks for.
+#[derive(Debug, Drop)]
+pub struct Options {
+    /// The path of the program text, or nothing for standard input.
+    pub program: Option<String>,
+    /// The path of the input text, or nothing for the empty text.
+    pub input: Option<String>,
+    /// How the run is set up.
+    pub config: Config,
+}
+
+/// Why a command line asks for no run.
+#[derive(Debug, Drop, Error)]
+pub enum LineFault {
+    /// The words are refused, or ask for the help: the text for the user.
+    #[error("{0}")]
+    Refused(clap::Error),
+    /// Memory was refused.
+    #[error("no memory")]
+    NoMemory,
+}
+
+impl From<clap::Error> for LineFault {
+    ghost from_gives = { λ error fault. IsTold error fault };
+
+    fn from(error: clap::Error) -> LineFault {
+        match error.kind() {
+            ErrorKind::OutOfMemory => LineFault::NoMemory,
+            _ => LineFault::Refused(error),
+        }
+    }
+}
+
+impl From<AllocError> for LineFault {
+    ghost from_gives = { λ _ fault. fault ≡ NoMemory };
+
+    fn from(_error: AllocError) -> LineFault {
+        LineFault::NoMemory
+    }
+}
+
+/// An option with a text.
+fn text_arg<'a>(alloc: Global, name: &'a str, value: &'a str, help: &'a str) -> Arg<'a>
+    ensures rule { rule_of result ≡ text_rule name.entry.now }
+    ensures local { result.global ≡ false }
+{
+    Arg::new(alloc, name)
+        .long(name)
+        .value_name(value)
+        .help(help)
+}
+
+/// An option with a number from `least` to `most`, and what it is where the words don't say.
+fn number_arg<'a>(
+    alloc: Global,
+    name: &'a str,
+    least: u64,
+    most: u64,
+    given: &'a str,
+    help: &'a str,
+) -> Arg<'a>
+    ensures rule { rule_of result ≡ number_rule name.entry.now least most given.entry.now }
+    ensures local { result.global ≡ false }
+{
+    text_arg(alloc, name, "N", help)
+        .value_parser(ValueParser::unsigned(least, most))
+        .default_value(given)
+}
+
+/// The program's name and the texts round its options in the help.
+fn bare<'a>(alloc: Global) -> Result<Command<'a>, AllocError>
+    ensures { IfOk result (λ c. app_of c ≡ new_app (codes "kahn")) }
+{
+    Ok(
+        Command::new(alloc, "kahn")
+            .bin_name("kahn")?
+            .about(ABOUT)
+            .after_help(MORE),
+    )
+}
+
+/// The rules of the command line.
+fn command<'a>(alloc: Global) -> Result<Command<'a>, AllocError>
+    ensures { IfOk result (λ c. app_of c ≡ kahn_app) }
+{
+    let program = Arg::new(alloc, "PROGRAM").help(
+        "File of the program text; standard input where it is left out",
+    );
+    let input = text_arg(
+        alloc,
+        "input",
+        "FILE",
+        "File of the input text, lines such as `A: 1 2 3`: an input channel and its values",
+    );
+    let workers = number_arg(alloc, "workers", 1, 16, "4", "Number of threads, 1 to 16");
+    let quantum = number_arg(
+        alloc,
+        "quantum",
+        1,
+        1_000_000,
+        "1000",
+        "Events that a process does at a time, 1 to 1000000",
+    );
+    let bound = number_arg(
+        alloc,
+        "bound",
+        0,
+        281_474_976_710_655,
+        "1000000",
+        "Events after which the run is stopped, 0 to 281474976710655",
+    );
+    let watch = text_arg(
+        alloc,
+        "watch",
+        "NAME",
+        "A channel that is reported too, besides the output channels",
+    );
+    bare(alloc)?
+        .arg(program)?
+        .arg(input)?
+        .arg(workers)?
+        .arg(quantum)?
+        .arg(bound)?
+        .arg(watch)
+}
+
+/// A copy of a text, where there is one.
+fn copied(alloc: Global, text: Option<&str>) -> Result<Option<String>, AllocError>
+    ensures { IfOk result (λ copy. option_map string_bytes copy ≡ option_map (λ t. t.now) text.entry) }
+{
+    match text {
+        Some(text) => Ok(Some(String::from_str(alloc, text)?)),
+        None => Ok(None),
+    }
+}
+
+/// The number that was found for a name, or another one where none was.
+fn number_or(matches: &ArgMatches<'_>, name: &str, other: u64) -> u64
+    ensures { ReadsOr other (one_text (found_of matches.now) name.now) result }
+{
+    matches.get_one::<u64>(name).unwrap_or(other)
+}
+
+/// How the run is set up.
+fn config_of(alloc: Global, matches: &ArgMatches<'_>) -> Result<Config, AllocError>
+    ensures { IfOk result (IsSet (found_of matches.now)) }
+{
+    Ok(Config {
+        workers: number_or(matches, "workers", 4),
+        quantum: number_or(matches, "quantum", 1000),
+        bound: number_or(matches, "bound", 1_000_000),
+        watch: copied(alloc, matches.get_str("watch"))?,
+    })
+}
+
+/// Reads the words of a command line, the first of which is the name of the program. It refuses with `Refused` where
+/// clap refuses the words, and where they ask for the help, and with `NoMemory` where memory was refused.
+pub fn read_line<'a, S: AsStr>(alloc: Global, words: &'a [S]) -> Result<Options, LineFault>
+    ensures { IsRead (map S.text words.now) result }
+{
+    let matches = command(alloc)?.try_get_matches_from(words)?;
+    Ok(Options {
+        program: copied(alloc, matches.get_str("PROGRAM"))?,
+        input: copied(alloc, matches.get_str("input"))?,
+        config: config_of(alloc, &matches)?,
+    })
+}

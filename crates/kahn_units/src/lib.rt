@@ -1,0 +1,19 @@
+//! Tests of the layers that a run is built of, each by what it shows to those above it.
+#![tactic(auto)]
+
+#[cfg(test)]
+mod board;
+#[cfg(test)]
+mod check;
+#[cfg(test)]
+mod code;
+#[cfg(test)]
+mod desk;
+#[cfg(test)]
+mod job;
+#[cfg(test)]
+mod lane;
+#[cfg(test)]
+mod streams;
+#[cfg(test)]
+mod syntax;

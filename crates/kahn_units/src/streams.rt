@@ -1,0 +1,4 @@
+//! Values, their operators, and the inputs of networks.
+
+mod arithmetic;
+mod inputs;

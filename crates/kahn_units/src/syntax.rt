@@ -1,0 +1,5 @@
+//! Texts as lexemes and as programs.
+
+mod lexing;
+mod parsing;
+mod places;
