@@ -8,7 +8,7 @@ use Rattle.kahn_syntax.specs.declared.tree.Role.TheVariants.{Input}
 use Rattle.kahn_check.specs.Network.{Actual, Reads, Writes, Hands, network_of, instance_at, actual_at, role_at}
 use Rattle.kahn_streams.specs.Tokens.{inputs_of}
 use Rattle.kahn_code.specs.Queues.{Waiting}
-use Rattle.kahn_code.specs.Lines.{Lines, AreQueued, Joins, actual_of, route, next_at, place_at, taken_of, given_of, waiting_of, spare_of}
+use Rattle.kahn_code.specs.Lines.{Lines, AreQueued, Joins, actual_of, route, route_of, next_at, place_at, taken_of, given_of, waiting_of, spare_of}
 use Rattle.kahn_code.specs.Seats.{IsRead, IsWritten, Stays, Moved, Leaves}
 
 same_or : (d c : ℕ) → (d ≡ c) ⊎ (d ≡ c → ⊥)
@@ -121,11 +121,16 @@ queued_set s routes c w w' h l at same sums size = record {
           ap (λ (x : Waiting). x.input) (sym f) ∙ same.1 ∙ o.2,
         )
 
+pub joined_route : (a : Actual) (c : ℕ) → Joins a c → route_of a ≡ Some c
+joined_route (Reads d) c j = ap Some j
+joined_route (Writes d) c j = ap Some j
+joined_route (Hands v) c j = absurd j
+
 -- what the table has for a parameter of the instance whose ports they are
 pub routed_at : (s : Lines) (routes table : List (List (Option ℕ))) (i q c : ℕ) (o : Option ℕ) → AreQueued s routes → i ≡ s.instance →
     table ≡ routes → o ≡ route table i q → Joins (actual_of s q) c → o ≡ Some c
 routed_at s routes table i q c o h at same found j =
-    found ∙ ap (λ t. route t i q) same ∙ ap (λ k. route routes k q) at ∙ h.routed s.instance q c j
+    found ∙ ap (λ t. route t i q) same ∙ ap (λ k. route routes k q) at ∙ h.routed s.instance q ∙ joined_route (actual_of s q) c j
 
 pub none_some : (c : ℕ) → None ≡ Some c → ⊥
 none_some c e = cc

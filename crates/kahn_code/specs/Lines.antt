@@ -46,6 +46,12 @@ Joins (Reads d) c = d ≡ c
 Joins (Writes d) c = d ≡ c
 Joins (Hands v) c = ⊥
 
+-- the channel of an actual, where it is one
+abbrev pub route_of : Actual → Option ℕ
+route_of (Reads c) = Some c
+route_of (Writes c) = Some c
+route_of (Hands v) = None
+
 -- the channel that a table has for a parameter
 abbrev pub route : List (List (Option ℕ)) → ℕ → ℕ → Option ℕ
 route routes p q = slice_index_or (slice_index_or routes p []) q None
@@ -53,7 +59,7 @@ route routes p q = slice_index_or (slice_index_or routes p []) q None
 -- the table has each parameter's channel, each queue is its channel's, no two parameters have one channel in one
 -- direction, nobody writes an input channel, and what was put on an input channel is its list
 pub record AreQueued (s : Lines) (routes : List (List (Option ℕ))) : Type 0 where
-  pub routed : (p q c : ℕ) → Joins (actual_at (instance_at (network_of s.network) p) q) c → route routes p q ≡ Some c
+  pub routed : (p q : ℕ) → route routes p q ≡ route_of (actual_at (instance_at (network_of s.network) p) q)
   pub inside : (p q c : ℕ) → Joins (actual_at (instance_at (network_of s.network) p) q) c → c < length s.queues
   pub named : (c : ℕ) (w : Waiting) → slice_get s.queues c ≡ Some w → (w.channel ≡ c) × (w.network ≡ s.network) × (w.input ≡ s.input)
   pub readers : (p q r c : ℕ) → actual_at (instance_at (network_of s.network) p) q ≡ Reads c →
@@ -77,11 +83,6 @@ pub record AreCounted (s : Lines) : Type 0 where
   pub inside : (p q c : ℕ) → Joins (actual_at (instance_at (network_of s.network) p) q) c → c < length s.queues
   pub given : (c : ℕ) (w : Waiting) → slice_get s.queues c ≡ Some w → role_at (network_of s.network) c ≡ Input →
       w.taken + w.waiting ≡ length (inputs_of s.input c)
-
-abbrev pub route_of : Actual → Option ℕ
-route_of (Reads c) = Some c
-route_of (Writes c) = Some c
-route_of (Hands v) = None
 
 -- a row for each instance, with the channel of each parameter
 pub record AreRoutes (N : Network) (routes : List (List (Option ℕ))) : Type 0 where

@@ -4,7 +4,7 @@ ghost use Rattle.std.specs.Prelude.{◌≡◌, ℕ, ◌<◌, length, map, slice_
 ghost use Rattle.kahn_check.specs.Network.{network_of, instance_at, actual_at};
 ghost use Rattle.kahn_check.specs.Wiring.{IsWellWired};
 ghost use Rattle.kahn_streams.specs.Tokens.{Names};
-ghost use Rattle.kahn_code.specs.Lines.{Lines, AreCounted, AreFirst, AreRoutes, Joins, actual_of, waiting_of, spare_of, next_at, route};
+ghost use Rattle.kahn_code.specs.Lines.{Lines, AreCounted, AreFirst, AreRoutes, Joins, actual_of, waiting_of, spare_of, next_at, route, route_of};
 
 use crate::code::CodeFault;
 use crate::opening::first_queues;
@@ -107,7 +107,7 @@ impl<A: Allocator> Plain<A> {
 
     /// The channel of a parameter of an instance. None where it has none.
     pub fn channel(&self, instance: usize, parameter: usize) -> Option<usize>
-        ensures { (c : ℕ) → Joins (actual_at (instance_at (network_of self.now.network) instance) parameter) c → result ≡ Some c }
+        ensures { result ≡ route_of (actual_at (instance_at (network_of self.now.network) instance) parameter) }
     {
         route_at(&self.routes, instance, parameter)
     }

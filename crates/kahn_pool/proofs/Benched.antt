@@ -10,7 +10,7 @@ use Rattle.kahn_streams.specs.declared.value.Line.TheVariants.{Channel}
 use Rattle.kahn_streams.specs.Solution.{Inputs, source}
 use Rattle.kahn_streams.specs.Tokens.{inputs_of}
 use Rattle.kahn_code.specs.Cells.{View, exec_on, is_output}
-use Rattle.kahn_code.specs.Lines.{Lines as Queues, AreCounted, Joins, actual_of, place_at, next_at, taken_of, given_of, waiting_of}
+use Rattle.kahn_code.specs.Lines.{Lines as Queues, AreCounted, Joins, route_of, actual_of, place_at, next_at, taken_of, given_of, waiting_of}
 use Rattle.kahn_code.specs.Queues.{Waiting}
 use Rattle.kahn_code.specs.Seats.{Seat, Leaves}
 use Rattle.kahn_code.specs.Standing.{count}
@@ -271,10 +271,10 @@ still_after b p c c' q at e s =
     set_same (map told_view b.cells) p (told_view c) (get_map told_view b.cells p c at))
 
 -- the channel that was found for a parameter
-pub channel_is : (b : Table) → IsLaid b → (p q d : ℕ) (o : Option ℕ) → ((c : ℕ) → Joins (actual_at (instance_at (network_of b.queues.network) p) q) c → o ≡ Some c) →
+pub channel_is : (b : Table) → IsLaid b → (p q d : ℕ) (o : Option ℕ) → o ≡ route_of (actual_at (instance_at (network_of b.queues.network) p) q) →
     actual_at (instance_at (network_of b.network) p) q ≡ Reads d → o ≡ Some d
 channel_is b laid p q d o h e =
-    h d (subst (λ t. Joins (actual_at (instance_at (network_of t) p) q) d) (sym laid.network) (subst (λ a. Joins a d) (sym e) refl))
+    h ∙ subst (λ t. route_of (actual_at (instance_at (network_of t) p) q) ≡ Some d) (sym laid.network) (ap route_of e)
 
 pub not_none : {d : ℕ} → None ≡ Some d → ⊥
 not_none e = cc
