@@ -43,6 +43,14 @@ impl<T: Told> Board<T> {
         };
         reader
     }
+
+    /// Whether the instance looks ready. It is a hint, of which no clause says more: when it is answered another worker may
+    /// have claimed the instance, or set it down. An idle worker looks before it claims, since a claim writes a word.
+    pub fn looks_ready(&self, p: usize) -> bool
+        requires { p < self.now.instances }
+    {
+        self.table.shared.peek(8 * p) == 0
+    }
 }
 
 /// The token of one worker.

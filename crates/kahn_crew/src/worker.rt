@@ -67,7 +67,7 @@ fn pick_any<'n>(floor: &Floor<'_, 'n>, seat: &mut Seat<Task<'n>>, start: usize) 
     let count = floor.board.instances;
     for step in 0..count {
         let p = (start % count + step) % count;
-        if pick(seat, floor.board, p) {
+        if floor.board.looks_ready(p) && pick(seat, floor.board, p) {
             return Some(p);
         }
     }
