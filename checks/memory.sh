@@ -1,7 +1,8 @@
 #!/usr/bin/env bash
 # Runs the built program with its first growth of memory refused, then with its second, and so on, until 25 runs in a row
-# are as if nothing had been refused. Each other run has to tell want of memory, or to give a report that memory stopped: each
-# of its streams begins the whole one, and the events of its ends add up. It wants a C compiler and isn't part of the gate.
+# are as if nothing had been refused. Each other run has to tell want of memory, or of a thread, which takes memory too, or to
+# give a report that memory stopped: each of its streams begins the whole one, and the events of its ends add up. It wants a C
+# compiler and isn't part of the gate.
 set -u
 top=$(cd "$(dirname "${BASH_SOURCE[0]}")/.." && pwd)
 kahn="$top/crates/kahn/out/kahn"
@@ -34,7 +35,7 @@ P
 failed=0
 # refuse WORD..: refuses each growth of a run in turn.
 refuse() {
-  local number=0 alike=0 wanting=0 stopped=0 status
+  local number=0 alike=0 wanting=0 threads=0 stopped=0 status
   "$kahn" "$@" > "$work/whole" 2>&1 || exit 2
   while [ $alike -lt 25 ]; do
     number=$((number + 1))
@@ -47,6 +48,8 @@ refuse() {
     alike=0
     if [ $status = 4 ] && [ "$(cat "$work/part")" = "kahn: no memory" ]; then
       wanting=$((wanting + 1))
+    elif [ $status = 6 ] && [ "$(cat "$work/part")" = "kahn: no thread" ]; then
+      threads=$((threads + 1))
     elif [ $status = 4 ] && python3 "$work/compare.py" "$work/whole" "$work/part"; then
       stopped=$((stopped + 1))
     else
@@ -54,7 +57,7 @@ refuse() {
       echo "FAILED with growth $number refused, status $status: $(head -c 300 "$work/part")"
     fi
   done
-  echo "$*: $wanting want memory, $stopped are stopped by memory"
+  echo "$*: $wanting want memory, $threads want a thread, $stopped are stopped by memory"
 }
 
 refuse "$top/examples/sample-four-turns.kahn"

@@ -10,10 +10,11 @@ ghost use Rattle.kahn_crew.specs.Floors.{IsFloor};
 ghost use Rattle.kahn_crew.specs.Left.{HaveLeft};
 
 use crate::closing::{discard, leave};
+use crate::fault::CrewFault;
 use crate::floor::Floor;
 use crate::gate::Gate;
 use crate::hints::Hints;
-use crate::labor::{Hand, labor_all};
+use crate::labor::{Hand, Labored, labor_all};
 use crate::left::Left;
 use crate::opening::open_board;
 use crate::plan::Plan;
@@ -24,9 +25,8 @@ use crate::worker::Worker;
 use kahn_board::{Board, Seat};
 use kahn_check::network::Network;
 use kahn_code::code::Code;
-use kahn_desk::{join_all, split_all};
+use kahn_desk::{join_all, split_all, stop};
 use kahn_streams::input::Input;
-use kahn_streams::memory::NoMemory;
 use std::alloc::Global;
 use std::sync::Wait;
 use std::thread::Threads;
@@ -96,31 +96,36 @@ impl<'b, 'c, 'n, R: Wait + Sync, G: Gate + Sync> Hand<Shift<'b, 'c, 'n, R, G>> f
 
     ghost did = { λ s old new. HasGone s.floor.now.board.now.table.shared.table_id new × (new.seat.seat.me.0.parts ≡ old.seat.seat.me.0.parts) };
 
-    fn labor(&mut self, shared: &Shift<'b, 'c, 'n, R, G>) {
+    fn halt(mut self, shared: &Shift<'b, 'c, 'n, R, G>) -> Worker<'n> {
+        stop(&mut self.seat, shared.floor.board);
+        self
+    }
+
+    fn labor(mut self, shared: &Shift<'b, 'c, 'n, R, G>) -> Worker<'n> {
         self.work(shared.rt, shared.floor, shared.gate);
+        self
     }
 }
 
-// All work at the same time, each until it has left. Where no thread can be made for a worker, its work is done by
-// another thread.
+// All work at the same time, each until it has left. Where a thread can't be started for a worker, the run is halted.
 fn work_all<'n, R: Threads + Wait + Sync, G: Gate + Sync>(
     rt: &R,
     floor: &Floor<'_, 'n>,
     gate: &G,
-    workers: &mut [Worker<'n>],
-)
+    workers: Vec<Worker<'n>>,
+) -> Labored<Worker<'n>>
     requires floor { IsFloor floor.now.board.now.table.shared.key floor.now.routes.now floor.now.code.now.network.value }
     requires quantum { 0 < floor.now.quantum }
-    requires some { 0 < length workers.old }
-    requires each { All (IsSeated floor.now.board.now.table.shared.table_id) workers.old }
-    ensures count { length workers.new ≡ length workers.old }
-    ensures each { All (HasGone floor.now.board.now.table.shared.table_id) workers.new }
-    ensures sums { crew_parts workers.new ≡ crew_parts workers.old }
+    requires each { All (IsSeated floor.now.board.now.table.shared.table_id) workers.items }
+    ensures count { length result.hands.items ≡ length workers.entry.items }
+    ensures each { All (HasGone floor.now.board.now.table.shared.table_id) result.hands.items }
+    ensures sums { crew_parts result.hands.items ≡ crew_parts workers.entry.items }
 {
-    labor_all(rt, &Shift { rt, floor, gate }, workers);
+    labor_all(rt, &Shift { rt, floor, gate }, workers)
 }
 
-// The board's one seat, once a crew has worked and left. `NoMemory` comes with the one seat, before anybody worked.
+// The board's one seat, once a crew has worked and left. It comes with a fault too: `NoMemory` before anybody worked,
+// `NoThread` once those have left that were started.
 fn employ<'n, R: Threads + Wait + Sync, G: Gate + Sync>(
     rt: &R,
     alloc: Global,
@@ -128,7 +133,7 @@ fn employ<'n, R: Threads + Wait + Sync, G: Gate + Sync>(
     gate: &G,
     seat: Seat<Task<'n>>,
     rooms: Rooms<'n>,
-) -> Result<Seat<Task<'n>>, (NoMemory, Seat<Task<'n>>)>
+) -> Result<Seat<Task<'n>>, (CrewFault, Seat<Task<'n>>)>
     requires floor { IsFloor floor.now.board.now.table.shared.key floor.now.routes.now floor.now.code.now.network.value }
     requires quantum { 0 < floor.now.quantum }
     requires seat { IsWhole floor.now.board.now.table.shared.table_id seat }
@@ -144,18 +149,25 @@ fn employ<'n, R: Threads + Wait + Sync, G: Gate + Sync>(
     } = rooms;
     match split_all(alloc, floor.board, seat, hints.len()) {
         Ok(seats) => {
-            let mut workers = man(floor.board, seats, hints, workers);
-            work_all(rt, floor, gate, workers.as_mut_slice());
-            let seats = dismiss(floor.board, workers, room);
-            Ok(join_all(floor.board, seats))
+            let workers = man(floor.board, seats, hints, workers);
+            let Labored { hands, refused } = work_all(rt, floor, gate, workers);
+            let seat = join_all(floor.board, dismiss(floor.board, hands, room));
+            if refused {
+                Err((CrewFault::NoThread, seat))
+            } else {
+                Ok(seat)
+            }
         }
-        Err(refused) => Err(refused),
+        Err((fault, seat)) => Err((CrewFault::from(fault), seat)),
     }
 }
 
 /// Runs a network on its input by several workers, from the openings of all instances until every worker has left: the
 /// run was halted since memory was refused to a worker, or the bound is used up, or every instance has ended or waits
-/// on a channel of which it took all. It refuses only where memory was refused before the first event.
+/// on a channel of which it took all. One worker has the caller's thread, each other one a thread of its own.
+///
+/// It refuses with `NoMemory` only where memory was refused before the first event, and with `NoThread` where a thread
+/// couldn't be started. Those that were started are halted then, and it returns once they have left.
 pub fn run_crew<'n, R: Threads + Wait + Sync, G: Gate + Sync>(
     rt: &R,
     alloc: Global,
@@ -164,7 +176,7 @@ pub fn run_crew<'n, R: Threads + Wait + Sync, G: Gate + Sync>(
     code: &Code,
     plan: Plan,
     gate: &G,
-) -> Result<Left<'n>, NoMemory>
+) -> Result<Left<'n>, CrewFault>
     requires code { code.now.network.value ≡ network.now }
     requires few { (1 ≤ plan.workers) × (plan.workers ≤ 16) }
     requires quantum { 0 < plan.quantum }

@@ -1,9 +1,12 @@
 //! Several that work at the same time.
 
-ghost use Rattle.std.specs.Prelude.{◌≡◌, ℕ, ◌<◌, length, slice_index_or};
+ghost use Rattle.std.specs.Prelude.{◌≡◌, ℕ, ◌<◌, length, All, slice_index_or};
+ghost use Rattle.std.specs.Vec.{vec_capacity};
 
+use std::snapshot::Snapshot;
+use std::sync::Wait;
 use std::thread;
-use std::thread::Threads;
+use std::thread::{Promise, Scope, Threads};
 
 /// One of several that work at the same time, with what they share.
 pub(crate) trait Hand<C> {
@@ -13,26 +16,123 @@ pub(crate) trait Hand<C> {
     /// What is true of one before and after its work.
     ghost did: { C → Self → Self → Type 0 };
 
+    /// Tells all to leave their work.
+    fn halt(self, shared: &C) -> Self
+        requires { Self.may shared.now self }
+        ensures may { Self.may shared.now result }
+        ensures did { (w : Self) → Self.did shared.now result w → Self.did shared.now self w };
+
     /// Its whole work.
-    fn labor(&mut self, shared: &C)
-        requires { Self.may shared.now self.old }
-        ensures { Self.did shared.now self.old self.new };
+    fn labor(self, shared: &C) -> Self
+        requires { Self.may shared.now self }
+        ensures { Self.did shared.now self result };
 }
 
-/// All work, each in a thread of its own where one can be made. Where none can, another thread does the work. It takes
-/// no memory of an allocator.
-pub(crate) fn labor_all<R: Threads + Sync, C: Sync, T: Hand<C> + Send>(
+// What a thread promises: one that has done its work.
+#[derive(Drop)]
+struct Labor<'c, C, T> {
+    shared: &'c C,
+    hand: Snapshot<T>,
+}
+
+impl<'c, C, T: Hand<C>> Promise<T> for Labor<'c, C, T> {
+    ghost kept_by = { λ p r. T.did p.shared.now p.hand.value r };
+}
+
+/// All after their work, and whether a thread couldn't be started.
+#[derive(Drop)]
+pub(crate) struct Labored<T> {
+    pub(crate) hands: Vec<T>,
+    pub(crate) refused: bool,
+}
+
+// All leave: each tells so before its work, which is done in this thread.
+fn leave_all<C, T: Hand<C>>(shared: &C, mut hands: Vec<T>) -> Vec<T>
+    requires { All (T.may shared.now) hands.items }
+    ensures room { vec_capacity result ≡ vec_capacity hands }
+    ensures count { length result.items ≡ length hands.items }
+    ensures each { (i : ℕ) (d : T) → i < length hands.items → T.did shared.now (slice_index_or hands.items i d) (slice_index_or result.items i d) }
+{
+    let Some(hand) = hands.pop() else {
+        return hands;
+    };
+    let mut left = leave_all(shared, hands);
+    left.push_reserved(hand.halt(shared).labor(shared));
+    left
+}
+
+// All work, the first in this thread and each other in one of its own. Where one can't be started, this thread tells all
+// to leave.
+fn labor_from<'s, E, R: Threads, C: Sync + 's, T: Hand<C> + Send + Drop + 's>(
+    rt: &R,
+    scope: &'s Scope<'s, E>,
+    shared: &'s C,
+    mut hands: Vec<T>,
+) -> Labored<T>
+    requires { All (T.may shared.now) hands.items }
+    ensures room { vec_capacity result.hands ≡ vec_capacity hands }
+    ensures count { length result.hands.items ≡ length hands.items }
+    ensures each { (i : ℕ) (d : T) → i < length hands.items → T.did shared.now (slice_index_or hands.items i d) (slice_index_or result.hands.items i d) }
+{
+    let Some(hand) = hands.pop() else {
+        return Labored {
+            hands,
+            refused: false,
+        };
+    };
+    if hands.is_empty() {
+        hands.push_reserved(hand.labor(shared));
+        return Labored {
+            hands,
+            refused: false,
+        };
+    }
+    let promise = Labor {
+        shared,
+        hand: Snapshot::of(&hand),
+    };
+    let labor = move || -> T
+        requires { T.may shared.now hand }
+        ensures { T.did shared.entry.now hand result }
+    { hand.labor(shared) };
+    match scope.spawn_with(promise, labor) {
+        Ok(thread) => {
+            let mut labored = labor_from(rt, scope, shared, hands);
+            labored.hands.push_reserved(thread.join(rt));
+            labored
+        }
+        Err(refused) => {
+            let mut hands = leave_all(shared, hands);
+            hands.push_reserved((refused.value)());
+            Labored {
+                hands,
+                refused: true,
+            }
+        }
+    }
+}
+
+/// All work at the same time, one of them in this thread and each other in a thread of its own. Where a thread can't be
+/// started, all are told to leave, and what is left of the work is done in this thread. It takes no memory of an
+/// allocator.
+pub(crate) fn labor_all<R: Threads + Wait + Sync, C: Sync, T: Hand<C> + Send + Drop>(
     rt: &R,
     shared: &C,
-    hands: &mut [T],
-)
-    requires { (i : ℕ) (d : T) → i < length hands.old → T.may shared.now (slice_index_or hands.old i d) }
-    ensures count { length hands.new ≡ length hands.old }
-    ensures each { (i : ℕ) (d : T) → i < length hands.old → T.did shared.now (slice_index_or hands.old i d) (slice_index_or hands.new i d) }
+    hands: Vec<T>,
+) -> Labored<T>
+    requires { All (T.may shared.now) hands.items }
+    ensures room { vec_capacity result.hands ≡ vec_capacity hands }
+    ensures count { length result.hands.items ≡ length hands.items }
+    ensures each { (i : ℕ) (d : T) → i < length hands.items → T.did shared.now (slice_index_or hands.items i d) (slice_index_or result.hands.items i d) }
 {
-    if hands.is_empty() {
-        return;
-    }
-    let count = hands.len();
-    thread::for_each_mut(rt, hands, count, &|_, hand| hand.labor(shared));
+    thread::scope(
+        thread::scope_env(),
+        rt,
+        move |scope| -> Labored<T>
+            requires { All (T.may shared.now) hands.items }
+            ensures room { vec_capacity result.hands ≡ vec_capacity hands }
+            ensures count { length result.hands.items ≡ length hands.items }
+            ensures each { (i : ℕ) (d : T) → i < length hands.items → T.did shared.entry.now (slice_index_or hands.items i d) (slice_index_or result.hands.items i d) }
+        { labor_from(rt, scope, shared, hands) },
+    )
 }

@@ -3,6 +3,7 @@
 
 mod closing;
 mod crew;
+mod fault;
 mod floor;
 mod gate;
 mod hints;
@@ -19,6 +20,7 @@ mod turn;
 mod worker;
 
 pub use crew::run_crew;
+pub use fault::CrewFault;
 pub use gate::{Gate, Open};
 pub use left::Left;
 pub use plan::Plan;

@@ -33,10 +33,10 @@ abbrev pub IsRun : Program → Lists → Config → Answer → Type 0
 IsRun t lists config a =
     IsAllowed config × ((watch : Option ℕ) × IsWatched t config.watch watch × IsRight (network_of t) (inputs_of lists) config.bound watch a)
 
--- why there is none: first the numbers, then the watched channel, then want of memory; no run is refused for want of a thread, and none stalls
+-- why there is none: first the numbers, then the watched channel, then want of memory or of a thread; none stalls
 abbrev pub IsUnrun : Program → Config → RunFault → Type 0
 IsUnrun t config fault.BadConfig = IsAllowed config → ⊥
 IsUnrun t config fault.UnknownWatch = IsAllowed config × IsUndeclared t config.watch
 IsUnrun t config fault.NoMemory = IsAllowed config × ((watch : Option ℕ) × IsWatched t config.watch watch)
-IsUnrun t config fault.NoThread = ⊥
+IsUnrun t config fault.NoThread = IsAllowed config × ((watch : Option ℕ) × IsWatched t config.watch watch)
 IsUnrun t config fault.Stalled = ⊥

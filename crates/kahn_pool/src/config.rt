@@ -4,6 +4,7 @@ ghost use Rattle.std.specs.Prelude.{◌↔◌, IsTrue};
 ghost use Rattle.kahn_pool.specs.Limits.{IsInRange};
 
 use kahn_code::code::CodeFault;
+use kahn_crew::CrewFault;
 use kahn_streams::memory::NoMemory;
 use thiserror::Error;
 
@@ -54,7 +55,7 @@ pub enum RunFault {
     /// Memory was refused before the first event.
     #[error("no memory")]
     NoMemory,
-    /// A thread couldn't be started.
+    /// A thread couldn't be started. Those that were are halted and gathered.
     #[error("no thread")]
     NoThread,
     /// The workers left and the run neither finished nor reached its bound nor wanted memory.
@@ -81,5 +82,19 @@ impl From<NoMemory> for RunFault {
 
     fn from(_error: NoMemory) -> RunFault {
         RunFault::NoMemory
+    }
+}
+
+impl From<CrewFault> for RunFault {
+    ghost use Rattle.std.specs.Prelude.{◌≡◌};
+    ghost use Rattle.kahn_pool.specs.Limits.{of_crew};
+
+    ghost from_gives = { λ f e. e ≡ of_crew f };
+
+    fn from(fault: CrewFault) -> RunFault {
+        match fault {
+            CrewFault::NoMemory => RunFault::NoMemory,
+            CrewFault::NoThread => RunFault::NoThread,
+        }
     }
 }

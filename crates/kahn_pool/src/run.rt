@@ -39,9 +39,10 @@ fn watched(network: &Network, name: &Option<String>) -> Result<Option<usize>, Ru
 /// events were done may depend on them, and never what stands at a place of a stream.
 ///
 /// It refuses with `BadConfig` where a number of the configuration is out of its limit, then with `UnknownWatch` where
-/// no channel has the name that is to be watched, and with `NoMemory` where memory was refused before the first event.
-/// Memory that is refused later stops the run: its answer has the verdict `Memory`. Each worker has a thread of its own
-/// where one can be made; where not, another thread does its work. Before each quantum of an instance the gate is entered.
+/// no channel has the name that is to be watched, with `NoMemory` where memory was refused before the first event, and
+/// with `NoThread` where a thread couldn't be started. Memory that is refused later stops the run: its answer has the
+/// verdict `Memory`. One worker has the caller's thread and each other one a thread of its own. Before each quantum of an
+/// instance the gate is entered.
 pub fn run<R: Threads + Wait + Sync, G: Gate + Sync>(
     rt: &R,
     alloc: Global,
@@ -65,5 +66,5 @@ pub fn run<R: Threads + Wait + Sync, G: Gate + Sync>(
         quantum: config.quantum,
         bound: config.bound,
     };
-    Ok(run_workers(rt, alloc, network, &input, plan, gate)?)
+    run_workers(rt, alloc, network, &input, plan, gate)
 }

@@ -1,15 +1,17 @@
 //! A run by several workers.
 
 ghost use Rattle.kahn_check.specs.Network.{network_of};
+ghost use Rattle.kahn_pool.specs.Limits.{IsWant};
 ghost use Rattle.kahn_pool.specs.Right.{IsRight};
 ghost use Rattle.kahn_streams.specs.Tokens.{inputs_of};
-ghost use Rattle.std.specs.Prelude.{◌≡◌, ◌<◌, ◌≤◌, ◌^◌, IfOk};
+ghost use Rattle.std.specs.Prelude.{◌≡◌, ◌<◌, ◌≤◌, ◌^◌, MatchResult};
 
 use crate::answer::Answer;
+use crate::config::RunFault;
 use crate::gate::Gate;
 use crate::gather::{Room, answer_of};
 use kahn_check::network::Network;
-use kahn_code::code::{CodeFault, compile};
+use kahn_code::code::compile;
 use kahn_code::steps::Steps;
 use kahn_crew::{Plan, run_crew};
 use kahn_streams::input::Input;
@@ -28,14 +30,14 @@ fn run_counted<R: Threads + Wait + Sync, G: Gate + Sync, L: Ledger>(
     input: &Input,
     plan: Plan,
     gate: &G,
-) -> Result<Answer, CodeFault>
+) -> Result<Answer, RunFault>
     requires name { blank.name ≡ L.name }
     requires parts { blank.parts ≡ L.parts }
     requires some { 0 < blank.parts }
     requires few { (1 ≤ plan.workers) × (plan.workers ≤ 16) }
     requires quantum { 0 < plan.quantum }
     requires bound { plan.bound < 2 ^ 48 }
-    ensures { IfOk result (IsRight (network_of network.now) (inputs_of input.now) plan.bound plan.watch) }
+    ensures { MatchResult result (IsRight (network_of network.now) (inputs_of input.now) plan.bound plan.watch) IsWant }
 {
     let mut steps = Steps::<L>::open(blank);
     let code = compile(alloc, network)?;
@@ -46,8 +48,8 @@ fn run_counted<R: Threads + Wait + Sync, G: Gate + Sync, L: Ledger>(
     ))
 }
 
-/// Runs a network by several workers, each in a thread of its own where one can be made, and answers right. It refuses
-/// only where memory was refused before the first event.
+/// Runs a network by several workers, one in the caller's thread and each other in one of its own, and answers right. It
+/// refuses only where memory was refused before the first event, or where a thread couldn't be started.
 pub fn run_workers<R: Threads + Wait + Sync, G: Gate + Sync>(
     rt: &R,
     alloc: Global,
@@ -55,11 +57,11 @@ pub fn run_workers<R: Threads + Wait + Sync, G: Gate + Sync>(
     input: &Input,
     plan: Plan,
     gate: &G,
-) -> Result<Answer, CodeFault>
+) -> Result<Answer, RunFault>
     requires few { (1 ≤ plan.workers) × (plan.workers ≤ 16) }
     requires quantum { 0 < plan.quantum }
     requires bound { plan.bound < 2 ^ 48 }
-    ensures { IfOk result (IsRight (network_of network.now) (inputs_of input.now) plan.bound plan.watch) }
+    ensures { MatchResult result (IsRight (network_of network.now) (inputs_of input.now) plan.bound plan.watch) IsWant }
 {
     run_counted::<R, G, Brand>(rt, alloc, Blank::new(1), network, input, plan, gate)
 }

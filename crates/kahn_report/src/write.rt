@@ -246,10 +246,7 @@ fn put_ends<W: Write, L: Ledger>(
 fn flush<W: Write>(writer: &mut W) -> Result<(), WriteFault>
     ensures { Keeps (W.contents writer.old) (W.contents writer.new) }
 {
-    match writer.flush() {
-        Ok(()) => Ok(()),
-        Err(_) => Err(WriteFault::Failed),
-    }
+    writer.flush().map_err(|_| WriteFault::Failed)
 }
 
 /// Writes the report text and flushes, and counts its writes.

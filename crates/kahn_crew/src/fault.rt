@@ -1,0 +1,38 @@
+//! Why the workers of a run leave nothing.
+
+use kahn_streams::memory::NoMemory;
+use std::alloc::AllocError;
+use thiserror::Error;
+
+/// Why a network isn't run.
+#[derive(Clone, Copy, Debug, PartialEq, Eq, Drop, Error)]
+pub enum CrewFault {
+    /// Memory was refused before the first event.
+    #[error("no memory")]
+    NoMemory,
+    /// A thread couldn't be started.
+    #[error("no thread")]
+    NoThread,
+}
+
+impl From<NoMemory> for CrewFault {
+    ghost use Rattle.std.specs.Prelude.{◌≡◌};
+    ghost use Rattle.kahn_crew.specs.declared.fault.CrewFault.TheVariants.{NoMemory as Wants};
+
+    ghost from_gives = { λ _ e. e ≡ Wants };
+
+    fn from(_fault: NoMemory) -> CrewFault {
+        CrewFault::NoMemory
+    }
+}
+
+impl From<AllocError> for CrewFault {
+    ghost use Rattle.std.specs.Prelude.{◌≡◌};
+    ghost use Rattle.kahn_crew.specs.declared.fault.CrewFault.TheVariants.{NoMemory as Wants};
+
+    ghost from_gives = { λ _ e. e ≡ Wants };
+
+    fn from(_error: AllocError) -> CrewFault {
+        CrewFault::NoMemory
+    }
+}
