@@ -18,3 +18,4 @@ pub mod Routed
 pub mod Readers
 pub mod Opened
 pub mod Joined
+pub mod Grown

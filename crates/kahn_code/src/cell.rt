@@ -4,6 +4,7 @@ ghost use Rattle.std.specs.Prelude.{◌≡◌, ℕ, ◌+◌, ◌*◌, ◌^◌, �
 ghost use Rattle.kahn_check.specs.Network.{network_of, instance_at};
 ghost use Rattle.kahn_streams.specs.Tokens.{Lists, inputs_of};
 ghost use Rattle.kahn_code.specs.Flat.{stmt_code};
+ghost use Rattle.kahn_streams.specs.Laws.{AreInputsExtended};
 ghost use Rattle.kahn_streams.specs.Solution.{opening};
 ghost use Rattle.kahn_streams.specs.Tokens.{Names};
 ghost use Rattle.kahn_code.specs.Progress.{Paused, IsPause, core_of, opening_core};
@@ -153,6 +154,19 @@ impl<A: Allocator + Copy + Drop> Cell<A> {
         self.progress.kept_at(parameter)
     }
 
+    /// The same cell for an input whose lists begin with those of its own. It takes no memory.
+    pub fn grown(self, input: &Input) -> Cell<A>
+        requires { AreInputsExtended (inputs_of self.input) (inputs_of input.now) }
+        ensures { result ≡ record self { input = input.now } }
+    {
+        let about = named(input);
+        Cell {
+            progress: self.progress,
+            network: self.network,
+            input: about,
+        }
+    }
+
     /// What it kept, without the cell. It takes no memory.
     pub fn into_lists(self) -> Kept<A>
         ensures kept { map (λ v. v.items) result.kept.items ≡ self.kept }
@@ -199,4 +213,12 @@ fn assembled<A: Allocator + Copy + Drop>(progress: Progress<A>, _code: &Code<A>)
         network: About::named(),
         input: About::named(),
     }
+}
+
+// An input of that name.
+fn named(_input: &Input) -> About<Input>
+    ghost name: { Lists }
+    ensures { result.value ≡ name }
+{
+    About::named()
 }
