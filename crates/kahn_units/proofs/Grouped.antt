@@ -1,9 +1,10 @@
 -- Cells that stand where their queues stand, in the tests.
-use Rattle.std.proofs.Common.{arith, ◌≡◌, ◌⊎◌, inl, inr, ℕ, zero, suc, ◌+◌, ◌^◌, ◌<◌, ◌≤◌, List, [], ◌∷◌, ◌++◌, length, replicate, refl, sym, ap, ◌∙◌, subst, Option, Some, None, slice_get, slice_set, slice_index_or, true, false, le_of_suc-le-suc, length-set}
+use Rattle.std.proofs.Common.{arith, ◌≡◌, ◌⊎◌, inl, inr, ℕ, zero, suc, ◌+◌, ◌^◌, ◌<◌, ◌≤◌, List, [], ◌∷◌, ◌++◌, length, replicate, refl, sym, ap, ◌∙◌, subst, Option, Some, None, slice_get, slice_set, slice_index_or, true, false, le_of_suc-le-suc, length-set, pos}
+use Rattle.kahn_syntax.specs.Syntax as S
 use Rattle.kahn_syntax.specs.declared.tree.Program.{Program}
 use Rattle.kahn_syntax.specs.declared.tree.Role.{Role}
 use Rattle.kahn_syntax.specs.declared.tree.Role.TheVariants.{Inner, Input, Output}
-use Rattle.kahn_check.specs.Network.{Reads, Writes, network_of, instance_at, actual_at, role_at}
+use Rattle.kahn_check.specs.Network.{Actual, Reads, Writes, Hands, network_of, instance_at, actual_at, role_at}
 use Rattle.kahn_check.specs.Wiring.{IsWellWired}
 use Rattle.kahn_check.proofs.Sourced.{writes}
 use Rattle.kahn_streams.specs.declared.value.Value.{Value}
@@ -197,10 +198,10 @@ module _ (b : Table) (laid : IsSeatedTable b) (p : ℕ) (c : Told) (at : slice_g
     left_alone : Leaves (record { network = b.queues.network; input = b.queues.input; instance = p }) (place_at b.queues) (place_at q')
     left_alone = subst (λ (x : Queues). Leaves (ports_of x) (place_at x) (place_at q')) is leaves
 
-    network_same : q'.network ≡ b.queues.network
+    pub network_same : q'.network ≡ b.queues.network
     network_same = ap (λ (s : Seat). s.network) seat ∙ same.0 ∙ seated.network
 
-    input_same : q'.input ≡ b.queues.input
+    pub input_same : q'.input ≡ b.queues.input
     input_same = ap (λ (s : Seat). s.input) seat ∙ same.1 ∙ seated.input
 
     instance_same : q'.instance ≡ p
@@ -243,3 +244,114 @@ few_events cells p quantum many n c d l first second is few most bound =
     let same : Some c ≡ Some d = sym (found cells p c c l first) ∙ found cells p d d l second in
     let e : c.events ≡ d.events = ap (λ x. x.events) (some_one same) in
     omega (arith, e, is, few, most, bound)
+
+-- ---- one cell, whose one parameter reads a channel, for another input
+
+only_reads : (xs : List Actual) (r d : ℕ) → length xs ≡ 1 → slice_index_or xs r (Hands (S.Number (pos 0))) ≡ Reads d → r ≡ 0
+only_reads [] r d n e = absurd (omega (arith, n))
+only_reads (x ∷ []) zero d n e = refl
+only_reads (x ∷ []) (suc r) d n e = absurd cc
+only_reads (x ∷ y ∷ xs) r d n e = absurd (omega (arith, n))
+
+only_writes : (xs : List Actual) (r d : ℕ) → length xs ≡ 1 → slice_index_or xs r (Hands (S.Number (pos 0))) ≡ Writes d → r ≡ 0
+only_writes [] r d n e = absurd (omega (arith, n))
+only_writes (x ∷ []) zero d n e = refl
+only_writes (x ∷ []) (suc r) d n e = absurd cc
+only_writes (x ∷ y ∷ xs) r d n e = absurd (omega (arith, n))
+
+no_cells : (cells : List Told) (c : Told) → length (cells ++ c ∷ []) ≡ 1 → cells ≡ []
+no_cells [] c n = refl
+no_cells (x ∷ []) c n = absurd (omega (arith, n))
+no_cells (x ∷ y ∷ xs) c n = absurd (omega (arith, n))
+
+module _ (b : Table) (laid : IsSeatedTable b) (c : Told) (lists : Lists) (channel : ℕ) (q : Queues) (at : slice_get b.cells 0 ≡ Some c) (one : length b.cells ≡ 1)
+    (seat : ports_of q ≡ record { network = b.queues.network; input = lists; instance = 0 })
+    (alone : length (instance_at (network_of c.network) c.instance).actuals ≡ 1)
+    (reads : actual_at (instance_at (network_of b.queues.network) 0) 0 ≡ Reads channel)
+    (stands : next_at q.queues (actual_of q 0) ≡ count c.taken 0) where
+  before : IsSeated b.queues 0 c
+  before = laid.each 0 c at
+
+  network_is : q.network ≡ b.queues.network
+  network_is = ap (λ (s : Seat). s.network) seat
+
+  own : (r : ℕ) → actual_at (instance_at (network_of q.network) 0) r ≡ actual_at (instance_at (network_of c.network) c.instance) r
+  own r =
+      ap (λ k. actual_at (instance_at (network_of k) 0) r) (network_is ∙ sym before.network) ∙
+      ap (λ k. actual_at (instance_at (network_of c.network) k) r) (sym before.instance)
+
+  there : (r : ℕ) → r ≡ 0 → next_at q.queues (actual_at (instance_at (network_of q.network) 0) r) ≡ count c.taken r
+  there r z =
+      subst (λ k. next_at q.queues (actual_at (instance_at (network_of q.network) 0) k) ≡ count c.taken k) (sym z)
+      (subst (λ i. next_at q.queues (actual_at (instance_at (network_of q.network) i) 0) ≡ count c.taken 0) (ap (λ (s : Seat). s.instance) seat) stands)
+
+  not_both : (d : ℕ) → actual_at (instance_at (network_of c.network) c.instance) 0 ≡ Writes d → ⊥
+  not_both d e =
+      let h : Reads channel ≡ Writes d = sym reads ∙ ap (λ k. actual_at (instance_at (network_of k) 0) 0) (sym network_is) ∙ own 0 ∙ e in
+      absurd cc
+
+  abbrev moved : Told
+  moved = record c { input = lists }
+
+  seated_moved : IsSeated q 0 moved
+  seated_moved = record {
+    network = before.network ∙ sym network_is;
+    input = sym (ap (λ (s : Seat). s.input) seat);
+    instance = before.instance;
+    at = record {
+      reads = λ r d e. there r (only_reads _ r d alone e);
+      writes = λ r d e inner. absurd (not_both d (subst (λ k. actual_at (instance_at (network_of c.network) c.instance) k ≡ Writes d) (only_writes _ r d alone e) e));
+    };
+  }
+
+  one_each : (p : ℕ) (d : Told) → slice_get (moved ∷ []) p ≡ Some d → IsSeated q p d
+  one_each zero d e = subst (IsSeated q 0) (some_one e) seated_moved
+  one_each (suc p) d e = absurd cc
+
+  pub seated_alone : (cells all : List Told) (c' : Told) → b.cells ≡ cells ++ c ∷ [] → c' ≡ moved → all ≡ cells ++ c' ∷ [] →
+      IsSeatedTable (record { code = b.code; cells = all; queues = q })
+  seated_alone cells all c' old is new =
+      let none : cells ≡ [] = no_cells cells c (ap length (sym old) ∙ one) in
+      let e : all ≡ moved ∷ [] = new ∙ ap (λ l. l ++ c' ∷ []) none ∙ ap (λ x. x ∷ []) is in
+      subst (λ l. IsSeatedTable (record { code = b.code; cells = l; queues = q })) (sym e)
+      (record {
+        code = laid.code ∙ sym network_is;
+        count = sym one ∙ laid.count ∙ ap (λ k. length (network_of k).instances) (sym network_is);
+        each = one_each;
+      })
+
+pub at_first_place : (all cells : List Told) (c : Told) → all ≡ cells ++ c ∷ [] → length all ≡ 1 → slice_get all 0 ≡ Some c
+at_first_place all cells c e n = ap (λ l. slice_get l 0) (e ∙ ap (λ l. l ++ c ∷ []) (no_cells cells c (ap length (sym e) ∙ n)))
+
+-- the reader of a channel is the first parameter of the first instance
+pub reads_first : (t u : Program) (channel i p : ℕ) → u ≡ t → actual_at (instance_at (network_of t) i) p ≡ Reads channel → i ≡ 0 → p ≡ 0 →
+    actual_at (instance_at (network_of u) 0) 0 ≡ Reads channel
+reads_first t u channel i p same e first only =
+    subst (λ k. actual_at (instance_at (network_of k) 0) 0 ≡ Reads channel) (sym same)
+    (subst (λ k. actual_at (instance_at (network_of t) 0) k ≡ Reads channel) only
+    (subst (λ k. actual_at (instance_at (network_of t) k) p ≡ Reads channel) first e))
+
+-- queues that were made the ports of the first instance
+abbrev at_zero : Queues → Queues
+at_zero q = record q { instance = 0 }
+
+pub reads_there : (t : Program) (channel : ℕ) (old q : Queues) → q ≡ at_zero old → old.network ≡ t → actual_at (instance_at (network_of t) 0) 0 ≡ Reads channel →
+    actual_of q 0 ≡ Reads channel
+reads_there t channel old q is names r =
+    subst (λ (x : Queues). actual_of x 0 ≡ Reads channel) (sym is) (subst (λ k. actual_at (instance_at (network_of k) 0) 0 ≡ Reads channel) (sym names) r)
+
+pub first_there : (t : Program) (lists : Lists) (channel : ℕ) (old q : Queues) → AreFirst t lists old.queues → q ≡ at_zero old → actual_of q 0 ≡ Reads channel →
+    next_at q.queues (actual_of q 0) ≡ 0
+first_there t lists channel old q first is r =
+    ap (next_at q.queues) r ∙ ap (λ (x : Queues). taken_of (slice_get x.queues channel)) is ∙ taken_zero t lists old.queues first channel _ refl
+
+pub seat_there : (t : Program) (lists : Lists) (old at q : Queues) → at ≡ at_zero old → old.network ≡ t → old.input ≡ lists → ports_of q ≡ ports_of at →
+    ports_of q ≡ record { network = t; input = lists; instance = 0 }
+seat_there t lists old at q is network input same =
+    same ∙ ap ports_of is ∙
+    ap (λ k. let s : Seat = record { network = k; input = old.input; instance = 0 } in s) network ∙
+    ap (λ k. let s : Seat = record { network = t; input = k; instance = 0 } in s) input
+
+-- as many tokens were taken
+pub took_same : (lists : Lists) (old new : Told) → new ≡ record old { input = lists } → count new.taken 0 ≡ count old.taken 0
+took_same lists old new is = ap (λ (c : Told). count c.taken 0) is

@@ -1,6 +1,7 @@
 //! Cells over the plain queues of their networks, and what an independent reading of the language says of them.
 
 mod group;
+mod grown;
 mod memory;
 mod programs;
 

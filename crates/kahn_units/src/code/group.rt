@@ -1,14 +1,17 @@
 //! All cells of a network over its plain queues, and what is seen of them.
 
-ghost use Rattle.std.specs.Prelude.{◌≡◌, ◌<◌, length, IfOk};
+ghost use Rattle.std.specs.Prelude.{◌≡◌, ◌<◌, ◌^◌, length, IfOk, IsTrue};
 ghost use Rattle.kahn_check.specs.Network.{network_of};
-ghost use Rattle.kahn_streams.specs.Tokens.{Lists};
+ghost use Rattle.kahn_streams.specs.Laws.{AreInputsExtended};
+ghost use Rattle.kahn_streams.specs.Tokens.{Lists, inputs_of};
+ghost use Rattle.kahn_code.specs.Seats.{DoesRead};
 ghost use Rattle.kahn_units.specs.Groups.{AreOpening};
 
 use kahn_check::network::Network;
 use kahn_code::cell::Cell;
 use kahn_code::code::{Code, CodeFault, compile};
 use kahn_code::plain::Plain;
+use kahn_code::ports::Ports;
 use kahn_code::progress::Pause;
 use kahn_code::steps::Steps;
 use kahn_streams::input::Input;
@@ -87,7 +90,9 @@ impl<A: Allocator + Copy + Drop, L: Ledger> Group<A, L> {
         input: &Input,
         watch: Option<usize>,
         steps: Steps<L>,
-    ) -> Result<Group<A, L>, CodeFault> {
+    ) -> Result<Group<A, L>, CodeFault>
+        ensures { IfOk result (λ g. (g.queues.network ≡ network.now) × (g.queues.input ≡ input.now)) }
+    {
         let code = compile(alloc, network)?;
         let cells = opening_cells(alloc, network, &code, input, watch)?;
         let queues = Plain::new(alloc, network, input)?;
@@ -101,7 +106,9 @@ impl<A: Allocator + Copy + Drop, L: Ledger> Group<A, L> {
     }
 
     /// Runs a cell for at most so many events. None where there is no such cell, or the numbers are too great.
-    pub fn run(&mut self, instance: usize, quantum: u64) -> Option<Pause> {
+    pub fn run(&mut self, instance: usize, quantum: u64) -> Option<Pause>
+        ensures { (self.new.queues.network ≡ self.old.queues.network) × (self.new.queues.input ≡ self.old.queues.input) }
+    {
         if instance >= self.cells.len() {
             return None;
         }
@@ -110,6 +117,52 @@ impl<A: Allocator + Copy + Drop, L: Ledger> Group<A, L> {
         }
         self.queues.at(instance);
         Some(self.cells[instance].run(&self.code, quantum, &mut self.queues, &mut self.steps))
+    }
+
+    /// The only cell, whose only parameter reads this channel, for an input that has grown, over queues that stand where it
+    /// stands. None where it isn't so.
+    pub fn grown(
+        self,
+        alloc: A,
+        network: &Network,
+        input: &Input,
+        channel: usize,
+    ) -> Result<Option<Group<A, L>>, CodeFault>
+        requires channel { channel < length (network_of network.now).channels }
+        requires network { self.queues.network ≡ network.now }
+        requires input { AreInputsExtended (inputs_of self.queues.input) (inputs_of input.now) }
+    {
+        let Group {
+            code,
+            mut cells,
+            queues: _,
+            steps,
+        } = self;
+        let Some(reader) = network.reader(channel) else {
+            return Ok(None);
+        };
+        if cells.len() != 1 || reader.instance != 0 || reader.parameter != 0 {
+            return Ok(None);
+        }
+        let Some(cell) = cells.pop() else {
+            return Ok(None);
+        };
+        if cell.parameters() != 1 || cell.taken(0) > MANY {
+            return Ok(None);
+        }
+        let cell = cell.grown(input);
+        let mut queues = Plain::new(alloc, network, input)?;
+        queues.at(0);
+        if !skipped(&mut queues, 0, cell.taken(0)) {
+            return Ok(None);
+        }
+        cells.push(cell)?;
+        Ok(Some(Group {
+            code,
+            cells,
+            queues,
+            steps,
+        }))
     }
 
     /// What is seen of a cell after a pause: its events, how many tokens it took and sent by parameter, what it keeps of
@@ -153,6 +206,24 @@ impl<A: Allocator + Copy + Drop, L: Ledger> Group<A, L> {
         }
         Ok(())
     }
+}
+
+// Takes so many tokens of a parameter. Whether all were there.
+fn skipped<P: Ports>(ports: &mut P, parameter: usize, count: u64) -> bool
+    requires reads { DoesRead (P.seat ports.old) parameter }
+    requires first { P.next ports.old parameter ≡ 0 }
+    requires bound { count < 2 ^ 48 }
+    ensures seat { P.seat ports.new ≡ P.seat ports.old }
+    ensures next { IsTrue result → P.next ports.new parameter ≡ count }
+{
+    let mut taken = 0;
+    while taken < count {
+        if ports.take(parameter).is_none() {
+            return false;
+        }
+        taken += 1;
+    }
+    true
 }
 
 // The values of tokens. One that isn't the token of its place of the line is told so.

@@ -1,6 +1,6 @@
-use Rattle.std.proofs.Common.{arith, ◌<◌, length}
+use Rattle.std.proofs.Common.{arith, ◌≡◌, ◌<◌, length, subst}
 use Rattle.kahn_units.specs.Groups.{Table}
-use Rattle.kahn_units.proofs.Grouped.{found, few_events, code_is, here_is, ports_are, at_is, seated_after}
+use Rattle.kahn_units.proofs.Grouped.{found, few_events, code_is, here_is, ports_are, at_is, network_same, input_same, seated_after}
 use Rattle.kahn_units.proofs.code.group.Group.run.Goals as goal
 
 pub run-requires-clause-code : goal.run-requires-clause-code
@@ -63,3 +63,17 @@ invariant_of-self g c =
     let here : c.args.instance < length b.cells = omega (arith, n, l) in
     seated_after b c.self.invariant c.args.instance cell (found b.cells c.args.instance cell cell here c.index_mut.ensures.value) c.run.new.self c.at.new.self c.run.new.ports
     c.at.ensures c.run.ensures.names c.run.ensures.ports c.run.ensures.at c.run.ensures.others
+
+pub returns : goal.returns
+returns g c =
+    let i = c.self.inside in
+    let b : Table = record { code = i.code.network.value; cells = i.cells.items; queues = i.queues } in
+    let cell = c.index_mut.result.now in
+    let n = c.len.ensures in
+    let l = c.if-instance-len.false in
+    let here : c.args.instance < length b.cells = omega (arith, n, l) in
+    let at = found b.cells c.args.instance cell cell here c.index_mut.ensures.value in
+    subst (λ (x : Table). (c.run.new.ports.network ≡ x.queues.network) × (c.run.new.ports.input ≡ x.queues.input)) c.self.view_is (
+      network_same b c.self.invariant c.args.instance cell at c.run.new.self c.at.new.self c.run.new.ports c.at.ensures c.run.ensures.names c.run.ensures.ports c.run.ensures.at c.run.ensures.others,
+      input_same b c.self.invariant c.args.instance cell at c.run.new.self c.at.new.self c.run.new.ports c.at.ensures c.run.ensures.names c.run.ensures.ports c.run.ensures.at c.run.ensures.others,
+    )
