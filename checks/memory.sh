@@ -3,13 +3,7 @@
 # are as if nothing had been refused. Each other run has to tell want of memory, or of a thread, which takes memory too, or to
 # give a report that memory stopped: each of its streams begins the whole one, and the events of its ends add up. It wants a C
 # compiler and isn't part of the gate.
-set -u
-top=$(cd "$(dirname "${BASH_SOURCE[0]}")/.." && pwd)
-kahn="$top/crates/kahn/out/kahn"
-"$top/kahn" < "$top/examples/count.kahn" > /dev/null || exit 2
-work=$(mktemp -d)
-trap 'rm -rf "$work"' EXIT
-"${CC:-cc}" -shared -fPIC -O1 -o "$work/refuse.so" "$top/checks/refuse_growth.c" || exit 2
+source "$(dirname "${BASH_SOURCE[0]}")/refusing.sh" refuse_growth.c
 
 cat > "$work/copies.kahn" <<'P'
 begin integer channel X0, X1, X2; integer output channel W;

@@ -2,14 +2,9 @@
 # Runs the built program with its first thread refused, then with its second, and so on. Each run whose thread was refused
 # has to say so, with its status and without a report, and each other run has to give the whole report. It wants a C compiler
 # and isn't part of the gate.
-set -u
-top=$(cd "$(dirname "${BASH_SOURCE[0]}")/.." && pwd)
-kahn="$top/crates/kahn/out/kahn"
-"$top/kahn" < "$top/examples/count.kahn" > /dev/null || exit 2
-work=$(mktemp -d)
-trap 'rm -rf "$work"' EXIT
-"${CC:-cc}" -shared -fPIC -O1 -o "$work/refuse.so" "$top/checks/refuse_thread.c" -ldl || exit 2
+source "$(dirname "${BASH_SOURCE[0]}")/refusing.sh" refuse_thread.c
 
+refused=0
 failed=0
 # refuse PROGRAM WORKERS: one worker has the caller's thread, so that many threads less one are started.
 refuse() {
@@ -21,6 +16,7 @@ refuse() {
     wanted=0
     [ "$number" -lt "$2" ] && wanted=6
     if [ $wanted = 6 ] && [ $status = 6 ] && [ ! -s "$work/report" ] && [ "$(cat "$work/fault")" = "kahn: no thread" ]; then
+      refused=$((refused + 1))
       continue
     elif [ $wanted = 0 ] && [ $status = 0 ] && cmp -s "$work/whole" "$work/report"; then
       continue
@@ -37,5 +33,5 @@ for program in "$top"/examples/*.kahn; do
     refuse "$program" $workers
   done
 done
-echo "$failed failed"
-[ $failed = 0 ]
+echo "$refused runs told no thread, $failed failed"
+[ $failed = 0 ] && [ $refused -gt 0 ]
