@@ -1,6 +1,6 @@
 -- What a closed board says of a run.
-use Rattle.std.proofs.Common.{arith, ◌≡◌, ◌⊎◌, inl, inr, ⊎_elim, ℕ, zero, suc, ◌+◌, ◌<◌, ◌==◌, Bool, true, false, List, [], ◌∷◌, length, map, sum_by, refl, sym, ap, ◌∙◌, subst, eqb-true, Option, Some, None, slice_get, slice_index_or, pos, if◌then◌else◌}
-use mathlib.Core.Option.{some, some-injective, some-ne-none}
+use Rattle.std.proofs.Common.{arith, ◌≡◌, ◌⊎◌, inl, inr, ⊎_elim, ℕ, zero, suc, ◌+◌, ◌<◌, Bool, true, false, List, [], ◌∷◌, length, map, sum_by, refl, sym, ap, ◌∙◌, subst, eqb-true, Option, Some, None, slice_get, slice_index_or, pos}
+use mathlib.Core.Option.{some, some-injective}
 use lib.ListN.{get_elem?}
 use Rattle.std.proofs.lemmas.List.{length-map}
 use Rattle.std.proofs.lemmas.List.Sums.{sum_by-cons}
@@ -11,7 +11,6 @@ use Rattle.kahn_syntax.specs.declared.tree.Role.TheVariants as role
 use Rattle.kahn_syntax.specs.Syntax.{Number}
 use Rattle.kahn_check.specs.Network.{Network, Instance, Actual, Reads, Writes, Hands, Given, channel_source, network_of, instance_at, actual_at, role_at, is_written, idle}
 use Rattle.kahn_check.specs.Wiring.{IsWellWired}
-use Rattle.kahn_check.specs.Sources.{IsFed}
 use Rattle.kahn_check.proofs.Sourced
 use Rattle.kahn_streams.specs.Tokens.{Lists, inputs_of}
 use Rattle.kahn_code.specs.Cells.{is_output}
@@ -21,21 +20,20 @@ use Rattle.kahn_board.specs.Closing as closed
 use Rattle.kahn_board.specs.Closing.{Closes}
 use Rattle.kahn_board.specs.Counts.{below}
 use Rattle.kahn_board.specs.Dealt.{belongs, dealt, wired, events_of}
-use Rattle.kahn_board.specs.Rule.{Deal}
 use Rattle.kahn_board.specs.Wires.{wires, any_is, first_with}
 use Rattle.kahn_board.specs.declared.rule.Terms.{Terms}
 use Rattle.kahn_board.specs.declared.view.View.{View}
-use Rattle.kahn_crew.specs.Begins.{HasBegun, first_number, of_input, opening_task}
-use Rattle.kahn_crew.specs.Floors.{IsFloor, IsTaskOf}
+use Rattle.kahn_crew.specs.Begins.{HasBegun, of_input, opening_task}
+use Rattle.kahn_crew.specs.Floors.{IsTaskOf}
 use Rattle.kahn_crew.specs.Left.{AreAll, HaveLeft, IsAtRest, task_events}
-use Rattle.kahn_crew.specs.Tasks.{Tasked, IsLater, count_on, handed, is_over, read_by, reads_at, told_of, told_on, waits_on, writes_at}
+use Rattle.kahn_crew.specs.Tasks.{Tasked, IsLater, count_on, handed, read_by, reads_at, told_of, told_on, waits_on, writes_at}
 use Rattle.kahn_crew.specs.declared.standing.Standing.{Standing}
 use Rattle.kahn_crew.specs.declared.standing.Standing.TheVariants as standing
 use Rattle.kahn_crew.proofs.Found
 use Rattle.kahn_crew.proofs.Publishing.{handed_is}
 use Rattle.kahn_crew.proofs.Resting.{task_of}
-use Rattle.kahn_crew.proofs.Started.{at_both, both_at, there_is, mapped_at, at_mapped, some_same, floor_of, no_events}
-use Rattle.kahn_crew.proofs.Wirings.{channels_are, instances_are, reader_is, read_inside, reads_first, writes_first, writer_is}
+use Rattle.kahn_crew.proofs.Started.{at_both, both_at, mapped_at, at_mapped, some_same, floor_of, no_events}
+use Rattle.kahn_crew.proofs.Wirings.{instances_are, reads_first, writes_first, writer_is}
 
 -- ---- lists
 

@@ -1,9 +1,8 @@
 -- The first tasks, and the board that is made of them.
-use Rattle.std.proofs.Common.{arith, ◌≡◌, ◌⊎◌, inr, ℕ, zero, suc, ◌+◌, ◌<◌, ◌≤◌, ◌^◌, List, [], ◌∷◌, ◌++◌, length, map, replicate, reverse, refl, sym, ap, ◌∙◌, subst, Option, Some, None, slice_get, slice_index}
+use Rattle.std.proofs.Common.{arith, ◌≡◌, ℕ, zero, suc, ◌<◌, ◌≤◌, ◌^◌, List, [], ◌∷◌, ◌++◌, length, map, replicate, reverse, refl, sym, ap, ◌∙◌, subst, Option, Some, None, slice_get, slice_index}
 use mathlib.Core.Option.{some, some-injective, some-ne-none}
 use lib.ListN.{get_elem?}
 use Rattle.std.proofs.lemmas.List.{append_assoc, append-nil, length-map, map-append, reverse-append, reverse-reverse}
-use Rattle.std.proofs.lemmas.Option.{slice_get_within}
 use Rattle.kahn_syntax.specs.declared.tree.Program.{Program}
 use Rattle.kahn_syntax.specs.declared.tree.Role.{Role}
 use Rattle.kahn_syntax.specs.declared.tree.Role.TheVariants as role
@@ -12,20 +11,19 @@ use Rattle.kahn_check.specs.Wiring.{IsWellWired}
 use Rattle.kahn_check.proofs.Sourced
 use Rattle.kahn_streams.specs.Entries.{most_values}
 use Rattle.kahn_streams.specs.Tokens.{Lists, inputs_of}
-use Rattle.kahn_code.specs.Cells.{is_output}
 use Rattle.kahn_code.specs.Standing.{count}
 use Rattle.kahn_job.specs.Openings.{AreOpening, IsOpening}
 use Rattle.kahn_job.specs.Works.{Work}
 use Rattle.kahn_board.specs.Dealt.{events_of}
 use Rattle.kahn_board.specs.Opening.{Opens}
 use Rattle.kahn_board.specs.Rule.{view}
-use Rattle.kahn_board.specs.Tale.{FlushedAll, flushed_of, sent_of}
+use Rattle.kahn_board.specs.Tale.{FlushedAll, flushed_of}
 use Rattle.kahn_board.specs.Wires.{wires}
 use Rattle.kahn_board.specs.declared.rule.Terms.{Terms}
 use Rattle.kahn_board.specs.declared.view.View.{View}
 use Rattle.kahn_crew.specs.Begins.{AreFirst, HasBegun, IsJobOf, first_number, of_input, opening_task}
-use Rattle.kahn_crew.specs.Floors.{IsFloor, IsTaskOf}
-use Rattle.kahn_crew.specs.Tasks.{AgreesWith, IsLater, Tasked, handed, told_of, told_on, width_of, writes_at}
+use Rattle.kahn_crew.specs.Floors.{IsFloor}
+use Rattle.kahn_crew.specs.Tasks.{AgreesWith, IsLater, Tasked, told_of, told_on, width_of, writes_at}
 use Rattle.kahn_crew.proofs.Publishing.{handed_is}
 use Rattle.kahn_crew.proofs.Resting.{later_here, published_is}
 use Rattle.kahn_crew.proofs.Wirings.{channels_are, instances_are}

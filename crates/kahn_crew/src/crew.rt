@@ -1,6 +1,6 @@
 //! A crew: all workers of a run, each in a thread of its own where one can be made.
 
-ghost use Rattle.std.specs.Prelude.{◌≡◌, ◌<◌, ◌≤◌, ◌^◌, [], length, All, IfOk, IfErr};
+ghost use Rattle.std.specs.Prelude.{◌≡◌, ◌<◌, ◌≤◌, ◌^◌, [], true, length, All, IfOk, IfErr, MatchResult};
 ghost use Rattle.std.specs.Vec.{vec_capacity};
 ghost use Rattle.kahn_board.specs.Rule.{all_parts};
 ghost use Rattle.kahn_desk.specs.Crew.{parts_of};
@@ -8,6 +8,7 @@ ghost use Rattle.kahn_desk.specs.Turn.{IsIdle, IsSeatOf};
 ghost use Rattle.kahn_crew.specs.Crews.{HasGone, IsSeated, IsWhole, crew_parts};
 ghost use Rattle.kahn_crew.specs.Floors.{IsFloor};
 ghost use Rattle.kahn_crew.specs.Left.{HaveLeft};
+ghost use Rattle.kahn_crew.specs.Wants.{IsWant};
 
 use crate::closing::{discard, leave};
 use crate::fault::CrewFault;
@@ -120,6 +121,7 @@ fn work_all<'n, R: Threads + Wait + Sync, G: Gate + Sync>(
     ensures count { length result.hands.items ≡ length workers.entry.items }
     ensures each { All (HasGone floor.now.board.now.table.shared.table_id) result.hands.items }
     ensures sums { crew_parts result.hands.items ≡ crew_parts workers.entry.items }
+    ensures several { result.refused ≡ true → 1 < length workers.entry.items }
 {
     labor_all(rt, &Shift { rt, floor, gate }, workers)
 }
@@ -140,7 +142,7 @@ fn employ<'n, R: Threads + Wait + Sync, G: Gate + Sync>(
     requires few { (1 ≤ length rooms.hints.items) × (length rooms.hints.items ≤ 16) }
     requires rooms { (rooms.workers.items ≡ []) × (length rooms.hints.items ≤ vec_capacity rooms.workers) × (rooms.seats.items ≡ []) × (length rooms.hints.items ≤ vec_capacity rooms.seats) }
     ensures left { IfOk result (λ s. IsWhole floor.now.board.now.table.shared.table_id s × (s.seat.me.0.stage ≡ 1)) }
-    ensures refused { IfErr result (λ e. IsWhole floor.now.board.now.table.shared.table_id e.1) }
+    ensures refused { IfErr result (λ e. IsWant (length rooms.entry.hints.items) e.0 × IsWhole floor.now.board.now.table.shared.table_id e.1) }
 {
     let Rooms {
         hints,
@@ -167,7 +169,8 @@ fn employ<'n, R: Threads + Wait + Sync, G: Gate + Sync>(
 /// on a channel of which it took all. One worker has the caller's thread, each other one a thread of its own.
 ///
 /// It refuses with `NoMemory` only where memory was refused before the first event, and with `NoThread` where a thread
-/// couldn't be started. Those that were started are halted then, and it returns once they have left.
+/// couldn't be started, which one worker never takes. Those that were started are halted then, and it returns once they
+/// have left.
 pub fn run_crew<'n, R: Threads + Wait + Sync, G: Gate + Sync>(
     rt: &R,
     alloc: Global,
@@ -181,7 +184,7 @@ pub fn run_crew<'n, R: Threads + Wait + Sync, G: Gate + Sync>(
     requires few { (1 ≤ plan.workers) × (plan.workers ≤ 16) }
     requires quantum { 0 < plan.quantum }
     requires bound { plan.bound < 2 ^ 48 }
-    ensures { IfOk result (λ left. HaveLeft network.now input.now plan.watch plan.bound left.tasks.items left.budget left.halted) }
+    ensures { MatchResult result (λ left. HaveLeft network.now input.now plan.watch plan.bound left.tasks.items left.budget left.halted) (IsWant plan.workers) }
 {
     let routes = Routes::new(alloc, network)?;
     let rooms = Rooms::new(alloc, plan.workers, network.instances())?;

@@ -1,25 +1,22 @@
 -- A run that is over.
-use Rattle.std.proofs.Common.{arith, ◌≡◌, ◌⊎◌, inl, inr, ℕ, zero, suc, ◌+◌, ◌^◌, ◌<◌, ◌≤◌, Bool, true, false, List, [], ◌∷◌, length, map, sum_by, refl, sym, ap, ◌∙◌, subst, Option, Some, None, slice_get}
+use Rattle.std.proofs.Common.{arith, ◌≡◌, ◌⊎◌, inl, inr, ℕ, zero, suc, ◌+◌, ◌^◌, ◌<◌, ◌≤◌, Bool, true, false, List, [], ◌∷◌, length, map, sum_by, refl, sym, ap, ◌∙◌, subst, Option, Some, slice_get}
 use Rattle.std.proofs.lemmas.List.{length-map}
 use Rattle.std.proofs.lemmas.List.Sums.{sum_by-cons}
 use Rattle.kahn_syntax.specs.declared.tree.Program.{Program}
-use Rattle.kahn_check.specs.Network.{Reads, Writes, network_of, instance_at, actual_at}
+use Rattle.kahn_check.specs.Network.{Reads}
 use Rattle.kahn_check.specs.Wiring.{IsWellWired}
-use Rattle.kahn_streams.specs.Tokens.{Lists, inputs_of}
-use Rattle.kahn_code.specs.Cells.{View}
+use Rattle.kahn_streams.specs.Tokens.{Lists}
 use Rattle.kahn_code.specs.Standing.{count}
 use Rattle.kahn_code.specs.Told.{Told, told_view}
-use Rattle.kahn_job.specs.Ends.{IsSame, ShareLane}
 use Rattle.kahn_job.specs.Berths.{end_at}
 use Rattle.kahn_job.specs.Works.{Work}
 use Rattle.kahn_job.specs.Openings.{IsOpening}
 use Rattle.kahn_crew.specs.declared.standing.Standing.TheVariants as standing
-use Rattle.kahn_crew.specs.Tasks.{Tasked, IsLater, handed, is_over}
+use Rattle.kahn_crew.specs.Tasks.{Tasked, handed, is_over}
 use Rattle.kahn_crew.specs.Left.{AreAll, HaveLeft, IsAtRest, task_events}
 use Rattle.kahn_pool.specs.Meetings.{AreJoined, HaveMet, IsBehindOn}
-use Rattle.kahn_pool.specs.Rested.{AreEndsOf, AreTasks, HaveSettled, IsEndOf, IsSettled, IsTaskOf, IsToldAs, SettlesTo, cell_of, state_of}
+use Rattle.kahn_pool.specs.Rested.{AreEndsOf, AreTasks, HaveSettled, IsTaskOf, IsToldAs, SettlesTo, cell_of, state_of}
 use Rattle.kahn_pool.specs.Gathers.{HasEnded}
-use Rattle.kahn_pool.specs.declared.answer.Answer.{Answer}
 use Rattle.kahn_pool.specs.declared.answer.End.{End}
 use Rattle.kahn_pool.specs.declared.answer.Outcome.TheVariants as outcome
 use Rattle.kahn_pool.specs.declared.answer.Verdict.{Verdict}

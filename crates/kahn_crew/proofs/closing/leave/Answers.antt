@@ -1,6 +1,5 @@
-use Rattle.std.proofs.Common.{arith, sym, ◌∙◌, ap, ◌≡◌, ◌≤◌, length}
+use Rattle.std.proofs.Common.{arith}
 use Rattle.kahn_board.specs.Wires.{wires}
-use Rattle.kahn_check.specs.Network.{network_of}
 use Rattle.kahn_crew.proofs.Ended.{all_there, have_left, instances_of}
 use Rattle.kahn_crew.proofs.closing.leave.Goals as goal
 
