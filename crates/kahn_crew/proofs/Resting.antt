@@ -113,7 +113,7 @@ module _ (t : Program) (wired : IsWellWired t) where
       let at : actual_at (instance_at (network_of t) p) f.0 ≡ Writes c = sym (handed_is t wired w p f.0 is.0 is.1) ∙ h.0 in
       (written_inside t wired p f.0 c at, writer_is t wired p f.0 c at, sym f.2 ∙ agrees f.0 c h.0 h.1)
 
-  flushed_all : (x : Tasked) → x.work.cell.network ≡ t → ((o : ℕ) → IsPublished x o) → IsDelivered x.work → FlushedAll (told_of x)
+  pub flushed_all : (x : Tasked) → x.work.cell.network ≡ t → ((o : ℕ) → IsPublished x o) → IsDelivered x.work → FlushedAll (told_of x)
   flushed_all x n published delivered c k l e f =
       let w = x.work in
       let a = told_some w.cell.sent (writes_at w c) k e in
