@@ -1,17 +1,20 @@
 -- Jobs on which nobody works: what changes where one of them gets another end, and how one goes on.
-use Rattle.std.proofs.Common.{arith, ◌≡◌, ℕ, zero, suc, ◌<◌, List, [], ◌∷◌, length, refl, sym, ap, ◌∙◌, subst, slice_set, slice_index_or, le_of_suc-le-suc}
+use Rattle.std.proofs.Common.{arith, ◌≡◌, ◌⊎◌, inl, inr, ℕ, zero, suc, ◌<◌, ◌≤◌, List, [], ◌∷◌, length, refl, sym, ap, ◌∙◌, subst, slice_set, slice_index_or, le_of_suc-le-suc, None, slice_get, Some}
+use Rattle.std.proofs.lemmas.List.{get_or_past}
 use Rattle.kahn_syntax.specs.declared.tree.Program.{Program}
-use Rattle.kahn_check.specs.Network.{Actual, Reads, Writes, Hands, network_of, instance_at, actual_at}
+use Rattle.kahn_streams.specs.Laws.{AreInputsExtended}
+use Rattle.kahn_check.specs.Network.{Actual, Reads, Writes, Hands, network_of, instance_at, actual_at, idle, role_at}
 use Rattle.kahn_check.specs.Wiring.{IsWellWired}
 use Rattle.kahn_check.proofs.Sourced.{reads_listed, writes_listed}
-use Rattle.kahn_streams.specs.Tokens.{Lists}
-use Rattle.kahn_code.specs.Told.{Told}
-use Rattle.kahn_job.specs.Ends.{End}
-use Rattle.kahn_job.specs.Berths.{Serves}
+use Rattle.kahn_streams.specs.Tokens.{Lists, inputs_of}
+use Rattle.kahn_code.specs.Told.{Told, IsAt}
+use Rattle.kahn_code.specs.Lines.{Joins}
+use Rattle.kahn_job.specs.Ends.{End, ShareLane}
+use Rattle.kahn_job.specs.Berths.{AreServed, Serves, end_at}
 use Rattle.kahn_job.specs.Openings.{end_in}
 use Rattle.kahn_job.specs.Works.{Work, IsManned}
-use Rattle.kahn_job.specs.Idles.{CanGoOn, HaveSettled, cells_of, rows_of}
-use Rattle.kahn_job.specs.Settling.{ServedBefore}
+use Rattle.kahn_job.specs.Idles.{AreTogether, CanGoOn, HaveSettled, cells_of, rows_of}
+use Rattle.kahn_job.specs.Settling.{ServedBefore, AreResting, HaveStood}
 use Rattle.kahn_job.proofs.Settles.{AreGoing, carried_read, carried_write}
 
 pub rows_length : (ws : List Work) → length (rows_of ws) ≡ length ws
@@ -75,3 +78,120 @@ all_settled t wired lists old new g = record {
     serves p q (Writes d) i b = λ o.
         ((b o).0, (g.settled.each p q d (carried_write t wired lists new g.resting p q d i o) (writes_listed t wired p q d i)).named)
     serves p q (Hands v) i b = tt
+
+-- ---- jobs come to rest
+
+none_some : {A : Type 0} {x : A} → None ≡ Some x → ⊥
+none_some e = cc
+
+some_same : {A : Type 0} (x y : A) → Some x ≡ Some y → x ≡ y
+some_same x y e = ap (λ o. elim o [ None ↦ x | Some z ↦ z ]) e
+
+-- the job of an instance, or there is none
+abbrev Here : List Work → ℕ → Type 0
+Here ws p = ((w : Work) × (slice_get ws p ≡ Some w) × (slice_index_or (rows_of ws) p [] ≡ w.ends)) ⊎ ((length ws ≤ p) × (slice_index_or (rows_of ws) p [] ≡ []))
+
+here_or : (ws : List Work) (p : ℕ) → Here ws p
+here_or [] p = inr (omega arith, refl)
+here_or (w ∷ ws) zero = inl (w, refl, refl)
+here_or (w ∷ ws) (suc p) = step (here_or ws p)
+  where
+    step : Here ws p → Here (w ∷ ws) (suc p)
+    step (inl a) = inl a
+    step (inr b) = let l = b.0 in inr (omega (arith, l), b.1)
+
+module _ (t : Program) (lists : Lists) (ws : List Work) (h : AreTogether t lists ws) where
+  -- the ends of a job are those of its channels
+  job_served : (p : ℕ) (w : Work) → slice_get ws p ≡ Some w → AreServed t lists p w.ends
+  job_served p w e =
+      let f = h.each p w e in
+      subst (λ n. AreServed t lists n w.ends) f.3
+      (subst (λ l. AreServed t l w.cell.instance w.ends) f.2
+      (subst (λ k. AreServed k w.cell.input w.cell.instance w.ends) f.1 f.0.served))
+
+  -- past the last instance nothing is handed over
+  past : (p : ℕ) → length ws ≤ p → instance_at (network_of t) p ≡ idle
+  past p l = let n = h.count in get_or_past (network_of t).instances p idle (omega (arith, n, l))
+
+  handed_here : (p q d : ℕ) → Joins (actual_at (instance_at (network_of t) p) q) d → (w : Work) × (slice_get ws p ≡ Some w) × (slice_index_or (rows_of ws) p [] ≡ w.ends)
+  handed_here p q d j = by (here_or ws p)
+    where
+      by : Here ws p → (w : Work) × (slice_get ws p ≡ Some w) × (slice_index_or (rows_of ws) p [] ≡ w.ends)
+      by (inl a) = a
+      by (inr b) = absurd (subst (λ i. Joins (actual_at i q) d) (past p b.0) j)
+
+  -- they rest for every input whose lists begin with those of theirs
+  pub all_rest : (after : Lists) → AreInputsExtended (inputs_of lists) (inputs_of after) → AreResting t after (rows_of ws)
+  all_rest after grown = record {
+    count = rows_length ws ∙ h.count;
+    sizes = λ p. size p (here_or ws p);
+    each = λ p q. serves p q (here_or ws p);
+    behind = λ p q. behind p q (here_or ws p);
+    joined = λ p r o q d i j.
+        let a = handed_here p o d (subst (λ x. Joins x d) (sym i) refl) in
+        let b = handed_here r q d (subst (λ x. Joins x d) (sym j) refl) in
+        subst (λ es. ShareLane (end_at es o) (end_in (rows_of ws) r q)) (sym a.2)
+        (subst (λ es. ShareLane (end_at a.0.ends o) (end_at es q)) (sym b.2) (h.joined p r o q d a.0 b.0 a.1 b.1 i j));
+  }
+    where
+      size : (p : ℕ) → Here ws p → length (slice_index_or (rows_of ws) p []) ≡ length (instance_at (network_of t) p).actuals
+      size p (inl a) = ap (λ (es : List End). length es) a.2 ∙ (job_served p a.0 a.1).count
+      size p (inr b) = ap (λ (es : List End). length es) b.1 ∙ sym (ap (λ i. length i.actuals) (past p b.0))
+
+      before : (a : Actual) (e : End) → Serves t lists a e → ServedBefore t after a e
+      before (Reads d) e s = (s.0, (lists, s.1, grown), s.2)
+      before (Writes d) e s = λ o. let x = s o in (x.0, (lists, x.1, grown))
+      before (Hands v) e s = tt
+
+      serves : (p q : ℕ) → Here ws p → ServedBefore t after (actual_at (instance_at (network_of t) p) q) (end_in (rows_of ws) p q)
+      serves p q (inl a) =
+          subst (λ es. ServedBefore t after (actual_at (instance_at (network_of t) p) q) (end_at es q)) (sym a.2)
+          (before (actual_at (instance_at (network_of t) p) q) (end_at a.0.ends q) ((job_served p a.0 a.1).each q))
+      serves p q (inr b) = subst (λ i. ServedBefore t after (actual_at i q) (end_in (rows_of ws) p q)) (sym (past p b.0)) tt
+
+      behind : (p q : ℕ) → Here ws p → (end_in (rows_of ws) p q).flushed ≤ (end_in (rows_of ws) p q).next
+      behind p q (inl a) = subst (λ es. (end_at es q).flushed ≤ (end_at es q).next) (sym a.2) ((job_served p a.0 a.1).behind q)
+      behind p q (inr b) = subst (λ es. (end_at es q).flushed ≤ (end_at es q).next) (sym b.1) (omega arith)
+
+  -- and once they have settled for one, each may go on with it
+  pub all_go_on : (after : Lists) (new : List Work) → AreInputsExtended (inputs_of lists) (inputs_of after) → cells_of new ≡ cells_of ws →
+      HaveStood (rows_of ws) (rows_of new) → HaveSettled t after (rows_of new) → (p : ℕ) (w : Work) → slice_get new p ≡ Some w → CanGoOn t after w
+  all_go_on after new grown cells stood settled p w e =
+      let x = cell_there new ws cells p w e in
+      let f = h.each p x.0 x.1 in
+      let own : instance_at (network_of w.cell.network) w.cell.instance ≡ instance_at (network_of x.0.cell.network) x.0.cell.instance =
+      ap (λ (c : Told). instance_at (network_of c.network) c.instance) x.2 in
+      let row : slice_index_or (rows_of new) p [] ≡ w.ends = row_there new p w e in
+      let old : slice_index_or (rows_of ws) p [] ≡ x.0.ends = row_there ws p x.0 x.1 in
+      let same : (q : ℕ) → (end_at w.ends q).next ≡ (end_at x.0.ends q).next =
+      λ q. ap (λ es. (end_at es q).next) (sym row) ∙ stood p q ∙ ap (λ es. (end_at es q).next) old in
+      let here = ap (λ (c : Told). c.instance) x.2 ∙ f.3 in
+      record {
+        network = ap (λ (c : Told). c.network) x.2 ∙ f.1;
+        grown = subst (λ l. AreInputsExtended (inputs_of l) (inputs_of after)) (sym (ap (λ (c : Told). c.input) x.2 ∙ f.2)) grown;
+        here = subst (λ (c : Told). c.instance < length (network_of t).instances) (sym x.2)
+            (subst (λ k. x.0.cell.instance < length (network_of k).instances) f.1 f.0.here);
+        served = subst (λ n. AreServed t after n w.ends) (sym here) (subst (AreServed t after p) row (settled.served p));
+        at = subst (λ (c : Told). IsAt c (λ q. (end_at w.ends q).next)) (sym x.2) (record {
+          reads = λ q d i. same q ∙ f.0.at.reads q d i;
+          writes = λ q d i o. same q ∙ f.0.at.writes q d i o;
+        });
+      }
+    where
+      cell_there : (ns os : List Work) → cells_of ns ≡ cells_of os → (p : ℕ) (w : Work) → slice_get ns p ≡ Some w →
+          (x : Work) × (slice_get os p ≡ Some x) × (w.cell ≡ x.cell)
+      cell_there [] os c p w e = absurd (none_some e)
+      cell_there (n ∷ ns) [] c p w e = absurd cc
+      cell_there (n ∷ ns) (o ∷ os) c zero w e = (o, refl, ap (λ (z : Work). z.cell) (sym (some_same n w e)) ∙ first c)
+        where
+          first : n.cell ∷ cells_of ns ≡ o.cell ∷ cells_of os → n.cell ≡ o.cell
+          first e = cc
+      cell_there (n ∷ ns) (o ∷ os) c (suc p) w e = cell_there ns os (rest c) p w e
+        where
+          rest : n.cell ∷ cells_of ns ≡ o.cell ∷ cells_of os → cells_of ns ≡ cells_of os
+          rest e = cc
+
+      row_there : (xs : List Work) (p : ℕ) (w : Work) → slice_get xs p ≡ Some w → slice_index_or (rows_of xs) p [] ≡ w.ends
+      row_there [] p w e = absurd (none_some e)
+      row_there (x ∷ xs) zero w e = ap (λ (z : Work). z.ends) (some_same x w e)
+      row_there (x ∷ xs) (suc p) w e = row_there xs p w e

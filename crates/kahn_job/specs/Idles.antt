@@ -1,5 +1,5 @@
 -- Jobs on which nobody works.
-use Rattle.std.specs.Prelude.{◌≡◌, ℕ, ◌<◌, false, List, [], length, map, slice_index_or}
+use Rattle.std.specs.Prelude.{◌≡◌, ℕ, ◌<◌, false, List, [], length, map, Some, slice_get, slice_index_or}
 use Rattle.kahn_syntax.specs.declared.tree.Program.{Program}
 use Rattle.kahn_check.specs.Network.{Reads, Writes, network_of, instance_at, actual_at, role_at}
 use Rattle.kahn_streams.specs.Laws.{AreInputsExtended}
@@ -9,13 +9,21 @@ use Rattle.kahn_code.specs.Told.{Told, IsAt}
 use Rattle.kahn_job.specs.Ends.{End, IsFlushed, ShareLane}
 use Rattle.kahn_job.specs.Berths.{AreServed, end_at}
 use Rattle.kahn_job.specs.Openings.{end_in}
-use Rattle.kahn_job.specs.Works.{Work}
+use Rattle.kahn_job.specs.Works.{Work, IsJob}
 
 abbrev pub rows_of : List Work → List (List End)
 rows_of ws = map (λ w. w.ends) ws
 
 abbrev pub cells_of : List Work → List Told
 cells_of ws = map (λ w. w.cell) ws
+
+-- the jobs of all instances, with this input; the two ends of each lane are among them
+pub record AreTogether (t : Program) (lists : Lists) (ws : List Work) : Type 0 where
+  pub count : length ws ≡ length (network_of t).instances
+  pub each : (p : ℕ) (w : Work) → slice_get ws p ≡ Some w → IsJob w × (w.cell.network ≡ t) × (w.cell.input ≡ lists) × (w.cell.instance ≡ p)
+  pub joined : (p r o q d : ℕ) (w v : Work) → slice_get ws p ≡ Some w → slice_get ws r ≡ Some v →
+      actual_at (instance_at (network_of t) p) o ≡ Writes d → actual_at (instance_at (network_of t) r) q ≡ Reads d →
+      ShareLane (end_at w.ends o) (end_at v.ends q)
 
 -- the job may go on with this input: its ends are those of its cell's channels for this input, and stand where the cell stands
 pub record CanGoOn (t : Program) (lists : Lists) (w : Work) : Type 0 where
