@@ -54,7 +54,7 @@ fn first_of<'n>(
 }
 
 /// The tasks of all instances before their first events. It refuses only where memory was refused.
-pub(crate) fn first_tasks<'n>(
+pub fn first_tasks<'n>(
     alloc: Global,
     network: &'n Network,
     input: &'n Input,

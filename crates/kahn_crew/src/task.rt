@@ -11,8 +11,10 @@ ghost use Rattle.kahn_job.specs.Ends.{IsDry, IsReady, ShareLane};
 ghost use Rattle.kahn_job.specs.Berths.{HaveFlushed, IsFed, end_at};
 ghost use Rattle.kahn_job.specs.Works.{IsDelivered, IsJob};
 ghost use Rattle.kahn_crew.specs.Begins.{ready_task};
+ghost use Rattle.kahn_crew.specs.declared.standing.Standing.TheVariants.{Going as IsGoing};
 ghost use Rattle.kahn_crew.specs.Tasks.{HasMet, IsLater, IsTrueOf, standing_after, width_of};
 
+use crate::at_rest::TaskAtRest;
 use crate::standing::Standing;
 use kahn_board::Told;
 use kahn_code::cell::Kept;
@@ -78,11 +80,27 @@ impl<'n> Task<'n> {
         ensures { IfOk result (λ t. t ≡ ready_task job.entry) }
     {
         let published = sent_by(alloc, &job, parameters)?;
-        Ok(Task {
+        Ok(Task::going(job, published))
+    }
+
+    /// The task of a job whose process may go on, with the number of tokens published by each parameter.
+    pub(crate) fn going(job: Job<'n>, published: Vec<u64>) -> Task<'n>
+        requires { length published.items ≡ width_of job }
+        ensures { result ≡ record { work = job.entry; standing = IsGoing; published = published.items } }
+    {
+        Task {
             job,
             standing: Standing::Going,
             published,
-        })
+        }
+    }
+
+    /// The job of the task without its hold on the input. It takes no memory.
+    pub fn rest(self) -> TaskAtRest
+        ensures same { result ≡ self.entry.work }
+        ensures job { IsJob result }
+    {
+        TaskAtRest::new(self.job.rest(), self.published)
     }
 
     /// Runs for at most so many events. What it sent may stand in open segments until `flush`. With a quantum of 0 it only
