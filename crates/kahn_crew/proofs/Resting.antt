@@ -1,9 +1,9 @@
 -- A task that is set down.
-use Rattle.std.proofs.Common.{arith, ◌≡◌, ◌⊎◌, inl, inr, ⊎_elim, ℕ, zero, suc, ◌+◌, ◌<◌, ◌^◌, List, [], ◌∷◌, length, refl, sym, ap, ◌∙◌, subst, Option, Some, None, slice_index}
+use Rattle.std.proofs.Common.{arith, ◌≡◌, ◌⊎◌, inl, inr, ⊎_elim, ℕ, zero, suc, ◌+◌, ◌-◌, ◌<◌, ◌≤◌, ◌^◌, false, List, [], ◌∷◌, length, refl, sym, ap, ◌∙◌, subst, Option, Some, None, slice_index}
 use mathlib.Core.Option.{some}
 use lib.ListN.{get_elem?}
 use Rattle.kahn_syntax.specs.declared.tree.Program.{Program}
-use Rattle.kahn_check.specs.Network.{Reads, Writes, network_of, instance_at, actual_at, role_at}
+use Rattle.kahn_check.specs.Network.{Actual, Reads, Writes, Hands, network_of, instance_at, actual_at, role_at}
 use Rattle.kahn_check.specs.Wiring.{IsWellWired}
 use Rattle.kahn_code.specs.Cells.{is_output}
 use Rattle.kahn_code.specs.Lines.{route_of}
@@ -11,12 +11,14 @@ use Rattle.kahn_code.specs.Standing.{count}
 use Rattle.kahn_code.specs.Told.{AreCounts}
 use Rattle.kahn_streams.proofs.Dry.{dry_reads}
 use Rattle.kahn_board.specs.Dealt.{belongs}
-use Rattle.kahn_board.specs.Wires.{wires}
+use Rattle.kahn_board.specs.Wires.{Wires, wires}
 use Rattle.kahn_board.specs.Plays.{SeesMore}
-use Rattle.kahn_board.specs.Tale.{FlushedAll, flushed_of}
+use Rattle.kahn_board.specs.Tale.{FlushedAll, TellsWait, sent_of, flushed_of}
 use Rattle.kahn_board.specs.declared.rule.Terms.{Terms}
 use Rattle.kahn_board.specs.declared.view.View.{View}
 use Rattle.kahn_desk.specs.Turn.{Fits, Knows}
+use Rattle.kahn_job.specs.Berths.{HaveAdvanced, end_at}
+use Rattle.kahn_job.specs.Ends.{IsSame}
 use Rattle.kahn_job.specs.Works.{Work, IsDelivered}
 use Rattle.kahn_crew.specs.declared.standing.Standing.TheVariants as standing
 use Rattle.kahn_crew.specs.declared.turn.Due.TheVariants as due
@@ -24,7 +26,7 @@ use Rattle.kahn_crew.specs.Floors.{IsFloor, IsTaskOf, HasKept}
 use Rattle.kahn_crew.specs.Rests.{IsDue}
 use Rattle.kahn_crew.specs.Tasks.{Tasked, AgreesWith, HasStanding, IsLater, IsPublished, count_on, handed, read_by, reads_at, told_of, told_on, waits_on, writes_at}
 use Rattle.kahn_crew.proofs.Wirings.{reads_first, writes_first, first_writes, reader_is, writer_is, read_inside, written_inside}
-use Rattle.kahn_crew.proofs.Publishing.{handed_is}
+use Rattle.kahn_crew.proofs.Publishing.{handed_is, inner_is}
 
 -- ---- later states
 
@@ -113,7 +115,7 @@ module _ (t : Program) (wired : IsWellWired t) where
       let at : actual_at (instance_at (network_of t) p) f.0 ≡ Writes c = sym (handed_is t wired w p f.0 is.0 is.1) ∙ h.0 in
       (written_inside t wired p f.0 c at, writer_is t wired p f.0 c at, sym f.2 ∙ agrees f.0 c h.0 h.1)
 
-  pub flushed_all : (x : Tasked) → x.work.cell.network ≡ t → ((o : ℕ) → IsPublished x o) → IsDelivered x.work → FlushedAll (told_of x)
+  flushed_all : (x : Tasked) → x.work.cell.network ≡ t → ((o : ℕ) → IsPublished x o) → IsDelivered x.work → FlushedAll (told_of x)
   flushed_all x n published delivered c k l e f =
       let w = x.work in
       let a = told_some w.cell.sent (writes_at w c) k e in

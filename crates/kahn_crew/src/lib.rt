@@ -1,7 +1,6 @@
 //! The workers of a run: each takes one process after another, runs it for a part of the budget, and passes it on.
 #![tactic(auto)]
 
-mod at_rest;
 mod closing;
 mod crew;
 mod fault;
@@ -20,12 +19,10 @@ mod task;
 mod turn;
 mod worker;
 
-pub use at_rest::TaskAtRest;
-pub use crew::{run_crew, run_tasks};
+pub use crew::run_crew;
 pub use fault::CrewFault;
 pub use gate::{Gate, Open};
 pub use left::Left;
-pub use opening::first_tasks;
 pub use plan::Plan;
 pub use standing::Standing;
 pub use task::Task;

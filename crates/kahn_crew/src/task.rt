@@ -1,6 +1,6 @@
 //! A task: a job with what the workers have to know of it.
 
-ghost use Rattle.std.specs.Prelude.{◌≡◌, ℕ, ◌+◌, ◌*◌, ◌^◌, ◌<◌, ◌≤◌, true, length, map, slice_set, slice_index_or, IfOk, OnOk};
+ghost use Rattle.std.specs.Prelude.{◌≡◌, ℕ, ◌+◌, ◌*◌, ◌^◌, ◌<◌, ◌≤◌, true, length, map, replicate, slice_set, slice_index_or, IfOk, OnOk};
 ghost use Rattle.kahn_check.specs.Network.{network_of, instance_at};
 ghost use Rattle.kahn_streams.specs.Tokens.{inputs_of};
 ghost use Rattle.kahn_code.specs.Flat.{stmt_code};
@@ -10,11 +10,9 @@ ghost use Rattle.kahn_code.specs.Told.{AreCounts, told_view};
 ghost use Rattle.kahn_job.specs.Ends.{IsDry, IsReady, ShareLane};
 ghost use Rattle.kahn_job.specs.Berths.{HaveFlushed, IsFed, end_at};
 ghost use Rattle.kahn_job.specs.Works.{IsDelivered, IsJob};
-ghost use Rattle.kahn_crew.specs.Begins.{ready_task};
-ghost use Rattle.kahn_crew.specs.declared.standing.Standing.TheVariants.{Going as IsGoing};
 ghost use Rattle.kahn_crew.specs.Tasks.{HasMet, IsLater, IsTrueOf, standing_after, width_of};
+ghost use Rattle.kahn_crew.specs.declared.standing.Standing.TheVariants.{Going as IsGoing};
 
-use crate::at_rest::TaskAtRest;
 use crate::standing::Standing;
 use kahn_board::Told;
 use kahn_code::cell::Kept;
@@ -60,47 +58,18 @@ impl<'n> Told for Task<'n> {
     ghost after = { IsLater };
 }
 
-// How many tokens a job sent on each of its parameters.
-fn sent_by(alloc: Global, job: &Job, parameters: usize) -> Result<Vec<u64>, NoMemory>
-    requires { parameters ≡ width_of job.now }
-    ensures { IfOk result (λ v. v.items ≡ job.now.cell.sent) }
-{
-    job.sized();
-    let mut sent = Vec::with_capacity(alloc, parameters)?;
-    for parameter in 0..parameters {
-        sent.push_reserved(job.sent(parameter));
-    }
-    Ok(sent)
-}
-
 impl<'n> Task<'n> {
-    /// The task of a job with so many parameters, whose process may go on. All that it sent counts as published.
+    /// The task of a job with so many parameters, of which nothing is published.
     pub fn new(alloc: Global, job: Job<'n>, parameters: usize) -> Result<Task<'n>, NoMemory>
         requires { parameters ≡ width_of job }
-        ensures { IfOk result (λ t. t ≡ ready_task job.entry) }
+        ensures { IfOk result (λ t. t ≡ record { work = job.entry; standing = IsGoing; published = replicate parameters 0 }) }
     {
-        let published = sent_by(alloc, &job, parameters)?;
-        Ok(Task::going(job, published))
-    }
-
-    /// The task of a job whose process may go on, with the number of tokens published by each parameter.
-    pub(crate) fn going(job: Job<'n>, published: Vec<u64>) -> Task<'n>
-        requires { length published.items ≡ width_of job }
-        ensures { result ≡ record { work = job.entry; standing = IsGoing; published = published.items } }
-    {
-        Task {
+        let published = vec![in alloc; 0; parameters]?;
+        Ok(Task {
             job,
             standing: Standing::Going,
             published,
-        }
-    }
-
-    /// The job of the task without its hold on the input. It takes no memory.
-    pub fn rest(self) -> TaskAtRest
-        ensures same { result ≡ self.entry.work }
-        ensures job { IsJob result }
-    {
-        TaskAtRest::new(self.job.rest(), self.published)
+        })
     }
 
     /// Runs for at most so many events. What it sent may stand in open segments until `flush`. With a quantum of 0 it only

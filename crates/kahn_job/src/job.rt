@@ -10,7 +10,6 @@ ghost use Rattle.kahn_job.specs.Ends.{IsDry, IsReady, ShareLane};
 ghost use Rattle.kahn_job.specs.Berths.{HaveAdvanced, HaveFlushed, HaveStayed, IsFed, end_at};
 ghost use Rattle.kahn_job.specs.Works.{IsDelivered, IsJob, IsManned};
 
-use crate::idle::Idle;
 use crate::ports::Ends;
 use kahn_code::cell::{Cell, Kept};
 use kahn_code::code::Code;
@@ -166,16 +165,6 @@ impl<'n> Job<'n> {
         ensures { result ≡ (end_at self.now.ends parameter).flushed }
     {
         self.ends.flushed(parameter)
-    }
-
-    /// The job without its hold on the input. It takes no memory.
-    pub fn rest(self) -> Idle
-        ensures same { result ≡ self.entry }
-        ensures job { IsJob result }
-    {
-        self.manned();
-        let (instance, ports) = self.ends.into_parts();
-        Idle::new(self.cell, instance, ports)
     }
 
     /// What its cell kept, without the job. It takes no memory.

@@ -3,16 +3,12 @@
 
 mod fault;
 mod feed;
-mod idle;
 mod job;
 mod opening;
 mod port;
 mod ports;
 mod rows;
-mod settling;
 
 pub use fault::JobFault;
-pub use idle::Idle;
 pub use job::Job;
 pub use opening::jobs;
-pub use settling::settle;

@@ -1,6 +1,6 @@
 -- What the cells of tasks keep.
-use Rattle.std.proofs.Common.{◌≡◌, ℕ, ◌<◌, List, length, map, sym, ap, ◌∙◌, subst, Option, Some, slice_get}
-use Rattle.std.proofs.lemmas.List.{length-map}
+use Rattle.std.proofs.Common.{◌≡◌, ℕ, ◌<◌, List, [], ◌∷◌, ◌++◌, length, map, refl, sym, ap, ◌∙◌, subst, Option, Some, slice_get}
+use Rattle.std.proofs.lemmas.List.{length-map, map-append}
 use Rattle.kahn_syntax.specs.declared.tree.Program.{Program}
 use Rattle.kahn_check.specs.Network.{network_of, instance_at}
 use Rattle.kahn_streams.specs.Tokens.{Lists}
@@ -8,7 +8,7 @@ use Rattle.kahn_code.specs.declared.cell.Kept.{Kept}
 use Rattle.kahn_code.specs.Told.{Told}
 use Rattle.kahn_crew.specs.Tasks.{Tasked}
 use Rattle.kahn_pool.specs.Rested.{AreTasks, cell_of}
-use Rattle.kahn_pool.specs.Streams.{AreLists, kept_lists}
+use Rattle.kahn_pool.specs.Streams.{AreLists, kept_lists, printed_list}
 use Rattle.kahn_pool.specs.Workbench.{AreKeptOf, actuals_of, parameters_of}
 use Rattle.kahn_pool.proofs.Benched.{get_map, got, some_one, within_get}
 

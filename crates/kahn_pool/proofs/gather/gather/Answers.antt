@@ -3,7 +3,7 @@ use Rattle.kahn_check.specs.Network.{network_of}
 use Rattle.kahn_streams.specs.Tokens.{inputs_of}
 use Rattle.kahn_code.specs.Told.{told_view}
 use Rattle.kahn_crew.specs.Left.{task_events}
-use Rattle.kahn_pool.specs.Rested.{AreEndsOf, AreTold, state_of}
+use Rattle.kahn_pool.specs.Rested.{AreEndsOf, AreTold, cell_of, state_of}
 use Rattle.kahn_pool.proofs.Over.{is_last, same_cells, tasks_met}
 use Rattle.kahn_pool.proofs.Rests as rests
 use Rattle.kahn_pool.specs.Bench.{AreStreams, IsVerdict, State}
