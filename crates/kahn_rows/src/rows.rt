@@ -2,6 +2,7 @@
 
 mod examples;
 mod gates;
+mod held;
 mod language;
 mod limits;
 mod one;

@@ -1,0 +1,31 @@
+use Rattle.std.proofs.Common.{Err, List, refl, ap, map}
+use Rattle.kahn_code.specs.Told.{Told}
+use Rattle.kahn_job.proofs.Idles.{idle_still}
+use Rattle.kahn_crew.specs.declared.fault.CrewFault.TheVariants.{NoMemory}
+use Rattle.kahn_pool.specs.Holding.{cell_alone}
+use Rattle.kahn_pool.specs.declared.part.Stopped.{Stopped}
+use Rattle.kahn_pool.proofs.Held_jobs.{held_alike, refused_so, rises_since, risen_here, stopped_since}
+use Rattle.kahn_pool.proofs.part.run_part.Goals as goal
+
+pub run_marked-requires-clause-held : goal.run_marked-requires-clause-held
+run_marked-requires-clause-held g c κs within =
+    let e = c.settle_ends-idles.ensures in
+    let us = c.settle_ends-idles.result.0.items in
+    held_alike c.args.network.now c.args.input.now c.args.plan.watch c.args.bound us c.args.idles.items c.args.plan.bound c.requires.held e.cells
+    (idle_still c.args.network.now c.args.input.now c.args.idles.items c.requires.held.idle us e.cells e.stood e.resting)
+
+pub returns-then-is_err : goal.returns-then-is_err
+returns-then-is_err g c =
+    let e = c.settle_ends-idles.ensures in
+    let ws = c.args.idles.items in
+    let us = c.settle_ends-idles.result.0.items in
+    let r : Stopped = record { idles = c.settle_ends-idles.result.0; budget = c.args.plan.bound; ends = c.args.room.ends; outcome = Err NoMemory } in
+    refused_so c.args.network.now c.args.input.now c.args.plan.watch c.args.plan.workers c.args.bound ws c.args.plan.bound r
+    (held_alike c.args.network.now c.args.input.now c.args.plan.watch c.args.bound us ws c.args.plan.bound c.requires.held e.cells
+    (idle_still c.args.network.now c.args.input.now ws c.requires.held.idle us e.cells e.stood e.resting))
+    (rises_since ws us us e.cells (risen_here us)) NoMemory tt refl (λ f. (refl, ap (λ (cs : List Told). map cell_alone cs) e.cells))
+
+pub returns : goal.returns
+returns g c =
+    stopped_since c.args.network.now c.args.input.now c.args.plan.watch c.args.plan.workers c.args.bound c.args.idles.items c.settle_ends-idles.result.0.items c.args.plan.bound
+    c.run_marked.result c.settle_ends-idles.ensures.cells c.run_marked.ensures
