@@ -5,4 +5,3 @@ pub mod Floors
 pub mod Rests
 pub mod Begins
 pub mod Crews
-pub mod Wants

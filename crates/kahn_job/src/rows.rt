@@ -20,11 +20,11 @@ use std::mem;
 
 /// The ends of an instance, by the number of the parameter.
 #[derive(Drop)]
-pub(crate) struct Row {
-    ports: Vec<Port>,
+pub(crate) struct Row<'n> {
+    ports: Vec<Port<'n>>,
 }
 
-impl Model for Row {
+impl<'n> Model for Row<'n> {
     ghost use Rattle.std.specs.Prelude.{List};
     ghost use Rattle.kahn_syntax.specs.contracts.tree.Action as action;
     ghost use Rattle.kahn_syntax.specs.contracts.tree.Form as form;
@@ -38,10 +38,10 @@ impl Model for Row {
     ghost view = { λ r. r.ports.items };
 }
 
-impl Row {
+impl<'n> Row<'n> {
     // So many parameters without an end.
     #[tactic(auto, using(crate::proofs::Handed::replicate_more))]
-    fn bare(alloc: Global, count: usize) -> Result<Row, JobFault>
+    fn bare(alloc: Global, count: usize) -> Result<Row<'n>, JobFault>
         ensures { IfOk result (λ r. r ≡ replicate count nothing) }
     {
         let mut ports = Vec::new(alloc);
@@ -52,16 +52,16 @@ impl Row {
     }
 
     // Gives a parameter its end.
-    fn set(&mut self, parameter: usize, port: Port)
+    fn set(&mut self, parameter: usize, port: Port<'n>)
         requires { parameter < length self.old }
-        ensures { self.new ≡ slice_set self.old parameter port }
+        ensures { self.new ≡ slice_set self.old parameter port.entry }
     {
         self.ports[parameter] = port;
     }
 
     /// The ends.
-    pub(crate) fn into_ports(self) -> Vec<Port>
-        ensures { result.items ≡ self }
+    pub(crate) fn into_ports(self) -> Vec<Port<'n>>
+        ensures { result.items ≡ self.entry }
     {
         self.ports
     }
@@ -78,9 +78,9 @@ fn width(routes: &[Vec<Option<usize>>], instance: usize) -> usize
 }
 
 // Puts an end where it belongs.
-fn place(rows: &mut [Row], side: Option<Side>, port: Port)
+fn place<'n>(rows: &mut [Row<'n>], side: Option<Side>, port: Port<'n>)
     requires { (s : SideOf) → side ≡ Some s → (s.instance < length rows.old) × (s.parameter < length (slice_index_or rows.old s.instance [])) }
-    ensures { rows.new ≡ placed rows.old side port }
+    ensures { rows.new ≡ placed rows.old side port.entry }
 {
     if let Some(side) = side {
         rows[side.instance].set(side.parameter, port);
@@ -88,12 +88,12 @@ fn place(rows: &mut [Row], side: Option<Side>, port: Port)
 }
 
 // The ends of a channel: the writer's and the reader's.
-fn ends_of(
+fn ends_of<'n>(
     alloc: Global,
-    network: &Network,
-    input: &Input,
+    network: &'n Network,
+    input: &'n Input,
     channel: usize,
-) -> Result<(Port, Port), JobFault>
+) -> Result<(Port<'n>, Port<'n>), JobFault>
     requires { channel < length (network_of network.now).channels }
     ensures { IfOk result (λ r. AreEndsOf network.now input.now channel r.0 r.1) }
 {
@@ -108,11 +108,11 @@ fn ends_of(
 }
 
 // Hands the ends of a channel to the parameters that it is handed to.
-fn hand(
+fn hand<'n>(
     alloc: Global,
-    network: &Network,
-    input: &Input,
-    rows: &mut [Row],
+    network: &'n Network,
+    input: &'n Input,
+    rows: &mut [Row<'n>],
     channel: usize,
 ) -> Result<(), JobFault>
     requires here { channel < length (network_of network.now).channels }
@@ -128,7 +128,11 @@ fn hand(
 
 // A row without ends for each instance.
 #[tactic(auto, using(crate::proofs::Bare::no_rows, crate::proofs::Bare::one_row, crate::proofs::Bare::all_bare))]
-fn bare_rows(alloc: Global, network: &Network, _input: &Input) -> Result<Vec<Row>, JobFault>
+fn bare_rows<'n>(
+    alloc: Global,
+    network: &'n Network,
+    _input: &'n Input,
+) -> Result<Vec<Row<'n>>, JobFault>
     ensures { IfOk result (λ rows. AreHanded network.now _input.now 0 rows.items) }
 {
     let table = routes(alloc, network)?;
@@ -140,11 +144,11 @@ fn bare_rows(alloc: Global, network: &Network, _input: &Input) -> Result<Vec<Row
 }
 
 /// The ends of all channels: of an inner channel those of a new lane, of an input channel its list.
-pub(crate) fn all_rows(
+pub(crate) fn all_rows<'n>(
     alloc: Global,
-    network: &Network,
-    input: &Input,
-) -> Result<Vec<Row>, JobFault>
+    network: &'n Network,
+    input: &'n Input,
+) -> Result<Vec<Row<'n>>, JobFault>
     ensures { IfOk result (λ rows. AreHanded network.now input.now (length (network_of network.now).channels) rows.items) }
 {
     let mut rows = bare_rows(alloc, network, input)?;
@@ -155,7 +159,7 @@ pub(crate) fn all_rows(
 }
 
 /// The ends of an instance, which leave the rows.
-pub(crate) fn take_row(alloc: Global, rows: &mut Vec<Row>, instance: usize) -> Row
+pub(crate) fn take_row<'n>(alloc: Global, rows: &mut Vec<Row<'n>>, instance: usize) -> Row<'n>
     requires { instance < length rows.old.items }
     ensures { (result ≡ slice_index_or rows.old.items instance []) × (rows.new.items ≡ slice_set rows.old.items instance []) }
 {

@@ -21,6 +21,3 @@ pub mod Ended
 pub mod Rests
 pub mod Over
 pub mod Kept
-pub mod Growing
-pub mod Held_jobs
-pub mod Held_runs

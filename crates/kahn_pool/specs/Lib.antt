@@ -10,6 +10,3 @@ pub mod Runs
 pub mod Rested
 pub mod Meetings
 pub mod Gathers
-pub mod Concluded
-pub mod HeldRuns
-pub mod Holding

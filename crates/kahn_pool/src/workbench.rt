@@ -16,7 +16,6 @@ use kahn_code::plain::Plain;
 use kahn_code::progress::Pause;
 use kahn_code::steps::Steps;
 use kahn_streams::input::Input;
-use kahn_streams::memory::NoMemory;
 use std::alloc::Global;
 use std::marker::Model;
 use std::sync::ledger::Ledger;
@@ -92,7 +91,7 @@ pub(crate) fn opening_streams(
     network: &Network,
     input: &Input,
     watch: Option<usize>,
-) -> Result<Vec<Stream>, NoMemory>
+) -> Result<Vec<Stream>, CodeFault>
     ensures { IfOk result (λ streams. AreOpen network.now input.now watch streams.items) }
 {
     let mut streams = empty_streams(alloc, network, watch)?;

@@ -2,7 +2,6 @@
 
 mod examples;
 mod gates;
-mod held;
 mod language;
 mod limits;
 mod one;

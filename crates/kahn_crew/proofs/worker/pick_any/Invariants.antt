@@ -1,3 +1,4 @@
+use Rattle.std.proofs.Common.{◌≡◌}
 use Rattle.kahn_desk.specs.Turn.{IsIdle, IsSeatOf}
 use Rattle.kahn_crew.proofs.worker.pick_any.Given as goal
 
