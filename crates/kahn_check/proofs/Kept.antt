@@ -5,15 +5,15 @@ use Rattle.std.specs.List.{AllByRecursion}
 use Rattle.std.specs.Map.{lookup}
 use Rattle.std.proofs.lemmas.List.{length-map}
 use Rattle.std.proofs.lemmas.Option.{get_or_from_slice_get}
-use Rattle.kahn_syntax.specs.declared.tree.Name.{Name}
-use Rattle.kahn_syntax.specs.declared.tree.Kind.{Kind}
-use Rattle.kahn_syntax.specs.declared.tree.Role.{Role}
-use Rattle.kahn_syntax.specs.declared.tree.Process.{Process}
-use Rattle.kahn_syntax.specs.declared.tree.Instance.{Instance}
-use Rattle.kahn_syntax.specs.declared.tree.Declaration.{Declaration}
-use Rattle.kahn_syntax.specs.declared.tree.Declaration.TheVariants as D
-use Rattle.kahn_syntax.specs.declared.tree.Program.{Program}
-use Rattle.kahn_syntax.specs.View.{bytes_of}
+use Rattle.kahn_tree.specs.declared.tree.Name.{Name}
+use Rattle.kahn_tree.specs.declared.tree.Kind.{Kind}
+use Rattle.kahn_tree.specs.declared.tree.Role.{Role}
+use Rattle.kahn_tree.specs.declared.tree.Process.{Process}
+use Rattle.kahn_tree.specs.declared.tree.Instance.{Instance}
+use Rattle.kahn_tree.specs.declared.tree.Declaration.{Declaration}
+use Rattle.kahn_tree.specs.declared.tree.Declaration.TheVariants as D
+use Rattle.kahn_tree.specs.declared.tree.Program.{Program}
+use Rattle.kahn_tree.specs.View.{bytes_of}
 use Rattle.kahn_check.specs.Made.{IsMadeOf}
 use Rattle.kahn_check.specs.Network as N
 use Rattle.kahn_check.specs.Network.{network_of, instance_at, instance_from, kind_at, role_at, channel_source, process_of, idle}

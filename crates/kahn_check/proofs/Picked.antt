@@ -1,7 +1,7 @@
 -- The actuals of a network that pass a test, by their places.
 use Rattle.std.proofs.Common.{◌≡◌, ℕ, zero, suc, ◌+◌, ◌<◌, Bool, true, false, cond, ◌⊎◌, inl, inr, List, [], ◌∷◌, ◌++◌, length, Option, None, Some, refl, ap, sym, ◌∙◌, subst, arith}
 use Rattle.std.specs.Prelude.{slice_index_or, pos}
-use Rattle.kahn_syntax.specs.Syntax as S
+use Rattle.kahn_tree.specs.Syntax as S
 use Rattle.kahn_check.specs.Network.{Network, Instance, Actual, Hands, Source, Written, Nobody, idle, actual_at, instance_at, first_writer, any_written, is_written}
 use Rattle.kahn_check.specs.Sides.{IsWithin, handed_at, IsOnly}
 use Rattle.kahn_check.specs.Wires.{first}

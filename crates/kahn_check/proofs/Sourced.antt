@@ -2,10 +2,10 @@
 use Rattle.std.proofs.Common.{arith, ◌≡◌, inl, inr, ℕ, zero, suc, ◌<◌, ◌≤◌, length, Option, Some, None, refl, sym, ap, ◌∙◌, subst, slice_get, pos}
 use Rattle.std.proofs.lemmas.Option.{slice_get-get_or}
 use Rattle.std.proofs.lemmas.List.{get_or_past}
-use Rattle.kahn_syntax.specs.declared.tree.Program.{Program}
-use Rattle.kahn_syntax.specs.declared.tree.Role.{Role}
-use Rattle.kahn_syntax.specs.declared.tree.Role.TheVariants.{Inner, Input, Output}
-use Rattle.kahn_syntax.specs.Syntax.{Number}
+use Rattle.kahn_tree.specs.declared.tree.Program.{Program}
+use Rattle.kahn_tree.specs.declared.tree.Role.{Role}
+use Rattle.kahn_tree.specs.declared.tree.Role.TheVariants.{Inner, Input, Output}
+use Rattle.kahn_tree.specs.Syntax.{Number}
 use Rattle.kahn_check.specs.Network.{Network, Instance, Actual, Reads, Writes, Hands, network_of, instance_at, actual_at, role_at, idle, Given, Written, first_writer, source_by, channel_source}
 use Rattle.kahn_check.specs.Sides.{IsWithin, IsWriter, IsReader, IsOnly, HasOne, IsServed, IsListed, IsFit, source_of}
 use Rattle.kahn_check.specs.Sources.{HasSender, IsFed}

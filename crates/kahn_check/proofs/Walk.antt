@@ -4,14 +4,14 @@ use Rattle.std.specs.Map.{lookup}
 use Rattle.std.specs.String.{string_eq}
 use Rattle.indexmap.specs.IndexMap.{insert_entry}
 use Rattle.std.specs.declared.string.String.{String}
-use Rattle.kahn_syntax.specs.declared.span.Span.{Span}
-use Rattle.kahn_syntax.specs.declared.tree.Kind.{Kind}
-use Rattle.kahn_syntax.specs.declared.tree.Taking.{Taking}
-use Rattle.kahn_syntax.specs.declared.tree.Form.{Row_of-Operand, end_of-Operand, more_of-Operand}
-use Rattle.kahn_syntax.specs.declared.tree.Form.TheBlock.{items-the_row-Operand}
-use Rattle.kahn_syntax.specs.declared.tree.Operand.{Operand}
-use Rattle.kahn_syntax.specs.declared.tree.Action.{Row_of-Statement, end_of-Statement, more_of-Statement}
-use Rattle.kahn_syntax.specs.declared.tree.Action.TheBlock.{items-the_row-Statement}
+use Rattle.kahn_tree.specs.declared.span.Span.{Span}
+use Rattle.kahn_tree.specs.declared.tree.Kind.{Kind}
+use Rattle.kahn_tree.specs.declared.tree.Taking.{Taking}
+use Rattle.kahn_tree.specs.declared.tree.Form.{Row_of-Operand, end_of-Operand, more_of-Operand}
+use Rattle.kahn_tree.specs.declared.tree.Form.TheBlock.{items-the_row-Operand}
+use Rattle.kahn_tree.specs.declared.tree.Operand.{Operand}
+use Rattle.kahn_tree.specs.declared.tree.Action.{Row_of-Statement, end_of-Statement, more_of-Statement}
+use Rattle.kahn_tree.specs.declared.tree.Action.TheBlock.{items-the_row-Statement}
 use Rattle.kahn_check.specs.Kinds.{takes, gives}
 use Rattle.kahn_check.specs.declared.fault.CheckFault.{CheckFault}
 use Rattle.kahn_check.specs.Faults.{Scope, find, verdict, wrong_first, wrong_second, spanning, faults_in, kind_of, level_faults, level_kind, row_faults, body_faults, faults_of}

@@ -1,14 +1,14 @@
 -- Which bodies agree in kind and direction: a relation by cases on the abstract syntax.
 use Rattle.std.specs.Prelude.{◌≡◌, ℕ, List, Option, None, Some, slice_get}
-use Rattle.kahn_syntax.specs.declared.tree.Kind.{Kind}
-use Rattle.kahn_syntax.specs.declared.tree.Kind.TheVariants.{Integer, Logical}
-use Rattle.kahn_syntax.specs.declared.tree.Operator.{Operator}
-use Rattle.kahn_syntax.specs.declared.tree.Operator.TheVariants.{Or, And, Equal, Unequal, Less, AtMost, Greater, AtLeast, Add, Subtract, Multiply, Divide, Remainder}
-use Rattle.kahn_syntax.specs.declared.tree.Direction.TheVariants.{In, Out}
-use Rattle.kahn_syntax.specs.declared.tree.Taking.{Taking}
-use Rattle.kahn_syntax.specs.declared.tree.Taking.TheVariants.{Channel, Value}
-use Rattle.kahn_syntax.specs.Syntax as S
-use Rattle.kahn_syntax.specs.Syntax.{Constant, Expr, Stmt}
+use Rattle.kahn_tree.specs.declared.tree.Kind.{Kind}
+use Rattle.kahn_tree.specs.declared.tree.Kind.TheVariants.{Integer, Logical}
+use Rattle.kahn_tree.specs.declared.tree.Operator.{Operator}
+use Rattle.kahn_tree.specs.declared.tree.Operator.TheVariants.{Or, And, Equal, Unequal, Less, AtMost, Greater, AtLeast, Add, Subtract, Multiply, Divide, Remainder}
+use Rattle.kahn_tree.specs.declared.tree.Direction.TheVariants.{In, Out}
+use Rattle.kahn_tree.specs.declared.tree.Taking.{Taking}
+use Rattle.kahn_tree.specs.declared.tree.Taking.TheVariants.{Channel, Value}
+use Rattle.kahn_tree.specs.Syntax as S
+use Rattle.kahn_tree.specs.Syntax.{Constant, Expr, Stmt}
 
 -- the kind that an operator takes; nothing where it takes two operands of any one kind
 abbrev pub takes : Operator → Option Kind

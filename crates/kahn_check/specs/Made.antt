@@ -1,10 +1,10 @@
 -- What the instances of a program are made of.
 use Rattle.std.specs.Prelude.{◌≡◌, ℕ, List, Some, slice_get}
-use Rattle.kahn_syntax.specs.declared.tree.Process.{Process}
-use Rattle.kahn_syntax.specs.declared.tree.Argument.{Argument}
-use Rattle.kahn_syntax.specs.declared.tree.Instance.{Instance}
-use Rattle.kahn_syntax.specs.declared.tree.Program.{Program}
-use Rattle.kahn_syntax.specs.View.{bytes_of}
+use Rattle.kahn_tree.specs.declared.tree.Process.{Process}
+use Rattle.kahn_tree.specs.declared.tree.Argument.{Argument}
+use Rattle.kahn_tree.specs.declared.tree.Instance.{Instance}
+use Rattle.kahn_tree.specs.declared.tree.Program.{Program}
+use Rattle.kahn_tree.specs.View.{bytes_of}
 use Rattle.kahn_check.specs.Network.{process_of}
 
 -- instance p of the program names that process, which the program declares, and has these arguments

@@ -2,25 +2,25 @@
 use Rattle.std.specs.Prelude.{◌≡◌, ℕ, suc, ◌+◌, Bool, true, false, ◌||◌, List, [], ◌∷◌, ◌++◌, map, length, Option, None, Some, if◌then◌else◌, nat_lt, nat_eq}
 use Rattle.std.proofs.Common.{bytes_eq}
 use Rattle.std.specs.Map.{lookup}
-use Rattle.kahn_syntax.specs.declared.span.Span.{Span}
-use Rattle.kahn_syntax.specs.declared.tree.Name.{Name}
-use Rattle.kahn_syntax.specs.declared.tree.Kind.{Kind}
-use Rattle.kahn_syntax.specs.declared.tree.Kind.TheVariants as K
-use Rattle.kahn_syntax.specs.declared.tree.Role.{Role}
-use Rattle.kahn_syntax.specs.declared.tree.Role.TheVariants.{Inner, Input, Output}
-use Rattle.kahn_syntax.specs.declared.tree.Direction.{Direction}
-use Rattle.kahn_syntax.specs.declared.tree.Direction.TheVariants.{In, Out}
-use Rattle.kahn_syntax.specs.declared.tree.Taking.{Taking}
-use Rattle.kahn_syntax.specs.declared.tree.Taking.TheVariants as T
-use Rattle.kahn_syntax.specs.declared.tree.Parameter.{Parameter}
-use Rattle.kahn_syntax.specs.declared.tree.Process.{Process}
-use Rattle.kahn_syntax.specs.declared.tree.Declaration.{Declaration}
-use Rattle.kahn_syntax.specs.declared.tree.Declaration.TheVariants as D
-use Rattle.kahn_syntax.specs.declared.tree.Argument.{Argument}
-use Rattle.kahn_syntax.specs.declared.tree.Argument.TheVariants as A
-use Rattle.kahn_syntax.specs.declared.tree.Instance.{Instance}
-use Rattle.kahn_syntax.specs.declared.tree.Program.{Program}
-use Rattle.kahn_syntax.specs.View.{bytes_of}
+use Rattle.kahn_tree.specs.declared.span.Span.{Span}
+use Rattle.kahn_tree.specs.declared.tree.Name.{Name}
+use Rattle.kahn_tree.specs.declared.tree.Kind.{Kind}
+use Rattle.kahn_tree.specs.declared.tree.Kind.TheVariants as K
+use Rattle.kahn_tree.specs.declared.tree.Role.{Role}
+use Rattle.kahn_tree.specs.declared.tree.Role.TheVariants.{Inner, Input, Output}
+use Rattle.kahn_tree.specs.declared.tree.Direction.{Direction}
+use Rattle.kahn_tree.specs.declared.tree.Direction.TheVariants.{In, Out}
+use Rattle.kahn_tree.specs.declared.tree.Taking.{Taking}
+use Rattle.kahn_tree.specs.declared.tree.Taking.TheVariants as T
+use Rattle.kahn_tree.specs.declared.tree.Parameter.{Parameter}
+use Rattle.kahn_tree.specs.declared.tree.Process.{Process}
+use Rattle.kahn_tree.specs.declared.tree.Declaration.{Declaration}
+use Rattle.kahn_tree.specs.declared.tree.Declaration.TheVariants as D
+use Rattle.kahn_tree.specs.declared.tree.Argument.{Argument}
+use Rattle.kahn_tree.specs.declared.tree.Argument.TheVariants as A
+use Rattle.kahn_tree.specs.declared.tree.Instance.{Instance}
+use Rattle.kahn_tree.specs.declared.tree.Program.{Program}
+use Rattle.kahn_tree.specs.View.{bytes_of}
 use Rattle.kahn_check.specs.Faults.{wrong, body_faults}
 use Rattle.kahn_check.specs.Wiring.{locals_of, scope_of, entries, Global, IsChannel, IsProcess, declared_of, declared_channels, global, Handover, handed, handed_by, handed_from, ends, writers, readers, side_at}
 use Rattle.kahn_check.specs.declared.sides.Side.{Side}

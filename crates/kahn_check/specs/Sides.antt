@@ -1,15 +1,15 @@
 -- Who writes and who reads a channel of a network, by numbers.
 use Rattle.std.specs.Prelude.{◌≡◌, ℕ, ◌<◌, Bool, false, ◌==◌, length, List, [], ◌∷◌, ◌++◌, map, Option, None, Some, slice_get}
-use Rattle.kahn_syntax.specs.declared.tree.Kind.{Kind}
-use Rattle.kahn_syntax.specs.declared.tree.Role.{Role}
-use Rattle.kahn_syntax.specs.declared.tree.Direction.TheVariants.{In, Out}
-use Rattle.kahn_syntax.specs.declared.tree.Declaration.{Declaration}
-use Rattle.kahn_syntax.specs.declared.tree.Taking.{Taking}
-use Rattle.kahn_syntax.specs.declared.tree.Taking.TheVariants as T
-use Rattle.kahn_syntax.specs.declared.tree.Program.{Program}
-use Rattle.kahn_syntax.specs.View.{Scope}
+use Rattle.kahn_tree.specs.declared.tree.Kind.{Kind}
+use Rattle.kahn_tree.specs.declared.tree.Role.{Role}
+use Rattle.kahn_tree.specs.declared.tree.Direction.TheVariants.{In, Out}
+use Rattle.kahn_tree.specs.declared.tree.Declaration.{Declaration}
+use Rattle.kahn_tree.specs.declared.tree.Taking.{Taking}
+use Rattle.kahn_tree.specs.declared.tree.Taking.TheVariants as T
+use Rattle.kahn_tree.specs.declared.tree.Program.{Program}
+use Rattle.kahn_tree.specs.View.{Scope}
 use Rattle.std.specs.List.{AllByRecursion}
-use Rattle.kahn_syntax.specs.declared.tree.Role.TheVariants.{Inner, Input, Output}
+use Rattle.kahn_tree.specs.declared.tree.Role.TheVariants.{Inner, Input, Output}
 use Rattle.kahn_check.specs.Kinds.{constant_kind, Agrees}
 use Rattle.kahn_check.specs.Network.{Network, Instance, Actual, Reads, Writes, Hands, Source, Given, Written, instance_at, actual_at, kind_at, channels_of}
 use Rattle.kahn_check.specs.declared.sides.Side.{Side}

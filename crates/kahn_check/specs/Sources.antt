@@ -1,6 +1,6 @@
 -- Where the values of a channel come from.
 use Rattle.std.specs.Prelude.{◌≡◌, ◌⊎◌, ℕ}
-use Rattle.kahn_syntax.specs.declared.tree.Role.TheVariants.{Inner, Input}
+use Rattle.kahn_tree.specs.declared.tree.Role.TheVariants.{Inner, Input}
 use Rattle.kahn_check.specs.Network.{Network, Writes, Given, Written, instance_at, actual_at, role_at, channel_source}
 
 -- an instance sends them

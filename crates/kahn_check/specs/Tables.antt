@@ -2,22 +2,22 @@
 use Rattle.std.specs.Prelude.{ℕ, suc, List, [], ◌∷◌, ◌++◌, length, Option, None, Some, if◌then◌else◌}
 use Rattle.std.proofs.Common.{bytes_eq}
 use Rattle.std.specs.Map.{lookup}
-use Rattle.kahn_syntax.specs.declared.span.Span.{Span}
-use Rattle.kahn_syntax.specs.declared.tree.Name.{Name}
-use Rattle.kahn_syntax.specs.declared.tree.Kind.{Kind}
-use Rattle.kahn_syntax.specs.declared.tree.Kind.TheVariants as K
-use Rattle.kahn_syntax.specs.declared.tree.Role.{Role}
-use Rattle.kahn_syntax.specs.declared.tree.Role.TheVariants.{Inner, Input, Output}
-use Rattle.kahn_syntax.specs.declared.tree.Direction.{Direction}
-use Rattle.kahn_syntax.specs.declared.tree.Direction.TheVariants.{In, Out}
-use Rattle.kahn_syntax.specs.declared.tree.Taking.{Taking}
-use Rattle.kahn_syntax.specs.declared.tree.Taking.TheVariants as T
-use Rattle.kahn_syntax.specs.declared.tree.Parameter.{Parameter}
-use Rattle.kahn_syntax.specs.declared.tree.Argument.{Argument}
-use Rattle.kahn_syntax.specs.declared.tree.Argument.TheVariants as A
-use Rattle.kahn_syntax.specs.View.{bytes_of}
+use Rattle.kahn_tree.specs.declared.span.Span.{Span}
+use Rattle.kahn_tree.specs.declared.tree.Name.{Name}
+use Rattle.kahn_tree.specs.declared.tree.Kind.{Kind}
+use Rattle.kahn_tree.specs.declared.tree.Kind.TheVariants as K
+use Rattle.kahn_tree.specs.declared.tree.Role.{Role}
+use Rattle.kahn_tree.specs.declared.tree.Role.TheVariants.{Inner, Input, Output}
+use Rattle.kahn_tree.specs.declared.tree.Direction.{Direction}
+use Rattle.kahn_tree.specs.declared.tree.Direction.TheVariants.{In, Out}
+use Rattle.kahn_tree.specs.declared.tree.Taking.{Taking}
+use Rattle.kahn_tree.specs.declared.tree.Taking.TheVariants as T
+use Rattle.kahn_tree.specs.declared.tree.Parameter.{Parameter}
+use Rattle.kahn_tree.specs.declared.tree.Argument.{Argument}
+use Rattle.kahn_tree.specs.declared.tree.Argument.TheVariants as A
+use Rattle.kahn_tree.specs.View.{bytes_of}
 use Rattle.kahn_check.specs.Faults.{wrong}
-use Rattle.kahn_syntax.specs.declared.tree.Instance.{Instance}
+use Rattle.kahn_tree.specs.declared.tree.Instance.{Instance}
 use Rattle.kahn_check.specs.Wiring.{Global, IsChannel, IsProcess, Handover, handed, handed_in, parameters_of, same_direction, side_at}
 use Rattle.kahn_check.specs.declared.sides.Side.{Side}
 use Rattle.kahn_check.specs.Order.{misplaced, too_many, miscounted, missing}

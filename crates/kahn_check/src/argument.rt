@@ -1,7 +1,7 @@
 //! Whether an argument is what its parameter wants.
 
 ghost use Rattle.std.specs.Prelude.{◌≡◌, ◌++◌, ◌∷◌, [], MatchResult};
-ghost use Rattle.kahn_syntax.specs.View.{bytes_of};
+ghost use Rattle.kahn_tree.specs.View.{bytes_of};
 ghost use Rattle.kahn_check.specs.Faults.{IsMet};
 ghost use Rattle.kahn_check.specs.Globals.{known};
 ghost use Rattle.kahn_check.specs.Order.{is_closed, second as second_of};
@@ -12,7 +12,7 @@ use crate::expression::agree;
 use crate::fault::CheckFault;
 use crate::globals::{Entry, Globals};
 use crate::sides::{Side, Sides};
-use kahn_syntax::tree::{Argument, Direction, Kind, Name, Role, Taking};
+use kahn_tree::tree::{Argument, Direction, Kind, Name, Role, Taking};
 
 /// Whether no instance may stand at that side of the channel.
 pub fn closed(direction: Direction, role: Role) -> bool

@@ -9,7 +9,7 @@ ghost use Rattle.kahn_check.specs.Order.{channel_faults, declaration_faults};
 use crate::fault::CheckFault;
 use crate::globals::{Entry, Globals};
 use crate::process::check_process;
-use kahn_syntax::tree::{Declaration, Kind, Name, Program, Role};
+use kahn_tree::tree::{Declaration, Kind, Name, Program, Role};
 use std::alloc::Global;
 
 /// The names of a channel declaration, of which `count` are declared before. Answers how many are declared then.

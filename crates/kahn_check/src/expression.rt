@@ -3,12 +3,12 @@
 ghost use Rattle.std.specs.Prelude.{◌≡◌, Option, Some, None};
 ghost use Rattle.kahn_check.specs.Faults.{verdict, wrong, wrong_first, wrong_second, misread, misused, kind_in, find, faults_in, kind_of, faults_as};
 ghost use Rattle.kahn_check.specs.Kinds.{takes, gives};
-ghost use Rattle.kahn_syntax.specs.View.{bytes_of};
+ghost use Rattle.kahn_tree.specs.View.{bytes_of};
 
 use crate::fault::CheckFault;
 use crate::scope::Scope;
-use kahn_syntax::span::Span;
-use kahn_syntax::tree::{Direction, Expression, Form, Kind, Name, Operator, Taking};
+use kahn_tree::span::Span;
+use kahn_tree::tree::{Direction, Expression, Form, Kind, Name, Operator, Taking};
 
 /// The kind that an operator takes. The operands of `=` and `<>` are of any one kind.
 pub fn operand_kind(operator: Operator) -> Option<Kind>

@@ -1,6 +1,6 @@
 //! What can be wrong with a program.
 
-use kahn_syntax::span::Span;
+use kahn_tree::span::Span;
 use std::alloc::AllocError;
 use thiserror::Error;
 

@@ -3,12 +3,12 @@
 ghost use Rattle.std.specs.Prelude.{◌≡◌, ◌++◌, ◌∷◌, [], MatchResult, None, IsSome, ◌⊎◌};
 ghost use Rattle.std.specs.Map.{lookup};
 ghost use Rattle.std.proofs.Common.{bytes_eq};
-ghost use Rattle.kahn_syntax.specs.View.{bytes_of};
+ghost use Rattle.kahn_tree.specs.View.{bytes_of};
 ghost use Rattle.kahn_check.specs.Globals.{known, global_of, option_global};
 
 use crate::fault::CheckFault;
 use indexmap::IndexMap;
-use kahn_syntax::tree::{Kind, Name, Process, Role};
+use kahn_tree::tree::{Kind, Name, Process, Role};
 use std::alloc::Global;
 
 /// What a name stands for.

@@ -10,7 +10,7 @@ use crate::argument::place;
 use crate::fault::CheckFault;
 use crate::globals::{Entry, Globals};
 use crate::sides::{Side, Sides};
-use kahn_syntax::tree::{Argument, Direction, Instance, Parameter};
+use kahn_tree::tree::{Argument, Direction, Instance, Parameter};
 use std::alloc::Global;
 
 /// The arguments of an instance, one for each parameter.

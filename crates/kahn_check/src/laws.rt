@@ -1,7 +1,7 @@
 //! The laws of the definitions. Each function does nothing: its contract is the law.
 
-ghost use Rattle.kahn_syntax.specs.declared.tree.Program.{Program};
-ghost use Rattle.kahn_syntax.specs.declared.tree.Role.TheVariants.{Input, Output};
+ghost use Rattle.kahn_tree.specs.declared.tree.Program.{Program};
+ghost use Rattle.kahn_tree.specs.declared.tree.Role.TheVariants.{Input, Output};
 ghost use Rattle.std.specs.Prelude.{◌≡◌, ◌<◌, [], ℕ, length};
 ghost use Rattle.std.specs.List.{AllByRecursion};
 ghost use Rattle.kahn_check.specs.Network.{Given, Reads, Writes, Written, actual_at, channel_source, instance_at, network_of, role_at};

@@ -1,7 +1,7 @@
 //! A checked network.
 
 ghost use Rattle.std.specs.Prelude.{◌≡◌, ◌<◌, MatchResult, Some, length, slice_get, slice_index_or, ℕ};
-ghost use Rattle.kahn_syntax.specs.View.{bytes_of};
+ghost use Rattle.kahn_tree.specs.View.{bytes_of};
 ghost use Rattle.kahn_check.specs.Faults.{IsMet};
 ghost use Rattle.kahn_check.specs.Made.{IsMadeOf};
 ghost use Rattle.kahn_check.specs.Network.{network_of, instance_at, instance_from, kind_at, role_at, channel_source, process_of};
@@ -15,7 +15,7 @@ use crate::instance::instances;
 use crate::numbers::processes;
 use crate::sides::Side;
 use crate::wires::{Wire, all_wires};
-use kahn_syntax::tree::{Argument, Declaration, Kind, Process, Program, Role};
+use kahn_tree::tree::{Argument, Declaration, Kind, Process, Program, Role};
 use std::alloc::Global;
 use std::marker::Model;
 
@@ -28,9 +28,9 @@ pub struct Network {
 }
 
 impl Model for Network {
-    ghost use Rattle.kahn_syntax.specs.contracts.tree.Action as action;
-    ghost use Rattle.kahn_syntax.specs.contracts.tree.Form as form;
-    ghost use Rattle.kahn_syntax.specs.declared.tree.Program.{Program};
+    ghost use Rattle.kahn_tree.specs.contracts.tree.Action as action;
+    ghost use Rattle.kahn_tree.specs.contracts.tree.Form as form;
+    ghost use Rattle.kahn_tree.specs.declared.tree.Program.{Program};
     ghost use Rattle.std.specs.Coded.{codes};
     ghost use Rattle.kahn_check.specs.Wires.{IsKept};
 

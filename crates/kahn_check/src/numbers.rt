@@ -4,13 +4,13 @@ ghost use Rattle.std.specs.Prelude.{◌≡◌, ◌++◌, ◌∷◌, [], MatchRes
 ghost use Rattle.std.specs.List.{AllByRecursion};
 ghost use Rattle.std.specs.Map.{lookup};
 ghost use Rattle.std.proofs.Common.{bytes_eq};
-ghost use Rattle.kahn_syntax.specs.View.{bytes_of};
+ghost use Rattle.kahn_tree.specs.View.{bytes_of};
 ghost use Rattle.kahn_check.specs.Network.{process_of};
 ghost use Rattle.kahn_check.specs.Wires.{number_in, process_at};
 
 use crate::fault::CheckFault;
 use indexmap::IndexMap;
-use kahn_syntax::tree::{Declaration, Instance, Name};
+use kahn_tree::tree::{Declaration, Instance, Name};
 use std::alloc::Global;
 use std::marker::Model;
 

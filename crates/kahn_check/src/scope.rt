@@ -2,11 +2,11 @@
 
 ghost use Rattle.std.specs.Prelude.{◌≡◌, ◌++◌, ◌∷◌, [], MatchResult, None, IsSome, ◌⊎◌};
 ghost use Rattle.kahn_check.specs.Faults.{find};
-ghost use Rattle.kahn_syntax.specs.View.{bytes_of};
+ghost use Rattle.kahn_tree.specs.View.{bytes_of};
 
 use crate::fault::CheckFault;
 use indexmap::IndexMap;
-use kahn_syntax::tree::{Name, Taking};
+use kahn_tree::tree::{Name, Taking};
 use std::alloc::Global;
 use std::marker::Model;
 
@@ -18,7 +18,7 @@ pub struct Scope {
 
 impl Model for Scope {
     ghost use Rattle.std.specs.Prelude.{List, ℕ, map, string_bytes};
-    ghost use Rattle.kahn_syntax.specs.declared.tree.Taking.{Taking};
+    ghost use Rattle.kahn_tree.specs.declared.tree.Taking.{Taking};
 
     ghost Value = { List (List ℕ × Taking) };
 

@@ -8,7 +8,7 @@ ghost use Rattle.kahn_check.specs.Wiring.{declared_channels};
 
 use crate::fault::CheckFault;
 use crate::sides::{Side, Sides};
-use kahn_syntax::tree::{Declaration, Kind, Name, Role};
+use kahn_tree::tree::{Declaration, Kind, Name, Role};
 use std::alloc::Global;
 
 /// A declared channel, and where its two sides are.

@@ -1,9 +1,9 @@
 -- The arguments of an instance and the names of channels, one by one.
 use Rattle.std.proofs.Common.{◌≡◌, ℕ, zero, suc, ◌+◌, true, false, List, [], ◌∷◌, ◌++◌, map, drop, Some, None, refl, sym, ap, ◌∙◌, slice_get, arith, append_assoc, append-nil, if◌then◌else◌, add-one}
 use Rattle.std.proofs.Common.{bytes_eq}
-use Rattle.kahn_syntax.specs.declared.tree.Parameter.{Parameter}
-use Rattle.kahn_syntax.specs.declared.tree.Argument.{Argument}
-use Rattle.kahn_syntax.specs.View.{Scope, place_of}
+use Rattle.kahn_tree.specs.declared.tree.Parameter.{Parameter}
+use Rattle.kahn_tree.specs.declared.tree.Argument.{Argument}
+use Rattle.kahn_tree.specs.View.{Scope, place_of}
 use Rattle.kahn_check.specs.Network.{Actual, actual_of, actuals_of}
 
 drop_some : {A : Type 0} (xs : List A) (k : ℕ) (x : A) → slice_get xs k ≡ Some x → drop k xs ≡ x ∷ drop (suc k) xs

@@ -2,8 +2,8 @@
 use Rattle.std.proofs.Common.{◌≡◌, ◌⊎◌, inl, inr, ℕ, ◌<◌, ◌≤◌, length, Option, Some, None, sym, ap, ◌∙◌, subst, slice_get, pos}
 use Rattle.std.proofs.lemmas.Option.{slice_get-get_or}
 use Rattle.std.proofs.lemmas.List.{get_or_past}
-use Rattle.kahn_syntax.specs.declared.tree.Program.{Program}
-use Rattle.kahn_syntax.specs.Syntax.{Number}
+use Rattle.kahn_tree.specs.declared.tree.Program.{Program}
+use Rattle.kahn_tree.specs.Syntax.{Number}
 use Rattle.kahn_check.specs.Network.{Network, Writes, Hands, network_of, instance_at, actual_at, Written, idle, channel_source}
 use Rattle.kahn_check.specs.Sides.{IsWriter, IsOnly, IsListed, IsFit, source_of}
 use Rattle.kahn_check.specs.Wiring.{IsWellWired}

@@ -1,9 +1,9 @@
 -- What contracts see of the plain queues of all channels.
 use Rattle.std.specs.Prelude.{◌≡◌, ℕ, ◌+◌, ◌<◌, List, [], length, map, Option, Some, None, slice_get, slice_index_or}
-use Rattle.kahn_syntax.specs.declared.tree.Program.{Program}
+use Rattle.kahn_tree.specs.declared.tree.Program.{Program}
 use Rattle.kahn_check.specs.Network.{Network, Actual, Reads, Writes, Hands, network_of, instance_at, actual_at, role_at}
-use Rattle.kahn_syntax.specs.declared.tree.Role.{Role}
-use Rattle.kahn_syntax.specs.declared.tree.Role.TheVariants.{Inner, Input, Output}
+use Rattle.kahn_tree.specs.declared.tree.Role.{Role}
+use Rattle.kahn_tree.specs.declared.tree.Role.TheVariants.{Inner, Input, Output}
 use Rattle.kahn_streams.specs.declared.value.Value.{Value}
 use Rattle.kahn_streams.specs.Tokens.{Lists, inputs_of}
 use Rattle.kahn_code.specs.Queues.{Waiting}

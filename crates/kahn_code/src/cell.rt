@@ -42,8 +42,8 @@ pub struct Kept<A: Allocator + Drop = Global> {
 }
 
 impl<A: Allocator + Copy + Drop> Model for Cell<A> {
-    ghost use Rattle.kahn_syntax.specs.contracts.tree.Action as action;
-    ghost use Rattle.kahn_syntax.specs.contracts.tree.Form as form;
+    ghost use Rattle.kahn_tree.specs.contracts.tree.Action as action;
+    ghost use Rattle.kahn_tree.specs.contracts.tree.Form as form;
     ghost use Rattle.std.specs.Coded.{codes};
     ghost use Rattle.kahn_code.specs.Told.{Told, told_of, IsStanding};
 

@@ -4,7 +4,7 @@ ghost use Rattle.std.specs.Prelude.{◌≡◌, ℕ, List, length};
 ghost use Rattle.kahn_streams.specs.declared.value.Value.{Value};
 ghost use Rattle.kahn_streams.specs.Meaning.{Store, exec};
 ghost use Rattle.kahn_streams.specs.Script.{Tapes, play};
-ghost use Rattle.kahn_syntax.specs.Syntax.{Stmt};
+ghost use Rattle.kahn_tree.specs.Syntax.{Stmt};
 ghost use Rattle.kahn_code.specs.Flat.{stmt_code, code_script, opened};
 
 /// With any number of events and on any tapes, the flat code of a statement does what the statement does, where it

@@ -30,8 +30,8 @@ pub struct Plain<A: Allocator> {
 }
 
 impl<A: Allocator> Model for Plain<A> {
-    ghost use Rattle.kahn_syntax.specs.contracts.tree.Action as action;
-    ghost use Rattle.kahn_syntax.specs.contracts.tree.Form as form;
+    ghost use Rattle.kahn_tree.specs.contracts.tree.Action as action;
+    ghost use Rattle.kahn_tree.specs.contracts.tree.Form as form;
     ghost use Rattle.std.specs.Coded.{codes};
     ghost use Rattle.std.specs.Prelude.{map};
     ghost use Rattle.kahn_code.specs.Lines.{Lines, AreQueued};

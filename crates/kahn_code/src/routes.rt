@@ -8,7 +8,7 @@ ghost use Rattle.kahn_code.specs.Lines.{route_of, AreRoutes};
 use crate::code::channel_number;
 use kahn_check::network::Network;
 use kahn_streams::memory::NoMemory;
-use kahn_syntax::tree::{Argument, Parameter, Taking};
+use kahn_tree::tree::{Argument, Parameter, Taking};
 use std::alloc::Allocator;
 
 // The channel of a parameter.

@@ -5,10 +5,10 @@ use lib.ListN.{get_elem?}
 use Rattle.std.proofs.lemmas.List.{length-map}
 use Rattle.std.proofs.lemmas.List.Sums.{sum_by-cons}
 use Rattle.std.proofs.lemmas.Option.{slice_get_within}
-use Rattle.kahn_syntax.specs.declared.tree.Program.{Program}
-use Rattle.kahn_syntax.specs.declared.tree.Role.{Role}
-use Rattle.kahn_syntax.specs.declared.tree.Role.TheVariants as role
-use Rattle.kahn_syntax.specs.Syntax.{Number}
+use Rattle.kahn_tree.specs.declared.tree.Program.{Program}
+use Rattle.kahn_tree.specs.declared.tree.Role.{Role}
+use Rattle.kahn_tree.specs.declared.tree.Role.TheVariants as role
+use Rattle.kahn_tree.specs.Syntax.{Number}
 use Rattle.kahn_check.specs.Network.{Network, Instance, Actual, Reads, Writes, Hands, Given, channel_source, network_of, instance_at, actual_at, role_at, is_written, idle}
 use Rattle.kahn_check.specs.Wiring.{IsWellWired}
 use Rattle.kahn_check.specs.Sources.{IsFed}

@@ -2,7 +2,7 @@
 use Rattle.std.proofs.Common.{arith, ◌≡◌, ◌⊎◌, inl, inr, ⊎_elim, ℕ, zero, suc, ◌+◌, ◌-◌, ◌<◌, ◌≤◌, ◌^◌, false, List, [], ◌∷◌, length, refl, sym, ap, ◌∙◌, subst, Option, Some, None, slice_index}
 use mathlib.Core.Option.{some}
 use lib.ListN.{get_elem?}
-use Rattle.kahn_syntax.specs.declared.tree.Program.{Program}
+use Rattle.kahn_tree.specs.declared.tree.Program.{Program}
 use Rattle.kahn_check.specs.Network.{Actual, Reads, Writes, Hands, network_of, instance_at, actual_at, role_at}
 use Rattle.kahn_check.specs.Wiring.{IsWellWired}
 use Rattle.kahn_code.specs.Cells.{is_output}

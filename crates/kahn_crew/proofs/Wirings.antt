@@ -1,8 +1,8 @@
 -- Who reads and who writes a channel, by the numbers of instances and parameters.
 use Rattle.std.proofs.Common.{arith, ◌≡◌, ℕ, ◌+◌, ◌<◌, ◌==◌, Bool, true, false, length, refl, sym, ap, ◌∙◌, subst, Option, Some, None, eqb-true, slice_index_or, pos, if◌then◌else◌}
-use Rattle.kahn_syntax.specs.declared.tree.Program.{Program}
-use Rattle.kahn_syntax.specs.declared.tree.Role.{Role}
-use Rattle.kahn_syntax.specs.Syntax.{Number}
+use Rattle.kahn_tree.specs.declared.tree.Program.{Program}
+use Rattle.kahn_tree.specs.declared.tree.Role.{Role}
+use Rattle.kahn_tree.specs.Syntax.{Number}
 use Rattle.kahn_check.specs.Network.{Network, Actual, Reads, Writes, Hands, Written, is_written, network_of, instance_at, actual_at, role_at}
 use Rattle.kahn_check.specs.Sides.{IsOnly, IsWriter}
 use Rattle.kahn_check.specs.declared.sides.Side.{Side}

@@ -18,7 +18,7 @@ use kahn_code::code::Code;
 use kahn_job::{Job, jobs};
 use kahn_streams::input::Input;
 use kahn_streams::memory::NoMemory;
-use kahn_syntax::tree::Role;
+use kahn_tree::tree::Role;
 use std::alloc::Global;
 
 // The first task of a job.

@@ -9,7 +9,7 @@ ghost use Rattle.kahn_crew.specs.Tasks.{written_by};
 use kahn_check::network::Network;
 use kahn_code::routes::routes;
 use kahn_streams::memory::NoMemory;
-use kahn_syntax::tree::Role;
+use kahn_tree::tree::Role;
 use std::alloc::Global;
 use std::marker::Model;
 
@@ -21,9 +21,9 @@ pub struct Routes<'n> {
 }
 
 impl<'n> Model for Routes<'n> {
-    ghost use Rattle.kahn_syntax.specs.contracts.tree.Action as action;
-    ghost use Rattle.kahn_syntax.specs.contracts.tree.Form as form;
-    ghost use Rattle.kahn_syntax.specs.declared.tree.Program.{Program};
+    ghost use Rattle.kahn_tree.specs.contracts.tree.Action as action;
+    ghost use Rattle.kahn_tree.specs.contracts.tree.Form as form;
+    ghost use Rattle.kahn_tree.specs.declared.tree.Program.{Program};
     ghost use Rattle.std.specs.Coded.{codes};
     ghost use Rattle.std.specs.Prelude.{map};
     ghost use Rattle.kahn_check.specs.Network.{network_of};

@@ -35,8 +35,8 @@ pub struct Task<'n> {
 }
 
 impl<'n> Model for Task<'n> {
-    ghost use Rattle.kahn_syntax.specs.contracts.tree.Action as action;
-    ghost use Rattle.kahn_syntax.specs.contracts.tree.Form as form;
+    ghost use Rattle.kahn_tree.specs.contracts.tree.Action as action;
+    ghost use Rattle.kahn_tree.specs.contracts.tree.Form as form;
     ghost use Rattle.std.specs.Coded.{codes};
     ghost use Rattle.std.specs.Prelude.{◌≡◌, length};
     ghost use Rattle.kahn_crew.specs.Tasks.{Tasked, IsTrueOf, width_of};

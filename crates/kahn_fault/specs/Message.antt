@@ -4,7 +4,7 @@ use Rattle.std.specs.Prelude.{Some, None}
 use Rattle.std.specs.List.{concat}
 use Rattle.std.specs.declared.alloc.Global.{Global}
 use Rattle.std.specs.declared.string.String.{String}
-use Rattle.kahn_syntax.specs.Place.{line_of, column_of}
+use Rattle.kahn_tree.specs.Place.{line_of, column_of}
 use Rattle.kahn_syntax.specs.declared.fault.SyntaxFault.{SyntaxFault}
 use Rattle.kahn_syntax.specs.declared.fault.SyntaxFault.TheVariants as syntax
 use Rattle.kahn_syntax.specs.declared.fault.What.{What}

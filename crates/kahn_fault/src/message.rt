@@ -16,7 +16,7 @@ use kahn_report::work::WorkFault;
 use kahn_report::write::{WriteFault, write_line_counted};
 use kahn_streams::entries::InputFault;
 use kahn_syntax::fault::{SyntaxFault, What};
-use kahn_syntax::span::Span;
+use kahn_tree::span::Span;
 use std::io::Write;
 use std::marker::Brand;
 use std::sync::ledger::{Blank, Ledger};

@@ -8,8 +8,8 @@ use denote.Param.Send.{IsSend, IsSync, sendable, enum_send, struct_send, recorde
 use Rattle.std.proofs.Crossing as std
 use Rattle.std.specs.contracts.alloc.Global as Heap
 use Rattle.std.specs.contracts.impls.GlobalAllocator.TheImpl.{ghosts}
-use Rattle.kahn_syntax.proofs.tree.Action.TheLaws.TheKnot as actions
-use Rattle.kahn_syntax.proofs.tree.Form.TheLaws.TheKnot as forms
+use Rattle.kahn_tree.proofs.tree.Action.TheLaws.TheKnot as actions
+use Rattle.kahn_tree.proofs.tree.Form.TheLaws.TheKnot as forms
 use Rattle.kahn_check.specs.contracts.network.Network as Network
 use Rattle.kahn_streams.specs.contracts.input.Input as Input
 use Rattle.kahn_streams.proofs.input.Input.TheSendSync as input

@@ -1,6 +1,6 @@
 -- What is ready at the end of an input channel is a value of its list.
 use Rattle.std.proofs.Common.{arith, ◌≡◌, ℕ, ◌<◌, length, refl, sym, ap, ◌∙◌, subst, Option, Some, None}
-use Rattle.kahn_syntax.specs.declared.tree.Program.{Program}
+use Rattle.kahn_tree.specs.declared.tree.Program.{Program}
 use Rattle.kahn_streams.specs.declared.value.Line.TheVariants.{Channel}
 use Rattle.kahn_streams.specs.declared.value.Value.{Value}
 use Rattle.kahn_streams.specs.Tokens.{Lists, inputs_of}

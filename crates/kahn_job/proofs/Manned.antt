@@ -1,6 +1,6 @@
 -- Cells with the ends of their channels.
 use Rattle.std.proofs.Common.{◌≡◌, ℕ, ◌<◌, List, refl, sym, ap, ◌∙◌, subst, false, Result, Ok, Err, OnOk, length}
-use Rattle.kahn_syntax.specs.declared.tree.Program.{Program}
+use Rattle.kahn_tree.specs.declared.tree.Program.{Program}
 use Rattle.kahn_check.specs.Network.{Reads, Writes, network_of, instance_at, actual_at, role_at}
 use Rattle.kahn_streams.specs.Tokens.{Lists}
 use Rattle.kahn_code.specs.Cells.{is_output}

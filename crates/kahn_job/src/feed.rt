@@ -4,7 +4,7 @@ ghost use Rattle.std.specs.Prelude.{◌≡◌, ◌<◌, ◌≤◌, ◌+◌, ◌^
 ghost use Rattle.kahn_check.specs.Network.{network_of, role_at};
 ghost use Rattle.kahn_lane.specs.Places.{lane_name, token_name};
 ghost use Rattle.kahn_streams.specs.Tokens.{inputs_of};
-ghost use Rattle.kahn_syntax.specs.declared.tree.Role.TheVariants.{Input as InputRole};
+ghost use Rattle.kahn_tree.specs.declared.tree.Role.TheVariants.{Input as InputRole};
 
 use kahn_check::network::Network;
 use kahn_streams::input::Input;
@@ -21,9 +21,9 @@ pub(crate) struct Feed<'n> {
 }
 
 impl<'n> Model for Feed<'n> {
-    ghost use Rattle.kahn_syntax.specs.contracts.tree.Action as action;
-    ghost use Rattle.kahn_syntax.specs.contracts.tree.Form as form;
-    ghost use Rattle.kahn_syntax.specs.declared.tree.Role.TheVariants.{Input};
+    ghost use Rattle.kahn_tree.specs.contracts.tree.Action as action;
+    ghost use Rattle.kahn_tree.specs.contracts.tree.Form as form;
+    ghost use Rattle.kahn_tree.specs.declared.tree.Role.TheVariants.{Input};
     ghost use Rattle.std.specs.Coded.{codes};
     ghost use Rattle.std.specs.Prelude.{◌≡◌, ◌<◌, length};
     ghost use Rattle.kahn_check.specs.Network.{network_of, role_at};

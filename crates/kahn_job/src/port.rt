@@ -4,7 +4,7 @@ ghost use Rattle.std.specs.Prelude.{◌≡◌, ◌⊎◌, ◌<◌, ◌≤◌, �
 ghost use Rattle.kahn_check.specs.Network.{network_of, role_at};
 ghost use Rattle.kahn_lane.specs.LaneEnds.{SameSender, flushed, sender_lane, sent};
 ghost use Rattle.kahn_lane.specs.Places.{token_name};
-ghost use Rattle.kahn_syntax.specs.declared.tree.Role.TheVariants.{Input as InputRole};
+ghost use Rattle.kahn_tree.specs.declared.tree.Role.TheVariants.{Input as InputRole};
 ghost use Rattle.kahn_job.specs.Ends.{Advances, IsSame, IsReady, IsDry, HasRoom, IsFlushed, ShareLane};
 ghost use Rattle.kahn_job.specs.Berths.{HasStayed, IsFed};
 ghost use Rattle.kahn_job.specs.Ways.{taking, feeding, putting, nothing};
@@ -34,8 +34,8 @@ pub(crate) struct Port<'n> {
 }
 
 impl<'n> Model for Port<'n> {
-    ghost use Rattle.kahn_syntax.specs.contracts.tree.Action as action;
-    ghost use Rattle.kahn_syntax.specs.contracts.tree.Form as form;
+    ghost use Rattle.kahn_tree.specs.contracts.tree.Action as action;
+    ghost use Rattle.kahn_tree.specs.contracts.tree.Form as form;
     ghost use Rattle.std.specs.Coded.{codes};
     ghost use Rattle.kahn_job.specs.Ends.{End};
 

@@ -13,7 +13,7 @@ use kahn_check::sides::Side;
 use kahn_code::routes::routes;
 use kahn_lane::lane;
 use kahn_streams::input::Input;
-use kahn_syntax::tree::Role;
+use kahn_tree::tree::Role;
 use std::alloc::Global;
 use std::marker::Model;
 use std::mem;
@@ -26,8 +26,8 @@ pub(crate) struct Row<'n> {
 
 impl<'n> Model for Row<'n> {
     ghost use Rattle.std.specs.Prelude.{List};
-    ghost use Rattle.kahn_syntax.specs.contracts.tree.Action as action;
-    ghost use Rattle.kahn_syntax.specs.contracts.tree.Form as form;
+    ghost use Rattle.kahn_tree.specs.contracts.tree.Action as action;
+    ghost use Rattle.kahn_tree.specs.contracts.tree.Form as form;
     ghost use Rattle.std.specs.Coded.{codes};
     ghost use Rattle.kahn_job.specs.Ends.{End};
 

@@ -1,6 +1,6 @@
 -- Tokens at consecutive places, and what they are of.
 use Rattle.std.proofs.Common.{◌≡◌, ℕ, ◌+◌, List, [], ◌∷◌, ◌++◌, length, Some, None, arith, ap, sym}
-use Rattle.kahn_syntax.specs.declared.tree.Program.{Program}
+use Rattle.kahn_tree.specs.declared.tree.Program.{Program}
 use Rattle.kahn_streams.specs.Tokens.{Lists}
 use Rattle.kahn_streams.specs.Streams.{IsOf}
 use Rattle.kahn_streams.specs.declared.token.Token.{Token}

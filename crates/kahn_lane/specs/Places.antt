@@ -1,7 +1,7 @@
 -- Tokens at consecutive places, and what a pass of a lane knows.
 use Rattle.std.specs.Prelude.{◌≡◌, ℕ, ◌+◌, Bool, true, false, List, [], ◌∷◌, ⊤, Option, Some, None}
 use Rattle.std.specs.Coded.{Coded-set, coded_ℕ, coded_option, ×_prop, Unit-prop}
-use Rattle.kahn_syntax.specs.declared.tree.Program.{Program}
+use Rattle.kahn_tree.specs.declared.tree.Program.{Program}
 use Rattle.kahn_streams.specs.Tokens.{Lists}
 use Rattle.kahn_streams.specs.declared.value.Line.TheVariants.{Channel}
 use Rattle.kahn_streams.specs.declared.token.Token.{Token}

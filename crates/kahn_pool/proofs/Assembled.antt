@@ -3,7 +3,7 @@ use mathlib.Core.Path.{fun_ext}
 use Rattle.std.proofs.Common.{arith, ◌≡◌, ◌⊎◌, inl, inr, ℕ, zero, suc, ◌<◌, ◌≤◌, max, List, [], ◌∷◌, length, refl, sym, ap, ◌∙◌, subst, le_refl, not-suc-le-zero, Option, Some, None, slice_get, slice_index_or, pos}
 use Rattle.kahn_streams.specs.declared.value.Line.{Line}
 use Rattle.kahn_streams.specs.declared.value.Line.TheVariants.{Channel, Print}
-use Rattle.kahn_syntax.specs.Syntax.{Number}
+use Rattle.kahn_tree.specs.Syntax.{Number}
 use Rattle.kahn_streams.specs.Script as script
 use Rattle.kahn_streams.specs.Script.{Dry, Cut, Got, Fault}
 use Rattle.kahn_streams.specs.Meaning.{Store}

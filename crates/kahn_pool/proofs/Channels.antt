@@ -4,7 +4,7 @@ use Rattle.std.proofs.Common.{arith, ◌≡◌, ◌⊎◌, inl, inr, ℕ, zero, 
 use Rattle.kahn_streams.specs.declared.value.Value.{Value}
 use Rattle.kahn_streams.specs.declared.value.Line.{Line}
 use Rattle.kahn_streams.specs.declared.value.Line.TheVariants.{Channel, Print}
-use Rattle.kahn_syntax.specs.Syntax.{Number}
+use Rattle.kahn_tree.specs.Syntax.{Number}
 use Rattle.kahn_streams.specs.Script.{Tapes, Outcome}
 use Rattle.kahn_streams.specs.Meaning.{Store, exec}
 use Rattle.kahn_check.specs.Network.{Network, Actual, Reads, Writes, Hands, instance_at, actual_at}

@@ -1,7 +1,7 @@
 -- The ends of tasks.
 use Rattle.std.proofs.Common.{arith, ◌≡◌, ◌⊎◌, inl, inr, ℕ, zero, suc, ◌+◌, ◌<◌, ◌≤◌, List, [], ◌∷◌, ◌++◌, length, refl, sym, ap, ◌∙◌, subst, Option, Some, None, slice_get, slice_index_or, length-append}
-use Rattle.kahn_syntax.specs.declared.tree.Program.{Program}
-use Rattle.kahn_syntax.specs.declared.tree.Role.TheVariants.{Inner, Input}
+use Rattle.kahn_tree.specs.declared.tree.Program.{Program}
+use Rattle.kahn_tree.specs.declared.tree.Role.TheVariants.{Inner, Input}
 use Rattle.kahn_check.specs.Network.{Actual, Reads, Writes, network_of, instance_at, actual_at, role_at}
 use Rattle.kahn_check.specs.Sides.{IsWriter, IsReader, IsOnly}
 use Rattle.kahn_check.specs.Sources.{IsFed}

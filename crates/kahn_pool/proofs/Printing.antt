@@ -1,12 +1,12 @@
 -- The lines that are still to come, and the statements of a block.
 use Rattle.std.proofs.Common.{arith, ◌≡◌, ℕ, zero, suc, ◌<◌, ◌||◌, Bool, true, false, if◌then◌else◌, List, [], ◌∷◌, ◌++◌, length, drop, Option, refl, sym, ap, ◌∙◌, slice_index_or, append_assoc, append-nil}
-use Rattle.kahn_syntax.specs.declared.tree.Kind.TheVariants.{Integer}
-use Rattle.kahn_syntax.specs.declared.tree.Role.TheVariants.{Inner}
-use Rattle.kahn_syntax.specs.declared.tree.Action.{Row_of-Statement, end_of-Statement, more_of-Statement}
-use Rattle.kahn_syntax.specs.declared.tree.Action.TheBlock.{items-the_row-Statement}
-use Rattle.kahn_syntax.specs.declared.tree.Statement.{Statement}
-use Rattle.kahn_syntax.specs.Syntax.{prints_in}
-use Rattle.kahn_syntax.specs.View.{Scope, statement_of, stmt_of, row_of, body_of}
+use Rattle.kahn_tree.specs.declared.tree.Kind.TheVariants.{Integer}
+use Rattle.kahn_tree.specs.declared.tree.Role.TheVariants.{Inner}
+use Rattle.kahn_tree.specs.declared.tree.Action.{Row_of-Statement, end_of-Statement, more_of-Statement}
+use Rattle.kahn_tree.specs.declared.tree.Action.TheBlock.{items-the_row-Statement}
+use Rattle.kahn_tree.specs.declared.tree.Statement.{Statement}
+use Rattle.kahn_tree.specs.Syntax.{prints_in}
+use Rattle.kahn_tree.specs.View.{Scope, statement_of, stmt_of, row_of, body_of}
 use Rattle.kahn_streams.specs.declared.value.Line.{Line}
 use Rattle.kahn_streams.specs.declared.value.Line.TheVariants.{Channel, Print}
 use Rattle.kahn_check.specs.Network.{Network, instance_at, idle}

@@ -1,8 +1,8 @@
 -- What settled tasks whose ends have met say of the cells.
 use Rattle.std.proofs.Common.{arith, ◌≡◌, ◌⊎◌, inl, inr, ℕ, zero, suc, ◌+◌, ◌<◌, ◌≤◌, List, [], ◌∷◌, ◌++◌, length, map, refl, sym, ap, ◌∙◌, subst, Option, Some, None, slice_get, length-append}
-use Rattle.kahn_syntax.specs.declared.tree.Program.{Program}
-use Rattle.kahn_syntax.specs.declared.tree.Role.{Role}
-use Rattle.kahn_syntax.specs.declared.tree.Role.TheVariants.{Inner, Input}
+use Rattle.kahn_tree.specs.declared.tree.Program.{Program}
+use Rattle.kahn_tree.specs.declared.tree.Role.{Role}
+use Rattle.kahn_tree.specs.declared.tree.Role.TheVariants.{Inner, Input}
 use Rattle.kahn_check.specs.Network.{Network, Actual, Reads, Writes, Source, Given, Written, network_of, instance_at, actual_at, role_at, channel_source}
 use Rattle.kahn_check.specs.Sources.{IsFed as IsFedBy}
 use Rattle.kahn_check.specs.Wiring.{IsWellWired}

@@ -5,7 +5,7 @@ use Rattle.std.proofs.Math.Nat.{le-max_left, le-max_right}
 use Rattle.std.proofs.lemmas.List.Sums.{sum_by-cons}
 use Rattle.kahn_streams.specs.declared.value.Value.{Value}
 use Rattle.kahn_streams.specs.declared.value.Line.{Line}
-use Rattle.kahn_syntax.specs.Syntax.{Number}
+use Rattle.kahn_tree.specs.Syntax.{Number}
 use Rattle.kahn_streams.specs.Script.{Tapes, Script, Give, Fail, Waits, Sends, Turns, Rest, Reached, wait_at, play}
 use Rattle.kahn_check.specs.Network.{Network, Instance, Hands, instance_at}
 use Rattle.kahn_streams.specs.Solution as net

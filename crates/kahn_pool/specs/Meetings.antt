@@ -1,6 +1,6 @@
 -- The two ends of each channel meet.
 use Rattle.std.specs.Prelude.{◌≡◌, ℕ, ◌<◌, ◌≤◌, false, List, length, Some, slice_get}
-use Rattle.kahn_syntax.specs.declared.tree.Program.{Program}
+use Rattle.kahn_tree.specs.declared.tree.Program.{Program}
 use Rattle.kahn_check.specs.Network.{Reads, Writes, network_of, instance_at, actual_at, role_at}
 use Rattle.kahn_check.specs.declared.sides.Side.{Side}
 use Rattle.kahn_code.specs.Cells.{is_output}

@@ -2,10 +2,10 @@
 
 ghost use Rattle.std.specs.Prelude.{◌≡◌, ◌<◌, ◌++◌, ◌∷◌, [], length, map, slice_set, slice_index_or, IfOk, OnOk};
 ghost use Rattle.std.specs.List.{All};
-ghost use Rattle.kahn_syntax.specs.Syntax.{prints_in};
-ghost use Rattle.kahn_syntax.specs.View.{Scope, body_of, names_of, statement_of};
+ghost use Rattle.kahn_tree.specs.Syntax.{prints_in};
+ghost use Rattle.kahn_tree.specs.View.{Scope, body_of, names_of, statement_of};
 ghost use Rattle.kahn_check.specs.Network.{network_of, instance_at, role_at};
-ghost use Rattle.kahn_syntax.specs.declared.tree.Role.TheVariants.{Input as InputRole};
+ghost use Rattle.kahn_tree.specs.declared.tree.Role.TheVariants.{Input as InputRole};
 ghost use Rattle.kahn_streams.specs.declared.value.Line.TheVariants.{Channel as ChannelLine};
 ghost use Rattle.kahn_streams.specs.Solution.{source};
 ghost use Rattle.kahn_streams.specs.Tokens.{inputs_of};
@@ -21,7 +21,7 @@ use kahn_streams::input::Input;
 use kahn_streams::memory::NoMemory;
 use kahn_streams::token::Token;
 use kahn_streams::value::Line;
-use kahn_syntax::tree::{Action, Process, Role, Statement};
+use kahn_tree::tree::{Action, Process, Role, Statement};
 use std::alloc::Global;
 use std::mem;
 

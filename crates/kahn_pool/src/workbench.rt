@@ -35,8 +35,8 @@ pub struct Workbench<'n, L: Ledger> {
 }
 
 impl<'n, L: Ledger> Model for Workbench<'n, L> {
-    ghost use Rattle.kahn_syntax.specs.contracts.tree.Action as action;
-    ghost use Rattle.kahn_syntax.specs.contracts.tree.Form as form;
+    ghost use Rattle.kahn_tree.specs.contracts.tree.Action as action;
+    ghost use Rattle.kahn_tree.specs.contracts.tree.Form as form;
     ghost use Rattle.std.specs.Coded.{codes};
     ghost use Rattle.std.specs.Prelude.{vec_capacity};
     ghost use Rattle.kahn_pool.specs.Workbench.{Table, IsLaid, AreReady};

@@ -1,6 +1,6 @@
 -- The input that an input text stands for, and why a text stands for none.
 use Rattle.std.specs.Prelude.{◌≤◌, ℕ, List, length}
-use Rattle.kahn_syntax.specs.declared.tree.Program.{Program}
+use Rattle.kahn_tree.specs.declared.tree.Program.{Program}
 use Rattle.kahn_streams.specs.declared.entries.InputFault.{InputFault}
 use Rattle.kahn_streams.specs.declared.entries.InputFault.TheVariants as input_fault
 use Rattle.kahn_streams.specs.Entries.{Entry, IsFirstRefused, IsMadeOf}

@@ -1,8 +1,8 @@
 -- The names in a network, by number, counted from 0.
 use Rattle.std.specs.Prelude.{ℕ, List, [], length, map, slice_index_or}
-use Rattle.kahn_syntax.specs.declared.tree.Declaration.{Declaration}
-use Rattle.kahn_syntax.specs.declared.tree.Program.{Program}
-use Rattle.kahn_syntax.specs.View.{bytes_of}
+use Rattle.kahn_tree.specs.declared.tree.Declaration.{Declaration}
+use Rattle.kahn_tree.specs.declared.tree.Program.{Program}
+use Rattle.kahn_tree.specs.View.{bytes_of}
 use Rattle.kahn_check.specs.Network.{channels_of}
 
 -- how many channels are declared

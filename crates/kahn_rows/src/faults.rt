@@ -12,7 +12,7 @@ use kahn_report::write::WriteFault;
 use kahn_streams::entries::InputFault;
 use kahn_syntax::fault::{SyntaxFault, What};
 use kahn_syntax::parser::parse;
-use kahn_syntax::span::Span;
+use kahn_tree::span::Span;
 use std::alloc::Global;
 use std::test::Fail;
 

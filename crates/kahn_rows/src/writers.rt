@@ -6,7 +6,7 @@ use kahn_check::fault::CheckFault;
 use kahn_fault::{Fault, fault_line};
 use kahn_report::work::WorkFault;
 use kahn_report::write::WriteFault;
-use kahn_syntax::span::Span;
+use kahn_tree::span::Span;
 use std::alloc::Global;
 use std::io::{self, Error, ErrorKind, Write};
 use std::test::Fail;

@@ -4,7 +4,7 @@ use Rattle.std.proofs.Common.{◌≡◌, ℕ, zero, suc, ◌-◌, Bool, true, fa
 use Rattle.kahn_streams.specs.declared.value.Value.{Value}
 use Rattle.kahn_streams.specs.declared.value.Value.TheVariants.{Logical}
 use Rattle.kahn_streams.specs.declared.value.Failure.{Failure}
-use Rattle.kahn_syntax.specs.Syntax.{Expr, Literal, Variable, Wait, Negate, Not, Binary, Conditional, Stmt, Skip, Assign, Send, Print, Seq, If, While, Repeat}
+use Rattle.kahn_tree.specs.Syntax.{Expr, Literal, Variable, Wait, Negate, Not, Binary, Conditional, Stmt, Skip, Assign, Send, Print, Seq, If, While, Repeat}
 use Rattle.kahn_streams.specs.Arithmetic.{number, truth, ranged, apply}
 use Rattle.kahn_streams.specs.Script.{Port, Parameter, Printer, Tapes, Script, Give, Fail, Waits, Sends, Turns, Rest, Outcome, Got, Dry, Fault, Cut, Reached, after_event, after_send, put, wait_at, play}
 use Rattle.kahn_streams.specs.Meaning.{Store, constant, settle, value_of, turns_of, script_of}

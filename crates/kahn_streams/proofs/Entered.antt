@@ -4,8 +4,8 @@ use Rattle.std.proofs.lemmas.Bool.{eqb-true, eqb-false}
 use Rattle.std.proofs.lemmas.List.{length-map, length-replicate, take-append-le, take-map}
 use Rattle.std.proofs.lemmas.Option.{slice_get_read, slice_get-map}
 use Rattle.std.specs.Option.{option_map}
-use Rattle.kahn_syntax.specs.declared.tree.Program.{Program}
-use Rattle.kahn_syntax.specs.View.{Scope, place_of}
+use Rattle.kahn_tree.specs.declared.tree.Program.{Program}
+use Rattle.kahn_tree.specs.View.{Scope, place_of}
 use Rattle.kahn_check.specs.Network.{network_of, kind_at, channels_of}
 use Rattle.kahn_check.specs.Sides.{channel_names}
 use Rattle.kahn_streams.specs.declared.entries.InputFault.{InputFault}

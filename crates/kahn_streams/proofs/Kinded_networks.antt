@@ -2,26 +2,26 @@
 use Rattle.std.proofs.Common.{◌≡◌, ℕ, zero, suc, pos, Bool, true, false, cond, List, [], ◌∷◌, ◌++◌, map, Some, refl, sym, ap, ◌∙◌, subst, eqb-true, bytes_eq, slice_get, slice_index_or, if◌then◌else◌}
 use Rattle.std.specs.List.{AllByRecursion}
 use Rattle.std.specs.Map.{lookup}
-use Rattle.kahn_syntax.specs.declared.tree.Name.{Name}
-use Rattle.kahn_syntax.specs.declared.tree.Kind.{Kind}
-use Rattle.kahn_syntax.specs.declared.tree.Kind.TheVariants as K
-use Rattle.kahn_syntax.specs.declared.tree.Role.{Role}
-use Rattle.kahn_syntax.specs.declared.tree.Role.TheVariants.{Inner}
-use Rattle.kahn_syntax.specs.declared.tree.Direction.{Direction}
-use Rattle.kahn_syntax.specs.declared.tree.Direction.TheVariants.{In, Out}
-use Rattle.kahn_syntax.specs.declared.tree.Taking.{Taking}
-use Rattle.kahn_syntax.specs.declared.tree.Taking.TheVariants as T
-use Rattle.kahn_syntax.specs.declared.tree.Parameter as P
-use Rattle.kahn_syntax.specs.declared.tree.Variable.{Variable}
-use Rattle.kahn_syntax.specs.declared.tree.Process.{Process}
-use Rattle.kahn_syntax.specs.declared.tree.Declaration.{Declaration}
-use Rattle.kahn_syntax.specs.declared.tree.Declaration.TheVariants as D
-use Rattle.kahn_syntax.specs.declared.tree.Argument.{Argument}
-use Rattle.kahn_syntax.specs.declared.tree.Argument.TheVariants as A
-use Rattle.kahn_syntax.specs.declared.tree.Instance as I
-use Rattle.kahn_syntax.specs.declared.tree.Program.{Program}
-use Rattle.kahn_syntax.specs.Syntax.{Number}
-use Rattle.kahn_syntax.specs.View.{Scope, place_of, number_of, bytes_of, names_of, body_of}
+use Rattle.kahn_tree.specs.declared.tree.Name.{Name}
+use Rattle.kahn_tree.specs.declared.tree.Kind.{Kind}
+use Rattle.kahn_tree.specs.declared.tree.Kind.TheVariants as K
+use Rattle.kahn_tree.specs.declared.tree.Role.{Role}
+use Rattle.kahn_tree.specs.declared.tree.Role.TheVariants.{Inner}
+use Rattle.kahn_tree.specs.declared.tree.Direction.{Direction}
+use Rattle.kahn_tree.specs.declared.tree.Direction.TheVariants.{In, Out}
+use Rattle.kahn_tree.specs.declared.tree.Taking.{Taking}
+use Rattle.kahn_tree.specs.declared.tree.Taking.TheVariants as T
+use Rattle.kahn_tree.specs.declared.tree.Parameter as P
+use Rattle.kahn_tree.specs.declared.tree.Variable.{Variable}
+use Rattle.kahn_tree.specs.declared.tree.Process.{Process}
+use Rattle.kahn_tree.specs.declared.tree.Declaration.{Declaration}
+use Rattle.kahn_tree.specs.declared.tree.Declaration.TheVariants as D
+use Rattle.kahn_tree.specs.declared.tree.Argument.{Argument}
+use Rattle.kahn_tree.specs.declared.tree.Argument.TheVariants as A
+use Rattle.kahn_tree.specs.declared.tree.Instance as I
+use Rattle.kahn_tree.specs.declared.tree.Program.{Program}
+use Rattle.kahn_tree.specs.Syntax.{Number}
+use Rattle.kahn_tree.specs.View.{Scope, place_of, number_of, bytes_of, names_of, body_of}
 use Rattle.kahn_check.specs.Kinds.{Agrees}
 use Rattle.kahn_check.specs.Wiring.{entries, Global, IsChannel, IsProcess, declared_of, processes_of, global, Fits, AllFit, IsMade, IsSound, IsWellWired}
 use Rattle.kahn_check.specs.Network.{Hands, Instance, Network, idle, instance_at, actual_at, kind_at, is_written, Source, Given, Written, Nobody, channels_of, process_of, actual_of, actuals_of, instance_from, network_of}

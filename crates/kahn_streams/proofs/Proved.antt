@@ -5,7 +5,7 @@ use Rattle.std.proofs.Math.Nat.{le-max_left, le-max_right}
 use Rattle.kahn_streams.specs.declared.value.Value.{Value}
 use Rattle.kahn_streams.specs.declared.value.Line.{Line}
 use Rattle.kahn_streams.specs.declared.value.Line.TheVariants.{Channel}
-use Rattle.kahn_syntax.specs.Syntax.{Number}
+use Rattle.kahn_tree.specs.Syntax.{Number}
 use Rattle.kahn_streams.specs.Script.{Port, Tapes, Script, Give, Outcome, Got, Dry, Fault, Cut, Reached, play}
 use Rattle.kahn_streams.specs.Meaning.{Store, script_of}
 use Rattle.kahn_check.specs.Network.{Network, Instance, Actual, Reads, Writes, Hands, instance_at, actual_at, Source, Given, Written, Nobody}

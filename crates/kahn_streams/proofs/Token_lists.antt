@@ -5,7 +5,7 @@ use Rattle.std.proofs.Math.Logic.{∥∥₁_prop}
 use mathlib.Core.HLevel.{is_prop→PathP}
 use Rattle.kahn_streams.specs.declared.value.Value.{Value}
 use Rattle.kahn_streams.specs.declared.value.Line.{Line}
-use Rattle.kahn_syntax.specs.declared.tree.Program.{Program}
+use Rattle.kahn_tree.specs.declared.tree.Program.{Program}
 use Rattle.kahn_streams.specs.declared.token.Token.{Token}
 use Rattle.kahn_streams.specs.Tokens.{Lists, Holds}
 use Rattle.kahn_streams.specs.Streams.{IsOf, Follow, AllOf, IsRightStream}

@@ -6,8 +6,8 @@ use Rattle.kahn_streams.specs.declared.value.Value.{Value}
 use Rattle.kahn_streams.specs.declared.value.Value.TheVariants.{Integer, Logical}
 use Rattle.kahn_streams.specs.declared.value.Failure.{Failure}
 use Rattle.kahn_streams.specs.declared.value.Failure.TheVariants.{Overflow, Division}
-use Rattle.kahn_syntax.specs.declared.tree.Operator.{Operator}
-use Rattle.kahn_syntax.specs.declared.tree.Operator.TheVariants.{Or, And, Equal, Unequal, Less, AtMost, Greater, Add, Subtract, Multiply, Divide, Remainder}
+use Rattle.kahn_tree.specs.declared.tree.Operator.{Operator}
+use Rattle.kahn_tree.specs.declared.tree.Operator.TheVariants.{Or, And, Equal, Unequal, Less, AtMost, Greater, Add, Subtract, Multiply, Divide, Remainder}
 
 -- a checked program asks a number only of an integer, and a truth value only of a logical one
 abbrev pub number : Value → ℤ

@@ -4,9 +4,9 @@ use Rattle.std.specs.Prelude.{◌≡◌, ◌≢◌, ℕ, ◌+◌, ◌<◌, ◌�
 use Rattle.std.specs.declared.string.String.{String}
 use Rattle.std.specs.declared.vec.Vec.{Vec}
 use Rattle.std.specs.declared.alloc.Global.{Global}
-use Rattle.kahn_syntax.specs.declared.tree.Program.{Program}
-use Rattle.kahn_syntax.specs.declared.tree.Role.TheVariants.{Input}
-use Rattle.kahn_syntax.specs.View.{place_of}
+use Rattle.kahn_tree.specs.declared.tree.Program.{Program}
+use Rattle.kahn_tree.specs.declared.tree.Role.TheVariants.{Input}
+use Rattle.kahn_tree.specs.View.{place_of}
 use Rattle.kahn_check.specs.Network.{network_of, kind_at, role_at}
 use Rattle.kahn_check.specs.Sides.{channel_names}
 use Rattle.kahn_streams.specs.declared.value.Value.{Value}

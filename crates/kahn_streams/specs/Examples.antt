@@ -3,10 +3,10 @@ use Rattle.std.specs.Prelude.{◌≡◌, true, ℕ, zero, suc, [], ◌∷◌, po
 use Rattle.kahn_streams.specs.declared.value.Value.TheVariants.{Integer}
 use Rattle.kahn_streams.specs.declared.value.Failure.TheVariants.{Overflow}
 use Rattle.kahn_streams.specs.declared.value.Line.TheVariants.{Channel, Print}
-use Rattle.kahn_syntax.specs.declared.tree.Kind.TheVariants as KindOf
-use Rattle.kahn_syntax.specs.declared.tree.Role.TheVariants.{Inner, Input, Output}
-use Rattle.kahn_syntax.specs.declared.tree.Operator.TheVariants as Op
-use Rattle.kahn_syntax.specs.Syntax as S
+use Rattle.kahn_tree.specs.declared.tree.Kind.TheVariants as KindOf
+use Rattle.kahn_tree.specs.declared.tree.Role.TheVariants.{Inner, Input, Output}
+use Rattle.kahn_tree.specs.declared.tree.Operator.TheVariants as Op
+use Rattle.kahn_tree.specs.Syntax as S
 use Rattle.kahn_streams.specs.Sample.{no_input, g_body, h_of}
 use Rattle.kahn_check.specs.Network.{Network, Reads, Writes, Hands}
 use Rattle.kahn_streams.specs.Solution.{Inputs, iterate, exec_at, ending, Ended, Waiting, Faulted}

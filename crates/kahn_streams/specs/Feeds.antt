@@ -1,7 +1,7 @@
 -- Values that are fed to an input which stands already (this project's profile).
 use Rattle.std.specs.Prelude.{◌≡◌, ◌≢◌, ℕ, ◌+◌, ◌<◌, ◌≤◌, ◌==◌, List, [], ◌++◌, length, if◌then◌else◌}
-use Rattle.kahn_syntax.specs.declared.tree.Program.{Program}
-use Rattle.kahn_syntax.specs.declared.tree.Role.TheVariants.{Input}
+use Rattle.kahn_tree.specs.declared.tree.Program.{Program}
+use Rattle.kahn_tree.specs.declared.tree.Role.TheVariants.{Input}
 use Rattle.kahn_check.specs.Network.{network_of, kind_at, role_at}
 use Rattle.kahn_check.specs.Sides.{channel_names}
 use Rattle.kahn_streams.specs.declared.value.Value.{Value}

@@ -3,7 +3,7 @@ use Rattle.std.specs.Prelude.{ℕ, zero, suc, true, false, not, neg_ℤ, List, R
 use Rattle.kahn_streams.specs.declared.value.Value.{Value}
 use Rattle.kahn_streams.specs.declared.value.Value.TheVariants.{Integer, Logical}
 use Rattle.kahn_streams.specs.declared.value.Failure.{Failure}
-use Rattle.kahn_syntax.specs.Syntax.{Constant, Number, Truth, Expr, Literal, Variable, Wait, Negate, Not, Binary, Conditional, Stmt, Skip, Assign, Send, Print, Seq, If, While, Repeat}
+use Rattle.kahn_tree.specs.Syntax.{Constant, Number, Truth, Expr, Literal, Variable, Wait, Negate, Not, Binary, Conditional, Stmt, Skip, Assign, Send, Print, Seq, If, While, Repeat}
 use Rattle.kahn_streams.specs.Arithmetic.{number, truth, ranged, apply}
 use Rattle.kahn_streams.specs.Script.{Parameter, Printer, Tapes, Script, Give, Fail, Waits, Sends, Turns, Rest, Reached, play}
 

@@ -3,9 +3,9 @@ use Rattle.std.specs.Prelude.{ℕ, [], ◌∷◌, pos, ◌%◌, ◌↔◌, ◌�
 use Rattle.kahn_streams.specs.declared.value.Value.{Value}
 use Rattle.kahn_streams.specs.declared.value.Value.TheVariants.{Integer}
 use Rattle.kahn_streams.specs.declared.value.Line.TheVariants.{Channel}
-use Rattle.kahn_syntax.specs.declared.tree.Kind.TheVariants as KindOf
-use Rattle.kahn_syntax.specs.declared.tree.Role.TheVariants.{Inner}
-use Rattle.kahn_syntax.specs.Syntax as S
+use Rattle.kahn_tree.specs.declared.tree.Kind.TheVariants as KindOf
+use Rattle.kahn_tree.specs.declared.tree.Role.TheVariants.{Inner}
+use Rattle.kahn_tree.specs.Syntax as S
 use Rattle.kahn_check.specs.Network.{Network, Instance, Reads, Writes, Hands}
 use Rattle.kahn_streams.specs.Solution.{Inputs, Stands}
 

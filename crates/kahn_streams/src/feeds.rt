@@ -1,7 +1,7 @@
 //! Values that are fed to an input which stands already.
 
 ghost use Rattle.std.specs.Prelude.{◌≡◌, ◌<◌, ◌≤◌, MatchResult, length};
-ghost use Rattle.kahn_syntax.specs.View.{place_of};
+ghost use Rattle.kahn_tree.specs.View.{place_of};
 ghost use Rattle.kahn_check.specs.Network.{network_of, kind_at, role_at};
 ghost use Rattle.kahn_check.specs.Sides.{channel_names};
 ghost use Rattle.kahn_streams.specs.Feeds.{IsMeant, IsNotMeant};
@@ -10,7 +10,7 @@ use crate::entries::{are_of_kind, channel_named};
 use crate::memory::NoMemory;
 use crate::value::Value;
 use kahn_check::network::Network;
-use kahn_syntax::tree::Role;
+use kahn_tree::tree::Role;
 use thiserror::Error;
 
 /// Why values aren't fed to an input, by the first of these that holds.

@@ -8,7 +8,7 @@ ghost use Rattle.kahn_streams.specs.Kinded.{FitsKinds};
 ghost use Rattle.kahn_streams.specs.Tokens.{inputs_of};
 ghost use Rattle.kahn_streams.specs.declared.value.Line.TheVariants.{Channel};
 ghost use Rattle.kahn_check.specs.Network.{network_of, role_at};
-ghost use Rattle.kahn_syntax.specs.declared.tree.Role.TheVariants.{Input as InputRole};
+ghost use Rattle.kahn_tree.specs.declared.tree.Role.TheVariants.{Input as InputRole};
 
 use crate::entries::{InputFault, MOST_VALUES, channel_for};
 use crate::feeds::{FeedFault, channel_meant};
@@ -16,7 +16,7 @@ use crate::memory::NoMemory;
 use crate::token::Token;
 use crate::value::{Line, Value};
 use kahn_check::network::Network;
-use kahn_syntax::tree::Role;
+use kahn_tree::tree::Role;
 use std::alloc::Global;
 use std::marker::Model;
 

@@ -11,8 +11,8 @@ ghost use Rattle.kahn_streams.specs.Solution.{Inputs, Histories, Ending, Stands,
 ghost use Rattle.kahn_streams.specs.Sample.{Sample};
 ghost use Rattle.kahn_streams.specs.Script.{Script, Tapes, Dry, play};
 ghost use Rattle.kahn_streams.specs.Steps.{Step, Follows, RanBy, taken, sends_of, halted, empty};
-ghost use Rattle.kahn_syntax.specs.Syntax.{Expr, Stmt};
-ghost use Rattle.kahn_syntax.specs.declared.tree.Program.{Program};
+ghost use Rattle.kahn_tree.specs.Syntax.{Expr, Stmt};
+ghost use Rattle.kahn_tree.specs.declared.tree.Program.{Program};
 ghost use Rattle.kahn_streams.specs.declared.value.Line.{Line};
 ghost use Rattle.kahn_streams.specs.declared.value.Line.TheVariants.{Channel};
 ghost use Rattle.kahn_streams.specs.declared.value.Value.{Value};

@@ -2,9 +2,9 @@
 use Rattle.std.proofs.Common.{◌≡◌, ℕ, ◌≤◌, List, [], ◌∷◌, ◌++◌, map, refl, sym, ap, ◌∙◌, subst, append_assoc, append-nil, arith}
 use Rattle.kahn_syntax.specs.declared.lexeme.Keyword.TheVariants as keyword
 use Rattle.kahn_syntax.specs.declared.lexeme.Sign.TheVariants as mark
-use Rattle.kahn_syntax.specs.declared.tree.Kind.{Kind}
-use Rattle.kahn_syntax.specs.declared.tree.Taking.{Taking}
-use Rattle.kahn_syntax.specs.declared.tree.Declaration.{Declaration}
+use Rattle.kahn_tree.specs.declared.tree.Kind.{Kind}
+use Rattle.kahn_tree.specs.declared.tree.Taking.{Taking}
+use Rattle.kahn_tree.specs.declared.tree.Declaration.{Declaration}
 use Rattle.kahn_syntax.specs.Terminals.{Terminal, word, sign, name}
 use Rattle.kahn_syntax.specs.Trees.{StatementTrees, statements_words, FormedStatements, AreSome}
 use Rattle.kahn_syntax.specs.Programs.{ParameterTree, parameter, VariableTree, variable, process, GroupTree, group, IsGroup, AreGroups, group_words, further_groups_words, groups_words, group_parameters, groups_parameters, Parameters, TogetherTree, together, IsTogether, AreTogether, together_words, togethers_words, together_variables, togethers_variables, Variables, taking_words, kind_terminal, names_words, AreNames, Declares, Declarations, declaration_nesting, declarations_nesting}

@@ -2,8 +2,8 @@
 use Rattle.std.proofs.Common.{◌≡◌, List, [], ◌∷◌, ◌++◌, map, refl, sym, ◌∙◌, subst}
 use Rattle.kahn_syntax.specs.declared.lexeme.Keyword.TheVariants as keyword
 use Rattle.kahn_syntax.specs.declared.lexeme.Sign.TheVariants as mark
-use Rattle.kahn_syntax.specs.declared.tree.Instance.{Instance}
-use Rattle.kahn_syntax.specs.declared.tree.Argument.{Argument}
+use Rattle.kahn_tree.specs.declared.tree.Instance.{Instance}
+use Rattle.kahn_tree.specs.declared.tree.Argument.{Argument}
 use Rattle.kahn_syntax.specs.Terminals.{Terminal, word, sign}
 use Rattle.kahn_syntax.specs.Programs.{DeclarationTree, InstanceTree, ArgumentTree, program, Argues, Arguments, FurtherArguments, Instantiates, Instances, FurtherInstances, MaybeSemicolon, Declarations, Spells}
 use Rattle.kahn_syntax.specs.Drawn.{argument_of, instance_of}

@@ -1,6 +1,6 @@
 -- Operators of one level with their operands, read one after another.
 use Rattle.std.proofs.Common.{◌≡◌, ℕ, ◌+◌, ◌≤◌, ◌<◌, ◌≢◌, max, List, [], ◌∷◌, ◌++◌, refl, sym, ap, ◌∙◌, subst, arith}
-use Rattle.kahn_syntax.specs.declared.tree.Operand.{Operand}
+use Rattle.kahn_tree.specs.declared.tree.Operand.{Operand}
 use Rattle.kahn_syntax.specs.declared.parser.operator.Level.{Level}
 use Rattle.kahn_syntax.specs.declared.parser.operator.Level.TheVariants.{Or, And, Sum, Term}
 use Rattle.kahn_syntax.specs.Terminals.{Terminal}

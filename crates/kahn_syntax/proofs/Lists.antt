@@ -4,9 +4,9 @@ use Rattle.std.proofs.lemmas.List.{take_all, drop_more}
 use Rattle.kahn_syntax.specs.declared.lexeme.Sign.TheVariants as mark
 use Rattle.kahn_syntax.specs.declared.lexeme.Class.{Class}
 use Rattle.kahn_syntax.specs.declared.lexeme.Class.TheVariants as class
-use Rattle.kahn_syntax.specs.declared.span.Span.{Span}
+use Rattle.kahn_tree.specs.declared.span.Span.{Span}
 use Rattle.kahn_syntax.specs.declared.lexeme.Lexeme.{Lexeme}
-use Rattle.kahn_syntax.specs.declared.tree.Name.{Name}
+use Rattle.kahn_tree.specs.declared.tree.Name.{Name}
 use Rattle.kahn_syntax.specs.Terminals.{Terminal, sign, name, terminals, First, IsUnsigned, IsProper, AreProper}
 use Rattle.kahn_syntax.specs.Drawn.{name_of}
 use Rattle.kahn_syntax.specs.Spans.{IsPast}

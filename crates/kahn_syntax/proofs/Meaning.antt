@@ -1,7 +1,7 @@
 -- What the fate of a list says of trees.
 use Rattle.std.proofs.Common.{◌≡◌, ℕ, ◌+◌, ◌≤◌, ◌<◌, List, [], ◌∷◌, ◌++◌, length, Bool, true, false, refl, sym, ap, ◌∙◌, subst, arith, ⊎_elim, append_assoc}
 use Rattle.kahn_syntax.specs.declared.lexeme.Lexeme.{Lexeme}
-use Rattle.kahn_syntax.specs.declared.span.Span.{Span}
+use Rattle.kahn_tree.specs.declared.span.Span.{Span}
 use Rattle.kahn_syntax.specs.declared.parser.cursor.Stop.{Stop}
 use Rattle.kahn_syntax.specs.declared.parser.cursor.Stop.TheVariants.{Refused, TooDeep, NoMemory}
 use Rattle.kahn_syntax.specs.Terminals.{Terminal, terminal, terminals}

@@ -2,13 +2,13 @@
 use Rattle.std.proofs.Common.{◌≡◌, ℕ, List, [], ◌∷◌, true, false, ⊎_elim, refl, sym, ap, ◌∙◌, subst}
 use Rattle.kahn_syntax.specs.declared.lexeme.Keyword.TheVariants as keyword
 use Rattle.kahn_syntax.specs.declared.lexeme.Sign.TheVariants as mark
-use Rattle.kahn_syntax.specs.declared.tree.Kind.{Kind}
-use Rattle.kahn_syntax.specs.declared.tree.Kind.TheVariants as kind
-use Rattle.kahn_syntax.specs.declared.tree.Role.{Role}
-use Rattle.kahn_syntax.specs.declared.tree.Role.TheVariants as role
-use Rattle.kahn_syntax.specs.declared.tree.Direction.TheVariants as direction
-use Rattle.kahn_syntax.specs.declared.tree.Taking.{Taking}
-use Rattle.kahn_syntax.specs.declared.tree.Taking.TheVariants as taking
+use Rattle.kahn_tree.specs.declared.tree.Kind.{Kind}
+use Rattle.kahn_tree.specs.declared.tree.Kind.TheVariants as kind
+use Rattle.kahn_tree.specs.declared.tree.Role.{Role}
+use Rattle.kahn_tree.specs.declared.tree.Role.TheVariants as role
+use Rattle.kahn_tree.specs.declared.tree.Direction.TheVariants as direction
+use Rattle.kahn_tree.specs.declared.tree.Taking.{Taking}
+use Rattle.kahn_tree.specs.declared.tree.Taking.TheVariants as taking
 use Rattle.kahn_syntax.specs.Terminals.{Terminal, word, sign, name}
 use Rattle.kahn_syntax.specs.Trees.{empty, assign, send, print, block, if_then, if_else, while_do, repeat, StatementTrees, no_statement, statement, statements_words, AreSome}
 use Rattle.kahn_syntax.specs.Programs.{GroupTree, group, TogetherTree, together, ParameterTree, VariableTree, DeclarationTree, channels, process, ArgumentTree, channel, number, truth, InstanceTree, instance, ProgramTree, program, kind_terminal, role_words, taking_words, names_words, further_names_words, AreNames, group_words, groups_words, further_groups_words, groups_parameters, AreGroups, Parameters, togethers_words, togethers_variables, AreTogether, Variables, Declares, Declarations, Argues, Arguments, FurtherArguments, Instantiates, Instances, FurtherInstances, MaybeSemicolon, Spells}

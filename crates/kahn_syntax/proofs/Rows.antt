@@ -1,11 +1,11 @@
 -- Rows inside of trees, and the lists that they are.
 use Rattle.std.proofs.Common.{◌≡◌, ℕ, List, refl, sym, subst, ap, ◌∙◌, Vec, Global}
-use Rattle.kahn_syntax.specs.declared.tree.Form.{Row_of-Operand, end_of-Operand, more_of-Operand, items-the_row-Operand, items_hidden-the_row-Operand-0}
-use Rattle.kahn_syntax.specs.declared.tree.Form.TheBlock.{hidden-the_row-Operand-0}
-use Rattle.kahn_syntax.specs.declared.tree.Operand.{Operand}
-use Rattle.kahn_syntax.specs.declared.tree.Action.{Row_of-Statement, end_of-Statement, more_of-Statement, items-the_row-Statement, items_hidden-the_row-Statement-0}
-use Rattle.kahn_syntax.specs.declared.tree.Action.TheBlock.{hidden-the_row-Statement-0}
-use Rattle.kahn_syntax.specs.declared.tree.Statement.{Statement}
+use Rattle.kahn_tree.specs.declared.tree.Form.{Row_of-Operand, end_of-Operand, more_of-Operand, items-the_row-Operand, items_hidden-the_row-Operand-0}
+use Rattle.kahn_tree.specs.declared.tree.Form.TheBlock.{hidden-the_row-Operand-0}
+use Rattle.kahn_tree.specs.declared.tree.Operand.{Operand}
+use Rattle.kahn_tree.specs.declared.tree.Action.{Row_of-Statement, end_of-Statement, more_of-Statement, items-the_row-Statement, items_hidden-the_row-Statement-0}
+use Rattle.kahn_tree.specs.declared.tree.Action.TheBlock.{hidden-the_row-Statement-0}
+use Rattle.kahn_tree.specs.declared.tree.Statement.{Statement}
 use Rattle.kahn_syntax.specs.Trees.{operand, statement}
 use Rattle.kahn_syntax.specs.declared.lexeme.Lexeme.{Lexeme}
 use Rattle.kahn_syntax.specs.Spans.{OperandRowSpans, OperandsSpan, StatementRowSpans, FurtherRowSpans, StatementsSpan, FurtherStatementsSpan}

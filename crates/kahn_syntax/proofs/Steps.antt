@@ -3,7 +3,7 @@ use Rattle.std.proofs.Common.{◌≡◌, ◌≢◌, ℕ, ◌+◌, ◌≤◌, ◌
 use Rattle.std.specs.Prelude.{nat_le}
 use Rattle.std.proofs.lemmas.Bool.Decides.{nat_tests}
 use Rattle.kahn_syntax.specs.declared.lexeme.Keyword.TheVariants as keyword
-use Rattle.kahn_syntax.specs.declared.tree.Operator.{Operator}
+use Rattle.kahn_tree.specs.declared.tree.Operator.{Operator}
 use Rattle.kahn_syntax.specs.Terminals.{Terminal, word}
 use Rattle.kahn_syntax.specs.Trees.{rank, operator_terminal}
 use Rattle.kahn_syntax.specs.Rungs.{Rung, whole, ors, ands, denials, relations, sums, terms, factors, at, tighter, operator_of, rank_or, Lacks}

@@ -3,8 +3,8 @@ use Rattle.std.proofs.Common.{◌≡◌, ℕ, zero, suc, ◌+◌, ◌*◌, ◌�
 use Rattle.std.proofs.lemmas.Bool.Decides.{nat_tests}
 use Rattle.kahn_syntax.specs.declared.lexeme.Keyword.TheVariants as keyword
 use Rattle.kahn_syntax.specs.declared.lexeme.Sign.TheVariants as mark
-use Rattle.kahn_syntax.specs.declared.tree.Operator.{Operator}
-use Rattle.kahn_syntax.specs.declared.tree.Operator.TheVariants as operator
+use Rattle.kahn_tree.specs.declared.tree.Operator.{Operator}
+use Rattle.kahn_tree.specs.declared.tree.Operator.TheVariants as operator
 use Rattle.kahn_syntax.specs.Terminals.{Terminal, word, sign}
 use Rattle.kahn_syntax.specs.Trees.{ExpressionTree, number, truth, variable, wait, negation, denial, bracket, level, conditional, OperandTrees, no_operand, operand, operator_terminal, expression_words, operands_words, expression_nesting, operands_nesting, rank, IsOne, Formed, FormedOperands}
 use Rattle.kahn_syntax.specs.Reads.{Fits, joined}

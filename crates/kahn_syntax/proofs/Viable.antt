@@ -4,15 +4,15 @@ use Rattle.std.specs.Prelude.{neg_ℤ}
 use Rattle.std.proofs.lemmas.Bool.Decides.{nat_tests}
 use Rattle.kahn_syntax.specs.declared.lexeme.Keyword.TheVariants as keyword
 use Rattle.kahn_syntax.specs.declared.lexeme.Sign.TheVariants as mark
-use Rattle.kahn_syntax.specs.declared.tree.Kind.{Kind}
-use Rattle.kahn_syntax.specs.declared.tree.Kind.TheVariants as kind
-use Rattle.kahn_syntax.specs.declared.tree.Role.{Role}
-use Rattle.kahn_syntax.specs.declared.tree.Role.TheVariants as role
-use Rattle.kahn_syntax.specs.declared.tree.Direction.TheVariants as direction
-use Rattle.kahn_syntax.specs.declared.tree.Taking.{Taking}
-use Rattle.kahn_syntax.specs.declared.tree.Taking.TheVariants as taking
-use Rattle.kahn_syntax.specs.declared.tree.Operator.{Operator}
-use Rattle.kahn_syntax.specs.declared.tree.Operator.TheVariants as operator
+use Rattle.kahn_tree.specs.declared.tree.Kind.{Kind}
+use Rattle.kahn_tree.specs.declared.tree.Kind.TheVariants as kind
+use Rattle.kahn_tree.specs.declared.tree.Role.{Role}
+use Rattle.kahn_tree.specs.declared.tree.Role.TheVariants as role
+use Rattle.kahn_tree.specs.declared.tree.Direction.TheVariants as direction
+use Rattle.kahn_tree.specs.declared.tree.Taking.{Taking}
+use Rattle.kahn_tree.specs.declared.tree.Taking.TheVariants as taking
+use Rattle.kahn_tree.specs.declared.tree.Operator.{Operator}
+use Rattle.kahn_tree.specs.declared.tree.Operator.TheVariants as operator
 use Rattle.kahn_syntax.specs.Terminals.{Terminal, word, sign, name}
 use Rattle.kahn_syntax.specs.Terminals as terminal
 use Rattle.kahn_syntax.specs.Trees.{ExpressionTree, number, truth, variable, wait, negation, denial, bracket, conditional, OperandTrees, no_operand, operand, StatementTree, empty, assign, send, print, block, if_then, if_else, while_do, repeat, StatementTrees, no_statement, statement, operator_terminal, rank, expression_words, operands_words, statement_words, further_words, expression_nesting, operands_nesting, statement_nesting, statements_nesting, FormedOperands, FormedStatement, FormedStatements, IsSimple}

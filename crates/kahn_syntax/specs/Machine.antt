@@ -4,7 +4,7 @@ use Rattle.kahn_syntax.specs.declared.lexeme.Keyword.TheVariants as keyword
 use Rattle.kahn_syntax.specs.declared.lexeme.Sign.TheVariants as mark
 use Rattle.kahn_syntax.specs.declared.lexeme.Class.{Class}
 use Rattle.kahn_syntax.specs.declared.lexeme.Class.TheVariants as class
-use Rattle.kahn_syntax.specs.declared.tree.Operator.{Operator}
+use Rattle.kahn_tree.specs.declared.tree.Operator.{Operator}
 use Rattle.kahn_syntax.specs.Terminals.{Terminal, word, sign, name, number}
 use Rattle.kahn_syntax.specs.Trees.{rank}
 use Rattle.kahn_syntax.specs.Rungs.{Rung, whole, ors, ands, denials, relations, sums, terms, factors, at, tighter, operator_of}

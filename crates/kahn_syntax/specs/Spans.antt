@@ -4,28 +4,28 @@ use Rattle.std.specs.Prelude.{◌≡◌, ℕ, ℤ, ◌+◌, List, [], ◌∷◌,
 use Rattle.kahn_syntax.specs.declared.lexeme.Keyword.TheVariants as keyword
 use Rattle.kahn_syntax.specs.declared.lexeme.Sign.TheVariants as mark
 use Rattle.kahn_syntax.specs.declared.lexeme.Lexeme.{Lexeme}
-use Rattle.kahn_syntax.specs.declared.span.Span.{Span}
-use Rattle.kahn_syntax.specs.declared.tree.Name.{Name}
-use Rattle.kahn_syntax.specs.declared.tree.Kind.{Kind}
-use Rattle.kahn_syntax.specs.declared.tree.Taking.{Taking}
-use Rattle.kahn_syntax.specs.declared.tree.Taking.TheVariants as taking
-use Rattle.kahn_syntax.specs.declared.tree.Direction.TheVariants as direction
-use Rattle.kahn_syntax.specs.declared.tree.Role.{Role}
-use Rattle.kahn_syntax.specs.declared.tree.Role.TheVariants as role
-use Rattle.kahn_syntax.specs.declared.tree.Form.{Form, Number, Logical, Variable, Wait, Negate', Not', Bracket', Level', Conditional', Row_of-Operand, end_of-Operand, more_of-Operand}
-use Rattle.kahn_syntax.specs.declared.tree.Expression.{Expression}
-use Rattle.kahn_syntax.specs.declared.tree.Operand.{Operand}
-use Rattle.kahn_syntax.specs.declared.tree.Action.{Action, Empty, Assign, Send, Print, Block', If', While', Repeat', Row_of-Statement, end_of-Statement, more_of-Statement, Held-Action-If-2, None', Some'}
-use Rattle.kahn_syntax.specs.declared.tree.Statement.{Statement}
-use Rattle.kahn_syntax.specs.declared.tree.Parameter.{Parameter}
-use Rattle.kahn_syntax.specs.declared.tree.Variable.{Variable as OneVariable}
-use Rattle.kahn_syntax.specs.declared.tree.Process.{Process}
-use Rattle.kahn_syntax.specs.declared.tree.Declaration.{Declaration}
-use Rattle.kahn_syntax.specs.declared.tree.Declaration.TheVariants as declared
-use Rattle.kahn_syntax.specs.declared.tree.Argument.{Argument}
-use Rattle.kahn_syntax.specs.declared.tree.Argument.TheVariants as argued
-use Rattle.kahn_syntax.specs.declared.tree.Instance.{Instance}
-use Rattle.kahn_syntax.specs.declared.tree.Program.{Program}
+use Rattle.kahn_tree.specs.declared.span.Span.{Span}
+use Rattle.kahn_tree.specs.declared.tree.Name.{Name}
+use Rattle.kahn_tree.specs.declared.tree.Kind.{Kind}
+use Rattle.kahn_tree.specs.declared.tree.Taking.{Taking}
+use Rattle.kahn_tree.specs.declared.tree.Taking.TheVariants as taking
+use Rattle.kahn_tree.specs.declared.tree.Direction.TheVariants as direction
+use Rattle.kahn_tree.specs.declared.tree.Role.{Role}
+use Rattle.kahn_tree.specs.declared.tree.Role.TheVariants as role
+use Rattle.kahn_tree.specs.declared.tree.Form.{Form, Number, Logical, Variable, Wait, Negate', Not', Bracket', Level', Conditional', Row_of-Operand, end_of-Operand, more_of-Operand}
+use Rattle.kahn_tree.specs.declared.tree.Expression.{Expression}
+use Rattle.kahn_tree.specs.declared.tree.Operand.{Operand}
+use Rattle.kahn_tree.specs.declared.tree.Action.{Action, Empty, Assign, Send, Print, Block', If', While', Repeat', Row_of-Statement, end_of-Statement, more_of-Statement, Held-Action-If-2, None', Some'}
+use Rattle.kahn_tree.specs.declared.tree.Statement.{Statement}
+use Rattle.kahn_tree.specs.declared.tree.Parameter.{Parameter}
+use Rattle.kahn_tree.specs.declared.tree.Variable.{Variable as OneVariable}
+use Rattle.kahn_tree.specs.declared.tree.Process.{Process}
+use Rattle.kahn_tree.specs.declared.tree.Declaration.{Declaration}
+use Rattle.kahn_tree.specs.declared.tree.Declaration.TheVariants as declared
+use Rattle.kahn_tree.specs.declared.tree.Argument.{Argument}
+use Rattle.kahn_tree.specs.declared.tree.Argument.TheVariants as argued
+use Rattle.kahn_tree.specs.declared.tree.Instance.{Instance}
+use Rattle.kahn_tree.specs.declared.tree.Program.{Program}
 use Rattle.kahn_syntax.specs.Terminals as terminal
 use Rattle.kahn_syntax.specs.Terminals.{Terminal, word, sign, name}
 use Rattle.kahn_syntax.specs.Trees.{operator_terminal, truth_terminal}

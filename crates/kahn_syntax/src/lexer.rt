@@ -10,7 +10,7 @@ ghost use Rattle.kahn_syntax.specs.Items.{IsItem, IsFaultAt};
 use crate::fault::SyntaxFault;
 use crate::lexeme::{Class, Keyword, Lexeme};
 use crate::lexer::forms::{Form, comment_end, form_at, is_blank};
-use crate::span::Span;
+use kahn_tree::span::Span;
 use std::alloc::Global;
 
 /// The most bytes that a text may have.

@@ -1,10 +1,10 @@
-//! The source text of Kahn's language: spans, lexemes, the tree, and the parser.
+//! The source text of Kahn's language: lexemes, and the parser to the tree of `kahn_tree`.
 #![tactic(auto)]
+
+pub use kahn_tree::{span as span, tree as tree};
 
 pub mod fault;
 pub mod keyword;
 pub mod lexeme;
 pub mod lexer;
 pub mod parser;
-pub mod span;
-pub mod tree;

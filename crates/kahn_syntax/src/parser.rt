@@ -21,7 +21,7 @@ pub mod statement;
 
 use crate::fault::SyntaxFault;
 use crate::lexer::lex;
-use crate::tree::Program;
+use kahn_tree::tree::Program;
 use program::parse_lexemes;
 use std::alloc::Global;
 

@@ -6,7 +6,7 @@ mod walk;
 use kahn_check::fault::CheckFault;
 use kahn_check::network::check;
 use kahn_syntax::parser::parse;
-use kahn_syntax::span::Span;
+use kahn_tree::span::Span;
 use std::test::Fail;
 
 fn fault(text: &str, rt: &HostRuntime) -> Option<CheckFault> {

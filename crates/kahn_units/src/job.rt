@@ -15,7 +15,7 @@ use kahn_job::{Job, jobs};
 use kahn_streams::input::Input;
 use kahn_streams::value::Value;
 use kahn_syntax::parser::parse;
-use kahn_syntax::tree::Role;
+use kahn_tree::tree::Role;
 use std::alloc::Global;
 use std::marker::Brand;
 use std::process::Abort;

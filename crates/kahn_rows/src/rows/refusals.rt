@@ -8,7 +8,7 @@ use kahn_report::input::TextFault;
 use kahn_report::work::{WorkFault, work};
 use kahn_streams::entries::InputFault;
 use kahn_syntax::fault::{SyntaxFault, What};
-use kahn_syntax::span::Span;
+use kahn_tree::span::Span;
 use std::alloc::Global;
 use std::sync::Wait;
 use std::test::Fail;

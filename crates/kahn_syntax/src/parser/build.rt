@@ -13,8 +13,8 @@ ghost use Rattle.kahn_syntax.specs.Trees as tree;
 ghost use Rattle.kahn_syntax.specs.Trees.{operator_terminal};
 
 use crate::parser::cursor::Stop;
-use crate::span::Span;
-use crate::tree::{Action, Expression, Form, Operand, Operator, Statement};
+use kahn_tree::span::Span;
+use kahn_tree::tree::{Action, Expression, Form, Operand, Operator, Statement};
 use std::alloc::Global;
 
 /// Minus an operand.

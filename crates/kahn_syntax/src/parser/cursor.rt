@@ -8,7 +8,7 @@ ghost use Rattle.kahn_syntax.specs.Spans.{IsPast, Covers};
 ghost use Rattle.kahn_syntax.specs.declared.parser.cursor.Stop.TheVariants.{Refused, TooDeep, NoMemory};
 
 use crate::lexeme::{Class, Lexeme};
-use crate::span::Span;
+use kahn_tree::span::Span;
 use std::alloc::{AllocError, AllocFailed};
 
 /// The most levels of nesting.

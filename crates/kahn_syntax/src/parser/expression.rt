@@ -16,7 +16,7 @@ use crate::parser::build::{bracketed, chosen, compared, denied, levelled, negate
 use crate::parser::cursor::{Read, Stop, deeper, expect, next, past, reach};
 use crate::parser::names::read_name;
 use crate::parser::operator::{Level, next_comparison, next_not, next_operator};
-use crate::tree::{Expression, Form, Operand};
+use kahn_tree::tree::{Expression, Form, Operand};
 use std::alloc::Global;
 
 /// An expression.

@@ -11,7 +11,7 @@ ghost use Rattle.kahn_syntax.specs.Programs.{names_words, AreNames};
 
 use crate::lexeme::{Class, Lexeme, Sign};
 use crate::parser::cursor::{Read, Stop, past};
-use crate::tree::Name;
+use kahn_tree::tree::Name;
 use std::alloc::Global;
 
 /// The name that stands first.

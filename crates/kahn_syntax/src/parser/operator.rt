@@ -11,7 +11,7 @@ ghost use Rattle.kahn_syntax.specs.Spans.{IsPast};
 
 use crate::lexeme::{Class, Keyword, Lexeme, Sign};
 use crate::parser::cursor::next;
-use crate::tree::Operator;
+use kahn_tree::tree::Operator;
 
 /// A level whose operators may follow one another. From `Or` to `Term` they bind tighter.
 #[derive(Clone, Copy, Debug, PartialEq, Eq)]

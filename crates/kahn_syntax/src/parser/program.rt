@@ -18,8 +18,8 @@ use crate::lexeme::{Class, Keyword, Lexeme, Sign};
 use crate::parser::cursor::{Read, Stop, expect, next, past, reach, span_at};
 use crate::parser::declaration::read_declarations;
 use crate::parser::names::read_name;
-use crate::span::Span;
-use crate::tree::{Argument, Instance, Program};
+use kahn_tree::span::Span;
+use kahn_tree::tree::{Argument, Instance, Program};
 use std::alloc::Global;
 
 /// The program that the lexemes of a text are.

@@ -15,7 +15,7 @@ use crate::parser::build::{block, if_else, if_then, repeated, while_do};
 use crate::parser::cursor::{Read, deeper, expect, next, past, reach};
 use crate::parser::expression::read_expression;
 use crate::parser::names::read_name;
-use crate::tree::{Action, Statement};
+use kahn_tree::tree::{Action, Statement};
 use std::alloc::Global;
 
 /// One statement or more, with semicolons between.

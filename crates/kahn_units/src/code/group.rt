@@ -35,8 +35,8 @@ pub struct Group<A: Allocator + Copy + Drop, L: Ledger> {
 }
 
 impl<A: Allocator + Copy + Drop, L: Ledger> Model for Group<A, L> {
-    ghost use Rattle.kahn_syntax.specs.contracts.tree.Action as action;
-    ghost use Rattle.kahn_syntax.specs.contracts.tree.Form as form;
+    ghost use Rattle.kahn_tree.specs.contracts.tree.Action as action;
+    ghost use Rattle.kahn_tree.specs.contracts.tree.Form as form;
     ghost use Rattle.std.specs.Coded.{codes};
     ghost use Rattle.kahn_units.specs.Groups.{Table, IsSeatedTable};
 

@@ -2,7 +2,7 @@
 
 use kahn_streams::arithmetic::{apply, negated};
 use kahn_streams::value::{Failure, Value};
-use kahn_syntax::tree::Operator;
+use kahn_tree::tree::Operator;
 
 fn whole(operator: Operator, a: i64, b: i64) -> Result<Value, Failure> {
     apply(operator, Value::Integer(a), Value::Integer(b))

@@ -3,7 +3,7 @@
 use kahn_syntax::fault::SyntaxFault;
 use kahn_syntax::lexeme::{Class, Keyword, Lexeme, Sign};
 use kahn_syntax::lexer::lex;
-use kahn_syntax::span::Span;
+use kahn_tree::span::Span;
 use std::test::Fail;
 
 fn lexeme(from: usize, to: usize, what: Class) -> Lexeme {

@@ -3,8 +3,8 @@
 use kahn_syntax::fault::{SyntaxFault, What};
 use kahn_syntax::lexer::lex;
 use kahn_syntax::parser::parse;
-use kahn_syntax::span::Span;
-use kahn_syntax::tree::{Declaration, Program};
+use kahn_tree::span::Span;
+use kahn_tree::tree::{Declaration, Program};
 use std::test::Fail;
 
 const COUNTING: &str =

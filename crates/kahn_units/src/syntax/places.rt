@@ -1,6 +1,6 @@
 //! Lines and columns of a text.
 
-use kahn_syntax::span::Span;
+use kahn_tree::span::Span;
 
 #[test]
 fn places_in_three_lines(rt: HostRuntime) {

@@ -1,5 +1,5 @@
 use Rattle.std.proofs.Common.{◌≡◌, ◌++◌, [], drop}
-use Rattle.kahn_syntax.specs.declared.tree.Direction.TheVariants.{In, Out}
+use Rattle.kahn_tree.specs.declared.tree.Direction.TheVariants.{In, Out}
 use Rattle.kahn_check.specs.Globals.{known}
 use Rattle.kahn_check.specs.Tables.{taken, handed_all, seats_faults}
 use Rattle.kahn_check.proofs.instance.instances.Given as goal

@@ -1,12 +1,12 @@
 use Rattle.std.proofs.Common.{rules, ◌≡◌, ◌∙◌, subst, [], map, IsSome}
 use Rattle.std.specs.List.{AllByRecursion}
-use Rattle.kahn_syntax.specs.View.{bytes_of}
+use Rattle.kahn_tree.specs.View.{bytes_of}
 use Rattle.kahn_check.specs.Network.{process_of}
 use Rattle.kahn_check.specs.Faults.{IsMet}
 use Rattle.kahn_check.specs.Globals.{known}
 use Rattle.kahn_check.specs.Order.{declaration_faults}
 use Rattle.kahn_check.specs.Tables.{seats_faults, sides_in, taken, handed_all}
-use Rattle.kahn_syntax.specs.declared.tree.Direction.TheVariants.{In, Out}
+use Rattle.kahn_tree.specs.declared.tree.Direction.TheVariants.{In, Out}
 use Rattle.kahn_check.specs.Wiring.{declared_channels, entries, declared_of}
 use Rattle.kahn_check.proofs.Linked.{table, whole, met_instances, met_sides}
 use Rattle.kahn_check.proofs.Kept.{all_declared}

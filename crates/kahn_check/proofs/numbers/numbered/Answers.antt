@@ -1,8 +1,8 @@
 use Rattle.std.proofs.Common.{rules, arith, ◌≡◌, ◌+◌, refl, ◌∙◌, sym, ap, subst, ◌∷◌, ◌++◌, [], drop, None, Some, IsSome, bytes_eq}
 use Rattle.std.proofs.lemmas.Grind.{common_steps}
 use Rattle.std.specs.Map.{lookup}
-use Rattle.kahn_syntax.specs.declared.tree.Declaration.TheVariants as D
-use Rattle.kahn_syntax.specs.View.{bytes_of}
+use Rattle.kahn_tree.specs.declared.tree.Declaration.TheVariants as D
+use Rattle.kahn_tree.specs.View.{bytes_of}
 use Rattle.kahn_check.specs.Wires.{the_process}
 use Rattle.kahn_check.proofs.Numbering.{IsNumberedSo, number_new, number_old, number_none}
 use Rattle.kahn_check.proofs.numbers.numbered.Goals as goal

@@ -1,6 +1,6 @@
 use Rattle.std.proofs.Common.{rules, arith, ◌≡◌, ◌+◌, refl, ◌∙◌, sym, ap, subst, ◌∷◌, ◌++◌, [], drop, map}
 use Rattle.std.proofs.lemmas.Grind.{common_steps}
-use Rattle.kahn_syntax.specs.declared.tree.Declaration.TheVariants as D
+use Rattle.kahn_tree.specs.declared.tree.Declaration.TheVariants as D
 use Rattle.kahn_check.specs.Faults.{IsMet}
 use Rattle.kahn_check.specs.Tables.{sides_in}
 use Rattle.kahn_check.specs.Wires.{shown, lines_in}

@@ -1,5 +1,5 @@
 use Rattle.std.proofs.Common.{arith, ◌≡◌, ◌<◌, ◌^◌, sym, ap, ◌∙◌, subst, length, Some}
-use Rattle.kahn_syntax.specs.declared.tree.Program.{Program}
+use Rattle.kahn_tree.specs.declared.tree.Program.{Program}
 use Rattle.kahn_check.specs.Network.{Writes, network_of, instance_at, actual_at}
 use Rattle.kahn_board.specs.Wires.{wires}
 use Rattle.kahn_desk.specs.Turn.{Tells}

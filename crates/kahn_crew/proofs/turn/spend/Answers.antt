@@ -1,5 +1,5 @@
 use Rattle.std.proofs.Common.{arith, ◌≡◌, ◌≤◌, ◌-◌, ◌+◌, sym, ap, ◌∙◌, subst, ℕ, List, Option, Some, None}
-use Rattle.kahn_syntax.specs.declared.tree.Program.{Program}
+use Rattle.kahn_tree.specs.declared.tree.Program.{Program}
 use Rattle.kahn_board.specs.Dealt.{belongs}
 use Rattle.kahn_board.specs.Wires.{wires}
 use Rattle.kahn_board.specs.declared.view.View.{View}

@@ -1,5 +1,5 @@
 use Rattle.std.proofs.Common.{rules}
-use Rattle.kahn_syntax.specs.declared.tree.Action.TheViews.{the_lemmas}
+use Rattle.kahn_tree.specs.declared.tree.Action.TheViews.{the_lemmas}
 use Rattle.kahn_pool.proofs.Printing.{block_prints}
 use Rattle.kahn_pool.proofs.streams.+prints.Goals as goal
 

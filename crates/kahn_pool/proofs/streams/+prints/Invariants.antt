@@ -1,6 +1,6 @@
 use Rattle.std.proofs.Common.{◌≡◌, drop}
-use Rattle.kahn_syntax.specs.Syntax.{prints_in}
-use Rattle.kahn_syntax.specs.View.{Scope, statement_of}
+use Rattle.kahn_tree.specs.Syntax.{prints_in}
+use Rattle.kahn_tree.specs.View.{Scope, statement_of}
 use Rattle.kahn_pool.proofs.Printing.{any_prints}
 use Rattle.kahn_pool.proofs.streams.+prints.Given as goal
 

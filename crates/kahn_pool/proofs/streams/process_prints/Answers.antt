@@ -1,5 +1,5 @@
 use Rattle.std.proofs.Common.{sym, ap, ◌∙◌}
-use Rattle.kahn_syntax.specs.View.{names_of}
+use Rattle.kahn_tree.specs.View.{names_of}
 use Rattle.kahn_pool.proofs.Printing.{any_prints, body_prints}
 use Rattle.kahn_pool.proofs.streams.process_prints.Goals as goal
 

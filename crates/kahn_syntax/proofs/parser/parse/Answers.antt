@@ -9,7 +9,7 @@ use Rattle.kahn_syntax.specs.Faults.{IsFault}
 use Rattle.kahn_syntax.specs.Texts.{AreLexemes, IsTextFault}
 use Rattle.kahn_syntax.proofs.OneList.{same_lexemes}
 use Rattle.kahn_syntax.proofs.Proper.{lexed_proper}
-use Rattle.kahn_syntax.specs.declared.tree.Program.{Program}
+use Rattle.kahn_tree.specs.declared.tree.Program.{Program}
 use Rattle.kahn_syntax.specs.Texts.{HasSpans}
 use Rattle.kahn_syntax.specs.Spans.{ProgramSpans}
 use Rattle.kahn_syntax.proofs.parser.parse.Goals as goal

@@ -3,7 +3,7 @@ use Rattle.std.specs.Map.{lookup}
 use Rattle.std.proofs.Common.{bytes_eq}
 use Rattle.kahn_check.specs.Globals.{known}
 use Rattle.kahn_check.proofs.Global_names.{declared_global, shown, global_none, global_some}
-use Rattle.kahn_syntax.specs.View.{bytes_of}
+use Rattle.kahn_tree.specs.View.{bytes_of}
 use Rattle.kahn_check.proofs.globals.Globals.declare.Goals as goal
 use Rattle.kahn_check.proofs.globals.Globals.declare.Goals.{in-Ok-insert, in-Err}
 

@@ -1,6 +1,6 @@
 use Rattle.std.proofs.Common.{arith}
 use Rattle.kahn_check.proofs.Global_names.{find_global}
-use Rattle.kahn_syntax.specs.View.{bytes_of}
+use Rattle.kahn_tree.specs.View.{bytes_of}
 use Rattle.kahn_check.proofs.globals.Globals.find.Goals as goal
 
 pub returns : goal.returns

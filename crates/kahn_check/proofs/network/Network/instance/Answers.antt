@@ -1,5 +1,5 @@
 use Rattle.std.proofs.Common.{rules, arith, ◌≡◌, ◌∙◌, sym, ap, subst, ◌<◌, length, Some, None, refl}
-use Rattle.kahn_syntax.specs.declared.tree.Declaration.TheVariants as D
+use Rattle.kahn_tree.specs.declared.tree.Declaration.TheVariants as D
 use Rattle.kahn_check.specs.Made.{IsMadeOf}
 use Rattle.kahn_check.specs.Network.{network_of, instance_at, instance_from}
 use Rattle.kahn_check.specs.Sides.{channel_names}

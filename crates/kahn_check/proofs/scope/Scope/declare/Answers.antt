@@ -1,7 +1,7 @@
 use Rattle.std.proofs.Common.{rules, arith, refl, ◌≡◌, ◌∙◌, sym, ap, Option, Some, false, is_some, None, inl}
 use Rattle.kahn_check.proofs.Walk.{declared_name, named}
 use Rattle.kahn_check.specs.Faults.{find}
-use Rattle.kahn_syntax.specs.View.{bytes_of}
+use Rattle.kahn_tree.specs.View.{bytes_of}
 use Rattle.kahn_check.proofs.scope.Scope.declare.Goals as goal
 use Rattle.kahn_check.proofs.scope.Scope.declare.Goals.{in-Ok-insert, in-Err}
 

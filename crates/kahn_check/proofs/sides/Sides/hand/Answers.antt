@@ -1,6 +1,6 @@
 use Rattle.std.proofs.Common.{rules, refl, ap, ◌∙◌}
 use Rattle.kahn_check.proofs.Walk.{declared_name, named}
-use Rattle.kahn_syntax.specs.View.{bytes_of}
+use Rattle.kahn_tree.specs.View.{bytes_of}
 use Rattle.kahn_check.proofs.sides.Sides.hand.Goals as goal
 use Rattle.kahn_check.proofs.sides.Sides.hand.Goals.{in-Ok-insert, in-Err}
 

@@ -1,5 +1,5 @@
 use Rattle.std.proofs.Common.{arith, ◌≡◌, ⊎_elim, subst, sym, ◌∙◌, ap, Some, None}
-use Rattle.kahn_syntax.specs.declared.tree.Program.{Program}
+use Rattle.kahn_tree.specs.declared.tree.Program.{Program}
 use Rattle.kahn_check.specs.Network.{network_of, instance_at, actual_at}
 use Rattle.kahn_check.specs.declared.sides.Side.{Side}
 use Rattle.kahn_code.specs.Lines.{route_of}

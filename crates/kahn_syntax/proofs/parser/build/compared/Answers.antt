@@ -1,5 +1,5 @@
 use Rattle.std.proofs.Common.{refl, sym, subst, ap, ◌∙◌, ◌++◌, ◌∷◌, []}
-use Rattle.kahn_syntax.specs.declared.tree.Form.TheBlock.{hidden-the_row-Operand-0}
+use Rattle.kahn_tree.specs.declared.tree.Form.TheBlock.{hidden-the_row-Operand-0}
 use Rattle.kahn_syntax.specs.Trees.{level}
 use Rattle.kahn_syntax.specs.Drawn.{form_of, operands_of, operands_row}
 use Rattle.kahn_syntax.specs.Spans.{ExpressionSpans, OperandsSpan}

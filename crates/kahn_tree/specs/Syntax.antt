@@ -1,7 +1,7 @@
 -- Abstract syntax: a process body with its names resolved to numbers. The names of a process are numbered
 -- from 0, its parameters first and then its variables, in order of declaration.
 use Rattle.std.specs.Prelude.{ℕ, ℤ, Bool, true, false, ◌||◌}
-use Rattle.kahn_syntax.specs.declared.tree.Operator.{Operator}
+use Rattle.kahn_tree.specs.declared.tree.Operator.{Operator}
 
 pub data Constant : Type 0 where
   Number : ℤ → Constant

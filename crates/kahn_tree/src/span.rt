@@ -2,7 +2,7 @@
 
 ghost use Rattle.std.specs.Prelude.{◌≡◌, ◌-◌, ◌≤◌, ◌==◌, not, length};
 ghost use Rattle.std.specs.List.{suffix_len};
-ghost use Rattle.kahn_syntax.specs.Place.{line_of, column_of};
+ghost use Rattle.kahn_tree.specs.Place.{line_of, column_of};
 
 /// A half-open range of bytes of the text: from `from`, up to and without `to`.
 #[derive(Clone, Copy, Debug, PartialEq, Eq)]

@@ -2,13 +2,13 @@
 -- become nested pairs from the left, and a missing `else` does nothing.
 use Rattle.std.specs.Prelude.{ℕ, suc, List, [], ◌∷◌, ◌++◌, map, string_bytes, if◌then◌else◌}
 use Rattle.std.proofs.Common.{bytes_eq}
-use Rattle.kahn_syntax.specs.declared.tree.Name.{Name}
-use Rattle.kahn_syntax.specs.declared.tree.Form.{Form, Number, Logical, Variable, Wait, Negate', Not', Bracket', Level', Conditional', Row_of-Operand, end_of-Operand, more_of-Operand}
-use Rattle.kahn_syntax.specs.declared.tree.Expression.{Expression}
-use Rattle.kahn_syntax.specs.declared.tree.Action.{Action, Empty, Assign, Send, Print, Block', If', While', Repeat', Row_of-Statement, end_of-Statement, more_of-Statement, Held-Action-If-2, None', Some'}
-use Rattle.kahn_syntax.specs.declared.tree.Statement.{Statement}
-use Rattle.kahn_syntax.specs.declared.tree.Process.{Process}
-use Rattle.kahn_syntax.specs.Syntax as S
+use Rattle.kahn_tree.specs.declared.tree.Name.{Name}
+use Rattle.kahn_tree.specs.declared.tree.Form.{Form, Number, Logical, Variable, Wait, Negate', Not', Bracket', Level', Conditional', Row_of-Operand, end_of-Operand, more_of-Operand}
+use Rattle.kahn_tree.specs.declared.tree.Expression.{Expression}
+use Rattle.kahn_tree.specs.declared.tree.Action.{Action, Empty, Assign, Send, Print, Block', If', While', Repeat', Row_of-Statement, end_of-Statement, more_of-Statement, Held-Action-If-2, None', Some'}
+use Rattle.kahn_tree.specs.declared.tree.Statement.{Statement}
+use Rattle.kahn_tree.specs.declared.tree.Process.{Process}
+use Rattle.kahn_tree.specs.Syntax as S
 
 -- the names of a process, its parameters first and then its variables; a name that isn't there has the number past the last
 abbrev pub Scope : Type 0
