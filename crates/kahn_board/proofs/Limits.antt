@@ -8,8 +8,8 @@ use Rattle.kahn_tree.specs.declared.tree.Kind.{Kind}
 use Rattle.kahn_tree.specs.declared.tree.Role.{Role}
 use Rattle.kahn_tree.specs.declared.tree.Declaration.{Declaration}
 use Rattle.kahn_tree.specs.declared.tree.Declaration.TheVariants as D
-use Rattle.kahn_check.specs.Network.{channels_of, network_of}
-use Rattle.kahn_check.specs.Wiring.{IsWellWired, declared_channels}
+use Rattle.kahn_network.specs.Network.{channels_of, network_of}
+use Rattle.kahn_network.specs.Wiring.{IsWellWired, declared_channels}
 use Rattle.kahn_board.specs.Wires.{wires}
 
 abbrev with_bytes : Kind → Role → Name → List ℕ × (Kind × Role)

@@ -12,7 +12,7 @@ use crate::board::{Board, Seat};
 use crate::rule::{Terms, Told};
 use crate::wiring::Wiring;
 use atomic_table::{Refused, Table};
-use kahn_check::network::Network;
+use kahn_network::network::Network;
 use kahn_streams::memory::NoMemory;
 use std::alloc::{AllocError, Global};
 use std::collections::VecDeque;

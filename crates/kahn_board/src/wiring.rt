@@ -3,7 +3,7 @@
 ghost use Rattle.std.specs.Prelude.{◌≡◌, ◌≤◌, ◌<◌, ℕ, IfOk, length, slice_index_or, None};
 ghost use Rattle.kahn_board.specs.Wires.{wires};
 
-use kahn_check::network::Network;
+use kahn_network::network::Network;
 use kahn_streams::memory::NoMemory;
 use std::alloc::Global;
 

@@ -8,10 +8,10 @@ use Rattle.kahn_tree.specs.View.{bytes_of}
 use Rattle.kahn_check.specs.declared.fault.CheckFault.{CheckFault}
 use Rattle.kahn_check.specs.declared.fault.CheckFault.TheVariants.{DeclaredTwice, TooMany}
 use Rattle.kahn_check.specs.Faults.{verdict, IsMet}
-use Rattle.kahn_check.specs.Wiring as Wiring
-use Rattle.kahn_check.specs.Wiring.{entries, declared_of, IsChannel, IsProcess}
+use Rattle.kahn_network.specs.Wiring as Wiring
+use Rattle.kahn_network.specs.Wiring.{entries, declared_of, IsChannel, IsProcess}
 use Rattle.kahn_check.specs.Order.{too_many, repeated, channel_faults, process_faults, declaration_faults}
-use Rattle.kahn_check.proofs.Wired.{Table, as_channels}
+use Rattle.kahn_network.proofs.Handed.{Table, as_channels}
 use Rattle.kahn_check.proofs.Walk.{verdict_err}
 use Rattle.std.proofs.lemmas.List.{map-append}
 use Rattle.kahn_tree.specs.declared.tree.Process.{Process}

@@ -5,7 +5,7 @@ use Rattle.std.specs.String.{string_eq}
 use Rattle.std.specs.declared.string.String.{String}
 use Rattle.indexmap.specs.IndexMap.{insert_entry}
 use Rattle.kahn_check.specs.declared.globals.Entry.{Entry}
-use Rattle.kahn_check.specs.Wiring.{Global}
+use Rattle.kahn_network.specs.Wiring.{Global}
 use Rattle.kahn_check.specs.Globals.{global_of, option_global}
 
 abbrev pub shown : {A : Type 0} → List (String A × Entry) → List (List ℕ × Global)

@@ -17,12 +17,13 @@ use Rattle.kahn_tree.specs.View.{bytes_of}
 use Rattle.kahn_check.specs.declared.fault.CheckFault.{CheckFault}
 use Rattle.kahn_check.specs.Faults.{IsMet}
 use Rattle.kahn_check.specs.Tables.{Ends, taken, handed_all, side_in, sides_in}
-use Rattle.kahn_check.specs.Wires.{Line, first, line_of, lines_of, line_in, lines_in}
-use Rattle.kahn_check.specs.Wiring.{Handover, same_direction, ends, handed_from, declared_channels}
-use Rattle.kahn_check.specs.declared.sides.Side.{Side}
+use Rattle.kahn_check.specs.Wires.{line_in, lines_in}
+use Rattle.kahn_network.specs.Wires.{Line, first, line_of, lines_of}
+use Rattle.kahn_network.specs.Wiring.{Handover, same_direction, ends, handed_from, declared_channels}
+use Rattle.kahn_network.specs.declared.sides.Side.{Side}
 use Rattle.kahn_check.proofs.Declared.{met_first, met_after}
 use Rattle.kahn_check.proofs.Linked.{sides_more, handed_same, table}
-use Rattle.kahn_check.proofs.Wired.{Table}
+use Rattle.kahn_network.proofs.Handed.{Table}
 
 -- the channels of one declaration
 abbrev pub as_lines : Kind → Role → List Name → List (Name × (Kind × Role))

@@ -21,11 +21,13 @@ use Rattle.kahn_tree.specs.View.{bytes_of}
 use Rattle.kahn_check.specs.declared.fault.CheckFault.{CheckFault}
 use Rattle.kahn_check.specs.declared.fault.CheckFault.TheVariants.{NoWriter, NoReader}
 use Rattle.kahn_check.specs.Faults.{verdict, IsMet, wrong}
-use Rattle.kahn_check.specs.Wiring.{entries, Global, IsChannel, IsProcess, declared_of, declared_channels, global, Handover, handed, handed_in, handed_by, handed_from, parameters_of, same_direction, ends, writers, readers, IsWellWired, side_at}
-use Rattle.kahn_check.specs.declared.sides.Side.{Side}
-use Rattle.kahn_check.specs.Order.{too_many, miscounted, is_closed, overtaken, misplaced, argument_faults, arguments_faults, made_faults, instance_faults, missing, side_faults, sides_faults, declaration_faults, faults}
+use Rattle.kahn_network.specs.Wiring.{entries, Global, IsChannel, IsProcess, declared_of, declared_channels, global, Handover, handed, handed_in, handed_by, handed_from, parameters_of, same_direction, ends, writers, readers, IsWellWired, side_at}
+use Rattle.kahn_network.specs.declared.sides.Side.{Side}
+use Rattle.kahn_check.specs.Order.{too_many, miscounted, overtaken, misplaced, argument_faults, arguments_faults, made_faults, instance_faults, missing, side_faults, sides_faults, declaration_faults, faults}
+use Rattle.kahn_network.specs.Wiring.{is_closed}
 use Rattle.kahn_check.specs.Tables.{Ends, held, taken, side_of, misplaced_in, place_faults, places_faults, made_in, meant, handed_to, handed_all, seats_faults, side_in, sides_in}
-use Rattle.kahn_check.proofs.Wired.{Table, well_wired}
+use Rattle.kahn_check.proofs.Wired.{well_wired}
+use Rattle.kahn_network.proofs.Handed.{Table}
 use Rattle.kahn_check.proofs.Placed.{taken_append}
 use Rattle.kahn_check.proofs.Declared.{met_first, met_after}
 use Rattle.kahn_check.proofs.Typed.{both}

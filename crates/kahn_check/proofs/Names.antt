@@ -6,7 +6,7 @@ use Rattle.kahn_tree.specs.View.{bytes_of}
 use Rattle.kahn_check.specs.declared.fault.CheckFault.{CheckFault}
 use Rattle.kahn_check.specs.declared.fault.CheckFault.TheVariants.{DeclaredTwice}
 use Rattle.kahn_check.specs.Faults.{verdict}
-use Rattle.kahn_check.specs.Wiring.{entries}
+use Rattle.kahn_network.specs.Wiring.{entries}
 use Rattle.kahn_check.specs.Order.{repeated, twice}
 
 pub twice_new : {A : Type 0} (known : List (List ℕ × A)) (e : Name × A) (es : List (Name × A)) → lookup (bytes_eq (bytes_of e.0)) known ≡ None →

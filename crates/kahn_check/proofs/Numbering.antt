@@ -9,9 +9,11 @@ use Rattle.kahn_tree.specs.declared.tree.Instance.{Instance}
 use Rattle.kahn_tree.specs.declared.tree.Declaration.{Declaration}
 use Rattle.kahn_tree.specs.declared.tree.Declaration.TheVariants as D
 use Rattle.kahn_tree.specs.View.{bytes_of}
-use Rattle.kahn_check.specs.Network.{process_of}
-use Rattle.kahn_check.specs.Wires.{number_in, the_process, process_at}
-use Rattle.kahn_check.proofs.Wired.{bytes_true, lookup_skip}
+use Rattle.kahn_network.specs.Network.{process_of}
+use Rattle.kahn_check.specs.Wires.{number_in}
+use Rattle.kahn_network.specs.Wires.{the_process, process_at}
+use Rattle.kahn_check.proofs.Wired.{lookup_skip}
+use Rattle.kahn_network.proofs.Handed.{bytes_true}
 
 later : (k : ℕ) (all : List Declaration) (d : Declaration) (rest : List Declaration) → drop k all ≡ d ∷ rest → drop (suc k) all ≡ rest
 later zero [] d rest h = cc

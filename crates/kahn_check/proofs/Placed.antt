@@ -14,11 +14,11 @@ use Rattle.kahn_tree.specs.View.{bytes_of}
 use Rattle.kahn_check.specs.declared.fault.CheckFault.{CheckFault}
 use Rattle.kahn_check.specs.declared.fault.CheckFault.TheVariants.{TooMany, Unknown, WrongCount}
 use Rattle.kahn_check.specs.Faults.{verdict, IsMet}
-use Rattle.kahn_check.specs.Wiring.{Global, IsChannel, IsProcess, Handover, handed, handed_in, parameters_of, same_direction, side_at}
-use Rattle.kahn_check.specs.declared.sides.Side.{Side}
+use Rattle.kahn_network.specs.Wiring.{Global, IsChannel, IsProcess, Handover, handed, handed_in, parameters_of, same_direction, side_at}
+use Rattle.kahn_network.specs.declared.sides.Side.{Side}
 use Rattle.kahn_check.specs.Order.{too_many, miscounted}
 use Rattle.kahn_check.specs.Tables.{Ends, taken, place_faults, places_faults, made_in, meant, handed_to, handed_all, seats_faults}
-use Rattle.kahn_check.proofs.Wired.{Table}
+use Rattle.kahn_network.proofs.Handed.{Table}
 use Rattle.kahn_check.proofs.Declared.{met_first, met_after}
 
 pub taken_append : (d : Direction) (xs ys : List Handover) → taken d (xs ++ ys) ≡ taken d xs ++ taken d ys

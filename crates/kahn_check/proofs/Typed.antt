@@ -18,8 +18,9 @@ use Rattle.kahn_tree.specs.declared.tree.Action.{Action, Empty, Assign, Send, Pr
 use Rattle.kahn_tree.specs.declared.tree.Statement.{Statement}
 use Rattle.kahn_tree.specs.View.{bytes_of, place_of, expr_of, level_of, expression_of, stmt_of, row_of, else_of, body_of}
 use Rattle.kahn_check.specs.declared.fault.CheckFault.{CheckFault}
-use Rattle.kahn_check.specs.Kinds.{takes, gives, IsTaken, HasKind, Agrees}
-use Rattle.kahn_check.specs.Faults.{Scope, find, same_kind, wrong, misread, misused, kind_in, level_kind, kind_of, wrong_first, wrong_second, spanning, faults_in, level_faults, faults_as, faults_of, row_faults, else_faults, body_faults}
+use Rattle.kahn_network.specs.Kinds.{takes, gives, IsTaken, HasKind, Agrees}
+use Rattle.kahn_check.specs.Faults.{find, same_kind, wrong, misread, misused, kind_in, level_kind, kind_of, wrong_first, wrong_second, spanning, faults_in, level_faults, faults_as, faults_of, row_faults, else_faults, body_faults}
+use Rattle.kahn_network.specs.Wiring.{Scope}
 
 abbrev pub names : Scope → List (List ℕ)
 names s = map (λ e. e.0) s

@@ -1,4 +1,5 @@
 -- A well wired program is without faults.
+use Rattle.kahn_network.proofs.Handed.{keys, bytes_true, bytes_turned, AtMostOne, Table, ends_append, as_channels, bytes_self, IsServed, served}
 use Rattle.std.proofs.Common.{◌≡◌, ℕ, suc, ◌+◌, ◌≤◌, ◌<◌, Bool, true, false, cond, ◌&&◌, ◌⊎◌, inl, inr, List, [], ◌∷◌, ◌++◌, map, length, Option, None, Some, refl, ap, sym, ◌∙◌, subst, bytes_eq, append_assoc, arith, length-append, nat_lt, nat_eq, true≢false}
 use Rattle.std.proofs.lemmas.List.{append-nil, length-map, map-append}
 use Rattle.std.proofs.lemmas.Slice.Eq.{bytes_eq-Decides}
@@ -25,12 +26,13 @@ use Rattle.kahn_tree.specs.declared.tree.Program.{Program}
 use Rattle.kahn_tree.specs.View.{bytes_of}
 use Rattle.kahn_check.specs.declared.fault.CheckFault.{CheckFault}
 use Rattle.kahn_check.specs.declared.fault.CheckFault.TheVariants.{TooMany, WrongCount}
-use Rattle.kahn_check.specs.Wiring.{locals_of, scope_of, entries, Global, IsChannel, IsProcess, declared_of, declared_channels, processes_of, global, Handover, handed, handed_in, handed_by, handed_from, parameters_of, same_direction, ends, writers, readers, IsOne, IsWired, Fits, AllFit, IsMade, IsSound, IsWellWired, side_at}
-use Rattle.kahn_check.specs.declared.sides.Side.{Side}
-use Rattle.kahn_check.specs.Order.{too_many, repeated, twice, process_faults, channel_faults, declaration_faults, is_closed, second, overtaken, misplaced, argument_faults, arguments_faults, miscounted, made_faults, instance_faults, missing, side_faults, sides_faults, faults}
+use Rattle.kahn_network.specs.Wiring.{locals_of, scope_of, entries, Global, IsChannel, IsProcess, declared_of, declared_channels, processes_of, global, Handover, handed, handed_in, handed_by, handed_from, parameters_of, same_direction, ends, writers, readers, IsOne, IsWired, Fits, AllFit, IsMade, IsSound, IsWellWired, side_at}
+use Rattle.kahn_network.specs.declared.sides.Side.{Side}
+use Rattle.kahn_check.specs.Order.{too_many, repeated, twice, process_faults, channel_faults, declaration_faults, second, overtaken, misplaced, argument_faults, arguments_faults, miscounted, made_faults, instance_faults, missing, side_faults, sides_faults, faults}
+use Rattle.kahn_network.specs.Wiring.{is_closed}
 use Rattle.kahn_check.specs.Faults.{wrong}
 use Rattle.kahn_check.proofs.Typed.{nil_left, nil_right, both, disagrees_body, kind_right}
-use Rattle.kahn_check.proofs.Wired.{keys, Table, AtMostOne, as_channels, twice_append, lookup_skip, bytes_self, bytes_true, bytes_turned, ends_append}
+use Rattle.kahn_check.proofs.Wired.{twice_append, lookup_skip}
 
 -- ---- names
 
@@ -129,20 +131,6 @@ a_channel P c kind role (D.Process p ∷ rest) h all = by (bytes_eq c (bytes_of 
     by false i go = go i
 
 -- ---- hand-overs
-
-abbrev pub IsServed : Direction → Role → List Side → Type 0
-IsServed d role es = AtMostOne es × (is_closed d role ≡ true → es ≡ [])
-
-single : (es : List Side) → IsOne es → AtMostOne es
-single es h = subst AtMostOne (sym h.1) tt
-
-pub served : (t : Program) (n : Name) (kind : Kind) (role : Role) (d : Direction) → IsWired t (n, (kind, role)) → IsServed d role (ends d (bytes_of n) (handed_from t 0 t.instances.items))
-served t n kind Inner Out h = (single (writers t (bytes_of n)) h.0, λ i. cc)
-served t n kind Inner In h = (single (readers t (bytes_of n)) h.1, λ i. cc)
-served t n kind Input Out h = (subst AtMostOne (sym h.0) tt, λ i. h.0)
-served t n kind Input In h = (single (readers t (bytes_of n)) h.1, λ i. cc)
-served t n kind Output Out h = (single (writers t (bytes_of n)) h.0, λ i. cc)
-served t n kind Output In h = (subst AtMostOne (sym h.1) tt, λ i. h.1)
 
 abbrev IsServedIn : Program → Type 0
 IsServedIn t = (d : Direction) (c : List ℕ) (kind : Kind) (role : Role) → lookup (bytes_eq c) (entries (declared_of t.declarations.items)) ≡ Some (IsChannel kind role) →

@@ -12,9 +12,10 @@ use Rattle.kahn_tree.specs.declared.tree.Form.TheBlock.{items-the_row-Operand}
 use Rattle.kahn_tree.specs.declared.tree.Operand.{Operand}
 use Rattle.kahn_tree.specs.declared.tree.Action.{Row_of-Statement, end_of-Statement, more_of-Statement}
 use Rattle.kahn_tree.specs.declared.tree.Action.TheBlock.{items-the_row-Statement}
-use Rattle.kahn_check.specs.Kinds.{takes, gives}
+use Rattle.kahn_network.specs.Kinds.{takes, gives}
 use Rattle.kahn_check.specs.declared.fault.CheckFault.{CheckFault}
-use Rattle.kahn_check.specs.Faults.{Scope, find, verdict, wrong_first, wrong_second, spanning, faults_in, kind_of, level_faults, level_kind, row_faults, body_faults, faults_of}
+use Rattle.kahn_check.specs.Faults.{find, verdict, wrong_first, wrong_second, spanning, faults_in, kind_of, level_faults, level_kind, row_faults, body_faults, faults_of}
+use Rattle.kahn_network.specs.Wiring.{Scope}
 
 pub find_named : {A X : Type 0} (x : List ℕ) (es : List (String A × X)) →
     lookup (λ k. bytes_eq x (string_bytes k)) es ≡ lookup (bytes_eq x) (map (λ e. (string_bytes e.0, e.1)) es)

@@ -1,4 +1,5 @@
 -- A program without faults is well wired.
+use Rattle.kahn_network.proofs.Handed.{keys, bytes_true, bytes_turned, AtMostOne, Table, ends_append, as_channels, bytes_self}
 use Rattle.std.proofs.Common.{◌≡◌, ℕ, suc, ◌+◌, ◌≤◌, ◌<◌, Bool, true, false, cond, ◌&&◌, List, [], ◌∷◌, ◌++◌, map, length, Option, None, Some, refl, ap, sym, ◌∙◌, subst, bytes_eq, append_assoc, arith, length-append, nat_lt, nat_eq, true≢false}
 use Rattle.std.proofs.lemmas.List.{append-nil, length-map}
 use Rattle.std.proofs.lemmas.Slice.Eq.{bytes_eq-Decides}
@@ -25,15 +26,13 @@ use Rattle.kahn_tree.specs.declared.tree.Program.{Program}
 use Rattle.kahn_tree.specs.View.{bytes_of}
 use Rattle.kahn_check.specs.declared.fault.CheckFault.{CheckFault}
 use Rattle.kahn_check.specs.Faults.{body_faults, wrong}
-use Rattle.kahn_check.specs.Wiring.{locals_of, scope_of, entries, Global, IsChannel, IsProcess, declared_of, declared_channels, processes_of, global, Handover, handed, handed_in, handed_by, handed_from, parameters_of, same_direction, ends, writers, readers, IsOne, IsWired, Fits, AllFit, IsMade, IsSound, IsWellWired, side_at}
-use Rattle.kahn_check.specs.declared.sides.Side.{Side}
-use Rattle.kahn_check.specs.Order.{too_many, repeated, twice, process_faults, channel_faults, declaration_faults, is_closed, second, overtaken, misplaced, argument_faults, arguments_faults, miscounted, made_faults, instance_faults, missing, side_faults, sides_faults, faults}
+use Rattle.kahn_network.specs.Wiring.{locals_of, scope_of, entries, Global, IsChannel, IsProcess, declared_of, declared_channels, processes_of, global, Handover, handed, handed_in, handed_by, handed_from, parameters_of, same_direction, ends, writers, readers, IsOne, IsWired, Fits, AllFit, IsMade, IsSound, IsWellWired, side_at}
+use Rattle.kahn_network.specs.declared.sides.Side.{Side}
+use Rattle.kahn_check.specs.Order.{too_many, repeated, twice, process_faults, channel_faults, declaration_faults, second, overtaken, misplaced, argument_faults, arguments_faults, miscounted, made_faults, instance_faults, missing, side_faults, sides_faults, faults}
+use Rattle.kahn_network.specs.Wiring.{is_closed}
 use Rattle.kahn_check.proofs.Typed.{nil_left, nil_right, both, agrees_body, kind_known}
 
 -- ---- names that are declared once
-
-abbrev pub keys : {A : Type 0} → List (List ℕ × A) → List (List ℕ)
-keys xs = map (λ e. e.0) xs
 
 all_map : {X : Type 0} (P Q : X → Type 0) → ((x : X) → P x → Q x) → (xs : List X) → AllByRecursion P xs → AllByRecursion Q xs
 all_map P Q f [] h = h
@@ -52,16 +51,6 @@ lookup_end test (e ∷ es) x a h = by (test e.0) h (lookup_end test es x a)
         (cond b (Some e.1) (lookup test es) ≡ None) × (test x ≡ false)
     by true i go = cc
     by false i go = go i
-
-pub bytes_true : (x y : List ℕ) → bytes_eq x y ≡ true → x ≡ y
-bytes_true x y h = (bytes_eq-Decides x y).0 h
-
-pub bytes_turned : (x y : List ℕ) → bytes_eq y x ≡ false → bytes_eq x y ≡ false
-bytes_turned x y h = by (bytes_eq x y) refl
-  where
-    by : (b : Bool) → bytes_eq x y ≡ b → b ≡ false
-    by true i = absurd (true≢false (sym (subst (λ z. bytes_eq z y ≡ true) (bytes_true x y i) i) ∙ subst (λ z. bytes_eq y z ≡ false) (bytes_true x y i) h))
-    by false i = refl
 
 unrepeated : {A : Type 0} (o : Option A) (at : Span) → repeated o at ≡ [] → o ≡ None
 unrepeated None at h = refl
@@ -97,29 +86,12 @@ sound p h =
 
 -- ---- hand-overs
 
-abbrev pub AtMostOne : List Side → Type 0
-AtMostOne [] = Unit {0}
-AtMostOne (e ∷ []) = Unit {0}
-AtMostOne (e ∷ f ∷ es) = ⊥
-
-abbrev pub Table : Type 0
-Table = List (List ℕ × Global)
-
 -- where the channel has no such side, nobody has it
 abbrev pub IsShut : Table → Direction → List ℕ → List Handover → Type 0
 IsShut g d c hs = (kind : Kind) (role : Role) → lookup (bytes_eq c) g ≡ Some (IsChannel kind role) → is_closed d role ≡ true → ends d c hs ≡ []
 
 abbrev pub IsFair : Table → Direction → List ℕ → List Handover → Type 0
 IsFair g d c hs = AtMostOne (ends d c hs) × IsShut g d c hs
-
-pub ends_append : (d : Direction) (c : List ℕ) (xs ys : List Handover) → ends d c (xs ++ ys) ≡ ends d c xs ++ ends d c ys
-ends_append d c [] ys = refl
-ends_append d c (x ∷ xs) ys = by (same_direction d x.direction && bytes_eq c x.channel) (ends_append d c xs ys)
-  where
-    by : (b : Bool) → ends d c (xs ++ ys) ≡ ends d c xs ++ ends d c ys →
-        cond b (x.end ∷ ends d c (xs ++ ys)) (ends d c (xs ++ ys)) ≡ cond b (x.end ∷ ends d c xs) (ends d c xs) ++ ends d c ys
-    by true h = ap (λ r. x.end ∷ r) h
-    by false h = h
 
 pub placed : (d : Direction) (k : Kind) (o : Option Global) (taken : List Side) (at : Span) → misplaced d k o taken at ≡ [] →
     (role : Role) × (o ≡ Some (IsChannel k role)) × (is_closed d role ≡ false) × (taken ≡ [])
@@ -270,9 +242,6 @@ wired_all t (c ∷ cs) h all fair = (wired t c.0 c.1.0 c.1.1 (nil_left (side_fau
 
 -- ---- the declarations, one after another
 
-abbrev pub as_channels : Kind → Role → List Name → List (Name × Global)
-as_channels kind role xs = map (λ x. (x, IsChannel kind role)) xs
-
 pub twice_append : {A : Type 0} (known : List (List ℕ × A)) (xs ys : List (Name × A)) → twice known (xs ++ ys) ≡ twice known xs ++ twice (known ++ entries xs) ys
 twice_append known [] ys = ap (λ k. twice k ys) (sym (append-nil known))
 twice_append known (x ∷ xs) ys =
@@ -318,9 +287,6 @@ lookup_skip test (e ∷ es) ys h = by (test e.0) h (lookup_skip test es ys)
         cond b (Some e.1) (lookup test (es ++ ys)) ≡ lookup test ys
     by true i go = cc
     by false i go = go i
-
-pub bytes_self : (x : List ℕ) → bytes_eq x x ≡ true
-bytes_self x = (bytes_eq-Decides x x).1 refl
 
 -- each name stands for what its own declaration says
 found : {A : Type 0} (known : List (List ℕ × A)) (es : List (Name × A)) → twice known es ≡ [] →

@@ -1,5 +1,6 @@
 -- What is wrong with a program, in the order in which it is looked for. Only the first is answered: what is
 -- listed after it is of no import.
+use Rattle.kahn_network.specs.Wiring.{Scope}
 use Rattle.std.specs.Prelude.{◌≡◌, ◌⊎◌, ℕ, Bool, true, false, List, [], ◌∷◌, ◌++◌, map, Option, None, Some, Result, Ok, Err, string_bytes, if◌then◌else◌}
 use Rattle.std.proofs.Common.{bytes_eq}
 use Rattle.std.specs.Map.{lookup}
@@ -18,13 +19,9 @@ use Rattle.kahn_tree.specs.declared.tree.Expression.{Expression}
 use Rattle.kahn_tree.specs.declared.tree.Action.{Action, Empty, Assign, Send, Print, Block', If', While', Repeat', Row_of-Statement, end_of-Statement, more_of-Statement, Held-Action-If-2, None', Some'}
 use Rattle.kahn_tree.specs.declared.tree.Statement.{Statement}
 use Rattle.kahn_tree.specs.View.{bytes_of}
-use Rattle.kahn_check.specs.Kinds.{takes, gives}
+use Rattle.kahn_network.specs.Kinds.{takes, gives}
 use Rattle.kahn_check.specs.declared.fault.CheckFault.{CheckFault}
 use Rattle.kahn_check.specs.declared.fault.CheckFault.TheVariants.{Unknown, WrongKind, ChannelExpected, ValueExpected, WrongDirection, NoMemory}
-
--- what the names of a process stand for, in order of declaration
-abbrev pub Scope : Type 0
-Scope = List (List ℕ × Taking)
 
 abbrev pub find : Scope → List ℕ → Option Taking
 find s x = lookup (bytes_eq x) s

@@ -3,7 +3,7 @@ use Rattle.std.specs.Prelude.{ℕ, List, map, Option, None, Some, string_bytes}
 use Rattle.kahn_check.specs.declared.globals.Entry.{Entry}
 use Rattle.kahn_check.specs.declared.globals.Entry.TheVariants as E
 use Rattle.kahn_check.specs.declared.globals.Globals.{Globals}
-use Rattle.kahn_check.specs.Wiring.{Global, IsChannel, IsProcess}
+use Rattle.kahn_network.specs.Wiring.{Global, IsChannel, IsProcess}
 
 abbrev pub global_of : Entry → Global
 global_of (E.Channel kind role) = IsChannel kind role

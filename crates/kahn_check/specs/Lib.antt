@@ -1,11 +1,11 @@
-pub mod Network
-pub mod Kinds
 pub mod Faults
-pub mod Wiring
 pub mod Order
 pub mod Globals
 pub mod Tables
-pub mod Sides
-pub mod Sources
-pub mod Made
 pub mod Wires
+pub use Rattle.kahn_network.specs.Network
+pub use Rattle.kahn_network.specs.Kinds
+pub use Rattle.kahn_network.specs.Wiring
+pub use Rattle.kahn_network.specs.Sides
+pub use Rattle.kahn_network.specs.Sources
+pub use Rattle.kahn_network.specs.Made

@@ -1,4 +1,5 @@
 -- What is wrong with a whole program, in the order in which it is looked for.
+use Rattle.kahn_network.specs.Wiring.{is_closed}
 use Rattle.std.specs.Prelude.{◌≡◌, ℕ, suc, ◌+◌, Bool, true, false, ◌||◌, List, [], ◌∷◌, ◌++◌, map, length, Option, None, Some, if◌then◌else◌, nat_lt, nat_eq}
 use Rattle.std.proofs.Common.{bytes_eq}
 use Rattle.std.specs.Map.{lookup}
@@ -22,8 +23,8 @@ use Rattle.kahn_tree.specs.declared.tree.Instance.{Instance}
 use Rattle.kahn_tree.specs.declared.tree.Program.{Program}
 use Rattle.kahn_tree.specs.View.{bytes_of}
 use Rattle.kahn_check.specs.Faults.{wrong, body_faults}
-use Rattle.kahn_check.specs.Wiring.{locals_of, scope_of, entries, Global, IsChannel, IsProcess, declared_of, declared_channels, global, Handover, handed, handed_by, handed_from, ends, writers, readers, side_at}
-use Rattle.kahn_check.specs.declared.sides.Side.{Side}
+use Rattle.kahn_network.specs.Wiring.{locals_of, scope_of, entries, Global, IsChannel, IsProcess, declared_of, declared_channels, global, Handover, handed, handed_by, handed_from, ends, writers, readers, side_at}
+use Rattle.kahn_network.specs.declared.sides.Side.{Side}
 use Rattle.kahn_check.specs.declared.fault.CheckFault.{CheckFault}
 use Rattle.kahn_check.specs.declared.fault.CheckFault.TheVariants.{DeclaredTwice, Unknown, WrongCount, ChannelExpected, ValueExpected, NoWriter, TwoWriters, NoReader, TwoReaders, TooMany}
 
@@ -59,15 +60,6 @@ declaration_faults known n (D.Process p ∷ rest) =
     repeated (lookup (bytes_eq (bytes_of p.name)) known) p.name.span ++ (process_faults p ++ declaration_faults (known ++ (bytes_of p.name, IsProcess p) ∷ []) n rest)
 
 -- ---- instances
-
--- whether no instance may stand at that side of the channel
-abbrev pub is_closed : Direction → Role → Bool
-is_closed Out Input = true
-is_closed Out Inner = false
-is_closed Out Output = false
-is_closed In Output = true
-is_closed In Inner = false
-is_closed In Input = false
 
 abbrev pub second : Direction → Span → CheckFault
 second Out at = TwoWriters at

@@ -18,8 +18,8 @@ use Rattle.kahn_tree.specs.declared.tree.Argument.TheVariants as A
 use Rattle.kahn_tree.specs.View.{bytes_of}
 use Rattle.kahn_check.specs.Faults.{wrong}
 use Rattle.kahn_tree.specs.declared.tree.Instance.{Instance}
-use Rattle.kahn_check.specs.Wiring.{Global, IsChannel, IsProcess, Handover, handed, handed_in, parameters_of, same_direction, side_at}
-use Rattle.kahn_check.specs.declared.sides.Side.{Side}
+use Rattle.kahn_network.specs.Wiring.{Global, IsChannel, IsProcess, Handover, handed, handed_in, parameters_of, same_direction, side_at}
+use Rattle.kahn_network.specs.declared.sides.Side.{Side}
 use Rattle.kahn_check.specs.Order.{misplaced, too_many, miscounted, missing}
 use Rattle.kahn_check.specs.declared.fault.CheckFault.{CheckFault}
 use Rattle.kahn_check.specs.declared.fault.CheckFault.TheVariants.{Unknown, ChannelExpected, ValueExpected, NoWriter, NoReader}

@@ -1,4 +1,4 @@
--- The tables of a network, as its program has them.
+-- The tables of the walk, as a network keeps them.
 use Rattle.std.specs.Prelude.{◌≡◌, ℕ, suc, List, [], ◌∷◌, map, Option, None, Some, slice_get, string_bytes, if◌then◌else◌}
 use Rattle.std.proofs.Common.{bytes_eq}
 use Rattle.std.specs.Map.{lookup}
@@ -10,29 +10,12 @@ use Rattle.kahn_tree.specs.declared.tree.Declaration.{Declaration}
 use Rattle.kahn_tree.specs.declared.tree.Declaration.TheVariants as D
 use Rattle.kahn_tree.specs.declared.tree.Program.{Program}
 use Rattle.kahn_tree.specs.View.{bytes_of}
-use Rattle.kahn_check.specs.Network.{process_of}
+use Rattle.kahn_network.specs.Network.{process_of}
 use Rattle.kahn_check.specs.Tables.{Ends}
-use Rattle.kahn_check.specs.Wiring.{declared_channels, writers, readers, IsWellWired}
-use Rattle.kahn_check.specs.declared.sides.Side.{Side}
-use Rattle.kahn_check.specs.declared.wires.Wire.{Wire}
-
--- a channel's name, kind and role, its writer and its reader
-abbrev pub Line : Type 0
-Line = (List ℕ × (Kind × Role)) × (Option Side × Option Side)
-
-abbrev pub shown : Wire → Line
-shown w = ((string_bytes w.name, (w.kind, w.role)), (w.writer, w.reader))
-
-abbrev pub first : List Side → Option Side
-first [] = None
-first (e ∷ es) = Some e
-
-abbrev pub line_of : Program → Name × (Kind × Role) → Line
-line_of t c = ((bytes_of c.0, c.1), (first (writers t (bytes_of c.0)), first (readers t (bytes_of c.0))))
-
--- each declared channel with its first writer and its first reader
-abbrev pub lines_of : Program → List Line
-lines_of t = map (line_of t) (declared_channels t.declarations.items)
+use Rattle.kahn_network.specs.Wiring.{declared_channels, writers, readers, IsWellWired}
+use Rattle.kahn_network.specs.declared.sides.Side.{Side}
+use Rattle.kahn_network.specs.declared.wires.Wire.{Wire}
+use Rattle.kahn_network.specs.Wires.{Line}
 
 -- the same by the tables of the walk
 abbrev pub line_in : Ends → Ends → Name × (Kind × Role) → Line
@@ -46,18 +29,3 @@ abbrev pub number_in : ℕ → List Declaration → List ℕ → Option ℕ
 number_in k [] x = None
 number_in k (D.Channels kind role names ∷ rest) x = number_in (suc k) rest x
 number_in k (D.Process p ∷ rest) x = if bytes_eq x (bytes_of p.name) then Some k else number_in (suc k) rest x
-
-abbrev pub the_process : Option Declaration → Option Process
-the_process None = None
-the_process (Some (D.Channels kind role names)) = None
-the_process (Some (D.Process p)) = Some p
-
--- the process that is declared there
-abbrev pub process_at : List Declaration → ℕ → Option Process
-process_at ds k = the_process (slice_get ds k)
-
--- what a network keeps beside its program
-pub record IsKept (t : Program) (wires : List Wire) (processes : List ℕ) : Type 0 where
-  pub wired : IsWellWired t
-  pub lines : map shown wires ≡ lines_of t
-  pub numbers : map (process_at t.declarations.items) processes ≡ map (λ i. process_of t.declarations.items (bytes_of i.process)) t.instances.items

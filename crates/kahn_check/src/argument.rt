@@ -4,8 +4,9 @@ ghost use Rattle.std.specs.Prelude.{◌≡◌, ◌++◌, ◌∷◌, [], MatchRes
 ghost use Rattle.kahn_tree.specs.View.{bytes_of};
 ghost use Rattle.kahn_check.specs.Faults.{IsMet};
 ghost use Rattle.kahn_check.specs.Globals.{known};
-ghost use Rattle.kahn_check.specs.Order.{is_closed, second as second_of};
-ghost use Rattle.kahn_check.specs.Wiring.{handed};
+ghost use Rattle.kahn_check.specs.Order.{second as second_of};
+ghost use Rattle.kahn_network.specs.Wiring.{is_closed};
+ghost use Rattle.kahn_network.specs.Wiring.{handed};
 ghost use Rattle.kahn_check.specs.Tables.{misplaced_in, place_faults, taken};
 
 use crate::expression::agree;

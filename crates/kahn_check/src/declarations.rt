@@ -3,7 +3,7 @@
 ghost use Rattle.std.specs.Prelude.{◌≡◌, ◌≤◌, ◌+◌, ◌++◌, [], MatchResult, map, length};
 ghost use Rattle.kahn_check.specs.Faults.{IsMet};
 ghost use Rattle.kahn_check.specs.Globals.{known};
-ghost use Rattle.kahn_check.specs.Wiring.{entries, declared_of, IsChannel};
+ghost use Rattle.kahn_network.specs.Wiring.{entries, declared_of, IsChannel};
 ghost use Rattle.kahn_check.specs.Order.{channel_faults, declaration_faults};
 
 use crate::fault::CheckFault;

@@ -3,7 +3,7 @@
 ghost use Rattle.std.specs.Prelude.{◌≡◌, ◌++◌, [], MatchResult, length};
 ghost use Rattle.kahn_check.specs.Faults.{IsMet};
 ghost use Rattle.kahn_check.specs.Globals.{known};
-ghost use Rattle.kahn_check.specs.Wiring.{handed_in};
+ghost use Rattle.kahn_network.specs.Wiring.{handed_in};
 ghost use Rattle.kahn_check.specs.Tables.{places_faults, taken, handed_all, seats_faults};
 
 use crate::argument::place;

@@ -1,67 +1,19 @@
-//! A checked network.
+//! The check of a program.
 
-ghost use Rattle.std.specs.Prelude.{◌≡◌, ◌<◌, MatchResult, Some, length, slice_get, slice_index_or, ℕ};
-ghost use Rattle.kahn_tree.specs.View.{bytes_of};
+ghost use Rattle.std.specs.Prelude.{◌≡◌, MatchResult};
 ghost use Rattle.kahn_check.specs.Faults.{IsMet};
-ghost use Rattle.kahn_check.specs.Made.{IsMadeOf};
-ghost use Rattle.kahn_check.specs.Network.{network_of, instance_at, instance_from, kind_at, role_at, channel_source, process_of};
 ghost use Rattle.kahn_check.specs.Order.{faults};
-ghost use Rattle.kahn_check.specs.Sides.{IsOnly, IsWriter, IsReader, source_of, channel_names};
-ghost use Rattle.kahn_check.specs.Wiring.{IsWellWired};
+ghost use Rattle.kahn_network.specs.Wiring.{IsWellWired};
 
 use crate::declarations::declarations;
 use crate::fault::CheckFault;
 use crate::instance::instances;
 use crate::numbers::processes;
-use crate::sides::Side;
-use crate::wires::{Wire, all_wires};
-use kahn_tree::tree::{Argument, Declaration, Kind, Process, Program, Role};
+use crate::wires::all_wires;
+use kahn_network::network::kept;
+pub use kahn_network::network::{Channel as Channel, Instance as Instance, Network as Network};
+use kahn_tree::tree::Program;
 use std::alloc::Global;
-use std::marker::Model;
-
-/// A well wired program. Contracts see the program that it was made from.
-#[derive(Drop)]
-pub struct Network {
-    program: Program,
-    wires: Vec<Wire>,
-    processes: Vec<usize>,
-}
-
-impl Model for Network {
-    ghost use Rattle.kahn_tree.specs.contracts.tree.Action as action;
-    ghost use Rattle.kahn_tree.specs.contracts.tree.Form as form;
-    ghost use Rattle.kahn_tree.specs.declared.tree.Program.{Program};
-    ghost use Rattle.std.specs.Coded.{codes};
-    ghost use Rattle.kahn_check.specs.Wires.{IsKept};
-
-    ghost Value = { Program };
-
-    ghost coded = { Prim.hlevel (codes, action.the_row.coded, form.the_row.coded) };
-
-    ghost view = { λ n. n.program };
-
-    ghost invariant = { λ n. IsKept n.program n.wires.items n.processes.items };
-}
-
-/// A channel of a network.
-#[derive(Clone, Copy)]
-pub struct Channel<'n> {
-    /// Its declared name.
-    pub name: &'n str,
-    /// The kind of its values.
-    pub kind: Kind,
-    /// Whether it is written or read from outside.
-    pub role: Role,
-}
-
-/// An instance of a network.
-#[derive(Clone, Copy)]
-pub struct Instance<'n> {
-    /// The process that it runs.
-    pub process: &'n Process,
-    /// What is handed to the parameters of the process, one for each.
-    pub arguments: &'n [Argument],
-}
 
 /// The network of a program, or the first thing that is wrong with it, in this order: the declarations
 /// in text order, then the instances, then each declared channel that lacks a writer or a reader.
@@ -74,81 +26,5 @@ pub fn check(alloc: Global, program: Program) -> Result<Network, CheckFault>
     drop(globals);
     let wires = all_wires(alloc, &writers, &readers, &program.declarations)?;
     let places = processes(alloc, &program.declarations, &program.instances)?;
-    Ok(Network {
-        program,
-        wires,
-        processes: places,
-    })
-}
-
-impl Network {
-    /// The program that was checked. It is well wired.
-    pub fn program(&self) -> &Program
-        ensures same { result.now ≡ self.now }
-        ensures wired { IsWellWired self.now }
-    {
-        &self.program
-    }
-
-    /// The number of channels.
-    pub fn channels(&self) -> usize
-        ensures { result ≡ length (network_of self.now).channels }
-    {
-        self.wires.len()
-    }
-
-    /// The number of instances.
-    pub fn instances(&self) -> usize
-        ensures { result ≡ length (network_of self.now).instances }
-    {
-        self.program.instances.len()
-    }
-
-    /// The channel with that number, counted from 0 in order of declaration.
-    pub fn channel(&self, channel: usize) -> Channel<'_>
-        requires { channel < length (network_of self.now).channels }
-        ensures name { slice_get (channel_names self.now) channel ≡ Some result.name.now }
-        ensures kind { result.kind ≡ kind_at (network_of self.now) channel }
-        ensures role { result.role ≡ role_at (network_of self.now) channel }
-    {
-        let wire = &self.wires[channel];
-        Channel {
-            name: wire.name.as_str(),
-            kind: wire.kind,
-            role: wire.role,
-        }
-    }
-
-    /// Who writes the channel with that number; nobody does where it is an input.
-    pub fn writer(&self, channel: usize) -> Option<Side>
-        requires { channel < length (network_of self.now).channels }
-        ensures only { IsOnly (IsWriter (network_of self.now) channel) result }
-        ensures source { channel_source (network_of self.now) channel ≡ source_of result }
-    {
-        self.wires[channel].writer
-    }
-
-    /// Who reads the channel with that number; nobody does where it is an output.
-    pub fn reader(&self, channel: usize) -> Option<Side>
-        requires { channel < length (network_of self.now).channels }
-        ensures only { IsOnly (IsReader (network_of self.now) channel) result }
-    {
-        self.wires[channel].reader
-    }
-
-    /// The instance with that number, counted from 0 in text order.
-    pub fn instance(&self, instance: usize) -> Instance<'_>
-        requires { instance < length (network_of self.now).instances }
-        ensures declared { IsMadeOf self.now instance result.process.now result.arguments.now }
-        ensures made { instance_at (network_of self.now) instance ≡ instance_from (channel_names self.now) (Some result.process.now) result.arguments.now }
-    {
-        let number = self.processes[instance];
-        match &self.program.declarations[number] {
-            Declaration::Process(process) => Instance {
-                process,
-                arguments: &self.program.instances[instance].arguments,
-            },
-            Declaration::Channels(_, _, _) => unreachable!(),
-        }
-    }
+    Ok(kept(program, wires, places))
 }

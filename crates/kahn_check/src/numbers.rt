@@ -5,8 +5,9 @@ ghost use Rattle.std.specs.List.{AllByRecursion};
 ghost use Rattle.std.specs.Map.{lookup};
 ghost use Rattle.std.proofs.Common.{bytes_eq};
 ghost use Rattle.kahn_tree.specs.View.{bytes_of};
-ghost use Rattle.kahn_check.specs.Network.{process_of};
-ghost use Rattle.kahn_check.specs.Wires.{number_in, process_at};
+ghost use Rattle.kahn_network.specs.Network.{process_of};
+ghost use Rattle.kahn_check.specs.Wires.{number_in};
+ghost use Rattle.kahn_network.specs.Wires.{process_at};
 
 use crate::fault::CheckFault;
 use indexmap::IndexMap;

@@ -2,7 +2,7 @@
 
 ghost use Rattle.std.specs.Prelude.{◌≡◌, [], MatchResult};
 ghost use Rattle.kahn_check.specs.Faults.{IsMet};
-ghost use Rattle.kahn_check.specs.Wiring.{locals_of, scope_of};
+ghost use Rattle.kahn_network.specs.Wiring.{locals_of, scope_of};
 ghost use Rattle.kahn_check.specs.Order.{twice, process_faults};
 
 use crate::fault::CheckFault;

@@ -7,18 +7,10 @@ ghost use Rattle.kahn_tree.specs.View.{bytes_of};
 
 use crate::fault::CheckFault;
 use indexmap::IndexMap;
+pub use kahn_network::sides::Side;
 use kahn_tree::tree::Name;
 use std::alloc::Global;
 use std::marker::Model;
-
-/// Where a channel is handed over: an instance and its parameter, each by its number from 0.
-#[derive(Clone, Copy, Debug, PartialEq, Eq)]
-pub struct Side {
-    /// The instance.
-    pub instance: usize,
-    /// The parameter of that instance's process.
-    pub parameter: usize,
-}
 
 /// By the channel's name, where this side of it is.
 #[derive(Drop)]
@@ -28,7 +20,7 @@ pub struct Sides {
 
 impl Model for Sides {
     ghost use Rattle.std.specs.Prelude.{List, ℕ, map, string_bytes};
-    ghost use Rattle.kahn_check.specs.declared.sides.Side.{Side};
+    ghost use Rattle.kahn_network.specs.declared.sides.Side.{Side};
 
     ghost Value = { List (List ℕ × Side) };
 

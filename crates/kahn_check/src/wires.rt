@@ -3,23 +3,15 @@
 ghost use Rattle.std.specs.Prelude.{◌≡◌, ◌++◌, [], MatchResult, map};
 ghost use Rattle.kahn_check.specs.Faults.{verdict, IsMet};
 ghost use Rattle.kahn_check.specs.Tables.{side_in, sides_in};
-ghost use Rattle.kahn_check.specs.Wires.{shown, line_in, lines_in};
-ghost use Rattle.kahn_check.specs.Wiring.{declared_channels};
+ghost use Rattle.kahn_check.specs.Wires.{line_in, lines_in};
+ghost use Rattle.kahn_network.specs.Wires.{shown};
+ghost use Rattle.kahn_network.specs.Wiring.{declared_channels};
 
 use crate::fault::CheckFault;
-use crate::sides::{Side, Sides};
+use crate::sides::Sides;
+pub use kahn_network::wires::Wire;
 use kahn_tree::tree::{Declaration, Kind, Name, Role};
 use std::alloc::Global;
-
-/// A declared channel, and where its two sides are.
-#[derive(Drop)]
-pub struct Wire {
-    pub name: String,
-    pub kind: Kind,
-    pub role: Role,
-    pub writer: Option<Side>,
-    pub reader: Option<Side>,
-}
 
 /// Whether the sides of a channel that must be taken are taken.
 pub fn side(writers: &Sides, readers: &Sides, name: &Name, role: Role) -> Result<(), CheckFault>

@@ -4,7 +4,7 @@ use Rattle.std.proofs.Common.{bytes_eq}
 use Rattle.kahn_tree.specs.declared.tree.Parameter.{Parameter}
 use Rattle.kahn_tree.specs.declared.tree.Argument.{Argument}
 use Rattle.kahn_tree.specs.View.{Scope, place_of}
-use Rattle.kahn_check.specs.Network.{Actual, actual_of, actuals_of}
+use Rattle.kahn_network.specs.Network.{Actual, actual_of, actuals_of}
 
 drop_some : {A : Type 0} (xs : List A) (k : ℕ) (x : A) → slice_get xs k ≡ Some x → drop k xs ≡ x ∷ drop (suc k) xs
 drop_some [] k x e = absurd cc

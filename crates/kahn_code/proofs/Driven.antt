@@ -4,13 +4,13 @@ use Rattle.std.proofs.lemmas.Option.{slice_get-get_or}
 use Rattle.std.proofs.lemmas.List.{get_or_past}
 use Rattle.kahn_tree.specs.declared.tree.Program.{Program}
 use Rattle.kahn_tree.specs.Syntax.{Number}
-use Rattle.kahn_check.specs.Network.{Network, Writes, Hands, network_of, instance_at, actual_at, Written, idle, channel_source}
-use Rattle.kahn_check.specs.Sides.{IsWriter, IsOnly, IsListed, IsFit, source_of}
-use Rattle.kahn_check.specs.Wiring.{IsWellWired}
-use Rattle.kahn_check.specs.declared.sides.Side.{Side}
-use Rattle.kahn_check.proofs.Fitted.{instances_fit}
-use Rattle.kahn_check.proofs.Numbered.{all_at}
-use Rattle.kahn_check.proofs.Sided.{one_writer, sourced, declared_there}
+use Rattle.kahn_network.specs.Network.{Network, Writes, Hands, network_of, instance_at, actual_at, Written, idle, channel_source}
+use Rattle.kahn_network.specs.Sides.{IsWriter, IsOnly, IsListed, IsFit, source_of}
+use Rattle.kahn_network.specs.Wiring.{IsWellWired}
+use Rattle.kahn_network.specs.declared.sides.Side.{Side}
+use Rattle.kahn_network.proofs.Fitted.{instances_fit}
+use Rattle.kahn_network.proofs.Numbered.{all_at}
+use Rattle.kahn_network.proofs.Sided.{one_writer, sourced, declared_there}
 use Rattle.kahn_code.specs.Cells.{AreDriven}
 use Rattle.kahn_code.proofs.Lists.{split_at, writes_past}
 

@@ -2,11 +2,11 @@
 use Rattle.std.proofs.Common.{arith, ◌≡◌, ◌⊎◌, inl, inr, ◌≤◌, ℕ, zero, suc, ◌<◌, ◌+◌, List, [], ◌∷◌, length, map, Option, Some, None, refl, sym, ap, ◌∙◌, subst, slice_get, slice_index_or, pos, le_of_suc-le-suc}
 use Rattle.kahn_tree.specs.declared.tree.Program.{Program}
 use Rattle.kahn_tree.specs.Syntax.{Number}
-use Rattle.kahn_check.specs.Network.{Network, Actual, Hands, idle, Given, Written, source_by, first_writer, network_of, instance_at, actual_at, role_at}
+use Rattle.kahn_network.specs.Network.{Network, Actual, Hands, idle, Given, Written, source_by, first_writer, network_of, instance_at, actual_at, role_at}
 use Rattle.kahn_tree.specs.declared.tree.Role.TheVariants.{Input}
 use Rattle.kahn_streams.specs.declared.value.Line.TheVariants.{Channel}
 use Rattle.kahn_streams.specs.Solution.{source}
-use Rattle.kahn_check.specs.Wiring.{IsWellWired}
+use Rattle.kahn_network.specs.Wiring.{IsWellWired}
 use Rattle.kahn_streams.specs.Tokens.{Lists, inputs_of}
 use Rattle.kahn_code.specs.Queues.{Waiting}
 use Rattle.kahn_code.specs.Lines.{AreFirst, at_first, AreQueued, AreRoutes, route, route_of}

@@ -6,7 +6,7 @@ use Rattle.std.proofs.lemmas.List.{get_or_past, map-append}
 use Rattle.kahn_tree.specs.Syntax.{Number}
 use Rattle.std.proofs.Common.{pos, slice_index_or}
 use Rattle.kahn_streams.proofs.Frame.{Begins}
-use Rattle.kahn_check.specs.Network.{Network, Actual, Reads, Writes, Hands, instance_at, actual_at, Written}
+use Rattle.kahn_network.specs.Network.{Network, Actual, Reads, Writes, Hands, instance_at, actual_at, Written}
 use Rattle.kahn_streams.specs.declared.value.Value.{Value}
 use Rattle.kahn_streams.specs.declared.value.Line.{Line}
 use Rattle.kahn_streams.specs.declared.value.Line.TheVariants.{Channel}

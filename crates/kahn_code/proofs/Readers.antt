@@ -5,13 +5,13 @@ use Rattle.std.proofs.lemmas.Option.{slice_get-get_or}
 use Rattle.std.proofs.lemmas.List.{get_or_past}
 use Rattle.kahn_tree.specs.declared.tree.Program.{Program}
 use Rattle.kahn_tree.specs.Syntax.{Number}
-use Rattle.kahn_check.specs.Network.{Network, Actual, Reads, Writes, Hands, network_of, instance_at, actual_at, idle}
-use Rattle.kahn_check.specs.Sides.{IsReader, IsOnly, IsListed, IsFit}
-use Rattle.kahn_check.specs.Wiring.{IsWellWired}
-use Rattle.kahn_check.specs.declared.sides.Side.{Side}
-use Rattle.kahn_check.proofs.Fitted.{instances_fit}
-use Rattle.kahn_check.proofs.Numbered.{all_at}
-use Rattle.kahn_check.proofs.Sided.{one_reader, declared_there}
+use Rattle.kahn_network.specs.Network.{Network, Actual, Reads, Writes, Hands, network_of, instance_at, actual_at, idle}
+use Rattle.kahn_network.specs.Sides.{IsReader, IsOnly, IsListed, IsFit}
+use Rattle.kahn_network.specs.Wiring.{IsWellWired}
+use Rattle.kahn_network.specs.declared.sides.Side.{Side}
+use Rattle.kahn_network.proofs.Fitted.{instances_fit}
+use Rattle.kahn_network.proofs.Numbered.{all_at}
+use Rattle.kahn_network.proofs.Sided.{one_reader, declared_there}
 use Rattle.kahn_code.specs.Lines.{Joins}
 use Rattle.kahn_code.proofs.Lists.{split_at}
 

@@ -1,6 +1,6 @@
 -- The rows of a table of routes, one by one.
 use Rattle.std.proofs.Common.{arith, ◌≡◌, ◌⊎◌, inl, inr, ℕ, zero, suc, ◌+◌, ◌<◌, ◌≤◌, List, [], ◌∷◌, ◌++◌, length, map, Option, refl, sym, ap, ◌∙◌, subst, slice_index_or, length-append, le_of_suc-le-suc}
-use Rattle.kahn_check.specs.Network.{Network, instance_at}
+use Rattle.kahn_network.specs.Network.{Network, instance_at}
 use Rattle.kahn_code.specs.Lines.{route_of, AreRoutes}
 use Rattle.kahn_code.proofs.Lists.{split_at}
 

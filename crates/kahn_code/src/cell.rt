@@ -1,7 +1,7 @@
 //! A cell: one process of a network on its way.
 
 ghost use Rattle.std.specs.Prelude.{◌≡◌, ℕ, ◌+◌, ◌*◌, ◌^◌, ◌<◌, ◌≤◌, length, [], map, replicate, slice_index_or, IfOk};
-ghost use Rattle.kahn_check.specs.Network.{network_of, instance_at};
+ghost use Rattle.kahn_network.specs.Network.{network_of, instance_at};
 ghost use Rattle.kahn_streams.specs.Tokens.{Lists, inputs_of};
 ghost use Rattle.kahn_code.specs.Flat.{stmt_code};
 ghost use Rattle.kahn_streams.specs.Laws.{AreInputsExtended};
@@ -15,7 +15,7 @@ use crate::code::{Code, CodeFault};
 use crate::ports::Ports;
 use crate::progress::{Pause, Progress};
 use crate::steps::Steps;
-use kahn_check::network::Network;
+use kahn_network::network::Network;
 use kahn_streams::about::About;
 use kahn_streams::input::Input;
 use kahn_streams::memory::NoMemory;

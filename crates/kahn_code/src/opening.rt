@@ -1,12 +1,12 @@
 //! The plain queues at the start of a run.
 
 ghost use Rattle.std.specs.Prelude.{◌≡◌, ◌<◌, length, map, IfOk};
-ghost use Rattle.kahn_check.specs.Network.{network_of};
-ghost use Rattle.kahn_check.specs.Wiring.{IsWellWired};
+ghost use Rattle.kahn_network.specs.Network.{network_of};
+ghost use Rattle.kahn_network.specs.Wiring.{IsWellWired};
 ghost use Rattle.kahn_code.specs.Lines.{AreFirst, IsFirst};
 
 use crate::queue::Queue;
-use kahn_check::network::Network;
+use kahn_network::network::Network;
 use kahn_streams::input::Input;
 use kahn_streams::memory::NoMemory;
 use std::alloc::Allocator;

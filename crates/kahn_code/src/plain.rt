@@ -1,8 +1,8 @@
 //! Every channel of a network in a plain queue, for a run on one thread.
 
 ghost use Rattle.std.specs.Prelude.{◌≡◌, ℕ, ◌<◌, length, map, slice_index_or, slice_get, Some, None, IfOk};
-ghost use Rattle.kahn_check.specs.Network.{network_of, instance_at, actual_at};
-ghost use Rattle.kahn_check.specs.Wiring.{IsWellWired};
+ghost use Rattle.kahn_network.specs.Network.{network_of, instance_at, actual_at};
+ghost use Rattle.kahn_network.specs.Wiring.{IsWellWired};
 ghost use Rattle.kahn_streams.specs.Tokens.{Names};
 ghost use Rattle.kahn_code.specs.Lines.{Lines, AreCounted, AreFirst, AreRoutes, Joins, actual_of, waiting_of, spare_of, next_at, route, route_of};
 
@@ -11,7 +11,7 @@ use crate::opening::first_queues;
 use crate::ports::Ports;
 use crate::queue::Queue;
 use crate::routes::routes;
-use kahn_check::network::Network;
+use kahn_network::network::Network;
 use kahn_streams::about::About;
 use kahn_streams::input::Input;
 use kahn_streams::memory::NoMemory;
@@ -158,7 +158,7 @@ fn route_at<A: Allocator>(
 
 impl<A: Allocator> Ports for Plain<A> {
     ghost use Rattle.std.specs.Prelude.{◌≡◌, ◌<◌, ℕ, slice_get};
-    ghost use Rattle.kahn_check.specs.Network.{Reads, Writes};
+    ghost use Rattle.kahn_network.specs.Network.{Reads, Writes};
     ghost use Rattle.kahn_code.specs.Lines.{actual_of, next_at, place_at, waiting_of, spare_of};
 
     ghost seat = { λ s. record { network = s.network; input = s.input; instance = s.instance } };

@@ -5,7 +5,7 @@ ghost use Rattle.kahn_streams.specs.declared.value.Line.TheVariants.{Channel};
 ghost use Rattle.kahn_streams.specs.Streams.{IsOf};
 ghost use Rattle.kahn_streams.specs.Tokens.{Names};
 
-use kahn_check::network::Network;
+use kahn_network::network::Network;
 use kahn_streams::about::About;
 use kahn_streams::input::Input;
 use kahn_streams::memory::NoMemory;

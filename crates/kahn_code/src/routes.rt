@@ -1,12 +1,12 @@
 //! The channel of each parameter, by number.
 
 ghost use Rattle.std.specs.Prelude.{◌≡◌, ◌<◌, length, map, IfOk};
-ghost use Rattle.kahn_check.specs.Network.{network_of, instance_at, actual_of, actuals_of};
-ghost use Rattle.kahn_check.specs.Sides.{channel_names};
+ghost use Rattle.kahn_network.specs.Network.{network_of, instance_at, actual_of, actuals_of};
+ghost use Rattle.kahn_network.specs.Sides.{channel_names};
 ghost use Rattle.kahn_code.specs.Lines.{route_of, AreRoutes};
 
 use crate::code::channel_number;
-use kahn_check::network::Network;
+use kahn_network::network::Network;
 use kahn_streams::memory::NoMemory;
 use kahn_tree::tree::{Argument, Parameter, Taking};
 use std::alloc::Allocator;

@@ -7,9 +7,9 @@ use Rattle.std.proofs.lemmas.Option.{slice_get_within}
 use Rattle.kahn_tree.specs.declared.tree.Program.{Program}
 use Rattle.kahn_tree.specs.declared.tree.Role.{Role}
 use Rattle.kahn_tree.specs.declared.tree.Role.TheVariants as role
-use Rattle.kahn_check.specs.Network.{Writes, network_of, instance_at, actual_at, role_at}
-use Rattle.kahn_check.specs.Wiring.{IsWellWired}
-use Rattle.kahn_check.proofs.Sourced
+use Rattle.kahn_network.specs.Network.{Writes, network_of, instance_at, actual_at, role_at}
+use Rattle.kahn_network.specs.Wiring.{IsWellWired}
+use Rattle.kahn_network.proofs.Sourced
 use Rattle.kahn_streams.specs.Entries.{most_values}
 use Rattle.kahn_streams.specs.Tokens.{Lists, inputs_of}
 use Rattle.kahn_code.specs.Cells.{is_output}

@@ -1,6 +1,6 @@
 -- What a task's standing says of its process.
 use Rattle.std.proofs.Common.{◌≡◌, ◌⊎◌, inl, inr, ℕ, length, refl, sym, ap, ◌∙◌, subst, Some}
-use Rattle.kahn_check.specs.Network.{network_of, instance_at}
+use Rattle.kahn_network.specs.Network.{network_of, instance_at}
 use Rattle.kahn_streams.specs.Meaning.{Store}
 use Rattle.kahn_streams.specs.Script as script
 use Rattle.kahn_streams.specs.Tokens.{inputs_of}

@@ -3,7 +3,7 @@ use Rattle.std.specs.Prelude.{◌≡◌, ℕ, ◌<◌, List, length, map, replic
 use Rattle.kahn_tree.specs.declared.tree.Program.{Program}
 use Rattle.kahn_tree.specs.declared.tree.Role.{Role}
 use Rattle.kahn_tree.specs.declared.tree.Role.TheVariants as role
-use Rattle.kahn_check.specs.Network.{Network, network_of, role_at}
+use Rattle.kahn_network.specs.Network.{Network, network_of, role_at}
 use Rattle.kahn_streams.specs.Tokens.{Lists, inputs_of}
 use Rattle.kahn_job.specs.Works.{Work}
 use Rattle.kahn_job.specs.Openings.{AreOpening}

@@ -3,7 +3,7 @@ use Rattle.std.specs.Prelude.{◌≡◌, ℕ, List, length, slice_index}
 use mathlib.Core.Option.{some}
 use lib.ListN.{get_elem?}
 use Rattle.kahn_tree.specs.declared.tree.Program.{Program}
-use Rattle.kahn_check.specs.Network.{network_of}
+use Rattle.kahn_network.specs.Network.{network_of}
 use Rattle.kahn_board.specs.declared.rule.Terms.{Terms}
 use Rattle.kahn_board.specs.declared.view.View.{View}
 use Rattle.kahn_board.specs.Plays.{SeesMore}

@@ -2,7 +2,7 @@
 use Rattle.std.specs.Prelude.{◌≡◌, ◌⊎◌, ℕ, ◌+◌, ◌<◌, Bool, true, List, length, sum_by, Option, Some, slice_get}
 use Rattle.kahn_tree.specs.declared.tree.Program.{Program}
 use Rattle.kahn_tree.specs.declared.tree.Role.TheVariants.{Input}
-use Rattle.kahn_check.specs.Network.{Reads, Writes, network_of, role_at}
+use Rattle.kahn_network.specs.Network.{Reads, Writes, network_of, role_at}
 use Rattle.kahn_streams.specs.Tokens.{Lists, inputs_of}
 use Rattle.kahn_code.specs.Standing.{count}
 use Rattle.kahn_job.specs.Works.{Work}

@@ -1,7 +1,7 @@
 -- What contracts see of a task, and what it tells the board.
 use Rattle.std.specs.Prelude.{◌≡◌, ℕ, suc, Bool, true, false, List, [], ◌∷◌, length, Option, Some, None, if◌then◌else◌, ◌==◌}
 use Rattle.kahn_tree.specs.declared.tree.Program.{Program}
-use Rattle.kahn_check.specs.Network.{Network, Actual, Reads, Writes, Hands, network_of, instance_at, actual_at, role_at}
+use Rattle.kahn_network.specs.Network.{Network, Actual, Reads, Writes, Hands, network_of, instance_at, actual_at, role_at}
 use Rattle.kahn_streams.specs.Meaning.{Store}
 use Rattle.kahn_streams.specs.Script.{Outcome, Dry as IsDryAt}
 use Rattle.kahn_streams.specs.Solution as end

@@ -2,7 +2,7 @@
 
 ghost use Rattle.std.specs.Prelude.{◌≡◌, ◌<◌, ◌≤◌, [], List, length, map, Some};
 ghost use Rattle.std.specs.Vec.{vec_capacity};
-ghost use Rattle.kahn_check.specs.Network.{network_of};
+ghost use Rattle.kahn_network.specs.Network.{network_of};
 ghost use Rattle.kahn_board.specs.Cuts.{IsFree};
 ghost use Rattle.kahn_board.specs.Rule.{all_parts};
 ghost use Rattle.kahn_crew.specs.Begins.{HasBegun};
@@ -14,7 +14,7 @@ use crate::left::Left;
 use crate::plan::Plan;
 use crate::task::Task;
 use kahn_board::{Board, Closed, Seat};
-use kahn_check::network::Network;
+use kahn_network::network::Network;
 use kahn_streams::input::Input;
 
 // The tasks of cells that are all there, in their order.

@@ -1,8 +1,8 @@
 //! How a run begins: its tasks, and the board on which they are.
 
 ghost use Rattle.std.specs.Prelude.{◌≡◌, ℕ, ◌<◌, ◌≤◌, ◌^◌, [], length, map, slice_get, slice_index, Some, IfOk};
-ghost use Rattle.kahn_check.specs.Network.{network_of};
-ghost use Rattle.kahn_check.specs.Wiring.{IsWellWired};
+ghost use Rattle.kahn_network.specs.Network.{network_of};
+ghost use Rattle.kahn_network.specs.Wiring.{IsWellWired};
 ghost use Rattle.kahn_board.specs.Rule.{opening_view};
 ghost use Rattle.kahn_board.specs.Wires.{wires};
 ghost use Rattle.kahn_streams.specs.Entries.{most_values};
@@ -13,9 +13,9 @@ use crate::plan::Plan;
 use crate::routes::Routes;
 use crate::task::Task;
 use kahn_board::{Board, Seat};
-use kahn_check::network::Network;
 use kahn_code::code::Code;
 use kahn_job::{Job, jobs};
+use kahn_network::network::Network;
 use kahn_streams::input::Input;
 use kahn_streams::memory::NoMemory;
 use kahn_tree::tree::Role;

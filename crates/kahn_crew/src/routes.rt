@@ -1,13 +1,13 @@
 //! The channels of all parameters, as all workers read them.
 
 ghost use Rattle.std.specs.Prelude.{◌≡◌, ◌<◌, length, map, IfOk};
-ghost use Rattle.kahn_check.specs.Network.{network_of, instance_at, actual_at};
-ghost use Rattle.kahn_check.specs.Wiring.{IsWellWired};
+ghost use Rattle.kahn_network.specs.Network.{network_of, instance_at, actual_at};
+ghost use Rattle.kahn_network.specs.Wiring.{IsWellWired};
 ghost use Rattle.kahn_code.specs.Lines.{route_of, AreRoutes};
 ghost use Rattle.kahn_crew.specs.Tasks.{written_by};
 
-use kahn_check::network::Network;
 use kahn_code::routes::routes;
+use kahn_network::network::Network;
 use kahn_streams::memory::NoMemory;
 use kahn_tree::tree::Role;
 use std::alloc::Global;
@@ -26,8 +26,8 @@ impl<'n> Model for Routes<'n> {
     ghost use Rattle.kahn_tree.specs.declared.tree.Program.{Program};
     ghost use Rattle.std.specs.Coded.{codes};
     ghost use Rattle.std.specs.Prelude.{map};
-    ghost use Rattle.kahn_check.specs.Network.{network_of};
-    ghost use Rattle.kahn_check.specs.Wiring.{IsWellWired};
+    ghost use Rattle.kahn_network.specs.Network.{network_of};
+    ghost use Rattle.kahn_network.specs.Wiring.{IsWellWired};
     ghost use Rattle.kahn_code.specs.Lines.{AreRoutes};
 
     ghost Value = { Program };

@@ -1,7 +1,7 @@
 //! A task: a job with what the workers have to know of it.
 
 ghost use Rattle.std.specs.Prelude.{◌≡◌, ℕ, ◌+◌, ◌*◌, ◌^◌, ◌<◌, ◌≤◌, true, length, map, replicate, slice_set, slice_index_or, IfOk, OnOk};
-ghost use Rattle.kahn_check.specs.Network.{network_of, instance_at};
+ghost use Rattle.kahn_network.specs.Network.{network_of, instance_at};
 ghost use Rattle.kahn_streams.specs.Tokens.{inputs_of};
 ghost use Rattle.kahn_code.specs.Flat.{stmt_code};
 ghost use Rattle.kahn_code.specs.Progress.{Paused, IsPause};

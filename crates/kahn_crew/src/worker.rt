@@ -1,7 +1,7 @@
 //! A worker: it takes one instance after another, until there is a reason to leave.
 
 ghost use Rattle.std.specs.Prelude.{◌≡◌, ◌<◌, length, IfSome, IfNone, Some};
-ghost use Rattle.kahn_check.specs.Network.{network_of};
+ghost use Rattle.kahn_network.specs.Network.{network_of};
 ghost use Rattle.kahn_board.specs.Dealt.{belongs, wired};
 ghost use Rattle.kahn_desk.specs.Turn.{Fits, Holds, IsIdle, IsSeatOf};
 ghost use Rattle.kahn_crew.specs.Floors.{IsFloor};

@@ -2,7 +2,7 @@
 use Rattle.std.proofs.Common.{arith, ◌≡◌, ◌⊎◌, inl, inr, ℕ, zero, suc, ◌+◌, ◌<◌, ◌≤◌, List, [], ◌∷◌, ◌++◌, length, map, replicate, refl, sym, ap, ◌∙◌, subst, Option, slice_index_or, length-append, le_of_suc-le-suc}
 use Rattle.std.proofs.lemmas.List.{get_or_past}
 use Rattle.kahn_tree.specs.declared.tree.Program.{Program}
-use Rattle.kahn_check.specs.Network.{Network, Actual, network_of, instance_at, idle}
+use Rattle.kahn_network.specs.Network.{Network, Actual, network_of, instance_at, idle}
 use Rattle.kahn_streams.specs.Tokens.{Lists}
 use Rattle.kahn_code.specs.Lines.{AreRoutes, route_of}
 use Rattle.kahn_code.proofs.Lists.{split_at}

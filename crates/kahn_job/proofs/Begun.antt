@@ -2,9 +2,9 @@
 use Rattle.std.proofs.Common.{arith, ◌≡◌, ◌⊎◌, inl, inr, ℕ, zero, suc, ◌+◌, ◌<◌, ◌≤◌, List, [], ◌∷◌, ◌++◌, length, replicate, refl, sym, ap, ◌∙◌, subst, Option, Some, None, slice_get, slice_set, slice_index_or, length-append}
 use Rattle.std.proofs.lemmas.List.{length-set}
 use Rattle.kahn_tree.specs.declared.tree.Program.{Program}
-use Rattle.kahn_check.specs.Network.{Actual, Reads, Writes, Hands, network_of, instance_at, actual_at}
-use Rattle.kahn_check.specs.Wiring.{IsWellWired}
-use Rattle.kahn_check.proofs.Sourced.{reads_listed, writes_listed}
+use Rattle.kahn_network.specs.Network.{Actual, Reads, Writes, Hands, network_of, instance_at, actual_at}
+use Rattle.kahn_network.specs.Wiring.{IsWellWired}
+use Rattle.kahn_network.proofs.Sourced.{reads_listed, writes_listed}
 use Rattle.kahn_streams.specs.Tokens.{Lists}
 use Rattle.kahn_code.specs.Lines.{Joins}
 use Rattle.kahn_code.specs.Seats.{Seat}

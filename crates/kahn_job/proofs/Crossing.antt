@@ -10,7 +10,7 @@ use Rattle.std.specs.contracts.alloc.Global as Heap
 use Rattle.std.specs.contracts.impls.GlobalAllocator.TheImpl.{ghosts}
 use Rattle.kahn_tree.proofs.tree.Action.TheLaws.TheKnot as actions
 use Rattle.kahn_tree.proofs.tree.Form.TheLaws.TheKnot as forms
-use Rattle.kahn_check.specs.contracts.network.Network as Network
+use Rattle.kahn_network.specs.contracts.network.Network as Network
 use Rattle.kahn_streams.specs.contracts.input.Input as Input
 use Rattle.kahn_streams.proofs.input.Input.TheSendSync as input
 use Rattle.kahn_code.specs.contracts.cell.Cell as Cell

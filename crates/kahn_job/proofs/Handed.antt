@@ -4,12 +4,12 @@ use Rattle.std.proofs.lemmas.List.{length-set}
 use Rattle.kahn_tree.specs.declared.tree.Program.{Program}
 use Rattle.kahn_tree.specs.declared.tree.Role.{Role}
 use Rattle.kahn_tree.specs.declared.tree.Role.TheVariants.{Inner, Input, Output}
-use Rattle.kahn_check.specs.Network.{Network, Actual, Reads, Writes, Hands, network_of, instance_at, actual_at, role_at}
-use Rattle.kahn_check.specs.Sides.{IsWriter, IsReader, IsOnly, IsWithin}
-use Rattle.kahn_check.specs.Wiring.{IsWellWired, side_at}
-use Rattle.kahn_check.specs.Sources.{IsFed}
-use Rattle.kahn_check.specs.declared.sides.Side.{Side}
-use Rattle.kahn_check.proofs.Sourced.{handed_within, reads, writes, reads_listed, writes_listed}
+use Rattle.kahn_network.specs.Network.{Network, Actual, Reads, Writes, Hands, network_of, instance_at, actual_at, role_at}
+use Rattle.kahn_network.specs.Sides.{IsWriter, IsReader, IsOnly, IsWithin}
+use Rattle.kahn_network.specs.Wiring.{IsWellWired, side_at}
+use Rattle.kahn_network.specs.Sources.{IsFed}
+use Rattle.kahn_network.specs.declared.sides.Side.{Side}
+use Rattle.kahn_network.proofs.Sourced.{handed_within, reads, writes, reads_listed, writes_listed}
 use Rattle.kahn_streams.specs.Tokens.{Lists}
 use Rattle.kahn_code.specs.Cells.{is_output}
 use Rattle.kahn_code.specs.Lines.{Joins}

@@ -1,12 +1,12 @@
 //! The values of an input channel, taken as tokens one by one.
 
 ghost use Rattle.std.specs.Prelude.{◌≡◌, ◌<◌, ◌≤◌, ◌+◌, ◌^◌, length, IfSome, IfNone, IsTrue, ◌↔◌};
-ghost use Rattle.kahn_check.specs.Network.{network_of, role_at};
+ghost use Rattle.kahn_network.specs.Network.{network_of, role_at};
 ghost use Rattle.kahn_lane.specs.Places.{lane_name, token_name};
 ghost use Rattle.kahn_streams.specs.Tokens.{inputs_of};
 ghost use Rattle.kahn_tree.specs.declared.tree.Role.TheVariants.{Input as InputRole};
 
-use kahn_check::network::Network;
+use kahn_network::network::Network;
 use kahn_streams::input::Input;
 use kahn_streams::token::Token;
 use std::marker::Model;
@@ -26,7 +26,7 @@ impl<'n> Model for Feed<'n> {
     ghost use Rattle.kahn_tree.specs.declared.tree.Role.TheVariants.{Input};
     ghost use Rattle.std.specs.Coded.{codes};
     ghost use Rattle.std.specs.Prelude.{◌≡◌, ◌<◌, length};
-    ghost use Rattle.kahn_check.specs.Network.{network_of, role_at};
+    ghost use Rattle.kahn_network.specs.Network.{network_of, role_at};
     ghost use Rattle.kahn_job.specs.Feeding.{Feeding};
 
     ghost Value = { Feeding };

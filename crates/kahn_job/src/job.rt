@@ -1,7 +1,7 @@
 //! A job: one process of a network on its way, with the ends of its channels.
 
 ghost use Rattle.std.specs.Prelude.{◌≡◌, ◌+◌, ◌*◌, ◌^◌, ◌<◌, ◌≤◌, true, length, map, slice_index_or, OnOk};
-ghost use Rattle.kahn_check.specs.Network.{network_of, instance_at};
+ghost use Rattle.kahn_network.specs.Network.{network_of, instance_at};
 ghost use Rattle.kahn_streams.specs.Tokens.{inputs_of};
 ghost use Rattle.kahn_code.specs.Flat.{stmt_code};
 ghost use Rattle.kahn_code.specs.Progress.{Paused, IsPause};

@@ -1,7 +1,7 @@
 //! The jobs of a network before their first events.
 
 ghost use Rattle.std.specs.Prelude.{◌≡◌, ◌<◌, length, IfOk};
-ghost use Rattle.kahn_check.specs.Network.{network_of};
+ghost use Rattle.kahn_network.specs.Network.{network_of};
 ghost use Rattle.kahn_streams.specs.Tokens.{Lists};
 ghost use Rattle.kahn_job.specs.Openings.{AreOpening, IsOpening, IsReadyRow};
 
@@ -9,9 +9,9 @@ use crate::fault::JobFault;
 use crate::job::Job;
 use crate::ports::Ends;
 use crate::rows::{Row, all_rows, take_row};
-use kahn_check::network::Network;
 use kahn_code::cell::Cell;
 use kahn_code::code::Code;
+use kahn_network::network::Network;
 use kahn_streams::input::Input;
 use std::alloc::Global;
 

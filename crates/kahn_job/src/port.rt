@@ -1,7 +1,7 @@
 //! The end of a channel that a parameter has.
 
 ghost use Rattle.std.specs.Prelude.{◌≡◌, ◌⊎◌, ◌<◌, ◌≤◌, ◌+◌, ◌^◌, true, length, Some, IfSome, IfNone, IsSome, IsTrue, IsFalse, OnOk, MatchResult};
-ghost use Rattle.kahn_check.specs.Network.{network_of, role_at};
+ghost use Rattle.kahn_network.specs.Network.{network_of, role_at};
 ghost use Rattle.kahn_lane.specs.LaneEnds.{SameSender, flushed, sender_lane, sent};
 ghost use Rattle.kahn_lane.specs.Places.{token_name};
 ghost use Rattle.kahn_tree.specs.declared.tree.Role.TheVariants.{Input as InputRole};
@@ -10,8 +10,8 @@ ghost use Rattle.kahn_job.specs.Berths.{HasStayed, IsFed};
 ghost use Rattle.kahn_job.specs.Ways.{taking, feeding, putting, nothing};
 
 use crate::feed::Feed;
-use kahn_check::network::Network;
 use kahn_lane::{Receiver, Sender, meet};
+use kahn_network::network::Network;
 use kahn_streams::input::Input;
 use kahn_streams::memory::NoMemory;
 use kahn_streams::token::Token;

@@ -5,8 +5,8 @@ ghost use Rattle.kahn_job.specs.Berths.{AreFlushed, AreServed, HaveFlushed, Have
 ghost use Rattle.kahn_job.specs.Ends.{ShareLane};
 
 use crate::port::Port;
-use kahn_check::network::Network;
 use kahn_code::ports::Ports;
+use kahn_network::network::Network;
 use kahn_streams::input::Input;
 use kahn_streams::memory::NoMemory;
 use kahn_streams::token::Token;

@@ -1,17 +1,17 @@
 //! The ends of all channels, by instance and parameter.
 
 ghost use Rattle.std.specs.Prelude.{◌≡◌, ◌+◌, ◌<◌, [], length, map, replicate, slice_index_or, slice_set, Some, IfOk, OnOk};
-ghost use Rattle.kahn_check.specs.Network.{network_of};
-ghost use Rattle.kahn_check.specs.declared.sides.Side.{Side as SideOf};
+ghost use Rattle.kahn_network.specs.Network.{network_of};
+ghost use Rattle.kahn_network.specs.declared.sides.Side.{Side as SideOf};
 ghost use Rattle.kahn_job.specs.Openings.{AreEndsOf, AreHanded, placed};
 ghost use Rattle.kahn_job.specs.Ways.{nothing};
 
 use crate::fault::JobFault;
 use crate::port::Port;
-use kahn_check::network::Network;
-use kahn_check::sides::Side;
 use kahn_code::routes::routes;
 use kahn_lane::lane;
+use kahn_network::network::Network;
+use kahn_network::sides::Side;
 use kahn_streams::input::Input;
 use kahn_tree::tree::Role;
 use std::alloc::Global;

@@ -17,7 +17,7 @@ use crate::segments::{
     Stolen, Telling,
 };
 use crossbeam_deque::Steal;
-use kahn_check::network::Network;
+use kahn_network::network::Network;
 use kahn_streams::input::Input;
 use kahn_streams::memory::NoMemory;
 use kahn_streams::token::Token;

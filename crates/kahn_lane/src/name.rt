@@ -6,7 +6,7 @@
 ghost use Rattle.std.specs.Prelude.{◌≡◌, ◌≤◌, ◌^◌};
 ghost use Rattle.kahn_streams.specs.Tokens.{Names};
 
-use kahn_check::network::Network;
+use kahn_network::network::Network;
 use kahn_streams::about::About;
 use kahn_streams::input::Input;
 use kahn_streams::value::Line;

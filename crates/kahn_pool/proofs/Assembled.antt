@@ -8,7 +8,7 @@ use Rattle.kahn_streams.specs.Script as script
 use Rattle.kahn_streams.specs.Script.{Dry, Cut, Got, Fault}
 use Rattle.kahn_streams.specs.Meaning.{Store}
 use Rattle.kahn_streams.specs.Solution as net
-use Rattle.kahn_check.specs.Network.{Network, Instance, idle, Reads, Writes, Hands, instance_at, actual_at, Source, Given, Written, Nobody}
+use Rattle.kahn_network.specs.Network.{Network, Instance, idle, Reads, Writes, Hands, instance_at, actual_at, Source, Given, Written, Nobody}
 use Rattle.kahn_streams.specs.Solution.{Histories, Inputs, tape_of, tapes_of, exec_at, out, values_at, goes_to, source, fed, input_list, iterate, IsPrefix, Stands, IsWhole, HasEnd, Ending, ending}
 use Rattle.kahn_streams.specs.Laws.{IsExtended, IsQuiet, IsSettled, KeepsTape}
 use Rattle.kahn_streams.proofs.Frame.{begins_nil}

@@ -7,7 +7,7 @@ use Rattle.kahn_streams.specs.declared.value.Line.TheVariants.{Channel, Print}
 use Rattle.kahn_tree.specs.Syntax.{Number}
 use Rattle.kahn_streams.specs.Script.{Tapes, Outcome}
 use Rattle.kahn_streams.specs.Meaning.{Store, exec}
-use Rattle.kahn_check.specs.Network.{Network, Actual, Reads, Writes, Hands, instance_at, actual_at}
+use Rattle.kahn_network.specs.Network.{Network, Actual, Reads, Writes, Hands, instance_at, actual_at}
 use Rattle.kahn_streams.specs.Solution.{Inputs, Histories, tape_of, tapes_of, exec_at, out, opening, values_at, goes_to}
 use Rattle.kahn_code.specs.Cells.{View, AllStand, IsKept, exec_on, sent_on, StoodBy}
 use Rattle.kahn_pool.specs.Gathered.{Stood}

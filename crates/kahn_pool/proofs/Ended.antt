@@ -2,12 +2,12 @@
 use Rattle.std.proofs.Common.{arith, ◌≡◌, ◌⊎◌, inl, inr, ℕ, zero, suc, ◌+◌, ◌<◌, ◌≤◌, List, [], ◌∷◌, ◌++◌, length, refl, sym, ap, ◌∙◌, subst, Option, Some, None, slice_get, slice_index_or, length-append}
 use Rattle.kahn_tree.specs.declared.tree.Program.{Program}
 use Rattle.kahn_tree.specs.declared.tree.Role.TheVariants.{Inner, Input}
-use Rattle.kahn_check.specs.Network.{Actual, Reads, Writes, network_of, instance_at, actual_at, role_at}
-use Rattle.kahn_check.specs.Sides.{IsWriter, IsReader, IsOnly}
-use Rattle.kahn_check.specs.Sources.{IsFed}
-use Rattle.kahn_check.specs.Wiring.{IsWellWired, side_at}
-use Rattle.kahn_check.specs.declared.sides.Side.{Side}
-use Rattle.kahn_check.proofs.Sourced.{handed_within, reads, reads_listed, writes}
+use Rattle.kahn_network.specs.Network.{Actual, Reads, Writes, network_of, instance_at, actual_at, role_at}
+use Rattle.kahn_network.specs.Sides.{IsWriter, IsReader, IsOnly}
+use Rattle.kahn_network.specs.Sources.{IsFed}
+use Rattle.kahn_network.specs.Wiring.{IsWellWired, side_at}
+use Rattle.kahn_network.specs.declared.sides.Side.{Side}
+use Rattle.kahn_network.proofs.Sourced.{handed_within, reads, reads_listed, writes}
 use Rattle.kahn_streams.specs.Tokens.{Lists, inputs_of}
 use Rattle.kahn_code.specs.Lines.{Joins}
 use Rattle.kahn_code.proofs.Readers.{joins_parameter}

@@ -5,7 +5,7 @@ use Rattle.kahn_streams.specs.declared.value.Value.{Value}
 use Rattle.kahn_streams.specs.Script.{Tapes, Script, Give, Fail, Waits, Sends, Turns, Rest, Outcome, Got, Dry, Fault, Cut, Reached, wait_at, play}
 use Rattle.kahn_streams.specs.Steps.{Step, empty, taken, since, and_then, halted, RanBy}
 use Rattle.kahn_streams.specs.Meaning.{Store}
-use Rattle.kahn_check.specs.Network.{Network, Instance, instance_at}
+use Rattle.kahn_network.specs.Network.{Network, Instance, instance_at}
 use Rattle.kahn_streams.specs.Solution.{Histories, tapes_of, exec_at}
 use Rattle.kahn_streams.specs.Laws.{AreSame, KeepsTape, IsExtended}
 use Rattle.kahn_streams.proofs.Frame.{and_more}

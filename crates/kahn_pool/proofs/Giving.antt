@@ -10,7 +10,7 @@ use Rattle.kahn_streams.specs.declared.value.Line.{Line}
 use Rattle.kahn_streams.specs.declared.value.Line.TheVariants.{Channel, Print}
 use Rattle.kahn_streams.specs.declared.token.Token.{Token}
 use Rattle.kahn_streams.specs.Solution.{Inputs, source, IsPrefix}
-use Rattle.kahn_check.specs.Network.{Network, Instance, Source, Given, Written, Nobody, any_written, first_writer, source_by, channel_source, role_at}
+use Rattle.kahn_network.specs.Network.{Network, Instance, Source, Given, Written, Nobody, any_written, first_writer, source_by, channel_source, role_at}
 use Rattle.kahn_code.specs.Cells.{IsKept, token_value}
 use Rattle.kahn_pool.specs.declared.answer.Stream.{Stream}
 use Rattle.kahn_pool.specs.Right.{line_of}

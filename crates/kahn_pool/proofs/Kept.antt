@@ -2,7 +2,7 @@
 use Rattle.std.proofs.Common.{◌≡◌, ℕ, ◌<◌, List, [], ◌∷◌, ◌++◌, length, map, refl, sym, ap, ◌∙◌, subst, Option, Some, slice_get}
 use Rattle.std.proofs.lemmas.List.{length-map, map-append}
 use Rattle.kahn_tree.specs.declared.tree.Program.{Program}
-use Rattle.kahn_check.specs.Network.{network_of, instance_at}
+use Rattle.kahn_network.specs.Network.{network_of, instance_at}
 use Rattle.kahn_streams.specs.Tokens.{Lists}
 use Rattle.kahn_code.specs.declared.cell.Kept.{Kept}
 use Rattle.kahn_code.specs.Told.{Told}

@@ -4,9 +4,9 @@ use Rattle.std.proofs.lemmas.List.Sums.{sum_by-cons}
 use Rattle.kahn_tree.specs.declared.tree.Program.{Program}
 use Rattle.kahn_tree.specs.declared.tree.Role.{Role}
 use Rattle.kahn_tree.specs.declared.tree.Role.TheVariants.{Inner, Input, Output}
-use Rattle.kahn_check.specs.Network.{Reads, Writes, network_of, instance_at, actual_at, role_at}
-use Rattle.kahn_check.specs.Wiring.{IsWellWired}
-use Rattle.kahn_check.proofs.Sourced.{writes}
+use Rattle.kahn_network.specs.Network.{Reads, Writes, network_of, instance_at, actual_at, role_at}
+use Rattle.kahn_network.specs.Wiring.{IsWellWired}
+use Rattle.kahn_network.proofs.Sourced.{writes}
 use Rattle.kahn_streams.specs.declared.value.Value.{Value}
 use Rattle.kahn_streams.specs.Tokens.{Lists, inputs_of}
 use Rattle.kahn_code.specs.Cells.{is_output}

@@ -3,7 +3,7 @@ use Rattle.std.proofs.Common.{arith, ◌≡◌, ℕ, zero, suc, ◌+◌, ◌<◌
 use Rattle.std.proofs.Math.Nat.{le-max_left, le-max_right}
 use Rattle.kahn_streams.specs.declared.value.Value.{Value}
 use Rattle.kahn_streams.specs.declared.value.Line.{Line}
-use Rattle.kahn_check.specs.Network.{Network}
+use Rattle.kahn_network.specs.Network.{Network}
 use Rattle.kahn_streams.specs.Solution.{Inputs, iterate, IsPrefix}
 use Rattle.kahn_streams.proofs.Proved.{some_same, prefix_get, one_value, iterates_rise}
 use Rattle.kahn_streams.specs.declared.token.Token.{Token}

@@ -5,12 +5,12 @@ use Rattle.std.proofs.lemmas.List.{length-set, length-append}
 use Rattle.std.proofs.lemmas.Option.{slice_get-get_or}
 use Rattle.kahn_tree.specs.declared.tree.Program.{Program}
 use Rattle.kahn_tree.specs.declared.tree.Role.TheVariants.{Inner, Input}
-use Rattle.kahn_check.specs.Network.{Actual, Reads, Writes, Hands, network_of, instance_at, actual_at, role_at}
-use Rattle.kahn_check.specs.Sides.{IsWriter, IsReader, IsOnly}
-use Rattle.kahn_check.specs.Sources.{IsFed}
-use Rattle.kahn_check.specs.Wiring.{IsWellWired, side_at}
-use Rattle.kahn_check.specs.declared.sides.Side.{Side}
-use Rattle.kahn_check.proofs.Sourced.{handed_within, reads, reads_listed, writes}
+use Rattle.kahn_network.specs.Network.{Actual, Reads, Writes, Hands, network_of, instance_at, actual_at, role_at}
+use Rattle.kahn_network.specs.Sides.{IsWriter, IsReader, IsOnly}
+use Rattle.kahn_network.specs.Sources.{IsFed}
+use Rattle.kahn_network.specs.Wiring.{IsWellWired, side_at}
+use Rattle.kahn_network.specs.declared.sides.Side.{Side}
+use Rattle.kahn_network.proofs.Sourced.{handed_within, reads, reads_listed, writes}
 use Rattle.kahn_streams.specs.Tokens.{Lists}
 use Rattle.kahn_code.specs.Cells.{is_output}
 use Rattle.kahn_code.specs.Lines.{Joins}

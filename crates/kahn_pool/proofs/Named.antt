@@ -7,7 +7,7 @@ use Rattle.kahn_tree.specs.declared.tree.Role.TheVariants.{Inner}
 use Rattle.kahn_tree.specs.Syntax.{prints_in}
 use Rattle.kahn_streams.specs.declared.value.Line.{Line}
 use Rattle.kahn_streams.specs.declared.value.Line.TheVariants.{Channel, Print}
-use Rattle.kahn_check.specs.Network.{Network, Instance}
+use Rattle.kahn_network.specs.Network.{Network, Instance}
 use Rattle.kahn_code.specs.Cells.{is_output, is_watched, is_streamed}
 use Rattle.kahn_pool.specs.declared.answer.Stream.{Stream}
 use Rattle.kahn_pool.specs.Right.{line_of, channel_lines, print_lines, stream_lines}

@@ -3,8 +3,8 @@ use Rattle.std.proofs.Common.{arith, ◌≡◌, ◌⊎◌, inl, inr, ℕ, zero, 
 use Rattle.std.proofs.lemmas.List.{length-map}
 use Rattle.std.proofs.lemmas.List.Sums.{sum_by-cons}
 use Rattle.kahn_tree.specs.declared.tree.Program.{Program}
-use Rattle.kahn_check.specs.Network.{Reads, Writes, network_of, instance_at, actual_at}
-use Rattle.kahn_check.specs.Wiring.{IsWellWired}
+use Rattle.kahn_network.specs.Network.{Reads, Writes, network_of, instance_at, actual_at}
+use Rattle.kahn_network.specs.Wiring.{IsWellWired}
 use Rattle.kahn_streams.specs.Tokens.{Lists, inputs_of}
 use Rattle.kahn_code.specs.Cells.{View}
 use Rattle.kahn_code.specs.Standing.{count}

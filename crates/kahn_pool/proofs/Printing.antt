@@ -9,7 +9,7 @@ use Rattle.kahn_tree.specs.Syntax.{prints_in}
 use Rattle.kahn_tree.specs.View.{Scope, statement_of, stmt_of, row_of, body_of}
 use Rattle.kahn_streams.specs.declared.value.Line.{Line}
 use Rattle.kahn_streams.specs.declared.value.Line.TheVariants.{Channel, Print}
-use Rattle.kahn_check.specs.Network.{Network, instance_at, idle}
+use Rattle.kahn_network.specs.Network.{Network, instance_at, idle}
 use Rattle.kahn_code.specs.Cells.{is_streamed}
 use Rattle.kahn_pool.specs.Right.{channel_lines, print_lines}
 

@@ -3,10 +3,10 @@ use Rattle.std.proofs.Common.{arith, ◌≡◌, ◌⊎◌, inl, inr, ℕ, zero, 
 use Rattle.kahn_tree.specs.declared.tree.Program.{Program}
 use Rattle.kahn_tree.specs.declared.tree.Role.{Role}
 use Rattle.kahn_tree.specs.declared.tree.Role.TheVariants.{Inner, Input}
-use Rattle.kahn_check.specs.Network.{Network, Actual, Reads, Writes, Source, Given, Written, network_of, instance_at, actual_at, role_at, channel_source}
-use Rattle.kahn_check.specs.Sources.{IsFed as IsFedBy}
-use Rattle.kahn_check.specs.Wiring.{IsWellWired}
-use Rattle.kahn_check.proofs.Sourced.{reads, writes}
+use Rattle.kahn_network.specs.Network.{Network, Actual, Reads, Writes, Source, Given, Written, network_of, instance_at, actual_at, role_at, channel_source}
+use Rattle.kahn_network.specs.Sources.{IsFed as IsFedBy}
+use Rattle.kahn_network.specs.Wiring.{IsWellWired}
+use Rattle.kahn_network.proofs.Sourced.{reads, writes}
 use Rattle.kahn_streams.specs.declared.value.Value.{Value}
 use Rattle.kahn_streams.specs.declared.value.Line.TheVariants.{Channel}
 use Rattle.kahn_streams.specs.Meaning.{Store}

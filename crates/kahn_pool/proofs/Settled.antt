@@ -1,7 +1,7 @@
 -- Tasks that are asked what comes next.
 use Rattle.std.proofs.Common.{arith, ◌≡◌, ◌⊎◌, inl, inr, ℕ, zero, suc, ◌+◌, ◌<◌, ◌≤◌, List, [], ◌∷◌, length, refl, sym, ap, ◌∙◌, subst, le_refl, Option, Some, None, slice_get, slice_set, slice_index_or, le_of_suc-le-suc}
 use Rattle.std.proofs.lemmas.List.{length-set}
-use Rattle.kahn_check.specs.Network.{network_of}
+use Rattle.kahn_network.specs.Network.{network_of}
 use Rattle.kahn_streams.specs.Meaning.{Store}
 use Rattle.kahn_streams.specs.Script as script
 use Rattle.kahn_streams.specs.Tokens.{inputs_of}

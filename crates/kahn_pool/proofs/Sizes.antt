@@ -7,7 +7,7 @@ use Rattle.kahn_streams.specs.declared.value.Value.{Value}
 use Rattle.kahn_streams.specs.declared.value.Line.{Line}
 use Rattle.kahn_tree.specs.Syntax.{Number}
 use Rattle.kahn_streams.specs.Script.{Tapes, Script, Give, Fail, Waits, Sends, Turns, Rest, Reached, wait_at, play}
-use Rattle.kahn_check.specs.Network.{Network, Instance, Hands, instance_at}
+use Rattle.kahn_network.specs.Network.{Network, Instance, Hands, instance_at}
 use Rattle.kahn_streams.specs.Solution as net
 use Rattle.kahn_streams.specs.Solution.{Histories, Inputs, tapes_of, exec_at, iterate, IsPrefix, Ending, HasEnd, HasSizes, none_left, one_more, HasSize}
 use Rattle.kahn_streams.proofs.Frame.{and_more, put_more}

@@ -10,7 +10,7 @@ use Rattle.kahn_pool.specs.declared.answer.Verdict.{Verdict}
 use Rattle.kahn_code.specs.declared.progress.Pause.{Pause}
 use Rattle.kahn_code.specs.declared.progress.Pause.TheVariants as pause
 use Rattle.kahn_pool.specs.declared.answer.Outcome.TheVariants.{More, Waits}
-use Rattle.kahn_check.specs.Network.{Reads, actual_at, instance_at}
+use Rattle.kahn_network.specs.Network.{Reads, actual_at, instance_at}
 use Rattle.kahn_pool.specs.Gathered.{view_at, IsTold, TookAll}
 use Rattle.kahn_pool.specs.Bench.{State, IsPaused, Rests, events_at, view_events, all_events, weight, AreEnds, Goes, Marked}
 

@@ -2,7 +2,7 @@
 use Rattle.std.proofs.Common.{arith, ◌≡◌, ℕ, zero, suc, List, [], ◌∷◌, length, map, sum_by, refl, sym, ap, ◌∙◌, subst, Option, Some, slice_get}
 use Rattle.kahn_streams.specs.declared.value.Line.{Line}
 use Rattle.kahn_streams.specs.Solution as net
-use Rattle.kahn_check.specs.Network.{Network, Actual, Reads, Writes, Hands, instance_at, actual_at}
+use Rattle.kahn_network.specs.Network.{Network, Actual, Reads, Writes, Hands, instance_at, actual_at}
 use Rattle.kahn_streams.specs.Solution.{Inputs, HasEnd, IsWhole, Ending}
 use Rattle.kahn_streams.proofs.Finished.{determined}
 use Rattle.kahn_pool.specs.declared.answer.Answer.{Answer}

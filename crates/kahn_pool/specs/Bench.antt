@@ -4,7 +4,7 @@ use Rattle.kahn_streams.specs.Script as script
 use Rattle.kahn_streams.specs.Script.{Dry, Cut}
 use Rattle.kahn_streams.specs.Meaning.{Store}
 use Rattle.kahn_streams.specs.Solution as net
-use Rattle.kahn_check.specs.Network.{Network, Reads, instance_at, actual_at}
+use Rattle.kahn_network.specs.Network.{Network, Reads, instance_at, actual_at}
 use Rattle.kahn_streams.specs.Solution.{Inputs, exec_at, source, ending}
 use Rattle.kahn_code.specs.declared.progress.Pause.{Pause}
 use Rattle.kahn_code.specs.declared.progress.Pause.TheVariants as pause

@@ -1,6 +1,6 @@
 -- When a right answer is a finished one, and what a stopped one has.
 use Rattle.std.specs.Prelude.{◌≡◌, ℕ, ◌≤◌, ◌↔◌}
-use Rattle.kahn_check.specs.Network.{Network}
+use Rattle.kahn_network.specs.Network.{Network}
 use Rattle.kahn_streams.specs.Solution.{Inputs, iterate, IsPrefix, HasSize}
 use Rattle.kahn_pool.specs.declared.answer.Answer.{Answer}
 use Rattle.kahn_pool.specs.declared.answer.Stream.{Stream}

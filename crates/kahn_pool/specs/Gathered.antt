@@ -7,7 +7,7 @@ use Rattle.kahn_streams.specs.Script.{Dry, Cut}
 use Rattle.kahn_streams.specs.Steps.{empty}
 use Rattle.kahn_streams.specs.Meaning.{Store}
 use Rattle.kahn_streams.specs.Solution as net
-use Rattle.kahn_check.specs.Network.{Network, Reads, Writes, instance_at, actual_at, Source, Given, Written, Nobody}
+use Rattle.kahn_network.specs.Network.{Network, Reads, Writes, instance_at, actual_at, Source, Given, Written, Nobody}
 use Rattle.kahn_streams.specs.Solution.{Histories, Inputs, exec_at, out, source, fed, ending}
 use Rattle.kahn_pool.specs.declared.answer.Answer.{Answer}
 use Rattle.kahn_pool.specs.declared.answer.Stream.{Stream}

@@ -1,8 +1,8 @@
 -- The two ends of each channel meet.
 use Rattle.std.specs.Prelude.{◌≡◌, ℕ, ◌<◌, ◌≤◌, false, List, length, Some, slice_get}
 use Rattle.kahn_tree.specs.declared.tree.Program.{Program}
-use Rattle.kahn_check.specs.Network.{Reads, Writes, network_of, instance_at, actual_at, role_at}
-use Rattle.kahn_check.specs.declared.sides.Side.{Side}
+use Rattle.kahn_network.specs.Network.{Reads, Writes, network_of, instance_at, actual_at, role_at}
+use Rattle.kahn_network.specs.declared.sides.Side.{Side}
 use Rattle.kahn_code.specs.Cells.{is_output}
 use Rattle.kahn_code.specs.Standing.{count}
 use Rattle.kahn_job.specs.Ends.{IsReady, ShareLane}

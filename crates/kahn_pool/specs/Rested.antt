@@ -1,7 +1,7 @@
 -- How tasks stand when no more is run, and what stands in the answer for each.
 use Rattle.std.specs.Prelude.{◌≡◌, ◌⊎◌, ℕ, ◌<◌, List, length, map, Option, Some, slice_get}
 use Rattle.kahn_tree.specs.declared.tree.Program.{Program}
-use Rattle.kahn_check.specs.Network.{Reads, Writes, network_of, instance_at, actual_at}
+use Rattle.kahn_network.specs.Network.{Reads, Writes, network_of, instance_at, actual_at}
 use Rattle.kahn_streams.specs.Script as script
 use Rattle.kahn_streams.specs.Script.{Cut, Dry}
 use Rattle.kahn_streams.specs.Meaning.{Store}

@@ -9,7 +9,7 @@ use Rattle.kahn_tree.specs.Syntax.{prints_in}
 use Rattle.kahn_tree.specs.declared.tree.Kind.{Kind}
 use Rattle.kahn_streams.specs.Script.{Dry}
 use Rattle.kahn_streams.specs.Solution as net
-use Rattle.kahn_check.specs.Network.{Network, Instance, Reads, instance_at, actual_at, Given, Written}
+use Rattle.kahn_network.specs.Network.{Network, Instance, Reads, instance_at, actual_at, Given, Written}
 use Rattle.kahn_streams.specs.Solution.{Histories, Inputs, exec_at, out, source, input_list, iterate, IsPrefix, Stands, IsWhole, HasEnd, ending}
 use Rattle.kahn_streams.specs.Laws.{IsExtended}
 use Rattle.kahn_code.specs.Cells.{is_output, is_watched, token_value}

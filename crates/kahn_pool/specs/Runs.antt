@@ -4,8 +4,8 @@ use Rattle.std.specs.declared.string.String.{String}
 use Rattle.std.specs.declared.alloc.Global.{Global}
 use Rattle.kahn_tree.specs.declared.tree.Program.{Program}
 use Rattle.kahn_tree.specs.View.{place_of}
-use Rattle.kahn_check.specs.Network.{network_of}
-use Rattle.kahn_check.specs.Sides.{channel_names}
+use Rattle.kahn_network.specs.Network.{network_of}
+use Rattle.kahn_network.specs.Sides.{channel_names}
 use Rattle.kahn_streams.specs.Tokens.{Lists, inputs_of}
 use Rattle.kahn_pool.specs.declared.answer.Answer.{Answer}
 use Rattle.kahn_pool.specs.declared.config.Config.{Config}

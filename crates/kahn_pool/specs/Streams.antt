@@ -4,7 +4,7 @@ use Rattle.kahn_streams.specs.declared.value.Line.{Line}
 use Rattle.kahn_streams.specs.declared.value.Line.TheVariants.{Channel, Print}
 use Rattle.kahn_streams.specs.declared.token.Token.{Token}
 use Rattle.kahn_streams.specs.Solution.{Inputs, source}
-use Rattle.kahn_check.specs.Network.{Network, Writes, Source, Given, Written, Nobody, instance_at, actual_at}
+use Rattle.kahn_network.specs.Network.{Network, Writes, Source, Given, Written, Nobody, instance_at, actual_at}
 use Rattle.kahn_code.specs.declared.cell.Kept.{Kept}
 use Rattle.kahn_code.specs.Cells.{IsKept}
 use Rattle.kahn_pool.specs.declared.answer.Stream.{Stream}

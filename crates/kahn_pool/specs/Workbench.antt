@@ -1,8 +1,8 @@
 -- The cells of a network over its plain queues, as a run on one thread has them.
 use Rattle.std.specs.Prelude.{◌≡◌, ℕ, ◌<◌, ◌≤◌, List, [], length, map, replicate, Option, Some, slice_get}
 use Rattle.kahn_tree.specs.declared.tree.Program.{Program}
-use Rattle.kahn_check.specs.Network.{network_of, instance_at}
-use Rattle.kahn_check.specs.Wiring.{IsWellWired}
+use Rattle.kahn_network.specs.Network.{network_of, instance_at}
+use Rattle.kahn_network.specs.Wiring.{IsWellWired}
 use Rattle.kahn_streams.specs.Tokens.{Lists, inputs_of}
 use Rattle.kahn_code.specs.Lines.{Lines as Queues, place_at}
 use Rattle.kahn_code.specs.Told.{Told, told_view, IsAt}

@@ -1,6 +1,6 @@
 //! Cells on plain queues, as a run asks them.
 
-ghost use Rattle.kahn_check.specs.Network.{instance_at, actual_at, Reads};
+ghost use Rattle.kahn_network.specs.Network.{instance_at, actual_at, Reads};
 ghost use Rattle.kahn_streams.specs.Solution.{source};
 ghost use Rattle.kahn_pool.specs.Bench.{State, Paused, AreStreams, events_at};
 ghost use Rattle.kahn_pool.specs.Gathered.{view_at, AreWithin, IsFrom};

@@ -1,16 +1,16 @@
 //! The ends of all instances, from where their tasks stand.
 
 ghost use Rattle.std.specs.Prelude.{◌≡◌, ◌↔◌, ℕ, ◌<◌, ◌≤◌, length, Some, IfSome, IfNone, IsTrue, slice_get, vec_capacity};
-ghost use Rattle.kahn_check.specs.Network.{network_of, instance_at, actual_at, Reads};
+ghost use Rattle.kahn_network.specs.Network.{network_of, instance_at, actual_at, Reads};
 ghost use Rattle.kahn_crew.specs.Left.{AreAll};
 ghost use Rattle.kahn_crew.specs.Tasks.{Tasked};
 ghost use Rattle.kahn_pool.specs.Rested.{AreEndsOf, AreTold, IsDryOf, IsEndOf, IsToldAs};
 ghost use Rattle.kahn_crew.specs.declared.standing.Standing.TheVariants as standing;
 
 use crate::answer::{End, Outcome};
-use kahn_check::network::Network;
-use kahn_check::sides::Side;
 use kahn_crew::{Standing, Task};
+use kahn_network::network::Network;
+use kahn_network::sides::Side;
 use kahn_streams::input::Input;
 
 // Whether it is this parameter of this instance.

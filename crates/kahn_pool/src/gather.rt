@@ -1,7 +1,7 @@
 //! The answer of the tasks that the workers left.
 
 ghost use Rattle.std.specs.Prelude.{◌≡◌, ◌↔◌, ◌≤◌, ◌<◌, ◌^◌, [], length, map, true, vec_capacity, IfOk};
-ghost use Rattle.kahn_check.specs.Network.{network_of};
+ghost use Rattle.kahn_network.specs.Network.{network_of};
 ghost use Rattle.kahn_streams.specs.Tokens.{inputs_of};
 ghost use Rattle.kahn_pool.specs.Bench.{AreStreams};
 ghost use Rattle.kahn_pool.specs.Right.{IsRight, stream_lines};
@@ -19,11 +19,11 @@ use crate::rounds::verdict_of;
 use crate::settle::settle_all;
 use crate::streams::fill;
 use crate::workbench::opening_streams;
-use kahn_check::network::Network;
 use kahn_code::cell::Kept;
 use kahn_code::code::{Code, CodeFault};
 use kahn_code::steps::Steps;
 use kahn_crew::{Left, Task};
+use kahn_network::network::Network;
 use kahn_streams::input::Input;
 use std::alloc::Global;
 use std::sync::ledger::Ledger;

@@ -1,6 +1,6 @@
 //! Laws of answers. Each function does nothing: its contract is the law.
 
-ghost use Rattle.kahn_check.specs.Network.{Network};
+ghost use Rattle.kahn_network.specs.Network.{Network};
 ghost use Rattle.kahn_streams.specs.Solution.{HasSize, Inputs};
 ghost use Rattle.kahn_streams.specs.declared.value.Line.{Line};
 ghost use Rattle.kahn_streams.specs.declared.value.Value.{Value};

@@ -1,6 +1,6 @@
 //! A run on the caller's thread.
 
-ghost use Rattle.kahn_check.specs.Network.{network_of};
+ghost use Rattle.kahn_network.specs.Network.{network_of};
 ghost use Rattle.kahn_pool.specs.Exact.{Settles};
 ghost use Rattle.kahn_pool.specs.Limits.{IsRefused};
 ghost use Rattle.kahn_pool.specs.Right.{IsRight};
@@ -12,9 +12,9 @@ use crate::config::{MOST_BOUND, RunFault};
 use crate::laws;
 use crate::rounds::run_bench;
 use crate::workbench::Workbench;
-use kahn_check::network::Network;
 use kahn_code::code::CodeFault;
 use kahn_code::steps::Steps;
+use kahn_network::network::Network;
 use kahn_streams::input::Input;
 use std::alloc::Global;
 use std::marker::Brand;

@@ -1,6 +1,6 @@
 //! Runs of a network.
 
-ghost use Rattle.kahn_check.specs.Network.{network_of};
+ghost use Rattle.kahn_network.specs.Network.{network_of};
 ghost use Rattle.kahn_pool.specs.Exact.{Settles};
 ghost use Rattle.kahn_pool.specs.Runs.{IsRun, IsUndeclared, IsUnrun, IsWatched};
 ghost use Rattle.kahn_pool.specs.declared.config.RunFault.TheVariants.{UnknownWatch};
@@ -12,8 +12,8 @@ use crate::config::{Config, RunFault};
 use crate::gate::Gate;
 use crate::laws;
 use crate::workers::run_workers;
-use kahn_check::network::Network;
 use kahn_crew::Plan;
+use kahn_network::network::Network;
 use kahn_streams::entries::channel_named;
 use kahn_streams::input::Input;
 use std::alloc::Global;

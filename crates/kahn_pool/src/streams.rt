@@ -4,7 +4,7 @@ ghost use Rattle.std.specs.Prelude.{◌≡◌, ◌<◌, ◌++◌, ◌∷◌, [],
 ghost use Rattle.std.specs.List.{All};
 ghost use Rattle.kahn_tree.specs.Syntax.{prints_in};
 ghost use Rattle.kahn_tree.specs.View.{Scope, body_of, names_of, statement_of};
-ghost use Rattle.kahn_check.specs.Network.{network_of, instance_at, role_at};
+ghost use Rattle.kahn_network.specs.Network.{network_of, instance_at, role_at};
 ghost use Rattle.kahn_tree.specs.declared.tree.Role.TheVariants.{Input as InputRole};
 ghost use Rattle.kahn_streams.specs.declared.value.Line.TheVariants.{Channel as ChannelLine};
 ghost use Rattle.kahn_streams.specs.Solution.{source};
@@ -14,9 +14,9 @@ ghost use Rattle.kahn_pool.specs.Right.{line_of, channel_lines, print_lines, str
 ghost use Rattle.kahn_pool.specs.Streams.{AreNamed, IsDeclared, IsBare, kept_lists, AreLists, IsFilled, AreFilled, KeepsOthers, HasInput, HasInputs, HaveInput};
 
 use crate::answer::Stream;
-use kahn_check::network::Network;
-use kahn_check::sides::Side;
 use kahn_code::cell::Kept;
+use kahn_network::network::Network;
+use kahn_network::sides::Side;
 use kahn_streams::input::Input;
 use kahn_streams::memory::NoMemory;
 use kahn_streams::token::Token;

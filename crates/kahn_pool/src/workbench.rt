@@ -1,6 +1,6 @@
 //! The cells of a network over its plain queues.
 
-ghost use Rattle.kahn_check.specs.Network.{network_of};
+ghost use Rattle.kahn_network.specs.Network.{network_of};
 ghost use Rattle.kahn_pool.specs.Bench.{all_events};
 ghost use Rattle.kahn_streams.specs.Tokens.{Lists};
 ghost use Rattle.kahn_pool.specs.Workbench.{Table, AreOpen, AreOpening, AreKeptOf, AreReady, state_of};
@@ -9,12 +9,12 @@ ghost use Rattle.std.specs.Prelude.{◌≡◌, ◌≤◌, ℕ, [], length, map, 
 use crate::answer::Stream;
 use crate::bench::Bench;
 use crate::streams::{empty_streams, fill, watched_input};
-use kahn_check::network::Network;
 use kahn_code::cell::{Cell, Kept};
 use kahn_code::code::{Code, CodeFault, compile};
 use kahn_code::plain::Plain;
 use kahn_code::progress::Pause;
 use kahn_code::steps::Steps;
+use kahn_network::network::Network;
 use kahn_streams::input::Input;
 use std::alloc::Global;
 use std::marker::Model;

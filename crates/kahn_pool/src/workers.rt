@@ -1,6 +1,6 @@
 //! A run by several workers.
 
-ghost use Rattle.kahn_check.specs.Network.{network_of};
+ghost use Rattle.kahn_network.specs.Network.{network_of};
 ghost use Rattle.kahn_pool.specs.Limits.{IsWant};
 ghost use Rattle.kahn_pool.specs.Right.{IsRight};
 ghost use Rattle.kahn_streams.specs.Tokens.{inputs_of};
@@ -10,10 +10,10 @@ use crate::answer::Answer;
 use crate::config::RunFault;
 use crate::gate::Gate;
 use crate::gather::{Room, answer_of};
-use kahn_check::network::Network;
 use kahn_code::code::compile;
 use kahn_code::steps::Steps;
 use kahn_crew::{Plan, run_crew};
+use kahn_network::network::Network;
 use kahn_streams::input::Input;
 use std::alloc::Global;
 use std::marker::Brand;

@@ -8,7 +8,7 @@ use Rattle.kahn_tree.specs.declared.tree.Declaration.TheVariants as D
 use Rattle.std.specs.declared.vec.Vec.{Vec}
 use Rattle.std.specs.declared.alloc.Global.{Global}
 use Rattle.kahn_tree.specs.View.{bytes_of}
-use Rattle.kahn_check.specs.Network.{channels_of}
+use Rattle.kahn_network.specs.Network.{channels_of}
 use Rattle.kahn_report.specs.Names.{channel_names}
 
 abbrev pub Row : Type 0

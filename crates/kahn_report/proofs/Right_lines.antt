@@ -6,7 +6,7 @@ use Rattle.kahn_tree.specs.declared.tree.Kind.{Kind}
 use Rattle.kahn_tree.specs.declared.tree.Role.{Role}
 use Rattle.kahn_tree.specs.declared.tree.Program.{Program}
 use Rattle.kahn_tree.specs.Syntax.{prints_in}
-use Rattle.kahn_check.specs.Network.{Instance, network_of, channels_of}
+use Rattle.kahn_network.specs.Network.{Instance, network_of, channels_of}
 use Rattle.kahn_streams.specs.declared.value.Line.{Line}
 use Rattle.kahn_streams.specs.declared.value.Line.TheVariants.{Channel, Print}
 use Rattle.kahn_pool.specs.declared.answer.Stream.{Stream}

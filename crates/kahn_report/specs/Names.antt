@@ -3,7 +3,7 @@ use Rattle.std.specs.Prelude.{ℕ, List, [], length, map, slice_index_or}
 use Rattle.kahn_tree.specs.declared.tree.Declaration.{Declaration}
 use Rattle.kahn_tree.specs.declared.tree.Program.{Program}
 use Rattle.kahn_tree.specs.View.{bytes_of}
-use Rattle.kahn_check.specs.Network.{channels_of}
+use Rattle.kahn_network.specs.Network.{channels_of}
 
 -- how many channels are declared
 abbrev pub channel_count : Program → ℕ

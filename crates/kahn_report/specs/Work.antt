@@ -6,10 +6,10 @@ use Rattle.kahn_tree.specs.declared.tree.Program.{Program}
 use Rattle.kahn_syntax.specs.Drawn.{program_of}
 use Rattle.kahn_syntax.specs.Programs.{nesting}
 use Rattle.kahn_syntax.specs.Texts.{IsProgram, IsTextFault as IsSyntaxFault}
-use Rattle.kahn_check.specs.Network.{network_of}
+use Rattle.kahn_network.specs.Network.{network_of}
 use Rattle.kahn_check.specs.Order.{faults}
 use Rattle.kahn_check.specs.Faults.{IsMet}
-use Rattle.kahn_check.specs.Wiring.{IsWellWired}
+use Rattle.kahn_network.specs.Wiring.{IsWellWired}
 use Rattle.kahn_streams.specs.Tokens.{Lists, inputs_of}
 use Rattle.kahn_pool.specs.declared.answer.Answer.{Answer}
 use Rattle.kahn_pool.specs.declared.answer.Verdict.{Verdict}

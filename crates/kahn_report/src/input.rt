@@ -1,13 +1,13 @@
 //! The input that an input text stands for.
 
 ghost use Rattle.std.specs.Prelude.{IfOk, MatchResult};
-ghost use Rattle.kahn_check.specs.Network.{network_of};
+ghost use Rattle.kahn_network.specs.Network.{network_of};
 ghost use Rattle.kahn_streams.specs.Kinded.{FitsKinds};
 ghost use Rattle.kahn_streams.specs.Tokens.{inputs_of};
 ghost use Rattle.kahn_report.specs.Inputs.{IsTextFault, StandsFor};
 
 use crate::entries::{EntriesFault, read_entries};
-use kahn_check::network::Network;
+use kahn_network::network::Network;
 use kahn_streams::entries::InputFault;
 use kahn_streams::input::Input;
 use std::alloc::Global;

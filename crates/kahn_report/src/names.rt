@@ -3,7 +3,7 @@
 ghost use Rattle.std.specs.Prelude.{◌≡◌};
 ghost use Rattle.kahn_report.specs.Names.{channel_name, process_name};
 
-use kahn_check::network::Network;
+use kahn_network::network::Network;
 use kahn_tree::tree::Declaration;
 
 /// The declared name of a channel, or nothing past the last. It takes no memory.

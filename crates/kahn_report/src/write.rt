@@ -9,7 +9,7 @@ ghost use Rattle.kahn_report.specs.Report.{report_text, value_text, line_head, s
 use crate::calls::Calls;
 use crate::names::{channel_name, process_name};
 use itoa::Buffer;
-use kahn_check::network::Network;
+use kahn_network::network::Network;
 use kahn_pool::answer::{Answer, End, Outcome, Stream, Verdict};
 use kahn_streams::value::{Failure, Line, Value};
 use std::io::Write;

@@ -8,11 +8,11 @@ use Rattle.kahn_tree.specs.declared.tree.Taking.{Taking}
 use Rattle.kahn_tree.specs.declared.tree.Taking.TheVariants as T
 use Rattle.kahn_tree.specs.declared.tree.Program.{Program}
 use Rattle.kahn_tree.specs.Syntax.{Number, Expr, Literal, Variable, Wait, Negate, Not, Binary, Conditional, Stmt, Skip, Assign, Send, Print, Seq, If, While, Repeat}
-use Rattle.kahn_check.specs.Kinds.{HasKind, Agrees}
-use Rattle.kahn_check.specs.Network.{Actual, Reads, Writes, Hands, Instance, Network, idle, instance_at, actual_at, network_of}
-use Rattle.kahn_check.specs.Sides.{taking_of, takings_of, IsFit}
-use Rattle.kahn_check.specs.Wiring.{IsWellWired}
-use Rattle.kahn_check.proofs.Fitted.{instances_fit}
+use Rattle.kahn_network.specs.Kinds.{HasKind, Agrees}
+use Rattle.kahn_network.specs.Network.{Actual, Reads, Writes, Hands, Instance, Network, idle, instance_at, actual_at, network_of}
+use Rattle.kahn_network.specs.Sides.{taking_of, takings_of, IsFit}
+use Rattle.kahn_network.specs.Wiring.{IsWellWired}
+use Rattle.kahn_network.proofs.Fitted.{instances_fit}
 use Rattle.kahn_streams.specs.declared.value.Value.{Value}
 use Rattle.kahn_streams.specs.declared.value.Value.TheVariants.{Logical}
 use Rattle.kahn_streams.specs.declared.value.Failure.{Failure}

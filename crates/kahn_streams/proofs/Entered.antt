@@ -6,8 +6,8 @@ use Rattle.std.proofs.lemmas.Option.{slice_get_read, slice_get-map}
 use Rattle.std.specs.Option.{option_map}
 use Rattle.kahn_tree.specs.declared.tree.Program.{Program}
 use Rattle.kahn_tree.specs.View.{Scope, place_of}
-use Rattle.kahn_check.specs.Network.{network_of, kind_at, channels_of}
-use Rattle.kahn_check.specs.Sides.{channel_names}
+use Rattle.kahn_network.specs.Network.{network_of, kind_at, channels_of}
+use Rattle.kahn_network.specs.Sides.{channel_names}
 use Rattle.kahn_streams.specs.declared.entries.InputFault.{InputFault}
 use Rattle.kahn_streams.specs.Kinded.{AreOfKind, FitsKinds}
 use Rattle.kahn_streams.specs.Tokens.{Lists, inputs_of}

@@ -7,7 +7,7 @@ use Rattle.kahn_streams.specs.declared.value.Line.{Line}
 use Rattle.kahn_streams.specs.declared.value.Line.TheVariants.{Channel, Print}
 use Rattle.kahn_tree.specs.Syntax.{Number}
 use Rattle.kahn_streams.specs.Script.{Tapes, Script, Give, Fail, Waits, Sends, Turns, Rest, Outcome, Got, Dry, Fault, Cut, Reached, after_event, after_send, put, wait_at, play}
-use Rattle.kahn_check.specs.Network.{Network, Hands, instance_at, Source, Given, Written, Nobody}
+use Rattle.kahn_network.specs.Network.{Network, Hands, instance_at, Source, Given, Written, Nobody}
 use Rattle.kahn_streams.specs.Solution.{IsWhole, Histories, Inputs, tapes_of, exec_at, out, values_at, goes_to, source, fed, input_list, iterate, IsPrefix, HasEnd, Ending, ending}
 use Rattle.kahn_streams.specs.Laws.{IsSolution, IsExtended, InputsGrow, AreInputsExtended, SendsStand, IsQuiet, IsSettled, IsCounted, IsUnrolled, IsDetermined}
 use Rattle.kahn_streams.proofs.Fuel.{play_alike}

@@ -9,7 +9,7 @@ use Rattle.std.proofs.Common.{arith, ◌≡◌, ◌⊎◌, inl, inr, ℕ, zero, 
 use Rattle.kahn_streams.specs.declared.value.Value.{Value}
 use Rattle.kahn_streams.specs.declared.value.Line.{Line}
 use Rattle.kahn_streams.specs.contracts.value.Value as value
-use Rattle.kahn_check.specs.Network.{Network}
+use Rattle.kahn_network.specs.Network.{Network}
 use Rattle.kahn_streams.specs.Solution.{Inputs, iterate, Stands}
 use Rattle.kahn_streams.proofs.Proved.{one_value}
 

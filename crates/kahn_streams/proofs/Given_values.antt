@@ -2,7 +2,7 @@
 use Rattle.std.proofs.Common.{◌≡◌, ℕ, Some, ap, ◌∙◌, slice_get, List, []}
 use Rattle.kahn_tree.specs.declared.tree.Program.{Program}
 use Rattle.kahn_tree.specs.declared.tree.Role.TheVariants.{Input}
-use Rattle.kahn_check.specs.Network.{network_of, role_at, source_by, first_writer, Source, Given}
+use Rattle.kahn_network.specs.Network.{network_of, role_at, source_by, first_writer, Source, Given}
 use Rattle.kahn_streams.specs.declared.value.Value.{Value}
 use Rattle.kahn_streams.specs.declared.value.Line.TheVariants.{Channel}
 use Rattle.kahn_streams.specs.Solution.{fed, iterate, Stands}

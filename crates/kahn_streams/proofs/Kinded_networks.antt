@@ -22,9 +22,9 @@ use Rattle.kahn_tree.specs.declared.tree.Instance as I
 use Rattle.kahn_tree.specs.declared.tree.Program.{Program}
 use Rattle.kahn_tree.specs.Syntax.{Number}
 use Rattle.kahn_tree.specs.View.{Scope, place_of, number_of, bytes_of, names_of, body_of}
-use Rattle.kahn_check.specs.Kinds.{Agrees}
-use Rattle.kahn_check.specs.Wiring.{entries, Global, IsChannel, IsProcess, declared_of, processes_of, global, Fits, AllFit, IsMade, IsSound, IsWellWired}
-use Rattle.kahn_check.specs.Network.{Hands, Instance, Network, idle, instance_at, actual_at, kind_at, is_written, Source, Given, Written, Nobody, channels_of, process_of, actual_of, actuals_of, instance_from, network_of}
+use Rattle.kahn_network.specs.Kinds.{Agrees}
+use Rattle.kahn_network.specs.Wiring.{entries, Global, IsChannel, IsProcess, declared_of, processes_of, global, Fits, AllFit, IsMade, IsSound, IsWellWired}
+use Rattle.kahn_network.specs.Network.{Hands, Instance, Network, idle, instance_at, actual_at, kind_at, is_written, Source, Given, Written, Nobody, channels_of, process_of, actual_of, actuals_of, instance_from, network_of}
 use Rattle.kahn_streams.specs.declared.value.Value.{Value}
 use Rattle.kahn_streams.specs.declared.value.Line.TheVariants.{Channel}
 use Rattle.kahn_streams.specs.Script.{Port, Parameter, Printer, Give}

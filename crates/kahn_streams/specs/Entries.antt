@@ -7,8 +7,8 @@ use Rattle.std.specs.declared.alloc.Global.{Global}
 use Rattle.kahn_tree.specs.declared.tree.Program.{Program}
 use Rattle.kahn_tree.specs.declared.tree.Role.TheVariants.{Input}
 use Rattle.kahn_tree.specs.View.{place_of}
-use Rattle.kahn_check.specs.Network.{network_of, kind_at, role_at}
-use Rattle.kahn_check.specs.Sides.{channel_names}
+use Rattle.kahn_network.specs.Network.{network_of, kind_at, role_at}
+use Rattle.kahn_network.specs.Sides.{channel_names}
 use Rattle.kahn_streams.specs.declared.value.Value.{Value}
 use Rattle.kahn_streams.specs.declared.entries.InputFault.{InputFault}
 use Rattle.kahn_streams.specs.declared.entries.InputFault.TheVariants.{UnknownName, NotAnInput, GivenTwice, WrongKind, TooMany, NoMemory}

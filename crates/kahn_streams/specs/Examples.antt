@@ -8,7 +8,7 @@ use Rattle.kahn_tree.specs.declared.tree.Role.TheVariants.{Inner, Input, Output}
 use Rattle.kahn_tree.specs.declared.tree.Operator.TheVariants as Op
 use Rattle.kahn_tree.specs.Syntax as S
 use Rattle.kahn_streams.specs.Sample.{no_input, g_body, h_of}
-use Rattle.kahn_check.specs.Network.{Network, Reads, Writes, Hands}
+use Rattle.kahn_network.specs.Network.{Network, Reads, Writes, Hands}
 use Rattle.kahn_streams.specs.Solution.{Inputs, iterate, exec_at, ending, Ended, Waiting, Faulted}
 
 abbrev pub number : ℕ → S.Expr

@@ -5,7 +5,7 @@ use Rattle.kahn_tree.specs.declared.tree.Kind.{Kind}
 use Rattle.kahn_tree.specs.declared.tree.Kind.TheVariants as KindOf
 use Rattle.kahn_streams.specs.declared.value.Value.{Value}
 use Rattle.kahn_streams.specs.declared.value.Value.TheVariants.{Integer, Logical}
-use Rattle.kahn_check.specs.Network.{Network, kind_at}
+use Rattle.kahn_network.specs.Network.{Network, kind_at}
 use Rattle.kahn_streams.specs.Solution.{Inputs}
 
 -- an integer is of the kind of integers, a truth value of the logical kind

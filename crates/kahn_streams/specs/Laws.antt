@@ -4,7 +4,7 @@ use Rattle.kahn_streams.specs.declared.value.Value.{Value}
 use Rattle.kahn_streams.specs.declared.value.Line.{Line}
 use Rattle.kahn_streams.specs.Script.{Give, play, Port, Outcome, Got, Dry, Fault, Cut, Reached}
 use Rattle.kahn_streams.specs.Meaning.{script_of}
-use Rattle.kahn_check.specs.Network.{Network, Instance, instance_at, Given, Written}
+use Rattle.kahn_network.specs.Network.{Network, Instance, instance_at, Given, Written}
 use Rattle.kahn_streams.specs.Solution.{opening, Histories, Inputs, tapes_of, exec_at, out, source, input_list, iterate, IsPrefix, Stands, IsWhole, HasEnd, Ending, ending}
 
 -- each iterate is a prefix of the next

@@ -6,7 +6,7 @@ use Rattle.kahn_streams.specs.declared.value.Line.TheVariants.{Channel}
 use Rattle.kahn_tree.specs.declared.tree.Kind.TheVariants as KindOf
 use Rattle.kahn_tree.specs.declared.tree.Role.TheVariants.{Inner}
 use Rattle.kahn_tree.specs.Syntax as S
-use Rattle.kahn_check.specs.Network.{Network, Instance, Reads, Writes, Hands}
+use Rattle.kahn_network.specs.Network.{Network, Instance, Reads, Writes, Hands}
 use Rattle.kahn_streams.specs.Solution.{Inputs, Stands}
 
 abbrev pub no_input : Inputs

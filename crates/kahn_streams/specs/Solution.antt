@@ -9,7 +9,7 @@ use Rattle.kahn_streams.specs.declared.value.Line.{Line}
 use Rattle.kahn_streams.specs.declared.value.Line.TheVariants.{Channel, Print}
 use Rattle.kahn_tree.specs.declared.tree.Kind.{Kind}
 use Rattle.kahn_tree.specs.declared.tree.Kind.TheVariants as KindOf
-use Rattle.kahn_check.specs.Network.{Actual, Instance, Network, Reads, Writes, Hands, instance_at, actual_at, is_written, Source, Given, Written, Nobody, channel_source}
+use Rattle.kahn_network.specs.Network.{Actual, Instance, Network, Reads, Writes, Hands, instance_at, actual_at, is_written, Source, Given, Written, Nobody, channel_source}
 use Rattle.kahn_streams.specs.Script.{Port, Parameter, Printer, Tapes, Outcome, Got, Dry, Fault, Cut, Reached}
 use Rattle.kahn_streams.specs.Meaning.{Store, constant, exec}
 

@@ -2,14 +2,14 @@
 
 ghost use Rattle.std.specs.Prelude.{◌≡◌, ◌↔◌, ◌<◌, ◌≤◌, IsTrue, MatchOption, MatchResult, false, length, slice_index_or};
 ghost use Rattle.kahn_tree.specs.View.{place_of};
-ghost use Rattle.kahn_check.specs.Network.{network_of};
-ghost use Rattle.kahn_check.specs.Sides.{channel_names};
+ghost use Rattle.kahn_network.specs.Network.{network_of};
+ghost use Rattle.kahn_network.specs.Sides.{channel_names};
 ghost use Rattle.kahn_streams.specs.Entries.{IsFit, IsRefused};
 ghost use Rattle.kahn_streams.specs.Kinded.{AreOfKind};
 
 use crate::memory::NoMemory;
 use crate::value::Value;
-use kahn_check::network::Network;
+use kahn_network::network::Network;
 use kahn_tree::tree::{Kind, Role};
 use std::alloc::AllocError;
 use thiserror::Error;

@@ -2,14 +2,14 @@
 
 ghost use Rattle.std.specs.Prelude.{◌≡◌, ◌<◌, ◌≤◌, MatchResult, length};
 ghost use Rattle.kahn_tree.specs.View.{place_of};
-ghost use Rattle.kahn_check.specs.Network.{network_of, kind_at, role_at};
-ghost use Rattle.kahn_check.specs.Sides.{channel_names};
+ghost use Rattle.kahn_network.specs.Network.{network_of, kind_at, role_at};
+ghost use Rattle.kahn_network.specs.Sides.{channel_names};
 ghost use Rattle.kahn_streams.specs.Feeds.{IsMeant, IsNotMeant};
 
 use crate::entries::{are_of_kind, channel_named};
 use crate::memory::NoMemory;
 use crate::value::Value;
-use kahn_check::network::Network;
+use kahn_network::network::Network;
 use kahn_tree::tree::Role;
 use thiserror::Error;
 

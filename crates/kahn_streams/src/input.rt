@@ -7,7 +7,7 @@ ghost use Rattle.kahn_streams.specs.Laws.{AreInputsExtended};
 ghost use Rattle.kahn_streams.specs.Kinded.{FitsKinds};
 ghost use Rattle.kahn_streams.specs.Tokens.{inputs_of};
 ghost use Rattle.kahn_streams.specs.declared.value.Line.TheVariants.{Channel};
-ghost use Rattle.kahn_check.specs.Network.{network_of, role_at};
+ghost use Rattle.kahn_network.specs.Network.{network_of, role_at};
 ghost use Rattle.kahn_tree.specs.declared.tree.Role.TheVariants.{Input as InputRole};
 
 use crate::entries::{InputFault, MOST_VALUES, channel_for};
@@ -15,7 +15,7 @@ use crate::feeds::{FeedFault, channel_meant};
 use crate::memory::NoMemory;
 use crate::token::Token;
 use crate::value::{Line, Value};
-use kahn_check::network::Network;
+use kahn_network::network::Network;
 use kahn_tree::tree::Role;
 use std::alloc::Global;
 use std::marker::Model;

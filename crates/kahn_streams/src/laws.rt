@@ -5,8 +5,8 @@ ghost use Rattle.kahn_streams.specs.Examples.{Counting, Doubling, Overflowing, R
 ghost use Rattle.kahn_streams.specs.Kinded.{AreOfKind, FitsKinds};
 ghost use Rattle.kahn_streams.specs.Laws.{IsChain, HasOneValue, IsSolved, IsSolution, IsBelow, Frame, IsQuiet, IsSettled, SendsStand, InputsGrow, IsCounted, IsUnrolled, IsDetermined};
 ghost use Rattle.kahn_streams.specs.Meaning.{Store, exec};
-ghost use Rattle.kahn_check.specs.Network.{Network, Reads, actual_at, instance_at, kind_at, network_of};
-ghost use Rattle.kahn_check.specs.Wiring.{IsWellWired};
+ghost use Rattle.kahn_network.specs.Network.{Network, Reads, actual_at, instance_at, kind_at, network_of};
+ghost use Rattle.kahn_network.specs.Wiring.{IsWellWired};
 ghost use Rattle.kahn_streams.specs.Solution.{Inputs, Histories, Ending, Stands, iterate, opening};
 ghost use Rattle.kahn_streams.specs.Sample.{Sample};
 ghost use Rattle.kahn_streams.specs.Script.{Script, Tapes, Dry, play};

@@ -1,7 +1,7 @@
 -- The cells of a network over its plain queues, as the tests run them.
 use Rattle.std.specs.Prelude.{◌≡◌, ℕ, List, length, replicate, Some, slice_get}
 use Rattle.kahn_tree.specs.declared.tree.Program.{Program}
-use Rattle.kahn_check.specs.Network.{network_of, instance_at}
+use Rattle.kahn_network.specs.Network.{network_of, instance_at}
 use Rattle.kahn_streams.specs.Tokens.{Lists}
 use Rattle.kahn_code.specs.Lines.{Lines as Queues, place_at}
 use Rattle.kahn_code.specs.Told.{Told, IsAt}

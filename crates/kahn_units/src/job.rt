@@ -1,17 +1,17 @@
 //! Jobs of small networks, which one thread runs in turn.
 
 ghost use Rattle.std.specs.Prelude.{◌≡◌, ℕ, ◌<◌, ◌∷◌, [], true, false, length, IfOk, IfSome};
-ghost use Rattle.kahn_check.specs.Network.{Reads, Writes, network_of, instance_at, actual_at, role_at};
+ghost use Rattle.kahn_network.specs.Network.{Reads, Writes, network_of, instance_at, actual_at, role_at};
 ghost use Rattle.kahn_code.specs.Cells.{is_output};
 ghost use Rattle.kahn_job.specs.Berths.{end_at};
 
 use kahn_check::network::{Network, check};
-use kahn_check::sides::Side;
 use kahn_code::code::{Code, compile};
 use kahn_code::progress::Pause;
 use kahn_code::routes::routes;
 use kahn_code::steps::Steps;
 use kahn_job::{Job, jobs};
+use kahn_network::sides::Side;
 use kahn_streams::input::Input;
 use kahn_streams::value::Value;
 use kahn_syntax::parser::parse;

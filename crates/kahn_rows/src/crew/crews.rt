@@ -3,9 +3,9 @@
 ghost use Rattle.std.specs.Prelude.{◌≡◌, ◌<◌, ◌≤◌, ◌^◌};
 
 use super::{COUNT, DOUBLE_AND_COPY, input_on_a, network_in, told};
-use kahn_check::network::Network;
 use kahn_code::code::compile;
 use kahn_crew::{Gate, Left, Open, Plan, run_crew};
+use kahn_network::network::Network;
 use kahn_streams::input::Input;
 use kahn_streams::value::Value;
 use std::alloc::Global;

@@ -3,7 +3,7 @@
 use super::{at, fault};
 use kahn_check::fault::CheckFault;
 use kahn_check::network::check;
-use kahn_check::sides::Side;
+use kahn_network::sides::Side;
 use kahn_syntax::parser::parse;
 use std::alloc::{AllocError, Global};
 use std::test::Fail;

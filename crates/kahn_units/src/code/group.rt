@@ -1,19 +1,19 @@
 //! All cells of a network over its plain queues, and what is seen of them.
 
 ghost use Rattle.std.specs.Prelude.{◌≡◌, ◌<◌, ◌^◌, length, IfOk, IsTrue};
-ghost use Rattle.kahn_check.specs.Network.{network_of};
+ghost use Rattle.kahn_network.specs.Network.{network_of};
 ghost use Rattle.kahn_streams.specs.Laws.{AreInputsExtended};
 ghost use Rattle.kahn_streams.specs.Tokens.{Lists, inputs_of};
 ghost use Rattle.kahn_code.specs.Seats.{DoesRead};
 ghost use Rattle.kahn_units.specs.Groups.{AreOpening};
 
-use kahn_check::network::Network;
 use kahn_code::cell::Cell;
 use kahn_code::code::{Code, CodeFault, compile};
 use kahn_code::plain::Plain;
 use kahn_code::ports::Ports;
 use kahn_code::progress::Pause;
 use kahn_code::steps::Steps;
+use kahn_network::network::Network;
 use kahn_streams::input::Input;
 use kahn_streams::token::Token;
 use kahn_streams::value::{Line, Value};

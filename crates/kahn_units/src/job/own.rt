@@ -1,7 +1,7 @@
 //! A job that reads what it writes.
 
 ghost use Rattle.std.specs.Prelude.{◌≡◌, ◌<◌, false, IfOk};
-ghost use Rattle.kahn_check.specs.Network.{Reads, Writes, network_of, instance_at, actual_at, role_at};
+ghost use Rattle.kahn_network.specs.Network.{Reads, Writes, network_of, instance_at, actual_at, role_at};
 ghost use Rattle.kahn_code.specs.Cells.{is_output};
 ghost use Rattle.kahn_job.specs.Berths.{end_at};
 ghost use Rattle.kahn_job.specs.Ends.{ShareLane};

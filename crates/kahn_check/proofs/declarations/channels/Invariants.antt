@@ -1,8 +1,8 @@
 use Rattle.std.proofs.Common.{◌≡◌, ◌≤◌, ◌+◌, ◌++◌, [], map, drop}
 use Rattle.kahn_check.specs.Globals.{known}
-use Rattle.kahn_check.specs.Wiring.{entries, IsChannel}
+use Rattle.kahn_network.specs.Wiring.{entries, IsChannel}
 use Rattle.kahn_check.specs.Order.{channel_faults}
-use Rattle.kahn_check.proofs.Wired.{as_channels}
+use Rattle.kahn_network.proofs.Handed.{as_channels}
 use Rattle.kahn_check.proofs.declarations.channels.Given as goal
 
 abbrev pub invariant-loop-name : goal.invariant-loop-name

@@ -1,6 +1,6 @@
 use Rattle.std.proofs.Common.{◌≡◌, ◌≤◌, ◌++◌, [], drop}
 use Rattle.kahn_check.specs.Globals.{known}
-use Rattle.kahn_check.specs.Wiring.{entries, declared_of}
+use Rattle.kahn_network.specs.Wiring.{entries, declared_of}
 use Rattle.kahn_check.specs.Order.{declaration_faults}
 use Rattle.kahn_check.proofs.declarations.declarations.Given as goal
 

@@ -3,7 +3,7 @@ use Rattle.std.proofs.lemmas.Grind.{common_steps}
 use Rattle.kahn_tree.specs.declared.tree.Direction.TheVariants.{In, Out}
 use Rattle.kahn_check.specs.Faults.{IsMet}
 use Rattle.kahn_check.specs.Globals.{known}
-use Rattle.kahn_check.specs.Wiring.{IsProcess, handed_in}
+use Rattle.kahn_network.specs.Wiring.{IsProcess, handed_in}
 use Rattle.kahn_check.specs.Tables.{places_faults, meant, seats_faults, taken, handed_all}
 use Rattle.kahn_check.proofs.Placed.{seats_met, seats_step, seats_more}
 use Rattle.kahn_check.proofs.instance.instances.Goals as goal

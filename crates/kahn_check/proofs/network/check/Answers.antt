@@ -1,17 +1,18 @@
 use Rattle.std.proofs.Common.{rules, ◌≡◌, ◌∙◌, subst, [], map, IsSome}
 use Rattle.std.specs.List.{AllByRecursion}
 use Rattle.kahn_tree.specs.View.{bytes_of}
-use Rattle.kahn_check.specs.Network.{process_of}
+use Rattle.kahn_network.specs.Network.{process_of}
 use Rattle.kahn_check.specs.Faults.{IsMet}
 use Rattle.kahn_check.specs.Globals.{known}
 use Rattle.kahn_check.specs.Order.{declaration_faults}
 use Rattle.kahn_check.specs.Tables.{seats_faults, sides_in, taken, handed_all}
 use Rattle.kahn_tree.specs.declared.tree.Direction.TheVariants.{In, Out}
-use Rattle.kahn_check.specs.Wiring.{declared_channels, entries, declared_of}
+use Rattle.kahn_network.specs.Wiring.{declared_channels, entries, declared_of}
 use Rattle.kahn_check.proofs.Linked.{table, whole, met_instances, met_sides}
-use Rattle.kahn_check.proofs.Kept.{all_declared}
+use Rattle.kahn_network.proofs.Kept.{all_declared}
 use Rattle.kahn_check.proofs.Lines.{lines_by}
-use Rattle.kahn_check.specs.Wires.{shown, lines_in}
+use Rattle.kahn_check.specs.Wires.{lines_in}
+use Rattle.kahn_network.specs.Wires.{shown}
 use Rattle.kahn_check.proofs.network.check.Goals as goal
 
 pub returns-in_err-writers : goal.returns-in_err-writers
@@ -41,8 +42,8 @@ processes-requires c =
     subst (λ z. AllByRecursion (λ i. IsSome (process_of z (bytes_of i.process))) c.deref-4.result.now) ds
     (subst (λ z. AllByRecursion (λ i. IsSome (process_of t.declarations.items (bytes_of i.process))) z) xs (all_declared t t.instances.items wired.instances))
 
-pub invariant_of-result : goal.invariant_of-result
-invariant_of-result c =
+pub kept-requires : goal.kept-requires
+kept-requires c =
     let t = c.args.program in
     let g = known c.in_ok-globals.globals in
     let wired = whole t g c.in_ok-writers.writers c.in_ok-writers.readers (search rules) (search rules) (search rules) (search rules) (search rules) (search rules) in

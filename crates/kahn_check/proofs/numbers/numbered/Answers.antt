@@ -3,7 +3,7 @@ use Rattle.std.proofs.lemmas.Grind.{common_steps}
 use Rattle.std.specs.Map.{lookup}
 use Rattle.kahn_tree.specs.declared.tree.Declaration.TheVariants as D
 use Rattle.kahn_tree.specs.View.{bytes_of}
-use Rattle.kahn_check.specs.Wires.{the_process}
+use Rattle.kahn_network.specs.Wires.{the_process}
 use Rattle.kahn_check.proofs.Numbering.{IsNumberedSo, number_new, number_old, number_none}
 use Rattle.kahn_check.proofs.numbers.numbered.Goals as goal
 use Rattle.kahn_check.proofs.numbers.numbered.Goals.{in-Channels, in-Process+then-is_none+in_ok-add-in-Process, in-Process+else-is_none}

@@ -4,8 +4,9 @@ use Rattle.std.proofs.lemmas.List.{map-append}
 use Rattle.std.specs.Map.{lookup}
 use Rattle.std.specs.List.{AllByRecursion}
 use Rattle.kahn_tree.specs.View.{bytes_of}
-use Rattle.kahn_check.specs.Network.{process_of}
-use Rattle.kahn_check.specs.Wires.{process_at, number_in}
+use Rattle.kahn_network.specs.Network.{process_of}
+use Rattle.kahn_check.specs.Wires.{number_in}
+use Rattle.kahn_network.specs.Wires.{process_at}
 use Rattle.kahn_check.proofs.Numbering.{number_there, always, one_more, found_of}
 use Rattle.kahn_check.proofs.numbers.processes.Goals as goal
 

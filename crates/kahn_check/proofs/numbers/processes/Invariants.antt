@@ -1,8 +1,8 @@
 use Rattle.std.proofs.Common.{◌≡◌, ◌++◌, map, drop, IsSome}
 use Rattle.std.specs.List.{AllByRecursion}
 use Rattle.kahn_tree.specs.View.{bytes_of}
-use Rattle.kahn_check.specs.Network.{process_of}
-use Rattle.kahn_check.specs.Wires.{process_at}
+use Rattle.kahn_network.specs.Network.{process_of}
+use Rattle.kahn_network.specs.Wires.{process_at}
 use Rattle.kahn_check.proofs.Numbering.{found_of}
 use Rattle.kahn_check.proofs.numbers.processes.Given as goal
 

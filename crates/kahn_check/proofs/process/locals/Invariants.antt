@@ -1,6 +1,6 @@
 use Rattle.std.proofs.Common.{◌≡◌, ◌++◌, [], map, drop}
 use Rattle.kahn_tree.specs.declared.tree.Taking.TheVariants.{Value}
-use Rattle.kahn_check.specs.Wiring.{locals_of, scope_of, entries}
+use Rattle.kahn_network.specs.Wiring.{locals_of, scope_of, entries}
 use Rattle.kahn_check.specs.Order.{twice}
 use Rattle.kahn_check.proofs.process.locals.Given as goal
 

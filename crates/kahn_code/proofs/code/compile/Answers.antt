@@ -1,4 +1,4 @@
-use Rattle.kahn_check.specs.Network.{network_of}
+use Rattle.kahn_network.specs.Network.{network_of}
 use Rattle.kahn_code.proofs.Bodies.{one_first}
 use Rattle.kahn_code.proofs.code.compile.Goals as goal
 

@@ -1,4 +1,4 @@
-use Rattle.kahn_check.specs.Network.{network_of}
+use Rattle.kahn_network.specs.Network.{network_of}
 use Rattle.kahn_code.proofs.Bodies.{AreFirst}
 use Rattle.kahn_code.proofs.code.compile.Given as goal
 

@@ -1,6 +1,6 @@
 use Rattle.std.proofs.Common.{◌≡◌, ◌⊎◌, ◌≤◌, ◌-◌, length}
 use Rattle.kahn_tree.specs.declared.tree.Role.TheVariants.{Input}
-use Rattle.kahn_check.specs.Network.{network_of, role_at}
+use Rattle.kahn_network.specs.Network.{network_of, role_at}
 use Rattle.kahn_streams.specs.Tokens.{inputs_of}
 use Rattle.kahn_code.proofs.opening.first_queue.Given as goal
 

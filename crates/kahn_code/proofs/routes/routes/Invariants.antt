@@ -1,5 +1,5 @@
 use Rattle.std.proofs.Common.{map}
-use Rattle.kahn_check.specs.Network.{network_of}
+use Rattle.kahn_network.specs.Network.{network_of}
 use Rattle.kahn_code.proofs.Routed.{AreFirstRows}
 use Rattle.kahn_code.proofs.routes.routes.Given as goal
 

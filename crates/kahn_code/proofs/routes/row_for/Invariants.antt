@@ -1,6 +1,6 @@
 use Rattle.std.proofs.Common.{◌≡◌, ◌++◌, map, drop}
-use Rattle.kahn_check.specs.Network.{actuals_of}
-use Rattle.kahn_check.specs.Sides.{channel_names}
+use Rattle.kahn_network.specs.Network.{actuals_of}
+use Rattle.kahn_network.specs.Sides.{channel_names}
 use Rattle.kahn_code.specs.Lines.{route_of}
 use Rattle.kahn_code.proofs.routes.row_for.Given as goal
 

@@ -1,6 +1,6 @@
 use Rattle.std.proofs.Common.{arith, sym, ◌∙◌, ap, ◌≡◌, ◌≤◌, length}
 use Rattle.kahn_board.specs.Wires.{wires}
-use Rattle.kahn_check.specs.Network.{network_of}
+use Rattle.kahn_network.specs.Network.{network_of}
 use Rattle.kahn_crew.proofs.Ended.{all_there, have_left, instances_of}
 use Rattle.kahn_crew.proofs.closing.leave.Goals as goal
 

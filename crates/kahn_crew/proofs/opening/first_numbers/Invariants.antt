@@ -1,6 +1,6 @@
 use Rattle.std.proofs.Common.{◌≡◌, ◌≤◌, ◌<◌, ℕ, length, slice_index}
 use Rattle.std.specs.Vec.{vec_capacity}
-use Rattle.kahn_check.specs.Network.{network_of}
+use Rattle.kahn_network.specs.Network.{network_of}
 use Rattle.kahn_streams.specs.Entries.{most_values}
 use Rattle.kahn_crew.specs.Begins.{first_number}
 use Rattle.kahn_crew.proofs.opening.first_numbers.Given as goal

@@ -1,5 +1,5 @@
 use Rattle.std.proofs.Common.{sym, subst, List, ℕ}
-use Rattle.kahn_check.specs.Wiring.{IsWellWired}
+use Rattle.kahn_network.specs.Wiring.{IsWellWired}
 use Rattle.kahn_board.specs.Opening.{Opens}
 use Rattle.kahn_board.specs.Wires.{wires}
 use Rattle.kahn_crew.specs.Tasks.{IsLater, told_of}

@@ -1,6 +1,6 @@
 use Rattle.std.proofs.Common.{arith, ◌≡◌, ◌<◌, ◌^◌, sym, ap, ◌∙◌, subst, length, Some}
 use Rattle.kahn_tree.specs.declared.tree.Program.{Program}
-use Rattle.kahn_check.specs.Network.{Writes, network_of, instance_at, actual_at}
+use Rattle.kahn_network.specs.Network.{Writes, network_of, instance_at, actual_at}
 use Rattle.kahn_board.specs.Wires.{wires}
 use Rattle.kahn_desk.specs.Turn.{Tells}
 use Rattle.kahn_crew.specs.Tasks.{Tasked, AgreesWith, written_by}

@@ -1,5 +1,5 @@
 use Rattle.std.proofs.Common.{arith, ◌≡◌, length}
-use Rattle.kahn_check.specs.Network.{network_of}
+use Rattle.kahn_network.specs.Network.{network_of}
 use Rattle.kahn_job.proofs.Begun.{all_left, all_opening, begun, less_left, no_jobs, one_job}
 use Rattle.kahn_job.proofs.opening.jobs.Goals as goal
 

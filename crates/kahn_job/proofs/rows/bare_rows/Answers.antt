@@ -1,5 +1,5 @@
 use Rattle.std.proofs.Common.{arith, ◌≡◌, ◌<◌, [], length, map, replicate, slice_index_or, sym, ap, ◌∙◌}
-use Rattle.kahn_check.specs.Network.{network_of}
+use Rattle.kahn_network.specs.Network.{network_of}
 use Rattle.kahn_job.specs.Ways.{nothing}
 use Rattle.kahn_job.proofs.Bare.{one_row, as_wide}
 use Rattle.kahn_job.proofs.rows.bare_rows.Goals as goal

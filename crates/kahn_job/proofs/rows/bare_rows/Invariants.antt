@@ -1,4 +1,4 @@
-use Rattle.kahn_check.specs.Network.{network_of}
+use Rattle.kahn_network.specs.Network.{network_of}
 use Rattle.kahn_job.proofs.Bare.{AreBare}
 use Rattle.kahn_job.proofs.rows.bare_rows.Given as goal
 

@@ -1,6 +1,6 @@
 use Rattle.std.proofs.Common.{◌≡◌, ◌<◌, length, sym, ap, ◌∙◌, subst, Some, slice_get}
 use Rattle.std.proofs.lemmas.Option.{slice_get-get_or}
-use Rattle.kahn_check.proofs.Sourced.{reads_listed}
+use Rattle.kahn_network.proofs.Sourced.{reads_listed}
 use Rattle.kahn_code.specs.Standing.{count}
 use Rattle.kahn_crew.specs.Tasks.{Tasked}
 use Rattle.kahn_pool.proofs.Ended.{dry_told, some_one, taken_long}

@@ -1,5 +1,5 @@
 use Rattle.std.proofs.Common.{◌≡◌, ◌+◌, ◌-◌, length, map, sum_by, sym, subst, arith}
-use Rattle.kahn_check.specs.Network.{network_of}
+use Rattle.kahn_network.specs.Network.{network_of}
 use Rattle.kahn_streams.specs.Tokens.{inputs_of}
 use Rattle.kahn_code.specs.Told.{told_view}
 use Rattle.kahn_crew.specs.Left.{task_events}

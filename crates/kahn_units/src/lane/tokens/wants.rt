@@ -1,7 +1,7 @@
 //! Lanes in a heap that leaves little room.
 
 ghost use Rattle.std.specs.Prelude.{◌≡◌, ◌<◌, Some, length};
-ghost use Rattle.kahn_check.specs.Network.{network_of};
+ghost use Rattle.kahn_network.specs.Network.{network_of};
 ghost use Rattle.kahn_lane.specs.Places.{lane_name};
 ghost use Rattle.kahn_lane.specs.LaneEnds.{sender_name, SameSender};
 

@@ -1,5 +1,5 @@
 use Rattle.std.proofs.Common.{sym, ◌∙◌}
-use Rattle.kahn_check.specs.Network.{instance_at, actual_at}
+use Rattle.kahn_network.specs.Network.{instance_at, actual_at}
 use Rattle.kahn_code.proofs.Uses.{reads_by, not_reads}
 use Rattle.kahn_code.proofs.body.Body.reads.Goals as goal
 

@@ -1,5 +1,5 @@
 use Rattle.std.proofs.Common.{sym, ap, ◌∙◌, subst, length, ◌<◌}
-use Rattle.kahn_check.specs.Network.{network_of}
+use Rattle.kahn_network.specs.Network.{network_of}
 use Rattle.kahn_code.specs.Cells.{AreDriven}
 use Rattle.kahn_code.specs.Machines.{IsBody}
 use Rattle.kahn_code.proofs.Celled.{body_at, sits_of, seat_after, at_after, paused_after}

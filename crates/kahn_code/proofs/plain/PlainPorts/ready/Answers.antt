@@ -1,5 +1,5 @@
 use Rattle.std.proofs.Common.{◌≡◌, ◌<◌, ℕ, Bool, true, false, not, IsTrue, IsFalse, OnOk, Result, Ok, Err, length, sym, ap, ◌∙◌, subst, slice_get, Some, refl, arith}
-use Rattle.kahn_check.specs.Network.{Reads, Writes}
+use Rattle.kahn_network.specs.Network.{Reads, Writes}
 use Rattle.kahn_code.specs.Lines.{Lines, actual_of, waiting_of, spare_of}
 use Rattle.kahn_code.specs.Queues.{Waiting}
 use Rattle.kahn_code.proofs.Queued

@@ -1,7 +1,7 @@
 use Rattle.std.proofs.Common.{arith, ◌≡◌, ⊎_elim, subst, sym, ◌∙◌, ap, Some, None}
 use Rattle.kahn_tree.specs.declared.tree.Program.{Program}
-use Rattle.kahn_check.specs.Network.{network_of, instance_at, actual_at}
-use Rattle.kahn_check.specs.declared.sides.Side.{Side}
+use Rattle.kahn_network.specs.Network.{network_of, instance_at, actual_at}
+use Rattle.kahn_network.specs.declared.sides.Side.{Side}
 use Rattle.kahn_code.specs.Lines.{route_of}
 use Rattle.kahn_crew.specs.Tasks.{written_by}
 use Rattle.kahn_crew.proofs.Wirings.{routed_inside, no_target, none_side, side_same}

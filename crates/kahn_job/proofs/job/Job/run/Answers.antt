@@ -1,5 +1,5 @@
 use Rattle.std.proofs.Common.{◌≡◌, ◌+◌, subst}
-use Rattle.kahn_check.specs.Network.{network_of}
+use Rattle.kahn_network.specs.Network.{network_of}
 use Rattle.kahn_streams.specs.Tokens.{inputs_of}
 use Rattle.kahn_code.specs.Progress.{Paused, IsPause}
 use Rattle.kahn_code.specs.Told.{told_view}

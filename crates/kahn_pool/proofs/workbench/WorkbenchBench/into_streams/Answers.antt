@@ -1,5 +1,5 @@
 use Rattle.std.proofs.Common.{arith, ◌≡◌, map, sym, ap, ◌∙◌, subst}
-use Rattle.kahn_check.specs.Network.{network_of}
+use Rattle.kahn_network.specs.Network.{network_of}
 use Rattle.kahn_pool.specs.Bench.{AreStreams}
 use Rattle.kahn_pool.specs.Right.{stream_lines}
 use Rattle.kahn_pool.specs.Workbench.{Table, IsLaid, state_of}

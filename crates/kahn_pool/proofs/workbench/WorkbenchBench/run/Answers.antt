@@ -1,5 +1,5 @@
 use Rattle.std.proofs.Common.{◌≡◌, ◌<◌, ◌≤◌, ◌+◌, ℕ, length, map, refl, sym, ap, ◌∙◌, subst, slice_set}
-use Rattle.kahn_check.specs.Network.{network_of}
+use Rattle.kahn_network.specs.Network.{network_of}
 use Rattle.kahn_code.specs.Told.{told_view}
 use Rattle.kahn_pool.specs.Bench.{State, events_at}
 use Rattle.kahn_pool.specs.Gathered.{view_at}

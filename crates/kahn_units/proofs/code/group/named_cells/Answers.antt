@@ -1,5 +1,5 @@
 use Rattle.std.proofs.Common.{◌≡◌, ap, ◌∙◌, replicate, length}
-use Rattle.kahn_check.specs.Network.{network_of, instance_at}
+use Rattle.kahn_network.specs.Network.{network_of, instance_at}
 use Rattle.kahn_units.proofs.Grouped.{opening_more}
 use Rattle.kahn_units.proofs.code.group.named_cells.Goals as goal
 

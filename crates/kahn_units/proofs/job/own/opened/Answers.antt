@@ -1,5 +1,5 @@
 use Rattle.std.proofs.Common.{rules, ◌≡◌, refl, subst, None}
-use Rattle.kahn_check.specs.Network.{Reads, Writes, network_of, instance_at, actual_at}
+use Rattle.kahn_network.specs.Network.{Reads, Writes, network_of, instance_at, actual_at}
 use Rattle.kahn_job.specs.Openings.{AreOpening}
 use Rattle.kahn_units.proofs.job.own.opened.Goals as goal
 

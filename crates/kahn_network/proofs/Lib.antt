@@ -1,0 +1,7 @@
+pub mod Numbered
+pub mod Picked
+pub mod Sided
+pub mod Fitted
+pub mod Sourced
+pub mod Kept
+pub mod Handed
