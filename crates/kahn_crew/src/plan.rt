@@ -1,7 +1,7 @@
 //! How a run is made.
 
 /// The numbers of a run: who works on it, for how long, and what is watched.
-#[derive(Clone, Copy, Debug, PartialEq, Eq)]
+#[derive(Clone, Copy)]
 pub struct Plan {
     /// A channel whose tokens are kept as well as those of the outputs, if any.
     pub watch: Option<usize>,

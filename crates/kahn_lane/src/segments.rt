@@ -31,7 +31,7 @@ pub struct Segment<A: Allocator = Global> {
 }
 
 /// How far the making of a lane has come: it has no name yet, its name is in the deque, or it is known to both ends.
-#[derive(Clone, Copy, Debug, PartialEq, Eq)]
+#[derive(Clone, Copy)]
 pub enum Stage {
     Opening,
     Telling,

@@ -31,7 +31,7 @@ pub enum EntriesFault {
 }
 
 /// Why a line is no entry.
-#[derive(Clone, Copy, Debug, PartialEq, Eq)]
+#[derive(Clone, Copy)]
 pub(crate) enum LineFault {
     /// It has no name and colon.
     NoHead,

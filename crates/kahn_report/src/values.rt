@@ -10,7 +10,7 @@ use std::alloc::Global;
 use std::str;
 
 /// Why values weren't read.
-#[derive(Clone, Copy, Debug, PartialEq, Eq)]
+#[derive(Clone, Copy)]
 pub(crate) enum ValuesFault {
     /// A word that is no value.
     NoValue,

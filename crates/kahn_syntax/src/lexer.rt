@@ -20,7 +20,7 @@ const MOST_BYTES: usize = 1_048_576;
 const MOST_OF_NAME: usize = 64;
 
 /// What stands at a place: a lexeme, or a comment and the place after it.
-#[derive(Clone, Copy, Debug, PartialEq, Eq)]
+#[derive(Clone, Copy)]
 enum Item {
     Lexeme(Lexeme),
     Comment(usize),

@@ -99,14 +99,14 @@ pub enum Role {
 }
 
 /// The direction of a channel parameter.
-#[derive(Clone, Copy, Debug, PartialEq, Eq)]
+#[derive(Clone, Copy)]
 pub enum Direction {
     In,
     Out,
 }
 
 /// What a parameter takes: a channel of a kind, read or written, or a value of a kind.
-#[derive(Clone, Copy, Debug, PartialEq, Eq)]
+#[derive(Clone, Copy)]
 pub enum Taking {
     Channel(Direction, Kind),
     Value(Kind),

@@ -8,7 +8,7 @@ ghost use Rattle.kahn_syntax.specs.Items.{IsOfForm, form_end};
 use crate::lexeme::Sign;
 
 /// A form that the text has at a place, with the place after it.
-#[derive(Clone, Copy, Debug, PartialEq, Eq)]
+#[derive(Clone, Copy)]
 pub enum Form {
     Word(usize),
     Run(usize),

@@ -15,7 +15,7 @@ use std::alloc::{AllocError, AllocFailed};
 pub const DEEPEST: usize = 64;
 
 /// Why a part isn't read. The numbers count the lexemes that are left, from the one at fault on.
-#[derive(Clone, Copy, Debug, PartialEq, Eq, Drop)]
+#[derive(Clone, Copy, Drop)]
 pub enum Stop {
     /// The lexeme can't stand here, or none is left. A whole program stands before it where the flag says so.
     Refused(bool, usize),

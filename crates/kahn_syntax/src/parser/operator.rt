@@ -14,7 +14,7 @@ use crate::parser::cursor::next;
 use kahn_tree::tree::Operator;
 
 /// A level whose operators may follow one another. From `Or` to `Term` they bind tighter.
-#[derive(Clone, Copy, Debug, PartialEq, Eq)]
+#[derive(Clone, Copy)]
 pub enum Level {
     Or,
     And,
