@@ -1,21 +1,19 @@
 //! Runs a network of processes and channels, and writes the report.
 #![tactic(auto)]
 
-mod texts;
-
 use kahn_fault::{Fault, fault_line, status};
 use kahn_line::{LineFault, Options, read_line};
 use kahn_pool::answer::Verdict;
 use kahn_pool::config::{Config, RunFault};
 use kahn_pool::gate::Open;
 use kahn_report::work::{WorkFault, work};
+use kahn_texts::{Texts, read_texts};
 use std::io::{BufWriter, ErrorKind, Write};
 use std::process::ExitCode;
 use std::rt::Runtime;
 use std::sync::Wait;
 use std::thread::Threads;
 use std::{env, io};
-use texts::{Texts, read_texts};
 
 /// The status of a command line that is refused.
 const REFUSED: u8 = 2;

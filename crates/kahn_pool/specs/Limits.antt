@@ -1,12 +1,9 @@
--- The limits on the numbers of a run (this project's profile).
+-- Why a run is refused.
 use Rattle.std.specs.Prelude.{ℕ, ◌≤◌, ◌<◌, ◌^◌}
 use Rattle.kahn_crew.specs.declared.fault.CrewFault.{CrewFault}
 use Rattle.kahn_crew.specs.declared.fault.CrewFault.TheVariants as crew
 use Rattle.kahn_pool.specs.declared.config.RunFault.{RunFault}
 use Rattle.kahn_pool.specs.declared.config.RunFault.TheVariants as fault
-
-abbrev pub IsInRange : ℕ → ℕ → ℕ → Type 0
-IsInRange workers quantum bound = (1 ≤ workers) × (workers ≤ 16) × (1 ≤ quantum) × (quantum ≤ 1000000) × (bound < 2 ^ 48)
 
 -- why a run on one thread is refused
 abbrev pub IsRefused : ℕ → RunFault → Type 0

@@ -8,10 +8,10 @@ use Rattle.kahn_network.specs.Network.{network_of}
 use Rattle.kahn_network.specs.Sides.{channel_names}
 use Rattle.kahn_streams.specs.Tokens.{Lists, inputs_of}
 use Rattle.kahn_pool.specs.declared.answer.Answer.{Answer}
-use Rattle.kahn_pool.specs.declared.config.Config.{Config}
+use Rattle.kahn_config.specs.declared.Config.{Config}
 use Rattle.kahn_pool.specs.declared.config.RunFault.{RunFault}
 use Rattle.kahn_pool.specs.declared.config.RunFault.TheVariants as fault
-use Rattle.kahn_pool.specs.Limits.{IsInRange}
+use Rattle.kahn_config.specs.Limits.{IsInRange}
 use Rattle.kahn_pool.specs.Right.{IsRight}
 
 -- each number is within its limit

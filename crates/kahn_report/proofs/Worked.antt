@@ -1,7 +1,7 @@
 -- What each part of the work says of the whole.
 use Rattle.std.proofs.Common.{◌≡◌, ℕ, List, Option, Err, refl}
 use Rattle.kahn_tree.specs.declared.tree.Program.{Program}
-use Rattle.kahn_pool.specs.declared.config.Config.{Config}
+use Rattle.kahn_config.specs.declared.Config.{Config}
 use Rattle.kahn_report.specs.declared.work.WorkFault.{WorkFault}
 use Rattle.kahn_report.specs.declared.work.WorkFault.TheVariants.{Syntax, Check, Text, Run, Write}
 use Rattle.kahn_report.specs.Work.{IsChecked, IsUnchecked, IsUnanswered, IsWorked}

@@ -13,7 +13,7 @@ use Rattle.kahn_network.specs.Wiring.{IsWellWired}
 use Rattle.kahn_streams.specs.Tokens.{Lists, inputs_of}
 use Rattle.kahn_pool.specs.declared.answer.Answer.{Answer}
 use Rattle.kahn_pool.specs.declared.answer.Verdict.{Verdict}
-use Rattle.kahn_pool.specs.declared.config.Config.{Config}
+use Rattle.kahn_config.specs.declared.Config.{Config}
 use Rattle.kahn_pool.specs.Exact.{Settles}
 use Rattle.kahn_pool.specs.Runs.{IsRun, IsUnrun}
 use Rattle.kahn_report.specs.declared.work.WorkFault.{WorkFault}
