@@ -1,7 +1,7 @@
 //! Why a run is refused, and how it is set up.
 
 use kahn_code::code::CodeFault;
-pub use kahn_config::Config;
+pub use kahn_config::{Config, MOST_BOUND, MOST_QUANTUM, MOST_WORKERS};
 use kahn_crew::CrewFault;
 use kahn_streams::memory::NoMemory;
 use thiserror::Error;
