@@ -1,33 +1,26 @@
 #!/usr/bin/env bash
 # Runs the program on files, streams and words that go wrong, and compares its exit status and what it says with what
-# docs/formats.md lists. It isn't part of the gate. Its last line counts the cases that passed and failed.
-set -u
-top=$(cd "$(dirname "${BASH_SOURCE[0]}")/.." && pwd)
-kahn="$top/kahn"
-work=$(mktemp -d)
-trap 'rm -rf "$work"' EXIT
+# docs/formats.md lists.
+source "$(dirname "${BASH_SOURCE[0]}")/common.sh"
+find_program
+refuse_by refuse_growth.c
 cd "$work" || exit 2
 count="$top/examples/count.kahn"
 double="$top/examples/double.kahn"
-"$kahn" --help > help 2> /dev/null || { echo "the program can't be run"; exit 2; }
-
-passed=0
-failed=0
 
 # say NAME STATUS OUTPUT ERROR: compares with what the last run left in the files status, output and error.
 say() {
-  local name=$1
+  local name=$1 same=yes part
   printf '%s' "$2" > wanted_status
   printf '%b' "$3" > wanted_output
   printf '%b' "$4" > wanted_error
-  local same=yes part
   for part in status output error; do
     if ! cmp -s "wanted_$part" "$part"; then
       same=no
-      echo "FAILED $name: $part is '$(head -c 300 "$part")', wanted '$(cat "wanted_$part")'"
+      echo "$name: $part is '$(head -c 300 "$part")', wanted '$(cat "wanted_$part")'"
     fi
   done
-  if [ $same = yes ]; then passed=$((passed + 1)); else failed=$((failed + 1)); fi
+  if [ $same = yes ]; then pass; else fail "$name"; fi
 }
 
 # run WORD..: runs the program on the words, with standard input as it is.
@@ -44,6 +37,8 @@ run "$count" < /dev/null
 say "a program in a file" 0 "$report" ''
 run "$count" --bound 6 < /dev/null
 say "a run that its bound stops" 3 'W: 0 1 2\nend 1 count: wants more after 6\nstopped by bound 6\n' ''
+run --workers=16 --quantum 1 "$double" --bound 281474976710655 --watch=A --input "$top/examples/double.input" < /dev/null
+say "all options" 0 'A: 1 2 3\nB: 2 4 6\nend 1 double: waits on A after 10\nfinished 10\n' ''
 
 # texts that aren't UTF-8
 printf 'begin \377' > bytes
@@ -60,6 +55,8 @@ run nothing < /dev/null
 say "a program that isn't there" 5 '' 'kahn: cannot read nothing\n'
 run "$double" --input nothing < /dev/null
 say "an input that isn't there" 5 '' 'kahn: cannot read nothing\n'
+run nothing --input bytes < /dev/null
+say "the program is read before the input" 5 '' 'kahn: cannot read nothing\n'
 mkdir folder
 run folder < /dev/null
 say "a folder as the program" 5 '' 'kahn: cannot read folder\n'
@@ -132,16 +129,9 @@ printf '%s' $? > status
 say "no standard error" 1 '' ''
 
 # the command line
-run --quick < /dev/null
-printf '' > wanted
-[ "$(cat status)" = 2 ] && [ ! -s output ] && [ -s error ]
-if [ $? = 0 ]; then passed=$((passed + 1)); else failed=$((failed + 1)); echo "FAILED an option that isn't one"; fi
 run "$(printf '\377')" < /dev/null
-[ "$(cat status)" = 2 ] && [ ! -s output ] && [ -s error ]
-if [ $? = 0 ]; then passed=$((passed + 1)); else failed=$((failed + 1)); echo "FAILED a word that isn't UTF-8"; fi
-run --help < /dev/null
-[ "$(cat status)" = 0 ] && [ -s output ] && [ ! -s error ]
-if [ $? = 0 ]; then passed=$((passed + 1)); else failed=$((failed + 1)); echo "FAILED the help"; fi
-
-echo "$passed passed, $failed failed"
-[ $failed = 0 ]
+say "a word that isn't UTF-8" 2 '' 'error: a word of the command line is not UTF-8\n'
+FAIL_AT=1 LD_PRELOAD="$work/refuse.so" "$kahn" "$count" > output 2> error < /dev/null
+printf '%s' $? > status
+say "want of memory on the command line" 4 '' 'kahn: no memory\n'
+finish

@@ -1,18 +1,22 @@
 """Random programs and inputs, valid and broken: the built program against reference.py.
 
-    fuzz.py PROGRAM COUNT [SEED]      prints each difference, and keeps its texts in /tmp/kahn-fuzz
+    fuzz.py PROGRAM COUNT [SEED]      the same seed makes the same texts; where none is given it is chosen at random
+
+Each difference is printed, with the words of the command line; its texts are kept where these name them.
 """
 import os
 import random
 import re
+import shutil
 import subprocess
 import sys
+import tempfile
 from concurrent.futures import ThreadPoolExecutor
 
+sys.dont_write_bytecode = True
 sys.path.insert(0, os.path.dirname(os.path.abspath(__file__)))
 import reference as ref
 
-ROOM = "/tmp/kahn-fuzz"
 KINDS = ("integer", "logical")
 NUMBERS = (0, 1, 2, 3, 5, 7, 10, 1000, 2**31, 2**62, 2**63 - 1)
 
@@ -298,9 +302,10 @@ def words_of(watch, bound, workers, quantum):
     return out
 
 
-def one(program, seed):
+def one(program, room, seed):
+    """Runs a case, with its texts in the folder: (None, what kind of case it was), or (what differs, the words)."""
     text, source, watch, bound, workers, quantum, piped = case(seed)
-    at = f"{ROOM}/{seed}"
+    at = f"{room}/{seed}"
     words = [program, *words_of(watch, bound, workers, quantum)]
     open(at + ".kahn", "wb").write(text)
     if source is not None:
@@ -310,46 +315,63 @@ def one(program, seed):
         words.append(at + ".kahn")
     try:
         ran = subprocess.run(words, input=text if piped else b"", capture_output=True, timeout=60)
-    except subprocess.TimeoutExpired:
-        return seed, "hangs", words
+    except (OSError, subprocess.TimeoutExpired) as error:
+        return str(error), words
     wanted = ref.run(text, source, bound, watch, ("standard input" if piped else at + ".kahn", at + ".input"))
-    what = None
-    if wanted.status is None:
-        what = None
-    elif ran.returncode != wanted.status:
-        what = f"status {ran.returncode}, not {wanted.status}: {ran.stderr[:200]!r} not {(wanted.err or b'')[:200]!r}"
-    elif ran.stderr != wanted.err:
-        what = f"standard error {ran.stderr!r}, not {wanted.err!r}"
-    elif wanted.stopped:
-        what = wanted.stopped(ran.stdout)
-    elif ran.stdout != wanted.out:
-        what = f"standard output {ran.stdout!r}, not {wanted.out!r}"
+    what = difference(ran, wanted)
     if what is None:
         for name in (at + ".kahn", at + ".input"):
             if os.path.exists(name):
                 os.remove(name)
-        kind = "skipped" if wanted.status is None else (wanted.err or b"").split(b": ")[-1].decode().strip() or ("stopped" if wanted.stopped else "finished")
-        return seed, None, kind
-    return seed, what, words
+        return None, kind_of(wanted)
+    return what, words
+
+
+def difference(ran, wanted):
+    """What is wrong with a run, or None. A run that is too long to follow has no wanted status."""
+    if wanted.status is None:
+        return None
+    if ran.returncode != wanted.status:
+        return f"status {ran.returncode}, not {wanted.status}: {ran.stderr[:200]!r} not {(wanted.err or b'')[:200]!r}"
+    if ran.stderr != wanted.err:
+        return f"standard error {ran.stderr!r}, not {wanted.err!r}"
+    if wanted.stopped:
+        return wanted.stopped(ran.stdout)
+    if ran.stdout != wanted.out:
+        return f"standard output {ran.stdout!r}, not {wanted.out!r}"
+    return None
+
+
+def kind_of(wanted):
+    """A word for what became of a case: that it was stopped or finished, or its fault."""
+    if wanted.status is None:
+        return "skipped"
+    fault = (wanted.err or b"").split(b": ")[-1].decode().strip()
+    return re.sub(r"\d+", "N", fault) or ("stopped" if wanted.stopped else "finished")
 
 
 def main():
-    program, count = sys.argv[1], int(sys.argv[2])
-    first = int(sys.argv[3]) if len(sys.argv) > 3 else 1
-    os.makedirs(ROOM, exist_ok=True)
-    kinds, wrong = {}, 0
-    with ThreadPoolExecutor(2) as pool:
-        for seed, what, more in pool.map(lambda s: one(program, s), range(first, first + count)):
+    program, count = os.path.abspath(sys.argv[1]), int(sys.argv[2])
+    first = int(sys.argv[3]) if len(sys.argv) > 3 else random.randrange(10**9)
+    print(f"seed {first}", flush=True)
+    room = tempfile.mkdtemp(prefix="kahn-fuzz-")
+    kinds, failed = {}, 0
+    with ThreadPoolExecutor(os.cpu_count()) as pool:
+        for seed, (what, more) in zip(range(first, first + count), pool.map(lambda it: one(program, room, it), range(first, first + count))):
             if what is None:
-                more = re.sub(r"\d+", "N", more)
                 kinds[more] = kinds.get(more, 0) + 1
             else:
-                wrong += 1
-                print(f"{seed}: {what}\n   {' '.join(more)}", flush=True)
+                failed += 1
+                print(f"FAILED {seed}: {what}\n   {' '.join(more)}", flush=True)
     for kind in sorted(kinds, key=kinds.get, reverse=True):
         print(f"{kinds[kind]:6} {kind}")
-    print(f"{count} cases, {wrong} differ")
+    if failed:
+        print(f"the texts are kept in {room}")
+    else:
+        shutil.rmtree(room)
+    print(f"{count - failed - kinds.get('skipped', 0)} passed, {failed} failed")
+    return 1 if failed else 0
 
 
 if __name__ == "__main__":
-    main()
+    sys.exit(main())

@@ -1,19 +1,21 @@
-//! Tests of runs, from the workers up to the bytes of a report, and of what the program says.
+//! Tests of runs, from the workers up to the bytes of a report, and of what is told of faults.
 #![tactic(auto)]
 
 #[cfg(test)]
-mod crew;
-#[cfg(test)]
 mod faults;
+#[cfg(test)]
+mod gates;
 #[cfg(test)]
 mod inputs;
 #[cfg(test)]
-mod line;
+mod one;
 #[cfg(test)]
-mod pool;
+mod programs;
+#[cfg(test)]
+mod refusals;
 #[cfg(test)]
 mod rows;
 #[cfg(test)]
-mod texts;
+mod sizes;
 #[cfg(test)]
-mod writers;
+mod streams;

@@ -1,308 +1,490 @@
 //! Programs and inputs with the reports that an independent reading of the language gives them.
 
-mod examples;
-mod gates;
-mod language;
-mod limits;
-mod one;
-mod random;
-mod refusals;
-mod watched;
-mod workers;
-mod writers;
-
+use crate::programs::{
+    ALTERNATE, COUNT, DIVISION, DOUBLE, FOUR_TURNS, INVERT, LEAST, LOOP, MARKS, OVERFLOW, PRINTS,
+    RING, SAMPLE, SIGNS, SILENT, TOP, TRUTH, TWO_COUNTS, UNREAD,
+};
 use kahn_pool::answer::Verdict;
-use kahn_pool::config::{Config, RunFault};
-use kahn_pool::gate::Open;
-use kahn_report::work::{WorkFault, work};
-use std::alloc::Global;
+use kahn_pool::config::Config;
+use kahn_pool::gate::{Gate, Open};
+use kahn_report::work::work;
+use std::alloc::{AllocError, Global};
 use std::sync::Wait;
 use std::test::Fail;
 use std::thread::Threads;
 
-pub(crate) static COUNT: &str =
-    "Begin Integer output channel W;\n  Process count(integer out W; integer N);\n  Begin integer I;\n    while I < N do begin send I on W; I := I + 1 end\n  End;\n  count(W, 3)\nEnd;\n";
+/// A bound that no run of the rows reaches which comes to an end.
+pub const AMPLE: u64 = 1_000_000;
 
-static DOUBLE: &str =
-    "begin integer input channel A; integer output channel B; process double(integer in U; integer out W); begin repeat send 2 * wait(U) on W end; double(A, B) end";
-
-static TOP: &str =
-    "begin integer input channel A; integer output channel B; process top(integer in U; integer out W); begin repeat send 9223372036854775807 + wait(U) on W end; top(A, B) end";
-
-static RING: &str =
-    "begin integer channel X, Y; process c(integer in U; integer out W); begin integer I; I := wait(U); send I on W end; c(X, Y) par c(Y, X) end";
-
-static SELF: &str =
-    "begin integer channel X; process p(integer in U; integer out W); begin integer I; send 1 on W; print wait(U); I := wait(U) end; p(X, X) end";
-
-static SILENT: &str = "begin process p(); begin repeat begin end end; p() end";
-
-static UNREAD: &str =
-    "begin integer channel X; process count(integer out W; integer N); begin integer I; while I < N do begin send I on W; I := I + 1 end end; process two(integer in U); begin integer I; I := wait(U); I := wait(U) end; count(X, 5) par two(X) end";
-
-static ALTERNATE: &str =
-    "begin integer input channel A, B; process alt(integer in U, V); begin integer I; repeat begin I := wait(U); I := wait(V) end end; alt(A, B) end";
-
-static MARKS: &str = "BEGIN PROCESS p(); Begin logical B; B := \u{ac} B; End; p(); End;";
-
-static FOUR_TURNS: &str =
-    "Begin Integer channel X, Y, Z, T1, T2; Process f(integer in U, V; integer out W); Begin integer I, N; logical B; B := true; while N < 4 do Begin I := if B then wait(U) else wait(V); print(I); send I on W; B := not B; N := N + 1 End; End; Process g(integer in U; integer out V, W); Begin integer I; logical B; B := true; Repeat Begin I := wait(U); if B then send I on V else send I on W; B := not B; End; End; Process h(integer in U; integer out V; integer INIT); Begin integer I; send INIT on V; Repeat Begin I := wait(U); send I on V; End; End; Comment: body of the main program; f(Y, Z, X) par g(X, T1, T2) par h(T1, Y, 0) par h(T2, Z, 1) End;";
-
-// The report of a program by so many workers, each of which runs a process for at most `quantum` events, and its verdict.
-fn reported_by<R: Threads + Wait + Sync>(
-    rt: &R,
+/// How a run is set up.
+pub fn config(
     alloc: Global,
-    program: &str,
-    input: &str,
     workers: u64,
     quantum: u64,
     bound: u64,
-) -> Result<(Verdict, Vec<u8>), WorkFault> {
-    let config = Config {
+    watch: Option<&str>,
+) -> Result<Config, AllocError> {
+    let watch = match watch {
+        Some(name) => Some(String::from_str(alloc, name)?),
+        None => None,
+    };
+    Ok(Config {
         workers,
         quantum,
         bound,
-        watch: None,
-    };
+        watch,
+    })
+}
+
+/// The verdict and the report of a program.
+pub fn reported<R: Threads + Wait + Sync, G: Gate + Sync>(
+    rt: &R,
+    alloc: Global,
+    program: &str,
+    input: &str,
+    config: Config,
+    gate: &G,
+) -> Result<(Verdict, String), Fail> {
     let mut written = Vec::new(alloc);
-    let verdict = work(rt, alloc, program, input, config, &Open, &mut written)?;
-    Ok((verdict, written))
+    let verdict = work(rt, alloc, program, input, config, gate, &mut written)?;
+    Ok((verdict, String::from_utf8(written)?))
 }
 
-// The report of a program by four workers, and its verdict.
-fn reported<R: Threads + Wait + Sync>(
-    rt: &R,
-    alloc: Global,
-    program: &str,
-    input: &str,
-    bound: u64,
-) -> Result<(Verdict, Vec<u8>), WorkFault> {
-    reported_by(rt, alloc, program, input, 4, 1000, bound)
+// What the row shows, its program, its input, the channel that is watched, the bound, and the verdict and the report.
+type Row = (
+    &'static str,
+    &'static str,
+    &'static str,
+    Option<&'static str>,
+    u64,
+    Verdict,
+    &'static str,
+);
+
+const FOUR_TURNS_REPORT: &str = "\
+print 1 f: 0 1 0 1
+end 1 f: ended after 17
+end 2 g: waits on X after 13
+end 3 h: waits on T1 after 8
+end 4 h: waits on T2 after 8
+finished 46
+";
+
+static ROWS: [Row; 30] = [
+    (
+        "the counting process",
+        COUNT,
+        "",
+        None,
+        AMPLE,
+        Verdict::Finished,
+        "W: 0 1 2\nend 1 count: ended after 7\nfinished 7\n",
+    ),
+    (
+        "the counting process with a bound of a hundred",
+        COUNT,
+        "",
+        None,
+        100,
+        Verdict::Finished,
+        "W: 0 1 2\nend 1 count: ended after 7\nfinished 7\n",
+    ),
+    (
+        "a bound that just suffices",
+        COUNT,
+        "",
+        None,
+        7,
+        Verdict::Finished,
+        "W: 0 1 2\nend 1 count: ended after 7\nfinished 7\n",
+    ),
+    (
+        "a bound that is one too small",
+        COUNT,
+        "",
+        None,
+        6,
+        Verdict::Bound,
+        "W: 0 1 2\nend 1 count: wants more after 6\nstopped by bound 6\n",
+    ),
+    (
+        "no event at all",
+        COUNT,
+        "",
+        None,
+        0,
+        Verdict::Bound,
+        "W:\nend 1 count: wants more after 0\nstopped by bound 0\n",
+    ),
+    (
+        "two counts",
+        TWO_COUNTS,
+        "",
+        None,
+        AMPLE,
+        Verdict::Finished,
+        "V: 0 1 2\nW: 0 1 2\nend 1 count: ended after 7\nend 2 count: ended after 7\nfinished 14\n",
+    ),
+    (
+        "the sample with four turns",
+        FOUR_TURNS,
+        "",
+        None,
+        AMPLE,
+        Verdict::Finished,
+        FOUR_TURNS_REPORT,
+    ),
+    (
+        "the sample with four turns and a bound that just suffices",
+        FOUR_TURNS,
+        "",
+        None,
+        46,
+        Verdict::Finished,
+        FOUR_TURNS_REPORT,
+    ),
+    (
+        "doubling",
+        DOUBLE,
+        "A: 1 2 3",
+        None,
+        AMPLE,
+        Verdict::Finished,
+        "B: 2 4 6\nend 1 double: waits on A after 10\nfinished 10\n",
+    ),
+    (
+        "doubling of no values",
+        DOUBLE,
+        "A:",
+        None,
+        AMPLE,
+        Verdict::Finished,
+        "B:\nend 1 double: waits on A after 1\nfinished 1\n",
+    ),
+    (
+        "doubling without an input",
+        DOUBLE,
+        "",
+        None,
+        AMPLE,
+        Verdict::Finished,
+        "B:\nend 1 double: waits on A after 1\nfinished 1\n",
+    ),
+    (
+        "a sum out of range",
+        TOP,
+        "A: 0 1",
+        None,
+        AMPLE,
+        Verdict::Finished,
+        "B: 9223372036854775807\nend 1 top: fault overflow after 5\nfinished 5\n",
+    ),
+    (
+        "a ring",
+        RING,
+        "",
+        None,
+        0,
+        Verdict::Finished,
+        "end 1 c: waits on X after 0\nend 2 c: waits on Y after 0\nfinished 0\n",
+    ),
+    (
+        "a channel from a process to itself",
+        LOOP,
+        "",
+        None,
+        AMPLE,
+        Verdict::Finished,
+        "print 1 p: 1\nend 1 p: waits on X after 3\nfinished 3\n",
+    ),
+    (
+        "a channel from a process to itself is watched",
+        LOOP,
+        "",
+        Some("X"),
+        AMPLE,
+        Verdict::Finished,
+        "X: 1\nprint 1 p: 1\nend 1 p: waits on X after 3\nfinished 3\n",
+    ),
+    (
+        "a silent loop",
+        SILENT,
+        "",
+        None,
+        10,
+        Verdict::Bound,
+        "end 1 p: wants more after 10\nstopped by bound 10\n",
+    ),
+    (
+        "values that nobody reads",
+        UNREAD,
+        "",
+        None,
+        AMPLE,
+        Verdict::Finished,
+        "end 1 count: ended after 11\nend 2 two: ended after 2\nfinished 13\n",
+    ),
+    (
+        "values that nobody reads are watched",
+        UNREAD,
+        "",
+        Some("X"),
+        AMPLE,
+        Verdict::Finished,
+        "X: 0 1 2 3 4\nend 1 count: ended after 11\nend 2 two: ended after 2\nfinished 13\n",
+    ),
+    (
+        "an input that isn't used up",
+        ALTERNATE,
+        "A: 1 2 3\nB: 9\n",
+        None,
+        AMPLE,
+        Verdict::Finished,
+        "end 1 alt: waits on B after 5\nfinished 5\n",
+    ),
+    (
+        "a watched input",
+        ALTERNATE,
+        "A: 1 2 3\nB: 9\n",
+        Some("A"),
+        AMPLE,
+        Verdict::Finished,
+        "A: 1 2 3\nend 1 alt: waits on B after 5\nfinished 5\n",
+    ),
+    (
+        "letter cases and the sign for not",
+        MARKS,
+        "",
+        None,
+        AMPLE,
+        Verdict::Finished,
+        "end 1 p: ended after 0\nfinished 0\n",
+    ),
+    (
+        "an overflow after one event",
+        OVERFLOW,
+        "",
+        None,
+        AMPLE,
+        Verdict::Finished,
+        "W: 9223372036854775807\nend 1 p: fault overflow after 1\nfinished 1\n",
+    ),
+    (
+        "the least number",
+        LEAST,
+        "",
+        None,
+        AMPLE,
+        Verdict::Finished,
+        "print 1 p: -9223372036854775808 0\nend 1 p: fault overflow after 2\nfinished 2\n",
+    ),
+    (
+        "signs of quotients and remainders",
+        SIGNS,
+        "",
+        None,
+        AMPLE,
+        Verdict::Finished,
+        "print 1 p: -3 -1 1\nend 1 p: fault division after 3\nfinished 3\n",
+    ),
+    (
+        "a fault beside a copy",
+        DIVISION,
+        "",
+        None,
+        AMPLE,
+        Verdict::Finished,
+        "W: 3 6\nend 1 d: fault division after 5\nend 2 copy: waits on X after 7\nfinished 12\n",
+    ),
+    (
+        "a fault beside a copy, with the inner channel watched",
+        DIVISION,
+        "",
+        Some("X"),
+        AMPLE,
+        Verdict::Finished,
+        "X: 3 6\nW: 3 6\nend 1 d: fault division after 5\nend 2 copy: waits on X after 7\nfinished 12\n",
+    ),
+    (
+        "a fault beside a copy, with the output channel watched",
+        DIVISION,
+        "",
+        Some("W"),
+        AMPLE,
+        Verdict::Finished,
+        "W: 3 6\nend 1 d: fault division after 5\nend 2 copy: waits on X after 7\nfinished 12\n",
+    ),
+    (
+        "logical channels",
+        INVERT,
+        "A: true FALSE true",
+        None,
+        AMPLE,
+        Verdict::Finished,
+        "B: false true false\nend 1 inv: waits on A after 10\nfinished 10\n",
+    ),
+    (
+        "prints of both kinds",
+        PRINTS,
+        "",
+        None,
+        AMPLE,
+        Verdict::Finished,
+        "print 1 p: 1 true 2\nend 1 p: ended after 3\nfinished 3\n",
+    ),
+    (
+        "a logical value is printed",
+        TRUTH,
+        "",
+        None,
+        AMPLE,
+        Verdict::Finished,
+        "print 1 p: true\nend 1 p: ended after 1\nfinished 1\n",
+    ),
+];
+
+// The same bytes for every number of workers and every quantum.
+#[test]
+fn reports(rt: HostRuntime) -> Result<(), Fail> {
+    for (name, program, input, watch, bound, verdict, report) in ROWS {
+        for workers in [1, 2, 4, 16] {
+            for quantum in [1, 7, 1000, 1_000_000] {
+                let config = config(rt.alloc(), workers, quantum, bound, watch)?;
+                let (told, written) = reported(&rt, rt.alloc(), program, input, config, &Open)?;
+                assert_eq!(rt; told, verdict, "{name}");
+                assert_eq!(rt; written.as_str(), report, "{name}");
+            }
+        }
+    }
+    Ok(())
 }
 
-// Whether the report of a program is this text, by one worker, by four and by sixteen.
-fn reports<R: Threads + Wait + Sync>(
-    rt: &R,
-    alloc: Global,
-    program: &str,
-    input: &str,
-    bound: u64,
-    verdict: Verdict,
-    report: &str,
-) -> bool {
-    for workers in [1, 4, 16] {
-        let Ok((told, written)) = reported_by(rt, alloc, program, input, workers, 1000, bound)
-        else {
+// The number at the end of a line.
+fn last_number(line: &str) -> u64 {
+    let mut words = line.rsplit(' ');
+    match words.next() {
+        Some(word) => word.parse().unwrap_or(0),
+        None => 0,
+    }
+}
+
+// The events of all instances.
+fn events_of(report: &str) -> u64 {
+    let mut sum = 0u64;
+    for line in report.lines() {
+        if line.starts_with("end ") {
+            sum = sum.saturating_add(last_number(line));
+        }
+    }
+    sum
+}
+
+// Whether each line before the first end begins the line that stands there in the whole report, up to the end of a value.
+fn streams_begin(whole: &str, report: &str) -> bool {
+    for (all, line) in whole.lines().zip(report.lines()) {
+        if line.starts_with("end ") {
+            return true;
+        }
+        let ends = matches!(all.as_bytes().get(line.len()), None | Some(b' '));
+        if !all.starts_with(line) || !ends {
             return false;
-        };
-        if told != verdict || written.as_slice() != report.as_bytes() {
-            return false;
         }
     }
-    true
+    false
 }
 
-#[test]
-fn the_counting_process(rt: HostRuntime) -> Result<(), Fail> {
-    let whole = "W: 0 1 2\nend 1 count: ended after 7\nfinished 7\n";
-    assert_eq!(rt; whole.len(), 47);
-    for bound in [7, 100, 1000000] {
-        assert!(rt; reports(&rt, rt.alloc(), COUNT, "", bound, Verdict::Finished, whole));
+// Whether a report is of a run that did just as many events as its bound, and whose streams begin those of the whole.
+fn is_stopped(whole: &str, bound: u64, verdict: Verdict, report: &str) -> bool {
+    let last = report.lines().last().unwrap_or("");
+    verdict == Verdict::Bound
+        && last.starts_with("stopped by bound ")
+        && last_number(last) == bound
+        && events_of(report) == bound
+        && streams_begin(whole, report)
+}
+
+// What the sample without an end prints first.
+fn alternating(alloc: Global) -> Result<String, AllocError> {
+    let mut text = String::from_str(alloc, "print 1 f:")?;
+    for _ in 0..500u64 {
+        text.push_str(" 0 1")?;
     }
-    let six = "W: 0 1 2\nend 1 count: wants more after 6\nstopped by bound 6\n";
-    assert!(rt; reports(&rt, rt.alloc(), COUNT, "", 6, Verdict::Bound, six));
-    let none = "W:\nend 1 count: wants more after 0\nstopped by bound 0\n";
-    assert!(rt; reports(&rt, rt.alloc(), COUNT, "", 0, Verdict::Bound, none));
-    Ok(())
+    text.push_str("\nend\n")?;
+    Ok(text)
 }
 
 #[test]
-fn doubling(rt: HostRuntime) -> Result<(), Fail> {
-    let whole = "B: 2 4 6\nend 1 double: waits on A after 10\nfinished 10\n";
-    assert!(rt;
-        reports(
-            &rt,
-            rt.alloc(),
-            DOUBLE,
-            "A: 1 2 3",
-            1000000,
-            Verdict::Finished,
-            whole
-        )
-    );
-    assert!(rt;
-        reports(
-            &rt,
-            rt.alloc(),
-            DOUBLE,
-            "A: 1 2 3",
-            10,
-            Verdict::Finished,
-            whole
-        )
-    );
-    let none = "B:\nend 1 double: waits on A after 1\nfinished 1\n";
-    assert!(rt;
-        reports(
-            &rt,
-            rt.alloc(),
-            DOUBLE,
-            "A:",
-            1000000,
-            Verdict::Finished,
-            none
-        )
-    );
-    assert!(rt;
-        reports(
-            &rt,
-            rt.alloc(),
-            DOUBLE,
-            "",
-            1000000,
-            Verdict::Finished,
-            none
-        )
-    );
-    let top = "B: 9223372036854775807\nend 1 top: fault overflow after 5\nfinished 5\n";
-    assert!(rt;
-        reports(
-            &rt,
-            rt.alloc(),
-            TOP,
-            "A: 0 1",
-            1000000,
-            Verdict::Finished,
-            top
-        )
-    );
-    Ok(())
-}
-
-#[test]
-fn rings(rt: HostRuntime) -> Result<(), Fail> {
-    let ring = "end 1 c: waits on X after 0\nend 2 c: waits on Y after 0\nfinished 0\n";
-    assert!(rt; reports(&rt, rt.alloc(), RING, "", 0, Verdict::Finished, ring));
-    let own = "print 1 p: 1\nend 1 p: waits on X after 3\nfinished 3\n";
-    assert!(rt; reports(&rt, rt.alloc(), SELF, "", 1000000, Verdict::Finished, own));
-    let silent = "end 1 p: wants more after 10\nstopped by bound 10\n";
-    assert!(rt; reports(&rt, rt.alloc(), SILENT, "", 10, Verdict::Bound, silent));
-    Ok(())
-}
-
-#[test]
-fn values_that_nobody_reads(rt: HostRuntime) -> Result<(), Fail> {
-    let unread = "end 1 count: ended after 11\nend 2 two: ended after 2\nfinished 13\n";
-    assert!(rt;
-        reports(
-            &rt,
-            rt.alloc(),
-            UNREAD,
-            "",
-            1000000,
-            Verdict::Finished,
-            unread
-        )
-    );
-    let one = "end 1 alt: waits on B after 5\nfinished 5\n";
-    assert!(rt;
-        reports(
-            &rt,
-            rt.alloc(),
-            ALTERNATE,
-            "A: 1 2 3\nB: 9\n",
-            1000000,
-            Verdict::Finished,
-            one
-        )
-    );
-    let marks = "end 1 p: ended after 0\nfinished 0\n";
-    assert!(rt;
-        reports(
-            &rt,
-            rt.alloc(),
-            MARKS,
-            "",
-            1000000,
-            Verdict::Finished,
-            marks
-        )
-    );
-    Ok(())
-}
-
-#[test]
-fn the_sample_with_four_turns(rt: HostRuntime) -> Result<(), Fail> {
-    let ends =
-        "print 1 f: 0 1 0 1\nend 1 f: ended after 17\nend 2 g: waits on X after 13\nend 3 h: waits on T1 after 8\nend 4 h: waits on T2 after 8\nfinished 46\n";
-    assert!(rt;
-        reports(
-            &rt,
-            rt.alloc(),
-            FOUR_TURNS,
-            "",
-            1000000,
-            Verdict::Finished,
-            ends
-        )
-    );
-    assert!(rt; reports(&rt, rt.alloc(), FOUR_TURNS, "", 46, Verdict::Finished, ends));
-    match reported(&rt, rt.alloc(), FOUR_TURNS, "", 45) {
-        Ok((verdict, written)) => {
-            assert_eq!(rt; verdict, Verdict::Bound);
-            assert!(rt; written.as_slice().ends_with(b"\nstopped by bound 45\n"));
-        }
-        Err(_) => assert!(rt; false),
-    }
-    Ok(())
-}
-
-#[test]
-fn a_watched_channel(rt: HostRuntime) -> Result<(), Fail> {
-    let names = [("X", true), ("Q", false)];
-    for (name, is_declared) in names {
-        let config = Config {
-            workers: 1,
-            quantum: 7,
-            bound: 100,
-            watch: Some(String::from_str(rt.alloc(), name)?),
-        };
-        let mut written = Vec::new(rt.alloc());
-        let told = work(&rt, rt.alloc(), UNREAD, "", config, &Open, &mut written);
-        if is_declared {
-            assert_eq!(rt; told, Ok(Verdict::Finished));
-            assert_eq!(rt;
-                written.as_slice(),
-                b"X: 0 1 2 3 4\nend 1 count: ended after 11\nend 2 two: ended after 2\nfinished 13\n".as_slice()
-            );
-        } else {
-            assert_eq!(rt; told, Err(WorkFault::Run(RunFault::UnknownWatch)));
-            assert!(rt; written.is_empty());
-        }
-    }
-    Ok(())
-}
-
-#[test]
-fn numbers_out_of_their_limits(rt: HostRuntime) -> Result<(), Fail> {
-    let numbers = [
-        (0, 1000, 1),
-        (17, 1000, 1),
-        (1, 0, 1),
-        (1, 1000001, 1),
-        (1, 1, 281474976710656),
+fn the_sample_is_stopped_by_its_bound(rt: HostRuntime) -> Result<(), Fail> {
+    let alternating = alternating(rt.alloc())?;
+    let rows = [
+        (FOUR_TURNS, 45, FOUR_TURNS_REPORT),
+        (SAMPLE, 1000, alternating.as_str()),
     ];
-    for (workers, quantum, bound) in numbers {
-        let config = Config {
-            workers,
-            quantum,
-            bound,
-            watch: None,
-        };
-        let mut written = Vec::new(rt.alloc());
-        let told = work(&rt, rt.alloc(), COUNT, "", config, &Open, &mut written);
-        assert_eq!(rt; told, Err(WorkFault::Run(RunFault::BadConfig)));
-        assert!(rt; written.is_empty());
+    for (program, bound, whole) in rows {
+        for workers in [1, 2, 4, 16] {
+            for quantum in [1, 7, 1000, 1_000_000] {
+                let config = config(rt.alloc(), workers, quantum, bound, None)?;
+                let (verdict, report) = reported(&rt, rt.alloc(), program, "", config, &Open)?;
+                assert!(rt;
+                    is_stopped(whole, bound, verdict, report.as_str()),
+                    "{workers} {quantum}"
+                );
+            }
+        }
+    }
+    Ok(())
+}
+
+// Whether a report is the whole one where the bound suffices for its events, and else one of a run that was stopped.
+fn agrees(whole: &str, bound: u64, verdict: Verdict, report: &str) -> bool {
+    if events_of(whole) <= bound {
+        verdict == Verdict::Finished && report == whole
+    } else {
+        is_stopped(whole, bound, verdict, report)
+    }
+}
+
+// The next of numbers that look like chance, and are the same whenever the test is run.
+fn shuffled(number: u64) -> u64 {
+    number
+        .wrapping_mul(6364136223846793005)
+        .wrapping_add(1442695040888963407)
+}
+
+// A number below this one, or 0.
+fn below(limit: u64, number: u64) -> u64 {
+    (number >> 33).checked_rem(limit).unwrap_or(0)
+}
+
+#[test]
+fn numbers_at_random(rt: HostRuntime) -> Result<(), Fail> {
+    let mut number = 20;
+    for (name, program, input, watch, _, last, whole) in ROWS {
+        if last == Verdict::Finished {
+            for most in [8, 8, 8, 100, 1_000_000] {
+                for _ in 0..8u64 {
+                    number = shuffled(number);
+                    let workers = below(16, number).saturating_add(1);
+                    number = shuffled(number);
+                    let quantum = below(most, number).saturating_add(1);
+                    number = shuffled(number);
+                    let bound = below(60, number);
+                    let config = config(rt.alloc(), workers, quantum, bound, watch)?;
+                    let (verdict, report) = reported(
+                        &rt,
+                        rt.alloc(),
+                        program,
+                        input,
+                        config,
+                        &Open,
+                    )?;
+                    assert!(rt;
+                        agrees(whole, bound, verdict, report.as_str()),
+                        "{name} {workers} {quantum} {bound}"
+                    );
+                }
+            }
+        }
     }
     Ok(())
 }

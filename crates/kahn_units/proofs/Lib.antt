@@ -1,2 +1,2 @@
-mod Grouped
-mod Silent
+mod Granted
+mod Opening

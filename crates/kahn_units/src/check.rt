@@ -1,14 +1,190 @@
-//! Programs that are refused, each with its first fault, and programs that are accepted.
+//! Programs that are refused, each with its first fault: the declarations with their statements come first, then the
+//! instances, then the channels.
 
-mod limits;
-mod walk;
-
+use crate::syntax::limits::repeated;
 use kahn_check::fault::CheckFault;
 use kahn_check::network::check;
 use kahn_syntax::parser::parse;
 use kahn_tree::span::Span;
+use std::alloc::{AllocError, Global};
 use std::test::Fail;
 
+static REFUSED: [(&str, CheckFault); 43] = [
+    (
+        "begin integer channel X, X; process p(); begin end; p() end",
+        CheckFault::DeclaredTwice(Span { from: 25, to: 26 }),
+    ),
+    (
+        "begin process p(); begin print A end; p() end",
+        CheckFault::Unknown(Span { from: 31, to: 32 }),
+    ),
+    (
+        "begin process p(); begin end; p(1) end",
+        CheckFault::WrongCount(Span { from: 30, to: 31 }),
+    ),
+    (
+        "begin logical channel X; process s(integer out A); begin send 1 on A end; s(X) end",
+        CheckFault::WrongKind(Span { from: 76, to: 77 }),
+    ),
+    (
+        "begin logical output channel W; process s(logical out A); begin send 1 on A end; s(W) end",
+        CheckFault::WrongKind(Span { from: 69, to: 70 }),
+    ),
+    (
+        "begin process p(); begin integer A; print wait(A) end; p() end",
+        CheckFault::ChannelExpected(Span { from: 47, to: 48 }),
+    ),
+    (
+        "begin integer channel X; process p(integer out W); begin print W end; p(X) end",
+        CheckFault::ValueExpected(Span { from: 63, to: 64 }),
+    ),
+    (
+        "begin integer channel X; process p(integer out W); begin print wait(W) end; p(X) end",
+        CheckFault::WrongDirection(Span { from: 68, to: 69 }),
+    ),
+    (
+        "begin integer output channel W; process s(integer out A); begin send 1 on A end; s(W) par s(W) end",
+        CheckFault::TwoWriters(Span { from: 92, to: 93 }),
+    ),
+    (
+        "begin integer output channel W; process r(integer in A); begin end; r(W) end",
+        CheckFault::TwoReaders(Span { from: 70, to: 71 }),
+    ),
+    (
+        "begin integer channel X; process s(integer out A); begin end; process r(integer in A); begin end; s(X) par r(X) par r(X) end",
+        CheckFault::TwoReaders(Span { from: 118, to: 119 }),
+    ),
+    (
+        "begin integer channel X; process p(); begin end; p() end",
+        CheckFault::NoWriter(Span { from: 22, to: 23 }),
+    ),
+    (
+        "begin integer channel X; process s(integer out A); begin send 1 on A end; s(X) end",
+        CheckFault::NoReader(Span { from: 22, to: 23 }),
+    ),
+    (
+        "begin process p(); begin print Z end; integer channel X, X; p() end",
+        CheckFault::Unknown(Span { from: 31, to: 32 }),
+    ),
+    (
+        "begin process q(); begin print Z end; process p(); begin end; p() end",
+        CheckFault::Unknown(Span { from: 31, to: 32 }),
+    ),
+    (
+        "begin integer channel p; process p(); begin end; p() end",
+        CheckFault::DeclaredTwice(Span { from: 33, to: 34 }),
+    ),
+    (
+        "begin process p(integer N); begin logical N; end; p(1) end",
+        CheckFault::DeclaredTwice(Span { from: 42, to: 43 }),
+    ),
+    (
+        "begin integer output channel W; process s(integer out A); begin send true on B end; s(W) end",
+        CheckFault::Unknown(Span { from: 77, to: 78 }),
+    ),
+    (
+        "begin integer output channel W; process s(integer out A); begin send Z on B end; s(W) end",
+        CheckFault::Unknown(Span { from: 69, to: 70 }),
+    ),
+    (
+        "begin integer input channel R; process r(integer in A); begin send true on A end; r(R) end",
+        CheckFault::WrongDirection(Span { from: 75, to: 76 }),
+    ),
+    (
+        "begin process p(); begin N := M end; p() end",
+        CheckFault::Unknown(Span { from: 25, to: 26 }),
+    ),
+    (
+        "begin process p(); begin integer I; I := not M end; p() end",
+        CheckFault::Unknown(Span { from: 45, to: 46 }),
+    ),
+    (
+        "begin process p(); begin integer I; I := (true) end; p() end",
+        CheckFault::WrongKind(Span { from: 41, to: 47 }),
+    ),
+    (
+        "begin process p(); begin if 1 then print Z end; p() end",
+        CheckFault::WrongKind(Span { from: 28, to: 29 }),
+    ),
+    (
+        "begin process p(); begin while true do print Z end; p() end",
+        CheckFault::Unknown(Span { from: 45, to: 46 }),
+    ),
+    (
+        "begin process p(); begin print true + Z end; p() end",
+        CheckFault::WrongKind(Span { from: 31, to: 35 }),
+    ),
+    (
+        "begin process p(); begin print 1 + (2 = 3) end; p() end",
+        CheckFault::WrongKind(Span { from: 35, to: 42 }),
+    ),
+    (
+        "begin process p(); begin print true = 1 end; p() end",
+        CheckFault::WrongKind(Span { from: 38, to: 39 }),
+    ),
+    (
+        "begin process p(); begin print 1 < 2 or 3 end; p() end",
+        CheckFault::WrongKind(Span { from: 40, to: 41 }),
+    ),
+    (
+        "begin process p(); begin print not 1 end; p() end",
+        CheckFault::WrongKind(Span { from: 35, to: 36 }),
+    ),
+    (
+        "begin process p(); begin print if true then 1 else false end; p() end",
+        CheckFault::WrongKind(Span { from: 51, to: 56 }),
+    ),
+    (
+        "begin process p(); begin print if 1 then Z else 2 end; p() end",
+        CheckFault::WrongKind(Span { from: 34, to: 35 }),
+    ),
+    (
+        "begin integer channel X; process p(); begin end; X() end",
+        CheckFault::Unknown(Span { from: 49, to: 50 }),
+    ),
+    (
+        "begin process p(integer in A); begin end; p(p) end",
+        CheckFault::ChannelExpected(Span { from: 44, to: 45 }),
+    ),
+    (
+        "begin process p(integer in A); begin end; p(1) end",
+        CheckFault::ChannelExpected(Span { from: 44, to: 45 }),
+    ),
+    (
+        "begin process p(integer in A); begin end; p(Z) end",
+        CheckFault::Unknown(Span { from: 44, to: 45 }),
+    ),
+    (
+        "begin integer channel X; process p(integer N); begin end; p(X) end",
+        CheckFault::ValueExpected(Span { from: 60, to: 61 }),
+    ),
+    (
+        "begin process p(integer N); begin end; p(true) end",
+        CheckFault::WrongKind(Span { from: 41, to: 45 }),
+    ),
+    (
+        "begin process p(integer N; integer in A); begin end; p(true, Z) end",
+        CheckFault::WrongKind(Span { from: 55, to: 59 }),
+    ),
+    (
+        "begin integer input channel X; process s(integer out A); begin end; s(X) end",
+        CheckFault::TwoWriters(Span { from: 70, to: 71 }),
+    ),
+    (
+        "begin integer channel X; process s(integer out A, B); begin end; s(X, X) end",
+        CheckFault::TwoWriters(Span { from: 70, to: 71 }),
+    ),
+    (
+        "begin integer channel X, Y; process s(integer out A); begin end; s(Y) end",
+        CheckFault::NoWriter(Span { from: 22, to: 23 }),
+    ),
+    (
+        "begin integer channel X; integer input channel Y; process s(integer out A); begin end; s(X) end",
+        CheckFault::NoReader(Span { from: 22, to: 23 }),
+    ),
+];
+
+// Why a program is refused.
 fn fault(text: &str, rt: &HostRuntime) -> Option<CheckFault> {
     match parse(rt.alloc(), text) {
         Ok(program) => check(rt.alloc(), program).err(),
@@ -16,83 +192,64 @@ fn fault(text: &str, rt: &HostRuntime) -> Option<CheckFault> {
     }
 }
 
-fn at(from: usize, to: usize) -> Span {
-    Span { from, to }
+#[test]
+fn programs_are_refused_with_their_first_fault(rt: HostRuntime) {
+    for (text, wanted) in REFUSED {
+        assert_eq!(rt; fault(text, &rt), Some(wanted), "{text}");
+    }
+}
+
+// So many channels that nobody writes or reads.
+fn channels(alloc: Global, count: usize) -> Result<String, AllocError> {
+    let mut text = String::from_str(alloc, "begin integer channel X0")?;
+    for number in 1..count {
+        text.push_str(&format!(in alloc; ", X{number}")?)?;
+    }
+    text.push_str("; process p(); begin end; p() end")?;
+    Ok(text)
 }
 
 #[test]
-fn names_are_declared_once(rt: HostRuntime) {
-    let text = "begin integer channel X, X; process p(); begin end; p() end";
+fn instances_are_256_and_channels_1024_at_most(rt: HostRuntime) -> Result<(), Fail> {
+    let text = repeated(
+        &rt,
+        [
+            ("begin process p(); begin end; p()", 1),
+            (" par p()", 255),
+            (" end", 1),
+        ]
+        .as_slice(),
+    )?;
+    let network = check(rt.alloc(), parse(rt.alloc(), text.as_str())?)?;
+    assert_eq!(rt; network.instances(), 256);
+    let text = repeated(
+        &rt,
+        [
+            ("begin process p(); begin end; p()", 1),
+            (" par p()", 256),
+            (" end", 1),
+        ]
+        .as_slice(),
+    )?;
     assert_eq!(rt;
-        fault(text, &rt),
-        Some(CheckFault::DeclaredTwice(at(25, 26)))
+        fault(text.as_str(), &rt),
+        Some(CheckFault::TooMany(Span {
+            from: 2078,
+            to: 2079
+        }))
     );
-    let text = "begin process p(); begin print A end; p() end";
-    assert_eq!(rt; fault(text, &rt), Some(CheckFault::Unknown(at(31, 32))));
-}
-
-#[test]
-fn a_logical_value_is_printed(rt: HostRuntime) -> Result<(), Fail> {
-    let text = "begin process p(); begin print true end; p() end";
-    let network = check(rt.alloc(), parse(rt.alloc(), text)?)?;
-    assert_eq!(rt; network.instances(), 1);
-    Ok(())
-}
-
-#[test]
-fn kinds_and_counts_agree(rt: HostRuntime) {
-    let text = "begin process p(); begin end; p(1) end";
-    assert_eq!(rt; fault(text, &rt), Some(CheckFault::WrongCount(at(30, 31))));
-    let text = "begin logical channel X; process s(integer out A); begin send 1 on A end; s(X) end";
-    assert_eq!(rt; fault(text, &rt), Some(CheckFault::WrongKind(at(76, 77))));
-    let text =
-        "begin logical output channel W; process s(logical out A); begin send 1 on A end; s(W) end";
-    assert_eq!(rt; fault(text, &rt), Some(CheckFault::WrongKind(at(69, 70))));
-}
-
-#[test]
-fn channels_and_values_are_told_apart(rt: HostRuntime) {
-    let text = "begin process p(); begin integer A; print wait(A) end; p() end";
+    let text = channels(rt.alloc(), 1024)?;
     assert_eq!(rt;
-        fault(text, &rt),
-        Some(CheckFault::ChannelExpected(at(47, 48)))
+        fault(text.as_str(), &rt),
+        Some(CheckFault::NoWriter(Span { from: 22, to: 24 }))
     );
-    let text = "begin integer channel X; process p(integer out W); begin print W end; p(X) end";
+    let text = channels(rt.alloc(), 1025)?;
     assert_eq!(rt;
-        fault(text, &rt),
-        Some(CheckFault::ValueExpected(at(63, 64)))
+        fault(text.as_str(), &rt),
+        Some(CheckFault::TooMany(Span {
+            from: 6080,
+            to: 6085
+        }))
     );
-    let text =
-        "begin integer channel X; process p(integer out W); begin print wait(W) end; p(X) end";
-    assert_eq!(rt;
-        fault(text, &rt),
-        Some(CheckFault::WrongDirection(at(68, 69)))
-    );
-}
-
-#[test]
-fn channels_have_one_writer_and_one_reader(rt: HostRuntime) {
-    let text =
-        "begin integer output channel W; process s(integer out A); begin send 1 on A end; s(W) par s(W) end";
-    assert_eq!(rt; fault(text, &rt), Some(CheckFault::TwoWriters(at(92, 93))));
-    let text = "begin integer output channel W; process r(integer in A); begin end; r(W) end";
-    assert_eq!(rt; fault(text, &rt), Some(CheckFault::TwoReaders(at(70, 71))));
-    let text = "begin integer channel X; process p(); begin end; p() end";
-    assert_eq!(rt; fault(text, &rt), Some(CheckFault::NoWriter(at(22, 23))));
-    let text = "begin integer channel X; process s(integer out A); begin send 1 on A end; s(X) end";
-    assert_eq!(rt; fault(text, &rt), Some(CheckFault::NoReader(at(22, 23))));
-}
-
-#[test]
-fn a_ring_is_accepted_and_read(rt: HostRuntime) -> Result<(), Fail> {
-    let text =
-        "begin integer channel X, Y; process c(integer in U; integer out W); begin integer I; I := wait(U); send I on W end; c(X, Y) par c(Y, X) end";
-    let network = check(rt.alloc(), parse(rt.alloc(), text)?)?;
-    assert_eq!(rt; network.channels(), 2);
-    assert_eq!(rt; network.instances(), 2);
-    let reader = network.reader(0);
-    assert_eq!(rt; reader.map(|side| side.instance), Some(0));
-    let writer = network.writer(0);
-    assert_eq!(rt; writer.map(|side| side.instance), Some(1));
     Ok(())
 }

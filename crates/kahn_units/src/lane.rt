@@ -3,9 +3,9 @@
 ghost use Rattle.std.specs.Prelude.{◌≡◌};
 ghost use Rattle.kahn_lane.specs.RelayEnds.{giver_relay, taker_relay};
 
+use crate::rationed::Rationed;
 use kahn_lane::{Giver, LaneFault, Taker, relay};
 use kahn_streams::memory::NoMemory;
-use linked_list_allocator::LocalHeap;
 use std::alloc::Global;
 use std::test::*;
 use std::thread;
@@ -28,30 +28,20 @@ fn a_relay_hands_over_in_order(rt: HostRuntime) -> Result<(), Fail> {
     Ok(())
 }
 
-// How many bytes a relay takes of a heap.
-fn relay_size(alloc: Global) -> Result<usize, Fail> {
-    let heap = LocalHeap::new(alloc, 100000)?;
-    let (_giver, _taker) = relay::<u32, _>(&heap)?;
-    Ok(heap.used())
-}
-
 #[test]
 fn a_refused_item_comes_back(rt: HostRuntime) -> Result<(), Fail> {
-    let size = relay_size(rt.alloc())?;
-    let heap = LocalHeap::new(rt.alloc(), size)?;
-    let (mut giver, mut taker) = relay::<u32, _>(&heap)?;
+    let memory = Rationed::new(rt.alloc());
+    let (mut giver, mut taker) = relay::<u32, _>(&memory)?;
+    memory.refuse(1);
     let mut refused = 0;
     for k in 1..1001 {
-        match giver.give(k) {
-            Ok(()) => {}
-            Err((NoMemory, item)) => {
-                assert_eq!(rt; item, k);
-                refused = k;
-                break;
-            }
+        if let Err((NoMemory, item)) = giver.give(k) {
+            assert_eq!(rt; item, k);
+            refused = k;
+            break;
         }
     }
-    assert_eq!(rt; refused, 2);
+    assert!(rt; refused > 1);
     for k in 1..refused {
         assert_eq!(rt; taker.take(), Some(k));
     }

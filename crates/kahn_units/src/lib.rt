@@ -8,11 +8,9 @@ mod check;
 #[cfg(test)]
 mod code;
 #[cfg(test)]
-mod desk;
-#[cfg(test)]
-mod job;
-#[cfg(test)]
 mod lane;
+#[cfg(test)]
+mod rationed;
 #[cfg(test)]
 mod streams;
 #[cfg(test)]

@@ -1,5 +1,5 @@
 //! Texts as lexemes and as programs.
 
 mod lexing;
+pub mod limits;
 mod parsing;
-mod places;

@@ -1,0 +1,162 @@
+"""Rows that are made by a rule, for rows.py: each is its name and its files, as a row's folder has them."""
+import os
+
+import reference
+
+TOP = os.path.dirname(os.path.dirname(os.path.abspath(__file__)))
+MOST_BYTES = 1048576
+
+
+def example(name):
+    with open(f"{TOP}/examples/{name}", "rb") as it:
+        return it.read()
+
+
+def row(name, program, report=None, fault=None, status=0, words=(), given=None):
+    """The files of a row: the parts of a report and the words are joined by line feeds."""
+    files = {"program.kahn": program if isinstance(program, bytes) else program.encode(), "status": b"%d" % status}
+    files["words"] = "\n".join(words).encode()
+    if report is not None:
+        files["report"] = report if isinstance(report, bytes) else "".join(line + "\n" for line in report).encode()
+    if fault is not None:
+        files["fault"] = f"kahn: {fault}\n".encode()
+    if given is not None:
+        files["input"] = given.encode()
+    return name.replace(" ", "-"), files
+
+
+def refused(name, program, fault):
+    return row(name, program, fault=fault, status=1)
+
+
+def body(statements, declarations=""):
+    """A program of one process."""
+    return f"begin process p(); begin {declarations}{statements} end; p() end"
+
+
+ENDED = ["end 1 p: ended after 0", "finished 0"]
+
+
+def prefixes():
+    """Every beginning of the counting process, byte for byte. Those that reach through the last `End` are programs."""
+    whole, report = example("count.kahn"), example("count.report")
+    for end in range(len(whole) + 1):
+        name, part = f"the first {end} bytes of the counting process", whole[:end]
+        if end >= whole.rindex(b"End") + 3:
+            yield row(name, part, report)
+            continue
+        fault = reference.run(part, None, 0, None).err.decode()[len("kahn: ") : -1]
+        if part.endswith(b":"):
+            assert fault.endswith("character is not of the language"), (name, fault)
+        else:
+            assert fault.endswith(("text ends too early", "this cannot stand here")), (name, fault)
+        yield refused(name, part, fault)
+
+
+def nesting():
+    """64 levels are accepted, and the first lexeme that would open one more is told."""
+    def logical(value):
+        return body(f"B := {value}", "logical B; ")
+    yield row("64 times not", logical("not " * 64 + "true"), ENDED)
+    yield refused("65 times not", logical("not " * 65 + "true"), "1:298: nesting is too deep")
+    printed = ["print 1 p: 1", "end 1 p: ended after 1", "finished 1"]
+    yield row("64 brackets", body("print " + "(" * 64 + "1" + ")" * 64), printed)
+    yield refused("65 brackets", "begin process p(); begin print " + "(" * 65, "1:96: nesting is too deep")
+    yield row("64 signs", body("print " + "-" * 64 + "1"), printed)
+    yield refused("65 signs", body("print " + "-" * 65 + "1"), "1:96: nesting is too deep")
+    yield row("64 blocks", body("begin " * 64 + "end " * 64), ENDED)
+    yield refused("66 levels of repeat and begin", "begin process p(); begin " + "repeat begin " * 33, "1:442: nesting is too deep")
+
+
+def long_texts():
+    """Texts of as many bytes as there may be, and names of as many letters."""
+    silent = "begin process p(); begin repeat begin end end; p() end"
+    stopped = ["end 1 p: wants more after 10", "stopped by bound 10"]
+    yield row("blanks up to the most bytes", silent.ljust(MOST_BYTES), stopped, status=3, words=["--bound", "10"])
+    yield refused("one byte more than there may be", silent.ljust(MOST_BYTES + 1), "program text is too long")
+    yield row("as many empty statements as there may be", body(";" * (MOST_BYTES - len(body("")))), ENDED)
+    count = (MOST_BYTES - len(body("print 1"))) // 2
+    total = ["print 1 p: %d" % (count + 1), "end 1 p: ended after 1", "finished 1"]
+    yield row("as many summands as there may be", body("print 1" + "+1" * count), total)
+    semicolons = "; " * (MOST_BYTES // 2)
+    yield refused("lexemes up to the most bytes", semicolons, "1:1: this cannot stand here")
+    yield refused("one byte past lexemes up to the most bytes", semicolons + "?", "program text is too long")
+    name = "n" * 64
+    ended = [f"end 1 {name}: ended after 0", "finished 0"]
+    yield row("a name of 64 letters", f"begin process {name}(); begin end; {name}() end", ended)
+    yield refused("a name of 65 letters", f"begin process {name}n(); begin end; p() end", "1:15: name is too long")
+
+
+def instances(count):
+    return "begin process p(); begin end; " + " par ".join(["p()"] * count) + " end"
+
+
+def channels(names):
+    return f"begin integer channel {', '.join(names)}; process p(); begin end; p() end"
+
+
+def loops():
+    """256 instances, each of which reads four channels and writes the same four."""
+    four = [", ".join(f"X{4 * i + k}" for k in range(4)) for i in range(256)]
+    process = "process q(integer in A, B, C, D; integer out E, F, G, H); begin end"
+    return f"begin integer channel {', '.join(four)}; {process}; {' par '.join(f'q({it}, {it})' for it in four)} end"
+
+
+def large_networks():
+    """As many instances and channels as there may be, and the first name past each limit."""
+    ends = [f"end {i} p: ended after 0" for i in range(1, 257)]
+    yield row("256 instances", instances(256), [*ends, "finished 0"])
+    yield refused("257 instances", instances(257), "1:2079: limit is exceeded")
+    yield refused("1024 channels without a writer", channels([f"X{i}" for i in range(1024)]), "1:23: channel has no writer")
+    yield refused("1025 channels", channels([f"X{i}" for i in range(1025)]), "1:6081: limit is exceeded")
+    long = "a_name_of_sixty_four_bytes_with_its_number_of_four_digits_at"
+    yield refused("1025 channels of 64 letters", channels([f"{long}{i}" for i in range(1000, 2025)]), "1:67607: limit is exceeded")
+    yield row("256 instances and 1024 channels", loops(), [it.replace("p:", "q:") for it in ends] + ["finished 0"])
+
+
+def copies():
+    """What a process counts comes out of three copies in order: a segment of a channel holds 64 values."""
+    for count in (64, 65, 1000):
+        program = f"""begin integer channel X0, X1, X2; integer output channel W;
+          process count(integer out W; integer N);
+          begin integer I; while I < N do begin send I on W; I := I + 1 end end;
+          process copy(integer in U; integer out W);
+          begin repeat send wait(U) on W end;
+          count(X0, {count}) par copy(X0, X1) par copy(X1, X2) par copy(X2, W)
+        end"""
+        values = "".join(f" {value}" for value in range(count))
+        ends = [f"end {i + 2} copy: waits on X{i} after {3 * count + 1}" for i in range(3)]
+        report = [f"W:{values}", f"end 1 count: ended after {2 * count + 1}", *ends, f"finished {11 * count + 4}"]
+        yield row(f"{count} values through three copies", program, report)
+
+
+def four_turns():
+    """The sample network with four turns gives one report, whoever runs it."""
+    for workers in (1, 2, 16):
+        for quantum in (1, 7, 1000000):
+            words = ["--workers", str(workers), "--quantum", str(quantum)]
+            name = f"four turns by {workers} workers with quantum {quantum}"
+            program, report = example("sample-four-turns.kahn"), example("sample-four-turns.report")
+            yield row(name, program, report, words=words)
+            yield row(f"{name}, stopped", program, status=3, words=[*words, "--bound", "45"])
+
+
+def numbers():
+    """Each number of the command line at its limits. Those past them stand among the words that are refused."""
+    program, report = example("count.kahn"), example("count.report")
+    for option, limits in (("workers", (1, 16)), ("quantum", (1, 1000000)), ("bound", (281474976710655,))):
+        for number in limits:
+            yield row(f"{option} {number} is within its limit", program, report, words=[f"--{option}", str(number)])
+
+
+def long_inputs():
+    """As many values as a channel may be given, and one more."""
+    program = "begin integer input channel A; process p(integer in U); begin end; p(A) end"
+    yield row("1048576 values", program, ENDED, given="A:" + " 1" * 1048576)
+    yield row("1048577 values", program, fault="input entry 1: too many values", status=1, given="A:" + " 1" * 1048577)
+    yield row("1048577 values of another kind", program, fault="input entry 1: kind does not agree", status=1, given="A:" + " true" * 1048577)
+
+
+def rows():
+    for family in (prefixes, nesting, long_texts, large_networks, copies, four_turns, numbers, long_inputs):
+        yield from family()

@@ -1,0 +1,171 @@
+"""The rows of checks/rows and the examples, each run on the built program and compared byte for byte.
+
+    rows.py PROGRAM WORK [NAME..]      WORK is an empty folder
+
+A row is a folder with some of these files:
+
+    program.kahn   the program text, always
+    input          the input text
+    words          further words of the command line, one a line
+    report         the whole standard output; none: nothing
+    fault          the whole standard error; none: nothing
+    status         the exit status; none: 0
+
+A row is run by 1, 4 and 16 workers with quanta of 1 and 1000, unless its words name one of these. What is refused before any
+worker starts (status 1 or 2) is run once. With status 3 and no report the row isn't determined by its words: the interpreter of
+fuzz/ says whether the report is one of those that may be given. Rows that are made by a rule come from families.py, and programs,
+inputs and command lines of one line that are refused from the tables in checks/rows.
+"""
+import os
+import subprocess
+import sys
+from concurrent.futures import ThreadPoolExecutor
+
+sys.dont_write_bytecode = True
+TOP = os.path.dirname(os.path.dirname(os.path.abspath(__file__)))
+sys.path += [f"{TOP}/fuzz", f"{TOP}/checks"]
+import families
+import reference
+
+FILES = {"program.kahn", "input", "words", "report", "fault", "status"}
+WAYS = [["--workers", str(workers), "--quantum", str(quantum)] for workers in (1, 4, 16) for quantum in (1, 1000)]
+
+
+class Row:
+    """A row, from files by their names; it is run in a folder that holds its program and its input."""
+
+    def __init__(self, name, files, folder):
+        self.name, self.folder = name, folder
+        self.unknown = sorted(set(files) - FILES)
+        self.program, self.input = files.get("program.kahn"), files.get("input")
+        self.words = files.get("words", b"").decode().splitlines()
+        self.status = int(files.get("status", b"0"))
+        self.report, self.fault = files.get("report", b""), files.get("fault", b"")
+        self.is_open = self.status == 3 and "report" not in files
+
+    def ways(self):
+        is_told = any(word.startswith(("--workers", "--quantum")) for word in self.words)
+        return [[]] if is_told or self.status in (1, 2) else WAYS
+
+    def option(self, name, default):
+        return self.words[self.words.index(name) + 1] if name in self.words else default
+
+    def differences(self, ran):
+        """What differs from what is wanted: lines."""
+        pairs = [("status", ran.returncode, self.status)]
+        pairs += [("report", ran.stdout, self.report)] if not self.is_open else []
+        pairs += [("fault", ran.stderr, self.fault)]
+        told = [difference(*pair) for pair in pairs if pair[1] != pair[2]]
+        return told or (self.judged(ran.stdout) if self.is_open else [])
+
+    def judged(self, report):
+        """What the interpreter of fuzz/ finds wrong with the report of a run that its bound stopped: lines."""
+        wanted = reference.run(self.program, self.input, int(self.option("--bound", 1000000)), self.option("--watch", None))
+        why = wanted.stopped(report) if wanted.stopped else "the run isn't stopped by its bound"
+        return [f"report is {report[:400]!r}: {why}"] if why else []
+
+
+def difference(what, has, wanted):
+    """What differs: of long texts only what stands round the first byte that does."""
+    if isinstance(has, bytes):
+        start = max(0, len(os.path.commonprefix([has, wanted])) - 200)
+        has, wanted = (".. " * (start > 0) + repr(it[start : start + 400].decode(errors="backslashreplace")) for it in (has, wanted))
+    return f"{what} is {has}, wanted {wanted}"
+
+
+def files_of(folder):
+    files = {}
+    for name in os.listdir(folder):
+        with open(f"{folder}/{name}", "rb") as it:
+            files[name] = it.read()
+    return files
+
+
+def lines_of(table):
+    with open(f"{TOP}/checks/rows/{table}", encoding="utf-8") as it:
+        return it.read().split("\n")
+
+
+def kept_rows():
+    """The folders of checks/rows and the examples that have a report: (name, files)."""
+    rows = f"{TOP}/checks/rows"
+    for name in sorted(os.listdir(rows)):
+        if os.path.isdir(f"{rows}/{name}"):
+            yield name, files_of(f"{rows}/{name}")
+    examples = files_of(f"{TOP}/examples")
+    for name in sorted(examples):
+        stem, kind = os.path.splitext(name)
+        if kind == ".report":
+            files = {"program.kahn": f"{stem}.kahn", "input": f"{stem}.input", "report": name}
+            yield f"examples/{stem}", {file: examples[its] for file, its in files.items() if its in examples}
+
+
+def table_rows():
+    """The one-line refusals: (name, files). The name of a row is its table with the number of its line."""
+    lines = lines_of("refused-programs.txt")
+    for number, (text, mark) in enumerate(zip(lines, lines[1:]), 1):
+        if mark.lstrip().startswith("^ "):
+            before, what = mark.split("^ ")
+            column = len(text[: len(before)].encode()) + 1
+            yield f"refused-programs.txt:{number}", {"program.kahn": text.encode(), "fault": f"kahn: 1:{column}: {what}\n".encode(), "status": b"1"}
+    with open(f"{TOP}/examples/double.kahn", "rb") as it:
+        double = it.read()
+    for number, line in enumerate(lines_of("refused-inputs.txt"), 1):
+        if " -> " in line:
+            text, what = line.split(" -> ")
+            text = text.replace("\\n", "\n").replace("\\r", "\r").replace("\\t", "\t")
+            yield f"refused-inputs.txt:{number}", {"program.kahn": double, "input": text.encode(), "fault": f"kahn: {what}\n".encode(), "status": b"1"}
+
+
+def words_rows():
+    """The command lines that are refused: (name, files)."""
+    for block in "\n".join(lines_of("refused-words.txt")).split("\n$ ")[1:]:
+        words, text = block.split("\n", 1)
+        fault = f"{text.rstrip()}\n\nFor more information, try '--help'.\n"
+        files = {"program.kahn": "", "words": words.replace(" ", "\n"), "fault": fault, "status": "2"}
+        yield f"refused-words.txt: {words}", {name: text.encode() for name, text in files.items()}
+
+
+def rows_in(work):
+    """All rows, each with its program and its input in a folder of its own below this one."""
+    for number, (name, files) in enumerate([*kept_rows(), *table_rows(), *words_rows(), *families.rows()]):
+        folder = f"{work}/{number}"
+        os.mkdir(folder)
+        for file in ("program.kahn", "input"):
+            if file in files:
+                with open(f"{folder}/{file}", "wb") as it:
+                    it.write(files[file])
+        yield Row(name, files, folder)
+
+
+def run(program, row, way):
+    """Runs a row in a way: a line for each difference."""
+    words = [*row.words, *way]
+    given = [program, "program.kahn", *(["--input", "input"] if row.input is not None else []), *words]
+    try:
+        ran = subprocess.run(given, cwd=row.folder, stdin=subprocess.DEVNULL, capture_output=True, timeout=60)
+        told = row.differences(ran)
+    except (OSError, subprocess.TimeoutExpired) as error:
+        told = [str(error)]
+    return [f"FAILED {' '.join([row.name, *words])}: {it}" for it in told]
+
+
+def main(program, work, *names):
+    rows = list(rows_in(work))
+    lost = [f"FAILED {name}: there is no such row" for name in names if name not in [row.name for row in rows]]
+    rows = [row for row in rows if not names or row.name in names]
+    lost += [f"FAILED {row.name}: no file of a row is called {file}" for row in rows for file in row.unknown]
+    lost += [f"FAILED {row.name}: it has no program.kahn" for row in rows if row.program is None]
+    tasks = [(row, way) for row in rows for way in row.ways()]
+    with ThreadPoolExecutor(os.cpu_count()) as pool:
+        told = list(pool.map(lambda task: run(program, *task), tasks))
+    for line in [*lost, *(line for lines in told for line in lines)]:
+        print(line)
+    failed = len(lost) + sum(map(bool, told))
+    print(f"{len(rows)} rows")
+    print(f"{len(tasks) + len(lost) - failed} passed, {failed} failed")
+    return 1 if failed else 0
+
+
+if __name__ == "__main__":
+    sys.exit(main(*sys.argv[1:]))

@@ -1,6 +1,0 @@
-use Rattle.std.proofs.Common.{None}
-use Rattle.kahn_report.proofs.Right_lines.{right_lines}
-use Rattle.kahn_rows.proofs.rows.one.by_one.Goals as goal
-
-pub write_report-requires : goal.write_report-requires
-write_report-requires c = right_lines c.in_ok-network.network None c.in_ok-answer.answer c.in_ok-answer.ensures.right.named

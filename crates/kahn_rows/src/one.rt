@@ -1,0 +1,26 @@
+//! A run on the caller's thread.
+
+use crate::programs::DOUBLE;
+use kahn_check::network::check;
+use kahn_pool::answer::Verdict;
+use kahn_pool::one::run_one;
+use kahn_report::input::read_input;
+use kahn_report::write::write_report;
+use kahn_syntax::parser::parse;
+use std::test::Fail;
+
+#[test]
+fn doubling_by_one_thread(rt: HostRuntime) -> Result<(), Fail> {
+    let alloc = rt.alloc();
+    let network = check(alloc, parse(alloc, DOUBLE)?)?;
+    let input = read_input(alloc, "A: 1 2 3", &network)?;
+    let answer = run_one(alloc, &network, input, 100)?;
+    let mut written = Vec::new(alloc);
+    write_report(&mut written, &network, &answer)?;
+    assert_eq!(rt;
+        written.as_slice(),
+        b"B: 2 4 6\nend 1 double: waits on A after 10\nfinished 10\n".as_slice()
+    );
+    assert_eq!(rt; (answer.verdict, answer.events), (Verdict::Finished, 10));
+    Ok(())
+}

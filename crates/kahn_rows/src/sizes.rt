@@ -1,0 +1,123 @@
+//! Long streams, and networks that are as large as they may be.
+
+use crate::rows::{AMPLE, config, reported};
+use kahn_pool::answer::Verdict;
+use kahn_pool::gate::Open;
+use std::alloc::{AllocError, Global};
+use std::test::Fail;
+
+// A chain of three copies after a count to this number.
+fn chain(alloc: Global, number: u64) -> Result<String, AllocError> {
+    format!(in alloc;
+        "\
+begin integer channel X0, X1, X2; integer output channel W;
+  process count(integer out W; integer N);
+  begin integer I;
+    while I < N do begin send I on W; I := I + 1 end
+  end;
+  process copy(integer in U; integer out W);
+  begin repeat send wait(U) on W end;
+  count(X0, {number}) par copy(X0, X1) par copy(X1, X2) par copy(X2, W)
+end
+"
+    )
+}
+
+// The numbers below this one, and the given ends.
+fn counted(alloc: Global, number: u64, ends: &str) -> Result<String, AllocError> {
+    let mut text = String::from_str(alloc, "W:")?;
+    for value in 0..number {
+        text.push_str(&format!(in alloc; " {value}")?)?;
+    }
+    text.push_str(ends)?;
+    Ok(text)
+}
+
+static SHORT: &str = "
+end 1 count: ended after 129
+end 2 copy: waits on X0 after 193
+end 3 copy: waits on X1 after 193
+end 4 copy: waits on X2 after 193
+finished 708
+";
+
+static SEGMENT_AND_ONE: &str = "
+end 1 count: ended after 131
+end 2 copy: waits on X0 after 196
+end 3 copy: waits on X1 after 196
+end 4 copy: waits on X2 after 196
+finished 719
+";
+
+static LONG: &str = "
+end 1 count: ended after 200001
+end 2 copy: waits on X0 after 300001
+end 3 copy: waits on X1 after 300001
+end 4 copy: waits on X2 after 300001
+finished 1100004
+";
+
+#[test]
+fn a_chain_of_copies(rt: HostRuntime) -> Result<(), Fail> {
+    for (number, ends) in [(64, SHORT), (65, SEGMENT_AND_ONE), (100_000, LONG)] {
+        let program = chain(rt.alloc(), number)?;
+        let report = counted(rt.alloc(), number, ends)?;
+        let config = config(rt.alloc(), 8, 1, 2_000_000, None)?;
+        let (verdict, written) = reported(&rt, rt.alloc(), program.as_str(), "", config, &Open)?;
+        assert_eq!(rt; verdict, Verdict::Finished);
+        assert!(rt; written.as_str() == report.as_str(), "{number}");
+    }
+    Ok(())
+}
+
+// 256 instances of a process with no parameters and an empty body.
+fn instances(alloc: Global) -> Result<String, AllocError> {
+    let mut text = String::from_str(alloc, "begin process p(); begin end; p()")?;
+    for _ in 1..256u64 {
+        text.push_str(" par p()")?;
+    }
+    text.push_str(" end")?;
+    Ok(text)
+}
+
+// 1,024 channels, and 256 instances, each of which reads four of them and writes the same four.
+fn loops(alloc: Global) -> Result<String, AllocError> {
+    let mut text = String::from_str(alloc, "begin integer channel X0")?;
+    for channel in 1..1024u64 {
+        text.push_str(&format!(in alloc; ", X{channel}")?)?;
+    }
+    text.push_str("; process q(integer in A, B, C, D; integer out E, F, G, H); begin end; ")?;
+    for instance in 0..256u64 {
+        if instance > 0 {
+            text.push_str(" par ")?;
+        }
+        let a = 4 * instance;
+        let (b, c, d) = (a + 1, a + 2, a + 3);
+        text.push_str(&format!(in alloc; "q(X{a}, X{b}, X{c}, X{d}, X{a}, X{b}, X{c}, X{d})")?)?;
+    }
+    text.push_str(" end")?;
+    Ok(text)
+}
+
+// The report of 256 instances of a process that end before their first event.
+fn all_ended(alloc: Global, process: &str) -> Result<String, AllocError> {
+    let mut text = String::new(alloc);
+    for instance in 1..257u64 {
+        text.push_str(&format!(in alloc; "end {instance} {process}: ended after 0\n")?)?;
+    }
+    text.push_str("finished 0\n")?;
+    Ok(text)
+}
+
+#[test]
+fn as_many_instances_and_channels_as_may_be(rt: HostRuntime) -> Result<(), Fail> {
+    let (instances, loops) = (instances(rt.alloc())?, loops(rt.alloc())?);
+    for (program, process) in [(instances.as_str(), "p"), (loops.as_str(), "q")] {
+        let report = all_ended(rt.alloc(), process)?;
+        let config = config(rt.alloc(), 16, 1000, AMPLE, None)?;
+        let (verdict, written) = reported(&rt, rt.alloc(), program, "", config, &Open)?;
+        assert_eq!(rt; verdict, Verdict::Finished);
+        assert_eq!(rt; written.as_str(), report.as_str());
+    }
+    Ok(())
+}

@@ -1,0 +1,6 @@
+use Rattle.std.proofs.Common.{◌≡◌}
+use Rattle.kahn_units.specs.Standing.{Stands}
+use Rattle.kahn_units.proofs.code.seen_in.Given as goal
+
+abbrev pub invariant-loop-number : goal.invariant-loop-number
+invariant-loop-number g l = (l.code.network.value ≡ l.cell.network) × Stands l.cell l.queues

@@ -1,5 +1,0 @@
-use Rattle.kahn_units.proofs.Silent.{silent_fits}
-use Rattle.kahn_units.proofs.desk.leaves_ready.Goals as goal
-
-pub rest_ready-requires-clause-holds : goal.rest_ready-requires-clause-holds
-rest_ready-requires-clause-holds c = let h = c.requires.holds in (0, h.0, h.1, silent_fits _ _ c.args.p h.0 c.args.seat.now.seat.me.0 h.1.loose (λ x e. tt))
