@@ -456,33 +456,36 @@ fn below(limit: u64, number: u64) -> u64 {
     (number >> 33).checked_rem(limit).unwrap_or(0)
 }
 
+// Runs a row by workers, a quantum and a bound that this number picks: whether its report is the whole one, or is stopped.
+fn agrees_at<R: Threads + Wait + Sync>(
+    rt: &R,
+    alloc: Global,
+    row: Row,
+    number: u64,
+) -> Result<bool, Fail> {
+    let (_, program, input, watch, _, _, whole) = row;
+    let second = shuffled(number);
+    let workers = below(16, number).saturating_add(1);
+    let most = if number % 4 == 0 { 1_000_000 } else { 8 };
+    let quantum = below(most, second).saturating_add(1);
+    let bound = below(60, shuffled(second));
+    let config = config(alloc, workers, quantum, bound, watch)?;
+    let (verdict, report) = reported(rt, alloc, program, input, config, &Open)?;
+    Ok(agrees(whole, bound, verdict, report.as_str()))
+}
+
 #[test]
 fn numbers_at_random(rt: HostRuntime) -> Result<(), Fail> {
     let mut number = 20;
-    for (name, program, input, watch, _, last, whole) in ROWS {
-        if last == Verdict::Finished {
-            for most in [8, 8, 8, 100, 1_000_000] {
-                for _ in 0..8u64 {
-                    number = shuffled(number);
-                    let workers = below(16, number).saturating_add(1);
-                    number = shuffled(number);
-                    let quantum = below(most, number).saturating_add(1);
-                    number = shuffled(number);
-                    let bound = below(60, number);
-                    let config = config(rt.alloc(), workers, quantum, bound, watch)?;
-                    let (verdict, report) = reported(
-                        &rt,
-                        rt.alloc(),
-                        program,
-                        input,
-                        config,
-                        &Open,
-                    )?;
-                    assert!(rt;
-                        agrees(whole, bound, verdict, report.as_str()),
-                        "{name} {workers} {quantum} {bound}"
-                    );
-                }
+    for row in ROWS {
+        for _ in 0..40u64 {
+            number = shuffled(number);
+            if row.5 == Verdict::Finished {
+                assert!(rt;
+                    agrees_at(&rt, rt.alloc(), row, number)?,
+                    "{} {number}",
+                    row.0
+                );
             }
         }
     }
