@@ -2,4 +2,4 @@
 use Rattle.kahn_units.proofs.code.seen.Given as goal
 
 abbrev pub ghosts-seen_of : goal.ghosts-seen_of
-ghosts-seen_of a = record { name = a.blank.name; parts = a.blank.parts }
+ghosts-seen_of g a = record { name = a.blank.name; parts = a.blank.parts }
