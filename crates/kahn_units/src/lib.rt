@@ -9,8 +9,7 @@ mod check;
 mod code;
 #[cfg(test)]
 mod lane;
-#[cfg(test)]
-mod rationed;
+pub mod rationed;
 #[cfg(test)]
 mod streams;
 #[cfg(test)]
