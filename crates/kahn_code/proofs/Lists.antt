@@ -6,7 +6,7 @@ use Rattle.std.proofs.lemmas.List.{get_or_past, map-append}
 use Rattle.kahn_tree.specs.Syntax.{Number}
 use Rattle.std.proofs.Common.{pos, slice_index_or}
 use Rattle.kahn_streams.proofs.Frame.{Begins}
-use Rattle.kahn_network.specs.Network.{Network, Actual, Reads, Writes, Hands, instance_at, actual_at, Written}
+use Rattle.kahn_network.specs.Network.{Network, Actual, Reads, Writes, Hands, network_of, instance_at, actual_at, Written}
 use Rattle.kahn_streams.specs.declared.value.Value.{Value}
 use Rattle.kahn_streams.specs.declared.value.Line.{Line}
 use Rattle.kahn_streams.specs.declared.value.Line.TheVariants.{Channel}
@@ -14,8 +14,12 @@ use Rattle.kahn_streams.specs.declared.token.Token.{Token}
 use Rattle.kahn_streams.specs.Script.{Tapes}
 use Rattle.kahn_streams.specs.Solution.{Inputs, iterate, IsPrefix, Stands, tapes_of, goes_to, values_at, source, out, exec_at}
 use Rattle.kahn_streams.proofs.Frame.{and_more, grows_play}
-use Rattle.kahn_streams.proofs.Proved.{some_same, prefix_get, prefix_trans, iterates_rise, feeds, solves, script_at, values_append}
-use Rattle.kahn_code.specs.Cells.{AllStand, IsKept, token_value, exec_on, sent_on}
+use Rattle.kahn_streams.proofs.Proved.{some_same, prefix_get, prefix_refl, prefix_trans, iterates_rise, feeds, solves, script_at, values_append}
+use Rattle.kahn_streams.specs.Laws.{AreInputsExtended}
+use Rattle.kahn_streams.specs.Streams.{IsOf}
+use Rattle.kahn_streams.specs.Tokens.{Lists, inputs_of}
+use Rattle.kahn_tree.specs.declared.tree.Program.{Program}
+use Rattle.kahn_code.specs.Cells.{AllStand, IsKept, IsOwn, token_value, exec_on, sent_on}
 
 -- a list all of whose values stand in another begins it
 found_in : (xs ys : List Value) → ((k : ℕ) (v : Value) → slice_get xs k ≡ Some v → slice_get ys k ≡ Some v) → IsPrefix xs ys
@@ -147,18 +151,33 @@ long_map : (ts : List Token) → length (map token_value ts) ≡ length ts
 long_map [] = refl
 long_map (t ∷ ts) = ap suc (long_map ts)
 
-pub kept_none : (c : Line) → IsKept c [] []
-kept_none c = record { values = refl; places = λ k t e. absurd cc }
+-- a token of this network and this input
+pub own_of : (t : Program) (lists : Lists) (u : Token) → IsOf t lists u → IsOwn (network_of t) (inputs_of lists) u
+own_of t lists u h = (
+  ap network_of h.0,
+  subst (λ i. AreInputsExtended (inputs_of i) (inputs_of lists)) (sym h.1) (λ c. prefix_refl (inputs_of lists c)),
+)
 
-pub kept_long : (c : Line) (vs : List Value) (ts : List Token) → IsKept c vs ts → length ts ≡ length vs
-kept_long c vs ts h = sym (long_map ts) ∙ ap length h.values
+-- for an input whose lists are longer
+pub own_grown : (N : Network) (I J : Inputs) (t : Token) → AreInputsExtended I J → IsOwn N I t → IsOwn N J t
+own_grown N I J t grown h = (h.0, λ c. prefix_trans _ _ _ (h.1 c) (grown c))
 
-pub kept_push : (c : Line) (vs : List Value) (ts : List Token) (v : Value) (t : Token) → IsKept c vs ts → t.line ≡ c → t.place ≡ length vs → t.value ≡ v →
-    IsKept c (vs ++ v ∷ []) (ts ++ t ∷ [])
-kept_push c vs ts v t h l p w =
+pub kept_grown : (N : Network) (I J : Inputs) (c : Line) (vs : List Value) (ts : List Token) → AreInputsExtended I J → IsKept N I c vs ts → IsKept N J c vs ts
+kept_grown N I J c vs ts grown h = record { values = h.values; places = h.places; own = λ k t e. own_grown N I J t grown (h.own k t e) }
+
+pub kept_none : (N : Network) (I : Inputs) (c : Line) → IsKept N I c [] []
+kept_none N I c = record { values = refl; places = λ k t e. absurd cc; own = λ k t e. absurd cc }
+
+pub kept_long : (N : Network) (I : Inputs) (c : Line) (vs : List Value) (ts : List Token) → IsKept N I c vs ts → length ts ≡ length vs
+kept_long N I c vs ts h = sym (long_map ts) ∙ ap length h.values
+
+pub kept_push : (N : Network) (I : Inputs) (c : Line) (vs : List Value) (ts : List Token) (v : Value) (t : Token) → IsKept N I c vs ts → t.line ≡ c → t.place ≡ length vs → t.value ≡ v → IsOwn N I t →
+    IsKept N I c (vs ++ v ∷ []) (ts ++ t ∷ [])
+kept_push N I c vs ts v t h l p w o =
     record {
       values = map-append token_value ts (t ∷ []) ∙ ap (λ x. map token_value ts ++ x ∷ []) w ∙ ap (λ xs. xs ++ v ∷ []) h.values;
       places = λ k u e. by k u (at_push ts t k u e);
+      own = λ k u e. owned k u (at_push ts t k u e);
     }
   where
     size : length vs ≡ length ts
@@ -167,3 +186,7 @@ kept_push c vs ts v t h l p w =
     by : (k : ℕ) (u : Token) → (slice_get ts k ≡ Some u) ⊎ ((k ≡ length ts) × (t ≡ u)) → (u.line ≡ c) × (u.place ≡ k)
     by k u (inl e) = h.places k u e
     by k u (inr e) = (ap (λ x. x.line) (sym e.1) ∙ l, ap (λ x. x.place) (sym e.1) ∙ p ∙ size ∙ sym e.0)
+
+    owned : (k : ℕ) (u : Token) → (slice_get ts k ≡ Some u) ⊎ ((k ≡ length ts) × (t ≡ u)) → IsOwn N I u
+    owned k u (inl e) = h.own k u e
+    owned k u (inr e) = subst (IsOwn N I) e.1 o

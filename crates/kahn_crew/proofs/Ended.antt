@@ -1,6 +1,6 @@
 -- What a closed board says of a run.
-use Rattle.std.proofs.Common.{arith, ◌≡◌, ◌⊎◌, inl, inr, ⊎_elim, ℕ, zero, suc, ◌+◌, ◌<◌, ◌==◌, Bool, true, false, List, [], ◌∷◌, length, map, sum_by, refl, sym, ap, ◌∙◌, subst, eqb-true, Option, Some, None, slice_get, slice_index_or, pos, if◌then◌else◌}
-use mathlib.Core.Option.{some, some-injective, some-ne-none}
+use Rattle.std.proofs.Common.{arith, ◌≡◌, ◌⊎◌, inl, inr, ⊎_elim, ℕ, zero, suc, ◌+◌, ◌<◌, ◌≤◌, Bool, true, false, List, [], ◌∷◌, length, map, sum_by, refl, sym, ap, ◌∙◌, subst, eqb-true, Option, Some, None, slice_get, slice_index_or, pos}
+use mathlib.Core.Option.{some, some-injective}
 use lib.ListN.{get_elem?}
 use Rattle.std.proofs.lemmas.List.{length-map}
 use Rattle.std.proofs.lemmas.List.Sums.{sum_by-cons}
@@ -11,9 +11,8 @@ use Rattle.kahn_tree.specs.declared.tree.Role.TheVariants as role
 use Rattle.kahn_tree.specs.Syntax.{Number}
 use Rattle.kahn_network.specs.Network.{Network, Instance, Actual, Reads, Writes, Hands, Given, channel_source, network_of, instance_at, actual_at, role_at, is_written, idle}
 use Rattle.kahn_network.specs.Wiring.{IsWellWired}
-use Rattle.kahn_network.specs.Sources.{IsFed}
 use Rattle.kahn_network.proofs.Sourced
-use Rattle.kahn_streams.specs.Tokens.{Lists, inputs_of}
+use Rattle.kahn_streams.specs.Tokens.{Lists}
 use Rattle.kahn_code.specs.Cells.{is_output}
 use Rattle.kahn_code.specs.Standing.{count}
 use Rattle.kahn_job.specs.Works.{Work}
@@ -21,21 +20,20 @@ use Rattle.kahn_board.specs.Closing as closed
 use Rattle.kahn_board.specs.Closing.{Closes}
 use Rattle.kahn_board.specs.Counts.{below}
 use Rattle.kahn_board.specs.Dealt.{belongs, dealt, wired, events_of}
-use Rattle.kahn_board.specs.Rule.{Deal}
 use Rattle.kahn_board.specs.Wires.{wires, any_is, first_with}
 use Rattle.kahn_board.specs.declared.rule.Terms.{Terms}
 use Rattle.kahn_board.specs.declared.view.View.{View}
-use Rattle.kahn_crew.specs.Begins.{HasBegun, first_number, of_input, opening_task}
-use Rattle.kahn_crew.specs.Floors.{IsFloor, IsTaskOf}
-use Rattle.kahn_crew.specs.Left.{AreAll, HaveLeft, IsAtRest, task_events}
-use Rattle.kahn_crew.specs.Tasks.{Tasked, IsLater, count_on, handed, is_over, read_by, reads_at, told_of, told_on, waits_on, writes_at}
+use Rattle.kahn_crew.specs.Begins.{AreReady, HasBegun, all_events}
+use Rattle.kahn_crew.specs.Floors.{IsTaskOf}
+use Rattle.kahn_crew.specs.Left.{AreAll, AreUntouched, HaveGone, IsAtRest, IsOver, task_events}
+use Rattle.kahn_crew.specs.Tasks.{Tasked, IsLater, count_on, handed, read_by, reads_at, told_of, told_on, waits_on, writes_at}
 use Rattle.kahn_crew.specs.declared.standing.Standing.{Standing}
 use Rattle.kahn_crew.specs.declared.standing.Standing.TheVariants as standing
 use Rattle.kahn_crew.proofs.Found
 use Rattle.kahn_crew.proofs.Publishing.{handed_is}
-use Rattle.kahn_crew.proofs.Resting.{task_of}
-use Rattle.kahn_crew.proofs.Started.{at_both, both_at, there_is, mapped_at, at_mapped, some_same, floor_of, no_events}
-use Rattle.kahn_crew.proofs.Wirings.{channels_are, instances_are, reader_is, read_inside, reads_first, writes_first, writer_is}
+use Rattle.kahn_crew.proofs.Resting.{later_here, task_of}
+use Rattle.kahn_crew.proofs.Started.{at_both, both_at, mapped_at, at_mapped, some_same, floor_of}
+use Rattle.kahn_crew.proofs.Wirings.{instances_are, reads_first, writes_first, writer_is}
 
 -- ---- lists
 
@@ -127,7 +125,7 @@ module _ (t : Program) (is_wired : IsWellWired t) where
 
 -- ---- a run of a program
 
-module _ (lists : Lists) (watch : Option ℕ) (bound : ℕ) (key : Terms Tasked) (is_wired : IsWellWired key.network.value) (begun : HasBegun key.network.value lists watch bound key)
+module _ (lists : Lists) (watch : Option ℕ) (key : Terms Tasked) (is_wired : IsWellWired key.network.value) (begun : HasBegun key.network.value lists watch key)
     (tasks : List Tasked) (v : View) (budget : ℕ) (halted : Bool) (closes : Closes told_of (belongs IsLater key) (wired key) (dealt told_of key) (map Some tasks) v budget halted) where
   abbrev t : Program
   t = key.network.value
@@ -154,21 +152,13 @@ module _ (lists : Lists) (watch : Option ℕ) (bound : ℕ) (key : Terms Tasked)
 
   of_instance : (p : ℕ) (x : Tasked) → slice_get tasks p ≡ Some x → IsTaskOf t p x
   of_instance p x e =
-      task_of key t t p x (floor_of t lists watch bound key begun t t refl refl)
+      task_of key t t p x (floor_of t lists watch key begun t t refl refl)
       (let lt = within p x e in omega (arith, lt, instances_are t is_wired)) (belong p x e)
 
-  later : (p : ℕ) (w : Work) (x : Tasked) → slice_get begun.first.jobs p ≡ Some w → slice_get tasks p ≡ Some x → (y : Tasked) × (y.work ≡ w) × IsLater y x
-  later p w x e f = (
-    opening_task w,
-    refl,
-    belong p x f (opening_task w) (both_at key.cells.value.items p (opening_task w)
-        (subst (λ (l : List Tasked). slice_get l p ≡ Some (opening_task w)) (sym begun.first.each) (at_mapped opening_task begun.first.jobs p w e))),
-  )
+  later : (p : ℕ) (y x : Tasked) → slice_get key.cells.value.items p ≡ Some y → slice_get tasks p ≡ Some x → IsLater y x
+  later p y x e f = belong p x f y (both_at key.cells.value.items p y e)
 
-  no_first_events : events_of told_of key.cells.value.items ≡ 0
-  no_first_events = ap (events_of told_of) begun.first.each ∙ no_events begun.first.jobs (λ p w e. ((begun.first.opened.each p w e).0).events)
-
-  spent : v.loose ≡ 0 → budget + sum_by task_events tasks ≡ bound
+  spent : v.loose ≡ 0 → budget + sum_by task_events tasks ≡ all_events key
   spent none =
       let tally = closes.events.0 in
       let tells = closes.events.1 in
@@ -176,7 +166,7 @@ module _ (lists : Lists) (watch : Option ℕ) (bound : ℕ) (key : Terms Tasked)
       let all : budget + v.done ≡ key.bound = closes.budget_is in
       let sum : below tally (length tasks) ≡ sum_by task_events tasks = below_sum task_events tasks tally (λ p x e. tells p x (within p x e) (cell_at p x e)) in
       let same : below tally n ≡ below tally (length tasks) = ap (below tally) (sym many) in
-      omega (arith, adds, all, sum, same, none, no_first_events, begun.events)
+      omega (arith, adds, all, sum, same, none)
 
   -- all that was sent on a channel that an instance reads
   all_sent : (p q c k : ℕ) → actual_at (instance_at (network_of t) p) q ≡ Reads c →
@@ -184,7 +174,7 @@ module _ (lists : Lists) (watch : Option ℕ) (bound : ℕ) (key : Terms Tasked)
   all_sent p q c k at all = record {
     given = λ r.
         let lt : c < length (network_of t).channels = Sourced.reads_listed t is_wired p q c at in
-        all.0 (no_writer t is_wired c r) ∙ (begun.numbers c lt ∙ ap (λ x. of_input x (length (inputs_of lists c))) r);
+        all.0 (no_writer t is_wired c r) ∙ (begun.numbers c lt).given r;
     sent = λ r o z e h.
         let is = of_instance r z e in
         let w = z.work in
@@ -207,18 +197,19 @@ module _ (lists : Lists) (watch : Option ℕ) (bound : ℕ) (key : Terms Tasked)
       let took : count w.cell.taken q ≡ k = sym (ap (count_on w.cell.taken) first) ∙ tells.1 in
       inr (q, c, s.1, here, subst (AreAll t lists tasks c) (sym took) (all_sent p q c k at all))
 
-  left_here : v.loose ≡ 0 → v.stage ≡ 1 → HaveLeft t lists watch bound tasks budget halted
-  left_here none gone = record {
+  gone_here : v.loose ≡ 0 → HaveGone t lists watch (all_events key) key.cells.value.items tasks budget
+  gone_here none = record {
+    ready = begun.ready;
     count = many ∙ instances_are t is_wired;
-    jobs = begun.first.jobs;
-    opened = begun.first.opened;
     later = later;
     events = spent none;
-    over = by (closes.by_done gone);
   }
+
+  over_here : v.stage ≡ 1 → IsOver t lists tasks budget halted
+  over_here gone = by (closes.by_done gone)
     where
       by : (halted ≡ true) ⊎ ((budget ≡ 0) ⊎ ((p : ℕ) (y : Tasked) → p < n → get_elem? (map Some tasks) p ≡ some (Some y) → closed.IsAtRest told_of (belongs IsLater key) (wired key) (dealt told_of key) (map Some tasks) p y)) →
-          (halted ≡ true) ⊎ ((budget ≡ 0) ⊎ ((p : ℕ) (x : Tasked) → slice_get tasks p ≡ Some x → IsAtRest t lists tasks x))
+          IsOver t lists tasks budget halted
       by (inl h) = inl h
       by (inr (inl z)) = inr (inl z)
       by (inr (inr rest)) = inr (inr (λ p x e. at_rest p x e (rest p x (within p x e) (cell_at p x e))))
@@ -227,11 +218,100 @@ module _ (lists : Lists) (watch : Option ℕ) (bound : ℕ) (key : Terms Tasked)
 pub instances_of : (k t : Program) → k ≡ t → IsWellWired t → (wires k).instances ≡ length (network_of t).instances
 instances_of k t e is_wired = ap (λ (x : Program). (wires x).instances) e ∙ instances_are t is_wired
 
--- a run whose workers have all left
-pub have_left : (t : Program) (lists : Lists) (watch : Option ℕ) (bound : ℕ) (key : Terms Tasked) → IsWellWired t → HasBegun t lists watch bound key →
-    (cells : List (Option Tasked)) (tasks : List Tasked) (v : View) (budget : ℕ) (halted : Bool) → Closes told_of (belongs IsLater key) (wired key) (dealt told_of key) cells v budget halted →
-    cells ≡ map Some tasks → v.loose ≡ 0 → v.stage ≡ 1 → HaveLeft t lists watch bound tasks budget halted
-have_left t lists watch bound key is_wired begun cells tasks v budget halted closes are none gone =
-    subst (λ (k : Program). HaveLeft k lists watch bound tasks budget halted) begun.network
-    (left_here lists watch bound key (subst IsWellWired (sym begun.network) is_wired) (subst (λ (k : Program). HasBegun k lists watch bound key) (sym begun.network) begun) tasks v budget halted
-    (subst (λ (l : List (Option Tasked)). Closes told_of (belongs IsLater key) (wired key) (dealt told_of key) l v budget halted) are closes) none gone)
+-- ---- sums of events
+
+pub all_told : (xs : List Tasked) → sum_by task_events xs ≡ events_of told_of xs
+all_told [] = refl
+all_told (x ∷ xs) = let a = sum_by-cons task_events x xs in let b : sum_by task_events xs ≡ events_of told_of xs = all_told xs in omega (arith, a, b)
+
+-- later tasks have done no less
+abbrev Rise : List Tasked → List Tasked → Type 0
+Rise xs ys = (p : ℕ) (x y : Tasked) → slice_get xs p ≡ Some x → slice_get ys p ≡ Some y → x.work.cell.events ≤ y.work.cell.events
+
+sums_rise : (xs ys : List Tasked) → length ys ≡ length xs → Rise xs ys → sum_by task_events xs ≤ sum_by task_events ys
+sums_rise [] [] l h = omega arith
+sums_rise [] (y ∷ ys) l h = absurd (omega (arith, l))
+sums_rise (x ∷ xs) [] l h = absurd (omega (arith, l))
+sums_rise (x ∷ xs) (y ∷ ys) l h =
+    let a : sum_by task_events (x ∷ xs) ≡ x.work.cell.events + sum_by task_events xs = sum_by-cons task_events x xs in
+    let b : sum_by task_events (y ∷ ys) ≡ y.work.cell.events + sum_by task_events ys = sum_by-cons task_events y ys in
+    let e : x.work.cell.events ≤ y.work.cell.events = h zero x y refl refl in
+    let r : sum_by task_events xs ≤ sum_by task_events ys = sums_rise xs ys (omega (arith, l)) (λ p. h (suc p)) in
+    let s : sum_by task_events (x ∷ xs) ≤ sum_by task_events (y ∷ ys) = omega (arith, a, b, e, r) in
+    s
+
+-- and where all together did no more, none of them did
+none_rose : (xs ys : List Tasked) → length ys ≡ length xs → Rise xs ys → sum_by task_events ys ≡ sum_by task_events xs →
+    (p : ℕ) (x y : Tasked) → slice_get xs p ≡ Some x → slice_get ys p ≡ Some y → y.work.cell.events ≡ x.work.cell.events
+none_rose [] ys l h s p x y e f = absurd (none_some e)
+none_rose (z ∷ xs) [] l h s p x y e f = absurd (omega (arith, l))
+none_rose (z ∷ xs) (u ∷ ys) l h s zero x y e f =
+    let a : sum_by task_events (z ∷ xs) ≡ z.work.cell.events + sum_by task_events xs = sum_by-cons task_events z xs in
+    let b : sum_by task_events (u ∷ ys) ≡ u.work.cell.events + sum_by task_events ys = sum_by-cons task_events u ys in
+    let g : z.work.cell.events ≤ u.work.cell.events = h zero z u refl refl in
+    let r : sum_by task_events xs ≤ sum_by task_events ys = sums_rise xs ys (omega (arith, l)) (λ q. h (suc q)) in
+    let same : u.work.cell.events ≡ z.work.cell.events = omega (arith, a, b, g, r, s) in
+    ap task_events (sym (some_same u y f)) ∙ same ∙ ap task_events (some_same z x e)
+none_rose (z ∷ xs) (u ∷ ys) l h s (suc p) x y e f =
+    let a : sum_by task_events (z ∷ xs) ≡ z.work.cell.events + sum_by task_events xs = sum_by-cons task_events z xs in
+    let b : sum_by task_events (u ∷ ys) ≡ u.work.cell.events + sum_by task_events ys = sum_by-cons task_events u ys in
+    let g : z.work.cell.events ≤ u.work.cell.events = h zero z u refl refl in
+    let r : sum_by task_events xs ≤ sum_by task_events ys = sums_rise xs ys (omega (arith, l)) (λ q. h (suc q)) in
+    let same : sum_by task_events ys ≡ sum_by task_events xs = omega (arith, a, b, g, r, s) in
+    none_rose xs ys (omega (arith, l)) (λ q. h (suc q)) same p x y e f
+
+-- a run on whose board nobody works
+module _ (t : Program) (lists : Lists) (watch : Option ℕ) (key : Terms Tasked) (is_wired : IsWellWired t) (begun : HasBegun t lists watch key)
+    (cells : List (Option Tasked)) (tasks : List Tasked) (v : View) (budget : ℕ) (halted : Bool)
+    (closes : Closes told_of (belongs IsLater key) (wired key) (dealt told_of key) cells v budget halted) (are : cells ≡ map Some tasks) where
+  wired_key : IsWellWired key.network.value
+  wired_key = subst IsWellWired (sym begun.network) is_wired
+
+  begun_key : HasBegun key.network.value lists watch key
+  begun_key = subst (λ (k : Program). HasBegun k lists watch key) (sym begun.network) begun
+
+  closes_key : Closes told_of (belongs IsLater key) (wired key) (dealt told_of key) (map Some tasks) v budget halted
+  closes_key = subst (λ (l : List (Option Tasked)). Closes told_of (belongs IsLater key) (wired key) (dealt told_of key) l v budget halted) are closes
+
+  pub have_gone : v.loose ≡ 0 → HaveGone t lists watch (all_events key) key.cells.value.items tasks budget
+  have_gone none =
+      subst (λ (k : Program). HaveGone k lists watch (all_events key) key.cells.value.items tasks budget) begun.network
+      (gone_here lists watch key wired_key begun_key tasks v budget halted closes_key none)
+
+  pub untouched : v.loose ≡ 0 → v.done ≡ 0 → AreUntouched key.bound key.cells.value.items tasks budget
+  untouched none unused =
+      let gone = have_gone none in
+      let spent : budget + v.done ≡ key.bound = closes.budget_is in
+      let all : budget ≡ key.bound = omega (arith, spent, unused) in
+      let sum : budget + sum_by task_events tasks ≡ key.bound + events_of told_of key.cells.value.items = gone.events in
+      let first : sum_by task_events key.cells.value.items ≡ events_of told_of key.cells.value.items = all_told key.cells.value.items in
+      let same : sum_by task_events tasks ≡ sum_by task_events key.cells.value.items = omega (arith, all, sum, first) in
+      record {
+        unused = all;
+        cells = λ p x y e f.
+            (gone.later p x y e f).still
+            (none_rose key.cells.value.items tasks (gone.count ∙ sym gone.ready.count) (λ q u w g h. (gone.later q u w g h).events) same p x y e f);
+      }
+
+  pub is_over : v.stage ≡ 1 → IsOver t lists tasks budget halted
+  is_over gone =
+      subst (λ (k : Program). IsOver k lists tasks budget halted) begun.network
+      (over_here lists watch key wired_key begun_key tasks v budget halted closes_key gone)
+
+-- ---- tasks on which nobody worked
+
+pub untouched_gone : (t : Program) (lists : Lists) (watch : Option ℕ) (bound : ℕ) (first tasks : List Tasked) (budget : ℕ) → AreReady t lists watch first →
+    tasks ≡ first → budget ≡ bound → HaveGone t lists watch (bound + events_of told_of first) first tasks budget
+untouched_gone t lists watch bound first tasks budget ready same left =
+    subst (λ (l : List Tasked). HaveGone t lists watch (bound + events_of told_of first) first l budget) (sym same) (record {
+      ready = ready;
+      count = ready.count;
+      later = λ p x y e f. subst (IsLater x) (some_same x y (sym e ∙ f)) (later_here x);
+      events = let a : sum_by task_events first ≡ events_of told_of first = all_told first in omega (arith, a, left);
+    })
+
+pub untouched_here : (bound : ℕ) (first tasks : List Tasked) (budget : ℕ) → tasks ≡ first → budget ≡ bound → AreUntouched bound first tasks budget
+untouched_here bound first tasks budget same left = record {
+  unused = left;
+  cells = λ p x y e f. ap (λ (z : Tasked). z.work.cell) (sym (some_same x y (sym e ∙ subst (λ (l : List Tasked). slice_get l p ≡ Some y) same f)));
+}

@@ -1,5 +1,5 @@
 -- What is published agrees with what the seat knows.
-use Rattle.std.proofs.Common.{arith, ◌≡◌, ◌≢◌, ◌⊎◌, inl, inr, ℕ, ◌+◌, ◌<◌, ◌≤◌, ◌^◌, Bool, true, false, List, length, refl, sym, ap, ◌∙◌, subst, Option, Some, None, slice_set, slice_index_or, if◌then◌else◌}
+use Rattle.std.proofs.Common.{arith, ◌≡◌, ◌≢◌, inl, inr, ℕ, ◌+◌, ◌<◌, ◌≤◌, ◌^◌, Bool, true, false, length, refl, sym, ap, ◌∙◌, subst, Some, None, slice_set, if◌then◌else◌}
 use mathlib.Core.Logic.{dite}
 use native.Mathlib.Decide.{ℕ_discrete}
 use Rattle.std.proofs.lemmas.List.{get_or-set_same, get_or-set_other}
@@ -14,13 +14,13 @@ use Rattle.kahn_code.proofs.Readers.{joins_parameter}
 use Rattle.kahn_board.specs.Wires.{wires}
 use Rattle.kahn_board.specs.declared.view.View.{View}
 use Rattle.kahn_job.specs.Berths.{end_at}
-use Rattle.kahn_job.specs.Works.{Work}
+use Rattle.kahn_job.specs.Works.{Work, width_of}
 use Rattle.kahn_desk.specs.Turn.{Tells}
 use Rattle.kahn_board.specs.Plays.{SeesMore}
 use Rattle.kahn_job.specs.Works.{IsJob}
 use Rattle.kahn_code.specs.Told.{AreCounts}
 use Rattle.kahn_crew.specs.Floors.{HasKept, IsTaskOf}
-use Rattle.kahn_crew.specs.Tasks.{Tasked, AgreesWith, IsPublished, handed, width_of, written_by}
+use Rattle.kahn_crew.specs.Tasks.{Tasked, AgreesWith, IsPublished, handed, written_by}
 use Rattle.kahn_crew.proofs.Wirings.{target, writer_is, written_inside}
 
 none_some : {c : ℕ} → None ≡ Some c → ⊥

@@ -1,24 +1,23 @@
 -- A task that is set down.
-use Rattle.std.proofs.Common.{arith, ◌≡◌, ◌⊎◌, inl, inr, ⊎_elim, ℕ, zero, suc, ◌+◌, ◌-◌, ◌<◌, ◌≤◌, ◌^◌, false, List, [], ◌∷◌, length, refl, sym, ap, ◌∙◌, subst, Option, Some, None, slice_index}
+use Rattle.std.proofs.Common.{arith, ◌≡◌, ◌⊎◌, inl, inr, ⊎_elim, ℕ, zero, suc, ◌+◌, ◌<◌, ◌≤◌, ◌^◌, List, [], ◌∷◌, length, refl, sym, ap, ◌∙◌, subst, Option, Some, None, slice_index}
 use mathlib.Core.Option.{some}
 use lib.ListN.{get_elem?}
 use Rattle.kahn_tree.specs.declared.tree.Program.{Program}
-use Rattle.kahn_network.specs.Network.{Actual, Reads, Writes, Hands, network_of, instance_at, actual_at, role_at}
+use Rattle.kahn_network.specs.Network.{Reads, Writes, network_of, instance_at, actual_at, role_at}
 use Rattle.kahn_network.specs.Wiring.{IsWellWired}
 use Rattle.kahn_code.specs.Cells.{is_output}
 use Rattle.kahn_code.specs.Lines.{route_of}
 use Rattle.kahn_code.specs.Standing.{count}
-use Rattle.kahn_code.specs.Told.{AreCounts}
+use Rattle.kahn_code.specs.Told.{AreCounts, IsStill}
 use Rattle.kahn_streams.proofs.Dry.{dry_reads}
 use Rattle.kahn_board.specs.Dealt.{belongs}
-use Rattle.kahn_board.specs.Wires.{Wires, wires}
+use Rattle.kahn_board.specs.Wires.{wires}
 use Rattle.kahn_board.specs.Plays.{SeesMore}
-use Rattle.kahn_board.specs.Tale.{FlushedAll, TellsWait, sent_of, flushed_of}
+use Rattle.kahn_board.specs.Tale.{FlushedAll, flushed_of}
 use Rattle.kahn_board.specs.declared.rule.Terms.{Terms}
 use Rattle.kahn_board.specs.declared.view.View.{View}
 use Rattle.kahn_desk.specs.Turn.{Fits, Knows}
-use Rattle.kahn_job.specs.Berths.{HaveAdvanced, end_at}
-use Rattle.kahn_job.specs.Ends.{IsSame}
+use Rattle.kahn_job.specs.Berths.{HaveAdvanced}
 use Rattle.kahn_job.specs.Works.{Work, IsDelivered}
 use Rattle.kahn_crew.specs.declared.standing.Standing.TheVariants as standing
 use Rattle.kahn_crew.specs.declared.turn.Due.TheVariants as due
@@ -26,7 +25,7 @@ use Rattle.kahn_crew.specs.Floors.{IsFloor, IsTaskOf, HasKept}
 use Rattle.kahn_crew.specs.Rests.{IsDue}
 use Rattle.kahn_crew.specs.Tasks.{Tasked, AgreesWith, HasStanding, IsLater, IsPublished, count_on, handed, read_by, reads_at, told_of, told_on, waits_on, writes_at}
 use Rattle.kahn_crew.proofs.Wirings.{reads_first, writes_first, first_writes, reader_is, writer_is, read_inside, written_inside}
-use Rattle.kahn_crew.proofs.Publishing.{handed_is, inner_is}
+use Rattle.kahn_crew.proofs.Publishing.{handed_is}
 
 -- ---- later states
 
@@ -41,6 +40,8 @@ later_here x = record {
     same = λ q. record { reads = refl; writes = refl; lane = refl; name = refl };
     flushed = λ q. omega arith;
   };
+  events = omega arith;
+  still = λ e. refl;
 }
 
 pub later_still : (x y z : Tasked) → IsLater x y → IsLater y z → IsLater x z
@@ -59,6 +60,40 @@ later_still x y z a b = record {
     };
     flushed = λ q. omega (arith, a.ends.flushed q, b.ends.flushed q);
   };
+  events = let f = a.events in let g = b.events in omega (arith, f, g);
+  still = λ e.
+      let f = a.events in
+      let g = b.events in
+      let first : y.work.cell.events ≡ x.work.cell.events = omega (arith, e, f, g) in
+      let second : z.work.cell.events ≡ y.work.cell.events = omega (arith, e, f, g) in
+      b.still second ∙ a.still first;
+}
+
+-- a task that was run
+pub ran_later : (x y : Tasked) →
+    (y.work.cell.network ≡ x.work.cell.network) × (y.work.cell.input ≡ x.work.cell.input) × (y.work.cell.instance ≡ x.work.cell.instance) × (y.work.cell.watch ≡ x.work.cell.watch) →
+    HaveAdvanced x.work.ends y.work.ends → x.work.cell.events ≤ y.work.cell.events → (y.work.cell.events ≡ x.work.cell.events → IsStill x.work.cell y.work.cell) →
+    IsLater x y
+ran_later x y names ends events still = record {
+  network = names.0;
+  input = names.1;
+  instance = names.2;
+  watch = names.3;
+  ends = ends;
+  events = events;
+  still = λ e.
+      let s = still e in
+      λ i. record {
+        network = names.0 i;
+        input = names.1 i;
+        instance = names.2 i;
+        watch = names.3 i;
+        events = e i;
+        taken = s.0 i;
+        sent = s.1 i;
+        kept = s.2 i;
+        printed = s.3 i;
+      };
 }
 
 pub belongs_later : (key : Terms Tasked) (p : ℕ) (y x : Tasked) → belongs IsLater key p y → IsLater y x → belongs IsLater key p x
@@ -115,7 +150,7 @@ module _ (t : Program) (wired : IsWellWired t) where
       let at : actual_at (instance_at (network_of t) p) f.0 ≡ Writes c = sym (handed_is t wired w p f.0 is.0 is.1) ∙ h.0 in
       (written_inside t wired p f.0 c at, writer_is t wired p f.0 c at, sym f.2 ∙ agrees f.0 c h.0 h.1)
 
-  flushed_all : (x : Tasked) → x.work.cell.network ≡ t → ((o : ℕ) → IsPublished x o) → IsDelivered x.work → FlushedAll (told_of x)
+  pub flushed_all : (x : Tasked) → x.work.cell.network ≡ t → ((o : ℕ) → IsPublished x o) → IsDelivered x.work → FlushedAll (told_of x)
   flushed_all x n published delivered c k l e f =
       let w = x.work in
       let a = told_some w.cell.sent (writes_at w c) k e in
@@ -188,7 +223,7 @@ task_later t p y x is l = (l.network ∙ is.0, l.instance ∙ is.1)
 
 later_work : (x y z : Tasked) → IsLater x y → z.work ≡ y.work → IsLater x z
 later_work x y z l same = subst (λ (w : Work). IsLater x (record { work = w; standing = z.standing; published = z.published })) (sym same)
-    (record { network = l.network; input = l.input; instance = l.instance; watch = l.watch; ends = l.ends })
+    (record { network = l.network; input = l.input; instance = l.instance; watch = l.watch; ends = l.ends; events = l.events; still = l.still })
 
 pub task_work : (t : Program) (p : ℕ) (y x : Tasked) → IsTaskOf t p y → x.work ≡ y.work → IsTaskOf t p x
 task_work t p y x is same = (ap (λ (w : Work). w.cell.network) same ∙ is.0, ap (λ (w : Work). w.cell.instance) same ∙ is.1)

@@ -1,17 +1,14 @@
 -- What a task's standing says of its process.
-use Rattle.std.proofs.Common.{◌≡◌, ◌⊎◌, inl, inr, ℕ, length, refl, sym, ap, ◌∙◌, subst, Some}
+use Rattle.std.proofs.Common.{◌≡◌, ℕ, length, sym, ap, ◌∙◌, subst}
 use Rattle.kahn_network.specs.Network.{network_of, instance_at}
-use Rattle.kahn_streams.specs.Meaning.{Store}
-use Rattle.kahn_streams.specs.Script as script
 use Rattle.kahn_streams.specs.Tokens.{inputs_of}
 use Rattle.kahn_code.specs.declared.progress.Pause.{Pause}
 use Rattle.kahn_code.specs.declared.progress.Pause.TheVariants as pause
 use Rattle.kahn_code.specs.Progress.{Paused, IsPause}
 use Rattle.kahn_code.specs.Told.{told_view}
-use Rattle.kahn_job.specs.Works.{Work}
+use Rattle.kahn_job.specs.Works.{Work, width_of}
 use Rattle.kahn_crew.specs.declared.standing.Standing.{Standing}
-use Rattle.kahn_crew.specs.declared.standing.Standing.TheVariants as standing
-use Rattle.kahn_crew.specs.Tasks.{IsTrueOf, standing_after, width_of}
+use Rattle.kahn_crew.specs.Tasks.{IsTrueOf, standing_after}
 
 -- after a run the standing is that of the process
 pub true_after : (w : Work) (s : Standing) (z : Pause) (dry ready : ℕ → Type 0) (spent : Type 0) → s ≡ standing_after z →

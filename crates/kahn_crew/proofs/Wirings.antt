@@ -1,7 +1,6 @@
 -- Who reads and who writes a channel, by the numbers of instances and parameters.
-use Rattle.std.proofs.Common.{arith, ◌≡◌, ℕ, ◌+◌, ◌<◌, ◌==◌, Bool, true, false, length, refl, sym, ap, ◌∙◌, subst, Option, Some, None, eqb-true, slice_index_or, pos, if◌then◌else◌}
+use Rattle.std.proofs.Common.{arith, ◌≡◌, ℕ, ◌+◌, ◌<◌, ◌==◌, Bool, true, false, length, refl, sym, ap, ◌∙◌, subst, Option, Some, None, eqb-true, pos, if◌then◌else◌}
 use Rattle.kahn_tree.specs.declared.tree.Program.{Program}
-use Rattle.kahn_tree.specs.declared.tree.Role.{Role}
 use Rattle.kahn_tree.specs.Syntax.{Number}
 use Rattle.kahn_network.specs.Network.{Network, Actual, Reads, Writes, Hands, Written, is_written, network_of, instance_at, actual_at, role_at}
 use Rattle.kahn_network.specs.Sides.{IsOnly, IsWriter}
@@ -12,7 +11,7 @@ use Rattle.kahn_code.specs.Cells.{is_output}
 use Rattle.kahn_code.specs.Lines.{Joins, route_of}
 use Rattle.kahn_code.proofs.Readers.{joins_within, joins_parameter, reads_once}
 use Rattle.kahn_code.proofs.Driven.{driven}
-use Rattle.kahn_board.specs.Wires.{wires, is_read, any_is, first_with}
+use Rattle.kahn_board.specs.Wires.{wires, is_read}
 use Rattle.kahn_crew.specs.Tasks.{read_by, written_by, is_channel, first_that}
 use Rattle.kahn_crew.proofs.Found
 

@@ -1,12 +1,11 @@
 -- How the tasks of a run stand once all workers have left.
-use Rattle.std.specs.Prelude.{◌≡◌, ◌⊎◌, ℕ, ◌+◌, ◌<◌, Bool, true, List, length, sum_by, Option, Some, slice_get}
+use Rattle.std.specs.Prelude.{◌≡◌, ◌⊎◌, ℕ, ◌+◌, Bool, true, List, length, sum_by, Option, Some, slice_get}
 use Rattle.kahn_tree.specs.declared.tree.Program.{Program}
 use Rattle.kahn_tree.specs.declared.tree.Role.TheVariants.{Input}
 use Rattle.kahn_network.specs.Network.{Reads, Writes, network_of, role_at}
 use Rattle.kahn_streams.specs.Tokens.{Lists, inputs_of}
 use Rattle.kahn_code.specs.Standing.{count}
-use Rattle.kahn_job.specs.Works.{Work}
-use Rattle.kahn_job.specs.Openings.{AreOpening}
+use Rattle.kahn_crew.specs.Begins.{AreReady}
 use Rattle.kahn_crew.specs.declared.standing.Standing.TheVariants as standing
 use Rattle.kahn_crew.specs.Tasks.{Tasked, IsLater, handed, is_over}
 
@@ -24,13 +23,26 @@ IsAtRest t lists tasks x =
     (is_over x.standing ≡ true)
     ⊎ ((q d : ℕ) × (x.standing ≡ standing.Dry q) × (handed x.work q ≡ Reads d) × AreAll t lists tasks d (count x.work.cell.taken q))
 
--- the tasks of all instances after a run of at most `bound` events from their openings: so much of the bound is left,
--- and the run was halted, or the bound is used up, or all are at rest
-pub record HaveLeft (t : Program) (lists : Lists) (watch : Option ℕ) (bound : ℕ) (tasks : List Tasked) (budget : ℕ) (halted : Bool) : Type 0 where
+-- the run was halted, or the bound is used up, or all are at rest
+abbrev pub IsOver : Program → Lists → List Tasked → ℕ → Bool → Type 0
+IsOver t lists tasks budget halted =
+    (halted ≡ true) ⊎ ((budget ≡ 0) ⊎ ((p : ℕ) (x : Tasked) → slice_get tasks p ≡ Some x → IsAtRest t lists tasks x))
+
+-- the tasks of all instances once nobody works on them: they are those that were ready, later, and so much is left of the
+-- bound of all events
+pub record HaveGone (t : Program) (lists : Lists) (watch : Option ℕ) (bound : ℕ) (first tasks : List Tasked) (budget : ℕ) : Type 0 where
+  pub ready : AreReady t lists watch first
   pub count : length tasks ≡ length (network_of t).instances
-  pub jobs : List Work
-  pub opened : AreOpening t lists watch jobs
-  pub later : (p : ℕ) (w : Work) (x : Tasked) → slice_get jobs p ≡ Some w → slice_get tasks p ≡ Some x →
-      (y : Tasked) × (y.work ≡ w) × IsLater y x
+  pub later : (p : ℕ) (x y : Tasked) → slice_get first p ≡ Some x → slice_get tasks p ≡ Some y → IsLater x y
   pub events : budget + sum_by task_events tasks ≡ bound
-  pub over : (halted ≡ true) ⊎ ((budget ≡ 0) ⊎ ((p : ℕ) (x : Tasked) → slice_get tasks p ≡ Some x → IsAtRest t lists tasks x))
+
+-- nothing was done: each cell is as it was, and nothing of the bound is used
+pub record AreUntouched (bound : ℕ) (first tasks : List Tasked) (budget : ℕ) : Type 0 where
+  pub unused : budget ≡ bound
+  pub cells : (p : ℕ) (x y : Tasked) → slice_get first p ≡ Some x → slice_get tasks p ≡ Some y → y.work.cell ≡ x.work.cell
+
+-- so after a run of which all workers have left
+pub record HaveLeft (t : Program) (lists : Lists) (watch : Option ℕ) (bound : ℕ) (tasks : List Tasked) (budget : ℕ) (halted : Bool) : Type 0 where
+  pub first : List Tasked
+  pub gone : HaveGone t lists watch bound first tasks budget
+  pub over : IsOver t lists tasks budget halted

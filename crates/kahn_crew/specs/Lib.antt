@@ -5,3 +5,4 @@ pub mod Floors
 pub mod Rests
 pub mod Begins
 pub mod Crews
+pub mod Wants

@@ -1,6 +1,5 @@
 -- What contracts see of a task, and what it tells the board.
-use Rattle.std.specs.Prelude.{◌≡◌, ℕ, suc, Bool, true, false, List, [], ◌∷◌, length, Option, Some, None, if◌then◌else◌, ◌==◌}
-use Rattle.kahn_tree.specs.declared.tree.Program.{Program}
+use Rattle.std.specs.Prelude.{◌≡◌, ◌≤◌, ℕ, suc, Bool, true, false, List, [], ◌∷◌, Option, Some, None, if◌then◌else◌, ◌==◌}
 use Rattle.kahn_network.specs.Network.{Network, Actual, Reads, Writes, Hands, network_of, instance_at, actual_at, role_at}
 use Rattle.kahn_streams.specs.Meaning.{Store}
 use Rattle.kahn_streams.specs.Script.{Outcome, Dry as IsDryAt}
@@ -24,6 +23,9 @@ pub record Tasked : Type 0 where
   pub work : Work
   pub standing : Standing
   pub published : List ℕ
+
+abbrev pub work_of : Tasked → Work
+work_of x = x.work
 
 abbrev pub standing_after : Pause → Standing
 standing_after pause.Spent = standing.Going
@@ -49,9 +51,6 @@ IsTrueOf w standing.Going = Unit {0}
 IsTrueOf w standing.Ended = HasStanding w standing.Ended
 IsTrueOf w (standing.Faulted k) = HasStanding w (standing.Faulted k)
 IsTrueOf w (standing.Dry q) = HasStanding w (standing.Dry q)
-
-abbrev pub width_of : Work → ℕ
-width_of w = length (instance_at (network_of w.cell.network) w.cell.instance).actuals
 
 -- ---- what a task tells the board
 
@@ -123,13 +122,16 @@ tale_of t = record {
 abbrev pub told_of : Tasked → Option Tale
 told_of t = Some (tale_of t)
 
--- the second is a later state of the first: of the same instance of the same network and input, with the same ends
+-- the second is a later state of the first: of the same instance of the same network and input, with the same ends; and
+-- where it did no event, its cell is as it was
 pub record IsLater (old new : Tasked) : Type 0 where
   pub network : new.work.cell.network ≡ old.work.cell.network
   pub input : new.work.cell.input ≡ old.work.cell.input
   pub instance : new.work.cell.instance ≡ old.work.cell.instance
   pub watch : new.work.cell.watch ≡ old.work.cell.watch
   pub ends : HaveAdvanced old.work.ends new.work.ends
+  pub events : old.work.cell.events ≤ new.work.cell.events
+  pub still : new.work.cell.events ≡ old.work.cell.events → new.work.cell ≡ old.work.cell
 
 -- the second is the first after it met another one: its ends at most know more
 pub record HasMet (old new : Tasked) : Type 0 where

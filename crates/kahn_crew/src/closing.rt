@@ -1,17 +1,14 @@
 //! How a run ends: the board hands out its tasks.
 
-ghost use Rattle.std.specs.Prelude.{◌≡◌, ◌<◌, ◌≤◌, [], List, length, map, Some};
+ghost use Rattle.std.specs.Prelude.{◌≡◌, ◌≤◌, [], List, length, map, Some};
 ghost use Rattle.std.specs.Vec.{vec_capacity};
 ghost use Rattle.kahn_network.specs.Network.{network_of};
-ghost use Rattle.kahn_board.specs.Cuts.{IsFree};
-ghost use Rattle.kahn_board.specs.Rule.{all_parts};
-ghost use Rattle.kahn_crew.specs.Begins.{HasBegun};
+ghost use Rattle.kahn_crew.specs.Begins.{HasBegun, all_events};
 ghost use Rattle.kahn_crew.specs.Crews.{IsWhole};
-ghost use Rattle.kahn_crew.specs.Left.{HaveLeft};
+ghost use Rattle.kahn_crew.specs.Left.{AreUntouched, HaveGone, IsOver};
 ghost use Rattle.kahn_crew.specs.Tasks.{Tasked};
 
 use crate::left::Left;
-use crate::plan::Plan;
 use crate::task::Task;
 use kahn_board::{Board, Closed, Seat};
 use kahn_network::network::Network;
@@ -31,19 +28,22 @@ fn out_of_cells<'n>(mut cells: Vec<Option<Task<'n>>>, mut tasks: Vec<Task<'n>>) 
     tasks
 }
 
-/// What a run leaves whose workers have all left, by the board's one seat. It takes no memory.
+/// What is left of a run on whose board nobody works. Where all workers have left by themselves the run is over. It takes no
+/// memory.
 pub(crate) fn leave<'n>(
     board: Board<Task<'n>>,
     seat: Seat<Task<'n>>,
     room: Vec<Task<'n>>,
     network: &'n Network,
     input: &'n Input,
-    plan: Plan,
+    _watch: Option<usize>,
 ) -> Left<'n>
-    requires seat { IsWhole board.table.shared.table_id seat × (seat.seat.me.0.stage ≡ 1) }
-    requires begun { HasBegun network.now input.now plan.watch plan.bound board.table.shared.key }
+    requires seat { IsWhole board.table.shared.table_id seat }
+    requires begun { HasBegun network.now input.now _watch board.table.shared.key }
     requires room { (room.items ≡ []) × (length (network_of network.now).instances ≤ vec_capacity room) }
-    ensures { HaveLeft network.now input.now plan.watch plan.bound result.tasks.items result.budget result.halted }
+    ensures gone { HaveGone network.now input.now _watch (all_events board.entry.table.shared.key) board.entry.table.shared.key.cells.value.items result.tasks.items result.budget }
+    ensures untouched { seat.entry.seat.me.0.done ≡ 0 → AreUntouched board.entry.table.shared.key.bound board.entry.table.shared.key.cells.value.items result.tasks.items result.budget }
+    ensures over { seat.entry.seat.me.0.stage ≡ 1 → IsOver network.now input.now result.tasks.items result.budget result.halted }
 {
     let _program = network.program();
     let Closed {
@@ -58,13 +58,13 @@ pub(crate) fn leave<'n>(
     }
 }
 
-/// Closes a board on which nobody worked.
-pub(crate) fn discard<'n>(board: Board<Task<'n>>, seat: Seat<Task<'n>>)
-    requires { IsWhole board.table.shared.table_id seat }
+/// What is left where nobody worked at all.
+pub(crate) fn untouched<'n>(tasks: Vec<Task<'n>>, bound: u64) -> Left<'n>
+    ensures { (result.tasks.items ≡ tasks.entry.items) × (result.budget ≡ bound) }
 {
-    let Closed {
-        cells: _,
-        budget: _,
-        halted: _,
-    } = board.close(seat);
+    Left {
+        tasks,
+        budget: bound,
+        halted: false,
+    }
 }

@@ -1,22 +1,27 @@
 //! A crew: all workers of a run, each in a thread of its own where one can be made.
 
-ghost use Rattle.std.specs.Prelude.{◌≡◌, ◌<◌, ◌≤◌, ◌^◌, [], length, All, IfOk, IfErr};
+ghost use Rattle.std.specs.Prelude.{◌≡◌, ◌+◌, ◌<◌, ◌≤◌, ◌^◌, [], true, length, All, IfOk, IfErr, MatchResult};
 ghost use Rattle.std.specs.Vec.{vec_capacity};
-ghost use Rattle.kahn_board.specs.Rule.{all_parts};
+ghost use Rattle.kahn_network.specs.Network.{network_of};
+ghost use Rattle.kahn_board.specs.Dealt.{events_of};
 ghost use Rattle.kahn_desk.specs.Crew.{parts_of};
 ghost use Rattle.kahn_desk.specs.Turn.{IsIdle, IsSeatOf};
 ghost use Rattle.kahn_crew.specs.Crews.{HasGone, IsSeated, IsWhole, crew_parts};
 ghost use Rattle.kahn_crew.specs.Floors.{IsFloor};
-ghost use Rattle.kahn_crew.specs.Left.{HaveLeft};
+ghost use Rattle.kahn_crew.specs.Begins.{AreReady};
+ghost use Rattle.kahn_crew.specs.Left.{AreUntouched, HaveGone, HaveLeft, IsOver};
+ghost use Rattle.kahn_crew.specs.Tasks.{told_of};
+ghost use Rattle.kahn_crew.specs.Wants.{IsWant};
+ghost use Rattle.kahn_crew.specs.declared.fault.CrewFault.TheVariants.{NoMemory as NoMemoryFault};
 
-use crate::closing::{discard, leave};
+use crate::closing::{leave, untouched};
 use crate::fault::CrewFault;
 use crate::floor::Floor;
 use crate::gate::Gate;
 use crate::hints::Hints;
 use crate::labor::{Hand, Labored, labor_all};
 use crate::left::Left;
-use crate::opening::open_board;
+use crate::opening::{first_tasks, open_board};
 use crate::plan::Plan;
 use crate::rooms::Rooms;
 use crate::routes::Routes;
@@ -27,6 +32,7 @@ use kahn_code::code::Code;
 use kahn_desk::{join_all, split_all, stop};
 use kahn_network::network::Network;
 use kahn_streams::input::Input;
+use kahn_streams::memory::NoMemory;
 use std::alloc::Global;
 use std::sync::Wait;
 use std::thread::Threads;
@@ -120,6 +126,7 @@ fn work_all<'n, R: Threads + Wait + Sync, G: Gate + Sync>(
     ensures count { length result.hands.items ≡ length workers.entry.items }
     ensures each { All (HasGone floor.now.board.now.table.shared.table_id) result.hands.items }
     ensures sums { crew_parts result.hands.items ≡ crew_parts workers.entry.items }
+    ensures several { result.refused ≡ true → 1 < length workers.entry.items }
 {
     labor_all(rt, &Shift { rt, floor, gate }, workers)
 }
@@ -140,7 +147,9 @@ fn employ<'n, R: Threads + Wait + Sync, G: Gate + Sync>(
     requires few { (1 ≤ length rooms.hints.items) × (length rooms.hints.items ≤ 16) }
     requires rooms { (rooms.workers.items ≡ []) × (length rooms.hints.items ≤ vec_capacity rooms.workers) × (rooms.seats.items ≡ []) × (length rooms.hints.items ≤ vec_capacity rooms.seats) }
     ensures left { IfOk result (λ s. IsWhole floor.now.board.now.table.shared.table_id s × (s.seat.me.0.stage ≡ 1)) }
-    ensures refused { IfErr result (λ e. IsWhole floor.now.board.now.table.shared.table_id e.1) }
+    ensures refused { IfErr result (λ e. IsWant (length rooms.entry.hints.items) e.0 × IsWhole floor.now.board.now.table.shared.table_id e.1) }
+    // Where memory was refused nobody worked.
+    ensures idle { IfErr result (λ e. e.0 ≡ NoMemoryFault → e.1.seat.me.0.done ≡ seat.entry.seat.me.0.done) }
 {
     let Rooms {
         hints,
@@ -162,12 +171,85 @@ fn employ<'n, R: Threads + Wait + Sync, G: Gate + Sync>(
     }
 }
 
-/// Runs a network on its input by several workers, from the openings of all instances until every worker has left: the
-/// run was halted since memory was refused to a worker, or the bound is used up, or every instance has ended or waits
-/// on a channel of which it took all. One worker has the caller's thread, each other one a thread of its own.
+// What a crew takes memory for, before the board stands: the channels of all parameters, the rooms of so many workers, and
+// a list with room for the tasks that they leave.
+fn prepare<'n>(
+    alloc: Global,
+    network: &'n Network,
+    workers: usize,
+) -> Result<(Routes<'n>, Rooms<'n>, Vec<Task<'n>>), NoMemory>
+    requires { 0 < workers }
+    ensures routes { IfOk result (λ r. r.0 ≡ network.now) }
+    ensures hints { IfOk result (λ r. length r.1.hints.items ≡ workers) }
+    ensures workers { IfOk result (λ r. (r.1.workers.items ≡ []) × (workers ≤ vec_capacity r.1.workers)) }
+    ensures seats { IfOk result (λ r. (r.1.seats.items ≡ []) × (workers ≤ vec_capacity r.1.seats)) }
+    ensures tasks { IfOk result (λ r. (r.2.items ≡ []) × (length (network_of network.now).instances ≤ vec_capacity r.2)) }
+{
+    let routes = Routes::new(alloc, network)?;
+    let rooms = Rooms::new(alloc, workers, network.instances())?;
+    let room = Vec::with_capacity(alloc, network.instances())?;
+    Ok((routes, rooms, room))
+}
+
+/// Runs tasks that may go on by several workers, until every worker has left: the run was halted since memory was refused to
+/// a worker, or the bound is used up, or every instance has ended or waits on a channel of which it took all. One worker
+/// has the caller's thread, each other one a thread of its own.
+///
+/// It refuses with `NoMemory` only where memory was refused before the first event: each process is then as it was, and
+/// nothing of the bound is used. It refuses with `NoThread` where a thread couldn't be started, which one worker never
+/// takes. Those that were started are halted then, and it returns once they have left. The tasks come back with either, as
+/// they were left.
+pub fn run_tasks<'n, R: Threads + Wait + Sync, G: Gate + Sync>(
+    rt: &R,
+    alloc: Global,
+    network: &'n Network,
+    input: &'n Input,
+    code: &Code,
+    plan: Plan,
+    tasks: Vec<Task<'n>>,
+    gate: &G,
+) -> Result<Left<'n>, (CrewFault, Left<'n>)>
+    requires code { code.now.network.value ≡ network.now }
+    requires few { (1 ≤ plan.workers) × (plan.workers ≤ 16) }
+    requires quantum { 0 < plan.quantum }
+    requires ready { AreReady network.now input.now plan.watch tasks.items }
+    requires bound { plan.bound + events_of told_of tasks.items < 2 ^ 48 }
+    ensures gone { IfOk result (λ left. HaveGone network.now input.now plan.watch (plan.bound + events_of told_of tasks.entry.items) tasks.entry.items left.tasks.items left.budget) }
+    ensures over { IfOk result (λ left. IsOver network.now input.now left.tasks.items left.budget left.halted) }
+    ensures wants { IfErr result (λ e. IsWant plan.workers e.0) }
+    ensures refused { IfErr result (λ e. HaveGone network.now input.now plan.watch (plan.bound + events_of told_of tasks.entry.items) tasks.entry.items e.1.tasks.items e.1.budget) }
+    ensures untouched { IfErr result (λ e. e.0 ≡ NoMemoryFault → AreUntouched plan.bound tasks.entry.items e.1.tasks.items e.1.budget) }
+{
+    let Ok((routes, rooms, room)) = prepare(alloc, network, plan.workers) else {
+        return Err((CrewFault::NoMemory, untouched(tasks, plan.bound)));
+    };
+    let (board, seat) = match open_board(alloc, network, input, plan.watch, plan.bound, tasks) {
+        Ok(opened) => opened,
+        Err((_fault, tasks)) => {
+            return Err((CrewFault::NoMemory, untouched(tasks, plan.bound)));
+        }
+    };
+    let floor = Floor {
+        board: &board,
+        routes: &routes,
+        code,
+        quantum: plan.quantum,
+    };
+    match employ(rt, alloc, &floor, gate, seat, rooms) {
+        Ok(seat) => Ok(leave(board, seat, room, network, input, plan.watch)),
+        Err((fault, seat)) => {
+            let left = leave(board, seat, room, network, input, plan.watch);
+            Err((fault, left))
+        }
+    }
+}
+
+/// Runs a network on its input by several workers, from the openings of all instances until every worker has left, as
+/// `run_tasks` does.
 ///
 /// It refuses with `NoMemory` only where memory was refused before the first event, and with `NoThread` where a thread
-/// couldn't be started. Those that were started are halted then, and it returns once they have left.
+/// couldn't be started, which one worker never takes. Those that were started are halted then, and it returns once they
+/// have left.
 pub fn run_crew<'n, R: Threads + Wait + Sync, G: Gate + Sync>(
     rt: &R,
     alloc: Global,
@@ -181,23 +263,11 @@ pub fn run_crew<'n, R: Threads + Wait + Sync, G: Gate + Sync>(
     requires few { (1 ≤ plan.workers) × (plan.workers ≤ 16) }
     requires quantum { 0 < plan.quantum }
     requires bound { plan.bound < 2 ^ 48 }
-    ensures { IfOk result (λ left. HaveLeft network.now input.now plan.watch plan.bound left.tasks.items left.budget left.halted) }
+    ensures { MatchResult result (λ left. HaveLeft network.now input.now plan.watch plan.bound left.tasks.items left.budget left.halted) (IsWant plan.workers) }
 {
-    let routes = Routes::new(alloc, network)?;
-    let rooms = Rooms::new(alloc, plan.workers, network.instances())?;
-    let room = Vec::with_capacity(alloc, network.instances())?;
-    let (board, seat) = open_board(alloc, network, input, code, &routes, plan)?;
-    let floor = Floor {
-        board: &board,
-        routes: &routes,
-        code,
-        quantum: plan.quantum,
-    };
-    match employ(rt, alloc, &floor, gate, seat, rooms) {
-        Ok(seat) => Ok(leave(board, seat, room, network, input, plan)),
-        Err((fault, seat)) => {
-            discard(board, seat);
-            Err(fault)
-        }
+    let tasks = first_tasks(alloc, network, input, code, plan.watch)?;
+    match run_tasks(rt, alloc, network, input, code, plan, tasks, gate) {
+        Ok(left) => Ok(left),
+        Err((fault, _)) => Err(fault),
     }
 }

@@ -1,6 +1,6 @@
 //! Several that work at the same time.
 
-ghost use Rattle.std.specs.Prelude.{◌≡◌, ℕ, ◌<◌, length, All, slice_index_or};
+ghost use Rattle.std.specs.Prelude.{◌≡◌, ℕ, ◌<◌, true, length, All, slice_index_or};
 ghost use Rattle.std.specs.Vec.{vec_capacity};
 
 use std::snapshot::Snapshot;
@@ -39,7 +39,7 @@ impl<'c, C, T: Hand<C>> Promise<T> for Labor<'c, C, T> {
     ghost kept_by = { λ p r. T.did p.shared.now p.hand.value r };
 }
 
-/// All after their work, and whether a thread couldn't be started.
+/// All after their work, and whether a thread couldn't be started, which only several take.
 #[derive(Drop)]
 pub(crate) struct Labored<T> {
     pub(crate) hands: Vec<T>,
@@ -73,6 +73,7 @@ fn labor_from<'s, E, R: Threads, C: Sync + 's, T: Hand<C> + Send + Drop + 's>(
     ensures room { vec_capacity result.hands ≡ vec_capacity hands }
     ensures count { length result.hands.items ≡ length hands.items }
     ensures each { (i : ℕ) (d : T) → i < length hands.items → T.did shared.now (slice_index_or hands.items i d) (slice_index_or result.hands.items i d) }
+    ensures several { result.refused ≡ true → 1 < length hands.items }
 {
     let Some(hand) = hands.pop() else {
         return Labored {
@@ -124,6 +125,7 @@ pub(crate) fn labor_all<R: Threads + Wait + Sync, C: Sync, T: Hand<C> + Send + D
     ensures room { vec_capacity result.hands ≡ vec_capacity hands }
     ensures count { length result.hands.items ≡ length hands.items }
     ensures each { (i : ℕ) (d : T) → i < length hands.items → T.did shared.now (slice_index_or hands.items i d) (slice_index_or result.hands.items i d) }
+    ensures several { result.refused ≡ true → 1 < length hands.items }
 {
     thread::scope(
         thread::scope_env(),
@@ -133,6 +135,7 @@ pub(crate) fn labor_all<R: Threads + Wait + Sync, C: Sync, T: Hand<C> + Send + D
             ensures room { vec_capacity result.hands ≡ vec_capacity hands }
             ensures count { length result.hands.items ≡ length hands.items }
             ensures each { (i : ℕ) (d : T) → i < length hands.items → T.did shared.entry.now (slice_index_or hands.items i d) (slice_index_or result.hands.items i d) }
+            ensures several { result.refused ≡ true → 1 < length hands.items }
         { labor_from(rt, scope, shared, hands) },
     )
 }

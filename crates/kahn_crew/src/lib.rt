@@ -17,12 +17,15 @@ mod routes;
 mod standing;
 mod task;
 mod turn;
+mod waking;
 mod worker;
 
-pub use crew::run_crew;
+pub use crew::{run_crew, run_tasks};
 pub use fault::CrewFault;
 pub use gate::{Gate, Open};
 pub use left::Left;
+pub use opening::first_tasks;
 pub use plan::Plan;
 pub use standing::Standing;
 pub use task::Task;
+pub use waking::{rest_all, wake_all};

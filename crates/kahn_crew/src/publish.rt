@@ -3,8 +3,9 @@
 ghost use Rattle.std.specs.Prelude.{◌≡◌, ◌≢◌, ℕ, ◌<◌, ◌^◌, None, Option};
 ghost use Rattle.kahn_code.specs.Standing.{count};
 ghost use Rattle.kahn_desk.specs.Turn.{Holds, IsIdle, IsSeatOf};
+ghost use Rattle.kahn_job.specs.Works.{width_of};
 ghost use Rattle.kahn_crew.specs.Floors.{HasKept, IsFloor, IsTaskOf};
-ghost use Rattle.kahn_crew.specs.Tasks.{AgreesWith, IsPublished, Tasked, width_of};
+ghost use Rattle.kahn_crew.specs.Tasks.{AgreesWith, IsPublished, Tasked};
 
 use crate::floor::Floor;
 use crate::hints::Hints;

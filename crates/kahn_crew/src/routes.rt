@@ -85,14 +85,6 @@ impl<'n> Routes<'n> {
         let _program = self.network.program();
     }
 
-    /// How many parameters an instance has.
-    pub fn width(&self, instance: usize) -> usize
-        requires { instance < length (network_of self.now).instances }
-        ensures { result ≡ length (instance_at (network_of self.now) instance).actuals }
-    {
-        self.table[instance].len()
-    }
-
     /// The network.
     pub fn network(&self) -> &'n Network
         ensures { result.now ≡ self.now }

@@ -1,6 +1,6 @@
 //! A task: a job with what the workers have to know of it.
 
-ghost use Rattle.std.specs.Prelude.{◌≡◌, ℕ, ◌+◌, ◌*◌, ◌^◌, ◌<◌, ◌≤◌, true, length, map, replicate, slice_set, slice_index_or, IfOk, OnOk};
+ghost use Rattle.std.specs.Prelude.{◌≡◌, ℕ, ◌+◌, ◌*◌, ◌^◌, ◌<◌, ◌≤◌, true, length, map, slice_set, slice_index_or, IfOk, OnOk};
 ghost use Rattle.kahn_network.specs.Network.{network_of, instance_at};
 ghost use Rattle.kahn_streams.specs.Tokens.{inputs_of};
 ghost use Rattle.kahn_code.specs.Flat.{stmt_code};
@@ -9,9 +9,11 @@ ghost use Rattle.kahn_code.specs.Standing.{count};
 ghost use Rattle.kahn_code.specs.Told.{AreCounts, told_view};
 ghost use Rattle.kahn_job.specs.Ends.{IsDry, IsReady, ShareLane};
 ghost use Rattle.kahn_job.specs.Berths.{HaveFlushed, IsFed, end_at};
-ghost use Rattle.kahn_job.specs.Works.{IsDelivered, IsJob};
-ghost use Rattle.kahn_crew.specs.Tasks.{HasMet, IsLater, IsTrueOf, standing_after, width_of};
+ghost use Rattle.kahn_job.specs.Idles.{CanGoOn};
+ghost use Rattle.kahn_job.specs.Works.{IsDelivered, IsJob, width_of};
+ghost use Rattle.kahn_crew.specs.Begins.{ready_task, woken_task};
 ghost use Rattle.kahn_crew.specs.declared.standing.Standing.TheVariants.{Going as IsGoing};
+ghost use Rattle.kahn_crew.specs.Tasks.{HasMet, IsLater, IsTrueOf, standing_after};
 
 use crate::standing::Standing;
 use kahn_board::Told;
@@ -19,7 +21,9 @@ use kahn_code::cell::Kept;
 use kahn_code::code::Code;
 use kahn_code::progress::Pause;
 use kahn_code::steps::Steps;
-use kahn_job::Job;
+use kahn_job::{Idle, Job};
+use kahn_network::network::Network;
+use kahn_streams::input::Input;
 use kahn_streams::memory::NoMemory;
 use std::alloc::Global;
 use std::marker::Model;
@@ -39,7 +43,8 @@ impl<'n> Model for Task<'n> {
     ghost use Rattle.kahn_tree.specs.contracts.tree.Form as form;
     ghost use Rattle.std.specs.Coded.{codes};
     ghost use Rattle.std.specs.Prelude.{◌≡◌, length};
-    ghost use Rattle.kahn_crew.specs.Tasks.{Tasked, IsTrueOf, width_of};
+    ghost use Rattle.kahn_crew.specs.Tasks.{Tasked, IsTrueOf};
+    ghost use Rattle.kahn_job.specs.Works.{width_of};
 
     ghost Value = { Tasked };
 
@@ -58,18 +63,69 @@ impl<'n> Told for Task<'n> {
     ghost after = { IsLater };
 }
 
+// How many tokens a job sent on each of its parameters.
+fn sent_by(alloc: Global, job: &Job) -> Result<Vec<u64>, NoMemory>
+    ensures { IfOk result (λ v. v.items ≡ job.now.cell.sent) }
+{
+    job.sized();
+    let parameters = job.parameters();
+    let mut sent = Vec::with_capacity(alloc, parameters)?;
+    for parameter in 0..parameters {
+        sent.push_reserved(job.sent(parameter));
+    }
+    Ok(sent)
+}
+
+// The same numbers, written into a list with as many places.
+fn sent_into(job: &Job, mut numbers: Vec<u64>) -> Vec<u64>
+    requires { length numbers.items ≡ width_of job.now }
+    ensures { result.items ≡ job.now.cell.sent }
+{
+    job.sized();
+    for parameter in 0..numbers.len() {
+        numbers[parameter] = job.sent(parameter);
+    }
+    numbers
+}
+
 impl<'n> Task<'n> {
-    /// The task of a job with so many parameters, of which nothing is published.
-    pub fn new(alloc: Global, job: Job<'n>, parameters: usize) -> Result<Task<'n>, NoMemory>
-        requires { parameters ≡ width_of job }
-        ensures { IfOk result (λ t. t ≡ record { work = job.entry; standing = IsGoing; published = replicate parameters 0 }) }
+    /// The task of a job whose process may go on. All that it sent counts as published.
+    pub fn new(alloc: Global, job: Job<'n>) -> Result<Task<'n>, NoMemory>
+        ensures { IfOk result (λ t. t ≡ ready_task job.entry) }
     {
-        let published = vec![in alloc; 0; parameters]?;
-        Ok(Task {
+        let published = sent_by(alloc, &job)?;
+        Ok(Task::going(job, published))
+    }
+
+    /// The task of an idle job that goes on with an input for which its ends have settled. All that it sent counts as
+    /// published. It takes no memory.
+    pub fn woken(idle: Idle, network: &'n Network, input: &'n Input) -> Task<'n>
+        requires { CanGoOn network.now input.now idle }
+        ensures { result ≡ woken_task input.now idle }
+    {
+        let (job, numbers) = idle.wake(network, input);
+        let published = sent_into(&job, numbers);
+        Task::going(job, published)
+    }
+
+    // The task of a job whose process may go on, with the number of tokens published by each parameter.
+    fn going(job: Job<'n>, published: Vec<u64>) -> Task<'n>
+        requires { length published.items ≡ width_of job }
+        ensures { result ≡ record { work = job.entry; standing = IsGoing; published = published.items } }
+    {
+        Task {
             job,
             standing: Standing::Going,
             published,
-        })
+        }
+    }
+
+    /// The job of the task without its hold on the input. It takes no memory.
+    pub fn rest(self) -> Idle
+        ensures same { result ≡ self.entry.work }
+        ensures job { IsJob result }
+    {
+        self.job.rest(self.published)
     }
 
     /// Runs for at most so many events. What it sent may stand in open segments until `flush`. With a quantum of 0 it only

@@ -1,5 +1,5 @@
 -- Jobs before their first events, one by one.
-use Rattle.std.proofs.Common.{arith, ◌≡◌, ◌⊎◌, inl, inr, ℕ, zero, suc, ◌+◌, ◌<◌, ◌≤◌, List, [], ◌∷◌, ◌++◌, length, replicate, refl, sym, ap, ◌∙◌, subst, Option, Some, None, slice_get, slice_set, slice_index_or, length-append}
+use Rattle.std.proofs.Common.{arith, ◌≡◌, ◌⊎◌, inl, inr, ℕ, zero, suc, ◌+◌, ◌<◌, ◌≤◌, List, [], ◌∷◌, ◌++◌, length, replicate, refl, sym, ap, ◌∙◌, subst, Option, Some, slice_get, slice_set, slice_index_or, length-append}
 use Rattle.std.proofs.lemmas.List.{length-set}
 use Rattle.kahn_tree.specs.declared.tree.Program.{Program}
 use Rattle.kahn_network.specs.Network.{Actual, Reads, Writes, Hands, network_of, instance_at, actual_at}
@@ -7,11 +7,10 @@ use Rattle.kahn_network.specs.Wiring.{IsWellWired}
 use Rattle.kahn_network.proofs.Sourced.{reads_listed, writes_listed}
 use Rattle.kahn_streams.specs.Tokens.{Lists}
 use Rattle.kahn_code.specs.Lines.{Joins}
-use Rattle.kahn_code.specs.Seats.{Seat}
 use Rattle.kahn_code.specs.Standing.{count}
-use Rattle.kahn_code.specs.Told.{Told, IsAt, seat_of}
+use Rattle.kahn_code.specs.Told.{Told, seat_of}
 use Rattle.kahn_job.specs.Ends.{End, ShareLane}
-use Rattle.kahn_job.specs.Berths.{AreServed, Serves, end_at, seat_at}
+use Rattle.kahn_job.specs.Berths.{Serves, end_at, seat_at}
 use Rattle.kahn_job.specs.Works.{Work, IsManned}
 use Rattle.kahn_job.specs.Openings.{AreHanded, AreOpening, IsFresh, IsOpening, IsReadyRow, end_in}
 use Rattle.kahn_job.proofs.Handed.{row_else}

@@ -1,12 +1,11 @@
 -- Ends of an instance's channels, one of which changes.
-use Rattle.std.proofs.Common.{arith, ◌≡◌, ◌⊎◌, inl, inr, ℕ, zero, suc, ◌+◌, ◌<◌, ◌≤◌, List, [], ◌∷◌, length, map, refl, sym, ap, ◌∙◌, subst, Bool, true, false, Option, Some, None, slice_set, slice_index_or, le_of_suc-le-suc}
+use Rattle.std.proofs.Common.{arith, ◌≡◌, ◌⊎◌, inl, inr, ℕ, zero, suc, ◌+◌, ◌<◌, ◌≤◌, List, [], ◌∷◌, length, refl, sym, ap, ◌∙◌, subst, true, false, Some, slice_set, slice_index_or, le_of_suc-le-suc}
 use Rattle.std.proofs.lemmas.List.{length-set}
 use Rattle.kahn_tree.specs.declared.tree.Program.{Program}
 use Rattle.kahn_network.specs.Network.{Actual, Reads, Writes, Hands, network_of, instance_at, actual_at, role_at}
 use Rattle.kahn_streams.specs.declared.token.Token.{Token}
 use Rattle.kahn_streams.specs.declared.value.Line.TheVariants.{Channel}
 use Rattle.kahn_streams.specs.Tokens.{Lists}
-use Rattle.kahn_streams.specs.Streams.{IsOf}
 use Rattle.kahn_code.specs.Cells.{is_output}
 use Rattle.kahn_code.specs.Seats.{DoesRead, DoesWrite, Grows, IsRead, IsWritten, Stays, Moved}
 use Rattle.kahn_lane.specs.Places.{lane_name, token_name}

@@ -1,10 +1,9 @@
 -- Which types may go from one thread to another, or be shared by threads, part by part.
 --     network_sync      threads may share a network. Its trees hold one another, so this is searched for once, apart
 --     job_send          a job may go to another thread
-use denote.Enum.Declared as E
 use denote.Struct.Declared as S
 use denote.Ref.{NamedLft}
-use denote.Param.Send.{IsSend, IsSync, sendable, enum_send, struct_send, recorded_send, view_send, shr_send}
+use denote.Param.Send.{IsSend, IsSync, sendable, struct_send, recorded_send, view_send, shr_send}
 use Rattle.std.proofs.Crossing as std
 use Rattle.std.specs.contracts.alloc.Global as Heap
 use Rattle.std.specs.contracts.impls.GlobalAllocator.TheImpl.{ghosts}
@@ -15,15 +14,8 @@ use Rattle.kahn_streams.specs.contracts.input.Input as Input
 use Rattle.kahn_streams.proofs.input.Input.TheSendSync as input
 use Rattle.kahn_code.specs.contracts.cell.Cell as Cell
 use Rattle.kahn_code.proofs.cell.Cell.TheSendSync as cell
-use Rattle.kahn_lane.specs.contracts.segments.Receiver as Receiver
-use Rattle.kahn_lane.specs.contracts.segments.Sender as Sender
-use Rattle.kahn_lane.proofs.segments.Receiver.TheSendSync as receiver
-use Rattle.kahn_lane.proofs.segments.Sender.TheSendSync as sender
-use Rattle.kahn_job.specs.contracts.feed.Feed as Feed
-use Rattle.kahn_job.specs.contracts.feed.Feed.TheInside as InFeed
-use Rattle.kahn_job.specs.contracts.port.Way as Way
 use Rattle.kahn_job.specs.contracts.port.Port as Port
-use Rattle.kahn_job.specs.contracts.port.Port.TheInside as InPort
+use Rattle.kahn_job.proofs.port.Port.TheSendSync as port
 use Rattle.kahn_job.specs.contracts.ports.Ends as Ends
 use Rattle.kahn_job.specs.contracts.ports.Ends.TheInside as InEnds
 use Rattle.kahn_job.specs.contracts.job.Job as Job
@@ -35,30 +27,16 @@ network_sync = search (std.crosses, actions.crosses, forms.crosses, sendable) de
 input_sync : IsSync Input.the_row
 input_sync = input.the_sync
 
-receiver_send : IsSend (Receiver.the_field Heap.the_row ghosts).row
-receiver_send = receiver.the_field_send Heap.the_row ghosts std.send std.sync std.frees
-
-sender_send : IsSend (Sender.the_field Heap.the_row ghosts).row
-sender_send = sender.the_field_send Heap.the_row ghosts std.send std.sync std.frees
-
 cell_send : IsSend (Cell.the_row Heap.the_row ghosts)
 cell_send = search (cell.the_send, std.send, std.frees) depth 60
 
+port_send : IsSend Port.the_row
+port_send = search (port.the_send) depth 60
+
 module _ (a : NamedLft) where
-  feed_send : IsSend (Feed.the_row a)
-  feed_send = view_send (InFeed.the_row a) _ _ _ _ (recorded_send (InFeed.the_field a).row _ _ (InFeed.the_type a).to_one
-      (struct_send (S.shape (InFeed.the_type a)) (shr_send _ _ _ network_sync, (shr_send _ _ _ input_sync, (search sendable, (search sendable, tt))))))
-
-  way_send : IsSend (Way.the_field a).row
-  way_send = enum_send (E.shape (Way.the_type a)) ((receiver_send, tt), ((feed_send, tt), ((sender_send, tt), (tt, tt))))
-
-  port_send : IsSend (Port.the_row a)
-  port_send = view_send (InPort.the_row a) _ _ _ _ (recorded_send (InPort.the_field a).row _ _ (InPort.the_type a).to_one
-      (struct_send (S.shape (InPort.the_type a)) (way_send, tt)))
-
   ends_send : IsSend (Ends.the_row a)
   ends_send = view_send (InEnds.the_row a) _ _ _ _ (recorded_send (InEnds.the_field a).row _ _ (InEnds.the_type a).to_one
-      (struct_send (S.shape (InEnds.the_type a)) (shr_send _ _ _ network_sync, (shr_send _ _ _ input_sync, (search sendable, (std.Vec-send (Port.the_row a) port_send, tt))))))
+      (struct_send (S.shape (InEnds.the_type a)) (shr_send _ _ _ network_sync, (shr_send _ _ _ input_sync, (search sendable, (std.Vec-send Port.the_row port_send, tt))))))
 
   pub job_send : IsSend (Job.the_row a)
   job_send = view_send (InJob.the_row a) _ _ _ _ (recorded_send (InJob.the_field a).row _ _ (InJob.the_type a).to_one

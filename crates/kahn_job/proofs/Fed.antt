@@ -1,15 +1,12 @@
 -- What is ready at the end of an input channel is a value of its list.
-use Rattle.std.proofs.Common.{arith, ◌≡◌, ℕ, ◌<◌, length, refl, sym, ap, ◌∙◌, subst, Option, Some, None}
-use Rattle.kahn_tree.specs.declared.tree.Program.{Program}
+use Rattle.std.proofs.Common.{arith, ◌≡◌, ℕ, length, ap, ◌∙◌, Some, None}
 use Rattle.kahn_streams.specs.declared.value.Line.TheVariants.{Channel}
-use Rattle.kahn_streams.specs.declared.value.Value.{Value}
-use Rattle.kahn_streams.specs.Tokens.{Lists, inputs_of}
+use Rattle.kahn_streams.specs.Tokens.{inputs_of}
 use Rattle.kahn_lane.specs.declared.name.LaneName.{LaneName}
 use Rattle.kahn_lane.specs.Places.{lane_name}
-use Rattle.kahn_job.specs.Ends.{Lane, IsReady}
-use Rattle.kahn_job.specs.Feeding.{Feeding}
+use Rattle.kahn_job.specs.Ends.{Lane}
 use Rattle.kahn_job.specs.Berths.{IsFed}
-use Rattle.kahn_job.specs.Ways.{end_of, feeding}
+use Rattle.kahn_job.specs.Ways.{end_of}
 use Rattle.kahn_job.specs.declared.port.Way.{Way}
 use Rattle.kahn_job.specs.declared.port.Way.TheVariants as way
 

@@ -9,14 +9,12 @@ use Rattle.kahn_network.specs.Sides.{IsWriter, IsReader, IsOnly, IsWithin}
 use Rattle.kahn_network.specs.Wiring.{IsWellWired, side_at}
 use Rattle.kahn_network.specs.Sources.{IsFed}
 use Rattle.kahn_network.specs.declared.sides.Side.{Side}
-use Rattle.kahn_network.proofs.Sourced.{handed_within, reads, writes, reads_listed, writes_listed}
+use Rattle.kahn_network.proofs.Sourced.{handed_within, reads, writes}
 use Rattle.kahn_streams.specs.Tokens.{Lists}
 use Rattle.kahn_code.specs.Cells.{is_output}
 use Rattle.kahn_code.specs.Lines.{Joins}
-use Rattle.kahn_lane.specs.Places.{lane_name}
 use Rattle.kahn_job.specs.Ends.{End, ShareLane}
-use Rattle.kahn_job.specs.Ways.{nothing}
-use Rattle.kahn_job.specs.Berths.{Serves, AreServed, end_at}
+use Rattle.kahn_job.specs.Berths.{Serves, end_at}
 use Rattle.kahn_job.specs.Openings.{AreEndsOf, AreHanded, IsFresh, end_in, placed}
 use Rattle.kahn_job.proofs.Berthed as ends
 
@@ -57,7 +55,7 @@ abbrev pub HasPlace : List (List End) → Option Side → Type 0
 HasPlace rows side = (s : Side) → side ≡ Some s → (s.instance < length rows) × (s.parameter < length (slice_index_or rows s.instance []))
 
 -- a parameter has the new end or the old one
-abbrev Found : List (List End) → Option Side → End → ℕ → ℕ → Type 0
+abbrev pub Found : List (List End) → Option Side → End → ℕ → ℕ → Type 0
 Found rows side e p q =
     ((side ≡ Some (side_at p q)) × (end_in (placed rows side e) p q ≡ e))
     ⊎ ((side ≡ Some (side_at p q) → ⊥) × (end_in (placed rows side e) p q ≡ end_in rows p q))

@@ -1,6 +1,8 @@
 pub mod Berthed
 pub mod Manned
 pub mod Handed
+pub mod Settles
+pub mod Idles
 pub mod Bare
 pub mod Begun
 pub mod Fed

@@ -1,15 +1,10 @@
 -- Cells with the ends of their channels.
-use Rattle.std.proofs.Common.{◌≡◌, ℕ, ◌<◌, List, refl, sym, ap, ◌∙◌, subst, false, Result, Ok, Err, OnOk, length}
-use Rattle.kahn_tree.specs.declared.tree.Program.{Program}
-use Rattle.kahn_network.specs.Network.{Reads, Writes, network_of, instance_at, actual_at, role_at}
-use Rattle.kahn_streams.specs.Tokens.{Lists}
-use Rattle.kahn_code.specs.Cells.{is_output}
+use Rattle.std.proofs.Common.{◌≡◌, List, ◌∙◌, subst}
 use Rattle.kahn_code.specs.Seats.{Seat}
-use Rattle.kahn_code.specs.Standing.{count}
-use Rattle.kahn_code.specs.Told.{Told, IsAt, seat_of}
+use Rattle.kahn_code.specs.Told.{Told}
 use Rattle.kahn_job.specs.Ends.{End}
-use Rattle.kahn_job.specs.Berths.{Berth, AreServed, AreFlushed, HaveFlushed, HaveStayed, end_at, seat_at}
-use Rattle.kahn_job.specs.Works.{Work, IsManned, IsJob, IsDelivered}
+use Rattle.kahn_job.specs.Berths.{Berth, AreServed, AreFlushed, HaveFlushed, HaveStayed, seat_at}
+use Rattle.kahn_job.specs.Works.{IsManned, IsJob, IsDelivered}
 use Rattle.kahn_job.proofs.Berthed.{serves_written}
 
 abbrev seat_served : Seat → List End → Type 0

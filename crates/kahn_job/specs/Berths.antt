@@ -6,6 +6,7 @@ use Rattle.kahn_network.specs.Network.{Actual, Reads, Writes, Hands, network_of,
 use Rattle.kahn_streams.specs.Tokens.{Lists, inputs_of}
 use Rattle.kahn_code.specs.Cells.{is_output}
 use Rattle.kahn_code.specs.Seats.{Seat}
+use Rattle.kahn_lane.specs.declared.name.LaneName.{LaneName}
 use Rattle.kahn_lane.specs.Places.{lane_name}
 use Rattle.kahn_job.specs.Ends.{End, Identity, IsSame, IsReady, IsFlushed, identity_of}
 use Rattle.kahn_job.specs.Ways.{nothing}
@@ -28,6 +29,10 @@ abbrev pub Serves : Program → Lists → Actual → End → Type 0
 Serves t lists (Reads d) e = (e.reads ≡ true) × (e.name ≡ Some (lane_name t lists d)) × (role_at (network_of t) d ≡ Input → e.lane ≡ None)
 Serves t lists (Writes d) e = is_output (role_at (network_of t) d) ≡ false → (e.writes ≡ true) × (e.name ≡ Some (lane_name t lists d))
 Serves t lists (Hands v) e = Unit {0}
+
+-- a channel of which it is an end is one of this network, for this input
+abbrev pub IsFor : Program → Lists → End → Type 0
+IsFor t lists e = (n : LaneName) → e.name ≡ Some n → (n.network ≡ t) × (n.input ≡ lists)
 
 -- what is ready at the end of an input channel is a value of its list
 abbrev pub IsFed : End → Type 0

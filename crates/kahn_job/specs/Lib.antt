@@ -5,3 +5,5 @@ pub mod Ways
 pub mod Berths
 pub mod Works
 pub mod Openings
+pub mod Settling
+pub mod Idles

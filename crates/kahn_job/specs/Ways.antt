@@ -1,5 +1,5 @@
 -- What is seen of an end, by what it does.
-use Rattle.std.specs.Prelude.{ℕ, ◌-◌, true, false, length, Some, None}
+use Rattle.std.specs.Prelude.{◌-◌, true, false, length, Some, None}
 use Rattle.std.specs.VecDeque.{deque_len, deque_capacity}
 use Rattle.std.specs.declared.alloc.Global.{Global}
 use Rattle.kahn_streams.specs.Tokens.{inputs_of}

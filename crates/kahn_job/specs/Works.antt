@@ -1,8 +1,6 @@
 -- What contracts see of a job: a cell with the ends of its channels.
-use Rattle.std.specs.Prelude.{◌≡◌, ℕ, ◌<◌, false, List, [], length, Option, replicate}
-use Rattle.kahn_tree.specs.declared.tree.Program.{Program}
+use Rattle.std.specs.Prelude.{◌≡◌, ℕ, ◌<◌, false, List, length}
 use Rattle.kahn_network.specs.Network.{Writes, network_of, instance_at, actual_at, role_at}
-use Rattle.kahn_streams.specs.Tokens.{Lists}
 use Rattle.kahn_code.specs.Cells.{is_output}
 use Rattle.kahn_code.specs.Standing.{count}
 use Rattle.kahn_code.specs.Told.{Told, IsAt, seat_of}
@@ -13,6 +11,10 @@ use Rattle.kahn_job.specs.Berths.{Berth, AreServed, end_at, seat_at}
 pub record Work : Type 0 where
   pub cell : Told
   pub ends : List End
+
+-- how many parameters the process of the job has
+abbrev pub width_of : Work → ℕ
+width_of w = length (instance_at (network_of w.cell.network) w.cell.instance).actuals
 
 -- the ends are those of the cell's instance, and stand where the cell stands
 pub record IsManned (c : Told) (b : Berth) : Type 0 where

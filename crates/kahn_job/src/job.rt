@@ -8,8 +8,9 @@ ghost use Rattle.kahn_code.specs.Progress.{Paused, IsPause};
 ghost use Rattle.kahn_code.specs.Told.{AreCounts, told_view, IsStill};
 ghost use Rattle.kahn_job.specs.Ends.{IsDry, IsReady, ShareLane};
 ghost use Rattle.kahn_job.specs.Berths.{HaveAdvanced, HaveFlushed, HaveStayed, IsFed, end_at};
-ghost use Rattle.kahn_job.specs.Works.{IsDelivered, IsJob, IsManned};
+ghost use Rattle.kahn_job.specs.Works.{IsDelivered, IsJob, IsManned, width_of};
 
+use crate::idle::Idle;
 use crate::ports::Ends;
 use kahn_code::cell::{Cell, Kept};
 use kahn_code::code::Code;
@@ -165,6 +166,24 @@ impl<'n> Job<'n> {
         ensures { result ≡ (end_at self.now.ends parameter).flushed }
     {
         self.ends.flushed(parameter)
+    }
+
+    /// How many parameters its process has.
+    pub fn parameters(&self) -> usize
+        ensures { result ≡ width_of self.now }
+    {
+        self.cell.parameters()
+    }
+
+    /// The job without its hold on the input, with a list that has a number for each parameter. It takes no memory.
+    pub fn rest(self, numbers: Vec<u64>) -> Idle
+        requires { length numbers.items ≡ width_of self }
+        ensures same { result ≡ self.entry }
+        ensures job { IsJob result }
+    {
+        self.manned();
+        let (instance, ports) = self.ends.into_parts();
+        Idle::new(self.cell, instance, ports, numbers)
     }
 
     /// What its cell kept, without the job. It takes no memory.

@@ -57,12 +57,12 @@ fn opening_job<'n>(
     code: &Code,
     instance: usize,
     watch: Option<usize>,
-    row: Row<'n>,
+    row: Row,
 ) -> Result<Job<'n>, JobFault>
     requires code { code.now.network.value ≡ network.now }
     requires here { instance < length (network_of network.now).instances }
     requires row { IsReadyRow network.now input.now instance row }
-    ensures { IfOk result (λ job. IsOpening network.now input.now watch instance job.cell × (job.ends ≡ row.entry)) }
+    ensures { IfOk result (λ job. IsOpening network.now input.now watch instance job.cell × (job.ends ≡ row)) }
 {
     let cell = opening_cell(alloc, network, code, instance, watch, input)?;
     let ends = Ends::new(network, input, instance, row.into_ports());

@@ -1,16 +1,18 @@
 //! The end of a channel that a parameter has.
 
-ghost use Rattle.std.specs.Prelude.{◌≡◌, ◌⊎◌, ◌<◌, ◌≤◌, ◌+◌, ◌^◌, true, length, Some, IfSome, IfNone, IsSome, IsTrue, IsFalse, OnOk, MatchResult};
+ghost use Rattle.std.specs.Prelude.{◌≡◌, ◌⊎◌, ◌<◌, ◌≤◌, ◌+◌, ◌^◌, true, length, Some, IfSome, IfNone, IfOk, IfErr, IsSome, IsTrue, IsFalse, OnOk, MatchResult};
 ghost use Rattle.kahn_network.specs.Network.{network_of, role_at};
-ghost use Rattle.kahn_lane.specs.LaneEnds.{SameSender, flushed, sender_lane, sent};
-ghost use Rattle.kahn_lane.specs.Places.{token_name};
+ghost use Rattle.kahn_lane.specs.LaneEnds.{SameSender, flushed, sender_lane, sender_name, sent};
+ghost use Rattle.kahn_lane.specs.Places.{moved_to, token_name};
+ghost use Rattle.kahn_lane.specs.declared.name.LaneName.{LaneName};
 ghost use Rattle.kahn_tree.specs.declared.tree.Role.TheVariants.{Input as InputRole};
 ghost use Rattle.kahn_job.specs.Ends.{Advances, IsSame, IsReady, IsDry, HasRoom, IsFlushed, ShareLane};
-ghost use Rattle.kahn_job.specs.Berths.{HasStayed, IsFed};
+ghost use Rattle.kahn_job.specs.Berths.{HasStayed, IsFed, IsFor};
+ghost use Rattle.kahn_job.specs.Settling.{CanFeed, CanSettle, HasSettled};
 ghost use Rattle.kahn_job.specs.Ways.{taking, feeding, putting, nothing};
 
 use crate::feed::Feed;
-use kahn_lane::{Receiver, Sender, meet};
+use kahn_lane::{Receiver, Sender, meet, settle};
 use kahn_network::network::Network;
 use kahn_streams::input::Input;
 use kahn_streams::memory::NoMemory;
@@ -19,9 +21,9 @@ use std::marker::Model;
 
 // What a parameter does.
 #[derive(Drop)]
-pub(crate) enum Way<'n> {
+pub(crate) enum Way {
     Takes(Receiver),
-    Feeds(Feed<'n>),
+    Feeds(Feed),
     Puts(Sender),
     Nothing,
 }
@@ -29,11 +31,11 @@ pub(crate) enum Way<'n> {
 /// The end of a channel that a parameter has: it takes from an inner channel or from an input channel, or puts into an
 /// inner channel. A parameter that has a value or an output channel has no end.
 #[derive(Drop)]
-pub(crate) struct Port<'n> {
-    way: Way<'n>,
+pub(crate) struct Port {
+    way: Way,
 }
 
-impl<'n> Model for Port<'n> {
+impl Model for Port {
     ghost use Rattle.kahn_tree.specs.contracts.tree.Action as action;
     ghost use Rattle.kahn_tree.specs.contracts.tree.Form as form;
     ghost use Rattle.std.specs.Coded.{codes};
@@ -48,9 +50,9 @@ impl<'n> Model for Port<'n> {
     ghost view = { λ p. end_of p.way };
 }
 
-impl<'n> Port<'n> {
+impl Port {
     /// The reader's end of a lane.
-    pub(crate) fn takes(receiver: Receiver) -> Port<'n>
+    pub(crate) fn takes(receiver: Receiver) -> Port
         ensures { result ≡ taking receiver }
     {
         Port {
@@ -59,7 +61,7 @@ impl<'n> Port<'n> {
     }
 
     /// The list of an input channel, from its first value on.
-    pub(crate) fn feeds(network: &'n Network, input: &'n Input, channel: usize) -> Port<'n>
+    pub(crate) fn feeds(network: &Network, input: &Input, channel: usize) -> Port
         requires inside { channel < length (network_of network.now).channels }
         requires given { role_at (network_of network.now) channel ≡ InputRole }
         ensures { result ≡ feeding (record { network = network.now; input = input.now; channel = channel; next = 0 }) }
@@ -70,7 +72,7 @@ impl<'n> Port<'n> {
     }
 
     /// The writer's end of a lane.
-    pub(crate) fn puts(sender: Sender) -> Port<'n>
+    pub(crate) fn puts(sender: Sender) -> Port
         ensures { result ≡ putting sender }
     {
         Port {
@@ -79,15 +81,16 @@ impl<'n> Port<'n> {
     }
 
     /// No end.
-    pub(crate) fn nothing() -> Port<'n>
+    pub(crate) fn nothing() -> Port
         ensures { result ≡ nothing }
     {
         Port { way: Way::Nothing }
     }
 
     /// Whether the next `take` gives a token. It takes no memory.
-    pub(crate) fn ready(&mut self) -> bool
-        requires { self.old.reads ≡ true }
+    pub(crate) fn ready(&mut self, _network: &Network, input: &Input) -> bool
+        requires reads { self.old.reads ≡ true }
+        requires of { IsFor _network.now input.now self.old }
         ensures same { IsSame self.old self.new }
         ensures advances { Advances self.old self.new }
         ensures counts { (self.new.next ≡ self.old.next) × (self.new.known ≡ self.old.known) }
@@ -96,15 +99,16 @@ impl<'n> Port<'n> {
     {
         match &mut self.way {
             Way::Takes(receiver) => receiver.ready(),
-            Way::Feeds(feed) => feed.is_ready(),
+            Way::Feeds(feed) => feed.is_ready(input),
             Way::Puts(_) => false,
             Way::Nothing => false,
         }
     }
 
     /// The token of the next place. It takes no memory.
-    pub(crate) fn take(&mut self) -> Option<Token>
+    pub(crate) fn take(&mut self, network: &Network, input: &Input) -> Option<Token>
         requires reads { self.old.reads ≡ true }
+        requires of { IsFor network.now input.now self.old }
         requires bound { self.old.next < 2 ^ 48 }
         ensures same { IsSame self.old self.new }
         ensures advances { Advances self.old self.new }
@@ -116,7 +120,7 @@ impl<'n> Port<'n> {
     {
         match &mut self.way {
             Way::Takes(receiver) => receiver.take(),
-            Way::Feeds(feed) => feed.take(),
+            Way::Feeds(feed) => feed.take(network, input),
             Way::Puts(_) => None,
             Way::Nothing => None,
         }
@@ -175,9 +179,66 @@ impl<'n> Port<'n> {
         Ok(())
     }
 
+    /// Goes on with the list of another input, where it is the end of an input channel. It takes no memory.
+    pub(crate) fn regrow(&mut self, input: &Input)
+        requires { CanFeed input.now self.old }
+        ensures { (n : LaneName) → self.old.name ≡ Some n → HasSettled (moved_to input.now n) self.old self.new }
+    {
+        match &mut self.way {
+            Way::Takes(_) => unreachable!(),
+            Way::Feeds(feed) => feed.regrow(input),
+            Way::Puts(_) => unreachable!(),
+            Way::Nothing => unreachable!(),
+        }
+    }
+
+    /// With the reader's end of its lane: the two ends of a lane for an input that has grown. Where memory is refused both
+    /// come back as they were.
+    pub(crate) fn settle(
+        self,
+        reader: Port,
+        input: &Input,
+    ) -> Result<(Port, Port), (NoMemory, Port, Port)>
+        requires { CanSettle input.now self reader }
+        ensures lane { IfOk result (λ r. ShareLane r.0 r.1) }
+        ensures settled { IfOk result (λ r. (n : LaneName) → self.name ≡ Some n → HasSettled (moved_to input.now n) self r.0 × HasSettled (moved_to input.now n) reader r.1) }
+        ensures refused { IfErr result (λ e. (e.1 ≡ self) × (e.2 ≡ reader)) }
+    {
+        match self.way {
+            Way::Takes(_) => unreachable!(),
+            Way::Feeds(_) => unreachable!(),
+            Way::Puts(sender) => reader.settle_sender(sender, input),
+            Way::Nothing => unreachable!(),
+        }
+    }
+
+    // The same, where this is the reader's end.
+    fn settle_sender(
+        self,
+        sender: Sender,
+        input: &Input,
+    ) -> Result<(Port, Port), (NoMemory, Port, Port)>
+        requires { CanSettle input.now (putting sender) self }
+        ensures lane { IfOk result (λ r. ShareLane r.0 r.1) }
+        ensures settled { IfOk result (λ r. (n : LaneName) → sender_name sender ≡ Some n → HasSettled (moved_to input.now n) (putting sender) r.0 × HasSettled (moved_to input.now n) self r.1) }
+        ensures refused { IfErr result (λ e. (e.1 ≡ putting sender) × (e.2 ≡ self)) }
+    {
+        match self.way {
+            Way::Takes(receiver) => match settle(sender, receiver, input) {
+                Ok((sender, receiver)) => Ok((Port::puts(sender), Port::takes(receiver))),
+                Err((fault, sender, receiver)) => {
+                    Err((fault, Port::puts(sender), Port::takes(receiver)))
+                }
+            },
+            Way::Feeds(_) => unreachable!(),
+            Way::Puts(_) => unreachable!(),
+            Way::Nothing => unreachable!(),
+        }
+    }
+
     /// With the reader's end of its lane in one thread: how many tokens were flushed and not taken. The reader knows then
     /// of all that were flushed. It takes no memory.
-    pub(crate) fn meet(&mut self, reader: &mut Port<'n>) -> u64
+    pub(crate) fn meet(&mut self, reader: &mut Port) -> u64
         requires writes { self.old.writes ≡ true }
         requires reads { reader.old.reads ≡ true }
         requires lane { ShareLane self.old reader.old }

@@ -20,7 +20,7 @@ pub struct Ends<'n> {
     network: &'n Network,
     input: &'n Input,
     instance: usize,
-    ports: Vec<Port<'n>>,
+    ports: Vec<Port>,
 }
 
 impl<'n> Model for Ends<'n> {
@@ -62,11 +62,11 @@ impl<'n> Ports for Ends<'n> {
     ghost has_room = { λ s q. HasRoom (end_at s.ends q) };
 
     fn ready(&mut self, parameter: usize) -> bool {
-        self.ports[parameter].ready()
+        self.ports[parameter].ready(self.network, self.input)
     }
 
     fn take(&mut self, parameter: usize) -> Option<Token> {
-        self.ports[parameter].take()
+        self.ports[parameter].take(self.network, self.input)
     }
 
     fn room(&mut self, parameter: usize) -> Result<(), NoMemory> {
@@ -84,10 +84,10 @@ impl<'n> Ends<'n> {
         network: &'n Network,
         input: &'n Input,
         instance: usize,
-        ports: Vec<Port<'n>>,
+        ports: Vec<Port>,
     ) -> Ends<'n>
         requires { AreServed network.now input.now instance ports.items }
-        ensures { result ≡ record { network = network.now; input = input.now; instance = instance; ends = ports.entry.items } }
+        ensures { result ≡ record { network = network.now; input = input.now; instance = instance; ends = ports.items } }
     {
         Ends {
             network,
@@ -105,6 +105,13 @@ impl<'n> Ends<'n> {
         ensures all { OnOk result (AreFlushed self.new.ends) }
     {
         flush_all(&mut self.ports)
+    }
+
+    /// The instance and its ends, without their hold on the input.
+    pub(crate) fn into_parts(self) -> (usize, Vec<Port>)
+        ensures { (result.0 ≡ self.entry.instance) × (result.1.items ≡ self.entry.ends) }
+    {
+        (self.instance, self.ports)
     }
 
     /// Says that each parameter has the end of its channel: its contract is what it does.
@@ -163,12 +170,7 @@ impl<'n> Ends<'n> {
 }
 
 // A meeting of an end with one of another instance.
-fn meet_at<'n>(
-    writers: &mut [Port<'n>],
-    output: usize,
-    readers: &mut [Port<'n>],
-    input: usize,
-) -> u64
+fn meet_at(writers: &mut [Port], output: usize, readers: &mut [Port], input: usize) -> u64
     requires writes { (end_at writers.old output).writes ≡ true }
     requires reads { (end_at readers.old input).reads ≡ true }
     requires lane { ShareLane (end_at writers.old output) (end_at readers.old input) }
@@ -182,7 +184,7 @@ fn meet_at<'n>(
 }
 
 // A meeting of two ends of one instance.
-fn meet_within<'n>(ports: &mut [Port<'n>], output: usize, input: usize) -> u64
+fn meet_within(ports: &mut [Port], output: usize, input: usize) -> u64
     requires apart { output ≡ input → ⊥ }
     requires writes { (end_at ports.old output).writes ≡ true }
     requires reads { (end_at ports.old input).reads ≡ true }

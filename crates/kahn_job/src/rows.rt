@@ -20,11 +20,11 @@ use std::mem;
 
 /// The ends of an instance, by the number of the parameter.
 #[derive(Drop)]
-pub(crate) struct Row<'n> {
-    ports: Vec<Port<'n>>,
+pub(crate) struct Row {
+    ports: Vec<Port>,
 }
 
-impl<'n> Model for Row<'n> {
+impl Model for Row {
     ghost use Rattle.std.specs.Prelude.{List};
     ghost use Rattle.kahn_tree.specs.contracts.tree.Action as action;
     ghost use Rattle.kahn_tree.specs.contracts.tree.Form as form;
@@ -38,10 +38,10 @@ impl<'n> Model for Row<'n> {
     ghost view = { λ r. r.ports.items };
 }
 
-impl<'n> Row<'n> {
+impl Row {
     // So many parameters without an end.
     #[tactic(auto, using(crate::proofs::Handed::replicate_more))]
-    fn bare(alloc: Global, count: usize) -> Result<Row<'n>, JobFault>
+    fn bare(alloc: Global, count: usize) -> Result<Row, JobFault>
         ensures { IfOk result (λ r. r ≡ replicate count nothing) }
     {
         let mut ports = Vec::new(alloc);
@@ -52,16 +52,16 @@ impl<'n> Row<'n> {
     }
 
     // Gives a parameter its end.
-    fn set(&mut self, parameter: usize, port: Port<'n>)
+    fn set(&mut self, parameter: usize, port: Port)
         requires { parameter < length self.old }
-        ensures { self.new ≡ slice_set self.old parameter port.entry }
+        ensures { self.new ≡ slice_set self.old parameter port }
     {
         self.ports[parameter] = port;
     }
 
     /// The ends.
-    pub(crate) fn into_ports(self) -> Vec<Port<'n>>
-        ensures { result.items ≡ self.entry }
+    pub(crate) fn into_ports(self) -> Vec<Port>
+        ensures { result.items ≡ self }
     {
         self.ports
     }
@@ -78,9 +78,9 @@ fn width(routes: &[Vec<Option<usize>>], instance: usize) -> usize
 }
 
 // Puts an end where it belongs.
-fn place<'n>(rows: &mut [Row<'n>], side: Option<Side>, port: Port<'n>)
+fn place(rows: &mut [Row], side: Option<Side>, port: Port)
     requires { (s : SideOf) → side ≡ Some s → (s.instance < length rows.old) × (s.parameter < length (slice_index_or rows.old s.instance [])) }
-    ensures { rows.new ≡ placed rows.old side port.entry }
+    ensures { rows.new ≡ placed rows.old side port }
 {
     if let Some(side) = side {
         rows[side.instance].set(side.parameter, port);
@@ -88,12 +88,12 @@ fn place<'n>(rows: &mut [Row<'n>], side: Option<Side>, port: Port<'n>)
 }
 
 // The ends of a channel: the writer's and the reader's.
-fn ends_of<'n>(
+fn ends_of(
     alloc: Global,
-    network: &'n Network,
-    input: &'n Input,
+    network: &Network,
+    input: &Input,
     channel: usize,
-) -> Result<(Port<'n>, Port<'n>), JobFault>
+) -> Result<(Port, Port), JobFault>
     requires { channel < length (network_of network.now).channels }
     ensures { IfOk result (λ r. AreEndsOf network.now input.now channel r.0 r.1) }
 {
@@ -108,11 +108,11 @@ fn ends_of<'n>(
 }
 
 // Hands the ends of a channel to the parameters that it is handed to.
-fn hand<'n>(
+fn hand(
     alloc: Global,
-    network: &'n Network,
-    input: &'n Input,
-    rows: &mut [Row<'n>],
+    network: &Network,
+    input: &Input,
+    rows: &mut [Row],
     channel: usize,
 ) -> Result<(), JobFault>
     requires here { channel < length (network_of network.now).channels }
@@ -128,11 +128,7 @@ fn hand<'n>(
 
 // A row without ends for each instance.
 #[tactic(auto, using(crate::proofs::Bare::no_rows, crate::proofs::Bare::one_row, crate::proofs::Bare::all_bare))]
-fn bare_rows<'n>(
-    alloc: Global,
-    network: &'n Network,
-    _input: &'n Input,
-) -> Result<Vec<Row<'n>>, JobFault>
+fn bare_rows(alloc: Global, network: &Network, _input: &Input) -> Result<Vec<Row>, JobFault>
     ensures { IfOk result (λ rows. AreHanded network.now _input.now 0 rows.items) }
 {
     let table = routes(alloc, network)?;
@@ -144,11 +140,11 @@ fn bare_rows<'n>(
 }
 
 /// The ends of all channels: of an inner channel those of a new lane, of an input channel its list.
-pub(crate) fn all_rows<'n>(
+pub(crate) fn all_rows(
     alloc: Global,
-    network: &'n Network,
-    input: &'n Input,
-) -> Result<Vec<Row<'n>>, JobFault>
+    network: &Network,
+    input: &Input,
+) -> Result<Vec<Row>, JobFault>
     ensures { IfOk result (λ rows. AreHanded network.now input.now (length (network_of network.now).channels) rows.items) }
 {
     let mut rows = bare_rows(alloc, network, input)?;
@@ -159,7 +155,7 @@ pub(crate) fn all_rows<'n>(
 }
 
 /// The ends of an instance, which leave the rows.
-pub(crate) fn take_row<'n>(alloc: Global, rows: &mut Vec<Row<'n>>, instance: usize) -> Row<'n>
+pub(crate) fn take_row(alloc: Global, rows: &mut Vec<Row>, instance: usize) -> Row
     requires { instance < length rows.old.items }
     ensures { (result ≡ slice_index_or rows.old.items instance []) × (rows.new.items ≡ slice_set rows.old.items instance []) }
 {

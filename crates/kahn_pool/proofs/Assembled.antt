@@ -1,6 +1,6 @@
 -- An answer put together from cells at rest is right.
 use mathlib.Core.Path.{fun_ext}
-use Rattle.std.proofs.Common.{arith, ◌≡◌, ◌⊎◌, inl, inr, ℕ, zero, suc, ◌<◌, ◌≤◌, max, List, [], ◌∷◌, length, refl, sym, ap, ◌∙◌, subst, le_refl, not-suc-le-zero, Option, Some, None, slice_get, slice_index_or, pos}
+use Rattle.std.proofs.Common.{arith, ◌≡◌, ◌⊎◌, inl, inr, ℕ, zero, suc, ◌<◌, ◌≤◌, max, List, [], ◌∷◌, length, sum_by, refl, sym, ap, ◌∙◌, subst, le_refl, not-suc-le-zero, Option, Some, None, slice_get, slice_index_or, pos}
 use Rattle.kahn_streams.specs.declared.value.Line.{Line}
 use Rattle.kahn_streams.specs.declared.value.Line.TheVariants.{Channel, Print}
 use Rattle.kahn_tree.specs.Syntax.{Number}
@@ -23,13 +23,30 @@ use Rattle.kahn_pool.specs.declared.answer.Verdict.{Verdict}
 use Rattle.kahn_pool.specs.declared.answer.Verdict.TheVariants.{Finished, Bound, Memory}
 use Rattle.kahn_pool.specs.declared.answer.Outcome.{Outcome}
 use Rattle.kahn_pool.specs.declared.answer.Outcome.TheVariants.{Ended, Waits, Faulted, More}
-use Rattle.kahn_pool.specs.Right.{IsRight, IsOutcome, IsWaiting, IsDryOn, IsEnd, HasStream, HasEndAt, values_of}
-use Rattle.kahn_pool.specs.Gathered.{IsGathered, Stood, nothing, view_at, IsAtRest, IsFrom, IsGiven, IsTold, tapes_from}
+use Rattle.kahn_pool.specs.Right.{IsRight, IsOutcome, IsWaiting, IsDryOn, IsEnd, HasStream, events_of, values_of}
+use Rattle.kahn_pool.specs.Gathered.{IsGathered, IsStopped, Stood, nothing, view_at, IsAtRest, IsFrom, IsGiven, IsTold, tapes_from}
 use Rattle.kahn_pool.proofs.Lists.{stand_in, prefix_stands, both_stand, all_of_it, more_of_it, map_get}
 use Rattle.kahn_pool.proofs.Events.{same_sends, same_outcome, next_event, Moves}
 
-module _ (N : Network) (I : Inputs) (bound : ℕ) (watch : Option ℕ) (a : Answer) (g : IsGathered N I bound watch a) where
-  abbrev e : ℕ → ℕ
+-- ---- the ends of a run that stopped
+
+-- what is right of the verdict, the ends and the events, whatever streams there are
+pub record AreRight (N : Network) (I : Inputs) (bound : ℕ) (v : Verdict) (ends : List End) (events : ℕ) : Type 0 where
+  pub tapes : Histories
+  pub inputs : (c : Line) → source N c ≡ Given → tapes c ≡ input_list I c
+  pub others : (c : Line) → (n : ℕ) × IsPrefix (tapes c) (iterate N I n c)
+  pub instances : length ends ≡ length N.instances
+  pub does : (p : ℕ) (x : End) → slice_get ends p ≡ Some x → (exec_at N x.events p tapes).events ≡ x.events
+  pub sends : (p : ℕ) (x : End) → slice_get ends p ≡ Some x → (c : Line) → source N c ≡ Written p → out N x.events p tapes c ≡ tapes c
+  pub outcomes : (p : ℕ) (x : End) → slice_get ends p ≡ Some x → IsOutcome v N tapes p x.events x.outcome
+  pub total : events ≡ sum_by events_of ends
+  pub within : events ≤ bound
+  pub ended : v ≡ Finished → (p : ℕ) (x : End) → slice_get ends p ≡ Some x → IsEnd N I p x.outcome x.events
+  pub bounded : v ≡ Bound → (events ≡ bound) × ((p : ℕ) × (x : End) × (slice_get ends p ≡ Some x) × (x.outcome ≡ More))
+
+module _ (N : Network) (I : Inputs) (bound : ℕ) (watch : Option ℕ) (said : Verdict) (ends : List End) (done : ℕ)
+    (g : IsStopped N I bound watch said ends done) where
+  abbrev pub e : ℕ → ℕ
   e p = (view_at g.cells p).events
 
   -- ---- every instance, and what lies beyond them, is at rest
@@ -53,7 +70,7 @@ module _ (N : Network) (I : Inputs) (bound : ℕ) (watch : Option ℕ) (a : Answ
   idle_end = record { outcome = Ended; events = 0 }
 
   abbrev Rests : ℕ → Type 0
-  Rests p = (x : End) × IsAtRest N I watch g.cells a.verdict p x
+  Rests p = (x : End) × IsAtRest N I watch g.cells said p x
 
   idle_stood : (p : ℕ) (c : View) → c ≡ nothing → instance_at N p ≡ idle → Stood N I watch p c
   idle_stood p c v i =
@@ -66,7 +83,7 @@ module _ (N : Network) (I : Inputs) (bound : ℕ) (watch : Option ℕ) (a : Answ
         only = λ d. inl refl;
         gave = λ q d r. absurd (no_write d (subst (λ j. actual_at j q ≡ Writes d) i r));
         kept = λ q d r s. absurd (no_write d (subst (λ j. actual_at j q ≡ Writes d) i r));
-        printed = record { values = rw (i, v) refl; places = λ k t h. absurd (let f : slice_get [] k ≡ Some t = subst (λ w. slice_get w.printed k ≡ Some t) v h in cc) };
+        printed = record { values = rw (i, v) refl; places = λ k t h. absurd (no_print k t h); own = λ k t h. absurd (no_print k t h) };
       }
     where
       no_read : (d : ℕ) → Hands (Number (pos 0)) ≡ Reads d → ⊥
@@ -75,11 +92,14 @@ module _ (N : Network) (I : Inputs) (bound : ℕ) (watch : Option ℕ) (a : Answ
       no_write : (d : ℕ) → Hands (Number (pos 0)) ≡ Writes d → ⊥
       no_write d h = cc
 
-  rests_by : (p : ℕ) (r : Option End) → slice_get a.ends.items p ≡ r → Rests p
+      no_print : (k : ℕ) (t : Token) → slice_get c.printed k ≡ Some t → ⊥
+      no_print k t h = let f : slice_get [] k ≡ Some t = subst (λ w. slice_get w.printed k ≡ Some t) v h in cc
+
+  rests_by : (p : ℕ) (r : Option End) → slice_get ends p ≡ r → Rests p
   rests_by p (Some x) h = (x, g.each p x h)
   rests_by p None h =
-      let l : length a.ends.items ≤ p = none_at a.ends.items p h in
-      let n : length a.ends.items ≡ length N.instances = g.instances in
+      let l : length ends ≤ p = none_at ends p h in
+      let n : length ends ≡ length N.instances = g.instances in
       let m : length g.cells ≡ length N.instances = g.known in
       let i : instance_at N p ≡ idle = idle_at N.instances p (omega (arith, l, n)) in
       let v : view_at g.cells p ≡ nothing = nothing_at g.cells p (omega (arith, l, n, m)) in (
@@ -92,28 +112,28 @@ module _ (N : Network) (I : Inputs) (bound : ℕ) (watch : Option ℕ) (a : Answ
       )
 
   rest : (p : ℕ) → Rests p
-  rest p = rests_by p (slice_get a.ends.items p) refl
+  rest p = rests_by p (slice_get ends p) refl
 
-  rest_is : (p : ℕ) (x : End) → HasEndAt a p x → (rest p).0 ≡ x
+  rest_is : (p : ℕ) (x : End) → slice_get ends p ≡ Some x → (rest p).0 ≡ x
   unfolding rests_by rest
-  rest_is p x h = by (slice_get a.ends.items p) refl h
+  rest_is p x h = by (slice_get ends p) refl h
     where
       same_end : {y : End} → Some y ≡ Some x → y ≡ x
       same_end f = cc
 
-      by : (r : Option End) (f : slice_get a.ends.items p ≡ r) → r ≡ Some x → (rests_by p r f).0 ≡ x
+      by : (r : Option End) (f : slice_get ends p ≡ r) → r ≡ Some x → (rests_by p r f).0 ≡ x
       by (Some y) f k = same_end k
       by None f k = absurd cc
 
-  stood : (p : ℕ) → Stood N I watch p (view_at g.cells p)
+  pub stood : (p : ℕ) → Stood N I watch p (view_at g.cells p)
   stood p = (rest p).1.stood
 
   -- what each cell took
-  abbrev T : ℕ → Histories
+  abbrev pub T : ℕ → Histories
   T p = (stood p).tapes
 
   -- what was given to each line
-  abbrev A : Histories
+  abbrev pub A : Histories
   A = tapes_from N I e T
 
   -- ---- what was given stands
@@ -138,7 +158,7 @@ module _ (N : Network) (I : Inputs) (bound : ℕ) (watch : Option ℕ) (a : Answ
   reached : (c : Line) → (n : ℕ) × IsPrefix (A c) (iterate N I n c)
   reached c = reached_by c (source N c) refl
 
-  stands : (c : Line) → AllStand N I c (A c)
+  pub stands : (c : Line) → AllStand N I c (A c)
   stands c = prefix_stands N I c (A c) (reached c)
 
   -- ---- nobody took more than was given
@@ -246,40 +266,21 @@ module _ (N : Network) (I : Inputs) (bound : ℕ) (watch : Option ℕ) (a : Answ
           let r = more_of_it (T p (Channel m.1)) (A (Channel m.1)) (took_within p m.0 m.1 m.3) (omega (arith, x, y, z)) in
           inr (m.0, m.4, r.0, r.1, rw m.3 r.2)
 
-  ends_with : (p : ℕ) (x : End) → HasEndAt a p x → (x.events ≡ e p) × IsOutcome a.verdict N A p (e p) x.outcome
+  ends_with : (p : ℕ) (x : End) → slice_get ends p ≡ Some x → (x.events ≡ e p) × IsOutcome said N A p (e p) x.outcome
   unfolding stood
   ends_with p x h =
-      subst (λ y. (y.events ≡ e p) × IsOutcome a.verdict N A p (e p) y.outcome) (rest_is p x h)
-      ((rest p).1.count, outcome_by a.verdict p (rest p).0.outcome (rest p).1.told)
+      subst (λ y. (y.events ≡ e p) × IsOutcome said N A p (e p) y.outcome) (rest_is p x h)
+      ((rest p).1.count, outcome_by said p (rest p).0.outcome (rest p).1.told)
 
-  outcome : (p : ℕ) (x : End) → HasEndAt a p x → IsOutcome a.verdict N A p (e p) x.outcome
+  outcome : (p : ℕ) (x : End) → slice_get ends p ≡ Some x → IsOutcome said N A p (e p) x.outcome
   outcome p x h = (ends_with p x h).1
 
-  count : (p : ℕ) (x : End) → HasEndAt a p x → x.events ≡ e p
+  count : (p : ℕ) (x : End) → slice_get ends p ≡ Some x → x.events ≡ e p
   count p x h = (ends_with p x h).0
-
-  -- ---- streams
-
-  same_writer : {r p : ℕ} → Written r ≡ Written p → r ≡ p
-  same_writer h = cc
-
-  kept_by : (src : Source) (c : Line) (ts : List Token) → source N c ≡ src → IsFrom N I watch g.cells src c ts →
-      IsKept c (fed src I (λ p. out N (e p) p (T p) c) c) ts
-  kept_by Given (Channel c) ts s h = h
-  kept_by Given (Print r) ts s h = absurd h
-  kept_by (Written p) (Channel c) ts s h =
-      subst (IsKept (Channel c) (out N (e p) p (T p) (Channel c))) (sym h.3) ((stood p).kept h.0 c h.1 h.2)
-  kept_by (Written p) (Print r) ts s h =
-      subst (λ d. IsKept (Print d) (out N (e p) p (T p) (Print d)) ts) (sym (same_writer s))
-      (subst (IsKept (Print p) (out N (e p) p (T p) (Print p))) (sym h) (stood p).printed)
-  kept_by Nobody c ts s h = absurd h
-
-  kept : (s : Stream) → HasStream a s → IsKept s.line (A s.line) s.tokens.items
-  kept s h = kept_by (source N s.line) s.line s.tokens.items refl (g.streams s h)
 
   -- ---- a finished network is quiet
 
-  abbrev Over : ℕ → Type 0
+  abbrev pub Over : ℕ → Type 0
   Over p = (y : Ending) × (ending (exec_at N (e p) p A).outcome ≡ Some y)
 
   over_as : (p : ℕ) (out : Outcome) → IsOutcome Finished N A p (e p) out → (out ≡ More → ⊥) → Over p
@@ -288,25 +289,25 @@ module _ (N : Network) (I : Inputs) (bound : ℕ) (watch : Option ℕ) (a : Answ
   over_as p (Waits c) h m = (net.Waiting h.0, ap ending h.2)
   over_as p More h m = absurd (m refl)
 
-  module _ (f : a.verdict ≡ Finished) where
-    finished_outcome : (p : ℕ) (x : End) → HasEndAt a p x → IsOutcome Finished N A p (e p) x.outcome
+  module _ (f : said ≡ Finished) where
+    finished_outcome : (p : ℕ) (x : End) → slice_get ends p ≡ Some x → IsOutcome Finished N A p (e p) x.outcome
     finished_outcome p x h = subst (λ v. IsOutcome v N A p (e p) x.outcome) f (outcome p x h)
 
-    over_at : (p : ℕ) (r : Option End) → slice_get a.ends.items p ≡ r → Over p
+    over_at : (p : ℕ) (r : Option End) → slice_get ends p ≡ r → Over p
     over_at p (Some x) h = over_as p x.outcome (finished_outcome p x h) (g.finished f p x h)
     over_at p None h =
-        let l : length a.ends.items ≤ p = none_at a.ends.items p h in
-        let n : length a.ends.items ≡ length N.instances = g.instances in
+        let l : length ends ≤ p = none_at ends p h in
+        let n : length ends ≡ length N.instances = g.instances in
         let i : instance_at N p ≡ idle = idle_at N.instances p (omega (arith, l, n)) in
         (net.Ended, rw i refl)
 
-    over : (p : ℕ) → Over p
-    over p = over_at p (slice_get a.ends.items p) refl
+    pub over : (p : ℕ) → Over p
+    over p = over_at p (slice_get ends p) refl
 
     quiet : IsQuiet N I A (λ p. (over p).0) e
     quiet = record { inputs = inputs; reached = reached; ends = λ p. (over p).1; counts = does; sends = sends }
 
-    settles : IsSettled N I A (λ p. (over p).0) e
+    pub settles : IsSettled N I A (λ p. (over p).0) e
     settles = settled N I A (λ p. (over p).0) e quiet
 
     same_ending : {x y : Ending} → Some x ≡ Some y → x ≡ y
@@ -321,34 +322,88 @@ module _ (N : Network) (I : Inputs) (bound : ℕ) (watch : Option ℕ) (a : Answ
     end_as p (Waits c) h m = (h.0, h.1, end_by p (net.Waiting h.0) (ap ending h.2))
     end_as p More h m = m refl
 
-    end_of : (p : ℕ) (x : End) → HasEndAt a p x → IsEnd N I p x.outcome x.events
+    end_of : (p : ℕ) (x : End) → slice_get ends p ≡ Some x → IsEnd N I p x.outcome x.events
     end_of p x h = subst (IsEnd N I p x.outcome) (sym (count p x h)) (end_as p x.outcome (finished_outcome p x h) (g.finished f p x h))
 
-    whole : (s : Stream) → HasStream a s → IsWhole N I s.line (values_of s)
-    whole s h = subst (IsWhole N I s.line) (sym (kept s h).values) (settles.0 s.line)
-
-  tokens : (s : Stream) (k : ℕ) (t : Token) → HasStream a s → slice_get s.tokens.items k ≡ Some t →
-      (t.line ≡ s.line) × (t.place ≡ k) × Stands N I s.line k t.value
-  tokens s k t h x =
-      let at = (kept s h).places k t x in
-      (at.0, at.1, stands s.line k t.value (subst (λ l. slice_get l k ≡ Some t.value) (kept s h).values (map_get s.tokens.items k t x)))
-
-  pub assembled : IsRight N I bound watch a
-  assembled =
+  pub are_right : AreRight N I bound said ends done
+  are_right =
       record {
-        named = g.lines;
-        tokens = tokens;
         tapes = A;
         inputs = inputs;
         others = reached;
         instances = g.instances;
         does = λ p x h. subst (λ n. (exec_at N n p A).events ≡ n) (sym (count p x h)) (does p);
         sends = λ p x h c s. subst (λ n. out N n p A c ≡ A c) (sym (count p x h)) (sends c p s);
-        values = λ s h. (kept s h).values;
-        outcomes = λ p x h. subst (λ n. IsOutcome a.verdict N A p n x.outcome) (sym (count p x h)) (outcome p x h);
+        outcomes = λ p x h. subst (λ n. IsOutcome said N A p n x.outcome) (sym (count p x h)) (outcome p x h);
         total = g.total;
         within = g.within;
-        whole = whole;
         ended = end_of;
         bounded = g.bounded;
+      }
+
+-- ---- an answer
+
+module _ (N : Network) (I : Inputs) (bound : ℕ) (watch : Option ℕ) (a : Answer) (g : IsGathered N I bound watch a) where
+  abbrev given : Histories
+  given = A N I bound watch a.verdict a.ends.items a.events g.stopped
+
+  abbrev done_by : ℕ → ℕ
+  done_by = e N I bound watch a.verdict a.ends.items a.events g.stopped
+
+  abbrev took : ℕ → Histories
+  took = T N I bound watch a.verdict a.ends.items a.events g.stopped
+
+  stands_for : (p : ℕ) → Stood N I watch p (view_at g.stopped.cells p)
+  stands_for = stood N I bound watch a.verdict a.ends.items a.events g.stopped
+
+  -- ---- streams
+
+  same_writer : {r p : ℕ} → Written r ≡ Written p → r ≡ p
+  same_writer h = cc
+
+  kept_by : (src : Source) (c : Line) (ts : List Token) → source N c ≡ src → IsFrom N I watch g.stopped.cells src c ts →
+      IsKept N I c (fed src I (λ p. out N (done_by p) p (took p) c) c) ts
+  unfolding stood stands_for
+  kept_by Given (Channel c) ts s h = h
+  kept_by Given (Print r) ts s h = absurd h
+  kept_by (Written p) (Channel c) ts s h =
+      subst (IsKept N I (Channel c) (out N (done_by p) p (took p) (Channel c))) (sym h.3) ((stands_for p).kept h.0 c h.1 h.2)
+  kept_by (Written p) (Print r) ts s h =
+      subst (λ d. IsKept N I (Print d) (out N (done_by p) p (took p) (Print d)) ts) (sym (same_writer s))
+      (subst (IsKept N I (Print p) (out N (done_by p) p (took p) (Print p))) (sym h) (stands_for p).printed)
+  kept_by Nobody c ts s h = absurd h
+
+  kept : (s : Stream) → HasStream a s → IsKept N I s.line (given s.line) s.tokens.items
+  kept s h = kept_by (source N s.line) s.line s.tokens.items refl (g.streams s h)
+
+  whole : a.verdict ≡ Finished → (s : Stream) → HasStream a s → IsWhole N I s.line (values_of s)
+  whole f s h = subst (IsWhole N I s.line) (sym (kept s h).values) ((settles N I bound watch a.verdict a.ends.items a.events g.stopped f).0 s.line)
+
+  tokens : (s : Stream) (k : ℕ) (t : Token) → HasStream a s → slice_get s.tokens.items k ≡ Some t →
+      (t.line ≡ s.line) × (t.place ≡ k) × Stands N I s.line k t.value
+  tokens s k t h x =
+      let at = (kept s h).places k t x in
+      (at.0, at.1, stands N I bound watch a.verdict a.ends.items a.events g.stopped s.line k t.value (subst (λ l. slice_get l k ≡ Some t.value) (kept s h).values (map_get s.tokens.items k t x)))
+
+  pub assembled : IsRight N I bound watch a
+  unfolding are_right
+  assembled =
+      let r = are_right N I bound watch a.verdict a.ends.items a.events g.stopped in
+      record {
+        named = g.lines;
+        tokens = tokens;
+        own = λ s k t h x. (kept s h).own k t x;
+        tapes = r.tapes;
+        inputs = r.inputs;
+        others = r.others;
+        instances = r.instances;
+        does = r.does;
+        sends = r.sends;
+        values = λ s h. (kept s h).values;
+        outcomes = r.outcomes;
+        total = r.total;
+        within = r.within;
+        whole = whole;
+        ended = r.ended;
+        bounded = r.bounded;
       }

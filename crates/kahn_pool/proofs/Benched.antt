@@ -1,9 +1,6 @@
 -- Cells that stand where their queues stand.
 use Rattle.std.proofs.Common.{arith, ◌≡◌, ◌⊎◌, inl, inr, ℕ, zero, suc, ◌+◌, ◌<◌, ◌≤◌, List, [], ◌∷◌, length, map, refl, sym, ap, ◌∙◌, subst, Option, Some, None, slice_get, slice_set, slice_index_or, false, le_of_suc-le-suc, length-set}
-use Rattle.kahn_tree.specs.declared.tree.Program.{Program}
-use Rattle.kahn_tree.specs.declared.tree.Role.TheVariants.{Inner, Input}
-use Rattle.kahn_network.specs.Network.{Network, Reads, Writes, Source, Given, Written, network_of, instance_at, actual_at, role_at, channel_source}
-use Rattle.kahn_network.specs.Wiring.{IsWellWired}
+use Rattle.kahn_network.specs.Network.{Network, Reads, Writes, network_of, instance_at, actual_at, role_at}
 use Rattle.kahn_network.specs.Sources.{IsFed}
 use Rattle.kahn_network.proofs.Sourced.{reads}
 use Rattle.kahn_streams.specs.declared.value.Line.TheVariants.{Channel}

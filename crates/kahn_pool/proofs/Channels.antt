@@ -123,8 +123,8 @@ module _ (N : Network) (I : Inputs) (watch : Option ℕ) (p : ℕ) (c : View) (o
         took = λ q d r. ap length (here q d r) ∙ s.took q;
         only = only_at;
         gave = λ q d r. ap length (same_sends (Channel d)) ∙ s.gave q d r;
-        kept = λ q d r h. subst (λ l. IsKept (Channel d) l (c.kept q)) (sym (same_sends (Channel d))) (s.kept q d r h);
-        printed = subst (λ l. IsKept (Print p) l c.printed) (sym (same_sends (Print p))) s.printed;
+        kept = λ q d r h. subst (λ l. IsKept N I (Channel d) l (c.kept q)) (sym (same_sends (Channel d))) (s.kept q d r h);
+        printed = subst (λ l. IsKept N I (Print p) l c.printed) (sym (same_sends (Print p))) s.printed;
       }
 
   pub by_channel : Stood N I watch p c

@@ -1,8 +1,7 @@
 -- The ends of tasks.
-use Rattle.std.proofs.Common.{arith, ◌≡◌, ◌⊎◌, inl, inr, ℕ, zero, suc, ◌+◌, ◌<◌, ◌≤◌, List, [], ◌∷◌, ◌++◌, length, refl, sym, ap, ◌∙◌, subst, Option, Some, None, slice_get, slice_index_or, length-append}
+use Rattle.std.proofs.Common.{arith, ◌≡◌, ◌⊎◌, inl, inr, ℕ, zero, suc, ◌<◌, List, [], ◌∷◌, ◌++◌, length, refl, sym, ap, ◌∙◌, subst, Some, None, slice_get, length-append}
 use Rattle.kahn_tree.specs.declared.tree.Program.{Program}
-use Rattle.kahn_tree.specs.declared.tree.Role.TheVariants.{Inner, Input}
-use Rattle.kahn_network.specs.Network.{Actual, Reads, Writes, network_of, instance_at, actual_at, role_at}
+use Rattle.kahn_network.specs.Network.{Reads, Writes, network_of, instance_at, actual_at}
 use Rattle.kahn_network.specs.Sides.{IsWriter, IsReader, IsOnly}
 use Rattle.kahn_network.specs.Sources.{IsFed}
 use Rattle.kahn_network.specs.Wiring.{IsWellWired, side_at}
@@ -15,9 +14,8 @@ use Rattle.kahn_code.specs.Standing.{count}
 use Rattle.kahn_crew.specs.declared.standing.Standing.TheVariants as standing
 use Rattle.kahn_crew.specs.Tasks.{Tasked, handed}
 use Rattle.kahn_crew.specs.Left.{AreAll}
-use Rattle.kahn_pool.specs.Rested.{AreEndsOf, AreTold, IsDryOf, IsEndOf, IsToldAs}
+use Rattle.kahn_pool.specs.Rested.{AreEndsOf, AreTold, IsEndOf, IsToldAs}
 use Rattle.kahn_pool.specs.declared.answer.End.{End}
-use Rattle.kahn_pool.specs.declared.answer.Outcome.{Outcome}
 use Rattle.kahn_pool.specs.declared.answer.Outcome.TheVariants as outcome
 use Rattle.kahn_pool.proofs.Turns.{push_get}
 

@@ -228,7 +228,7 @@ module _ {A : Type 0} (s : State) (ls : List (Kept A)) (old new : List Stream)
     where
       turn : (j : ℕ) (x y : Stream) (d : Line) (o : Source) → slice_get old j ≡ Some x → x.line ≡ d → source s.network d ≡ o → HasLine s.network s.watch d →
           IsFilled s.network ls o d x.tokens.items y.tokens.items → IsFrom s.network s.input s.watch s.cells o d y.tokens.items
-      turn j x y (Channel c) Given a b e l h = subst (IsKept (Channel c) (s.input c)) (sym h) (given j c x a b e)
+      turn j x y (Channel c) Given a b e l h = subst (IsKept s.network s.input (Channel c) (s.input c)) (sym h) (given j c x a b e)
       turn j x y (Channel c) (Written p) a b e l (q, w, h) = (q, w, l.1, h ∙ kept p q)
       turn j x y (Channel c) Nobody a b e l h = absurd h
       turn j x y (Print r) Given a b e l h = absurd (differ e)

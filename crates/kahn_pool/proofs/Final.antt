@@ -11,7 +11,7 @@ use Rattle.kahn_pool.specs.declared.answer.Outcome.TheVariants.{More}
 use Rattle.kahn_pool.specs.declared.answer.Verdict.{Verdict}
 use Rattle.kahn_pool.specs.declared.answer.Verdict.TheVariants.{Finished, Bound}
 use Rattle.kahn_pool.specs.Right.{events_of, line_of, stream_lines}
-use Rattle.kahn_pool.specs.Gathered.{view_at, AreWithin, IsFrom, IsGathered}
+use Rattle.kahn_pool.specs.Gathered.{view_at, AreWithin, IsFrom, IsGathered, IsStopped}
 use Rattle.kahn_pool.specs.Bench.{State, view_events, IsLast, IsVerdict, AreStreams}
 use Rattle.kahn_pool.proofs.Turns.{push_get}
 
@@ -27,45 +27,53 @@ same_sums (c ∷ cs) (x ∷ xs) l h =
     let e : x.events ≡ c.events = h zero x refl in
     omega (arith, r, a, b, e)
 
-pub gathered : (s : State) (bound left : ℕ) (memory : Bool) (a : Answer) → IsLast s bound left memory a.ends.items →
-    AreStreams s a.streams.items (stream_lines s.network s.watch) → IsVerdict memory a.ends.items a.verdict →
-    AreWithin s.network s.input s.cells → a.events + left ≡ bound → IsGathered s.network s.input bound s.watch a
-gathered s bound left memory a last streams rule within count =
+pub stopped : (s : State) (bound left : ℕ) (memory : Bool) (v : Verdict) (ends : List End) (done : ℕ) → IsLast s bound left memory ends → IsVerdict memory ends v →
+    AreWithin s.network s.input s.cells → done + left ≡ bound → IsStopped s.network s.input bound s.watch v ends done
+stopped s bound left memory v ends done last rule within count =
     record {
       cells = s.cells;
       known = last.known;
       instances = last.size;
-      each = λ p x h. (last.ends p x h).0 a.verdict;
+      each = λ p x h. (last.ends p x h).0 v;
       channels = within;
-      lines = streams.named;
-      streams = λ x h. streams.each h.0 x h.1;
-      finished = λ f. (finished_by a.verdict f rule).1;
-      bounded = λ f. bounded (bound_by a.verdict f rule);
+      finished = λ f. (finished_by v f rule).1;
+      bounded = λ f. bounded (bound_by v f rule);
       total = sums;
       within = omega (arith, count);
     }
   where
-    finished_by : (v : Verdict) → v ≡ Finished → IsVerdict memory a.ends.items v → IsVerdict memory a.ends.items Finished
-    finished_by v f h = subst (IsVerdict memory a.ends.items) f h
+    finished_by : (v : Verdict) → v ≡ Finished → IsVerdict memory ends v → IsVerdict memory ends Finished
+    finished_by v f h = subst (IsVerdict memory ends) f h
 
-    bound_by : (v : Verdict) → v ≡ Bound → IsVerdict memory a.ends.items v → IsVerdict memory a.ends.items Bound
-    bound_by v f h = subst (IsVerdict memory a.ends.items) f h
+    bound_by : (v : Verdict) → v ≡ Bound → IsVerdict memory ends v → IsVerdict memory ends Bound
+    bound_by v f h = subst (IsVerdict memory ends) f h
 
-    bounded : IsVerdict memory a.ends.items Bound → (a.events ≡ bound) × ((p : ℕ) × (x : End) × (slice_get a.ends.items p ≡ Some x) × (x.outcome ≡ More))
+    bounded : IsVerdict memory ends Bound → (done ≡ bound) × ((p : ℕ) × (x : End) × (slice_get ends p ≡ Some x) × (x.outcome ≡ More))
     bounded h = (used ((last.ends h.1.0 h.1.1 h.1.2).1 h.1.3), h.1)
       where
-        used : (left ≡ 0) ⊎ (memory ≡ true) → a.events ≡ bound
+        used : (left ≡ 0) ⊎ (memory ≡ true) → done ≡ bound
         used (inl e) = omega (arith, e, count)
         used (inr e) = let f : true ≡ false = sym e ∙ h.0 in absurd cc
 
-    sums : a.events ≡ sum_by events_of a.ends.items
+    sums : done ≡ sum_by events_of ends
     sums =
         let t : sum_by view_events s.cells + left ≡ bound = last.total in
-        let l : length a.ends.items ≡ length s.cells = last.size ∙ sym last.known in
-        let e : sum_by events_of a.ends.items ≡ sum_by view_events s.cells =
-        same_sums s.cells a.ends.items l (λ p x h. ((last.ends p x h).0 a.verdict).count)
+        let l : length ends ≡ length s.cells = last.size ∙ sym last.known in
+        let e : sum_by events_of ends ≡ sum_by view_events s.cells =
+        same_sums s.cells ends l (λ p x h. ((last.ends p x h).0 v).count)
         in
         omega (arith, t, e, count)
+
+pub gathered : (s : State) (bound left : ℕ) (memory : Bool) (a : Answer) → IsLast s bound left memory a.ends.items →
+    AreStreams s a.streams.items (stream_lines s.network s.watch) → IsVerdict memory a.ends.items a.verdict →
+    AreWithin s.network s.input s.cells → a.events + left ≡ bound → IsGathered s.network s.input bound s.watch a
+unfolding stopped
+gathered s bound left memory a last streams rule within count =
+    record {
+      stopped = stopped s bound left memory a.verdict a.ends.items a.events last rule within count;
+      lines = streams.named;
+      streams = λ x h. streams.each h.0 x h.1;
+    }
 
 -- ---- streams
 

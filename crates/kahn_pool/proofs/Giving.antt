@@ -11,7 +11,7 @@ use Rattle.kahn_streams.specs.declared.value.Line.TheVariants.{Channel, Print}
 use Rattle.kahn_streams.specs.declared.token.Token.{Token}
 use Rattle.kahn_streams.specs.Solution.{Inputs, source, IsPrefix}
 use Rattle.kahn_network.specs.Network.{Network, Instance, Source, Given, Written, Nobody, any_written, first_writer, source_by, channel_source, role_at}
-use Rattle.kahn_code.specs.Cells.{IsKept, token_value}
+use Rattle.kahn_code.specs.Cells.{IsKept, IsOwn, token_value}
 use Rattle.kahn_pool.specs.declared.answer.Stream.{Stream}
 use Rattle.kahn_pool.specs.Right.{line_of}
 use Rattle.kahn_pool.specs.Streams.{AreNamed, IsDeclared, IsBare, HasInput, HaveInput, HasInputs}
@@ -22,12 +22,13 @@ use Rattle.kahn_pool.proofs.Turns.{push_get}
 -- ---- the list of a channel, token by token
 
 -- these tokens begin the list
-pub record IsBegun (c : ℕ) (vs : List Value) (ts : List Token) : Type 0 where
+pub record IsBegun (N : Network) (I : Inputs) (c : ℕ) (vs : List Value) (ts : List Token) : Type 0 where
   pub values : IsPrefix (map token_value ts) vs
   pub places : (k : ℕ) (t : Token) → slice_get ts k ≡ Some t → (t.line ≡ Channel c) × (t.place ≡ k)
+  pub own : (k : ℕ) (t : Token) → slice_get ts k ≡ Some t → IsOwn N I t
 
-pub begun_none : (c : ℕ) (vs : List Value) (ts : List Token) → ts ≡ [] → IsBegun c vs ts
-begun_none c vs ts e = subst (IsBegun c vs) (sym e) (record { values = (vs, refl); places = λ k t f. absurd cc })
+pub begun_none : (N : Network) (I : Inputs) (c : ℕ) (vs : List Value) (ts : List Token) → ts ≡ [] → IsBegun N I c vs ts
+begun_none N I c vs ts e = subst (IsBegun N I c vs) (sym e) (record { values = (vs, refl); places = λ k t f. absurd cc; own = λ k t f. absurd cc })
 
 seam : (xs ys : List Value) → slice_get (xs ++ ys) (length xs) ≡ slice_get ys 0
 seam [] ys = refl
@@ -45,19 +46,24 @@ prefix_more xs vs v (zs, e) f = by zs e
         same : Some z ≡ Some v → z ≡ v
         same h = cc
 
-pub begun_more : (c : ℕ) (vs : List Value) (ts us : List Token) (t : Token) (n : ℕ) → IsBegun c vs ts → us ≡ ts ++ t ∷ [] → n ≡ length ts →
-    t.line ≡ Channel c → t.place ≡ n → slice_get vs n ≡ Some t.value → IsBegun c vs us
-begun_more c vs ts us t n b u e line place v = subst (IsBegun c vs) (sym u) (record {
+pub begun_more : (N : Network) (I : Inputs) (c : ℕ) (vs : List Value) (ts us : List Token) (t : Token) (n : ℕ) → IsBegun N I c vs ts → us ≡ ts ++ t ∷ [] → n ≡ length ts →
+    t.line ≡ Channel c → t.place ≡ n → slice_get vs n ≡ Some t.value → IsOwn N I t → IsBegun N I c vs us
+begun_more N I c vs ts us t n b u e line place v mine = subst (IsBegun N I c vs) (sym u) (record {
   values = subst (λ l. IsPrefix l vs) (sym (map-append token_value ts (t ∷ []))) (prefix_more (map token_value ts) vs t.value b.values (ap (slice_get vs) (length-map ts token_value ∙ sym e) ∙ v));
   places = λ k w f. by k w (push_get ts t w k f);
+  own = λ k w f. owned k w (push_get ts t w k f);
 })
   where
     by : (k : ℕ) (w : Token) → (slice_get ts k ≡ Some w) ⊎ ((k ≡ length ts) × (t ≡ w)) → (w.line ≡ Channel c) × (w.place ≡ k)
     by k w (inl f) = b.places k w f
     by k w (inr (f, g)) = (ap (λ x. x.line) (sym g) ∙ line, ap (λ x. x.place) (sym g) ∙ (place ∙ (e ∙ sym f)))
 
-pub begun_within : (c : ℕ) (vs : List Value) (ts : List Token) → IsBegun c vs ts → length ts ≤ length vs
-begun_within c vs ts b = by b.values
+    owned : (k : ℕ) (w : Token) → (slice_get ts k ≡ Some w) ⊎ ((k ≡ length ts) × (t ≡ w)) → IsOwn N I w
+    owned k w (inl f) = b.own k w f
+    owned k w (inr (f, g)) = subst (IsOwn N I) g mine
+
+pub begun_within : (N : Network) (I : Inputs) (c : ℕ) (vs : List Value) (ts : List Token) → IsBegun N I c vs ts → length ts ≤ length vs
+begun_within N I c vs ts b = by b.values
   where
     by : IsPrefix (map token_value ts) vs → length ts ≤ length vs
     by (zs, e) =
@@ -70,8 +76,8 @@ begun_within c vs ts b = by b.values
         longer [] ys = omega arith
         longer (x ∷ xs) ys = let r : length xs ≤ length (xs ++ ys) = longer xs ys in omega (arith, r)
 
-pub begun_all : (c : ℕ) (vs : List Value) (ts : List Token) → IsBegun c vs ts → length vs ≤ length ts → IsKept (Channel c) vs ts
-begun_all c vs ts b le = record { values = by b.values; places = b.places }
+pub begun_all : (N : Network) (I : Inputs) (c : ℕ) (vs : List Value) (ts : List Token) → IsBegun N I c vs ts → length vs ≤ length ts → IsKept N I (Channel c) vs ts
+begun_all N I c vs ts b le = record { values = by b.values; places = b.places; own = b.own }
   where
     by : IsPrefix (map token_value ts) vs → map token_value ts ≡ vs
     by ([], e) = sym (append-nil (map token_value ts)) ∙ sym e
@@ -106,11 +112,11 @@ role_given Output s n e = absurd (n e)
 given_role : (r : Role) (s : Source) → r ≡ Input → source_by r s ≡ Given
 given_role r s e = ap (λ x. source_by x s) e
 
-pub channel_given : (N : Network) (I : Inputs) (c : ℕ) (before after : List Token) → (role_at N c ≡ Input → IsKept (Channel c) (I c) after) →
-    ((role_at N c ≡ Input → ⊥) → after ≡ before) → HasInput I (source N (Channel c)) (Channel c) before after
+pub channel_given : (N : Network) (I : Inputs) (c : ℕ) (before after : List Token) → (role_at N c ≡ Input → IsKept N I (Channel c) (I c) after) →
+    ((role_at N c ≡ Input → ⊥) → after ≡ before) → HasInput N I (source N (Channel c)) (Channel c) before after
 channel_given N I c before after f g = by (source N (Channel c)) refl
   where
-    by : (o : Source) → channel_source N c ≡ o → HasInput I o (Channel c) before after
+    by : (o : Source) → channel_source N c ≡ o → HasInput N I o (Channel c) before after
     by Given e = f (role_given (role_at N c) (first_writer N.instances 0 c) (no_given N.instances 0 c) e)
     by (Written p) e = g (λ r. absurd (let h : Given ≡ Written p = sym (given_role (role_at N c) (first_writer N.instances 0 c) r) ∙ e in cc))
     by Nobody e = g (λ r. absurd (let h : Given ≡ Nobody = sym (given_role (role_at N c) (first_writer N.instances 0 c) r) ∙ e in cc))
@@ -121,7 +127,7 @@ pub record Giving (N : Network) (I : Inputs) (old now : List Stream) (n : ℕ) :
   pub named : AreNamed N old
   pub bare : All IsBare old
   pub lines : map line_of now ≡ map line_of old
-  pub done : (j : ℕ) (x y : Stream) → j < n → slice_get old j ≡ Some x → slice_get now j ≡ Some y → HasInput I (source N y.line) y.line x.tokens.items y.tokens.items
+  pub done : (j : ℕ) (x y : Stream) → j < n → slice_get old j ≡ Some x → slice_get now j ≡ Some y → HasInput N I (source N y.line) y.line x.tokens.items y.tokens.items
   pub rest : (j : ℕ) → n ≤ j → slice_get now j ≡ slice_get old j
 
 pub giving_starts : (N : Network) (I : Inputs) (old : List Stream) → AreNamed N old → All IsBare old → Giving N I old old 0
@@ -146,7 +152,7 @@ module _ (N : Network) (I : Inputs) (old now : List Stream) (n : ℕ) (f : Givin
       subst IsBare (get_or_from_slice_get old n x x g) (f.bare n x (slice_get_within old n x g))
 
   pub giving_goes : (x y : Stream) → slice_get now n ≡ Some x → y.line ≡ x.line →
-      HasInput I (source N x.line) x.line x.tokens.items y.tokens.items → Giving N I old (slice_set now n y) (suc n)
+      HasInput N I (source N x.line) x.line x.tokens.items y.tokens.items → Giving N I old (slice_set now n y) (suc n)
   giving_goes x y e same given = record {
     named = f.named;
     bare = f.bare;
@@ -156,12 +162,12 @@ module _ (N : Network) (I : Inputs) (old now : List Stream) (n : ℕ) (f : Givin
   }
     where
       done_at : (j : ℕ) (u v : Stream) → j < suc n → slice_get old j ≡ Some u → ((j ≡ n) × (y ≡ v)) ⊎ ((j ≡ n → ⊥) × (slice_get now j ≡ Some v)) →
-          HasInput I (source N v.line) v.line u.tokens.items v.tokens.items
+          HasInput N I (source N v.line) v.line u.tokens.items v.tokens.items
       done_at j u v l a (inr h) = f.done j u v (lower j n l h.0) a h.1
       done_at j u v l a (inl h) =
-          subst (λ w. HasInput I (source N w.line) w.line u.tokens.items w.tokens.items) h.1
-          (subst (λ d. HasInput I (source N d) d u.tokens.items y.tokens.items) (sym same)
-          (subst (λ w. HasInput I (source N x.line) x.line w.tokens.items y.tokens.items) one given))
+          subst (λ w. HasInput N I (source N w.line) w.line u.tokens.items w.tokens.items) h.1
+          (subst (λ d. HasInput N I (source N d) d u.tokens.items y.tokens.items) (sym same)
+          (subst (λ w. HasInput N I (source N x.line) x.line w.tokens.items y.tokens.items) one given))
         where
           one : x ≡ u
           one = some_stream (sym (at_first x e) ∙ (ap (slice_get old) (sym h.0) ∙ a))
@@ -178,11 +184,11 @@ have_inputs N I old new h j c y e at given =
     let x = stream_before old new j y h.lines e in
     by (source N y.line) (subst (λ d. source N d ≡ Given) (sym at) given) (h.each j x.0 y x.1 e)
   where
-    by : (o : Source) → o ≡ Given → HasInput I o y.line (stream_before old new j y h.lines e).0.tokens.items y.tokens.items → IsKept (Channel c) (I c) y.tokens.items
+    by : (o : Source) → o ≡ Given → HasInput N I o y.line (stream_before old new j y h.lines e).0.tokens.items y.tokens.items → IsKept N I (Channel c) (I c) y.tokens.items
     by Given f k = on y.line at k
       where
-        on : (d : Line) → d ≡ Channel c → HasInput I Given d (stream_before old new j y h.lines e).0.tokens.items y.tokens.items → IsKept (Channel c) (I c) y.tokens.items
-        on (Channel b) g k = subst (λ n. IsKept (Channel n) (I n) y.tokens.items) (same g) k
+        on : (d : Line) → d ≡ Channel c → HasInput N I Given d (stream_before old new j y h.lines e).0.tokens.items y.tokens.items → IsKept N I (Channel c) (I c) y.tokens.items
+        on (Channel b) g k = subst (λ n. IsKept N I (Channel n) (I n) y.tokens.items) (same g) k
           where
             same : Channel b ≡ Channel c → b ≡ c
             same m = cc

@@ -1,32 +1,53 @@
 -- What the cells of tasks keep.
-use Rattle.std.proofs.Common.{◌≡◌, ℕ, ◌<◌, List, [], ◌∷◌, ◌++◌, length, map, refl, sym, ap, ◌∙◌, subst, Option, Some, slice_get}
-use Rattle.std.proofs.lemmas.List.{length-map, map-append}
+use Rattle.std.proofs.Common.{◌≡◌, ℕ, ◌<◌, List, length, map, sym, ap, ◌∙◌, subst, Option, Some, slice_get}
+use Rattle.std.proofs.lemmas.List.{length-map}
 use Rattle.kahn_tree.specs.declared.tree.Program.{Program}
 use Rattle.kahn_network.specs.Network.{network_of, instance_at}
 use Rattle.kahn_streams.specs.Tokens.{Lists}
 use Rattle.kahn_code.specs.declared.cell.Kept.{Kept}
 use Rattle.kahn_code.specs.Told.{Told}
+use Rattle.kahn_job.specs.Idles.{AreIdle, cells_of}
+use Rattle.kahn_job.specs.Works.{Work}
 use Rattle.kahn_crew.specs.Tasks.{Tasked}
+use Rattle.kahn_crew.proofs.Started.{mapped_at}
 use Rattle.kahn_pool.specs.Rested.{AreTasks, cell_of}
-use Rattle.kahn_pool.specs.Streams.{AreLists, kept_lists, printed_list}
+use Rattle.kahn_pool.specs.Streams.{AreLists, kept_lists}
 use Rattle.kahn_pool.specs.Workbench.{AreKeptOf, actuals_of, parameters_of}
 use Rattle.kahn_pool.proofs.Benched.{get_map, got, some_one, within_get}
 
-pub are_lists : {A : Type 0} (t : Program) (lists : Lists) (watch : Option ℕ) (tasks : List Tasked) → AreTasks t lists watch tasks → (kept : List (Kept A)) →
-    AreKeptOf (map cell_of tasks) kept → AreLists (network_of t) kept
-are_lists {A = A} t lists watch tasks of kept h = record {
-  count = sym (length-map kept kept_lists) ∙ ap length h.sent ∙ length-map (map cell_of tasks) (λ (c : Told). c.kept) ∙ length-map tasks cell_of ∙ of.count;
-  parameters = λ p l e. sized p l e (got tasks p (below p l e));
+-- of cells that are those of the instances, in order
+pub lists_of_cells : {A : Type 0} (t : Program) (cells : List Told) → length cells ≡ length (network_of t).instances →
+    ((p : ℕ) (c : Told) → slice_get cells p ≡ Some c → (c.network ≡ t) × (c.instance ≡ p)) → (kept : List (Kept A)) → AreKeptOf cells kept → AreLists (network_of t) kept
+lists_of_cells {A = A} t cells count each kept h = record {
+  count = many ∙ count;
+  parameters = λ p l e. sized p l e (got cells p (subst (λ k. p < k) many (within_get kept p l e)));
 }
   where
-    below : (p : ℕ) (l : Kept A) → slice_get kept p ≡ Some l → p < length tasks
-    below p l e =
-        let n = sym (length-map kept kept_lists) ∙ ap length h.sent ∙ length-map (map cell_of tasks) (λ (c : Told). c.kept) ∙ length-map tasks cell_of in
-        subst (λ k. p < k) n (within_get kept p l e)
+    many : length kept ≡ length cells
+    many = sym (length-map kept kept_lists) ∙ ap length h.sent ∙ length-map cells (λ (c : Told). c.kept)
 
-    sized : (p : ℕ) (l : Kept A) → slice_get kept p ≡ Some l → (x : Tasked) × (slice_get tasks p ≡ Some x) → length l.kept.items ≡ length (instance_at (network_of t) p).actuals
-    sized p l e x =
-        let o = of.each p x.0 x.1 in
-        some_one (sym (get_map parameters_of kept p l e) ∙ ap (λ ns. slice_get ns p) h.parameters ∙
-        get_map actuals_of (map cell_of tasks) p x.0.work.cell (get_map cell_of tasks p x.0 x.1)) ∙
-        ap (λ k. length (instance_at (network_of k) x.0.work.cell.instance).actuals) o.network ∙ ap (λ i. length (instance_at (network_of t) i).actuals) o.instance
+    sized : (p : ℕ) (l : Kept A) → slice_get kept p ≡ Some l → (c : Told) × (slice_get cells p ≡ Some c) → length l.kept.items ≡ length (instance_at (network_of t) p).actuals
+    sized p l e c =
+        let o = each p c.0 c.1 in
+        some_one (sym (get_map parameters_of kept p l e) ∙ ap (λ ns. slice_get ns p) h.parameters ∙ get_map actuals_of cells p c.0 c.1) ∙
+        ap (λ k. length (instance_at (network_of k) c.0.instance).actuals) o.0 ∙ ap (λ i. length (instance_at (network_of t) i).actuals) o.1
+
+pub are_lists : {A : Type 0} (t : Program) (lists : Lists) (watch : Option ℕ) (tasks : List Tasked) → AreTasks t lists watch tasks → (kept : List (Kept A)) →
+    AreKeptOf (map cell_of tasks) kept → AreLists (network_of t) kept
+are_lists t lists watch tasks of kept h =
+    lists_of_cells t (map cell_of tasks) (length-map tasks cell_of ∙ of.count)
+    (λ p c e.
+    let x = mapped_at cell_of tasks p c e in
+    let o = of.each p x.0 x.1 in
+    (ap (λ (d : Told). d.network) x.2 ∙ o.network, ap (λ (d : Told). d.instance) x.2 ∙ o.instance))
+    kept h
+
+pub idle_lists : {A : Type 0} (t : Program) (lists : Lists) (ws : List Work) → AreIdle t lists ws → (kept : List (Kept A)) → AreKeptOf (cells_of ws) kept →
+    AreLists (network_of t) kept
+idle_lists t lists ws idle kept h =
+    lists_of_cells t (cells_of ws) (length-map ws (λ (w : Work). w.cell) ∙ idle.count)
+    (λ p c e.
+    let w = mapped_at (λ (w : Work). w.cell) ws p c e in
+    let o = idle.each p w.0 w.1 in
+    (ap (λ (d : Told). d.network) w.2 ∙ o.network, ap (λ (d : Told). d.instance) w.2 ∙ o.instance))
+    kept h

@@ -1,5 +1,5 @@
 -- What the cells kept has a list for each parameter.
-use Rattle.std.proofs.Common.{arith, ◌≡◌, ℕ, ◌<◌, List, length, map, refl, sym, ap, ◌∙◌, subst, Option, Some, slice_get}
+use Rattle.std.proofs.Common.{◌≡◌, ℕ, ◌<◌, List, length, sym, ap, ◌∙◌, subst, Some, slice_get}
 use Rattle.std.proofs.lemmas.List.{length-map}
 use Rattle.kahn_network.specs.Network.{network_of, instance_at}
 use Rattle.kahn_code.specs.declared.cell.Kept.{Kept}

@@ -1,10 +1,10 @@
 -- Cells at their openings over queues from which nothing was taken.
-use Rattle.std.proofs.Common.{arith, ◌≡◌, ◌⊎◌, inl, inr, ℕ, zero, suc, ◌+◌, ◌<◌, ◌≤◌, List, [], ◌∷◌, ◌++◌, length, map, replicate, sum_by, refl, sym, ap, ◌∙◌, subst, Option, Some, None, slice_get, slice_index_or, Bool, true, false}
+use Rattle.std.proofs.Common.{arith, ◌≡◌, ◌⊎◌, inl, inr, ℕ, zero, suc, ◌+◌, List, [], ◌∷◌, ◌++◌, length, map, replicate, sum_by, refl, sym, ap, ◌∙◌, subst, Option, Some, None, slice_get, slice_index_or, true, false}
 use Rattle.std.proofs.lemmas.List.Sums.{sum_by-cons}
 use Rattle.kahn_tree.specs.declared.tree.Program.{Program}
 use Rattle.kahn_tree.specs.declared.tree.Role.{Role}
 use Rattle.kahn_tree.specs.declared.tree.Role.TheVariants.{Inner, Input, Output}
-use Rattle.kahn_network.specs.Network.{Reads, Writes, network_of, instance_at, actual_at, role_at}
+use Rattle.kahn_network.specs.Network.{Writes, network_of, instance_at, actual_at, role_at}
 use Rattle.kahn_network.specs.Wiring.{IsWellWired}
 use Rattle.kahn_network.proofs.Sourced.{writes}
 use Rattle.kahn_streams.specs.declared.value.Value.{Value}
@@ -15,7 +15,7 @@ use Rattle.kahn_code.specs.Queues.{Waiting}
 use Rattle.kahn_code.specs.Standing.{count}
 use Rattle.kahn_code.specs.Told.{Told, told_view, IsAt}
 use Rattle.kahn_pool.specs.Bench.{view_events}
-use Rattle.kahn_pool.specs.Workbench.{Table, IsLaid, IsSeated, IsOpening, AreOpening}
+use Rattle.kahn_pool.specs.Workbench.{IsLaid, IsSeated, IsOpening, AreOpening}
 use Rattle.kahn_pool.proofs.Benched.{some_one}
 
 count_zero : (n q : ℕ) → count (replicate n zero) q ≡ zero

@@ -21,3 +21,7 @@ pub mod Ended
 pub mod Rests
 pub mod Over
 pub mod Kept
+pub mod Growing
+pub mod Held_jobs
+pub mod Held_runs
+pub mod Held_calls

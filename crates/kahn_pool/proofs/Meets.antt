@@ -1,23 +1,20 @@
 -- Tasks whose ends meet.
-use Rattle.std.proofs.Common.{arith, ◌≡◌, ◌⊎◌, inl, inr, ℕ, zero, suc, ◌+◌, ◌<◌, ◌≤◌, true, false, List, [], ◌∷◌, ◌++◌, length, refl, sym, ap, ◌∙◌, subst, Option, Some, None, slice_get, slice_set, slice_index_or, le_of_suc-le-suc}
+use Rattle.std.proofs.Common.{arith, ◌≡◌, ◌⊎◌, inl, inr, ℕ, zero, suc, ◌+◌, ◌<◌, ◌≤◌, true, false, List, [], ◌∷◌, ◌++◌, length, refl, sym, ap, ◌∙◌, subst, Some, None, slice_get, slice_set, slice_index_or, le_of_suc-le-suc}
 use Rattle.std.specs.List.{SwappedAt}
-use Rattle.std.proofs.lemmas.List.{length-set, length-append}
+use Rattle.std.proofs.lemmas.List.{length-set}
 use Rattle.std.proofs.lemmas.Option.{slice_get-get_or}
 use Rattle.kahn_tree.specs.declared.tree.Program.{Program}
-use Rattle.kahn_tree.specs.declared.tree.Role.TheVariants.{Inner, Input}
-use Rattle.kahn_network.specs.Network.{Actual, Reads, Writes, Hands, network_of, instance_at, actual_at, role_at}
+use Rattle.kahn_network.specs.Network.{Reads, Writes, network_of, instance_at, actual_at, role_at}
 use Rattle.kahn_network.specs.Sides.{IsWriter, IsReader, IsOnly}
 use Rattle.kahn_network.specs.Sources.{IsFed}
 use Rattle.kahn_network.specs.Wiring.{IsWellWired, side_at}
 use Rattle.kahn_network.specs.declared.sides.Side.{Side}
-use Rattle.kahn_network.proofs.Sourced.{handed_within, reads, reads_listed, writes}
-use Rattle.kahn_streams.specs.Tokens.{Lists}
+use Rattle.kahn_network.proofs.Sourced.{handed_within, reads, reads_listed}
 use Rattle.kahn_code.specs.Cells.{is_output}
 use Rattle.kahn_code.specs.Lines.{Joins}
 use Rattle.kahn_code.specs.Standing.{count}
-use Rattle.kahn_lane.specs.Places.{lane_name}
-use Rattle.kahn_job.specs.Ends.{End, IsReady, IsSame, ShareLane}
-use Rattle.kahn_job.specs.Berths.{HasStayed, HaveStayed, Serves, end_at}
+use Rattle.kahn_job.specs.Ends.{End, IsSame, ShareLane}
+use Rattle.kahn_job.specs.Berths.{HasStayed, Serves, end_at}
 use Rattle.kahn_job.specs.Works.{Work, IsJob}
 use Rattle.kahn_crew.specs.Tasks.{Tasked, HasMet, handed}
 use Rattle.kahn_pool.specs.Meetings.{AreJoined, CanMeet, CanMeetAt, HaveMet, IsBehind, IsBehindAt, IsBehindOn, ReadsOne, WritesOne}

@@ -1,25 +1,20 @@
 -- A run that is over.
-use Rattle.std.proofs.Common.{arith, ◌≡◌, ◌⊎◌, inl, inr, ℕ, zero, suc, ◌+◌, ◌^◌, ◌<◌, ◌≤◌, Bool, true, false, List, [], ◌∷◌, length, map, sum_by, refl, sym, ap, ◌∙◌, subst, Option, Some, None, slice_get}
+use Rattle.std.proofs.Common.{arith, ◌≡◌, ◌⊎◌, inl, inr, ℕ, zero, suc, ◌+◌, ◌^◌, ◌<◌, ◌≤◌, Bool, true, false, List, [], ◌∷◌, length, map, sum_by, refl, sym, ap, ◌∙◌, subst, Option, Some, slice_get}
 use Rattle.std.proofs.lemmas.List.{length-map}
 use Rattle.std.proofs.lemmas.List.Sums.{sum_by-cons}
 use Rattle.kahn_tree.specs.declared.tree.Program.{Program}
-use Rattle.kahn_network.specs.Network.{Reads, Writes, network_of, instance_at, actual_at}
+use Rattle.kahn_network.specs.Network.{Reads}
 use Rattle.kahn_network.specs.Wiring.{IsWellWired}
-use Rattle.kahn_streams.specs.Tokens.{Lists, inputs_of}
-use Rattle.kahn_code.specs.Cells.{View}
+use Rattle.kahn_streams.specs.Tokens.{Lists}
 use Rattle.kahn_code.specs.Standing.{count}
 use Rattle.kahn_code.specs.Told.{Told, told_view}
-use Rattle.kahn_job.specs.Ends.{IsSame, ShareLane}
 use Rattle.kahn_job.specs.Berths.{end_at}
-use Rattle.kahn_job.specs.Works.{Work}
-use Rattle.kahn_job.specs.Openings.{IsOpening}
 use Rattle.kahn_crew.specs.declared.standing.Standing.TheVariants as standing
-use Rattle.kahn_crew.specs.Tasks.{Tasked, IsLater, handed, is_over}
-use Rattle.kahn_crew.specs.Left.{AreAll, HaveLeft, IsAtRest, task_events}
+use Rattle.kahn_crew.specs.Tasks.{Tasked, handed, is_over}
+use Rattle.kahn_crew.specs.Left.{AreAll, HaveGone, IsAtRest, IsOver, task_events}
 use Rattle.kahn_pool.specs.Meetings.{AreJoined, HaveMet, IsBehindOn}
-use Rattle.kahn_pool.specs.Rested.{AreEndsOf, AreTasks, HaveSettled, IsEndOf, IsSettled, IsTaskOf, IsToldAs, SettlesTo, cell_of, state_of}
+use Rattle.kahn_pool.specs.Rested.{AreEndsOf, AreTasks, HaveSettled, IsTaskOf, IsToldAs, SettlesTo, cell_of, state_of}
 use Rattle.kahn_pool.specs.Gathers.{HasEnded}
-use Rattle.kahn_pool.specs.declared.answer.Answer.{Answer}
 use Rattle.kahn_pool.specs.declared.answer.End.{End}
 use Rattle.kahn_pool.specs.declared.answer.Outcome.TheVariants as outcome
 use Rattle.kahn_pool.specs.declared.answer.Verdict.{Verdict}
@@ -60,71 +55,68 @@ same_sum (x ∷ xs) (y ∷ ys) l h =
     let s : sum_by task_events (y ∷ ys) ≡ sum_by task_events (x ∷ xs) = omega (arith, a, b, e, r) in
     s
 
-module _ (t : Program) (lists : Lists) (watch : Option ℕ) (bound : ℕ) (old : List Tasked) (budget : ℕ) (halted : Bool)
-    (left : HaveLeft t lists watch bound old budget halted) where
-  job_at : (p : ℕ) (x : Tasked) → slice_get old p ≡ Some x → (w : Work) × (slice_get left.jobs p ≡ Some w)
-  job_at p x e =
+module _ (t : Program) (lists : Lists) (watch : Option ℕ) (bound : ℕ) (first old : List Tasked) (budget : ℕ)
+    (gone : HaveGone t lists watch bound first old budget) where
+  first_at : (p : ℕ) (x : Tasked) → slice_get old p ≡ Some x → (y : Tasked) × (slice_get first p ≡ Some y)
+  first_at p x e =
       let l = within_get old p x e in
-      let a = left.count in
-      let b = left.opened.count in
-      got left.jobs p (omega (arith, l, a, b))
+      let a = gone.count in
+      let b = gone.ready.count in
+      got first p (omega (arith, l, a, b))
 
   pub left_network : (p : ℕ) (x : Tasked) → slice_get old p ≡ Some x → x.work.cell.network ≡ t
   left_network p x e =
-      let w = job_at p x e in
-      let l = left.later p w.0 x w.1 e in
-      l.2.network ∙ ap (λ (k : Work). k.cell.network) l.1 ∙ (left.opened.each p w.0 w.1).0.network
+      let y = first_at p x e in
+      (gone.later p y.0 x y.1 e).network ∙ (gone.ready.each p y.0 y.1).network
 
   left_task : (p : ℕ) (x : Tasked) → slice_get old p ≡ Some x → IsTaskOf t lists watch p x
   left_task p x e =
-      let w = job_at p x e in
-      let l = left.later p w.0 x w.1 e in
-      let o : IsOpening t lists watch p w.0.cell = (left.opened.each p w.0 w.1).0 in
+      let y = first_at p x e in
+      let l = gone.later p y.0 x y.1 e in
+      let o = gone.ready.each p y.0 y.1 in
       record {
-        network = l.2.network ∙ ap (λ (k : Work). k.cell.network) l.1 ∙ o.network;
-        input = l.2.input ∙ ap (λ (k : Work). k.cell.input) l.1 ∙ o.input;
-        instance = l.2.instance ∙ ap (λ (k : Work). k.cell.instance) l.1 ∙ o.instance;
-        watched = l.2.watch ∙ ap (λ (k : Work). k.cell.watch) l.1 ∙ o.watched;
+        network = l.network ∙ o.network;
+        input = l.input ∙ o.input;
+        instance = l.instance ∙ o.instance;
+        watched = l.watch ∙ o.watched;
       }
 
   pub left_bound : bound < 2 ^ 48 → (p : ℕ) (x : Tasked) → slice_get old p ≡ Some x → x.work.cell.events < 2 ^ 48
-  left_bound b p x e = let m = at_most old p x e in let s = left.events in omega (arith, b, m, s)
+  left_bound b p x e = let m = at_most old p x e in let s = gone.events in omega (arith, b, m, s)
 
-  lane_of : (p q : ℕ) (x : Tasked) (w : Work) (at : slice_get left.jobs p ≡ Some w) (e : slice_get old p ≡ Some x) → (end_at x.work.ends q).lane ≡ (end_at w.ends q).lane
-  lane_of p q x w at e =
-      let l = left.later p w x at e in
-      (l.2.ends.same q).lane ∙ ap (λ (k : Work). (end_at k.ends q).lane) l.1
+  lane_of : (p q : ℕ) (x y : Tasked) (at : slice_get first p ≡ Some y) (e : slice_get old p ≡ Some x) → (end_at x.work.ends q).lane ≡ (end_at y.work.ends q).lane
+  lane_of p q x y at e = ((gone.later p y x at e).ends.same q).lane
 
   module _ (new : List Tasked) (h : HaveSettled old new) where
-    was : (p : ℕ) (y : Tasked) → slice_get new p ≡ Some y → (x : Tasked) × (slice_get old p ≡ Some x)
+    pub was : (p : ℕ) (y : Tasked) → slice_get new p ≡ Some y → (x : Tasked) × (slice_get old p ≡ Some x)
     was p y e = let l = within_get new p y e in let n = h.count in got old p (omega (arith, l, n))
 
-    step : (p : ℕ) (y : Tasked) (e : slice_get new p ≡ Some y) → SettlesTo (was p y e).0 y
+    pub step : (p : ℕ) (y : Tasked) (e : slice_get new p ≡ Some y) → SettlesTo (was p y e).0 y
     step p y e = h.each p (was p y e).0 y (was p y e).1 e
 
-    of_new : (p : ℕ) (y : Tasked) → slice_get new p ≡ Some y → IsTaskOf t lists watch p y
+    pub of_new : (p : ℕ) (y : Tasked) → slice_get new p ≡ Some y → IsTaskOf t lists watch p y
     of_new p y e =
         let x = was p y e in
         let o = left_task p x.0 x.1 in
         let l = (step p y e).later in
         record { network = l.network ∙ o.network; input = l.input ∙ o.input; instance = l.instance ∙ o.instance; watched = l.watch ∙ o.watched }
 
-    lane_new : (p q : ℕ) (y : Tasked) (e : slice_get new p ≡ Some y) → (end_at y.work.ends q).lane ≡ (end_at (job_at p (was p y e).0 (was p y e).1).0.ends q).lane
+    lane_new : (p q : ℕ) (y : Tasked) (e : slice_get new p ≡ Some y) → (end_at y.work.ends q).lane ≡ (end_at (first_at p (was p y e).0 (was p y e).1).0.work.ends q).lane
     lane_new p q y e =
         let x = was p y e in
-        ((step p y e).later.ends.same q).lane ∙ lane_of p q x.0 (job_at p x.0 x.1).0 (job_at p x.0 x.1).1 x.1
+        ((step p y e).later.ends.same q).lane ∙ lane_of p q x.0 (first_at p x.0 x.1).0 (first_at p x.0 x.1).1 x.1
 
-    joined_new : AreJoined t new
+    pub joined_new : AreJoined t new
     joined_new = record {
-      count = h.count ∙ left.count;
+      count = h.count ∙ gone.count;
       network = λ p y e. (of_new p y e).network;
       instance = λ p y e. (of_new p y e).instance;
       joined = λ p r o q d y z e f w k.
           let x = was p y e in
           let u = was r z f in
-          let a = job_at p x.0 x.1 in
-          let b = job_at r u.0 u.1 in
-          let s = left.opened.joined p r o q d a.0 b.0 a.1 b.1 w k in
+          let a = first_at p x.0 x.1 in
+          let b = first_at r u.0 u.1 in
+          let s = gone.ready.joined p r o q d a.0 b.0 a.1 b.1 w k in
           (s.0, lane_new p o y e ∙ s.1, lane_new r q z f ∙ s.2);
     }
 
@@ -156,13 +148,13 @@ module _ (t : Program) (lists : Lists) (watch : Option ℕ) (bound : ℕ) (old :
         by x (inl o) = inl o
         by x (inr (q, d, s, r, a)) = inr (q, d, s, r, all d (count x.work.cell.taken q) a)
 
-    pub has_ended : HasEnded t lists watch bound new budget halted
-    has_ended = record {
-      tasks_of = record { count = h.count ∙ left.count; each = of_new };
+    pub has_ended : (halted : Bool) → IsOver t lists old budget halted → HasEnded t lists watch bound new budget halted
+    has_ended halted is_over = record {
+      tasks_of = record { count = h.count ∙ gone.count; each = of_new };
       joined = joined_new;
       settled = λ p y e. (step p y e).settled;
-      events = let a = left.events in let b = same_sum old new h.count (λ p x y e f. (h.each p x y e f).events) in omega (arith, a, b);
-      over = over left.over;
+      events = let a = gone.events in let b = same_sum old new h.count (λ p x y e f. (h.each p x y e f).events) in omega (arith, a, b);
+      over = over is_over;
     }
       where
         over : (halted ≡ true) ⊎ ((budget ≡ 0) ⊎ ((p : ℕ) (x : Tasked) → slice_get old p ≡ Some x → IsAtRest t lists old x)) →

@@ -1,9 +1,9 @@
 -- What settled tasks whose ends have met say of the cells.
-use Rattle.std.proofs.Common.{arith, ◌≡◌, ◌⊎◌, inl, inr, ℕ, zero, suc, ◌+◌, ◌<◌, ◌≤◌, List, [], ◌∷◌, ◌++◌, length, map, refl, sym, ap, ◌∙◌, subst, Option, Some, None, slice_get, length-append}
+use Rattle.std.proofs.Common.{arith, ◌≡◌, inl, inr, ℕ, zero, suc, ◌+◌, ◌<◌, ◌≤◌, List, [], length, map, refl, sym, ap, ◌∙◌, subst, Option, Some, slice_get, length-append}
 use Rattle.kahn_tree.specs.declared.tree.Program.{Program}
 use Rattle.kahn_tree.specs.declared.tree.Role.{Role}
 use Rattle.kahn_tree.specs.declared.tree.Role.TheVariants.{Inner, Input}
-use Rattle.kahn_network.specs.Network.{Network, Actual, Reads, Writes, Source, Given, Written, network_of, instance_at, actual_at, role_at, channel_source}
+use Rattle.kahn_network.specs.Network.{Network, Reads, Writes, Given, Written, network_of, instance_at, actual_at, role_at}
 use Rattle.kahn_network.specs.Sources.{IsFed as IsFedBy}
 use Rattle.kahn_network.specs.Wiring.{IsWellWired}
 use Rattle.kahn_network.proofs.Sourced.{reads, writes}
@@ -19,13 +19,11 @@ use Rattle.kahn_code.specs.Cells.{AllStand, View, exec_on}
 use Rattle.kahn_code.specs.Lines.{Joins}
 use Rattle.kahn_code.specs.Progress as code
 use Rattle.kahn_code.specs.Standing.{count}
-use Rattle.kahn_code.specs.Told.{Told, told_view}
+use Rattle.kahn_code.specs.Told.{told_view}
 use Rattle.kahn_code.proofs.Driven.{driven}
 use Rattle.kahn_code.proofs.Readers.{joins_within, reads_once}
-use Rattle.kahn_job.specs.Ends.{End as PortEnd, IsReady}
+use Rattle.kahn_job.specs.Ends.{IsReady}
 use Rattle.kahn_job.specs.Berths.{Serves, end_at}
-use Rattle.kahn_job.specs.Works.{Work}
-use Rattle.kahn_crew.specs.declared.standing.Standing.{Standing}
 use Rattle.kahn_crew.specs.declared.standing.Standing.TheVariants as standing
 use Rattle.kahn_crew.specs.Tasks.{Tasked, handed}
 use Rattle.kahn_crew.specs.Left.{AreAll}
@@ -35,8 +33,8 @@ use Rattle.kahn_pool.specs.declared.answer.End.{End}
 use Rattle.kahn_pool.specs.declared.answer.Outcome.{Outcome}
 use Rattle.kahn_pool.specs.declared.answer.Outcome.TheVariants as outcome
 use Rattle.kahn_pool.specs.declared.answer.Verdict.{Verdict}
-use Rattle.kahn_pool.specs.Bench.{State, Rests}
-use Rattle.kahn_pool.specs.Gathered.{AreWithin, IsGiven, IsTold, Stood, TookAll, nothing, view_at}
+use Rattle.kahn_pool.specs.Bench.{Rests}
+use Rattle.kahn_pool.specs.Gathered.{AreWithin, IsGiven, IsTold, Stood, nothing, view_at}
 use Rattle.kahn_pool.proofs.Benched.{get_map, got, mapped, some_one}
 use Rattle.kahn_pool.proofs.Channels.{told_by_channel}
 use Rattle.kahn_pool.proofs.Lists.{stand_in}

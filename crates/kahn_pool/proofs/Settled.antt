@@ -1,5 +1,5 @@
 -- Tasks that are asked what comes next.
-use Rattle.std.proofs.Common.{arith, ◌≡◌, ◌⊎◌, inl, inr, ℕ, zero, suc, ◌+◌, ◌<◌, ◌≤◌, List, [], ◌∷◌, length, refl, sym, ap, ◌∙◌, subst, le_refl, Option, Some, None, slice_get, slice_set, slice_index_or, le_of_suc-le-suc}
+use Rattle.std.proofs.Common.{arith, ◌≡◌, ◌⊎◌, inl, inr, ℕ, zero, suc, ◌+◌, ◌<◌, ◌≤◌, List, [], ◌∷◌, length, refl, sym, ap, ◌∙◌, subst, le_refl, Some, slice_get, slice_set}
 use Rattle.std.proofs.lemmas.List.{length-set}
 use Rattle.kahn_network.specs.Network.{network_of}
 use Rattle.kahn_streams.specs.Meaning.{Store}
@@ -7,16 +7,15 @@ use Rattle.kahn_streams.specs.Script as script
 use Rattle.kahn_streams.specs.Tokens.{inputs_of}
 use Rattle.kahn_code.specs.declared.progress.Pause.{Pause}
 use Rattle.kahn_code.specs.declared.progress.Pause.TheVariants as pause
-use Rattle.kahn_code.specs.Cells.{exec_on}
 use Rattle.kahn_code.specs.Progress.{Paused, IsPause}
 use Rattle.kahn_code.specs.Told.{told_view}
-use Rattle.kahn_job.specs.Ends.{End, IsReady, IsSame}
-use Rattle.kahn_job.specs.Berths.{HaveAdvanced, IsFed, end_at}
+use Rattle.kahn_job.specs.Ends.{End, IsReady}
+use Rattle.kahn_job.specs.Berths.{IsFed, end_at}
 use Rattle.kahn_job.specs.Ways.{nothing}
-use Rattle.kahn_job.specs.Works.{Work, IsJob}
+use Rattle.kahn_job.specs.Works.{Work}
 use Rattle.kahn_crew.specs.declared.standing.Standing.{Standing}
 use Rattle.kahn_crew.specs.declared.standing.Standing.TheVariants as standing
-use Rattle.kahn_crew.specs.Tasks.{Tasked, IsLater, IsTrueOf, IsStanding, standing_after}
+use Rattle.kahn_crew.specs.Tasks.{Tasked, IsLater, IsTrueOf, standing_after}
 use Rattle.kahn_pool.specs.Rested.{HaveSettled, IsSaid, IsSettled, Says, SettlesTo}
 
 -- ---- input channels
@@ -93,6 +92,8 @@ later_self x = record {
   instance = refl;
   watch = refl;
   ends = record { count = refl; same = λ q. record { reads = refl; writes = refl; lane = refl; name = refl }; flushed = λ q. le_refl (end_at x.work.ends q).flushed };
+  events = le_refl x.work.cell.events;
+  still = λ e. refl;
 }
 
 pub settles_still : (x : Tasked) → IsSettled x → SettlesTo x x

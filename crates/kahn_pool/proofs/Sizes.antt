@@ -19,8 +19,9 @@ use Rattle.kahn_pool.specs.declared.answer.Verdict.{Verdict}
 use Rattle.kahn_pool.specs.declared.answer.Verdict.TheVariants.{Finished, Bound, Memory}
 use Rattle.kahn_pool.specs.declared.answer.Outcome.{Outcome}
 use Rattle.kahn_pool.specs.declared.answer.Outcome.TheVariants.{Ended, Waits, Faulted, More}
-use Rattle.kahn_pool.specs.Right.{IsRight, IsOutcome, IsEnd, HasEndAt, events_of}
+use Rattle.kahn_pool.specs.Right.{IsRight, IsOutcome, IsEnd, events_of}
 use Rattle.kahn_pool.specs.Exact.{IsWithin, Settles, AreBegun}
+use Rattle.kahn_pool.proofs.Assembled.{AreRight}
 
 -- ---- on longer tapes and with more events allowed no fewer events are done
 
@@ -142,7 +143,7 @@ module _ (N : Network) (I : Inputs) where
         fewer (suc p) is ys total (omega (arith, l)) (λ k j y e g. each (suc k) j y (omega (arith, e)) g) rest k j x (omega (arith, e)) g less,
       )
 
--- ---- right answers
+-- ---- right ends
 
 has_end : (N : Network) (I : Inputs) (p e : ℕ) (o : Outcome) → IsEnd N I p o e → (y : Ending) × HasEnd N I p y e
 has_end N I p e Ended h = (net.Ended, h)
@@ -150,49 +151,73 @@ has_end N I p e (Faulted k) h = (net.Faulted k, h)
 has_end N I p e (Waits c) h = (net.Waiting h.0, h.2)
 has_end N I p e More h = absurd h
 
-module _ (N : Network) (I : Inputs) (bound : ℕ) (watch : Option ℕ) (a : Answer) (r : IsRight N I bound watch a) where
-  pub counted : a.verdict ≡ Finished → HasSize N I a.events
-  counted f =
-      rw r.total (all_ends N I 0 N.instances a.ends.items r.instances (λ k j x e g.
+module _ (N : Network) (I : Inputs) (bound : ℕ) (said : Verdict) (ends : List End) (done : ℕ) (r : AreRight N I bound said ends done) where
+  pub counted_ends : said ≡ Finished → HasSize N I done
+  counted_ends f =
+      rw r.total (all_ends N I 0 N.instances ends r.instances (λ k j x e g.
       let t = has_end N I k x.events x.outcome (r.ended f k x g) in
       (t.0, subst (λ b. HasEnd N I b t.0 x.events) (at e) t.1)))
     where
       at : {j k : ℕ} → j ≡ 0 + k → k ≡ j
       at e = omega (arith, e)
 
-  below : (p : ℕ) (x : End) → HasEndAt a p x → Below N I p x.events
+  below : (p : ℕ) (x : End) → slice_get ends p ≡ Some x → Below N I p x.events
   below p x h e o g = at_most N I r.tapes r.others p x.events e o (r.does p x h) g
 
-  stopped : a.verdict ≡ Bound → IsWithin N I bound → ⊥
+  stopped : said ≡ Bound → IsWithin N I bound → ⊥
   stopped v w =
       let b = r.bounded v in
       let p = b.1.0 in
       let x = b.1.1 in
-      let next : IsOutcome a.verdict N r.tapes p x.events More = subst (IsOutcome a.verdict N r.tapes p x.events) b.1.3 (r.outcomes p x b.1.2) in
+      let next : IsOutcome said N r.tapes p x.events More = subst (IsOutcome said N r.tapes p x.events) b.1.3 (r.outcomes p x b.1.2) in
       omega (
         arith,
         r.total,
         b.0,
         w.2,
-        fewer N I 0 N.instances a.ends.items w.0 r.instances
+        fewer N I 0 N.instances ends w.0 r.instances
             (λ k j y e g. below_at k j y e g)
             w.1 p p x (omega arith) b.1.2
             (λ e o g. at_most N I r.tapes r.others p (suc x.events) e o next g),
       )
     where
-      below_at : (k j : ℕ) (y : End) → j ≡ 0 + k → HasEndAt a k y → Below N I j y.events
+      below_at : (k j : ℕ) (y : End) → j ≡ 0 + k → slice_get ends k ≡ Some y → Below N I j y.events
       below_at k j y e g = subst (λ b. Below N I b y.events) (at e) (below k y g)
         where
           at : j ≡ 0 + k → k ≡ j
           at e = omega (arith, e)
 
-  settled_by : (v : Verdict) → a.verdict ≡ v → IsWithin N I bound → (v ≡ Memory → ⊥) → v ≡ Finished
+  settled_by : (v : Verdict) → said ≡ v → IsWithin N I bound → (v ≡ Memory → ⊥) → v ≡ Finished
   settled_by Finished e w m = refl
   settled_by Bound e w m = absurd (stopped e w)
   settled_by Memory e w m = absurd (m refl)
 
+  pub settles_ends : Settles N I bound said
+  settles_ends m = (λ f. (done, counted_ends f, r.within), λ w. settled_by said refl w m)
+
+-- ---- right answers
+
+rights : (N : Network) (I : Inputs) (bound : ℕ) (watch : Option ℕ) (a : Answer) → IsRight N I bound watch a → AreRight N I bound a.verdict a.ends.items a.events
+rights N I bound watch a r = record {
+  tapes = r.tapes;
+  inputs = r.inputs;
+  others = r.others;
+  instances = r.instances;
+  does = r.does;
+  sends = r.sends;
+  outcomes = r.outcomes;
+  total = r.total;
+  within = r.within;
+  ended = r.ended;
+  bounded = r.bounded;
+}
+
+module _ (N : Network) (I : Inputs) (bound : ℕ) (watch : Option ℕ) (a : Answer) (r : IsRight N I bound watch a) where
+  pub counted : a.verdict ≡ Finished → HasSize N I a.events
+  counted = counted_ends N I bound a.verdict a.ends.items a.events (rights N I bound watch a r)
+
   pub settles : Settles N I bound a.verdict
-  settles m = (λ f. (a.events, counted f, r.within), λ w. settled_by a.verdict refl w m)
+  settles = settles_ends N I bound a.verdict a.ends.items a.events (rights N I bound watch a r)
 
   pub begun : AreBegun N I a
   begun s h = let o = r.others s.line in (o.0, subst (λ l. IsPrefix l (iterate N I o.0 s.line)) (sym (r.values s h)) o.1)

@@ -1,5 +1,5 @@
 -- Cells at rest, and the answer that is put together from them.
-use Rattle.std.specs.Prelude.{◌≡◌, ◌⊎◌, ℕ, ◌<◌, ◌≤◌, List, [], length, map, sum_by, Option, Some, slice_index_or, true}
+use Rattle.std.specs.Prelude.{◌≡◌, ◌⊎◌, ℕ, ◌<◌, ◌≤◌, List, [], length, map, sum_by, Option, Some, slice_get, slice_index_or, true}
 use Rattle.kahn_streams.specs.declared.value.Line.{Line}
 use Rattle.kahn_streams.specs.declared.value.Line.TheVariants.{Channel, Print}
 use Rattle.kahn_streams.specs.Script as script
@@ -18,7 +18,7 @@ use Rattle.kahn_pool.specs.declared.answer.Verdict.TheVariants.{Finished, Bound,
 use Rattle.kahn_pool.specs.declared.answer.Outcome.{Outcome}
 use Rattle.kahn_pool.specs.declared.answer.Outcome.TheVariants.{Ended, Waits, Faulted, More}
 use Rattle.kahn_code.specs.Cells.{AllStand, View, IsKept, is_streamed}
-use Rattle.kahn_pool.specs.Right.{line_of, events_of, stream_lines, HasStream, HasEndAt}
+use Rattle.kahn_pool.specs.Right.{line_of, events_of, stream_lines, HasStream}
 
 abbrev pub nothing : View
 nothing = record { events = 0; taken = λ q. 0; sent = λ q. 0; kept = λ q. []; printed = [] }
@@ -37,8 +37,8 @@ pub record Stood (N : Network) (I : Inputs) (watch : Option ℕ) (p : ℕ) (c : 
   pub only : (d : Line) → (tapes d ≡ []) ⊎ ((q b : ℕ) × (d ≡ Channel b) × (actual_at (instance_at N p) q ≡ Reads b))
   pub gave : (q d : ℕ) → actual_at (instance_at N p) q ≡ Writes d → length (out N c.events p tapes (Channel d)) ≡ c.sent q
   pub kept : (q d : ℕ) → actual_at (instance_at N p) q ≡ Writes d → is_streamed N watch d ≡ true →
-      IsKept (Channel d) (out N c.events p tapes (Channel d)) (c.kept q)
-  pub printed : IsKept (Print p) (out N c.events p tapes (Print p)) c.printed
+      IsKept N I (Channel d) (out N c.events p tapes (Channel d)) (c.kept q)
+  pub printed : IsKept N I (Print p) (out N c.events p tapes (Print p)) c.printed
 
 -- so many values were given to channel c, by its writer or by the input
 abbrev pub IsGiven : Network → Inputs → List View → ℕ → Source → ℕ → Type 0
@@ -76,7 +76,7 @@ pub record IsAtRest (N : Network) (I : Inputs) (watch : Option ℕ) (cells : Lis
 
 -- these tokens are the stream of line c: what its writer kept, or the input's list
 abbrev pub IsFrom : Network → Inputs → Option ℕ → List View → Source → Line → List Token → Type 0
-IsFrom N I watch cells Given (Channel c) ts = IsKept (Channel c) (I c) ts
+IsFrom N I watch cells Given (Channel c) ts = IsKept N I (Channel c) (I c) ts
 IsFrom N I watch cells (Written p) (Channel c) ts =
     (q : ℕ) × (actual_at (instance_at N p) q ≡ Writes c) × (is_streamed N watch c ≡ true) × (ts ≡ (view_at cells p).kept q)
 IsFrom N I watch cells (Written p) (Print r) ts = ts ≡ (view_at cells p).printed
@@ -87,20 +87,24 @@ IsFrom N I watch cells Nobody c ts = ⊥
 abbrev pub tapes_from : Network → Inputs → (ℕ → ℕ) → (ℕ → Histories) → Histories
 tapes_from N I events T c = fed (source N c) I (λ p. out N (events p) p (T p) c) c
 
-pub record IsGathered (N : Network) (I : Inputs) (bound : ℕ) (watch : Option ℕ) (a : Answer) : Type 0 where
+-- these are the verdict, the ends and the events of a run that stopped
+pub record IsStopped (N : Network) (I : Inputs) (bound : ℕ) (watch : Option ℕ) (v : Verdict) (ends : List End) (events : ℕ) : Type 0 where
   -- from the cells
   pub cells : List View
   pub known : length cells ≡ length N.instances
-  pub instances : length a.ends.items ≡ length N.instances
-  pub each : (p : ℕ) (x : End) → HasEndAt a p x → IsAtRest N I watch cells a.verdict p x
+  pub instances : length ends ≡ length N.instances
+  pub each : (p : ℕ) (x : End) → slice_get ends p ≡ Some x → IsAtRest N I watch cells v p x
   -- from the channels
   pub channels : AreWithin N I cells
+  -- the rule of verdicts
+  pub finished : v ≡ Finished → (p : ℕ) (x : End) → slice_get ends p ≡ Some x → x.outcome ≡ More → ⊥
+  pub bounded : v ≡ Bound → (events ≡ bound) × ((p : ℕ) × (x : End) × (slice_get ends p ≡ Some x) × (x.outcome ≡ More))
+  -- the count of events
+  pub total : events ≡ sum_by events_of ends
+  pub within : events ≤ bound
+
+pub record IsGathered (N : Network) (I : Inputs) (bound : ℕ) (watch : Option ℕ) (a : Answer) : Type 0 where
+  pub stopped : IsStopped N I bound watch a.verdict a.ends.items a.events
   -- the lists that the cells kept, and the list of a watched input channel
   pub lines : map line_of a.streams.items ≡ stream_lines N watch
-  pub streams : (s : Stream) → HasStream a s → IsFrom N I watch cells (source N s.line) s.line s.tokens.items
-  -- the rule of verdicts
-  pub finished : a.verdict ≡ Finished → (p : ℕ) (x : End) → HasEndAt a p x → x.outcome ≡ More → ⊥
-  pub bounded : a.verdict ≡ Bound → (a.events ≡ bound) × ((p : ℕ) × (x : End) × HasEndAt a p x × (x.outcome ≡ More))
-  -- the count of events
-  pub total : a.events ≡ sum_by events_of a.ends.items
-  pub within : a.events ≤ bound
+  pub streams : (s : Stream) → HasStream a s → IsFrom N I watch stopped.cells (source N s.line) s.line s.tokens.items

@@ -10,3 +10,6 @@ pub mod Runs
 pub mod Rested
 pub mod Meetings
 pub mod Gathers
+pub mod Concluded
+pub mod HeldRuns
+pub mod Holding

@@ -18,10 +18,10 @@ abbrev pub of_crew : CrewFault → RunFault
 of_crew crew.NoMemory = fault.NoMemory
 of_crew crew.NoThread = fault.NoThread
 
--- memory or a thread was wanting
-abbrev pub IsWant : RunFault → Type 0
-IsWant fault.BadConfig = ⊥
-IsWant fault.UnknownWatch = ⊥
-IsWant fault.NoMemory = Unit {0}
-IsWant fault.NoThread = Unit {0}
-IsWant fault.Stalled = ⊥
+-- memory was wanting, or a thread for one of several workers
+abbrev pub IsWant : ℕ → RunFault → Type 0
+IsWant workers fault.BadConfig = ⊥
+IsWant workers fault.UnknownWatch = ⊥
+IsWant workers fault.NoMemory = Unit {0}
+IsWant workers fault.NoThread = 1 < workers
+IsWant workers fault.Stalled = ⊥

@@ -1,7 +1,7 @@
 -- How tasks stand when no more is run, and what stands in the answer for each.
-use Rattle.std.specs.Prelude.{◌≡◌, ◌⊎◌, ℕ, ◌<◌, List, length, map, Option, Some, slice_get}
+use Rattle.std.specs.Prelude.{◌≡◌, ◌⊎◌, ℕ, List, length, map, Option, Some, slice_get}
 use Rattle.kahn_tree.specs.declared.tree.Program.{Program}
-use Rattle.kahn_network.specs.Network.{Reads, Writes, network_of, instance_at, actual_at}
+use Rattle.kahn_network.specs.Network.{Reads, network_of, instance_at, actual_at}
 use Rattle.kahn_streams.specs.Script as script
 use Rattle.kahn_streams.specs.Script.{Cut, Dry}
 use Rattle.kahn_streams.specs.Meaning.{Store}
@@ -9,7 +9,7 @@ use Rattle.kahn_streams.specs.Tokens.{Lists, inputs_of}
 use Rattle.kahn_code.specs.Progress.{Paused}
 use Rattle.kahn_code.specs.Standing.{count}
 use Rattle.kahn_code.specs.Told.{Told, told_view}
-use Rattle.kahn_job.specs.Ends.{IsReady, ShareLane}
+use Rattle.kahn_job.specs.Ends.{IsReady}
 use Rattle.kahn_job.specs.Berths.{IsFed, end_at}
 use Rattle.kahn_job.specs.Works.{Work, IsJob}
 use Rattle.kahn_crew.specs.declared.standing.Standing.{Standing}

@@ -12,7 +12,7 @@ use Rattle.kahn_streams.specs.Solution as net
 use Rattle.kahn_network.specs.Network.{Network, Instance, Reads, instance_at, actual_at, Given, Written}
 use Rattle.kahn_streams.specs.Solution.{Histories, Inputs, exec_at, out, source, input_list, iterate, IsPrefix, Stands, IsWhole, HasEnd, ending}
 use Rattle.kahn_streams.specs.Laws.{IsExtended}
-use Rattle.kahn_code.specs.Cells.{is_output, is_watched, token_value}
+use Rattle.kahn_code.specs.Cells.{is_output, is_watched, token_value, IsOwn}
 use Rattle.kahn_pool.specs.declared.answer.Answer.{Answer}
 use Rattle.kahn_pool.specs.declared.answer.Stream.{Stream}
 use Rattle.kahn_pool.specs.declared.answer.End.{End}
@@ -89,6 +89,8 @@ pub record IsRight (N : Network) (I : Inputs) (bound : ℕ) (watch : Option ℕ)
   pub named : map line_of a.streams.items ≡ stream_lines N watch
   pub tokens : (s : Stream) (k : ℕ) (t : Token) → HasStream a s → slice_get s.tokens.items k ≡ Some t →
       (t.line ≡ s.line) × (t.place ≡ k) × Stands N I s.line k t.value
+  -- each token is of this network, and of an input whose lists begin those of this one, so that `Input::lift` takes it
+  pub own : (s : Stream) (k : ℕ) (t : Token) → HasStream a s → slice_get s.tokens.items k ≡ Some t → IsOwn N I t
   -- there are tapes, the input lists on the input channels and else prefixes of some iterate, such that each instance
   -- does its events on them and sends them on each line that it writes; the values of each answered stream are theirs
   pub tapes : Histories

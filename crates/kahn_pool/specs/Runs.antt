@@ -1,5 +1,5 @@
 -- What a run is asked for, and why it is refused (this project's profile).
-use Rattle.std.specs.Prelude.{◌≡◌, ℕ, ◌<◌, ◌≤◌, List, length, Option, Some, None, string_bytes}
+use Rattle.std.specs.Prelude.{◌≡◌, ℕ, ◌<◌, ◌≤◌, length, Option, Some, None, string_bytes}
 use Rattle.std.specs.declared.string.String.{String}
 use Rattle.std.specs.declared.alloc.Global.{Global}
 use Rattle.kahn_tree.specs.declared.tree.Program.{Program}
@@ -33,10 +33,11 @@ abbrev pub IsRun : Program → Lists → Config → Answer → Type 0
 IsRun t lists config a =
     IsAllowed config × ((watch : Option ℕ) × IsWatched t config.watch watch × IsRight (network_of t) (inputs_of lists) config.bound watch a)
 
--- why there is none: first the numbers, then the watched channel, then want of memory or of a thread; none stalls
+-- why there is none: first the numbers, then the watched channel, then want of memory, or of a thread for one of several
+-- workers; none stalls
 abbrev pub IsUnrun : Program → Config → RunFault → Type 0
 IsUnrun t config fault.BadConfig = IsAllowed config → ⊥
 IsUnrun t config fault.UnknownWatch = IsAllowed config × IsUndeclared t config.watch
 IsUnrun t config fault.NoMemory = IsAllowed config × ((watch : Option ℕ) × IsWatched t config.watch watch)
-IsUnrun t config fault.NoThread = IsAllowed config × ((watch : Option ℕ) × IsWatched t config.watch watch)
+IsUnrun t config fault.NoThread = IsAllowed config × (1 < config.workers) × ((watch : Option ℕ) × IsWatched t config.watch watch)
 IsUnrun t config fault.Stalled = ⊥

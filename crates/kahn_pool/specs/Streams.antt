@@ -69,16 +69,16 @@ KeepsOthers N c old new =
 -- each stream of an input channel has the whole list of that channel
 abbrev pub HasInputs : Network → Inputs → List Stream → Type 0
 HasInputs N I streams =
-    (j c : ℕ) (x : Stream) → slice_get streams j ≡ Some x → x.line ≡ Channel c → source N (Channel c) ≡ Given → IsKept (Channel c) (I c) x.tokens.items
+    (j c : ℕ) (x : Stream) → slice_get streams j ≡ Some x → x.line ≡ Channel c → source N (Channel c) ≡ Given → IsKept N I (Channel c) (I c) x.tokens.items
 
 -- a line of this source with these tokens before has those after: the whole list of an input channel; all others stay
-abbrev pub HasInput : Inputs → Source → Line → List Token → List Token → Type 0
-HasInput I Given (Channel c) before after = IsKept (Channel c) (I c) after
-HasInput I Given (Print r) before after = after ≡ before
-HasInput I (Written p) c before after = after ≡ before
-HasInput I Nobody c before after = after ≡ before
+abbrev pub HasInput : Network → Inputs → Source → Line → List Token → List Token → Type 0
+HasInput N I Given (Channel c) before after = IsKept N I (Channel c) (I c) after
+HasInput N I Given (Print r) before after = after ≡ before
+HasInput N I (Written p) c before after = after ≡ before
+HasInput N I Nobody c before after = after ≡ before
 
 pub record HaveInput (N : Network) (I : Inputs) (old new : List Stream) : Type 0 where
   pub lines : map line_of new ≡ map line_of old
   pub each : (j : ℕ) (x y : Stream) → slice_get old j ≡ Some x → slice_get new j ≡ Some y →
-      HasInput I (source N y.line) y.line x.tokens.items y.tokens.items
+      HasInput N I (source N y.line) y.line x.tokens.items y.tokens.items

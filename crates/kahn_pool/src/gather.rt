@@ -12,10 +12,8 @@ ghost use Rattle.kahn_crew.specs.Left.{HaveLeft};
 ghost use Rattle.kahn_pool.specs.Rested.{AreTasks, cell_of, state_of};
 
 use crate::answer::{Answer, End, Stream};
-use crate::ends::ends_of;
+use crate::conclude::{Conclusion, conclude};
 use crate::laws;
-use crate::meeting::meet_all;
-use crate::rounds::verdict_of;
 use crate::settle::settle_all;
 use crate::streams::fill;
 use crate::workbench::opening_streams;
@@ -94,7 +92,7 @@ fn gather<'n>(
     input: &'n Input,
     watch: Option<usize>,
     bound: u64,
-    mut left: Left<'n>,
+    left: Left<'n>,
     room: Room,
 ) -> Answer
     requires ended { HasEnded network.now input.now watch bound left.tasks.items left.budget left.halted }
@@ -102,17 +100,19 @@ fn gather<'n>(
     ensures right { IsRight (network_of network.now) (inputs_of input.now) bound watch result }
     ensures verdict { result.verdict ≡ verdict.Memory ↔ left.entry.halted ≡ true }
 {
-    let _program = network.program();
-    let ends = ends_of(network, input, &left.tasks, room.ends);
-    meet_all(network, &mut left.tasks);
+    let events = bound - left.budget;
+    let Conclusion {
+        tasks,
+        ends,
+        verdict,
+    } = conclude(network, input, watch, bound, left, room.ends);
     laws::assembled();
-    let verdict = verdict_of(left.halted, &ends);
-    let streams = streams_of(network, input, watch, left.tasks, room.streams, room.kept);
+    let streams = streams_of(network, input, watch, tasks, room.streams, room.kept);
     Answer {
         verdict,
         streams,
         ends,
-        events: bound - left.budget,
+        events,
     }
 }
 

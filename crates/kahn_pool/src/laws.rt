@@ -1,17 +1,19 @@
 //! Laws of answers. Each function does nothing: its contract is the law.
 
 ghost use Rattle.kahn_network.specs.Network.{Network};
+ghost use Rattle.kahn_network.specs.Wiring.{IsWellWired};
 ghost use Rattle.kahn_streams.specs.Solution.{HasSize, Inputs};
 ghost use Rattle.kahn_streams.specs.declared.value.Line.{Line};
 ghost use Rattle.kahn_streams.specs.declared.value.Value.{Value};
 ghost use Rattle.kahn_code.specs.Cells.{StoodBy, View};
 ghost use Rattle.kahn_pool.specs.Gathered.{IsGathered, Stood};
 ghost use Rattle.kahn_pool.specs.Exact.{AreBegun, Settles};
+ghost use Rattle.kahn_pool.specs.HeldRuns.{AreCalls, GoesOn, HeldRun, IsAnswerOf, SaysNoLess, last_of};
 ghost use Rattle.kahn_pool.specs.Parameters.{ReadsOnce};
 ghost use Rattle.kahn_pool.specs.Right.{AreOne, IsRight};
 ghost use Rattle.kahn_pool.specs.declared.answer.Answer.{Answer};
 ghost use Rattle.kahn_pool.specs.declared.answer.Verdict.TheVariants.{Finished, Memory};
-ghost use Rattle.std.specs.Prelude.{◌≡◌, ℕ, Option};
+ghost use Rattle.std.specs.Prelude.{◌≡◌, ℕ, List, Option};
 
 /// What a cell says by the numbers of its parameters says the same by channels.
 pub fn by_channel()
@@ -43,4 +45,22 @@ pub fn verdict_is_one()
 /// Each stream of a right answer begins the history of its line, however the run stopped.
 pub fn stopped_begins()
     ensures { (N : Network) (I : Inputs) (bound : ℕ) (watch : Option ℕ) (a : Answer) → IsRight N I bound watch a → AreBegun N I a }
+{}
+
+/// A held run of a network that is well wired goes on as it is: each stream is a prefix of itself.
+pub fn goes_on_same()
+    ensures { (h : HeldRun) → IsWellWired h.network → GoesOn h h }
+{}
+
+/// What goes on from a later run goes on from an earlier one.
+pub fn goes_on_then()
+    ensures { (a b c : HeldRun) → GoesOn a b → GoesOn b c → GoesOn a c }
+{}
+
+/// Whatever calls stand between two states of a held run, in any order and with any refusals, it goes on from the one to
+/// the other; so each stream of an answer is a prefix of the same stream in every later answer, and no instance's events go
+/// down.
+pub fn calls_go_on()
+    ensures calls { (h : HeldRun) (later : List HeldRun) → IsWellWired h.network → AreCalls h later → GoesOn h (last_of h later) }
+    ensures answers { (h : HeldRun) (later : List HeldRun) (a b : Answer) → IsWellWired h.network → AreCalls h later → IsAnswerOf h a → IsAnswerOf (last_of h later) b → SaysNoLess a b }
 {}

@@ -11,8 +11,8 @@ use crate::answer::Answer;
 use crate::config::{Config, RunFault};
 use crate::gate::Gate;
 use crate::laws;
+use crate::plan::plan_of;
 use crate::workers::run_workers;
-use kahn_crew::Plan;
 use kahn_network::network::Network;
 use kahn_streams::entries::channel_named;
 use kahn_streams::input::Input;
@@ -21,7 +21,7 @@ use std::sync::Wait;
 use std::thread::Threads;
 
 // The channel that is to be watched.
-fn watched(network: &Network, name: &Option<String>) -> Result<Option<usize>, RunFault>
+pub(crate) fn watched(network: &Network, name: &Option<String>) -> Result<Option<usize>, RunFault>
     ensures { MatchResult result (IsWatched network.now name.now) (λ f. (f ≡ UnknownWatch) × IsUndeclared network.now name.now) }
 {
     match name {
@@ -40,9 +40,9 @@ fn watched(network: &Network, name: &Option<String>) -> Result<Option<usize>, Ru
 ///
 /// It refuses with `BadConfig` where a number of the configuration is out of its limit, then with `UnknownWatch` where
 /// no channel has the name that is to be watched, with `NoMemory` where memory was refused before the first event, and
-/// with `NoThread` where a thread couldn't be started. Memory that is refused later stops the run: its answer has the
-/// verdict `Memory`. One worker has the caller's thread and each other one a thread of its own. Before each quantum of an
-/// instance the gate is entered.
+/// with `NoThread` where a thread couldn't be started, which one worker never takes: it has the caller's thread, and each
+/// other one a thread of its own. Memory that is refused later stops the run: its answer has the verdict `Memory`. Before
+/// each quantum of an instance the gate is entered.
 pub fn run<R: Threads + Wait + Sync, G: Gate + Sync>(
     rt: &R,
     alloc: Global,
@@ -60,11 +60,6 @@ pub fn run<R: Threads + Wait + Sync, G: Gate + Sync>(
     }
     let watch = watched(network, &config.watch)?;
     laws::finished_exactly();
-    let plan = Plan {
-        watch,
-        workers: config.workers as usize,
-        quantum: config.quantum,
-        bound: config.bound,
-    };
+    let plan = plan_of(&config, watch);
     run_workers(rt, alloc, network, &input, plan, gate)
 }

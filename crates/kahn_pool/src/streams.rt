@@ -197,7 +197,7 @@ fn give_list(
 ) -> Result<(), NoMemory>
     requires here { channel < length (network_of network.now).channels }
     requires bare { tokens.old.items ≡ [] }
-    ensures given { OnOk result (role_at (network_of network.now) channel ≡ InputRole → IsKept (ChannelLine channel) (inputs_of input.now channel) tokens.new.items) }
+    ensures given { OnOk result (role_at (network_of network.now) channel ≡ InputRole → IsKept (network_of network.now) (inputs_of input.now) (ChannelLine channel) (inputs_of input.now channel) tokens.new.items) }
     ensures others { OnOk result ((role_at (network_of network.now) channel ≡ InputRole → ⊥) → tokens.new.items ≡ tokens.old.items) }
 {
     'tokens: while let Some(token) = input.token(network, channel, tokens.len() as u64) {
@@ -211,7 +211,7 @@ fn give_input(network: &Network, input: &Input, stream: &mut Stream) -> Result<(
     requires declared { IsDeclared (network_of network.now) stream.old.line }
     requires bare { IsBare stream.old }
     ensures line { stream.new.line ≡ stream.old.line }
-    ensures given { OnOk result (HasInput (inputs_of input.now) (source (network_of network.now) stream.old.line) stream.old.line stream.old.tokens.items stream.new.tokens.items) }
+    ensures given { OnOk result (HasInput (network_of network.now) (inputs_of input.now) (source (network_of network.now) stream.old.line) stream.old.line stream.old.tokens.items stream.new.tokens.items) }
 {
     if let Line::Channel(channel) = stream.line {
         give_list(network, input, channel, &mut stream.tokens)?;

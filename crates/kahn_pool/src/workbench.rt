@@ -16,6 +16,7 @@ use kahn_code::progress::Pause;
 use kahn_code::steps::Steps;
 use kahn_network::network::Network;
 use kahn_streams::input::Input;
+use kahn_streams::memory::NoMemory;
 use std::alloc::Global;
 use std::marker::Model;
 use std::sync::ledger::Ledger;
@@ -91,7 +92,7 @@ pub(crate) fn opening_streams(
     network: &Network,
     input: &Input,
     watch: Option<usize>,
-) -> Result<Vec<Stream>, CodeFault>
+) -> Result<Vec<Stream>, NoMemory>
     ensures { IfOk result (λ streams. AreOpen network.now input.now watch streams.items) }
 {
     let mut streams = empty_streams(alloc, network, watch)?;

@@ -37,7 +37,7 @@ fn run_counted<R: Threads + Wait + Sync, G: Gate + Sync, L: Ledger>(
     requires few { (1 ≤ plan.workers) × (plan.workers ≤ 16) }
     requires quantum { 0 < plan.quantum }
     requires bound { plan.bound < 2 ^ 48 }
-    ensures { MatchResult result (IsRight (network_of network.now) (inputs_of input.now) plan.bound plan.watch) IsWant }
+    ensures { MatchResult result (IsRight (network_of network.now) (inputs_of input.now) plan.bound plan.watch) (IsWant plan.workers) }
 {
     let mut steps = Steps::<L>::open(blank);
     let code = compile(alloc, network)?;
@@ -49,7 +49,7 @@ fn run_counted<R: Threads + Wait + Sync, G: Gate + Sync, L: Ledger>(
 }
 
 /// Runs a network by several workers, one in the caller's thread and each other in one of its own, and answers right. It
-/// refuses only where memory was refused before the first event, or where a thread couldn't be started.
+/// refuses only where memory was refused before the first event, or where a thread couldn't be started for one of several.
 pub fn run_workers<R: Threads + Wait + Sync, G: Gate + Sync>(
     rt: &R,
     alloc: Global,
@@ -61,7 +61,7 @@ pub fn run_workers<R: Threads + Wait + Sync, G: Gate + Sync>(
     requires few { (1 ≤ plan.workers) × (plan.workers ≤ 16) }
     requires quantum { 0 < plan.quantum }
     requires bound { plan.bound < 2 ^ 48 }
-    ensures { MatchResult result (IsRight (network_of network.now) (inputs_of input.now) plan.bound plan.watch) IsWant }
+    ensures { MatchResult result (IsRight (network_of network.now) (inputs_of input.now) plan.bound plan.watch) (IsWant plan.workers) }
 {
     run_counted::<R, G, Brand>(rt, alloc, Blank::new(1), network, input, plan, gate)
 }

@@ -6,7 +6,11 @@ mod faults;
 #[cfg(test)]
 mod gates;
 #[cfg(test)]
+mod held;
+#[cfg(test)]
 mod inputs;
+#[cfg(test)]
+mod lifted;
 #[cfg(test)]
 mod one;
 #[cfg(test)]

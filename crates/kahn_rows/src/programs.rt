@@ -225,3 +225,38 @@ pub const NO_WRITER: &str = "begin integer channel X; process p(); begin end; p(
 
 /// A logical channel that nobody writes.
 pub const NO_LOGICAL_WRITER: &str = "begin logical channel X; process p(); begin end; p() end";
+
+/// Prints the sum of two inputs.
+pub const ADD: &str = "\
+begin integer input channel A, B;
+  process add(integer in U, V); begin print wait(U) + wait(V) end;
+  add(A, B)
+end
+";
+
+/// Copies its input to a channel, and from there to its output.
+pub const COPIES: &str = "\
+begin integer input channel A; integer channel X; integer output channel B;
+  process copy(integer in U; integer out W);
+  begin repeat send wait(U) on W end;
+  copy(A, X) par copy(X, B)
+end
+";
+
+/// A process that sends a value, and one that prints it.
+pub const HANDED_ON: &str = "\
+begin integer channel X;
+  process s(integer out W); begin send 1 on W end;
+  process c(integer in U); begin print wait(U) end;
+  s(X) par c(X)
+end
+";
+
+/// Sends a value, and then copies its input.
+pub const LEAD: &str = "\
+begin integer input channel A; integer output channel B;
+  process lead(integer in U; integer out W);
+  begin send 7 on W; repeat send wait(U) on W end;
+  lead(A, B)
+end
+";

@@ -379,8 +379,8 @@ fn events_of(report: &str) -> u64 {
     sum
 }
 
-// Whether each line before the first end begins the line that stands there in the whole report, up to the end of a value.
-fn streams_begin(whole: &str, report: &str) -> bool {
+/// Whether each line before the first end begins the line that stands there in the whole report, up to the end of a value.
+pub fn streams_begin(whole: &str, report: &str) -> bool {
     for (all, line) in whole.lines().zip(report.lines()) {
         if line.starts_with("end ") {
             return true;
@@ -444,15 +444,15 @@ fn agrees(whole: &str, bound: u64, verdict: Verdict, report: &str) -> bool {
     }
 }
 
-// The next of numbers that look like chance, and are the same whenever the test is run.
-fn shuffled(number: u64) -> u64 {
+/// The next of numbers that look like chance, and are the same whenever the test is run.
+pub fn shuffled(number: u64) -> u64 {
     number
         .wrapping_mul(6364136223846793005)
         .wrapping_add(1442695040888963407)
 }
 
-// A number below this one, or 0.
-fn below(limit: u64, number: u64) -> u64 {
+/// A number below this one, or 0.
+pub fn below(limit: u64, number: u64) -> u64 {
     (number >> 33).checked_rem(limit).unwrap_or(0)
 }
 

@@ -1,7 +1,6 @@
-use Rattle.std.proofs.Common.{arith, sym, ◌∙◌, ap, ◌≡◌, ◌≤◌, length}
+use Rattle.std.proofs.Common.{arith}
 use Rattle.kahn_board.specs.Wires.{wires}
-use Rattle.kahn_network.specs.Network.{network_of}
-use Rattle.kahn_crew.proofs.Ended.{all_there, have_left, instances_of}
+use Rattle.kahn_crew.proofs.Ended.{all_there, have_gone, instances_of, is_over, untouched}
 use Rattle.kahn_crew.proofs.closing.leave.Goals as goal
 
 pub out_of_cells-requires-clause-full : goal.out_of_cells-requires-clause-full
@@ -15,7 +14,17 @@ out_of_cells-requires-clause-room c =
     let r = c.requires.room.1 in
     (c.requires.room.0, omega (arith, e, i, r))
 
-pub returns : goal.returns
-returns c =
-    have_left c.args.network.now c.args.input.now c.args.plan.watch c.args.plan.bound c.args.board.table.shared.key c.program-program.ensures.wired c.requires.begun
-    c.close-cells.result.cells.items c.out_of_cells.result.items c.args.seat.seat.me.0 c.close-cells.result.budget c.close-cells.result.halted c.close-cells.ensures c.out_of_cells.ensures c.requires.seat.0.1.1 c.requires.seat.1
+pub returns-clause-gone : goal.returns-clause-gone
+returns-clause-gone c =
+    have_gone c.args.network.now c.args.input.now c.args._watch c.args.board.table.shared.key c.program-program.ensures.wired c.requires.begun
+    c.close-cells.result.cells.items c.out_of_cells.result.items c.args.seat.seat.me.0 c.close-cells.result.budget c.close-cells.result.halted c.close-cells.ensures c.out_of_cells.ensures c.requires.seat.1.1
+
+pub returns-clause-over : goal.returns-clause-over
+returns-clause-over c =
+    is_over c.args.network.now c.args.input.now c.args._watch c.args.board.table.shared.key c.program-program.ensures.wired c.requires.begun
+    c.close-cells.result.cells.items c.out_of_cells.result.items c.args.seat.seat.me.0 c.close-cells.result.budget c.close-cells.result.halted c.close-cells.ensures c.out_of_cells.ensures
+
+pub returns-clause-untouched : goal.returns-clause-untouched
+returns-clause-untouched c =
+    untouched c.args.network.now c.args.input.now c.args._watch c.args.board.table.shared.key c.program-program.ensures.wired c.requires.begun
+    c.close-cells.result.cells.items c.out_of_cells.result.items c.args.seat.seat.me.0 c.close-cells.result.budget c.close-cells.result.halted c.close-cells.ensures c.out_of_cells.ensures c.requires.seat.1.1

@@ -6,7 +6,7 @@ use Rattle.kahn_crew.proofs.crew.work_all.Goals as goal
 pub returns : goal.returns
 returns g c =
     let t = all_gone c.args.floor.now.board.now.table.shared.table_id c.args.workers.items c.labor_all.result.hands.items c.labor_all.ensures.count c.labor_all.ensures.each in
-    record { count = c.labor_all.ensures.count; each = t.0; sums = t.1 }
+    record { count = c.labor_all.ensures.count; each = t.0; sums = t.1; several = c.labor_all.ensures.several }
 
 -- a worker may go to another thread
 pub labor_all-requires-send-T : goal.labor_all-requires-send-T

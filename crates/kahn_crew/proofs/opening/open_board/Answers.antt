@@ -1,14 +1,17 @@
-use Rattle.std.proofs.Common.{sym, subst, List, ℕ}
-use Rattle.kahn_network.specs.Wiring.{IsWellWired}
+use Rattle.std.proofs.Common.{sym, subst, List, ℕ, slice_index}
 use Rattle.kahn_board.specs.Opening.{Opens}
 use Rattle.kahn_board.specs.Wires.{wires}
-use Rattle.kahn_crew.specs.Tasks.{IsLater, told_of}
+use Rattle.kahn_crew.specs.Begins.{IsNumber}
+use Rattle.kahn_crew.specs.Tasks.{Tasked, IsLater, told_of}
 use Rattle.kahn_crew.proofs.Started.{opens}
 use Rattle.kahn_crew.proofs.opening.open_board.Goals as goal
 
 pub new-requires : goal.new-requires
 new-requires c =
     let t = c.args.network.now in
-    subst (λ (xs : List ℕ). Opens told_of IsLater (wires t) c.args.plan.bound xs c.in_ok-tasks.tasks.items) (sym c.deref.ensures.value)
-    (opens t (subst IsWellWired c.requires.routes c.wired.ensures) c.args.input.now c.args.plan.watch c.in_ok-numbers.numbers.items c.in_ok-tasks.tasks.items c.args.plan.bound
-    c.in_ok-tasks.ensures c.in_ok-numbers.ensures.count c.in_ok-numbers.ensures.each c.requires.bound)
+    subst (λ (xs : List ℕ). Opens told_of IsLater (wires t) c.args.bound xs c.args.tasks.items) (sym c.deref-2.ensures.value)
+    (opens t c.program-program.ensures.wired c.args.input.now c.args.watch c.in-Ok.numbers.items c.args.tasks.items c.requires.ready
+    c.in-Ok.ensures.count
+    (λ n lt. let h = c.in-Ok.ensures.each n lt in
+    (subst (λ (xs : List Tasked). IsNumber t c.args.input.now xs n (slice_index c.in-Ok.numbers.items n)) c.deref.ensures.value h.0, h.1))
+    c.args.bound c.requires.few)

@@ -1,4 +1,4 @@
-use Rattle.std.proofs.Common.{arith, ◌≡◌, ◌<◌, ◌^◌, sym, ap, ◌∙◌, subst, length, Some}
+use Rattle.std.proofs.Common.{arith, ◌≡◌, ◌<◌, sym, subst, Some}
 use Rattle.kahn_tree.specs.declared.tree.Program.{Program}
 use Rattle.kahn_network.specs.Network.{Writes, network_of, instance_at, actual_at}
 use Rattle.kahn_board.specs.Wires.{wires}

@@ -1,4 +1,4 @@
-use Rattle.std.proofs.Common.{◌≡◌, subst}
+use Rattle.std.proofs.Common.{subst}
 use Rattle.kahn_board.specs.Dealt.{wired}
 use Rattle.kahn_crew.specs.Rests.{IsDue}
 use Rattle.kahn_crew.proofs.turn.rest.Goals as goal

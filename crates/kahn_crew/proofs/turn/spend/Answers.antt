@@ -1,10 +1,10 @@
-use Rattle.std.proofs.Common.{arith, ◌≡◌, ◌≤◌, ◌-◌, ◌+◌, sym, ap, ◌∙◌, subst, ℕ, List, Option, Some, None}
+use Rattle.std.proofs.Common.{arith, ◌≡◌, ◌≤◌, ◌-◌, sym, ap, ◌∙◌, subst, ℕ, List, Some, None}
 use Rattle.kahn_tree.specs.declared.tree.Program.{Program}
 use Rattle.kahn_board.specs.Dealt.{belongs}
 use Rattle.kahn_board.specs.Wires.{wires}
 use Rattle.kahn_board.specs.declared.view.View.{View}
 use Rattle.kahn_desk.specs.Turn.{Fits, Holds, Knows}
-use Rattle.kahn_crew.specs.Floors.{HasKept, IsTaskOf}
+use Rattle.kahn_crew.specs.Floors.{IsTaskOf}
 use Rattle.kahn_crew.specs.Tasks.{Tasked, AgreesWith, IsLater, told_of}
 use Rattle.kahn_crew.proofs.Resting.{agrees_later, agrees_with, fits_spent, task_later, task_of, task_work}
 use Rattle.kahn_crew.proofs.turn.spend.Goals as goal

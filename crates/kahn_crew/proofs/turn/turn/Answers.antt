@@ -1,4 +1,4 @@
-use Rattle.std.proofs.Common.{arith, ◌≡◌, sym, ◌∙◌, subst, ℕ, Option, Some, None}
+use Rattle.std.proofs.Common.{sym, ◌∙◌, subst, Some}
 use Rattle.kahn_tree.specs.declared.tree.Program.{Program}
 use Rattle.kahn_board.specs.Dealt.{belongs}
 use Rattle.kahn_board.specs.Wires.{wires}

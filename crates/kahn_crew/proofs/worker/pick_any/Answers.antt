@@ -1,4 +1,4 @@
-use Rattle.std.proofs.Common.{arith, ◌≡◌, ◌<◌, ◌%◌, ◌+◌}
+use Rattle.std.proofs.Common.{arith, ◌%◌, ◌+◌}
 use Rattle.std.proofs.Math.Nat.{mod-lt}
 use Rattle.kahn_crew.proofs.worker.pick_any.Goals as goal
 

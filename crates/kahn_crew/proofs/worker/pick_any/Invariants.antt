@@ -1,4 +1,3 @@
-use Rattle.std.proofs.Common.{◌≡◌}
 use Rattle.kahn_desk.specs.Turn.{IsIdle, IsSeatOf}
 use Rattle.kahn_crew.proofs.worker.pick_any.Given as goal
 

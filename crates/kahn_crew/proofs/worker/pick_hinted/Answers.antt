@@ -1,4 +1,3 @@
-use Rattle.std.proofs.Common.{◌≡◌, ◌<◌}
 use Rattle.kahn_crew.proofs.worker.pick_hinted.Goals as goal
 
 pub returns-then-pick-clause-picked : goal.returns-then-pick-clause-picked

@@ -1,6 +1,5 @@
-use Rattle.std.proofs.Common.{arith, ◌≡◌, ◌<◌, length, sym, subst}
+use Rattle.std.proofs.Common.{arith, ◌≡◌, subst}
 use Rattle.kahn_tree.specs.declared.tree.Program.{Program}
-use Rattle.kahn_network.specs.Network.{network_of}
 use Rattle.kahn_board.specs.Wires.{wires}
 use Rattle.kahn_crew.proofs.Resting.{instances_of}
 use Rattle.kahn_crew.proofs.worker.turns.Goals as goal

@@ -1,4 +1,4 @@
-use Rattle.std.proofs.Common.{arith, ◌≡◌, ◌<◌, [], length, map, replicate, slice_index_or, sym, ap, ◌∙◌}
+use Rattle.std.proofs.Common.{arith, ◌<◌, [], length, map, replicate, slice_index_or, ap, ◌∙◌}
 use Rattle.kahn_network.specs.Network.{network_of}
 use Rattle.kahn_job.specs.Ways.{nothing}
 use Rattle.kahn_job.proofs.Bare.{one_row, as_wide}

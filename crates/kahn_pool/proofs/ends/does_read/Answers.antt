@@ -1,5 +1,4 @@
-use Rattle.std.proofs.Common.{◌≡◌, sym, ap, ◌∙◌, true, false}
-use Rattle.kahn_pool.proofs.Ended.{is_reader, other_reader, no_reader, reader_at}
+use Rattle.kahn_pool.proofs.Ended.{is_reader, no_reader, reader_at}
 use Rattle.kahn_pool.proofs.ends.does_read.Goals as goal
 
 pub returns-in-Some : goal.returns-in-Some

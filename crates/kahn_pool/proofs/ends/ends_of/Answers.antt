@@ -1,5 +1,4 @@
-use Rattle.std.proofs.Common.{◌≡◌, ◌+◌, sym, ap, ◌∙◌, subst, add-one}
-use Rattle.kahn_pool.specs.Rested.{AreEndsOf}
+use Rattle.std.proofs.Common.{◌∙◌, add-one}
 use Rattle.kahn_pool.proofs.Ended.{more_ends}
 use Rattle.kahn_pool.proofs.ends.ends_of.Goals as goal
 

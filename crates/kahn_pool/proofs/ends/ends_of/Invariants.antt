@@ -1,4 +1,4 @@
-use Rattle.std.proofs.Common.{◌≡◌, ◌≤◌, length, vec_capacity}
+use Rattle.std.proofs.Common.{◌≡◌, vec_capacity}
 use Rattle.kahn_pool.specs.Rested.{AreEndsOf}
 use Rattle.kahn_pool.proofs.ends.ends_of.Given as goal
 

@@ -1,4 +1,4 @@
-use Rattle.std.proofs.Common.{◌≡◌, ◌≤◌, length, map, vec_capacity}
+use Rattle.std.proofs.Common.{◌≡◌, map, vec_capacity}
 use Rattle.kahn_pool.specs.Workbench.{AreKeptOf}
 use Rattle.kahn_pool.specs.Rested.{cell_of}
 use Rattle.kahn_pool.proofs.gather.all_kept.Given as goal

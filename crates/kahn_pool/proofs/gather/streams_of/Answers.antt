@@ -1,5 +1,4 @@
-use Rattle.std.proofs.Common.{arith, ◌≡◌, ◌≤◌, length, map, sym, ap, ◌∙◌}
-use Rattle.kahn_network.specs.Network.{network_of}
+use Rattle.std.proofs.Common.{map}
 use Rattle.kahn_pool.specs.Rested.{cell_of, state_of}
 use Rattle.kahn_pool.proofs.Kept.{are_lists}
 use Rattle.kahn_pool.proofs.Filled.{are_streams}

@@ -1,4 +1,4 @@
-use Rattle.std.proofs.Common.{rules, ◌≡◌, length, ℕ, ◌<◌, add-one}
+use Rattle.std.proofs.Common.{rules, ◌≡◌, length, add-one}
 use Rattle.kahn_network.specs.Network.{network_of}
 use Rattle.kahn_pool.proofs.Meets.{behind_all, behind_before, behind_more, have_met_then, joined_met}
 use Rattle.kahn_pool.proofs.meeting.meet_all.Goals as goal

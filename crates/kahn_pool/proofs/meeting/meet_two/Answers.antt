@@ -1,4 +1,4 @@
-use Rattle.std.proofs.Common.{rules, arith, ◌≡◌, ◌<◌, ◌+◌, ◌-◌, length}
+use Rattle.std.proofs.Common.{arith, ◌≡◌, ◌<◌, ◌+◌, ◌-◌, length}
 use Rattle.kahn_pool.proofs.Meets.{behind_last, can_last, met_swapped, moved_inside, swapped_long}
 use Rattle.kahn_pool.proofs.meeting.meet_two.Goals as goal
 

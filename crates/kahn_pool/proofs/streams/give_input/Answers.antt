@@ -12,5 +12,5 @@ returns-in_ok-give_list-clause-given c =
     let I = inputs_of c.args.input.now in
     let before = c.args.stream.now.tokens.items in
     let after = c.give_list.new.tokens.items in
-    subst (λ d. HasInput I (source N d) d before after) (sym c.in-Channel.is)
+    subst (λ d. HasInput N I (source N d) d before after) (sym c.in-Channel.is)
     (channel_given N I c.in-Channel.channel before after c.in_ok-give_list.ensures.given c.in_ok-give_list.ensures.others)

@@ -1,12 +1,14 @@
 use Rattle.std.proofs.Common.{rules, arith, ◌≡◌, inl, inr, ◌+◌, [], ◌∷◌, length, length-append, ap, ◌∙◌}
 use Rattle.std.proofs.lemmas.Option.{slice_get_within}
+use Rattle.kahn_network.specs.Network.{network_of}
 use Rattle.kahn_streams.specs.Tokens.{inputs_of}
+use Rattle.kahn_code.proofs.Lists.{own_of}
 use Rattle.kahn_pool.proofs.Giving.{begun_none, begun_more, falls}
 use Rattle.kahn_pool.proofs.streams.give_list.Goals as goal
 
 pub tokens-init : goal.tokens-init
 tokens-init c =
-    record { begun = begun_none c.args.channel (inputs_of c.args.input.now c.args.channel) c.args.tokens.now.items c.requires.bare; given = inl c.requires.bare }
+    record { begun = begun_none (network_of c.args.network.now) (inputs_of c.args.input.now) c.args.channel (inputs_of c.args.input.now c.args.channel) c.args.tokens.now.items c.requires.bare; given = inl c.requires.bare }
 
 pub tokens-smaller : goal.tokens-smaller
 tokens-smaller c =
@@ -23,7 +25,8 @@ tokens-preserved c =
     let old = c.tokens.tokens.items in
     let e : c.len.result ≡ length old = search rules in
     record {
-      begun = begun_more c.args.channel (inputs_of c.args.input.now c.args.channel) old c.push.new.self.items c.in-Some.token c.len.result
-          c.tokens.invariant.begun c.in_ok-push.ensures.items e c.in-Some.ensures.token.0 c.in-Some.ensures.token.1 c.in-Some.ensures.token.2;
+      begun = begun_more (network_of c.args.network.now) (inputs_of c.args.input.now) c.args.channel (inputs_of c.args.input.now c.args.channel) old c.push.new.self.items c.in-Some.token c.len.result
+          c.tokens.invariant.begun c.in_ok-push.ensures.items e c.in-Some.ensures.token.0 c.in-Some.ensures.token.1 c.in-Some.ensures.token.2
+          (own_of c.args.network.now c.args.input.now c.in-Some.token c.in-Some.ensures.names);
       given = inr c.in-Some.ensures.given;
     }

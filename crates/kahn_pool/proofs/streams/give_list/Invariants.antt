@@ -7,7 +7,7 @@ use Rattle.kahn_pool.proofs.streams.give_list.Given as goal
 
 abbrev pub invariant-tokens : goal.invariant-tokens
 invariant-tokens l = record {
-  begun : IsBegun l.channel (inputs_of l.input l.channel) l.tokens.items;
+  begun : IsBegun (network_of l.network) (inputs_of l.input) l.channel (inputs_of l.input l.channel) l.tokens.items;
   given : (l.tokens.items ≡ []) ⊎ (role_at (network_of l.network) l.channel ≡ Input);
 }
 

@@ -1,4 +1,4 @@
-use Rattle.std.proofs.Common.{◌≡◌, ◌≤◌, length, vec_capacity}
+use Rattle.std.proofs.Common.{◌≡◌, vec_capacity}
 use Rattle.kahn_pool.specs.Workbench.{AreKeptOf}
 use Rattle.kahn_pool.proofs.workbench.all_kept.Given as goal
 

@@ -1,4 +1,4 @@
-use Rattle.std.proofs.Common.{◌≡◌, sym, ap, ◌∙◌, subst, replicate, length}
+use Rattle.std.proofs.Common.{ap, ◌∙◌, replicate, length}
 use Rattle.kahn_network.specs.Network.{network_of, instance_at}
 use Rattle.kahn_pool.proofs.Laid.{opening_more}
 use Rattle.kahn_pool.proofs.workbench.named_cells.Goals as goal

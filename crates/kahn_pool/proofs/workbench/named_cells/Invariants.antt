@@ -1,4 +1,3 @@
-use Rattle.std.proofs.Common.{◌≡◌, ◌≤◌, length}
 use Rattle.kahn_pool.specs.Workbench.{AreOpening}
 use Rattle.kahn_pool.proofs.workbench.named_cells.Given as goal
 

@@ -1,4 +1,4 @@
-use Rattle.std.proofs.Common.{arith, ◌≡◌, ⊎_elim, subst, sym, ◌∙◌, ap, Some, None}
+use Rattle.std.proofs.Common.{◌≡◌, ⊎_elim, subst, sym, ◌∙◌, ap, Some, None}
 use Rattle.kahn_tree.specs.declared.tree.Program.{Program}
 use Rattle.kahn_network.specs.Network.{network_of, instance_at, actual_at}
 use Rattle.kahn_network.specs.declared.sides.Side.{Side}

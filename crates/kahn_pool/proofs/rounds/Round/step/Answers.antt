@@ -1,4 +1,4 @@
-use Rattle.std.proofs.Common.{◌≡◌, ◌+◌, ◌-◌, ◌<◌, ◌≤◌, arith, length, ap, ◌∙◌, subst}
+use Rattle.std.proofs.Common.{◌≡◌, ◌-◌, ◌<◌, ◌≤◌, arith, length}
 use Rattle.kahn_pool.specs.Bench.{events_at}
 use Rattle.kahn_pool.proofs.Turns.{run_bound, goes_on}
 use Rattle.kahn_pool.proofs.rounds.Round.step.Goals as goal

@@ -1,4 +1,4 @@
-use Rattle.std.proofs.Common.{arith, refl, sym, ap, ◌∙◌, subst}
+use Rattle.std.proofs.Common.{arith}
 use Rattle.kahn_pool.proofs.Laid.{laid_first, no_events}
 use Rattle.kahn_pool.proofs.workbench.Workbench.new.Goals as goal
 

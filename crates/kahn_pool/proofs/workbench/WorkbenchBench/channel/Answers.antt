@@ -1,6 +1,6 @@
-use Rattle.std.proofs.Common.{◌≡◌, sym, ap, ◌∙◌, subst}
+use Rattle.std.proofs.Common.{◌≡◌, sym, ◌∙◌, subst}
 use Rattle.kahn_network.specs.Network.{network_of, instance_at, actual_at, Reads}
-use Rattle.kahn_pool.specs.Workbench.{Table, IsLaid}
+use Rattle.kahn_pool.specs.Workbench.{Table}
 use Rattle.kahn_pool.proofs.Benched
 use Rattle.kahn_pool.proofs.workbench.WorkbenchBench.channel.Goals as goal
 

@@ -1,7 +1,6 @@
-use Rattle.std.proofs.Common.{◌≡◌, ◌<◌, ◌≤◌, ◌+◌, ℕ, length, map, refl, sym, ap, ◌∙◌, subst, slice_set}
+use Rattle.std.proofs.Common.{◌≡◌, ◌<◌, ◌≤◌, ◌+◌, length, sym, subst, slice_set}
 use Rattle.kahn_network.specs.Network.{network_of}
-use Rattle.kahn_code.specs.Told.{told_view}
-use Rattle.kahn_pool.specs.Bench.{State, events_at}
+use Rattle.kahn_pool.specs.Bench.{events_at}
 use Rattle.kahn_pool.specs.Gathered.{view_at}
 use Rattle.kahn_pool.specs.Workbench.{Table, IsLaid, state_of}
 use Rattle.kahn_code.specs.declared.progress.Pause.TheVariants as pause

@@ -1,6 +1,6 @@
 use Rattle.std.proofs.Common.{subst}
 use Rattle.kahn_pool.specs.Gathered.{AreWithin}
-use Rattle.kahn_pool.specs.Workbench.{Table, IsLaid, state_of}
+use Rattle.kahn_pool.specs.Workbench.{Table, state_of}
 use Rattle.kahn_pool.proofs.Benched
 use Rattle.kahn_pool.proofs.workbench.WorkbenchBench.within.Goals as goal
 

@@ -1,0 +1,18 @@
+use Rattle.std.proofs.Common.{rules, ◌≡◌, List, [], ◌∷◌, ◌++◌, All, map, sym, ap, ◌∙◌, subst}
+use Rattle.std.proofs.lemmas.List.{map-append}
+use Rattle.std.proofs.lemmas.List.Elements.{All-push}
+use Rattle.kahn_job.specs.Works.{IsJob, Work}
+use Rattle.kahn_crew.specs.Tasks.{work_of}
+use Rattle.kahn_crew.proofs.waking.rest_all.Goals as goal
+
+pub loop-task-preserved : goal.loop-task-preserved
+loop-task-preserved c =
+    let pushed : c.push_reserved.new.self.items ≡ c.loop-task.idles.items ++ c.rest.result ∷ [] = search rules in
+    let i = c.loop-task.invariant in (
+      tt,
+      tt,
+      pushed ∙ (ap (λ (l : List Work). l ++ c.rest.result ∷ []) i.2 ∙ (ap (λ (w : Work). map work_of c.loop-task.yielded ++ w ∷ []) c.rest.ensures.same ∙
+          sym (map-append work_of c.loop-task.yielded (c.in-Some.task ∷ [])))),
+      subst (All IsJob) (sym pushed) (All-push IsJob c.loop-task.idles.items c.rest.result i.3 c.rest.ensures.job),
+      search rules,
+    )

@@ -1,0 +1,12 @@
+use Rattle.std.proofs.Common.{◌≡◌, All, map, vec_capacity}
+use Rattle.kahn_job.specs.Works.{IsJob}
+use Rattle.kahn_crew.specs.Tasks.{work_of}
+use Rattle.kahn_crew.proofs.waking.rest_all.Given as goal
+
+abbrev pub invariant-loop-task : goal.invariant-loop-task
+invariant-loop-task l =
+    (goal.iterator-loop-task).can_next l.task-iterator ×
+    (goal.iterator-loop-task).is_finite l.task-iterator ×
+    (l.idles.items ≡ map work_of l.yielded) ×
+    All IsJob l.idles.items ×
+    (vec_capacity l.idles ≡ vec_capacity l.fn.idles)

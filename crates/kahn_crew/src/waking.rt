@@ -1,0 +1,43 @@
+//! Idle jobs become tasks, and tasks become idle jobs again.
+
+ghost use Rattle.std.specs.Prelude.{◌≡◌, ℕ, ◌≤◌, [], All, Some, length, map, slice_get};
+ghost use Rattle.std.specs.Vec.{vec_capacity};
+ghost use Rattle.kahn_job.specs.Idles.{CanGoOn};
+ghost use Rattle.kahn_job.specs.Works.{IsJob, Work};
+ghost use Rattle.kahn_crew.specs.Begins.{woken_task};
+ghost use Rattle.kahn_crew.specs.Tasks.{work_of};
+
+use crate::task::Task;
+use kahn_job::Idle;
+use kahn_network::network::Network;
+use kahn_streams::input::Input;
+
+/// The tasks of idle jobs that go on with an input. The list that is given has room for all. It takes no memory.
+pub fn wake_all<'n>(
+    network: &'n Network,
+    input: &'n Input,
+    mut idles: Vec<Idle>,
+    mut tasks: Vec<Task<'n>>,
+) -> Vec<Task<'n>>
+    requires room { (tasks.items ≡ []) × (length idles.items ≤ vec_capacity tasks) }
+    requires each { (p : ℕ) (w : Work) → slice_get idles.items p ≡ Some w → CanGoOn network.now input.now w }
+    ensures { result.items ≡ map (woken_task input.now) idles.items }
+{
+    idles.reverse();
+    while let Some(idle) = idles.pop() {
+        tasks.push_reserved(Task::woken(idle, network, input));
+    }
+    tasks
+}
+
+/// The jobs of tasks on which nobody works any more. The list that is given has room for all. It takes no memory.
+pub fn rest_all(tasks: Vec<Task>, mut idles: Vec<Idle>) -> Vec<Idle>
+    requires room { (idles.items ≡ []) × (length tasks.items ≤ vec_capacity idles) }
+    ensures same { result.items ≡ map work_of tasks.entry.items }
+    ensures jobs { All IsJob result.items }
+{
+    for task in tasks {
+        idles.push_reserved(task.rest());
+    }
+    idles
+}

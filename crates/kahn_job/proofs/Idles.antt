@@ -1,0 +1,265 @@
+-- Jobs on which nobody works: what changes where one of them gets another end, and how one goes on.
+use Rattle.std.proofs.Common.{arith, ◌≡◌, ◌⊎◌, inl, inr, ℕ, zero, suc, ◌<◌, ◌≤◌, List, [], ◌∷◌, length, refl, sym, ap, ◌∙◌, subst, slice_set, slice_index_or, le_of_suc-le-suc, None, slice_get, Some}
+use Rattle.std.proofs.lemmas.List.{get_or_past}
+use Rattle.std.proofs.lemmas.Option.{slice_get_within}
+use Rattle.kahn_tree.specs.declared.tree.Program.{Program}
+use Rattle.kahn_streams.specs.Laws.{AreInputsExtended}
+use Rattle.kahn_network.specs.Network.{Actual, Reads, Writes, Hands, network_of, instance_at, actual_at, idle, role_at}
+use Rattle.kahn_network.specs.Wiring.{IsWellWired}
+use Rattle.kahn_network.proofs.Sourced.{reads_listed, writes_listed}
+use Rattle.kahn_streams.specs.Tokens.{Lists, inputs_of}
+use Rattle.kahn_streams.proofs.Proved.{prefix_refl, prefix_trans}
+use Rattle.kahn_code.specs.Told.{Told, IsAt}
+use Rattle.kahn_code.specs.Lines.{Joins}
+use Rattle.kahn_job.specs.Ends.{End, ShareLane}
+use Rattle.kahn_job.specs.Berths.{AreServed, Serves, end_at}
+use Rattle.kahn_job.specs.Openings.{end_in}
+use Rattle.kahn_job.specs.Works.{Work, IsManned}
+use Rattle.kahn_job.specs.Idles.{AreIdle, AreTogether, CanGoOn, HaveSettled, IsIdle, cells_of, rows_of}
+use Rattle.kahn_job.specs.Settling.{ServedBefore, AreResting, HaveStood, IsOfBefore}
+use Rattle.kahn_job.proofs.Settles.{AreGoing, carried_read, carried_write}
+
+pub rows_length : (ws : List Work) → length (rows_of ws) ≡ length ws
+rows_length [] = refl
+rows_length (w ∷ ws) = ap suc (rows_length ws)
+
+row_of : (ws : List Work) (p : ℕ) (d : Work) → p < length ws → slice_index_or (rows_of ws) p [] ≡ (slice_index_or ws p d).ends
+row_of [] p d l = absurd (omega (arith, l))
+row_of (w ∷ ws) zero d l = refl
+row_of (w ∷ ws) (suc p) d l = row_of ws p d (le_of_suc-le-suc l)
+
+pub rows_set : (ws : List Work) (p : ℕ) (w : Work) → rows_of (slice_set ws p w) ≡ slice_set (rows_of ws) p w.ends
+rows_set [] p w = refl
+rows_set (x ∷ ws) zero w = refl
+rows_set (x ∷ ws) (suc p) w = ap (λ l. x.ends ∷ l) (rows_set ws p w)
+
+pub cells_set : (ws : List Work) (p : ℕ) (w d : Work) → p < length ws → w.cell ≡ (slice_index_or ws p d).cell → cells_of (slice_set ws p w) ≡ cells_of ws
+cells_set [] p w d l e = refl
+cells_set (x ∷ ws) zero w d l e = ap (λ c. c ∷ cells_of ws) e
+cells_set (x ∷ ws) (suc p) w d l e = ap (λ l. x.cell ∷ l) (cells_set ws p w d (le_of_suc-le-suc l) e)
+
+-- one of them has another end
+pub rows_exchanged : (ws : List Work) (p q : ℕ) (e : End) (d w : Work) → p < length (rows_of ws) →
+    w ≡ record (slice_index_or ws p d) { ends = slice_set (slice_index_or ws p d).ends q e } →
+    rows_of (slice_set ws p w) ≡ slice_set (rows_of ws) p (slice_set (slice_index_or (rows_of ws) p []) q e)
+rows_exchanged ws p q e d w l i =
+    rows_set ws p w ∙ ap (slice_set (rows_of ws) p)
+    (ap (λ (w : Work). w.ends) i ∙ ap (λ es. slice_set es q e) (sym (row_of ws p d (subst (λ n. p < n) (rows_length ws) l))))
+
+pub cells_exchanged : (ws : List Work) (p q : ℕ) (e : End) (d w : Work) → p < length (rows_of ws) →
+    w ≡ record (slice_index_or ws p d) { ends = slice_set (slice_index_or ws p d).ends q e } → cells_of (slice_set ws p w) ≡ cells_of ws
+cells_exchanged ws p q e d w l i = cells_set ws p w d (subst (λ n. p < n) (rows_length ws) l) (ap (λ (w : Work). w.cell) i)
+
+-- ---- a job goes on
+
+pub manned_again : (t : Program) (lists : Lists) (w : Work) (c : Told) (p : ℕ) → CanGoOn t lists w → c ≡ record w.cell { input = lists } → p ≡ w.cell.instance →
+    IsManned c (record { network = t; input = lists; instance = p; ends = w.ends })
+manned_again t lists w c p h e i = subst (λ c. IsManned c (record { network = t; input = lists; instance = p; ends = w.ends })) (sym e) (record {
+  seat = λ k. record { network = sym h.network k; input = lists; instance = i k };
+  here = subst (λ x. w.cell.instance < length (network_of x).instances) (sym h.network) h.here;
+  at = record { reads = h.at.reads; writes = h.at.writes };
+})
+
+-- ---- when all have settled
+
+pub all_settled : (t : Program) (wired : IsWellWired t) (lists : Lists) (old new : List (List End)) →
+    AreGoing t lists (length (network_of t).channels) old new → HaveSettled t lists new
+all_settled t wired lists old new g = record {
+  served = λ p. record {
+    count = g.resting.sizes p;
+    each = λ q. serves p q (actual_at (instance_at (network_of t) p) q) refl (g.resting.each p q);
+    behind = g.resting.behind p;
+  };
+  flushed = λ p q d i o. (g.settled.each p q d (carried_write t wired lists new g.resting p q d i o) (writes_listed t wired p q d i)).flushed;
+  joined = g.resting.joined;
+}
+  where
+    serves : (p q : ℕ) (a : Actual) → actual_at (instance_at (network_of t) p) q ≡ a → ServedBefore t lists a (end_in new p q) → Serves t lists a (end_in new p q)
+    serves p q (Reads d) i b =
+        (b.0, (g.settled.each p q d (carried_read t wired lists new g.resting p q d i) (reads_listed t wired p q d i)).named, b.2)
+    serves p q (Writes d) i b = λ o.
+        ((b o).0, (g.settled.each p q d (carried_write t wired lists new g.resting p q d i o) (writes_listed t wired p q d i)).named)
+    serves p q (Hands v) i b = tt
+
+-- ---- jobs come to rest
+
+none_some : {A : Type 0} {x : A} → None ≡ Some x → ⊥
+none_some e = cc
+
+some_same : {A : Type 0} (x y : A) → Some x ≡ Some y → x ≡ y
+some_same x y e = ap (λ o. elim o [ None ↦ x | Some z ↦ z ]) e
+
+-- the job of an instance, or there is none
+abbrev Here : List Work → ℕ → Type 0
+Here ws p = ((w : Work) × (slice_get ws p ≡ Some w) × (slice_index_or (rows_of ws) p [] ≡ w.ends)) ⊎ ((length ws ≤ p) × (slice_index_or (rows_of ws) p [] ≡ []))
+
+here_or : (ws : List Work) (p : ℕ) → Here ws p
+here_or [] p = inr (omega arith, refl)
+here_or (w ∷ ws) zero = inl (w, refl, refl)
+here_or (w ∷ ws) (suc p) = step (here_or ws p)
+  where
+    step : Here ws p → Here (w ∷ ws) (suc p)
+    step (inl a) = inl a
+    step (inr b) = let l = b.0 in inr (omega (arith, l), b.1)
+
+module _ (t : Program) (lists : Lists) (ws : List Work) (h : AreTogether t lists ws) where
+  -- the ends of a job are those of its channels
+  job_served : (p : ℕ) (w : Work) → slice_get ws p ≡ Some w → AreServed t lists p w.ends
+  job_served p w e =
+      let f = h.each p w e in
+      subst (λ n. AreServed t lists n w.ends) f.3
+      (subst (λ l. AreServed t l w.cell.instance w.ends) f.2
+      (subst (λ k. AreServed k w.cell.input w.cell.instance w.ends) f.1 f.0.served))
+
+  -- past the last instance nothing is handed over
+  past : (p : ℕ) → length ws ≤ p → instance_at (network_of t) p ≡ idle
+  past p l = let n = h.count in get_or_past (network_of t).instances p idle (omega (arith, n, l))
+
+  handed_here : (p q d : ℕ) → Joins (actual_at (instance_at (network_of t) p) q) d → (w : Work) × (slice_get ws p ≡ Some w) × (slice_index_or (rows_of ws) p [] ≡ w.ends)
+  handed_here p q d j = by (here_or ws p)
+    where
+      by : Here ws p → (w : Work) × (slice_get ws p ≡ Some w) × (slice_index_or (rows_of ws) p [] ≡ w.ends)
+      by (inl a) = a
+      by (inr b) = absurd (subst (λ i. Joins (actual_at i q) d) (past p b.0) j)
+
+  -- they rest for every input whose lists begin with those of theirs
+  pub all_rest : (after : Lists) → AreInputsExtended (inputs_of lists) (inputs_of after) → AreResting t after (rows_of ws)
+  all_rest after grown = record {
+    count = rows_length ws ∙ h.count;
+    sizes = λ p. size p (here_or ws p);
+    each = λ p q. serves p q (here_or ws p);
+    behind = λ p q. behind p q (here_or ws p);
+    joined = λ p r o q d i j.
+        let a = handed_here p o d (subst (λ x. Joins x d) (sym i) refl) in
+        let b = handed_here r q d (subst (λ x. Joins x d) (sym j) refl) in
+        subst (λ es. ShareLane (end_at es o) (end_in (rows_of ws) r q)) (sym a.2)
+        (subst (λ es. ShareLane (end_at a.0.ends o) (end_at es q)) (sym b.2) (h.joined p r o q d a.0 b.0 a.1 b.1 i j));
+  }
+    where
+      size : (p : ℕ) → Here ws p → length (slice_index_or (rows_of ws) p []) ≡ length (instance_at (network_of t) p).actuals
+      size p (inl a) = ap (λ (es : List End). length es) a.2 ∙ (job_served p a.0 a.1).count
+      size p (inr b) = ap (λ (es : List End). length es) b.1 ∙ sym (ap (λ i. length i.actuals) (past p b.0))
+
+      before : (a : Actual) (e : End) → Serves t lists a e → ServedBefore t after a e
+      before (Reads d) e s = (s.0, (lists, s.1, grown), s.2)
+      before (Writes d) e s = λ o. let x = s o in (x.0, (lists, x.1, grown))
+      before (Hands v) e s = tt
+
+      serves : (p q : ℕ) → Here ws p → ServedBefore t after (actual_at (instance_at (network_of t) p) q) (end_in (rows_of ws) p q)
+      serves p q (inl a) =
+          subst (λ es. ServedBefore t after (actual_at (instance_at (network_of t) p) q) (end_at es q)) (sym a.2)
+          (before (actual_at (instance_at (network_of t) p) q) (end_at a.0.ends q) ((job_served p a.0 a.1).each q))
+      serves p q (inr b) = subst (λ i. ServedBefore t after (actual_at i q) (end_in (rows_of ws) p q)) (sym (past p b.0)) tt
+
+      behind : (p q : ℕ) → Here ws p → (end_in (rows_of ws) p q).flushed ≤ (end_in (rows_of ws) p q).next
+      behind p q (inl a) = subst (λ es. (end_at es q).flushed ≤ (end_at es q).next) (sym a.2) ((job_served p a.0 a.1).behind q)
+      behind p q (inr b) = subst (λ es. (end_at es q).flushed ≤ (end_at es q).next) (sym b.1) (omega arith)
+
+  -- and so they are idle
+  pub all_idle : AreIdle t lists ws
+  all_idle = record {
+    count = h.count;
+    each = λ p w e.
+        let f = h.each p w e in
+        record {
+          network = f.1;
+          grown = subst (λ l. AreInputsExtended (inputs_of l) (inputs_of lists)) (sym f.2) (λ c. prefix_refl (inputs_of lists c));
+          instance = f.3;
+          at = f.0.at;
+        };
+    resting = all_rest lists (λ c. prefix_refl (inputs_of lists c));
+  }
+
+pub cell_there : (ns os : List Work) → cells_of ns ≡ cells_of os → (p : ℕ) (w : Work) → slice_get ns p ≡ Some w →
+    (x : Work) × (slice_get os p ≡ Some x) × (w.cell ≡ x.cell)
+cell_there [] os c p w e = absurd (none_some e)
+cell_there (n ∷ ns) [] c p w e = absurd cc
+cell_there (n ∷ ns) (o ∷ os) c zero w e = (o, refl, ap (λ (z : Work). z.cell) (sym (some_same n w e)) ∙ first c)
+  where
+    first : n.cell ∷ cells_of ns ≡ o.cell ∷ cells_of os → n.cell ≡ o.cell
+    first e = cc
+cell_there (n ∷ ns) (o ∷ os) c (suc p) w e = cell_there ns os (rest c) p w e
+  where
+    rest : n.cell ∷ cells_of ns ≡ o.cell ∷ cells_of os → cells_of ns ≡ cells_of os
+    rest e = cc
+
+pub row_there : (xs : List Work) (p : ℕ) (w : Work) → slice_get xs p ≡ Some w → slice_index_or (rows_of xs) p [] ≡ w.ends
+row_there [] p w e = absurd (none_some e)
+row_there (x ∷ xs) zero w e = ap (λ (z : Work). z.ends) (some_same x w e)
+row_there (x ∷ xs) (suc p) w e = row_there xs p w e
+
+pub cells_count : (ns os : List Work) → cells_of ns ≡ cells_of os → length ns ≡ length os
+cells_count ns os c = sym (cells_length ns) ∙ ap (λ (l : List Told). length l) c ∙ cells_length os
+  where
+    cells_length : (ws : List Work) → length (cells_of ws) ≡ length ws
+    cells_length [] = refl
+    cells_length (w ∷ ws) = ap suc (cells_length ws)
+
+-- ---- idle jobs
+
+extended_further : (a b c : Lists) → AreInputsExtended (inputs_of a) (inputs_of b) → AreInputsExtended (inputs_of b) (inputs_of c) →
+    AreInputsExtended (inputs_of a) (inputs_of c)
+extended_further a b c x y d = prefix_trans (inputs_of a d) (inputs_of b d) (inputs_of c d) (x d) (y d)
+
+module _ (t : Program) (lists : Lists) (ws : List Work) (h : AreIdle t lists ws) where
+  -- they are for every input whose lists begin with those of theirs
+  pub idle_grown : (after : Lists) → AreInputsExtended (inputs_of lists) (inputs_of after) → AreIdle t after ws
+  idle_grown after grown = record {
+    count = h.count;
+    each = λ p w e.
+        let x = h.each p w e in
+        record { network = x.network; grown = extended_further w.cell.input lists after x.grown grown; instance = x.instance; at = x.at };
+    resting = record {
+      count = h.resting.count;
+      sizes = h.resting.sizes;
+      each = λ p q. served (actual_at (instance_at (network_of t) p) q) (end_in (rows_of ws) p q) (h.resting.each p q);
+      behind = h.resting.behind;
+      joined = h.resting.joined;
+    };
+  }
+    where
+      before : (d : ℕ) (e : End) → IsOfBefore t lists d e → IsOfBefore t after d e
+      before d e x = (x.0, x.1, extended_further x.0 lists after x.2 grown)
+
+      served : (a : Actual) (e : End) → ServedBefore t lists a e → ServedBefore t after a e
+      served (Reads d) e x = (x.0, before d e x.1, x.2)
+      served (Writes d) e x = λ o. let y = x o in (y.0, before d e y.1)
+      served (Hands v) e x = tt
+
+  module _ (new : List Work) (cells : cells_of new ≡ cells_of ws) (stood : HaveStood (rows_of ws) (rows_of new)) where
+    as_before : (p : ℕ) (w : Work) → slice_get new p ≡ Some w → IsIdle t lists p w
+    as_before p w e =
+        let x = cell_there new ws cells p w e in
+        let f = h.each p x.0 x.1 in
+        let row : slice_index_or (rows_of new) p [] ≡ w.ends = row_there new p w e in
+        let old : slice_index_or (rows_of ws) p [] ≡ x.0.ends = row_there ws p x.0 x.1 in
+        let same : (q : ℕ) → (end_at w.ends q).next ≡ (end_at x.0.ends q).next =
+        λ q. ap (λ es. (end_at es q).next) (sym row) ∙ (stood p q).next ∙ ap (λ es. (end_at es q).next) old in
+        record {
+          network = ap (λ (c : Told). c.network) x.2 ∙ f.network;
+          grown = subst (λ (c : Told). AreInputsExtended (inputs_of c.input) (inputs_of lists)) (sym x.2) f.grown;
+          instance = ap (λ (c : Told). c.instance) x.2 ∙ f.instance;
+          at = subst (λ (c : Told). IsAt c (λ q. (end_at w.ends q).next)) (sym x.2) (record {
+            reads = λ q d i. same q ∙ f.at.reads q d i;
+            writes = λ q d i o. same q ∙ f.at.writes q d i o;
+          });
+        }
+
+    -- where memory was refused while they settled
+    pub idle_still : AreResting t lists (rows_of new) → AreIdle t lists new
+    idle_still resting = record { count = cells_count new ws cells ∙ h.count; each = as_before; resting = resting }
+
+    -- once they have settled each may go on
+    pub idle_goes_on : HaveSettled t lists (rows_of new) → (p : ℕ) (w : Work) → slice_get new p ≡ Some w → CanGoOn t lists w
+    idle_goes_on settled p w e =
+        let x = as_before p w e in
+        let within = slice_get_within new p w e in
+        let many : length new ≡ length (network_of t).instances = cells_count new ws cells ∙ h.count in
+        let row : slice_index_or (rows_of new) p [] ≡ w.ends = row_there new p w e in
+        record {
+          network = x.network;
+          grown = x.grown;
+          here = subst (λ n. n < length (network_of t).instances) (sym x.instance) (omega (arith, within, many));
+          served = subst (λ n. AreServed t lists n w.ends) (sym x.instance) (subst (AreServed t lists p) row (settled.served p));
+          at = x.at;
+        }

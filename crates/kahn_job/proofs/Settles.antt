@@ -1,0 +1,501 @@
+-- The ends of channels go on with an input that has grown, channel by channel.
+use Rattle.std.proofs.Common.{arith, ◌≡◌, ◌⊎◌, inl, inr, ℕ, zero, suc, ◌+◌, ◌<◌, ◌≤◌, Bool, true, false, List, length, refl, sym, ap, ◌∙◌, subst, None, Some, Result, Ok, Err, MatchResult}
+use Rattle.kahn_tree.specs.declared.tree.Program.{Program}
+use Rattle.kahn_tree.specs.declared.tree.Role.{Role}
+use Rattle.kahn_tree.specs.declared.tree.Role.TheVariants.{Inner, Input, Output}
+use Rattle.kahn_network.specs.declared.sides.Side.{Side}
+use Rattle.kahn_network.specs.Network.{Network, Actual, Reads, Writes, Hands, network_of, instance_at, actual_at, role_at}
+use Rattle.kahn_network.specs.Sides.{IsWriter, IsReader, IsOnly, IsServed}
+use Rattle.kahn_network.specs.Sources.{IsFed}
+use Rattle.kahn_network.specs.Wiring.{IsWellWired, side_at}
+use Rattle.kahn_network.proofs.Sided.{channel_served}
+use Rattle.kahn_network.proofs.Sourced.{handed_within, reads, writes}
+use Rattle.kahn_streams.specs.Tokens.{Lists, inputs_of}
+use Rattle.kahn_streams.proofs.Proved.{prefix_refl}
+use Rattle.kahn_code.specs.Cells.{is_output}
+use Rattle.kahn_code.specs.Lines.{Joins}
+use Rattle.kahn_lane.specs.declared.name.LaneName.{LaneName}
+use Rattle.kahn_lane.specs.Places.{lane_name, moved_to}
+use Rattle.kahn_job.specs.Ends.{End, ShareLane}
+use Rattle.kahn_job.specs.Ways.{nothing}
+use Rattle.kahn_job.specs.Openings.{end_in, placed}
+use Rattle.kahn_job.specs.Settling.{AreAlike, AreElsewhere, AreResting, AreSettled, CanFeed, CanSettle, HasExchanged, HasPlace, HasSettled, HaveExchanged, HasStood, HaveStood, IsCarried, IsOfBefore, ServedBefore, end_of_side}
+use Rattle.kahn_job.proofs.Handed as handed
+use Rattle.kahn_job.proofs.Handed.{found, placed_count, placed_sizes}
+
+same_or : (d c : ℕ) → (d ≡ c) ⊎ (d ≡ c → ⊥)
+same_or zero zero = inl refl
+same_or zero (suc c) = inr (λ e. absurd (omega (arith, e)))
+same_or (suc d) zero = inr (λ e. absurd (omega (arith, e)))
+same_or (suc d) (suc c) = step (same_or d c)
+  where
+    step : (d ≡ c) ⊎ (d ≡ c → ⊥) → (suc d ≡ suc c) ⊎ (suc d ≡ suc c → ⊥)
+    step (inl e) = inl (ap suc e)
+    step (inr n) = inr (λ e. n (omega (arith, e)))
+
+some_one : {s u : Side} → Some s ≡ Some u → s ≡ u
+some_one e = cc
+
+-- ---- ends that come and go
+
+option_place : (rows : List (List End)) (s : Side) → HasPlace rows s → handed.HasPlace rows (Some s)
+option_place rows s h u e = subst (HasPlace rows) (some_one e) h
+
+pub kept_place : (rows : List (List End)) (s u : Side) (e : End) → HasPlace rows s → HasPlace rows u → HasPlace (placed rows (Some s) e) u
+kept_place rows s u e hs hu = (
+  subst (λ n. u.instance < n) (sym (placed_count rows (Some s) e)) hu.0,
+  subst (λ n. u.parameter < n) (sym (placed_sizes rows (Some s) e (option_place rows s hs) u.instance)) hu.1,
+)
+
+here_at : (rows : List (List End)) (s : Side) (e : End) → HasPlace rows s → end_of_side (placed rows (Some s) e) s ≡ e
+here_at rows s e h = by (found rows (Some s) e (option_place rows s h) s.instance s.parameter)
+  where
+    by : handed.Found rows (Some s) e s.instance s.parameter → end_of_side (placed rows (Some s) e) s ≡ e
+    by (inl a) = a.1
+    by (inr b) = absurd (b.0 refl)
+
+else_at : (rows : List (List End)) (s : Side) (e : End) → HasPlace rows s → (p q : ℕ) → (side_at p q ≡ s → ⊥) →
+    end_in (placed rows (Some s) e) p q ≡ end_in rows p q
+else_at rows s e h p q n = by (found rows (Some s) e (option_place rows s h) p q)
+  where
+    by : handed.Found rows (Some s) e p q → end_in (placed rows (Some s) e) p q ≡ end_in rows p q
+    by (inl a) = absurd (n (sym (some_one a.0)))
+    by (inr b) = b.1
+
+-- either it is this one or it isn't
+side_or : (rows : List (List End)) (s : Side) → HasPlace rows s → (p q : ℕ) → (side_at p q ≡ s) ⊎ (side_at p q ≡ s → ⊥)
+side_or rows s h p q = by (found rows (Some s) nothing (option_place rows s h) p q)
+  where
+    by : handed.Found rows (Some s) nothing p q → (side_at p q ≡ s) ⊎ (side_at p q ≡ s → ⊥)
+    by (inl a) = inl (sym (some_one a.0))
+    by (inr b) = inr (λ e. b.0 (ap Some (sym e)))
+
+-- two ends were taken out, and two came back
+module _ (rows : List (List End)) (w r : Side) (pw : HasPlace rows w) (pr : HasPlace rows r) (apart : w ≡ r → ⊥) (x y : End) where
+  abbrev one : List (List End)
+  one = placed rows (Some w) nothing
+
+  abbrev two : List (List End)
+  two = placed one (Some r) nothing
+
+  abbrev three : List (List End)
+  three = placed two (Some w) x
+
+  abbrev four : List (List End)
+  four = placed three (Some r) y
+
+  pub one_r : HasPlace one r
+  one_r = kept_place rows w r nothing pw pr
+
+  one_w : HasPlace one w
+  one_w = kept_place rows w w nothing pw pw
+
+  pub two_w : HasPlace two w
+  two_w = kept_place one r w nothing one_r one_w
+
+  pub two_r : HasPlace two r
+  two_r = kept_place one r r nothing one_r one_r
+
+  three_r : HasPlace three r
+  three_r = kept_place two w r x two_w two_r
+
+  pub reader_kept : end_of_side one r ≡ end_of_side rows r
+  reader_kept = else_at rows w nothing pw r.instance r.parameter (λ e. apart (sym e))
+
+  pub at_reader : end_of_side four r ≡ y
+  at_reader = here_at three r y three_r
+
+  pub at_writer : end_of_side four w ≡ x
+  at_writer = else_at three r y three_r w.instance w.parameter apart ∙ here_at two w x two_w
+
+  pub elsewhere : AreElsewhere (λ s. (s ≡ w) ⊎ (s ≡ r)) rows four
+  elsewhere = record {
+    count = placed_count three (Some r) y ∙ placed_count two (Some w) x ∙ placed_count one (Some r) nothing ∙ placed_count rows (Some w) nothing;
+    sizes = λ p. placed_sizes three (Some r) y (option_place three r three_r) p ∙ placed_sizes two (Some w) x (option_place two w two_w) p ∙
+        placed_sizes one (Some r) nothing (option_place one r one_r) p ∙ placed_sizes rows (Some w) nothing (option_place rows w pw) p;
+    others = λ p q n. else_at three r y three_r p q (λ e. n (inr e)) ∙ else_at two w x two_w p q (λ e. n (inl e)) ∙
+        else_at one r nothing one_r p q (λ e. n (inr e)) ∙ else_at rows w nothing pw p q (λ e. n (inl e));
+  }
+
+  -- the same two came back
+  pub alike : x ≡ end_of_side rows w → y ≡ end_of_side rows r → AreAlike rows four
+  alike ex ey = record {
+    count = elsewhere.count;
+    sizes = elsewhere.sizes;
+    same = λ p q. by p q (side_or rows w pw p q) (side_or rows r pr p q);
+  }
+    where
+      by : (p q : ℕ) → (side_at p q ≡ w) ⊎ (side_at p q ≡ w → ⊥) → (side_at p q ≡ r) ⊎ (side_at p q ≡ r → ⊥) → end_in four p q ≡ end_in rows p q
+      by p q (inl a) b = ap (end_of_side four) a ∙ at_writer ∙ ex ∙ ap (end_of_side rows) (sym a)
+      by p q (inr a) (inl b) = ap (end_of_side four) b ∙ at_reader ∙ ey ∙ ap (end_of_side rows) (sym b)
+      by p q (inr a) (inr b) = elsewhere.others p q (neither a b)
+        where
+          neither : (side_at p q ≡ w → ⊥) → (side_at p q ≡ r → ⊥) → (side_at p q ≡ w) ⊎ (side_at p q ≡ r) → ⊥
+          neither a b (inl e) = a e
+          neither a b (inr e) = b e
+
+  pub exchanged : (lists : Lists) → ShareLane x y →
+      ((n : LaneName) → (end_of_side rows w).name ≡ Some n → HasSettled (moved_to lists n) (end_of_side rows w) x × HasSettled (moved_to lists n) (end_of_side rows r) y) →
+      HaveExchanged lists w r rows four
+  exchanged lists lane settled = record {
+    elsewhere = elsewhere;
+    lane = subst (λ z. ShareLane z (end_of_side four r)) (sym at_writer) (subst (ShareLane x) (sym at_reader) lane);
+    writes = λ n e. subst (HasSettled (moved_to lists n) (end_of_side rows w)) (sym at_writer) (settled n e).0;
+    reads = λ n e. subst (HasSettled (moved_to lists n) (end_of_side rows r)) (sym at_reader) (settled n e).1;
+  }
+
+-- one end was taken out, and one came back
+module _ (rows : List (List End)) (r : Side) (pr : HasPlace rows r) (y : End) where
+  pub gone_r : HasPlace (placed rows (Some r) nothing) r
+  gone_r = kept_place rows r r nothing pr pr
+
+  pub fed_on : (lists : Lists) → ((n : LaneName) → (end_of_side rows r).name ≡ Some n → HasSettled (moved_to lists n) (end_of_side rows r) y) →
+      HasExchanged lists r rows (placed (placed rows (Some r) nothing) (Some r) y)
+  fed_on lists settled = record {
+    elsewhere = record {
+      count = placed_count (placed rows (Some r) nothing) (Some r) y ∙ placed_count rows (Some r) nothing;
+      sizes = λ p. placed_sizes (placed rows (Some r) nothing) (Some r) y (option_place (placed rows (Some r) nothing) r gone_r) p ∙
+          placed_sizes rows (Some r) nothing (option_place rows r pr) p;
+      others = λ p q n. else_at (placed rows (Some r) nothing) r y gone_r p q n ∙ else_at rows r nothing pr p q n;
+    };
+    reads = λ n e. subst (HasSettled (moved_to lists n) (end_of_side rows r)) (sym (here_at (placed rows (Some r) nothing) r y gone_r)) (settled n e);
+  }
+
+-- ---- one channel
+
+-- an end that is as it was stands where it stood
+pub stood_same : (old new : End) → new ≡ old → HasStood old new
+stood_same old new e = record {
+  next = ap (λ (x : End). x.next) e;
+  flushed = λ w. subst (λ (x : End). old.flushed ≤ x.flushed) (sym e) (omega arith);
+  writes = ap (λ (x : End). x.writes) e;
+}
+
+reads_not_writes : {c d : ℕ} → Reads c ≡ Writes d → ⊥
+reads_not_writes e = absurd cc
+
+inner_role : {r : Role} → r ≡ Inner → is_output r ≡ false
+inner_role e = ap is_output e
+
+input_role : {r : Role} → r ≡ Input → is_output r ≡ false
+input_role e = ap is_output e
+
+module _ (t : Program) (wired : IsWellWired t) (lists : Lists) (rows : List (List End)) (h : AreResting t lists rows) where
+  abbrev N : Network
+  N = network_of t
+
+  -- what is read is no output
+  pub carried_read : (p q d : ℕ) → actual_at (instance_at N p) q ≡ Reads d → IsCarried t (actual_at (instance_at N p) q) d
+  carried_read p q d e = (subst (λ a. Joins a d) (sym e) refl, by (reads t wired p q d e))
+    where
+      by : IsFed N d → is_output (role_at N d) ≡ false
+      by (inl f) = input_role f.1
+      by (inr f) = inner_role f.4
+
+  pub carried_write : (p q d : ℕ) → actual_at (instance_at N p) q ≡ Writes d → is_output (role_at N d) ≡ false → IsCarried t (actual_at (instance_at N p) q) d
+  carried_write p q d e o = (subst (λ a. Joins a d) (sym e) refl, o)
+
+  within : (s : Side) → (s.instance < length N.instances) × (s.parameter < length (instance_at N s.instance).actuals) → HasPlace rows s
+  within s i = (subst (λ n. s.instance < n) (sym h.count) i.0, subst (λ n. s.parameter < n) (sym (h.sizes s.instance)) i.1)
+
+  served_read : (s : Side) (c : ℕ) → IsReader N c s → ServedBefore t lists (Reads c) (end_of_side rows s)
+  served_read s c i = subst (λ a. ServedBefore t lists a (end_of_side rows s)) i.1 (h.each s.instance s.parameter)
+
+  served_write : (s : Side) (c : ℕ) → IsWriter N c s → ServedBefore t lists (Writes c) (end_of_side rows s)
+  served_write s c i = subst (λ a. ServedBefore t lists a (end_of_side rows s)) i.1 (h.each s.instance s.parameter)
+
+  module _ (c : ℕ) where
+    -- a channel that is both written and read goes from process to process
+    is_inner : (w r : Side) → IsWriter N c w → IsReader N c r → role_at N c ≡ Inner
+    is_inner w r iw ir = by (reads t wired r.instance r.parameter c ir.1)
+      where
+        by : IsFed N c → role_at N c ≡ Inner
+        by (inl f) = absurd ((writes t wired w.instance w.parameter c iw.1).1 f.1)
+        by (inr f) = f.4
+
+    pub place_w : (w : Side) → IsOnly (IsWriter N c) (Some w) → HasPlace rows w
+    place_w w o = within w o.0.0
+
+    pub place_r : (r : Side) → IsOnly (IsReader N c) (Some r) → HasPlace rows r
+    place_r r o = within r o.0.0
+
+    pub sides_apart : (w r : Side) → IsOnly (IsWriter N c) (Some w) → IsOnly (IsReader N c) (Some r) → w ≡ r → ⊥
+    sides_apart w r ow oo e = reads_not_writes (sym oo.0.1 ∙ ap (λ (s : Side). actual_at (instance_at N s.instance) s.parameter) (sym e) ∙ ow.0.1)
+
+    pub can_settle : (w r : Side) → IsOnly (IsWriter N c) (Some w) → IsOnly (IsReader N c) (Some r) → CanSettle lists (end_of_side rows w) (end_of_side rows r)
+    can_settle w r ow oo =
+        let a = served_write w c ow.0 (inner_role (is_inner w r ow.0 oo.0)) in
+        let b = served_read r c oo.0 in
+        record {
+          writes = a.0;
+          reads = b.0;
+          lane = h.joined w.instance r.instance w.parameter r.parameter c ow.0.1 oo.0.1;
+          grown = (lane_name t a.1.0 c, a.1.1, a.1.2);
+        }
+
+    pub can_feed : (r : Side) → IsOnly (IsWriter N c) None → IsOnly (IsReader N c) (Some r) → CanFeed lists (end_of_side rows r)
+    can_feed r none oo =
+        let b = served_read r c oo.0 in
+        record {
+          reads = b.0;
+          bare = b.2 (by (reads t wired r.instance r.parameter c oo.0.1));
+          grown = (lane_name t b.1.0 c, b.1.1, b.1.2);
+        }
+      where
+        by : IsFed N c → role_at N c ≡ Input
+        by (inl f) = f.1
+        by (inr f) = absurd (none (side_at f.0 f.1) (handed_within N f.0 f.1 c (subst (λ a. Joins a c) (sym f.3) refl), f.3))
+
+    -- who has the channel reads it or writes it
+    has_side : (p q : ℕ) (a : Actual) → actual_at (instance_at N p) q ≡ a → Joins a c →
+        IsReader N c (side_at p q) ⊎ IsWriter N c (side_at p q)
+    has_side p q (Reads b) i j = inl (handed_within N p q c (subst (λ a. Joins a c) (sym i) j), i ∙ ap Reads j)
+    has_side p q (Writes b) i j = inr (handed_within N p q c (subst (λ a. Joins a c) (sym i) j), i ∙ ap Writes j)
+    has_side p q (Hands v) i j = absurd j
+
+    side_of : (p q : ℕ) → Joins (actual_at (instance_at N p) q) c → IsReader N c (side_at p q) ⊎ IsWriter N c (side_at p q)
+    side_of p q j = has_side p q (actual_at (instance_at N p) q) refl j
+
+    pub lane_settled : (w r : Side) → IsOnly (IsWriter N c) (Some w) → IsOnly (IsReader N c) (Some r) → (new : List (List End)) →
+        HaveExchanged lists w r rows new → AreSettled t lists (λ d. d ≡ c) rows new
+    lane_settled w r ow oo new x = record {
+      count = x.elsewhere.count;
+      sizes = x.elsewhere.sizes;
+      each = λ p q d j e. subst (λ k. HasSettled (lane_name t lists k) (end_in rows p q) (end_in new p q)) (sym e) (one p q (side_of p q (subst (Joins (actual_at (instance_at N p) q)) e j.0)));
+      others = λ p q n. x.elsewhere.others p q (never p q n);
+      joined = λ p s o q d i j e. both p s o q (i ∙ ap Writes e) (j ∙ ap Reads e);
+    }
+      where
+        named : IsOfBefore t lists c (end_of_side rows w)
+        named = (served_write w c ow.0 (inner_role (is_inner w r ow.0 oo.0))).1
+
+        one : (p q : ℕ) → IsReader N c (side_at p q) ⊎ IsWriter N c (side_at p q) → HasSettled (lane_name t lists c) (end_in rows p q) (end_in new p q)
+        one p q (inl i) = subst (λ s. HasSettled (lane_name t lists c) (end_of_side rows s) (end_of_side new s)) (sym (oo.1 (side_at p q) i)) (x.reads _ named.1)
+        one p q (inr i) = subst (λ s. HasSettled (lane_name t lists c) (end_of_side rows s) (end_of_side new s)) (sym (ow.1 (side_at p q) i)) (x.writes _ named.1)
+
+        never : (p q : ℕ) → ((d : ℕ) → IsCarried t (actual_at (instance_at N p) q) d → d ≡ c → ⊥) → (side_at p q ≡ w) ⊎ (side_at p q ≡ r) → ⊥
+        never p q n (inl e) = n c (carried_write p q c (ap (λ (s : Side). actual_at (instance_at N s.instance) s.parameter) e ∙ ow.0.1) (inner_role (is_inner w r ow.0 oo.0))) refl
+        never p q n (inr e) = n c (carried_read p q c (ap (λ (s : Side). actual_at (instance_at N s.instance) s.parameter) e ∙ oo.0.1)) refl
+
+        both : (p s o q : ℕ) → actual_at (instance_at N p) o ≡ Writes c → actual_at (instance_at N s) q ≡ Reads c → ShareLane (end_in new p o) (end_in new s q)
+        both p s o q i j =
+            subst (λ u. ShareLane (end_of_side new u) (end_in new s q)) (sym (ow.1 (side_at p o) (handed_within N p o c (subst (λ a. Joins a c) (sym i) refl), i)))
+            (subst (λ u. ShareLane (end_of_side new w) (end_of_side new u)) (sym (oo.1 (side_at s q) (handed_within N s q c (subst (λ a. Joins a c) (sym j) refl), j))) x.lane)
+
+    -- it has settled, or memory was refused
+    pub lane_or : (w r : Side) → IsOnly (IsWriter N c) (Some w) → IsOnly (IsReader N c) (Some r) → (new : List (List End)) {A E : Type 0} (result : Result A E) →
+        MatchResult result (λ _. HaveExchanged lists w r rows new) (λ _. AreAlike rows new) →
+        MatchResult result (λ _. AreSettled t lists (λ d. d ≡ c) rows new) (λ _. AreAlike rows new)
+    lane_or w r ow oo new (Ok u) x = lane_settled w r ow oo new x
+    lane_or w r ow oo new (Err f) x = x
+
+    pub feed_settled : (r : Side) → IsOnly (IsWriter N c) None → IsOnly (IsReader N c) (Some r) → (new : List (List End)) →
+        HasExchanged lists r rows new → AreSettled t lists (λ d. d ≡ c) rows new
+    feed_settled r none oo new x = record {
+      count = x.elsewhere.count;
+      sizes = x.elsewhere.sizes;
+      each = λ p q d j e. subst (λ k. HasSettled (lane_name t lists k) (end_in rows p q) (end_in new p q)) (sym e) (one p q (side_of p q (subst (Joins (actual_at (instance_at N p) q)) e j.0)));
+      others = λ p q n. x.elsewhere.others p q
+          (λ e. n c (carried_read p q c (ap (λ (s : Side). actual_at (instance_at N s.instance) s.parameter) e ∙ oo.0.1)) refl);
+      joined = λ p s o q d i j e. absurd (none (side_at p o)
+          (handed_within N p o c (subst (λ a. Joins a c) (sym (i ∙ ap Writes e)) refl), i ∙ ap Writes e));
+    }
+      where
+        one : (p q : ℕ) → IsReader N c (side_at p q) ⊎ IsWriter N c (side_at p q) → HasSettled (lane_name t lists c) (end_in rows p q) (end_in new p q)
+        one p q (inl i) =
+            subst (λ s. HasSettled (lane_name t lists c) (end_of_side rows s) (end_of_side new s)) (sym (oo.1 (side_at p q) i)) (x.reads _ (served_read r c oo.0).1.1)
+        one p q (inr i) = absurd (none (side_at p q) i)
+
+    -- a channel that nobody reads is an output, and nothing has to settle
+    pub output_settled : c < length N.channels → IsOnly (IsReader N c) None → AreSettled t lists (λ d. d ≡ c) rows rows
+    output_settled lt none = record {
+      count = refl;
+      sizes = λ p. refl;
+      each = λ p q d j e. absurd (one p q (side_of p q (subst (Joins (actual_at (instance_at N p) q)) e j.0)) (subst (λ k. is_output (role_at N k) ≡ false) e j.1));
+      others = λ p q n. refl;
+      joined = λ p s o q d i j e. absurd (none (side_at s q) (handed_within N s q c (subst (λ a. Joins a c) (sym (j ∙ ap Reads e)) refl), j ∙ ap Reads e));
+    }
+      where
+        by : (role : Role) → role_at N c ≡ role → IsServed N c role → is_output role ≡ false → ⊥
+        by Inner e s o = none s.1.0 s.1.1.0
+        by Input e s o = none s.1.0 s.1.1.0
+        by Output e s o = absurd cc
+
+        one : (p q : ℕ) → IsReader N c (side_at p q) ⊎ IsWriter N c (side_at p q) → is_output (role_at N c) ≡ false → ⊥
+        one p q (inl i) o = none (side_at p q) i
+        one p q (inr i) o = by (role_at N c) refl (channel_served t wired c lt) o
+
+    -- either the end is one of this channel, and has settled, or it is as it was
+    end_or : (new : List (List End)) → AreSettled t lists (λ d. d ≡ c) rows new → (p q : ℕ) (a : Actual) → actual_at (instance_at N p) q ≡ a →
+        HasSettled (lane_name t lists c) (end_in rows p q) (end_in new p q) ⊎ (end_in new p q ≡ end_in rows p q)
+    end_or new s p q (Reads d) i = by (same_or d c)
+      where
+        by : (d ≡ c) ⊎ (d ≡ c → ⊥) → HasSettled (lane_name t lists c) (end_in rows p q) (end_in new p q) ⊎ (end_in new p q ≡ end_in rows p q)
+        by (inl e) = inl (s.each p q c (carried_read p q c (i ∙ ap Reads e)) refl)
+        by (inr n) = inr (s.others p q (λ b j e. n (subst (λ a. Joins a b) i j.0 ∙ e)))
+    end_or new s p q (Writes d) i = by (same_or d c) (is_output (role_at N d)) refl
+      where
+        by : (d ≡ c) ⊎ (d ≡ c → ⊥) → (b : Bool) → is_output (role_at N d) ≡ b →
+            HasSettled (lane_name t lists c) (end_in rows p q) (end_in new p q) ⊎ (end_in new p q ≡ end_in rows p q)
+        by (inl e) false o = inl (s.each p q c (carried_write p q c (i ∙ ap Writes e) (subst (λ k. is_output (role_at N k) ≡ false) e o)) refl)
+        by (inl e) true o = inr (s.others p q (λ b j e. absurd (true_false (sym o ∙ (subst (λ k. is_output (role_at N k) ≡ false) (sym (subst (λ a. Joins a b) i j.0)) j.1)))))
+          where
+            true_false : true ≡ false → ⊥
+            true_false e = absurd cc
+        by (inr n) b o = inr (s.others p q (λ b j e. n (subst (λ a. Joins a b) i j.0 ∙ e)))
+    end_or new s p q (Hands v) i = inr (s.others p q (λ b j e. subst (λ a. Joins a b) i j.0))
+
+    pub stood_one : (new : List (List End)) → AreSettled t lists (λ d. d ≡ c) rows new → HaveStood rows new
+    stood_one new s p q = by (end_or new s p q (actual_at (instance_at N p) q) refl)
+      where
+        by : HasSettled (lane_name t lists c) (end_in rows p q) (end_in new p q) ⊎ (end_in new p q ≡ end_in rows p q) → HasStood (end_in rows p q) (end_in new p q)
+        by (inl x) = record {
+          next = x.next;
+          flushed = λ w. let b = h.behind p q in let n = x.next in let f = x.flushed (x.writes ∙ w) in omega (arith, b, n, f);
+          writes = x.writes;
+        }
+        by (inr e) = stood_same (end_in rows p q) (end_in new p q) e
+
+    -- ends that go on with this input are still resting
+    pub rests_on : (new : List (List End)) → AreSettled t lists (λ d. d ≡ c) rows new → AreResting t lists new
+    rests_on new s = record {
+      count = s.count ∙ h.count;
+      sizes = λ p. s.sizes p ∙ h.sizes p;
+      each = λ p q. served p q (actual_at (instance_at N p) q) refl (h.each p q);
+      behind = λ p q. behind p q (end_or new s p q (actual_at (instance_at N p) q) refl);
+      joined = λ p u o q d i j. share p u o q d i j (same_or d c);
+    }
+      where
+        behind : (p q : ℕ) → HasSettled (lane_name t lists c) (end_in rows p q) (end_in new p q) ⊎ (end_in new p q ≡ end_in rows p q) →
+            (end_in new p q).flushed ≤ (end_in new p q).next
+        behind p q (inl x) = x.behind
+        behind p q (inr e) = subst (λ (x : End). x.flushed ≤ x.next) (sym e) (h.behind p q)
+
+        now : (d : ℕ) (e : End) → e.name ≡ Some (lane_name t lists d) → IsOfBefore t lists d e
+        now d e n = (lists, n, λ k. prefix_refl (inputs_of lists k))
+
+        served : (p q : ℕ) (a : Actual) → actual_at (instance_at N p) q ≡ a → ServedBefore t lists a (end_in rows p q) → ServedBefore t lists a (end_in new p q)
+        served p q (Reads d) i b = by (same_or d c)
+          where
+            by : (d ≡ c) ⊎ (d ≡ c → ⊥) → ServedBefore t lists (Reads d) (end_in new p q)
+            by (inl e) =
+                let x = s.each p q d (carried_read p q d i) e in
+                (x.reads ∙ b.0, now d (end_in new p q) x.named, λ r. x.bare (b.2 r))
+            by (inr n) = subst (ServedBefore t lists (Reads d)) (sym (s.others p q (λ k j e. n (subst (λ a. Joins a k) i j.0 ∙ e)))) b
+        served p q (Writes d) i b = λ o. by (same_or d c) o
+          where
+            by : (d ≡ c) ⊎ (d ≡ c → ⊥) → is_output (role_at N d) ≡ false → ((end_in new p q).writes ≡ true) × IsOfBefore t lists d (end_in new p q)
+            by (inl e) o =
+                let x = s.each p q d (carried_write p q d i o) e in
+                (x.writes ∙ (b o).0, now d (end_in new p q) x.named)
+            by (inr n) o = subst (ServedBefore t lists (Writes d)) (sym (s.others p q (λ k j e. n (subst (λ a. Joins a k) i j.0 ∙ e)))) b o
+        served p q (Hands v) i b = tt
+
+        share : (p u o q d : ℕ) → actual_at (instance_at N p) o ≡ Writes d → actual_at (instance_at N u) q ≡ Reads d → (d ≡ c) ⊎ (d ≡ c → ⊥) →
+            ShareLane (end_in new p o) (end_in new u q)
+        share p u o q d i j (inl e) = s.joined p u o q d i j e
+        share p u o q d i j (inr n) =
+            subst (λ x. ShareLane x (end_in new u q)) (sym (s.others p o (λ k z e. n (subst (λ a. Joins a k) i z.0 ∙ e))))
+            (subst (λ x. ShareLane (end_in rows p o) x) (sym (s.others u q (λ k z e. n (subst (λ a. Joins a k) j z.0 ∙ e)))) (h.joined p u o q d i j))
+
+-- ---- channel after channel
+
+joins_one : (a : Actual) (c d : ℕ) → Joins a c → Joins a d → c ≡ d
+joins_one (Reads b) c d i j = sym i ∙ j
+joins_one (Writes b) c d i j = sym i ∙ j
+joins_one (Hands v) c d i j = absurd i
+
+below_or : (d k : ℕ) → d < k + 1 → (d < k) ⊎ (d ≡ k)
+below_or d k l = by (same_or d k)
+  where
+    nearer : (d k : ℕ) → d < suc k → (d ≡ k → ⊥) → d < k
+    nearer zero zero l o = absurd (o refl)
+    nearer zero (suc k) l o = omega arith
+    nearer (suc d) zero l o = absurd (omega (arith, l))
+    nearer (suc d) (suc k) l o = let b = nearer d k (omega (arith, l)) (λ e. o (ap suc e)) in omega (arith, b)
+
+    by : (d ≡ k) ⊎ (d ≡ k → ⊥) → (d < k) ⊎ (d ≡ k)
+    by (inl e) = inr e
+    by (inr n) = inl (nearer d k (omega (arith, l)) n)
+
+pub none_settled : (t : Program) (lists : Lists) (rows : List (List End)) → AreSettled t lists (λ c. c < 0) rows rows
+none_settled t lists rows = record {
+  count = refl;
+  sizes = λ p. refl;
+  each = λ p q d j l. absurd (omega (arith, l));
+  others = λ p q n. refl;
+  joined = λ p r o q d i j l. absurd (omega (arith, l));
+}
+
+abbrev actual_in : Program → ℕ → ℕ → Actual
+actual_in t p q = actual_at (instance_at (network_of t) p) q
+
+pub more_settled : (t : Program) (lists : Lists) (k : ℕ) (old mid new : List (List End)) → AreSettled t lists (λ c. c < k) old mid →
+    AreSettled t lists (λ c. c ≡ k) mid new → AreSettled t lists (λ c. c < k + 1) old new
+more_settled t lists k old mid new a b = record {
+  count = b.count ∙ a.count;
+  sizes = λ p. b.sizes p ∙ a.sizes p;
+  each = λ p q d j l. one p q d j (below_or d k l);
+  others = λ p q n. b.others p q (λ d j e. n d j (omega (arith, e))) ∙ a.others p q (λ d j l. n d j (omega (arith, l)));
+  joined = λ p r o q d i j l. both p r o q d i j (below_or d k l);
+}
+  where
+    -- of another channel
+    later : (p q d : ℕ) → Joins (actual_in t p q) d → d < k → end_in new p q ≡ end_in mid p q
+    later p q d j l = b.others p q (λ c i e. let same = joins_one (actual_in t p q) c d i.0 j in absurd (omega (arith, e, same, l)))
+
+    one : (p q d : ℕ) → IsCarried t (actual_in t p q) d → (d < k) ⊎ (d ≡ k) → HasSettled (lane_name t lists d) (end_in old p q) (end_in new p q)
+    one p q d j (inl l) = subst (HasSettled (lane_name t lists d) (end_in old p q)) (sym (later p q d j.0 l)) (a.each p q d j l)
+    one p q d j (inr e) =
+        subst (λ x. HasSettled (lane_name t lists d) x (end_in new p q))
+        (a.others p q (λ c i l. let same = joins_one (actual_in t p q) c d i.0 j.0 in absurd (omega (arith, e, same, l)))) (b.each p q d j e)
+
+    both : (p r o q d : ℕ) → actual_in t p o ≡ Writes d → actual_in t r q ≡ Reads d → (d < k) ⊎ (d ≡ k) → ShareLane (end_in new p o) (end_in new r q)
+    both p r o q d i j (inr e) = b.joined p r o q d i j e
+    both p r o q d i j (inl l) =
+        subst (λ x. ShareLane x (end_in new r q)) (sym (later p o d (subst (λ a. Joins a d) (sym i) refl) l))
+        (subst (λ x. ShareLane (end_in mid p o) x) (sym (later r q d (subst (λ a. Joins a d) (sym j) refl) l)) (a.joined p r o q d i j l))
+
+pub rests_alike : (t : Program) (lists : Lists) (old new : List (List End)) → AreAlike old new → AreResting t lists old → AreResting t lists new
+rests_alike t lists old new a h = record {
+  count = a.count ∙ h.count;
+  sizes = λ p. a.sizes p ∙ h.sizes p;
+  each = λ p q. subst (ServedBefore t lists (actual_at (instance_at (network_of t) p) q)) (sym (a.same p q)) (h.each p q);
+  behind = λ p q. subst (λ (x : End). x.flushed ≤ x.next) (sym (a.same p q)) (h.behind p q);
+  joined = λ p r o q d i j. subst (λ x. ShareLane x (end_in new r q)) (sym (a.same p o))
+      (subst (λ x. ShareLane (end_in old p o) x) (sym (a.same r q)) (h.joined p r o q d i j));
+}
+
+pub stood_then : (old mid new : List (List End)) → HaveStood old mid → HaveStood mid new → HaveStood old new
+stood_then old mid new a b p q =
+    let x = a p q in
+    let y = b p q in
+    record {
+      next = y.next ∙ x.next;
+      flushed = λ w. let f = x.flushed w in let g = y.flushed (x.writes ∙ w) in omega (arith, f, g);
+      writes = y.writes ∙ x.writes;
+    }
+
+pub stood_alike : (old mid new : List (List End)) → HaveStood old mid → AreAlike mid new → HaveStood old new
+stood_alike old mid new a b = stood_then old mid new a (λ p q. stood_same (end_in mid p q) (end_in new p q) (b.same p q))
+
+-- what settle_rows keeps, channel after channel
+pub record AreGoing (t : Program) (lists : Lists) (k : ℕ) (old now : List (List End)) : Type 0 where
+  pub settled : AreSettled t lists (λ c. c < k) old now
+  pub resting : AreResting t lists now
+  pub stood : HaveStood old now
+
+pub going_first : (t : Program) (lists : Lists) (rows : List (List End)) → AreResting t lists rows → AreGoing t lists 0 rows rows
+going_first t lists rows h = record {
+  settled = none_settled t lists rows;
+  resting = h;
+  stood = λ p q. stood_same (end_in rows p q) (end_in rows p q) refl;
+}
+
+pub going_on : (t : Program) (wired : IsWellWired t) (lists : Lists) (k : ℕ) (old now new : List (List End)) → AreGoing t lists k old now →
+    AreSettled t lists (λ c. c ≡ k) now new → AreGoing t lists (k + 1) old new
+going_on t wired lists k old now new g s = record {
+  settled = more_settled t lists k old now new g.settled s;
+  resting = rests_on t wired lists now g.resting k new s;
+  stood = stood_then old now new g.stood (stood_one t wired lists now g.resting k new s);
+}

@@ -1,0 +1,6 @@
+use Rattle.std.proofs.Common.{◌≡◌, ◌≤◌, length, take}
+use Rattle.std.specs.Vec.{vec_capacity}
+use Rattle.kahn_job.proofs.copies.copied.Given as goal
+
+abbrev pub invariant-loop-place : goal.invariant-loop-place
+invariant-loop-place l = (l.copy.items ≡ take l.place l.tokens) × (length l.copy.items ≡ l.place) × (length l.tokens ≤ vec_capacity l.copy)

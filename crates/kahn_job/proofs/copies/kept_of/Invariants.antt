@@ -1,0 +1,7 @@
+use Rattle.std.proofs.Common.{◌≡◌, ◌≤◌, length, map, take}
+use Rattle.std.specs.Vec.{vec_capacity}
+use Rattle.kahn_job.proofs.copies.kept_of.Given as goal
+
+abbrev pub invariant-loop-parameter : goal.invariant-loop-parameter
+invariant-loop-parameter l =
+    (map (λ v. v.items) l.lists.items ≡ take l.parameter l.cell.kept) × (length l.lists.items ≡ l.parameter) × (l.parameters ≤ vec_capacity l.lists)

@@ -1,0 +1,4 @@
+use Rattle.kahn_job.proofs.feed.named_input.Given as goal
+
+abbrev pub ghost-named : goal.ghost-named
+ghost-named g a = g.name

@@ -1,0 +1,8 @@
+use Rattle.std.proofs.Common.{sym, subst}
+use Rattle.kahn_streams.specs.Laws.{AreInputsExtended}
+use Rattle.kahn_streams.specs.Tokens.{inputs_of}
+use Rattle.kahn_job.specs.Works.{Work}
+use Rattle.kahn_job.proofs.idle.Idle.wake.Goals as goal
+
+pub grown-cell-requires : goal.grown-cell-requires
+grown-cell-requires c = subst (λ (w : Work). AreInputsExtended (inputs_of w.cell.input) (inputs_of c.args.input.now)) (sym c.self.view_is) c.requires.grown

@@ -1,0 +1,7 @@
+use Rattle.std.proofs.Common.{◌≡◌}
+use Rattle.kahn_job.specs.Idles.{cells_of, rows_of}
+use Rattle.kahn_job.proofs.Settles.{AreGoing}
+use Rattle.kahn_job.proofs.settling.settle.Given as goal
+
+abbrev pub invariant-loop-channel : goal.invariant-loop-channel
+invariant-loop-channel l = AreGoing l.network l.input l.channel (rows_of l.fn.idles) (rows_of l.idles) × (cells_of l.idles ≡ cells_of l.fn.idles)

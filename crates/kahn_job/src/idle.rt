@@ -1,0 +1,91 @@
+//! A job on which nobody works, while its input may grow.
+
+ghost use Rattle.std.specs.Prelude.{◌≡◌, ◌<◌, length, map, slice_set, IfOk};
+ghost use Rattle.kahn_job.specs.Berths.{end_at};
+ghost use Rattle.kahn_job.specs.Idles.{CanGoOn};
+ghost use Rattle.kahn_job.specs.Works.{width_of};
+
+use crate::copies::lists_of;
+use crate::job::Job;
+use crate::port::Port;
+use crate::ports::Ends;
+use kahn_code::cell::{Cell, Kept};
+use kahn_network::network::Network;
+use kahn_streams::input::Input;
+use kahn_streams::memory::NoMemory;
+use std::alloc::Global;
+use std::marker::Model;
+use std::mem;
+
+/// A cell and the ends of its channels between two runs. It has no hold on the input, which may grow meanwhile. It keeps a
+/// list with a number for each parameter, which whoever runs the job wants again: so going on takes no memory.
+#[derive(Drop)]
+pub struct Idle {
+    cell: Cell,
+    instance: usize,
+    ports: Vec<Port>,
+    numbers: Vec<u64>,
+}
+
+impl Model for Idle {
+    ghost use Rattle.kahn_tree.specs.contracts.tree.Action as action;
+    ghost use Rattle.kahn_tree.specs.contracts.tree.Form as form;
+    ghost use Rattle.std.specs.Coded.{codes};
+    ghost use Rattle.std.specs.Prelude.{◌≡◌, length};
+    ghost use Rattle.kahn_job.specs.Works.{Work, width_of};
+
+    ghost Value = { Work };
+
+    ghost coded = { Prim.hlevel (codes, action.the_row.coded, form.the_row.coded) };
+
+    ghost view = { λ j. record { cell = j.cell; ends = j.ports.items } };
+
+    ghost invariant = { λ j. (j.instance ≡ j.cell.instance) × (length j.numbers.items ≡ width_of (record { cell = j.cell; ends = j.ports.items })) };
+}
+
+impl Idle {
+    /// The cell of an instance with the ends of its channels, and a number for each parameter.
+    pub(crate) fn new(cell: Cell, instance: usize, ports: Vec<Port>, numbers: Vec<u64>) -> Idle
+        requires here { instance ≡ cell.instance }
+        requires each { length numbers.items ≡ width_of (record { cell = cell; ends = ports.items }) }
+        ensures { result ≡ record { cell = cell; ends = ports.items } }
+    {
+        Idle {
+            cell,
+            instance,
+            ports,
+            numbers,
+        }
+    }
+
+    /// Gives a parameter another end, and gives out the one it had.
+    pub(crate) fn replace(&mut self, parameter: usize, port: Port) -> Port
+        requires { parameter < length self.old.ends }
+        ensures port { result ≡ end_at self.old.ends parameter }
+        ensures rest { self.new ≡ record self.old { ends = slice_set self.old.ends parameter port } }
+    {
+        mem::replace(&mut self.ports[parameter], port)
+    }
+
+    /// A copy of what its cell kept. It refuses only where memory was refused.
+    pub fn lists(&self, alloc: Global) -> Result<Kept, NoMemory>
+        ensures kept { IfOk result (λ k. map (λ v. v.items) k.kept.items ≡ self.now.cell.kept) }
+        ensures printed { IfOk result (λ k. k.printed.items ≡ self.now.cell.printed) }
+        ensures parameters { IfOk result (λ k. length k.kept.items ≡ width_of self.now) }
+    {
+        lists_of(alloc, &self.cell)
+    }
+
+    /// The job, with its hold on an input for which its ends have settled, and a list with a number for each parameter. It
+    /// takes no memory.
+    #[tactic(auto, using(crate::proofs::Idles::manned_again))]
+    pub fn wake<'n>(self, network: &'n Network, input: &'n Input) -> (Job<'n>, Vec<u64>)
+        requires { CanGoOn network.now input.now self }
+        ensures job { result.0 ≡ record self { cell = record self.cell { input = input.now } } }
+        ensures numbers { length result.1.items ≡ width_of self }
+    {
+        let cell = self.cell.grown(input);
+        let ends = Ends::new(network, input, self.instance, self.ports);
+        (Job::new(cell, ends), self.numbers)
+    }
+}

@@ -1,0 +1,113 @@
+//! The ends of all channels go on with an input that has grown.
+
+ghost use Rattle.std.specs.Prelude.{◌≡◌, ◌<◌, length, Some, OnOk, MatchResult};
+ghost use Rattle.kahn_network.specs.Network.{network_of};
+ghost use Rattle.kahn_job.specs.Idles.{HaveSettled, cells_of, rows_of};
+ghost use Rattle.kahn_job.specs.Openings.{placed};
+ghost use Rattle.kahn_job.specs.Settling.{AreAlike, AreResting, AreSettled, CanFeed, CanSettle, HasExchanged, HasPlace, HaveExchanged, HaveStood, end_of_side};
+ghost use Rattle.kahn_job.specs.Ways.{nothing};
+
+use crate::idle::Idle;
+use crate::port::Port;
+use kahn_network::network::Network;
+use kahn_network::sides::Side;
+use kahn_streams::input::Input;
+use kahn_streams::memory::NoMemory;
+
+// Gives a parameter another end, and gives out the one it had.
+fn exchange(idles: &mut [Idle], side: Side, port: Port) -> Port
+    requires { HasPlace (rows_of idles.old) side }
+    ensures port { result ≡ end_of_side (rows_of idles.old) side }
+    ensures rows { rows_of idles.new ≡ placed (rows_of idles.old) (Some side) port }
+    ensures cells { cells_of idles.new ≡ cells_of idles.old }
+{
+    idles[side.instance].replace(side.parameter, port)
+}
+
+// Two ends come to their parameters.
+fn put_back(idles: &mut [Idle], writer: Side, sender: Port, reader: Side, receiver: Port)
+    requires { HasPlace (rows_of idles.old) writer × HasPlace (rows_of idles.old) reader }
+    ensures rows { rows_of idles.new ≡ placed (placed (rows_of idles.old) (Some writer) sender) (Some reader) receiver }
+    ensures cells { cells_of idles.new ≡ cells_of idles.old }
+{
+    let _none = exchange(idles, writer, sender);
+    let _none = exchange(idles, reader, receiver);
+}
+
+// The lane between two parameters goes on with the input.
+fn settle_lane(
+    idles: &mut [Idle],
+    writer: Side,
+    reader: Side,
+    input: &Input,
+) -> Result<(), NoMemory>
+    requires places { HasPlace (rows_of idles.old) writer × HasPlace (rows_of idles.old) reader }
+    requires apart { writer ≡ reader → ⊥ }
+    requires lane { CanSettle input.now (end_of_side (rows_of idles.old) writer) (end_of_side (rows_of idles.old) reader) }
+    ensures ends { MatchResult result (λ _. HaveExchanged input.now writer reader (rows_of idles.old) (rows_of idles.new)) (λ _. AreAlike (rows_of idles.old) (rows_of idles.new)) }
+    ensures cells { cells_of idles.new ≡ cells_of idles.old }
+{
+    let sender = exchange(idles, writer, Port::nothing());
+    let receiver = exchange(idles, reader, Port::nothing());
+    match sender.settle(receiver, input) {
+        Ok((sender, receiver)) => {
+            put_back(idles, writer, sender, reader, receiver);
+            Ok(())
+        }
+        Err((fault, sender, receiver)) => {
+            put_back(idles, writer, sender, reader, receiver);
+            Err(fault)
+        }
+    }
+}
+
+// The list of an input channel is that of the input from now on.
+fn settle_feed(idles: &mut [Idle], reader: Side, input: &Input)
+    requires place { HasPlace (rows_of idles.old) reader }
+    requires feed { CanFeed input.now (end_of_side (rows_of idles.old) reader) }
+    ensures ends { HasExchanged input.now reader (rows_of idles.old) (rows_of idles.new) }
+    ensures cells { cells_of idles.new ≡ cells_of idles.old }
+{
+    let mut port = exchange(idles, reader, Port::nothing());
+    port.regrow(input);
+    let _none = exchange(idles, reader, port);
+}
+
+// The ends of a channel go on with the input. Where memory is refused they stay as they are.
+fn settle_channel(
+    network: &Network,
+    input: &Input,
+    idles: &mut [Idle],
+    channel: usize,
+) -> Result<(), NoMemory>
+    requires here { channel < length (network_of network.now).channels }
+    requires resting { AreResting network.now input.now (rows_of idles.old) }
+    ensures ends { MatchResult result (λ _. AreSettled network.now input.now (λ c. c ≡ channel) (rows_of idles.old) (rows_of idles.new)) (λ _. AreAlike (rows_of idles.old) (rows_of idles.new)) }
+    ensures cells { cells_of idles.new ≡ cells_of idles.old }
+{
+    let _program = network.program();
+    match (network.writer(channel), network.reader(channel)) {
+        (Some(writer), Some(reader)) => settle_lane(idles, writer, reader, input),
+        (None, Some(reader)) => {
+            settle_feed(idles, reader, input);
+            Ok(())
+        }
+        (_, None) => Ok(()),
+    }
+}
+
+/// The ends of all channels go on with an input whose lists begin with those of theirs. Each stands where it stood, and all
+/// that was put is flushed. Where memory is refused, those that went on already look the same to every call.
+pub fn settle(network: &Network, input: &Input, idles: &mut [Idle]) -> Result<(), NoMemory>
+    requires { AreResting network.now input.now (rows_of idles.old) }
+    ensures settled { OnOk result (HaveSettled network.now input.now (rows_of idles.new)) }
+    ensures resting { AreResting network.now input.now (rows_of idles.new) }
+    ensures stood { HaveStood (rows_of idles.old) (rows_of idles.new) }
+    ensures cells { cells_of idles.new ≡ cells_of idles.old }
+{
+    let _program = network.program();
+    for channel in 0..network.channels() {
+        settle_channel(network, input, idles, channel)?;
+    }
+    Ok(())
+}

@@ -1,0 +1,102 @@
+-- What many calls make of a held run: it goes on, so each answer says no less than those before it.
+use Rattle.std.proofs.Common.{arith, ◌≡◌, ◌⊎◌, inl, inr, ℕ, ◌≤◌, List, [], ◌∷◌, map, refl, sym, ap, ◌∙◌, subst, true, slice_index_or}
+use Rattle.kahn_tree.specs.declared.tree.Program.{Program}
+use Rattle.kahn_network.specs.Network.{Source, Given, Written, Nobody, Writes, network_of, instance_at, actual_at}
+use Rattle.kahn_network.specs.Wiring.{IsWellWired}
+use Rattle.kahn_streams.specs.declared.value.Value.{Value}
+use Rattle.kahn_streams.specs.declared.value.Line.{Line}
+use Rattle.kahn_streams.specs.declared.value.Line.TheVariants.{Channel, Print}
+use Rattle.kahn_streams.specs.declared.feeds.FeedFault.{FeedFault}
+use Rattle.kahn_streams.specs.Entries.{Entry}
+use Rattle.kahn_streams.specs.Solution.{IsPrefix, source}
+use Rattle.kahn_streams.specs.Tokens.{inputs_of}
+use Rattle.kahn_streams.proofs.Proved.{prefix_refl, prefix_trans}
+use Rattle.kahn_code.specs.Cells.{is_streamed, token_value}
+use Rattle.kahn_code.proofs.Driven.{driven}
+use Rattle.kahn_pool.specs.HeldRuns.{AreCalls, GoesOn, HasSoFar, HeldRun, IsAnswerOf, IsCall, IsSoFar, IsUnresumed, SaysNoLess, last_of, seen_at}
+use Rattle.kahn_pool.specs.Right.{values_of}
+use Rattle.kahn_pool.specs.declared.answer.Answer.{Answer}
+use Rattle.kahn_pool.specs.declared.held_fault.HeldFault.{HeldFault}
+use Rattle.kahn_pool.specs.declared.held_fault.HeldFault.TheVariants as held
+
+-- a line has one list of values so far
+one_so_far : (h : HeldRun) → IsWellWired h.network → (s : Source) (c : Line) (vs ws : List Value) → IsSoFar h s c vs → IsSoFar h s c ws → vs ≡ ws
+one_so_far h wired Given (Channel c) vs ws a b = a ∙ sym b
+one_so_far h wired Given (Print r) vs ws a b = absurd a
+one_so_far h wired (Written p) (Channel c) vs ws (q, a, s, e) (r, b, s', f) =
+    e ∙ ap (λ k. map token_value (slice_index_or (seen_at h.cells p).kept k [])) ((driven h.network wired).once p q r c a b) ∙ sym f
+one_so_far h wired (Written p) (Print r) vs ws a b = a ∙ sym b
+one_so_far h wired Nobody c vs ws a b = absurd a
+
+pub goes_on_same : (h : HeldRun) → IsWellWired h.network → GoesOn h h
+goes_on_same h wired = record {
+  network = refl;
+  watch = refl;
+  workers = refl;
+  quantum = refl;
+  input = λ c. prefix_refl (inputs_of h.input c);
+  streams = λ c vs ws a b. subst (IsPrefix vs) (one_so_far h wired (source (network_of h.network) c) c vs ws a b) (prefix_refl vs);
+  events = λ p. omega arith;
+}
+
+-- what a later run has of a line that an earlier one has
+still : (a b : HeldRun) → GoesOn a b → (s : Source) (c : Line) (vs : List Value) → IsSoFar a s c vs → (us : List Value) × IsSoFar b s c us
+still a b g Given (Channel c) vs h = (inputs_of b.input c, refl)
+still a b g Given (Print r) vs h = absurd h
+still a b g (Written p) (Channel c) vs (q, w, s, e) = (
+  map token_value (slice_index_or (seen_at b.cells p).kept q []),
+  (
+    q,
+    subst (λ t. actual_at (instance_at (network_of t) p) q ≡ Writes c) (sym g.network) w,
+    subst (λ t. is_streamed (network_of t) b.watch c ≡ true) (sym g.network) (subst (λ n. is_streamed (network_of a.network) n c ≡ true) (sym g.watch) s),
+    refl,
+  ),
+)
+still a b g (Written p) (Print r) vs h = (map token_value (seen_at b.cells p).printed, refl)
+still a b g Nobody c vs h = absurd h
+
+still_so : (a b : HeldRun) → GoesOn a b → (c : Line) (vs : List Value) → HasSoFar a c vs → (us : List Value) × HasSoFar b c us
+still_so a b g c vs h =
+    let m = still a b g (source (network_of a.network) c) c vs h in
+    (m.0, subst (λ t. IsSoFar b (source (network_of t) c) c m.0) (sym g.network) m.1)
+
+pub goes_on_then : (a b c : HeldRun) → GoesOn a b → GoesOn b c → GoesOn a c
+goes_on_then a b c g h = record {
+  network = h.network ∙ g.network;
+  watch = h.watch ∙ g.watch;
+  workers = h.workers ∙ g.workers;
+  quantum = h.quantum ∙ g.quantum;
+  input = λ d. prefix_trans (inputs_of a.input d) (inputs_of b.input d) (inputs_of c.input d) (g.input d) (h.input d);
+  streams = λ d vs ws u w. let m = still_so a b g d vs u in prefix_trans vs m.0 ws (g.streams d vs m.0 u m.1) (h.streams d m.0 ws m.1 w);
+  events = λ p. let x = g.events p in let y = h.events p in omega (arith, x, y);
+}
+
+refused : (old new : HeldRun) → IsWellWired old.network → new ≡ old → GoesOn old new
+refused old new wired e = subst (GoesOn old) (sym e) (goes_on_same old wired)
+
+unresumed : (more : ℕ) (old new : HeldRun) (f : HeldFault) → IsWellWired old.network → IsUnresumed more old new f → GoesOn old new
+unresumed more old new held.BadMore wired h = refused old new wired h.0
+unresumed more old new held.NoMemory wired h = refused old new wired h.0
+unresumed more old new held.NoThread wired h = h.0.goes_on
+unresumed more old new held.Stalled wired h = absurd h
+
+call : (old new : HeldRun) → IsWellWired old.network → IsCall old new → GoesOn old new
+call old new wired (inl (more, v, h)) = h.0.goes_on
+call old new wired (inr (inl (more, f, h))) = unresumed more old new f wired h
+call old new wired (inr (inr (inl (entry, h)))) = h.goes_on
+call old new wired (inr (inr (inr (entry, f, h)))) = refused old new wired h.0
+
+pub calls : (h : HeldRun) (later : List HeldRun) → IsWellWired h.network → AreCalls h later → GoesOn h (last_of h later)
+calls h [] wired all = goes_on_same h wired
+calls h (x ∷ later) wired (one, rest) =
+    let g = call h x wired one in
+    goes_on_then h x (last_of x later) g (calls x later (subst IsWellWired (sym g.network) wired) rest)
+
+pub answers : (h : HeldRun) (later : List HeldRun) (a b : Answer) → IsWellWired h.network → AreCalls h later → IsAnswerOf h a → IsAnswerOf (last_of h later) b →
+    SaysNoLess a b
+answers h later a b wired all x y =
+    let g = calls h later wired all in
+    record {
+      streams = λ s z u w e. g.streams s.line (values_of s) (values_of z) (x.streams s u) (subst (λ l. HasSoFar (last_of h later) l (values_of z)) (sym e) (y.streams z w));
+      events = λ p k l u w. let m = g.events p in let i = x.events p k u in let j = y.events p l w in omega (arith, m, i, j);
+    }

@@ -1,0 +1,401 @@
+-- The jobs of a held run: how they become tasks, and how tasks come to rest.
+use Rattle.std.proofs.Common.{arith, ◌≡◌, ℕ, suc, ◌+◌, ◌≤◌, List, [], ◌∷◌, All, length, map, sum_by, refl, sym, ap, ◌∙◌, subst, Some, slice_get, slice_index_or, Bool, true, false, Option, Result, Ok, Err, MatchResult}
+use Rattle.std.proofs.lemmas.List.{length-map}
+use Rattle.std.proofs.lemmas.List.Sums.{sum_by-cons}
+use Rattle.kahn_tree.specs.declared.tree.Program.{Program}
+use Rattle.kahn_network.specs.Network.{Writes, network_of, instance_at, actual_at, role_at}
+use Rattle.kahn_streams.specs.Laws.{AreInputsExtended}
+use Rattle.kahn_streams.specs.Tokens.{Lists, inputs_of}
+use Rattle.kahn_code.specs.Cells.{StoodBy, is_output}
+use Rattle.kahn_code.specs.Told.{Told, told_view}
+use Rattle.kahn_job.specs.Berths.{Serves, end_at}
+use Rattle.kahn_job.specs.Ends.{ShareLane}
+use Rattle.kahn_job.specs.Idles.{AreIdle, AreTogether, CanGoOn, HaveSettled as RowsSettled, cells_of, rows_of}
+use Rattle.kahn_job.specs.Works.{IsDelivered, IsJob, Work}
+use Rattle.kahn_job.proofs.Idles.{all_idle, cell_there, idle_goes_on, idle_grown, row_there}
+use Rattle.kahn_job.proofs.Settles.{stood_same}
+use Rattle.kahn_board.specs.Dealt.{events_of}
+use Rattle.kahn_crew.specs.Begins.{AreReady, IsReady, woken_task}
+use Rattle.kahn_crew.specs.Left.{AreUntouched, HaveGone, task_events}
+use Rattle.kahn_crew.specs.Tasks.{HasMet, Tasked, told_of, work_of}
+use Rattle.kahn_crew.proofs.Ended.{all_told}
+use Rattle.kahn_crew.proofs.Started.{at_mapped, at_most_all, mapped_at, read_there}
+use Rattle.kahn_pool.specs.Concluded.{IsConcluded}
+use Rattle.kahn_pool.specs.HeldRuns.{seen_of}
+use Rattle.kahn_pool.specs.Holding.{AreEnded, AreHeld, HasRisen, HasStopped, HaveRisen, cell_alone, held_state, work_events}
+use Rattle.kahn_pool.specs.Meetings.{HaveMet}
+use Rattle.kahn_pool.specs.Rested.{HaveSettled, IsTaskOf, cell_of, state_of}
+use Rattle.kahn_pool.specs.Bench.{State}
+use Rattle.kahn_pool.specs.declared.answer.End.{End as RunEnd}
+use Rattle.kahn_pool.specs.declared.answer.Verdict.{Verdict}
+use Rattle.kahn_pool.specs.declared.part.Stopped.{Stopped}
+use Rattle.kahn_crew.specs.Wants.{IsWant}
+use Rattle.kahn_crew.specs.declared.fault.CrewFault.{CrewFault}
+use Rattle.kahn_crew.specs.declared.fault.CrewFault.TheVariants.{NoMemory}
+use Rattle.kahn_streams.proofs.Proved.{prefix_refl}
+use Rattle.kahn_pool.proofs.Benched.{got, some_one, within_get}
+use Rattle.kahn_pool.proofs.Over as over
+use Rattle.kahn_pool.proofs.Over.{same_cells}
+
+-- ---- idle jobs become tasks
+
+woken_events : (lists : Lists) (ws : List Work) → sum_by task_events (map (woken_task lists) ws) ≡ sum_by work_events ws
+woken_events lists [] = refl
+woken_events lists (w ∷ ws) =
+    let a : sum_by task_events (map (woken_task lists) (w ∷ ws)) ≡ w.cell.events + sum_by task_events (map (woken_task lists) ws) =
+    sum_by-cons task_events (woken_task lists w) (map (woken_task lists) ws)
+    in
+    let b : sum_by work_events (w ∷ ws) ≡ w.cell.events + sum_by work_events ws = sum_by-cons work_events w ws in
+    let r : sum_by task_events (map (woken_task lists) ws) ≡ sum_by work_events ws = woken_events lists ws in
+    let s : sum_by task_events (map (woken_task lists) (w ∷ ws)) ≡ sum_by work_events (w ∷ ws) = omega (arith, a, b, r) in
+    s
+
+pub events_woken : (lists : Lists) (ws : List Work) → events_of told_of (map (woken_task lists) ws) ≡ sum_by work_events ws
+events_woken lists ws = sym (all_told (map (woken_task lists) ws)) ∙ woken_events lists ws
+
+module _ (t : Program) (lists : Lists) (watch : Option ℕ) (bound : ℕ) (ws : List Work) (budget : ℕ) (h : AreHeld t lists watch bound ws budget)
+    (settled : RowsSettled t lists (rows_of ws)) where
+  pub goes_on : (p : ℕ) (w : Work) → slice_get ws p ≡ Some w → CanGoOn t lists w
+  goes_on = idle_goes_on t lists ws h.idle ws refl (λ p q. stood_same _ _ refl) settled
+
+  writes_there : (w : Work) → CanGoOn t lists w → (q d : ℕ) → actual_at (instance_at (network_of t) w.cell.instance) q ≡ Writes d →
+      is_output (role_at (network_of t) d) ≡ false → (end_at w.ends q).writes ≡ true
+  writes_there w x q d i o = (subst (λ a. Serves t lists a (end_at w.ends q)) i (x.served.each q) o).0
+
+  delivered : (p : ℕ) (w : Work) → slice_get ws p ≡ Some w → IsDelivered w
+  delivered p w e q d i o =
+      let x = goes_on p w e in
+      let is = (h.idle.each p w e).instance in
+      let at : actual_at (instance_at (network_of t) w.cell.instance) q ≡ Writes d = subst (λ k. actual_at (instance_at (network_of k) w.cell.instance) q ≡ Writes d) x.network i in
+      let inner : is_output (role_at (network_of t) d) ≡ false = subst (λ k. is_output (role_at (network_of k) d) ≡ false) x.network o in
+      let flushed = settled.flushed p q d (subst (λ n. actual_at (instance_at (network_of t) n) q ≡ Writes d) is at) inner in
+      let row : slice_index_or (rows_of ws) p [] ≡ w.ends = row_there ws p w e in
+      subst (λ es. (end_at es q).writes ≡ true → (end_at es q).flushed ≡ (end_at es q).next) row flushed (writes_there w x q d at inner)
+      ∙ x.at.writes q d i o
+
+  pub woken_ready : AreReady t lists watch (map (woken_task lists) ws)
+  woken_ready = record {
+    count = length-map ws (woken_task lists) ∙ h.idle.count;
+    each = λ p y e. let m = mapped_at (woken_task lists) ws p y e in subst (IsReady t lists watch p) (sym m.2) (ready p m.0 m.1);
+    joined = λ p r o q d x y e f i j.
+        let a = mapped_at (woken_task lists) ws p x e in
+        let b = mapped_at (woken_task lists) ws r y f in
+        subst (λ (z : Tasked). ShareLane (end_at z.work.ends o) (end_at y.work.ends q)) (sym a.2)
+        (subst (λ (z : Tasked). ShareLane (end_at a.0.ends o) (end_at z.work.ends q)) (sym b.2)
+        (subst (λ es. ShareLane (end_at es o) (end_at b.0.ends q)) (row_there ws p a.0 a.1)
+        (subst (λ es. ShareLane (end_at (slice_index_or (rows_of ws) p []) o) (end_at es q)) (row_there ws r b.0 b.1) (settled.joined p r o q d i j))));
+  }
+    where
+      ready : (p : ℕ) (w : Work) → slice_get ws p ≡ Some w → IsReady t lists watch p (woken_task lists w)
+      ready p w e = record {
+        network = (goes_on p w e).network;
+        input = refl;
+        instance = (h.idle.each p w e).instance;
+        watched = h.watched p w e;
+        published = refl;
+        delivered = delivered p w e;
+      }
+
+-- ---- tasks come to rest
+
+pub settled_cells : (xs ys : List Tasked) → HaveSettled xs ys → map cell_of ys ≡ map cell_of xs
+settled_cells [] [] h = refl
+settled_cells [] (y ∷ ys) h = absurd (let n = h.count in omega (arith, n))
+settled_cells (x ∷ xs) [] h = absurd (let n = h.count in omega (arith, n))
+settled_cells (x ∷ xs) (y ∷ ys) h =
+    let s = h.each 0 x y refl refl in
+    let a = s.later.still s.events in
+    let b = settled_cells xs ys (record { count = let n = h.count in omega (arith, n); each = λ p. h.each (suc p) }) in
+    λ i. a i ∷ b i
+
+works_of : (xs : List Tasked) → cells_of (map work_of xs) ≡ map cell_of xs
+works_of [] = refl
+works_of (x ∷ xs) = ap (λ l. x.work.cell ∷ l) (works_of xs)
+
+sum_cells : (ws : List Work) (xs : List Tasked) → cells_of ws ≡ map cell_of xs → sum_by work_events ws ≡ sum_by task_events xs
+sum_cells [] [] e = refl
+sum_cells [] (x ∷ xs) e = absurd cc
+sum_cells (w ∷ ws) [] e = absurd cc
+sum_cells (w ∷ ws) (x ∷ xs) e =
+    let a : sum_by work_events (w ∷ ws) ≡ w.cell.events + sum_by work_events ws = sum_by-cons work_events w ws in
+    let b : sum_by task_events (x ∷ xs) ≡ x.work.cell.events + sum_by task_events xs = sum_by-cons task_events x xs in
+    let f : w.cell.events ≡ x.work.cell.events = ap (λ (c : Told). c.events) (first e) in
+    let r : sum_by work_events ws ≡ sum_by task_events xs = sum_cells ws xs (rest e) in
+    let s : sum_by work_events (w ∷ ws) ≡ sum_by task_events (x ∷ xs) = omega (arith, a, b, f, r) in
+    s
+  where
+    first : w.cell ∷ cells_of ws ≡ x.work.cell ∷ map cell_of xs → w.cell ≡ x.work.cell
+    first e = cc
+
+    rest : w.cell ∷ cells_of ws ≡ x.work.cell ∷ map cell_of xs → cells_of ws ≡ map cell_of xs
+    rest e = cc
+
+pub met_self : (xs : List Tasked) → HaveMet xs xs
+met_self xs = record {
+  count = refl;
+  each = λ p x y e f.
+      subst (λ (z : Tasked). HasMet x z) (some_one (sym e ∙ f)) (record {
+        cell = refl;
+        standing = refl;
+        published = refl;
+        ends = record {
+          count = refl;
+          each = λ q. record { same = record { reads = refl; writes = refl; lane = refl; name = refl }; next = refl; flushed = refl; ready = λ r. r };
+        };
+      });
+}
+
+module _ (t : Program) (lists : Lists) (watch : Option ℕ) (bound : ℕ) (first old : List Tasked) (budget : ℕ)
+    (gone : HaveGone t lists watch bound first old budget) (new : List Tasked) (asked : HaveSettled old new) (met : List Tasked) (meets : HaveMet new met)
+    (ws : List Work) (same : ws ≡ map work_of met) (jobs : All IsJob ws) where
+  cells_met : cells_of ws ≡ map cell_of met
+  cells_met = ap cells_of same ∙ works_of met
+
+  pub cells_after : cells_of ws ≡ map cell_of old
+  cells_after = cells_met ∙ same_cells new met meets ∙ settled_cells old new asked
+
+  pub cells_new : cells_of ws ≡ map cell_of new
+  cells_new = cells_met ∙ same_cells new met meets
+
+  met_at : (p : ℕ) (w : Work) → slice_get ws p ≡ Some w → (y : Tasked) × (slice_get met p ≡ Some y) × (w ≡ y.work)
+  met_at p w e = mapped_at work_of met p w (subst (λ (l : List Work). slice_get l p ≡ Some w) same e)
+
+  new_at : (p : ℕ) (y : Tasked) → slice_get met p ≡ Some y → (x : Tasked) × (slice_get new p ≡ Some x)
+  new_at p y e = let l = within_get met p y e in let n = meets.count in got new p (omega (arith, l, n))
+
+  -- the cell of a job is that of the task that was asked
+  cell_at : (p : ℕ) (w : Work) (e : slice_get ws p ≡ Some w) → (x : Tasked) × (slice_get new p ≡ Some x) × (w.cell ≡ x.work.cell)
+  cell_at p w e =
+      let y = met_at p w e in
+      let x = new_at p y.0 y.1 in
+      (x.0, x.1, ap (λ (z : Work). z.cell) y.2 ∙ (meets.each p x.0 y.0 x.1 y.1).cell)
+
+  task_at : (p : ℕ) (x : Tasked) → slice_get new p ≡ Some x → IsTaskOf t lists watch p x
+  task_at = over.of_new t lists watch bound first old budget gone new asked
+
+  together : AreTogether t lists ws
+  together = record {
+    count = ap (λ (l : List Work). length l) same ∙ length-map met work_of ∙ meets.count ∙ asked.count ∙ gone.count;
+    each = λ p w e.
+        let x = cell_at p w e in
+        let o = task_at p x.0 x.1 in (
+          subst IsJob (read_there ws p w w e) (jobs p w (within_get ws p w e)),
+          ap (λ (c : Told). c.network) x.2 ∙ o.network,
+          ap (λ (c : Told). c.input) x.2 ∙ o.input,
+          ap (λ (c : Told). c.instance) x.2 ∙ o.instance,
+        );
+    joined = λ p r o q d w v e f i j.
+        let a = met_at p w e in
+        let b = met_at r v f in
+        let x = new_at p a.0 a.1 in
+        let y = new_at r b.0 b.1 in
+        let s = (over.joined_new t lists watch bound first old budget gone new asked).joined p r o q d x.0 y.0 x.1 y.1 i j in
+        let la : (end_at w.ends o).lane ≡ (end_at x.0.work.ends o).lane =
+        ap (λ (z : Work). (end_at z.ends o).lane) a.2 ∙ (((meets.each p x.0 a.0 x.1 a.1).ends.each o).same).lane in
+        let lb : (end_at v.ends q).lane ≡ (end_at y.0.work.ends q).lane =
+        ap (λ (z : Work). (end_at z.ends q).lane) b.2 ∙ (((meets.each r y.0 b.0 y.1 b.1).ends.each q).same).lane in
+        (s.0, la ∙ s.1, lb ∙ s.2);
+  }
+
+  stood_at : (p : ℕ) (w : Work) → slice_get ws p ≡ Some w → StoodBy (network_of t) (inputs_of w.cell.input) watch p (told_view w.cell)
+  stood_at p w e =
+      let x = cell_at p w e in
+      let o = task_at p x.0 x.1 in
+      let k = (over.step t lists watch bound first old budget gone new asked p x.0 x.1).settled.says.stood in
+      let c = x.0.work.cell in
+      subst (λ (d : Told). StoodBy (network_of t) (inputs_of d.input) watch p (told_view d)) (sym x.2)
+      (subst (λ i. StoodBy (network_of t) (inputs_of c.input) watch i (told_view c)) o.instance
+      (subst (λ v. StoodBy (network_of t) (inputs_of c.input) v c.instance (told_view c)) o.watched
+      (subst (λ n. StoodBy (network_of n) (inputs_of c.input) c.watch c.instance (told_view c)) o.network k)))
+
+  pub held_after : AreHeld t lists watch bound ws budget
+  held_after = record {
+    idle = all_idle t lists ws together;
+    watched = λ p w e. let x = cell_at p w e in ap (λ (c : Told). c.watch) x.2 ∙ (task_at p x.0 x.1).watched;
+    stood = stood_at;
+    events = let a = gone.events in let b = sum_cells ws old cells_after in omega (arith, a, b);
+  }
+
+  pub held_concluded : (halted : Bool) (v : Verdict) (ends : List RunEnd) → IsConcluded (state_of t lists watch new) bound budget halted v ends →
+      IsConcluded (held_state t lists watch ws) bound budget halted v ends
+  held_concluded halted v ends c =
+      subst (λ cs. IsConcluded (let r : State = record { network = network_of t; input = inputs_of lists; watch = watch; cells = map told_view cs } in r) bound budget halted v ends)
+      (sym cells_new) c
+
+-- before their first events
+pub none_done : (old new : List Tasked) → HaveSettled old new → (ws : List Work) → ws ≡ map work_of new → events_of told_of old ≡ 0 →
+    (p : ℕ) (w : Work) → slice_get ws p ≡ Some w → w.cell.events ≡ 0
+none_done old new asked ws same none p w e =
+    let cells = ap cells_of same ∙ works_of new ∙ settled_cells old new asked in
+    let y = mapped_at cell_of old p w.cell (subst (λ (l : List Told). slice_get l p ≡ Some w.cell) cells (at_mapped (λ (z : Work). z.cell) ws p w e)) in
+    let most = at_most_all old p y.0 y.1 in
+    let is : w.cell.events ≡ y.0.work.cell.events = ap (λ (c : Told). c.events) y.2 in
+    omega (arith, most, is, none)
+
+-- ---- a part of a run
+
+-- the bound of all events is that of the part and what was done before
+pub all_events : (lists : Lists) (ws : List Work) (tasks : List Tasked) (bound more : ℕ) → tasks ≡ map (woken_task lists) ws → more + sum_by work_events ws ≡ bound →
+    more + events_of told_of tasks ≡ bound
+all_events lists ws tasks bound more same e =
+    let a : events_of told_of tasks ≡ sum_by work_events ws = ap (λ (l : List Tasked). events_of told_of l) same ∙ events_woken lists ws in
+    omega (arith, a, e)
+
+module _ (t : Program) (lists : Lists) (watch : Option ℕ) (bound : ℕ) (ws : List Work) (budget : ℕ) (h : AreHeld t lists watch bound ws budget)
+    (tasks old : List Tasked) (total left : ℕ) (woken : tasks ≡ map (woken_task lists) ws) (gone : HaveGone t lists watch total tasks old left)
+    (us : List Work) (cells : cells_of us ≡ map cell_of old) where
+  old_at : (p : ℕ) (v : Work) → slice_get us p ≡ Some v → (y : Tasked) × (slice_get old p ≡ Some y) × (v.cell ≡ y.work.cell)
+  old_at p v e =
+      let c : slice_get (map cell_of old) p ≡ Some v.cell = subst (λ (l : List Told). slice_get l p ≡ Some v.cell) cells (at_mapped (λ (w : Work). w.cell) us p v e) in
+      mapped_at cell_of old p v.cell c
+
+  first_at : (p : ℕ) (w : Work) → slice_get ws p ≡ Some w → slice_get tasks p ≡ Some (woken_task lists w)
+  first_at p w e = subst (λ (l : List Tasked). slice_get l p ≡ Some (woken_task lists w)) (sym woken) (at_mapped (woken_task lists) ws p w e)
+
+  pub have_risen : HaveRisen ws us
+  have_risen p w v e f =
+      let y = old_at p v f in
+      let l = gone.later p (woken_task lists w) y.0 (first_at p w e) y.1 in
+      record {
+        events = subst (λ (c : Told). w.cell.events ≤ c.events) (sym y.2) l.events;
+        input = subst (λ (c : Told). AreInputsExtended (inputs_of w.cell.input) (inputs_of c.input)) (sym y.2)
+            (subst (λ i. AreInputsExtended (inputs_of w.cell.input) (inputs_of i)) (sym l.input) (h.idle.each p w e).grown);
+      }
+
+  pub alone_still : (more : ℕ) → AreUntouched more tasks old left → map cell_alone (cells_of us) ≡ map cell_alone (cells_of ws)
+  alone_still more u = same_alone us ws (long ∙ ap (λ (l : List Tasked). length l) woken ∙ length-map ws (woken_task lists)) (λ p v w f e.
+      let y = old_at p v f in
+      ap cell_alone (y.2 ∙ u.cells p (woken_task lists w) y.0 (first_at p w e) y.1))
+    where
+      long : length us ≡ length tasks
+      long = sym (length-map us (λ (w : Work). w.cell)) ∙ ap (λ (l : List Told). length l) cells ∙ length-map old cell_of ∙ gone.count ∙ sym gone.ready.count
+
+      same_alone : (us ws : List Work) → length us ≡ length ws → ((p : ℕ) (v w : Work) → slice_get us p ≡ Some v → slice_get ws p ≡ Some w → cell_alone v.cell ≡ cell_alone w.cell) →
+          map cell_alone (cells_of us) ≡ map cell_alone (cells_of ws)
+      same_alone [] [] l g = refl
+      same_alone [] (w ∷ ws) l g = absurd (omega (arith, l))
+      same_alone (v ∷ us) [] l g = absurd (omega (arith, l))
+      same_alone (v ∷ us) (w ∷ ws) l g =
+          let a = g 0 v w refl refl in
+          let b = same_alone us ws (omega (arith, l)) (λ p. g (suc p)) in
+          λ i. a i ∷ b i
+
+-- ---- jobs whose cells are as they were
+
+views_alone : (cs : List Told) → map told_view (map cell_alone cs) ≡ map told_view cs
+views_alone [] = refl
+views_alone (c ∷ cs) = ap (λ l. told_view c ∷ l) (views_alone cs)
+
+seen_alone : (cs : List Told) → map seen_of (map cell_alone cs) ≡ map seen_of cs
+seen_alone [] = refl
+seen_alone (c ∷ cs) = ap (λ l. seen_of c ∷ l) (seen_alone cs)
+
+-- but for their inputs
+module _ (us ws : List Work) (same : map cell_alone (cells_of us) ≡ map cell_alone (cells_of ws)) where
+  pub same_seen : map seen_of (cells_of us) ≡ map seen_of (cells_of ws)
+  same_seen = sym (seen_alone (cells_of us)) ∙ ap (λ cs. map seen_of cs) same ∙ seen_alone (cells_of ws)
+
+  same_views : map told_view (cells_of us) ≡ map told_view (cells_of ws)
+  same_views = sym (views_alone (cells_of us)) ∙ ap (λ cs. map told_view cs) same ∙ views_alone (cells_of ws)
+
+  pub ended_alike : (t : Program) (lists : Lists) (watch : Option ℕ) (bound budget : ℕ) (ends : List RunEnd) (v : Option Verdict) →
+      AreEnded (held_state t lists watch ws) bound budget ends v → AreEnded (held_state t lists watch us) bound budget ends v
+  ended_alike t lists watch bound budget ends v e =
+      subst (λ cs. AreEnded (let r : State = record { network = network_of t; input = inputs_of lists; watch = watch; cells = cs } in r) bound budget ends v)
+      (sym same_views) e
+
+-- all of them
+module _ (t : Program) (lists : Lists) (watch : Option ℕ) (bound : ℕ) (us ws : List Work) (budget : ℕ) (h : AreHeld t lists watch bound ws budget) where
+  pub held_alike : cells_of us ≡ cells_of ws → AreIdle t lists us → AreHeld t lists watch bound us budget
+  held_alike same idle = record {
+    idle = idle;
+    watched = λ p w e. let x = cell_there us ws same p w e in ap (λ (c : Told). c.watch) x.2 ∙ h.watched p x.0 x.1;
+    stood = λ p w e.
+        let x = cell_there us ws same p w e in
+        subst (λ (c : Told). StoodBy (network_of t) (inputs_of c.input) watch p (told_view c)) (sym x.2) (h.stood p x.0 x.1);
+    events = let a = h.events in let b = sum_alike us ws same in omega (arith, a, b);
+  }
+    where
+      sum_alike : (us ws : List Work) → cells_of us ≡ cells_of ws → sum_by work_events us ≡ sum_by work_events ws
+      sum_alike [] [] e = refl
+      sum_alike [] (w ∷ ws) e = absurd cc
+      sum_alike (v ∷ us) [] e = absurd cc
+      sum_alike (v ∷ us) (w ∷ ws) e =
+          let a : sum_by work_events (v ∷ us) ≡ v.cell.events + sum_by work_events us = sum_by-cons work_events v us in
+          let b : sum_by work_events (w ∷ ws) ≡ w.cell.events + sum_by work_events ws = sum_by-cons work_events w ws in
+          let f : v.cell.events ≡ w.cell.events = ap (λ (c : Told). c.events) (first e) in
+          let r : sum_by work_events us ≡ sum_by work_events ws = sum_alike us ws (rest e) in
+          let s : sum_by work_events (v ∷ us) ≡ sum_by work_events (w ∷ ws) = omega (arith, a, b, f, r) in
+          s
+        where
+          first : v.cell ∷ cells_of us ≡ w.cell ∷ cells_of ws → v.cell ≡ w.cell
+          first e = cc
+
+          rest : v.cell ∷ cells_of us ≡ w.cell ∷ cells_of ws → cells_of us ≡ cells_of ws
+          rest e = cc
+
+  -- so many events more are allowed
+  pub held_more : (more total : ℕ) → total ≡ bound + more → AreHeld t lists watch total ws (budget + more)
+  held_more more total e = record { idle = h.idle; watched = h.watched; stood = h.stood; events = let a = h.events in omega (arith, a, e) }
+
+  -- and so many fewer
+  pub held_again : (more total left : ℕ) → total + more ≡ bound → left + more ≡ budget → AreHeld t lists watch total ws left
+  held_again more total left e f = record { idle = h.idle; watched = h.watched; stood = h.stood; events = let a = h.events in omega (arith, a, e, f) }
+
+  -- for an input that has grown
+  pub held_grown : (after : Lists) → AreInputsExtended (inputs_of lists) (inputs_of after) → AreHeld t after watch bound ws budget
+  held_grown after grown = record { idle = idle_grown t lists ws h.idle after grown; watched = h.watched; stood = h.stood; events = h.events }
+
+-- ---- how a part stopped
+
+ok_err : {A B : Type 0} {a : A} {b : B} → ◌≡◌ {A = Result A B} (Ok a) (Err b) → ⊥
+ok_err e = cc
+
+err_same : {A B : Type 0} {a b : B} → ◌≡◌ {A = Result A B} (Err a) (Err b) → a ≡ b
+err_same e = cc
+
+module _ (t : Program) (lists : Lists) (watch : Option ℕ) (workers bound : ℕ) (old : List Work) (more : ℕ) (r : Stopped)
+    (held : AreHeld t lists watch bound r.idles.items r.budget) (risen : HaveRisen old r.idles.items) where
+  abbrev Concludes : Verdict → Type 0
+  Concludes v = (halted : Bool) × IsConcluded (held_state t lists watch r.idles.items) bound r.budget halted v r.ends.items
+
+  pub stopped_so : (v : Verdict) (halted : Bool) → r.outcome ≡ Ok v → IsConcluded (held_state t lists watch r.idles.items) bound r.budget halted v r.ends.items →
+      HasStopped t lists watch workers bound old more r
+  stopped_so v halted e c = record {
+    held = held;
+    risen = risen;
+    outcome = subst (λ o. MatchResult o Concludes (IsWant workers)) (sym e) (halted, c);
+    untouched = λ f. absurd (ok_err (sym e ∙ f));
+  }
+
+  pub refused_so : (fault : CrewFault) → IsWant workers fault → r.outcome ≡ Err fault →
+      (fault ≡ NoMemory → (r.budget ≡ more) × (map cell_alone (cells_of r.idles.items) ≡ map cell_alone (cells_of old))) → HasStopped t lists watch workers bound old more r
+  refused_so fault want e still = record {
+    held = held;
+    risen = risen;
+    outcome = subst (λ o. MatchResult o Concludes (IsWant workers)) (sym e) want;
+    untouched = λ f. still (err_same (sym e ∙ f));
+  }
+
+-- jobs whose cells are the same
+pub rises_since : (ws vs us : List Work) → cells_of us ≡ cells_of ws → HaveRisen us vs → HaveRisen ws vs
+rises_since ws vs us cells risen p w v e f =
+    let x = cell_there ws us (sym cells) p w e in
+    let r = risen p x.0 v x.1 f in
+    record {
+      events = subst (λ (c : Told). c.events ≤ v.cell.events) (sym x.2) r.events;
+      input = subst (λ (c : Told). AreInputsExtended (inputs_of c.input) (inputs_of v.cell.input)) (sym x.2) r.input;
+    }
+
+pub risen_here : (ws : List Work) → HaveRisen ws ws
+risen_here ws p w v e f =
+    subst (HasRisen w) (some_one (sym e ∙ f)) (record { events = omega arith; input = λ c. prefix_refl (inputs_of w.cell.input c) })
+
+pub stopped_since : (t : Program) (lists : Lists) (watch : Option ℕ) (workers bound : ℕ) (ws us : List Work) (more : ℕ) (r : Stopped) → cells_of us ≡ cells_of ws →
+    HasStopped t lists watch workers bound us more r → HasStopped t lists watch workers bound ws more r
+stopped_since t lists watch workers bound ws us more r cells h = record {
+  held = h.held;
+  risen = rises_since ws r.idles.items us cells h.risen;
+  outcome = h.outcome;
+  untouched = λ e. let u = h.untouched e in (u.0, u.1 ∙ ap (λ (cs : List Told). map cell_alone cs) cells);
+}

@@ -1,0 +1,373 @@
+-- A held run goes on: its streams grow, and no instance has fewer events.
+use Rattle.std.proofs.Common.{arith, ◌≡◌, ◌⊎◌, inl, inr, ℕ, zero, suc, ◌+◌, ◌<◌, ◌≤◌, ◌^◌, List, [], ◌∷◌, length, map, sum_by, refl, sym, ap, ◌∙◌, subst, Bool, Option, Some, None, Ok, Err, MatchResult, slice_get, slice_index_or, true}
+use Rattle.std.proofs.lemmas.List.{length-map}
+use Rattle.std.proofs.lemmas.List.Sums.{sum_by-cons}
+use Rattle.kahn_tree.specs.declared.tree.Program.{Program}
+use Rattle.kahn_config.specs.Limits.{IsInRange}
+use Rattle.kahn_network.specs.Network.{Network, Source, Given, Written, Nobody, Writes, network_of, instance_at, actual_at}
+use Rattle.kahn_network.specs.Wiring.{IsWellWired}
+use Rattle.kahn_streams.specs.declared.token.Token.{Token}
+use Rattle.kahn_streams.specs.declared.value.Value.{Value}
+use Rattle.kahn_streams.specs.declared.value.Line.{Line}
+use Rattle.kahn_streams.specs.declared.value.Line.TheVariants.{Channel, Print}
+use Rattle.kahn_streams.specs.Laws.{AreInputsExtended}
+use Rattle.kahn_streams.specs.Solution.{IsPrefix, source}
+use Rattle.kahn_streams.specs.Tokens.{Lists, inputs_of}
+use Rattle.kahn_streams.proofs.Frame.{begins_nil}
+use Rattle.kahn_streams.proofs.Proved.{prefix_refl}
+use Rattle.kahn_code.specs.Cells.{View, is_streamed, token_value}
+use Rattle.kahn_code.specs.Lines.{Joins}
+use Rattle.kahn_code.specs.Told.{Told, told_view}
+use Rattle.kahn_code.proofs.Readers.{joins_within}
+use Rattle.kahn_job.specs.Idles.{cells_of, rows_of}
+use Rattle.kahn_job.specs.Settling.{AreResting, HaveStood}
+use Rattle.kahn_job.proofs.Idles.{idle_still}
+use Rattle.kahn_job.proofs.Settles.{stood_same}
+use Rattle.kahn_crew.specs.Wants.{IsWant}
+use Rattle.kahn_crew.specs.declared.fault.CrewFault.TheVariants.{NoMemory, NoThread}
+use Rattle.kahn_pool.specs.declared.part.Stopped.{Stopped}
+use Rattle.kahn_job.specs.Works.{Work}
+use Rattle.kahn_pool.specs.Bench.{AreStreams}
+use Rattle.kahn_pool.specs.Concluded.{IsConcluded}
+use Rattle.kahn_pool.specs.Exact.{Settles}
+use Rattle.kahn_pool.specs.Gathered.{IsFrom, IsGathered, nothing, view_at}
+use Rattle.kahn_pool.specs.HeldRuns.{GoesOn, HasResumed, HeldRun, IsAnswerOf, IsResumed, IsSoFar, Seen, seen_at, seen_events, seen_of, unseen}
+use Rattle.kahn_pool.specs.Holding.{AreEnded, AreHeld, HasStopped, HaveRisen, IsHolding, cell_alone, cells_seen, held_state, work_events}
+use Rattle.kahn_pool.specs.Right.{IsRight, stream_lines}
+use Rattle.kahn_pool.specs.declared.answer.Answer.{Answer}
+use Rattle.kahn_pool.specs.declared.answer.End.{End}
+use Rattle.kahn_pool.specs.declared.answer.Verdict.{Verdict}
+use Rattle.kahn_pool.proofs.Assembled.{are_right}
+use Rattle.kahn_pool.proofs.Benched.{got, mapped}
+use Rattle.kahn_pool.proofs.Final.{gathered, stopped}
+use Rattle.kahn_pool.proofs.Held_jobs.{ended_alike, held_again, held_alike, held_grown, held_more, rises_since, risen_here, same_seen}
+use Rattle.kahn_pool.proofs.Growing.{kept_grows, printed_grows, stood_by_channel}
+use Rattle.kahn_pool.proofs.Sizes.{settles_ends}
+use Rattle.kahn_crew.proofs.Started.{at_mapped}
+
+-- what contracts see of a held run with these jobs
+abbrev pub run_of : Program → Lists → Option ℕ → ℕ → ℕ → ℕ → List Work → Option Verdict → HeldRun
+run_of t lists watch workers quantum bound ws verdict = record {
+  network = t;
+  input = lists;
+  watch = watch;
+  workers = workers;
+  quantum = quantum;
+  bound = bound;
+  cells = map seen_of (cells_of ws);
+  verdict = verdict;
+}
+
+pub seen_there : (ws : List Work) (p : ℕ) (w : Work) → slice_get ws p ≡ Some w → seen_at (map seen_of (cells_of ws)) p ≡ seen_of w.cell
+seen_there ws p w e = mapped seen_of (cells_of ws) p w.cell unseen (at_mapped (λ (z : Work). z.cell) ws p w e)
+
+-- the job of an instance, or there is none
+there_or : (ws : List Work) (p : ℕ) → ((w : Work) × (slice_get ws p ≡ Some w)) ⊎ (seen_at (map seen_of (cells_of ws)) p ≡ unseen)
+there_or [] p = inr refl
+there_or (w ∷ ws) zero = inl (w, refl)
+there_or (w ∷ ws) (suc p) = there_or ws p
+
+within : (ws : List Work) (p : ℕ) (w : Work) → slice_get ws p ≡ Some w → p < length ws
+within [] p w e = absurd cc
+within (x ∷ ws) zero w e = omega arith
+within (x ∷ ws) (suc p) w e = let r = within ws p w e in omega (arith, r)
+
+-- a job there, or past the last one
+job_or : (ws : List Work) (p : ℕ) → ((w : Work) × (slice_get ws p ≡ Some w)) ⊎ (length ws ≤ p)
+job_or [] p = inr (omega arith)
+job_or (w ∷ ws) zero = inl (w, refl)
+job_or (w ∷ ws) (suc p) = step (job_or ws p)
+  where
+    step : ((v : Work) × (slice_get ws p ≡ Some v)) ⊎ (length ws ≤ p) → ((v : Work) × (slice_get ws p ≡ Some v)) ⊎ (suc (length ws) ≤ suc p)
+    step (inl a) = inl a
+    step (inr l) = inr (omega (arith, l))
+
+past_map : {A B : Type 0} (f : A → B) (xs : List A) (p : ℕ) (d : B) → length xs ≤ p → slice_index_or (map f xs) p d ≡ d
+past_map f [] p d l = refl
+past_map f (x ∷ xs) zero d l = absurd (omega (arith, l))
+past_map f (x ∷ xs) (suc p) d l = past_map f xs p d (omega (arith, l))
+
+past_map_length : (ws : List Work) (p : ℕ) → length ws ≤ p → length (cells_of ws) ≤ p
+past_map_length ws p l = let n = length-map ws (λ (w : Work). w.cell) in omega (arith, l, n)
+
+module _ (t : Program) (wired : IsWellWired t) (lists after : Lists) (grown : AreInputsExtended (inputs_of lists) (inputs_of after))
+    (watch : Option ℕ) (workers quantum bound total : ℕ) (ws us : List Work) (budget left : ℕ) (old : AreHeld t lists watch bound ws budget)
+    (new : AreHeld t after watch total us left) (risen : HaveRisen ws us) (said next : Option Verdict) where
+  abbrev N : Network
+  N = network_of t
+
+  abbrev before : HeldRun
+  before = run_of t lists watch workers quantum bound ws said
+
+  abbrev now : HeldRun
+  now = run_of t after watch workers quantum total us next
+
+  also : (p : ℕ) (w : Work) → slice_get ws p ≡ Some w → (v : Work) × (slice_get us p ≡ Some v)
+  also p w e =
+      let l = within ws p w e in
+      let a = old.idle.count in
+      let b = new.idle.count in
+      got us p (omega (arith, l, a, b))
+
+  kept : (p q r c : ℕ) (w v : Work) → slice_get ws p ≡ Some w → slice_get us p ≡ Some v → actual_at (instance_at N p) q ≡ Writes c →
+      actual_at (instance_at N p) r ≡ Writes c → is_streamed N watch c ≡ true →
+      IsPrefix (map token_value (slice_index_or w.cell.kept q [])) (map token_value (slice_index_or v.cell.kept r []))
+  kept p q r c w v e f a b s =
+      let x = risen p w v e f in
+      kept_grows N (inputs_of w.cell.input) (inputs_of v.cell.input) x.input watch p (told_view w.cell) (told_view v.cell)
+      (stood_by_channel t wired (inputs_of w.cell.input) watch p (told_view w.cell) (old.stood p w e))
+      (stood_by_channel t wired (inputs_of v.cell.input) watch p (told_view v.cell) (new.stood p v f)) x.events q r c a b s
+
+  printed : (p : ℕ) (w v : Work) → slice_get ws p ≡ Some w → slice_get us p ≡ Some v → IsPrefix (map token_value w.cell.printed) (map token_value v.cell.printed)
+  printed p w v e f =
+      let x = risen p w v e f in
+      printed_grows N (inputs_of w.cell.input) (inputs_of v.cell.input) x.input watch p (told_view w.cell) (told_view v.cell)
+      (stood_by_channel t wired (inputs_of w.cell.input) watch p (told_view w.cell) (old.stood p w e))
+      (stood_by_channel t wired (inputs_of v.cell.input) watch p (told_view v.cell) (new.stood p v f)) x.events
+
+  there_written : (p q c : ℕ) → actual_at (instance_at N p) q ≡ Writes c → (w : Work) × (slice_get ws p ≡ Some w)
+  there_written p q c e =
+      let l = joins_within N p q c (subst (λ a. Joins a c) (sym e) refl) in
+      let n = old.idle.count in
+      got ws p (omega (arith, l, n))
+
+  streams : (s : Source) (c : Line) (vs xs : List Value) → IsSoFar before s c vs → IsSoFar now s c xs → IsPrefix vs xs
+  streams Given (Channel c) vs xs a b =
+      subst (λ l. IsPrefix l xs) (sym a) (subst (IsPrefix (inputs_of lists c)) (sym b) (grown c))
+  streams Given (Print r) vs xs a b = absurd a
+  streams (Written p) (Channel c) vs xs (q, a, s, e) (r, b, s', f) =
+      let w = there_written p q c a in
+      let v = also p w.0 w.1 in
+      subst (λ l. IsPrefix l xs) (sym (e ∙ ap (λ (z : Seen). map token_value (slice_index_or z.kept q [])) (seen_there ws p w.0 w.1)))
+      (subst (IsPrefix (map token_value (slice_index_or w.0.cell.kept q [])))
+      (sym (f ∙ ap (λ (z : Seen). map token_value (slice_index_or z.kept r [])) (seen_there us p v.0 v.1)))
+      (kept p q r c w.0 v.0 w.1 v.1 a b s))
+  streams (Written p) (Print r) vs xs a b = by (there_or ws p)
+    where
+      by : ((w : Work) × (slice_get ws p ≡ Some w)) ⊎ (seen_at (map seen_of (cells_of ws)) p ≡ unseen) → IsPrefix vs xs
+      by (inl w) =
+          let v = also p w.0 w.1 in
+          subst (λ l. IsPrefix l xs) (sym (a ∙ ap (λ (z : Seen). map token_value z.printed) (seen_there ws p w.0 w.1)))
+          (subst (IsPrefix (map token_value w.0.cell.printed)) (sym (b ∙ ap (λ (z : Seen). map token_value z.printed) (seen_there us p v.0 v.1)))
+          (printed p w.0 v.0 w.1 v.1))
+      by (inr n) = subst (λ l. IsPrefix l xs) (sym (a ∙ ap (λ (z : Seen). map token_value z.printed) n)) (begins_nil xs)
+  streams Nobody c vs xs a b = absurd a
+
+  events : (p : ℕ) → ((w : Work) × (slice_get ws p ≡ Some w)) ⊎ (seen_at (map seen_of (cells_of ws)) p ≡ unseen) →
+      (seen_at before.cells p).events ≤ (seen_at now.cells p).events
+  events p (inl w) =
+      let v = also p w.0 w.1 in
+      let a : (seen_at before.cells p).events ≡ w.0.cell.events = ap (λ (z : Seen). z.events) (seen_there ws p w.0 w.1) in
+      let b : (seen_at now.cells p).events ≡ v.0.cell.events = ap (λ (z : Seen). z.events) (seen_there us p v.0 v.1) in
+      let l = (risen p w.0 v.0 w.1 v.1).events in
+      omega (arith, a, b, l)
+  events p (inr n) =
+      let a : (seen_at before.cells p).events ≡ 0 = ap (λ (z : Seen). z.events) n in
+      omega (arith, a)
+
+  pub goes_on : GoesOn before now
+  goes_on = record {
+    network = refl;
+    watch = refl;
+    workers = refl;
+    quantum = refl;
+    input = grown;
+    streams = λ c vs xs a b. streams (source N c) c vs xs a b;
+    events = λ p. events p (there_or ws p);
+  }
+
+-- ---- the verdict of a part
+
+pub part_settles : (t : Program) (lists : Lists) (watch : Option ℕ) (bound : ℕ) (ws : List Work) (budget : ℕ) → AreHeld t lists watch bound ws budget →
+    (halted : Bool) (v : Verdict) (ends : List End) → IsConcluded (held_state t lists watch ws) bound budget halted v ends →
+    Settles (network_of t) (inputs_of lists) bound v
+part_settles t lists watch bound ws budget h halted v ends c =
+    let s = held_state t lists watch ws in
+    let done = sum_by work_events ws in
+    let sum = h.events in
+    settles_ends s.network s.input bound v ends done
+    (are_right s.network s.input bound watch v ends done
+    (stopped s bound budget halted v ends done c.last c.rule c.within (omega (arith, sum))))
+
+-- ---- the answer
+
+pub answer_gathered : (t : Program) (lists : Lists) (watch : Option ℕ) (bound : ℕ) (ws : List Work) (budget : ℕ) (halted : Bool) (a : Answer) →
+    IsConcluded (held_state t lists watch ws) bound budget halted a.verdict a.ends.items →
+    AreStreams (held_state t lists watch ws) a.streams.items (stream_lines (network_of t) watch) → a.events + budget ≡ bound →
+    IsGathered (network_of t) (inputs_of lists) bound watch a
+answer_gathered t lists watch bound ws budget halted a c streams count =
+    gathered (held_state t lists watch ws) bound budget halted a c.last streams c.rule c.within count
+
+module _ (t : Program) (lists : Lists) (watch : Option ℕ) (workers quantum bound : ℕ) (ws : List Work) (verdict : Option Verdict) where
+  abbrev held : HeldRun
+  held = run_of t lists watch workers quantum bound ws verdict
+
+  view_there : (p : ℕ) → ((w : Work) × (slice_get ws p ≡ Some w)) ⊎ (length ws ≤ p) →
+      ((view_at (cells_seen ws) p).events ≡ (seen_at held.cells p).events)
+      × ((q : ℕ) → (view_at (cells_seen ws) p).kept q ≡ slice_index_or (seen_at held.cells p).kept q [])
+      × ((view_at (cells_seen ws) p).printed ≡ (seen_at held.cells p).printed)
+  view_there p (inl w) =
+      let v = mapped told_view (cells_of ws) p w.0.cell nothing (at_mapped (λ (z : Work). z.cell) ws p w.0 w.1) in
+      let s = seen_there ws p w.0 w.1 in (
+        ap (λ (z : View). z.events) v ∙ sym (ap (λ (z : Seen). z.events) s),
+        λ q. ap (λ (z : View). z.kept q) v ∙ sym (ap (λ (z : Seen). slice_index_or z.kept q []) s),
+        ap (λ (z : View). z.printed) v ∙ sym (ap (λ (z : Seen). z.printed) s),
+      )
+  view_there p (inr l) =
+      let v = past_map told_view (cells_of ws) p nothing (past_map_length ws p l) in
+      let s = past_map seen_of (cells_of ws) p unseen (past_map_length ws p l) in (
+        ap (λ (z : View). z.events) v ∙ sym (ap (λ (z : Seen). z.events) s),
+        λ q. ap (λ (z : View). z.kept q) v ∙ sym (ap (λ (z : Seen). slice_index_or z.kept q []) s),
+        ap (λ (z : View). z.printed) v ∙ sym (ap (λ (z : Seen). z.printed) s),
+      )
+
+  view_is : (p : ℕ) →
+      ((view_at (cells_seen ws) p).events ≡ (seen_at held.cells p).events)
+      × ((q : ℕ) → (view_at (cells_seen ws) p).kept q ≡ slice_index_or (seen_at held.cells p).kept q [])
+      × ((view_at (cells_seen ws) p).printed ≡ (seen_at held.cells p).printed)
+  view_is p = view_there p (job_or ws p)
+
+  so_far : (s : Source) (c : Line) (ts : List Token) → IsFrom (network_of t) (inputs_of lists) watch (cells_seen ws) s c ts → IsSoFar held s c (map token_value ts)
+  so_far Given (Channel c) ts h = h.values
+  so_far Given (Print r) ts h = absurd h
+  so_far (Written p) (Channel c) ts (q, w, s, e) = (q, w, s, ap (map token_value) (e ∙ (view_is p).1 q))
+  so_far (Written p) (Print r) ts h = ap (map token_value) (h ∙ (view_is p).2)
+  so_far Nobody c ts h = absurd h
+
+  pub answer_is : (budget : ℕ) (halted : Bool) (a : Answer) → IsConcluded (held_state t lists watch ws) bound budget halted a.verdict a.ends.items →
+      AreStreams (held_state t lists watch ws) a.streams.items (stream_lines (network_of t) watch) → verdict ≡ Some a.verdict →
+      IsRight (network_of t) (inputs_of lists) bound watch a → IsAnswerOf held a
+  answer_is budget halted a c streams v right = record {
+    right = right;
+    verdict = v;
+    streams = λ s h. so_far (source (network_of t) s.line) s.line s.tokens.items (streams.each h.0 s h.1);
+    events = λ p x h. ((c.last.ends p x h).0 a.verdict).count ∙ (view_is p).0;
+  }
+
+-- ---- what a held run keeps
+
+module _ (t : Program) (wired : IsWellWired t) (compiled : Program) (lists : Lists) (watch : Option ℕ) (workers quantum bound : ℕ) (ws : List Work) (budget : ℕ)
+    (ends : List End) (verdict : Option Verdict) (h : IsHolding t compiled lists watch workers quantum bound ws budget ends verdict) where
+  abbrev held_run : ℕ → List Work → Option Verdict → HeldRun
+  held_run total vs next = run_of t lists watch workers quantum total vs next
+
+  -- more input
+  module _ (after : Lists) (grown : AreInputsExtended (inputs_of lists) (inputs_of after)) where
+    pub holding_fed : length after ≡ length lists → IsHolding t compiled after watch workers quantum bound ws budget ends None
+    holding_fed size = record {
+      code = h.code;
+      fits = size ∙ h.fits;
+      range = h.range;
+      held = held_grown t lists watch bound ws ws budget h.held after grown;
+      ended = tt;
+    }
+
+    pub goes_on_fed : GoesOn (held_run bound ws verdict) (run_of t after watch workers quantum bound ws None)
+    goes_on_fed =
+        goes_on t wired lists after grown watch workers quantum bound bound ws ws budget budget h.held (held_grown t lists watch bound ws ws budget h.held after grown)
+        (risen_here ws) verdict None
+
+  -- the ends of the channels have settled, or were about to
+  module _ (us : List Work) (cells : cells_of us ≡ cells_of ws) (stood : HaveStood (rows_of ws) (rows_of us)) (resting : AreResting t lists (rows_of us)) where
+    held_now : AreHeld t lists watch bound us budget
+    held_now = held_alike t lists watch bound us ws budget h.held cells (idle_still t lists ws h.held.idle us cells stood resting)
+
+    alone : map cell_alone (cells_of us) ≡ map cell_alone (cells_of ws)
+    alone = ap (λ (cs : List Told). map cell_alone cs) cells
+
+    pub holding_now : IsHolding t compiled lists watch workers quantum bound us budget ends verdict
+    holding_now = record {
+      code = h.code;
+      fits = h.fits;
+      range = h.range;
+      held = held_now;
+      ended = ended_alike us ws alone t lists watch bound budget ends verdict h.ended;
+    }
+
+    pub same_now : held_run bound us verdict ≡ held_run bound ws verdict
+    same_now = ap (λ (cs : List Seen). record { network = t; input = lists; watch = watch; workers = workers; quantum = quantum; bound = bound; cells = cs; verdict = verdict }) (same_seen us ws alone)
+
+    module _ (more total : ℕ) (sum : total ≡ bound + more) (few : total < 2 ^ 48) where
+      pub part_held : AreHeld t lists watch total us (budget + more)
+      part_held = held_more t lists watch bound us us budget held_now more total sum
+
+      module _ (vs : List Work) (left : ℕ) (after : AreHeld t lists watch total vs left) (risen : HaveRisen us vs) where
+        pub goes_on_then : (next : Option Verdict) → GoesOn (held_run bound ws verdict) (held_run total vs next)
+        goes_on_then next =
+            goes_on t wired lists lists (λ c. prefix_refl (inputs_of lists c)) watch workers quantum bound total ws vs budget left h.held after (rises_since ws vs us cells risen)
+            verdict next
+
+        pub has_resumed : (next : Option Verdict) → HasResumed more (held_run bound ws verdict) (held_run total vs next)
+        has_resumed next = record { goes_on = goes_on_then next; input = refl; bound = sum; few = subst (λ n. n < 2 ^ 48) sum few }
+
+        pub holding_then : (its : List End) (next : Option Verdict) → AreEnded (held_state t lists watch vs) total left its next →
+            IsHolding t compiled lists watch workers quantum total vs left its next
+        holding_then its next ended = record {
+          code = h.code;
+          fits = h.fits;
+          range = let r = h.range in (r.0, r.1, r.2, r.3, few);
+          held = after;
+          ended = ended;
+        }
+
+        -- memory was refused before the first event
+        module _ (unused : left ≡ budget + more) (same : map cell_alone (cells_of vs) ≡ map cell_alone (cells_of us)) where
+          pub holding_still : IsHolding t compiled lists watch workers quantum bound vs budget ends verdict
+          holding_still = record {
+            code = h.code;
+            fits = h.fits;
+            range = h.range;
+            held = held_again t lists watch total vs vs left after more bound budget (sym sum) (sym unused);
+            ended = ended_alike vs ws (same ∙ alone) t lists watch bound budget ends verdict h.ended;
+          }
+
+          pub same_still : held_run bound vs verdict ≡ held_run bound ws verdict
+          same_still = ap (λ (cs : List Seen). record { network = t; input = lists; watch = watch; workers = workers; quantum = quantum; bound = bound; cells = cs; verdict = verdict }) (same_seen vs ws (same ∙ alone))
+
+  -- a part with so many events more
+  module _ (more : ℕ) (few : bound + more < 2 ^ 48) (r : Stopped) (s : HasStopped t lists watch workers (bound + more) ws (budget + more) r) where
+    abbrev resting : AreResting t lists (rows_of ws)
+    resting = h.held.idle.resting
+
+    stood : HaveStood (rows_of ws) (rows_of ws)
+    stood p q = stood_same _ _ refl
+
+    pub resumed : (next : Option Verdict) → HasResumed more (held_run bound ws verdict) (held_run (bound + more) r.idles.items next)
+    resumed next = has_resumed ws refl stood resting more (bound + more) refl few r.idles.items r.budget s.held s.risen next
+
+    pub resumed_ok : (v : Verdict) → r.outcome ≡ Ok v → IsResumed more (held_run bound ws verdict) (held_run (bound + more) r.idles.items (Some v)) v
+    resumed_ok v e =
+        let c = subst (λ o. MatchResult o (λ v. (halted : Bool) × IsConcluded (held_state t lists watch r.idles.items) (bound + more) r.budget halted v r.ends.items) (IsWant workers)) e s.outcome in
+        (resumed (Some v), refl, part_settles t lists watch (bound + more) r.idles.items r.budget s.held c.0 v r.ends.items c.1)
+
+    pub still_holding : r.outcome ≡ Err NoMemory → IsHolding t compiled lists watch workers quantum bound r.idles.items budget ends verdict
+    still_holding e =
+        let u = s.untouched e in
+        holding_still ws refl stood resting more (bound + more) refl few r.idles.items r.budget s.held s.risen u.0 u.1
+
+    pub still_same : r.outcome ≡ Err NoMemory → held_run bound r.idles.items verdict ≡ held_run bound ws verdict
+    still_same e =
+        let u = s.untouched e in
+        same_still ws refl stood resting more (bound + more) refl few r.idles.items r.budget s.held s.risen u.0 u.1
+
+    pub several : r.outcome ≡ Err NoThread → 1 < workers
+    several e =
+        subst (λ o. MatchResult o (λ v. (halted : Bool) × IsConcluded (held_state t lists watch r.idles.items) (bound + more) r.budget halted v r.ends.items) (IsWant workers)) e s.outcome
+
+-- before the first event
+pub none_seen : (ws : List Work) → ((p : ℕ) (w : Work) → slice_get ws p ≡ Some w → w.cell.events ≡ 0) → (p : ℕ) → (seen_at (map seen_of (cells_of ws)) p).events ≡ 0
+none_seen ws none p = by (there_or ws p)
+  where
+    by : ((w : Work) × (slice_get ws p ≡ Some w)) ⊎ (seen_at (map seen_of (cells_of ws)) p ≡ unseen) → (seen_at (map seen_of (cells_of ws)) p).events ≡ 0
+    by (inl w) = ap (λ (z : Seen). z.events) (seen_there ws p w.0 w.1) ∙ none p w.0 w.1
+    by (inr n) = ap (λ (z : Seen). z.events) n
+
+-- the events that contracts see are those of the jobs
+pub all_seen : (ws : List Work) → sum_by seen_events (map seen_of (cells_of ws)) ≡ sum_by work_events ws
+all_seen [] = refl
+all_seen (w ∷ ws) =
+    sum_by-cons seen_events (seen_of w.cell) (map seen_of (cells_of ws)) ∙ ap (λ n. w.cell.events + n) (all_seen ws) ∙ sym (sum_by-cons work_events w ws)
+
+pub in_range_alike : (w q b x r c : ℕ) → x ≡ w → r ≡ q → c ≡ b → IsInRange w q b → IsInRange x r c
+in_range_alike w q b x r c e f g h =
+    subst (λ n. IsInRange n r c) (sym e) (subst (λ n. IsInRange w n c) (sym f) (subst (IsInRange w q) (sym g) h))

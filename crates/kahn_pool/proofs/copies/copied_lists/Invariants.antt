@@ -1,0 +1,9 @@
+use Rattle.std.proofs.Common.{◌≡◌, ◌≤◌, length, take}
+use Rattle.std.specs.Vec.{vec_capacity}
+use Rattle.kahn_job.specs.Idles.{cells_of}
+use Rattle.kahn_pool.specs.Workbench.{AreKeptOf}
+use Rattle.kahn_pool.proofs.copies.copied_lists.Given as goal
+
+abbrev pub invariant-loop-instance : goal.invariant-loop-instance
+invariant-loop-instance l =
+    AreKeptOf (cells_of (take l.instance l.idles)) l.lists.items × (length l.lists.items ≡ l.instance) × (length l.idles ≤ vec_capacity l.lists)

@@ -1,0 +1,24 @@
+use Rattle.std.proofs.Common.{refl, subst, None}
+use Rattle.kahn_pool.specs.HeldRuns.{HasFed, HeldRun}
+use Rattle.kahn_pool.proofs.Held_runs.{goes_on_fed, holding_fed, run_of}
+use Rattle.kahn_pool.proofs.held.Held.feed.Goals as goal
+
+pub invariant_of-self-2 : goal.invariant_of-self-2
+invariant_of-self-2 c =
+    let i = c.self.inside in
+    holding_fed i.network.now c.program-program.ensures.wired i.code.network.value i.input i.plan.watch i.plan.workers i.plan.quantum i.plan.bound i.idles.items i.budget
+    i.ends.items i.verdict c.self.invariant c.extend.new.self c.extend.ensures.grown c.extend.ensures.size
+
+pub returns : goal.returns
+returns c =
+    let i = c.self.inside in
+    subst
+    (λ (h : HeldRun). HasFed (c.args.channel.now, c.args.values.items) h
+    (run_of i.network.now c.extend.new.self i.plan.watch i.plan.workers i.plan.quantum i.plan.bound i.idles.items None))
+    c.self.view_is
+    (record {
+      fed = c.in_ok-extend.ensures.fed;
+      rest = refl;
+      goes_on = goes_on_fed i.network.now c.program-program.ensures.wired i.code.network.value i.input i.plan.watch i.plan.workers i.plan.quantum i.plan.bound i.idles.items
+          i.budget i.ends.items i.verdict c.self.invariant c.extend.new.self c.extend.ensures.grown;
+    })

@@ -1,0 +1,33 @@
+use Rattle.std.proofs.Common.{rules, refl, sym, subst}
+use Rattle.kahn_config.specs.Limits.{IsInRange}
+use Rattle.kahn_pool.specs.Runs.{IsWatched}
+use Rattle.kahn_pool.proofs.Held_runs.{in_range_alike, none_seen}
+use Rattle.kahn_pool.proofs.held.Held.start.Goals as goal
+
+pub invariant_of-result : goal.invariant_of-result
+invariant_of-result c =
+    let range : IsInRange c.args.config.workers c.args.config.quantum c.args.config.bound = search rules in
+    let p = c.plan_of-plan.ensures in
+    record {
+      code = c.in_ok-code.ensures;
+      fits = c.requires.fits;
+      range = in_range_alike _ _ _ _ _ _ p.workers p.quantum p.bound range;
+      held = c.in_ok-idles.ensures.held c.plan_of-plan.result.bound;
+      ended = tt;
+    }
+
+pub returns : goal.returns
+returns c =
+    let range : IsInRange c.args.config.workers c.args.config.quantum c.args.config.bound = search rules in
+    let p = c.plan_of-plan.ensures in
+    record {
+      allowed = range;
+      watched = subst (IsWatched c.args.network.now c.args.config.watch) (sym p.watch) c.in_ok-watch.ensures;
+      network = refl;
+      input = refl;
+      workers = p.workers;
+      quantum = p.quantum;
+      bound = p.bound;
+      none = none_seen c.in_ok-idles.idles.items c.in_ok-idles.ensures.none;
+      unsettled = refl;
+    }

@@ -1,0 +1,37 @@
+use Rattle.std.proofs.Common.{arith, ◌≡◌, ◌+◌, sym, ◌∙◌, subst, refl}
+use Rattle.kahn_board.specs.Dealt.{events_of}
+use Rattle.kahn_crew.specs.Tasks.{told_of}
+use Rattle.kahn_crew.proofs.Ended.{untouched_gone}
+use Rattle.kahn_crew.proofs.Started.{at_most_all}
+use Rattle.kahn_pool.specs.Holding.{AreHeld}
+use Rattle.kahn_pool.proofs.Held_jobs.{held_after, met_self, none_done}
+use Rattle.kahn_pool.proofs.part.first_counted.Goals as goal
+
+pub settle_all-requires-clause-code : goal.settle_all-requires-clause-code
+settle_all-requires-clause-code g c p x e = c.requires.code ∙ sym (c.in_ok-tasks.ensures.ready.each p x e).network
+
+pub settle_all-requires-clause-bound : goal.settle_all-requires-clause-bound
+settle_all-requires-clause-bound g c p x e =
+    let most = at_most_all c.in_ok-tasks.tasks.items p x e in
+    let none = c.in_ok-tasks.ensures.none in
+    omega (arith, most, none)
+
+pub returns-clause-held : goal.returns-clause-held
+returns-clause-held g c bound =
+    let t = c.args.network.now in
+    let lists = c.args.input.now in
+    let tasks = c.in_ok-tasks.tasks.items in
+    let none = c.in_ok-tasks.ensures.none in
+    let all : bound + events_of told_of tasks ≡ bound = omega (arith, none) in
+    let new = c.settle_all.new.tasks.items in
+    let ws = c.rest_all.result.items in
+    subst (λ b. AreHeld t lists c.args.watch b ws bound) all
+    (held_after t lists c.args.watch (bound + events_of told_of tasks) tasks tasks bound
+    (untouched_gone t lists c.args.watch bound tasks tasks bound c.in_ok-tasks.ensures.ready refl refl) new c.settle_all.ensures new (met_self new) ws c.rest_all.ensures.same
+    c.rest_all.ensures.jobs)
+
+pub returns-clause-none : goal.returns-clause-none
+returns-clause-none g c =
+    let tasks = c.in_ok-tasks.tasks.items in
+    let new = c.settle_all.new.tasks.items in
+    none_done tasks new c.settle_all.ensures c.rest_all.result.items c.rest_all.ensures.same c.in_ok-tasks.ensures.none

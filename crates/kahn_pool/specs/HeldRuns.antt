@@ -1,0 +1,174 @@
+-- A run that is held between its parts: what contracts see of it, and what its calls make of it (this project's profile).
+use Rattle.std.specs.Prelude.{◌≡◌, ◌⊎◌, ℕ, ◌+◌, ◌<◌, ◌≤◌, ◌^◌, true, List, [], ◌∷◌, map, Option, Some, None, slice_index_or}
+use Rattle.kahn_tree.specs.declared.tree.Program.{Program}
+use Rattle.kahn_network.specs.Network.{Source, Given, Written, Nobody, Writes, network_of, instance_at, actual_at}
+use Rattle.kahn_streams.specs.declared.token.Token.{Token}
+use Rattle.kahn_streams.specs.declared.value.Value.{Value}
+use Rattle.kahn_streams.specs.declared.value.Line.{Line}
+use Rattle.kahn_streams.specs.declared.value.Line.TheVariants.{Channel, Print}
+use Rattle.kahn_streams.specs.declared.feeds.FeedFault.{FeedFault}
+use Rattle.kahn_streams.specs.Entries.{Entry}
+use Rattle.kahn_streams.specs.Feeds.{IsFed, IsUnwelcome}
+use Rattle.kahn_streams.specs.Laws.{AreInputsExtended}
+use Rattle.kahn_streams.specs.Solution.{IsPrefix, source}
+use Rattle.kahn_streams.specs.Tokens.{Lists, inputs_of}
+use Rattle.kahn_code.specs.Cells.{is_streamed, token_value}
+use Rattle.kahn_code.specs.Told.{Told}
+use Rattle.kahn_pool.specs.Exact.{Settles}
+use Rattle.kahn_pool.specs.Right.{IsRight, HasStream, HasEndAt, values_of}
+use Rattle.kahn_pool.specs.Runs.{IsAllowed, IsUndeclared, IsWatched}
+use Rattle.kahn_pool.specs.declared.answer.Answer.{Answer}
+use Rattle.kahn_pool.specs.declared.answer.End.{End}
+use Rattle.kahn_pool.specs.declared.answer.Stream.{Stream}
+use Rattle.kahn_pool.specs.declared.answer.Verdict.{Verdict}
+use Rattle.kahn_config.specs.declared.Config.{Config}
+use Rattle.kahn_pool.specs.declared.config.RunFault.{RunFault}
+use Rattle.kahn_pool.specs.declared.config.RunFault.TheVariants as fault
+use Rattle.kahn_pool.specs.declared.held_fault.HeldFault.{HeldFault}
+use Rattle.kahn_pool.specs.declared.held_fault.HeldFault.TheVariants as held
+
+-- the events of a process, the tokens that its cell kept of what it sent by each parameter, and those that it printed
+pub record Seen : Type 0 where
+  pub events : ℕ
+  pub kept : List (List Token)
+  pub printed : List Token
+
+abbrev pub seen_of : Told → Seen
+seen_of c = record { events = c.events; kept = c.kept; printed = c.printed }
+
+abbrev pub unseen : Seen
+unseen = record { events = 0; kept = []; printed = [] }
+
+abbrev pub seen_events : Seen → ℕ
+seen_events c = c.events
+
+abbrev pub seen_at : List Seen → ℕ → Seen
+seen_at cells p = slice_index_or cells p unseen
+
+pub record HeldRun : Type 0 where
+  pub network : Program
+  -- the input so far
+  pub input : Lists
+  pub watch : Option ℕ
+  pub workers : ℕ
+  pub quantum : ℕ
+  -- the sum of all bounds so far
+  pub bound : ℕ
+  -- of each process: its events, and what was kept of its sends and prints
+  pub cells : List Seen
+  -- the verdict of the last part, where nothing changed since
+  pub verdict : Option Verdict
+
+-- these values were given to the line so far
+abbrev pub IsSoFar : HeldRun → Source → Line → List Value → Type 0
+IsSoFar h Given (Channel c) vs = vs ≡ inputs_of h.input c
+IsSoFar h (Written p) (Channel c) vs =
+    (q : ℕ) × (actual_at (instance_at (network_of h.network) p) q ≡ Writes c) × (is_streamed (network_of h.network) h.watch c ≡ true) ×
+    (vs ≡ map token_value (slice_index_or (seen_at h.cells p).kept q []))
+IsSoFar h (Written p) (Print r) vs = vs ≡ map token_value (seen_at h.cells p).printed
+IsSoFar h Given (Print r) vs = ⊥
+IsSoFar h Nobody c vs = ⊥
+
+-- these values are those of the stream of the line so far
+abbrev pub HasSoFar : HeldRun → Line → List Value → Type 0
+HasSoFar h c vs = IsSoFar h (source (network_of h.network) c) c vs
+
+-- the second is the first later on: each stream of the first is a prefix of the same stream of the second, and no instance's
+-- events go down
+pub record GoesOn (old new : HeldRun) : Type 0 where
+  pub network : new.network ≡ old.network
+  pub watch : new.watch ≡ old.watch
+  pub workers : new.workers ≡ old.workers
+  pub quantum : new.quantum ≡ old.quantum
+  pub input : AreInputsExtended (inputs_of old.input) (inputs_of new.input)
+  pub streams : (c : Line) (vs ws : List Value) → HasSoFar old c vs → HasSoFar new c ws → IsPrefix vs ws
+  pub events : (p : ℕ) → (seen_at old.cells p).events ≤ (seen_at new.cells p).events
+
+-- ---- the start
+
+-- no event is done, and nothing is answered yet
+pub record HasStarted (t : Program) (lists : Lists) (config : Config) (h : HeldRun) : Type 0 where
+  pub allowed : IsAllowed config
+  pub watched : IsWatched t config.watch h.watch
+  pub network : h.network ≡ t
+  pub input : h.input ≡ lists
+  pub workers : h.workers ≡ config.workers
+  pub quantum : h.quantum ≡ config.quantum
+  pub bound : h.bound ≡ config.bound
+  pub none : (p : ℕ) → (seen_at h.cells p).events ≡ 0
+  pub unsettled : h.verdict ≡ None
+
+-- why there is none: first the numbers, then the watched channel, then want of memory
+abbrev pub IsUnstarted : Program → Config → RunFault → Type 0
+IsUnstarted t config fault.BadConfig = IsAllowed config → ⊥
+IsUnstarted t config fault.UnknownWatch = IsAllowed config × IsUndeclared t config.watch
+IsUnstarted t config fault.NoMemory = IsAllowed config × ((watch : Option ℕ) × IsWatched t config.watch watch)
+IsUnstarted t config fault.NoThread = ⊥
+IsUnstarted t config fault.Stalled = ⊥
+
+-- ---- a part of the run
+
+-- so many events more are allowed
+pub record HasResumed (more : ℕ) (old new : HeldRun) : Type 0 where
+  pub goes_on : GoesOn old new
+  pub input : new.input ≡ old.input
+  pub bound : new.bound ≡ old.bound + more
+  pub few : old.bound + more < 2 ^ 48
+
+-- want of memory apart, it has finished exactly where the size of the solution for the input so far is at most the bound so far
+abbrev pub IsResumed : ℕ → HeldRun → HeldRun → Verdict → Type 0
+IsResumed more old new v =
+    HasResumed more old new × (new.verdict ≡ Some v) × Settles (network_of new.network) (inputs_of new.input) new.bound v
+
+-- why it doesn't answer. First the sum of all bounds: it and want of memory leave all as it was
+abbrev pub IsUnresumed : ℕ → HeldRun → HeldRun → HeldFault → Type 0
+IsUnresumed more old new held.BadMore = (new ≡ old) × (2 ^ 48 ≤ old.bound + more)
+IsUnresumed more old new held.NoMemory = (new ≡ old) × (old.bound + more < 2 ^ 48)
+IsUnresumed more old new held.NoThread = HasResumed more old new × (new.verdict ≡ None) × (1 < old.workers)
+IsUnresumed more old new held.Stalled = ⊥
+
+-- ---- more input
+
+-- the values stand behind those of their channel, and nothing else but the answer changes
+pub record HasFed (entry : Entry) (old new : HeldRun) : Type 0 where
+  pub fed : IsFed old.network old.input entry new.input
+  pub rest : new ≡ record old { input = new.input; verdict = None }
+  pub goes_on : GoesOn old new
+
+abbrev pub IsUnfed : Entry → HeldRun → HeldRun → FeedFault → Type 0
+IsUnfed entry old new f = (new ≡ old) × IsUnwelcome old.network old.input entry f
+
+-- ---- the answer
+
+-- the right answer for the input so far and the bound so far
+pub record IsAnswerOf (h : HeldRun) (a : Answer) : Type 0 where
+  pub right : IsRight (network_of h.network) (inputs_of h.input) h.bound h.watch a
+  pub verdict : h.verdict ≡ Some a.verdict
+  pub streams : (s : Stream) → HasStream a s → HasSoFar h s.line (values_of s)
+  pub events : (p : ℕ) (x : End) → HasEndAt a p x → x.events ≡ (seen_at h.cells p).events
+
+-- ---- many calls
+
+-- what a call makes of the run, whatever it answers
+abbrev pub IsCall : HeldRun → HeldRun → Type 0
+IsCall old new =
+    ((more : ℕ) × (v : Verdict) × IsResumed more old new v)
+    ⊎ (((more : ℕ) × (f : HeldFault) × IsUnresumed more old new f)
+    ⊎ (((entry : Entry) × HasFed entry old new)
+    ⊎ ((entry : Entry) × (f : FeedFault) × IsUnfed entry old new f)))
+
+-- calls in any order: after each the run is the next of these
+abbrev pub AreCalls : HeldRun → List HeldRun → Type 0
+AreCalls old [] = Unit {0}
+AreCalls old (new ∷ later) = IsCall old new × AreCalls new later
+
+-- the last of these runs
+abbrev pub last_of : HeldRun → List HeldRun → HeldRun
+last_of h [] = h
+last_of h (new ∷ later) = last_of new later
+
+-- the second says no less: each stream of the first is a prefix of the same stream of the second, and no instance's events
+-- are fewer
+pub record SaysNoLess (a b : Answer) : Type 0 where
+  pub streams : (s z : Stream) → HasStream a s → HasStream b z → s.line ≡ z.line → IsPrefix (values_of s) (values_of z)
+  pub events : (p : ℕ) (x y : End) → HasEndAt a p x → HasEndAt b p y → x.events ≤ y.events

@@ -1,0 +1,58 @@
+//! Copies of what a held run keeps.
+
+ghost use Rattle.std.specs.Prelude.{◌≡◌, IfOk};
+ghost use Rattle.kahn_network.specs.Network.{network_of};
+ghost use Rattle.kahn_job.specs.Idles.{AreIdle, cells_of};
+ghost use Rattle.kahn_pool.specs.Bench.{AreStreams};
+ghost use Rattle.kahn_pool.specs.Holding.{held_state};
+ghost use Rattle.kahn_pool.specs.Right.{stream_lines};
+ghost use Rattle.kahn_pool.specs.Workbench.{AreKeptOf};
+
+use crate::answer::{End, Stream};
+use crate::streams::fill;
+use crate::workbench::opening_streams;
+use kahn_code::cell::Kept;
+use kahn_job::Idle;
+use kahn_network::network::Network;
+use kahn_streams::input::Input;
+use kahn_streams::memory::NoMemory;
+use std::alloc::Global;
+
+// What the cell of each job kept.
+fn copied_lists(alloc: Global, idles: &[Idle]) -> Result<Vec<Kept>, NoMemory>
+    ensures { IfOk result (λ lists. AreKeptOf (cells_of idles.now) lists.items) }
+{
+    let mut lists = Vec::with_capacity(alloc, idles.len())?;
+    for instance in 0..idles.len() {
+        lists.push_reserved(idles[instance].lists(alloc)?);
+    }
+    Ok(lists)
+}
+
+/// The same ends once more.
+pub(crate) fn copied_ends(alloc: Global, ends: &[End]) -> Result<Vec<End>, NoMemory>
+    ensures { IfOk result (λ copy. copy.items ≡ ends.now) }
+{
+    let mut copy = Vec::with_capacity(alloc, ends.len())?;
+    for instance in 0..ends.len() {
+        copy.push_reserved(ends[instance]);
+    }
+    Ok(copy)
+}
+
+/// The streams of an answer: copies of what the cells of idle jobs kept. It refuses only where memory was refused.
+pub(crate) fn copied_streams(
+    alloc: Global,
+    network: &Network,
+    input: &Input,
+    watch: Option<usize>,
+    idles: &[Idle],
+) -> Result<Vec<Stream>, NoMemory>
+    requires { AreIdle network.now input.now idles.now }
+    ensures { IfOk result (λ streams. AreStreams (held_state network.now input.now watch idles.now) streams.items (stream_lines (network_of network.now) watch)) }
+{
+    let mut streams = opening_streams(alloc, network, input, watch)?;
+    let mut lists = copied_lists(alloc, idles)?;
+    fill(network, &mut streams, &mut lists);
+    Ok(streams)
+}

@@ -1,0 +1,207 @@
+//! Runs that are cut into parts: between two parts a run is held, more events may be allowed and more values fed.
+
+ghost use Rattle.std.specs.Prelude.{◌≡◌, ◌↔◌, ℕ, ◌+◌, Some, length, sum_by, IfOk, IsTrue, MatchResult};
+ghost use Rattle.kahn_network.specs.Network.{network_of};
+ghost use Rattle.kahn_pool.specs.HeldRuns.{HasFed, HasStarted, IsAnswerOf, IsResumed, IsUnfed, IsUnresumed, IsUnstarted, seen_events};
+ghost use Rattle.kahn_pool.specs.declared.answer.Verdict.{Verdict as VerdictOf};
+
+use crate::answer::{Answer, End, Verdict};
+use crate::config::{Config, MOST_BOUND, RunFault};
+use crate::copies::{copied_ends, copied_streams};
+use crate::gate::Gate;
+use crate::held_fault::HeldFault;
+use crate::laws;
+use crate::part::{Part, PartRoom, first_idles, run_part};
+use crate::plan::plan_of;
+use crate::run::watched;
+use kahn_code::code::{Code, compile};
+use kahn_crew::{CrewFault, Plan};
+use kahn_job::Idle;
+use kahn_network::network::Network;
+use kahn_streams::feeds::FeedFault;
+use kahn_streams::input::Input;
+use kahn_streams::memory::NoMemory;
+use kahn_streams::value::Value;
+use std::alloc::Global;
+use std::marker::Model;
+use std::mem;
+use std::sync::Wait;
+use std::thread::Threads;
+
+/// A run between its parts: a network, its input so far, the sum of its bounds so far, and where each process stands.
+///
+/// Whatever its calls answer, what was sent on a stream stays, and no process has fewer events. So each stream is a prefix
+/// of the same stream in every later answer.
+#[derive(Drop)]
+pub struct Held<'n> {
+    alloc: Global,
+    network: &'n Network,
+    input: Input,
+    plan: Plan,
+    budget: u64,
+    code: Code,
+    idles: Vec<Idle>,
+    ends: Vec<End>,
+    verdict: Option<Verdict>,
+}
+
+impl<'n> Model for Held<'n> {
+    ghost use Rattle.kahn_tree.specs.contracts.tree.Action as action;
+    ghost use Rattle.kahn_tree.specs.contracts.tree.Form as form;
+    ghost use Rattle.std.specs.Coded.{codes};
+    ghost use Rattle.std.specs.Prelude.{map};
+    ghost use Rattle.kahn_job.specs.Idles.{cells_of};
+    ghost use Rattle.kahn_pool.specs.HeldRuns.{HeldRun, seen_of};
+    ghost use Rattle.kahn_pool.specs.Holding.{IsHolding};
+
+    ghost Value = { HeldRun };
+
+    ghost coded = { Prim.hlevel (codes, action.the_row.coded, form.the_row.coded) };
+
+    ghost view = { λ h. record { network = h.network.now; input = h.input; watch = h.plan.watch; workers = h.plan.workers; quantum = h.plan.quantum; bound = h.plan.bound; cells = map seen_of (cells_of h.idles.items); verdict = h.verdict } };
+
+    ghost invariant = { λ h. IsHolding h.network.now h.code.network.value h.input h.plan.watch h.plan.workers h.plan.quantum h.plan.bound h.idles.items h.budget h.ends.items h.verdict };
+}
+
+impl<'n> Held<'n> {
+    /// A run of a network with an input that fits it, before its first event. It keeps the allocator for its later calls. The bound of the configuration is the first
+    /// one: `resume(0)` runs for that many events.
+    ///
+    /// It refuses with `BadConfig` where a number of the configuration is out of its limit, then with `UnknownWatch` where
+    /// no channel has the name that is to be watched, and with `NoMemory` where memory was refused.
+    pub fn start(
+        alloc: Global,
+        network: &'n Network,
+        input: Input,
+        config: Config,
+    ) -> Result<Held<'n>, RunFault>
+        requires fits { length input ≡ length (network_of network.now).channels }
+        ensures { MatchResult result (HasStarted network.now input config) (IsUnstarted network.now config) }
+    {
+        if !config.is_in_range() {
+            return Err(RunFault::BadConfig);
+        }
+        let watch = watched(network, &config.watch)?;
+        let plan = plan_of(&config, watch);
+        let code = compile(alloc, network)?;
+        let idles = first_idles(alloc, network, &input, &code, plan.watch)?;
+        Ok(Held {
+            alloc,
+            network,
+            input,
+            plan,
+            budget: plan.bound,
+            code,
+            idles,
+            ends: Vec::new(alloc),
+            verdict: None,
+        })
+    }
+
+    /// Allows so many events more, and runs by the workers of the configuration until the sum of all bounds is used up, or
+    /// every process has ended or waits on a channel of which it took all, or memory was refused. Before each quantum of
+    /// an instance the gate is entered.
+    ///
+    /// It refuses with `BadMore` where the sum of all bounds would pass 2^48 - 1, and with `NoMemory` where memory was
+    /// refused before the first event: both leave all as it was. It refuses with `NoThread` where a thread couldn't be
+    /// started, which one worker never takes: so many events more are allowed then, each process stands where the workers
+    /// left it, and the run may go on.
+    pub fn resume<R: Threads + Wait + Sync, G: Gate + Sync>(
+        &mut self,
+        rt: &R,
+        more: u64,
+        gate: &G,
+    ) -> Result<Verdict, HeldFault>
+        ensures { MatchResult result (IsResumed more self.old self.new) (IsUnresumed more self.old self.new) }
+    {
+        if MOST_BOUND - self.plan.bound < more {
+            return Err(HeldFault::BadMore);
+        }
+        let room = PartRoom::new(self.alloc, self.network.instances())?;
+        let idles = mem::replace(&mut self.idles, Vec::new(self.alloc));
+        let _program = self.network.program();
+        let part = Part {
+            network: self.network,
+            input: &self.input,
+            code: &self.code,
+            plan: Plan {
+                bound: self.budget + more,
+                ..self.plan
+            },
+            bound: self.plan.bound + more,
+        };
+        let stopped = run_part(rt, self.alloc, &part, idles, room, gate);
+        self.idles = stopped.idles;
+        if let Err(CrewFault::NoMemory) = stopped.outcome {
+            return Err(HeldFault::NoMemory);
+        }
+        self.plan.bound += more;
+        self.budget = stopped.budget;
+        self.ends = stopped.ends;
+        match stopped.outcome {
+            Ok(verdict) => {
+                self.verdict = Some(verdict);
+                Ok(verdict)
+            }
+            Err(_) => {
+                self.verdict = None;
+                Err(HeldFault::NoThread)
+            }
+        }
+    }
+
+    /// Appends values to the list of an input channel. No process runs before the next part, and there is no answer until
+    /// then, also where there are no values.
+    ///
+    /// It refuses with `UnknownName` where no channel has the name, then with `NotAnInput` where the channel isn't an
+    /// input, `WrongKind` where a value isn't of its kind, `TooMany` where its list would have more than 1,048,576 values,
+    /// and `NoMemory` where memory was refused. A refusal leaves all as it was.
+    pub fn feed(&mut self, channel: &str, values: Vec<Value>) -> Result<(), FeedFault>
+        ensures { MatchResult result (λ _. HasFed (channel.now, values.items) self.old self.new) (IsUnfed (channel.now, values.items) self.old self.new) }
+    {
+        let _program = self.network.program();
+        self.input.extend(self.network, channel, values)?;
+        self.verdict = None;
+        Ok(())
+    }
+
+    /// How many events more the sum of all bounds so far allows.
+    pub fn budget(&self) -> u64
+        ensures { result + sum_by seen_events self.now.cells ≡ self.now.bound }
+    {
+        self.budget
+    }
+
+    /// Whether the last call that changed anything was a `resume` that answered. Then there is an answer.
+    pub fn settled(&self) -> bool
+        ensures { IsTrue result ↔ ((v : VerdictOf) × (self.now.verdict ≡ Some v)) }
+    {
+        self.verdict.is_some()
+    }
+
+    /// A copy of the answer, right for the input so far and the bound so far. It is asked for only where the run is
+    /// settled. It refuses only where memory was refused.
+    pub fn answer(&self) -> Result<Answer, NoMemory>
+        requires { (v : VerdictOf) × (self.now.verdict ≡ Some v) }
+        ensures { IfOk result (IsAnswerOf self.now) }
+    {
+        let Some(verdict) = self.verdict else {
+            unreachable!()
+        };
+        let streams = copied_streams(
+            self.alloc,
+            self.network,
+            &self.input,
+            self.plan.watch,
+            &self.idles,
+        )?;
+        let ends = copied_ends(self.alloc, &self.ends)?;
+        laws::assembled();
+        Ok(Answer {
+            verdict,
+            streams,
+            ends,
+            events: self.plan.bound - self.budget,
+        })
+    }
+}

@@ -1,0 +1,271 @@
+//! A part of a held run: idle jobs go on, and come to rest again.
+
+ghost use Rattle.std.specs.Prelude.{◌≡◌, ℕ, ◌≤◌, ◌<◌, ◌^◌, Bool, List, [], Ok, Err, Some, length, map, slice_get, vec_capacity, IfOk, OnOk};
+ghost use Rattle.kahn_network.specs.Network.{network_of};
+ghost use Rattle.kahn_crew.specs.Left.{HaveGone, HaveLeft};
+ghost use Rattle.kahn_crew.specs.Tasks.{Tasked};
+ghost use Rattle.kahn_job.specs.Idles.{HaveSettled, cells_of, rows_of};
+ghost use Rattle.kahn_job.specs.Settling.{AreResting, HaveStood};
+ghost use Rattle.kahn_job.specs.Works.{Work};
+ghost use Rattle.kahn_pool.specs.Concluded.{IsConcluded};
+ghost use Rattle.kahn_pool.specs.Holding.{AreHeld, HasStopped, IsPart, IsRoomFor, held_state};
+ghost use Rattle.kahn_pool.specs.Rested.{cell_of};
+ghost use Rattle.kahn_pool.specs.declared.answer.Verdict.{Verdict as VerdictOf};
+
+use crate::answer::{End, Verdict};
+use crate::conclude::{Conclusion, conclude};
+use crate::gate::Gate;
+use crate::settle::settle_all;
+use kahn_code::code::Code;
+use kahn_code::steps::Steps;
+use kahn_crew::{CrewFault, Left, Plan, Task, first_tasks, rest_all, run_tasks, wake_all};
+use kahn_job::{Idle, settle};
+use kahn_network::network::Network;
+use kahn_streams::input::Input;
+use kahn_streams::memory::NoMemory;
+use std::alloc::Global;
+use std::marker::Brand;
+use std::sync::Wait;
+use std::sync::ledger::{Blank, Ledger};
+use std::thread::Threads;
+
+/// Room for the tasks of a part of a run, for the jobs that they leave, and for their ends.
+#[derive(Drop)]
+pub(crate) struct PartRoom<'n> {
+    pub(crate) tasks: Vec<Task<'n>>,
+    pub(crate) idles: Vec<Idle>,
+    pub(crate) ends: Vec<End>,
+}
+
+impl<'n> PartRoom<'n> {
+    /// Room for so many of each. It refuses only where memory was refused.
+    pub(crate) fn new(alloc: Global, instances: usize) -> Result<PartRoom<'n>, NoMemory>
+        ensures { IfOk result (IsRoomFor instances) }
+    {
+        let tasks = Vec::with_capacity(alloc, instances)?;
+        let idles = Vec::with_capacity(alloc, instances)?;
+        let ends = Vec::with_capacity(alloc, instances)?;
+        Ok(PartRoom { tasks, idles, ends })
+    }
+}
+
+/// A part of a run: the network, its input so far, its code, who works on it and for how many events, and the sum of all
+/// bounds with it.
+#[derive(Drop)]
+pub(crate) struct Part<'n> {
+    pub(crate) network: &'n Network,
+    pub(crate) input: &'n Input,
+    pub(crate) code: &'n Code,
+    pub(crate) plan: Plan,
+    pub(crate) bound: u64,
+}
+
+/// How a part of a run stopped: its jobs at rest, what is left of the bound, the end of each instance, and the verdict.
+/// Without a verdict the ends mean nothing.
+#[derive(Drop)]
+pub(crate) struct Stopped {
+    pub(crate) idles: Vec<Idle>,
+    pub(crate) budget: u64,
+    pub(crate) ends: Vec<End>,
+    pub(crate) outcome: Result<Verdict, CrewFault>,
+}
+
+// The jobs of all instances before their first events, with a ledger of steps.
+fn first_counted<L: Ledger>(
+    alloc: Global,
+    blank: Blank,
+    network: &Network,
+    input: &Input,
+    code: &Code,
+    watch: Option<usize>,
+) -> Result<Vec<Idle>, NoMemory>
+    requires name { blank.name ≡ L.name }
+    requires parts { blank.parts ≡ L.parts }
+    requires some { 0 < blank.parts }
+    requires code { code.now.network.value ≡ network.now }
+    ensures held { IfOk result (λ idles. (bound : ℕ) → AreHeld network.now input.now watch bound idles.items bound) }
+    ensures none { IfOk result (λ idles. (p : ℕ) (w : Work) → slice_get idles.items p ≡ Some w → w.cell.events ≡ 0) }
+{
+    let mut steps = Steps::<L>::open(blank);
+    let room = Vec::with_capacity(alloc, network.instances())?;
+    let mut tasks = first_tasks(alloc, network, input, code, watch)?;
+    let _program = network.program();
+    settle_all(&mut tasks, code, &mut steps);
+    Ok(rest_all(tasks, room))
+}
+
+/// The jobs of all instances before their first events. It refuses only where memory was refused.
+pub(crate) fn first_idles(
+    alloc: Global,
+    network: &Network,
+    input: &Input,
+    code: &Code,
+    watch: Option<usize>,
+) -> Result<Vec<Idle>, NoMemory>
+    requires code { code.now.network.value ≡ network.now }
+    ensures held { IfOk result (λ idles. (bound : ℕ) → AreHeld network.now input.now watch bound idles.items bound) }
+    ensures none { IfOk result (λ idles. (p : ℕ) (w : Work) → slice_get idles.items p ≡ Some w → w.cell.events ≡ 0) }
+{
+    first_counted::<Brand>(alloc, Blank::new(1), network, input, code, watch)
+}
+
+// The jobs, the ends and the verdict of a run that is over.
+fn finish<'n, L: Ledger>(
+    part: &Part<'n>,
+    mut left: Left<'n>,
+    idles: Vec<Idle>,
+    ends: Vec<End>,
+    steps: &mut Steps<L>,
+) -> Stopped
+    requires left { HaveLeft part.now.network.now part.now.input.now part.now.plan.watch part.now.bound left.tasks.items left.budget left.halted }
+    requires code { part.now.code.now.network.value ≡ part.now.network.now }
+    requires bound { part.now.bound < 2 ^ 48 }
+    requires idles { (idles.items ≡ []) × (length (network_of part.now.network.now).instances ≤ vec_capacity idles) }
+    requires ends { length (network_of part.now.network.now).instances ≤ vec_capacity ends }
+    ensures held { AreHeld part.now.network.now part.now.input.now part.now.plan.watch part.now.bound result.idles.items result.budget }
+    ensures cells { cells_of result.idles.items ≡ map cell_of left.entry.tasks.items }
+    ensures outcome { (v : VerdictOf) × (halted : Bool) × (result.outcome ≡ Ok v) × IsConcluded (held_state part.now.network.now part.now.input.now part.now.plan.watch result.idles.items) part.now.bound result.budget halted v result.ends.items }
+{
+    settle_all(&mut left.tasks, part.code, steps);
+    let budget = left.budget;
+    let Conclusion {
+        tasks,
+        ends,
+        verdict,
+    } = conclude(
+        part.network,
+        part.input,
+        part.plan.watch,
+        part.bound,
+        left,
+        ends,
+    );
+    Stopped {
+        idles: rest_all(tasks, idles),
+        budget,
+        ends,
+        outcome: Ok(verdict),
+    }
+}
+
+// The jobs of a run that was given up.
+fn give_up<'n, L: Ledger>(
+    fault: CrewFault,
+    part: &Part<'n>,
+    mut left: Left<'n>,
+    idles: Vec<Idle>,
+    ends: Vec<End>,
+    steps: &mut Steps<L>,
+) -> Stopped
+    requires left { (first : List Tasked) × HaveGone part.now.network.now part.now.input.now part.now.plan.watch part.now.bound first left.tasks.items left.budget }
+    requires code { part.now.code.now.network.value ≡ part.now.network.now }
+    requires bound { part.now.bound < 2 ^ 48 }
+    requires idles { (idles.items ≡ []) × (length (network_of part.now.network.now).instances ≤ vec_capacity idles) }
+    ensures held { AreHeld part.now.network.now part.now.input.now part.now.plan.watch part.now.bound result.idles.items result.budget }
+    ensures cells { cells_of result.idles.items ≡ map cell_of left.entry.tasks.items }
+    ensures outcome { (result.outcome ≡ Err fault) × (result.budget ≡ left.entry.budget) }
+{
+    let _program = part.network.program();
+    settle_all(&mut left.tasks, part.code, steps);
+    Stopped {
+        idles: rest_all(left.tasks, idles),
+        budget: left.budget,
+        ends,
+        outcome: Err(fault),
+    }
+}
+
+// Runs idle jobs whose ends have settled for the input.
+fn run_settled<'n, R: Threads + Wait + Sync, G: Gate + Sync, L: Ledger>(
+    rt: &R,
+    alloc: Global,
+    blank: Blank,
+    part: &Part<'n>,
+    idles: Vec<Idle>,
+    room: PartRoom<'n>,
+    gate: &G,
+) -> Stopped
+    requires name { blank.name ≡ L.name }
+    requires parts { blank.parts ≡ L.parts }
+    requires some { 0 < blank.parts }
+    requires part { IsPart part.now.network.now part.now.code.now.network.value part.now.input.now part.now.plan part.now.bound idles.items }
+    requires settled { HaveSettled part.now.network.now part.now.input.now (rows_of idles.items) }
+    requires room { IsRoomFor (length (network_of part.now.network.now).instances) room }
+    ensures { HasStopped part.now.network.now part.now.input.now part.now.plan.watch part.now.plan.workers part.now.bound idles.items part.now.plan.bound result }
+{
+    let mut steps = Steps::<L>::open(blank);
+    let PartRoom {
+        tasks,
+        idles: rest,
+        ends,
+    } = room;
+    let (network, input) = (part.network, part.input);
+    let _program = network.program();
+    let tasks = wake_all(network, input, idles, tasks);
+    match run_tasks(rt, alloc, network, input, part.code, part.plan, tasks, gate) {
+        Ok(left) => finish(part, left, rest, ends, &mut steps),
+        Err((fault, left)) => give_up(fault, part, left, rest, ends, &mut steps),
+    }
+}
+
+// The same, with a ledger of its own.
+fn run_marked<'n, R: Threads + Wait + Sync, G: Gate + Sync>(
+    rt: &R,
+    alloc: Global,
+    part: &Part<'n>,
+    idles: Vec<Idle>,
+    room: PartRoom<'n>,
+    gate: &G,
+) -> Stopped
+    requires part { IsPart part.now.network.now part.now.code.now.network.value part.now.input.now part.now.plan part.now.bound idles.items }
+    requires settled { HaveSettled part.now.network.now part.now.input.now (rows_of idles.items) }
+    requires room { IsRoomFor (length (network_of part.now.network.now).instances) room }
+    ensures { HasStopped part.now.network.now part.now.input.now part.now.plan.watch part.now.plan.workers part.now.bound idles.items part.now.plan.bound result }
+{
+    run_settled::<R, G, Brand>(rt, alloc, Blank::new(1), part, idles, room, gate)
+}
+
+// The jobs with the ends of their channels settled for the input, and whether all are. Where memory was refused each looks
+// the same to every call.
+fn settle_ends(
+    network: &Network,
+    input: &Input,
+    mut idles: Vec<Idle>,
+) -> (Vec<Idle>, Result<(), NoMemory>)
+    requires { AreResting network.now input.now (rows_of idles.items) }
+    ensures settled { OnOk result.1 (HaveSettled network.now input.now (rows_of result.0.items)) }
+    ensures resting { AreResting network.now input.now (rows_of result.0.items) }
+    ensures stood { HaveStood (rows_of idles.items) (rows_of result.0.items) }
+    ensures cells { cells_of result.0.items ≡ cells_of idles.items }
+{
+    let settled = settle(network, input, &mut idles);
+    (idles, settled)
+}
+
+/// Runs idle jobs for so many events as the plan has, until every worker has left.
+///
+/// Where memory was refused before the first event each job is as it was; where a thread couldn't be started those that
+/// were are halted and gathered, and the jobs are where they were left.
+pub(crate) fn run_part<'n, R: Threads + Wait + Sync, G: Gate + Sync>(
+    rt: &R,
+    alloc: Global,
+    part: &Part<'n>,
+    idles: Vec<Idle>,
+    room: PartRoom<'n>,
+    gate: &G,
+) -> Stopped
+    requires part { IsPart part.now.network.now part.now.code.now.network.value part.now.input.now part.now.plan part.now.bound idles.items }
+    requires room { IsRoomFor (length (network_of part.now.network.now).instances) room }
+    ensures { HasStopped part.now.network.now part.now.input.now part.now.plan.watch part.now.plan.workers part.now.bound idles.items part.now.plan.bound result }
+{
+    let (idles, settled) = settle_ends(part.network, part.input, idles);
+    if settled.is_err() {
+        return Stopped {
+            idles,
+            budget: part.plan.bound,
+            ends: room.ends,
+            outcome: Err(CrewFault::NoMemory),
+        };
+    }
+    run_marked(rt, alloc, part, idles, room, gate)
+}

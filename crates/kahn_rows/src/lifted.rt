@@ -1,0 +1,46 @@
+//! A token that was answered before its run was fed is lifted to the longer input.
+
+ghost use Rattle.std.specs.Prelude.{◌≡◌, ℕ, Some, slice_get};
+ghost use Rattle.kahn_pool.specs.Right.{HasStream};
+ghost use Rattle.kahn_pool.specs.declared.answer.Stream.{Stream as StreamOf};
+ghost use Rattle.kahn_streams.specs.Laws.{AreInputsExtended};
+ghost use Rattle.kahn_streams.specs.Tokens.{inputs_of};
+ghost use Rattle.kahn_streams.specs.declared.token.Token.{Token as TokenOf};
+
+use crate::held::network_of;
+use crate::programs::LEAD;
+use crate::rows::config;
+use kahn_pool::answer::Answer;
+use kahn_pool::gate::Open;
+use kahn_pool::held::Held;
+use kahn_streams::input::Input;
+use kahn_streams::token::Token;
+use kahn_streams::value::{Line, Value};
+use std::test::Fail;
+
+// The first token of the first stream, as a token of an input whose lists those of the token's begin.
+fn first_lifted(answer: &Answer, longer: &Input) -> Option<Token>
+    requires { (s : StreamOf) (k : ℕ) (t : TokenOf) → HasStream answer.now s → slice_get s.tokens.items k ≡ Some t → AreInputsExtended (inputs_of t.input.value) (inputs_of longer.now) }
+{
+    let stream = answer.streams.first()?;
+    let token = stream.tokens.first()?;
+    Some(longer.lift(token.again()))
+}
+
+#[test]
+fn an_answered_token_is_lifted(rt: HostRuntime) -> Result<(), Fail> {
+    let alloc = rt.alloc();
+    let network = network_of(alloc, LEAD)?;
+    let config = config(alloc, 2, 1, 10, None)?;
+    let input = Input::none(alloc, &network)?;
+    let mut longer = Input::none(alloc, &network)?;
+    longer.extend(&network, "A", Vec::from_slice(alloc, &[Value::Integer(5)])?)?;
+    let mut held = Held::start(alloc, &network, input, config)?;
+    held.resume(&rt, 0, &Open)?;
+    let answer = held.answer()?;
+    held.feed("A", Vec::from_slice(alloc, &[Value::Integer(5)])?)?;
+    let token = first_lifted(&answer, &longer);
+    let told = token.map(|token| (token.channel(), token.place(), token.value()));
+    assert_eq!(rt; told, Some((Line::Channel(1), 0, Value::Integer(7))));
+    Ok(())
+}
