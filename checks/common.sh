@@ -22,15 +22,26 @@ finish() {
   [ "$failed" = 0 ]
 }
 
-# Sets kahn: the program that the variable KAHN names, or else that of this tree, which is proved and built first where it has to be.
-find_program() {
-  kahn=${KAHN:-}
-  if [ -z "$kahn" ]; then
-    "$top/kahn" --help > /dev/null || exit 2
-    kahn="$top/crates/kahn/out/kahn"
+# found NAME PATH: the program of that path, or else that of this tree, which is proved and built first where it has to be.
+found() {
+  local path=$2
+  if [ -z "$path" ]; then
+    "$top/$1" --help > /dev/null || return
+    path="$top/crates/$1/out/$1"
   fi
-  kahn=$(realpath "$kahn")
-  [ -x "$kahn" ] || { echo "there is no program $kahn"; exit 2; }
+  path=$(realpath "$path")
+  [ -x "$path" ] || { echo "there is no program $path" >&2; return 2; }
+  echo "$path"
+}
+
+# Sets kahn: the program that the variable KAHN names, or else that of this tree.
+find_program() {
+  kahn=$(found kahn "${KAHN:-}") || exit 2
+}
+
+# Sets live: the program that the variable KAHN_LIVE names, or else that of this tree.
+find_live() {
+  live=$(found kahn_live "${KAHN_LIVE:-}") || exit 2
 }
 
 # refuse_by SOURCE: compiles the library that refuses the program something, "$work/refuse.so".

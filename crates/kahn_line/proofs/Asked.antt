@@ -125,15 +125,16 @@ IsOwn first = (first ≢ 0) × (first ≢ 104) × (first ≢ 118)
 begins : (id other : Text) (first : ℕ) → slice_index id 0 ≡ first → id ≡ other → slice_index other 0 ≡ first
 begins id other first is e = ap (λ (l : Text). slice_index l 0) (sym e) ∙ is
 
--- the text of a number's name is a number in its range
-pub passed : (cmd : Command) (m : ArgMatches) → IsParsedFrom cmd m → app_of cmd ≡ kahn_app
-    → (id : Text) (low high : ℕ) → ParsedAs kahn_app.top.rules id (Unsigned low high)
+-- the text of a number's name is a number in its range, for a command that is simple
+pub passed : (a : App) → a.top.is_plain ≡ true → list_all (λ r. r.is_simple) a.top.rules ≡ true
+    → (cmd : Command) (m : ArgMatches) → IsParsedFrom cmd m → app_of cmd ≡ a
+    → (id : Text) (low high : ℕ) → ParsedAs a.top.rules id (Unsigned low high)
     → (first : ℕ) → slice_index id 0 ≡ first → IsOwn first
     → (t : Text) → one_text (found_of m) id ≡ Some t → IsUnsignedIn low high t
-passed cmd m p is id low high parsed first begin own t read =
-    let shape : shape_of cmd ≡ kahn_app.top = ap (λ (a : App). a.top) is in
-    let fields = plain_fields cmd (ap (λ (s : Shape). s.is_plain) shape) in
-    let none = simple_groups cmd (ap (λ (s : Shape). list_all (λ a. a.is_simple) s.rules) shape) in
+passed app plain simple cmd m p is id low high parsed first begin own t read =
+    let shape : shape_of cmd ≡ app.top = ap (λ (a : App). a.top) is in
+    let fields = plain_fields cmd (ap (λ (s : Shape). s.is_plain) shape ∙ plain) in
+    let none = simple_groups cmd (ap (λ (s : Shape). list_all (λ a. a.is_simple) s.rules) shape ∙ simple) in
     let groups : groups_of p.built ≡ [] = (p.from.same_groups none).1 ∙ fields.groups in
     let rules : ParsedAs (map rule_of (args_of cmd)) id (Unsigned low high) = subst (λ (s : Shape). ParsedAs s.rules id (Unsigned low high)) (sym shape) parsed in
     let parsers = built_argument cmd p.built p.from id (Unsigned low high) rules
@@ -154,7 +155,7 @@ known low high other (Some t) n is all above below =
     let most = text.3 in
     (value, omega arith, omega arith)
 
-apart : {X : Type 0} → false ≡ true → X
+pub apart : {X : Type 0} → false ≡ true → X
 apart e = absurd cc
 
 workers_parsed : ParsedAs kahn_app.top.rules (codes "workers") (Unsigned 1 16)
@@ -169,7 +170,7 @@ bound_parsed = (apart, (apart, (apart, (apart, ((λ e. refl), (apart, tt))))))
 -- the options that are made of what a parse found are those that the words ask for
 pub asked : (cmd : Command) (m : ArgMatches) (words : List Text) → IsParsedFrom cmd m → HasMatchesOf (app_of cmd) words m → app_of cmd ≡ kahn_app
     → (o : Options) → option_map string_bytes o.program ≡ first_value (found_of m) (codes "PROGRAM")
-    → option_map string_bytes o.input ≡ first_value (found_of m) (codes "input") → IsSet (found_of m) o.config
+    → option_map string_bytes o.input ≡ first_value (found_of m) (codes "input") → IsSet (found_of m) (codes "bound") o.config
     → IsAsked words o
 asked cmd m words p matches is o program input set =
     let f = found_of m in
@@ -177,11 +178,11 @@ asked cmd m words p matches is o program input set =
     let text : (id : Text) → first_value f id ≡ text_of words id = λ id. first_value-rows f id ∙ ap (first_of id) rows in
     let one : (id : Text) → one_text f id ≡ one_of id (matches_of kahn_app words) = λ id. one_text-rows f id ∙ ap (one_of id) rows in
     let workers = known 1 16 4 (one_text f (codes "workers")) o.config.workers set.workers
-    (passed cmd m p is (codes "workers") 1 16 workers_parsed 119 refl ((λ e. omega arith), (λ e. omega arith), (λ e. omega arith))) (omega arith) (omega arith) in
+    (passed kahn_app refl refl cmd m p is (codes "workers") 1 16 workers_parsed 119 refl ((λ e. omega arith), (λ e. omega arith), (λ e. omega arith))) (omega arith) (omega arith) in
     let quantum = known 1 1000000 1000 (one_text f (codes "quantum")) o.config.quantum set.quantum
-    (passed cmd m p is (codes "quantum") 1 1000000 quantum_parsed 113 refl ((λ e. omega arith), (λ e. omega arith), (λ e. omega arith))) (omega arith) (omega arith) in
+    (passed kahn_app refl refl cmd m p is (codes "quantum") 1 1000000 quantum_parsed 113 refl ((λ e. omega arith), (λ e. omega arith), (λ e. omega arith))) (omega arith) (omega arith) in
     let bound = known 0 281474976710655 1000000 (one_text f (codes "bound")) o.config.bound set.bound
-    (passed cmd m p is (codes "bound") 0 281474976710655 bound_parsed 98 refl ((λ e. omega arith), (λ e. omega arith), (λ e. omega arith))) (omega arith) (omega arith) in
+    (passed kahn_app refl refl cmd m p is (codes "bound") 0 281474976710655 bound_parsed 98 refl ((λ e. omega arith), (λ e. omega arith), (λ e. omega arith))) (omega arith) (omega arith) in
     let most = bound.2 in
     record {
       program = program ∙ text (codes "PROGRAM");

@@ -1,1 +1,2 @@
-mod Asked
+pub mod Asked
+pub mod Live_asked

@@ -88,7 +88,7 @@ impl From<AllocError> for LineFault {
 }
 
 /// An option with a text.
-fn text_arg<'a>(alloc: Global, name: &'a str, value: &'a str, help: &'a str) -> Arg<'a>
+pub(crate) fn text_arg<'a>(alloc: Global, name: &'a str, value: &'a str, help: &'a str) -> Arg<'a>
     ensures rule { rule_of result ≡ text_rule name.entry.now }
     ensures local { result.global ≡ false }
 {
@@ -99,7 +99,7 @@ fn text_arg<'a>(alloc: Global, name: &'a str, value: &'a str, help: &'a str) -> 
 }
 
 /// An option with a number from `least` to `most`, and what it is where the words don't say.
-fn number_arg<'a>(
+pub(crate) fn number_arg<'a>(
     alloc: Global,
     name: &'a str,
     least: u64,
@@ -115,15 +115,51 @@ fn number_arg<'a>(
         .default_value(given)
 }
 
-/// The program's name and the texts round its options in the help.
-fn bare<'a>(alloc: Global) -> Result<Command<'a>, AllocError>
-    ensures { IfOk result (λ c. app_of c ≡ new_app (codes "kahn")) }
+/// The option of the number of workers.
+pub(crate) fn workers_arg<'a>(alloc: Global) -> Arg<'a>
+    ensures rule { rule_of result ≡ number_rule (codes "workers") 1 16 (codes "4") }
+    ensures local { result.global ≡ false }
+{
+    number_arg(alloc, "workers", 1, 16, "4", "Number of threads, 1 to 16")
+}
+
+/// The option of the quantum.
+pub(crate) fn quantum_arg<'a>(alloc: Global) -> Arg<'a>
+    ensures rule { rule_of result ≡ number_rule (codes "quantum") 1 1000000 (codes "1000") }
+    ensures local { result.global ≡ false }
+{
+    number_arg(
+        alloc,
+        "quantum",
+        1,
+        1_000_000,
+        "1000",
+        "Events that a process does at a time, 1 to 1000000",
+    )
+}
+
+/// The option of the watched channel.
+pub(crate) fn watch_arg<'a>(alloc: Global, help: &'a str) -> Arg<'a>
+    ensures rule { rule_of result ≡ text_rule (codes "watch") }
+    ensures local { result.global ≡ false }
+{
+    text_arg(alloc, "watch", "NAME", help)
+}
+
+/// A program's name and the texts round its options in the help.
+pub(crate) fn bare<'a>(
+    alloc: Global,
+    name: &'a str,
+    about: &'a str,
+    more: &'a str,
+) -> Result<Command<'a>, AllocError>
+    ensures { IfOk result (λ c. app_of c ≡ new_app name.entry.now) }
 {
     Ok(
-        Command::new(alloc, "kahn")
-            .bin_name("kahn")?
-            .about(ABOUT)
-            .after_help(MORE),
+        Command::new(alloc, name)
+            .bin_name(name)?
+            .about(about)
+            .after_help(more),
     )
 }
 
@@ -140,15 +176,6 @@ fn command<'a>(alloc: Global) -> Result<Command<'a>, AllocError>
         "FILE",
         "File of the input text, lines such as `A: 1 2 3`: an input channel and its values",
     );
-    let workers = number_arg(alloc, "workers", 1, 16, "4", "Number of threads, 1 to 16");
-    let quantum = number_arg(
-        alloc,
-        "quantum",
-        1,
-        1_000_000,
-        "1000",
-        "Events that a process does at a time, 1 to 1000000",
-    );
     let bound = number_arg(
         alloc,
         "bound",
@@ -157,23 +184,21 @@ fn command<'a>(alloc: Global) -> Result<Command<'a>, AllocError>
         "1000000",
         "Events after which the run is stopped, 0 to 281474976710655",
     );
-    let watch = text_arg(
+    let watch = watch_arg(
         alloc,
-        "watch",
-        "NAME",
         "A channel that is reported too, besides the output channels",
     );
-    bare(alloc)?
+    bare(alloc, "kahn", ABOUT, MORE)?
         .arg(program)?
         .arg(input)?
-        .arg(workers)?
-        .arg(quantum)?
+        .arg(workers_arg(alloc))?
+        .arg(quantum_arg(alloc))?
         .arg(bound)?
         .arg(watch)
 }
 
 /// A copy of a text, where there is one.
-fn copied(alloc: Global, text: Option<&str>) -> Result<Option<String>, AllocError>
+pub(crate) fn copied(alloc: Global, text: Option<&str>) -> Result<Option<String>, AllocError>
     ensures { IfOk result (λ copy. option_map string_bytes copy ≡ option_map (λ t. t.now) text.entry) }
 {
     match text {
@@ -189,14 +214,18 @@ fn number_or(matches: &ArgMatches<'_>, name: &str, other: u64) -> u64
     matches.get_one::<u64>(name).unwrap_or(other)
 }
 
-/// How the run is set up.
-fn config_of(alloc: Global, matches: &ArgMatches<'_>) -> Result<Config, AllocError>
-    ensures { IfOk result (IsSet (found_of matches.now)) }
+/// How the run is set up, by the name of the option with its bound.
+pub(crate) fn config_of(
+    alloc: Global,
+    matches: &ArgMatches<'_>,
+    limit: &str,
+) -> Result<Config, AllocError>
+    ensures { IfOk result (IsSet (found_of matches.now) limit.now) }
 {
     Ok(Config {
         workers: number_or(matches, "workers", 4),
         quantum: number_or(matches, "quantum", 1000),
-        bound: number_or(matches, "bound", 1_000_000),
+        bound: number_or(matches, limit, 1_000_000),
         watch: copied(alloc, matches.get_str("watch"))?,
     })
 }
@@ -210,6 +239,6 @@ pub fn read_line<'a, S: AsStr>(alloc: Global, words: &'a [S]) -> Result<Options,
     Ok(Options {
         program: copied(alloc, matches.get_str("PROGRAM"))?,
         input: copied(alloc, matches.get_str("input"))?,
-        config: config_of(alloc, &matches)?,
+        config: config_of(alloc, &matches, "bound")?,
     })
 }

@@ -1,5 +1,6 @@
 pub mod Pieces
 pub mod Ends
+pub mod Fresh
 pub mod Declared
 pub mod Parts
 pub mod Words

@@ -38,9 +38,13 @@ abbrev pub line_head : Program → Line → List ℕ
 line_head program (Channel channel) = concat (channel_name program channel ∷ codes ":" ∷ [])
 line_head program (Print instance) = concat (codes "print " ∷ decimal (instance + 1) ∷ codes " " ∷ process_name program instance ∷ codes ":" ∷ [])
 
--- a stream's line: a space and the value for each of its tokens
+-- the line of a stream with these tokens: a space and the value for each
+abbrev pub tokens_text : Program → Line → List Token → List ℕ
+tokens_text program line tokens = line_head program line ++ (flat_map token_text tokens ++ line_feed)
+
+-- a stream's line
 abbrev pub stream_text : Program → Stream → List ℕ
-stream_text program stream = line_head program stream.line ++ (flat_map token_text stream.tokens.items ++ line_feed)
+stream_text program stream = tokens_text program stream.line stream.tokens.items
 
 -- how an instance stands
 abbrev pub outcome_word : Outcome → List ℕ

@@ -31,13 +31,16 @@ pub enum EntriesFault {
 }
 
 /// Why a line is no entry.
-#[derive(Clone, Copy)]
-pub(crate) enum LineFault {
-    /// It has no name and colon.
+#[derive(Clone, Copy, Debug, PartialEq, Eq, Drop, Error)]
+pub enum LineFault {
+    /// It doesn't begin with a name and a colon.
+    #[error("not a name and a colon")]
     NoHead,
-    /// It has no values after its colon.
+    /// A word after its colon is no value.
+    #[error("not a value")]
     NoValues,
     /// Memory was refused.
+    #[error("no memory")]
     NoMemory,
 }
 
@@ -77,8 +80,9 @@ fn read_entry(alloc: Global, line: &[u8]) -> Result<(String, Vec<Value>), LineFa
     }
 }
 
-/// Reads a line, which is an entry where it isn't blank.
-fn read_line(alloc: Global, line: &[u8]) -> Result<Option<(String, Vec<Value>)>, LineFault>
+/// Reads a line of an input text, without its line feed: an entry, or nothing where it is blank. One carriage return before
+/// its end is dropped.
+pub fn read_line(alloc: Global, line: &[u8]) -> Result<Option<(String, Vec<Value>)>, LineFault>
     ensures { MatchResult result (λ read. MatchOption read (IsBlank (content_of line.now)) (λ entry. IsEntry (content_of line.now) (entry_of entry)))
         (IsLineFault (content_of line.now)) }
 {

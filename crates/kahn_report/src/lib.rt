@@ -6,6 +6,7 @@ pub mod entries;
 mod heads;
 pub mod input;
 pub mod names;
+pub mod news;
 pub mod read;
 mod values;
 pub mod work;

@@ -64,8 +64,9 @@ impl From<TextFault> for WorkFault {
     }
 }
 
-// The network of a program text.
-fn checked(alloc: Global, program: &str) -> Result<Network, WorkFault>
+/// The network of a program text, which is checked. It refuses with `Syntax` where the text isn't of the language, and then
+/// with `Check` where the program isn't well wired.
+pub fn checked(alloc: Global, program: &str) -> Result<Network, WorkFault>
     ensures { MatchResult result (IsChecked program.now) (IsUnchecked program.now) }
 {
     let tree = parse(alloc, program)?;

@@ -4,13 +4,14 @@ ghost use Rattle.std.specs.Prelude.{◌≡◌, ℕ, ◌+◌, ◌<◌, ◌≤◌,
 ghost use Rattle.std.specs.List.{concat};
 ghost use Rattle.std.specs.Io.KnownBytes.{Keeps};
 ghost use Rattle.kahn_report.specs.Written.{Writes};
-ghost use Rattle.kahn_report.specs.Report.{report_text, value_text, line_head, stream_text, outcome_word, waited_name, end_words, end_text, ends_text, last_text, IsLine, HasItsLines};
+ghost use Rattle.kahn_report.specs.Report.{report_text, value_text, line_head, tokens_text, stream_text, outcome_word, waited_name, end_words, end_text, ends_text, last_text, IsLine, HasItsLines};
 
 use crate::calls::Calls;
 use crate::names::{channel_name, process_name};
 use itoa::Buffer;
 use kahn_network::network::Network;
 use kahn_pool::answer::{Answer, End, Outcome, Stream, Verdict};
+use kahn_streams::token::Token;
 use kahn_streams::value::{Failure, Line, Value};
 use std::io::Write;
 use std::marker::Brand;
@@ -105,6 +106,25 @@ fn put_head<W: Write, L: Ledger>(
     }
 }
 
+/// Writes the line of a stream with these tokens.
+pub(crate) fn put_tokens<W: Write, L: Ledger>(
+    writer: &mut W,
+    writes: &mut Calls<L>,
+    network: &Network,
+    line: Line,
+    tokens: &[Token],
+) -> Result<(), WriteFault>
+    requires { IsLine network.now line }
+    ensures text { Writes (W.contents writer.old) (W.contents writer.new) result (tokens_text network.now line tokens.now) }
+    ensures few { writes.new ≤ writes.old + length (tokens_text network.now line tokens.now) }
+{
+    put_head(writer, writes, network, line)?;
+    for token in tokens {
+        put_value(writer, writes, token.value())?;
+    }
+    put(writer, writes, b"\n")
+}
+
 /// Writes a stream's line.
 fn put_stream<W: Write, L: Ledger>(
     writer: &mut W,
@@ -116,11 +136,7 @@ fn put_stream<W: Write, L: Ledger>(
     ensures text { Writes (W.contents writer.old) (W.contents writer.new) result (stream_text network.now stream.now) }
     ensures few { writes.new ≤ writes.old + length (stream_text network.now stream.now) }
 {
-    put_head(writer, writes, network, stream.line)?;
-    for token in &stream.tokens {
-        put_value(writer, writes, token.value())?;
-    }
-    put(writer, writes, b"\n")
+    put_tokens(writer, writes, network, stream.line, &stream.tokens)
 }
 
 /// Says how an instance stood.
@@ -191,7 +207,7 @@ fn put_words<'a, W: Write, L: Ledger>(
 }
 
 /// Writes the last line.
-fn put_last<W: Write, L: Ledger>(
+pub(crate) fn put_last<W: Write, L: Ledger>(
     writer: &mut W,
     writes: &mut Calls<L>,
     answer: &Answer,
@@ -227,7 +243,7 @@ fn put_streams<W: Write, L: Ledger>(
 }
 
 /// Writes the lines of the instances.
-fn put_ends<W: Write, L: Ledger>(
+pub(crate) fn put_ends<W: Write, L: Ledger>(
     writer: &mut W,
     writes: &mut Calls<L>,
     network: &Network,
@@ -243,7 +259,7 @@ fn put_ends<W: Write, L: Ledger>(
 }
 
 /// Flushes a writer, which leaves what it holds.
-fn flush<W: Write>(writer: &mut W) -> Result<(), WriteFault>
+pub(crate) fn flush<W: Write>(writer: &mut W) -> Result<(), WriteFault>
     ensures { Keeps (W.contents writer.old) (W.contents writer.new) }
 {
     writer.flush().map_err(|_| WriteFault::Failed)

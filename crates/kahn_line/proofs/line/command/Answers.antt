@@ -10,7 +10,7 @@ returns c =
     let rule : rule_of c.help-program.result ≡ new_rule (codes "PROGRAM") = ap rule_of c.help-program.ensures ∙ c.new.ensures.rule in
     let one = c.in_ok-arg.ensures.shape local ∙ ap₂ with_rule c.in_ok-bare.ensures rule in
     let two = c.in_ok-arg-2.ensures.shape c.text_arg-input.ensures.local ∙ ap₂ with_rule one c.text_arg-input.ensures.rule in
-    let three = c.in_ok-arg-3.ensures.shape c.number_arg-workers.ensures.local ∙ ap₂ with_rule two c.number_arg-workers.ensures.rule in
-    let four = c.in_ok-arg-4.ensures.shape c.number_arg-quantum.ensures.local ∙ ap₂ with_rule three c.number_arg-quantum.ensures.rule in
+    let three = c.in_ok-arg-3.ensures.shape c.workers_arg.ensures.local ∙ ap₂ with_rule two c.workers_arg.ensures.rule in
+    let four = c.in_ok-arg-4.ensures.shape c.quantum_arg.ensures.local ∙ ap₂ with_rule three c.quantum_arg.ensures.rule in
     let five = c.in_ok-arg-5.ensures.shape c.number_arg-bound.ensures.local ∙ ap₂ with_rule four c.number_arg-bound.ensures.rule in
-    IfOk-weaker c.arg-6.result _ _ (λ r h. h.shape c.text_arg-watch.ensures.local ∙ ap₂ with_rule five c.text_arg-watch.ensures.rule) c.arg-6.ensures
+    IfOk-weaker c.arg-6.result _ _ (λ r h. h.shape c.watch_arg-watch.ensures.local ∙ ap₂ with_rule five c.watch_arg-watch.ensures.rule) c.arg-6.ensures

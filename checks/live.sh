@@ -1,0 +1,225 @@
+#!/usr/bin/env bash
+# Runs the program that is fed line by line through pipes that are held open, and waits for each line of output before the
+# next line of input is sent. Then with each of its first threads refused, and then with its first growth of memory refused,
+# with its second, and so on: a later line has to go on to the whole answer.
+#
+#   live.sh [whole]      up to the 40th growth that a line tells of; or until ten runs in a row tell of none
+source "$(dirname "${BASH_SOURCE[0]}")/common.sh"
+find_live
+cd "$work" || exit 2
+double="$top/examples/double.kahn"
+count="$top/examples/count.kahn"
+
+# same NAME GIVEN WANTED: compares two texts.
+same() {
+  if [ "$2" = "$3" ]; then pass; else fail "$1: '${2:0:300}', wanted '${3:0:300}'"; fi
+}
+
+# start WORD..: runs the program on the words, under the variables of the list under, with pipes for its input and output.
+under=()
+start() {
+  rm -f input output
+  : > error
+  mkfifo input output
+  env "${under[@]}" "$live" "$@" < input > output 2> error &
+  process=$!
+  exec 6> input 5< output
+}
+
+# send LINE..: sends lines.
+send() {
+  printf '%s\n' "$@" >&6
+}
+
+# wants NAME LINE..: the next lines of output, each within ten seconds.
+wants() {
+  local name=$1 line wanted
+  shift
+  for wanted in "$@"; do
+    line=
+    IFS= read -r -t 10 line <&5
+    same "$name" "$line" "$wanted"
+  done
+}
+
+# ends NAME STATUS ERROR LINE..: closes the input, and compares what is left of the output, the status and all errors.
+ends() {
+  local name=$1 status=$2 error=$3 rest given
+  shift 3
+  exec 6>&-
+  rest=$(timeout 20 cat <&5)
+  exec 5<&-
+  wait "$process"
+  given=$?
+  same "$name" "$rest" "$(printf '%s\n' "$@")"
+  same "$name: status" $given "$status"
+  same "$name: errors" "$(cat error)" "$(printf '%b' "$error")"
+}
+
+# gives NAME STATUS OUTPUT ERROR WORD..: runs the program on standard input, and compares.
+gives() {
+  local name=$1 status=$2 output=$3 error=$4 given
+  shift 4
+  timeout 60 "$live" "$@" > output.all 2> error
+  given=$?
+  same "$name" "$(cat output.all)" "$(printf '%b' "$output")"
+  same "$name: status" $given "$status"
+  same "$name: errors" "$(cat error)" "$(printf '%b' "$error")"
+}
+
+start "$double"
+send 'A: 1'
+wants "the first line" 'B: 2'
+send 'A: 2'
+wants "the second line" 'B: 4'
+send '' 'A: 3 4' 'A:'
+wants "a blank line and two values" 'B: 6 8'
+send 'Z: 1' 'B: 1' 'A: true' 'A: 1 x' 'A 1' 'A: 5' $'A: 6\r'
+wants "lines that are refused" 'B: 10' 'B: 12'
+ends "doubling" 0 'kahn: input line 6: no such channel\nkahn: input line 7: not an input channel\nkahn: input line 8: kind does not agree\nkahn: input line 9: not a value\nkahn: input line 10: not a name and a colon\n' \
+  'end 1 double: waits on A after 19' 'finished 19'
+
+for workers in 1 2 16; do
+  start "$double" --watch A --workers $workers --quantum 1
+  send 'A: 1 2'
+  wants "a watched channel" 'A: 1 2' 'B: 2 4'
+  send 'A: 3'
+  wants "more of a watched channel" 'A: 3' 'B: 6'
+  ends "a watched channel, by $workers workers" 0 '' 'end 1 double: waits on A after 10' 'finished 10'
+done
+
+# a step that is used up goes on by a blank line
+start "$count" --step 3 --workers 1
+wants "a step" 'W: 0'
+send ''
+wants "a second step" 'W: 1 2'
+send ''
+ends "three steps" 0 '' 'end 1 count: ended after 7' 'finished 7'
+start "$count" --step 3
+wants "a step" 'W: 0'
+ends "one step" 3 '' 'end 1 count: wants more after 3' 'stopped by bound 3'
+
+# without input channels; print streams; a last line without its line feed
+gives "a program without input" 0 'W: 0 1 2\nend 1 count: ended after 7\nfinished 7\n' '' "$count" < /dev/null
+cat > add.kahn <<'P'
+begin integer input channel A;
+  process add(integer in U);
+  begin integer S; repeat begin S := S + wait(U); print S end end;
+  add(A)
+end
+P
+printf 'A: 1\nA: 2 3' > lines
+gives "a print stream" 0 'print 1 add: 1\nprint 1 add: 3 6\nend 1 add: waits on A after 10\nfinished 10\n' '' add.kahn < lines
+
+# lines that aren't text, and that are too long
+printf 'A: 1\200\nA: 7\n' > lines
+gives "a line that isn't UTF-8" 0 'B: 14\nend 1 double: waits on A after 4\nfinished 4\n' 'kahn: input line 1: not UTF-8\n' "$double" < lines
+{ printf 'A: 1' && head -c 16777213 /dev/zero | tr '\0' ' ' && printf '\nA: 7\n'; } > lines
+gives "a line that is too long" 0 'B: 14\nend 1 double: waits on A after 4\nfinished 4\n' 'kahn: input line 1: line is too long\n' "$double" < lines
+{ printf 'A: 1' && head -c 16777212 /dev/zero | tr '\0' ' ' && printf '\nA: 7\n'; } > lines
+gives "the longest line" 0 'B: 2\nB: 14\nend 1 double: waits on A after 7\nfinished 7\n' '' "$double" < lines
+
+# two programs in one pipe
+printf 'A: 1\nA: 2\n' | "$live" "$double" | grep --line-buffered '^B' | sed -u 's/^B/A/' > lines
+gives "a pipe" 0 'B: 4\nB: 8\nend 1 double: waits on A after 7\nfinished 7\n' '' "$double" < lines
+
+# faults that end the program
+gives "no such channel to watch" 6 '' 'kahn: watched channel is not declared\n' "$double" --watch Z < /dev/null
+gives "no program" 5 '' 'kahn: cannot read nothing\n' nothing < /dev/null
+echo 'begin' > bad.kahn
+gives "a text that is no program" 1 '' 'kahn: 2:1: text ends too early\n' bad.kahn < /dev/null
+for words in "" "$double --step 0" "$double --bound 1"; do
+  # shellcheck disable=SC2086
+  "$live" $words < /dev/null > output.all 2> error
+  same "the words '$words': status" $? 2
+  same "the words '$words'" "$(cat output.all)" ''
+done
+"$live" --help > output.all 2> error
+same "the help: status" $? 0
+same "the help" "$(grep -c -e '--step' output.all)" 1
+if [ -e /dev/full ]; then
+  printf 'A: 1\n' | "$live" "$double" > /dev/full 2> error
+  same "a full disk: status" $? 5
+  same "a full disk" "$(cat error)" "kahn: report could not be written"
+fi
+
+# each of the first threads refused, two of which a part by three workers starts: the next line goes on, or else the end
+refuse_by refuse_thread.c
+for number in 1 2 3 4 5 6; do
+  printf 'A: 1\nA: 2\n' | FAIL_AT=$number LD_PRELOAD="$work/refuse.so" timeout 60 "$live" "$double" --workers 3 > output.all 2> error
+  same "thread $number refused: status" $? 0
+  same "thread $number refused" "$(sed -n 's/^B://p' output.all | tr -d '\n')" ' 2 4'
+  same "thread $number refused: errors" "$(cat error)" "kahn: input line $(((number - 1) / 2)): waits for a thread"
+done
+
+# each growth refused: the program that sends as many values through a copy as a line says
+cat > copy.kahn <<'P'
+begin integer input channel N; integer output channel W; integer channel X;
+  process count(integer in U; integer out W);
+  begin integer I, N; N := wait(U); while I < N do begin send I on W; I := I + 1 end end;
+  process copy(integer in U; integer out W);
+  begin repeat send wait(U) on W end;
+  count(N, X) par copy(X, W)
+end
+P
+wanted="W:$(seq -s '' -f ' %g' 0 64)"
+
+# awaits LINE: a line of the errors, or the program's end, within ten seconds.
+awaits() {
+  local left=200
+  until grep -q "^$1" error || ! kill -0 "$process" 2> /dev/null || [ $left = 0 ]; do
+    left=$((left - 1))
+    sleep 0.05
+  done
+}
+
+# refuse NUMBER WORD..: refuses one growth. Where the first line is refused it is sent again; a blank line follows, and the end.
+refuse() {
+  local number=$1 values last
+  shift
+  under=("FAIL_AT=$number" "LD_PRELOAD=$work/refuse.so")
+  trap '' PIPE
+  start "$@"
+  send 'N: 65' 'no line' 2> /dev/null
+  awaits 'kahn: input line 2: not a name'
+  if grep -q '^kahn: input line 1: no memory' error; then send 'N: 65' 2> /dev/null; else send '' 2> /dev/null; fi
+  send '' 2> /dev/null
+  exec 6>&-
+  timeout 20 cat <&5 > output.all
+  exec 5<&-
+  wait "$process"
+  last=$?
+  trap - PIPE
+  values="W:$(sed -n 's/^W://p' output.all | tr -d '\n')"
+  if [ $last = 4 ] && [ ! -s output.all ] && [ "$(cat error)" = "kahn: no memory" ]; then
+    began=$((began + 1))
+    pass
+  elif [ $last = 0 ] && [ "$values" = "$wanted" ] && [ "$(tail -n 3 output.all)" = "$whole_end" ]; then
+    alike=$((alike + 1))
+    if grep -q 'memory' error; then
+      waited=$((waited + 1))
+      alike=0
+    fi
+    pass
+  else
+    fail "$* with growth $number refused: status $last, $(head -c 300 error), $(head -c 300 output.all)"
+  fi
+}
+
+refuse_by refuse_growth.c
+began=0
+waited=0
+alike=0
+number=0
+printf 'N: 65\n' | "$live" copy.kahn > output.all
+whole_end=$(tail -n 3 output.all)
+most=40
+[ "${1:-}" = whole ] && most=1000
+while [ $alike -lt 10 ] && [ $waited -lt $most ] && [ $number -lt 1000 ]; do
+  number=$((number + 1))
+  refuse "$number" copy.kahn --workers 2 --quantum 1
+done
+[ $waited -gt 0 ] || fail "no line waited"
+[ $alike = 10 ] || [ $waited = $most ] || fail "growths are still refused after $number runs"
+echo "of $number runs with a growth refused, $began didn't begin and $waited told of a line that wants memory or waits for it"
+finish

@@ -1,0 +1,187 @@
+//! Runs a network of processes and channels on the lines of standard input, and shows after each line what is new.
+#![tactic(auto)]
+
+mod lines;
+
+use kahn_fault::{Fault, fault_line, status};
+use kahn_line::{LineFault, LiveOptions, read_live_line};
+use kahn_pool::answer::Verdict;
+use kahn_pool::config::{Config, RunFault};
+use kahn_pool::gate::Open;
+use kahn_report::read::ReadFault;
+use kahn_report::work::{WorkFault, checked};
+use kahn_session::fault::TakeFault;
+use kahn_session::refusal::write_refusal;
+use kahn_session::session::Session;
+use kahn_texts::{Texts, read_texts};
+use lines::{Next, next_line};
+use std::io::{BufRead, BufReader, BufWriter, ErrorKind, Write};
+use std::process::ExitCode;
+use std::rt::Runtime;
+use std::sync::Wait;
+use std::thread::Threads;
+use std::{env, io};
+
+/// The status of a command line that is refused.
+const REFUSED: u8 = 2;
+
+/// The status where memory was refused.
+const NO_MEMORY: u8 = 4;
+
+/// Want of memory, as a fault of the run.
+fn wants_memory() -> Fault {
+    Fault::Work(WorkFault::Run(RunFault::NoMemory))
+}
+
+/// A fault of a line, where the run ends with it.
+fn last_fault(fault: TakeFault) -> Fault {
+    match fault {
+        TakeFault::Write(fault) => Fault::Work(WorkFault::Write(fault)),
+        TakeFault::WaitsForThread => Fault::Work(WorkFault::Run(RunFault::NoThread)),
+        _ => wants_memory(),
+    }
+}
+
+/// Takes a line of that number, and tells where it is refused or its part waits. It fails where nothing can be written.
+fn take_line<R: Threads + Wait + Sync, W: Write, E: Write>(
+    rt: &R,
+    session: &mut Session<'_>,
+    line: &[u8],
+    number: u64,
+    writer: &mut W,
+    errors: &mut E,
+) -> Result<(), Fault> {
+    let refused = match session.take(rt, line, &Open, writer) {
+        Ok(Verdict::Memory) => TakeFault::WaitsForMemory,
+        Ok(_) => return Ok(()),
+        Err(TakeFault::Write(fault)) => return Err(last_fault(TakeFault::Write(fault))),
+        Err(fault) => fault,
+    };
+    let _ = write_refusal(errors, number, refused);
+    Ok(())
+}
+
+/// Takes the lines of the reader, after a part before the first.
+fn take_lines<R: AllocGlobal + Threads + Wait + Sync, B: BufRead, W: Write, E: Write>(
+    rt: &R,
+    session: &mut Session<'_>,
+    reader: &mut B,
+    writer: &mut W,
+    errors: &mut E,
+) -> Result<(), Fault> {
+    take_line(rt, session, b"", 0, writer, errors)?;
+    let mut line = Vec::new(rt.alloc());
+    for number in 1..u64::MAX {
+        match next_line(reader, &mut line) {
+            Next::Line => take_line(rt, session, &line, number, writer, errors)?,
+            Next::End => return Ok(()),
+            Next::Failed => return Err(Fault::Program(None, ReadFault::Failed)),
+            Next::NoMemory => {
+                let _ = write_refusal(errors, number, TakeFault::NoMemory);
+            }
+        }
+    }
+    Ok(())
+}
+
+/// Writes how the run ended, after one more part where the last one waits.
+fn close<R: Threads + Wait + Sync, W: Write>(
+    rt: &R,
+    session: &mut Session<'_>,
+    writer: &mut W,
+) -> Result<Verdict, Fault> {
+    if !session.settled() {
+        if let Err(fault) = session.take(rt, b"", &Open, writer) {
+            return Err(last_fault(fault));
+        }
+    }
+    match session.close(writer) {
+        Ok(verdict) => Ok(verdict),
+        Err(fault) => Err(Fault::Work(WorkFault::Write(fault))),
+    }
+}
+
+/// Runs the program on standard input, and writes what is new to standard output.
+fn run<R: Runtime + AllocGlobal + Threads + Wait + Sync, E: Write>(
+    rt: &R,
+    texts: &Texts,
+    config: Config,
+    errors: &mut E,
+) -> Result<Verdict, Fault> {
+    let network = match checked(rt.alloc(), texts.program.as_str()) {
+        Ok(network) => network,
+        Err(fault) => return Err(Fault::Work(fault)),
+    };
+    let mut session = match Session::start(rt.alloc(), &network, config) {
+        Ok(session) => session,
+        Err(fault) => return Err(Fault::Work(WorkFault::Run(fault))),
+    };
+    let Ok(mut reader) = BufReader::new(rt.alloc(), rt.reader()) else {
+        return Err(wants_memory());
+    };
+    let Ok(mut writer) = BufWriter::new(rt.alloc(), io::writer(rt)) else {
+        return Err(wants_memory());
+    };
+    take_lines(rt, &mut session, &mut reader, &mut writer, errors)?;
+    close(rt, &mut session, &mut writer)
+}
+
+/// Tells a fault, and gives the status. A line that can't be written changes no status.
+fn told<W: Write>(answer: &Result<Verdict, Fault>, program: &str, writer: &mut W) -> u8 {
+    if let Err(fault) = answer {
+        let _ = fault_line(fault, program, writer);
+    }
+    status(answer)
+}
+
+/// Does what the command line asks for, and gives the status. Faults are told to the writer.
+fn answered<R: Runtime + AllocGlobal + Threads + Wait + Sync, W: Write>(
+    rt: &R,
+    options: LiveOptions,
+    writer: &mut W,
+) -> u8 {
+    match read_texts(rt, options.program, None) {
+        Ok(texts) => {
+            let answer = run(rt, &texts, options.config, writer);
+            told(&answer, texts.program.as_str(), writer)
+        }
+        Err(fault) => told(&Err(fault), "", writer),
+    }
+}
+
+/// Says that memory was refused, and gives the status.
+fn no_memory(rt: &impl Eprint) -> u8 {
+    let _ = eprintln!(rt; "kahn: no memory");
+    NO_MEMORY
+}
+
+/// Tells the user what clap says of the command line, and gives the status: 0 for the help.
+fn refused(rt: &(impl Print + Eprint), error: &clap::Error) -> u8 {
+    let _ = error.print(rt);
+    if error.use_stderr() { REFUSED } else { 0 }
+}
+
+/// Says that a word of the command line isn't UTF-8, or that memory was refused, and gives the status.
+fn unread(rt: &impl Eprint, error: &io::Error) -> u8 {
+    if error.kind() == ErrorKind::OutOfMemory {
+        return no_memory(rt);
+    }
+    let _ = eprintln!(rt; "error: a word of the command line is not UTF-8");
+    REFUSED
+}
+
+fn main(rt: HostRuntime) -> ExitCode {
+    let words = match env::args(&rt) {
+        Ok(words) => words,
+        Err(error) => return ExitCode::from(unread(&rt, &error)),
+    };
+    let Ok(words) = words.collect::<Vec<String>>(rt.alloc()) else {
+        return ExitCode::from(no_memory(&rt));
+    };
+    let status = match read_live_line(rt.alloc(), words.as_slice()) {
+        Ok(options) => answered(&rt, options, &mut rt.stderr()),
+        Err(LineFault::Refused(error)) => refused(&rt, &error),
+        Err(LineFault::NoMemory) => no_memory(&rt),
+    };
+    ExitCode::from(status)
+}

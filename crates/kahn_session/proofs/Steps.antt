@@ -1,0 +1,39 @@
+-- The sum of all bounds of a part, and the events so far.
+use Rattle.std.proofs.Common.{arith, ◌≡◌, ◌∙◌, ℕ, zero, suc, ◌+◌, ◌≤◌, List, [], ◌∷◌, sum_by, refl, sym, ap, subst}
+use Rattle.std.proofs.lemmas.List.Sums.{sum_by-cons}
+use Rattle.std.proofs.Math.Nat.{min-le_left, min-le_right}
+use Rattle.kahn_pool.specs.HeldRuns.{HasResumed, HeldRun, Seen, seen_at, seen_events}
+use Rattle.kahn_session.specs.Pace.{Pace, events_of, most_bound, part_bound}
+
+-- where no process has fewer events, neither have all together
+no_fewer : (xs ys : List Seen) → ((p : ℕ) → (seen_at xs p).events ≤ (seen_at ys p).events) → sum_by seen_events xs ≤ sum_by seen_events ys
+no_fewer [] ys h = omega arith
+no_fewer (x ∷ xs) [] h =
+    let more = sum_by-cons seen_events x xs in
+    let first : x.events ≤ 0 = h 0 in
+    let rest = no_fewer xs [] (λ p. subst (λ (s : Seen). (seen_at xs p).events ≤ s.events) (past p) (h (suc p))) in
+    omega (arith, more, first, rest)
+  where
+    past : (p : ℕ) → seen_at [] (suc p) ≡ seen_at [] p
+    past zero = refl
+    past (suc p) = refl
+no_fewer (x ∷ xs) (y ∷ ys) h =
+    let one = sum_by-cons seen_events x xs in
+    let two = sum_by-cons seen_events y ys in
+    let first : x.events ≤ y.events = h 0 in
+    let rest = no_fewer xs ys (λ p. h (suc p)) in
+    omega (arith, one, two, first, rest)
+
+-- what stays true of a run that was allowed so many events more
+pub after_part : (h k : HeldRun) (step allowed more : ℕ) → allowed ≡ h.bound → h.bound + more ≡ part_bound step h → HasResumed more h k
+    → (allowed + more ≡ k.bound) × (k.bound ≤ most_bound) × (k.bound ≤ events_of k + step)
+after_part h k step allowed more is part resumed =
+    let whole : k.bound ≡ part_bound step h = resumed.bound ∙ part in
+    let events : events_of h ≤ events_of k = no_fewer h.cells k.cells resumed.goes_on.events in
+    let most : k.bound ≤ most_bound = subst (λ n. n ≤ most_bound) (sym whole) (min-le_right (events_of h + step) most_bound) in
+    let few : k.bound ≤ events_of h + step = subst (λ n. n ≤ events_of h + step) (sym whole) (min-le_left (events_of h + step) most_bound) in
+    (ap (λ n. n + more) is ∙ sym resumed.bound, most, omega (arith, few, events))
+
+-- two with the same run and the same step
+pub one_pace : (p q : Pace) → p.run ≡ q.run → p.step ≡ q.step → p ≡ q
+one_pace p q run step = ap (λ (h : HeldRun). record { run = h; step = p.step }) run ∙ ap (λ (n : ℕ). record { run = q.run; step = n }) step

@@ -1,0 +1,141 @@
+-- A session: a run that is fed line by line, and what it has shown of its streams (this project's profile).
+use Rattle.std.specs.Prelude.{◌≡◌, ◌⊎◌, ℕ, ◌<◌, ◌≤◌, Bool, true, false, List, [], map, length, replicate, Option, Some, None, Result, Ok, Err}
+use Rattle.std.specs.Io.KnownBytes.{Appends}
+use Rattle.std.specs.Str.{IsUtf8}
+use Rattle.kahn_config.specs.declared.Config.{Config}
+use Rattle.kahn_tree.specs.declared.tree.Program.{Program}
+use Rattle.kahn_network.specs.Network.{network_of}
+use Rattle.kahn_streams.specs.declared.value.Value.{Value}
+use Rattle.kahn_streams.specs.Entries.{Entry}
+use Rattle.kahn_streams.specs.Feeds.{IsUnwelcome}
+use Rattle.kahn_streams.specs.Tokens.{inputs_of}
+use Rattle.kahn_pool.specs.Exact.{Settles}
+use Rattle.kahn_pool.specs.HeldRuns.{GoesOn, HasFed, HasStarted, HeldRun, IsAnswerOf, IsUnstarted}
+use Rattle.kahn_pool.specs.Right.{line_of, values_of}
+use Rattle.kahn_pool.specs.declared.answer.Answer.{Answer}
+use Rattle.kahn_pool.specs.declared.answer.Verdict.{Verdict}
+use Rattle.kahn_pool.specs.declared.config.RunFault.{RunFault}
+use Rattle.kahn_pool.specs.declared.config.RunFault.TheVariants as fault
+use Rattle.kahn_report.specs.Entries.{IsBlank, IsEntry, HasNoHead, HasNoValues, content, most_bytes}
+use Rattle.kahn_report.specs.News.{joined, news_text}
+use Rattle.kahn_report.specs.Written.{AppendsFront}
+use Rattle.kahn_session.specs.Pace.{part_bound}
+use Rattle.kahn_session.specs.declared.fault.TakeFault.{TakeFault}
+use Rattle.kahn_session.specs.declared.fault.TakeFault.TheVariants.{TooLong, NotUtf8, BadLine, BadValue, Feed, NoMemory, WaitsForMemory, WaitsForThread, Write}
+
+pub record Live : Type 0 where
+  pub run : HeldRun
+  -- the events that a part may take
+  pub step : ℕ
+  -- the values of each stream that went out so far, in the order of the streams; none before the first part
+  pub shown : List (List Value)
+  -- whether that is the answer of the run as it now stands
+  pub settled : Bool
+
+-- the values of each stream of an answer that was shown
+abbrev pub shown_of : Option Answer → List (List Value)
+shown_of None = []
+shown_of (Some a) = map values_of a.streams.items
+
+-- ---- the start
+
+-- a held run over no input, whose parts may take as many events as the configuration's bound; nothing is shown
+pub record HasOpened (t : Program) (config : Config) (s : Live) : Type 0 where
+  pub run : HasStarted t (replicate (length (network_of t).channels) []) config s.run
+  pub step : s.step ≡ config.bound
+  pub shown : s.shown ≡ []
+  pub settled : s.settled ≡ false
+
+abbrev pub IsUnopened : Program → Config → RunFault → Type 0
+IsUnopened t config fault.BadConfig = IsUnstarted t config fault.BadConfig
+IsUnopened t config fault.UnknownWatch = IsUnstarted t config fault.UnknownWatch
+IsUnopened t config fault.NoMemory = Unit {0}
+IsUnopened t config fault.NoThread = ⊥
+IsUnopened t config fault.Stalled = ⊥
+
+-- ---- a line of input
+
+-- the line is within its limit and a text
+abbrev pub IsText : List ℕ → Type 0
+IsText line = (length line ≤ most_bytes) × IsUtf8 line
+
+-- what the line makes of the run before its part: nothing where it is blank, and else its values are fed
+abbrev pub IsFedBy : List ℕ → HeldRun → HeldRun → Type 0
+IsFedBy line old new =
+    IsText line × ((IsBlank (content line) × (new ≡ old)) ⊎ ((entry : Entry) × IsEntry (content line) entry × HasFed entry old new))
+
+-- why the line feeds nothing
+abbrev pub IsUnfedBy : List ℕ → HeldRun → TakeFault → Type 0
+IsUnfedBy line h TooLong = most_bytes < length line
+IsUnfedBy line h NotUtf8 = (length line ≤ most_bytes) × ¬ IsUtf8 line
+IsUnfedBy line h BadLine = IsText line × HasNoHead (content line)
+IsUnfedBy line h BadValue = IsText line × HasNoValues (content line)
+IsUnfedBy line h (Feed f) = IsText line × ((entry : Entry) × IsEntry (content line) entry × IsUnwelcome h.network h.input entry f)
+IsUnfedBy line h NoMemory = IsText line
+IsUnfedBy line h WaitsForMemory = ⊥
+IsUnfedBy line h WaitsForThread = ⊥
+IsUnfedBy line h (Write f) = ⊥
+
+-- the line's values were fed, and the run goes on
+pub record HasGoneOn (line : List ℕ) (old new : Live) : Type 0 where
+  pub fed : (h : HeldRun) × IsFedBy line old.run h × (new.run.input ≡ h.input)
+  pub goes_on : GoesOn old.run new.run
+  pub step : new.step ≡ old.step
+
+-- this is the right answer for the input so far and the bound so far, and what is new on each stream, behind what was shown of
+-- it, is its stream of this answer
+pub record HasAnswered (line : List ℕ) (old new : Live) (a : Answer) (news : List (List Value)) : Type 0 where
+  pub gone_on : HasGoneOn line old new
+  pub bound : new.run.bound ≡ part_bound old.step old.run
+  pub is : IsAnswerOf new.run a
+  pub exact : Settles (network_of new.run.network) (inputs_of new.run.input) new.run.bound a.verdict
+  pub joined : joined old.shown news ≡ map values_of a.streams.items
+
+-- the text of the news
+abbrev pub text_of : Live → Answer → List (List Value) → List ℕ
+text_of s a news = news_text s.run.network (map line_of a.streams.items) news
+
+-- the news went out
+pub record HasTaken (line : List ℕ) (old new : Live) (before after : Option (List ℕ)) (v : Verdict) : Type 0 where
+  pub answer : Answer
+  pub news : List (List Value)
+  pub answered : HasAnswered line old new answer news
+  pub verdict : answer.verdict ≡ v
+  pub shown : new.shown ≡ map values_of answer.streams.items
+  pub settled : new.settled ≡ true
+  pub text : Appends before after (text_of new answer news)
+
+-- a fault of the writer: a prefix of the news went out
+pub record HasBroken (line : List ℕ) (old new : Live) (before after : Option (List ℕ)) : Type 0 where
+  pub answer : Answer
+  pub news : List (List Value)
+  pub answered : HasAnswered line old new answer news
+  pub shown : new.shown ≡ old.shown
+  pub settled : new.settled ≡ false
+  pub text : AppendsFront before after (text_of new answer news)
+
+-- the line's values are fed and its part waits: nothing went out
+pub record IsWaiting (line : List ℕ) (old new : Live) (before after : Option (List ℕ)) : Type 0 where
+  pub gone_on : HasGoneOn line old new
+  pub shown : new.shown ≡ old.shown
+  pub settled : new.settled ≡ false
+  pub text : after ≡ before
+
+-- nothing changed, and why
+pub record IsRefused (line : List ℕ) (old new : Live) (before after : Option (List ℕ)) (f : TakeFault) : Type 0 where
+  pub same : new ≡ old
+  pub text : after ≡ before
+  pub why : IsUnfedBy line old.run f
+
+-- what a line of input made of a session and of the bytes that were written
+abbrev pub IsTaken : List ℕ → Live → Live → Option (List ℕ) → Option (List ℕ) → Result Verdict TakeFault → Type 0
+IsTaken line old new before after (Ok v) = HasTaken line old new before after v
+IsTaken line old new before after (Err TooLong) = IsRefused line old new before after TooLong
+IsTaken line old new before after (Err NotUtf8) = IsRefused line old new before after NotUtf8
+IsTaken line old new before after (Err BadLine) = IsRefused line old new before after BadLine
+IsTaken line old new before after (Err BadValue) = IsRefused line old new before after BadValue
+IsTaken line old new before after (Err (Feed f)) = IsRefused line old new before after (Feed f)
+IsTaken line old new before after (Err NoMemory) = IsRefused line old new before after NoMemory
+IsTaken line old new before after (Err WaitsForMemory) = IsWaiting line old new before after
+IsTaken line old new before after (Err WaitsForThread) = IsWaiting line old new before after × (1 < old.run.workers)
+IsTaken line old new before after (Err (Write f)) = HasBroken line old new before after

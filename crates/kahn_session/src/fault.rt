@@ -1,0 +1,48 @@
+//! Why a line of input isn't taken.
+
+use kahn_report::write::WriteFault;
+use kahn_streams::feeds::FeedFault;
+use thiserror::Error;
+
+/// Why a part of a run gives no verdict.
+#[derive(Clone, Copy, Debug, PartialEq, Eq, Drop, Error)]
+pub(crate) enum PartFault {
+    /// Memory was refused before the first event.
+    #[error("no memory")]
+    NoMemory,
+    /// A thread couldn't be started.
+    #[error("no thread")]
+    NoThread,
+}
+
+/// Why a line of input isn't taken, or its part waits. After each of them the session goes on with the next line.
+#[derive(Clone, Copy, Debug, PartialEq, Eq, Drop, Error)]
+pub enum TakeFault {
+    /// The line has more than 16,777,216 bytes. Nothing changed.
+    #[error("line is too long")]
+    TooLong,
+    /// The line isn't UTF-8. Nothing changed.
+    #[error("not UTF-8")]
+    NotUtf8,
+    /// The line isn't blank and doesn't begin with a name and a colon. Nothing changed.
+    #[error("not a name and a colon")]
+    BadLine,
+    /// A word after the colon is no value. Nothing changed.
+    #[error("not a value")]
+    BadValue,
+    /// The values aren't fed to the channel of the name. Nothing changed.
+    #[error("{0}")]
+    Feed(FeedFault),
+    /// Memory was refused while the line was read. Nothing changed.
+    #[error("no memory")]
+    NoMemory,
+    /// The values are fed, and memory was refused for the part or for its answer. A blank line tries again.
+    #[error("waits for memory")]
+    WaitsForMemory,
+    /// The values are fed, and a thread couldn't be started. A blank line tries again.
+    #[error("waits for a thread")]
+    WaitsForThread,
+    /// The part was run, and what is new couldn't be written whole. A prefix of it was.
+    #[error("news could not be written")]
+    Write(WriteFault),
+}
