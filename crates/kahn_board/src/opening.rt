@@ -13,7 +13,7 @@ use crate::rule::{Terms, Told};
 use crate::wiring::Wiring;
 use atomic_table::{Refused, Table};
 use kahn_network::network::Network;
-use kahn_streams::memory::NoMemory;
+use kahn_tree::memory::NoMemory;
 use std::alloc::{AllocError, Global};
 use std::collections::VecDeque;
 use std::snapshot::Snapshot;

@@ -4,7 +4,7 @@ ghost use Rattle.std.specs.Prelude.{◌≡◌, ◌≤◌, ◌<◌, ℕ, IfOk, le
 ghost use Rattle.kahn_board.specs.Wires.{wires};
 
 use kahn_network::network::Network;
-use kahn_streams::memory::NoMemory;
+use kahn_tree::memory::NoMemory;
 use std::alloc::Global;
 
 /// How many instances and channels a network has, and who reads each channel.

@@ -6,7 +6,7 @@ ghost use Rattle.kahn_desk.specs.Turn.{IsIdle};
 ghost use Rattle.kahn_desk.specs.Crew.{parts_of, done_of};
 
 use kahn_board::{Board, Seat, Told};
-use kahn_streams::memory::NoMemory;
+use kahn_tree::memory::NoMemory;
 use std::alloc::Global;
 
 /// So many seats from one. `NoMemory` comes with the one seat.

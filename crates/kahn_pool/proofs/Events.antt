@@ -6,7 +6,7 @@ use Rattle.kahn_streams.specs.Script.{Tapes, Script, Give, Fail, Waits, Sends, T
 use Rattle.kahn_streams.specs.Steps.{Step, empty, taken, since, and_then, halted, RanBy}
 use Rattle.kahn_streams.specs.Meaning.{Store}
 use Rattle.kahn_network.specs.Network.{Network, Instance, instance_at}
-use Rattle.kahn_streams.specs.Solution.{Histories, tapes_of, exec_at}
+use Rattle.kahn_streams.specs.Solution.{Histories, opening, tapes_of, exec_at}
 use Rattle.kahn_streams.specs.Laws.{AreSame, KeepsTape, IsExtended}
 use Rattle.kahn_streams.proofs.Frame.{and_more}
 use Rattle.kahn_streams.proofs.Runs.{play_on, play_taken, ran, cut_is_full}
@@ -117,7 +117,7 @@ module _ (N : Network) (p e : ℕ) (T A : Histories) (x : IsExtended T A) (does 
   ran_at = ran e s (tapes_of (instance_at N p) T)
 
   same_play : play e s (tapes_of (instance_at N p) T) ≡ exec_at N e p T
-  same_play = unrolled N e (suc e) p T (omega arith)
+  same_play = unrolled (instance_at N p).body e (suc e) (opening (instance_at N p)) (tapes_of (instance_at N p) T) (omega arith)
 
   long : length ran_at.steps ≡ e
   long = sym ran_at.events ∙ (ap (λ r. r.events) same_play ∙ does)

@@ -2,8 +2,7 @@
 
 ghost use Rattle.std.specs.Prelude.{IfOk, MatchResult};
 ghost use Rattle.kahn_network.specs.Network.{network_of};
-ghost use Rattle.kahn_streams.specs.Kinded.{FitsKinds};
-ghost use Rattle.kahn_streams.specs.Tokens.{inputs_of};
+ghost use Rattle.kahn_streams.specs.Kinded.{IsInputFor};
 ghost use Rattle.kahn_report.specs.Inputs.{IsTextFault, StandsFor};
 
 use crate::entries::{EntriesFault, read_entries};
@@ -70,7 +69,7 @@ impl From<InputFault> for TextFault {
 #[tactic(auto, using(crate::proofs::Told::entries_told, crate::proofs::Told::input_told))]
 pub fn read_input(alloc: Global, text: &str, network: &Network) -> Result<Input, TextFault>
     ensures read { MatchResult result (StandsFor network.now text.now) (IsTextFault network.now text.now) }
-    ensures kinds { IfOk result (λ i. FitsKinds (network_of network.now) (inputs_of i)) }
+    ensures fits { IfOk result (IsInputFor (network_of network.now)) }
 {
     let entries = read_entries(alloc, text)?;
     Ok(Input::new(alloc, network, entries)?)

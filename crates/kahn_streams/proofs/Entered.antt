@@ -5,11 +5,12 @@ use Rattle.std.proofs.lemmas.List.{length-map, length-replicate, take-append-le,
 use Rattle.std.proofs.lemmas.Option.{slice_get_read, slice_get-map}
 use Rattle.std.specs.Option.{option_map}
 use Rattle.kahn_tree.specs.declared.tree.Program.{Program}
+use Rattle.kahn_tree.specs.declared.tree.Role.TheVariants.{Input}
 use Rattle.kahn_tree.specs.View.{Scope, place_of}
-use Rattle.kahn_network.specs.Network.{network_of, kind_at, channels_of}
+use Rattle.kahn_network.specs.Network.{network_of, kind_at, role_at, channels_of}
 use Rattle.kahn_network.specs.Sides.{channel_names}
 use Rattle.kahn_streams.specs.declared.entries.InputFault.{InputFault}
-use Rattle.kahn_streams.specs.Kinded.{AreOfKind, FitsKinds}
+use Rattle.kahn_streams.specs.Kinded.{AreOfKind, IsInputFor}
 use Rattle.kahn_streams.specs.Tokens.{Lists, inputs_of}
 use Rattle.kahn_streams.specs.Entries.{Entry, channel_of, is_given, list_for, IsFit, IsRefused, AreFit, IsFirstRefused, IsMadeOf}
 
@@ -189,10 +190,23 @@ list_kinded t (x ∷ es) h c = by (channel_of t x == c) refl (list_kinded t es (
     by true e rest = subst (λ d. AreOfKind (kind_at (network_of t) d) x.1) (eqb-true (channel_of t x) c e) (h zero x refl)
     by false e rest = rest
 
--- the lists of fit entries have the kinds of their channels
-pub kinds_fit : (t : Program) (es : List Entry) (lists : Lists) → IsMadeOf t es lists → FitsKinds (network_of t) (inputs_of lists)
-kinds_fit t es lists made c =
-    subst (AreOfKind (kind_at (network_of t) c)) (sym (made.lists c)) (list_kinded t es (λ k e at. (made.fit k e at).kinded) c)
+-- no entry names a channel that isn't an input channel
+list_bare : (t : Program) (es : List Entry) → ((k : ℕ) (e : Entry) → slice_get es k ≡ Some e → role_at (network_of t) (channel_of t e) ≡ Input)
+    → (c : ℕ) → role_at (network_of t) c ≢ Input → list_for t es c ≡ []
+list_bare t [] h c n = refl
+list_bare t (x ∷ es) h c n =
+    ap (λ b. if b then x.1 else list_for t es c) (not_same (channel_of t x) c (channel_of t x == c) refl (λ e. n (subst (λ d. role_at (network_of t) d ≡ Input) e (h zero x refl))))
+    ∙ list_bare t es (λ k. h (suc k)) c n
+
+-- the lists of fit entries fit the network
+pub made_fits : (t : Program) (es : List Entry) (lists : Lists) → IsMadeOf t es lists → IsInputFor (network_of t) lists
+made_fits t es lists made = record {
+  count = made.count;
+  lists_fit = λ c. record {
+    kinded = λ is. subst (AreOfKind (kind_at (network_of t) c)) (sym (made.lists c)) (list_kinded t es (λ k e at. (made.fit k e at).kinded) c);
+    bare = λ n. made.lists c ∙ list_bare t es (λ k e at. (made.fit k e at).input) c n;
+  };
+}
 
 -- ---- the entries, one after another
 

@@ -1,15 +1,16 @@
 -- Values that are fed: what they leave, and tokens of the input before.
 use Rattle.std.proofs.Common.{arith, ◌≡◌, ◌≢◌, inl, inr, ℕ, ◌<◌, ◌≤◌, ◌==◌, Bool, true, false, List, [], ◌∷◌, ◌++◌, length, map, set, get_or, refl, sym, ap, ◌∙◌, subst, eq-eqb, eqb-true, append-nil, length-set, get_or-set_same, get_or-set_other, if◌then◌else◌}
 use Rattle.std.proofs.Math.Logic.{∥∥₁_elim, ∥∥₁_prop}
-use Rattle.std.proofs.lemmas.List.{get_or-map, length-map, map-set, set-get_or}
+use Rattle.std.proofs.lemmas.List.{get_or-map, get_or_past, length-map, map-set, set-get_or}
 use Rattle.kahn_tree.specs.declared.tree.Kind.{Kind}
+use Rattle.kahn_tree.specs.declared.tree.Role.TheVariants.{Input}
 use Rattle.kahn_tree.specs.declared.tree.Program.{Program}
-use Rattle.kahn_network.specs.Network.{network_of, kind_at}
+use Rattle.kahn_network.specs.Network.{Network, network_of, kind_at, role_at}
 use Rattle.kahn_streams.specs.declared.value.Value.{Value}
 use Rattle.kahn_streams.specs.declared.value.Line.{Line}
 use Rattle.kahn_streams.specs.Entries.{Entry, channel_of, most_values}
 use Rattle.kahn_streams.specs.Feeds.{IsMeant, IsFed, fed_to, total}
-use Rattle.kahn_streams.specs.Kinded.{AreOfKind, FitsKinds}
+use Rattle.kahn_streams.specs.Kinded.{AreOfKind, IsListFor, IsInputFor}
 use Rattle.kahn_streams.specs.Laws.{AreInputsExtended}
 use Rattle.kahn_streams.specs.Solution.{Stands}
 use Rattle.kahn_streams.specs.Tokens.{Lists, inputs_of, Holds}
@@ -70,11 +71,27 @@ fed_kinded t e h c = by (channel_of t e == c) refl
     by true i = subst (λ d. AreOfKind (kind_at (network_of t) d) e.1) (eqb-true (channel_of t e) c i) h.kinded
     by false i = tt
 
-pub fed_kinds : (t : Program) (before : Lists) (e : Entry) (after : Lists) → IsFed t before e after
-    → FitsKinds (network_of t) (inputs_of before) → FitsKinds (network_of t) (inputs_of after)
-fed_kinds t before e after h fits c =
-    subst (AreOfKind (kind_at (network_of t) c)) (sym (h.lists c))
-    (kinds_append (kind_at (network_of t) c) (inputs_of before c) (fed_to t e c) (fits c) (fed_kinded t e h.meant c))
+-- what isn't fed to an input channel is nothing
+fed_bare : (t : Program) (e : Entry) → IsMeant t e → (c : ℕ) → role_at (network_of t) c ≢ Input → fed_to t e c ≡ []
+fed_bare t e h c n = fed_other t e c (λ i. n (subst (λ d. role_at (network_of t) d ≡ Input) i h.input))
+
+-- lists that fit still fit
+pub fed_fits : (t : Program) (before : Lists) (e : Entry) (after : Lists) → IsFed t before e after → IsInputFor (network_of t) before → IsInputFor (network_of t) after
+fed_fits t before e after h fits = record {
+  count = h.count ∙ fits.count;
+  lists_fit = λ c. record {
+    kinded = λ is. subst (AreOfKind (kind_at (network_of t) c)) (sym (h.lists c))
+        (kinds_append (kind_at (network_of t) c) (inputs_of before c) (fed_to t e c) ((fits.lists_fit c).kinded is) (fed_kinded t e h.meant c));
+    bare = λ n. h.lists c ∙ ap (λ l. l ++ fed_to t e c) ((fits.lists_fit c).bare n) ∙ fed_bare t e h.meant c n;
+  };
+}
+
+-- ---- whether lists fit
+
+pub past_all : (N : Network) (lists : Lists) (c : ℕ) → length lists ≤ c → IsListFor N c (inputs_of lists c)
+past_all N lists c past =
+    let none : inputs_of lists c ≡ [] = get_or_past lists c [] past in
+    record { kinded = λ is. subst (AreOfKind (kind_at N c)) (sym none) tt; bare = λ n. none }
 
 -- ---- tokens
 

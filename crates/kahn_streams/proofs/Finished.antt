@@ -5,12 +5,12 @@ use Rattle.std.proofs.Math.Nat.{le-max_left, le-max_right}
 use Rattle.kahn_streams.specs.declared.value.Value.{Value}
 use Rattle.kahn_streams.specs.declared.value.Line.{Line}
 use Rattle.kahn_streams.specs.declared.value.Line.TheVariants.{Channel, Print}
-use Rattle.kahn_tree.specs.Syntax.{Number}
+use Rattle.kahn_tree.specs.Syntax.{Number, Stmt}
 use Rattle.kahn_streams.specs.Script.{Tapes, Script, Give, Fail, Waits, Sends, Turns, Rest, Outcome, Got, Dry, Fault, Cut, Reached, after_event, after_send, put, wait_at, play}
-use Rattle.kahn_network.specs.Network.{Network, Hands, instance_at, Source, Given, Written, Nobody}
-use Rattle.kahn_streams.specs.Solution.{IsWhole, Histories, Inputs, tapes_of, exec_at, out, values_at, goes_to, source, fed, input_list, iterate, IsPrefix, HasEnd, Ending, ending}
+use Rattle.kahn_network.specs.Network.{Network, Instance, Hands, instance_at, Source, Given, Written, Nobody}
+use Rattle.kahn_streams.specs.Solution.{IsWhole, Histories, Inputs, tapes_of, exec_at, out, values_at, goes_to, source, fed, input_list, iterate, IsPrefix, HasEnd, HasSizes, none_left, one_more, Ending, ending}
 use Rattle.kahn_streams.specs.Laws.{IsSolution, IsExtended, InputsGrow, AreInputsExtended, SendsStand, IsQuiet, IsSettled, IsCounted, IsUnrolled, IsDetermined}
-use Rattle.kahn_streams.proofs.Fuel.{play_alike}
+use Rattle.kahn_streams.proofs.Fuel.{gives, play_alike, script_alike}
 use Rattle.kahn_streams.proofs.Runs.{cut_is_full}
 use Rattle.kahn_streams.proofs.Proved.{prefix_refl, prefix_trans, prefix_get, Feeds, feeds, script_at, exec_alike, out_grows, chain, least, solves, iterates_rise, fits_all}
 
@@ -171,8 +171,8 @@ counted N n p H =
       full = cut_is_full (exec_alike N n n p (le_refl n)) (tapes_of (instance_at N p) H);
     }
 
-pub unrolled : (N : Network) → IsUnrolled N
-unrolled N n k p H le = sym (play_alike (exec_alike N n k p le) (tapes_of (instance_at N p) H))
+pub unrolled : (b : Stmt) → IsUnrolled b
+unrolled b n k s T le = play_alike (script_alike n k n b le (le_refl n) s Give Give (λ r. gives)) T
 
 -- ---- one whole, one end
 
@@ -185,13 +185,22 @@ one_whole N I c L M h g =
 same_ending : {o x : Ending} → Some o ≡ Some x → o ≡ x
 same_ending e = cc
 
+one_end : (N : Network) (I : Inputs) (p e f : ℕ) (o x : Ending) → HasEnd N I p o e → HasEnd N I p x f → (o ≡ x) × (e ≡ f)
+one_end N I p e f o x h g =
+    let n = max h.0 g.0 in
+    let a = h.1 n (le-max_left h.0 g.0) in
+    let b = g.1 n (le-max_right h.0 g.0) in
+    (same_ending (sym a.0 ∙ b.0), sym a.1 ∙ b.1)
+
+one_size : (N : Network) (I : Inputs) (p : ℕ) (is : List Instance) (a b : ℕ) → HasSizes N I p is a → HasSizes N I p is b → a ≡ b
+one_size N I p [] _ _ none_left none_left = refl
+one_size N I p (i ∷ is) _ _ (one_more {o = o} {e = e} {total = total} h hs) (one_more {o = x} {e = f} {total = sum} g gs) =
+    omega (arith, (one_end N I p e f o x h g).1, one_size N I (suc p) is total sum hs gs)
+
 pub determined : (N : Network) (I : Inputs) → IsDetermined N I
 determined N I =
     record {
       one_whole = one_whole N I;
-      one_end = λ p e f o x h g.
-          let n = max h.0 g.0 in
-          let a = h.1 n (le-max_left h.0 g.0) in
-          let b = g.1 n (le-max_right h.0 g.0) in
-          (same_ending (sym a.0 ∙ b.0), sym a.1 ∙ b.1);
+      one_end = one_end N I;
+      one_size = one_size N I 0 N.instances;
     }

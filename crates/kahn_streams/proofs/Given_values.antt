@@ -1,11 +1,13 @@
 -- What is given to the input channels stands.
-use Rattle.std.proofs.Common.{◌≡◌, ℕ, Some, ap, ◌∙◌, slice_get, List, []}
+use Rattle.std.proofs.Common.{◌≡◌, ◌≤◌, ℕ, Some, ap, sym, ◌∙◌, slice_get, length, List, []}
+use Rattle.std.proofs.lemmas.List.{get_or_past}
+use Rattle.kahn_tree.specs.declared.tree.Kind.TheVariants as KindOf
 use Rattle.kahn_tree.specs.declared.tree.Program.{Program}
-use Rattle.kahn_tree.specs.declared.tree.Role.TheVariants.{Input}
-use Rattle.kahn_network.specs.Network.{network_of, role_at, source_by, first_writer, Source, Given}
+use Rattle.kahn_tree.specs.declared.tree.Role.TheVariants.{Inner, Input}
+use Rattle.kahn_network.specs.Network.{Network, network_of, role_at, source_by, first_writer, Given}
 use Rattle.kahn_streams.specs.declared.value.Value.{Value}
 use Rattle.kahn_streams.specs.declared.value.Line.TheVariants.{Channel}
-use Rattle.kahn_streams.specs.Solution.{fed, iterate, Stands}
+use Rattle.kahn_streams.specs.Solution.{fed, iterate}
 use Rattle.kahn_streams.specs.Tokens.{Lists, inputs_of, Holds}
 
 pub stands_given : (t : Program) (lists : Lists) (c k : ℕ) (v : Value) → role_at (network_of t) c ≡ Input →
@@ -15,3 +17,12 @@ stands_given t lists c k v is at =
     let given : source_by (role_at N c) (first_writer N.instances 0 c) ≡ Given = ap (λ r. source_by r (first_writer N.instances 0 c)) is in
     let here : iterate N (inputs_of lists) 0 (Channel c) ≡ inputs_of lists c = ap (λ s. fed s (inputs_of lists) (λ p. []) (Channel c)) given in
     ∣ (0, ap (λ (l : List Value). slice_get l k) here ∙ at) ∣₁
+
+-- past the last channel there is no input channel
+pub no_channel : {A : Type 0} (N : Network) (c : ℕ) → length N.channels ≤ c → role_at N c ≡ Input → A
+no_channel N c past is =
+    let inner : role_at N c ≡ Inner = ap (λ r. r.1) (get_or_past N.channels c (KindOf.Integer, Inner) past) in
+    absurd (apart (sym inner ∙ is))
+  where
+    apart : Inner ≡ Input → ⊥
+    apart e = cc

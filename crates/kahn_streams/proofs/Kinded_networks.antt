@@ -1,12 +1,12 @@
 -- The instances of a well wired program keep kinds, and so do the iterates.
-use Rattle.std.proofs.Common.{◌≡◌, ℕ, zero, suc, pos, Bool, true, false, cond, List, [], ◌∷◌, ◌++◌, map, Some, refl, sym, ap, ◌∙◌, subst, eqb-true, bytes_eq, slice_get, slice_index_or, if◌then◌else◌}
+use Rattle.std.proofs.Common.{◌≡◌, ◌≢◌, ℕ, zero, suc, pos, Bool, true, false, cond, List, [], ◌∷◌, ◌++◌, map, Some, refl, sym, ap, ◌∙◌, subst, eqb-true, bytes_eq, slice_get, slice_index_or, if◌then◌else◌}
 use Rattle.std.specs.List.{AllByRecursion}
 use Rattle.std.specs.Map.{lookup}
 use Rattle.kahn_tree.specs.declared.tree.Name.{Name}
 use Rattle.kahn_tree.specs.declared.tree.Kind.{Kind}
 use Rattle.kahn_tree.specs.declared.tree.Kind.TheVariants as K
 use Rattle.kahn_tree.specs.declared.tree.Role.{Role}
-use Rattle.kahn_tree.specs.declared.tree.Role.TheVariants.{Inner}
+use Rattle.kahn_tree.specs.declared.tree.Role.TheVariants.{Inner, Input, Output}
 use Rattle.kahn_tree.specs.declared.tree.Direction.{Direction}
 use Rattle.kahn_tree.specs.declared.tree.Direction.TheVariants.{In, Out}
 use Rattle.kahn_tree.specs.declared.tree.Taking.{Taking}
@@ -24,13 +24,14 @@ use Rattle.kahn_tree.specs.Syntax.{Number}
 use Rattle.kahn_tree.specs.View.{Scope, place_of, number_of, bytes_of, names_of, body_of}
 use Rattle.kahn_network.specs.Kinds.{Agrees}
 use Rattle.kahn_network.specs.Wiring.{entries, Global, IsChannel, IsProcess, declared_of, processes_of, global, Fits, AllFit, IsMade, IsSound, IsWellWired}
-use Rattle.kahn_network.specs.Network.{Hands, Instance, Network, idle, instance_at, actual_at, kind_at, is_written, Source, Given, Written, Nobody, channels_of, process_of, actual_of, actuals_of, instance_from, network_of}
+use Rattle.kahn_network.specs.Network.{Hands, Instance, Network, idle, instance_at, actual_at, kind_at, role_at, is_written, any_written, first_writer, source_by, Source, Given, Written, Nobody, channels_of, process_of, actual_of, actuals_of, instance_from, network_of}
 use Rattle.kahn_streams.specs.declared.value.Value.{Value}
 use Rattle.kahn_streams.specs.declared.value.Line.TheVariants.{Channel}
 use Rattle.kahn_streams.specs.Script.{Port, Parameter, Printer, Give}
 use Rattle.kahn_streams.specs.Meaning.{Store, script_of}
-use Rattle.kahn_streams.specs.Solution.{Histories, Inputs, opening_of, default_of, opening, tape_of, tapes_of, exec_at, goes_to, values_at, out, source, fed, iterate}
-use Rattle.kahn_streams.specs.Kinded.{kind_of_value, AreOfKind, FitsKinds}
+use Rattle.kahn_streams.specs.Solution.{Histories, opening_of, default_of, opening, tape_of, tapes_of, exec_at, goes_to, values_at, out, source, fed, iterate}
+use Rattle.kahn_streams.specs.Kinded.{kind_of_value, AreOfKind, AreKinded, IsListFor, IsInputFor}
+use Rattle.kahn_streams.specs.Tokens.{Lists, inputs_of}
 use Rattle.kahn_streams.proofs.Kinded.{HoldsKind, IsStored, IsTaken, IsSent, IsKept, AreTapesKept, script_kept, play_kept}
 
 all_from : {X : Type 0} (P Q : X → Type 0) → ((x : X) → P x → Q x) → (xs : List X) → AllByRecursion P xs → AllByRecursion Q xs
@@ -168,9 +169,6 @@ opening_kept t cs (p ∷ ps) vs (x ∷ xs) h = (actual_kept t cs p.taking x h.0,
 -- ---- its tapes
 
 -- each channel's history has the channel's kind
-abbrev AreKinded : Network → Histories → Type 0
-AreKinded N H = (c : ℕ) → AreOfKind (kind_at N c) (H (Channel c))
-
 tape_kept : (t : Program) (H : Histories) (w : Taking) (x : Argument) → AreKinded (network_of t) H → Fits t w x →
     AllByRecursion (λ v. Some w ≡ Some (T.Channel In (kind_of_value v))) (tape_of H (actual_of (channel_names t) w x))
 tape_kept t H (T.Channel In k) (A.Channel n) g h =
@@ -284,18 +282,34 @@ out_kept N n p H c keeps g =
 
 -- ---- the iterates
 
-fed_kept : (N : Network) (I : Inputs) (f : ℕ → List Value) (c : ℕ) (src : Source) → FitsKinds N I → ((p : ℕ) → AreOfKind (kind_at N c) (f p)) →
-    AreOfKind (kind_at N c) (fed src I f (Channel c))
-fed_kept N I f c Given h g = h c
-fed_kept N I f c (Written p) h g = g p
-fed_kept N I f c Nobody h g = tt
+-- what is given to a channel from outside has its kind
+given_kept : (N : Network) (lists : Lists) (c : ℕ) (r : Role) (src : Source) → source_by r src ≡ Given → role_at N c ≡ r → IsListFor N c (inputs_of lists c) →
+    src ≢ Given → AreOfKind (kind_at N c) (inputs_of lists c)
+given_kept N lists c Inner src e is h never = absurd (never e)
+given_kept N lists c Input src e is h never = h.kinded is
+given_kept N lists c Output src e is h never = absurd (never e)
 
-iterates_kept : (N : Network) (I : Inputs) → ((p : ℕ) → KeepsKinds N (instance_at N p)) → FitsKinds N I → (n : ℕ) → AreKinded N (iterate N I n)
-iterates_kept N I keeps h zero c = fed_kept N I _ c (source N (Channel c)) h (λ p. tt)
-iterates_kept N I keeps h (suc n) c =
-    fed_kept N I _ c (source N (Channel c)) h (λ p. out_kept N n p (iterate N I n) c (keeps p) (λ d. iterates_kept N I keeps h n d))
+never_given : (is : List Instance) (p c : ℕ) → first_writer is p c ≢ Given
+never_given [] p c e = cc
+never_given (i ∷ is) p c e = by (any_written i.actuals c) (never_given is (suc p) c) e
+  where
+    by : (b : Bool) → first_writer is (suc p) c ≢ Given → (if b then Written p else first_writer is (suc p) c) ≡ Given → ⊥
+    by true h f = cc
+    by false h f = h f
+
+fed_kept : (N : Network) (lists : Lists) (f : ℕ → List Value) (c : ℕ) (src : Source) → (source N (Channel c) ≡ src) → IsInputFor N lists →
+    ((p : ℕ) → AreOfKind (kind_at N c) (f p)) → AreOfKind (kind_at N c) (fed src (inputs_of lists) f (Channel c))
+fed_kept N lists f c Given e h g =
+    given_kept N lists c (role_at N c) (first_writer N.instances 0 c) e refl (h.lists_fit c) (never_given N.instances 0 c)
+fed_kept N lists f c (Written p) e h g = g p
+fed_kept N lists f c Nobody e h g = tt
+
+iterates_kept : (N : Network) (lists : Lists) → ((p : ℕ) → KeepsKinds N (instance_at N p)) → IsInputFor N lists → (n : ℕ) → AreKinded N (iterate N (inputs_of lists) n)
+iterates_kept N lists keeps h zero c = fed_kept N lists _ c (source N (Channel c)) refl h (λ p. tt)
+iterates_kept N lists keeps h (suc n) c =
+    fed_kept N lists _ c (source N (Channel c)) refl h (λ p. out_kept N n p (iterate N (inputs_of lists) n) c (keeps p) (λ d. iterates_kept N lists keeps h n d))
 
 -- every value of an iterate on a channel has the channel's kind
-pub kinds : (t : Program) (I : Inputs) → IsWellWired t → FitsKinds (network_of t) I → (n c : ℕ) →
-    AreOfKind (kind_at (network_of t) c) (iterate (network_of t) I n (Channel c))
-kinds t I wired h n c = iterates_kept (network_of t) I (instances_keep t wired) h n c
+pub kinds : (t : Program) (lists : Lists) → IsWellWired t → IsInputFor (network_of t) lists → (n : ℕ) →
+    AreKinded (network_of t) (iterate (network_of t) (inputs_of lists) n)
+kinds t lists wired h n = iterates_kept (network_of t) lists (instances_keep t wired) h n

@@ -3,7 +3,7 @@ use Rattle.std.specs.Prelude.{◌≡◌, ℕ, ◌+◌, ◌-◌, ◌++◌, suc}
 use Rattle.kahn_streams.specs.declared.value.Value.{Value}
 use Rattle.kahn_tree.specs.Syntax.{Expr, Stmt, While, If, Seq, Skip, Repeat}
 use Rattle.kahn_streams.specs.Script.{Tapes, Script, Give, Outcome, Got, Dry, Fault, Cut, Reached, play, at_once, after_event}
-use Rattle.kahn_streams.specs.Meaning.{Store, value_of, script_of, exec}
+use Rattle.kahn_streams.specs.Meaning.{Store, value_of, script_of, eval, exec}
 
 -- what was reached, and from there what is reached by f on the tapes and the events that are left
 abbrev pub added : {A B : Type 0} → Reached A → Reached B → Reached B
@@ -26,7 +26,7 @@ and_so n r f = go_on n r.outcome r f
 abbrev pub ExpressionsCompose : Type 0 → Type 0
 ExpressionsCompose B =
     (n : ℕ) (e : Expr) (s : Store) (next : Value → Script B) (T : Tapes) →
-    play n (value_of e s next) T ≡ and_so n (play n (value_of e s Give) T) next
+    play n (value_of e s next) T ≡ and_so n (eval n e s T) next
 
 -- a statement first, and then what goes on with its variables
 abbrev pub StatementsCompose : Type 0 → Type 0

@@ -2,10 +2,11 @@
 use Rattle.std.specs.Prelude.{◌≡◌, ◌≤◌, ℕ, suc, max, List, ◌++◌, slice_get, Some}
 use Rattle.kahn_streams.specs.declared.value.Value.{Value}
 use Rattle.kahn_streams.specs.declared.value.Line.{Line}
-use Rattle.kahn_streams.specs.Script.{Give, play, Port, Outcome, Got, Dry, Fault, Cut, Reached}
-use Rattle.kahn_streams.specs.Meaning.{script_of}
+use Rattle.kahn_streams.specs.Script.{Give, Tapes, play, Port, Outcome, Got, Dry, Fault, Cut, Reached}
+use Rattle.kahn_streams.specs.Meaning.{Store, script_of, exec}
+use Rattle.kahn_tree.specs.Syntax.{Stmt}
 use Rattle.kahn_network.specs.Network.{Network, Instance, instance_at, Given, Written}
-use Rattle.kahn_streams.specs.Solution.{opening, Histories, Inputs, tapes_of, exec_at, out, source, input_list, iterate, IsPrefix, Stands, IsWhole, HasEnd, Ending, ending}
+use Rattle.kahn_streams.specs.Solution.{Histories, Inputs, tapes_of, exec_at, out, source, input_list, iterate, IsPrefix, Stands, IsWhole, HasEnd, HasSize, Ending, ending}
 
 -- each iterate is a prefix of the next
 abbrev pub IsChain : Network → Inputs → Type 0
@@ -88,12 +89,11 @@ pub record IsCounted (N : Network) (n p : ℕ) (H : Histories) : Type 0 where
   pub full : (exec_at N n p H).outcome ≡ Cut → (exec_at N n p H).events ≡ n
 
 -- unrolling loops further than to n turns makes no difference to n events
-abbrev pub IsUnrolled : Network → Type 0
-IsUnrolled N =
-    (n k p : ℕ) (H : Histories) → n ≤ k →
-    play n (script_of k (instance_at N p).body (opening (instance_at N p)) Give) (tapes_of (instance_at N p) H) ≡ exec_at N n p H
+abbrev pub IsUnrolled : Stmt → Type 0
+IsUnrolled b = (n k : ℕ) (s : Store) (T : Tapes) → n ≤ k → play n (script_of k b s Give) T ≡ exec n b s T
 
--- the whole of a line is one list, and an end is one end
+-- the whole of a line is one list, an end is one end, and the size is one number
 pub record IsDetermined (N : Network) (I : Inputs) : Type 0 where
   pub one_whole : (c : Line) (L M : List Value) → IsWhole N I c L → IsWhole N I c M → L ≡ M
   pub one_end : (p e f : ℕ) (o x : Ending) → HasEnd N I p o e → HasEnd N I p x f → (o ≡ x) × (e ≡ f)
+  pub one_size : (a b : ℕ) → HasSize N I a → HasSize N I b → a ≡ b

@@ -4,13 +4,13 @@ ghost use Rattle.std.specs.Prelude.{◌≡◌, ◌+◌, ◌++◌, ◌<◌, ◌�
 ghost use Rattle.kahn_streams.specs.Entries.{entry_of, most_values, IsMadeOf, IsFirstRefused};
 ghost use Rattle.kahn_streams.specs.Feeds.{IsFed, IsUnwelcome};
 ghost use Rattle.kahn_streams.specs.Laws.{AreInputsExtended};
-ghost use Rattle.kahn_streams.specs.Kinded.{FitsKinds};
+ghost use Rattle.kahn_streams.specs.Kinded.{IsListFor, IsInputFor};
 ghost use Rattle.kahn_streams.specs.Tokens.{inputs_of};
 ghost use Rattle.kahn_streams.specs.declared.value.Line.TheVariants.{Channel};
 ghost use Rattle.kahn_network.specs.Network.{network_of, role_at};
 ghost use Rattle.kahn_tree.specs.declared.tree.Role.TheVariants.{Input as InputRole};
 
-use crate::entries::{InputFault, MOST_VALUES, channel_for};
+use crate::entries::{InputFault, MOST_VALUES, are_of_kind, channel_for};
 use crate::feeds::{FeedFault, channel_meant};
 use crate::memory::NoMemory;
 use crate::token::Token;
@@ -62,7 +62,7 @@ impl Input {
     ) -> Result<Input, InputFault>
         ensures made { MatchResult result (IsMadeOf network.now (map entry_of entries.items))
             (λ fault. (fault ≡ InputFault.NoMemory) ⊎ IsFirstRefused network.now (map entry_of entries.items) fault) }
-        ensures kinds { IfOk result (λ i. FitsKinds (network_of network.now) (inputs_of i)) }
+        ensures fits { IfOk result (IsInputFor (network_of network.now)) }
     {
         let mut input = Input::none(alloc, network)?;
         let mut given = vec![in alloc; false; network.channels()]?;
@@ -97,7 +97,7 @@ impl Input {
         requires { length self.old ≡ length (network_of network.now).channels }
         ensures fed { MatchResult result (λ _. IsFed network.now self.old (channel.now, values.items) self.new)
             (λ fault. (self.new ≡ self.old) × IsUnwelcome network.now self.old (channel.now, values.items) fault) }
-        ensures kinds { FitsKinds (network_of network.now) (inputs_of self.old) → FitsKinds (network_of network.now) (inputs_of self.new) }
+        ensures fits { IsInputFor (network_of network.now) self.old → IsInputFor (network_of network.now) self.new }
         ensures grown { AreInputsExtended (inputs_of self.old) (inputs_of self.new) }
         ensures size { length self.new ≡ length self.old }
     {
@@ -140,24 +140,32 @@ impl Input {
         token.moved(self)
     }
 
-    /// Whether the input was made for a network with as many channels. It takes no memory.
+    /// Whether the input was made for a network with channels of these roles and kinds: it has a list for each channel, an
+    /// input channel's of the channel's kind, and no value for any other. It takes no memory.
     pub fn fits(&self, network: &Network) -> bool
-        ensures { IsTrue result ↔ (length self.now ≡ length (network_of network.now).channels) }
+        ensures { IsTrue result ↔ IsInputFor (network_of network.now) self.now }
     {
-        self.lists.len() == network.channels()
+        if self.lists.len() != network.channels() {
+            return false;
+        }
+        for channel in 0..network.channels() {
+            if !is_list_for(network, channel, self.list(channel)) {
+                return false;
+            }
+        }
+        true
     }
 
-    /// The token at a place of the list of a channel. None past the list, and off the input channels. It takes no
-    /// memory.
-    #[tactic(auto, using(crate::proofs::Given_values::stands_given))]
+    /// The token at a place of the list of a channel. None past the list, and off the input channels, also where there is no
+    /// channel of that number. It takes no memory.
+    #[tactic(auto, using(crate::proofs::Given_values::stands_given, crate::proofs::Given_values::no_channel))]
     pub fn token(&self, network: &Network, channel: usize, place: u64) -> Option<Token>
-        requires { channel < length (network_of network.now).channels }
         ensures token { IfSome result (λ t. (t.line ≡ Channel channel) × (t.place ≡ place) × (slice_get (inputs_of self.now channel) place ≡ Some t.value)) }
         ensures names { IfSome result (λ t. (t.network.value ≡ network.now) × (t.input.value ≡ self.now)) }
         ensures given { IfSome result (λ _. role_at (network_of network.now) channel ≡ InputRole) }
         ensures none { IfNone result (role_at (network_of network.now) channel ≡ InputRole → length (inputs_of self.now channel) ≤ place) }
     {
-        if network.channel(channel).role != Role::Input {
+        if channel >= network.channels() || network.channel(channel).role != Role::Input {
             return None;
         }
         let value = value_at(self.list(channel), place)?;
@@ -181,6 +189,18 @@ impl Input {
             Some(list) => list.as_slice(),
             None => &[],
         }
+    }
+}
+
+// Whether an input may have these values for the channel.
+fn is_list_for(network: &Network, channel: usize, values: &[Value]) -> bool
+    requires { channel < length (network_of network.now).channels }
+    ensures { IsTrue result ↔ IsListFor (network_of network.now) channel values.now }
+{
+    let declared = network.channel(channel);
+    match declared.role {
+        Role::Input => are_of_kind(values, declared.kind),
+        Role::Inner | Role::Output => values.is_empty(),
     }
 }
 

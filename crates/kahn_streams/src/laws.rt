@@ -2,19 +2,19 @@
 
 ghost use Rattle.kahn_streams.specs.Compose.{ExpressionsCompose, StatementsCompose, LoopsUnroll};
 ghost use Rattle.kahn_streams.specs.Examples.{Counting, Doubling, Overflowing, Ring, OwnChannel, Alternating, Silent, LimitedSample};
-ghost use Rattle.kahn_streams.specs.Kinded.{AreOfKind, FitsKinds};
+ghost use Rattle.kahn_streams.specs.Kinded.{IsInputFor, AreKinded};
 ghost use Rattle.kahn_streams.specs.Laws.{IsChain, HasOneValue, IsSolved, IsSolution, IsBelow, Frame, IsQuiet, IsSettled, SendsStand, InputsGrow, IsCounted, IsUnrolled, IsDetermined};
 ghost use Rattle.kahn_streams.specs.Meaning.{Store, exec};
-ghost use Rattle.kahn_network.specs.Network.{Network, Reads, actual_at, instance_at, kind_at, network_of};
+ghost use Rattle.kahn_network.specs.Network.{Network, Reads, actual_at, instance_at, network_of};
 ghost use Rattle.kahn_network.specs.Wiring.{IsWellWired};
 ghost use Rattle.kahn_streams.specs.Solution.{Inputs, Histories, Ending, Stands, iterate, opening};
 ghost use Rattle.kahn_streams.specs.Sample.{Sample};
 ghost use Rattle.kahn_streams.specs.Script.{Script, Tapes, Dry, play};
 ghost use Rattle.kahn_streams.specs.Steps.{Step, Follows, RanBy, taken, sends_of, halted, empty};
+ghost use Rattle.kahn_streams.specs.Tokens.{Lists, inputs_of};
 ghost use Rattle.kahn_tree.specs.Syntax.{Expr, Stmt};
 ghost use Rattle.kahn_tree.specs.declared.tree.Program.{Program};
 ghost use Rattle.kahn_streams.specs.declared.value.Line.{Line};
-ghost use Rattle.kahn_streams.specs.declared.value.Line.TheVariants.{Channel};
 ghost use Rattle.kahn_streams.specs.declared.value.Value.{Value};
 ghost use Rattle.std.specs.Prelude.{ℕ, suc, [], List, length, ◌≡◌};
 
@@ -59,7 +59,7 @@ pub fn sends_stand()
 {}
 
 /// Longer inputs give longer iterates.
-pub fn inputs_grow()
+pub fn grows()
     ensures { (N : Network) → InputsGrow N }
 {}
 
@@ -76,6 +76,7 @@ pub fn ran_by_steps()
 /// The meaning goes by cases on the syntax: first a part, and then the rest on what is left.
 pub fn composes()
     ensures expressions { ExpressionsCompose Value }
+    ensures operands { ExpressionsCompose Store }
     ensures statements { StatementsCompose Store }
     ensures loops { (t : Expr) (b : Stmt) → LoopsUnroll t b }
 {}
@@ -83,10 +84,10 @@ pub fn composes()
 /// At most n events are done, and just n where the outcome is cut; how far loops are unrolled makes no difference.
 pub fn counts()
     ensures counted { (N : Network) (n p : ℕ) (H : Histories) → IsCounted N n p H }
-    ensures unrolled { (N : Network) → IsUnrolled N }
+    ensures unrolled { (b : Stmt) → IsUnrolled b }
 {}
 
-/// The whole of a line and the end of a process are determined.
+/// The whole of a line, the end of a process and the size of the solution are determined.
 pub fn determined()
     ensures { (N : Network) (I : Inputs) → IsDetermined N I }
 {}
@@ -96,10 +97,9 @@ pub fn found()
     ensures { (N : Network) (I : Inputs) (c : Line) (k : ℕ) (v : Value) → ∥ (Stands N I c k v) ∥₁ → Stands N I c k v }
 {}
 
-/// Every value of an iterate on a channel has the channel's kind, where the program is well wired and each input list has
-/// the kind of its channel.
+/// Every value of an iterate on a channel has the channel's kind, where the program is well wired and the input fits it.
 pub fn kinds()
-    ensures { (t : Program) (I : Inputs) → IsWellWired t → FitsKinds (network_of t) I → (n c : ℕ) → AreOfKind (kind_at (network_of t) c) (iterate (network_of t) I n (Channel c)) }
+    ensures { (t : Program) (lists : Lists) → IsWellWired t → IsInputFor (network_of t) lists → (n : ℕ) → AreKinded (network_of t) (iterate (network_of t) (inputs_of lists) n) }
 {}
 
 /// In a well wired program a process runs dry only at a parameter that reads a channel.

@@ -4,7 +4,7 @@ use Rattle.std.proofs.lemmas.Iterator.Adapters.{YieldsList-from_vec}
 use Rattle.std.proofs.lemmas.Iterator.Consumers.{YieldsList-so_far, YieldsList-turn}
 use Rattle.std.proofs.lemmas.Result.{err_from_is_err_and}
 use Rattle.kahn_streams.specs.Entries.{Entry, entry_of, channel_of, IsFit, IsRefused}
-use Rattle.kahn_streams.proofs.Entered.{more_filled, first_refused, kinds_fit, read_here, read_so_far}
+use Rattle.kahn_streams.proofs.Entered.{more_filled, first_refused, made_fits, read_here, read_so_far}
 use Rattle.kahn_streams.proofs.input.Input.new.Goals as goal
 
 pub returns-in_err-channel-clause-made : goal.returns-in_err-channel-clause-made
@@ -38,6 +38,6 @@ loop-name-preserved c =
       filled = rw (map-append, c.give.ensures) (more_filled c.args.network.now (map entry_of done) c.loop-name.given.items c.loop-name.input entry c.loop-name.invariant.filled c.in_ok-channel.channel is fit);
     }
 
-pub returns-clause-kinds : goal.returns-clause-kinds
-returns-clause-kinds c =
-    kinds_fit c.args.network.now (map entry_of c.loop-name.yielded) c.loop-name.input c.loop-name.invariant.filled.made
+pub returns-clause-fits : goal.returns-clause-fits
+returns-clause-fits c =
+    made_fits c.args.network.now (map entry_of c.loop-name.yielded) c.loop-name.input c.loop-name.invariant.filled.made

@@ -1,4 +1,4 @@
-use Rattle.kahn_streams.proofs.laws.inputs_grow.Goals as goal
+use Rattle.kahn_streams.proofs.laws.grows.Goals as goal
 use Rattle.kahn_streams.proofs.Finished
 
 pub returns : goal.returns
