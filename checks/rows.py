@@ -87,7 +87,7 @@ def lines_of(table):
 
 
 def kept_rows():
-    """The folders of checks/rows and the examples that have a report: (name, files)."""
+    """The folders of checks/rows, and the examples, of which one without a report is stopped by a bound: (name, files)."""
     rows = f"{TOP}/checks/rows"
     for name in sorted(os.listdir(rows)):
         if os.path.isdir(f"{rows}/{name}"):
@@ -95,9 +95,10 @@ def kept_rows():
     examples = files_of(f"{TOP}/examples")
     for name in sorted(examples):
         stem, kind = os.path.splitext(name)
-        if kind == ".report":
-            files = {"program.kahn": f"{stem}.kahn", "input": f"{stem}.input", "report": name}
-            yield f"examples/{stem}", {file: examples[its] for file, its in files.items() if its in examples}
+        if kind == ".kahn":
+            names = {"program.kahn": name, "input": f"{stem}.input", "report": f"{stem}.report"}
+            files = {file: examples[its] for file, its in names.items() if its in examples}
+            yield f"examples/{stem}", files if "report" in files else {**files, "words": b"--bound\n1000", "status": b"3"}
 
 
 def table_rows():

@@ -1,0 +1,11 @@
+-- The values that are left come after the text so far.
+use Rattle.std.proofs.Common.{◌≡◌, ◌++◌, codes, drop, string_bytes}
+use denote.Text.{Utf8}
+use denote.Shadow.{shadow}
+use Rattle.kahn_graph.specs.Graph.{values_text}
+use Rattle.kahn_graph.proofs.nodes.add_values.Given as goal
+
+abbrev pub invariant-loop-argument : goal.invariant-loop-argument
+invariant-loop-argument l =
+    shadow (Utf8 l.before)
+    × (string_bytes l.text ++ values_text l.before (drop l.argument-index l.arguments) ≡ string_bytes l.initial.text ++ values_text (codes "\\n") l.arguments)

@@ -1,0 +1,93 @@
+//! The edges of a picture.
+
+ghost use Rattle.std.specs.Prelude.{◌≡◌, ◌<◌, ◌++◌, ℕ, List, Option, IfOk, length, string_bytes};
+ghost use Rattle.kahn_network.specs.Network.{network_of};
+ghost use Rattle.kahn_graph.specs.Graph.{place_text, mark_text, style_text, edge_text, IsEdge, IsAll};
+
+use crate::pieces::add;
+use itoa::Buffer;
+use kahn_network::network::Network;
+use kahn_network::sides::Side;
+use kahn_tree::tree::{Kind, Role};
+use std::alloc::AllocError;
+
+// Adds where an edge of a channel begins or ends.
+fn add_place(text: &mut String, channel: usize, side: Option<Side>) -> Result<(), AllocError>
+    ensures { IfOk result (λ _. string_bytes text.new ≡ string_bytes text.old ++ place_text channel side) }
+{
+    let mut buffer = Buffer::new();
+    match side {
+        None => add(text, &["c", buffer.format(channel)]),
+        Some(side) => add(text, &["p", buffer.format(side.instance)]),
+    }
+}
+
+// Adds the mark of a channel of that role.
+fn add_mark(text: &mut String, channel: usize, role: Role) -> Result<(), AllocError>
+    ensures { IfOk result (λ _. string_bytes text.new ≡ string_bytes text.old ++ mark_text channel role) }
+{
+    let mut buffer = Buffer::new();
+    let number = buffer.format(channel);
+    match role {
+        Role::Inner => Ok(()),
+        Role::Input => add(
+            text,
+            &["  c", number, " [label=\"input\", shape=plaintext];\n"],
+        ),
+        Role::Output => add(
+            text,
+            &["  c", number, " [label=\"output\", shape=plaintext];\n"],
+        ),
+    }
+}
+
+// How an edge for values of a kind is drawn.
+fn style(kind: Kind) -> &'static str
+    ensures { result.now ≡ style_text kind }
+{
+    match kind {
+        Kind::Integer => "solid",
+        Kind::Logical => "dashed",
+    }
+}
+
+// Adds the edge of a channel with that name, from its writer to its reader.
+fn add_line(
+    text: &mut String,
+    channel: usize,
+    name: &str,
+    kind: Kind,
+    writer: Option<Side>,
+    reader: Option<Side>,
+) -> Result<(), AllocError>
+    ensures { IfOk result (λ _. string_bytes text.new ≡ string_bytes text.old ++ edge_text channel name.now kind writer reader) }
+{
+    add(text, &["  "])?;
+    add_place(text, channel, writer)?;
+    add(text, &[" -> "])?;
+    add_place(text, channel, reader)?;
+    add(text, &[" [label=\"", name, "\", style="])?;
+    add(text, &[style(kind), "];\n"])
+}
+
+// Adds the mark and the edge of a channel.
+fn add_edge(text: &mut String, network: &Network, channel: usize) -> Result<(), AllocError>
+    requires { channel < length (network_of network.now).channels }
+    ensures { IfOk result (λ _. (edge : List ℕ) × IsEdge network.now channel edge × (string_bytes text.new ≡ string_bytes text.old ++ edge)) }
+{
+    let found = network.channel(channel);
+    let writer = network.writer(channel);
+    let reader = network.reader(channel);
+    add_mark(text, channel, found.role)?;
+    add_line(text, channel, found.name, found.kind, writer, reader)
+}
+
+/// Adds the edges of all channels.
+pub(crate) fn add_edges(text: &mut String, network: &Network) -> Result<(), AllocError>
+    ensures { IfOk result (λ _. (edges : List ℕ) × IsAll (IsEdge network.now) (length (network_of network.now).channels) edges × (string_bytes text.new ≡ string_bytes text.old ++ edges)) }
+{
+    for channel in 0..network.channels() {
+        add_edge(text, network, channel)?;
+    }
+    Ok(())
+}

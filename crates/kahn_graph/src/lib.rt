@@ -1,0 +1,10 @@
+//! The picture of a network, in the language of Graphviz.
+#![tactic(auto)]
+
+mod edges;
+mod nodes;
+mod picture;
+mod pieces;
+mod prints;
+
+pub use picture::picture_text;
