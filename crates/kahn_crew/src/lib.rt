@@ -12,6 +12,7 @@ mod left;
 mod opening;
 mod plan;
 mod publish;
+mod rest;
 mod rooms;
 mod routes;
 mod standing;

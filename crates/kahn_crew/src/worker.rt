@@ -10,18 +10,15 @@ ghost use Rattle.kahn_crew.specs.Tasks.{IsLater, Tasked, told_of};
 use crate::floor::Floor;
 use crate::gate::Gate;
 use crate::hints::Hints;
+use crate::rest::Rest;
 use crate::task::Task;
 use crate::turn::turn;
-use crossbeam_utils::Backoff;
 use kahn_board::Seat;
 use kahn_code::steps::Steps;
 use kahn_desk::{go_on, pick};
 use std::marker::Brand;
 use std::sync::Wait;
 use std::sync::ledger::{Blank, Ledger};
-
-// How often a worker without hints of its own pauses before it looks elsewhere: for some tens of microseconds.
-const PAUSES: usize = 64;
 
 /// A worker: its seat at the board, its hints, and the instance at which it begins to look where it has none.
 #[derive(Drop)]
@@ -76,20 +73,14 @@ fn pick_any<'n>(floor: &Floor<'_, 'n>, seat: &mut Seat<Task<'n>>, start: usize) 
 
 // Picks an instance where the worker has no hints of its own: one that another's hint names, or else any that is ready. It
 // waits a little first, so that an instance is seldom taken from the worker that woke it.
-fn pick_elsewhere<'n>(
-    floor: &Floor<'_, 'n>,
-    worker: &mut Worker<'n>,
-    backoff: &Backoff,
-) -> Option<usize>
+fn pick_elsewhere<'n>(floor: &Floor<'_, 'n>, worker: &mut Worker<'n>, rest: &Rest) -> Option<usize>
     requires board { worker.old.seat.seat.table_id ≡ floor.now.board.now.table.shared.table_id }
     requires idle { IsIdle worker.old.seat }
     ensures same { IsSeatOf worker.old.seat worker.new.seat }
     ensures picked { IfSome result (λ p. (p < floor.now.board.now.instances) × ((y : Tasked) × Holds p 0 0 (Some y) worker.new.seat × Fits told_of (belongs IsLater floor.now.board.now.table.shared.key) (wired floor.now.board.now.table.shared.key) p y worker.new.seat.seat.me.0)) }
     ensures left { IfNone result (IsIdle worker.new.seat) }
 {
-    for _ in 0..PAUSES {
-        backoff.snooze();
-    }
+    rest.pause();
     match pick_hinted(floor, &mut worker.seat, &mut worker.hints, true) {
         Some(p) => Some(p),
         None => pick_any(floor, &mut worker.seat, worker.start),
@@ -97,7 +88,7 @@ fn pick_elsewhere<'n>(
 }
 
 // Picks an instance.
-fn pick_next<'n>(floor: &Floor<'_, 'n>, worker: &mut Worker<'n>, backoff: &Backoff) -> Option<usize>
+fn pick_next<'n>(floor: &Floor<'_, 'n>, worker: &mut Worker<'n>, rest: &Rest) -> Option<usize>
     requires board { worker.old.seat.seat.table_id ≡ floor.now.board.now.table.shared.table_id }
     requires idle { IsIdle worker.old.seat }
     ensures same { IsSeatOf worker.old.seat worker.new.seat }
@@ -105,11 +96,8 @@ fn pick_next<'n>(floor: &Floor<'_, 'n>, worker: &mut Worker<'n>, backoff: &Backo
     ensures left { IfNone result (IsIdle worker.new.seat) }
 {
     match pick_hinted(floor, &mut worker.seat, &mut worker.hints, false) {
-        Some(p) => {
-            backoff.reset();
-            Some(p)
-        }
-        None => pick_elsewhere(floor, worker, backoff),
+        Some(p) => Some(p),
+        None => pick_elsewhere(floor, worker, rest),
     }
 }
 
@@ -132,21 +120,25 @@ fn turns<'n, R: Wait, G: Gate, L: Ledger>(
     ensures left { IsIdle worker.new.seat × (worker.new.seat.seat.me.0.stage ≡ 1) }
 {
     let mut steps = Steps::<L>::open(blank);
-    let backoff = Backoff::new();
+    let mut rest = Rest::new();
     for _ in rt.forever() {
         if !go_on(&mut worker.seat, floor.board) {
             return;
         }
-        if let Some(p) = pick_next(floor, worker, &backoff) {
-            turn(
-                rt,
-                floor,
-                gate,
-                &mut worker.seat,
-                &mut worker.hints,
-                p,
-                &mut steps,
-            );
+        match pick_next(floor, worker, &rest) {
+            Some(p) => {
+                rest.over();
+                turn(
+                    rt,
+                    floor,
+                    gate,
+                    &mut worker.seat,
+                    &mut worker.hints,
+                    p,
+                    &mut steps,
+                );
+            }
+            None => rest.sleep(rt),
         }
     }
 }

@@ -1,0 +1,58 @@
+//! Rest: what a worker does while it finds no instance that is ready.
+
+use crossbeam_utils::Backoff;
+use std::sync::Wait;
+use std::thread::Parker;
+use std::time::Duration;
+
+// How often a worker without hints of its own pauses before it looks elsewhere: for some tens of microseconds.
+const PAUSES: usize = 64;
+
+// How long a worker sleeps that has found nothing, in microseconds: so long at first, twice as long each time after.
+const SHORTEST: u64 = 50;
+
+// The longest sleep, in microseconds.
+const LONGEST: u64 = 1000;
+
+/// How long a worker has rested since it found an instance last: first it pauses, and then it sleeps, for longer each time.
+#[derive(Drop)]
+pub(crate) struct Rest {
+    backoff: Backoff,
+    parker: Parker,
+    slept: u64,
+}
+
+impl Rest {
+    /// The rest of a worker that has not rested yet.
+    pub(crate) fn new() -> Rest {
+        Rest {
+            backoff: Backoff::new(),
+            parker: Parker::new(),
+            slept: 0,
+        }
+    }
+
+    /// Something was found: the next rest begins with pauses again.
+    pub(crate) fn over(&mut self) {
+        self.backoff.reset();
+        self.slept = 0;
+    }
+
+    /// Pauses, for some tens of microseconds. A worker that slept since it found something looks at once.
+    pub(crate) fn pause(&self) {
+        if self.slept > 0 {
+            return;
+        }
+        for _ in 0..PAUSES {
+            self.backoff.snooze();
+        }
+    }
+
+    /// Sleeps, where nothing was found anywhere.
+    pub(crate) fn sleep<R: Wait>(&mut self, rt: &R) {
+        self.slept = self.slept.min(LONGEST / 2) * 2;
+        self.slept = self.slept.max(SHORTEST);
+        self.parker
+            .park_timeout(rt, Duration::from_micros(self.slept));
+    }
+}
