@@ -2,8 +2,9 @@
 //!
 //! Lists are read by loops, and recursion goes no deeper than the nesting of the text, which is limited.
 
-ghost use Rattle.std.specs.Prelude.{◌≡◌, ◌≤◌, List, IfOk, IfErr};
-ghost use Rattle.kahn_syntax.specs.declared.fault.SyntaxFault.TheVariants as SyntaxFault;
+ghost use Rattle.std.specs.Prelude.{◌≡◌, ◌≤◌, ◌⊎◌, ℕ, List, IfOk, IfErr};
+ghost use Rattle.kahn_syntax.specs.declared.fault.SyntaxFault.{SyntaxFault};
+ghost use Rattle.kahn_syntax.specs.declared.fault.SyntaxFault.TheVariants.{NoMemory};
 ghost use Rattle.kahn_syntax.specs.declared.lexeme.Lexeme.{Lexeme};
 ghost use Rattle.kahn_syntax.specs.Terminals.{terminals};
 ghost use Rattle.kahn_syntax.specs.Drawn.{program_of};
@@ -32,7 +33,7 @@ pub fn parse(alloc: Global, text: &str) -> Result<Program, SyntaxFault>
     ensures spans { IfOk result (HasSpans text.now) }
     ensures nesting { IfOk result (λ p. nesting (program_of p) ≤ 64) }
     // A text that is a program within the limits is refused for want of memory alone.
-    ensures found { IfErr result (λ e. (xs : List Lexeme) (t : ProgramTree) → AreLexemes text.now xs → Spells t (terminals text.now xs) → nesting t ≤ 64 → e ≡ SyntaxFault.NoMemory) }
+    ensures found { IfErr result (λ e. (xs : List Lexeme) (t : ProgramTree) → AreLexemes text.now xs → Spells t (terminals text.now xs) → nesting t ≤ 64 → e ≡ NoMemory) }
     ensures fault { IfErr result (IsTextFault text.now) }
 {
     match lex(alloc, text) {
@@ -40,3 +41,8 @@ pub fn parse(alloc: Global, text: &str) -> Result<Program, SyntaxFault>
         Err(fault) => Err(fault),
     }
 }
+
+/// The law that a text has one fault, want of memory aside: no other is told in place of the first.
+pub fn one_fault()
+    ensures { (text : List ℕ) (e f : SyntaxFault) → IsTextFault text e → IsTextFault text f → (e ≡ NoMemory) ⊎ (f ≡ NoMemory) ⊎ (e ≡ f) }
+{}
