@@ -9,7 +9,7 @@ ghost use Rattle.kahn_syntax.specs.declared.lexeme.Lexeme.{Lexeme};
 ghost use Rattle.kahn_syntax.specs.Terminals.{terminals};
 ghost use Rattle.kahn_syntax.specs.Drawn.{program_of};
 ghost use Rattle.kahn_syntax.specs.Programs.{ProgramTree, Spells, nesting};
-ghost use Rattle.kahn_syntax.specs.Texts.{AreLexemes, IsProgram, HasSpans, IsTextFault};
+ghost use Rattle.kahn_syntax.specs.Texts.{AreLexemes, IsProgram, IsTextFault};
 
 pub mod build;
 pub mod cursor;
@@ -28,9 +28,8 @@ use std::alloc::Global;
 
 /// The program that a text is. Faults of lexemes come before all others, over the whole text.
 pub fn parse(alloc: Global, text: &str) -> Result<Program, SyntaxFault>
+    // The lexemes spell it, and each name, statement and expression has the span from its first to its last lexeme.
     ensures spells { IfOk result (IsProgram text.now) }
-    // Each name, statement and expression has the span from its first to its last lexeme.
-    ensures spans { IfOk result (HasSpans text.now) }
     ensures nesting { IfOk result (λ p. nesting (program_of p) ≤ 64) }
     // A text that is a program within the limits is refused for want of memory alone.
     ensures found { IfErr result (λ e. (xs : List Lexeme) (t : ProgramTree) → AreLexemes text.now xs → Spells t (terminals text.now xs) → nesting t ≤ 64 → e ≡ NoMemory) }
