@@ -62,6 +62,8 @@ def nesting():
     printed = ["print 1 p: 1", "end 1 p: ended after 1", "finished 1"]
     yield row("64 brackets", body("print " + "(" * 64 + "1" + ")" * 64), printed)
     yield refused("65 brackets", "begin process p(); begin print " + "(" * 65, "1:96: nesting is too deep")
+    faulty = "begin process p(); begin print " + "(" * 65 + " end"
+    yield refused("65 brackets before a lexeme that cannot stand", faulty, "1:96: nesting is too deep")
     yield row("64 signs", body("print " + "-" * 64 + "1"), printed)
     yield refused("65 signs", body("print " + "-" * 65 + "1"), "1:96: nesting is too deep")
     yield row("64 blocks", body("begin " * 64 + "end " * 64), ENDED)

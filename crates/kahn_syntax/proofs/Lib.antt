@@ -7,6 +7,7 @@ pub mod Levels
 pub mod Lexing
 pub mod Lists
 pub mod NoList
+pub mod OneFault
 pub mod OneList
 pub mod OneTree
 pub mod Rows

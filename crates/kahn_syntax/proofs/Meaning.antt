@@ -45,11 +45,11 @@ no_more_of before x b r (t, c, p) =
     (sym (whole_program n t ((before ++ x ∷ []) ++ c) (omega arith) p) ∙ ap (fate n (ProgramPart ∷ [])) (regroup before x c) ∙ r.stuck n (omega arith) c)
 
 nothing_of : (before : List Terminal) (x : Terminal) → Stuck 64 (ProgramPart ∷ []) before x true → IsNothing before x
-nothing_of before x r = let t = tree_of 64 before (r.whole refl) in ((t.0, t.1), no_more_of before x true r)
+nothing_of before x r = (tree_of 64 before (r.whole refl), no_more_of before x true r)
 
 other_of : (before : List Terminal) (x : Terminal) → Stuck 64 (ProgramPart ∷ []) before x false → IsOther before x
 other_of before x r = (
-  begins_of 64 before r.begins,
+  within_of before r.begins,
   λ (t, p). let n = 64 + nesting t in whole_refuses false 0 (sym (whole_program n t before (omega arith) p) ∙ r.part refl n (omega arith)),
   no_more_of before x false r,
 )
@@ -98,10 +98,10 @@ is_too_deep text lexemes span left (before, x, after, e, s, l) h = (
       (split_fate text lexemes before after x (TooFar left) e h ∙ ap TooFar (sym l ∙ ap (λ n. n + 1) (sym (terminals_length text after))))),
 )
 
-pub is_more : (ks : List Terminal) (b : Bool) → Halts ks (Refused b 0) → Begins ks × ¬ (IsWhole ks)
+pub is_more : (ks : List Terminal) (b : Bool) → Halts ks (Refused b 0) → BeginsWithin ks × ¬ (IsWhole ks)
 is_more ks b h =
     let r = short_at 64 ks (ProgramPart ∷ []) b (omega arith) h in (
-      begins_of 64 ks r.begins,
+      within_of ks r.begins,
       λ (t, p). let n = 64 + nesting t in whole_refuses false 0 (sym (whole_program n t ks (omega arith) p) ∙ r.part n (omega arith)),
     )
 

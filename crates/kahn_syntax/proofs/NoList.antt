@@ -53,11 +53,10 @@ stops text n a zs h b c l (comment m k w) = c m k
 stops text n a _ h b c l (lexeme x e p w) = l x e p
 
 -- the same where a form stands that is no comment's word with its end and no lexeme
-stops_long : (text : List ℕ) (a b : ℕ) (zs : List Lexeme) → IsLongest text a b → (IsCommentWord text a b → (m : ℕ) → Closes text b m → ⊥)
-    → ((u : Class) → IsOfClass text u a b → ⊥) → Walk text (length text) a zs → ⊥
-stops_long text a b zs long c l w =
-    let g : a < b = form_grows text a b long.form in
-    stops text (length text) a zs (omega (arith, long.inside)) (form_dark text a b long.form)
+stops_long : (text : List ℕ) (n a b : ℕ) (zs : List Lexeme) → a < n → IsLongest text a b → (IsCommentWord text a b → (m : ℕ) → Closes text b m → ⊥)
+    → ((u : Class) → IsOfClass text u a b → ⊥) → Walk text n a zs → ⊥
+stops_long text n a b zs inside long c l w =
+    stops text n a zs inside (form_dark text a b long.form)
     (λ m k.
     let e : k.0 ≡ b = same_end text a k.0 b k.1 long in
     c (subst (λ (j : ℕ). IsCommentWord text a j) e k.2) m (subst (λ (j : ℕ). Closes text j m) e k.3))
@@ -71,6 +70,12 @@ spelled_length : (text letters : List ℕ) (a b : ℕ) → a ≤ b → b ≤ len
 spelled_length text letters a b order inside spelled =
     let bytes : List ℕ = slice_range text a b in
     sym (length_slice text a b order inside) ∙ (sym (length-map bytes to_ascii_lowercase) ∙ ap length spelled)
+
+-- `comment` isn't too long for a name
+pub long_comment : (text : List ℕ) (a b : ℕ) → b ≤ length text → a + 64 < b → IsCommentWord text a b → ⊥
+long_comment text a b inside long word =
+    let seven : b - a ≡ 7 = spelled_length text (codes "comment") a b (omega arith) inside word.1 in
+    absurd (omega arith)
 
 large_class : (text : List ℕ) (a b : ℕ) (u : Class) → IsRun text a b → largest_number < digits_value 10 (slice_range text a b) → IsOfClass text u a b → ⊥
 large_class text a b (Word k) run large p = letter_digit _ p.0.1 (run_first text a b run)
@@ -87,31 +92,44 @@ long_class text a b Name inside word long p = omega (arith, p.1)
 long_class text a b (Number n) inside word long p = letter_digit _ word.1 (run_first text a b p.0)
 long_class text a b (Sign s) inside word long p = sign_letter _ (sign_begins text s a b p).byte word.1
 
-fault_stops : (text : List ℕ) (a : ℕ) (e : SyntaxFault) (zs : List Lexeme) → IsFaultAt text a e → Walk text (length text) a zs → ⊥
-fault_stops text a TooLong zs h w = h
-fault_stops text a (BadCharacter at) zs (e, bad) w =
-    stops text (length text) at.from zs (omega (arith, bad.0.0, bad.0.2.0)) bad.1 (λ m k. bad.2 k.0 k.1.inside k.1.form)
-    (λ x f p. bad.2 x.span.to p.longest.inside (subst (λ (j : ℕ). HasForm text j x.span.to) f p.longest.form))
-    (subst (λ (j : ℕ). Walk text (length text) j zs) (sym e) w)
-fault_stops text a (NumberTooLarge at) zs (e, large) w =
-    stops_long text at.from at.to zs large.0 (λ word m k. letter_digit _ word.0.1 (run_first text at.from at.to large.1))
-    (λ u p. large_class text at.from at.to u large.1 large.2 p) (subst (λ (j : ℕ). Walk text (length text) j zs) (sym e) w)
-fault_stops text a (CommentOpen at) zs (e, opens) w =
-    stops_long text at.from at.to zs opens.0 (λ word m k. opens.2 k.0 k.2 k.3 k.4) (λ u p. no_comment text at.from at.to u p opens.1)
-    (subst (λ (j : ℕ). Walk text (length text) j zs) (sym e) w)
-fault_stops text a (NameTooLong at) zs (e, long) w =
-    stops_long text at.from at.to zs long.0
-    (λ word m k.
-    let seven : at.to - at.from ≡ 7 = spelled_length text (codes "comment") at.from at.to (omega (arith, long.2)) long.0.inside word.1 in
-    absurd (omega (arith, long.2)))
-    (λ u p. long_class text at.from at.to u long.0.inside long.1 long.2 p) (subst (λ (j : ℕ). Walk text (length text) j zs) (sym e) w)
-fault_stops text a (Expected at what) zs h w = h
-fault_stops text a (TooDeep at) zs h w = h
-fault_stops text a NoMemory zs h w = h
+-- a fault stands within its text
+pub fault_inside : (text : List ℕ) (a : ℕ) (e : SyntaxFault) → IsFaultAt text a e → a < length text
+fault_inside text a TooLong h = absurd h
+fault_inside text a (BadCharacter at) (f, bad) = omega (arith, f, bad.0.0, bad.0.2.0)
+fault_inside text a (NumberTooLarge at) (f, large) =
+    let g : at.from < at.to = form_grows text at.from at.to large.0.form in
+    omega (arith, f, large.0.inside)
+fault_inside text a (CommentOpen at) (f, opens) =
+    let g : at.from < at.to = form_grows text at.from at.to opens.0.form in
+    omega (arith, f, opens.0.inside)
+fault_inside text a (NameTooLong at) (f, long) =
+    let g : at.from < at.to = form_grows text at.from at.to long.0.form in
+    omega (arith, f, long.0.inside)
+fault_inside text a (Expected at what) h = absurd h
+fault_inside text a (TooDeep at) h = absurd h
+fault_inside text a NoMemory h = absurd h
 
--- a fault at a, with lexemes before, leaves the text without lexemes
-pub no_list : (text : List ℕ) (a : ℕ) (e : SyntaxFault) (xs ys : List Lexeme) → a ≤ length text → Lexed text 0 a xs → IsFaultAt text a e →
-    Lexed text 0 (length text) ys → ⊥
-no_list text a e xs ys inside before fault whole =
-    let rest = along text (length text) a 0 xs ys inside (walk text a 0 xs before) (walk text (length text) 0 ys whole) in
-    fault_stops text a e rest.0 fault rest.1
+fault_stops : (text : List ℕ) (n a : ℕ) (e : SyntaxFault) (zs : List Lexeme) → a < n → IsFaultAt text a e → Walk text n a zs → ⊥
+fault_stops text n a TooLong zs more h w = h
+fault_stops text n a (BadCharacter at) zs more (e, bad) w =
+    stops text n at.from zs (omega (arith, e)) bad.1 (λ m k. bad.2 k.0 k.1.inside k.1.form)
+    (λ x f p. bad.2 x.span.to p.longest.inside (subst (λ (j : ℕ). HasForm text j x.span.to) f p.longest.form))
+    (subst (λ (j : ℕ). Walk text n j zs) (sym e) w)
+fault_stops text n a (NumberTooLarge at) zs more (e, large) w =
+    stops_long text n at.from at.to zs (omega (arith, e)) large.0 (λ word m k. letter_digit _ word.0.1 (run_first text at.from at.to large.1))
+    (λ u p. large_class text at.from at.to u large.1 large.2 p) (subst (λ (j : ℕ). Walk text n j zs) (sym e) w)
+fault_stops text n a (CommentOpen at) zs more (e, opens) w =
+    stops_long text n at.from at.to zs (omega (arith, e)) opens.0 (λ word m k. opens.2 k.0 k.2 k.3 k.4)
+    (λ u p. no_comment text at.from at.to u p opens.1) (subst (λ (j : ℕ). Walk text n j zs) (sym e) w)
+fault_stops text n a (NameTooLong at) zs more (e, long) w =
+    stops_long text n at.from at.to zs (omega (arith, e)) long.0 (λ word m k. absurd (long_comment text at.from at.to long.0.inside long.2 word))
+    (λ u p. long_class text at.from at.to u long.0.inside long.1 long.2 p) (subst (λ (j : ℕ). Walk text n j zs) (sym e) w)
+fault_stops text n a (Expected at what) zs more h w = h
+fault_stops text n a (TooDeep at) zs more h w = h
+fault_stops text n a NoMemory zs more h w = h
+
+-- a fault at a, with lexemes before, leaves the text without lexemes up to any place after it
+pub no_list : (text : List ℕ) (n a : ℕ) (e : SyntaxFault) (xs ys : List Lexeme) → a < n → Lexed text 0 a xs → IsFaultAt text a e → Lexed text 0 n ys → ⊥
+no_list text n a e xs ys more before fault whole =
+    let rest = along text n a 0 xs ys (omega arith) (walk text a 0 xs before) (walk text n 0 ys whole) in
+    fault_stops text n a e rest.0 more fault rest.1

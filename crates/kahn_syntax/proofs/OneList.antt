@@ -23,7 +23,7 @@ form_dark text a b (inl word) blank = letter_blank _ word.1 blank
 form_dark text a b (inr (inl run)) blank = digit_blank _ (run_first text a b run) blank
 form_dark text a b (inr (inr (s, sign))) blank = sign_blank _ (sign_begins text s a b sign).byte blank
 
-order : (b c : ℕ) → (b ≡ c) ⊎ (b < c) ⊎ (c < b)
+pub order : (b c : ℕ) → (b ≡ c) ⊎ (b < c) ⊎ (c < b)
 order b c = grind (arith, nat_tests)
 
 pub same_end : (text : List ℕ) (a b c : ℕ) → IsLongest text a b → IsLongest text a c → b ≡ c

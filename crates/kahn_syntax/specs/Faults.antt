@@ -17,17 +17,20 @@ IsWhole ks = (t : ProgramTree) × Spells t ks
 abbrev pub Begins : List Terminal → Type 0
 Begins ks = (t : ProgramTree) × (after : List Terminal) × Spells t (ks ++ after)
 
--- some tree of at most 64 levels does
+-- the same for a tree within the limit of nesting
+abbrev pub IsWholeWithin : List Terminal → Type 0
+IsWholeWithin ks = (t : ProgramTree) × Spells t ks × (nesting t ≤ 64)
+
 abbrev pub BeginsWithin : List Terminal → Type 0
 BeginsWithin ks = (t : ProgramTree) × (after : List Terminal) × Spells t (ks ++ after) × (nesting t ≤ 64)
 
 -- the terminals before are a whole program, and this one can't follow
 abbrev pub IsNothing : List Terminal → Terminal → Type 0
-IsNothing before k = IsWhole before × ¬ (Begins (before ++ k ∷ []))
+IsNothing before k = IsWholeWithin before × ¬ (Begins (before ++ k ∷ []))
 
 -- the terminals before begin a program and are none, and with this one they begin none
 abbrev pub IsOther : List Terminal → Terminal → Type 0
-IsOther before k = Begins before × ¬ (IsWhole before) × ¬ (Begins (before ++ k ∷ []))
+IsOther before k = BeginsWithin before × ¬ (IsWhole before) × ¬ (Begins (before ++ k ∷ []))
 
 -- This one may stand here, and each program that begins so has more than 64 levels; one that begins without it has not.
 abbrev pub IsTooDeep : List Terminal → Terminal → Type 0
@@ -39,10 +42,11 @@ abbrev pub StandsAt : List ℕ → List Lexeme → Span → (List Terminal → T
 StandsAt text lexemes span P = (before : List Lexeme) × (x : Lexeme) × (after : List Lexeme) × (lexemes ≡ before ++ x ∷ after) × (span ≡ x.span)
     × P (terminals text before) (terminal text x.what x.span)
 
--- The fault of these lexemes of the text, at the first lexeme of which it is true. Memory may be wanted at any place.
+-- The fault of these lexemes of the text. What stands before it begins a program within the limit, so no fault stands before it.
+-- Memory may be wanted at any place.
 abbrev pub IsFault : List ℕ → List Lexeme → SyntaxFault → Type 0
 IsFault text lexemes (Expected span More) = (span.from ≡ length text) × (span.to ≡ length text)
-    × Begins (terminals text lexemes) × ¬ (IsWhole (terminals text lexemes))
+    × BeginsWithin (terminals text lexemes) × ¬ (IsWhole (terminals text lexemes))
 IsFault text lexemes (Expected span Nothing) = StandsAt text lexemes span IsNothing
 IsFault text lexemes (Expected span Other) = StandsAt text lexemes span IsOther
 IsFault text lexemes (fault.TooDeep span) = StandsAt text lexemes span IsTooDeep

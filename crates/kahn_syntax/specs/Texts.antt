@@ -14,13 +14,9 @@ use Rattle.kahn_syntax.specs.Spans.{ProgramSpans}
 abbrev pub AreLexemes : List ℕ → List Lexeme → Type 0
 AreLexemes text xs = (length text ≤ most_bytes) × Lexed text 0 (length text) xs
 
--- the text's lexemes are spelled by the program
+-- The text's lexemes are spelled by the program, whose parts have their spans over them.
 abbrev pub IsProgram : List ℕ → Program → Type 0
-IsProgram text p = (xs : List Lexeme) × AreLexemes text xs × Spells (program_of p) (terminals text xs)
-
--- the program's parts have their spans over the text's lexemes
-abbrev pub HasSpans : List ℕ → Program → Type 0
-HasSpans text p = (xs : List Lexeme) × AreLexemes text xs × ProgramSpans text p xs
+IsProgram text p = (xs : List Lexeme) × AreLexemes text xs × Spells (program_of p) (terminals text xs) × ProgramSpans text p xs
 
 -- a fault of a lexeme, or one of the grammar
 abbrev pub IsTextFault : List ℕ → SyntaxFault → Type 0

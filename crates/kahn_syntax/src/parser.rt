@@ -2,13 +2,14 @@
 //!
 //! Lists are read by loops, and recursion goes no deeper than the nesting of the text, which is limited.
 
-ghost use Rattle.std.specs.Prelude.{◌≡◌, ◌≤◌, List, IfOk, IfErr};
-ghost use Rattle.kahn_syntax.specs.declared.fault.SyntaxFault.TheVariants as SyntaxFault;
+ghost use Rattle.std.specs.Prelude.{◌≡◌, ◌≤◌, ◌⊎◌, ℕ, List, IfOk, IfErr};
+ghost use Rattle.kahn_syntax.specs.declared.fault.SyntaxFault.{SyntaxFault};
+ghost use Rattle.kahn_syntax.specs.declared.fault.SyntaxFault.TheVariants.{NoMemory};
 ghost use Rattle.kahn_syntax.specs.declared.lexeme.Lexeme.{Lexeme};
 ghost use Rattle.kahn_syntax.specs.Terminals.{terminals};
 ghost use Rattle.kahn_syntax.specs.Drawn.{program_of};
 ghost use Rattle.kahn_syntax.specs.Programs.{ProgramTree, Spells, nesting};
-ghost use Rattle.kahn_syntax.specs.Texts.{AreLexemes, IsProgram, HasSpans, IsTextFault};
+ghost use Rattle.kahn_syntax.specs.Texts.{AreLexemes, IsProgram, IsTextFault};
 
 pub mod build;
 pub mod cursor;
@@ -27,12 +28,11 @@ use std::alloc::Global;
 
 /// The program that a text is. Faults of lexemes come before all others, over the whole text.
 pub fn parse(alloc: Global, text: &str) -> Result<Program, SyntaxFault>
+    // The lexemes spell it, and each name, statement and expression has the span from its first to its last lexeme.
     ensures spells { IfOk result (IsProgram text.now) }
-    // Each name, statement and expression has the span from its first to its last lexeme.
-    ensures spans { IfOk result (HasSpans text.now) }
     ensures nesting { IfOk result (λ p. nesting (program_of p) ≤ 64) }
     // A text that is a program within the limits is refused for want of memory alone.
-    ensures found { IfErr result (λ e. (xs : List Lexeme) (t : ProgramTree) → AreLexemes text.now xs → Spells t (terminals text.now xs) → nesting t ≤ 64 → e ≡ SyntaxFault.NoMemory) }
+    ensures found { IfErr result (λ e. (xs : List Lexeme) (t : ProgramTree) → AreLexemes text.now xs → Spells t (terminals text.now xs) → nesting t ≤ 64 → e ≡ NoMemory) }
     ensures fault { IfErr result (IsTextFault text.now) }
 {
     match lex(alloc, text) {
@@ -40,3 +40,8 @@ pub fn parse(alloc: Global, text: &str) -> Result<Program, SyntaxFault>
         Err(fault) => Err(fault),
     }
 }
+
+/// The law that a text has one fault, want of memory aside: no other is told in place of the first.
+pub fn one_fault()
+    ensures { (text : List ℕ) (e f : SyntaxFault) → IsTextFault text e → IsTextFault text f → (e ≡ NoMemory) ⊎ (f ≡ NoMemory) ⊎ (e ≡ f) }
+{}

@@ -1,11 +1,11 @@
-use Rattle.std.proofs.Common.{List, arith, refl, sym, subst}
+use Rattle.std.proofs.Common.{List, arith, length, refl, sym, subst}
 use Rattle.kahn_syntax.specs.declared.lexeme.Lexeme.{Lexeme}
 use Rattle.kahn_syntax.specs.Lexemes.{Lexed, no_gap}
 use Rattle.std.proofs.lemmas.Str.{IsCharBoundary-start}
 use Rattle.kahn_syntax.proofs.Cuts.{lexed_cut, lexed_slices}
 use Rattle.std.proofs.lemmas.Result.{err_from_is_err_and}
 use Rattle.kahn_syntax.proofs.Lexing.{blank_next, comment_next, lexeme_next}
-use Rattle.kahn_syntax.proofs.NoList.{no_list}
+use Rattle.kahn_syntax.proofs.NoList.{no_list, fault_inside}
 use Rattle.kahn_syntax.proofs.lexer.lex.Goals as goal
 
 pub text-init : goal.text-init
@@ -39,7 +39,8 @@ returns-in_err-end-clause-only c =
     let text = c.args.text.now in
     let p = err_from_is_err_and c.from_residual.result c.from_residual.ensures.1 in
     rw (p.1, p.2) (λ ys small whole.
-    absurd (no_list text c.text.at c.in_err-end.field-0.0 c.text.found.items ys c.text.invariant.inside c.text.invariant.lexed c.in_err-end.ensures.fault whole))
+    absurd (no_list text (length text) c.text.at c.in_err-end.field-0.0 c.text.found.items ys
+    (fault_inside text c.text.at c.in_err-end.field-0.0 c.in_err-end.ensures.fault) c.text.invariant.lexed c.in_err-end.ensures.fault whole))
 
 pub returns-clause-slices : goal.returns-clause-slices
 returns-clause-slices c =

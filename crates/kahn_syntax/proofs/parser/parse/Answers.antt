@@ -1,17 +1,18 @@
-use Rattle.std.proofs.Common.{◌≡◌, ◌≤◌, ℕ, List, length, inr, sym, subst, ap}
-use Rattle.std.proofs.lemmas.Result.{IfErr-weaker, IfOk-weaker}
+use Rattle.std.proofs.Common.{◌≡◌, ◌≤◌, ℕ, List, length, Result, Ok, Err, inr, sym, subst, ap}
+use Rattle.std.specs.Prelude.{IfOk}
+use Rattle.std.proofs.lemmas.Result.{IfErr-weaker}
 use Rattle.kahn_syntax.specs.declared.lexeme.Lexeme.{Lexeme}
 use Rattle.kahn_syntax.specs.declared.fault.SyntaxFault.{SyntaxFault}
 use Rattle.kahn_syntax.specs.declared.fault.SyntaxFault.TheVariants.{NoMemory}
 use Rattle.kahn_syntax.specs.Terminals.{terminals, AreProper}
 use Rattle.kahn_syntax.specs.Programs.{ProgramTree, Spells, nesting}
 use Rattle.kahn_syntax.specs.Faults.{IsFault}
-use Rattle.kahn_syntax.specs.Texts.{AreLexemes, IsTextFault}
+use Rattle.kahn_syntax.specs.Texts.{AreLexemes, IsProgram, IsTextFault}
 use Rattle.kahn_syntax.proofs.OneList.{same_lexemes}
 use Rattle.kahn_syntax.proofs.Proper.{lexed_proper}
 use Rattle.kahn_tree.specs.declared.tree.Program.{Program}
-use Rattle.kahn_syntax.specs.Texts.{HasSpans}
 use Rattle.kahn_syntax.specs.Spans.{ProgramSpans}
+use Rattle.kahn_syntax.specs.Drawn.{program_of}
 use Rattle.kahn_syntax.proofs.parser.parse.Goals as goal
 
 pub parse_lexemes-requires : goal.parse_lexemes-requires
@@ -42,8 +43,12 @@ returns-in-Ok-clause-fault c =
 pub returns-in-Err-clause-found : goal.returns-in-Err-clause-found
 returns-in-Err-clause-found c = λ xs t a s l. c.in-Err.ensures.only xs a.0 a.1
 
-pub returns-in-Ok-clause-spans : goal.returns-in-Ok-clause-spans
-returns-in-Ok-clause-spans c =
-    let T = c.args.text.now in
-    IfOk-weaker c.parse_lexemes.result (λ p. ProgramSpans T p c.deref.result.now) (HasSpans T)
-    (λ p h. (c.deref.result.now, subst (AreLexemes T) (sym c.deref.ensures.value) c.in-Ok.ensures.lexed, h)) c.parse_lexemes.ensures.spans
+both : (text : List ℕ) (xs : List Lexeme) (r : Result Program SyntaxFault) → AreLexemes text xs → IfOk r (λ p. Spells (program_of p) (terminals text xs)) →
+    IfOk r (λ p. ProgramSpans text p xs) → IfOk r (IsProgram text)
+both text xs (Ok p) l s h = (xs, l, s, h)
+both text xs (Err e) l s h = tt
+
+pub returns-in-Ok-clause-spells : goal.returns-in-Ok-clause-spells
+returns-in-Ok-clause-spells c =
+    both c.args.text.now c.deref.result.now c.parse_lexemes.result (subst (AreLexemes c.args.text.now) (sym c.deref.ensures.value) c.in-Ok.ensures.lexed)
+    c.parse_lexemes.ensures.spells c.parse_lexemes.ensures.spans

@@ -1,0 +1,251 @@
+-- A text has one fault, want of memory aside.
+use Rattle.std.proofs.Common.{◌≡◌, ℕ, ◌+◌, ◌≤◌, ◌<◌, ◌⊎◌, List, [], ◌∷◌, ◌++◌, length, inl, inr, refl, sym, ap, subst, ◌∙◌, arith, append_assoc}
+use Rattle.std.proofs.lemmas.List.{append-nil}
+use Rattle.std.specs.Prelude.{IsCharBoundary}
+use Rattle.kahn_tree.specs.declared.span.Span.{Span}
+use Rattle.kahn_syntax.specs.declared.lexeme.Lexeme.{Lexeme}
+use Rattle.kahn_syntax.specs.declared.fault.SyntaxFault.{SyntaxFault}
+use Rattle.kahn_syntax.specs.declared.fault.SyntaxFault.TheVariants.{TooLong, BadCharacter, NumberTooLarge, CommentOpen, NameTooLong, Expected, TooDeep, NoMemory}
+use Rattle.kahn_syntax.specs.declared.fault.What.TheVariants.{More, Nothing, Other}
+use Rattle.kahn_syntax.specs.Lexemes.{IsLongest, IsBadCharacter, IsLargeNumber, IsOpenComment, IsLongName, IsReached, IsLexFault, Lexed, most_bytes}
+use Rattle.kahn_syntax.specs.Items.{IsFaultAt}
+use Rattle.kahn_syntax.specs.Terminals.{Terminal, terminal, terminals}
+use Rattle.kahn_syntax.specs.Programs.{ProgramTree, Spells}
+use Rattle.kahn_syntax.specs.Faults.{IsWhole, Begins, BeginsWithin, IsNothing, IsOther, IsTooDeep, IsFault}
+use Rattle.kahn_syntax.specs.Texts.{AreLexemes, IsTextFault}
+use Rattle.kahn_syntax.proofs.Meaning.{terminals_append}
+use Rattle.kahn_syntax.proofs.NoList.{no_list, fault_inside, long_comment}
+use Rattle.kahn_syntax.proofs.OneList.{order, run_first, same_end, same_lexemes}
+use Rattle.kahn_syntax.proofs.Signs.{letter_digit}
+
+abbrev Agree : SyntaxFault → SyntaxFault → Type 0
+Agree e f = (e ≡ NoMemory) ⊎ (f ≡ NoMemory) ⊎ (e ≡ f)
+
+-- faults of lexemes
+
+same_span : (a : Span) (b : Span) → a.from ≡ b.from → a.to ≡ b.to → a ≡ b
+same_span a b e f = λ i. record { from = e i; to = f i }
+
+-- one character of the text ends at one place
+same_character : (text : List ℕ) (a : Span) (b : Span) → a.from ≡ b.from → IsBadCharacter text a → IsBadCharacter text b → a ≡ b
+same_character text a b e p q = go (order a.to b.to)
+  where
+    go : (a.to ≡ b.to) ⊎ (a.to < b.to) ⊎ (b.to < a.to) → a ≡ b
+    go (inl f) = same_span a b e f
+    go (inr (inl h)) = absurd (q.0.3 a.to (omega (arith, e, p.0.0)) h p.0.2)
+    go (inr (inr h)) = absurd (p.0.3 b.to (omega (arith, e, q.0.0)) h q.0.2)
+
+same_long : (text : List ℕ) (a : Span) (b : Span) → a.from ≡ b.from → IsLongest text a.from a.to → IsLongest text b.from b.to → a ≡ b
+same_long text a b e p q = same_span a b e (same_end text b.from a.to b.to (subst (λ (m : ℕ). IsLongest text m a.to) e p) q)
+
+no_form : (text : List ℕ) (a : Span) (b : Span) → a.from ≡ b.from → IsBadCharacter text a → IsLongest text b.from b.to → ⊥
+no_form text a b e p q =
+    let long : IsLongest text a.from b.to = subst (λ (m : ℕ). IsLongest text m b.to) (sym e) q in
+    p.2 b.to long.inside long.form
+
+-- what a fault at a is
+data FaultAt (text : List ℕ) (a : ℕ) : SyntaxFault → Type 0 where
+  bad : (at : Span) → at.from ≡ a → IsBadCharacter text at → FaultAt text a (BadCharacter at)
+  large : (at : Span) → at.from ≡ a → IsLargeNumber text at → FaultAt text a (NumberTooLarge at)
+  opens : (at : Span) → at.from ≡ a → IsOpenComment text at → FaultAt text a (CommentOpen at)
+  long : (at : Span) → at.from ≡ a → IsLongName text at → FaultAt text a (NameTooLong at)
+
+fault_at : (text : List ℕ) (a : ℕ) (e : SyntaxFault) → IsFaultAt text a e → FaultAt text a e
+fault_at text a TooLong h = absurd h
+fault_at text a (BadCharacter at) (e, h) = bad at e h
+fault_at text a (NumberTooLarge at) (e, h) = large at e h
+fault_at text a (CommentOpen at) (e, h) = opens at e h
+fault_at text a (NameTooLong at) (e, h) = long at e h
+fault_at text a (Expected at what) h = absurd h
+fault_at text a (TooDeep at) h = absurd h
+fault_at text a NoMemory h = absurd h
+
+-- a run is no word, and `comment` isn't too long
+large_opens : (text : List ℕ) (a : Span) (b : Span) → a.from ≡ b.from → IsLargeNumber text a → IsOpenComment text b → ⊥
+large_opens text a b e p q = let f = same_long text a b e p.0 q.0 in letter_digit _ q.1.0.1 (run_first text b.from b.to (subst (λ (s : Span). IsLargeNumber text s) f p).1)
+
+large_long : (text : List ℕ) (a : Span) (b : Span) → a.from ≡ b.from → IsLargeNumber text a → IsLongName text b → ⊥
+large_long text a b e p q = let f = same_long text a b e p.0 q.0 in letter_digit _ q.1.1 (run_first text b.from b.to (subst (λ (s : Span). IsLargeNumber text s) f p).1)
+
+opens_long : (text : List ℕ) (a : Span) (b : Span) → a.from ≡ b.from → IsOpenComment text a → IsLongName text b → ⊥
+opens_long text a b e p q =
+    let f = same_long text a b e p.0 q.0 in
+    long_comment text b.from b.to q.0.inside q.2 (subst (λ (s : Span). IsOpenComment text s) f p).1
+
+same_at : (text : List ℕ) (a : ℕ) (e f : SyntaxFault) → FaultAt text a e → FaultAt text a f → e ≡ f
+same_at text a _ _ (bad s p h) (bad t q k) = ap BadCharacter (same_character text s t (p ∙ sym q) h k)
+same_at text a _ _ (bad s p h) (large t q k) = absurd (no_form text s t (p ∙ sym q) h k.0)
+same_at text a _ _ (bad s p h) (opens t q k) = absurd (no_form text s t (p ∙ sym q) h k.0)
+same_at text a _ _ (bad s p h) (long t q k) = absurd (no_form text s t (p ∙ sym q) h k.0)
+same_at text a _ _ (large s p h) (bad t q k) = absurd (no_form text t s (q ∙ sym p) k h.0)
+same_at text a _ _ (large s p h) (large t q k) = ap NumberTooLarge (same_long text s t (p ∙ sym q) h.0 k.0)
+same_at text a _ _ (large s p h) (opens t q k) = absurd (large_opens text s t (p ∙ sym q) h k)
+same_at text a _ _ (large s p h) (long t q k) = absurd (large_long text s t (p ∙ sym q) h k)
+same_at text a _ _ (opens s p h) (bad t q k) = absurd (no_form text t s (q ∙ sym p) k h.0)
+same_at text a _ _ (opens s p h) (large t q k) = absurd (large_opens text t s (q ∙ sym p) k h)
+same_at text a _ _ (opens s p h) (opens t q k) = ap CommentOpen (same_long text s t (p ∙ sym q) h.0 k.0)
+same_at text a _ _ (opens s p h) (long t q k) = absurd (opens_long text s t (p ∙ sym q) h k)
+same_at text a _ _ (long s p h) (bad t q k) = absurd (no_form text t s (q ∙ sym p) k h.0)
+same_at text a _ _ (long s p h) (large t q k) = absurd (large_long text t s (q ∙ sym p) k h)
+same_at text a _ _ (long s p h) (opens t q k) = absurd (opens_long text t s (q ∙ sym p) k h)
+same_at text a _ _ (long s p h) (long t q k) = ap NameTooLong (same_long text s t (p ∙ sym q) h.0 k.0)
+
+-- a fault of the whole text, or one that its lexemes reach
+data LexFault (text : List ℕ) (e : SyntaxFault) : Type 0 where
+  no_memory : e ≡ NoMemory → LexFault text e
+  too_long : e ≡ TooLong → most_bytes < length text → LexFault text e
+  reached : (a : ℕ) → IsReached text a → IsFaultAt text a e → LexFault text e
+
+lex_fault : (text : List ℕ) (e : SyntaxFault) → IsLexFault text e → LexFault text e
+lex_fault text TooLong h = too_long refl h
+lex_fault text (BadCharacter at) (r, h) = reached at.from r (refl, h)
+lex_fault text (NumberTooLarge at) (r, h) = reached at.from r (refl, h)
+lex_fault text (CommentOpen at) (r, h) = reached at.from r (refl, h)
+lex_fault text (NameTooLong at) (r, h) = reached at.from r (refl, h)
+lex_fault text (Expected at what) h = absurd h
+lex_fault text (TooDeep at) h = absurd h
+lex_fault text NoMemory h = no_memory refl
+
+same_reached : (text : List ℕ) (a b : ℕ) (e f : SyntaxFault) → IsReached text a → IsFaultAt text a e → IsReached text b → IsFaultAt text b f → e ≡ f
+same_reached text a b e f r h s k = go (order a b)
+  where
+    go : (a ≡ b) ⊎ (a < b) ⊎ (b < a) → e ≡ f
+    go (inl same) = same_at text b e f (fault_at text b e (subst (λ (j : ℕ). IsFaultAt text j e) same h)) (fault_at text b f k)
+    go (inr (inl less)) = absurd (no_list text b a e r.1.0 s.1.0 less r.1.1 h s.1.1)
+    go (inr (inr less)) = absurd (no_list text a b f s.1.0 r.1.0 less s.1.1 k r.1.1)
+
+same_lexical : (text : List ℕ) (e f : SyntaxFault) → LexFault text e → LexFault text f → Agree e f
+same_lexical text e f (no_memory p) k = inl p
+same_lexical text e f h (no_memory q) = inr (inl q)
+same_lexical text e f (too_long p h) (too_long q k) = inr (inr (p ∙ sym q))
+same_lexical text e f (too_long p h) (reached b s k) = absurd (omega (arith, h, s.0))
+same_lexical text e f (reached a r h) (too_long q k) = absurd (omega (arith, r.0, k))
+same_lexical text e f (reached a r h) (reached b s k) = inr (inr (same_reached text a b e f r h s k))
+
+-- a text with a fault of its lexemes has no list of them
+no_lexemes : (text : List ℕ) (e : SyntaxFault) (xs : List Lexeme) → LexFault text e → AreLexemes text xs → e ≡ NoMemory
+no_lexemes text e xs (no_memory p) l = p
+no_lexemes text e xs (too_long p h) l = absurd (omega (arith, h, l.0))
+no_lexemes text e xs (reached a r h) l = absurd (no_list text (length text) a e r.1.0 xs (fault_inside text a e h) r.1.1 h l.1)
+
+-- faults of the grammar
+
+-- why a terminal is at fault after these
+data AtFault (before : List Terminal) (k : Terminal) (span : Span) : SyntaxFault → Type 0 where
+  nothing : IsNothing before k → AtFault before k span (Expected span Nothing)
+  other : IsOther before k → AtFault before k span (Expected span Other)
+  deep : IsTooDeep before k → AtFault before k span (TooDeep span)
+
+-- what stands before begins a program within the limit
+begins : (before : List Terminal) (k : Terminal) (span : Span) (e : SyntaxFault) → AtFault before k span e → BeginsWithin before
+begins before k span _ (nothing h) = (h.0.0, [], subst (Spells h.0.0) (sym (append-nil before)) h.0.1, h.0.2)
+begins before k span _ (other h) = h.0
+begins before k span _ (deep h) = h.0
+
+-- and no such program goes on with it
+ends : (before later : List Terminal) (k : Terminal) (span : Span) (e : SyntaxFault) → AtFault before k span e → BeginsWithin (before ++ k ∷ later) → ⊥
+ends before later k span _ (nothing h) b = h.1 (on before later k b)
+  where
+    on : (before later : List Terminal) (k : Terminal) → BeginsWithin (before ++ k ∷ later) → Begins (before ++ k ∷ [])
+    on before later k (t, after, s, n) =
+        (t, later ++ after, subst (Spells t) (append_assoc before (k ∷ later) after ∙ sym (append_assoc before (k ∷ []) (later ++ after))) s)
+ends before later k span _ (other h) b = h.2 (on before later k b)
+  where
+    on : (before later : List Terminal) (k : Terminal) → BeginsWithin (before ++ k ∷ later) → Begins (before ++ k ∷ [])
+    on before later k (t, after, s, n) =
+        (t, later ++ after, subst (Spells t) (append_assoc before (k ∷ later) after ∙ sym (append_assoc before (k ∷ []) (later ++ after))) s)
+ends before later k span _ (deep h) (t, after, s, n) =
+    let far = h.2 t (later ++ after) (subst (Spells t) (append_assoc before (k ∷ later) after) s) in
+    omega (arith, far, n)
+
+same_here : (before : List Terminal) (k : Terminal) (span : Span) (e f : SyntaxFault) → AtFault before k span e → AtFault before k span f → e ≡ f
+same_here before k span _ _ (nothing h) (nothing g) = refl
+same_here before k span _ _ (nothing h) (other g) = absurd (g.1 (h.0.0, h.0.1))
+same_here before k span _ _ (nothing h) (deep g) = absurd (h.1 g.1)
+same_here before k span _ _ (other h) (nothing g) = absurd (h.1 (g.0.0, g.0.1))
+same_here before k span _ _ (other h) (other g) = refl
+same_here before k span _ _ (other h) (deep g) = absurd (h.2 g.1)
+same_here before k span _ _ (deep h) (nothing g) = absurd (g.1 h.1)
+same_here before k span _ _ (deep h) (other g) = absurd (g.2 h.1)
+same_here before k span _ _ (deep h) (deep g) = refl
+
+-- a fault of the grammar at a lexeme, or at the end
+data GrammarFault (text : List ℕ) (xs : List Lexeme) (e : SyntaxFault) : Type 0 where
+  no_memory : e ≡ NoMemory → GrammarFault text xs e
+  at_end : (span : Span) → e ≡ Expected span More → span.from ≡ length text → span.to ≡ length text → BeginsWithin (terminals text xs) → GrammarFault text xs e
+  stands : (before : List Lexeme) (x : Lexeme) (after : List Lexeme) → xs ≡ before ++ x ∷ after
+      → AtFault (terminals text before) (terminal text x.what x.span) x.span e → GrammarFault text xs e
+
+grammar_fault : (text : List ℕ) (xs : List Lexeme) (e : SyntaxFault) → IsFault text xs e → GrammarFault text xs e
+grammar_fault text xs (Expected span More) (p, q, b, n) = at_end span refl p q b
+grammar_fault text xs (Expected span Nothing) (before, x, after, p, s, h) =
+    stands before x after p (subst (λ (t : Span). AtFault (terminals text before) (terminal text x.what x.span) x.span (Expected t Nothing)) (sym s) (nothing h))
+grammar_fault text xs (Expected span Other) (before, x, after, p, s, h) =
+    stands before x after p (subst (λ (t : Span). AtFault (terminals text before) (terminal text x.what x.span) x.span (Expected t Other)) (sym s) (other h))
+grammar_fault text xs (TooDeep span) (before, x, after, p, s, h) =
+    stands before x after p (subst (λ (t : Span). AtFault (terminals text before) (terminal text x.what x.span) x.span (TooDeep t)) (sym s) (deep h))
+grammar_fault text xs NoMemory h = no_memory refl
+grammar_fault text xs TooLong h = absurd h
+grammar_fault text xs (BadCharacter at) h = absurd h
+grammar_fault text xs (NumberTooLarge at) h = absurd h
+grammar_fault text xs (CommentOpen at) h = absurd h
+grammar_fault text xs (NameTooLong at) h = absurd h
+
+-- two places of one list: the same, or one before the other
+data Places (before : List Lexeme) (x : Lexeme) (others : List Lexeme) (y : Lexeme) : Type 0 where
+  same : before ≡ others → x ≡ y → Places before x others y
+  first : (m : List Lexeme) → others ≡ before ++ x ∷ m → Places before x others y
+  second : (m : List Lexeme) → before ≡ others ++ y ∷ m → Places before x others y
+
+places : (before : List Lexeme) (x : Lexeme) (after others : List Lexeme) (y : Lexeme) (then : List Lexeme) →
+    before ++ x ∷ after ≡ others ++ y ∷ then → Places before x others y
+places [] x after [] y then e = same refl cc
+places [] x after (z ∷ others) y then e = first others (let h : x ≡ z = cc in ap (λ w. w ∷ others) (sym h))
+places (w ∷ before) x after [] y then e = second before (let h : w ≡ y = cc in ap (λ v. v ∷ before) h)
+places (w ∷ before) x after (z ∷ others) y then e =
+    let h : w ≡ z = cc in
+    let t : before ++ x ∷ after ≡ others ++ y ∷ then = cc in
+    on h (places before x after others y then t)
+  where
+    on : w ≡ z → Places before x others y → Places (w ∷ before) x (z ∷ others) y
+    on h (same p q) = same (λ i. h i ∷ p i) q
+    on h (first m p) = first m (λ i. (sym h) i ∷ p i)
+    on h (second m p) = second m (λ i. h i ∷ p i)
+
+-- a fault at a lexeme lets no later one be told
+no_later : (text : List ℕ) (before later : List Lexeme) (x : Lexeme) (e : SyntaxFault) →
+    AtFault (terminals text before) (terminal text x.what x.span) x.span e → BeginsWithin (terminals text (before ++ x ∷ later)) → ⊥
+no_later text before later x e h b =
+    ends (terminals text before) (terminals text later) (terminal text x.what x.span) x.span e h
+    (subst BeginsWithin (terminals_append text before (x ∷ later)) b)
+
+same_grammatical : (text : List ℕ) (xs : List Lexeme) (e f : SyntaxFault) → GrammarFault text xs e → GrammarFault text xs f → Agree e f
+same_grammatical text xs e f (no_memory p) k = inl p
+same_grammatical text xs e f h (no_memory q) = inr (inl q)
+same_grammatical text xs e f (at_end s p a b h) (at_end t q c d k) =
+    inr (inr (p ∙ ap (λ (u : Span). Expected u More) (same_span s t (a ∙ sym c) (b ∙ sym d)) ∙ sym q))
+same_grammatical text xs e f (at_end s p a b h) (stands before y after q k) =
+    absurd (no_later text before after y f k (subst (λ (ys : List Lexeme). BeginsWithin (terminals text ys)) q h))
+same_grammatical text xs e f (stands before x after p h) (at_end t q c d k) =
+    absurd (no_later text before after x e h (subst (λ (ys : List Lexeme). BeginsWithin (terminals text ys)) p k))
+same_grammatical text xs e f (stands before x after p h) (stands others y then q k) =
+    inr (inr (by_place (places before x after others y then (sym p ∙ q))))
+  where
+    by_place : Places before x others y → e ≡ f
+    by_place (same r s) =
+        let m : AtFault (terminals text others) (terminal text y.what y.span) y.span e =
+        subst (λ (z : Lexeme). AtFault (terminals text others) (terminal text z.what z.span) z.span e) s
+        (subst (λ (zs : List Lexeme). AtFault (terminals text zs) (terminal text x.what x.span) x.span e) r h) in
+        same_here (terminals text others) (terminal text y.what y.span) y.span e f m k
+    by_place (first m r) =
+        absurd (no_later text before m x e h (subst (λ (zs : List Lexeme). BeginsWithin (terminals text zs)) r (begins _ _ _ f k)))
+    by_place (second m r) =
+        absurd (no_later text others m y f k (subst (λ (zs : List Lexeme). BeginsWithin (terminals text zs)) r (begins _ _ _ e h)))
+
+pub one_fault : (text : List ℕ) (e f : SyntaxFault) → IsTextFault text e → IsTextFault text f → (e ≡ NoMemory) ⊎ (f ≡ NoMemory) ⊎ (e ≡ f)
+one_fault text e f (inl h) (inl k) = same_lexical text e f (lex_fault text e h) (lex_fault text f k)
+one_fault text e f (inl h) (inr (ys, l, k)) = inl (no_lexemes text e ys (lex_fault text e h) l)
+one_fault text e f (inr (xs, l, h)) (inl k) = inr (inl (no_lexemes text f xs (lex_fault text f k) l))
+one_fault text e f (inr (xs, l, h)) (inr (ys, m, k)) =
+    let same = same_lexemes text 0 (length text) xs ys l.1 m.1 in
+    same_grammatical text ys e f (grammar_fault text ys e (subst (λ (zs : List Lexeme). IsFault text zs e) same h)) (grammar_fault text ys f k)
