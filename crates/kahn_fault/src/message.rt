@@ -9,7 +9,6 @@ use crate::fault::Fault;
 use itoa::Buffer;
 use kahn_check::fault::CheckFault;
 use kahn_pool::config::RunFault;
-use kahn_report::calls::Calls;
 use kahn_report::input::TextFault;
 use kahn_report::read::ReadFault;
 use kahn_report::work::WorkFault;
@@ -17,6 +16,7 @@ use kahn_report::write::{WriteFault, write_line_counted};
 use kahn_streams::entries::InputFault;
 use kahn_syntax::fault::{SyntaxFault, What};
 use kahn_tree::span::Span;
+use kahn_tree::steps::Steps;
 use std::io::Write;
 use std::marker::Brand;
 use std::sync::ledger::{Blank, Ledger};
@@ -24,54 +24,53 @@ use std::sync::ledger::{Blank, Ledger};
 /// Writes a line of words alone.
 fn put_words<W: Write, L: Ledger>(
     writer: &mut W,
-    writes: &mut Calls<L>,
     words: &str,
+    writes: &mut Steps<L>,
 ) -> Result<(), WriteFault>
     ensures text { Writes (W.contents writer.old) (W.contents writer.new) result (words_line words.now) }
-    ensures few { writes.new ≤ writes.old + length (words_line words.now) }
+    ensures few { writes.new ≤ writes.old + length (words_line words.now) + 1 }
 {
-    write_line_counted(writer, writes, &[b"kahn: ", words.as_bytes(), b"\n"])
+    write_line_counted(writer, &[b"kahn: ", words.as_bytes(), b"\n"], writes)
 }
 
 /// Writes that memory was refused.
-fn put_memory<W: Write, L: Ledger>(writer: &mut W, writes: &mut Calls<L>) -> Result<(), WriteFault>
+fn put_memory<W: Write, L: Ledger>(writer: &mut W, writes: &mut Steps<L>) -> Result<(), WriteFault>
     ensures text { Writes (W.contents writer.old) (W.contents writer.new) result memory_line }
-    ensures few { writes.new ≤ writes.old + length memory_line }
+    ensures few { writes.new ≤ writes.old + length memory_line + 1 }
 {
-    put_words(writer, writes, "no memory")
+    put_words(writer, "no memory", writes)
 }
 
 /// Writes a line of two parts.
 fn put_two<'a, W: Write, L: Ledger>(
     writer: &mut W,
-    writes: &mut Calls<L>,
     first: &'a str,
     second: &'a str,
+    writes: &mut Steps<L>,
 ) -> Result<(), WriteFault>
     ensures text { Writes (W.contents writer.old) (W.contents writer.new) result (two_line first.now second.now) }
-    ensures few { writes.new ≤ writes.old + length (two_line first.now second.now) }
+    ensures few { writes.new ≤ writes.old + length (two_line first.now second.now) + 1 }
 {
     write_line_counted(
         writer,
-        writes,
         &[b"kahn: ", first.as_bytes(), second.as_bytes(), b"\n"],
+        writes,
     )
 }
 
 /// Writes a line with a number, or what stands for one, between its words.
 fn put_between<'a, W: Write, L: Ledger>(
     writer: &mut W,
-    writes: &mut Calls<L>,
     before: &'a str,
     between: &'a str,
     after: &'a str,
+    writes: &mut Steps<L>,
 ) -> Result<(), WriteFault>
     ensures text { Writes (W.contents writer.old) (W.contents writer.new) result (between_line before.now between.now after.now) }
-    ensures few { writes.new ≤ writes.old + length (between_line before.now between.now after.now) }
+    ensures few { writes.new ≤ writes.old + length (between_line before.now between.now after.now) + 1 }
 {
     write_line_counted(
         writer,
-        writes,
         &[
             b"kahn: ",
             before.as_bytes(),
@@ -79,38 +78,38 @@ fn put_between<'a, W: Write, L: Ledger>(
             after.as_bytes(),
             b"\n",
         ],
+        writes,
     )
 }
 
 /// Writes a line with a number between its words.
 fn put_number<W: Write, L: Ledger>(
     writer: &mut W,
-    writes: &mut Calls<L>,
     before: &str,
     number: usize,
     after: &str,
+    writes: &mut Steps<L>,
 ) -> Result<(), WriteFault>
     ensures text { Writes (W.contents writer.old) (W.contents writer.new) result (between_line before.now (decimal number) after.now) }
-    ensures few { writes.new ≤ writes.old + length (between_line before.now (decimal number) after.now) }
+    ensures few { writes.new ≤ writes.old + length (between_line before.now (decimal number) after.now) + 1 }
 {
     let mut buffer = Buffer::new();
-    put_between(writer, writes, before, buffer.format(number), after)
+    put_between(writer, before, buffer.format(number), after, writes)
 }
 
 /// Writes a line with two numbers before its words.
 fn put_place<'a, W: Write, L: Ledger>(
     writer: &mut W,
-    writes: &mut Calls<L>,
     line: &'a str,
     column: &'a str,
     words: &'a str,
+    writes: &mut Steps<L>,
 ) -> Result<(), WriteFault>
     ensures text { Writes (W.contents writer.old) (W.contents writer.new) result (concat (codes "kahn: " ∷ line.now ∷ codes ":" ∷ column.now ∷ codes ": " ∷ words.now ∷ codes "\n" ∷ [])) }
-    ensures few { writes.new ≤ writes.old + length (concat (codes "kahn: " ∷ line.now ∷ codes ":" ∷ column.now ∷ codes ": " ∷ words.now ∷ codes "\n" ∷ [])) }
+    ensures few { writes.new ≤ writes.old + length (concat (codes "kahn: " ∷ line.now ∷ codes ":" ∷ column.now ∷ codes ": " ∷ words.now ∷ codes "\n" ∷ [])) + 1 }
 {
     write_line_counted(
         writer,
-        writes,
         &[
             b"kahn: ",
             line.as_bytes(),
@@ -120,47 +119,48 @@ fn put_place<'a, W: Write, L: Ledger>(
             words.as_bytes(),
             b"\n",
         ],
+        writes,
     )
 }
 
 /// Writes a line with the place of a byte of the program text.
 fn put_byte<W: Write, L: Ledger>(
     writer: &mut W,
-    writes: &mut Calls<L>,
     program: &str,
     from: usize,
     words: &str,
+    writes: &mut Steps<L>,
 ) -> Result<(), WriteFault>
     requires { from ≤ length program.now }
     ensures text { Writes (W.contents writer.old) (W.contents writer.new) result (place_line program.now from words.now) }
-    ensures few { writes.new ≤ writes.old + length (place_line program.now from words.now) }
+    ensures few { writes.new ≤ writes.old + length (place_line program.now from words.now) + 1 }
 {
     let (line, column) = Span { from, to: from }.place(program);
     let mut first = Buffer::new();
     let mut second = Buffer::new();
     put_place(
         writer,
-        writes,
         first.format(line),
         second.format(column),
         words,
+        writes,
     )
 }
 
 /// Writes a line with the place of a byte, where there is one.
 fn put_placed<W: Write, L: Ledger>(
     writer: &mut W,
-    writes: &mut Calls<L>,
     program: &str,
     place: Option<usize>,
     words: &str,
+    writes: &mut Steps<L>,
 ) -> Result<(), WriteFault>
     ensures text { Writes (W.contents writer.old) (W.contents writer.new) result (placed_line program.now place words.now) }
-    ensures few { writes.new ≤ writes.old + length (placed_line program.now place words.now) }
+    ensures few { writes.new ≤ writes.old + length (placed_line program.now place words.now) + 1 }
 {
     match place {
-        Some(from) => put_byte(writer, writes, program, from.min(program.len()), words),
-        None => put_words(writer, writes, words),
+        Some(from) => put_byte(writer, program, from.min(program.len()), words, writes),
+        None => put_words(writer, words, writes),
     }
 }
 
@@ -251,11 +251,11 @@ fn check_words(fault: CheckFault) -> &'static str
 /// Writes the line of an entry of the input text.
 fn put_entry<W: Write, L: Ledger>(
     writer: &mut W,
-    writes: &mut Calls<L>,
     fault: InputFault,
+    writes: &mut Steps<L>,
 ) -> Result<(), WriteFault>
     ensures text { Writes (W.contents writer.old) (W.contents writer.new) result (entry_line fault) }
-    ensures few { writes.new ≤ writes.old + length (entry_line fault) }
+    ensures few { writes.new ≤ writes.old + length (entry_line fault) + 1 }
 {
     let (entry, words) = match fault {
         InputFault::UnknownName(entry) => (entry, ": no such channel"),
@@ -265,31 +265,31 @@ fn put_entry<W: Write, L: Ledger>(
         InputFault::TooMany(entry) => (entry, ": too many values"),
         InputFault::NoMemory => return put_memory(writer, writes),
     };
-    put_number(writer, writes, "input entry ", entry, words)
+    put_number(writer, "input entry ", entry, words, writes)
 }
 
 /// Writes the line of an input text that is refused.
 fn put_text<W: Write, L: Ledger>(
     writer: &mut W,
-    writes: &mut Calls<L>,
     fault: TextFault,
+    writes: &mut Steps<L>,
 ) -> Result<(), WriteFault>
     ensures text { Writes (W.contents writer.old) (W.contents writer.new) result (text_line fault) }
-    ensures few { writes.new ≤ writes.old + length (text_line fault) }
+    ensures few { writes.new ≤ writes.old + length (text_line fault) + 1 }
 {
     match fault {
         TextFault::BadLine(line) => put_number(
             writer,
-            writes,
             "input line ",
             line,
             ": not a name and a colon",
+            writes,
         ),
         TextFault::BadValue(line) => {
-            put_number(writer, writes, "input line ", line, ": not a value")
+            put_number(writer, "input line ", line, ": not a value", writes)
         }
-        TextFault::Input(fault) => put_entry(writer, writes, fault),
-        TextFault::TooLong => put_words(writer, writes, "input text is too long"),
+        TextFault::Input(fault) => put_entry(writer, fault, writes),
+        TextFault::TooLong => put_words(writer, "input text is too long", writes),
         TextFault::NoMemory => put_memory(writer, writes),
     }
 }
@@ -297,11 +297,11 @@ fn put_text<W: Write, L: Ledger>(
 /// Writes the line of a run that has no answer.
 fn put_run<W: Write, L: Ledger>(
     writer: &mut W,
-    writes: &mut Calls<L>,
     fault: RunFault,
+    writes: &mut Steps<L>,
 ) -> Result<(), WriteFault>
     ensures text { Writes (W.contents writer.old) (W.contents writer.new) result (run_line fault) }
-    ensures few { writes.new ≤ writes.old + length (run_line fault) }
+    ensures few { writes.new ≤ writes.old + length (run_line fault) + 1 }
 {
     let words = match fault {
         RunFault::BadConfig => "configuration is out of range",
@@ -310,55 +310,55 @@ fn put_run<W: Write, L: Ledger>(
         RunFault::NoThread => "no thread",
         RunFault::Stalled => "workers stalled",
     };
-    put_words(writer, writes, words)
+    put_words(writer, words, writes)
 }
 
 /// Writes the line of a run without a report.
 fn put_work<W: Write, L: Ledger>(
     writer: &mut W,
-    writes: &mut Calls<L>,
     program: &str,
     fault: WorkFault,
+    writes: &mut Steps<L>,
 ) -> Result<(), WriteFault>
     ensures text { Writes (W.contents writer.old) (W.contents writer.new) result (work_line program.now fault) }
-    ensures few { writes.new ≤ writes.old + length (work_line program.now fault) }
+    ensures few { writes.new ≤ writes.old + length (work_line program.now fault) + 1 }
 {
     match fault {
         WorkFault::Syntax(fault) => put_placed(
             writer,
-            writes,
             program,
             syntax_place(fault),
             syntax_words(fault),
+            writes,
         ),
         WorkFault::Check(fault) => put_placed(
             writer,
-            writes,
             program,
             check_place(fault),
             check_words(fault),
+            writes,
         ),
-        WorkFault::Text(fault) => put_text(writer, writes, fault),
-        WorkFault::Run(fault) => put_run(writer, writes, fault),
-        WorkFault::Write(_) => put_words(writer, writes, "report could not be written"),
+        WorkFault::Text(fault) => put_text(writer, fault, writes),
+        WorkFault::Run(fault) => put_run(writer, fault, writes),
+        WorkFault::Write(_) => put_words(writer, "report could not be written", writes),
     }
 }
 
 /// Writes the line of a text that wasn't read: its path, and what is said where it is too long.
 fn put_read<W: Write, L: Ledger>(
     writer: &mut W,
-    writes: &mut Calls<L>,
     path: &str,
     long: &str,
     fault: ReadFault,
+    writes: &mut Steps<L>,
 ) -> Result<(), WriteFault>
     ensures text { Writes (W.contents writer.old) (W.contents writer.new) result (read_line path.now long.now fault) }
-    ensures few { writes.new ≤ writes.old + length (read_line path.now long.now fault) }
+    ensures few { writes.new ≤ writes.old + length (read_line path.now long.now fault) + 1 }
 {
     match fault {
-        ReadFault::Failed => put_two(writer, writes, "cannot read ", path),
-        ReadFault::TooLong => put_words(writer, writes, long),
-        ReadFault::NotUtf8 => put_two(writer, writes, path, " is not UTF-8"),
+        ReadFault::Failed => put_two(writer, "cannot read ", path, writes),
+        ReadFault::TooLong => put_words(writer, long, writes),
+        ReadFault::NotUtf8 => put_two(writer, path, " is not UTF-8", writes),
         ReadFault::NoMemory => put_memory(writer, writes),
     }
 }
@@ -373,33 +373,33 @@ fn path_words(path: &Option<String>) -> &str
     }
 }
 
-/// Writes the line of a fault as `fault_line` does, and counts its writes: at most one for each byte of the line.
+/// Writes the line of a fault as `fault_line` does, and counts its calls: at most one write for each byte of the line, and one flush.
 pub fn line_counted<W: Write, L: Ledger>(
     fault: &Fault,
     program: &str,
     writer: &mut W,
-    writes: &mut Calls<L>,
+    writes: &mut Steps<L>,
 ) -> Result<(), WriteFault>
     ensures text { Writes (W.contents writer.old) (W.contents writer.new) result (fault_text program.now fault.now) }
-    ensures few { writes.new ≤ writes.old + length (fault_text program.now fault.now) }
+    ensures few { writes.new ≤ writes.old + length (fault_text program.now fault.now) + 1 }
 {
     match fault {
-        Fault::Open(path) => put_two(writer, writes, "cannot read ", path.as_str()),
+        Fault::Open(path) => put_two(writer, "cannot read ", path.as_str(), writes),
         Fault::Program(path, fault) => put_read(
             writer,
-            writes,
             path_words(path),
             "program text is too long",
             *fault,
+            writes,
         ),
         Fault::InputText(path, fault) => put_read(
             writer,
-            writes,
             path.as_str(),
             "input text is too long",
             *fault,
+            writes,
         ),
-        Fault::Work(fault) => put_work(writer, writes, program, *fault),
+        Fault::Work(fault) => put_work(writer, program, *fault, writes),
     }
 }
 
@@ -421,7 +421,7 @@ fn line_opened<W: Write, L: Ledger>(
     requires some { 0 < blank.parts }
     ensures { Writes (W.contents writer.old) (W.contents writer.new) result (fault_text told.now.program.now told.now.fault.now) }
 {
-    let mut writes = Calls::<L>::open(blank);
+    let mut writes = Steps::<L>::open(blank);
     line_counted(told.fault, told.program, writer, &mut writes)
 }
 

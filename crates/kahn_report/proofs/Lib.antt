@@ -9,3 +9,6 @@ pub mod Lines
 pub mod Right_lines
 pub mod Told
 pub mod Worked
+pub mod Same_programs
+pub mod Same_inputs
+pub mod One_report

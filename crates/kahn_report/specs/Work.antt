@@ -1,5 +1,7 @@
 -- What the whole work does, from the bytes of the texts to the bytes of the report.
-use Rattle.std.specs.Prelude.{◌≡◌, ◌⊎◌, ℕ, ◌≤◌, List, Option, Result, Ok, Err}
+use Rattle.std.specs.Prelude.{◌≡◌, ◌⊎◌, ℕ, ◌≤◌, List, Option, Some, None, Result, Ok, Err, string_bytes}
+use Rattle.std.specs.declared.string.String.{String}
+use Rattle.std.specs.declared.alloc.Global.{Global}
 use Rattle.std.specs.Io.KnownBytes.{Appends}
 use Rattle.kahn_syntax.specs.declared.fault.SyntaxFault.{SyntaxFault}
 use Rattle.kahn_tree.specs.declared.tree.Program.{Program}
@@ -13,6 +15,7 @@ use Rattle.kahn_network.specs.Wiring.{IsWellWired}
 use Rattle.kahn_streams.specs.Tokens.{Lists, inputs_of}
 use Rattle.kahn_pool.specs.declared.answer.Answer.{Answer}
 use Rattle.kahn_pool.specs.declared.answer.Verdict.{Verdict}
+use Rattle.kahn_pool.specs.declared.answer.Verdict.TheVariants.{Finished}
 use Rattle.kahn_config.specs.declared.Config.{Config}
 use Rattle.kahn_pool.specs.Exact.{Settles}
 use Rattle.kahn_pool.specs.Runs.{IsRun, IsUnrun}
@@ -67,3 +70,14 @@ IsWorked program input config old new (Err (Run f)) =
     ((t : Program) × (lists : Lists) × IsChecked program t × StandsFor t input lists × IsUnrun t config f) × (new ≡ old)
 IsWorked program input config old new (Err (Write f)) =
     (t : Program) × (lists : Lists) × (a : Answer) × IsAnswered program input config t lists a × AppendsFront old new (report_text t a)
+
+-- the name of the channel that is to be watched
+abbrev pub watched_name : Option (String Global) → Option (List ℕ)
+watched_name None = None
+watched_name (Some name) = Some (string_bytes name)
+
+-- two finished reports of the same texts, with the same channel watched, are the same bytes
+abbrev pub IsOneReport : List ℕ → List ℕ → Config → Config → Type 0
+IsOneReport program input config other =
+    (old : List ℕ) (new newer : Option (List ℕ)) → watched_name config.watch ≡ watched_name other.watch →
+    IsWorked program input config (Some old) new (Ok Finished) → IsWorked program input other (Some old) newer (Ok Finished) → new ≡ newer

@@ -7,12 +7,12 @@ ghost use Rattle.kahn_report.specs.Report.{IsLine};
 ghost use Rattle.kahn_report.specs.News.{more_text, fresh_text, closing_text};
 ghost use Rattle.kahn_report.specs.Written.{Writes};
 
-use crate::calls::Calls;
 use crate::write::{WriteFault, flush, put_ends, put_last, put_tokens};
 use kahn_network::network::Network;
 use kahn_pool::answer::{Answer, Stream};
 use kahn_streams::token::Token;
 use kahn_streams::value::Line;
+use kahn_tree::steps::Steps;
 use std::io::Write;
 use std::marker::Brand;
 use std::sync::ledger::{Blank, Ledger};
@@ -20,10 +20,10 @@ use std::sync::ledger::{Blank, Ledger};
 /// Writes the line of a stream that has these tokens more, and nothing where there are none.
 fn put_more<W: Write, L: Ledger>(
     writer: &mut W,
-    writes: &mut Calls<L>,
     network: &Network,
     line: Line,
     tokens: &[Token],
+    writes: &mut Steps<L>,
 ) -> Result<(), WriteFault>
     requires { IsLine network.now line }
     ensures text { Writes (W.contents writer.old) (W.contents writer.new) result (more_text network.now line (map token_value tokens.now)) }
@@ -32,7 +32,7 @@ fn put_more<W: Write, L: Ledger>(
     if tokens.is_empty() {
         return Ok(());
     }
-    put_tokens(writer, writes, network, line, tokens)
+    put_tokens(writer, network, line, tokens, writes)
 }
 
 /// How many values of a stream were shown.
@@ -58,10 +58,10 @@ fn tokens_after(stream: &Stream, count: usize) -> &[Token]
 /// Writes the lines of what is new on the streams since those that were shown.
 fn put_news<W: Write, L: Ledger>(
     writer: &mut W,
-    writes: &mut Calls<L>,
     network: &Network,
     shown: &[Stream],
     streams: &[Stream],
+    writes: &mut Steps<L>,
 ) -> Result<(), WriteFault>
     requires { All (λ stream. IsLine network.now stream.line) streams.now }
     ensures text { Writes (W.contents writer.old) (W.contents writer.new) result (fresh_text network.now shown.now streams.now) }
@@ -69,25 +69,25 @@ fn put_news<W: Write, L: Ledger>(
 {
     for (number, stream) in streams.iter().enumerate() {
         let tokens = tokens_after(stream, shown_count(shown, number));
-        put_more(writer, writes, network, stream.line, tokens)?;
+        put_more(writer, network, stream.line, tokens, writes)?;
     }
     Ok(())
 }
 
-/// Writes what is new on the streams since those that were shown, and flushes, and counts its writes.
+/// Writes what is new on the streams since those that were shown, and flushes, and counts both.
 pub fn news_counted<W: Write, L: Ledger>(
     writer: &mut W,
-    writes: &mut Calls<L>,
     network: &Network,
     shown: &[Stream],
     streams: &[Stream],
+    writes: &mut Steps<L>,
 ) -> Result<(), WriteFault>
     requires { All (λ stream. IsLine network.now stream.line) streams.now }
     ensures text { Writes (W.contents writer.old) (W.contents writer.new) result (fresh_text network.now shown.now streams.now) }
-    ensures few { writes.new ≤ writes.old + length (fresh_text network.now shown.now streams.now) }
+    ensures few { writes.new ≤ writes.old + length (fresh_text network.now shown.now streams.now) + 1 }
 {
-    put_news(writer, writes, network, shown, streams)?;
-    flush(writer)
+    put_news(writer, network, shown, streams, writes)?;
+    flush(writer, writes)
 }
 
 /// Opens a count, and writes what is new.
@@ -104,8 +104,8 @@ fn news_opened<W: Write, L: Ledger>(
     requires lines { All (λ stream. IsLine network.now stream.line) streams.now }
     ensures { Writes (W.contents writer.old) (W.contents writer.new) result (fresh_text network.now shown.now streams.now) }
 {
-    let mut writes = Calls::<L>::open(blank);
-    news_counted(writer, &mut writes, network, shown, streams)
+    let mut writes = Steps::<L>::open(blank);
+    news_counted(writer, network, shown, streams, &mut writes)
 }
 
 /// Writes what is new on the streams since those that were shown, and flushes: for each stream that has grown a line with
@@ -122,19 +122,19 @@ pub fn write_news<W: Write>(
     news_opened::<W, Brand>(writer, Blank::new(1), network, shown, streams)
 }
 
-/// Writes the last lines of a report and flushes, and counts its writes.
+/// Writes the last lines of a report and flushes, and counts both.
 pub fn closing_counted<W: Write, L: Ledger>(
     writer: &mut W,
-    writes: &mut Calls<L>,
     network: &Network,
     answer: &Answer,
+    writes: &mut Steps<L>,
 ) -> Result<(), WriteFault>
     ensures text { Writes (W.contents writer.old) (W.contents writer.new) result (closing_text network.now answer.now) }
-    ensures few { writes.new ≤ writes.old + length (closing_text network.now answer.now) }
+    ensures few { writes.new ≤ writes.old + length (closing_text network.now answer.now) + 1 }
 {
-    put_ends(writer, writes, network, &answer.ends)?;
-    put_last(writer, writes, answer)?;
-    flush(writer)
+    put_ends(writer, network, &answer.ends, writes)?;
+    put_last(writer, answer, writes)?;
+    flush(writer, writes)
 }
 
 /// Opens a count, and writes the last lines of a report.
@@ -149,8 +149,8 @@ fn closing_opened<W: Write, L: Ledger>(
     requires some { 0 < blank.parts }
     ensures { Writes (W.contents writer.old) (W.contents writer.new) result (closing_text network.now answer.now) }
 {
-    let mut writes = Calls::<L>::open(blank);
-    closing_counted(writer, &mut writes, network, answer)
+    let mut writes = Steps::<L>::open(blank);
+    closing_counted(writer, network, answer, &mut writes)
 }
 
 /// Writes the last lines of a report, those of the ends and of the verdict, and flushes. After a fault a prefix of them

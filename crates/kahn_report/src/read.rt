@@ -4,7 +4,7 @@ ghost use Rattle.std.specs.Prelude.{◌≡◌, ℕ, ◌+◌, ◌<◌, ◌≤◌,
 ghost use Rattle.std.specs.Str.{IsUtf8};
 ghost use Rattle.kahn_report.specs.Reading.{GivesAll, Stands};
 
-use crate::calls::Calls;
+use kahn_tree::steps::Steps;
 use std::alloc::Global;
 use std::io::Read;
 use std::marker::Brand;
@@ -28,8 +28,8 @@ pub enum ReadFault {
 pub fn read_counted<R: Read, L: Ledger>(
     alloc: Global,
     reader: &mut R,
-    reads: &mut Calls<L>,
     limit: usize,
+    reads: &mut Steps<L>,
 ) -> Result<String, ReadFault>
     requires { limit < usize.MAX }
     ensures text { MatchResult result (λ text. GivesAll (R.remaining reader.old) (R.remaining reader.new) limit (string_bytes text))
@@ -78,8 +78,8 @@ fn read_opened<R: Read, L: Ledger>(
     ensures { MatchResult result (λ text. GivesAll (R.remaining reader.old) (R.remaining reader.new) limit (string_bytes text))
         (Stands (R.remaining reader.old) (R.remaining reader.new) limit) }
 {
-    let mut reads = Calls::<L>::open(blank);
-    read_counted(alloc, reader, &mut reads, limit)
+    let mut reads = Steps::<L>::open(blank);
+    read_counted(alloc, reader, limit, &mut reads)
 }
 
 /// Reads a text to the end of input, or until one byte more than the limit came. What was read is gone from the reader.

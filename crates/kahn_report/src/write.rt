@@ -6,13 +6,13 @@ ghost use Rattle.std.specs.Io.KnownBytes.{Keeps};
 ghost use Rattle.kahn_report.specs.Written.{Writes};
 ghost use Rattle.kahn_report.specs.Report.{report_text, value_text, line_head, tokens_text, stream_text, outcome_word, waited_name, end_words, end_text, ends_text, last_text, IsLine, HasItsLines};
 
-use crate::calls::Calls;
 use crate::names::{channel_name, process_name};
 use itoa::Buffer;
 use kahn_network::network::Network;
 use kahn_pool::answer::{Answer, End, Outcome, Stream, Verdict};
 use kahn_streams::token::Token;
 use kahn_streams::value::{Failure, Line, Value};
+use kahn_tree::steps::Steps;
 use std::io::Write;
 use std::marker::Brand;
 use std::sync::ledger::{Blank, Ledger};
@@ -30,8 +30,8 @@ pub enum WriteFault {
 /// Writes bytes, by as many writes as it takes.
 fn put<W: Write, L: Ledger>(
     writer: &mut W,
-    writes: &mut Calls<L>,
     bytes: &[u8],
+    writes: &mut Steps<L>,
 ) -> Result<(), WriteFault>
     ensures text { Writes (W.contents writer.old) (W.contents writer.new) result bytes.now }
     ensures few { writes.new ≤ writes.old + length bytes.now }
@@ -51,14 +51,14 @@ fn put<W: Write, L: Ledger>(
 /// Writes pieces one after another.
 fn put_all<W: Write, L: Ledger>(
     writer: &mut W,
-    writes: &mut Calls<L>,
     pieces: &[&[u8]],
+    writes: &mut Steps<L>,
 ) -> Result<(), WriteFault>
     ensures text { Writes (W.contents writer.old) (W.contents writer.new) result (flat_map (λ piece. piece.now) pieces.now) }
     ensures few { writes.new ≤ writes.old + length (flat_map (λ piece. piece.now) pieces.now) }
 {
     for piece in pieces {
-        put(writer, writes, piece)?;
+        put(writer, piece, writes)?;
     }
     Ok(())
 }
@@ -66,8 +66,8 @@ fn put_all<W: Write, L: Ledger>(
 /// Writes a space and a value.
 fn put_value<W: Write, L: Ledger>(
     writer: &mut W,
-    writes: &mut Calls<L>,
     value: Value,
+    writes: &mut Steps<L>,
 ) -> Result<(), WriteFault>
     ensures text { Writes (W.contents writer.old) (W.contents writer.new) result (concat (codes " " ∷ value_text value ∷ [])) }
     ensures few { writes.new ≤ writes.old + length (concat (codes " " ∷ value_text value ∷ [])) }
@@ -78,15 +78,15 @@ fn put_value<W: Write, L: Ledger>(
         Value::Logical(true) => "true",
         Value::Logical(false) => "false",
     };
-    put_all(writer, writes, &[b" ", text.as_bytes()])
+    put_all(writer, &[b" ", text.as_bytes()], writes)
 }
 
 /// Writes what a stream's line begins with.
 fn put_head<W: Write, L: Ledger>(
     writer: &mut W,
-    writes: &mut Calls<L>,
     network: &Network,
     line: Line,
+    writes: &mut Steps<L>,
 ) -> Result<(), WriteFault>
     requires { IsLine network.now line }
     ensures text { Writes (W.contents writer.old) (W.contents writer.new) result (line_head network.now line) }
@@ -95,13 +95,13 @@ fn put_head<W: Write, L: Ledger>(
     match line {
         Line::Channel(channel) => {
             let name = channel_name(network, channel).as_bytes();
-            put_all(writer, writes, &[name, b":"])
+            put_all(writer, &[name, b":"], writes)
         }
         Line::Print(instance) => {
             let mut buffer = Buffer::new();
             let number = buffer.format(instance + 1).as_bytes();
             let name = process_name(network, instance).as_bytes();
-            put_all(writer, writes, &[b"print ", number, b" ", name, b":"])
+            put_all(writer, &[b"print ", number, b" ", name, b":"], writes)
         }
     }
 }
@@ -109,34 +109,34 @@ fn put_head<W: Write, L: Ledger>(
 /// Writes the line of a stream with these tokens.
 pub(crate) fn put_tokens<W: Write, L: Ledger>(
     writer: &mut W,
-    writes: &mut Calls<L>,
     network: &Network,
     line: Line,
     tokens: &[Token],
+    writes: &mut Steps<L>,
 ) -> Result<(), WriteFault>
     requires { IsLine network.now line }
     ensures text { Writes (W.contents writer.old) (W.contents writer.new) result (tokens_text network.now line tokens.now) }
     ensures few { writes.new ≤ writes.old + length (tokens_text network.now line tokens.now) }
 {
-    put_head(writer, writes, network, line)?;
+    put_head(writer, network, line, writes)?;
     for token in tokens {
-        put_value(writer, writes, token.value())?;
+        put_value(writer, token.value(), writes)?;
     }
-    put(writer, writes, b"\n")
+    put(writer, b"\n", writes)
 }
 
 /// Writes a stream's line.
 fn put_stream<W: Write, L: Ledger>(
     writer: &mut W,
-    writes: &mut Calls<L>,
     network: &Network,
     stream: &Stream,
+    writes: &mut Steps<L>,
 ) -> Result<(), WriteFault>
     requires { IsLine network.now stream.now.line }
     ensures text { Writes (W.contents writer.old) (W.contents writer.new) result (stream_text network.now stream.now) }
     ensures few { writes.new ≤ writes.old + length (stream_text network.now stream.now) }
 {
-    put_tokens(writer, writes, network, stream.line, &stream.tokens)
+    put_tokens(writer, network, stream.line, &stream.tokens, writes)
 }
 
 /// Says how an instance stood.
@@ -165,10 +165,10 @@ fn waited_name(network: &Network, outcome: Outcome) -> &str
 /// Writes an instance's line.
 fn put_end<W: Write, L: Ledger>(
     writer: &mut W,
-    writes: &mut Calls<L>,
     network: &Network,
     instance: usize,
     end: End,
+    writes: &mut Steps<L>,
 ) -> Result<(), WriteFault>
     requires { instance < usize.MAX }
     ensures text { Writes (W.contents writer.old) (W.contents writer.new) result (end_text network.now instance end) }
@@ -181,36 +181,36 @@ fn put_end<W: Write, L: Ledger>(
     let name = process_name(network, instance).as_bytes();
     let word = outcome_word(end.outcome).as_bytes();
     let channel = waited_name(network, end.outcome).as_bytes();
-    put_words(writer, writes, number, name, word, channel, events)
+    put_words(writer, number, name, word, channel, events, writes)
 }
 
 /// Writes an instance's line of its parts.
 fn put_words<'a, W: Write, L: Ledger>(
     writer: &mut W,
-    writes: &mut Calls<L>,
     number: &'a [u8],
     name: &'a [u8],
     word: &'a [u8],
     channel: &'a [u8],
     events: &'a [u8],
+    writes: &mut Steps<L>,
 ) -> Result<(), WriteFault>
     ensures text { Writes (W.contents writer.old) (W.contents writer.new) result (end_words number.now name.now word.now channel.now events.now) }
     ensures few { writes.new ≤ writes.old + length (end_words number.now name.now word.now channel.now events.now) }
 {
     put_all(
         writer,
-        writes,
         &[
             b"end ", number, b" ", name, b": ", word, channel, b" after ", events, b"\n",
         ],
+        writes,
     )
 }
 
 /// Writes the last line.
 pub(crate) fn put_last<W: Write, L: Ledger>(
     writer: &mut W,
-    writes: &mut Calls<L>,
     answer: &Answer,
+    writes: &mut Steps<L>,
 ) -> Result<(), WriteFault>
     ensures text { Writes (W.contents writer.old) (W.contents writer.new) result (last_text answer.now) }
     ensures few { writes.new ≤ writes.old + length (last_text answer.now) }
@@ -222,22 +222,22 @@ pub(crate) fn put_last<W: Write, L: Ledger>(
         Verdict::Bound => b"stopped by bound ",
         Verdict::Memory => b"stopped by memory ",
     };
-    put_all(writer, writes, &[word, events, b"\n"])
+    put_all(writer, &[word, events, b"\n"], writes)
 }
 
 /// Writes the lines of the streams.
 fn put_streams<W: Write, L: Ledger>(
     writer: &mut W,
-    writes: &mut Calls<L>,
     network: &Network,
     streams: &[Stream],
+    writes: &mut Steps<L>,
 ) -> Result<(), WriteFault>
     requires { All (λ stream. IsLine network.now stream.line) streams.now }
     ensures text { Writes (W.contents writer.old) (W.contents writer.new) result (flat_map (stream_text network.now) streams.now) }
     ensures few { writes.new ≤ writes.old + length (flat_map (stream_text network.now) streams.now) }
 {
     for stream in streams {
-        put_stream(writer, writes, network, stream)?;
+        put_stream(writer, network, stream, writes)?;
     }
     Ok(())
 }
@@ -245,41 +245,46 @@ fn put_streams<W: Write, L: Ledger>(
 /// Writes the lines of the instances.
 pub(crate) fn put_ends<W: Write, L: Ledger>(
     writer: &mut W,
-    writes: &mut Calls<L>,
     network: &Network,
     ends: &[End],
+    writes: &mut Steps<L>,
 ) -> Result<(), WriteFault>
     ensures text { Writes (W.contents writer.old) (W.contents writer.new) result (ends_text network.now 0 ends.now) }
     ensures few { writes.new ≤ writes.old + length (ends_text network.now 0 ends.now) }
 {
     for (instance, end) in ends.iter().enumerate() {
-        put_end(writer, writes, network, instance, *end)?;
+        put_end(writer, network, instance, *end, writes)?;
     }
     Ok(())
 }
 
-/// Flushes a writer, which leaves what it holds.
-pub(crate) fn flush<W: Write>(writer: &mut W) -> Result<(), WriteFault>
-    ensures { Keeps (W.contents writer.old) (W.contents writer.new) }
+/// Flushes a writer, which leaves what it holds, and counts that too.
+pub(crate) fn flush<W: Write, L: Ledger>(
+    writer: &mut W,
+    writes: &mut Steps<L>,
+) -> Result<(), WriteFault>
+    ensures kept { Keeps (W.contents writer.old) (W.contents writer.new) }
+    ensures once { writes.new ≡ writes.old + 1 }
 {
+    writes.tick();
     writer.flush().map_err(|_| WriteFault::Failed)
 }
 
-/// Writes the report text and flushes, and counts its writes.
+/// Writes the report text and flushes, and counts both: at most one write for each byte, and one flush.
 pub fn write_counted<W: Write, L: Ledger>(
     writer: &mut W,
-    writes: &mut Calls<L>,
     network: &Network,
     answer: &Answer,
+    writes: &mut Steps<L>,
 ) -> Result<(), WriteFault>
     requires { HasItsLines network.now answer.now }
     ensures text { Writes (W.contents writer.old) (W.contents writer.new) result (report_text network.now answer.now) }
-    ensures few { writes.new ≤ writes.old + length (report_text network.now answer.now) }
+    ensures few { writes.new ≤ writes.old + length (report_text network.now answer.now) + 1 }
 {
-    put_streams(writer, writes, network, &answer.streams)?;
-    put_ends(writer, writes, network, &answer.ends)?;
-    put_last(writer, writes, answer)?;
-    flush(writer)
+    put_streams(writer, network, &answer.streams, writes)?;
+    put_ends(writer, network, &answer.ends, writes)?;
+    put_last(writer, answer, writes)?;
+    flush(writer, writes)
 }
 
 /// Opens a count, and writes.
@@ -295,8 +300,8 @@ fn write_opened<W: Write, L: Ledger>(
     requires lines { HasItsLines network.now answer.now }
     ensures { Writes (W.contents writer.old) (W.contents writer.new) result (report_text network.now answer.now) }
 {
-    let mut writes = Calls::<L>::open(blank);
-    write_counted(writer, &mut writes, network, answer)
+    let mut writes = Steps::<L>::open(blank);
+    write_counted(writer, network, answer, &mut writes)
 }
 
 /// Writes the report text of an answer of a network, and flushes. After a fault a prefix of it went out.
@@ -311,17 +316,17 @@ pub fn write_report<W: Write>(
     write_opened::<W, Brand>(writer, Blank::new(1), network, answer)
 }
 
-/// Writes pieces one after another and flushes, and counts the writes.
+/// Writes pieces one after another and flushes, and counts both.
 pub fn write_line_counted<W: Write, L: Ledger>(
     writer: &mut W,
-    writes: &mut Calls<L>,
     pieces: &[&[u8]],
+    writes: &mut Steps<L>,
 ) -> Result<(), WriteFault>
     ensures text { Writes (W.contents writer.old) (W.contents writer.new) result (flat_map (λ piece. piece.now) pieces.now) }
-    ensures few { writes.new ≤ writes.old + length (flat_map (λ piece. piece.now) pieces.now) }
+    ensures few { writes.new ≤ writes.old + length (flat_map (λ piece. piece.now) pieces.now) + 1 }
 {
-    put_all(writer, writes, pieces)?;
-    flush(writer)
+    put_all(writer, pieces, writes)?;
+    flush(writer, writes)
 }
 
 /// Opens a count, and writes a line.
@@ -335,8 +340,8 @@ fn write_line_opened<W: Write, L: Ledger>(
     requires some { 0 < blank.parts }
     ensures { Writes (W.contents writer.old) (W.contents writer.new) result (flat_map (λ piece. piece.now) pieces.now) }
 {
-    let mut writes = Calls::<L>::open(blank);
-    write_line_counted(writer, &mut writes, pieces)
+    let mut writes = Steps::<L>::open(blank);
+    write_line_counted(writer, pieces, &mut writes)
 }
 
 /// Writes pieces one after another, and flushes. After a fault a prefix of them went out.

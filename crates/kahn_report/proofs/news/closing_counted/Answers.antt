@@ -16,4 +16,4 @@ returns-in_err-put_last-clause-text g c =
 pub returns-clause-text : goal.returns-clause-text
 returns-clause-text g c =
     let ends = ends_text c.args.network.now 0 c.args.answer.now.ends.items in
-    flushed _ _ _ _ _ (Appends-trans _ _ _ ends _ (rw c.deref.ensures.value at c.in_ok-put_ends.ensures.text) c.in_ok-put_last.ensures.text) c.flush.ensures
+    flushed _ _ _ _ _ (Appends-trans _ _ _ ends _ (rw c.deref.ensures.value at c.in_ok-put_ends.ensures.text) c.in_ok-put_last.ensures.text) c.flush.ensures.kept

@@ -28,4 +28,4 @@ returns-clause-text g c =
     let streams = flat_map (stream_text c.args.network.now) c.args.answer.now.streams.items in
     let ends = ends_text c.args.network.now 0 c.args.answer.now.ends.items in
     flushed _ _ _ _ _ (Appends-trans _ _ _ streams _ (rw c.deref.ensures.value at c.in_ok-put_streams.ensures.text)
-    (Appends-trans _ _ _ ends _ (rw c.deref-2.ensures.value at c.in_ok-put_ends.ensures.text) c.in_ok-put_last.ensures.text)) c.flush.ensures
+    (Appends-trans _ _ _ ends _ (rw c.deref-2.ensures.value at c.in_ok-put_ends.ensures.text) c.in_ok-put_last.ensures.text)) c.flush.ensures.kept

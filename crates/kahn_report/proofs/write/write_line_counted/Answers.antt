@@ -5,4 +5,4 @@ pub returns-in_err-put_all-clause-text : goal.returns-in_err-put_all-clause-text
 returns-in_err-put_all-clause-text g c = fails _ _ _ _ c.from_residual.ensures.0 c.in_err-put_all.ensures.text
 
 pub returns-clause-text : goal.returns-clause-text
-returns-clause-text g c = flushed _ _ _ _ _ c.in_ok-put_all.ensures.text c.flush.ensures
+returns-clause-text g c = flushed _ _ _ _ _ c.in_ok-put_all.ensures.text c.flush.ensures.kept
