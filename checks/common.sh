@@ -48,3 +48,8 @@ find_live() {
 refuse_by() {
   "${CC:-cc}" -shared -fPIC -O1 -o "$work/refuse.so" "$top/checks/$1" -ldl || exit 2
 }
+
+# Sets draw: the program that the variable KAHN_DRAW names, or else that of this tree.
+find_draw() {
+  draw=$(found kahn_draw "${KAHN_DRAW:-}") || exit 2
+}
