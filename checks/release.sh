@@ -3,7 +3,6 @@
 # one in a copy of the repository in which nothing was built, with no toolchain on the path. Where the sources differ it says so,
 # and that no program was compared: then the next release is still to be made.
 source "$(dirname "${BASH_SOURCE[0]}")/common.sh"
-source "$top/release/program.sh"
 find_program
 find_live
 find_draw
