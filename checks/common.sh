@@ -1,6 +1,7 @@
 # Sourced by the checks. Sets top (this repository) and work (a folder that goes at the end), and counts what passes and fails.
 set -u
 top=$(cd "$(dirname "${BASH_SOURCE[0]}")/.." && pwd)
+source "$top/release/program.sh"
 work=$(mktemp -d)
 trap 'rm -rf "$work"' EXIT
 passed=0
@@ -22,12 +23,12 @@ finish() {
   [ "$failed" = 0 ]
 }
 
-# found NAME PATH: the program of that path, or else that of this tree, which is proved and built first where it has to be.
+# found NAME PATH: the program of that path, or else that of this tree, as ./kahn finds it.
 found() {
   local path=$2
   if [ -z "$path" ]; then
-    "$top/$1" --help > /dev/null || return
-    path="$top/crates/$1/out/$1"
+    find_built "$1" || return
+    path=$program
   fi
   path=$(realpath "$path")
   [ -x "$path" ] || { echo "there is no program $path" >&2; return 2; }
@@ -47,4 +48,9 @@ find_live() {
 # refuse_by SOURCE: compiles the library that refuses the program something, "$work/refuse.so".
 refuse_by() {
   "${CC:-cc}" -shared -fPIC -O1 -o "$work/refuse.so" "$top/checks/$1" -ldl || exit 2
+}
+
+# Sets draw: the program that the variable KAHN_DRAW names, or else that of this tree.
+find_draw() {
+  draw=$(found kahn_draw "${KAHN_DRAW:-}") || exit 2
 }

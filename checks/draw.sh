@@ -1,0 +1,37 @@
+#!/usr/bin/env bash
+# Draws the examples and the rows, and compares the pictures with those of the checker of fuzz/; and draws files and streams that go
+# wrong.
+source "$(dirname "${BASH_SOURCE[0]}")/common.sh"
+find_draw
+cd "$work" || exit 2
+
+# gives NAME STATUS OUTPUT ERROR WORD..: draws with the words, and compares.
+gives() {
+  local name=$1 status=$2 output=$3 error=$4 given
+  shift 4
+  "$draw" "$@" > output 2> error < /dev/null
+  given=$?
+  if [ "$given" = "$status" ] && [ "$(cat output)" = "$output" ] && [ "$(cat error)" = "$error" ]; then
+    pass
+  else
+    fail "$name: status $given, '$(head -c 300 output)', '$(head -c 300 error)'"
+  fi
+}
+
+gives "a file that isn't there" 5 '' 'kahn: cannot read nothing' nothing
+printf 'begin \377' > bytes
+gives "a text that isn't UTF-8" 5 '' 'kahn: bytes is not UTF-8' bytes
+gives "an empty text" 1 '' 'kahn: 1:1: text ends too early'
+"$draw" a b > output 2> error < /dev/null
+[ $? = 2 ] && [ ! -s output ] && pass || fail "two words: $(head -c 300 error)"
+"$draw" --help > output 2> error < /dev/null
+[ $? = 0 ] && grep -q 'dot -Tsvg' output && pass || fail "the help: $(head -c 300 error)"
+if [ -e /dev/full ]; then
+  "$draw" "$top/examples/count.kahn" > /dev/full 2> error < /dev/null
+  [ $? = 5 ] && [ "$(cat error)" = "kahn: report could not be written" ] && pass || fail "a full disk: $(head -c 300 error)"
+fi
+python3 "$top/checks/draw.py" "$draw" | tee said
+[[ $(tail -n 1 said) =~ ^([0-9]+)\ passed,\ ([0-9]+)\ failed$ ]] || fail "draw.py counts nothing"
+passed=$((passed + ${BASH_REMATCH[1]:-0}))
+failed=$((failed + ${BASH_REMATCH[2]:-0}))
+finish

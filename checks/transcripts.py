@@ -1,0 +1,61 @@
+"""The commands of the README and of docs/, run in a copy of this tree and compared with what the pages say that they print.
+
+    transcripts.py KAHN KAHN_LIVE KAHN_DRAW WORK [FILE..]      WORK is an empty folder
+
+A block between lines of three backticks whose first line begins with `$ ` is a list of commands, each with what it prints on
+standard output and standard error. A line that begins with `$ ` is a command, as far as the next such line. A block that begins
+otherwise is no command, and says nothing of what is printed.
+"""
+import os
+import subprocess
+import sys
+
+TOP = os.path.dirname(os.path.dirname(os.path.abspath(__file__)))
+PAGES = ["README.md", *(f"docs/{name}" for name in sorted(os.listdir(f"{TOP}/docs")) if name.endswith(".md"))]
+
+
+def blocks(page):
+    """The blocks of a page that are commands: (number of the first line, lines)."""
+    with open(f"{TOP}/{page}", encoding="utf-8") as it:
+        lines = it.read().split("\n")
+    marks = [number for number, line in enumerate(lines) if line.startswith("```")]
+    for start, end in zip(marks[::2], marks[1::2]):
+        if lines[start + 1 : start + 2] and lines[start + 1].startswith("$ "):
+            yield start + 2, lines[start + 1 : end]
+
+
+def commands(page):
+    """The commands of a page: (number of the line, command, what it prints)."""
+    for start, lines in blocks(page):
+        heads = [number for number, line in enumerate(lines) if line.startswith("$ ")] + [len(lines)]
+        for head, following in zip(heads, heads[1:]):
+            yield start + head, lines[head][2:], "".join(line + "\n" for line in lines[head + 1 : following])
+
+
+def copy_tree(programs, work):
+    """A folder with all that stands at the top of this tree, in which the three programs are those that were named."""
+    for name in os.listdir(TOP):
+        if name not in programs:
+            os.symlink(f"{TOP}/{name}", f"{work}/{name}")
+    for name, path in programs.items():
+        os.symlink(path, f"{work}/{name}")
+
+
+def main(kahn, live, draw, work, *pages):
+    copy_tree({"kahn": kahn, "kahn_live": live, "kahn_draw": draw}, work)
+    passed = failed = 0
+    for page in pages or PAGES:
+        for number, command, wanted in commands(page):
+            ran = subprocess.run(["bash", "-c", command], cwd=work, stdin=subprocess.DEVNULL, stdout=subprocess.PIPE,
+                                 stderr=subprocess.STDOUT, timeout=120)
+            if ran.stdout.decode(errors="backslashreplace") == wanted:
+                passed += 1
+            else:
+                failed += 1
+                print(f"FAILED {page}:{number}: {command}\n  prints {ran.stdout[:600]!r}\n  wanted {wanted[:600].encode()!r}")
+    print(f"{passed} passed, {failed} failed")
+    return 1 if failed or not passed else 0
+
+
+if __name__ == "__main__":
+    sys.exit(main(*sys.argv[1:]))

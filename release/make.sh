@@ -1,0 +1,20 @@
+#!/usr/bin/env bash
+# Makes the release of these sources: the programs that were proved and built here, compressed, with the hash of each source and of
+# each program. `./gate` has to have passed on them before.
+#
+#   make.sh
+set -eu
+top=$(cd "$(dirname "${BASH_SOURCE[0]}")/.." && pwd)
+source "$top/release/program.sh"
+programs=(kahn kahn_live kahn_draw)
+for name in "${programs[@]}"; do
+  is_newer "$top/crates/$name/out/$name" || { echo "crates/$name/out/$name isn't there, or is older than a source: build it first" >&2; exit 1; }
+done
+for name in "${programs[@]}"; do
+  xz -9e -T1 -c "$top/crates/$name/out/$name" > "$top/release/$name.xz"
+done
+for name in "${programs[@]}"; do
+  echo "$(sha256sum < "$top/crates/$name/out/$name" | cut -d ' ' -f 1)  $name"
+done > "$top/release/programs.sha256"
+sources > "$top/release/sources.sha256"
+ls -l "$top"/release/*.xz
