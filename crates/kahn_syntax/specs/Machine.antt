@@ -1,5 +1,6 @@
 -- What may still come, as a stack of the parts that are open, and what one terminal does to it. Proofs alone use this.
 use Rattle.std.specs.Prelude.{ℕ, List, [], ◌∷◌, ◌+◌, ◌==◌, length, Bool, true, false, cond, nat_le, Option, Some, None}
+use Rattle.kahn_syntax.specs.declared.lexeme.Keyword.{Keyword}
 use Rattle.kahn_syntax.specs.declared.lexeme.Keyword.TheVariants as keyword
 use Rattle.kahn_syntax.specs.declared.lexeme.Sign.TheVariants as mark
 use Rattle.kahn_syntax.specs.declared.lexeme.Class.{Class}
@@ -76,6 +77,13 @@ class_of ParToken = Some (class.Word keyword.Par)
 class_of ProcessToken = Some (class.Word keyword.Process)
 class_of SemicolonToken = Some (class.Sign mark.Semicolon)
 class_of ThenToken = Some (class.Word keyword.Then)
+
+-- the token of a keyword that ends an expression
+abbrev pub token_of : Keyword → Token
+token_of keyword.Do = DoToken
+token_of keyword.Else = ElseToken
+token_of keyword.On = OnToken
+token_of _ = ThenToken
 
 -- a kind stands first
 abbrev pub leads_kind : List Terminal → Bool

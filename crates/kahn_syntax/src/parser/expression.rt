@@ -1,15 +1,16 @@
 //! Expressions.
 
-ghost use Rattle.std.specs.Prelude.{◌≡◌, ℕ, ◌≤◌, ◌<◌, ◌+◌, [], ◌∷◌, length, IfOk, IfErr};
+ghost use Rattle.std.specs.Prelude.{◌≡◌, ℕ, ◌≤◌, ◌<◌, ◌+◌, List, [], ◌∷◌, length, Some, IfOk, IfErr};
 ghost use Rattle.kahn_syntax.specs.declared.lexeme.Keyword.TheVariants as keyword;
 ghost use Rattle.kahn_syntax.specs.declared.lexeme.Class.TheVariants as class;
-ghost use Rattle.kahn_syntax.specs.Terminals.{terminals, First, AreProper};
+ghost use Rattle.kahn_syntax.specs.Terminals.{terminals, word, First, AreProper};
 ghost use Rattle.kahn_syntax.specs.Trees.{expression_words, expression_nesting};
 ghost use Rattle.kahn_syntax.specs.Drawn.{expression_of};
-ghost use Rattle.kahn_syntax.specs.Spans.{IsPast, ExpressionSpans};
+ghost use Rattle.kahn_syntax.specs.Spans.{IsPast, Takes, ExpressionSpans};
+ghost use Rattle.kahn_syntax.specs.declared.lexeme.Lexeme.{Lexeme};
 ghost use Rattle.kahn_syntax.specs.Reads.{Fits, rank_of, Reads, Stops};
 ghost use Rattle.kahn_syntax.specs.Rungs.{whole, denials, relations, factors, tighter, rung_of};
-ghost use Rattle.kahn_syntax.specs.Machine.{ExpressionPart};
+ghost use Rattle.kahn_syntax.specs.Machine.{ExpressionPart, TokenPart, class_of, token_of};
 
 use crate::lexeme::{Class, Keyword, Lexeme, Sign};
 use crate::parser::build::{bracketed, chosen, compared, denied, levelled, negated};
@@ -42,12 +43,36 @@ pub fn read_expression<'t>(
         return read_level(alloc, text, input, Level::Or, depth);
     };
     let inner = deeper(input, depth)?;
-    let (test, rest) = read_expression(alloc, text, rest, inner)?;
-    let rest = expect(rest, Class::Word(Keyword::Then))?;
-    let (yes, rest) = read_expression(alloc, text, rest, inner)?;
-    let rest = expect(rest, Class::Word(Keyword::Else))?;
+    let (test, rest) = read_before(alloc, text, rest, inner, Keyword::Then)?;
+    let (yes, rest) = read_before(alloc, text, rest, inner, Keyword::Else)?;
     let (no, rest) = read_expression(alloc, text, rest, inner)?;
     let expression = chosen(alloc, reach(input, rest), test, yes, no)?;
+    Ok((expression, rest))
+}
+
+/// An expression, and the keyword after it.
+#[cycle(expression)]
+pub fn read_before<'t>(
+    alloc: Global,
+    text: &str,
+    input: &'t [Lexeme],
+    depth: usize,
+    last: Keyword,
+) -> Read<'t, Expression>
+    requires depth { depth ≤ 64 }
+    requires proper { AreProper text.now input.now }
+    requires last { class_of (token_of last) ≡ Some (class.Word last) }
+    ensures words { IfOk result (λ r. terminals text.now input.now ≡ expression_words (expression_of r.0) (word last ∷ terminals text.now r.1.now)) }
+    ensures spans { IfOk result (λ r. (a : List Lexeme) × ExpressionSpans text.now r.0 input.now a × Takes text.now (word last) a r.1.now) }
+    ensures fits { IfOk result (λ r. Fits 0 (expression_of r.0)) }
+    ensures nesting { IfOk result (λ r. depth + expression_nesting (expression_of r.0) ≤ 64) }
+    ensures shorter { IfOk result (λ r. length r.1.now < length input.now) }
+    ensures proper { IfOk result (λ r. AreProper text.now r.1.now) }
+    ensures reads { IfOk result (λ r. Reads text.now depth (ExpressionPart whole ∷ TokenPart (token_of last) ∷ []) input.now r.1.now) }
+    ensures stops { IfErr result (λ e. Stops text.now depth (ExpressionPart whole ∷ TokenPart (token_of last) ∷ []) input.now e) }
+{
+    let (expression, rest) = read_expression(alloc, text, input, depth)?;
+    let rest = expect(rest, Class::Word(last))?;
     Ok((expression, rest))
 }
 

@@ -13,7 +13,7 @@ ghost use Rattle.kahn_syntax.specs.Machine.{NameToken, leads, StatementsTail, St
 use crate::lexeme::{Class, Keyword, Lexeme, Sign};
 use crate::parser::build::{block, if_else, if_then, repeated, while_do};
 use crate::parser::cursor::{Read, deeper, expect, next, past, reach};
-use crate::parser::expression::read_expression;
+use crate::parser::expression::{read_before, read_expression};
 use crate::parser::names::read_name;
 use kahn_tree::tree::{Action, Statement};
 use std::alloc::Global;
@@ -72,8 +72,7 @@ fn read_statement<'t>(
         Some((Class::Word(Keyword::If), rest)) => read_if(alloc, text, input, rest, depth),
         Some((Class::Word(Keyword::While), rest)) => {
             let inner = deeper(input, depth)?;
-            let (test, rest) = read_expression(alloc, text, rest, inner)?;
-            let rest = expect(rest, Class::Word(Keyword::Do))?;
+            let (test, rest) = read_before(alloc, text, rest, inner, Keyword::Do)?;
             let (turn, rest) = read_statement(alloc, text, rest, inner)?;
             let statement = while_do(alloc, reach(input, rest), test, turn)?;
             Ok((statement, rest))
@@ -112,8 +111,7 @@ fn read_if<'t>(
     ensures stops { IfErr result (λ e. Stops text.now depth (StatementPart ∷ []) input.now e) }
 {
     let inner = deeper(input, depth)?;
-    let (test, rest) = read_expression(alloc, text, rest, inner)?;
-    let rest = expect(rest, Class::Word(Keyword::Then))?;
+    let (test, rest) = read_before(alloc, text, rest, inner, Keyword::Then)?;
     let (yes, rest) = read_simple(alloc, text, rest, inner)?;
     let Some(after) = past(rest, Class::Word(Keyword::Else)) else {
         let statement = if_then(alloc, reach(input, rest), test, yes)?;
@@ -228,8 +226,7 @@ fn read_send<'t>(
     ensures reads { IfOk result (λ r. Reads text.now depth (SimplePart ∷ []) input.now r.1.now) }
     ensures stops { IfErr result (λ e. Stops text.now depth (SimplePart ∷ []) input.now e) }
 {
-    let (value, rest) = read_expression(alloc, text, rest, depth)?;
-    let rest = expect(rest, Class::Word(Keyword::On))?;
+    let (value, rest) = read_before(alloc, text, rest, depth, Keyword::On)?;
     let (name, rest) = read_name(alloc, text, rest)?;
     Ok((
         Statement {

@@ -14,6 +14,8 @@ use Rattle.kahn_syntax.proofs.Negative.{number_fits}
 use Rattle.kahn_syntax.specs.Terminals.{IsUnsigned}
 use Rattle.kahn_syntax.specs.Spans.{Takes, OperandsSpan}
 use Rattle.kahn_syntax.proofs.Spanning as S
+use Rattle.kahn_syntax.proofs.Stacks as K
+use Rattle.kahn_syntax.specs.Machine.{token_of}
 use Rattle.kahn_syntax.specs.Trees.{operator_terminal, expression_words, operands_words, operands_nesting, FormedOperands}
 use Rattle.kahn_syntax.specs.Drawn.{operands_of}
 use Rattle.kahn_syntax.specs.Reads.{rank_of}
@@ -93,38 +95,6 @@ pub read_expression-returns-in_err-inner-clause-stops : goal.read_expression-ret
 read_expression-returns-in_err-inner-clause-stops t c =
     let p = err_from_is_err_and c.from_residual.result c.from_residual.ensures.1 in rw (p.1, p.2) (deep c.args.text.now c.args.depth (ExpressionPart whole) ([]) (ExpressionPart whole ∷ TokenPart ThenToken ∷ ExpressionPart whole ∷ TokenPart ElseToken ∷ ExpressionPart whole ∷ LevelPart ∷ []) (word keyword.If) c.args.input.now c.in-Some.rest.now _ (λ s l. omega (arith, l, c.in_err-inner.ensures.stop.0)) (λ s. refl) (c.in-Some.ensures.first.1 c.args.text.now) c.in_err-inner.ensures.stop.1)
 
-pub read_expression-read_expression-requires : goal.read_expression-read_expression-requires
-read_expression-read_expression-requires t c = (omega (arith, c.requires.1.0, c.in-Some.ensures.shorter), (c.in_ok-inner.ensures.deeper.1, c.in-Some.ensures.proper c.args.text.now c.requires.1.1.1))
-
-pub read_expression-returns-in_err-test-clause-stops : goal.read_expression-returns-in_err-test-clause-stops
-read_expression-returns-in_err-test-clause-stops t c =
-    let p = err_from_is_err_and c.from_residual-in_err-test.result c.from_residual-in_err-test.ensures.1 in rw (p.1, p.2) (then_stops c.args.text.now c.args.depth (ExpressionPart whole ∷ []) (ExpressionPart whole ∷ TokenPart ThenToken ∷ ExpressionPart whole ∷ TokenPart ElseToken ∷ ExpressionPart whole ∷ LevelPart ∷ []) c.args.input.now c.in-Some.rest.now _ (one c.args.text.now c.args.depth (ExpressionPart whole) ([]) (ExpressionPart whole ∷ TokenPart ThenToken ∷ ExpressionPart whole ∷ TokenPart ElseToken ∷ ExpressionPart whole ∷ LevelPart ∷ []) (word keyword.If) c.args.input.now c.in-Some.rest.now (λ s l. omega (arith, l, c.requires.1.1.0, c.in_ok-inner.ensures.deeper.0, c.in_ok-inner.ensures.deeper.1)) (λ s. refl) (c.in-Some.ensures.first.1 c.args.text.now)) (call_stops c.args.text.now c.args.depth c.in_ok-inner.inner (ExpressionPart whole) (TokenPart ThenToken ∷ ExpressionPart whole ∷ TokenPart ElseToken ∷ ExpressionPart whole ∷ LevelPart ∷ []) c.in-Some.rest.now _ (λ s l. omega (arith, l, c.requires.1.1.0, c.in_ok-inner.ensures.deeper.0, c.in_ok-inner.ensures.deeper.1)) c.in_err-test.ensures.stops))
-
-pub read_expression-returns-in_err-rest-clause-stops : goal.read_expression-returns-in_err-rest-clause-stops
-read_expression-returns-in_err-rest-clause-stops t c =
-    let p = err_from_is_err_and c.from_residual-in_err-rest.result c.from_residual-in_err-rest.ensures.1 in rw (p.1, p.2) (then_stops c.args.text.now c.args.depth (ExpressionPart whole ∷ []) (TokenPart ThenToken ∷ ExpressionPart whole ∷ TokenPart ElseToken ∷ ExpressionPart whole ∷ LevelPart ∷ []) c.args.input.now c.in_ok-test.rest.now _ (then c.args.text.now c.args.depth (ExpressionPart whole ∷ []) (ExpressionPart whole ∷ TokenPart ThenToken ∷ ExpressionPart whole ∷ TokenPart ElseToken ∷ ExpressionPart whole ∷ LevelPart ∷ []) (TokenPart ThenToken ∷ ExpressionPart whole ∷ TokenPart ElseToken ∷ ExpressionPart whole ∷ LevelPart ∷ []) c.args.input.now c.in-Some.rest.now c.in_ok-test.rest.now (one c.args.text.now c.args.depth (ExpressionPart whole) ([]) (ExpressionPart whole ∷ TokenPart ThenToken ∷ ExpressionPart whole ∷ TokenPart ElseToken ∷ ExpressionPart whole ∷ LevelPart ∷ []) (word keyword.If) c.args.input.now c.in-Some.rest.now (λ s l. omega (arith, l, c.requires.1.1.0, c.in_ok-inner.ensures.deeper.0, c.in_ok-inner.ensures.deeper.1)) (λ s. refl) (c.in-Some.ensures.first.1 c.args.text.now)) (call c.args.text.now c.args.depth c.in_ok-inner.inner (ExpressionPart whole) (TokenPart ThenToken ∷ ExpressionPart whole ∷ TokenPart ElseToken ∷ ExpressionPart whole ∷ LevelPart ∷ []) c.in-Some.rest.now c.in_ok-test.rest.now (λ s l. omega (arith, l, c.requires.1.1.0, c.in_ok-inner.ensures.deeper.0, c.in_ok-inner.ensures.deeper.1)) c.in_ok-test.ensures.reads)) (unexpected c.args.text.now c.args.depth ThenToken (ExpressionPart whole ∷ TokenPart ElseToken ∷ ExpressionPart whole ∷ LevelPart ∷ []) (class.Word keyword.Then) c.in_ok-test.rest.now _ refl c.in_err-rest.ensures.stop))
-
-pub read_expression-read_expression-requires-2 : goal.read_expression-read_expression-requires-2
-read_expression-read_expression-requires-2 t c = (omega (arith, c.requires.1.0, c.in-Some.ensures.shorter, c.in_ok-test.ensures.shorter, c.in_ok-rest.ensures.shorter), (c.in_ok-inner.ensures.deeper.1, c.in_ok-rest.ensures.proper c.args.text.now c.in_ok-test.ensures.proper))
-
-pub read_expression-returns-in_err-yes-clause-stops : goal.read_expression-returns-in_err-yes-clause-stops
-read_expression-returns-in_err-yes-clause-stops t c =
-    let p = err_from_is_err_and c.from_residual-in_err-yes.result c.from_residual-in_err-yes.ensures.1 in rw (p.1, p.2) (then_stops c.args.text.now c.args.depth (ExpressionPart whole ∷ []) (ExpressionPart whole ∷ TokenPart ElseToken ∷ ExpressionPart whole ∷ LevelPart ∷ []) c.args.input.now c.in_ok-rest.rest.now _ (then c.args.text.now c.args.depth (ExpressionPart whole ∷ []) (TokenPart ThenToken ∷ ExpressionPart whole ∷ TokenPart ElseToken ∷ ExpressionPart whole ∷ LevelPart ∷ []) (ExpressionPart whole ∷ TokenPart ElseToken ∷ ExpressionPart whole ∷ LevelPart ∷ []) c.args.input.now c.in_ok-test.rest.now c.in_ok-rest.rest.now (then c.args.text.now c.args.depth (ExpressionPart whole ∷ []) (ExpressionPart whole ∷ TokenPart ThenToken ∷ ExpressionPart whole ∷ TokenPart ElseToken ∷ ExpressionPart whole ∷ LevelPart ∷ []) (TokenPart ThenToken ∷ ExpressionPart whole ∷ TokenPart ElseToken ∷ ExpressionPart whole ∷ LevelPart ∷ []) c.args.input.now c.in-Some.rest.now c.in_ok-test.rest.now (one c.args.text.now c.args.depth (ExpressionPart whole) ([]) (ExpressionPart whole ∷ TokenPart ThenToken ∷ ExpressionPart whole ∷ TokenPart ElseToken ∷ ExpressionPart whole ∷ LevelPart ∷ []) (word keyword.If) c.args.input.now c.in-Some.rest.now (λ s l. omega (arith, l, c.requires.1.1.0, c.in_ok-inner.ensures.deeper.0, c.in_ok-inner.ensures.deeper.1)) (λ s. refl) (c.in-Some.ensures.first.1 c.args.text.now)) (call c.args.text.now c.args.depth c.in_ok-inner.inner (ExpressionPart whole) (TokenPart ThenToken ∷ ExpressionPart whole ∷ TokenPart ElseToken ∷ ExpressionPart whole ∷ LevelPart ∷ []) c.in-Some.rest.now c.in_ok-test.rest.now (λ s l. omega (arith, l, c.requires.1.1.0, c.in_ok-inner.ensures.deeper.0, c.in_ok-inner.ensures.deeper.1)) c.in_ok-test.ensures.reads)) (expected c.args.text.now c.args.depth ThenToken (ExpressionPart whole ∷ TokenPart ElseToken ∷ ExpressionPart whole ∷ LevelPart ∷ []) (class.Word keyword.Then) c.in_ok-test.rest.now c.in_ok-rest.rest.now (λ s l. omega (arith, l, c.requires.1.1.0, c.in_ok-inner.ensures.deeper.0, c.in_ok-inner.ensures.deeper.1)) refl c.in_ok-rest.ensures.first)) (call_stops c.args.text.now c.args.depth c.in_ok-inner.inner (ExpressionPart whole) (TokenPart ElseToken ∷ ExpressionPart whole ∷ LevelPart ∷ []) c.in_ok-rest.rest.now _ (λ s l. omega (arith, l, c.requires.1.1.0, c.in_ok-inner.ensures.deeper.0, c.in_ok-inner.ensures.deeper.1)) c.in_err-yes.ensures.stops))
-
-pub read_expression-returns-in_err-rest-2-clause-stops : goal.read_expression-returns-in_err-rest-2-clause-stops
-read_expression-returns-in_err-rest-2-clause-stops t c =
-    let p = err_from_is_err_and c.from_residual-in_err-rest-2.result c.from_residual-in_err-rest-2.ensures.1 in rw (p.1, p.2) (then_stops c.args.text.now c.args.depth (ExpressionPart whole ∷ []) (TokenPart ElseToken ∷ ExpressionPart whole ∷ LevelPart ∷ []) c.args.input.now c.in_ok-yes.rest.now _ (then c.args.text.now c.args.depth (ExpressionPart whole ∷ []) (ExpressionPart whole ∷ TokenPart ElseToken ∷ ExpressionPart whole ∷ LevelPart ∷ []) (TokenPart ElseToken ∷ ExpressionPart whole ∷ LevelPart ∷ []) c.args.input.now c.in_ok-rest.rest.now c.in_ok-yes.rest.now (then c.args.text.now c.args.depth (ExpressionPart whole ∷ []) (TokenPart ThenToken ∷ ExpressionPart whole ∷ TokenPart ElseToken ∷ ExpressionPart whole ∷ LevelPart ∷ []) (ExpressionPart whole ∷ TokenPart ElseToken ∷ ExpressionPart whole ∷ LevelPart ∷ []) c.args.input.now c.in_ok-test.rest.now c.in_ok-rest.rest.now (then c.args.text.now c.args.depth (ExpressionPart whole ∷ []) (ExpressionPart whole ∷ TokenPart ThenToken ∷ ExpressionPart whole ∷ TokenPart ElseToken ∷ ExpressionPart whole ∷ LevelPart ∷ []) (TokenPart ThenToken ∷ ExpressionPart whole ∷ TokenPart ElseToken ∷ ExpressionPart whole ∷ LevelPart ∷ []) c.args.input.now c.in-Some.rest.now c.in_ok-test.rest.now (one c.args.text.now c.args.depth (ExpressionPart whole) ([]) (ExpressionPart whole ∷ TokenPart ThenToken ∷ ExpressionPart whole ∷ TokenPart ElseToken ∷ ExpressionPart whole ∷ LevelPart ∷ []) (word keyword.If) c.args.input.now c.in-Some.rest.now (λ s l. omega (arith, l, c.requires.1.1.0, c.in_ok-inner.ensures.deeper.0, c.in_ok-inner.ensures.deeper.1)) (λ s. refl) (c.in-Some.ensures.first.1 c.args.text.now)) (call c.args.text.now c.args.depth c.in_ok-inner.inner (ExpressionPart whole) (TokenPart ThenToken ∷ ExpressionPart whole ∷ TokenPart ElseToken ∷ ExpressionPart whole ∷ LevelPart ∷ []) c.in-Some.rest.now c.in_ok-test.rest.now (λ s l. omega (arith, l, c.requires.1.1.0, c.in_ok-inner.ensures.deeper.0, c.in_ok-inner.ensures.deeper.1)) c.in_ok-test.ensures.reads)) (expected c.args.text.now c.args.depth ThenToken (ExpressionPart whole ∷ TokenPart ElseToken ∷ ExpressionPart whole ∷ LevelPart ∷ []) (class.Word keyword.Then) c.in_ok-test.rest.now c.in_ok-rest.rest.now (λ s l. omega (arith, l, c.requires.1.1.0, c.in_ok-inner.ensures.deeper.0, c.in_ok-inner.ensures.deeper.1)) refl c.in_ok-rest.ensures.first)) (call c.args.text.now c.args.depth c.in_ok-inner.inner (ExpressionPart whole) (TokenPart ElseToken ∷ ExpressionPart whole ∷ LevelPart ∷ []) c.in_ok-rest.rest.now c.in_ok-yes.rest.now (λ s l. omega (arith, l, c.requires.1.1.0, c.in_ok-inner.ensures.deeper.0, c.in_ok-inner.ensures.deeper.1)) c.in_ok-yes.ensures.reads)) (unexpected c.args.text.now c.args.depth ElseToken (ExpressionPart whole ∷ LevelPart ∷ []) (class.Word keyword.Else) c.in_ok-yes.rest.now _ refl c.in_err-rest-2.ensures.stop))
-
-pub read_expression-read_expression-requires-3 : goal.read_expression-read_expression-requires-3
-read_expression-read_expression-requires-3 t c = (omega (arith, c.requires.1.0, c.in-Some.ensures.shorter, c.in_ok-test.ensures.shorter, c.in_ok-rest.ensures.shorter, c.in_ok-yes.ensures.shorter, c.in_ok-rest-2.ensures.shorter), (c.in_ok-inner.ensures.deeper.1, c.in_ok-rest-2.ensures.proper c.args.text.now c.in_ok-yes.ensures.proper))
-
-pub read_expression-returns-in_err-no-clause-stops : goal.read_expression-returns-in_err-no-clause-stops
-read_expression-returns-in_err-no-clause-stops t c =
-    let p = err_from_is_err_and c.from_residual-in_err-no.result c.from_residual-in_err-no.ensures.1 in rw (p.1, p.2) (then_stops c.args.text.now c.args.depth (ExpressionPart whole ∷ []) (ExpressionPart whole ∷ LevelPart ∷ []) c.args.input.now c.in_ok-rest-2.rest.now _ (then c.args.text.now c.args.depth (ExpressionPart whole ∷ []) (TokenPart ElseToken ∷ ExpressionPart whole ∷ LevelPart ∷ []) (ExpressionPart whole ∷ LevelPart ∷ []) c.args.input.now c.in_ok-yes.rest.now c.in_ok-rest-2.rest.now (then c.args.text.now c.args.depth (ExpressionPart whole ∷ []) (ExpressionPart whole ∷ TokenPart ElseToken ∷ ExpressionPart whole ∷ LevelPart ∷ []) (TokenPart ElseToken ∷ ExpressionPart whole ∷ LevelPart ∷ []) c.args.input.now c.in_ok-rest.rest.now c.in_ok-yes.rest.now (then c.args.text.now c.args.depth (ExpressionPart whole ∷ []) (TokenPart ThenToken ∷ ExpressionPart whole ∷ TokenPart ElseToken ∷ ExpressionPart whole ∷ LevelPart ∷ []) (ExpressionPart whole ∷ TokenPart ElseToken ∷ ExpressionPart whole ∷ LevelPart ∷ []) c.args.input.now c.in_ok-test.rest.now c.in_ok-rest.rest.now (then c.args.text.now c.args.depth (ExpressionPart whole ∷ []) (ExpressionPart whole ∷ TokenPart ThenToken ∷ ExpressionPart whole ∷ TokenPart ElseToken ∷ ExpressionPart whole ∷ LevelPart ∷ []) (TokenPart ThenToken ∷ ExpressionPart whole ∷ TokenPart ElseToken ∷ ExpressionPart whole ∷ LevelPart ∷ []) c.args.input.now c.in-Some.rest.now c.in_ok-test.rest.now (one c.args.text.now c.args.depth (ExpressionPart whole) ([]) (ExpressionPart whole ∷ TokenPart ThenToken ∷ ExpressionPart whole ∷ TokenPart ElseToken ∷ ExpressionPart whole ∷ LevelPart ∷ []) (word keyword.If) c.args.input.now c.in-Some.rest.now (λ s l. omega (arith, l, c.requires.1.1.0, c.in_ok-inner.ensures.deeper.0, c.in_ok-inner.ensures.deeper.1)) (λ s. refl) (c.in-Some.ensures.first.1 c.args.text.now)) (call c.args.text.now c.args.depth c.in_ok-inner.inner (ExpressionPart whole) (TokenPart ThenToken ∷ ExpressionPart whole ∷ TokenPart ElseToken ∷ ExpressionPart whole ∷ LevelPart ∷ []) c.in-Some.rest.now c.in_ok-test.rest.now (λ s l. omega (arith, l, c.requires.1.1.0, c.in_ok-inner.ensures.deeper.0, c.in_ok-inner.ensures.deeper.1)) c.in_ok-test.ensures.reads)) (expected c.args.text.now c.args.depth ThenToken (ExpressionPart whole ∷ TokenPart ElseToken ∷ ExpressionPart whole ∷ LevelPart ∷ []) (class.Word keyword.Then) c.in_ok-test.rest.now c.in_ok-rest.rest.now (λ s l. omega (arith, l, c.requires.1.1.0, c.in_ok-inner.ensures.deeper.0, c.in_ok-inner.ensures.deeper.1)) refl c.in_ok-rest.ensures.first)) (call c.args.text.now c.args.depth c.in_ok-inner.inner (ExpressionPart whole) (TokenPart ElseToken ∷ ExpressionPart whole ∷ LevelPart ∷ []) c.in_ok-rest.rest.now c.in_ok-yes.rest.now (λ s l. omega (arith, l, c.requires.1.1.0, c.in_ok-inner.ensures.deeper.0, c.in_ok-inner.ensures.deeper.1)) c.in_ok-yes.ensures.reads)) (expected c.args.text.now c.args.depth ElseToken (ExpressionPart whole ∷ LevelPart ∷ []) (class.Word keyword.Else) c.in_ok-yes.rest.now c.in_ok-rest-2.rest.now (λ s l. omega (arith, l, c.requires.1.1.0, c.in_ok-inner.ensures.deeper.0, c.in_ok-inner.ensures.deeper.1)) refl c.in_ok-rest-2.ensures.first)) (call_stops c.args.text.now c.args.depth c.in_ok-inner.inner (ExpressionPart whole) (LevelPart ∷ []) c.in_ok-rest-2.rest.now _ (λ s l. omega (arith, l, c.requires.1.1.0, c.in_ok-inner.ensures.deeper.0, c.in_ok-inner.ensures.deeper.1)) c.in_err-no.ensures.stops))
-
-pub read_expression-returns-clause-reads : goal.read_expression-returns-clause-reads
-read_expression-returns-clause-reads t c = (then c.args.text.now c.args.depth (ExpressionPart whole ∷ []) (LevelPart ∷ []) ([]) c.args.input.now c.in_ok-no.rest.now c.in_ok-no.rest.now (then c.args.text.now c.args.depth (ExpressionPart whole ∷ []) (ExpressionPart whole ∷ LevelPart ∷ []) (LevelPart ∷ []) c.args.input.now c.in_ok-rest-2.rest.now c.in_ok-no.rest.now (then c.args.text.now c.args.depth (ExpressionPart whole ∷ []) (TokenPart ElseToken ∷ ExpressionPart whole ∷ LevelPart ∷ []) (ExpressionPart whole ∷ LevelPart ∷ []) c.args.input.now c.in_ok-yes.rest.now c.in_ok-rest-2.rest.now (then c.args.text.now c.args.depth (ExpressionPart whole ∷ []) (ExpressionPart whole ∷ TokenPart ElseToken ∷ ExpressionPart whole ∷ LevelPart ∷ []) (TokenPart ElseToken ∷ ExpressionPart whole ∷ LevelPart ∷ []) c.args.input.now c.in_ok-rest.rest.now c.in_ok-yes.rest.now (then c.args.text.now c.args.depth (ExpressionPart whole ∷ []) (TokenPart ThenToken ∷ ExpressionPart whole ∷ TokenPart ElseToken ∷ ExpressionPart whole ∷ LevelPart ∷ []) (ExpressionPart whole ∷ TokenPart ElseToken ∷ ExpressionPart whole ∷ LevelPart ∷ []) c.args.input.now c.in_ok-test.rest.now c.in_ok-rest.rest.now (then c.args.text.now c.args.depth (ExpressionPart whole ∷ []) (ExpressionPart whole ∷ TokenPart ThenToken ∷ ExpressionPart whole ∷ TokenPart ElseToken ∷ ExpressionPart whole ∷ LevelPart ∷ []) (TokenPart ThenToken ∷ ExpressionPart whole ∷ TokenPart ElseToken ∷ ExpressionPart whole ∷ LevelPart ∷ []) c.args.input.now c.in-Some.rest.now c.in_ok-test.rest.now (one c.args.text.now c.args.depth (ExpressionPart whole) ([]) (ExpressionPart whole ∷ TokenPart ThenToken ∷ ExpressionPart whole ∷ TokenPart ElseToken ∷ ExpressionPart whole ∷ LevelPart ∷ []) (word keyword.If) c.args.input.now c.in-Some.rest.now (λ s l. omega (arith, l, c.requires.1.1.0, c.in_ok-inner.ensures.deeper.0, c.in_ok-inner.ensures.deeper.1)) (λ s. refl) (c.in-Some.ensures.first.1 c.args.text.now)) (call c.args.text.now c.args.depth c.in_ok-inner.inner (ExpressionPart whole) (TokenPart ThenToken ∷ ExpressionPart whole ∷ TokenPart ElseToken ∷ ExpressionPart whole ∷ LevelPart ∷ []) c.in-Some.rest.now c.in_ok-test.rest.now (λ s l. omega (arith, l, c.requires.1.1.0, c.in_ok-inner.ensures.deeper.0, c.in_ok-inner.ensures.deeper.1)) c.in_ok-test.ensures.reads)) (expected c.args.text.now c.args.depth ThenToken (ExpressionPart whole ∷ TokenPart ElseToken ∷ ExpressionPart whole ∷ LevelPart ∷ []) (class.Word keyword.Then) c.in_ok-test.rest.now c.in_ok-rest.rest.now (λ s l. omega (arith, l, c.requires.1.1.0, c.in_ok-inner.ensures.deeper.0, c.in_ok-inner.ensures.deeper.1)) refl c.in_ok-rest.ensures.first)) (call c.args.text.now c.args.depth c.in_ok-inner.inner (ExpressionPart whole) (TokenPart ElseToken ∷ ExpressionPart whole ∷ LevelPart ∷ []) c.in_ok-rest.rest.now c.in_ok-yes.rest.now (λ s l. omega (arith, l, c.requires.1.1.0, c.in_ok-inner.ensures.deeper.0, c.in_ok-inner.ensures.deeper.1)) c.in_ok-yes.ensures.reads)) (expected c.args.text.now c.args.depth ElseToken (ExpressionPart whole ∷ LevelPart ∷ []) (class.Word keyword.Else) c.in_ok-yes.rest.now c.in_ok-rest-2.rest.now (λ s l. omega (arith, l, c.requires.1.1.0, c.in_ok-inner.ensures.deeper.0, c.in_ok-inner.ensures.deeper.1)) refl c.in_ok-rest-2.ensures.first)) (call c.args.text.now c.args.depth c.in_ok-inner.inner (ExpressionPart whole) (LevelPart ∷ []) c.in_ok-rest-2.rest.now c.in_ok-no.rest.now (λ s l. omega (arith, l, c.requires.1.1.0, c.in_ok-inner.ensures.deeper.0, c.in_ok-inner.ensures.deeper.1)) c.in_ok-no.ensures.reads)) (level_ends c.args.text.now c.args.depth [] c.in_ok-no.rest.now))
-
 pub read_factor-returns-in-Some-Number-default-clause-proper : goal.read_factor-returns-in-Some-Number-default-clause-proper
 read_factor-returns-in-Some-Number-default-clause-proper t c = c.in-Some-Number-default.ensures.proper c.args.text.now c.requires.1.1.1
 
@@ -177,14 +147,6 @@ read_denial-returns-clause-spans t c =
     c.in_ok-expression.ensures.spans T c.args.input.now c.in-Some.rest.now c.in_ok-operand.rest.now c.reach.ensures
     (S.takes T (word keyword.Not) c.args.input.now c.in-Some.rest.now c.in-Some.ensures.passed (c.in-Some.ensures.first T)) c.in_ok-operand.ensures.spans
 
-pub read_expression-returns-clause-spans : goal.read_expression-returns-clause-spans
-read_expression-returns-clause-spans t c =
-    let T = c.args.text.now in
-    c.in_ok-expression.ensures.spans T c.args.input.now c.in-Some.rest.now c.in_ok-test.rest.now c.in_ok-rest.rest.now c.in_ok-yes.rest.now c.in_ok-rest-2.rest.now c.in_ok-no.rest.now c.reach.ensures
-    (S.takes T (word keyword.If) c.args.input.now c.in-Some.rest.now c.in-Some.ensures.passed (c.in-Some.ensures.first.1 T)) c.in_ok-test.ensures.spans
-    (S.takes T (word keyword.Then) c.in_ok-test.rest.now c.in_ok-rest.rest.now c.in_ok-rest.ensures.passed (c.in_ok-rest.ensures.first.1 T)) c.in_ok-yes.ensures.spans
-    (S.takes T (word keyword.Else) c.in_ok-yes.rest.now c.in_ok-rest-2.rest.now c.in_ok-rest-2.ensures.passed (c.in_ok-rest-2.ensures.first.1 T)) c.in_ok-no.ensures.spans
-
 pub read_factor-returns-in-Some-Number-default-clause-spans : goal.read_factor-returns-in-Some-Number-default-clause-spans
 read_factor-returns-in-Some-Number-default-clause-spans t c =
     let T = c.args.text.now in
@@ -226,3 +188,108 @@ read_relation-returns-clause-spans t c =
     let T = c.args.text.now in
     c.in_ok-expression.ensures.spans T c.args.input.now c.in_ok-left.rest.now c.in-Some.after.now c.in_ok-right.rest.now c.reach.ensures c.in_ok-left.ensures.spans
     (S.takes T (operator_terminal c.in-Some.operator) c.in_ok-left.rest.now c.in-Some.after.now c.in-Some.ensures.passed (c.in-Some.ensures.first T)) c.in_ok-right.ensures.spans
+
+pub read_expression-read_before-requires : goal.read_expression-read_before-requires
+read_expression-read_before-requires t c =
+    (omega (arith, c.requires.1.0, c.in-Some.ensures.shorter), (c.in_ok-inner.ensures.deeper.1, (c.in-Some.ensures.proper c.args.text.now c.requires.1.1.1, refl)))
+
+pub read_expression-read_before-requires-2 : goal.read_expression-read_before-requires-2
+read_expression-read_before-requires-2 t c =
+    (omega (arith, c.requires.1.0, c.in-Some.ensures.shorter, c.in_ok-test.ensures.shorter), (c.in_ok-inner.ensures.deeper.1, (c.in_ok-test.ensures.proper, refl)))
+
+pub read_expression-read_expression-requires : goal.read_expression-read_expression-requires
+read_expression-read_expression-requires t c =
+    (omega (arith, c.requires.1.0, c.in-Some.ensures.shorter, c.in_ok-test.ensures.shorter, c.in_ok-yes.ensures.shorter), (c.in_ok-inner.ensures.deeper.1, c.in_ok-yes.ensures.proper))
+
+pub read_expression-returns-in_err-test-clause-stops : goal.read_expression-returns-in_err-test-clause-stops
+read_expression-returns-in_err-test-clause-stops t c =
+    let p = err_from_is_err_and c.from_residual-in_err-test.result c.from_residual-in_err-test.ensures.1 in
+    let T = c.args.text.now in
+    let i = c.args.input.now in
+    let e = c.in_ok-inner.inner in
+    let n = c.in_ok-inner.ensures.deeper.0 in
+    let m = K.if_moves T c.args.depth e i c.in-Some.rest.now n c.in_ok-inner.ensures.deeper.1 (c.in-Some.ensures.first.1 T) in
+    rw (p.1, p.2) (then_stops T c.args.depth K.choice K.after_if i c.in-Some.rest.now _ m
+    (call_two_stops T c.args.depth e (ExpressionPart whole) (TokenPart ThenToken) K.after_then c.in-Some.rest.now _ (λ s l. omega (arith, l, n)) c.in_err-test.ensures.stops))
+
+pub read_expression-returns-in_err-yes-clause-stops : goal.read_expression-returns-in_err-yes-clause-stops
+read_expression-returns-in_err-yes-clause-stops t c =
+    let p = err_from_is_err_and c.from_residual-in_err-yes.result c.from_residual-in_err-yes.ensures.1 in
+    let T = c.args.text.now in
+    let i = c.args.input.now in
+    let e = c.in_ok-inner.inner in
+    let n = c.in_ok-inner.ensures.deeper.0 in
+    let m = K.if_moves T c.args.depth e i c.in-Some.rest.now n c.in_ok-inner.ensures.deeper.1 (c.in-Some.ensures.first.1 T) in
+    let m2 = K.then_moves T c.args.depth e i c.in-Some.rest.now c.in_ok-test.rest.now n m c.in_ok-test.ensures.reads in
+    rw (p.1, p.2) (then_stops T c.args.depth K.choice K.after_then i c.in_ok-test.rest.now _ m2
+    (call_two_stops T c.args.depth e (ExpressionPart whole) (TokenPart ElseToken) K.after_else c.in_ok-test.rest.now _ (λ s l. omega (arith, l, n)) c.in_err-yes.ensures.stops))
+
+pub read_expression-returns-in_err-no-clause-stops : goal.read_expression-returns-in_err-no-clause-stops
+read_expression-returns-in_err-no-clause-stops t c =
+    let p = err_from_is_err_and c.from_residual-in_err-no.result c.from_residual-in_err-no.ensures.1 in
+    let T = c.args.text.now in
+    let i = c.args.input.now in
+    let e = c.in_ok-inner.inner in
+    let n = c.in_ok-inner.ensures.deeper.0 in
+    let m = K.if_moves T c.args.depth e i c.in-Some.rest.now n c.in_ok-inner.ensures.deeper.1 (c.in-Some.ensures.first.1 T) in
+    let m2 = K.then_moves T c.args.depth e i c.in-Some.rest.now c.in_ok-test.rest.now n m c.in_ok-test.ensures.reads in
+    let m3 = K.else_moves T c.args.depth e i c.in_ok-test.rest.now c.in_ok-yes.rest.now n m2 c.in_ok-yes.ensures.reads in
+    rw (p.1, p.2) (then_stops T c.args.depth K.choice K.after_else i c.in_ok-yes.rest.now _ m3
+    (call_stops T c.args.depth e (ExpressionPart whole) (LevelPart ∷ []) c.in_ok-yes.rest.now _ (λ s l. omega (arith, l, n)) c.in_err-no.ensures.stops))
+
+pub read_expression-returns-clause-reads : goal.read_expression-returns-clause-reads
+read_expression-returns-clause-reads t c =
+    let T = c.args.text.now in
+    let i = c.args.input.now in
+    let e = c.in_ok-inner.inner in
+    let n = c.in_ok-inner.ensures.deeper.0 in
+    let m = K.if_moves T c.args.depth e i c.in-Some.rest.now n c.in_ok-inner.ensures.deeper.1 (c.in-Some.ensures.first.1 T) in
+    let m2 = K.then_moves T c.args.depth e i c.in-Some.rest.now c.in_ok-test.rest.now n m c.in_ok-test.ensures.reads in
+    let m3 = K.else_moves T c.args.depth e i c.in_ok-test.rest.now c.in_ok-yes.rest.now n m2 c.in_ok-yes.ensures.reads in
+    let o = c.in_ok-no.rest.now in
+    then T c.args.depth K.choice (LevelPart ∷ []) [] i o o
+    (then T c.args.depth K.choice K.after_else (LevelPart ∷ []) i c.in_ok-yes.rest.now o m3
+    (call T c.args.depth e (ExpressionPart whole) (LevelPart ∷ []) c.in_ok-yes.rest.now o (λ s l. omega (arith, l, n)) c.in_ok-no.ensures.reads))
+    (level_ends T c.args.depth [] o)
+
+pub read_expression-returns-clause-spans : goal.read_expression-returns-clause-spans
+read_expression-returns-clause-spans t c =
+    let T = c.args.text.now in
+    c.in_ok-expression.ensures.spans T c.args.input.now c.in-Some.rest.now c.in_ok-test.ensures.spans.0 c.in_ok-test.rest.now c.in_ok-yes.ensures.spans.0 c.in_ok-yes.rest.now
+    c.in_ok-no.rest.now c.reach.ensures
+    (S.takes T (word keyword.If) c.args.input.now c.in-Some.rest.now c.in-Some.ensures.passed (c.in-Some.ensures.first.1 T))
+    c.in_ok-test.ensures.spans.1 c.in_ok-test.ensures.spans.2 c.in_ok-yes.ensures.spans.1 c.in_ok-yes.ensures.spans.2 c.in_ok-no.ensures.spans
+
+pub read_before-read_expression-requires : goal.read_before-read_expression-requires
+read_before-read_expression-requires t c =
+    (omega (arith, c.requires.1.0), (c.requires.1.1.0, c.requires.1.1.1.0))
+
+pub read_before-returns-in_err-expression-clause-stops : goal.read_before-returns-in_err-expression-clause-stops
+read_before-returns-in_err-expression-clause-stops t c =
+    let p = err_from_is_err_and c.from_residual.result c.from_residual.ensures.1 in
+    rw (p.1, p.2) (call_stops c.args.text.now c.args.depth c.args.depth (ExpressionPart whole) (TokenPart (token_of c.args.last) ∷ []) c.args.input.now _ (λ s l. l)
+    c.in_err-expression.ensures.stops)
+
+pub read_before-returns-in_err-rest-clause-stops : goal.read_before-returns-in_err-rest-clause-stops
+read_before-returns-in_err-rest-clause-stops t c =
+    let p = err_from_is_err_and c.from_residual-in_err-rest.result c.from_residual-in_err-rest.ensures.1 in
+    let T = c.args.text.now in
+    let k = TokenPart (token_of c.args.last) ∷ [] in
+    let m = call T c.args.depth c.args.depth (ExpressionPart whole) k c.args.input.now c.in_ok-expression.rest.now (λ s l. l) c.in_ok-expression.ensures.reads in
+    rw (p.1, p.2) (then_stops T c.args.depth (ExpressionPart whole ∷ k) k c.args.input.now c.in_ok-expression.rest.now _ m
+    (unexpected T c.args.depth (token_of c.args.last) [] (class.Word c.args.last) c.in_ok-expression.rest.now _ c.requires.1.1.1.1 c.in_err-rest.ensures.stop))
+
+pub read_before-returns-clause-reads : goal.read_before-returns-clause-reads
+read_before-returns-clause-reads t c =
+    let T = c.args.text.now in
+    let k = TokenPart (token_of c.args.last) ∷ [] in
+    let m = call T c.args.depth c.args.depth (ExpressionPart whole) k c.args.input.now c.in_ok-expression.rest.now (λ s l. l) c.in_ok-expression.ensures.reads in
+    then T c.args.depth (ExpressionPart whole ∷ k) k [] c.args.input.now c.in_ok-expression.rest.now c.in_ok-rest.rest.now m
+    (expected T c.args.depth (token_of c.args.last) [] (class.Word c.args.last) c.in_ok-expression.rest.now c.in_ok-rest.rest.now (λ s l. omega (arith, l, c.requires.1.1.0)) c.requires.1.1.1.1
+    c.in_ok-rest.ensures.first)
+
+pub read_before-returns-clause-spans : goal.read_before-returns-clause-spans
+read_before-returns-clause-spans t c =
+    let T = c.args.text.now in
+    (c.in_ok-expression.rest.now, c.in_ok-expression.ensures.spans,
+    S.takes T (word c.args.last) c.in_ok-expression.rest.now c.in_ok-rest.rest.now c.in_ok-rest.ensures.passed (c.in_ok-rest.ensures.first.1 T))

@@ -10,6 +10,9 @@ use Rattle.kahn_syntax.specs.Machine.{ExpressionPart, OperatorsPart}
 use Rattle.kahn_syntax.proofs.Levels.{height}
 use Rattle.kahn_syntax.proofs.parser.expression.+expression.Given as goal
 
+abbrev pub decreases-read_before : goal.decreases-read_before
+decreases-read_before l = 12 * length l.input.now + 12
+
 abbrev pub decreases-read_denial : goal.decreases-read_denial
 decreases-read_denial l = 12 * length l.input.now + 6
 

@@ -10,6 +10,7 @@ use Rattle.kahn_syntax.specs.Drawn.{name_of, expression_of, statement_of}
 use Rattle.kahn_syntax.proofs.Moves.{memory_alone, leads_statement, opens_simple, leads_simple, simple_ends, reads_by, stops_by, then, then_stops, call, call_stops, call_two, call_two_stops, one, deep, token, expected, goes, ends, level_ends, absent, unexpected, no_name, no_memory}
 use Rattle.kahn_syntax.proofs.Lists.{first_of}
 use Rattle.kahn_syntax.proofs.Spanning as S
+use Rattle.kahn_syntax.proofs.Stacks as K
 use Rattle.kahn_syntax.proofs.Statements.{statements_words_next, formed_next, some_next, nesting_next}
 use Rattle.kahn_syntax.proofs.parser.statement.+statement.Goals as goal
 
@@ -60,27 +61,6 @@ pub read_statement-returns-in_err-inner-in-Some-Word-While-default-clause-stops 
 read_statement-returns-in_err-inner-in-Some-Word-While-default-clause-stops t c =
     let p = err_from_is_err_and c.from_residual.result c.from_residual.ensures.1 in rw (p.1, p.2) (deep c.args.text.now c.args.depth (StatementPart) ([]) (ExpressionPart whole ∷ TokenPart DoToken ∷ StatementPart ∷ LevelPart ∷ []) (word keyword.While) c.args.input.now c.in-Some-Word-While-default.rest.now _ (λ s l. omega (arith, l, c.in_err-inner-in-Some-Word-While-default.ensures.stop.0)) (λ s. refl) ((first_of _ (class.Word keyword.While) c.args.input.now c.in-Some-Word-While-default.rest.now (c.in-Some-Word-While-default.field-0-0-is ∙ ap class.Word c.in-Some-Word-While-default.field-0-0-0-is) c.in-Some-Word-While-default.ensures.first.0).1 c.args.text.now) c.in_err-inner-in-Some-Word-While-default.ensures.stop.1)
 
-pub read_statement-read_expression-requires-clause-proper : goal.read_statement-read_expression-requires-clause-proper
-read_statement-read_expression-requires-clause-proper t c = c.in-Some-Word-While-default.ensures.proper c.args.text.now c.requires.1.1.1
-
-pub read_statement-returns-in_err-test-in-Some-Word-While-default-clause-stops : goal.read_statement-returns-in_err-test-in-Some-Word-While-default-clause-stops
-read_statement-returns-in_err-test-in-Some-Word-While-default-clause-stops t c =
-    let p = err_from_is_err_and c.from_residual-in_err-test-in-Some-Word-While-default.result c.from_residual-in_err-test-in-Some-Word-While-default.ensures.1 in rw (p.1, p.2) (then_stops c.args.text.now c.args.depth (StatementPart ∷ []) (ExpressionPart whole ∷ TokenPart DoToken ∷ StatementPart ∷ LevelPart ∷ []) c.args.input.now c.in-Some-Word-While-default.rest.now _ (one c.args.text.now c.args.depth (StatementPart) ([]) (ExpressionPart whole ∷ TokenPart DoToken ∷ StatementPart ∷ LevelPart ∷ []) (word keyword.While) c.args.input.now c.in-Some-Word-While-default.rest.now (λ s l. omega (arith, l, c.requires.1.1.0, c.in_ok-inner-in-Some-Word-While-default.ensures.deeper.0, c.in_ok-inner-in-Some-Word-While-default.ensures.deeper.1)) (λ s. refl) ((first_of _ (class.Word keyword.While) c.args.input.now c.in-Some-Word-While-default.rest.now (c.in-Some-Word-While-default.field-0-0-is ∙ ap class.Word c.in-Some-Word-While-default.field-0-0-0-is) c.in-Some-Word-While-default.ensures.first.0).1 c.args.text.now)) (call_stops c.args.text.now c.args.depth c.in_ok-inner-in-Some-Word-While-default.inner (ExpressionPart whole) (TokenPart DoToken ∷ StatementPart ∷ LevelPart ∷ []) c.in-Some-Word-While-default.rest.now _ (λ s l. omega (arith, l, c.requires.1.1.0, c.in_ok-inner-in-Some-Word-While-default.ensures.deeper.0, c.in_ok-inner-in-Some-Word-While-default.ensures.deeper.1)) c.in_err-test-in-Some-Word-While-default.ensures.stops))
-
-pub read_statement-returns-in_err-rest-in-Some-Word-While-default-clause-stops : goal.read_statement-returns-in_err-rest-in-Some-Word-While-default-clause-stops
-read_statement-returns-in_err-rest-in-Some-Word-While-default-clause-stops t c =
-    let p = err_from_is_err_and c.from_residual-in_err-rest-in-Some-Word-While-default.result c.from_residual-in_err-rest-in-Some-Word-While-default.ensures.1 in rw (p.1, p.2) (then_stops c.args.text.now c.args.depth (StatementPart ∷ []) (TokenPart DoToken ∷ StatementPart ∷ LevelPart ∷ []) c.args.input.now c.in_ok-test-in-Some-Word-While-default.rest.now _ (then c.args.text.now c.args.depth (StatementPart ∷ []) (ExpressionPart whole ∷ TokenPart DoToken ∷ StatementPart ∷ LevelPart ∷ []) (TokenPart DoToken ∷ StatementPart ∷ LevelPart ∷ []) c.args.input.now c.in-Some-Word-While-default.rest.now c.in_ok-test-in-Some-Word-While-default.rest.now (one c.args.text.now c.args.depth (StatementPart) ([]) (ExpressionPart whole ∷ TokenPart DoToken ∷ StatementPart ∷ LevelPart ∷ []) (word keyword.While) c.args.input.now c.in-Some-Word-While-default.rest.now (λ s l. omega (arith, l, c.requires.1.1.0, c.in_ok-inner-in-Some-Word-While-default.ensures.deeper.0, c.in_ok-inner-in-Some-Word-While-default.ensures.deeper.1)) (λ s. refl) ((first_of _ (class.Word keyword.While) c.args.input.now c.in-Some-Word-While-default.rest.now (c.in-Some-Word-While-default.field-0-0-is ∙ ap class.Word c.in-Some-Word-While-default.field-0-0-0-is) c.in-Some-Word-While-default.ensures.first.0).1 c.args.text.now)) (call c.args.text.now c.args.depth c.in_ok-inner-in-Some-Word-While-default.inner (ExpressionPart whole) (TokenPart DoToken ∷ StatementPart ∷ LevelPart ∷ []) c.in-Some-Word-While-default.rest.now c.in_ok-test-in-Some-Word-While-default.rest.now (λ s l. omega (arith, l, c.requires.1.1.0, c.in_ok-inner-in-Some-Word-While-default.ensures.deeper.0, c.in_ok-inner-in-Some-Word-While-default.ensures.deeper.1)) c.in_ok-test-in-Some-Word-While-default.ensures.reads)) (unexpected c.args.text.now c.args.depth DoToken (StatementPart ∷ LevelPart ∷ []) (class.Word keyword.Do) c.in_ok-test-in-Some-Word-While-default.rest.now _ refl c.in_err-rest-in-Some-Word-While-default.ensures.stop))
-
-pub read_statement-read_statement-requires : goal.read_statement-read_statement-requires
-read_statement-read_statement-requires t c = (omega (arith, c.requires.1.0, c.in-Some-Word-While-default.ensures.first.1, c.in_ok-test-in-Some-Word-While-default.ensures.shorter, c.in_ok-rest-in-Some-Word-While-default.ensures.shorter), (c.in_ok-inner-in-Some-Word-While-default.ensures.deeper.1, c.in_ok-rest-in-Some-Word-While-default.ensures.proper c.args.text.now c.in_ok-test-in-Some-Word-While-default.ensures.proper))
-
-pub read_statement-returns-in_err-turn-in-Some-Word-While-default-clause-stops : goal.read_statement-returns-in_err-turn-in-Some-Word-While-default-clause-stops
-read_statement-returns-in_err-turn-in-Some-Word-While-default-clause-stops t c =
-    let p = err_from_is_err_and c.from_residual-in_err-turn-in-Some-Word-While-default.result c.from_residual-in_err-turn-in-Some-Word-While-default.ensures.1 in rw (p.1, p.2) (then_stops c.args.text.now c.args.depth (StatementPart ∷ []) (StatementPart ∷ LevelPart ∷ []) c.args.input.now c.in_ok-rest-in-Some-Word-While-default.rest.now _ (then c.args.text.now c.args.depth (StatementPart ∷ []) (TokenPart DoToken ∷ StatementPart ∷ LevelPart ∷ []) (StatementPart ∷ LevelPart ∷ []) c.args.input.now c.in_ok-test-in-Some-Word-While-default.rest.now c.in_ok-rest-in-Some-Word-While-default.rest.now (then c.args.text.now c.args.depth (StatementPart ∷ []) (ExpressionPart whole ∷ TokenPart DoToken ∷ StatementPart ∷ LevelPart ∷ []) (TokenPart DoToken ∷ StatementPart ∷ LevelPart ∷ []) c.args.input.now c.in-Some-Word-While-default.rest.now c.in_ok-test-in-Some-Word-While-default.rest.now (one c.args.text.now c.args.depth (StatementPart) ([]) (ExpressionPart whole ∷ TokenPart DoToken ∷ StatementPart ∷ LevelPart ∷ []) (word keyword.While) c.args.input.now c.in-Some-Word-While-default.rest.now (λ s l. omega (arith, l, c.requires.1.1.0, c.in_ok-inner-in-Some-Word-While-default.ensures.deeper.0, c.in_ok-inner-in-Some-Word-While-default.ensures.deeper.1)) (λ s. refl) ((first_of _ (class.Word keyword.While) c.args.input.now c.in-Some-Word-While-default.rest.now (c.in-Some-Word-While-default.field-0-0-is ∙ ap class.Word c.in-Some-Word-While-default.field-0-0-0-is) c.in-Some-Word-While-default.ensures.first.0).1 c.args.text.now)) (call c.args.text.now c.args.depth c.in_ok-inner-in-Some-Word-While-default.inner (ExpressionPart whole) (TokenPart DoToken ∷ StatementPart ∷ LevelPart ∷ []) c.in-Some-Word-While-default.rest.now c.in_ok-test-in-Some-Word-While-default.rest.now (λ s l. omega (arith, l, c.requires.1.1.0, c.in_ok-inner-in-Some-Word-While-default.ensures.deeper.0, c.in_ok-inner-in-Some-Word-While-default.ensures.deeper.1)) c.in_ok-test-in-Some-Word-While-default.ensures.reads)) (expected c.args.text.now c.args.depth DoToken (StatementPart ∷ LevelPart ∷ []) (class.Word keyword.Do) c.in_ok-test-in-Some-Word-While-default.rest.now c.in_ok-rest-in-Some-Word-While-default.rest.now (λ s l. omega (arith, l, c.requires.1.1.0, c.in_ok-inner-in-Some-Word-While-default.ensures.deeper.0, c.in_ok-inner-in-Some-Word-While-default.ensures.deeper.1)) refl c.in_ok-rest-in-Some-Word-While-default.ensures.first)) (call_stops c.args.text.now c.args.depth c.in_ok-inner-in-Some-Word-While-default.inner (StatementPart) (LevelPart ∷ []) c.in_ok-rest-in-Some-Word-While-default.rest.now _ (λ s l. omega (arith, l, c.requires.1.1.0, c.in_ok-inner-in-Some-Word-While-default.ensures.deeper.0, c.in_ok-inner-in-Some-Word-While-default.ensures.deeper.1)) c.in_err-turn-in-Some-Word-While-default.ensures.stops))
-
-pub read_statement-returns-in_ok-statement-in-Some-Word-While-default-clause-reads : goal.read_statement-returns-in_ok-statement-in-Some-Word-While-default-clause-reads
-read_statement-returns-in_ok-statement-in-Some-Word-While-default-clause-reads t c = (then c.args.text.now c.args.depth (StatementPart ∷ []) (LevelPart ∷ []) ([]) c.args.input.now c.in_ok-turn-in-Some-Word-While-default.rest.now c.in_ok-turn-in-Some-Word-While-default.rest.now (then c.args.text.now c.args.depth (StatementPart ∷ []) (StatementPart ∷ LevelPart ∷ []) (LevelPart ∷ []) c.args.input.now c.in_ok-rest-in-Some-Word-While-default.rest.now c.in_ok-turn-in-Some-Word-While-default.rest.now (then c.args.text.now c.args.depth (StatementPart ∷ []) (TokenPart DoToken ∷ StatementPart ∷ LevelPart ∷ []) (StatementPart ∷ LevelPart ∷ []) c.args.input.now c.in_ok-test-in-Some-Word-While-default.rest.now c.in_ok-rest-in-Some-Word-While-default.rest.now (then c.args.text.now c.args.depth (StatementPart ∷ []) (ExpressionPart whole ∷ TokenPart DoToken ∷ StatementPart ∷ LevelPart ∷ []) (TokenPart DoToken ∷ StatementPart ∷ LevelPart ∷ []) c.args.input.now c.in-Some-Word-While-default.rest.now c.in_ok-test-in-Some-Word-While-default.rest.now (one c.args.text.now c.args.depth (StatementPart) ([]) (ExpressionPart whole ∷ TokenPart DoToken ∷ StatementPart ∷ LevelPart ∷ []) (word keyword.While) c.args.input.now c.in-Some-Word-While-default.rest.now (λ s l. omega (arith, l, c.requires.1.1.0, c.in_ok-inner-in-Some-Word-While-default.ensures.deeper.0, c.in_ok-inner-in-Some-Word-While-default.ensures.deeper.1)) (λ s. refl) ((first_of _ (class.Word keyword.While) c.args.input.now c.in-Some-Word-While-default.rest.now (c.in-Some-Word-While-default.field-0-0-is ∙ ap class.Word c.in-Some-Word-While-default.field-0-0-0-is) c.in-Some-Word-While-default.ensures.first.0).1 c.args.text.now)) (call c.args.text.now c.args.depth c.in_ok-inner-in-Some-Word-While-default.inner (ExpressionPart whole) (TokenPart DoToken ∷ StatementPart ∷ LevelPart ∷ []) c.in-Some-Word-While-default.rest.now c.in_ok-test-in-Some-Word-While-default.rest.now (λ s l. omega (arith, l, c.requires.1.1.0, c.in_ok-inner-in-Some-Word-While-default.ensures.deeper.0, c.in_ok-inner-in-Some-Word-While-default.ensures.deeper.1)) c.in_ok-test-in-Some-Word-While-default.ensures.reads)) (expected c.args.text.now c.args.depth DoToken (StatementPart ∷ LevelPart ∷ []) (class.Word keyword.Do) c.in_ok-test-in-Some-Word-While-default.rest.now c.in_ok-rest-in-Some-Word-While-default.rest.now (λ s l. omega (arith, l, c.requires.1.1.0, c.in_ok-inner-in-Some-Word-While-default.ensures.deeper.0, c.in_ok-inner-in-Some-Word-While-default.ensures.deeper.1)) refl c.in_ok-rest-in-Some-Word-While-default.ensures.first)) (call c.args.text.now c.args.depth c.in_ok-inner-in-Some-Word-While-default.inner (StatementPart) (LevelPart ∷ []) c.in_ok-rest-in-Some-Word-While-default.rest.now c.in_ok-turn-in-Some-Word-While-default.rest.now (λ s l. omega (arith, l, c.requires.1.1.0, c.in_ok-inner-in-Some-Word-While-default.ensures.deeper.0, c.in_ok-inner-in-Some-Word-While-default.ensures.deeper.1)) c.in_ok-turn-in-Some-Word-While-default.ensures.reads)) (level_ends c.args.text.now c.args.depth [] c.in_ok-turn-in-Some-Word-While-default.rest.now))
-
 pub read_statement-returns-in_err-inner-in-Some-Word-Repeat-default-clause-stops : goal.read_statement-returns-in_err-inner-in-Some-Word-Repeat-default-clause-stops
 read_statement-returns-in_err-inner-in-Some-Word-Repeat-default-clause-stops t c =
     let p = err_from_is_err_and c.from_residual-in_err-inner-in-Some-Word-Repeat-default.result c.from_residual-in_err-inner-in-Some-Word-Repeat-default.ensures.1 in rw (p.1, p.2) (deep c.args.text.now c.args.depth (StatementPart) ([]) (StatementPart ∷ LevelPart ∷ []) (word keyword.Repeat) c.args.input.now c.in-Some-Word-Repeat-default.rest.now _ (λ s l. omega (arith, l, c.in_err-inner-in-Some-Word-Repeat-default.ensures.stop.0)) (λ s. refl) ((first_of _ (class.Word keyword.Repeat) c.args.input.now c.in-Some-Word-Repeat-default.rest.now (c.in-Some-Word-Repeat-default.field-0-0-is ∙ ap class.Word c.in-Some-Word-Repeat-default.field-0-0-0-is) c.in-Some-Word-Repeat-default.ensures.first.0).1 c.args.text.now) c.in_err-inner-in-Some-Word-Repeat-default.ensures.stop.1)
@@ -104,34 +84,6 @@ read_statement-returns-in_default-clause-stops t c = let a : leads_statement (te
 pub read_if-returns-in_err-inner-clause-stops : goal.read_if-returns-in_err-inner-clause-stops
 read_if-returns-in_err-inner-clause-stops t c =
     let p = err_from_is_err_and c.from_residual.result c.from_residual.ensures.1 in rw (p.1, p.2) (deep c.args.text.now c.args.depth (StatementPart) ([]) (ExpressionPart whole ∷ TokenPart ThenToken ∷ SimplePart ∷ TailPart ElseTail ∷ LevelPart ∷ []) (word keyword.If) c.args.input.now c.args.rest.now _ (λ s l. omega (arith, l, c.in_err-inner.ensures.stop.0)) (λ s. refl) (c.requires.1.1.0.1 c.args.text.now) c.in_err-inner.ensures.stop.1)
-
-pub read_if-returns-in_err-test-clause-stops : goal.read_if-returns-in_err-test-clause-stops
-read_if-returns-in_err-test-clause-stops t c =
-    let p = err_from_is_err_and c.from_residual-in_err-test.result c.from_residual-in_err-test.ensures.1 in rw (p.1, p.2) (then_stops c.args.text.now c.args.depth (StatementPart ∷ []) (ExpressionPart whole ∷ TokenPart ThenToken ∷ SimplePart ∷ TailPart ElseTail ∷ LevelPart ∷ []) c.args.input.now c.args.rest.now _ (one c.args.text.now c.args.depth (StatementPart) ([]) (ExpressionPart whole ∷ TokenPart ThenToken ∷ SimplePart ∷ TailPart ElseTail ∷ LevelPart ∷ []) (word keyword.If) c.args.input.now c.args.rest.now (λ s l. omega (arith, l, c.requires.1.1.1.1.0, c.in_ok-inner.ensures.deeper.0, c.in_ok-inner.ensures.deeper.1)) (λ s. refl) (c.requires.1.1.0.1 c.args.text.now)) (call_stops c.args.text.now c.args.depth c.in_ok-inner.inner (ExpressionPart whole) (TokenPart ThenToken ∷ SimplePart ∷ TailPart ElseTail ∷ LevelPart ∷ []) c.args.rest.now _ (λ s l. omega (arith, l, c.requires.1.1.1.1.0, c.in_ok-inner.ensures.deeper.0, c.in_ok-inner.ensures.deeper.1)) c.in_err-test.ensures.stops))
-
-pub read_if-returns-in_err-rest-clause-stops : goal.read_if-returns-in_err-rest-clause-stops
-read_if-returns-in_err-rest-clause-stops t c =
-    let p = err_from_is_err_and c.from_residual-in_err-rest.result c.from_residual-in_err-rest.ensures.1 in rw (p.1, p.2) (then_stops c.args.text.now c.args.depth (StatementPart ∷ []) (TokenPart ThenToken ∷ SimplePart ∷ TailPart ElseTail ∷ LevelPart ∷ []) c.args.input.now c.in_ok-test.rest.now _ (then c.args.text.now c.args.depth (StatementPart ∷ []) (ExpressionPart whole ∷ TokenPart ThenToken ∷ SimplePart ∷ TailPart ElseTail ∷ LevelPart ∷ []) (TokenPart ThenToken ∷ SimplePart ∷ TailPart ElseTail ∷ LevelPart ∷ []) c.args.input.now c.args.rest.now c.in_ok-test.rest.now (one c.args.text.now c.args.depth (StatementPart) ([]) (ExpressionPart whole ∷ TokenPart ThenToken ∷ SimplePart ∷ TailPart ElseTail ∷ LevelPart ∷ []) (word keyword.If) c.args.input.now c.args.rest.now (λ s l. omega (arith, l, c.requires.1.1.1.1.0, c.in_ok-inner.ensures.deeper.0, c.in_ok-inner.ensures.deeper.1)) (λ s. refl) (c.requires.1.1.0.1 c.args.text.now)) (call c.args.text.now c.args.depth c.in_ok-inner.inner (ExpressionPart whole) (TokenPart ThenToken ∷ SimplePart ∷ TailPart ElseTail ∷ LevelPart ∷ []) c.args.rest.now c.in_ok-test.rest.now (λ s l. omega (arith, l, c.requires.1.1.1.1.0, c.in_ok-inner.ensures.deeper.0, c.in_ok-inner.ensures.deeper.1)) c.in_ok-test.ensures.reads)) (unexpected c.args.text.now c.args.depth ThenToken (SimplePart ∷ TailPart ElseTail ∷ LevelPart ∷ []) (class.Word keyword.Then) c.in_ok-test.rest.now _ refl c.in_err-rest.ensures.stop))
-
-pub read_if-read_simple-requires : goal.read_if-read_simple-requires
-read_if-read_simple-requires t c = (omega (arith, c.requires.1.0, c.requires.1.1.1.0, c.in_ok-test.ensures.shorter, c.in_ok-rest.ensures.shorter), (c.in_ok-inner.ensures.deeper.1, c.in_ok-rest.ensures.proper c.args.text.now c.in_ok-test.ensures.proper))
-
-pub read_if-returns-in_err-yes-clause-stops : goal.read_if-returns-in_err-yes-clause-stops
-read_if-returns-in_err-yes-clause-stops t c =
-    let p = err_from_is_err_and c.from_residual-in_err-yes.result c.from_residual-in_err-yes.ensures.1 in rw (p.1, p.2) (then_stops c.args.text.now c.args.depth (StatementPart ∷ []) (SimplePart ∷ TailPart ElseTail ∷ LevelPart ∷ []) c.args.input.now c.in_ok-rest.rest.now _ (then c.args.text.now c.args.depth (StatementPart ∷ []) (TokenPart ThenToken ∷ SimplePart ∷ TailPart ElseTail ∷ LevelPart ∷ []) (SimplePart ∷ TailPart ElseTail ∷ LevelPart ∷ []) c.args.input.now c.in_ok-test.rest.now c.in_ok-rest.rest.now (then c.args.text.now c.args.depth (StatementPart ∷ []) (ExpressionPart whole ∷ TokenPart ThenToken ∷ SimplePart ∷ TailPart ElseTail ∷ LevelPart ∷ []) (TokenPart ThenToken ∷ SimplePart ∷ TailPart ElseTail ∷ LevelPart ∷ []) c.args.input.now c.args.rest.now c.in_ok-test.rest.now (one c.args.text.now c.args.depth (StatementPart) ([]) (ExpressionPart whole ∷ TokenPart ThenToken ∷ SimplePart ∷ TailPart ElseTail ∷ LevelPart ∷ []) (word keyword.If) c.args.input.now c.args.rest.now (λ s l. omega (arith, l, c.requires.1.1.1.1.0, c.in_ok-inner.ensures.deeper.0, c.in_ok-inner.ensures.deeper.1)) (λ s. refl) (c.requires.1.1.0.1 c.args.text.now)) (call c.args.text.now c.args.depth c.in_ok-inner.inner (ExpressionPart whole) (TokenPart ThenToken ∷ SimplePart ∷ TailPart ElseTail ∷ LevelPart ∷ []) c.args.rest.now c.in_ok-test.rest.now (λ s l. omega (arith, l, c.requires.1.1.1.1.0, c.in_ok-inner.ensures.deeper.0, c.in_ok-inner.ensures.deeper.1)) c.in_ok-test.ensures.reads)) (expected c.args.text.now c.args.depth ThenToken (SimplePart ∷ TailPart ElseTail ∷ LevelPart ∷ []) (class.Word keyword.Then) c.in_ok-test.rest.now c.in_ok-rest.rest.now (λ s l. omega (arith, l, c.requires.1.1.1.1.0, c.in_ok-inner.ensures.deeper.0, c.in_ok-inner.ensures.deeper.1)) refl c.in_ok-rest.ensures.first)) (call_stops c.args.text.now c.args.depth c.in_ok-inner.inner (SimplePart) (TailPart ElseTail ∷ LevelPart ∷ []) c.in_ok-rest.rest.now _ (λ s l. omega (arith, l, c.requires.1.1.1.1.0, c.in_ok-inner.ensures.deeper.0, c.in_ok-inner.ensures.deeper.1)) c.in_err-yes.ensures.stops))
-
-pub read_if-returns-in_default-clause-reads : goal.read_if-returns-in_default-clause-reads
-read_if-returns-in_default-clause-reads t c = (then c.args.text.now c.args.depth (StatementPart ∷ []) (LevelPart ∷ []) ([]) c.args.input.now c.in_ok-yes.rest.now c.in_ok-yes.rest.now (then c.args.text.now c.args.depth (StatementPart ∷ []) (TailPart ElseTail ∷ LevelPart ∷ []) (LevelPart ∷ []) c.args.input.now c.in_ok-yes.rest.now c.in_ok-yes.rest.now (then c.args.text.now c.args.depth (StatementPart ∷ []) (SimplePart ∷ TailPart ElseTail ∷ LevelPart ∷ []) (TailPart ElseTail ∷ LevelPart ∷ []) c.args.input.now c.in_ok-rest.rest.now c.in_ok-yes.rest.now (then c.args.text.now c.args.depth (StatementPart ∷ []) (TokenPart ThenToken ∷ SimplePart ∷ TailPart ElseTail ∷ LevelPart ∷ []) (SimplePart ∷ TailPart ElseTail ∷ LevelPart ∷ []) c.args.input.now c.in_ok-test.rest.now c.in_ok-rest.rest.now (then c.args.text.now c.args.depth (StatementPart ∷ []) (ExpressionPart whole ∷ TokenPart ThenToken ∷ SimplePart ∷ TailPart ElseTail ∷ LevelPart ∷ []) (TokenPart ThenToken ∷ SimplePart ∷ TailPart ElseTail ∷ LevelPart ∷ []) c.args.input.now c.args.rest.now c.in_ok-test.rest.now (one c.args.text.now c.args.depth (StatementPart) ([]) (ExpressionPart whole ∷ TokenPart ThenToken ∷ SimplePart ∷ TailPart ElseTail ∷ LevelPart ∷ []) (word keyword.If) c.args.input.now c.args.rest.now (λ s l. omega (arith, l, c.requires.1.1.1.1.0, c.in_ok-inner.ensures.deeper.0, c.in_ok-inner.ensures.deeper.1)) (λ s. refl) (c.requires.1.1.0.1 c.args.text.now)) (call c.args.text.now c.args.depth c.in_ok-inner.inner (ExpressionPart whole) (TokenPart ThenToken ∷ SimplePart ∷ TailPart ElseTail ∷ LevelPart ∷ []) c.args.rest.now c.in_ok-test.rest.now (λ s l. omega (arith, l, c.requires.1.1.1.1.0, c.in_ok-inner.ensures.deeper.0, c.in_ok-inner.ensures.deeper.1)) c.in_ok-test.ensures.reads)) (expected c.args.text.now c.args.depth ThenToken (SimplePart ∷ TailPart ElseTail ∷ LevelPart ∷ []) (class.Word keyword.Then) c.in_ok-test.rest.now c.in_ok-rest.rest.now (λ s l. omega (arith, l, c.requires.1.1.1.1.0, c.in_ok-inner.ensures.deeper.0, c.in_ok-inner.ensures.deeper.1)) refl c.in_ok-rest.ensures.first)) (call c.args.text.now c.args.depth c.in_ok-inner.inner (SimplePart) (TailPart ElseTail ∷ LevelPart ∷ []) c.in_ok-rest.rest.now c.in_ok-yes.rest.now (λ s l. omega (arith, l, c.requires.1.1.1.1.0, c.in_ok-inner.ensures.deeper.0, c.in_ok-inner.ensures.deeper.1)) c.in_ok-yes.ensures.reads)) (ends c.args.text.now c.args.depth ElseTail (LevelPart ∷ []) (class.Word keyword.Else) c.in_ok-yes.rest.now refl c.in_default.ensures.absent)) (level_ends c.args.text.now c.args.depth [] c.in_ok-yes.rest.now))
-
-pub read_if-read_statement-requires : goal.read_if-read_statement-requires
-read_if-read_statement-requires t c = (omega (arith, c.requires.1.0, c.requires.1.1.1.0, c.in_ok-test.ensures.shorter, c.in_ok-rest.ensures.shorter, c.in_ok-yes.ensures.shorter, c.in-Some.ensures.shorter), (c.in_ok-inner.ensures.deeper.1, c.in-Some.ensures.proper c.args.text.now c.in_ok-yes.ensures.proper))
-
-pub read_if-returns-in_err-no-clause-stops : goal.read_if-returns-in_err-no-clause-stops
-read_if-returns-in_err-no-clause-stops t c =
-    let p = err_from_is_err_and c.from_residual-in_err-no.result c.from_residual-in_err-no.ensures.1 in rw (p.1, p.2) (then_stops c.args.text.now c.args.depth (StatementPart ∷ []) (StatementPart ∷ LevelPart ∷ []) c.args.input.now c.in-Some.after.now _ (then c.args.text.now c.args.depth (StatementPart ∷ []) (TailPart ElseTail ∷ LevelPart ∷ []) (StatementPart ∷ LevelPart ∷ []) c.args.input.now c.in_ok-yes.rest.now c.in-Some.after.now (then c.args.text.now c.args.depth (StatementPart ∷ []) (SimplePart ∷ TailPart ElseTail ∷ LevelPart ∷ []) (TailPart ElseTail ∷ LevelPart ∷ []) c.args.input.now c.in_ok-rest.rest.now c.in_ok-yes.rest.now (then c.args.text.now c.args.depth (StatementPart ∷ []) (TokenPart ThenToken ∷ SimplePart ∷ TailPart ElseTail ∷ LevelPart ∷ []) (SimplePart ∷ TailPart ElseTail ∷ LevelPart ∷ []) c.args.input.now c.in_ok-test.rest.now c.in_ok-rest.rest.now (then c.args.text.now c.args.depth (StatementPart ∷ []) (ExpressionPart whole ∷ TokenPart ThenToken ∷ SimplePart ∷ TailPart ElseTail ∷ LevelPart ∷ []) (TokenPart ThenToken ∷ SimplePart ∷ TailPart ElseTail ∷ LevelPart ∷ []) c.args.input.now c.args.rest.now c.in_ok-test.rest.now (one c.args.text.now c.args.depth (StatementPart) ([]) (ExpressionPart whole ∷ TokenPart ThenToken ∷ SimplePart ∷ TailPart ElseTail ∷ LevelPart ∷ []) (word keyword.If) c.args.input.now c.args.rest.now (λ s l. omega (arith, l, c.requires.1.1.1.1.0, c.in_ok-inner.ensures.deeper.0, c.in_ok-inner.ensures.deeper.1)) (λ s. refl) (c.requires.1.1.0.1 c.args.text.now)) (call c.args.text.now c.args.depth c.in_ok-inner.inner (ExpressionPart whole) (TokenPart ThenToken ∷ SimplePart ∷ TailPart ElseTail ∷ LevelPart ∷ []) c.args.rest.now c.in_ok-test.rest.now (λ s l. omega (arith, l, c.requires.1.1.1.1.0, c.in_ok-inner.ensures.deeper.0, c.in_ok-inner.ensures.deeper.1)) c.in_ok-test.ensures.reads)) (expected c.args.text.now c.args.depth ThenToken (SimplePart ∷ TailPart ElseTail ∷ LevelPart ∷ []) (class.Word keyword.Then) c.in_ok-test.rest.now c.in_ok-rest.rest.now (λ s l. omega (arith, l, c.requires.1.1.1.1.0, c.in_ok-inner.ensures.deeper.0, c.in_ok-inner.ensures.deeper.1)) refl c.in_ok-rest.ensures.first)) (call c.args.text.now c.args.depth c.in_ok-inner.inner (SimplePart) (TailPart ElseTail ∷ LevelPart ∷ []) c.in_ok-rest.rest.now c.in_ok-yes.rest.now (λ s l. omega (arith, l, c.requires.1.1.1.1.0, c.in_ok-inner.ensures.deeper.0, c.in_ok-inner.ensures.deeper.1)) c.in_ok-yes.ensures.reads)) (goes c.args.text.now c.args.depth ElseTail (LevelPart ∷ []) (class.Word keyword.Else) c.in_ok-yes.rest.now c.in-Some.after.now (λ s l. omega (arith, l, c.requires.1.1.1.1.0, c.in_ok-inner.ensures.deeper.0, c.in_ok-inner.ensures.deeper.1)) refl c.in-Some.ensures.first)) (call_stops c.args.text.now c.args.depth c.in_ok-inner.inner (StatementPart) (LevelPart ∷ []) c.in-Some.after.now _ (λ s l. omega (arith, l, c.requires.1.1.1.1.0, c.in_ok-inner.ensures.deeper.0, c.in_ok-inner.ensures.deeper.1)) c.in_err-no.ensures.stops))
-
-pub read_if-returns-clause-reads : goal.read_if-returns-clause-reads
-read_if-returns-clause-reads t c = (then c.args.text.now c.args.depth (StatementPart ∷ []) (LevelPart ∷ []) ([]) c.args.input.now c.in_ok-no.rest.now c.in_ok-no.rest.now (then c.args.text.now c.args.depth (StatementPart ∷ []) (StatementPart ∷ LevelPart ∷ []) (LevelPart ∷ []) c.args.input.now c.in-Some.after.now c.in_ok-no.rest.now (then c.args.text.now c.args.depth (StatementPart ∷ []) (TailPart ElseTail ∷ LevelPart ∷ []) (StatementPart ∷ LevelPart ∷ []) c.args.input.now c.in_ok-yes.rest.now c.in-Some.after.now (then c.args.text.now c.args.depth (StatementPart ∷ []) (SimplePart ∷ TailPart ElseTail ∷ LevelPart ∷ []) (TailPart ElseTail ∷ LevelPart ∷ []) c.args.input.now c.in_ok-rest.rest.now c.in_ok-yes.rest.now (then c.args.text.now c.args.depth (StatementPart ∷ []) (TokenPart ThenToken ∷ SimplePart ∷ TailPart ElseTail ∷ LevelPart ∷ []) (SimplePart ∷ TailPart ElseTail ∷ LevelPart ∷ []) c.args.input.now c.in_ok-test.rest.now c.in_ok-rest.rest.now (then c.args.text.now c.args.depth (StatementPart ∷ []) (ExpressionPart whole ∷ TokenPart ThenToken ∷ SimplePart ∷ TailPart ElseTail ∷ LevelPart ∷ []) (TokenPart ThenToken ∷ SimplePart ∷ TailPart ElseTail ∷ LevelPart ∷ []) c.args.input.now c.args.rest.now c.in_ok-test.rest.now (one c.args.text.now c.args.depth (StatementPart) ([]) (ExpressionPart whole ∷ TokenPart ThenToken ∷ SimplePart ∷ TailPart ElseTail ∷ LevelPart ∷ []) (word keyword.If) c.args.input.now c.args.rest.now (λ s l. omega (arith, l, c.requires.1.1.1.1.0, c.in_ok-inner.ensures.deeper.0, c.in_ok-inner.ensures.deeper.1)) (λ s. refl) (c.requires.1.1.0.1 c.args.text.now)) (call c.args.text.now c.args.depth c.in_ok-inner.inner (ExpressionPart whole) (TokenPart ThenToken ∷ SimplePart ∷ TailPart ElseTail ∷ LevelPart ∷ []) c.args.rest.now c.in_ok-test.rest.now (λ s l. omega (arith, l, c.requires.1.1.1.1.0, c.in_ok-inner.ensures.deeper.0, c.in_ok-inner.ensures.deeper.1)) c.in_ok-test.ensures.reads)) (expected c.args.text.now c.args.depth ThenToken (SimplePart ∷ TailPart ElseTail ∷ LevelPart ∷ []) (class.Word keyword.Then) c.in_ok-test.rest.now c.in_ok-rest.rest.now (λ s l. omega (arith, l, c.requires.1.1.1.1.0, c.in_ok-inner.ensures.deeper.0, c.in_ok-inner.ensures.deeper.1)) refl c.in_ok-rest.ensures.first)) (call c.args.text.now c.args.depth c.in_ok-inner.inner (SimplePart) (TailPart ElseTail ∷ LevelPart ∷ []) c.in_ok-rest.rest.now c.in_ok-yes.rest.now (λ s l. omega (arith, l, c.requires.1.1.1.1.0, c.in_ok-inner.ensures.deeper.0, c.in_ok-inner.ensures.deeper.1)) c.in_ok-yes.ensures.reads)) (goes c.args.text.now c.args.depth ElseTail (LevelPart ∷ []) (class.Word keyword.Else) c.in_ok-yes.rest.now c.in-Some.after.now (λ s l. omega (arith, l, c.requires.1.1.1.1.0, c.in_ok-inner.ensures.deeper.0, c.in_ok-inner.ensures.deeper.1)) refl c.in-Some.ensures.first)) (call c.args.text.now c.args.depth c.in_ok-inner.inner (StatementPart) (LevelPart ∷ []) c.in-Some.after.now c.in_ok-no.rest.now (λ s l. omega (arith, l, c.requires.1.1.1.1.0, c.in_ok-inner.ensures.deeper.0, c.in_ok-inner.ensures.deeper.1)) c.in_ok-no.ensures.reads)) (level_ends c.args.text.now c.args.depth [] c.in_ok-no.rest.now))
 
 pub read_simple-read_assign-requires-clause-named : goal.read_simple-read_assign-requires-clause-named
 read_simple-read_assign-requires-clause-named t c = ap (leads NameToken) ((first_of _ class.Name c.args.input.now c.in-Some-Name-default.field-0-1.now c.in-Some-Name-default.field-0-0-is c.in-Some-Name-default.ensures.first.0).1 c.args.text.now)
@@ -179,33 +131,11 @@ read_simple-returns-in_default-clause-reads t c = let a : leads_simple (terminal
 pub read_statements-returns-clause-spans : goal.read_statements-returns-clause-spans
 read_statements-returns-clause-spans t c = S.some_are_statements c.args.text.now _ c.args.input.now c.statements.rest.now c.statements.invariant.spans
 
-pub read_statement-returns-in_ok-statement-in-Some-Word-While-default-clause-spans : goal.read_statement-returns-in_ok-statement-in-Some-Word-While-default-clause-spans
-read_statement-returns-in_ok-statement-in-Some-Word-While-default-clause-spans t c =
-    let T = c.args.text.now in
-    c.in_ok-statement-in-Some-Word-While-default.ensures.spans T c.args.input.now c.in-Some-Word-While-default.rest.now c.in_ok-test-in-Some-Word-While-default.rest.now c.in_ok-rest-in-Some-Word-While-default.rest.now c.in_ok-turn-in-Some-Word-While-default.rest.now c.reach.ensures
-    (S.takes T (word keyword.While) c.args.input.now c.in-Some-Word-While-default.rest.now c.in-Some-Word-While-default.ensures.passed ((first_of _ (class.Word keyword.While) c.args.input.now c.in-Some-Word-While-default.rest.now (c.in-Some-Word-While-default.field-0-0-is ∙ ap class.Word c.in-Some-Word-While-default.field-0-0-0-is) c.in-Some-Word-While-default.ensures.first.0).1 T)) c.in_ok-test-in-Some-Word-While-default.ensures.spans
-    (S.takes T (word keyword.Do) c.in_ok-test-in-Some-Word-While-default.rest.now c.in_ok-rest-in-Some-Word-While-default.rest.now c.in_ok-rest-in-Some-Word-While-default.ensures.passed (c.in_ok-rest-in-Some-Word-While-default.ensures.first.1 T)) c.in_ok-turn-in-Some-Word-While-default.ensures.spans
-
 pub read_statement-returns-in_ok-statement-in-Some-Word-Repeat-default-clause-spans : goal.read_statement-returns-in_ok-statement-in-Some-Word-Repeat-default-clause-spans
 read_statement-returns-in_ok-statement-in-Some-Word-Repeat-default-clause-spans t c =
     let T = c.args.text.now in
     c.in_ok-statement-in-Some-Word-Repeat-default.ensures.spans T c.args.input.now c.in-Some-Word-Repeat-default.rest.now c.in_ok-turn-in-Some-Word-Repeat-default.rest.now c.reach-in-Some-Word-Repeat-default.ensures
     (S.takes T (word keyword.Repeat) c.args.input.now c.in-Some-Word-Repeat-default.rest.now c.in-Some-Word-Repeat-default.ensures.passed ((first_of _ (class.Word keyword.Repeat) c.args.input.now c.in-Some-Word-Repeat-default.rest.now (c.in-Some-Word-Repeat-default.field-0-0-is ∙ ap class.Word c.in-Some-Word-Repeat-default.field-0-0-0-is) c.in-Some-Word-Repeat-default.ensures.first.0).1 T)) c.in_ok-turn-in-Some-Word-Repeat-default.ensures.spans
-
-pub read_if-returns-in_default-clause-spans : goal.read_if-returns-in_default-clause-spans
-read_if-returns-in_default-clause-spans t c =
-    let T = c.args.text.now in
-    c.in_ok-statement.ensures.spans T c.args.input.now c.args.rest.now c.in_ok-test.rest.now c.in_ok-rest.rest.now c.in_ok-yes.rest.now c.reach.ensures
-    (S.takes T (word keyword.If) c.args.input.now c.args.rest.now c.requires.1.1.1.1.1.1 (c.requires.1.1.0.1 T)) c.in_ok-test.ensures.spans
-    (S.takes T (word keyword.Then) c.in_ok-test.rest.now c.in_ok-rest.rest.now c.in_ok-rest.ensures.passed (c.in_ok-rest.ensures.first.1 T)) c.in_ok-yes.ensures.spans
-
-pub read_if-returns-clause-spans : goal.read_if-returns-clause-spans
-read_if-returns-clause-spans t c =
-    let T = c.args.text.now in
-    c.in_ok-statement-2.ensures.spans T c.args.input.now c.args.rest.now c.in_ok-test.rest.now c.in_ok-rest.rest.now c.in_ok-yes.rest.now c.in-Some.after.now c.in_ok-no.rest.now c.reach-2.ensures
-    (S.takes T (word keyword.If) c.args.input.now c.args.rest.now c.requires.1.1.1.1.1.1 (c.requires.1.1.0.1 T)) c.in_ok-test.ensures.spans
-    (S.takes T (word keyword.Then) c.in_ok-test.rest.now c.in_ok-rest.rest.now c.in_ok-rest.ensures.passed (c.in_ok-rest.ensures.first.1 T)) c.in_ok-yes.ensures.spans
-    (S.takes T (word keyword.Else) c.in_ok-yes.rest.now c.in-Some.after.now c.in-Some.ensures.passed (c.in-Some.ensures.first.1 T)) c.in_ok-no.ensures.spans
 
 pub read_simple-returns-in_ok-value-in-Some-Word-Print-default-clause-spans : goal.read_simple-returns-in_ok-value-in-Some-Word-Print-default-clause-spans
 read_simple-returns-in_ok-value-in-Some-Word-Print-default-clause-spans t c =
@@ -223,3 +153,150 @@ pub read_simple-returns-in_default-clause-spans : goal.read_simple-returns-in_de
 read_simple-returns-in_default-clause-spans t c =
     let T = c.args.text.now in
     (refl, refl)
+
+pub read_statement-read_before-requires : goal.read_statement-read_before-requires
+read_statement-read_before-requires t c =
+    record { depth = c.in_ok-inner-in-Some-Word-While-default.ensures.deeper.1; proper = c.in-Some-Word-While-default.ensures.proper c.args.text.now c.requires.1.1.1; last = refl }
+
+pub read_statement-read_statement-requires : goal.read_statement-read_statement-requires
+read_statement-read_statement-requires t c =
+    (omega (arith, c.requires.1.0, c.in-Some-Word-While-default.ensures.first.1, c.in_ok-test-in-Some-Word-While-default.ensures.shorter), (c.in_ok-inner-in-Some-Word-While-default.ensures.deeper.1, c.in_ok-test-in-Some-Word-While-default.ensures.proper))
+
+pub read_statement-returns-in_err-test-in-Some-Word-While-default-clause-stops : goal.read_statement-returns-in_err-test-in-Some-Word-While-default-clause-stops
+read_statement-returns-in_err-test-in-Some-Word-While-default-clause-stops t c =
+    let p = err_from_is_err_and c.from_residual-in_err-test-in-Some-Word-While-default.result c.from_residual-in_err-test-in-Some-Word-While-default.ensures.1 in
+    let T = c.args.text.now in
+    let i = c.args.input.now in
+    let e = c.in_ok-inner-in-Some-Word-While-default.inner in
+    let n = c.in_ok-inner-in-Some-Word-While-default.ensures.deeper.0 in
+    let m = K.while_moves T c.args.depth e i c.in-Some-Word-While-default.rest.now n c.in_ok-inner-in-Some-Word-While-default.ensures.deeper.1 ((first_of _ (class.Word keyword.While) c.args.input.now c.in-Some-Word-While-default.rest.now (c.in-Some-Word-While-default.field-0-0-is ∙ ap class.Word c.in-Some-Word-While-default.field-0-0-0-is) c.in-Some-Word-While-default.ensures.first.0).1 T) in
+    rw (p.1, p.2) (then_stops T c.args.depth K.some_statement K.after_while i c.in-Some-Word-While-default.rest.now _ m
+    (call_two_stops T c.args.depth e (ExpressionPart whole) (TokenPart DoToken) K.after_do c.in-Some-Word-While-default.rest.now _ (λ s l. omega (arith, l, n)) c.in_err-test-in-Some-Word-While-default.ensures.stops))
+
+pub read_statement-returns-in_err-turn-in-Some-Word-While-default-clause-stops : goal.read_statement-returns-in_err-turn-in-Some-Word-While-default-clause-stops
+read_statement-returns-in_err-turn-in-Some-Word-While-default-clause-stops t c =
+    let p = err_from_is_err_and c.from_residual-in_err-turn-in-Some-Word-While-default.result c.from_residual-in_err-turn-in-Some-Word-While-default.ensures.1 in
+    let T = c.args.text.now in
+    let i = c.args.input.now in
+    let e = c.in_ok-inner-in-Some-Word-While-default.inner in
+    let n = c.in_ok-inner-in-Some-Word-While-default.ensures.deeper.0 in
+    let m = K.while_moves T c.args.depth e i c.in-Some-Word-While-default.rest.now n c.in_ok-inner-in-Some-Word-While-default.ensures.deeper.1 ((first_of _ (class.Word keyword.While) c.args.input.now c.in-Some-Word-While-default.rest.now (c.in-Some-Word-While-default.field-0-0-is ∙ ap class.Word c.in-Some-Word-While-default.field-0-0-0-is) c.in-Some-Word-While-default.ensures.first.0).1 T) in
+    let m2 = K.do_moves T c.args.depth e i c.in-Some-Word-While-default.rest.now c.in_ok-test-in-Some-Word-While-default.rest.now n m c.in_ok-test-in-Some-Word-While-default.ensures.reads in
+    rw (p.1, p.2) (then_stops T c.args.depth K.some_statement K.after_do i c.in_ok-test-in-Some-Word-While-default.rest.now _ m2
+    (call_stops T c.args.depth e StatementPart (LevelPart ∷ []) c.in_ok-test-in-Some-Word-While-default.rest.now _ (λ s l. omega (arith, l, n)) c.in_err-turn-in-Some-Word-While-default.ensures.stops))
+
+pub read_statement-returns-in_ok-statement-in-Some-Word-While-default-clause-reads : goal.read_statement-returns-in_ok-statement-in-Some-Word-While-default-clause-reads
+read_statement-returns-in_ok-statement-in-Some-Word-While-default-clause-reads t c =
+    let T = c.args.text.now in
+    let i = c.args.input.now in
+    let e = c.in_ok-inner-in-Some-Word-While-default.inner in
+    let n = c.in_ok-inner-in-Some-Word-While-default.ensures.deeper.0 in
+    let m = K.while_moves T c.args.depth e i c.in-Some-Word-While-default.rest.now n c.in_ok-inner-in-Some-Word-While-default.ensures.deeper.1 ((first_of _ (class.Word keyword.While) c.args.input.now c.in-Some-Word-While-default.rest.now (c.in-Some-Word-While-default.field-0-0-is ∙ ap class.Word c.in-Some-Word-While-default.field-0-0-0-is) c.in-Some-Word-While-default.ensures.first.0).1 T) in
+    let m2 = K.do_moves T c.args.depth e i c.in-Some-Word-While-default.rest.now c.in_ok-test-in-Some-Word-While-default.rest.now n m c.in_ok-test-in-Some-Word-While-default.ensures.reads in
+    let o = c.in_ok-turn-in-Some-Word-While-default.rest.now in
+    then T c.args.depth K.some_statement (LevelPart ∷ []) [] i o o
+    (then T c.args.depth K.some_statement K.after_do (LevelPart ∷ []) i c.in_ok-test-in-Some-Word-While-default.rest.now o m2
+    (call T c.args.depth e StatementPart (LevelPart ∷ []) c.in_ok-test-in-Some-Word-While-default.rest.now o (λ s l. omega (arith, l, n)) c.in_ok-turn-in-Some-Word-While-default.ensures.reads))
+    (level_ends T c.args.depth [] o)
+
+pub read_statement-returns-in_ok-statement-in-Some-Word-While-default-clause-spans : goal.read_statement-returns-in_ok-statement-in-Some-Word-While-default-clause-spans
+read_statement-returns-in_ok-statement-in-Some-Word-While-default-clause-spans t c =
+    let T = c.args.text.now in
+    c.in_ok-statement-in-Some-Word-While-default.ensures.spans T c.args.input.now c.in-Some-Word-While-default.rest.now c.in_ok-test-in-Some-Word-While-default.ensures.spans.0 c.in_ok-test-in-Some-Word-While-default.rest.now c.in_ok-turn-in-Some-Word-While-default.rest.now c.reach.ensures
+    (S.takes T (word keyword.While) c.args.input.now c.in-Some-Word-While-default.rest.now c.in-Some-Word-While-default.ensures.passed ((first_of _ (class.Word keyword.While) c.args.input.now c.in-Some-Word-While-default.rest.now (c.in-Some-Word-While-default.field-0-0-is ∙ ap class.Word c.in-Some-Word-While-default.field-0-0-0-is) c.in-Some-Word-While-default.ensures.first.0).1 T))
+    c.in_ok-test-in-Some-Word-While-default.ensures.spans.1 c.in_ok-test-in-Some-Word-While-default.ensures.spans.2 c.in_ok-turn-in-Some-Word-While-default.ensures.spans
+
+pub read_if-read_before-requires : goal.read_if-read_before-requires
+read_if-read_before-requires t c =
+    record { depth = c.in_ok-inner.ensures.deeper.1; proper = c.requires.1.1.1.1.1.0; last = refl }
+
+pub read_if-read_simple-requires : goal.read_if-read_simple-requires
+read_if-read_simple-requires t c =
+    (omega (arith, c.requires.1.0, c.requires.1.1.1.0, c.in_ok-test.ensures.shorter), (c.in_ok-inner.ensures.deeper.1, c.in_ok-test.ensures.proper))
+
+pub read_if-read_statement-requires : goal.read_if-read_statement-requires
+read_if-read_statement-requires t c =
+    (omega (arith, c.requires.1.0, c.requires.1.1.1.0, c.in_ok-test.ensures.shorter, c.in_ok-yes.ensures.shorter, c.in-Some.ensures.shorter), (c.in_ok-inner.ensures.deeper.1, c.in-Some.ensures.proper c.args.text.now c.in_ok-yes.ensures.proper))
+
+pub read_if-returns-in_err-test-clause-stops : goal.read_if-returns-in_err-test-clause-stops
+read_if-returns-in_err-test-clause-stops t c =
+    let p = err_from_is_err_and c.from_residual-in_err-test.result c.from_residual-in_err-test.ensures.1 in
+    let T = c.args.text.now in
+    let i = c.args.input.now in
+    let e = c.in_ok-inner.inner in
+    let n = c.in_ok-inner.ensures.deeper.0 in
+    let m = K.conditional_moves T c.args.depth e i c.args.rest.now n c.in_ok-inner.ensures.deeper.1 (c.requires.1.1.0.1 T) in
+    rw (p.1, p.2) (then_stops T c.args.depth K.some_statement K.before_test i c.args.rest.now _ m
+    (call_two_stops T c.args.depth e (ExpressionPart whole) (TokenPart ThenToken) K.after_test c.args.rest.now _ (λ s l. omega (arith, l, n)) c.in_err-test.ensures.stops))
+
+pub read_if-returns-in_err-yes-clause-stops : goal.read_if-returns-in_err-yes-clause-stops
+read_if-returns-in_err-yes-clause-stops t c =
+    let p = err_from_is_err_and c.from_residual-in_err-yes.result c.from_residual-in_err-yes.ensures.1 in
+    let T = c.args.text.now in
+    let i = c.args.input.now in
+    let e = c.in_ok-inner.inner in
+    let n = c.in_ok-inner.ensures.deeper.0 in
+    let m = K.conditional_moves T c.args.depth e i c.args.rest.now n c.in_ok-inner.ensures.deeper.1 (c.requires.1.1.0.1 T) in
+    let m2 = K.test_moves T c.args.depth e i c.args.rest.now c.in_ok-test.rest.now n m c.in_ok-test.ensures.reads in
+    rw (p.1, p.2) (then_stops T c.args.depth K.some_statement K.after_test i c.in_ok-test.rest.now _ m2
+    (call_stops T c.args.depth e SimplePart K.after_branch c.in_ok-test.rest.now _ (λ s l. omega (arith, l, n)) c.in_err-yes.ensures.stops))
+
+pub read_if-returns-in_err-no-clause-stops : goal.read_if-returns-in_err-no-clause-stops
+read_if-returns-in_err-no-clause-stops t c =
+    let p = err_from_is_err_and c.from_residual-in_err-no.result c.from_residual-in_err-no.ensures.1 in
+    let T = c.args.text.now in
+    let i = c.args.input.now in
+    let e = c.in_ok-inner.inner in
+    let n = c.in_ok-inner.ensures.deeper.0 in
+    let m = K.conditional_moves T c.args.depth e i c.args.rest.now n c.in_ok-inner.ensures.deeper.1 (c.requires.1.1.0.1 T) in
+    let m2 = K.test_moves T c.args.depth e i c.args.rest.now c.in_ok-test.rest.now n m c.in_ok-test.ensures.reads in
+    let m3 = K.branch_moves T c.args.depth e i c.in_ok-test.rest.now c.in_ok-yes.rest.now n m2 c.in_ok-yes.ensures.reads in
+    let m4 = K.other_moves T c.args.depth e i c.in_ok-yes.rest.now c.in-Some.after.now n c.in_ok-inner.ensures.deeper.1 m3 c.in-Some.ensures.first in
+    rw (p.1, p.2) (then_stops T c.args.depth K.some_statement K.after_other i c.in-Some.after.now _ m4
+    (call_stops T c.args.depth e StatementPart (LevelPart ∷ []) c.in-Some.after.now _ (λ s l. omega (arith, l, n)) c.in_err-no.ensures.stops))
+
+pub read_if-returns-in_default-clause-reads : goal.read_if-returns-in_default-clause-reads
+read_if-returns-in_default-clause-reads t c =
+    let T = c.args.text.now in
+    let i = c.args.input.now in
+    let e = c.in_ok-inner.inner in
+    let n = c.in_ok-inner.ensures.deeper.0 in
+    let m = K.conditional_moves T c.args.depth e i c.args.rest.now n c.in_ok-inner.ensures.deeper.1 (c.requires.1.1.0.1 T) in
+    let m2 = K.test_moves T c.args.depth e i c.args.rest.now c.in_ok-test.rest.now n m c.in_ok-test.ensures.reads in
+    let m3 = K.branch_moves T c.args.depth e i c.in_ok-test.rest.now c.in_ok-yes.rest.now n m2 c.in_ok-yes.ensures.reads in
+    let o = c.in_ok-yes.rest.now in
+    then T c.args.depth K.some_statement (LevelPart ∷ []) [] i o o
+    (then T c.args.depth K.some_statement K.after_branch (LevelPart ∷ []) i o o m3 (ends T c.args.depth ElseTail (LevelPart ∷ []) (class.Word keyword.Else) o refl c.in_default.ensures.absent))
+    (level_ends T c.args.depth [] o)
+
+pub read_if-returns-clause-reads : goal.read_if-returns-clause-reads
+read_if-returns-clause-reads t c =
+    let T = c.args.text.now in
+    let i = c.args.input.now in
+    let e = c.in_ok-inner.inner in
+    let n = c.in_ok-inner.ensures.deeper.0 in
+    let m = K.conditional_moves T c.args.depth e i c.args.rest.now n c.in_ok-inner.ensures.deeper.1 (c.requires.1.1.0.1 T) in
+    let m2 = K.test_moves T c.args.depth e i c.args.rest.now c.in_ok-test.rest.now n m c.in_ok-test.ensures.reads in
+    let m3 = K.branch_moves T c.args.depth e i c.in_ok-test.rest.now c.in_ok-yes.rest.now n m2 c.in_ok-yes.ensures.reads in
+    let m4 = K.other_moves T c.args.depth e i c.in_ok-yes.rest.now c.in-Some.after.now n c.in_ok-inner.ensures.deeper.1 m3 c.in-Some.ensures.first in
+    let o = c.in_ok-no.rest.now in
+    then T c.args.depth K.some_statement (LevelPart ∷ []) [] i o o
+    (then T c.args.depth K.some_statement K.after_other (LevelPart ∷ []) i c.in-Some.after.now o m4
+    (call T c.args.depth e StatementPart (LevelPart ∷ []) c.in-Some.after.now o (λ s l. omega (arith, l, n)) c.in_ok-no.ensures.reads))
+    (level_ends T c.args.depth [] o)
+
+pub read_if-returns-in_default-clause-spans : goal.read_if-returns-in_default-clause-spans
+read_if-returns-in_default-clause-spans t c =
+    let T = c.args.text.now in
+    c.in_ok-statement.ensures.spans T c.args.input.now c.args.rest.now c.in_ok-test.ensures.spans.0 c.in_ok-test.rest.now c.in_ok-yes.rest.now c.reach.ensures
+    (S.takes T (word keyword.If) c.args.input.now c.args.rest.now c.requires.1.1.1.1.1.1 (c.requires.1.1.0.1 T))
+    c.in_ok-test.ensures.spans.1 c.in_ok-test.ensures.spans.2 c.in_ok-yes.ensures.spans
+
+pub read_if-returns-clause-spans : goal.read_if-returns-clause-spans
+read_if-returns-clause-spans t c =
+    let T = c.args.text.now in
+    c.in_ok-statement-2.ensures.spans T c.args.input.now c.args.rest.now c.in_ok-test.ensures.spans.0 c.in_ok-test.rest.now c.in_ok-yes.rest.now c.in-Some.after.now c.in_ok-no.rest.now
+    c.reach-2.ensures
+    (S.takes T (word keyword.If) c.args.input.now c.args.rest.now c.requires.1.1.1.1.1.1 (c.requires.1.1.0.1 T))
+    c.in_ok-test.ensures.spans.1 c.in_ok-test.ensures.spans.2 c.in_ok-yes.ensures.spans
+    (S.takes T (word keyword.Else) c.in_ok-yes.rest.now c.in-Some.after.now c.in-Some.ensures.passed (c.in-Some.ensures.first.1 T)) c.in_ok-no.ensures.spans

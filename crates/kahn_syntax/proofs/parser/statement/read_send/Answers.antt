@@ -8,28 +8,40 @@ use Rattle.kahn_syntax.specs.Rungs.{whole, ors, denials, relations, sums, factor
 use Rattle.kahn_syntax.specs.Machine.{BecomesToken, BeginToken, ChannelToken, CloseToken, CommaToken, DoToken, ElseToken, EndToken, IfToken, NameToken, NotToken, NumberToken, OnToken, OpenToken, ParToken, ProcessToken, SemicolonToken, ThenToken, NamesTail, StatementsTail, GroupsTail, ArgumentsTail, InstancesTail, ElseTail, LastTail, ProgramPart, DeclarationsPart, DeclarationPart, ProcessPart, RolePart, GroupsPart, GroupPart, TakingPart, VariablesPart, StatementPart, SimplePart, ExpressionPart, OperatorsPart, InstancePart, ArgumentsPart, ArgumentPart, TailPart, TokenPart, LevelPart}
 use Rattle.kahn_syntax.specs.Drawn.{name_of, expression_of, statement_of}
 use Rattle.kahn_syntax.proofs.Spanning as S
+use Rattle.kahn_syntax.proofs.Stacks as K
 use Rattle.kahn_syntax.proofs.Moves.{memory_alone, leads_statement, opens_simple, leads_simple, simple_ends, reads_by, stops_by, then, then_stops, call, call_stops, call_two, call_two_stops, one, deep, token, expected, goes, ends, level_ends, absent, unexpected, no_name, no_memory}
 use Rattle.kahn_syntax.proofs.parser.statement.read_send.Goals as goal
 
 pub returns-in_err-value-clause-stops : goal.returns-in_err-value-clause-stops
 returns-in_err-value-clause-stops c =
-    let p = err_from_is_err_and c.from_residual.result c.from_residual.ensures.1 in rw (p.1, p.2) (then_stops c.args.text.now c.args.depth (SimplePart ∷ []) (ExpressionPart whole ∷ TokenPart OnToken ∷ TokenPart NameToken ∷ []) c.args.input.now c.args.rest.now _ (one c.args.text.now c.args.depth (SimplePart) ([]) (ExpressionPart whole ∷ TokenPart OnToken ∷ TokenPart NameToken ∷ []) (word keyword.Send) c.args.input.now c.args.rest.now (λ s l. omega (arith, l, c.requires.depth)) (λ s. refl) (c.requires.first.1 c.args.text.now)) (call_stops c.args.text.now c.args.depth c.args.depth (ExpressionPart whole) (TokenPart OnToken ∷ TokenPart NameToken ∷ []) c.args.rest.now _ (λ s l. omega (arith, l, c.requires.depth)) c.in_err-value.ensures.stops))
-
-pub returns-in_err-rest-clause-stops : goal.returns-in_err-rest-clause-stops
-returns-in_err-rest-clause-stops c =
-    let p = err_from_is_err_and c.from_residual-in_err-rest.result c.from_residual-in_err-rest.ensures.1 in rw (p.1, p.2) (then_stops c.args.text.now c.args.depth (SimplePart ∷ []) (TokenPart OnToken ∷ TokenPart NameToken ∷ []) c.args.input.now c.in_ok-value.rest.now _ (then c.args.text.now c.args.depth (SimplePart ∷ []) (ExpressionPart whole ∷ TokenPart OnToken ∷ TokenPart NameToken ∷ []) (TokenPart OnToken ∷ TokenPart NameToken ∷ []) c.args.input.now c.args.rest.now c.in_ok-value.rest.now (one c.args.text.now c.args.depth (SimplePart) ([]) (ExpressionPart whole ∷ TokenPart OnToken ∷ TokenPart NameToken ∷ []) (word keyword.Send) c.args.input.now c.args.rest.now (λ s l. omega (arith, l, c.requires.depth)) (λ s. refl) (c.requires.first.1 c.args.text.now)) (call c.args.text.now c.args.depth c.args.depth (ExpressionPart whole) (TokenPart OnToken ∷ TokenPart NameToken ∷ []) c.args.rest.now c.in_ok-value.rest.now (λ s l. omega (arith, l, c.requires.depth)) c.in_ok-value.ensures.reads)) (unexpected c.args.text.now c.args.depth OnToken (TokenPart NameToken ∷ []) (class.Word keyword.On) c.in_ok-value.rest.now _ refl c.in_err-rest.ensures.stop))
-
-pub read_name-requires : goal.read_name-requires
-read_name-requires c = record { proper = c.in_ok-rest.ensures.proper c.args.text.now c.in_ok-value.ensures.proper }
+    let p = err_from_is_err_and c.from_residual.result c.from_residual.ensures.1 in
+    let T = c.args.text.now in
+    let i = c.args.input.now in
+    let m = K.send_moves T c.args.depth i c.args.rest.now c.requires.depth (c.requires.first.1 T) in
+    rw (p.1, p.2) (then_stops T c.args.depth (SimplePart ∷ []) K.after_send i c.args.rest.now _ m
+    (call_two_stops T c.args.depth c.args.depth (ExpressionPart whole) (TokenPart OnToken) K.after_on c.args.rest.now _ (λ s l. l) c.in_err-value.ensures.stops))
 
 pub returns-in_err-name-clause-stops : goal.returns-in_err-name-clause-stops
 returns-in_err-name-clause-stops c =
-    let p = err_from_is_err_and c.from_residual-in_err-name.result c.from_residual-in_err-name.ensures.1 in rw (p.1, p.2) (then_stops c.args.text.now c.args.depth (SimplePart ∷ []) (TokenPart NameToken ∷ []) c.args.input.now c.in_ok-rest.rest.now _ (then c.args.text.now c.args.depth (SimplePart ∷ []) (TokenPart OnToken ∷ TokenPart NameToken ∷ []) (TokenPart NameToken ∷ []) c.args.input.now c.in_ok-value.rest.now c.in_ok-rest.rest.now (then c.args.text.now c.args.depth (SimplePart ∷ []) (ExpressionPart whole ∷ TokenPart OnToken ∷ TokenPart NameToken ∷ []) (TokenPart OnToken ∷ TokenPart NameToken ∷ []) c.args.input.now c.args.rest.now c.in_ok-value.rest.now (one c.args.text.now c.args.depth (SimplePart) ([]) (ExpressionPart whole ∷ TokenPart OnToken ∷ TokenPart NameToken ∷ []) (word keyword.Send) c.args.input.now c.args.rest.now (λ s l. omega (arith, l, c.requires.depth)) (λ s. refl) (c.requires.first.1 c.args.text.now)) (call c.args.text.now c.args.depth c.args.depth (ExpressionPart whole) (TokenPart OnToken ∷ TokenPart NameToken ∷ []) c.args.rest.now c.in_ok-value.rest.now (λ s l. omega (arith, l, c.requires.depth)) c.in_ok-value.ensures.reads)) (expected c.args.text.now c.args.depth OnToken (TokenPart NameToken ∷ []) (class.Word keyword.On) c.in_ok-value.rest.now c.in_ok-rest.rest.now (λ s l. omega (arith, l, c.requires.depth)) refl c.in_ok-rest.ensures.first)) (no_name c.args.text.now c.args.depth ([]) c.in_ok-rest.rest.now _ c.in_err-name.ensures.stop))
+    let p = err_from_is_err_and c.from_residual-in_err-name.result c.from_residual-in_err-name.ensures.1 in
+    let T = c.args.text.now in
+    let i = c.args.input.now in
+    let m = K.send_moves T c.args.depth i c.args.rest.now c.requires.depth (c.requires.first.1 T) in
+    let m2 = K.on_moves T c.args.depth i c.args.rest.now c.in_ok-value.rest.now m c.in_ok-value.ensures.reads in
+    rw (p.1, p.2) (then_stops T c.args.depth (SimplePart ∷ []) K.after_on i c.in_ok-value.rest.now _ m2 (no_name T c.args.depth [] c.in_ok-value.rest.now _ c.in_err-name.ensures.stop))
 
 pub returns-clause-reads : goal.returns-clause-reads
-returns-clause-reads c = (then c.args.text.now c.args.depth (SimplePart ∷ []) (TokenPart NameToken ∷ []) ([]) c.args.input.now c.in_ok-rest.rest.now c.in_ok-name.rest.now (then c.args.text.now c.args.depth (SimplePart ∷ []) (TokenPart OnToken ∷ TokenPart NameToken ∷ []) (TokenPart NameToken ∷ []) c.args.input.now c.in_ok-value.rest.now c.in_ok-rest.rest.now (then c.args.text.now c.args.depth (SimplePart ∷ []) (ExpressionPart whole ∷ TokenPart OnToken ∷ TokenPart NameToken ∷ []) (TokenPart OnToken ∷ TokenPart NameToken ∷ []) c.args.input.now c.args.rest.now c.in_ok-value.rest.now (one c.args.text.now c.args.depth (SimplePart) ([]) (ExpressionPart whole ∷ TokenPart OnToken ∷ TokenPart NameToken ∷ []) (word keyword.Send) c.args.input.now c.args.rest.now (λ s l. omega (arith, l, c.requires.depth)) (λ s. refl) (c.requires.first.1 c.args.text.now)) (call c.args.text.now c.args.depth c.args.depth (ExpressionPart whole) (TokenPart OnToken ∷ TokenPart NameToken ∷ []) c.args.rest.now c.in_ok-value.rest.now (λ s l. omega (arith, l, c.requires.depth)) c.in_ok-value.ensures.reads)) (expected c.args.text.now c.args.depth OnToken (TokenPart NameToken ∷ []) (class.Word keyword.On) c.in_ok-value.rest.now c.in_ok-rest.rest.now (λ s l. omega (arith, l, c.requires.depth)) refl c.in_ok-rest.ensures.first)) (token c.args.text.now c.args.depth NameToken ([]) (name (name_of c.in_ok-name.name)) c.in_ok-rest.rest.now c.in_ok-name.rest.now (λ s l. omega (arith, l, c.requires.depth)) refl c.in_ok-name.ensures.words))
+returns-clause-reads c =
+    let T = c.args.text.now in
+    let i = c.args.input.now in
+    let m = K.send_moves T c.args.depth i c.args.rest.now c.requires.depth (c.requires.first.1 T) in
+    let m2 = K.on_moves T c.args.depth i c.args.rest.now c.in_ok-value.rest.now m c.in_ok-value.ensures.reads in
+    then T c.args.depth (SimplePart ∷ []) K.after_on [] i c.in_ok-value.rest.now c.in_ok-name.rest.now m2
+    (token T c.args.depth NameToken [] (name (name_of c.in_ok-name.name)) c.in_ok-value.rest.now c.in_ok-name.rest.now (λ s l. omega (arith, l, c.requires.depth)) refl c.in_ok-name.ensures.words)
 
 pub returns-clause-spans : goal.returns-clause-spans
 returns-clause-spans c =
     let T = c.args.text.now in
-    (c.reach.ensures, (c.args.rest.now, c.in_ok-value.rest.now, c.in_ok-rest.rest.now, S.takes T (word keyword.Send) c.args.input.now c.args.rest.now c.requires.passed (c.requires.first.1 T), c.in_ok-value.ensures.spans, (S.takes T (word keyword.On) c.in_ok-value.rest.now c.in_ok-rest.rest.now c.in_ok-rest.ensures.passed (c.in_ok-rest.ensures.first.1 T)), c.in_ok-name.ensures.spans))
+    (c.reach.ensures, (c.args.rest.now, c.in_ok-value.ensures.spans.0, c.in_ok-value.rest.now,
+    S.takes T (word keyword.Send) c.args.input.now c.args.rest.now c.requires.passed (c.requires.first.1 T),
+    c.in_ok-value.ensures.spans.1, c.in_ok-value.ensures.spans.2, c.in_ok-name.ensures.spans))
