@@ -364,7 +364,7 @@ fn put_read<W: Write, L: Ledger>(
 }
 
 /// What a path is called.
-fn path_words(path: &Option<String>) -> &str
+pub(crate) fn path_words(path: &Option<String>) -> &str
     ensures { result.now ≡ path_words path.now }
 {
     match path {

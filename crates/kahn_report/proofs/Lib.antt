@@ -12,3 +12,4 @@ pub mod Worked
 pub mod Same_programs
 pub mod Same_inputs
 pub mod One_report
+pub mod Sample_text

@@ -146,7 +146,7 @@ instance_name (whole.instance n xs) = n
 abbrev made_in : Scope → List DeclarationTree → InstanceTree → Instance
 made_in channels ds (whole.instance n xs) = instance_in channels ds n xs
 
-abbrev network_in : ProgramTree → Network
+abbrev pub network_in : ProgramTree → Network
 network_in (whole.program ds is) =
     record { channels = map (λ c. c.1) (channels_in ds); instances = map (made_in (map (λ c. c.0) (channels_in ds)) ds) is }
 
@@ -201,7 +201,7 @@ same_channels [] = refl
 same_channels (declared.Channels k r ns ∷ ds) = rw (map_twice {C = List ℕ × (Kind × Role)} name_of (λ n. (n, (k, r))) ns.items, same_channels ds) refl
 same_channels (declared.Process p ∷ ds) = same_channels ds
 
-same_network : (t : Program) → network_of t ≡ network_in (program_of t)
+pub same_network : (t : Program) → network_of t ≡ network_in (program_of t)
 same_network t =
     let cs = same_channels t.declarations.items in
     let made : (i : OneInstance) → instance_from (map (λ c. c.0) (channels_of t.declarations.items)) (process_of t.declarations.items (bytes_of i.process)) i.arguments.items

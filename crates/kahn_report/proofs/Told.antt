@@ -4,16 +4,17 @@ use Rattle.kahn_tree.specs.declared.tree.Program.{Program}
 use Rattle.kahn_streams.specs.declared.entries.InputFault.{InputFault}
 use Rattle.kahn_streams.specs.declared.entries.InputFault.TheVariants.{UnknownName, NotAnInput, GivenTwice, WrongKind, TooMany, NoMemory}
 use Rattle.kahn_streams.specs.Entries.{Entry, IsFirstRefused}
-use Rattle.kahn_report.specs.declared.entries.EntriesFault.{EntriesFault}
-use Rattle.kahn_report.specs.declared.entries.EntriesFault.TheVariants as entries_fault
+use Rattle.kahn_report.specs.declared.input.TextFault.{TextFault}
+use Rattle.kahn_report.specs.declared.input.TextFault.TheVariants as text_fault
 use Rattle.kahn_report.specs.Entries.{IsInputText, IsEntriesFault}
-use Rattle.kahn_report.specs.Inputs.{IsTextFault, told_of_entries, told_of_input}
+use Rattle.kahn_report.specs.Inputs.{IsTextFault, told_of_input}
 
-pub entries_told : (t : Program) (text : List ℕ) (fault : EntriesFault) → IsEntriesFault text fault → IsTextFault t text (told_of_entries fault)
-entries_told t text (entries_fault.BadLine n) h = h
-entries_told t text (entries_fault.BadValue n) h = h
-entries_told t text entries_fault.TooLong h = h
-entries_told t text entries_fault.NoMemory h = h
+pub entries_told : (t : Program) (text : List ℕ) (fault : TextFault) → IsEntriesFault text fault → IsTextFault t text fault
+entries_told t text (text_fault.BadLine n) h = h
+entries_told t text (text_fault.BadValue n) h = h
+entries_told t text (text_fault.Input f) h = absurd h
+entries_told t text text_fault.TooLong h = h
+entries_told t text text_fault.NoMemory h = h
 
 refused : (t : Program) (entries : List Entry) (fault : InputFault) → (fault ≡ NoMemory → ⊥) → (fault ≡ NoMemory) ⊎ IsFirstRefused t entries fault → IsFirstRefused t entries fault
 refused t entries fault other (inl e) = absurd (other e)

@@ -10,9 +10,9 @@ use Rattle.kahn_streams.specs.Entries.{Entry}
 use Rattle.kahn_report.specs.declared.entries.LineFault.{LineFault}
 use Rattle.kahn_report.specs.declared.entries.LineFault.TheVariants.{NoHead, NoValues}
 use Rattle.kahn_report.specs.declared.entries.LineFault.TheVariants as line_fault
-use Rattle.kahn_report.specs.declared.entries.EntriesFault.{EntriesFault}
-use Rattle.kahn_report.specs.declared.entries.EntriesFault.TheVariants.{BadLine, BadValue, TooLong}
-use Rattle.kahn_report.specs.declared.entries.EntriesFault.TheVariants as entries_fault
+use Rattle.kahn_report.specs.declared.input.TextFault.{TextFault}
+use Rattle.kahn_report.specs.declared.input.TextFault.TheVariants.{BadLine, BadValue, Input, TooLong}
+use Rattle.kahn_report.specs.declared.input.TextFault.TheVariants as text_fault
 use mir.Val.{SFits as FitsSigned}
 use mir.Syntax.{w64}
 
@@ -111,8 +111,9 @@ abbrev pub IsInputText : List ℕ → List Entry → Type 0
 IsInputText text entries = (length text ≤ most_bytes) × AreEntries (lines_of text) entries
 
 -- why an input text has no entries: it is too long, or else its first line that is neither blank nor an entry
-abbrev pub IsEntriesFault : List ℕ → EntriesFault → Type 0
+abbrev pub IsEntriesFault : List ℕ → TextFault → Type 0
 IsEntriesFault text (BadLine n) = (length text ≤ most_bytes) × IsFirst HasNoHead text n
 IsEntriesFault text (BadValue n) = (length text ≤ most_bytes) × IsFirst HasNoValues text n
 IsEntriesFault text TooLong = most_bytes < length text
-IsEntriesFault text entries_fault.NoMemory = length text ≤ most_bytes
+IsEntriesFault text text_fault.NoMemory = length text ≤ most_bytes
+IsEntriesFault text (Input fault) = ⊥

@@ -5,11 +5,9 @@ use Rattle.kahn_streams.specs.declared.entries.InputFault.{InputFault}
 use Rattle.kahn_streams.specs.declared.entries.InputFault.TheVariants as input_fault
 use Rattle.kahn_streams.specs.Entries.{Entry, IsFirstRefused, IsMadeOf}
 use Rattle.kahn_streams.specs.Tokens.{Lists}
-use Rattle.kahn_report.specs.declared.entries.EntriesFault.{EntriesFault}
-use Rattle.kahn_report.specs.declared.entries.EntriesFault.TheVariants as entries_fault
 use Rattle.kahn_report.specs.declared.input.TextFault.{TextFault}
 use Rattle.kahn_report.specs.declared.input.TextFault.TheVariants.{BadLine, BadValue, Input, TooLong, NoMemory}
-use Rattle.kahn_report.specs.Entries.{IsInputText, IsEntriesFault, most_bytes}
+use Rattle.kahn_report.specs.Entries.{IsInputText, IsEntriesFault}
 
 -- the text spells entries with which nothing is wrong, and which give the channels these lists
 abbrev pub StandsFor : Program → List ℕ → Lists → Type 0
@@ -17,18 +15,11 @@ StandsFor t text lists = (entries : List Entry) × IsInputText text entries × I
 
 -- why a text stands for no input: it spells no entries, or else one of its entries is refused
 abbrev pub IsTextFault : Program → List ℕ → TextFault → Type 0
-IsTextFault t text (BadLine n) = IsEntriesFault text (entries_fault.BadLine n)
-IsTextFault t text (BadValue n) = IsEntriesFault text (entries_fault.BadValue n)
+IsTextFault t text (BadLine n) = IsEntriesFault text (BadLine n)
+IsTextFault t text (BadValue n) = IsEntriesFault text (BadValue n)
 IsTextFault t text (Input fault) = (entries : List Entry) × IsInputText text entries × IsFirstRefused t entries fault
-IsTextFault t text TooLong = IsEntriesFault text entries_fault.TooLong
-IsTextFault t text NoMemory = length text ≤ most_bytes
-
--- a fault of the entries as a fault of the text
-abbrev pub told_of_entries : EntriesFault → TextFault
-told_of_entries (entries_fault.BadLine n) = BadLine n
-told_of_entries (entries_fault.BadValue n) = BadValue n
-told_of_entries entries_fault.TooLong = TooLong
-told_of_entries entries_fault.NoMemory = NoMemory
+IsTextFault t text TooLong = IsEntriesFault text TooLong
+IsTextFault t text NoMemory = IsEntriesFault text NoMemory
 
 -- a fault of the input as a fault of the text: want of memory is the text's own
 abbrev pub told_of_input : InputFault → TextFault

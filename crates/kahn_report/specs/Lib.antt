@@ -6,3 +6,4 @@ pub mod Reading
 pub mod Entries
 pub mod Inputs
 pub mod Work
+pub mod SampleText

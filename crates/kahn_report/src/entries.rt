@@ -5,6 +5,7 @@ ghost use Rattle.kahn_report.specs.Entries.{IsBlank, IsEntry, IsLineFault, IsEnt
 ghost use Rattle.kahn_streams.specs.Entries.{entry_of};
 
 use crate::heads::{head_of, is_blank};
+use crate::input::TextFault;
 use crate::values::{ValuesFault, read_values};
 use kahn_streams::value::Value;
 use std::alloc::Global;
@@ -12,23 +13,6 @@ use thiserror::Error;
 
 /// The most bytes of an input text.
 pub const MOST_BYTES: usize = 16777216;
-
-/// Why an input text has no entries. Lines are counted from 1, skipped ones too.
-#[derive(Clone, Copy, Debug, PartialEq, Eq, Drop, Error)]
-pub enum EntriesFault {
-    /// A line that isn't blank and doesn't begin with a name and a colon.
-    #[error("input line {0}: not a name and a colon")]
-    BadLine(usize),
-    /// A line with what is no value after its colon.
-    #[error("input line {0}: not a value")]
-    BadValue(usize),
-    /// The text has more than 16,777,216 bytes.
-    #[error("input text is too long")]
-    TooLong,
-    /// Memory was refused.
-    #[error("no memory")]
-    NoMemory,
-}
 
 /// Why a line is no entry.
 #[derive(Clone, Copy, Debug, PartialEq, Eq, Drop, Error)]
@@ -96,12 +80,12 @@ pub fn read_line(alloc: Global, line: &[u8]) -> Result<Option<(String, Vec<Value
     }
 }
 
-/// Reads the entries of an input text: the names of channels, and their values.
-pub fn read_entries(alloc: Global, text: &str) -> Result<Vec<(String, Vec<Value>)>, EntriesFault>
+/// Reads the entries of an input text: the names of channels, and their values. It never refuses an entry as `Input`.
+pub fn read_entries(alloc: Global, text: &str) -> Result<Vec<(String, Vec<Value>)>, TextFault>
     ensures { MatchResult result (λ entries. IsInputText text.now (map entry_of entries.items)) (IsEntriesFault text.now) }
 {
     if text.len() > MOST_BYTES {
-        return Err(EntriesFault::TooLong);
+        return Err(TextFault::TooLong);
     }
     let mut entries = Vec::new(alloc);
     let mut number = 0;
@@ -111,12 +95,12 @@ pub fn read_entries(alloc: Global, text: &str) -> Result<Vec<(String, Vec<Value>
             Ok(None) => {}
             Ok(Some(entry)) => {
                 if entries.push(entry).is_err() {
-                    return Err(EntriesFault::NoMemory);
+                    return Err(TextFault::NoMemory);
                 }
             }
-            Err(LineFault::NoHead) => return Err(EntriesFault::BadLine(number)),
-            Err(LineFault::NoValues) => return Err(EntriesFault::BadValue(number)),
-            Err(LineFault::NoMemory) => return Err(EntriesFault::NoMemory),
+            Err(LineFault::NoHead) => return Err(TextFault::BadLine(number)),
+            Err(LineFault::NoValues) => return Err(TextFault::BadValue(number)),
+            Err(LineFault::NoMemory) => return Err(TextFault::NoMemory),
         }
     }
     Ok(entries)

@@ -5,7 +5,7 @@ ghost use Rattle.kahn_network.specs.Network.{network_of};
 ghost use Rattle.kahn_streams.specs.Kinded.{IsInputFor};
 ghost use Rattle.kahn_report.specs.Inputs.{IsTextFault, StandsFor};
 
-use crate::entries::{EntriesFault, read_entries};
+use crate::entries::read_entries;
 use kahn_network::network::Network;
 use kahn_streams::entries::InputFault;
 use kahn_streams::input::Input;
@@ -33,22 +33,6 @@ pub enum TextFault {
     NoMemory,
 }
 
-impl From<EntriesFault> for TextFault {
-    ghost use Rattle.std.specs.Prelude.{◌≡◌};
-    ghost use Rattle.kahn_report.specs.Inputs.{told_of_entries};
-
-    ghost from_gives = { λ fault told. told ≡ told_of_entries fault };
-
-    fn from(fault: EntriesFault) -> TextFault {
-        match fault {
-            EntriesFault::BadLine(line) => TextFault::BadLine(line),
-            EntriesFault::BadValue(line) => TextFault::BadValue(line),
-            EntriesFault::TooLong => TextFault::TooLong,
-            EntriesFault::NoMemory => TextFault::NoMemory,
-        }
-    }
-}
-
 impl From<InputFault> for TextFault {
     ghost use Rattle.std.specs.Prelude.{◌≡◌};
     ghost use Rattle.kahn_report.specs.Inputs.{told_of_input};
@@ -71,6 +55,9 @@ pub fn read_input(alloc: Global, text: &str, network: &Network) -> Result<Input,
     ensures read { MatchResult result (StandsFor network.now text.now) (IsTextFault network.now text.now) }
     ensures fits { IfOk result (IsInputFor (network_of network.now)) }
 {
-    let entries = read_entries(alloc, text)?;
+    let entries = match read_entries(alloc, text) {
+        Ok(entries) => entries,
+        Err(fault) => return Err(fault),
+    };
     Ok(Input::new(alloc, network, entries)?)
 }

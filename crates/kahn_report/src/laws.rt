@@ -2,10 +2,21 @@
 
 ghost use Rattle.kahn_report.specs.Work.{IsOneReport};
 ghost use Rattle.kahn_config.specs.declared.Config.{Config};
-ghost use Rattle.std.specs.Prelude.{ℕ, List};
+ghost use Rattle.kahn_tree.specs.declared.tree.Program.{Program};
+ghost use Rattle.kahn_network.specs.Network.{network_of};
+ghost use Rattle.kahn_syntax.specs.Texts.{IsProgram};
+ghost use Rattle.kahn_streams.specs.Sample.{sample_network};
+ghost use Rattle.kahn_report.specs.SampleText.{IsSampleText};
+ghost use Rattle.std.specs.Prelude.{◌≡◌, ℕ, List};
 
 /// Two finished reports of one program text and one input text, with one channel watched or none, are the same bytes,
 /// whatever the workers, the quantum and the bound.
 pub fn one_report()
     ensures { (program input : List ℕ) (config other : Config) → IsOneReport program input config other }
+{}
+
+/// The network of the sample text of Kahn's paper, whatever blanks, comments and letter case stand in it, is the one of which
+/// the law `sample` of kahn_streams speaks: the value at place k of X is k mod 2.
+pub fn sample_text()
+    ensures { (text : List ℕ) (t : Program) → IsSampleText text → IsProgram text t → network_of t ≡ sample_network }
 {}

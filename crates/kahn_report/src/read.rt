@@ -14,12 +14,16 @@ use thiserror::Error;
 /// Why a text wasn't read.
 #[derive(Clone, Copy, Debug, PartialEq, Eq, Error)]
 pub enum ReadFault {
-    #[error("a read failed")]
+    /// A read failed.
+    #[error("cannot be read")]
     Failed,
-    #[error("the text is too long")]
+    /// There are more bytes than the limit.
+    #[error("text is too long")]
     TooLong,
-    #[error("the text is not UTF-8")]
+    /// The bytes are no text.
+    #[error("is not UTF-8")]
     NotUtf8,
+    /// Memory was refused.
     #[error("no memory")]
     NoMemory,
 }

@@ -38,7 +38,7 @@ pub enum WorkFault {
     #[error("{0}")]
     Run(RunFault),
     /// The report could not be written. A prefix of it was.
-    #[error("{0}")]
+    #[error("report could not be written")]
     Write(WriteFault),
 }
 

@@ -1,0 +1,182 @@
+-- The network of the sample text.
+use Rattle.std.proofs.Common.{◌≡◌, ℕ, List, [], ◌∷◌, codes, pos, length, refl, sym, ap, ◌∙◌, subst, arith, inl, inr, true}
+use Rattle.kahn_tree.specs.declared.tree.Kind.TheVariants as kind
+use Rattle.kahn_tree.specs.declared.tree.Role.TheVariants as role
+use Rattle.kahn_tree.specs.declared.tree.Direction.TheVariants as direction
+use Rattle.kahn_tree.specs.declared.tree.Taking.TheVariants as taking
+use Rattle.kahn_tree.specs.declared.tree.Program.{Program}
+use Rattle.kahn_network.specs.Network.{network_of}
+use Rattle.kahn_syntax.specs.declared.lexeme.Lexeme.{Lexeme}
+use Rattle.kahn_syntax.specs.Drawn.{program_of}
+use Rattle.kahn_syntax.specs.declared.lexeme.Keyword.TheVariants as keyword
+use Rattle.kahn_syntax.specs.declared.lexeme.Sign.TheVariants as mark
+use Rattle.kahn_syntax.specs.Terminals.{Terminal, word, sign, name, number, terminals}
+use Rattle.kahn_syntax.specs.Texts.{IsProgram}
+use Rattle.kahn_syntax.specs.Trees.{ExpressionTree, truth, variable, wait, denial, bracket, conditional, StatementTree, empty, assign, send, print, block, if_else, repeat, StatementTrees, no_statement, statement, statements_words, AreSome, FormedStatements}
+use Rattle.kahn_syntax.specs.Programs as whole
+use Rattle.kahn_syntax.specs.Programs.{ParameterTree, VariableTree, DeclarationTree, InstanceTree, ProgramTree, ArgumentTree, GroupTree, TogetherTree, group, together, groups_parameters, groups_words, togethers_variables, togethers_words, AreGroups, AreTogether, Spells, Declares, Argues, Instantiates, Instances, names_words}
+use Rattle.kahn_syntax.proofs.OneTree.{one_tree}
+use Rattle.kahn_syntax.proofs.OneList.{same_lexemes}
+use Rattle.kahn_streams.specs.Sample.{sample_network}
+use Rattle.kahn_report.specs.SampleText.{sample_words, f_words, g_words, h_words, main_words, IsSampleText}
+use Rattle.kahn_report.proofs.Same_programs.{network_in, same_network}
+
+abbrev last_turn : StatementTrees
+last_turn = statement (assign (codes "B") (denial (variable (codes "B")))) (statement empty no_statement)
+
+abbrev begun : StatementTrees → StatementTrees
+begun turn = statement (assign (codes "B") (truth true)) (statement (repeat (block turn)) (statement empty no_statement))
+
+abbrev f_tree : DeclarationTree
+f_tree =
+    whole.process (codes "f")
+    (whole.parameter (taking.Channel direction.In kind.Integer) (codes "U") ∷ whole.parameter (taking.Channel direction.In kind.Integer) (codes "V")
+    ∷ whole.parameter (taking.Channel direction.Out kind.Integer) (codes "W") ∷ [])
+    (whole.variable kind.Integer (codes "I") ∷ whole.variable kind.Logical (codes "B") ∷ [])
+    (begun (statement (assign (codes "I") (conditional (variable (codes "B")) (wait (codes "U")) (wait (codes "V"))))
+    (statement (print (bracket (variable (codes "I")))) (statement (send (variable (codes "I")) (codes "W")) last_turn))))
+
+abbrev g_tree : DeclarationTree
+g_tree =
+    whole.process (codes "g")
+    (whole.parameter (taking.Channel direction.In kind.Integer) (codes "U") ∷ whole.parameter (taking.Channel direction.Out kind.Integer) (codes "V")
+    ∷ whole.parameter (taking.Channel direction.Out kind.Integer) (codes "W") ∷ [])
+    (whole.variable kind.Integer (codes "I") ∷ whole.variable kind.Logical (codes "B") ∷ [])
+    (begun (statement (assign (codes "I") (wait (codes "U")))
+    (statement (if_else (variable (codes "B")) (send (variable (codes "I")) (codes "V")) (send (variable (codes "I")) (codes "W"))) last_turn)))
+
+abbrev h_tree : DeclarationTree
+h_tree =
+    whole.process (codes "h")
+    (whole.parameter (taking.Channel direction.In kind.Integer) (codes "U") ∷ whole.parameter (taking.Channel direction.Out kind.Integer) (codes "V")
+    ∷ whole.parameter (taking.Value kind.Integer) (codes "INIT") ∷ [])
+    (whole.variable kind.Integer (codes "I") ∷ [])
+    (statement (send (variable (codes "INIT")) (codes "V"))
+    (statement (repeat (block (statement (assign (codes "I") (wait (codes "U"))) (statement (send (variable (codes "I")) (codes "V")) (statement empty no_statement)))))
+    (statement empty no_statement)))
+
+abbrev lines_tree : DeclarationTree
+lines_tree = whole.channels kind.Integer role.Inner (codes "X" ∷ codes "Y" ∷ codes "Z" ∷ codes "T1" ∷ codes "T2" ∷ [])
+
+abbrev sample_tree : ProgramTree
+sample_tree =
+    whole.program (lines_tree ∷ f_tree ∷ g_tree ∷ h_tree ∷ [])
+    (whole.instance (codes "f") (whole.channel (codes "Y") ∷ whole.channel (codes "Z") ∷ whole.channel (codes "X") ∷ [])
+    ∷ whole.instance (codes "g") (whole.channel (codes "X") ∷ whole.channel (codes "T1") ∷ whole.channel (codes "T2") ∷ [])
+    ∷ whole.instance (codes "h") (whole.channel (codes "T1") ∷ whole.channel (codes "Y") ∷ whole.number (pos 0) ∷ [])
+    ∷ whole.instance (codes "h") (whole.channel (codes "T2") ∷ whole.channel (codes "Z") ∷ whole.number (pos 1) ∷ []) ∷ [])
+
+abbrev instances_in : ProgramTree → List InstanceTree
+instances_in (whole.program ds is) = is
+
+-- its network is the one of which the law speaks
+sample_is : network_in sample_tree ≡ sample_network
+sample_is = refl
+
+-- ---- the tree spells the words
+
+process_spelled : (n : List ℕ) (gs : List GroupTree) (ts : List TogetherTree) (body : StatementTrees) (r : List Terminal) → AreGroups gs → AreTogether ts → AreSome body → FormedStatements body →
+    Declares (whole.process n (groups_parameters gs) (togethers_variables ts) body)
+    (word keyword.Process ∷ name n ∷ sign mark.Open ∷ groups_words gs (sign mark.Close ∷ sign mark.Semicolon ∷ word keyword.Begin ∷ togethers_words ts (statements_words body (word keyword.End ∷ r)))) r
+process_spelled n gs ts body r groups togethers some formed = (
+  groups_words gs (sign mark.Close ∷ sign mark.Semicolon ∷ word keyword.Begin ∷ togethers_words ts (statements_words body (word keyword.End ∷ r))),
+  togethers_words ts (statements_words body (word keyword.End ∷ r)),
+  refl,
+  (gs, groups, refl, refl),
+  (ts, togethers, refl, refl),
+  some,
+  formed,
+)
+
+f_spelled : (r : List Terminal) → Declares f_tree (f_words r) (sign mark.Semicolon ∷ r)
+f_spelled r =
+    process_spelled (codes "f")
+    (group (taking.Channel direction.In kind.Integer) (codes "U" ∷ codes "V" ∷ []) ∷ group (taking.Channel direction.Out kind.Integer) (codes "W" ∷ []) ∷ [])
+    (together kind.Integer (codes "I" ∷ []) ∷ together kind.Logical (codes "B" ∷ []) ∷ [])
+    (begun (statement (assign (codes "I") (conditional (variable (codes "B")) (wait (codes "U")) (wait (codes "V"))))
+    (statement (print (bracket (variable (codes "I")))) (statement (send (variable (codes "I")) (codes "W")) last_turn))))
+    (sign mark.Semicolon ∷ r) (tt, (tt, tt)) (tt, (tt, tt)) tt
+    (tt, ((tt, ((tt, tt, tt), (tt, (tt, ((omega arith, tt), (tt, tt)))))), (tt, tt)))
+
+g_spelled : (r : List Terminal) → Declares g_tree (g_words r) (sign mark.Semicolon ∷ r)
+g_spelled r =
+    process_spelled (codes "g")
+    (group (taking.Channel direction.In kind.Integer) (codes "U" ∷ []) ∷ group (taking.Channel direction.Out kind.Integer) (codes "V" ∷ codes "W" ∷ []) ∷ [])
+    (together kind.Integer (codes "I" ∷ []) ∷ together kind.Logical (codes "B" ∷ []) ∷ [])
+    (begun (statement (assign (codes "I") (wait (codes "U")))
+    (statement (if_else (variable (codes "B")) (send (variable (codes "I")) (codes "V")) (send (variable (codes "I")) (codes "W"))) last_turn)))
+    (sign mark.Semicolon ∷ r) (tt, (tt, tt)) (tt, (tt, tt)) tt
+    (tt, ((tt, (tt, ((tt, tt, tt, tt), ((omega arith, tt), (tt, tt))))), (tt, tt)))
+
+h_spelled : (r : List Terminal) → Declares h_tree (h_words r) (sign mark.Semicolon ∷ r)
+h_spelled r =
+    process_spelled (codes "h")
+    (group (taking.Channel direction.In kind.Integer) (codes "U" ∷ []) ∷ group (taking.Channel direction.Out kind.Integer) (codes "V" ∷ []) ∷ group (taking.Value kind.Integer) (codes "INIT" ∷ []) ∷ [])
+    (together kind.Integer (codes "I" ∷ []) ∷ [])
+    (statement (send (variable (codes "INIT")) (codes "V"))
+    (statement (repeat (block (statement (assign (codes "I") (wait (codes "U"))) (statement (send (variable (codes "I")) (codes "V")) (statement empty no_statement)))))
+    (statement empty no_statement)))
+    (sign mark.Semicolon ∷ r) (tt, (tt, (tt, tt))) (tt, tt) tt
+    (tt, ((tt, (tt, (tt, (tt, tt)))), (tt, tt)))
+
+-- an instance with three arguments
+three : (n : List ℕ) (a b c : ArgumentTree) (r : List Terminal) (x y z : Terminal) → Argues a (x ∷ sign mark.Comma ∷ y ∷ sign mark.Comma ∷ z ∷ sign mark.Close ∷ r) (sign mark.Comma ∷ y ∷ sign mark.Comma ∷ z ∷ sign mark.Close ∷ r) →
+    Argues b (y ∷ sign mark.Comma ∷ z ∷ sign mark.Close ∷ r) (sign mark.Comma ∷ z ∷ sign mark.Close ∷ r) → Argues c (z ∷ sign mark.Close ∷ r) (sign mark.Close ∷ r) →
+    Instantiates (whole.instance n (a ∷ b ∷ c ∷ [])) (name n ∷ sign mark.Open ∷ x ∷ sign mark.Comma ∷ y ∷ sign mark.Comma ∷ z ∷ sign mark.Close ∷ r) r
+three n a b c r x y z first second third = (
+  x ∷ sign mark.Comma ∷ y ∷ sign mark.Comma ∷ z ∷ sign mark.Close ∷ r,
+  refl,
+  (
+    sign mark.Comma ∷ y ∷ sign mark.Comma ∷ z ∷ sign mark.Close ∷ r,
+    first,
+    (
+      y ∷ sign mark.Comma ∷ z ∷ sign mark.Close ∷ r,
+      sign mark.Comma ∷ z ∷ sign mark.Close ∷ r,
+      refl,
+      second,
+      (z ∷ sign mark.Close ∷ r, sign mark.Close ∷ r, refl, third, refl),
+    ),
+  ),
+)
+
+-- the instances
+main_spelled : (r : List Terminal) → Instances (instances_in sample_tree) (main_words r) r
+main_spelled r =
+    let last = name (codes "h") ∷ sign mark.Open ∷ name (codes "T2") ∷ sign mark.Comma ∷ name (codes "Z") ∷ sign mark.Comma ∷ number (pos 1) ∷ sign mark.Close ∷ r in
+    let third = name (codes "h") ∷ sign mark.Open ∷ name (codes "T1") ∷ sign mark.Comma ∷ name (codes "Y") ∷ sign mark.Comma ∷ number (pos 0) ∷ sign mark.Close ∷ word keyword.Par ∷ last in
+    let second = name (codes "g") ∷ sign mark.Open ∷ name (codes "X") ∷ sign mark.Comma ∷ name (codes "T1") ∷ sign mark.Comma ∷ name (codes "T2") ∷ sign mark.Close ∷ word keyword.Par ∷ third in (
+      word keyword.Par ∷ second,
+      three (codes "f") (whole.channel (codes "Y")) (whole.channel (codes "Z")) (whole.channel (codes "X")) (word keyword.Par ∷ second) (name (codes "Y")) (name (codes "Z")) (name (codes "X")) refl refl refl,
+      (
+        second,
+        word keyword.Par ∷ third,
+        refl,
+        three (codes "g") (whole.channel (codes "X")) (whole.channel (codes "T1")) (whole.channel (codes "T2")) (word keyword.Par ∷ third) (name (codes "X")) (name (codes "T1")) (name (codes "T2")) refl refl refl,
+        (
+          third,
+          word keyword.Par ∷ last,
+          refl,
+          three (codes "h") (whole.channel (codes "T1")) (whole.channel (codes "Y")) (whole.number (pos 0)) (word keyword.Par ∷ last) (name (codes "T1")) (name (codes "Y")) (number (pos 0)) refl refl (inl refl),
+          (last, r, refl, three (codes "h") (whole.channel (codes "T2")) (whole.channel (codes "Z")) (whole.number (pos 1)) r (name (codes "T2")) (name (codes "Z")) (number (pos 1)) refl refl (inl refl), refl),
+        ),
+      ),
+    )
+
+sample_spelled : Spells sample_tree sample_words
+sample_spelled =
+    let e = sign mark.Semicolon ∷ [] in
+    let d = word keyword.End ∷ e in
+    let b = main_words d in
+    let h = h_words b in
+    let g = g_words h in
+    let f = f_words g in
+    let a : List Terminal = word keyword.Integer ∷ word keyword.Channel ∷ names_words (codes "X" ∷ codes "Y" ∷ codes "Z" ∷ codes "T1" ∷ codes "T2" ∷ []) (sign mark.Semicolon ∷ f) in
+    (a, b, d, d, e, refl, (f, (tt, refl), (g, f_spelled g, (h, g_spelled h, (b, h_spelled b, refl)))), main_spelled d, inr refl, refl, inl refl)
+
+-- every program of the sample text has its network
+pub sample_text : (text : List ℕ) (t : Program) → IsSampleText text → IsProgram text t → network_of t ≡ sample_network
+sample_text text t s h =
+    let same : s.0 ≡ h.0 = same_lexemes text 0 (length text) s.0 h.0 s.1.1 h.1.1 in
+    let words : terminals text h.0 ≡ sample_words = ap (terminals text) (sym same) ∙ s.2 in
+    let tree : program_of t ≡ sample_tree = one_tree (program_of t) sample_tree sample_words (subst (Spells (program_of t)) words h.2) sample_spelled in
+    same_network t ∙ ap network_in tree ∙ sample_is
