@@ -48,7 +48,7 @@ def main(kahn, live, draw, work, *pages):
         for number, command, wanted in commands(page):
             ran = subprocess.run(["bash", "-c", command], cwd=work, stdin=subprocess.DEVNULL, stdout=subprocess.PIPE,
                                  stderr=subprocess.STDOUT, timeout=120)
-            if ran.stdout.decode(errors="backslashreplace") == wanted:
+            if ran.stdout.decode(errors="backslashreplace").rstrip("\n") == wanted.rstrip("\n"):
                 passed += 1
             else:
                 failed += 1
