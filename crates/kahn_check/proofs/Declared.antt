@@ -1,5 +1,5 @@
 -- The declarations in turn.
-use Rattle.std.proofs.Common.{◌≡◌, ℕ, suc, ◌+◌, ◌≤◌, ◌<◌, Bool, true, false, cond, List, [], ◌∷◌, ◌++◌, map, Option, None, Some, IsSome, Result, Ok, Err, refl, ap, sym, ◌∙◌, subst, bytes_eq, append_assoc, arith, nat_lt, length, ◌⊎◌, inl, inr}
+use Rattle.std.proofs.Common.{◌≡◌, ℕ, suc, ◌+◌, ◌≤◌, ◌<◌, Bool, true, false, cond, List, [], ◌∷◌, ◌++◌, Option, None, Some, IsSome, Err, refl, ap, sym, ◌∙◌, subst, bytes_eq, append_assoc, arith, nat_lt, length, inl, inr}
 use Rattle.std.specs.Map.{lookup}
 use Rattle.kahn_tree.specs.declared.tree.Name.{Name}
 use Rattle.kahn_tree.specs.declared.tree.Kind.{Kind}
@@ -10,7 +10,7 @@ use Rattle.kahn_check.specs.declared.fault.CheckFault.TheVariants.{DeclaredTwice
 use Rattle.kahn_check.specs.Faults.{verdict, IsMet}
 use Rattle.kahn_network.specs.Wiring as Wiring
 use Rattle.kahn_network.specs.Wiring.{entries, declared_of, IsChannel, IsProcess}
-use Rattle.kahn_check.specs.Order.{too_many, repeated, channel_faults, process_faults, declaration_faults}
+use Rattle.kahn_check.specs.Order.{repeated, channel_faults, process_faults, declaration_faults}
 use Rattle.kahn_network.proofs.Handed.{Table, as_channels}
 use Rattle.kahn_check.proofs.Walk.{verdict_err}
 use Rattle.std.proofs.lemmas.List.{map-append}

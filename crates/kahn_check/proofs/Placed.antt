@@ -1,7 +1,5 @@
 -- Arguments and instances in turn, by tables.
-use Rattle.std.proofs.Common.{◌≡◌, ℕ, suc, ◌+◌, ◌≤◌, ◌<◌, Bool, true, false, cond, ◌⊎◌, inl, inr, List, [], ◌∷◌, ◌++◌, map, length, Option, None, Some, Result, Ok, Err, refl, ap, sym, ◌∙◌, subst, bytes_eq, append_assoc, arith, nat_lt, nat_eq}
-use Rattle.std.specs.Map.{lookup}
-use Rattle.kahn_tree.specs.declared.tree.Name.{Name}
+use Rattle.std.proofs.Common.{◌≡◌, ℕ, suc, ◌+◌, ◌≤◌, ◌<◌, Bool, true, false, cond, inr, List, [], ◌∷◌, ◌++◌, map, length, Option, None, Some, refl, ap, sym, ◌∙◌, subst, append_assoc, arith, nat_lt, nat_eq}
 use Rattle.kahn_tree.specs.declared.tree.Kind.{Kind}
 use Rattle.kahn_tree.specs.declared.tree.Role.{Role}
 use Rattle.kahn_tree.specs.declared.tree.Direction.{Direction}
@@ -15,10 +13,16 @@ use Rattle.kahn_check.specs.declared.fault.CheckFault.{CheckFault}
 use Rattle.kahn_check.specs.declared.fault.CheckFault.TheVariants.{TooMany, Unknown, WrongCount}
 use Rattle.kahn_check.specs.Faults.{verdict, IsMet}
 use Rattle.kahn_network.specs.Wiring.{Global, IsChannel, IsProcess, Handover, handed, handed_in, parameters_of, same_direction, side_at}
-use Rattle.kahn_network.specs.declared.sides.Side.{Side}
-use Rattle.kahn_check.specs.Order.{too_many, miscounted}
+use Rattle.kahn_check.specs.Order.{miscounted}
 use Rattle.kahn_check.specs.Tables.{Ends, taken, place_faults, places_faults, made_in, meant, handed_to, handed_all, seats_faults}
 use Rattle.kahn_network.proofs.Handed.{Table}
+use Rattle.kahn_network.proofs.Numbered.{the_process}
+use Rattle.kahn_network.specs.Network.{process_of}
+use Rattle.kahn_network.specs.Wires.{process_at}
+use Rattle.kahn_check.specs.Globals.{known, IsTable}
+use Rattle.kahn_check.specs.declared.globals.Globals.{Globals}
+use Rattle.kahn_tree.specs.declared.tree.Declaration.{Declaration}
+use Rattle.std.proofs.lemmas.List.{map-append}
 use Rattle.kahn_check.proofs.Declared.{met_first, met_after}
 
 pub taken_append : (d : Direction) (xs ys : List Handover) → taken d (xs ++ ys) ≡ taken d xs ++ taken d ys
@@ -127,3 +131,17 @@ seats_more d g s i x xs p h =
     ∙ ap (λ m. s ++ (taken d (handed_in i 0 p.parameters.items x.arguments.items) ++ taken d (handed_all g m xs))) step
     ∙ ap (λ z. s ++ z) (sym (taken_append d (handed_in i 0 p.parameters.items x.arguments.items) (handed_all g (suc i) xs)))
     ∙ ap (λ o. s ++ taken d (handed_in i 0 (parameters_of o) x.arguments.items ++ handed_all g (suc i) xs)) (sym h)
+
+-- ---- the processes of instances
+
+abbrev pub found_of : List Declaration → List Instance → List (Option Process)
+found_of ds xs = map (λ i. process_of ds (bytes_of i.process)) xs
+
+-- one more instance, whose process is declared there
+pub one_more : (ds : List Declaration) (g : Globals) (processes : List ℕ) (k : ℕ) (p : Process) (x : Instance) (xs : List Instance) → IsTable ds g → meant (known g) x ≡ Some (IsProcess p) →
+    process_at ds k ≡ Some p → map (process_at ds) (processes ++ k ∷ []) ++ found_of ds xs ≡ map (process_at ds) processes ++ found_of ds (x ∷ xs)
+one_more ds g processes k p x xs table m at =
+    let same : process_at ds k ≡ process_of ds (bytes_of x.process) = at ∙ sym (the_process (bytes_of x.process) p ds (sym (ap (λ z. meant z x) table.known) ∙ m)) in
+    ap (λ z. z ++ found_of ds xs) (map-append (process_at ds) processes (k ∷ []))
+    ∙ append_assoc (map (process_at ds) processes) (process_at ds k ∷ []) (found_of ds xs)
+    ∙ ap (λ z. map (process_at ds) processes ++ z ∷ found_of ds xs) same

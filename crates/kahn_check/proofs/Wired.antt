@@ -2,7 +2,6 @@
 use Rattle.kahn_network.proofs.Handed.{keys, bytes_true, bytes_turned, AtMostOne, Table, ends_append, as_channels, bytes_self}
 use Rattle.std.proofs.Common.{◌≡◌, ℕ, suc, ◌+◌, ◌≤◌, ◌<◌, Bool, true, false, cond, ◌&&◌, List, [], ◌∷◌, ◌++◌, map, length, Option, None, Some, refl, ap, sym, ◌∙◌, subst, bytes_eq, append_assoc, arith, length-append, nat_lt, nat_eq, true≢false}
 use Rattle.std.proofs.lemmas.List.{append-nil, length-map}
-use Rattle.std.proofs.lemmas.Slice.Eq.{bytes_eq-Decides}
 use Rattle.std.specs.List.{IsDistinct, AllByRecursion}
 use Rattle.std.specs.Map.{lookup}
 use Rattle.kahn_tree.specs.declared.span.Span.{Span}
@@ -25,10 +24,10 @@ use Rattle.kahn_tree.specs.declared.tree.Instance.{Instance}
 use Rattle.kahn_tree.specs.declared.tree.Program.{Program}
 use Rattle.kahn_tree.specs.View.{bytes_of}
 use Rattle.kahn_check.specs.declared.fault.CheckFault.{CheckFault}
-use Rattle.kahn_check.specs.Faults.{body_faults, wrong}
+use Rattle.kahn_check.specs.Faults.{wrong}
 use Rattle.kahn_network.specs.Wiring.{locals_of, scope_of, entries, Global, IsChannel, IsProcess, declared_of, declared_channels, processes_of, global, Handover, handed, handed_in, handed_by, handed_from, parameters_of, same_direction, ends, writers, readers, IsOne, IsWired, Fits, AllFit, IsMade, IsSound, IsWellWired, side_at}
 use Rattle.kahn_network.specs.declared.sides.Side.{Side}
-use Rattle.kahn_check.specs.Order.{too_many, repeated, twice, process_faults, channel_faults, declaration_faults, second, overtaken, misplaced, argument_faults, arguments_faults, miscounted, made_faults, instance_faults, missing, side_faults, sides_faults, faults}
+use Rattle.kahn_check.specs.Order.{too_many, repeated, twice, process_faults, channel_faults, declaration_faults, overtaken, misplaced, argument_faults, arguments_faults, miscounted, made_faults, instance_faults, missing, side_faults, sides_faults, faults}
 use Rattle.kahn_network.specs.Wiring.{is_closed}
 use Rattle.kahn_check.proofs.Typed.{nil_left, nil_right, both, agrees_body, kind_known}
 

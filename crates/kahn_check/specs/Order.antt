@@ -1,6 +1,6 @@
 -- What is wrong with a whole program, in the order in which it is looked for.
 use Rattle.kahn_network.specs.Wiring.{is_closed}
-use Rattle.std.specs.Prelude.{◌≡◌, ℕ, suc, ◌+◌, Bool, true, false, ◌||◌, List, [], ◌∷◌, ◌++◌, map, length, Option, None, Some, if◌then◌else◌, nat_lt, nat_eq}
+use Rattle.std.specs.Prelude.{ℕ, suc, ◌+◌, Bool, true, false, List, [], ◌∷◌, ◌++◌, map, length, Option, None, Some, if◌then◌else◌, nat_lt, nat_eq}
 use Rattle.std.proofs.Common.{bytes_eq}
 use Rattle.std.specs.Map.{lookup}
 use Rattle.kahn_tree.specs.declared.span.Span.{Span}
@@ -23,7 +23,7 @@ use Rattle.kahn_tree.specs.declared.tree.Instance.{Instance}
 use Rattle.kahn_tree.specs.declared.tree.Program.{Program}
 use Rattle.kahn_tree.specs.View.{bytes_of}
 use Rattle.kahn_check.specs.Faults.{wrong, body_faults}
-use Rattle.kahn_network.specs.Wiring.{locals_of, scope_of, entries, Global, IsChannel, IsProcess, declared_of, declared_channels, global, Handover, handed, handed_by, handed_from, ends, writers, readers, side_at}
+use Rattle.kahn_network.specs.Wiring.{locals_of, scope_of, entries, Global, IsChannel, IsProcess, declared_channels, global, Handover, handed, handed_by, ends, writers, readers, side_at}
 use Rattle.kahn_network.specs.declared.sides.Side.{Side}
 use Rattle.kahn_check.specs.declared.fault.CheckFault.{CheckFault}
 use Rattle.kahn_check.specs.declared.fault.CheckFault.TheVariants.{DeclaredTwice, Unknown, WrongCount, ChannelExpected, ValueExpected, NoWriter, TwoWriters, NoReader, TwoReaders, TooMany}

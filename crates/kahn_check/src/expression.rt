@@ -6,7 +6,7 @@ ghost use Rattle.kahn_network.specs.Kinds.{takes, gives};
 ghost use Rattle.kahn_tree.specs.View.{bytes_of};
 
 use crate::fault::CheckFault;
-use crate::scope::Scope;
+use crate::names::Scope;
 use kahn_tree::span::Span;
 use kahn_tree::tree::{Direction, Expression, Form, Kind, Name, Operator, Taking};
 
