@@ -21,7 +21,7 @@ use Rattle.kahn_check.specs.declared.fault.CheckFault.TheVariants.{NoWriter, NoR
 use Rattle.kahn_check.specs.Faults.{IsMet, wrong}
 use Rattle.kahn_network.specs.Wiring.{entries, Global, IsChannel, IsProcess, declared_of, declared_channels, global, Handover, handed, handed_by, handed_from, same_direction, ends, writers, readers, IsWellWired, side_at}
 use Rattle.kahn_network.specs.declared.sides.Side.{Side}
-use Rattle.kahn_check.specs.Order.{too_many, miscounted, overtaken, misplaced, argument_faults, arguments_faults, made_faults, instance_faults, missing, side_faults, sides_faults, declaration_faults, faults}
+use Rattle.kahn_check.specs.Order.{most_instances, too_many, miscounted, overtaken, misplaced, argument_faults, arguments_faults, made_faults, instance_faults, missing, side_faults, sides_faults, declaration_faults, faults}
 use Rattle.kahn_network.specs.Wiring.{is_closed}
 use Rattle.kahn_check.specs.Tables.{Ends, held, taken, place_faults, places_faults, made_in, handed_all, seats_faults, side_in, sides_in}
 use Rattle.kahn_check.proofs.Wired.{well_wired}
@@ -98,8 +98,8 @@ link_instances t before i (x ∷ xs) =
     let one = handed_by t i x in
     let w = sym (taken_append Out before one) in
     let r = sym (taken_append In before one) in
-    (λ j. too_many 256 i x.process.span ++ (link_made t before i (global t x.process) x j ++ seats_faults (table t) (w j) (r j) (suc i) xs))
-    ∙ ap (λ z. too_many 256 i x.process.span ++ (made_faults t before i (global t x.process) x ++ z)) (link_instances t (before ++ one) (suc i) xs)
+    (λ j. too_many most_instances i x.process.span ++ (link_made t before i (global t x.process) x j ++ seats_faults (table t) (w j) (r j) (suc i) xs))
+    ∙ ap (λ z. too_many most_instances i x.process.span ++ (made_faults t before i (global t x.process) x ++ z)) (link_instances t (before ++ one) (suc i) xs)
 
 link_handed : (t : Program) (i : ℕ) (xs : List Instance) → handed_all (table t) i xs ≡ handed_from t i xs
 link_handed t i [] = refl

@@ -5,13 +5,16 @@ ghost use Rattle.kahn_check.specs.Faults.{IsMet};
 ghost use Rattle.kahn_check.specs.Globals.{known, ArePlaced, IsTable};
 ghost use Rattle.kahn_network.specs.Wiring.{entries, IsChannel};
 ghost use Rattle.kahn_tree.specs.declared.tree.Declaration.{Declaration};
-ghost use Rattle.kahn_check.specs.Order.{channel_faults, declaration_faults};
+ghost use Rattle.kahn_check.specs.Order.{most_channels, channel_faults, declaration_faults};
 
 use crate::fault::CheckFault;
 use crate::globals::{Entry, Globals};
 use crate::process::check_process;
 use kahn_tree::tree::{Declaration, Kind, Name, Program, Role};
 use std::alloc::Global;
+
+/// The most channels of a program.
+const MOST_CHANNELS: usize = 1024;
 
 /// The names of a channel declaration, of which `count` are declared before. Answers how many are declared then.
 #[tactic(auto, using(crate::proofs::Declared::channel_new, crate::proofs::Declared::channel_limit, crate::proofs::Declared::channel_known, crate::proofs::Declared::more_channels))]
@@ -22,13 +25,13 @@ pub fn channels<'p>(
     role: Role,
     names: &[Name],
 ) -> Result<usize, CheckFault>
-    requires { count ≤ 1024 }
-    ensures met { MatchResult result (λ n. (n ≡ count + length names.now) × (n ≤ 1024) × (known globals.new ≡ known globals.old ++ entries (map (λ x. (x, IsChannel kind role)) names.now)) × (channel_faults (known globals.old) count kind role names.now ≡ [])) (λ f. IsMet (channel_faults (known globals.old) count kind role names.now) f) }
+    requires { count ≤ most_channels }
+    ensures met { MatchResult result (λ n. (n ≡ count + length names.now) × (n ≤ most_channels) × (known globals.new ≡ known globals.old ++ entries (map (λ x. (x, IsChannel kind role)) names.now)) × (channel_faults (known globals.old) count kind role names.now ≡ [])) (λ f. IsMet (channel_faults (known globals.old) count kind role names.now) f) }
     ensures placed { OnOk result ((ds : List Declaration) → ArePlaced ds globals.old → ArePlaced ds globals.new) }
 {
     let mut declared = count;
     for name in names {
-        if declared >= 1024 {
+        if declared >= MOST_CHANNELS {
             return Err(CheckFault::TooMany(name.span));
         }
         globals.declare(name, Entry::Channel(kind, role))?;

@@ -15,6 +15,9 @@ use kahn_network::sides::Side;
 use kahn_tree::tree::{Argument, Direction, Parameter, Program};
 use std::alloc::Global;
 
+/// The most instances of a program.
+const MOST_INSTANCES: usize = 256;
+
 /// The arguments of an instance, one for each parameter.
 #[tactic(auto, using(crate::proofs::Placed::places_step, crate::proofs::Placed::places_met, crate::proofs::Placed::taken_more))]
 pub fn places(
@@ -65,7 +68,7 @@ pub fn instances(alloc: Global, globals: &Globals, program: &Program) -> Result<
     let mut readers = Sides::new(alloc);
     let mut processes = Vec::new(alloc);
     for (number, instance) in program.instances.iter().enumerate() {
-        if number >= 256 {
+        if number >= MOST_INSTANCES {
             return Err(CheckFault::TooMany(instance.process.span));
         }
         let Some(entry) = globals.find(&instance.process) else {

@@ -3,7 +3,7 @@ use Rattle.std.proofs.lemmas.Grind.{common_steps}
 use Rattle.std.specs.Map.{lookup}
 use Rattle.kahn_tree.specs.View.{bytes_of}
 use Rattle.kahn_check.specs.Globals.{known}
-use Rattle.kahn_check.specs.Order.{channel_faults}
+use Rattle.kahn_check.specs.Order.{most_channels, channel_faults}
 use Rattle.kahn_network.specs.Wiring.{entries, IsChannel}
 use Rattle.kahn_network.proofs.Handed.{as_channels}
 use Rattle.kahn_check.proofs.Declared.{channel_new, more_channels}
@@ -19,7 +19,7 @@ loop-name-preserved c =
     let x = c.name-item.result in
     let xs = drop (i + 1) c.args.names.now in
     let split : drop i c.args.names.now ≡ x ∷ xs = grind (arith, common_steps) in
-    let lt : n < 1024 = omega arith in
+    let lt : n < most_channels = omega arith in
     let none : lookup (bytes_eq (bytes_of x)) g ≡ None = c.in_ok-declare.ensures.known.0 in
     let grown : known c.declare.new.self ≡ g ++ (bytes_of x, IsChannel kind role) ∷ [] = c.in_ok-declare.ensures.known.1 in
     record {

@@ -4,7 +4,7 @@ use Rattle.std.specs.Map.{lookup}
 use Rattle.kahn_tree.specs.declared.tree.Declaration.TheVariants as D
 use Rattle.kahn_tree.specs.View.{bytes_of}
 use Rattle.kahn_check.specs.Globals.{known, ArePlaced}
-use Rattle.kahn_check.specs.Order.{channel_faults, process_faults, declaration_faults}
+use Rattle.kahn_check.specs.Order.{most_channels, channel_faults, process_faults, declaration_faults}
 use Rattle.kahn_network.specs.Wiring.{entries, declared_of, IsProcess}
 use Rattle.kahn_network.proofs.Handed.{as_channels}
 use Rattle.kahn_check.proofs.Declared.{channels_done, more_declared, process_done, more_process}
@@ -25,7 +25,7 @@ loop-number-preserved c =
           let role = w.in-Channels.role in
           let names = w.in-Channels.names in
           let split : drop k ds ≡ D.Channels kind role names ∷ rest = grind (arith, common_steps) in
-          let limit : c.match-declaration.count ≤ 1024 = search rules in
+          let limit : c.match-declaration.count ≤ most_channels = search rules in
           let none : channel_faults g n kind role names.items ≡ [] = search rules in
           let grown : known c.match-declaration.globals ≡ g ++ entries (as_channels kind role names.items) = search rules in
           let count : c.match-declaration.count ≡ n + length names.items = search rules in
@@ -42,7 +42,7 @@ loop-number-preserved c =
       | in-Process+in_ok-declare-in-Process+in_ok-check_process-in-Process w ↦
           let p = w.in-Process.process in
           let split : drop k ds ≡ D.Process p ∷ rest = grind (arith, common_steps) in
-          let limit : c.match-declaration.count ≤ 1024 = search rules in
+          let limit : c.match-declaration.count ≤ most_channels = search rules in
           let none : lookup (bytes_eq (bytes_of p.name)) g ≡ None = search rules in
           let sound : process_faults p ≡ [] = search rules in
           let grown : known c.match-declaration.globals ≡ g ++ (bytes_of p.name, IsProcess p) ∷ [] = search rules in

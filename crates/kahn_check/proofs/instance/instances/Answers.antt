@@ -1,6 +1,7 @@
 use Rattle.std.proofs.Common.{rules, arith, ◌≡◌, ◌∙◌, sym, ap, subst, ◌<◌, ◌+◌, ◌∷◌, ◌++◌, [], Some, IfSome, drop, map, length}
 use Rattle.std.proofs.lemmas.Grind.{common_steps}
 use Rattle.kahn_tree.specs.declared.tree.Direction.TheVariants.{In, Out}
+use Rattle.kahn_check.specs.Order.{most_instances}
 use Rattle.kahn_check.specs.Faults.{IsMet}
 use Rattle.kahn_check.specs.declared.globals.Entry.TheVariants as E
 use Rattle.kahn_check.specs.Globals.{known, IsPlaced}
@@ -20,7 +21,7 @@ returns-in_err-places c =
     let r = c.loop-number.readers in
     let rest = drop (i + 1) c.args.program.now.instances.items in
     let split : drop i c.args.program.now.instances.items ≡ x ∷ rest = grind (arith, common_steps) in
-    let lt : i < 256 = omega arith in
+    let lt : i < most_instances = omega arith in
     let m : meant g x ≡ Some (IsProcess p) = grind arith in
     let e : length p.parameters.items ≡ length x.arguments.items = grind arith in
     let met : IsMet (places_faults g w r i 0 p.parameters.items x.arguments.items) c.in_err-places.field-0.0 = search rules in
@@ -38,7 +39,7 @@ loop-number-preserved c =
     let r = c.loop-number.readers in
     let rest = drop (i + 1) c.args.program.now.instances.items in
     let split : drop i c.args.program.now.instances.items ≡ x ∷ rest = grind (arith, common_steps) in
-    let lt : i < 256 = omega arith in
+    let lt : i < most_instances = omega arith in
     let m : meant g x ≡ Some (IsProcess p) = grind arith in
     let e : length p.parameters.items ≡ length x.arguments.items = grind arith in
     let none : places_faults g w r i 0 p.parameters.items x.arguments.items ≡ [] = search rules in
