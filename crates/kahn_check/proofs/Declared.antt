@@ -1,5 +1,5 @@
 -- The declarations in turn.
-use Rattle.std.proofs.Common.{◌≡◌, ℕ, suc, ◌+◌, ◌≤◌, ◌<◌, Bool, true, false, cond, List, [], ◌∷◌, ◌++◌, map, Option, None, Some, IsSome, Result, Ok, Err, refl, ap, sym, ◌∙◌, subst, bytes_eq, append_assoc, arith, nat_lt, length, ◌⊎◌, inl, inr}
+use Rattle.std.proofs.Common.{◌≡◌, ℕ, suc, ◌+◌, ◌≤◌, ◌<◌, Bool, true, false, cond, List, [], ◌∷◌, ◌++◌, Option, None, Some, IsSome, Err, refl, ap, sym, ◌∙◌, subst, bytes_eq, append_assoc, arith, nat_lt, length, inl, inr}
 use Rattle.std.specs.Map.{lookup}
 use Rattle.kahn_tree.specs.declared.tree.Name.{Name}
 use Rattle.kahn_tree.specs.declared.tree.Kind.{Kind}
@@ -10,7 +10,7 @@ use Rattle.kahn_check.specs.declared.fault.CheckFault.TheVariants.{DeclaredTwice
 use Rattle.kahn_check.specs.Faults.{verdict, IsMet}
 use Rattle.kahn_network.specs.Wiring as Wiring
 use Rattle.kahn_network.specs.Wiring.{entries, declared_of, IsChannel, IsProcess}
-use Rattle.kahn_check.specs.Order.{too_many, repeated, channel_faults, process_faults, declaration_faults}
+use Rattle.kahn_check.specs.Order.{most_channels, repeated, channel_faults, process_faults, declaration_faults}
 use Rattle.kahn_network.proofs.Handed.{Table, as_channels}
 use Rattle.kahn_check.proofs.Walk.{verdict_err}
 use Rattle.std.proofs.lemmas.List.{map-append}
@@ -20,37 +20,37 @@ use Rattle.kahn_tree.specs.declared.tree.Declaration.TheVariants as D
 use Rattle.std.specs.declared.vec.Vec.{Vec}
 use Rattle.std.specs.declared.alloc.Global.{Global}
 
-within : (n : ℕ) → n < 1024 → nat_lt n 1024 ≡ true
-within n h = by (nat_lt n 1024) refl
+pub within : (n limit : ℕ) → n < limit → nat_lt n limit ≡ true
+within n limit h = by (nat_lt n limit) refl
   where
-    by : (b : Bool) → nat_lt n 1024 ≡ b → b ≡ true
+    by : (b : Bool) → nat_lt n limit ≡ b → b ≡ true
     by true e = refl
     by false e = absurd (grind (arith, e, h))
 
-beyond : (n : ℕ) → 1024 ≤ n → nat_lt n 1024 ≡ false
-beyond n h = by (nat_lt n 1024) refl
+pub beyond : (n limit : ℕ) → limit ≤ n → nat_lt n limit ≡ false
+beyond n limit h = by (nat_lt n limit) refl
   where
-    by : (b : Bool) → nat_lt n 1024 ≡ b → b ≡ false
+    by : (b : Bool) → nat_lt n limit ≡ b → b ≡ false
     by true e = absurd (grind (arith, e, h))
     by false e = refl
 
-pub channel_new : (g : Table) (n : ℕ) (kind : Kind) (role : Role) (x : Name) (xs : List Name) → n < 1024 → lookup (bytes_eq (bytes_of x)) g ≡ None →
+pub channel_new : (g : Table) (n : ℕ) (kind : Kind) (role : Role) (x : Name) (xs : List Name) → n < most_channels → lookup (bytes_eq (bytes_of x)) g ≡ None →
     channel_faults g n kind role (x ∷ xs) ≡ channel_faults (g ++ (bytes_of x, IsChannel kind role) ∷ []) (n + 1) kind role xs
 channel_new g n kind role x xs lt h =
     let rest = channel_faults (g ++ (bytes_of x, IsChannel kind role) ∷ []) (suc n) kind role xs in
     let step : suc n ≡ n + 1 = omega arith in
-    ap (λ b. cond b [] (TooMany x.span ∷ []) ++ (repeated (lookup (bytes_eq (bytes_of x)) g) x.span ++ rest)) (within n lt)
+    ap (λ b. cond b [] (TooMany x.span ∷ []) ++ (repeated (lookup (bytes_eq (bytes_of x)) g) x.span ++ rest)) (within n most_channels lt)
     ∙ ap (λ o. repeated o x.span ++ rest) h
     ∙ ap (λ m. channel_faults (g ++ (bytes_of x, IsChannel kind role) ∷ []) m kind role xs) step
 
-pub channel_limit : (g : Table) (n : ℕ) (kind : Kind) (role : Role) (x : Name) (xs : List Name) → 1024 ≤ n → verdict (channel_faults g n kind role (x ∷ xs)) (tt {0}) ≡ Err (TooMany x.span)
+pub channel_limit : (g : Table) (n : ℕ) (kind : Kind) (role : Role) (x : Name) (xs : List Name) → most_channels ≤ n → verdict (channel_faults g n kind role (x ∷ xs)) (tt {0}) ≡ Err (TooMany x.span)
 channel_limit g n kind role x xs h =
-    ap (λ b. verdict (cond b [] (TooMany x.span ∷ []) ++ (repeated (lookup (bytes_eq (bytes_of x)) g) x.span ++ channel_faults (g ++ (bytes_of x, IsChannel kind role) ∷ []) (suc n) kind role xs)) (tt {0})) (beyond n h)
+    ap (λ b. verdict (cond b [] (TooMany x.span ∷ []) ++ (repeated (lookup (bytes_eq (bytes_of x)) g) x.span ++ channel_faults (g ++ (bytes_of x, IsChannel kind role) ∷ []) (suc n) kind role xs)) (tt {0})) (beyond n most_channels h)
 
-pub channel_known : (g : Table) (n : ℕ) (kind : Kind) (role : Role) (x : Name) (xs : List Name) → n < 1024 → IsSome (lookup (bytes_eq (bytes_of x)) g) →
+pub channel_known : (g : Table) (n : ℕ) (kind : Kind) (role : Role) (x : Name) (xs : List Name) → n < most_channels → IsSome (lookup (bytes_eq (bytes_of x)) g) →
     verdict (channel_faults g n kind role (x ∷ xs)) (tt {0}) ≡ Err (DeclaredTwice x.span)
 channel_known g n kind role x xs lt h =
-    ap (λ b. verdict (cond b [] (TooMany x.span ∷ []) ++ (repeated (lookup (bytes_eq (bytes_of x)) g) x.span ++ channel_faults (g ++ (bytes_of x, IsChannel kind role) ∷ []) (suc n) kind role xs)) (tt {0})) (within n lt)
+    ap (λ b. verdict (cond b [] (TooMany x.span ∷ []) ++ (repeated (lookup (bytes_eq (bytes_of x)) g) x.span ++ channel_faults (g ++ (bytes_of x, IsChannel kind role) ∷ []) (suc n) kind role xs)) (tt {0})) (within n most_channels lt)
     ∙ by (lookup (bytes_eq (bytes_of x)) g) h
   where
     by : (o : Option Wiring.Global) → IsSome o → verdict (repeated o x.span ++ channel_faults (g ++ (bytes_of x, IsChannel kind role) ∷ []) (suc n) kind role xs) (tt {0}) ≡ Err (DeclaredTwice x.span)

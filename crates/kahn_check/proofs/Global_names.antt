@@ -1,44 +1,67 @@
--- The map of a program's names.
-use Rattle.std.proofs.Common.{◌≡◌, ℕ, Bool, true, false, cond, List, [], ◌∷◌, ◌++◌, map, Option, None, Some, refl, ap, sym, ◌∙◌, string_bytes, bytes_eq, is_some, IsSome}
+-- What the names of a program stand for.
+use Rattle.std.proofs.Common.{◌≡◌, ◌⊎◌, inl, inr, Result, Ok, Err, MatchResult, ℕ, Bool, true, false, cond, List, [], ◌∷◌, ◌++◌, map, Option, None, Some, IsSome, IfSome, refl, sym, ap, subst, ◌∙◌, bytes_eq, zero, suc, drop}
+use Rattle.std.proofs.lemmas.List.{map-append}
 use Rattle.std.specs.Map.{lookup}
-use Rattle.std.specs.String.{string_eq}
-use Rattle.std.specs.declared.string.String.{String}
-use Rattle.indexmap.specs.IndexMap.{insert_entry}
+use Rattle.std.specs.List.{AllByRecursion}
+use Rattle.kahn_tree.specs.declared.tree.Process.{Process}
+use Rattle.kahn_tree.specs.declared.tree.Declaration.{Declaration}
+use Rattle.kahn_tree.specs.declared.tree.Declaration.TheVariants as D
+use Rattle.kahn_tree.specs.declared.span.Span.{Span}
+use Rattle.kahn_check.specs.declared.fault.CheckFault.{CheckFault}
+use Rattle.kahn_check.specs.declared.fault.CheckFault.TheVariants.{NoMemory, DeclaredTwice}
 use Rattle.kahn_check.specs.declared.globals.Entry.{Entry}
+use Rattle.kahn_network.specs.Wires.{the_process, process_at}
 use Rattle.kahn_network.specs.Wiring.{Global}
-use Rattle.kahn_check.specs.Globals.{global_of, option_global}
+use Rattle.kahn_check.specs.Globals.{global_of, option_global, IsPlaced}
 
-abbrev pub shown : {A : Type 0} → List (String A × Entry) → List (List ℕ × Global)
-shown es = map (λ e. (string_bytes e.0, global_of e.1)) es
+abbrev pub shown : List (List ℕ × Entry) → List (List ℕ × Global)
+shown es = map (λ e. (e.0, global_of e.1)) es
 
-pub find_global : {A : Type 0} (x : List ℕ) (es : List (String A × Entry)) → option_global (lookup (λ k. bytes_eq x (string_bytes k)) es) ≡ lookup (bytes_eq x) (shown es)
+pub find_global : (x : List ℕ) (es : List (List ℕ × Entry)) → option_global (lookup (bytes_eq x) es) ≡ lookup (bytes_eq x) (shown es)
 find_global x [] = refl
-find_global x (e ∷ es) = by (bytes_eq x (string_bytes e.0)) (find_global x es)
+find_global x (e ∷ es) = by (bytes_eq x e.0) (find_global x es)
   where
-    by : (b : Bool) → option_global (lookup (λ k. bytes_eq x (string_bytes k)) es) ≡ lookup (bytes_eq x) (shown es) →
-        option_global (cond b (Some e.1) (lookup (λ k. bytes_eq x (string_bytes k)) es)) ≡ cond b (Some (global_of e.1)) (lookup (bytes_eq x) (shown es))
+    by : (b : Bool) → option_global (lookup (bytes_eq x) es) ≡ lookup (bytes_eq x) (shown es) → option_global (cond b (Some e.1) (lookup (bytes_eq x) es)) ≡ cond b (Some (global_of e.1)) (lookup (bytes_eq x) (shown es))
     by true h = refl
     by false h = h
 
-insert_global : {A : Type 0} (es : List (String A × Entry)) (k : String A) (w : Entry) → lookup (bytes_eq (string_bytes k)) (shown es) ≡ None →
-    shown (insert_entry string_eq es k w) ≡ shown es ++ (string_bytes k, global_of w) ∷ []
-insert_global [] k w h = refl
-insert_global (e ∷ es) k w h = by (bytes_eq (string_bytes k) (string_bytes e.0)) h (insert_global es k w)
+find_none : (x : List ℕ) (es : List (List ℕ × Entry)) → lookup (bytes_eq x) es ≡ None → lookup (bytes_eq x) (shown es) ≡ None
+find_none x es h = sym (find_global x es) ∙ (λ i. option_global (h i))
+
+find_some : (x : List ℕ) (es : List (List ℕ × Entry)) → IsSome (lookup (bytes_eq x) es) → IsSome (lookup (bytes_eq x) (shown es))
+find_some x es h = subst IsSome (find_global x es) (by (lookup (bytes_eq x) es) h)
   where
-    by : (b : Bool) → cond b (Some (global_of e.1)) (lookup (bytes_eq (string_bytes k)) (shown es)) ≡ None →
-        (lookup (bytes_eq (string_bytes k)) (shown es) ≡ None → shown (insert_entry string_eq es k w) ≡ shown es ++ (string_bytes k, global_of w) ∷ []) →
-        shown (cond b ((e.0, w) ∷ es) (e ∷ insert_entry string_eq es k w)) ≡ shown (e ∷ es) ++ (string_bytes k, global_of w) ∷ []
-    by true i go = cc
-    by false i go = ap (λ r. (string_bytes e.0, global_of e.1) ∷ r) (go i)
+    by : (o : Option Entry) → IsSome o → IsSome (option_global o)
+    by None i = cc
+    by (Some e) i = refl
 
-pub declared_global : {A : Type 0} (es : List (String A × Entry)) (k : String A) (w : Entry) (x : List ℕ) → string_bytes k ≡ x → lookup (bytes_eq x) (shown es) ≡ None →
-    shown (insert_entry string_eq es k w) ≡ shown es ++ (x, global_of w) ∷ []
-declared_global es k w x h n = rw (← h) (insert_global es k w (rw h n))
+one_more_shown : (es : List (List ℕ × Entry)) (x : List ℕ) (w : Entry) → shown (es ++ (x, w) ∷ []) ≡ shown es ++ (x, global_of w) ∷ []
+one_more_shown es x w = map-append (λ (e : List ℕ × Entry). (e.0, global_of e.1)) es ((x, w) ∷ [])
 
-pub global_none : (o : Option Entry) → is_some o ≡ false → option_global o ≡ None
-global_none None h = refl
-global_none (Some e) h = cc
+pub declared_global : {A : Type 0} (r : Result A CheckFault) (old new : List (List ℕ × Entry)) (x : List ℕ) (w : Entry) (at : Span) →
+    MatchResult r (λ u. (lookup (bytes_eq x) old ≡ None) × (new ≡ old ++ (x, w) ∷ [])) (λ f. (f ≡ NoMemory) ⊎ ((f ≡ DeclaredTwice at) × IsSome (lookup (bytes_eq x) old))) →
+    MatchResult r (λ u. (lookup (bytes_eq x) (shown old) ≡ None) × (shown new ≡ shown old ++ (x, global_of w) ∷ [])) (λ f. (f ≡ NoMemory) ⊎ ((f ≡ DeclaredTwice at) × IsSome (lookup (bytes_eq x) (shown old))))
+declared_global (Ok u) old new x w at h = (find_none x old h.0, ap shown h.1 ∙ one_more_shown old x w)
+declared_global (Err f) old new x w at (inl h) = inl h
+declared_global (Err f) old new x w at (inr h) = inr (h.0, find_some x old h.1)
 
-pub global_some : (o : Option Entry) → is_some o ≡ true → IsSome (option_global o)
-global_some None h = cc
-global_some (Some e) h = refl
+-- ---- where processes are declared
+
+pub placed_found : (ds : List Declaration) (x : List ℕ) (es : List (List ℕ × Entry)) → AllByRecursion (λ e. IsPlaced ds e.1) es → IfSome (lookup (bytes_eq x) es) (IsPlaced ds)
+placed_found ds x [] h = tt
+placed_found ds x (e ∷ es) h = by (bytes_eq x e.0) (placed_found ds x es h.1)
+  where
+    by : (b : Bool) → IfSome (lookup (bytes_eq x) es) (IsPlaced ds) → IfSome (cond b (Some e.1) (lookup (bytes_eq x) es)) (IsPlaced ds)
+    by true i = h.0
+    by false i = i
+
+pub placed_more : (ds : List Declaration) (es : List (List ℕ × Entry)) (x : List ℕ) (w : Entry) → AllByRecursion (λ e. IsPlaced ds e.1) es → IsPlaced ds w →
+    AllByRecursion (λ e. IsPlaced ds e.1) (es ++ (x, w) ∷ [])
+placed_more ds [] x w h i = (i, tt)
+placed_more ds (e ∷ es) x w h i = (h.0, placed_more ds es x w h.1 i)
+
+pub placed_here : (k : ℕ) (all : List Declaration) (p : Process) (rest : List Declaration) → drop k all ≡ D.Process p ∷ rest → process_at all k ≡ Some p
+placed_here zero [] p rest h = cc
+placed_here zero (e ∷ es) p rest h = let same : e ≡ D.Process p = cc in ap (λ d. the_process (Some d)) same
+placed_here (suc k) [] p rest h = cc
+placed_here (suc k) (e ∷ es) p rest h = placed_here k es p rest h

@@ -1,5 +1,5 @@
 -- The declared channels in turn.
-use Rattle.std.proofs.Common.{◌≡◌, ℕ, Bool, true, false, cond, ◌&&◌, List, [], ◌∷◌, ◌++◌, map, Option, None, Some, refl, ap, sym, ◌∙◌, subst, append_assoc, bytes_eq}
+use Rattle.std.proofs.Common.{◌≡◌, ℕ, Bool, true, false, cond, ◌&&◌, List, [], ◌∷◌, ◌++◌, map, Some, refl, ap, sym, ◌∙◌, subst, append_assoc, bytes_eq}
 use Rattle.std.specs.Map.{lookup}
 use Rattle.std.specs.declared.vec.Vec.{Vec}
 use Rattle.std.specs.declared.alloc.Global.{Global}
@@ -9,7 +9,6 @@ use Rattle.kahn_tree.specs.declared.tree.Kind.{Kind}
 use Rattle.kahn_tree.specs.declared.tree.Role.{Role}
 use Rattle.kahn_tree.specs.declared.tree.Direction.{Direction}
 use Rattle.kahn_tree.specs.declared.tree.Direction.TheVariants.{In, Out}
-use Rattle.kahn_tree.specs.declared.tree.Process.{Process}
 use Rattle.kahn_tree.specs.declared.tree.Declaration.{Declaration}
 use Rattle.kahn_tree.specs.declared.tree.Declaration.TheVariants as D
 use Rattle.kahn_tree.specs.declared.tree.Program.{Program}
@@ -20,8 +19,7 @@ use Rattle.kahn_check.specs.Tables.{Ends, taken, handed_all, side_in, sides_in}
 use Rattle.kahn_check.specs.Wires.{line_in, lines_in}
 use Rattle.kahn_network.specs.Wires.{Line, first, line_of, lines_of}
 use Rattle.kahn_network.specs.Wiring.{Handover, same_direction, ends, handed_from, declared_channels}
-use Rattle.kahn_network.specs.declared.sides.Side.{Side}
-use Rattle.kahn_check.proofs.Declared.{met_first, met_after}
+use Rattle.kahn_check.proofs.Declared.{met_first}
 use Rattle.kahn_check.proofs.Linked.{sides_more, handed_same, table}
 use Rattle.kahn_network.proofs.Handed.{Table}
 

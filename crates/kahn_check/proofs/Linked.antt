@@ -1,5 +1,5 @@
 -- What is wrong by the tables is what is wrong by the definition.
-use Rattle.std.proofs.Common.{◌≡◌, ℕ, suc, Bool, true, false, cond, ◌&&◌, ◌⊎◌, inl, inr, List, [], ◌∷◌, ◌++◌, map, length, Option, None, Some, Result, Ok, Err, refl, ap, sym, ◌∙◌, subst, bytes_eq, append_assoc}
+use Rattle.std.proofs.Common.{◌≡◌, ℕ, suc, Bool, true, false, cond, ◌&&◌, List, [], ◌∷◌, ◌++◌, length, Option, None, Some, refl, ap, sym, ◌∙◌, subst, bytes_eq, append_assoc}
 use Rattle.std.specs.Map.{lookup}
 use Rattle.kahn_tree.specs.declared.span.Span.{Span}
 use Rattle.kahn_tree.specs.declared.tree.Name.{Name}
@@ -11,8 +11,6 @@ use Rattle.kahn_tree.specs.declared.tree.Direction.TheVariants.{In, Out}
 use Rattle.kahn_tree.specs.declared.tree.Taking.{Taking}
 use Rattle.kahn_tree.specs.declared.tree.Taking.TheVariants as T
 use Rattle.kahn_tree.specs.declared.tree.Parameter.{Parameter}
-use Rattle.kahn_tree.specs.declared.tree.Declaration.{Declaration}
-use Rattle.kahn_tree.specs.declared.tree.Declaration.TheVariants as D
 use Rattle.kahn_tree.specs.declared.tree.Argument.{Argument}
 use Rattle.kahn_tree.specs.declared.tree.Argument.TheVariants as A
 use Rattle.kahn_tree.specs.declared.tree.Instance.{Instance}
@@ -20,20 +18,17 @@ use Rattle.kahn_tree.specs.declared.tree.Program.{Program}
 use Rattle.kahn_tree.specs.View.{bytes_of}
 use Rattle.kahn_check.specs.declared.fault.CheckFault.{CheckFault}
 use Rattle.kahn_check.specs.declared.fault.CheckFault.TheVariants.{NoWriter, NoReader}
-use Rattle.kahn_check.specs.Faults.{verdict, IsMet, wrong}
-use Rattle.kahn_network.specs.Wiring.{entries, Global, IsChannel, IsProcess, declared_of, declared_channels, global, Handover, handed, handed_in, handed_by, handed_from, parameters_of, same_direction, ends, writers, readers, IsWellWired, side_at}
+use Rattle.kahn_check.specs.Faults.{IsMet, wrong}
+use Rattle.kahn_network.specs.Wiring.{entries, Global, IsChannel, IsProcess, declared_of, declared_channels, global, Handover, handed, handed_by, handed_from, same_direction, ends, writers, readers, IsWellWired, side_at}
 use Rattle.kahn_network.specs.declared.sides.Side.{Side}
-use Rattle.kahn_check.specs.Order.{too_many, miscounted, overtaken, misplaced, argument_faults, arguments_faults, made_faults, instance_faults, missing, side_faults, sides_faults, declaration_faults, faults}
+use Rattle.kahn_check.specs.Order.{most_instances, too_many, miscounted, overtaken, misplaced, argument_faults, arguments_faults, made_faults, instance_faults, missing, side_faults, sides_faults, declaration_faults, faults}
 use Rattle.kahn_network.specs.Wiring.{is_closed}
-use Rattle.kahn_check.specs.Tables.{Ends, held, taken, side_of, misplaced_in, place_faults, places_faults, made_in, meant, handed_to, handed_all, seats_faults, side_in, sides_in}
+use Rattle.kahn_check.specs.Tables.{Ends, held, taken, place_faults, places_faults, made_in, handed_all, seats_faults, side_in, sides_in}
 use Rattle.kahn_check.proofs.Wired.{well_wired}
 use Rattle.kahn_network.proofs.Handed.{Table}
 use Rattle.kahn_check.proofs.Placed.{taken_append}
 use Rattle.kahn_check.proofs.Declared.{met_first, met_after}
 use Rattle.kahn_check.proofs.Typed.{both}
-use Rattle.kahn_check.proofs.Walk.{verdict_err}
-use Rattle.std.specs.declared.vec.Vec.{Vec}
-use Rattle.std.specs.declared.alloc.Global.{Global as Heap}
 
 pub sides_more : (w r : Ends) (xs ys : List (Name × (Kind × Role))) → sides_in w r (xs ++ ys) ≡ sides_in w r xs ++ sides_in w r ys
 sides_more w r [] ys = refl
@@ -103,8 +98,8 @@ link_instances t before i (x ∷ xs) =
     let one = handed_by t i x in
     let w = sym (taken_append Out before one) in
     let r = sym (taken_append In before one) in
-    (λ j. too_many 256 i x.process.span ++ (link_made t before i (global t x.process) x j ++ seats_faults (table t) (w j) (r j) (suc i) xs))
-    ∙ ap (λ z. too_many 256 i x.process.span ++ (made_faults t before i (global t x.process) x ++ z)) (link_instances t (before ++ one) (suc i) xs)
+    (λ j. too_many most_instances i x.process.span ++ (link_made t before i (global t x.process) x j ++ seats_faults (table t) (w j) (r j) (suc i) xs))
+    ∙ ap (λ z. too_many most_instances i x.process.span ++ (made_faults t before i (global t x.process) x ++ z)) (link_instances t (before ++ one) (suc i) xs)
 
 link_handed : (t : Program) (i : ℕ) (xs : List Instance) → handed_all (table t) i xs ≡ handed_from t i xs
 link_handed t i [] = refl

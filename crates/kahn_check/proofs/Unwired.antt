@@ -1,8 +1,7 @@
 -- A well wired program is without faults.
 use Rattle.kahn_network.proofs.Handed.{keys, bytes_true, bytes_turned, AtMostOne, Table, ends_append, as_channels, bytes_self, IsServed, served}
-use Rattle.std.proofs.Common.{◌≡◌, ℕ, suc, ◌+◌, ◌≤◌, ◌<◌, Bool, true, false, cond, ◌&&◌, ◌⊎◌, inl, inr, List, [], ◌∷◌, ◌++◌, map, length, Option, None, Some, refl, ap, sym, ◌∙◌, subst, bytes_eq, append_assoc, arith, length-append, nat_lt, nat_eq, true≢false}
-use Rattle.std.proofs.lemmas.List.{append-nil, length-map, map-append}
-use Rattle.std.proofs.lemmas.Slice.Eq.{bytes_eq-Decides}
+use Rattle.std.proofs.Common.{◌≡◌, ℕ, suc, ◌+◌, ◌≤◌, ◌<◌, Bool, true, false, cond, ◌&&◌, ◌⊎◌, inl, inr, List, [], ◌∷◌, ◌++◌, map, length, Option, None, Some, refl, ap, sym, ◌∙◌, subst, bytes_eq, append_assoc, arith, length-append, nat_lt, nat_eq}
+use Rattle.std.proofs.lemmas.List.{length-map, map-append}
 use Rattle.std.specs.List.{IsDistinct, AllByRecursion}
 use Rattle.std.specs.Map.{lookup}
 use Rattle.kahn_tree.specs.declared.span.Span.{Span}
@@ -28,7 +27,7 @@ use Rattle.kahn_check.specs.declared.fault.CheckFault.{CheckFault}
 use Rattle.kahn_check.specs.declared.fault.CheckFault.TheVariants.{TooMany, WrongCount}
 use Rattle.kahn_network.specs.Wiring.{locals_of, scope_of, entries, Global, IsChannel, IsProcess, declared_of, declared_channels, processes_of, global, Handover, handed, handed_in, handed_by, handed_from, parameters_of, same_direction, ends, writers, readers, IsOne, IsWired, Fits, AllFit, IsMade, IsSound, IsWellWired, side_at}
 use Rattle.kahn_network.specs.declared.sides.Side.{Side}
-use Rattle.kahn_check.specs.Order.{too_many, repeated, twice, process_faults, channel_faults, declaration_faults, second, overtaken, misplaced, argument_faults, arguments_faults, miscounted, made_faults, instance_faults, missing, side_faults, sides_faults, faults}
+use Rattle.kahn_check.specs.Order.{most_channels, most_instances, too_many, repeated, twice, process_faults, channel_faults, declaration_faults, overtaken, misplaced, argument_faults, arguments_faults, miscounted, made_faults, instance_faults, missing, side_faults, sides_faults, faults}
 use Rattle.kahn_network.specs.Wiring.{is_closed}
 use Rattle.kahn_check.specs.Faults.{wrong}
 use Rattle.kahn_check.proofs.Typed.{nil_left, nil_right, both, disagrees_body, kind_right}
@@ -70,18 +69,18 @@ unsound : (p : Process) → IsSound p → process_faults p ≡ []
 unsound p h =
     both (twice [] (locals_of p)) _ (unonce [] (locals_of p) h.0 (all_true (λ y. lookup (bytes_eq y) [] ≡ None) (λ y. refl) (keys (scope_of p)))) (disagrees_body (scope_of p) p.statements.items h.1)
 
-unchannels : (known : Table) (n : ℕ) (kind : Kind) (role : Role) (xs : List Name) → twice known (as_channels kind role xs) ≡ [] → n + length xs ≤ 1024 → channel_faults known n kind role xs ≡ []
+unchannels : (known : Table) (n : ℕ) (kind : Kind) (role : Role) (xs : List Name) → twice known (as_channels kind role xs) ≡ [] → n + length xs ≤ most_channels → channel_faults known n kind role xs ≡ []
 unchannels known n kind role [] h le = refl
 unchannels known n kind role (x ∷ xs) h le =
     let name = repeated (lookup (bytes_eq (bytes_of x)) known) x.span in
-    both (too_many 1024 n x.span) _ (under 1024 n x.span (omega arith))
+    both (too_many most_channels n x.span) _ (under most_channels n x.span (omega arith))
     (both name _ (nil_left name _ h) (unchannels (known ++ (bytes_of x, IsChannel kind role) ∷ []) (suc n) kind role xs (nil_right name _ h) (omega arith)))
 
-undeclared : (known : Table) (n : ℕ) (ds : List Declaration) → twice known (declared_of ds) ≡ [] → AllByRecursion IsSound (processes_of ds) → n + length (declared_channels ds) ≤ 1024 → declaration_faults known n ds ≡ []
+undeclared : (known : Table) (n : ℕ) (ds : List Declaration) → twice known (declared_of ds) ≡ [] → AllByRecursion IsSound (processes_of ds) → n + length (declared_channels ds) ≤ most_channels → declaration_faults known n ds ≡ []
 undeclared known n [] h all le = refl
 undeclared known n (D.Channels kind role names ∷ rest) h all le =
     let mine = as_channels kind role names.items in
-    let sum : (n + length names.items) + length (declared_channels rest) ≤ 1024 = omega (arith, le, length-append (map (λ n. (n, (kind, role))) names.items) (declared_channels rest), length-map {B = Name × (Kind × Role)} names.items (λ n. (n, (kind, role)))) in
+    let sum : (n + length names.items) + length (declared_channels rest) ≤ most_channels = omega (arith, le, length-append (map (λ n. (n, (kind, role))) names.items) (declared_channels rest), length-map {B = Name × (Kind × Role)} names.items (λ n. (n, (kind, role)))) in
     let parts = sym (twice_append known mine (declared_of rest)) ∙ h in
     both (channel_faults known n kind role names.items) _ (unchannels known n kind role names.items (nil_left (twice known mine) _ parts) (omega (arith, sum)))
     (undeclared (known ++ entries mine) (n + length names.items) rest (nil_right (twice known mine) _ parts) all sum)
@@ -208,13 +207,13 @@ unmade t before after i o x serve p is h all =
     ap (λ z. made_faults t before i z x) is
     ∙ both (miscounted (length p.parameters.items) (length x.arguments.items) x.process.span) _ (recounted _ _ x.process.span go.0) go.1
 
-uninstances : (t : Program) (before : List Handover) (i : ℕ) (xs : List Instance) → IsServedIn t → AllByRecursion (IsMade t) xs → i + length xs ≤ 256 →
+uninstances : (t : Program) (before : List Handover) (i : ℕ) (xs : List Instance) → IsServedIn t → AllByRecursion (IsMade t) xs → i + length xs ≤ most_instances →
     before ++ handed_from t i xs ≡ handed_from t 0 t.instances.items → instance_faults t before i xs ≡ []
 uninstances t before i [] serve h le all = refl
 uninstances t before i (x ∷ xs) serve h le all =
     let m = h.0 in
     let go = uninstances t (before ++ handed_by t i x) (suc i) xs serve h.1 (omega arith) (append_assoc before (handed_by t i x) (handed_from t (suc i) xs) ∙ all) in
-    both (too_many 256 i x.process.span) _ (under 256 i x.process.span (omega arith))
+    both (too_many most_instances i x.process.span) _ (under most_instances i x.process.span (omega arith))
     (both (made_faults t before i (global t x.process) x) _ (unmade t before (handed_from t (suc i) xs) i (global t x.process) x serve m.0 m.1 m.2 all) go)
 
 -- ---- channels

@@ -1,12 +1,11 @@
 -- How the first fault of a list goes by its parts, and rows as lists.
-use Rattle.std.proofs.Common.{◌≡◌, ℕ, Bool, true, false, cond, List, [], ◌∷◌, ◌++◌, map, Option, None, Some, Result, Ok, Err, refl, ap, sym, ◌∙◌, string_bytes, bytes_eq, append_assoc}
+use Rattle.std.proofs.Common.{◌≡◌, ℕ, Bool, true, false, cond, List, [], ◌∷◌, ◌++◌, map, None, Some, Ok, Err, refl, ap, sym, ◌∙◌, string_bytes, bytes_eq}
 use Rattle.std.specs.Map.{lookup}
 use Rattle.std.specs.String.{string_eq}
 use Rattle.indexmap.specs.IndexMap.{insert_entry}
 use Rattle.std.specs.declared.string.String.{String}
 use Rattle.kahn_tree.specs.declared.span.Span.{Span}
 use Rattle.kahn_tree.specs.declared.tree.Kind.{Kind}
-use Rattle.kahn_tree.specs.declared.tree.Taking.{Taking}
 use Rattle.kahn_tree.specs.declared.tree.Form.{Row_of-Operand, end_of-Operand, more_of-Operand}
 use Rattle.kahn_tree.specs.declared.tree.Form.TheBlock.{items-the_row-Operand}
 use Rattle.kahn_tree.specs.declared.tree.Operand.{Operand}
@@ -14,7 +13,7 @@ use Rattle.kahn_tree.specs.declared.tree.Action.{Row_of-Statement, end_of-Statem
 use Rattle.kahn_tree.specs.declared.tree.Action.TheBlock.{items-the_row-Statement}
 use Rattle.kahn_network.specs.Kinds.{takes, gives}
 use Rattle.kahn_check.specs.declared.fault.CheckFault.{CheckFault}
-use Rattle.kahn_check.specs.Faults.{find, verdict, wrong_first, wrong_second, spanning, faults_in, kind_of, level_faults, level_kind, row_faults, body_faults, faults_of}
+use Rattle.kahn_check.specs.Faults.{verdict, wrong_first, wrong_second, spanning, faults_in, kind_of, level_faults, level_kind, row_faults, body_faults, faults_of}
 use Rattle.kahn_network.specs.Wiring.{Scope}
 
 pub find_named : {A X : Type 0} (x : List ℕ) (es : List (String A × X)) →

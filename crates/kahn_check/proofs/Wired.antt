@@ -2,7 +2,6 @@
 use Rattle.kahn_network.proofs.Handed.{keys, bytes_true, bytes_turned, AtMostOne, Table, ends_append, as_channels, bytes_self}
 use Rattle.std.proofs.Common.{◌≡◌, ℕ, suc, ◌+◌, ◌≤◌, ◌<◌, Bool, true, false, cond, ◌&&◌, List, [], ◌∷◌, ◌++◌, map, length, Option, None, Some, refl, ap, sym, ◌∙◌, subst, bytes_eq, append_assoc, arith, length-append, nat_lt, nat_eq, true≢false}
 use Rattle.std.proofs.lemmas.List.{append-nil, length-map}
-use Rattle.std.proofs.lemmas.Slice.Eq.{bytes_eq-Decides}
 use Rattle.std.specs.List.{IsDistinct, AllByRecursion}
 use Rattle.std.specs.Map.{lookup}
 use Rattle.kahn_tree.specs.declared.span.Span.{Span}
@@ -25,10 +24,10 @@ use Rattle.kahn_tree.specs.declared.tree.Instance.{Instance}
 use Rattle.kahn_tree.specs.declared.tree.Program.{Program}
 use Rattle.kahn_tree.specs.View.{bytes_of}
 use Rattle.kahn_check.specs.declared.fault.CheckFault.{CheckFault}
-use Rattle.kahn_check.specs.Faults.{body_faults, wrong}
+use Rattle.kahn_check.specs.Faults.{wrong}
 use Rattle.kahn_network.specs.Wiring.{locals_of, scope_of, entries, Global, IsChannel, IsProcess, declared_of, declared_channels, processes_of, global, Handover, handed, handed_in, handed_by, handed_from, parameters_of, same_direction, ends, writers, readers, IsOne, IsWired, Fits, AllFit, IsMade, IsSound, IsWellWired, side_at}
 use Rattle.kahn_network.specs.declared.sides.Side.{Side}
-use Rattle.kahn_check.specs.Order.{too_many, repeated, twice, process_faults, channel_faults, declaration_faults, second, overtaken, misplaced, argument_faults, arguments_faults, miscounted, made_faults, instance_faults, missing, side_faults, sides_faults, faults}
+use Rattle.kahn_check.specs.Order.{most_channels, most_instances, too_many, repeated, twice, process_faults, channel_faults, declaration_faults, overtaken, misplaced, argument_faults, arguments_faults, miscounted, made_faults, instance_faults, missing, side_faults, sides_faults, faults}
 use Rattle.kahn_network.specs.Wiring.{is_closed}
 use Rattle.kahn_check.proofs.Typed.{nil_left, nil_right, both, agrees_body, kind_known}
 
@@ -203,19 +202,19 @@ pub fair_instances : (t : Program) (before : List Handover) (i : ℕ) (xs : List
     IsFair (entries (declared_of t.declarations.items)) d c before → IsFair (entries (declared_of t.declarations.items)) d c (before ++ handed_from t i xs)
 fair_instances t before i [] h d c fair = rw (append-nil before) fair
 fair_instances t before i (x ∷ xs) h d c fair =
-    let j = nil_right (too_many 256 i x.process.span) _ h in
+    let j = nil_right (too_many most_instances i x.process.span) _ h in
     let here = made_faults t before i (global t x.process) x in
     let f = fair_instance t before i (global t x.process) x (nil_left here _ j) d c fair in
     let go = fair_instances t (before ++ handed_by t i x) (suc i) xs (nil_right here _ j) d c f in
     subst (IsFair (entries (declared_of t.declarations.items)) d c) (append_assoc before (handed_by t i x) (handed_from t (suc i) xs)) go
 
-pub all_made : (t : Program) (before : List Handover) (i : ℕ) (xs : List Instance) → instance_faults t before i xs ≡ [] → i ≤ 256 → AllByRecursion (IsMade t) xs × (i + length xs ≤ 256)
+pub all_made : (t : Program) (before : List Handover) (i : ℕ) (xs : List Instance) → instance_faults t before i xs ≡ [] → i ≤ most_instances → AllByRecursion (IsMade t) xs × (i + length xs ≤ most_instances)
 all_made t before i [] h le = (tt, omega arith)
 all_made t before i (x ∷ xs) h le =
-    let limit = too_many 256 i x.process.span in
+    let limit = too_many most_instances i x.process.span in
     let j = nil_right limit _ h in
     let here = made_faults t before i (global t x.process) x in
-    let lt = below 256 i x.process.span (nil_left limit _ h) in
+    let lt = below most_instances i x.process.span (nil_left limit _ h) in
     let go = all_made t (before ++ handed_by t i x) (suc i) xs (nil_right here _ j) (omega (arith, lt)) in
     ((made t before i (global t x.process) x (nil_left here _ j), go.0), omega (arith, go.1))
 
@@ -251,19 +250,19 @@ twice_append known (x ∷ xs) ys =
     ∙ ap (λ k. here ++ (twice more xs ++ twice k ys)) (append_assoc known ((bytes_of x.0, x.1) ∷ []) (entries xs))
     ∙ sym (append_assoc here (twice more xs) (twice (known ++ (bytes_of x.0, x.1) ∷ entries xs) ys))
 
-channels_once : (known : Table) (n : ℕ) (kind : Kind) (role : Role) (xs : List Name) → channel_faults known n kind role xs ≡ [] → n ≤ 1024 →
-    (twice known (as_channels kind role xs) ≡ []) × (n + length xs ≤ 1024)
+channels_once : (known : Table) (n : ℕ) (kind : Kind) (role : Role) (xs : List Name) → channel_faults known n kind role xs ≡ [] → n ≤ most_channels →
+    (twice known (as_channels kind role xs) ≡ []) × (n + length xs ≤ most_channels)
 channels_once known n kind role [] h le = (refl, omega arith)
 channels_once known n kind role (x ∷ xs) h le =
-    let limit = too_many 1024 n x.span in
+    let limit = too_many most_channels n x.span in
     let name = repeated (lookup (bytes_eq (bytes_of x)) known) x.span in
     let j = nil_right limit _ h in
-    let lt = below 1024 n x.span (nil_left limit _ h) in
+    let lt = below most_channels n x.span (nil_left limit _ h) in
     let go = channels_once (known ++ (bytes_of x, IsChannel kind role) ∷ []) (suc n) kind role xs (nil_right name _ j) (omega (arith, lt)) in
     (both name _ (nil_left name _ j) go.0, omega (arith, go.1))
 
-declared : (known : Table) (n : ℕ) (ds : List Declaration) → declaration_faults known n ds ≡ [] → n ≤ 1024 →
-    (twice known (declared_of ds) ≡ []) × AllByRecursion IsSound (processes_of ds) × (n + length (declared_channels ds) ≤ 1024)
+declared : (known : Table) (n : ℕ) (ds : List Declaration) → declaration_faults known n ds ≡ [] → n ≤ most_channels →
+    (twice known (declared_of ds) ≡ []) × AllByRecursion IsSound (processes_of ds) × (n + length (declared_channels ds) ≤ most_channels)
 declared known n [] h le = (refl, tt, omega arith)
 declared known n (D.Channels kind role names ∷ rest) h le =
     let here = channel_faults known n kind role names.items in

@@ -1,14 +1,12 @@
 -- What is wrong with a program, in the order in which it is looked for. Only the first is answered: what is
 -- listed after it is of no import.
 use Rattle.kahn_network.specs.Wiring.{Scope}
-use Rattle.std.specs.Prelude.{◌≡◌, ◌⊎◌, ℕ, Bool, true, false, List, [], ◌∷◌, ◌++◌, map, Option, None, Some, Result, Ok, Err, string_bytes, if◌then◌else◌}
+use Rattle.std.specs.Prelude.{◌≡◌, ◌⊎◌, ℕ, Bool, true, false, List, [], ◌∷◌, ◌++◌, Option, None, Some, Result, Ok, Err, if◌then◌else◌}
 use Rattle.std.proofs.Common.{bytes_eq}
 use Rattle.std.specs.Map.{lookup}
 use Rattle.kahn_tree.specs.declared.span.Span.{Span}
-use Rattle.kahn_tree.specs.declared.tree.Name.{Name}
 use Rattle.kahn_tree.specs.declared.tree.Kind.{Kind}
 use Rattle.kahn_tree.specs.declared.tree.Kind.TheVariants.{Integer, Logical}
-use Rattle.kahn_tree.specs.declared.tree.Operator.{Operator}
 use Rattle.kahn_tree.specs.declared.tree.Direction.{Direction}
 use Rattle.kahn_tree.specs.declared.tree.Direction.TheVariants.{In, Out}
 use Rattle.kahn_tree.specs.declared.tree.Taking.{Taking}

@@ -1,11 +1,6 @@
 pub mod Faults
 pub mod Order
 pub mod Globals
+pub mod Seats
 pub mod Tables
 pub mod Wires
-pub use Rattle.kahn_network.specs.Network
-pub use Rattle.kahn_network.specs.Kinds
-pub use Rattle.kahn_network.specs.Wiring
-pub use Rattle.kahn_network.specs.Sides
-pub use Rattle.kahn_network.specs.Sources
-pub use Rattle.kahn_network.specs.Made

@@ -1,6 +1,6 @@
 -- What is wrong with a whole program, in the order in which it is looked for.
 use Rattle.kahn_network.specs.Wiring.{is_closed}
-use Rattle.std.specs.Prelude.{◌≡◌, ℕ, suc, ◌+◌, Bool, true, false, ◌||◌, List, [], ◌∷◌, ◌++◌, map, length, Option, None, Some, if◌then◌else◌, nat_lt, nat_eq}
+use Rattle.std.specs.Prelude.{ℕ, suc, ◌+◌, Bool, true, false, List, [], ◌∷◌, ◌++◌, map, length, Option, None, Some, if◌then◌else◌, nat_lt, nat_eq}
 use Rattle.std.proofs.Common.{bytes_eq}
 use Rattle.std.specs.Map.{lookup}
 use Rattle.kahn_tree.specs.declared.span.Span.{Span}
@@ -23,10 +23,17 @@ use Rattle.kahn_tree.specs.declared.tree.Instance.{Instance}
 use Rattle.kahn_tree.specs.declared.tree.Program.{Program}
 use Rattle.kahn_tree.specs.View.{bytes_of}
 use Rattle.kahn_check.specs.Faults.{wrong, body_faults}
-use Rattle.kahn_network.specs.Wiring.{locals_of, scope_of, entries, Global, IsChannel, IsProcess, declared_of, declared_channels, global, Handover, handed, handed_by, handed_from, ends, writers, readers, side_at}
+use Rattle.kahn_network.specs.Wiring.{locals_of, scope_of, entries, Global, IsChannel, IsProcess, declared_channels, global, Handover, handed, handed_by, ends, writers, readers, side_at}
 use Rattle.kahn_network.specs.declared.sides.Side.{Side}
 use Rattle.kahn_check.specs.declared.fault.CheckFault.{CheckFault}
 use Rattle.kahn_check.specs.declared.fault.CheckFault.TheVariants.{DeclaredTwice, Unknown, WrongCount, ChannelExpected, ValueExpected, NoWriter, TwoWriters, NoReader, TwoReaders, TooMany}
+
+-- the most channels, and the most instances
+abbrev pub most_channels : ℕ
+most_channels = 1024
+
+abbrev pub most_instances : ℕ
+most_instances = 256
 
 abbrev pub too_many : ℕ → ℕ → Span → List CheckFault
 too_many limit before at = if nat_lt before limit then [] else TooMany at ∷ []
@@ -50,7 +57,7 @@ process_faults p = twice [] (locals_of p) ++ body_faults (scope_of p) p.statemen
 abbrev pub channel_faults : List (List ℕ × Global) → ℕ → Kind → Role → List Name → List CheckFault
 channel_faults known n kind role [] = []
 channel_faults known n kind role (x ∷ xs) =
-    too_many 1024 n x.span ++ (repeated (lookup (bytes_eq (bytes_of x)) known) x.span ++ channel_faults (known ++ (bytes_of x, IsChannel kind role) ∷ []) (suc n) kind role xs)
+    too_many most_channels n x.span ++ (repeated (lookup (bytes_eq (bytes_of x)) known) x.span ++ channel_faults (known ++ (bytes_of x, IsChannel kind role) ∷ []) (suc n) kind role xs)
 
 abbrev pub declaration_faults : List (List ℕ × Global) → ℕ → List Declaration → List CheckFault
 declaration_faults known n [] = []
@@ -104,7 +111,7 @@ made_faults t before i (Some (IsProcess p)) x =
 abbrev pub instance_faults : Program → List Handover → ℕ → List Instance → List CheckFault
 instance_faults t before i [] = []
 instance_faults t before i (x ∷ xs) =
-    too_many 256 i x.process.span ++ (made_faults t before i (global t x.process) x ++ instance_faults t (before ++ handed_by t i x) (suc i) xs)
+    too_many most_instances i x.process.span ++ (made_faults t before i (global t x.process) x ++ instance_faults t (before ++ handed_by t i x) (suc i) xs)
 
 -- ---- channels
 

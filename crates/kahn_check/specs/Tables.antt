@@ -2,7 +2,6 @@
 use Rattle.std.specs.Prelude.{ℕ, suc, List, [], ◌∷◌, ◌++◌, length, Option, None, Some, if◌then◌else◌}
 use Rattle.std.proofs.Common.{bytes_eq}
 use Rattle.std.specs.Map.{lookup}
-use Rattle.kahn_tree.specs.declared.span.Span.{Span}
 use Rattle.kahn_tree.specs.declared.tree.Name.{Name}
 use Rattle.kahn_tree.specs.declared.tree.Kind.{Kind}
 use Rattle.kahn_tree.specs.declared.tree.Kind.TheVariants as K
@@ -20,7 +19,7 @@ use Rattle.kahn_check.specs.Faults.{wrong}
 use Rattle.kahn_tree.specs.declared.tree.Instance.{Instance}
 use Rattle.kahn_network.specs.Wiring.{Global, IsChannel, IsProcess, Handover, handed, handed_in, parameters_of, same_direction, side_at}
 use Rattle.kahn_network.specs.declared.sides.Side.{Side}
-use Rattle.kahn_check.specs.Order.{misplaced, too_many, miscounted, missing}
+use Rattle.kahn_check.specs.Order.{most_instances, misplaced, too_many, miscounted, missing}
 use Rattle.kahn_check.specs.declared.fault.CheckFault.{CheckFault}
 use Rattle.kahn_check.specs.declared.fault.CheckFault.TheVariants.{Unknown, ChannelExpected, ValueExpected, NoWriter, NoReader}
 
@@ -76,7 +75,7 @@ handed_all g i (x ∷ xs) = handed_to g i x ++ handed_all g (suc i) xs
 abbrev pub seats_faults : List (List ℕ × Global) → Ends → Ends → ℕ → List Instance → List CheckFault
 seats_faults g w r i [] = []
 seats_faults g w r i (x ∷ xs) =
-    too_many 256 i x.process.span ++ (made_in g w r i (meant g x) x ++ seats_faults g (w ++ taken Out (handed_to g i x)) (r ++ taken In (handed_to g i x)) (suc i) xs)
+    too_many most_instances i x.process.span ++ (made_in g w r i (meant g x) x ++ seats_faults g (w ++ taken Out (handed_to g i x)) (r ++ taken In (handed_to g i x)) (suc i) xs)
 
 abbrev pub side_in : Ends → Ends → Name → Role → List CheckFault
 side_in w r n Inner = missing (held (lookup (bytes_eq (bytes_of n)) w)) (NoWriter n.span) ++ missing (held (lookup (bytes_eq (bytes_of n)) r)) (NoReader n.span)

@@ -12,7 +12,8 @@ ghost use Rattle.kahn_check.specs.Tables.{misplaced_in, place_faults, taken};
 use crate::expression::agree;
 use crate::fault::CheckFault;
 use crate::globals::{Entry, Globals};
-use crate::sides::{Side, Sides};
+use crate::names::Sides;
+use kahn_network::sides::Side;
 use kahn_tree::tree::{Argument, Direction, Kind, Name, Role, Taking};
 
 /// Whether no instance may stand at that side of the channel.
@@ -49,7 +50,7 @@ pub fn hand_over(
 {
     match globals.find(name) {
         None => Err(CheckFault::Unknown(name.span)),
-        Some(Entry::Process(_)) => Err(CheckFault::ChannelExpected(name.span)),
+        Some(Entry::Process(_, _)) => Err(CheckFault::ChannelExpected(name.span)),
         Some(Entry::Channel(found, role)) => {
             agree(kind, found, name.span)?;
             if closed(direction, role) {
@@ -57,7 +58,7 @@ pub fn hand_over(
             }
             match side.find(name) {
                 Some(_) => Err(second(direction, name)),
-                None => side.hand(name, end),
+                None => side.add(name, end),
             }
         }
     }

@@ -1,16 +1,20 @@
 //! The declarations of a program, in text order.
 
-ghost use Rattle.std.specs.Prelude.{◌≡◌, ◌≤◌, ◌+◌, ◌++◌, [], MatchResult, map, length};
+ghost use Rattle.std.specs.Prelude.{◌≡◌, ◌≤◌, ◌+◌, ◌++◌, [], List, MatchResult, OnOk, map, length};
 ghost use Rattle.kahn_check.specs.Faults.{IsMet};
-ghost use Rattle.kahn_check.specs.Globals.{known};
-ghost use Rattle.kahn_network.specs.Wiring.{entries, declared_of, IsChannel};
-ghost use Rattle.kahn_check.specs.Order.{channel_faults, declaration_faults};
+ghost use Rattle.kahn_check.specs.Globals.{known, ArePlaced, IsTable};
+ghost use Rattle.kahn_network.specs.Wiring.{entries, IsChannel};
+ghost use Rattle.kahn_tree.specs.declared.tree.Declaration.{Declaration};
+ghost use Rattle.kahn_check.specs.Order.{most_channels, channel_faults, declaration_faults};
 
 use crate::fault::CheckFault;
 use crate::globals::{Entry, Globals};
 use crate::process::check_process;
 use kahn_tree::tree::{Declaration, Kind, Name, Program, Role};
 use std::alloc::Global;
+
+/// The most channels of a program.
+const MOST_CHANNELS: usize = 1024;
 
 /// The names of a channel declaration, of which `count` are declared before. Answers how many are declared then.
 #[tactic(auto, using(crate::proofs::Declared::channel_new, crate::proofs::Declared::channel_limit, crate::proofs::Declared::channel_known, crate::proofs::Declared::more_channels))]
@@ -21,12 +25,13 @@ pub fn channels<'p>(
     role: Role,
     names: &[Name],
 ) -> Result<usize, CheckFault>
-    requires { count ≤ 1024 }
-    ensures { MatchResult result (λ n. (n ≡ count + length names.now) × (n ≤ 1024) × (known globals.new ≡ known globals.old ++ entries (map (λ x. (x, IsChannel kind role)) names.now)) × (channel_faults (known globals.old) count kind role names.now ≡ [])) (λ f. IsMet (channel_faults (known globals.old) count kind role names.now) f) }
+    requires { count ≤ most_channels }
+    ensures met { MatchResult result (λ n. (n ≡ count + length names.now) × (n ≤ most_channels) × (known globals.new ≡ known globals.old ++ entries (map (λ x. (x, IsChannel kind role)) names.now)) × (channel_faults (known globals.old) count kind role names.now ≡ [])) (λ f. IsMet (channel_faults (known globals.old) count kind role names.now) f) }
+    ensures placed { OnOk result ((ds : List Declaration) → ArePlaced ds globals.old → ArePlaced ds globals.new) }
 {
     let mut declared = count;
     for name in names {
-        if declared >= 1024 {
+        if declared >= MOST_CHANNELS {
             return Err(CheckFault::TooMany(name.span));
         }
         globals.declare(name, Entry::Channel(kind, role))?;
@@ -38,17 +43,17 @@ pub fn channels<'p>(
 /// What the names of the program stand for, where no declaration is wrong.
 #[tactic(auto, using(crate::proofs::Declared::channels_done, crate::proofs::Declared::channels_met, crate::proofs::Declared::process_done, crate::proofs::Declared::process_known, crate::proofs::Declared::process_met, crate::proofs::Declared::more_declared, crate::proofs::Declared::more_process))]
 pub fn declarations<'p>(alloc: Global, program: &'p Program) -> Result<Globals<'p>, CheckFault>
-    ensures { MatchResult result (λ g. (known g ≡ entries (declared_of program.now.declarations.items)) × (declaration_faults [] 0 program.now.declarations.items ≡ [])) (λ f. IsMet (declaration_faults [] 0 program.now.declarations.items) f) }
+    ensures { MatchResult result (λ g. IsTable program.now.declarations.items g × (declaration_faults [] 0 program.now.declarations.items ≡ [])) (λ f. IsMet (declaration_faults [] 0 program.now.declarations.items) f) }
 {
     let mut globals = Globals::new(alloc);
     let mut count = 0;
-    for declaration in &program.declarations {
+    for (number, declaration) in program.declarations.iter().enumerate() {
         match declaration {
             Declaration::Channels(kind, role, names) => {
                 count = channels(&mut globals, count, *kind, *role, names)?;
             }
             Declaration::Process(process) => {
-                globals.declare(&process.name, Entry::Process(process))?;
+                globals.declare(&process.name, Entry::Process(number, process))?;
                 check_process(alloc, process)?;
             }
         }

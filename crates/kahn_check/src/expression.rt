@@ -6,7 +6,7 @@ ghost use Rattle.kahn_network.specs.Kinds.{takes, gives};
 ghost use Rattle.kahn_tree.specs.View.{bytes_of};
 
 use crate::fault::CheckFault;
-use crate::scope::Scope;
+use crate::names::Scope;
 use kahn_tree::span::Span;
 use kahn_tree::tree::{Direction, Expression, Form, Kind, Name, Operator, Taking};
 
@@ -60,6 +60,14 @@ pub fn agree(wanted: Kind, found: Kind, span: Span) -> Result<(), CheckFault>
             Err(CheckFault::WrongKind(span))
         }
     }
+}
+
+/// The kind that is wanted, where it is the one that was found.
+pub fn agreed(wanted: Kind, found: Kind, span: Span) -> Result<Kind, CheckFault>
+    ensures { result ≡ verdict (wrong wanted found span) wanted }
+{
+    agree(wanted, found, span)?;
+    Ok(wanted)
 }
 
 /// The kind of the variable or value parameter of that name.
@@ -124,16 +132,8 @@ pub fn kind(scope: &Scope, expression: &Expression) -> Result<Kind, CheckFault>
         Form::Logical(_) => Ok(Kind::Logical),
         Form::Variable(name) => variable(scope, name),
         Form::Wait(name) => channel(scope, name, Direction::In),
-        Form::Negate(inner) => {
-            let found = kind(scope, inner)?;
-            agree(Kind::Integer, found, inner.span)?;
-            Ok(Kind::Integer)
-        }
-        Form::Not(inner) => {
-            let found = kind(scope, inner)?;
-            agree(Kind::Logical, found, inner.span)?;
-            Ok(Kind::Logical)
-        }
+        Form::Negate(inner) => agreed(Kind::Integer, kind(scope, inner)?, inner.span),
+        Form::Not(inner) => agreed(Kind::Logical, kind(scope, inner)?, inner.span),
         Form::Bracket(inner) => kind(scope, inner),
         Form::Level(first, rest) => {
             let mut before = kind(scope, first)?;
@@ -151,12 +151,9 @@ pub fn kind(scope: &Scope, expression: &Expression) -> Result<Kind, CheckFault>
             Ok(before)
         }
         Form::Conditional(test, yes, no) => {
-            let found = kind(scope, test)?;
-            agree(Kind::Logical, found, test.span)?;
+            agree(Kind::Logical, kind(scope, test)?, test.span)?;
             let first = kind(scope, yes)?;
-            let second = kind(scope, no)?;
-            agree(first, second, no.span)?;
-            Ok(first)
+            agreed(first, kind(scope, no)?, no.span)
         }
     }
 }
@@ -166,6 +163,5 @@ pub fn kind(scope: &Scope, expression: &Expression) -> Result<Kind, CheckFault>
 pub fn expect(scope: &Scope, expression: &Expression, wanted: Kind) -> Result<(), CheckFault>
     ensures { result ≡ verdict (faults_as wanted scope.now expression.now) tt }
 {
-    let found = kind(scope, expression)?;
-    agree(wanted, found, expression.span)
+    agree(wanted, kind(scope, expression)?, expression.span)
 }

@@ -2,16 +2,21 @@
 
 ghost use Rattle.std.specs.Prelude.{◌≡◌, ◌++◌, [], MatchResult, length};
 ghost use Rattle.kahn_check.specs.Faults.{IsMet};
-ghost use Rattle.kahn_check.specs.Globals.{known};
+ghost use Rattle.kahn_check.specs.Globals.{known, IsTable};
 ghost use Rattle.kahn_network.specs.Wiring.{handed_in};
-ghost use Rattle.kahn_check.specs.Tables.{places_faults, taken, handed_all, seats_faults};
+ghost use Rattle.kahn_check.specs.Seats.{AreSeated};
+ghost use Rattle.kahn_check.specs.Tables.{places_faults, taken, seats_faults};
 
 use crate::argument::place;
 use crate::fault::CheckFault;
 use crate::globals::{Entry, Globals};
-use crate::sides::{Side, Sides};
-use kahn_tree::tree::{Argument, Direction, Instance, Parameter};
+use crate::names::Sides;
+use kahn_network::sides::Side;
+use kahn_tree::tree::{Argument, Direction, Parameter, Program};
 use std::alloc::Global;
+
+/// The most instances of a program.
+const MOST_INSTANCES: usize = 256;
 
 /// The arguments of an instance, one for each parameter.
 #[tactic(auto, using(crate::proofs::Placed::places_step, crate::proofs::Placed::places_met, crate::proofs::Placed::taken_more))]
@@ -42,25 +47,34 @@ pub fn places(
     Ok(())
 }
 
-/// The writers and the readers, where no instance is wrong.
+/// What the instances of a program make of it.
+#[derive(Drop)]
+pub struct Seats {
+    /// Who writes each channel.
+    pub writers: Sides,
+    /// Who reads each channel.
+    pub readers: Sides,
+    /// Where the process of each instance is declared.
+    pub processes: Vec<usize>,
+}
+
+/// The writers, the readers and the processes, where no instance is wrong.
 #[tactic(auto, using(crate::proofs::Placed::seats_limit, crate::proofs::Placed::seats_unknown, crate::proofs::Placed::seats_channel, crate::proofs::Placed::seats_count, crate::proofs::Placed::seats_met, crate::proofs::Placed::seats_step, crate::proofs::Placed::seats_more))]
-pub fn instances(
-    alloc: Global,
-    globals: &Globals,
-    instances: &[Instance],
-) -> Result<(Sides, Sides), CheckFault>
-    ensures { MatchResult result (λ s. (s.0 ≡ taken Direction.Out (handed_all (known globals.now) 0 instances.now)) × (s.1 ≡ taken Direction.In (handed_all (known globals.now) 0 instances.now)) × (seats_faults (known globals.now) [] [] 0 instances.now ≡ [])) (λ f. IsMet (seats_faults (known globals.now) [] [] 0 instances.now) f) }
+pub fn instances(alloc: Global, globals: &Globals, program: &Program) -> Result<Seats, CheckFault>
+    requires { IsTable program.now.declarations.items globals.now }
+    ensures { MatchResult result (AreSeated program.now (known globals.now)) (λ f. IsMet (seats_faults (known globals.now) [] [] 0 program.now.instances.items) f) }
 {
     let mut writers = Sides::new(alloc);
     let mut readers = Sides::new(alloc);
-    for (number, instance) in instances.iter().enumerate() {
-        if number >= 256 {
+    let mut processes = Vec::new(alloc);
+    for (number, instance) in program.instances.iter().enumerate() {
+        if number >= MOST_INSTANCES {
             return Err(CheckFault::TooMany(instance.process.span));
         }
         let Some(entry) = globals.find(&instance.process) else {
             return Err(CheckFault::Unknown(instance.process.span));
         };
-        let Entry::Process(process) = entry else {
+        let Entry::Process(declared, process) = entry else {
             return Err(CheckFault::Unknown(instance.process.span));
         };
         if process.parameters.len() != instance.arguments.len() {
@@ -74,6 +88,11 @@ pub fn instances(
             &process.parameters,
             &instance.arguments,
         )?;
+        processes.push(declared)?;
     }
-    Ok((writers, readers))
+    Ok(Seats {
+        writers,
+        readers,
+        processes,
+    })
 }

@@ -5,8 +5,6 @@ ghost use Rattle.std.specs.Prelude.{◌≡◌, []};
 ghost use Rattle.kahn_check.specs.Order.{faults};
 ghost use Rattle.kahn_network.specs.Wiring.{IsWellWired};
 
-pub use kahn_network::laws::{fit, served, sources};
-
 /// A program is well wired exactly where the walk finds no fault.
 pub fn exact()
     ensures sound { (t : Program) → faults t ≡ [] → IsWellWired t }

@@ -2,17 +2,15 @@
 //! and who writes and who reads each channel.
 #![tactic(auto)]
 
-pub mod argument;
-pub mod declarations;
-pub mod expression;
+mod argument;
+mod declarations;
+mod expression;
 pub mod fault;
-pub mod globals;
-pub mod instance;
+mod globals;
+mod instance;
 pub mod laws;
+mod names;
 pub mod network;
-pub mod numbers;
-pub mod process;
-pub mod scope;
-pub mod sides;
-pub mod statement;
-pub mod wires;
+mod process;
+mod statement;
+mod wires;

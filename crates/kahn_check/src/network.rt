@@ -8,10 +8,8 @@ ghost use Rattle.kahn_network.specs.Wiring.{IsWellWired};
 use crate::declarations::declarations;
 use crate::fault::CheckFault;
 use crate::instance::instances;
-use crate::numbers::processes;
 use crate::wires::all_wires;
-use kahn_network::network::kept;
-pub use kahn_network::network::{Channel as Channel, Instance as Instance, Network as Network};
+use kahn_network::network::{Network, kept};
 use kahn_tree::tree::Program;
 use std::alloc::Global;
 
@@ -22,9 +20,8 @@ pub fn check(alloc: Global, program: Program) -> Result<Network, CheckFault>
     ensures { MatchResult result (λ n. (n ≡ program) × IsWellWired program) (λ f. IsMet (faults program) f) }
 {
     let globals = declarations(alloc, &program)?;
-    let (writers, readers) = instances(alloc, &globals, &program.instances)?;
+    let seats = instances(alloc, &globals, &program)?;
     drop(globals);
-    let wires = all_wires(alloc, &writers, &readers, &program.declarations)?;
-    let places = processes(alloc, &program.declarations, &program.instances)?;
-    Ok(kept(program, wires, places))
+    let wires = all_wires(alloc, &seats.writers, &seats.readers, &program.declarations)?;
+    Ok(kept(program, wires, seats.processes))
 }

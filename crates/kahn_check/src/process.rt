@@ -6,13 +6,13 @@ ghost use Rattle.kahn_network.specs.Wiring.{locals_of, scope_of};
 ghost use Rattle.kahn_check.specs.Order.{twice, process_faults};
 
 use crate::fault::CheckFault;
-use crate::scope::Scope;
+use crate::names::Scope;
 use crate::statement::body;
 use kahn_tree::tree::{Process, Taking};
 use std::alloc::Global;
 
 /// The names of a process, its parameters first and then its variables.
-#[tactic(auto, using(crate::proofs::Names::twice_new, crate::proofs::Names::twice_known, crate::proofs::Names::more_entries))]
+#[tactic(auto, using(crate::proofs::Twice::twice_new, crate::proofs::Twice::twice_known, crate::proofs::Twice::more_entries))]
 pub fn locals(alloc: Global, process: &Process) -> Result<Scope, CheckFault>
     ensures { MatchResult result (λ s. (s ≡ scope_of process.now) × (twice [] (locals_of process.now) ≡ [])) (λ f. IsMet (twice [] (locals_of process.now)) f) }
 {

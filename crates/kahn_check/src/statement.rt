@@ -5,7 +5,7 @@ ghost use Rattle.kahn_check.specs.Faults.{verdict, faults_of, body_faults};
 
 use crate::expression::{agree, channel, expect, kind, variable};
 use crate::fault::CheckFault;
-use crate::scope::Scope;
+use crate::names::Scope;
 use kahn_tree::tree::{Action, Direction, Kind, Statement};
 
 /// The first thing that is wrong in a statement.

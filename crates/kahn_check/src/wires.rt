@@ -8,8 +8,8 @@ ghost use Rattle.kahn_network.specs.Wires.{shown};
 ghost use Rattle.kahn_network.specs.Wiring.{declared_channels};
 
 use crate::fault::CheckFault;
-use crate::sides::Sides;
-pub use kahn_network::wires::Wire;
+use crate::names::Sides;
+use kahn_network::wires::Wire;
 use kahn_tree::tree::{Declaration, Kind, Name, Role};
 use std::alloc::Global;
 
@@ -53,11 +53,8 @@ pub fn make_wire(
     ensures { MatchResult result (λ w. (shown w ≡ line_in writers.now readers.now (name.now, (kind, role))) × (side_in writers.now readers.now name.now role ≡ [])) (λ f. IsMet (side_in writers.now readers.now name.now role) f) }
 {
     side(writers, readers, name, role)?;
-    let Ok(text) = name.text.clone() else {
-        return Err(CheckFault::NoMemory);
-    };
     Ok(Wire {
-        name: text,
+        name: name.text.clone()?,
         kind,
         role,
         writer: writers.find(name),
@@ -78,10 +75,7 @@ pub fn add_wires(
     ensures { MatchResult result (λ u. (map shown wires.new.items ≡ map shown wires.old.items ++ lines_in writers.now readers.now (map (λ n. (n, (kind, role))) names.now)) × (sides_in writers.now readers.now (map (λ n. (n, (kind, role))) names.now) ≡ [])) (λ f. IsMet (sides_in writers.now readers.now (map (λ n. (n, (kind, role))) names.now)) f) }
 {
     for name in names {
-        let next = make_wire(writers, readers, kind, role, name)?;
-        if wires.push(next).is_err() {
-            return Err(CheckFault::NoMemory);
-        }
+        wires.push(make_wire(writers, readers, kind, role, name)?)?;
     }
     Ok(())
 }

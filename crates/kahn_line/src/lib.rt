@@ -3,6 +3,8 @@
 
 mod line;
 mod live;
+mod refusal;
 
 pub use line::{LineFault, Options, read_line};
 pub use live::{LiveOptions, read_live_line};
+pub use refusal::{tell_line, tell_no_memory, tell_words};

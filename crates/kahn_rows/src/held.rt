@@ -5,7 +5,8 @@ ghost use Rattle.kahn_report.specs.Report.{HasItsLines, IsLine};
 
 use crate::programs::{ADD, ALTERNATE, COPIES, COUNT, DIVISION, DOUBLE, FOUR_TURNS, INVERT, TOP};
 use crate::rows::{AMPLE, below, config, reported, shuffled, streams_begin};
-use kahn_check::network::{Network, check};
+use kahn_check::network::check;
+use kahn_network::network::Network;
 use kahn_pool::answer::{Answer, Verdict};
 use kahn_pool::config::Config;
 use kahn_pool::gate::Open;

@@ -8,7 +8,8 @@ ghost use Rattle.kahn_board.specs.Wires.{wires};
 ghost use Rattle.kahn_units.specs.Working.{IsSquare, KeepsShare, HasCell, KeepsCells, KeepsOtherCells};
 
 use kahn_board::{Board, Closed, Draw, Look, Rest, Seat, Told, writer_of};
-use kahn_check::network::{Network, check};
+use kahn_check::network::check;
+use kahn_network::network::Network;
 use kahn_streams::memory::NoMemory;
 use kahn_syntax::parser::parse;
 use std::alloc::Global;

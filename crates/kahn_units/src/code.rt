@@ -6,12 +6,13 @@ ghost use Rattle.kahn_streams.specs.Tokens.{Lists};
 ghost use Rattle.kahn_units.specs.Standing.{Stands};
 
 use crate::rationed::Rationed;
-use kahn_check::network::{Network, check};
+use kahn_check::network::check;
 use kahn_code::cell::Cell;
 use kahn_code::code::{Code, CodeFault, compile};
 use kahn_code::plain::Plain;
 use kahn_code::progress::Pause;
 use kahn_code::steps::Steps;
+use kahn_network::network::Network;
 use kahn_streams::input::Input;
 use kahn_streams::value::{Line, Value};
 use kahn_syntax::parser::parse;

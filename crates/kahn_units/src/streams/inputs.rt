@@ -1,6 +1,7 @@
 //! Inputs of networks: their values, their tokens, and what is refused.
 
-use kahn_check::network::{Network, check};
+use kahn_check::network::check;
+use kahn_network::network::Network;
 use kahn_streams::entries::InputFault;
 use kahn_streams::feeds::FeedFault;
 use kahn_streams::input::Input;

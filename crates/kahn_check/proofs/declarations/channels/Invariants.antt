@@ -1,7 +1,8 @@
-use Rattle.std.proofs.Common.{◌≡◌, ◌≤◌, ◌+◌, ◌++◌, [], map, drop}
-use Rattle.kahn_check.specs.Globals.{known}
-use Rattle.kahn_network.specs.Wiring.{entries, IsChannel}
-use Rattle.kahn_check.specs.Order.{channel_faults}
+use Rattle.std.proofs.Common.{◌≡◌, ◌≤◌, ◌+◌, ◌++◌, List, drop}
+use Rattle.kahn_tree.specs.declared.tree.Declaration.{Declaration}
+use Rattle.kahn_check.specs.Globals.{known, ArePlaced}
+use Rattle.kahn_network.specs.Wiring.{entries}
+use Rattle.kahn_check.specs.Order.{most_channels, channel_faults}
 use Rattle.kahn_network.proofs.Handed.{as_channels}
 use Rattle.kahn_check.proofs.declarations.channels.Given as goal
 
@@ -10,7 +11,8 @@ invariant-loop-name l =
     let rest = drop l.name-index l.names in
     record {
       number : l.declared ≡ l.count + l.name-index;
-      limit : l.declared ≤ 1024;
+      limit : l.declared ≤ most_channels;
       same : channel_faults (known l.globals) l.declared l.kind l.role rest ≡ channel_faults (known l.fn.globals) l.count l.kind l.role l.names;
       all : known l.globals ++ entries (as_channels l.kind l.role rest) ≡ known l.fn.globals ++ entries (as_channels l.kind l.role l.names);
+      placed : (ds : List Declaration) → ArePlaced ds l.fn.globals → ArePlaced ds l.globals;
     }

@@ -1,14 +1,16 @@
 use Rattle.std.proofs.Common.{◌≡◌, ◌≤◌, ◌++◌, [], drop}
-use Rattle.kahn_check.specs.Globals.{known}
+use Rattle.kahn_check.specs.Globals.{known, ArePlaced}
 use Rattle.kahn_network.specs.Wiring.{entries, declared_of}
-use Rattle.kahn_check.specs.Order.{declaration_faults}
+use Rattle.kahn_check.specs.Order.{most_channels, declaration_faults}
 use Rattle.kahn_check.proofs.declarations.declarations.Given as goal
 
-abbrev pub invariant-loop-declaration : goal.invariant-loop-declaration
-invariant-loop-declaration l =
-    let rest = drop l.declaration-index l.program.declarations.items in
+abbrev pub invariant-loop-number : goal.invariant-loop-number
+invariant-loop-number l =
+    let ds = l.program.declarations.items in
+    let rest = drop l.number ds in
     record {
-      limit : l.count ≤ 1024;
-      same : declaration_faults (known l.globals) l.count rest ≡ declaration_faults [] 0 l.program.declarations.items;
-      all : known l.globals ++ entries (declared_of rest) ≡ entries (declared_of l.program.declarations.items);
+      limit : l.count ≤ most_channels;
+      same : declaration_faults (known l.globals) l.count rest ≡ declaration_faults [] 0 ds;
+      all : known l.globals ++ entries (declared_of rest) ≡ entries (declared_of ds);
+      placed : ArePlaced ds l.globals;
     }

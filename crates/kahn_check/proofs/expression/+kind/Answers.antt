@@ -1,4 +1,4 @@
-use Rattle.std.proofs.Common.{rules, ◌≡◌, Ok, sym, ◌∙◌}
+use Rattle.std.proofs.Common.{rules, ◌≡◌, Ok}
 use Rattle.kahn_check.proofs.Walk.{list_start, level_listed, level_kinds}
 use Rattle.kahn_check.specs.Faults.{verdict, faults_in, kind_of}
 use Rattle.kahn_tree.specs.declared.tree.Form.TheViews.{the_lemmas}

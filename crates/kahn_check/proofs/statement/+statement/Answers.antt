@@ -1,4 +1,4 @@
-use Rattle.std.proofs.Common.{rules, arith, ◌≡◌, Ok, sym, ◌∙◌, ◌++◌}
+use Rattle.std.proofs.Common.{rules, arith, ◌≡◌, Ok, ◌++◌}
 use Rattle.kahn_check.proofs.Walk.{row_listed, verdict_ok, verdict_err}
 use Rattle.kahn_check.specs.Faults.{verdict, find, faults_in, kind_of, misused, wrong, kind_in}
 use Rattle.kahn_tree.specs.View.{bytes_of}

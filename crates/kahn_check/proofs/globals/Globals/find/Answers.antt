@@ -1,9 +1,11 @@
-use Rattle.std.proofs.Common.{arith}
-use Rattle.kahn_check.proofs.Global_names.{find_global}
+use Rattle.std.proofs.Common.{◌∙◌, ap, sym, subst, IfSome}
 use Rattle.kahn_tree.specs.View.{bytes_of}
+use Rattle.kahn_check.specs.Globals.{option_global, IsPlaced}
+use Rattle.kahn_check.proofs.Global_names.{find_global, placed_found}
 use Rattle.kahn_check.proofs.globals.Globals.find.Goals as goal
 
-pub returns : goal.returns
-returns c =
-    let h = find_global (bytes_of c.args.name.now) c.args.self.now.names.entries in
-    grind (arith, h)
+pub returns-clause-known : goal.returns-clause-known
+returns-clause-known c = ap option_global c.find.ensures ∙ find_global (bytes_of c.args.name.now) c.args.self.now.names
+
+pub returns-clause-placed : goal.returns-clause-placed
+returns-clause-placed c = λ ds h. subst (λ o. IfSome o (IsPlaced ds)) (sym c.find.ensures) (placed_found ds (bytes_of c.args.name.now) c.args.self.now.names h)

@@ -1,0 +1,70 @@
+//! Names, and what each of them stands for.
+
+ghost use Rattle.std.specs.Prelude.{◌≡◌, ◌++◌, ◌∷◌, [], MatchResult, None, IsSome, ◌⊎◌};
+ghost use Rattle.std.specs.Map.{lookup};
+ghost use Rattle.std.proofs.Common.{bytes_eq};
+ghost use Rattle.kahn_tree.specs.View.{bytes_of};
+
+use crate::fault::CheckFault;
+use indexmap::IndexMap;
+use kahn_network::sides::Side;
+use kahn_tree::tree::{Name, Taking};
+use std::alloc::Global;
+use std::marker::Model;
+
+/// What each name stands for, in the order in which they were added.
+#[derive(Drop)]
+pub struct Names<V> {
+    names: IndexMap<String, V>,
+}
+
+/// What each name that a process body sees stands for.
+pub type Scope = Names<Taking>;
+
+/// By the channel's name, where this side of it is.
+pub type Sides = Names<Side>;
+
+impl<V> Model for Names<V> {
+    ghost use Rattle.std.specs.Prelude.{List, ℕ, map, string_bytes};
+
+    ghost Value = { List (List ℕ × V) };
+
+    ghost view = { λ s. map (λ e. (string_bytes e.0, e.1)) s.names.entries };
+}
+
+impl<V: Copy> Names<V> {
+    /// No names.
+    pub fn new(alloc: Global) -> Names<V>
+        ensures { result ≡ [] }
+    {
+        Names {
+            names: IndexMap::new(alloc),
+        }
+    }
+
+    /// What the name stands for.
+    pub fn find(&self, name: &Name) -> Option<V>
+        ensures { result ≡ lookup (bytes_eq (bytes_of name.now)) self.now }
+    {
+        self.names.get(name.text.as_str()).copied()
+    }
+
+    /// Adds a name that stands for nothing yet.
+    pub fn add(&mut self, name: &Name, what: V) -> Result<(), CheckFault>
+        requires { lookup (bytes_eq (bytes_of name.now)) self.old ≡ None }
+        ensures { MatchResult result (λ u. self.new ≡ self.old ++ (bytes_of name.now, what) ∷ []) (λ f. f ≡ CheckFault.NoMemory) }
+    {
+        self.names.insert(name.text.clone()?, what)?;
+        Ok(())
+    }
+
+    /// Declares a name, which must stand for nothing yet.
+    pub fn declare(&mut self, name: &Name, what: V) -> Result<(), CheckFault>
+        ensures { MatchResult result (λ u. (lookup (bytes_eq (bytes_of name.now)) self.old ≡ None) × (self.new ≡ self.old ++ (bytes_of name.now, what) ∷ [])) (λ f. (f ≡ CheckFault.NoMemory) ⊎ ((f ≡ CheckFault.DeclaredTwice name.now.span) × IsSome (lookup (bytes_eq (bytes_of name.now)) self.old))) }
+    {
+        if self.find(name).is_some() {
+            return Err(CheckFault::DeclaredTwice(name.span));
+        }
+        self.add(name, what)
+    }
+}
