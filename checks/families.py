@@ -70,6 +70,20 @@ def nesting():
     yield refused("66 levels of repeat and begin", "begin process p(); begin " + "repeat begin " * 33, "1:442: nesting is too deep")
 
 
+def filled(part, declarations=""):
+    """A program of one process, whose statements are this part as often as there may be."""
+    return body(part * ((MOST_BYTES - len(body("", declarations))) // len(part)), declarations)
+
+
+def names(most):
+    """Names that differ, as many as so many bytes hold with commas between."""
+    found, left = [], most
+    while left > 0:
+        found.append(f"n{len(found)}")
+        left -= len(found[-1]) + 2
+    return found
+
+
 def long_texts():
     """Texts of as many bytes as there may be, and names of as many letters."""
     silent = "begin process p(); begin repeat begin end end; p() end"
@@ -80,6 +94,11 @@ def long_texts():
     count = (MOST_BYTES - len(body("print 1"))) // 2
     total = ["print 1 p: %d" % (count + 1), "end 1 p: ended after 1", "finished 1"]
     yield row("as many summands as there may be", body("print 1" + "+1" * count), total)
+    yield row("as many comments as there may be", filled("comment;"), ENDED)
+    yield row("as many assignments as there may be", filled("x:=x;", "integer x; "), ENDED)
+    yield row("as many names as there may be", body("", f"integer {', '.join(names(MOST_BYTES - len(body('', 'integer ; ')))[:-1])}; "), ENDED)
+    yield refused("brackets up to the most bytes", "begin process p(); begin print ".ljust(MOST_BYTES, "("), "1:96: nesting is too deep")
+    yield refused("not up to the most bytes", filled("not ", "print "), "1:288: nesting is too deep")
     semicolons = "; " * (MOST_BYTES // 2)
     yield refused("lexemes up to the most bytes", semicolons, "1:1: this cannot stand here")
     yield refused("one byte past lexemes up to the most bytes", semicolons + "?", "program text is too long")

@@ -15,19 +15,6 @@ height And = 7
 height Sum = 3
 height Term = 1
 
-operands_words_more : (os : List Operand) (o : Operand) (r : List Terminal) →
-    operands_words (operands_of (os ++ o ∷ [])) r ≡ operands_words (operands_of os) (operator_terminal o.operator ∷ expression_words (expression_of o.expression) r)
-operands_words_more [] o r = refl
-operands_words_more (u ∷ os) o r = ap (λ x. operator_terminal u.operator ∷ expression_words (expression_of u.expression) x) (operands_words_more os o r)
-
-pub operands_words_next : (input rest after left : List Terminal) (first : ExpressionTree) (os os' : List Operand) (o : Operand) → os' ≡ os ++ o ∷ [] →
-    input ≡ expression_words first (operands_words (operands_of os) rest) → rest ≡ operator_terminal o.operator ∷ after →
-    after ≡ expression_words (expression_of o.expression) left → input ≡ expression_words first (operands_words (operands_of os') left)
-operands_words_next input rest after left first os os' o e p q r =
-    p ∙ ap (λ x. expression_words first (operands_words (operands_of os) x)) (q ∙ ap (λ x. operator_terminal o.operator ∷ x) r)
-    ∙ ap (expression_words first) (sym (operands_words_more os o left))
-    ∙ ap (λ x. expression_words first (operands_words (operands_of x) left)) (sym e)
-
 operands_nesting_more : (os : List Operand) (o : Operand) (m : ℕ) → operands_nesting (operands_of os) ≤ m → expression_nesting (expression_of o.expression) ≤ m →
     operands_nesting (operands_of (os ++ o ∷ [])) ≤ m
 operands_nesting_more [] o m a b = omega arith

@@ -14,6 +14,7 @@ pub mod Rows
 pub mod Runs
 pub mod Signs
 pub mod Spanning
+pub mod Spelled
 pub mod Statements
 pub mod Unique
 pub mod Steps

@@ -6,23 +6,6 @@ use Rattle.kahn_syntax.specs.Terminals.{Terminal, sign}
 use Rattle.kahn_syntax.specs.Trees.{statement_words, statements_words, further_words, statement_nesting, statements_nesting, FormedStatement, FormedStatements, AreSome}
 use Rattle.kahn_syntax.specs.Drawn.{statement_of, statements_of}
 
-further_more : (ss : List Statement) (s : Statement) (r : List Terminal) →
-    further_words (statements_of (ss ++ s ∷ [])) r ≡ further_words (statements_of ss) (sign mark.Semicolon ∷ statement_words (statement_of s) r)
-further_more [] s r = refl
-further_more (u ∷ ss) s r = ap (λ x. sign mark.Semicolon ∷ statement_words (statement_of u) x) (further_more ss s r)
-
-statements_more : (ss : List Statement) (s : Statement) (r : List Terminal) → AreSome (statements_of ss) →
-    statements_words (statements_of (ss ++ s ∷ [])) r ≡ statements_words (statements_of ss) (sign mark.Semicolon ∷ statement_words (statement_of s) r)
-statements_more [] s r h = absurd h
-statements_more (u ∷ ss) s r h = ap (statement_words (statement_of u)) (further_more ss s r)
-
-pub statements_words_next : (input rest after left : List Terminal) (ss ss' : List Statement) (s : Statement) → ss' ≡ ss ++ s ∷ [] → AreSome (statements_of ss) →
-    input ≡ statements_words (statements_of ss) rest → rest ≡ sign mark.Semicolon ∷ after → after ≡ statement_words (statement_of s) left →
-    input ≡ statements_words (statements_of ss') left
-statements_words_next input rest after left ss ss' s e h p q r =
-    p ∙ ap (statements_words (statements_of ss)) (q ∙ ap (λ x. sign mark.Semicolon ∷ x) r) ∙ sym (statements_more ss s left h)
-    ∙ ap (λ x. statements_words (statements_of x) left) (sym e)
-
 formed_more : (ss : List Statement) (s : Statement) → FormedStatements (statements_of ss) → FormedStatement (statement_of s) → FormedStatements (statements_of (ss ++ s ∷ []))
 formed_more [] s h f = (f, tt)
 formed_more (u ∷ ss) s h f = (h.0, formed_more ss s h.1 f)

@@ -30,7 +30,6 @@ pub fn read_expression<'t>(
 ) -> Read<'t, Expression>
     requires depth { depth ≤ 64 }
     requires proper { AreProper text.now input.now }
-    ensures words { IfOk result (λ r. terminals text.now input.now ≡ expression_words (expression_of r.0) (terminals text.now r.1.now)) }
     ensures spans { IfOk result (λ r. ExpressionSpans text.now r.0 input.now r.1.now) }
     ensures fits { IfOk result (λ r. Fits 0 (expression_of r.0)) }
     ensures nesting { IfOk result (λ r. depth + expression_nesting (expression_of r.0) ≤ 64) }
@@ -62,7 +61,6 @@ pub fn read_before<'t>(
     requires depth { depth ≤ 64 }
     requires proper { AreProper text.now input.now }
     requires last { class_of (token_of last) ≡ Some (class.Word last) }
-    ensures words { IfOk result (λ r. terminals text.now input.now ≡ expression_words (expression_of r.0) (word last ∷ terminals text.now r.1.now)) }
     ensures spans { IfOk result (λ r. (a : List Lexeme) × ExpressionSpans text.now r.0 input.now a × Takes text.now (word last) a r.1.now) }
     ensures fits { IfOk result (λ r. Fits 0 (expression_of r.0)) }
     ensures nesting { IfOk result (λ r. depth + expression_nesting (expression_of r.0) ≤ 64) }
@@ -87,7 +85,6 @@ fn read_level<'t>(
 ) -> Read<'t, Expression>
     requires depth { depth ≤ 64 }
     requires proper { AreProper text.now input.now }
-    ensures words { IfOk result (λ r. terminals text.now input.now ≡ expression_words (expression_of r.0) (terminals text.now r.1.now)) }
     ensures spans { IfOk result (λ r. ExpressionSpans text.now r.0 input.now r.1.now) }
     ensures fits { IfOk result (λ r. Fits (rank_of level) (expression_of r.0)) }
     ensures nesting { IfOk result (λ r. depth + expression_nesting (expression_of r.0) ≤ 64) }
@@ -121,7 +118,6 @@ fn read_operand<'t>(
 ) -> Read<'t, Expression>
     requires depth { depth ≤ 64 }
     requires proper { AreProper text.now input.now }
-    ensures words { IfOk result (λ r. terminals text.now input.now ≡ expression_words (expression_of r.0) (terminals text.now r.1.now)) }
     ensures spans { IfOk result (λ r. ExpressionSpans text.now r.0 input.now r.1.now) }
     ensures fits { IfOk result (λ r. Fits (rank_of level + 1) (expression_of r.0)) }
     ensures nesting { IfOk result (λ r. depth + expression_nesting (expression_of r.0) ≤ 64) }
@@ -148,7 +144,6 @@ fn read_denial<'t>(
 ) -> Read<'t, Expression>
     requires depth { depth ≤ 64 }
     requires proper { AreProper text.now input.now }
-    ensures words { IfOk result (λ r. terminals text.now input.now ≡ expression_words (expression_of r.0) (terminals text.now r.1.now)) }
     ensures spans { IfOk result (λ r. ExpressionSpans text.now r.0 input.now r.1.now) }
     ensures fits { IfOk result (λ r. Fits 3 (expression_of r.0)) }
     ensures nesting { IfOk result (λ r. depth + expression_nesting (expression_of r.0) ≤ 64) }
@@ -176,7 +171,6 @@ fn read_relation<'t>(
 ) -> Read<'t, Expression>
     requires depth { depth ≤ 64 }
     requires proper { AreProper text.now input.now }
-    ensures words { IfOk result (λ r. terminals text.now input.now ≡ expression_words (expression_of r.0) (terminals text.now r.1.now)) }
     ensures spans { IfOk result (λ r. ExpressionSpans text.now r.0 input.now r.1.now) }
     ensures fits { IfOk result (λ r. Fits 4 (expression_of r.0)) }
     ensures nesting { IfOk result (λ r. depth + expression_nesting (expression_of r.0) ≤ 64) }
@@ -204,7 +198,6 @@ fn read_factor<'t>(
 ) -> Read<'t, Expression>
     requires depth { depth ≤ 64 }
     requires proper { AreProper text.now input.now }
-    ensures words { IfOk result (λ r. terminals text.now input.now ≡ expression_words (expression_of r.0) (terminals text.now r.1.now)) }
     ensures spans { IfOk result (λ r. ExpressionSpans text.now r.0 input.now r.1.now) }
     ensures fits { IfOk result (λ r. Fits 7 (expression_of r.0)) }
     ensures nesting { IfOk result (λ r. depth + expression_nesting (expression_of r.0) ≤ 64) }
@@ -274,7 +267,6 @@ fn read_wait<'t>(
     requires proper { AreProper text.now rest.now }
     requires follows { length input.now ≡ length rest.now + 1 }
     requires passed { IsPast input.now rest.now }
-    ensures words { IfOk result (λ r. terminals text.now input.now ≡ expression_words (expression_of r.0) (terminals text.now r.1.now)) }
     ensures spans { IfOk result (λ r. ExpressionSpans text.now r.0 input.now r.1.now) }
     ensures fits { IfOk result (λ r. Fits 7 (expression_of r.0)) }
     ensures nesting { IfOk result (λ r. expression_nesting (expression_of r.0) ≡ 0) }

@@ -59,7 +59,6 @@ fn read_statement<'t>(
 ) -> Read<'t, Statement>
     requires depth { depth ≤ 64 }
     requires proper { AreProper text.now input.now }
-    ensures words { IfOk result (λ r. terminals text.now input.now ≡ statement_words (statement_of r.0) (terminals text.now r.1.now)) }
     ensures spans { IfOk result (λ r. StatementSpans text.now r.0 input.now r.1.now) }
     ensures formed { IfOk result (λ r. FormedStatement (statement_of r.0)) }
     ensures nesting { IfOk result (λ r. depth + statement_nesting (statement_of r.0) ≤ 64) }
@@ -101,7 +100,6 @@ fn read_if<'t>(
     requires depth { depth ≤ 64 }
     requires proper { AreProper text.now rest.now }
     requires passed { IsPast input.now rest.now }
-    ensures words { IfOk result (λ r. terminals text.now input.now ≡ statement_words (statement_of r.0) (terminals text.now r.1.now)) }
     ensures spans { IfOk result (λ r. StatementSpans text.now r.0 input.now r.1.now) }
     ensures formed { IfOk result (λ r. FormedStatement (statement_of r.0)) }
     ensures nesting { IfOk result (λ r. depth + statement_nesting (statement_of r.0) ≤ 64) }
@@ -132,7 +130,6 @@ fn read_simple<'t>(
 ) -> Read<'t, Statement>
     requires depth { depth ≤ 64 }
     requires proper { AreProper text.now input.now }
-    ensures words { IfOk result (λ r. terminals text.now input.now ≡ statement_words (statement_of r.0) (terminals text.now r.1.now)) }
     ensures spans { IfOk result (λ r. StatementSpans text.now r.0 input.now r.1.now) }
     ensures formed { IfOk result (λ r. FormedStatement (statement_of r.0)) }
     ensures simple { IfOk result (λ r. IsSimple (statement_of r.0)) }
@@ -181,7 +178,6 @@ fn read_assign<'t>(
     requires depth { depth ≤ 64 }
     requires proper { AreProper text.now input.now }
     requires named { leads NameToken (terminals text.now input.now) ≡ true }
-    ensures words { IfOk result (λ r. terminals text.now input.now ≡ statement_words (statement_of r.0) (terminals text.now r.1.now)) }
     ensures spans { IfOk result (λ r. StatementSpans text.now r.0 input.now r.1.now) }
     ensures formed { IfOk result (λ r. FormedStatement (statement_of r.0)) }
     ensures simple { IfOk result (λ r. IsSimple (statement_of r.0)) }
@@ -216,7 +212,6 @@ fn read_send<'t>(
     requires depth { depth ≤ 64 }
     requires proper { AreProper text.now rest.now }
     requires passed { IsPast input.now rest.now }
-    ensures words { IfOk result (λ r. terminals text.now input.now ≡ statement_words (statement_of r.0) (terminals text.now r.1.now)) }
     ensures spans { IfOk result (λ r. StatementSpans text.now r.0 input.now r.1.now) }
     ensures formed { IfOk result (λ r. FormedStatement (statement_of r.0)) }
     ensures simple { IfOk result (λ r. IsSimple (statement_of r.0)) }

@@ -20,7 +20,7 @@ use Rattle.kahn_syntax.specs.Trees.{operator_terminal, expression_words, operand
 use Rattle.kahn_syntax.specs.Drawn.{operands_of}
 use Rattle.kahn_syntax.specs.Reads.{rank_of}
 use Rattle.kahn_syntax.proofs.Lists.{first_of}
-use Rattle.kahn_syntax.proofs.Levels.{operands_words_next, operands_nesting_next, formed_next}
+use Rattle.kahn_syntax.proofs.Levels.{operands_nesting_next, formed_next}
 use Rattle.kahn_syntax.proofs.parser.expression.+expression.Goals as goal
 
 pub read_level-returns-in_err-first-clause-stops : goal.read_level-returns-in_err-first-clause-stops
@@ -37,7 +37,6 @@ read_level-returns-in_err-expression-clause-stops t c =
 pub read_level-operands-init : goal.read_level-operands-init
 read_level-operands-init t c =
     record {
-      words = c.in_ok-first.ensures.words ∙ ap (λ os. expression_words (expression_of c.in_ok-first.first) (operands_words (operands_of os) (terminals c.args.text.now c.in_ok-first.rest.now))) (sym c.new-further.ensures.items);
       spans = (c.in_ok-first.rest.now, c.in_ok-first.ensures.spans, subst (λ os. OperandsSpan c.args.text.now os c.in_ok-first.rest.now c.in_ok-first.rest.now) (sym c.new-further.ensures.items) refl);
       formed = subst (λ os. FormedOperands (rank_of c.args.level) (operands_of os)) (sym c.new-further.ensures.items) tt;
       nesting = omega (arith, ap (λ os. operands_nesting (operands_of os)) c.new-further.ensures.items, c.in_ok-first.ensures.nesting);
@@ -49,7 +48,6 @@ read_level-operands-init t c =
 pub read_level-operands-preserved : goal.read_level-operands-preserved
 read_level-operands-preserved t c =
     record {
-      words = operands_words_next _ _ _ _ (expression_of c.in_ok-first.first) _ _ _ c.in_ok-push.ensures.items c.operands.invariant.words (c.in-Some.ensures.first c.args.text.now) c.in_ok-expression.ensures.words;
       spans = (c.operands.invariant.spans.0, c.operands.invariant.spans.1, S.operands_next c.args.text.now _ _ _ _ c.operands.rest.now c.in-Some.after.now c.in_ok-expression.left.now c.in_ok-push.ensures.items c.operands.invariant.spans.2 (S.takes c.args.text.now (operator_terminal c.in-Some.operator) c.operands.rest.now c.in-Some.after.now c.in-Some.ensures.passed (c.in-Some.ensures.first c.args.text.now)) c.in_ok-expression.ensures.spans);
       formed = formed_next _ _ _ _ c.in_ok-push.ensures.items c.operands.invariant.formed c.in-Some.ensures.ranked c.in_ok-expression.ensures.fits;
       nesting = operands_nesting_next _ (expression_of c.in_ok-first.first) _ _ _ c.in_ok-push.ensures.items c.operands.invariant.nesting c.in_ok-expression.ensures.nesting;

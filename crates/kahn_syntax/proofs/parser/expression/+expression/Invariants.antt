@@ -33,7 +33,6 @@ decreases-read_relation l = 12 * length l.input.now + 5
 
 abbrev pub invariant-read_level-operands : goal.invariant-read_level-operands
 invariant-read_level-operands l = record {
-  words : terminals l.text l.input ≡ expression_words (expression_of l.first) (operands_words (operands_of l.further.items) (terminals l.text l.rest));
   spans : (a : List Lexeme) × ExpressionSpans l.text l.first l.input a × OperandsSpan l.text l.further.items a l.rest;
   formed : FormedOperands (rank_of l.level) (operands_of l.further.items);
   nesting : l.depth + max (expression_nesting (expression_of l.first)) (operands_nesting (operands_of l.further.items)) ≤ 64;

@@ -11,7 +11,8 @@ use Rattle.kahn_syntax.proofs.Moves.{memory_alone, leads_statement, opens_simple
 use Rattle.kahn_syntax.proofs.Lists.{first_of}
 use Rattle.kahn_syntax.proofs.Spanning as S
 use Rattle.kahn_syntax.proofs.Stacks as K
-use Rattle.kahn_syntax.proofs.Statements.{statements_words_next, formed_next, some_next, nesting_next}
+use Rattle.kahn_syntax.proofs.Spelled.{statements_spelled}
+use Rattle.kahn_syntax.proofs.Statements.{formed_next, some_next, nesting_next}
 use Rattle.kahn_syntax.proofs.parser.statement.+statement.Goals as goal
 
 pub read_statements-returns-in_err-first-clause-stops : goal.read_statements-returns-in_err-first-clause-stops
@@ -28,7 +29,6 @@ read_statements-returns-in_err-statement-clause-stops t c =
 pub read_statements-statements-init : goal.read_statements-statements-init
 read_statements-statements-init t c =
     record {
-      words = search rules;
       spans = S.statements_first c.args.text.now _ c.in_ok-first.first c.args.input.now c.in_ok-first.rest.now (c.in_ok-push.ensures.items ∙ ap (λ xs. xs ++ c.in_ok-first.first ∷ []) c.new-statements.ensures.items) c.in_ok-first.ensures.spans;
       formed = search rules;
       some = search rules;
@@ -41,7 +41,6 @@ read_statements-statements-init t c =
 pub read_statements-statements-preserved : goal.read_statements-statements-preserved
 read_statements-statements-preserved t c =
     record {
-      words = statements_words_next _ _ _ _ _ _ _ c.in_ok-push-2.ensures.items c.statements.invariant.some c.statements.invariant.words (c.in-Some.ensures.first.1 c.args.text.now) c.in_ok-statement.ensures.words;
       spans = S.statements_next c.args.text.now _ _ _ _ c.statements.rest.now c.in-Some.after.now c.in_ok-statement.left.now c.in_ok-push-2.ensures.items c.statements.invariant.spans (S.takes c.args.text.now (sign mark.Semicolon) _ _ c.in-Some.ensures.passed (c.in-Some.ensures.first.1 c.args.text.now)) c.in_ok-statement.ensures.spans;
       formed = formed_next _ _ _ c.in_ok-push-2.ensures.items c.statements.invariant.formed c.in_ok-statement.ensures.formed;
       some = some_next _ _ _ c.in_ok-push-2.ensures.items;
@@ -300,3 +299,8 @@ read_if-returns-clause-spans t c =
     (S.takes T (word keyword.If) c.args.input.now c.args.rest.now c.requires.1.1.1.1.1.1 (c.requires.1.1.0.1 T))
     c.in_ok-test.ensures.spans.1 c.in_ok-test.ensures.spans.2 c.in_ok-yes.ensures.spans
     (S.takes T (word keyword.Else) c.in_ok-yes.rest.now c.in-Some.after.now c.in-Some.ensures.passed (c.in-Some.ensures.first.1 T)) c.in_ok-no.ensures.spans
+
+pub read_statements-returns-clause-words : goal.read_statements-returns-clause-words
+read_statements-returns-clause-words t c =
+    statements_spelled c.args.text.now _ c.args.input.now c.statements.rest.now
+    (S.some_are_statements c.args.text.now _ c.args.input.now c.statements.rest.now c.statements.invariant.spans)

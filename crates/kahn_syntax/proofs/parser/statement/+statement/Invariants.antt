@@ -21,7 +21,6 @@ decreases-read_statements l = 4 * length l.input.now + 3
 
 abbrev pub invariant-read_statements-statements : goal.invariant-read_statements-statements
 invariant-read_statements-statements l = record {
-  words : terminals l.text l.input ≡ statements_words (statements_of l.statements.items) (terminals l.text l.rest);
   spans : SomeStatements l.text l.statements.items l.input l.rest;
   formed : FormedStatements (statements_of l.statements.items);
   some : AreSome (statements_of l.statements.items);
