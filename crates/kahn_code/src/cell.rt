@@ -100,8 +100,9 @@ impl<A: Allocator + Copy + Drop> Cell<A> {
         ensures events { (self.old.events ≤ self.new.events) × (self.new.events ≤ self.old.events + quantum) }
         // Where no event was done, counts and lists are as before.
         ensures still { self.new.events ≡ self.old.events → IsStill self.old self.new }
-        // How many instructions were executed.
+        // How many instructions were executed: at least one for each event.
         ensures cost { steps.new ≤ steps.old + (quantum + 1) * length (stmt_code (instance_at (network_of self.old.network) self.old.instance).body) }
+        ensures counted { steps.old + self.new.events ≤ steps.new + self.old.events }
     {
         let body = &code.bodies[self.progress.instance];
         self.progress.run(body, quantum, ports, steps)
