@@ -22,13 +22,20 @@ gives "a file that isn't there" 5 '' 'kahn: cannot read nothing' nothing
 printf 'begin \377' > bytes
 gives "a text that isn't UTF-8" 5 '' 'kahn: bytes is not UTF-8' bytes
 gives "an empty text" 1 '' 'kahn: 1:1: text ends too early'
+# ends NAME STATUS GIVEN TEST..: compares the status, and runs the test.
+ends() {
+  local name=$1 status=$2 given=$3
+  shift 3
+  if [ "$given" = "$status" ] && "$@"; then pass; else fail "$name: status $given, $(head -c 300 error)"; fi
+}
+
 "$draw" a b > output 2> error < /dev/null
-[ $? = 2 ] && [ ! -s output ] && pass || fail "two words: $(head -c 300 error)"
+ends "two words" 2 $? test ! -s output
 "$draw" --help > output 2> error < /dev/null
-[ $? = 0 ] && grep -q 'dot -Tsvg' output && pass || fail "the help: $(head -c 300 error)"
+ends "the help" 0 $? grep -q 'dot -Tsvg' output
 if [ -e /dev/full ]; then
   "$draw" "$top/examples/count.kahn" > /dev/full 2> error < /dev/null
-  [ $? = 5 ] && [ "$(cat error)" = "kahn: report could not be written" ] && pass || fail "a full disk: $(head -c 300 error)"
+  ends "a full disk" 5 $? grep -qx "kahn: report could not be written" error
 fi
 python3 "$top/checks/draw.py" "$draw" | tee said
 [[ $(tail -n 1 said) =~ ^([0-9]+)\ passed,\ ([0-9]+)\ failed$ ]] || fail "draw.py counts nothing"

@@ -1,3 +1,4 @@
+# shellcheck shell=bash
 # Sourced by kahn, by install.sh and by the scripts here, with top set to the top of the repository: finds the programs.
 
 # sources: every source that the programs are built from, with its hash, one a line.
