@@ -1,15 +1,37 @@
 -- What reading the texts of a run gives.
-use Rattle.std.specs.Prelude.{◌≡◌, ◌≤◌, ◌⊎◌, [], Option, Some, None, length, string_bytes}
+use Rattle.std.specs.Prelude.{◌≡◌, ◌≤◌, ◌⊎◌, ℕ, List, [], Option, Some, None, length, string_bytes}
 use Rattle.std.specs.declared.alloc.Global.{Global}
 use Rattle.std.specs.declared.string.String.{String}
+use Rattle.kahn_report.specs.Reading.{Stands}
 use Rattle.kahn_fault.specs.declared.fault.Fault.{Fault}
 use Rattle.kahn_fault.specs.declared.fault.Fault.TheVariants.{Open, Program, InputText, Work}
-use Rattle.kahn_texts.specs.declared.Texts.{Texts}
+use Rattle.kahn_texts.specs.declared.texts.Texts.{Texts}
+
+-- the most bytes of a program text, and of an input text
+abbrev pub most_program_bytes : ℕ
+most_program_bytes = 1048576
+
+abbrev pub most_input_bytes : ℕ
+most_input_bytes = 16777216
+
+-- why a program text wasn't read, by what came from the reader, and the path that was given
+abbrev pub StandsForProgram : Option (String Global) → Option (List ℕ) → Option (List ℕ) → Fault → Type 0
+StandsForProgram given old new (Program path fault) = (given ≡ path) × Stands old new most_program_bytes fault
+StandsForProgram given old new (Open path) = ⊥
+StandsForProgram given old new (InputText path fault) = ⊥
+StandsForProgram given old new (Work fault) = ⊥
+
+-- the same of an input text
+abbrev pub StandsForInput : String Global → Option (List ℕ) → Option (List ℕ) → Fault → Type 0
+StandsForInput given old new (InputText path fault) = (given ≡ path) × Stands old new most_input_bytes fault
+StandsForInput given old new (Open path) = ⊥
+StandsForInput given old new (Program path fault) = ⊥
+StandsForInput given old new (Work fault) = ⊥
 
 -- each text is within its limit, and the input text is empty where no path is given
 pub record AreWithin (path : Option (String Global)) (texts : Texts) : Type 0 where
-  pub program : length (string_bytes texts.program) ≤ 1048576
-  pub input : length (string_bytes texts.input) ≤ 16777216
+  pub program : length (string_bytes texts.program) ≤ most_program_bytes
+  pub input : length (string_bytes texts.input) ≤ most_input_bytes
   pub empty : path ≡ None → string_bytes texts.input ≡ []
 
 -- a fault of the program text names the path that was given
