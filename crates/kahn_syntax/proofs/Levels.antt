@@ -4,7 +4,7 @@ use Rattle.kahn_tree.specs.declared.tree.Operand.{Operand}
 use Rattle.kahn_syntax.specs.declared.parser.operator.Level.{Level}
 use Rattle.kahn_syntax.specs.declared.parser.operator.Level.TheVariants.{Or, And, Sum, Term}
 use Rattle.kahn_syntax.specs.Terminals.{Terminal}
-use Rattle.kahn_syntax.specs.Trees.{ExpressionTree, level, OperandTrees, no_operand, operand, operator_terminal, expression_words, operands_words, expression_nesting, operands_nesting, rank, FormedOperands}
+use Rattle.kahn_syntax.specs.Trees.{ExpressionTree, level, OperandTrees, no_operand, operand, expression_words, operands_words, expression_nesting, operands_nesting, rank, FormedOperands}
 use Rattle.kahn_syntax.specs.Drawn.{expression_of, operands_of}
 use Rattle.kahn_syntax.specs.Reads.{Fits, joined, rank_of}
 

@@ -1,12 +1,10 @@
 -- Parts of a tree that are read one after another, and the lexemes that they take.
-use Rattle.std.proofs.Common.{◌≡◌, ℕ, List, [], ◌∷◌, ◌++◌, map, length, refl, sym, ap, ◌∙◌, subst, append_assoc, append-nil, arith, get_or, take, drop, ◌-◌, ◌≤◌}
+use Rattle.std.proofs.Common.{◌≡◌, ℕ, List, [], ◌∷◌, ◌++◌, length, refl, sym, ap, ◌∙◌, subst, append_assoc, append-nil, arith, get_or, take, drop, ◌-◌, ◌≤◌}
 use Rattle.kahn_syntax.specs.declared.lexeme.Keyword.TheVariants as keyword
 use Rattle.kahn_syntax.specs.declared.lexeme.Sign.TheVariants as mark
 use Rattle.kahn_syntax.specs.declared.lexeme.Lexeme.{Lexeme}
-use Rattle.kahn_tree.specs.declared.span.Span.{Span}
 use Rattle.kahn_tree.specs.declared.tree.Name.{Name}
 use Rattle.kahn_tree.specs.declared.tree.Operand.{Operand}
-use Rattle.kahn_tree.specs.declared.tree.Expression.{Expression}
 use Rattle.kahn_tree.specs.declared.tree.Statement.{Statement}
 use Rattle.kahn_tree.specs.declared.tree.Kind.{Kind}
 use Rattle.kahn_tree.specs.declared.tree.Taking.{Taking}

@@ -1,9 +1,7 @@
 -- Statements that are read one after another.
-use Rattle.std.proofs.Common.{◌≡◌, ℕ, ◌+◌, ◌≤◌, max, List, [], ◌∷◌, ◌++◌, refl, sym, ap, ◌∙◌, arith}
-use Rattle.kahn_syntax.specs.declared.lexeme.Sign.TheVariants as mark
+use Rattle.std.proofs.Common.{◌≡◌, ℕ, ◌+◌, ◌≤◌, max, List, [], ◌∷◌, ◌++◌, ap, arith}
 use Rattle.kahn_tree.specs.declared.tree.Statement.{Statement}
-use Rattle.kahn_syntax.specs.Terminals.{Terminal, sign}
-use Rattle.kahn_syntax.specs.Trees.{statement_words, statements_words, further_words, statement_nesting, statements_nesting, FormedStatement, FormedStatements, AreSome}
+use Rattle.kahn_syntax.specs.Trees.{statement_nesting, statements_nesting, FormedStatement, FormedStatements, AreSome}
 use Rattle.kahn_syntax.specs.Drawn.{statement_of, statements_of}
 
 formed_more : (ss : List Statement) (s : Statement) → FormedStatements (statements_of ss) → FormedStatement (statement_of s) → FormedStatements (statements_of (ss ++ s ∷ []))

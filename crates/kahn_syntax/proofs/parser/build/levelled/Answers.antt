@@ -1,10 +1,9 @@
-use Rattle.std.proofs.Common.{List, [], ◌∷◌, sym, subst, ◌≡◌, ap, ◌∙◌, length, true, rules, vec_len}
+use Rattle.std.proofs.Common.{sym, subst, ◌≡◌, ap, ◌∙◌, length, true, rules, vec_len}
 use Rattle.std.specs.Prelude.{◌==◌}
 use Rattle.kahn_syntax.specs.Drawn.{form_of, operands_row}
 use Rattle.kahn_tree.specs.declared.tree.Form.TheBlock.{hidden-the_row-Operand-0}
 use Rattle.kahn_syntax.specs.Trees.{level}
-use Rattle.kahn_tree.specs.declared.tree.Operand.{Operand}
-use Rattle.kahn_syntax.specs.Spans.{ExpressionSpans, OperandsSpan}
+use Rattle.kahn_syntax.specs.Spans.{ExpressionSpans}
 use Rattle.kahn_syntax.proofs.Rows.{operands_made, operands_row_spans}
 use Rattle.kahn_syntax.proofs.Levels.{joined_made}
 use Rattle.kahn_syntax.proofs.Spanning.{no_operands}

@@ -3,11 +3,11 @@ use Rattle.std.proofs.lemmas.Result.{err_from_is_err_and}
 use Rattle.kahn_syntax.specs.declared.lexeme.Keyword.TheVariants as keyword
 use Rattle.kahn_syntax.specs.declared.lexeme.Sign.TheVariants as mark
 use Rattle.kahn_syntax.specs.declared.lexeme.Class.TheVariants as class
-use Rattle.kahn_syntax.specs.Terminals.{word, sign, name, number, terminals}
+use Rattle.kahn_syntax.specs.Terminals.{word, sign, number, terminals}
 use Rattle.kahn_syntax.specs.Rungs.{whole, ors, denials, relations, sums, factors, rung_of, tighter}
-use Rattle.kahn_syntax.specs.Machine.{BecomesToken, BeginToken, ChannelToken, CloseToken, CommaToken, DoToken, ElseToken, EndToken, IfToken, NameToken, NotToken, NumberToken, OnToken, OpenToken, ParToken, ProcessToken, SemicolonToken, ThenToken, NamesTail, StatementsTail, GroupsTail, ArgumentsTail, InstancesTail, ElseTail, LastTail, ProgramPart, DeclarationsPart, DeclarationPart, ProcessPart, RolePart, GroupsPart, GroupPart, TakingPart, VariablesPart, StatementPart, SimplePart, ExpressionPart, OperatorsPart, InstancePart, ArgumentsPart, ArgumentPart, TailPart, TokenPart, LevelPart}
-use Rattle.kahn_syntax.specs.Drawn.{name_of, expression_of, statement_of}
-use Rattle.kahn_syntax.proofs.Moves.{opens_whole, opens_denial, opens_chain, operators_end, comparison, level_chain, operator_more, level_end, only_memory, leads_factor, no_factor, reads_by, stops_by, then, then_stops, call, call_stops, call_two, call_two_stops, one, deep, token, expected, goes, ends, level_ends, absent, unexpected, no_name, no_memory}
+use Rattle.kahn_syntax.specs.Machine.{CloseToken, ElseToken, ThenToken, ExpressionPart, OperatorsPart, TokenPart, LevelPart}
+use Rattle.kahn_syntax.specs.Drawn.{expression_of}
+use Rattle.kahn_syntax.proofs.Moves.{opens_whole, opens_chain, operators_end, comparison, level_chain, operator_more, only_memory, leads_factor, no_factor, reads_by, stops_by, then, then_stops, call, call_stops, call_two_stops, one, deep, expected, level_ends, unexpected}
 use Rattle.std.proofs.Common.{w64}
 use Rattle.std.proofs.lemmas.Int.{to_z-of_z}
 use Rattle.kahn_syntax.proofs.Negative.{number_fits}
@@ -16,7 +16,7 @@ use Rattle.kahn_syntax.specs.Spans.{Takes, OperandsSpan}
 use Rattle.kahn_syntax.proofs.Spanning as S
 use Rattle.kahn_syntax.proofs.Stacks as K
 use Rattle.kahn_syntax.specs.Machine.{token_of}
-use Rattle.kahn_syntax.specs.Trees.{operator_terminal, expression_words, operands_words, operands_nesting, FormedOperands}
+use Rattle.kahn_syntax.specs.Trees.{operator_terminal, operands_nesting, FormedOperands}
 use Rattle.kahn_syntax.specs.Drawn.{operands_of}
 use Rattle.kahn_syntax.specs.Reads.{rank_of}
 use Rattle.kahn_syntax.proofs.Lists.{first_of}
@@ -288,6 +288,8 @@ read_before-returns-clause-reads t c =
 
 pub read_before-returns-clause-spans : goal.read_before-returns-clause-spans
 read_before-returns-clause-spans t c =
-    let T = c.args.text.now in
-    (c.in_ok-expression.rest.now, c.in_ok-expression.ensures.spans,
-    S.takes T (word c.args.last) c.in_ok-expression.rest.now c.in_ok-rest.rest.now c.in_ok-rest.ensures.passed (c.in_ok-rest.ensures.first.1 T))
+    let T = c.args.text.now in (
+      c.in_ok-expression.rest.now,
+      c.in_ok-expression.ensures.spans,
+      S.takes T (word c.args.last) c.in_ok-expression.rest.now c.in_ok-rest.rest.now c.in_ok-rest.ensures.passed (c.in_ok-rest.ensures.first.1 T),
+    )

@@ -1,8 +1,8 @@
-use Rattle.std.proofs.Common.{◌≡◌, ◌≤◌, ◌<◌, ◌+◌, ◌*◌, List, [], ◌∷◌, length, max}
+use Rattle.std.proofs.Common.{◌≤◌, ◌<◌, ◌+◌, ◌*◌, List, [], ◌∷◌, length, max}
 use Rattle.kahn_syntax.specs.declared.lexeme.Lexeme.{Lexeme}
 use Rattle.kahn_syntax.specs.Spans.{ExpressionSpans, OperandsSpan}
-use Rattle.kahn_syntax.specs.Terminals.{terminals, AreProper}
-use Rattle.kahn_syntax.specs.Trees.{expression_words, operands_words, expression_nesting, operands_nesting, FormedOperands}
+use Rattle.kahn_syntax.specs.Terminals.{AreProper}
+use Rattle.kahn_syntax.specs.Trees.{expression_nesting, operands_nesting, FormedOperands}
 use Rattle.kahn_syntax.specs.Drawn.{expression_of, operands_of}
 use Rattle.kahn_syntax.specs.Reads.{rank_of, Moves}
 use Rattle.kahn_syntax.specs.Rungs.{rung_of}

@@ -1,13 +1,13 @@
-use Rattle.std.proofs.Common.{refl, [], ◌∷◌, arith, sym, ap, ◌∙◌}
+use Rattle.std.proofs.Common.{refl, [], ◌∷◌, arith}
 use Rattle.std.proofs.lemmas.Result.{err_from_is_err_and}
 use Rattle.kahn_syntax.specs.declared.lexeme.Keyword.TheVariants as keyword
 use Rattle.kahn_syntax.specs.declared.lexeme.Sign.TheVariants as mark
 use Rattle.kahn_syntax.specs.declared.lexeme.Class.TheVariants as class
-use Rattle.kahn_syntax.specs.Terminals.{word, sign, name, terminals}
-use Rattle.kahn_syntax.specs.Rungs.{whole, ors, denials, relations, sums, factors, rung_of, tighter}
-use Rattle.kahn_syntax.specs.Machine.{BecomesToken, BeginToken, ChannelToken, CloseToken, CommaToken, DoToken, ElseToken, EndToken, IfToken, NameToken, NotToken, NumberToken, OnToken, OpenToken, ParToken, ProcessToken, SemicolonToken, ThenToken, NamesTail, StatementsTail, GroupsTail, ArgumentsTail, InstancesTail, ElseTail, LastTail, ProgramPart, DeclarationsPart, DeclarationPart, ProcessPart, RolePart, GroupsPart, GroupPart, TakingPart, VariablesPart, StatementPart, SimplePart, ExpressionPart, OperatorsPart, InstancePart, ArgumentsPart, ArgumentPart, TailPart, TokenPart, LevelPart}
-use Rattle.kahn_syntax.specs.Drawn.{name_of, expression_of, statement_of}
-use Rattle.kahn_syntax.proofs.Moves.{then, then_stops, call, call_stops, call_two, call_two_stops, one, deep, token, expected, goes, ends, level_ends, absent, unexpected, no_name, no_memory}
+use Rattle.kahn_syntax.specs.Terminals.{word, name}
+use Rattle.kahn_syntax.specs.Rungs.{factors}
+use Rattle.kahn_syntax.specs.Machine.{CloseToken, NameToken, OpenToken, ExpressionPart, TokenPart}
+use Rattle.kahn_syntax.specs.Drawn.{name_of}
+use Rattle.kahn_syntax.proofs.Moves.{then, then_stops, one, token, expected, unexpected, no_name}
 use Rattle.kahn_syntax.proofs.parser.expression.read_wait.Goals as goal
 
 pub returns-in_err-rest-clause-stops : goal.returns-in_err-rest-clause-stops

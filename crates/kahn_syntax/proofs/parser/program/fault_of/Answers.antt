@@ -1,4 +1,4 @@
-use Rattle.std.proofs.Common.{◌≡◌, ◌<◌, ◌≤◌, ap, ◌∙◌, refl, subst, true, false, arith}
+use Rattle.std.proofs.Common.{ap, ◌∙◌, refl, subst}
 use Rattle.kahn_syntax.specs.declared.parser.cursor.Stop.TheVariants.{Refused}
 use Rattle.kahn_syntax.specs.Terminals.{terminals}
 use Rattle.kahn_syntax.specs.Reads.{Halts}

@@ -1,8 +1,8 @@
-use Rattle.std.proofs.Common.{◌≡◌, ◌≤◌, ◌+◌, ◌*◌, [], ◌∷◌, length}
-use Rattle.kahn_syntax.specs.Terminals.{terminals, AreProper}
+use Rattle.std.proofs.Common.{◌≤◌, ◌+◌, ◌*◌, [], ◌∷◌, length}
+use Rattle.kahn_syntax.specs.Terminals.{AreProper}
 use Rattle.kahn_syntax.specs.Machine.{StatementsTail, StatementPart, TailPart}
 use Rattle.kahn_syntax.specs.Reads.{Moves}
-use Rattle.kahn_syntax.specs.Trees.{statements_words, statements_nesting, FormedStatements, AreSome}
+use Rattle.kahn_syntax.specs.Trees.{statements_nesting, FormedStatements, AreSome}
 use Rattle.kahn_syntax.specs.Drawn.{statements_of}
 use Rattle.kahn_syntax.proofs.Spanning.{SomeStatements}
 use Rattle.kahn_syntax.proofs.parser.statement.+statement.Given as goal

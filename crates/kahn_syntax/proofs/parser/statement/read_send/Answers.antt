@@ -1,15 +1,13 @@
-use Rattle.std.proofs.Common.{rules, ◌≡◌, false, refl, [], ◌∷◌, arith, sym, ap, ◌∙◌, subst}
+use Rattle.std.proofs.Common.{refl, [], ◌∷◌, arith}
 use Rattle.std.proofs.lemmas.Result.{err_from_is_err_and}
 use Rattle.kahn_syntax.specs.declared.lexeme.Keyword.TheVariants as keyword
-use Rattle.kahn_syntax.specs.declared.lexeme.Sign.TheVariants as mark
-use Rattle.kahn_syntax.specs.declared.lexeme.Class.TheVariants as class
-use Rattle.kahn_syntax.specs.Terminals.{word, sign, name, terminals}
-use Rattle.kahn_syntax.specs.Rungs.{whole, ors, denials, relations, sums, factors, rung_of, tighter}
-use Rattle.kahn_syntax.specs.Machine.{BecomesToken, BeginToken, ChannelToken, CloseToken, CommaToken, DoToken, ElseToken, EndToken, IfToken, NameToken, NotToken, NumberToken, OnToken, OpenToken, ParToken, ProcessToken, SemicolonToken, ThenToken, NamesTail, StatementsTail, GroupsTail, ArgumentsTail, InstancesTail, ElseTail, LastTail, ProgramPart, DeclarationsPart, DeclarationPart, ProcessPart, RolePart, GroupsPart, GroupPart, TakingPart, VariablesPart, StatementPart, SimplePart, ExpressionPart, OperatorsPart, InstancePart, ArgumentsPart, ArgumentPart, TailPart, TokenPart, LevelPart}
-use Rattle.kahn_syntax.specs.Drawn.{name_of, expression_of, statement_of}
+use Rattle.kahn_syntax.specs.Terminals.{word, name}
+use Rattle.kahn_syntax.specs.Rungs.{whole}
+use Rattle.kahn_syntax.specs.Machine.{NameToken, OnToken, SimplePart, ExpressionPart, TokenPart}
+use Rattle.kahn_syntax.specs.Drawn.{name_of}
 use Rattle.kahn_syntax.proofs.Spanning as S
 use Rattle.kahn_syntax.proofs.Stacks as K
-use Rattle.kahn_syntax.proofs.Moves.{memory_alone, leads_statement, opens_simple, leads_simple, simple_ends, reads_by, stops_by, then, then_stops, call, call_stops, call_two, call_two_stops, one, deep, token, expected, goes, ends, level_ends, absent, unexpected, no_name, no_memory}
+use Rattle.kahn_syntax.proofs.Moves.{then, then_stops, call_two_stops, token, no_name}
 use Rattle.kahn_syntax.proofs.parser.statement.read_send.Goals as goal
 
 pub returns-in_err-value-clause-stops : goal.returns-in_err-value-clause-stops
@@ -41,7 +39,15 @@ returns-clause-reads c =
 
 pub returns-clause-spans : goal.returns-clause-spans
 returns-clause-spans c =
-    let T = c.args.text.now in
-    (c.reach.ensures, (c.args.rest.now, c.in_ok-value.ensures.spans.0, c.in_ok-value.rest.now,
-    S.takes T (word keyword.Send) c.args.input.now c.args.rest.now c.requires.passed (c.requires.first.1 T),
-    c.in_ok-value.ensures.spans.1, c.in_ok-value.ensures.spans.2, c.in_ok-name.ensures.spans))
+    let T = c.args.text.now in (
+      c.reach.ensures,
+      (
+        c.args.rest.now,
+        c.in_ok-value.ensures.spans.0,
+        c.in_ok-value.rest.now,
+        S.takes T (word keyword.Send) c.args.input.now c.args.rest.now c.requires.passed (c.requires.first.1 T),
+        c.in_ok-value.ensures.spans.1,
+        c.in_ok-value.ensures.spans.2,
+        c.in_ok-name.ensures.spans,
+      ),
+    )
