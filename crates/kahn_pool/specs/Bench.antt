@@ -1,5 +1,5 @@
 -- A run over cells.
-use Rattle.std.specs.Prelude.{◌≡◌, ◌⊎◌, ℕ, ◌+◌, ◌<◌, ◌≤◌, Bool, true, false, List, length, map, sum_by, Option, Some, slice_get, cond}
+use Rattle.std.specs.Prelude.{◌≡◌, ◌⊎◌, ℕ, ◌+◌, ◌<◌, ◌≤◌, Bool, true, false, List, length, map, sum_by, Option, Some, slice_get, slice_set, cond}
 use Rattle.kahn_streams.specs.Script as script
 use Rattle.kahn_streams.specs.Script.{Dry, Cut}
 use Rattle.kahn_streams.specs.Meaning.{Store}
@@ -39,6 +39,18 @@ IsPaused s p pause.NoMemory o = o ≡ Cut
 pub record Paused (s : State) (p : ℕ) (z : Pause) : Type 0 where
   pub stood : Stood s.network s.input s.watch p (view_at s.cells p)
   pub told : IsPaused s p z (exec_at s.network (events_at s p) p stood.tapes).outcome
+
+-- the cell of p was run for at most so many events, and paused so
+pub record HasRun (s t : State) (p quantum : ℕ) (z : Pause) : Type 0 where
+  pub same : (t.network ≡ s.network) × (t.input ≡ s.input) × (t.watch ≡ s.watch)
+  -- the other cells are left as they are
+  pub only : t.cells ≡ slice_set s.cells p (view_at t.cells p)
+  pub events : (events_at s p ≤ events_at t p) × (events_at t p ≤ events_at s p + quantum)
+  -- where no event was done all is as before
+  pub still : events_at t p ≡ events_at s p → t ≡ s
+  pub paused : Paused t p z
+  pub spent : z ≡ pause.Spent → events_at t p ≡ events_at s p + quantum
+  pub wanted : z ≡ pause.NoMemory → events_at t p < events_at s p + quantum
 
 abbrev pub Rests : State → ℕ → End → Type 0
 Rests s p x = (v : Verdict) → IsAtRest s.network s.input s.watch s.cells v p x

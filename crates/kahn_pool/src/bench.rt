@@ -2,11 +2,10 @@
 
 ghost use Rattle.kahn_network.specs.Network.{instance_at, actual_at, Reads};
 ghost use Rattle.kahn_streams.specs.Solution.{source};
-ghost use Rattle.kahn_pool.specs.Bench.{State, Paused, AreStreams, events_at};
-ghost use Rattle.kahn_pool.specs.Gathered.{view_at, AreWithin, IsFrom};
+ghost use Rattle.kahn_pool.specs.Bench.{State, HasRun, AreStreams, events_at};
+ghost use Rattle.kahn_pool.specs.Gathered.{AreWithin};
 ghost use Rattle.kahn_pool.specs.Right.{stream_lines};
-ghost use Rattle.kahn_code.specs.declared.progress.Pause.TheVariants as pause;
-ghost use Rattle.std.specs.Prelude.{◌≡◌, ℕ, ◌+◌, ◌<◌, ◌≤◌, ◌^◌, length, slice_set, slice_get, IfOk, None, Some};
+ghost use Rattle.std.specs.Prelude.{◌≡◌, ℕ, ◌+◌, ◌<◌, ◌^◌, length};
 
 use crate::answer::Stream;
 use kahn_code::progress::Pause;
@@ -24,15 +23,7 @@ pub trait Bench {
     fn run(&mut self, instance: usize, quantum: u64) -> Pause
         requires here { instance < length (state self.old).network.instances }
         requires bound { events_at (state self.old) instance + quantum < 2 ^ 48 }
-        ensures same { ((state self.new).network ≡ (state self.old).network) × ((state self.new).input ≡ (state self.old).input) × ((state self.new).watch ≡ (state self.old).watch) }
-        // the other cells are left as they are
-        ensures only { (state self.new).cells ≡ slice_set (state self.old).cells instance (view_at (state self.new).cells instance) }
-        ensures events { (events_at (state self.old) instance ≤ events_at (state self.new) instance) × (events_at (state self.new) instance ≤ events_at (state self.old) instance + quantum) }
-        // where no event was done all is as before
-        ensures still { events_at (state self.new) instance ≡ events_at (state self.old) instance → state self.new ≡ state self.old }
-        ensures paused { Paused (state self.new) instance result }
-        ensures spent { result ≡ pause.Spent → events_at (state self.new) instance ≡ events_at (state self.old) instance + quantum }
-        ensures wanted { result ≡ pause.NoMemory → events_at (state self.new) instance < events_at (state self.old) instance + quantum };
+        ensures { HasRun (state self.old) (state self.new) instance quantum result };
 
     /// How many events an instance has done.
     fn events(&self, instance: usize) -> u64

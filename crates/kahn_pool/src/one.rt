@@ -9,6 +9,7 @@ ghost use Rattle.std.specs.Prelude.{◌≡◌, ◌<◌, ◌^◌, ℕ, length, If
 
 use crate::answer::Answer;
 use crate::config::{MOST_BOUND, RunFault};
+use crate::gate::{Gate, Open};
 use crate::laws;
 use crate::rounds::run_bench;
 use crate::workbench::Workbench;
@@ -24,9 +25,10 @@ use std::sync::ledger::{Blank, Ledger};
 const QUANTUM: u64 = 1000;
 
 // Counts steps on a ledger of its own, and runs.
-fn run_opened<L: Ledger>(
+fn run_opened<G: Gate, L: Ledger>(
     alloc: Global,
     blank: Blank,
+    gate: &G,
     network: &Network,
     input: &Input,
     watch: Option<usize>,
@@ -43,14 +45,15 @@ fn run_opened<L: Ledger>(
     let steps = Steps::<L>::open(blank);
     let ends = Vec::with_capacity(alloc, network.instances())?;
     let bench = Workbench::new(alloc, network, input, watch, steps)?;
-    Ok(run_bench(bench, ends, quantum, bound))
+    Ok(run_bench(bench, gate, ends, quantum, bound))
 }
 
-// Runs a network on the caller's thread, with a watched channel or none, each process for at most `quantum` events
-// before the next one. It refuses only where memory was refused
+// Runs a network on the caller's thread over plain queues, with a watched channel or none, each process for at most
+// `quantum` events before the next one. Before each quantum the gate is entered. It refuses only where memory was refused
 // before the first event.
-fn run_watched(
+fn run_watched<G: Gate>(
     alloc: Global,
+    gate: &G,
     network: &Network,
     input: &Input,
     watch: Option<usize>,
@@ -62,7 +65,16 @@ fn run_watched(
     requires bound { bound < 2 ^ 48 }
     ensures { IfOk result (IsRight (network_of network.now) (inputs_of input.now) bound watch) }
 {
-    run_opened::<Brand>(alloc, Blank::new(1), network, input, watch, quantum, bound)
+    run_opened::<G, Brand>(
+        alloc,
+        Blank::new(1),
+        gate,
+        network,
+        input,
+        watch,
+        quantum,
+        bound,
+    )
 }
 
 /// Runs a network on the caller's thread over plain queues, without a watched channel, for at most `bound` events. The
@@ -87,5 +99,5 @@ pub fn run_one(
         return Err(RunFault::BadConfig);
     }
     laws::finished_exactly();
-    Ok(run_watched(alloc, network, &input, None, QUANTUM, bound)?)
+    Ok(run_watched(alloc, &Open, network, &input, None, QUANTUM, bound)?)
 }

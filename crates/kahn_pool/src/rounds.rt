@@ -1,7 +1,7 @@
 //! A run on one thread: round after round, until a round in which nothing was done.
 
 ghost use Rattle.kahn_streams.specs.Solution.{source};
-ghost use Rattle.kahn_pool.specs.Bench.{State, Paused, Rests, Goes, Marked, AreEnds, IsLast, IsVerdict, AreStreams, events_at, all_events, weight};
+ghost use Rattle.kahn_pool.specs.Bench.{State, HasRun, Paused, Rests, Goes, Marked, AreEnds, IsLast, IsVerdict, AreStreams, events_at, all_events, weight};
 ghost use Rattle.kahn_pool.specs.Gathered.{IsFrom};
 ghost use Rattle.kahn_pool.specs.Right.{IsRight, line_of, stream_lines};
 ghost use Rattle.kahn_pool.specs.declared.answer.Outcome.TheVariants as outcome;
@@ -12,6 +12,7 @@ ghost use Rattle.std.specs.Prelude.{◌≡◌, ◌⊎◌, ◌<◌, ◌≤◌, �
 
 use crate::answer::{Answer, End, Outcome, Verdict};
 use crate::bench::Bench;
+use crate::gate::Gate;
 use crate::laws;
 use kahn_code::progress::Pause;
 
@@ -43,6 +44,23 @@ fn end_of<B: Bench>(bench: &B, instance: usize, stopped: Pause) -> End
         outcome,
         events: bench.events(instance),
     }
+}
+
+// Runs a cell for at most so many events, as the bench does. The gate is entered just before, where the cell may go on.
+fn run_gated<B: Bench, G: Gate>(bench: &mut B, gate: &G, instance: usize, quantum: u64) -> Pause
+    requires here { instance < length (B.state bench.old).network.instances }
+    requires bound { events_at (B.state bench.old) instance + quantum < 2 ^ 48 }
+    ensures { HasRun (B.state bench.old) (B.state bench.new) instance quantum result }
+{
+    if quantum == 0 {
+        return bench.run(instance, quantum);
+    }
+    let next = bench.run(instance, 0);
+    if !matches!(next, Pause::Spent) {
+        return next;
+    }
+    gate.enter(instance);
+    bench.run(instance, quantum)
 }
 
 impl Round {
@@ -80,7 +98,7 @@ impl Round {
     }
 
     // Runs one cell.
-    fn step<B: Bench>(&mut self, bench: &mut B, instance: usize)
+    fn step<B: Bench, G: Gate>(&mut self, bench: &mut B, gate: &G, instance: usize)
         requires here { instance < length (B.state bench.old).network.instances }
         requires known { length (B.state bench.old).cells ≡ length (B.state bench.old).network.instances }
         requires bound { all_events (B.state bench.old) + self.old.left < 2 ^ 48 }
@@ -94,7 +112,7 @@ impl Round {
     {
         let before = bench.events(instance);
         let quantum = self.quantum();
-        let stopped = bench.run(instance, quantum);
+        let stopped = run_gated(bench, gate, instance, quantum);
         let done = bench.events(instance) - before;
         self.mark(done, stopped);
         self.ends.push_reserved(end_of(bench, instance, stopped));
@@ -102,8 +120,9 @@ impl Round {
 }
 
 // One round. Its ends go into the list that it is given, which has room for all.
-fn one_round<B: Bench>(
+fn one_round<B: Bench, G: Gate>(
     bench: &mut B,
+    gate: &G,
     mut ends: Vec<End>,
     share: u64,
     left: u64,
@@ -127,13 +146,19 @@ fn one_round<B: Bench>(
         ends,
     };
     for instance in 0..count {
-        round.step(bench, instance);
+        round.step(bench, gate, instance);
     }
     round
 }
 
 // Rounds, until one in which nothing was done.
-fn last_round<B: Bench>(bench: &mut B, ends: Vec<End>, quantum: u64, bound: u64) -> Round
+fn last_round<B: Bench, G: Gate>(
+    bench: &mut B,
+    gate: &G,
+    ends: Vec<End>,
+    quantum: u64,
+    bound: u64,
+) -> Round
     requires share { 0 < quantum }
     requires bound { all_events (B.state bench.old) + bound < 2 ^ 48 }
     requires known { length (B.state bench.old).cells ≡ length (B.state bench.old).network.instances }
@@ -145,7 +170,7 @@ fn last_round<B: Bench>(bench: &mut B, ends: Vec<End>, quantum: u64, bound: u64)
     let mut left = bound;
     let mut memory = false;
     'rounds: loop {
-        let round = one_round(bench, ends, quantum, left, memory);
+        let round = one_round(bench, gate, ends, quantum, left, memory);
         if !round.moved {
             return round;
         }
@@ -170,9 +195,15 @@ pub(crate) fn verdict_of(memory: bool, ends: &[End]) -> Verdict
     Verdict::Finished
 }
 
-/// Runs the cells of a bench on one thread, each for at most `quantum` events at a time, and answers right. The list of
-/// ends has room for each instance.
-pub fn run_bench<B: Bench>(mut bench: B, ends: Vec<End>, quantum: u64, bound: u64) -> Answer
+/// Runs the cells of a bench on one thread, each for at most `quantum` events at a time, before which the gate is entered,
+/// and answers right. The list of ends has room for each instance.
+pub fn run_bench<B: Bench, G: Gate>(
+    mut bench: B,
+    gate: &G,
+    ends: Vec<End>,
+    quantum: u64,
+    bound: u64,
+) -> Answer
     requires quantum { 0 < quantum }
     requires bound { bound < 2 ^ 48 }
     requires fresh { all_events (B.state bench) ≡ 0 }
@@ -180,7 +211,7 @@ pub fn run_bench<B: Bench>(mut bench: B, ends: Vec<End>, quantum: u64, bound: u6
     requires room { length (B.state bench).network.instances ≤ vec_capacity ends }
     ensures right { IsRight (B.state bench).network (B.state bench).input bound (B.state bench).watch result }
 {
-    let last = last_round(&mut bench, ends, quantum, bound);
+    let last = last_round(&mut bench, gate, ends, quantum, bound);
     bench.within();
     laws::assembled();
     let verdict = verdict_of(last.memory, &last.ends);

@@ -2,4 +2,4 @@
 use Rattle.kahn_pool.proofs.one.run_watched.Given as goal
 
 abbrev pub ghosts-run_opened : goal.ghosts-run_opened
-ghosts-run_opened a = record { name = a.blank.name; parts = a.blank.parts }
+ghosts-run_opened g a = record { name = a.blank.name; parts = a.blank.parts }

@@ -1,9 +1,7 @@
-use Rattle.std.proofs.Common.{◌≡◌, ◌<◌, ◌≤◌, ◌+◌, length, sym, subst, slice_set}
+use Rattle.std.proofs.Common.{◌<◌, length, refl, sym, subst}
 use Rattle.kahn_network.specs.Network.{network_of}
-use Rattle.kahn_pool.specs.Bench.{events_at}
-use Rattle.kahn_pool.specs.Gathered.{view_at}
+use Rattle.kahn_pool.specs.Bench.{HasRun}
 use Rattle.kahn_pool.specs.Workbench.{Table, IsLaid, state_of}
-use Rattle.kahn_code.specs.declared.progress.Pause.TheVariants as pause
 use Rattle.kahn_pool.proofs.Benched
 use Rattle.kahn_pool.proofs.workbench.WorkbenchBench.run.Goals as goal
 
@@ -62,8 +60,8 @@ invariant_of-self g c =
     let at = Benched.found b laid p cell _ here c.index_mut.ensures.value in
     (Benched.laid_now b laid p cell at c.run-pause.new.self c.at.new.self c.run-pause.new.ports c.at.ensures c.run-pause.ensures.names c.run-pause.ensures.ports c.run-pause.ensures.at c.run-pause.ensures.others, c.self.invariant.1)
 
-pub returns-clause-only : goal.returns-clause-only
-returns-clause-only g c =
+pub returns : goal.returns
+returns g c =
     let i = c.self.inside in
     let b : Table = record { network = i.network.now; input = i.input.now; watch = i.watch; code = i.code.network.value; cells = i.cells.items; queues = i.queues } in
     let laid : IsLaid b = c.self.invariant.0 in
@@ -71,64 +69,18 @@ returns-clause-only g c =
     let cell = c.index_mut.result.now in
     let here = subst (λ (x : Table). p < length (network_of x.network).instances) (sym c.self.view_is) c.requires.here in
     let at = Benched.found b laid p cell _ here c.index_mut.ensures.value in
-    subst (λ (x : Table). (state_of (Benched.ran b p c.run-pause.new.self c.run-pause.new.ports)).cells ≡ slice_set (state_of x).cells p (view_at (state_of (Benched.ran b p c.run-pause.new.self c.run-pause.new.ports)).cells p)) c.self.view_is
-    (Benched.views_after b p cell c.run-pause.new.self c.run-pause.new.ports at)
-
-pub returns-clause-events : goal.returns-clause-events
-returns-clause-events g c =
-    let i = c.self.inside in
-    let b : Table = record { network = i.network.now; input = i.input.now; watch = i.watch; code = i.code.network.value; cells = i.cells.items; queues = i.queues } in
-    let laid : IsLaid b = c.self.invariant.0 in
-    let p = c.args.instance in
-    let cell = c.index_mut.result.now in
-    let here = subst (λ (x : Table). p < length (network_of x.network).instances) (sym c.self.view_is) c.requires.here in
-    let at = Benched.found b laid p cell _ here c.index_mut.ensures.value in
-    subst (λ (x : Table). (events_at (state_of x) p ≤ events_at (state_of (Benched.ran b p c.run-pause.new.self c.run-pause.new.ports)) p) × (events_at (state_of (Benched.ran b p c.run-pause.new.self c.run-pause.new.ports)) p ≤ events_at (state_of x) p + c.args.quantum)) c.self.view_is
-    (Benched.events_now b laid p cell at c.run-pause.new.self c.at.new.self c.run-pause.new.ports c.at.ensures c.run-pause.ensures.names c.run-pause.ensures.ports c.run-pause.ensures.at c.run-pause.ensures.others c.args.quantum c.run-pause.ensures.events)
-
-pub returns-clause-still : goal.returns-clause-still
-returns-clause-still g c =
-    let i = c.self.inside in
-    let b : Table = record { network = i.network.now; input = i.input.now; watch = i.watch; code = i.code.network.value; cells = i.cells.items; queues = i.queues } in
-    let laid : IsLaid b = c.self.invariant.0 in
-    let p = c.args.instance in
-    let cell = c.index_mut.result.now in
-    let here = subst (λ (x : Table). p < length (network_of x.network).instances) (sym c.self.view_is) c.requires.here in
-    let at = Benched.found b laid p cell _ here c.index_mut.ensures.value in
-    subst (λ (x : Table). events_at (state_of (Benched.ran b p c.run-pause.new.self c.run-pause.new.ports)) p ≡ events_at (state_of x) p → state_of (Benched.ran b p c.run-pause.new.self c.run-pause.new.ports) ≡ state_of x) c.self.view_is
-    (Benched.still_now b laid p cell at c.run-pause.new.self c.at.new.self c.run-pause.new.ports c.at.ensures c.run-pause.ensures.names c.run-pause.ensures.ports c.run-pause.ensures.at c.run-pause.ensures.others c.run-pause.ensures.still)
-
-pub returns-clause-paused : goal.returns-clause-paused
-returns-clause-paused g c =
-    let i = c.self.inside in
-    let b : Table = record { network = i.network.now; input = i.input.now; watch = i.watch; code = i.code.network.value; cells = i.cells.items; queues = i.queues } in
-    let laid : IsLaid b = c.self.invariant.0 in
-    let p = c.args.instance in
-    let cell = c.index_mut.result.now in
-    let here = subst (λ (x : Table). p < length (network_of x.network).instances) (sym c.self.view_is) c.requires.here in
-    let at = Benched.found b laid p cell _ here c.index_mut.ensures.value in
-    Benched.paused_now b laid p cell at c.run-pause.new.self c.at.new.self c.run-pause.new.ports c.at.ensures c.run-pause.ensures.names c.run-pause.ensures.ports c.run-pause.ensures.at c.run-pause.ensures.others c.counted.ensures c.args.quantum c.run-pause.result c.run-pause.ensures.paused
-
-pub returns-clause-spent : goal.returns-clause-spent
-returns-clause-spent g c =
-    let i = c.self.inside in
-    let b : Table = record { network = i.network.now; input = i.input.now; watch = i.watch; code = i.code.network.value; cells = i.cells.items; queues = i.queues } in
-    let laid : IsLaid b = c.self.invariant.0 in
-    let p = c.args.instance in
-    let cell = c.index_mut.result.now in
-    let here = subst (λ (x : Table). p < length (network_of x.network).instances) (sym c.self.view_is) c.requires.here in
-    let at = Benched.found b laid p cell _ here c.index_mut.ensures.value in
-    subst (λ (x : Table). c.run-pause.result ≡ pause.Spent → events_at (state_of (Benched.ran b p c.run-pause.new.self c.run-pause.new.ports)) p ≡ events_at (state_of x) p + c.args.quantum) c.self.view_is
-    (Benched.spent_now b laid p cell at c.run-pause.new.self c.at.new.self c.run-pause.new.ports c.at.ensures c.run-pause.ensures.names c.run-pause.ensures.ports c.run-pause.ensures.at c.run-pause.ensures.others c.args.quantum _ _ c.run-pause.result c.run-pause.ensures.paused)
-
-pub returns-clause-wanted : goal.returns-clause-wanted
-returns-clause-wanted g c =
-    let i = c.self.inside in
-    let b : Table = record { network = i.network.now; input = i.input.now; watch = i.watch; code = i.code.network.value; cells = i.cells.items; queues = i.queues } in
-    let laid : IsLaid b = c.self.invariant.0 in
-    let p = c.args.instance in
-    let cell = c.index_mut.result.now in
-    let here = subst (λ (x : Table). p < length (network_of x.network).instances) (sym c.self.view_is) c.requires.here in
-    let at = Benched.found b laid p cell _ here c.index_mut.ensures.value in
-    subst (λ (x : Table). c.run-pause.result ≡ pause.NoMemory → events_at (state_of (Benched.ran b p c.run-pause.new.self c.run-pause.new.ports)) p < events_at (state_of x) p + c.args.quantum) c.self.view_is
-    (Benched.wanted_now b laid p cell at c.run-pause.new.self c.at.new.self c.run-pause.new.ports c.at.ensures c.run-pause.ensures.names c.run-pause.ensures.ports c.run-pause.ensures.at c.run-pause.ensures.others c.args.quantum _ _ c.run-pause.result c.run-pause.ensures.paused c.run-pause.ensures.events.1)
+    let new = c.run-pause.new.self in
+    let ports = c.run-pause.new.ports in
+    let e = c.run-pause.ensures in
+    let z = c.run-pause.result in
+    let n = c.args.quantum in
+    subst (λ (x : Table). HasRun (state_of x) (state_of (Benched.ran b p new ports)) p n z) c.self.view_is
+    (record {
+      same = (refl, refl, refl);
+      only = Benched.views_after b p cell new ports at;
+      events = Benched.events_now b laid p cell at new c.at.new.self ports c.at.ensures e.names e.ports e.at e.others n e.events;
+      still = Benched.still_now b laid p cell at new c.at.new.self ports c.at.ensures e.names e.ports e.at e.others e.still;
+      paused = Benched.paused_now b laid p cell at new c.at.new.self ports c.at.ensures e.names e.ports e.at e.others c.counted.ensures n z e.paused;
+      spent = Benched.spent_now b laid p cell at new c.at.new.self ports c.at.ensures e.names e.ports e.at e.others n _ _ z e.paused;
+      wanted = Benched.wanted_now b laid p cell at new c.at.new.self ports c.at.ensures e.names e.ports e.at e.others n _ _ z e.paused e.events.1;
+    })
