@@ -65,6 +65,12 @@ module _ {T : Type 0} (told : T → Option Tale) (belongs : ℕ → T → Type 0
         )
     at_rest p y over cells back not_halted inside home is z = inl (a.ruled.parking.ends p y inside is home)
 
+    -- it is halted only where this seat did so
+    pub halter_is : halted w s.words ≢ 0 → v.seen ≡ 2
+    halter_is ne = let t = a.reckoned.lasting.halter ne in dite (ℕ_discrete t.0 id)
+        (λ is. let same : v ≡ t.1 = some-injective v t.1 (sym me ∙ (sym (ap (λ (k : ℕ). get_elem? s.views k) is) ∙ t.2)) in ap (λ (k : View). k.seen) same ∙ t.3)
+        (λ apart. absurd (omega (arith, t.3, ap (λ (k : View). k.seen) (others_spent t.0 t.1 apart t.2))))
+
     pub by_done : (cells : List (Option T)) → ((q : ℕ) (z : T) → q < w.instances → get_elem? cells q ≡ some (Some z) → IsHome s q z) → v.stage ≡ 1
         → (halted w s.words ≢ 0) ⊎ ((budget w s.words ≡ 0) ⊎ ((p : ℕ) (y : T) → p < w.instances → get_elem? cells p ≡ some (Some y) → IsAtRest told belongs w d cells p y))
     by_done cells back one = dite (ℕ_discrete (halted w s.words) 0)
@@ -81,8 +87,8 @@ read_as (x ∷ xs) (suc i) a e = read_as xs i a e
 module _ {T : Type 0} (told : T → Option Tale) (belongs : ℕ → T → Type 0) (w : Wires) (d : Deal) where
   pub closes : (s : St T) (a : Whole told belongs w d s) (id : ℕ) (v : View) → get_elem? s.views id ≡ some v → v.parts ≡ all_parts → IsFree v → (ws : List ℕ) (xs cells : List (Option T)) → s.words ≡ ws → length s.homes ≡ length xs
       → ((k : ℕ) (y : Option T) → get_elem? s.homes k ≡ some (some y) → get_elem? xs k ≡ some y) → cells ≡ xs → (i j b h : ℕ) → i ≡ 8 * (w.instances + w.channels) → j ≡ 8 * (w.instances + w.channels) + 16 → get_elem? ws i ≡ some b → get_elem? ws j ≡ some h
-      → (flag : Bool) → (h ≢ 0 → flag ≡ true) → Closes told belongs w d cells v b flag
-  closes s a id v me all free ws xs cells words long values same i j b h at_i at_j reads_b reads_h flag flags =
+      → (flag : Bool) → (h ≢ 0 → flag ≡ true) → (flag ≡ true → h ≢ 0) → Closes told belongs w d cells v b flag
+  closes s a id v me all free ws xs cells words long values same i j b h at_i at_j reads_b reads_h flag flags flagged =
       let home = all_home told belongs w s a.place a.ruled id v me all free.0 in
       let there : (p : ℕ) (y : T) → IsHome s p y → get_elem? cells p ≡ some (Some y) = λ p y e. ap (λ (l : List (Option T)). get_elem? l p) same ∙ values p (Some y) e in
       let back : (q : ℕ) (z : T) → q < w.instances → get_elem? cells q ≡ some (Some z) → IsHome s q z = λ q z near e. (let t = home q near in subst (λ (u : T). IsHome s q u) (same_some t.0 z (some-injective (Some t.0) (Some z) (sym (there q t.0 t.1) ∙ e))) t.1) in
@@ -92,6 +98,6 @@ module _ {T : Type 0} (told : T → Option Tale) (belongs : ℕ → T → Type 0
         belonging = λ p y near e. a.reckoned.lasting.belonging p y near (back p y near e);
         budget_is = omega (arith, budget_left told belongs w d s a id v me all free, b_is);
         events = (a.reckoned.tally, (λ p y near e. a.reckoned.budgeted.tells p y near (back p y near e)), events_left told belongs w d s a id v me all free);
-        halt_seen = λ two. flags (λ z. a.reckoned.lasting.saw_halted id v me two (h_is ∙ z));
+        halt_seen = ((λ two. flags (λ z. a.reckoned.lasting.saw_halted id v me two (h_is ∙ z))), λ yes. halter_is told belongs w d s a id v me all free (λ z. flagged yes (sym h_is ∙ z)));
         by_done = λ one. ⊎_elim (λ ne. inl (flags (λ z. ne (h_is ∙ z)))) (λ t. ⊎_elim (λ z. inr (inl (sym b_is ∙ z))) (λ f. inr (inr f)) t) (by_done told belongs w d s a id v me all free cells back one);
       }

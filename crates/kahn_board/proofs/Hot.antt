@@ -18,7 +18,7 @@ use Rattle.kahn_board.specs.declared.view.View.{View}
 use Rattle.kahn_board.proofs.Sums.{term_le}
 use Rattle.kahn_board.proofs.Counting.{below-le}
 use Rattle.kahn_board.proofs.Keeps.{state}
-use Rattle.kahn_board.proofs.Turns.{quiet_here, owed_less_here, downs_few}
+use Rattle.kahn_board.proofs.Turns.{quiet_here, owed_less_here, downs_few, whole}
 use Rattle.kahn_board.proofs.Seconds.{Idle, idles}
 use Rattle.kahn_board.proofs.Changes.{one_less, owes_paid, leaves_free}
 use Rattle.kahn_board.proofs.Steps.{Fit, Goes, stays, unchanged}
@@ -37,25 +37,21 @@ module _ {T : Type 0} (told : T → Option Tale) (belongs : ℕ → T → Type 0
   -- a step on such a word
   at_hot : (s : St T) (a : Whole told belongs w d s) (i k id : ℕ) (m : Sat T) (v : View) → get_elem? s.views id ≡ some m.0 → Fit told w m → 8 * (w.instances + w.channels) ≤ i → v.parts ≡ m.0.parts → v.hands ≡ m.0.hands → v.flushed ≡ m.0.flushed
       → Idle told belongs w d s m.0 v (set s.words i k) → Whole told belongs w d (stepped s i k id m.1 v keeps)
-  at_hot s a i k id m v me fit past parts hands flushed idle = record {
-    place = a.place;
-    ruled = stays told w s a.place a.ruled (set s.words i k) id m v me fit parts hands flushed (length-set s.words i k) (λ q h. get_or-set_other s.words i (8 * q) k 0 (λ e. omega arith));
-    reckoned = idles told belongs w d s a.place a.reckoned id m.0 v (set s.words i k) me idle;
-  }
+  at_hot s a i k id m v me fit past parts hands flushed idle = whole told belongs w d _ a.place
+      (stays told w s a.place a.ruled (set s.words i k) id m v me fit parts hands flushed (length-set s.words i k) (λ q h. get_or-set_other s.words i (8 * q) k 0 (λ e. omega arith)))
+      (idles told belongs w d s a.place a.reckoned id m.0 v (set s.words i k) me idle)
 
   -- a load
   at_load : (s : St T) (a : Whole told belongs w d s) (i id : ℕ) (m : Sat T) (v : View) → get_elem? s.views id ≡ some m.0 → Fit told w m → v.parts ≡ m.0.parts → v.hands ≡ m.0.hands → v.flushed ≡ m.0.flushed
       → Idle told belongs w d s m.0 v s.words → Whole told belongs w d (stepped s i (get_or s.words i 0) id m.1 v keeps)
-  at_load s a i id m v me fit parts hands flushed idle = subst (λ (l : List ℕ). Whole told belongs w d (state told w l s.homes (set s.views id v))) (sym (set-get_or s.words i 0)) record {
-    place = a.place;
-    ruled = stays told w s a.place a.ruled s.words id m v me fit parts hands flushed refl (λ q h. refl);
-    reckoned = idles told belongs w d s a.place a.reckoned id m.0 v s.words me idle;
-  }
+  at_load s a i id m v me fit parts hands flushed idle = subst (λ (l : List ℕ). Whole told belongs w d (state told w l s.homes (set s.views id v))) (sym (set-get_or s.words i 0)) (whole told belongs w d _ a.place
+      (stays told w s a.place a.ruled s.words id m v me fit parts hands flushed refl (λ q h. refl))
+      (idles told belongs w d s a.place a.reckoned id m.0 v s.words me idle))
 
   -- what a look sees, where it is true
   sights : (s : St T) (a : Whole told belongs w d s) (i id : ℕ) (m : Sat T) (seen r : ℕ) → get_elem? s.views id ≡ some m.0 → Fit told w m → (seen ≡ 1 → count w s.words ≡ 0) → (seen ≡ 2 → halted w s.words ≢ 0)
-      → (halted w s.words ≢ 0) ⊎ ((count w s.words ≡ 0) ⊎ (budget w s.words ≡ 0)) → Whole told belongs w d (stepped s i (get_or s.words i 0) id m.1 (saw m.0 seen (leaves_as m.0) r) keeps)
-  sights s a i id m seen r me fit quiet_is halted_is stopped = at_load s a i id m (saw m.0 seen (leaves_as m.0) r) me fit refl refl refl record {
+      → (m.0.seen ≡ 2 → seen ≡ 2) → seen ≤ 2 → (halted w s.words ≢ 0) ⊎ ((count w s.words ≡ 0) ⊎ (budget w s.words ≡ 0)) → Whole told belongs w d (stepped s i (get_or s.words i 0) id m.1 (saw m.0 seen (leaves_as m.0) r) keeps)
+  sights s a i id m seen r me fit quiet_is halted_is knows small stopped = at_load s a i id m (saw m.0 seen (leaves_as m.0) r) me fit refl refl refl record {
     hands_same = refl;
     got_same = refl;
     drawing = refl;
@@ -67,6 +63,9 @@ module _ {T : Type 0} (told : T → Option Tale) (belongs : ℕ → T → Type 0
     still_halted = λ e. e;
     saw_quiet = quiet_is;
     saw_halted = halted_is;
+    knows = knows;
+    halter = λ ne. inl ne;
+    sights = small;
     fixed = λ c h none. refl;
     leaves = λ h. (let free = leaves_free m.0 h in omega arith, stopped);
   }
@@ -76,19 +75,19 @@ module _ {T : Type 0} (told : T → Option Tale) (belongs : ℕ → T → Type 0
       dite (ℕ_discrete r 0)
       (λ z. (noted m.0 r, keeps, tt, unchanged told belongs w d s a i id m r me fit, ((λ ne. absurd (ne z)), λ _. ((λ two. a.reckoned.lasting.saw_halted id m.0 me two (sym is ∙ z)), refl))))
       (λ ne. let yes : halted w s.words ≢ 0 = (λ z. ne (is ∙ z)) in
-      (saw m.0 2 (leaves_as m.0) r, keeps, tt, sights s a i id m 2 r me fit (λ e. absurd (omega (arith, e))) (λ _. yes) (inl yes), ((λ _. refl), λ z. absurd (ne z))))
+      (saw m.0 2 (leaves_as m.0) r, keeps, tt, sights s a i id m 2 r me fit (λ e. absurd (omega (arith, e))) (λ _. yes) (λ _. refl) (omega arith) (inl yes), ((λ _. refl), λ z. absurd (ne z))))
 
-  pub looks_count : (n id : ℕ) (m : Sat T) (i : ℕ) → Fit told w m → i ≡ 8 * (w.instances + w.channels) + 8 → Allows (Whole told belongs w d) n id m i (λ y. y) (sees_count (step n i 0 0 none) m)
-  looks_count n id m i fit at s a wide me _ = let r : ℕ = get_or s.words i 0 in let is : r ≡ count w s.words = ap (λ (k : ℕ). get_or s.words k 0) at in
+  pub looks_count : (n id : ℕ) (m : Sat T) (i : ℕ) → Fit told w m → m.0.seen ≢ 2 → i ≡ 8 * (w.instances + w.channels) + 8 → Allows (Whole told belongs w d) n id m i (λ y. y) (sees_count (step n i 0 0 none) m)
+  looks_count n id m i fit alive at s a wide me _ = let r : ℕ = get_or s.words i 0 in let is : r ≡ count w s.words = ap (λ (k : ℕ). get_or s.words k 0) at in
       dite (ℕ_discrete r 0)
       (λ z. let yes : count w s.words ≡ 0 = sym is ∙ z in
-      (saw m.0 1 (leaves_as m.0) r, keeps, tt, sights s a i id m 1 r me fit (λ _. yes) (λ e. absurd (omega (arith, e))) (inr (inl yes)), ((λ _. refl), λ ne. absurd (ne z))))
+      (saw m.0 1 (leaves_as m.0) r, keeps, tt, sights s a i id m 1 r me fit (λ _. yes) (λ e. absurd (omega (arith, e))) (λ two. absurd (alive two)) (omega arith) (inr (inl yes)), ((λ _. refl), λ ne. absurd (ne z))))
       (λ ne. (noted m.0 r, keeps, tt, unchanged told belongs w d s a i id m r me fit, ((λ z. absurd (ne z)), λ _. ((λ one. ne (is ∙ a.reckoned.lasting.saw_quiet id m.0 me one)), refl))))
 
   pub looks_budget : (n id : ℕ) (m : Sat T) (i : ℕ) → Fit told w m → i ≡ 8 * (w.instances + w.channels) → Allows (Whole told belongs w d) n id m i (λ y. y) (sees_budget (step n i 0 0 none) m)
   looks_budget n id m i fit at s a wide me _ = let r : ℕ = get_or s.words i 0 in let is : r ≡ budget w s.words = ap (λ (k : ℕ). get_or s.words k 0) at in
       dite (ℕ_discrete r 0)
-      (λ z. (saw m.0 m.0.seen (leaves_as m.0) r, keeps, tt, sights s a i id m m.0.seen r me fit (a.reckoned.lasting.saw_quiet id m.0 me) (a.reckoned.lasting.saw_halted id m.0 me) (inr (inr (sym is ∙ z))), ((λ _. refl), λ ne. absurd (ne z))))
+      (λ z. (saw m.0 m.0.seen (leaves_as m.0) r, keeps, tt, sights s a i id m m.0.seen r me fit (a.reckoned.lasting.saw_quiet id m.0 me) (a.reckoned.lasting.saw_halted id m.0 me) (λ e. e) (a.reckoned.lasting.sights id m.0 me) (inr (inr (sym is ∙ z))), ((λ _. refl), λ ne. absurd (ne z))))
       (λ ne. (noted m.0 r, keeps, tt, unchanged told belongs w d s a i id m r me fit, ((λ z. absurd (ne z)), λ _. refl)))
 
   pub notes : (n id : ℕ) (m : Sat T) (i : ℕ) → Fit told w m → Allows (Whole told belongs w d) n id m i (λ y. y) (looked (step n i 0 0 none) m)
@@ -115,6 +114,9 @@ module _ {T : Type 0} (told : T → Option Tale) (belongs : ℕ → T → Type 0
         still_halted = λ ne e. ne (sym halts_same ∙ e);
         saw_quiet = λ e. counts ∙ a.reckoned.lasting.saw_quiet id m.0 me (sym (ap (λ (u : View). u.seen) is) ∙ e);
         saw_halted = λ e z. a.reckoned.lasting.saw_halted id m.0 me (sym (ap (λ (u : View). u.seen) is) ∙ e) (sym halts_same ∙ z);
+        knows = λ e. ap (λ (u : View). u.seen) is ∙ e;
+        halter = λ ne. inl (λ z. ne (halts_same ∙ z));
+        sights = omega (arith, ap (λ (u : View). u.seen) is, a.reckoned.lasting.sights id m.0 me);
         fixed = λ c h none. ap (λ (j : ℕ). j / 2) (get_or-set_other s.words i (8 * (w.instances + c)) k 0 (λ e. omega arith));
         leaves = λ h. absurd (omega (arith, ap (λ (u : View). u.stage) is));
       }
@@ -169,6 +171,9 @@ module _ {T : Type 0} (told : T → Option Tale) (belongs : ℕ → T → Type 0
         still_halted = λ ne e. ne (sym halts_same ∙ e);
         saw_quiet = λ e. absurd (not_quiet (a.reckoned.lasting.saw_quiet id m.0 me (sym seen ∙ e)));
         saw_halted = λ e z. a.reckoned.lasting.saw_halted id m.0 me (sym seen ∙ e) (sym halts_same ∙ z);
+        knows = λ e. seen ∙ e;
+        halter = λ ne. inl (λ z. ne (halts_same ∙ z));
+        sights = omega (arith, seen, a.reckoned.lasting.sights id m.0 me);
         fixed = λ c h none. ap (λ (j : ℕ). j / 2) (get_or-set_other s.words i (8 * (w.instances + c)) k 0 (λ e. omega arith));
         leaves = λ h. absurd (omega (arith, stage));
       }
@@ -208,11 +213,17 @@ module _ {T : Type 0} (told : T → Option Tale) (belongs : ℕ → T → Type 0
           still_halted = λ _. now;
           saw_quiet = λ e. absurd (omega (arith, e));
           saw_halted = λ _. now;
+          knows = λ _. refl;
+          halter = λ _. inr refl;
+          sights = omega arith;
           fixed = λ c h none. ap (λ (j : ℕ). j / 2) (get_or-set_other s.words i (8 * (w.instances + c)) new 0 (λ e. omega arith));
           leaves = λ h. absurd (omega arith);
         },
         refl,
       )
+
+  pub not_two : (m m' : Sat T) (r : ℕ) → m' ≡ (noted m.0 r, m.1) → m.0.seen ≢ 2 → m'.0.seen ≢ 2
+  not_two m m' r is ne two = ne (sym (ap (λ (k : Sat T). k.0.seen) is) ∙ two)
 
   -- after steps that leave what a seat keeps of its own view
   pub still_fit : (m m' : Sat T) (v : View) → m' ≡ (v, m.1) → v.parts ≡ m.0.parts → v.hands ≡ m.0.hands → v.flushed ≡ m.0.flushed → v.got ≡ m.0.got → Fit told w m → Fit told w m'

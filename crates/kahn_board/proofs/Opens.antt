@@ -15,6 +15,7 @@ use Rattle.kahn_board.proofs.Changes.{tells_past}
 use Rattle.kahn_board.specs.Opening.{Opens}
 use Rattle.kahn_board.specs.declared.view.View.{View}
 use Rattle.kahn_board.proofs.Moved.{is_ready}
+use Rattle.kahn_board.proofs.Turns.{whole}
 use Rattle.kahn_board.proofs.Steps.{same_some}
 
 at_first : {A : Type 0} (a b : A) (j : ℕ) → get_elem? (a ∷ []) j ≡ some b → (j ≡ 0) × (a ≡ b)
@@ -133,34 +134,34 @@ module _ {T : Type 0} (told : T → Option Tale) (after : T → T → Type 0) (w
 
   pub opens : (bound : ℕ) (words numbers : List ℕ) (cells : List T) → Opens told after w bound numbers cells → Starts bound words numbers
       → Whole told (given after cells) w record { bound = bound; events = events_of told cells; published = published w words } (start words cells)
-  opens bound words numbers cells o b = let at : (k : ℕ) → get_or words (8 * (w.instances + length numbers) + k) 0 ≡ get_or words (8 * (w.instances + w.channels) + k) 0 = λ k. ap (λ (j : ℕ). get_or words (8 * (w.instances + j) + k) 0) o.numbers_are in record {
-    place = λ _. ready;
-    ruled = opens_first bound words numbers cells o b.long b.zeros b.twice;
-    reckoned = record {
-      tally = tally_of told cells;
-      budgeted = record {
-        small = o.few;
-        adds_up = omega (arith, b.budget_is, ap (λ (j : ℕ). get_or words (8 * (w.instances + j)) 0) o.numbers_are);
-        tallied = omega (arith, all_events told cells, ap (below (tally_of told cells)) o.cells_are);
-        tells = λ p y h home. of_cell told cells p y (of_home cells p y home);
-        got_is = λ j v e p h one. let t = at_first (opening_view w) v j e in absurd (omega (arith, ap (λ (u : View). get_or u.hands p 0) (sym t.1) ∙ all_zero w.instances p, one));
-      };
-      counted = record {
-        adds_up = omega (arith, b.count_is, at 8, below_ones w.instances);
-        pairs = λ j v e. let t = at_first (opening_view w) v j e in subst (λ (u : View). Owes u.hands u.owed) t.1 tt;
-        inside = λ j v e p some_held. let t = at_first (opening_view w) v j e in absurd (omega (arith, ap (λ (u : View). get_or u.hands p 0) (sym t.1) ∙ all_zero w.instances p));
-        few = λ j v e. let t = at_first (opening_view w) v j e in subst (λ (u : View). u.down ≤ 2 ^ 32 * u.parts) t.1 (omega arith);
-      };
-      lasting = record {
-        saw_quiet = λ j v e one. let t = at_first (opening_view w) v j e in absurd (omega (arith, ap (λ (u : View). u.seen) t.1, one));
-        saw_halted = λ j v e two. let t = at_first (opening_view w) v j e in absurd (omega (arith, ap (λ (u : View). u.seen) t.1, two));
-        flushed_all = λ p y h home _. o.flushed_all p y (of_home cells p y home);
-        belonging = λ p y h home. (let there = of_home cells p y home in itself after cells p y there (o.selves p y there));
-        fixed = λ c near none_writes. refl;
-      };
-      leaving = record {
-        idle = λ j v e h. let t = at_first (opening_view w) v j e in sym (ap (λ (u : View). u.drawn) t.1);
-        left = λ a. let some_done = a.1 in let t = at_first (opening_view w) some_done.1 some_done.0 some_done.2 in absurd (omega (arith, ap (λ (u : View). u.stage) t.1, some_done.3));
-      };
-    };
-  }
+  opens bound words numbers cells o b = let at : (k : ℕ) → get_or words (8 * (w.instances + length numbers) + k) 0 ≡ get_or words (8 * (w.instances + w.channels) + k) 0 = λ k. ap (λ (j : ℕ). get_or words (8 * (w.instances + j) + k) 0) o.numbers_are in (whole told (given after cells) w _ _ (λ _. ready)
+      (opens_first bound words numbers cells o b.long b.zeros b.twice)
+      (record {
+        tally = tally_of told cells;
+        budgeted = record {
+          small = o.few;
+          adds_up = omega (arith, b.budget_is, ap (λ (j : ℕ). get_or words (8 * (w.instances + j)) 0) o.numbers_are);
+          tallied = omega (arith, all_events told cells, ap (below (tally_of told cells)) o.cells_are);
+          tells = λ p y h home. of_cell told cells p y (of_home cells p y home);
+          got_is = λ j v e p h one. let t = at_first (opening_view w) v j e in absurd (omega (arith, ap (λ (u : View). get_or u.hands p 0) (sym t.1) ∙ all_zero w.instances p, one));
+        };
+        counted = record {
+          adds_up = omega (arith, b.count_is, at 8, below_ones w.instances);
+          pairs = λ j v e. let t = at_first (opening_view w) v j e in subst (λ (u : View). Owes u.hands u.owed) t.1 tt;
+          inside = λ j v e p some_held. let t = at_first (opening_view w) v j e in absurd (omega (arith, ap (λ (u : View). get_or u.hands p 0) (sym t.1) ∙ all_zero w.instances p));
+          few = λ j v e. let t = at_first (opening_view w) v j e in subst (λ (u : View). u.down ≤ 2 ^ 32 * u.parts) t.1 (omega arith);
+        };
+        lasting = record {
+          saw_quiet = λ j v e one. let t = at_first (opening_view w) v j e in absurd (omega (arith, ap (λ (u : View). u.seen) t.1, one));
+          saw_halted = λ j v e two. let t = at_first (opening_view w) v j e in absurd (omega (arith, ap (λ (u : View). u.seen) t.1, two));
+          halter = λ ne. absurd (ne (sym (at 16) ∙ b.not_halted));
+          sights = λ j v e. let t = at_first (opening_view w) v j e in subst (λ (u : View). u.seen ≤ 2) t.1 (omega arith);
+          flushed_all = λ p y h home _. o.flushed_all p y (of_home cells p y home);
+          belonging = λ p y h home. (let there = of_home cells p y home in itself after cells p y there (o.selves p y there));
+          fixed = λ c near none_writes. refl;
+        };
+        leaving = record {
+          idle = λ j v e h. let t = at_first (opening_view w) v j e in sym (ap (λ (u : View). u.drawn) t.1);
+          left = λ a. let some_done = a.1 in let t = at_first (opening_view w) some_done.1 some_done.0 some_done.2 in absurd (omega (arith, ap (λ (u : View). u.stage) t.1, some_done.3));
+        };
+      }))

@@ -1,5 +1,5 @@
 -- What is reckoned, over the steps that move no instance, that take one, and that give one up.
-use Rattle.std.proofs.Common.{◌≡◌, ℕ, zero, suc, ◌+◌, ◌*◌, ◌^◌, ◌<◌, ◌≤◌, ◌≢◌, ◌⊎◌, ⊎_elim, List, length, get_or, set, sym, refl, ap, ◌∙◌, subst, arith, Option, Some, None, length-set, get_or-set_same, get_or-set_other}
+use Rattle.std.proofs.Common.{◌≡◌, ℕ, zero, suc, ◌+◌, ◌*◌, ◌^◌, ◌<◌, ◌≤◌, ◌≢◌, ◌⊎◌, inl, ⊎_elim, List, length, get_or, set, sym, refl, ap, ◌∙◌, subst, arith, Option, Some, None, length-set, get_or-set_same, get_or-set_other}
 use mathlib.Core.Logic.{dite}
 use native.Mathlib.Decide.{ℕ_discrete}
 use mathlib.Core.Option.{some, none, some-injective, some-ne-none}
@@ -54,6 +54,9 @@ module _ {T : Type 0} (told : T → Option Tale) (belongs : ℕ → T → Type 0
     pub still_halted : halted w s.words ≢ 0 → halted w ws ≢ 0
     pub saw_quiet : v'.seen ≡ 1 → count w ws ≡ 0
     pub saw_halted : v'.seen ≡ 2 → halted w ws ≢ 0
+    pub knows : v.seen ≡ 2 → v'.seen ≡ 2
+    pub halter : halted w ws ≢ 0 → (halted w s.words ≢ 0) ⊎ (v'.seen ≡ 2)
+    pub sights : v'.seen ≤ 2
     pub fixed : (c : ℕ) → c < w.channels → w.writer c ≡ None → published w ws c ≡ published w s.words c
     pub leaves : v'.stage ≤ 1 → (v'.drawn ≡ 0) × ((halted w ws ≢ 0) ⊎ ((count w ws ≡ 0) ⊎ (budget w ws ≡ 0)))
 
@@ -73,6 +76,9 @@ module _ {T : Type 0} (told : T → Option Tale) (belongs : ℕ → T → Type 0
     still_halted = m.still_halted;
     saw_quiet = m.saw_quiet;
     saw_halted = m.saw_halted;
+    knows = m.knows;
+    halter = m.halter;
+    sights = m.sights;
     flushed_all = λ q y h home zero_now. q₀.lasting.flushed_all q y h home (dite (ℕ_discrete (halted w s.words) 0) (λ e. e) (λ ne. absurd (m.still_halted ne zero_now)));
     belonging = q₀.lasting.belonging;
     fixed = m.fixed;
@@ -108,6 +114,9 @@ module _ {T : Type 0} (told : T → Option Tale) (belongs : ℕ → T → Type 0
         still_halted = λ ne e. ne (sym same.halted_same ∙ e);
         saw_quiet = λ e. same.count_same ∙ ⊎_elim (λ is. q₀.lasting.saw_quiet id v me (sym is ∙ e)) (λ is. absurd (omega arith)) sees;
         saw_halted = λ e z. halted_is e (sym same.halted_same ∙ z);
+        knows = λ e. ⊎_elim (λ is. is ∙ e) (λ is. is) sees;
+        halter = λ ne. inl (λ z. ne (same.halted_same ∙ z));
+        sights = ⊎_elim (λ is. omega (arith, is, q₀.lasting.sights id v me)) (λ is. omega (arith, is)) sees;
         flushed_all = λ q y h home zero_now. q₀.lasting.flushed_all q y h (was_home q y home) (sym same.halted_same ∙ zero_now);
         belonging = λ q y h home. q₀.lasting.belonging q y h (was_home q y home);
         fixed = fixed;
@@ -148,6 +157,9 @@ module _ {T : Type 0} (told : T → Option Tale) (belongs : ℕ → T → Type 0
         still_halted = λ ne e. ne (sym same.halted_same ∙ e);
         saw_quiet = λ e. same.count_same ∙ q₀.lasting.saw_quiet id v me e;
         saw_halted = λ e z. q₀.lasting.saw_halted id v me e (sym same.halted_same ∙ z);
+        knows = λ e. e;
+        halter = λ ne. inl (λ z. ne (same.halted_same ∙ z));
+        sights = q₀.lasting.sights id v me;
         flushed_all = λ q z h home zero_now. dite (ℕ_discrete q p)
             (λ e. let home' : get_elem? hs p ≡ some (some (Some z)) = ap (λ (j : ℕ). get_elem? hs j) (sym e) ∙ home in
             subst (λ (u : T). FlushedAll (told u)) (the_cell z home') (⊎_elim (λ two. absurd (q₀.lasting.saw_halted id v me two (sym same.halted_same ∙ zero_now))) (λ f. f) flushed))

@@ -10,6 +10,7 @@ use Rattle.kahn_board.specs.Counts.{is_up}
 use Rattle.kahn_board.specs.Calls.{Leaves}
 use Rattle.kahn_board.specs.Plays.{SeesMore, took, gave, told_of, waking}
 use Rattle.kahn_board.specs.Rule.{Deal, Whole, halted, count}
+use Rattle.kahn_board.proofs.Turns.{whole}
 use Rattle.kahn_board.proofs.Seconds.{hot, idles, takes_second, gives_second, replaced}
 use Rattle.kahn_board.proofs.Changes.{owes_more, owes_woken, one_longer}
 use prog.Atomic.{either}
@@ -179,25 +180,26 @@ module _ {T : Type 0} (told : T → Option Tale) (belongs : ℕ → T → Type 0
 
   -- a step that changes nothing
   pub unchanged : (s : St T) (a : Whole told belongs w d s) (i id : ℕ) (m : Sat T) (r : ℕ) → get_elem? s.views id ≡ some m.0 → Fit told w m → Whole told belongs w d (stepped s i (get_or s.words i 0) id m.1 (noted m.0 r) keeps)
-  unchanged s a i id m r me fit = subst (λ (l : List ℕ). Whole told belongs w d (state told w l s.homes (set s.views id (noted m.0 r)))) (sym (set-get_or s.words i 0)) record {
-    place = a.place;
-    ruled = stays told w s a.place a.ruled s.words id m (noted m.0 r) me fit refl refl refl refl (λ q h. refl);
-    reckoned = idles told belongs w d s a.place a.reckoned id m.0 (noted m.0 r) s.words me record {
-      hands_same = refl;
-      got_same = refl;
-      drawing = refl;
-      tallying = refl;
-      counting = refl;
-      pairs = a.reckoned.counted.pairs id m.0 me;
-      few = a.reckoned.counted.few id m.0 me;
-      still_quiet = λ e. e;
-      still_halted = λ e. e;
-      saw_quiet = a.reckoned.lasting.saw_quiet id m.0 me;
-      saw_halted = a.reckoned.lasting.saw_halted id m.0 me;
-      fixed = λ c h none. refl;
-      leaves = λ h. absurd (omega arith);
-    };
-  }
+  unchanged s a i id m r me fit = subst (λ (l : List ℕ). Whole told belongs w d (state told w l s.homes (set s.views id (noted m.0 r)))) (sym (set-get_or s.words i 0)) (whole told belongs w d _ a.place
+      (stays told w s a.place a.ruled s.words id m (noted m.0 r) me fit refl refl refl refl (λ q h. refl))
+      (idles told belongs w d s a.place a.reckoned id m.0 (noted m.0 r) s.words me record {
+        hands_same = refl;
+        got_same = refl;
+        drawing = refl;
+        tallying = refl;
+        counting = refl;
+        pairs = a.reckoned.counted.pairs id m.0 me;
+        few = a.reckoned.counted.few id m.0 me;
+        still_quiet = λ e. e;
+        still_halted = λ e. e;
+        saw_quiet = a.reckoned.lasting.saw_quiet id m.0 me;
+        saw_halted = a.reckoned.lasting.saw_halted id m.0 me;
+        knows = λ e. e;
+        halter = λ ne. inl ne;
+        sights = a.reckoned.lasting.sights id m.0 me;
+        fixed = λ c h none. refl;
+        leaves = λ h. absurd (omega arith);
+      }))
 
   -- what a seat sees of the run as it takes a cell: whether it is halted
   pub sees : (s : St T) (a : Whole told belongs w d s) (id : ℕ) (v : View) (p : ℕ) (y : T) → get_elem? s.views id ≡ some v → p < w.instances → IsHome s p y
@@ -220,15 +222,13 @@ module _ {T : Type 0} (told : T → Option Tale) (belongs : ℕ → T → Type 0
         v',
         takes p (Some y),
         cell.1,
-        record {
-          place = moved place p (held id);
-          ruled = takes_up told w s place r (8 * p) 1 id m p y v' refl refl refl me fit inside cell.1 (λ j. ap (held_by j) is)
-              (λ q h. at_moved (λ k z. k < w.instances → get_or ws (8 * k) 0 ≡ word_code z) place p (held id) q (λ _. get_or-set_same s.words (8 * p) 1 0 (omega arith)) (λ ne l. get_or-set_other s.words (8 * p) (8 * q) 1 0 (λ e. ne (omega arith)) ∙ r.one_pair.word_is q l) h)
-              (λ c near. ap (λ (k : ℕ). k % 2) (get_or-set_other s.words (8 * p) (8 * (w.instances + c)) 1 0 (λ e. omega arith)) ∙ (r.parking.marks c near ∙ sym (mark_same place p (held id) (w.reader c) c (sym (ap (parked_on c) is)))))
-              (λ c near. inl (pub_same c));
-          reckoned = takes_second told belongs w d s place r a.reckoned (8 * p) 1 id m p L m.0.owed seen 0 me inside fit.hands_long fit.got_long (omega arith) free
-              (omega (arith, ap is_up is)) (owes_more m.0.hands p m.0.owed free (a.reckoned.counted.pairs id m.0 me)) saw_it.1 saw_it.2 (λ c near none. pub_same c);
-        },
+        whole told belongs w d _ (moved place p (held id))
+            (takes_up told w s place r (8 * p) 1 id m p y v' refl refl refl me fit inside cell.1 (λ j. ap (held_by j) is)
+            (λ q h. at_moved (λ k z. k < w.instances → get_or ws (8 * k) 0 ≡ word_code z) place p (held id) q (λ _. get_or-set_same s.words (8 * p) 1 0 (omega arith)) (λ ne l. get_or-set_other s.words (8 * p) (8 * q) 1 0 (λ e. ne (omega arith)) ∙ r.one_pair.word_is q l) h)
+            (λ c near. ap (λ (k : ℕ). k % 2) (get_or-set_other s.words (8 * p) (8 * (w.instances + c)) 1 0 (λ e. omega arith)) ∙ (r.parking.marks c near ∙ sym (mark_same place p (held id) (w.reader c) c (sym (ap (parked_on c) is)))))
+            (λ c near. inl (pub_same c)))
+            (takes_second told belongs w d s place r a.reckoned (8 * p) 1 id m p L m.0.owed seen 0 me inside fit.hands_long fit.got_long (omega arith) free
+            (omega (arith, ap is_up is)) (owes_more m.0.hands p m.0.owed free (a.reckoned.counted.pairs id m.0 me)) saw_it.1 saw_it.2 (λ c near none. pub_same c)),
         (
           (λ _. (
             y,
@@ -264,18 +264,16 @@ module _ {T : Type 0} (told : T → Option Tale) (belongs : ℕ → T → Type 0
         gave v p (told y) (new / 2) new,
         gives,
         tt,
-        record {
-          place = moved place p x;
-          ruled = gives_up told w s place r (8 * p) new id v more p y x (gave v p (told y) (new / 2) new) refl refl refl me fit inside is_in free
-              (λ q h. at_moved (λ k z. k < w.instances → get_or ws (8 * k) 0 ≡ word_code z) place p x q (λ _. get_or-set_same s.words (8 * p) new 0 (omega arith) ∙ codes) (λ ne l. get_or-set_other s.words (8 * p) (8 * q) new 0 (λ e. ne (omega arith)) ∙ r.one_pair.word_is q l) h)
-              (λ c near. ap (λ (k : ℕ). k % 2) (get_or-set_other s.words (8 * p) (8 * (w.instances + c)) new 0 (λ e. omega arith)) ∙ (r.parking.marks c near ∙ sym (mark_same place p x (w.reader c) c (unparked c ∙ sym (ap (parked_on c) is)))))
-              (λ c near. ap half (get_or-set_other s.words (8 * p) (8 * (w.instances + c)) new 0 (λ e. omega arith)))
-              stands
-              (λ c e. absurd (omega (arith, unparked c, ap (parked_on c) e, parked_yes c)))
-              ends leaves.0;
-          reckoned = gives_second told belongs w d s place r a.reckoned (8 * p) new id v p y x (new / 2) new me inside fit.hands_long (omega arith) fit.alive is is_in ups leaves.3 few leaves.1 leaves.2 leaves.4
-              (λ c near. ap half (get_or-set_other s.words (8 * p) (8 * (w.instances + c)) new 0 (λ e. omega arith)));
-        },
+        whole told belongs w d _ (moved place p x)
+            (gives_up told w s place r (8 * p) new id v more p y x (gave v p (told y) (new / 2) new) refl refl refl me fit inside is_in free
+            (λ q h. at_moved (λ k z. k < w.instances → get_or ws (8 * k) 0 ≡ word_code z) place p x q (λ _. get_or-set_same s.words (8 * p) new 0 (omega arith) ∙ codes) (λ ne l. get_or-set_other s.words (8 * p) (8 * q) new 0 (λ e. ne (omega arith)) ∙ r.one_pair.word_is q l) h)
+            (λ c near. ap (λ (k : ℕ). k % 2) (get_or-set_other s.words (8 * p) (8 * (w.instances + c)) new 0 (λ e. omega arith)) ∙ (r.parking.marks c near ∙ sym (mark_same place p x (w.reader c) c (unparked c ∙ sym (ap (parked_on c) is)))))
+            (λ c near. ap half (get_or-set_other s.words (8 * p) (8 * (w.instances + c)) new 0 (λ e. omega arith)))
+            stands
+            (λ c e. absurd (omega (arith, unparked c, ap (parked_on c) e, parked_yes c)))
+            ends leaves.0)
+            (gives_second told belongs w d s place r a.reckoned (8 * p) new id v p y x (new / 2) new me inside fit.hands_long (omega arith) fit.alive is is_in ups leaves.3 few leaves.1 leaves.2 leaves.4
+            (λ c near. ap half (get_or-set_other s.words (8 * p) (8 * (w.instances + c)) new 0 (λ e. omega arith)))),
         (y, refl, refl),
       )
 
@@ -295,22 +293,20 @@ module _ {T : Type 0} (told : T → Option Tale) (belongs : ℕ → T → Type 0
         gave v p (told y) 1 x,
         gives,
         tt,
-        record {
-          place = moved place p (parked c);
-          ruled = gives_up told w s place r i new id v more p y (parked c) (gave v p (told y) 1 x) refl refl refl me fit inside is_in (λ j. refl)
-              (λ q h. at_moved (λ k z. k < w.instances → get_or ws (8 * k) 0 ≡ word_code z) place p (parked c) q
-              (λ l. else_where (8 * p) (λ e. omega arith) ∙ (r.one_pair.word_is p l ∙ ap word_code is)) (λ ne l. else_where (8 * q) (λ e. omega arith) ∙ r.one_pair.word_is q l) h)
-              (λ d near_d. dite (ℕ_discrete d c)
-              (λ e. subst (λ (k : ℕ). get_or ws (8 * (w.instances + k)) 0 % 2 ≡ mark_of (moved place p (parked c)) (w.reader k) k) (sym e)
-              (let odd : get_or ws (8 * (w.instances + c)) 0 % 2 ≡ 1 = omega (arith, now) in odd ∙ sym (ap (λ (o : Option ℕ). mark_of (moved place p (parked c)) o c) reads ∙ (ap (parked_on c) (moved_here place p (parked c)) ∙ parked_yes c))))
-              (λ ne. ap (λ (k : ℕ). k % 2) (else_where (8 * (w.instances + d)) (λ e. ne (omega arith))) ∙ (r.parking.marks d near_d ∙ sym (mark_same place p (parked c) (w.reader d) d (parked_no d c (λ e. ne (sym e)) ∙ sym (ap (parked_on d) is))))))
-              same
-              (y, refl)
-              (λ d e. subst (λ (k : ℕ). (k < w.channels) × (w.reader k ≡ Some p) × TellsWait (told y) k (published w ws k)) (parked_apart c d e) (near, reads, subst (TellsWait (told y) c) (sym num) waits))
-              (λ e. absurd (omega (arith, ap word_code e)))
-              leaves.0;
-          reckoned = gives_second told belongs w d s place r a.reckoned i new id v p y (parked c) 1 x me inside fit.hands_long (omega arith) fit.alive is is_in refl leaves.3 few leaves.1 leaves.2 leaves.4 same;
-        },
+        whole told belongs w d _ (moved place p (parked c))
+            (gives_up told w s place r i new id v more p y (parked c) (gave v p (told y) 1 x) refl refl refl me fit inside is_in (λ j. refl)
+            (λ q h. at_moved (λ k z. k < w.instances → get_or ws (8 * k) 0 ≡ word_code z) place p (parked c) q
+            (λ l. else_where (8 * p) (λ e. omega arith) ∙ (r.one_pair.word_is p l ∙ ap word_code is)) (λ ne l. else_where (8 * q) (λ e. omega arith) ∙ r.one_pair.word_is q l) h)
+            (λ d near_d. dite (ℕ_discrete d c)
+            (λ e. subst (λ (k : ℕ). get_or ws (8 * (w.instances + k)) 0 % 2 ≡ mark_of (moved place p (parked c)) (w.reader k) k) (sym e)
+            (let odd : get_or ws (8 * (w.instances + c)) 0 % 2 ≡ 1 = omega (arith, now) in odd ∙ sym (ap (λ (o : Option ℕ). mark_of (moved place p (parked c)) o c) reads ∙ (ap (parked_on c) (moved_here place p (parked c)) ∙ parked_yes c))))
+            (λ ne. ap (λ (k : ℕ). k % 2) (else_where (8 * (w.instances + d)) (λ e. ne (omega arith))) ∙ (r.parking.marks d near_d ∙ sym (mark_same place p (parked c) (w.reader d) d (parked_no d c (λ e. ne (sym e)) ∙ sym (ap (parked_on d) is))))))
+            same
+            (y, refl)
+            (λ d e. subst (λ (k : ℕ). (k < w.channels) × (w.reader k ≡ Some p) × TellsWait (told y) k (published w ws k)) (parked_apart c d e) (near, reads, subst (TellsWait (told y) c) (sym num) waits))
+            (λ e. absurd (omega (arith, ap word_code e)))
+            leaves.0)
+            (gives_second told belongs w d s place r a.reckoned i new id v p y (parked c) 1 x me inside fit.hands_long (omega arith) fit.alive is is_in refl leaves.3 few leaves.1 leaves.2 leaves.4 same),
         ((λ _. (y, refl, refl)), λ miss. absurd (miss hit)),
       ))
       (λ miss. let is = mine_is told w s place r id (v, []) p me inside is_in in
@@ -344,53 +340,54 @@ module _ {T : Type 0} (told : T → Option Tale) (belongs : ℕ → T → Type 0
         v',
         keeps,
         tt,
-        record {
-          place = moved place q₀ (held id);
-          ruled = kept told w s place r id q₀ m.0 v' (held id) ws s.homes record {
-            mine = me;
-            wide = length-set s.words i new;
-            deep = refl;
-            words_are = λ q h. else_where (8 * q) (λ e. omega arith) ∙ (r.one_pair.word_is q h ∙ ap word_code (sym (stay q)));
-            hands_are = λ q h. r.one_pair.hands_are id m.0 me q h ∙ ap (held_by id) (sym (stay q));
-            not_theirs = λ j ne. sym (ap (held_by j) is);
-            only_mine = λ j e. sym (held_apart id j e);
-            stands = cell;
-            elsewhere = λ q ne. refl;
-            marks = λ d near_d. dite (ℕ_discrete d c)
-                (λ e. subst (λ (k : ℕ). get_or ws (8 * (w.instances + k)) 0 % 2 ≡ mark_of (moved place q₀ (held id)) (w.reader k) k) (sym e)
-                (let zero_now : get_or ws (8 * (w.instances + c)) 0 % 2 ≡ get_or s.words (8 * (w.instances + c)) 0 % 2 = omega (arith, now, x_is) in zero_now ∙ (r.parking.marks c near ∙ sym (unmarked c))))
-                (λ ne. ap (λ (k : ℕ). k % 2) (else_where (8 * (w.instances + d)) (λ e. ne (omega arith))) ∙ (r.parking.marks d near_d ∙ sym (unmarked d)));
-            reads = λ d e. absurd (omega (arith, ap (parked_on d) e, parked_yes d));
-            waits = λ d z e. absurd (omega (arith, ap (parked_on d) e, parked_yes d));
-            ends = λ z e. absurd (omega (arith, ap word_code e));
-            flushes = λ d l z e. absurd (some-ne-none (Some z) (some-injective (some (Some z)) none (sym e ∙ cell)));
-            same = λ d near_d. dite (ℕ_discrete d c)
-                (λ e. inr (λ q h ne. (
-                  (λ there_parked. let on_c : place q ≡ parked c = there_parked ∙ ap (λ (k : ℕ). parked k) e in
-                      absurd (omega (arith, x_is, r.parking.marks c near, ap (λ (o : Option ℕ). mark_of place o c) (r.parking.reads q c h on_c).1, ap (parked_on c) on_c, parked_yes c))),
-                  (λ wr. the_writer q (ap w.writer (sym e) ∙ wr)),
-                )))
-                (λ ne. inl (elsewhere_same d ne));
-            known = λ q d h one near_d wr. now_known q d h near_d one wr;
-            alive = fit.alive;
-            parts = refl;
-          };
-          reckoned = replaced told belongs w d _ place (moved place q₀ (held id)) (λ q. sym (stay q)) (idles told belongs w d s place a.reckoned id m.0 v' ws me record {
-            hands_same = refl;
-            got_same = refl;
-            drawing = omega (arith, hots.budget_same);
-            tallying = refl;
-            counting = omega (arith, hots.count_same);
-            pairs = a.reckoned.counted.pairs id m.0 me;
-            few = a.reckoned.counted.few id m.0 me;
-            still_quiet = λ e. hots.count_same ∙ e;
-            still_halted = λ ne e. ne (sym hots.halted_same ∙ e);
-            saw_quiet = λ e. hots.count_same ∙ a.reckoned.lasting.saw_quiet id m.0 me e;
-            saw_halted = λ e z. a.reckoned.lasting.saw_halted id m.0 me e (sym hots.halted_same ∙ z);
-            fixed = fixed;
-            leaves = λ h. absurd (omega arith);
-          });
-        },
+        whole told belongs w d _ (moved place q₀ (held id))
+            (kept told w s place r id q₀ m.0 v' (held id) ws s.homes record {
+              mine = me;
+              wide = length-set s.words i new;
+              deep = refl;
+              words_are = λ q h. else_where (8 * q) (λ e. omega arith) ∙ (r.one_pair.word_is q h ∙ ap word_code (sym (stay q)));
+              hands_are = λ q h. r.one_pair.hands_are id m.0 me q h ∙ ap (held_by id) (sym (stay q));
+              not_theirs = λ j ne. sym (ap (held_by j) is);
+              only_mine = λ j e. sym (held_apart id j e);
+              stands = cell;
+              elsewhere = λ q ne. refl;
+              marks = λ d near_d. dite (ℕ_discrete d c)
+                  (λ e. subst (λ (k : ℕ). get_or ws (8 * (w.instances + k)) 0 % 2 ≡ mark_of (moved place q₀ (held id)) (w.reader k) k) (sym e)
+                  (let zero_now : get_or ws (8 * (w.instances + c)) 0 % 2 ≡ get_or s.words (8 * (w.instances + c)) 0 % 2 = omega (arith, now, x_is) in zero_now ∙ (r.parking.marks c near ∙ sym (unmarked c))))
+                  (λ ne. ap (λ (k : ℕ). k % 2) (else_where (8 * (w.instances + d)) (λ e. ne (omega arith))) ∙ (r.parking.marks d near_d ∙ sym (unmarked d)));
+              reads = λ d e. absurd (omega (arith, ap (parked_on d) e, parked_yes d));
+              waits = λ d z e. absurd (omega (arith, ap (parked_on d) e, parked_yes d));
+              ends = λ z e. absurd (omega (arith, ap word_code e));
+              flushes = λ d l z e. absurd (some-ne-none (Some z) (some-injective (some (Some z)) none (sym e ∙ cell)));
+              same = λ d near_d. dite (ℕ_discrete d c)
+                  (λ e. inr (λ q h ne. (
+                    (λ there_parked. let on_c : place q ≡ parked c = there_parked ∙ ap (λ (k : ℕ). parked k) e in
+                        absurd (omega (arith, x_is, r.parking.marks c near, ap (λ (o : Option ℕ). mark_of place o c) (r.parking.reads q c h on_c).1, ap (parked_on c) on_c, parked_yes c))),
+                    (λ wr. the_writer q (ap w.writer (sym e) ∙ wr)),
+                  )))
+                  (λ ne. inl (elsewhere_same d ne));
+              known = λ q d h one near_d wr. now_known q d h near_d one wr;
+              alive = fit.alive;
+              parts = refl;
+            })
+            (replaced told belongs w d _ place (moved place q₀ (held id)) (λ q. sym (stay q)) (idles told belongs w d s place a.reckoned id m.0 v' ws me record {
+              hands_same = refl;
+              got_same = refl;
+              drawing = omega (arith, hots.budget_same);
+              tallying = refl;
+              counting = omega (arith, hots.count_same);
+              pairs = a.reckoned.counted.pairs id m.0 me;
+              few = a.reckoned.counted.few id m.0 me;
+              still_quiet = λ e. hots.count_same ∙ e;
+              still_halted = λ ne e. ne (sym hots.halted_same ∙ e);
+              saw_quiet = λ e. hots.count_same ∙ a.reckoned.lasting.saw_quiet id m.0 me e;
+              saw_halted = λ e z. a.reckoned.lasting.saw_halted id m.0 me e (sym hots.halted_same ∙ z);
+              knows = λ e. e;
+              halter = λ ne. inl (λ z. ne (hots.halted_same ∙ z));
+              sights = a.reckoned.lasting.sights id m.0 me;
+              fixed = fixed;
+              leaves = λ h. absurd (omega arith);
+            })),
         ((λ _. refl), λ odd. absurd (omega arith)),
       ))
       (λ not_even. let odd : x % 2 ≡ 1 = omega arith in let t = marked place (w.reader c) c (sym (r.parking.marks c near) ∙ (ap (λ (k : ℕ). k % 2) x_is ∙ odd)) in
@@ -402,25 +399,23 @@ module _ {T : Type 0} (told : T → Option Tale) (belongs : ℕ → T → Type 0
         v',
         takes p (Some y),
         cell.1,
-        record {
-          place = moved place p (held id);
-          ruled = takes_up told w s place r i new id m p y v' refl refl refl me fit inside cell.1 (λ j. ap (held_by j) on_c)
-              (λ q h. at_moved (λ k z. k < w.instances → get_or ws (8 * k) 0 ≡ word_code z) place p (held id) q
-              (λ l. else_where (8 * p) (λ e. omega arith) ∙ (r.one_pair.word_is p l ∙ ap word_code on_c)) (λ ne l. else_where (8 * q) (λ e. omega arith) ∙ r.one_pair.word_is q l) h)
-              (λ d near_d. dite (ℕ_discrete d c)
-              (λ e. subst (λ (k : ℕ). get_or ws (8 * (w.instances + k)) 0 % 2 ≡ mark_of (moved place p (held id)) (w.reader k) k) (sym e)
-              (let zero_now : get_or ws (8 * (w.instances + c)) 0 % 2 ≡ 0 = omega (arith, now) in zero_now ∙ sym (ap (λ (o : Option ℕ). mark_of (moved place p (held id)) o c) t.1 ∙ ap (parked_on c) (moved_here place p (held id)))))
-              (λ ne. ap (λ (k : ℕ). k % 2) (else_where (8 * (w.instances + d)) (λ e. ne (omega arith))) ∙ (r.parking.marks d near_d ∙ sym (mark_same place p (held id) (w.reader d) d (sym (ap (parked_on d) on_c ∙ parked_no d c (λ e. ne (sym e))))))))
-              (λ d near_d. dite (ℕ_discrete d c)
-              (λ e. inr (λ q h ne. (
-                (λ there_parked. absurd (ne (same_some q p (sym (r.parking.reads q c h (there_parked ∙ ap (λ (k : ℕ). parked k) e)).1 ∙ t.1)))),
-                (λ wr. the_writer q (ap w.writer (sym e) ∙ wr)),
-              )))
-              (λ ne. inl (elsewhere_same d ne)));
-          reckoned = takes_second told belongs w d s place r a.reckoned i new id m p L (m.0.owed ++ (p, q₀) ∷ []) seen x me inside fit.hands_long fit.got_long (omega arith) free
-              (omega (arith, ap is_up on_c, one_longer m.0.owed (p, q₀)))
-              (owes_woken m.0.hands p q₀ m.0.owed free (get_or-set_same m.0.hands p 1 0 (omega (arith, fit.hands_long))) is_in (a.reckoned.counted.pairs id m.0 me)) saw_it.1 saw_it.2 fixed;
-        },
+        whole told belongs w d _ (moved place p (held id))
+            (takes_up told w s place r i new id m p y v' refl refl refl me fit inside cell.1 (λ j. ap (held_by j) on_c)
+            (λ q h. at_moved (λ k z. k < w.instances → get_or ws (8 * k) 0 ≡ word_code z) place p (held id) q
+            (λ l. else_where (8 * p) (λ e. omega arith) ∙ (r.one_pair.word_is p l ∙ ap word_code on_c)) (λ ne l. else_where (8 * q) (λ e. omega arith) ∙ r.one_pair.word_is q l) h)
+            (λ d near_d. dite (ℕ_discrete d c)
+            (λ e. subst (λ (k : ℕ). get_or ws (8 * (w.instances + k)) 0 % 2 ≡ mark_of (moved place p (held id)) (w.reader k) k) (sym e)
+            (let zero_now : get_or ws (8 * (w.instances + c)) 0 % 2 ≡ 0 = omega (arith, now) in zero_now ∙ sym (ap (λ (o : Option ℕ). mark_of (moved place p (held id)) o c) t.1 ∙ ap (parked_on c) (moved_here place p (held id)))))
+            (λ ne. ap (λ (k : ℕ). k % 2) (else_where (8 * (w.instances + d)) (λ e. ne (omega arith))) ∙ (r.parking.marks d near_d ∙ sym (mark_same place p (held id) (w.reader d) d (sym (ap (parked_on d) on_c ∙ parked_no d c (λ e. ne (sym e))))))))
+            (λ d near_d. dite (ℕ_discrete d c)
+            (λ e. inr (λ q h ne. (
+              (λ there_parked. absurd (ne (same_some q p (sym (r.parking.reads q c h (there_parked ∙ ap (λ (k : ℕ). parked k) e)).1 ∙ t.1)))),
+              (λ wr. the_writer q (ap w.writer (sym e) ∙ wr)),
+            )))
+            (λ ne. inl (elsewhere_same d ne))))
+            (takes_second told belongs w d s place r a.reckoned i new id m p L (m.0.owed ++ (p, q₀) ∷ []) seen x me inside fit.hands_long fit.got_long (omega arith) free
+            (omega (arith, ap is_up on_c, one_longer m.0.owed (p, q₀)))
+            (owes_woken m.0.hands p q₀ m.0.owed free (get_or-set_same m.0.hands p 1 0 (omega (arith, fit.hands_long))) is_in (a.reckoned.counted.pairs id m.0 me)) saw_it.1 saw_it.2 fixed),
         (
           (λ even. absurd (not_even even)),
           (λ _. (

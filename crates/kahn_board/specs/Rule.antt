@@ -13,6 +13,7 @@ use Rattle.kahn_board.specs.Tale.{Tale, TellsWait, TellsEnd, TellsEvents, Flushe
 use Rattle.kahn_board.specs.Wires.{Wires}
 use Rattle.kahn_board.specs.Place.{Place, ready, held, parked, over, word_code, held_by, mark_of, total}
 use Rattle.kahn_board.specs.Counts.{Owed, Owes, is_up, below}
+use Rattle.kahn_board.specs.Quiet.{Quiet}
 use Rattle.kahn_board.specs.declared.view.View.{View}
 
 -- the parts of a board's first seat
@@ -68,6 +69,10 @@ pub record Deal : Type 0 where
   pub bound : ℕ
   pub events : ℕ
   pub published : ℕ → ℕ
+
+-- a seat halted the run, or saw that it is halted
+abbrev pub IsHalter : List View → Type 0
+IsHalter views = (j : ℕ) × (v : View) × (get_elem? views j ≡ some v) × (v.seen ≡ 2)
 
 module _ {T : Type 0} where
   -- the cell y of the instance p is at home
@@ -135,6 +140,9 @@ module _ {T : Type 0} where
   pub record Lasting (told : T → std.Option Tale) (belongs : ℕ → T → Type 0) (w : Wires) (d : Deal) (s : St T) : Type 0 where
     pub saw_quiet : (j : ℕ) (v : View) → get_elem? s.views j ≡ some v → v.seen ≡ 1 → count w s.words ≡ 0
     pub saw_halted : (j : ℕ) (v : View) → get_elem? s.views j ≡ some v → v.seen ≡ 2 → halted w s.words ≢ 0
+    -- it is halted only where a seat did so
+    pub halter : halted w s.words ≢ 0 → IsHalter s.views
+    pub sights : (j : ℕ) (v : View) → get_elem? s.views j ≡ some v → v.seen ≤ 2
     pub flushed_all : (p : ℕ) (y : T) → p < w.instances → IsHome s p y → halted w s.words ≡ 0 → FlushedAll (told y)
     pub belonging : (p : ℕ) (y : T) → p < w.instances → IsHome s p y → belongs p y
     pub fixed : (c : ℕ) → c < w.channels → w.writer c ≡ std.None → published w s.words c ≡ d.published c
@@ -165,3 +173,5 @@ module _ {T : Type 0} where
     pub place : ℕ → Place
     pub ruled : Ruled told w place s
     pub reckoned : Reckoned told belongs w d place s
+    -- where the count is 0 every instance is parked or over, and nobody owes
+    pub quiet : count w s.words ≡ 0 → Quiet (λ (v : View). v.hands) (λ (v : View). v.owed) (λ (v : View). v.down) w.instances place s.views

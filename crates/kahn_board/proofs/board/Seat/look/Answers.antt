@@ -1,7 +1,7 @@
 use Rattle.std.proofs.Common.{rules, refl, arith}
 use Rattle.kahn_board.specs.Dealt.{belongs, dealt, wired}
 use Rattle.kahn_board.specs.Plays.{noted}
-use Rattle.kahn_board.proofs.Hot.{looks_halted, looks_count, looks_budget, still_fit}
+use Rattle.kahn_board.proofs.Hot.{looks_halted, looks_count, looks_budget, not_two, still_fit}
 use Rattle.kahn_board.proofs.Seats.{fit}
 use Rattle.kahn_board.proofs.board.Seat.look.Goals as goal
 
@@ -19,7 +19,7 @@ load-requires-2 g c = let b = c.args.board.now in let told = g.T.Told.told in le
     let f' = still_fit told own w d me.seat.me c.load.new.seat.me (noted me.seat.me.0 c.load.result) z.1 refl refl refl refl f in (
       search rules,
       omega (arith, b.sized.0),
-      looks_count told own w d _ _ _ _ f' (omega (arith, b.counts.0, b.counts.1)),
+      looks_count told own w d _ _ _ _ f' (not_two told own w d me.seat.me c.load.new.seat.me c.load.result z.1 z.0) (omega (arith, b.counts.0, b.counts.1)),
     )
 
 pub load-requires-3 : goal.load-requires-3
