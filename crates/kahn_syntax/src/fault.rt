@@ -5,13 +5,16 @@ use std::alloc::{AllocError, AllocFailed};
 use thiserror::Error;
 
 /// Why a lexeme can't stand where it stands.
-#[derive(Clone, Copy, Debug, PartialEq, Eq)]
+#[derive(Clone, Copy, Debug, PartialEq, Eq, Drop, Error)]
 pub enum What {
     /// The text ended: its lexemes begin a program and aren't one. The span is empty, at the text's end.
+    #[error("text ends too early")]
     More,
     /// The lexemes before are a whole program, and this one can't follow.
+    #[error("text goes on after the program")]
     Nothing,
     /// The lexemes before begin a program, and with this one they begin none.
+    #[error("this cannot stand here")]
     Other,
 }
 
@@ -34,7 +37,7 @@ pub enum SyntaxFault {
     #[error("name is too long")]
     NameTooLong(Span),
     /// A lexeme that can't stand where it stands, or the end of the text where more is wanted.
-    #[error("this cannot stand here")]
+    #[error("{1}")]
     Expected(Span, What),
     /// A lexeme that may stand here and would open level 65.
     #[error("nesting is too deep")]

@@ -11,14 +11,14 @@ ghost use Rattle.kahn_syntax.specs.Drawn.{program_of};
 ghost use Rattle.kahn_syntax.specs.Programs.{ProgramTree, Spells, nesting};
 ghost use Rattle.kahn_syntax.specs.Texts.{AreLexemes, IsProgram, IsTextFault};
 
-pub mod build;
-pub mod cursor;
-pub mod declaration;
-pub mod expression;
-pub mod names;
-pub mod operator;
+mod build;
+mod cursor;
+mod declaration;
+mod expression;
+mod names;
+mod operator;
 pub mod program;
-pub mod statement;
+mod statement;
 
 use crate::fault::SyntaxFault;
 use crate::lexer::lex;
