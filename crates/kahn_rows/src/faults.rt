@@ -252,10 +252,11 @@ fn told(alloc: Global, fault: Fault) -> Result<(String, u8), Fail> {
     Ok((String::from_utf8(written)?, status(&Err(fault))))
 }
 
-// Whether the fault has this line and this status.
+// Whether the fault has this line and this status, and is shown in the words that end the line.
 fn tells(alloc: Global, fault: Fault, line: &str, number: u8) -> Result<bool, Fail> {
+    let shown = format!(in alloc; "{fault}\n")?;
     let (said, status) = told(alloc, fault)?;
-    Ok(said.as_str() == line && status == number)
+    Ok(said.as_str() == line && status == number && line.ends_with(shown.as_str()))
 }
 
 #[test]
