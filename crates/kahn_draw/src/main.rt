@@ -5,12 +5,12 @@ mod drawing;
 
 use clap::{Arg, Command};
 use drawing::draw;
-use kahn_fault::{Fault, fault_line, status};
-use kahn_line::LineFault;
+use kahn_fault::Fault;
+use kahn_line::{LineFault, tell_line, tell_no_memory, tell_words};
 use kahn_pool::answer::Verdict;
-use kahn_texts::read_texts;
+use kahn_texts::{read_texts, tell};
 use std::alloc::Global;
-use std::io::{ErrorKind, Write};
+use std::io::Write;
 use std::process::ExitCode;
 use std::rt::Runtime;
 use std::{env, io};
@@ -32,12 +32,6 @@ Exit status:
   4  no memory
   5  a file can't be read or isn't UTF-8, or the picture can't be written";
 
-/// The status of a command line that is refused.
-const REFUSED: u8 = 2;
-
-/// The status where memory was refused.
-const NO_MEMORY: u8 = 4;
-
 /// The path of the program text, or nothing for standard input.
 fn read_path(alloc: Global, words: &[String]) -> Result<Option<String>, LineFault> {
     let program = Arg::new(alloc, "PROGRAM").help(
@@ -55,14 +49,6 @@ fn read_path(alloc: Global, words: &[String]) -> Result<Option<String>, LineFaul
     }
 }
 
-/// Tells a fault, and gives the status. A line that can't be written changes no status.
-fn told<W: Write>(answer: &Result<Verdict, Fault>, program: &str, writer: &mut W) -> u8 {
-    if let Err(fault) = answer {
-        let _ = fault_line(fault, program, writer);
-    }
-    status(answer)
-}
-
 /// Draws the program of that path, and gives the status. Faults are told to the writer.
 fn answered<R: Runtime + AllocGlobal, W: Write>(
     rt: &R,
@@ -75,45 +61,23 @@ fn answered<R: Runtime + AllocGlobal, W: Write>(
                 Ok(()) => Ok(Verdict::Finished),
                 Err(fault) => Err(Fault::Work(fault)),
             };
-            told(&answer, texts.program.as_str(), writer)
+            tell(&answer, texts.program.as_str(), writer).status
         }
-        Err(fault) => told(&Err(fault), "", writer),
+        Err(fault) => tell(&Err(fault), "", writer).status,
     }
-}
-
-/// Says that memory was refused, and gives the status.
-fn no_memory(rt: &impl Eprint) -> u8 {
-    let _ = eprintln!(rt; "kahn: no memory");
-    NO_MEMORY
-}
-
-/// Tells the user what clap says of the command line, and gives the status: 0 for the help.
-fn refused(rt: &(impl Print + Eprint), error: &clap::Error) -> u8 {
-    let _ = error.print(rt);
-    if error.use_stderr() { REFUSED } else { 0 }
-}
-
-/// Says that a word of the command line isn't UTF-8, or that memory was refused, and gives the status.
-fn unread(rt: &impl Eprint, error: &io::Error) -> u8 {
-    if error.kind() == ErrorKind::OutOfMemory {
-        return no_memory(rt);
-    }
-    let _ = eprintln!(rt; "error: a word of the command line is not UTF-8");
-    REFUSED
 }
 
 fn main(rt: HostRuntime) -> ExitCode {
     let words = match env::args(&rt) {
         Ok(words) => words,
-        Err(error) => return ExitCode::from(unread(&rt, &error)),
+        Err(error) => return ExitCode::from(tell_words(&rt, &error)),
     };
     let Ok(words) = words.collect::<Vec<String>>(rt.alloc()) else {
-        return ExitCode::from(no_memory(&rt));
+        return ExitCode::from(tell_no_memory(&rt));
     };
     let status = match read_path(rt.alloc(), words.as_slice()) {
         Ok(path) => answered(&rt, path, &mut rt.stderr()),
-        Err(LineFault::Refused(error)) => refused(&rt, &error),
-        Err(LineFault::NoMemory) => no_memory(&rt),
+        Err(fault) => tell_line(&rt, &fault),
     };
     ExitCode::from(status)
 }
