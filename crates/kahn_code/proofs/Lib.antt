@@ -19,3 +19,4 @@ pub mod Readers
 pub mod Opened
 pub mod Joined
 pub mod Grown
+pub mod Widths

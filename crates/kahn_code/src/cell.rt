@@ -3,7 +3,7 @@
 ghost use Rattle.std.specs.Prelude.{◌≡◌, ℕ, ◌+◌, ◌*◌, ◌^◌, ◌<◌, ◌≤◌, length, [], map, replicate, slice_index_or, IfOk};
 ghost use Rattle.kahn_network.specs.Network.{network_of, instance_at};
 ghost use Rattle.kahn_streams.specs.Tokens.{Lists, inputs_of};
-ghost use Rattle.kahn_code.specs.Flat.{stmt_code};
+ghost use Rattle.kahn_code.specs.Flat.{stmt_code, depth, registers_of};
 ghost use Rattle.kahn_streams.specs.Laws.{AreInputsExtended};
 ghost use Rattle.kahn_streams.specs.Solution.{opening};
 ghost use Rattle.kahn_streams.specs.Tokens.{Names};
@@ -196,7 +196,7 @@ fn opened<A: Allocator + Copy + Drop>(
     watch: Option<usize>,
 ) -> Result<Progress<A>, NoMemory>
     requires { instance < length (network_of code.now.network.value).instances }
-    ensures core { IfOk result (λ c. core_of c ≡ opening_core (length (stmt_code (instance_at (network_of code.now.network.value) instance).body)) (opening (instance_at (network_of code.now.network.value) instance)) (length (instance_at (network_of code.now.network.value) instance).actuals)) }
+    ensures core { IfOk result (λ c. let i = instance_at (network_of code.now.network.value) instance in core_of c ≡ opening_core (registers_of (depth i.body) (opening i)) (length i.actuals)) }
     ensures names { IfOk result (λ c. (c.instance ≡ instance) × (c.watch ≡ watch)) }
     ensures stands { IfOk result (λ c. (lists : Lists) → IsStanding c code.now.network.value lists) }
 {

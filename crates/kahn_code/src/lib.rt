@@ -4,6 +4,7 @@
 pub mod body;
 pub mod cell;
 pub mod code;
+pub mod depth;
 pub mod emit;
 pub mod instruction;
 pub mod laws;
