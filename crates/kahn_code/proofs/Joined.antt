@@ -1,5 +1,5 @@
 -- Queues and routes of one network and input are the plain queues of all channels.
-use Rattle.std.proofs.Common.{arith, ◌≡◌, ◌⊎◌, inl, inr, ◌≤◌, ℕ, zero, suc, ◌<◌, ◌+◌, List, [], ◌∷◌, length, map, Option, Some, None, refl, sym, ap, ◌∙◌, subst, slice_get, slice_index_or, pos, le_of_suc-le-suc}
+use Rattle.std.proofs.Common.{arith, ◌≡◌, ◌⊎◌, inl, inr, ◌≤◌, ℕ, zero, suc, ◌<◌, List, [], ◌∷◌, length, map, Option, None, refl, sym, ap, ◌∙◌, subst, slice_index_or, pos, le_of_suc-le-suc}
 use Rattle.kahn_tree.specs.declared.tree.Program.{Program}
 use Rattle.kahn_tree.specs.Syntax.{Number}
 use Rattle.kahn_network.specs.Network.{Network, Actual, Hands, idle, Given, Written, source_by, first_writer, network_of, instance_at, actual_at, role_at}

@@ -1,5 +1,5 @@
 -- Queues of channels, one of which changes.
-use Rattle.std.proofs.Common.{arith, ◌≡◌, ◌≢◌, ◌⊎◌, inl, inr, ℕ, zero, suc, ◌+◌, ◌<◌, List, [], ◌∷◌, length, refl, sym, ap, ◌∙◌, subst, Bool, true, false, not, IsTrue, IsFalse, Result, Ok, Err, OnOk, Option, Some, None, IfSome, IfNone, IsSome, slice_get, slice_set, slice_index_or, le_of_suc-le-suc}
+use Rattle.std.proofs.Common.{arith, ◌≡◌, ◌⊎◌, inl, inr, ℕ, zero, suc, ◌+◌, ◌<◌, List, [], ◌∷◌, length, refl, sym, ap, ◌∙◌, subst, Bool, true, false, not, IsTrue, IsFalse, Result, Ok, Err, OnOk, Option, Some, None, IfSome, IfNone, IsSome, slice_get, slice_set, slice_index_or, le_of_suc-le-suc}
 use Rattle.std.proofs.lemmas.Option.{slice_get-get_or}
 use Rattle.kahn_streams.specs.declared.token.Token.{Token}
 use Rattle.kahn_streams.specs.declared.value.Line.TheVariants.{Channel}

@@ -1,4 +1,4 @@
-use Rattle.std.proofs.Common.{rules, ◌≡◌, ◌+◌, ◌<◌, ◌≤◌, max, suc, drop, ◌∷◌, sym, ap, ◌∙◌, length, arith}
+use Rattle.std.proofs.Common.{rules, ◌≡◌, ◌+◌, max, drop, ◌∷◌, sym, ap, ◌∙◌, arith}
 use Rattle.std.proofs.lemmas.Grind.{common_steps}
 use Rattle.kahn_tree.specs.View.{names_of, expression_of}
 use Rattle.kahn_tree.specs.declared.tree.Form.TheViews.{the_lemmas}

@@ -1,5 +1,5 @@
-use Rattle.std.proofs.Common.{◌≡◌, ◌<◌, ℕ, Option, List, Some, None, length, map, ap, sym, subst, ◌∙◌}
-use Rattle.kahn_code.specs.Lines.{Lines, AreQueued, Joins, actual_of}
+use Rattle.std.proofs.Common.{◌≡◌, ◌<◌, length, map, ap, sym, subst, ◌∙◌}
+use Rattle.kahn_code.specs.Lines.{Lines, AreQueued}
 use Rattle.kahn_code.proofs.Queued.{routed_at, none_some, one_channel}
 use Rattle.kahn_code.proofs.plain.Plain.channel_of.Goals as goal
 

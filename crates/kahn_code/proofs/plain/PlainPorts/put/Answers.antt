@@ -1,9 +1,9 @@
-use Rattle.std.proofs.Common.{◌≡◌, ◌<◌, ℕ, List, Option, map, length, sym, ap, ◌∙◌, subst, slice_get, Some}
+use Rattle.std.proofs.Common.{◌≡◌, ◌<◌, map, length, sym, ap, ◌∙◌, subst, slice_get, Some}
 use Rattle.std.proofs.lemmas.List.{length-set}
-use Rattle.kahn_network.specs.Network.{Reads, Writes}
-use Rattle.kahn_code.specs.Lines.{Lines, AreQueued, actual_of, next_at, waiting_of, spare_of, place_at}
+use Rattle.kahn_network.specs.Network.{Writes}
+use Rattle.kahn_code.specs.Lines.{Lines, AreQueued, actual_of, next_at, place_at}
 use Rattle.kahn_code.specs.Queues.{Waiting}
-use Rattle.kahn_code.specs.Seats.{Stays, Moved, Leaves}
+use Rattle.kahn_code.specs.Seats.{Moved, Leaves}
 use Rattle.kahn_code.proofs.Queued
 use Rattle.kahn_code.proofs.plain.PlainPorts.put.Goals as goal
 

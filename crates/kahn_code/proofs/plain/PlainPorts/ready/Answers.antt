@@ -1,7 +1,5 @@
-use Rattle.std.proofs.Common.{◌≡◌, ◌<◌, ℕ, Bool, true, false, not, IsTrue, IsFalse, OnOk, Result, Ok, Err, length, sym, ap, ◌∙◌, subst, slice_get, Some, refl, arith}
-use Rattle.kahn_network.specs.Network.{Reads, Writes}
-use Rattle.kahn_code.specs.Lines.{Lines, actual_of, waiting_of, spare_of}
-use Rattle.kahn_code.specs.Queues.{Waiting}
+use Rattle.std.proofs.Common.{◌≡◌, ◌<◌, length, sym, subst, slice_get, Some}
+use Rattle.kahn_code.specs.Lines.{Lines}
 use Rattle.kahn_code.proofs.Queued
 use Rattle.kahn_code.proofs.plain.PlainPorts.ready.Goals as goal
 

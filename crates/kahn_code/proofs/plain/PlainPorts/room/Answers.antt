@@ -1,7 +1,7 @@
-use Rattle.std.proofs.Common.{◌≡◌, ◌<◌, ℕ, Bool, true, false, not, IsTrue, IsFalse, OnOk, Result, Ok, Err, length, sym, ap, ◌∙◌, subst, slice_get, Some, refl, arith, List, Option, map}
+use Rattle.std.proofs.Common.{◌≡◌, ◌<◌, ℕ, OnOk, length, sym, subst, slice_get, Some, arith}
 use Rattle.std.proofs.lemmas.List.{length-set}
-use Rattle.kahn_network.specs.Network.{Reads, Writes}
-use Rattle.kahn_code.specs.Lines.{Lines, actual_of, waiting_of, spare_of, place_at}
+use Rattle.kahn_network.specs.Network.{Writes}
+use Rattle.kahn_code.specs.Lines.{Lines, actual_of, spare_of, place_at}
 use Rattle.kahn_code.specs.Queues.{Waiting}
 use Rattle.kahn_code.specs.Seats.{Leaves}
 use Rattle.kahn_code.proofs.Queued

@@ -1,7 +1,7 @@
-use Rattle.std.proofs.Common.{◌≡◌, ◌<◌, ◌+◌, ℕ, List, Option, map, length, sym, ap, ◌∙◌, subst, slice_get, Some, IfSome, IfNone}
+use Rattle.std.proofs.Common.{◌≡◌, ◌<◌, ℕ, map, length, sym, ap, ◌∙◌, subst, slice_get, Some, IfSome, IfNone}
 use Rattle.std.proofs.lemmas.List.{length-set}
-use Rattle.kahn_network.specs.Network.{Reads, Writes}
-use Rattle.kahn_code.specs.Lines.{Lines, AreQueued, actual_of, next_at, waiting_of, spare_of, place_at}
+use Rattle.kahn_network.specs.Network.{Reads}
+use Rattle.kahn_code.specs.Lines.{Lines, AreQueued, actual_of, next_at, waiting_of, place_at}
 use Rattle.kahn_code.specs.Queues.{Waiting}
 use Rattle.kahn_code.specs.Seats.{Stays, Moved, Leaves}
 use Rattle.kahn_code.proofs.Queued
