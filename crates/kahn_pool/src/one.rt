@@ -48,10 +48,10 @@ fn run_opened<G: Gate, L: Ledger>(
     Ok(run_bench(bench, gate, ends, quantum, bound))
 }
 
-// Runs a network on the caller's thread over plain queues, with a watched channel or none, each process for at most
-// `quantum` events before the next one. Before each quantum the gate is entered. It refuses only where memory was refused
-// before the first event.
-fn run_watched<G: Gate>(
+/// Runs a network on the caller's thread over plain queues, with a watched channel or none, each process for at most
+/// `quantum` events before the next one. Before each quantum the gate is entered. It refuses only where memory was refused
+/// before the first event.
+pub(crate) fn run_watched<G: Gate>(
     alloc: Global,
     gate: &G,
     network: &Network,

@@ -11,6 +11,7 @@ use crate::answer::Answer;
 use crate::config::{Config, RunFault};
 use crate::gate::Gate;
 use crate::laws;
+use crate::one::run_watched;
 use crate::plan::plan_of;
 use crate::workers::run_workers;
 use kahn_network::network::Network;
@@ -40,9 +41,9 @@ pub(crate) fn watched(network: &Network, name: &Option<String>) -> Result<Option
 ///
 /// It refuses with `BadConfig` where a number of the configuration is out of its limit, then with `UnknownWatch` where
 /// no channel has the name that is to be watched, with `NoMemory` where memory was refused before the first event, and
-/// with `NoThread` where a thread couldn't be started, which one worker never takes: it has the caller's thread, and each
-/// other one a thread of its own. Memory that is refused later stops the run: its answer has the verdict `Memory`. Before
-/// each quantum of an instance the gate is entered.
+/// with `NoThread` where a thread couldn't be started, which one worker never takes: it has the caller's thread, where it
+/// runs one process after another over plain queues. Of several each other one has a thread of its own. Memory that is
+/// refused later stops the run: its answer has the verdict `Memory`. Before each quantum of an instance the gate is entered.
 pub fn run<R: Threads + Wait + Sync, G: Gate + Sync>(
     rt: &R,
     alloc: Global,
@@ -61,5 +62,16 @@ pub fn run<R: Threads + Wait + Sync, G: Gate + Sync>(
     let watch = watched(network, &config.watch)?;
     laws::finished_exactly();
     let plan = plan_of(&config, watch);
+    if plan.workers == 1 {
+        return Ok(run_watched(
+            alloc,
+            gate,
+            network,
+            &input,
+            watch,
+            plan.quantum,
+            plan.bound,
+        )?);
+    }
     run_workers(rt, alloc, network, &input, plan, gate)
 }

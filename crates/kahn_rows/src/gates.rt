@@ -175,16 +175,17 @@ fn prints(alloc: Global) -> Result<String, AllocError> {
     Ok(text)
 }
 
+// Sixteen workers are there at the same time, and one comes to each quantum too.
 #[test]
 fn sixteen_at_once(rt: HostRuntime) -> Result<(), Fail> {
     let program = prints(rt.alloc())?;
-    for (quantum, entries) in [(1, 32), (2, 16)] {
+    for (workers, quantum, entries) in [(16, 1, 32), (16, 2, 16), (1, 1, 32), (1, 2, 16)] {
         let gate = Meeting {
-            wanted: 16,
+            wanted: workers,
             entries: AtomicU64::new(0),
             late: AtomicU64::new(0),
         };
-        let config = config(rt.alloc(), 16, quantum, AMPLE, None)?;
+        let config = config(rt.alloc(), workers, quantum, AMPLE, None)?;
         let (verdict, _) = reported(&rt, rt.alloc(), program.as_str(), "", config, &gate)?;
         assert_eq!(rt; gate.late.load(Ordering::SeqCst), 0);
         assert_eq!(rt; gate.entries.load(Ordering::SeqCst), entries);
