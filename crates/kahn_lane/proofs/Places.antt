@@ -1,16 +1,17 @@
 -- Tokens at consecutive places, and what they are of.
-use Rattle.std.proofs.Common.{◌≡◌, ℕ, ◌+◌, List, [], ◌∷◌, ◌++◌, length, Some, None, arith, ap, sym}
+use Rattle.std.proofs.Common.{◌≡◌, ℕ, ◌+◌, List, [], ◌∷◌, ◌++◌, length, Some, None, arith, ap, sym, ◌∙◌}
 use Rattle.kahn_tree.specs.declared.tree.Program.{Program}
 use Rattle.kahn_streams.specs.Tokens.{Lists}
 use Rattle.kahn_streams.specs.Streams.{IsOf}
 use Rattle.kahn_streams.specs.declared.token.Token.{Token}
 use Rattle.kahn_streams.specs.declared.value.Line.TheVariants.{Channel}
+use Rattle.kahn_lane.specs.declared.carried.Carried.{Carried}
 use Rattle.kahn_lane.specs.declared.name.LaneName.{LaneName}
 use Rattle.kahn_lane.specs.Places.{Named, Placed, token_name, lane_name, moved_to}
 
-pub placed_more : (c : Named) (n : ℕ) (ts : List Token) (t : Token) → Placed c n ts → c ≡ Some (token_name t) → t.place ≡ n + length ts → Placed c n (ts ++ t ∷ [])
-placed_more c n [] t h on at = ((on, omega (arith, at)), tt)
-placed_more c n (x ∷ xs) t h on at = (h.0, placed_more c (n + 1) xs t h.1 on (omega (arith, at)))
+pub placed_more : (c : Named) (n : ℕ) (xs : List Carried) (x : Carried) (t : Token) → Placed c n xs → x.token.value ≡ t → c ≡ Some (token_name t) → t.place ≡ n + length xs → Placed c n (xs ++ x ∷ [])
+placed_more c n [] x t h is on at = ((on ∙ ap (λ u. Some (token_name u)) (sym is), omega (arith, at, ap (λ (u : Token). u.place) is)), tt)
+placed_more c n (y ∷ ys) x t h is on at = (h.0, placed_more c (n + 1) ys x t h.1 is on (omega (arith, at)))
 
 -- a token of a network and an input, on a channel, has the name of that channel's lane
 pub token_name-is_of : (network : Program) (input : Lists) (channel : ℕ) (t : Token) → IsOf network input t → t.line ≡ Channel channel → token_name t ≡ lane_name network input channel

@@ -10,6 +10,7 @@ ghost use Rattle.crossbeam_deque.specs.Handles.{worker_view, worker_deque, worke
 ghost use Rattle.kahn_lane.specs.Places.{lane_name, token_name, tag_name, owner};
 ghost use Rattle.kahn_lane.specs.LaneEnds.{sender_lane, receiver_lane, sender_name, receiver_name, flushed, sent, HasRoom, taken, IsReady, known, left, SameSender, SameReceiver};
 
+use crate::carried::Carried;
 use crate::fault::LaneFault;
 use crate::name::{Tag, make_tag};
 use crate::segments::{
@@ -71,7 +72,7 @@ pub(crate) fn lane_from<A: Allocator + Clone + Drop>(
     let right = VecDeque::new(alloc.clone()?);
     let (mut worker, stealer) = opened(alloc, head)?;
     let pass = worker.another::<Sides>();
-    let from = tag.from;
+    let (line, from) = (tag.line, tag.from);
     let sender = Sender {
         worker,
         tag,
@@ -81,6 +82,7 @@ pub(crate) fn lane_from<A: Allocator + Clone + Drop>(
     let receiver = Receiver {
         stealer,
         pass,
+        line,
         current: right,
         taken: from,
     };
@@ -116,7 +118,10 @@ impl<A: Allocator + Clone + Drop> Sender<A> {
         if self.current.len() >= SEGMENT {
             self.flush()?;
         }
-        match self.current.reserve(1) {
+        if self.current.len() < self.current.capacity() {
+            return Ok(());
+        }
+        match self.current.reserve(SEGMENT - self.current.len()) {
             Ok(()) => Ok(()),
             Err(_) => Err(NoMemory),
         }
@@ -161,7 +166,7 @@ impl<A: Allocator> Sender<A> {
         ensures same { SameSender self.old self.new × (flushed self.new ≡ flushed self.old) }
         ensures sent { sent self.new ≡ sent self.old + 1 }
     {
-        self.current.push_back_reserved(token);
+        self.current.push_back_reserved(Carried::of(token));
     }
 
     /// How many tokens were put so far, flushed or not: the place of the next one.
@@ -202,11 +207,12 @@ impl<A: Allocator + Drop> Receiver<A> {
         if !self.ready() {
             return None;
         }
-        let Some(token) = self.current.pop_front() else {
+        let Some(carried) = self.current.pop_front() else {
             unreachable!()
         };
+        let place = self.taken;
         self.taken += 1;
-        Some(token)
+        Some(carried.token(self.line, place))
     }
 
     /// How many tokens were taken so far: the place of the next one.

@@ -3,8 +3,8 @@
 ghost use Rattle.std.specs.Prelude.{◌≡◌, Some};
 ghost use Rattle.kahn_lane.specs.Places.{Placed, Placed-prop, lane_name-prop, moved_to, tag_name};
 
+use crate::carried::Carried;
 use crate::name::Tag;
-use kahn_streams::token::Token;
 use std::alloc::{Allocator, Global};
 use std::collections::VecDeque;
 
@@ -16,7 +16,7 @@ pub(crate) struct Lifted<A: Allocator = Global> {
     pub(crate) to: Tag,
     // The place of the first of them.
     pub(crate) first: u64,
-    pub(crate) tokens: VecDeque<Token, A>,
+    pub(crate) tokens: VecDeque<Carried, A>,
     ghost moved: { tag_name to ≡ moved_to to.input.value (tag_name from) } by { lane_name-prop (tag_name to) (moved_to to.input.value (tag_name from)) },
     ghost placed: { Placed (Some (tag_name to)) first tokens.items } by { Placed-prop (Some (tag_name to)) first tokens.items },
 }

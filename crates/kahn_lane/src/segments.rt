@@ -13,13 +13,14 @@
 ghost use Rattle.std.specs.Prelude.{◌≡◌, ◌+◌, ◌≤◌, ◌^◌, is_some, true, false, Some};
 ghost use Rattle.std.specs.VecDeque.{deque_len};
 ghost use Rattle.crossbeam_deque.specs.Handles.{view, worker_view, worker_flavor, worker_index, worker_capacity, stealer_deque, stealer_flavor};
-ghost use Rattle.kahn_lane.specs.Places.{Placed, Placed-prop, tag_name, name-prop, stage-prop};
+ghost use Rattle.kahn_lane.specs.Places.{IsOn, IsOn-prop, Placed, Placed-prop, tag_name, name-prop, stage-prop};
 ghost use Rattle.kahn_lane.specs.declared.segments.Stage.TheVariants.{Running};
 
+use crate::carried::Carried;
 use crate::name::{LaneName, Tag};
 use crossbeam_deque::protocol::{Join, Lesson, Outcome, Protocol, Split};
 use crossbeam_deque::{Pass, Stealer, Worker};
-use kahn_streams::token::Token;
+use kahn_streams::value::Line;
 use std::alloc::{Allocator, Global};
 use std::collections::VecDeque;
 
@@ -27,7 +28,7 @@ use std::collections::VecDeque;
 #[derive(Drop)]
 pub struct Segment<A: Allocator = Global> {
     pub(crate) tag: Option<Tag>,
-    pub(crate) tokens: VecDeque<Token, A>,
+    pub(crate) tokens: VecDeque<Carried, A>,
 }
 
 /// How far the making of a lane has come: it has no name yet, its name is in the deque, or it is known to both ends.
@@ -178,7 +179,7 @@ pub(crate) type LaneStealer<A> = Stealer<Segment<A>, A, Mark, InPlaces>;
 pub struct Sender<A: Allocator = Global> {
     pub(crate) worker: LaneWorker<A>,
     pub(crate) tag: Tag,
-    pub(crate) current: VecDeque<Token, A>,
+    pub(crate) current: VecDeque<Carried, A>,
     pub(crate) flushed: u64,
     ghost stage: { (worker_view worker).stage ≡ Running } by { stage-prop (worker_view worker).stage Running },
     ghost in_order: { worker_flavor worker ≡ 0 },
@@ -190,12 +191,13 @@ pub struct Sender<A: Allocator = Global> {
     ghost limited: { flushed + deque_len current ≤ 2 ^ 48 },
 }
 
-/// The reader's end of a lane, with its open segment.
+/// The reader's end of a lane, with its open segment. Its tokens are on this line.
 #[derive(Drop)]
 pub struct Receiver<A: Allocator = Global> {
     pub(crate) stealer: LaneStealer<A>,
     pub(crate) pass: Pass<Segment<A>, Mark, A>,
-    pub(crate) current: VecDeque<Token, A>,
+    pub(crate) line: Line,
+    pub(crate) current: VecDeque<Carried, A>,
     pub(crate) taken: u64,
     ghost rows: { pass.rows ≡ (stealer_deque stealer).0 },
     ghost heap: { pass.heap ≡ (stealer_deque stealer).1 },
@@ -204,6 +206,7 @@ pub struct Receiver<A: Allocator = Global> {
     ghost in_order: { stealer_flavor stealer ≡ 0 },
     ghost stage: { (view pass).stage ≡ Running } by { stage-prop (view pass).stage Running },
     ghost reads: { (view pass).reads ≡ true },
+    ghost on: { IsOn line (view pass).reads_on } by { IsOn-prop line (view pass).reads_on },
     ghost counted: { (view pass).stolen ≡ taken + deque_len current },
     ghost placed: { Placed (view pass).reads_on taken current.items } by { Placed-prop (view pass).reads_on taken current.items },
     ghost limited: { taken + deque_len current ≤ 2 ^ 48 },

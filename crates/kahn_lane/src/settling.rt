@@ -13,6 +13,7 @@ ghost use Rattle.kahn_lane.specs.Settles.{IsGrown, LiftsTo, SameLifted};
 ghost use Rattle.kahn_lane.specs.declared.name.LaneName.{LaneName};
 ghost use Rattle.kahn_lane.specs.declared.segments.Stage.TheVariants.{Running};
 
+use crate::carried::Carried;
 use crate::fault::LaneFault;
 use crate::lanes::lane_from;
 use crate::lifted::Lifted;
@@ -20,32 +21,34 @@ use crate::name::move_tag;
 use crate::segments::{Behind, Emptied, LaneWorker, Receiver, Sender, Sides};
 use kahn_streams::input::Input;
 use kahn_streams::memory::NoMemory;
-use kahn_streams::token::Token;
 use std::alloc::{Allocator, Global};
 use std::collections::VecDeque;
 
 impl<A: Allocator + Drop> Lifted<A> {
     // Lifts the next token.
-    fn put(&mut self, input: &Input, token: Token)
+    fn put(&mut self, input: &Input, carried: Carried)
         requires room { deque_len self.old.tokens < deque_capacity self.old.tokens }
-        requires next { (token_name token ≡ tag_name self.old.from) × (token.place ≡ self.old.first + deque_len self.old.tokens) }
+        requires next { (token_name carried.token.value ≡ tag_name self.old.from) × (carried.token.value.place ≡ self.old.first + deque_len self.old.tokens) }
         requires input { LiftsTo self.old input.now }
         ensures same { SameLifted self.old self.new }
         ensures more { deque_len self.new.tokens ≡ deque_len self.old.tokens + 1 }
     {
-        self.tokens.push_back_reserved(input.lift(token));
+        let place = self.first + self.tokens.len() as u64;
+        let token = carried.token(self.from.line, place);
+        self.tokens
+            .push_back_reserved(Carried::of(input.lift(token)));
     }
 
     // Lifts the next tokens.
-    fn put_all(&mut self, input: &Input, mut tokens: VecDeque<Token, A>)
+    fn put_all(&mut self, input: &Input, mut tokens: VecDeque<Carried, A>)
         requires room { deque_len self.old.tokens + deque_len tokens ≤ deque_capacity self.old.tokens }
         requires next { Placed (Some (tag_name self.old.from)) (self.old.first + deque_len self.old.tokens) tokens.items }
         requires input { LiftsTo self.old input.now }
         ensures same { SameLifted self.old self.new }
         ensures more { deque_len self.new.tokens ≡ deque_len self.old.tokens + deque_len tokens }
     {
-        while let Some(token) = tokens.pop_front() {
-            self.put(input, token);
+        while let Some(carried) = tokens.pop_front() {
+            self.put(input, carried);
         }
     }
 
@@ -70,7 +73,7 @@ impl<A: Allocator + Drop> Lifted<A> {
 struct Prepared<A: Allocator = Global> {
     sender: Sender<A>,
     receiver: Receiver<A>,
-    tokens: VecDeque<Token, A>,
+    tokens: VecDeque<Carried, A>,
 }
 
 // Takes all memory that settling needs.
@@ -103,8 +106,8 @@ fn gather<A: Allocator + Clone + Drop>(
     sender: Sender<A>,
     receiver: Receiver<A>,
     input: &Input,
-    tokens: VecDeque<Token, A>,
-) -> VecDeque<Token, A>
+    tokens: VecDeque<Carried, A>,
+) -> VecDeque<Carried, A>
     requires lane { sender_lane sender ≡ receiver_lane receiver }
     requires grown { IsGrown (tag_name sender.tag) input.now }
     requires room { (tokens.items ≡ []) × (sent sender ≤ taken receiver + deque_capacity tokens) }
@@ -120,6 +123,7 @@ fn gather<A: Allocator + Clone + Drop>(
     let Receiver {
         stealer: _,
         pass,
+        line: _,
         current: first,
         taken,
     } = receiver;
@@ -140,7 +144,7 @@ fn gather<A: Allocator + Clone + Drop>(
 // The receiver with these tokens in its hands, which stand before the place where its lane begins.
 fn with_tokens<A: Allocator + Drop>(
     receiver: Receiver<A>,
-    tokens: VecDeque<Token, A>,
+    tokens: VecDeque<Carried, A>,
     from: u64,
 ) -> Receiver<A>
     requires dry { deque_len receiver.current ≡ 0 }
@@ -152,12 +156,14 @@ fn with_tokens<A: Allocator + Drop>(
     let Receiver {
         stealer,
         pass,
+        line,
         current: _,
         taken: _,
     } = receiver;
     Receiver {
         stealer,
         pass,
+        line,
         current: tokens,
         taken: from,
     }
