@@ -21,6 +21,10 @@ gives() {
 gives "a file that isn't there" 5 '' 'kahn: cannot read nothing' nothing
 printf 'begin \377' > bytes
 gives "a text that isn't UTF-8" 5 '' 'kahn: bytes is not UTF-8' bytes
+printf 'begin end' > program
+gives "a report that isn't there" 5 '' 'kahn: cannot read nothing' program --report nothing
+gives "a report that isn't UTF-8" 5 '' 'kahn: bytes is not UTF-8' program --report bytes
+gives "a program and a report that aren't there" 5 '' 'kahn: cannot read nothing' nothing --report bytes
 gives "an empty text" 1 '' 'kahn: 1:1: text ends too early'
 # ends NAME STATUS GIVEN TEST..: compares the status, and runs the test.
 ends() {
@@ -31,6 +35,8 @@ ends() {
 
 "$draw" a b > output 2> error < /dev/null
 ends "two words" 2 $? test ! -s output
+"$draw" "$top/examples/count.kahn" --report > output 2> error < /dev/null
+ends "a report without a name" 2 $? test ! -s output
 "$draw" --help > output 2> error < /dev/null
 ends "the help" 0 $? grep -q 'dot -Tsvg' output
 if [ -e /dev/full ]; then

@@ -1,10 +1,21 @@
 #!/usr/bin/env bash
-# Draws the networks of the examples as docs/pictures/NAME.svg, by kahn_draw and Graphviz (Debian's package graphviz).
+# Draws the networks of the examples as docs/pictures/NAME.svg, and a run of one, by kahn_draw and Graphviz (Debian's package
+# graphviz).
 source "$(dirname "${BASH_SOURCE[0]}")/../../checks/common.sh"
+find_program
 find_draw
 command -v dot > /dev/null || { echo "dot is missing: it is in Debian's package graphviz" >&2; exit 2; }
+
+# svg NAME WORD..: what kahn_draw draws with the words, as NAME.svg.
+svg() {
+  local name=$1
+  shift
+  if "$draw" "$@" | dot -Tsvg -Nfontname=sans-serif -Efontname=sans-serif > "$top/docs/pictures/$name.svg"; then pass; else fail "$name"; fi
+}
+
 for program in "$top"/examples/*.kahn; do
-  name=$(basename "$program" .kahn)
-  if "$draw" "$program" | dot -Tsvg -Nfontname=sans-serif -Efontname=sans-serif > "$top/docs/pictures/$name.svg"; then pass; else fail "$name"; fi
+  svg "$(basename "$program" .kahn)" "$program"
 done
+"$kahn" "$top/examples/fibonacci.kahn" --watch SUMS > "$work/report" || fail "the run of fibonacci"
+svg fibonacci-run "$top/examples/fibonacci.kahn" --report "$work/report"
 finish

@@ -1,2 +1,3 @@
+mod Headings
 mod Printing
 mod Texts

@@ -1,5 +1,6 @@
 -- The picture of a network: a text in the language of Graphviz with a node for each instance and an edge for each channel,
--- from its writer to its reader. This project's own choice of what a picture shows.
+-- from its writer to its reader, with what the lines of a run's report say of them, where there is one. This project's own
+-- choice of what a picture shows.
 use Rattle.std.specs.Prelude.{◌≡◌, ℕ, ◌+◌, List, [], ◌∷◌, ◌++◌, length, codes, decimal, Bool, true, false, Option, None, Some, slice_get}
 use Rattle.std.specs.Fmt.{signed_decimal}
 use Rattle.std.specs.List.{concat}
@@ -17,6 +18,7 @@ use Rattle.kahn_network.specs.declared.sides.Side.{Side}
 use Rattle.kahn_network.specs.Made.{IsMadeOf}
 use Rattle.kahn_network.specs.Network.{network_of, kind_at, role_at}
 use Rattle.kahn_network.specs.Sides.{IsOnly, IsWriter, IsReader, channel_names}
+use Rattle.kahn_graph.specs.Report.{ended_text, carried_text}
 
 -- ---- instances
 
@@ -39,15 +41,16 @@ border_text false = []
 abbrev pub process_prints : Process → Bool
 process_prints p = prints_in (body_of (names_of p) p.statements.items)
 
--- the node of an instance: its label has its number from 1, its process, and the values below them
-abbrev pub node_text : ℕ → Process → List Argument → List ℕ
-node_text i p arguments =
+-- the node of an instance: its label has its number from 1, its process, the values below them, and how it ended
+abbrev pub node_text : List (List ℕ) → ℕ → Process → List Argument → List ℕ
+node_text report i p arguments =
     concat (codes "  p" ∷ decimal i ∷ codes " [label=\"" ∷ decimal (i + 1) ∷ codes " " ∷ bytes_of p.name ∷ [])
-    ++ (values_text (codes "\\n") arguments ++ concat (codes "\"" ∷ border_text (process_prints p) ∷ codes "];\n" ∷ []))
+    ++ (values_text (codes "\\n") arguments
+    ++ (ended_text report i (bytes_of p.name) ++ concat (codes "\"" ∷ border_text (process_prints p) ∷ codes "];\n" ∷ [])))
 
 -- the text is the node of instance i of the program
-abbrev pub IsNode : Program → ℕ → List ℕ → Type 0
-IsNode t i text = (p : Process) × (arguments : List Argument) × IsMadeOf t i p arguments × (text ≡ node_text i p arguments)
+abbrev pub IsNode : Program → List (List ℕ) → ℕ → List ℕ → Type 0
+IsNode t report i text = (p : Process) × (arguments : List Argument) × IsMadeOf t i p arguments × (text ≡ node_text report i p arguments)
 
 -- ---- channels
 
@@ -67,18 +70,18 @@ abbrev pub style_text : Kind → List ℕ
 style_text K.Integer = codes "solid"
 style_text K.Logical = codes "dashed"
 
--- the edge of a channel with that name, from its writer to its reader
-abbrev pub edge_text : ℕ → List ℕ → Kind → Option Side → Option Side → List ℕ
-edge_text c name kind writer reader =
-    concat (codes "  " ∷ place_text c writer ∷ codes " -> " ∷ place_text c reader ∷ codes " [label=\"" ∷ name ∷ codes "\", style=" ∷ style_text kind ∷ codes "];\n" ∷ [])
+-- the edge of a channel with that name, from its writer to its reader; its label has the name, and how many values it carried
+abbrev pub edge_text : List (List ℕ) → ℕ → List ℕ → Kind → Option Side → Option Side → List ℕ
+edge_text report c name kind writer reader =
+    concat (codes "  " ∷ place_text c writer ∷ codes " -> " ∷ place_text c reader ∷ codes " [label=\"" ∷ name ∷ carried_text report name ∷ codes "\", style=" ∷ style_text kind ∷ codes "];\n" ∷ [])
 
 -- the text is the edge of channel c of the program, after its mark
-abbrev pub IsEdge : Program → ℕ → List ℕ → Type 0
-IsEdge t c text =
+abbrev pub IsEdge : Program → List (List ℕ) → ℕ → List ℕ → Type 0
+IsEdge t report c text =
     let n = network_of t in
     (name : List ℕ) × (writer : Option Side) × (reader : Option Side)
     × (slice_get (channel_names t) c ≡ Some name) × IsOnly (IsWriter n c) writer × IsOnly (IsReader n c) reader
-    × (text ≡ mark_text c (role_at n c) ++ edge_text c name (kind_at n c) writer reader)
+    × (text ≡ mark_text c (role_at n c) ++ edge_text report c name (kind_at n c) writer reader)
 
 -- ---- the whole
 
@@ -97,9 +100,10 @@ opening_text = codes "digraph network {\n  rankdir=LR;\n  node [shape=box];\n"
 abbrev pub closing_text : List ℕ
 closing_text = codes "}\n"
 
--- the text is the picture of the network: the nodes of all instances, and then the edges of all channels
-abbrev pub IsPicture : Program → List ℕ → Type 0
-IsPicture t text =
+-- the text is the picture of the network, with what the lines of a report say of it: the nodes of all instances, and then the
+-- edges of all channels
+abbrev pub IsPicture : Program → List (List ℕ) → List ℕ → Type 0
+IsPicture t report text =
     (nodes : List ℕ) × (edges : List ℕ)
-    × IsAll (IsNode t) (length (network_of t).instances) nodes × IsAll (IsEdge t) (length (network_of t).channels) edges
+    × IsAll (IsNode t report) (length (network_of t).instances) nodes × IsAll (IsEdge t report) (length (network_of t).channels) edges
     × (text ≡ opening_text ++ (nodes ++ (edges ++ closing_text)))

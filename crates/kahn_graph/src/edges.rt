@@ -1,12 +1,13 @@
 //! The edges of a picture.
 
-ghost use Rattle.std.specs.Prelude.{◌≡◌, ◌<◌, ◌++◌, ℕ, List, Option, IfOk, length, string_bytes};
+ghost use Rattle.std.specs.Prelude.{◌≡◌, ◌<◌, ◌++◌, ℕ, List, Option, IfOk, length, map, string_bytes};
 ghost use Rattle.kahn_network.specs.Network.{network_of};
 ghost use Rattle.kahn_graph.specs.Graph.{place_text, mark_text, style_text, edge_text, IsEdge, IsAll};
 
 use crate::pieces::add;
+use crate::report::add_carried;
 use itoa::Buffer;
-use kahn_network::network::Network;
+use kahn_network::network::{Channel, Network};
 use kahn_network::sides::Side;
 use kahn_tree::tree::{Kind, Role};
 use std::alloc::AllocError;
@@ -51,43 +52,53 @@ fn style(kind: Kind) -> &'static str
     }
 }
 
-// Adds the edge of a channel with that name, from its writer to its reader.
+// Adds the edge of a channel, from its writer to its reader.
 fn add_line(
     text: &mut String,
-    channel: usize,
-    name: &str,
-    kind: Kind,
+    report: &[&str],
+    number: usize,
+    channel: Channel<'_>,
     writer: Option<Side>,
     reader: Option<Side>,
 ) -> Result<(), AllocError>
-    ensures { IfOk result (λ _. string_bytes text.new ≡ string_bytes text.old ++ edge_text channel name.now kind writer reader) }
+    ensures { IfOk result (λ _. string_bytes text.new ≡ string_bytes text.old ++ edge_text (map (λ line. line.now) report.now) number channel.entry.name.now channel.entry.kind writer reader) }
 {
     add(text, &["  "])?;
-    add_place(text, channel, writer)?;
+    add_place(text, number, writer)?;
     add(text, &[" -> "])?;
-    add_place(text, channel, reader)?;
-    add(text, &[" [label=\"", name, "\", style="])?;
-    add(text, &[style(kind), "];\n"])
+    add_place(text, number, reader)?;
+    add(text, &[" [label=\"", channel.name])?;
+    add_carried(text, report, channel.name)?;
+    add(text, &["\", style=", style(channel.kind), "];\n"])
 }
 
 // Adds the mark and the edge of a channel.
-fn add_edge(text: &mut String, network: &Network, channel: usize) -> Result<(), AllocError>
+fn add_edge(
+    text: &mut String,
+    network: &Network,
+    report: &[&str],
+    channel: usize,
+) -> Result<(), AllocError>
     requires { channel < length (network_of network.now).channels }
-    ensures { IfOk result (λ _. (edge : List ℕ) × IsEdge network.now channel edge × (string_bytes text.new ≡ string_bytes text.old ++ edge)) }
+    ensures { IfOk result (λ _. (edge : List ℕ) × IsEdge network.now (map (λ line. line.now) report.now) channel edge × (string_bytes text.new ≡ string_bytes text.old ++ edge)) }
 {
     let found = network.channel(channel);
     let writer = network.writer(channel);
     let reader = network.reader(channel);
     add_mark(text, channel, found.role)?;
-    add_line(text, channel, found.name, found.kind, writer, reader)
+    add_line(text, report, channel, found, writer, reader)
 }
 
 /// Adds the edges of all channels.
-pub(crate) fn add_edges(text: &mut String, network: &Network) -> Result<(), AllocError>
-    ensures { IfOk result (λ _. (edges : List ℕ) × IsAll (IsEdge network.now) (length (network_of network.now).channels) edges × (string_bytes text.new ≡ string_bytes text.old ++ edges)) }
+pub(crate) fn add_edges(
+    text: &mut String,
+    network: &Network,
+    report: &[&str],
+) -> Result<(), AllocError>
+    ensures { IfOk result (λ _. (edges : List ℕ) × IsAll (IsEdge network.now (map (λ line. line.now) report.now)) (length (network_of network.now).channels) edges × (string_bytes text.new ≡ string_bytes text.old ++ edges)) }
 {
     for channel in 0..network.channels() {
-        add_edge(text, network, channel)?;
+        add_edge(text, network, report, channel)?;
     }
     Ok(())
 }

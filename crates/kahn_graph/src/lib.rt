@@ -6,5 +6,6 @@ mod nodes;
 mod picture;
 mod pieces;
 mod prints;
+mod report;
 
 pub use picture::picture_text;

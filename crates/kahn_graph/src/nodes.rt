@@ -1,6 +1,6 @@
 //! The nodes of a picture.
 
-ghost use Rattle.std.specs.Prelude.{◌≡◌, ◌<◌, ◌++◌, ℕ, List, IfOk, codes, length, string_bytes, [], ◌∷◌};
+ghost use Rattle.std.specs.Prelude.{◌≡◌, ◌<◌, ◌++◌, ℕ, List, IfOk, codes, length, map, string_bytes, [], ◌∷◌};
 ghost use Rattle.std.specs.Fmt.{signed_decimal};
 ghost use Rattle.std.specs.List.{concat};
 ghost use Rattle.kahn_tree.specs.declared.tree.Argument.{Argument};
@@ -9,6 +9,7 @@ ghost use Rattle.kahn_graph.specs.Graph.{values_text, node_text, IsNode, IsAll, 
 
 use crate::pieces::add;
 use crate::prints::process_prints;
+use crate::report::add_ended;
 use itoa::Buffer;
 use kahn_network::network::Network;
 use kahn_tree::tree::{Argument, Process};
@@ -72,12 +73,13 @@ fn border(prints: bool) -> &'static str
 // Adds the node of an instance with that number, which runs that process.
 fn add_made(
     text: &mut String,
+    report: &[&str],
     instance: usize,
     process: &Process,
     arguments: &[Argument],
 ) -> Result<(), AllocError>
     requires { instance < usize.MAX }
-    ensures { IfOk result (λ _. string_bytes text.new ≡ string_bytes text.old ++ node_text instance process.now arguments.now) }
+    ensures { IfOk result (λ _. string_bytes text.new ≡ string_bytes text.old ++ node_text (map (λ line. line.now) report.now) instance process.now arguments.now) }
 {
     let mut first = Buffer::new();
     let mut second = Buffer::new();
@@ -86,25 +88,35 @@ fn add_made(
     let name = process.name.text.as_str();
     add(text, &["  p", node, " [label=\"", number, " ", name])?;
     add_values(text, arguments)?;
+    add_ended(text, report, instance, process.name.text.as_str())?;
     let border = border(process_prints(process));
     add(text, &["\"", border, "];\n"])
 }
 
 // Adds the node of an instance.
-fn add_node(text: &mut String, network: &Network, instance: usize) -> Result<(), AllocError>
+fn add_node(
+    text: &mut String,
+    network: &Network,
+    report: &[&str],
+    instance: usize,
+) -> Result<(), AllocError>
     requires { instance < length (network_of network.now).instances }
-    ensures { IfOk result (λ _. (node : List ℕ) × IsNode network.now instance node × (string_bytes text.new ≡ string_bytes text.old ++ node)) }
+    ensures { IfOk result (λ _. (node : List ℕ) × IsNode network.now (map (λ line. line.now) report.now) instance node × (string_bytes text.new ≡ string_bytes text.old ++ node)) }
 {
     let made = network.instance(instance);
-    add_made(text, instance, made.process, made.arguments)
+    add_made(text, report, instance, made.process, made.arguments)
 }
 
 /// Adds the nodes of all instances.
-pub(crate) fn add_nodes(text: &mut String, network: &Network) -> Result<(), AllocError>
-    ensures { IfOk result (λ _. (nodes : List ℕ) × IsAll (IsNode network.now) (length (network_of network.now).instances) nodes × (string_bytes text.new ≡ string_bytes text.old ++ nodes)) }
+pub(crate) fn add_nodes(
+    text: &mut String,
+    network: &Network,
+    report: &[&str],
+) -> Result<(), AllocError>
+    ensures { IfOk result (λ _. (nodes : List ℕ) × IsAll (IsNode network.now (map (λ line. line.now) report.now)) (length (network_of network.now).instances) nodes × (string_bytes text.new ≡ string_bytes text.old ++ nodes)) }
 {
     for instance in 0..network.instances() {
-        add_node(text, network, instance)?;
+        add_node(text, network, report, instance)?;
     }
     Ok(())
 }

@@ -37,6 +37,10 @@ Its report, with the values of W, how each process stands, and how the run ended
 Events are counted: a wait that takes a value, a send, a print, and each turn of a loop. The workers and the quantum
 change no value of any channel.
 
+A run on an input text, whose report shows a channel X between two processes too:
+
+  kahn program.kahn --input data.txt --watch X
+
 Exit status:
   0  report written: the run finished
   1  program or input refused

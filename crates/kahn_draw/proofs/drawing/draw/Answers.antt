@@ -4,10 +4,10 @@ use Rattle.kahn_draw.proofs.drawing.draw.Goals as goal
 
 pub returns-in-Ok-write_line : goal.returns-in-Ok-write_line
 returns-in-Ok-write_line g c =
-    went_out c.args.program.now c.in-Ok.network (string_bytes c.in-Ok-picture_text.picture) _ _ c.in-Ok.ensures c.in-Ok-picture_text.ensures
+    went_out c.args.program.now c.args.report.now c.in-Ok.network (string_bytes c.in-Ok-picture_text.picture) _ _ c.in-Ok.ensures c.in-Ok-picture_text.ensures
     (rw c.as_bytes.ensures.value at c.in-Ok-write_line.ensures)
 
 pub returns : goal.returns
 returns g c =
-    broke_off c.args.program.now c.in-Ok.network (string_bytes c.in-Ok-picture_text.picture) _ _ c.in-Ok.ensures c.in-Ok-picture_text.ensures
+    broke_off c.args.program.now c.args.report.now c.in-Ok.network (string_bytes c.in-Ok-picture_text.picture) _ _ c.in-Ok.ensures c.in-Ok-picture_text.ensures
     (rw c.as_bytes.ensures.value at c.in-Err-write_line.ensures)

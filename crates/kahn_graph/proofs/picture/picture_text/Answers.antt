@@ -1,14 +1,8 @@
-use Rattle.kahn_graph.specs.Graph.{opening_text, closing_text}
-use Rattle.kahn_graph.proofs.Texts.{all_grown}
+use Rattle.std.proofs.Common.{◌∙◌, IfOk, ap, map, string_bytes, subst}
+use Rattle.kahn_graph.specs.Graph.{IsPicture}
 use Rattle.kahn_graph.proofs.picture.picture_text.Goals as goal
 
 pub returns : goal.returns
 returns c =
-    let (nodes, all_nodes, after_nodes) = c.in_ok-add_nodes.ensures in
-    let (edges, all_edges, after_edges) = c.in_ok-add_edges.ensures in (
-      nodes,
-      edges,
-      all_nodes,
-      all_edges,
-      all_grown opening_text nodes edges closing_text _ _ _ _ _ c.new-text.ensures.bytes c.in_ok-add.ensures after_nodes after_edges c.in_ok-add-2.ensures,
-    )
+    subst (λ report. IfOk c.drawn.result (λ text. IsPicture c.args.network.now report (string_bytes text)))
+    (ap (map (λ line. line.now)) c.deref.ensures.value ∙ c.in_ok-report.ensures) c.drawn.ensures

@@ -1,0 +1,102 @@
+//! What a run's report says of an instance and of a channel.
+
+ghost use Rattle.std.specs.Prelude.{◌≡◌, ◌<◌, ◌++◌, IfOk, map, option_map, string_bytes};
+ghost use Rattle.std.specs.List.{list_all};
+ghost use Rattle.std.specs.Str.Lines.{lines};
+ghost use Rattle.kahn_graph.specs.Report.{without as without_heading, behind as behind_heading, count_text, is_plain as plain, ending_text, ended_text, carried_text};
+
+use crate::pieces::add;
+use itoa::Buffer;
+use std::alloc::{AllocError, Global};
+
+/// The lines of a report.
+pub(crate) fn lines(alloc: Global, report: &str) -> Result<Vec<&str>, AllocError>
+    ensures { IfOk result (λ v. map (λ line. line.now) v.items ≡ lines report.now) }
+{
+    report.lines().collect(alloc)
+}
+
+// What is left of a line without the pieces of a heading.
+fn without<'r>(line: &'r str, heading: &[&str]) -> Option<&'r str>
+    ensures { option_map (λ rest. rest.now) result ≡ without_heading (map (λ piece. piece.now) heading.now) line.now }
+{
+    let mut rest = line;
+    for piece in heading {
+        rest = rest.strip_prefix(*piece)?;
+    }
+    Some(rest)
+}
+
+// What stands behind a heading in the first line that begins with it.
+fn behind<'r>(lines: &[&'r str], heading: &[&str]) -> Option<&'r str>
+    ensures { option_map (λ rest. rest.now) result ≡ behind_heading (map (λ piece. piece.now) heading.now) (map (λ line. line.now) lines.now) }
+{
+    for line in lines {
+        if let Some(rest) = without(line, heading) {
+            return Some(rest);
+        }
+    }
+    None
+}
+
+// Adds how many values a channel carried.
+fn add_count(text: &mut String, values: Option<&str>) -> Result<(), AllocError>
+    ensures { IfOk result (λ _. string_bytes text.new ≡ string_bytes text.old ++ count_text (option_map (λ v. v.now) values.entry)) }
+{
+    let Some(values) = values else {
+        return Ok(());
+    };
+    let count = values
+        .as_bytes()
+        .iter()
+        .filter(|byte| **byte == b' ')
+        .count();
+    let mut buffer = Buffer::new();
+    add(text, &["\\n", buffer.format(count)])
+}
+
+// Whether a byte stands for itself in a label.
+fn is_plain(byte: u8) -> bool
+    ensures { result ≡ plain byte }
+{
+    byte.is_ascii_alphanumeric() || byte == b'_' || byte == b' '
+}
+
+// Whether each byte stands for itself in a label.
+fn all_plain(words: &[u8]) -> bool
+    ensures { result ≡ list_all plain words.now }
+{
+    words.iter().all(|byte| is_plain(*byte))
+}
+
+// Adds how an instance ended, where it is told in plain characters.
+fn add_ending(text: &mut String, words: Option<&str>) -> Result<(), AllocError>
+    ensures { IfOk result (λ _. string_bytes text.new ≡ string_bytes text.old ++ ending_text (option_map (λ w. w.now) words.entry)) }
+{
+    match words {
+        Some(words) if all_plain(words.as_bytes()) => add(text, &["\\n", words]),
+        _ => Ok(()),
+    }
+}
+
+/// Adds what a report says of an instance that runs a process of that name.
+pub(crate) fn add_ended(
+    text: &mut String,
+    report: &[&str],
+    instance: usize,
+    name: &str,
+) -> Result<(), AllocError>
+    requires { instance < usize.MAX }
+    ensures { IfOk result (λ _. string_bytes text.new ≡ string_bytes text.old ++ ended_text (map (λ line. line.now) report.now) instance name.now) }
+{
+    let mut buffer = Buffer::new();
+    let number = buffer.format(instance + 1);
+    add_ending(text, behind(report, &["end ", number, " ", name, ": "]))
+}
+
+/// Adds what a report says of a channel of that name.
+pub(crate) fn add_carried(text: &mut String, report: &[&str], name: &str) -> Result<(), AllocError>
+    ensures { IfOk result (λ _. string_bytes text.new ≡ string_bytes text.old ++ carried_text (map (λ line. line.now) report.now) name.now) }
+{
+    add_count(text, behind(report, &[name, ":"]))
+}
