@@ -104,8 +104,10 @@ impl<A: Allocator + Copy + Drop> Cell<A> {
         ensures cost { steps.new ≤ steps.old + (quantum + 1) * length (stmt_code (instance_at (network_of self.old.network) self.old.instance).body) }
         ensures counted { steps.old + self.new.events ≤ steps.new + self.old.events }
     {
-        let body = &code.bodies[self.progress.instance];
-        self.progress.run(body, quantum, ports, steps)
+        let routine = code.routine(self.progress.instance);
+        let body = code.body(self.progress.instance);
+        self.progress
+            .run(&routine.instructions, body, quantum, ports, steps)
     }
 
     /// The number of its events.
@@ -200,7 +202,8 @@ fn opened<A: Allocator + Copy + Drop>(
     ensures names { IfOk result (λ c. (c.instance ≡ instance) × (c.watch ≡ watch)) }
     ensures stands { IfOk result (λ c. (lists : Lists) → IsStanding c code.now.network.value lists) }
 {
-    Progress::new(alloc, &code.bodies[instance], instance, watch)
+    let routine = code.routine(instance);
+    Progress::new(alloc, routine, code.body(instance), instance, watch)
 }
 
 // A cell of a network and an input of that name.

@@ -5,7 +5,7 @@ ghost use Rattle.kahn_tree.specs.View.{bytes_of};
 ghost use Rattle.kahn_network.specs.Made.{IsMadeOf};
 ghost use Rattle.kahn_network.specs.Network.{network_of, instance_at, instance_from, kind_at, role_at, channel_source, process_of};
 ghost use Rattle.kahn_network.specs.Sides.{IsOnly, IsWriter, IsReader, source_of, channel_names};
-ghost use Rattle.kahn_network.specs.Wires.{IsKept};
+ghost use Rattle.kahn_network.specs.Wires.{IsKept, process_at};
 ghost use Rattle.kahn_network.specs.Wiring.{IsWellWired};
 
 use crate::sides::Side;
@@ -51,6 +51,8 @@ pub struct Channel<'n> {
 /// An instance of a network.
 #[derive(Clone, Copy)]
 pub struct Instance<'n> {
+    /// The number of the declaration of its process, counted from 0 in text order.
+    pub declaration: usize,
     /// The process that it runs.
     pub process: &'n Process,
     /// What is handed to the parameters of the process, one for each.
@@ -127,12 +129,14 @@ impl Network {
     /// The instance with that number, counted from 0 in text order.
     pub fn instance(&self, instance: usize) -> Instance<'_>
         requires { instance < length (network_of self.now).instances }
+        ensures number { process_at self.now.declarations.items result.declaration ≡ Some result.process.now }
         ensures declared { IsMadeOf self.now instance result.process.now result.arguments.now }
         ensures made { instance_at (network_of self.now) instance ≡ instance_from (channel_names self.now) (Some result.process.now) result.arguments.now }
     {
-        let number = self.processes[instance];
-        match &self.program.declarations[number] {
+        let declaration = self.processes[instance];
+        match &self.program.declarations[declaration] {
             Declaration::Process(process) => Instance {
+                declaration,
                 process,
                 arguments: &self.program.instances[instance].arguments,
             },

@@ -4,5 +4,5 @@ use Rattle.kahn_code.proofs.code.add_defaults.Given as goal
 
 abbrev pub invariant-loop-variable : goal.invariant-loop-variable
 invariant-loop-variable g l =
-    (l.opening.items ++ map default_of (map (λ v. v.kind) (drop l.variable-index l.variables)))
-    ≡ (l.fn.opening.items ++ map default_of (map (λ v. v.kind) l.variables))
+    (l.defaults.items ++ map default_of (map (λ v. v.kind) (drop l.variable-index l.variables)))
+    ≡ (l.fn.defaults.items ++ map default_of (map (λ v. v.kind) l.variables))

@@ -1,8 +1,11 @@
-use Rattle.std.proofs.Common.{sym, ap, ◌∙◌, subst, length, ◌<◌}
-use Rattle.kahn_network.specs.Network.{network_of}
+use Rattle.std.proofs.Common.{sym, ap, ◌∙◌, subst}
+use Rattle.kahn_network.specs.Network.{network_of, instance_at}
 use Rattle.kahn_code.specs.Cells.{AreDriven}
+use Rattle.kahn_code.specs.Flat.{stmt_code}
 use Rattle.kahn_code.specs.Machines.{IsBody}
-use Rattle.kahn_code.proofs.Celled.{body_at, sits_of, seat_after, at_after, paused_after}
+use Rattle.kahn_code.specs.Seats.{seat_code}
+use Rattle.kahn_code.specs.Told.{seat_of}
+use Rattle.kahn_code.proofs.Celled.{sits_of, seat_after, at_after, paused_after}
 use Rattle.kahn_code.proofs.cell.Cell.run.Goals as goal
 
 pub run-requires-clause-sits : goal.run-requires-clause-sits
@@ -12,17 +15,21 @@ run-requires-clause-sits g c =
     let t = c.self.inside.network.value in
     let lists = c.self.inside.input.value in
     let same = c.requires.code ∙ ap (λ v. v.network) (sym c.self.view_is) in
-    let here = subst (λ v. v.instance < length (network_of v.network).instances) (sym c.self.view_is) c.requires.here in
-    let there = subst (λ z. own.instance < length (network_of z).instances) (sym same) here in
-    let body = subst (λ z. IsBody (network_of z) own.instance c.index-body.result.now) same (body_at code.bodies.items code.network.value own.instance c.index-body.result.now code.are there c.index-body.ensures) in
-    sits_of (g.P.Ports.seat c.args.ports.now) c.args.self.now own t lists c.index-body.result.now (g.P.Ports.next c.args.ports.now) c.self.view_is c.requires.ports c.requires.at (subst (λ z. AreDriven (network_of z)) same code.driven) body c.self.invariant
+    let body = subst (λ z. IsBody (network_of z) own.instance c.body-body.result.now) same c.body-body.ensures in
+    sits_of (g.P.Ports.seat c.args.ports.now) c.args.self.now own t lists c.body-body.result.now (g.P.Ports.next c.args.ports.now) c.self.view_is c.requires.ports c.requires.at (subst (λ z. AreDriven (network_of z)) same code.driven) body c.self.invariant
+
+pub run-requires-clause-code : goal.run-requires-clause-code
+run-requires-clause-code g c =
+    let same = c.requires.code ∙ ap (λ v. v.network) (sym c.self.view_is) in
+    c.deref.ensures.value ∙ c.routine-routine.ensures.instructions ∙ ap (λ z. stmt_code (instance_at (network_of z) c.self.inside.progress.instance).body) same
+    ∙ ap seat_code (ap seat_of c.self.view_is ∙ sym c.requires.ports)
 
 pub returns-clause-at : goal.returns-clause-at
 returns-clause-at g c =
     let t = c.self.inside.network.value in
     let lists = c.self.inside.input.value in
     let seat = seat_after (g.P.Ports.seat c.args.ports.now) (g.P.Ports.seat c.run.new.ports) c.args.self.now c.self.inside.progress c.run.new.self t lists c.self.view_is c.requires.ports c.run.ensures.seat c.run.ensures.names.0 in
-    at_after (g.P.Ports.seat c.run.new.ports) c.run.new.self t lists c.index-body.result.now (g.P.Ports.next c.run.new.ports) seat c.run.ensures.sits
+    at_after (g.P.Ports.seat c.run.new.ports) c.run.new.self t lists c.body-body.result.now (g.P.Ports.next c.run.new.ports) seat c.run.ensures.sits
 
 pub returns-clause-paused : goal.returns-clause-paused
 returns-clause-paused g c =

@@ -1,9 +1,9 @@
-use Rattle.std.proofs.Common.{rules, arith, ◌≡◌, ◌∙◌, sym, ap, subst, ◌<◌, length, Some, None, refl}
+use Rattle.std.proofs.Common.{rules, ◌≡◌, ◌∙◌, sym, ap, subst, ◌<◌, length, Some, None, refl}
 use Rattle.kahn_tree.specs.declared.tree.Declaration.TheVariants as D
 use Rattle.kahn_network.specs.Made.{IsMadeOf}
 use Rattle.kahn_network.specs.Network.{network_of, instance_at, instance_from}
 use Rattle.kahn_network.specs.Sides.{channel_names}
-use Rattle.kahn_network.specs.Wires.{the_process}
+use Rattle.kahn_network.specs.Wires.{the_process, process_at}
 use Rattle.kahn_network.proofs.Numbered.{at_index}
 use Rattle.kahn_network.proofs.Kept.{process_count, instance_count, number_within, instance_declared, instance_kept, never_channels}
 use Rattle.kahn_network.proofs.network.Network.instance.Goals as goal
@@ -13,7 +13,7 @@ index-requires c =
     let t = c.self.inside.program in
     let ns = c.self.inside.processes.items in
     let p = c.args.instance in
-    let k = c.index-number.result.now in
+    let k = c.index-declaration.result.now in
     let count = process_count t c.self.inside.wires.items ns c.self.invariant in
     let lt = subst (λ z. p < length (network_of z).instances) (sym c.self.view_is) c.requires in
     let within_ns = subst (λ z. p < z) (sym count) lt in
@@ -26,7 +26,7 @@ unreachable-requires c =
     let t = c.self.inside.program in
     let ns = c.self.inside.processes.items in
     let p = c.args.instance in
-    let k = c.index-number.result.now in
+    let k = c.index-declaration.result.now in
     let count = process_count t c.self.inside.wires.items ns c.self.invariant in
     let lt = subst (λ z. p < length (network_of z).instances) (sym c.self.view_is) c.requires in
     let within_ns = subst (λ z. p < z) (sym count) lt in
@@ -37,12 +37,28 @@ unreachable-requires c =
     let none : the_process (Some d) ≡ None = rw c.in-Channels.is refl in
     never_channels t c.self.inside.wires.items ns c.self.invariant p k at d declared none
 
+pub returns-clause-number : goal.returns-clause-number
+returns-clause-number c =
+    let t = c.self.inside.program in
+    let ns = c.self.inside.processes.items in
+    let p = c.args.instance in
+    let k = c.index-declaration.result.now in
+    let count = process_count t c.self.inside.wires.items ns c.self.invariant in
+    let lt = subst (λ z. p < length (network_of z).instances) (sym c.self.view_is) c.requires in
+    let within_ns = subst (λ z. p < z) (sym count) lt in
+    let at = at_index ns p k within_ns (search rules) in
+    let q = c.in-Process.process in
+    let here = number_within t c.self.inside.wires.items ns c.self.invariant p k at in
+    let is : c.index.result.now ≡ D.Process q = c.in-Process.is in
+    let declared = at_index t.declarations.items k c.index.result.now here (search rules) ∙ ap Some is in
+    subst (λ z. process_at z.declarations.items k ≡ Some q) c.self.view_is (ap the_process declared)
+
 pub returns-clause-declared : goal.returns-clause-declared
 returns-clause-declared c =
     let t = c.self.inside.program in
     let ns = c.self.inside.processes.items in
     let p = c.args.instance in
-    let k = c.index-number.result.now in
+    let k = c.index-declaration.result.now in
     let count = process_count t c.self.inside.wires.items ns c.self.invariant in
     let lt = subst (λ z. p < length (network_of z).instances) (sym c.self.view_is) c.requires in
     let within_ns = subst (λ z. p < z) (sym count) lt in
@@ -64,7 +80,7 @@ returns-clause-made c =
     let t = c.self.inside.program in
     let ns = c.self.inside.processes.items in
     let p = c.args.instance in
-    let k = c.index-number.result.now in
+    let k = c.index-declaration.result.now in
     let count = process_count t c.self.inside.wires.items ns c.self.invariant in
     let lt = subst (λ z. p < length (network_of z).instances) (sym c.self.view_is) c.requires in
     let within_ns = subst (λ z. p < z) (sym count) lt in

@@ -1,0 +1,7 @@
+use Rattle.kahn_network.specs.Network.{network_of}
+use Rattle.kahn_code.specs.Code.{IsCompiled}
+use Rattle.kahn_code.proofs.Bodies.{AreFirst}
+use Rattle.kahn_code.proofs.code.bodies.Given as goal
+
+abbrev pub invariant-loop-number : goal.invariant-loop-number
+invariant-loop-number g l = AreFirst (IsCompiled l.routines (network_of l.network)) l.bodies.items l.number

@@ -1,7 +1,0 @@
-use Rattle.kahn_network.specs.Network.{network_of}
-use Rattle.kahn_code.proofs.Bodies.{one_first}
-use Rattle.kahn_code.proofs.code.compile.Goals as goal
-
-pub loop-number-preserved : goal.loop-number-preserved
-loop-number-preserved g c =
-    one_first c.loop-number.bodies.items c.push.new.self.items c.in_ok-body_of.field-0 (network_of c.args.network.now) c.loop-number.number c.loop-number.invariant c.in_ok-push.ensures.items c.in_ok-body_of.ensures
