@@ -1,3 +1,4 @@
+pub mod Words
 pub mod Flat
 pub mod Cells
 pub mod Standing

@@ -16,3 +16,4 @@ pub mod progress;
 pub mod queue;
 pub mod routes;
 pub mod steps;
+pub mod word;

@@ -2,7 +2,6 @@
 #![tactic(auto)]
 
 pub mod about;
-pub mod arithmetic;
 pub mod entries;
 pub mod feeds;
 pub mod input;

@@ -1,6 +1,6 @@
 //! The operators on values at their limits.
 
-use kahn_streams::arithmetic::{apply, negated};
+use kahn_code::word::{Word, apply, negated};
 use kahn_streams::value::{Failure, Value};
 use kahn_tree::tree::Operator;
 
@@ -181,11 +181,19 @@ static RESULTS: [(Operator, Value, Value, Result<Value, Failure>); 29] = [
     ),
 ];
 
+fn plain(result: Result<Word, Failure>) -> Result<Value, Failure> {
+    match result {
+        Ok(word) => Ok(word.value()),
+        Err(failure) => Err(failure),
+    }
+}
+
 #[test]
 fn operators_at_their_limits(rt: HostRuntime) {
     for (row, (operator, x, y, wanted)) in RESULTS.iter().enumerate() {
-        assert_eq!(rt; apply(*operator, *x, *y), *wanted, "at {row}");
+        let result = plain(apply(*operator, Word::of(*x), Word::of(*y)));
+        assert_eq!(rt; result, *wanted, "at {row}");
     }
-    assert_eq!(rt; negated(i64::MIN), Err(Failure::Overflow));
-    assert_eq!(rt; negated(7), Ok(Value::Integer(-7)));
+    assert_eq!(rt; plain(negated(i64::MIN)), Err(Failure::Overflow));
+    assert_eq!(rt; plain(negated(7)), Ok(Value::Integer(-7)));
 }
