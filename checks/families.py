@@ -12,7 +12,7 @@ def example(name):
         return it.read()
 
 
-def row(name, program, report=None, fault=None, status=0, words=(), given=None):
+def row(name, program, report=None, fault=None, status=0, words=(), given=None, limits=None):
     """The files of a row: the parts of a report and the words are joined by line feeds."""
     files = {"program.kahn": program if isinstance(program, bytes) else program.encode(), "status": b"%d" % status}
     files["words"] = "\n".join(words).encode()
@@ -22,6 +22,8 @@ def row(name, program, report=None, fault=None, status=0, words=(), given=None):
         files["fault"] = f"kahn: {fault}\n".encode()
     if given is not None:
         files["input"] = given.encode()
+    if limits is not None:
+        files["limits"] = limits.encode()
     return name.replace(" ", "-"), files
 
 
@@ -108,8 +110,8 @@ def long_texts():
     yield refused("a name of 65 letters", f"begin process {name}n(); begin end; p() end", "1:15: name is too long")
 
 
-def instances(count):
-    return "begin process p(); begin end; " + " par ".join(["p()"] * count) + " end"
+def instances(count, inside=""):
+    return f"begin process p(); begin {inside}end; " + " par ".join(["p()"] * count) + " end"
 
 
 def channels(names):
@@ -133,6 +135,18 @@ def large_networks():
     long = "a_name_of_sixty_four_bytes_with_its_number_of_four_digits_at"
     yield refused("1025 channels of 64 letters", channels([f"{long}{i}" for i in range(1000, 2025)]), "1:67607: limit is exceeded")
     yield row("256 instances and 1024 channels", loops(), [it.replace("p:", "q:") for it in ends] + ["finished 0"])
+
+
+def long_processes():
+    """As many instances as there may be of one process, whose text is as long as there may be: its code stands once."""
+    start, bare = "integer A; ", instances(256, "integer A; if A = 1 then A := 1 ")
+    report = [*(f"end {i} p: ended after 0" for i in range(1, 257)), "finished 0"]
+    limits = {"words": ["--workers", "1"], "limits": "200 2"}
+    assignments = "A:=1;" * ((MOST_BYTES - len(instances(256, start))) // 5)
+    yield row("256 instances of as many assignments as there may be", instances(256, start + assignments), report, **limits)
+    # The sum is never reached: 256 times half a million operators would take longer than their code.
+    summands = "1" + "+1" * ((MOST_BYTES - len(bare)) // 2)
+    yield row("256 instances of as many summands as there may be", instances(256, f"{start}if A = 1 then A := {summands} "), report, **limits)
 
 
 def copies():
@@ -179,5 +193,5 @@ def long_inputs():
 
 
 def rows():
-    for family in (prefixes, nesting, long_texts, large_networks, copies, four_turns, numbers, long_inputs):
+    for family in (prefixes, nesting, long_texts, large_networks, long_processes, copies, four_turns, numbers, long_inputs):
         yield from family()

@@ -10,6 +10,7 @@ A row is a folder with some of these files:
     report         the whole standard output; none: nothing
     fault          the whole standard error; none: nothing
     status         the exit status; none: 0
+    limits         the most MiB of memory and the most seconds of processor time; none: no limits
 
 A row is run by 1, 4 and 16 workers with quanta of 1 and 1000, unless its words name one of these. What is refused before any
 worker starts (status 1 or 2) is run once. With status 3 and no report the row isn't determined by its words: the interpreter of
@@ -27,7 +28,7 @@ sys.path += [f"{TOP}/fuzz", f"{TOP}/checks"]
 import families
 import reference
 
-FILES = {"program.kahn", "input", "words", "report", "fault", "status"}
+FILES = {"program.kahn", "input", "words", "report", "fault", "status", "limits"}
 WAYS = [["--workers", str(workers), "--quantum", str(quantum)] for workers in (1, 4, 16) for quantum in (1, 1000)]
 
 
@@ -42,10 +43,18 @@ class Row:
         self.status = int(files.get("status", b"0"))
         self.report, self.fault = files.get("report", b""), files.get("fault", b"")
         self.is_open = self.status == 3 and "report" not in files
+        self.limits = files.get("limits", b"").decode().split()
 
     def ways(self):
         is_told = any(word.startswith(("--workers", "--quantum")) for word in self.words)
         return [[]] if is_told or self.status in (1, 2) else WAYS
+
+    def within(self, given):
+        """The words that run these within the row's limits."""
+        if not self.limits:
+            return given
+        memory, seconds = map(int, self.limits)
+        return ["sh", "-c", f'ulimit -v {1024 * memory} && ulimit -t {seconds} && exec "$@"', "sh", *given]
 
     def option(self, name, default):
         return self.words[self.words.index(name) + 1] if name in self.words else default
@@ -144,7 +153,7 @@ def run(program, row, way):
     words = [*row.words, *way]
     given = [program, "program.kahn", *(["--input", "input"] if row.input is not None else []), *words]
     try:
-        ran = subprocess.run(given, cwd=row.folder, stdin=subprocess.DEVNULL, capture_output=True, timeout=60)
+        ran = subprocess.run(row.within(given), cwd=row.folder, stdin=subprocess.DEVNULL, capture_output=True, timeout=60)
         told = row.differences(ran)
     except (OSError, subprocess.TimeoutExpired) as error:
         told = [str(error)]
