@@ -5,7 +5,7 @@ use lib.ListN.{get_elem?}
 use Rattle.kahn_board.specs.Tale.{Tale, events_past}
 use Rattle.kahn_board.specs.Place.{total}
 use Rattle.kahn_board.specs.Wires.{Wires, wires}
-use Rattle.kahn_board.specs.Rule.{Deal, published}
+use Rattle.kahn_board.specs.Rule.{St, Deal, Whole, published}
 use Rattle.kahn_board.specs.declared.rule.Terms.{Terms}
 
 module _ {T : Type 0} where
@@ -25,3 +25,7 @@ module _ {T : Type 0} (told : T → Option Tale) where
   -- the numbers published at the start are those of the first words
   abbrev pub dealt : Terms T → Deal
   dealt key = record { bound = key.bound; events = events_of key.cells.value.items; published = published (wired key) key.words.value.items }
+
+  -- the rule of its table
+  abbrev pub holds : (T → T → Type 0) → Terms T → St T → Type 0
+  holds after key = Whole told (belongs after key) (wired key) (dealt key)

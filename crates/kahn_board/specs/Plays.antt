@@ -3,7 +3,7 @@ use Rattle.std.specs.Prelude.{◌≡◌, ◌≢◌, ◌⊎◌, ℕ, ◌+◌, ◌
 use Rattle.atomic_table.specs.Table.{Me, Step, rest}
 use Rattle.kahn_board.specs.Tale.{Tale, TellsWait, TellsEvents, FlushedAll, flushed_of, events_past}
 use Rattle.kahn_board.specs.Wires.{Wires}
-use Rattle.kahn_board.specs.Rule.{view}
+use Rattle.kahn_board.specs.Rule.{St, WordWas, view}
 use Rattle.kahn_board.specs.Place.{total}
 use Rattle.kahn_board.specs.declared.view.View.{View}
 
@@ -99,6 +99,10 @@ module _ {T : Type 0} (told : T → Option Tale) (belongs : ℕ → T → Type 0
       × (r % 2 ≡ 1 → (p : ℕ) × (q : ℕ) × (y : T) × (w.reader c ≡ Some p) × (w.writer c ≡ Some q) × TellsWait (told y) c (r / 2) × Got (waking m.0 c (st.first / 2) p q, m.1) p r n y)
 
 module _ {T : Type 0} where
+  -- the word was as found when the view of the seat id was as before
+  abbrev pub at_moment : (St T → Type 0) → ℕ → Play T → Play T
+  at_moment holds id then st m r n = then st m r n × WordWas holds id m.0 st.word r
+
   abbrev pub looked : Play T
   looked st m r n = n ≡ (noted m.0 r, m.1)
 

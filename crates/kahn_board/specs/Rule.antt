@@ -8,7 +8,7 @@ use Rattle.std.specs.Prelude.{◌≡◌, ◌≢◌, ◌⊎◌, ℕ, ◌+◌, ◌
 use Rattle.std.specs.Prelude as std
 use mathlib.Core.Option.{Option, none, some}
 use lib.ListN.{get_elem?}
-use Rattle.atomic_table.specs.Table.{State}
+use Rattle.atomic_table.specs.Table.{State, Seen}
 use Rattle.kahn_board.specs.Tale.{Tale, TellsWait, TellsEnd, TellsEvents, FlushedAll, flushed_of}
 use Rattle.kahn_board.specs.Wires.{Wires}
 use Rattle.kahn_board.specs.Place.{Place, ready, held, parked, over, word_code, held_by, mark_of, total}
@@ -35,9 +35,12 @@ blank n k parts = view parts (replicate n 0) (replicate k 0) (replicate n 0) 0 0
 abbrev pub opening_view : Wires → View
 opening_view w = blank w.instances w.channels all_parts
 
+abbrev pub channel_at : Wires → ℕ → ℕ
+channel_at w c = 8 * (w.instances + c)
+
 -- how many tokens of the channel c are published
 abbrev pub published : Wires → List ℕ → ℕ → ℕ
-published w words c = slice_index words (8 * (w.instances + c)) / 2
+published w words c = slice_index words (channel_at w c) / 2
 
 abbrev pub budget_at : Wires → ℕ
 budget_at w = 8 * (w.instances + w.channels)
@@ -175,3 +178,7 @@ module _ {T : Type 0} where
     pub reckoned : Reckoned told belongs w d place s
     -- where the count is 0 every instance is parked or over, and nobody owes
     pub quiet : count w s.words ≡ 0 → Quiet (λ (v : View). v.hands) (λ (v : View). v.owed) (λ (v : View). v.down) w.instances place s.views
+
+  -- there was a moment at which the rule held, the seat id had the view v, and the word i the number r
+  abbrev pub WordWas : (St T → Type 0) → ℕ → View → ℕ → ℕ → Type 0
+  WordWas holds id v i r = (s : St T) × Seen holds id v s × (slice_index s.words i ≡ r)

@@ -1,10 +1,10 @@
 //! The board, and the seats that step on it.
 
-ghost use Rattle.std.specs.Prelude.{◌≡◌, ◌≢◌, ℕ, ◌+◌, ◌*◌, ◌^◌, ◌<◌, ◌≤◌, [], ◌∷◌, ◌++◌, map, drop, length, Option, slice_index, slice_index_or, None, Some};
+ghost use Rattle.std.specs.Prelude.{◌≡◌, ◌≢◌, ℕ, ◌+◌, ◌*◌, ◌^◌, ◌<◌, ◌≤◌, ◌==◌, [], ◌∷◌, ◌++◌, map, drop, length, Option, slice_index, slice_index_or, None, Some};
 ghost use Rattle.std.specs.VecDeque.{deque_capacity};
 ghost use Rattle.std.specs.Vec.{vec_capacity};
 ghost use Rattle.kahn_board.specs.Hands.{Facts};
-ghost use Rattle.kahn_board.specs.Dealt.{wired};
+ghost use Rattle.kahn_board.specs.Dealt.{holds, wired};
 
 use crate::plays::{
     CountingDown, CountingUp, Drawing, GivingBack, Halting, Notes, SeesBudget, SeesCount,
@@ -12,7 +12,7 @@ use crate::plays::{
 };
 use crate::rule::{Rule, Terms, Told};
 use crate::view::View;
-use atomic_table::Table;
+use atomic_table::{Play, Table};
 use std::alloc::Global;
 use std::collections::VecDeque;
 use std::marker::Brand;
@@ -33,6 +33,39 @@ pub struct Board<T: Told> {
 }
 
 impl<T: Told> Board<T> {
+    ghost use mathlib.Core.Option.{none};
+    ghost use prog.Atomic.{either};
+    ghost use Rattle.atomic_table.specs.Table.{step, Allows};
+    ghost use Rattle.kahn_board.specs.Plays.{at_moment};
+
+    // A load: the word was so at a moment of the call.
+    fn load<P: Play<Option<T>, View>>(
+        &self,
+        seat: &mut atomic_table::Seat<Option<T>, View>,
+        word: usize,
+    ) -> u64
+        requires { (seat.old.table_id ≡ self.now.table.shared.table_id) × (word < self.now.table.shared.table_id.words) × Allows (holds T.told T.after self.now.table.shared.key) self.now.table.shared.table_id.slots seat.old.id seat.old.me word (λ n. n) (P.then (step self.now.table.shared.table_id.slots word 0 0 none) seat.old.me) }
+        ensures { (seat.new.table_id ≡ seat.old.table_id) × (seat.new.id ≡ seat.old.id) × at_moment (holds T.told T.after self.now.table.shared.key) seat.old.id P.then (step self.now.table.shared.table_id.slots word 0 0 none) seat.old.me result seat.new.me }
+    {
+        self.table.shared.load::<Brand>(seat, word)
+    }
+
+    // A compare and exchange: the word was as found at a moment of the call.
+    fn compare_exchange<P: Play<Option<T>, View>>(
+        &self,
+        seat: &mut atomic_table::Seat<Option<T>, View>,
+        word: usize,
+        old: u64,
+        new: u64,
+    ) -> u64
+        requires { (seat.old.table_id ≡ self.now.table.shared.table_id) × (word < self.now.table.shared.table_id.words) × Allows (holds T.told T.after self.now.table.shared.key) self.now.table.shared.table_id.slots seat.old.id seat.old.me word (λ n. either (n == old) new n) (P.then (step self.now.table.shared.table_id.slots word old new none) seat.old.me) }
+        ensures { (seat.new.table_id ≡ seat.old.table_id) × (seat.new.id ≡ seat.old.id) × at_moment (holds T.told T.after self.now.table.shared.key) seat.old.id P.then (step self.now.table.shared.table_id.slots word old new none) seat.old.me result seat.new.me }
+    {
+        self.table
+            .shared
+            .compare_exchange::<Brand>(seat, word, old, new)
+    }
+
     // Who reads the channel, where somebody does.
     fn reader(&self, channel: usize) -> usize
         requires { (channel < self.now.channels) × ((p : ℕ) × ((wired self.now.table.shared.key).reader channel ≡ Some p)) }
@@ -76,12 +109,9 @@ impl<T: Told> Seat<T> {
     /// all stays as it is.
     pub fn claim(&mut self, board: &Board<T>, p: usize) -> Option<()>
         requires { (self.old.seat.table_id ≡ board.now.table.shared.table_id) × (p < board.now.instances) }
-        ensures { Claims T.told (belongs T.after board.now.table.shared.key) (wired board.now.table.shared.key) self.old self.new p result }
+        ensures { Claims T.told T.after board.now.table.shared.key self.old self.new p result }
     {
-        let found = board
-            .table
-            .shared
-            .compare_exchange::<Brand>(&mut self.seat, 8 * p, 0, 1);
+        let found = board.compare_exchange::<Brand>(&mut self.seat, 8 * p, 0, 1);
         if found != 0 {
             return None;
         }
@@ -169,14 +199,11 @@ impl<T: Told> Seat<T> {
         requires reads { (channel < board.now.channels) × ((wired board.now.table.shared.key).reader channel ≡ Some p) × (taken < 2 ^ 48) }
         requires held { IsIn self.old.seat.me.0 p × ((y : T) × Carries self.old.seat.me.1 p (Some y) × Leaves T.told (belongs T.after board.now.table.shared.key) (wired board.now.table.shared.key) self.old.seat.me.0 p y × TellsWait (T.told y) channel taken) }
         requires few { OwesFew self.old.seat.me.0 }
-        ensures { Parks T.told self.old self.new p taken result }
+        ensures { Parks T.told T.after board.now.table.shared.key self.old self.new p channel taken result }
     {
         self.bring(p);
         let word = 8 * (board.instances + channel);
-        let found = board
-            .table
-            .shared
-            .compare_exchange::<Brand>(&mut self.seat, word, 2 * taken, 2 * taken + 1);
+        let found = board.compare_exchange::<Brand>(&mut self.seat, word, 2 * taken, 2 * taken + 1);
         if found != 2 * taken {
             return false;
         }
@@ -233,16 +260,15 @@ impl<T: Told> Seat<T> {
     pub fn draw(&mut self, board: &Board<T>, quantum: u64) -> Draw
         requires board { self.old.seat.table_id ≡ board.now.table.shared.table_id }
         requires ready { (0 < quantum) × (self.old.seat.me.0.drawn ≡ 0) }
-        ensures { Draws self.old self.new quantum result }
+        ensures { Draws T.told T.after board.now.table.shared.key self.old self.new quantum result }
     {
         let word = 8 * (board.instances + board.channels);
-        let shared = &board.table.shared;
-        let found = shared.load::<Notes>(&mut self.seat, word);
+        let found = board.load::<Notes>(&mut self.seat, word);
         if found == 0 {
             return Draw::Empty;
         }
         let n = quantum.min(found);
-        if shared.compare_exchange::<Drawing>(&mut self.seat, word, found, found - n) == found {
+        if board.compare_exchange::<Drawing>(&mut self.seat, word, found, found - n) == found {
             Draw::Got(n)
         } else {
             Draw::Lost
@@ -274,17 +300,16 @@ impl<T: Told> Seat<T> {
     /// Whether there is a reason to leave.
     pub fn look(&mut self, board: &Board<T>) -> Look
         requires board { self.old.seat.table_id ≡ board.now.table.shared.table_id }
-        ensures { Looks self.old self.new result }
+        ensures { Looks T.told T.after board.now.table.shared.key self.old self.new result }
     {
         let hot = 8 * (board.instances + board.channels);
-        let shared = &board.table.shared;
-        if shared.load::<SeesHalted>(&mut self.seat, hot + 16) != 0 {
+        if board.load::<SeesHalted>(&mut self.seat, hot + 16) != 0 {
             return Look::Halted;
         }
-        if shared.load::<SeesCount>(&mut self.seat, hot + 8) == 0 {
+        if board.load::<SeesCount>(&mut self.seat, hot + 8) == 0 {
             return Look::Quiet;
         }
-        if shared.load::<SeesBudget>(&mut self.seat, hot) == 0 {
+        if board.load::<SeesBudget>(&mut self.seat, hot) == 0 {
             Look::NoBudget
         } else {
             Look::Go

@@ -45,10 +45,10 @@ pub struct Rule<T> {
 }
 
 impl<T: Told> TableRule<Option<T>, View, Terms<T>> for Rule<T> {
-    ghost use Rattle.kahn_board.specs.Rule.{Whole, opening_view};
-    ghost use Rattle.kahn_board.specs.Dealt.{belongs, dealt, wired};
+    ghost use Rattle.kahn_board.specs.Rule.{opening_view};
+    ghost use Rattle.kahn_board.specs.Dealt.{holds, wired};
 
-    ghost holds = { λ key. Whole T.told (belongs T.after key) (wired key) (dealt T.told key) };
+    ghost holds = { holds T.told T.after };
 
     ghost first = { λ key. opening_view (wired key) };
 }

@@ -1,6 +1,6 @@
 //! What a task flushed is told to the board, so that the readers that wait for it go on.
 
-ghost use Rattle.std.specs.Prelude.{◌≡◌, ◌≢◌, ℕ, ◌<◌, ◌^◌, None, Option};
+ghost use Rattle.std.specs.Prelude.{◌≡◌, ◌≢◌, ℕ, ◌<◌, ◌^◌, true, false, None, Option, IfNone};
 ghost use Rattle.kahn_code.specs.Standing.{count};
 ghost use Rattle.kahn_desk.specs.Turn.{Holds, IsIdle, IsSeatOf};
 ghost use Rattle.kahn_job.specs.Works.{width_of};
@@ -47,6 +47,22 @@ pub(crate) fn publish_one<'n>(
     tell(seat, floor.board, p, channel, count)
 }
 
+// Where memory was refused for a hint the run is to stop. Otherwise the seat stays as it is.
+fn heed_hint<'n>(floor: &Floor<'_, 'n>, seat: &mut Seat<Task<'n>>, told: bool)
+    requires { seat.old.seat.table_id ≡ floor.now.board.now.table.shared.table_id }
+    ensures same { IsSeatOf seat.old seat.new }
+    ensures holds { (p n l : ℕ) (x : Option Tasked) → Holds p n l x seat.old → Holds p n l x seat.new }
+    ensures idle { IsIdle seat.old → IsIdle seat.new }
+    ensures kept { (p : ℕ) → HasKept p seat.old.seat.me.0 seat.new.seat.me.0 }
+    ensures flushed { seat.new.seat.me.0.flushed ≡ seat.old.seat.me.0.flushed }
+    ensures refused { told ≡ false → seat.new.seat.me.0.seen ≡ 2 }
+    ensures stays { told ≡ true → seat.new ≡ seat.old }
+{
+    if !told {
+        stop(seat, floor.board);
+    }
+}
+
 /// Hints at an instance that is ready, where there is one. Where memory is refused the run is to stop.
 pub(crate) fn hint<'n>(
     floor: &Floor<'_, 'n>,
@@ -60,12 +76,12 @@ pub(crate) fn hint<'n>(
     ensures idle { IsIdle seat.old → IsIdle seat.new }
     ensures kept { (p : ℕ) → HasKept p seat.old.seat.me.0 seat.new.seat.me.0 }
     ensures flushed { seat.new.seat.me.0.flushed ≡ seat.old.seat.me.0.flushed }
+    // Nothing is halted where no hint was to be given.
+    ensures none { IfNone woken (seat.new ≡ seat.old) }
 {
-    let Some(instance) = woken else {
-        return;
-    };
-    if !hints.push(instance) {
-        stop(seat, floor.board);
+    if let Some(instance) = woken {
+        let told = hints.push(instance);
+        heed_hint(floor, seat, told);
     }
 }
 

@@ -1,12 +1,12 @@
 -- A seat that draws, and looks in vain.
-use Rattle.std.proofs.Common.{◌≡◌, ℕ, ◌≤◌, arith, Option, get_or, ap, sym, refl, inl, ◌∙◌, subst}
+use Rattle.std.proofs.Common.{◌≡◌, ℕ, Option, get_or, ap, sym, refl, inl, ◌∙◌, subst}
 use Rattle.kahn_board.specs.Wires.{Wires}
 use Rattle.kahn_board.specs.Hands.{Carries}
 use Rattle.kahn_board.specs.Plays.{Sat, noted, with_draw}
 use Rattle.kahn_desk.specs.Turn.{InTurn, Knows}
 
 module _ {T : Type 0} where
-  -- nothing changed but how many steps it made and what the last one found
+  -- nothing changed but how many steps it made
   pub record Same (m n : Sat T) : Type 0 where
     pub slots : n.1 ≡ m.1
     pub parts : n.0.parts ≡ m.0.parts
@@ -18,16 +18,15 @@ module _ {T : Type 0} where
     pub owed : n.0.owed ≡ m.0.owed
     pub down : n.0.down ≡ m.0.down
     pub seen : n.0.seen ≡ m.0.seen
-    pub steps : m.0.steps ≤ n.0.steps
 
   pub same_self : (m : Sat T) → Same m m
-  same_self m = record { slots = refl; parts = refl; hands = refl; flushed = refl; got = refl; drawn = refl; loose = refl; owed = refl; down = refl; seen = refl; steps = omega arith }
+  same_self m = record { slots = refl; parts = refl; hands = refl; flushed = refl; got = refl; drawn = refl; loose = refl; owed = refl; down = refl; seen = refl }
 
   pub same_noted : (m n k : Sat T) (r : ℕ) → Same m n → k ≡ (noted n.0 r, n.1) → Same m k
-  same_noted m n k r s is = subst (Same m) (sym is) record { slots = s.slots; parts = s.parts; hands = s.hands; flushed = s.flushed; got = s.got; drawn = s.drawn; loose = s.loose; owed = s.owed; down = s.down; seen = s.seen; steps = omega (arith, s.steps) }
+  same_noted m n k r s is = subst (Same m) (sym is) record { slots = s.slots; parts = s.parts; hands = s.hands; flushed = s.flushed; got = s.got; drawn = s.drawn; loose = s.loose; owed = s.owed; down = s.down; seen = s.seen }
 
   pub same_noted_twice : (m n k : Sat T) (a b : ℕ) → Same m n → k ≡ (noted (noted n.0 a) b, n.1) → Same m k
-  same_noted_twice m n k a b s is = subst (Same m) (sym is) record { slots = s.slots; parts = s.parts; hands = s.hands; flushed = s.flushed; got = s.got; drawn = s.drawn; loose = s.loose; owed = s.owed; down = s.down; seen = s.seen; steps = omega (arith, s.steps) }
+  same_noted_twice m n k a b s is = subst (Same m) (sym is) record { slots = s.slots; parts = s.parts; hands = s.hands; flushed = s.flushed; got = s.got; drawn = s.drawn; loose = s.loose; owed = s.owed; down = s.down; seen = s.seen }
 
   pub same_knows : (w : Wires) (p : ℕ) (m n : Sat T) → Same m n → Knows w p m.0 n.0
   same_knows w p m n s = record { flushed = λ c _ _. ap (λ l. get_or l c 0) s.flushed; got = ap (λ l. get_or l p 0) s.got; seen = inl s.seen }

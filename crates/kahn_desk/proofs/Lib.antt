@@ -2,3 +2,4 @@ pub mod Drawn
 pub mod Left
 pub mod Passed
 pub mod Joined
+pub mod Kept

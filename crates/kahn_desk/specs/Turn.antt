@@ -12,10 +12,6 @@ use Rattle.kahn_board.specs.declared.board.Seat.{Seat}
 abbrev pub Rests : View → Type 0
 Rests v = IsFree v × (v.loose ≡ 0)
 
--- it made a step since, and its last one found r
-abbrev pub Found : View → View → ℕ → Type 0
-Found old new r = (old.steps < new.steps) × (new.found ≡ r)
-
 -- what is known of the instance p stays: what its channels' numbers are, what its cell told when it was got; and no less was seen
 pub record Knows (w : Wires) (p : ℕ) (old new : View) : Type 0 where
   pub flushed : (c : ℕ) → c < w.channels → w.writer c ≡ Some p → slice_index new.flushed c ≡ slice_index old.flushed c

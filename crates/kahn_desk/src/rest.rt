@@ -1,9 +1,13 @@
 //! How an instance is set down at the end of a turn, and whether another turn comes.
 
-ghost use Rattle.std.specs.Prelude.{◌≡◌, ◌≢◌, ◌⊎◌, ℕ, ◌^◌, ◌<◌, true, false, Option, Some};
+ghost use Rattle.std.specs.Prelude.{◌≡◌, ◌≢◌, ℕ, ◌/◌, ◌^◌, ◌<◌, true, false, Option, Some};
 ghost use Rattle.kahn_board.specs.Dealt.{belongs, wired};
 ghost use Rattle.kahn_board.specs.Tale.{TellsEnd, TellsWait};
-ghost use Rattle.kahn_desk.specs.Turn.{IsIdle, IsSeatOf, Holds, Found, Fits};
+ghost use Rattle.kahn_board.specs.Calls.{Was, Looks};
+ghost use Rattle.kahn_board.specs.Rule.{channel_at};
+ghost use Rattle.kahn_board.specs.declared.board.Look.{Look};
+ghost use Rattle.kahn_board.specs.declared.board.Look.TheVariants.{Go};
+ghost use Rattle.kahn_desk.specs.Turn.{IsIdle, IsSeatOf, Holds, Fits};
 
 use kahn_board::{Board, Look, Rest, Seat, Told};
 
@@ -28,8 +32,8 @@ pub fn rest_over<T: Told>(seat: &mut Seat<T>, board: &Board<T>, p: usize)
     seat.count_down(board);
 }
 
-/// The instance waits on the channel, of which it took so many tokens. False where others are published: then it is
-/// ready for another turn.
+/// The instance waits on the channel, of which it took so many tokens. False where another number was published: then it
+/// is ready for another turn.
 pub fn rest_dry<T: Told>(
     seat: &mut Seat<T>,
     board: &Board<T>,
@@ -42,6 +46,7 @@ pub fn rest_dry<T: Told>(
     requires holds { (l : ℕ) × (y : T) × Holds p 0 l (Some y) seat.old × Fits T.told (belongs T.after board.now.table.shared.key) (wired board.now.table.shared.key) p y seat.old.seat.me.0 × TellsWait (T.told y) channel taken }
     ensures same { IsSeatOf seat.old seat.new }
     ensures idle { IsIdle seat.new }
+    ensures late { result ≡ false → (r : ℕ) × (r / 2 ≢ taken) × Was T.told T.after board.now.table.shared.key seat.old seat.old.seat.me.0 (channel_at (wired board.now.table.shared.key) channel) r }
 {
     if !seat.park(board, p, channel, taken) {
         rest_ready(seat, board, p);
@@ -51,15 +56,15 @@ pub fn rest_dry<T: Told>(
     true
 }
 
-/// Whether another turn comes. False once the run is halted, or no instance can go on, or the budget is empty, which
-/// the seat saw, or found 0: then it has left.
+/// Whether another turn comes. False where it saw that the run is halted, that no instance can go on, or that the budget
+/// is empty: then it has left.
 pub fn go_on<T: Told>(seat: &mut Seat<T>, board: &Board<T>) -> bool
     requires board { seat.old.seat.table_id ≡ board.now.table.shared.table_id }
     requires idle { IsIdle seat.old }
     ensures same { IsSeatOf seat.old seat.new }
     ensures idle { IsIdle seat.new }
-    ensures goes { result ≡ true → (seat.old.seat.me.0.seen ≢ 2) × (seat.old.seat.me.0.seen ≢ 1) × ((r : ℕ) × (r ≢ 0) × Found seat.old.seat.me.0 seat.new.seat.me.0 r) }
-    ensures left { result ≡ false → (seat.new.seat.me.0.stage ≡ 1) × ((seat.new.seat.me.0.seen ≡ 2) ⊎ Found seat.old.seat.me.0 seat.new.seat.me.0 0) }
+    ensures goes { result ≡ true → Looks T.told T.after board.now.table.shared.key seat.old seat.new Go }
+    ensures left { result ≡ false → (seat.new.seat.me.0.stage ≡ 1) × ((k : Look) × (k ≢ Go) × Looks T.told T.after board.now.table.shared.key seat.old seat.new k) }
 {
     matches!(seat.look(board), Look::Go)
 }

@@ -1,27 +1,31 @@
 //! The calls of a turn, from the pick of an instance to the give back of what was not done.
 
-ghost use Rattle.std.specs.Prelude.{◌≡◌, ◌≢◌, ℕ, ◌+◌, ◌-◌, ◌^◌, ◌<◌, ◌≤◌, slice_index, true, false, Option, Some, None, IfSome, IfNone};
+ghost use Rattle.std.specs.Prelude.{◌≡◌, ◌≢◌, ℕ, ◌+◌, ◌-◌, ◌*◌, ◌^◌, ◌<◌, ◌≤◌, min, slice_index, true, false, Option, Some, None, IfSome, IfNone};
 ghost use Rattle.kahn_board.specs.Dealt.{belongs, wired};
-ghost use Rattle.kahn_desk.specs.Turn.{IsIdle, IsSeatOf, Holds, Found, Knows, Tells, Fits};
+ghost use Rattle.kahn_board.specs.Calls.{Was};
+ghost use Rattle.kahn_board.specs.Plays.{noted, with_draw};
+ghost use Rattle.kahn_board.specs.Rule.{budget_at};
+ghost use Rattle.kahn_board.specs.declared.view.View.{View};
+ghost use Rattle.kahn_desk.specs.Turn.{IsIdle, IsSeatOf, Holds, Knows, Tells, Fits};
 
 use kahn_board::{Board, Draw, Rest, Seat, Told};
 use std::sync::Wait;
 
 /// Takes the instance, where it is ready. False where it is not, since another worker has it, or it waits, or it is
-/// over: then the number found is not 0.
+/// over: its word was not 0 then.
 pub fn pick<T: Told>(seat: &mut Seat<T>, board: &Board<T>, p: usize) -> bool
     requires board { seat.old.seat.table_id ≡ board.now.table.shared.table_id }
     requires idle { IsIdle seat.old }
     requires inside { p < board.now.instances }
     ensures same { IsSeatOf seat.old seat.new }
     ensures picked { result ≡ true → (y : T) × Holds p 0 0 (Some y) seat.new × Fits T.told (belongs T.after board.now.table.shared.key) (wired board.now.table.shared.key) p y seat.new.seat.me.0 }
-    ensures left { result ≡ false → IsIdle seat.new × ((r : ℕ) × (r ≢ 0) × Found seat.old.seat.me.0 seat.new.seat.me.0 r) }
+    ensures left { result ≡ false → IsIdle seat.new × ((r : ℕ) × (r ≢ 0) × Was T.told T.after board.now.table.shared.key seat.old seat.old.seat.me.0 (8 * p) r) }
 {
     seat.claim(board, p).is_some()
 }
 
-/// Draws events from the budget, one up to `quantum`, again while other workers come between. `None` where the budget
-/// is empty: the number found is 0.
+/// Draws events from the budget, again while other workers come between: the smaller of `quantum` and the budget at that
+/// moment. `None` where the budget was 0.
 pub fn draw_some<T: Told>(
     rt: &impl Wait,
     seat: &mut Seat<T>,
@@ -35,7 +39,8 @@ pub fn draw_some<T: Told>(
     ensures same { IsSeatOf seat.old seat.new }
     ensures knows { Knows (wired board.now.table.shared.key) p seat.old.seat.me.0 seat.new.seat.me.0 }
     ensures drawn { IfSome result (λ n. (0 < n) × (n ≤ quantum) × (slice_index seat.new.seat.me.0.got p + n < 2 ^ 48) × ((x : Option T) → Holds p 0 0 x seat.old → Holds p n 0 x seat.new)) }
-    ensures empty { IfNone result (Found seat.old.seat.me.0 seat.new.seat.me.0 0 × ((x : Option T) → Holds p 0 0 x seat.old → Holds p 0 0 x seat.new)) }
+    ensures all { IfSome result (λ n. (a : ℕ) × (v : View) × (n ≡ min quantum a) × Was T.told T.after board.now.table.shared.key seat.old v (budget_at (wired board.now.table.shared.key)) a × (seat.new.seat.me.0 ≡ with_draw v n a)) }
+    ensures empty { IfNone result (((v : View) × Was T.told T.after board.now.table.shared.key seat.old v (budget_at (wired board.now.table.shared.key)) 0 × (seat.new.seat.me.0 ≡ noted v 0)) × ((x : Option T) → Holds p 0 0 x seat.old → Holds p 0 0 x seat.new)) }
 {
     for _ in rt.forever() {
         match seat.draw(board, quantum) {

@@ -1,4 +1,4 @@
-use Rattle.std.proofs.Common.{◌≡◌, ◌≤◌, length}
+use Rattle.std.proofs.Common.{◌≤◌, length}
 use Rattle.std.specs.Vec.{vec_capacity}
 use Rattle.kahn_crew.specs.Begins.{woken_task}
 use Rattle.kahn_crew.proofs.Started.{Taking}

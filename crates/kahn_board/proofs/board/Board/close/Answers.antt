@@ -1,4 +1,4 @@
-use Rattle.std.proofs.Common.{arith, ◌+◌, ◌*◌, ne_eqb, eqb, ◌≡◌, ℕ, Bool, cond, length, sym, ap, ◌∙◌}
+use Rattle.std.proofs.Common.{arith, ◌+◌, ◌*◌, ne_eqb, eqb, ◌≡◌, ℕ, Bool, cond, length, ap, ◌∙◌}
 use Rattle.std.specs.Slots.{slots_filled, slots_items}
 use mathlib.Core.Bool.{not}
 use Rattle.kahn_board.specs.Dealt.{belongs, wired}

@@ -14,21 +14,21 @@ compare_exchange-found-requires g c = let b = c.args.board.now in let told = g.T
 )
 
 pub push_front_reserved-requires : goal.push_front_reserved-requires
-push_front_reserved-requires g c = let got = (claimed_here g.T.Told.told (belongs g.T.Told.after c.args.board.now.table.shared.key) (wired c.args.board.now.table.shared.key) c.args.self.now.seat.me c.compare_exchange-found.new.seat.me c.args.p _ c.compare_exchange-found.result (omega arith) c.compare_exchange-found.ensures.2).0 c.if-found-ne0.false in let me = c.args.self.now in
+push_front_reserved-requires g c = let got = (claimed_here g.T.Told.told (belongs g.T.Told.after c.args.board.now.table.shared.key) (wired c.args.board.now.table.shared.key) c.args.self.now.seat.me c.compare_exchange-found.new.seat.me c.args.p _ c.compare_exchange-found.result (omega arith) c.compare_exchange-found.ensures.2.0).0 c.if-found-ne0.false in let me = c.args.self.now in
     omega (arith, me.held.ok.0, room_for g.T.Told.told (wired c.args.board.now.table.shared.key) me.seat.me me.seat.table_id _ _ c.args.p me.facts got.1.4 (search rules))
 
 pub invariant_of-self : goal.invariant_of-self
 invariant_of-self g c = let me = c.args.self.now in record {
-  facts = facts_noted g.T.Told.told (wired c.args.board.now.table.shared.key) me.seat.me _ _ _ _ _ _ me.facts c.compare_exchange-found.ensures.0 ((claimed_here g.T.Told.told (belongs g.T.Told.after c.args.board.now.table.shared.key) (wired c.args.board.now.table.shared.key) c.args.self.now.seat.me c.compare_exchange-found.new.seat.me c.args.p _ c.compare_exchange-found.result (omega arith) c.compare_exchange-found.ensures.2).1 c.if-found-ne0.true);
+  facts = facts_noted g.T.Told.told (wired c.args.board.now.table.shared.key) me.seat.me _ _ _ _ _ _ me.facts c.compare_exchange-found.ensures.0 ((claimed_here g.T.Told.told (belongs g.T.Told.after c.args.board.now.table.shared.key) (wired c.args.board.now.table.shared.key) c.args.self.now.seat.me c.compare_exchange-found.new.seat.me c.args.p _ c.compare_exchange-found.result (omega arith) c.compare_exchange-found.ensures.2.0).1 c.if-found-ne0.true);
 }
 
 pub returns-then-found-ne0 : goal.returns-then-found-ne0
-returns-then-found-ne0 g c = ((c.compare_exchange-found.ensures.0, c.compare_exchange-found.ensures.1), (_, c.if-found-ne0.true, (claimed_here g.T.Told.told (belongs g.T.Told.after c.args.board.now.table.shared.key) (wired c.args.board.now.table.shared.key) c.args.self.now.seat.me c.compare_exchange-found.new.seat.me c.args.p _ c.compare_exchange-found.result (omega arith) c.compare_exchange-found.ensures.2).1 c.if-found-ne0.true))
+returns-then-found-ne0 g c = ((c.compare_exchange-found.ensures.0, c.compare_exchange-found.ensures.1), (_, c.if-found-ne0.true, c.compare_exchange-found.ensures.2.1, (claimed_here g.T.Told.told (belongs g.T.Told.after c.args.board.now.table.shared.key) (wired c.args.board.now.table.shared.key) c.args.self.now.seat.me c.compare_exchange-found.new.seat.me c.args.p _ c.compare_exchange-found.result (omega arith) c.compare_exchange-found.ensures.2.0).1 c.if-found-ne0.true))
 
 pub invariant_of-self-2 : goal.invariant_of-self-2
-invariant_of-self-2 g c = let got = (claimed_here g.T.Told.told (belongs g.T.Told.after c.args.board.now.table.shared.key) (wired c.args.board.now.table.shared.key) c.args.self.now.seat.me c.compare_exchange-found.new.seat.me c.args.p _ c.compare_exchange-found.result (omega arith) c.compare_exchange-found.ensures.2).0 c.if-found-ne0.false in let me = c.args.self.now in record {
+invariant_of-self-2 g c = let got = (claimed_here g.T.Told.told (belongs g.T.Told.after c.args.board.now.table.shared.key) (wired c.args.board.now.table.shared.key) c.args.self.now.seat.me c.compare_exchange-found.new.seat.me c.args.p _ c.compare_exchange-found.result (omega arith) c.compare_exchange-found.ensures.2.0).0 c.if-found-ne0.false in let me = c.args.self.now in record {
   facts = facts_took g.T.Told.told (belongs g.T.Told.after c.args.board.now.table.shared.key) (wired c.args.board.now.table.shared.key) me.seat.me _ _ _ _ _ _ _ _ _ got.0 me.facts c.compare_exchange-found.ensures.0 got.1 c.push_front_reserved.ensures.items c.push_front_reserved.ensures.capacity (search rules);
 }
 
 pub returns : goal.returns
-returns g c = ((c.compare_exchange-found.ensures.0, c.compare_exchange-found.ensures.1), (claimed_here g.T.Told.told (belongs g.T.Told.after c.args.board.now.table.shared.key) (wired c.args.board.now.table.shared.key) c.args.self.now.seat.me c.compare_exchange-found.new.seat.me c.args.p _ c.compare_exchange-found.result (omega arith) c.compare_exchange-found.ensures.2).0 c.if-found-ne0.false)
+returns g c = ((c.compare_exchange-found.ensures.0, c.compare_exchange-found.ensures.1), (claimed_here g.T.Told.told (belongs g.T.Told.after c.args.board.now.table.shared.key) (wired c.args.board.now.table.shared.key) c.args.self.now.seat.me c.compare_exchange-found.new.seat.me c.args.p _ c.compare_exchange-found.result (omega arith) c.compare_exchange-found.ensures.2.0).0 c.if-found-ne0.false)

@@ -3,4 +3,4 @@ use Rattle.kahn_board.specs.Dealt.{wired}
 use Rattle.kahn_board.proofs.board.Seat.park.Given as goal
 
 abbrev pub ghosts-compare_exchange : goal.ghosts-compare_exchange
-ghosts-compare_exchange g a = record { then = λ st m r n. parked_or_not g.T.Told.told (wired a.self.now.key) (first_of m.1) st m r n }
+ghosts-compare_exchange g a = record { then = λ st m r n. parked_or_not g.T.Told.told (wired a.self.now.table.shared.key) (first_of m.1) st m r n }
