@@ -53,7 +53,7 @@ returns-in_err-variables-clause-stops c =
 
 pub returns-in_err-statements-clause-stops : goal.returns-in_err-statements-clause-stops
 returns-in_err-statements-clause-stops c =
-    let p = err_from_is_err_and c.from_residual-in_err-statements.result c.from_residual-in_err-statements.ensures.1 in rw (p.1, p.2) (then_stops c.args.text.now 0 (ProcessPart ∷ []) (StatementPart ∷ TailPart StatementsTail ∷ TokenPart EndToken ∷ []) c.args.input.now c.in_ok-variables.rest.now _ (then c.args.text.now 0 (ProcessPart ∷ []) (VariablesPart ∷ StatementPart ∷ TailPart StatementsTail ∷ TokenPart EndToken ∷ []) (StatementPart ∷ TailPart StatementsTail ∷ TokenPart EndToken ∷ []) c.args.input.now c.in_ok-rest-5.rest.now c.in_ok-variables.rest.now (then c.args.text.now 0 (ProcessPart ∷ []) (TokenPart BeginToken ∷ VariablesPart ∷ StatementPart ∷ TailPart StatementsTail ∷ TokenPart EndToken ∷ []) (VariablesPart ∷ StatementPart ∷ TailPart StatementsTail ∷ TokenPart EndToken ∷ []) c.args.input.now c.in_ok-rest-4.rest.now c.in_ok-rest-5.rest.now (then c.args.text.now 0 (ProcessPart ∷ []) (TokenPart SemicolonToken ∷ TokenPart BeginToken ∷ VariablesPart ∷ StatementPart ∷ TailPart StatementsTail ∷ TokenPart EndToken ∷ []) (TokenPart BeginToken ∷ VariablesPart ∷ StatementPart ∷ TailPart StatementsTail ∷ TokenPart EndToken ∷ []) c.args.input.now c.in_ok-rest-3.rest.now c.in_ok-rest-4.rest.now (then c.args.text.now 0 (ProcessPart ∷ []) (TokenPart CloseToken ∷ TokenPart SemicolonToken ∷ TokenPart BeginToken ∷ VariablesPart ∷ StatementPart ∷ TailPart StatementsTail ∷ TokenPart EndToken ∷ []) (TokenPart SemicolonToken ∷ TokenPart BeginToken ∷ VariablesPart ∷ StatementPart ∷ TailPart StatementsTail ∷ TokenPart EndToken ∷ []) c.args.input.now c.in_ok-parameters.rest.now c.in_ok-rest-3.rest.now (then c.args.text.now 0 (ProcessPart ∷ []) (GroupsPart ∷ TokenPart CloseToken ∷ TokenPart SemicolonToken ∷ TokenPart BeginToken ∷ VariablesPart ∷ StatementPart ∷ TailPart StatementsTail ∷ TokenPart EndToken ∷ []) (TokenPart CloseToken ∷ TokenPart SemicolonToken ∷ TokenPart BeginToken ∷ VariablesPart ∷ StatementPart ∷ TailPart StatementsTail ∷ TokenPart EndToken ∷ []) c.args.input.now c.in_ok-rest-2.rest.now c.in_ok-parameters.rest.now (then c.args.text.now 0 (ProcessPart ∷ []) (TokenPart OpenToken ∷ GroupsPart ∷ TokenPart CloseToken ∷ TokenPart SemicolonToken ∷ TokenPart BeginToken ∷ VariablesPart ∷ StatementPart ∷ TailPart StatementsTail ∷ TokenPart EndToken ∷ []) (GroupsPart ∷ TokenPart CloseToken ∷ TokenPart SemicolonToken ∷ TokenPart BeginToken ∷ VariablesPart ∷ StatementPart ∷ TailPart StatementsTail ∷ TokenPart EndToken ∷ []) c.args.input.now c.in_ok-name.rest.now c.in_ok-rest-2.rest.now (then c.args.text.now 0 (ProcessPart ∷ []) (TokenPart NameToken ∷ TokenPart OpenToken ∷ GroupsPart ∷ TokenPart CloseToken ∷ TokenPart SemicolonToken ∷ TokenPart BeginToken ∷ VariablesPart ∷ StatementPart ∷ TailPart StatementsTail ∷ TokenPart EndToken ∷ []) (TokenPart OpenToken ∷ GroupsPart ∷ TokenPart CloseToken ∷ TokenPart SemicolonToken ∷ TokenPart BeginToken ∷ VariablesPart ∷ StatementPart ∷ TailPart StatementsTail ∷ TokenPart EndToken ∷ []) c.args.input.now c.in_ok-rest.rest.now c.in_ok-name.rest.now (one c.args.text.now 0 (ProcessPart) ([]) (TokenPart NameToken ∷ TokenPart OpenToken ∷ GroupsPart ∷ TokenPart CloseToken ∷ TokenPart SemicolonToken ∷ TokenPart BeginToken ∷ VariablesPart ∷ StatementPart ∷ TailPart StatementsTail ∷ TokenPart EndToken ∷ []) (word keyword.Process) c.args.input.now c.in_ok-rest.rest.now (λ s l. omega (arith, l)) (λ s. refl) (c.in_ok-rest.ensures.first.1 c.args.text.now)) (token c.args.text.now 0 NameToken (TokenPart OpenToken ∷ GroupsPart ∷ TokenPart CloseToken ∷ TokenPart SemicolonToken ∷ TokenPart BeginToken ∷ VariablesPart ∷ StatementPart ∷ TailPart StatementsTail ∷ TokenPart EndToken ∷ []) (name (name_of c.in_ok-name.name)) c.in_ok-rest.rest.now c.in_ok-name.rest.now (λ s l. omega (arith, l)) refl c.in_ok-name.ensures.words)) (expected c.args.text.now 0 OpenToken (GroupsPart ∷ TokenPart CloseToken ∷ TokenPart SemicolonToken ∷ TokenPart BeginToken ∷ VariablesPart ∷ StatementPart ∷ TailPart StatementsTail ∷ TokenPart EndToken ∷ []) (class.Sign mark.Open) c.in_ok-name.rest.now c.in_ok-rest-2.rest.now (λ s l. omega (arith, l)) refl c.in_ok-rest-2.ensures.first)) (call c.args.text.now 0 0 (GroupsPart) (TokenPart CloseToken ∷ TokenPart SemicolonToken ∷ TokenPart BeginToken ∷ VariablesPart ∷ StatementPart ∷ TailPart StatementsTail ∷ TokenPart EndToken ∷ []) c.in_ok-rest-2.rest.now c.in_ok-parameters.rest.now (λ s l. omega (arith, l)) c.in_ok-parameters.ensures.reads)) (expected c.args.text.now 0 CloseToken (TokenPart SemicolonToken ∷ TokenPart BeginToken ∷ VariablesPart ∷ StatementPart ∷ TailPart StatementsTail ∷ TokenPart EndToken ∷ []) (class.Sign mark.Close) c.in_ok-parameters.rest.now c.in_ok-rest-3.rest.now (λ s l. omega (arith, l)) refl c.in_ok-rest-3.ensures.first)) (expected c.args.text.now 0 SemicolonToken (TokenPart BeginToken ∷ VariablesPart ∷ StatementPart ∷ TailPart StatementsTail ∷ TokenPart EndToken ∷ []) (class.Sign mark.Semicolon) c.in_ok-rest-3.rest.now c.in_ok-rest-4.rest.now (λ s l. omega (arith, l)) refl c.in_ok-rest-4.ensures.first)) (expected c.args.text.now 0 BeginToken (VariablesPart ∷ StatementPart ∷ TailPart StatementsTail ∷ TokenPart EndToken ∷ []) (class.Word keyword.Begin) c.in_ok-rest-4.rest.now c.in_ok-rest-5.rest.now (λ s l. omega (arith, l)) refl c.in_ok-rest-5.ensures.first)) (call c.args.text.now 0 0 (VariablesPart) (StatementPart ∷ TailPart StatementsTail ∷ TokenPart EndToken ∷ []) c.in_ok-rest-5.rest.now c.in_ok-variables.rest.now (λ s l. omega (arith, l)) c.in_ok-variables.ensures.reads)) (call_two_stops c.args.text.now 0 0 (StatementPart) (TailPart StatementsTail) (TokenPart EndToken ∷ []) c.in_ok-variables.rest.now _ (λ s l. omega (arith, l)) c.in_err-statements.ensures.stops))
+    let p = err_from_is_err_and c.from_residual-in_err-statements.result c.from_residual-in_err-statements.ensures.1 in rw (p.1, p.2) (then_stops c.args.text.now 0 (ProcessPart ∷ []) (StatementPart ∷ TailPart StatementsTail ∷ TokenPart EndToken ∷ []) c.args.input.now c.in_ok-variables.rest.now _ (then c.args.text.now 0 (ProcessPart ∷ []) (VariablesPart ∷ StatementPart ∷ TailPart StatementsTail ∷ TokenPart EndToken ∷ []) (StatementPart ∷ TailPart StatementsTail ∷ TokenPart EndToken ∷ []) c.args.input.now c.in_ok-rest-5.rest.now c.in_ok-variables.rest.now (then c.args.text.now 0 (ProcessPart ∷ []) (TokenPart BeginToken ∷ VariablesPart ∷ StatementPart ∷ TailPart StatementsTail ∷ TokenPart EndToken ∷ []) (VariablesPart ∷ StatementPart ∷ TailPart StatementsTail ∷ TokenPart EndToken ∷ []) c.args.input.now c.in_ok-rest-4.rest.now c.in_ok-rest-5.rest.now (then c.args.text.now 0 (ProcessPart ∷ []) (TokenPart SemicolonToken ∷ TokenPart BeginToken ∷ VariablesPart ∷ StatementPart ∷ TailPart StatementsTail ∷ TokenPart EndToken ∷ []) (TokenPart BeginToken ∷ VariablesPart ∷ StatementPart ∷ TailPart StatementsTail ∷ TokenPart EndToken ∷ []) c.args.input.now c.in_ok-rest-3.rest.now c.in_ok-rest-4.rest.now (then c.args.text.now 0 (ProcessPart ∷ []) (TokenPart CloseToken ∷ TokenPart SemicolonToken ∷ TokenPart BeginToken ∷ VariablesPart ∷ StatementPart ∷ TailPart StatementsTail ∷ TokenPart EndToken ∷ []) (TokenPart SemicolonToken ∷ TokenPart BeginToken ∷ VariablesPart ∷ StatementPart ∷ TailPart StatementsTail ∷ TokenPart EndToken ∷ []) c.args.input.now c.in_ok-parameters.rest.now c.in_ok-rest-3.rest.now (then c.args.text.now 0 (ProcessPart ∷ []) (GroupsPart ∷ TokenPart CloseToken ∷ TokenPart SemicolonToken ∷ TokenPart BeginToken ∷ VariablesPart ∷ StatementPart ∷ TailPart StatementsTail ∷ TokenPart EndToken ∷ []) (TokenPart CloseToken ∷ TokenPart SemicolonToken ∷ TokenPart BeginToken ∷ VariablesPart ∷ StatementPart ∷ TailPart StatementsTail ∷ TokenPart EndToken ∷ []) c.args.input.now c.in_ok-rest-2.rest.now c.in_ok-parameters.rest.now (then c.args.text.now 0 (ProcessPart ∷ []) (TokenPart OpenToken ∷ GroupsPart ∷ TokenPart CloseToken ∷ TokenPart SemicolonToken ∷ TokenPart BeginToken ∷ VariablesPart ∷ StatementPart ∷ TailPart StatementsTail ∷ TokenPart EndToken ∷ []) (GroupsPart ∷ TokenPart CloseToken ∷ TokenPart SemicolonToken ∷ TokenPart BeginToken ∷ VariablesPart ∷ StatementPart ∷ TailPart StatementsTail ∷ TokenPart EndToken ∷ []) c.args.input.now c.in_ok-name.rest.now c.in_ok-rest-2.rest.now (then c.args.text.now 0 (ProcessPart ∷ []) (TokenPart NameToken ∷ TokenPart OpenToken ∷ GroupsPart ∷ TokenPart CloseToken ∷ TokenPart SemicolonToken ∷ TokenPart BeginToken ∷ VariablesPart ∷ StatementPart ∷ TailPart StatementsTail ∷ TokenPart EndToken ∷ []) (TokenPart OpenToken ∷ GroupsPart ∷ TokenPart CloseToken ∷ TokenPart SemicolonToken ∷ TokenPart BeginToken ∷ VariablesPart ∷ StatementPart ∷ TailPart StatementsTail ∷ TokenPart EndToken ∷ []) c.args.input.now c.in_ok-rest.rest.now c.in_ok-name.rest.now (one c.args.text.now 0 (ProcessPart) ([]) (TokenPart NameToken ∷ TokenPart OpenToken ∷ GroupsPart ∷ TokenPart CloseToken ∷ TokenPart SemicolonToken ∷ TokenPart BeginToken ∷ VariablesPart ∷ StatementPart ∷ TailPart StatementsTail ∷ TokenPart EndToken ∷ []) (word keyword.Process) c.args.input.now c.in_ok-rest.rest.now (λ s l. omega (arith, l)) (λ s. refl) (c.in_ok-rest.ensures.first.1 c.args.text.now)) (token c.args.text.now 0 NameToken (TokenPart OpenToken ∷ GroupsPart ∷ TokenPart CloseToken ∷ TokenPart SemicolonToken ∷ TokenPart BeginToken ∷ VariablesPart ∷ StatementPart ∷ TailPart StatementsTail ∷ TokenPart EndToken ∷ []) (name (name_of c.in_ok-name.name)) c.in_ok-rest.rest.now c.in_ok-name.rest.now (λ s l. omega (arith, l)) refl c.in_ok-name.ensures.words)) (expected c.args.text.now 0 OpenToken (GroupsPart ∷ TokenPart CloseToken ∷ TokenPart SemicolonToken ∷ TokenPart BeginToken ∷ VariablesPart ∷ StatementPart ∷ TailPart StatementsTail ∷ TokenPart EndToken ∷ []) (class.Sign mark.Open) c.in_ok-name.rest.now c.in_ok-rest-2.rest.now (λ s l. omega (arith, l)) refl c.in_ok-rest-2.ensures.first)) (call c.args.text.now 0 0 (GroupsPart) (TokenPart CloseToken ∷ TokenPart SemicolonToken ∷ TokenPart BeginToken ∷ VariablesPart ∷ StatementPart ∷ TailPart StatementsTail ∷ TokenPart EndToken ∷ []) c.in_ok-rest-2.rest.now c.in_ok-parameters.rest.now (λ s l. omega (arith, l)) c.in_ok-parameters.ensures.reads)) (expected c.args.text.now 0 CloseToken (TokenPart SemicolonToken ∷ TokenPart BeginToken ∷ VariablesPart ∷ StatementPart ∷ TailPart StatementsTail ∷ TokenPart EndToken ∷ []) (class.Sign mark.Close) c.in_ok-parameters.rest.now c.in_ok-rest-3.rest.now (λ s l. omega (arith, l)) refl c.in_ok-rest-3.ensures.first)) (expected c.args.text.now 0 SemicolonToken (TokenPart BeginToken ∷ VariablesPart ∷ StatementPart ∷ TailPart StatementsTail ∷ TokenPart EndToken ∷ []) (class.Sign mark.Semicolon) c.in_ok-rest-3.rest.now c.in_ok-rest-4.rest.now (λ s l. omega (arith, l)) refl c.in_ok-rest-4.ensures.first)) (expected c.args.text.now 0 BeginToken (VariablesPart ∷ StatementPart ∷ TailPart StatementsTail ∷ TokenPart EndToken ∷ []) (class.Word keyword.Begin) c.in_ok-rest-4.rest.now c.in_ok-rest-5.rest.now (λ s l. omega (arith, l)) refl c.in_ok-rest-5.ensures.first)) (call c.args.text.now 0 0 (VariablesPart) (StatementPart ∷ TailPart StatementsTail ∷ TokenPart EndToken ∷ []) c.in_ok-rest-5.rest.now c.in_ok-variables.rest.now (λ s l. omega (arith, l)) c.in_ok-variables.ensures.reads)) (call_two_stops c.args.text.now 0 0 (StatementPart) (TailPart StatementsTail) (TokenPart EndToken ∷ []) c.in_ok-variables.rest.now _ (λ s l. omega (arith, l)) c.in_err-statements.ensures))
 
 pub returns-in_err-rest-6-clause-stops : goal.returns-in_err-rest-6-clause-stops
 returns-in_err-rest-6-clause-stops c =
