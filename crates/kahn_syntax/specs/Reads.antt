@@ -105,3 +105,11 @@ pub record StatementsRead (text : List ℕ) (depth : ℕ) (ss : List Statement) 
   pub shorter : length rest ≤ length input
   pub proper : AreProper text rest
   pub reads : Reads text depth (StatementPart ∷ TailPart StatementsTail ∷ []) input rest
+
+-- Where no level is open, a part is read from the input to the rest: its words stand there, and its spans are over them.
+pub record PartRead (text : List ℕ) (parts : List Part) (W : List Terminal → List Terminal → Type 0) (S : List Lexeme → List Lexeme → Type 0) (input rest : List Lexeme) : Type 0 where
+  pub words : W (terminals text input) (terminals text rest)
+  pub spans : S input rest
+  pub shorter : length rest ≤ length input
+  pub proper : AreProper text rest
+  pub reads : Reads text 0 parts input rest
