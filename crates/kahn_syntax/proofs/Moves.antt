@@ -1,11 +1,14 @@
 -- How the parts that are open go on, over what the parser reads.
-use Rattle.std.proofs.Common.{◌≡◌, ◌≢◌, ℕ, ◌+◌, ◌≤◌, ◌<◌, List, [], ◌∷◌, ◌++◌, ◌⊎◌, ⊎_elim, length, Bool, true, false, Some, Result, Ok, Err, IfOk, IfErr, true≢false, refl, sym, ap, ◌∙◌, subst, arith}
+use Rattle.std.proofs.Common.{◌≡◌, ◌≢◌, ℕ, ◌+◌, ◌≤◌, ◌<◌, List, [], ◌∷◌, ◌++◌, ◌⊎◌, ⊎_elim, length, Bool, true, false, Some, Result, Ok, Err, true≢false, refl, sym, ap, ◌∙◌, subst, arith}
 use Rattle.kahn_tree.specs.declared.span.Span.{Span}
 use Rattle.kahn_syntax.specs.declared.lexeme.Keyword.TheVariants as keyword
 use Rattle.kahn_syntax.specs.declared.lexeme.Sign.TheVariants as mark
 use Rattle.kahn_syntax.specs.declared.lexeme.Class.{Class}
 use Rattle.kahn_syntax.specs.declared.lexeme.Class.TheVariants as class
 use Rattle.kahn_syntax.specs.declared.lexeme.Lexeme.{Lexeme}
+use Rattle.std.specs.Prelude.{MatchResult}
+use Rattle.kahn_tree.specs.declared.tree.Expression.{Expression}
+use Rattle.kahn_tree.specs.declared.tree.Statement.{Statement}
 use Rattle.kahn_syntax.specs.declared.parser.cursor.Stop.{Stop}
 use Rattle.kahn_syntax.specs.declared.parser.cursor.Stop.TheVariants.{Refused, TooDeep, NoMemory}
 use Rattle.kahn_syntax.specs.Terminals.{Terminal, word, sign, name, terminal, terminals, First}
@@ -18,7 +21,7 @@ use Rattle.kahn_syntax.specs.Trees.{operator_terminal, rank}
 use Rattle.kahn_syntax.specs.Rungs.{Rung, whole, ors, denials, relations, sums, factors, at, tighter, rung_of, Lacks}
 use Rattle.kahn_tree.specs.declared.tree.Kind.{Kind}
 use Rattle.kahn_syntax.specs.Programs.{kind_terminal}
-use Rattle.kahn_syntax.specs.Reads.{IsAbsent, Reads, Moves, Stops, Halts, rank_of}
+use Rattle.kahn_syntax.specs.Reads.{IsAbsent, Reads, Moves, Stops, Halts, rank_of, ExpressionRead, StatementRead, SimpleRead}
 use Rattle.kahn_syntax.proofs.WholePrograms.{take_kind}
 use Rattle.kahn_syntax.proofs.Steps.{go, skip_level, skip_tail, take_tail, take_token, no_token, IsChain, open_chain, open_whole, open_denial, skip_operators, take_operator}
 use Rattle.kahn_syntax.proofs.Reached.{go_far}
@@ -212,16 +215,35 @@ pub level_end : (text : List ℕ) (d : ℕ) (v : Level) (qs : List Part) (i : Li
     Moves text d (OperatorsPart (rung_of v) ∷ qs) qs i i
 level_end text d v qs i h = operators_end text d (rung_of v) qs i (subst (λ n. Lacks n (terminals text i)) (sym (level_at v)) h)
 
--- what a call answers, where it reads the same by another way
-pub reads_by : {X E : Type 0} (text : List ℕ) (d : ℕ) (p q : List Part) (i : List Lexeme) (r : Result X E) (rest : X → List Lexeme) → Moves text d p q i i →
-    IfOk r (λ x. Reads text d q i (rest x)) → IfOk r (λ x. Reads text d p i (rest x))
-reads_by text d p q i (Ok x) rest f h = λ s l. f s l ∙ h s l
-reads_by text d p q i (Err x) rest f h = h
+-- what a call answers for a tighter level, where no more than it stands here
+pub opened : (text : List ℕ) (d : ℕ) (g f : Rung) (i : List Lexeme) → at g ≤ at f → Moves text d (ExpressionPart g ∷ []) (ExpressionPart f ∷ []) i i →
+    {X : Type 0} (r : Result X Stop) (e : X → Expression) (rest : X → List Lexeme) →
+    MatchResult r (λ x. ExpressionRead text d f (e x) i (rest x)) (Stops text d (ExpressionPart f ∷ []) i) →
+    MatchResult r (λ x. ExpressionRead text d g (e x) i (rest x)) (Stops text d (ExpressionPart g ∷ []) i)
+opened text d g f i b m (Ok x) e rest h =
+    record {
+      spans = h.spans;
+      fits = (omega (arith, b, h.fits.0), h.fits.1);
+      nesting = h.nesting;
+      shorter = h.shorter;
+      proper = h.proper;
+      reads = then text d (ExpressionPart g ∷ []) (ExpressionPart f ∷ []) [] i i (rest x) m h.reads;
+    }
+opened text d g f i b m (Err x) e rest h = then_stops text d (ExpressionPart g ∷ []) (ExpressionPart f ∷ []) i i x m h
 
-pub stops_by : {A : Type 0} (text : List ℕ) (d : ℕ) (p q : List Part) (i : List Lexeme) (r : Result A Stop) → Moves text d p q i i →
-    IfErr r (λ x. Stops text d q i x) → IfErr r (λ x. Stops text d p i x)
-stops_by text d p q i (Ok x) f h = h
-stops_by text d p q i (Err x) f h = then_stops text d p q i i x f h
+pub opened_simple : (text : List ℕ) (d : ℕ) (i : List Lexeme) → Moves text d (StatementPart ∷ []) (SimplePart ∷ []) i i →
+    {X : Type 0} (r : Result X Stop) (s : X → Statement) (rest : X → List Lexeme) →
+    MatchResult r (λ x. SimpleRead text d (s x) i (rest x)) (Stops text d (SimplePart ∷ []) i) → MatchResult r (λ x. StatementRead text d (s x) i (rest x)) (Stops text d (StatementPart ∷ []) i)
+opened_simple text d i m (Ok x) s rest h =
+    record {
+      spans = h.spans;
+      formed = h.formed;
+      nesting = h.nesting;
+      shorter = h.shorter;
+      proper = h.proper;
+      reads = then text d (StatementPart ∷ []) (SimplePart ∷ []) [] i i (rest x) m h.reads;
+    }
+opened_simple text d i m (Err x) s rest h = then_stops text d (StatementPart ∷ []) (SimplePart ∷ []) i i x m h
 
 -- where a name stands first, memory alone is wanted
 pub only_memory : (text : List ℕ) (d : ℕ) (qs : List Part) (i j : List Lexeme) (x : Stop) → First class.Name i j →

@@ -1,14 +1,20 @@
 -- What each function of the parser reads, and where it stops.
-use Rattle.std.specs.Prelude.{◌≡◌, ℕ, List, [], ◌∷◌, ◌++◌, ◌≤◌, false, Some}
+use Rattle.std.specs.Prelude.{◌≡◌, ℕ, List, [], ◌∷◌, ◌++◌, ◌+◌, ◌≤◌, ◌<◌, false, length, Some}
+use Rattle.kahn_tree.specs.declared.tree.Expression.{Expression}
+use Rattle.kahn_tree.specs.declared.tree.Statement.{Statement}
 use Rattle.kahn_syntax.specs.declared.parser.cursor.Stop.{Stop}
 use Rattle.kahn_syntax.specs.declared.parser.cursor.Stop.TheVariants.{Refused, TooDeep, NoMemory}
 use Rattle.kahn_syntax.specs.declared.parser.operator.Level.{Level}
 use Rattle.kahn_syntax.specs.declared.parser.operator.Level.TheVariants.{Or, And, Sum, Term}
 use Rattle.kahn_syntax.specs.declared.lexeme.Class.{Class}
 use Rattle.kahn_syntax.specs.declared.lexeme.Lexeme.{Lexeme}
-use Rattle.kahn_syntax.specs.Terminals.{Terminal, terminals}
-use Rattle.kahn_syntax.specs.Machine.{Token, class_of, leads, Part, ProgramPart, levels, Refuses, TooFar, fate}
-use Rattle.kahn_syntax.specs.Trees.{ExpressionTree, OperandTrees, no_operand, operand, level, binds, Formed}
+use Rattle.kahn_syntax.specs.declared.lexeme.Keyword.{Keyword}
+use Rattle.kahn_syntax.specs.Terminals.{Terminal, word, terminals, AreProper}
+use Rattle.kahn_syntax.specs.Machine.{Token, class_of, token_of, leads, Part, ProgramPart, ExpressionPart, StatementPart, SimplePart, TailPart, StatementsTail, TokenPart, levels, Refuses, TooFar, fate}
+use Rattle.kahn_syntax.specs.Rungs.{Rung, whole, at}
+use Rattle.kahn_syntax.specs.Drawn.{expression_of, statement_of, statements_of}
+use Rattle.kahn_syntax.specs.Spans.{Takes, ExpressionSpans, StatementSpans, StatementsSpan}
+use Rattle.kahn_syntax.specs.Trees.{ExpressionTree, OperandTrees, no_operand, operand, level, binds, Formed, expression_nesting, statements_words, FormedStatement, FormedStatements, IsSimple, AreSome, statement_nesting, statements_nesting}
 
 -- an expression that may stand at this level
 abbrev pub Fits : ℕ → ExpressionTree → Type 0
@@ -40,12 +46,70 @@ Reads text depth parts input rest = Moves text depth parts [] input rest
 
 -- The parts aren't read, and here is why.
 abbrev pub Stops : List ℕ → ℕ → List Part → List Lexeme → Stop → Type 0
-Stops text depth parts input (Refused whole left) = (s : List Part) → levels s ≡ depth → fate 64 (parts ++ s) (terminals text input) ≡ Refuses whole left
+Stops text depth parts input (Refused ended left) = (s : List Part) → levels s ≡ depth → fate 64 (parts ++ s) (terminals text input) ≡ Refuses ended left
 Stops text depth parts input (TooDeep left) = (s : List Part) → levels s ≡ depth → fate 64 (parts ++ s) (terminals text input) ≡ TooFar left
 Stops text depth parts input NoMemory = Unit {0}
 
 -- The list isn't a program, and here is why.
 abbrev pub Halts : List Terminal → Stop → Type 0
-Halts ks (Refused whole left) = fate 64 (ProgramPart ∷ []) ks ≡ Refuses whole left
+Halts ks (Refused ended left) = fate 64 (ProgramPart ∷ []) ks ≡ Refuses ended left
 Halts ks (TooDeep left) = fate 64 (ProgramPart ∷ []) ks ≡ TooFar left
 Halts ks NoMemory = Unit {0}
+
+-- With so many levels open, an expression of this level of the grammar is read from the input to the rest.
+pub record ExpressionRead (text : List ℕ) (depth : ℕ) (g : Rung) (e : Expression) (input rest : List Lexeme) : Type 0 where
+  pub spans : ExpressionSpans text e input rest
+  pub fits : Fits (at g) (expression_of e)
+  pub nesting : depth + expression_nesting (expression_of e) ≤ 64
+  pub shorter : length rest < length input
+  pub proper : AreProper text rest
+  pub reads : Reads text depth (ExpressionPart g ∷ []) input rest
+
+-- the same for any expression and the keyword after it
+pub record ExpressionBefore (text : List ℕ) (depth : ℕ) (last : Keyword) (e : Expression) (input rest : List Lexeme) : Type 0 where
+  pub between : List Lexeme
+  pub spans : ExpressionSpans text e input between
+  pub takes : Takes text (word last) between rest
+  pub fits : Fits 0 (expression_of e)
+  pub nesting : depth + expression_nesting (expression_of e) ≤ 64
+  pub shorter : length rest < length input
+  pub proper : AreProper text rest
+  pub reads : Reads text depth (ExpressionPart whole ∷ TokenPart (token_of last) ∷ []) input rest
+
+-- a statement is read
+pub record StatementRead (text : List ℕ) (depth : ℕ) (s : Statement) (input rest : List Lexeme) : Type 0 where
+  pub spans : StatementSpans text s input rest
+  pub formed : FormedStatement (statement_of s)
+  pub nesting : depth + statement_nesting (statement_of s) ≤ 64
+  pub shorter : length rest ≤ length input
+  pub proper : AreProper text rest
+  pub reads : Reads text depth (StatementPart ∷ []) input rest
+
+-- one that `else` may follow
+pub record SimpleRead (text : List ℕ) (depth : ℕ) (s : Statement) (input rest : List Lexeme) : Type 0 where
+  pub spans : StatementSpans text s input rest
+  pub formed : FormedStatement (statement_of s)
+  pub simple : IsSimple (statement_of s)
+  pub nesting : depth + statement_nesting (statement_of s) ≤ 64
+  pub shorter : length rest ≤ length input
+  pub proper : AreProper text rest
+  pub reads : Reads text depth (SimplePart ∷ []) input rest
+
+-- one statement or more, with semicolons between
+pub record StatementsRead (text : List ℕ) (depth : ℕ) (ss : List Statement) (input rest : List Lexeme) : Type 0 where
+  pub words : terminals text input ≡ statements_words (statements_of ss) (terminals text rest)
+  pub spans : StatementsSpan text ss input rest
+  pub formed : FormedStatements (statements_of ss)
+  pub some : AreSome (statements_of ss)
+  pub nesting : depth + statements_nesting (statements_of ss) ≤ 64
+  pub shorter : length rest ≤ length input
+  pub proper : AreProper text rest
+  pub reads : Reads text depth (StatementPart ∷ TailPart StatementsTail ∷ []) input rest
+
+-- Where no level is open, a part is read from the input to the rest: its words stand there, and its spans are over them.
+pub record PartRead (text : List ℕ) (parts : List Part) (W : List Terminal → List Terminal → Type 0) (S : List Lexeme → List Lexeme → Type 0) (input rest : List Lexeme) : Type 0 where
+  pub words : W (terminals text input) (terminals text rest)
+  pub spans : S input rest
+  pub shorter : length rest ≤ length input
+  pub proper : AreProper text rest
+  pub reads : Reads text 0 parts input rest

@@ -123,72 +123,47 @@ pub fn chosen(
 }
 
 /// A conditional statement without `else`.
-pub fn if_then(
-    alloc: Global,
-    span: Span,
-    test: Expression,
-    yes: Statement,
-) -> Result<Statement, Stop>
-    ensures built { IfOk result (λ e. statement_of e ≡ tree.if_then (expression_of test) (statement_of yes)) }
-    ensures spans { IfOk result (λ e. (text : List ℕ) (xs a b c r : List Lexeme) → Covers span xs r → Takes text (word keyword.If) xs a → ExpressionSpans text test a b → Takes text (word keyword.Then) b c → StatementSpans text yes c r → StatementSpans text e xs r) }
-    ensures stop { IfErr result (λ e. e ≡ NoMemory) }
+pub fn if_then(span: Span, test: Expression, yes: Box<Statement>) -> Statement
+    ensures built { statement_of result ≡ tree.if_then (expression_of test) (statement_of yes.value) }
+    ensures spans { (text : List ℕ) (xs a b c r : List Lexeme) → Covers span xs r → Takes text (word keyword.If) xs a → ExpressionSpans text test a b → Takes text (word keyword.Then) b c → StatementSpans text yes.value c r → StatementSpans text result xs r }
 {
-    let yes = Box::new(alloc, yes)?;
-    Ok(Statement {
+    Statement {
         span: Some(span),
         action: Action::If(test, yes, None),
-    })
+    }
 }
 
 /// A conditional statement with `else`.
-pub fn if_else(
-    alloc: Global,
-    span: Span,
-    test: Expression,
-    yes: Statement,
-    no: Statement,
-) -> Result<Statement, Stop>
-    ensures built { IfOk result (λ e. statement_of e ≡ tree.if_else (expression_of test) (statement_of yes) (statement_of no)) }
-    ensures spans { IfOk result (λ e. (text : List ℕ) (xs a b c d g r : List Lexeme) → Covers span xs r → Takes text (word keyword.If) xs a → ExpressionSpans text test a b → Takes text (word keyword.Then) b c → StatementSpans text yes c d → Takes text (word keyword.Else) d g → StatementSpans text no g r → StatementSpans text e xs r) }
-    ensures stop { IfErr result (λ e. e ≡ NoMemory) }
+pub fn if_else(span: Span, test: Expression, yes: Box<Statement>, no: Box<Statement>) -> Statement
+    ensures built { statement_of result ≡ tree.if_else (expression_of test) (statement_of yes.value) (statement_of no.value) }
+    ensures spans { (text : List ℕ) (xs a b c d g r : List Lexeme) → Covers span xs r → Takes text (word keyword.If) xs a → ExpressionSpans text test a b → Takes text (word keyword.Then) b c → StatementSpans text yes.value c d → Takes text (word keyword.Else) d g → StatementSpans text no.value g r → StatementSpans text result xs r }
 {
-    let yes = Box::new(alloc, yes)?;
-    let no = Box::new(alloc, no)?;
-    Ok(Statement {
+    Statement {
         span: Some(span),
         action: Action::If(test, yes, Some(no)),
-    })
+    }
 }
 
 /// A loop with a test.
-pub fn while_do(
-    alloc: Global,
-    span: Span,
-    test: Expression,
-    turn: Statement,
-) -> Result<Statement, Stop>
-    ensures built { IfOk result (λ e. statement_of e ≡ tree.while_do (expression_of test) (statement_of turn)) }
-    ensures spans { IfOk result (λ e. (text : List ℕ) (xs a b c r : List Lexeme) → Covers span xs r → Takes text (word keyword.While) xs a → ExpressionSpans text test a b → Takes text (word keyword.Do) b c → StatementSpans text turn c r → StatementSpans text e xs r) }
-    ensures stop { IfErr result (λ e. e ≡ NoMemory) }
+pub fn while_do(span: Span, test: Expression, turn: Box<Statement>) -> Statement
+    ensures built { statement_of result ≡ tree.while_do (expression_of test) (statement_of turn.value) }
+    ensures spans { (text : List ℕ) (xs a b c r : List Lexeme) → Covers span xs r → Takes text (word keyword.While) xs a → ExpressionSpans text test a b → Takes text (word keyword.Do) b c → StatementSpans text turn.value c r → StatementSpans text result xs r }
 {
-    let turn = Box::new(alloc, turn)?;
-    Ok(Statement {
+    Statement {
         span: Some(span),
         action: Action::While(test, turn),
-    })
+    }
 }
 
 /// A loop without an end.
-pub fn repeated(alloc: Global, span: Span, turn: Statement) -> Result<Statement, Stop>
-    ensures built { IfOk result (λ e. statement_of e ≡ tree.repeat (statement_of turn)) }
-    ensures spans { IfOk result (λ e. (text : List ℕ) (xs a r : List Lexeme) → Covers span xs r → Takes text (word keyword.Repeat) xs a → StatementSpans text turn a r → StatementSpans text e xs r) }
-    ensures stop { IfErr result (λ e. e ≡ NoMemory) }
+pub fn repeated(span: Span, turn: Box<Statement>) -> Statement
+    ensures built { statement_of result ≡ tree.repeat (statement_of turn.value) }
+    ensures spans { (text : List ℕ) (xs a r : List Lexeme) → Covers span xs r → Takes text (word keyword.Repeat) xs a → StatementSpans text turn.value a r → StatementSpans text result xs r }
 {
-    let turn = Box::new(alloc, turn)?;
-    Ok(Statement {
+    Statement {
         span: Some(span),
         action: Action::Repeat(turn),
-    })
+    }
 }
 
 /// A block of statements.

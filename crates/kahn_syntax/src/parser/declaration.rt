@@ -1,6 +1,6 @@
 //! Declarations of channels and processes.
 
-ghost use Rattle.std.specs.Prelude.{◌≡◌, ◌≤◌, ◌<◌, ◌+◌, ◌++◌, ◌∷◌, ℕ, List, [], length, map, is_some, IfOk, IfErr, IfSome};
+ghost use Rattle.std.specs.Prelude.{◌≡◌, ◌≤◌, ◌<◌, ◌+◌, ◌++◌, ◌∷◌, ℕ, List, [], length, map, is_some, IfOk, IfErr, IfSome, MatchResult};
 ghost use Rattle.kahn_syntax.specs.declared.lexeme.Keyword.TheVariants as keyword;
 ghost use Rattle.kahn_syntax.specs.declared.lexeme.Sign.TheVariants as mark;
 ghost use Rattle.kahn_syntax.specs.declared.parser.cursor.Stop.TheVariants.{NoMemory};
@@ -9,7 +9,7 @@ ghost use Rattle.kahn_syntax.specs.Programs.{kind_terminal, role_words, taking_w
 ghost use Rattle.kahn_syntax.specs.Drawn.{name_of};
 ghost use Rattle.kahn_syntax.specs.Drawn.{parameter_of, variable_of, process_of, declaration_of};
 ghost use Rattle.kahn_syntax.specs.Machine.{DeclarationsPart, DeclarationPart, ProcessPart, RolePart, GroupsPart, GroupPart, TakingPart, VariablesPart, leads_kind, leads_declaration};
-ghost use Rattle.kahn_syntax.specs.Reads.{Reads, Stops};
+ghost use Rattle.kahn_syntax.specs.Reads.{Reads, Stops, PartRead};
 ghost use Rattle.kahn_syntax.specs.Spans.{IsPast, DeclarationsSpan, DeclarationSpans, RoleSpans, ProcessSpans, ParametersSpan, GroupSpans, DirectionSpans, VariablesSpan, group, together, kind_of, parameters_of, variables_of};
 
 use crate::lexeme::{Class, Keyword, Lexeme, Sign};
@@ -43,13 +43,7 @@ pub fn read_declarations<'t>(
     input: &'t [Lexeme],
 ) -> Read<'t, Vec<Declaration>>
     requires proper { AreProper text.now input.now }
-    ensures words { IfOk result (λ r. Declarations (map declaration_of r.0.items) (terminals text.now input.now) (terminals text.now r.1.now)) }
-    ensures spans { IfOk result (λ r. DeclarationsSpan text.now r.0.items input.now r.1.now) }
-    ensures nesting { IfOk result (λ r. declarations_nesting (map declaration_of r.0.items) ≤ 64) }
-    ensures shorter { IfOk result (λ r. length r.1.now ≤ length input.now) }
-    ensures proper { IfOk result (λ r. AreProper text.now r.1.now) }
-    ensures reads { IfOk result (λ r. Reads text.now 0 (DeclarationsPart ∷ []) input.now r.1.now) }
-    ensures stops { IfErr result (λ e. Stops text.now 0 (DeclarationsPart ∷ []) input.now e) }
+    ensures { MatchResult result (λ r. PartRead text.now (DeclarationsPart ∷ []) (λ ks l. Declarations (map declaration_of r.0.items) ks l × (declarations_nesting (map declaration_of r.0.items) ≤ 64)) (DeclarationsSpan text.now r.0.items) input.now r.1.now) (λ e. Stops text.now 0 (DeclarationsPart ∷ []) input.now e) }
 {
     let mut declarations = Vec::new(alloc);
     let mut rest = input;
@@ -78,13 +72,7 @@ fn begins_declaration(input: &[Lexeme]) -> bool
 // A declaration.
 fn read_declaration<'t>(alloc: Global, text: &str, input: &'t [Lexeme]) -> Read<'t, Declaration>
     requires proper { AreProper text.now input.now }
-    ensures words { IfOk result (λ r. Declares (declaration_of r.0) (terminals text.now input.now) (terminals text.now r.1.now)) }
-    ensures spans { IfOk result (λ r. DeclarationSpans text.now r.0 input.now r.1.now) }
-    ensures nesting { IfOk result (λ r. declaration_nesting (declaration_of r.0) ≤ 64) }
-    ensures shorter { IfOk result (λ r. length r.1.now < length input.now) }
-    ensures proper { IfOk result (λ r. AreProper text.now r.1.now) }
-    ensures reads { IfOk result (λ r. Reads text.now 0 (DeclarationPart ∷ []) input.now r.1.now) }
-    ensures stops { IfErr result (λ e. Stops text.now 0 (DeclarationPart ∷ []) input.now e) }
+    ensures { MatchResult result (λ r. PartRead text.now (DeclarationPart ∷ []) (λ ks l. Declares (declaration_of r.0) ks l × (declaration_nesting (declaration_of r.0) ≤ 64)) (DeclarationSpans text.now r.0) input.now r.1.now) (λ e. Stops text.now 0 (DeclarationPart ∷ []) input.now e) }
 {
     match next_kind(input) {
         Some((kind, rest)) => {
@@ -118,13 +106,7 @@ fn read_role(input: &[Lexeme]) -> (Role, &[Lexeme])
 // A process with its body.
 fn read_process<'t>(alloc: Global, text: &str, input: &'t [Lexeme]) -> Read<'t, Process>
     requires proper { AreProper text.now input.now }
-    ensures words { IfOk result (λ r. Declares (process_of r.0) (terminals text.now input.now) (terminals text.now r.1.now)) }
-    ensures spans { IfOk result (λ r. ProcessSpans text.now r.0 input.now r.1.now) }
-    ensures nesting { IfOk result (λ r. declaration_nesting (process_of r.0) ≤ 64) }
-    ensures shorter { IfOk result (λ r. length r.1.now < length input.now) }
-    ensures proper { IfOk result (λ r. AreProper text.now r.1.now) }
-    ensures reads { IfOk result (λ r. Reads text.now 0 (ProcessPart ∷ []) input.now r.1.now) }
-    ensures stops { IfErr result (λ e. Stops text.now 0 (ProcessPart ∷ []) input.now e) }
+    ensures { MatchResult result (λ r. PartRead text.now (ProcessPart ∷ []) (λ ks l. Declares (process_of r.0) ks l × (declaration_nesting (process_of r.0) ≤ 64)) (ProcessSpans text.now r.0) input.now r.1.now) (λ e. Stops text.now 0 (ProcessPart ∷ []) input.now e) }
 {
     let rest = expect(input, Class::Word(Keyword::Process))?;
     let (name, rest) = read_name(alloc, text, rest)?;
@@ -148,12 +130,7 @@ fn read_process<'t>(alloc: Global, text: &str, input: &'t [Lexeme]) -> Read<'t, 
 // The groups of parameters, with semicolons between: none or more.
 fn read_parameters<'t>(alloc: Global, text: &str, input: &'t [Lexeme]) -> Read<'t, Vec<Parameter>>
     requires proper { AreProper text.now input.now }
-    ensures words { IfOk result (λ r. Parameters (map parameter_of r.0.items) (terminals text.now input.now) (terminals text.now r.1.now)) }
-    ensures spans { IfOk result (λ r. ParametersSpan text.now r.0.items input.now r.1.now) }
-    ensures shorter { IfOk result (λ r. length r.1.now ≤ length input.now) }
-    ensures proper { IfOk result (λ r. AreProper text.now r.1.now) }
-    ensures reads { IfOk result (λ r. Reads text.now 0 (GroupsPart ∷ []) input.now r.1.now) }
-    ensures stops { IfErr result (λ e. Stops text.now 0 (GroupsPart ∷ []) input.now e) }
+    ensures { MatchResult result (λ r. PartRead text.now (GroupsPart ∷ []) (Parameters (map parameter_of r.0.items)) (ParametersSpan text.now r.0.items) input.now r.1.now) (λ e. Stops text.now 0 (GroupsPart ∷ []) input.now e) }
 {
     let mut parameters = Vec::new(alloc);
     if next_kind(input).is_none() {
@@ -179,13 +156,7 @@ struct Group {
 // A group of parameters.
 fn read_group<'t>(alloc: Global, text: &str, input: &'t [Lexeme]) -> Read<'t, Group>
     requires proper { AreProper text.now input.now }
-    ensures words { IfOk result (λ r. terminals text.now input.now ≡ taking_words r.0.taking (names_words (map name_of r.0.names.items) (terminals text.now r.1.now))) }
-    ensures spans { IfOk result (λ r. GroupSpans text.now (group r.0.taking r.0.names.items) input.now r.1.now) }
-    ensures some { IfOk result (λ r. AreNames (map name_of r.0.names.items)) }
-    ensures shorter { IfOk result (λ r. length r.1.now < length input.now) }
-    ensures proper { IfOk result (λ r. AreProper text.now r.1.now) }
-    ensures reads { IfOk result (λ r. Reads text.now 0 (GroupPart ∷ []) input.now r.1.now) }
-    ensures stops { IfErr result (λ e. Stops text.now 0 (GroupPart ∷ []) input.now e) }
+    ensures { MatchResult result (λ r. PartRead text.now (GroupPart ∷ []) (λ ks l. AreNames (map name_of r.0.names.items) × (ks ≡ taking_words r.0.taking (names_words (map name_of r.0.names.items) l))) (GroupSpans text.now (group r.0.taking r.0.names.items)) input.now r.1.now) (λ e. Stops text.now 0 (GroupPart ∷ []) input.now e) }
 {
     let Some((kind, rest)) = next_kind(input) else {
         return Err(Stop::Refused(false, input.len()));
@@ -230,12 +201,7 @@ fn add_parameters(
 // The variables of a body: none or more.
 fn read_variables<'t>(alloc: Global, text: &str, input: &'t [Lexeme]) -> Read<'t, Vec<Variable>>
     requires proper { AreProper text.now input.now }
-    ensures words { IfOk result (λ r. Variables (map variable_of r.0.items) (terminals text.now input.now) (terminals text.now r.1.now)) }
-    ensures spans { IfOk result (λ r. VariablesSpan text.now r.0.items input.now r.1.now) }
-    ensures shorter { IfOk result (λ r. length r.1.now ≤ length input.now) }
-    ensures proper { IfOk result (λ r. AreProper text.now r.1.now) }
-    ensures reads { IfOk result (λ r. Reads text.now 0 (VariablesPart ∷ []) input.now r.1.now) }
-    ensures stops { IfErr result (λ e. Stops text.now 0 (VariablesPart ∷ []) input.now e) }
+    ensures { MatchResult result (λ r. PartRead text.now (VariablesPart ∷ []) (Variables (map variable_of r.0.items)) (VariablesSpan text.now r.0.items) input.now r.1.now) (λ e. Stops text.now 0 (VariablesPart ∷ []) input.now e) }
 {
     let mut variables = Vec::new(alloc);
     let mut rest = input;

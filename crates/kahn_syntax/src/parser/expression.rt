@@ -1,14 +1,11 @@
 //! Expressions.
 
-ghost use Rattle.std.specs.Prelude.{◌≡◌, ℕ, ◌≤◌, ◌<◌, ◌+◌, List, [], ◌∷◌, length, Some, IfOk, IfErr};
+ghost use Rattle.std.specs.Prelude.{◌≡◌, ℕ, ◌≤◌, ◌+◌, [], ◌∷◌, length, Some, MatchResult};
 ghost use Rattle.kahn_syntax.specs.declared.lexeme.Keyword.TheVariants as keyword;
 ghost use Rattle.kahn_syntax.specs.declared.lexeme.Class.TheVariants as class;
-ghost use Rattle.kahn_syntax.specs.Terminals.{terminals, word, First, AreProper};
-ghost use Rattle.kahn_syntax.specs.Trees.{expression_words, expression_nesting};
-ghost use Rattle.kahn_syntax.specs.Drawn.{expression_of};
-ghost use Rattle.kahn_syntax.specs.Spans.{IsPast, Takes, ExpressionSpans};
-ghost use Rattle.kahn_syntax.specs.declared.lexeme.Lexeme.{Lexeme};
-ghost use Rattle.kahn_syntax.specs.Reads.{Fits, rank_of, Reads, Stops};
+ghost use Rattle.kahn_syntax.specs.Terminals.{First, AreProper};
+ghost use Rattle.kahn_syntax.specs.Spans.{IsPast};
+ghost use Rattle.kahn_syntax.specs.Reads.{ExpressionRead, ExpressionBefore, Stops};
 ghost use Rattle.kahn_syntax.specs.Rungs.{whole, denials, relations, factors, tighter, rung_of};
 ghost use Rattle.kahn_syntax.specs.Machine.{ExpressionPart, TokenPart, class_of, token_of};
 
@@ -30,13 +27,7 @@ pub fn read_expression<'t>(
 ) -> Read<'t, Expression>
     requires depth { depth ≤ 64 }
     requires proper { AreProper text.now input.now }
-    ensures spans { IfOk result (λ r. ExpressionSpans text.now r.0 input.now r.1.now) }
-    ensures fits { IfOk result (λ r. Fits 0 (expression_of r.0)) }
-    ensures nesting { IfOk result (λ r. depth + expression_nesting (expression_of r.0) ≤ 64) }
-    ensures shorter { IfOk result (λ r. length r.1.now < length input.now) }
-    ensures proper { IfOk result (λ r. AreProper text.now r.1.now) }
-    ensures reads { IfOk result (λ r. Reads text.now depth (ExpressionPart whole ∷ []) input.now r.1.now) }
-    ensures stops { IfErr result (λ e. Stops text.now depth (ExpressionPart whole ∷ []) input.now e) }
+    ensures { MatchResult result (λ r. ExpressionRead text.now depth whole r.0 input.now r.1.now) (λ e. Stops text.now depth (ExpressionPart whole ∷ []) input.now e) }
 {
     let Some(rest) = past(input, Class::Word(Keyword::If)) else {
         return read_level(alloc, text, input, Level::Or, depth);
@@ -61,13 +52,7 @@ pub fn read_before<'t>(
     requires depth { depth ≤ 64 }
     requires proper { AreProper text.now input.now }
     requires last { class_of (token_of last) ≡ Some (class.Word last) }
-    ensures spans { IfOk result (λ r. (a : List Lexeme) × ExpressionSpans text.now r.0 input.now a × Takes text.now (word last) a r.1.now) }
-    ensures fits { IfOk result (λ r. Fits 0 (expression_of r.0)) }
-    ensures nesting { IfOk result (λ r. depth + expression_nesting (expression_of r.0) ≤ 64) }
-    ensures shorter { IfOk result (λ r. length r.1.now < length input.now) }
-    ensures proper { IfOk result (λ r. AreProper text.now r.1.now) }
-    ensures reads { IfOk result (λ r. Reads text.now depth (ExpressionPart whole ∷ TokenPart (token_of last) ∷ []) input.now r.1.now) }
-    ensures stops { IfErr result (λ e. Stops text.now depth (ExpressionPart whole ∷ TokenPart (token_of last) ∷ []) input.now e) }
+    ensures { MatchResult result (λ r. ExpressionBefore text.now depth last r.0 input.now r.1.now) (λ e. Stops text.now depth (ExpressionPart whole ∷ TokenPart (token_of last) ∷ []) input.now e) }
 {
     let (expression, rest) = read_expression(alloc, text, input, depth)?;
     let rest = expect(rest, Class::Word(last))?;
@@ -85,13 +70,7 @@ fn read_level<'t>(
 ) -> Read<'t, Expression>
     requires depth { depth ≤ 64 }
     requires proper { AreProper text.now input.now }
-    ensures spans { IfOk result (λ r. ExpressionSpans text.now r.0 input.now r.1.now) }
-    ensures fits { IfOk result (λ r. Fits (rank_of level) (expression_of r.0)) }
-    ensures nesting { IfOk result (λ r. depth + expression_nesting (expression_of r.0) ≤ 64) }
-    ensures shorter { IfOk result (λ r. length r.1.now < length input.now) }
-    ensures proper { IfOk result (λ r. AreProper text.now r.1.now) }
-    ensures reads { IfOk result (λ r. Reads text.now depth (ExpressionPart (rung_of level) ∷ []) input.now r.1.now) }
-    ensures stops { IfErr result (λ e. Stops text.now depth (ExpressionPart (rung_of level) ∷ []) input.now e) }
+    ensures { MatchResult result (λ r. ExpressionRead text.now depth (rung_of level) r.0 input.now r.1.now) (λ e. Stops text.now depth (ExpressionPart (rung_of level) ∷ []) input.now e) }
 {
     let (first, mut rest) = read_operand(alloc, text, input, level, depth)?;
     let mut further = Vec::new(alloc);
@@ -118,13 +97,7 @@ fn read_operand<'t>(
 ) -> Read<'t, Expression>
     requires depth { depth ≤ 64 }
     requires proper { AreProper text.now input.now }
-    ensures spans { IfOk result (λ r. ExpressionSpans text.now r.0 input.now r.1.now) }
-    ensures fits { IfOk result (λ r. Fits (rank_of level + 1) (expression_of r.0)) }
-    ensures nesting { IfOk result (λ r. depth + expression_nesting (expression_of r.0) ≤ 64) }
-    ensures shorter { IfOk result (λ r. length r.1.now < length input.now) }
-    ensures proper { IfOk result (λ r. AreProper text.now r.1.now) }
-    ensures reads { IfOk result (λ r. Reads text.now depth (ExpressionPart (tighter (rung_of level)) ∷ []) input.now r.1.now) }
-    ensures stops { IfErr result (λ e. Stops text.now depth (ExpressionPart (tighter (rung_of level)) ∷ []) input.now e) }
+    ensures { MatchResult result (λ r. ExpressionRead text.now depth (tighter (rung_of level)) r.0 input.now r.1.now) (λ e. Stops text.now depth (ExpressionPart (tighter (rung_of level)) ∷ []) input.now e) }
 {
     match level {
         Level::Or => read_level(alloc, text, input, Level::And, depth),
@@ -144,13 +117,7 @@ fn read_denial<'t>(
 ) -> Read<'t, Expression>
     requires depth { depth ≤ 64 }
     requires proper { AreProper text.now input.now }
-    ensures spans { IfOk result (λ r. ExpressionSpans text.now r.0 input.now r.1.now) }
-    ensures fits { IfOk result (λ r. Fits 3 (expression_of r.0)) }
-    ensures nesting { IfOk result (λ r. depth + expression_nesting (expression_of r.0) ≤ 64) }
-    ensures shorter { IfOk result (λ r. length r.1.now < length input.now) }
-    ensures proper { IfOk result (λ r. AreProper text.now r.1.now) }
-    ensures reads { IfOk result (λ r. Reads text.now depth (ExpressionPart denials ∷ []) input.now r.1.now) }
-    ensures stops { IfErr result (λ e. Stops text.now depth (ExpressionPart denials ∷ []) input.now e) }
+    ensures { MatchResult result (λ r. ExpressionRead text.now depth denials r.0 input.now r.1.now) (λ e. Stops text.now depth (ExpressionPart denials ∷ []) input.now e) }
 {
     let Some(rest) = next_not(input) else {
         return read_relation(alloc, text, input, depth);
@@ -171,13 +138,7 @@ fn read_relation<'t>(
 ) -> Read<'t, Expression>
     requires depth { depth ≤ 64 }
     requires proper { AreProper text.now input.now }
-    ensures spans { IfOk result (λ r. ExpressionSpans text.now r.0 input.now r.1.now) }
-    ensures fits { IfOk result (λ r. Fits 4 (expression_of r.0)) }
-    ensures nesting { IfOk result (λ r. depth + expression_nesting (expression_of r.0) ≤ 64) }
-    ensures shorter { IfOk result (λ r. length r.1.now < length input.now) }
-    ensures proper { IfOk result (λ r. AreProper text.now r.1.now) }
-    ensures reads { IfOk result (λ r. Reads text.now depth (ExpressionPart relations ∷ []) input.now r.1.now) }
-    ensures stops { IfErr result (λ e. Stops text.now depth (ExpressionPart relations ∷ []) input.now e) }
+    ensures { MatchResult result (λ r. ExpressionRead text.now depth relations r.0 input.now r.1.now) (λ e. Stops text.now depth (ExpressionPart relations ∷ []) input.now e) }
 {
     let (left, rest) = read_level(alloc, text, input, Level::Sum, depth)?;
     let Some((operator, after)) = next_comparison(rest) else {
@@ -198,13 +159,7 @@ fn read_factor<'t>(
 ) -> Read<'t, Expression>
     requires depth { depth ≤ 64 }
     requires proper { AreProper text.now input.now }
-    ensures spans { IfOk result (λ r. ExpressionSpans text.now r.0 input.now r.1.now) }
-    ensures fits { IfOk result (λ r. Fits 7 (expression_of r.0)) }
-    ensures nesting { IfOk result (λ r. depth + expression_nesting (expression_of r.0) ≤ 64) }
-    ensures shorter { IfOk result (λ r. length r.1.now < length input.now) }
-    ensures proper { IfOk result (λ r. AreProper text.now r.1.now) }
-    ensures reads { IfOk result (λ r. Reads text.now depth (ExpressionPart factors ∷ []) input.now r.1.now) }
-    ensures stops { IfErr result (λ e. Stops text.now depth (ExpressionPart factors ∷ []) input.now e) }
+    ensures { MatchResult result (λ r. ExpressionRead text.now depth factors r.0 input.now r.1.now) (λ e. Stops text.now depth (ExpressionPart factors ∷ []) input.now e) }
 {
     match next(input) {
         Some((Class::Number(number), rest)) => Ok((
@@ -267,13 +222,7 @@ fn read_wait<'t>(
     requires proper { AreProper text.now rest.now }
     requires follows { length input.now ≡ length rest.now + 1 }
     requires passed { IsPast input.now rest.now }
-    ensures spans { IfOk result (λ r. ExpressionSpans text.now r.0 input.now r.1.now) }
-    ensures fits { IfOk result (λ r. Fits 7 (expression_of r.0)) }
-    ensures nesting { IfOk result (λ r. expression_nesting (expression_of r.0) ≡ 0) }
-    ensures shorter { IfOk result (λ r. length r.1.now < length input.now) }
-    ensures proper { IfOk result (λ r. AreProper text.now r.1.now) }
-    ensures reads { IfOk result (λ r. (depth : ℕ) → depth ≤ 64 → Reads text.now depth (ExpressionPart factors ∷ []) input.now r.1.now) }
-    ensures stops { IfErr result (λ e. (depth : ℕ) → depth ≤ 64 → Stops text.now depth (ExpressionPart factors ∷ []) input.now e) }
+    ensures { (depth : ℕ) → depth ≤ 64 → MatchResult result (λ r. ExpressionRead text.now depth factors r.0 input.now r.1.now) (λ e. Stops text.now depth (ExpressionPart factors ∷ []) input.now e) }
 {
     let rest = expect(rest, Class::Sign(Sign::Open))?;
     let (name, rest) = read_name(alloc, text, rest)?;

@@ -1,11 +1,11 @@
 //! Names, one and in lists.
 
-ghost use Rattle.std.specs.Prelude.{◌≡◌, ◌+◌, ◌<◌, [], ◌∷◌, ◌⊎◌, false, length, map, IfOk, IfErr};
+ghost use Rattle.std.specs.Prelude.{◌≡◌, ◌+◌, ◌<◌, [], ◌∷◌, ◌⊎◌, false, length, map, IfOk, IfErr, MatchResult};
 ghost use Rattle.kahn_syntax.specs.declared.parser.cursor.Stop.TheVariants.{Refused, NoMemory};
 ghost use Rattle.kahn_syntax.specs.Terminals.{name, terminals, AreProper};
 ghost use Rattle.kahn_syntax.specs.Machine.{NameToken, leads, names_then};
 ghost use Rattle.kahn_syntax.specs.Drawn.{name_of};
-ghost use Rattle.kahn_syntax.specs.Reads.{Reads, Stops};
+ghost use Rattle.kahn_syntax.specs.Reads.{PartRead, Stops};
 ghost use Rattle.kahn_syntax.specs.Spans.{NameSpans, NamesSpan};
 ghost use Rattle.kahn_syntax.specs.Programs.{names_words, AreNames};
 
@@ -47,13 +47,7 @@ pub fn read_name<'t>(alloc: Global, text: &str, input: &'t [Lexeme]) -> Read<'t,
 /// One name or more, with commas between.
 pub fn read_names<'t>(alloc: Global, text: &str, input: &'t [Lexeme]) -> Read<'t, Vec<Name>>
     requires proper { AreProper text.now input.now }
-    ensures words { IfOk result (λ r. terminals text.now input.now ≡ names_words (map name_of r.0.items) (terminals text.now r.1.now)) }
-    ensures spans { IfOk result (λ r. NamesSpan text.now r.0.items input.now r.1.now) }
-    ensures some { IfOk result (λ r. AreNames (map name_of r.0.items)) }
-    ensures shorter { IfOk result (λ r. length r.1.now < length input.now) }
-    ensures proper { IfOk result (λ r. AreProper text.now r.1.now) }
-    ensures reads { IfOk result (λ r. Reads text.now 0 (names_then []) input.now r.1.now) }
-    ensures stops { IfErr result (λ e. Stops text.now 0 (names_then []) input.now e) }
+    ensures { MatchResult result (λ r. PartRead text.now (names_then []) (λ ks l. AreNames (map name_of r.0.items) × (ks ≡ names_words (map name_of r.0.items) l)) (NamesSpan text.now r.0.items) input.now r.1.now) (λ e. Stops text.now 0 (names_then []) input.now e) }
 {
     let (first, mut rest) = read_name(alloc, text, input)?;
     let mut names = Vec::new(alloc);

@@ -1,6 +1,6 @@
 //! Instances and whole programs.
 
-ghost use Rattle.std.specs.Prelude.{◌≡◌, ◌≤◌, ◌<◌, ◌+◌, [], ◌∷◌, ℕ, ℤ, neg_ℤ, List, false, length, map, IfOk, IfErr, IfSome, IfNone};
+ghost use Rattle.std.specs.Prelude.{◌≡◌, ◌≤◌, ◌<◌, ◌+◌, [], ◌∷◌, ℕ, ℤ, neg_ℤ, List, false, length, map, IfOk, IfErr, IfSome, IfNone, MatchResult};
 ghost use Rattle.kahn_syntax.specs.declared.lexeme.Keyword.TheVariants as keyword;
 ghost use Rattle.kahn_syntax.specs.declared.lexeme.Sign.TheVariants as mark;
 ghost use Rattle.kahn_syntax.specs.Terminals.{Terminal, terminals, AreProper, sign, number};
@@ -11,7 +11,7 @@ ghost use Rattle.kahn_syntax.specs.Programs.{ProgramTree, Spells, nesting, Insta
 ghost use Rattle.kahn_syntax.specs.Drawn.{argument_of, instance_of, program_of};
 ghost use Rattle.kahn_syntax.specs.declared.lexeme.Lexeme.{Lexeme};
 ghost use Rattle.kahn_syntax.specs.Spans.{IsPast, Takes, MayPart, ArgumentSpans, ArgumentsSpan, InstanceSpans, InstancesSpan, ProgramSpans};
-ghost use Rattle.kahn_syntax.specs.Reads.{Reads, Stops, Halts};
+ghost use Rattle.kahn_syntax.specs.Reads.{Reads, Stops, Halts, PartRead};
 
 use crate::fault::{SyntaxFault, What};
 use crate::lexeme::{Class, Keyword, Lexeme, Sign};
@@ -109,12 +109,7 @@ fn past_semicolon(input: &[Lexeme]) -> &[Lexeme]
 // One instance or more, with `par` between.
 fn read_instances<'t>(alloc: Global, text: &str, input: &'t [Lexeme]) -> Read<'t, Vec<Instance>>
     requires proper { AreProper text.now input.now }
-    ensures words { IfOk result (λ r. Instances (map instance_of r.0.items) (terminals text.now input.now) (terminals text.now r.1.now)) }
-    ensures spans { IfOk result (λ r. InstancesSpan text.now r.0.items input.now r.1.now) }
-    ensures shorter { IfOk result (λ r. length r.1.now < length input.now) }
-    ensures proper { IfOk result (λ r. AreProper text.now r.1.now) }
-    ensures reads { IfOk result (λ r. Reads text.now 0 (InstancePart ∷ TailPart InstancesTail ∷ []) input.now r.1.now) }
-    ensures stops { IfErr result (λ e. Stops text.now 0 (InstancePart ∷ TailPart InstancesTail ∷ []) input.now e) }
+    ensures { MatchResult result (λ r. PartRead text.now (InstancePart ∷ TailPart InstancesTail ∷ []) (Instances (map instance_of r.0.items)) (InstancesSpan text.now r.0.items) input.now r.1.now) (λ e. Stops text.now 0 (InstancePart ∷ TailPart InstancesTail ∷ []) input.now e) }
 {
     let (first, mut rest) = read_instance(alloc, text, input)?;
     let mut instances = Vec::new(alloc);
@@ -130,12 +125,7 @@ fn read_instances<'t>(alloc: Global, text: &str, input: &'t [Lexeme]) -> Read<'t
 // An instance.
 fn read_instance<'t>(alloc: Global, text: &str, input: &'t [Lexeme]) -> Read<'t, Instance>
     requires proper { AreProper text.now input.now }
-    ensures words { IfOk result (λ r. Instantiates (instance_of r.0) (terminals text.now input.now) (terminals text.now r.1.now)) }
-    ensures spans { IfOk result (λ r. InstanceSpans text.now r.0 input.now r.1.now) }
-    ensures shorter { IfOk result (λ r. length r.1.now < length input.now) }
-    ensures proper { IfOk result (λ r. AreProper text.now r.1.now) }
-    ensures reads { IfOk result (λ r. Reads text.now 0 (InstancePart ∷ []) input.now r.1.now) }
-    ensures stops { IfErr result (λ e. Stops text.now 0 (InstancePart ∷ []) input.now e) }
+    ensures { MatchResult result (λ r. PartRead text.now (InstancePart ∷ []) (Instantiates (instance_of r.0)) (InstanceSpans text.now r.0) input.now r.1.now) (λ e. Stops text.now 0 (InstancePart ∷ []) input.now e) }
 {
     let (process, rest) = read_name(alloc, text, input)?;
     let rest = expect(rest, Class::Sign(Sign::Open))?;
@@ -146,12 +136,7 @@ fn read_instance<'t>(alloc: Global, text: &str, input: &'t [Lexeme]) -> Read<'t,
 // The arguments of an instance, with commas between, and the bracket after them: none or more.
 fn read_arguments<'t>(alloc: Global, text: &str, input: &'t [Lexeme]) -> Read<'t, Vec<Argument>>
     requires proper { AreProper text.now input.now }
-    ensures words { IfOk result (λ r. Arguments (map argument_of r.0.items) (terminals text.now input.now) (sign mark.Close ∷ terminals text.now r.1.now)) }
-    ensures spans { IfOk result (λ r. (a : List Lexeme) × ArgumentsSpan text.now r.0.items input.now a × Takes text.now (sign mark.Close) a r.1.now) }
-    ensures shorter { IfOk result (λ r. length r.1.now < length input.now) }
-    ensures proper { IfOk result (λ r. AreProper text.now r.1.now) }
-    ensures reads { IfOk result (λ r. Reads text.now 0 (ArgumentsPart ∷ []) input.now r.1.now) }
-    ensures stops { IfErr result (λ e. Stops text.now 0 (ArgumentsPart ∷ []) input.now e) }
+    ensures { MatchResult result (λ r. PartRead text.now (ArgumentsPart ∷ []) (λ ks l. Arguments (map argument_of r.0.items) ks (sign mark.Close ∷ l)) (λ xs l. (a : List Lexeme) × ArgumentsSpan text.now r.0.items xs a × Takes text.now (sign mark.Close) a l) input.now r.1.now) (λ e. Stops text.now 0 (ArgumentsPart ∷ []) input.now e) }
 {
     let mut arguments = Vec::new(alloc);
     if let Some(rest) = past(input, Class::Sign(Sign::Close)) {
@@ -171,12 +156,7 @@ fn read_arguments<'t>(alloc: Global, text: &str, input: &'t [Lexeme]) -> Read<'t
 // An argument.
 fn read_argument<'t>(alloc: Global, text: &str, input: &'t [Lexeme]) -> Read<'t, Argument>
     requires proper { AreProper text.now input.now }
-    ensures words { IfOk result (λ r. Argues (argument_of r.0) (terminals text.now input.now) (terminals text.now r.1.now)) }
-    ensures spans { IfOk result (λ r. ArgumentSpans text.now r.0 input.now r.1.now) }
-    ensures shorter { IfOk result (λ r. length r.1.now < length input.now) }
-    ensures proper { IfOk result (λ r. AreProper text.now r.1.now) }
-    ensures reads { IfOk result (λ r. Reads text.now 0 (ArgumentPart ∷ []) input.now r.1.now) }
-    ensures stops { IfErr result (λ e. Stops text.now 0 (ArgumentPart ∷ []) input.now e) }
+    ensures { MatchResult result (λ r. PartRead text.now (ArgumentPart ∷ []) (Argues (argument_of r.0)) (ArgumentSpans text.now r.0) input.now r.1.now) (λ e. Stops text.now 0 (ArgumentPart ∷ []) input.now e) }
 {
     match next(input) {
         Some((Class::Number(number), rest)) => Ok((

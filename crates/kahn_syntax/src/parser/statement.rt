@@ -1,13 +1,11 @@
 //! Statements.
 
-ghost use Rattle.std.specs.Prelude.{◌≡◌, ◌≤◌, ◌<◌, ◌+◌, [], ◌∷◌, true, length, IfOk, IfErr};
+ghost use Rattle.std.specs.Prelude.{◌≡◌, ◌≤◌, ◌+◌, [], ◌∷◌, true, length, MatchResult};
 ghost use Rattle.kahn_syntax.specs.declared.lexeme.Keyword.TheVariants as keyword;
 ghost use Rattle.kahn_syntax.specs.declared.lexeme.Class.TheVariants as class;
 ghost use Rattle.kahn_syntax.specs.Terminals.{terminals, First, AreProper};
-ghost use Rattle.kahn_syntax.specs.Trees.{statement_words, statements_words, statement_nesting, statements_nesting, FormedStatement, FormedStatements, IsSimple, AreSome};
-ghost use Rattle.kahn_syntax.specs.Drawn.{statement_of, statements_of};
-ghost use Rattle.kahn_syntax.specs.Spans.{IsPast, StatementSpans, StatementsSpan};
-ghost use Rattle.kahn_syntax.specs.Reads.{Reads, Stops};
+ghost use Rattle.kahn_syntax.specs.Spans.{IsPast};
+ghost use Rattle.kahn_syntax.specs.Reads.{StatementRead, SimpleRead, StatementsRead, Stops};
 ghost use Rattle.kahn_syntax.specs.Machine.{NameToken, leads, StatementsTail, StatementPart, SimplePart, TailPart};
 
 use crate::lexeme::{Class, Keyword, Lexeme, Sign};
@@ -28,15 +26,7 @@ pub fn read_statements<'t>(
 ) -> Read<'t, Vec<Statement>>
     requires depth { depth ≤ 64 }
     requires proper { AreProper text.now input.now }
-    ensures words { IfOk result (λ r. terminals text.now input.now ≡ statements_words (statements_of r.0.items) (terminals text.now r.1.now)) }
-    ensures spans { IfOk result (λ r. StatementsSpan text.now r.0.items input.now r.1.now) }
-    ensures formed { IfOk result (λ r. FormedStatements (statements_of r.0.items)) }
-    ensures some { IfOk result (λ r. AreSome (statements_of r.0.items)) }
-    ensures nesting { IfOk result (λ r. depth + statements_nesting (statements_of r.0.items) ≤ 64) }
-    ensures shorter { IfOk result (λ r. length r.1.now ≤ length input.now) }
-    ensures proper { IfOk result (λ r. AreProper text.now r.1.now) }
-    ensures reads { IfOk result (λ r. Reads text.now depth (StatementPart ∷ TailPart StatementsTail ∷ []) input.now r.1.now) }
-    ensures stops { IfErr result (λ e. Stops text.now depth (StatementPart ∷ TailPart StatementsTail ∷ []) input.now e) }
+    ensures { MatchResult result (λ r. StatementsRead text.now depth r.0.items input.now r.1.now) (λ e. Stops text.now depth (StatementPart ∷ TailPart StatementsTail ∷ []) input.now e) }
 {
     let (first, mut rest) = read_statement(alloc, text, input, depth)?;
     let mut statements = Vec::new(alloc);
@@ -59,28 +49,20 @@ fn read_statement<'t>(
 ) -> Read<'t, Statement>
     requires depth { depth ≤ 64 }
     requires proper { AreProper text.now input.now }
-    ensures spans { IfOk result (λ r. StatementSpans text.now r.0 input.now r.1.now) }
-    ensures formed { IfOk result (λ r. FormedStatement (statement_of r.0)) }
-    ensures nesting { IfOk result (λ r. depth + statement_nesting (statement_of r.0) ≤ 64) }
-    ensures shorter { IfOk result (λ r. length r.1.now ≤ length input.now) }
-    ensures proper { IfOk result (λ r. AreProper text.now r.1.now) }
-    ensures reads { IfOk result (λ r. Reads text.now depth (StatementPart ∷ []) input.now r.1.now) }
-    ensures stops { IfErr result (λ e. Stops text.now depth (StatementPart ∷ []) input.now e) }
+    ensures { MatchResult result (λ r. StatementRead text.now depth r.0 input.now r.1.now) (λ e. Stops text.now depth (StatementPart ∷ []) input.now e) }
 {
     match next(input) {
         Some((Class::Word(Keyword::If), rest)) => read_if(alloc, text, input, rest, depth),
         Some((Class::Word(Keyword::While), rest)) => {
             let inner = deeper(input, depth)?;
             let (test, rest) = read_before(alloc, text, rest, inner, Keyword::Do)?;
-            let (turn, rest) = read_statement(alloc, text, rest, inner)?;
-            let statement = while_do(alloc, reach(input, rest), test, turn)?;
-            Ok((statement, rest))
+            let (turn, rest) = read_inner(alloc, text, rest, inner)?;
+            Ok((while_do(reach(input, rest), test, turn), rest))
         }
         Some((Class::Word(Keyword::Repeat), rest)) => {
             let inner = deeper(input, depth)?;
-            let (turn, rest) = read_statement(alloc, text, rest, inner)?;
-            let statement = repeated(alloc, reach(input, rest), turn)?;
-            Ok((statement, rest))
+            let (turn, rest) = read_inner(alloc, text, rest, inner)?;
+            Ok((repeated(reach(input, rest), turn), rest))
         }
         _ => read_simple(alloc, text, input, depth),
     }
@@ -100,24 +82,34 @@ fn read_if<'t>(
     requires depth { depth ≤ 64 }
     requires proper { AreProper text.now rest.now }
     requires passed { IsPast input.now rest.now }
-    ensures spans { IfOk result (λ r. StatementSpans text.now r.0 input.now r.1.now) }
-    ensures formed { IfOk result (λ r. FormedStatement (statement_of r.0)) }
-    ensures nesting { IfOk result (λ r. depth + statement_nesting (statement_of r.0) ≤ 64) }
-    ensures shorter { IfOk result (λ r. length r.1.now < length input.now) }
-    ensures proper { IfOk result (λ r. AreProper text.now r.1.now) }
-    ensures reads { IfOk result (λ r. Reads text.now depth (StatementPart ∷ []) input.now r.1.now) }
-    ensures stops { IfErr result (λ e. Stops text.now depth (StatementPart ∷ []) input.now e) }
+    ensures { MatchResult result (λ r. StatementRead text.now depth r.0 input.now r.1.now) (λ e. Stops text.now depth (StatementPart ∷ []) input.now e) }
 {
     let inner = deeper(input, depth)?;
     let (test, rest) = read_before(alloc, text, rest, inner, Keyword::Then)?;
     let (yes, rest) = read_simple(alloc, text, rest, inner)?;
+    let branch = Box::new(alloc, yes)?;
     let Some(after) = past(rest, Class::Word(Keyword::Else)) else {
-        let statement = if_then(alloc, reach(input, rest), test, yes)?;
-        return Ok((statement, rest));
+        return Ok((if_then(reach(input, rest), test, branch), rest));
     };
-    let (no, rest) = read_statement(alloc, text, after, inner)?;
-    let statement = if_else(alloc, reach(input, rest), test, yes, no)?;
-    Ok((statement, rest))
+    let (no, rest) = read_inner(alloc, text, after, inner)?;
+    Ok((if_else(reach(input, rest), test, branch, no), rest))
+}
+
+// A statement inside of another one.
+#[cycle(statement)]
+fn read_inner<'t>(
+    alloc: Global,
+    text: &str,
+    input: &'t [Lexeme],
+    depth: usize,
+) -> Read<'t, Box<Statement>>
+    requires depth { depth ≤ 64 }
+    requires proper { AreProper text.now input.now }
+    ensures { MatchResult result (λ r. StatementRead text.now depth r.0.value input.now r.1.now) (λ e. Stops text.now depth (StatementPart ∷ []) input.now e) }
+{
+    let (statement, rest) = read_statement(alloc, text, input, depth)?;
+    let boxed = Box::new(alloc, statement)?;
+    Ok((boxed, rest))
 }
 
 // A statement that `else` may follow.
@@ -130,14 +122,7 @@ fn read_simple<'t>(
 ) -> Read<'t, Statement>
     requires depth { depth ≤ 64 }
     requires proper { AreProper text.now input.now }
-    ensures spans { IfOk result (λ r. StatementSpans text.now r.0 input.now r.1.now) }
-    ensures formed { IfOk result (λ r. FormedStatement (statement_of r.0)) }
-    ensures simple { IfOk result (λ r. IsSimple (statement_of r.0)) }
-    ensures nesting { IfOk result (λ r. depth + statement_nesting (statement_of r.0) ≤ 64) }
-    ensures shorter { IfOk result (λ r. length r.1.now ≤ length input.now) }
-    ensures proper { IfOk result (λ r. AreProper text.now r.1.now) }
-    ensures reads { IfOk result (λ r. Reads text.now depth (SimplePart ∷ []) input.now r.1.now) }
-    ensures stops { IfErr result (λ e. Stops text.now depth (SimplePart ∷ []) input.now e) }
+    ensures { MatchResult result (λ r. SimpleRead text.now depth r.0 input.now r.1.now) (λ e. Stops text.now depth (SimplePart ∷ []) input.now e) }
 {
     match next(input) {
         Some((Class::Name, _)) => read_assign(alloc, text, input, depth),
@@ -178,14 +163,7 @@ fn read_assign<'t>(
     requires depth { depth ≤ 64 }
     requires proper { AreProper text.now input.now }
     requires named { leads NameToken (terminals text.now input.now) ≡ true }
-    ensures spans { IfOk result (λ r. StatementSpans text.now r.0 input.now r.1.now) }
-    ensures formed { IfOk result (λ r. FormedStatement (statement_of r.0)) }
-    ensures simple { IfOk result (λ r. IsSimple (statement_of r.0)) }
-    ensures nesting { IfOk result (λ r. depth + statement_nesting (statement_of r.0) ≤ 64) }
-    ensures shorter { IfOk result (λ r. length r.1.now < length input.now) }
-    ensures proper { IfOk result (λ r. AreProper text.now r.1.now) }
-    ensures reads { IfOk result (λ r. Reads text.now depth (SimplePart ∷ []) input.now r.1.now) }
-    ensures stops { IfErr result (λ e. Stops text.now depth (SimplePart ∷ []) input.now e) }
+    ensures { MatchResult result (λ r. SimpleRead text.now depth r.0 input.now r.1.now) (λ e. Stops text.now depth (SimplePart ∷ []) input.now e) }
 {
     let (name, rest) = read_name(alloc, text, input)?;
     let rest = expect(rest, Class::Sign(Sign::Becomes))?;
@@ -212,14 +190,7 @@ fn read_send<'t>(
     requires depth { depth ≤ 64 }
     requires proper { AreProper text.now rest.now }
     requires passed { IsPast input.now rest.now }
-    ensures spans { IfOk result (λ r. StatementSpans text.now r.0 input.now r.1.now) }
-    ensures formed { IfOk result (λ r. FormedStatement (statement_of r.0)) }
-    ensures simple { IfOk result (λ r. IsSimple (statement_of r.0)) }
-    ensures nesting { IfOk result (λ r. depth + statement_nesting (statement_of r.0) ≤ 64) }
-    ensures shorter { IfOk result (λ r. length r.1.now < length input.now) }
-    ensures proper { IfOk result (λ r. AreProper text.now r.1.now) }
-    ensures reads { IfOk result (λ r. Reads text.now depth (SimplePart ∷ []) input.now r.1.now) }
-    ensures stops { IfErr result (λ e. Stops text.now depth (SimplePart ∷ []) input.now e) }
+    ensures { MatchResult result (λ r. SimpleRead text.now depth r.0 input.now r.1.now) (λ e. Stops text.now depth (SimplePart ∷ []) input.now e) }
 {
     let (value, rest) = read_before(alloc, text, rest, depth, Keyword::On)?;
     let (name, rest) = read_name(alloc, text, rest)?;

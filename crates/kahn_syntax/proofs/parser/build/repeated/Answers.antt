@@ -1,6 +1,4 @@
-use Rattle.std.proofs.Common.{sym, subst}
-use Rattle.kahn_syntax.specs.Spans.{StatementSpans}
 use Rattle.kahn_syntax.proofs.parser.build.repeated.Goals as goal
 
 pub returns-clause-spans : goal.returns-clause-spans
-returns-clause-spans c = λ text xs a r h t s. (h, (a, t, subst (λ e. StatementSpans text e a r) (sym c.in_ok-turn.ensures.ok) s))
+returns-clause-spans c = λ text xs a r h t s. (h, (a, t, s))

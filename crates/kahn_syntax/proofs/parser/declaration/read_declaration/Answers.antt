@@ -7,40 +7,49 @@ use Rattle.kahn_syntax.specs.Machine.{ChannelToken, NameToken, NamesTail, Declar
 use Rattle.kahn_syntax.proofs.Moves.{kind_moves, opens_process, then, then_stops, call, call_stops, call_two, call_two_stops, expected, unexpected}
 use Rattle.kahn_syntax.proofs.Spanning as S
 use Rattle.kahn_syntax.specs.Programs.{kind_terminal}
+use Rattle.std.proofs.Common.{◌∙◌, ap}
+use Rattle.kahn_syntax.specs.Programs.{role_words}
 use Rattle.kahn_syntax.proofs.parser.declaration.read_declaration.Goals as goal
 
-pub returns-in_err-rest-in-Some-clause-stops : goal.returns-in_err-rest-in-Some-clause-stops
-returns-in_err-rest-in-Some-clause-stops c =
+pub returns-in_err-rest-in-Some : goal.returns-in_err-rest-in-Some
+returns-in_err-rest-in-Some c =
     let p = err_from_is_err_and c.from_residual.result c.from_residual.ensures.1 in rw (p.1, p.2) (then_stops c.args.text.now 0 (DeclarationPart ∷ []) (TokenPart ChannelToken ∷ TokenPart NameToken ∷ TailPart NamesTail ∷ []) c.args.input.now c.read_role-role.result.1.now _ (then c.args.text.now 0 (DeclarationPart ∷ []) (RolePart ∷ TokenPart ChannelToken ∷ TokenPart NameToken ∷ TailPart NamesTail ∷ []) (TokenPart ChannelToken ∷ TokenPart NameToken ∷ TailPart NamesTail ∷ []) c.args.input.now c.in-Some.rest.now c.read_role-role.result.1.now (kind_moves c.args.text.now 0 DeclarationPart [] (RolePart ∷ TokenPart ChannelToken ∷ TokenPart NameToken ∷ TailPart NamesTail ∷ []) c.in-Some.kind c.args.input.now c.in-Some.rest.now (λ s l. omega (arith, l)) (λ s. refl) (λ s. refl) (c.in-Some.ensures.first c.args.text.now)) (call c.args.text.now 0 0 (RolePart) (TokenPart ChannelToken ∷ TokenPart NameToken ∷ TailPart NamesTail ∷ []) c.in-Some.rest.now c.read_role-role.result.1.now (λ s l. omega (arith, l)) (c.read_role-role.ensures.reads c.args.text.now))) (unexpected c.args.text.now 0 ChannelToken (TokenPart NameToken ∷ TailPart NamesTail ∷ []) (class.Word keyword.Channel) c.read_role-role.result.1.now _ refl c.in_err-rest-in-Some.ensures.stop))
 
 pub read_names-requires : goal.read_names-requires
 read_names-requires c = record { proper = c.in_ok-rest-in-Some.ensures.proper c.args.text.now (c.read_role-role.ensures.proper c.args.text.now (c.in-Some.ensures.proper c.args.text.now c.requires.proper)) }
 
-pub returns-in_err-names-in-Some-clause-stops : goal.returns-in_err-names-in-Some-clause-stops
-returns-in_err-names-in-Some-clause-stops c =
-    let p = err_from_is_err_and c.from_residual-in_err-names-in-Some.result c.from_residual-in_err-names-in-Some.ensures.1 in rw (p.1, p.2) (then_stops c.args.text.now 0 (DeclarationPart ∷ []) (TokenPart NameToken ∷ TailPart NamesTail ∷ []) c.args.input.now c.in_ok-rest-in-Some.rest.now _ (then c.args.text.now 0 (DeclarationPart ∷ []) (TokenPart ChannelToken ∷ TokenPart NameToken ∷ TailPart NamesTail ∷ []) (TokenPart NameToken ∷ TailPart NamesTail ∷ []) c.args.input.now c.read_role-role.result.1.now c.in_ok-rest-in-Some.rest.now (then c.args.text.now 0 (DeclarationPart ∷ []) (RolePart ∷ TokenPart ChannelToken ∷ TokenPart NameToken ∷ TailPart NamesTail ∷ []) (TokenPart ChannelToken ∷ TokenPart NameToken ∷ TailPart NamesTail ∷ []) c.args.input.now c.in-Some.rest.now c.read_role-role.result.1.now (kind_moves c.args.text.now 0 DeclarationPart [] (RolePart ∷ TokenPart ChannelToken ∷ TokenPart NameToken ∷ TailPart NamesTail ∷ []) c.in-Some.kind c.args.input.now c.in-Some.rest.now (λ s l. omega (arith, l)) (λ s. refl) (λ s. refl) (c.in-Some.ensures.first c.args.text.now)) (call c.args.text.now 0 0 (RolePart) (TokenPart ChannelToken ∷ TokenPart NameToken ∷ TailPart NamesTail ∷ []) c.in-Some.rest.now c.read_role-role.result.1.now (λ s l. omega (arith, l)) (c.read_role-role.ensures.reads c.args.text.now))) (expected c.args.text.now 0 ChannelToken (TokenPart NameToken ∷ TailPart NamesTail ∷ []) (class.Word keyword.Channel) c.read_role-role.result.1.now c.in_ok-rest-in-Some.rest.now (λ s l. omega (arith, l)) refl c.in_ok-rest-in-Some.ensures.first)) (call_two_stops c.args.text.now 0 0 (TokenPart NameToken) (TailPart NamesTail) ([]) c.in_ok-rest-in-Some.rest.now _ (λ s l. omega (arith, l)) c.in_err-names-in-Some.ensures.stops))
+pub returns-in_err-names-in-Some : goal.returns-in_err-names-in-Some
+returns-in_err-names-in-Some c =
+    let p = err_from_is_err_and c.from_residual-in_err-names-in-Some.result c.from_residual-in_err-names-in-Some.ensures.1 in rw (p.1, p.2) (then_stops c.args.text.now 0 (DeclarationPart ∷ []) (TokenPart NameToken ∷ TailPart NamesTail ∷ []) c.args.input.now c.in_ok-rest-in-Some.rest.now _ (then c.args.text.now 0 (DeclarationPart ∷ []) (TokenPart ChannelToken ∷ TokenPart NameToken ∷ TailPart NamesTail ∷ []) (TokenPart NameToken ∷ TailPart NamesTail ∷ []) c.args.input.now c.read_role-role.result.1.now c.in_ok-rest-in-Some.rest.now (then c.args.text.now 0 (DeclarationPart ∷ []) (RolePart ∷ TokenPart ChannelToken ∷ TokenPart NameToken ∷ TailPart NamesTail ∷ []) (TokenPart ChannelToken ∷ TokenPart NameToken ∷ TailPart NamesTail ∷ []) c.args.input.now c.in-Some.rest.now c.read_role-role.result.1.now (kind_moves c.args.text.now 0 DeclarationPart [] (RolePart ∷ TokenPart ChannelToken ∷ TokenPart NameToken ∷ TailPart NamesTail ∷ []) c.in-Some.kind c.args.input.now c.in-Some.rest.now (λ s l. omega (arith, l)) (λ s. refl) (λ s. refl) (c.in-Some.ensures.first c.args.text.now)) (call c.args.text.now 0 0 (RolePart) (TokenPart ChannelToken ∷ TokenPart NameToken ∷ TailPart NamesTail ∷ []) c.in-Some.rest.now c.read_role-role.result.1.now (λ s l. omega (arith, l)) (c.read_role-role.ensures.reads c.args.text.now))) (expected c.args.text.now 0 ChannelToken (TokenPart NameToken ∷ TailPart NamesTail ∷ []) (class.Word keyword.Channel) c.read_role-role.result.1.now c.in_ok-rest-in-Some.rest.now (λ s l. omega (arith, l)) refl c.in_ok-rest-in-Some.ensures.first)) (call_two_stops c.args.text.now 0 0 (TokenPart NameToken) (TailPart NamesTail) ([]) c.in_ok-rest-in-Some.rest.now _ (λ s l. omega (arith, l)) c.in_err-names-in-Some.ensures))
 
-pub returns-in_ok-names-in-Some-clause-reads : goal.returns-in_ok-names-in-Some-clause-reads
-returns-in_ok-names-in-Some-clause-reads c = (then c.args.text.now 0 (DeclarationPart ∷ []) (TokenPart NameToken ∷ TailPart NamesTail ∷ []) ([]) c.args.input.now c.in_ok-rest-in-Some.rest.now c.in_ok-names-in-Some.rest.now (then c.args.text.now 0 (DeclarationPart ∷ []) (TokenPart ChannelToken ∷ TokenPart NameToken ∷ TailPart NamesTail ∷ []) (TokenPart NameToken ∷ TailPart NamesTail ∷ []) c.args.input.now c.read_role-role.result.1.now c.in_ok-rest-in-Some.rest.now (then c.args.text.now 0 (DeclarationPart ∷ []) (RolePart ∷ TokenPart ChannelToken ∷ TokenPart NameToken ∷ TailPart NamesTail ∷ []) (TokenPart ChannelToken ∷ TokenPart NameToken ∷ TailPart NamesTail ∷ []) c.args.input.now c.in-Some.rest.now c.read_role-role.result.1.now (kind_moves c.args.text.now 0 DeclarationPart [] (RolePart ∷ TokenPart ChannelToken ∷ TokenPart NameToken ∷ TailPart NamesTail ∷ []) c.in-Some.kind c.args.input.now c.in-Some.rest.now (λ s l. omega (arith, l)) (λ s. refl) (λ s. refl) (c.in-Some.ensures.first c.args.text.now)) (call c.args.text.now 0 0 (RolePart) (TokenPart ChannelToken ∷ TokenPart NameToken ∷ TailPart NamesTail ∷ []) c.in-Some.rest.now c.read_role-role.result.1.now (λ s l. omega (arith, l)) (c.read_role-role.ensures.reads c.args.text.now))) (expected c.args.text.now 0 ChannelToken (TokenPart NameToken ∷ TailPart NamesTail ∷ []) (class.Word keyword.Channel) c.read_role-role.result.1.now c.in_ok-rest-in-Some.rest.now (λ s l. omega (arith, l)) refl c.in_ok-rest-in-Some.ensures.first)) (call_two c.args.text.now 0 0 (TokenPart NameToken) (TailPart NamesTail) ([]) c.in_ok-rest-in-Some.rest.now c.in_ok-names-in-Some.rest.now (λ s l. omega (arith, l)) c.in_ok-names-in-Some.ensures.reads))
+pub returns-in_err-process-in-None : goal.returns-in_err-process-in-None
+returns-in_err-process-in-None c =
+    let p = err_from_is_err_and c.from_residual-in_err-process-in-None.result c.from_residual-in_err-process-in-None.ensures.1 in rw (p.1, p.2) (then_stops c.args.text.now 0 (DeclarationPart ∷ []) (ProcessPart ∷ []) c.args.input.now c.args.input.now _ (opens_process c.args.text.now [] c.args.input.now (c.in-None.ensures.leads c.args.text.now)) (call_stops c.args.text.now 0 0 (ProcessPart) ([]) c.args.input.now _ (λ s l. omega (arith, l)) c.in_err-process-in-None.ensures))
 
-pub returns-in_err-process-in-None-clause-stops : goal.returns-in_err-process-in-None-clause-stops
-returns-in_err-process-in-None-clause-stops c =
-    let p = err_from_is_err_and c.from_residual-in_err-process-in-None.result c.from_residual-in_err-process-in-None.ensures.1 in rw (p.1, p.2) (then_stops c.args.text.now 0 (DeclarationPart ∷ []) (ProcessPart ∷ []) c.args.input.now c.args.input.now _ (opens_process c.args.text.now [] c.args.input.now (c.in-None.ensures.leads c.args.text.now)) (call_stops c.args.text.now 0 0 (ProcessPart) ([]) c.args.input.now _ (λ s l. omega (arith, l)) c.in_err-process-in-None.ensures.stops))
+pub returns-in_ok-names-in-Some : goal.returns-in_ok-names-in-Some
+returns-in_ok-names-in-Some c =
+    record {
+      words = ((c.in_ok-names-in-Some.ensures.words.0, c.in-Some.ensures.first c.args.text.now ∙ ap (λ x. kind_terminal c.in-Some.kind ∷ x) (c.read_role-role.ensures.words c.args.text.now ∙ ap (role_words c.read_role-role.result.0) (c.in_ok-rest-in-Some.ensures.first.1 c.args.text.now ∙ ap (λ x. word keyword.Channel ∷ x) c.in_ok-names-in-Some.ensures.words.1))), omega arith);
+      spans = let T = c.args.text.now in (
+        c.in-Some.rest.now,
+        c.read_role-role.result.1.now,
+        c.in_ok-rest-in-Some.rest.now,
+        (S.takes T (kind_terminal c.in-Some.kind) c.args.input.now c.in-Some.rest.now c.in-Some.ensures.passed (c.in-Some.ensures.first T)),
+        c.read_role-role.ensures.spans T,
+        (S.takes T (word keyword.Channel) c.read_role-role.result.1.now c.in_ok-rest-in-Some.rest.now c.in_ok-rest-in-Some.ensures.passed (c.in_ok-rest-in-Some.ensures.first.1 T)),
+        c.in_ok-names-in-Some.ensures.spans,
+      );
+      shorter = omega (arith, c.in-Some.ensures.shorter, c.read_role-role.ensures.shorter, c.in_ok-rest-in-Some.ensures.shorter, c.in_ok-names-in-Some.ensures.shorter);
+      proper = c.in_ok-names-in-Some.ensures.proper;
+      reads = (then c.args.text.now 0 (DeclarationPart ∷ []) (TokenPart NameToken ∷ TailPart NamesTail ∷ []) ([]) c.args.input.now c.in_ok-rest-in-Some.rest.now c.in_ok-names-in-Some.rest.now (then c.args.text.now 0 (DeclarationPart ∷ []) (TokenPart ChannelToken ∷ TokenPart NameToken ∷ TailPart NamesTail ∷ []) (TokenPart NameToken ∷ TailPart NamesTail ∷ []) c.args.input.now c.read_role-role.result.1.now c.in_ok-rest-in-Some.rest.now (then c.args.text.now 0 (DeclarationPart ∷ []) (RolePart ∷ TokenPart ChannelToken ∷ TokenPart NameToken ∷ TailPart NamesTail ∷ []) (TokenPart ChannelToken ∷ TokenPart NameToken ∷ TailPart NamesTail ∷ []) c.args.input.now c.in-Some.rest.now c.read_role-role.result.1.now (kind_moves c.args.text.now 0 DeclarationPart [] (RolePart ∷ TokenPart ChannelToken ∷ TokenPart NameToken ∷ TailPart NamesTail ∷ []) c.in-Some.kind c.args.input.now c.in-Some.rest.now (λ s l. omega (arith, l)) (λ s. refl) (λ s. refl) (c.in-Some.ensures.first c.args.text.now)) (call c.args.text.now 0 0 (RolePart) (TokenPart ChannelToken ∷ TokenPart NameToken ∷ TailPart NamesTail ∷ []) c.in-Some.rest.now c.read_role-role.result.1.now (λ s l. omega (arith, l)) (c.read_role-role.ensures.reads c.args.text.now))) (expected c.args.text.now 0 ChannelToken (TokenPart NameToken ∷ TailPart NamesTail ∷ []) (class.Word keyword.Channel) c.read_role-role.result.1.now c.in_ok-rest-in-Some.rest.now (λ s l. omega (arith, l)) refl c.in_ok-rest-in-Some.ensures.first)) (call_two c.args.text.now 0 0 (TokenPart NameToken) (TailPart NamesTail) ([]) c.in_ok-rest-in-Some.rest.now c.in_ok-names-in-Some.rest.now (λ s l. omega (arith, l)) c.in_ok-names-in-Some.ensures.reads));
+    }
 
-pub returns-in_ok-process-in-None-clause-reads : goal.returns-in_ok-process-in-None-clause-reads
-returns-in_ok-process-in-None-clause-reads c = (then c.args.text.now 0 (DeclarationPart ∷ []) (ProcessPart ∷ []) ([]) c.args.input.now c.args.input.now c.in_ok-process-in-None.rest.now (opens_process c.args.text.now [] c.args.input.now (c.in-None.ensures.leads c.args.text.now)) (call c.args.text.now 0 0 (ProcessPart) ([]) c.args.input.now c.in_ok-process-in-None.rest.now (λ s l. omega (arith, l)) c.in_ok-process-in-None.ensures.reads))
-
-pub returns-in_ok-names-in-Some-clause-spans : goal.returns-in_ok-names-in-Some-clause-spans
-returns-in_ok-names-in-Some-clause-spans c =
-    let T = c.args.text.now in (
-      c.in-Some.rest.now,
-      c.read_role-role.result.1.now,
-      c.in_ok-rest-in-Some.rest.now,
-      (S.takes T (kind_terminal c.in-Some.kind) c.args.input.now c.in-Some.rest.now c.in-Some.ensures.passed (c.in-Some.ensures.first T)),
-      c.read_role-role.ensures.spans T,
-      (S.takes T (word keyword.Channel) c.read_role-role.result.1.now c.in_ok-rest-in-Some.rest.now c.in_ok-rest-in-Some.ensures.passed (c.in_ok-rest-in-Some.ensures.first.1 T)),
-      c.in_ok-names-in-Some.ensures.spans,
-    )
-
-pub returns-in_ok-process-in-None-clause-spans : goal.returns-in_ok-process-in-None-clause-spans
-returns-in_ok-process-in-None-clause-spans c = c.in_ok-process-in-None.ensures.spans
+pub returns-in_ok-process-in-None : goal.returns-in_ok-process-in-None
+returns-in_ok-process-in-None c =
+    record {
+      words = c.in_ok-process-in-None.ensures.words;
+      spans = c.in_ok-process-in-None.ensures.spans;
+      shorter = c.in_ok-process-in-None.ensures.shorter;
+      proper = c.in_ok-process-in-None.ensures.proper;
+      reads = (then c.args.text.now 0 (DeclarationPart ∷ []) (ProcessPart ∷ []) ([]) c.args.input.now c.args.input.now c.in_ok-process-in-None.rest.now (opens_process c.args.text.now [] c.args.input.now (c.in-None.ensures.leads c.args.text.now)) (call c.args.text.now 0 0 (ProcessPart) ([]) c.args.input.now c.in_ok-process-in-None.rest.now (λ s l. omega (arith, l)) c.in_ok-process-in-None.ensures.reads));
+    }

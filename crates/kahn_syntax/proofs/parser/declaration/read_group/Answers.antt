@@ -4,23 +4,29 @@ use Rattle.kahn_syntax.specs.Machine.{NameToken, NamesTail, GroupPart, TakingPar
 use Rattle.kahn_syntax.proofs.Moves.{kind_moves, no_group, then, then_stops, call, call_two, call_two_stops}
 use Rattle.kahn_syntax.proofs.Spanning as S
 use Rattle.kahn_syntax.specs.Programs.{kind_terminal}
+use Rattle.std.proofs.Common.{◌∙◌, ap}
+use Rattle.kahn_syntax.specs.Programs.{taking_words}
 use Rattle.kahn_syntax.proofs.parser.declaration.read_group.Goals as goal
 
-pub returns-in_default-clause-stops : goal.returns-in_default-clause-stops
-returns-in_default-clause-stops c = no_group c.args.text.now [] c.args.input.now _ (c.in_default.ensures.leads c.args.text.now) refl
+pub returns-in_default : goal.returns-in_default
+returns-in_default c =
+    no_group c.args.text.now [] c.args.input.now _ (c.in_default.ensures.leads c.args.text.now) refl
 
 pub read_names-requires : goal.read_names-requires
 read_names-requires c = record { proper = c.read_taking-taking.ensures.proper c.args.text.now (c.in-Some.ensures.proper c.args.text.now c.requires.proper) }
 
-pub returns-in_err-names-clause-stops : goal.returns-in_err-names-clause-stops
-returns-in_err-names-clause-stops c =
-    let p = err_from_is_err_and c.from_residual.result c.from_residual.ensures.1 in rw (p.1, p.2) (then_stops c.args.text.now 0 (GroupPart ∷ []) (TokenPart NameToken ∷ TailPart NamesTail ∷ []) c.args.input.now c.read_taking-taking.result.1.now _ (then c.args.text.now 0 (GroupPart ∷ []) (TakingPart ∷ TokenPart NameToken ∷ TailPart NamesTail ∷ []) (TokenPart NameToken ∷ TailPart NamesTail ∷ []) c.args.input.now c.in-Some.rest.now c.read_taking-taking.result.1.now (kind_moves c.args.text.now 0 GroupPart [] ((TakingPart ∷ TokenPart NameToken ∷ TailPart NamesTail ∷ [])) c.in-Some.kind c.args.input.now c.in-Some.rest.now (λ s l. omega (arith, l)) (λ s. refl) (λ s. refl) (c.in-Some.ensures.first c.args.text.now)) (call c.args.text.now 0 0 (TakingPart) (TokenPart NameToken ∷ TailPart NamesTail ∷ []) c.in-Some.rest.now c.read_taking-taking.result.1.now (λ s l. omega (arith, l)) (c.read_taking-taking.ensures.reads c.args.text.now))) (call_two_stops c.args.text.now 0 0 (TokenPart NameToken) (TailPart NamesTail) ([]) c.read_taking-taking.result.1.now _ (λ s l. omega (arith, l)) c.in_err-names.ensures.stops))
+pub returns-in_err-names : goal.returns-in_err-names
+returns-in_err-names c =
+    let p = err_from_is_err_and c.from_residual.result c.from_residual.ensures.1 in rw (p.1, p.2) (then_stops c.args.text.now 0 (GroupPart ∷ []) (TokenPart NameToken ∷ TailPart NamesTail ∷ []) c.args.input.now c.read_taking-taking.result.1.now _ (then c.args.text.now 0 (GroupPart ∷ []) (TakingPart ∷ TokenPart NameToken ∷ TailPart NamesTail ∷ []) (TokenPart NameToken ∷ TailPart NamesTail ∷ []) c.args.input.now c.in-Some.rest.now c.read_taking-taking.result.1.now (kind_moves c.args.text.now 0 GroupPart [] ((TakingPart ∷ TokenPart NameToken ∷ TailPart NamesTail ∷ [])) c.in-Some.kind c.args.input.now c.in-Some.rest.now (λ s l. omega (arith, l)) (λ s. refl) (λ s. refl) (c.in-Some.ensures.first c.args.text.now)) (call c.args.text.now 0 0 (TakingPart) (TokenPart NameToken ∷ TailPart NamesTail ∷ []) c.in-Some.rest.now c.read_taking-taking.result.1.now (λ s l. omega (arith, l)) (c.read_taking-taking.ensures.reads c.args.text.now))) (call_two_stops c.args.text.now 0 0 (TokenPart NameToken) (TailPart NamesTail) ([]) c.read_taking-taking.result.1.now _ (λ s l. omega (arith, l)) c.in_err-names.ensures))
 
-pub returns-clause-reads : goal.returns-clause-reads
-returns-clause-reads c = (then c.args.text.now 0 (GroupPart ∷ []) (TokenPart NameToken ∷ TailPart NamesTail ∷ []) ([]) c.args.input.now c.read_taking-taking.result.1.now c.in_ok-names.rest.now (then c.args.text.now 0 (GroupPart ∷ []) (TakingPart ∷ TokenPart NameToken ∷ TailPart NamesTail ∷ []) (TokenPart NameToken ∷ TailPart NamesTail ∷ []) c.args.input.now c.in-Some.rest.now c.read_taking-taking.result.1.now (kind_moves c.args.text.now 0 GroupPart [] ((TakingPart ∷ TokenPart NameToken ∷ TailPart NamesTail ∷ [])) c.in-Some.kind c.args.input.now c.in-Some.rest.now (λ s l. omega (arith, l)) (λ s. refl) (λ s. refl) (c.in-Some.ensures.first c.args.text.now)) (call c.args.text.now 0 0 (TakingPart) (TokenPart NameToken ∷ TailPart NamesTail ∷ []) c.in-Some.rest.now c.read_taking-taking.result.1.now (λ s l. omega (arith, l)) (c.read_taking-taking.ensures.reads c.args.text.now))) (call_two c.args.text.now 0 0 (TokenPart NameToken) (TailPart NamesTail) ([]) c.read_taking-taking.result.1.now c.in_ok-names.rest.now (λ s l. omega (arith, l)) c.in_ok-names.ensures.reads))
-
-pub returns-clause-spans : goal.returns-clause-spans
-returns-clause-spans c =
-    let T = c.args.text.now in
-    S.group_spans T _ c.in-Some.kind _ c.args.input.now c.in-Some.rest.now c.read_taking-taking.result.1.now c.in_ok-names.rest.now c.read_taking-taking.ensures.kind
-    (S.takes T (kind_terminal c.in-Some.kind) c.args.input.now c.in-Some.rest.now c.in-Some.ensures.passed (c.in-Some.ensures.first T)) (c.read_taking-taking.ensures.spans T) c.in_ok-names.ensures.spans
+pub returns : goal.returns
+returns c =
+    record {
+      words = (c.in_ok-names.ensures.words.0, c.in-Some.ensures.first c.args.text.now ∙ (c.read_taking-taking.ensures.words c.args.text.now ∙ ap (taking_words c.read_taking-taking.result.0) c.in_ok-names.ensures.words.1));
+      spans = let T = c.args.text.now in
+          S.group_spans T _ c.in-Some.kind _ c.args.input.now c.in-Some.rest.now c.read_taking-taking.result.1.now c.in_ok-names.rest.now c.read_taking-taking.ensures.kind
+          (S.takes T (kind_terminal c.in-Some.kind) c.args.input.now c.in-Some.rest.now c.in-Some.ensures.passed (c.in-Some.ensures.first T)) (c.read_taking-taking.ensures.spans T) c.in_ok-names.ensures.spans;
+      shorter = omega (arith, c.in-Some.ensures.shorter, c.read_taking-taking.ensures.shorter, c.in_ok-names.ensures.shorter);
+      proper = c.in_ok-names.ensures.proper;
+      reads = (then c.args.text.now 0 (GroupPart ∷ []) (TokenPart NameToken ∷ TailPart NamesTail ∷ []) ([]) c.args.input.now c.read_taking-taking.result.1.now c.in_ok-names.rest.now (then c.args.text.now 0 (GroupPart ∷ []) (TakingPart ∷ TokenPart NameToken ∷ TailPart NamesTail ∷ []) (TokenPart NameToken ∷ TailPart NamesTail ∷ []) c.args.input.now c.in-Some.rest.now c.read_taking-taking.result.1.now (kind_moves c.args.text.now 0 GroupPart [] ((TakingPart ∷ TokenPart NameToken ∷ TailPart NamesTail ∷ [])) c.in-Some.kind c.args.input.now c.in-Some.rest.now (λ s l. omega (arith, l)) (λ s. refl) (λ s. refl) (c.in-Some.ensures.first c.args.text.now)) (call c.args.text.now 0 0 (TakingPart) (TokenPart NameToken ∷ TailPart NamesTail ∷ []) c.in-Some.rest.now c.read_taking-taking.result.1.now (λ s l. omega (arith, l)) (c.read_taking-taking.ensures.reads c.args.text.now))) (call_two c.args.text.now 0 0 (TokenPart NameToken) (TailPart NamesTail) ([]) c.read_taking-taking.result.1.now c.in_ok-names.rest.now (λ s l. omega (arith, l)) c.in_ok-names.ensures.reads));
+    }

@@ -8,84 +8,94 @@ use Rattle.kahn_syntax.specs.Machine.{BeginToken, CloseToken, EndToken, NameToke
 use Rattle.kahn_syntax.specs.Drawn.{name_of}
 use Rattle.kahn_syntax.proofs.Moves.{no_process, then, then_stops, call, call_stops, call_two, call_two_stops, one, token, expected, unexpected, no_name}
 use Rattle.kahn_syntax.proofs.Spanning as S
+use Rattle.std.proofs.Common.{map}
+use Rattle.kahn_syntax.specs.Terminals.{terminals}
+use Rattle.kahn_syntax.specs.Drawn.{parameter_of, variable_of, statements_of}
+use Rattle.kahn_syntax.proofs.Declared.{process_declares}
 use Rattle.kahn_syntax.proofs.parser.declaration.read_process.Goals as goal
 
-pub returns-in_err-rest-clause-stops : goal.returns-in_err-rest-clause-stops
-returns-in_err-rest-clause-stops c =
+pub returns-in_err-rest : goal.returns-in_err-rest
+returns-in_err-rest c =
     let p = err_from_is_err_and c.from_residual.result c.from_residual.ensures.1 in rw (p.1, p.2) (no_process c.args.text.now [] c.args.input.now _ c.in_err-rest.ensures.stop)
 
 pub read_name-requires : goal.read_name-requires
 read_name-requires c = record { proper = c.in_ok-rest.ensures.proper c.args.text.now c.requires.proper }
 
-pub returns-in_err-name-clause-stops : goal.returns-in_err-name-clause-stops
-returns-in_err-name-clause-stops c =
+pub returns-in_err-name : goal.returns-in_err-name
+returns-in_err-name c =
     let p = err_from_is_err_and c.from_residual-in_err-name.result c.from_residual-in_err-name.ensures.1 in rw (p.1, p.2) (then_stops c.args.text.now 0 (ProcessPart ∷ []) (TokenPart NameToken ∷ TokenPart OpenToken ∷ GroupsPart ∷ TokenPart CloseToken ∷ TokenPart SemicolonToken ∷ TokenPart BeginToken ∷ VariablesPart ∷ StatementPart ∷ TailPart StatementsTail ∷ TokenPart EndToken ∷ []) c.args.input.now c.in_ok-rest.rest.now _ (one c.args.text.now 0 (ProcessPart) ([]) (TokenPart NameToken ∷ TokenPart OpenToken ∷ GroupsPart ∷ TokenPart CloseToken ∷ TokenPart SemicolonToken ∷ TokenPart BeginToken ∷ VariablesPart ∷ StatementPart ∷ TailPart StatementsTail ∷ TokenPart EndToken ∷ []) (word keyword.Process) c.args.input.now c.in_ok-rest.rest.now (λ s l. omega (arith, l)) (λ s. refl) (c.in_ok-rest.ensures.first.1 c.args.text.now)) (no_name c.args.text.now 0 (TokenPart OpenToken ∷ GroupsPart ∷ TokenPart CloseToken ∷ TokenPart SemicolonToken ∷ TokenPart BeginToken ∷ VariablesPart ∷ StatementPart ∷ TailPart StatementsTail ∷ TokenPart EndToken ∷ []) c.in_ok-rest.rest.now _ c.in_err-name.ensures.stop))
 
-pub returns-in_err-rest-2-clause-stops : goal.returns-in_err-rest-2-clause-stops
-returns-in_err-rest-2-clause-stops c =
+pub returns-in_err-rest-2 : goal.returns-in_err-rest-2
+returns-in_err-rest-2 c =
     let p = err_from_is_err_and c.from_residual-in_err-rest-2.result c.from_residual-in_err-rest-2.ensures.1 in rw (p.1, p.2) (then_stops c.args.text.now 0 (ProcessPart ∷ []) (TokenPart OpenToken ∷ GroupsPart ∷ TokenPart CloseToken ∷ TokenPart SemicolonToken ∷ TokenPart BeginToken ∷ VariablesPart ∷ StatementPart ∷ TailPart StatementsTail ∷ TokenPart EndToken ∷ []) c.args.input.now c.in_ok-name.rest.now _ (then c.args.text.now 0 (ProcessPart ∷ []) (TokenPart NameToken ∷ TokenPart OpenToken ∷ GroupsPart ∷ TokenPart CloseToken ∷ TokenPart SemicolonToken ∷ TokenPart BeginToken ∷ VariablesPart ∷ StatementPart ∷ TailPart StatementsTail ∷ TokenPart EndToken ∷ []) (TokenPart OpenToken ∷ GroupsPart ∷ TokenPart CloseToken ∷ TokenPart SemicolonToken ∷ TokenPart BeginToken ∷ VariablesPart ∷ StatementPart ∷ TailPart StatementsTail ∷ TokenPart EndToken ∷ []) c.args.input.now c.in_ok-rest.rest.now c.in_ok-name.rest.now (one c.args.text.now 0 (ProcessPart) ([]) (TokenPart NameToken ∷ TokenPart OpenToken ∷ GroupsPart ∷ TokenPart CloseToken ∷ TokenPart SemicolonToken ∷ TokenPart BeginToken ∷ VariablesPart ∷ StatementPart ∷ TailPart StatementsTail ∷ TokenPart EndToken ∷ []) (word keyword.Process) c.args.input.now c.in_ok-rest.rest.now (λ s l. omega (arith, l)) (λ s. refl) (c.in_ok-rest.ensures.first.1 c.args.text.now)) (token c.args.text.now 0 NameToken (TokenPart OpenToken ∷ GroupsPart ∷ TokenPart CloseToken ∷ TokenPart SemicolonToken ∷ TokenPart BeginToken ∷ VariablesPart ∷ StatementPart ∷ TailPart StatementsTail ∷ TokenPart EndToken ∷ []) (name (name_of c.in_ok-name.name)) c.in_ok-rest.rest.now c.in_ok-name.rest.now (λ s l. omega (arith, l)) refl c.in_ok-name.ensures.words)) (unexpected c.args.text.now 0 OpenToken (GroupsPart ∷ TokenPart CloseToken ∷ TokenPart SemicolonToken ∷ TokenPart BeginToken ∷ VariablesPart ∷ StatementPart ∷ TailPart StatementsTail ∷ TokenPart EndToken ∷ []) (class.Sign mark.Open) c.in_ok-name.rest.now _ refl c.in_err-rest-2.ensures.stop))
 
 pub read_parameters-requires : goal.read_parameters-requires
 read_parameters-requires c = record { proper = c.in_ok-rest-2.ensures.proper c.args.text.now c.in_ok-name.ensures.proper }
 
-pub returns-in_err-parameters-clause-stops : goal.returns-in_err-parameters-clause-stops
-returns-in_err-parameters-clause-stops c =
-    let p = err_from_is_err_and c.from_residual-in_err-parameters.result c.from_residual-in_err-parameters.ensures.1 in rw (p.1, p.2) (then_stops c.args.text.now 0 (ProcessPart ∷ []) (GroupsPart ∷ TokenPart CloseToken ∷ TokenPart SemicolonToken ∷ TokenPart BeginToken ∷ VariablesPart ∷ StatementPart ∷ TailPart StatementsTail ∷ TokenPart EndToken ∷ []) c.args.input.now c.in_ok-rest-2.rest.now _ (then c.args.text.now 0 (ProcessPart ∷ []) (TokenPart OpenToken ∷ GroupsPart ∷ TokenPart CloseToken ∷ TokenPart SemicolonToken ∷ TokenPart BeginToken ∷ VariablesPart ∷ StatementPart ∷ TailPart StatementsTail ∷ TokenPart EndToken ∷ []) (GroupsPart ∷ TokenPart CloseToken ∷ TokenPart SemicolonToken ∷ TokenPart BeginToken ∷ VariablesPart ∷ StatementPart ∷ TailPart StatementsTail ∷ TokenPart EndToken ∷ []) c.args.input.now c.in_ok-name.rest.now c.in_ok-rest-2.rest.now (then c.args.text.now 0 (ProcessPart ∷ []) (TokenPart NameToken ∷ TokenPart OpenToken ∷ GroupsPart ∷ TokenPart CloseToken ∷ TokenPart SemicolonToken ∷ TokenPart BeginToken ∷ VariablesPart ∷ StatementPart ∷ TailPart StatementsTail ∷ TokenPart EndToken ∷ []) (TokenPart OpenToken ∷ GroupsPart ∷ TokenPart CloseToken ∷ TokenPart SemicolonToken ∷ TokenPart BeginToken ∷ VariablesPart ∷ StatementPart ∷ TailPart StatementsTail ∷ TokenPart EndToken ∷ []) c.args.input.now c.in_ok-rest.rest.now c.in_ok-name.rest.now (one c.args.text.now 0 (ProcessPart) ([]) (TokenPart NameToken ∷ TokenPart OpenToken ∷ GroupsPart ∷ TokenPart CloseToken ∷ TokenPart SemicolonToken ∷ TokenPart BeginToken ∷ VariablesPart ∷ StatementPart ∷ TailPart StatementsTail ∷ TokenPart EndToken ∷ []) (word keyword.Process) c.args.input.now c.in_ok-rest.rest.now (λ s l. omega (arith, l)) (λ s. refl) (c.in_ok-rest.ensures.first.1 c.args.text.now)) (token c.args.text.now 0 NameToken (TokenPart OpenToken ∷ GroupsPart ∷ TokenPart CloseToken ∷ TokenPart SemicolonToken ∷ TokenPart BeginToken ∷ VariablesPart ∷ StatementPart ∷ TailPart StatementsTail ∷ TokenPart EndToken ∷ []) (name (name_of c.in_ok-name.name)) c.in_ok-rest.rest.now c.in_ok-name.rest.now (λ s l. omega (arith, l)) refl c.in_ok-name.ensures.words)) (expected c.args.text.now 0 OpenToken (GroupsPart ∷ TokenPart CloseToken ∷ TokenPart SemicolonToken ∷ TokenPart BeginToken ∷ VariablesPart ∷ StatementPart ∷ TailPart StatementsTail ∷ TokenPart EndToken ∷ []) (class.Sign mark.Open) c.in_ok-name.rest.now c.in_ok-rest-2.rest.now (λ s l. omega (arith, l)) refl c.in_ok-rest-2.ensures.first)) (call_stops c.args.text.now 0 0 (GroupsPart) (TokenPart CloseToken ∷ TokenPart SemicolonToken ∷ TokenPart BeginToken ∷ VariablesPart ∷ StatementPart ∷ TailPart StatementsTail ∷ TokenPart EndToken ∷ []) c.in_ok-rest-2.rest.now _ (λ s l. omega (arith, l)) c.in_err-parameters.ensures.stops))
+pub returns-in_err-parameters : goal.returns-in_err-parameters
+returns-in_err-parameters c =
+    let p = err_from_is_err_and c.from_residual-in_err-parameters.result c.from_residual-in_err-parameters.ensures.1 in rw (p.1, p.2) (then_stops c.args.text.now 0 (ProcessPart ∷ []) (GroupsPart ∷ TokenPart CloseToken ∷ TokenPart SemicolonToken ∷ TokenPart BeginToken ∷ VariablesPart ∷ StatementPart ∷ TailPart StatementsTail ∷ TokenPart EndToken ∷ []) c.args.input.now c.in_ok-rest-2.rest.now _ (then c.args.text.now 0 (ProcessPart ∷ []) (TokenPart OpenToken ∷ GroupsPart ∷ TokenPart CloseToken ∷ TokenPart SemicolonToken ∷ TokenPart BeginToken ∷ VariablesPart ∷ StatementPart ∷ TailPart StatementsTail ∷ TokenPart EndToken ∷ []) (GroupsPart ∷ TokenPart CloseToken ∷ TokenPart SemicolonToken ∷ TokenPart BeginToken ∷ VariablesPart ∷ StatementPart ∷ TailPart StatementsTail ∷ TokenPart EndToken ∷ []) c.args.input.now c.in_ok-name.rest.now c.in_ok-rest-2.rest.now (then c.args.text.now 0 (ProcessPart ∷ []) (TokenPart NameToken ∷ TokenPart OpenToken ∷ GroupsPart ∷ TokenPart CloseToken ∷ TokenPart SemicolonToken ∷ TokenPart BeginToken ∷ VariablesPart ∷ StatementPart ∷ TailPart StatementsTail ∷ TokenPart EndToken ∷ []) (TokenPart OpenToken ∷ GroupsPart ∷ TokenPart CloseToken ∷ TokenPart SemicolonToken ∷ TokenPart BeginToken ∷ VariablesPart ∷ StatementPart ∷ TailPart StatementsTail ∷ TokenPart EndToken ∷ []) c.args.input.now c.in_ok-rest.rest.now c.in_ok-name.rest.now (one c.args.text.now 0 (ProcessPart) ([]) (TokenPart NameToken ∷ TokenPart OpenToken ∷ GroupsPart ∷ TokenPart CloseToken ∷ TokenPart SemicolonToken ∷ TokenPart BeginToken ∷ VariablesPart ∷ StatementPart ∷ TailPart StatementsTail ∷ TokenPart EndToken ∷ []) (word keyword.Process) c.args.input.now c.in_ok-rest.rest.now (λ s l. omega (arith, l)) (λ s. refl) (c.in_ok-rest.ensures.first.1 c.args.text.now)) (token c.args.text.now 0 NameToken (TokenPart OpenToken ∷ GroupsPart ∷ TokenPart CloseToken ∷ TokenPart SemicolonToken ∷ TokenPart BeginToken ∷ VariablesPart ∷ StatementPart ∷ TailPart StatementsTail ∷ TokenPart EndToken ∷ []) (name (name_of c.in_ok-name.name)) c.in_ok-rest.rest.now c.in_ok-name.rest.now (λ s l. omega (arith, l)) refl c.in_ok-name.ensures.words)) (expected c.args.text.now 0 OpenToken (GroupsPart ∷ TokenPart CloseToken ∷ TokenPart SemicolonToken ∷ TokenPart BeginToken ∷ VariablesPart ∷ StatementPart ∷ TailPart StatementsTail ∷ TokenPart EndToken ∷ []) (class.Sign mark.Open) c.in_ok-name.rest.now c.in_ok-rest-2.rest.now (λ s l. omega (arith, l)) refl c.in_ok-rest-2.ensures.first)) (call_stops c.args.text.now 0 0 (GroupsPart) (TokenPart CloseToken ∷ TokenPart SemicolonToken ∷ TokenPart BeginToken ∷ VariablesPart ∷ StatementPart ∷ TailPart StatementsTail ∷ TokenPart EndToken ∷ []) c.in_ok-rest-2.rest.now _ (λ s l. omega (arith, l)) c.in_err-parameters.ensures))
 
-pub returns-in_err-rest-3-clause-stops : goal.returns-in_err-rest-3-clause-stops
-returns-in_err-rest-3-clause-stops c =
+pub returns-in_err-rest-3 : goal.returns-in_err-rest-3
+returns-in_err-rest-3 c =
     let p = err_from_is_err_and c.from_residual-in_err-rest-3.result c.from_residual-in_err-rest-3.ensures.1 in rw (p.1, p.2) (then_stops c.args.text.now 0 (ProcessPart ∷ []) (TokenPart CloseToken ∷ TokenPart SemicolonToken ∷ TokenPart BeginToken ∷ VariablesPart ∷ StatementPart ∷ TailPart StatementsTail ∷ TokenPart EndToken ∷ []) c.args.input.now c.in_ok-parameters.rest.now _ (then c.args.text.now 0 (ProcessPart ∷ []) (GroupsPart ∷ TokenPart CloseToken ∷ TokenPart SemicolonToken ∷ TokenPart BeginToken ∷ VariablesPart ∷ StatementPart ∷ TailPart StatementsTail ∷ TokenPart EndToken ∷ []) (TokenPart CloseToken ∷ TokenPart SemicolonToken ∷ TokenPart BeginToken ∷ VariablesPart ∷ StatementPart ∷ TailPart StatementsTail ∷ TokenPart EndToken ∷ []) c.args.input.now c.in_ok-rest-2.rest.now c.in_ok-parameters.rest.now (then c.args.text.now 0 (ProcessPart ∷ []) (TokenPart OpenToken ∷ GroupsPart ∷ TokenPart CloseToken ∷ TokenPart SemicolonToken ∷ TokenPart BeginToken ∷ VariablesPart ∷ StatementPart ∷ TailPart StatementsTail ∷ TokenPart EndToken ∷ []) (GroupsPart ∷ TokenPart CloseToken ∷ TokenPart SemicolonToken ∷ TokenPart BeginToken ∷ VariablesPart ∷ StatementPart ∷ TailPart StatementsTail ∷ TokenPart EndToken ∷ []) c.args.input.now c.in_ok-name.rest.now c.in_ok-rest-2.rest.now (then c.args.text.now 0 (ProcessPart ∷ []) (TokenPart NameToken ∷ TokenPart OpenToken ∷ GroupsPart ∷ TokenPart CloseToken ∷ TokenPart SemicolonToken ∷ TokenPart BeginToken ∷ VariablesPart ∷ StatementPart ∷ TailPart StatementsTail ∷ TokenPart EndToken ∷ []) (TokenPart OpenToken ∷ GroupsPart ∷ TokenPart CloseToken ∷ TokenPart SemicolonToken ∷ TokenPart BeginToken ∷ VariablesPart ∷ StatementPart ∷ TailPart StatementsTail ∷ TokenPart EndToken ∷ []) c.args.input.now c.in_ok-rest.rest.now c.in_ok-name.rest.now (one c.args.text.now 0 (ProcessPart) ([]) (TokenPart NameToken ∷ TokenPart OpenToken ∷ GroupsPart ∷ TokenPart CloseToken ∷ TokenPart SemicolonToken ∷ TokenPart BeginToken ∷ VariablesPart ∷ StatementPart ∷ TailPart StatementsTail ∷ TokenPart EndToken ∷ []) (word keyword.Process) c.args.input.now c.in_ok-rest.rest.now (λ s l. omega (arith, l)) (λ s. refl) (c.in_ok-rest.ensures.first.1 c.args.text.now)) (token c.args.text.now 0 NameToken (TokenPart OpenToken ∷ GroupsPart ∷ TokenPart CloseToken ∷ TokenPart SemicolonToken ∷ TokenPart BeginToken ∷ VariablesPart ∷ StatementPart ∷ TailPart StatementsTail ∷ TokenPart EndToken ∷ []) (name (name_of c.in_ok-name.name)) c.in_ok-rest.rest.now c.in_ok-name.rest.now (λ s l. omega (arith, l)) refl c.in_ok-name.ensures.words)) (expected c.args.text.now 0 OpenToken (GroupsPart ∷ TokenPart CloseToken ∷ TokenPart SemicolonToken ∷ TokenPart BeginToken ∷ VariablesPart ∷ StatementPart ∷ TailPart StatementsTail ∷ TokenPart EndToken ∷ []) (class.Sign mark.Open) c.in_ok-name.rest.now c.in_ok-rest-2.rest.now (λ s l. omega (arith, l)) refl c.in_ok-rest-2.ensures.first)) (call c.args.text.now 0 0 (GroupsPart) (TokenPart CloseToken ∷ TokenPart SemicolonToken ∷ TokenPart BeginToken ∷ VariablesPart ∷ StatementPart ∷ TailPart StatementsTail ∷ TokenPart EndToken ∷ []) c.in_ok-rest-2.rest.now c.in_ok-parameters.rest.now (λ s l. omega (arith, l)) c.in_ok-parameters.ensures.reads)) (unexpected c.args.text.now 0 CloseToken (TokenPart SemicolonToken ∷ TokenPart BeginToken ∷ VariablesPart ∷ StatementPart ∷ TailPart StatementsTail ∷ TokenPart EndToken ∷ []) (class.Sign mark.Close) c.in_ok-parameters.rest.now _ refl c.in_err-rest-3.ensures.stop))
 
-pub returns-in_err-rest-4-clause-stops : goal.returns-in_err-rest-4-clause-stops
-returns-in_err-rest-4-clause-stops c =
+pub returns-in_err-rest-4 : goal.returns-in_err-rest-4
+returns-in_err-rest-4 c =
     let p = err_from_is_err_and c.from_residual-in_err-rest-4.result c.from_residual-in_err-rest-4.ensures.1 in rw (p.1, p.2) (then_stops c.args.text.now 0 (ProcessPart ∷ []) (TokenPart SemicolonToken ∷ TokenPart BeginToken ∷ VariablesPart ∷ StatementPart ∷ TailPart StatementsTail ∷ TokenPart EndToken ∷ []) c.args.input.now c.in_ok-rest-3.rest.now _ (then c.args.text.now 0 (ProcessPart ∷ []) (TokenPart CloseToken ∷ TokenPart SemicolonToken ∷ TokenPart BeginToken ∷ VariablesPart ∷ StatementPart ∷ TailPart StatementsTail ∷ TokenPart EndToken ∷ []) (TokenPart SemicolonToken ∷ TokenPart BeginToken ∷ VariablesPart ∷ StatementPart ∷ TailPart StatementsTail ∷ TokenPart EndToken ∷ []) c.args.input.now c.in_ok-parameters.rest.now c.in_ok-rest-3.rest.now (then c.args.text.now 0 (ProcessPart ∷ []) (GroupsPart ∷ TokenPart CloseToken ∷ TokenPart SemicolonToken ∷ TokenPart BeginToken ∷ VariablesPart ∷ StatementPart ∷ TailPart StatementsTail ∷ TokenPart EndToken ∷ []) (TokenPart CloseToken ∷ TokenPart SemicolonToken ∷ TokenPart BeginToken ∷ VariablesPart ∷ StatementPart ∷ TailPart StatementsTail ∷ TokenPart EndToken ∷ []) c.args.input.now c.in_ok-rest-2.rest.now c.in_ok-parameters.rest.now (then c.args.text.now 0 (ProcessPart ∷ []) (TokenPart OpenToken ∷ GroupsPart ∷ TokenPart CloseToken ∷ TokenPart SemicolonToken ∷ TokenPart BeginToken ∷ VariablesPart ∷ StatementPart ∷ TailPart StatementsTail ∷ TokenPart EndToken ∷ []) (GroupsPart ∷ TokenPart CloseToken ∷ TokenPart SemicolonToken ∷ TokenPart BeginToken ∷ VariablesPart ∷ StatementPart ∷ TailPart StatementsTail ∷ TokenPart EndToken ∷ []) c.args.input.now c.in_ok-name.rest.now c.in_ok-rest-2.rest.now (then c.args.text.now 0 (ProcessPart ∷ []) (TokenPart NameToken ∷ TokenPart OpenToken ∷ GroupsPart ∷ TokenPart CloseToken ∷ TokenPart SemicolonToken ∷ TokenPart BeginToken ∷ VariablesPart ∷ StatementPart ∷ TailPart StatementsTail ∷ TokenPart EndToken ∷ []) (TokenPart OpenToken ∷ GroupsPart ∷ TokenPart CloseToken ∷ TokenPart SemicolonToken ∷ TokenPart BeginToken ∷ VariablesPart ∷ StatementPart ∷ TailPart StatementsTail ∷ TokenPart EndToken ∷ []) c.args.input.now c.in_ok-rest.rest.now c.in_ok-name.rest.now (one c.args.text.now 0 (ProcessPart) ([]) (TokenPart NameToken ∷ TokenPart OpenToken ∷ GroupsPart ∷ TokenPart CloseToken ∷ TokenPart SemicolonToken ∷ TokenPart BeginToken ∷ VariablesPart ∷ StatementPart ∷ TailPart StatementsTail ∷ TokenPart EndToken ∷ []) (word keyword.Process) c.args.input.now c.in_ok-rest.rest.now (λ s l. omega (arith, l)) (λ s. refl) (c.in_ok-rest.ensures.first.1 c.args.text.now)) (token c.args.text.now 0 NameToken (TokenPart OpenToken ∷ GroupsPart ∷ TokenPart CloseToken ∷ TokenPart SemicolonToken ∷ TokenPart BeginToken ∷ VariablesPart ∷ StatementPart ∷ TailPart StatementsTail ∷ TokenPart EndToken ∷ []) (name (name_of c.in_ok-name.name)) c.in_ok-rest.rest.now c.in_ok-name.rest.now (λ s l. omega (arith, l)) refl c.in_ok-name.ensures.words)) (expected c.args.text.now 0 OpenToken (GroupsPart ∷ TokenPart CloseToken ∷ TokenPart SemicolonToken ∷ TokenPart BeginToken ∷ VariablesPart ∷ StatementPart ∷ TailPart StatementsTail ∷ TokenPart EndToken ∷ []) (class.Sign mark.Open) c.in_ok-name.rest.now c.in_ok-rest-2.rest.now (λ s l. omega (arith, l)) refl c.in_ok-rest-2.ensures.first)) (call c.args.text.now 0 0 (GroupsPart) (TokenPart CloseToken ∷ TokenPart SemicolonToken ∷ TokenPart BeginToken ∷ VariablesPart ∷ StatementPart ∷ TailPart StatementsTail ∷ TokenPart EndToken ∷ []) c.in_ok-rest-2.rest.now c.in_ok-parameters.rest.now (λ s l. omega (arith, l)) c.in_ok-parameters.ensures.reads)) (expected c.args.text.now 0 CloseToken (TokenPart SemicolonToken ∷ TokenPart BeginToken ∷ VariablesPart ∷ StatementPart ∷ TailPart StatementsTail ∷ TokenPart EndToken ∷ []) (class.Sign mark.Close) c.in_ok-parameters.rest.now c.in_ok-rest-3.rest.now (λ s l. omega (arith, l)) refl c.in_ok-rest-3.ensures.first)) (unexpected c.args.text.now 0 SemicolonToken (TokenPart BeginToken ∷ VariablesPart ∷ StatementPart ∷ TailPart StatementsTail ∷ TokenPart EndToken ∷ []) (class.Sign mark.Semicolon) c.in_ok-rest-3.rest.now _ refl c.in_err-rest-4.ensures.stop))
 
-pub returns-in_err-rest-5-clause-stops : goal.returns-in_err-rest-5-clause-stops
-returns-in_err-rest-5-clause-stops c =
+pub returns-in_err-rest-5 : goal.returns-in_err-rest-5
+returns-in_err-rest-5 c =
     let p = err_from_is_err_and c.from_residual-in_err-rest-5.result c.from_residual-in_err-rest-5.ensures.1 in rw (p.1, p.2) (then_stops c.args.text.now 0 (ProcessPart ∷ []) (TokenPart BeginToken ∷ VariablesPart ∷ StatementPart ∷ TailPart StatementsTail ∷ TokenPart EndToken ∷ []) c.args.input.now c.in_ok-rest-4.rest.now _ (then c.args.text.now 0 (ProcessPart ∷ []) (TokenPart SemicolonToken ∷ TokenPart BeginToken ∷ VariablesPart ∷ StatementPart ∷ TailPart StatementsTail ∷ TokenPart EndToken ∷ []) (TokenPart BeginToken ∷ VariablesPart ∷ StatementPart ∷ TailPart StatementsTail ∷ TokenPart EndToken ∷ []) c.args.input.now c.in_ok-rest-3.rest.now c.in_ok-rest-4.rest.now (then c.args.text.now 0 (ProcessPart ∷ []) (TokenPart CloseToken ∷ TokenPart SemicolonToken ∷ TokenPart BeginToken ∷ VariablesPart ∷ StatementPart ∷ TailPart StatementsTail ∷ TokenPart EndToken ∷ []) (TokenPart SemicolonToken ∷ TokenPart BeginToken ∷ VariablesPart ∷ StatementPart ∷ TailPart StatementsTail ∷ TokenPart EndToken ∷ []) c.args.input.now c.in_ok-parameters.rest.now c.in_ok-rest-3.rest.now (then c.args.text.now 0 (ProcessPart ∷ []) (GroupsPart ∷ TokenPart CloseToken ∷ TokenPart SemicolonToken ∷ TokenPart BeginToken ∷ VariablesPart ∷ StatementPart ∷ TailPart StatementsTail ∷ TokenPart EndToken ∷ []) (TokenPart CloseToken ∷ TokenPart SemicolonToken ∷ TokenPart BeginToken ∷ VariablesPart ∷ StatementPart ∷ TailPart StatementsTail ∷ TokenPart EndToken ∷ []) c.args.input.now c.in_ok-rest-2.rest.now c.in_ok-parameters.rest.now (then c.args.text.now 0 (ProcessPart ∷ []) (TokenPart OpenToken ∷ GroupsPart ∷ TokenPart CloseToken ∷ TokenPart SemicolonToken ∷ TokenPart BeginToken ∷ VariablesPart ∷ StatementPart ∷ TailPart StatementsTail ∷ TokenPart EndToken ∷ []) (GroupsPart ∷ TokenPart CloseToken ∷ TokenPart SemicolonToken ∷ TokenPart BeginToken ∷ VariablesPart ∷ StatementPart ∷ TailPart StatementsTail ∷ TokenPart EndToken ∷ []) c.args.input.now c.in_ok-name.rest.now c.in_ok-rest-2.rest.now (then c.args.text.now 0 (ProcessPart ∷ []) (TokenPart NameToken ∷ TokenPart OpenToken ∷ GroupsPart ∷ TokenPart CloseToken ∷ TokenPart SemicolonToken ∷ TokenPart BeginToken ∷ VariablesPart ∷ StatementPart ∷ TailPart StatementsTail ∷ TokenPart EndToken ∷ []) (TokenPart OpenToken ∷ GroupsPart ∷ TokenPart CloseToken ∷ TokenPart SemicolonToken ∷ TokenPart BeginToken ∷ VariablesPart ∷ StatementPart ∷ TailPart StatementsTail ∷ TokenPart EndToken ∷ []) c.args.input.now c.in_ok-rest.rest.now c.in_ok-name.rest.now (one c.args.text.now 0 (ProcessPart) ([]) (TokenPart NameToken ∷ TokenPart OpenToken ∷ GroupsPart ∷ TokenPart CloseToken ∷ TokenPart SemicolonToken ∷ TokenPart BeginToken ∷ VariablesPart ∷ StatementPart ∷ TailPart StatementsTail ∷ TokenPart EndToken ∷ []) (word keyword.Process) c.args.input.now c.in_ok-rest.rest.now (λ s l. omega (arith, l)) (λ s. refl) (c.in_ok-rest.ensures.first.1 c.args.text.now)) (token c.args.text.now 0 NameToken (TokenPart OpenToken ∷ GroupsPart ∷ TokenPart CloseToken ∷ TokenPart SemicolonToken ∷ TokenPart BeginToken ∷ VariablesPart ∷ StatementPart ∷ TailPart StatementsTail ∷ TokenPart EndToken ∷ []) (name (name_of c.in_ok-name.name)) c.in_ok-rest.rest.now c.in_ok-name.rest.now (λ s l. omega (arith, l)) refl c.in_ok-name.ensures.words)) (expected c.args.text.now 0 OpenToken (GroupsPart ∷ TokenPart CloseToken ∷ TokenPart SemicolonToken ∷ TokenPart BeginToken ∷ VariablesPart ∷ StatementPart ∷ TailPart StatementsTail ∷ TokenPart EndToken ∷ []) (class.Sign mark.Open) c.in_ok-name.rest.now c.in_ok-rest-2.rest.now (λ s l. omega (arith, l)) refl c.in_ok-rest-2.ensures.first)) (call c.args.text.now 0 0 (GroupsPart) (TokenPart CloseToken ∷ TokenPart SemicolonToken ∷ TokenPart BeginToken ∷ VariablesPart ∷ StatementPart ∷ TailPart StatementsTail ∷ TokenPart EndToken ∷ []) c.in_ok-rest-2.rest.now c.in_ok-parameters.rest.now (λ s l. omega (arith, l)) c.in_ok-parameters.ensures.reads)) (expected c.args.text.now 0 CloseToken (TokenPart SemicolonToken ∷ TokenPart BeginToken ∷ VariablesPart ∷ StatementPart ∷ TailPart StatementsTail ∷ TokenPart EndToken ∷ []) (class.Sign mark.Close) c.in_ok-parameters.rest.now c.in_ok-rest-3.rest.now (λ s l. omega (arith, l)) refl c.in_ok-rest-3.ensures.first)) (expected c.args.text.now 0 SemicolonToken (TokenPart BeginToken ∷ VariablesPart ∷ StatementPart ∷ TailPart StatementsTail ∷ TokenPart EndToken ∷ []) (class.Sign mark.Semicolon) c.in_ok-rest-3.rest.now c.in_ok-rest-4.rest.now (λ s l. omega (arith, l)) refl c.in_ok-rest-4.ensures.first)) (unexpected c.args.text.now 0 BeginToken (VariablesPart ∷ StatementPart ∷ TailPart StatementsTail ∷ TokenPart EndToken ∷ []) (class.Word keyword.Begin) c.in_ok-rest-4.rest.now _ refl c.in_err-rest-5.ensures.stop))
 
 pub read_variables-requires : goal.read_variables-requires
 read_variables-requires c = record { proper = c.in_ok-rest-5.ensures.proper c.args.text.now (c.in_ok-rest-4.ensures.proper c.args.text.now (c.in_ok-rest-3.ensures.proper c.args.text.now c.in_ok-parameters.ensures.proper)) }
 
-pub returns-in_err-variables-clause-stops : goal.returns-in_err-variables-clause-stops
-returns-in_err-variables-clause-stops c =
-    let p = err_from_is_err_and c.from_residual-in_err-variables.result c.from_residual-in_err-variables.ensures.1 in rw (p.1, p.2) (then_stops c.args.text.now 0 (ProcessPart ∷ []) (VariablesPart ∷ StatementPart ∷ TailPart StatementsTail ∷ TokenPart EndToken ∷ []) c.args.input.now c.in_ok-rest-5.rest.now _ (then c.args.text.now 0 (ProcessPart ∷ []) (TokenPart BeginToken ∷ VariablesPart ∷ StatementPart ∷ TailPart StatementsTail ∷ TokenPart EndToken ∷ []) (VariablesPart ∷ StatementPart ∷ TailPart StatementsTail ∷ TokenPart EndToken ∷ []) c.args.input.now c.in_ok-rest-4.rest.now c.in_ok-rest-5.rest.now (then c.args.text.now 0 (ProcessPart ∷ []) (TokenPart SemicolonToken ∷ TokenPart BeginToken ∷ VariablesPart ∷ StatementPart ∷ TailPart StatementsTail ∷ TokenPart EndToken ∷ []) (TokenPart BeginToken ∷ VariablesPart ∷ StatementPart ∷ TailPart StatementsTail ∷ TokenPart EndToken ∷ []) c.args.input.now c.in_ok-rest-3.rest.now c.in_ok-rest-4.rest.now (then c.args.text.now 0 (ProcessPart ∷ []) (TokenPart CloseToken ∷ TokenPart SemicolonToken ∷ TokenPart BeginToken ∷ VariablesPart ∷ StatementPart ∷ TailPart StatementsTail ∷ TokenPart EndToken ∷ []) (TokenPart SemicolonToken ∷ TokenPart BeginToken ∷ VariablesPart ∷ StatementPart ∷ TailPart StatementsTail ∷ TokenPart EndToken ∷ []) c.args.input.now c.in_ok-parameters.rest.now c.in_ok-rest-3.rest.now (then c.args.text.now 0 (ProcessPart ∷ []) (GroupsPart ∷ TokenPart CloseToken ∷ TokenPart SemicolonToken ∷ TokenPart BeginToken ∷ VariablesPart ∷ StatementPart ∷ TailPart StatementsTail ∷ TokenPart EndToken ∷ []) (TokenPart CloseToken ∷ TokenPart SemicolonToken ∷ TokenPart BeginToken ∷ VariablesPart ∷ StatementPart ∷ TailPart StatementsTail ∷ TokenPart EndToken ∷ []) c.args.input.now c.in_ok-rest-2.rest.now c.in_ok-parameters.rest.now (then c.args.text.now 0 (ProcessPart ∷ []) (TokenPart OpenToken ∷ GroupsPart ∷ TokenPart CloseToken ∷ TokenPart SemicolonToken ∷ TokenPart BeginToken ∷ VariablesPart ∷ StatementPart ∷ TailPart StatementsTail ∷ TokenPart EndToken ∷ []) (GroupsPart ∷ TokenPart CloseToken ∷ TokenPart SemicolonToken ∷ TokenPart BeginToken ∷ VariablesPart ∷ StatementPart ∷ TailPart StatementsTail ∷ TokenPart EndToken ∷ []) c.args.input.now c.in_ok-name.rest.now c.in_ok-rest-2.rest.now (then c.args.text.now 0 (ProcessPart ∷ []) (TokenPart NameToken ∷ TokenPart OpenToken ∷ GroupsPart ∷ TokenPart CloseToken ∷ TokenPart SemicolonToken ∷ TokenPart BeginToken ∷ VariablesPart ∷ StatementPart ∷ TailPart StatementsTail ∷ TokenPart EndToken ∷ []) (TokenPart OpenToken ∷ GroupsPart ∷ TokenPart CloseToken ∷ TokenPart SemicolonToken ∷ TokenPart BeginToken ∷ VariablesPart ∷ StatementPart ∷ TailPart StatementsTail ∷ TokenPart EndToken ∷ []) c.args.input.now c.in_ok-rest.rest.now c.in_ok-name.rest.now (one c.args.text.now 0 (ProcessPart) ([]) (TokenPart NameToken ∷ TokenPart OpenToken ∷ GroupsPart ∷ TokenPart CloseToken ∷ TokenPart SemicolonToken ∷ TokenPart BeginToken ∷ VariablesPart ∷ StatementPart ∷ TailPart StatementsTail ∷ TokenPart EndToken ∷ []) (word keyword.Process) c.args.input.now c.in_ok-rest.rest.now (λ s l. omega (arith, l)) (λ s. refl) (c.in_ok-rest.ensures.first.1 c.args.text.now)) (token c.args.text.now 0 NameToken (TokenPart OpenToken ∷ GroupsPart ∷ TokenPart CloseToken ∷ TokenPart SemicolonToken ∷ TokenPart BeginToken ∷ VariablesPart ∷ StatementPart ∷ TailPart StatementsTail ∷ TokenPart EndToken ∷ []) (name (name_of c.in_ok-name.name)) c.in_ok-rest.rest.now c.in_ok-name.rest.now (λ s l. omega (arith, l)) refl c.in_ok-name.ensures.words)) (expected c.args.text.now 0 OpenToken (GroupsPart ∷ TokenPart CloseToken ∷ TokenPart SemicolonToken ∷ TokenPart BeginToken ∷ VariablesPart ∷ StatementPart ∷ TailPart StatementsTail ∷ TokenPart EndToken ∷ []) (class.Sign mark.Open) c.in_ok-name.rest.now c.in_ok-rest-2.rest.now (λ s l. omega (arith, l)) refl c.in_ok-rest-2.ensures.first)) (call c.args.text.now 0 0 (GroupsPart) (TokenPart CloseToken ∷ TokenPart SemicolonToken ∷ TokenPart BeginToken ∷ VariablesPart ∷ StatementPart ∷ TailPart StatementsTail ∷ TokenPart EndToken ∷ []) c.in_ok-rest-2.rest.now c.in_ok-parameters.rest.now (λ s l. omega (arith, l)) c.in_ok-parameters.ensures.reads)) (expected c.args.text.now 0 CloseToken (TokenPart SemicolonToken ∷ TokenPart BeginToken ∷ VariablesPart ∷ StatementPart ∷ TailPart StatementsTail ∷ TokenPart EndToken ∷ []) (class.Sign mark.Close) c.in_ok-parameters.rest.now c.in_ok-rest-3.rest.now (λ s l. omega (arith, l)) refl c.in_ok-rest-3.ensures.first)) (expected c.args.text.now 0 SemicolonToken (TokenPart BeginToken ∷ VariablesPart ∷ StatementPart ∷ TailPart StatementsTail ∷ TokenPart EndToken ∷ []) (class.Sign mark.Semicolon) c.in_ok-rest-3.rest.now c.in_ok-rest-4.rest.now (λ s l. omega (arith, l)) refl c.in_ok-rest-4.ensures.first)) (expected c.args.text.now 0 BeginToken (VariablesPart ∷ StatementPart ∷ TailPart StatementsTail ∷ TokenPart EndToken ∷ []) (class.Word keyword.Begin) c.in_ok-rest-4.rest.now c.in_ok-rest-5.rest.now (λ s l. omega (arith, l)) refl c.in_ok-rest-5.ensures.first)) (call_stops c.args.text.now 0 0 (VariablesPart) (StatementPart ∷ TailPart StatementsTail ∷ TokenPart EndToken ∷ []) c.in_ok-rest-5.rest.now _ (λ s l. omega (arith, l)) c.in_err-variables.ensures.stops))
+pub returns-in_err-variables : goal.returns-in_err-variables
+returns-in_err-variables c =
+    let p = err_from_is_err_and c.from_residual-in_err-variables.result c.from_residual-in_err-variables.ensures.1 in rw (p.1, p.2) (then_stops c.args.text.now 0 (ProcessPart ∷ []) (VariablesPart ∷ StatementPart ∷ TailPart StatementsTail ∷ TokenPart EndToken ∷ []) c.args.input.now c.in_ok-rest-5.rest.now _ (then c.args.text.now 0 (ProcessPart ∷ []) (TokenPart BeginToken ∷ VariablesPart ∷ StatementPart ∷ TailPart StatementsTail ∷ TokenPart EndToken ∷ []) (VariablesPart ∷ StatementPart ∷ TailPart StatementsTail ∷ TokenPart EndToken ∷ []) c.args.input.now c.in_ok-rest-4.rest.now c.in_ok-rest-5.rest.now (then c.args.text.now 0 (ProcessPart ∷ []) (TokenPart SemicolonToken ∷ TokenPart BeginToken ∷ VariablesPart ∷ StatementPart ∷ TailPart StatementsTail ∷ TokenPart EndToken ∷ []) (TokenPart BeginToken ∷ VariablesPart ∷ StatementPart ∷ TailPart StatementsTail ∷ TokenPart EndToken ∷ []) c.args.input.now c.in_ok-rest-3.rest.now c.in_ok-rest-4.rest.now (then c.args.text.now 0 (ProcessPart ∷ []) (TokenPart CloseToken ∷ TokenPart SemicolonToken ∷ TokenPart BeginToken ∷ VariablesPart ∷ StatementPart ∷ TailPart StatementsTail ∷ TokenPart EndToken ∷ []) (TokenPart SemicolonToken ∷ TokenPart BeginToken ∷ VariablesPart ∷ StatementPart ∷ TailPart StatementsTail ∷ TokenPart EndToken ∷ []) c.args.input.now c.in_ok-parameters.rest.now c.in_ok-rest-3.rest.now (then c.args.text.now 0 (ProcessPart ∷ []) (GroupsPart ∷ TokenPart CloseToken ∷ TokenPart SemicolonToken ∷ TokenPart BeginToken ∷ VariablesPart ∷ StatementPart ∷ TailPart StatementsTail ∷ TokenPart EndToken ∷ []) (TokenPart CloseToken ∷ TokenPart SemicolonToken ∷ TokenPart BeginToken ∷ VariablesPart ∷ StatementPart ∷ TailPart StatementsTail ∷ TokenPart EndToken ∷ []) c.args.input.now c.in_ok-rest-2.rest.now c.in_ok-parameters.rest.now (then c.args.text.now 0 (ProcessPart ∷ []) (TokenPart OpenToken ∷ GroupsPart ∷ TokenPart CloseToken ∷ TokenPart SemicolonToken ∷ TokenPart BeginToken ∷ VariablesPart ∷ StatementPart ∷ TailPart StatementsTail ∷ TokenPart EndToken ∷ []) (GroupsPart ∷ TokenPart CloseToken ∷ TokenPart SemicolonToken ∷ TokenPart BeginToken ∷ VariablesPart ∷ StatementPart ∷ TailPart StatementsTail ∷ TokenPart EndToken ∷ []) c.args.input.now c.in_ok-name.rest.now c.in_ok-rest-2.rest.now (then c.args.text.now 0 (ProcessPart ∷ []) (TokenPart NameToken ∷ TokenPart OpenToken ∷ GroupsPart ∷ TokenPart CloseToken ∷ TokenPart SemicolonToken ∷ TokenPart BeginToken ∷ VariablesPart ∷ StatementPart ∷ TailPart StatementsTail ∷ TokenPart EndToken ∷ []) (TokenPart OpenToken ∷ GroupsPart ∷ TokenPart CloseToken ∷ TokenPart SemicolonToken ∷ TokenPart BeginToken ∷ VariablesPart ∷ StatementPart ∷ TailPart StatementsTail ∷ TokenPart EndToken ∷ []) c.args.input.now c.in_ok-rest.rest.now c.in_ok-name.rest.now (one c.args.text.now 0 (ProcessPart) ([]) (TokenPart NameToken ∷ TokenPart OpenToken ∷ GroupsPart ∷ TokenPart CloseToken ∷ TokenPart SemicolonToken ∷ TokenPart BeginToken ∷ VariablesPart ∷ StatementPart ∷ TailPart StatementsTail ∷ TokenPart EndToken ∷ []) (word keyword.Process) c.args.input.now c.in_ok-rest.rest.now (λ s l. omega (arith, l)) (λ s. refl) (c.in_ok-rest.ensures.first.1 c.args.text.now)) (token c.args.text.now 0 NameToken (TokenPart OpenToken ∷ GroupsPart ∷ TokenPart CloseToken ∷ TokenPart SemicolonToken ∷ TokenPart BeginToken ∷ VariablesPart ∷ StatementPart ∷ TailPart StatementsTail ∷ TokenPart EndToken ∷ []) (name (name_of c.in_ok-name.name)) c.in_ok-rest.rest.now c.in_ok-name.rest.now (λ s l. omega (arith, l)) refl c.in_ok-name.ensures.words)) (expected c.args.text.now 0 OpenToken (GroupsPart ∷ TokenPart CloseToken ∷ TokenPart SemicolonToken ∷ TokenPart BeginToken ∷ VariablesPart ∷ StatementPart ∷ TailPart StatementsTail ∷ TokenPart EndToken ∷ []) (class.Sign mark.Open) c.in_ok-name.rest.now c.in_ok-rest-2.rest.now (λ s l. omega (arith, l)) refl c.in_ok-rest-2.ensures.first)) (call c.args.text.now 0 0 (GroupsPart) (TokenPart CloseToken ∷ TokenPart SemicolonToken ∷ TokenPart BeginToken ∷ VariablesPart ∷ StatementPart ∷ TailPart StatementsTail ∷ TokenPart EndToken ∷ []) c.in_ok-rest-2.rest.now c.in_ok-parameters.rest.now (λ s l. omega (arith, l)) c.in_ok-parameters.ensures.reads)) (expected c.args.text.now 0 CloseToken (TokenPart SemicolonToken ∷ TokenPart BeginToken ∷ VariablesPart ∷ StatementPart ∷ TailPart StatementsTail ∷ TokenPart EndToken ∷ []) (class.Sign mark.Close) c.in_ok-parameters.rest.now c.in_ok-rest-3.rest.now (λ s l. omega (arith, l)) refl c.in_ok-rest-3.ensures.first)) (expected c.args.text.now 0 SemicolonToken (TokenPart BeginToken ∷ VariablesPart ∷ StatementPart ∷ TailPart StatementsTail ∷ TokenPart EndToken ∷ []) (class.Sign mark.Semicolon) c.in_ok-rest-3.rest.now c.in_ok-rest-4.rest.now (λ s l. omega (arith, l)) refl c.in_ok-rest-4.ensures.first)) (expected c.args.text.now 0 BeginToken (VariablesPart ∷ StatementPart ∷ TailPart StatementsTail ∷ TokenPart EndToken ∷ []) (class.Word keyword.Begin) c.in_ok-rest-4.rest.now c.in_ok-rest-5.rest.now (λ s l. omega (arith, l)) refl c.in_ok-rest-5.ensures.first)) (call_stops c.args.text.now 0 0 (VariablesPart) (StatementPart ∷ TailPart StatementsTail ∷ TokenPart EndToken ∷ []) c.in_ok-rest-5.rest.now _ (λ s l. omega (arith, l)) c.in_err-variables.ensures))
 
-pub returns-in_err-statements-clause-stops : goal.returns-in_err-statements-clause-stops
-returns-in_err-statements-clause-stops c =
-    let p = err_from_is_err_and c.from_residual-in_err-statements.result c.from_residual-in_err-statements.ensures.1 in rw (p.1, p.2) (then_stops c.args.text.now 0 (ProcessPart ∷ []) (StatementPart ∷ TailPart StatementsTail ∷ TokenPart EndToken ∷ []) c.args.input.now c.in_ok-variables.rest.now _ (then c.args.text.now 0 (ProcessPart ∷ []) (VariablesPart ∷ StatementPart ∷ TailPart StatementsTail ∷ TokenPart EndToken ∷ []) (StatementPart ∷ TailPart StatementsTail ∷ TokenPart EndToken ∷ []) c.args.input.now c.in_ok-rest-5.rest.now c.in_ok-variables.rest.now (then c.args.text.now 0 (ProcessPart ∷ []) (TokenPart BeginToken ∷ VariablesPart ∷ StatementPart ∷ TailPart StatementsTail ∷ TokenPart EndToken ∷ []) (VariablesPart ∷ StatementPart ∷ TailPart StatementsTail ∷ TokenPart EndToken ∷ []) c.args.input.now c.in_ok-rest-4.rest.now c.in_ok-rest-5.rest.now (then c.args.text.now 0 (ProcessPart ∷ []) (TokenPart SemicolonToken ∷ TokenPart BeginToken ∷ VariablesPart ∷ StatementPart ∷ TailPart StatementsTail ∷ TokenPart EndToken ∷ []) (TokenPart BeginToken ∷ VariablesPart ∷ StatementPart ∷ TailPart StatementsTail ∷ TokenPart EndToken ∷ []) c.args.input.now c.in_ok-rest-3.rest.now c.in_ok-rest-4.rest.now (then c.args.text.now 0 (ProcessPart ∷ []) (TokenPart CloseToken ∷ TokenPart SemicolonToken ∷ TokenPart BeginToken ∷ VariablesPart ∷ StatementPart ∷ TailPart StatementsTail ∷ TokenPart EndToken ∷ []) (TokenPart SemicolonToken ∷ TokenPart BeginToken ∷ VariablesPart ∷ StatementPart ∷ TailPart StatementsTail ∷ TokenPart EndToken ∷ []) c.args.input.now c.in_ok-parameters.rest.now c.in_ok-rest-3.rest.now (then c.args.text.now 0 (ProcessPart ∷ []) (GroupsPart ∷ TokenPart CloseToken ∷ TokenPart SemicolonToken ∷ TokenPart BeginToken ∷ VariablesPart ∷ StatementPart ∷ TailPart StatementsTail ∷ TokenPart EndToken ∷ []) (TokenPart CloseToken ∷ TokenPart SemicolonToken ∷ TokenPart BeginToken ∷ VariablesPart ∷ StatementPart ∷ TailPart StatementsTail ∷ TokenPart EndToken ∷ []) c.args.input.now c.in_ok-rest-2.rest.now c.in_ok-parameters.rest.now (then c.args.text.now 0 (ProcessPart ∷ []) (TokenPart OpenToken ∷ GroupsPart ∷ TokenPart CloseToken ∷ TokenPart SemicolonToken ∷ TokenPart BeginToken ∷ VariablesPart ∷ StatementPart ∷ TailPart StatementsTail ∷ TokenPart EndToken ∷ []) (GroupsPart ∷ TokenPart CloseToken ∷ TokenPart SemicolonToken ∷ TokenPart BeginToken ∷ VariablesPart ∷ StatementPart ∷ TailPart StatementsTail ∷ TokenPart EndToken ∷ []) c.args.input.now c.in_ok-name.rest.now c.in_ok-rest-2.rest.now (then c.args.text.now 0 (ProcessPart ∷ []) (TokenPart NameToken ∷ TokenPart OpenToken ∷ GroupsPart ∷ TokenPart CloseToken ∷ TokenPart SemicolonToken ∷ TokenPart BeginToken ∷ VariablesPart ∷ StatementPart ∷ TailPart StatementsTail ∷ TokenPart EndToken ∷ []) (TokenPart OpenToken ∷ GroupsPart ∷ TokenPart CloseToken ∷ TokenPart SemicolonToken ∷ TokenPart BeginToken ∷ VariablesPart ∷ StatementPart ∷ TailPart StatementsTail ∷ TokenPart EndToken ∷ []) c.args.input.now c.in_ok-rest.rest.now c.in_ok-name.rest.now (one c.args.text.now 0 (ProcessPart) ([]) (TokenPart NameToken ∷ TokenPart OpenToken ∷ GroupsPart ∷ TokenPart CloseToken ∷ TokenPart SemicolonToken ∷ TokenPart BeginToken ∷ VariablesPart ∷ StatementPart ∷ TailPart StatementsTail ∷ TokenPart EndToken ∷ []) (word keyword.Process) c.args.input.now c.in_ok-rest.rest.now (λ s l. omega (arith, l)) (λ s. refl) (c.in_ok-rest.ensures.first.1 c.args.text.now)) (token c.args.text.now 0 NameToken (TokenPart OpenToken ∷ GroupsPart ∷ TokenPart CloseToken ∷ TokenPart SemicolonToken ∷ TokenPart BeginToken ∷ VariablesPart ∷ StatementPart ∷ TailPart StatementsTail ∷ TokenPart EndToken ∷ []) (name (name_of c.in_ok-name.name)) c.in_ok-rest.rest.now c.in_ok-name.rest.now (λ s l. omega (arith, l)) refl c.in_ok-name.ensures.words)) (expected c.args.text.now 0 OpenToken (GroupsPart ∷ TokenPart CloseToken ∷ TokenPart SemicolonToken ∷ TokenPart BeginToken ∷ VariablesPart ∷ StatementPart ∷ TailPart StatementsTail ∷ TokenPart EndToken ∷ []) (class.Sign mark.Open) c.in_ok-name.rest.now c.in_ok-rest-2.rest.now (λ s l. omega (arith, l)) refl c.in_ok-rest-2.ensures.first)) (call c.args.text.now 0 0 (GroupsPart) (TokenPart CloseToken ∷ TokenPart SemicolonToken ∷ TokenPart BeginToken ∷ VariablesPart ∷ StatementPart ∷ TailPart StatementsTail ∷ TokenPart EndToken ∷ []) c.in_ok-rest-2.rest.now c.in_ok-parameters.rest.now (λ s l. omega (arith, l)) c.in_ok-parameters.ensures.reads)) (expected c.args.text.now 0 CloseToken (TokenPart SemicolonToken ∷ TokenPart BeginToken ∷ VariablesPart ∷ StatementPart ∷ TailPart StatementsTail ∷ TokenPart EndToken ∷ []) (class.Sign mark.Close) c.in_ok-parameters.rest.now c.in_ok-rest-3.rest.now (λ s l. omega (arith, l)) refl c.in_ok-rest-3.ensures.first)) (expected c.args.text.now 0 SemicolonToken (TokenPart BeginToken ∷ VariablesPart ∷ StatementPart ∷ TailPart StatementsTail ∷ TokenPart EndToken ∷ []) (class.Sign mark.Semicolon) c.in_ok-rest-3.rest.now c.in_ok-rest-4.rest.now (λ s l. omega (arith, l)) refl c.in_ok-rest-4.ensures.first)) (expected c.args.text.now 0 BeginToken (VariablesPart ∷ StatementPart ∷ TailPart StatementsTail ∷ TokenPart EndToken ∷ []) (class.Word keyword.Begin) c.in_ok-rest-4.rest.now c.in_ok-rest-5.rest.now (λ s l. omega (arith, l)) refl c.in_ok-rest-5.ensures.first)) (call c.args.text.now 0 0 (VariablesPart) (StatementPart ∷ TailPart StatementsTail ∷ TokenPart EndToken ∷ []) c.in_ok-rest-5.rest.now c.in_ok-variables.rest.now (λ s l. omega (arith, l)) c.in_ok-variables.ensures.reads)) (call_two_stops c.args.text.now 0 0 (StatementPart) (TailPart StatementsTail) (TokenPart EndToken ∷ []) c.in_ok-variables.rest.now _ (λ s l. omega (arith, l)) c.in_err-statements.ensures.stops))
+pub returns-in_err-statements : goal.returns-in_err-statements
+returns-in_err-statements c =
+    let p = err_from_is_err_and c.from_residual-in_err-statements.result c.from_residual-in_err-statements.ensures.1 in rw (p.1, p.2) (then_stops c.args.text.now 0 (ProcessPart ∷ []) (StatementPart ∷ TailPart StatementsTail ∷ TokenPart EndToken ∷ []) c.args.input.now c.in_ok-variables.rest.now _ (then c.args.text.now 0 (ProcessPart ∷ []) (VariablesPart ∷ StatementPart ∷ TailPart StatementsTail ∷ TokenPart EndToken ∷ []) (StatementPart ∷ TailPart StatementsTail ∷ TokenPart EndToken ∷ []) c.args.input.now c.in_ok-rest-5.rest.now c.in_ok-variables.rest.now (then c.args.text.now 0 (ProcessPart ∷ []) (TokenPart BeginToken ∷ VariablesPart ∷ StatementPart ∷ TailPart StatementsTail ∷ TokenPart EndToken ∷ []) (VariablesPart ∷ StatementPart ∷ TailPart StatementsTail ∷ TokenPart EndToken ∷ []) c.args.input.now c.in_ok-rest-4.rest.now c.in_ok-rest-5.rest.now (then c.args.text.now 0 (ProcessPart ∷ []) (TokenPart SemicolonToken ∷ TokenPart BeginToken ∷ VariablesPart ∷ StatementPart ∷ TailPart StatementsTail ∷ TokenPart EndToken ∷ []) (TokenPart BeginToken ∷ VariablesPart ∷ StatementPart ∷ TailPart StatementsTail ∷ TokenPart EndToken ∷ []) c.args.input.now c.in_ok-rest-3.rest.now c.in_ok-rest-4.rest.now (then c.args.text.now 0 (ProcessPart ∷ []) (TokenPart CloseToken ∷ TokenPart SemicolonToken ∷ TokenPart BeginToken ∷ VariablesPart ∷ StatementPart ∷ TailPart StatementsTail ∷ TokenPart EndToken ∷ []) (TokenPart SemicolonToken ∷ TokenPart BeginToken ∷ VariablesPart ∷ StatementPart ∷ TailPart StatementsTail ∷ TokenPart EndToken ∷ []) c.args.input.now c.in_ok-parameters.rest.now c.in_ok-rest-3.rest.now (then c.args.text.now 0 (ProcessPart ∷ []) (GroupsPart ∷ TokenPart CloseToken ∷ TokenPart SemicolonToken ∷ TokenPart BeginToken ∷ VariablesPart ∷ StatementPart ∷ TailPart StatementsTail ∷ TokenPart EndToken ∷ []) (TokenPart CloseToken ∷ TokenPart SemicolonToken ∷ TokenPart BeginToken ∷ VariablesPart ∷ StatementPart ∷ TailPart StatementsTail ∷ TokenPart EndToken ∷ []) c.args.input.now c.in_ok-rest-2.rest.now c.in_ok-parameters.rest.now (then c.args.text.now 0 (ProcessPart ∷ []) (TokenPart OpenToken ∷ GroupsPart ∷ TokenPart CloseToken ∷ TokenPart SemicolonToken ∷ TokenPart BeginToken ∷ VariablesPart ∷ StatementPart ∷ TailPart StatementsTail ∷ TokenPart EndToken ∷ []) (GroupsPart ∷ TokenPart CloseToken ∷ TokenPart SemicolonToken ∷ TokenPart BeginToken ∷ VariablesPart ∷ StatementPart ∷ TailPart StatementsTail ∷ TokenPart EndToken ∷ []) c.args.input.now c.in_ok-name.rest.now c.in_ok-rest-2.rest.now (then c.args.text.now 0 (ProcessPart ∷ []) (TokenPart NameToken ∷ TokenPart OpenToken ∷ GroupsPart ∷ TokenPart CloseToken ∷ TokenPart SemicolonToken ∷ TokenPart BeginToken ∷ VariablesPart ∷ StatementPart ∷ TailPart StatementsTail ∷ TokenPart EndToken ∷ []) (TokenPart OpenToken ∷ GroupsPart ∷ TokenPart CloseToken ∷ TokenPart SemicolonToken ∷ TokenPart BeginToken ∷ VariablesPart ∷ StatementPart ∷ TailPart StatementsTail ∷ TokenPart EndToken ∷ []) c.args.input.now c.in_ok-rest.rest.now c.in_ok-name.rest.now (one c.args.text.now 0 (ProcessPart) ([]) (TokenPart NameToken ∷ TokenPart OpenToken ∷ GroupsPart ∷ TokenPart CloseToken ∷ TokenPart SemicolonToken ∷ TokenPart BeginToken ∷ VariablesPart ∷ StatementPart ∷ TailPart StatementsTail ∷ TokenPart EndToken ∷ []) (word keyword.Process) c.args.input.now c.in_ok-rest.rest.now (λ s l. omega (arith, l)) (λ s. refl) (c.in_ok-rest.ensures.first.1 c.args.text.now)) (token c.args.text.now 0 NameToken (TokenPart OpenToken ∷ GroupsPart ∷ TokenPart CloseToken ∷ TokenPart SemicolonToken ∷ TokenPart BeginToken ∷ VariablesPart ∷ StatementPart ∷ TailPart StatementsTail ∷ TokenPart EndToken ∷ []) (name (name_of c.in_ok-name.name)) c.in_ok-rest.rest.now c.in_ok-name.rest.now (λ s l. omega (arith, l)) refl c.in_ok-name.ensures.words)) (expected c.args.text.now 0 OpenToken (GroupsPart ∷ TokenPart CloseToken ∷ TokenPart SemicolonToken ∷ TokenPart BeginToken ∷ VariablesPart ∷ StatementPart ∷ TailPart StatementsTail ∷ TokenPart EndToken ∷ []) (class.Sign mark.Open) c.in_ok-name.rest.now c.in_ok-rest-2.rest.now (λ s l. omega (arith, l)) refl c.in_ok-rest-2.ensures.first)) (call c.args.text.now 0 0 (GroupsPart) (TokenPart CloseToken ∷ TokenPart SemicolonToken ∷ TokenPart BeginToken ∷ VariablesPart ∷ StatementPart ∷ TailPart StatementsTail ∷ TokenPart EndToken ∷ []) c.in_ok-rest-2.rest.now c.in_ok-parameters.rest.now (λ s l. omega (arith, l)) c.in_ok-parameters.ensures.reads)) (expected c.args.text.now 0 CloseToken (TokenPart SemicolonToken ∷ TokenPart BeginToken ∷ VariablesPart ∷ StatementPart ∷ TailPart StatementsTail ∷ TokenPart EndToken ∷ []) (class.Sign mark.Close) c.in_ok-parameters.rest.now c.in_ok-rest-3.rest.now (λ s l. omega (arith, l)) refl c.in_ok-rest-3.ensures.first)) (expected c.args.text.now 0 SemicolonToken (TokenPart BeginToken ∷ VariablesPart ∷ StatementPart ∷ TailPart StatementsTail ∷ TokenPart EndToken ∷ []) (class.Sign mark.Semicolon) c.in_ok-rest-3.rest.now c.in_ok-rest-4.rest.now (λ s l. omega (arith, l)) refl c.in_ok-rest-4.ensures.first)) (expected c.args.text.now 0 BeginToken (VariablesPart ∷ StatementPart ∷ TailPart StatementsTail ∷ TokenPart EndToken ∷ []) (class.Word keyword.Begin) c.in_ok-rest-4.rest.now c.in_ok-rest-5.rest.now (λ s l. omega (arith, l)) refl c.in_ok-rest-5.ensures.first)) (call c.args.text.now 0 0 (VariablesPart) (StatementPart ∷ TailPart StatementsTail ∷ TokenPart EndToken ∷ []) c.in_ok-rest-5.rest.now c.in_ok-variables.rest.now (λ s l. omega (arith, l)) c.in_ok-variables.ensures.reads)) (call_two_stops c.args.text.now 0 0 (StatementPart) (TailPart StatementsTail) (TokenPart EndToken ∷ []) c.in_ok-variables.rest.now _ (λ s l. omega (arith, l)) c.in_err-statements.ensures))
 
-pub returns-in_err-rest-6-clause-stops : goal.returns-in_err-rest-6-clause-stops
-returns-in_err-rest-6-clause-stops c =
+pub returns-in_err-rest-6 : goal.returns-in_err-rest-6
+returns-in_err-rest-6 c =
     let p = err_from_is_err_and c.from_residual-in_err-rest-6.result c.from_residual-in_err-rest-6.ensures.1 in rw (p.1, p.2) (then_stops c.args.text.now 0 (ProcessPart ∷ []) (TokenPart EndToken ∷ []) c.args.input.now c.in_ok-statements.rest.now _ (then c.args.text.now 0 (ProcessPart ∷ []) (StatementPart ∷ TailPart StatementsTail ∷ TokenPart EndToken ∷ []) (TokenPart EndToken ∷ []) c.args.input.now c.in_ok-variables.rest.now c.in_ok-statements.rest.now (then c.args.text.now 0 (ProcessPart ∷ []) (VariablesPart ∷ StatementPart ∷ TailPart StatementsTail ∷ TokenPart EndToken ∷ []) (StatementPart ∷ TailPart StatementsTail ∷ TokenPart EndToken ∷ []) c.args.input.now c.in_ok-rest-5.rest.now c.in_ok-variables.rest.now (then c.args.text.now 0 (ProcessPart ∷ []) (TokenPart BeginToken ∷ VariablesPart ∷ StatementPart ∷ TailPart StatementsTail ∷ TokenPart EndToken ∷ []) (VariablesPart ∷ StatementPart ∷ TailPart StatementsTail ∷ TokenPart EndToken ∷ []) c.args.input.now c.in_ok-rest-4.rest.now c.in_ok-rest-5.rest.now (then c.args.text.now 0 (ProcessPart ∷ []) (TokenPart SemicolonToken ∷ TokenPart BeginToken ∷ VariablesPart ∷ StatementPart ∷ TailPart StatementsTail ∷ TokenPart EndToken ∷ []) (TokenPart BeginToken ∷ VariablesPart ∷ StatementPart ∷ TailPart StatementsTail ∷ TokenPart EndToken ∷ []) c.args.input.now c.in_ok-rest-3.rest.now c.in_ok-rest-4.rest.now (then c.args.text.now 0 (ProcessPart ∷ []) (TokenPart CloseToken ∷ TokenPart SemicolonToken ∷ TokenPart BeginToken ∷ VariablesPart ∷ StatementPart ∷ TailPart StatementsTail ∷ TokenPart EndToken ∷ []) (TokenPart SemicolonToken ∷ TokenPart BeginToken ∷ VariablesPart ∷ StatementPart ∷ TailPart StatementsTail ∷ TokenPart EndToken ∷ []) c.args.input.now c.in_ok-parameters.rest.now c.in_ok-rest-3.rest.now (then c.args.text.now 0 (ProcessPart ∷ []) (GroupsPart ∷ TokenPart CloseToken ∷ TokenPart SemicolonToken ∷ TokenPart BeginToken ∷ VariablesPart ∷ StatementPart ∷ TailPart StatementsTail ∷ TokenPart EndToken ∷ []) (TokenPart CloseToken ∷ TokenPart SemicolonToken ∷ TokenPart BeginToken ∷ VariablesPart ∷ StatementPart ∷ TailPart StatementsTail ∷ TokenPart EndToken ∷ []) c.args.input.now c.in_ok-rest-2.rest.now c.in_ok-parameters.rest.now (then c.args.text.now 0 (ProcessPart ∷ []) (TokenPart OpenToken ∷ GroupsPart ∷ TokenPart CloseToken ∷ TokenPart SemicolonToken ∷ TokenPart BeginToken ∷ VariablesPart ∷ StatementPart ∷ TailPart StatementsTail ∷ TokenPart EndToken ∷ []) (GroupsPart ∷ TokenPart CloseToken ∷ TokenPart SemicolonToken ∷ TokenPart BeginToken ∷ VariablesPart ∷ StatementPart ∷ TailPart StatementsTail ∷ TokenPart EndToken ∷ []) c.args.input.now c.in_ok-name.rest.now c.in_ok-rest-2.rest.now (then c.args.text.now 0 (ProcessPart ∷ []) (TokenPart NameToken ∷ TokenPart OpenToken ∷ GroupsPart ∷ TokenPart CloseToken ∷ TokenPart SemicolonToken ∷ TokenPart BeginToken ∷ VariablesPart ∷ StatementPart ∷ TailPart StatementsTail ∷ TokenPart EndToken ∷ []) (TokenPart OpenToken ∷ GroupsPart ∷ TokenPart CloseToken ∷ TokenPart SemicolonToken ∷ TokenPart BeginToken ∷ VariablesPart ∷ StatementPart ∷ TailPart StatementsTail ∷ TokenPart EndToken ∷ []) c.args.input.now c.in_ok-rest.rest.now c.in_ok-name.rest.now (one c.args.text.now 0 (ProcessPart) ([]) (TokenPart NameToken ∷ TokenPart OpenToken ∷ GroupsPart ∷ TokenPart CloseToken ∷ TokenPart SemicolonToken ∷ TokenPart BeginToken ∷ VariablesPart ∷ StatementPart ∷ TailPart StatementsTail ∷ TokenPart EndToken ∷ []) (word keyword.Process) c.args.input.now c.in_ok-rest.rest.now (λ s l. omega (arith, l)) (λ s. refl) (c.in_ok-rest.ensures.first.1 c.args.text.now)) (token c.args.text.now 0 NameToken (TokenPart OpenToken ∷ GroupsPart ∷ TokenPart CloseToken ∷ TokenPart SemicolonToken ∷ TokenPart BeginToken ∷ VariablesPart ∷ StatementPart ∷ TailPart StatementsTail ∷ TokenPart EndToken ∷ []) (name (name_of c.in_ok-name.name)) c.in_ok-rest.rest.now c.in_ok-name.rest.now (λ s l. omega (arith, l)) refl c.in_ok-name.ensures.words)) (expected c.args.text.now 0 OpenToken (GroupsPart ∷ TokenPart CloseToken ∷ TokenPart SemicolonToken ∷ TokenPart BeginToken ∷ VariablesPart ∷ StatementPart ∷ TailPart StatementsTail ∷ TokenPart EndToken ∷ []) (class.Sign mark.Open) c.in_ok-name.rest.now c.in_ok-rest-2.rest.now (λ s l. omega (arith, l)) refl c.in_ok-rest-2.ensures.first)) (call c.args.text.now 0 0 (GroupsPart) (TokenPart CloseToken ∷ TokenPart SemicolonToken ∷ TokenPart BeginToken ∷ VariablesPart ∷ StatementPart ∷ TailPart StatementsTail ∷ TokenPart EndToken ∷ []) c.in_ok-rest-2.rest.now c.in_ok-parameters.rest.now (λ s l. omega (arith, l)) c.in_ok-parameters.ensures.reads)) (expected c.args.text.now 0 CloseToken (TokenPart SemicolonToken ∷ TokenPart BeginToken ∷ VariablesPart ∷ StatementPart ∷ TailPart StatementsTail ∷ TokenPart EndToken ∷ []) (class.Sign mark.Close) c.in_ok-parameters.rest.now c.in_ok-rest-3.rest.now (λ s l. omega (arith, l)) refl c.in_ok-rest-3.ensures.first)) (expected c.args.text.now 0 SemicolonToken (TokenPart BeginToken ∷ VariablesPart ∷ StatementPart ∷ TailPart StatementsTail ∷ TokenPart EndToken ∷ []) (class.Sign mark.Semicolon) c.in_ok-rest-3.rest.now c.in_ok-rest-4.rest.now (λ s l. omega (arith, l)) refl c.in_ok-rest-4.ensures.first)) (expected c.args.text.now 0 BeginToken (VariablesPart ∷ StatementPart ∷ TailPart StatementsTail ∷ TokenPart EndToken ∷ []) (class.Word keyword.Begin) c.in_ok-rest-4.rest.now c.in_ok-rest-5.rest.now (λ s l. omega (arith, l)) refl c.in_ok-rest-5.ensures.first)) (call c.args.text.now 0 0 (VariablesPart) (StatementPart ∷ TailPart StatementsTail ∷ TokenPart EndToken ∷ []) c.in_ok-rest-5.rest.now c.in_ok-variables.rest.now (λ s l. omega (arith, l)) c.in_ok-variables.ensures.reads)) (call_two c.args.text.now 0 0 (StatementPart) (TailPart StatementsTail) (TokenPart EndToken ∷ []) c.in_ok-variables.rest.now c.in_ok-statements.rest.now (λ s l. omega (arith, l)) c.in_ok-statements.ensures.reads)) (unexpected c.args.text.now 0 EndToken ([]) (class.Word keyword.End) c.in_ok-statements.rest.now _ refl c.in_err-rest-6.ensures.stop))
 
-pub returns-clause-proper : goal.returns-clause-proper
-returns-clause-proper c = c.in_ok-rest-6.ensures.proper c.args.text.now c.in_ok-statements.ensures.proper
-
-pub returns-clause-reads : goal.returns-clause-reads
-returns-clause-reads c = (then c.args.text.now 0 (ProcessPart ∷ []) (TokenPart EndToken ∷ []) ([]) c.args.input.now c.in_ok-statements.rest.now c.in_ok-rest-6.rest.now (then c.args.text.now 0 (ProcessPart ∷ []) (StatementPart ∷ TailPart StatementsTail ∷ TokenPart EndToken ∷ []) (TokenPart EndToken ∷ []) c.args.input.now c.in_ok-variables.rest.now c.in_ok-statements.rest.now (then c.args.text.now 0 (ProcessPart ∷ []) (VariablesPart ∷ StatementPart ∷ TailPart StatementsTail ∷ TokenPart EndToken ∷ []) (StatementPart ∷ TailPart StatementsTail ∷ TokenPart EndToken ∷ []) c.args.input.now c.in_ok-rest-5.rest.now c.in_ok-variables.rest.now (then c.args.text.now 0 (ProcessPart ∷ []) (TokenPart BeginToken ∷ VariablesPart ∷ StatementPart ∷ TailPart StatementsTail ∷ TokenPart EndToken ∷ []) (VariablesPart ∷ StatementPart ∷ TailPart StatementsTail ∷ TokenPart EndToken ∷ []) c.args.input.now c.in_ok-rest-4.rest.now c.in_ok-rest-5.rest.now (then c.args.text.now 0 (ProcessPart ∷ []) (TokenPart SemicolonToken ∷ TokenPart BeginToken ∷ VariablesPart ∷ StatementPart ∷ TailPart StatementsTail ∷ TokenPart EndToken ∷ []) (TokenPart BeginToken ∷ VariablesPart ∷ StatementPart ∷ TailPart StatementsTail ∷ TokenPart EndToken ∷ []) c.args.input.now c.in_ok-rest-3.rest.now c.in_ok-rest-4.rest.now (then c.args.text.now 0 (ProcessPart ∷ []) (TokenPart CloseToken ∷ TokenPart SemicolonToken ∷ TokenPart BeginToken ∷ VariablesPart ∷ StatementPart ∷ TailPart StatementsTail ∷ TokenPart EndToken ∷ []) (TokenPart SemicolonToken ∷ TokenPart BeginToken ∷ VariablesPart ∷ StatementPart ∷ TailPart StatementsTail ∷ TokenPart EndToken ∷ []) c.args.input.now c.in_ok-parameters.rest.now c.in_ok-rest-3.rest.now (then c.args.text.now 0 (ProcessPart ∷ []) (GroupsPart ∷ TokenPart CloseToken ∷ TokenPart SemicolonToken ∷ TokenPart BeginToken ∷ VariablesPart ∷ StatementPart ∷ TailPart StatementsTail ∷ TokenPart EndToken ∷ []) (TokenPart CloseToken ∷ TokenPart SemicolonToken ∷ TokenPart BeginToken ∷ VariablesPart ∷ StatementPart ∷ TailPart StatementsTail ∷ TokenPart EndToken ∷ []) c.args.input.now c.in_ok-rest-2.rest.now c.in_ok-parameters.rest.now (then c.args.text.now 0 (ProcessPart ∷ []) (TokenPart OpenToken ∷ GroupsPart ∷ TokenPart CloseToken ∷ TokenPart SemicolonToken ∷ TokenPart BeginToken ∷ VariablesPart ∷ StatementPart ∷ TailPart StatementsTail ∷ TokenPart EndToken ∷ []) (GroupsPart ∷ TokenPart CloseToken ∷ TokenPart SemicolonToken ∷ TokenPart BeginToken ∷ VariablesPart ∷ StatementPart ∷ TailPart StatementsTail ∷ TokenPart EndToken ∷ []) c.args.input.now c.in_ok-name.rest.now c.in_ok-rest-2.rest.now (then c.args.text.now 0 (ProcessPart ∷ []) (TokenPart NameToken ∷ TokenPart OpenToken ∷ GroupsPart ∷ TokenPart CloseToken ∷ TokenPart SemicolonToken ∷ TokenPart BeginToken ∷ VariablesPart ∷ StatementPart ∷ TailPart StatementsTail ∷ TokenPart EndToken ∷ []) (TokenPart OpenToken ∷ GroupsPart ∷ TokenPart CloseToken ∷ TokenPart SemicolonToken ∷ TokenPart BeginToken ∷ VariablesPart ∷ StatementPart ∷ TailPart StatementsTail ∷ TokenPart EndToken ∷ []) c.args.input.now c.in_ok-rest.rest.now c.in_ok-name.rest.now (one c.args.text.now 0 (ProcessPart) ([]) (TokenPart NameToken ∷ TokenPart OpenToken ∷ GroupsPart ∷ TokenPart CloseToken ∷ TokenPart SemicolonToken ∷ TokenPart BeginToken ∷ VariablesPart ∷ StatementPart ∷ TailPart StatementsTail ∷ TokenPart EndToken ∷ []) (word keyword.Process) c.args.input.now c.in_ok-rest.rest.now (λ s l. omega (arith, l)) (λ s. refl) (c.in_ok-rest.ensures.first.1 c.args.text.now)) (token c.args.text.now 0 NameToken (TokenPart OpenToken ∷ GroupsPart ∷ TokenPart CloseToken ∷ TokenPart SemicolonToken ∷ TokenPart BeginToken ∷ VariablesPart ∷ StatementPart ∷ TailPart StatementsTail ∷ TokenPart EndToken ∷ []) (name (name_of c.in_ok-name.name)) c.in_ok-rest.rest.now c.in_ok-name.rest.now (λ s l. omega (arith, l)) refl c.in_ok-name.ensures.words)) (expected c.args.text.now 0 OpenToken (GroupsPart ∷ TokenPart CloseToken ∷ TokenPart SemicolonToken ∷ TokenPart BeginToken ∷ VariablesPart ∷ StatementPart ∷ TailPart StatementsTail ∷ TokenPart EndToken ∷ []) (class.Sign mark.Open) c.in_ok-name.rest.now c.in_ok-rest-2.rest.now (λ s l. omega (arith, l)) refl c.in_ok-rest-2.ensures.first)) (call c.args.text.now 0 0 (GroupsPart) (TokenPart CloseToken ∷ TokenPart SemicolonToken ∷ TokenPart BeginToken ∷ VariablesPart ∷ StatementPart ∷ TailPart StatementsTail ∷ TokenPart EndToken ∷ []) c.in_ok-rest-2.rest.now c.in_ok-parameters.rest.now (λ s l. omega (arith, l)) c.in_ok-parameters.ensures.reads)) (expected c.args.text.now 0 CloseToken (TokenPart SemicolonToken ∷ TokenPart BeginToken ∷ VariablesPart ∷ StatementPart ∷ TailPart StatementsTail ∷ TokenPart EndToken ∷ []) (class.Sign mark.Close) c.in_ok-parameters.rest.now c.in_ok-rest-3.rest.now (λ s l. omega (arith, l)) refl c.in_ok-rest-3.ensures.first)) (expected c.args.text.now 0 SemicolonToken (TokenPart BeginToken ∷ VariablesPart ∷ StatementPart ∷ TailPart StatementsTail ∷ TokenPart EndToken ∷ []) (class.Sign mark.Semicolon) c.in_ok-rest-3.rest.now c.in_ok-rest-4.rest.now (λ s l. omega (arith, l)) refl c.in_ok-rest-4.ensures.first)) (expected c.args.text.now 0 BeginToken (VariablesPart ∷ StatementPart ∷ TailPart StatementsTail ∷ TokenPart EndToken ∷ []) (class.Word keyword.Begin) c.in_ok-rest-4.rest.now c.in_ok-rest-5.rest.now (λ s l. omega (arith, l)) refl c.in_ok-rest-5.ensures.first)) (call c.args.text.now 0 0 (VariablesPart) (StatementPart ∷ TailPart StatementsTail ∷ TokenPart EndToken ∷ []) c.in_ok-rest-5.rest.now c.in_ok-variables.rest.now (λ s l. omega (arith, l)) c.in_ok-variables.ensures.reads)) (call_two c.args.text.now 0 0 (StatementPart) (TailPart StatementsTail) (TokenPart EndToken ∷ []) c.in_ok-variables.rest.now c.in_ok-statements.rest.now (λ s l. omega (arith, l)) c.in_ok-statements.ensures.reads)) (expected c.args.text.now 0 EndToken ([]) (class.Word keyword.End) c.in_ok-statements.rest.now c.in_ok-rest-6.rest.now (λ s l. omega (arith, l)) refl c.in_ok-rest-6.ensures.first))
-
-pub returns-clause-spans : goal.returns-clause-spans
-returns-clause-spans c =
-    let T = c.args.text.now in
+pub returns : goal.returns
+returns c =
     record {
-      a = c.in_ok-rest.rest.now;
-      b = c.in_ok-name.rest.now;
-      c = c.in_ok-rest-2.rest.now;
-      d = c.in_ok-parameters.rest.now;
-      e = c.in_ok-rest-3.rest.now;
-      f = c.in_ok-rest-4.rest.now;
-      g = c.in_ok-rest-5.rest.now;
-      h = c.in_ok-variables.rest.now;
-      i = c.in_ok-statements.rest.now;
-      begins = (S.takes T (word keyword.Process) c.args.input.now c.in_ok-rest.rest.now c.in_ok-rest.ensures.passed (c.in_ok-rest.ensures.first.1 T));
-      named = c.in_ok-name.ensures.spans;
-      opened = (S.takes T (sign mark.Open) c.in_ok-name.rest.now c.in_ok-rest-2.rest.now c.in_ok-rest-2.ensures.passed (c.in_ok-rest-2.ensures.first.1 T));
-      parameters = c.in_ok-parameters.ensures.spans;
-      closed = (S.takes T (sign mark.Close) c.in_ok-parameters.rest.now c.in_ok-rest-3.rest.now c.in_ok-rest-3.ensures.passed (c.in_ok-rest-3.ensures.first.1 T));
-      parted = (S.takes T (sign mark.Semicolon) c.in_ok-rest-3.rest.now c.in_ok-rest-4.rest.now c.in_ok-rest-4.ensures.passed (c.in_ok-rest-4.ensures.first.1 T));
-      begun = (S.takes T (word keyword.Begin) c.in_ok-rest-4.rest.now c.in_ok-rest-5.rest.now c.in_ok-rest-5.ensures.passed (c.in_ok-rest-5.ensures.first.1 T));
-      variables = c.in_ok-variables.ensures.spans;
-      statements = c.in_ok-statements.ensures.spans;
-      ended = (S.takes T (word keyword.End) c.in_ok-statements.rest.now c.in_ok-rest-6.rest.now c.in_ok-rest-6.ensures.passed (c.in_ok-rest-6.ensures.first.1 T));
+      words = (
+        let k = terminals c.args.text.now in
+            process_declares (name_of c.in_ok-name.name) (map parameter_of c.in_ok-parameters.parameters.items) (map variable_of c.in_ok-variables.variables.items) (statements_of c.in_ok-statements.statements.items)
+            (k c.args.input.now) (k c.in_ok-rest.rest.now) (k c.in_ok-name.rest.now) (k c.in_ok-rest-2.rest.now) (k c.in_ok-parameters.rest.now) (k c.in_ok-rest-3.rest.now) (k c.in_ok-rest-4.rest.now) (k c.in_ok-rest-5.rest.now) (k c.in_ok-variables.rest.now) (k c.in_ok-statements.rest.now) (k c.in_ok-rest-6.rest.now)
+            (c.in_ok-rest.ensures.first.1 c.args.text.now) c.in_ok-name.ensures.words (c.in_ok-rest-2.ensures.first.1 c.args.text.now) c.in_ok-parameters.ensures.words (c.in_ok-rest-3.ensures.first.1 c.args.text.now) (c.in_ok-rest-4.ensures.first.1 c.args.text.now) (c.in_ok-rest-5.ensures.first.1 c.args.text.now) c.in_ok-variables.ensures.words c.in_ok-statements.ensures.words (c.in_ok-rest-6.ensures.first.1 c.args.text.now) c.in_ok-statements.ensures.some c.in_ok-statements.ensures.formed,
+        omega (arith, c.in_ok-statements.ensures.nesting),
+      );
+      spans = let T = c.args.text.now in
+          record {
+            a = c.in_ok-rest.rest.now;
+            b = c.in_ok-name.rest.now;
+            c = c.in_ok-rest-2.rest.now;
+            d = c.in_ok-parameters.rest.now;
+            e = c.in_ok-rest-3.rest.now;
+            f = c.in_ok-rest-4.rest.now;
+            g = c.in_ok-rest-5.rest.now;
+            h = c.in_ok-variables.rest.now;
+            i = c.in_ok-statements.rest.now;
+            begins = (S.takes T (word keyword.Process) c.args.input.now c.in_ok-rest.rest.now c.in_ok-rest.ensures.passed (c.in_ok-rest.ensures.first.1 T));
+            named = c.in_ok-name.ensures.spans;
+            opened = (S.takes T (sign mark.Open) c.in_ok-name.rest.now c.in_ok-rest-2.rest.now c.in_ok-rest-2.ensures.passed (c.in_ok-rest-2.ensures.first.1 T));
+            parameters = c.in_ok-parameters.ensures.spans;
+            closed = (S.takes T (sign mark.Close) c.in_ok-parameters.rest.now c.in_ok-rest-3.rest.now c.in_ok-rest-3.ensures.passed (c.in_ok-rest-3.ensures.first.1 T));
+            parted = (S.takes T (sign mark.Semicolon) c.in_ok-rest-3.rest.now c.in_ok-rest-4.rest.now c.in_ok-rest-4.ensures.passed (c.in_ok-rest-4.ensures.first.1 T));
+            begun = (S.takes T (word keyword.Begin) c.in_ok-rest-4.rest.now c.in_ok-rest-5.rest.now c.in_ok-rest-5.ensures.passed (c.in_ok-rest-5.ensures.first.1 T));
+            variables = c.in_ok-variables.ensures.spans;
+            statements = c.in_ok-statements.ensures.spans;
+            ended = (S.takes T (word keyword.End) c.in_ok-statements.rest.now c.in_ok-rest-6.rest.now c.in_ok-rest-6.ensures.passed (c.in_ok-rest-6.ensures.first.1 T));
+          };
+      shorter = omega (arith, c.in_ok-rest.ensures.shorter, c.in_ok-name.ensures.shorter, c.in_ok-rest-2.ensures.shorter, c.in_ok-parameters.ensures.shorter, c.in_ok-rest-3.ensures.shorter, c.in_ok-rest-4.ensures.shorter, c.in_ok-rest-5.ensures.shorter, c.in_ok-variables.ensures.shorter, c.in_ok-statements.ensures.shorter, c.in_ok-rest-6.ensures.shorter);
+      proper = c.in_ok-rest-6.ensures.proper c.args.text.now c.in_ok-statements.ensures.proper;
+      reads = (then c.args.text.now 0 (ProcessPart ∷ []) (TokenPart EndToken ∷ []) ([]) c.args.input.now c.in_ok-statements.rest.now c.in_ok-rest-6.rest.now (then c.args.text.now 0 (ProcessPart ∷ []) (StatementPart ∷ TailPart StatementsTail ∷ TokenPart EndToken ∷ []) (TokenPart EndToken ∷ []) c.args.input.now c.in_ok-variables.rest.now c.in_ok-statements.rest.now (then c.args.text.now 0 (ProcessPart ∷ []) (VariablesPart ∷ StatementPart ∷ TailPart StatementsTail ∷ TokenPart EndToken ∷ []) (StatementPart ∷ TailPart StatementsTail ∷ TokenPart EndToken ∷ []) c.args.input.now c.in_ok-rest-5.rest.now c.in_ok-variables.rest.now (then c.args.text.now 0 (ProcessPart ∷ []) (TokenPart BeginToken ∷ VariablesPart ∷ StatementPart ∷ TailPart StatementsTail ∷ TokenPart EndToken ∷ []) (VariablesPart ∷ StatementPart ∷ TailPart StatementsTail ∷ TokenPart EndToken ∷ []) c.args.input.now c.in_ok-rest-4.rest.now c.in_ok-rest-5.rest.now (then c.args.text.now 0 (ProcessPart ∷ []) (TokenPart SemicolonToken ∷ TokenPart BeginToken ∷ VariablesPart ∷ StatementPart ∷ TailPart StatementsTail ∷ TokenPart EndToken ∷ []) (TokenPart BeginToken ∷ VariablesPart ∷ StatementPart ∷ TailPart StatementsTail ∷ TokenPart EndToken ∷ []) c.args.input.now c.in_ok-rest-3.rest.now c.in_ok-rest-4.rest.now (then c.args.text.now 0 (ProcessPart ∷ []) (TokenPart CloseToken ∷ TokenPart SemicolonToken ∷ TokenPart BeginToken ∷ VariablesPart ∷ StatementPart ∷ TailPart StatementsTail ∷ TokenPart EndToken ∷ []) (TokenPart SemicolonToken ∷ TokenPart BeginToken ∷ VariablesPart ∷ StatementPart ∷ TailPart StatementsTail ∷ TokenPart EndToken ∷ []) c.args.input.now c.in_ok-parameters.rest.now c.in_ok-rest-3.rest.now (then c.args.text.now 0 (ProcessPart ∷ []) (GroupsPart ∷ TokenPart CloseToken ∷ TokenPart SemicolonToken ∷ TokenPart BeginToken ∷ VariablesPart ∷ StatementPart ∷ TailPart StatementsTail ∷ TokenPart EndToken ∷ []) (TokenPart CloseToken ∷ TokenPart SemicolonToken ∷ TokenPart BeginToken ∷ VariablesPart ∷ StatementPart ∷ TailPart StatementsTail ∷ TokenPart EndToken ∷ []) c.args.input.now c.in_ok-rest-2.rest.now c.in_ok-parameters.rest.now (then c.args.text.now 0 (ProcessPart ∷ []) (TokenPart OpenToken ∷ GroupsPart ∷ TokenPart CloseToken ∷ TokenPart SemicolonToken ∷ TokenPart BeginToken ∷ VariablesPart ∷ StatementPart ∷ TailPart StatementsTail ∷ TokenPart EndToken ∷ []) (GroupsPart ∷ TokenPart CloseToken ∷ TokenPart SemicolonToken ∷ TokenPart BeginToken ∷ VariablesPart ∷ StatementPart ∷ TailPart StatementsTail ∷ TokenPart EndToken ∷ []) c.args.input.now c.in_ok-name.rest.now c.in_ok-rest-2.rest.now (then c.args.text.now 0 (ProcessPart ∷ []) (TokenPart NameToken ∷ TokenPart OpenToken ∷ GroupsPart ∷ TokenPart CloseToken ∷ TokenPart SemicolonToken ∷ TokenPart BeginToken ∷ VariablesPart ∷ StatementPart ∷ TailPart StatementsTail ∷ TokenPart EndToken ∷ []) (TokenPart OpenToken ∷ GroupsPart ∷ TokenPart CloseToken ∷ TokenPart SemicolonToken ∷ TokenPart BeginToken ∷ VariablesPart ∷ StatementPart ∷ TailPart StatementsTail ∷ TokenPart EndToken ∷ []) c.args.input.now c.in_ok-rest.rest.now c.in_ok-name.rest.now (one c.args.text.now 0 (ProcessPart) ([]) (TokenPart NameToken ∷ TokenPart OpenToken ∷ GroupsPart ∷ TokenPart CloseToken ∷ TokenPart SemicolonToken ∷ TokenPart BeginToken ∷ VariablesPart ∷ StatementPart ∷ TailPart StatementsTail ∷ TokenPart EndToken ∷ []) (word keyword.Process) c.args.input.now c.in_ok-rest.rest.now (λ s l. omega (arith, l)) (λ s. refl) (c.in_ok-rest.ensures.first.1 c.args.text.now)) (token c.args.text.now 0 NameToken (TokenPart OpenToken ∷ GroupsPart ∷ TokenPart CloseToken ∷ TokenPart SemicolonToken ∷ TokenPart BeginToken ∷ VariablesPart ∷ StatementPart ∷ TailPart StatementsTail ∷ TokenPart EndToken ∷ []) (name (name_of c.in_ok-name.name)) c.in_ok-rest.rest.now c.in_ok-name.rest.now (λ s l. omega (arith, l)) refl c.in_ok-name.ensures.words)) (expected c.args.text.now 0 OpenToken (GroupsPart ∷ TokenPart CloseToken ∷ TokenPart SemicolonToken ∷ TokenPart BeginToken ∷ VariablesPart ∷ StatementPart ∷ TailPart StatementsTail ∷ TokenPart EndToken ∷ []) (class.Sign mark.Open) c.in_ok-name.rest.now c.in_ok-rest-2.rest.now (λ s l. omega (arith, l)) refl c.in_ok-rest-2.ensures.first)) (call c.args.text.now 0 0 (GroupsPart) (TokenPart CloseToken ∷ TokenPart SemicolonToken ∷ TokenPart BeginToken ∷ VariablesPart ∷ StatementPart ∷ TailPart StatementsTail ∷ TokenPart EndToken ∷ []) c.in_ok-rest-2.rest.now c.in_ok-parameters.rest.now (λ s l. omega (arith, l)) c.in_ok-parameters.ensures.reads)) (expected c.args.text.now 0 CloseToken (TokenPart SemicolonToken ∷ TokenPart BeginToken ∷ VariablesPart ∷ StatementPart ∷ TailPart StatementsTail ∷ TokenPart EndToken ∷ []) (class.Sign mark.Close) c.in_ok-parameters.rest.now c.in_ok-rest-3.rest.now (λ s l. omega (arith, l)) refl c.in_ok-rest-3.ensures.first)) (expected c.args.text.now 0 SemicolonToken (TokenPart BeginToken ∷ VariablesPart ∷ StatementPart ∷ TailPart StatementsTail ∷ TokenPart EndToken ∷ []) (class.Sign mark.Semicolon) c.in_ok-rest-3.rest.now c.in_ok-rest-4.rest.now (λ s l. omega (arith, l)) refl c.in_ok-rest-4.ensures.first)) (expected c.args.text.now 0 BeginToken (VariablesPart ∷ StatementPart ∷ TailPart StatementsTail ∷ TokenPart EndToken ∷ []) (class.Word keyword.Begin) c.in_ok-rest-4.rest.now c.in_ok-rest-5.rest.now (λ s l. omega (arith, l)) refl c.in_ok-rest-5.ensures.first)) (call c.args.text.now 0 0 (VariablesPart) (StatementPart ∷ TailPart StatementsTail ∷ TokenPart EndToken ∷ []) c.in_ok-rest-5.rest.now c.in_ok-variables.rest.now (λ s l. omega (arith, l)) c.in_ok-variables.ensures.reads)) (call_two c.args.text.now 0 0 (StatementPart) (TailPart StatementsTail) (TokenPart EndToken ∷ []) c.in_ok-variables.rest.now c.in_ok-statements.rest.now (λ s l. omega (arith, l)) c.in_ok-statements.ensures.reads)) (expected c.args.text.now 0 EndToken ([]) (class.Word keyword.End) c.in_ok-statements.rest.now c.in_ok-rest-6.rest.now (λ s l. omega (arith, l)) refl c.in_ok-rest-6.ensures.first));
     }

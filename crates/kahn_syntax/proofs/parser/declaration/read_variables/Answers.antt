@@ -16,28 +16,25 @@ use Rattle.kahn_syntax.proofs.parser.declaration.read_variables.Goals as goal
 pub read_names-requires : goal.read_names-requires
 read_names-requires c = record { proper = c.in-Some.ensures.proper c.args.text.now c.variables.invariant.proper }
 
-pub returns-in_err-names-clause-stops : goal.returns-in_err-names-clause-stops
-returns-in_err-names-clause-stops c =
-    let p = err_from_is_err_and c.from_residual.result c.from_residual.ensures.1 in rw (p.1, p.2) (then_stops c.args.text.now 0 (VariablesPart ∷ []) (TokenPart NameToken ∷ TailPart NamesTail ∷ TokenPart SemicolonToken ∷ VariablesPart ∷ []) c.args.input.now c.in-Some.after.now _ (then c.args.text.now 0 (VariablesPart ∷ []) (VariablesPart ∷ []) (TokenPart NameToken ∷ TailPart NamesTail ∷ TokenPart SemicolonToken ∷ VariablesPart ∷ []) c.args.input.now c.variables.rest.now c.in-Some.after.now (c.variables.invariant.reads) (kind_moves c.args.text.now 0 VariablesPart [] (TokenPart NameToken ∷ TailPart NamesTail ∷ TokenPart SemicolonToken ∷ VariablesPart ∷ []) c.in-Some.kind c.variables.rest.now c.in-Some.after.now (λ s l. omega (arith, l)) (λ s. refl) (λ s. refl) (c.in-Some.ensures.first c.args.text.now))) (call_two_stops c.args.text.now 0 0 (TokenPart NameToken) (TailPart NamesTail) (TokenPart SemicolonToken ∷ VariablesPart ∷ []) c.in-Some.after.now _ (λ s l. omega (arith, l)) c.in_err-names.ensures.stops))
+pub returns-in_err-names : goal.returns-in_err-names
+returns-in_err-names c =
+    let p = err_from_is_err_and c.from_residual.result c.from_residual.ensures.1 in rw (p.1, p.2) (then_stops c.args.text.now 0 (VariablesPart ∷ []) (TokenPart NameToken ∷ TailPart NamesTail ∷ TokenPart SemicolonToken ∷ VariablesPart ∷ []) c.args.input.now c.in-Some.after.now _ (then c.args.text.now 0 (VariablesPart ∷ []) (VariablesPart ∷ []) (TokenPart NameToken ∷ TailPart NamesTail ∷ TokenPart SemicolonToken ∷ VariablesPart ∷ []) c.args.input.now c.variables.rest.now c.in-Some.after.now (c.variables.invariant.reads) (kind_moves c.args.text.now 0 VariablesPart [] (TokenPart NameToken ∷ TailPart NamesTail ∷ TokenPart SemicolonToken ∷ VariablesPart ∷ []) c.in-Some.kind c.variables.rest.now c.in-Some.after.now (λ s l. omega (arith, l)) (λ s. refl) (λ s. refl) (c.in-Some.ensures.first c.args.text.now))) (call_two_stops c.args.text.now 0 0 (TokenPart NameToken) (TailPart NamesTail) (TokenPart SemicolonToken ∷ VariablesPart ∷ []) c.in-Some.after.now _ (λ s l. omega (arith, l)) c.in_err-names.ensures))
 
-pub returns-in_err-after-clause-stops : goal.returns-in_err-after-clause-stops
-returns-in_err-after-clause-stops c =
+pub returns-in_err-after : goal.returns-in_err-after
+returns-in_err-after c =
     let p = err_from_is_err_and c.from_residual-in_err-after.result c.from_residual-in_err-after.ensures.1 in rw (p.1, p.2) (then_stops c.args.text.now 0 (VariablesPart ∷ []) (TokenPart SemicolonToken ∷ VariablesPart ∷ []) c.args.input.now c.in_ok-names.after.now _ (then c.args.text.now 0 (VariablesPart ∷ []) (TokenPart NameToken ∷ TailPart NamesTail ∷ TokenPart SemicolonToken ∷ VariablesPart ∷ []) (TokenPart SemicolonToken ∷ VariablesPart ∷ []) c.args.input.now c.in-Some.after.now c.in_ok-names.after.now (then c.args.text.now 0 (VariablesPart ∷ []) (VariablesPart ∷ []) (TokenPart NameToken ∷ TailPart NamesTail ∷ TokenPart SemicolonToken ∷ VariablesPart ∷ []) c.args.input.now c.variables.rest.now c.in-Some.after.now (c.variables.invariant.reads) (kind_moves c.args.text.now 0 VariablesPart [] (TokenPart NameToken ∷ TailPart NamesTail ∷ TokenPart SemicolonToken ∷ VariablesPart ∷ []) c.in-Some.kind c.variables.rest.now c.in-Some.after.now (λ s l. omega (arith, l)) (λ s. refl) (λ s. refl) (c.in-Some.ensures.first c.args.text.now))) (call_two c.args.text.now 0 0 (TokenPart NameToken) (TailPart NamesTail) (TokenPart SemicolonToken ∷ VariablesPart ∷ []) c.in-Some.after.now c.in_ok-names.after.now (λ s l. omega (arith, l)) c.in_ok-names.ensures.reads)) (unexpected c.args.text.now 0 SemicolonToken (VariablesPart ∷ []) (class.Sign mark.Semicolon) c.in_ok-names.after.now _ refl c.in_err-after.ensures.stop))
 
 pub variables-preserved : goal.variables-preserved
 variables-preserved c =
     record {
       words = variables_next _ _ c.in-Some.kind (map name_of c.in_ok-names.names.items) _ _ _ _ _ c.variables.invariant.words (c.in-Some.ensures.first c.args.text.now)
-          c.in_ok-names.ensures.words (c.in_ok-after.ensures.first.1 c.args.text.now) c.in_ok-names.ensures.some c.in_ok-add_variables.ensures.added;
+          c.in_ok-names.ensures.words.1 (c.in_ok-after.ensures.first.1 c.args.text.now) c.in_ok-names.ensures.words.0 c.in_ok-add_variables.ensures.added;
       spans = (let T = c.args.text.now in S.variables_next T _ _ c.in-Some.kind c.in_ok-names.names.items c.args.input.now c.variables.rest.now c.in-Some.after.now c.in_ok-names.after.now c.in_ok-after.after.now c.in_ok-add_variables.ensures.items c.variables.invariant.spans
           (S.takes T (kind_terminal c.in-Some.kind) c.variables.rest.now c.in-Some.after.now c.in-Some.ensures.passed (c.in-Some.ensures.first T)) c.in_ok-names.ensures.spans (S.takes T (sign mark.Semicolon) c.in_ok-names.after.now c.in_ok-after.after.now c.in_ok-after.ensures.passed (c.in_ok-after.ensures.first.1 T)));
       shorter = omega (arith, c.in-Some.ensures.shorter, c.in_ok-names.ensures.shorter, c.in_ok-after.ensures.shorter, c.variables.invariant.shorter);
       proper = c.in_ok-after.ensures.proper c.args.text.now c.in_ok-names.ensures.proper;
       reads = (then c.args.text.now 0 (VariablesPart ∷ []) (TokenPart SemicolonToken ∷ VariablesPart ∷ []) (VariablesPart ∷ []) c.args.input.now c.in_ok-names.after.now c.in_ok-after.after.now (then c.args.text.now 0 (VariablesPart ∷ []) (TokenPart NameToken ∷ TailPart NamesTail ∷ TokenPart SemicolonToken ∷ VariablesPart ∷ []) (TokenPart SemicolonToken ∷ VariablesPart ∷ []) c.args.input.now c.in-Some.after.now c.in_ok-names.after.now (then c.args.text.now 0 (VariablesPart ∷ []) (VariablesPart ∷ []) (TokenPart NameToken ∷ TailPart NamesTail ∷ TokenPart SemicolonToken ∷ VariablesPart ∷ []) c.args.input.now c.variables.rest.now c.in-Some.after.now (c.variables.invariant.reads) (kind_moves c.args.text.now 0 VariablesPart [] (TokenPart NameToken ∷ TailPart NamesTail ∷ TokenPart SemicolonToken ∷ VariablesPart ∷ []) c.in-Some.kind c.variables.rest.now c.in-Some.after.now (λ s l. omega (arith, l)) (λ s. refl) (λ s. refl) (c.in-Some.ensures.first c.args.text.now))) (call_two c.args.text.now 0 0 (TokenPart NameToken) (TailPart NamesTail) (TokenPart SemicolonToken ∷ VariablesPart ∷ []) c.in-Some.after.now c.in_ok-names.after.now (λ s l. omega (arith, l)) c.in_ok-names.ensures.reads)) (expected c.args.text.now 0 SemicolonToken (VariablesPart ∷ []) (class.Sign mark.Semicolon) c.in_ok-names.after.now c.in_ok-after.after.now (λ s l. omega (arith, l)) refl c.in_ok-after.ensures.first));
     }
-
-pub returns-clause-reads : goal.returns-clause-reads
-returns-clause-reads c = (then c.args.text.now 0 (VariablesPart ∷ []) (VariablesPart ∷ []) ([]) c.args.input.now c.variables.rest.now c.variables.rest.now (c.variables.invariant.reads) (variables_end c.args.text.now [] c.variables.rest.now (c.in_default.ensures.leads c.args.text.now)))
 
 pub variables-init : goal.variables-init
 variables-init c =
@@ -48,4 +45,14 @@ variables-init c =
       shorter = omega arith;
       proper = c.requires.proper;
       reads = λ s l. refl;
+    }
+
+pub returns : goal.returns
+returns c =
+    record {
+      words = c.variables.invariant.words;
+      spans = c.variables.invariant.spans;
+      shorter = c.variables.invariant.shorter;
+      proper = c.variables.invariant.proper;
+      reads = (then c.args.text.now 0 (VariablesPart ∷ []) (VariablesPart ∷ []) ([]) c.args.input.now c.variables.rest.now c.variables.rest.now (c.variables.invariant.reads) (variables_end c.args.text.now [] c.variables.rest.now (c.in_default.ensures.leads c.args.text.now)));
     }

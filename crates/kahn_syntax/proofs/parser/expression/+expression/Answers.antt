@@ -3,11 +3,11 @@ use Rattle.std.proofs.lemmas.Result.{err_from_is_err_and}
 use Rattle.kahn_syntax.specs.declared.lexeme.Keyword.TheVariants as keyword
 use Rattle.kahn_syntax.specs.declared.lexeme.Sign.TheVariants as mark
 use Rattle.kahn_syntax.specs.declared.lexeme.Class.TheVariants as class
-use Rattle.kahn_syntax.specs.Terminals.{word, sign, number, terminals}
-use Rattle.kahn_syntax.specs.Rungs.{whole, ors, denials, relations, sums, factors, rung_of, tighter}
+use Rattle.kahn_syntax.specs.Terminals.{word, sign, number, name, terminals}
+use Rattle.kahn_syntax.specs.Rungs.{whole, ors, denials, relations, sums, factors, rung_of, tighter, at}
 use Rattle.kahn_syntax.specs.Machine.{CloseToken, ElseToken, ThenToken, ExpressionPart, OperatorsPart, TokenPart, LevelPart}
-use Rattle.kahn_syntax.specs.Drawn.{expression_of}
-use Rattle.kahn_syntax.proofs.Moves.{opens_whole, opens_chain, operators_end, comparison, level_chain, operator_more, only_memory, leads_factor, no_factor, reads_by, stops_by, then, then_stops, call, call_stops, call_two_stops, one, deep, expected, level_ends, unexpected}
+use Rattle.kahn_syntax.specs.Drawn.{expression_of, name_of}
+use Rattle.kahn_syntax.proofs.Moves.{opens_whole, opens_chain, operators_end, comparison, level_chain, operator_more, only_memory, leads_factor, no_factor, opens_denial, level_end, opened, no_memory, then, then_stops, call, call_stops, call_two_stops, one, deep, expected, level_ends, unexpected}
 use Rattle.std.proofs.Common.{w64}
 use Rattle.std.proofs.lemmas.Int.{to_z-of_z}
 use Rattle.kahn_syntax.proofs.Negative.{number_fits}
@@ -16,23 +16,23 @@ use Rattle.kahn_syntax.specs.Spans.{Takes, OperandsSpan}
 use Rattle.kahn_syntax.proofs.Spanning as S
 use Rattle.kahn_syntax.proofs.Stacks as K
 use Rattle.kahn_syntax.specs.Machine.{token_of}
-use Rattle.kahn_syntax.specs.Trees.{operator_terminal, operands_nesting, FormedOperands}
+use Rattle.kahn_syntax.specs.Trees.{operator_terminal, expression_nesting, operands_nesting, FormedOperands}
 use Rattle.kahn_syntax.specs.Drawn.{operands_of}
-use Rattle.kahn_syntax.specs.Reads.{rank_of}
+use Rattle.kahn_syntax.specs.Reads.{rank_of, Fits}
 use Rattle.kahn_syntax.proofs.Lists.{first_of}
-use Rattle.kahn_syntax.proofs.Levels.{operands_nesting_next, formed_next}
+use Rattle.kahn_syntax.proofs.Levels.{operands_nesting_next, formed_next, level_fits, joined_nesting, compared_fits}
 use Rattle.kahn_syntax.proofs.parser.expression.+expression.Goals as goal
 
-pub read_level-returns-in_err-first-clause-stops : goal.read_level-returns-in_err-first-clause-stops
-read_level-returns-in_err-first-clause-stops t c =
-    let p = err_from_is_err_and c.from_residual.result c.from_residual.ensures.1 in rw (p.1, p.2) (then_stops c.args.text.now c.args.depth (ExpressionPart (rung_of c.args.level) ∷ []) (ExpressionPart (tighter (rung_of c.args.level)) ∷ OperatorsPart (rung_of c.args.level) ∷ []) c.args.input.now c.args.input.now _ (opens_chain c.args.text.now c.args.depth (rung_of c.args.level) [] c.args.input.now (level_chain c.args.level)) (call_stops c.args.text.now c.args.depth c.args.depth (ExpressionPart (tighter (rung_of c.args.level))) (OperatorsPart (rung_of c.args.level) ∷ []) c.args.input.now _ (λ s l. omega (arith, l, c.requires.1.1.0)) c.in_err-first.ensures.stops))
+pub read_level-returns-in_err-first : goal.read_level-returns-in_err-first
+read_level-returns-in_err-first t c =
+    let p = err_from_is_err_and c.from_residual.result c.from_residual.ensures.1 in rw (p.1, p.2) (then_stops c.args.text.now c.args.depth (ExpressionPart (rung_of c.args.level) ∷ []) (ExpressionPart (tighter (rung_of c.args.level)) ∷ OperatorsPart (rung_of c.args.level) ∷ []) c.args.input.now c.args.input.now _ (opens_chain c.args.text.now c.args.depth (rung_of c.args.level) [] c.args.input.now (level_chain c.args.level)) (call_stops c.args.text.now c.args.depth c.args.depth (ExpressionPart (tighter (rung_of c.args.level))) (OperatorsPart (rung_of c.args.level) ∷ []) c.args.input.now _ (λ s l. omega (arith, l, c.requires.1.1.0)) c.in_err-first.ensures))
 
 pub read_level-read_operand-requires-in-Some : goal.read_level-read_operand-requires-in-Some
 read_level-read_operand-requires-in-Some t c = (omega (arith, c.requires.1.0, c.in-Some.ensures.shorter, c.operands.invariant.shorter), (c.requires.1.1.0, c.in-Some.ensures.proper c.args.text.now c.operands.invariant.proper))
 
-pub read_level-returns-in_err-expression-clause-stops : goal.read_level-returns-in_err-expression-clause-stops
-read_level-returns-in_err-expression-clause-stops t c =
-    let p = err_from_is_err_and c.from_residual-in_err-expression.result c.from_residual-in_err-expression.ensures.1 in rw (p.1, p.2) (then_stops c.args.text.now c.args.depth (ExpressionPart (rung_of c.args.level) ∷ []) (ExpressionPart (tighter (rung_of c.args.level)) ∷ OperatorsPart (rung_of c.args.level) ∷ []) c.args.input.now c.in-Some.after.now _ (then c.args.text.now c.args.depth (ExpressionPart (rung_of c.args.level) ∷ []) (OperatorsPart (rung_of c.args.level) ∷ []) (ExpressionPart (tighter (rung_of c.args.level)) ∷ OperatorsPart (rung_of c.args.level) ∷ []) c.args.input.now c.operands.rest.now c.in-Some.after.now (c.operands.invariant.reads) (operator_more c.args.text.now c.args.depth c.args.level c.in-Some.operator [] c.operands.rest.now c.in-Some.after.now (λ s l. omega (arith, l, c.requires.1.1.0)) c.in-Some.ensures.ranked (c.in-Some.ensures.first c.args.text.now))) (call_stops c.args.text.now c.args.depth c.args.depth (ExpressionPart (tighter (rung_of c.args.level))) (OperatorsPart (rung_of c.args.level) ∷ []) c.in-Some.after.now _ (λ s l. omega (arith, l, c.requires.1.1.0)) c.in_err-expression.ensures.stops))
+pub read_level-returns-in_err-expression : goal.read_level-returns-in_err-expression
+read_level-returns-in_err-expression t c =
+    let p = err_from_is_err_and c.from_residual-in_err-expression.result c.from_residual-in_err-expression.ensures.1 in rw (p.1, p.2) (then_stops c.args.text.now c.args.depth (ExpressionPart (rung_of c.args.level) ∷ []) (ExpressionPart (tighter (rung_of c.args.level)) ∷ OperatorsPart (rung_of c.args.level) ∷ []) c.args.input.now c.in-Some.after.now _ (then c.args.text.now c.args.depth (ExpressionPart (rung_of c.args.level) ∷ []) (OperatorsPart (rung_of c.args.level) ∷ []) (ExpressionPart (tighter (rung_of c.args.level)) ∷ OperatorsPart (rung_of c.args.level) ∷ []) c.args.input.now c.operands.rest.now c.in-Some.after.now (c.operands.invariant.reads) (operator_more c.args.text.now c.args.depth c.args.level c.in-Some.operator [] c.operands.rest.now c.in-Some.after.now (λ s l. omega (arith, l, c.requires.1.1.0)) c.in-Some.ensures.ranked (c.in-Some.ensures.first c.args.text.now))) (call_stops c.args.text.now c.args.depth c.args.depth (ExpressionPart (tighter (rung_of c.args.level))) (OperatorsPart (rung_of c.args.level) ∷ []) c.in-Some.after.now _ (λ s l. omega (arith, l, c.requires.1.1.0)) c.in_err-expression.ensures))
 
 pub read_level-operands-init : goal.read_level-operands-init
 read_level-operands-init t c =
@@ -49,143 +49,59 @@ pub read_level-operands-preserved : goal.read_level-operands-preserved
 read_level-operands-preserved t c =
     record {
       spans = (c.operands.invariant.spans.0, c.operands.invariant.spans.1, S.operands_next c.args.text.now _ _ _ _ c.operands.rest.now c.in-Some.after.now c.in_ok-expression.left.now c.in_ok-push.ensures.items c.operands.invariant.spans.2 (S.takes c.args.text.now (operator_terminal c.in-Some.operator) c.operands.rest.now c.in-Some.after.now c.in-Some.ensures.passed (c.in-Some.ensures.first c.args.text.now)) c.in_ok-expression.ensures.spans);
-      formed = formed_next _ _ _ _ c.in_ok-push.ensures.items c.operands.invariant.formed c.in-Some.ensures.ranked c.in_ok-expression.ensures.fits;
+      formed = formed_next c.args.level _ _ _ c.in_ok-push.ensures.items c.operands.invariant.formed c.in-Some.ensures.ranked c.in_ok-expression.ensures.fits;
       nesting = operands_nesting_next _ (expression_of c.in_ok-first.first) _ _ _ c.in_ok-push.ensures.items c.operands.invariant.nesting c.in_ok-expression.ensures.nesting;
       shorter = omega (arith, c.in-Some.ensures.shorter, c.in_ok-expression.ensures.shorter, c.operands.invariant.shorter);
       proper = c.in_ok-expression.ensures.proper;
       reads = (then c.args.text.now c.args.depth (ExpressionPart (rung_of c.args.level) ∷ []) (ExpressionPart (tighter (rung_of c.args.level)) ∷ OperatorsPart (rung_of c.args.level) ∷ []) (OperatorsPart (rung_of c.args.level) ∷ []) c.args.input.now c.in-Some.after.now c.in_ok-expression.left.now (then c.args.text.now c.args.depth (ExpressionPart (rung_of c.args.level) ∷ []) (OperatorsPart (rung_of c.args.level) ∷ []) (ExpressionPart (tighter (rung_of c.args.level)) ∷ OperatorsPart (rung_of c.args.level) ∷ []) c.args.input.now c.operands.rest.now c.in-Some.after.now (c.operands.invariant.reads) (operator_more c.args.text.now c.args.depth c.args.level c.in-Some.operator [] c.operands.rest.now c.in-Some.after.now (λ s l. omega (arith, l, c.requires.1.1.0)) c.in-Some.ensures.ranked (c.in-Some.ensures.first c.args.text.now))) (call c.args.text.now c.args.depth c.args.depth (ExpressionPart (tighter (rung_of c.args.level))) (OperatorsPart (rung_of c.args.level) ∷ []) c.in-Some.after.now c.in_ok-expression.left.now (λ s l. omega (arith, l, c.requires.1.1.0)) c.in_ok-expression.ensures.reads));
     }
 
-pub read_denial-returns-in_err-inner-clause-stops : goal.read_denial-returns-in_err-inner-clause-stops
-read_denial-returns-in_err-inner-clause-stops t c =
+pub read_denial-returns-in_err-inner : goal.read_denial-returns-in_err-inner
+read_denial-returns-in_err-inner t c =
     let p = err_from_is_err_and c.from_residual.result c.from_residual.ensures.1 in rw (p.1, p.2) (deep c.args.text.now c.args.depth (ExpressionPart denials) ([]) (ExpressionPart denials ∷ LevelPart ∷ []) (word keyword.Not) c.args.input.now c.in-Some.rest.now _ (λ s l. omega (arith, l, c.in_err-inner.ensures.stop.0)) (λ s. refl) (c.in-Some.ensures.first c.args.text.now) c.in_err-inner.ensures.stop.1)
 
 pub read_denial-read_denial-requires : goal.read_denial-read_denial-requires
 read_denial-read_denial-requires t c = (omega (arith, c.requires.1.0, c.in-Some.ensures.shorter), (c.in_ok-inner.ensures.deeper.1, c.in-Some.ensures.proper c.args.text.now c.requires.1.1.1))
 
-pub read_denial-returns-clause-reads : goal.read_denial-returns-clause-reads
-read_denial-returns-clause-reads t c = (then c.args.text.now c.args.depth (ExpressionPart denials ∷ []) (LevelPart ∷ []) ([]) c.args.input.now c.in_ok-operand.rest.now c.in_ok-operand.rest.now (then c.args.text.now c.args.depth (ExpressionPart denials ∷ []) (ExpressionPart denials ∷ LevelPart ∷ []) (LevelPart ∷ []) c.args.input.now c.in-Some.rest.now c.in_ok-operand.rest.now (one c.args.text.now c.args.depth (ExpressionPart denials) ([]) (ExpressionPart denials ∷ LevelPart ∷ []) (word keyword.Not) c.args.input.now c.in-Some.rest.now (λ s l. omega (arith, l, c.requires.1.1.0, c.in_ok-inner.ensures.deeper.0, c.in_ok-inner.ensures.deeper.1)) (λ s. refl) (c.in-Some.ensures.first c.args.text.now)) (call c.args.text.now c.args.depth c.in_ok-inner.inner (ExpressionPart denials) (LevelPart ∷ []) c.in-Some.rest.now c.in_ok-operand.rest.now (λ s l. omega (arith, l, c.requires.1.1.0, c.in_ok-inner.ensures.deeper.0, c.in_ok-inner.ensures.deeper.1)) c.in_ok-operand.ensures.reads)) (level_ends c.args.text.now c.args.depth [] c.in_ok-operand.rest.now))
-
-pub read_relation-returns-in_err-left-clause-stops : goal.read_relation-returns-in_err-left-clause-stops
-read_relation-returns-in_err-left-clause-stops t c =
-    let p = err_from_is_err_and c.from_residual.result c.from_residual.ensures.1 in rw (p.1, p.2) (then_stops c.args.text.now c.args.depth (ExpressionPart relations ∷ []) (ExpressionPart sums ∷ OperatorsPart relations ∷ []) c.args.input.now c.args.input.now _ (opens_chain c.args.text.now c.args.depth relations [] c.args.input.now tt) (call_stops c.args.text.now c.args.depth c.args.depth (ExpressionPart sums) (OperatorsPart relations ∷ []) c.args.input.now _ (λ s l. omega (arith, l, c.requires.1.1.0)) c.in_err-left.ensures.stops))
-
-pub read_relation-returns-in_default-clause-reads : goal.read_relation-returns-in_default-clause-reads
-read_relation-returns-in_default-clause-reads t c = (then c.args.text.now c.args.depth (ExpressionPart relations ∷ []) (OperatorsPart relations ∷ []) ([]) c.args.input.now c.in_ok-left.rest.now c.in_ok-left.rest.now (then c.args.text.now c.args.depth (ExpressionPart relations ∷ []) (ExpressionPart sums ∷ OperatorsPart relations ∷ []) (OperatorsPart relations ∷ []) c.args.input.now c.args.input.now c.in_ok-left.rest.now (opens_chain c.args.text.now c.args.depth relations [] c.args.input.now tt) (call c.args.text.now c.args.depth c.args.depth (ExpressionPart sums) (OperatorsPart relations ∷ []) c.args.input.now c.in_ok-left.rest.now (λ s l. omega (arith, l, c.requires.1.1.0)) c.in_ok-left.ensures.reads)) (operators_end c.args.text.now c.args.depth relations [] c.in_ok-left.rest.now (c.in_default.ensures.lacks c.args.text.now)))
+pub read_relation-returns-in_err-left : goal.read_relation-returns-in_err-left
+read_relation-returns-in_err-left t c =
+    let p = err_from_is_err_and c.from_residual.result c.from_residual.ensures.1 in rw (p.1, p.2) (then_stops c.args.text.now c.args.depth (ExpressionPart relations ∷ []) (ExpressionPart sums ∷ OperatorsPart relations ∷ []) c.args.input.now c.args.input.now _ (opens_chain c.args.text.now c.args.depth relations [] c.args.input.now tt) (call_stops c.args.text.now c.args.depth c.args.depth (ExpressionPart sums) (OperatorsPart relations ∷ []) c.args.input.now _ (λ s l. omega (arith, l, c.requires.1.1.0)) c.in_err-left.ensures))
 
 pub read_relation-read_level-requires-2 : goal.read_relation-read_level-requires-2
 read_relation-read_level-requires-2 t c = (omega (arith, c.requires.1.0, c.in-Some.ensures.shorter, c.in_ok-left.ensures.shorter), (c.requires.1.1.0, c.in-Some.ensures.proper c.args.text.now c.in_ok-left.ensures.proper))
 
-pub read_relation-returns-in_err-right-clause-stops : goal.read_relation-returns-in_err-right-clause-stops
-read_relation-returns-in_err-right-clause-stops t c =
-    let p = err_from_is_err_and c.from_residual-in_err-right.result c.from_residual-in_err-right.ensures.1 in rw (p.1, p.2) (then_stops c.args.text.now c.args.depth (ExpressionPart relations ∷ []) (ExpressionPart sums ∷ []) c.args.input.now c.in-Some.after.now _ (then c.args.text.now c.args.depth (ExpressionPart relations ∷ []) (OperatorsPart relations ∷ []) (ExpressionPart sums ∷ []) c.args.input.now c.in_ok-left.rest.now c.in-Some.after.now (then c.args.text.now c.args.depth (ExpressionPart relations ∷ []) (ExpressionPart sums ∷ OperatorsPart relations ∷ []) (OperatorsPart relations ∷ []) c.args.input.now c.args.input.now c.in_ok-left.rest.now (opens_chain c.args.text.now c.args.depth relations [] c.args.input.now tt) (call c.args.text.now c.args.depth c.args.depth (ExpressionPart sums) (OperatorsPart relations ∷ []) c.args.input.now c.in_ok-left.rest.now (λ s l. omega (arith, l, c.requires.1.1.0)) c.in_ok-left.ensures.reads)) (comparison c.args.text.now c.args.depth c.in-Some.operator [] c.in_ok-left.rest.now c.in-Some.after.now (λ s l. omega (arith, l, c.requires.1.1.0)) c.in-Some.ensures.ranked (c.in-Some.ensures.first c.args.text.now))) (call_stops c.args.text.now c.args.depth c.args.depth (ExpressionPart sums) ([]) c.in-Some.after.now _ (λ s l. omega (arith, l, c.requires.1.1.0)) c.in_err-right.ensures.stops))
+pub read_relation-returns-in_err-right : goal.read_relation-returns-in_err-right
+read_relation-returns-in_err-right t c =
+    let p = err_from_is_err_and c.from_residual-in_err-right.result c.from_residual-in_err-right.ensures.1 in rw (p.1, p.2) (then_stops c.args.text.now c.args.depth (ExpressionPart relations ∷ []) (ExpressionPart sums ∷ []) c.args.input.now c.in-Some.after.now _ (then c.args.text.now c.args.depth (ExpressionPart relations ∷ []) (OperatorsPart relations ∷ []) (ExpressionPart sums ∷ []) c.args.input.now c.in_ok-left.rest.now c.in-Some.after.now (then c.args.text.now c.args.depth (ExpressionPart relations ∷ []) (ExpressionPart sums ∷ OperatorsPart relations ∷ []) (OperatorsPart relations ∷ []) c.args.input.now c.args.input.now c.in_ok-left.rest.now (opens_chain c.args.text.now c.args.depth relations [] c.args.input.now tt) (call c.args.text.now c.args.depth c.args.depth (ExpressionPart sums) (OperatorsPart relations ∷ []) c.args.input.now c.in_ok-left.rest.now (λ s l. omega (arith, l, c.requires.1.1.0)) c.in_ok-left.ensures.reads)) (comparison c.args.text.now c.args.depth c.in-Some.operator [] c.in_ok-left.rest.now c.in-Some.after.now (λ s l. omega (arith, l, c.requires.1.1.0)) c.in-Some.ensures.ranked (c.in-Some.ensures.first c.args.text.now))) (call_stops c.args.text.now c.args.depth c.args.depth (ExpressionPart sums) ([]) c.in-Some.after.now _ (λ s l. omega (arith, l, c.requires.1.1.0)) c.in_err-right.ensures))
 
-pub read_relation-returns-clause-reads : goal.read_relation-returns-clause-reads
-read_relation-returns-clause-reads t c = (then c.args.text.now c.args.depth (ExpressionPart relations ∷ []) (ExpressionPart sums ∷ []) ([]) c.args.input.now c.in-Some.after.now c.in_ok-right.rest.now (then c.args.text.now c.args.depth (ExpressionPart relations ∷ []) (OperatorsPart relations ∷ []) (ExpressionPart sums ∷ []) c.args.input.now c.in_ok-left.rest.now c.in-Some.after.now (then c.args.text.now c.args.depth (ExpressionPart relations ∷ []) (ExpressionPart sums ∷ OperatorsPart relations ∷ []) (OperatorsPart relations ∷ []) c.args.input.now c.args.input.now c.in_ok-left.rest.now (opens_chain c.args.text.now c.args.depth relations [] c.args.input.now tt) (call c.args.text.now c.args.depth c.args.depth (ExpressionPart sums) (OperatorsPart relations ∷ []) c.args.input.now c.in_ok-left.rest.now (λ s l. omega (arith, l, c.requires.1.1.0)) c.in_ok-left.ensures.reads)) (comparison c.args.text.now c.args.depth c.in-Some.operator [] c.in_ok-left.rest.now c.in-Some.after.now (λ s l. omega (arith, l, c.requires.1.1.0)) c.in-Some.ensures.ranked (c.in-Some.ensures.first c.args.text.now))) (call c.args.text.now c.args.depth c.args.depth (ExpressionPart sums) ([]) c.in-Some.after.now c.in_ok-right.rest.now (λ s l. omega (arith, l, c.requires.1.1.0)) c.in_ok-right.ensures.reads))
-
-pub read_expression-returns-in_default-clause-reads : goal.read_expression-returns-in_default-clause-reads
-read_expression-returns-in_default-clause-reads t c = reads_by c.args.text.now c.args.depth (ExpressionPart whole ∷ []) (ExpressionPart ors ∷ []) c.args.input.now c.read_level.result (λ x. x.1.now) (opens_whole c.args.text.now c.args.depth [] c.args.input.now c.in_default.ensures.absent) c.read_level.ensures.reads
-
-pub read_expression-returns-in_default-clause-stops : goal.read_expression-returns-in_default-clause-stops
-read_expression-returns-in_default-clause-stops t c = stops_by c.args.text.now c.args.depth (ExpressionPart whole ∷ []) (ExpressionPart ors ∷ []) c.args.input.now c.read_level.result (opens_whole c.args.text.now c.args.depth [] c.args.input.now c.in_default.ensures.absent) c.read_level.ensures.stops
-
-pub read_expression-returns-in_err-inner-clause-stops : goal.read_expression-returns-in_err-inner-clause-stops
-read_expression-returns-in_err-inner-clause-stops t c =
+pub read_expression-returns-in_err-inner : goal.read_expression-returns-in_err-inner
+read_expression-returns-in_err-inner t c =
     let p = err_from_is_err_and c.from_residual.result c.from_residual.ensures.1 in rw (p.1, p.2) (deep c.args.text.now c.args.depth (ExpressionPart whole) ([]) (ExpressionPart whole ∷ TokenPart ThenToken ∷ ExpressionPart whole ∷ TokenPart ElseToken ∷ ExpressionPart whole ∷ LevelPart ∷ []) (word keyword.If) c.args.input.now c.in-Some.rest.now _ (λ s l. omega (arith, l, c.in_err-inner.ensures.stop.0)) (λ s. refl) (c.in-Some.ensures.first.1 c.args.text.now) c.in_err-inner.ensures.stop.1)
-
-pub read_factor-returns-in-Some-Number-default-clause-proper : goal.read_factor-returns-in-Some-Number-default-clause-proper
-read_factor-returns-in-Some-Number-default-clause-proper t c = c.in-Some-Number-default.ensures.proper c.args.text.now c.requires.1.1.1
-
-pub read_factor-returns-in-Some-Word-True-default-clause-proper : goal.read_factor-returns-in-Some-Word-True-default-clause-proper
-read_factor-returns-in-Some-Word-True-default-clause-proper t c = c.in-Some-Word-True-default.ensures.proper c.args.text.now c.requires.1.1.1
-
-pub read_factor-returns-in-Some-Word-False-default-clause-proper : goal.read_factor-returns-in-Some-Word-False-default-clause-proper
-read_factor-returns-in-Some-Word-False-default-clause-proper t c = c.in-Some-Word-False-default.ensures.proper c.args.text.now c.requires.1.1.1
 
 pub read_factor-read_wait-requires-clause-proper : goal.read_factor-read_wait-requires-clause-proper
 read_factor-read_wait-requires-clause-proper t c = c.in-Some-Word-Wait-default.ensures.proper c.args.text.now c.requires.1.1.1
 
-pub read_factor-returns-in_err-inner-in-Some-Sign-Minus-default-clause-stops : goal.read_factor-returns-in_err-inner-in-Some-Sign-Minus-default-clause-stops
-read_factor-returns-in_err-inner-in-Some-Sign-Minus-default-clause-stops t c =
+pub read_factor-returns-in_err-inner-in-Some-Sign-Minus-default : goal.read_factor-returns-in_err-inner-in-Some-Sign-Minus-default
+read_factor-returns-in_err-inner-in-Some-Sign-Minus-default t c =
     let p = err_from_is_err_and c.from_residual.result c.from_residual.ensures.1 in rw (p.1, p.2) (deep c.args.text.now c.args.depth (ExpressionPart factors) ([]) (ExpressionPart factors ∷ LevelPart ∷ []) (sign mark.Minus) c.args.input.now c.in-Some-Sign-Minus-default.rest.now _ (λ s l. omega (arith, l, c.in_err-inner-in-Some-Sign-Minus-default.ensures.stop.0)) (λ s. refl) ((first_of _ (class.Sign mark.Minus) c.args.input.now c.in-Some-Sign-Minus-default.rest.now (c.in-Some-Sign-Minus-default.field-0-0-is ∙ ap class.Sign c.in-Some-Sign-Minus-default.field-0-0-0-is) c.in-Some-Sign-Minus-default.ensures.first.0).1 c.args.text.now) c.in_err-inner-in-Some-Sign-Minus-default.ensures.stop.1)
 
 pub read_factor-read_factor-requires : goal.read_factor-read_factor-requires
 read_factor-read_factor-requires t c = (omega (arith, c.requires.1.0, c.in-Some-Sign-Minus-default.ensures.first.1), (c.in_ok-inner-in-Some-Sign-Minus-default.ensures.deeper.1, c.in-Some-Sign-Minus-default.ensures.proper c.args.text.now c.requires.1.1.1))
 
-pub read_factor-returns-in_ok-expression-in-Some-Sign-Minus-default-clause-reads : goal.read_factor-returns-in_ok-expression-in-Some-Sign-Minus-default-clause-reads
-read_factor-returns-in_ok-expression-in-Some-Sign-Minus-default-clause-reads t c = (then c.args.text.now c.args.depth (ExpressionPart factors ∷ []) (LevelPart ∷ []) ([]) c.args.input.now c.in_ok-operand-in-Some-Sign-Minus-default.rest.now c.in_ok-operand-in-Some-Sign-Minus-default.rest.now (then c.args.text.now c.args.depth (ExpressionPart factors ∷ []) (ExpressionPart factors ∷ LevelPart ∷ []) (LevelPart ∷ []) c.args.input.now c.in-Some-Sign-Minus-default.rest.now c.in_ok-operand-in-Some-Sign-Minus-default.rest.now (one c.args.text.now c.args.depth (ExpressionPart factors) ([]) (ExpressionPart factors ∷ LevelPart ∷ []) (sign mark.Minus) c.args.input.now c.in-Some-Sign-Minus-default.rest.now (λ s l. omega (arith, l, c.requires.1.1.0, c.in_ok-inner-in-Some-Sign-Minus-default.ensures.deeper.0, c.in_ok-inner-in-Some-Sign-Minus-default.ensures.deeper.1)) (λ s. refl) ((first_of _ (class.Sign mark.Minus) c.args.input.now c.in-Some-Sign-Minus-default.rest.now (c.in-Some-Sign-Minus-default.field-0-0-is ∙ ap class.Sign c.in-Some-Sign-Minus-default.field-0-0-0-is) c.in-Some-Sign-Minus-default.ensures.first.0).1 c.args.text.now)) (call c.args.text.now c.args.depth c.in_ok-inner-in-Some-Sign-Minus-default.inner (ExpressionPart factors) (LevelPart ∷ []) c.in-Some-Sign-Minus-default.rest.now c.in_ok-operand-in-Some-Sign-Minus-default.rest.now (λ s l. omega (arith, l, c.requires.1.1.0, c.in_ok-inner-in-Some-Sign-Minus-default.ensures.deeper.0, c.in_ok-inner-in-Some-Sign-Minus-default.ensures.deeper.1)) c.in_ok-operand-in-Some-Sign-Minus-default.ensures.reads)) (level_ends c.args.text.now c.args.depth [] c.in_ok-operand-in-Some-Sign-Minus-default.rest.now))
-
-pub read_factor-returns-in_err-inner-in-Some-Sign-Open-default-clause-stops : goal.read_factor-returns-in_err-inner-in-Some-Sign-Open-default-clause-stops
-read_factor-returns-in_err-inner-in-Some-Sign-Open-default-clause-stops t c =
+pub read_factor-returns-in_err-inner-in-Some-Sign-Open-default : goal.read_factor-returns-in_err-inner-in-Some-Sign-Open-default
+read_factor-returns-in_err-inner-in-Some-Sign-Open-default t c =
     let p = err_from_is_err_and c.from_residual-in_err-inner-in-Some-Sign-Open-default.result c.from_residual-in_err-inner-in-Some-Sign-Open-default.ensures.1 in rw (p.1, p.2) (deep c.args.text.now c.args.depth (ExpressionPart factors) ([]) (ExpressionPart whole ∷ TokenPart CloseToken ∷ LevelPart ∷ []) (sign mark.Open) c.args.input.now c.in-Some-Sign-Open-default.rest.now _ (λ s l. omega (arith, l, c.in_err-inner-in-Some-Sign-Open-default.ensures.stop.0)) (λ s. refl) ((first_of _ (class.Sign mark.Open) c.args.input.now c.in-Some-Sign-Open-default.rest.now (c.in-Some-Sign-Open-default.field-0-0-is ∙ ap class.Sign c.in-Some-Sign-Open-default.field-0-0-0-is) c.in-Some-Sign-Open-default.ensures.first.0).1 c.args.text.now) c.in_err-inner-in-Some-Sign-Open-default.ensures.stop.1)
 
 pub read_factor-read_expression-requires : goal.read_factor-read_expression-requires
 read_factor-read_expression-requires t c = (omega (arith, c.requires.1.0, c.in-Some-Sign-Open-default.ensures.first.1), (c.in_ok-inner-in-Some-Sign-Open-default.ensures.deeper.1, c.in-Some-Sign-Open-default.ensures.proper c.args.text.now c.requires.1.1.1))
 
-pub read_factor-returns-in_err-rest-in-Some-Sign-Open-default-clause-stops : goal.read_factor-returns-in_err-rest-in-Some-Sign-Open-default-clause-stops
-read_factor-returns-in_err-rest-in-Some-Sign-Open-default-clause-stops t c =
+pub read_factor-returns-in_err-rest-in-Some-Sign-Open-default : goal.read_factor-returns-in_err-rest-in-Some-Sign-Open-default
+read_factor-returns-in_err-rest-in-Some-Sign-Open-default t c =
     let p = err_from_is_err_and c.from_residual-in_err-rest-in-Some-Sign-Open-default.result c.from_residual-in_err-rest-in-Some-Sign-Open-default.ensures.1 in rw (p.1, p.2) (then_stops c.args.text.now c.args.depth (ExpressionPart factors ∷ []) (TokenPart CloseToken ∷ LevelPart ∷ []) c.args.input.now c.in_ok-inside-in-Some-Sign-Open-default.rest.now _ (then c.args.text.now c.args.depth (ExpressionPart factors ∷ []) (ExpressionPart whole ∷ TokenPart CloseToken ∷ LevelPart ∷ []) (TokenPart CloseToken ∷ LevelPart ∷ []) c.args.input.now c.in-Some-Sign-Open-default.rest.now c.in_ok-inside-in-Some-Sign-Open-default.rest.now (one c.args.text.now c.args.depth (ExpressionPart factors) ([]) (ExpressionPart whole ∷ TokenPart CloseToken ∷ LevelPart ∷ []) (sign mark.Open) c.args.input.now c.in-Some-Sign-Open-default.rest.now (λ s l. omega (arith, l, c.requires.1.1.0, c.in_ok-inner-in-Some-Sign-Open-default.ensures.deeper.0, c.in_ok-inner-in-Some-Sign-Open-default.ensures.deeper.1)) (λ s. refl) ((first_of _ (class.Sign mark.Open) c.args.input.now c.in-Some-Sign-Open-default.rest.now (c.in-Some-Sign-Open-default.field-0-0-is ∙ ap class.Sign c.in-Some-Sign-Open-default.field-0-0-0-is) c.in-Some-Sign-Open-default.ensures.first.0).1 c.args.text.now)) (call c.args.text.now c.args.depth c.in_ok-inner-in-Some-Sign-Open-default.inner (ExpressionPart whole) (TokenPart CloseToken ∷ LevelPart ∷ []) c.in-Some-Sign-Open-default.rest.now c.in_ok-inside-in-Some-Sign-Open-default.rest.now (λ s l. omega (arith, l, c.requires.1.1.0, c.in_ok-inner-in-Some-Sign-Open-default.ensures.deeper.0, c.in_ok-inner-in-Some-Sign-Open-default.ensures.deeper.1)) c.in_ok-inside-in-Some-Sign-Open-default.ensures.reads)) (unexpected c.args.text.now c.args.depth CloseToken (LevelPart ∷ []) (class.Sign mark.Close) c.in_ok-inside-in-Some-Sign-Open-default.rest.now _ refl c.in_err-rest-in-Some-Sign-Open-default.ensures.stop))
 
-pub read_factor-returns-in_ok-expression-in-Some-Sign-Open-default-clause-proper : goal.read_factor-returns-in_ok-expression-in-Some-Sign-Open-default-clause-proper
-read_factor-returns-in_ok-expression-in-Some-Sign-Open-default-clause-proper t c = c.in_ok-rest-in-Some-Sign-Open-default.ensures.proper c.args.text.now c.in_ok-inside-in-Some-Sign-Open-default.ensures.proper
-
-pub read_factor-returns-in_ok-expression-in-Some-Sign-Open-default-clause-reads : goal.read_factor-returns-in_ok-expression-in-Some-Sign-Open-default-clause-reads
-read_factor-returns-in_ok-expression-in-Some-Sign-Open-default-clause-reads t c = (then c.args.text.now c.args.depth (ExpressionPart factors ∷ []) (LevelPart ∷ []) ([]) c.args.input.now c.in_ok-rest-in-Some-Sign-Open-default.rest.now c.in_ok-rest-in-Some-Sign-Open-default.rest.now (then c.args.text.now c.args.depth (ExpressionPart factors ∷ []) (TokenPart CloseToken ∷ LevelPart ∷ []) (LevelPart ∷ []) c.args.input.now c.in_ok-inside-in-Some-Sign-Open-default.rest.now c.in_ok-rest-in-Some-Sign-Open-default.rest.now (then c.args.text.now c.args.depth (ExpressionPart factors ∷ []) (ExpressionPart whole ∷ TokenPart CloseToken ∷ LevelPart ∷ []) (TokenPart CloseToken ∷ LevelPart ∷ []) c.args.input.now c.in-Some-Sign-Open-default.rest.now c.in_ok-inside-in-Some-Sign-Open-default.rest.now (one c.args.text.now c.args.depth (ExpressionPart factors) ([]) (ExpressionPart whole ∷ TokenPart CloseToken ∷ LevelPart ∷ []) (sign mark.Open) c.args.input.now c.in-Some-Sign-Open-default.rest.now (λ s l. omega (arith, l, c.requires.1.1.0, c.in_ok-inner-in-Some-Sign-Open-default.ensures.deeper.0, c.in_ok-inner-in-Some-Sign-Open-default.ensures.deeper.1)) (λ s. refl) ((first_of _ (class.Sign mark.Open) c.args.input.now c.in-Some-Sign-Open-default.rest.now (c.in-Some-Sign-Open-default.field-0-0-is ∙ ap class.Sign c.in-Some-Sign-Open-default.field-0-0-0-is) c.in-Some-Sign-Open-default.ensures.first.0).1 c.args.text.now)) (call c.args.text.now c.args.depth c.in_ok-inner-in-Some-Sign-Open-default.inner (ExpressionPart whole) (TokenPart CloseToken ∷ LevelPart ∷ []) c.in-Some-Sign-Open-default.rest.now c.in_ok-inside-in-Some-Sign-Open-default.rest.now (λ s l. omega (arith, l, c.requires.1.1.0, c.in_ok-inner-in-Some-Sign-Open-default.ensures.deeper.0, c.in_ok-inner-in-Some-Sign-Open-default.ensures.deeper.1)) c.in_ok-inside-in-Some-Sign-Open-default.ensures.reads)) (expected c.args.text.now c.args.depth CloseToken (LevelPart ∷ []) (class.Sign mark.Close) c.in_ok-inside-in-Some-Sign-Open-default.rest.now c.in_ok-rest-in-Some-Sign-Open-default.rest.now (λ s l. omega (arith, l, c.requires.1.1.0, c.in_ok-inner-in-Some-Sign-Open-default.ensures.deeper.0, c.in_ok-inner-in-Some-Sign-Open-default.ensures.deeper.1)) refl c.in_ok-rest-in-Some-Sign-Open-default.ensures.first)) (level_ends c.args.text.now c.args.depth [] c.in_ok-rest-in-Some-Sign-Open-default.rest.now))
-
-pub read_factor-returns-in_err-name-in-Some-Name-default-clause-stops : goal.read_factor-returns-in_err-name-in-Some-Name-default-clause-stops
-read_factor-returns-in_err-name-in-Some-Name-default-clause-stops t c =
+pub read_factor-returns-in_err-name-in-Some-Name-default : goal.read_factor-returns-in_err-name-in-Some-Name-default
+read_factor-returns-in_err-name-in-Some-Name-default t c =
     let p = err_from_is_err_and c.from_residual-in_err-name-in-Some-Name-default.result c.from_residual-in_err-name-in-Some-Name-default.ensures.1 in rw (p.1, p.2) (only_memory c.args.text.now c.args.depth (ExpressionPart factors ∷ []) c.args.input.now _ _ (first_of _ class.Name c.args.input.now c.in-Some-Name-default.field-0-1.now c.in-Some-Name-default.field-0-0-is c.in-Some-Name-default.ensures.first.0) c.in_err-name-in-Some-Name-default.ensures.stop)
-
-pub read_factor-returns-in_default-clause-stops : goal.read_factor-returns-in_default-clause-stops
-read_factor-returns-in_default-clause-stops t c = let a : leads_factor (terminals c.args.text.now c.args.input.now) ≡ false = search rules in no_factor c.args.text.now c.args.depth c.args.input.now a
-
-pub read_denial-returns-clause-spans : goal.read_denial-returns-clause-spans
-read_denial-returns-clause-spans t c =
-    let T = c.args.text.now in
-    c.in_ok-expression.ensures.spans T c.args.input.now c.in-Some.rest.now c.in_ok-operand.rest.now c.reach.ensures
-    (S.takes T (word keyword.Not) c.args.input.now c.in-Some.rest.now c.in-Some.ensures.passed (c.in-Some.ensures.first T)) c.in_ok-operand.ensures.spans
-
-pub read_factor-returns-in-Some-Number-default-clause-spans : goal.read_factor-returns-in-Some-Number-default-clause-spans
-read_factor-returns-in-Some-Number-default-clause-spans t c =
-    let T = c.args.text.now in
-    let u = subst IsUnsigned c.in-Some-Number-default.field-0-0-is (c.in-Some-Number-default.ensures.unsigned T c.requires.1.1.1) in (
-      c.reach.ensures,
-      subst (λ z. Takes T (number z) c.args.input.now c.in-Some-Number-default.rest.now) (sym (to_z-of_z w64 c.in-Some-Number-default.number (number_fits c.in-Some-Number-default.number u.0 u.1 u.2)))
-          (S.takes T (number c.in-Some-Number-default.number) c.args.input.now c.in-Some-Number-default.rest.now c.in-Some-Number-default.ensures.passed ((first_of _ (class.Number c.in-Some-Number-default.number) c.args.input.now c.in-Some-Number-default.rest.now c.in-Some-Number-default.field-0-0-is c.in-Some-Number-default.ensures.first.0).1 T)),
-    )
-
-pub read_factor-returns-in-Some-Word-True-default-clause-spans : goal.read_factor-returns-in-Some-Word-True-default-clause-spans
-read_factor-returns-in-Some-Word-True-default-clause-spans t c =
-    let T = c.args.text.now in
-    (c.reach-in-Some-Word-True-default.ensures, (S.takes T (word keyword.True) c.args.input.now c.in-Some-Word-True-default.rest.now c.in-Some-Word-True-default.ensures.passed ((first_of _ (class.Word keyword.True) c.args.input.now c.in-Some-Word-True-default.rest.now (c.in-Some-Word-True-default.field-0-0-is ∙ ap class.Word c.in-Some-Word-True-default.field-0-0-0-is) c.in-Some-Word-True-default.ensures.first.0).1 T)))
-
-pub read_factor-returns-in-Some-Word-False-default-clause-spans : goal.read_factor-returns-in-Some-Word-False-default-clause-spans
-read_factor-returns-in-Some-Word-False-default-clause-spans t c =
-    let T = c.args.text.now in
-    (c.reach-in-Some-Word-False-default.ensures, (S.takes T (word keyword.False) c.args.input.now c.in-Some-Word-False-default.rest.now c.in-Some-Word-False-default.ensures.passed ((first_of _ (class.Word keyword.False) c.args.input.now c.in-Some-Word-False-default.rest.now (c.in-Some-Word-False-default.field-0-0-is ∙ ap class.Word c.in-Some-Word-False-default.field-0-0-0-is) c.in-Some-Word-False-default.ensures.first.0).1 T)))
-
-pub read_factor-returns-in_ok-expression-in-Some-Sign-Minus-default-clause-spans : goal.read_factor-returns-in_ok-expression-in-Some-Sign-Minus-default-clause-spans
-read_factor-returns-in_ok-expression-in-Some-Sign-Minus-default-clause-spans t c =
-    let T = c.args.text.now in
-    c.in_ok-expression-in-Some-Sign-Minus-default.ensures.spans T c.args.input.now c.in-Some-Sign-Minus-default.rest.now c.in_ok-operand-in-Some-Sign-Minus-default.rest.now c.reach-in-Some-Sign-Minus-default.ensures
-    (S.takes T (sign mark.Minus) c.args.input.now c.in-Some-Sign-Minus-default.rest.now c.in-Some-Sign-Minus-default.ensures.passed ((first_of _ (class.Sign mark.Minus) c.args.input.now c.in-Some-Sign-Minus-default.rest.now (c.in-Some-Sign-Minus-default.field-0-0-is ∙ ap class.Sign c.in-Some-Sign-Minus-default.field-0-0-0-is) c.in-Some-Sign-Minus-default.ensures.first.0).1 T)) c.in_ok-operand-in-Some-Sign-Minus-default.ensures.spans
-
-pub read_factor-returns-in_ok-expression-in-Some-Sign-Open-default-clause-spans : goal.read_factor-returns-in_ok-expression-in-Some-Sign-Open-default-clause-spans
-read_factor-returns-in_ok-expression-in-Some-Sign-Open-default-clause-spans t c =
-    let T = c.args.text.now in
-    c.in_ok-expression-in-Some-Sign-Open-default.ensures.spans T c.args.input.now c.in-Some-Sign-Open-default.rest.now c.in_ok-inside-in-Some-Sign-Open-default.rest.now c.in_ok-rest-in-Some-Sign-Open-default.rest.now c.reach-in-Some-Sign-Open-default.ensures
-    (S.takes T (sign mark.Open) c.args.input.now c.in-Some-Sign-Open-default.rest.now c.in-Some-Sign-Open-default.ensures.passed ((first_of _ (class.Sign mark.Open) c.args.input.now c.in-Some-Sign-Open-default.rest.now (c.in-Some-Sign-Open-default.field-0-0-is ∙ ap class.Sign c.in-Some-Sign-Open-default.field-0-0-0-is) c.in-Some-Sign-Open-default.ensures.first.0).1 T)) c.in_ok-inside-in-Some-Sign-Open-default.ensures.spans (S.takes T (sign mark.Close) c.in_ok-inside-in-Some-Sign-Open-default.rest.now c.in_ok-rest-in-Some-Sign-Open-default.rest.now c.in_ok-rest-in-Some-Sign-Open-default.ensures.passed (c.in_ok-rest-in-Some-Sign-Open-default.ensures.first.1 T))
-
-pub read_level-returns-clause-spans : goal.read_level-returns-clause-spans
-read_level-returns-clause-spans t c =
-    let T = c.args.text.now in
-    c.in_ok-expression-2.ensures.spans T c.args.input.now c.operands.invariant.spans.0 c.operands.rest.now c.reach.ensures c.operands.invariant.spans.1 c.operands.invariant.spans.2
-
-pub read_relation-returns-clause-spans : goal.read_relation-returns-clause-spans
-read_relation-returns-clause-spans t c =
-    let T = c.args.text.now in
-    c.in_ok-expression.ensures.spans T c.args.input.now c.in_ok-left.rest.now c.in-Some.after.now c.in_ok-right.rest.now c.reach.ensures c.in_ok-left.ensures.spans
-    (S.takes T (operator_terminal c.in-Some.operator) c.in_ok-left.rest.now c.in-Some.after.now c.in-Some.ensures.passed (c.in-Some.ensures.first T)) c.in_ok-right.ensures.spans
 
 pub read_expression-read_before-requires : goal.read_expression-read_before-requires
 read_expression-read_before-requires t c =
@@ -199,8 +115,8 @@ pub read_expression-read_expression-requires : goal.read_expression-read_express
 read_expression-read_expression-requires t c =
     (omega (arith, c.requires.1.0, c.in-Some.ensures.shorter, c.in_ok-test.ensures.shorter, c.in_ok-yes.ensures.shorter), (c.in_ok-inner.ensures.deeper.1, c.in_ok-yes.ensures.proper))
 
-pub read_expression-returns-in_err-test-clause-stops : goal.read_expression-returns-in_err-test-clause-stops
-read_expression-returns-in_err-test-clause-stops t c =
+pub read_expression-returns-in_err-test : goal.read_expression-returns-in_err-test
+read_expression-returns-in_err-test t c =
     let p = err_from_is_err_and c.from_residual-in_err-test.result c.from_residual-in_err-test.ensures.1 in
     let T = c.args.text.now in
     let i = c.args.input.now in
@@ -208,10 +124,10 @@ read_expression-returns-in_err-test-clause-stops t c =
     let n = c.in_ok-inner.ensures.deeper.0 in
     let m = K.if_moves T c.args.depth e i c.in-Some.rest.now n c.in_ok-inner.ensures.deeper.1 (c.in-Some.ensures.first.1 T) in
     rw (p.1, p.2) (then_stops T c.args.depth K.choice K.after_if i c.in-Some.rest.now _ m
-    (call_two_stops T c.args.depth e (ExpressionPart whole) (TokenPart ThenToken) K.after_then c.in-Some.rest.now _ (λ s l. omega (arith, l, n)) c.in_err-test.ensures.stops))
+    (call_two_stops T c.args.depth e (ExpressionPart whole) (TokenPart ThenToken) K.after_then c.in-Some.rest.now _ (λ s l. omega (arith, l, n)) c.in_err-test.ensures))
 
-pub read_expression-returns-in_err-yes-clause-stops : goal.read_expression-returns-in_err-yes-clause-stops
-read_expression-returns-in_err-yes-clause-stops t c =
+pub read_expression-returns-in_err-yes : goal.read_expression-returns-in_err-yes
+read_expression-returns-in_err-yes t c =
     let p = err_from_is_err_and c.from_residual-in_err-yes.result c.from_residual-in_err-yes.ensures.1 in
     let T = c.args.text.now in
     let i = c.args.input.now in
@@ -220,10 +136,10 @@ read_expression-returns-in_err-yes-clause-stops t c =
     let m = K.if_moves T c.args.depth e i c.in-Some.rest.now n c.in_ok-inner.ensures.deeper.1 (c.in-Some.ensures.first.1 T) in
     let m2 = K.then_moves T c.args.depth e i c.in-Some.rest.now c.in_ok-test.rest.now n m c.in_ok-test.ensures.reads in
     rw (p.1, p.2) (then_stops T c.args.depth K.choice K.after_then i c.in_ok-test.rest.now _ m2
-    (call_two_stops T c.args.depth e (ExpressionPart whole) (TokenPart ElseToken) K.after_else c.in_ok-test.rest.now _ (λ s l. omega (arith, l, n)) c.in_err-yes.ensures.stops))
+    (call_two_stops T c.args.depth e (ExpressionPart whole) (TokenPart ElseToken) K.after_else c.in_ok-test.rest.now _ (λ s l. omega (arith, l, n)) c.in_err-yes.ensures))
 
-pub read_expression-returns-in_err-no-clause-stops : goal.read_expression-returns-in_err-no-clause-stops
-read_expression-returns-in_err-no-clause-stops t c =
+pub read_expression-returns-in_err-no : goal.read_expression-returns-in_err-no
+read_expression-returns-in_err-no t c =
     let p = err_from_is_err_and c.from_residual-in_err-no.result c.from_residual-in_err-no.ensures.1 in
     let T = c.args.text.now in
     let i = c.args.input.now in
@@ -233,43 +149,20 @@ read_expression-returns-in_err-no-clause-stops t c =
     let m2 = K.then_moves T c.args.depth e i c.in-Some.rest.now c.in_ok-test.rest.now n m c.in_ok-test.ensures.reads in
     let m3 = K.else_moves T c.args.depth e i c.in_ok-test.rest.now c.in_ok-yes.rest.now n m2 c.in_ok-yes.ensures.reads in
     rw (p.1, p.2) (then_stops T c.args.depth K.choice K.after_else i c.in_ok-yes.rest.now _ m3
-    (call_stops T c.args.depth e (ExpressionPart whole) (LevelPart ∷ []) c.in_ok-yes.rest.now _ (λ s l. omega (arith, l, n)) c.in_err-no.ensures.stops))
-
-pub read_expression-returns-clause-reads : goal.read_expression-returns-clause-reads
-read_expression-returns-clause-reads t c =
-    let T = c.args.text.now in
-    let i = c.args.input.now in
-    let e = c.in_ok-inner.inner in
-    let n = c.in_ok-inner.ensures.deeper.0 in
-    let m = K.if_moves T c.args.depth e i c.in-Some.rest.now n c.in_ok-inner.ensures.deeper.1 (c.in-Some.ensures.first.1 T) in
-    let m2 = K.then_moves T c.args.depth e i c.in-Some.rest.now c.in_ok-test.rest.now n m c.in_ok-test.ensures.reads in
-    let m3 = K.else_moves T c.args.depth e i c.in_ok-test.rest.now c.in_ok-yes.rest.now n m2 c.in_ok-yes.ensures.reads in
-    let o = c.in_ok-no.rest.now in
-    then T c.args.depth K.choice (LevelPart ∷ []) [] i o o
-    (then T c.args.depth K.choice K.after_else (LevelPart ∷ []) i c.in_ok-yes.rest.now o m3
-    (call T c.args.depth e (ExpressionPart whole) (LevelPart ∷ []) c.in_ok-yes.rest.now o (λ s l. omega (arith, l, n)) c.in_ok-no.ensures.reads))
-    (level_ends T c.args.depth [] o)
-
-pub read_expression-returns-clause-spans : goal.read_expression-returns-clause-spans
-read_expression-returns-clause-spans t c =
-    let T = c.args.text.now in
-    c.in_ok-expression.ensures.spans T c.args.input.now c.in-Some.rest.now c.in_ok-test.ensures.spans.0 c.in_ok-test.rest.now c.in_ok-yes.ensures.spans.0 c.in_ok-yes.rest.now
-    c.in_ok-no.rest.now c.reach.ensures
-    (S.takes T (word keyword.If) c.args.input.now c.in-Some.rest.now c.in-Some.ensures.passed (c.in-Some.ensures.first.1 T))
-    c.in_ok-test.ensures.spans.1 c.in_ok-test.ensures.spans.2 c.in_ok-yes.ensures.spans.1 c.in_ok-yes.ensures.spans.2 c.in_ok-no.ensures.spans
+    (call_stops T c.args.depth e (ExpressionPart whole) (LevelPart ∷ []) c.in_ok-yes.rest.now _ (λ s l. omega (arith, l, n)) c.in_err-no.ensures))
 
 pub read_before-read_expression-requires : goal.read_before-read_expression-requires
 read_before-read_expression-requires t c =
     (omega (arith, c.requires.1.0), (c.requires.1.1.0, c.requires.1.1.1.0))
 
-pub read_before-returns-in_err-expression-clause-stops : goal.read_before-returns-in_err-expression-clause-stops
-read_before-returns-in_err-expression-clause-stops t c =
+pub read_before-returns-in_err-expression : goal.read_before-returns-in_err-expression
+read_before-returns-in_err-expression t c =
     let p = err_from_is_err_and c.from_residual.result c.from_residual.ensures.1 in
     rw (p.1, p.2) (call_stops c.args.text.now c.args.depth c.args.depth (ExpressionPart whole) (TokenPart (token_of c.args.last) ∷ []) c.args.input.now _ (λ s l. l)
-    c.in_err-expression.ensures.stops)
+    c.in_err-expression.ensures)
 
-pub read_before-returns-in_err-rest-clause-stops : goal.read_before-returns-in_err-rest-clause-stops
-read_before-returns-in_err-rest-clause-stops t c =
+pub read_before-returns-in_err-rest : goal.read_before-returns-in_err-rest
+read_before-returns-in_err-rest t c =
     let p = err_from_is_err_and c.from_residual-in_err-rest.result c.from_residual-in_err-rest.ensures.1 in
     let T = c.args.text.now in
     let k = TokenPart (token_of c.args.last) ∷ [] in
@@ -277,19 +170,239 @@ read_before-returns-in_err-rest-clause-stops t c =
     rw (p.1, p.2) (then_stops T c.args.depth (ExpressionPart whole ∷ k) k c.args.input.now c.in_ok-expression.rest.now _ m
     (unexpected T c.args.depth (token_of c.args.last) [] (class.Word c.args.last) c.in_ok-expression.rest.now _ c.requires.1.1.1.1 c.in_err-rest.ensures.stop))
 
-pub read_before-returns-clause-reads : goal.read_before-returns-clause-reads
-read_before-returns-clause-reads t c =
-    let T = c.args.text.now in
-    let k = TokenPart (token_of c.args.last) ∷ [] in
-    let m = call T c.args.depth c.args.depth (ExpressionPart whole) k c.args.input.now c.in_ok-expression.rest.now (λ s l. l) c.in_ok-expression.ensures.reads in
-    then T c.args.depth (ExpressionPart whole ∷ k) k [] c.args.input.now c.in_ok-expression.rest.now c.in_ok-rest.rest.now m
-    (expected T c.args.depth (token_of c.args.last) [] (class.Word c.args.last) c.in_ok-expression.rest.now c.in_ok-rest.rest.now (λ s l. omega (arith, l, c.requires.1.1.0)) c.requires.1.1.1.1
-    c.in_ok-rest.ensures.first)
+pub read_expression-returns-in_default : goal.read_expression-returns-in_default
+read_expression-returns-in_default t c =
+    opened c.args.text.now c.args.depth whole ors c.args.input.now (omega arith) (opens_whole c.args.text.now c.args.depth [] c.args.input.now c.in_default.ensures.absent) c.read_level.result (λ x. x.0) (λ x. x.1.now) c.read_level.ensures
 
-pub read_before-returns-clause-spans : goal.read_before-returns-clause-spans
-read_before-returns-clause-spans t c =
-    let T = c.args.text.now in (
-      c.in_ok-expression.rest.now,
-      c.in_ok-expression.ensures.spans,
-      S.takes T (word c.args.last) c.in_ok-expression.rest.now c.in_ok-rest.rest.now c.in_ok-rest.ensures.passed (c.in_ok-rest.ensures.first.1 T),
-    )
+pub read_expression-returns : goal.read_expression-returns
+read_expression-returns t c =
+    record {
+      spans = let T = c.args.text.now in
+          c.in_ok-expression.ensures.spans T c.args.input.now c.in-Some.rest.now c.in_ok-test.ensures.between c.in_ok-test.rest.now c.in_ok-yes.ensures.between c.in_ok-yes.rest.now
+          c.in_ok-no.rest.now c.reach.ensures
+          (S.takes T (word keyword.If) c.args.input.now c.in-Some.rest.now c.in-Some.ensures.passed (c.in-Some.ensures.first.1 T))
+          c.in_ok-test.ensures.spans c.in_ok-test.ensures.takes c.in_ok-yes.ensures.spans c.in_ok-yes.ensures.takes c.in_ok-no.ensures.spans;
+      fits = subst (Fits 0) (sym c.in_ok-expression.ensures.built) (omega arith, (c.in_ok-test.ensures.fits.1, c.in_ok-yes.ensures.fits.1, c.in_ok-no.ensures.fits.1));
+      nesting = omega (arith, ap expression_nesting c.in_ok-expression.ensures.built, c.in_ok-inner.ensures.deeper.0, c.in_ok-test.ensures.nesting, c.in_ok-yes.ensures.nesting, c.in_ok-no.ensures.nesting);
+      shorter = omega (arith, c.in-Some.ensures.shorter, c.in_ok-test.ensures.shorter, c.in_ok-yes.ensures.shorter, c.in_ok-no.ensures.shorter);
+      proper = c.in_ok-no.ensures.proper;
+      reads = let T = c.args.text.now in
+          let i = c.args.input.now in
+          let e = c.in_ok-inner.inner in
+          let n = c.in_ok-inner.ensures.deeper.0 in
+          let m = K.if_moves T c.args.depth e i c.in-Some.rest.now n c.in_ok-inner.ensures.deeper.1 (c.in-Some.ensures.first.1 T) in
+          let m2 = K.then_moves T c.args.depth e i c.in-Some.rest.now c.in_ok-test.rest.now n m c.in_ok-test.ensures.reads in
+          let m3 = K.else_moves T c.args.depth e i c.in_ok-test.rest.now c.in_ok-yes.rest.now n m2 c.in_ok-yes.ensures.reads in
+          let o = c.in_ok-no.rest.now in
+          then T c.args.depth K.choice (LevelPart ∷ []) [] i o o
+          (then T c.args.depth K.choice K.after_else (LevelPart ∷ []) i c.in_ok-yes.rest.now o m3
+          (call T c.args.depth e (ExpressionPart whole) (LevelPart ∷ []) c.in_ok-yes.rest.now o (λ s l. omega (arith, l, n)) c.in_ok-no.ensures.reads))
+          (level_ends T c.args.depth [] o);
+    }
+
+pub read_before-returns : goal.read_before-returns
+read_before-returns t c =
+    let T = c.args.text.now in record {
+      between = c.in_ok-expression.rest.now;
+      spans = c.in_ok-expression.ensures.spans;
+      takes = S.takes T (word c.args.last) c.in_ok-expression.rest.now c.in_ok-rest.rest.now c.in_ok-rest.ensures.passed (c.in_ok-rest.ensures.first.1 T);
+      fits = c.in_ok-expression.ensures.fits;
+      nesting = c.in_ok-expression.ensures.nesting;
+      shorter = omega (arith, c.in_ok-expression.ensures.shorter, c.in_ok-rest.ensures.shorter);
+      proper = c.in_ok-rest.ensures.proper T c.in_ok-expression.ensures.proper;
+      reads = let T = c.args.text.now in
+          let k = TokenPart (token_of c.args.last) ∷ [] in
+          let m = call T c.args.depth c.args.depth (ExpressionPart whole) k c.args.input.now c.in_ok-expression.rest.now (λ s l. l) c.in_ok-expression.ensures.reads in
+          then T c.args.depth (ExpressionPart whole ∷ k) k [] c.args.input.now c.in_ok-expression.rest.now c.in_ok-rest.rest.now m
+          (expected T c.args.depth (token_of c.args.last) [] (class.Word c.args.last) c.in_ok-expression.rest.now c.in_ok-rest.rest.now (λ s l. omega (arith, l, c.requires.1.1.0)) c.requires.1.1.1.1
+          c.in_ok-rest.ensures.first);
+    }
+
+pub read_level-returns : goal.read_level-returns
+read_level-returns t c =
+    record {
+      spans = let T = c.args.text.now in
+          c.in_ok-expression-2.ensures.spans T c.args.input.now c.operands.invariant.spans.0 c.operands.rest.now c.reach.ensures c.operands.invariant.spans.1 c.operands.invariant.spans.2;
+      fits = subst (Fits (at (rung_of c.args.level))) (sym c.in_ok-expression-2.ensures.built) (level_fits c.args.level _ _ c.in_ok-first.ensures.fits c.operands.invariant.formed);
+      nesting = omega (arith, ap expression_nesting c.in_ok-expression-2.ensures.built, joined_nesting (expression_of c.in_ok-first.first) (operands_of c.operands.further.items), c.operands.invariant.nesting);
+      shorter = c.operands.invariant.shorter;
+      proper = c.operands.invariant.proper;
+      reads = then c.args.text.now c.args.depth (ExpressionPart (rung_of c.args.level) ∷ []) (OperatorsPart (rung_of c.args.level) ∷ []) [] c.args.input.now c.operands.rest.now c.operands.rest.now c.operands.invariant.reads (level_end c.args.text.now c.args.depth c.args.level [] c.operands.rest.now (c.in_default.ensures.lacks c.args.text.now));
+    }
+
+pub read_denial-returns-in_default : goal.read_denial-returns-in_default
+read_denial-returns-in_default t c =
+    opened c.args.text.now c.args.depth denials relations c.args.input.now (omega arith) (opens_denial c.args.text.now c.args.depth [] c.args.input.now (c.in_default.ensures.lacks c.args.text.now)) c.read_relation.result (λ x. x.0) (λ x. x.1.now) c.read_relation.ensures
+
+pub read_denial-returns : goal.read_denial-returns
+read_denial-returns t c =
+    record {
+      spans = let T = c.args.text.now in
+          c.in_ok-expression.ensures.spans T c.args.input.now c.in-Some.rest.now c.in_ok-operand.rest.now c.reach.ensures
+          (S.takes T (word keyword.Not) c.args.input.now c.in-Some.rest.now c.in-Some.ensures.passed (c.in-Some.ensures.first T)) c.in_ok-operand.ensures.spans;
+      fits = subst (Fits 3) (sym c.in_ok-expression.ensures.built) (omega arith, c.in_ok-operand.ensures.fits);
+      nesting = omega (arith, ap expression_nesting c.in_ok-expression.ensures.built, c.in_ok-inner.ensures.deeper.0, c.in_ok-operand.ensures.nesting);
+      shorter = omega (arith, c.in-Some.ensures.shorter, c.in_ok-operand.ensures.shorter);
+      proper = c.in_ok-operand.ensures.proper;
+      reads = (then c.args.text.now c.args.depth (ExpressionPart denials ∷ []) (LevelPart ∷ []) ([]) c.args.input.now c.in_ok-operand.rest.now c.in_ok-operand.rest.now (then c.args.text.now c.args.depth (ExpressionPart denials ∷ []) (ExpressionPart denials ∷ LevelPart ∷ []) (LevelPart ∷ []) c.args.input.now c.in-Some.rest.now c.in_ok-operand.rest.now (one c.args.text.now c.args.depth (ExpressionPart denials) ([]) (ExpressionPart denials ∷ LevelPart ∷ []) (word keyword.Not) c.args.input.now c.in-Some.rest.now (λ s l. omega (arith, l, c.requires.1.1.0, c.in_ok-inner.ensures.deeper.0, c.in_ok-inner.ensures.deeper.1)) (λ s. refl) (c.in-Some.ensures.first c.args.text.now)) (call c.args.text.now c.args.depth c.in_ok-inner.inner (ExpressionPart denials) (LevelPart ∷ []) c.in-Some.rest.now c.in_ok-operand.rest.now (λ s l. omega (arith, l, c.requires.1.1.0, c.in_ok-inner.ensures.deeper.0, c.in_ok-inner.ensures.deeper.1)) c.in_ok-operand.ensures.reads)) (level_ends c.args.text.now c.args.depth [] c.in_ok-operand.rest.now));
+    }
+
+pub read_relation-returns-in_default : goal.read_relation-returns-in_default
+read_relation-returns-in_default t c =
+    record {
+      spans = c.in_ok-left.ensures.spans;
+      fits = (omega (arith, c.in_ok-left.ensures.fits.0), c.in_ok-left.ensures.fits.1);
+      nesting = c.in_ok-left.ensures.nesting;
+      shorter = c.in_ok-left.ensures.shorter;
+      proper = c.in_ok-left.ensures.proper;
+      reads = (then c.args.text.now c.args.depth (ExpressionPart relations ∷ []) (OperatorsPart relations ∷ []) ([]) c.args.input.now c.in_ok-left.rest.now c.in_ok-left.rest.now (then c.args.text.now c.args.depth (ExpressionPart relations ∷ []) (ExpressionPart sums ∷ OperatorsPart relations ∷ []) (OperatorsPart relations ∷ []) c.args.input.now c.args.input.now c.in_ok-left.rest.now (opens_chain c.args.text.now c.args.depth relations [] c.args.input.now tt) (call c.args.text.now c.args.depth c.args.depth (ExpressionPart sums) (OperatorsPart relations ∷ []) c.args.input.now c.in_ok-left.rest.now (λ s l. omega (arith, l, c.requires.1.1.0)) c.in_ok-left.ensures.reads)) (operators_end c.args.text.now c.args.depth relations [] c.in_ok-left.rest.now (c.in_default.ensures.lacks c.args.text.now)));
+    }
+
+pub read_relation-returns : goal.read_relation-returns
+read_relation-returns t c =
+    record {
+      spans = let T = c.args.text.now in
+          c.in_ok-expression.ensures.spans T c.args.input.now c.in_ok-left.rest.now c.in-Some.after.now c.in_ok-right.rest.now c.reach.ensures c.in_ok-left.ensures.spans
+          (S.takes T (operator_terminal c.in-Some.operator) c.in_ok-left.rest.now c.in-Some.after.now c.in-Some.ensures.passed (c.in-Some.ensures.first T)) c.in_ok-right.ensures.spans;
+      fits = subst (Fits 4) (sym c.in_ok-expression.ensures.built) (compared_fits c.in-Some.operator _ _ c.in-Some.ensures.ranked c.in_ok-left.ensures.fits c.in_ok-right.ensures.fits);
+      nesting = omega (arith, ap expression_nesting c.in_ok-expression.ensures.built, c.in_ok-left.ensures.nesting, c.in_ok-right.ensures.nesting);
+      shorter = omega (arith, c.in-Some.ensures.shorter, c.in_ok-left.ensures.shorter, c.in_ok-right.ensures.shorter);
+      proper = c.in_ok-right.ensures.proper;
+      reads = (then c.args.text.now c.args.depth (ExpressionPart relations ∷ []) (ExpressionPart sums ∷ []) ([]) c.args.input.now c.in-Some.after.now c.in_ok-right.rest.now (then c.args.text.now c.args.depth (ExpressionPart relations ∷ []) (OperatorsPart relations ∷ []) (ExpressionPart sums ∷ []) c.args.input.now c.in_ok-left.rest.now c.in-Some.after.now (then c.args.text.now c.args.depth (ExpressionPart relations ∷ []) (ExpressionPart sums ∷ OperatorsPart relations ∷ []) (OperatorsPart relations ∷ []) c.args.input.now c.args.input.now c.in_ok-left.rest.now (opens_chain c.args.text.now c.args.depth relations [] c.args.input.now tt) (call c.args.text.now c.args.depth c.args.depth (ExpressionPart sums) (OperatorsPart relations ∷ []) c.args.input.now c.in_ok-left.rest.now (λ s l. omega (arith, l, c.requires.1.1.0)) c.in_ok-left.ensures.reads)) (comparison c.args.text.now c.args.depth c.in-Some.operator [] c.in_ok-left.rest.now c.in-Some.after.now (λ s l. omega (arith, l, c.requires.1.1.0)) c.in-Some.ensures.ranked (c.in-Some.ensures.first c.args.text.now))) (call c.args.text.now c.args.depth c.args.depth (ExpressionPart sums) ([]) c.in-Some.after.now c.in_ok-right.rest.now (λ s l. omega (arith, l, c.requires.1.1.0)) c.in_ok-right.ensures.reads));
+    }
+
+pub read_factor-returns-in-Some-Number-default : goal.read_factor-returns-in-Some-Number-default
+read_factor-returns-in-Some-Number-default t c =
+    let T = c.args.text.now in record {
+      spans = let T = c.args.text.now in
+          let u = subst IsUnsigned c.in-Some-Number-default.field-0-0-is (c.in-Some-Number-default.ensures.unsigned T c.requires.1.1.1) in (
+            c.reach.ensures,
+            subst (λ z. Takes T (number z) c.args.input.now c.in-Some-Number-default.rest.now) (sym (to_z-of_z w64 c.in-Some-Number-default.number (number_fits c.in-Some-Number-default.number u.0 u.1 u.2)))
+                (S.takes T (number c.in-Some-Number-default.number) c.args.input.now c.in-Some-Number-default.rest.now c.in-Some-Number-default.ensures.passed ((first_of _ (class.Number c.in-Some-Number-default.number) c.args.input.now c.in-Some-Number-default.rest.now c.in-Some-Number-default.field-0-0-is c.in-Some-Number-default.ensures.first.0).1 T)),
+          );
+      fits = (omega arith, tt);
+      nesting = omega (arith, c.requires.1.1.0);
+      shorter = omega (arith, c.in-Some-Number-default.ensures.first.1);
+      proper = c.in-Some-Number-default.ensures.proper T c.requires.1.1.1;
+      reads = one T c.args.depth (ExpressionPart factors) [] [] (number c.in-Some-Number-default.number) c.args.input.now c.in-Some-Number-default.rest.now (λ s l. omega (arith, l, c.requires.1.1.0)) (λ s. refl) ((first_of _ (class.Number c.in-Some-Number-default.number) c.args.input.now c.in-Some-Number-default.rest.now (c.in-Some-Number-default.field-0-0-is) c.in-Some-Number-default.ensures.first.0).1 T);
+    }
+
+pub read_factor-returns-in-Some-Word-True-default : goal.read_factor-returns-in-Some-Word-True-default
+read_factor-returns-in-Some-Word-True-default t c =
+    let T = c.args.text.now in record {
+      spans = let T = c.args.text.now in
+          (c.reach-in-Some-Word-True-default.ensures, (S.takes T (word keyword.True) c.args.input.now c.in-Some-Word-True-default.rest.now c.in-Some-Word-True-default.ensures.passed ((first_of _ (class.Word keyword.True) c.args.input.now c.in-Some-Word-True-default.rest.now (c.in-Some-Word-True-default.field-0-0-is ∙ ap class.Word c.in-Some-Word-True-default.field-0-0-0-is) c.in-Some-Word-True-default.ensures.first.0).1 T)));
+      fits = (omega arith, tt);
+      nesting = omega (arith, c.requires.1.1.0);
+      shorter = omega (arith, c.in-Some-Word-True-default.ensures.first.1);
+      proper = c.in-Some-Word-True-default.ensures.proper T c.requires.1.1.1;
+      reads = one T c.args.depth (ExpressionPart factors) [] [] (word keyword.True) c.args.input.now c.in-Some-Word-True-default.rest.now (λ s l. omega (arith, l, c.requires.1.1.0)) (λ s. refl) ((first_of _ (class.Word keyword.True) c.args.input.now c.in-Some-Word-True-default.rest.now (c.in-Some-Word-True-default.field-0-0-is ∙ ap class.Word c.in-Some-Word-True-default.field-0-0-0-is) c.in-Some-Word-True-default.ensures.first.0).1 T);
+    }
+
+pub read_factor-returns-in-Some-Word-False-default : goal.read_factor-returns-in-Some-Word-False-default
+read_factor-returns-in-Some-Word-False-default t c =
+    let T = c.args.text.now in record {
+      spans = let T = c.args.text.now in
+          (c.reach-in-Some-Word-False-default.ensures, (S.takes T (word keyword.False) c.args.input.now c.in-Some-Word-False-default.rest.now c.in-Some-Word-False-default.ensures.passed ((first_of _ (class.Word keyword.False) c.args.input.now c.in-Some-Word-False-default.rest.now (c.in-Some-Word-False-default.field-0-0-is ∙ ap class.Word c.in-Some-Word-False-default.field-0-0-0-is) c.in-Some-Word-False-default.ensures.first.0).1 T)));
+      fits = (omega arith, tt);
+      nesting = omega (arith, c.requires.1.1.0);
+      shorter = omega (arith, c.in-Some-Word-False-default.ensures.first.1);
+      proper = c.in-Some-Word-False-default.ensures.proper T c.requires.1.1.1;
+      reads = one T c.args.depth (ExpressionPart factors) [] [] (word keyword.False) c.args.input.now c.in-Some-Word-False-default.rest.now (λ s l. omega (arith, l, c.requires.1.1.0)) (λ s. refl) ((first_of _ (class.Word keyword.False) c.args.input.now c.in-Some-Word-False-default.rest.now (c.in-Some-Word-False-default.field-0-0-is ∙ ap class.Word c.in-Some-Word-False-default.field-0-0-0-is) c.in-Some-Word-False-default.ensures.first.0).1 T);
+    }
+
+pub read_factor-returns-in-Some-Word-Wait-default : goal.read_factor-returns-in-Some-Word-Wait-default
+read_factor-returns-in-Some-Word-Wait-default t c =
+    c.read_wait.ensures c.args.depth c.requires.1.1.0
+
+pub read_factor-returns-in_ok-expression-in-Some-Sign-Minus-default : goal.read_factor-returns-in_ok-expression-in-Some-Sign-Minus-default
+read_factor-returns-in_ok-expression-in-Some-Sign-Minus-default t c =
+    record {
+      spans = let T = c.args.text.now in
+          c.in_ok-expression-in-Some-Sign-Minus-default.ensures.spans T c.args.input.now c.in-Some-Sign-Minus-default.rest.now c.in_ok-operand-in-Some-Sign-Minus-default.rest.now c.reach-in-Some-Sign-Minus-default.ensures
+          (S.takes T (sign mark.Minus) c.args.input.now c.in-Some-Sign-Minus-default.rest.now c.in-Some-Sign-Minus-default.ensures.passed ((first_of _ (class.Sign mark.Minus) c.args.input.now c.in-Some-Sign-Minus-default.rest.now (c.in-Some-Sign-Minus-default.field-0-0-is ∙ ap class.Sign c.in-Some-Sign-Minus-default.field-0-0-0-is) c.in-Some-Sign-Minus-default.ensures.first.0).1 T)) c.in_ok-operand-in-Some-Sign-Minus-default.ensures.spans;
+      fits = subst (Fits 7) (sym c.in_ok-expression-in-Some-Sign-Minus-default.ensures.built) (omega arith, c.in_ok-operand-in-Some-Sign-Minus-default.ensures.fits);
+      nesting = omega (arith, ap expression_nesting c.in_ok-expression-in-Some-Sign-Minus-default.ensures.built, c.in_ok-inner-in-Some-Sign-Minus-default.ensures.deeper.0, c.in_ok-operand-in-Some-Sign-Minus-default.ensures.nesting);
+      shorter = omega (arith, c.in-Some-Sign-Minus-default.ensures.first.1, c.in_ok-operand-in-Some-Sign-Minus-default.ensures.shorter);
+      proper = c.in_ok-operand-in-Some-Sign-Minus-default.ensures.proper;
+      reads = (then c.args.text.now c.args.depth (ExpressionPart factors ∷ []) (LevelPart ∷ []) ([]) c.args.input.now c.in_ok-operand-in-Some-Sign-Minus-default.rest.now c.in_ok-operand-in-Some-Sign-Minus-default.rest.now (then c.args.text.now c.args.depth (ExpressionPart factors ∷ []) (ExpressionPart factors ∷ LevelPart ∷ []) (LevelPart ∷ []) c.args.input.now c.in-Some-Sign-Minus-default.rest.now c.in_ok-operand-in-Some-Sign-Minus-default.rest.now (one c.args.text.now c.args.depth (ExpressionPart factors) ([]) (ExpressionPart factors ∷ LevelPart ∷ []) (sign mark.Minus) c.args.input.now c.in-Some-Sign-Minus-default.rest.now (λ s l. omega (arith, l, c.requires.1.1.0, c.in_ok-inner-in-Some-Sign-Minus-default.ensures.deeper.0, c.in_ok-inner-in-Some-Sign-Minus-default.ensures.deeper.1)) (λ s. refl) ((first_of _ (class.Sign mark.Minus) c.args.input.now c.in-Some-Sign-Minus-default.rest.now (c.in-Some-Sign-Minus-default.field-0-0-is ∙ ap class.Sign c.in-Some-Sign-Minus-default.field-0-0-0-is) c.in-Some-Sign-Minus-default.ensures.first.0).1 c.args.text.now)) (call c.args.text.now c.args.depth c.in_ok-inner-in-Some-Sign-Minus-default.inner (ExpressionPart factors) (LevelPart ∷ []) c.in-Some-Sign-Minus-default.rest.now c.in_ok-operand-in-Some-Sign-Minus-default.rest.now (λ s l. omega (arith, l, c.requires.1.1.0, c.in_ok-inner-in-Some-Sign-Minus-default.ensures.deeper.0, c.in_ok-inner-in-Some-Sign-Minus-default.ensures.deeper.1)) c.in_ok-operand-in-Some-Sign-Minus-default.ensures.reads)) (level_ends c.args.text.now c.args.depth [] c.in_ok-operand-in-Some-Sign-Minus-default.rest.now));
+    }
+
+pub read_factor-returns-in_ok-expression-in-Some-Sign-Open-default : goal.read_factor-returns-in_ok-expression-in-Some-Sign-Open-default
+read_factor-returns-in_ok-expression-in-Some-Sign-Open-default t c =
+    record {
+      spans = let T = c.args.text.now in
+          c.in_ok-expression-in-Some-Sign-Open-default.ensures.spans T c.args.input.now c.in-Some-Sign-Open-default.rest.now c.in_ok-inside-in-Some-Sign-Open-default.rest.now c.in_ok-rest-in-Some-Sign-Open-default.rest.now c.reach-in-Some-Sign-Open-default.ensures
+          (S.takes T (sign mark.Open) c.args.input.now c.in-Some-Sign-Open-default.rest.now c.in-Some-Sign-Open-default.ensures.passed ((first_of _ (class.Sign mark.Open) c.args.input.now c.in-Some-Sign-Open-default.rest.now (c.in-Some-Sign-Open-default.field-0-0-is ∙ ap class.Sign c.in-Some-Sign-Open-default.field-0-0-0-is) c.in-Some-Sign-Open-default.ensures.first.0).1 T)) c.in_ok-inside-in-Some-Sign-Open-default.ensures.spans (S.takes T (sign mark.Close) c.in_ok-inside-in-Some-Sign-Open-default.rest.now c.in_ok-rest-in-Some-Sign-Open-default.rest.now c.in_ok-rest-in-Some-Sign-Open-default.ensures.passed (c.in_ok-rest-in-Some-Sign-Open-default.ensures.first.1 T));
+      fits = subst (Fits 7) (sym c.in_ok-expression-in-Some-Sign-Open-default.ensures.built) (omega arith, c.in_ok-inside-in-Some-Sign-Open-default.ensures.fits.1);
+      nesting = omega (arith, ap expression_nesting c.in_ok-expression-in-Some-Sign-Open-default.ensures.built, c.in_ok-inner-in-Some-Sign-Open-default.ensures.deeper.0, c.in_ok-inside-in-Some-Sign-Open-default.ensures.nesting);
+      shorter = omega (arith, c.in-Some-Sign-Open-default.ensures.first.1, c.in_ok-inside-in-Some-Sign-Open-default.ensures.shorter, c.in_ok-rest-in-Some-Sign-Open-default.ensures.shorter);
+      proper = c.in_ok-rest-in-Some-Sign-Open-default.ensures.proper c.args.text.now c.in_ok-inside-in-Some-Sign-Open-default.ensures.proper;
+      reads = (then c.args.text.now c.args.depth (ExpressionPart factors ∷ []) (LevelPart ∷ []) ([]) c.args.input.now c.in_ok-rest-in-Some-Sign-Open-default.rest.now c.in_ok-rest-in-Some-Sign-Open-default.rest.now (then c.args.text.now c.args.depth (ExpressionPart factors ∷ []) (TokenPart CloseToken ∷ LevelPart ∷ []) (LevelPart ∷ []) c.args.input.now c.in_ok-inside-in-Some-Sign-Open-default.rest.now c.in_ok-rest-in-Some-Sign-Open-default.rest.now (then c.args.text.now c.args.depth (ExpressionPart factors ∷ []) (ExpressionPart whole ∷ TokenPart CloseToken ∷ LevelPart ∷ []) (TokenPart CloseToken ∷ LevelPart ∷ []) c.args.input.now c.in-Some-Sign-Open-default.rest.now c.in_ok-inside-in-Some-Sign-Open-default.rest.now (one c.args.text.now c.args.depth (ExpressionPart factors) ([]) (ExpressionPart whole ∷ TokenPart CloseToken ∷ LevelPart ∷ []) (sign mark.Open) c.args.input.now c.in-Some-Sign-Open-default.rest.now (λ s l. omega (arith, l, c.requires.1.1.0, c.in_ok-inner-in-Some-Sign-Open-default.ensures.deeper.0, c.in_ok-inner-in-Some-Sign-Open-default.ensures.deeper.1)) (λ s. refl) ((first_of _ (class.Sign mark.Open) c.args.input.now c.in-Some-Sign-Open-default.rest.now (c.in-Some-Sign-Open-default.field-0-0-is ∙ ap class.Sign c.in-Some-Sign-Open-default.field-0-0-0-is) c.in-Some-Sign-Open-default.ensures.first.0).1 c.args.text.now)) (call c.args.text.now c.args.depth c.in_ok-inner-in-Some-Sign-Open-default.inner (ExpressionPart whole) (TokenPart CloseToken ∷ LevelPart ∷ []) c.in-Some-Sign-Open-default.rest.now c.in_ok-inside-in-Some-Sign-Open-default.rest.now (λ s l. omega (arith, l, c.requires.1.1.0, c.in_ok-inner-in-Some-Sign-Open-default.ensures.deeper.0, c.in_ok-inner-in-Some-Sign-Open-default.ensures.deeper.1)) c.in_ok-inside-in-Some-Sign-Open-default.ensures.reads)) (expected c.args.text.now c.args.depth CloseToken (LevelPart ∷ []) (class.Sign mark.Close) c.in_ok-inside-in-Some-Sign-Open-default.rest.now c.in_ok-rest-in-Some-Sign-Open-default.rest.now (λ s l. omega (arith, l, c.requires.1.1.0, c.in_ok-inner-in-Some-Sign-Open-default.ensures.deeper.0, c.in_ok-inner-in-Some-Sign-Open-default.ensures.deeper.1)) refl c.in_ok-rest-in-Some-Sign-Open-default.ensures.first)) (level_ends c.args.text.now c.args.depth [] c.in_ok-rest-in-Some-Sign-Open-default.rest.now));
+    }
+
+pub read_factor-returns-in_ok-name-in-Some-Name-default : goal.read_factor-returns-in_ok-name-in-Some-Name-default
+read_factor-returns-in_ok-name-in-Some-Name-default t c =
+    let T = c.args.text.now in record {
+      spans = (c.in_ok-name-in-Some-Name-default.ensures.spans.1, c.in_ok-name-in-Some-Name-default.ensures.spans);
+      fits = (omega arith, tt);
+      nesting = omega (arith, c.requires.1.1.0);
+      shorter = omega (arith, c.in_ok-name-in-Some-Name-default.ensures.shorter);
+      proper = c.in_ok-name-in-Some-Name-default.ensures.proper;
+      reads = one T c.args.depth (ExpressionPart factors) [] [] (name (name_of c.in_ok-name-in-Some-Name-default.name)) c.args.input.now c.in_ok-name-in-Some-Name-default.rest.now (λ s l. omega (arith, l, c.requires.1.1.0)) (λ s. refl) c.in_ok-name-in-Some-Name-default.ensures.words;
+    }
+
+pub read_factor-returns-in_default : goal.read_factor-returns-in_default
+read_factor-returns-in_default t c =
+    let a : leads_factor (terminals c.args.text.now c.args.input.now) ≡ false = search rules in no_factor c.args.text.now c.args.depth c.args.input.now a
+
+pub read_denial-returns-in_err-expression : goal.read_denial-returns-in_err-expression
+read_denial-returns-in_err-expression t c =
+    let p = err_from_is_err_and c.from_residual-in_err-expression.result c.from_residual-in_err-expression.ensures.1 in
+    rw (p.1, p.2) (no_memory c.args.text.now c.args.depth (ExpressionPart denials ∷ []) c.args.input.now _ c.in_err-expression.ensures.stop)
+
+pub read_expression-returns-in_err-expression : goal.read_expression-returns-in_err-expression
+read_expression-returns-in_err-expression t c =
+    let p = err_from_is_err_and c.from_residual-in_err-expression.result c.from_residual-in_err-expression.ensures.1 in
+    rw (p.1, p.2) (no_memory c.args.text.now c.args.depth (ExpressionPart whole ∷ []) c.args.input.now _ c.in_err-expression.ensures.stop)
+
+pub read_factor-returns-in_err-expression-in-Some-Sign-Minus-default : goal.read_factor-returns-in_err-expression-in-Some-Sign-Minus-default
+read_factor-returns-in_err-expression-in-Some-Sign-Minus-default t c =
+    let p = err_from_is_err_and c.from_residual-in_err-expression-in-Some-Sign-Minus-default.result c.from_residual-in_err-expression-in-Some-Sign-Minus-default.ensures.1 in
+    rw (p.1, p.2) (no_memory c.args.text.now c.args.depth (ExpressionPart factors ∷ []) c.args.input.now _ c.in_err-expression-in-Some-Sign-Minus-default.ensures.stop)
+
+pub read_factor-returns-in_err-expression-in-Some-Sign-Open-default : goal.read_factor-returns-in_err-expression-in-Some-Sign-Open-default
+read_factor-returns-in_err-expression-in-Some-Sign-Open-default t c =
+    let p = err_from_is_err_and c.from_residual-in_err-expression-in-Some-Sign-Open-default.result c.from_residual-in_err-expression-in-Some-Sign-Open-default.ensures.1 in
+    rw (p.1, p.2) (no_memory c.args.text.now c.args.depth (ExpressionPart factors ∷ []) c.args.input.now _ c.in_err-expression-in-Some-Sign-Open-default.ensures.stop)
+
+pub read_level-returns-in_err-expression-2 : goal.read_level-returns-in_err-expression-2
+read_level-returns-in_err-expression-2 t c =
+    let p = err_from_is_err_and c.from_residual-in_err-expression-2.result c.from_residual-in_err-expression-2.ensures.1 in
+    rw (p.1, p.2) (no_memory c.args.text.now c.args.depth (ExpressionPart (rung_of c.args.level) ∷ []) c.args.input.now _ c.in_err-expression-2.ensures.stop)
+
+pub read_relation-returns-in_err-expression : goal.read_relation-returns-in_err-expression
+read_relation-returns-in_err-expression t c =
+    let p = err_from_is_err_and c.from_residual-in_err-expression.result c.from_residual-in_err-expression.ensures.1 in
+    rw (p.1, p.2) (no_memory c.args.text.now c.args.depth (ExpressionPart relations ∷ []) c.args.input.now _ c.in_err-expression.ensures.stop)
+
+pub read_denial-returns-in_err-operand : goal.read_denial-returns-in_err-operand
+read_denial-returns-in_err-operand t c =
+    let p = err_from_is_err_and c.from_residual-in_err-operand.result c.from_residual-in_err-operand.ensures.1 in
+    rw (p.1, p.2) (then_stops c.args.text.now c.args.depth (ExpressionPart denials ∷ []) (ExpressionPart denials ∷ LevelPart ∷ []) c.args.input.now c.in-Some.rest.now _
+    (one c.args.text.now c.args.depth (ExpressionPart denials) [] (ExpressionPart denials ∷ LevelPart ∷ []) (word keyword.Not) c.args.input.now c.in-Some.rest.now (λ s l. omega (arith, l, c.in_ok-inner.ensures.deeper.0, c.in_ok-inner.ensures.deeper.1)) (λ s. refl) (c.in-Some.ensures.first c.args.text.now))
+    (call_stops c.args.text.now c.args.depth c.in_ok-inner.inner (ExpressionPart denials) (LevelPart ∷ []) c.in-Some.rest.now _ (λ s l. omega (arith, l, c.in_ok-inner.ensures.deeper.0)) c.in_err-operand.ensures))
+
+pub read_factor-returns-in_err-operand-in-Some-Sign-Minus-default : goal.read_factor-returns-in_err-operand-in-Some-Sign-Minus-default
+read_factor-returns-in_err-operand-in-Some-Sign-Minus-default t c =
+    let p = err_from_is_err_and c.from_residual-in_err-operand-in-Some-Sign-Minus-default.result c.from_residual-in_err-operand-in-Some-Sign-Minus-default.ensures.1 in
+    rw (p.1, p.2) (then_stops c.args.text.now c.args.depth (ExpressionPart factors ∷ []) (ExpressionPart factors ∷ LevelPart ∷ []) c.args.input.now c.in-Some-Sign-Minus-default.rest.now _
+    (one c.args.text.now c.args.depth (ExpressionPart factors) [] (ExpressionPart factors ∷ LevelPart ∷ []) (sign mark.Minus) c.args.input.now c.in-Some-Sign-Minus-default.rest.now (λ s l. omega (arith, l, c.in_ok-inner-in-Some-Sign-Minus-default.ensures.deeper.0, c.in_ok-inner-in-Some-Sign-Minus-default.ensures.deeper.1)) (λ s. refl) ((first_of _ (class.Sign mark.Minus) c.args.input.now c.in-Some-Sign-Minus-default.rest.now (c.in-Some-Sign-Minus-default.field-0-0-is ∙ ap class.Sign c.in-Some-Sign-Minus-default.field-0-0-0-is) c.in-Some-Sign-Minus-default.ensures.first.0).1 c.args.text.now))
+    (call_stops c.args.text.now c.args.depth c.in_ok-inner-in-Some-Sign-Minus-default.inner (ExpressionPart factors) (LevelPart ∷ []) c.in-Some-Sign-Minus-default.rest.now _ (λ s l. omega (arith, l, c.in_ok-inner-in-Some-Sign-Minus-default.ensures.deeper.0)) c.in_err-operand-in-Some-Sign-Minus-default.ensures))
+
+pub read_factor-returns-in_err-inside-in-Some-Sign-Open-default : goal.read_factor-returns-in_err-inside-in-Some-Sign-Open-default
+read_factor-returns-in_err-inside-in-Some-Sign-Open-default t c =
+    let p = err_from_is_err_and c.from_residual-in_err-inside-in-Some-Sign-Open-default.result c.from_residual-in_err-inside-in-Some-Sign-Open-default.ensures.1 in
+    rw (p.1, p.2) (then_stops c.args.text.now c.args.depth (ExpressionPart factors ∷ []) (ExpressionPart whole ∷ TokenPart CloseToken ∷ LevelPart ∷ []) c.args.input.now c.in-Some-Sign-Open-default.rest.now _
+    (one c.args.text.now c.args.depth (ExpressionPart factors) [] (ExpressionPart whole ∷ TokenPart CloseToken ∷ LevelPart ∷ []) (sign mark.Open) c.args.input.now c.in-Some-Sign-Open-default.rest.now (λ s l. omega (arith, l, c.in_ok-inner-in-Some-Sign-Open-default.ensures.deeper.0, c.in_ok-inner-in-Some-Sign-Open-default.ensures.deeper.1)) (λ s. refl) ((first_of _ (class.Sign mark.Open) c.args.input.now c.in-Some-Sign-Open-default.rest.now (c.in-Some-Sign-Open-default.field-0-0-is ∙ ap class.Sign c.in-Some-Sign-Open-default.field-0-0-0-is) c.in-Some-Sign-Open-default.ensures.first.0).1 c.args.text.now))
+    (call_stops c.args.text.now c.args.depth c.in_ok-inner-in-Some-Sign-Open-default.inner (ExpressionPart whole) (TokenPart CloseToken ∷ LevelPart ∷ []) c.in-Some-Sign-Open-default.rest.now _ (λ s l. omega (arith, l, c.in_ok-inner-in-Some-Sign-Open-default.ensures.deeper.0)) c.in_err-inside-in-Some-Sign-Open-default.ensures))

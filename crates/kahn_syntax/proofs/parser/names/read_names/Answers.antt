@@ -10,13 +10,13 @@ use Rattle.kahn_syntax.proofs.Spanning as S
 use Rattle.kahn_syntax.proofs.Moves.{then, then_stops, token, goes, ends, no_name}
 use Rattle.kahn_syntax.proofs.parser.names.read_names.Goals as goal
 
-pub returns-in_err-first-clause-stops : goal.returns-in_err-first-clause-stops
-returns-in_err-first-clause-stops c =
+pub returns-in_err-first : goal.returns-in_err-first
+returns-in_err-first c =
     let p = err_from_is_err_and c.from_residual.result c.from_residual.ensures.1 in
     rw (p.1, p.2) (no_name c.args.text.now 0 (TailPart NamesTail ∷ []) c.args.input.now _ c.in_err-first.ensures.stop)
 
-pub returns-in_err-name-clause-stops : goal.returns-in_err-name-clause-stops
-returns-in_err-name-clause-stops c =
+pub returns-in_err-name : goal.returns-in_err-name
+returns-in_err-name c =
     let p = err_from_is_err_and c.from_residual-in_err-name.result c.from_residual-in_err-name.ensures.1 in
     rw (p.1, p.2)
     (then_stops c.args.text.now 0 (names_then []) (TailPart NamesTail ∷ []) c.args.input.now c.names.rest.now _ c.names.invariant.reads
@@ -38,10 +38,16 @@ names-preserved c =
           (token c.args.text.now 0 NameToken (TailPart NamesTail ∷ []) (name (name_of c.in_ok-name.name)) _ _ (λ s l. omega (arith, l)) refl c.in_ok-name.ensures.words));
     }
 
-pub returns-clause-reads : goal.returns-clause-reads
-returns-clause-reads c =
-    then c.args.text.now 0 (names_then []) (TailPart NamesTail ∷ []) [] c.args.input.now c.names.rest.now _ c.names.invariant.reads
-    (ends c.args.text.now 0 NamesTail [] (class.Sign mark.Comma) c.names.rest.now refl c.in_default.ensures.absent)
-
 pub read_name-requires-in-Some : goal.read_name-requires-in-Some
 read_name-requires-in-Some c = record { proper = c.in-Some.ensures.proper c.args.text.now c.names.invariant.proper }
+
+pub returns : goal.returns
+returns c =
+    record {
+      words = (c.names.invariant.some, c.names.invariant.words);
+      spans = c.names.invariant.spans;
+      shorter = c.names.invariant.shorter;
+      proper = c.names.invariant.proper;
+      reads = then c.args.text.now 0 (names_then []) (TailPart NamesTail ∷ []) [] c.args.input.now c.names.rest.now _ c.names.invariant.reads
+          (ends c.args.text.now 0 NamesTail [] (class.Sign mark.Comma) c.names.rest.now refl c.in_default.ensures.absent);
+    }

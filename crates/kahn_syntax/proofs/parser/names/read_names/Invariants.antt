@@ -1,4 +1,4 @@
-use Rattle.std.proofs.Common.{◌≡◌, ◌<◌, [], ◌∷◌, length, map}
+use Rattle.std.proofs.Common.{◌≡◌, ◌≤◌, [], ◌∷◌, length, map}
 use Rattle.kahn_syntax.specs.Terminals.{terminals, AreProper}
 use Rattle.kahn_syntax.specs.Programs.{names_words, AreNames}
 use Rattle.kahn_syntax.specs.Machine.{NamesTail, TailPart, names_then}
@@ -12,7 +12,7 @@ invariant-names l = record {
   words : terminals l.text l.input ≡ names_words (map name_of l.names.items) (terminals l.text l.rest);
   some : AreNames (map name_of l.names.items);
   spans : NamesSpan l.text l.names.items l.input l.rest;
-  shorter : length l.rest < length l.input;
+  shorter : length l.rest ≤ length l.input;
   proper : AreProper l.text l.rest;
   reads : Moves l.text 0 (names_then []) (TailPart NamesTail ∷ []) l.input l.rest;
 }

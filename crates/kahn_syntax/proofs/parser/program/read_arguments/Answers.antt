@@ -9,24 +9,23 @@ use Rattle.std.proofs.Common.{◌++◌}
 use Rattle.kahn_syntax.proofs.Instanced.{arguments_next, arguments_first}
 use Rattle.kahn_syntax.proofs.Spanning as S
 use Rattle.kahn_syntax.specs.Spans.{ArgumentsSpan}
+use Rattle.std.proofs.Common.{map}
+use Rattle.kahn_syntax.specs.Terminals.{terminals}
+use Rattle.kahn_syntax.specs.Programs.{Arguments}
+use Rattle.kahn_syntax.specs.Drawn.{argument_of}
+use Rattle.kahn_syntax.proofs.Instanced.{arguments_end}
 use Rattle.kahn_syntax.proofs.parser.program.read_arguments.Goals as goal
 
-pub returns-in-Some-clause-proper : goal.returns-in-Some-clause-proper
-returns-in-Some-clause-proper c = c.in-Some.ensures.proper c.args.text.now c.requires.proper
-
-pub returns-in-Some-clause-reads : goal.returns-in-Some-clause-reads
-returns-in-Some-clause-reads c = (one c.args.text.now 0 (ArgumentsPart) ([]) ([]) (sign mark.Close) c.args.input.now c.in-Some.rest.now (λ s l. omega (arith, l)) (λ s. refl) (c.in-Some.ensures.first.1 c.args.text.now))
-
-pub returns-in_err-first-clause-stops : goal.returns-in_err-first-clause-stops
-returns-in_err-first-clause-stops c =
-    let p = err_from_is_err_and c.from_residual.result c.from_residual.ensures.1 in rw (p.1, p.2) (then_stops c.args.text.now 0 (ArgumentsPart ∷ []) (ArgumentPart ∷ TailPart ArgumentsTail ∷ TokenPart CloseToken ∷ []) c.args.input.now c.args.input.now _ (opens_arguments c.args.text.now [] c.args.input.now c.in_default.ensures.absent) (call_stops c.args.text.now 0 0 (ArgumentPart) (TailPart ArgumentsTail ∷ TokenPart CloseToken ∷ []) c.args.input.now _ (λ s l. omega (arith, l)) c.in_err-first.ensures.stops))
+pub returns-in_err-first : goal.returns-in_err-first
+returns-in_err-first c =
+    let p = err_from_is_err_and c.from_residual.result c.from_residual.ensures.1 in rw (p.1, p.2) (then_stops c.args.text.now 0 (ArgumentsPart ∷ []) (ArgumentPart ∷ TailPart ArgumentsTail ∷ TokenPart CloseToken ∷ []) c.args.input.now c.args.input.now _ (opens_arguments c.args.text.now [] c.args.input.now c.in_default.ensures.absent) (call_stops c.args.text.now 0 0 (ArgumentPart) (TailPart ArgumentsTail ∷ TokenPart CloseToken ∷ []) c.args.input.now _ (λ s l. omega (arith, l)) c.in_err-first.ensures))
 
 pub read_argument-requires-in-Some-past : goal.read_argument-requires-in-Some-past
 read_argument-requires-in-Some-past c = record { proper = c.in-Some-past.ensures.proper c.args.text.now c.arguments.invariant.proper }
 
-pub returns-in_err-argument-clause-stops : goal.returns-in_err-argument-clause-stops
-returns-in_err-argument-clause-stops c =
-    let p = err_from_is_err_and c.from_residual-in_err-argument.result c.from_residual-in_err-argument.ensures.1 in rw (p.1, p.2) (then_stops c.args.text.now 0 (ArgumentsPart ∷ []) (ArgumentPart ∷ TailPart ArgumentsTail ∷ TokenPart CloseToken ∷ []) c.args.input.now c.in-Some-past.after.now _ (then c.args.text.now 0 (ArgumentsPart ∷ []) (TailPart ArgumentsTail ∷ TokenPart CloseToken ∷ []) (ArgumentPart ∷ TailPart ArgumentsTail ∷ TokenPart CloseToken ∷ []) c.args.input.now c.arguments.rest.now c.in-Some-past.after.now (c.arguments.invariant.reads) (goes c.args.text.now 0 ArgumentsTail (TokenPart CloseToken ∷ []) (class.Sign mark.Comma) c.arguments.rest.now c.in-Some-past.after.now (λ s l. omega (arith, l)) refl c.in-Some-past.ensures.first)) (call_stops c.args.text.now 0 0 (ArgumentPart) (TailPart ArgumentsTail ∷ TokenPart CloseToken ∷ []) c.in-Some-past.after.now _ (λ s l. omega (arith, l)) c.in_err-argument.ensures.stops))
+pub returns-in_err-argument : goal.returns-in_err-argument
+returns-in_err-argument c =
+    let p = err_from_is_err_and c.from_residual-in_err-argument.result c.from_residual-in_err-argument.ensures.1 in rw (p.1, p.2) (then_stops c.args.text.now 0 (ArgumentsPart ∷ []) (ArgumentPart ∷ TailPart ArgumentsTail ∷ TokenPart CloseToken ∷ []) c.args.input.now c.in-Some-past.after.now _ (then c.args.text.now 0 (ArgumentsPart ∷ []) (TailPart ArgumentsTail ∷ TokenPart CloseToken ∷ []) (ArgumentPart ∷ TailPart ArgumentsTail ∷ TokenPart CloseToken ∷ []) c.args.input.now c.arguments.rest.now c.in-Some-past.after.now (c.arguments.invariant.reads) (goes c.args.text.now 0 ArgumentsTail (TokenPart CloseToken ∷ []) (class.Sign mark.Comma) c.arguments.rest.now c.in-Some-past.after.now (λ s l. omega (arith, l)) refl c.in-Some-past.ensures.first)) (call_stops c.args.text.now 0 0 (ArgumentPart) (TailPart ArgumentsTail ∷ TokenPart CloseToken ∷ []) c.in-Some-past.after.now _ (λ s l. omega (arith, l)) c.in_err-argument.ensures))
 
 pub arguments-init : goal.arguments-init
 arguments-init c =
@@ -49,22 +48,28 @@ arguments-preserved c =
       reads = (then c.args.text.now 0 (ArgumentsPart ∷ []) (ArgumentPart ∷ TailPart ArgumentsTail ∷ TokenPart CloseToken ∷ []) (TailPart ArgumentsTail ∷ TokenPart CloseToken ∷ []) c.args.input.now c.in-Some-past.after.now c.in_ok-argument.left.now (then c.args.text.now 0 (ArgumentsPart ∷ []) (TailPart ArgumentsTail ∷ TokenPart CloseToken ∷ []) (ArgumentPart ∷ TailPart ArgumentsTail ∷ TokenPart CloseToken ∷ []) c.args.input.now c.arguments.rest.now c.in-Some-past.after.now (c.arguments.invariant.reads) (goes c.args.text.now 0 ArgumentsTail (TokenPart CloseToken ∷ []) (class.Sign mark.Comma) c.arguments.rest.now c.in-Some-past.after.now (λ s l. omega (arith, l)) refl c.in-Some-past.ensures.first)) (call c.args.text.now 0 0 (ArgumentPart) (TailPart ArgumentsTail ∷ TokenPart CloseToken ∷ []) c.in-Some-past.after.now c.in_ok-argument.left.now (λ s l. omega (arith, l)) c.in_ok-argument.ensures.reads));
     }
 
-pub returns-in_err-rest-clause-stops : goal.returns-in_err-rest-clause-stops
-returns-in_err-rest-clause-stops c =
+pub returns-in_err-rest : goal.returns-in_err-rest
+returns-in_err-rest c =
     let p = err_from_is_err_and c.from_residual-in_err-rest.result c.from_residual-in_err-rest.ensures.1 in rw (p.1, p.2) (then_stops c.args.text.now 0 (ArgumentsPart ∷ []) (TokenPart CloseToken ∷ []) c.args.input.now c.arguments.rest.now _ (then c.args.text.now 0 (ArgumentsPart ∷ []) (TailPart ArgumentsTail ∷ TokenPart CloseToken ∷ []) (TokenPart CloseToken ∷ []) c.args.input.now c.arguments.rest.now c.arguments.rest.now (c.arguments.invariant.reads) (ends c.args.text.now 0 ArgumentsTail (TokenPart CloseToken ∷ []) (class.Sign mark.Comma) c.arguments.rest.now refl c.in_default-past.ensures.absent)) (unexpected c.args.text.now 0 CloseToken ([]) (class.Sign mark.Close) c.arguments.rest.now _ refl c.in_err-rest.ensures.stop))
 
-pub returns-clause-proper : goal.returns-clause-proper
-returns-clause-proper c = c.in_ok-rest.ensures.proper c.args.text.now c.arguments.invariant.proper
+pub returns-in-Some : goal.returns-in-Some
+returns-in-Some c =
+    record {
+      words = subst (λ us. Arguments (map argument_of us) (terminals c.args.text.now c.args.input.now) (sign mark.Close ∷ terminals c.args.text.now c.in-Some.rest.now)) (sym c.new-arguments.ensures.items) (c.in-Some.ensures.first.1 c.args.text.now);
+      spans = let T = c.args.text.now in
+          (c.args.input.now, subst (λ us. ArgumentsSpan T us c.args.input.now c.args.input.now) (sym c.new-arguments.ensures.items) refl, (S.takes T (sign mark.Close) c.args.input.now c.in-Some.rest.now c.in-Some.ensures.passed (c.in-Some.ensures.first.1 T)));
+      shorter = omega (arith, c.in-Some.ensures.shorter);
+      proper = c.in-Some.ensures.proper c.args.text.now c.requires.proper;
+      reads = (one c.args.text.now 0 (ArgumentsPart) ([]) ([]) (sign mark.Close) c.args.input.now c.in-Some.rest.now (λ s l. omega (arith, l)) (λ s. refl) (c.in-Some.ensures.first.1 c.args.text.now));
+    }
 
-pub returns-clause-reads : goal.returns-clause-reads
-returns-clause-reads c = (then c.args.text.now 0 (ArgumentsPart ∷ []) (TokenPart CloseToken ∷ []) ([]) c.args.input.now c.arguments.rest.now c.in_ok-rest.rest.now (then c.args.text.now 0 (ArgumentsPart ∷ []) (TailPart ArgumentsTail ∷ TokenPart CloseToken ∷ []) (TokenPart CloseToken ∷ []) c.args.input.now c.arguments.rest.now c.arguments.rest.now (c.arguments.invariant.reads) (ends c.args.text.now 0 ArgumentsTail (TokenPart CloseToken ∷ []) (class.Sign mark.Comma) c.arguments.rest.now refl c.in_default-past.ensures.absent)) (expected c.args.text.now 0 CloseToken ([]) (class.Sign mark.Close) c.arguments.rest.now c.in_ok-rest.rest.now (λ s l. omega (arith, l)) refl c.in_ok-rest.ensures.first))
-
-pub returns-in-Some-clause-spans : goal.returns-in-Some-clause-spans
-returns-in-Some-clause-spans c =
-    let T = c.args.text.now in
-    (c.args.input.now, subst (λ us. ArgumentsSpan T us c.args.input.now c.args.input.now) (sym c.new-arguments.ensures.items) refl, (S.takes T (sign mark.Close) c.args.input.now c.in-Some.rest.now c.in-Some.ensures.passed (c.in-Some.ensures.first.1 T)))
-
-pub returns-clause-spans : goal.returns-clause-spans
-returns-clause-spans c =
-    let T = c.args.text.now in
-    (c.arguments.rest.now, S.some_are_arguments T _ c.args.input.now c.arguments.rest.now c.arguments.invariant.spans, (S.takes T (sign mark.Close) c.arguments.rest.now c.in_ok-rest.rest.now c.in_ok-rest.ensures.passed (c.in_ok-rest.ensures.first.1 T)))
+pub returns : goal.returns
+returns c =
+    record {
+      words = arguments_end _ _ _ _ c.arguments.invariant.words (c.in_ok-rest.ensures.first.1 c.args.text.now);
+      spans = let T = c.args.text.now in
+          (c.arguments.rest.now, S.some_are_arguments T _ c.args.input.now c.arguments.rest.now c.arguments.invariant.spans, (S.takes T (sign mark.Close) c.arguments.rest.now c.in_ok-rest.rest.now c.in_ok-rest.ensures.passed (c.in_ok-rest.ensures.first.1 T)));
+      shorter = omega (arith, c.arguments.invariant.shorter, c.in_ok-rest.ensures.shorter);
+      proper = c.in_ok-rest.ensures.proper c.args.text.now c.arguments.invariant.proper;
+      reads = (then c.args.text.now 0 (ArgumentsPart ∷ []) (TokenPart CloseToken ∷ []) ([]) c.args.input.now c.arguments.rest.now c.in_ok-rest.rest.now (then c.args.text.now 0 (ArgumentsPart ∷ []) (TailPart ArgumentsTail ∷ TokenPart CloseToken ∷ []) (TokenPart CloseToken ∷ []) c.args.input.now c.arguments.rest.now c.arguments.rest.now (c.arguments.invariant.reads) (ends c.args.text.now 0 ArgumentsTail (TokenPart CloseToken ∷ []) (class.Sign mark.Comma) c.arguments.rest.now refl c.in_default-past.ensures.absent)) (expected c.args.text.now 0 CloseToken ([]) (class.Sign mark.Close) c.arguments.rest.now c.in_ok-rest.rest.now (λ s l. omega (arith, l)) refl c.in_ok-rest.ensures.first));
+    }

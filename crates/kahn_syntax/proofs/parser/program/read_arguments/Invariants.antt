@@ -1,4 +1,4 @@
-use Rattle.std.proofs.Common.{◌<◌, [], ◌∷◌, length, map}
+use Rattle.std.proofs.Common.{◌≤◌, [], ◌∷◌, length, map}
 use Rattle.kahn_syntax.specs.Terminals.{terminals, AreProper}
 use Rattle.kahn_syntax.specs.Machine.{ArgumentsPart, TailPart, TokenPart, CloseToken, ArgumentsTail}
 use Rattle.kahn_syntax.specs.Reads.{Moves}
@@ -11,7 +11,7 @@ abbrev pub invariant-arguments : goal.invariant-arguments
 invariant-arguments l = record {
   words : SomeArguments (map argument_of l.arguments.items) (terminals l.text l.input) (terminals l.text l.rest);
   spans : SomeArgumentsSpan l.text l.arguments.items l.input l.rest;
-  shorter : length l.rest < length l.input;
+  shorter : length l.rest ≤ length l.input;
   proper : AreProper l.text l.rest;
   reads : Moves l.text 0 (ArgumentsPart ∷ []) (TailPart ArgumentsTail ∷ TokenPart CloseToken ∷ []) l.input l.rest;
 }

@@ -7,34 +7,39 @@ use Rattle.kahn_syntax.specs.Machine.{OpenToken, InstancePart, ArgumentsPart, To
 use Rattle.kahn_syntax.specs.Drawn.{name_of}
 use Rattle.kahn_syntax.proofs.Moves.{no_instance, then, then_stops, call, call_stops, one, expected, unexpected}
 use Rattle.kahn_syntax.proofs.Spanning as S
+use Rattle.std.proofs.Common.{◌∙◌, ap}
+use Rattle.kahn_syntax.specs.Terminals.{terminals}
 use Rattle.kahn_syntax.proofs.parser.program.read_instance.Goals as goal
 
-pub returns-in_err-process-clause-stops : goal.returns-in_err-process-clause-stops
-returns-in_err-process-clause-stops c =
+pub returns-in_err-process : goal.returns-in_err-process
+returns-in_err-process c =
     let p = err_from_is_err_and c.from_residual.result c.from_residual.ensures.1 in rw (p.1, p.2) (no_instance c.args.text.now [] c.args.input.now _ c.in_err-process.ensures.stop)
 
-pub returns-in_err-rest-clause-stops : goal.returns-in_err-rest-clause-stops
-returns-in_err-rest-clause-stops c =
+pub returns-in_err-rest : goal.returns-in_err-rest
+returns-in_err-rest c =
     let p = err_from_is_err_and c.from_residual-in_err-rest.result c.from_residual-in_err-rest.ensures.1 in rw (p.1, p.2) (then_stops c.args.text.now 0 (InstancePart ∷ []) (TokenPart OpenToken ∷ ArgumentsPart ∷ []) c.args.input.now c.in_ok-process.rest.now _ (one c.args.text.now 0 (InstancePart) ([]) (TokenPart OpenToken ∷ ArgumentsPart ∷ []) (name (name_of c.in_ok-process.process)) c.args.input.now c.in_ok-process.rest.now (λ s l. omega (arith, l)) (λ s. refl) c.in_ok-process.ensures.words) (unexpected c.args.text.now 0 OpenToken (ArgumentsPart ∷ []) (class.Sign mark.Open) c.in_ok-process.rest.now _ refl c.in_err-rest.ensures.stop))
 
 pub read_arguments-requires : goal.read_arguments-requires
 read_arguments-requires c = record { proper = c.in_ok-rest.ensures.proper c.args.text.now c.in_ok-process.ensures.proper }
 
-pub returns-in_err-arguments-clause-stops : goal.returns-in_err-arguments-clause-stops
-returns-in_err-arguments-clause-stops c =
-    let p = err_from_is_err_and c.from_residual-in_err-arguments.result c.from_residual-in_err-arguments.ensures.1 in rw (p.1, p.2) (then_stops c.args.text.now 0 (InstancePart ∷ []) (ArgumentsPart ∷ []) c.args.input.now c.in_ok-rest.rest.now _ (then c.args.text.now 0 (InstancePart ∷ []) (TokenPart OpenToken ∷ ArgumentsPart ∷ []) (ArgumentsPart ∷ []) c.args.input.now c.in_ok-process.rest.now c.in_ok-rest.rest.now (one c.args.text.now 0 (InstancePart) ([]) (TokenPart OpenToken ∷ ArgumentsPart ∷ []) (name (name_of c.in_ok-process.process)) c.args.input.now c.in_ok-process.rest.now (λ s l. omega (arith, l)) (λ s. refl) c.in_ok-process.ensures.words) (expected c.args.text.now 0 OpenToken (ArgumentsPart ∷ []) (class.Sign mark.Open) c.in_ok-process.rest.now c.in_ok-rest.rest.now (λ s l. omega (arith, l)) refl c.in_ok-rest.ensures.first)) (call_stops c.args.text.now 0 0 (ArgumentsPart) ([]) c.in_ok-rest.rest.now _ (λ s l. omega (arith, l)) c.in_err-arguments.ensures.stops))
+pub returns-in_err-arguments : goal.returns-in_err-arguments
+returns-in_err-arguments c =
+    let p = err_from_is_err_and c.from_residual-in_err-arguments.result c.from_residual-in_err-arguments.ensures.1 in rw (p.1, p.2) (then_stops c.args.text.now 0 (InstancePart ∷ []) (ArgumentsPart ∷ []) c.args.input.now c.in_ok-rest.rest.now _ (then c.args.text.now 0 (InstancePart ∷ []) (TokenPart OpenToken ∷ ArgumentsPart ∷ []) (ArgumentsPart ∷ []) c.args.input.now c.in_ok-process.rest.now c.in_ok-rest.rest.now (one c.args.text.now 0 (InstancePart) ([]) (TokenPart OpenToken ∷ ArgumentsPart ∷ []) (name (name_of c.in_ok-process.process)) c.args.input.now c.in_ok-process.rest.now (λ s l. omega (arith, l)) (λ s. refl) c.in_ok-process.ensures.words) (expected c.args.text.now 0 OpenToken (ArgumentsPart ∷ []) (class.Sign mark.Open) c.in_ok-process.rest.now c.in_ok-rest.rest.now (λ s l. omega (arith, l)) refl c.in_ok-rest.ensures.first)) (call_stops c.args.text.now 0 0 (ArgumentsPart) ([]) c.in_ok-rest.rest.now _ (λ s l. omega (arith, l)) c.in_err-arguments.ensures))
 
-pub returns-clause-reads : goal.returns-clause-reads
-returns-clause-reads c = (then c.args.text.now 0 (InstancePart ∷ []) (ArgumentsPart ∷ []) ([]) c.args.input.now c.in_ok-rest.rest.now c.in_ok-arguments.rest.now (then c.args.text.now 0 (InstancePart ∷ []) (TokenPart OpenToken ∷ ArgumentsPart ∷ []) (ArgumentsPart ∷ []) c.args.input.now c.in_ok-process.rest.now c.in_ok-rest.rest.now (one c.args.text.now 0 (InstancePart) ([]) (TokenPart OpenToken ∷ ArgumentsPart ∷ []) (name (name_of c.in_ok-process.process)) c.args.input.now c.in_ok-process.rest.now (λ s l. omega (arith, l)) (λ s. refl) c.in_ok-process.ensures.words) (expected c.args.text.now 0 OpenToken (ArgumentsPart ∷ []) (class.Sign mark.Open) c.in_ok-process.rest.now c.in_ok-rest.rest.now (λ s l. omega (arith, l)) refl c.in_ok-rest.ensures.first)) (call c.args.text.now 0 0 (ArgumentsPart) ([]) c.in_ok-rest.rest.now c.in_ok-arguments.rest.now (λ s l. omega (arith, l)) c.in_ok-arguments.ensures.reads))
-
-pub returns-clause-spans : goal.returns-clause-spans
-returns-clause-spans c =
-    let T = c.args.text.now in (
-      c.in_ok-process.rest.now,
-      c.in_ok-rest.rest.now,
-      c.in_ok-arguments.ensures.spans.0,
-      c.in_ok-process.ensures.spans,
-      (S.takes T (sign mark.Open) c.in_ok-process.rest.now c.in_ok-rest.rest.now c.in_ok-rest.ensures.passed (c.in_ok-rest.ensures.first.1 T)),
-      c.in_ok-arguments.ensures.spans.1,
-      c.in_ok-arguments.ensures.spans.2,
-    )
+pub returns : goal.returns
+returns c =
+    record {
+      words = (terminals c.args.text.now c.in_ok-rest.rest.now, c.in_ok-process.ensures.words ∙ ap (λ x. name (name_of c.in_ok-process.process) ∷ x) (c.in_ok-rest.ensures.first.1 c.args.text.now), c.in_ok-arguments.ensures.words);
+      spans = let T = c.args.text.now in (
+        c.in_ok-process.rest.now,
+        c.in_ok-rest.rest.now,
+        c.in_ok-arguments.ensures.spans.0,
+        c.in_ok-process.ensures.spans,
+        (S.takes T (sign mark.Open) c.in_ok-process.rest.now c.in_ok-rest.rest.now c.in_ok-rest.ensures.passed (c.in_ok-rest.ensures.first.1 T)),
+        c.in_ok-arguments.ensures.spans.1,
+        c.in_ok-arguments.ensures.spans.2,
+      );
+      shorter = omega (arith, c.in_ok-process.ensures.shorter, c.in_ok-rest.ensures.shorter, c.in_ok-arguments.ensures.shorter);
+      proper = c.in_ok-arguments.ensures.proper;
+      reads = (then c.args.text.now 0 (InstancePart ∷ []) (ArgumentsPart ∷ []) ([]) c.args.input.now c.in_ok-rest.rest.now c.in_ok-arguments.rest.now (then c.args.text.now 0 (InstancePart ∷ []) (TokenPart OpenToken ∷ ArgumentsPart ∷ []) (ArgumentsPart ∷ []) c.args.input.now c.in_ok-process.rest.now c.in_ok-rest.rest.now (one c.args.text.now 0 (InstancePart) ([]) (TokenPart OpenToken ∷ ArgumentsPart ∷ []) (name (name_of c.in_ok-process.process)) c.args.input.now c.in_ok-process.rest.now (λ s l. omega (arith, l)) (λ s. refl) c.in_ok-process.ensures.words) (expected c.args.text.now 0 OpenToken (ArgumentsPart ∷ []) (class.Sign mark.Open) c.in_ok-process.rest.now c.in_ok-rest.rest.now (λ s l. omega (arith, l)) refl c.in_ok-rest.ensures.first)) (call c.args.text.now 0 0 (ArgumentsPart) ([]) c.in_ok-rest.rest.now c.in_ok-arguments.rest.now (λ s l. omega (arith, l)) c.in_ok-arguments.ensures.reads));
+    }

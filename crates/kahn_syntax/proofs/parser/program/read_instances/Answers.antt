@@ -10,16 +10,16 @@ use Rattle.kahn_syntax.proofs.Instanced.{instances_next, instances_first}
 use Rattle.kahn_syntax.proofs.Spanning as S
 use Rattle.kahn_syntax.proofs.parser.program.read_instances.Goals as goal
 
-pub returns-in_err-first-clause-stops : goal.returns-in_err-first-clause-stops
-returns-in_err-first-clause-stops c =
-    let p = err_from_is_err_and c.from_residual.result c.from_residual.ensures.1 in rw (p.1, p.2) (call_stops c.args.text.now 0 0 (InstancePart) (TailPart InstancesTail ∷ []) c.args.input.now _ (λ s l. omega (arith, l)) c.in_err-first.ensures.stops)
+pub returns-in_err-first : goal.returns-in_err-first
+returns-in_err-first c =
+    let p = err_from_is_err_and c.from_residual.result c.from_residual.ensures.1 in rw (p.1, p.2) (call_stops c.args.text.now 0 0 (InstancePart) (TailPart InstancesTail ∷ []) c.args.input.now _ (λ s l. omega (arith, l)) c.in_err-first.ensures)
 
 pub read_instance-requires-in-Some : goal.read_instance-requires-in-Some
 read_instance-requires-in-Some c = record { proper = c.in-Some.ensures.proper c.args.text.now c.instances.invariant.proper }
 
-pub returns-in_err-instance-clause-stops : goal.returns-in_err-instance-clause-stops
-returns-in_err-instance-clause-stops c =
-    let p = err_from_is_err_and c.from_residual-in_err-instance.result c.from_residual-in_err-instance.ensures.1 in rw (p.1, p.2) (then_stops c.args.text.now 0 (InstancePart ∷ TailPart InstancesTail ∷ []) (InstancePart ∷ TailPart InstancesTail ∷ []) c.args.input.now c.in-Some.after.now _ (then c.args.text.now 0 (InstancePart ∷ TailPart InstancesTail ∷ []) (TailPart InstancesTail ∷ []) (InstancePart ∷ TailPart InstancesTail ∷ []) c.args.input.now c.instances.rest.now c.in-Some.after.now (c.instances.invariant.reads) (goes c.args.text.now 0 InstancesTail ([]) (class.Word keyword.Par) c.instances.rest.now c.in-Some.after.now (λ s l. omega (arith, l)) refl c.in-Some.ensures.first)) (call_stops c.args.text.now 0 0 (InstancePart) (TailPart InstancesTail ∷ []) c.in-Some.after.now _ (λ s l. omega (arith, l)) c.in_err-instance.ensures.stops))
+pub returns-in_err-instance : goal.returns-in_err-instance
+returns-in_err-instance c =
+    let p = err_from_is_err_and c.from_residual-in_err-instance.result c.from_residual-in_err-instance.ensures.1 in rw (p.1, p.2) (then_stops c.args.text.now 0 (InstancePart ∷ TailPart InstancesTail ∷ []) (InstancePart ∷ TailPart InstancesTail ∷ []) c.args.input.now c.in-Some.after.now _ (then c.args.text.now 0 (InstancePart ∷ TailPart InstancesTail ∷ []) (TailPart InstancesTail ∷ []) (InstancePart ∷ TailPart InstancesTail ∷ []) c.args.input.now c.instances.rest.now c.in-Some.after.now (c.instances.invariant.reads) (goes c.args.text.now 0 InstancesTail ([]) (class.Word keyword.Par) c.instances.rest.now c.in-Some.after.now (λ s l. omega (arith, l)) refl c.in-Some.ensures.first)) (call_stops c.args.text.now 0 0 (InstancePart) (TailPart InstancesTail ∷ []) c.in-Some.after.now _ (λ s l. omega (arith, l)) c.in_err-instance.ensures))
 
 pub instances-init : goal.instances-init
 instances-init c =
@@ -42,5 +42,12 @@ instances-preserved c =
       reads = (then c.args.text.now 0 (InstancePart ∷ TailPart InstancesTail ∷ []) (InstancePart ∷ TailPart InstancesTail ∷ []) (TailPart InstancesTail ∷ []) c.args.input.now c.in-Some.after.now c.in_ok-instance.left.now (then c.args.text.now 0 (InstancePart ∷ TailPart InstancesTail ∷ []) (TailPart InstancesTail ∷ []) (InstancePart ∷ TailPart InstancesTail ∷ []) c.args.input.now c.instances.rest.now c.in-Some.after.now (c.instances.invariant.reads) (goes c.args.text.now 0 InstancesTail ([]) (class.Word keyword.Par) c.instances.rest.now c.in-Some.after.now (λ s l. omega (arith, l)) refl c.in-Some.ensures.first)) (call c.args.text.now 0 0 (InstancePart) (TailPart InstancesTail ∷ []) c.in-Some.after.now c.in_ok-instance.left.now (λ s l. omega (arith, l)) c.in_ok-instance.ensures.reads));
     }
 
-pub returns-clause-reads : goal.returns-clause-reads
-returns-clause-reads c = (then c.args.text.now 0 (InstancePart ∷ TailPart InstancesTail ∷ []) (TailPart InstancesTail ∷ []) ([]) c.args.input.now c.instances.rest.now c.instances.rest.now (c.instances.invariant.reads) (ends c.args.text.now 0 InstancesTail ([]) (class.Word keyword.Par) c.instances.rest.now refl c.in_default.ensures.absent))
+pub returns : goal.returns
+returns c =
+    record {
+      words = c.instances.invariant.words;
+      spans = c.instances.invariant.spans;
+      shorter = c.instances.invariant.shorter;
+      proper = c.instances.invariant.proper;
+      reads = (then c.args.text.now 0 (InstancePart ∷ TailPart InstancesTail ∷ []) (TailPart InstancesTail ∷ []) ([]) c.args.input.now c.instances.rest.now c.instances.rest.now (c.instances.invariant.reads) (ends c.args.text.now 0 InstancesTail ([]) (class.Word keyword.Par) c.instances.rest.now refl c.in_default.ensures.absent));
+    }

@@ -1,4 +1,4 @@
-use Rattle.std.proofs.Common.{◌<◌, [], ◌∷◌, length, map}
+use Rattle.std.proofs.Common.{◌≤◌, [], ◌∷◌, length, map}
 use Rattle.kahn_syntax.specs.Terminals.{terminals, AreProper}
 use Rattle.kahn_syntax.specs.Machine.{InstancePart, TailPart, InstancesTail}
 use Rattle.kahn_syntax.specs.Reads.{Moves}
@@ -11,7 +11,7 @@ abbrev pub invariant-instances : goal.invariant-instances
 invariant-instances l = record {
   words : Instances (map instance_of l.instances.items) (terminals l.text l.input) (terminals l.text l.rest);
   spans : InstancesSpan l.text l.instances.items l.input l.rest;
-  shorter : length l.rest < length l.input;
+  shorter : length l.rest ≤ length l.input;
   proper : AreProper l.text l.rest;
   reads : Moves l.text 0 (InstancePart ∷ TailPart InstancesTail ∷ []) (TailPart InstancesTail ∷ []) l.input l.rest;
 }

@@ -8,6 +8,10 @@ use Rattle.kahn_syntax.proofs.Moves.{no_program, whole_end, halts, then, then_st
 use Rattle.std.proofs.Common.{length}
 use Rattle.kahn_syntax.proofs.Spanning as S
 use Rattle.kahn_syntax.specs.Spans.{MayPart}
+use Rattle.std.proofs.Common.{map, ap}
+use Rattle.kahn_syntax.specs.Terminals.{terminals}
+use Rattle.kahn_syntax.specs.Drawn.{declaration_of, instance_of}
+use Rattle.kahn_syntax.proofs.Instanced.{program_spelled}
 use Rattle.kahn_syntax.proofs.parser.program.read_program.Goals as goal
 
 pub returns-in_err-rest-clause-halts : goal.returns-in_err-rest-clause-halts
@@ -19,11 +23,11 @@ read_declarations-requires c = record { proper = c.in_ok-rest.ensures.proper c.a
 
 pub returns-in_err-declarations-clause-halts : goal.returns-in_err-declarations-clause-halts
 returns-in_err-declarations-clause-halts c =
-    let p = err_from_is_err_and c.from_residual-in_err-declarations.result c.from_residual-in_err-declarations.ensures.1 in rw (p.1, p.2) (halts c.args.text.now c.args.lexemes.now _ (then_stops c.args.text.now 0 (ProgramPart ∷ []) (DeclarationsPart ∷ InstancePart ∷ TailPart InstancesTail ∷ TailPart LastTail ∷ TokenPart EndToken ∷ TailPart LastTail ∷ []) c.args.lexemes.now c.in_ok-rest.rest.now _ (one c.args.text.now 0 (ProgramPart) ([]) (DeclarationsPart ∷ InstancePart ∷ TailPart InstancesTail ∷ TailPart LastTail ∷ TokenPart EndToken ∷ TailPart LastTail ∷ []) (word keyword.Begin) c.args.lexemes.now c.in_ok-rest.rest.now (λ s l. omega (arith, l)) (λ s. refl) (c.in_ok-rest.ensures.first.1 c.args.text.now)) (call_stops c.args.text.now 0 0 (DeclarationsPart) (InstancePart ∷ TailPart InstancesTail ∷ TailPart LastTail ∷ TokenPart EndToken ∷ TailPart LastTail ∷ []) c.in_ok-rest.rest.now _ (λ s l. omega (arith, l)) c.in_err-declarations.ensures.stops)))
+    let p = err_from_is_err_and c.from_residual-in_err-declarations.result c.from_residual-in_err-declarations.ensures.1 in rw (p.1, p.2) (halts c.args.text.now c.args.lexemes.now _ (then_stops c.args.text.now 0 (ProgramPart ∷ []) (DeclarationsPart ∷ InstancePart ∷ TailPart InstancesTail ∷ TailPart LastTail ∷ TokenPart EndToken ∷ TailPart LastTail ∷ []) c.args.lexemes.now c.in_ok-rest.rest.now _ (one c.args.text.now 0 (ProgramPart) ([]) (DeclarationsPart ∷ InstancePart ∷ TailPart InstancesTail ∷ TailPart LastTail ∷ TokenPart EndToken ∷ TailPart LastTail ∷ []) (word keyword.Begin) c.args.lexemes.now c.in_ok-rest.rest.now (λ s l. omega (arith, l)) (λ s. refl) (c.in_ok-rest.ensures.first.1 c.args.text.now)) (call_stops c.args.text.now 0 0 (DeclarationsPart) (InstancePart ∷ TailPart InstancesTail ∷ TailPart LastTail ∷ TokenPart EndToken ∷ TailPart LastTail ∷ []) c.in_ok-rest.rest.now _ (λ s l. omega (arith, l)) c.in_err-declarations.ensures)))
 
 pub returns-in_err-instances-clause-halts : goal.returns-in_err-instances-clause-halts
 returns-in_err-instances-clause-halts c =
-    let p = err_from_is_err_and c.from_residual-in_err-instances.result c.from_residual-in_err-instances.ensures.1 in rw (p.1, p.2) (halts c.args.text.now c.args.lexemes.now _ (then_stops c.args.text.now 0 (ProgramPart ∷ []) (InstancePart ∷ TailPart InstancesTail ∷ TailPart LastTail ∷ TokenPart EndToken ∷ TailPart LastTail ∷ []) c.args.lexemes.now c.in_ok-declarations.rest.now _ (then c.args.text.now 0 (ProgramPart ∷ []) (DeclarationsPart ∷ InstancePart ∷ TailPart InstancesTail ∷ TailPart LastTail ∷ TokenPart EndToken ∷ TailPart LastTail ∷ []) (InstancePart ∷ TailPart InstancesTail ∷ TailPart LastTail ∷ TokenPart EndToken ∷ TailPart LastTail ∷ []) c.args.lexemes.now c.in_ok-rest.rest.now c.in_ok-declarations.rest.now (one c.args.text.now 0 (ProgramPart) ([]) (DeclarationsPart ∷ InstancePart ∷ TailPart InstancesTail ∷ TailPart LastTail ∷ TokenPart EndToken ∷ TailPart LastTail ∷ []) (word keyword.Begin) c.args.lexemes.now c.in_ok-rest.rest.now (λ s l. omega (arith, l)) (λ s. refl) (c.in_ok-rest.ensures.first.1 c.args.text.now)) (call c.args.text.now 0 0 (DeclarationsPart) (InstancePart ∷ TailPart InstancesTail ∷ TailPart LastTail ∷ TokenPart EndToken ∷ TailPart LastTail ∷ []) c.in_ok-rest.rest.now c.in_ok-declarations.rest.now (λ s l. omega (arith, l)) c.in_ok-declarations.ensures.reads)) (call_two_stops c.args.text.now 0 0 (InstancePart) (TailPart InstancesTail) (TailPart LastTail ∷ TokenPart EndToken ∷ TailPart LastTail ∷ []) c.in_ok-declarations.rest.now _ (λ s l. omega (arith, l)) c.in_err-instances.ensures.stops)))
+    let p = err_from_is_err_and c.from_residual-in_err-instances.result c.from_residual-in_err-instances.ensures.1 in rw (p.1, p.2) (halts c.args.text.now c.args.lexemes.now _ (then_stops c.args.text.now 0 (ProgramPart ∷ []) (InstancePart ∷ TailPart InstancesTail ∷ TailPart LastTail ∷ TokenPart EndToken ∷ TailPart LastTail ∷ []) c.args.lexemes.now c.in_ok-declarations.rest.now _ (then c.args.text.now 0 (ProgramPart ∷ []) (DeclarationsPart ∷ InstancePart ∷ TailPart InstancesTail ∷ TailPart LastTail ∷ TokenPart EndToken ∷ TailPart LastTail ∷ []) (InstancePart ∷ TailPart InstancesTail ∷ TailPart LastTail ∷ TokenPart EndToken ∷ TailPart LastTail ∷ []) c.args.lexemes.now c.in_ok-rest.rest.now c.in_ok-declarations.rest.now (one c.args.text.now 0 (ProgramPart) ([]) (DeclarationsPart ∷ InstancePart ∷ TailPart InstancesTail ∷ TailPart LastTail ∷ TokenPart EndToken ∷ TailPart LastTail ∷ []) (word keyword.Begin) c.args.lexemes.now c.in_ok-rest.rest.now (λ s l. omega (arith, l)) (λ s. refl) (c.in_ok-rest.ensures.first.1 c.args.text.now)) (call c.args.text.now 0 0 (DeclarationsPart) (InstancePart ∷ TailPart InstancesTail ∷ TailPart LastTail ∷ TokenPart EndToken ∷ TailPart LastTail ∷ []) c.in_ok-rest.rest.now c.in_ok-declarations.rest.now (λ s l. omega (arith, l)) c.in_ok-declarations.ensures.reads)) (call_two_stops c.args.text.now 0 0 (InstancePart) (TailPart InstancesTail) (TailPart LastTail ∷ TokenPart EndToken ∷ TailPart LastTail ∷ []) c.in_ok-declarations.rest.now _ (λ s l. omega (arith, l)) c.in_err-instances.ensures)))
 
 pub returns-in_err-rest-2-clause-halts : goal.returns-in_err-rest-2-clause-halts
 returns-in_err-rest-2-clause-halts c =
@@ -48,3 +52,14 @@ returns-then-is_empty-clause-spans c =
       (S.takes T (word keyword.End) c.past_semicolon.result.now c.in_ok-rest-2.rest.now c.in_ok-rest-2.ensures.passed (c.in_ok-rest-2.ensures.first.1 T)),
       subst (MayPart T c.in_ok-rest-2.rest.now) (S.none_left c.past_semicolon-rest.result.now a) (c.past_semicolon-rest.ensures.spans T),
     )
+
+pub returns-then-is_empty-clause-spells : goal.returns-then-is_empty-clause-spells
+returns-then-is_empty-clause-spells c =
+    let k = terminals c.args.text.now in
+    let a : length c.past_semicolon-rest.result.now ≡ 0 = search rules in
+    program_spelled (map declaration_of c.in_ok-declarations.declarations.items) (map instance_of c.in_ok-instances.instances.items) (k c.args.lexemes.now) (k c.in_ok-rest.rest.now) (k c.in_ok-declarations.rest.now) (k c.in_ok-instances.rest.now) (k c.past_semicolon.result.now) (k c.in_ok-rest-2.rest.now) (k c.past_semicolon-rest.result.now)
+    (c.in_ok-rest.ensures.first.1 c.args.text.now) c.in_ok-declarations.ensures.words.0 c.in_ok-instances.ensures.words (c.past_semicolon.ensures.words c.args.text.now) (c.in_ok-rest-2.ensures.first.1 c.args.text.now) (c.past_semicolon-rest.ensures.words c.args.text.now)
+    (ap k (S.none_left c.past_semicolon-rest.result.now a))
+
+pub returns-then-is_empty-clause-nesting : goal.returns-then-is_empty-clause-nesting
+returns-then-is_empty-clause-nesting c = c.in_ok-declarations.ensures.words.1

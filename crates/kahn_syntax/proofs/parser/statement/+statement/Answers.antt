@@ -1,4 +1,4 @@
-use Rattle.std.proofs.Common.{rules, ◌≡◌, false, refl, [], ◌∷◌, arith, ap, ◌∙◌, ◌++◌}
+use Rattle.std.proofs.Common.{rules, ◌≡◌, false, refl, sym, subst, [], ◌∷◌, arith, ap, ◌∙◌, ◌++◌}
 use Rattle.std.proofs.lemmas.Result.{err_from_is_err_and}
 use Rattle.kahn_syntax.specs.declared.lexeme.Keyword.TheVariants as keyword
 use Rattle.kahn_syntax.specs.declared.lexeme.Sign.TheVariants as mark
@@ -6,7 +6,11 @@ use Rattle.kahn_syntax.specs.declared.lexeme.Class.TheVariants as class
 use Rattle.kahn_syntax.specs.Terminals.{word, sign, terminals}
 use Rattle.kahn_syntax.specs.Rungs.{whole}
 use Rattle.kahn_syntax.specs.Machine.{leads, DoToken, EndToken, NameToken, ThenToken, StatementsTail, ElseTail, StatementPart, SimplePart, ExpressionPart, TailPart, TokenPart, LevelPart}
-use Rattle.kahn_syntax.proofs.Moves.{leads_statement, opens_simple, leads_simple, simple_ends, reads_by, stops_by, then, then_stops, call, call_stops, call_two, call_two_stops, one, deep, expected, goes, ends, level_ends, unexpected}
+use Rattle.kahn_syntax.proofs.Moves.{leads_statement, opens_simple, leads_simple, simple_ends, opened_simple, then, then_stops, call, call_stops, call_two, call_two_stops, one, deep, expected, goes, ends, level_ends, unexpected}
+use Rattle.kahn_syntax.specs.Trees.{FormedStatement, IsSimple, statement_nesting}
+use Rattle.kahn_syntax.specs.Drawn.{statement_of}
+use Rattle.kahn_syntax.specs.Spans.{StatementSpans}
+use Rattle.kahn_syntax.specs.Reads.{StatementRead}
 use Rattle.kahn_syntax.proofs.Lists.{first_of}
 use Rattle.kahn_syntax.proofs.Spanning as S
 use Rattle.kahn_syntax.proofs.Stacks as K
@@ -14,16 +18,16 @@ use Rattle.kahn_syntax.proofs.Spelled.{statements_spelled}
 use Rattle.kahn_syntax.proofs.Statements.{formed_next, some_next, nesting_next}
 use Rattle.kahn_syntax.proofs.parser.statement.+statement.Goals as goal
 
-pub read_statements-returns-in_err-first-clause-stops : goal.read_statements-returns-in_err-first-clause-stops
-read_statements-returns-in_err-first-clause-stops t c =
-    let p = err_from_is_err_and c.from_residual.result c.from_residual.ensures.1 in rw (p.1, p.2) (call_stops c.args.text.now c.args.depth c.args.depth (StatementPart) (TailPart StatementsTail ∷ []) c.args.input.now _ (λ s l. omega (arith, l, c.requires.1.1.0)) c.in_err-first.ensures.stops)
+pub read_statements-returns-in_err-first : goal.read_statements-returns-in_err-first
+read_statements-returns-in_err-first t c =
+    let p = err_from_is_err_and c.from_residual.result c.from_residual.ensures.1 in rw (p.1, p.2) (call_stops c.args.text.now c.args.depth c.args.depth (StatementPart) (TailPart StatementsTail ∷ []) c.args.input.now _ (λ s l. omega (arith, l, c.requires.1.1.0)) c.in_err-first.ensures)
 
 pub read_statements-read_statement-requires-in-Some : goal.read_statements-read_statement-requires-in-Some
 read_statements-read_statement-requires-in-Some t c = (omega (arith, c.requires.1.0, c.in-Some.ensures.shorter, c.statements.invariant.shorter), (c.requires.1.1.0, c.in-Some.ensures.proper c.args.text.now c.statements.invariant.proper))
 
-pub read_statements-returns-in_err-statement-clause-stops : goal.read_statements-returns-in_err-statement-clause-stops
-read_statements-returns-in_err-statement-clause-stops t c =
-    let p = err_from_is_err_and c.from_residual-in_err-statement.result c.from_residual-in_err-statement.ensures.1 in rw (p.1, p.2) (then_stops c.args.text.now c.args.depth (StatementPart ∷ TailPart StatementsTail ∷ []) (StatementPart ∷ TailPart StatementsTail ∷ []) c.args.input.now c.in-Some.after.now _ (then c.args.text.now c.args.depth (StatementPart ∷ TailPart StatementsTail ∷ []) (TailPart StatementsTail ∷ []) (StatementPart ∷ TailPart StatementsTail ∷ []) c.args.input.now c.statements.rest.now c.in-Some.after.now (c.statements.invariant.reads) (goes c.args.text.now c.args.depth StatementsTail ([]) (class.Sign mark.Semicolon) c.statements.rest.now c.in-Some.after.now (λ s l. omega (arith, l, c.requires.1.1.0)) refl c.in-Some.ensures.first)) (call_stops c.args.text.now c.args.depth c.args.depth (StatementPart) (TailPart StatementsTail ∷ []) c.in-Some.after.now _ (λ s l. omega (arith, l, c.requires.1.1.0)) c.in_err-statement.ensures.stops))
+pub read_statements-returns-in_err-statement : goal.read_statements-returns-in_err-statement
+read_statements-returns-in_err-statement t c =
+    let p = err_from_is_err_and c.from_residual-in_err-statement.result c.from_residual-in_err-statement.ensures.1 in rw (p.1, p.2) (then_stops c.args.text.now c.args.depth (StatementPart ∷ TailPart StatementsTail ∷ []) (StatementPart ∷ TailPart StatementsTail ∷ []) c.args.input.now c.in-Some.after.now _ (then c.args.text.now c.args.depth (StatementPart ∷ TailPart StatementsTail ∷ []) (TailPart StatementsTail ∷ []) (StatementPart ∷ TailPart StatementsTail ∷ []) c.args.input.now c.statements.rest.now c.in-Some.after.now (c.statements.invariant.reads) (goes c.args.text.now c.args.depth StatementsTail ([]) (class.Sign mark.Semicolon) c.statements.rest.now c.in-Some.after.now (λ s l. omega (arith, l, c.requires.1.1.0)) refl c.in-Some.ensures.first)) (call_stops c.args.text.now c.args.depth c.args.depth (StatementPart) (TailPart StatementsTail ∷ []) c.in-Some.after.now _ (λ s l. omega (arith, l, c.requires.1.1.0)) c.in_err-statement.ensures))
 
 pub read_statements-statements-init : goal.read_statements-statements-init
 read_statements-statements-init t c =
@@ -49,38 +53,26 @@ read_statements-statements-preserved t c =
       reads = (then c.args.text.now c.args.depth (StatementPart ∷ TailPart StatementsTail ∷ []) (StatementPart ∷ TailPart StatementsTail ∷ []) (TailPart StatementsTail ∷ []) c.args.input.now c.in-Some.after.now c.in_ok-statement.left.now (then c.args.text.now c.args.depth (StatementPart ∷ TailPart StatementsTail ∷ []) (TailPart StatementsTail ∷ []) (StatementPart ∷ TailPart StatementsTail ∷ []) c.args.input.now c.statements.rest.now c.in-Some.after.now (c.statements.invariant.reads) (goes c.args.text.now c.args.depth StatementsTail ([]) (class.Sign mark.Semicolon) c.statements.rest.now c.in-Some.after.now (λ s l. omega (arith, l, c.requires.1.1.0)) refl c.in-Some.ensures.first)) (call c.args.text.now c.args.depth c.args.depth (StatementPart) (TailPart StatementsTail ∷ []) c.in-Some.after.now c.in_ok-statement.left.now (λ s l. omega (arith, l, c.requires.1.1.0)) c.in_ok-statement.ensures.reads));
     }
 
-pub read_statements-returns-clause-reads : goal.read_statements-returns-clause-reads
-read_statements-returns-clause-reads t c = (then c.args.text.now c.args.depth (StatementPart ∷ TailPart StatementsTail ∷ []) (TailPart StatementsTail ∷ []) ([]) c.args.input.now c.statements.rest.now c.statements.rest.now (c.statements.invariant.reads) (ends c.args.text.now c.args.depth StatementsTail ([]) (class.Sign mark.Semicolon) c.statements.rest.now refl c.in_default.ensures.absent))
-
 pub read_statement-read_if-requires : goal.read_statement-read_if-requires
 read_statement-read_if-requires t c = (omega (arith, c.requires.1.0, c.in-Some-Word-If-default.ensures.first.1), ((first_of _ (class.Word keyword.If) c.args.input.now c.in-Some-Word-If-default.rest.now (c.in-Some-Word-If-default.field-0-0-is ∙ ap class.Word c.in-Some-Word-If-default.field-0-0-0-is) c.in-Some-Word-If-default.ensures.first.0), (c.in-Some-Word-If-default.ensures.first.1, (c.requires.1.1.0, (c.in-Some-Word-If-default.ensures.proper c.args.text.now c.requires.1.1.1, c.in-Some-Word-If-default.ensures.passed)))))
 
-pub read_statement-returns-in_err-inner-in-Some-Word-While-default-clause-stops : goal.read_statement-returns-in_err-inner-in-Some-Word-While-default-clause-stops
-read_statement-returns-in_err-inner-in-Some-Word-While-default-clause-stops t c =
+pub read_statement-returns-in_err-inner-in-Some-Word-While-default : goal.read_statement-returns-in_err-inner-in-Some-Word-While-default
+read_statement-returns-in_err-inner-in-Some-Word-While-default t c =
     let p = err_from_is_err_and c.from_residual.result c.from_residual.ensures.1 in rw (p.1, p.2) (deep c.args.text.now c.args.depth (StatementPart) ([]) (ExpressionPart whole ∷ TokenPart DoToken ∷ StatementPart ∷ LevelPart ∷ []) (word keyword.While) c.args.input.now c.in-Some-Word-While-default.rest.now _ (λ s l. omega (arith, l, c.in_err-inner-in-Some-Word-While-default.ensures.stop.0)) (λ s. refl) ((first_of _ (class.Word keyword.While) c.args.input.now c.in-Some-Word-While-default.rest.now (c.in-Some-Word-While-default.field-0-0-is ∙ ap class.Word c.in-Some-Word-While-default.field-0-0-0-is) c.in-Some-Word-While-default.ensures.first.0).1 c.args.text.now) c.in_err-inner-in-Some-Word-While-default.ensures.stop.1)
 
-pub read_statement-returns-in_err-inner-in-Some-Word-Repeat-default-clause-stops : goal.read_statement-returns-in_err-inner-in-Some-Word-Repeat-default-clause-stops
-read_statement-returns-in_err-inner-in-Some-Word-Repeat-default-clause-stops t c =
+pub read_statement-returns-in_err-inner-in-Some-Word-Repeat-default : goal.read_statement-returns-in_err-inner-in-Some-Word-Repeat-default
+read_statement-returns-in_err-inner-in-Some-Word-Repeat-default t c =
     let p = err_from_is_err_and c.from_residual-in_err-inner-in-Some-Word-Repeat-default.result c.from_residual-in_err-inner-in-Some-Word-Repeat-default.ensures.1 in rw (p.1, p.2) (deep c.args.text.now c.args.depth (StatementPart) ([]) (StatementPart ∷ LevelPart ∷ []) (word keyword.Repeat) c.args.input.now c.in-Some-Word-Repeat-default.rest.now _ (λ s l. omega (arith, l, c.in_err-inner-in-Some-Word-Repeat-default.ensures.stop.0)) (λ s. refl) ((first_of _ (class.Word keyword.Repeat) c.args.input.now c.in-Some-Word-Repeat-default.rest.now (c.in-Some-Word-Repeat-default.field-0-0-is ∙ ap class.Word c.in-Some-Word-Repeat-default.field-0-0-0-is) c.in-Some-Word-Repeat-default.ensures.first.0).1 c.args.text.now) c.in_err-inner-in-Some-Word-Repeat-default.ensures.stop.1)
 
-pub read_statement-read_statement-requires-in-Some-Word-Repeat-default : goal.read_statement-read_statement-requires-in-Some-Word-Repeat-default
-read_statement-read_statement-requires-in-Some-Word-Repeat-default t c = (omega (arith, c.requires.1.0, c.in-Some-Word-Repeat-default.ensures.first.1), (c.in_ok-inner-in-Some-Word-Repeat-default.ensures.deeper.1, c.in-Some-Word-Repeat-default.ensures.proper c.args.text.now c.requires.1.1.1))
+pub read_statement-read_inner-requires-in-Some-Word-Repeat-default : goal.read_statement-read_inner-requires-in-Some-Word-Repeat-default
+read_statement-read_inner-requires-in-Some-Word-Repeat-default t c = (omega (arith, c.requires.1.0, c.in-Some-Word-Repeat-default.ensures.first.1), (c.in_ok-inner-in-Some-Word-Repeat-default.ensures.deeper.1, c.in-Some-Word-Repeat-default.ensures.proper c.args.text.now c.requires.1.1.1))
 
-pub read_statement-returns-in_err-turn-in-Some-Word-Repeat-default-clause-stops : goal.read_statement-returns-in_err-turn-in-Some-Word-Repeat-default-clause-stops
-read_statement-returns-in_err-turn-in-Some-Word-Repeat-default-clause-stops t c =
-    let p = err_from_is_err_and c.from_residual-in_err-turn-in-Some-Word-Repeat-default.result c.from_residual-in_err-turn-in-Some-Word-Repeat-default.ensures.1 in rw (p.1, p.2) (then_stops c.args.text.now c.args.depth (StatementPart ∷ []) (StatementPart ∷ LevelPart ∷ []) c.args.input.now c.in-Some-Word-Repeat-default.rest.now _ (one c.args.text.now c.args.depth (StatementPart) ([]) (StatementPart ∷ LevelPart ∷ []) (word keyword.Repeat) c.args.input.now c.in-Some-Word-Repeat-default.rest.now (λ s l. omega (arith, l, c.requires.1.1.0, c.in_ok-inner-in-Some-Word-Repeat-default.ensures.deeper.0, c.in_ok-inner-in-Some-Word-Repeat-default.ensures.deeper.1)) (λ s. refl) ((first_of _ (class.Word keyword.Repeat) c.args.input.now c.in-Some-Word-Repeat-default.rest.now (c.in-Some-Word-Repeat-default.field-0-0-is ∙ ap class.Word c.in-Some-Word-Repeat-default.field-0-0-0-is) c.in-Some-Word-Repeat-default.ensures.first.0).1 c.args.text.now)) (call_stops c.args.text.now c.args.depth c.in_ok-inner-in-Some-Word-Repeat-default.inner (StatementPart) (LevelPart ∷ []) c.in-Some-Word-Repeat-default.rest.now _ (λ s l. omega (arith, l, c.requires.1.1.0, c.in_ok-inner-in-Some-Word-Repeat-default.ensures.deeper.0, c.in_ok-inner-in-Some-Word-Repeat-default.ensures.deeper.1)) c.in_err-turn-in-Some-Word-Repeat-default.ensures.stops))
+pub read_statement-returns-in_err-turn-in-Some-Word-Repeat-default : goal.read_statement-returns-in_err-turn-in-Some-Word-Repeat-default
+read_statement-returns-in_err-turn-in-Some-Word-Repeat-default t c =
+    let p = err_from_is_err_and c.from_residual-in_err-turn-in-Some-Word-Repeat-default.result c.from_residual-in_err-turn-in-Some-Word-Repeat-default.ensures.1 in rw (p.1, p.2) (then_stops c.args.text.now c.args.depth (StatementPart ∷ []) (StatementPart ∷ LevelPart ∷ []) c.args.input.now c.in-Some-Word-Repeat-default.rest.now _ (one c.args.text.now c.args.depth (StatementPart) ([]) (StatementPart ∷ LevelPart ∷ []) (word keyword.Repeat) c.args.input.now c.in-Some-Word-Repeat-default.rest.now (λ s l. omega (arith, l, c.requires.1.1.0, c.in_ok-inner-in-Some-Word-Repeat-default.ensures.deeper.0, c.in_ok-inner-in-Some-Word-Repeat-default.ensures.deeper.1)) (λ s. refl) ((first_of _ (class.Word keyword.Repeat) c.args.input.now c.in-Some-Word-Repeat-default.rest.now (c.in-Some-Word-Repeat-default.field-0-0-is ∙ ap class.Word c.in-Some-Word-Repeat-default.field-0-0-0-is) c.in-Some-Word-Repeat-default.ensures.first.0).1 c.args.text.now)) (call_stops c.args.text.now c.args.depth c.in_ok-inner-in-Some-Word-Repeat-default.inner (StatementPart) (LevelPart ∷ []) c.in-Some-Word-Repeat-default.rest.now _ (λ s l. omega (arith, l, c.requires.1.1.0, c.in_ok-inner-in-Some-Word-Repeat-default.ensures.deeper.0, c.in_ok-inner-in-Some-Word-Repeat-default.ensures.deeper.1)) c.in_err-turn-in-Some-Word-Repeat-default.ensures))
 
-pub read_statement-returns-in_ok-statement-in-Some-Word-Repeat-default-clause-reads : goal.read_statement-returns-in_ok-statement-in-Some-Word-Repeat-default-clause-reads
-read_statement-returns-in_ok-statement-in-Some-Word-Repeat-default-clause-reads t c = (then c.args.text.now c.args.depth (StatementPart ∷ []) (LevelPart ∷ []) ([]) c.args.input.now c.in_ok-turn-in-Some-Word-Repeat-default.rest.now c.in_ok-turn-in-Some-Word-Repeat-default.rest.now (then c.args.text.now c.args.depth (StatementPart ∷ []) (StatementPart ∷ LevelPart ∷ []) (LevelPart ∷ []) c.args.input.now c.in-Some-Word-Repeat-default.rest.now c.in_ok-turn-in-Some-Word-Repeat-default.rest.now (one c.args.text.now c.args.depth (StatementPart) ([]) (StatementPart ∷ LevelPart ∷ []) (word keyword.Repeat) c.args.input.now c.in-Some-Word-Repeat-default.rest.now (λ s l. omega (arith, l, c.requires.1.1.0, c.in_ok-inner-in-Some-Word-Repeat-default.ensures.deeper.0, c.in_ok-inner-in-Some-Word-Repeat-default.ensures.deeper.1)) (λ s. refl) ((first_of _ (class.Word keyword.Repeat) c.args.input.now c.in-Some-Word-Repeat-default.rest.now (c.in-Some-Word-Repeat-default.field-0-0-is ∙ ap class.Word c.in-Some-Word-Repeat-default.field-0-0-0-is) c.in-Some-Word-Repeat-default.ensures.first.0).1 c.args.text.now)) (call c.args.text.now c.args.depth c.in_ok-inner-in-Some-Word-Repeat-default.inner (StatementPart) (LevelPart ∷ []) c.in-Some-Word-Repeat-default.rest.now c.in_ok-turn-in-Some-Word-Repeat-default.rest.now (λ s l. omega (arith, l, c.requires.1.1.0, c.in_ok-inner-in-Some-Word-Repeat-default.ensures.deeper.0, c.in_ok-inner-in-Some-Word-Repeat-default.ensures.deeper.1)) c.in_ok-turn-in-Some-Word-Repeat-default.ensures.reads)) (level_ends c.args.text.now c.args.depth [] c.in_ok-turn-in-Some-Word-Repeat-default.rest.now))
-
-pub read_statement-returns-in_default-clause-reads : goal.read_statement-returns-in_default-clause-reads
-read_statement-returns-in_default-clause-reads t c = let a : leads_statement (terminals c.args.text.now c.args.input.now) ≡ false = search rules in reads_by c.args.text.now c.args.depth (StatementPart ∷ []) (SimplePart ∷ []) c.args.input.now c.read_simple.result (λ x. x.1.now) (opens_simple c.args.text.now c.args.depth [] c.args.input.now a) c.read_simple.ensures.reads
-
-pub read_statement-returns-in_default-clause-stops : goal.read_statement-returns-in_default-clause-stops
-read_statement-returns-in_default-clause-stops t c = let a : leads_statement (terminals c.args.text.now c.args.input.now) ≡ false = search rules in stops_by c.args.text.now c.args.depth (StatementPart ∷ []) (SimplePart ∷ []) c.args.input.now c.read_simple.result (opens_simple c.args.text.now c.args.depth [] c.args.input.now a) c.read_simple.ensures.stops
-
-pub read_if-returns-in_err-inner-clause-stops : goal.read_if-returns-in_err-inner-clause-stops
-read_if-returns-in_err-inner-clause-stops t c =
+pub read_if-returns-in_err-inner : goal.read_if-returns-in_err-inner
+read_if-returns-in_err-inner t c =
     let p = err_from_is_err_and c.from_residual.result c.from_residual.ensures.1 in rw (p.1, p.2) (deep c.args.text.now c.args.depth (StatementPart) ([]) (ExpressionPart whole ∷ TokenPart ThenToken ∷ SimplePart ∷ TailPart ElseTail ∷ LevelPart ∷ []) (word keyword.If) c.args.input.now c.args.rest.now _ (λ s l. omega (arith, l, c.in_err-inner.ensures.stop.0)) (λ s. refl) (c.requires.1.1.0.1 c.args.text.now) c.in_err-inner.ensures.stop.1)
 
 pub read_simple-read_assign-requires-clause-named : goal.read_simple-read_assign-requires-clause-named
@@ -95,73 +87,35 @@ read_simple-read_send-requires-clause-proper t c = c.in-Some-Word-Send-default.e
 pub read_simple-read_expression-requires-clause-proper : goal.read_simple-read_expression-requires-clause-proper
 read_simple-read_expression-requires-clause-proper t c = c.in-Some-Word-Print-default.ensures.proper c.args.text.now c.requires.1.1.1
 
-pub read_simple-returns-in_err-value-in-Some-Word-Print-default-clause-stops : goal.read_simple-returns-in_err-value-in-Some-Word-Print-default-clause-stops
-read_simple-returns-in_err-value-in-Some-Word-Print-default-clause-stops t c =
-    let p = err_from_is_err_and c.from_residual.result c.from_residual.ensures.1 in rw (p.1, p.2) (then_stops c.args.text.now c.args.depth (SimplePart ∷ []) (ExpressionPart whole ∷ []) c.args.input.now c.in-Some-Word-Print-default.rest.now _ (one c.args.text.now c.args.depth (SimplePart) ([]) (ExpressionPart whole ∷ []) (word keyword.Print) c.args.input.now c.in-Some-Word-Print-default.rest.now (λ s l. omega (arith, l, c.requires.1.1.0)) (λ s. refl) ((first_of _ (class.Word keyword.Print) c.args.input.now c.in-Some-Word-Print-default.rest.now (c.in-Some-Word-Print-default.field-0-0-is ∙ ap class.Word c.in-Some-Word-Print-default.field-0-0-0-is) c.in-Some-Word-Print-default.ensures.first.0).1 c.args.text.now)) (call_stops c.args.text.now c.args.depth c.args.depth (ExpressionPart whole) ([]) c.in-Some-Word-Print-default.rest.now _ (λ s l. omega (arith, l, c.requires.1.1.0)) c.in_err-value-in-Some-Word-Print-default.ensures.stops))
+pub read_simple-returns-in_err-value-in-Some-Word-Print-default : goal.read_simple-returns-in_err-value-in-Some-Word-Print-default
+read_simple-returns-in_err-value-in-Some-Word-Print-default t c =
+    let p = err_from_is_err_and c.from_residual.result c.from_residual.ensures.1 in rw (p.1, p.2) (then_stops c.args.text.now c.args.depth (SimplePart ∷ []) (ExpressionPart whole ∷ []) c.args.input.now c.in-Some-Word-Print-default.rest.now _ (one c.args.text.now c.args.depth (SimplePart) ([]) (ExpressionPart whole ∷ []) (word keyword.Print) c.args.input.now c.in-Some-Word-Print-default.rest.now (λ s l. omega (arith, l, c.requires.1.1.0)) (λ s. refl) ((first_of _ (class.Word keyword.Print) c.args.input.now c.in-Some-Word-Print-default.rest.now (c.in-Some-Word-Print-default.field-0-0-is ∙ ap class.Word c.in-Some-Word-Print-default.field-0-0-0-is) c.in-Some-Word-Print-default.ensures.first.0).1 c.args.text.now)) (call_stops c.args.text.now c.args.depth c.args.depth (ExpressionPart whole) ([]) c.in-Some-Word-Print-default.rest.now _ (λ s l. omega (arith, l, c.requires.1.1.0)) c.in_err-value-in-Some-Word-Print-default.ensures))
 
-pub read_simple-returns-in_ok-value-in-Some-Word-Print-default-clause-reads : goal.read_simple-returns-in_ok-value-in-Some-Word-Print-default-clause-reads
-read_simple-returns-in_ok-value-in-Some-Word-Print-default-clause-reads t c = (then c.args.text.now c.args.depth (SimplePart ∷ []) (ExpressionPart whole ∷ []) ([]) c.args.input.now c.in-Some-Word-Print-default.rest.now c.in_ok-value-in-Some-Word-Print-default.rest.now (one c.args.text.now c.args.depth (SimplePart) ([]) (ExpressionPart whole ∷ []) (word keyword.Print) c.args.input.now c.in-Some-Word-Print-default.rest.now (λ s l. omega (arith, l, c.requires.1.1.0)) (λ s. refl) ((first_of _ (class.Word keyword.Print) c.args.input.now c.in-Some-Word-Print-default.rest.now (c.in-Some-Word-Print-default.field-0-0-is ∙ ap class.Word c.in-Some-Word-Print-default.field-0-0-0-is) c.in-Some-Word-Print-default.ensures.first.0).1 c.args.text.now)) (call c.args.text.now c.args.depth c.args.depth (ExpressionPart whole) ([]) c.in-Some-Word-Print-default.rest.now c.in_ok-value-in-Some-Word-Print-default.rest.now (λ s l. omega (arith, l, c.requires.1.1.0)) c.in_ok-value-in-Some-Word-Print-default.ensures.reads))
-
-pub read_simple-returns-in_err-inner-in-Some-Word-Begin-default-clause-stops : goal.read_simple-returns-in_err-inner-in-Some-Word-Begin-default-clause-stops
-read_simple-returns-in_err-inner-in-Some-Word-Begin-default-clause-stops t c =
+pub read_simple-returns-in_err-inner-in-Some-Word-Begin-default : goal.read_simple-returns-in_err-inner-in-Some-Word-Begin-default
+read_simple-returns-in_err-inner-in-Some-Word-Begin-default t c =
     let p = err_from_is_err_and c.from_residual-in_err-inner-in-Some-Word-Begin-default.result c.from_residual-in_err-inner-in-Some-Word-Begin-default.ensures.1 in rw (p.1, p.2) (deep c.args.text.now c.args.depth (SimplePart) ([]) (StatementPart ∷ TailPart StatementsTail ∷ TokenPart EndToken ∷ LevelPart ∷ []) (word keyword.Begin) c.args.input.now c.in-Some-Word-Begin-default.rest.now _ (λ s l. omega (arith, l, c.in_err-inner-in-Some-Word-Begin-default.ensures.stop.0)) (λ s. refl) ((first_of _ (class.Word keyword.Begin) c.args.input.now c.in-Some-Word-Begin-default.rest.now (c.in-Some-Word-Begin-default.field-0-0-is ∙ ap class.Word c.in-Some-Word-Begin-default.field-0-0-0-is) c.in-Some-Word-Begin-default.ensures.first.0).1 c.args.text.now) c.in_err-inner-in-Some-Word-Begin-default.ensures.stop.1)
 
 pub read_simple-read_statements-requires : goal.read_simple-read_statements-requires
 read_simple-read_statements-requires t c = (omega (arith, c.requires.1.0, c.in-Some-Word-Begin-default.ensures.first.1), (c.in_ok-inner-in-Some-Word-Begin-default.ensures.deeper.1, c.in-Some-Word-Begin-default.ensures.proper c.args.text.now c.requires.1.1.1))
 
-pub read_simple-returns-in_err-statements-in-Some-Word-Begin-default-clause-stops : goal.read_simple-returns-in_err-statements-in-Some-Word-Begin-default-clause-stops
-read_simple-returns-in_err-statements-in-Some-Word-Begin-default-clause-stops t c =
-    let p = err_from_is_err_and c.from_residual-in_err-statements-in-Some-Word-Begin-default.result c.from_residual-in_err-statements-in-Some-Word-Begin-default.ensures.1 in rw (p.1, p.2) (then_stops c.args.text.now c.args.depth (SimplePart ∷ []) (StatementPart ∷ TailPart StatementsTail ∷ TokenPart EndToken ∷ LevelPart ∷ []) c.args.input.now c.in-Some-Word-Begin-default.rest.now _ (one c.args.text.now c.args.depth (SimplePart) ([]) (StatementPart ∷ TailPart StatementsTail ∷ TokenPart EndToken ∷ LevelPart ∷ []) (word keyword.Begin) c.args.input.now c.in-Some-Word-Begin-default.rest.now (λ s l. omega (arith, l, c.requires.1.1.0, c.in_ok-inner-in-Some-Word-Begin-default.ensures.deeper.0, c.in_ok-inner-in-Some-Word-Begin-default.ensures.deeper.1)) (λ s. refl) ((first_of _ (class.Word keyword.Begin) c.args.input.now c.in-Some-Word-Begin-default.rest.now (c.in-Some-Word-Begin-default.field-0-0-is ∙ ap class.Word c.in-Some-Word-Begin-default.field-0-0-0-is) c.in-Some-Word-Begin-default.ensures.first.0).1 c.args.text.now)) (call_two_stops c.args.text.now c.args.depth c.in_ok-inner-in-Some-Word-Begin-default.inner (StatementPart) (TailPart StatementsTail) (TokenPart EndToken ∷ LevelPart ∷ []) c.in-Some-Word-Begin-default.rest.now _ (λ s l. omega (arith, l, c.requires.1.1.0, c.in_ok-inner-in-Some-Word-Begin-default.ensures.deeper.0, c.in_ok-inner-in-Some-Word-Begin-default.ensures.deeper.1)) c.in_err-statements-in-Some-Word-Begin-default.ensures.stops))
+pub read_simple-returns-in_err-statements-in-Some-Word-Begin-default : goal.read_simple-returns-in_err-statements-in-Some-Word-Begin-default
+read_simple-returns-in_err-statements-in-Some-Word-Begin-default t c =
+    let p = err_from_is_err_and c.from_residual-in_err-statements-in-Some-Word-Begin-default.result c.from_residual-in_err-statements-in-Some-Word-Begin-default.ensures.1 in rw (p.1, p.2) (then_stops c.args.text.now c.args.depth (SimplePart ∷ []) (StatementPart ∷ TailPart StatementsTail ∷ TokenPart EndToken ∷ LevelPart ∷ []) c.args.input.now c.in-Some-Word-Begin-default.rest.now _ (one c.args.text.now c.args.depth (SimplePart) ([]) (StatementPart ∷ TailPart StatementsTail ∷ TokenPart EndToken ∷ LevelPart ∷ []) (word keyword.Begin) c.args.input.now c.in-Some-Word-Begin-default.rest.now (λ s l. omega (arith, l, c.requires.1.1.0, c.in_ok-inner-in-Some-Word-Begin-default.ensures.deeper.0, c.in_ok-inner-in-Some-Word-Begin-default.ensures.deeper.1)) (λ s. refl) ((first_of _ (class.Word keyword.Begin) c.args.input.now c.in-Some-Word-Begin-default.rest.now (c.in-Some-Word-Begin-default.field-0-0-is ∙ ap class.Word c.in-Some-Word-Begin-default.field-0-0-0-is) c.in-Some-Word-Begin-default.ensures.first.0).1 c.args.text.now)) (call_two_stops c.args.text.now c.args.depth c.in_ok-inner-in-Some-Word-Begin-default.inner (StatementPart) (TailPart StatementsTail) (TokenPart EndToken ∷ LevelPart ∷ []) c.in-Some-Word-Begin-default.rest.now _ (λ s l. omega (arith, l, c.requires.1.1.0, c.in_ok-inner-in-Some-Word-Begin-default.ensures.deeper.0, c.in_ok-inner-in-Some-Word-Begin-default.ensures.deeper.1)) c.in_err-statements-in-Some-Word-Begin-default.ensures))
 
-pub read_simple-returns-in_err-rest-in-Some-Word-Begin-default-clause-stops : goal.read_simple-returns-in_err-rest-in-Some-Word-Begin-default-clause-stops
-read_simple-returns-in_err-rest-in-Some-Word-Begin-default-clause-stops t c =
+pub read_simple-returns-in_err-rest-in-Some-Word-Begin-default : goal.read_simple-returns-in_err-rest-in-Some-Word-Begin-default
+read_simple-returns-in_err-rest-in-Some-Word-Begin-default t c =
     let p = err_from_is_err_and c.from_residual-in_err-rest-in-Some-Word-Begin-default.result c.from_residual-in_err-rest-in-Some-Word-Begin-default.ensures.1 in rw (p.1, p.2) (then_stops c.args.text.now c.args.depth (SimplePart ∷ []) (TokenPart EndToken ∷ LevelPart ∷ []) c.args.input.now c.in_ok-statements-in-Some-Word-Begin-default.rest.now _ (then c.args.text.now c.args.depth (SimplePart ∷ []) (StatementPart ∷ TailPart StatementsTail ∷ TokenPart EndToken ∷ LevelPart ∷ []) (TokenPart EndToken ∷ LevelPart ∷ []) c.args.input.now c.in-Some-Word-Begin-default.rest.now c.in_ok-statements-in-Some-Word-Begin-default.rest.now (one c.args.text.now c.args.depth (SimplePart) ([]) (StatementPart ∷ TailPart StatementsTail ∷ TokenPart EndToken ∷ LevelPart ∷ []) (word keyword.Begin) c.args.input.now c.in-Some-Word-Begin-default.rest.now (λ s l. omega (arith, l, c.requires.1.1.0, c.in_ok-inner-in-Some-Word-Begin-default.ensures.deeper.0, c.in_ok-inner-in-Some-Word-Begin-default.ensures.deeper.1)) (λ s. refl) ((first_of _ (class.Word keyword.Begin) c.args.input.now c.in-Some-Word-Begin-default.rest.now (c.in-Some-Word-Begin-default.field-0-0-is ∙ ap class.Word c.in-Some-Word-Begin-default.field-0-0-0-is) c.in-Some-Word-Begin-default.ensures.first.0).1 c.args.text.now)) (call_two c.args.text.now c.args.depth c.in_ok-inner-in-Some-Word-Begin-default.inner (StatementPart) (TailPart StatementsTail) (TokenPart EndToken ∷ LevelPart ∷ []) c.in-Some-Word-Begin-default.rest.now c.in_ok-statements-in-Some-Word-Begin-default.rest.now (λ s l. omega (arith, l, c.requires.1.1.0, c.in_ok-inner-in-Some-Word-Begin-default.ensures.deeper.0, c.in_ok-inner-in-Some-Word-Begin-default.ensures.deeper.1)) c.in_ok-statements-in-Some-Word-Begin-default.ensures.reads)) (unexpected c.args.text.now c.args.depth EndToken (LevelPart ∷ []) (class.Word keyword.End) c.in_ok-statements-in-Some-Word-Begin-default.rest.now _ refl c.in_err-rest-in-Some-Word-Begin-default.ensures.stop))
-
-pub read_simple-returns-in_ok-rest-in-Some-Word-Begin-default-clause-proper : goal.read_simple-returns-in_ok-rest-in-Some-Word-Begin-default-clause-proper
-read_simple-returns-in_ok-rest-in-Some-Word-Begin-default-clause-proper t c = c.in_ok-rest-in-Some-Word-Begin-default.ensures.proper c.args.text.now c.in_ok-statements-in-Some-Word-Begin-default.ensures.proper
-
-pub read_simple-returns-in_ok-rest-in-Some-Word-Begin-default-clause-reads : goal.read_simple-returns-in_ok-rest-in-Some-Word-Begin-default-clause-reads
-read_simple-returns-in_ok-rest-in-Some-Word-Begin-default-clause-reads t c = (then c.args.text.now c.args.depth (SimplePart ∷ []) (LevelPart ∷ []) ([]) c.args.input.now c.in_ok-rest-in-Some-Word-Begin-default.rest.now c.in_ok-rest-in-Some-Word-Begin-default.rest.now (then c.args.text.now c.args.depth (SimplePart ∷ []) (TokenPart EndToken ∷ LevelPart ∷ []) (LevelPart ∷ []) c.args.input.now c.in_ok-statements-in-Some-Word-Begin-default.rest.now c.in_ok-rest-in-Some-Word-Begin-default.rest.now (then c.args.text.now c.args.depth (SimplePart ∷ []) (StatementPart ∷ TailPart StatementsTail ∷ TokenPart EndToken ∷ LevelPart ∷ []) (TokenPart EndToken ∷ LevelPart ∷ []) c.args.input.now c.in-Some-Word-Begin-default.rest.now c.in_ok-statements-in-Some-Word-Begin-default.rest.now (one c.args.text.now c.args.depth (SimplePart) ([]) (StatementPart ∷ TailPart StatementsTail ∷ TokenPart EndToken ∷ LevelPart ∷ []) (word keyword.Begin) c.args.input.now c.in-Some-Word-Begin-default.rest.now (λ s l. omega (arith, l, c.requires.1.1.0, c.in_ok-inner-in-Some-Word-Begin-default.ensures.deeper.0, c.in_ok-inner-in-Some-Word-Begin-default.ensures.deeper.1)) (λ s. refl) ((first_of _ (class.Word keyword.Begin) c.args.input.now c.in-Some-Word-Begin-default.rest.now (c.in-Some-Word-Begin-default.field-0-0-is ∙ ap class.Word c.in-Some-Word-Begin-default.field-0-0-0-is) c.in-Some-Word-Begin-default.ensures.first.0).1 c.args.text.now)) (call_two c.args.text.now c.args.depth c.in_ok-inner-in-Some-Word-Begin-default.inner (StatementPart) (TailPart StatementsTail) (TokenPart EndToken ∷ LevelPart ∷ []) c.in-Some-Word-Begin-default.rest.now c.in_ok-statements-in-Some-Word-Begin-default.rest.now (λ s l. omega (arith, l, c.requires.1.1.0, c.in_ok-inner-in-Some-Word-Begin-default.ensures.deeper.0, c.in_ok-inner-in-Some-Word-Begin-default.ensures.deeper.1)) c.in_ok-statements-in-Some-Word-Begin-default.ensures.reads)) (expected c.args.text.now c.args.depth EndToken (LevelPart ∷ []) (class.Word keyword.End) c.in_ok-statements-in-Some-Word-Begin-default.rest.now c.in_ok-rest-in-Some-Word-Begin-default.rest.now (λ s l. omega (arith, l, c.requires.1.1.0, c.in_ok-inner-in-Some-Word-Begin-default.ensures.deeper.0, c.in_ok-inner-in-Some-Word-Begin-default.ensures.deeper.1)) refl c.in_ok-rest-in-Some-Word-Begin-default.ensures.first)) (level_ends c.args.text.now c.args.depth [] c.in_ok-rest-in-Some-Word-Begin-default.rest.now))
-
-pub read_simple-returns-in_default-clause-reads : goal.read_simple-returns-in_default-clause-reads
-read_simple-returns-in_default-clause-reads t c = let a : leads_simple (terminals c.args.text.now c.args.input.now) ≡ false = search rules in simple_ends c.args.text.now c.args.depth [] c.args.input.now a
-
-pub read_statements-returns-clause-spans : goal.read_statements-returns-clause-spans
-read_statements-returns-clause-spans t c = S.some_are_statements c.args.text.now _ c.args.input.now c.statements.rest.now c.statements.invariant.spans
-
-pub read_statement-returns-in_ok-statement-in-Some-Word-Repeat-default-clause-spans : goal.read_statement-returns-in_ok-statement-in-Some-Word-Repeat-default-clause-spans
-read_statement-returns-in_ok-statement-in-Some-Word-Repeat-default-clause-spans t c =
-    let T = c.args.text.now in
-    c.in_ok-statement-in-Some-Word-Repeat-default.ensures.spans T c.args.input.now c.in-Some-Word-Repeat-default.rest.now c.in_ok-turn-in-Some-Word-Repeat-default.rest.now c.reach-in-Some-Word-Repeat-default.ensures
-    (S.takes T (word keyword.Repeat) c.args.input.now c.in-Some-Word-Repeat-default.rest.now c.in-Some-Word-Repeat-default.ensures.passed ((first_of _ (class.Word keyword.Repeat) c.args.input.now c.in-Some-Word-Repeat-default.rest.now (c.in-Some-Word-Repeat-default.field-0-0-is ∙ ap class.Word c.in-Some-Word-Repeat-default.field-0-0-0-is) c.in-Some-Word-Repeat-default.ensures.first.0).1 T)) c.in_ok-turn-in-Some-Word-Repeat-default.ensures.spans
-
-pub read_simple-returns-in_ok-value-in-Some-Word-Print-default-clause-spans : goal.read_simple-returns-in_ok-value-in-Some-Word-Print-default-clause-spans
-read_simple-returns-in_ok-value-in-Some-Word-Print-default-clause-spans t c =
-    let T = c.args.text.now in
-    (c.reach.ensures, (c.in-Some-Word-Print-default.rest.now, (S.takes T (word keyword.Print) c.args.input.now c.in-Some-Word-Print-default.rest.now c.in-Some-Word-Print-default.ensures.passed ((first_of _ (class.Word keyword.Print) c.args.input.now c.in-Some-Word-Print-default.rest.now (c.in-Some-Word-Print-default.field-0-0-is ∙ ap class.Word c.in-Some-Word-Print-default.field-0-0-0-is) c.in-Some-Word-Print-default.ensures.first.0).1 T)), c.in_ok-value-in-Some-Word-Print-default.ensures.spans))
-
-pub read_simple-returns-in_ok-rest-in-Some-Word-Begin-default-clause-spans : goal.read_simple-returns-in_ok-rest-in-Some-Word-Begin-default-clause-spans
-read_simple-returns-in_ok-rest-in-Some-Word-Begin-default-clause-spans t c =
-    let T = c.args.text.now in
-    c.block.ensures.spans T c.args.input.now c.in-Some-Word-Begin-default.rest.now c.in_ok-statements-in-Some-Word-Begin-default.rest.now c.in_ok-rest-in-Some-Word-Begin-default.rest.now c.reach-in-Some-Word-Begin-default.ensures
-    (S.takes T (word keyword.Begin) c.args.input.now c.in-Some-Word-Begin-default.rest.now c.in-Some-Word-Begin-default.ensures.passed ((first_of _ (class.Word keyword.Begin) c.args.input.now c.in-Some-Word-Begin-default.rest.now (c.in-Some-Word-Begin-default.field-0-0-is ∙ ap class.Word c.in-Some-Word-Begin-default.field-0-0-0-is) c.in-Some-Word-Begin-default.ensures.first.0).1 T)) c.in_ok-statements-in-Some-Word-Begin-default.ensures.spans
-    (S.takes T (word keyword.End) c.in_ok-statements-in-Some-Word-Begin-default.rest.now c.in_ok-rest-in-Some-Word-Begin-default.rest.now c.in_ok-rest-in-Some-Word-Begin-default.ensures.passed (c.in_ok-rest-in-Some-Word-Begin-default.ensures.first.1 T))
-
-pub read_simple-returns-in_default-clause-spans : goal.read_simple-returns-in_default-clause-spans
-read_simple-returns-in_default-clause-spans t c =
-    let T = c.args.text.now in
-    (refl, refl)
 
 pub read_statement-read_before-requires : goal.read_statement-read_before-requires
 read_statement-read_before-requires t c =
     record { depth = c.in_ok-inner-in-Some-Word-While-default.ensures.deeper.1; proper = c.in-Some-Word-While-default.ensures.proper c.args.text.now c.requires.1.1.1; last = refl }
 
-pub read_statement-read_statement-requires : goal.read_statement-read_statement-requires
-read_statement-read_statement-requires t c =
+pub read_statement-read_inner-requires : goal.read_statement-read_inner-requires
+read_statement-read_inner-requires t c =
     (omega (arith, c.requires.1.0, c.in-Some-Word-While-default.ensures.first.1, c.in_ok-test-in-Some-Word-While-default.ensures.shorter), (c.in_ok-inner-in-Some-Word-While-default.ensures.deeper.1, c.in_ok-test-in-Some-Word-While-default.ensures.proper))
 
-pub read_statement-returns-in_err-test-in-Some-Word-While-default-clause-stops : goal.read_statement-returns-in_err-test-in-Some-Word-While-default-clause-stops
-read_statement-returns-in_err-test-in-Some-Word-While-default-clause-stops t c =
+pub read_statement-returns-in_err-test-in-Some-Word-While-default : goal.read_statement-returns-in_err-test-in-Some-Word-While-default
+read_statement-returns-in_err-test-in-Some-Word-While-default t c =
     let p = err_from_is_err_and c.from_residual-in_err-test-in-Some-Word-While-default.result c.from_residual-in_err-test-in-Some-Word-While-default.ensures.1 in
     let T = c.args.text.now in
     let i = c.args.input.now in
@@ -169,10 +123,10 @@ read_statement-returns-in_err-test-in-Some-Word-While-default-clause-stops t c =
     let n = c.in_ok-inner-in-Some-Word-While-default.ensures.deeper.0 in
     let m = K.while_moves T c.args.depth e i c.in-Some-Word-While-default.rest.now n c.in_ok-inner-in-Some-Word-While-default.ensures.deeper.1 ((first_of _ (class.Word keyword.While) c.args.input.now c.in-Some-Word-While-default.rest.now (c.in-Some-Word-While-default.field-0-0-is ∙ ap class.Word c.in-Some-Word-While-default.field-0-0-0-is) c.in-Some-Word-While-default.ensures.first.0).1 T) in
     rw (p.1, p.2) (then_stops T c.args.depth K.some_statement K.after_while i c.in-Some-Word-While-default.rest.now _ m
-    (call_two_stops T c.args.depth e (ExpressionPart whole) (TokenPart DoToken) K.after_do c.in-Some-Word-While-default.rest.now _ (λ s l. omega (arith, l, n)) c.in_err-test-in-Some-Word-While-default.ensures.stops))
+    (call_two_stops T c.args.depth e (ExpressionPart whole) (TokenPart DoToken) K.after_do c.in-Some-Word-While-default.rest.now _ (λ s l. omega (arith, l, n)) c.in_err-test-in-Some-Word-While-default.ensures))
 
-pub read_statement-returns-in_err-turn-in-Some-Word-While-default-clause-stops : goal.read_statement-returns-in_err-turn-in-Some-Word-While-default-clause-stops
-read_statement-returns-in_err-turn-in-Some-Word-While-default-clause-stops t c =
+pub read_statement-returns-in_err-turn-in-Some-Word-While-default : goal.read_statement-returns-in_err-turn-in-Some-Word-While-default
+read_statement-returns-in_err-turn-in-Some-Word-While-default t c =
     let p = err_from_is_err_and c.from_residual-in_err-turn-in-Some-Word-While-default.result c.from_residual-in_err-turn-in-Some-Word-While-default.ensures.1 in
     let T = c.args.text.now in
     let i = c.args.input.now in
@@ -181,28 +135,7 @@ read_statement-returns-in_err-turn-in-Some-Word-While-default-clause-stops t c =
     let m = K.while_moves T c.args.depth e i c.in-Some-Word-While-default.rest.now n c.in_ok-inner-in-Some-Word-While-default.ensures.deeper.1 ((first_of _ (class.Word keyword.While) c.args.input.now c.in-Some-Word-While-default.rest.now (c.in-Some-Word-While-default.field-0-0-is ∙ ap class.Word c.in-Some-Word-While-default.field-0-0-0-is) c.in-Some-Word-While-default.ensures.first.0).1 T) in
     let m2 = K.do_moves T c.args.depth e i c.in-Some-Word-While-default.rest.now c.in_ok-test-in-Some-Word-While-default.rest.now n m c.in_ok-test-in-Some-Word-While-default.ensures.reads in
     rw (p.1, p.2) (then_stops T c.args.depth K.some_statement K.after_do i c.in_ok-test-in-Some-Word-While-default.rest.now _ m2
-    (call_stops T c.args.depth e StatementPart (LevelPart ∷ []) c.in_ok-test-in-Some-Word-While-default.rest.now _ (λ s l. omega (arith, l, n)) c.in_err-turn-in-Some-Word-While-default.ensures.stops))
-
-pub read_statement-returns-in_ok-statement-in-Some-Word-While-default-clause-reads : goal.read_statement-returns-in_ok-statement-in-Some-Word-While-default-clause-reads
-read_statement-returns-in_ok-statement-in-Some-Word-While-default-clause-reads t c =
-    let T = c.args.text.now in
-    let i = c.args.input.now in
-    let e = c.in_ok-inner-in-Some-Word-While-default.inner in
-    let n = c.in_ok-inner-in-Some-Word-While-default.ensures.deeper.0 in
-    let m = K.while_moves T c.args.depth e i c.in-Some-Word-While-default.rest.now n c.in_ok-inner-in-Some-Word-While-default.ensures.deeper.1 ((first_of _ (class.Word keyword.While) c.args.input.now c.in-Some-Word-While-default.rest.now (c.in-Some-Word-While-default.field-0-0-is ∙ ap class.Word c.in-Some-Word-While-default.field-0-0-0-is) c.in-Some-Word-While-default.ensures.first.0).1 T) in
-    let m2 = K.do_moves T c.args.depth e i c.in-Some-Word-While-default.rest.now c.in_ok-test-in-Some-Word-While-default.rest.now n m c.in_ok-test-in-Some-Word-While-default.ensures.reads in
-    let o = c.in_ok-turn-in-Some-Word-While-default.rest.now in
-    then T c.args.depth K.some_statement (LevelPart ∷ []) [] i o o
-    (then T c.args.depth K.some_statement K.after_do (LevelPart ∷ []) i c.in_ok-test-in-Some-Word-While-default.rest.now o m2
-    (call T c.args.depth e StatementPart (LevelPart ∷ []) c.in_ok-test-in-Some-Word-While-default.rest.now o (λ s l. omega (arith, l, n)) c.in_ok-turn-in-Some-Word-While-default.ensures.reads))
-    (level_ends T c.args.depth [] o)
-
-pub read_statement-returns-in_ok-statement-in-Some-Word-While-default-clause-spans : goal.read_statement-returns-in_ok-statement-in-Some-Word-While-default-clause-spans
-read_statement-returns-in_ok-statement-in-Some-Word-While-default-clause-spans t c =
-    let T = c.args.text.now in
-    c.in_ok-statement-in-Some-Word-While-default.ensures.spans T c.args.input.now c.in-Some-Word-While-default.rest.now c.in_ok-test-in-Some-Word-While-default.ensures.spans.0 c.in_ok-test-in-Some-Word-While-default.rest.now c.in_ok-turn-in-Some-Word-While-default.rest.now c.reach.ensures
-    (S.takes T (word keyword.While) c.args.input.now c.in-Some-Word-While-default.rest.now c.in-Some-Word-While-default.ensures.passed ((first_of _ (class.Word keyword.While) c.args.input.now c.in-Some-Word-While-default.rest.now (c.in-Some-Word-While-default.field-0-0-is ∙ ap class.Word c.in-Some-Word-While-default.field-0-0-0-is) c.in-Some-Word-While-default.ensures.first.0).1 T))
-    c.in_ok-test-in-Some-Word-While-default.ensures.spans.1 c.in_ok-test-in-Some-Word-While-default.ensures.spans.2 c.in_ok-turn-in-Some-Word-While-default.ensures.spans
+    (call_stops T c.args.depth e StatementPart (LevelPart ∷ []) c.in_ok-test-in-Some-Word-While-default.rest.now _ (λ s l. omega (arith, l, n)) c.in_err-turn-in-Some-Word-While-default.ensures))
 
 pub read_if-read_before-requires : goal.read_if-read_before-requires
 read_if-read_before-requires t c =
@@ -212,12 +145,12 @@ pub read_if-read_simple-requires : goal.read_if-read_simple-requires
 read_if-read_simple-requires t c =
     (omega (arith, c.requires.1.0, c.requires.1.1.1.0, c.in_ok-test.ensures.shorter), (c.in_ok-inner.ensures.deeper.1, c.in_ok-test.ensures.proper))
 
-pub read_if-read_statement-requires : goal.read_if-read_statement-requires
-read_if-read_statement-requires t c =
+pub read_if-read_inner-requires : goal.read_if-read_inner-requires
+read_if-read_inner-requires t c =
     (omega (arith, c.requires.1.0, c.requires.1.1.1.0, c.in_ok-test.ensures.shorter, c.in_ok-yes.ensures.shorter, c.in-Some.ensures.shorter), (c.in_ok-inner.ensures.deeper.1, c.in-Some.ensures.proper c.args.text.now c.in_ok-yes.ensures.proper))
 
-pub read_if-returns-in_err-test-clause-stops : goal.read_if-returns-in_err-test-clause-stops
-read_if-returns-in_err-test-clause-stops t c =
+pub read_if-returns-in_err-test : goal.read_if-returns-in_err-test
+read_if-returns-in_err-test t c =
     let p = err_from_is_err_and c.from_residual-in_err-test.result c.from_residual-in_err-test.ensures.1 in
     let T = c.args.text.now in
     let i = c.args.input.now in
@@ -225,10 +158,10 @@ read_if-returns-in_err-test-clause-stops t c =
     let n = c.in_ok-inner.ensures.deeper.0 in
     let m = K.conditional_moves T c.args.depth e i c.args.rest.now n c.in_ok-inner.ensures.deeper.1 (c.requires.1.1.0.1 T) in
     rw (p.1, p.2) (then_stops T c.args.depth K.some_statement K.before_test i c.args.rest.now _ m
-    (call_two_stops T c.args.depth e (ExpressionPart whole) (TokenPart ThenToken) K.after_test c.args.rest.now _ (λ s l. omega (arith, l, n)) c.in_err-test.ensures.stops))
+    (call_two_stops T c.args.depth e (ExpressionPart whole) (TokenPart ThenToken) K.after_test c.args.rest.now _ (λ s l. omega (arith, l, n)) c.in_err-test.ensures))
 
-pub read_if-returns-in_err-yes-clause-stops : goal.read_if-returns-in_err-yes-clause-stops
-read_if-returns-in_err-yes-clause-stops t c =
+pub read_if-returns-in_err-yes : goal.read_if-returns-in_err-yes
+read_if-returns-in_err-yes t c =
     let p = err_from_is_err_and c.from_residual-in_err-yes.result c.from_residual-in_err-yes.ensures.1 in
     let T = c.args.text.now in
     let i = c.args.input.now in
@@ -237,10 +170,10 @@ read_if-returns-in_err-yes-clause-stops t c =
     let m = K.conditional_moves T c.args.depth e i c.args.rest.now n c.in_ok-inner.ensures.deeper.1 (c.requires.1.1.0.1 T) in
     let m2 = K.test_moves T c.args.depth e i c.args.rest.now c.in_ok-test.rest.now n m c.in_ok-test.ensures.reads in
     rw (p.1, p.2) (then_stops T c.args.depth K.some_statement K.after_test i c.in_ok-test.rest.now _ m2
-    (call_stops T c.args.depth e SimplePart K.after_branch c.in_ok-test.rest.now _ (λ s l. omega (arith, l, n)) c.in_err-yes.ensures.stops))
+    (call_stops T c.args.depth e SimplePart K.after_branch c.in_ok-test.rest.now _ (λ s l. omega (arith, l, n)) c.in_err-yes.ensures))
 
-pub read_if-returns-in_err-no-clause-stops : goal.read_if-returns-in_err-no-clause-stops
-read_if-returns-in_err-no-clause-stops t c =
+pub read_if-returns-in_err-no : goal.read_if-returns-in_err-no
+read_if-returns-in_err-no t c =
     let p = err_from_is_err_and c.from_residual-in_err-no.result c.from_residual-in_err-no.ensures.1 in
     let T = c.args.text.now in
     let i = c.args.input.now in
@@ -251,55 +184,175 @@ read_if-returns-in_err-no-clause-stops t c =
     let m3 = K.branch_moves T c.args.depth e i c.in_ok-test.rest.now c.in_ok-yes.rest.now n m2 c.in_ok-yes.ensures.reads in
     let m4 = K.other_moves T c.args.depth e i c.in_ok-yes.rest.now c.in-Some.after.now n c.in_ok-inner.ensures.deeper.1 m3 c.in-Some.ensures.first in
     rw (p.1, p.2) (then_stops T c.args.depth K.some_statement K.after_other i c.in-Some.after.now _ m4
-    (call_stops T c.args.depth e StatementPart (LevelPart ∷ []) c.in-Some.after.now _ (λ s l. omega (arith, l, n)) c.in_err-no.ensures.stops))
+    (call_stops T c.args.depth e StatementPart (LevelPart ∷ []) c.in-Some.after.now _ (λ s l. omega (arith, l, n)) c.in_err-no.ensures))
 
-pub read_if-returns-in_default-clause-reads : goal.read_if-returns-in_default-clause-reads
-read_if-returns-in_default-clause-reads t c =
-    let T = c.args.text.now in
-    let i = c.args.input.now in
-    let e = c.in_ok-inner.inner in
-    let n = c.in_ok-inner.ensures.deeper.0 in
-    let m = K.conditional_moves T c.args.depth e i c.args.rest.now n c.in_ok-inner.ensures.deeper.1 (c.requires.1.1.0.1 T) in
-    let m2 = K.test_moves T c.args.depth e i c.args.rest.now c.in_ok-test.rest.now n m c.in_ok-test.ensures.reads in
-    let m3 = K.branch_moves T c.args.depth e i c.in_ok-test.rest.now c.in_ok-yes.rest.now n m2 c.in_ok-yes.ensures.reads in
-    let o = c.in_ok-yes.rest.now in
-    then T c.args.depth K.some_statement (LevelPart ∷ []) [] i o o
-    (then T c.args.depth K.some_statement K.after_branch (LevelPart ∷ []) i o o m3 (ends T c.args.depth ElseTail (LevelPart ∷ []) (class.Word keyword.Else) o refl c.in_default.ensures.absent))
-    (level_ends T c.args.depth [] o)
+pub read_statements-returns : goal.read_statements-returns
+read_statements-returns t c =
+    record {
+      words = statements_spelled c.args.text.now _ c.args.input.now c.statements.rest.now
+          (S.some_are_statements c.args.text.now _ c.args.input.now c.statements.rest.now c.statements.invariant.spans);
+      spans = S.some_are_statements c.args.text.now _ c.args.input.now c.statements.rest.now c.statements.invariant.spans;
+      formed = c.statements.invariant.formed;
+      some = c.statements.invariant.some;
+      nesting = c.statements.invariant.nesting;
+      shorter = c.statements.invariant.shorter;
+      proper = c.statements.invariant.proper;
+      reads = (then c.args.text.now c.args.depth (StatementPart ∷ TailPart StatementsTail ∷ []) (TailPart StatementsTail ∷ []) ([]) c.args.input.now c.statements.rest.now c.statements.rest.now (c.statements.invariant.reads) (ends c.args.text.now c.args.depth StatementsTail ([]) (class.Sign mark.Semicolon) c.statements.rest.now refl c.in_default.ensures.absent));
+    }
 
-pub read_if-returns-clause-reads : goal.read_if-returns-clause-reads
-read_if-returns-clause-reads t c =
-    let T = c.args.text.now in
-    let i = c.args.input.now in
-    let e = c.in_ok-inner.inner in
-    let n = c.in_ok-inner.ensures.deeper.0 in
-    let m = K.conditional_moves T c.args.depth e i c.args.rest.now n c.in_ok-inner.ensures.deeper.1 (c.requires.1.1.0.1 T) in
-    let m2 = K.test_moves T c.args.depth e i c.args.rest.now c.in_ok-test.rest.now n m c.in_ok-test.ensures.reads in
-    let m3 = K.branch_moves T c.args.depth e i c.in_ok-test.rest.now c.in_ok-yes.rest.now n m2 c.in_ok-yes.ensures.reads in
-    let m4 = K.other_moves T c.args.depth e i c.in_ok-yes.rest.now c.in-Some.after.now n c.in_ok-inner.ensures.deeper.1 m3 c.in-Some.ensures.first in
-    let o = c.in_ok-no.rest.now in
-    then T c.args.depth K.some_statement (LevelPart ∷ []) [] i o o
-    (then T c.args.depth K.some_statement K.after_other (LevelPart ∷ []) i c.in-Some.after.now o m4
-    (call T c.args.depth e StatementPart (LevelPart ∷ []) c.in-Some.after.now o (λ s l. omega (arith, l, n)) c.in_ok-no.ensures.reads))
-    (level_ends T c.args.depth [] o)
+pub read_statement-returns-in-Some-Word-If-default : goal.read_statement-returns-in-Some-Word-If-default
+read_statement-returns-in-Some-Word-If-default t c =
+    c.read_if.ensures
 
-pub read_if-returns-in_default-clause-spans : goal.read_if-returns-in_default-clause-spans
-read_if-returns-in_default-clause-spans t c =
-    let T = c.args.text.now in
-    c.in_ok-statement.ensures.spans T c.args.input.now c.args.rest.now c.in_ok-test.ensures.spans.0 c.in_ok-test.rest.now c.in_ok-yes.rest.now c.reach.ensures
-    (S.takes T (word keyword.If) c.args.input.now c.args.rest.now c.requires.1.1.1.1.1.1 (c.requires.1.1.0.1 T))
-    c.in_ok-test.ensures.spans.1 c.in_ok-test.ensures.spans.2 c.in_ok-yes.ensures.spans
+pub read_statement-returns-in_ok-turn-in-Some-Word-While-default : goal.read_statement-returns-in_ok-turn-in-Some-Word-While-default
+read_statement-returns-in_ok-turn-in-Some-Word-While-default t c =
+    record {
+      spans = let T = c.args.text.now in
+          c.while_do.ensures.spans T c.args.input.now c.in-Some-Word-While-default.rest.now c.in_ok-test-in-Some-Word-While-default.ensures.between c.in_ok-test-in-Some-Word-While-default.rest.now c.in_ok-turn-in-Some-Word-While-default.rest.now c.reach.ensures
+          (S.takes T (word keyword.While) c.args.input.now c.in-Some-Word-While-default.rest.now c.in-Some-Word-While-default.ensures.passed ((first_of _ (class.Word keyword.While) c.args.input.now c.in-Some-Word-While-default.rest.now (c.in-Some-Word-While-default.field-0-0-is ∙ ap class.Word c.in-Some-Word-While-default.field-0-0-0-is) c.in-Some-Word-While-default.ensures.first.0).1 T))
+          c.in_ok-test-in-Some-Word-While-default.ensures.spans c.in_ok-test-in-Some-Word-While-default.ensures.takes c.in_ok-turn-in-Some-Word-While-default.ensures.spans;
+      formed = subst FormedStatement (sym c.while_do.ensures.built) (c.in_ok-test-in-Some-Word-While-default.ensures.fits.1, c.in_ok-turn-in-Some-Word-While-default.ensures.formed);
+      nesting = omega (arith, ap statement_nesting c.while_do.ensures.built, c.in_ok-inner-in-Some-Word-While-default.ensures.deeper.0, c.in_ok-test-in-Some-Word-While-default.ensures.nesting, c.in_ok-turn-in-Some-Word-While-default.ensures.nesting);
+      shorter = omega (arith, c.in-Some-Word-While-default.ensures.first.1, c.in_ok-test-in-Some-Word-While-default.ensures.shorter, c.in_ok-turn-in-Some-Word-While-default.ensures.shorter);
+      proper = c.in_ok-turn-in-Some-Word-While-default.ensures.proper;
+      reads = let T = c.args.text.now in
+          let i = c.args.input.now in
+          let e = c.in_ok-inner-in-Some-Word-While-default.inner in
+          let n = c.in_ok-inner-in-Some-Word-While-default.ensures.deeper.0 in
+          let m = K.while_moves T c.args.depth e i c.in-Some-Word-While-default.rest.now n c.in_ok-inner-in-Some-Word-While-default.ensures.deeper.1 ((first_of _ (class.Word keyword.While) c.args.input.now c.in-Some-Word-While-default.rest.now (c.in-Some-Word-While-default.field-0-0-is ∙ ap class.Word c.in-Some-Word-While-default.field-0-0-0-is) c.in-Some-Word-While-default.ensures.first.0).1 T) in
+          let m2 = K.do_moves T c.args.depth e i c.in-Some-Word-While-default.rest.now c.in_ok-test-in-Some-Word-While-default.rest.now n m c.in_ok-test-in-Some-Word-While-default.ensures.reads in
+          let o = c.in_ok-turn-in-Some-Word-While-default.rest.now in
+          then T c.args.depth K.some_statement (LevelPart ∷ []) [] i o o
+          (then T c.args.depth K.some_statement K.after_do (LevelPart ∷ []) i c.in_ok-test-in-Some-Word-While-default.rest.now o m2
+          (call T c.args.depth e StatementPart (LevelPart ∷ []) c.in_ok-test-in-Some-Word-While-default.rest.now o (λ s l. omega (arith, l, n)) c.in_ok-turn-in-Some-Word-While-default.ensures.reads))
+          (level_ends T c.args.depth [] o);
+    }
 
-pub read_if-returns-clause-spans : goal.read_if-returns-clause-spans
-read_if-returns-clause-spans t c =
-    let T = c.args.text.now in
-    c.in_ok-statement-2.ensures.spans T c.args.input.now c.args.rest.now c.in_ok-test.ensures.spans.0 c.in_ok-test.rest.now c.in_ok-yes.rest.now c.in-Some.after.now c.in_ok-no.rest.now
-    c.reach-2.ensures
-    (S.takes T (word keyword.If) c.args.input.now c.args.rest.now c.requires.1.1.1.1.1.1 (c.requires.1.1.0.1 T))
-    c.in_ok-test.ensures.spans.1 c.in_ok-test.ensures.spans.2 c.in_ok-yes.ensures.spans
-    (S.takes T (word keyword.Else) c.in_ok-yes.rest.now c.in-Some.after.now c.in-Some.ensures.passed (c.in-Some.ensures.first.1 T)) c.in_ok-no.ensures.spans
+pub read_statement-returns-in_ok-turn-in-Some-Word-Repeat-default : goal.read_statement-returns-in_ok-turn-in-Some-Word-Repeat-default
+read_statement-returns-in_ok-turn-in-Some-Word-Repeat-default t c =
+    record {
+      spans = let T = c.args.text.now in
+          c.repeated.ensures.spans T c.args.input.now c.in-Some-Word-Repeat-default.rest.now c.in_ok-turn-in-Some-Word-Repeat-default.rest.now c.reach-in-Some-Word-Repeat-default.ensures
+          (S.takes T (word keyword.Repeat) c.args.input.now c.in-Some-Word-Repeat-default.rest.now c.in-Some-Word-Repeat-default.ensures.passed ((first_of _ (class.Word keyword.Repeat) c.args.input.now c.in-Some-Word-Repeat-default.rest.now (c.in-Some-Word-Repeat-default.field-0-0-is ∙ ap class.Word c.in-Some-Word-Repeat-default.field-0-0-0-is) c.in-Some-Word-Repeat-default.ensures.first.0).1 T)) c.in_ok-turn-in-Some-Word-Repeat-default.ensures.spans;
+      formed = subst FormedStatement (sym c.repeated.ensures.built) c.in_ok-turn-in-Some-Word-Repeat-default.ensures.formed;
+      nesting = omega (arith, ap statement_nesting c.repeated.ensures.built, c.in_ok-inner-in-Some-Word-Repeat-default.ensures.deeper.0, c.in_ok-turn-in-Some-Word-Repeat-default.ensures.nesting);
+      shorter = omega (arith, c.in-Some-Word-Repeat-default.ensures.first.1, c.in_ok-turn-in-Some-Word-Repeat-default.ensures.shorter);
+      proper = c.in_ok-turn-in-Some-Word-Repeat-default.ensures.proper;
+      reads = (then c.args.text.now c.args.depth (StatementPart ∷ []) (LevelPart ∷ []) ([]) c.args.input.now c.in_ok-turn-in-Some-Word-Repeat-default.rest.now c.in_ok-turn-in-Some-Word-Repeat-default.rest.now (then c.args.text.now c.args.depth (StatementPart ∷ []) (StatementPart ∷ LevelPart ∷ []) (LevelPart ∷ []) c.args.input.now c.in-Some-Word-Repeat-default.rest.now c.in_ok-turn-in-Some-Word-Repeat-default.rest.now (one c.args.text.now c.args.depth (StatementPart) ([]) (StatementPart ∷ LevelPart ∷ []) (word keyword.Repeat) c.args.input.now c.in-Some-Word-Repeat-default.rest.now (λ s l. omega (arith, l, c.requires.1.1.0, c.in_ok-inner-in-Some-Word-Repeat-default.ensures.deeper.0, c.in_ok-inner-in-Some-Word-Repeat-default.ensures.deeper.1)) (λ s. refl) ((first_of _ (class.Word keyword.Repeat) c.args.input.now c.in-Some-Word-Repeat-default.rest.now (c.in-Some-Word-Repeat-default.field-0-0-is ∙ ap class.Word c.in-Some-Word-Repeat-default.field-0-0-0-is) c.in-Some-Word-Repeat-default.ensures.first.0).1 c.args.text.now)) (call c.args.text.now c.args.depth c.in_ok-inner-in-Some-Word-Repeat-default.inner (StatementPart) (LevelPart ∷ []) c.in-Some-Word-Repeat-default.rest.now c.in_ok-turn-in-Some-Word-Repeat-default.rest.now (λ s l. omega (arith, l, c.requires.1.1.0, c.in_ok-inner-in-Some-Word-Repeat-default.ensures.deeper.0, c.in_ok-inner-in-Some-Word-Repeat-default.ensures.deeper.1)) c.in_ok-turn-in-Some-Word-Repeat-default.ensures.reads)) (level_ends c.args.text.now c.args.depth [] c.in_ok-turn-in-Some-Word-Repeat-default.rest.now));
+    }
 
-pub read_statements-returns-clause-words : goal.read_statements-returns-clause-words
-read_statements-returns-clause-words t c =
-    statements_spelled c.args.text.now _ c.args.input.now c.statements.rest.now
-    (S.some_are_statements c.args.text.now _ c.args.input.now c.statements.rest.now c.statements.invariant.spans)
+pub read_statement-returns-in_default : goal.read_statement-returns-in_default
+read_statement-returns-in_default t c =
+    let a : leads_statement (terminals c.args.text.now c.args.input.now) ≡ false = search rules in
+    opened_simple c.args.text.now c.args.depth c.args.input.now (opens_simple c.args.text.now c.args.depth [] c.args.input.now a) c.read_simple.result (λ x. x.0) (λ x. x.1.now) c.read_simple.ensures
+
+pub read_if-returns-in_default : goal.read_if-returns-in_default
+read_if-returns-in_default t c =
+    record {
+      spans = let T = c.args.text.now in
+          c.if_then.ensures.spans T c.args.input.now c.args.rest.now c.in_ok-test.ensures.between c.in_ok-test.rest.now c.in_ok-yes.rest.now c.reach.ensures
+          (S.takes T (word keyword.If) c.args.input.now c.args.rest.now c.requires.1.1.1.1.1.1 (c.requires.1.1.0.1 T))
+          c.in_ok-test.ensures.spans c.in_ok-test.ensures.takes (subst (λ y. StatementSpans T y c.in_ok-test.rest.now c.in_ok-yes.rest.now) (sym c.in_ok-branch.ensures.ok) c.in_ok-yes.ensures.spans);
+      formed = let y = subst (λ y. IsSimple (statement_of y) × FormedStatement (statement_of y)) (sym c.in_ok-branch.ensures.ok) (c.in_ok-yes.ensures.simple, c.in_ok-yes.ensures.formed) in subst FormedStatement (sym c.if_then.ensures.built) (c.in_ok-test.ensures.fits.1, y.0, y.1);
+      nesting = omega (arith, ap statement_nesting c.if_then.ensures.built, ap (λ y. statement_nesting (statement_of y)) c.in_ok-branch.ensures.ok, c.in_ok-inner.ensures.deeper.0, c.in_ok-test.ensures.nesting, c.in_ok-yes.ensures.nesting);
+      shorter = omega (arith, c.requires.1.1.1.0, c.in_ok-test.ensures.shorter, c.in_ok-yes.ensures.shorter);
+      proper = c.in_ok-yes.ensures.proper;
+      reads = let T = c.args.text.now in
+          let i = c.args.input.now in
+          let e = c.in_ok-inner.inner in
+          let n = c.in_ok-inner.ensures.deeper.0 in
+          let m = K.conditional_moves T c.args.depth e i c.args.rest.now n c.in_ok-inner.ensures.deeper.1 (c.requires.1.1.0.1 T) in
+          let m2 = K.test_moves T c.args.depth e i c.args.rest.now c.in_ok-test.rest.now n m c.in_ok-test.ensures.reads in
+          let m3 = K.branch_moves T c.args.depth e i c.in_ok-test.rest.now c.in_ok-yes.rest.now n m2 c.in_ok-yes.ensures.reads in
+          let o = c.in_ok-yes.rest.now in
+          then T c.args.depth K.some_statement (LevelPart ∷ []) [] i o o
+          (then T c.args.depth K.some_statement K.after_branch (LevelPart ∷ []) i o o m3 (ends T c.args.depth ElseTail (LevelPart ∷ []) (class.Word keyword.Else) o refl c.in_default.ensures.absent))
+          (level_ends T c.args.depth [] o);
+    }
+
+pub read_if-returns : goal.read_if-returns
+read_if-returns t c =
+    record {
+      spans = let T = c.args.text.now in
+          c.if_else.ensures.spans T c.args.input.now c.args.rest.now c.in_ok-test.ensures.between c.in_ok-test.rest.now c.in_ok-yes.rest.now c.in-Some.after.now c.in_ok-no.rest.now
+          c.reach-2.ensures
+          (S.takes T (word keyword.If) c.args.input.now c.args.rest.now c.requires.1.1.1.1.1.1 (c.requires.1.1.0.1 T))
+          c.in_ok-test.ensures.spans c.in_ok-test.ensures.takes (subst (λ y. StatementSpans T y c.in_ok-test.rest.now c.in_ok-yes.rest.now) (sym c.in_ok-branch.ensures.ok) c.in_ok-yes.ensures.spans)
+          (S.takes T (word keyword.Else) c.in_ok-yes.rest.now c.in-Some.after.now c.in-Some.ensures.passed (c.in-Some.ensures.first.1 T)) c.in_ok-no.ensures.spans;
+      formed = let y = subst (λ y. IsSimple (statement_of y) × FormedStatement (statement_of y)) (sym c.in_ok-branch.ensures.ok) (c.in_ok-yes.ensures.simple, c.in_ok-yes.ensures.formed) in subst FormedStatement (sym c.if_else.ensures.built) (c.in_ok-test.ensures.fits.1, y.0, y.1, c.in_ok-no.ensures.formed);
+      nesting = omega (arith, ap statement_nesting c.if_else.ensures.built, ap (λ y. statement_nesting (statement_of y)) c.in_ok-branch.ensures.ok, c.in_ok-inner.ensures.deeper.0, c.in_ok-test.ensures.nesting, c.in_ok-yes.ensures.nesting, c.in_ok-no.ensures.nesting);
+      shorter = omega (arith, c.requires.1.1.1.0, c.in_ok-test.ensures.shorter, c.in_ok-yes.ensures.shorter, c.in-Some.ensures.shorter, c.in_ok-no.ensures.shorter);
+      proper = c.in_ok-no.ensures.proper;
+      reads = let T = c.args.text.now in
+          let i = c.args.input.now in
+          let e = c.in_ok-inner.inner in
+          let n = c.in_ok-inner.ensures.deeper.0 in
+          let m = K.conditional_moves T c.args.depth e i c.args.rest.now n c.in_ok-inner.ensures.deeper.1 (c.requires.1.1.0.1 T) in
+          let m2 = K.test_moves T c.args.depth e i c.args.rest.now c.in_ok-test.rest.now n m c.in_ok-test.ensures.reads in
+          let m3 = K.branch_moves T c.args.depth e i c.in_ok-test.rest.now c.in_ok-yes.rest.now n m2 c.in_ok-yes.ensures.reads in
+          let m4 = K.other_moves T c.args.depth e i c.in_ok-yes.rest.now c.in-Some.after.now n c.in_ok-inner.ensures.deeper.1 m3 c.in-Some.ensures.first in
+          let o = c.in_ok-no.rest.now in
+          then T c.args.depth K.some_statement (LevelPart ∷ []) [] i o o
+          (then T c.args.depth K.some_statement K.after_other (LevelPart ∷ []) i c.in-Some.after.now o m4
+          (call T c.args.depth e StatementPart (LevelPart ∷ []) c.in-Some.after.now o (λ s l. omega (arith, l, n)) c.in_ok-no.ensures.reads))
+          (level_ends T c.args.depth [] o);
+    }
+
+pub read_inner-read_statement-requires : goal.read_inner-read_statement-requires
+read_inner-read_statement-requires t c = (omega (arith, c.requires.1.0), (c.requires.1.1.0, c.requires.1.1.1))
+
+pub read_inner-returns-in_err-statement : goal.read_inner-returns-in_err-statement
+read_inner-returns-in_err-statement t c =
+    let p = err_from_is_err_and c.from_residual.result c.from_residual.ensures.1 in rw (p.1, p.2) c.in_err-statement.ensures
+
+pub read_inner-returns : goal.read_inner-returns
+read_inner-returns t c =
+    subst (λ s. StatementRead c.args.text.now c.args.depth s c.args.input.now c.in_ok-statement.rest.now) (sym c.in_ok-boxed.ensures.ok) c.in_ok-statement.ensures
+
+pub read_simple-returns-in-Some-Name-default : goal.read_simple-returns-in-Some-Name-default
+read_simple-returns-in-Some-Name-default t c =
+    c.read_assign.ensures
+
+pub read_simple-returns-in-Some-Word-Send-default : goal.read_simple-returns-in-Some-Word-Send-default
+read_simple-returns-in-Some-Word-Send-default t c =
+    c.read_send.ensures
+
+pub read_simple-returns-in_ok-value-in-Some-Word-Print-default : goal.read_simple-returns-in_ok-value-in-Some-Word-Print-default
+read_simple-returns-in_ok-value-in-Some-Word-Print-default t c =
+    record {
+      spans = let T = c.args.text.now in
+          (c.reach.ensures, (c.in-Some-Word-Print-default.rest.now, (S.takes T (word keyword.Print) c.args.input.now c.in-Some-Word-Print-default.rest.now c.in-Some-Word-Print-default.ensures.passed ((first_of _ (class.Word keyword.Print) c.args.input.now c.in-Some-Word-Print-default.rest.now (c.in-Some-Word-Print-default.field-0-0-is ∙ ap class.Word c.in-Some-Word-Print-default.field-0-0-0-is) c.in-Some-Word-Print-default.ensures.first.0).1 T)), c.in_ok-value-in-Some-Word-Print-default.ensures.spans));
+      formed = c.in_ok-value-in-Some-Word-Print-default.ensures.fits.1;
+      simple = tt;
+      nesting = c.in_ok-value-in-Some-Word-Print-default.ensures.nesting;
+      shorter = omega (arith, c.in-Some-Word-Print-default.ensures.first.1, c.in_ok-value-in-Some-Word-Print-default.ensures.shorter);
+      proper = c.in_ok-value-in-Some-Word-Print-default.ensures.proper;
+      reads = (then c.args.text.now c.args.depth (SimplePart ∷ []) (ExpressionPart whole ∷ []) ([]) c.args.input.now c.in-Some-Word-Print-default.rest.now c.in_ok-value-in-Some-Word-Print-default.rest.now (one c.args.text.now c.args.depth (SimplePart) ([]) (ExpressionPart whole ∷ []) (word keyword.Print) c.args.input.now c.in-Some-Word-Print-default.rest.now (λ s l. omega (arith, l, c.requires.1.1.0)) (λ s. refl) ((first_of _ (class.Word keyword.Print) c.args.input.now c.in-Some-Word-Print-default.rest.now (c.in-Some-Word-Print-default.field-0-0-is ∙ ap class.Word c.in-Some-Word-Print-default.field-0-0-0-is) c.in-Some-Word-Print-default.ensures.first.0).1 c.args.text.now)) (call c.args.text.now c.args.depth c.args.depth (ExpressionPart whole) ([]) c.in-Some-Word-Print-default.rest.now c.in_ok-value-in-Some-Word-Print-default.rest.now (λ s l. omega (arith, l, c.requires.1.1.0)) c.in_ok-value-in-Some-Word-Print-default.ensures.reads));
+    }
+
+pub read_simple-returns-in_ok-rest-in-Some-Word-Begin-default : goal.read_simple-returns-in_ok-rest-in-Some-Word-Begin-default
+read_simple-returns-in_ok-rest-in-Some-Word-Begin-default t c =
+    record {
+      spans = let T = c.args.text.now in
+          c.block.ensures.spans T c.args.input.now c.in-Some-Word-Begin-default.rest.now c.in_ok-statements-in-Some-Word-Begin-default.rest.now c.in_ok-rest-in-Some-Word-Begin-default.rest.now c.reach-in-Some-Word-Begin-default.ensures
+          (S.takes T (word keyword.Begin) c.args.input.now c.in-Some-Word-Begin-default.rest.now c.in-Some-Word-Begin-default.ensures.passed ((first_of _ (class.Word keyword.Begin) c.args.input.now c.in-Some-Word-Begin-default.rest.now (c.in-Some-Word-Begin-default.field-0-0-is ∙ ap class.Word c.in-Some-Word-Begin-default.field-0-0-0-is) c.in-Some-Word-Begin-default.ensures.first.0).1 T)) c.in_ok-statements-in-Some-Word-Begin-default.ensures.spans
+          (S.takes T (word keyword.End) c.in_ok-statements-in-Some-Word-Begin-default.rest.now c.in_ok-rest-in-Some-Word-Begin-default.rest.now c.in_ok-rest-in-Some-Word-Begin-default.ensures.passed (c.in_ok-rest-in-Some-Word-Begin-default.ensures.first.1 T));
+      formed = subst FormedStatement (sym c.block.ensures.built) (c.in_ok-statements-in-Some-Word-Begin-default.ensures.some, c.in_ok-statements-in-Some-Word-Begin-default.ensures.formed);
+      simple = subst IsSimple (sym c.block.ensures.built) tt;
+      nesting = omega (arith, ap statement_nesting c.block.ensures.built, c.in_ok-inner-in-Some-Word-Begin-default.ensures.deeper.0, c.in_ok-statements-in-Some-Word-Begin-default.ensures.nesting);
+      shorter = omega (arith, c.in-Some-Word-Begin-default.ensures.first.1, c.in_ok-statements-in-Some-Word-Begin-default.ensures.shorter, c.in_ok-rest-in-Some-Word-Begin-default.ensures.shorter);
+      proper = c.in_ok-rest-in-Some-Word-Begin-default.ensures.proper c.args.text.now c.in_ok-statements-in-Some-Word-Begin-default.ensures.proper;
+      reads = (then c.args.text.now c.args.depth (SimplePart ∷ []) (LevelPart ∷ []) ([]) c.args.input.now c.in_ok-rest-in-Some-Word-Begin-default.rest.now c.in_ok-rest-in-Some-Word-Begin-default.rest.now (then c.args.text.now c.args.depth (SimplePart ∷ []) (TokenPart EndToken ∷ LevelPart ∷ []) (LevelPart ∷ []) c.args.input.now c.in_ok-statements-in-Some-Word-Begin-default.rest.now c.in_ok-rest-in-Some-Word-Begin-default.rest.now (then c.args.text.now c.args.depth (SimplePart ∷ []) (StatementPart ∷ TailPart StatementsTail ∷ TokenPart EndToken ∷ LevelPart ∷ []) (TokenPart EndToken ∷ LevelPart ∷ []) c.args.input.now c.in-Some-Word-Begin-default.rest.now c.in_ok-statements-in-Some-Word-Begin-default.rest.now (one c.args.text.now c.args.depth (SimplePart) ([]) (StatementPart ∷ TailPart StatementsTail ∷ TokenPart EndToken ∷ LevelPart ∷ []) (word keyword.Begin) c.args.input.now c.in-Some-Word-Begin-default.rest.now (λ s l. omega (arith, l, c.requires.1.1.0, c.in_ok-inner-in-Some-Word-Begin-default.ensures.deeper.0, c.in_ok-inner-in-Some-Word-Begin-default.ensures.deeper.1)) (λ s. refl) ((first_of _ (class.Word keyword.Begin) c.args.input.now c.in-Some-Word-Begin-default.rest.now (c.in-Some-Word-Begin-default.field-0-0-is ∙ ap class.Word c.in-Some-Word-Begin-default.field-0-0-0-is) c.in-Some-Word-Begin-default.ensures.first.0).1 c.args.text.now)) (call_two c.args.text.now c.args.depth c.in_ok-inner-in-Some-Word-Begin-default.inner (StatementPart) (TailPart StatementsTail) (TokenPart EndToken ∷ LevelPart ∷ []) c.in-Some-Word-Begin-default.rest.now c.in_ok-statements-in-Some-Word-Begin-default.rest.now (λ s l. omega (arith, l, c.requires.1.1.0, c.in_ok-inner-in-Some-Word-Begin-default.ensures.deeper.0, c.in_ok-inner-in-Some-Word-Begin-default.ensures.deeper.1)) c.in_ok-statements-in-Some-Word-Begin-default.ensures.reads)) (expected c.args.text.now c.args.depth EndToken (LevelPart ∷ []) (class.Word keyword.End) c.in_ok-statements-in-Some-Word-Begin-default.rest.now c.in_ok-rest-in-Some-Word-Begin-default.rest.now (λ s l. omega (arith, l, c.requires.1.1.0, c.in_ok-inner-in-Some-Word-Begin-default.ensures.deeper.0, c.in_ok-inner-in-Some-Word-Begin-default.ensures.deeper.1)) refl c.in_ok-rest-in-Some-Word-Begin-default.ensures.first)) (level_ends c.args.text.now c.args.depth [] c.in_ok-rest-in-Some-Word-Begin-default.rest.now));
+    }
+
+pub read_simple-returns-in_default : goal.read_simple-returns-in_default
+read_simple-returns-in_default t c =
+    record {
+      spans = (refl, refl);
+      formed = tt;
+      simple = tt;
+      nesting = omega (arith, c.requires.1.1.0);
+      shorter = omega arith;
+      proper = c.requires.1.1.1;
+      reads = let a : leads_simple (terminals c.args.text.now c.args.input.now) ≡ false = search rules in simple_ends c.args.text.now c.args.depth [] c.args.input.now a;
+    }

@@ -10,25 +10,30 @@ use Rattle.kahn_syntax.proofs.Spanning as S
 use Rattle.kahn_syntax.proofs.Moves.{memory_alone, then, then_stops, call, call_stops, one, expected, unexpected}
 use Rattle.kahn_syntax.proofs.parser.statement.read_assign.Goals as goal
 
-pub returns-in_err-name-clause-stops : goal.returns-in_err-name-clause-stops
-returns-in_err-name-clause-stops c =
+pub returns-in_err-name : goal.returns-in_err-name
+returns-in_err-name c =
     let p = err_from_is_err_and c.from_residual.result c.from_residual.ensures.1 in rw (p.1, p.2) (memory_alone c.args.text.now c.args.depth (SimplePart ∷ []) c.args.input.now _ c.requires.named c.in_err-name.ensures.stop)
 
-pub returns-in_err-rest-clause-stops : goal.returns-in_err-rest-clause-stops
-returns-in_err-rest-clause-stops c =
+pub returns-in_err-rest : goal.returns-in_err-rest
+returns-in_err-rest c =
     let p = err_from_is_err_and c.from_residual-in_err-rest.result c.from_residual-in_err-rest.ensures.1 in rw (p.1, p.2) (then_stops c.args.text.now c.args.depth (SimplePart ∷ []) (TokenPart BecomesToken ∷ ExpressionPart whole ∷ []) c.args.input.now c.in_ok-name.rest.now _ (one c.args.text.now c.args.depth (SimplePart) ([]) (TokenPart BecomesToken ∷ ExpressionPart whole ∷ []) (name (name_of c.in_ok-name.name)) c.args.input.now c.in_ok-name.rest.now (λ s l. omega (arith, l, c.requires.depth)) (λ s. refl) c.in_ok-name.ensures.words) (unexpected c.args.text.now c.args.depth BecomesToken (ExpressionPart whole ∷ []) (class.Sign mark.Becomes) c.in_ok-name.rest.now _ refl c.in_err-rest.ensures.stop))
 
 pub read_expression-requires-clause-proper : goal.read_expression-requires-clause-proper
 read_expression-requires-clause-proper c = c.in_ok-rest.ensures.proper c.args.text.now c.in_ok-name.ensures.proper
 
-pub returns-in_err-value-clause-stops : goal.returns-in_err-value-clause-stops
-returns-in_err-value-clause-stops c =
-    let p = err_from_is_err_and c.from_residual-in_err-value.result c.from_residual-in_err-value.ensures.1 in rw (p.1, p.2) (then_stops c.args.text.now c.args.depth (SimplePart ∷ []) (ExpressionPart whole ∷ []) c.args.input.now c.in_ok-rest.rest.now _ (then c.args.text.now c.args.depth (SimplePart ∷ []) (TokenPart BecomesToken ∷ ExpressionPart whole ∷ []) (ExpressionPart whole ∷ []) c.args.input.now c.in_ok-name.rest.now c.in_ok-rest.rest.now (one c.args.text.now c.args.depth (SimplePart) ([]) (TokenPart BecomesToken ∷ ExpressionPart whole ∷ []) (name (name_of c.in_ok-name.name)) c.args.input.now c.in_ok-name.rest.now (λ s l. omega (arith, l, c.requires.depth)) (λ s. refl) c.in_ok-name.ensures.words) (expected c.args.text.now c.args.depth BecomesToken (ExpressionPart whole ∷ []) (class.Sign mark.Becomes) c.in_ok-name.rest.now c.in_ok-rest.rest.now (λ s l. omega (arith, l, c.requires.depth)) refl c.in_ok-rest.ensures.first)) (call_stops c.args.text.now c.args.depth c.args.depth (ExpressionPart whole) ([]) c.in_ok-rest.rest.now _ (λ s l. omega (arith, l, c.requires.depth)) c.in_err-value.ensures.stops))
+pub returns-in_err-value : goal.returns-in_err-value
+returns-in_err-value c =
+    let p = err_from_is_err_and c.from_residual-in_err-value.result c.from_residual-in_err-value.ensures.1 in rw (p.1, p.2) (then_stops c.args.text.now c.args.depth (SimplePart ∷ []) (ExpressionPart whole ∷ []) c.args.input.now c.in_ok-rest.rest.now _ (then c.args.text.now c.args.depth (SimplePart ∷ []) (TokenPart BecomesToken ∷ ExpressionPart whole ∷ []) (ExpressionPart whole ∷ []) c.args.input.now c.in_ok-name.rest.now c.in_ok-rest.rest.now (one c.args.text.now c.args.depth (SimplePart) ([]) (TokenPart BecomesToken ∷ ExpressionPart whole ∷ []) (name (name_of c.in_ok-name.name)) c.args.input.now c.in_ok-name.rest.now (λ s l. omega (arith, l, c.requires.depth)) (λ s. refl) c.in_ok-name.ensures.words) (expected c.args.text.now c.args.depth BecomesToken (ExpressionPart whole ∷ []) (class.Sign mark.Becomes) c.in_ok-name.rest.now c.in_ok-rest.rest.now (λ s l. omega (arith, l, c.requires.depth)) refl c.in_ok-rest.ensures.first)) (call_stops c.args.text.now c.args.depth c.args.depth (ExpressionPart whole) ([]) c.in_ok-rest.rest.now _ (λ s l. omega (arith, l, c.requires.depth)) c.in_err-value.ensures))
 
-pub returns-clause-reads : goal.returns-clause-reads
-returns-clause-reads c = (then c.args.text.now c.args.depth (SimplePart ∷ []) (ExpressionPart whole ∷ []) ([]) c.args.input.now c.in_ok-rest.rest.now c.in_ok-value.rest.now (then c.args.text.now c.args.depth (SimplePart ∷ []) (TokenPart BecomesToken ∷ ExpressionPart whole ∷ []) (ExpressionPart whole ∷ []) c.args.input.now c.in_ok-name.rest.now c.in_ok-rest.rest.now (one c.args.text.now c.args.depth (SimplePart) ([]) (TokenPart BecomesToken ∷ ExpressionPart whole ∷ []) (name (name_of c.in_ok-name.name)) c.args.input.now c.in_ok-name.rest.now (λ s l. omega (arith, l, c.requires.depth)) (λ s. refl) c.in_ok-name.ensures.words) (expected c.args.text.now c.args.depth BecomesToken (ExpressionPart whole ∷ []) (class.Sign mark.Becomes) c.in_ok-name.rest.now c.in_ok-rest.rest.now (λ s l. omega (arith, l, c.requires.depth)) refl c.in_ok-rest.ensures.first)) (call c.args.text.now c.args.depth c.args.depth (ExpressionPart whole) ([]) c.in_ok-rest.rest.now c.in_ok-value.rest.now (λ s l. omega (arith, l, c.requires.depth)) c.in_ok-value.ensures.reads))
-
-pub returns-clause-spans : goal.returns-clause-spans
-returns-clause-spans c =
-    let T = c.args.text.now in
-    (c.reach.ensures, (c.in_ok-name.rest.now, c.in_ok-rest.rest.now, c.in_ok-name.ensures.spans, (S.takes T (sign mark.Becomes) c.in_ok-name.rest.now c.in_ok-rest.rest.now c.in_ok-rest.ensures.passed (c.in_ok-rest.ensures.first.1 T)), c.in_ok-value.ensures.spans))
+pub returns : goal.returns
+returns c =
+    record {
+      spans = let T = c.args.text.now in
+          (c.reach.ensures, (c.in_ok-name.rest.now, c.in_ok-rest.rest.now, c.in_ok-name.ensures.spans, (S.takes T (sign mark.Becomes) c.in_ok-name.rest.now c.in_ok-rest.rest.now c.in_ok-rest.ensures.passed (c.in_ok-rest.ensures.first.1 T)), c.in_ok-value.ensures.spans));
+      formed = c.in_ok-value.ensures.fits.1;
+      simple = tt;
+      nesting = c.in_ok-value.ensures.nesting;
+      shorter = omega (arith, c.in_ok-name.ensures.shorter, c.in_ok-rest.ensures.shorter, c.in_ok-value.ensures.shorter);
+      proper = c.in_ok-value.ensures.proper;
+      reads = (then c.args.text.now c.args.depth (SimplePart ∷ []) (ExpressionPart whole ∷ []) ([]) c.args.input.now c.in_ok-rest.rest.now c.in_ok-value.rest.now (then c.args.text.now c.args.depth (SimplePart ∷ []) (TokenPart BecomesToken ∷ ExpressionPart whole ∷ []) (ExpressionPart whole ∷ []) c.args.input.now c.in_ok-name.rest.now c.in_ok-rest.rest.now (one c.args.text.now c.args.depth (SimplePart) ([]) (TokenPart BecomesToken ∷ ExpressionPart whole ∷ []) (name (name_of c.in_ok-name.name)) c.args.input.now c.in_ok-name.rest.now (λ s l. omega (arith, l, c.requires.depth)) (λ s. refl) c.in_ok-name.ensures.words) (expected c.args.text.now c.args.depth BecomesToken (ExpressionPart whole ∷ []) (class.Sign mark.Becomes) c.in_ok-name.rest.now c.in_ok-rest.rest.now (λ s l. omega (arith, l, c.requires.depth)) refl c.in_ok-rest.ensures.first)) (call c.args.text.now c.args.depth c.args.depth (ExpressionPart whole) ([]) c.in_ok-rest.rest.now c.in_ok-value.rest.now (λ s l. omega (arith, l, c.requires.depth)) c.in_ok-value.ensures.reads));
+    }

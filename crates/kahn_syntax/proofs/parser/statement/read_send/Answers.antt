@@ -10,17 +10,17 @@ use Rattle.kahn_syntax.proofs.Stacks as K
 use Rattle.kahn_syntax.proofs.Moves.{then, then_stops, call_two_stops, token, no_name}
 use Rattle.kahn_syntax.proofs.parser.statement.read_send.Goals as goal
 
-pub returns-in_err-value-clause-stops : goal.returns-in_err-value-clause-stops
-returns-in_err-value-clause-stops c =
+pub returns-in_err-value : goal.returns-in_err-value
+returns-in_err-value c =
     let p = err_from_is_err_and c.from_residual.result c.from_residual.ensures.1 in
     let T = c.args.text.now in
     let i = c.args.input.now in
     let m = K.send_moves T c.args.depth i c.args.rest.now c.requires.depth (c.requires.first.1 T) in
     rw (p.1, p.2) (then_stops T c.args.depth (SimplePart ∷ []) K.after_send i c.args.rest.now _ m
-    (call_two_stops T c.args.depth c.args.depth (ExpressionPart whole) (TokenPart OnToken) K.after_on c.args.rest.now _ (λ s l. l) c.in_err-value.ensures.stops))
+    (call_two_stops T c.args.depth c.args.depth (ExpressionPart whole) (TokenPart OnToken) K.after_on c.args.rest.now _ (λ s l. l) c.in_err-value.ensures))
 
-pub returns-in_err-name-clause-stops : goal.returns-in_err-name-clause-stops
-returns-in_err-name-clause-stops c =
+pub returns-in_err-name : goal.returns-in_err-name
+returns-in_err-name c =
     let p = err_from_is_err_and c.from_residual-in_err-name.result c.from_residual-in_err-name.ensures.1 in
     let T = c.args.text.now in
     let i = c.args.input.now in
@@ -28,26 +28,30 @@ returns-in_err-name-clause-stops c =
     let m2 = K.on_moves T c.args.depth i c.args.rest.now c.in_ok-value.rest.now m c.in_ok-value.ensures.reads in
     rw (p.1, p.2) (then_stops T c.args.depth (SimplePart ∷ []) K.after_on i c.in_ok-value.rest.now _ m2 (no_name T c.args.depth [] c.in_ok-value.rest.now _ c.in_err-name.ensures.stop))
 
-pub returns-clause-reads : goal.returns-clause-reads
-returns-clause-reads c =
-    let T = c.args.text.now in
-    let i = c.args.input.now in
-    let m = K.send_moves T c.args.depth i c.args.rest.now c.requires.depth (c.requires.first.1 T) in
-    let m2 = K.on_moves T c.args.depth i c.args.rest.now c.in_ok-value.rest.now m c.in_ok-value.ensures.reads in
-    then T c.args.depth (SimplePart ∷ []) K.after_on [] i c.in_ok-value.rest.now c.in_ok-name.rest.now m2
-    (token T c.args.depth NameToken [] (name (name_of c.in_ok-name.name)) c.in_ok-value.rest.now c.in_ok-name.rest.now (λ s l. omega (arith, l, c.requires.depth)) refl c.in_ok-name.ensures.words)
-
-pub returns-clause-spans : goal.returns-clause-spans
-returns-clause-spans c =
-    let T = c.args.text.now in (
-      c.reach.ensures,
-      (
-        c.args.rest.now,
-        c.in_ok-value.ensures.spans.0,
-        c.in_ok-value.rest.now,
-        S.takes T (word keyword.Send) c.args.input.now c.args.rest.now c.requires.passed (c.requires.first.1 T),
-        c.in_ok-value.ensures.spans.1,
-        c.in_ok-value.ensures.spans.2,
-        c.in_ok-name.ensures.spans,
-      ),
-    )
+pub returns : goal.returns
+returns c =
+    record {
+      spans = let T = c.args.text.now in (
+        c.reach.ensures,
+        (
+          c.args.rest.now,
+          c.in_ok-value.ensures.between,
+          c.in_ok-value.rest.now,
+          S.takes T (word keyword.Send) c.args.input.now c.args.rest.now c.requires.passed (c.requires.first.1 T),
+          c.in_ok-value.ensures.spans,
+          c.in_ok-value.ensures.takes,
+          c.in_ok-name.ensures.spans,
+        ),
+      );
+      formed = c.in_ok-value.ensures.fits.1;
+      simple = tt;
+      nesting = c.in_ok-value.ensures.nesting;
+      shorter = omega (arith, c.requires.follows, c.in_ok-value.ensures.shorter, c.in_ok-name.ensures.shorter);
+      proper = c.in_ok-name.ensures.proper;
+      reads = let T = c.args.text.now in
+          let i = c.args.input.now in
+          let m = K.send_moves T c.args.depth i c.args.rest.now c.requires.depth (c.requires.first.1 T) in
+          let m2 = K.on_moves T c.args.depth i c.args.rest.now c.in_ok-value.rest.now m c.in_ok-value.ensures.reads in
+          then T c.args.depth (SimplePart ∷ []) K.after_on [] i c.in_ok-value.rest.now c.in_ok-name.rest.now m2
+          (token T c.args.depth NameToken [] (name (name_of c.in_ok-name.name)) c.in_ok-value.rest.now c.in_ok-name.rest.now (λ s l. omega (arith, l, c.requires.depth)) refl c.in_ok-name.ensures.words);
+    }
