@@ -1,5 +1,5 @@
 -- What a parse of the words gives the options of the program that is fed line by line.
-use Rattle.std.proofs.Common.{◌≡◌, ◌∙◌, List, Option, refl, sym, subst, ap, inl, inr, arith, codes}
+use Rattle.std.proofs.Common.{◌≡◌, ◌∙◌, List, refl, subst, ap, inl, inr, arith, codes}
 use Rattle.std.specs.Prelude.{Result, Ok, Err, IsErrAnd, option_map, string_bytes}
 use Rattle.clap.specs.Built.{IsParsedFrom}
 use Rattle.clap.specs.Kinds.{HasKind, IsAmong}
