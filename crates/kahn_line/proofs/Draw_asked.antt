@@ -1,21 +1,14 @@
 -- What a parse of the words gives the options of the program that draws.
-use Rattle.std.proofs.Common.{◌≡◌, ◌∙◌, List, subst, ap, inl, inr, codes}
-use Rattle.std.specs.Prelude.{Result, Ok, Err, IsErrAnd, option_map, string_bytes}
-use Rattle.clap.specs.Kinds.{HasKind, IsAmong}
-use Rattle.clap.specs.Faults.{fault_of}
+use Rattle.std.proofs.Common.{◌≡◌, ◌∙◌, List, ap, codes}
+use Rattle.std.specs.Prelude.{option_map, string_bytes}
 use Rattle.clap.specs.Matches.{found_of, first_value}
 use Rattle.clap.specs.Simple.{App, HasMatchesOf, app_of, is_simple, matches_of}
-use Rattle.clap.specs.Values.{kind_of}
 use Rattle.clap.specs.Walk.{Text, first_of, rows_of}
 use Rattle.clap.specs.declared.builder.command.Command.{Command}
 use Rattle.clap.specs.declared.parser.matches.ArgMatches.{ArgMatches}
-use Rattle.clap.specs.declared.error.Error.{Error}
 use Rattle.clap.proofs.WalkLemmas.{first_value-rows}
-use Rattle.kahn_line.specs.Line.{IsTold}
-use Rattle.kahn_line.specs.Draw.{draw_app, draw_text, IsDraw, IsDrawRead}
+use Rattle.kahn_line.specs.Draw.{draw_app, draw_text, IsDraw}
 use Rattle.kahn_line.specs.declared.draw.DrawOptions.{DrawOptions}
-use Rattle.kahn_line.specs.declared.line.LineFault.{LineFault}
-use Rattle.kahn_line.specs.declared.line.LineFault.TheVariants.{NoMemory, Refused}
 
 -- the options that are made of what a parse found are those that the words ask for
 pub asked_draw : (cmd : Command) (m : ArgMatches) (words : List Text) → HasMatchesOf (app_of cmd) words m → app_of cmd ≡ draw_app
@@ -26,16 +19,3 @@ asked_draw cmd m words matches is o program report =
     let rows : rows_of f ≡ matches_of draw_app words = (matches (ap is_simple is)).0 ∙ ap (λ (a : App). matches_of a words) is in
     let text : (id : Text) → first_value f id ≡ draw_text words id = λ id. first_value-rows f id ∙ ap (first_of id) rows in
     record { program = program ∙ text (codes "PROGRAM"); report = report ∙ text (codes "report") }
-
--- what an error of the library is told as, is what the words ask for
-pub told_draw : (words : List Text) (r : Result DrawOptions LineFault) (e : Error) → HasKind (fault_of draw_app words) e → IsErrAnd r (IsTold e) → IsDrawRead words r
-told_draw words (Ok o) e kinds is = absurd is
-told_draw words (Err NoMemory) e kinds is = tt
-told_draw words (Err (Refused x)) e kinds (inl memory) =
-    let bad : Refused x ≡ NoMemory = memory.1 in
-    absurd cc
-told_draw words (Err (Refused x)) e (inl memory) (inr other) = absurd (other.0 memory)
-told_draw words (Err (Refused x)) e (inr among) (inr other) =
-    let same : Refused x ≡ Refused e = other.1 in
-    let one : e ≡ x = cc in
-    subst (λ (y : Error). IsAmong (kind_of y) (fault_of draw_app words)) one among
