@@ -10,7 +10,6 @@ use Rattle.std.proofs.lemmas.Slice.Eq.{bytes_eq-Decides}
 use Rattle.clap.specs.Facts.{args_of, groups_of, parser_of, parser_of_value, Entry, EntryPasses, PassesArg, ValuesPass}
 use Rattle.clap.specs.Built.{BuildsTo, IsAuto, IsParsedFrom, SameRules}
 use Rattle.clap.specs.Kinds.{HasKind, IsAmong}
-use Rattle.clap.specs.Faults.{fault_of}
 use Rattle.clap.specs.Matches.{found_of, first_value, matched_of, one_text}
 use Rattle.clap.specs.Simple.{App, HasMatchesOf, Shape, app_of, is_simple, matches_of, shape_of}
 use Rattle.clap.specs.Values.{Accepts, IsUnsignedIn, kind_of, read_as, reading_of}
@@ -25,10 +24,11 @@ use Rattle.clap.specs.declared.parser.matches.ArgMatches.{ArgMatches}
 use Rattle.clap.specs.declared.parser.matches.Found.{Found}
 use Rattle.clap.specs.declared.parser.matches.MatchedArg.{MatchedArg}
 use Rattle.clap.specs.declared.error.Error.{Error}
+use Rattle.clap.specs.declared.error.kind.ErrorKind.{ErrorKind}
 use Rattle.clap.proofs.CallerLemmas.{entry_by_id}
 use Rattle.clap.proofs.SimpleLemmas.{plain_fields, simple_groups}
 use Rattle.clap.proofs.WalkLemmas.{first_value-rows, one_text-rows}
-use Rattle.kahn_line.specs.Line.{kahn_app, number_or, text_of, IsAsked, IsRead, IsSet, IsTold, ReadsOr}
+use Rattle.kahn_line.specs.Line.{kahn_app, number_or, text_of, IsAsked, IsSet, IsTold, ReadsOr}
 use Rattle.kahn_line.specs.declared.line.Options.{Options}
 use Rattle.kahn_line.specs.declared.line.LineFault.{LineFault}
 use Rattle.kahn_line.specs.declared.line.LineFault.TheVariants.{NoMemory, Refused}
@@ -194,15 +194,16 @@ asked cmd m words p matches is o program input set =
       in_range = (workers.1, workers.2, quantum.1, quantum.2, omega arith);
     }
 
--- what an error of the library is told as, is what the words ask for
-pub told : (words : List Text) (r : Result Options LineFault) (e : Error) → HasKind (fault_of kahn_app words) e → IsErrAnd r (IsTold e) → IsRead words r
-told words (Ok o) e kinds is = absurd is
-told words (Err NoMemory) e kinds is = tt
-told words (Err (Refused x)) e kinds (inl memory) =
-    let bad : Refused x ≡ NoMemory = memory.1 in
+-- an error of the library is told as a fault: as want of memory, or as what is at fault in the words
+pub told : {O : Type 0} (P : Result O LineFault → Type 0) (faults : List ErrorKind) → ((x : Error) → IsAmong (kind_of x) faults → P (Err (Refused x)))
+    → P (Err NoMemory) → (r : Result O LineFault) (e : Error) → HasKind faults e → IsErrAnd r (IsTold e) → P r
+told P faults refused memory (Ok o) e kinds is = absurd is
+told P faults refused memory (Err NoMemory) e kinds is = memory
+told P faults refused memory (Err (Refused x)) e kinds (inl want) =
+    let bad : Refused x ≡ NoMemory = want.1 in
     absurd cc
-told words (Err (Refused x)) e (inl memory) (inr other) = absurd (other.0 memory)
-told words (Err (Refused x)) e (inr among) (inr other) =
+told P faults refused memory (Err (Refused x)) e (inl want) (inr other) = absurd (other.0 want)
+told P faults refused memory (Err (Refused x)) e (inr among) (inr other) =
     let same : Refused x ≡ Refused e = other.1 in
     let one : e ≡ x = cc in
-    subst (λ (y : Error). IsAmong (kind_of y) (fault_of kahn_app words)) one among
+    refused x (subst (λ (y : Error). IsAmong (kind_of y) faults) one among)

@@ -1,2 +1,3 @@
 pub mod Asked
+pub mod Draw_asked
 pub mod Live_asked

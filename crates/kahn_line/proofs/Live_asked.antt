@@ -1,23 +1,17 @@
 -- What a parse of the words gives the options of the program that is fed line by line.
-use Rattle.std.proofs.Common.{◌≡◌, ◌∙◌, List, Option, refl, sym, subst, ap, inl, inr, arith, codes}
-use Rattle.std.specs.Prelude.{Result, Ok, Err, IsErrAnd, option_map, string_bytes}
+use Rattle.std.proofs.Common.{◌≡◌, ◌∙◌, List, refl, ap, arith, codes}
+use Rattle.std.specs.Prelude.{option_map, string_bytes}
 use Rattle.clap.specs.Built.{IsParsedFrom}
-use Rattle.clap.specs.Kinds.{HasKind, IsAmong}
-use Rattle.clap.specs.Faults.{fault_of}
 use Rattle.clap.specs.Matches.{found_of, first_value, one_text}
 use Rattle.clap.specs.Simple.{App, HasMatchesOf, app_of, is_simple, matches_of}
-use Rattle.clap.specs.Values.{kind_of}
 use Rattle.clap.specs.Walk.{Text, first_of, one_of, rows_of}
 use Rattle.clap.specs.declared.builder.command.Command.{Command}
 use Rattle.clap.specs.declared.builder.value_parser.ValueParser.TheVariants.{Unsigned}
 use Rattle.clap.specs.declared.parser.matches.ArgMatches.{ArgMatches}
-use Rattle.clap.specs.declared.error.Error.{Error}
 use Rattle.clap.proofs.WalkLemmas.{first_value-rows, one_text-rows}
-use Rattle.kahn_line.specs.Line.{number_or, IsSet, IsTold}
-use Rattle.kahn_line.specs.Live.{live_app, live_text, IsLive, IsLiveRead}
+use Rattle.kahn_line.specs.Line.{number_or, IsSet}
+use Rattle.kahn_line.specs.Live.{live_app, live_text, IsLive}
 use Rattle.kahn_line.specs.declared.live.LiveOptions.{LiveOptions}
-use Rattle.kahn_line.specs.declared.line.LineFault.{LineFault}
-use Rattle.kahn_line.specs.declared.line.LineFault.TheVariants.{NoMemory, Refused}
 use Rattle.kahn_line.proofs.Asked.{ParsedAs, apart, known, passed}
 
 workers_parsed : ParsedAs live_app.top.rules (codes "workers") (Unsigned 1 16)
@@ -53,16 +47,3 @@ asked_live cmd m words p matches is o program set =
       step = step.0 ∙ ap (number_or 1000000) (one (codes "step"));
       in_range = (workers.1, workers.2, quantum.1, quantum.2, omega arith);
     }
-
--- what an error of the library is told as, is what the words ask for
-pub told_live : (words : List Text) (r : Result LiveOptions LineFault) (e : Error) → HasKind (fault_of live_app words) e → IsErrAnd r (IsTold e) → IsLiveRead words r
-told_live words (Ok o) e kinds is = absurd is
-told_live words (Err NoMemory) e kinds is = tt
-told_live words (Err (Refused x)) e kinds (inl memory) =
-    let bad : Refused x ≡ NoMemory = memory.1 in
-    absurd cc
-told_live words (Err (Refused x)) e (inl memory) (inr other) = absurd (other.0 memory)
-told_live words (Err (Refused x)) e (inr among) (inr other) =
-    let same : Refused x ≡ Refused e = other.1 in
-    let one : e ≡ x = cc in
-    subst (λ (y : Error). IsAmong (kind_of y) (fault_of live_app words)) one among

@@ -1,3 +1,4 @@
+pub mod Draw
 pub mod Line
 pub mod Live
 pub mod Refusal

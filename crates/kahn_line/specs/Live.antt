@@ -1,7 +1,7 @@
 -- What the words of the command line of the program that is fed line by line ask for.
-use Rattle.std.specs.Prelude.{◌≡◌, ⊤, ℕ, List, [], true, Some, Option, Result, codes, option_map, string_bytes}
+use Rattle.std.specs.Prelude.{◌≡◌, ⊤, ℕ, List, [], true, Option, Result, codes, option_map, string_bytes}
 use Rattle.std.specs.declared.result.Result.TheVariants.{Ok, Err}
-use Rattle.clap.specs.Words.{App, Rule, Text, IsAmong, fault_of, first_of, kind_of, matches_of, new_app, new_rule, one_of, with_rule}
+use Rattle.clap.specs.Words.{App, Text, IsAmong, fault_of, first_of, kind_of, matches_of, new_app, new_rule, one_of, with_rule}
 use Rattle.kahn_config.specs.Limits.{IsInRange}
 use Rattle.kahn_line.specs.Line.{number_or, number_rule, text_rule}
 use Rattle.kahn_line.specs.declared.line.LineFault.{LineFault}

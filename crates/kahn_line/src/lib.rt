@@ -1,10 +1,12 @@
 //! The command lines of the programs.
 #![tactic(auto)]
 
+mod draw;
 mod line;
 mod live;
 mod refusal;
 
+pub use draw::{DrawOptions, read_draw_line};
 pub use line::{LineFault, Options, read_line};
 pub use live::{LiveOptions, read_live_line};
 pub use refusal::{tell_line, tell_no_memory, tell_words};

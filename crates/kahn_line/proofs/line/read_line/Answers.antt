@@ -1,5 +1,6 @@
 use Rattle.std.proofs.Common.{map, ap, subst, sym, ◌∙◌}
 use Rattle.clap.specs.Words.{App, HasKind, fault_of, is_simple_and_free}
+use Rattle.kahn_line.specs.Line.{kahn_app, IsRead}
 use Rattle.kahn_line.proofs.Asked.{asked, told}
 use Rattle.kahn_line.proofs.line.read_line.Goals as goal
 
@@ -8,7 +9,8 @@ returns-in_err-matches g c =
     let words = map g.S.AsStr.text c.args.words.now in
     let is = c.in_ok-command.ensures in
     let kinds = c.in_err-matches.ensures.kinds (ap is_simple_and_free is) in
-    told words _ c.in_err-matches.field-0.0 (subst (λ (a : App). HasKind (fault_of a words) c.in_err-matches.field-0.0) is kinds) c.from_residual-in_err-matches.ensures.1
+    told (IsRead words) (fault_of kahn_app words) (λ x among. among) tt _ c.in_err-matches.field-0.0
+    (subst (λ (a : App). HasKind (fault_of a words) c.in_err-matches.field-0.0) is kinds) c.from_residual-in_err-matches.ensures.1
 
 pub returns : goal.returns
 returns g c =

@@ -1,6 +1,8 @@
 use Rattle.std.proofs.Common.{map, ap, subst, sym, ◌∙◌}
 use Rattle.clap.specs.Words.{App, HasKind, fault_of, is_simple_and_free}
-use Rattle.kahn_line.proofs.Live_asked.{asked_live, told_live}
+use Rattle.kahn_line.specs.Live.{live_app, IsLiveRead}
+use Rattle.kahn_line.proofs.Asked.{told}
+use Rattle.kahn_line.proofs.Live_asked.{asked_live}
 use Rattle.kahn_line.proofs.live.read_live_line.Goals as goal
 
 pub returns-in_err-matches : goal.returns-in_err-matches
@@ -8,8 +10,8 @@ returns-in_err-matches g c =
     let words = map g.S.AsStr.text c.args.words.now in
     let is = c.in_ok-live_command.ensures in
     let kinds = c.in_err-matches.ensures.kinds (ap is_simple_and_free is) in
-    told_live words _ c.in_err-matches.field-0.0 (subst (λ (a : App). HasKind (fault_of a words) c.in_err-matches.field-0.0) is kinds)
-    c.from_residual-in_err-matches.ensures.1
+    told (IsLiveRead words) (fault_of live_app words) (λ x among. among) tt _ c.in_err-matches.field-0.0
+    (subst (λ (a : App). HasKind (fault_of a words) c.in_err-matches.field-0.0) is kinds) c.from_residual-in_err-matches.ensures.1
 
 pub returns : goal.returns
 returns g c =
