@@ -1,5 +1,5 @@
 -- Lists whose values stand.
-use Rattle.std.proofs.Common.{arith, ◌≡◌, ◌⊎◌, inl, inr, ℕ, zero, suc, ◌<◌, ◌≤◌, max, List, [], ◌∷◌, ◌++◌, length, map, refl, sym, ap, ◌∙◌, subst, Some, None, slice_get, le_refl, eq-or-lt_of_le, le_of_suc-le-suc}
+use Rattle.std.proofs.Common.{arith, ◌≡◌, ◌⊎◌, inl, inr, ℕ, zero, suc, ◌<◌, ◌≤◌, max, List, [], ◌∷◌, ◌++◌, length, map, refl, sym, ap, ◌∙◌, subst, Some, None, slice_get, le_refl, eq-or-lt_of_le, le_of_suc-le-suc, ◌+◌, length-append}
 use Rattle.std.proofs.Math.Nat.{le-max_left, le-max_right}
 use mathlib.Core.Path.{fun_ext}
 use Rattle.std.proofs.lemmas.List.{get_or_past, map-append}
@@ -190,3 +190,33 @@ kept_push N I c vs ts v t h l p w o =
     owned : (k : ℕ) (u : Token) → (slice_get ts k ≡ Some u) ⊎ ((k ≡ length ts) × (t ≡ u)) → IsOwn N I u
     owned k u (inl e) = h.own k u e
     owned k u (inr e) = subst (IsOwn N I) e.1 o
+
+-- ---- lists that are built one by one
+
+-- the first so many, each with what holds of it
+pub record AreFirst {B : Type 0} (P : ℕ → B → Type 0) (xs : List B) (n : ℕ) : Type 0 where
+  pub count : length xs ≡ n
+  pub each : (k : ℕ) (b : B) → slice_get xs k ≡ Some b → P k b
+
+at_last : {A : Type 0} (xs : List A) (x : A) (k : ℕ) (y : A) → slice_get (xs ++ x ∷ []) k ≡ Some y → (slice_get xs k ≡ Some y) ⊎ ((k ≡ length xs) × (x ≡ y))
+at_last [] x zero y e = inr (refl, let f : x ≡ y = cc in f)
+at_last [] x (suc k) y e = absurd cc
+at_last (z ∷ xs) x zero y e = inl e
+at_last (z ∷ xs) x (suc k) y e = by (at_last xs x k y e)
+  where
+    by : (slice_get xs k ≡ Some y) ⊎ ((k ≡ length xs) × (x ≡ y)) → (slice_get (z ∷ xs) (suc k) ≡ Some y) ⊎ ((suc k ≡ suc (length xs)) × (x ≡ y))
+    by (inl h) = inl h
+    by (inr h) = inr (ap suc h.0, h.1)
+
+pub none_first : {B : Type 0} (P : ℕ → B → Type 0) (xs : List B) → xs ≡ [] → AreFirst P xs 0
+none_first P xs e = record { count = ap length e; each = λ k b h. let f : slice_get [] k ≡ Some b = ap (λ l. slice_get l k) (sym e) ∙ h in absurd cc }
+
+pub one_first : {B : Type 0} (P : ℕ → B → Type 0) (xs more : List B) (b : B) (n : ℕ) → AreFirst P xs n → more ≡ xs ++ b ∷ [] → P n b → AreFirst P more (n + 1)
+one_first {B = B} P xs more b n h e i = record {
+  count = let l = ap length e ∙ length-append xs (b ∷ []) in omega (arith, l, h.count);
+  each = λ k c at. by k c (at_last xs b k c (subst (λ l. slice_get l k ≡ Some c) e at));
+}
+  where
+    by : (k : ℕ) (c : B) → (slice_get xs k ≡ Some c) ⊎ ((k ≡ length xs) × (b ≡ c)) → P k c
+    by k c (inl at) = h.each k c at
+    by k c (inr at) = subst (P k) at.1 (subst (λ k. P k b) (sym (at.0 ∙ h.count)) i)

@@ -85,7 +85,6 @@ impl<A: Allocator + Copy + Drop> Cell<A> {
         steps: &mut Steps<L>,
     ) -> Pause
         requires code { code.now.network.value ≡ self.old.network }
-        requires here { self.old.instance < length (network_of self.old.network).instances }
         requires ports { P.seat ports.old ≡ seat_of self.old }
         requires at { IsAt self.old (P.next ports.old) }
         requires events { self.old.events + quantum < 2 ^ 48 }

@@ -299,11 +299,6 @@ module _ (b : Table) (laid : IsLaid b) (p : ℕ) (c : Told) (at : slice_get b.ce
   pub code_is : b.code ≡ c.network
   code_is = laid.code ∙ sym seated.network
 
-  pub here_is : c.instance < length (network_of c.network).instances
-  here_is =
-      subst (λ t. c.instance < length (network_of t).instances) (sym seated.network)
-      (subst (λ i. i < length (network_of b.network).instances) (sym seated.instance) (subst (λ n. p < n) laid.count (within_get b.cells p c at)))
-
   pub ports_are : (q : Queues) → q ≡ lent → ports_of q ≡ seat_of c
   ports_are q is =
       ap ports_of is ∙

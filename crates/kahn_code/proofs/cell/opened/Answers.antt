@@ -12,4 +12,4 @@ returns-clause-core g c =
 pub returns-clause-stands : goal.returns-clause-stands
 returns-clause-stands g c =
     let code = c.args.code.now in
-    if_ok_both c.new.result (λ p core names. λ lists. standing_opened code.network.value lists c.args.instance c.routine-routine.result.now c.body.result.now p code.driven c.routine-routine.ensures c.body.ensures core names.0) c.new.ensures.core c.new.ensures.names
+    if_ok_both c.new.result (λ p core names. λ lists. standing_opened code.network.value lists c.args.instance c.routine-routine.result.now c.body.result.now p code.driven c.routine-routine.ensures c.body.ensures core names.0 c.requires) c.new.ensures.core c.new.ensures.names

@@ -1,6 +1,6 @@
 use Rattle.kahn_network.specs.Network.{network_of}
 use Rattle.kahn_code.specs.Code.{IsCompiled}
-use Rattle.kahn_code.proofs.Bodies.{one_first}
+use Rattle.kahn_code.proofs.Lists.{one_first}
 use Rattle.kahn_code.proofs.code.bodies.Goals as goal
 
 pub loop-number-preserved : goal.loop-number-preserved

@@ -1,6 +1,6 @@
 use Rattle.kahn_network.specs.Network.{network_of}
 use Rattle.kahn_code.specs.Code.{IsCompiled}
-use Rattle.kahn_code.proofs.Bodies.{AreFirst}
+use Rattle.kahn_code.proofs.Lists.{AreFirst}
 use Rattle.kahn_code.proofs.code.bodies.Given as goal
 
 abbrev pub invariant-loop-number : goal.invariant-loop-number

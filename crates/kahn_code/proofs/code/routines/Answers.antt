@@ -1,5 +1,6 @@
 use Rattle.std.proofs.Common.{arith}
-use Rattle.kahn_code.proofs.Bodies.{Declares, declares_one, one_first}
+use Rattle.kahn_code.proofs.Bodies.{Declares, declares_one}
+use Rattle.kahn_code.proofs.Lists.{one_first}
 use Rattle.kahn_code.proofs.code.routines.Goals as goal
 
 pub loop-declaration-preserved : goal.loop-declaration-preserved

@@ -1,4 +1,5 @@
-use Rattle.kahn_code.proofs.Bodies.{AreFirst, Declares}
+use Rattle.kahn_code.proofs.Bodies.{Declares}
+use Rattle.kahn_code.proofs.Lists.{AreFirst}
 use Rattle.kahn_code.proofs.code.routines.Given as goal
 
 abbrev pub invariant-loop-declaration : goal.invariant-loop-declaration

@@ -13,7 +13,7 @@ returns g c =
     let I = inputs_of i.input.value in
     let w = i.progress.watch in
     let p = i.progress.instance in
-    let s = c.self.invariant in
+    let s = c.self.invariant.stands in
     subst AreCounts c.self.view_is (record {
       taken_size = s.1.taken_size;
       sent_size = s.1.sent_size;

@@ -16,17 +16,6 @@ run-pause-requires-clause-code g c =
     let at = Benched.found b laid p cell _ here c.index_mut.ensures.value in
     Benched.code_is b laid p cell at
 
-pub run-pause-requires-clause-here : goal.run-pause-requires-clause-here
-run-pause-requires-clause-here g c =
-    let i = c.self.inside in
-    let b : Table = record { network = i.network.now; input = i.input.now; watch = i.watch; code = i.code.network.value; cells = i.cells.items; queues = i.queues } in
-    let laid : IsLaid b = c.self.invariant.0 in
-    let p = c.args.instance in
-    let cell = c.index_mut.result.now in
-    let here = subst (λ (x : Table). p < length (network_of x.network).instances) (sym c.self.view_is) c.requires.here in
-    let at = Benched.found b laid p cell _ here c.index_mut.ensures.value in
-    Benched.here_is b laid p cell at
-
 pub run-pause-requires-clause-ports : goal.run-pause-requires-clause-ports
 run-pause-requires-clause-ports g c =
     let i = c.self.inside in
