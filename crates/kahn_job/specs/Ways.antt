@@ -1,11 +1,10 @@
 -- What is seen of an end, by what it does.
 use Rattle.std.specs.Prelude.{◌-◌, true, false, length, Some, None}
-use Rattle.std.specs.VecDeque.{deque_len, deque_capacity}
 use Rattle.std.specs.declared.alloc.Global.{Global}
 use Rattle.kahn_streams.specs.Tokens.{inputs_of}
 use Rattle.kahn_lane.specs.declared.segments.Sender.{Sender}
 use Rattle.kahn_lane.specs.declared.segments.Receiver.{Receiver}
-use Rattle.kahn_lane.specs.LaneEnds.{sender_lane, receiver_lane, sender_name, receiver_name, flushed, sent, taken, known, left}
+use Rattle.kahn_lane.specs.LaneEnds.{sender_lane, receiver_lane, sender_name, receiver_name, flushed, sent, filled, capacity, taken, waiting, known, left}
 use Rattle.kahn_lane.specs.Places.{lane_name}
 use Rattle.kahn_job.specs.Ends.{End}
 use Rattle.kahn_job.specs.Feeding.{Feeding}
@@ -20,7 +19,7 @@ taking r = record {
   lane = Some (receiver_lane r);
   name = receiver_name r;
   next = taken r;
-  waiting = deque_len r.current;
+  waiting = waiting r;
   known = known r;
   left = left r;
   flushed = 0;
@@ -56,8 +55,8 @@ putting s = record {
   known = 0;
   left = 0;
   flushed = flushed s;
-  filled = deque_len s.current;
-  capacity = deque_capacity s.current;
+  filled = filled s;
+  capacity = capacity s;
 }
 
 -- no end

@@ -1,5 +1,5 @@
 -- Tokens at consecutive places, and what they are of.
-use Rattle.std.proofs.Common.{◌≡◌, ℕ, ◌+◌, List, [], ◌∷◌, ◌++◌, length, Some, None, arith, ap, sym, ◌∙◌}
+use Rattle.std.proofs.Common.{◌≡◌, ◌<◌, ℕ, zero, suc, ◌+◌, List, [], ◌∷◌, ◌++◌, length, slice_index_or, Some, None, arith, ap, sym, ◌∙◌}
 use Rattle.kahn_tree.specs.declared.tree.Program.{Program}
 use Rattle.kahn_streams.specs.Tokens.{Lists}
 use Rattle.kahn_streams.specs.Streams.{IsOf}
@@ -12,6 +12,13 @@ use Rattle.kahn_lane.specs.Places.{Named, Placed, token_name, lane_name, moved_t
 pub placed_more : (c : Named) (n : ℕ) (xs : List Carried) (x : Carried) (t : Token) → Placed c n xs → x.token.value ≡ t → c ≡ Some (token_name t) → t.place ≡ n + length xs → Placed c n (xs ++ x ∷ [])
 placed_more c n [] x t h is on at = ((on ∙ ap (λ u. Some (token_name u)) (sym is), omega (arith, at, ap (λ (u : Token). u.place) is)), tt)
 placed_more c n (y ∷ ys) x t h is on at = (h.0, placed_more c (n + 1) ys x t h.1 is on (omega (arith, at)))
+
+pub placed_at : (c : Named) (n : ℕ) (xs : List Carried) (k : ℕ) (x : Carried) → Placed c n xs → k < length xs → x ≡ slice_index_or xs k x → (c ≡ Some (token_name x.token.value)) × (x.token.value.place ≡ n + k)
+placed_at c n [] k x h lt is = absurd (omega (arith, lt))
+placed_at c n (y ∷ ys) zero x h lt is =
+    (h.0.0 ∙ ap (λ (z : Carried). Some (token_name z.token.value)) (sym is), omega (arith, ap (λ (z : Carried). z.token.value.place) is, h.0.1))
+placed_at c n (y ∷ ys) (suc k) x h lt is =
+    let rest = placed_at c (n + 1) ys k x h.1 (omega (arith, lt)) is in (rest.0, omega (arith, rest.1))
 
 -- a token of a network and an input, on a channel, has the name of that channel's lane
 pub token_name-is_of : (network : Program) (input : Lists) (channel : ℕ) (t : Token) → IsOf network input t → t.line ≡ Channel channel → token_name t ≡ lane_name network input channel

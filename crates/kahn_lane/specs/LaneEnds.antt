@@ -1,6 +1,5 @@
 -- What a contract sees of the two ends of a lane.
-use Rattle.std.specs.Prelude.{◌≡◌, ℕ, ◌+◌, ◌<◌}
-use Rattle.std.specs.VecDeque.{deque_len, deque_capacity}
+use Rattle.std.specs.Prelude.{◌≡◌, ℕ, ◌+◌, ◌-◌, ◌<◌, vec_len, vec_capacity}
 use Rattle.kahn_lane.specs.Places.{Named}
 use Rattle.crossbeam_deque.specs.Handles.{view, taken as left_front, worker_view, worker_deque, stealer_deque}
 use Rattle.kahn_lane.specs.declared.segments.Sender.{Sender}
@@ -27,19 +26,30 @@ module _ {A : Type 0} where
 
   -- how many tokens were put
   abbrev pub sent : Sender A → ℕ
-  sent s = s.flushed + deque_len s.current
+  sent s = s.flushed + vec_len s.current
+
+  -- how many tokens the open segment has, and how many it has place for
+  abbrev pub filled : Sender A → ℕ
+  filled s = vec_len s.current
+
+  abbrev pub capacity : Sender A → ℕ
+  capacity s = vec_capacity s.current
 
   -- there is place for a token
   abbrev pub HasRoom : Sender A → Type 0
-  HasRoom s = (deque_len s.current < 64) × (deque_len s.current < deque_capacity s.current)
+  HasRoom s = (filled s < 64) × (filled s < capacity s)
 
   -- how many tokens were taken
   abbrev pub taken : Receiver A → ℕ
-  taken r = r.taken
+  taken r = r.from + r.used
+
+  -- how many tokens are at hand
+  abbrev pub waiting : Receiver A → ℕ
+  waiting r = vec_len r.current - r.used
 
   -- the next take gives a token
   abbrev pub IsReady : Receiver A → Type 0
-  IsReady r = 0 < deque_len r.current
+  IsReady r = 0 < waiting r
 
   -- how many tokens this end knows to have been flushed, from the last meeting
   abbrev pub known : Receiver A → ℕ

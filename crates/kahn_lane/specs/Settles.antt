@@ -1,6 +1,5 @@
 -- A lane goes on with an input that has grown.
-use Rattle.std.specs.Prelude.{◌≡◌}
-use Rattle.std.specs.VecDeque.{deque_capacity}
+use Rattle.std.specs.Prelude.{◌≡◌, vec_capacity}
 use Rattle.kahn_streams.specs.Laws.{AreInputsExtended}
 use Rattle.kahn_streams.specs.Tokens.{Lists, inputs_of}
 use Rattle.kahn_lane.specs.Places.{tag_name}
@@ -17,4 +16,4 @@ module _ {A : Type 0} where
   LiftsTo l input = (l.to.input.value ≡ input) × IsGrown (tag_name l.from) input
 
   abbrev pub SameLifted : Lifted A → Lifted A → Type 0
-  SameLifted old new = (new.from ≡ old.from) × (new.to ≡ old.to) × (new.first ≡ old.first) × (deque_capacity new.tokens ≡ deque_capacity old.tokens)
+  SameLifted old new = (new.from ≡ old.from) × (new.to ≡ old.to) × (new.first ≡ old.first) × (vec_capacity new.tokens ≡ vec_capacity old.tokens)

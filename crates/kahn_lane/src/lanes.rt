@@ -4,11 +4,10 @@
 //! the reader is to see it. The reader steals a segment where its own is used up, and takes its tokens one by one.
 //! No call ever holds its thread.
 
-ghost use Rattle.std.specs.Prelude.{◌≡◌, ◌+◌, ◌≤◌, ◌<◌, ◌^◌, ◌⊎◌, true, false, IfOk, IsOk, IsSome, MatchResult, MatchOption, Some};
-ghost use Rattle.std.specs.VecDeque.{deque_len};
+ghost use Rattle.std.specs.Prelude.{◌≡◌, ◌+◌, ◌≤◌, ◌<◌, ◌^◌, ◌⊎◌, true, false, vec_len, IfOk, IsOk, IsSome, MatchResult, MatchOption, Some};
 ghost use Rattle.crossbeam_deque.specs.Handles.{worker_view, worker_deque, worker_flavor, stealer_deque, stealer_flavor};
 ghost use Rattle.kahn_lane.specs.Places.{lane_name, token_name, tag_name, owner};
-ghost use Rattle.kahn_lane.specs.LaneEnds.{sender_lane, receiver_lane, sender_name, receiver_name, flushed, sent, HasRoom, taken, IsReady, known, left, SameSender, SameReceiver};
+ghost use Rattle.kahn_lane.specs.LaneEnds.{sender_lane, receiver_lane, sender_name, receiver_name, flushed, sent, HasRoom, taken, waiting, IsReady, known, left, SameSender, SameReceiver};
 
 use crate::carried::Carried;
 use crate::fault::LaneFault;
@@ -24,7 +23,6 @@ use kahn_streams::memory::NoMemory;
 use kahn_streams::token::Token;
 use kahn_streams::value::Line;
 use std::alloc::Allocator;
-use std::collections::VecDeque;
 use std::mem;
 
 // How often a steal that came between two others is tried again.
@@ -43,7 +41,7 @@ fn opened<A: Allocator + Clone + Drop>(
 {
     let head = Segment {
         tag: Some(tag),
-        tokens: VecDeque::new(alloc.clone()?),
+        tokens: Vec::new(alloc.clone()?),
     };
     let mut worker = LaneWorker::<A>::fifo_as(alloc, 1)?;
     let Ok(()) = worker.push_as::<Telling>(head) else {
@@ -66,10 +64,10 @@ pub(crate) fn lane_from<A: Allocator + Clone + Drop>(
     ensures lane { IfOk result (λ r. sender_lane r.0 ≡ receiver_lane r.1) }
     ensures name { IfOk result (λ r. (sender_name r.0 ≡ Some (tag_name tag)) × (receiver_name r.1 ≡ Some (tag_name tag))) }
     ensures start { IfOk result (λ r. (sent r.0 ≡ tag.from) × (flushed r.0 ≡ tag.from) × (taken r.1 ≡ tag.from) × (known r.1 ≡ tag.from)) }
-    ensures dry { IfOk result (λ r. deque_len r.1.current ≡ 0) }
+    ensures dry { IfOk result (λ r. vec_len r.1.current ≡ 0) }
 {
-    let left = VecDeque::new(alloc.clone()?);
-    let right = VecDeque::new(alloc.clone()?);
+    let left = Vec::new(alloc.clone()?);
+    let right = Vec::new(alloc.clone()?);
     let (mut worker, stealer) = opened(alloc, head)?;
     let pass = worker.another::<Sides>();
     let (line, from) = (tag.line, tag.from);
@@ -83,8 +81,9 @@ pub(crate) fn lane_from<A: Allocator + Clone + Drop>(
         stealer,
         pass,
         line,
+        from,
         current: right,
-        taken: from,
+        used: 0,
     };
     Ok((sender, receiver))
 }
@@ -121,7 +120,7 @@ impl<A: Allocator + Clone + Drop> Sender<A> {
         if self.current.len() < self.current.capacity() {
             return Ok(());
         }
-        match self.current.reserve(SEGMENT - self.current.len()) {
+        match self.current.reserve_exact(SEGMENT - self.current.len()) {
             Ok(()) => Ok(()),
             Err(_) => Err(NoMemory),
         }
@@ -141,7 +140,7 @@ impl<A: Allocator + Clone + Drop> Sender<A> {
             return Err(NoMemory);
         };
         let count = self.current.len() as u64;
-        let tokens = mem::replace(&mut self.current, VecDeque::new(alloc));
+        let tokens = mem::replace(&mut self.current, Vec::new(alloc));
         match self
             .worker
             .push_as::<Flushed>(Segment { tag: None, tokens })
@@ -166,7 +165,7 @@ impl<A: Allocator> Sender<A> {
         ensures same { SameSender self.old self.new × (flushed self.new ≡ flushed self.old) }
         ensures sent { sent self.new ≡ sent self.old + 1 }
     {
-        self.current.push_back_reserved(Carried::of(token));
+        self.current.push_reserved(Carried::of(token));
     }
 
     /// How many tokens were put so far, flushed or not: the place of the next one.
@@ -192,7 +191,7 @@ impl<A: Allocator + Drop> Receiver<A> {
         ensures still { IsReady self.old → result ≡ true }
         ensures dry { result ≡ false → (known self.old ≤ taken self.old) ⊎ (left self.old + 64 ≤ left self.new) }
     {
-        !self.current.is_empty() || self.refill()
+        self.used < self.current.len() || self.refill()
     }
 
     /// The next token, which stands at the place that is the number of tokens taken. `None` comes only where the deque
@@ -207,32 +206,33 @@ impl<A: Allocator + Drop> Receiver<A> {
         if !self.ready() {
             return None;
         }
-        let Some(carried) = self.current.pop_front() else {
-            unreachable!()
-        };
-        let place = self.taken;
-        self.taken += 1;
-        Some(carried.token(self.line, place))
+        let place = self.taken();
+        let token = self.current[self.used].token(self.line, place);
+        self.used += 1;
+        Some(token)
     }
 
     /// How many tokens were taken so far: the place of the next one.
     pub fn taken(&self) -> u64
         ensures { result ≡ taken self.now }
     {
-        self.taken
+        self.from + self.used as u64
     }
 
     // Steals the next segment, where the open one is used up.
     fn refill(&mut self) -> bool
-        requires { deque_len self.old.current ≡ 0 }
+        requires { waiting self.old ≡ 0 }
         ensures same { SameReceiver self.old self.new × (taken self.new ≡ taken self.old) × (known self.new ≡ known self.old) }
         ensures ready { result ≡ true → IsReady self.new }
         ensures dry { result ≡ false → (known self.old ≤ taken self.old) ⊎ (left self.old + 64 ≤ left self.new) }
     {
+        let taken = self.taken();
         for _ in 0..TRIES {
             match self.stealer.steal_as::<Stolen>(&mut self.pass) {
                 Steal::Success(segment) => {
+                    self.from = taken;
                     self.current = segment.tokens;
+                    self.used = 0;
                     return true;
                 }
                 Steal::Empty => return false,
@@ -251,7 +251,7 @@ pub fn meet<A: Allocator>(sender: &mut Sender<A>, receiver: &mut Receiver<A>) ->
     ensures ready { IsReady receiver.old → IsReady receiver.new }
     ensures rule { taken receiver.old + result ≡ flushed sender.old }
     // What waits at hand is of these.
-    ensures held { deque_len receiver.old.current ≤ result }
+    ensures held { waiting receiver.old ≤ result }
     ensures known { known receiver.new ≡ flushed sender.old }
 {
     let bare = sender.worker.another::<Bare>();
@@ -261,5 +261,5 @@ pub fn meet<A: Allocator>(sender: &mut Sender<A>, receiver: &mut Receiver<A>) ->
     let pass = sender.worker.another::<Sides>();
     let bare = mem::replace(&mut receiver.pass, pass);
     sender.worker.absorb::<Bare>(bare);
-    sender.flushed - receiver.taken
+    sender.flushed - receiver.taken()
 }

@@ -6,7 +6,6 @@ ghost use Rattle.kahn_lane.specs.Places.{Placed, Placed-prop, lane_name-prop, mo
 use crate::carried::Carried;
 use crate::name::Tag;
 use std::alloc::{Allocator, Global};
-use std::collections::VecDeque;
 
 /// Tokens at consecutive places that were of one input and are lifted to another.
 #[derive(Drop)]
@@ -16,7 +15,7 @@ pub(crate) struct Lifted<A: Allocator = Global> {
     pub(crate) to: Tag,
     // The place of the first of them.
     pub(crate) first: u64,
-    pub(crate) tokens: VecDeque<Carried, A>,
+    pub(crate) tokens: Vec<Carried, A>,
     ghost moved: { tag_name to ≡ moved_to to.input.value (tag_name from) } by { lane_name-prop (tag_name to) (moved_to to.input.value (tag_name from)) },
     ghost placed: { Placed (Some (tag_name to)) first tokens.items } by { Placed-prop (Some (tag_name to)) first tokens.items },
 }

@@ -10,8 +10,7 @@
 //! The rule of a deque is fixed before any network or input is there, so it can't name them. A lane learns them from
 //! a first segment, without tokens, which its maker pushes and takes out again before the ends are parted.
 
-ghost use Rattle.std.specs.Prelude.{◌≡◌, ◌+◌, ◌≤◌, ◌^◌, is_some, true, false, Some};
-ghost use Rattle.std.specs.VecDeque.{deque_len};
+ghost use Rattle.std.specs.Prelude.{◌≡◌, ◌+◌, ◌≤◌, ◌^◌, is_some, true, false, Some, vec_len};
 ghost use Rattle.crossbeam_deque.specs.Handles.{view, worker_view, worker_flavor, worker_index, worker_capacity, stealer_deque, stealer_flavor};
 ghost use Rattle.kahn_lane.specs.Places.{IsOn, IsOn-prop, Placed, Placed-prop, tag_name, name-prop, stage-prop};
 ghost use Rattle.kahn_lane.specs.declared.segments.Stage.TheVariants.{Running};
@@ -22,13 +21,12 @@ use crossbeam_deque::protocol::{Join, Lesson, Outcome, Protocol, Split};
 use crossbeam_deque::{Pass, Stealer, Worker};
 use kahn_streams::value::Line;
 use std::alloc::{Allocator, Global};
-use std::collections::VecDeque;
 
 /// A run of tokens at consecutive places. The first one of a lane tells what the tokens are of, and has none.
 #[derive(Drop)]
 pub struct Segment<A: Allocator = Global> {
     pub(crate) tag: Option<Tag>,
-    pub(crate) tokens: VecDeque<Carried, A>,
+    pub(crate) tokens: Vec<Carried, A>,
 }
 
 /// How far the making of a lane has come: it has no name yet, its name is in the deque, or it is known to both ends.
@@ -179,7 +177,7 @@ pub(crate) type LaneStealer<A> = Stealer<Segment<A>, A, Mark, InPlaces>;
 pub struct Sender<A: Allocator = Global> {
     pub(crate) worker: LaneWorker<A>,
     pub(crate) tag: Tag,
-    pub(crate) current: VecDeque<Carried, A>,
+    pub(crate) current: Vec<Carried, A>,
     pub(crate) flushed: u64,
     ghost stage: { (worker_view worker).stage ≡ Running } by { stage-prop (worker_view worker).stage Running },
     ghost in_order: { worker_flavor worker ≡ 0 },
@@ -187,18 +185,20 @@ pub struct Sender<A: Allocator = Global> {
     ghost named: { (worker_view worker).writes_on ≡ Some (tag_name tag) } by { name-prop (worker_view worker).writes_on (Some (tag_name tag)) },
     ghost counted: { (worker_view worker).flushed ≡ flushed },
     ghost placed: { Placed (worker_view worker).writes_on flushed current.items } by { Placed-prop (worker_view worker).writes_on flushed current.items },
-    ghost short: { deque_len current ≤ 64 },
-    ghost limited: { flushed + deque_len current ≤ 2 ^ 48 },
+    ghost short: { vec_len current ≤ 64 },
+    ghost limited: { flushed + vec_len current ≤ 2 ^ 48 },
 }
 
-/// The reader's end of a lane, with its open segment. Its tokens are on this line.
+/// The reader's end of a lane: the line of its tokens, and its open segment with the place of the first of its tokens
+/// and how many of them were taken.
 #[derive(Drop)]
 pub struct Receiver<A: Allocator = Global> {
     pub(crate) stealer: LaneStealer<A>,
     pub(crate) pass: Pass<Segment<A>, Mark, A>,
     pub(crate) line: Line,
-    pub(crate) current: VecDeque<Carried, A>,
-    pub(crate) taken: u64,
+    pub(crate) from: u64,
+    pub(crate) current: Vec<Carried, A>,
+    pub(crate) used: usize,
     ghost rows: { pass.rows ≡ (stealer_deque stealer).0 },
     ghost heap: { pass.heap ≡ (stealer_deque stealer).1 },
     ghost hand: { is_some pass.me.hand ≡ false },
@@ -207,7 +207,8 @@ pub struct Receiver<A: Allocator = Global> {
     ghost stage: { (view pass).stage ≡ Running } by { stage-prop (view pass).stage Running },
     ghost reads: { (view pass).reads ≡ true },
     ghost on: { IsOn line (view pass).reads_on } by { IsOn-prop line (view pass).reads_on },
-    ghost counted: { (view pass).stolen ≡ taken + deque_len current },
-    ghost placed: { Placed (view pass).reads_on taken current.items } by { Placed-prop (view pass).reads_on taken current.items },
-    ghost limited: { taken + deque_len current ≤ 2 ^ 48 },
+    ghost counted: { (view pass).stolen ≡ from + vec_len current },
+    ghost placed: { Placed (view pass).reads_on from current.items } by { Placed-prop (view pass).reads_on from current.items },
+    ghost within: { used ≤ vec_len current },
+    ghost limited: { from + vec_len current ≤ 2 ^ 48 },
 }

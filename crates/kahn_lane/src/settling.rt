@@ -4,11 +4,10 @@
 //! tokens that weren't taken are lifted to the input, in order, and a lane for this input begins where the old one
 //! ended, with all of them in the reader's hands.
 
-ghost use Rattle.std.specs.Prelude.{◌≡◌, ◌+◌, ◌≤◌, ◌<◌, ◌^◌, [], true, Some, IfOk, IfErr};
-ghost use Rattle.std.specs.VecDeque.{deque_len, deque_capacity};
+ghost use Rattle.std.specs.Prelude.{◌≡◌, ◌+◌, ◌-◌, ◌≤◌, ◌<◌, ◌^◌, [], true, Some, IfOk, IfErr, ℕ, length, vec_len, vec_capacity};
 ghost use Rattle.crossbeam_deque.specs.Handles.{worker_view, worker_flavor};
 ghost use Rattle.kahn_lane.specs.Places.{Placed, moved_to, tag_name, token_name};
-ghost use Rattle.kahn_lane.specs.LaneEnds.{sender_lane, receiver_lane, sender_name, receiver_name, flushed, sent, taken, IsReady, known};
+ghost use Rattle.kahn_lane.specs.LaneEnds.{sender_lane, receiver_lane, sender_name, receiver_name, flushed, sent, taken, waiting, IsReady, known};
 ghost use Rattle.kahn_lane.specs.Settles.{IsGrown, LiftsTo, SameLifted};
 ghost use Rattle.kahn_lane.specs.declared.name.LaneName.{LaneName};
 ghost use Rattle.kahn_lane.specs.declared.segments.Stage.TheVariants.{Running};
@@ -22,47 +21,46 @@ use crate::segments::{Behind, Emptied, LaneWorker, Receiver, Sender, Sides};
 use kahn_streams::input::Input;
 use kahn_streams::memory::NoMemory;
 use std::alloc::{Allocator, Global};
-use std::collections::VecDeque;
 
 impl<A: Allocator + Drop> Lifted<A> {
     // Lifts the next token.
-    fn put(&mut self, input: &Input, carried: Carried)
-        requires room { deque_len self.old.tokens < deque_capacity self.old.tokens }
-        requires next { (token_name carried.token.value ≡ tag_name self.old.from) × (carried.token.value.place ≡ self.old.first + deque_len self.old.tokens) }
+    fn put(&mut self, input: &Input, carried: &Carried)
+        requires room { vec_len self.old.tokens < vec_capacity self.old.tokens }
+        requires next { (token_name carried.now.token.value ≡ tag_name self.old.from) × (carried.now.token.value.place ≡ self.old.first + vec_len self.old.tokens) }
         requires input { LiftsTo self.old input.now }
         ensures same { SameLifted self.old self.new }
-        ensures more { deque_len self.new.tokens ≡ deque_len self.old.tokens + 1 }
+        ensures more { vec_len self.new.tokens ≡ vec_len self.old.tokens + 1 }
     {
         let place = self.first + self.tokens.len() as u64;
         let token = carried.token(self.from.line, place);
-        self.tokens
-            .push_back_reserved(Carried::of(input.lift(token)));
+        self.tokens.push_reserved(Carried::of(input.lift(token)));
     }
 
-    // Lifts the next tokens.
-    fn put_all(&mut self, input: &Input, mut tokens: VecDeque<Carried, A>)
-        requires room { deque_len self.old.tokens + deque_len tokens ≤ deque_capacity self.old.tokens }
-        requires next { Placed (Some (tag_name self.old.from)) (self.old.first + deque_len self.old.tokens) tokens.items }
+    // Lifts the next tokens, all but the first of these, which were taken.
+    fn put_all(&mut self, input: &Input, tokens: &[Carried], used: usize)
+        requires room { vec_len self.old.tokens + (length tokens.now - used) ≤ vec_capacity self.old.tokens }
+        requires next { (n : ℕ) × Placed (Some (tag_name self.old.from)) n tokens.now × (n + used ≡ self.old.first + vec_len self.old.tokens) }
+        requires used { used ≤ length tokens.now }
         requires input { LiftsTo self.old input.now }
         ensures same { SameLifted self.old self.new }
-        ensures more { deque_len self.new.tokens ≡ deque_len self.old.tokens + deque_len tokens }
+        ensures more { vec_len self.new.tokens + used ≡ vec_len self.old.tokens + length tokens.now }
     {
-        while let Some(carried) = tokens.pop_front() {
-            self.put(input, carried);
+        for at in used..tokens.len() {
+            self.put(input, &tokens[at]);
         }
     }
 
     // Lifts the tokens of all segments in the deque, whose worker has both rights.
     fn put_rest(&mut self, input: &Input, worker: &mut LaneWorker<A>)
-        requires room { (worker_view worker.old).flushed ≤ self.old.first + deque_capacity self.old.tokens }
+        requires room { (worker_view worker.old).flushed ≤ self.old.first + vec_capacity self.old.tokens }
         requires worker { (worker_flavor worker.old ≡ 0) × ((worker_view worker.old).stage ≡ Running) × ((worker_view worker.old).writes ≡ true) × ((worker_view worker.old).reads ≡ true) }
-        requires next { ((worker_view worker.old).reads_on ≡ Some (tag_name self.old.from)) × ((worker_view worker.old).stolen ≡ self.old.first + deque_len self.old.tokens) }
+        requires next { ((worker_view worker.old).reads_on ≡ Some (tag_name self.old.from)) × ((worker_view worker.old).stolen ≡ self.old.first + vec_len self.old.tokens) }
         requires input { LiftsTo self.old input.now }
         ensures same { SameLifted self.old self.new }
-        ensures all { self.new.first + deque_len self.new.tokens ≡ (worker_view worker.old).flushed }
+        ensures all { self.new.first + vec_len self.new.tokens ≡ (worker_view worker.old).flushed }
     {
         while let Some(segment) = worker.pop_as::<Emptied>() {
-            self.put_all(input, segment.tokens);
+            self.put_all(input, segment.tokens.as_slice(), 0);
         }
     }
 }
@@ -73,7 +71,7 @@ impl<A: Allocator + Drop> Lifted<A> {
 struct Prepared<A: Allocator = Global> {
     sender: Sender<A>,
     receiver: Receiver<A>,
-    tokens: VecDeque<Carried, A>,
+    tokens: Vec<Carried, A>,
 }
 
 // Takes all memory that settling needs.
@@ -85,12 +83,12 @@ fn prepare<A: Allocator + Clone + Drop>(
     ensures lane { IfOk result (λ p. sender_lane p.sender ≡ receiver_lane p.receiver) }
     ensures name { IfOk result (λ p. (sender_name p.sender ≡ Some (moved_to input.now (tag_name sender.now.tag))) × (receiver_name p.receiver ≡ Some (moved_to input.now (tag_name sender.now.tag)))) }
     ensures start { IfOk result (λ p. (sent p.sender ≡ sent sender.now) × (flushed p.sender ≡ sent sender.now) × (taken p.receiver ≡ sent sender.now) × (known p.receiver ≡ sent sender.now)) }
-    ensures dry { IfOk result (λ p. deque_len p.receiver.current ≡ 0) }
-    ensures room { IfOk result (λ p. (p.tokens.items ≡ []) × (sent sender.now ≤ taken receiver.now + deque_capacity p.tokens)) }
+    ensures dry { IfOk result (λ p. vec_len p.receiver.current ≡ 0) }
+    ensures room { IfOk result (λ p. (p.tokens.items ≡ []) × (sent sender.now ≤ taken receiver.now + vec_capacity p.tokens)) }
 {
     let end = sender.sent();
     let count = end.saturating_sub(receiver.taken()) as usize;
-    let tokens = VecDeque::with_capacity(sender.current.allocator().clone()?, count)?;
+    let tokens = Vec::with_capacity(sender.current.allocator().clone()?, count)?;
     let head = move_tag(&sender.tag, input, end);
     let tag = move_tag(&sender.tag, input, end);
     let (sender, receiver) = lane_from(sender.current.allocator().clone()?, head, tag)?;
@@ -106,13 +104,13 @@ fn gather<A: Allocator + Clone + Drop>(
     sender: Sender<A>,
     receiver: Receiver<A>,
     input: &Input,
-    tokens: VecDeque<Carried, A>,
-) -> VecDeque<Carried, A>
+    tokens: Vec<Carried, A>,
+) -> Vec<Carried, A>
     requires lane { sender_lane sender ≡ receiver_lane receiver }
     requires grown { IsGrown (tag_name sender.tag) input.now }
-    requires room { (tokens.items ≡ []) × (sent sender ≤ taken receiver + deque_capacity tokens) }
+    requires room { (tokens.items ≡ []) × (sent sender ≤ taken receiver + vec_capacity tokens) }
     ensures placed { Placed (Some (moved_to input.now (tag_name sender.tag))) (taken receiver) result.items }
-    ensures all { taken receiver + deque_len result ≡ sent sender }
+    ensures all { taken receiver + vec_len result ≡ sent sender }
 {
     let Sender {
         mut worker,
@@ -124,9 +122,11 @@ fn gather<A: Allocator + Clone + Drop>(
         stealer: _,
         pass,
         line: _,
+        from,
         current: first,
-        taken,
+        used,
     } = receiver;
+    let taken = from + used as u64;
     worker.absorb::<Sides>(pass);
     let _segments = worker.len_as::<Behind>();
     let mut lifted = Lifted {
@@ -135,37 +135,39 @@ fn gather<A: Allocator + Clone + Drop>(
         first: taken,
         tokens,
     };
-    lifted.put_all(input, first);
+    lifted.put_all(input, first.as_slice(), used);
     lifted.put_rest(input, &mut worker);
-    lifted.put_all(input, last);
+    lifted.put_all(input, last.as_slice(), 0);
     lifted.tokens
 }
 
 // The receiver with these tokens in its hands, which stand before the place where its lane begins.
 fn with_tokens<A: Allocator + Drop>(
     receiver: Receiver<A>,
-    tokens: VecDeque<Carried, A>,
+    tokens: Vec<Carried, A>,
     from: u64,
 ) -> Receiver<A>
-    requires dry { deque_len receiver.current ≡ 0 }
-    requires all { from + deque_len tokens ≡ taken receiver }
+    requires dry { vec_len receiver.current ≡ 0 }
+    requires all { from + vec_len tokens ≡ taken receiver }
     requires placed { Placed (receiver_name receiver) from tokens.items }
     ensures same { (receiver_lane result ≡ receiver_lane receiver) × (receiver_name result ≡ receiver_name receiver) × (known result ≡ known receiver) }
-    ensures tokens { (taken result ≡ from) × (deque_len result.current ≡ deque_len tokens) }
+    ensures tokens { (taken result ≡ from) × (waiting result ≡ vec_len tokens) }
 {
     let Receiver {
         stealer,
         pass,
         line,
+        from: _,
         current: _,
-        taken: _,
+        used: _,
     } = receiver;
     Receiver {
         stealer,
         pass,
         line,
+        from,
         current: tokens,
-        taken: from,
+        used: 0,
     }
 }
 

@@ -1,7 +1,6 @@
 use Rattle.std.proofs.Common.{◌≡◌, ◌+◌, ◌≤◌, ◌⊎◌}
-use Rattle.std.specs.VecDeque.{deque_len}
 use Rattle.crossbeam_deque.specs.Handles.{view}
-use Rattle.kahn_lane.specs.LaneEnds.{receiver_lane, taken, known, left}
+use Rattle.kahn_lane.specs.LaneEnds.{receiver_lane, taken, waiting, known, left}
 use Rattle.kahn_lane.proofs.segments.Receiver.refill.Given as goal
 
 abbrev pub invariant-loop : goal.invariant-loop
@@ -9,5 +8,6 @@ invariant-loop g l =
     (receiver_lane l.self ≡ receiver_lane l.initial.self)
     × (view l.self.pass ≡ view l.initial.self.pass)
     × (taken l.self ≡ taken l.initial.self)
-    × (deque_len l.self.current ≡ 0)
+    × (l.taken ≡ taken l.self)
+    × (waiting l.self ≡ 0)
     × ((known l.initial.self ≤ taken l.initial.self) ⊎ (left l.initial.self + l.counter ≤ left l.self))
