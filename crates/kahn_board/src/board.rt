@@ -19,12 +19,12 @@ use std::marker::Brand;
 
 /// Where the cells of a network stand.
 pub struct Board<T: Told> {
-    pub table: Table<Option<T>, View, Terms<T>, Rule<T>, Global>,
+    pub(crate) table: Table<Option<T>, View, Terms<T>, Rule<T>, Global>,
     pub instances: usize,
     pub channels: usize,
     pub readers: Vec<Option<usize>, Global>,
     // The room of the list that `close` hands out.
-    pub room: Vec<Option<T>, Global>,
+    pub(crate) room: Vec<Option<T>, Global>,
     ghost sized: { (table.shared.table_id.words ≡ 8 * (instances + channels) + 24) × (table.shared.table_id.slots ≡ instances) },
     ghost counts: { ((wired table.shared.key).instances ≡ instances) × ((wired table.shared.key).channels ≡ channels) },
     ghost limits: { (instances ≤ 256) × (channels ≤ 1024) },
@@ -89,7 +89,7 @@ impl<T: Told> Board<T> {
 /// The token of one worker.
 #[derive(Drop)]
 pub struct Seat<T> {
-    pub seat: atomic_table::Seat<Option<T>, View>,
+    pub(crate) seat: atomic_table::Seat<Option<T>, View>,
     // The instances in its hands, the one whose slot it took last first.
     pub held: VecDeque<usize, Global>,
     ghost facts: { Facts seat.me seat.table_id held.items (deque_capacity held) },

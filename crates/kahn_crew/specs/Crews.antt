@@ -1,11 +1,15 @@
 -- What the workers of a run have together.
-use Rattle.std.specs.Prelude.{◌≡◌, ℕ, List, sum_by}
+use Rattle.std.specs.Prelude.{◌≡◌, ◌⊎◌, ℕ, Bool, true, List, sum_by}
 use Rattle.atomic_table.specs.Seated.{TableId}
 use Rattle.kahn_board.specs.Rule.{all_parts}
 use Rattle.kahn_board.specs.declared.board.Seat.{Seat}
 use Rattle.kahn_desk.specs.Turn.{IsIdle}
 use Rattle.kahn_crew.specs.Tasks.{Tasked}
 use Rattle.kahn_crew.specs.declared.worker.Worker.{Worker}
+
+-- it did its work; or it quit, where one couldn't be started
+abbrev pub Went : {A : Type 0} → Bool → (A → A → Type 0) → (A → A → Type 0) → A → A → Type 0
+Went refused did quit old new = did old new ⊎ ((refused ≡ true) × quit old new)
 
 abbrev pub crew_parts : List Worker → ℕ
 crew_parts workers = sum_by (λ w. w.seat.seat.me.0.parts) workers

@@ -102,6 +102,8 @@ impl<'b, 'c, 'n, R: Wait + Sync, G: Gate + Sync> Hand<Shift<'b, 'c, 'n, R, G>> f
 
     ghost did = { λ s old new. HasGone s.floor.now.board.now.table.shared.table_id new × (new.seat.seat.me.0.parts ≡ old.seat.seat.me.0.parts) };
 
+    ghost quit = { λ s old new. HasGone s.floor.now.board.now.table.shared.table_id new × (new.seat.seat.me.0.parts ≡ old.seat.seat.me.0.parts) };
+
     fn halt(mut self, shared: &Shift<'b, 'c, 'n, R, G>) -> Worker<'n> {
         stop(&mut self.seat, shared.floor.board);
         self

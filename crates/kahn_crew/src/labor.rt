@@ -2,6 +2,7 @@
 
 ghost use Rattle.std.specs.Prelude.{◌≡◌, ℕ, ◌<◌, true, length, All, slice_index_or};
 ghost use Rattle.std.specs.Vec.{vec_capacity};
+ghost use Rattle.kahn_crew.specs.Crews.{Went};
 
 use std::snapshot::Snapshot;
 use std::sync::Wait;
@@ -16,11 +17,14 @@ pub(crate) trait Hand<C> {
     /// What is true of one before and after its work.
     ghost did: { C → Self → Self → Type 0 };
 
+    /// What is true of one before and after, where it told all to leave before its work.
+    ghost quit: { C → Self → Self → Type 0 };
+
     /// Tells all to leave their work.
     fn halt(self, shared: &C) -> Self
         requires { Self.may shared.now self }
         ensures may { Self.may shared.now result }
-        ensures did { (w : Self) → Self.did shared.now result w → Self.did shared.now self w };
+        ensures quit { (w : Self) → Self.did shared.now result w → Self.quit shared.now self w };
 
     /// Its whole work.
     fn labor(self, shared: &C) -> Self
@@ -51,7 +55,7 @@ fn leave_all<C, T: Hand<C>>(shared: &C, mut hands: Vec<T>) -> Vec<T>
     requires { All (T.may shared.now) hands.items }
     ensures room { vec_capacity result ≡ vec_capacity hands }
     ensures count { length result.items ≡ length hands.items }
-    ensures each { (i : ℕ) (d : T) → i < length hands.items → T.did shared.now (slice_index_or hands.items i d) (slice_index_or result.items i d) }
+    ensures each { (i : ℕ) (d : T) → i < length hands.items → T.quit shared.now (slice_index_or hands.items i d) (slice_index_or result.items i d) }
 {
     let Some(hand) = hands.pop() else {
         return hands;
@@ -72,7 +76,7 @@ fn labor_from<'s, E, R: Threads, C: Sync + 's, T: Hand<C> + Send + Drop + 's>(
     requires { All (T.may shared.now) hands.items }
     ensures room { vec_capacity result.hands ≡ vec_capacity hands }
     ensures count { length result.hands.items ≡ length hands.items }
-    ensures each { (i : ℕ) (d : T) → i < length hands.items → T.did shared.now (slice_index_or hands.items i d) (slice_index_or result.hands.items i d) }
+    ensures each { (i : ℕ) (d : T) → i < length hands.items → Went result.refused (T.did shared.now) (T.quit shared.now) (slice_index_or hands.items i d) (slice_index_or result.hands.items i d) }
     ensures several { result.refused ≡ true → 1 < length hands.items }
 {
     let Some(hand) = hands.pop() else {
@@ -124,7 +128,7 @@ pub(crate) fn labor_all<R: Threads + Wait + Sync, C: Sync, T: Hand<C> + Send + D
     requires { All (T.may shared.now) hands.items }
     ensures room { vec_capacity result.hands ≡ vec_capacity hands }
     ensures count { length result.hands.items ≡ length hands.items }
-    ensures each { (i : ℕ) (d : T) → i < length hands.items → T.did shared.now (slice_index_or hands.items i d) (slice_index_or result.hands.items i d) }
+    ensures each { (i : ℕ) (d : T) → i < length hands.items → Went result.refused (T.did shared.now) (T.quit shared.now) (slice_index_or hands.items i d) (slice_index_or result.hands.items i d) }
     ensures several { result.refused ≡ true → 1 < length hands.items }
 {
     thread::scope(
@@ -134,7 +138,7 @@ pub(crate) fn labor_all<R: Threads + Wait + Sync, C: Sync, T: Hand<C> + Send + D
             requires { All (T.may shared.now) hands.items }
             ensures room { vec_capacity result.hands ≡ vec_capacity hands }
             ensures count { length result.hands.items ≡ length hands.items }
-            ensures each { (i : ℕ) (d : T) → i < length hands.items → T.did shared.entry.now (slice_index_or hands.items i d) (slice_index_or result.hands.items i d) }
+            ensures each { (i : ℕ) (d : T) → i < length hands.items → Went result.refused (T.did shared.entry.now) (T.quit shared.entry.now) (slice_index_or hands.items i d) (slice_index_or result.hands.items i d) }
             ensures several { result.refused ≡ true → 1 < length hands.items }
         { labor_from(rt, scope, shared, hands) },
     )

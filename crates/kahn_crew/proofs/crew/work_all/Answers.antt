@@ -1,3 +1,4 @@
+use Rattle.std.proofs.Common.{⊎_elim}
 use denote.Param.Send.{sendable}
 use Rattle.kahn_crew.proofs.Crewed.{all_gone}
 use Rattle.kahn_crew.proofs.Crossing.{floor_sync, worker_send}
@@ -5,7 +6,7 @@ use Rattle.kahn_crew.proofs.crew.work_all.Goals as goal
 
 pub returns : goal.returns
 returns g c =
-    let t = all_gone c.args.floor.now.board.now.table.shared.table_id c.args.workers.items c.labor_all.result.hands.items c.labor_all.ensures.count c.labor_all.ensures.each in
+    let t = all_gone c.args.floor.now.board.now.table.shared.table_id c.args.workers.items c.labor_all.result.hands.items c.labor_all.ensures.count (λ i d h. ⊎_elim (λ done. done) (λ left. left.1) (c.labor_all.ensures.each i d h)) in
     record { count = c.labor_all.ensures.count; each = t.0; sums = t.1; several = c.labor_all.ensures.several }
 
 -- a worker may go to another thread
