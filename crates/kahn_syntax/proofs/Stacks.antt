@@ -5,7 +5,7 @@ use Rattle.kahn_syntax.specs.declared.lexeme.Class.TheVariants as class
 use Rattle.kahn_syntax.specs.declared.lexeme.Lexeme.{Lexeme}
 use Rattle.kahn_syntax.specs.Terminals.{terminals, word, First}
 use Rattle.kahn_syntax.specs.Rungs.{whole}
-use Rattle.kahn_syntax.specs.Machine.{DoToken, ElseToken, NameToken, OnToken, ThenToken, ElseTail, Part, StatementPart, SimplePart, ExpressionPart, TailPart, TokenPart, LevelPart}
+use Rattle.kahn_syntax.specs.Machine.{BeginToken, CloseToken, DoToken, ElseToken, EndToken, NameToken, OnToken, OpenToken, SemicolonToken, ThenToken, ElseTail, StatementsTail, Part, ProcessPart, GroupsPart, VariablesPart, StatementPart, SimplePart, ExpressionPart, TailPart, TokenPart, LevelPart}
 use Rattle.kahn_syntax.specs.Reads.{Moves, Reads}
 use Rattle.kahn_syntax.proofs.Moves.{then, call, call_two, one, goes}
 
@@ -104,3 +104,35 @@ pub on_moves : (text : List ℕ) (d : ℕ) (i j k : List Lexeme) → Moves text 
     Reads text d (ExpressionPart whole ∷ TokenPart OnToken ∷ []) j k → Moves text d (SimplePart ∷ []) after_on i k
 on_moves text d i j k m r =
     then text d (SimplePart ∷ []) after_send after_on i j k m (call_two text d d (ExpressionPart whole) (TokenPart OnToken) after_on j k (λ s l. l) r)
+
+-- a process
+
+abbrev pub some_process : List Part
+some_process = ProcessPart ∷ []
+
+abbrev pub process_end : List Part
+process_end = TokenPart EndToken ∷ []
+
+abbrev pub process_statements : List Part
+process_statements = StatementPart ∷ TailPart StatementsTail ∷ process_end
+
+abbrev pub process_variables : List Part
+process_variables = VariablesPart ∷ process_statements
+
+abbrev pub process_begin : List Part
+process_begin = TokenPart BeginToken ∷ process_variables
+
+abbrev pub process_semicolon : List Part
+process_semicolon = TokenPart SemicolonToken ∷ process_begin
+
+abbrev pub process_close : List Part
+process_close = TokenPart CloseToken ∷ process_semicolon
+
+abbrev pub process_groups : List Part
+process_groups = GroupsPart ∷ process_close
+
+abbrev pub process_open : List Part
+process_open = TokenPart OpenToken ∷ process_groups
+
+abbrev pub process_name : List Part
+process_name = TokenPart NameToken ∷ process_open

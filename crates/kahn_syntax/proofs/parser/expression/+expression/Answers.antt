@@ -356,36 +356,6 @@ pub read_factor-returns-in_default : goal.read_factor-returns-in_default
 read_factor-returns-in_default t c =
     let a : leads_factor (terminals c.args.text.now c.args.input.now) ≡ false = search rules in no_factor c.args.text.now c.args.depth c.args.input.now a
 
-pub read_denial-returns-in_err-expression : goal.read_denial-returns-in_err-expression
-read_denial-returns-in_err-expression t c =
-    let p = err_from_is_err_and c.from_residual-in_err-expression.result c.from_residual-in_err-expression.ensures.1 in
-    rw (p.1, p.2) (no_memory c.args.text.now c.args.depth (ExpressionPart denials ∷ []) c.args.input.now _ c.in_err-expression.ensures.stop)
-
-pub read_expression-returns-in_err-expression : goal.read_expression-returns-in_err-expression
-read_expression-returns-in_err-expression t c =
-    let p = err_from_is_err_and c.from_residual-in_err-expression.result c.from_residual-in_err-expression.ensures.1 in
-    rw (p.1, p.2) (no_memory c.args.text.now c.args.depth (ExpressionPart whole ∷ []) c.args.input.now _ c.in_err-expression.ensures.stop)
-
-pub read_factor-returns-in_err-expression-in-Some-Sign-Minus-default : goal.read_factor-returns-in_err-expression-in-Some-Sign-Minus-default
-read_factor-returns-in_err-expression-in-Some-Sign-Minus-default t c =
-    let p = err_from_is_err_and c.from_residual-in_err-expression-in-Some-Sign-Minus-default.result c.from_residual-in_err-expression-in-Some-Sign-Minus-default.ensures.1 in
-    rw (p.1, p.2) (no_memory c.args.text.now c.args.depth (ExpressionPart factors ∷ []) c.args.input.now _ c.in_err-expression-in-Some-Sign-Minus-default.ensures.stop)
-
-pub read_factor-returns-in_err-expression-in-Some-Sign-Open-default : goal.read_factor-returns-in_err-expression-in-Some-Sign-Open-default
-read_factor-returns-in_err-expression-in-Some-Sign-Open-default t c =
-    let p = err_from_is_err_and c.from_residual-in_err-expression-in-Some-Sign-Open-default.result c.from_residual-in_err-expression-in-Some-Sign-Open-default.ensures.1 in
-    rw (p.1, p.2) (no_memory c.args.text.now c.args.depth (ExpressionPart factors ∷ []) c.args.input.now _ c.in_err-expression-in-Some-Sign-Open-default.ensures.stop)
-
-pub read_level-returns-in_err-expression-2 : goal.read_level-returns-in_err-expression-2
-read_level-returns-in_err-expression-2 t c =
-    let p = err_from_is_err_and c.from_residual-in_err-expression-2.result c.from_residual-in_err-expression-2.ensures.1 in
-    rw (p.1, p.2) (no_memory c.args.text.now c.args.depth (ExpressionPart (rung_of c.args.level) ∷ []) c.args.input.now _ c.in_err-expression-2.ensures.stop)
-
-pub read_relation-returns-in_err-expression : goal.read_relation-returns-in_err-expression
-read_relation-returns-in_err-expression t c =
-    let p = err_from_is_err_and c.from_residual-in_err-expression.result c.from_residual-in_err-expression.ensures.1 in
-    rw (p.1, p.2) (no_memory c.args.text.now c.args.depth (ExpressionPart relations ∷ []) c.args.input.now _ c.in_err-expression.ensures.stop)
-
 pub read_denial-returns-in_err-operand : goal.read_denial-returns-in_err-operand
 read_denial-returns-in_err-operand t c =
     let p = err_from_is_err_and c.from_residual-in_err-operand.result c.from_residual-in_err-operand.ensures.1 in
