@@ -181,8 +181,9 @@ static RESULTS: [(Operator, Value, Value, Result<Value, Failure>); 29] = [
     ),
 ];
 
-fn plain(result: Result<Word, Failure>) -> Result<Value, Failure> {
-    match result {
+// The result as a value.
+fn plain(applied: Result<Word, Failure>) -> Result<Value, Failure> {
+    match applied {
         Ok(word) => Ok(word.value()),
         Err(failure) => Err(failure),
     }
@@ -191,8 +192,8 @@ fn plain(result: Result<Word, Failure>) -> Result<Value, Failure> {
 #[test]
 fn operators_at_their_limits(rt: HostRuntime) {
     for (row, (operator, x, y, wanted)) in RESULTS.iter().enumerate() {
-        let result = plain(apply(*operator, Word::of(*x), Word::of(*y)));
-        assert_eq!(rt; result, *wanted, "at {row}");
+        let given = plain(apply(*operator, Word::of(*x), Word::of(*y)));
+        assert_eq!(rt; given, *wanted, "at {row}");
     }
     assert_eq!(rt; plain(negated(i64::MIN)), Err(Failure::Overflow));
     assert_eq!(rt; plain(negated(7)), Ok(Value::Integer(-7)));
