@@ -1,12 +1,12 @@
-use Rattle.std.proofs.Common.{refl, [], ◌∷◌, arith}
+use Rattle.std.proofs.Common.{refl, [], arith}
 use Rattle.std.proofs.lemmas.Result.{err_from_is_err_and}
 use Rattle.kahn_syntax.specs.declared.lexeme.Keyword.TheVariants as keyword
 use Rattle.kahn_syntax.specs.declared.lexeme.Sign.TheVariants as mark
 use Rattle.kahn_syntax.specs.declared.lexeme.Class.TheVariants as class
-use Rattle.kahn_syntax.specs.Terminals.{word, sign, name}
-use Rattle.kahn_syntax.specs.Machine.{BeginToken, CloseToken, EndToken, NameToken, OpenToken, SemicolonToken, StatementsTail, ProcessPart, GroupsPart, VariablesPart, StatementPart, TailPart, TokenPart}
+use Rattle.kahn_syntax.specs.Terminals.{word, sign}
+use Rattle.kahn_syntax.specs.Machine.{BeginToken, CloseToken, EndToken, OpenToken, SemicolonToken, StatementsTail, GroupsPart, VariablesPart, StatementPart, TailPart}
 use Rattle.kahn_syntax.specs.Drawn.{name_of}
-use Rattle.kahn_syntax.proofs.Moves.{no_process, then, then_stops, call, call_stops, call_two, call_two_stops, one, token, expected, unexpected, no_name}
+use Rattle.kahn_syntax.proofs.Moves.{no_process, then, then_stops, call_stops, call_two_stops, expected, unexpected, no_name}
 use Rattle.kahn_syntax.proofs.Spanning as S
 use Rattle.std.proofs.Common.{map}
 use Rattle.kahn_syntax.specs.Terminals.{terminals}

@@ -7,7 +7,7 @@ use Rattle.kahn_syntax.specs.Terminals.{word, sign, number, name, terminals}
 use Rattle.kahn_syntax.specs.Rungs.{whole, ors, denials, relations, sums, factors, rung_of, tighter, at}
 use Rattle.kahn_syntax.specs.Machine.{CloseToken, ElseToken, ThenToken, ExpressionPart, OperatorsPart, TokenPart, LevelPart}
 use Rattle.kahn_syntax.specs.Drawn.{expression_of, name_of}
-use Rattle.kahn_syntax.proofs.Moves.{opens_whole, opens_chain, operators_end, comparison, level_chain, operator_more, only_memory, leads_factor, no_factor, opens_denial, level_end, opened, no_memory, then, then_stops, call, call_stops, call_two_stops, one, deep, expected, level_ends, unexpected}
+use Rattle.kahn_syntax.proofs.Moves.{opens_whole, opens_chain, operators_end, comparison, level_chain, operator_more, only_memory, leads_factor, no_factor, opens_denial, level_end, opened, then, then_stops, call, call_stops, call_two_stops, one, deep, expected, level_ends, unexpected}
 use Rattle.std.proofs.Common.{w64}
 use Rattle.std.proofs.lemmas.Int.{to_z-of_z}
 use Rattle.kahn_syntax.proofs.Negative.{number_fits}
