@@ -21,7 +21,7 @@ use Rattle.kahn_syntax.specs.Trees.{operator_terminal, rank}
 use Rattle.kahn_syntax.specs.Rungs.{Rung, whole, ors, denials, relations, sums, factors, at, tighter, rung_of, Lacks}
 use Rattle.kahn_tree.specs.declared.tree.Kind.{Kind}
 use Rattle.kahn_syntax.specs.Programs.{kind_terminal}
-use Rattle.kahn_syntax.specs.Reads.{IsAbsent, Reads, Moves, Stops, Halts, rank_of, ExpressionRead, StatementRead, SimpleRead}
+use Rattle.kahn_syntax.specs.Reads.{IsAbsent, Reads, Moves, Stops, Halts, rank_of, ExpressionRead, StatementRead}
 use Rattle.kahn_syntax.proofs.WholePrograms.{take_kind}
 use Rattle.kahn_syntax.proofs.Steps.{go, skip_level, skip_tail, take_tail, take_token, no_token, IsChain, open_chain, open_whole, open_denial, skip_operators, take_operator}
 use Rattle.kahn_syntax.proofs.Reached.{go_far}
@@ -233,11 +233,12 @@ opened text d g f i b m (Err x) e rest h = then_stops text d (ExpressionPart g �
 
 pub opened_simple : (text : List ℕ) (d : ℕ) (i : List Lexeme) → Moves text d (StatementPart ∷ []) (SimplePart ∷ []) i i →
     {X : Type 0} (r : Result X Stop) (s : X → Statement) (rest : X → List Lexeme) →
-    MatchResult r (λ x. SimpleRead text d (s x) i (rest x)) (Stops text d (SimplePart ∷ []) i) → MatchResult r (λ x. StatementRead text d (s x) i (rest x)) (Stops text d (StatementPart ∷ []) i)
+    MatchResult r (λ x. StatementRead text d SimplePart (s x) i (rest x)) (Stops text d (SimplePart ∷ []) i) → MatchResult r (λ x. StatementRead text d StatementPart (s x) i (rest x)) (Stops text d (StatementPart ∷ []) i)
 opened_simple text d i m (Ok x) s rest h =
     record {
       spans = h.spans;
       formed = h.formed;
+      simple = tt;
       nesting = h.nesting;
       shorter = h.shorter;
       proper = h.proper;

@@ -1,13 +1,14 @@
 -- The parts that are open inside of a conditional, a loop and a send, over what the parser reads.
 use Rattle.std.proofs.Common.{◌≡◌, ℕ, ◌+◌, ◌≤◌, List, [], ◌∷◌, refl, arith}
 use Rattle.kahn_syntax.specs.declared.lexeme.Keyword.TheVariants as keyword
+use Rattle.kahn_syntax.specs.declared.lexeme.Sign.TheVariants as mark
 use Rattle.kahn_syntax.specs.declared.lexeme.Class.TheVariants as class
 use Rattle.kahn_syntax.specs.declared.lexeme.Lexeme.{Lexeme}
-use Rattle.kahn_syntax.specs.Terminals.{terminals, word, First}
+use Rattle.kahn_syntax.specs.Terminals.{terminals, word, name, First}
 use Rattle.kahn_syntax.specs.Rungs.{whole}
 use Rattle.kahn_syntax.specs.Machine.{BeginToken, CloseToken, DoToken, ElseToken, EndToken, NameToken, OnToken, OpenToken, SemicolonToken, ThenToken, ElseTail, StatementsTail, Part, ProcessPart, GroupsPart, VariablesPart, StatementPart, SimplePart, ExpressionPart, TailPart, TokenPart, LevelPart}
 use Rattle.kahn_syntax.specs.Reads.{Moves, Reads}
-use Rattle.kahn_syntax.proofs.Moves.{then, call, call_two, one, goes}
+use Rattle.kahn_syntax.proofs.Moves.{then, call, call_two, one, token, expected, goes}
 
 -- a conditional expression
 
@@ -26,15 +27,15 @@ after_if = ExpressionPart whole ∷ TokenPart ThenToken ∷ after_then
 pub if_moves : (text : List ℕ) (d e : ℕ) (i j : List Lexeme) → e ≡ d + 1 → e ≤ 64 → terminals text i ≡ word keyword.If ∷ terminals text j → Moves text d choice after_if i j
 if_moves text d e i j n b h = one text d (ExpressionPart whole) [] after_if (word keyword.If) i j (λ s l. omega (arith, l, n, b)) (λ s. refl) h
 
-pub then_moves : (text : List ℕ) (d e : ℕ) (i j k : List Lexeme) → e ≡ d + 1 → Moves text d choice after_if i j →
+pub then_moves : (text : List ℕ) (d e : ℕ) (i j k : List Lexeme) → e ≡ d + 1 → e ≤ 64 → terminals text i ≡ word keyword.If ∷ terminals text j →
     Reads text e (ExpressionPart whole ∷ TokenPart ThenToken ∷ []) j k → Moves text d choice after_then i k
-then_moves text d e i j k n m r =
-    then text d choice after_if after_then i j k m (call_two text d e (ExpressionPart whole) (TokenPart ThenToken) after_then j k (λ s l. omega (arith, l, n)) r)
+then_moves text d e i j k n b h r =
+    then text d choice after_if after_then i j k (if_moves text d e i j n b h) (call_two text d e (ExpressionPart whole) (TokenPart ThenToken) after_then j k (λ s l. omega (arith, l, n)) r)
 
-pub else_moves : (text : List ℕ) (d e : ℕ) (i j k : List Lexeme) → e ≡ d + 1 → Moves text d choice after_then i j →
-    Reads text e (ExpressionPart whole ∷ TokenPart ElseToken ∷ []) j k → Moves text d choice after_else i k
-else_moves text d e i j k n m r =
-    then text d choice after_then after_else i j k m (call_two text d e (ExpressionPart whole) (TokenPart ElseToken) after_else j k (λ s l. omega (arith, l, n)) r)
+pub else_moves : (text : List ℕ) (d e : ℕ) (i j k o : List Lexeme) → e ≡ d + 1 → e ≤ 64 → terminals text i ≡ word keyword.If ∷ terminals text j →
+    Reads text e (ExpressionPart whole ∷ TokenPart ThenToken ∷ []) j k → Reads text e (ExpressionPart whole ∷ TokenPart ElseToken ∷ []) k o → Moves text d choice after_else i o
+else_moves text d e i j k o n b h r q =
+    then text d choice after_then after_else i k o (then_moves text d e i j k n b h r) (call_two text d e (ExpressionPart whole) (TokenPart ElseToken) after_else k o (λ s l. omega (arith, l, n)) q)
 
 -- a conditional statement
 
@@ -57,20 +58,20 @@ pub conditional_moves : (text : List ℕ) (d e : ℕ) (i j : List Lexeme) → e 
     Moves text d some_statement before_test i j
 conditional_moves text d e i j n b h = one text d StatementPart [] before_test (word keyword.If) i j (λ s l. omega (arith, l, n, b)) (λ s. refl) h
 
-pub test_moves : (text : List ℕ) (d e : ℕ) (i j k : List Lexeme) → e ≡ d + 1 → Moves text d some_statement before_test i j →
+pub test_moves : (text : List ℕ) (d e : ℕ) (i j k : List Lexeme) → e ≡ d + 1 → e ≤ 64 → terminals text i ≡ word keyword.If ∷ terminals text j →
     Reads text e (ExpressionPart whole ∷ TokenPart ThenToken ∷ []) j k → Moves text d some_statement after_test i k
-test_moves text d e i j k n m r =
-    then text d some_statement before_test after_test i j k m (call_two text d e (ExpressionPart whole) (TokenPart ThenToken) after_test j k (λ s l. omega (arith, l, n)) r)
+test_moves text d e i j k n b h r =
+    then text d some_statement before_test after_test i j k (conditional_moves text d e i j n b h) (call_two text d e (ExpressionPart whole) (TokenPart ThenToken) after_test j k (λ s l. omega (arith, l, n)) r)
 
-pub branch_moves : (text : List ℕ) (d e : ℕ) (i j k : List Lexeme) → e ≡ d + 1 → Moves text d some_statement after_test i j →
-    Reads text e (SimplePart ∷ []) j k → Moves text d some_statement after_branch i k
-branch_moves text d e i j k n m r =
-    then text d some_statement after_test after_branch i j k m (call text d e SimplePart after_branch j k (λ s l. omega (arith, l, n)) r)
+pub branch_moves : (text : List ℕ) (d e : ℕ) (i j k o : List Lexeme) → e ≡ d + 1 → e ≤ 64 → terminals text i ≡ word keyword.If ∷ terminals text j →
+    Reads text e (ExpressionPart whole ∷ TokenPart ThenToken ∷ []) j k → Reads text e (SimplePart ∷ []) k o → Moves text d some_statement after_branch i o
+branch_moves text d e i j k o n b h r q =
+    then text d some_statement after_test after_branch i k o (test_moves text d e i j k n b h r) (call text d e SimplePart after_branch k o (λ s l. omega (arith, l, n)) q)
 
-pub other_moves : (text : List ℕ) (d e : ℕ) (i j k : List Lexeme) → e ≡ d + 1 → e ≤ 64 → Moves text d some_statement after_branch i j →
-    First (class.Word keyword.Else) j k → Moves text d some_statement after_other i k
-other_moves text d e i j k n b m f =
-    then text d some_statement after_branch after_other i j k m (goes text d ElseTail (LevelPart ∷ []) (class.Word keyword.Else) j k (λ s l. omega (arith, l, n, b)) refl f)
+pub other_moves : (text : List ℕ) (d e : ℕ) (i j k o u : List Lexeme) → e ≡ d + 1 → e ≤ 64 → terminals text i ≡ word keyword.If ∷ terminals text j →
+    Reads text e (ExpressionPart whole ∷ TokenPart ThenToken ∷ []) j k → Reads text e (SimplePart ∷ []) k o → First (class.Word keyword.Else) o u → Moves text d some_statement after_other i u
+other_moves text d e i j k o u n b h r q f =
+    then text d some_statement after_branch after_other i o u (branch_moves text d e i j k o n b h r q) (goes text d ElseTail (LevelPart ∷ []) (class.Word keyword.Else) o u (λ s l. omega (arith, l, n, b)) refl f)
 
 -- a loop with a test
 
@@ -84,10 +85,10 @@ pub while_moves : (text : List ℕ) (d e : ℕ) (i j : List Lexeme) → e ≡ d 
     Moves text d some_statement after_while i j
 while_moves text d e i j n b h = one text d StatementPart [] after_while (word keyword.While) i j (λ s l. omega (arith, l, n, b)) (λ s. refl) h
 
-pub do_moves : (text : List ℕ) (d e : ℕ) (i j k : List Lexeme) → e ≡ d + 1 → Moves text d some_statement after_while i j →
+pub do_moves : (text : List ℕ) (d e : ℕ) (i j k : List Lexeme) → e ≡ d + 1 → e ≤ 64 → terminals text i ≡ word keyword.While ∷ terminals text j →
     Reads text e (ExpressionPart whole ∷ TokenPart DoToken ∷ []) j k → Moves text d some_statement after_do i k
-do_moves text d e i j k n m r =
-    then text d some_statement after_while after_do i j k m (call_two text d e (ExpressionPart whole) (TokenPart DoToken) after_do j k (λ s l. omega (arith, l, n)) r)
+do_moves text d e i j k n b h r =
+    then text d some_statement after_while after_do i j k (while_moves text d e i j n b h) (call_two text d e (ExpressionPart whole) (TokenPart DoToken) after_do j k (λ s l. omega (arith, l, n)) r)
 
 -- a send
 
@@ -136,3 +137,39 @@ process_open = TokenPart OpenToken ∷ process_groups
 
 abbrev pub process_name : List Part
 process_name = TokenPart NameToken ∷ process_open
+
+pub to_process_name : (text : List ℕ) (i a : List Lexeme) → terminals text i ≡ word keyword.Process ∷ terminals text a →
+    Moves text 0 some_process process_name i a
+to_process_name text i a f0 = one text 0 ProcessPart [] process_name (word keyword.Process) i a (λ s l. omega (arith, l)) (λ s. refl) f0
+
+pub to_process_open : (text : List ℕ) (i a b : List Lexeme) (n : List ℕ) → terminals text i ≡ word keyword.Process ∷ terminals text a → terminals text a ≡ name n ∷ terminals text b →
+    Moves text 0 some_process process_open i b
+to_process_open text i a b n f0 f1 = then text 0 some_process process_name process_open i a b (to_process_name text i a f0) (token text 0 NameToken process_open (name n) a b (λ s l. omega (arith, l)) refl f1)
+
+pub to_process_groups : (text : List ℕ) (i a b x : List Lexeme) (n : List ℕ) → terminals text i ≡ word keyword.Process ∷ terminals text a → terminals text a ≡ name n ∷ terminals text b → First (class.Sign mark.Open) b x →
+    Moves text 0 some_process process_groups i x
+to_process_groups text i a b x n f0 f1 f2 = then text 0 some_process process_open process_groups i b x (to_process_open text i a b n f0 f1) (expected text 0 OpenToken process_groups (class.Sign mark.Open) b x (λ s l. omega (arith, l)) refl f2)
+
+pub to_process_close : (text : List ℕ) (i a b x y : List Lexeme) (n : List ℕ) → terminals text i ≡ word keyword.Process ∷ terminals text a → terminals text a ≡ name n ∷ terminals text b → First (class.Sign mark.Open) b x → Reads text 0 (GroupsPart ∷ []) x y →
+    Moves text 0 some_process process_close i y
+to_process_close text i a b x y n f0 f1 f2 f3 = then text 0 some_process process_groups process_close i x y (to_process_groups text i a b x n f0 f1 f2) (call text 0 0 GroupsPart process_close x y (λ s l. l) f3)
+
+pub to_process_semicolon : (text : List ℕ) (i a b x y z : List Lexeme) (n : List ℕ) → terminals text i ≡ word keyword.Process ∷ terminals text a → terminals text a ≡ name n ∷ terminals text b → First (class.Sign mark.Open) b x → Reads text 0 (GroupsPart ∷ []) x y → First (class.Sign mark.Close) y z →
+    Moves text 0 some_process process_semicolon i z
+to_process_semicolon text i a b x y z n f0 f1 f2 f3 f4 = then text 0 some_process process_close process_semicolon i y z (to_process_close text i a b x y n f0 f1 f2 f3) (expected text 0 CloseToken process_semicolon (class.Sign mark.Close) y z (λ s l. omega (arith, l)) refl f4)
+
+pub to_process_begin : (text : List ℕ) (i a b x y z u : List Lexeme) (n : List ℕ) → terminals text i ≡ word keyword.Process ∷ terminals text a → terminals text a ≡ name n ∷ terminals text b → First (class.Sign mark.Open) b x → Reads text 0 (GroupsPart ∷ []) x y → First (class.Sign mark.Close) y z → First (class.Sign mark.Semicolon) z u →
+    Moves text 0 some_process process_begin i u
+to_process_begin text i a b x y z u n f0 f1 f2 f3 f4 f5 = then text 0 some_process process_semicolon process_begin i z u (to_process_semicolon text i a b x y z n f0 f1 f2 f3 f4) (expected text 0 SemicolonToken process_begin (class.Sign mark.Semicolon) z u (λ s l. omega (arith, l)) refl f5)
+
+pub to_process_variables : (text : List ℕ) (i a b x y z u v : List Lexeme) (n : List ℕ) → terminals text i ≡ word keyword.Process ∷ terminals text a → terminals text a ≡ name n ∷ terminals text b → First (class.Sign mark.Open) b x → Reads text 0 (GroupsPart ∷ []) x y → First (class.Sign mark.Close) y z → First (class.Sign mark.Semicolon) z u → First (class.Word keyword.Begin) u v →
+    Moves text 0 some_process process_variables i v
+to_process_variables text i a b x y z u v n f0 f1 f2 f3 f4 f5 f6 = then text 0 some_process process_begin process_variables i u v (to_process_begin text i a b x y z u n f0 f1 f2 f3 f4 f5) (expected text 0 BeginToken process_variables (class.Word keyword.Begin) u v (λ s l. omega (arith, l)) refl f6)
+
+pub to_process_statements : (text : List ℕ) (i a b x y z u v w : List Lexeme) (n : List ℕ) → terminals text i ≡ word keyword.Process ∷ terminals text a → terminals text a ≡ name n ∷ terminals text b → First (class.Sign mark.Open) b x → Reads text 0 (GroupsPart ∷ []) x y → First (class.Sign mark.Close) y z → First (class.Sign mark.Semicolon) z u → First (class.Word keyword.Begin) u v → Reads text 0 (VariablesPart ∷ []) v w →
+    Moves text 0 some_process process_statements i w
+to_process_statements text i a b x y z u v w n f0 f1 f2 f3 f4 f5 f6 f7 = then text 0 some_process process_variables process_statements i v w (to_process_variables text i a b x y z u v n f0 f1 f2 f3 f4 f5 f6) (call text 0 0 VariablesPart process_statements v w (λ s l. l) f7)
+
+pub to_process_end : (text : List ℕ) (i a b x y z u v w o : List Lexeme) (n : List ℕ) → terminals text i ≡ word keyword.Process ∷ terminals text a → terminals text a ≡ name n ∷ terminals text b → First (class.Sign mark.Open) b x → Reads text 0 (GroupsPart ∷ []) x y → First (class.Sign mark.Close) y z → First (class.Sign mark.Semicolon) z u → First (class.Word keyword.Begin) u v → Reads text 0 (VariablesPart ∷ []) v w → Reads text 0 (StatementPart ∷ TailPart StatementsTail ∷ []) w o →
+    Moves text 0 some_process process_end i o
+to_process_end text i a b x y z u v w o n f0 f1 f2 f3 f4 f5 f6 f7 f8 = then text 0 some_process process_statements process_end i w o (to_process_statements text i a b x y z u v w n f0 f1 f2 f3 f4 f5 f6 f7) (call_two text 0 0 StatementPart (TailPart StatementsTail) process_end w o (λ s l. l) f8)

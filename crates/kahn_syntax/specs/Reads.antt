@@ -14,7 +14,7 @@ use Rattle.kahn_syntax.specs.Machine.{Token, class_of, token_of, leads, Part, Pr
 use Rattle.kahn_syntax.specs.Rungs.{Rung, whole, at}
 use Rattle.kahn_syntax.specs.Drawn.{expression_of, statement_of, statements_of}
 use Rattle.kahn_syntax.specs.Spans.{Takes, ExpressionSpans, StatementSpans, StatementsSpan}
-use Rattle.kahn_syntax.specs.Trees.{ExpressionTree, OperandTrees, no_operand, operand, level, binds, Formed, expression_nesting, statements_words, FormedStatement, FormedStatements, IsSimple, AreSome, statement_nesting, statements_nesting}
+use Rattle.kahn_syntax.specs.Trees.{ExpressionTree, OperandTrees, no_operand, operand, level, binds, Formed, expression_nesting, StatementTree, statements_words, FormedStatement, FormedStatements, IsSimple, AreSome, statement_nesting, statements_nesting}
 
 -- an expression that may stand at this level
 abbrev pub Fits : ℕ → ExpressionTree → Type 0
@@ -76,24 +76,20 @@ pub record ExpressionBefore (text : List ℕ) (depth : ℕ) (last : Keyword) (e 
   pub proper : AreProper text rest
   pub reads : Reads text depth (ExpressionPart whole ∷ TokenPart (token_of last) ∷ []) input rest
 
--- a statement is read
-pub record StatementRead (text : List ℕ) (depth : ℕ) (s : Statement) (input rest : List Lexeme) : Type 0 where
-  pub spans : StatementSpans text s input rest
-  pub formed : FormedStatement (statement_of s)
-  pub nesting : depth + statement_nesting (statement_of s) ≤ 64
-  pub shorter : length rest ≤ length input
-  pub proper : AreProper text rest
-  pub reads : Reads text depth (StatementPart ∷ []) input rest
+-- a statement that may stand for this part: `else` may follow a simple one
+abbrev pub MayStand : Part → StatementTree → Type 0
+MayStand SimplePart s = IsSimple s
+MayStand _ s = Unit {0}
 
--- one that `else` may follow
-pub record SimpleRead (text : List ℕ) (depth : ℕ) (s : Statement) (input rest : List Lexeme) : Type 0 where
+-- a statement is read
+pub record StatementRead (text : List ℕ) (depth : ℕ) (p : Part) (s : Statement) (input rest : List Lexeme) : Type 0 where
   pub spans : StatementSpans text s input rest
   pub formed : FormedStatement (statement_of s)
-  pub simple : IsSimple (statement_of s)
+  pub simple : MayStand p (statement_of s)
   pub nesting : depth + statement_nesting (statement_of s) ≤ 64
   pub shorter : length rest ≤ length input
   pub proper : AreProper text rest
-  pub reads : Reads text depth (SimplePart ∷ []) input rest
+  pub reads : Reads text depth (p ∷ []) input rest
 
 -- one statement or more, with semicolons between
 pub record StatementsRead (text : List ℕ) (depth : ℕ) (ss : List Statement) (input rest : List Lexeme) : Type 0 where

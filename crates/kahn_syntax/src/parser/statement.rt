@@ -5,7 +5,7 @@ ghost use Rattle.kahn_syntax.specs.declared.lexeme.Keyword.TheVariants as keywor
 ghost use Rattle.kahn_syntax.specs.declared.lexeme.Class.TheVariants as class;
 ghost use Rattle.kahn_syntax.specs.Terminals.{terminals, First, AreProper};
 ghost use Rattle.kahn_syntax.specs.Spans.{IsPast};
-ghost use Rattle.kahn_syntax.specs.Reads.{StatementRead, SimpleRead, StatementsRead, Stops};
+ghost use Rattle.kahn_syntax.specs.Reads.{StatementRead, StatementsRead, Stops};
 ghost use Rattle.kahn_syntax.specs.Machine.{NameToken, leads, StatementsTail, StatementPart, SimplePart, TailPart};
 
 use crate::lexeme::{Class, Keyword, Lexeme, Sign};
@@ -49,7 +49,7 @@ fn read_statement<'t>(
 ) -> Read<'t, Statement>
     requires depth { depth ≤ 64 }
     requires proper { AreProper text.now input.now }
-    ensures { MatchResult result (λ r. StatementRead text.now depth r.0 input.now r.1.now) (λ e. Stops text.now depth (StatementPart ∷ []) input.now e) }
+    ensures { MatchResult result (λ r. StatementRead text.now depth StatementPart r.0 input.now r.1.now) (λ e. Stops text.now depth (StatementPart ∷ []) input.now e) }
 {
     match next(input) {
         Some((Class::Word(Keyword::If), rest)) => read_if(alloc, text, input, rest, depth),
@@ -82,7 +82,7 @@ fn read_if<'t>(
     requires depth { depth ≤ 64 }
     requires proper { AreProper text.now rest.now }
     requires passed { IsPast input.now rest.now }
-    ensures { MatchResult result (λ r. StatementRead text.now depth r.0 input.now r.1.now) (λ e. Stops text.now depth (StatementPart ∷ []) input.now e) }
+    ensures { MatchResult result (λ r. StatementRead text.now depth StatementPart r.0 input.now r.1.now) (λ e. Stops text.now depth (StatementPart ∷ []) input.now e) }
 {
     let inner = deeper(input, depth)?;
     let (test, rest) = read_before(alloc, text, rest, inner, Keyword::Then)?;
@@ -105,7 +105,7 @@ fn read_inner<'t>(
 ) -> Read<'t, Box<Statement>>
     requires depth { depth ≤ 64 }
     requires proper { AreProper text.now input.now }
-    ensures { MatchResult result (λ r. StatementRead text.now depth r.0.value input.now r.1.now) (λ e. Stops text.now depth (StatementPart ∷ []) input.now e) }
+    ensures { MatchResult result (λ r. StatementRead text.now depth StatementPart r.0.value input.now r.1.now) (λ e. Stops text.now depth (StatementPart ∷ []) input.now e) }
 {
     let (statement, rest) = read_statement(alloc, text, input, depth)?;
     let boxed = Box::new(alloc, statement)?;
@@ -122,7 +122,7 @@ fn read_simple<'t>(
 ) -> Read<'t, Statement>
     requires depth { depth ≤ 64 }
     requires proper { AreProper text.now input.now }
-    ensures { MatchResult result (λ r. SimpleRead text.now depth r.0 input.now r.1.now) (λ e. Stops text.now depth (SimplePart ∷ []) input.now e) }
+    ensures { MatchResult result (λ r. StatementRead text.now depth SimplePart r.0 input.now r.1.now) (λ e. Stops text.now depth (SimplePart ∷ []) input.now e) }
 {
     match next(input) {
         Some((Class::Name, _)) => read_assign(alloc, text, input, depth),
@@ -163,7 +163,7 @@ fn read_assign<'t>(
     requires depth { depth ≤ 64 }
     requires proper { AreProper text.now input.now }
     requires named { leads NameToken (terminals text.now input.now) ≡ true }
-    ensures { MatchResult result (λ r. SimpleRead text.now depth r.0 input.now r.1.now) (λ e. Stops text.now depth (SimplePart ∷ []) input.now e) }
+    ensures { MatchResult result (λ r. StatementRead text.now depth SimplePart r.0 input.now r.1.now) (λ e. Stops text.now depth (SimplePart ∷ []) input.now e) }
 {
     let (name, rest) = read_name(alloc, text, input)?;
     let rest = expect(rest, Class::Sign(Sign::Becomes))?;
@@ -190,7 +190,7 @@ fn read_send<'t>(
     requires depth { depth ≤ 64 }
     requires proper { AreProper text.now rest.now }
     requires passed { IsPast input.now rest.now }
-    ensures { MatchResult result (λ r. SimpleRead text.now depth r.0 input.now r.1.now) (λ e. Stops text.now depth (SimplePart ∷ []) input.now e) }
+    ensures { MatchResult result (λ r. StatementRead text.now depth SimplePart r.0 input.now r.1.now) (λ e. Stops text.now depth (SimplePart ∷ []) input.now e) }
 {
     let (value, rest) = read_before(alloc, text, rest, depth, Keyword::On)?;
     let (name, rest) = read_name(alloc, text, rest)?;

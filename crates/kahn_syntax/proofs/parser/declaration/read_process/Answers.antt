@@ -1,12 +1,12 @@
-use Rattle.std.proofs.Common.{refl, [], ◌∷◌, arith}
+use Rattle.std.proofs.Common.{refl, [], arith}
 use Rattle.std.proofs.lemmas.Result.{err_from_is_err_and}
 use Rattle.kahn_syntax.specs.declared.lexeme.Keyword.TheVariants as keyword
 use Rattle.kahn_syntax.specs.declared.lexeme.Sign.TheVariants as mark
 use Rattle.kahn_syntax.specs.declared.lexeme.Class.TheVariants as class
-use Rattle.kahn_syntax.specs.Terminals.{word, sign, name}
-use Rattle.kahn_syntax.specs.Machine.{BeginToken, CloseToken, EndToken, NameToken, OpenToken, SemicolonToken, StatementsTail, ProcessPart, GroupsPart, VariablesPart, StatementPart, TailPart, TokenPart}
+use Rattle.kahn_syntax.specs.Terminals.{word, sign}
+use Rattle.kahn_syntax.specs.Machine.{BeginToken, CloseToken, EndToken, OpenToken, SemicolonToken, StatementsTail, GroupsPart, VariablesPart, StatementPart, TailPart}
 use Rattle.kahn_syntax.specs.Drawn.{name_of}
-use Rattle.kahn_syntax.proofs.Moves.{no_process, then, then_stops, call, call_stops, call_two, call_two_stops, one, token, expected, unexpected, no_name}
+use Rattle.kahn_syntax.proofs.Moves.{no_process, then, then_stops, call_stops, call_two_stops, expected, unexpected, no_name}
 use Rattle.kahn_syntax.proofs.Spanning as S
 use Rattle.std.proofs.Common.{map}
 use Rattle.kahn_syntax.specs.Terminals.{terminals}
@@ -27,17 +27,14 @@ returns-in_err-name c =
     let p = err_from_is_err_and c.from_residual-in_err-name.result c.from_residual-in_err-name.ensures.1 in
     let T = c.args.text.now in
     let i = c.args.input.now in
-    let m0 = one T 0 ProcessPart [] K.process_name (word keyword.Process) i c.in_ok-rest.rest.now (λ s l. omega (arith, l)) (λ s. refl) (c.in_ok-rest.ensures.first.1 T) in
-    rw (p.1, p.2) (then_stops T 0 K.some_process K.process_name i c.in_ok-rest.rest.now _ m0 (no_name T 0 K.process_open c.in_ok-rest.rest.now _ c.in_err-name.ensures.stop))
+    rw (p.1, p.2) (then_stops T 0 K.some_process K.process_name i c.in_ok-rest.rest.now _ (K.to_process_name T i c.in_ok-rest.rest.now (c.in_ok-rest.ensures.first.1 T)) (no_name T 0 K.process_open c.in_ok-rest.rest.now _ c.in_err-name.ensures.stop))
 
 pub returns-in_err-rest-2 : goal.returns-in_err-rest-2
 returns-in_err-rest-2 c =
     let p = err_from_is_err_and c.from_residual-in_err-rest-2.result c.from_residual-in_err-rest-2.ensures.1 in
     let T = c.args.text.now in
     let i = c.args.input.now in
-    let m0 = one T 0 ProcessPart [] K.process_name (word keyword.Process) i c.in_ok-rest.rest.now (λ s l. omega (arith, l)) (λ s. refl) (c.in_ok-rest.ensures.first.1 T) in
-    let m1 = then T 0 K.some_process K.process_name K.process_open i c.in_ok-rest.rest.now c.in_ok-name.rest.now m0 (token T 0 NameToken K.process_open (name (name_of c.in_ok-name.name)) c.in_ok-rest.rest.now c.in_ok-name.rest.now (λ s l. omega (arith, l)) refl c.in_ok-name.ensures.words) in
-    rw (p.1, p.2) (then_stops T 0 K.some_process K.process_open i c.in_ok-name.rest.now _ m1 (unexpected T 0 OpenToken K.process_groups (class.Sign mark.Open) c.in_ok-name.rest.now _ refl c.in_err-rest-2.ensures.stop))
+    rw (p.1, p.2) (then_stops T 0 K.some_process K.process_open i c.in_ok-name.rest.now _ (K.to_process_open T i c.in_ok-rest.rest.now c.in_ok-name.rest.now (name_of c.in_ok-name.name) (c.in_ok-rest.ensures.first.1 T) c.in_ok-name.ensures.words) (unexpected T 0 OpenToken K.process_groups (class.Sign mark.Open) c.in_ok-name.rest.now _ refl c.in_err-rest-2.ensures.stop))
 
 pub read_parameters-requires : goal.read_parameters-requires
 read_parameters-requires c = record { proper = c.in_ok-rest-2.ensures.proper c.args.text.now c.in_ok-name.ensures.proper }
@@ -47,46 +44,28 @@ returns-in_err-parameters c =
     let p = err_from_is_err_and c.from_residual-in_err-parameters.result c.from_residual-in_err-parameters.ensures.1 in
     let T = c.args.text.now in
     let i = c.args.input.now in
-    let m0 = one T 0 ProcessPart [] K.process_name (word keyword.Process) i c.in_ok-rest.rest.now (λ s l. omega (arith, l)) (λ s. refl) (c.in_ok-rest.ensures.first.1 T) in
-    let m1 = then T 0 K.some_process K.process_name K.process_open i c.in_ok-rest.rest.now c.in_ok-name.rest.now m0 (token T 0 NameToken K.process_open (name (name_of c.in_ok-name.name)) c.in_ok-rest.rest.now c.in_ok-name.rest.now (λ s l. omega (arith, l)) refl c.in_ok-name.ensures.words) in
-    let m2 = then T 0 K.some_process K.process_open K.process_groups i c.in_ok-name.rest.now c.in_ok-rest-2.rest.now m1 (expected T 0 OpenToken K.process_groups (class.Sign mark.Open) c.in_ok-name.rest.now c.in_ok-rest-2.rest.now (λ s l. omega (arith, l)) refl c.in_ok-rest-2.ensures.first) in
-    rw (p.1, p.2) (then_stops T 0 K.some_process K.process_groups i c.in_ok-rest-2.rest.now _ m2 (call_stops T 0 0 GroupsPart K.process_close c.in_ok-rest-2.rest.now _ (λ s l. l) c.in_err-parameters.ensures))
+    rw (p.1, p.2) (then_stops T 0 K.some_process K.process_groups i c.in_ok-rest-2.rest.now _ (K.to_process_groups T i c.in_ok-rest.rest.now c.in_ok-name.rest.now c.in_ok-rest-2.rest.now (name_of c.in_ok-name.name) (c.in_ok-rest.ensures.first.1 T) c.in_ok-name.ensures.words c.in_ok-rest-2.ensures.first) (call_stops T 0 0 GroupsPart K.process_close c.in_ok-rest-2.rest.now _ (λ s l. l) c.in_err-parameters.ensures))
 
 pub returns-in_err-rest-3 : goal.returns-in_err-rest-3
 returns-in_err-rest-3 c =
     let p = err_from_is_err_and c.from_residual-in_err-rest-3.result c.from_residual-in_err-rest-3.ensures.1 in
     let T = c.args.text.now in
     let i = c.args.input.now in
-    let m0 = one T 0 ProcessPart [] K.process_name (word keyword.Process) i c.in_ok-rest.rest.now (λ s l. omega (arith, l)) (λ s. refl) (c.in_ok-rest.ensures.first.1 T) in
-    let m1 = then T 0 K.some_process K.process_name K.process_open i c.in_ok-rest.rest.now c.in_ok-name.rest.now m0 (token T 0 NameToken K.process_open (name (name_of c.in_ok-name.name)) c.in_ok-rest.rest.now c.in_ok-name.rest.now (λ s l. omega (arith, l)) refl c.in_ok-name.ensures.words) in
-    let m2 = then T 0 K.some_process K.process_open K.process_groups i c.in_ok-name.rest.now c.in_ok-rest-2.rest.now m1 (expected T 0 OpenToken K.process_groups (class.Sign mark.Open) c.in_ok-name.rest.now c.in_ok-rest-2.rest.now (λ s l. omega (arith, l)) refl c.in_ok-rest-2.ensures.first) in
-    let m3 = then T 0 K.some_process K.process_groups K.process_close i c.in_ok-rest-2.rest.now c.in_ok-parameters.rest.now m2 (call T 0 0 GroupsPart K.process_close c.in_ok-rest-2.rest.now c.in_ok-parameters.rest.now (λ s l. l) c.in_ok-parameters.ensures.reads) in
-    rw (p.1, p.2) (then_stops T 0 K.some_process K.process_close i c.in_ok-parameters.rest.now _ m3 (unexpected T 0 CloseToken K.process_semicolon (class.Sign mark.Close) c.in_ok-parameters.rest.now _ refl c.in_err-rest-3.ensures.stop))
+    rw (p.1, p.2) (then_stops T 0 K.some_process K.process_close i c.in_ok-parameters.rest.now _ (K.to_process_close T i c.in_ok-rest.rest.now c.in_ok-name.rest.now c.in_ok-rest-2.rest.now c.in_ok-parameters.rest.now (name_of c.in_ok-name.name) (c.in_ok-rest.ensures.first.1 T) c.in_ok-name.ensures.words c.in_ok-rest-2.ensures.first c.in_ok-parameters.ensures.reads) (unexpected T 0 CloseToken K.process_semicolon (class.Sign mark.Close) c.in_ok-parameters.rest.now _ refl c.in_err-rest-3.ensures.stop))
 
 pub returns-in_err-rest-4 : goal.returns-in_err-rest-4
 returns-in_err-rest-4 c =
     let p = err_from_is_err_and c.from_residual-in_err-rest-4.result c.from_residual-in_err-rest-4.ensures.1 in
     let T = c.args.text.now in
     let i = c.args.input.now in
-    let m0 = one T 0 ProcessPart [] K.process_name (word keyword.Process) i c.in_ok-rest.rest.now (λ s l. omega (arith, l)) (λ s. refl) (c.in_ok-rest.ensures.first.1 T) in
-    let m1 = then T 0 K.some_process K.process_name K.process_open i c.in_ok-rest.rest.now c.in_ok-name.rest.now m0 (token T 0 NameToken K.process_open (name (name_of c.in_ok-name.name)) c.in_ok-rest.rest.now c.in_ok-name.rest.now (λ s l. omega (arith, l)) refl c.in_ok-name.ensures.words) in
-    let m2 = then T 0 K.some_process K.process_open K.process_groups i c.in_ok-name.rest.now c.in_ok-rest-2.rest.now m1 (expected T 0 OpenToken K.process_groups (class.Sign mark.Open) c.in_ok-name.rest.now c.in_ok-rest-2.rest.now (λ s l. omega (arith, l)) refl c.in_ok-rest-2.ensures.first) in
-    let m3 = then T 0 K.some_process K.process_groups K.process_close i c.in_ok-rest-2.rest.now c.in_ok-parameters.rest.now m2 (call T 0 0 GroupsPart K.process_close c.in_ok-rest-2.rest.now c.in_ok-parameters.rest.now (λ s l. l) c.in_ok-parameters.ensures.reads) in
-    let m4 = then T 0 K.some_process K.process_close K.process_semicolon i c.in_ok-parameters.rest.now c.in_ok-rest-3.rest.now m3 (expected T 0 CloseToken K.process_semicolon (class.Sign mark.Close) c.in_ok-parameters.rest.now c.in_ok-rest-3.rest.now (λ s l. omega (arith, l)) refl c.in_ok-rest-3.ensures.first) in
-    rw (p.1, p.2) (then_stops T 0 K.some_process K.process_semicolon i c.in_ok-rest-3.rest.now _ m4 (unexpected T 0 SemicolonToken K.process_begin (class.Sign mark.Semicolon) c.in_ok-rest-3.rest.now _ refl c.in_err-rest-4.ensures.stop))
+    rw (p.1, p.2) (then_stops T 0 K.some_process K.process_semicolon i c.in_ok-rest-3.rest.now _ (K.to_process_semicolon T i c.in_ok-rest.rest.now c.in_ok-name.rest.now c.in_ok-rest-2.rest.now c.in_ok-parameters.rest.now c.in_ok-rest-3.rest.now (name_of c.in_ok-name.name) (c.in_ok-rest.ensures.first.1 T) c.in_ok-name.ensures.words c.in_ok-rest-2.ensures.first c.in_ok-parameters.ensures.reads c.in_ok-rest-3.ensures.first) (unexpected T 0 SemicolonToken K.process_begin (class.Sign mark.Semicolon) c.in_ok-rest-3.rest.now _ refl c.in_err-rest-4.ensures.stop))
 
 pub returns-in_err-rest-5 : goal.returns-in_err-rest-5
 returns-in_err-rest-5 c =
     let p = err_from_is_err_and c.from_residual-in_err-rest-5.result c.from_residual-in_err-rest-5.ensures.1 in
     let T = c.args.text.now in
     let i = c.args.input.now in
-    let m0 = one T 0 ProcessPart [] K.process_name (word keyword.Process) i c.in_ok-rest.rest.now (λ s l. omega (arith, l)) (λ s. refl) (c.in_ok-rest.ensures.first.1 T) in
-    let m1 = then T 0 K.some_process K.process_name K.process_open i c.in_ok-rest.rest.now c.in_ok-name.rest.now m0 (token T 0 NameToken K.process_open (name (name_of c.in_ok-name.name)) c.in_ok-rest.rest.now c.in_ok-name.rest.now (λ s l. omega (arith, l)) refl c.in_ok-name.ensures.words) in
-    let m2 = then T 0 K.some_process K.process_open K.process_groups i c.in_ok-name.rest.now c.in_ok-rest-2.rest.now m1 (expected T 0 OpenToken K.process_groups (class.Sign mark.Open) c.in_ok-name.rest.now c.in_ok-rest-2.rest.now (λ s l. omega (arith, l)) refl c.in_ok-rest-2.ensures.first) in
-    let m3 = then T 0 K.some_process K.process_groups K.process_close i c.in_ok-rest-2.rest.now c.in_ok-parameters.rest.now m2 (call T 0 0 GroupsPart K.process_close c.in_ok-rest-2.rest.now c.in_ok-parameters.rest.now (λ s l. l) c.in_ok-parameters.ensures.reads) in
-    let m4 = then T 0 K.some_process K.process_close K.process_semicolon i c.in_ok-parameters.rest.now c.in_ok-rest-3.rest.now m3 (expected T 0 CloseToken K.process_semicolon (class.Sign mark.Close) c.in_ok-parameters.rest.now c.in_ok-rest-3.rest.now (λ s l. omega (arith, l)) refl c.in_ok-rest-3.ensures.first) in
-    let m5 = then T 0 K.some_process K.process_semicolon K.process_begin i c.in_ok-rest-3.rest.now c.in_ok-rest-4.rest.now m4 (expected T 0 SemicolonToken K.process_begin (class.Sign mark.Semicolon) c.in_ok-rest-3.rest.now c.in_ok-rest-4.rest.now (λ s l. omega (arith, l)) refl c.in_ok-rest-4.ensures.first) in
-    rw (p.1, p.2) (then_stops T 0 K.some_process K.process_begin i c.in_ok-rest-4.rest.now _ m5 (unexpected T 0 BeginToken K.process_variables (class.Word keyword.Begin) c.in_ok-rest-4.rest.now _ refl c.in_err-rest-5.ensures.stop))
+    rw (p.1, p.2) (then_stops T 0 K.some_process K.process_begin i c.in_ok-rest-4.rest.now _ (K.to_process_begin T i c.in_ok-rest.rest.now c.in_ok-name.rest.now c.in_ok-rest-2.rest.now c.in_ok-parameters.rest.now c.in_ok-rest-3.rest.now c.in_ok-rest-4.rest.now (name_of c.in_ok-name.name) (c.in_ok-rest.ensures.first.1 T) c.in_ok-name.ensures.words c.in_ok-rest-2.ensures.first c.in_ok-parameters.ensures.reads c.in_ok-rest-3.ensures.first c.in_ok-rest-4.ensures.first) (unexpected T 0 BeginToken K.process_variables (class.Word keyword.Begin) c.in_ok-rest-4.rest.now _ refl c.in_err-rest-5.ensures.stop))
 
 pub read_variables-requires : goal.read_variables-requires
 read_variables-requires c = record { proper = c.in_ok-rest-5.ensures.proper c.args.text.now (c.in_ok-rest-4.ensures.proper c.args.text.now (c.in_ok-rest-3.ensures.proper c.args.text.now c.in_ok-parameters.ensures.proper)) }
@@ -96,45 +75,21 @@ returns-in_err-variables c =
     let p = err_from_is_err_and c.from_residual-in_err-variables.result c.from_residual-in_err-variables.ensures.1 in
     let T = c.args.text.now in
     let i = c.args.input.now in
-    let m0 = one T 0 ProcessPart [] K.process_name (word keyword.Process) i c.in_ok-rest.rest.now (λ s l. omega (arith, l)) (λ s. refl) (c.in_ok-rest.ensures.first.1 T) in
-    let m1 = then T 0 K.some_process K.process_name K.process_open i c.in_ok-rest.rest.now c.in_ok-name.rest.now m0 (token T 0 NameToken K.process_open (name (name_of c.in_ok-name.name)) c.in_ok-rest.rest.now c.in_ok-name.rest.now (λ s l. omega (arith, l)) refl c.in_ok-name.ensures.words) in
-    let m2 = then T 0 K.some_process K.process_open K.process_groups i c.in_ok-name.rest.now c.in_ok-rest-2.rest.now m1 (expected T 0 OpenToken K.process_groups (class.Sign mark.Open) c.in_ok-name.rest.now c.in_ok-rest-2.rest.now (λ s l. omega (arith, l)) refl c.in_ok-rest-2.ensures.first) in
-    let m3 = then T 0 K.some_process K.process_groups K.process_close i c.in_ok-rest-2.rest.now c.in_ok-parameters.rest.now m2 (call T 0 0 GroupsPart K.process_close c.in_ok-rest-2.rest.now c.in_ok-parameters.rest.now (λ s l. l) c.in_ok-parameters.ensures.reads) in
-    let m4 = then T 0 K.some_process K.process_close K.process_semicolon i c.in_ok-parameters.rest.now c.in_ok-rest-3.rest.now m3 (expected T 0 CloseToken K.process_semicolon (class.Sign mark.Close) c.in_ok-parameters.rest.now c.in_ok-rest-3.rest.now (λ s l. omega (arith, l)) refl c.in_ok-rest-3.ensures.first) in
-    let m5 = then T 0 K.some_process K.process_semicolon K.process_begin i c.in_ok-rest-3.rest.now c.in_ok-rest-4.rest.now m4 (expected T 0 SemicolonToken K.process_begin (class.Sign mark.Semicolon) c.in_ok-rest-3.rest.now c.in_ok-rest-4.rest.now (λ s l. omega (arith, l)) refl c.in_ok-rest-4.ensures.first) in
-    let m6 = then T 0 K.some_process K.process_begin K.process_variables i c.in_ok-rest-4.rest.now c.in_ok-rest-5.rest.now m5 (expected T 0 BeginToken K.process_variables (class.Word keyword.Begin) c.in_ok-rest-4.rest.now c.in_ok-rest-5.rest.now (λ s l. omega (arith, l)) refl c.in_ok-rest-5.ensures.first) in
-    rw (p.1, p.2) (then_stops T 0 K.some_process K.process_variables i c.in_ok-rest-5.rest.now _ m6 (call_stops T 0 0 VariablesPart K.process_statements c.in_ok-rest-5.rest.now _ (λ s l. l) c.in_err-variables.ensures))
+    rw (p.1, p.2) (then_stops T 0 K.some_process K.process_variables i c.in_ok-rest-5.rest.now _ (K.to_process_variables T i c.in_ok-rest.rest.now c.in_ok-name.rest.now c.in_ok-rest-2.rest.now c.in_ok-parameters.rest.now c.in_ok-rest-3.rest.now c.in_ok-rest-4.rest.now c.in_ok-rest-5.rest.now (name_of c.in_ok-name.name) (c.in_ok-rest.ensures.first.1 T) c.in_ok-name.ensures.words c.in_ok-rest-2.ensures.first c.in_ok-parameters.ensures.reads c.in_ok-rest-3.ensures.first c.in_ok-rest-4.ensures.first c.in_ok-rest-5.ensures.first) (call_stops T 0 0 VariablesPart K.process_statements c.in_ok-rest-5.rest.now _ (λ s l. l) c.in_err-variables.ensures))
 
 pub returns-in_err-statements : goal.returns-in_err-statements
 returns-in_err-statements c =
     let p = err_from_is_err_and c.from_residual-in_err-statements.result c.from_residual-in_err-statements.ensures.1 in
     let T = c.args.text.now in
     let i = c.args.input.now in
-    let m0 = one T 0 ProcessPart [] K.process_name (word keyword.Process) i c.in_ok-rest.rest.now (λ s l. omega (arith, l)) (λ s. refl) (c.in_ok-rest.ensures.first.1 T) in
-    let m1 = then T 0 K.some_process K.process_name K.process_open i c.in_ok-rest.rest.now c.in_ok-name.rest.now m0 (token T 0 NameToken K.process_open (name (name_of c.in_ok-name.name)) c.in_ok-rest.rest.now c.in_ok-name.rest.now (λ s l. omega (arith, l)) refl c.in_ok-name.ensures.words) in
-    let m2 = then T 0 K.some_process K.process_open K.process_groups i c.in_ok-name.rest.now c.in_ok-rest-2.rest.now m1 (expected T 0 OpenToken K.process_groups (class.Sign mark.Open) c.in_ok-name.rest.now c.in_ok-rest-2.rest.now (λ s l. omega (arith, l)) refl c.in_ok-rest-2.ensures.first) in
-    let m3 = then T 0 K.some_process K.process_groups K.process_close i c.in_ok-rest-2.rest.now c.in_ok-parameters.rest.now m2 (call T 0 0 GroupsPart K.process_close c.in_ok-rest-2.rest.now c.in_ok-parameters.rest.now (λ s l. l) c.in_ok-parameters.ensures.reads) in
-    let m4 = then T 0 K.some_process K.process_close K.process_semicolon i c.in_ok-parameters.rest.now c.in_ok-rest-3.rest.now m3 (expected T 0 CloseToken K.process_semicolon (class.Sign mark.Close) c.in_ok-parameters.rest.now c.in_ok-rest-3.rest.now (λ s l. omega (arith, l)) refl c.in_ok-rest-3.ensures.first) in
-    let m5 = then T 0 K.some_process K.process_semicolon K.process_begin i c.in_ok-rest-3.rest.now c.in_ok-rest-4.rest.now m4 (expected T 0 SemicolonToken K.process_begin (class.Sign mark.Semicolon) c.in_ok-rest-3.rest.now c.in_ok-rest-4.rest.now (λ s l. omega (arith, l)) refl c.in_ok-rest-4.ensures.first) in
-    let m6 = then T 0 K.some_process K.process_begin K.process_variables i c.in_ok-rest-4.rest.now c.in_ok-rest-5.rest.now m5 (expected T 0 BeginToken K.process_variables (class.Word keyword.Begin) c.in_ok-rest-4.rest.now c.in_ok-rest-5.rest.now (λ s l. omega (arith, l)) refl c.in_ok-rest-5.ensures.first) in
-    let m7 = then T 0 K.some_process K.process_variables K.process_statements i c.in_ok-rest-5.rest.now c.in_ok-variables.rest.now m6 (call T 0 0 VariablesPart K.process_statements c.in_ok-rest-5.rest.now c.in_ok-variables.rest.now (λ s l. l) c.in_ok-variables.ensures.reads) in
-    rw (p.1, p.2) (then_stops T 0 K.some_process K.process_statements i c.in_ok-variables.rest.now _ m7 (call_two_stops T 0 0 StatementPart (TailPart StatementsTail) K.process_end c.in_ok-variables.rest.now _ (λ s l. l) c.in_err-statements.ensures))
+    rw (p.1, p.2) (then_stops T 0 K.some_process K.process_statements i c.in_ok-variables.rest.now _ (K.to_process_statements T i c.in_ok-rest.rest.now c.in_ok-name.rest.now c.in_ok-rest-2.rest.now c.in_ok-parameters.rest.now c.in_ok-rest-3.rest.now c.in_ok-rest-4.rest.now c.in_ok-rest-5.rest.now c.in_ok-variables.rest.now (name_of c.in_ok-name.name) (c.in_ok-rest.ensures.first.1 T) c.in_ok-name.ensures.words c.in_ok-rest-2.ensures.first c.in_ok-parameters.ensures.reads c.in_ok-rest-3.ensures.first c.in_ok-rest-4.ensures.first c.in_ok-rest-5.ensures.first c.in_ok-variables.ensures.reads) (call_two_stops T 0 0 StatementPart (TailPart StatementsTail) K.process_end c.in_ok-variables.rest.now _ (λ s l. l) c.in_err-statements.ensures))
 
 pub returns-in_err-rest-6 : goal.returns-in_err-rest-6
 returns-in_err-rest-6 c =
     let p = err_from_is_err_and c.from_residual-in_err-rest-6.result c.from_residual-in_err-rest-6.ensures.1 in
     let T = c.args.text.now in
     let i = c.args.input.now in
-    let m0 = one T 0 ProcessPart [] K.process_name (word keyword.Process) i c.in_ok-rest.rest.now (λ s l. omega (arith, l)) (λ s. refl) (c.in_ok-rest.ensures.first.1 T) in
-    let m1 = then T 0 K.some_process K.process_name K.process_open i c.in_ok-rest.rest.now c.in_ok-name.rest.now m0 (token T 0 NameToken K.process_open (name (name_of c.in_ok-name.name)) c.in_ok-rest.rest.now c.in_ok-name.rest.now (λ s l. omega (arith, l)) refl c.in_ok-name.ensures.words) in
-    let m2 = then T 0 K.some_process K.process_open K.process_groups i c.in_ok-name.rest.now c.in_ok-rest-2.rest.now m1 (expected T 0 OpenToken K.process_groups (class.Sign mark.Open) c.in_ok-name.rest.now c.in_ok-rest-2.rest.now (λ s l. omega (arith, l)) refl c.in_ok-rest-2.ensures.first) in
-    let m3 = then T 0 K.some_process K.process_groups K.process_close i c.in_ok-rest-2.rest.now c.in_ok-parameters.rest.now m2 (call T 0 0 GroupsPart K.process_close c.in_ok-rest-2.rest.now c.in_ok-parameters.rest.now (λ s l. l) c.in_ok-parameters.ensures.reads) in
-    let m4 = then T 0 K.some_process K.process_close K.process_semicolon i c.in_ok-parameters.rest.now c.in_ok-rest-3.rest.now m3 (expected T 0 CloseToken K.process_semicolon (class.Sign mark.Close) c.in_ok-parameters.rest.now c.in_ok-rest-3.rest.now (λ s l. omega (arith, l)) refl c.in_ok-rest-3.ensures.first) in
-    let m5 = then T 0 K.some_process K.process_semicolon K.process_begin i c.in_ok-rest-3.rest.now c.in_ok-rest-4.rest.now m4 (expected T 0 SemicolonToken K.process_begin (class.Sign mark.Semicolon) c.in_ok-rest-3.rest.now c.in_ok-rest-4.rest.now (λ s l. omega (arith, l)) refl c.in_ok-rest-4.ensures.first) in
-    let m6 = then T 0 K.some_process K.process_begin K.process_variables i c.in_ok-rest-4.rest.now c.in_ok-rest-5.rest.now m5 (expected T 0 BeginToken K.process_variables (class.Word keyword.Begin) c.in_ok-rest-4.rest.now c.in_ok-rest-5.rest.now (λ s l. omega (arith, l)) refl c.in_ok-rest-5.ensures.first) in
-    let m7 = then T 0 K.some_process K.process_variables K.process_statements i c.in_ok-rest-5.rest.now c.in_ok-variables.rest.now m6 (call T 0 0 VariablesPart K.process_statements c.in_ok-rest-5.rest.now c.in_ok-variables.rest.now (λ s l. l) c.in_ok-variables.ensures.reads) in
-    let m8 = then T 0 K.some_process K.process_statements K.process_end i c.in_ok-variables.rest.now c.in_ok-statements.rest.now m7 (call_two T 0 0 StatementPart (TailPart StatementsTail) K.process_end c.in_ok-variables.rest.now c.in_ok-statements.rest.now (λ s l. l) c.in_ok-statements.ensures.reads) in
-    rw (p.1, p.2) (then_stops T 0 K.some_process K.process_end i c.in_ok-statements.rest.now _ m8 (unexpected T 0 EndToken [] (class.Word keyword.End) c.in_ok-statements.rest.now _ refl c.in_err-rest-6.ensures.stop))
+    rw (p.1, p.2) (then_stops T 0 K.some_process K.process_end i c.in_ok-statements.rest.now _ (K.to_process_end T i c.in_ok-rest.rest.now c.in_ok-name.rest.now c.in_ok-rest-2.rest.now c.in_ok-parameters.rest.now c.in_ok-rest-3.rest.now c.in_ok-rest-4.rest.now c.in_ok-rest-5.rest.now c.in_ok-variables.rest.now c.in_ok-statements.rest.now (name_of c.in_ok-name.name) (c.in_ok-rest.ensures.first.1 T) c.in_ok-name.ensures.words c.in_ok-rest-2.ensures.first c.in_ok-parameters.ensures.reads c.in_ok-rest-3.ensures.first c.in_ok-rest-4.ensures.first c.in_ok-rest-5.ensures.first c.in_ok-variables.ensures.reads c.in_ok-statements.ensures.reads) (unexpected T 0 EndToken [] (class.Word keyword.End) c.in_ok-statements.rest.now _ refl c.in_err-rest-6.ensures.stop))
 
 pub returns : goal.returns
 returns c =
@@ -173,14 +128,5 @@ returns c =
       reads =
           let T = c.args.text.now in
           let i = c.args.input.now in
-          let m0 = one T 0 ProcessPart [] K.process_name (word keyword.Process) i c.in_ok-rest.rest.now (λ s l. omega (arith, l)) (λ s. refl) (c.in_ok-rest.ensures.first.1 T) in
-          let m1 = then T 0 K.some_process K.process_name K.process_open i c.in_ok-rest.rest.now c.in_ok-name.rest.now m0 (token T 0 NameToken K.process_open (name (name_of c.in_ok-name.name)) c.in_ok-rest.rest.now c.in_ok-name.rest.now (λ s l. omega (arith, l)) refl c.in_ok-name.ensures.words) in
-          let m2 = then T 0 K.some_process K.process_open K.process_groups i c.in_ok-name.rest.now c.in_ok-rest-2.rest.now m1 (expected T 0 OpenToken K.process_groups (class.Sign mark.Open) c.in_ok-name.rest.now c.in_ok-rest-2.rest.now (λ s l. omega (arith, l)) refl c.in_ok-rest-2.ensures.first) in
-          let m3 = then T 0 K.some_process K.process_groups K.process_close i c.in_ok-rest-2.rest.now c.in_ok-parameters.rest.now m2 (call T 0 0 GroupsPart K.process_close c.in_ok-rest-2.rest.now c.in_ok-parameters.rest.now (λ s l. l) c.in_ok-parameters.ensures.reads) in
-          let m4 = then T 0 K.some_process K.process_close K.process_semicolon i c.in_ok-parameters.rest.now c.in_ok-rest-3.rest.now m3 (expected T 0 CloseToken K.process_semicolon (class.Sign mark.Close) c.in_ok-parameters.rest.now c.in_ok-rest-3.rest.now (λ s l. omega (arith, l)) refl c.in_ok-rest-3.ensures.first) in
-          let m5 = then T 0 K.some_process K.process_semicolon K.process_begin i c.in_ok-rest-3.rest.now c.in_ok-rest-4.rest.now m4 (expected T 0 SemicolonToken K.process_begin (class.Sign mark.Semicolon) c.in_ok-rest-3.rest.now c.in_ok-rest-4.rest.now (λ s l. omega (arith, l)) refl c.in_ok-rest-4.ensures.first) in
-          let m6 = then T 0 K.some_process K.process_begin K.process_variables i c.in_ok-rest-4.rest.now c.in_ok-rest-5.rest.now m5 (expected T 0 BeginToken K.process_variables (class.Word keyword.Begin) c.in_ok-rest-4.rest.now c.in_ok-rest-5.rest.now (λ s l. omega (arith, l)) refl c.in_ok-rest-5.ensures.first) in
-          let m7 = then T 0 K.some_process K.process_variables K.process_statements i c.in_ok-rest-5.rest.now c.in_ok-variables.rest.now m6 (call T 0 0 VariablesPart K.process_statements c.in_ok-rest-5.rest.now c.in_ok-variables.rest.now (λ s l. l) c.in_ok-variables.ensures.reads) in
-          let m8 = then T 0 K.some_process K.process_statements K.process_end i c.in_ok-variables.rest.now c.in_ok-statements.rest.now m7 (call_two T 0 0 StatementPart (TailPart StatementsTail) K.process_end c.in_ok-variables.rest.now c.in_ok-statements.rest.now (λ s l. l) c.in_ok-statements.ensures.reads) in
-          then T 0 K.some_process K.process_end [] i c.in_ok-statements.rest.now c.in_ok-rest-6.rest.now m8 (expected T 0 EndToken [] (class.Word keyword.End) c.in_ok-statements.rest.now c.in_ok-rest-6.rest.now (λ s l. omega (arith, l)) refl c.in_ok-rest-6.ensures.first);
+          then T 0 K.some_process K.process_end [] i c.in_ok-statements.rest.now c.in_ok-rest-6.rest.now (K.to_process_end T i c.in_ok-rest.rest.now c.in_ok-name.rest.now c.in_ok-rest-2.rest.now c.in_ok-parameters.rest.now c.in_ok-rest-3.rest.now c.in_ok-rest-4.rest.now c.in_ok-rest-5.rest.now c.in_ok-variables.rest.now c.in_ok-statements.rest.now (name_of c.in_ok-name.name) (c.in_ok-rest.ensures.first.1 T) c.in_ok-name.ensures.words c.in_ok-rest-2.ensures.first c.in_ok-parameters.ensures.reads c.in_ok-rest-3.ensures.first c.in_ok-rest-4.ensures.first c.in_ok-rest-5.ensures.first c.in_ok-variables.ensures.reads c.in_ok-statements.ensures.reads) (expected T 0 EndToken [] (class.Word keyword.End) c.in_ok-statements.rest.now c.in_ok-rest-6.rest.now (λ s l. omega (arith, l)) refl c.in_ok-rest-6.ensures.first);
     }

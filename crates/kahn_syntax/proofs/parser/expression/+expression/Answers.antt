@@ -7,7 +7,7 @@ use Rattle.kahn_syntax.specs.Terminals.{word, sign, number, name, terminals}
 use Rattle.kahn_syntax.specs.Rungs.{whole, ors, denials, relations, sums, factors, rung_of, tighter, at}
 use Rattle.kahn_syntax.specs.Machine.{CloseToken, ElseToken, ThenToken, ExpressionPart, OperatorsPart, TokenPart, LevelPart}
 use Rattle.kahn_syntax.specs.Drawn.{expression_of, name_of}
-use Rattle.kahn_syntax.proofs.Moves.{opens_whole, opens_chain, operators_end, comparison, level_chain, operator_more, only_memory, leads_factor, no_factor, opens_denial, level_end, opened, no_memory, then, then_stops, call, call_stops, call_two_stops, one, deep, expected, level_ends, unexpected}
+use Rattle.kahn_syntax.proofs.Moves.{opens_whole, opens_chain, operators_end, comparison, level_chain, operator_more, only_memory, leads_factor, no_factor, opens_denial, level_end, opened, then, then_stops, call, call_stops, call_two_stops, one, deep, expected, level_ends, unexpected}
 use Rattle.std.proofs.Common.{w64}
 use Rattle.std.proofs.lemmas.Int.{to_z-of_z}
 use Rattle.kahn_syntax.proofs.Negative.{number_fits}
@@ -133,8 +133,7 @@ read_expression-returns-in_err-yes t c =
     let i = c.args.input.now in
     let e = c.in_ok-inner.inner in
     let n = c.in_ok-inner.ensures.deeper.0 in
-    let m = K.if_moves T c.args.depth e i c.in-Some.rest.now n c.in_ok-inner.ensures.deeper.1 (c.in-Some.ensures.first.1 T) in
-    let m2 = K.then_moves T c.args.depth e i c.in-Some.rest.now c.in_ok-test.rest.now n m c.in_ok-test.ensures.reads in
+    let m2 = K.then_moves T c.args.depth e i c.in-Some.rest.now c.in_ok-test.rest.now n c.in_ok-inner.ensures.deeper.1 (c.in-Some.ensures.first.1 T) c.in_ok-test.ensures.reads in
     rw (p.1, p.2) (then_stops T c.args.depth K.choice K.after_then i c.in_ok-test.rest.now _ m2
     (call_two_stops T c.args.depth e (ExpressionPart whole) (TokenPart ElseToken) K.after_else c.in_ok-test.rest.now _ (λ s l. omega (arith, l, n)) c.in_err-yes.ensures))
 
@@ -145,9 +144,7 @@ read_expression-returns-in_err-no t c =
     let i = c.args.input.now in
     let e = c.in_ok-inner.inner in
     let n = c.in_ok-inner.ensures.deeper.0 in
-    let m = K.if_moves T c.args.depth e i c.in-Some.rest.now n c.in_ok-inner.ensures.deeper.1 (c.in-Some.ensures.first.1 T) in
-    let m2 = K.then_moves T c.args.depth e i c.in-Some.rest.now c.in_ok-test.rest.now n m c.in_ok-test.ensures.reads in
-    let m3 = K.else_moves T c.args.depth e i c.in_ok-test.rest.now c.in_ok-yes.rest.now n m2 c.in_ok-yes.ensures.reads in
+    let m3 = K.else_moves T c.args.depth e i c.in-Some.rest.now c.in_ok-test.rest.now c.in_ok-yes.rest.now n c.in_ok-inner.ensures.deeper.1 (c.in-Some.ensures.first.1 T) c.in_ok-test.ensures.reads c.in_ok-yes.ensures.reads in
     rw (p.1, p.2) (then_stops T c.args.depth K.choice K.after_else i c.in_ok-yes.rest.now _ m3
     (call_stops T c.args.depth e (ExpressionPart whole) (LevelPart ∷ []) c.in_ok-yes.rest.now _ (λ s l. omega (arith, l, n)) c.in_err-no.ensures))
 
@@ -190,9 +187,7 @@ read_expression-returns t c =
           let i = c.args.input.now in
           let e = c.in_ok-inner.inner in
           let n = c.in_ok-inner.ensures.deeper.0 in
-          let m = K.if_moves T c.args.depth e i c.in-Some.rest.now n c.in_ok-inner.ensures.deeper.1 (c.in-Some.ensures.first.1 T) in
-          let m2 = K.then_moves T c.args.depth e i c.in-Some.rest.now c.in_ok-test.rest.now n m c.in_ok-test.ensures.reads in
-          let m3 = K.else_moves T c.args.depth e i c.in_ok-test.rest.now c.in_ok-yes.rest.now n m2 c.in_ok-yes.ensures.reads in
+          let m3 = K.else_moves T c.args.depth e i c.in-Some.rest.now c.in_ok-test.rest.now c.in_ok-yes.rest.now n c.in_ok-inner.ensures.deeper.1 (c.in-Some.ensures.first.1 T) c.in_ok-test.ensures.reads c.in_ok-yes.ensures.reads in
           let o = c.in_ok-no.rest.now in
           then T c.args.depth K.choice (LevelPart ∷ []) [] i o o
           (then T c.args.depth K.choice K.after_else (LevelPart ∷ []) i c.in_ok-yes.rest.now o m3

@@ -132,8 +132,7 @@ read_statement-returns-in_err-turn-in-Some-Word-While-default t c =
     let i = c.args.input.now in
     let e = c.in_ok-inner-in-Some-Word-While-default.inner in
     let n = c.in_ok-inner-in-Some-Word-While-default.ensures.deeper.0 in
-    let m = K.while_moves T c.args.depth e i c.in-Some-Word-While-default.rest.now n c.in_ok-inner-in-Some-Word-While-default.ensures.deeper.1 ((first_of _ (class.Word keyword.While) c.args.input.now c.in-Some-Word-While-default.rest.now (c.in-Some-Word-While-default.field-0-0-is ∙ ap class.Word c.in-Some-Word-While-default.field-0-0-0-is) c.in-Some-Word-While-default.ensures.first.0).1 T) in
-    let m2 = K.do_moves T c.args.depth e i c.in-Some-Word-While-default.rest.now c.in_ok-test-in-Some-Word-While-default.rest.now n m c.in_ok-test-in-Some-Word-While-default.ensures.reads in
+    let m2 = K.do_moves T c.args.depth e i c.in-Some-Word-While-default.rest.now c.in_ok-test-in-Some-Word-While-default.rest.now n c.in_ok-inner-in-Some-Word-While-default.ensures.deeper.1 ((first_of _ (class.Word keyword.While) c.args.input.now c.in-Some-Word-While-default.rest.now (c.in-Some-Word-While-default.field-0-0-is ∙ ap class.Word c.in-Some-Word-While-default.field-0-0-0-is) c.in-Some-Word-While-default.ensures.first.0).1 T) c.in_ok-test-in-Some-Word-While-default.ensures.reads in
     rw (p.1, p.2) (then_stops T c.args.depth K.some_statement K.after_do i c.in_ok-test-in-Some-Word-While-default.rest.now _ m2
     (call_stops T c.args.depth e StatementPart (LevelPart ∷ []) c.in_ok-test-in-Some-Word-While-default.rest.now _ (λ s l. omega (arith, l, n)) c.in_err-turn-in-Some-Word-While-default.ensures))
 
@@ -167,8 +166,7 @@ read_if-returns-in_err-yes t c =
     let i = c.args.input.now in
     let e = c.in_ok-inner.inner in
     let n = c.in_ok-inner.ensures.deeper.0 in
-    let m = K.conditional_moves T c.args.depth e i c.args.rest.now n c.in_ok-inner.ensures.deeper.1 (c.requires.1.1.0.1 T) in
-    let m2 = K.test_moves T c.args.depth e i c.args.rest.now c.in_ok-test.rest.now n m c.in_ok-test.ensures.reads in
+    let m2 = K.test_moves T c.args.depth e i c.args.rest.now c.in_ok-test.rest.now n c.in_ok-inner.ensures.deeper.1 (c.requires.1.1.0.1 T) c.in_ok-test.ensures.reads in
     rw (p.1, p.2) (then_stops T c.args.depth K.some_statement K.after_test i c.in_ok-test.rest.now _ m2
     (call_stops T c.args.depth e SimplePart K.after_branch c.in_ok-test.rest.now _ (λ s l. omega (arith, l, n)) c.in_err-yes.ensures))
 
@@ -179,10 +177,7 @@ read_if-returns-in_err-no t c =
     let i = c.args.input.now in
     let e = c.in_ok-inner.inner in
     let n = c.in_ok-inner.ensures.deeper.0 in
-    let m = K.conditional_moves T c.args.depth e i c.args.rest.now n c.in_ok-inner.ensures.deeper.1 (c.requires.1.1.0.1 T) in
-    let m2 = K.test_moves T c.args.depth e i c.args.rest.now c.in_ok-test.rest.now n m c.in_ok-test.ensures.reads in
-    let m3 = K.branch_moves T c.args.depth e i c.in_ok-test.rest.now c.in_ok-yes.rest.now n m2 c.in_ok-yes.ensures.reads in
-    let m4 = K.other_moves T c.args.depth e i c.in_ok-yes.rest.now c.in-Some.after.now n c.in_ok-inner.ensures.deeper.1 m3 c.in-Some.ensures.first in
+    let m4 = K.other_moves T c.args.depth e i c.args.rest.now c.in_ok-test.rest.now c.in_ok-yes.rest.now c.in-Some.after.now n c.in_ok-inner.ensures.deeper.1 (c.requires.1.1.0.1 T) c.in_ok-test.ensures.reads c.in_ok-yes.ensures.reads c.in-Some.ensures.first in
     rw (p.1, p.2) (then_stops T c.args.depth K.some_statement K.after_other i c.in-Some.after.now _ m4
     (call_stops T c.args.depth e StatementPart (LevelPart ∷ []) c.in-Some.after.now _ (λ s l. omega (arith, l, n)) c.in_err-no.ensures))
 
@@ -200,10 +195,6 @@ read_statements-returns t c =
       reads = (then c.args.text.now c.args.depth (StatementPart ∷ TailPart StatementsTail ∷ []) (TailPart StatementsTail ∷ []) ([]) c.args.input.now c.statements.rest.now c.statements.rest.now (c.statements.invariant.reads) (ends c.args.text.now c.args.depth StatementsTail ([]) (class.Sign mark.Semicolon) c.statements.rest.now refl c.in_default.ensures.absent));
     }
 
-pub read_statement-returns-in-Some-Word-If-default : goal.read_statement-returns-in-Some-Word-If-default
-read_statement-returns-in-Some-Word-If-default t c =
-    c.read_if.ensures
-
 pub read_statement-returns-in_ok-turn-in-Some-Word-While-default : goal.read_statement-returns-in_ok-turn-in-Some-Word-While-default
 read_statement-returns-in_ok-turn-in-Some-Word-While-default t c =
     record {
@@ -212,6 +203,7 @@ read_statement-returns-in_ok-turn-in-Some-Word-While-default t c =
           (S.takes T (word keyword.While) c.args.input.now c.in-Some-Word-While-default.rest.now c.in-Some-Word-While-default.ensures.passed ((first_of _ (class.Word keyword.While) c.args.input.now c.in-Some-Word-While-default.rest.now (c.in-Some-Word-While-default.field-0-0-is ∙ ap class.Word c.in-Some-Word-While-default.field-0-0-0-is) c.in-Some-Word-While-default.ensures.first.0).1 T))
           c.in_ok-test-in-Some-Word-While-default.ensures.spans c.in_ok-test-in-Some-Word-While-default.ensures.takes c.in_ok-turn-in-Some-Word-While-default.ensures.spans;
       formed = subst FormedStatement (sym c.while_do.ensures.built) (c.in_ok-test-in-Some-Word-While-default.ensures.fits.1, c.in_ok-turn-in-Some-Word-While-default.ensures.formed);
+      simple = tt;
       nesting = omega (arith, ap statement_nesting c.while_do.ensures.built, c.in_ok-inner-in-Some-Word-While-default.ensures.deeper.0, c.in_ok-test-in-Some-Word-While-default.ensures.nesting, c.in_ok-turn-in-Some-Word-While-default.ensures.nesting);
       shorter = omega (arith, c.in-Some-Word-While-default.ensures.first.1, c.in_ok-test-in-Some-Word-While-default.ensures.shorter, c.in_ok-turn-in-Some-Word-While-default.ensures.shorter);
       proper = c.in_ok-turn-in-Some-Word-While-default.ensures.proper;
@@ -219,8 +211,7 @@ read_statement-returns-in_ok-turn-in-Some-Word-While-default t c =
           let i = c.args.input.now in
           let e = c.in_ok-inner-in-Some-Word-While-default.inner in
           let n = c.in_ok-inner-in-Some-Word-While-default.ensures.deeper.0 in
-          let m = K.while_moves T c.args.depth e i c.in-Some-Word-While-default.rest.now n c.in_ok-inner-in-Some-Word-While-default.ensures.deeper.1 ((first_of _ (class.Word keyword.While) c.args.input.now c.in-Some-Word-While-default.rest.now (c.in-Some-Word-While-default.field-0-0-is ∙ ap class.Word c.in-Some-Word-While-default.field-0-0-0-is) c.in-Some-Word-While-default.ensures.first.0).1 T) in
-          let m2 = K.do_moves T c.args.depth e i c.in-Some-Word-While-default.rest.now c.in_ok-test-in-Some-Word-While-default.rest.now n m c.in_ok-test-in-Some-Word-While-default.ensures.reads in
+          let m2 = K.do_moves T c.args.depth e i c.in-Some-Word-While-default.rest.now c.in_ok-test-in-Some-Word-While-default.rest.now n c.in_ok-inner-in-Some-Word-While-default.ensures.deeper.1 ((first_of _ (class.Word keyword.While) c.args.input.now c.in-Some-Word-While-default.rest.now (c.in-Some-Word-While-default.field-0-0-is ∙ ap class.Word c.in-Some-Word-While-default.field-0-0-0-is) c.in-Some-Word-While-default.ensures.first.0).1 T) c.in_ok-test-in-Some-Word-While-default.ensures.reads in
           let o = c.in_ok-turn-in-Some-Word-While-default.rest.now in
           then T c.args.depth K.some_statement (LevelPart ∷ []) [] i o o
           (then T c.args.depth K.some_statement K.after_do (LevelPart ∷ []) i c.in_ok-test-in-Some-Word-While-default.rest.now o m2
@@ -235,6 +226,7 @@ read_statement-returns-in_ok-turn-in-Some-Word-Repeat-default t c =
           c.repeated.ensures.spans T c.args.input.now c.in-Some-Word-Repeat-default.rest.now c.in_ok-turn-in-Some-Word-Repeat-default.rest.now c.reach-in-Some-Word-Repeat-default.ensures
           (S.takes T (word keyword.Repeat) c.args.input.now c.in-Some-Word-Repeat-default.rest.now c.in-Some-Word-Repeat-default.ensures.passed ((first_of _ (class.Word keyword.Repeat) c.args.input.now c.in-Some-Word-Repeat-default.rest.now (c.in-Some-Word-Repeat-default.field-0-0-is ∙ ap class.Word c.in-Some-Word-Repeat-default.field-0-0-0-is) c.in-Some-Word-Repeat-default.ensures.first.0).1 T)) c.in_ok-turn-in-Some-Word-Repeat-default.ensures.spans;
       formed = subst FormedStatement (sym c.repeated.ensures.built) c.in_ok-turn-in-Some-Word-Repeat-default.ensures.formed;
+      simple = tt;
       nesting = omega (arith, ap statement_nesting c.repeated.ensures.built, c.in_ok-inner-in-Some-Word-Repeat-default.ensures.deeper.0, c.in_ok-turn-in-Some-Word-Repeat-default.ensures.nesting);
       shorter = omega (arith, c.in-Some-Word-Repeat-default.ensures.first.1, c.in_ok-turn-in-Some-Word-Repeat-default.ensures.shorter);
       proper = c.in_ok-turn-in-Some-Word-Repeat-default.ensures.proper;
@@ -254,6 +246,7 @@ read_if-returns-in_default t c =
           (S.takes T (word keyword.If) c.args.input.now c.args.rest.now c.requires.1.1.1.1.1.1 (c.requires.1.1.0.1 T))
           c.in_ok-test.ensures.spans c.in_ok-test.ensures.takes (subst (λ y. StatementSpans T y c.in_ok-test.rest.now c.in_ok-yes.rest.now) (sym c.in_ok-branch.ensures.ok) c.in_ok-yes.ensures.spans);
       formed = let y = subst (λ y. IsSimple (statement_of y) × FormedStatement (statement_of y)) (sym c.in_ok-branch.ensures.ok) (c.in_ok-yes.ensures.simple, c.in_ok-yes.ensures.formed) in subst FormedStatement (sym c.if_then.ensures.built) (c.in_ok-test.ensures.fits.1, y.0, y.1);
+      simple = tt;
       nesting = omega (arith, ap statement_nesting c.if_then.ensures.built, ap (λ y. statement_nesting (statement_of y)) c.in_ok-branch.ensures.ok, c.in_ok-inner.ensures.deeper.0, c.in_ok-test.ensures.nesting, c.in_ok-yes.ensures.nesting);
       shorter = omega (arith, c.requires.1.1.1.0, c.in_ok-test.ensures.shorter, c.in_ok-yes.ensures.shorter);
       proper = c.in_ok-yes.ensures.proper;
@@ -261,9 +254,7 @@ read_if-returns-in_default t c =
           let i = c.args.input.now in
           let e = c.in_ok-inner.inner in
           let n = c.in_ok-inner.ensures.deeper.0 in
-          let m = K.conditional_moves T c.args.depth e i c.args.rest.now n c.in_ok-inner.ensures.deeper.1 (c.requires.1.1.0.1 T) in
-          let m2 = K.test_moves T c.args.depth e i c.args.rest.now c.in_ok-test.rest.now n m c.in_ok-test.ensures.reads in
-          let m3 = K.branch_moves T c.args.depth e i c.in_ok-test.rest.now c.in_ok-yes.rest.now n m2 c.in_ok-yes.ensures.reads in
+          let m3 = K.branch_moves T c.args.depth e i c.args.rest.now c.in_ok-test.rest.now c.in_ok-yes.rest.now n c.in_ok-inner.ensures.deeper.1 (c.requires.1.1.0.1 T) c.in_ok-test.ensures.reads c.in_ok-yes.ensures.reads in
           let o = c.in_ok-yes.rest.now in
           then T c.args.depth K.some_statement (LevelPart ∷ []) [] i o o
           (then T c.args.depth K.some_statement K.after_branch (LevelPart ∷ []) i o o m3 (ends T c.args.depth ElseTail (LevelPart ∷ []) (class.Word keyword.Else) o refl c.in_default.ensures.absent))
@@ -280,6 +271,7 @@ read_if-returns t c =
           c.in_ok-test.ensures.spans c.in_ok-test.ensures.takes (subst (λ y. StatementSpans T y c.in_ok-test.rest.now c.in_ok-yes.rest.now) (sym c.in_ok-branch.ensures.ok) c.in_ok-yes.ensures.spans)
           (S.takes T (word keyword.Else) c.in_ok-yes.rest.now c.in-Some.after.now c.in-Some.ensures.passed (c.in-Some.ensures.first.1 T)) c.in_ok-no.ensures.spans;
       formed = let y = subst (λ y. IsSimple (statement_of y) × FormedStatement (statement_of y)) (sym c.in_ok-branch.ensures.ok) (c.in_ok-yes.ensures.simple, c.in_ok-yes.ensures.formed) in subst FormedStatement (sym c.if_else.ensures.built) (c.in_ok-test.ensures.fits.1, y.0, y.1, c.in_ok-no.ensures.formed);
+      simple = tt;
       nesting = omega (arith, ap statement_nesting c.if_else.ensures.built, ap (λ y. statement_nesting (statement_of y)) c.in_ok-branch.ensures.ok, c.in_ok-inner.ensures.deeper.0, c.in_ok-test.ensures.nesting, c.in_ok-yes.ensures.nesting, c.in_ok-no.ensures.nesting);
       shorter = omega (arith, c.requires.1.1.1.0, c.in_ok-test.ensures.shorter, c.in_ok-yes.ensures.shorter, c.in-Some.ensures.shorter, c.in_ok-no.ensures.shorter);
       proper = c.in_ok-no.ensures.proper;
@@ -287,10 +279,7 @@ read_if-returns t c =
           let i = c.args.input.now in
           let e = c.in_ok-inner.inner in
           let n = c.in_ok-inner.ensures.deeper.0 in
-          let m = K.conditional_moves T c.args.depth e i c.args.rest.now n c.in_ok-inner.ensures.deeper.1 (c.requires.1.1.0.1 T) in
-          let m2 = K.test_moves T c.args.depth e i c.args.rest.now c.in_ok-test.rest.now n m c.in_ok-test.ensures.reads in
-          let m3 = K.branch_moves T c.args.depth e i c.in_ok-test.rest.now c.in_ok-yes.rest.now n m2 c.in_ok-yes.ensures.reads in
-          let m4 = K.other_moves T c.args.depth e i c.in_ok-yes.rest.now c.in-Some.after.now n c.in_ok-inner.ensures.deeper.1 m3 c.in-Some.ensures.first in
+          let m4 = K.other_moves T c.args.depth e i c.args.rest.now c.in_ok-test.rest.now c.in_ok-yes.rest.now c.in-Some.after.now n c.in_ok-inner.ensures.deeper.1 (c.requires.1.1.0.1 T) c.in_ok-test.ensures.reads c.in_ok-yes.ensures.reads c.in-Some.ensures.first in
           let o = c.in_ok-no.rest.now in
           then T c.args.depth K.some_statement (LevelPart ∷ []) [] i o o
           (then T c.args.depth K.some_statement K.after_other (LevelPart ∷ []) i c.in-Some.after.now o m4
@@ -307,15 +296,7 @@ read_inner-returns-in_err-statement t c =
 
 pub read_inner-returns : goal.read_inner-returns
 read_inner-returns t c =
-    subst (λ s. StatementRead c.args.text.now c.args.depth s c.args.input.now c.in_ok-statement.rest.now) (sym c.in_ok-boxed.ensures.ok) c.in_ok-statement.ensures
-
-pub read_simple-returns-in-Some-Name-default : goal.read_simple-returns-in-Some-Name-default
-read_simple-returns-in-Some-Name-default t c =
-    c.read_assign.ensures
-
-pub read_simple-returns-in-Some-Word-Send-default : goal.read_simple-returns-in-Some-Word-Send-default
-read_simple-returns-in-Some-Word-Send-default t c =
-    c.read_send.ensures
+    subst (λ s. StatementRead c.args.text.now c.args.depth StatementPart s c.args.input.now c.in_ok-statement.rest.now) (sym c.in_ok-boxed.ensures.ok) c.in_ok-statement.ensures
 
 pub read_simple-returns-in_ok-value-in-Some-Word-Print-default : goal.read_simple-returns-in_ok-value-in-Some-Word-Print-default
 read_simple-returns-in_ok-value-in-Some-Word-Print-default t c =
