@@ -1,3 +1,2 @@
 mod Headings
-mod Printing
 mod Texts

@@ -12,8 +12,8 @@ use Rattle.kahn_tree.specs.declared.tree.Argument.{Argument}
 use Rattle.kahn_tree.specs.declared.tree.Argument.TheVariants as A
 use Rattle.kahn_tree.specs.declared.tree.Process.{Process}
 use Rattle.kahn_tree.specs.declared.tree.Program.{Program}
-use Rattle.kahn_tree.specs.Syntax.{prints_in}
-use Rattle.kahn_tree.specs.View.{bytes_of, body_of, names_of}
+use Rattle.kahn_tree.specs.Prints.{process_prints}
+use Rattle.kahn_tree.specs.View.{bytes_of}
 use Rattle.kahn_network.specs.declared.sides.Side.{Side}
 use Rattle.kahn_network.specs.Made.{IsMadeOf}
 use Rattle.kahn_network.specs.Network.{network_of, kind_at, role_at}
@@ -37,9 +37,6 @@ values_text before (A.Logical b at ∷ rest) = concat (before ∷ truth_text b �
 abbrev pub border_text : Bool → List ℕ
 border_text true = codes ", peripheries=2"
 border_text false = []
-
-abbrev pub process_prints : Process → Bool
-process_prints p = prints_in (body_of (names_of p) p.statements.items)
 
 -- the node of an instance: its label has its number from 1, its process, the values below them, and how it ended
 abbrev pub node_text : List (List ℕ) → ℕ → Process → List Argument → List ℕ

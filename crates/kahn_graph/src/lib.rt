@@ -5,7 +5,6 @@ mod edges;
 mod nodes;
 mod picture;
 mod pieces;
-mod prints;
 mod report;
 
 pub use picture::picture_text;

@@ -8,10 +8,10 @@ ghost use Rattle.kahn_network.specs.Network.{network_of};
 ghost use Rattle.kahn_graph.specs.Graph.{values_text, node_text, IsNode, IsAll, border_text, truth_text};
 
 use crate::pieces::add;
-use crate::prints::process_prints;
 use crate::report::add_ended;
 use itoa::Buffer;
 use kahn_network::network::Network;
+use kahn_tree::prints::process_prints;
 use kahn_tree::tree::{Argument, Process};
 use std::alloc::AllocError;
 

@@ -1,31 +1,28 @@
--- The lines that are still to come, and the statements of a block.
-use Rattle.std.proofs.Common.{arith, ◌≡◌, ℕ, zero, suc, ◌<◌, ◌||◌, Bool, true, false, if◌then◌else◌, List, [], ◌∷◌, ◌++◌, length, drop, Option, refl, sym, ap, ◌∙◌, slice_index_or, append_assoc, append-nil}
+-- The lines that are still to come, and which processes print.
+use Rattle.std.proofs.Common.{arith, ◌≡◌, ℕ, zero, suc, ◌<◌, Bool, true, false, if◌then◌else◌, List, [], ◌∷◌, ◌++◌, length, drop, map, Option, Some, refl, sym, ap, ◌∙◌, slice_get, slice_index_or, append_assoc, append-nil}
 use Rattle.kahn_tree.specs.declared.tree.Kind.TheVariants.{Integer}
 use Rattle.kahn_tree.specs.declared.tree.Role.TheVariants.{Inner}
-use Rattle.kahn_tree.specs.declared.tree.Action.{Row_of-Statement, end_of-Statement, more_of-Statement}
-use Rattle.kahn_tree.specs.declared.tree.Action.TheBlock.{items-the_row-Statement}
-use Rattle.kahn_tree.specs.declared.tree.Statement.{Statement}
+use Rattle.kahn_tree.specs.declared.tree.Declaration.{Declaration}
+use Rattle.kahn_tree.specs.declared.tree.Declaration.TheVariants as D
+use Rattle.kahn_tree.specs.declared.tree.Process.{Process}
+use Rattle.kahn_tree.specs.Prints.{declaration_prints, process_prints}
 use Rattle.kahn_tree.specs.Syntax.{prints_in}
-use Rattle.kahn_tree.specs.View.{Scope, statement_of, stmt_of, row_of, body_of}
 use Rattle.kahn_streams.specs.declared.value.Line.{Line}
 use Rattle.kahn_streams.specs.declared.value.Line.TheVariants.{Channel, Print}
 use Rattle.kahn_network.specs.Network.{Network, instance_at, idle}
+use Rattle.kahn_network.specs.Wires.{process_at}
 use Rattle.kahn_code.specs.Cells.{is_streamed}
 use Rattle.kahn_pool.specs.Right.{channel_lines, print_lines}
 
--- ---- statements
+-- ---- processes
 
-abbrev pub any_prints : Scope → List Statement → Bool
-any_prints names [] = false
-any_prints names (s ∷ rest) = prints_in (statement_of names s) || any_prints names rest
-
-pub block_prints : {m : _} (names : Scope) (row : Row_of-Statement m) → prints_in (row_of names row) ≡ any_prints names (items-the_row-Statement m row)
-block_prints names end_of-Statement = refl
-block_prints names (more_of-Statement at a rest) = ap (λ b. prints_in (stmt_of names a) || b) (block_prints names rest)
-
-pub body_prints : (names : Scope) (ss : List Statement) → prints_in (body_of names ss) ≡ any_prints names ss
-body_prints names [] = refl
-body_prints names (s ∷ rest) = ap (λ b. prints_in (statement_of names s) || b) (body_prints names rest)
+-- what was asked of a declaration holds of the process that it declares
+pub printed_at : (ds : List Declaration) (k : ℕ) (p : Process) → process_at ds k ≡ Some p → slice_get (map declaration_prints ds) k ≡ Some (process_prints p)
+printed_at [] zero p h = cc
+printed_at [] (suc k) p h = cc
+printed_at (D.Channels kind role names ∷ ds) zero p h = cc
+printed_at (D.Process q ∷ ds) zero p h = cc
+printed_at (d ∷ ds) (suc k) p h = printed_at ds k p h
 
 -- ---- lines
 

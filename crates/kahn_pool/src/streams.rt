@@ -2,8 +2,8 @@
 
 ghost use Rattle.std.specs.Prelude.{◌≡◌, ◌<◌, ◌++◌, ◌∷◌, [], length, map, slice_set, slice_index_or, IfOk, OnOk};
 ghost use Rattle.std.specs.List.{All};
+ghost use Rattle.kahn_tree.specs.Prints.{declaration_prints};
 ghost use Rattle.kahn_tree.specs.Syntax.{prints_in};
-ghost use Rattle.kahn_tree.specs.View.{Scope, body_of, names_of, statement_of};
 ghost use Rattle.kahn_network.specs.Network.{network_of, instance_at, role_at};
 ghost use Rattle.kahn_tree.specs.declared.tree.Role.TheVariants.{Input as InputRole};
 ghost use Rattle.kahn_streams.specs.declared.value.Line.TheVariants.{Channel as ChannelLine};
@@ -21,57 +21,33 @@ use kahn_streams::input::Input;
 use kahn_streams::memory::NoMemory;
 use kahn_streams::token::Token;
 use kahn_streams::value::Line;
-use kahn_tree::tree::{Action, Process, Role, Statement};
+use kahn_tree::prints::declaration_prints;
+use kahn_tree::tree::Role;
 use std::alloc::Global;
 use std::mem;
 
-/// Whether a statement prints anywhere.
-pub fn prints(statement: &Statement) -> bool
-    ensures { (names : Scope) → result ≡ prints_in (statement_of names statement.now) }
+// Whether each declaration is of a process that prints anywhere.
+fn printing(alloc: Global, network: &Network) -> Result<Vec<bool>, NoMemory>
+    ensures { IfOk result (λ v. v.items ≡ map declaration_prints network.now.declarations.items) }
 {
-    match &statement.action {
-        Action::Empty => false,
-        Action::Assign(_, _) => false,
-        Action::Send(_, _) => false,
-        Action::Print(_) => true,
-        Action::Block(statements) => {
-            for inner in statements {
-                if prints(inner) {
-                    return true;
-                }
-            }
-            false
-        }
-        Action::If(_, yes, no) => {
-            prints(yes)
-                || match no {
-                    Some(no) => prints(no),
-                    None => false,
-                }
-        }
-        Action::While(_, body) => prints(body),
-        Action::Repeat(body) => prints(body),
+    let mut printing = Vec::new(alloc);
+    for declaration in &network.program().declarations {
+        printing.push(declaration_prints(declaration))?;
     }
-}
-
-// Whether a process prints anywhere.
-fn process_prints(process: &Process) -> bool
-    ensures { result ≡ prints_in (body_of (names_of process.now) process.now.statements.items) }
-{
-    for statement in &process.statements {
-        if prints(statement) {
-            return true;
-        }
-    }
-    false
+    Ok(printing)
 }
 
 // Whether the process of an instance prints anywhere.
-fn instance_prints(network: &Network, instance: usize) -> bool
-    requires { instance < length (network_of network.now).instances }
+#[tactic(auto, using(crate::proofs::Printing::printed_at))]
+fn instance_prints(network: &Network, printing: &[bool], instance: usize) -> bool
+    requires here { instance < length (network_of network.now).instances }
+    requires asked { printing.now ≡ map declaration_prints network.now.declarations.items }
     ensures { result ≡ prints_in (instance_at (network_of network.now) instance).body }
 {
-    process_prints(network.instance(instance).process)
+    match printing.get(network.instance(instance).declaration) {
+        Some(prints) => *prints,
+        None => false,
+    }
 }
 
 // Whether a channel has a stream.
@@ -117,8 +93,9 @@ fn add_prints(alloc: Global, streams: &mut Vec<Stream>, network: &Network) -> Re
     ensures lines { OnOk result (map line_of streams.new.items ≡ map line_of streams.old.items ++ print_lines (network_of network.now).instances 0) }
     ensures bare { OnOk result (All IsBare streams.old.items → All IsBare streams.new.items) }
 {
+    let printing = printing(alloc, network)?;
     for instance in 0..network.instances() {
-        if instance_prints(network, instance) {
+        if instance_prints(network, &printing, instance) {
             add_stream(alloc, streams, Line::Print(instance))?;
         }
     }

@@ -1,3 +1,4 @@
 pub mod Place
 pub mod View
 pub mod Syntax
+pub mod Prints

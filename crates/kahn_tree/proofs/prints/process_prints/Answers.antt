@@ -1,7 +1,7 @@
 use Rattle.std.proofs.Common.{sym, ap, ◌∙◌}
 use Rattle.kahn_tree.specs.View.{names_of}
-use Rattle.kahn_graph.proofs.Printing.{any_prints, body_prints}
-use Rattle.kahn_graph.proofs.prints.process_prints.Goals as goal
+use Rattle.kahn_tree.proofs.Printing.{any_prints, body_prints}
+use Rattle.kahn_tree.proofs.prints.process_prints.Goals as goal
 
 pub loop-statement-init : goal.loop-statement-init
 loop-statement-init c =

@@ -1,11 +1,11 @@
 //! Which processes print.
 
 ghost use Rattle.std.specs.Prelude.{◌≡◌};
+ghost use Rattle.kahn_tree.specs.Prints.{declaration_prints, process_prints};
 ghost use Rattle.kahn_tree.specs.Syntax.{prints_in};
 ghost use Rattle.kahn_tree.specs.View.{Scope, statement_of};
-ghost use Rattle.kahn_graph.specs.Graph.{process_prints};
 
-use kahn_tree::tree::{Action, Process, Statement};
+use crate::tree::{Action, Declaration, Process, Statement};
 
 // Whether a statement prints anywhere.
 fn prints(statement: &Statement) -> bool
@@ -36,8 +36,8 @@ fn prints(statement: &Statement) -> bool
     }
 }
 
-/// Whether a process prints anywhere.
-pub(crate) fn process_prints(process: &Process) -> bool
+/// Whether a process prints anywhere, reached or not.
+pub fn process_prints(process: &Process) -> bool
     ensures { result ≡ process_prints process.now }
 {
     for statement in &process.statements {
@@ -46,4 +46,14 @@ pub(crate) fn process_prints(process: &Process) -> bool
         }
     }
     false
+}
+
+/// Whether a declaration is of a process that prints anywhere, reached or not.
+pub fn declaration_prints(declaration: &Declaration) -> bool
+    ensures { result ≡ declaration_prints declaration.now }
+{
+    match declaration {
+        Declaration::Channels(_, _, _) => false,
+        Declaration::Process(process) => process_prints(process),
+    }
 }
