@@ -16,16 +16,12 @@ use Rattle.kahn_tree.specs.View.{bytes_of}
 use Rattle.kahn_check.specs.declared.fault.CheckFault.{CheckFault}
 use Rattle.kahn_check.specs.Faults.{IsMet}
 use Rattle.kahn_check.specs.Tables.{Ends, taken, handed_all, side_in, sides_in}
-use Rattle.kahn_check.specs.Wires.{line_in, lines_in}
+use Rattle.kahn_check.specs.Wires.{as_lines, line_in, lines_in}
 use Rattle.kahn_network.specs.Wires.{Line, first, line_of, lines_of}
 use Rattle.kahn_network.specs.Wiring.{Handover, same_direction, ends, handed_from, declared_channels}
 use Rattle.kahn_check.proofs.Declared.{met_first}
 use Rattle.kahn_check.proofs.Linked.{sides_more, handed_same, table}
 use Rattle.kahn_network.proofs.Handed.{Table}
-
--- the channels of one declaration
-abbrev pub as_lines : Kind → Role → List Name → List (Name × (Kind × Role))
-as_lines kind role xs = map (λ n. (n, (kind, role))) xs
 
 pub lines_step : (w r : Ends) (kind : Kind) (role : Role) (x : Name) (xs : List Name) → side_in w r x role ≡ [] →
     sides_in w r (as_lines kind role (x ∷ xs)) ≡ sides_in w r (as_lines kind role xs)

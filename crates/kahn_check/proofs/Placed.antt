@@ -1,5 +1,5 @@
 -- Arguments and instances in turn, by tables.
-use Rattle.std.proofs.Common.{◌≡◌, ℕ, suc, ◌+◌, ◌≤◌, ◌<◌, Bool, true, false, cond, inr, List, [], ◌∷◌, ◌++◌, map, length, Option, None, Some, refl, ap, sym, ◌∙◌, subst, append_assoc, arith, nat_lt, nat_eq}
+use Rattle.std.proofs.Common.{◌≡◌, ℕ, suc, ◌+◌, ◌≤◌, ◌<◌, Bool, true, false, cond, inr, List, [], ◌∷◌, ◌++◌, map, length, Option, None, Some, refl, ap, sym, ◌∙◌, subst, append_assoc, arith, nat_eq}
 use Rattle.kahn_tree.specs.declared.tree.Kind.{Kind}
 use Rattle.kahn_tree.specs.declared.tree.Role.{Role}
 use Rattle.kahn_tree.specs.declared.tree.Direction.{Direction}

@@ -1,10 +1,11 @@
 -- What is wrong with a program, in the order in which it is looked for. Only the first is answered: what is
 -- listed after it is of no import.
 use Rattle.kahn_network.specs.Wiring.{Scope}
-use Rattle.std.specs.Prelude.{◌≡◌, ◌⊎◌, ℕ, Bool, true, false, List, [], ◌∷◌, ◌++◌, Option, None, Some, Result, Ok, Err, if◌then◌else◌}
+use Rattle.std.specs.Prelude.{◌≡◌, ◌⊎◌, ℕ, Bool, true, false, List, [], ◌∷◌, ◌++◌, Option, None, Some, Result, Ok, Err, MatchResult, IsSome, if◌then◌else◌}
 use Rattle.std.proofs.Common.{bytes_eq}
 use Rattle.std.specs.Map.{lookup}
 use Rattle.kahn_tree.specs.declared.span.Span.{Span}
+use Rattle.kahn_tree.specs.declared.tree.Name.{Name}
 use Rattle.kahn_tree.specs.declared.tree.Kind.{Kind}
 use Rattle.kahn_tree.specs.declared.tree.Kind.TheVariants.{Integer, Logical}
 use Rattle.kahn_tree.specs.declared.tree.Direction.{Direction}
@@ -19,7 +20,7 @@ use Rattle.kahn_tree.specs.declared.tree.Statement.{Statement}
 use Rattle.kahn_tree.specs.View.{bytes_of}
 use Rattle.kahn_network.specs.Kinds.{takes, gives}
 use Rattle.kahn_check.specs.declared.fault.CheckFault.{CheckFault}
-use Rattle.kahn_check.specs.declared.fault.CheckFault.TheVariants.{Unknown, WrongKind, ChannelExpected, ValueExpected, WrongDirection, NoMemory}
+use Rattle.kahn_check.specs.declared.fault.CheckFault.TheVariants.{DeclaredTwice, Unknown, WrongKind, ChannelExpected, ValueExpected, WrongDirection, NoMemory}
 
 abbrev pub find : Scope → List ℕ → Option Taking
 find s x = lookup (bytes_eq x) s
@@ -32,6 +33,16 @@ verdict (f ∷ fs) a = Err f
 -- want of memory, which may come at any growth, or the first fault of the list
 abbrev pub IsMet : List CheckFault → CheckFault → Type 0
 IsMet fs f = (f ≡ NoMemory) ⊎ (verdict fs (tt {0}) ≡ Err f)
+
+-- what is answered where the list has no fault, and want of memory or its first one else
+abbrev pub Checks : {A : Type 0} → List CheckFault → (A → Type 0) → Result A CheckFault → Type 0
+Checks fs made result = MatchResult result (λ x. made x × (fs ≡ [])) (λ f. IsMet fs f)
+
+-- a name is declared behind those before, or stands for something already
+abbrev pub Declares : {A B : Type 0} → Name → A → List (List ℕ × A) → List (List ℕ × A) → Result B CheckFault → Type 0
+Declares name what before after result =
+    MatchResult result (λ u. (lookup (bytes_eq (bytes_of name)) before ≡ None) × (after ≡ before ++ (bytes_of name, what) ∷ []))
+    (λ f. (f ≡ NoMemory) ⊎ ((f ≡ DeclaredTwice name.span) × IsSome (lookup (bytes_eq (bytes_of name)) before)))
 
 abbrev pub same_kind : Kind → Kind → Bool
 same_kind Integer Integer = true

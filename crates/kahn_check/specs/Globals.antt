@@ -1,7 +1,10 @@
 -- What the names of a program stand for, as the map keeps it.
-use Rattle.std.specs.Prelude.{◌≡◌, ℕ, List, map, Option, None, Some}
+use Rattle.std.specs.Prelude.{◌≡◌, ℕ, List, ◌++◌, map, Option, None, Some}
 use Rattle.std.specs.List.{AllByRecursion}
 use Rattle.kahn_tree.specs.declared.tree.Declaration.{Declaration}
+use Rattle.kahn_tree.specs.declared.tree.Kind.{Kind}
+use Rattle.kahn_tree.specs.declared.tree.Name.{Name}
+use Rattle.kahn_tree.specs.declared.tree.Role.{Role}
 use Rattle.kahn_check.specs.declared.globals.Entry.{Entry}
 use Rattle.kahn_check.specs.declared.globals.Entry.TheVariants as E
 use Rattle.kahn_check.specs.declared.globals.Globals.{Globals}
@@ -26,6 +29,10 @@ IsPlaced ds (E.Process k p) = process_at ds k ≡ Some p.now
 
 abbrev pub ArePlaced : List Declaration → Globals → Type 0
 ArePlaced ds g = AllByRecursion (λ e. IsPlaced ds e.1) g.names
+
+-- the names of channels that are declared behind the known ones
+abbrev pub HaveJoined : Kind → Role → List Name → Globals → Globals → Type 0
+HaveJoined kind role names before after = known after ≡ known before ++ entries (map (λ x. (x, IsChannel kind role)) names)
 
 -- what these declarations declare
 pub record IsTable (ds : List Declaration) (g : Globals) : Type 0 where

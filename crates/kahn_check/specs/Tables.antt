@@ -1,5 +1,5 @@
 -- The same faults of instances, by tables of who has each side of a channel.
-use Rattle.std.specs.Prelude.{ℕ, suc, List, [], ◌∷◌, ◌++◌, length, Option, None, Some, if◌then◌else◌}
+use Rattle.std.specs.Prelude.{◌≡◌, ℕ, suc, List, [], ◌∷◌, ◌++◌, length, Option, None, Some, if◌then◌else◌}
 use Rattle.std.proofs.Common.{bytes_eq}
 use Rattle.std.specs.Map.{lookup}
 use Rattle.kahn_tree.specs.declared.tree.Name.{Name}
@@ -34,6 +34,10 @@ held (Some e) = e ∷ []
 abbrev pub taken : Direction → List Handover → Ends
 taken d [] = []
 taken d (h ∷ hs) = if same_direction d h.direction then (h.channel, h.end) ∷ taken d hs else taken d hs
+
+-- both tables have got what is handed over
+abbrev pub HaveGot : List Handover → Ends → Ends → Ends → Ends → Type 0
+HaveGot hs w r w' r' = (w' ≡ w ++ taken Out hs) × (r' ≡ r ++ taken In hs)
 
 abbrev pub misplaced_in : List (List ℕ × Global) → Ends → Direction → Kind → Name → List CheckFault
 misplaced_in g s d k n = misplaced d k (lookup (bytes_eq (bytes_of n)) g) (held (lookup (bytes_eq (bytes_of n)) s)) n.span

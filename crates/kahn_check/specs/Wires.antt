@@ -9,6 +9,10 @@ use Rattle.kahn_tree.specs.View.{bytes_of}
 use Rattle.kahn_check.specs.Tables.{Ends}
 use Rattle.kahn_network.specs.Wires.{Line}
 
+-- the channels of one declaration
+abbrev pub as_lines : Kind → Role → List Name → List (Name × (Kind × Role))
+as_lines kind role xs = map (λ n. (n, (kind, role))) xs
+
 -- the same by the tables of the walk
 abbrev pub line_in : Ends → Ends → Name × (Kind × Role) → Line
 line_in w r c = ((bytes_of c.0, c.1), (lookup (bytes_eq (bytes_of c.0)) w, lookup (bytes_eq (bytes_of c.0)) r))

@@ -1,13 +1,12 @@
 //! Whether an argument is what its parameter wants.
 
-ghost use Rattle.std.specs.Prelude.{◌≡◌, ◌++◌, ◌∷◌, [], MatchResult};
+ghost use Rattle.std.specs.Prelude.{◌≡◌, ◌++◌, ◌∷◌, []};
 ghost use Rattle.kahn_tree.specs.View.{bytes_of};
-ghost use Rattle.kahn_check.specs.Faults.{IsMet};
+ghost use Rattle.kahn_check.specs.Faults.{Checks};
 ghost use Rattle.kahn_check.specs.Globals.{known};
 ghost use Rattle.kahn_check.specs.Order.{second as second_of};
-ghost use Rattle.kahn_network.specs.Wiring.{is_closed};
-ghost use Rattle.kahn_network.specs.Wiring.{handed};
-ghost use Rattle.kahn_check.specs.Tables.{misplaced_in, place_faults, taken};
+ghost use Rattle.kahn_check.specs.Tables.{misplaced_in, place_faults, HaveGot};
+ghost use Rattle.kahn_network.specs.Wiring.{handed, is_closed};
 
 use crate::expression::agree;
 use crate::fault::CheckFault;
@@ -46,7 +45,7 @@ pub fn hand_over(
     name: &Name,
     end: Side,
 ) -> Result<(), CheckFault>
-    ensures { MatchResult result (λ u. (side.new ≡ side.old ++ (bytes_of name.now, end) ∷ []) × (misplaced_in (known globals.now) side.old direction kind name.now ≡ [])) (λ f. IsMet (misplaced_in (known globals.now) side.old direction kind name.now) f) }
+    ensures { Checks (misplaced_in (known globals.now) side.old direction kind name.now) (λ u. side.new ≡ side.old ++ (bytes_of name.now, end) ∷ []) result }
 {
     match globals.find(name) {
         None => Err(CheckFault::Unknown(name.span)),
@@ -73,7 +72,7 @@ pub fn place(
     argument: &Argument,
     end: Side,
 ) -> Result<(), CheckFault>
-    ensures { MatchResult result (λ u. (writers.new ≡ writers.old ++ taken Direction.Out (handed end taking argument.now)) × (readers.new ≡ readers.old ++ taken Direction.In (handed end taking argument.now)) × (place_faults (known globals.now) writers.old readers.old taking argument.now ≡ [])) (λ f. IsMet (place_faults (known globals.now) writers.old readers.old taking argument.now) f) }
+    ensures { Checks (place_faults (known globals.now) writers.old readers.old taking argument.now) (λ u. HaveGot (handed end taking argument.now) writers.old readers.old writers.new readers.new) result }
 {
     match (taking, argument) {
         (Taking::Channel(Direction::Out, kind), Argument::Channel(name)) => hand_over(

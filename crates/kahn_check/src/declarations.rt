@@ -1,9 +1,8 @@
 //! The declarations of a program, in text order.
 
-ghost use Rattle.std.specs.Prelude.{◌≡◌, ◌≤◌, ◌+◌, ◌++◌, [], List, MatchResult, OnOk, map, length};
-ghost use Rattle.kahn_check.specs.Faults.{IsMet};
-ghost use Rattle.kahn_check.specs.Globals.{known, ArePlaced, IsTable};
-ghost use Rattle.kahn_network.specs.Wiring.{entries, IsChannel};
+ghost use Rattle.std.specs.Prelude.{◌≡◌, ◌≤◌, ◌+◌, [], List, OnOk, length};
+ghost use Rattle.kahn_check.specs.Faults.{Checks};
+ghost use Rattle.kahn_check.specs.Globals.{known, ArePlaced, HaveJoined, IsTable};
 ghost use Rattle.kahn_tree.specs.declared.tree.Declaration.{Declaration};
 ghost use Rattle.kahn_check.specs.Order.{most_channels, channel_faults, declaration_faults};
 
@@ -26,7 +25,7 @@ pub fn channels<'p>(
     names: &[Name],
 ) -> Result<usize, CheckFault>
     requires { count ≤ most_channels }
-    ensures met { MatchResult result (λ n. (n ≡ count + length names.now) × (n ≤ most_channels) × (known globals.new ≡ known globals.old ++ entries (map (λ x. (x, IsChannel kind role)) names.now)) × (channel_faults (known globals.old) count kind role names.now ≡ [])) (λ f. IsMet (channel_faults (known globals.old) count kind role names.now) f) }
+    ensures met { Checks (channel_faults (known globals.old) count kind role names.now) (λ n. (n ≡ count + length names.now) × (n ≤ most_channels) × HaveJoined kind role names.now globals.old globals.new) result }
     ensures placed { OnOk result ((ds : List Declaration) → ArePlaced ds globals.old → ArePlaced ds globals.new) }
 {
     let mut declared = count;
@@ -43,7 +42,7 @@ pub fn channels<'p>(
 /// What the names of the program stand for, where no declaration is wrong.
 #[tactic(auto, using(crate::proofs::Declared::channels_done, crate::proofs::Declared::channels_met, crate::proofs::Declared::process_done, crate::proofs::Declared::process_known, crate::proofs::Declared::process_met, crate::proofs::Declared::more_declared, crate::proofs::Declared::more_process))]
 pub fn declarations<'p>(alloc: Global, program: &'p Program) -> Result<Globals<'p>, CheckFault>
-    ensures { MatchResult result (λ g. IsTable program.now.declarations.items g × (declaration_faults [] 0 program.now.declarations.items ≡ [])) (λ f. IsMet (declaration_faults [] 0 program.now.declarations.items) f) }
+    ensures { Checks (declaration_faults [] 0 program.now.declarations.items) (IsTable program.now.declarations.items) result }
 {
     let mut globals = Globals::new(alloc);
     let mut count = 0;

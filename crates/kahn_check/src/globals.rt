@@ -1,10 +1,11 @@
 //! The names that a program declares: its channels and its processes, in one name space.
 
-ghost use Rattle.std.specs.Prelude.{◌≡◌, ◌++◌, ◌∷◌, [], MatchResult, OnOk, IfSome, None, IsSome, ◌⊎◌, List};
+ghost use Rattle.std.specs.Prelude.{◌≡◌, [], OnOk, IfSome, List};
 ghost use Rattle.std.specs.Map.{lookup};
 ghost use Rattle.std.proofs.Common.{bytes_eq};
 ghost use Rattle.kahn_tree.specs.declared.tree.Declaration.{Declaration};
 ghost use Rattle.kahn_tree.specs.View.{bytes_of};
+ghost use Rattle.kahn_check.specs.Faults.{Declares};
 ghost use Rattle.kahn_check.specs.Globals.{known, global_of, option_global, ArePlaced, IsPlaced};
 
 use crate::fault::CheckFault;
@@ -46,7 +47,7 @@ impl<'p> Globals<'p> {
 
     /// Declares a name that stands for nothing yet.
     pub fn declare(&mut self, name: &Name, what: Entry<'p>) -> Result<(), CheckFault>
-        ensures known { MatchResult result (λ u. (lookup (bytes_eq (bytes_of name.now)) (known self.old) ≡ None) × (known self.new ≡ known self.old ++ (bytes_of name.now, global_of what.entry) ∷ [])) (λ f. (f ≡ CheckFault.NoMemory) ⊎ ((f ≡ CheckFault.DeclaredTwice name.now.span) × IsSome (lookup (bytes_eq (bytes_of name.now)) (known self.old)))) }
+        ensures known { Declares name.now (global_of what.entry) (known self.old) (known self.new) result }
         ensures placed { OnOk result ((ds : List Declaration) → ArePlaced ds self.old → IsPlaced ds what.entry → ArePlaced ds self.new) }
     {
         self.names.declare(name, what)

@@ -1,18 +1,18 @@
 //! The instances of a program, in text order.
 
-ghost use Rattle.std.specs.Prelude.{◌≡◌, ◌++◌, [], MatchResult, length};
-ghost use Rattle.kahn_check.specs.Faults.{IsMet};
+ghost use Rattle.std.specs.Prelude.{◌≡◌, [], MatchResult, length};
+ghost use Rattle.kahn_check.specs.Faults.{Checks, IsMet};
 ghost use Rattle.kahn_check.specs.Globals.{known, IsTable};
 ghost use Rattle.kahn_network.specs.Wiring.{handed_in};
 ghost use Rattle.kahn_check.specs.Seats.{AreSeated};
-ghost use Rattle.kahn_check.specs.Tables.{places_faults, taken, seats_faults};
+ghost use Rattle.kahn_check.specs.Tables.{places_faults, HaveGot, seats_faults};
 
 use crate::argument::place;
 use crate::fault::CheckFault;
 use crate::globals::{Entry, Globals};
 use crate::names::Sides;
 use kahn_network::sides::Side;
-use kahn_tree::tree::{Argument, Direction, Parameter, Program};
+use kahn_tree::tree::{Argument, Parameter, Program};
 use std::alloc::Global;
 
 /// The most instances of a program.
@@ -29,7 +29,7 @@ pub fn places(
     arguments: &[Argument],
 ) -> Result<(), CheckFault>
     requires { length parameters.now ≡ length arguments.now }
-    ensures { MatchResult result (λ u. (writers.new ≡ writers.old ++ taken Direction.Out (handed_in instance 0 parameters.now arguments.now)) × (readers.new ≡ readers.old ++ taken Direction.In (handed_in instance 0 parameters.now arguments.now)) × (places_faults (known globals.now) writers.old readers.old instance 0 parameters.now arguments.now ≡ [])) (λ f. IsMet (places_faults (known globals.now) writers.old readers.old instance 0 parameters.now arguments.now) f) }
+    ensures { Checks (places_faults (known globals.now) writers.old readers.old instance 0 parameters.now arguments.now) (λ u. HaveGot (handed_in instance 0 parameters.now arguments.now) writers.old readers.old writers.new readers.new) result }
 {
     for (number, argument) in arguments.iter().enumerate() {
         place(

@@ -1,9 +1,10 @@
 //! Names, and what each of them stands for.
 
-ghost use Rattle.std.specs.Prelude.{◌≡◌, ◌++◌, ◌∷◌, [], MatchResult, None, IsSome, ◌⊎◌};
+ghost use Rattle.std.specs.Prelude.{◌≡◌, ◌++◌, ◌∷◌, [], MatchResult, None};
 ghost use Rattle.std.specs.Map.{lookup};
 ghost use Rattle.std.proofs.Common.{bytes_eq};
 ghost use Rattle.kahn_tree.specs.View.{bytes_of};
+ghost use Rattle.kahn_check.specs.Faults.{Declares};
 
 use crate::fault::CheckFault;
 use indexmap::IndexMap;
@@ -60,7 +61,7 @@ impl<V: Copy> Names<V> {
 
     /// Declares a name, which must stand for nothing yet.
     pub fn declare(&mut self, name: &Name, what: V) -> Result<(), CheckFault>
-        ensures { MatchResult result (λ u. (lookup (bytes_eq (bytes_of name.now)) self.old ≡ None) × (self.new ≡ self.old ++ (bytes_of name.now, what) ∷ [])) (λ f. (f ≡ CheckFault.NoMemory) ⊎ ((f ≡ CheckFault.DeclaredTwice name.now.span) × IsSome (lookup (bytes_eq (bytes_of name.now)) self.old))) }
+        ensures { Declares name.now what self.old self.new result }
     {
         if self.find(name).is_some() {
             return Err(CheckFault::DeclaredTwice(name.span));

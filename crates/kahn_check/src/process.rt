@@ -1,7 +1,7 @@
 //! Whether a process is sound: its names, and then its statements.
 
 ghost use Rattle.std.specs.Prelude.{◌≡◌, [], MatchResult};
-ghost use Rattle.kahn_check.specs.Faults.{IsMet};
+ghost use Rattle.kahn_check.specs.Faults.{Checks, IsMet};
 ghost use Rattle.kahn_network.specs.Wiring.{locals_of, scope_of};
 ghost use Rattle.kahn_check.specs.Order.{twice, process_faults};
 
@@ -14,7 +14,7 @@ use std::alloc::Global;
 /// The names of a process, its parameters first and then its variables.
 #[tactic(auto, using(crate::proofs::Twice::twice_new, crate::proofs::Twice::twice_known, crate::proofs::Twice::more_entries))]
 pub fn locals(alloc: Global, process: &Process) -> Result<Scope, CheckFault>
-    ensures { MatchResult result (λ s. (s ≡ scope_of process.now) × (twice [] (locals_of process.now) ≡ [])) (λ f. IsMet (twice [] (locals_of process.now)) f) }
+    ensures { Checks (twice [] (locals_of process.now)) (λ s. s ≡ scope_of process.now) result }
 {
     let mut scope = Scope::new(alloc);
     for parameter in &process.parameters {

@@ -1,9 +1,9 @@
 //! The declared channels, each with the writer and the reader that its role asks for.
 
-ghost use Rattle.std.specs.Prelude.{◌≡◌, ◌++◌, [], MatchResult, map};
-ghost use Rattle.kahn_check.specs.Faults.{verdict, IsMet};
+ghost use Rattle.std.specs.Prelude.{◌≡◌, ◌++◌, map};
+ghost use Rattle.kahn_check.specs.Faults.{verdict, Checks};
 ghost use Rattle.kahn_check.specs.Tables.{side_in, sides_in};
-ghost use Rattle.kahn_check.specs.Wires.{line_in, lines_in};
+ghost use Rattle.kahn_check.specs.Wires.{as_lines, line_in, lines_in};
 ghost use Rattle.kahn_network.specs.Wires.{shown};
 ghost use Rattle.kahn_network.specs.Wiring.{declared_channels};
 
@@ -50,7 +50,7 @@ pub fn make_wire(
     role: Role,
     name: &Name,
 ) -> Result<Wire, CheckFault>
-    ensures { MatchResult result (λ w. (shown w ≡ line_in writers.now readers.now (name.now, (kind, role))) × (side_in writers.now readers.now name.now role ≡ [])) (λ f. IsMet (side_in writers.now readers.now name.now role) f) }
+    ensures { Checks (side_in writers.now readers.now name.now role) (λ w. shown w ≡ line_in writers.now readers.now (name.now, (kind, role))) result }
 {
     side(writers, readers, name, role)?;
     Ok(Wire {
@@ -72,7 +72,7 @@ pub fn add_wires(
     role: Role,
     names: &[Name],
 ) -> Result<(), CheckFault>
-    ensures { MatchResult result (λ u. (map shown wires.new.items ≡ map shown wires.old.items ++ lines_in writers.now readers.now (map (λ n. (n, (kind, role))) names.now)) × (sides_in writers.now readers.now (map (λ n. (n, (kind, role))) names.now) ≡ [])) (λ f. IsMet (sides_in writers.now readers.now (map (λ n. (n, (kind, role))) names.now)) f) }
+    ensures { Checks (sides_in writers.now readers.now (as_lines kind role names.now)) (λ u. map shown wires.new.items ≡ map shown wires.old.items ++ lines_in writers.now readers.now (as_lines kind role names.now)) result }
 {
     for name in names {
         wires.push(make_wire(writers, readers, kind, role, name)?)?;
@@ -88,7 +88,7 @@ pub fn all_wires(
     readers: &Sides,
     declarations: &[Declaration],
 ) -> Result<Vec<Wire>, CheckFault>
-    ensures { MatchResult result (λ w. (map shown w.items ≡ lines_in writers.now readers.now (declared_channels declarations.now)) × (sides_in writers.now readers.now (declared_channels declarations.now) ≡ [])) (λ f. IsMet (sides_in writers.now readers.now (declared_channels declarations.now)) f) }
+    ensures { Checks (sides_in writers.now readers.now (declared_channels declarations.now)) (λ w. map shown w.items ≡ lines_in writers.now readers.now (declared_channels declarations.now)) result }
 {
     let mut wires = Vec::new(alloc);
     for declaration in declarations {
