@@ -3,6 +3,7 @@
 #![tactic(auto)]
 
 pub mod memory;
+pub mod numbers;
 pub mod prints;
 pub mod span;
 pub mod steps;
