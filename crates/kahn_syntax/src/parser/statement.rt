@@ -132,7 +132,7 @@ fn read_simple<'t>(
             Ok((
                 Statement {
                     span: Some(reach(input, rest)),
-                    action: Action::Print(value),
+                    action: Action::Print(Box::into_inner(value)),
                 },
                 rest,
             ))
@@ -171,7 +171,7 @@ fn read_assign<'t>(
     Ok((
         Statement {
             span: Some(reach(input, rest)),
-            action: Action::Assign(name, value),
+            action: Action::Assign(name, Box::into_inner(value)),
         },
         rest,
     ))
@@ -197,7 +197,7 @@ fn read_send<'t>(
     Ok((
         Statement {
             span: Some(reach(input, rest)),
-            action: Action::Send(value, name),
+            action: Action::Send(Box::into_inner(value), name),
         },
         rest,
     ))

@@ -10,7 +10,7 @@ use Rattle.kahn_syntax.proofs.Moves.{leads_statement, opens_simple, leads_simple
 use Rattle.kahn_syntax.specs.Trees.{FormedStatement, IsSimple, statement_nesting}
 use Rattle.kahn_syntax.specs.Drawn.{statement_of}
 use Rattle.kahn_syntax.specs.Spans.{StatementSpans}
-use Rattle.kahn_syntax.specs.Reads.{StatementRead}
+use Rattle.kahn_syntax.specs.Reads.{ExpressionRead, StatementRead}
 use Rattle.kahn_syntax.proofs.Lists.{first_of}
 use Rattle.kahn_syntax.proofs.Spanning as S
 use Rattle.kahn_syntax.proofs.Stacks as K
@@ -300,15 +300,16 @@ read_inner-returns t c =
 
 pub read_simple-returns-in_ok-value-in-Some-Word-Print-default : goal.read_simple-returns-in_ok-value-in-Some-Word-Print-default
 read_simple-returns-in_ok-value-in-Some-Word-Print-default t c =
+    let v = subst (λ e. ExpressionRead c.args.text.now c.args.depth whole e c.in-Some-Word-Print-default.rest.now c.in_ok-value-in-Some-Word-Print-default.rest.now) (sym c.into_inner.ensures) c.in_ok-value-in-Some-Word-Print-default.ensures in
     record {
       spans = let T = c.args.text.now in
-          (c.reach.ensures, (c.in-Some-Word-Print-default.rest.now, (S.takes T (word keyword.Print) c.args.input.now c.in-Some-Word-Print-default.rest.now c.in-Some-Word-Print-default.ensures.passed ((first_of _ (class.Word keyword.Print) c.args.input.now c.in-Some-Word-Print-default.rest.now (c.in-Some-Word-Print-default.field-0-0-is ∙ ap class.Word c.in-Some-Word-Print-default.field-0-0-0-is) c.in-Some-Word-Print-default.ensures.first.0).1 T)), c.in_ok-value-in-Some-Word-Print-default.ensures.spans));
-      formed = c.in_ok-value-in-Some-Word-Print-default.ensures.fits.1;
+          (c.reach.ensures, (c.in-Some-Word-Print-default.rest.now, (S.takes T (word keyword.Print) c.args.input.now c.in-Some-Word-Print-default.rest.now c.in-Some-Word-Print-default.ensures.passed ((first_of _ (class.Word keyword.Print) c.args.input.now c.in-Some-Word-Print-default.rest.now (c.in-Some-Word-Print-default.field-0-0-is ∙ ap class.Word c.in-Some-Word-Print-default.field-0-0-0-is) c.in-Some-Word-Print-default.ensures.first.0).1 T)), v.spans));
+      formed = v.fits.1;
       simple = tt;
-      nesting = c.in_ok-value-in-Some-Word-Print-default.ensures.nesting;
-      shorter = omega (arith, c.in-Some-Word-Print-default.ensures.first.1, c.in_ok-value-in-Some-Word-Print-default.ensures.shorter);
-      proper = c.in_ok-value-in-Some-Word-Print-default.ensures.proper;
-      reads = (then c.args.text.now c.args.depth (SimplePart ∷ []) (ExpressionPart whole ∷ []) ([]) c.args.input.now c.in-Some-Word-Print-default.rest.now c.in_ok-value-in-Some-Word-Print-default.rest.now (one c.args.text.now c.args.depth (SimplePart) ([]) (ExpressionPart whole ∷ []) (word keyword.Print) c.args.input.now c.in-Some-Word-Print-default.rest.now (λ s l. omega (arith, l, c.requires.1.1.0)) (λ s. refl) ((first_of _ (class.Word keyword.Print) c.args.input.now c.in-Some-Word-Print-default.rest.now (c.in-Some-Word-Print-default.field-0-0-is ∙ ap class.Word c.in-Some-Word-Print-default.field-0-0-0-is) c.in-Some-Word-Print-default.ensures.first.0).1 c.args.text.now)) (call c.args.text.now c.args.depth c.args.depth (ExpressionPart whole) ([]) c.in-Some-Word-Print-default.rest.now c.in_ok-value-in-Some-Word-Print-default.rest.now (λ s l. omega (arith, l, c.requires.1.1.0)) c.in_ok-value-in-Some-Word-Print-default.ensures.reads));
+      nesting = v.nesting;
+      shorter = omega (arith, c.in-Some-Word-Print-default.ensures.first.1, v.shorter);
+      proper = v.proper;
+      reads = (then c.args.text.now c.args.depth (SimplePart ∷ []) (ExpressionPart whole ∷ []) ([]) c.args.input.now c.in-Some-Word-Print-default.rest.now c.in_ok-value-in-Some-Word-Print-default.rest.now (one c.args.text.now c.args.depth (SimplePart) ([]) (ExpressionPart whole ∷ []) (word keyword.Print) c.args.input.now c.in-Some-Word-Print-default.rest.now (λ s l. omega (arith, l, c.requires.1.1.0)) (λ s. refl) ((first_of _ (class.Word keyword.Print) c.args.input.now c.in-Some-Word-Print-default.rest.now (c.in-Some-Word-Print-default.field-0-0-is ∙ ap class.Word c.in-Some-Word-Print-default.field-0-0-0-is) c.in-Some-Word-Print-default.ensures.first.0).1 c.args.text.now)) (call c.args.text.now c.args.depth c.args.depth (ExpressionPart whole) ([]) c.in-Some-Word-Print-default.rest.now c.in_ok-value-in-Some-Word-Print-default.rest.now (λ s l. omega (arith, l, c.requires.1.1.0)) v.reads));
     }
 
 pub read_simple-returns-in_ok-rest-in-Some-Word-Begin-default : goal.read_simple-returns-in_ok-rest-in-Some-Word-Begin-default
