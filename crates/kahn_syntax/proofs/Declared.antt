@@ -9,6 +9,7 @@ use Rattle.kahn_syntax.specs.Terminals.{Terminal, word, sign, name}
 use Rattle.kahn_syntax.specs.Trees.{StatementTrees, statements_words, FormedStatements, AreSome}
 use Rattle.kahn_syntax.specs.Programs.{ParameterTree, parameter, VariableTree, variable, process, GroupTree, group, IsGroup, AreGroups, group_words, further_groups_words, groups_words, group_parameters, groups_parameters, Parameters, TogetherTree, together, IsTogether, AreTogether, together_words, togethers_words, together_variables, togethers_variables, Variables, taking_words, kind_terminal, names_words, AreNames, Declares, Declarations, declaration_nesting, declarations_nesting}
 use Rattle.kahn_syntax.specs.Drawn.{declaration_of}
+use Rattle.kahn_syntax.specs.Reads.{HeadWords}
 
 declarations_more : (xs : List Declaration) (x : Declaration) (ks m r : List Terminal) → Declarations (map declaration_of xs) ks m →
     Declares (declaration_of x) m (sign mark.Semicolon ∷ r) → Declarations (map declaration_of (xs ++ x ∷ [])) ks r
@@ -89,16 +90,20 @@ variables_next vs ws k ns ks rest after named left (ts, h, e, p) a b c n q = (
   p ∙ ap (togethers_words ts) (a ∙ ap (λ x. kind_terminal k ∷ x) (b ∙ ap (names_words ns) c)) ∙ sym (togethers_words_more ts (together k ns) left),
 )
 
-pub process_declares : (n : List ℕ) (ps : List ParameterTree) (vs : List VariableTree) (body : StatementTrees) (k0 k1 k2 k3 k4 k5 k6 k7 k8 k9 k10 : List Terminal) →
-    k0 ≡ word keyword.Process ∷ k1 → k1 ≡ name n ∷ k2 → k2 ≡ sign mark.Open ∷ k3 → Parameters ps k3 k4 → k4 ≡ sign mark.Close ∷ k5 →
-    k5 ≡ sign mark.Semicolon ∷ k6 → k6 ≡ word keyword.Begin ∷ k7 → Variables vs k7 k8 → k8 ≡ statements_words body k9 → k9 ≡ word keyword.End ∷ k10 →
-    AreSome body → FormedStatements body → Declares (process n ps vs body) k0 k10
-process_declares n ps vs body k0 k1 k2 k3 k4 k5 k6 k7 k8 k9 k10 a b c p d e f v g h some formed = (
+pub head_words : (ps : List ParameterTree) (k0 k1 k2 k3 k4 k5 : List Terminal) → k0 ≡ sign mark.Open ∷ k1 → Parameters ps k1 k2 → k2 ≡ sign mark.Close ∷ k3 →
+    k3 ≡ sign mark.Semicolon ∷ k4 → k4 ≡ word keyword.Begin ∷ k5 → HeadWords ps k0 k5
+head_words ps k0 k1 k2 k3 k4 k5 a p d e f =
+    (k1, a, subst (Parameters ps k1) (d ∙ ap (λ x. sign mark.Close ∷ x) (e ∙ ap (λ x. sign mark.Semicolon ∷ x) f)) p)
+
+pub process_declares : (n : List ℕ) (ps : List ParameterTree) (vs : List VariableTree) (body : StatementTrees) (k0 k1 k2 k3 k4 k5 k6 : List Terminal) →
+    k0 ≡ word keyword.Process ∷ k1 → k1 ≡ name n ∷ k2 → HeadWords ps k2 k3 → Variables vs k3 k4 → k4 ≡ statements_words body k5 → k5 ≡ word keyword.End ∷ k6 →
+    AreSome body → FormedStatements body → Declares (process n ps vs body) k0 k6
+process_declares n ps vs body k0 k1 k2 k3 k4 k5 k6 a b (x, c, p) v g h some formed = (
+  x,
   k3,
-  k7,
-  a ∙ ap (λ x. word keyword.Process ∷ x) (b ∙ ap (λ x. name n ∷ x) c),
-  subst (Parameters ps k3) (d ∙ ap (λ x. sign mark.Close ∷ x) (e ∙ ap (λ x. sign mark.Semicolon ∷ x) f)) p,
-  subst (Variables vs k7) (g ∙ ap (statements_words body) h) v,
+  a ∙ ap (λ y. word keyword.Process ∷ y) (b ∙ ap (λ y. name n ∷ y) c),
+  p,
+  subst (Variables vs k3) (g ∙ ap (statements_words body) h) v,
   some,
   formed,
 )

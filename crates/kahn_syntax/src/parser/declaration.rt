@@ -9,7 +9,7 @@ ghost use Rattle.kahn_syntax.specs.Programs.{kind_terminal, role_words, taking_w
 ghost use Rattle.kahn_syntax.specs.Drawn.{name_of};
 ghost use Rattle.kahn_syntax.specs.Drawn.{parameter_of, variable_of, process_of, declaration_of};
 ghost use Rattle.kahn_syntax.specs.Machine.{DeclarationsPart, DeclarationPart, ProcessPart, RolePart, GroupsPart, GroupPart, TakingPart, VariablesPart, leads_kind, leads_declaration};
-ghost use Rattle.kahn_syntax.specs.Reads.{Reads, Stops, PartRead};
+ghost use Rattle.kahn_syntax.specs.Reads.{Reads, Stops, PartRead, head_parts, HeadWords, HeadSpans};
 ghost use Rattle.kahn_syntax.specs.Spans.{IsPast, DeclarationsSpan, DeclarationSpans, RoleSpans, ProcessSpans, ParametersSpan, GroupSpans, DirectionSpans, VariablesSpan, group, together, kind_of, parameters_of, variables_of};
 
 use crate::lexeme::{Class, Keyword, Lexeme, Sign};
@@ -49,9 +49,9 @@ pub fn read_declarations<'t>(
     let mut rest = input;
     'declarations: while begins_declaration(rest) {
         let (declaration, after) = read_declaration(alloc, text, rest)?;
-        let after = expect(after, Class::Sign(Sign::Semicolon))?;
         declarations.push(declaration)?;
-        rest = after;
+        let left = expect(after, Class::Sign(Sign::Semicolon))?;
+        rest = left;
     }
     Ok((declarations, rest))
 }
@@ -110,11 +110,7 @@ fn read_process<'t>(alloc: Global, text: &str, input: &'t [Lexeme]) -> Read<'t, 
 {
     let rest = expect(input, Class::Word(Keyword::Process))?;
     let (name, rest) = read_name(alloc, text, rest)?;
-    let rest = expect(rest, Class::Sign(Sign::Open))?;
-    let (parameters, rest) = read_parameters(alloc, text, rest)?;
-    let rest = expect(rest, Class::Sign(Sign::Close))?;
-    let rest = expect(rest, Class::Sign(Sign::Semicolon))?;
-    let rest = expect(rest, Class::Word(Keyword::Begin))?;
+    let (parameters, rest) = read_head(alloc, text, rest)?;
     let (variables, rest) = read_variables(alloc, text, rest)?;
     let (statements, rest) = read_statements(alloc, text, rest, 0)?;
     let rest = expect(rest, Class::Word(Keyword::End))?;
@@ -125,6 +121,19 @@ fn read_process<'t>(alloc: Global, text: &str, input: &'t [Lexeme]) -> Read<'t, 
         statements,
     };
     Ok((process, rest))
+}
+
+// The parameters of a process in their brackets, and what stands between them and its body.
+fn read_head<'t>(alloc: Global, text: &str, input: &'t [Lexeme]) -> Read<'t, Vec<Parameter>>
+    requires proper { AreProper text.now input.now }
+    ensures { MatchResult result (λ r. PartRead text.now head_parts (HeadWords (map parameter_of r.0.items)) (HeadSpans text.now r.0.items) input.now r.1.now) (λ e. Stops text.now 0 head_parts input.now e) }
+{
+    let rest = expect(input, Class::Sign(Sign::Open))?;
+    let (parameters, rest) = read_parameters(alloc, text, rest)?;
+    let rest = expect(rest, Class::Sign(Sign::Close))?;
+    let rest = expect(rest, Class::Sign(Sign::Semicolon))?;
+    let rest = expect(rest, Class::Word(Keyword::Begin))?;
+    Ok((parameters, rest))
 }
 
 // The groups of parameters, with semicolons between: none or more.
