@@ -22,9 +22,6 @@ pub instances_next : (is is' : List Instance) (i : Instance) (ks m n r : List Te
     m ≡ word keyword.Par ∷ n → Instantiates (instance_of i) n r → Instances (map instance_of is') ks r
 instances_next is is' i ks m n r g h e p = subst (λ x. Instances (map instance_of x) ks r) (sym g) (instances_more is i ks m n r h e p)
 
-pub instances_first : (is' : List Instance) (i : Instance) (ks r : List Terminal) → is' ≡ i ∷ [] → Instantiates (instance_of i) ks r → Instances (map instance_of is') ks r
-instances_first is' i ks r g p = subst (λ x. Instances (map instance_of x) ks r) (sym g) (r, p, refl)
-
 further_arguments_more : (bs : List Argument) (a : Argument) (ks m n r : List Terminal) → FurtherArguments (map argument_of bs) ks m → m ≡ sign mark.Comma ∷ n →
     Argues (argument_of a) n r → FurtherArguments (map argument_of (bs ++ a ∷ [])) ks r
 further_arguments_more [] a ks m n r h e p = (n, r, h ∙ e, p, refl)

@@ -77,9 +77,6 @@ pub statements_next : (text : List ℕ) (ss ss' : List Statement) (s : Statement
     Takes text (sign mark.Semicolon) m k → StatementSpans text s k r → SomeStatements text ss' xs r
 statements_next text ss ss' s xs m k r e h t p = subst (λ ys. SomeStatements text ys xs r) (sym e) (statements_more text ss s xs m k r h t p)
 
-pub statements_first : (text : List ℕ) (ss : List Statement) (s : Statement) (xs r : List Lexeme) → ss ≡ s ∷ [] → StatementSpans text s xs r → SomeStatements text ss xs r
-statements_first text ss s xs r e p = subst (λ ys. SomeStatements text ys xs r) (sym e) (r, p, refl)
-
 further_names_more : (text : List ℕ) (ns : List Name) (n : Name) (xs m k r : List Lexeme) → FurtherNamesSpan text ns xs m →
     Takes text (sign mark.Comma) m k → NameSpans text n k r → FurtherNamesSpan text (ns ++ n ∷ []) xs r
 further_names_more text [] n xs m k r h t p = (k, r, subst (λ y. Takes text (sign mark.Comma) y k) (sym h) t, p, refl)
@@ -93,9 +90,6 @@ names_more text (u ∷ ns) n xs m k r (a, p', h) t p = (a, p', further_names_mor
 pub names_next : (text : List ℕ) (ns ns' : List Name) (n : Name) (xs m k r : List Lexeme) → ns' ≡ ns ++ n ∷ [] → NamesSpan text ns xs m →
     Takes text (sign mark.Comma) m k → NameSpans text n k r → NamesSpan text ns' xs r
 names_next text ns ns' n xs m k r e h t p = subst (λ ys. NamesSpan text ys xs r) (sym e) (names_more text ns n xs m k r h t p)
-
-pub names_first : (text : List ℕ) (ns : List Name) (n : Name) (xs r : List Lexeme) → ns ≡ n ∷ [] → NameSpans text n xs r → NamesSpan text ns xs r
-names_first text ns n xs r e p = subst (λ ys. NamesSpan text ys xs r) (sym e) (r, p, refl)
 
 pub group_spans : (text : List ℕ) (t : Taking) (k : Kind) (ns : List Name) (xs a b r : List Lexeme) → kind_of t ≡ k → Takes text (kind_terminal k) xs a →
     DirectionSpans text t a b → NamesSpan text ns b r → GroupSpans text (group t ns) xs r
@@ -197,6 +191,3 @@ instances_more text (u ∷ is) i xs m k r (a, p', h) t p = (a, p', further_insta
 pub instances_next : (text : List ℕ) (is is' : List Instance) (i : Instance) (xs m k r : List Lexeme) → is' ≡ is ++ i ∷ [] → InstancesSpan text is xs m →
     Takes text (word keyword.Par) m k → InstanceSpans text i k r → InstancesSpan text is' xs r
 instances_next text is is' i xs m k r e h t p = subst (λ ys. InstancesSpan text ys xs r) (sym e) (instances_more text is i xs m k r h t p)
-
-pub instances_first : (text : List ℕ) (is : List Instance) (i : Instance) (xs r : List Lexeme) → is ≡ i ∷ [] → InstanceSpans text i xs r → InstancesSpan text is xs r
-instances_first text is i xs r e p = subst (λ ys. InstancesSpan text ys xs r) (sym e) (r, p, refl)

@@ -1,8 +1,10 @@
 -- What a tree spells follows from what its parts take.
-use Rattle.std.proofs.Common.{◌≡◌, ℕ, List, [], ◌∷◌, refl, ap, ◌∙◌}
+use Rattle.std.proofs.Common.{◌≡◌, ℕ, List, [], ◌∷◌, map, refl, ap, ◌∙◌}
 use Rattle.kahn_tree.specs.declared.tree.Form.{Form, Number, Logical, Variable, Wait, Negate', Not', Bracket', Level', Conditional', Row_of-Operand, end_of-Operand, more_of-Operand}
 use Rattle.kahn_tree.specs.declared.tree.Action.{Action, Empty, Assign, Send, Print, Block', If', While', Repeat', Row_of-Statement, end_of-Statement, more_of-Statement, Held-Action-If-2, None', Some'}
 use Rattle.kahn_tree.specs.declared.tree.Statement.{Statement}
+use Rattle.kahn_tree.specs.declared.tree.Name.{Name}
+use Rattle.kahn_syntax.specs.Programs.{AreNames, names_words, further_names_words}
 use Rattle.kahn_syntax.specs.declared.lexeme.Keyword.TheVariants as keyword
 use Rattle.kahn_syntax.specs.declared.lexeme.Sign.TheVariants as mark
 use Rattle.kahn_syntax.specs.declared.lexeme.Lexeme.{Lexeme}
@@ -10,7 +12,7 @@ use Rattle.kahn_syntax.specs.Terminals as terminal
 use Rattle.kahn_syntax.specs.Terminals.{Terminal, terminals, word, sign, name}
 use Rattle.kahn_syntax.specs.Trees.{StatementTree, truth_terminal, operator_terminal, expression_words, operands_words, statement_words, statements_words, further_words}
 use Rattle.kahn_syntax.specs.Drawn.{name_of, form_of, operands_row, expression_of, action_of, statements_row, chosen_of, statement_of, statements_of}
-use Rattle.kahn_syntax.specs.Spans.{Takes, FormSpans, OperandRowSpans, ActionSpans, OtherSpans, StatementRowSpans, FurtherRowSpans, FurtherStatementsSpan, StatementsSpan}
+use Rattle.kahn_syntax.specs.Spans.{Takes, NamesSpan, FurtherNamesSpan, FormSpans, OperandRowSpans, ActionSpans, OtherSpans, StatementRowSpans, FurtherRowSpans, FurtherStatementsSpan, StatementsSpan}
 
 -- one terminal, and what follows it
 pub taken : (text : List ℕ) (k : Terminal) (xs a : List Lexeme) (r : List Terminal) → Takes text k xs a → terminals text a ≡ r → terminals text xs ≡ k ∷ r
@@ -93,3 +95,12 @@ pub statements_spelled : (text : List ℕ) (ss : List Statement) (xs r : List Le
 statements_spelled text [] xs r h = ap (terminals text) h
 statements_spelled text (s ∷ ss) xs r (a, h, g) =
     action_spelled text s.action xs a h.1 ∙ ap (statement_words (statement_of s)) (further_statements_spelled text ss a r g)
+
+further_names_spelled : (text : List ℕ) (ns : List Name) (xs r : List Lexeme) → FurtherNamesSpan text ns xs r → terminals text xs ≡ further_names_words (map name_of ns) (terminals text r)
+further_names_spelled text [] xs r h = ap (terminals text) h
+further_names_spelled text (n ∷ ns) xs r (a, b, t, p, h) = taken text (sign mark.Comma) xs a _ t (taken text (name (name_of n)) a b _ p.0 (further_names_spelled text ns b r h))
+
+pub names_spelled : (text : List ℕ) (ns : List Name) (xs r : List Lexeme) → NamesSpan text ns xs r →
+    AreNames (map name_of ns) × (terminals text xs ≡ names_words (map name_of ns) (terminals text r))
+names_spelled text [] xs r h = absurd h
+names_spelled text (n ∷ ns) xs r (a, p, h) = (tt, taken text (name (name_of n)) xs a _ p.0 (further_names_spelled text ns a r h))

@@ -111,15 +111,16 @@ fn read_instances<'t>(alloc: Global, text: &str, input: &'t [Lexeme]) -> Read<'t
     requires proper { AreProper text.now input.now }
     ensures { MatchResult result (λ r. PartRead text.now (InstancePart ∷ TailPart InstancesTail ∷ []) (Instances (map instance_of r.0.items)) (InstancesSpan text.now r.0.items) input.now r.1.now) (λ e. Stops text.now 0 (InstancePart ∷ TailPart InstancesTail ∷ []) input.now e) }
 {
-    let (first, mut rest) = read_instance(alloc, text, input)?;
     let mut instances = Vec::new(alloc);
-    instances.push(first)?;
-    'instances: while let Some(after) = past(rest, Class::Word(Keyword::Par)) {
-        let (instance, left) = read_instance(alloc, text, after)?;
+    let mut rest = input;
+    'instances: loop {
+        let (instance, after) = read_instance(alloc, text, rest)?;
         instances.push(instance)?;
-        rest = left;
+        let Some(further) = past(after, Class::Word(Keyword::Par)) else {
+            return Ok((instances, after));
+        };
+        rest = further;
     }
-    Ok((instances, rest))
 }
 
 // An instance.

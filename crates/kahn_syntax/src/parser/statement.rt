@@ -28,15 +28,16 @@ pub fn read_statements<'t>(
     requires proper { AreProper text.now input.now }
     ensures { MatchResult result (λ r. StatementsRead text.now depth r.0.items input.now r.1.now) (λ e. Stops text.now depth (StatementPart ∷ TailPart StatementsTail ∷ []) input.now e) }
 {
-    let (first, mut rest) = read_statement(alloc, text, input, depth)?;
     let mut statements = Vec::new(alloc);
-    statements.push(first)?;
-    'statements: while let Some(after) = past(rest, Class::Sign(Sign::Semicolon)) {
-        let (statement, left) = read_statement(alloc, text, after, depth)?;
+    let mut rest = input;
+    'statements: loop {
+        let (statement, after) = read_statement(alloc, text, rest, depth)?;
         statements.push(statement)?;
-        rest = left;
+        let Some(further) = past(after, Class::Sign(Sign::Semicolon)) else {
+            return Ok((statements, after));
+        };
+        rest = further;
     }
-    Ok((statements, rest))
 }
 
 // A statement.
