@@ -41,9 +41,6 @@ pub arguments_next : (bs bs' : List Argument) (a : Argument) (ks m n r : List Te
     m ≡ sign mark.Comma ∷ n → Argues (argument_of a) n r → SomeArguments (map argument_of bs') ks r
 arguments_next bs bs' a ks m n r g h e p = subst (λ x. SomeArguments (map argument_of x) ks r) (sym g) (some_arguments_more bs a ks m n r h e p)
 
-pub arguments_first : (bs' : List Argument) (a : Argument) (ks r : List Terminal) → bs' ≡ a ∷ [] → Argues (argument_of a) ks r → SomeArguments (map argument_of bs') ks r
-arguments_first bs' a ks r g p = subst (λ x. SomeArguments (map argument_of x) ks r) (sym g) (r, p, refl)
-
 some_are_arguments : (bs : List ArgumentTree) (ks r : List Terminal) → SomeArguments bs ks r → Arguments bs ks r
 some_are_arguments [] ks r h = absurd h
 some_are_arguments (a ∷ bs) ks r h = h

@@ -175,9 +175,6 @@ pub arguments_next : (text : List ℕ) (us us' : List Argument) (x : Argument) (
     Takes text (sign mark.Comma) m k → ArgumentSpans text x k r → SomeArgumentsSpan text us' xs r
 arguments_next text us us' x xs m k r e h t p = subst (λ ys. SomeArgumentsSpan text ys xs r) (sym e) (arguments_more text us x xs m k r h t p)
 
-pub arguments_first : (text : List ℕ) (us : List Argument) (x : Argument) (xs r : List Lexeme) → us ≡ x ∷ [] → ArgumentSpans text x xs r → SomeArgumentsSpan text us xs r
-arguments_first text us x xs r e p = subst (λ ys. SomeArgumentsSpan text ys xs r) (sym e) (r, p, refl)
-
 further_instances_more : (text : List ℕ) (is : List Instance) (i : Instance) (xs m k r : List Lexeme) → FurtherInstancesSpan text is xs m →
     Takes text (word keyword.Par) m k → InstanceSpans text i k r → FurtherInstancesSpan text (is ++ i ∷ []) xs r
 further_instances_more text [] i xs m k r h t p = (k, r, subst (λ y. Takes text (word keyword.Par) y k) (sym h) t, p, refl)

@@ -145,14 +145,15 @@ fn read_parameters<'t>(alloc: Global, text: &str, input: &'t [Lexeme]) -> Read<'
     if next_kind(input).is_none() {
         return Ok((parameters, input));
     }
-    let (first, mut rest) = read_group(alloc, text, input)?;
-    add_parameters(&mut parameters, first.taking, first.names)?;
-    'groups: while let Some(after) = past(rest, Class::Sign(Sign::Semicolon)) {
-        let (further, left) = read_group(alloc, text, after)?;
-        add_parameters(&mut parameters, further.taking, further.names)?;
-        rest = left;
+    let mut rest = input;
+    'groups: loop {
+        let (group, after) = read_group(alloc, text, rest)?;
+        add_parameters(&mut parameters, group.taking, group.names)?;
+        let Some(further) = past(after, Class::Sign(Sign::Semicolon)) else {
+            return Ok((parameters, after));
+        };
+        rest = further;
     }
-    Ok((parameters, rest))
 }
 
 // Names of parameters that take the same.

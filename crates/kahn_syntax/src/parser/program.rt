@@ -143,15 +143,16 @@ fn read_arguments<'t>(alloc: Global, text: &str, input: &'t [Lexeme]) -> Read<'t
     if let Some(rest) = past(input, Class::Sign(Sign::Close)) {
         return Ok((arguments, rest));
     }
-    let (first, mut rest) = read_argument(alloc, text, input)?;
-    arguments.push(first)?;
-    'arguments: while let Some(after) = past(rest, Class::Sign(Sign::Comma)) {
-        let (argument, left) = read_argument(alloc, text, after)?;
+    let mut rest = input;
+    'arguments: loop {
+        let (argument, after) = read_argument(alloc, text, rest)?;
         arguments.push(argument)?;
-        rest = left;
+        let Some(further) = past(after, Class::Sign(Sign::Comma)) else {
+            let left = expect(after, Class::Sign(Sign::Close))?;
+            return Ok((arguments, left));
+        };
+        rest = further;
     }
-    let rest = expect(rest, Class::Sign(Sign::Close))?;
-    Ok((arguments, rest))
 }
 
 // An argument.

@@ -1,6 +1,10 @@
-use Rattle.std.proofs.Common.{◌≤◌, [], ◌∷◌, length, map}
-use Rattle.kahn_syntax.specs.Terminals.{terminals, AreProper}
-use Rattle.kahn_syntax.specs.Machine.{GroupsPart, TailPart, GroupsTail}
+use Rattle.std.proofs.Common.{◌≡◌, ◌≤◌, ℕ, List, [], ◌∷◌, ◌++◌, length, map}
+use Rattle.kahn_tree.specs.declared.tree.Taking.{Taking}
+use Rattle.kahn_syntax.specs.declared.lexeme.Lexeme.{Lexeme}
+use Rattle.kahn_syntax.specs.Programs.{AreNames, names_words, taking_words, parameter}
+use Rattle.kahn_syntax.specs.Spans.{NamedGroup, GroupSpans, parameters_of}
+use Rattle.kahn_syntax.specs.Terminals.{Terminal, terminals, AreProper}
+use Rattle.kahn_syntax.specs.Machine.{GroupsPart, GroupPart, TailPart, GroupsTail}
 use Rattle.kahn_syntax.specs.Reads.{Moves}
 use Rattle.kahn_syntax.specs.Drawn.{parameter_of}
 use Rattle.kahn_syntax.proofs.Spanning.{SomeParametersSpan}
@@ -9,11 +13,11 @@ use Rattle.kahn_syntax.proofs.parser.declaration.read_parameters.Given as goal
 
 abbrev pub invariant-groups : goal.invariant-groups
 invariant-groups l = record {
-  words : SomeParameters (map parameter_of l.parameters.items) (terminals l.text l.input) (terminals l.text l.rest);
-  spans : SomeParametersSpan l.text l.parameters.items l.input l.rest;
+  words : (t : Taking) (ns : List (List ℕ)) (ks : List Terminal) → AreNames ns → terminals l.text l.rest ≡ taking_words t (names_words ns ks) → SomeParameters (map parameter_of l.parameters.items ++ map (parameter t) ns) (terminals l.text l.input) ks;
+  spans : (g : NamedGroup) (r : List Lexeme) → GroupSpans l.text g l.rest r → SomeParametersSpan l.text (l.parameters.items ++ parameters_of g) l.input r;
   shorter : length l.rest ≤ length l.input;
   proper : AreProper l.text l.rest;
-  reads : Moves l.text 0 (GroupsPart ∷ []) (TailPart GroupsTail ∷ []) l.input l.rest;
+  reads : Moves l.text 0 (GroupsPart ∷ []) (GroupPart ∷ TailPart GroupsTail ∷ []) l.input l.rest;
 }
 
 abbrev pub decreases-groups : goal.decreases-groups
