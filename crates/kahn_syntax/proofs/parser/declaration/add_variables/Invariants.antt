@@ -6,6 +6,5 @@ use Rattle.kahn_syntax.proofs.parser.declaration.add_variables.Given as goal
 
 abbrev pub invariant-loop-name : goal.invariant-loop-name
 invariant-loop-name l = record {
-  added : map variable_of l.variables.items ≡ map variable_of l.initial.variables.items ++ map (variable l.kind) (map name_of l.yielded);
   items : l.variables.items ≡ l.initial.variables.items ++ variables_of (together l.kind l.yielded);
 }

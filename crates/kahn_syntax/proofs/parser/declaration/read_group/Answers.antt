@@ -22,7 +22,6 @@ returns-in_err-names c =
 pub returns : goal.returns
 returns c =
     record {
-      words = (c.in_ok-names.ensures.words.0, c.in-Some.ensures.first c.args.text.now ∙ (c.read_taking-taking.ensures.words c.args.text.now ∙ ap (taking_words c.read_taking-taking.result.0) c.in_ok-names.ensures.words.1));
       spans = let T = c.args.text.now in
           S.group_spans T _ c.in-Some.kind _ c.args.input.now c.in-Some.rest.now c.read_taking-taking.result.1.now c.in_ok-names.rest.now c.read_taking-taking.ensures.kind
           (S.takes T (kind_terminal c.in-Some.kind) c.args.input.now c.in-Some.rest.now c.in-Some.ensures.passed (c.in-Some.ensures.first T)) (c.read_taking-taking.ensures.spans T) c.in_ok-names.ensures.spans;

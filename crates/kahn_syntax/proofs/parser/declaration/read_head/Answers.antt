@@ -9,7 +9,6 @@ use Rattle.kahn_syntax.specs.Reads.{head_parts}
 use Rattle.kahn_syntax.specs.Drawn.{parameter_of}
 use Rattle.kahn_syntax.proofs.Moves.{then, then_stops, call_stops, expected, unexpected}
 use Rattle.kahn_syntax.proofs.Spanning as S
-use Rattle.kahn_syntax.proofs.Declared.{head_words}
 use Rattle.kahn_syntax.proofs.Stacks as K
 use Rattle.kahn_syntax.proofs.parser.declaration.read_head.Goals as goal
 
@@ -65,14 +64,11 @@ pub returns : goal.returns
 returns c =
     let T = c.args.text.now in
     let i = c.args.input.now in
-    let k = terminals T in
     let m1 = K.to_head_groups T i c.in_ok-rest.rest.now c.in_ok-rest.ensures.first in
     let m2 = K.to_head_close T i c.in_ok-rest.rest.now c.in_ok-parameters.rest.now m1 c.in_ok-parameters.ensures.reads in
     let m3 = K.to_head_semicolon T i c.in_ok-parameters.rest.now c.in_ok-rest-2.rest.now m2 c.in_ok-rest-2.ensures.first in
     let m4 = K.to_head_begin T i c.in_ok-rest-2.rest.now c.in_ok-rest-3.rest.now m3 c.in_ok-rest-3.ensures.first in
     record {
-      words = head_words (map parameter_of c.in_ok-parameters.parameters.items) (k i) (k c.in_ok-rest.rest.now) (k c.in_ok-parameters.rest.now) (k c.in_ok-rest-2.rest.now) (k c.in_ok-rest-3.rest.now) (k c.in_ok-rest-4.rest.now)
-          (c.in_ok-rest.ensures.first.1 T) c.in_ok-parameters.ensures.words (c.in_ok-rest-2.ensures.first.1 T) (c.in_ok-rest-3.ensures.first.1 T) (c.in_ok-rest-4.ensures.first.1 T);
       spans = (
         c.in_ok-rest.rest.now,
         c.in_ok-parameters.rest.now,

@@ -8,7 +8,6 @@ use Rattle.kahn_syntax.specs.Programs.{parameter, Parameters}
 use Rattle.kahn_syntax.specs.Drawn.{name_of, parameter_of}
 use Rattle.kahn_syntax.specs.Spans.{group, parameters_of}
 use Rattle.kahn_syntax.proofs.Moves.{opens_groups, groups_end, then, then_stops, call, call_stops, goes, ends}
-use Rattle.kahn_syntax.proofs.Declared.{SomeParameters, parameters_first, parameters_next, some_are_parameters}
 use Rattle.kahn_syntax.proofs.Spanning as S
 use Rattle.kahn_syntax.proofs.Spanning.{SomeParametersSpan}
 use Rattle.kahn_syntax.proofs.parser.declaration.read_parameters.Goals as goal
@@ -24,7 +23,6 @@ groups-init c =
     let a : leads_kind (terminals c.args.text.now c.args.input.now) ≡ true = search rules in
     let e = c.new-parameters.ensures.items in
     record {
-      words = λ t ns ks n p. subst (λ ps. SomeParameters (map parameter_of ps ++ map (parameter t) ns) (terminals c.args.text.now c.args.input.now) ks) (sym e) (parameters_first _ t ns _ ks n refl p);
       spans = λ g r p. subst (λ ps. SomeParametersSpan c.args.text.now (ps ++ parameters_of g) c.args.input.now r) (sym e) (S.parameters_first c.args.text.now _ g c.args.input.now r refl p);
       shorter = omega arith;
       proper = c.requires.proper;
@@ -38,12 +36,9 @@ groups-preserved c =
     let a = c.in_ok-group.after.now in
     let o = c.groups.rest.now in
     let g = c.in_ok-group.group in
-    let w = subst (λ ps. SomeParameters ps (terminals T i) (terminals T a)) (sym c.in_ok-add_parameters.ensures.added)
-    (c.groups.invariant.words g.taking (map name_of g.names.items) (terminals T a) c.in_ok-group.ensures.words.0 c.in_ok-group.ensures.words.1) in
     let s = subst (λ ps. SomeParametersSpan T ps i a) (sym c.in_ok-add_parameters.ensures.items) (c.groups.invariant.spans (group g.taking g.names.items) a c.in_ok-group.ensures.spans) in
     let j = c.in-Some.further.now in
     record {
-      words = λ t ns ks n p. parameters_next _ _ t ns _ _ _ ks w (c.in-Some.ensures.first.1 T) p n refl;
       spans = λ h r p. S.parameters_next T _ _ h i a j r refl s (S.takes T (sign mark.Semicolon) a j c.in-Some.ensures.passed (c.in-Some.ensures.first.1 T)) p;
       shorter = omega (arith, c.in-Some.ensures.shorter, c.in_ok-group.ensures.shorter, c.groups.invariant.shorter);
       proper = c.in-Some.ensures.proper T c.in_ok-group.ensures.proper;
@@ -55,7 +50,6 @@ groups-preserved c =
 pub returns-then-is_none : goal.returns-then-is_none
 returns-then-is_none c =
     record {
-      words = let k = terminals c.args.text.now c.args.input.now in subst (λ ps. Parameters (map parameter_of ps) k k) (sym c.new-parameters.ensures.items) ([], tt, refl, refl);
       spans = ([], c.new-parameters.ensures.items, refl);
       shorter = omega arith;
       proper = c.requires.proper;
@@ -69,11 +63,8 @@ returns-in_default c =
     let a = c.in_ok-group.after.now in
     let o = c.groups.rest.now in
     let g = c.in_ok-group.group in
-    let w = subst (λ ps. SomeParameters ps (terminals T i) (terminals T a)) (sym c.in_ok-add_parameters.ensures.added)
-    (c.groups.invariant.words g.taking (map name_of g.names.items) (terminals T a) c.in_ok-group.ensures.words.0 c.in_ok-group.ensures.words.1) in
     let s = subst (λ ps. SomeParametersSpan T ps i a) (sym c.in_ok-add_parameters.ensures.items) (c.groups.invariant.spans (group g.taking g.names.items) a c.in_ok-group.ensures.spans) in
     record {
-      words = some_are_parameters _ _ _ w;
       spans = S.some_are_parameters T _ i a s;
       shorter = omega (arith, c.in_ok-group.ensures.shorter, c.groups.invariant.shorter);
       proper = c.in_ok-group.ensures.proper;

@@ -8,12 +8,10 @@ use Rattle.kahn_syntax.specs.Machine.{GroupsPart, GroupPart, TailPart, GroupsTai
 use Rattle.kahn_syntax.specs.Reads.{Moves}
 use Rattle.kahn_syntax.specs.Drawn.{parameter_of}
 use Rattle.kahn_syntax.proofs.Spanning.{SomeParametersSpan}
-use Rattle.kahn_syntax.proofs.Declared.{SomeParameters}
 use Rattle.kahn_syntax.proofs.parser.declaration.read_parameters.Given as goal
 
 abbrev pub invariant-groups : goal.invariant-groups
 invariant-groups l = record {
-  words : (t : Taking) (ns : List (List ℕ)) (ks : List Terminal) → AreNames ns → terminals l.text l.rest ≡ taking_words t (names_words ns ks) → SomeParameters (map parameter_of l.parameters.items ++ map (parameter t) ns) (terminals l.text l.input) ks;
   spans : (g : NamedGroup) (r : List Lexeme) → GroupSpans l.text g l.rest r → SomeParametersSpan l.text (l.parameters.items ++ parameters_of g) l.input r;
   shorter : length l.rest ≤ length l.input;
   proper : AreProper l.text l.rest;

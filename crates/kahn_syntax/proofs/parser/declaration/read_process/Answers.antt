@@ -7,7 +7,6 @@ use Rattle.kahn_syntax.specs.Machine.{EndToken, StatementsTail, VariablesPart, S
 use Rattle.kahn_syntax.specs.Drawn.{name_of, parameter_of, variable_of, statements_of}
 use Rattle.kahn_syntax.proofs.Moves.{no_process, then, then_stops, call_stops, call_two_stops, expected, unexpected, no_name}
 use Rattle.kahn_syntax.proofs.Spanning as S
-use Rattle.kahn_syntax.proofs.Declared.{process_declares}
 use Rattle.kahn_syntax.proofs.Stacks as K
 use Rattle.kahn_syntax.proofs.parser.declaration.read_process.Goals as goal
 
@@ -67,40 +66,36 @@ pub returns : goal.returns
 returns c =
     let T = c.args.text.now in
     let i = c.args.input.now in
-    let k = terminals T in
     let (h0, h1, h2, h3, s0, s1, s2, s3, s4) = c.in_ok-parameters.ensures.spans in
     let m = K.to_process_open T i c.in_ok-rest.rest.now c.in_ok-name.rest.now _ (K.to_process_name T i c.in_ok-rest.rest.now (c.in_ok-rest.ensures.first.1 T)) c.in_ok-name.ensures.words in
     let m2 = K.to_process_variables T i c.in_ok-name.rest.now c.in_ok-parameters.rest.now m c.in_ok-parameters.ensures.reads in
     let m3 = K.to_process_statements T i c.in_ok-parameters.rest.now c.in_ok-variables.rest.now m2 c.in_ok-variables.ensures.reads in
     let m4 = K.to_process_end T i c.in_ok-variables.rest.now c.in_ok-statements.rest.now m3 c.in_ok-statements.ensures.reads in
     record {
-      words = (
-        process_declares (name_of c.in_ok-name.name) (map parameter_of c.in_ok-parameters.parameters.items) (map variable_of c.in_ok-variables.variables.items) (statements_of c.in_ok-statements.statements.items)
-            (k i) (k c.in_ok-rest.rest.now) (k c.in_ok-name.rest.now) (k c.in_ok-parameters.rest.now) (k c.in_ok-variables.rest.now) (k c.in_ok-statements.rest.now) (k c.in_ok-rest-2.rest.now)
-            (c.in_ok-rest.ensures.first.1 T) c.in_ok-name.ensures.words c.in_ok-parameters.ensures.words c.in_ok-variables.ensures.words c.in_ok-statements.ensures.words (c.in_ok-rest-2.ensures.first.1 T) c.in_ok-statements.ensures.some c.in_ok-statements.ensures.formed,
-        omega (arith, c.in_ok-statements.ensures.nesting),
+      spans = (
+        (c.in_ok-statements.ensures.some, c.in_ok-statements.ensures.formed, omega (arith, c.in_ok-statements.ensures.nesting)),
+        record {
+          a = c.in_ok-rest.rest.now;
+          b = c.in_ok-name.rest.now;
+          c = h0;
+          d = h1;
+          e = h2;
+          f = h3;
+          g = c.in_ok-parameters.rest.now;
+          h = c.in_ok-variables.rest.now;
+          i = c.in_ok-statements.rest.now;
+          begins = S.takes T (word keyword.Process) i c.in_ok-rest.rest.now c.in_ok-rest.ensures.passed (c.in_ok-rest.ensures.first.1 T);
+          named = c.in_ok-name.ensures.spans;
+          opened = s0;
+          parameters = s1;
+          closed = s2;
+          parted = s3;
+          begun = s4;
+          variables = c.in_ok-variables.ensures.spans;
+          statements = c.in_ok-statements.ensures.spans;
+          ended = S.takes T (word keyword.End) c.in_ok-statements.rest.now c.in_ok-rest-2.rest.now c.in_ok-rest-2.ensures.passed (c.in_ok-rest-2.ensures.first.1 T);
+        },
       );
-      spans = record {
-        a = c.in_ok-rest.rest.now;
-        b = c.in_ok-name.rest.now;
-        c = h0;
-        d = h1;
-        e = h2;
-        f = h3;
-        g = c.in_ok-parameters.rest.now;
-        h = c.in_ok-variables.rest.now;
-        i = c.in_ok-statements.rest.now;
-        begins = S.takes T (word keyword.Process) i c.in_ok-rest.rest.now c.in_ok-rest.ensures.passed (c.in_ok-rest.ensures.first.1 T);
-        named = c.in_ok-name.ensures.spans;
-        opened = s0;
-        parameters = s1;
-        closed = s2;
-        parted = s3;
-        begun = s4;
-        variables = c.in_ok-variables.ensures.spans;
-        statements = c.in_ok-statements.ensures.spans;
-        ended = S.takes T (word keyword.End) c.in_ok-statements.rest.now c.in_ok-rest-2.rest.now c.in_ok-rest-2.ensures.passed (c.in_ok-rest-2.ensures.first.1 T);
-      };
       shorter = omega (arith, c.in_ok-rest.ensures.shorter, c.in_ok-name.ensures.shorter, c.in_ok-parameters.ensures.shorter, c.in_ok-variables.ensures.shorter, c.in_ok-statements.ensures.shorter, c.in_ok-rest-2.ensures.shorter);
       proper = c.in_ok-rest-2.ensures.proper T c.in_ok-statements.ensures.proper;
       reads = then T 0 K.some_process K.process_end [] i c.in_ok-statements.rest.now c.in_ok-rest-2.rest.now m4 (expected T 0 EndToken [] (class.Word keyword.End) c.in_ok-statements.rest.now c.in_ok-rest-2.rest.now (λ s l. omega (arith, l)) refl c.in_ok-rest-2.ensures.first);

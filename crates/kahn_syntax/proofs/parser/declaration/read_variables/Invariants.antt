@@ -9,7 +9,6 @@ use Rattle.kahn_syntax.proofs.parser.declaration.read_variables.Given as goal
 
 abbrev pub invariant-variables : goal.invariant-variables
 invariant-variables l = record {
-  words : Variables (map variable_of l.variables.items) (terminals l.text l.input) (terminals l.text l.rest);
   spans : VariablesSpan l.text l.variables.items l.input l.rest;
   shorter : length l.rest ≤ length l.input;
   proper : AreProper l.text l.rest;

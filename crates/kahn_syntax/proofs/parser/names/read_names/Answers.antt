@@ -6,7 +6,6 @@ use Rattle.kahn_syntax.specs.Terminals.{name, sign}
 use Rattle.kahn_syntax.specs.Machine.{NameToken, NamesTail, TailPart, names_then}
 use Rattle.kahn_syntax.specs.Drawn.{name_of}
 use Rattle.kahn_syntax.specs.Spans.{NamesSpan}
-use Rattle.kahn_syntax.proofs.Spelled.{names_spelled}
 use Rattle.kahn_syntax.proofs.Spanning as S
 use Rattle.kahn_syntax.proofs.Moves.{then, then_stops, token, goes, ends, no_name}
 use Rattle.kahn_syntax.proofs.parser.names.read_names.Goals as goal
@@ -51,7 +50,6 @@ returns-in_default c =
     let a = c.in_ok-name.after.now in
     let s = subst (λ ns. NamesSpan T ns i a) (sym c.in_ok-push.ensures.items) (c.names.invariant.spans c.in_ok-name.name a c.in_ok-name.ensures.spans) in
     record {
-      words = names_spelled T _ i a s;
       spans = s;
       shorter = omega (arith, c.in_ok-name.ensures.shorter, c.names.invariant.shorter);
       proper = c.in_ok-name.ensures.proper;

@@ -35,7 +35,6 @@ returns-in_default-next_negative c =
 pub returns-in-Some-Number-default : goal.returns-in-Some-Number-default
 returns-in-Some-Number-default c =
     record {
-      words = let u = subst IsUnsigned c.in-Some-Number-default.field-0-0-is (c.in-Some-Number-default.ensures.unsigned c.args.text.now c.requires.proper) in inl (subst (λ z. terminals c.args.text.now c.args.input.now ≡ number z ∷ terminals c.args.text.now c.in-Some-Number-default.rest.now) (sym (to_z-of_z w64 c.in-Some-Number-default.number (number_fits c.in-Some-Number-default.number u.0 u.1 u.2))) ((first_of _ (class.Number c.in-Some-Number-default.number) c.args.input.now c.in-Some-Number-default.rest.now (c.in-Some-Number-default.field-0-0-is) c.in-Some-Number-default.ensures.first.0).1 c.args.text.now));
       spans = let T = c.args.text.now in
           let u = subst IsUnsigned c.in-Some-Number-default.field-0-0-is (c.in-Some-Number-default.ensures.unsigned T c.requires.proper) in (
             c.reach.ensures,
@@ -50,7 +49,6 @@ returns-in-Some-Number-default c =
 pub returns-in-Some-Word-True-default : goal.returns-in-Some-Word-True-default
 returns-in-Some-Word-True-default c =
     record {
-      words = ((first_of _ (class.Word keyword.True) c.args.input.now c.in-Some-Word-True-default.rest.now (c.in-Some-Word-True-default.field-0-0-is ∙ ap class.Word c.in-Some-Word-True-default.field-0-0-0-is) c.in-Some-Word-True-default.ensures.first.0).1 c.args.text.now);
       spans = let T = c.args.text.now in
           (c.reach-in-Some-Word-True-default.ensures, (S.takes T (word keyword.True) c.args.input.now c.in-Some-Word-True-default.rest.now c.in-Some-Word-True-default.ensures.passed ((first_of _ (class.Word keyword.True) c.args.input.now c.in-Some-Word-True-default.rest.now (c.in-Some-Word-True-default.field-0-0-is ∙ ap class.Word c.in-Some-Word-True-default.field-0-0-0-is) c.in-Some-Word-True-default.ensures.first.0).1 T)));
       shorter = omega (arith, c.in-Some-Word-True-default.ensures.first.1);
@@ -61,7 +59,6 @@ returns-in-Some-Word-True-default c =
 pub returns-in-Some-Word-False-default : goal.returns-in-Some-Word-False-default
 returns-in-Some-Word-False-default c =
     record {
-      words = ((first_of _ (class.Word keyword.False) c.args.input.now c.in-Some-Word-False-default.rest.now (c.in-Some-Word-False-default.field-0-0-is ∙ ap class.Word c.in-Some-Word-False-default.field-0-0-0-is) c.in-Some-Word-False-default.ensures.first.0).1 c.args.text.now);
       spans = let T = c.args.text.now in
           (c.reach-in-Some-Word-False-default.ensures, (S.takes T (word keyword.False) c.args.input.now c.in-Some-Word-False-default.rest.now c.in-Some-Word-False-default.ensures.passed ((first_of _ (class.Word keyword.False) c.args.input.now c.in-Some-Word-False-default.rest.now (c.in-Some-Word-False-default.field-0-0-is ∙ ap class.Word c.in-Some-Word-False-default.field-0-0-0-is) c.in-Some-Word-False-default.ensures.first.0).1 T)));
       shorter = omega (arith, c.in-Some-Word-False-default.ensures.first.1);
@@ -72,7 +69,6 @@ returns-in-Some-Word-False-default c =
 pub returns-in-Some : goal.returns-in-Some
 returns-in-Some c =
     record {
-      words = inr (c.in-Some.ensures.number.0, search rules, ((first_of _ (class.Sign mark.Minus) c.args.input.now c.in-Some-Sign-Minus-default.rest.now (c.in-Some-Sign-Minus-default.field-0-0-is ∙ ap class.Sign c.in-Some-Sign-Minus-default.field-0-0-0-is) c.in-Some-Sign-Minus-default.ensures.first.0).1 c.args.text.now) ∙ ap (λ x. sign mark.Minus ∷ x) (c.in-Some.ensures.number.2 c.args.text.now));
       spans = let T = c.args.text.now in (
         c.reach-in-Some-Sign-Minus-default.ensures,
         inr (
@@ -91,7 +87,6 @@ returns-in-Some c =
 pub returns-in_ok-name-in-Some-Name-default : goal.returns-in_ok-name-in-Some-Name-default
 returns-in_ok-name-in-Some-Name-default c =
     record {
-      words = c.in_ok-name-in-Some-Name-default.ensures.words;
       spans = c.in_ok-name-in-Some-Name-default.ensures.spans;
       shorter = omega (arith, c.in_ok-name-in-Some-Name-default.ensures.shorter);
       proper = c.in_ok-name-in-Some-Name-default.ensures.proper;

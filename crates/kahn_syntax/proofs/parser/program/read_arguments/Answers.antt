@@ -8,7 +8,6 @@ use Rattle.kahn_syntax.specs.Programs.{Arguments}
 use Rattle.kahn_syntax.specs.Drawn.{argument_of}
 use Rattle.kahn_syntax.specs.Spans.{ArgumentsSpan}
 use Rattle.kahn_syntax.proofs.Moves.{opens_arguments, then, then_stops, call, call_stops, one, expected, goes, ends, unexpected}
-use Rattle.kahn_syntax.proofs.Instanced.{SomeArguments, arguments_next, arguments_end}
 use Rattle.kahn_syntax.proofs.Spanning as S
 use Rattle.kahn_syntax.proofs.Spanning.{SomeArgumentsSpan}
 use Rattle.kahn_syntax.proofs.parser.program.read_arguments.Goals as goal
@@ -23,7 +22,6 @@ pub arguments-init : goal.arguments-init
 arguments-init c =
     let e = c.new-arguments.ensures.items in
     record {
-      words = λ n ks p. subst (λ us. SomeArguments (map argument_of (us ++ n ∷ [])) (terminals c.args.text.now c.args.input.now) ks) (sym e) (ks, p, refl);
       spans = λ n r p. subst (λ us. SomeArgumentsSpan c.args.text.now (us ++ n ∷ []) c.args.input.now r) (sym e) (r, p, refl);
       shorter = omega arith;
       proper = c.requires.proper;
@@ -39,8 +37,6 @@ arguments-preserved c =
     let j = c.in-Some-past.further.now in
     let e = c.in_ok-push.ensures.items in
     record {
-      words = λ n ks p. arguments_next _ _ n _ _ _ _ refl (subst (λ us. SomeArguments (map argument_of us) (terminals T i) (terminals T a)) (sym e) (c.arguments.invariant.words c.in_ok-argument.argument (terminals T a) c.in_ok-argument.ensures.words))
-          (c.in-Some-past.ensures.first.1 T) p;
       spans = λ n r p. S.arguments_next T _ _ n i a j r refl (subst (λ us. SomeArgumentsSpan T us i a) (sym e) (c.arguments.invariant.spans c.in_ok-argument.argument a c.in_ok-argument.ensures.spans))
           (S.takes T (sign mark.Comma) a j c.in-Some-past.ensures.passed (c.in-Some-past.ensures.first.1 T)) p;
       shorter = omega (arith, c.in-Some-past.ensures.shorter, c.in_ok-argument.ensures.shorter, c.arguments.invariant.shorter);
@@ -65,7 +61,6 @@ returns-in_err-left c =
 pub returns-in-Some : goal.returns-in-Some
 returns-in-Some c =
     record {
-      words = subst (λ us. Arguments (map argument_of us) (terminals c.args.text.now c.args.input.now) (sign mark.Close ∷ terminals c.args.text.now c.in-Some.rest.now)) (sym c.new-arguments.ensures.items) (c.in-Some.ensures.first.1 c.args.text.now);
       spans = let T = c.args.text.now in
           (c.args.input.now, subst (λ us. ArgumentsSpan T us c.args.input.now c.args.input.now) (sym c.new-arguments.ensures.items) refl, (S.takes T (sign mark.Close) c.args.input.now c.in-Some.rest.now c.in-Some.ensures.passed (c.in-Some.ensures.first.1 T)));
       shorter = omega (arith, c.in-Some.ensures.shorter);
@@ -84,7 +79,6 @@ returns-in_default-past c =
     let m = then T 0 (ArgumentPart ∷ TailPart ArgumentsTail ∷ TokenPart CloseToken ∷ []) (TailPart ArgumentsTail ∷ TokenPart CloseToken ∷ []) (TokenPart CloseToken ∷ []) o a a (call T 0 0 ArgumentPart (TailPart ArgumentsTail ∷ TokenPart CloseToken ∷ []) o a (λ s k. omega (arith, k)) c.in_ok-argument.ensures.reads)
     (ends T 0 ArgumentsTail (TokenPart CloseToken ∷ []) (class.Sign mark.Comma) a refl c.in_default-past.ensures.absent) in
     record {
-      words = arguments_end _ _ _ _ (subst (λ us. SomeArguments (map argument_of us) (terminals T i) (terminals T a)) (sym e) (c.arguments.invariant.words c.in_ok-argument.argument (terminals T a) c.in_ok-argument.ensures.words)) (c.in_ok-left.ensures.first.1 T);
       spans = (a, S.some_are_arguments T _ i a (subst (λ us. SomeArgumentsSpan T us i a) (sym e) (c.arguments.invariant.spans c.in_ok-argument.argument a c.in_ok-argument.ensures.spans)), S.takes T (sign mark.Close) a l c.in_ok-left.ensures.passed (c.in_ok-left.ensures.first.1 T));
       shorter = omega (arith, c.in_ok-argument.ensures.shorter, c.arguments.invariant.shorter, c.in_ok-left.ensures.shorter);
       proper = c.in_ok-left.ensures.proper T c.in_ok-argument.ensures.proper;

@@ -8,12 +8,10 @@ use Rattle.kahn_syntax.specs.Machine.{ArgumentsPart, ArgumentPart, TailPart, Tok
 use Rattle.kahn_syntax.specs.Reads.{Moves}
 use Rattle.kahn_syntax.specs.Drawn.{argument_of}
 use Rattle.kahn_syntax.proofs.Spanning.{SomeArgumentsSpan}
-use Rattle.kahn_syntax.proofs.Instanced.{SomeArguments}
 use Rattle.kahn_syntax.proofs.parser.program.read_arguments.Given as goal
 
 abbrev pub invariant-arguments : goal.invariant-arguments
 invariant-arguments l = record {
-  words : (n : Argument) (ks : List Terminal) → Argues (argument_of n) (terminals l.text l.rest) ks → SomeArguments (map argument_of (l.arguments.items ++ n ∷ [])) (terminals l.text l.input) ks;
   spans : (n : Argument) (r : List Lexeme) → ArgumentSpans l.text n l.rest r → SomeArgumentsSpan l.text (l.arguments.items ++ n ∷ []) l.input r;
   shorter : length l.rest ≤ length l.input;
   proper : AreProper l.text l.rest;

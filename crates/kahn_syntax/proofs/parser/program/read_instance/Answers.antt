@@ -29,7 +29,6 @@ returns-in_err-arguments c =
 pub returns : goal.returns
 returns c =
     record {
-      words = (terminals c.args.text.now c.in_ok-rest.rest.now, c.in_ok-process.ensures.words ∙ ap (λ x. name (name_of c.in_ok-process.process) ∷ x) (c.in_ok-rest.ensures.first.1 c.args.text.now), c.in_ok-arguments.ensures.words);
       spans = let T = c.args.text.now in (
         c.in_ok-process.rest.now,
         c.in_ok-rest.rest.now,

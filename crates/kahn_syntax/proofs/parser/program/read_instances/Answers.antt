@@ -8,7 +8,6 @@ use Rattle.kahn_syntax.specs.Programs.{Instances}
 use Rattle.kahn_syntax.specs.Drawn.{instance_of}
 use Rattle.kahn_syntax.specs.Spans.{InstancesSpan}
 use Rattle.kahn_syntax.proofs.Moves.{then, then_stops, call, call_stops, goes, ends}
-use Rattle.kahn_syntax.proofs.Instanced.{instances_next}
 use Rattle.kahn_syntax.proofs.Spanning as S
 use Rattle.kahn_syntax.proofs.parser.program.read_instances.Goals as goal
 
@@ -22,7 +21,6 @@ pub instances-init : goal.instances-init
 instances-init c =
     let e = c.new-instances.ensures.items in
     record {
-      words = λ n ks p. subst (λ is. Instances (map instance_of (is ++ n ∷ [])) (terminals c.args.text.now c.args.input.now) ks) (sym e) (ks, p, refl);
       spans = λ n r p. subst (λ is. InstancesSpan c.args.text.now (is ++ n ∷ []) c.args.input.now r) (sym e) (r, p, refl);
       shorter = omega arith;
       proper = c.requires.proper;
@@ -37,8 +35,6 @@ instances-preserved c =
     let j = c.in-Some.further.now in
     let e = c.in_ok-push.ensures.items in
     record {
-      words = λ n ks p. instances_next _ _ n _ _ _ _ refl (subst (λ is. Instances (map instance_of is) (terminals T i) (terminals T a)) (sym e) (c.instances.invariant.words c.in_ok-instance.instance (terminals T a) c.in_ok-instance.ensures.words))
-          (c.in-Some.ensures.first.1 T) p;
       spans = λ n r p. S.instances_next T _ _ n i a j r refl (subst (λ is. InstancesSpan T is i a) (sym e) (c.instances.invariant.spans c.in_ok-instance.instance a c.in_ok-instance.ensures.spans))
           (S.takes T (word keyword.Par) a j c.in-Some.ensures.passed (c.in-Some.ensures.first.1 T)) p;
       shorter = omega (arith, c.in-Some.ensures.shorter, c.in_ok-instance.ensures.shorter, c.instances.invariant.shorter);
@@ -56,7 +52,6 @@ returns-in_default c =
     let a = c.in_ok-instance.after.now in
     let e = c.in_ok-push.ensures.items in
     record {
-      words = subst (λ is. Instances (map instance_of is) (terminals T i) (terminals T a)) (sym e) (c.instances.invariant.words c.in_ok-instance.instance (terminals T a) c.in_ok-instance.ensures.words);
       spans = subst (λ is. InstancesSpan T is i a) (sym e) (c.instances.invariant.spans c.in_ok-instance.instance a c.in_ok-instance.ensures.spans);
       shorter = omega (arith, c.in_ok-instance.ensures.shorter, c.instances.invariant.shorter);
       proper = c.in_ok-instance.ensures.proper;

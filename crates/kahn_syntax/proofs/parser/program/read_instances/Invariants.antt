@@ -11,7 +11,6 @@ use Rattle.kahn_syntax.proofs.parser.program.read_instances.Given as goal
 
 abbrev pub invariant-instances : goal.invariant-instances
 invariant-instances l = record {
-  words : (n : Instance) (ks : List Terminal) → Instantiates (instance_of n) (terminals l.text l.rest) ks → Instances (map instance_of (l.instances.items ++ n ∷ [])) (terminals l.text l.input) ks;
   spans : (n : Instance) (r : List Lexeme) → InstanceSpans l.text n l.rest r → InstancesSpan l.text (l.instances.items ++ n ∷ []) l.input r;
   shorter : length l.rest ≤ length l.input;
   proper : AreProper l.text l.rest;
