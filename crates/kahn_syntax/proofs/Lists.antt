@@ -1,16 +1,13 @@
 -- Lists that are read one member after another.
-use Rattle.std.proofs.Common.{◌≡◌, ℕ, ◌+◌, ◌-◌, ◌≤◌, List, [], ◌∷◌, ◌++◌, length, get_or, take, drop, map, refl, sym, ap, ◌∙◌, arith, ◌<◌, length-drop, subst}
+use Rattle.std.proofs.Common.{◌≡◌, ℕ, ◌+◌, ◌-◌, ◌≤◌, List, [], ◌∷◌, length, get_or, take, drop, sym, ap, ◌∙◌, arith, ◌<◌, length-drop, subst}
 use Rattle.std.proofs.lemmas.List.{take_all, drop_more}
-use Rattle.kahn_syntax.specs.declared.lexeme.Sign.TheVariants as mark
 use Rattle.kahn_syntax.specs.declared.lexeme.Class.{Class}
 use Rattle.kahn_syntax.specs.declared.lexeme.Class.TheVariants as class
 use Rattle.kahn_tree.specs.declared.span.Span.{Span}
 use Rattle.kahn_syntax.specs.declared.lexeme.Lexeme.{Lexeme}
 use Rattle.kahn_tree.specs.declared.tree.Name.{Name}
-use Rattle.kahn_syntax.specs.Terminals.{Terminal, sign, name, terminals, First, IsUnsigned, IsProper, AreProper}
-use Rattle.kahn_syntax.specs.Drawn.{name_of}
+use Rattle.kahn_syntax.specs.Terminals.{terminals, First, IsUnsigned, IsProper, AreProper}
 use Rattle.kahn_syntax.specs.Spans.{IsPast}
-use Rattle.kahn_syntax.specs.Programs.{names_words, further_names_words, AreNames}
 
 pub first_of : (c d : Class) (xs rest : List Lexeme) → c ≡ d → First c xs rest → First d xs rest
 first_of c d xs rest e f = subst (λ k. First k xs rest) e f

@@ -22,7 +22,7 @@ use Rattle.kahn_tree.specs.declared.tree.Program.{Program}
 use Rattle.kahn_syntax.specs.Programs.{AreNames, names_words, further_names_words, parameter, variable, channels, process, DeclarationTree, kind_terminal, role_words, taking_words, GroupTree, group, TogetherTree, together, group_words, further_groups_words, groups_words, groups_parameters, IsGroup, AreGroups, Parameters, togethers_words, togethers_variables, AreTogether, Variables, Declares, Declarations, Argues, FurtherArguments, Arguments, Instantiates, FurtherInstances, Instances, MaybeSemicolon, Spells, declarations_nesting}
 use Rattle.kahn_syntax.specs.Reads.{IsSound, AreSound}
 use Rattle.kahn_syntax.specs.Spans as named
-use Rattle.kahn_syntax.specs.Spans.{NamedGroup, NamedTogether, RoleSpans, DirectionSpans, kind_of, GroupSpans, FurtherGroupsSpan, GroupsSpan, all_parameters, ParametersSpan, TogethersSpan, all_variables, VariablesSpan, DeclarationSpans, DeclarationsSpan, ArgumentSpans, FurtherArgumentsSpan, ArgumentsSpan, InstanceSpans, FurtherInstancesSpan, InstancesSpan, MayPart, ProgramSpans}
+use Rattle.kahn_syntax.specs.Spans.{NamedGroup, NamedTogether, RoleSpans, DirectionSpans, kind_of, GroupSpans, FurtherGroupsSpan, GroupsSpan, all_parameters, ParametersSpan, TogethersSpan, all_variables, VariablesSpan, DeclarationSpans, DeclarationsSpan, ArgumentSpans, FurtherArgumentsSpan, ArgumentsSpan, InstanceSpans, FurtherInstancesSpan, InstancesSpan, MayPart, ProgramSpans, Takes, NamesSpan, FurtherNamesSpan, FormSpans, OperandRowSpans, ActionSpans, OtherSpans, StatementRowSpans, FurtherRowSpans, FurtherStatementsSpan, StatementsSpan}
 use Rattle.kahn_syntax.specs.declared.lexeme.Keyword.TheVariants as keyword
 use Rattle.kahn_syntax.specs.declared.lexeme.Sign.TheVariants as mark
 use Rattle.kahn_syntax.specs.declared.lexeme.Lexeme.{Lexeme}
@@ -30,7 +30,6 @@ use Rattle.kahn_syntax.specs.Terminals as terminal
 use Rattle.kahn_syntax.specs.Terminals.{Terminal, terminals, word, sign, name}
 use Rattle.kahn_syntax.specs.Trees.{StatementTree, truth_terminal, operator_terminal, expression_words, operands_words, statement_words, statements_words, further_words}
 use Rattle.kahn_syntax.specs.Drawn.{name_of, form_of, operands_row, expression_of, action_of, statements_row, chosen_of, statement_of, statements_of, parameter_of, variable_of, declaration_of, argument_of, instance_of, program_of}
-use Rattle.kahn_syntax.specs.Spans.{Takes, NamesSpan, FurtherNamesSpan, FormSpans, OperandRowSpans, ActionSpans, OtherSpans, StatementRowSpans, FurtherRowSpans, FurtherStatementsSpan, StatementsSpan}
 
 -- one terminal, and what follows it
 pub taken : (text : List ℕ) (k : Terminal) (xs a : List Lexeme) (r : List Terminal) → Takes text k xs a → terminals text a ≡ r → terminals text xs ≡ k ∷ r

@@ -1,6 +1,4 @@
-use Rattle.std.proofs.Common.{◌≡◌, ◌++◌, map}
-use Rattle.kahn_syntax.specs.Programs.{parameter}
-use Rattle.kahn_syntax.specs.Drawn.{name_of, parameter_of}
+use Rattle.std.proofs.Common.{◌≡◌, ◌++◌}
 use Rattle.kahn_syntax.specs.Spans.{parameters_of, group}
 use Rattle.kahn_syntax.proofs.parser.declaration.add_parameters.Given as goal
 

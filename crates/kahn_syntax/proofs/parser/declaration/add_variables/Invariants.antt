@@ -1,6 +1,4 @@
-use Rattle.std.proofs.Common.{◌≡◌, ◌++◌, map}
-use Rattle.kahn_syntax.specs.Programs.{variable}
-use Rattle.kahn_syntax.specs.Drawn.{name_of, variable_of}
+use Rattle.std.proofs.Common.{◌≡◌, ◌++◌}
 use Rattle.kahn_syntax.specs.Spans.{variables_of, together}
 use Rattle.kahn_syntax.proofs.parser.declaration.add_variables.Given as goal
 

@@ -7,8 +7,6 @@ use Rattle.kahn_syntax.specs.Machine.{ChannelToken, NameToken, NamesTail, Declar
 use Rattle.kahn_syntax.proofs.Moves.{kind_moves, opens_process, then, then_stops, call, call_stops, call_two, call_two_stops, expected, unexpected}
 use Rattle.kahn_syntax.proofs.Spanning as S
 use Rattle.kahn_syntax.specs.Programs.{kind_terminal}
-use Rattle.std.proofs.Common.{◌∙◌, ap}
-use Rattle.kahn_syntax.specs.Programs.{role_words}
 use Rattle.kahn_syntax.proofs.parser.declaration.read_declaration.Goals as goal
 
 pub returns-in_err-rest-in-Some : goal.returns-in_err-rest-in-Some

@@ -4,8 +4,6 @@ use Rattle.kahn_syntax.specs.Machine.{NameToken, NamesTail, GroupPart, TakingPar
 use Rattle.kahn_syntax.proofs.Moves.{kind_moves, no_group, then, then_stops, call, call_two, call_two_stops}
 use Rattle.kahn_syntax.proofs.Spanning as S
 use Rattle.kahn_syntax.specs.Programs.{kind_terminal}
-use Rattle.std.proofs.Common.{◌∙◌, ap}
-use Rattle.kahn_syntax.specs.Programs.{taking_words}
 use Rattle.kahn_syntax.proofs.parser.declaration.read_group.Goals as goal
 
 pub returns-in_default : goal.returns-in_default

@@ -1,12 +1,9 @@
-use Rattle.std.proofs.Common.{◌≡◌, ◌≤◌, ℕ, List, [], ◌∷◌, ◌++◌, length, map}
-use Rattle.kahn_tree.specs.declared.tree.Taking.{Taking}
+use Rattle.std.proofs.Common.{◌≤◌, List, [], ◌∷◌, ◌++◌, length}
 use Rattle.kahn_syntax.specs.declared.lexeme.Lexeme.{Lexeme}
-use Rattle.kahn_syntax.specs.Programs.{AreNames, names_words, taking_words, parameter}
 use Rattle.kahn_syntax.specs.Spans.{NamedGroup, GroupSpans, parameters_of}
-use Rattle.kahn_syntax.specs.Terminals.{Terminal, terminals, AreProper}
+use Rattle.kahn_syntax.specs.Terminals.{AreProper}
 use Rattle.kahn_syntax.specs.Machine.{GroupsPart, GroupPart, TailPart, GroupsTail}
 use Rattle.kahn_syntax.specs.Reads.{Moves}
-use Rattle.kahn_syntax.specs.Drawn.{parameter_of}
 use Rattle.kahn_syntax.proofs.Spanning.{SomeParametersSpan}
 use Rattle.kahn_syntax.proofs.parser.declaration.read_parameters.Given as goal
 

@@ -1,12 +1,10 @@
-use Rattle.std.proofs.Common.{◌≤◌, List, [], ◌∷◌, ◌++◌, length, map}
+use Rattle.std.proofs.Common.{◌≤◌, List, [], ◌∷◌, ◌++◌, length}
 use Rattle.kahn_tree.specs.declared.tree.Argument.{Argument}
 use Rattle.kahn_syntax.specs.declared.lexeme.Lexeme.{Lexeme}
-use Rattle.kahn_syntax.specs.Programs.{Argues}
 use Rattle.kahn_syntax.specs.Spans.{ArgumentSpans}
-use Rattle.kahn_syntax.specs.Terminals.{Terminal, terminals, AreProper}
+use Rattle.kahn_syntax.specs.Terminals.{AreProper}
 use Rattle.kahn_syntax.specs.Machine.{ArgumentsPart, ArgumentPart, TailPart, TokenPart, CloseToken, ArgumentsTail}
 use Rattle.kahn_syntax.specs.Reads.{Moves}
-use Rattle.kahn_syntax.specs.Drawn.{argument_of}
 use Rattle.kahn_syntax.proofs.Spanning.{SomeArgumentsSpan}
 use Rattle.kahn_syntax.proofs.parser.program.read_arguments.Given as goal
 

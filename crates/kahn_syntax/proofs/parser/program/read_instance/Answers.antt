@@ -7,8 +7,6 @@ use Rattle.kahn_syntax.specs.Machine.{OpenToken, InstancePart, ArgumentsPart, To
 use Rattle.kahn_syntax.specs.Drawn.{name_of}
 use Rattle.kahn_syntax.proofs.Moves.{no_instance, then, then_stops, call, call_stops, one, expected, unexpected}
 use Rattle.kahn_syntax.proofs.Spanning as S
-use Rattle.std.proofs.Common.{◌∙◌, ap}
-use Rattle.kahn_syntax.specs.Terminals.{terminals}
 use Rattle.kahn_syntax.proofs.parser.program.read_instance.Goals as goal
 
 pub returns-in_err-process : goal.returns-in_err-process

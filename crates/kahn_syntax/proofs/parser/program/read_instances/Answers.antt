@@ -1,11 +1,9 @@
-use Rattle.std.proofs.Common.{refl, [], ◌∷◌, ◌++◌, map, arith, sym, subst}
+use Rattle.std.proofs.Common.{refl, [], ◌∷◌, ◌++◌, arith, sym, subst}
 use Rattle.std.proofs.lemmas.Result.{err_from_is_err_and}
 use Rattle.kahn_syntax.specs.declared.lexeme.Keyword.TheVariants as keyword
 use Rattle.kahn_syntax.specs.declared.lexeme.Class.TheVariants as class
-use Rattle.kahn_syntax.specs.Terminals.{word, terminals}
+use Rattle.kahn_syntax.specs.Terminals.{word}
 use Rattle.kahn_syntax.specs.Machine.{InstancesTail, InstancePart, TailPart}
-use Rattle.kahn_syntax.specs.Programs.{Instances}
-use Rattle.kahn_syntax.specs.Drawn.{instance_of}
 use Rattle.kahn_syntax.specs.Spans.{InstancesSpan}
 use Rattle.kahn_syntax.proofs.Moves.{then, then_stops, call, call_stops, goes, ends}
 use Rattle.kahn_syntax.proofs.Spanning as S
