@@ -282,9 +282,6 @@ sound_nesting [] s = omega arith
 sound_nesting (channels k o ns ∷ ds) s = omega (arith, sound_nesting ds s.1)
 sound_nesting (process n ps vs body ∷ ds) s = omega (arith, s.0.2, sound_nesting ds s.1)
 
-sound_more : (ds : List Declaration) (d : Declaration) → AreSound (map declaration_of ds) → IsSound (declaration_of d) → AreSound (map declaration_of (ds ++ d ∷ []))
+pub sound_more : (ds : List Declaration) (d : Declaration) → AreSound (map declaration_of ds) → IsSound (declaration_of d) → AreSound (map declaration_of (ds ++ d ∷ []))
 sound_more [] d s t = (t, tt)
 sound_more (e ∷ ds) d s t = (s.0, sound_more ds d s.1 t)
-
-pub sound_next : (ds es : List Declaration) (d : Declaration) → es ≡ ds ++ d ∷ [] → AreSound (map declaration_of ds) → IsSound (declaration_of d) → AreSound (map declaration_of es)
-sound_next ds es d e s t = subst (λ x. AreSound (map declaration_of x)) (sym e) (sound_more ds d s t)

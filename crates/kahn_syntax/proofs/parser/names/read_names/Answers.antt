@@ -33,7 +33,7 @@ names-preserved c =
     let a = c.in_ok-name.after.now in
     let j = c.in-Some.further.now in
     record {
-      spans = λ n r p. S.names_next T _ _ n i a j r refl (subst (λ ns. NamesSpan T ns i a) (sym c.in_ok-push.ensures.items) (c.names.invariant.spans c.in_ok-name.name a c.in_ok-name.ensures.spans))
+      spans = λ n r p. S.names_more T _ n i a j r (subst (λ ns. NamesSpan T ns i a) (sym c.in_ok-push.ensures.items) (c.names.invariant.spans c.in_ok-name.name a c.in_ok-name.ensures.spans))
           (S.takes T (sign mark.Comma) a j c.in-Some.ensures.passed (c.in-Some.ensures.first.1 T)) p;
       shorter = omega (arith, c.in-Some.ensures.shorter, c.in_ok-name.ensures.shorter, c.names.invariant.shorter);
       proper = c.in-Some.ensures.proper T c.in_ok-name.ensures.proper;

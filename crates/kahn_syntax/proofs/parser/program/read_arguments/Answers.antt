@@ -35,7 +35,7 @@ arguments-preserved c =
     let j = c.in-Some-past.further.now in
     let e = c.in_ok-push.ensures.items in
     record {
-      spans = λ n r p. S.arguments_next T _ _ n i a j r refl (subst (λ us. SomeArgumentsSpan T us i a) (sym e) (c.arguments.invariant.spans c.in_ok-argument.argument a c.in_ok-argument.ensures.spans))
+      spans = λ n r p. S.arguments_more T _ n i a j r (subst (λ us. SomeArgumentsSpan T us i a) (sym e) (c.arguments.invariant.spans c.in_ok-argument.argument a c.in_ok-argument.ensures.spans))
           (S.takes T (sign mark.Comma) a j c.in-Some-past.ensures.passed (c.in-Some-past.ensures.first.1 T)) p;
       shorter = omega (arith, c.in-Some-past.ensures.shorter, c.in_ok-argument.ensures.shorter, c.arguments.invariant.shorter);
       proper = c.in-Some-past.ensures.proper T c.in_ok-argument.ensures.proper;

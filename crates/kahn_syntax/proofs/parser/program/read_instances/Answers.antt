@@ -33,7 +33,7 @@ instances-preserved c =
     let j = c.in-Some.further.now in
     let e = c.in_ok-push.ensures.items in
     record {
-      spans = λ n r p. S.instances_next T _ _ n i a j r refl (subst (λ is. InstancesSpan T is i a) (sym e) (c.instances.invariant.spans c.in_ok-instance.instance a c.in_ok-instance.ensures.spans))
+      spans = λ n r p. S.instances_more T _ n i a j r (subst (λ is. InstancesSpan T is i a) (sym e) (c.instances.invariant.spans c.in_ok-instance.instance a c.in_ok-instance.ensures.spans))
           (S.takes T (word keyword.Par) a j c.in-Some.ensures.passed (c.in-Some.ensures.first.1 T)) p;
       shorter = omega (arith, c.in-Some.ensures.shorter, c.in_ok-instance.ensures.shorter, c.instances.invariant.shorter);
       proper = c.in-Some.ensures.proper T c.in_ok-instance.ensures.proper;

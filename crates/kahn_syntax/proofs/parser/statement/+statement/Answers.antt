@@ -319,7 +319,7 @@ read_statements-statements-preserved t c =
     let a = c.in_ok-statement.after.now in
     let j = c.in-Some.further.now in
     record {
-      spans = λ s r p. S.statements_next T _ _ s i a j r refl (subst (λ ss. SomeStatements T ss i a) (sym c.in_ok-push.ensures.items) (c.statements.invariant.spans c.in_ok-statement.statement a c.in_ok-statement.ensures.spans))
+      spans = λ s r p. S.statements_more T _ s i a j r (subst (λ ss. SomeStatements T ss i a) (sym c.in_ok-push.ensures.items) (c.statements.invariant.spans c.in_ok-statement.statement a c.in_ok-statement.ensures.spans))
           (S.takes T (sign mark.Semicolon) a j c.in-Some.ensures.passed (c.in-Some.ensures.first.1 T)) p;
       formed = formed_next _ _ _ c.in_ok-push.ensures.items c.statements.invariant.formed c.in_ok-statement.ensures.formed;
       nesting = nesting_next _ _ _ _ c.in_ok-push.ensures.items c.statements.invariant.nesting c.in_ok-statement.ensures.nesting;
