@@ -14,8 +14,7 @@ use Rattle.kahn_syntax.proofs.parser.declaration.read_head.Goals as goal
 pub returns-in_err-rest : goal.returns-in_err-rest
 returns-in_err-rest c =
     let p = err_from_is_err_and c.from_residual.result c.from_residual.ensures.1 in
-    let T = c.args.text.now in
-    let i = c.args.input.now in
+    let T = c.args.text.now in let i = c.args.input.now in
     rw (p.1, p.2) (unexpected T 0 OpenToken K.head_groups (class.Sign mark.Open) i _ refl c.in_err-rest.ensures.stop)
 
 pub read_parameters-requires : goal.read_parameters-requires
@@ -24,16 +23,14 @@ read_parameters-requires c = record { proper = c.in_ok-rest.ensures.proper c.arg
 pub returns-in_err-parameters : goal.returns-in_err-parameters
 returns-in_err-parameters c =
     let p = err_from_is_err_and c.from_residual-in_err-parameters.result c.from_residual-in_err-parameters.ensures.1 in
-    let T = c.args.text.now in
-    let i = c.args.input.now in
+    let T = c.args.text.now in let i = c.args.input.now in
     let m1 = K.to_head_groups T i c.in_ok-rest.rest.now c.in_ok-rest.ensures.first in
     rw (p.1, p.2) (then_stops T 0 head_parts K.head_groups i c.in_ok-rest.rest.now _ m1 (call_stops T 0 0 GroupsPart K.head_close c.in_ok-rest.rest.now _ (λ s l. l) c.in_err-parameters.ensures))
 
 pub returns-in_err-rest-2 : goal.returns-in_err-rest-2
 returns-in_err-rest-2 c =
     let p = err_from_is_err_and c.from_residual-in_err-rest-2.result c.from_residual-in_err-rest-2.ensures.1 in
-    let T = c.args.text.now in
-    let i = c.args.input.now in
+    let T = c.args.text.now in let i = c.args.input.now in
     let m1 = K.to_head_groups T i c.in_ok-rest.rest.now c.in_ok-rest.ensures.first in
     let m2 = K.to_head_close T i c.in_ok-rest.rest.now c.in_ok-parameters.rest.now m1 c.in_ok-parameters.ensures.reads in
     rw (p.1, p.2) (then_stops T 0 head_parts K.head_close i c.in_ok-parameters.rest.now _ m2 (unexpected T 0 CloseToken K.head_semicolon (class.Sign mark.Close) c.in_ok-parameters.rest.now _ refl c.in_err-rest-2.ensures.stop))
@@ -41,8 +38,7 @@ returns-in_err-rest-2 c =
 pub returns-in_err-rest-3 : goal.returns-in_err-rest-3
 returns-in_err-rest-3 c =
     let p = err_from_is_err_and c.from_residual-in_err-rest-3.result c.from_residual-in_err-rest-3.ensures.1 in
-    let T = c.args.text.now in
-    let i = c.args.input.now in
+    let T = c.args.text.now in let i = c.args.input.now in
     let m1 = K.to_head_groups T i c.in_ok-rest.rest.now c.in_ok-rest.ensures.first in
     let m2 = K.to_head_close T i c.in_ok-rest.rest.now c.in_ok-parameters.rest.now m1 c.in_ok-parameters.ensures.reads in
     let m3 = K.to_head_semicolon T i c.in_ok-parameters.rest.now c.in_ok-rest-2.rest.now m2 c.in_ok-rest-2.ensures.first in
@@ -51,8 +47,7 @@ returns-in_err-rest-3 c =
 pub returns-in_err-rest-4 : goal.returns-in_err-rest-4
 returns-in_err-rest-4 c =
     let p = err_from_is_err_and c.from_residual-in_err-rest-4.result c.from_residual-in_err-rest-4.ensures.1 in
-    let T = c.args.text.now in
-    let i = c.args.input.now in
+    let T = c.args.text.now in let i = c.args.input.now in
     let m1 = K.to_head_groups T i c.in_ok-rest.rest.now c.in_ok-rest.ensures.first in
     let m2 = K.to_head_close T i c.in_ok-rest.rest.now c.in_ok-parameters.rest.now m1 c.in_ok-parameters.ensures.reads in
     let m3 = K.to_head_semicolon T i c.in_ok-parameters.rest.now c.in_ok-rest-2.rest.now m2 c.in_ok-rest-2.ensures.first in
@@ -61,8 +56,7 @@ returns-in_err-rest-4 c =
 
 pub returns : goal.returns
 returns c =
-    let T = c.args.text.now in
-    let i = c.args.input.now in
+    let T = c.args.text.now in let i = c.args.input.now in
     let m1 = K.to_head_groups T i c.in_ok-rest.rest.now c.in_ok-rest.ensures.first in
     let m2 = K.to_head_close T i c.in_ok-rest.rest.now c.in_ok-parameters.rest.now m1 c.in_ok-parameters.ensures.reads in
     let m3 = K.to_head_semicolon T i c.in_ok-parameters.rest.now c.in_ok-rest-2.rest.now m2 c.in_ok-rest-2.ensures.first in

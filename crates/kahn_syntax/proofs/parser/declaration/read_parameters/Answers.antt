@@ -29,8 +29,7 @@ groups-init c =
 
 pub groups-preserved : goal.groups-preserved
 groups-preserved c =
-    let T = c.args.text.now in
-    let i = c.args.input.now in
+    let T = c.args.text.now in let i = c.args.input.now in
     let a = c.in_ok-group.after.now in
     let o = c.groups.rest.now in
     let g = c.in_ok-group.group in
@@ -56,8 +55,7 @@ returns-then-is_none c =
 
 pub returns-in_default : goal.returns-in_default
 returns-in_default c =
-    let T = c.args.text.now in
-    let i = c.args.input.now in
+    let T = c.args.text.now in let i = c.args.input.now in
     let a = c.in_ok-group.after.now in
     let o = c.groups.rest.now in
     let g = c.in_ok-group.group in

@@ -19,23 +19,20 @@ read_name-requires c = record { proper = c.in_ok-rest.ensures.proper c.args.text
 pub returns-in_err-name : goal.returns-in_err-name
 returns-in_err-name c =
     let p = err_from_is_err_and c.from_residual-in_err-name.result c.from_residual-in_err-name.ensures.1 in
-    let T = c.args.text.now in
-    let i = c.args.input.now in
+    let T = c.args.text.now in let i = c.args.input.now in
     rw (p.1, p.2) (then_stops T 0 K.some_process K.process_name i c.in_ok-rest.rest.now _ (K.to_process_name T i c.in_ok-rest.rest.now (c.in_ok-rest.ensures.first.1 T)) (no_name T 0 K.process_open c.in_ok-rest.rest.now _ c.in_err-name.ensures.stop))
 
 pub returns-in_err-parameters : goal.returns-in_err-parameters
 returns-in_err-parameters c =
     let p = err_from_is_err_and c.from_residual-in_err-parameters.result c.from_residual-in_err-parameters.ensures.1 in
-    let T = c.args.text.now in
-    let i = c.args.input.now in
+    let T = c.args.text.now in let i = c.args.input.now in
     let m = K.to_process_open T i c.in_ok-rest.rest.now c.in_ok-name.rest.now _ (K.to_process_name T i c.in_ok-rest.rest.now (c.in_ok-rest.ensures.first.1 T)) c.in_ok-name.ensures.words in
     rw (p.1, p.2) (then_stops T 0 K.some_process K.process_open i c.in_ok-name.rest.now _ m (K.head_stops T c.in_ok-name.rest.now _ c.in_err-parameters.ensures))
 
 pub returns-in_err-variables : goal.returns-in_err-variables
 returns-in_err-variables c =
     let p = err_from_is_err_and c.from_residual-in_err-variables.result c.from_residual-in_err-variables.ensures.1 in
-    let T = c.args.text.now in
-    let i = c.args.input.now in
+    let T = c.args.text.now in let i = c.args.input.now in
     let m = K.to_process_open T i c.in_ok-rest.rest.now c.in_ok-name.rest.now _ (K.to_process_name T i c.in_ok-rest.rest.now (c.in_ok-rest.ensures.first.1 T)) c.in_ok-name.ensures.words in
     let m2 = K.to_process_variables T i c.in_ok-name.rest.now c.in_ok-parameters.rest.now m c.in_ok-parameters.ensures.reads in
     rw (p.1, p.2) (then_stops T 0 K.some_process K.process_variables i c.in_ok-parameters.rest.now _ m2 (call_stops T 0 0 VariablesPart K.process_statements c.in_ok-parameters.rest.now _ (λ s l. l) c.in_err-variables.ensures))
@@ -43,8 +40,7 @@ returns-in_err-variables c =
 pub returns-in_err-statements : goal.returns-in_err-statements
 returns-in_err-statements c =
     let p = err_from_is_err_and c.from_residual-in_err-statements.result c.from_residual-in_err-statements.ensures.1 in
-    let T = c.args.text.now in
-    let i = c.args.input.now in
+    let T = c.args.text.now in let i = c.args.input.now in
     let m = K.to_process_open T i c.in_ok-rest.rest.now c.in_ok-name.rest.now _ (K.to_process_name T i c.in_ok-rest.rest.now (c.in_ok-rest.ensures.first.1 T)) c.in_ok-name.ensures.words in
     let m2 = K.to_process_variables T i c.in_ok-name.rest.now c.in_ok-parameters.rest.now m c.in_ok-parameters.ensures.reads in
     let m3 = K.to_process_statements T i c.in_ok-parameters.rest.now c.in_ok-variables.rest.now m2 c.in_ok-variables.ensures.reads in
@@ -53,8 +49,7 @@ returns-in_err-statements c =
 pub returns-in_err-rest-2 : goal.returns-in_err-rest-2
 returns-in_err-rest-2 c =
     let p = err_from_is_err_and c.from_residual-in_err-rest-2.result c.from_residual-in_err-rest-2.ensures.1 in
-    let T = c.args.text.now in
-    let i = c.args.input.now in
+    let T = c.args.text.now in let i = c.args.input.now in
     let m = K.to_process_open T i c.in_ok-rest.rest.now c.in_ok-name.rest.now _ (K.to_process_name T i c.in_ok-rest.rest.now (c.in_ok-rest.ensures.first.1 T)) c.in_ok-name.ensures.words in
     let m2 = K.to_process_variables T i c.in_ok-name.rest.now c.in_ok-parameters.rest.now m c.in_ok-parameters.ensures.reads in
     let m3 = K.to_process_statements T i c.in_ok-parameters.rest.now c.in_ok-variables.rest.now m2 c.in_ok-variables.ensures.reads in
@@ -63,8 +58,7 @@ returns-in_err-rest-2 c =
 
 pub returns : goal.returns
 returns c =
-    let T = c.args.text.now in
-    let i = c.args.input.now in
+    let T = c.args.text.now in let i = c.args.input.now in
     let (h0, h1, h2, h3, s0, s1, s2, s3, s4) = c.in_ok-parameters.ensures.spans in
     let m = K.to_process_open T i c.in_ok-rest.rest.now c.in_ok-name.rest.now _ (K.to_process_name T i c.in_ok-rest.rest.now (c.in_ok-rest.ensures.first.1 T)) c.in_ok-name.ensures.words in
     let m2 = K.to_process_variables T i c.in_ok-name.rest.now c.in_ok-parameters.rest.now m c.in_ok-parameters.ensures.reads in

@@ -118,8 +118,7 @@ read_expression-read_expression-requires t c =
 pub read_expression-returns-in_err-test : goal.read_expression-returns-in_err-test
 read_expression-returns-in_err-test t c =
     let p = err_from_is_err_and c.from_residual-in_err-test.result c.from_residual-in_err-test.ensures.1 in
-    let T = c.args.text.now in
-    let i = c.args.input.now in
+    let T = c.args.text.now in let i = c.args.input.now in
     let e = c.in_ok-inner.inner in
     let n = c.in_ok-inner.ensures.deeper.0 in
     let m = K.if_moves T c.args.depth e i c.in-Some.rest.now n c.in_ok-inner.ensures.deeper.1 (c.in-Some.ensures.first.1 T) in
@@ -129,8 +128,7 @@ read_expression-returns-in_err-test t c =
 pub read_expression-returns-in_err-yes : goal.read_expression-returns-in_err-yes
 read_expression-returns-in_err-yes t c =
     let p = err_from_is_err_and c.from_residual-in_err-yes.result c.from_residual-in_err-yes.ensures.1 in
-    let T = c.args.text.now in
-    let i = c.args.input.now in
+    let T = c.args.text.now in let i = c.args.input.now in
     let e = c.in_ok-inner.inner in
     let n = c.in_ok-inner.ensures.deeper.0 in
     let m2 = K.then_moves T c.args.depth e i c.in-Some.rest.now c.in_ok-test.rest.now n c.in_ok-inner.ensures.deeper.1 (c.in-Some.ensures.first.1 T) c.in_ok-test.ensures.reads in
@@ -140,8 +138,7 @@ read_expression-returns-in_err-yes t c =
 pub read_expression-returns-in_err-no : goal.read_expression-returns-in_err-no
 read_expression-returns-in_err-no t c =
     let p = err_from_is_err_and c.from_residual-in_err-no.result c.from_residual-in_err-no.ensures.1 in
-    let T = c.args.text.now in
-    let i = c.args.input.now in
+    let T = c.args.text.now in let i = c.args.input.now in
     let e = c.in_ok-inner.inner in
     let n = c.in_ok-inner.ensures.deeper.0 in
     let m3 = K.else_moves T c.args.depth e i c.in-Some.rest.now c.in_ok-test.rest.now c.in_ok-yes.rest.now n c.in_ok-inner.ensures.deeper.1 (c.in-Some.ensures.first.1 T) c.in_ok-test.ensures.reads c.in_ok-yes.ensures.reads in
@@ -257,8 +254,7 @@ read_expression-returns t c =
       nesting = omega (arith, c.in_ok-inner.ensures.deeper.0, c.in_ok-test.ensures.nesting, c.in_ok-yes.ensures.nesting, c.in_ok-no.ensures.nesting);
       shorter = omega (arith, c.in-Some.ensures.shorter, c.in_ok-test.ensures.shorter, c.in_ok-yes.ensures.shorter, c.in_ok-no.ensures.shorter);
       proper = c.in_ok-no.ensures.proper;
-      reads = let T = c.args.text.now in
-          let i = c.args.input.now in
+      reads = let T = c.args.text.now in let i = c.args.input.now in
           let e = c.in_ok-inner.inner in
           let n = c.in_ok-inner.ensures.deeper.0 in
           let m3 = K.else_moves T c.args.depth e i c.in-Some.rest.now c.in_ok-test.rest.now c.in_ok-yes.rest.now n c.in_ok-inner.ensures.deeper.1 (c.in-Some.ensures.first.1 T) c.in_ok-test.ensures.reads c.in_ok-yes.ensures.reads in

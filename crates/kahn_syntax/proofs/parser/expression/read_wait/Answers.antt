@@ -46,8 +46,7 @@ returns c = λ d b.
       nesting = omega (arith, b);
       shorter = omega (arith, c.requires.follows, c.in_ok-rest.ensures.shorter, c.in_ok-name.ensures.shorter, c.in_ok-rest-2.ensures.shorter);
       proper = c.in_ok-rest-2.ensures.proper c.args.text.now c.in_ok-name.ensures.proper;
-      reads = let T = c.args.text.now in
-          let i = c.args.input.now in
+      reads = let T = c.args.text.now in let i = c.args.input.now in
           let p = ExpressionPart factors ∷ [] in
           let after_wait = TokenPart OpenToken ∷ TokenPart NameToken ∷ TokenPart CloseToken ∷ [] in
           let after_open = TokenPart NameToken ∷ TokenPart CloseToken ∷ [] in

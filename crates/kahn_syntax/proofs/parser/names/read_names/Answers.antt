@@ -28,8 +28,7 @@ names-init c =
 
 pub names-preserved : goal.names-preserved
 names-preserved c =
-    let T = c.args.text.now in
-    let i = c.args.input.now in
+    let T = c.args.text.now in let i = c.args.input.now in
     let a = c.in_ok-name.after.now in
     let j = c.in-Some.further.now in
     record {
@@ -45,8 +44,7 @@ names-preserved c =
 
 pub returns-in_default : goal.returns-in_default
 returns-in_default c =
-    let T = c.args.text.now in
-    let i = c.args.input.now in
+    let T = c.args.text.now in let i = c.args.input.now in
     let a = c.in_ok-name.after.now in
     let s = subst (λ ns. NamesSpan T ns i a) (sym c.in_ok-push.ensures.items) (c.names.invariant.spans c.in_ok-name.name a c.in_ok-name.ensures.spans) in
     record {

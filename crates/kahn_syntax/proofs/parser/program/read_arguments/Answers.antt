@@ -28,8 +28,7 @@ arguments-init c =
 
 pub arguments-preserved : goal.arguments-preserved
 arguments-preserved c =
-    let T = c.args.text.now in
-    let i = c.args.input.now in
+    let T = c.args.text.now in let i = c.args.input.now in
     let a = c.in_ok-argument.after.now in
     let o = c.arguments.rest.now in
     let j = c.in-Some-past.further.now in
@@ -47,8 +46,7 @@ arguments-preserved c =
 pub returns-in_err-left : goal.returns-in_err-left
 returns-in_err-left c =
     let p = err_from_is_err_and c.from_residual-in_err-left.result c.from_residual-in_err-left.ensures.1 in
-    let T = c.args.text.now in
-    let i = c.args.input.now in
+    let T = c.args.text.now in let i = c.args.input.now in
     let a = c.in_ok-argument.after.now in
     let o = c.arguments.rest.now in
     let m = then T 0 (ArgumentPart ∷ TailPart ArgumentsTail ∷ TokenPart CloseToken ∷ []) (TailPart ArgumentsTail ∷ TokenPart CloseToken ∷ []) (TokenPart CloseToken ∷ []) o a a (call T 0 0 ArgumentPart (TailPart ArgumentsTail ∷ TokenPart CloseToken ∷ []) o a (λ s l. omega (arith, l)) c.in_ok-argument.ensures.reads)
@@ -68,8 +66,7 @@ returns-in-Some c =
 
 pub returns-in_default-past : goal.returns-in_default-past
 returns-in_default-past c =
-    let T = c.args.text.now in
-    let i = c.args.input.now in
+    let T = c.args.text.now in let i = c.args.input.now in
     let a = c.in_ok-argument.after.now in
     let o = c.arguments.rest.now in
     let l = c.in_ok-left.left.now in

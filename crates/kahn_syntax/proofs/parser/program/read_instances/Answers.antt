@@ -27,8 +27,7 @@ instances-init c =
 
 pub instances-preserved : goal.instances-preserved
 instances-preserved c =
-    let T = c.args.text.now in
-    let i = c.args.input.now in
+    let T = c.args.text.now in let i = c.args.input.now in
     let a = c.in_ok-instance.after.now in
     let j = c.in-Some.further.now in
     let e = c.in_ok-push.ensures.items in
@@ -45,8 +44,7 @@ instances-preserved c =
 
 pub returns-in_default : goal.returns-in_default
 returns-in_default c =
-    let T = c.args.text.now in
-    let i = c.args.input.now in
+    let T = c.args.text.now in let i = c.args.input.now in
     let a = c.in_ok-instance.after.now in
     let e = c.in_ok-push.ensures.items in
     record {

@@ -83,8 +83,7 @@ read_statement-read_inner-requires t c =
 pub read_statement-returns-in_err-test-in-Some-Word-While-default : goal.read_statement-returns-in_err-test-in-Some-Word-While-default
 read_statement-returns-in_err-test-in-Some-Word-While-default t c =
     let p = err_from_is_err_and c.from_residual-in_err-test-in-Some-Word-While-default.result c.from_residual-in_err-test-in-Some-Word-While-default.ensures.1 in
-    let T = c.args.text.now in
-    let i = c.args.input.now in
+    let T = c.args.text.now in let i = c.args.input.now in
     let e = c.in_ok-inner-in-Some-Word-While-default.inner in
     let n = c.in_ok-inner-in-Some-Word-While-default.ensures.deeper.0 in
     let m = K.while_moves T c.args.depth e i c.in-Some-Word-While-default.rest.now n c.in_ok-inner-in-Some-Word-While-default.ensures.deeper.1 ((first_of _ (class.Word keyword.While) c.args.input.now c.in-Some-Word-While-default.rest.now (c.in-Some-Word-While-default.field-0-0-is ∙ ap class.Word c.in-Some-Word-While-default.field-0-0-0-is) c.in-Some-Word-While-default.ensures.first.0).1 T) in
@@ -94,8 +93,7 @@ read_statement-returns-in_err-test-in-Some-Word-While-default t c =
 pub read_statement-returns-in_err-turn-in-Some-Word-While-default : goal.read_statement-returns-in_err-turn-in-Some-Word-While-default
 read_statement-returns-in_err-turn-in-Some-Word-While-default t c =
     let p = err_from_is_err_and c.from_residual-in_err-turn-in-Some-Word-While-default.result c.from_residual-in_err-turn-in-Some-Word-While-default.ensures.1 in
-    let T = c.args.text.now in
-    let i = c.args.input.now in
+    let T = c.args.text.now in let i = c.args.input.now in
     let e = c.in_ok-inner-in-Some-Word-While-default.inner in
     let n = c.in_ok-inner-in-Some-Word-While-default.ensures.deeper.0 in
     let m2 = K.do_moves T c.args.depth e i c.in-Some-Word-While-default.rest.now c.in_ok-test-in-Some-Word-While-default.rest.now n c.in_ok-inner-in-Some-Word-While-default.ensures.deeper.1 ((first_of _ (class.Word keyword.While) c.args.input.now c.in-Some-Word-While-default.rest.now (c.in-Some-Word-While-default.field-0-0-is ∙ ap class.Word c.in-Some-Word-While-default.field-0-0-0-is) c.in-Some-Word-While-default.ensures.first.0).1 T) c.in_ok-test-in-Some-Word-While-default.ensures.reads in
@@ -117,8 +115,7 @@ read_if-read_inner-requires t c =
 pub read_if-returns-in_err-test : goal.read_if-returns-in_err-test
 read_if-returns-in_err-test t c =
     let p = err_from_is_err_and c.from_residual-in_err-test.result c.from_residual-in_err-test.ensures.1 in
-    let T = c.args.text.now in
-    let i = c.args.input.now in
+    let T = c.args.text.now in let i = c.args.input.now in
     let e = c.in_ok-inner.inner in
     let n = c.in_ok-inner.ensures.deeper.0 in
     let m = K.conditional_moves T c.args.depth e i c.args.rest.now n c.in_ok-inner.ensures.deeper.1 (c.requires.1.1.0.1 T) in
@@ -128,8 +125,7 @@ read_if-returns-in_err-test t c =
 pub read_if-returns-in_err-yes : goal.read_if-returns-in_err-yes
 read_if-returns-in_err-yes t c =
     let p = err_from_is_err_and c.from_residual-in_err-yes.result c.from_residual-in_err-yes.ensures.1 in
-    let T = c.args.text.now in
-    let i = c.args.input.now in
+    let T = c.args.text.now in let i = c.args.input.now in
     let e = c.in_ok-inner.inner in
     let n = c.in_ok-inner.ensures.deeper.0 in
     let m2 = K.test_moves T c.args.depth e i c.args.rest.now c.in_ok-test.rest.now n c.in_ok-inner.ensures.deeper.1 (c.requires.1.1.0.1 T) c.in_ok-test.ensures.reads in
@@ -139,8 +135,7 @@ read_if-returns-in_err-yes t c =
 pub read_if-returns-in_err-no : goal.read_if-returns-in_err-no
 read_if-returns-in_err-no t c =
     let p = err_from_is_err_and c.from_residual-in_err-no.result c.from_residual-in_err-no.ensures.1 in
-    let T = c.args.text.now in
-    let i = c.args.input.now in
+    let T = c.args.text.now in let i = c.args.input.now in
     let e = c.in_ok-inner.inner in
     let n = c.in_ok-inner.ensures.deeper.0 in
     let m4 = K.other_moves T c.args.depth e i c.args.rest.now c.in_ok-test.rest.now c.in_ok-yes.rest.now c.in-Some.after.now n c.in_ok-inner.ensures.deeper.1 (c.requires.1.1.0.1 T) c.in_ok-test.ensures.reads c.in_ok-yes.ensures.reads c.in-Some.ensures.first in
@@ -159,8 +154,7 @@ read_statement-returns-in_ok-turn-in-Some-Word-While-default t c =
       nesting = omega (arith, ap statement_nesting c.while_do.ensures.built, c.in_ok-inner-in-Some-Word-While-default.ensures.deeper.0, c.in_ok-test-in-Some-Word-While-default.ensures.nesting, c.in_ok-turn-in-Some-Word-While-default.ensures.nesting);
       shorter = omega (arith, c.in-Some-Word-While-default.ensures.first.1, c.in_ok-test-in-Some-Word-While-default.ensures.shorter, c.in_ok-turn-in-Some-Word-While-default.ensures.shorter);
       proper = c.in_ok-turn-in-Some-Word-While-default.ensures.proper;
-      reads = let T = c.args.text.now in
-          let i = c.args.input.now in
+      reads = let T = c.args.text.now in let i = c.args.input.now in
           let e = c.in_ok-inner-in-Some-Word-While-default.inner in
           let n = c.in_ok-inner-in-Some-Word-While-default.ensures.deeper.0 in
           let m2 = K.do_moves T c.args.depth e i c.in-Some-Word-While-default.rest.now c.in_ok-test-in-Some-Word-While-default.rest.now n c.in_ok-inner-in-Some-Word-While-default.ensures.deeper.1 ((first_of _ (class.Word keyword.While) c.args.input.now c.in-Some-Word-While-default.rest.now (c.in-Some-Word-While-default.field-0-0-is ∙ ap class.Word c.in-Some-Word-While-default.field-0-0-0-is) c.in-Some-Word-While-default.ensures.first.0).1 T) c.in_ok-test-in-Some-Word-While-default.ensures.reads in
@@ -202,8 +196,7 @@ read_if-returns-in_default t c =
       nesting = omega (arith, ap statement_nesting c.if_then.ensures.built, ap (λ y. statement_nesting (statement_of y)) c.in_ok-branch.ensures.ok, c.in_ok-inner.ensures.deeper.0, c.in_ok-test.ensures.nesting, c.in_ok-yes.ensures.nesting);
       shorter = omega (arith, c.requires.1.1.1.0, c.in_ok-test.ensures.shorter, c.in_ok-yes.ensures.shorter);
       proper = c.in_ok-yes.ensures.proper;
-      reads = let T = c.args.text.now in
-          let i = c.args.input.now in
+      reads = let T = c.args.text.now in let i = c.args.input.now in
           let e = c.in_ok-inner.inner in
           let n = c.in_ok-inner.ensures.deeper.0 in
           let m3 = K.branch_moves T c.args.depth e i c.args.rest.now c.in_ok-test.rest.now c.in_ok-yes.rest.now n c.in_ok-inner.ensures.deeper.1 (c.requires.1.1.0.1 T) c.in_ok-test.ensures.reads c.in_ok-yes.ensures.reads in
@@ -227,8 +220,7 @@ read_if-returns t c =
       nesting = omega (arith, ap statement_nesting c.if_else.ensures.built, ap (λ y. statement_nesting (statement_of y)) c.in_ok-branch.ensures.ok, c.in_ok-inner.ensures.deeper.0, c.in_ok-test.ensures.nesting, c.in_ok-yes.ensures.nesting, c.in_ok-no.ensures.nesting);
       shorter = omega (arith, c.requires.1.1.1.0, c.in_ok-test.ensures.shorter, c.in_ok-yes.ensures.shorter, c.in-Some.ensures.shorter, c.in_ok-no.ensures.shorter);
       proper = c.in_ok-no.ensures.proper;
-      reads = let T = c.args.text.now in
-          let i = c.args.input.now in
+      reads = let T = c.args.text.now in let i = c.args.input.now in
           let e = c.in_ok-inner.inner in
           let n = c.in_ok-inner.ensures.deeper.0 in
           let m4 = K.other_moves T c.args.depth e i c.args.rest.now c.in_ok-test.rest.now c.in_ok-yes.rest.now c.in-Some.after.now n c.in_ok-inner.ensures.deeper.1 (c.requires.1.1.0.1 T) c.in_ok-test.ensures.reads c.in_ok-yes.ensures.reads c.in-Some.ensures.first in
@@ -314,8 +306,7 @@ read_statements-statements-init t c =
 
 pub read_statements-statements-preserved : goal.read_statements-statements-preserved
 read_statements-statements-preserved t c =
-    let T = c.args.text.now in
-    let i = c.args.input.now in
+    let T = c.args.text.now in let i = c.args.input.now in
     let a = c.in_ok-statement.after.now in
     let j = c.in-Some.further.now in
     record {
@@ -333,8 +324,7 @@ read_statements-statements-preserved t c =
 
 pub read_statements-returns-in_default : goal.read_statements-returns-in_default
 read_statements-returns-in_default t c =
-    let T = c.args.text.now in
-    let i = c.args.input.now in
+    let T = c.args.text.now in let i = c.args.input.now in
     let a = c.in_ok-statement.after.now in
     let s = S.some_are_statements T _ i a (subst (λ ss. SomeStatements T ss i a) (sym c.in_ok-push.ensures.items) (c.statements.invariant.spans c.in_ok-statement.statement a c.in_ok-statement.ensures.spans)) in
     record {

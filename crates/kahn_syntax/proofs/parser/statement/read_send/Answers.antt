@@ -14,8 +14,7 @@ use Rattle.kahn_syntax.proofs.parser.statement.read_send.Goals as goal
 pub returns-in_err-value : goal.returns-in_err-value
 returns-in_err-value c =
     let p = err_from_is_err_and c.from_residual.result c.from_residual.ensures.1 in
-    let T = c.args.text.now in
-    let i = c.args.input.now in
+    let T = c.args.text.now in let i = c.args.input.now in
     let m = K.send_moves T c.args.depth i c.args.rest.now c.requires.depth (c.requires.first.1 T) in
     rw (p.1, p.2) (then_stops T c.args.depth (SimplePart ∷ []) K.after_send i c.args.rest.now _ m
     (call_two_stops T c.args.depth c.args.depth (ExpressionPart whole) (TokenPart OnToken) K.after_on c.args.rest.now _ (λ s l. l) c.in_err-value.ensures))
@@ -23,8 +22,7 @@ returns-in_err-value c =
 pub returns-in_err-name : goal.returns-in_err-name
 returns-in_err-name c =
     let p = err_from_is_err_and c.from_residual-in_err-name.result c.from_residual-in_err-name.ensures.1 in
-    let T = c.args.text.now in
-    let i = c.args.input.now in
+    let T = c.args.text.now in let i = c.args.input.now in
     let m = K.send_moves T c.args.depth i c.args.rest.now c.requires.depth (c.requires.first.1 T) in
     let m2 = K.on_moves T c.args.depth i c.args.rest.now c.in_ok-value.rest.now m c.in_ok-value.ensures.reads in
     rw (p.1, p.2) (then_stops T c.args.depth (SimplePart ∷ []) K.after_on i c.in_ok-value.rest.now _ m2 (no_name T c.args.depth [] c.in_ok-value.rest.now _ c.in_err-name.ensures.stop))
@@ -50,8 +48,7 @@ returns c =
       nesting = v.nesting;
       shorter = omega (arith, c.requires.follows, v.shorter, c.in_ok-name.ensures.shorter);
       proper = c.in_ok-name.ensures.proper;
-      reads = let T = c.args.text.now in
-          let i = c.args.input.now in
+      reads = let T = c.args.text.now in let i = c.args.input.now in
           let m = K.send_moves T c.args.depth i c.args.rest.now c.requires.depth (c.requires.first.1 T) in
           let m2 = K.on_moves T c.args.depth i c.args.rest.now c.in_ok-value.rest.now m v.reads in
           then T c.args.depth (SimplePart ∷ []) K.after_on [] i c.in_ok-value.rest.now c.in_ok-name.rest.now m2
