@@ -1,7 +1,5 @@
 pub mod Blocks
 pub mod Cuts
-pub mod Declared
-pub mod Instanced
 pub mod Keywords
 pub mod Levels
 pub mod Lexing

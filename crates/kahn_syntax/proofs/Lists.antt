@@ -1,46 +1,19 @@
 -- Lists that are read one member after another.
-use Rattle.std.proofs.Common.{◌≡◌, ℕ, ◌+◌, ◌-◌, ◌≤◌, List, [], ◌∷◌, ◌++◌, length, get_or, take, drop, map, refl, sym, ap, ◌∙◌, arith, ◌<◌, length-drop, subst}
+use Rattle.std.proofs.Common.{◌≡◌, ℕ, ◌+◌, ◌-◌, ◌≤◌, List, [], ◌∷◌, length, get_or, take, drop, sym, ap, ◌∙◌, arith, ◌<◌, length-drop, subst}
 use Rattle.std.proofs.lemmas.List.{take_all, drop_more}
-use Rattle.kahn_syntax.specs.declared.lexeme.Sign.TheVariants as mark
 use Rattle.kahn_syntax.specs.declared.lexeme.Class.{Class}
 use Rattle.kahn_syntax.specs.declared.lexeme.Class.TheVariants as class
 use Rattle.kahn_tree.specs.declared.span.Span.{Span}
 use Rattle.kahn_syntax.specs.declared.lexeme.Lexeme.{Lexeme}
 use Rattle.kahn_tree.specs.declared.tree.Name.{Name}
-use Rattle.kahn_syntax.specs.Terminals.{Terminal, sign, name, terminals, First, IsUnsigned, IsProper, AreProper}
-use Rattle.kahn_syntax.specs.Drawn.{name_of}
+use Rattle.kahn_syntax.specs.Terminals.{terminals, First, IsUnsigned, IsProper, AreProper}
 use Rattle.kahn_syntax.specs.Spans.{IsPast}
-use Rattle.kahn_syntax.specs.Programs.{names_words, further_names_words, AreNames}
 
 pub first_of : (c d : Class) (xs rest : List Lexeme) → c ≡ d → First c xs rest → First d xs rest
 first_of c d xs rest e f = subst (λ k. First k xs rest) e f
 
 pub first_made : (xs rest : List Lexeme) (x : Lexeme) → xs ≡ x ∷ rest → First x.what xs rest
 first_made xs rest x e = (x.span, λ text. ap (terminals text) e)
-
-further_names_more : (ns : List Name) (n : Name) (r : List Terminal) →
-    further_names_words (map name_of (ns ++ n ∷ [])) r ≡ further_names_words (map name_of ns) (sign mark.Comma ∷ name (name_of n) ∷ r)
-further_names_more [] n r = refl
-further_names_more (m ∷ ns) n r = ap (λ x. sign mark.Comma ∷ name (name_of m) ∷ x) (further_names_more ns n r)
-
-names_more : (ns : List Name) (n : Name) (r : List Terminal) → AreNames (map name_of ns) →
-    names_words (map name_of (ns ++ n ∷ [])) r ≡ names_words (map name_of ns) (sign mark.Comma ∷ name (name_of n) ∷ r)
-names_more [] n r h = absurd h
-names_more (m ∷ ns) n r h = ap (λ x. name (name_of m) ∷ x) (further_names_more ns n r)
-
-pub names_next : (input rest after left : List Terminal) (ns ns' : List Name) (n : Name) → ns' ≡ ns ++ n ∷ [] → AreNames (map name_of ns) →
-    input ≡ names_words (map name_of ns) rest → rest ≡ sign mark.Comma ∷ after → after ≡ name (name_of n) ∷ left →
-    input ≡ names_words (map name_of ns') left
-names_next input rest after left ns ns' n e h p q r =
-    p ∙ ap (names_words (map name_of ns)) (q ∙ ap (λ x. sign mark.Comma ∷ x) r) ∙ sym (names_more ns n left h)
-    ∙ ap (λ x. names_words (map name_of x) left) (sym e)
-
-are_names_more : (ns : List Name) (n : Name) → AreNames (map name_of (ns ++ n ∷ []))
-are_names_more [] n = tt
-are_names_more (m ∷ ns) n = tt
-
-pub are_names_next : (ns ns' : List Name) (n : Name) → ns' ≡ ns ++ n ∷ [] → AreNames (map name_of ns')
-are_names_next ns ns' n e = rw e (are_names_more ns n)
 
 pub next_list : (xs : List Lexeme) (d : Lexeme) → 1 ≤ length xs → xs ≡ get_or xs 0 d ∷ take (length xs - 1) (drop 1 xs)
 next_list xs d h =

@@ -8,6 +8,8 @@ use Rattle.kahn_syntax.specs.declared.lexeme.Class.TheVariants as class
 use Rattle.kahn_syntax.specs.declared.lexeme.Lexeme.{Lexeme}
 use Rattle.std.specs.Prelude.{MatchResult}
 use Rattle.kahn_tree.specs.declared.tree.Expression.{Expression}
+use Rattle.kahn_tree.specs.declared.tree.Form.{Form}
+use Rattle.kahn_syntax.specs.Spans.{Covers}
 use Rattle.kahn_tree.specs.declared.tree.Statement.{Statement}
 use Rattle.kahn_syntax.specs.declared.parser.cursor.Stop.{Stop}
 use Rattle.kahn_syntax.specs.declared.parser.cursor.Stop.TheVariants.{Refused, TooDeep, NoMemory}
@@ -230,6 +232,21 @@ opened text d g f i b m (Ok x) e rest h =
       reads = then text d (ExpressionPart g ∷ []) (ExpressionPart f ∷ []) [] i i (rest x) m h.reads;
     }
 opened text d g f i b m (Err x) e rest h = then_stops text d (ExpressionPart g ∷ []) (ExpressionPart f ∷ []) i i x m h
+
+-- what is known of a result, where it may be for want of memory alone that there is none
+pub unless_memory : (text : List ℕ) (d : ℕ) (qs : List Part) (i : List Lexeme) → {X : Type 0} (r : Result X Stop) (P Q : X → Type 0) → ((x : X) → P x → Q x) →
+    MatchResult r P (λ e. e ≡ NoMemory) → MatchResult r Q (Stops text d qs i)
+unless_memory text d qs i (Ok x) P Q f h = f x h
+unless_memory text d qs i (Err e) P Q f h = no_memory text d qs i e h
+
+-- an expression that is made of its form
+pub made : (text : List ℕ) (d : ℕ) (g : Rung) (f : Form) (i j : List Lexeme) → ((at : Span) → Covers at i j → ExpressionRead text d g (record { span = at; form = f }) i j) →
+    {X : Type 0} (r : Result X Stop) (e : X → Expression) (rest : X → List Lexeme) →
+    MatchResult r (λ x. ((e x).form ≡ f) × Covers (e x).span i j × (rest x ≡ j)) (λ x. x ≡ NoMemory) →
+    MatchResult r (λ x. ExpressionRead text d g (e x) i (rest x)) (Stops text d (ExpressionPart g ∷ []) i)
+made text d g f i j k r e rest h =
+    unless_memory text d (ExpressionPart g ∷ []) i r _ _
+    (λ x m. subst (ExpressionRead text d g (e x) i) (sym m.2) (subst (λ y. ExpressionRead text d g (record { span = (e x).span; form = y }) i j) (sym m.0) (k (e x).span m.1))) h
 
 pub opened_simple : (text : List ℕ) (d : ℕ) (i : List Lexeme) → Moves text d (StatementPart ∷ []) (SimplePart ∷ []) i i →
     {X : Type 0} (r : Result X Stop) (s : X → Statement) (rest : X → List Lexeme) →

@@ -68,34 +68,20 @@ pub some_are_statements : (text : List ℕ) (ss : List Statement) (xs r : List L
 some_are_statements text [] xs r h = absurd h
 some_are_statements text (s ∷ ss) xs r h = h
 
-statements_more : (text : List ℕ) (ss : List Statement) (s : Statement) (xs m k r : List Lexeme) → SomeStatements text ss xs m →
+pub statements_more : (text : List ℕ) (ss : List Statement) (s : Statement) (xs m k r : List Lexeme) → SomeStatements text ss xs m →
     Takes text (sign mark.Semicolon) m k → StatementSpans text s k r → SomeStatements text (ss ++ s ∷ []) xs r
 statements_more text [] s xs m k r h t p = absurd h
 statements_more text (u ∷ ss) s xs m k r (a, p', h) t p = (a, p', further_statements_more text ss s a m k r h t p)
-
-pub statements_next : (text : List ℕ) (ss ss' : List Statement) (s : Statement) (xs m k r : List Lexeme) → ss' ≡ ss ++ s ∷ [] → SomeStatements text ss xs m →
-    Takes text (sign mark.Semicolon) m k → StatementSpans text s k r → SomeStatements text ss' xs r
-statements_next text ss ss' s xs m k r e h t p = subst (λ ys. SomeStatements text ys xs r) (sym e) (statements_more text ss s xs m k r h t p)
-
-pub statements_first : (text : List ℕ) (ss : List Statement) (s : Statement) (xs r : List Lexeme) → ss ≡ s ∷ [] → StatementSpans text s xs r → SomeStatements text ss xs r
-statements_first text ss s xs r e p = subst (λ ys. SomeStatements text ys xs r) (sym e) (r, p, refl)
 
 further_names_more : (text : List ℕ) (ns : List Name) (n : Name) (xs m k r : List Lexeme) → FurtherNamesSpan text ns xs m →
     Takes text (sign mark.Comma) m k → NameSpans text n k r → FurtherNamesSpan text (ns ++ n ∷ []) xs r
 further_names_more text [] n xs m k r h t p = (k, r, subst (λ y. Takes text (sign mark.Comma) y k) (sym h) t, p, refl)
 further_names_more text (u ∷ ns) n xs m k r (a, b, t', p', h) t p = (a, b, t', p', further_names_more text ns n b m k r h t p)
 
-names_more : (text : List ℕ) (ns : List Name) (n : Name) (xs m k r : List Lexeme) → NamesSpan text ns xs m →
+pub names_more : (text : List ℕ) (ns : List Name) (n : Name) (xs m k r : List Lexeme) → NamesSpan text ns xs m →
     Takes text (sign mark.Comma) m k → NameSpans text n k r → NamesSpan text (ns ++ n ∷ []) xs r
 names_more text [] n xs m k r h t p = absurd h
 names_more text (u ∷ ns) n xs m k r (a, p', h) t p = (a, p', further_names_more text ns n a m k r h t p)
-
-pub names_next : (text : List ℕ) (ns ns' : List Name) (n : Name) (xs m k r : List Lexeme) → ns' ≡ ns ++ n ∷ [] → NamesSpan text ns xs m →
-    Takes text (sign mark.Comma) m k → NameSpans text n k r → NamesSpan text ns' xs r
-names_next text ns ns' n xs m k r e h t p = subst (λ ys. NamesSpan text ys xs r) (sym e) (names_more text ns n xs m k r h t p)
-
-pub names_first : (text : List ℕ) (ns : List Name) (n : Name) (xs r : List Lexeme) → ns ≡ n ∷ [] → NameSpans text n xs r → NamesSpan text ns xs r
-names_first text ns n xs r e p = subst (λ ys. NamesSpan text ys xs r) (sym e) (r, p, refl)
 
 pub group_spans : (text : List ℕ) (t : Taking) (k : Kind) (ns : List Name) (xs a b r : List Lexeme) → kind_of t ≡ k → Takes text (kind_terminal k) xs a →
     DirectionSpans text t a b → NamesSpan text ns b r → GroupSpans text (group t ns) xs r
@@ -172,31 +158,17 @@ pub some_are_arguments : (text : List ℕ) (us : List Argument) (xs r : List Lex
 some_are_arguments text [] xs r h = absurd h
 some_are_arguments text (x ∷ us) xs r h = h
 
-arguments_more : (text : List ℕ) (us : List Argument) (x : Argument) (xs m k r : List Lexeme) → SomeArgumentsSpan text us xs m →
+pub arguments_more : (text : List ℕ) (us : List Argument) (x : Argument) (xs m k r : List Lexeme) → SomeArgumentsSpan text us xs m →
     Takes text (sign mark.Comma) m k → ArgumentSpans text x k r → SomeArgumentsSpan text (us ++ x ∷ []) xs r
 arguments_more text [] x xs m k r h t p = absurd h
 arguments_more text (u ∷ us) x xs m k r (a, p', h) t p = (a, p', further_arguments_more text us x a m k r h t p)
-
-pub arguments_next : (text : List ℕ) (us us' : List Argument) (x : Argument) (xs m k r : List Lexeme) → us' ≡ us ++ x ∷ [] → SomeArgumentsSpan text us xs m →
-    Takes text (sign mark.Comma) m k → ArgumentSpans text x k r → SomeArgumentsSpan text us' xs r
-arguments_next text us us' x xs m k r e h t p = subst (λ ys. SomeArgumentsSpan text ys xs r) (sym e) (arguments_more text us x xs m k r h t p)
-
-pub arguments_first : (text : List ℕ) (us : List Argument) (x : Argument) (xs r : List Lexeme) → us ≡ x ∷ [] → ArgumentSpans text x xs r → SomeArgumentsSpan text us xs r
-arguments_first text us x xs r e p = subst (λ ys. SomeArgumentsSpan text ys xs r) (sym e) (r, p, refl)
 
 further_instances_more : (text : List ℕ) (is : List Instance) (i : Instance) (xs m k r : List Lexeme) → FurtherInstancesSpan text is xs m →
     Takes text (word keyword.Par) m k → InstanceSpans text i k r → FurtherInstancesSpan text (is ++ i ∷ []) xs r
 further_instances_more text [] i xs m k r h t p = (k, r, subst (λ y. Takes text (word keyword.Par) y k) (sym h) t, p, refl)
 further_instances_more text (u ∷ is) i xs m k r (a, b, t', p', h) t p = (a, b, t', p', further_instances_more text is i b m k r h t p)
 
-instances_more : (text : List ℕ) (is : List Instance) (i : Instance) (xs m k r : List Lexeme) → InstancesSpan text is xs m →
+pub instances_more : (text : List ℕ) (is : List Instance) (i : Instance) (xs m k r : List Lexeme) → InstancesSpan text is xs m →
     Takes text (word keyword.Par) m k → InstanceSpans text i k r → InstancesSpan text (is ++ i ∷ []) xs r
 instances_more text [] i xs m k r h t p = absurd h
 instances_more text (u ∷ is) i xs m k r (a, p', h) t p = (a, p', further_instances_more text is i a m k r h t p)
-
-pub instances_next : (text : List ℕ) (is is' : List Instance) (i : Instance) (xs m k r : List Lexeme) → is' ≡ is ++ i ∷ [] → InstancesSpan text is xs m →
-    Takes text (word keyword.Par) m k → InstanceSpans text i k r → InstancesSpan text is' xs r
-instances_next text is is' i xs m k r e h t p = subst (λ ys. InstancesSpan text ys xs r) (sym e) (instances_more text is i xs m k r h t p)
-
-pub instances_first : (text : List ℕ) (is : List Instance) (i : Instance) (xs r : List Lexeme) → is ≡ i ∷ [] → InstanceSpans text i xs r → InstancesSpan text is xs r
-instances_first text is i xs r e p = subst (λ ys. InstancesSpan text ys xs r) (sym e) (r, p, refl)

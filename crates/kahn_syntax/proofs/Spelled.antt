@@ -1,16 +1,35 @@
 -- What a tree spells follows from what its parts take.
-use Rattle.std.proofs.Common.{◌≡◌, ℕ, List, [], ◌∷◌, refl, ap, ◌∙◌}
+use Rattle.std.proofs.Common.{◌≡◌, ℕ, ◌≤◌, List, [], ◌∷◌, ◌++◌, map, inl, inr, refl, sym, ap, subst, ◌∙◌, arith}
+use Rattle.std.proofs.lemmas.List.{map-append}
 use Rattle.kahn_tree.specs.declared.tree.Form.{Form, Number, Logical, Variable, Wait, Negate', Not', Bracket', Level', Conditional', Row_of-Operand, end_of-Operand, more_of-Operand}
 use Rattle.kahn_tree.specs.declared.tree.Action.{Action, Empty, Assign, Send, Print, Block', If', While', Repeat', Row_of-Statement, end_of-Statement, more_of-Statement, Held-Action-If-2, None', Some'}
 use Rattle.kahn_tree.specs.declared.tree.Statement.{Statement}
+use Rattle.kahn_tree.specs.declared.tree.Name.{Name}
+use Rattle.kahn_tree.specs.declared.tree.Kind.{Kind}
+use Rattle.kahn_tree.specs.declared.tree.Role.{Role}
+use Rattle.kahn_tree.specs.declared.tree.Role.TheVariants as role
+use Rattle.kahn_tree.specs.declared.tree.Taking.{Taking}
+use Rattle.kahn_tree.specs.declared.tree.Taking.TheVariants as taking
+use Rattle.kahn_tree.specs.declared.tree.Direction.TheVariants as direction
+use Rattle.kahn_tree.specs.declared.tree.Parameter.{Parameter}
+use Rattle.kahn_tree.specs.declared.tree.Variable.{Variable as OneVariable}
+use Rattle.kahn_tree.specs.declared.tree.Declaration.{Declaration}
+use Rattle.kahn_tree.specs.declared.tree.Declaration.TheVariants as declared
+use Rattle.kahn_tree.specs.declared.tree.Argument.{Argument}
+use Rattle.kahn_tree.specs.declared.tree.Argument.TheVariants as argued
+use Rattle.kahn_tree.specs.declared.tree.Instance.{Instance}
+use Rattle.kahn_tree.specs.declared.tree.Program.{Program}
+use Rattle.kahn_syntax.specs.Programs.{AreNames, names_words, further_names_words, parameter, variable, channels, process, DeclarationTree, kind_terminal, role_words, taking_words, GroupTree, group, TogetherTree, together, group_words, further_groups_words, groups_words, groups_parameters, IsGroup, AreGroups, Parameters, togethers_words, togethers_variables, AreTogether, Variables, Declares, Declarations, Argues, FurtherArguments, Arguments, Instantiates, FurtherInstances, Instances, MaybeSemicolon, Spells, declarations_nesting}
+use Rattle.kahn_syntax.specs.Reads.{IsSound, AreSound}
+use Rattle.kahn_syntax.specs.Spans as named
+use Rattle.kahn_syntax.specs.Spans.{NamedGroup, NamedTogether, RoleSpans, DirectionSpans, kind_of, GroupSpans, FurtherGroupsSpan, GroupsSpan, all_parameters, ParametersSpan, TogethersSpan, all_variables, VariablesSpan, DeclarationSpans, DeclarationsSpan, ArgumentSpans, FurtherArgumentsSpan, ArgumentsSpan, InstanceSpans, FurtherInstancesSpan, InstancesSpan, MayPart, ProgramSpans, Takes, NamesSpan, FurtherNamesSpan, FormSpans, OperandRowSpans, ActionSpans, OtherSpans, StatementRowSpans, FurtherRowSpans, FurtherStatementsSpan, StatementsSpan}
 use Rattle.kahn_syntax.specs.declared.lexeme.Keyword.TheVariants as keyword
 use Rattle.kahn_syntax.specs.declared.lexeme.Sign.TheVariants as mark
 use Rattle.kahn_syntax.specs.declared.lexeme.Lexeme.{Lexeme}
 use Rattle.kahn_syntax.specs.Terminals as terminal
 use Rattle.kahn_syntax.specs.Terminals.{Terminal, terminals, word, sign, name}
 use Rattle.kahn_syntax.specs.Trees.{StatementTree, truth_terminal, operator_terminal, expression_words, operands_words, statement_words, statements_words, further_words}
-use Rattle.kahn_syntax.specs.Drawn.{name_of, form_of, operands_row, expression_of, action_of, statements_row, chosen_of, statement_of, statements_of}
-use Rattle.kahn_syntax.specs.Spans.{Takes, FormSpans, OperandRowSpans, ActionSpans, OtherSpans, StatementRowSpans, FurtherRowSpans, FurtherStatementsSpan, StatementsSpan}
+use Rattle.kahn_syntax.specs.Drawn.{name_of, form_of, operands_row, expression_of, action_of, statements_row, chosen_of, statement_of, statements_of, parameter_of, variable_of, declaration_of, argument_of, instance_of, program_of}
 
 -- one terminal, and what follows it
 pub taken : (text : List ℕ) (k : Terminal) (xs a : List Lexeme) (r : List Terminal) → Takes text k xs a → terminals text a ≡ r → terminals text xs ≡ k ∷ r
@@ -93,3 +112,176 @@ pub statements_spelled : (text : List ℕ) (ss : List Statement) (xs r : List Le
 statements_spelled text [] xs r h = ap (terminals text) h
 statements_spelled text (s ∷ ss) xs r (a, h, g) =
     action_spelled text s.action xs a h.1 ∙ ap (statement_words (statement_of s)) (further_statements_spelled text ss a r g)
+
+further_names_spelled : (text : List ℕ) (ns : List Name) (xs r : List Lexeme) → FurtherNamesSpan text ns xs r → terminals text xs ≡ further_names_words (map name_of ns) (terminals text r)
+further_names_spelled text [] xs r h = ap (terminals text) h
+further_names_spelled text (n ∷ ns) xs r (a, b, t, p, h) = taken text (sign mark.Comma) xs a _ t (taken text (name (name_of n)) a b _ p.0 (further_names_spelled text ns b r h))
+
+pub names_spelled : (text : List ℕ) (ns : List Name) (xs r : List Lexeme) → NamesSpan text ns xs r →
+    AreNames (map name_of ns) × (terminals text xs ≡ names_words (map name_of ns) (terminals text r))
+names_spelled text [] xs r h = absurd h
+names_spelled text (n ∷ ns) xs r (a, p, h) = (tt, taken text (name (name_of n)) xs a _ p.0 (further_names_spelled text ns a r h))
+
+direction_spelled : (text : List ℕ) (t : Taking) (xs a r : List Lexeme) → Takes text (kind_terminal (kind_of t)) xs a → DirectionSpans text t a r →
+    terminals text xs ≡ taking_words t (terminals text r)
+direction_spelled text (taking.Channel direction.In k) xs a r t d = taken text (kind_terminal k) xs a _ t (taken text (word keyword.In) a r _ d refl)
+direction_spelled text (taking.Channel direction.Out k) xs a r t d = taken text (kind_terminal k) xs a _ t (taken text (word keyword.Out) a r _ d refl)
+direction_spelled text (taking.Value k) xs a r t d = taken text (kind_terminal k) xs a _ t (ap (terminals text) d)
+
+abbrev group_of : NamedGroup → GroupTree
+group_of (named.group t ns) = group t (map name_of ns)
+
+group_spelled : (text : List ℕ) (g : NamedGroup) (xs r : List Lexeme) → GroupSpans text g xs r → IsGroup (group_of g) × (terminals text xs ≡ group_words (group_of g) (terminals text r))
+group_spelled text (named.group t ns) xs r (a, b, k, d, n) =
+    let h = names_spelled text ns b r n in (h.0, direction_spelled text t xs a b k d ∙ ap (taking_words t) h.1)
+
+further_groups_spelled : (text : List ℕ) (gs : List NamedGroup) (xs r : List Lexeme) → FurtherGroupsSpan text gs xs r →
+    AreGroups (map group_of gs) × (terminals text xs ≡ further_groups_words (map group_of gs) (terminals text r))
+further_groups_spelled text [] xs r h = (tt, ap (terminals text) h)
+further_groups_spelled text (g ∷ gs) xs r (a, b, t, p, h) =
+    let q = group_spelled text g a b p in
+    let f = further_groups_spelled text gs b r h in
+    ((q.0, f.0), taken text (sign mark.Semicolon) xs a _ t (q.1 ∙ ap (group_words (group_of g)) f.1))
+
+groups_spelled : (text : List ℕ) (gs : List NamedGroup) (xs r : List Lexeme) → GroupsSpan text gs xs r →
+    AreGroups (map group_of gs) × (terminals text xs ≡ groups_words (map group_of gs) (terminals text r))
+groups_spelled text [] xs r h = (tt, ap (terminals text) h)
+groups_spelled text (g ∷ gs) xs r (a, p, h) =
+    let q = group_spelled text g xs a p in
+    let f = further_groups_spelled text gs a r h in
+    ((q.0, f.0), q.1 ∙ ap (group_words (group_of g)) f.1)
+
+taken_parameters : (t : Taking) (ns : List Name) → map parameter_of (map (named.parameter_of t) ns) ≡ map (parameter t) (map name_of ns)
+taken_parameters t [] = refl
+taken_parameters t (n ∷ ns) = ap (λ x. parameter t (name_of n) ∷ x) (taken_parameters t ns)
+
+all_parameters_of : (gs : List NamedGroup) → map parameter_of (all_parameters gs) ≡ groups_parameters (map group_of gs)
+all_parameters_of [] = refl
+all_parameters_of (named.group t ns ∷ gs) =
+    map-append parameter_of (map (named.parameter_of t) ns) (all_parameters gs)
+    ∙ (ap (λ x. x ++ map parameter_of (all_parameters gs)) (taken_parameters t ns) ∙ ap (λ x. map (parameter t) (map name_of ns) ++ x) (all_parameters_of gs))
+
+parameters_spelled : (text : List ℕ) (ps : List Parameter) (xs r : List Lexeme) → ParametersSpan text ps xs r → Parameters (map parameter_of ps) (terminals text xs) (terminals text r)
+parameters_spelled text ps xs r (gs, e, h) =
+    let q = groups_spelled text gs xs r h in (map group_of gs, q.0, ap (map parameter_of) e ∙ all_parameters_of gs, q.1)
+
+abbrev together_of : NamedTogether → TogetherTree
+together_of (named.together k ns) = together k (map name_of ns)
+
+togethers_spelled : (text : List ℕ) (ts : List NamedTogether) (xs r : List Lexeme) → TogethersSpan text ts xs r →
+    AreTogether (map together_of ts) × (terminals text xs ≡ togethers_words (map together_of ts) (terminals text r))
+togethers_spelled text [] xs r h = (tt, ap (terminals text) h)
+togethers_spelled text (named.together k ns ∷ ts) xs r (m, (a, b, t, n, u), h) =
+    let q = names_spelled text ns a b n in
+    let f = togethers_spelled text ts m r h in
+    ((q.0, f.0), taken text (kind_terminal k) xs a _ t (q.1 ∙ ap (names_words (map name_of ns)) (taken text (sign mark.Semicolon) b m _ u f.1)))
+
+taken_variables : (k : Kind) (ns : List Name) → map variable_of (map (named.variable_of k) ns) ≡ map (variable k) (map name_of ns)
+taken_variables k [] = refl
+taken_variables k (n ∷ ns) = ap (λ x. variable k (name_of n) ∷ x) (taken_variables k ns)
+
+all_variables_of : (ts : List NamedTogether) → map variable_of (all_variables ts) ≡ togethers_variables (map together_of ts)
+all_variables_of [] = refl
+all_variables_of (named.together k ns ∷ ts) =
+    map-append variable_of (map (named.variable_of k) ns) (all_variables ts)
+    ∙ (ap (λ x. x ++ map variable_of (all_variables ts)) (taken_variables k ns) ∙ ap (λ x. map (variable k) (map name_of ns) ++ x) (all_variables_of ts))
+
+variables_spelled : (text : List ℕ) (vs : List OneVariable) (xs r : List Lexeme) → VariablesSpan text vs xs r → Variables (map variable_of vs) (terminals text xs) (terminals text r)
+variables_spelled text vs xs r (ts, e, h) =
+    let q = togethers_spelled text ts xs r h in (map together_of ts, q.0, ap (map variable_of) e ∙ all_variables_of ts, q.1)
+
+role_spelled : (text : List ℕ) (o : Role) (xs r : List Lexeme) → RoleSpans text o xs r → terminals text xs ≡ role_words o (terminals text r)
+role_spelled text role.Inner xs r h = ap (terminals text) h
+role_spelled text role.Input xs r h = taken text (word keyword.Input) xs r _ h refl
+role_spelled text role.Output xs r h = taken text (word keyword.Output) xs r _ h refl
+
+declaration_spelled : (text : List ℕ) (d : Declaration) (xs r : List Lexeme) → IsSound (declaration_of d) → DeclarationSpans text d xs r →
+    Declares (declaration_of d) (terminals text xs) (terminals text r)
+declaration_spelled text (declared.Channels k o ns) xs r s (a, b, c, t, p, u, n) =
+    let h = names_spelled text ns.items c r n in
+    (h.0, taken text (kind_terminal k) xs a _ t (role_spelled text o a b p ∙ ap (role_words o) (taken text (word keyword.Channel) b c _ u h.1)))
+declaration_spelled text (declared.Process p) xs r (some, formed, n) h = (
+  terminals text h.c,
+  terminals text h.g,
+  taken text (word keyword.Process) xs h.a _ h.begins (taken text (name (name_of p.name)) h.a h.b _ h.named.0 (taken text (sign mark.Open) h.b h.c _ h.opened refl)),
+  subst (Parameters (map parameter_of p.parameters.items) (terminals text h.c))
+      (taken text (sign mark.Close) h.d h.e _ h.closed (taken text (sign mark.Semicolon) h.e h.f _ h.parted (taken text (word keyword.Begin) h.f h.g _ h.begun refl)))
+      (parameters_spelled text p.parameters.items h.c h.d h.parameters),
+  subst (Variables (map variable_of p.variables.items) (terminals text h.g))
+      (statements_spelled text p.statements.items h.h h.i h.statements ∙ ap (statements_words (statements_of p.statements.items)) (taken text (word keyword.End) h.i r _ h.ended refl))
+      (variables_spelled text p.variables.items h.g h.h h.variables),
+  some,
+  formed,
+)
+
+declarations_spelled : (text : List ℕ) (ds : List Declaration) (xs r : List Lexeme) → AreSound (map declaration_of ds) → DeclarationsSpan text ds xs r →
+    Declarations (map declaration_of ds) (terminals text xs) (terminals text r)
+declarations_spelled text [] xs r s h = ap (terminals text) h
+declarations_spelled text (d ∷ ds) xs r s (a, b, p, t, h) = (
+  terminals text b,
+  subst (Declares (declaration_of d) (terminals text xs)) (taken text (sign mark.Semicolon) a b _ t refl) (declaration_spelled text d xs a s.0 p),
+  declarations_spelled text ds b r s.1 h,
+)
+
+argument_spelled : (text : List ℕ) (x : Argument) (xs r : List Lexeme) → ArgumentSpans text x xs r → Argues (argument_of x) (terminals text xs) (terminals text r)
+argument_spelled text (argued.Channel n) xs r h = taken text (name (name_of n)) xs r _ h.0 refl
+argument_spelled text (argued.Number z at) xs r (c, inl t) = inl (taken text (terminal.number z) xs r _ t refl)
+argument_spelled text (argued.Number z at) xs r (c, inr (n, a, e, t, u)) =
+    inr (n, e, taken text (sign mark.Minus) xs a _ t (taken text (terminal.number n) a r _ u refl))
+argument_spelled text (argued.Logical b at) xs r h = taken text (truth_terminal b) xs r _ h.1 refl
+
+further_arguments_spelled : (text : List ℕ) (us : List Argument) (xs r : List Lexeme) → FurtherArgumentsSpan text us xs r →
+    FurtherArguments (map argument_of us) (terminals text xs) (terminals text r)
+further_arguments_spelled text [] xs r h = ap (terminals text) h
+further_arguments_spelled text (u ∷ us) xs r (a, b, t, p, h) =
+    (terminals text a, terminals text b, taken text (sign mark.Comma) xs a _ t refl, argument_spelled text u a b p, further_arguments_spelled text us b r h)
+
+arguments_spelled : (text : List ℕ) (us : List Argument) (xs r : List Lexeme) → ArgumentsSpan text us xs r → Arguments (map argument_of us) (terminals text xs) (terminals text r)
+arguments_spelled text [] xs r h = ap (terminals text) h
+arguments_spelled text (u ∷ us) xs r (a, p, h) = (terminals text a, argument_spelled text u xs a p, further_arguments_spelled text us a r h)
+
+instance_spelled : (text : List ℕ) (i : Instance) (xs r : List Lexeme) → InstanceSpans text i xs r → Instantiates (instance_of i) (terminals text xs) (terminals text r)
+instance_spelled text i xs r (a, b, c, n, o, p, q) = (
+  terminals text b,
+  taken text (name (name_of i.process)) xs a _ n.0 (taken text (sign mark.Open) a b _ o refl),
+  subst (Arguments (map argument_of i.arguments.items) (terminals text b)) (taken text (sign mark.Close) c r _ q refl) (arguments_spelled text i.arguments.items b c p),
+)
+
+further_instances_spelled : (text : List ℕ) (is : List Instance) (xs r : List Lexeme) → FurtherInstancesSpan text is xs r →
+    FurtherInstances (map instance_of is) (terminals text xs) (terminals text r)
+further_instances_spelled text [] xs r h = ap (terminals text) h
+further_instances_spelled text (i ∷ is) xs r (a, b, t, p, h) =
+    (terminals text a, terminals text b, taken text (word keyword.Par) xs a _ t refl, instance_spelled text i a b p, further_instances_spelled text is b r h)
+
+instances_spelled : (text : List ℕ) (is : List Instance) (xs r : List Lexeme) → InstancesSpan text is xs r → Instances (map instance_of is) (terminals text xs) (terminals text r)
+instances_spelled text [] xs r h = absurd h
+instances_spelled text (i ∷ is) xs r (a, p, h) = (terminals text a, instance_spelled text i xs a p, further_instances_spelled text is a r h)
+
+part_spelled : (text : List ℕ) (xs r : List Lexeme) → MayPart text xs r → MaybeSemicolon (terminals text xs) (terminals text r)
+part_spelled text xs r (inl t) = inl (taken text (sign mark.Semicolon) xs r _ t refl)
+part_spelled text xs r (inr e) = inr (ap (terminals text) e)
+
+pub program_spelled : (text : List ℕ) (p : Program) (xs : List Lexeme) → AreSound (map declaration_of p.declarations.items) → ProgramSpans text p xs →
+    Spells (program_of p) (terminals text xs)
+program_spelled text p xs s (a, b, c, d, e, t, f, g, h, u, v) = (
+  terminals text a,
+  terminals text b,
+  terminals text c,
+  terminals text d,
+  terminals text e,
+  taken text (word keyword.Begin) xs a _ t refl,
+  declarations_spelled text p.declarations.items a b s f,
+  instances_spelled text p.instances.items b c g,
+  part_spelled text c d h,
+  taken text (word keyword.End) d e _ u refl,
+  part_spelled text e [] v,
+)
+
+pub sound_nesting : (ds : List DeclarationTree) → AreSound ds → declarations_nesting ds ≤ 64
+sound_nesting [] s = omega arith
+sound_nesting (channels k o ns ∷ ds) s = omega (arith, sound_nesting ds s.1)
+sound_nesting (process n ps vs body ∷ ds) s = omega (arith, s.0.2, sound_nesting ds s.1)
+
+pub sound_more : (ds : List Declaration) (d : Declaration) → AreSound (map declaration_of ds) → IsSound (declaration_of d) → AreSound (map declaration_of (ds ++ d ∷ []))
+sound_more [] d s t = (t, tt)
+sound_more (e ∷ ds) d s t = (s.0, sound_more ds d s.1 t)

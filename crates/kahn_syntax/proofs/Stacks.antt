@@ -1,5 +1,5 @@
 -- The parts that are open inside of a conditional, a loop and a send, over what the parser reads.
-use Rattle.std.proofs.Common.{◌≡◌, ℕ, ◌+◌, ◌≤◌, List, [], ◌∷◌, refl, arith}
+use Rattle.std.proofs.Common.{◌≡◌, ℕ, ◌+◌, ◌≤◌, List, [], ◌∷◌, ◌++◌, refl, arith}
 use Rattle.kahn_syntax.specs.declared.lexeme.Keyword.TheVariants as keyword
 use Rattle.kahn_syntax.specs.declared.lexeme.Sign.TheVariants as mark
 use Rattle.kahn_syntax.specs.declared.lexeme.Class.TheVariants as class
@@ -7,7 +7,9 @@ use Rattle.kahn_syntax.specs.declared.lexeme.Lexeme.{Lexeme}
 use Rattle.kahn_syntax.specs.Terminals.{terminals, word, name, First}
 use Rattle.kahn_syntax.specs.Rungs.{whole}
 use Rattle.kahn_syntax.specs.Machine.{BeginToken, CloseToken, DoToken, ElseToken, EndToken, NameToken, OnToken, OpenToken, SemicolonToken, ThenToken, ElseTail, StatementsTail, Part, ProcessPart, GroupsPart, VariablesPart, StatementPart, SimplePart, ExpressionPart, TailPart, TokenPart, LevelPart}
-use Rattle.kahn_syntax.specs.Reads.{Moves, Reads}
+use Rattle.kahn_syntax.specs.Reads.{Moves, Reads, Stops, head_parts}
+use Rattle.kahn_syntax.specs.declared.parser.cursor.Stop.{Stop}
+use Rattle.kahn_syntax.specs.declared.parser.cursor.Stop.TheVariants.{Refused, TooDeep, NoMemory}
 use Rattle.kahn_syntax.proofs.Moves.{then, call, call_two, one, token, expected, goes}
 
 -- a conditional expression
@@ -120,56 +122,54 @@ process_statements = StatementPart ∷ TailPart StatementsTail ∷ process_end
 abbrev pub process_variables : List Part
 process_variables = VariablesPart ∷ process_statements
 
-abbrev pub process_begin : List Part
-process_begin = TokenPart BeginToken ∷ process_variables
-
-abbrev pub process_semicolon : List Part
-process_semicolon = TokenPart SemicolonToken ∷ process_begin
-
-abbrev pub process_close : List Part
-process_close = TokenPart CloseToken ∷ process_semicolon
-
-abbrev pub process_groups : List Part
-process_groups = GroupsPart ∷ process_close
-
 abbrev pub process_open : List Part
-process_open = TokenPart OpenToken ∷ process_groups
+process_open = head_parts ++ process_variables
 
 abbrev pub process_name : List Part
 process_name = TokenPart NameToken ∷ process_open
 
-pub to_process_name : (text : List ℕ) (i a : List Lexeme) → terminals text i ≡ word keyword.Process ∷ terminals text a →
-    Moves text 0 some_process process_name i a
-to_process_name text i a f0 = one text 0 ProcessPart [] process_name (word keyword.Process) i a (λ s l. omega (arith, l)) (λ s. refl) f0
+pub to_process_name : (text : List ℕ) (i a : List Lexeme) → terminals text i ≡ word keyword.Process ∷ terminals text a → Moves text 0 some_process process_name i a
+to_process_name text i a f = one text 0 ProcessPart [] process_name (word keyword.Process) i a (λ s l. omega (arith, l)) (λ s. refl) f
 
-pub to_process_open : (text : List ℕ) (i a b : List Lexeme) (n : List ℕ) → terminals text i ≡ word keyword.Process ∷ terminals text a → terminals text a ≡ name n ∷ terminals text b →
-    Moves text 0 some_process process_open i b
-to_process_open text i a b n f0 f1 = then text 0 some_process process_name process_open i a b (to_process_name text i a f0) (token text 0 NameToken process_open (name n) a b (λ s l. omega (arith, l)) refl f1)
+pub to_process_open : (text : List ℕ) (i a b : List Lexeme) (n : List ℕ) → Moves text 0 some_process process_name i a → terminals text a ≡ name n ∷ terminals text b → Moves text 0 some_process process_open i b
+to_process_open text i a b n m f = then text 0 some_process process_name process_open i a b m (token text 0 NameToken process_open (name n) a b (λ s l. omega (arith, l)) refl f)
 
-pub to_process_groups : (text : List ℕ) (i a b x : List Lexeme) (n : List ℕ) → terminals text i ≡ word keyword.Process ∷ terminals text a → terminals text a ≡ name n ∷ terminals text b → First (class.Sign mark.Open) b x →
-    Moves text 0 some_process process_groups i x
-to_process_groups text i a b x n f0 f1 f2 = then text 0 some_process process_open process_groups i b x (to_process_open text i a b n f0 f1) (expected text 0 OpenToken process_groups (class.Sign mark.Open) b x (λ s l. omega (arith, l)) refl f2)
+pub head_stops : (text : List ℕ) (i : List Lexeme) (x : Stop) → Stops text 0 head_parts i x → Stops text 0 process_open i x
+head_stops text i (Refused w n) f = λ s l. f (process_variables ++ s) l
+head_stops text i (TooDeep n) f = λ s l. f (process_variables ++ s) l
+head_stops text i NoMemory f = tt
 
-pub to_process_close : (text : List ℕ) (i a b x y : List Lexeme) (n : List ℕ) → terminals text i ≡ word keyword.Process ∷ terminals text a → terminals text a ≡ name n ∷ terminals text b → First (class.Sign mark.Open) b x → Reads text 0 (GroupsPart ∷ []) x y →
-    Moves text 0 some_process process_close i y
-to_process_close text i a b x y n f0 f1 f2 f3 = then text 0 some_process process_groups process_close i x y (to_process_groups text i a b x n f0 f1 f2) (call text 0 0 GroupsPart process_close x y (λ s l. l) f3)
+pub to_process_variables : (text : List ℕ) (i b v : List Lexeme) → Moves text 0 some_process process_open i b → Reads text 0 head_parts b v → Moves text 0 some_process process_variables i v
+to_process_variables text i b v m f = then text 0 some_process process_open process_variables i b v m (λ s l. f (process_variables ++ s) l)
 
-pub to_process_semicolon : (text : List ℕ) (i a b x y z : List Lexeme) (n : List ℕ) → terminals text i ≡ word keyword.Process ∷ terminals text a → terminals text a ≡ name n ∷ terminals text b → First (class.Sign mark.Open) b x → Reads text 0 (GroupsPart ∷ []) x y → First (class.Sign mark.Close) y z →
-    Moves text 0 some_process process_semicolon i z
-to_process_semicolon text i a b x y z n f0 f1 f2 f3 f4 = then text 0 some_process process_close process_semicolon i y z (to_process_close text i a b x y n f0 f1 f2 f3) (expected text 0 CloseToken process_semicolon (class.Sign mark.Close) y z (λ s l. omega (arith, l)) refl f4)
+pub to_process_statements : (text : List ℕ) (i v w : List Lexeme) → Moves text 0 some_process process_variables i v → Reads text 0 (VariablesPart ∷ []) v w → Moves text 0 some_process process_statements i w
+to_process_statements text i v w m f = then text 0 some_process process_variables process_statements i v w m (call text 0 0 VariablesPart process_statements v w (λ s l. l) f)
 
-pub to_process_begin : (text : List ℕ) (i a b x y z u : List Lexeme) (n : List ℕ) → terminals text i ≡ word keyword.Process ∷ terminals text a → terminals text a ≡ name n ∷ terminals text b → First (class.Sign mark.Open) b x → Reads text 0 (GroupsPart ∷ []) x y → First (class.Sign mark.Close) y z → First (class.Sign mark.Semicolon) z u →
-    Moves text 0 some_process process_begin i u
-to_process_begin text i a b x y z u n f0 f1 f2 f3 f4 f5 = then text 0 some_process process_semicolon process_begin i z u (to_process_semicolon text i a b x y z n f0 f1 f2 f3 f4) (expected text 0 SemicolonToken process_begin (class.Sign mark.Semicolon) z u (λ s l. omega (arith, l)) refl f5)
+pub to_process_end : (text : List ℕ) (i w o : List Lexeme) → Moves text 0 some_process process_statements i w → Reads text 0 (StatementPart ∷ TailPart StatementsTail ∷ []) w o → Moves text 0 some_process process_end i o
+to_process_end text i w o m f = then text 0 some_process process_statements process_end i w o m (call_two text 0 0 StatementPart (TailPart StatementsTail) process_end w o (λ s l. l) f)
 
-pub to_process_variables : (text : List ℕ) (i a b x y z u v : List Lexeme) (n : List ℕ) → terminals text i ≡ word keyword.Process ∷ terminals text a → terminals text a ≡ name n ∷ terminals text b → First (class.Sign mark.Open) b x → Reads text 0 (GroupsPart ∷ []) x y → First (class.Sign mark.Close) y z → First (class.Sign mark.Semicolon) z u → First (class.Word keyword.Begin) u v →
-    Moves text 0 some_process process_variables i v
-to_process_variables text i a b x y z u v n f0 f1 f2 f3 f4 f5 f6 = then text 0 some_process process_begin process_variables i u v (to_process_begin text i a b x y z u n f0 f1 f2 f3 f4 f5) (expected text 0 BeginToken process_variables (class.Word keyword.Begin) u v (λ s l. omega (arith, l)) refl f6)
+-- its head
 
-pub to_process_statements : (text : List ℕ) (i a b x y z u v w : List Lexeme) (n : List ℕ) → terminals text i ≡ word keyword.Process ∷ terminals text a → terminals text a ≡ name n ∷ terminals text b → First (class.Sign mark.Open) b x → Reads text 0 (GroupsPart ∷ []) x y → First (class.Sign mark.Close) y z → First (class.Sign mark.Semicolon) z u → First (class.Word keyword.Begin) u v → Reads text 0 (VariablesPart ∷ []) v w →
-    Moves text 0 some_process process_statements i w
-to_process_statements text i a b x y z u v w n f0 f1 f2 f3 f4 f5 f6 f7 = then text 0 some_process process_variables process_statements i v w (to_process_variables text i a b x y z u v n f0 f1 f2 f3 f4 f5 f6) (call text 0 0 VariablesPart process_statements v w (λ s l. l) f7)
+abbrev pub head_begin : List Part
+head_begin = TokenPart BeginToken ∷ []
 
-pub to_process_end : (text : List ℕ) (i a b x y z u v w o : List Lexeme) (n : List ℕ) → terminals text i ≡ word keyword.Process ∷ terminals text a → terminals text a ≡ name n ∷ terminals text b → First (class.Sign mark.Open) b x → Reads text 0 (GroupsPart ∷ []) x y → First (class.Sign mark.Close) y z → First (class.Sign mark.Semicolon) z u → First (class.Word keyword.Begin) u v → Reads text 0 (VariablesPart ∷ []) v w → Reads text 0 (StatementPart ∷ TailPart StatementsTail ∷ []) w o →
-    Moves text 0 some_process process_end i o
-to_process_end text i a b x y z u v w o n f0 f1 f2 f3 f4 f5 f6 f7 f8 = then text 0 some_process process_statements process_end i w o (to_process_statements text i a b x y z u v w n f0 f1 f2 f3 f4 f5 f6 f7) (call_two text 0 0 StatementPart (TailPart StatementsTail) process_end w o (λ s l. l) f8)
+abbrev pub head_semicolon : List Part
+head_semicolon = TokenPart SemicolonToken ∷ head_begin
+
+abbrev pub head_close : List Part
+head_close = TokenPart CloseToken ∷ head_semicolon
+
+abbrev pub head_groups : List Part
+head_groups = GroupsPart ∷ head_close
+
+pub to_head_groups : (text : List ℕ) (i a : List Lexeme) → First (class.Sign mark.Open) i a → Moves text 0 head_parts head_groups i a
+to_head_groups text i a f = expected text 0 OpenToken head_groups (class.Sign mark.Open) i a (λ s l. omega (arith, l)) refl f
+
+pub to_head_close : (text : List ℕ) (i a b : List Lexeme) → Moves text 0 head_parts head_groups i a → Reads text 0 (GroupsPart ∷ []) a b → Moves text 0 head_parts head_close i b
+to_head_close text i a b m f = then text 0 head_parts head_groups head_close i a b m (call text 0 0 GroupsPart head_close a b (λ s l. l) f)
+
+pub to_head_semicolon : (text : List ℕ) (i b x : List Lexeme) → Moves text 0 head_parts head_close i b → First (class.Sign mark.Close) b x → Moves text 0 head_parts head_semicolon i x
+to_head_semicolon text i b x m f = then text 0 head_parts head_close head_semicolon i b x m (expected text 0 CloseToken head_semicolon (class.Sign mark.Close) b x (λ s l. omega (arith, l)) refl f)
+
+pub to_head_begin : (text : List ℕ) (i x y : List Lexeme) → Moves text 0 head_parts head_semicolon i x → First (class.Sign mark.Semicolon) x y → Moves text 0 head_parts head_begin i y
+to_head_begin text i x y m f = then text 0 head_parts head_semicolon head_begin i x y m (expected text 0 SemicolonToken head_begin (class.Sign mark.Semicolon) x y (λ s l. omega (arith, l)) refl f)

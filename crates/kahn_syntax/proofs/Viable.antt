@@ -16,7 +16,7 @@ use Rattle.kahn_tree.specs.declared.tree.Operator.TheVariants as operator
 use Rattle.kahn_syntax.specs.Terminals.{Terminal, word, sign, name}
 use Rattle.kahn_syntax.specs.Terminals as terminal
 use Rattle.kahn_syntax.specs.Trees.{ExpressionTree, number, truth, variable, wait, negation, denial, bracket, conditional, OperandTrees, no_operand, operand, StatementTree, empty, assign, send, print, block, if_then, if_else, while_do, repeat, StatementTrees, no_statement, statement, operator_terminal, rank, expression_words, operands_words, statement_words, further_words, expression_nesting, operands_nesting, statement_nesting, statements_nesting, FormedOperands, FormedStatement, FormedStatements, IsSimple}
-use Rattle.kahn_syntax.specs.Programs.{GroupTree, group, TogetherTree, together, ParameterTree, VariableTree, DeclarationTree, channels, process, ArgumentTree, channel, InstanceTree, instance, kind_terminal, role_words, taking_words, further_names_words, group_words, groups_words, further_groups_words, groups_parameters, IsGroup, AreGroups, togethers_words, togethers_variables, AreTogether, Declares, Declarations, Argues, Arguments, FurtherArguments, Instantiates, Instances, FurtherInstances, MaybeSemicolon, declaration_nesting, declarations_nesting}
+use Rattle.kahn_syntax.specs.Programs.{GroupTree, group, TogetherTree, together, DeclarationTree, channels, process, ArgumentTree, channel, InstanceTree, instance, kind_terminal, role_words, taking_words, further_names_words, group_words, groups_words, further_groups_words, groups_parameters, IsGroup, AreGroups, togethers_words, togethers_variables, AreTogether, Declares, Declarations, Argues, Arguments, FurtherArguments, Instantiates, Instances, FurtherInstances, MaybeSemicolon, declaration_nesting, declarations_nesting}
 use Rattle.kahn_syntax.specs.Programs as tree
 use Rattle.kahn_syntax.specs.Reads as reads
 use Rattle.kahn_syntax.specs.Reads.{joined}

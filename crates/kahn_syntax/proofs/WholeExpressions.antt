@@ -9,7 +9,7 @@ use Rattle.kahn_syntax.specs.Reads.{Fits}
 use Rattle.kahn_syntax.specs.Rungs.{Rung, whole, ors, ands, denials, relations, sums, terms, factors, at, tighter}
 use Rattle.kahn_syntax.specs.Machine.{OpenToken, NameToken, CloseToken, ThenToken, ElseToken, Part, ExpressionPart, OperatorsPart, TokenPart, LevelPart, levels, again, fate}
 use Rattle.kahn_syntax.proofs.Levels.{joined_words}
-use Rattle.kahn_syntax.proofs.Unique.{Ends, ends_more, ends_operand, size, sizes, above, stop, Split, split, IsNoneOrOne, Whole, is_if, is_tighter, Denial, is_not, is_relation, level_low, no_if, no_not}
+use Rattle.kahn_syntax.proofs.Unique.{Ends, ends_more, ends_operand, size, sizes, above, stop, split, IsNoneOrOne, Whole, is_if, is_tighter, Denial, is_not, is_relation, level_low, no_if, no_not}
 use Rattle.kahn_syntax.proofs.Unique as unique
 use Rattle.kahn_syntax.proofs.Steps.{go, skip_level, take_token, IsChain, open_chain, open_whole, open_denial, skip_operators, ends_lacks, take_operator}
 

@@ -9,11 +9,15 @@ use Rattle.kahn_syntax.specs.declared.parser.operator.Level.TheVariants.{Or, And
 use Rattle.kahn_syntax.specs.declared.lexeme.Class.{Class}
 use Rattle.kahn_syntax.specs.declared.lexeme.Lexeme.{Lexeme}
 use Rattle.kahn_syntax.specs.declared.lexeme.Keyword.{Keyword}
-use Rattle.kahn_syntax.specs.Terminals.{Terminal, word, terminals, AreProper}
-use Rattle.kahn_syntax.specs.Machine.{Token, class_of, token_of, leads, Part, ProgramPart, ExpressionPart, StatementPart, SimplePart, TailPart, StatementsTail, TokenPart, levels, Refuses, TooFar, fate}
+use Rattle.kahn_syntax.specs.declared.lexeme.Keyword.TheVariants as keyword
+use Rattle.kahn_syntax.specs.declared.lexeme.Sign.TheVariants as mark
+use Rattle.kahn_tree.specs.declared.tree.Parameter.{Parameter}
+use Rattle.kahn_syntax.specs.Programs.{DeclarationTree, channels, process}
+use Rattle.kahn_syntax.specs.Terminals.{Terminal, word, sign, terminals, AreProper}
+use Rattle.kahn_syntax.specs.Machine.{Token, class_of, token_of, leads, Part, ProgramPart, ExpressionPart, StatementPart, SimplePart, TailPart, StatementsTail, TokenPart, GroupsPart, OpenToken, CloseToken, SemicolonToken, BeginToken, levels, Refuses, TooFar, fate}
 use Rattle.kahn_syntax.specs.Rungs.{Rung, whole, at}
 use Rattle.kahn_syntax.specs.Drawn.{expression_of, statement_of, statements_of}
-use Rattle.kahn_syntax.specs.Spans.{Takes, ExpressionSpans, StatementSpans, StatementsSpan}
+use Rattle.kahn_syntax.specs.Spans.{Takes, ParametersSpan, ExpressionSpans, StatementSpans, StatementsSpan}
 use Rattle.kahn_syntax.specs.Trees.{ExpressionTree, OperandTrees, no_operand, operand, level, binds, Formed, expression_nesting, StatementTree, statements_words, FormedStatement, FormedStatements, IsSimple, AreSome, statement_nesting, statements_nesting}
 
 -- an expression that may stand at this level
@@ -102,10 +106,26 @@ pub record StatementsRead (text : List ℕ) (depth : ℕ) (ss : List Statement) 
   pub proper : AreProper text rest
   pub reads : Reads text depth (StatementPart ∷ TailPart StatementsTail ∷ []) input rest
 
--- Where no level is open, a part is read from the input to the rest: its words stand there, and its spans are over them.
-pub record PartRead (text : List ℕ) (parts : List Part) (W : List Terminal → List Terminal → Type 0) (S : List Lexeme → List Lexeme → Type 0) (input rest : List Lexeme) : Type 0 where
-  pub words : W (terminals text input) (terminals text rest)
+-- Where no level is open, a part is read from the input to the rest, and its spans are over the lexemes between.
+pub record PartRead (text : List ℕ) (parts : List Part) (S : List Lexeme → List Lexeme → Type 0) (input rest : List Lexeme) : Type 0 where
   pub spans : S input rest
   pub shorter : length rest ≤ length input
   pub proper : AreProper text rest
   pub reads : Reads text 0 parts input rest
+
+-- a body is one of the grammar, within the limit of nesting
+abbrev pub IsSound : DeclarationTree → Type 0
+IsSound (channels k role ns) = Unit {0}
+IsSound (process n ps vs body) = AreSome body × FormedStatements body × (statements_nesting body ≤ 64)
+
+abbrev pub AreSound : List DeclarationTree → Type 0
+AreSound [] = Unit {0}
+AreSound (d ∷ ds) = IsSound d × AreSound ds
+
+-- the parameters of a process in their brackets, and what stands between them and its body
+abbrev pub head_parts : List Part
+head_parts = TokenPart OpenToken ∷ GroupsPart ∷ TokenPart CloseToken ∷ TokenPart SemicolonToken ∷ TokenPart BeginToken ∷ []
+
+abbrev pub HeadSpans : List ℕ → List Parameter → List Lexeme → List Lexeme → Type 0
+HeadSpans text ps xs r = (a : List Lexeme) × (b : List Lexeme) × (c : List Lexeme) × (d : List Lexeme) × Takes text (sign mark.Open) xs a
+    × ParametersSpan text ps a b × Takes text (sign mark.Close) b c × Takes text (sign mark.Semicolon) c d × Takes text (word keyword.Begin) d r

@@ -9,7 +9,7 @@ ghost use Rattle.kahn_syntax.specs.Programs.{kind_terminal, role_words, taking_w
 ghost use Rattle.kahn_syntax.specs.Drawn.{name_of};
 ghost use Rattle.kahn_syntax.specs.Drawn.{parameter_of, variable_of, process_of, declaration_of};
 ghost use Rattle.kahn_syntax.specs.Machine.{DeclarationsPart, DeclarationPart, ProcessPart, RolePart, GroupsPart, GroupPart, TakingPart, VariablesPart, leads_kind, leads_declaration};
-ghost use Rattle.kahn_syntax.specs.Reads.{Reads, Stops, PartRead};
+ghost use Rattle.kahn_syntax.specs.Reads.{Reads, Stops, PartRead, IsSound, AreSound, head_parts, HeadSpans};
 ghost use Rattle.kahn_syntax.specs.Spans.{IsPast, DeclarationsSpan, DeclarationSpans, RoleSpans, ProcessSpans, ParametersSpan, GroupSpans, DirectionSpans, VariablesSpan, group, together, kind_of, parameters_of, variables_of};
 
 use crate::lexeme::{Class, Keyword, Lexeme, Sign};
@@ -43,15 +43,15 @@ pub fn read_declarations<'t>(
     input: &'t [Lexeme],
 ) -> Read<'t, Vec<Declaration>>
     requires proper { AreProper text.now input.now }
-    ensures { MatchResult result (λ r. PartRead text.now (DeclarationsPart ∷ []) (λ ks l. Declarations (map declaration_of r.0.items) ks l × (declarations_nesting (map declaration_of r.0.items) ≤ 64)) (DeclarationsSpan text.now r.0.items) input.now r.1.now) (λ e. Stops text.now 0 (DeclarationsPart ∷ []) input.now e) }
+    ensures { MatchResult result (λ r. PartRead text.now (DeclarationsPart ∷ []) (λ xs l. AreSound (map declaration_of r.0.items) × DeclarationsSpan text.now r.0.items xs l) input.now r.1.now) (λ e. Stops text.now 0 (DeclarationsPart ∷ []) input.now e) }
 {
     let mut declarations = Vec::new(alloc);
     let mut rest = input;
     'declarations: while begins_declaration(rest) {
         let (declaration, after) = read_declaration(alloc, text, rest)?;
-        let after = expect(after, Class::Sign(Sign::Semicolon))?;
         declarations.push(declaration)?;
-        rest = after;
+        let left = expect(after, Class::Sign(Sign::Semicolon))?;
+        rest = left;
     }
     Ok((declarations, rest))
 }
@@ -72,7 +72,7 @@ fn begins_declaration(input: &[Lexeme]) -> bool
 // A declaration.
 fn read_declaration<'t>(alloc: Global, text: &str, input: &'t [Lexeme]) -> Read<'t, Declaration>
     requires proper { AreProper text.now input.now }
-    ensures { MatchResult result (λ r. PartRead text.now (DeclarationPart ∷ []) (λ ks l. Declares (declaration_of r.0) ks l × (declaration_nesting (declaration_of r.0) ≤ 64)) (DeclarationSpans text.now r.0) input.now r.1.now) (λ e. Stops text.now 0 (DeclarationPart ∷ []) input.now e) }
+    ensures { MatchResult result (λ r. PartRead text.now (DeclarationPart ∷ []) (λ xs l. IsSound (declaration_of r.0) × DeclarationSpans text.now r.0 xs l) input.now r.1.now) (λ e. Stops text.now 0 (DeclarationPart ∷ []) input.now e) }
 {
     match next_kind(input) {
         Some((kind, rest)) => {
@@ -90,7 +90,6 @@ fn read_declaration<'t>(alloc: Global, text: &str, input: &'t [Lexeme]) -> Read<
 
 // The role that stands before `channel`, where one stands.
 fn read_role(input: &[Lexeme]) -> (Role, &[Lexeme])
-    ensures words { (text : List ℕ) → terminals text input.now ≡ role_words result.0 (terminals text result.1.now) }
     ensures spans { (text : List ℕ) → RoleSpans text result.0 input.now result.1.now }
     ensures proper { (text : List ℕ) → AreProper text input.now → AreProper text result.1.now }
     ensures reads { (text : List ℕ) → Reads text 0 (RolePart ∷ []) input.now result.1.now }
@@ -106,15 +105,11 @@ fn read_role(input: &[Lexeme]) -> (Role, &[Lexeme])
 // A process with its body.
 fn read_process<'t>(alloc: Global, text: &str, input: &'t [Lexeme]) -> Read<'t, Process>
     requires proper { AreProper text.now input.now }
-    ensures { MatchResult result (λ r. PartRead text.now (ProcessPart ∷ []) (λ ks l. Declares (process_of r.0) ks l × (declaration_nesting (process_of r.0) ≤ 64)) (ProcessSpans text.now r.0) input.now r.1.now) (λ e. Stops text.now 0 (ProcessPart ∷ []) input.now e) }
+    ensures { MatchResult result (λ r. PartRead text.now (ProcessPart ∷ []) (λ xs l. IsSound (process_of r.0) × ProcessSpans text.now r.0 xs l) input.now r.1.now) (λ e. Stops text.now 0 (ProcessPart ∷ []) input.now e) }
 {
     let rest = expect(input, Class::Word(Keyword::Process))?;
     let (name, rest) = read_name(alloc, text, rest)?;
-    let rest = expect(rest, Class::Sign(Sign::Open))?;
-    let (parameters, rest) = read_parameters(alloc, text, rest)?;
-    let rest = expect(rest, Class::Sign(Sign::Close))?;
-    let rest = expect(rest, Class::Sign(Sign::Semicolon))?;
-    let rest = expect(rest, Class::Word(Keyword::Begin))?;
+    let (parameters, rest) = read_head(alloc, text, rest)?;
     let (variables, rest) = read_variables(alloc, text, rest)?;
     let (statements, rest) = read_statements(alloc, text, rest, 0)?;
     let rest = expect(rest, Class::Word(Keyword::End))?;
@@ -127,23 +122,37 @@ fn read_process<'t>(alloc: Global, text: &str, input: &'t [Lexeme]) -> Read<'t, 
     Ok((process, rest))
 }
 
+// The parameters of a process in their brackets, and what stands between them and its body.
+fn read_head<'t>(alloc: Global, text: &str, input: &'t [Lexeme]) -> Read<'t, Vec<Parameter>>
+    requires proper { AreProper text.now input.now }
+    ensures { MatchResult result (λ r. PartRead text.now head_parts (HeadSpans text.now r.0.items) input.now r.1.now) (λ e. Stops text.now 0 head_parts input.now e) }
+{
+    let rest = expect(input, Class::Sign(Sign::Open))?;
+    let (parameters, rest) = read_parameters(alloc, text, rest)?;
+    let rest = expect(rest, Class::Sign(Sign::Close))?;
+    let rest = expect(rest, Class::Sign(Sign::Semicolon))?;
+    let rest = expect(rest, Class::Word(Keyword::Begin))?;
+    Ok((parameters, rest))
+}
+
 // The groups of parameters, with semicolons between: none or more.
 fn read_parameters<'t>(alloc: Global, text: &str, input: &'t [Lexeme]) -> Read<'t, Vec<Parameter>>
     requires proper { AreProper text.now input.now }
-    ensures { MatchResult result (λ r. PartRead text.now (GroupsPart ∷ []) (Parameters (map parameter_of r.0.items)) (ParametersSpan text.now r.0.items) input.now r.1.now) (λ e. Stops text.now 0 (GroupsPart ∷ []) input.now e) }
+    ensures { MatchResult result (λ r. PartRead text.now (GroupsPart ∷ []) (ParametersSpan text.now r.0.items) input.now r.1.now) (λ e. Stops text.now 0 (GroupsPart ∷ []) input.now e) }
 {
     let mut parameters = Vec::new(alloc);
     if next_kind(input).is_none() {
         return Ok((parameters, input));
     }
-    let (first, mut rest) = read_group(alloc, text, input)?;
-    add_parameters(&mut parameters, first.taking, first.names)?;
-    'groups: while let Some(after) = past(rest, Class::Sign(Sign::Semicolon)) {
-        let (further, left) = read_group(alloc, text, after)?;
-        add_parameters(&mut parameters, further.taking, further.names)?;
-        rest = left;
+    let mut rest = input;
+    'groups: loop {
+        let (group, after) = read_group(alloc, text, rest)?;
+        add_parameters(&mut parameters, group.taking, group.names)?;
+        let Some(further) = past(after, Class::Sign(Sign::Semicolon)) else {
+            return Ok((parameters, after));
+        };
+        rest = further;
     }
-    Ok((parameters, rest))
 }
 
 // Names of parameters that take the same.
@@ -156,7 +165,7 @@ struct Group {
 // A group of parameters.
 fn read_group<'t>(alloc: Global, text: &str, input: &'t [Lexeme]) -> Read<'t, Group>
     requires proper { AreProper text.now input.now }
-    ensures { MatchResult result (λ r. PartRead text.now (GroupPart ∷ []) (λ ks l. AreNames (map name_of r.0.names.items) × (ks ≡ taking_words r.0.taking (names_words (map name_of r.0.names.items) l))) (GroupSpans text.now (group r.0.taking r.0.names.items)) input.now r.1.now) (λ e. Stops text.now 0 (GroupPart ∷ []) input.now e) }
+    ensures { MatchResult result (λ r. PartRead text.now (GroupPart ∷ []) (GroupSpans text.now (group r.0.taking r.0.names.items)) input.now r.1.now) (λ e. Stops text.now 0 (GroupPart ∷ []) input.now e) }
 {
     let Some((kind, rest)) = next_kind(input) else {
         return Err(Stop::Refused(false, input.len()));
@@ -168,7 +177,6 @@ fn read_group<'t>(alloc: Global, text: &str, input: &'t [Lexeme]) -> Read<'t, Gr
 
 // What the parameters of a group of this kind take.
 fn read_taking(kind: Kind, input: &[Lexeme]) -> (Taking, &[Lexeme])
-    ensures words { (text : List ℕ) → kind_terminal kind ∷ terminals text input.now ≡ taking_words result.0 (terminals text result.1.now) }
     ensures spans { (text : List ℕ) → DirectionSpans text result.0 input.now result.1.now }
     ensures kind { kind_of result.0 ≡ kind }
     ensures proper { (text : List ℕ) → AreProper text input.now → AreProper text result.1.now }
@@ -188,7 +196,6 @@ fn add_parameters(
     taking: Taking,
     names: Vec<Name>,
 ) -> Result<(), Stop>
-    ensures added { IfOk result (λ _. map parameter_of parameters.new.items ≡ map parameter_of parameters.old.items ++ map (parameter taking) (map name_of names.items)) }
     ensures items { IfOk result (λ _. parameters.new.items ≡ parameters.old.items ++ parameters_of (group taking names.items)) }
     ensures stop { IfErr result (λ e. e ≡ NoMemory) }
 {
@@ -201,7 +208,7 @@ fn add_parameters(
 // The variables of a body: none or more.
 fn read_variables<'t>(alloc: Global, text: &str, input: &'t [Lexeme]) -> Read<'t, Vec<Variable>>
     requires proper { AreProper text.now input.now }
-    ensures { MatchResult result (λ r. PartRead text.now (VariablesPart ∷ []) (Variables (map variable_of r.0.items)) (VariablesSpan text.now r.0.items) input.now r.1.now) (λ e. Stops text.now 0 (VariablesPart ∷ []) input.now e) }
+    ensures { MatchResult result (λ r. PartRead text.now (VariablesPart ∷ []) (VariablesSpan text.now r.0.items) input.now r.1.now) (λ e. Stops text.now 0 (VariablesPart ∷ []) input.now e) }
 {
     let mut variables = Vec::new(alloc);
     let mut rest = input;
@@ -216,7 +223,6 @@ fn read_variables<'t>(alloc: Global, text: &str, input: &'t [Lexeme]) -> Read<'t
 
 // Variables of these names.
 fn add_variables(variables: &mut Vec<Variable>, kind: Kind, names: Vec<Name>) -> Result<(), Stop>
-    ensures added { IfOk result (λ _. map variable_of variables.new.items ≡ map variable_of variables.old.items ++ map (variable kind) (map name_of names.items)) }
     ensures items { IfOk result (λ _. variables.new.items ≡ variables.old.items ++ variables_of (together kind names.items)) }
     ensures stop { IfErr result (λ e. e ≡ NoMemory) }
 {

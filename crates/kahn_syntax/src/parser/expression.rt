@@ -10,8 +10,8 @@ ghost use Rattle.kahn_syntax.specs.Rungs.{whole, denials, relations, factors, ti
 ghost use Rattle.kahn_syntax.specs.Machine.{ExpressionPart, TokenPart, class_of, token_of};
 
 use crate::lexeme::{Class, Keyword, Lexeme, Sign};
-use crate::parser::build::{bracketed, chosen, compared, denied, levelled, negated};
-use crate::parser::cursor::{Read, Stop, deeper, expect, next, past, reach};
+use crate::parser::build::{compared, made};
+use crate::parser::cursor::{Read, Stop, deeper, expect, next, past};
 use crate::parser::names::read_name;
 use crate::parser::operator::{Level, next_comparison, next_not, next_operator};
 use kahn_tree::tree::{Expression, Form, Operand};
@@ -24,10 +24,10 @@ pub fn read_expression<'t>(
     text: &str,
     input: &'t [Lexeme],
     depth: usize,
-) -> Read<'t, Expression>
+) -> Read<'t, Box<Expression>>
     requires depth { depth ≤ 64 }
     requires proper { AreProper text.now input.now }
-    ensures { MatchResult result (λ r. ExpressionRead text.now depth whole r.0 input.now r.1.now) (λ e. Stops text.now depth (ExpressionPart whole ∷ []) input.now e) }
+    ensures { MatchResult result (λ r. ExpressionRead text.now depth whole r.0.value input.now r.1.now) (λ e. Stops text.now depth (ExpressionPart whole ∷ []) input.now e) }
 {
     let Some(rest) = past(input, Class::Word(Keyword::If)) else {
         return read_level(alloc, text, input, Level::Or, depth);
@@ -36,8 +36,7 @@ pub fn read_expression<'t>(
     let (test, rest) = read_before(alloc, text, rest, inner, Keyword::Then)?;
     let (yes, rest) = read_before(alloc, text, rest, inner, Keyword::Else)?;
     let (no, rest) = read_expression(alloc, text, rest, inner)?;
-    let expression = chosen(alloc, reach(input, rest), test, yes, no)?;
-    Ok((expression, rest))
+    made(alloc, input, rest, Form::Conditional(test, yes, no))
 }
 
 /// An expression, and the keyword after it.
@@ -48,11 +47,11 @@ pub fn read_before<'t>(
     input: &'t [Lexeme],
     depth: usize,
     last: Keyword,
-) -> Read<'t, Expression>
+) -> Read<'t, Box<Expression>>
     requires depth { depth ≤ 64 }
     requires proper { AreProper text.now input.now }
     requires last { class_of (token_of last) ≡ Some (class.Word last) }
-    ensures { MatchResult result (λ r. ExpressionBefore text.now depth last r.0 input.now r.1.now) (λ e. Stops text.now depth (ExpressionPart whole ∷ TokenPart (token_of last) ∷ []) input.now e) }
+    ensures { MatchResult result (λ r. ExpressionBefore text.now depth last r.0.value input.now r.1.now) (λ e. Stops text.now depth (ExpressionPart whole ∷ TokenPart (token_of last) ∷ []) input.now e) }
 {
     let (expression, rest) = read_expression(alloc, text, input, depth)?;
     let rest = expect(rest, Class::Word(last))?;
@@ -67,10 +66,10 @@ fn read_level<'t>(
     input: &'t [Lexeme],
     level: Level,
     depth: usize,
-) -> Read<'t, Expression>
+) -> Read<'t, Box<Expression>>
     requires depth { depth ≤ 64 }
     requires proper { AreProper text.now input.now }
-    ensures { MatchResult result (λ r. ExpressionRead text.now depth (rung_of level) r.0 input.now r.1.now) (λ e. Stops text.now depth (ExpressionPart (rung_of level) ∷ []) input.now e) }
+    ensures { MatchResult result (λ r. ExpressionRead text.now depth (rung_of level) r.0.value input.now r.1.now) (λ e. Stops text.now depth (ExpressionPart (rung_of level) ∷ []) input.now e) }
 {
     let (first, mut rest) = read_operand(alloc, text, input, level, depth)?;
     let mut further = Vec::new(alloc);
@@ -78,12 +77,14 @@ fn read_level<'t>(
         let (expression, left) = read_operand(alloc, text, after, level, depth)?;
         further.push(Operand {
             operator,
-            expression,
+            expression: Box::into_inner(expression),
         })?;
         rest = left;
     }
-    let expression = levelled(alloc, reach(input, rest), first, further)?;
-    Ok((expression, rest))
+    if further.is_empty() {
+        return Ok((first, rest));
+    }
+    made(alloc, input, rest, Form::Level(first, further))
 }
 
 // An operand of this level.
@@ -94,10 +95,10 @@ fn read_operand<'t>(
     input: &'t [Lexeme],
     level: Level,
     depth: usize,
-) -> Read<'t, Expression>
+) -> Read<'t, Box<Expression>>
     requires depth { depth ≤ 64 }
     requires proper { AreProper text.now input.now }
-    ensures { MatchResult result (λ r. ExpressionRead text.now depth (tighter (rung_of level)) r.0 input.now r.1.now) (λ e. Stops text.now depth (ExpressionPart (tighter (rung_of level)) ∷ []) input.now e) }
+    ensures { MatchResult result (λ r. ExpressionRead text.now depth (tighter (rung_of level)) r.0.value input.now r.1.now) (λ e. Stops text.now depth (ExpressionPart (tighter (rung_of level)) ∷ []) input.now e) }
 {
     match level {
         Level::Or => read_level(alloc, text, input, Level::And, depth),
@@ -114,18 +115,17 @@ fn read_denial<'t>(
     text: &str,
     input: &'t [Lexeme],
     depth: usize,
-) -> Read<'t, Expression>
+) -> Read<'t, Box<Expression>>
     requires depth { depth ≤ 64 }
     requires proper { AreProper text.now input.now }
-    ensures { MatchResult result (λ r. ExpressionRead text.now depth denials r.0 input.now r.1.now) (λ e. Stops text.now depth (ExpressionPart denials ∷ []) input.now e) }
+    ensures { MatchResult result (λ r. ExpressionRead text.now depth denials r.0.value input.now r.1.now) (λ e. Stops text.now depth (ExpressionPart denials ∷ []) input.now e) }
 {
     let Some(rest) = next_not(input) else {
         return read_relation(alloc, text, input, depth);
     };
     let inner = deeper(input, depth)?;
     let (operand, rest) = read_denial(alloc, text, rest, inner)?;
-    let expression = denied(alloc, reach(input, rest), operand)?;
-    Ok((expression, rest))
+    made(alloc, input, rest, Form::Not(operand))
 }
 
 // A sum, or two with a comparison between.
@@ -135,18 +135,18 @@ fn read_relation<'t>(
     text: &str,
     input: &'t [Lexeme],
     depth: usize,
-) -> Read<'t, Expression>
+) -> Read<'t, Box<Expression>>
     requires depth { depth ≤ 64 }
     requires proper { AreProper text.now input.now }
-    ensures { MatchResult result (λ r. ExpressionRead text.now depth relations r.0 input.now r.1.now) (λ e. Stops text.now depth (ExpressionPart relations ∷ []) input.now e) }
+    ensures { MatchResult result (λ r. ExpressionRead text.now depth relations r.0.value input.now r.1.now) (λ e. Stops text.now depth (ExpressionPart relations ∷ []) input.now e) }
 {
     let (left, rest) = read_level(alloc, text, input, Level::Sum, depth)?;
     let Some((operator, after)) = next_comparison(rest) else {
         return Ok((left, rest));
     };
     let (right, rest) = read_level(alloc, text, after, Level::Sum, depth)?;
-    let expression = compared(alloc, reach(input, rest), left, operator, right)?;
-    Ok((expression, rest))
+    let form = compared(alloc, left, operator, right)?;
+    made(alloc, input, rest, form)
 }
 
 // An operand that no operator parts.
@@ -156,56 +156,30 @@ fn read_factor<'t>(
     text: &str,
     input: &'t [Lexeme],
     depth: usize,
-) -> Read<'t, Expression>
+) -> Read<'t, Box<Expression>>
     requires depth { depth ≤ 64 }
     requires proper { AreProper text.now input.now }
-    ensures { MatchResult result (λ r. ExpressionRead text.now depth factors r.0 input.now r.1.now) (λ e. Stops text.now depth (ExpressionPart factors ∷ []) input.now e) }
+    ensures { MatchResult result (λ r. ExpressionRead text.now depth factors r.0.value input.now r.1.now) (λ e. Stops text.now depth (ExpressionPart factors ∷ []) input.now e) }
 {
     match next(input) {
-        Some((Class::Number(number), rest)) => Ok((
-            Expression {
-                span: reach(input, rest),
-                form: Form::Number(number),
-            },
-            rest,
-        )),
-        Some((Class::Word(Keyword::True), rest)) => Ok((
-            Expression {
-                span: reach(input, rest),
-                form: Form::Logical(true),
-            },
-            rest,
-        )),
-        Some((Class::Word(Keyword::False), rest)) => Ok((
-            Expression {
-                span: reach(input, rest),
-                form: Form::Logical(false),
-            },
-            rest,
-        )),
+        Some((Class::Number(number), rest)) => made(alloc, input, rest, Form::Number(number)),
+        Some((Class::Word(Keyword::True), rest)) => made(alloc, input, rest, Form::Logical(true)),
+        Some((Class::Word(Keyword::False), rest)) => made(alloc, input, rest, Form::Logical(false)),
         Some((Class::Word(Keyword::Wait), rest)) => read_wait(alloc, text, input, rest),
         Some((Class::Sign(Sign::Minus), rest)) => {
             let inner = deeper(input, depth)?;
             let (operand, rest) = read_factor(alloc, text, rest, inner)?;
-            let expression = negated(alloc, reach(input, rest), operand)?;
-            Ok((expression, rest))
+            made(alloc, input, rest, Form::Negate(operand))
         }
         Some((Class::Sign(Sign::Open), rest)) => {
             let inner = deeper(input, depth)?;
             let (inside, rest) = read_expression(alloc, text, rest, inner)?;
             let rest = expect(rest, Class::Sign(Sign::Close))?;
-            let expression = bracketed(alloc, reach(input, rest), inside)?;
-            Ok((expression, rest))
+            made(alloc, input, rest, Form::Bracket(inside))
         }
         Some((Class::Name, _)) => {
             let (name, rest) = read_name(alloc, text, input)?;
-            Ok((
-                Expression {
-                    span: name.span,
-                    form: Form::Variable(name),
-                },
-                rest,
-            ))
+            made(alloc, input, rest, Form::Variable(name))
         }
         _ => Err(Stop::Refused(false, input.len())),
     }
@@ -217,21 +191,15 @@ fn read_wait<'t>(
     text: &str,
     input: &'t [Lexeme],
     rest: &'t [Lexeme],
-) -> Read<'t, Expression>
+) -> Read<'t, Box<Expression>>
     requires first { First (class.Word keyword.Wait) input.now rest.now }
     requires proper { AreProper text.now rest.now }
     requires follows { length input.now ≡ length rest.now + 1 }
     requires passed { IsPast input.now rest.now }
-    ensures { (depth : ℕ) → depth ≤ 64 → MatchResult result (λ r. ExpressionRead text.now depth factors r.0 input.now r.1.now) (λ e. Stops text.now depth (ExpressionPart factors ∷ []) input.now e) }
+    ensures { (depth : ℕ) → depth ≤ 64 → MatchResult result (λ r. ExpressionRead text.now depth factors r.0.value input.now r.1.now) (λ e. Stops text.now depth (ExpressionPart factors ∷ []) input.now e) }
 {
     let rest = expect(rest, Class::Sign(Sign::Open))?;
     let (name, rest) = read_name(alloc, text, rest)?;
     let rest = expect(rest, Class::Sign(Sign::Close))?;
-    Ok((
-        Expression {
-            span: reach(input, rest),
-            form: Form::Wait(name),
-        },
-        rest,
-    ))
+    made(alloc, input, rest, Form::Wait(name))
 }

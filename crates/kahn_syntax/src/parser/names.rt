@@ -47,15 +47,16 @@ pub fn read_name<'t>(alloc: Global, text: &str, input: &'t [Lexeme]) -> Read<'t,
 /// One name or more, with commas between.
 pub fn read_names<'t>(alloc: Global, text: &str, input: &'t [Lexeme]) -> Read<'t, Vec<Name>>
     requires proper { AreProper text.now input.now }
-    ensures { MatchResult result (λ r. PartRead text.now (names_then []) (λ ks l. AreNames (map name_of r.0.items) × (ks ≡ names_words (map name_of r.0.items) l)) (NamesSpan text.now r.0.items) input.now r.1.now) (λ e. Stops text.now 0 (names_then []) input.now e) }
+    ensures { MatchResult result (λ r. PartRead text.now (names_then []) (NamesSpan text.now r.0.items) input.now r.1.now) (λ e. Stops text.now 0 (names_then []) input.now e) }
 {
-    let (first, mut rest) = read_name(alloc, text, input)?;
     let mut names = Vec::new(alloc);
-    names.push(first)?;
-    'names: while let Some(after) = past(rest, Class::Sign(Sign::Comma)) {
-        let (name, left) = read_name(alloc, text, after)?;
+    let mut rest = input;
+    'names: loop {
+        let (name, after) = read_name(alloc, text, rest)?;
         names.push(name)?;
-        rest = left;
+        let Some(further) = past(after, Class::Sign(Sign::Comma)) else {
+            return Ok((names, after));
+        };
+        rest = further;
     }
-    Ok((names, rest))
 }

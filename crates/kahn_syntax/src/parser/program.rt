@@ -8,10 +8,10 @@ ghost use Rattle.kahn_syntax.specs.Machine.{NumberToken, leads, InstancePart, Ar
 ghost use Rattle.kahn_syntax.specs.Faults.{IsFault};
 ghost use Rattle.kahn_syntax.specs.declared.fault.SyntaxFault.TheVariants as SyntaxFault;
 ghost use Rattle.kahn_syntax.specs.Programs.{ProgramTree, Spells, nesting, Instances, Instantiates, Arguments, Argues, MaybeSemicolon};
-ghost use Rattle.kahn_syntax.specs.Drawn.{argument_of, instance_of, program_of};
+ghost use Rattle.kahn_syntax.specs.Drawn.{declaration_of, program_of};
 ghost use Rattle.kahn_syntax.specs.declared.lexeme.Lexeme.{Lexeme};
 ghost use Rattle.kahn_syntax.specs.Spans.{IsPast, Takes, MayPart, ArgumentSpans, ArgumentsSpan, InstanceSpans, InstancesSpan, ProgramSpans};
-ghost use Rattle.kahn_syntax.specs.Reads.{Reads, Stops, Halts, PartRead};
+ghost use Rattle.kahn_syntax.specs.Reads.{Reads, Stops, Halts, PartRead, AreSound};
 
 use crate::fault::{SyntaxFault, What};
 use crate::lexeme::{Class, Keyword, Lexeme, Sign};
@@ -72,9 +72,7 @@ fn fault_of(text: &str, lexemes: &[Lexeme], stop: Stop) -> SyntaxFault
 // A whole program.
 fn read_program(alloc: Global, text: &str, lexemes: &[Lexeme]) -> Result<Program, Stop>
     requires proper { AreProper text.now lexemes.now }
-    ensures spells { IfOk result (λ p. Spells (program_of p) (terminals text.now lexemes.now)) }
-    ensures spans { IfOk result (λ p. ProgramSpans text.now p lexemes.now) }
-    ensures nesting { IfOk result (λ p. nesting (program_of p) ≤ 64) }
+    ensures read { IfOk result (λ p. AreSound (map declaration_of p.declarations.items) × ProgramSpans text.now p lexemes.now) }
     ensures halts { IfErr result (λ e. Halts (terminals text.now lexemes.now) e) }
 {
     let rest = expect(lexemes, Class::Word(Keyword::Begin))?;
@@ -94,7 +92,6 @@ fn read_program(alloc: Global, text: &str, lexemes: &[Lexeme]) -> Result<Program
 
 // The lexemes after a semicolon, where one stands first.
 fn past_semicolon(input: &[Lexeme]) -> &[Lexeme]
-    ensures words { (text : List ℕ) → MaybeSemicolon (terminals text input.now) (terminals text result.now) }
     ensures spans { (text : List ℕ) → MayPart text input.now result.now }
     ensures shorter { length result.now ≤ length input.now }
     ensures proper { (text : List ℕ) → AreProper text input.now → AreProper text result.now }
@@ -109,23 +106,24 @@ fn past_semicolon(input: &[Lexeme]) -> &[Lexeme]
 // One instance or more, with `par` between.
 fn read_instances<'t>(alloc: Global, text: &str, input: &'t [Lexeme]) -> Read<'t, Vec<Instance>>
     requires proper { AreProper text.now input.now }
-    ensures { MatchResult result (λ r. PartRead text.now (InstancePart ∷ TailPart InstancesTail ∷ []) (Instances (map instance_of r.0.items)) (InstancesSpan text.now r.0.items) input.now r.1.now) (λ e. Stops text.now 0 (InstancePart ∷ TailPart InstancesTail ∷ []) input.now e) }
+    ensures { MatchResult result (λ r. PartRead text.now (InstancePart ∷ TailPart InstancesTail ∷ []) (InstancesSpan text.now r.0.items) input.now r.1.now) (λ e. Stops text.now 0 (InstancePart ∷ TailPart InstancesTail ∷ []) input.now e) }
 {
-    let (first, mut rest) = read_instance(alloc, text, input)?;
     let mut instances = Vec::new(alloc);
-    instances.push(first)?;
-    'instances: while let Some(after) = past(rest, Class::Word(Keyword::Par)) {
-        let (instance, left) = read_instance(alloc, text, after)?;
+    let mut rest = input;
+    'instances: loop {
+        let (instance, after) = read_instance(alloc, text, rest)?;
         instances.push(instance)?;
-        rest = left;
+        let Some(further) = past(after, Class::Word(Keyword::Par)) else {
+            return Ok((instances, after));
+        };
+        rest = further;
     }
-    Ok((instances, rest))
 }
 
 // An instance.
 fn read_instance<'t>(alloc: Global, text: &str, input: &'t [Lexeme]) -> Read<'t, Instance>
     requires proper { AreProper text.now input.now }
-    ensures { MatchResult result (λ r. PartRead text.now (InstancePart ∷ []) (Instantiates (instance_of r.0)) (InstanceSpans text.now r.0) input.now r.1.now) (λ e. Stops text.now 0 (InstancePart ∷ []) input.now e) }
+    ensures { MatchResult result (λ r. PartRead text.now (InstancePart ∷ []) (InstanceSpans text.now r.0) input.now r.1.now) (λ e. Stops text.now 0 (InstancePart ∷ []) input.now e) }
 {
     let (process, rest) = read_name(alloc, text, input)?;
     let rest = expect(rest, Class::Sign(Sign::Open))?;
@@ -136,27 +134,28 @@ fn read_instance<'t>(alloc: Global, text: &str, input: &'t [Lexeme]) -> Read<'t,
 // The arguments of an instance, with commas between, and the bracket after them: none or more.
 fn read_arguments<'t>(alloc: Global, text: &str, input: &'t [Lexeme]) -> Read<'t, Vec<Argument>>
     requires proper { AreProper text.now input.now }
-    ensures { MatchResult result (λ r. PartRead text.now (ArgumentsPart ∷ []) (λ ks l. Arguments (map argument_of r.0.items) ks (sign mark.Close ∷ l)) (λ xs l. (a : List Lexeme) × ArgumentsSpan text.now r.0.items xs a × Takes text.now (sign mark.Close) a l) input.now r.1.now) (λ e. Stops text.now 0 (ArgumentsPart ∷ []) input.now e) }
+    ensures { MatchResult result (λ r. PartRead text.now (ArgumentsPart ∷ []) (λ xs l. (a : List Lexeme) × ArgumentsSpan text.now r.0.items xs a × Takes text.now (sign mark.Close) a l) input.now r.1.now) (λ e. Stops text.now 0 (ArgumentsPart ∷ []) input.now e) }
 {
     let mut arguments = Vec::new(alloc);
     if let Some(rest) = past(input, Class::Sign(Sign::Close)) {
         return Ok((arguments, rest));
     }
-    let (first, mut rest) = read_argument(alloc, text, input)?;
-    arguments.push(first)?;
-    'arguments: while let Some(after) = past(rest, Class::Sign(Sign::Comma)) {
-        let (argument, left) = read_argument(alloc, text, after)?;
+    let mut rest = input;
+    'arguments: loop {
+        let (argument, after) = read_argument(alloc, text, rest)?;
         arguments.push(argument)?;
-        rest = left;
+        let Some(further) = past(after, Class::Sign(Sign::Comma)) else {
+            let left = expect(after, Class::Sign(Sign::Close))?;
+            return Ok((arguments, left));
+        };
+        rest = further;
     }
-    let rest = expect(rest, Class::Sign(Sign::Close))?;
-    Ok((arguments, rest))
 }
 
 // An argument.
 fn read_argument<'t>(alloc: Global, text: &str, input: &'t [Lexeme]) -> Read<'t, Argument>
     requires proper { AreProper text.now input.now }
-    ensures { MatchResult result (λ r. PartRead text.now (ArgumentPart ∷ []) (Argues (argument_of r.0)) (ArgumentSpans text.now r.0) input.now r.1.now) (λ e. Stops text.now 0 (ArgumentPart ∷ []) input.now e) }
+    ensures { MatchResult result (λ r. PartRead text.now (ArgumentPart ∷ []) (ArgumentSpans text.now r.0) input.now r.1.now) (λ e. Stops text.now 0 (ArgumentPart ∷ []) input.now e) }
 {
     match next(input) {
         Some((Class::Number(number), rest)) => Ok((

@@ -28,15 +28,16 @@ pub fn read_statements<'t>(
     requires proper { AreProper text.now input.now }
     ensures { MatchResult result (λ r. StatementsRead text.now depth r.0.items input.now r.1.now) (λ e. Stops text.now depth (StatementPart ∷ TailPart StatementsTail ∷ []) input.now e) }
 {
-    let (first, mut rest) = read_statement(alloc, text, input, depth)?;
     let mut statements = Vec::new(alloc);
-    statements.push(first)?;
-    'statements: while let Some(after) = past(rest, Class::Sign(Sign::Semicolon)) {
-        let (statement, left) = read_statement(alloc, text, after, depth)?;
+    let mut rest = input;
+    'statements: loop {
+        let (statement, after) = read_statement(alloc, text, rest, depth)?;
         statements.push(statement)?;
-        rest = left;
+        let Some(further) = past(after, Class::Sign(Sign::Semicolon)) else {
+            return Ok((statements, after));
+        };
+        rest = further;
     }
-    Ok((statements, rest))
 }
 
 // A statement.
@@ -132,7 +133,7 @@ fn read_simple<'t>(
             Ok((
                 Statement {
                     span: Some(reach(input, rest)),
-                    action: Action::Print(value),
+                    action: Action::Print(Box::into_inner(value)),
                 },
                 rest,
             ))
@@ -171,7 +172,7 @@ fn read_assign<'t>(
     Ok((
         Statement {
             span: Some(reach(input, rest)),
-            action: Action::Assign(name, value),
+            action: Action::Assign(name, Box::into_inner(value)),
         },
         rest,
     ))
@@ -197,7 +198,7 @@ fn read_send<'t>(
     Ok((
         Statement {
             span: Some(reach(input, rest)),
-            action: Action::Send(value, name),
+            action: Action::Send(Box::into_inner(value), name),
         },
         rest,
     ))

@@ -1,11 +1,8 @@
-use Rattle.std.proofs.Common.{◌≡◌, ◌++◌, map}
-use Rattle.kahn_syntax.specs.Programs.{parameter}
-use Rattle.kahn_syntax.specs.Drawn.{name_of, parameter_of}
+use Rattle.std.proofs.Common.{◌≡◌, ◌++◌}
 use Rattle.kahn_syntax.specs.Spans.{parameters_of, group}
 use Rattle.kahn_syntax.proofs.parser.declaration.add_parameters.Given as goal
 
 abbrev pub invariant-loop-name : goal.invariant-loop-name
 invariant-loop-name l = record {
-  added : map parameter_of l.parameters.items ≡ map parameter_of l.initial.parameters.items ++ map (parameter l.taking) (map name_of l.yielded);
   items : l.parameters.items ≡ l.initial.parameters.items ++ parameters_of (group l.taking l.yielded);
 }

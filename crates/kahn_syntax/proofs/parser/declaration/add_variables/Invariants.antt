@@ -1,11 +1,8 @@
-use Rattle.std.proofs.Common.{◌≡◌, ◌++◌, map}
-use Rattle.kahn_syntax.specs.Programs.{variable}
-use Rattle.kahn_syntax.specs.Drawn.{name_of, variable_of}
+use Rattle.std.proofs.Common.{◌≡◌, ◌++◌}
 use Rattle.kahn_syntax.specs.Spans.{variables_of, together}
 use Rattle.kahn_syntax.proofs.parser.declaration.add_variables.Given as goal
 
 abbrev pub invariant-loop-name : goal.invariant-loop-name
 invariant-loop-name l = record {
-  added : map variable_of l.variables.items ≡ map variable_of l.initial.variables.items ++ map (variable l.kind) (map name_of l.yielded);
   items : l.variables.items ≡ l.initial.variables.items ++ variables_of (together l.kind l.yielded);
 }

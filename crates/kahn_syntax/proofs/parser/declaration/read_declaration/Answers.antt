@@ -7,8 +7,6 @@ use Rattle.kahn_syntax.specs.Machine.{ChannelToken, NameToken, NamesTail, Declar
 use Rattle.kahn_syntax.proofs.Moves.{kind_moves, opens_process, then, then_stops, call, call_stops, call_two, call_two_stops, expected, unexpected}
 use Rattle.kahn_syntax.proofs.Spanning as S
 use Rattle.kahn_syntax.specs.Programs.{kind_terminal}
-use Rattle.std.proofs.Common.{◌∙◌, ap}
-use Rattle.kahn_syntax.specs.Programs.{role_words}
 use Rattle.kahn_syntax.proofs.parser.declaration.read_declaration.Goals as goal
 
 pub returns-in_err-rest-in-Some : goal.returns-in_err-rest-in-Some
@@ -29,15 +27,17 @@ returns-in_err-process-in-None c =
 pub returns-in_ok-names-in-Some : goal.returns-in_ok-names-in-Some
 returns-in_ok-names-in-Some c =
     record {
-      words = ((c.in_ok-names-in-Some.ensures.words.0, c.in-Some.ensures.first c.args.text.now ∙ ap (λ x. kind_terminal c.in-Some.kind ∷ x) (c.read_role-role.ensures.words c.args.text.now ∙ ap (role_words c.read_role-role.result.0) (c.in_ok-rest-in-Some.ensures.first.1 c.args.text.now ∙ ap (λ x. word keyword.Channel ∷ x) c.in_ok-names-in-Some.ensures.words.1))), omega arith);
       spans = let T = c.args.text.now in (
-        c.in-Some.rest.now,
-        c.read_role-role.result.1.now,
-        c.in_ok-rest-in-Some.rest.now,
-        (S.takes T (kind_terminal c.in-Some.kind) c.args.input.now c.in-Some.rest.now c.in-Some.ensures.passed (c.in-Some.ensures.first T)),
-        c.read_role-role.ensures.spans T,
-        (S.takes T (word keyword.Channel) c.read_role-role.result.1.now c.in_ok-rest-in-Some.rest.now c.in_ok-rest-in-Some.ensures.passed (c.in_ok-rest-in-Some.ensures.first.1 T)),
-        c.in_ok-names-in-Some.ensures.spans,
+        tt,
+        (
+          c.in-Some.rest.now,
+          c.read_role-role.result.1.now,
+          c.in_ok-rest-in-Some.rest.now,
+          (S.takes T (kind_terminal c.in-Some.kind) c.args.input.now c.in-Some.rest.now c.in-Some.ensures.passed (c.in-Some.ensures.first T)),
+          c.read_role-role.ensures.spans T,
+          (S.takes T (word keyword.Channel) c.read_role-role.result.1.now c.in_ok-rest-in-Some.rest.now c.in_ok-rest-in-Some.ensures.passed (c.in_ok-rest-in-Some.ensures.first.1 T)),
+          c.in_ok-names-in-Some.ensures.spans,
+        ),
       );
       shorter = omega (arith, c.in-Some.ensures.shorter, c.read_role-role.ensures.shorter, c.in_ok-rest-in-Some.ensures.shorter, c.in_ok-names-in-Some.ensures.shorter);
       proper = c.in_ok-names-in-Some.ensures.proper;
@@ -47,7 +47,6 @@ returns-in_ok-names-in-Some c =
 pub returns-in_ok-process-in-None : goal.returns-in_ok-process-in-None
 returns-in_ok-process-in-None c =
     record {
-      words = c.in_ok-process-in-None.ensures.words;
       spans = c.in_ok-process-in-None.ensures.spans;
       shorter = c.in_ok-process-in-None.ensures.shorter;
       proper = c.in_ok-process-in-None.ensures.proper;

@@ -1,11 +1,13 @@
-use Rattle.std.proofs.Common.{rules, true, ◌≡◌, false, refl, [], ◌∷◌, arith}
+use Rattle.std.proofs.Common.{rules, true, ◌≡◌, false, refl, [], ◌∷◌, arith, map, sym, subst}
 use Rattle.std.proofs.lemmas.Result.{err_from_is_err_and}
 use Rattle.kahn_syntax.specs.declared.lexeme.Sign.TheVariants as mark
 use Rattle.kahn_syntax.specs.declared.lexeme.Class.TheVariants as class
 use Rattle.kahn_syntax.specs.Terminals.{sign, terminals}
 use Rattle.kahn_syntax.specs.Machine.{leads_declaration, SemicolonToken, DeclarationsPart, DeclarationPart, TokenPart}
 use Rattle.kahn_syntax.proofs.Moves.{opens_declarations, declarations_end, then, then_stops, call, call_stops, expected, unexpected}
-use Rattle.kahn_syntax.proofs.Declared.{declarations_next, declarations_nesting_next}
+use Rattle.kahn_syntax.proofs.Spelled.{sound_more}
+use Rattle.kahn_syntax.specs.Reads.{AreSound}
+use Rattle.kahn_syntax.specs.Drawn.{declaration_of}
 use Rattle.kahn_syntax.proofs.Spanning as S
 use Rattle.kahn_syntax.proofs.parser.declaration.read_declarations.Goals as goal
 
@@ -13,28 +15,26 @@ pub returns-in_err-declaration : goal.returns-in_err-declaration
 returns-in_err-declaration c =
     let a : leads_declaration (terminals c.args.text.now c.declarations.rest.now) ≡ true = search rules in let p = err_from_is_err_and c.from_residual.result c.from_residual.ensures.1 in rw (p.1, p.2) (then_stops c.args.text.now 0 (DeclarationsPart ∷ []) (DeclarationPart ∷ TokenPart SemicolonToken ∷ DeclarationsPart ∷ []) c.args.input.now c.declarations.rest.now _ (then c.args.text.now 0 (DeclarationsPart ∷ []) (DeclarationsPart ∷ []) (DeclarationPart ∷ TokenPart SemicolonToken ∷ DeclarationsPart ∷ []) c.args.input.now c.declarations.rest.now c.declarations.rest.now (c.declarations.invariant.reads) (opens_declarations c.args.text.now [] c.declarations.rest.now a)) (call_stops c.args.text.now 0 0 (DeclarationPart) (TokenPart SemicolonToken ∷ DeclarationsPart ∷ []) c.declarations.rest.now _ (λ s l. omega (arith, l)) c.in_err-declaration.ensures))
 
-pub returns-in_err-after : goal.returns-in_err-after
-returns-in_err-after c =
-    let a : leads_declaration (terminals c.args.text.now c.declarations.rest.now) ≡ true = search rules in let p = err_from_is_err_and c.from_residual-in_err-after.result c.from_residual-in_err-after.ensures.1 in rw (p.1, p.2) (then_stops c.args.text.now 0 (DeclarationsPart ∷ []) (TokenPart SemicolonToken ∷ DeclarationsPart ∷ []) c.args.input.now c.in_ok-declaration.after.now _ (then c.args.text.now 0 (DeclarationsPart ∷ []) (DeclarationPart ∷ TokenPart SemicolonToken ∷ DeclarationsPart ∷ []) (TokenPart SemicolonToken ∷ DeclarationsPart ∷ []) c.args.input.now c.declarations.rest.now c.in_ok-declaration.after.now (then c.args.text.now 0 (DeclarationsPart ∷ []) (DeclarationsPart ∷ []) (DeclarationPart ∷ TokenPart SemicolonToken ∷ DeclarationsPart ∷ []) c.args.input.now c.declarations.rest.now c.declarations.rest.now (c.declarations.invariant.reads) (opens_declarations c.args.text.now [] c.declarations.rest.now a)) (call c.args.text.now 0 0 (DeclarationPart) (TokenPart SemicolonToken ∷ DeclarationsPart ∷ []) c.declarations.rest.now c.in_ok-declaration.after.now (λ s l. omega (arith, l)) c.in_ok-declaration.ensures.reads)) (unexpected c.args.text.now 0 SemicolonToken (DeclarationsPart ∷ []) (class.Sign mark.Semicolon) c.in_ok-declaration.after.now _ refl c.in_err-after.ensures.stop))
+pub returns-in_err-left : goal.returns-in_err-left
+returns-in_err-left c =
+    let a : leads_declaration (terminals c.args.text.now c.declarations.rest.now) ≡ true = search rules in let p = err_from_is_err_and c.from_residual-in_err-left.result c.from_residual-in_err-left.ensures.1 in rw (p.1, p.2) (then_stops c.args.text.now 0 (DeclarationsPart ∷ []) (TokenPart SemicolonToken ∷ DeclarationsPart ∷ []) c.args.input.now c.in_ok-declaration.after.now _ (then c.args.text.now 0 (DeclarationsPart ∷ []) (DeclarationPart ∷ TokenPart SemicolonToken ∷ DeclarationsPart ∷ []) (TokenPart SemicolonToken ∷ DeclarationsPart ∷ []) c.args.input.now c.declarations.rest.now c.in_ok-declaration.after.now (then c.args.text.now 0 (DeclarationsPart ∷ []) (DeclarationsPart ∷ []) (DeclarationPart ∷ TokenPart SemicolonToken ∷ DeclarationsPart ∷ []) c.args.input.now c.declarations.rest.now c.declarations.rest.now (c.declarations.invariant.reads) (opens_declarations c.args.text.now [] c.declarations.rest.now a)) (call c.args.text.now 0 0 (DeclarationPart) (TokenPart SemicolonToken ∷ DeclarationsPart ∷ []) c.declarations.rest.now c.in_ok-declaration.after.now (λ s l. omega (arith, l)) c.in_ok-declaration.ensures.reads)) (unexpected c.args.text.now 0 SemicolonToken (DeclarationsPart ∷ []) (class.Sign mark.Semicolon) c.in_ok-declaration.after.now _ refl c.in_err-left.ensures.stop))
 
 pub declarations-preserved : goal.declarations-preserved
 declarations-preserved c =
     let a : leads_declaration (terminals c.args.text.now c.declarations.rest.now) ≡ true = search rules in
     record {
-      words = declarations_next _ _ _ _ _ _ _ c.in_ok-push.ensures.items c.declarations.invariant.words c.in_ok-declaration.ensures.words.0 (c.in_ok-after.ensures.first.1 c.args.text.now);
-      spans = (let T = c.args.text.now in S.declarations_next T _ _ _ c.args.input.now c.declarations.rest.now c.in_ok-declaration.after.now c.in_ok-after.after.now c.in_ok-push.ensures.items c.declarations.invariant.spans c.in_ok-declaration.ensures.spans
-          (S.takes T (sign mark.Semicolon) c.in_ok-declaration.after.now c.in_ok-after.after.now c.in_ok-after.ensures.passed (c.in_ok-after.ensures.first.1 T)));
-      nesting = declarations_nesting_next _ _ _ c.in_ok-push.ensures.items c.declarations.invariant.nesting c.in_ok-declaration.ensures.words.1;
-      shorter = omega (arith, c.in_ok-after.ensures.shorter, c.in_ok-declaration.ensures.shorter, c.declarations.invariant.shorter);
-      proper = c.in_ok-after.ensures.proper c.args.text.now c.in_ok-declaration.ensures.proper;
-      reads = (then c.args.text.now 0 (DeclarationsPart ∷ []) (TokenPart SemicolonToken ∷ DeclarationsPart ∷ []) (DeclarationsPart ∷ []) c.args.input.now c.in_ok-declaration.after.now c.in_ok-after.after.now (then c.args.text.now 0 (DeclarationsPart ∷ []) (DeclarationPart ∷ TokenPart SemicolonToken ∷ DeclarationsPart ∷ []) (TokenPart SemicolonToken ∷ DeclarationsPart ∷ []) c.args.input.now c.declarations.rest.now c.in_ok-declaration.after.now (then c.args.text.now 0 (DeclarationsPart ∷ []) (DeclarationsPart ∷ []) (DeclarationPart ∷ TokenPart SemicolonToken ∷ DeclarationsPart ∷ []) c.args.input.now c.declarations.rest.now c.declarations.rest.now (c.declarations.invariant.reads) (opens_declarations c.args.text.now [] c.declarations.rest.now a)) (call c.args.text.now 0 0 (DeclarationPart) (TokenPart SemicolonToken ∷ DeclarationsPart ∷ []) c.declarations.rest.now c.in_ok-declaration.after.now (λ s l. omega (arith, l)) c.in_ok-declaration.ensures.reads)) (expected c.args.text.now 0 SemicolonToken (DeclarationsPart ∷ []) (class.Sign mark.Semicolon) c.in_ok-declaration.after.now c.in_ok-after.after.now (λ s l. omega (arith, l)) refl c.in_ok-after.ensures.first));
+      spans = (let T = c.args.text.now in S.declarations_next T _ _ _ c.args.input.now c.declarations.rest.now c.in_ok-declaration.after.now c.in_ok-left.left.now c.in_ok-push.ensures.items c.declarations.invariant.spans c.in_ok-declaration.ensures.spans.1
+          (S.takes T (sign mark.Semicolon) c.in_ok-declaration.after.now c.in_ok-left.left.now c.in_ok-left.ensures.passed (c.in_ok-left.ensures.first.1 T)));
+      sound = subst (λ ds. AreSound (map declaration_of ds)) (sym c.in_ok-push.ensures.items) (sound_more _ c.in_ok-declaration.declaration c.declarations.invariant.sound c.in_ok-declaration.ensures.spans.0);
+      shorter = omega (arith, c.in_ok-left.ensures.shorter, c.in_ok-declaration.ensures.shorter, c.declarations.invariant.shorter);
+      proper = c.in_ok-left.ensures.proper c.args.text.now c.in_ok-declaration.ensures.proper;
+      reads = (then c.args.text.now 0 (DeclarationsPart ∷ []) (TokenPart SemicolonToken ∷ DeclarationsPart ∷ []) (DeclarationsPart ∷ []) c.args.input.now c.in_ok-declaration.after.now c.in_ok-left.left.now (then c.args.text.now 0 (DeclarationsPart ∷ []) (DeclarationPart ∷ TokenPart SemicolonToken ∷ DeclarationsPart ∷ []) (TokenPart SemicolonToken ∷ DeclarationsPart ∷ []) c.args.input.now c.declarations.rest.now c.in_ok-declaration.after.now (then c.args.text.now 0 (DeclarationsPart ∷ []) (DeclarationsPart ∷ []) (DeclarationPart ∷ TokenPart SemicolonToken ∷ DeclarationsPart ∷ []) c.args.input.now c.declarations.rest.now c.declarations.rest.now (c.declarations.invariant.reads) (opens_declarations c.args.text.now [] c.declarations.rest.now a)) (call c.args.text.now 0 0 (DeclarationPart) (TokenPart SemicolonToken ∷ DeclarationsPart ∷ []) c.declarations.rest.now c.in_ok-declaration.after.now (λ s l. omega (arith, l)) c.in_ok-declaration.ensures.reads)) (expected c.args.text.now 0 SemicolonToken (DeclarationsPart ∷ []) (class.Sign mark.Semicolon) c.in_ok-declaration.after.now c.in_ok-left.left.now (λ s l. omega (arith, l)) refl c.in_ok-left.ensures.first));
     }
 
 pub returns : goal.returns
 returns c =
     record {
-      words = (c.declarations.invariant.words, c.declarations.invariant.nesting);
-      spans = c.declarations.invariant.spans;
+      spans = (c.declarations.invariant.sound, c.declarations.invariant.spans);
       shorter = c.declarations.invariant.shorter;
       proper = c.declarations.invariant.proper;
       reads = let a : leads_declaration (terminals c.args.text.now c.declarations.rest.now) ≡ false = search rules in (then c.args.text.now 0 (DeclarationsPart ∷ []) (DeclarationsPart ∷ []) ([]) c.args.input.now c.declarations.rest.now c.declarations.rest.now (c.declarations.invariant.reads) (declarations_end c.args.text.now [] c.declarations.rest.now a));

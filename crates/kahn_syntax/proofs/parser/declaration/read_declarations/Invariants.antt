@@ -1,16 +1,14 @@
 use Rattle.std.proofs.Common.{◌≤◌, [], ◌∷◌, length, map}
-use Rattle.kahn_syntax.specs.Terminals.{terminals, AreProper}
+use Rattle.kahn_syntax.specs.Terminals.{AreProper}
 use Rattle.kahn_syntax.specs.Machine.{DeclarationsPart}
-use Rattle.kahn_syntax.specs.Reads.{Moves}
-use Rattle.kahn_syntax.specs.Programs.{Declarations, declarations_nesting}
+use Rattle.kahn_syntax.specs.Reads.{Moves, AreSound}
 use Rattle.kahn_syntax.specs.Drawn.{declaration_of}
 use Rattle.kahn_syntax.specs.Spans.{DeclarationsSpan}
 use Rattle.kahn_syntax.proofs.parser.declaration.read_declarations.Given as goal
 
 abbrev pub invariant-declarations : goal.invariant-declarations
 invariant-declarations l = record {
-  words : Declarations (map declaration_of l.declarations.items) (terminals l.text l.input) (terminals l.text l.rest);
-  nesting : declarations_nesting (map declaration_of l.declarations.items) ≤ 64;
+  sound : AreSound (map declaration_of l.declarations.items);
   spans : DeclarationsSpan l.text l.declarations.items l.input l.rest;
   shorter : length l.rest ≤ length l.input;
   proper : AreProper l.text l.rest;

@@ -4,8 +4,6 @@ use Rattle.kahn_syntax.specs.Machine.{NameToken, NamesTail, GroupPart, TakingPar
 use Rattle.kahn_syntax.proofs.Moves.{kind_moves, no_group, then, then_stops, call, call_two, call_two_stops}
 use Rattle.kahn_syntax.proofs.Spanning as S
 use Rattle.kahn_syntax.specs.Programs.{kind_terminal}
-use Rattle.std.proofs.Common.{◌∙◌, ap}
-use Rattle.kahn_syntax.specs.Programs.{taking_words}
 use Rattle.kahn_syntax.proofs.parser.declaration.read_group.Goals as goal
 
 pub returns-in_default : goal.returns-in_default
@@ -22,7 +20,6 @@ returns-in_err-names c =
 pub returns : goal.returns
 returns c =
     record {
-      words = (c.in_ok-names.ensures.words.0, c.in-Some.ensures.first c.args.text.now ∙ (c.read_taking-taking.ensures.words c.args.text.now ∙ ap (taking_words c.read_taking-taking.result.0) c.in_ok-names.ensures.words.1));
       spans = let T = c.args.text.now in
           S.group_spans T _ c.in-Some.kind _ c.args.input.now c.in-Some.rest.now c.read_taking-taking.result.1.now c.in_ok-names.rest.now c.read_taking-taking.ensures.kind
           (S.takes T (kind_terminal c.in-Some.kind) c.args.input.now c.in-Some.rest.now c.in-Some.ensures.passed (c.in-Some.ensures.first T)) (c.read_taking-taking.ensures.spans T) c.in_ok-names.ensures.spans;

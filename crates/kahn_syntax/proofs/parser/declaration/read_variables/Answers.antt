@@ -1,16 +1,12 @@
-use Rattle.std.proofs.Common.{map, refl, [], ◌∷◌, arith, sym, subst}
+use Rattle.std.proofs.Common.{refl, [], ◌∷◌, arith}
 use Rattle.std.proofs.lemmas.Result.{err_from_is_err_and}
 use Rattle.kahn_syntax.specs.declared.lexeme.Sign.TheVariants as mark
 use Rattle.kahn_syntax.specs.declared.lexeme.Class.TheVariants as class
 use Rattle.kahn_syntax.specs.Terminals.{sign, terminals}
 use Rattle.kahn_syntax.specs.Machine.{NameToken, SemicolonToken, NamesTail, VariablesPart, TailPart, TokenPart}
-use Rattle.kahn_syntax.specs.Drawn.{name_of}
 use Rattle.kahn_syntax.proofs.Moves.{kind_moves, variables_end, then, then_stops, call_two, call_two_stops, expected, unexpected}
-use Rattle.kahn_syntax.proofs.Declared.{variables_next}
 use Rattle.kahn_syntax.proofs.Spanning as S
 use Rattle.kahn_syntax.specs.Programs.{kind_terminal}
-use Rattle.kahn_syntax.specs.Drawn.{variable_of}
-use Rattle.kahn_syntax.specs.Programs.{Variables}
 use Rattle.kahn_syntax.proofs.parser.declaration.read_variables.Goals as goal
 
 pub read_names-requires : goal.read_names-requires
@@ -27,8 +23,6 @@ returns-in_err-after c =
 pub variables-preserved : goal.variables-preserved
 variables-preserved c =
     record {
-      words = variables_next _ _ c.in-Some.kind (map name_of c.in_ok-names.names.items) _ _ _ _ _ c.variables.invariant.words (c.in-Some.ensures.first c.args.text.now)
-          c.in_ok-names.ensures.words.1 (c.in_ok-after.ensures.first.1 c.args.text.now) c.in_ok-names.ensures.words.0 c.in_ok-add_variables.ensures.added;
       spans = (let T = c.args.text.now in S.variables_next T _ _ c.in-Some.kind c.in_ok-names.names.items c.args.input.now c.variables.rest.now c.in-Some.after.now c.in_ok-names.after.now c.in_ok-after.after.now c.in_ok-add_variables.ensures.items c.variables.invariant.spans
           (S.takes T (kind_terminal c.in-Some.kind) c.variables.rest.now c.in-Some.after.now c.in-Some.ensures.passed (c.in-Some.ensures.first T)) c.in_ok-names.ensures.spans (S.takes T (sign mark.Semicolon) c.in_ok-names.after.now c.in_ok-after.after.now c.in_ok-after.ensures.passed (c.in_ok-after.ensures.first.1 T)));
       shorter = omega (arith, c.in-Some.ensures.shorter, c.in_ok-names.ensures.shorter, c.in_ok-after.ensures.shorter, c.variables.invariant.shorter);
@@ -40,7 +34,6 @@ pub variables-init : goal.variables-init
 variables-init c =
     let k = terminals c.args.text.now c.args.input.now in
     record {
-      words = subst (λ vs. Variables (map variable_of vs) k k) (sym c.new-variables.ensures.items) ([], tt, refl, refl);
       spans = ([], c.new-variables.ensures.items, refl);
       shorter = omega arith;
       proper = c.requires.proper;
@@ -50,7 +43,6 @@ variables-init c =
 pub returns : goal.returns
 returns c =
     record {
-      words = c.variables.invariant.words;
       spans = c.variables.invariant.spans;
       shorter = c.variables.invariant.shorter;
       proper = c.variables.invariant.proper;

@@ -1,15 +1,12 @@
-use Rattle.std.proofs.Common.{◌≤◌, [], ◌∷◌, length, map}
-use Rattle.kahn_syntax.specs.Terminals.{terminals, AreProper}
+use Rattle.std.proofs.Common.{◌≤◌, [], ◌∷◌, length}
+use Rattle.kahn_syntax.specs.Terminals.{AreProper}
 use Rattle.kahn_syntax.specs.Machine.{VariablesPart}
 use Rattle.kahn_syntax.specs.Reads.{Moves}
-use Rattle.kahn_syntax.specs.Programs.{Variables}
-use Rattle.kahn_syntax.specs.Drawn.{variable_of}
 use Rattle.kahn_syntax.specs.Spans.{VariablesSpan}
 use Rattle.kahn_syntax.proofs.parser.declaration.read_variables.Given as goal
 
 abbrev pub invariant-variables : goal.invariant-variables
 invariant-variables l = record {
-  words : Variables (map variable_of l.variables.items) (terminals l.text l.input) (terminals l.text l.rest);
   spans : VariablesSpan l.text l.variables.items l.input l.rest;
   shorter : length l.rest ≤ length l.input;
   proper : AreProper l.text l.rest;

@@ -1,26 +1,25 @@
-use Rattle.std.proofs.Common.{rules, ◌≡◌, false, refl, [], ◌∷◌, arith, sym, ap, ◌∙◌, subst}
+use Rattle.std.proofs.Common.{rules, ◌≡◌, false, refl, [], ◌∷◌, arith, sym, ap, ◌∙◌, subst, w64, vec_len}
 use Rattle.std.proofs.lemmas.Result.{err_from_is_err_and}
 use Rattle.kahn_syntax.specs.declared.lexeme.Keyword.TheVariants as keyword
 use Rattle.kahn_syntax.specs.declared.lexeme.Sign.TheVariants as mark
 use Rattle.kahn_syntax.specs.declared.lexeme.Class.TheVariants as class
-use Rattle.kahn_syntax.specs.Terminals.{word, sign, number, name, terminals}
+use Rattle.kahn_syntax.specs.Terminals.{word, sign, number, name, terminals, IsUnsigned}
 use Rattle.kahn_syntax.specs.Rungs.{whole, ors, denials, relations, sums, factors, rung_of, tighter, at}
-use Rattle.kahn_syntax.specs.Machine.{CloseToken, ElseToken, ThenToken, ExpressionPart, OperatorsPart, TokenPart, LevelPart}
-use Rattle.kahn_syntax.specs.Drawn.{expression_of, name_of}
-use Rattle.kahn_syntax.proofs.Moves.{opens_whole, opens_chain, operators_end, comparison, level_chain, operator_more, only_memory, leads_factor, no_factor, opens_denial, level_end, opened, then, then_stops, call, call_stops, call_two_stops, one, deep, expected, level_ends, unexpected}
-use Rattle.std.proofs.Common.{w64}
+use Rattle.kahn_syntax.specs.Machine.{CloseToken, ElseToken, ThenToken, ExpressionPart, OperatorsPart, TokenPart, LevelPart, token_of}
+use Rattle.kahn_syntax.specs.Drawn.{expression_of, name_of, operands_of, form_of, operands_row}
+use Rattle.kahn_syntax.proofs.Moves.{made, opens_whole, opens_chain, operators_end, comparison, level_chain, operator_more, only_memory, leads_factor, no_factor, opens_denial, level_end, opened, then, then_stops, call, call_stops, call_two_stops, one, deep, expected, level_ends, unexpected}
 use Rattle.std.proofs.lemmas.Int.{to_z-of_z}
 use Rattle.kahn_syntax.proofs.Negative.{number_fits}
-use Rattle.kahn_syntax.specs.Terminals.{IsUnsigned}
-use Rattle.kahn_syntax.specs.Spans.{Takes, OperandsSpan}
+use Rattle.kahn_syntax.specs.Spans.{Takes, ExpressionSpans, OperandsSpan}
 use Rattle.kahn_syntax.proofs.Spanning as S
 use Rattle.kahn_syntax.proofs.Stacks as K
-use Rattle.kahn_syntax.specs.Machine.{token_of}
-use Rattle.kahn_syntax.specs.Trees.{operator_terminal, expression_nesting, operands_nesting, FormedOperands}
-use Rattle.kahn_syntax.specs.Drawn.{operands_of}
-use Rattle.kahn_syntax.specs.Reads.{rank_of, Fits}
+use Rattle.kahn_syntax.specs.Trees.{operator_terminal, expression_nesting, operands_nesting, FormedOperands, no_operand}
+use Rattle.kahn_syntax.specs.Reads.{rank_of, Fits, ExpressionRead}
 use Rattle.kahn_syntax.proofs.Lists.{first_of}
-use Rattle.kahn_syntax.proofs.Levels.{operands_nesting_next, formed_next, level_fits, joined_nesting, compared_fits}
+use Rattle.kahn_syntax.proofs.Levels.{operands_nesting_next, formed_next, level_fits, joined_made, joined_nesting, compared_fits}
+use Rattle.kahn_syntax.proofs.Rows.{operands_made, operands_row_spans}
+use Rattle.kahn_tree.specs.declared.tree.Form.TheBlock.{hidden-the_row-Operand-0}
+use Rattle.std.specs.Prelude.{◌==◌, length, true}
 use Rattle.kahn_syntax.proofs.parser.expression.+expression.Goals as goal
 
 pub read_level-returns-in_err-first : goal.read_level-returns-in_err-first
@@ -47,13 +46,14 @@ read_level-operands-init t c =
 
 pub read_level-operands-preserved : goal.read_level-operands-preserved
 read_level-operands-preserved t c =
+    let v = subst (λ e. ExpressionRead c.args.text.now c.args.depth (tighter (rung_of c.args.level)) e c.in-Some.after.now c.in_ok-expression.left.now) (sym c.into_inner.ensures) c.in_ok-expression.ensures in
     record {
-      spans = (c.operands.invariant.spans.0, c.operands.invariant.spans.1, S.operands_next c.args.text.now _ _ _ _ c.operands.rest.now c.in-Some.after.now c.in_ok-expression.left.now c.in_ok-push.ensures.items c.operands.invariant.spans.2 (S.takes c.args.text.now (operator_terminal c.in-Some.operator) c.operands.rest.now c.in-Some.after.now c.in-Some.ensures.passed (c.in-Some.ensures.first c.args.text.now)) c.in_ok-expression.ensures.spans);
-      formed = formed_next c.args.level _ _ _ c.in_ok-push.ensures.items c.operands.invariant.formed c.in-Some.ensures.ranked c.in_ok-expression.ensures.fits;
-      nesting = operands_nesting_next _ (expression_of c.in_ok-first.first) _ _ _ c.in_ok-push.ensures.items c.operands.invariant.nesting c.in_ok-expression.ensures.nesting;
-      shorter = omega (arith, c.in-Some.ensures.shorter, c.in_ok-expression.ensures.shorter, c.operands.invariant.shorter);
-      proper = c.in_ok-expression.ensures.proper;
-      reads = (then c.args.text.now c.args.depth (ExpressionPart (rung_of c.args.level) ∷ []) (ExpressionPart (tighter (rung_of c.args.level)) ∷ OperatorsPart (rung_of c.args.level) ∷ []) (OperatorsPart (rung_of c.args.level) ∷ []) c.args.input.now c.in-Some.after.now c.in_ok-expression.left.now (then c.args.text.now c.args.depth (ExpressionPart (rung_of c.args.level) ∷ []) (OperatorsPart (rung_of c.args.level) ∷ []) (ExpressionPart (tighter (rung_of c.args.level)) ∷ OperatorsPart (rung_of c.args.level) ∷ []) c.args.input.now c.operands.rest.now c.in-Some.after.now (c.operands.invariant.reads) (operator_more c.args.text.now c.args.depth c.args.level c.in-Some.operator [] c.operands.rest.now c.in-Some.after.now (λ s l. omega (arith, l, c.requires.1.1.0)) c.in-Some.ensures.ranked (c.in-Some.ensures.first c.args.text.now))) (call c.args.text.now c.args.depth c.args.depth (ExpressionPart (tighter (rung_of c.args.level))) (OperatorsPart (rung_of c.args.level) ∷ []) c.in-Some.after.now c.in_ok-expression.left.now (λ s l. omega (arith, l, c.requires.1.1.0)) c.in_ok-expression.ensures.reads));
+      spans = (c.operands.invariant.spans.0, c.operands.invariant.spans.1, S.operands_next c.args.text.now _ _ _ _ c.operands.rest.now c.in-Some.after.now c.in_ok-expression.left.now c.in_ok-push.ensures.items c.operands.invariant.spans.2 (S.takes c.args.text.now (operator_terminal c.in-Some.operator) c.operands.rest.now c.in-Some.after.now c.in-Some.ensures.passed (c.in-Some.ensures.first c.args.text.now)) v.spans);
+      formed = formed_next c.args.level _ _ _ c.in_ok-push.ensures.items c.operands.invariant.formed c.in-Some.ensures.ranked v.fits;
+      nesting = operands_nesting_next _ (expression_of c.in_ok-first.first.value) _ _ _ c.in_ok-push.ensures.items c.operands.invariant.nesting v.nesting;
+      shorter = omega (arith, c.in-Some.ensures.shorter, v.shorter, c.operands.invariant.shorter);
+      proper = v.proper;
+      reads = (then c.args.text.now c.args.depth (ExpressionPart (rung_of c.args.level) ∷ []) (ExpressionPart (tighter (rung_of c.args.level)) ∷ OperatorsPart (rung_of c.args.level) ∷ []) (OperatorsPart (rung_of c.args.level) ∷ []) c.args.input.now c.in-Some.after.now c.in_ok-expression.left.now (then c.args.text.now c.args.depth (ExpressionPart (rung_of c.args.level) ∷ []) (OperatorsPart (rung_of c.args.level) ∷ []) (ExpressionPart (tighter (rung_of c.args.level)) ∷ OperatorsPart (rung_of c.args.level) ∷ []) c.args.input.now c.operands.rest.now c.in-Some.after.now (c.operands.invariant.reads) (operator_more c.args.text.now c.args.depth c.args.level c.in-Some.operator [] c.operands.rest.now c.in-Some.after.now (λ s l. omega (arith, l, c.requires.1.1.0)) c.in-Some.ensures.ranked (c.in-Some.ensures.first c.args.text.now))) (call c.args.text.now c.args.depth c.args.depth (ExpressionPart (tighter (rung_of c.args.level))) (OperatorsPart (rung_of c.args.level) ∷ []) c.in-Some.after.now c.in_ok-expression.left.now (λ s l. omega (arith, l, c.requires.1.1.0)) v.reads));
     }
 
 pub read_denial-returns-in_err-inner : goal.read_denial-returns-in_err-inner
@@ -118,8 +118,7 @@ read_expression-read_expression-requires t c =
 pub read_expression-returns-in_err-test : goal.read_expression-returns-in_err-test
 read_expression-returns-in_err-test t c =
     let p = err_from_is_err_and c.from_residual-in_err-test.result c.from_residual-in_err-test.ensures.1 in
-    let T = c.args.text.now in
-    let i = c.args.input.now in
+    let T = c.args.text.now in let i = c.args.input.now in
     let e = c.in_ok-inner.inner in
     let n = c.in_ok-inner.ensures.deeper.0 in
     let m = K.if_moves T c.args.depth e i c.in-Some.rest.now n c.in_ok-inner.ensures.deeper.1 (c.in-Some.ensures.first.1 T) in
@@ -129,8 +128,7 @@ read_expression-returns-in_err-test t c =
 pub read_expression-returns-in_err-yes : goal.read_expression-returns-in_err-yes
 read_expression-returns-in_err-yes t c =
     let p = err_from_is_err_and c.from_residual-in_err-yes.result c.from_residual-in_err-yes.ensures.1 in
-    let T = c.args.text.now in
-    let i = c.args.input.now in
+    let T = c.args.text.now in let i = c.args.input.now in
     let e = c.in_ok-inner.inner in
     let n = c.in_ok-inner.ensures.deeper.0 in
     let m2 = K.then_moves T c.args.depth e i c.in-Some.rest.now c.in_ok-test.rest.now n c.in_ok-inner.ensures.deeper.1 (c.in-Some.ensures.first.1 T) c.in_ok-test.ensures.reads in
@@ -140,8 +138,7 @@ read_expression-returns-in_err-yes t c =
 pub read_expression-returns-in_err-no : goal.read_expression-returns-in_err-no
 read_expression-returns-in_err-no t c =
     let p = err_from_is_err_and c.from_residual-in_err-no.result c.from_residual-in_err-no.ensures.1 in
-    let T = c.args.text.now in
-    let i = c.args.input.now in
+    let T = c.args.text.now in let i = c.args.input.now in
     let e = c.in_ok-inner.inner in
     let n = c.in_ok-inner.ensures.deeper.0 in
     let m3 = K.else_moves T c.args.depth e i c.in-Some.rest.now c.in_ok-test.rest.now c.in_ok-yes.rest.now n c.in_ok-inner.ensures.deeper.1 (c.in-Some.ensures.first.1 T) c.in_ok-test.ensures.reads c.in_ok-yes.ensures.reads in
@@ -169,31 +166,7 @@ read_before-returns-in_err-rest t c =
 
 pub read_expression-returns-in_default : goal.read_expression-returns-in_default
 read_expression-returns-in_default t c =
-    opened c.args.text.now c.args.depth whole ors c.args.input.now (omega arith) (opens_whole c.args.text.now c.args.depth [] c.args.input.now c.in_default.ensures.absent) c.read_level.result (λ x. x.0) (λ x. x.1.now) c.read_level.ensures
-
-pub read_expression-returns : goal.read_expression-returns
-read_expression-returns t c =
-    record {
-      spans = let T = c.args.text.now in
-          c.in_ok-expression.ensures.spans T c.args.input.now c.in-Some.rest.now c.in_ok-test.ensures.between c.in_ok-test.rest.now c.in_ok-yes.ensures.between c.in_ok-yes.rest.now
-          c.in_ok-no.rest.now c.reach.ensures
-          (S.takes T (word keyword.If) c.args.input.now c.in-Some.rest.now c.in-Some.ensures.passed (c.in-Some.ensures.first.1 T))
-          c.in_ok-test.ensures.spans c.in_ok-test.ensures.takes c.in_ok-yes.ensures.spans c.in_ok-yes.ensures.takes c.in_ok-no.ensures.spans;
-      fits = subst (Fits 0) (sym c.in_ok-expression.ensures.built) (omega arith, (c.in_ok-test.ensures.fits.1, c.in_ok-yes.ensures.fits.1, c.in_ok-no.ensures.fits.1));
-      nesting = omega (arith, ap expression_nesting c.in_ok-expression.ensures.built, c.in_ok-inner.ensures.deeper.0, c.in_ok-test.ensures.nesting, c.in_ok-yes.ensures.nesting, c.in_ok-no.ensures.nesting);
-      shorter = omega (arith, c.in-Some.ensures.shorter, c.in_ok-test.ensures.shorter, c.in_ok-yes.ensures.shorter, c.in_ok-no.ensures.shorter);
-      proper = c.in_ok-no.ensures.proper;
-      reads = let T = c.args.text.now in
-          let i = c.args.input.now in
-          let e = c.in_ok-inner.inner in
-          let n = c.in_ok-inner.ensures.deeper.0 in
-          let m3 = K.else_moves T c.args.depth e i c.in-Some.rest.now c.in_ok-test.rest.now c.in_ok-yes.rest.now n c.in_ok-inner.ensures.deeper.1 (c.in-Some.ensures.first.1 T) c.in_ok-test.ensures.reads c.in_ok-yes.ensures.reads in
-          let o = c.in_ok-no.rest.now in
-          then T c.args.depth K.choice (LevelPart ∷ []) [] i o o
-          (then T c.args.depth K.choice K.after_else (LevelPart ∷ []) i c.in_ok-yes.rest.now o m3
-          (call T c.args.depth e (ExpressionPart whole) (LevelPart ∷ []) c.in_ok-yes.rest.now o (λ s l. omega (arith, l, n)) c.in_ok-no.ensures.reads))
-          (level_ends T c.args.depth [] o);
-    }
+    opened c.args.text.now c.args.depth whole ors c.args.input.now (omega arith) (opens_whole c.args.text.now c.args.depth [] c.args.input.now c.in_default.ensures.absent) c.read_level.result (λ x. x.0.value) (λ x. x.1.now) c.read_level.ensures
 
 pub read_before-returns : goal.read_before-returns
 read_before-returns t c =
@@ -213,34 +186,9 @@ read_before-returns t c =
           c.in_ok-rest.ensures.first);
     }
 
-pub read_level-returns : goal.read_level-returns
-read_level-returns t c =
-    record {
-      spans = let T = c.args.text.now in
-          c.in_ok-expression-2.ensures.spans T c.args.input.now c.operands.invariant.spans.0 c.operands.rest.now c.reach.ensures c.operands.invariant.spans.1 c.operands.invariant.spans.2;
-      fits = subst (Fits (at (rung_of c.args.level))) (sym c.in_ok-expression-2.ensures.built) (level_fits c.args.level _ _ c.in_ok-first.ensures.fits c.operands.invariant.formed);
-      nesting = omega (arith, ap expression_nesting c.in_ok-expression-2.ensures.built, joined_nesting (expression_of c.in_ok-first.first) (operands_of c.operands.further.items), c.operands.invariant.nesting);
-      shorter = c.operands.invariant.shorter;
-      proper = c.operands.invariant.proper;
-      reads = then c.args.text.now c.args.depth (ExpressionPart (rung_of c.args.level) ∷ []) (OperatorsPart (rung_of c.args.level) ∷ []) [] c.args.input.now c.operands.rest.now c.operands.rest.now c.operands.invariant.reads (level_end c.args.text.now c.args.depth c.args.level [] c.operands.rest.now (c.in_default.ensures.lacks c.args.text.now));
-    }
-
 pub read_denial-returns-in_default : goal.read_denial-returns-in_default
 read_denial-returns-in_default t c =
-    opened c.args.text.now c.args.depth denials relations c.args.input.now (omega arith) (opens_denial c.args.text.now c.args.depth [] c.args.input.now (c.in_default.ensures.lacks c.args.text.now)) c.read_relation.result (λ x. x.0) (λ x. x.1.now) c.read_relation.ensures
-
-pub read_denial-returns : goal.read_denial-returns
-read_denial-returns t c =
-    record {
-      spans = let T = c.args.text.now in
-          c.in_ok-expression.ensures.spans T c.args.input.now c.in-Some.rest.now c.in_ok-operand.rest.now c.reach.ensures
-          (S.takes T (word keyword.Not) c.args.input.now c.in-Some.rest.now c.in-Some.ensures.passed (c.in-Some.ensures.first T)) c.in_ok-operand.ensures.spans;
-      fits = subst (Fits 3) (sym c.in_ok-expression.ensures.built) (omega arith, c.in_ok-operand.ensures.fits);
-      nesting = omega (arith, ap expression_nesting c.in_ok-expression.ensures.built, c.in_ok-inner.ensures.deeper.0, c.in_ok-operand.ensures.nesting);
-      shorter = omega (arith, c.in-Some.ensures.shorter, c.in_ok-operand.ensures.shorter);
-      proper = c.in_ok-operand.ensures.proper;
-      reads = (then c.args.text.now c.args.depth (ExpressionPart denials ∷ []) (LevelPart ∷ []) ([]) c.args.input.now c.in_ok-operand.rest.now c.in_ok-operand.rest.now (then c.args.text.now c.args.depth (ExpressionPart denials ∷ []) (ExpressionPart denials ∷ LevelPart ∷ []) (LevelPart ∷ []) c.args.input.now c.in-Some.rest.now c.in_ok-operand.rest.now (one c.args.text.now c.args.depth (ExpressionPart denials) ([]) (ExpressionPart denials ∷ LevelPart ∷ []) (word keyword.Not) c.args.input.now c.in-Some.rest.now (λ s l. omega (arith, l, c.requires.1.1.0, c.in_ok-inner.ensures.deeper.0, c.in_ok-inner.ensures.deeper.1)) (λ s. refl) (c.in-Some.ensures.first c.args.text.now)) (call c.args.text.now c.args.depth c.in_ok-inner.inner (ExpressionPart denials) (LevelPart ∷ []) c.in-Some.rest.now c.in_ok-operand.rest.now (λ s l. omega (arith, l, c.requires.1.1.0, c.in_ok-inner.ensures.deeper.0, c.in_ok-inner.ensures.deeper.1)) c.in_ok-operand.ensures.reads)) (level_ends c.args.text.now c.args.depth [] c.in_ok-operand.rest.now));
-    }
+    opened c.args.text.now c.args.depth denials relations c.args.input.now (omega arith) (opens_denial c.args.text.now c.args.depth [] c.args.input.now (c.in_default.ensures.lacks c.args.text.now)) c.read_relation.result (λ x. x.0.value) (λ x. x.1.now) c.read_relation.ensures
 
 pub read_relation-returns-in_default : goal.read_relation-returns-in_default
 read_relation-returns-in_default t c =
@@ -253,99 +201,9 @@ read_relation-returns-in_default t c =
       reads = (then c.args.text.now c.args.depth (ExpressionPart relations ∷ []) (OperatorsPart relations ∷ []) ([]) c.args.input.now c.in_ok-left.rest.now c.in_ok-left.rest.now (then c.args.text.now c.args.depth (ExpressionPart relations ∷ []) (ExpressionPart sums ∷ OperatorsPart relations ∷ []) (OperatorsPart relations ∷ []) c.args.input.now c.args.input.now c.in_ok-left.rest.now (opens_chain c.args.text.now c.args.depth relations [] c.args.input.now tt) (call c.args.text.now c.args.depth c.args.depth (ExpressionPart sums) (OperatorsPart relations ∷ []) c.args.input.now c.in_ok-left.rest.now (λ s l. omega (arith, l, c.requires.1.1.0)) c.in_ok-left.ensures.reads)) (operators_end c.args.text.now c.args.depth relations [] c.in_ok-left.rest.now (c.in_default.ensures.lacks c.args.text.now)));
     }
 
-pub read_relation-returns : goal.read_relation-returns
-read_relation-returns t c =
-    record {
-      spans = let T = c.args.text.now in
-          c.in_ok-expression.ensures.spans T c.args.input.now c.in_ok-left.rest.now c.in-Some.after.now c.in_ok-right.rest.now c.reach.ensures c.in_ok-left.ensures.spans
-          (S.takes T (operator_terminal c.in-Some.operator) c.in_ok-left.rest.now c.in-Some.after.now c.in-Some.ensures.passed (c.in-Some.ensures.first T)) c.in_ok-right.ensures.spans;
-      fits = subst (Fits 4) (sym c.in_ok-expression.ensures.built) (compared_fits c.in-Some.operator _ _ c.in-Some.ensures.ranked c.in_ok-left.ensures.fits c.in_ok-right.ensures.fits);
-      nesting = omega (arith, ap expression_nesting c.in_ok-expression.ensures.built, c.in_ok-left.ensures.nesting, c.in_ok-right.ensures.nesting);
-      shorter = omega (arith, c.in-Some.ensures.shorter, c.in_ok-left.ensures.shorter, c.in_ok-right.ensures.shorter);
-      proper = c.in_ok-right.ensures.proper;
-      reads = (then c.args.text.now c.args.depth (ExpressionPart relations ∷ []) (ExpressionPart sums ∷ []) ([]) c.args.input.now c.in-Some.after.now c.in_ok-right.rest.now (then c.args.text.now c.args.depth (ExpressionPart relations ∷ []) (OperatorsPart relations ∷ []) (ExpressionPart sums ∷ []) c.args.input.now c.in_ok-left.rest.now c.in-Some.after.now (then c.args.text.now c.args.depth (ExpressionPart relations ∷ []) (ExpressionPart sums ∷ OperatorsPart relations ∷ []) (OperatorsPart relations ∷ []) c.args.input.now c.args.input.now c.in_ok-left.rest.now (opens_chain c.args.text.now c.args.depth relations [] c.args.input.now tt) (call c.args.text.now c.args.depth c.args.depth (ExpressionPart sums) (OperatorsPart relations ∷ []) c.args.input.now c.in_ok-left.rest.now (λ s l. omega (arith, l, c.requires.1.1.0)) c.in_ok-left.ensures.reads)) (comparison c.args.text.now c.args.depth c.in-Some.operator [] c.in_ok-left.rest.now c.in-Some.after.now (λ s l. omega (arith, l, c.requires.1.1.0)) c.in-Some.ensures.ranked (c.in-Some.ensures.first c.args.text.now))) (call c.args.text.now c.args.depth c.args.depth (ExpressionPart sums) ([]) c.in-Some.after.now c.in_ok-right.rest.now (λ s l. omega (arith, l, c.requires.1.1.0)) c.in_ok-right.ensures.reads));
-    }
-
-pub read_factor-returns-in-Some-Number-default : goal.read_factor-returns-in-Some-Number-default
-read_factor-returns-in-Some-Number-default t c =
-    let T = c.args.text.now in record {
-      spans = let T = c.args.text.now in
-          let u = subst IsUnsigned c.in-Some-Number-default.field-0-0-is (c.in-Some-Number-default.ensures.unsigned T c.requires.1.1.1) in (
-            c.reach.ensures,
-            subst (λ z. Takes T (number z) c.args.input.now c.in-Some-Number-default.rest.now) (sym (to_z-of_z w64 c.in-Some-Number-default.number (number_fits c.in-Some-Number-default.number u.0 u.1 u.2)))
-                (S.takes T (number c.in-Some-Number-default.number) c.args.input.now c.in-Some-Number-default.rest.now c.in-Some-Number-default.ensures.passed ((first_of _ (class.Number c.in-Some-Number-default.number) c.args.input.now c.in-Some-Number-default.rest.now c.in-Some-Number-default.field-0-0-is c.in-Some-Number-default.ensures.first.0).1 T)),
-          );
-      fits = (omega arith, tt);
-      nesting = omega (arith, c.requires.1.1.0);
-      shorter = omega (arith, c.in-Some-Number-default.ensures.first.1);
-      proper = c.in-Some-Number-default.ensures.proper T c.requires.1.1.1;
-      reads = one T c.args.depth (ExpressionPart factors) [] [] (number c.in-Some-Number-default.number) c.args.input.now c.in-Some-Number-default.rest.now (λ s l. omega (arith, l, c.requires.1.1.0)) (λ s. refl) ((first_of _ (class.Number c.in-Some-Number-default.number) c.args.input.now c.in-Some-Number-default.rest.now (c.in-Some-Number-default.field-0-0-is) c.in-Some-Number-default.ensures.first.0).1 T);
-    }
-
-pub read_factor-returns-in-Some-Word-True-default : goal.read_factor-returns-in-Some-Word-True-default
-read_factor-returns-in-Some-Word-True-default t c =
-    let T = c.args.text.now in record {
-      spans = let T = c.args.text.now in
-          (c.reach-in-Some-Word-True-default.ensures, (S.takes T (word keyword.True) c.args.input.now c.in-Some-Word-True-default.rest.now c.in-Some-Word-True-default.ensures.passed ((first_of _ (class.Word keyword.True) c.args.input.now c.in-Some-Word-True-default.rest.now (c.in-Some-Word-True-default.field-0-0-is ∙ ap class.Word c.in-Some-Word-True-default.field-0-0-0-is) c.in-Some-Word-True-default.ensures.first.0).1 T)));
-      fits = (omega arith, tt);
-      nesting = omega (arith, c.requires.1.1.0);
-      shorter = omega (arith, c.in-Some-Word-True-default.ensures.first.1);
-      proper = c.in-Some-Word-True-default.ensures.proper T c.requires.1.1.1;
-      reads = one T c.args.depth (ExpressionPart factors) [] [] (word keyword.True) c.args.input.now c.in-Some-Word-True-default.rest.now (λ s l. omega (arith, l, c.requires.1.1.0)) (λ s. refl) ((first_of _ (class.Word keyword.True) c.args.input.now c.in-Some-Word-True-default.rest.now (c.in-Some-Word-True-default.field-0-0-is ∙ ap class.Word c.in-Some-Word-True-default.field-0-0-0-is) c.in-Some-Word-True-default.ensures.first.0).1 T);
-    }
-
-pub read_factor-returns-in-Some-Word-False-default : goal.read_factor-returns-in-Some-Word-False-default
-read_factor-returns-in-Some-Word-False-default t c =
-    let T = c.args.text.now in record {
-      spans = let T = c.args.text.now in
-          (c.reach-in-Some-Word-False-default.ensures, (S.takes T (word keyword.False) c.args.input.now c.in-Some-Word-False-default.rest.now c.in-Some-Word-False-default.ensures.passed ((first_of _ (class.Word keyword.False) c.args.input.now c.in-Some-Word-False-default.rest.now (c.in-Some-Word-False-default.field-0-0-is ∙ ap class.Word c.in-Some-Word-False-default.field-0-0-0-is) c.in-Some-Word-False-default.ensures.first.0).1 T)));
-      fits = (omega arith, tt);
-      nesting = omega (arith, c.requires.1.1.0);
-      shorter = omega (arith, c.in-Some-Word-False-default.ensures.first.1);
-      proper = c.in-Some-Word-False-default.ensures.proper T c.requires.1.1.1;
-      reads = one T c.args.depth (ExpressionPart factors) [] [] (word keyword.False) c.args.input.now c.in-Some-Word-False-default.rest.now (λ s l. omega (arith, l, c.requires.1.1.0)) (λ s. refl) ((first_of _ (class.Word keyword.False) c.args.input.now c.in-Some-Word-False-default.rest.now (c.in-Some-Word-False-default.field-0-0-is ∙ ap class.Word c.in-Some-Word-False-default.field-0-0-0-is) c.in-Some-Word-False-default.ensures.first.0).1 T);
-    }
-
 pub read_factor-returns-in-Some-Word-Wait-default : goal.read_factor-returns-in-Some-Word-Wait-default
 read_factor-returns-in-Some-Word-Wait-default t c =
     c.read_wait.ensures c.args.depth c.requires.1.1.0
-
-pub read_factor-returns-in_ok-expression-in-Some-Sign-Minus-default : goal.read_factor-returns-in_ok-expression-in-Some-Sign-Minus-default
-read_factor-returns-in_ok-expression-in-Some-Sign-Minus-default t c =
-    record {
-      spans = let T = c.args.text.now in
-          c.in_ok-expression-in-Some-Sign-Minus-default.ensures.spans T c.args.input.now c.in-Some-Sign-Minus-default.rest.now c.in_ok-operand-in-Some-Sign-Minus-default.rest.now c.reach-in-Some-Sign-Minus-default.ensures
-          (S.takes T (sign mark.Minus) c.args.input.now c.in-Some-Sign-Minus-default.rest.now c.in-Some-Sign-Minus-default.ensures.passed ((first_of _ (class.Sign mark.Minus) c.args.input.now c.in-Some-Sign-Minus-default.rest.now (c.in-Some-Sign-Minus-default.field-0-0-is ∙ ap class.Sign c.in-Some-Sign-Minus-default.field-0-0-0-is) c.in-Some-Sign-Minus-default.ensures.first.0).1 T)) c.in_ok-operand-in-Some-Sign-Minus-default.ensures.spans;
-      fits = subst (Fits 7) (sym c.in_ok-expression-in-Some-Sign-Minus-default.ensures.built) (omega arith, c.in_ok-operand-in-Some-Sign-Minus-default.ensures.fits);
-      nesting = omega (arith, ap expression_nesting c.in_ok-expression-in-Some-Sign-Minus-default.ensures.built, c.in_ok-inner-in-Some-Sign-Minus-default.ensures.deeper.0, c.in_ok-operand-in-Some-Sign-Minus-default.ensures.nesting);
-      shorter = omega (arith, c.in-Some-Sign-Minus-default.ensures.first.1, c.in_ok-operand-in-Some-Sign-Minus-default.ensures.shorter);
-      proper = c.in_ok-operand-in-Some-Sign-Minus-default.ensures.proper;
-      reads = (then c.args.text.now c.args.depth (ExpressionPart factors ∷ []) (LevelPart ∷ []) ([]) c.args.input.now c.in_ok-operand-in-Some-Sign-Minus-default.rest.now c.in_ok-operand-in-Some-Sign-Minus-default.rest.now (then c.args.text.now c.args.depth (ExpressionPart factors ∷ []) (ExpressionPart factors ∷ LevelPart ∷ []) (LevelPart ∷ []) c.args.input.now c.in-Some-Sign-Minus-default.rest.now c.in_ok-operand-in-Some-Sign-Minus-default.rest.now (one c.args.text.now c.args.depth (ExpressionPart factors) ([]) (ExpressionPart factors ∷ LevelPart ∷ []) (sign mark.Minus) c.args.input.now c.in-Some-Sign-Minus-default.rest.now (λ s l. omega (arith, l, c.requires.1.1.0, c.in_ok-inner-in-Some-Sign-Minus-default.ensures.deeper.0, c.in_ok-inner-in-Some-Sign-Minus-default.ensures.deeper.1)) (λ s. refl) ((first_of _ (class.Sign mark.Minus) c.args.input.now c.in-Some-Sign-Minus-default.rest.now (c.in-Some-Sign-Minus-default.field-0-0-is ∙ ap class.Sign c.in-Some-Sign-Minus-default.field-0-0-0-is) c.in-Some-Sign-Minus-default.ensures.first.0).1 c.args.text.now)) (call c.args.text.now c.args.depth c.in_ok-inner-in-Some-Sign-Minus-default.inner (ExpressionPart factors) (LevelPart ∷ []) c.in-Some-Sign-Minus-default.rest.now c.in_ok-operand-in-Some-Sign-Minus-default.rest.now (λ s l. omega (arith, l, c.requires.1.1.0, c.in_ok-inner-in-Some-Sign-Minus-default.ensures.deeper.0, c.in_ok-inner-in-Some-Sign-Minus-default.ensures.deeper.1)) c.in_ok-operand-in-Some-Sign-Minus-default.ensures.reads)) (level_ends c.args.text.now c.args.depth [] c.in_ok-operand-in-Some-Sign-Minus-default.rest.now));
-    }
-
-pub read_factor-returns-in_ok-expression-in-Some-Sign-Open-default : goal.read_factor-returns-in_ok-expression-in-Some-Sign-Open-default
-read_factor-returns-in_ok-expression-in-Some-Sign-Open-default t c =
-    record {
-      spans = let T = c.args.text.now in
-          c.in_ok-expression-in-Some-Sign-Open-default.ensures.spans T c.args.input.now c.in-Some-Sign-Open-default.rest.now c.in_ok-inside-in-Some-Sign-Open-default.rest.now c.in_ok-rest-in-Some-Sign-Open-default.rest.now c.reach-in-Some-Sign-Open-default.ensures
-          (S.takes T (sign mark.Open) c.args.input.now c.in-Some-Sign-Open-default.rest.now c.in-Some-Sign-Open-default.ensures.passed ((first_of _ (class.Sign mark.Open) c.args.input.now c.in-Some-Sign-Open-default.rest.now (c.in-Some-Sign-Open-default.field-0-0-is ∙ ap class.Sign c.in-Some-Sign-Open-default.field-0-0-0-is) c.in-Some-Sign-Open-default.ensures.first.0).1 T)) c.in_ok-inside-in-Some-Sign-Open-default.ensures.spans (S.takes T (sign mark.Close) c.in_ok-inside-in-Some-Sign-Open-default.rest.now c.in_ok-rest-in-Some-Sign-Open-default.rest.now c.in_ok-rest-in-Some-Sign-Open-default.ensures.passed (c.in_ok-rest-in-Some-Sign-Open-default.ensures.first.1 T));
-      fits = subst (Fits 7) (sym c.in_ok-expression-in-Some-Sign-Open-default.ensures.built) (omega arith, c.in_ok-inside-in-Some-Sign-Open-default.ensures.fits.1);
-      nesting = omega (arith, ap expression_nesting c.in_ok-expression-in-Some-Sign-Open-default.ensures.built, c.in_ok-inner-in-Some-Sign-Open-default.ensures.deeper.0, c.in_ok-inside-in-Some-Sign-Open-default.ensures.nesting);
-      shorter = omega (arith, c.in-Some-Sign-Open-default.ensures.first.1, c.in_ok-inside-in-Some-Sign-Open-default.ensures.shorter, c.in_ok-rest-in-Some-Sign-Open-default.ensures.shorter);
-      proper = c.in_ok-rest-in-Some-Sign-Open-default.ensures.proper c.args.text.now c.in_ok-inside-in-Some-Sign-Open-default.ensures.proper;
-      reads = (then c.args.text.now c.args.depth (ExpressionPart factors ∷ []) (LevelPart ∷ []) ([]) c.args.input.now c.in_ok-rest-in-Some-Sign-Open-default.rest.now c.in_ok-rest-in-Some-Sign-Open-default.rest.now (then c.args.text.now c.args.depth (ExpressionPart factors ∷ []) (TokenPart CloseToken ∷ LevelPart ∷ []) (LevelPart ∷ []) c.args.input.now c.in_ok-inside-in-Some-Sign-Open-default.rest.now c.in_ok-rest-in-Some-Sign-Open-default.rest.now (then c.args.text.now c.args.depth (ExpressionPart factors ∷ []) (ExpressionPart whole ∷ TokenPart CloseToken ∷ LevelPart ∷ []) (TokenPart CloseToken ∷ LevelPart ∷ []) c.args.input.now c.in-Some-Sign-Open-default.rest.now c.in_ok-inside-in-Some-Sign-Open-default.rest.now (one c.args.text.now c.args.depth (ExpressionPart factors) ([]) (ExpressionPart whole ∷ TokenPart CloseToken ∷ LevelPart ∷ []) (sign mark.Open) c.args.input.now c.in-Some-Sign-Open-default.rest.now (λ s l. omega (arith, l, c.requires.1.1.0, c.in_ok-inner-in-Some-Sign-Open-default.ensures.deeper.0, c.in_ok-inner-in-Some-Sign-Open-default.ensures.deeper.1)) (λ s. refl) ((first_of _ (class.Sign mark.Open) c.args.input.now c.in-Some-Sign-Open-default.rest.now (c.in-Some-Sign-Open-default.field-0-0-is ∙ ap class.Sign c.in-Some-Sign-Open-default.field-0-0-0-is) c.in-Some-Sign-Open-default.ensures.first.0).1 c.args.text.now)) (call c.args.text.now c.args.depth c.in_ok-inner-in-Some-Sign-Open-default.inner (ExpressionPart whole) (TokenPart CloseToken ∷ LevelPart ∷ []) c.in-Some-Sign-Open-default.rest.now c.in_ok-inside-in-Some-Sign-Open-default.rest.now (λ s l. omega (arith, l, c.requires.1.1.0, c.in_ok-inner-in-Some-Sign-Open-default.ensures.deeper.0, c.in_ok-inner-in-Some-Sign-Open-default.ensures.deeper.1)) c.in_ok-inside-in-Some-Sign-Open-default.ensures.reads)) (expected c.args.text.now c.args.depth CloseToken (LevelPart ∷ []) (class.Sign mark.Close) c.in_ok-inside-in-Some-Sign-Open-default.rest.now c.in_ok-rest-in-Some-Sign-Open-default.rest.now (λ s l. omega (arith, l, c.requires.1.1.0, c.in_ok-inner-in-Some-Sign-Open-default.ensures.deeper.0, c.in_ok-inner-in-Some-Sign-Open-default.ensures.deeper.1)) refl c.in_ok-rest-in-Some-Sign-Open-default.ensures.first)) (level_ends c.args.text.now c.args.depth [] c.in_ok-rest-in-Some-Sign-Open-default.rest.now));
-    }
-
-pub read_factor-returns-in_ok-name-in-Some-Name-default : goal.read_factor-returns-in_ok-name-in-Some-Name-default
-read_factor-returns-in_ok-name-in-Some-Name-default t c =
-    let T = c.args.text.now in record {
-      spans = (c.in_ok-name-in-Some-Name-default.ensures.spans.1, c.in_ok-name-in-Some-Name-default.ensures.spans);
-      fits = (omega arith, tt);
-      nesting = omega (arith, c.requires.1.1.0);
-      shorter = omega (arith, c.in_ok-name-in-Some-Name-default.ensures.shorter);
-      proper = c.in_ok-name-in-Some-Name-default.ensures.proper;
-      reads = one T c.args.depth (ExpressionPart factors) [] [] (name (name_of c.in_ok-name-in-Some-Name-default.name)) c.args.input.now c.in_ok-name-in-Some-Name-default.rest.now (λ s l. omega (arith, l, c.requires.1.1.0)) (λ s. refl) c.in_ok-name-in-Some-Name-default.ensures.words;
-    }
 
 pub read_factor-returns-in_default : goal.read_factor-returns-in_default
 read_factor-returns-in_default t c =
@@ -371,3 +229,184 @@ read_factor-returns-in_err-inside-in-Some-Sign-Open-default t c =
     rw (p.1, p.2) (then_stops c.args.text.now c.args.depth (ExpressionPart factors ∷ []) (ExpressionPart whole ∷ TokenPart CloseToken ∷ LevelPart ∷ []) c.args.input.now c.in-Some-Sign-Open-default.rest.now _
     (one c.args.text.now c.args.depth (ExpressionPart factors) [] (ExpressionPart whole ∷ TokenPart CloseToken ∷ LevelPart ∷ []) (sign mark.Open) c.args.input.now c.in-Some-Sign-Open-default.rest.now (λ s l. omega (arith, l, c.in_ok-inner-in-Some-Sign-Open-default.ensures.deeper.0, c.in_ok-inner-in-Some-Sign-Open-default.ensures.deeper.1)) (λ s. refl) ((first_of _ (class.Sign mark.Open) c.args.input.now c.in-Some-Sign-Open-default.rest.now (c.in-Some-Sign-Open-default.field-0-0-is ∙ ap class.Sign c.in-Some-Sign-Open-default.field-0-0-0-is) c.in-Some-Sign-Open-default.ensures.first.0).1 c.args.text.now))
     (call_stops c.args.text.now c.args.depth c.in_ok-inner-in-Some-Sign-Open-default.inner (ExpressionPart whole) (TokenPart CloseToken ∷ LevelPart ∷ []) c.in-Some-Sign-Open-default.rest.now _ (λ s l. omega (arith, l, c.in_ok-inner-in-Some-Sign-Open-default.ensures.deeper.0)) c.in_err-inside-in-Some-Sign-Open-default.ensures))
+
+pub read_expression-returns : goal.read_expression-returns
+read_expression-returns t c =
+    let T = c.args.text.now in
+    made T c.args.depth whole _ c.args.input.now c.in_ok-no.rest.now (λ at h. record {
+      spans = (
+        h,
+        (
+          c.in-Some.rest.now,
+          c.in_ok-test.ensures.between,
+          c.in_ok-test.rest.now,
+          c.in_ok-yes.ensures.between,
+          c.in_ok-yes.rest.now,
+          S.takes T (word keyword.If) c.args.input.now c.in-Some.rest.now c.in-Some.ensures.passed (c.in-Some.ensures.first.1 T),
+          c.in_ok-test.ensures.spans,
+          c.in_ok-test.ensures.takes,
+          c.in_ok-yes.ensures.spans,
+          c.in_ok-yes.ensures.takes,
+          c.in_ok-no.ensures.spans,
+        ),
+      );
+      fits = (omega arith, (c.in_ok-test.ensures.fits.1, c.in_ok-yes.ensures.fits.1, c.in_ok-no.ensures.fits.1));
+      nesting = omega (arith, c.in_ok-inner.ensures.deeper.0, c.in_ok-test.ensures.nesting, c.in_ok-yes.ensures.nesting, c.in_ok-no.ensures.nesting);
+      shorter = omega (arith, c.in-Some.ensures.shorter, c.in_ok-test.ensures.shorter, c.in_ok-yes.ensures.shorter, c.in_ok-no.ensures.shorter);
+      proper = c.in_ok-no.ensures.proper;
+      reads = let T = c.args.text.now in let i = c.args.input.now in
+          let e = c.in_ok-inner.inner in
+          let n = c.in_ok-inner.ensures.deeper.0 in
+          let m3 = K.else_moves T c.args.depth e i c.in-Some.rest.now c.in_ok-test.rest.now c.in_ok-yes.rest.now n c.in_ok-inner.ensures.deeper.1 (c.in-Some.ensures.first.1 T) c.in_ok-test.ensures.reads c.in_ok-yes.ensures.reads in
+          let o = c.in_ok-no.rest.now in
+          then T c.args.depth K.choice (LevelPart ∷ []) [] i o o
+          (then T c.args.depth K.choice K.after_else (LevelPart ∷ []) i c.in_ok-yes.rest.now o m3
+          (call T c.args.depth e (ExpressionPart whole) (LevelPart ∷ []) c.in_ok-yes.rest.now o (λ s l. omega (arith, l, n)) c.in_ok-no.ensures.reads))
+          (level_ends T c.args.depth [] o);
+    })
+    c.made.result (λ x. x.0.value) (λ x. x.1.now) c.made.ensures
+
+pub read_denial-returns : goal.read_denial-returns
+read_denial-returns t c =
+    let T = c.args.text.now in
+    made T c.args.depth denials _ c.args.input.now c.in_ok-operand.rest.now (λ at h. record {
+      spans = (h, (c.in-Some.rest.now, S.takes T (word keyword.Not) c.args.input.now c.in-Some.rest.now c.in-Some.ensures.passed (c.in-Some.ensures.first T), c.in_ok-operand.ensures.spans));
+      fits = (omega arith, c.in_ok-operand.ensures.fits);
+      nesting = omega (arith, c.in_ok-inner.ensures.deeper.0, c.in_ok-operand.ensures.nesting);
+      shorter = omega (arith, c.in-Some.ensures.shorter, c.in_ok-operand.ensures.shorter);
+      proper = c.in_ok-operand.ensures.proper;
+      reads = (then c.args.text.now c.args.depth (ExpressionPart denials ∷ []) (LevelPart ∷ []) ([]) c.args.input.now c.in_ok-operand.rest.now c.in_ok-operand.rest.now (then c.args.text.now c.args.depth (ExpressionPart denials ∷ []) (ExpressionPart denials ∷ LevelPart ∷ []) (LevelPart ∷ []) c.args.input.now c.in-Some.rest.now c.in_ok-operand.rest.now (one c.args.text.now c.args.depth (ExpressionPart denials) ([]) (ExpressionPart denials ∷ LevelPart ∷ []) (word keyword.Not) c.args.input.now c.in-Some.rest.now (λ s l. omega (arith, l, c.requires.1.1.0, c.in_ok-inner.ensures.deeper.0, c.in_ok-inner.ensures.deeper.1)) (λ s. refl) (c.in-Some.ensures.first c.args.text.now)) (call c.args.text.now c.args.depth c.in_ok-inner.inner (ExpressionPart denials) (LevelPart ∷ []) c.in-Some.rest.now c.in_ok-operand.rest.now (λ s l. omega (arith, l, c.requires.1.1.0, c.in_ok-inner.ensures.deeper.0, c.in_ok-inner.ensures.deeper.1)) c.in_ok-operand.ensures.reads)) (level_ends c.args.text.now c.args.depth [] c.in_ok-operand.rest.now));
+    })
+    c.made.result (λ x. x.0.value) (λ x. x.1.now) c.made.ensures
+
+pub read_relation-returns : goal.read_relation-returns
+read_relation-returns t c =
+    let T = c.args.text.now in
+    made T c.args.depth relations _ c.args.input.now c.in_ok-right.rest.now (λ at h. record {
+      spans = (
+        h,
+        c.in_ok-form.ensures.spans T c.args.input.now c.in_ok-left.rest.now c.in-Some.after.now c.in_ok-right.rest.now c.in_ok-left.ensures.spans
+            (S.takes T (operator_terminal c.in-Some.operator) c.in_ok-left.rest.now c.in-Some.after.now c.in-Some.ensures.passed (c.in-Some.ensures.first T)) c.in_ok-right.ensures.spans,
+      );
+      fits = subst (Fits 4) (sym c.in_ok-form.ensures.built) (compared_fits c.in-Some.operator _ _ c.in-Some.ensures.ranked c.in_ok-left.ensures.fits c.in_ok-right.ensures.fits);
+      nesting = omega (arith, ap expression_nesting c.in_ok-form.ensures.built, c.in_ok-left.ensures.nesting, c.in_ok-right.ensures.nesting);
+      shorter = omega (arith, c.in-Some.ensures.shorter, c.in_ok-left.ensures.shorter, c.in_ok-right.ensures.shorter);
+      proper = c.in_ok-right.ensures.proper;
+      reads = (then c.args.text.now c.args.depth (ExpressionPart relations ∷ []) (ExpressionPart sums ∷ []) ([]) c.args.input.now c.in-Some.after.now c.in_ok-right.rest.now (then c.args.text.now c.args.depth (ExpressionPart relations ∷ []) (OperatorsPart relations ∷ []) (ExpressionPart sums ∷ []) c.args.input.now c.in_ok-left.rest.now c.in-Some.after.now (then c.args.text.now c.args.depth (ExpressionPart relations ∷ []) (ExpressionPart sums ∷ OperatorsPart relations ∷ []) (OperatorsPart relations ∷ []) c.args.input.now c.args.input.now c.in_ok-left.rest.now (opens_chain c.args.text.now c.args.depth relations [] c.args.input.now tt) (call c.args.text.now c.args.depth c.args.depth (ExpressionPart sums) (OperatorsPart relations ∷ []) c.args.input.now c.in_ok-left.rest.now (λ s l. omega (arith, l, c.requires.1.1.0)) c.in_ok-left.ensures.reads)) (comparison c.args.text.now c.args.depth c.in-Some.operator [] c.in_ok-left.rest.now c.in-Some.after.now (λ s l. omega (arith, l, c.requires.1.1.0)) c.in-Some.ensures.ranked (c.in-Some.ensures.first c.args.text.now))) (call c.args.text.now c.args.depth c.args.depth (ExpressionPart sums) ([]) c.in-Some.after.now c.in_ok-right.rest.now (λ s l. omega (arith, l, c.requires.1.1.0)) c.in_ok-right.ensures.reads));
+    })
+    c.made.result (λ x. x.0.value) (λ x. x.1.now) c.made.ensures
+
+pub read_level-returns-then-is_empty : goal.read_level-returns-then-is_empty
+read_level-returns-then-is_empty t c =
+    let none : length c.operands.further.items ≡ 0 = search rules in
+    let T = c.args.text.now in
+    let i = c.operands.invariant in
+    record {
+      spans = subst (ExpressionSpans T c.in_ok-first.first.value c.args.input.now) (S.no_operands T c.operands.further.items i.spans.0 c.operands.rest.now none i.spans.2) i.spans.1;
+      fits = level_fits c.args.level _ no_operand c.in_ok-first.ensures.fits tt;
+      nesting = c.in_ok-first.ensures.nesting;
+      shorter = i.shorter;
+      proper = i.proper;
+      reads = then T c.args.depth (ExpressionPart (rung_of c.args.level) ∷ []) (OperatorsPart (rung_of c.args.level) ∷ []) [] c.args.input.now c.operands.rest.now c.operands.rest.now i.reads (level_end T c.args.depth c.args.level [] c.operands.rest.now (c.in_default.ensures.lacks T));
+    }
+
+pub read_level-returns : goal.read_level-returns
+read_level-returns t c =
+    let T = c.args.text.now in
+    let i = c.operands.invariant in
+    let first = c.in_ok-first.first.value in
+    let further = c.operands.further in
+    let l : vec_len further ≡ length further.items = search rules in
+    let m = joined_made (form_of first.form) further.items (operands_row (hidden-the_row-Operand-0 further)) (operands_made further)
+    (λ e. let t : c.is_empty.result ≡ true = c.is_empty.ensures ∙ ap (λ n. n == 0) (l ∙ ap length e) in cc (t, c.if-is_empty.false)) in
+    made T c.args.depth (rung_of c.args.level) _ c.args.input.now c.operands.rest.now (λ span h. record {
+      spans = (h, (i.spans.0, i.spans.1, operands_row_spans T further i.spans.0 c.operands.rest.now i.spans.2));
+      fits = subst (Fits (at (rung_of c.args.level))) (sym m) (level_fits c.args.level _ _ c.in_ok-first.ensures.fits i.formed);
+      nesting = omega (arith, ap expression_nesting m, joined_nesting (expression_of first) (operands_of further.items), i.nesting);
+      shorter = i.shorter;
+      proper = i.proper;
+      reads = then T c.args.depth (ExpressionPart (rung_of c.args.level) ∷ []) (OperatorsPart (rung_of c.args.level) ∷ []) [] c.args.input.now c.operands.rest.now c.operands.rest.now i.reads (level_end T c.args.depth c.args.level [] c.operands.rest.now (c.in_default.ensures.lacks T));
+    })
+    c.made.result (λ x. x.0.value) (λ x. x.1.now) c.made.ensures
+
+pub read_factor-returns-in-Some-Number-default : goal.read_factor-returns-in-Some-Number-default
+read_factor-returns-in-Some-Number-default t c =
+    let T = c.args.text.now in
+    made T c.args.depth factors _ c.args.input.now c.in-Some-Number-default.rest.now (λ at h. record {
+      spans = let u = subst IsUnsigned c.in-Some-Number-default.field-0-0-is (c.in-Some-Number-default.ensures.unsigned T c.requires.1.1.1) in (
+        h,
+        subst (λ z. Takes T (number z) c.args.input.now c.in-Some-Number-default.rest.now) (sym (to_z-of_z w64 c.in-Some-Number-default.number (number_fits c.in-Some-Number-default.number u.0 u.1 u.2)))
+            (S.takes T (number c.in-Some-Number-default.number) c.args.input.now c.in-Some-Number-default.rest.now c.in-Some-Number-default.ensures.passed ((first_of _ (class.Number c.in-Some-Number-default.number) c.args.input.now c.in-Some-Number-default.rest.now c.in-Some-Number-default.field-0-0-is c.in-Some-Number-default.ensures.first.0).1 T)),
+      );
+      fits = (omega arith, tt);
+      nesting = omega (arith, c.requires.1.1.0);
+      shorter = omega (arith, c.in-Some-Number-default.ensures.first.1);
+      proper = c.in-Some-Number-default.ensures.proper T c.requires.1.1.1;
+      reads = one T c.args.depth (ExpressionPart factors) [] [] (number c.in-Some-Number-default.number) c.args.input.now c.in-Some-Number-default.rest.now (λ s l. omega (arith, l, c.requires.1.1.0)) (λ s. refl) ((first_of _ (class.Number c.in-Some-Number-default.number) c.args.input.now c.in-Some-Number-default.rest.now (c.in-Some-Number-default.field-0-0-is) c.in-Some-Number-default.ensures.first.0).1 T);
+    })
+    c.made.result (λ x. x.0.value) (λ x. x.1.now) c.made.ensures
+
+pub read_factor-returns-in-Some-Word-True-default : goal.read_factor-returns-in-Some-Word-True-default
+read_factor-returns-in-Some-Word-True-default t c =
+    let T = c.args.text.now in
+    made T c.args.depth factors _ c.args.input.now c.in-Some-Word-True-default.rest.now (λ at h. record {
+      spans = (h, (S.takes T (word keyword.True) c.args.input.now c.in-Some-Word-True-default.rest.now c.in-Some-Word-True-default.ensures.passed ((first_of _ (class.Word keyword.True) c.args.input.now c.in-Some-Word-True-default.rest.now (c.in-Some-Word-True-default.field-0-0-is ∙ ap class.Word c.in-Some-Word-True-default.field-0-0-0-is) c.in-Some-Word-True-default.ensures.first.0).1 T)));
+      fits = (omega arith, tt);
+      nesting = omega (arith, c.requires.1.1.0);
+      shorter = omega (arith, c.in-Some-Word-True-default.ensures.first.1);
+      proper = c.in-Some-Word-True-default.ensures.proper T c.requires.1.1.1;
+      reads = one T c.args.depth (ExpressionPart factors) [] [] (word keyword.True) c.args.input.now c.in-Some-Word-True-default.rest.now (λ s l. omega (arith, l, c.requires.1.1.0)) (λ s. refl) ((first_of _ (class.Word keyword.True) c.args.input.now c.in-Some-Word-True-default.rest.now (c.in-Some-Word-True-default.field-0-0-is ∙ ap class.Word c.in-Some-Word-True-default.field-0-0-0-is) c.in-Some-Word-True-default.ensures.first.0).1 T);
+    })
+    c.made-in-Some-Word-True-default.result (λ x. x.0.value) (λ x. x.1.now) c.made-in-Some-Word-True-default.ensures
+
+pub read_factor-returns-in-Some-Word-False-default : goal.read_factor-returns-in-Some-Word-False-default
+read_factor-returns-in-Some-Word-False-default t c =
+    let T = c.args.text.now in
+    made T c.args.depth factors _ c.args.input.now c.in-Some-Word-False-default.rest.now (λ at h. record {
+      spans = (h, (S.takes T (word keyword.False) c.args.input.now c.in-Some-Word-False-default.rest.now c.in-Some-Word-False-default.ensures.passed ((first_of _ (class.Word keyword.False) c.args.input.now c.in-Some-Word-False-default.rest.now (c.in-Some-Word-False-default.field-0-0-is ∙ ap class.Word c.in-Some-Word-False-default.field-0-0-0-is) c.in-Some-Word-False-default.ensures.first.0).1 T)));
+      fits = (omega arith, tt);
+      nesting = omega (arith, c.requires.1.1.0);
+      shorter = omega (arith, c.in-Some-Word-False-default.ensures.first.1);
+      proper = c.in-Some-Word-False-default.ensures.proper T c.requires.1.1.1;
+      reads = one T c.args.depth (ExpressionPart factors) [] [] (word keyword.False) c.args.input.now c.in-Some-Word-False-default.rest.now (λ s l. omega (arith, l, c.requires.1.1.0)) (λ s. refl) ((first_of _ (class.Word keyword.False) c.args.input.now c.in-Some-Word-False-default.rest.now (c.in-Some-Word-False-default.field-0-0-is ∙ ap class.Word c.in-Some-Word-False-default.field-0-0-0-is) c.in-Some-Word-False-default.ensures.first.0).1 T);
+    })
+    c.made-in-Some-Word-False-default.result (λ x. x.0.value) (λ x. x.1.now) c.made-in-Some-Word-False-default.ensures
+
+pub read_factor-returns-in_ok-operand-in-Some-Sign-Minus-default : goal.read_factor-returns-in_ok-operand-in-Some-Sign-Minus-default
+read_factor-returns-in_ok-operand-in-Some-Sign-Minus-default t c =
+    let T = c.args.text.now in
+    made T c.args.depth factors _ c.args.input.now c.in_ok-operand-in-Some-Sign-Minus-default.rest.now (λ at h. record {
+      spans = (h, (c.in-Some-Sign-Minus-default.rest.now, (S.takes T (sign mark.Minus) c.args.input.now c.in-Some-Sign-Minus-default.rest.now c.in-Some-Sign-Minus-default.ensures.passed ((first_of _ (class.Sign mark.Minus) c.args.input.now c.in-Some-Sign-Minus-default.rest.now (c.in-Some-Sign-Minus-default.field-0-0-is ∙ ap class.Sign c.in-Some-Sign-Minus-default.field-0-0-0-is) c.in-Some-Sign-Minus-default.ensures.first.0).1 T)), c.in_ok-operand-in-Some-Sign-Minus-default.ensures.spans));
+      fits = (omega arith, c.in_ok-operand-in-Some-Sign-Minus-default.ensures.fits);
+      nesting = omega (arith, c.in_ok-inner-in-Some-Sign-Minus-default.ensures.deeper.0, c.in_ok-operand-in-Some-Sign-Minus-default.ensures.nesting);
+      shorter = omega (arith, c.in-Some-Sign-Minus-default.ensures.first.1, c.in_ok-operand-in-Some-Sign-Minus-default.ensures.shorter);
+      proper = c.in_ok-operand-in-Some-Sign-Minus-default.ensures.proper;
+      reads = (then c.args.text.now c.args.depth (ExpressionPart factors ∷ []) (LevelPart ∷ []) ([]) c.args.input.now c.in_ok-operand-in-Some-Sign-Minus-default.rest.now c.in_ok-operand-in-Some-Sign-Minus-default.rest.now (then c.args.text.now c.args.depth (ExpressionPart factors ∷ []) (ExpressionPart factors ∷ LevelPart ∷ []) (LevelPart ∷ []) c.args.input.now c.in-Some-Sign-Minus-default.rest.now c.in_ok-operand-in-Some-Sign-Minus-default.rest.now (one c.args.text.now c.args.depth (ExpressionPart factors) ([]) (ExpressionPart factors ∷ LevelPart ∷ []) (sign mark.Minus) c.args.input.now c.in-Some-Sign-Minus-default.rest.now (λ s l. omega (arith, l, c.requires.1.1.0, c.in_ok-inner-in-Some-Sign-Minus-default.ensures.deeper.0, c.in_ok-inner-in-Some-Sign-Minus-default.ensures.deeper.1)) (λ s. refl) ((first_of _ (class.Sign mark.Minus) c.args.input.now c.in-Some-Sign-Minus-default.rest.now (c.in-Some-Sign-Minus-default.field-0-0-is ∙ ap class.Sign c.in-Some-Sign-Minus-default.field-0-0-0-is) c.in-Some-Sign-Minus-default.ensures.first.0).1 c.args.text.now)) (call c.args.text.now c.args.depth c.in_ok-inner-in-Some-Sign-Minus-default.inner (ExpressionPart factors) (LevelPart ∷ []) c.in-Some-Sign-Minus-default.rest.now c.in_ok-operand-in-Some-Sign-Minus-default.rest.now (λ s l. omega (arith, l, c.requires.1.1.0, c.in_ok-inner-in-Some-Sign-Minus-default.ensures.deeper.0, c.in_ok-inner-in-Some-Sign-Minus-default.ensures.deeper.1)) c.in_ok-operand-in-Some-Sign-Minus-default.ensures.reads)) (level_ends c.args.text.now c.args.depth [] c.in_ok-operand-in-Some-Sign-Minus-default.rest.now));
+    })
+    c.made-in-Some-Sign-Minus-default.result (λ x. x.0.value) (λ x. x.1.now) c.made-in-Some-Sign-Minus-default.ensures
+
+pub read_factor-returns-in_ok-rest-in-Some-Sign-Open-default : goal.read_factor-returns-in_ok-rest-in-Some-Sign-Open-default
+read_factor-returns-in_ok-rest-in-Some-Sign-Open-default t c =
+    let T = c.args.text.now in
+    made T c.args.depth factors _ c.args.input.now c.in_ok-rest-in-Some-Sign-Open-default.rest.now (λ at h. record {
+      spans = (h, (c.in-Some-Sign-Open-default.rest.now, c.in_ok-inside-in-Some-Sign-Open-default.rest.now, (S.takes T (sign mark.Open) c.args.input.now c.in-Some-Sign-Open-default.rest.now c.in-Some-Sign-Open-default.ensures.passed ((first_of _ (class.Sign mark.Open) c.args.input.now c.in-Some-Sign-Open-default.rest.now (c.in-Some-Sign-Open-default.field-0-0-is ∙ ap class.Sign c.in-Some-Sign-Open-default.field-0-0-0-is) c.in-Some-Sign-Open-default.ensures.first.0).1 T)), c.in_ok-inside-in-Some-Sign-Open-default.ensures.spans, (S.takes T (sign mark.Close) c.in_ok-inside-in-Some-Sign-Open-default.rest.now c.in_ok-rest-in-Some-Sign-Open-default.rest.now c.in_ok-rest-in-Some-Sign-Open-default.ensures.passed (c.in_ok-rest-in-Some-Sign-Open-default.ensures.first.1 T))));
+      fits = (omega arith, c.in_ok-inside-in-Some-Sign-Open-default.ensures.fits.1);
+      nesting = omega (arith, c.in_ok-inner-in-Some-Sign-Open-default.ensures.deeper.0, c.in_ok-inside-in-Some-Sign-Open-default.ensures.nesting);
+      shorter = omega (arith, c.in-Some-Sign-Open-default.ensures.first.1, c.in_ok-inside-in-Some-Sign-Open-default.ensures.shorter, c.in_ok-rest-in-Some-Sign-Open-default.ensures.shorter);
+      proper = c.in_ok-rest-in-Some-Sign-Open-default.ensures.proper c.args.text.now c.in_ok-inside-in-Some-Sign-Open-default.ensures.proper;
+      reads = (then c.args.text.now c.args.depth (ExpressionPart factors ∷ []) (LevelPart ∷ []) ([]) c.args.input.now c.in_ok-rest-in-Some-Sign-Open-default.rest.now c.in_ok-rest-in-Some-Sign-Open-default.rest.now (then c.args.text.now c.args.depth (ExpressionPart factors ∷ []) (TokenPart CloseToken ∷ LevelPart ∷ []) (LevelPart ∷ []) c.args.input.now c.in_ok-inside-in-Some-Sign-Open-default.rest.now c.in_ok-rest-in-Some-Sign-Open-default.rest.now (then c.args.text.now c.args.depth (ExpressionPart factors ∷ []) (ExpressionPart whole ∷ TokenPart CloseToken ∷ LevelPart ∷ []) (TokenPart CloseToken ∷ LevelPart ∷ []) c.args.input.now c.in-Some-Sign-Open-default.rest.now c.in_ok-inside-in-Some-Sign-Open-default.rest.now (one c.args.text.now c.args.depth (ExpressionPart factors) ([]) (ExpressionPart whole ∷ TokenPart CloseToken ∷ LevelPart ∷ []) (sign mark.Open) c.args.input.now c.in-Some-Sign-Open-default.rest.now (λ s l. omega (arith, l, c.requires.1.1.0, c.in_ok-inner-in-Some-Sign-Open-default.ensures.deeper.0, c.in_ok-inner-in-Some-Sign-Open-default.ensures.deeper.1)) (λ s. refl) ((first_of _ (class.Sign mark.Open) c.args.input.now c.in-Some-Sign-Open-default.rest.now (c.in-Some-Sign-Open-default.field-0-0-is ∙ ap class.Sign c.in-Some-Sign-Open-default.field-0-0-0-is) c.in-Some-Sign-Open-default.ensures.first.0).1 c.args.text.now)) (call c.args.text.now c.args.depth c.in_ok-inner-in-Some-Sign-Open-default.inner (ExpressionPart whole) (TokenPart CloseToken ∷ LevelPart ∷ []) c.in-Some-Sign-Open-default.rest.now c.in_ok-inside-in-Some-Sign-Open-default.rest.now (λ s l. omega (arith, l, c.requires.1.1.0, c.in_ok-inner-in-Some-Sign-Open-default.ensures.deeper.0, c.in_ok-inner-in-Some-Sign-Open-default.ensures.deeper.1)) c.in_ok-inside-in-Some-Sign-Open-default.ensures.reads)) (expected c.args.text.now c.args.depth CloseToken (LevelPart ∷ []) (class.Sign mark.Close) c.in_ok-inside-in-Some-Sign-Open-default.rest.now c.in_ok-rest-in-Some-Sign-Open-default.rest.now (λ s l. omega (arith, l, c.requires.1.1.0, c.in_ok-inner-in-Some-Sign-Open-default.ensures.deeper.0, c.in_ok-inner-in-Some-Sign-Open-default.ensures.deeper.1)) refl c.in_ok-rest-in-Some-Sign-Open-default.ensures.first)) (level_ends c.args.text.now c.args.depth [] c.in_ok-rest-in-Some-Sign-Open-default.rest.now));
+    })
+    c.made-in-Some-Sign-Open-default.result (λ x. x.0.value) (λ x. x.1.now) c.made-in-Some-Sign-Open-default.ensures
+
+pub read_factor-returns-in_ok-name-in-Some-Name-default : goal.read_factor-returns-in_ok-name-in-Some-Name-default
+read_factor-returns-in_ok-name-in-Some-Name-default t c =
+    let T = c.args.text.now in
+    made T c.args.depth factors _ c.args.input.now c.in_ok-name-in-Some-Name-default.rest.now (λ at h. record {
+      spans = (h, c.in_ok-name-in-Some-Name-default.ensures.spans);
+      fits = (omega arith, tt);
+      nesting = omega (arith, c.requires.1.1.0);
+      shorter = omega (arith, c.in_ok-name-in-Some-Name-default.ensures.shorter);
+      proper = c.in_ok-name-in-Some-Name-default.ensures.proper;
+      reads = one T c.args.depth (ExpressionPart factors) [] [] (name (name_of c.in_ok-name-in-Some-Name-default.name)) c.args.input.now c.in_ok-name-in-Some-Name-default.rest.now (λ s l. omega (arith, l, c.requires.1.1.0)) (λ s. refl) c.in_ok-name-in-Some-Name-default.ensures.words;
+    })
+    c.made-in-Some-Name-default.result (λ x. x.0.value) (λ x. x.1.now) c.made-in-Some-Name-default.ensures

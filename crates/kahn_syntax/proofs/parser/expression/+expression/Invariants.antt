@@ -33,9 +33,9 @@ decreases-read_relation l = 12 * length l.input.now + 5
 
 abbrev pub invariant-read_level-operands : goal.invariant-read_level-operands
 invariant-read_level-operands l = record {
-  spans : (a : List Lexeme) × ExpressionSpans l.text l.first l.input a × OperandsSpan l.text l.further.items a l.rest;
+  spans : (a : List Lexeme) × ExpressionSpans l.text l.first.value l.input a × OperandsSpan l.text l.further.items a l.rest;
   formed : FormedOperands (rank_of l.level) (operands_of l.further.items);
-  nesting : l.depth + max (expression_nesting (expression_of l.first)) (operands_nesting (operands_of l.further.items)) ≤ 64;
+  nesting : l.depth + max (expression_nesting (expression_of l.first.value)) (operands_nesting (operands_of l.further.items)) ≤ 64;
   shorter : length l.rest < length l.input;
   proper : AreProper l.text l.rest;
   reads : Moves l.text l.depth (ExpressionPart (rung_of l.level) ∷ []) (OperatorsPart (rung_of l.level) ∷ []) l.input l.rest;

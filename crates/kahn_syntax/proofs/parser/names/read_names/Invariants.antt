@@ -1,20 +1,18 @@
-use Rattle.std.proofs.Common.{◌≡◌, ◌≤◌, [], ◌∷◌, length, map}
-use Rattle.kahn_syntax.specs.Terminals.{terminals, AreProper}
-use Rattle.kahn_syntax.specs.Programs.{names_words, AreNames}
-use Rattle.kahn_syntax.specs.Machine.{NamesTail, TailPart, names_then}
+use Rattle.std.proofs.Common.{◌≤◌, List, [], ◌∷◌, ◌++◌, length}
+use Rattle.kahn_tree.specs.declared.tree.Name.{Name}
+use Rattle.kahn_syntax.specs.declared.lexeme.Lexeme.{Lexeme}
+use Rattle.kahn_syntax.specs.Terminals.{AreProper}
+use Rattle.kahn_syntax.specs.Machine.{names_then}
 use Rattle.kahn_syntax.specs.Reads.{Moves}
-use Rattle.kahn_syntax.specs.Drawn.{name_of}
-use Rattle.kahn_syntax.specs.Spans.{NamesSpan}
+use Rattle.kahn_syntax.specs.Spans.{NameSpans, NamesSpan}
 use Rattle.kahn_syntax.proofs.parser.names.read_names.Given as goal
 
 abbrev pub invariant-names : goal.invariant-names
 invariant-names l = record {
-  words : terminals l.text l.input ≡ names_words (map name_of l.names.items) (terminals l.text l.rest);
-  some : AreNames (map name_of l.names.items);
-  spans : NamesSpan l.text l.names.items l.input l.rest;
+  spans : (n : Name) (r : List Lexeme) → NameSpans l.text n l.rest r → NamesSpan l.text (l.names.items ++ n ∷ []) l.input r;
   shorter : length l.rest ≤ length l.input;
   proper : AreProper l.text l.rest;
-  reads : Moves l.text 0 (names_then []) (TailPart NamesTail ∷ []) l.input l.rest;
+  reads : Moves l.text 0 (names_then []) (names_then []) l.input l.rest;
 }
 
 abbrev pub decreases-names : goal.decreases-names

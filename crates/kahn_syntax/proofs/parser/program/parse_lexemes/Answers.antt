@@ -1,6 +1,17 @@
 use Rattle.kahn_syntax.specs.Terminals.{terminals}
 use Rattle.kahn_syntax.proofs.OneTree.{one_tree}
+use Rattle.kahn_syntax.proofs.Spelled.{program_spelled, sound_nesting}
 use Rattle.kahn_syntax.proofs.parser.program.parse_lexemes.Goals as goal
 
+pub returns-in-Ok-clause-spells : goal.returns-in-Ok-clause-spells
+returns-in-Ok-clause-spells c = program_spelled c.args.text.now c.in-Ok.program c.args.lexemes.now c.in-Ok.ensures.read.0 c.in-Ok.ensures.read.1
+
+pub returns-in-Ok-clause-spans : goal.returns-in-Ok-clause-spans
+returns-in-Ok-clause-spans c = c.in-Ok.ensures.read.1
+
+pub returns-in-Ok-clause-nesting : goal.returns-in-Ok-clause-nesting
+returns-in-Ok-clause-nesting c = sound_nesting _ c.in-Ok.ensures.read.0
+
 pub returns-in-Ok-clause-only : goal.returns-in-Ok-clause-only
-returns-in-Ok-clause-only c = λ t p. one_tree t _ (terminals c.args.text.now c.args.lexemes.now) p c.in-Ok.ensures.spells
+returns-in-Ok-clause-only c = λ t p.
+    one_tree t _ (terminals c.args.text.now c.args.lexemes.now) p (program_spelled c.args.text.now c.in-Ok.program c.args.lexemes.now c.in-Ok.ensures.read.0 c.in-Ok.ensures.read.1)

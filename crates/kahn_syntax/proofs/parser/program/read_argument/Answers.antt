@@ -1,23 +1,18 @@
-use Rattle.std.proofs.Common.{rules, ◌≡◌, false, refl, [], ◌∷◌, arith, sym, ap, ◌∙◌, subst}
+use Rattle.std.proofs.Common.{rules, ◌≡◌, false, refl, [], ◌∷◌, arith, sym, ap, ◌∙◌, subst, length, inl, inr, w64}
 use Rattle.std.proofs.lemmas.Result.{err_from_is_err_and}
 use Rattle.kahn_syntax.specs.declared.lexeme.Keyword.TheVariants as keyword
 use Rattle.kahn_syntax.specs.declared.lexeme.Sign.TheVariants as mark
 use Rattle.kahn_syntax.specs.declared.lexeme.Class.TheVariants as class
-use Rattle.kahn_syntax.specs.Terminals.{word, sign, terminals}
+use Rattle.kahn_syntax.specs.Terminals.{word, sign, terminals, IsUnsigned, number, name}
 use Rattle.kahn_syntax.specs.Machine.{NumberToken, ArgumentPart, TokenPart}
-use Rattle.kahn_syntax.proofs.Moves.{leads_argument, no_argument, only_memory, then_stops, one, absent}
-use Rattle.std.proofs.Common.{length}
+use Rattle.kahn_syntax.proofs.Moves.{leads_argument, no_argument, only_memory, then_stops, one, absent, token, then}
 use Rattle.kahn_syntax.specs.declared.parser.cursor.Stop.TheVariants.{Refused}
 use Rattle.kahn_syntax.proofs.Lists.{first_of}
 use Rattle.kahn_syntax.proofs.Spanning as S
-use Rattle.std.proofs.Common.{inl, inr, w64}
 use Rattle.std.proofs.lemmas.Int.{to_z-of_z}
 use Rattle.kahn_syntax.proofs.Negative.{number_fits}
-use Rattle.kahn_syntax.specs.Terminals.{IsUnsigned, number}
 use Rattle.kahn_syntax.specs.Spans.{Takes}
 use Rattle.kahn_syntax.specs.Drawn.{name_of}
-use Rattle.kahn_syntax.specs.Terminals.{name}
-use Rattle.kahn_syntax.proofs.Moves.{token, then}
 use Rattle.kahn_syntax.proofs.parser.program.read_argument.Goals as goal
 
 pub returns-in_err-name-in-Some-Name-default : goal.returns-in_err-name-in-Some-Name-default
@@ -35,7 +30,6 @@ returns-in_default-next_negative c =
 pub returns-in-Some-Number-default : goal.returns-in-Some-Number-default
 returns-in-Some-Number-default c =
     record {
-      words = let u = subst IsUnsigned c.in-Some-Number-default.field-0-0-is (c.in-Some-Number-default.ensures.unsigned c.args.text.now c.requires.proper) in inl (subst (λ z. terminals c.args.text.now c.args.input.now ≡ number z ∷ terminals c.args.text.now c.in-Some-Number-default.rest.now) (sym (to_z-of_z w64 c.in-Some-Number-default.number (number_fits c.in-Some-Number-default.number u.0 u.1 u.2))) ((first_of _ (class.Number c.in-Some-Number-default.number) c.args.input.now c.in-Some-Number-default.rest.now (c.in-Some-Number-default.field-0-0-is) c.in-Some-Number-default.ensures.first.0).1 c.args.text.now));
       spans = let T = c.args.text.now in
           let u = subst IsUnsigned c.in-Some-Number-default.field-0-0-is (c.in-Some-Number-default.ensures.unsigned T c.requires.proper) in (
             c.reach.ensures,
@@ -50,7 +44,6 @@ returns-in-Some-Number-default c =
 pub returns-in-Some-Word-True-default : goal.returns-in-Some-Word-True-default
 returns-in-Some-Word-True-default c =
     record {
-      words = ((first_of _ (class.Word keyword.True) c.args.input.now c.in-Some-Word-True-default.rest.now (c.in-Some-Word-True-default.field-0-0-is ∙ ap class.Word c.in-Some-Word-True-default.field-0-0-0-is) c.in-Some-Word-True-default.ensures.first.0).1 c.args.text.now);
       spans = let T = c.args.text.now in
           (c.reach-in-Some-Word-True-default.ensures, (S.takes T (word keyword.True) c.args.input.now c.in-Some-Word-True-default.rest.now c.in-Some-Word-True-default.ensures.passed ((first_of _ (class.Word keyword.True) c.args.input.now c.in-Some-Word-True-default.rest.now (c.in-Some-Word-True-default.field-0-0-is ∙ ap class.Word c.in-Some-Word-True-default.field-0-0-0-is) c.in-Some-Word-True-default.ensures.first.0).1 T)));
       shorter = omega (arith, c.in-Some-Word-True-default.ensures.first.1);
@@ -61,7 +54,6 @@ returns-in-Some-Word-True-default c =
 pub returns-in-Some-Word-False-default : goal.returns-in-Some-Word-False-default
 returns-in-Some-Word-False-default c =
     record {
-      words = ((first_of _ (class.Word keyword.False) c.args.input.now c.in-Some-Word-False-default.rest.now (c.in-Some-Word-False-default.field-0-0-is ∙ ap class.Word c.in-Some-Word-False-default.field-0-0-0-is) c.in-Some-Word-False-default.ensures.first.0).1 c.args.text.now);
       spans = let T = c.args.text.now in
           (c.reach-in-Some-Word-False-default.ensures, (S.takes T (word keyword.False) c.args.input.now c.in-Some-Word-False-default.rest.now c.in-Some-Word-False-default.ensures.passed ((first_of _ (class.Word keyword.False) c.args.input.now c.in-Some-Word-False-default.rest.now (c.in-Some-Word-False-default.field-0-0-is ∙ ap class.Word c.in-Some-Word-False-default.field-0-0-0-is) c.in-Some-Word-False-default.ensures.first.0).1 T)));
       shorter = omega (arith, c.in-Some-Word-False-default.ensures.first.1);
@@ -72,7 +64,6 @@ returns-in-Some-Word-False-default c =
 pub returns-in-Some : goal.returns-in-Some
 returns-in-Some c =
     record {
-      words = inr (c.in-Some.ensures.number.0, search rules, ((first_of _ (class.Sign mark.Minus) c.args.input.now c.in-Some-Sign-Minus-default.rest.now (c.in-Some-Sign-Minus-default.field-0-0-is ∙ ap class.Sign c.in-Some-Sign-Minus-default.field-0-0-0-is) c.in-Some-Sign-Minus-default.ensures.first.0).1 c.args.text.now) ∙ ap (λ x. sign mark.Minus ∷ x) (c.in-Some.ensures.number.2 c.args.text.now));
       spans = let T = c.args.text.now in (
         c.reach-in-Some-Sign-Minus-default.ensures,
         inr (
@@ -91,7 +82,6 @@ returns-in-Some c =
 pub returns-in_ok-name-in-Some-Name-default : goal.returns-in_ok-name-in-Some-Name-default
 returns-in_ok-name-in-Some-Name-default c =
     record {
-      words = c.in_ok-name-in-Some-Name-default.ensures.words;
       spans = c.in_ok-name-in-Some-Name-default.ensures.spans;
       shorter = omega (arith, c.in_ok-name-in-Some-Name-default.ensures.shorter);
       proper = c.in_ok-name-in-Some-Name-default.ensures.proper;

@@ -1,19 +1,19 @@
-use Rattle.std.proofs.Common.{◌≤◌, [], ◌∷◌, length, map}
-use Rattle.kahn_syntax.specs.Terminals.{terminals, AreProper}
-use Rattle.kahn_syntax.specs.Machine.{ArgumentsPart, TailPart, TokenPart, CloseToken, ArgumentsTail}
+use Rattle.std.proofs.Common.{◌≤◌, List, [], ◌∷◌, ◌++◌, length}
+use Rattle.kahn_tree.specs.declared.tree.Argument.{Argument}
+use Rattle.kahn_syntax.specs.declared.lexeme.Lexeme.{Lexeme}
+use Rattle.kahn_syntax.specs.Spans.{ArgumentSpans}
+use Rattle.kahn_syntax.specs.Terminals.{AreProper}
+use Rattle.kahn_syntax.specs.Machine.{ArgumentsPart, ArgumentPart, TailPart, TokenPart, CloseToken, ArgumentsTail}
 use Rattle.kahn_syntax.specs.Reads.{Moves}
-use Rattle.kahn_syntax.specs.Drawn.{argument_of}
 use Rattle.kahn_syntax.proofs.Spanning.{SomeArgumentsSpan}
-use Rattle.kahn_syntax.proofs.Instanced.{SomeArguments}
 use Rattle.kahn_syntax.proofs.parser.program.read_arguments.Given as goal
 
 abbrev pub invariant-arguments : goal.invariant-arguments
 invariant-arguments l = record {
-  words : SomeArguments (map argument_of l.arguments.items) (terminals l.text l.input) (terminals l.text l.rest);
-  spans : SomeArgumentsSpan l.text l.arguments.items l.input l.rest;
+  spans : (n : Argument) (r : List Lexeme) → ArgumentSpans l.text n l.rest r → SomeArgumentsSpan l.text (l.arguments.items ++ n ∷ []) l.input r;
   shorter : length l.rest ≤ length l.input;
   proper : AreProper l.text l.rest;
-  reads : Moves l.text 0 (ArgumentsPart ∷ []) (TailPart ArgumentsTail ∷ TokenPart CloseToken ∷ []) l.input l.rest;
+  reads : Moves l.text 0 (ArgumentsPart ∷ []) (ArgumentPart ∷ TailPart ArgumentsTail ∷ TokenPart CloseToken ∷ []) l.input l.rest;
 }
 
 abbrev pub decreases-arguments : goal.decreases-arguments

@@ -7,8 +7,6 @@ use Rattle.kahn_syntax.specs.Machine.{OpenToken, InstancePart, ArgumentsPart, To
 use Rattle.kahn_syntax.specs.Drawn.{name_of}
 use Rattle.kahn_syntax.proofs.Moves.{no_instance, then, then_stops, call, call_stops, one, expected, unexpected}
 use Rattle.kahn_syntax.proofs.Spanning as S
-use Rattle.std.proofs.Common.{◌∙◌, ap}
-use Rattle.kahn_syntax.specs.Terminals.{terminals}
 use Rattle.kahn_syntax.proofs.parser.program.read_instance.Goals as goal
 
 pub returns-in_err-process : goal.returns-in_err-process
@@ -29,7 +27,6 @@ returns-in_err-arguments c =
 pub returns : goal.returns
 returns c =
     record {
-      words = (terminals c.args.text.now c.in_ok-rest.rest.now, c.in_ok-process.ensures.words ∙ ap (λ x. name (name_of c.in_ok-process.process) ∷ x) (c.in_ok-rest.ensures.first.1 c.args.text.now), c.in_ok-arguments.ensures.words);
       spans = let T = c.args.text.now in (
         c.in_ok-process.rest.now,
         c.in_ok-rest.rest.now,

@@ -1,17 +1,12 @@
-use Rattle.std.proofs.Common.{rules, ◌≢◌, ◌≡◌, refl, [], ◌∷◌, arith, ◌∙◌, subst}
+use Rattle.std.proofs.Common.{rules, ◌≢◌, ◌≡◌, refl, [], ◌∷◌, arith, ◌∙◌, subst, length}
 use Rattle.std.proofs.lemmas.Result.{err_from_is_err_and}
 use Rattle.kahn_syntax.specs.declared.lexeme.Keyword.TheVariants as keyword
 use Rattle.kahn_syntax.specs.declared.lexeme.Class.TheVariants as class
 use Rattle.kahn_syntax.specs.Terminals.{word}
 use Rattle.kahn_syntax.specs.Machine.{EndToken, InstancesTail, LastTail, ProgramPart, DeclarationsPart, InstancePart, TailPart, TokenPart}
 use Rattle.kahn_syntax.proofs.Moves.{no_program, whole_end, halts, then, then_stops, call, call_stops, call_two, call_two_stops, one, expected, unexpected}
-use Rattle.std.proofs.Common.{length}
 use Rattle.kahn_syntax.proofs.Spanning as S
 use Rattle.kahn_syntax.specs.Spans.{MayPart}
-use Rattle.std.proofs.Common.{map, ap}
-use Rattle.kahn_syntax.specs.Terminals.{terminals}
-use Rattle.kahn_syntax.specs.Drawn.{declaration_of, instance_of}
-use Rattle.kahn_syntax.proofs.Instanced.{program_spelled}
 use Rattle.kahn_syntax.proofs.parser.program.read_program.Goals as goal
 
 pub returns-in_err-rest-clause-halts : goal.returns-in_err-rest-clause-halts
@@ -36,30 +31,23 @@ returns-in_err-rest-2-clause-halts c =
 pub returns-else-is_empty-clause-halts : goal.returns-else-is_empty-clause-halts
 returns-else-is_empty-clause-halts c = let a : c.past_semicolon-rest.result.now ≢ [] = search rules in (then c.args.text.now 0 (ProgramPart ∷ []) (TailPart LastTail ∷ []) ([]) c.args.lexemes.now c.in_ok-rest-2.rest.now c.past_semicolon-rest.result.now (then c.args.text.now 0 (ProgramPart ∷ []) (TokenPart EndToken ∷ TailPart LastTail ∷ []) (TailPart LastTail ∷ []) c.args.lexemes.now c.past_semicolon.result.now c.in_ok-rest-2.rest.now (then c.args.text.now 0 (ProgramPart ∷ []) (TailPart LastTail ∷ TokenPart EndToken ∷ TailPart LastTail ∷ []) (TokenPart EndToken ∷ TailPart LastTail ∷ []) c.args.lexemes.now c.in_ok-instances.rest.now c.past_semicolon.result.now (then c.args.text.now 0 (ProgramPart ∷ []) (InstancePart ∷ TailPart InstancesTail ∷ TailPart LastTail ∷ TokenPart EndToken ∷ TailPart LastTail ∷ []) (TailPart LastTail ∷ TokenPart EndToken ∷ TailPart LastTail ∷ []) c.args.lexemes.now c.in_ok-declarations.rest.now c.in_ok-instances.rest.now (then c.args.text.now 0 (ProgramPart ∷ []) (DeclarationsPart ∷ InstancePart ∷ TailPart InstancesTail ∷ TailPart LastTail ∷ TokenPart EndToken ∷ TailPart LastTail ∷ []) (InstancePart ∷ TailPart InstancesTail ∷ TailPart LastTail ∷ TokenPart EndToken ∷ TailPart LastTail ∷ []) c.args.lexemes.now c.in_ok-rest.rest.now c.in_ok-declarations.rest.now (one c.args.text.now 0 (ProgramPart) ([]) (DeclarationsPart ∷ InstancePart ∷ TailPart InstancesTail ∷ TailPart LastTail ∷ TokenPart EndToken ∷ TailPart LastTail ∷ []) (word keyword.Begin) c.args.lexemes.now c.in_ok-rest.rest.now (λ s l. omega (arith, l)) (λ s. refl) (c.in_ok-rest.ensures.first.1 c.args.text.now)) (call c.args.text.now 0 0 (DeclarationsPart) (InstancePart ∷ TailPart InstancesTail ∷ TailPart LastTail ∷ TokenPart EndToken ∷ TailPart LastTail ∷ []) c.in_ok-rest.rest.now c.in_ok-declarations.rest.now (λ s l. omega (arith, l)) c.in_ok-declarations.ensures.reads)) (call_two c.args.text.now 0 0 (InstancePart) (TailPart InstancesTail) (TailPart LastTail ∷ TokenPart EndToken ∷ TailPart LastTail ∷ []) c.in_ok-declarations.rest.now c.in_ok-instances.rest.now (λ s l. omega (arith, l)) c.in_ok-instances.ensures.reads)) (call c.args.text.now 0 0 (TailPart LastTail) (TokenPart EndToken ∷ TailPart LastTail ∷ []) c.in_ok-instances.rest.now c.past_semicolon.result.now (λ s l. omega (arith, l)) (c.past_semicolon.ensures.reads c.args.text.now))) (expected c.args.text.now 0 EndToken (TailPart LastTail ∷ []) (class.Word keyword.End) c.past_semicolon.result.now c.in_ok-rest-2.rest.now (λ s l. omega (arith, l)) refl c.in_ok-rest-2.ensures.first)) (call c.args.text.now 0 0 (TailPart LastTail) ([]) c.in_ok-rest-2.rest.now c.past_semicolon-rest.result.now (λ s l. omega (arith, l)) (c.past_semicolon-rest.ensures.reads c.args.text.now))) [] refl ∙ whole_end c.args.text.now c.past_semicolon-rest.result.now a
 
-pub returns-then-is_empty-clause-spans : goal.returns-then-is_empty-clause-spans
-returns-then-is_empty-clause-spans c =
-    let T = c.args.text.now in
-    let a : length c.past_semicolon-rest.result.now ≡ 0 = search rules in (
-      c.in_ok-rest.rest.now,
-      c.in_ok-declarations.rest.now,
-      c.in_ok-instances.rest.now,
-      c.past_semicolon.result.now,
-      c.in_ok-rest-2.rest.now,
-      (S.takes T (word keyword.Begin) c.args.lexemes.now c.in_ok-rest.rest.now c.in_ok-rest.ensures.passed (c.in_ok-rest.ensures.first.1 T)),
-      c.in_ok-declarations.ensures.spans,
-      c.in_ok-instances.ensures.spans,
-      c.past_semicolon.ensures.spans T,
-      (S.takes T (word keyword.End) c.past_semicolon.result.now c.in_ok-rest-2.rest.now c.in_ok-rest-2.ensures.passed (c.in_ok-rest-2.ensures.first.1 T)),
-      subst (MayPart T c.in_ok-rest-2.rest.now) (S.none_left c.past_semicolon-rest.result.now a) (c.past_semicolon-rest.ensures.spans T),
-    )
-
-pub returns-then-is_empty-clause-spells : goal.returns-then-is_empty-clause-spells
-returns-then-is_empty-clause-spells c =
-    let k = terminals c.args.text.now in
-    let a : length c.past_semicolon-rest.result.now ≡ 0 = search rules in
-    program_spelled (map declaration_of c.in_ok-declarations.declarations.items) (map instance_of c.in_ok-instances.instances.items) (k c.args.lexemes.now) (k c.in_ok-rest.rest.now) (k c.in_ok-declarations.rest.now) (k c.in_ok-instances.rest.now) (k c.past_semicolon.result.now) (k c.in_ok-rest-2.rest.now) (k c.past_semicolon-rest.result.now)
-    (c.in_ok-rest.ensures.first.1 c.args.text.now) c.in_ok-declarations.ensures.words.0 c.in_ok-instances.ensures.words (c.past_semicolon.ensures.words c.args.text.now) (c.in_ok-rest-2.ensures.first.1 c.args.text.now) (c.past_semicolon-rest.ensures.words c.args.text.now)
-    (ap k (S.none_left c.past_semicolon-rest.result.now a))
-
-pub returns-then-is_empty-clause-nesting : goal.returns-then-is_empty-clause-nesting
-returns-then-is_empty-clause-nesting c = c.in_ok-declarations.ensures.words.1
+pub returns-then-is_empty-clause-read : goal.returns-then-is_empty-clause-read
+returns-then-is_empty-clause-read c = (
+  c.in_ok-declarations.ensures.spans.0,
+  (
+      let T = c.args.text.now in
+      let a : length c.past_semicolon-rest.result.now ≡ 0 = search rules in (
+        c.in_ok-rest.rest.now,
+        c.in_ok-declarations.rest.now,
+        c.in_ok-instances.rest.now,
+        c.past_semicolon.result.now,
+        c.in_ok-rest-2.rest.now,
+        (S.takes T (word keyword.Begin) c.args.lexemes.now c.in_ok-rest.rest.now c.in_ok-rest.ensures.passed (c.in_ok-rest.ensures.first.1 T)),
+        c.in_ok-declarations.ensures.spans.1,
+        c.in_ok-instances.ensures.spans,
+        c.past_semicolon.ensures.spans T,
+        (S.takes T (word keyword.End) c.past_semicolon.result.now c.in_ok-rest-2.rest.now c.in_ok-rest-2.ensures.passed (c.in_ok-rest-2.ensures.first.1 T)),
+        subst (MayPart T c.in_ok-rest-2.rest.now) (S.none_left c.past_semicolon-rest.result.now a) (c.past_semicolon-rest.ensures.spans T),
+      )
+      ),
+)

@@ -7,51 +7,17 @@ use Rattle.kahn_syntax.specs.Terminals.{word, sign, terminals}
 use Rattle.kahn_syntax.specs.Rungs.{whole}
 use Rattle.kahn_syntax.specs.Machine.{leads, DoToken, EndToken, NameToken, ThenToken, StatementsTail, ElseTail, StatementPart, SimplePart, ExpressionPart, TailPart, TokenPart, LevelPart}
 use Rattle.kahn_syntax.proofs.Moves.{leads_statement, opens_simple, leads_simple, simple_ends, opened_simple, then, then_stops, call, call_stops, call_two, call_two_stops, one, deep, expected, goes, ends, level_ends, unexpected}
-use Rattle.kahn_syntax.specs.Trees.{FormedStatement, IsSimple, statement_nesting}
-use Rattle.kahn_syntax.specs.Drawn.{statement_of}
+use Rattle.kahn_syntax.specs.Trees.{FormedStatement, FormedStatements, statements_nesting, IsSimple, statement_nesting}
+use Rattle.kahn_syntax.specs.Drawn.{statement_of, statements_of}
 use Rattle.kahn_syntax.specs.Spans.{StatementSpans}
-use Rattle.kahn_syntax.specs.Reads.{StatementRead}
+use Rattle.kahn_syntax.specs.Reads.{ExpressionRead, StatementRead}
 use Rattle.kahn_syntax.proofs.Lists.{first_of}
 use Rattle.kahn_syntax.proofs.Spanning as S
+use Rattle.kahn_syntax.proofs.Spanning.{SomeStatements}
 use Rattle.kahn_syntax.proofs.Stacks as K
 use Rattle.kahn_syntax.proofs.Spelled.{statements_spelled}
 use Rattle.kahn_syntax.proofs.Statements.{formed_next, some_next, nesting_next}
 use Rattle.kahn_syntax.proofs.parser.statement.+statement.Goals as goal
-
-pub read_statements-returns-in_err-first : goal.read_statements-returns-in_err-first
-read_statements-returns-in_err-first t c =
-    let p = err_from_is_err_and c.from_residual.result c.from_residual.ensures.1 in rw (p.1, p.2) (call_stops c.args.text.now c.args.depth c.args.depth (StatementPart) (TailPart StatementsTail ∷ []) c.args.input.now _ (λ s l. omega (arith, l, c.requires.1.1.0)) c.in_err-first.ensures)
-
-pub read_statements-read_statement-requires-in-Some : goal.read_statements-read_statement-requires-in-Some
-read_statements-read_statement-requires-in-Some t c = (omega (arith, c.requires.1.0, c.in-Some.ensures.shorter, c.statements.invariant.shorter), (c.requires.1.1.0, c.in-Some.ensures.proper c.args.text.now c.statements.invariant.proper))
-
-pub read_statements-returns-in_err-statement : goal.read_statements-returns-in_err-statement
-read_statements-returns-in_err-statement t c =
-    let p = err_from_is_err_and c.from_residual-in_err-statement.result c.from_residual-in_err-statement.ensures.1 in rw (p.1, p.2) (then_stops c.args.text.now c.args.depth (StatementPart ∷ TailPart StatementsTail ∷ []) (StatementPart ∷ TailPart StatementsTail ∷ []) c.args.input.now c.in-Some.after.now _ (then c.args.text.now c.args.depth (StatementPart ∷ TailPart StatementsTail ∷ []) (TailPart StatementsTail ∷ []) (StatementPart ∷ TailPart StatementsTail ∷ []) c.args.input.now c.statements.rest.now c.in-Some.after.now (c.statements.invariant.reads) (goes c.args.text.now c.args.depth StatementsTail ([]) (class.Sign mark.Semicolon) c.statements.rest.now c.in-Some.after.now (λ s l. omega (arith, l, c.requires.1.1.0)) refl c.in-Some.ensures.first)) (call_stops c.args.text.now c.args.depth c.args.depth (StatementPart) (TailPart StatementsTail ∷ []) c.in-Some.after.now _ (λ s l. omega (arith, l, c.requires.1.1.0)) c.in_err-statement.ensures))
-
-pub read_statements-statements-init : goal.read_statements-statements-init
-read_statements-statements-init t c =
-    record {
-      spans = S.statements_first c.args.text.now _ c.in_ok-first.first c.args.input.now c.in_ok-first.rest.now (c.in_ok-push.ensures.items ∙ ap (λ xs. xs ++ c.in_ok-first.first ∷ []) c.new-statements.ensures.items) c.in_ok-first.ensures.spans;
-      formed = search rules;
-      some = search rules;
-      nesting = search rules;
-      shorter = c.in_ok-first.ensures.shorter;
-      proper = c.in_ok-first.ensures.proper;
-      reads = (call c.args.text.now c.args.depth c.args.depth (StatementPart) (TailPart StatementsTail ∷ []) c.args.input.now c.in_ok-first.rest.now (λ s l. omega (arith, l, c.requires.1.1.0)) c.in_ok-first.ensures.reads);
-    }
-
-pub read_statements-statements-preserved : goal.read_statements-statements-preserved
-read_statements-statements-preserved t c =
-    record {
-      spans = S.statements_next c.args.text.now _ _ _ _ c.statements.rest.now c.in-Some.after.now c.in_ok-statement.left.now c.in_ok-push-2.ensures.items c.statements.invariant.spans (S.takes c.args.text.now (sign mark.Semicolon) _ _ c.in-Some.ensures.passed (c.in-Some.ensures.first.1 c.args.text.now)) c.in_ok-statement.ensures.spans;
-      formed = formed_next _ _ _ c.in_ok-push-2.ensures.items c.statements.invariant.formed c.in_ok-statement.ensures.formed;
-      some = some_next _ _ _ c.in_ok-push-2.ensures.items;
-      nesting = nesting_next _ _ _ _ c.in_ok-push-2.ensures.items c.statements.invariant.nesting c.in_ok-statement.ensures.nesting;
-      shorter = omega (arith, c.in-Some.ensures.shorter, c.in_ok-statement.ensures.shorter, c.statements.invariant.shorter);
-      proper = c.in_ok-statement.ensures.proper;
-      reads = (then c.args.text.now c.args.depth (StatementPart ∷ TailPart StatementsTail ∷ []) (StatementPart ∷ TailPart StatementsTail ∷ []) (TailPart StatementsTail ∷ []) c.args.input.now c.in-Some.after.now c.in_ok-statement.left.now (then c.args.text.now c.args.depth (StatementPart ∷ TailPart StatementsTail ∷ []) (TailPart StatementsTail ∷ []) (StatementPart ∷ TailPart StatementsTail ∷ []) c.args.input.now c.statements.rest.now c.in-Some.after.now (c.statements.invariant.reads) (goes c.args.text.now c.args.depth StatementsTail ([]) (class.Sign mark.Semicolon) c.statements.rest.now c.in-Some.after.now (λ s l. omega (arith, l, c.requires.1.1.0)) refl c.in-Some.ensures.first)) (call c.args.text.now c.args.depth c.args.depth (StatementPart) (TailPart StatementsTail ∷ []) c.in-Some.after.now c.in_ok-statement.left.now (λ s l. omega (arith, l, c.requires.1.1.0)) c.in_ok-statement.ensures.reads));
-    }
 
 pub read_statement-read_if-requires : goal.read_statement-read_if-requires
 read_statement-read_if-requires t c = (omega (arith, c.requires.1.0, c.in-Some-Word-If-default.ensures.first.1), ((first_of _ (class.Word keyword.If) c.args.input.now c.in-Some-Word-If-default.rest.now (c.in-Some-Word-If-default.field-0-0-is ∙ ap class.Word c.in-Some-Word-If-default.field-0-0-0-is) c.in-Some-Word-If-default.ensures.first.0), (c.in-Some-Word-If-default.ensures.first.1, (c.requires.1.1.0, (c.in-Some-Word-If-default.ensures.proper c.args.text.now c.requires.1.1.1, c.in-Some-Word-If-default.ensures.passed)))))
@@ -117,8 +83,7 @@ read_statement-read_inner-requires t c =
 pub read_statement-returns-in_err-test-in-Some-Word-While-default : goal.read_statement-returns-in_err-test-in-Some-Word-While-default
 read_statement-returns-in_err-test-in-Some-Word-While-default t c =
     let p = err_from_is_err_and c.from_residual-in_err-test-in-Some-Word-While-default.result c.from_residual-in_err-test-in-Some-Word-While-default.ensures.1 in
-    let T = c.args.text.now in
-    let i = c.args.input.now in
+    let T = c.args.text.now in let i = c.args.input.now in
     let e = c.in_ok-inner-in-Some-Word-While-default.inner in
     let n = c.in_ok-inner-in-Some-Word-While-default.ensures.deeper.0 in
     let m = K.while_moves T c.args.depth e i c.in-Some-Word-While-default.rest.now n c.in_ok-inner-in-Some-Word-While-default.ensures.deeper.1 ((first_of _ (class.Word keyword.While) c.args.input.now c.in-Some-Word-While-default.rest.now (c.in-Some-Word-While-default.field-0-0-is ∙ ap class.Word c.in-Some-Word-While-default.field-0-0-0-is) c.in-Some-Word-While-default.ensures.first.0).1 T) in
@@ -128,8 +93,7 @@ read_statement-returns-in_err-test-in-Some-Word-While-default t c =
 pub read_statement-returns-in_err-turn-in-Some-Word-While-default : goal.read_statement-returns-in_err-turn-in-Some-Word-While-default
 read_statement-returns-in_err-turn-in-Some-Word-While-default t c =
     let p = err_from_is_err_and c.from_residual-in_err-turn-in-Some-Word-While-default.result c.from_residual-in_err-turn-in-Some-Word-While-default.ensures.1 in
-    let T = c.args.text.now in
-    let i = c.args.input.now in
+    let T = c.args.text.now in let i = c.args.input.now in
     let e = c.in_ok-inner-in-Some-Word-While-default.inner in
     let n = c.in_ok-inner-in-Some-Word-While-default.ensures.deeper.0 in
     let m2 = K.do_moves T c.args.depth e i c.in-Some-Word-While-default.rest.now c.in_ok-test-in-Some-Word-While-default.rest.now n c.in_ok-inner-in-Some-Word-While-default.ensures.deeper.1 ((first_of _ (class.Word keyword.While) c.args.input.now c.in-Some-Word-While-default.rest.now (c.in-Some-Word-While-default.field-0-0-is ∙ ap class.Word c.in-Some-Word-While-default.field-0-0-0-is) c.in-Some-Word-While-default.ensures.first.0).1 T) c.in_ok-test-in-Some-Word-While-default.ensures.reads in
@@ -151,8 +115,7 @@ read_if-read_inner-requires t c =
 pub read_if-returns-in_err-test : goal.read_if-returns-in_err-test
 read_if-returns-in_err-test t c =
     let p = err_from_is_err_and c.from_residual-in_err-test.result c.from_residual-in_err-test.ensures.1 in
-    let T = c.args.text.now in
-    let i = c.args.input.now in
+    let T = c.args.text.now in let i = c.args.input.now in
     let e = c.in_ok-inner.inner in
     let n = c.in_ok-inner.ensures.deeper.0 in
     let m = K.conditional_moves T c.args.depth e i c.args.rest.now n c.in_ok-inner.ensures.deeper.1 (c.requires.1.1.0.1 T) in
@@ -162,8 +125,7 @@ read_if-returns-in_err-test t c =
 pub read_if-returns-in_err-yes : goal.read_if-returns-in_err-yes
 read_if-returns-in_err-yes t c =
     let p = err_from_is_err_and c.from_residual-in_err-yes.result c.from_residual-in_err-yes.ensures.1 in
-    let T = c.args.text.now in
-    let i = c.args.input.now in
+    let T = c.args.text.now in let i = c.args.input.now in
     let e = c.in_ok-inner.inner in
     let n = c.in_ok-inner.ensures.deeper.0 in
     let m2 = K.test_moves T c.args.depth e i c.args.rest.now c.in_ok-test.rest.now n c.in_ok-inner.ensures.deeper.1 (c.requires.1.1.0.1 T) c.in_ok-test.ensures.reads in
@@ -173,27 +135,12 @@ read_if-returns-in_err-yes t c =
 pub read_if-returns-in_err-no : goal.read_if-returns-in_err-no
 read_if-returns-in_err-no t c =
     let p = err_from_is_err_and c.from_residual-in_err-no.result c.from_residual-in_err-no.ensures.1 in
-    let T = c.args.text.now in
-    let i = c.args.input.now in
+    let T = c.args.text.now in let i = c.args.input.now in
     let e = c.in_ok-inner.inner in
     let n = c.in_ok-inner.ensures.deeper.0 in
     let m4 = K.other_moves T c.args.depth e i c.args.rest.now c.in_ok-test.rest.now c.in_ok-yes.rest.now c.in-Some.after.now n c.in_ok-inner.ensures.deeper.1 (c.requires.1.1.0.1 T) c.in_ok-test.ensures.reads c.in_ok-yes.ensures.reads c.in-Some.ensures.first in
     rw (p.1, p.2) (then_stops T c.args.depth K.some_statement K.after_other i c.in-Some.after.now _ m4
     (call_stops T c.args.depth e StatementPart (LevelPart ∷ []) c.in-Some.after.now _ (λ s l. omega (arith, l, n)) c.in_err-no.ensures))
-
-pub read_statements-returns : goal.read_statements-returns
-read_statements-returns t c =
-    record {
-      words = statements_spelled c.args.text.now _ c.args.input.now c.statements.rest.now
-          (S.some_are_statements c.args.text.now _ c.args.input.now c.statements.rest.now c.statements.invariant.spans);
-      spans = S.some_are_statements c.args.text.now _ c.args.input.now c.statements.rest.now c.statements.invariant.spans;
-      formed = c.statements.invariant.formed;
-      some = c.statements.invariant.some;
-      nesting = c.statements.invariant.nesting;
-      shorter = c.statements.invariant.shorter;
-      proper = c.statements.invariant.proper;
-      reads = (then c.args.text.now c.args.depth (StatementPart ∷ TailPart StatementsTail ∷ []) (TailPart StatementsTail ∷ []) ([]) c.args.input.now c.statements.rest.now c.statements.rest.now (c.statements.invariant.reads) (ends c.args.text.now c.args.depth StatementsTail ([]) (class.Sign mark.Semicolon) c.statements.rest.now refl c.in_default.ensures.absent));
-    }
 
 pub read_statement-returns-in_ok-turn-in-Some-Word-While-default : goal.read_statement-returns-in_ok-turn-in-Some-Word-While-default
 read_statement-returns-in_ok-turn-in-Some-Word-While-default t c =
@@ -207,8 +154,7 @@ read_statement-returns-in_ok-turn-in-Some-Word-While-default t c =
       nesting = omega (arith, ap statement_nesting c.while_do.ensures.built, c.in_ok-inner-in-Some-Word-While-default.ensures.deeper.0, c.in_ok-test-in-Some-Word-While-default.ensures.nesting, c.in_ok-turn-in-Some-Word-While-default.ensures.nesting);
       shorter = omega (arith, c.in-Some-Word-While-default.ensures.first.1, c.in_ok-test-in-Some-Word-While-default.ensures.shorter, c.in_ok-turn-in-Some-Word-While-default.ensures.shorter);
       proper = c.in_ok-turn-in-Some-Word-While-default.ensures.proper;
-      reads = let T = c.args.text.now in
-          let i = c.args.input.now in
+      reads = let T = c.args.text.now in let i = c.args.input.now in
           let e = c.in_ok-inner-in-Some-Word-While-default.inner in
           let n = c.in_ok-inner-in-Some-Word-While-default.ensures.deeper.0 in
           let m2 = K.do_moves T c.args.depth e i c.in-Some-Word-While-default.rest.now c.in_ok-test-in-Some-Word-While-default.rest.now n c.in_ok-inner-in-Some-Word-While-default.ensures.deeper.1 ((first_of _ (class.Word keyword.While) c.args.input.now c.in-Some-Word-While-default.rest.now (c.in-Some-Word-While-default.field-0-0-is ∙ ap class.Word c.in-Some-Word-While-default.field-0-0-0-is) c.in-Some-Word-While-default.ensures.first.0).1 T) c.in_ok-test-in-Some-Word-While-default.ensures.reads in
@@ -250,8 +196,7 @@ read_if-returns-in_default t c =
       nesting = omega (arith, ap statement_nesting c.if_then.ensures.built, ap (λ y. statement_nesting (statement_of y)) c.in_ok-branch.ensures.ok, c.in_ok-inner.ensures.deeper.0, c.in_ok-test.ensures.nesting, c.in_ok-yes.ensures.nesting);
       shorter = omega (arith, c.requires.1.1.1.0, c.in_ok-test.ensures.shorter, c.in_ok-yes.ensures.shorter);
       proper = c.in_ok-yes.ensures.proper;
-      reads = let T = c.args.text.now in
-          let i = c.args.input.now in
+      reads = let T = c.args.text.now in let i = c.args.input.now in
           let e = c.in_ok-inner.inner in
           let n = c.in_ok-inner.ensures.deeper.0 in
           let m3 = K.branch_moves T c.args.depth e i c.args.rest.now c.in_ok-test.rest.now c.in_ok-yes.rest.now n c.in_ok-inner.ensures.deeper.1 (c.requires.1.1.0.1 T) c.in_ok-test.ensures.reads c.in_ok-yes.ensures.reads in
@@ -275,8 +220,7 @@ read_if-returns t c =
       nesting = omega (arith, ap statement_nesting c.if_else.ensures.built, ap (λ y. statement_nesting (statement_of y)) c.in_ok-branch.ensures.ok, c.in_ok-inner.ensures.deeper.0, c.in_ok-test.ensures.nesting, c.in_ok-yes.ensures.nesting, c.in_ok-no.ensures.nesting);
       shorter = omega (arith, c.requires.1.1.1.0, c.in_ok-test.ensures.shorter, c.in_ok-yes.ensures.shorter, c.in-Some.ensures.shorter, c.in_ok-no.ensures.shorter);
       proper = c.in_ok-no.ensures.proper;
-      reads = let T = c.args.text.now in
-          let i = c.args.input.now in
+      reads = let T = c.args.text.now in let i = c.args.input.now in
           let e = c.in_ok-inner.inner in
           let n = c.in_ok-inner.ensures.deeper.0 in
           let m4 = K.other_moves T c.args.depth e i c.args.rest.now c.in_ok-test.rest.now c.in_ok-yes.rest.now c.in-Some.after.now n c.in_ok-inner.ensures.deeper.1 (c.requires.1.1.0.1 T) c.in_ok-test.ensures.reads c.in_ok-yes.ensures.reads c.in-Some.ensures.first in
@@ -300,15 +244,16 @@ read_inner-returns t c =
 
 pub read_simple-returns-in_ok-value-in-Some-Word-Print-default : goal.read_simple-returns-in_ok-value-in-Some-Word-Print-default
 read_simple-returns-in_ok-value-in-Some-Word-Print-default t c =
+    let v = subst (λ e. ExpressionRead c.args.text.now c.args.depth whole e c.in-Some-Word-Print-default.rest.now c.in_ok-value-in-Some-Word-Print-default.rest.now) (sym c.into_inner.ensures) c.in_ok-value-in-Some-Word-Print-default.ensures in
     record {
       spans = let T = c.args.text.now in
-          (c.reach.ensures, (c.in-Some-Word-Print-default.rest.now, (S.takes T (word keyword.Print) c.args.input.now c.in-Some-Word-Print-default.rest.now c.in-Some-Word-Print-default.ensures.passed ((first_of _ (class.Word keyword.Print) c.args.input.now c.in-Some-Word-Print-default.rest.now (c.in-Some-Word-Print-default.field-0-0-is ∙ ap class.Word c.in-Some-Word-Print-default.field-0-0-0-is) c.in-Some-Word-Print-default.ensures.first.0).1 T)), c.in_ok-value-in-Some-Word-Print-default.ensures.spans));
-      formed = c.in_ok-value-in-Some-Word-Print-default.ensures.fits.1;
+          (c.reach.ensures, (c.in-Some-Word-Print-default.rest.now, (S.takes T (word keyword.Print) c.args.input.now c.in-Some-Word-Print-default.rest.now c.in-Some-Word-Print-default.ensures.passed ((first_of _ (class.Word keyword.Print) c.args.input.now c.in-Some-Word-Print-default.rest.now (c.in-Some-Word-Print-default.field-0-0-is ∙ ap class.Word c.in-Some-Word-Print-default.field-0-0-0-is) c.in-Some-Word-Print-default.ensures.first.0).1 T)), v.spans));
+      formed = v.fits.1;
       simple = tt;
-      nesting = c.in_ok-value-in-Some-Word-Print-default.ensures.nesting;
-      shorter = omega (arith, c.in-Some-Word-Print-default.ensures.first.1, c.in_ok-value-in-Some-Word-Print-default.ensures.shorter);
-      proper = c.in_ok-value-in-Some-Word-Print-default.ensures.proper;
-      reads = (then c.args.text.now c.args.depth (SimplePart ∷ []) (ExpressionPart whole ∷ []) ([]) c.args.input.now c.in-Some-Word-Print-default.rest.now c.in_ok-value-in-Some-Word-Print-default.rest.now (one c.args.text.now c.args.depth (SimplePart) ([]) (ExpressionPart whole ∷ []) (word keyword.Print) c.args.input.now c.in-Some-Word-Print-default.rest.now (λ s l. omega (arith, l, c.requires.1.1.0)) (λ s. refl) ((first_of _ (class.Word keyword.Print) c.args.input.now c.in-Some-Word-Print-default.rest.now (c.in-Some-Word-Print-default.field-0-0-is ∙ ap class.Word c.in-Some-Word-Print-default.field-0-0-0-is) c.in-Some-Word-Print-default.ensures.first.0).1 c.args.text.now)) (call c.args.text.now c.args.depth c.args.depth (ExpressionPart whole) ([]) c.in-Some-Word-Print-default.rest.now c.in_ok-value-in-Some-Word-Print-default.rest.now (λ s l. omega (arith, l, c.requires.1.1.0)) c.in_ok-value-in-Some-Word-Print-default.ensures.reads));
+      nesting = v.nesting;
+      shorter = omega (arith, c.in-Some-Word-Print-default.ensures.first.1, v.shorter);
+      proper = v.proper;
+      reads = (then c.args.text.now c.args.depth (SimplePart ∷ []) (ExpressionPart whole ∷ []) ([]) c.args.input.now c.in-Some-Word-Print-default.rest.now c.in_ok-value-in-Some-Word-Print-default.rest.now (one c.args.text.now c.args.depth (SimplePart) ([]) (ExpressionPart whole ∷ []) (word keyword.Print) c.args.input.now c.in-Some-Word-Print-default.rest.now (λ s l. omega (arith, l, c.requires.1.1.0)) (λ s. refl) ((first_of _ (class.Word keyword.Print) c.args.input.now c.in-Some-Word-Print-default.rest.now (c.in-Some-Word-Print-default.field-0-0-is ∙ ap class.Word c.in-Some-Word-Print-default.field-0-0-0-is) c.in-Some-Word-Print-default.ensures.first.0).1 c.args.text.now)) (call c.args.text.now c.args.depth c.args.depth (ExpressionPart whole) ([]) c.in-Some-Word-Print-default.rest.now c.in_ok-value-in-Some-Word-Print-default.rest.now (λ s l. omega (arith, l, c.requires.1.1.0)) v.reads));
     }
 
 pub read_simple-returns-in_ok-rest-in-Some-Word-Begin-default : goal.read_simple-returns-in_ok-rest-in-Some-Word-Begin-default
@@ -336,4 +281,62 @@ read_simple-returns-in_default t c =
       shorter = omega arith;
       proper = c.requires.1.1.1;
       reads = let a : leads_simple (terminals c.args.text.now c.args.input.now) ≡ false = search rules in simple_ends c.args.text.now c.args.depth [] c.args.input.now a;
+    }
+
+pub read_statements-read_statement-requires : goal.read_statements-read_statement-requires
+read_statements-read_statement-requires t c = (omega (arith, c.requires.1.0, c.statements.invariant.shorter), (c.requires.1.1.0, c.statements.invariant.proper))
+
+pub read_statements-returns-in_err-statement : goal.read_statements-returns-in_err-statement
+read_statements-returns-in_err-statement t c =
+    let p = err_from_is_err_and c.from_residual.result c.from_residual.ensures.1 in
+    rw (p.1, p.2) (then_stops c.args.text.now c.args.depth (StatementPart ∷ TailPart StatementsTail ∷ []) (StatementPart ∷ TailPart StatementsTail ∷ []) c.args.input.now c.statements.rest.now _ c.statements.invariant.reads
+    (call_stops c.args.text.now c.args.depth c.args.depth StatementPart (TailPart StatementsTail ∷ []) c.statements.rest.now _ (λ s l. omega (arith, l, c.requires.1.1.0)) c.in_err-statement.ensures))
+
+pub read_statements-statements-init : goal.read_statements-statements-init
+read_statements-statements-init t c =
+    let e = c.new-statements.ensures.items in
+    record {
+      spans = λ s r p. subst (λ ss. SomeStatements c.args.text.now (ss ++ s ∷ []) c.args.input.now r) (sym e) (r, p, refl);
+      formed = subst (λ ss. FormedStatements (statements_of ss)) (sym e) tt;
+      nesting = omega (arith, ap (λ ss. statements_nesting (statements_of ss)) e, c.requires.1.1.0);
+      shorter = omega arith;
+      proper = c.requires.1.1.1;
+      reads = λ s l. refl;
+    }
+
+pub read_statements-statements-preserved : goal.read_statements-statements-preserved
+read_statements-statements-preserved t c =
+    let T = c.args.text.now in let i = c.args.input.now in
+    let a = c.in_ok-statement.after.now in
+    let j = c.in-Some.further.now in
+    record {
+      spans = λ s r p. S.statements_more T _ s i a j r (subst (λ ss. SomeStatements T ss i a) (sym c.in_ok-push.ensures.items) (c.statements.invariant.spans c.in_ok-statement.statement a c.in_ok-statement.ensures.spans))
+          (S.takes T (sign mark.Semicolon) a j c.in-Some.ensures.passed (c.in-Some.ensures.first.1 T)) p;
+      formed = formed_next _ _ _ c.in_ok-push.ensures.items c.statements.invariant.formed c.in_ok-statement.ensures.formed;
+      nesting = nesting_next _ _ _ _ c.in_ok-push.ensures.items c.statements.invariant.nesting c.in_ok-statement.ensures.nesting;
+      shorter = omega (arith, c.in-Some.ensures.shorter, c.in_ok-statement.ensures.shorter, c.statements.invariant.shorter);
+      proper = c.in-Some.ensures.proper T c.in_ok-statement.ensures.proper;
+      reads = then T c.args.depth (StatementPart ∷ TailPart StatementsTail ∷ []) (StatementPart ∷ TailPart StatementsTail ∷ []) (StatementPart ∷ TailPart StatementsTail ∷ []) i c.statements.rest.now j c.statements.invariant.reads
+          (then T c.args.depth (StatementPart ∷ TailPart StatementsTail ∷ []) (TailPart StatementsTail ∷ []) (StatementPart ∷ TailPart StatementsTail ∷ []) c.statements.rest.now a j
+          (call T c.args.depth c.args.depth StatementPart (TailPart StatementsTail ∷ []) c.statements.rest.now a (λ s l. omega (arith, l, c.requires.1.1.0)) c.in_ok-statement.ensures.reads)
+          (goes T c.args.depth StatementsTail [] (class.Sign mark.Semicolon) a j (λ s l. omega (arith, l, c.requires.1.1.0)) refl c.in-Some.ensures.first));
+    }
+
+pub read_statements-returns-in_default : goal.read_statements-returns-in_default
+read_statements-returns-in_default t c =
+    let T = c.args.text.now in let i = c.args.input.now in
+    let a = c.in_ok-statement.after.now in
+    let s = S.some_are_statements T _ i a (subst (λ ss. SomeStatements T ss i a) (sym c.in_ok-push.ensures.items) (c.statements.invariant.spans c.in_ok-statement.statement a c.in_ok-statement.ensures.spans)) in
+    record {
+      words = statements_spelled T _ i a s;
+      spans = s;
+      formed = formed_next _ _ _ c.in_ok-push.ensures.items c.statements.invariant.formed c.in_ok-statement.ensures.formed;
+      some = some_next _ _ _ c.in_ok-push.ensures.items;
+      nesting = nesting_next _ _ _ _ c.in_ok-push.ensures.items c.statements.invariant.nesting c.in_ok-statement.ensures.nesting;
+      shorter = omega (arith, c.in_ok-statement.ensures.shorter, c.statements.invariant.shorter);
+      proper = c.in_ok-statement.ensures.proper;
+      reads = then T c.args.depth (StatementPart ∷ TailPart StatementsTail ∷ []) (StatementPart ∷ TailPart StatementsTail ∷ []) [] i c.statements.rest.now a c.statements.invariant.reads
+          (then T c.args.depth (StatementPart ∷ TailPart StatementsTail ∷ []) (TailPart StatementsTail ∷ []) [] c.statements.rest.now a a
+          (call T c.args.depth c.args.depth StatementPart (TailPart StatementsTail ∷ []) c.statements.rest.now a (λ s l. omega (arith, l, c.requires.1.1.0)) c.in_ok-statement.ensures.reads)
+          (ends T c.args.depth StatementsTail [] (class.Sign mark.Semicolon) a refl c.in_default.ensures.absent));
     }

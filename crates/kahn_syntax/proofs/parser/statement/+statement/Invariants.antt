@@ -1,8 +1,11 @@
-use Rattle.std.proofs.Common.{◌≤◌, ◌+◌, ◌*◌, [], ◌∷◌, length}
+use Rattle.std.proofs.Common.{◌≤◌, ◌+◌, ◌*◌, List, [], ◌∷◌, ◌++◌, length}
+use Rattle.kahn_tree.specs.declared.tree.Statement.{Statement}
+use Rattle.kahn_syntax.specs.declared.lexeme.Lexeme.{Lexeme}
+use Rattle.kahn_syntax.specs.Spans.{StatementSpans}
 use Rattle.kahn_syntax.specs.Terminals.{AreProper}
 use Rattle.kahn_syntax.specs.Machine.{StatementsTail, StatementPart, TailPart}
 use Rattle.kahn_syntax.specs.Reads.{Moves}
-use Rattle.kahn_syntax.specs.Trees.{statements_nesting, FormedStatements, AreSome}
+use Rattle.kahn_syntax.specs.Trees.{statements_nesting, FormedStatements}
 use Rattle.kahn_syntax.specs.Drawn.{statements_of}
 use Rattle.kahn_syntax.proofs.Spanning.{SomeStatements}
 use Rattle.kahn_syntax.proofs.parser.statement.+statement.Given as goal
@@ -24,13 +27,12 @@ decreases-read_statements l = 4 * length l.input.now + 3
 
 abbrev pub invariant-read_statements-statements : goal.invariant-read_statements-statements
 invariant-read_statements-statements l = record {
-  spans : SomeStatements l.text l.statements.items l.input l.rest;
+  spans : (s : Statement) (r : List Lexeme) → StatementSpans l.text s l.rest r → SomeStatements l.text (l.statements.items ++ s ∷ []) l.input r;
   formed : FormedStatements (statements_of l.statements.items);
-  some : AreSome (statements_of l.statements.items);
   nesting : l.depth + statements_nesting (statements_of l.statements.items) ≤ 64;
   shorter : length l.rest ≤ length l.input;
   proper : AreProper l.text l.rest;
-  reads : Moves l.text l.depth (StatementPart ∷ TailPart StatementsTail ∷ []) (TailPart StatementsTail ∷ []) l.input l.rest;
+  reads : Moves l.text l.depth (StatementPart ∷ TailPart StatementsTail ∷ []) (StatementPart ∷ TailPart StatementsTail ∷ []) l.input l.rest;
 }
 
 abbrev pub decreases-read_statements-statements : goal.decreases-read_statements-statements

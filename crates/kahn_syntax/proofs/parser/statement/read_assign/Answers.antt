@@ -1,4 +1,4 @@
-use Rattle.std.proofs.Common.{refl, [], ◌∷◌, arith}
+use Rattle.std.proofs.Common.{refl, sym, subst, [], ◌∷◌, arith}
 use Rattle.std.proofs.lemmas.Result.{err_from_is_err_and}
 use Rattle.kahn_syntax.specs.declared.lexeme.Sign.TheVariants as mark
 use Rattle.kahn_syntax.specs.declared.lexeme.Class.TheVariants as class
@@ -6,6 +6,7 @@ use Rattle.kahn_syntax.specs.Terminals.{sign, name}
 use Rattle.kahn_syntax.specs.Rungs.{whole}
 use Rattle.kahn_syntax.specs.Machine.{BecomesToken, SimplePart, ExpressionPart, TokenPart}
 use Rattle.kahn_syntax.specs.Drawn.{name_of}
+use Rattle.kahn_syntax.specs.Reads.{ExpressionRead}
 use Rattle.kahn_syntax.proofs.Spanning as S
 use Rattle.kahn_syntax.proofs.Moves.{memory_alone, then, then_stops, call, call_stops, one, expected, unexpected}
 use Rattle.kahn_syntax.proofs.parser.statement.read_assign.Goals as goal
@@ -27,13 +28,14 @@ returns-in_err-value c =
 
 pub returns : goal.returns
 returns c =
+    let v = subst (λ e. ExpressionRead c.args.text.now c.args.depth whole e c.in_ok-rest.rest.now c.in_ok-value.rest.now) (sym c.into_inner.ensures) c.in_ok-value.ensures in
     record {
       spans = let T = c.args.text.now in
-          (c.reach.ensures, (c.in_ok-name.rest.now, c.in_ok-rest.rest.now, c.in_ok-name.ensures.spans, (S.takes T (sign mark.Becomes) c.in_ok-name.rest.now c.in_ok-rest.rest.now c.in_ok-rest.ensures.passed (c.in_ok-rest.ensures.first.1 T)), c.in_ok-value.ensures.spans));
-      formed = c.in_ok-value.ensures.fits.1;
+          (c.reach.ensures, (c.in_ok-name.rest.now, c.in_ok-rest.rest.now, c.in_ok-name.ensures.spans, (S.takes T (sign mark.Becomes) c.in_ok-name.rest.now c.in_ok-rest.rest.now c.in_ok-rest.ensures.passed (c.in_ok-rest.ensures.first.1 T)), v.spans));
+      formed = v.fits.1;
       simple = tt;
-      nesting = c.in_ok-value.ensures.nesting;
-      shorter = omega (arith, c.in_ok-name.ensures.shorter, c.in_ok-rest.ensures.shorter, c.in_ok-value.ensures.shorter);
-      proper = c.in_ok-value.ensures.proper;
-      reads = (then c.args.text.now c.args.depth (SimplePart ∷ []) (ExpressionPart whole ∷ []) ([]) c.args.input.now c.in_ok-rest.rest.now c.in_ok-value.rest.now (then c.args.text.now c.args.depth (SimplePart ∷ []) (TokenPart BecomesToken ∷ ExpressionPart whole ∷ []) (ExpressionPart whole ∷ []) c.args.input.now c.in_ok-name.rest.now c.in_ok-rest.rest.now (one c.args.text.now c.args.depth (SimplePart) ([]) (TokenPart BecomesToken ∷ ExpressionPart whole ∷ []) (name (name_of c.in_ok-name.name)) c.args.input.now c.in_ok-name.rest.now (λ s l. omega (arith, l, c.requires.depth)) (λ s. refl) c.in_ok-name.ensures.words) (expected c.args.text.now c.args.depth BecomesToken (ExpressionPart whole ∷ []) (class.Sign mark.Becomes) c.in_ok-name.rest.now c.in_ok-rest.rest.now (λ s l. omega (arith, l, c.requires.depth)) refl c.in_ok-rest.ensures.first)) (call c.args.text.now c.args.depth c.args.depth (ExpressionPart whole) ([]) c.in_ok-rest.rest.now c.in_ok-value.rest.now (λ s l. omega (arith, l, c.requires.depth)) c.in_ok-value.ensures.reads));
+      nesting = v.nesting;
+      shorter = omega (arith, c.in_ok-name.ensures.shorter, c.in_ok-rest.ensures.shorter, v.shorter);
+      proper = v.proper;
+      reads = (then c.args.text.now c.args.depth (SimplePart ∷ []) (ExpressionPart whole ∷ []) ([]) c.args.input.now c.in_ok-rest.rest.now c.in_ok-value.rest.now (then c.args.text.now c.args.depth (SimplePart ∷ []) (TokenPart BecomesToken ∷ ExpressionPart whole ∷ []) (ExpressionPart whole ∷ []) c.args.input.now c.in_ok-name.rest.now c.in_ok-rest.rest.now (one c.args.text.now c.args.depth (SimplePart) ([]) (TokenPart BecomesToken ∷ ExpressionPart whole ∷ []) (name (name_of c.in_ok-name.name)) c.args.input.now c.in_ok-name.rest.now (λ s l. omega (arith, l, c.requires.depth)) (λ s. refl) c.in_ok-name.ensures.words) (expected c.args.text.now c.args.depth BecomesToken (ExpressionPart whole ∷ []) (class.Sign mark.Becomes) c.in_ok-name.rest.now c.in_ok-rest.rest.now (λ s l. omega (arith, l, c.requires.depth)) refl c.in_ok-rest.ensures.first)) (call c.args.text.now c.args.depth c.args.depth (ExpressionPart whole) ([]) c.in_ok-rest.rest.now c.in_ok-value.rest.now (λ s l. omega (arith, l, c.requires.depth)) v.reads));
     }

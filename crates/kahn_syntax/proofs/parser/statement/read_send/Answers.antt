@@ -1,10 +1,11 @@
-use Rattle.std.proofs.Common.{refl, [], ◌∷◌, arith}
+use Rattle.std.proofs.Common.{refl, sym, subst, [], ◌∷◌, arith}
 use Rattle.std.proofs.lemmas.Result.{err_from_is_err_and}
 use Rattle.kahn_syntax.specs.declared.lexeme.Keyword.TheVariants as keyword
 use Rattle.kahn_syntax.specs.Terminals.{word, name}
 use Rattle.kahn_syntax.specs.Rungs.{whole}
 use Rattle.kahn_syntax.specs.Machine.{NameToken, OnToken, SimplePart, ExpressionPart, TokenPart}
 use Rattle.kahn_syntax.specs.Drawn.{name_of}
+use Rattle.kahn_syntax.specs.Reads.{ExpressionBefore}
 use Rattle.kahn_syntax.proofs.Spanning as S
 use Rattle.kahn_syntax.proofs.Stacks as K
 use Rattle.kahn_syntax.proofs.Moves.{then, then_stops, call_two_stops, token, no_name}
@@ -13,8 +14,7 @@ use Rattle.kahn_syntax.proofs.parser.statement.read_send.Goals as goal
 pub returns-in_err-value : goal.returns-in_err-value
 returns-in_err-value c =
     let p = err_from_is_err_and c.from_residual.result c.from_residual.ensures.1 in
-    let T = c.args.text.now in
-    let i = c.args.input.now in
+    let T = c.args.text.now in let i = c.args.input.now in
     let m = K.send_moves T c.args.depth i c.args.rest.now c.requires.depth (c.requires.first.1 T) in
     rw (p.1, p.2) (then_stops T c.args.depth (SimplePart ∷ []) K.after_send i c.args.rest.now _ m
     (call_two_stops T c.args.depth c.args.depth (ExpressionPart whole) (TokenPart OnToken) K.after_on c.args.rest.now _ (λ s l. l) c.in_err-value.ensures))
@@ -22,36 +22,35 @@ returns-in_err-value c =
 pub returns-in_err-name : goal.returns-in_err-name
 returns-in_err-name c =
     let p = err_from_is_err_and c.from_residual-in_err-name.result c.from_residual-in_err-name.ensures.1 in
-    let T = c.args.text.now in
-    let i = c.args.input.now in
+    let T = c.args.text.now in let i = c.args.input.now in
     let m = K.send_moves T c.args.depth i c.args.rest.now c.requires.depth (c.requires.first.1 T) in
     let m2 = K.on_moves T c.args.depth i c.args.rest.now c.in_ok-value.rest.now m c.in_ok-value.ensures.reads in
     rw (p.1, p.2) (then_stops T c.args.depth (SimplePart ∷ []) K.after_on i c.in_ok-value.rest.now _ m2 (no_name T c.args.depth [] c.in_ok-value.rest.now _ c.in_err-name.ensures.stop))
 
 pub returns : goal.returns
 returns c =
+    let v = subst (λ e. ExpressionBefore c.args.text.now c.args.depth keyword.On e c.args.rest.now c.in_ok-value.rest.now) (sym c.into_inner.ensures) c.in_ok-value.ensures in
     record {
       spans = let T = c.args.text.now in (
         c.reach.ensures,
         (
           c.args.rest.now,
-          c.in_ok-value.ensures.between,
+          v.between,
           c.in_ok-value.rest.now,
           S.takes T (word keyword.Send) c.args.input.now c.args.rest.now c.requires.passed (c.requires.first.1 T),
-          c.in_ok-value.ensures.spans,
-          c.in_ok-value.ensures.takes,
+          v.spans,
+          v.takes,
           c.in_ok-name.ensures.spans,
         ),
       );
-      formed = c.in_ok-value.ensures.fits.1;
+      formed = v.fits.1;
       simple = tt;
-      nesting = c.in_ok-value.ensures.nesting;
-      shorter = omega (arith, c.requires.follows, c.in_ok-value.ensures.shorter, c.in_ok-name.ensures.shorter);
+      nesting = v.nesting;
+      shorter = omega (arith, c.requires.follows, v.shorter, c.in_ok-name.ensures.shorter);
       proper = c.in_ok-name.ensures.proper;
-      reads = let T = c.args.text.now in
-          let i = c.args.input.now in
+      reads = let T = c.args.text.now in let i = c.args.input.now in
           let m = K.send_moves T c.args.depth i c.args.rest.now c.requires.depth (c.requires.first.1 T) in
-          let m2 = K.on_moves T c.args.depth i c.args.rest.now c.in_ok-value.rest.now m c.in_ok-value.ensures.reads in
+          let m2 = K.on_moves T c.args.depth i c.args.rest.now c.in_ok-value.rest.now m v.reads in
           then T c.args.depth (SimplePart ∷ []) K.after_on [] i c.in_ok-value.rest.now c.in_ok-name.rest.now m2
           (token T c.args.depth NameToken [] (name (name_of c.in_ok-name.name)) c.in_ok-value.rest.now c.in_ok-name.rest.now (λ s l. omega (arith, l, c.requires.depth)) refl c.in_ok-name.ensures.words);
     }
