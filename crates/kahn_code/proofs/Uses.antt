@@ -1,5 +1,5 @@
 -- What the parameters of an instance are for.
-use Rattle.std.proofs.Common.{◌≡◌, ℕ, zero, suc, List, [], ◌∷◌, map, refl, ap, ◌∙◌, slice_index_or, pos, Bool}
+use Rattle.std.proofs.Common.{◌≡◌, ℕ, zero, suc, List, [], ◌∷◌, map, refl, ap, ◌∙◌, slice_index_or, pos, Bool, true, false, sym, ◌||◌}
 use Rattle.kahn_tree.specs.Syntax.{Number}
 use Rattle.kahn_network.specs.Network.{Network, Actual, Reads, Writes, Hands, instance_at, actual_at, role_at}
 use Rattle.kahn_code.specs.declared.body.Body.{Body}
@@ -32,3 +32,7 @@ not_reads N a w e ne d f = ne (e ∙ ap (use_of N) f)
 
 pub not_writes : (N : Network) (a : Actual) (w : Use) → w ≡ use_of N a → ((c : ℕ) (b : Bool) → w ≡ u.Writes c b → ⊥) → (d : ℕ) → a ≡ Writes d → ⊥
 not_writes N a w e ne d f = ne d (is_output (role_at N d)) (e ∙ ap (use_of N) f)
+
+pub neither : (a b : Bool) → false ≡ (a || b) → (a ≡ false) × (b ≡ false)
+neither false b e = (refl, sym e)
+neither true b e = absurd cc

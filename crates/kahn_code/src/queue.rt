@@ -7,21 +7,23 @@ ghost use Rattle.kahn_streams.specs.Tokens.{Names};
 
 use kahn_network::network::Network;
 use kahn_streams::about::About;
+use kahn_streams::carried::Carried;
 use kahn_streams::input::Input;
 use kahn_streams::memory::NoMemory;
 use kahn_streams::token::Token;
+use kahn_streams::value::Line;
 use std::alloc::Allocator;
 use std::collections::VecDeque;
 use std::marker::Model;
 
-/// The tokens of a channel that were put and not taken, in place order.
+/// The tokens of a channel that were put and not taken, in place order. Each stands there as its value alone.
 #[derive(Drop)]
 pub struct Queue<A: Allocator> {
     network: About<Network>,
     input: About<Input>,
     channel: usize,
     taken: u64,
-    tokens: VecDeque<Token, A>,
+    tokens: VecDeque<Carried, A>,
 }
 
 impl<A: Allocator> Model for Queue<A> {
@@ -32,7 +34,7 @@ impl<A: Allocator> Model for Queue<A> {
     ghost use Rattle.std.specs.VecDeque.{deque_len, deque_capacity};
     ghost use Rattle.kahn_streams.specs.declared.value.Line.TheVariants.{Channel};
     ghost use Rattle.kahn_streams.specs.Streams.{Follow, AllOf};
-    ghost use Rattle.kahn_code.specs.Queues.{Waiting};
+    ghost use Rattle.kahn_code.specs.Queues.{Waiting, tokens_of};
 
     ghost Value = { Waiting };
 
@@ -40,7 +42,7 @@ impl<A: Allocator> Model for Queue<A> {
 
     ghost view = { λ q. record { network = q.network.value; input = q.input.value; channel = q.channel; taken = q.taken; waiting = length q.tokens.items; spare = deque_capacity q.tokens - deque_len q.tokens } };
 
-    ghost invariant = { λ q. Follow (Channel q.channel) q.taken q.tokens.items × AllOf q.network.value q.input.value q.tokens.items };
+    ghost invariant = { λ q. Follow (Channel q.channel) q.taken (tokens_of q.tokens.items) × AllOf q.network.value q.input.value (tokens_of q.tokens.items) };
 }
 
 impl<A: Allocator> Queue<A> {
@@ -75,7 +77,8 @@ impl<A: Allocator> Queue<A> {
         ensures moved { IfSome result (λ _. (self.new.taken ≡ self.old.taken + 1) × (self.new.waiting + 1 ≡ self.old.waiting)) }
         ensures none { IfNone result ((self.new ≡ self.old) × (self.old.waiting ≡ 0)) }
     {
-        let token = self.tokens.pop_front()?;
+        let carried = self.tokens.pop_front()?;
+        let token = carried.token(Line::Channel(self.channel), self.taken);
         self.taken += 1;
         Some(token)
     }
@@ -99,7 +102,7 @@ impl<A: Allocator> Queue<A> {
         ensures names { (self.new.network ≡ self.old.network) × (self.new.input ≡ self.old.input) × (self.new.channel ≡ self.old.channel) }
         ensures counts { (self.new.taken ≡ self.old.taken) × (self.new.waiting ≡ self.old.waiting + 1) }
     {
-        self.tokens.push_back_reserved(token);
+        self.tokens.push_back_reserved(Carried::of(token));
     }
 
     /// How many tokens wait.

@@ -5,7 +5,7 @@ use Rattle.kahn_streams.specs.Tokens.{Lists}
 use Rattle.kahn_streams.specs.Streams.{IsOf}
 use Rattle.kahn_streams.specs.declared.token.Token.{Token}
 use Rattle.kahn_streams.specs.declared.value.Line.TheVariants.{Channel}
-use Rattle.kahn_lane.specs.declared.carried.Carried.{Carried}
+use Rattle.kahn_streams.specs.declared.carried.Carried.{Carried}
 use Rattle.kahn_lane.specs.declared.name.LaneName.{LaneName}
 use Rattle.kahn_lane.specs.Places.{Named, Placed, token_name, lane_name, moved_to}
 

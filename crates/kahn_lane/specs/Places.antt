@@ -9,7 +9,7 @@ use Rattle.kahn_streams.specs.declared.value.Line.{Line}
 use Rattle.kahn_streams.specs.contracts.value.Line as line_type
 use Rattle.kahn_lane.specs.contracts.name.LaneName as lane_name_type
 use Rattle.kahn_lane.specs.contracts.segments.Stage as stage_type
-use Rattle.kahn_lane.specs.declared.carried.Carried.{Carried}
+use Rattle.kahn_streams.specs.declared.carried.Carried.{Carried}
 use Rattle.kahn_lane.specs.declared.name.LaneName.{LaneName}
 use Rattle.kahn_lane.specs.declared.name.Tag.{Tag}
 use Rattle.kahn_lane.specs.declared.segments.Mark.{Mark}

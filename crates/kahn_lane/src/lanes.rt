@@ -9,7 +9,6 @@ ghost use Rattle.crossbeam_deque.specs.Handles.{worker_view, worker_deque, worke
 ghost use Rattle.kahn_lane.specs.Places.{lane_name, token_name, tag_name, owner};
 ghost use Rattle.kahn_lane.specs.LaneEnds.{sender_lane, receiver_lane, sender_name, receiver_name, flushed, sent, HasRoom, taken, waiting, IsReady, known, left, SameSender, SameReceiver};
 
-use crate::carried::Carried;
 use crate::fault::LaneFault;
 use crate::name::{Tag, make_tag};
 use crate::segments::{
@@ -18,6 +17,7 @@ use crate::segments::{
 };
 use crossbeam_deque::Steal;
 use kahn_network::network::Network;
+use kahn_streams::carried::Carried;
 use kahn_streams::input::Input;
 use kahn_streams::memory::NoMemory;
 use kahn_streams::token::Token;

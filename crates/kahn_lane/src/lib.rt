@@ -6,7 +6,6 @@
 //! its maker was given.
 #![tactic(auto)]
 
-mod carried;
 pub mod ends;
 pub mod fault;
 pub mod handover;

@@ -15,10 +15,10 @@ ghost use Rattle.crossbeam_deque.specs.Handles.{view, worker_view, worker_flavor
 ghost use Rattle.kahn_lane.specs.Places.{IsOn, IsOn-prop, Placed, Placed-prop, tag_name, name-prop, stage-prop};
 ghost use Rattle.kahn_lane.specs.declared.segments.Stage.TheVariants.{Running};
 
-use crate::carried::Carried;
 use crate::name::{LaneName, Tag};
 use crossbeam_deque::protocol::{Join, Lesson, Outcome, Protocol, Split};
 use crossbeam_deque::{Pass, Stealer, Worker};
+use kahn_streams::carried::Carried;
 use kahn_streams::value::Line;
 use std::alloc::{Allocator, Global};
 

@@ -12,12 +12,12 @@ ghost use Rattle.kahn_lane.specs.Settles.{IsGrown, LiftsTo, SameLifted};
 ghost use Rattle.kahn_lane.specs.declared.name.LaneName.{LaneName};
 ghost use Rattle.kahn_lane.specs.declared.segments.Stage.TheVariants.{Running};
 
-use crate::carried::Carried;
 use crate::fault::LaneFault;
 use crate::lanes::lane_from;
 use crate::lifted::Lifted;
 use crate::name::move_tag;
 use crate::segments::{Behind, Emptied, LaneWorker, Receiver, Sender, Sides};
+use kahn_streams::carried::Carried;
 use kahn_streams::input::Input;
 use kahn_streams::memory::NoMemory;
 use std::alloc::{Allocator, Global};

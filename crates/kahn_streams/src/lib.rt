@@ -2,6 +2,7 @@
 #![tactic(auto)]
 
 pub mod about;
+pub mod carried;
 pub mod entries;
 pub mod feeds;
 pub mod input;

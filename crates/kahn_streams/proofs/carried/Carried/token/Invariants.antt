@@ -1,4 +1,4 @@
-use Rattle.kahn_lane.proofs.carried.Carried.token.Given as goal
+use Rattle.kahn_streams.proofs.carried.Carried.token.Given as goal
 
 abbrev pub ghost-token_of : goal.ghost-token_of
 ghost-token_of a =

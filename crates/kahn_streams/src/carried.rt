@@ -9,15 +9,15 @@ ghost use Rattle.kahn_streams.specs.Tokens.{Holds, Names};
 ghost use Rattle.kahn_streams.specs.contracts.value.Value.{the_row};
 ghost use Rattle.kahn_streams.specs.declared.token.Token.{Token};
 
-use kahn_streams::about::About;
-use kahn_streams::token::Token;
-use kahn_streams::value::{Line, Value};
+use crate::about::About;
+use crate::token::Token;
+use crate::value::{Line, Value};
 
 /// A token on its way: its value, and for contracts alone the token.
 #[derive(Drop)]
-pub(crate) struct Carried {
+pub struct Carried {
     value: Value,
-    pub(crate) token: About<Token>,
+    pub token: About<Token>,
     ghost same: { token.value.value ≡ value } by { Coded-set the_row.coded token.value.value value },
     ghost counted: { token.value.place < 2 ^ 64 },
 }
@@ -46,7 +46,7 @@ fn token_of(_carried: &Carried, line: Line, place: u64, value: Value) -> Token
 
 impl Carried {
     /// What goes on its way as this token.
-    pub(crate) fn of(token: Token) -> Carried
+    pub fn of(token: Token) -> Carried
         ensures { result.token.value ≡ token }
     {
         let value = token.value();
@@ -54,7 +54,7 @@ impl Carried {
     }
 
     /// The token, of which the lane tells the line and the place.
-    pub(crate) fn token(&self, line: Line, place: u64) -> Token
+    pub fn token(&self, line: Line, place: u64) -> Token
         requires { (self.now.token.value.line ≡ line) × (self.now.token.value.place ≡ place) }
         ensures { result ≡ self.now.token.value }
     {

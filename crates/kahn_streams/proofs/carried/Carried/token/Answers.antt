@@ -1,6 +1,6 @@
 use Rattle.std.proofs.Common.{sym, ◌∙◌}
 use Rattle.kahn_streams.proofs.Token_lists.{token_same}
-use Rattle.kahn_lane.proofs.carried.Carried.token.Goals as goal
+use Rattle.kahn_streams.proofs.carried.Carried.token.Goals as goal
 
 pub token_of-requires : goal.token_of-requires
 token_of-requires c = let x = c.args.self.now in rw (← c.requires.0, ← c.requires.1, ← x.same) x.token.value.stands

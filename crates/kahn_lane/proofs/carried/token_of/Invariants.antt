@@ -1,4 +1,0 @@
-use Rattle.kahn_lane.proofs.carried.token_of.Given as goal
-
-abbrev pub ghost-of : goal.ghost-of
-ghost-of g a = g.names
