@@ -4,7 +4,7 @@ use mathlib.Core.Logic.{dite}
 use native.Mathlib.Decide.{ℕ_discrete}
 use mathlib.Core.Option.{some, some-injective, some-ne-none}
 use lib.ListN.{get_elem?}
-use Rattle.kahn_board.specs.Tale.{Tale}
+use Rattle.kahn_board.specs.Tale.{Tale, second_of}
 use Rattle.kahn_board.specs.Wires.{Wires}
 use Rattle.kahn_board.specs.Counts.{is_up, below}
 use Rattle.kahn_board.specs.Place.{Place, ready, held, parked, over, total}
@@ -60,7 +60,9 @@ module _ {T : Type 0} (told : T → Option Tale) (belongs : ℕ → T → Type 0
           a.ruled.parking.waits p c y inside is home,
           (
             (λ none_writes. a.reckoned.lasting.fixed c t.0 none_writes),
-            (λ q l m u near writes there sends flushes. let at_home = back q u near there in a.reckoned.lasting.flushed_all q u near at_home not_halted c l m sends flushes ∙ (a.ruled.parking.flushes q c m u near at_home flushes).2),
+            (λ q l m u near writes there wrote.
+                let at_home = back q u near there in
+                a.reckoned.lasting.flushed_all q u near at_home not_halted c l m wrote ∙ (a.ruled.parking.flushes q c m u near at_home (ap second_of wrote)).2),
           ),
         )
     at_rest p y over cells back not_halted inside home is z = inl (a.ruled.parking.ends p y inside is home)

@@ -1,6 +1,9 @@
 -- What each step tells its seat: of the step, the seat before, the number found and the seat after.
 use Rattle.std.specs.Prelude.{◌≡◌, ◌≢◌, ◌⊎◌, ℕ, ◌+◌, ◌-◌, ◌/◌, ◌%◌, ◌^◌, ◌<◌, ◌==◌, cond, List, [], ◌∷◌, ◌++◌, drop, length, slice_index, slice_set, Option, Some}
-use Rattle.atomic_table.specs.Table.{Me, Step, rest}
+use mathlib.Core.Option.{none}
+use Rattle.atomic_table.specs.Seated.{TableId}
+use Rattle.atomic_table.specs.Table.{Allows, Me, Step, rest, step}
+use Rattle.atomic_table.specs.declared.shared.Seat as shared
 use Rattle.kahn_board.specs.Tale.{Tale, TellsWait, TellsEvents, FlushedAll, flushed_of, events_past}
 use Rattle.kahn_board.specs.Wires.{Wires}
 use Rattle.kahn_board.specs.Rule.{St, WordWas, view}
@@ -102,6 +105,15 @@ module _ {T : Type 0} where
   -- the word was as found when the view of the seat id was as before
   abbrev pub at_moment : (St T → Type 0) → ℕ → Play T → Play T
   at_moment holds id then st m r n = then st m r n × WordWas holds id m.0 st.word r
+
+  -- the seat may step on the word of a table, where it leaves f n if it finds n, and learns what the play tells
+  abbrev pub MayStep : (St T → Type 0) → TableId → shared.Seat (Option T) View → ℕ → ℕ → ℕ → (ℕ → ℕ) → Play T → Type 0
+  MayStep holds z s word old new f play = (s.table_id ≡ z) × (word < z.words) × Allows holds z.slots s.id s.me word f (play (step z.slots word old new none) s.me)
+
+  -- it stepped, and the word was r at a moment of the call
+  abbrev pub HasStepped : (St T → Type 0) → TableId → shared.Seat (Option T) View → shared.Seat (Option T) View → ℕ → ℕ → ℕ → Play T → ℕ → Type 0
+  HasStepped holds z s t word old new play r =
+      (t.table_id ≡ s.table_id) × (t.id ≡ s.id) × at_moment holds s.id play (step z.slots word old new none) s.me r t.me
 
   abbrev pub looked : Play T
   looked st m r n = n ≡ (noted m.0 r, m.1)

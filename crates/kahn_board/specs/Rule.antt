@@ -21,7 +21,21 @@ abbrev pub all_parts : ℕ
 all_parts = 65536
 
 abbrev pub view : ℕ → List ℕ → List ℕ → List ℕ → ℕ → ℕ → ℕ → Owed → ℕ → ℕ → ℕ → ℕ → ℕ → View
-view parts hands flushed got drawn done loose owed down seen stage steps found = record { parts = parts; hands = hands; flushed = flushed; got = got; drawn = drawn; done = done; loose = loose; owed = owed; down = down; seen = seen; stage = stage; steps = steps; found = found }
+view parts hands flushed got drawn done loose owed down seen stage steps found = record {
+  parts = parts;
+  hands = hands;
+  flushed = flushed;
+  got = got;
+  drawn = drawn;
+  done = done;
+  loose = loose;
+  owed = owed;
+  down = down;
+  seen = seen;
+  stage = stage;
+  steps = steps;
+  found = found;
+}
 
 -- the view of a seat that was joined to another
 abbrev pub spent : View

@@ -33,10 +33,8 @@ pub struct Board<T: Told> {
 }
 
 impl<T: Told> Board<T> {
-    ghost use mathlib.Core.Option.{none};
     ghost use prog.Atomic.{either};
-    ghost use Rattle.atomic_table.specs.Table.{step, Allows};
-    ghost use Rattle.kahn_board.specs.Plays.{at_moment};
+    ghost use Rattle.kahn_board.specs.Plays.{HasStepped, MayStep};
 
     // A load: the word was so at a moment of the call.
     fn load<P: Play<Option<T>, View>>(
@@ -44,8 +42,8 @@ impl<T: Told> Board<T> {
         seat: &mut atomic_table::Seat<Option<T>, View>,
         word: usize,
     ) -> u64
-        requires { (seat.old.table_id ≡ self.now.table.shared.table_id) × (word < self.now.table.shared.table_id.words) × Allows (holds T.told T.after self.now.table.shared.key) self.now.table.shared.table_id.slots seat.old.id seat.old.me word (λ n. n) (P.then (step self.now.table.shared.table_id.slots word 0 0 none) seat.old.me) }
-        ensures { (seat.new.table_id ≡ seat.old.table_id) × (seat.new.id ≡ seat.old.id) × at_moment (holds T.told T.after self.now.table.shared.key) seat.old.id P.then (step self.now.table.shared.table_id.slots word 0 0 none) seat.old.me result seat.new.me }
+        requires { MayStep (holds T.told T.after self.now.table.shared.key) self.now.table.shared.table_id seat.old word 0 0 (λ n. n) P.then }
+        ensures { HasStepped (holds T.told T.after self.now.table.shared.key) self.now.table.shared.table_id seat.old seat.new word 0 0 P.then result }
     {
         self.table.shared.load::<Brand>(seat, word)
     }
@@ -58,8 +56,8 @@ impl<T: Told> Board<T> {
         old: u64,
         new: u64,
     ) -> u64
-        requires { (seat.old.table_id ≡ self.now.table.shared.table_id) × (word < self.now.table.shared.table_id.words) × Allows (holds T.told T.after self.now.table.shared.key) self.now.table.shared.table_id.slots seat.old.id seat.old.me word (λ n. either (n == old) new n) (P.then (step self.now.table.shared.table_id.slots word old new none) seat.old.me) }
-        ensures { (seat.new.table_id ≡ seat.old.table_id) × (seat.new.id ≡ seat.old.id) × at_moment (holds T.told T.after self.now.table.shared.key) seat.old.id P.then (step self.now.table.shared.table_id.slots word old new none) seat.old.me result seat.new.me }
+        requires { MayStep (holds T.told T.after self.now.table.shared.key) self.now.table.shared.table_id seat.old word old new (λ n. either (n == old) new n) P.then }
+        ensures { HasStepped (holds T.told T.after self.now.table.shared.key) self.now.table.shared.table_id seat.old seat.new word old new P.then result }
     {
         self.table
             .shared
@@ -96,7 +94,7 @@ pub struct Seat<T> {
 }
 
 impl<T: Told> Seat<T> {
-    ghost use Rattle.kahn_board.specs.Calls.{Claims, IsSameSeat, IsFirst, KeepsAll, Swaps, Leaves, OwesFew, GivesUp, Parks, Publishes, Draws, GivesBack, CountsUp, CountsDown, Halts, Looks};
+    ghost use Rattle.kahn_board.specs.Calls.{Claims, IsSameSeat, IsFirst, KeepsAll, Swaps, MayLeave, OwesFew, GivesUp, Parks, Publishes, Draws, GivesBack, CountsUp, CountsDown, Halts, Looks};
     ghost use Rattle.kahn_board.specs.Tale.{TellsEnd, TellsWait};
     ghost use Rattle.kahn_board.specs.declared.board.Rest.TheVariants.{Over};
     ghost use Rattle.kahn_board.specs.Plays.{IsIn};
@@ -177,7 +175,7 @@ impl<T: Told> Seat<T> {
     /// The instance is ready again, or over.
     pub fn set_down(&mut self, board: &Board<T>, p: usize, rest: Rest)
         requires board { self.old.seat.table_id ≡ board.now.table.shared.table_id }
-        requires held { IsIn self.old.seat.me.0 p × ((y : T) × Carries self.old.seat.me.1 p (Some y) × Leaves T.told (belongs T.after board.now.table.shared.key) (wired board.now.table.shared.key) self.old.seat.me.0 p y × (rest ≡ Over → TellsEnd (T.told y))) }
+        requires held { MayLeave T.told T.after board.now.table.shared.key self.old p (λ y. rest ≡ Over → TellsEnd (T.told y)) }
         requires few { OwesFew self.old.seat.me.0 }
         ensures { GivesUp T.told self.old self.new p (downs_of rest) }
     {
@@ -197,7 +195,7 @@ impl<T: Told> Seat<T> {
     pub fn park(&mut self, board: &Board<T>, p: usize, channel: usize, taken: u64) -> bool
         requires board { self.old.seat.table_id ≡ board.now.table.shared.table_id }
         requires reads { (channel < board.now.channels) × ((wired board.now.table.shared.key).reader channel ≡ Some p) × (taken < 2 ^ 48) }
-        requires held { IsIn self.old.seat.me.0 p × ((y : T) × Carries self.old.seat.me.1 p (Some y) × Leaves T.told (belongs T.after board.now.table.shared.key) (wired board.now.table.shared.key) self.old.seat.me.0 p y × TellsWait (T.told y) channel taken) }
+        requires held { MayLeave T.told T.after board.now.table.shared.key self.old p (λ y. TellsWait (T.told y) channel taken) }
         requires few { OwesFew self.old.seat.me.0 }
         ensures { Parks T.told T.after board.now.table.shared.key self.old self.new p channel taken result }
     {

@@ -5,7 +5,7 @@ ghost use mathlib.Core.Option.{some};
 ghost use lib.ListN.{get_elem?};
 ghost use Rattle.kahn_board.specs.Dealt.{belongs, dealt, wired};
 ghost use Rattle.kahn_board.specs.Closing.{Closes};
-ghost use Rattle.kahn_board.specs.Cuts.{HoldsNothing, IsFree, kept_part, cut_part, joined};
+ghost use Rattle.kahn_board.specs.Cuts.{AreCut, IsFree, joined};
 ghost use Rattle.kahn_board.specs.Rule.{all_parts};
 
 use crate::board::{Board, Seat};
@@ -47,7 +47,7 @@ impl<T: Told> Board<T> {
         seat: Seat<T>,
     ) -> Result<(Seat<T>, Seat<T>), (NoMemory, Seat<T>)>
         requires { (seat.seat.table_id ≡ self.now.table.shared.table_id) × (1 < seat.seat.me.0.parts) × IsFree seat.seat.me.0 }
-        ensures made { IfOk result (λ t. (t.0.seat.table_id ≡ seat.seat.table_id) × (t.0.seat.id ≡ seat.seat.id) × (t.0.seat.me ≡ (kept_part seat.seat.me.0, seat.seat.me.1)) × (t.1.seat.table_id ≡ seat.seat.table_id) × (t.1.seat.me ≡ (cut_part seat.seat.me.0, []))) }
+        ensures made { IfOk result (λ t. AreCut seat t.0 t.1) }
         ensures refused { IfErr result (λ e. e.1 ≡ seat) }
     {
         let Ok(room) = VecDeque::with_capacity(alloc, self.instances) else {

@@ -15,6 +15,7 @@ use Rattle.kahn_network.proofs.Sourced
 use Rattle.kahn_streams.specs.Tokens.{Lists}
 use Rattle.kahn_code.specs.Cells.{is_output}
 use Rattle.kahn_code.specs.Standing.{count}
+use Rattle.kahn_job.specs.Berths.{end_at}
 use Rattle.kahn_job.specs.Works.{Work}
 use Rattle.kahn_board.specs.Closing as closed
 use Rattle.kahn_board.specs.Closing.{Closes}
@@ -26,12 +27,12 @@ use Rattle.kahn_board.specs.declared.view.View.{View}
 use Rattle.kahn_crew.specs.Begins.{AreReady, HasBegun, all_events}
 use Rattle.kahn_crew.specs.Floors.{IsTaskOf}
 use Rattle.kahn_crew.specs.Left.{AreAll, AreUntouched, HaveGone, IsAtRest, IsOver, task_events}
-use Rattle.kahn_crew.specs.Tasks.{Tasked, IsLater, count_on, handed, read_by, reads_at, told_of, told_on, waits_on, writes_at}
+use Rattle.kahn_crew.specs.Tasks.{Tasked, Continues, IsLater, count_on, handed, read_by, reads_at, told_of, waits_on, writes_at, wrote_by}
 use Rattle.kahn_crew.specs.declared.standing.Standing.{Standing}
 use Rattle.kahn_crew.specs.declared.standing.Standing.TheVariants as standing
 use Rattle.kahn_crew.proofs.Found
 use Rattle.kahn_crew.proofs.Publishing.{handed_is}
-use Rattle.kahn_crew.proofs.Resting.{later_here, task_of}
+use Rattle.kahn_crew.proofs.Resting.{continues_here, task_of}
 use Rattle.kahn_crew.proofs.Started.{at_both, both_at, mapped_at, at_mapped, some_same, floor_of}
 use Rattle.kahn_crew.proofs.Wirings.{instances_are, reads_first, writes_first, writer_is}
 
@@ -155,8 +156,8 @@ module _ (lists : Lists) (watch : Option ℕ) (key : Terms Tasked) (is_wired : I
       task_of key t t p x (floor_of t lists watch key begun t t refl refl)
       (let lt = within p x e in omega (arith, lt, instances_are t is_wired)) (belong p x e)
 
-  later : (p : ℕ) (y x : Tasked) → slice_get key.cells.value.items p ≡ Some y → slice_get tasks p ≡ Some x → IsLater y x
-  later p y x e f = belong p x f y (both_at key.cells.value.items p y e)
+  later : (p : ℕ) (y x : Tasked) → slice_get key.cells.value.items p ≡ Some y → slice_get tasks p ≡ Some x → Continues y x
+  later p y x e f = (belong p x f y (both_at key.cells.value.items p y e)).continues
 
   spent : v.loose ≡ 0 → budget + sum_by task_events tasks ≡ all_events key
   spent none =
@@ -181,7 +182,7 @@ module _ (lists : Lists) (watch : Option ℕ) (key : Terms Tasked) (is_wired : I
         let there : actual_at (instance_at (network_of t) r) o ≡ Writes c = sym (handed_is t is_wired w r o is.0 is.1) ∙ h in
         let inner : is_output (role_at (network_of w.cell.network) c) ≡ false = ap (λ m. is_output (role_at (network_of m) c)) is.0 ∙ read_inner t is_wired p q c at in
         let first : writes_at w c ≡ Some o = writes_first w.cell.network (subst IsWellWired (sym is.0) is_wired) w.cell.instance o c h inner in
-        all.1 r (count w.cell.sent o) (count z.published o) z (within r z e) (writer_is t is_wired r o c there) (cell_at r z e) (ap (told_on w.cell.sent) first) (ap (told_on z.published) first);
+        all.1 r (count w.cell.sent o) (end_at w.ends o).flushed z (within r z e) (writer_is t is_wired r o c there) (cell_at r z e) (ap (wrote_by w) first);
   }
 
   at_rest : (p : ℕ) (x : Tasked) → slice_get tasks p ≡ Some x → closed.IsAtRest told_of (belongs IsLater key) (wired key) (dealt told_of key) (map Some tasks) p x → IsAtRest t lists tasks x
@@ -306,7 +307,7 @@ untouched_gone t lists watch bound first tasks budget ready same left =
     subst (λ (l : List Tasked). HaveGone t lists watch (bound + events_of told_of first) first l budget) (sym same) (record {
       ready = ready;
       count = ready.count;
-      later = λ p x y e f. subst (IsLater x) (some_same x y (sym e ∙ f)) (later_here x);
+      later = λ p x y e f. subst (Continues x) (some_same x y (sym e ∙ f)) (continues_here x);
       events = let a : sum_by task_events first ≡ events_of told_of first = all_told first in omega (arith, a, left);
     })
 

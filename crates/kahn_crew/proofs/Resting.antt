@@ -13,24 +13,24 @@ use Rattle.kahn_streams.proofs.Dry.{dry_reads}
 use Rattle.kahn_board.specs.Dealt.{belongs}
 use Rattle.kahn_board.specs.Wires.{wires}
 use Rattle.kahn_board.specs.Plays.{SeesMore}
-use Rattle.kahn_board.specs.Tale.{FlushedAll, flushed_of}
+use Rattle.kahn_board.specs.Tale.{FlushedAll, flushed_of, second_of}
 use Rattle.kahn_board.specs.declared.rule.Terms.{Terms}
 use Rattle.kahn_board.specs.declared.view.View.{View}
 use Rattle.kahn_desk.specs.Turn.{Fits, Knows}
-use Rattle.kahn_job.specs.Berths.{HaveAdvanced}
+use Rattle.kahn_job.specs.Berths.{HaveAdvanced, end_at}
 use Rattle.kahn_job.specs.Works.{Work, IsDelivered}
 use Rattle.kahn_crew.specs.declared.standing.Standing.TheVariants as standing
 use Rattle.kahn_crew.specs.declared.turn.Due.TheVariants as due
 use Rattle.kahn_crew.specs.Floors.{IsFloor, IsTaskOf, HasKept}
 use Rattle.kahn_crew.specs.Rests.{IsDue}
-use Rattle.kahn_crew.specs.Tasks.{Tasked, AgreesWith, HasStanding, IsLater, IsPublished, count_on, handed, read_by, reads_at, told_of, told_on, waits_on, writes_at}
+use Rattle.kahn_crew.specs.Tasks.{Tasked, AgreesWith, Continues, HasStanding, IsLater, IsPublished, count_on, handed, read_by, reads_at, told_of, waits_on, writes_at, wrote_by}
 use Rattle.kahn_crew.proofs.Wirings.{reads_first, writes_first, first_writes, reader_is, writer_is, read_inside, written_inside}
 use Rattle.kahn_crew.proofs.Publishing.{handed_is}
 
 -- ---- later states
 
-pub later_here : (x : Tasked) → IsLater x x
-later_here x = record {
+pub continues_here : (x : Tasked) → Continues x x
+continues_here x = record {
   network = refl;
   input = refl;
   instance = refl;
@@ -44,8 +44,8 @@ later_here x = record {
   still = λ e. refl;
 }
 
-pub later_still : (x y z : Tasked) → IsLater x y → IsLater y z → IsLater x z
-later_still x y z a b = record {
+pub continues_still : (x y z : Tasked) → Continues x y → Continues y z → Continues x z
+continues_still x y z a b = record {
   network = b.network ∙ a.network;
   input = b.input ∙ a.input;
   instance = b.instance ∙ a.instance;
@@ -70,11 +70,11 @@ later_still x y z a b = record {
 }
 
 -- a task that was run
-pub ran_later : (x y : Tasked) →
+pub ran_on : (x y : Tasked) →
     (y.work.cell.network ≡ x.work.cell.network) × (y.work.cell.input ≡ x.work.cell.input) × (y.work.cell.instance ≡ x.work.cell.instance) × (y.work.cell.watch ≡ x.work.cell.watch) →
     HaveAdvanced x.work.ends y.work.ends → x.work.cell.events ≤ y.work.cell.events → (y.work.cell.events ≡ x.work.cell.events → IsStill x.work.cell y.work.cell) →
-    IsLater x y
-ran_later x y names ends events still = record {
+    Continues x y
+ran_on x y names ends events still = record {
   network = names.0;
   input = names.1;
   instance = names.2;
@@ -96,8 +96,8 @@ ran_later x y names ends events still = record {
       };
 }
 
-pub belongs_later : (key : Terms Tasked) (p : ℕ) (y x : Tasked) → belongs IsLater key p y → IsLater y x → belongs IsLater key p x
-belongs_later key p y x b l z e = later_still z y x (b z e) l
+pub belongs_later : (key : Terms Tasked) (p : ℕ) (y x : Tasked) → belongs IsLater key p y → Continues y x → ((o : ℕ) → IsPublished x o) → belongs IsLater key p x
+belongs_later key p y x b l published z e = record { continues = continues_still z y x (b z e).continues l; published = published }
 
 found_at : {A : Type 0} (xs : List A) (p : ℕ) → p < length xs → (x : A) × (get_elem? xs p ≡ some x)
 found_at [] p h = absurd (omega (arith, h))
@@ -109,9 +109,14 @@ pub task_of : (key : Terms Tasked) (t code : Program) (p : ℕ) (y : Tasked) →
     belongs IsLater key p y → IsTaskOf t p y
 task_of key t code p y floor lt b =
     let f = found_at key.cells.value.items p (omega (arith, floor.count, lt)) in
-    let l = b f.0 f.1 in
+    let l = (b f.0 f.1).continues in
     let is = floor.cells p f.0 f.1 in
     (l.network ∙ is.0, l.instance ∙ is.1)
+
+-- and what it flushed is published
+pub is_published : (key : Terms Tasked) (t code : Program) (p : ℕ) (y : Tasked) → IsFloor key t code → p < length (network_of t).instances →
+    belongs IsLater key p y → (o : ℕ) → IsPublished y o
+is_published key t code p y floor lt b = let f = found_at key.cells.value.items p (omega (arith, floor.count, lt)) in (b f.0 f.1).published
 
 -- ---- what is told
 
@@ -121,9 +126,20 @@ none_some e = cc
 some_same : {k l : ℕ} → Some k ≡ Some l → k ≡ l
 some_same e = cc
 
-told_some : (xs : List ℕ) (m : Option ℕ) (k : ℕ) → told_on xs m ≡ Some k → (o : ℕ) × (m ≡ Some o) × (count xs o ≡ k)
-told_some xs None k e = absurd (none_some e)
-told_some xs (Some o) k e = (o, refl, some_same e)
+none_wrote : {k : ℕ × ℕ} → None ≡ Some k → ⊥
+none_wrote e = cc
+
+same_wrote : {k l : ℕ × ℕ} → Some k ≡ Some l → k ≡ l
+same_wrote e = cc
+
+-- the parameter that wrote
+flushed_some : (w : Work) (m : Option ℕ) (l : ℕ) → second_of (wrote_by w m) ≡ Some l → (o : ℕ) × (m ≡ Some o) × ((end_at w.ends o).flushed ≡ l)
+flushed_some w None l e = absurd (none_some e)
+flushed_some w (Some o) l e = (o, refl, some_same e)
+
+wrote_some : (w : Work) (m : Option ℕ) (k l : ℕ) → wrote_by w m ≡ Some (k, l) → (o : ℕ) × (m ≡ Some o) × (count w.cell.sent o ≡ k) × ((end_at w.ends o).flushed ≡ l)
+wrote_some w None k l e = absurd (none_wrote e)
+wrote_some w (Some o) k l e = let same = same_wrote e in (o, refl, ap (λ x. x.0) same, ap (λ x. x.1) same)
 
 sees_two : (a b : ℕ) → SeesMore a b → a ≡ 2 → b ≡ 2
 sees_two a b (inl e) h = e ∙ h
@@ -133,41 +149,39 @@ module _ (t : Program) (wired : IsWellWired t) where
   own : (w : Work) → w.cell.network ≡ t → IsWellWired w.cell.network
   own w n = subst IsWellWired (sym n) wired
 
-  -- what a task tells as published is known
-  pub agrees_with : (key : Terms Tasked) (p : ℕ) (y : Tasked) (v : View) → IsTaskOf t p y → Fits told_of (belongs IsLater key) (wires t) p y v →
-      AgreesWith y.work y.published v.flushed
-  agrees_with key p y v is fits o c h inner =
+  -- what a task counts as published is known
+  pub agrees_with : (key : Terms Tasked) (p : ℕ) (y : Tasked) (v : View) → IsTaskOf t p y → ((o : ℕ) → IsPublished y o) →
+      Fits told_of (belongs IsLater key) (wires t) p y v → AgreesWith y.work y.published v.flushed
+  agrees_with key p y v is published fits o c h inner =
       let w = y.work in
       let at : writes_at w c ≡ Some o = writes_first w.cell.network (own w is.0) w.cell.instance o c h inner in
-      (fits.published c (count y.published o) (ap (told_on y.published) at)).2
+      published o c h inner ∙ (fits.published c (end_at w.ends o).flushed (ap (λ m. second_of (wrote_by w m)) at)).2
 
-  pub published_is : (p : ℕ) (x : Tasked) (v : View) → IsTaskOf t p x → AgreesWith x.work x.published v.flushed → (c l : ℕ) → flushed_of (told_of x) c ≡ Some l →
-      (c < (wires t).channels) × ((wires t).writer c ≡ Some p) × (l ≡ slice_index v.flushed c)
-  published_is p x v is agrees c l e =
+  pub published_is : (p : ℕ) (x : Tasked) (v : View) → IsTaskOf t p x → AgreesWith x.work x.published v.flushed → ((o : ℕ) → IsPublished x o) →
+      (c l : ℕ) → flushed_of (told_of x) c ≡ Some l → (c < (wires t).channels) × ((wires t).writer c ≡ Some p) × (l ≡ slice_index v.flushed c)
+  published_is p x v is agrees published c l e =
       let w = x.work in
-      let f = told_some x.published (writes_at w c) l e in
+      let f = flushed_some w (writes_at w c) l e in
       let h = first_writes w.cell.network (own w is.0) w.cell.instance f.0 c f.1 in
       let at : actual_at (instance_at (network_of t) p) f.0 ≡ Writes c = sym (handed_is t wired w p f.0 is.0 is.1) ∙ h.0 in
-      (written_inside t wired p f.0 c at, writer_is t wired p f.0 c at, sym f.2 ∙ agrees f.0 c h.0 h.1)
+      (written_inside t wired p f.0 c at, writer_is t wired p f.0 c at, sym f.2 ∙ (sym (published f.0 c h.0 h.1) ∙ agrees f.0 c h.0 h.1))
 
-  pub flushed_all : (x : Tasked) → x.work.cell.network ≡ t → ((o : ℕ) → IsPublished x o) → IsDelivered x.work → FlushedAll (told_of x)
-  flushed_all x n published delivered c k l e f =
+  pub flushed_all : (x : Tasked) → x.work.cell.network ≡ t → IsDelivered x.work → FlushedAll (told_of x)
+  flushed_all x n delivered c k l e =
       let w = x.work in
-      let a = told_some w.cell.sent (writes_at w c) k e in
-      let b = told_some x.published (writes_at w c) l f in
-      let same : a.0 ≡ b.0 = some_same (sym a.1 ∙ b.1) in
-      let h = first_writes w.cell.network (own w n) w.cell.instance b.0 c b.1 in
-      sym a.2 ∙ (ap (count w.cell.sent) same ∙ (sym (delivered b.0 c h.0 h.1) ∙ (sym (published b.0 c h.0 h.1) ∙ b.2)))
+      let f = wrote_some w (writes_at w c) k l e in
+      let h = first_writes w.cell.network (own w n) w.cell.instance f.0 c f.1 in
+      sym f.2 ∙ (sym (delivered f.0 c h.0 h.1) ∙ f.3)
 
   -- a task that was run, flushed and published may be left
-  pub fits_after : (key : Terms Tasked) (p : ℕ) (y x : Tasked) (v : View) → IsTaskOf t p x → belongs IsLater key p y → IsLater y x →
+  pub fits_after : (key : Terms Tasked) (p : ℕ) (y x : Tasked) (v : View) → IsTaskOf t p x → belongs IsLater key p y → Continues y x →
       AgreesWith x.work x.published v.flushed → ((o : ℕ) → IsPublished x o) → (v.seen ≡ 2) ⊎ IsDelivered x.work →
       x.work.cell.events ≡ slice_index v.got p + v.loose → Fits told_of (belongs IsLater key) (wires t) p x v
   fits_after key p y x v is b l agrees published delivered events = record {
-    published = published_is p x v is agrees;
+    published = published_is p x v is agrees published;
     events = events;
-    flushed = ⊎_elim (λ e. inl e) (λ d. inr (flushed_all x is.0 published d)) delivered;
-    belonging = belongs_later key p y x b l;
+    flushed = ⊎_elim (λ e. inl e) (λ d. inr (flushed_all x is.0 d)) delivered;
+    belonging = belongs_later key p y x b l published;
   }
 
   -- a seat that knows as much of p finds the task as fit
@@ -212,17 +226,17 @@ handed_same v w o n i =
     ap (λ k. actual_at (instance_at (network_of k) w.cell.instance) o) n ∙ ap (λ k. actual_at (instance_at (network_of v.cell.network) k) o) i
 
 -- of the same instance, with the same numbers published
-pub agrees_later : (y x : Tasked) (known : List ℕ) → IsLater y x → x.published ≡ y.published → AgreesWith y.work y.published known →
+pub agrees_later : (y x : Tasked) (known : List ℕ) → Continues y x → x.published ≡ y.published → AgreesWith y.work y.published known →
     AgreesWith x.work x.published known
 agrees_later y x known l same agrees o c h inner =
     ap (λ k. count k o) same ∙
     agrees o c (sym (handed_same y.work x.work o l.network l.instance) ∙ h) (ap (λ k. is_output (role_at (network_of k) c)) (sym l.network) ∙ inner)
 
-pub task_later : (t : Program) (p : ℕ) (y x : Tasked) → IsTaskOf t p y → IsLater y x → IsTaskOf t p x
+pub task_later : (t : Program) (p : ℕ) (y x : Tasked) → IsTaskOf t p y → Continues y x → IsTaskOf t p x
 task_later t p y x is l = (l.network ∙ is.0, l.instance ∙ is.1)
 
-later_work : (x y z : Tasked) → IsLater x y → z.work ≡ y.work → IsLater x z
-later_work x y z l same = subst (λ (w : Work). IsLater x (record { work = w; standing = z.standing; published = z.published })) (sym same)
+later_work : (x y z : Tasked) → Continues x y → z.work ≡ y.work → Continues x z
+later_work x y z l same = subst (λ (w : Work). Continues x (record { work = w; standing = z.standing; published = z.published })) (sym same)
     (record { network = l.network; input = l.input; instance = l.instance; watch = l.watch; ends = l.ends; events = l.events; still = l.still })
 
 pub task_work : (t : Program) (p : ℕ) (y x : Tasked) → IsTaskOf t p y → x.work ≡ y.work → IsTaskOf t p x
@@ -237,7 +251,7 @@ module _ (t : Program) (wired : IsWellWired t) where
 
   pub fits_spent : (key : Terms Tasked) (p done : ℕ) (x y z : Tasked) (v0 v1 v2 v3 : View) → IsTaskOf t p x →
       Fits told_of (belongs IsLater key) (wires t) p x v0 → v0.loose ≡ 0 →
-      IsLater x y → y.work.cell.events ≡ x.work.cell.events + done → HasKept p v0 v1 → (v1.seen ≡ 2) ⊎ IsDelivered y.work →
+      Continues x y → y.work.cell.events ≡ x.work.cell.events + done → HasKept p v0 v1 → (v1.seen ≡ 2) ⊎ IsDelivered y.work →
       z.work ≡ y.work → HasKept p v1 v2 → AgreesWith z.work z.published v2.flushed → ((o : ℕ) → IsPublished z o) →
       Knows (wires t) p v2 v3 → v3.loose ≡ done → Fits told_of (belongs IsLater key) (wires t) p z v3
   fits_spent key p done x y z v0 v1 v2 v3 is fits none l events first delivered same second agrees published knows loose =

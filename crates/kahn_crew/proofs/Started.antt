@@ -30,7 +30,7 @@ use Rattle.kahn_crew.specs.Begins.{AreReady, HasBegun, IsNumber, IsReady, ready_
 use Rattle.kahn_crew.specs.Floors.{IsFloor}
 use Rattle.kahn_crew.specs.Tasks.{AgreesWith, IsLater, IsPublished, Tasked, told_of}
 use Rattle.kahn_crew.proofs.Publishing.{handed_is}
-use Rattle.kahn_crew.proofs.Resting.{flushed_all, later_here, published_is}
+use Rattle.kahn_crew.proofs.Resting.{flushed_all, continues_here, published_is}
 use Rattle.kahn_crew.proofs.Wirings.{channels_are, instances_are}
 
 -- ---- lists
@@ -247,9 +247,9 @@ module _ (t : Program) (wired : IsWellWired t) (lists : Lists) (watch : Option �
     flushes = λ p c k y e told.
         let at = at_both tasks p y e in
         let o = f.each p y at in
-        published_is t wired p y known (o.network, o.instance) (agrees p y at) c k told;
-    flushed_all = λ p y e. let o = f.each p y (at_both tasks p y e) in flushed_all t wired y o.network (published_too p y o) o.delivered;
-    selves = λ p y e. later_here y;
+        published_is t wired p y known (o.network, o.instance) (agrees p y at) (published_too p y o) c k told;
+    flushed_all = λ p y e. let o = f.each p y (at_both tasks p y e) in flushed_all t wired y o.network o.delivered;
+    selves = λ p y e. record { continues = continues_here y; published = published_too p y (f.each p y (at_both tasks p y e)) };
     few = few;
   }
 

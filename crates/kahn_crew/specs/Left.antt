@@ -7,7 +7,7 @@ use Rattle.kahn_streams.specs.Tokens.{Lists, inputs_of}
 use Rattle.kahn_code.specs.Standing.{count}
 use Rattle.kahn_crew.specs.Begins.{AreReady}
 use Rattle.kahn_crew.specs.declared.standing.Standing.TheVariants as standing
-use Rattle.kahn_crew.specs.Tasks.{Tasked, IsLater, handed, is_over}
+use Rattle.kahn_crew.specs.Tasks.{Tasked, Continues, handed, is_over}
 
 abbrev pub task_events : Tasked → ℕ
 task_events x = x.work.cell.events
@@ -33,7 +33,7 @@ IsOver t lists tasks budget halted =
 pub record HaveGone (t : Program) (lists : Lists) (watch : Option ℕ) (bound : ℕ) (first tasks : List Tasked) (budget : ℕ) : Type 0 where
   pub ready : AreReady t lists watch first
   pub count : length tasks ≡ length (network_of t).instances
-  pub later : (p : ℕ) (x y : Tasked) → slice_get first p ≡ Some x → slice_get tasks p ≡ Some y → IsLater x y
+  pub later : (p : ℕ) (x y : Tasked) → slice_get first p ≡ Some x → slice_get tasks p ≡ Some y → Continues x y
   pub events : budget + sum_by task_events tasks ≡ bound
 
 -- nothing was done: each cell is as it was, and nothing of the bound is used

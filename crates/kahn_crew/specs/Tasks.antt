@@ -93,9 +93,10 @@ abbrev pub count_on : List ℕ → Option ℕ → ℕ
 count_on xs None = 0
 count_on xs (Some q) = count xs q
 
-abbrev pub told_on : List ℕ → Option ℕ → Option ℕ
-told_on xs None = None
-told_on xs (Some q) = Some (count xs q)
+-- how many tokens the parameter sent, and how many of them its lane has
+abbrev pub wrote_by : Work → Option ℕ → Option (ℕ × ℕ)
+wrote_by w None = None
+wrote_by w (Some q) = Some (count w.cell.sent q, (end_at w.ends q).flushed)
 
 abbrev pub is_over : Standing → Bool
 is_over standing.Going = false
@@ -115,16 +116,15 @@ tale_of t = record {
   has_ended = is_over t.standing;
   waits = waits_on t.work t.standing;
   taken = λ c. count_on t.work.cell.taken (reads_at t.work c);
-  sent = λ c. told_on t.work.cell.sent (writes_at t.work c);
-  flushed = λ c. told_on t.published (writes_at t.work c);
+  wrote = λ c. wrote_by t.work (writes_at t.work c);
 }
 
 abbrev pub told_of : Tasked → Option Tale
 told_of t = Some (tale_of t)
 
--- the second is a later state of the first: of the same instance of the same network and input, with the same ends; and
--- where it did no event, its cell is as it was
-pub record IsLater (old new : Tasked) : Type 0 where
+-- the second continues the first: of the same instance of the same network and input, with the same ends; and where it did
+-- no event, its cell is as it was
+pub record Continues (old new : Tasked) : Type 0 where
   pub network : new.work.cell.network ≡ old.work.cell.network
   pub input : new.work.cell.input ≡ old.work.cell.input
   pub instance : new.work.cell.instance ≡ old.work.cell.instance
@@ -149,3 +149,8 @@ AgreesWith w published known =
 abbrev pub IsPublished : Tasked → ℕ → Type 0
 IsPublished t o =
     (c : ℕ) → handed t.work o ≡ Writes c → is_output (role_at (network_of t.work.cell.network) c) ≡ false → count t.published o ≡ (end_at t.work.ends o).flushed
+
+-- the second is a later state of the first, between two turns
+pub record IsLater (old new : Tasked) : Type 0 where
+  pub continues : Continues old new
+  pub published : (o : ℕ) → IsPublished new o

@@ -2,18 +2,16 @@
 
 ghost use Rattle.std.specs.Prelude.{◌≡◌, ℕ, ◌+◌, ◌*◌, ◌^◌, ◌<◌, ◌≤◌, true, length, map, slice_set, slice_index_or, IfOk, OnOk};
 ghost use Rattle.kahn_network.specs.Network.{network_of, instance_at};
-ghost use Rattle.kahn_streams.specs.Tokens.{inputs_of};
 ghost use Rattle.kahn_code.specs.Flat.{stmt_code};
-ghost use Rattle.kahn_code.specs.Progress.{Paused, IsPause};
 ghost use Rattle.kahn_code.specs.Standing.{count};
-ghost use Rattle.kahn_code.specs.Told.{AreCounts, told_view};
-ghost use Rattle.kahn_job.specs.Ends.{IsDry, IsReady, ShareLane};
+ghost use Rattle.kahn_code.specs.Told.{AreCounts};
+ghost use Rattle.kahn_job.specs.Ends.{MayMeet, Meets};
 ghost use Rattle.kahn_job.specs.Berths.{HaveFlushed, IsFed, end_at};
 ghost use Rattle.kahn_job.specs.Idles.{CanGoOn};
-ghost use Rattle.kahn_job.specs.Works.{IsDelivered, IsJob, width_of};
+ghost use Rattle.kahn_job.specs.Works.{HasPaused, IsDelivered, IsJob, width_of};
 ghost use Rattle.kahn_crew.specs.Begins.{ready_task, woken_task};
 ghost use Rattle.kahn_crew.specs.declared.standing.Standing.TheVariants.{Going as IsGoing};
-ghost use Rattle.kahn_crew.specs.Tasks.{HasMet, IsLater, IsTrueOf, standing_after};
+ghost use Rattle.kahn_crew.specs.Tasks.{Continues, HasMet, IsTrueOf, standing_after};
 
 use crate::standing::Standing;
 use kahn_board::Told;
@@ -133,10 +131,9 @@ impl<'n> Task<'n> {
     pub fn run<L: Ledger>(&mut self, code: &Code, quantum: u64, steps: &mut Steps<L>) -> Pause
         requires code { code.now.network.value ≡ self.old.work.cell.network }
         requires events { self.old.work.cell.events + quantum < 2 ^ 48 }
-        ensures later { IsLater self.old self.new }
+        ensures continues { Continues self.old self.new }
         ensures events { (self.old.work.cell.events ≤ self.new.work.cell.events) × (self.new.work.cell.events ≤ self.old.work.cell.events + quantum) }
-        // What the source says of the cell and of the pause.
-        ensures paused { Paused (network_of self.new.work.cell.network) (inputs_of self.new.work.cell.input) self.new.work.cell.watch self.new.work.cell.instance (told_view self.new.work.cell) (IsPause (network_of self.new.work.cell.network) self.new.work.cell.instance (λ q. IsDry (end_at self.new.work.ends q)) (λ q. IsReady (end_at self.new.work.ends q)) (self.new.work.cell.events ≡ self.old.work.cell.events + quantum) result) }
+        ensures paused { HasPaused self.old.work self.new.work quantum result }
         ensures standing { self.new.standing ≡ standing_after result }
         ensures published { self.new.published ≡ self.old.published }
     {
@@ -147,7 +144,7 @@ impl<'n> Task<'n> {
 
     /// Flushes what was sent on each channel, so that its reader can take it. A refusal leaves the tokens where they are.
     pub fn flush(&mut self) -> Result<(), NoMemory>
-        ensures later { IsLater self.old self.new }
+        ensures continues { Continues self.old self.new }
         ensures cell { self.new.work.cell ≡ self.old.work.cell }
         ensures standing { self.new.standing ≡ self.old.standing }
         ensures published { self.new.published ≡ self.old.published }
@@ -226,13 +223,10 @@ impl<'n> Task<'n> {
     /// With the task of its reader in one thread: how many tokens were flushed on an output and not taken. Both tasks stay
     /// where they are. It takes no memory.
     pub fn meet(&mut self, output: usize, reader: &mut Task<'n>, input: usize) -> u64
-        requires writes { (end_at self.old.work.ends output).writes ≡ true }
-        requires reads { (end_at reader.old.work.ends input).reads ≡ true }
-        requires lane { ShareLane (end_at self.old.work.ends output) (end_at reader.old.work.ends input) }
+        requires { MayMeet (end_at self.old.work.ends output) (end_at reader.old.work.ends input) }
         ensures writer { HasMet self.old self.new }
         ensures reader { HasMet reader.old reader.new }
-        ensures count { (end_at reader.old.work.ends input).next + result ≡ (end_at self.old.work.ends output).flushed }
-        ensures held { (end_at reader.old.work.ends input).waiting ≤ result }
+        ensures met { Meets (end_at self.old.work.ends output) (end_at reader.old.work.ends input) (end_at reader.new.work.ends input) result }
     {
         self.job.meet(output, &mut reader.job, input)
     }
@@ -240,12 +234,9 @@ impl<'n> Task<'n> {
     /// The same, where it reads what it writes.
     pub fn meet_self(&mut self, output: usize, input: usize) -> u64
         requires apart { output ≡ input → ⊥ }
-        requires writes { (end_at self.old.work.ends output).writes ≡ true }
-        requires reads { (end_at self.old.work.ends input).reads ≡ true }
-        requires lane { ShareLane (end_at self.old.work.ends output) (end_at self.old.work.ends input) }
-        ensures met { HasMet self.old self.new }
-        ensures count { (end_at self.old.work.ends input).next + result ≡ (end_at self.old.work.ends output).flushed }
-        ensures held { (end_at self.old.work.ends input).waiting ≤ result }
+        requires can { MayMeet (end_at self.old.work.ends output) (end_at self.old.work.ends input) }
+        ensures task { HasMet self.old self.new }
+        ensures met { Meets (end_at self.old.work.ends output) (end_at self.old.work.ends input) (end_at self.new.work.ends input) result }
     {
         self.job.meet_self(output, input)
     }

@@ -8,7 +8,7 @@ ghost use Rattle.kahn_job.specs.Works.{IsDelivered};
 ghost use Rattle.kahn_desk.specs.Turn.{Fits, Holds, IsIdle, IsSeatOf};
 ghost use Rattle.kahn_crew.specs.Floors.{HasKept, IsFloor, IsTaskOf};
 ghost use Rattle.kahn_crew.specs.Rests.{IsDue};
-ghost use Rattle.kahn_crew.specs.Tasks.{IsLater, Tasked, told_of};
+ghost use Rattle.kahn_crew.specs.Tasks.{Continues, IsLater, Tasked, told_of};
 ghost use Rattle.kahn_crew.specs.declared.standing.Standing.TheVariants.{Going as IsGoing};
 
 use crate::floor::Floor;
@@ -93,7 +93,7 @@ fn run_task<'n, L: Ledger>(
     ensures holds { (p n l : ℕ) (x : Option Tasked) → Holds p n l x seat.old → Holds p n l x seat.new }
     ensures kept { (p : ℕ) → HasKept p seat.old.seat.me.0 seat.new.seat.me.0 }
     ensures known { seat.new.seat.me.0.flushed ≡ seat.old.seat.me.0.flushed }
-    ensures later { IsLater task.old task.new }
+    ensures continues { Continues task.old task.new }
     ensures published { task.new.published ≡ task.old.published }
     ensures events { (task.new.work.cell.events ≡ task.old.work.cell.events + result) × (result ≤ drawn) }
     ensures delivered { (seat.new.seat.me.0.seen ≡ 2) ⊎ IsDelivered task.new.work }

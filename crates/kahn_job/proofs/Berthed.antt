@@ -10,7 +10,7 @@ use Rattle.kahn_code.specs.Cells.{is_output}
 use Rattle.kahn_code.specs.Seats.{DoesRead, DoesWrite, Grows, IsRead, IsWritten, Stays, Moved}
 use Rattle.kahn_lane.specs.Places.{lane_name, token_name}
 use Rattle.kahn_lane.proofs.Places.{token_name-is_of, is_of-token_name}
-use Rattle.kahn_job.specs.Ends.{Advances, End, Identity, IsSame, IsFlushed, identity_of}
+use Rattle.kahn_job.specs.Ends.{Advances, End, Identity, IsSame, IsFlushed, Meets, identity_of}
 use Rattle.kahn_job.specs.Ways.{nothing}
 use Rattle.kahn_job.specs.Berths.{Berth, AreServed, Serves, end_at, identities, seat_at, HasFlushed, HaveAdvanced, HaveFlushed, HasStayed, HaveStayed, AreFlushed}
 
@@ -387,5 +387,12 @@ module _ (es : List End) (o q : ℕ) (apart : o ≡ q → ⊥) (writes : (end_at
       stayed_two es o q none w r apart (within_writes es o writes) (within_reads es q reads) (subst (λ x. HasStayed x w) (writer_is b) hw)
       (subst (λ x. HasStayed x r) reader_is hr)
 
-  pub met_count : (b : End) (n : ℕ) → a.next + n ≡ (slice_index_or (slice_set es q none) o b).flushed → (end_at es q).next + n ≡ (end_at es o).flushed
-  met_count b n e = ap (λ (x : End). x.next + n) (sym reader_is) ∙ e ∙ ap (λ (x : End). x.flushed) (writer_is b)
+  pub met_at : (b w r : End) (n : ℕ) → Meets (slice_index_or (slice_set es q none) o b) a r n →
+      Meets (end_at es o) (end_at es q) (end_at (slice_set (slice_set (slice_set es q none) o w) q r) q) n
+  met_at b w r n m =
+      let one = length-set (slice_set es q none) o w in
+      let two = length-set es q none in
+      let l = within_reads es q reads in
+      let here = set_here (slice_set (slice_set es q none) o w) q r (omega (arith, one, two, l)) in
+      subst (λ z. Meets (end_at es o) (end_at es q) z n) (sym here)
+      (subst (λ x. Meets x (end_at es q) r n) (writer_is b) (subst (λ x. Meets (slice_index_or (slice_set es q none) o b) x r n) reader_is m))

@@ -20,7 +20,7 @@ same_channel : {c d : ℕ} → Channel c ≡ Channel d → c ≡ d
 same_channel e = cc
 
 pub fed : (w : Way) → IsFed (end_of w)
-fed (way.Takes r) t lists d none name ready = absurd (some_none none)
+fed (way.Takes r asked) t lists d none name ready = absurd (some_none none)
 fed (way.Puts s) t lists d none name ready = absurd (some_none none)
 fed way.Nothing t lists d none name ready = absurd (omega (arith, ready))
 fed (way.Feeds f) t lists d none name ready =

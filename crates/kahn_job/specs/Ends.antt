@@ -1,5 +1,5 @@
 -- What contracts see of the end of a channel that a parameter has.
-use Rattle.std.specs.Prelude.{◌≡◌, ◌⊎◌, ℕ, ◌<◌, ◌≤◌, Bool, true, Option, Some}
+use Rattle.std.specs.Prelude.{◌≡◌, ◌⊎◌, ℕ, ◌+◌, ◌<◌, ◌≤◌, Bool, true, Option, Some}
 use Rattle.std.specs.declared.alloc.Global.{Global}
 use Rattle.kahn_lane.specs.Places.{Named}
 
@@ -16,10 +16,12 @@ pub record End : Type 0 where
   pub name : Named
   -- the place of the next token
   pub next : ℕ
-  -- how many tokens wait at hand; how many there are as far as this end knows; how many segments it knows to have left
+  -- how many tokens wait at hand; how many there are as far as this end knows; how many segments it knows to have left, and
+  -- how many it knew so when it was last asked for a token
   pub waiting : ℕ
   pub known : ℕ
   pub left : ℕ
+  pub asked : ℕ
   -- how many tokens were flushed; how many stand in the open segment, and for how many it has memory
   pub flushed : ℕ
   pub filled : ℕ
@@ -46,6 +48,20 @@ pub record IsSame (old new : End) : Type 0 where
 abbrev pub ShareLane : End → End → Type 0
 ShareLane a b = (l : Lane) × (a.lane ≡ Some l) × (b.lane ≡ Some l)
 
+-- they are the writer's and the reader's end of one lane
+pub record MayMeet (writer reader : End) : Type 0 where
+  pub writes : writer.writes ≡ true
+  pub reads : reader.reads ≡ true
+  pub lane : ShareLane writer reader
+
+-- the two ends met: n tokens that the writer's flushed weren't taken, which are no fewer than those at hand, and the reader's
+-- is `now` and knows of all that were flushed
+pub record Meets (writer reader now : End) (n : ℕ) : Type 0 where
+  pub count : reader.next + n ≡ writer.flushed
+  pub held : reader.waiting ≤ n
+  pub known : now.known ≡ writer.flushed
+  pub asked : now.asked ≡ now.left
+
 -- nothing that was flushed is taken back, and no more is flushed than was put
 abbrev pub Advances : End → End → Type 0
 Advances old new = (old.flushed ≤ new.flushed) × (new.flushed ≤ new.next)
@@ -54,9 +70,10 @@ Advances old new = (old.flushed ≤ new.flushed) × (new.flushed ≤ new.next)
 abbrev pub IsReady : End → Type 0
 IsReady e = 0 < e.waiting
 
--- all tokens that it knew of were taken, or 64 steals met another step: then so many segments have left the lane
+-- all tokens that it knew of were taken, or 64 steals met another step since it was last asked: so many segments have left
+-- the lane meanwhile
 abbrev pub IsDry : End → Type 0
-IsDry e = (e.known ≤ e.next) ⊎ (64 ≤ e.left)
+IsDry e = (e.known ≤ e.next) ⊎ (e.asked + 64 ≤ e.left)
 
 -- there is room for one token
 abbrev pub HasRoom : End → Type 0

@@ -1,5 +1,5 @@
 -- What is seen of an end, by what it does.
-use Rattle.std.specs.Prelude.{◌-◌, true, false, length, Some, None}
+use Rattle.std.specs.Prelude.{◌-◌, ℕ, true, false, length, Some, None}
 use Rattle.std.specs.declared.alloc.Global.{Global}
 use Rattle.kahn_streams.specs.Tokens.{inputs_of}
 use Rattle.kahn_lane.specs.declared.segments.Sender.{Sender}
@@ -11,9 +11,9 @@ use Rattle.kahn_job.specs.Feeding.{Feeding}
 use Rattle.kahn_job.specs.declared.port.Way.{Way}
 use Rattle.kahn_job.specs.declared.port.Way.TheVariants as way
 
--- the reader's end of a lane
-abbrev pub taking : Receiver Global → End
-taking r = record {
+-- the reader's end of a lane, and how many segments it knew to have left when it was last asked
+abbrev pub taking : Receiver Global → ℕ → End
+taking r asked = record {
   reads = true;
   writes = false;
   lane = Some (receiver_lane r);
@@ -22,6 +22,7 @@ taking r = record {
   waiting = waiting r;
   known = known r;
   left = left r;
+  asked = asked;
   flushed = 0;
   filled = 0;
   capacity = 0;
@@ -38,6 +39,7 @@ feeding f = record {
   waiting = length (inputs_of f.input f.channel) - f.next;
   known = length (inputs_of f.input f.channel);
   left = 0;
+  asked = 0;
   flushed = 0;
   filled = 0;
   capacity = 0;
@@ -54,6 +56,7 @@ putting s = record {
   waiting = 0;
   known = 0;
   left = 0;
+  asked = 0;
   flushed = flushed s;
   filled = filled s;
   capacity = capacity s;
@@ -70,13 +73,14 @@ nothing = record {
   waiting = 0;
   known = 0;
   left = 0;
+  asked = 0;
   flushed = 0;
   filled = 0;
   capacity = 0;
 }
 
 abbrev pub end_of : Way → End
-end_of (way.Takes r) = taking r
+end_of (way.Takes r asked) = taking r asked.value
 end_of (way.Feeds f) = feeding f
 end_of (way.Puts s) = putting s
 end_of way.Nothing = nothing

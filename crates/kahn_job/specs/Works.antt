@@ -1,10 +1,13 @@
 -- What contracts see of a job: a cell with the ends of its channels.
-use Rattle.std.specs.Prelude.{◌≡◌, ℕ, ◌<◌, false, List, length}
+use Rattle.std.specs.Prelude.{◌≡◌, ℕ, ◌+◌, ◌<◌, false, List, length}
 use Rattle.kahn_network.specs.Network.{Writes, network_of, instance_at, actual_at, role_at}
+use Rattle.kahn_streams.specs.Tokens.{inputs_of}
+use Rattle.kahn_code.specs.declared.progress.Pause.{Pause}
 use Rattle.kahn_code.specs.Cells.{is_output}
+use Rattle.kahn_code.specs.Progress.{Paused, IsPause}
 use Rattle.kahn_code.specs.Standing.{count}
-use Rattle.kahn_code.specs.Told.{Told, IsAt, seat_of}
-use Rattle.kahn_job.specs.Ends.{End}
+use Rattle.kahn_code.specs.Told.{Told, IsAt, seat_of, told_view}
+use Rattle.kahn_job.specs.Ends.{End, IsDry, IsReady}
 use Rattle.kahn_job.specs.Berths.{Berth, AreServed, end_at, seat_at}
 
 -- the cell, and the end that each of its parameters has
@@ -32,3 +35,10 @@ pub record IsJob (w : Work) : Type 0 where
 abbrev pub IsDelivered : Work → Type 0
 IsDelivered w = (q d : ℕ) → actual_at (instance_at (network_of w.cell.network) w.cell.instance) q ≡ Writes d →
     is_output (role_at (network_of w.cell.network) d) ≡ false → (end_at w.ends q).flushed ≡ count w.cell.sent q
+
+-- after a run for at most so many events: what the source says of the cell, and of the pause by the ends
+abbrev pub HasPaused : Work → Work → ℕ → Pause → Type 0
+HasPaused old new quantum z =
+    Paused (network_of new.cell.network) (inputs_of new.cell.input) new.cell.watch new.cell.instance (told_view new.cell)
+    (IsPause (network_of new.cell.network) new.cell.instance (λ q. IsDry (end_at new.ends q)) (λ q. IsReady (end_at new.ends q))
+    (new.cell.events ≡ old.cell.events + quantum) z)

@@ -2,13 +2,11 @@
 
 ghost use Rattle.std.specs.Prelude.{◌≡◌, ◌+◌, ◌*◌, ◌^◌, ◌<◌, ◌≤◌, true, length, map, slice_index_or, OnOk};
 ghost use Rattle.kahn_network.specs.Network.{network_of, instance_at};
-ghost use Rattle.kahn_streams.specs.Tokens.{inputs_of};
 ghost use Rattle.kahn_code.specs.Flat.{stmt_code};
-ghost use Rattle.kahn_code.specs.Progress.{Paused, IsPause};
-ghost use Rattle.kahn_code.specs.Told.{AreCounts, told_view, IsStill};
-ghost use Rattle.kahn_job.specs.Ends.{IsDry, IsReady, ShareLane};
+ghost use Rattle.kahn_code.specs.Told.{AreCounts, IsStill};
+ghost use Rattle.kahn_job.specs.Ends.{MayMeet, Meets};
 ghost use Rattle.kahn_job.specs.Berths.{HaveAdvanced, HaveFlushed, HaveStayed, IsFed, end_at};
-ghost use Rattle.kahn_job.specs.Works.{IsDelivered, IsJob, IsManned, width_of};
+ghost use Rattle.kahn_job.specs.Works.{HasPaused, IsDelivered, IsJob, IsManned, width_of};
 
 use crate::idle::Idle;
 use crate::ports::Ends;
@@ -58,8 +56,7 @@ impl<'n> Job<'n> {
         requires code { code.now.network.value ≡ self.old.cell.network }
         requires events { self.old.cell.events + quantum < 2 ^ 48 }
         ensures names { (self.new.cell.network ≡ self.old.cell.network) × (self.new.cell.input ≡ self.old.cell.input) × (self.new.cell.instance ≡ self.old.cell.instance) × (self.new.cell.watch ≡ self.old.cell.watch) }
-        // What the source says of the cell and of the pause.
-        ensures paused { Paused (network_of self.new.cell.network) (inputs_of self.new.cell.input) self.new.cell.watch self.new.cell.instance (told_view self.new.cell) (IsPause (network_of self.new.cell.network) self.new.cell.instance (λ q. IsDry (end_at self.new.ends q)) (λ q. IsReady (end_at self.new.ends q)) (self.new.cell.events ≡ self.old.cell.events + quantum) result) }
+        ensures paused { HasPaused self.old self.new quantum result }
         ensures events { (self.old.cell.events ≤ self.new.cell.events) × (self.new.cell.events ≤ self.old.cell.events + quantum) }
         // Where no event was done, counts and lists are as before.
         ensures still { self.new.cell.events ≡ self.old.cell.events → IsStill self.old.cell self.new.cell }
@@ -86,15 +83,11 @@ impl<'n> Job<'n> {
     /// With the job of its reader in one thread: how many tokens were flushed on an output and not taken. Both jobs stay as
     /// they are, but for what the reader knows: all that were flushed. It takes no memory.
     pub fn meet(&mut self, output: usize, reader: &mut Job<'n>, input: usize) -> u64
-        requires writes { (end_at self.old.ends output).writes ≡ true }
-        requires reads { (end_at reader.old.ends input).reads ≡ true }
-        requires lane { ShareLane (end_at self.old.ends output) (end_at reader.old.ends input) }
+        requires { MayMeet (end_at self.old.ends output) (end_at reader.old.ends input) }
         ensures cells { (self.new.cell ≡ self.old.cell) × (reader.new.cell ≡ reader.old.cell) }
         ensures writer { HaveStayed self.old.ends self.new.ends }
         ensures reader { HaveStayed reader.old.ends reader.new.ends }
-        ensures known { (end_at reader.new.ends input).known ≡ (end_at self.old.ends output).flushed }
-        ensures count { (end_at reader.old.ends input).next + result ≡ (end_at self.old.ends output).flushed }
-        ensures held { (end_at reader.old.ends input).waiting ≤ result }
+        ensures met { Meets (end_at self.old.ends output) (end_at reader.old.ends input) (end_at reader.new.ends input) result }
     {
         self.ends.meet(output, &mut reader.ends, input)
     }
@@ -102,14 +95,10 @@ impl<'n> Job<'n> {
     /// The same, where it reads what it writes.
     pub fn meet_self(&mut self, output: usize, input: usize) -> u64
         requires apart { output ≡ input → ⊥ }
-        requires writes { (end_at self.old.ends output).writes ≡ true }
-        requires reads { (end_at self.old.ends input).reads ≡ true }
-        requires lane { ShareLane (end_at self.old.ends output) (end_at self.old.ends input) }
+        requires can { MayMeet (end_at self.old.ends output) (end_at self.old.ends input) }
         ensures cell { self.new.cell ≡ self.old.cell }
         ensures ends { HaveStayed self.old.ends self.new.ends }
-        ensures known { (end_at self.new.ends input).known ≡ (end_at self.old.ends output).flushed }
-        ensures count { (end_at self.old.ends input).next + result ≡ (end_at self.old.ends output).flushed }
-        ensures held { (end_at self.old.ends input).waiting ≤ result }
+        ensures met { Meets (end_at self.old.ends output) (end_at self.old.ends input) (end_at self.new.ends input) result }
     {
         self.ends.meet_self(output, input)
     }

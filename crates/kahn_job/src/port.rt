@@ -1,12 +1,12 @@
 //! The end of a channel that a parameter has.
 
-ghost use Rattle.std.specs.Prelude.{◌≡◌, ◌⊎◌, ◌<◌, ◌≤◌, ◌+◌, ◌^◌, true, length, Some, IfSome, IfNone, IfOk, IfErr, IsSome, IsTrue, IsFalse, OnOk, MatchResult};
+ghost use Rattle.std.specs.Prelude.{◌≡◌, ◌⊎◌, ℕ, ◌<◌, ◌≤◌, ◌+◌, ◌^◌, true, length, Some, IfSome, IfNone, IfOk, IfErr, IsSome, IsTrue, IsFalse, OnOk, MatchResult};
 ghost use Rattle.kahn_network.specs.Network.{network_of, role_at};
-ghost use Rattle.kahn_lane.specs.LaneEnds.{SameSender, flushed, sender_lane, sender_name, sent};
+ghost use Rattle.kahn_lane.specs.LaneEnds.{SameSender, flushed, left, sender_lane, sender_name, sent};
 ghost use Rattle.kahn_lane.specs.Places.{moved_to, token_name};
 ghost use Rattle.kahn_lane.specs.declared.name.LaneName.{LaneName};
 ghost use Rattle.kahn_tree.specs.declared.tree.Role.TheVariants.{Input as InputRole};
-ghost use Rattle.kahn_job.specs.Ends.{Advances, IsSame, IsReady, IsDry, HasRoom, IsFlushed, ShareLane};
+ghost use Rattle.kahn_job.specs.Ends.{Advances, MayMeet, Meets, HasRoom, IsDry, IsFlushed, IsReady, IsSame, ShareLane};
 ghost use Rattle.kahn_job.specs.Berths.{HasStayed, IsFed, IsFor};
 ghost use Rattle.kahn_job.specs.Settling.{CanFeed, CanSettle, HasSettled};
 ghost use Rattle.kahn_job.specs.Ways.{taking, feeding, putting, nothing};
@@ -14,15 +14,17 @@ ghost use Rattle.kahn_job.specs.Ways.{taking, feeding, putting, nothing};
 use crate::feed::Feed;
 use kahn_lane::{Receiver, Sender, meet, settle};
 use kahn_network::network::Network;
+use kahn_streams::about::About;
 use kahn_streams::input::Input;
 use kahn_streams::memory::NoMemory;
 use kahn_streams::token::Token;
 use std::marker::Model;
 
-// What a parameter does.
+// What a parameter does. The reader's end of a lane remembers, for contracts alone, how many segments it knew to have left
+// the lane when it was last asked for a token.
 #[derive(Drop)]
 pub(crate) enum Way {
-    Takes(Receiver),
+    Takes(Receiver, About<u64>),
     Feeds(Feed),
     Puts(Sender),
     Nothing,
@@ -50,13 +52,29 @@ impl Model for Port {
     ghost view = { λ p. end_of p.way };
 }
 
+// A number that the caller names.
+fn named_count(_receiver: &Receiver) -> About<u64>
+    ghost number: { ℕ }
+    ensures { result.value ≡ number }
+{
+    About::named()
+}
+
+// How many segments the reader's end knows to have left its lane.
+fn left_of(receiver: &Receiver) -> About<u64>
+    ensures { result.value ≡ left receiver.now }
+{
+    named_count(receiver)
+}
+
 impl Port {
     /// The reader's end of a lane.
     pub(crate) fn takes(receiver: Receiver) -> Port
-        ensures { result ≡ taking receiver }
+        ensures { result ≡ taking receiver (left receiver) }
     {
+        let asked = left_of(&receiver);
         Port {
-            way: Way::Takes(receiver),
+            way: Way::Takes(receiver, asked),
         }
     }
 
@@ -94,11 +112,15 @@ impl Port {
         ensures same { IsSame self.old self.new }
         ensures advances { Advances self.old self.new }
         ensures counts { (self.new.next ≡ self.old.next) × (self.new.known ≡ self.old.known) }
+        ensures asked { self.new.asked ≡ self.old.left }
         ensures yes { IsTrue result → IsReady self.new }
         ensures dry { IsFalse result → IsDry self.new }
     {
         match &mut self.way {
-            Way::Takes(receiver) => receiver.ready(),
+            Way::Takes(receiver, asked) => {
+                *asked = left_of(receiver);
+                receiver.ready()
+            }
             Way::Feeds(feed) => feed.is_ready(input),
             Way::Puts(_) => false,
             Way::Nothing => false,
@@ -115,11 +137,15 @@ impl Port {
         ensures known { self.new.known ≡ self.old.known }
         ensures token { IfSome result (λ t. (self.old.name ≡ Some (token_name t)) × (t.place ≡ self.old.next)) }
         ensures moved { IfSome result (λ _. self.new.next ≡ self.old.next + 1) }
+        ensures asked { self.new.asked ≡ self.old.left }
         ensures none { IfNone result ((self.new.next ≡ self.old.next) × IsDry self.new) }
         ensures some { IsReady self.old → IsSome result }
     {
         match &mut self.way {
-            Way::Takes(receiver) => receiver.take(),
+            Way::Takes(receiver, asked) => {
+                *asked = left_of(receiver);
+                receiver.take()
+            }
             Way::Feeds(feed) => feed.take(network, input),
             Way::Puts(_) => None,
             Way::Nothing => None,
@@ -135,7 +161,7 @@ impl Port {
         ensures room { OnOk result (HasRoom self.new) }
     {
         match &mut self.way {
-            Way::Takes(_) => Ok(()),
+            Way::Takes(_, _) => Ok(()),
             Way::Feeds(_) => Ok(()),
             Way::Puts(sender) => sender.room(),
             Way::Nothing => Ok(()),
@@ -153,7 +179,7 @@ impl Port {
         ensures moved { (self.new.next ≡ self.old.next + 1) × (self.new.flushed ≡ self.old.flushed) }
     {
         match &mut self.way {
-            Way::Takes(_) => {}
+            Way::Takes(_, _) => {}
             Way::Feeds(_) => {}
             Way::Puts(sender) => sender.put(token),
             Way::Nothing => {}
@@ -169,7 +195,7 @@ impl Port {
         ensures all { (self.new.flushed ≡ self.old.flushed) ⊎ (self.new.flushed ≡ self.new.next) }
     {
         match &mut self.way {
-            Way::Takes(_) => {}
+            Way::Takes(_, _) => {}
             Way::Feeds(_) => {}
             Way::Puts(sender) => {
                 sender.flush()?;
@@ -185,7 +211,7 @@ impl Port {
         ensures { (n : LaneName) → self.old.name ≡ Some n → HasSettled (moved_to input.now n) self.old self.new }
     {
         match &mut self.way {
-            Way::Takes(_) => unreachable!(),
+            Way::Takes(_, _) => unreachable!(),
             Way::Feeds(feed) => feed.regrow(input),
             Way::Puts(_) => unreachable!(),
             Way::Nothing => unreachable!(),
@@ -205,7 +231,7 @@ impl Port {
         ensures refused { IfErr result (λ e. (e.1 ≡ self) × (e.2 ≡ reader)) }
     {
         match self.way {
-            Way::Takes(_) => unreachable!(),
+            Way::Takes(_, _) => unreachable!(),
             Way::Feeds(_) => unreachable!(),
             Way::Puts(sender) => reader.settle_sender(sender, input),
             Way::Nothing => unreachable!(),
@@ -224,10 +250,11 @@ impl Port {
         ensures refused { IfErr result (λ e. (e.1 ≡ putting sender) × (e.2 ≡ self)) }
     {
         match self.way {
-            Way::Takes(receiver) => match settle(sender, receiver, input) {
+            Way::Takes(receiver, asked) => match settle(sender, receiver, input) {
                 Ok((sender, receiver)) => Ok((Port::puts(sender), Port::takes(receiver))),
                 Err((fault, sender, receiver)) => {
-                    Err((fault, Port::puts(sender), Port::takes(receiver)))
+                    let way = Way::Takes(receiver, asked);
+                    Err((fault, Port::puts(sender), Port { way }))
                 }
             },
             Way::Feeds(_) => unreachable!(),
@@ -239,17 +266,13 @@ impl Port {
     /// With the reader's end of its lane in one thread: how many tokens were flushed and not taken. The reader knows then
     /// of all that were flushed. It takes no memory.
     pub(crate) fn meet(&mut self, reader: &mut Port) -> u64
-        requires writes { self.old.writes ≡ true }
-        requires reads { reader.old.reads ≡ true }
-        requires lane { ShareLane self.old reader.old }
+        requires { MayMeet self.old reader.old }
         ensures writer { HasStayed self.old self.new }
         ensures reader { HasStayed reader.old reader.new }
-        ensures known { reader.new.known ≡ self.old.flushed }
-        ensures count { reader.old.next + result ≡ self.old.flushed }
-        ensures held { reader.old.waiting ≤ result }
+        ensures met { Meets self.old reader.old reader.new result }
     {
         match &mut self.way {
-            Way::Takes(_) => unreachable!(),
+            Way::Takes(_, _) => unreachable!(),
             Way::Feeds(_) => unreachable!(),
             Way::Puts(sender) => reader.meet_sender(sender),
             Way::Nothing => unreachable!(),
@@ -262,12 +285,14 @@ impl Port {
         requires lane { self.old.lane ≡ Some (sender_lane sender.old) }
         ensures writer { SameSender sender.old sender.new × (sent sender.new ≡ sent sender.old) × (flushed sender.new ≡ flushed sender.old) }
         ensures reader { HasStayed self.old self.new }
-        ensures known { self.new.known ≡ flushed sender.old }
-        ensures count { self.old.next + result ≡ flushed sender.old }
-        ensures held { self.old.waiting ≤ result }
+        ensures met { Meets (putting sender.old) self.old self.new result }
     {
         match &mut self.way {
-            Way::Takes(receiver) => meet(sender, receiver),
+            Way::Takes(receiver, asked) => {
+                let waiting = meet(sender, receiver);
+                *asked = left_of(receiver);
+                waiting
+            }
             Way::Feeds(_) => unreachable!(),
             Way::Puts(_) => unreachable!(),
             Way::Nothing => unreachable!(),
@@ -287,7 +312,7 @@ impl Port {
         ensures { result ≡ self.now.next }
     {
         match &self.way {
-            Way::Takes(receiver) => receiver.taken(),
+            Way::Takes(receiver, _) => receiver.taken(),
             Way::Feeds(feed) => feed.next(),
             Way::Puts(sender) => sender.sent(),
             Way::Nothing => 0,
@@ -299,7 +324,7 @@ impl Port {
         ensures { result ≡ self.now.flushed }
     {
         match &self.way {
-            Way::Takes(_) => 0,
+            Way::Takes(_, _) => 0,
             Way::Feeds(_) => 0,
             Way::Puts(sender) => sender.flushed(),
             Way::Nothing => 0,

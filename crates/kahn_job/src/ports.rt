@@ -2,7 +2,7 @@
 
 ghost use Rattle.std.specs.Prelude.{◌≡◌, ◌<◌, ◌≤◌, ◌+◌, true, length, OnOk};
 ghost use Rattle.kahn_job.specs.Berths.{AreFlushed, AreServed, HaveFlushed, HaveStayed, IsFed, end_at, seat_at};
-ghost use Rattle.kahn_job.specs.Ends.{ShareLane};
+ghost use Rattle.kahn_job.specs.Ends.{MayMeet, Meets};
 
 use crate::port::Port;
 use kahn_code::ports::Ports;
@@ -124,15 +124,11 @@ impl<'n> Ends<'n> {
     /// With the ends of its reader in one thread: how many tokens were flushed on an output and not taken. It takes no
     /// memory.
     pub(crate) fn meet(&mut self, output: usize, reader: &mut Ends<'n>, input: usize) -> u64
-        requires writes { (end_at self.old.ends output).writes ≡ true }
-        requires reads { (end_at reader.old.ends input).reads ≡ true }
-        requires lane { ShareLane (end_at self.old.ends output) (end_at reader.old.ends input) }
+        requires { MayMeet (end_at self.old.ends output) (end_at reader.old.ends input) }
         ensures seats { (seat_at self.new ≡ seat_at self.old) × (seat_at reader.new ≡ seat_at reader.old) }
         ensures writer { HaveStayed self.old.ends self.new.ends }
         ensures reader { HaveStayed reader.old.ends reader.new.ends }
-        ensures known { (end_at reader.new.ends input).known ≡ (end_at self.old.ends output).flushed }
-        ensures count { (end_at reader.old.ends input).next + result ≡ (end_at self.old.ends output).flushed }
-        ensures held { (end_at reader.old.ends input).waiting ≤ result }
+        ensures met { Meets (end_at self.old.ends output) (end_at reader.old.ends input) (end_at reader.new.ends input) result }
     {
         meet_at(&mut self.ports, output, &mut reader.ports, input)
     }
@@ -140,14 +136,10 @@ impl<'n> Ends<'n> {
     /// The same, of an output that it reads itself.
     pub(crate) fn meet_self(&mut self, output: usize, input: usize) -> u64
         requires apart { output ≡ input → ⊥ }
-        requires writes { (end_at self.old.ends output).writes ≡ true }
-        requires reads { (end_at self.old.ends input).reads ≡ true }
-        requires lane { ShareLane (end_at self.old.ends output) (end_at self.old.ends input) }
+        requires can { MayMeet (end_at self.old.ends output) (end_at self.old.ends input) }
         ensures seat { seat_at self.new ≡ seat_at self.old }
         ensures ends { HaveStayed self.old.ends self.new.ends }
-        ensures known { (end_at self.new.ends input).known ≡ (end_at self.old.ends output).flushed }
-        ensures count { (end_at self.old.ends input).next + result ≡ (end_at self.old.ends output).flushed }
-        ensures held { (end_at self.old.ends input).waiting ≤ result }
+        ensures met { Meets (end_at self.old.ends output) (end_at self.old.ends input) (end_at self.new.ends input) result }
     {
         meet_within(&mut self.ports, output, input)
     }
@@ -171,14 +163,10 @@ impl<'n> Ends<'n> {
 
 // A meeting of an end with one of another instance.
 fn meet_at(writers: &mut [Port], output: usize, readers: &mut [Port], input: usize) -> u64
-    requires writes { (end_at writers.old output).writes ≡ true }
-    requires reads { (end_at readers.old input).reads ≡ true }
-    requires lane { ShareLane (end_at writers.old output) (end_at readers.old input) }
+    requires { MayMeet (end_at writers.old output) (end_at readers.old input) }
     ensures writer { HaveStayed writers.old writers.new }
     ensures reader { HaveStayed readers.old readers.new }
-    ensures known { (end_at readers.new input).known ≡ (end_at writers.old output).flushed }
-    ensures count { (end_at readers.old input).next + result ≡ (end_at writers.old output).flushed }
-    ensures held { (end_at readers.old input).waiting ≤ result }
+    ensures met { Meets (end_at writers.old output) (end_at readers.old input) (end_at readers.new input) result }
 {
     writers[output].meet(&mut readers[input])
 }
@@ -186,13 +174,9 @@ fn meet_at(writers: &mut [Port], output: usize, readers: &mut [Port], input: usi
 // A meeting of two ends of one instance.
 fn meet_within(ports: &mut [Port], output: usize, input: usize) -> u64
     requires apart { output ≡ input → ⊥ }
-    requires writes { (end_at ports.old output).writes ≡ true }
-    requires reads { (end_at ports.old input).reads ≡ true }
-    requires lane { ShareLane (end_at ports.old output) (end_at ports.old input) }
+    requires can { MayMeet (end_at ports.old output) (end_at ports.old input) }
     ensures ends { HaveStayed ports.old ports.new }
-    ensures known { (end_at ports.new input).known ≡ (end_at ports.old output).flushed }
-    ensures count { (end_at ports.old input).next + result ≡ (end_at ports.old output).flushed }
-    ensures held { (end_at ports.old input).waiting ≤ result }
+    ensures met { Meets (end_at ports.old output) (end_at ports.old input) (end_at ports.new input) result }
 {
     let mut reader = mem::replace(&mut ports[input], Port::nothing());
     let waiting = ports[output].meet(&mut reader);

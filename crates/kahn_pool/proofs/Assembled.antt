@@ -70,7 +70,7 @@ module _ (N : Network) (I : Inputs) (bound : ℕ) (watch : Option ℕ) (said : V
   idle_end = record { outcome = Ended; events = 0 }
 
   abbrev Rests : ℕ → Type 0
-  Rests p = (x : End) × IsAtRest N I watch g.cells said p x
+  Rests p = (x : End) × IsAtRest N I watch g.cells p x
 
   idle_stood : (p : ℕ) (c : View) → c ≡ nothing → instance_at N p ≡ idle → Stood N I watch p c
   idle_stood p c v i =
@@ -228,7 +228,7 @@ module _ (N : Network) (I : Inputs) (bound : ℕ) (watch : Option ℕ) (said : V
       not_cut (Fault k) f h = absurd cc
       not_cut Cut f h = absurd cc
 
-  outcome_by : (v : Verdict) (p : ℕ) (out : Outcome) → IsTold v N I g.cells p (o p) out → IsOutcome v N A p (e p) out
+  outcome_by : (v : Verdict) (p : ℕ) (out : Outcome) → IsTold N I g.cells p (o p) out → IsOutcome v N A p (e p) out
   outcome_by v p Ended h = kept_end p (o p) net.Ended refl h (keeps (o p) h)
     where
       keeps : (z : script.Outcome Store) → ending z ≡ Some net.Ended → KeepsTape (instance_at N p) (T p) A z
@@ -243,21 +243,19 @@ module _ (N : Network) (I : Inputs) (bound : ℕ) (watch : Option ℕ) (said : V
       keeps (Dry q) f = absurd cc
       keeps (Fault k) f = tt
       keeps Cut f = tt
-  outcome_by v p (Waits c) h = waits v h.3
+  outcome_by v p (Waits c) h = waits v
     where
-      dry : IsGiven N I g.cells c (source N (Channel c)) ((view_at g.cells p).taken h.0) → IsDryOn N A p (e p) c
-      dry m =
-          (h.0, h.1, same_outcome N p (e p) (T p) A (extended p) (stood p).does (Dry h.0) h.2 (same_tape p h.0 c h.1 m) (λ f. absurd cc), does p)
+      dry : IsDryOn N A p (e p) c
+      dry =
+          (h.0, h.1, same_outcome N p (e p) (T p) A (extended p) (stood p).does (Dry h.0) h.2 (same_tape p h.0 c h.1 h.3) (λ f. absurd cc), does p)
 
-      waits : (v : Verdict) → (v ≡ Memory) ⊎ IsGiven N I g.cells c (source N (Channel c)) ((view_at g.cells p).taken h.0) → IsWaiting v N A p (e p) c
-      waits Memory m = (T p, extended p, (h.0, h.1, h.2, (stood p).does))
-      waits Finished (inl m) = absurd cc
-      waits Finished (inr m) = dry m
-      waits Bound (inl m) = absurd cc
-      waits Bound (inr m) = dry m
+      waits : (v : Verdict) → IsWaiting v N A p (e p) c
+      waits Memory = (A, (λ d. prefix_refl (A d)), dry)
+      waits Finished = dry
+      waits Bound = dry
   outcome_by v p More h = next_event N p (e p) (T p) A (extended p) (stood p).does (stood p).all (moves h)
     where
-      moves : IsTold v N I g.cells p (o p) More → Moves N p (T p) A (o p)
+      moves : IsTold N I g.cells p (o p) More → Moves N p (T p) A (o p)
       moves (inl c) = inl c
       moves (inr m) =
           let x : length (T p (Channel m.1)) ≡ (view_at g.cells p).taken m.0 = (stood p).took m.0 m.1 m.3 in

@@ -34,7 +34,7 @@ stopped s bound left memory v ends done last rule within count =
       cells = s.cells;
       known = last.known;
       instances = last.size;
-      each = λ p x h. (last.ends p x h).0 v;
+      each = λ p x h. (last.ends p x h).0;
       channels = within;
       finished = λ f. (finished_by v f rule).1;
       bounded = λ f. bounded (bound_by v f rule);
@@ -60,7 +60,7 @@ stopped s bound left memory v ends done last rule within count =
         let t : sum_by view_events s.cells + left ≡ bound = last.total in
         let l : length ends ≡ length s.cells = last.size ∙ sym last.known in
         let e : sum_by events_of ends ≡ sum_by view_events s.cells =
-        same_sums s.cells ends l (λ p x h. ((last.ends p x h).0 v).count)
+        same_sums s.cells ends l (λ p x h. ((last.ends p x h).0).count)
         in
         omega (arith, t, e, count)
 

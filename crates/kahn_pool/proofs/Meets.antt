@@ -13,7 +13,7 @@ use Rattle.kahn_network.proofs.Sourced.{handed_within, reads, reads_listed}
 use Rattle.kahn_code.specs.Cells.{is_output}
 use Rattle.kahn_code.specs.Lines.{Joins}
 use Rattle.kahn_code.specs.Standing.{count}
-use Rattle.kahn_job.specs.Ends.{End, IsSame, ShareLane}
+use Rattle.kahn_job.specs.Ends.{End, IsSame, MayMeet, Meets, ShareLane}
 use Rattle.kahn_job.specs.Berths.{HasStayed, Serves, end_at}
 use Rattle.kahn_job.specs.Works.{Work, IsJob}
 use Rattle.kahn_crew.specs.Tasks.{Tasked, HasMet, handed}
@@ -45,11 +45,20 @@ module _ (w : Work) (j : IsJob w) where
   pub next_taken : (q : ℕ) → ReadsOne w q → (end_at w.ends q).next ≡ count w.cell.taken q
   next_taken q h = j.at.reads q h.0 h.1
 
-pub behind : (x y : Tasked) (o q n : ℕ) → IsJob x.work → IsJob y.work → CanMeet x o y q →
-    (end_at y.work.ends q).next + n ≡ (end_at x.work.ends o).flushed → (end_at y.work.ends q).waiting ≤ n → IsBehind x o y q
-behind x y o q n jx jy can sum held =
+pub may_meet : (x y : Tasked) (o q : ℕ) → IsJob x.work → IsJob y.work → CanMeet x o y q → MayMeet (end_at x.work.ends o) (end_at y.work.ends q)
+may_meet x y o q jx jy can = record {
+  writes = end_writes x.work jx o can.writes;
+  reads = end_reads y.work jy q can.reads;
+  lane = can.lane;
+}
+
+pub behind : (x y : Tasked) (o q n : ℕ) (now : End) → IsJob x.work → IsJob y.work → CanMeet x o y q →
+    Meets (end_at x.work.ends o) (end_at y.work.ends q) now n → IsBehind x o y q
+behind x y o q n now jx jy can met =
     let f = flushed_sent x.work jx o can.writes in
     let t = next_taken y.work jy q can.reads in
+    let sum = met.count in
+    let held = met.held in
     record { within = omega (arith, f, t, sum); more = λ r. omega (arith, f, t, sum, held, r) }
 
 -- a parameter that reads does not write

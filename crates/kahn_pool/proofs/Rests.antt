@@ -32,7 +32,6 @@ use Rattle.kahn_pool.specs.Rested.{AreTasks, AreTold, IsDryOf, IsEndOf, IsSaid, 
 use Rattle.kahn_pool.specs.declared.answer.End.{End}
 use Rattle.kahn_pool.specs.declared.answer.Outcome.{Outcome}
 use Rattle.kahn_pool.specs.declared.answer.Outcome.TheVariants as outcome
-use Rattle.kahn_pool.specs.declared.answer.Verdict.{Verdict}
 use Rattle.kahn_pool.specs.Bench.{Rests}
 use Rattle.kahn_pool.specs.Gathered.{AreWithin, IsGiven, IsTold, Stood, nothing, view_at}
 use Rattle.kahn_pool.proofs.Benched.{get_map, got, mapped, some_one}
@@ -193,19 +192,19 @@ module _ (t : Program) (wired : IsWellWired t) (lists : Lists) (watch : Option �
         let le = h.1.within in
         (h.0, h.1.given, omega (arith, v, le))
 
-    told_as : (v : Verdict) (p : ℕ) (x : Tasked) → slice_get tasks p ≡ Some x → (u : Outcome) → IsToldAs t lists tasks x u → (o : script.Outcome Store) →
-        IsSaid x.work x.standing o → IsTold v N I cells p o u
-    told_as v p x e outcome.Ended h o k = subst (λ s. IsSaid x.work s o) h k
-    told_as v p x e (outcome.Faulted f) h o k = subst (λ s. IsSaid x.work s o) h k
-    told_as v p x e (outcome.Waits c) (q, s, r, all) o k =
+    told_as : (p : ℕ) (x : Tasked) → slice_get tasks p ≡ Some x → (u : Outcome) → IsToldAs t lists tasks x u → (o : script.Outcome Store) →
+        IsSaid x.work x.standing o → IsTold N I cells p o u
+    told_as p x e outcome.Ended h o k = subst (λ s. IsSaid x.work s o) h k
+    told_as p x e (outcome.Faulted f) h o k = subst (λ s. IsSaid x.work s o) h k
+    told_as p x e (outcome.Waits c) (q, s, r, all) o k =
         let here : actual_at (instance_at N p) q ≡ Reads c = sym (handed_as p q x e) ∙ r in
         let h = counted p q c x e here in
         let w : (view_at cells p).taken q ≡ count x.work.cell.taken q = ap (λ u. u.taken q) (viewed p x e) in
         let n : h.0 ≡ (view_at cells p).taken q = one_number t lists tasks p q c h.0 (count x.work.cell.taken q) wired are_told here all h.1.all ∙ sym w in
-        (q, here, subst (λ s. IsSaid x.work s o) s k, inr (subst (λ m. IsGiven N I cells c (source N (Channel c)) m) n h.1.given))
-    told_as v p x e outcome.More (inl s) o k = by (subst (λ s. IsSaid x.work s o) s k)
+        (q, here, subst (λ s. IsSaid x.work s o) s k, subst (λ m. IsGiven N I cells c (source N (Channel c)) m) n h.1.given)
+    told_as p x e outcome.More (inl s) o k = by (subst (λ s. IsSaid x.work s o) s k)
       where
-        by : IsSaid x.work standing.Going o → IsTold v N I cells p o outcome.More
+        by : IsSaid x.work standing.Going o → IsTold N I cells p o outcome.More
         by (inl c) = inl c
         by (inr (q, d, r, dry, ready)) =
             let here : actual_at (instance_at N p) q ≡ Reads d = sym (handed_as p q x e) ∙ r in
@@ -213,7 +212,7 @@ module _ (t : Program) (wired : IsWellWired t) (lists : Lists) (watch : Option �
             let w : (view_at cells p).taken q ≡ count x.work.cell.taken q = ap (λ u. u.taken q) (viewed p x e) in
             let m = h.1.more ready in
             inr (q, d, h.0, here, dry, h.1.given, omega (arith, w, m))
-    told_as v p x e outcome.More (inr (q, d, s, r, not)) o k =
+    told_as p x e outcome.More (inr (q, d, s, r, not)) o k =
         let here : actual_at (instance_at N p) q ≡ Reads d = sym (handed_as p q x e) ∙ r in
         let h = counted p q d x e here in
         let w : (view_at cells p).taken q ≡ count x.work.cell.taken q = ap (λ u. u.taken q) (viewed p x e) in
@@ -221,7 +220,7 @@ module _ (t : Program) (wired : IsWellWired t) (lists : Lists) (watch : Option �
         inr (q, d, h.0, here, subst (λ s. IsSaid x.work s o) s k, h.1.given, omega (arith, w, m))
 
     pub rests : (p : ℕ) (x : Tasked) (y : End) → slice_get tasks p ≡ Some x → IsEndOf t lists tasks x y → Rests (state_of t lists watch tasks) p y
-    rests p x y e h v = record {
+    rests p x y e h = record {
       stood = told.0;
       count = h.events ∙ sym (ap (λ u. u.events) (viewed p x e));
       told = told.1;
@@ -230,8 +229,8 @@ module _ (t : Program) (wired : IsWellWired t) (lists : Lists) (watch : Option �
         paused : code.Paused N I watch p (told_view x.work.cell) (IsSaid x.work x.standing)
         paused = says_here p x e
 
-        told : (k : Stood N I watch p (view_at cells p)) × IsTold v N I cells p (exec_at N (view_at cells p).events p k.tapes).outcome y.outcome
+        told : (k : Stood N I watch p (view_at cells p)) × IsTold N I cells p (exec_at N (view_at cells p).events p k.tapes).outcome y.outcome
         told =
-            subst (λ u. (k : Stood N I watch p u) × IsTold v N I cells p (exec_at N u.events p k.tapes).outcome y.outcome) (sym (viewed p x e))
+            subst (λ u. (k : Stood N I watch p u) × IsTold N I cells p (exec_at N u.events p k.tapes).outcome y.outcome) (sym (viewed p x e))
             (told_by_channel N I watch p (told_view x.work.cell) (λ r s d f g. (reads_once t wired p r p s d f g).1) paused.stood
-            (λ o. IsTold v N I cells p o y.outcome) (told_as v p x e y.outcome h.told _ paused.is))
+            (λ o. IsTold N I cells p o y.outcome) (told_as p x e y.outcome h.told _ paused.is))

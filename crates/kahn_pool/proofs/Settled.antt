@@ -15,7 +15,7 @@ use Rattle.kahn_job.specs.Ways.{nothing}
 use Rattle.kahn_job.specs.Works.{Work}
 use Rattle.kahn_crew.specs.declared.standing.Standing.{Standing}
 use Rattle.kahn_crew.specs.declared.standing.Standing.TheVariants as standing
-use Rattle.kahn_crew.specs.Tasks.{Tasked, IsLater, IsTrueOf, standing_after}
+use Rattle.kahn_crew.specs.Tasks.{Tasked, Continues, IsTrueOf, standing_after}
 use Rattle.kahn_pool.specs.Rested.{HaveSettled, IsSaid, IsSettled, Says, SettlesTo}
 
 -- ---- input channels
@@ -85,7 +85,7 @@ says_ran w s z dry spent e h = subst (Says w) (sym e) (record { stood = h.stood;
 
 -- ---- tasks
 
-pub later_self : (x : Tasked) → IsLater x x
+pub later_self : (x : Tasked) → Continues x x
 later_self x = record {
   network = refl;
   input = refl;
@@ -99,7 +99,7 @@ later_self x = record {
 pub settles_still : (x : Tasked) → IsSettled x → SettlesTo x x
 settles_still x h = record { later = later_self x; events = refl; still = λ n. refl; settled = h }
 
-pub settles_ran : (x y : Tasked) → x.standing ≡ standing.Going → IsLater x y → (x.work.cell.events ≤ y.work.cell.events) × (y.work.cell.events ≤ x.work.cell.events + 0) →
+pub settles_ran : (x y : Tasked) → x.standing ≡ standing.Going → Continues x y → (x.work.cell.events ≤ y.work.cell.events) × (y.work.cell.events ≤ x.work.cell.events + 0) →
     IsSettled y → SettlesTo x y
 settles_ran x y going later events h = record {
   later = later;

@@ -6,7 +6,6 @@ use Rattle.kahn_streams.specs.Meaning.{Store}
 use Rattle.kahn_code.specs.Cells.{View}
 use Rattle.kahn_pool.specs.declared.answer.End.{End}
 use Rattle.kahn_pool.specs.declared.answer.Outcome.{Outcome}
-use Rattle.kahn_pool.specs.declared.answer.Verdict.{Verdict}
 use Rattle.kahn_code.specs.declared.progress.Pause.{Pause}
 use Rattle.kahn_code.specs.declared.progress.Pause.TheVariants as pause
 use Rattle.kahn_pool.specs.declared.answer.Outcome.TheVariants.{More, Waits}
@@ -15,13 +14,13 @@ use Rattle.kahn_pool.specs.Gathered.{view_at, IsTold, TookAll}
 use Rattle.kahn_pool.specs.Bench.{State, IsPaused, Rests, events_at, view_events, all_events, weight, AreEnds, Goes, Marked}
 
 -- a pause and an outcome that say the same
-pub told_as : (s : State) (p : ℕ) (v : Verdict) (o : script.Outcome Store) (z z' : Pause) (x x' : Outcome) → z ≡ z' → x ≡ x' →
-    IsPaused s p z o → (IsPaused s p z' o → IsTold v s.network s.input s.cells p o x') → IsTold v s.network s.input s.cells p o x
-told_as s p v o z z' x x' e f h go = subst (IsTold v s.network s.input s.cells p o) (sym f) (go (subst (λ y. IsPaused s p y o) e h))
+pub told_as : (s : State) (p : ℕ) (o : script.Outcome Store) (z z' : Pause) (x x' : Outcome) → z ≡ z' → x ≡ x' →
+    IsPaused s p z o → (IsPaused s p z' o → IsTold s.network s.input s.cells p o x') → IsTold s.network s.input s.cells p o x
+told_as s p o z z' x x' e f h go = subst (IsTold s.network s.input s.cells p o) (sym f) (go (subst (λ y. IsPaused s p y o) e h))
 
-pub told_dry : (s : State) (p : ℕ) (v : Verdict) (o : script.Outcome Store) (q c : ℕ) → actual_at (instance_at s.network p) q ≡ Reads c →
-    IsPaused s p (pause.Dry q) o → IsTold v s.network s.input s.cells p o (Waits c)
-told_dry s p v o q c r h = (q, r, h.2, inr (subst (TookAll s.network s.input s.cells p q) (same_channel (sym h.1 ∙ r)) h.3))
+pub told_dry : (s : State) (p : ℕ) (o : script.Outcome Store) (q c : ℕ) → actual_at (instance_at s.network p) q ≡ Reads c →
+    IsPaused s p (pause.Dry q) o → IsTold s.network s.input s.cells p o (Waits c)
+told_dry s p o q c r h = (q, r, h.2, subst (TookAll s.network s.input s.cells p q) (same_channel (sym h.1 ∙ r)) h.3)
   where
     same_channel : {c d : ℕ} → Reads c ≡ Reads d → c ≡ d
     same_channel e = cc

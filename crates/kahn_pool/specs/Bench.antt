@@ -15,6 +15,7 @@ use Rattle.kahn_pool.specs.declared.answer.Verdict.{Verdict}
 use Rattle.kahn_pool.specs.Gathered.{view_at, Stood, TookAll, HasUntaken, IsAtRest, IsFrom}
 use Rattle.kahn_pool.specs.Right.{line_of}
 use Rattle.kahn_pool.specs.declared.answer.Stream.{Stream}
+use Rattle.kahn_pool.specs.declared.rounds.Round.{Round}
 use Rattle.kahn_pool.specs.declared.answer.Verdict.TheVariants.{Finished, Bound, Memory}
 use Rattle.kahn_streams.specs.declared.value.Line.{Line}
 
@@ -40,9 +41,13 @@ pub record Paused (s : State) (p : ℕ) (z : Pause) : Type 0 where
   pub stood : Stood s.network s.input s.watch p (view_at s.cells p)
   pub told : IsPaused s p z (exec_at s.network (events_at s p) p stood.tapes).outcome
 
+-- of the same network and input, with the same channel watched
+abbrev pub IsSameRun : State → State → Type 0
+IsSameRun s t = (t.network ≡ s.network) × (t.input ≡ s.input) × (t.watch ≡ s.watch)
+
 -- the cell of p was run for at most so many events, and paused so
 pub record HasRun (s t : State) (p quantum : ℕ) (z : Pause) : Type 0 where
-  pub same : (t.network ≡ s.network) × (t.input ≡ s.input) × (t.watch ≡ s.watch)
+  pub same : IsSameRun s t
   -- the other cells are left as they are
   pub only : t.cells ≡ slice_set s.cells p (view_at t.cells p)
   pub events : (events_at s p ≤ events_at t p) × (events_at t p ≤ events_at s p + quantum)
@@ -53,7 +58,7 @@ pub record HasRun (s t : State) (p quantum : ℕ) (z : Pause) : Type 0 where
   pub wanted : z ≡ pause.NoMemory → events_at t p < events_at s p + quantum
 
 abbrev pub Rests : State → ℕ → End → Type 0
-Rests s p x = (v : Verdict) → IsAtRest s.network s.input s.watch s.cells v p x
+Rests s p x = IsAtRest s.network s.input s.watch s.cells p x
 
 -- ---- rounds
 
@@ -84,6 +89,9 @@ pub record Goes (s0 : State) (w0 t0 : ℕ) (s : State) (left : ℕ) (memory move
   pub still : moved ≡ false → AreEnds s left memory ends
   pub falls : moved ≡ true → weight left memory < w0
   pub rises : weight left memory ≤ w0
+
+abbrev pub GoesIn : State → ℕ → ℕ → State → Round → ℕ → Type 0
+GoesIn s0 w0 t0 s r k = Goes s0 w0 t0 s r.left r.memory r.moved r.ends.items k
 
 -- how a round is marked after so many events and this pause
 abbrev pub Marked : Pause → ℕ → Bool → Bool → Bool → Bool → Type 0

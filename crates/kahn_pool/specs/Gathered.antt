@@ -14,7 +14,7 @@ use Rattle.kahn_pool.specs.declared.answer.Stream.{Stream}
 use Rattle.kahn_pool.specs.declared.answer.End.{End}
 use Rattle.kahn_streams.specs.declared.token.Token.{Token}
 use Rattle.kahn_pool.specs.declared.answer.Verdict.{Verdict}
-use Rattle.kahn_pool.specs.declared.answer.Verdict.TheVariants.{Finished, Bound, Memory}
+use Rattle.kahn_pool.specs.declared.answer.Verdict.TheVariants.{Finished, Bound}
 use Rattle.kahn_pool.specs.declared.answer.Outcome.{Outcome}
 use Rattle.kahn_pool.specs.declared.answer.Outcome.TheVariants.{Ended, Waits, Faulted, More}
 use Rattle.kahn_code.specs.Cells.{AllStand, View, IsKept, is_streamed}
@@ -61,18 +61,17 @@ HasUntaken N I cells p o =
     (q c n : ℕ) × (actual_at (instance_at N p) q ≡ Reads c) × (o ≡ Dry q) × IsGiven N I cells c (source N (Channel c)) n × ((view_at cells p).taken q < n)
 
 -- the rule of outcomes: what stands in the answer for a cell that is so
-abbrev pub IsTold : Verdict → Network → Inputs → List View → ℕ → script.Outcome Store → Outcome → Type 0
-IsTold v N I cells p o Ended = ending o ≡ Some net.Ended
-IsTold v N I cells p o (Faulted k) = ending o ≡ Some (net.Faulted k)
-IsTold v N I cells p o (Waits c) =
-    (q : ℕ) × (actual_at (instance_at N p) q ≡ Reads c) × (o ≡ Dry q) × ((v ≡ Memory) ⊎ TookAll N I cells p q c)
-IsTold v N I cells p o More = (o ≡ Cut) ⊎ HasUntaken N I cells p o
+abbrev pub IsTold : Network → Inputs → List View → ℕ → script.Outcome Store → Outcome → Type 0
+IsTold N I cells p o Ended = ending o ≡ Some net.Ended
+IsTold N I cells p o (Faulted k) = ending o ≡ Some (net.Faulted k)
+IsTold N I cells p o (Waits c) = (q : ℕ) × (actual_at (instance_at N p) q ≡ Reads c) × (o ≡ Dry q) × TookAll N I cells p q c
+IsTold N I cells p o More = (o ≡ Cut) ⊎ HasUntaken N I cells p o
 
 -- the cell of p stands so, and x is its end
-pub record IsAtRest (N : Network) (I : Inputs) (watch : Option ℕ) (cells : List View) (v : Verdict) (p : ℕ) (x : End) : Type 0 where
+pub record IsAtRest (N : Network) (I : Inputs) (watch : Option ℕ) (cells : List View) (p : ℕ) (x : End) : Type 0 where
   pub stood : Stood N I watch p (view_at cells p)
   pub count : x.events ≡ (view_at cells p).events
-  pub told : IsTold v N I cells p (exec_at N (view_at cells p).events p stood.tapes).outcome x.outcome
+  pub told : IsTold N I cells p (exec_at N (view_at cells p).events p stood.tapes).outcome x.outcome
 
 -- these tokens are the stream of line c: what its writer kept, or the input's list
 abbrev pub IsFrom : Network → Inputs → Option ℕ → List View → Source → Line → List Token → Type 0
@@ -93,7 +92,7 @@ pub record IsStopped (N : Network) (I : Inputs) (bound : ℕ) (watch : Option �
   pub cells : List View
   pub known : length cells ≡ length N.instances
   pub instances : length ends ≡ length N.instances
-  pub each : (p : ℕ) (x : End) → slice_get ends p ≡ Some x → IsAtRest N I watch cells v p x
+  pub each : (p : ℕ) (x : End) → slice_get ends p ≡ Some x → IsAtRest N I watch cells p x
   -- from the channels
   pub channels : AreWithin N I cells
   -- the rule of verdicts

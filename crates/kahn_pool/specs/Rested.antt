@@ -14,7 +14,7 @@ use Rattle.kahn_job.specs.Berths.{IsFed, end_at}
 use Rattle.kahn_job.specs.Works.{Work, IsJob}
 use Rattle.kahn_crew.specs.declared.standing.Standing.{Standing}
 use Rattle.kahn_crew.specs.declared.standing.Standing.TheVariants as standing
-use Rattle.kahn_crew.specs.Tasks.{Tasked, IsLater, IsStanding, handed}
+use Rattle.kahn_crew.specs.Tasks.{Tasked, Continues, IsStanding, handed}
 use Rattle.kahn_crew.specs.Left.{AreAll}
 use Rattle.kahn_pool.specs.Bench.{State}
 use Rattle.kahn_pool.specs.declared.answer.End.{End}
@@ -60,7 +60,7 @@ pub record IsSettled (x : Tasked) : Type 0 where
 
 -- the first task was settled: the second is a later state of it, after as many events; one that may not go on is the same
 pub record SettlesTo (old new : Tasked) : Type 0 where
-  pub later : IsLater old new
+  pub later : Continues old new
   pub events : new.work.cell.events ≡ old.work.cell.events
   pub still : (old.standing ≡ standing.Going → ⊥) → new ≡ old
   pub settled : IsSettled new

@@ -1,7 +1,7 @@
 //! A run on one thread: round after round, until a round in which nothing was done.
 
 ghost use Rattle.kahn_streams.specs.Solution.{source};
-ghost use Rattle.kahn_pool.specs.Bench.{State, HasRun, Paused, Rests, Goes, Marked, AreEnds, IsLast, IsVerdict, AreStreams, events_at, all_events, weight};
+ghost use Rattle.kahn_pool.specs.Bench.{State, HasRun, Paused, Rests, GoesIn, IsSameRun, Marked, AreEnds, IsLast, IsVerdict, AreStreams, events_at, all_events, weight};
 ghost use Rattle.kahn_pool.specs.Gathered.{IsFrom};
 ghost use Rattle.kahn_pool.specs.Right.{IsRight, line_of, stream_lines};
 ghost use Rattle.kahn_pool.specs.declared.answer.Outcome.TheVariants as outcome;
@@ -105,8 +105,8 @@ impl Round {
         requires room { vec_len self.old.ends < vec_capacity self.old.ends }
         requires share { 0 < self.old.share }
         ensures share { self.new.share ≡ self.old.share }
-        ensures goes { (s0 : State) (w0 t0 : ℕ) → Goes s0 w0 t0 (B.state bench.old) self.old.left self.old.memory self.old.moved self.old.ends.items instance → Goes s0 w0 t0 (B.state bench.new) self.new.left self.new.memory self.new.moved self.new.ends.items (suc instance) }
-        ensures same { ((B.state bench.new).network ≡ (B.state bench.old).network) × ((B.state bench.new).input ≡ (B.state bench.old).input) × ((B.state bench.new).watch ≡ (B.state bench.old).watch) }
+        ensures goes { (s0 : State) (w0 t0 : ℕ) → GoesIn s0 w0 t0 (B.state bench.old) self.old instance → GoesIn s0 w0 t0 (B.state bench.new) self.new (suc instance) }
+        ensures same { IsSameRun (B.state bench.old) (B.state bench.new) }
         ensures size { vec_len self.new.ends ≡ vec_len self.old.ends + 1 }
         ensures room { vec_capacity self.new.ends ≡ vec_capacity self.old.ends }
     {
@@ -132,8 +132,8 @@ fn one_round<B: Bench, G: Gate>(
     requires bound { all_events (B.state bench.old) + left < 2 ^ 48 }
     requires known { length (B.state bench.old).cells ≡ length (B.state bench.old).network.instances }
     requires room { length (B.state bench.old).network.instances ≤ vec_capacity ends }
-    ensures goes { Goes (B.state bench.old) (weight left memory) (all_events (B.state bench.old) + left) (B.state bench.new) result.left result.memory result.moved result.ends.items (length (B.state bench.new).network.instances) }
-    ensures same { ((B.state bench.new).network ≡ (B.state bench.old).network) × ((B.state bench.new).input ≡ (B.state bench.old).input) × ((B.state bench.new).watch ≡ (B.state bench.old).watch) }
+    ensures goes { GoesIn (B.state bench.old) (weight left memory) (all_events (B.state bench.old) + left) (B.state bench.new) result (length (B.state bench.new).network.instances) }
+    ensures same { IsSameRun (B.state bench.old) (B.state bench.new) }
     ensures room { vec_capacity result.ends ≡ vec_capacity ends }
 {
     let count = bench.instance_count();
@@ -164,7 +164,7 @@ fn last_round<B: Bench, G: Gate>(
     requires known { length (B.state bench.old).cells ≡ length (B.state bench.old).network.instances }
     requires room { length (B.state bench.old).network.instances ≤ vec_capacity ends }
     ensures last { IsLast (B.state bench.new) (all_events (B.state bench.old) + bound) result.left result.memory result.ends.items }
-    ensures same { ((B.state bench.new).network ≡ (B.state bench.old).network) × ((B.state bench.new).input ≡ (B.state bench.old).input) × ((B.state bench.new).watch ≡ (B.state bench.old).watch) }
+    ensures same { IsSameRun (B.state bench.old) (B.state bench.new) }
 {
     let mut ends = ends;
     let mut left = bound;

@@ -6,7 +6,7 @@ use Rattle.kahn_board.specs.declared.view.View.{View}
 use Rattle.kahn_desk.specs.Turn.{Fits, Holds, Knows}
 use Rattle.kahn_crew.specs.Floors.{IsTaskOf}
 use Rattle.kahn_crew.specs.Tasks.{Tasked, AgreesWith, IsLater, told_of}
-use Rattle.kahn_crew.proofs.Resting.{agrees_later, agrees_with, fits_spent, task_later, task_of, task_work}
+use Rattle.kahn_crew.proofs.Resting.{agrees_later, agrees_with, fits_spent, is_published, task_later, task_of, task_work}
 use Rattle.kahn_crew.proofs.turn.spend.Goals as goal
 
 pub run_task-done-requires-clause-code : goal.run_task-done-requires-clause-code
@@ -48,7 +48,7 @@ publish_all-requires-clause-task g c =
     let x = c.take_cell-task.result in
     let same : y ≡ x = c.take_cell-task.ensures.cell c.args.drawn 0 y h.1 in
     let is : IsTaskOf t p x = subst (IsTaskOf t p) same (task_of key t code p y c.requires.floor c.requires.inside h.2.belonging) in
-    task_later t p x c.run_task-done.new.task is c.run_task-done.ensures.later
+    task_later t p x c.run_task-done.new.task is c.run_task-done.ensures.continues
 
 pub publish_all-requires-clause-agrees : goal.publish_all-requires-clause-agrees
 publish_all-requires-clause-agrees g c =
@@ -65,10 +65,10 @@ publish_all-requires-clause-agrees g c =
     let fits : Fits told_of (belongs IsLater key) (wires t) p x v =
     subst (λ (k : Program). Fits told_of (belongs IsLater key) (wires k) p x v) c.requires.floor.network
     (subst (λ (k : Tasked). Fits told_of (belongs IsLater key) (wires key.network.value) p k v) same h.2) in
-    let first : AgreesWith x.work x.published v.flushed = agrees_with t c.wired.ensures key p x v is fits in
+    let first : AgreesWith x.work x.published v.flushed = agrees_with t c.wired.ensures key p x v is (is_published key t code p x c.requires.floor c.requires.inside fits.belonging) fits in
     let known : c.run_task-done.new.seat.seat.me.0.flushed ≡ v.flushed = c.run_task-done.ensures.known ∙ ap (λ (k : View). k.flushed) c.take_cell-task.ensures.same.1 in
     subst (λ (l : List ℕ). AgreesWith c.run_task-done.new.task.work c.run_task-done.new.task.published l) (sym known)
-    (agrees_later x c.run_task-done.new.task v.flushed c.run_task-done.ensures.later c.run_task-done.ensures.published first)
+    (agrees_later x c.run_task-done.new.task v.flushed c.run_task-done.ensures.continues c.run_task-done.ensures.published first)
 
 pub due_of-due-requires-clause-task : goal.due_of-due-requires-clause-task
 due_of-due-requires-clause-task g c =
@@ -81,7 +81,7 @@ due_of-due-requires-clause-task g c =
     let x = c.take_cell-task.result in
     let same : y ≡ x = c.take_cell-task.ensures.cell c.args.drawn 0 y h.1 in
     let is : IsTaskOf t p x = subst (IsTaskOf t p) same (task_of key t code p y c.requires.floor c.requires.inside h.2.belonging) in
-    task_work t p c.run_task-done.new.task c.publish_all.new.task (task_later t p x c.run_task-done.new.task is c.run_task-done.ensures.later) c.publish_all.ensures.task.0
+    task_work t p c.run_task-done.new.task c.publish_all.new.task (task_later t p x c.run_task-done.new.task is c.run_task-done.ensures.continues) c.publish_all.ensures.task.0
 
 pub put-requires-clause-holds : goal.put-requires-clause-holds
 put-requires-clause-holds g c =
@@ -149,7 +149,7 @@ rest-requires-clause-holds g c =
     (subst (λ (k : Program). Knows (wires k) p c.put.new.seat.seat.me.0 v3) c.requires.floor.network c.give.ensures.knows) in
     let after : Fits told_of (belongs IsLater key) (wires t) p c.publish_all.new.task v3 =
     fits_spent t c.wired.ensures key p done x c.run_task-done.new.task c.publish_all.new.task v0 v1 v2 v3 is fits taken.loose
-    c.run_task-done.ensures.later c.run_task-done.ensures.events.0 (c.run_task-done.ensures.kept p) c.run_task-done.ensures.delivered
+    c.run_task-done.ensures.continues c.run_task-done.ensures.events.0 (c.run_task-done.ensures.kept p) c.run_task-done.ensures.delivered
     c.publish_all.ensures.task.0 c.publish_all.ensures.kept c.publish_all.ensures.agrees c.publish_all.ensures.all knows (omega (arith, loose, least)) in (
       c.args.drawn - (c.args.drawn - done),
       c.publish_all.new.task,

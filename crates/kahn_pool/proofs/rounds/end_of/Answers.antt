@@ -8,7 +8,7 @@ use Rattle.kahn_pool.proofs.rounds.end_of.Goals as goal
 use Rattle.kahn_pool.proofs.rounds.end_of.Goals.{in-Spent, in-NoMemory, in-Ended, in-Fault, in-Dry}
 
 pub returns-clause-rests : goal.returns-clause-rests
-returns-clause-rests g c v =
+returns-clause-rests g c =
     let s = g.B.Bench.state c.args.bench.now in
     let p = c.args.instance in
     let h = c.requires.paused in
@@ -17,11 +17,11 @@ returns-clause-rests g c v =
       stood = h.stood;
       count = c.events.ensures;
       told = elim c.match-stopped.branch [
-        | in-Spent w ↦ told_as s p v o _ _ _ _ w.in-Spent.is w.outcome-is h.told (λ y. y)
-        | in-NoMemory w ↦ told_as s p v o _ _ _ _ w.in-NoMemory.is w.outcome-is h.told (λ y. inl y)
-        | in-Ended w ↦ told_as s p v o _ _ _ _ w.in-Ended.is w.outcome-is h.told (λ y. y)
-        | in-Fault w ↦ told_as s p v o _ _ _ _ w.in-Fault.is w.outcome-is h.told (λ y. y)
-        | in-Dry w ↦ told_as s p v o _ _ _ _ w.in-Dry.is w.outcome-is h.told (λ y. told_dry s p v o w.in-Dry.parameter w.channel.result (y.1 ∙ ap Reads (sym (w.channel.ensures y.0 y.1))) y)
+        | in-Spent w ↦ told_as s p o _ _ _ _ w.in-Spent.is w.outcome-is h.told (λ y. y)
+        | in-NoMemory w ↦ told_as s p o _ _ _ _ w.in-NoMemory.is w.outcome-is h.told (λ y. inl y)
+        | in-Ended w ↦ told_as s p o _ _ _ _ w.in-Ended.is w.outcome-is h.told (λ y. y)
+        | in-Fault w ↦ told_as s p o _ _ _ _ w.in-Fault.is w.outcome-is h.told (λ y. y)
+        | in-Dry w ↦ told_as s p o _ _ _ _ w.in-Dry.is w.outcome-is h.told (λ y. told_dry s p o w.in-Dry.parameter w.channel.result (y.1 ∙ ap Reads (sym (w.channel.ensures y.0 y.1))) y)
       ];
     }
 

@@ -20,7 +20,7 @@ invariant_of-board g c = let told = g.T.Told.told in let t = c.in-Ok-new.ensures
       sized = (omega (arith, t.0, ap length c.as_slice.ensures.value, b.long, c.requires.numbers_are, b.counts.1), t.1 ∙ (ap length c.into_slots-cells.ensures.2 ∙ (length-map c.args.cells.items Some ∙ (c.requires.cells_are ∙ sym b.counts.0))));
       counts = (ap (λ w. w.instances) key ∙ sym b.counts.0, ap (λ w. w.channels) key ∙ sym b.counts.1);
       limits = b.limits;
-      roomy = (b.rooms.2, b.rooms.3);
+      roomy = b.room;
       read = (b.readers.0, λ q near. b.readers.1 q near ∙ sym (ap (λ w. w.reader q) key));
     }
 

@@ -1,10 +1,5 @@
-use Rattle.std.proofs.Common.{◌≡◌, ◌+◌, sym, ◌∙◌, subst}
-use Rattle.kahn_network.specs.Network.{network_of}
-use Rattle.kahn_streams.specs.Tokens.{inputs_of}
-use Rattle.kahn_code.specs.Progress.{Paused, IsPause}
-use Rattle.kahn_code.specs.Told.{told_view}
-use Rattle.kahn_job.specs.Ends.{IsDry, IsReady}
-use Rattle.kahn_job.specs.Berths.{end_at}
+use Rattle.std.proofs.Common.{sym, ◌∙◌, subst}
+use Rattle.kahn_job.specs.Works.{HasPaused}
 use Rattle.kahn_crew.specs.Tasks.{Tasked}
 use Rattle.kahn_crew.proofs.Trues.{true_after, same_width}
 use Rattle.kahn_crew.proofs.task.Task.run.Goals as goal
@@ -19,7 +14,4 @@ invariant_of-self g c =
 
 pub returns-clause-paused : goal.returns-clause-paused
 returns-clause-paused g c =
-    let w = c.run-pause.new.self in
-    subst (λ (x : Tasked). Paused (network_of w.cell.network) (inputs_of w.cell.input) w.cell.watch w.cell.instance (told_view w.cell)
-    (IsPause (network_of w.cell.network) w.cell.instance (λ q. IsDry (end_at w.ends q)) (λ q. IsReady (end_at w.ends q))
-    (w.cell.events ≡ x.work.cell.events + c.args.quantum) c.run-pause.result)) c.self.view_is c.run-pause.ensures.paused
+    subst (λ (x : Tasked). HasPaused x.work c.run-pause.new.self c.args.quantum c.run-pause.result) c.self.view_is c.run-pause.ensures.paused

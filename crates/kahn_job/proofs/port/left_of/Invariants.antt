@@ -1,0 +1,5 @@
+use Rattle.kahn_lane.specs.LaneEnds.{left}
+use Rattle.kahn_job.proofs.port.left_of.Given as goal
+
+abbrev pub ghost-named_count : goal.ghost-named_count
+ghost-named_count a = left a._receiver.now
