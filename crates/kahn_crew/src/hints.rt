@@ -5,8 +5,11 @@ use kahn_streams::memory::NoMemory;
 use std::alloc::AllocError;
 
 /// The hints of one worker: its own, and those of the others, which it may steal. A hint that is out of date does no harm.
+/// The oldest two of its own stand beside the deque, where no step on a word that others see is needed for them.
 #[derive(Drop)]
 pub struct Hints {
+    first: Option<usize>,
+    second: Option<usize>,
     own: Worker<usize>,
     others: Vec<Stealer<usize>>,
 }
@@ -14,7 +17,12 @@ pub struct Hints {
 impl Hints {
     /// The hints of a worker.
     pub fn new(own: Worker<usize>, others: Vec<Stealer<usize>>) -> Hints {
-        Hints { own, others }
+        Hints {
+            first: None,
+            second: None,
+            own,
+            others,
+        }
     }
 
     /// What others take the hints with.
@@ -30,12 +38,26 @@ impl Hints {
 
     /// One hint more. False where memory was refused.
     pub fn push(&mut self, instance: usize) -> bool {
-        self.own.push(instance).is_ok()
+        if self.second.is_some() || !self.own.is_empty() {
+            return self.own.push(instance).is_ok();
+        }
+        if self.first.is_some() {
+            self.second = Some(instance);
+        } else {
+            self.first = Some(instance);
+        }
+        true
     }
 
-    /// A hint of its own.
+    /// The oldest hint of its own.
     pub fn next(&mut self) -> Option<usize> {
-        self.own.pop()
+        let oldest = self.first;
+        self.first = self.second;
+        self.second = None;
+        match oldest {
+            Some(instance) => Some(instance),
+            None => self.own.pop(),
+        }
     }
 
     /// A hint of another worker.

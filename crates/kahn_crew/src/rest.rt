@@ -38,14 +38,14 @@ impl Rest {
         self.slept = 0;
     }
 
-    /// Pauses, for some tens of microseconds. A worker that slept since it found something looks at once.
+    /// How often it pauses before it looks elsewhere. A worker that slept since it found something looks at once.
+    pub(crate) fn pauses(&self) -> usize {
+        if self.slept > 0 { 0 } else { PAUSES }
+    }
+
+    /// Pauses, for a microsecond or less.
     pub(crate) fn pause(&self) {
-        if self.slept > 0 {
-            return;
-        }
-        for _ in 0..PAUSES {
-            self.backoff.snooze();
-        }
+        self.backoff.snooze();
     }
 
     /// Sleeps, where nothing was found anywhere.

@@ -2,13 +2,13 @@
 
 ghost use Rattle.std.specs.Prelude.{◌≡◌, ◌⊎◌, ℕ, ◌+◌, ◌<◌, ◌≤◌, ◌^◌, length, slice_index, OnErr, OnOk, Option, Some};
 ghost use Rattle.kahn_network.specs.Network.{network_of};
-ghost use Rattle.kahn_board.specs.Dealt.{belongs, wired};
+ghost use Rattle.kahn_board.specs.Dealt.{wired};
 ghost use Rattle.kahn_code.specs.declared.progress.Pause.TheVariants.{NoMemory as IsWant};
 ghost use Rattle.kahn_job.specs.Works.{IsDelivered};
-ghost use Rattle.kahn_desk.specs.Turn.{Fits, Holds, IsIdle, IsSeatOf};
-ghost use Rattle.kahn_crew.specs.Floors.{HasKept, IsFloor, IsTaskOf};
-ghost use Rattle.kahn_crew.specs.Rests.{IsDue};
-ghost use Rattle.kahn_crew.specs.Tasks.{Continues, IsLater, Tasked, told_of};
+ghost use Rattle.kahn_desk.specs.Turn.{Holds, IsIdle, IsSeatOf};
+ghost use Rattle.kahn_crew.specs.Floors.{HasKept, HasTask, IsFloor, IsTaskOf};
+ghost use Rattle.kahn_crew.specs.Rests.{CanRest, IsDue};
+ghost use Rattle.kahn_crew.specs.Tasks.{Continues, IsLater, Tasked};
 ghost use Rattle.kahn_crew.specs.declared.standing.Standing.TheVariants.{Going as IsGoing};
 
 use crate::floor::Floor;
@@ -111,7 +111,7 @@ fn run_task<'n, L: Ledger>(
 fn rest<'n>(floor: &Floor<'_, 'n>, seat: &mut Seat<Task<'n>>, hints: &mut Hints, p: usize, due: Due)
     requires board { seat.old.seat.table_id ≡ floor.now.board.now.table.shared.table_id }
     requires wires { ((wired floor.now.board.now.table.shared.key).channels ≡ floor.now.board.now.channels) }
-    requires holds { (l : ℕ) × (y : Tasked) × Holds p 0 l (Some y) seat.old × Fits told_of (belongs IsLater floor.now.board.now.table.shared.key) (wired floor.now.board.now.table.shared.key) p y seat.old.seat.me.0 × IsDue (wired floor.now.board.now.table.shared.key) p y due }
+    requires holds { CanRest floor.now.board.now.table.shared.key p due seat.old }
     ensures same { IsSeatOf seat.old seat.new }
     ensures idle { IsIdle seat.new }
 {
@@ -142,7 +142,7 @@ fn spend<'n, L: Ledger>(
     requires floor { IsFloor floor.now.board.now.table.shared.key floor.now.routes.now floor.now.code.now.network.value }
     requires inside { p < length (network_of floor.now.routes.now).instances }
     requires few { slice_index seat.old.seat.me.0.got p + drawn < 2 ^ 48 }
-    requires holds { (y : Tasked) × Holds p drawn 0 (Some y) seat.old × Fits told_of (belongs IsLater floor.now.board.now.table.shared.key) (wired floor.now.board.now.table.shared.key) p y seat.old.seat.me.0 }
+    requires holds { HasTask floor.now.board.now.table.shared.key p drawn seat.old }
     ensures same { IsSeatOf seat.old seat.new }
     ensures idle { IsIdle seat.new }
 {
@@ -170,7 +170,7 @@ pub(crate) fn turn<'n, R: Wait, G: Gate, L: Ledger>(
     requires floor { IsFloor floor.now.board.now.table.shared.key floor.now.routes.now floor.now.code.now.network.value }
     requires inside { p < length (network_of floor.now.routes.now).instances }
     requires quantum { 0 < floor.now.quantum }
-    requires holds { (y : Tasked) × Holds p 0 0 (Some y) seat.old × Fits told_of (belongs IsLater floor.now.board.now.table.shared.key) (wired floor.now.board.now.table.shared.key) p y seat.old.seat.me.0 }
+    requires holds { HasTask floor.now.board.now.table.shared.key p 0 seat.old }
     ensures same { IsSeatOf seat.old seat.new }
     ensures idle { IsIdle seat.new }
 {

@@ -1,11 +1,8 @@
 //! A worker: it takes one instance after another, until there is a reason to leave.
 
-ghost use Rattle.std.specs.Prelude.{◌≡◌, ◌<◌, length, IfSome, IfNone, Some};
-ghost use Rattle.kahn_network.specs.Network.{network_of};
-ghost use Rattle.kahn_board.specs.Dealt.{belongs, wired};
-ghost use Rattle.kahn_desk.specs.Turn.{Fits, Holds, IsIdle, IsSeatOf};
-ghost use Rattle.kahn_crew.specs.Floors.{IsFloor};
-ghost use Rattle.kahn_crew.specs.Tasks.{IsLater, Tasked, told_of};
+ghost use Rattle.std.specs.Prelude.{◌≡◌, ◌<◌, IfSome, IfNone};
+ghost use Rattle.kahn_desk.specs.Turn.{IsIdle, IsSeatOf};
+ghost use Rattle.kahn_crew.specs.Floors.{HasTask, IsFloor};
 
 use crate::floor::Floor;
 use crate::gate::Gate;
@@ -19,6 +16,9 @@ use kahn_desk::{go_on, pick};
 use std::marker::Brand;
 use std::sync::Wait;
 use std::sync::ledger::{Blank, Ledger};
+
+// For how many looks in a row an instance is to look ready, before a worker that didn't wake it takes it.
+const LONG: usize = 8;
 
 /// A worker: its seat at the board, its hints, and the instance at which it begins to look where it has none.
 #[derive(Drop)]
@@ -38,7 +38,7 @@ fn pick_hinted<'n>(
     requires board { seat.old.seat.table_id ≡ floor.now.board.now.table.shared.table_id }
     requires idle { IsIdle seat.old }
     ensures same { IsSeatOf seat.old seat.new }
-    ensures picked { IfSome result (λ p. (p < floor.now.board.now.instances) × ((y : Tasked) × Holds p 0 0 (Some y) seat.new × Fits told_of (belongs IsLater floor.now.board.now.table.shared.key) (wired floor.now.board.now.table.shared.key) p y seat.new.seat.me.0)) }
+    ensures picked { IfSome result (λ p. (p < floor.now.board.now.instances) × HasTask floor.now.board.now.table.shared.key p 0 seat.new) }
     ensures left { IfNone result (IsIdle seat.new) }
 {
     for _ in 0..floor.board.instances {
@@ -58,7 +58,7 @@ fn pick_any<'n>(floor: &Floor<'_, 'n>, seat: &mut Seat<Task<'n>>, start: usize) 
     requires board { seat.old.seat.table_id ≡ floor.now.board.now.table.shared.table_id }
     requires idle { IsIdle seat.old }
     ensures same { IsSeatOf seat.old seat.new }
-    ensures picked { IfSome result (λ p. (p < floor.now.board.now.instances) × ((y : Tasked) × Holds p 0 0 (Some y) seat.new × Fits told_of (belongs IsLater floor.now.board.now.table.shared.key) (wired floor.now.board.now.table.shared.key) p y seat.new.seat.me.0)) }
+    ensures picked { IfSome result (λ p. (p < floor.now.board.now.instances) × HasTask floor.now.board.now.table.shared.key p 0 seat.new) }
     ensures left { IfNone result (IsIdle seat.new) }
 {
     let count = floor.board.instances;
@@ -71,16 +71,44 @@ fn pick_any<'n>(floor: &Floor<'_, 'n>, seat: &mut Seat<Task<'n>>, start: usize) 
     None
 }
 
-// Picks an instance where the worker has no hints of its own: one that another's hint names, or else any that is ready. It
-// waits a little first, so that an instance is seldom taken from the worker that woke it.
+// An instance that looks ready, from the one with that number on, round all of them.
+fn looking_ready(floor: &Floor<'_, '_>, start: usize) -> Option<usize> {
+    let count = floor.board.instances;
+    for step in 0..count {
+        let p = (start % count + step) % count;
+        if floor.board.looks_ready(p) {
+            return Some(p);
+        }
+    }
+    None
+}
+
+// Waits a little, until an instance has looked ready for some time: it is seldom taken from the worker that woke it then.
+fn wait_a_little(floor: &Floor<'_, '_>, rest: &Rest, start: usize) {
+    let mut last = None;
+    let mut since = 0;
+    for look in 0..rest.pauses() {
+        rest.pause();
+        let found = looking_ready(floor, start);
+        if found != last {
+            last = found;
+            since = look;
+        }
+        if found.is_some() && look.saturating_sub(since) >= LONG {
+            return;
+        }
+    }
+}
+
+// Picks an instance where the worker has no hints of its own: one that another's hint names, or else any that is ready.
 fn pick_elsewhere<'n>(floor: &Floor<'_, 'n>, worker: &mut Worker<'n>, rest: &Rest) -> Option<usize>
     requires board { worker.old.seat.seat.table_id ≡ floor.now.board.now.table.shared.table_id }
     requires idle { IsIdle worker.old.seat }
     ensures same { IsSeatOf worker.old.seat worker.new.seat }
-    ensures picked { IfSome result (λ p. (p < floor.now.board.now.instances) × ((y : Tasked) × Holds p 0 0 (Some y) worker.new.seat × Fits told_of (belongs IsLater floor.now.board.now.table.shared.key) (wired floor.now.board.now.table.shared.key) p y worker.new.seat.seat.me.0)) }
+    ensures picked { IfSome result (λ p. (p < floor.now.board.now.instances) × HasTask floor.now.board.now.table.shared.key p 0 worker.new.seat) }
     ensures left { IfNone result (IsIdle worker.new.seat) }
 {
-    rest.pause();
+    wait_a_little(floor, rest, worker.start);
     match pick_hinted(floor, &mut worker.seat, &mut worker.hints, true) {
         Some(p) => Some(p),
         None => pick_any(floor, &mut worker.seat, worker.start),
@@ -92,7 +120,7 @@ fn pick_next<'n>(floor: &Floor<'_, 'n>, worker: &mut Worker<'n>, rest: &Rest) ->
     requires board { worker.old.seat.seat.table_id ≡ floor.now.board.now.table.shared.table_id }
     requires idle { IsIdle worker.old.seat }
     ensures same { IsSeatOf worker.old.seat worker.new.seat }
-    ensures picked { IfSome result (λ p. (p < floor.now.board.now.instances) × ((y : Tasked) × Holds p 0 0 (Some y) worker.new.seat × Fits told_of (belongs IsLater floor.now.board.now.table.shared.key) (wired floor.now.board.now.table.shared.key) p y worker.new.seat.seat.me.0)) }
+    ensures picked { IfSome result (λ p. (p < floor.now.board.now.instances) × HasTask floor.now.board.now.table.shared.key p 0 worker.new.seat) }
     ensures left { IfNone result (IsIdle worker.new.seat) }
 {
     match pick_hinted(floor, &mut worker.seat, &mut worker.hints, false) {

@@ -1,5 +1,5 @@
 -- Tokens at consecutive places, and what they are of.
-use Rattle.std.proofs.Common.{◌≡◌, ◌<◌, ℕ, zero, suc, ◌+◌, List, [], ◌∷◌, ◌++◌, length, slice_index_or, Some, None, arith, ap, sym, ◌∙◌}
+use Rattle.std.proofs.Common.{◌≡◌, ◌<◌, ℕ, zero, suc, ◌+◌, ◌-◌, List, [], ◌∷◌, ◌++◌, length, slice_index_or, Option, Some, None, arith, ap, sym, ◌∙◌, subst}
 use Rattle.kahn_tree.specs.declared.tree.Program.{Program}
 use Rattle.kahn_streams.specs.Tokens.{Lists}
 use Rattle.kahn_streams.specs.Streams.{IsOf}
@@ -7,6 +7,8 @@ use Rattle.kahn_streams.specs.declared.token.Token.{Token}
 use Rattle.kahn_streams.specs.declared.value.Line.TheVariants.{Channel}
 use Rattle.kahn_streams.specs.declared.carried.Carried.{Carried}
 use Rattle.kahn_lane.specs.declared.name.LaneName.{LaneName}
+use Rattle.kahn_lane.specs.declared.segments.Segment.{Segment}
+use Rattle.kahn_lane.specs.LaneRule.{tokens_of}
 use Rattle.kahn_lane.specs.Places.{Named, Placed, token_name, lane_name, moved_to}
 
 pub placed_more : (c : Named) (n : ℕ) (xs : List Carried) (x : Carried) (t : Token) → Placed c n xs → x.token.value ≡ t → c ≡ Some (token_name t) → t.place ≡ n + length xs → Placed c n (xs ++ x ∷ [])
@@ -40,3 +42,17 @@ token_name-moved input t u line network is = λ i. record { network = sym networ
 
 pub same_name : (a b : LaneName) → Some a ≡ Some b → a ≡ b
 same_name a b e = ap (name_or a) e
+
+module _ {A : Type 0} where
+  abbrev with_alone : Segment A → Option Carried → Segment A
+  with_alone s r = record s { alone = r }
+
+  alone_is : (s : Segment A) (xs : List Carried) (r : Option Carried) → length xs ≡ 1 → ((d : Carried) → r ≡ Some (slice_index_or xs 0 d)) → tokens_of (with_alone s r) ≡ xs
+  alone_is s [] r one is = absurd (omega (arith, one))
+  alone_is s (x ∷ []) r one is = ap (λ (k : Option Carried). tokens_of (with_alone s k)) (is x)
+  alone_is s (x ∷ y ∷ zs) r one is = absurd (omega (arith, one))
+
+  -- a segment with what is popped off a list of one token has the token of the list
+  pub tokens_alone : (s : Segment A) (xs : List Carried) (n : ℕ) → n ≡ 1 → length xs ≡ n → ((d : Carried) → 0 < n → s.alone ≡ Some (slice_index_or xs (n - 1) d)) → tokens_of s ≡ xs
+  tokens_alone s xs n one counts value =
+      alone_is s xs s.alone (omega (arith, one, counts)) (λ d. subst (λ (k : ℕ). 0 < k → s.alone ≡ Some (slice_index_or xs (k - 1) d)) one (value d) (omega arith))

@@ -1,7 +1,8 @@
 -- The rule of a lane's deque: the segments in it have consecutive places, from the reader's number of stolen tokens to the writer's number of flushed ones.
-use Rattle.std.specs.Prelude.{◌≡◌, ℕ, ◌+◌, ◌^◌, ◌<◌, ◌≤◌, ◌⊎◌, true, List, [], ◌∷◌, length}
+use Rattle.std.specs.Prelude.{◌≡◌, ℕ, ◌+◌, ◌^◌, ◌<◌, ◌≤◌, ◌⊎◌, true, List, [], ◌∷◌, length, Option, Some, None}
 use mathlib.Core.Option.{some}
 use lib.ListN.{get_elem?}
+use Rattle.kahn_lane.specs.declared.carried.Carried.{Carried}
 use Rattle.kahn_lane.specs.declared.segments.Mark.{Mark}
 use Rattle.kahn_lane.specs.declared.segments.Segment.{Segment}
 use Rattle.kahn_lane.specs.declared.segments.Stage.TheVariants as stage
@@ -22,13 +23,21 @@ Fits writer reader name flushed stolen port v =
     (v.stage ≡ stage.Running) × Writes writer name flushed port v × Reads reader name flushed stolen port v
 
 module _ {A : Type 0} where
+  -- the tokens of a segment
+  abbrev pub tokens_of : Segment A → List Carried
+  tokens_of s = given s.alone
+    where
+      given : Option Carried → List Carried
+      given None = s.tokens.items
+      given (Some c) = c ∷ []
+
   -- how many tokens a segment has
   abbrev pub size : Segment A → ℕ
-  size s = length s.tokens.items
+  size s = length (tokens_of s)
 
   -- a segment has some tokens, of this name, at the places from n on
   abbrev pub Filled : Named → ℕ → Segment A → Type 0
-  Filled name n s = (0 < size s) × Placed name n s.tokens.items
+  Filled name n s = (0 < size s) × Placed name n (tokens_of s)
 
   -- the segments have the tokens of the places from one number up to another, in order, none left out and none twice
   abbrev pub Chain : Named → ℕ → ℕ → List (Segment A) → Type 0

@@ -4,10 +4,11 @@
 //! the reader is to see it. The reader steals a segment where its own is used up, and takes its tokens one by one.
 //! No call ever holds its thread.
 
-ghost use Rattle.std.specs.Prelude.{◌≡◌, ◌+◌, ◌≤◌, ◌<◌, ◌^◌, ◌⊎◌, true, false, vec_len, IfOk, IsOk, IsSome, MatchResult, MatchOption, Some};
+ghost use Rattle.std.specs.Prelude.{◌≡◌, ◌+◌, ◌≤◌, ◌<◌, ◌^◌, ◌⊎◌, true, false, vec_len, vec_capacity, IfOk, IsOk, IsSome, MatchResult, MatchOption, Some};
 ghost use Rattle.crossbeam_deque.specs.Handles.{worker_view, worker_deque, worker_flavor, stealer_deque, stealer_flavor};
 ghost use Rattle.kahn_lane.specs.Places.{lane_name, token_name, tag_name, owner};
-ghost use Rattle.kahn_lane.specs.LaneEnds.{sender_lane, receiver_lane, sender_name, receiver_name, flushed, sent, HasRoom, taken, waiting, IsReady, known, left, SameSender, SameReceiver};
+ghost use Rattle.kahn_lane.specs.LaneRule.{size, tokens_of};
+ghost use Rattle.kahn_lane.specs.LaneEnds.{sender_lane, receiver_lane, sender_name, receiver_name, filled, flushed, sent, HasRoom, taken, waiting, IsReady, known, left, SameSender, SameReceiver};
 
 use crate::fault::LaneFault;
 use crate::name::{Tag, make_tag};
@@ -41,6 +42,7 @@ fn opened<A: Allocator + Clone + Drop>(
 {
     let head = Segment {
         tag: Some(tag),
+        alone: None,
         tokens: Vec::new(alloc.clone()?),
     };
     let mut worker = LaneWorker::<A>::fifo_as(alloc, 1)?;
@@ -67,7 +69,7 @@ pub(crate) fn lane_from<A: Allocator + Clone + Drop>(
     ensures dry { IfOk result (λ r. vec_len r.1.current ≡ 0) }
 {
     let left = Vec::new(alloc.clone()?);
-    let right = Vec::new(alloc.clone()?);
+    let right = Vec::with_capacity(alloc.clone()?, 1)?;
     let (mut worker, stealer) = opened(alloc, head)?;
     let pass = worker.another::<Sides>();
     let (line, from) = (tag.line, tag.from);
@@ -133,18 +135,55 @@ impl<A: Allocator + Clone + Drop> Sender<A> {
         ensures flushed { MatchResult result (λ n. (n ≡ sent self.old) × (flushed self.new ≡ sent self.old)) (λ _. flushed self.new ≡ flushed self.old) }
         ensures idle { sent self.old ≡ flushed self.old → IsOk result }
     {
-        if self.current.is_empty() {
-            return Ok(self.flushed);
+        match self.current.len() {
+            0 => Ok(self.flushed),
+            1 => self.flush_alone(),
+            _ => self.flush_list(),
         }
+    }
+
+    // Flushes the one token of the open segment, whose list stays.
+    fn flush_alone(&mut self) -> Result<u64, NoMemory>
+        requires { filled self.old ≡ 1 }
+        ensures same { SameSender self.old self.new × (sent self.new ≡ sent self.old) }
+        ensures flushed { MatchResult result (λ n. (n ≡ sent self.old) × (flushed self.new ≡ sent self.old)) (λ _. flushed self.new ≡ flushed self.old) }
+    {
+        let Ok(alloc) = self.current.allocator().clone() else {
+            return Err(NoMemory);
+        };
+        let segment = Segment {
+            tag: None,
+            alone: self.current.pop(),
+            tokens: Vec::new(alloc),
+        };
+        match self.worker.push_as::<Flushed>(segment) {
+            Ok(()) => {
+                self.flushed += 1;
+                Ok(self.flushed)
+            }
+            Err(back) => {
+                self.current.push_reserved(back.alone.unwrap());
+                Err(NoMemory)
+            }
+        }
+    }
+
+    // Flushes the open segment with its list.
+    fn flush_list(&mut self) -> Result<u64, NoMemory>
+        requires { 0 < filled self.old }
+        ensures same { SameSender self.old self.new × (sent self.new ≡ sent self.old) }
+        ensures flushed { MatchResult result (λ n. (n ≡ sent self.old) × (flushed self.new ≡ sent self.old)) (λ _. flushed self.new ≡ flushed self.old) }
+    {
         let Ok(alloc) = self.current.allocator().clone() else {
             return Err(NoMemory);
         };
         let count = self.current.len() as u64;
         let tokens = mem::replace(&mut self.current, Vec::new(alloc));
-        match self
-            .worker
-            .push_as::<Flushed>(Segment { tag: None, tokens })
-        {
+        match self.worker.push_as::<Flushed>(Segment {
+            tag: None,
+            alone: None,
+            tokens,
+        }) {
             Ok(()) => {
                 self.flushed += count;
                 Ok(self.flushed)
@@ -180,6 +219,27 @@ impl<A: Allocator> Sender<A> {
         ensures { result ≡ flushed self.now }
     {
         self.flushed
+    }
+}
+
+// The list has the tokens of the segment from now on.
+fn fill<A: Allocator + Drop>(current: &mut Vec<Carried, A>, segment: Segment<A>)
+    requires room { 1 ≤ vec_capacity current.old }
+    requires some { 0 < size segment }
+    ensures tokens { current.new.items ≡ tokens_of segment }
+    ensures room { 1 ≤ vec_capacity current.new }
+{
+    let Segment {
+        tag: _,
+        alone,
+        tokens,
+    } = segment;
+    match alone {
+        None => *current = tokens,
+        Some(token) => {
+            current.clear();
+            current.push_reserved(token);
+        }
     }
 }
 
@@ -231,7 +291,7 @@ impl<A: Allocator + Drop> Receiver<A> {
             match self.stealer.steal_as::<Stolen>(&mut self.pass) {
                 Steal::Success(segment) => {
                     self.from = taken;
-                    self.current = segment.tokens;
+                    fill(&mut self.current, segment);
                     self.used = 0;
                     return true;
                 }

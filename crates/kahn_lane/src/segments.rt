@@ -10,7 +10,7 @@
 //! The rule of a deque is fixed before any network or input is there, so it can't name them. A lane learns them from
 //! a first segment, without tokens, which its maker pushes and takes out again before the ends are parted.
 
-ghost use Rattle.std.specs.Prelude.{◌≡◌, ◌+◌, ◌≤◌, ◌^◌, is_some, true, false, Some, vec_len};
+ghost use Rattle.std.specs.Prelude.{◌≡◌, ◌+◌, ◌≤◌, ◌^◌, is_some, true, false, Some, vec_len, vec_capacity};
 ghost use Rattle.crossbeam_deque.specs.Handles.{view, worker_view, worker_flavor, worker_index, worker_capacity, stealer_deque, stealer_flavor};
 ghost use Rattle.kahn_lane.specs.Places.{IsOn, IsOn-prop, Placed, Placed-prop, tag_name, name-prop, stage-prop};
 ghost use Rattle.kahn_lane.specs.declared.segments.Stage.TheVariants.{Running};
@@ -22,10 +22,12 @@ use kahn_streams::carried::Carried;
 use kahn_streams::value::Line;
 use std::alloc::{Allocator, Global};
 
-/// A run of tokens at consecutive places. The first one of a lane tells what the tokens are of, and has none.
+/// A run of tokens at consecutive places: one alone, which takes no list, or those of a list. The first segment of a lane
+/// tells what the tokens are of, and has none.
 #[derive(Drop)]
 pub struct Segment<A: Allocator = Global> {
     pub(crate) tag: Option<Tag>,
+    pub(crate) alone: Option<Carried>,
     pub(crate) tokens: Vec<Carried, A>,
 }
 
@@ -210,5 +212,6 @@ pub struct Receiver<A: Allocator = Global> {
     ghost counted: { (view pass).stolen ≡ from + vec_len current },
     ghost placed: { Placed (view pass).reads_on from current.items } by { Placed-prop (view pass).reads_on from current.items },
     ghost within: { used ≤ vec_len current },
+    ghost roomy: { 1 ≤ vec_capacity current },
     ghost limited: { from + vec_len current ≤ 2 ^ 48 },
 }

@@ -8,6 +8,7 @@ ghost use Rattle.std.specs.Prelude.{◌≡◌, ◌+◌, ◌-◌, ◌≤◌, ◌<
 ghost use Rattle.crossbeam_deque.specs.Handles.{worker_view, worker_flavor};
 ghost use Rattle.kahn_lane.specs.Places.{Placed, moved_to, tag_name, token_name};
 ghost use Rattle.kahn_lane.specs.LaneEnds.{sender_lane, receiver_lane, sender_name, receiver_name, flushed, sent, taken, waiting, IsReady, known};
+ghost use Rattle.kahn_lane.specs.LaneRule.{size, tokens_of};
 ghost use Rattle.kahn_lane.specs.Settles.{IsGrown, LiftsTo, SameLifted};
 ghost use Rattle.kahn_lane.specs.declared.name.LaneName.{LaneName};
 ghost use Rattle.kahn_lane.specs.declared.segments.Stage.TheVariants.{Running};
@@ -16,7 +17,7 @@ use crate::fault::LaneFault;
 use crate::lanes::lane_from;
 use crate::lifted::Lifted;
 use crate::name::move_tag;
-use crate::segments::{Behind, Emptied, LaneWorker, Receiver, Sender, Sides};
+use crate::segments::{Behind, Emptied, LaneWorker, Receiver, Segment, Sender, Sides};
 use kahn_streams::carried::Carried;
 use kahn_streams::input::Input;
 use kahn_streams::memory::NoMemory;
@@ -60,7 +61,21 @@ impl<A: Allocator + Drop> Lifted<A> {
         ensures all { self.new.first + vec_len self.new.tokens ≡ (worker_view worker.old).flushed }
     {
         while let Some(segment) = worker.pop_as::<Emptied>() {
-            self.put_all(input, segment.tokens.as_slice(), 0);
+            self.put_segment(input, &segment);
+        }
+    }
+
+    // Lifts the tokens of a segment.
+    fn put_segment(&mut self, input: &Input, segment: &Segment<A>)
+        requires room { vec_len self.old.tokens + size segment.now ≤ vec_capacity self.old.tokens }
+        requires next { Placed (Some (tag_name self.old.from)) (self.old.first + vec_len self.old.tokens) (tokens_of segment.now) }
+        requires input { LiftsTo self.old input.now }
+        ensures same { SameLifted self.old self.new }
+        ensures more { vec_len self.new.tokens ≡ vec_len self.old.tokens + size segment.now }
+    {
+        match &segment.alone {
+            None => self.put_all(input, segment.tokens.as_slice(), 0),
+            Some(token) => self.put(input, token),
         }
     }
 }
@@ -84,11 +99,11 @@ fn prepare<A: Allocator + Clone + Drop>(
     ensures name { IfOk result (λ p. (sender_name p.sender ≡ Some (moved_to input.now (tag_name sender.now.tag))) × (receiver_name p.receiver ≡ Some (moved_to input.now (tag_name sender.now.tag)))) }
     ensures start { IfOk result (λ p. (sent p.sender ≡ sent sender.now) × (flushed p.sender ≡ sent sender.now) × (taken p.receiver ≡ sent sender.now) × (known p.receiver ≡ sent sender.now)) }
     ensures dry { IfOk result (λ p. vec_len p.receiver.current ≡ 0) }
-    ensures room { IfOk result (λ p. (p.tokens.items ≡ []) × (sent sender.now ≤ taken receiver.now + vec_capacity p.tokens)) }
+    ensures room { IfOk result (λ p. (p.tokens.items ≡ []) × (1 ≤ vec_capacity p.tokens) × (sent sender.now ≤ taken receiver.now + vec_capacity p.tokens)) }
 {
     let end = sender.sent();
     let count = end.saturating_sub(receiver.taken()) as usize;
-    let tokens = Vec::with_capacity(sender.current.allocator().clone()?, count)?;
+    let tokens = Vec::with_capacity(sender.current.allocator().clone()?, count.max(1))?;
     let head = move_tag(&sender.tag, input, end);
     let tag = move_tag(&sender.tag, input, end);
     let (sender, receiver) = lane_from(sender.current.allocator().clone()?, head, tag)?;
@@ -111,6 +126,7 @@ fn gather<A: Allocator + Clone + Drop>(
     requires room { (tokens.items ≡ []) × (sent sender ≤ taken receiver + vec_capacity tokens) }
     ensures placed { Placed (Some (moved_to input.now (tag_name sender.tag))) (taken receiver) result.items }
     ensures all { taken receiver + vec_len result ≡ sent sender }
+    ensures room { vec_capacity result ≡ vec_capacity tokens }
 {
     let Sender {
         mut worker,
@@ -150,6 +166,7 @@ fn with_tokens<A: Allocator + Drop>(
     requires dry { vec_len receiver.current ≡ 0 }
     requires all { from + vec_len tokens ≡ taken receiver }
     requires placed { Placed (receiver_name receiver) from tokens.items }
+    requires room { 1 ≤ vec_capacity tokens }
     ensures same { (receiver_lane result ≡ receiver_lane receiver) × (receiver_name result ≡ receiver_name receiver) × (known result ≡ known receiver) }
     ensures tokens { (taken result ≡ from) × (waiting result ≡ vec_len tokens) }
 {

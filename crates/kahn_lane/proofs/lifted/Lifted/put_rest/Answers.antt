@@ -1,6 +1,7 @@
 use Rattle.std.proofs.Common.{arith, ap, subst, sym, ◌∙◌, Some}
 use Rattle.crossbeam_deque.specs.Handles.{worker_view}
 use Rattle.kahn_lane.specs.Places.{Placed, tag_name}
+use Rattle.kahn_lane.specs.LaneRule.{tokens_of}
 use Rattle.kahn_lane.specs.Settles.{IsGrown}
 use Rattle.kahn_lane.specs.declared.name.Tag.{Tag}
 use Rattle.kahn_lane.specs.declared.segments.Mark.{Mark}
@@ -13,20 +14,21 @@ pop_as-requires-clause-fifo g c = let i = c.loop-segment.invariant.2 in λ _. em
 pub loop-segment-preserved : goal.loop-segment-preserved
 loop-segment-preserved g c =
     let i = c.loop-segment.invariant in
-    let p = c.put_all.ensures.same in
+    let p = c.put_segment.ensures.same in
     let e = c.in-Some.ensures.rule in (
       (p.0 ∙ i.0.0, p.1 ∙ i.0.1, p.2 ∙ i.0.2, p.3 ∙ i.0.3),
       (ap (λ (t : Tag). t.input.value) p.1 ∙ i.1.0, subst (λ (t : Tag). IsGrown (tag_name t) c.args.input.now) (sym p.0) i.1.1),
       (c.pop_as.ensures.same.0.1 ∙ i.2.0, ap (λ (m : Mark). m.stage) e.2 ∙ i.2.1, ap (λ (m : Mark). m.writes) e.2 ∙ i.2.2, ap (λ (m : Mark). m.reads) e.2 ∙ i.2.3),
       ap (λ (m : Mark). m.reads_on) e.2 ∙ (i.3 ∙ ap (λ (t : Tag). Some (tag_name t)) (sym p.0)),
-      omega (arith, ap (λ (m : Mark). m.stolen) e.2, i.4, p.2, c.put_all.ensures.more, c.in-Some.segment.tokens.ok.0),
+      omega (arith, ap (λ (m : Mark). m.stolen) e.2, i.4, p.2, c.put_segment.ensures.more),
       ap (λ (m : Mark). m.flushed) e.2 ∙ i.5,
       omega (arith, ap (λ (m : Mark). m.flushed) e.2, i.6, p.2, p.3),
     )
 
-pub put_all-requires-clause-next : goal.put_all-requires-clause-next
-put_all-requires-clause-next g c =
+pub put_segment-requires-clause-next : goal.put_segment-requires-clause-next
+put_segment-requires-clause-next g c =
     let i = c.loop-segment.invariant in
     let e = c.in-Some.ensures.rule in
-    let from = (worker_view c.loop-segment.worker).stolen in
-    (from, rw (c.as_slice.ensures.value) (subst (λ m. Placed m from c.in-Some.segment.tokens.items) i.3 e.0.1), omega (arith, i.4))
+    let l = c.loop-segment in
+    let s = c.in-Some.segment in
+    subst (λ n. Placed (Some (tag_name l.self.from)) n (tokens_of s)) i.4 (subst (λ m. Placed m (worker_view l.worker).stolen (tokens_of s)) i.3 e.0.1)

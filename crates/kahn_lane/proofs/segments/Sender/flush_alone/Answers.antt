@@ -1,0 +1,18 @@
+use Rattle.std.proofs.Common.{arith, ◌≡◌, ap, length, subst, sym, None}
+use Rattle.crossbeam_deque.specs.Handles.{worker_view}
+use Rattle.kahn_lane.specs.Places.{Placed}
+use Rattle.kahn_lane.specs.LaneRule.{tokens_of}
+use Rattle.kahn_lane.specs.declared.segments.Segment.{Segment}
+use Rattle.kahn_lane.proofs.LaneMoves.{flushes}
+use Rattle.kahn_lane.proofs.Places.{tokens_alone}
+use Rattle.kahn_lane.proofs.segments.Sender.flush_alone.Goals as goal
+
+pub push_as-requires-clause-pushes : goal.push_as-requires-clause-pushes
+push_as-requires-clause-pushes g c =
+    let s = c.args.self.now in
+    let segment : Segment g.row.A.Denot = record { tag = None; alone = c.pop.result; tokens = c.new.result } in
+    let is : tokens_of segment ≡ s.current.items = tokens_alone segment s.current.items _ c.requires (omega (arith, s.current.ok.0)) c.pop.ensures.value in
+    let same = ap length is in
+    flushes _ _ _ segment s.stage s.writes
+    (omega (arith, same, c.requires, s.current.ok.0), subst (Placed (worker_view s.worker).writes_on (worker_view s.worker).flushed) (sym is) (rw s.counted s.placed))
+    (omega (arith, same, s.limited, s.counted, s.current.ok.0))
