@@ -99,6 +99,9 @@ def long_texts():
     yield row("as many comments as there may be", filled("comment;"), ENDED)
     yield row("as many assignments as there may be", filled("x:=x;", "integer x; "), ENDED)
     yield row("as many names as there may be", body("", f"integer {', '.join(names(MOST_BYTES - len(body('', 'integer ; ')))[:-1])}; "), ENDED)
+    every = [f"n{number}" for number in range(55000)]
+    each = body("; ".join(f"{name}:=1" for name in every), f"integer {', '.join(every)}; ")
+    yield row("as many names as are each written once more", each, ENDED, words=["--workers", "1"], limits="200 5")
     yield refused("brackets up to the most bytes", "begin process p(); begin print ".ljust(MOST_BYTES, "("), "1:96: nesting is too deep")
     yield refused("not up to the most bytes", filled("not ", "print "), "1:288: nesting is too deep")
     semicolons = "; " * (MOST_BYTES // 2)
