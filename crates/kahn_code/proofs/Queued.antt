@@ -132,6 +132,25 @@ pub routed_at : (s : Lines) (routes table : List (List (Option ℕ))) (i q c : �
 routed_at s routes table i q c o h at same found j =
     found ∙ ap (λ t. route t i q) same ∙ ap (λ k. route routes k q) at ∙ h.routed s.instance q ∙ joined_route (actual_of s q) c j
 
+listed_in : (row : List (Option ℕ)) (q c : ℕ) → slice_index_or row q None ≡ Some c → q < length row
+listed_in [] zero c e = absurd cc
+listed_in [] (suc q) c e = absurd cc
+listed_in (x ∷ row) zero c e = omega arith
+listed_in (x ∷ row) (suc q) c e = let r = listed_in row q c e in omega (arith, r)
+
+row_in : (rows : List (List (Option ℕ))) (p q c : ℕ) → q < length (slice_index_or rows p []) → p < length rows
+row_in [] zero q c e = absurd (omega (arith, e))
+row_in [] (suc p) q c e = absurd (omega (arith, e))
+row_in (x ∷ rows) zero q c e = omega arith
+row_in (x ∷ rows) (suc p) q c e = let r = row_in rows p q c e in omega (arith, r)
+
+pub known_listed : (s : Lines) (routes : List (List (Option ℕ))) (i q c : ℕ) → AreQueued s routes → i ≡ s.instance → Joins (actual_of s q) c → q < length (slice_index_or routes i [])
+known_listed s routes i q c h at j =
+    listed_in (slice_index_or routes i []) q c (ap (λ k. route routes k q) at ∙ h.routed s.instance q ∙ joined_route (actual_of s q) c j)
+
+pub known_row : (s : Lines) (routes : List (List (Option ℕ))) (i q c : ℕ) → AreQueued s routes → i ≡ s.instance → Joins (actual_of s q) c → i < length routes
+known_row s routes i q c h at j = row_in routes i q c (known_listed s routes i q c h at j)
+
 pub none_some : (c : ℕ) → None ≡ Some c → ⊥
 none_some c e = cc
 

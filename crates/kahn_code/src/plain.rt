@@ -1,6 +1,6 @@
 //! Every channel of a network in a plain queue, for a run on one thread.
 
-ghost use Rattle.std.specs.Prelude.{◌≡◌, ℕ, ◌<◌, length, map, slice_index_or, slice_get, Some, None, IfOk};
+ghost use Rattle.std.specs.Prelude.{◌≡◌, ℕ, ◌<◌, length, map, slice_index_or, slice_get, Some, None, IfOk, []};
 ghost use Rattle.kahn_network.specs.Network.{network_of, instance_at, actual_at};
 ghost use Rattle.kahn_network.specs.Wiring.{IsWellWired};
 ghost use Rattle.kahn_streams.specs.Tokens.{Names};
@@ -125,7 +125,7 @@ impl<A: Allocator> Plain<A> {
         ensures channel { (c : ℕ) → Joins (actual_of self.now parameter) c → result ≡ c }
         ensures inside { result < length self.now.queues }
     {
-        match route_at(&self.routes, self.instance, parameter) {
+        match known_at(&self.routes, self.instance, parameter) {
             Some(channel) => channel,
             None => unreachable!(),
         }
@@ -154,6 +154,19 @@ fn route_at<A: Allocator>(
         Some(row) => listed(row, parameter),
         None => None,
     }
+}
+
+// `route_at`, for an instance and a parameter that the table has.
+fn known_at<A: Allocator>(
+    routes: &[Vec<Option<usize>, A>],
+    instance: usize,
+    parameter: usize,
+) -> Option<usize>
+    requires instance { instance < length routes.now }
+    requires parameter { parameter < length (slice_index_or (map (λ v. v.items) routes.now) instance []) }
+    ensures { result ≡ route (map (λ v. v.items) routes.now) instance parameter }
+{
+    routes[instance][parameter]
 }
 
 impl<A: Allocator> Ports for Plain<A> {
