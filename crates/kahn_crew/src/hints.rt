@@ -1,5 +1,7 @@
 //! Hints: the numbers of instances that may be ready.
 
+ghost use Rattle.std.specs.Prelude.{◌≡◌, false, true};
+
 use crossbeam_deque::{Steal, Stealer, Worker};
 use kahn_streams::memory::NoMemory;
 use std::alloc::AllocError;
@@ -12,6 +14,7 @@ pub struct Hints {
     second: Option<usize>,
     own: Worker<usize>,
     others: Vec<Stealer<usize>>,
+    pub(crate) refused: bool,
 }
 
 impl Hints {
@@ -22,6 +25,7 @@ impl Hints {
             second: None,
             own,
             others,
+            refused: false,
         }
     }
 
@@ -36,10 +40,15 @@ impl Hints {
         Ok(())
     }
 
-    /// One hint more. False where memory was refused.
-    pub fn push(&mut self, instance: usize) -> bool {
+    /// One hint more. False where memory was refused, which stays noted.
+    pub fn push(&mut self, instance: usize) -> bool
+        ensures told { result ≡ true → self.new.refused ≡ self.old.refused }
+        ensures noted { result ≡ false → self.new.refused ≡ true }
+    {
         if self.second.is_some() || !self.own.is_empty() {
-            return self.own.push(instance).is_ok();
+            let told = self.own.push(instance).is_ok();
+            self.refused |= !told;
+            return told;
         }
         if self.first.is_some() {
             self.second = Some(instance);

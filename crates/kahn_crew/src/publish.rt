@@ -1,6 +1,6 @@
 //! What a task flushed is told to the board, so that the readers that wait for it go on.
 
-ghost use Rattle.std.specs.Prelude.{◌≡◌, ◌≢◌, ℕ, ◌<◌, ◌^◌, true, false, None, Option, IfNone};
+ghost use Rattle.std.specs.Prelude.{◌≡◌, ◌≢◌, ◌⊎◌, ℕ, ◌<◌, ◌^◌, true, false, None, Option, IfNone};
 ghost use Rattle.kahn_code.specs.Standing.{count};
 ghost use Rattle.kahn_desk.specs.Turn.{Holds, IsIdle, IsSeatOf};
 ghost use Rattle.kahn_job.specs.Works.{width_of};
@@ -76,8 +76,9 @@ pub(crate) fn hint<'n>(
     ensures idle { IsIdle seat.old → IsIdle seat.new }
     ensures kept { (p : ℕ) → HasKept p seat.old.seat.me.0 seat.new.seat.me.0 }
     ensures flushed { seat.new.seat.me.0.flushed ≡ seat.old.seat.me.0.flushed }
-    // Nothing is halted where no hint was to be given.
+    // Nothing is halted where no hint was to be given, and the run is where memory was refused for one.
     ensures none { IfNone woken (seat.new ≡ seat.old) }
+    ensures refused { (hints.new.refused ≡ hints.old.refused) ⊎ (seat.new.seat.me.0.seen ≡ 2) }
 {
     if let Some(instance) = woken {
         let told = hints.push(instance);
