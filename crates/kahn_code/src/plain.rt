@@ -202,11 +202,13 @@ impl<A: Allocator> Ports for Plain<A> {
         self.queues[channel].take()
     }
 
+    #[inline(always)]
     fn room(&mut self, parameter: usize) -> Result<(), NoMemory> {
         let channel = self.channel_of(parameter);
         self.queues[channel].room()
     }
 
+    #[inline(always)]
     fn put(&mut self, parameter: usize, token: Token) {
         let channel = self.channel_of(parameter);
         self.queues[channel].put(token);

@@ -84,11 +84,15 @@ impl<A: Allocator> Queue<A> {
     }
 
     /// Makes room for one token more.
+    #[inline(always)]
     pub fn room(&mut self) -> Result<(), NoMemory>
         ensures names { (self.new.network ≡ self.old.network) × (self.new.input ≡ self.old.input) × (self.new.channel ≡ self.old.channel) }
         ensures counts { (self.new.taken ≡ self.old.taken) × (self.new.waiting ≡ self.old.waiting) }
         ensures room { OnOk result (0 < self.new.spare) }
     {
+        if self.tokens.len() < self.tokens.capacity() {
+            return Ok(());
+        }
         self.tokens.reserve(1)?;
         Ok(())
     }
