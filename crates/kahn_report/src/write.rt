@@ -28,6 +28,7 @@ pub enum WriteFault {
 }
 
 /// Writes bytes, by as many writes as it takes.
+#[inline(always)]
 fn put<W: Write, L: Ledger>(
     writer: &mut W,
     bytes: &[u8],
@@ -49,6 +50,7 @@ fn put<W: Write, L: Ledger>(
 }
 
 /// Writes pieces one after another.
+#[inline(always)]
 fn put_all<W: Write, L: Ledger>(
     writer: &mut W,
     pieces: &[&[u8]],
@@ -64,6 +66,7 @@ fn put_all<W: Write, L: Ledger>(
 }
 
 /// Writes a space and a value.
+#[inline(always)]
 fn put_value<W: Write, L: Ledger>(
     writer: &mut W,
     value: Value,
