@@ -241,7 +241,7 @@ module _ (t : Program) (lists : Lists) (watch : Option ℕ) (workers quantum bou
     right = right;
     verdict = v;
     streams = λ s h. so_far (source (network_of t) s.line) s.line s.tokens.items (streams.each h.0 s h.1);
-    events = λ p x h. ((c.last.ends p x h).0 a.verdict).count ∙ (view_is p).0;
+    events = λ p x h. ((c.last.ends p x h).0).count ∙ (view_is p).0;
   }
 
 -- ---- what a held run keeps
