@@ -1,7 +1,7 @@
 //! A run on one thread: round after round, until a round in which nothing was done.
 
 ghost use Rattle.kahn_streams.specs.Solution.{source};
-ghost use Rattle.kahn_pool.specs.Bench.{State, HasRun, Paused, Rests, GoesIn, IsSameRun, Marked, AreEnds, IsLast, IsVerdict, AreStreams, events_at, all_events, weight};
+ghost use Rattle.kahn_pool.specs.Bench.{State, HasRun, Paused, Rests, Goes, GoesIn, IsSameRun, Marked, AreEnds, IsLast, IsVerdict, AreStreams, events_at, all_events, weight};
 ghost use Rattle.kahn_pool.specs.Gathered.{IsFrom};
 ghost use Rattle.kahn_pool.specs.Right.{IsRight, line_of, stream_lines};
 ghost use Rattle.kahn_pool.specs.declared.answer.Outcome.TheVariants as outcome;
@@ -132,7 +132,7 @@ fn one_round<B: Bench, G: Gate>(
     requires bound { all_events (B.state bench.old) + left < 2 ^ 48 }
     requires known { length (B.state bench.old).cells ≡ length (B.state bench.old).network.instances }
     requires room { length (B.state bench.old).network.instances ≤ vec_capacity ends }
-    ensures goes { GoesIn (B.state bench.old) (weight left memory) (all_events (B.state bench.old) + left) (B.state bench.new) result (length (B.state bench.new).network.instances) }
+    ensures goes { Goes (B.state bench.old) (weight left memory) (all_events (B.state bench.old) + left) (B.state bench.new) result.left result.memory result.moved result.ends.items (length (B.state bench.new).network.instances) }
     ensures same { IsSameRun (B.state bench.old) (B.state bench.new) }
     ensures room { vec_capacity result.ends ≡ vec_capacity ends }
 {
