@@ -1,32 +1,45 @@
 //! Tokens on their way.
 //!
-//! In a segment a token is its value alone: the lane tells its line and its place. Which token it is the value of stands
-//! in the type of what is carried, so the token that comes out has the fact that the one that went in had.
+//! In a segment, in a queue and in a list that is kept a token is its value alone: where it stands tells its line and its
+//! place. Contracts see the token, so the one that comes out has the fact that the one that went in had.
 
 ghost use Rattle.std.specs.Prelude.{◌≡◌, ◌<◌, ◌^◌};
-ghost use Rattle.std.specs.Coded.{Coded-set};
 ghost use Rattle.kahn_streams.specs.Tokens.{Holds, Names};
-ghost use Rattle.kahn_streams.specs.contracts.value.Value.{the_row};
 ghost use Rattle.kahn_streams.specs.declared.token.Token.{Token};
 
 use crate::about::About;
 use crate::token::Token;
 use crate::value::{Line, Value};
+use std::marker::Model;
 
-/// A token on its way: its value, and for contracts alone the token.
+/// A token on its way: its value. Contracts see the token.
 #[derive(Drop)]
 pub struct Carried {
     value: Value,
-    pub token: About<Token>,
-    ghost same: { token.value.value ≡ value } by { Coded-set the_row.coded token.value.value value },
-    ghost counted: { token.value.place < 2 ^ 64 },
+    token: About<Token>,
 }
 
-// The value of the token that the caller names.
-fn carried_of(_token: &Token, value: Value) -> Carried
+impl Model for Carried {
+    ghost use Rattle.kahn_tree.specs.contracts.tree.Action as action;
+    ghost use Rattle.kahn_tree.specs.contracts.tree.Form as form;
+    ghost use Rattle.std.specs.Coded.{codes};
+    ghost use Rattle.std.specs.Prelude.{◌≡◌, ◌<◌, ◌^◌};
+    ghost use Rattle.kahn_streams.specs.declared.token.Token.{Token as Meant};
+
+    ghost Value = { Meant };
+
+    ghost coded = { Prim.hlevel (codes, action.the_row.coded, form.the_row.coded) };
+
+    ghost view = { λ c. c.token.value };
+
+    ghost invariant = { λ c. (c.token.value.value ≡ c.value) × (c.token.value.place < 2 ^ 64) };
+}
+
+// The value of the token that the caller names, which is that of something at hand.
+fn carried_of<X>(_named: &X, value: Value) -> Carried
     ghost token: { Token }
     requires { (token.value ≡ value) × (token.place < 2 ^ 64) }
-    ensures { result.token.value ≡ token }
+    ensures { result ≡ token }
 {
     Carried {
         value,
@@ -47,17 +60,31 @@ fn token_of(_carried: &Carried, line: Line, place: u64, value: Value) -> Token
 impl Carried {
     /// What goes on its way as this token.
     pub fn of(token: Token) -> Carried
-        ensures { result.token.value ≡ token }
+        ensures { result ≡ token }
     {
         let value = token.value();
         carried_of(&token, value)
     }
 
+    /// The same once more. It takes no memory.
+    pub fn again(&self) -> Carried
+        ensures { result ≡ self.now }
+    {
+        carried_of(self, self.value)
+    }
+
     /// The token, of which the lane tells the line and the place.
     pub fn token(&self, line: Line, place: u64) -> Token
-        requires { (self.now.token.value.line ≡ line) × (self.now.token.value.place ≡ place) }
-        ensures { result ≡ self.now.token.value }
+        requires { (self.now.line ≡ line) × (self.now.place ≡ place) }
+        ensures { result ≡ self.now }
     {
         token_of(self, line, place, self.value)
+    }
+
+    /// The value of the token.
+    pub fn value(&self) -> Value
+        ensures { result ≡ self.now.value }
+    {
+        self.value
     }
 }
