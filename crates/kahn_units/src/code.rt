@@ -110,9 +110,6 @@ fn kept<A: Allocator + Copy + Drop>(cell: &Cell<A>) -> Option<usize>
     let tokens = cell.kept(1);
     for (place, token) in tokens.iter().enumerate() {
         let number = *EVEN.get(place)?;
-        if token.channel() != Line::Channel(1) || token.place() != place as u64 {
-            return None;
-        }
         if token.value() != Value::Integer(number) {
             return None;
         }
