@@ -14,7 +14,7 @@ use kahn_code::progress::Pause;
 use kahn_code::steps::Steps;
 use kahn_network::network::Network;
 use kahn_streams::input::Input;
-use kahn_streams::value::{Line, Value};
+use kahn_streams::value::Value;
 use kahn_syntax::parser::parse;
 use std::alloc::{Allocator, Global};
 use std::marker::Brand;
