@@ -1,7 +1,6 @@
 pub mod Fit
 pub mod Flattened
 pub mod Patch
-pub mod Carrying
 pub mod Rows
 pub mod Lists
 pub mod Stand

@@ -17,9 +17,9 @@ use crate::progress::{Pause, Progress};
 use crate::steps::Steps;
 use kahn_network::network::Network;
 use kahn_streams::about::About;
+use kahn_streams::carried::Carried;
 use kahn_streams::input::Input;
 use kahn_streams::memory::NoMemory;
-use kahn_streams::token::Token;
 use std::alloc::{Allocator, Global};
 use std::marker::Model;
 use std::sync::ledger::Ledger;
@@ -37,8 +37,8 @@ pub struct Cell<A: Allocator + Copy + Drop = Global> {
 /// What a cell kept: of each parameter what it sent there, where it is kept, and what it printed, in place order.
 #[derive(Drop)]
 pub struct Kept<A: Allocator + Drop = Global> {
-    pub kept: Vec<Vec<Token, A>, A>,
-    pub printed: Vec<Token, A>,
+    pub kept: Vec<Vec<Carried, A>, A>,
+    pub printed: Vec<Carried, A>,
 }
 
 impl<A: Allocator + Copy + Drop> Model for Cell<A> {
@@ -149,7 +149,7 @@ impl<A: Allocator + Copy + Drop> Cell<A> {
     }
 
     /// The tokens that it keeps of what it sent on a parameter.
-    pub fn kept(&self, parameter: usize) -> &[Token]
+    pub fn kept(&self, parameter: usize) -> &[Carried]
         requires { parameter < length self.now.kept }
         ensures { result.now ≡ slice_index_or self.now.kept parameter [] }
     {
@@ -182,7 +182,7 @@ impl<A: Allocator + Copy + Drop> Cell<A> {
     }
 
     /// The tokens of its print stream.
-    pub fn printed(&self) -> &[Token]
+    pub fn printed(&self) -> &[Carried]
         ensures { result.now ≡ self.now.printed }
     {
         self.progress.printed.as_slice()

@@ -34,7 +34,7 @@ impl<A: Allocator> Model for Queue<A> {
     ghost use Rattle.std.specs.VecDeque.{deque_len, deque_capacity};
     ghost use Rattle.kahn_streams.specs.declared.value.Line.TheVariants.{Channel};
     ghost use Rattle.kahn_streams.specs.Streams.{Follow, AllOf};
-    ghost use Rattle.kahn_code.specs.Queues.{Waiting, tokens_of};
+    ghost use Rattle.kahn_code.specs.Queues.{Waiting};
 
     ghost Value = { Waiting };
 
@@ -42,7 +42,7 @@ impl<A: Allocator> Model for Queue<A> {
 
     ghost view = { λ q. record { network = q.network.value; input = q.input.value; channel = q.channel; taken = q.taken; waiting = length q.tokens.items; spare = deque_capacity q.tokens - deque_len q.tokens } };
 
-    ghost invariant = { λ q. Follow (Channel q.channel) q.taken (tokens_of q.tokens.items) × AllOf q.network.value q.input.value (tokens_of q.tokens.items) };
+    ghost invariant = { λ q. Follow (Channel q.channel) q.taken q.tokens.items × AllOf q.network.value q.input.value q.tokens.items };
 }
 
 impl<A: Allocator> Queue<A> {
