@@ -2,7 +2,8 @@
 use Rattle.std.proofs.Common.{arith, ◌≡◌, ◌⊎◌, inl, inr, ℕ, zero, suc, ◌<◌, ◌≤◌, max, List, [], ◌∷◌, ◌++◌, length, map, refl, sym, ap, ◌∙◌, subst, Some, None, slice_get, le_refl, eq-or-lt_of_le, le_of_suc-le-suc, ◌+◌, length-append}
 use Rattle.std.proofs.Math.Nat.{le-max_left, le-max_right}
 use mathlib.Core.Path.{fun_ext}
-use Rattle.std.proofs.lemmas.List.{get_or_past, map-append}
+use Rattle.std.proofs.lemmas.List.{get_or_past, map-append, length-map}
+pub use Rattle.std.proofs.lemmas.Bool.{cases_lt as split_at}
 use Rattle.kahn_tree.specs.Syntax.{Number}
 use Rattle.std.proofs.Common.{pos, slice_index_or}
 use Rattle.kahn_streams.proofs.Frame.{Begins}
@@ -70,15 +71,6 @@ writes_past acts q d le e =
     let g : Hands (Number (pos 0)) ≡ Writes d = sym f ∙ e in
     cc
 
-pub split_at : (q n : ℕ) → (q < n) ⊎ (n ≤ q)
-split_at q zero = inr (omega arith)
-split_at zero (suc n) = inl (omega arith)
-split_at (suc q) (suc n) = by (split_at q n)
-  where
-    by : (q < n) ⊎ (n ≤ q) → (suc q < suc n) ⊎ (suc n ≤ suc q)
-    by (inl h) = inl (omega (arith, h))
-    by (inr h) = inr (omega (arith, h))
-
 module _ (N : Network) (I : Inputs) (p : ℕ) (T : Tapes) (stand : (q d : ℕ) → actual_at (instance_at N p) q ≡ Reads d → AllStand N I (Channel d) (T q)) (none : (q : ℕ) → ((d : ℕ) → actual_at (instance_at N p) q ≡ Reads d → ⊥) → T q ≡ []) where
   abbrev Begun : ℕ → ℕ → Type 0
   Begun m q = IsPrefix (T q) (tapes_of (instance_at N p) (iterate N I m) q)
@@ -132,24 +124,18 @@ module _ (N : Network) (I : Inputs) (p : ℕ) (T : Tapes) (stand : (q d : ℕ) �
       in
       (suc (max n m), prefix_get _ _ (prefix_trans _ _ _ begins (solves N I c p n m s)) k v e)
 
--- ---- one token more
+-- ---- one more
 
-some_token : {t u : Token} → Some t ≡ Some u → t ≡ u
-some_token e = cc
-
-at_push : (ts : List Token) (t : Token) (k : ℕ) (u : Token) → slice_get (ts ++ t ∷ []) k ≡ Some u → (slice_get ts k ≡ Some u) ⊎ ((k ≡ length ts) × (t ≡ u))
-at_push [] t zero u e = inr (refl, some_token e)
-at_push [] t (suc k) u e = absurd cc
-at_push (x ∷ ts) t zero u e = inl e
-at_push (x ∷ ts) t (suc k) u e = by (at_push ts t k u e)
+-- a place of a list with one more at its end
+pub at_last : {A : Type 0} (xs : List A) (x : A) (k : ℕ) (y : A) → slice_get (xs ++ x ∷ []) k ≡ Some y → (slice_get xs k ≡ Some y) ⊎ ((k ≡ length xs) × (x ≡ y))
+at_last [] x zero y e = inr (refl, let f : x ≡ y = cc in f)
+at_last [] x (suc k) y e = absurd cc
+at_last (z ∷ xs) x zero y e = inl e
+at_last (z ∷ xs) x (suc k) y e = by (at_last xs x k y e)
   where
-    by : (slice_get ts k ≡ Some u) ⊎ ((k ≡ length ts) × (t ≡ u)) → (slice_get ts k ≡ Some u) ⊎ ((suc k ≡ suc (length ts)) × (t ≡ u))
+    by : (slice_get xs k ≡ Some y) ⊎ ((k ≡ length xs) × (x ≡ y)) → (slice_get (z ∷ xs) (suc k) ≡ Some y) ⊎ ((suc k ≡ suc (length xs)) × (x ≡ y))
     by (inl h) = inl h
     by (inr h) = inr (ap suc h.0, h.1)
-
-long_map : (ts : List Token) → length (map token_value ts) ≡ length ts
-long_map [] = refl
-long_map (t ∷ ts) = ap suc (long_map ts)
 
 -- a token of this network and this input
 pub own_of : (t : Program) (lists : Lists) (u : Token) → IsOf t lists u → IsOwn (network_of t) (inputs_of lists) u
@@ -169,19 +155,19 @@ pub kept_none : (N : Network) (I : Inputs) (c : Line) → IsKept N I c [] []
 kept_none N I c = record { values = refl; places = λ k t e. absurd cc; own = λ k t e. absurd cc }
 
 pub kept_long : (N : Network) (I : Inputs) (c : Line) (vs : List Value) (ts : List Token) → IsKept N I c vs ts → length ts ≡ length vs
-kept_long N I c vs ts h = sym (long_map ts) ∙ ap length h.values
+kept_long N I c vs ts h = sym (length-map ts token_value) ∙ ap length h.values
 
 pub kept_push : (N : Network) (I : Inputs) (c : Line) (vs : List Value) (ts : List Token) (v : Value) (t : Token) → IsKept N I c vs ts → t.line ≡ c → t.place ≡ length vs → t.value ≡ v → IsOwn N I t →
     IsKept N I c (vs ++ v ∷ []) (ts ++ t ∷ [])
 kept_push N I c vs ts v t h l p w o =
     record {
       values = map-append token_value ts (t ∷ []) ∙ ap (λ x. map token_value ts ++ x ∷ []) w ∙ ap (λ xs. xs ++ v ∷ []) h.values;
-      places = λ k u e. by k u (at_push ts t k u e);
-      own = λ k u e. owned k u (at_push ts t k u e);
+      places = λ k u e. by k u (at_last ts t k u e);
+      own = λ k u e. owned k u (at_last ts t k u e);
     }
   where
     size : length vs ≡ length ts
-    size = ap length (sym h.values) ∙ long_map ts
+    size = ap length (sym h.values) ∙ length-map ts token_value
 
     by : (k : ℕ) (u : Token) → (slice_get ts k ≡ Some u) ⊎ ((k ≡ length ts) × (t ≡ u)) → (u.line ≡ c) × (u.place ≡ k)
     by k u (inl e) = h.places k u e
@@ -197,16 +183,6 @@ kept_push N I c vs ts v t h l p w o =
 pub record AreFirst {B : Type 0} (P : ℕ → B → Type 0) (xs : List B) (n : ℕ) : Type 0 where
   pub count : length xs ≡ n
   pub each : (k : ℕ) (b : B) → slice_get xs k ≡ Some b → P k b
-
-at_last : {A : Type 0} (xs : List A) (x : A) (k : ℕ) (y : A) → slice_get (xs ++ x ∷ []) k ≡ Some y → (slice_get xs k ≡ Some y) ⊎ ((k ≡ length xs) × (x ≡ y))
-at_last [] x zero y e = inr (refl, let f : x ≡ y = cc in f)
-at_last [] x (suc k) y e = absurd cc
-at_last (z ∷ xs) x zero y e = inl e
-at_last (z ∷ xs) x (suc k) y e = by (at_last xs x k y e)
-  where
-    by : (slice_get xs k ≡ Some y) ⊎ ((k ≡ length xs) × (x ≡ y)) → (slice_get (z ∷ xs) (suc k) ≡ Some y) ⊎ ((suc k ≡ suc (length xs)) × (x ≡ y))
-    by (inl h) = inl h
-    by (inr h) = inr (ap suc h.0, h.1)
 
 pub none_first : {B : Type 0} (P : ℕ → B → Type 0) (xs : List B) → xs ≡ [] → AreFirst P xs 0
 none_first P xs e = record { count = ap length e; each = λ k b h. let f : slice_get [] k ≡ Some b = ap (λ l. slice_get l k) (sym e) ∙ h in absurd cc }

@@ -1,6 +1,6 @@
 //! The operators on values at their limits.
 
-use kahn_code::word::{Word, apply, negated};
+use kahn_code::word::{Operand, Word, apply, negated};
 use kahn_streams::value::{Failure, Value};
 use kahn_tree::tree::Operator;
 
@@ -192,7 +192,8 @@ fn plain(applied: Result<Word, Failure>) -> Result<Value, Failure> {
 #[test]
 fn operators_at_their_limits(rt: HostRuntime) {
     for (row, (operator, x, y, wanted)) in RESULTS.iter().enumerate() {
-        let given = plain(apply(*operator, Word::of(*x), Word::of(*y)));
+        let registers = [Word::of(*x), Word::of(*y)];
+        let given = plain(apply(*operator, &registers, 0, Operand::Register(1)));
         assert_eq!(rt; given, *wanted, "at {row}");
     }
     assert_eq!(rt; plain(negated(i64::MIN)), Err(Failure::Overflow));
