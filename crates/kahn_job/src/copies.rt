@@ -4,12 +4,12 @@ ghost use Rattle.std.specs.Prelude.{◌≡◌, length, map, IfOk};
 ghost use Rattle.kahn_network.specs.Network.{network_of, instance_at};
 
 use kahn_code::cell::{Cell, Kept};
+use kahn_streams::carried::Carried;
 use kahn_streams::memory::NoMemory;
-use kahn_streams::token::Token;
 use std::alloc::Global;
 
 // The same tokens once more.
-fn copied(alloc: Global, tokens: &[Token]) -> Result<Vec<Token>, NoMemory>
+fn copied(alloc: Global, tokens: &[Carried]) -> Result<Vec<Carried>, NoMemory>
     ensures { IfOk result (λ v. v.items ≡ tokens.now) }
 {
     let mut copy = Vec::with_capacity(alloc, tokens.len())?;
@@ -20,7 +20,7 @@ fn copied(alloc: Global, tokens: &[Token]) -> Result<Vec<Token>, NoMemory>
 }
 
 // What the cell kept on each parameter.
-fn kept_of(alloc: Global, cell: &Cell) -> Result<Vec<Vec<Token>>, NoMemory>
+fn kept_of(alloc: Global, cell: &Cell) -> Result<Vec<Vec<Carried>>, NoMemory>
     ensures { IfOk result (λ lists. map (λ v. v.items) lists.items ≡ cell.now.kept) }
 {
     let parameters = cell.parameters();

@@ -2,7 +2,7 @@
 use Rattle.std.specs.Prelude.{◌≡◌, ℕ, ◌+◌, ◌^◌, ◌<◌, ◌≤◌, ◌⊎◌, true, List, [], ◌∷◌, length, Option, Some, None}
 use mathlib.Core.Option.{some}
 use lib.ListN.{get_elem?}
-use Rattle.kahn_streams.specs.declared.carried.Carried.{Carried}
+use Rattle.kahn_streams.specs.declared.token.Token.{Token}
 use Rattle.kahn_lane.specs.declared.segments.Mark.{Mark}
 use Rattle.kahn_lane.specs.declared.segments.Segment.{Segment}
 use Rattle.kahn_lane.specs.declared.segments.Stage.TheVariants as stage
@@ -24,10 +24,10 @@ Fits writer reader name flushed stolen port v =
 
 module _ {A : Type 0} where
   -- the tokens of a segment
-  abbrev pub tokens_of : Segment A → List Carried
+  abbrev pub tokens_of : Segment A → List Token
   tokens_of s = given s.alone
     where
-      given : Option Carried → List Carried
+      given : Option Token → List Token
       given None = s.tokens.items
       given (Some c) = c ∷ []
 

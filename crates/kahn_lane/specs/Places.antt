@@ -9,7 +9,6 @@ use Rattle.kahn_streams.specs.declared.value.Line.{Line}
 use Rattle.kahn_streams.specs.contracts.value.Line as line_type
 use Rattle.kahn_lane.specs.contracts.name.LaneName as lane_name_type
 use Rattle.kahn_lane.specs.contracts.segments.Stage as stage_type
-use Rattle.kahn_streams.specs.declared.carried.Carried.{Carried}
 use Rattle.kahn_lane.specs.declared.name.LaneName.{LaneName}
 use Rattle.kahn_lane.specs.declared.name.Tag.{Tag}
 use Rattle.kahn_lane.specs.declared.segments.Mark.{Mark}
@@ -45,10 +44,10 @@ abbrev pub first_place : Option Tag → ℕ
 first_place None = 0
 first_place (Some t) = t.from
 
--- the tokens that are carried are of this name, and stand at the places from n on
-abbrev pub Placed : Named → ℕ → List Carried → Type 0
+-- the tokens are of this name, and stand at the places from n on
+abbrev pub Placed : Named → ℕ → List Token → Type 0
 Placed c n [] = ⊤
-Placed c n (x ∷ xs) = ((c ≡ Some (token_name x.token.value)) × (x.token.value.place ≡ n)) × Placed c (n + 1) xs
+Placed c n (x ∷ xs) = ((c ≡ Some (token_name x)) × (x.place ≡ n)) × Placed c (n + 1) xs
 
 -- what the tokens of a lane are of is known, and they are on this line
 abbrev pub IsOn : Line → Named → Type 0
@@ -61,10 +60,10 @@ lane_name-prop a b = Coded-set lane_name_type.the_row.coded a b
 pub name-prop : (a b : Named) → IsProp (a ≡ b)
 name-prop a b = Coded-set (coded_option lane_name_type.the_row.coded) a b
 
-pub Placed-prop : (c : Named) (n : ℕ) (xs : List Carried) → IsProp (Placed c n xs)
+pub Placed-prop : (c : Named) (n : ℕ) (xs : List Token) → IsProp (Placed c n xs)
 Placed-prop c n [] = Unit-prop
 Placed-prop c n (x ∷ xs) =
-    ×_prop (×_prop (name-prop c (Some (token_name x.token.value))) (Coded-set coded_ℕ x.token.value.place n)) (Placed-prop c (n + 1) xs)
+    ×_prop (×_prop (name-prop c (Some (token_name x))) (Coded-set coded_ℕ x.place n)) (Placed-prop c (n + 1) xs)
 
 pub IsOn-prop : (line : Line) (c : Named) → IsProp (IsOn line c)
 IsOn-prop line None = λ a b. absurd a

@@ -27,11 +27,12 @@ impl<A: Allocator + Drop> Lifted<A> {
     // Lifts the next token.
     fn put(&mut self, input: &Input, carried: &Carried)
         requires room { vec_len self.old.tokens < vec_capacity self.old.tokens }
-        requires next { (token_name carried.now.token.value ≡ tag_name self.old.from) × (carried.now.token.value.place ≡ self.old.first + vec_len self.old.tokens) }
+        requires next { (token_name carried.now ≡ tag_name self.old.from) × (carried.now.place ≡ self.old.first + vec_len self.old.tokens) }
         requires input { LiftsTo self.old input.now }
         ensures same { SameLifted self.old self.new }
         ensures more { vec_len self.new.tokens ≡ vec_len self.old.tokens + 1 }
     {
+        carried.counted();
         let place = self.first + self.tokens.len() as u64;
         let token = carried.token(self.from.line, place);
         self.tokens.push_reserved(Carried::of(input.lift(token)));

@@ -1,6 +1,6 @@
 //! Answers of a run.
 
-use kahn_streams::token::Token;
+use kahn_streams::carried::Carried;
 use kahn_streams::value::{Failure, Line};
 
 /// Why a run stopped.
@@ -27,11 +27,11 @@ pub struct End {
     pub events: u64,
 }
 
-/// What was sent on a line.
+/// What was sent on a line: its tokens in place order, from place 0 on, each kept as its value alone.
 #[derive(Drop)]
 pub struct Stream {
     pub line: Line,
-    pub tokens: Vec<Token>,
+    pub tokens: Vec<Carried>,
 }
 
 /// The answer of a run.

@@ -17,9 +17,9 @@ use crate::answer::Stream;
 use kahn_code::cell::Kept;
 use kahn_network::network::Network;
 use kahn_network::sides::Side;
+use kahn_streams::carried::Carried;
 use kahn_streams::input::Input;
 use kahn_streams::memory::NoMemory;
-use kahn_streams::token::Token;
 use kahn_streams::value::Line;
 use kahn_tree::prints::declaration_prints;
 use kahn_tree::tree::Role;
@@ -119,7 +119,7 @@ pub fn empty_streams(
 }
 
 // Hands over what was kept on a parameter, for these tokens.
-fn exchange_kept(lists: &mut Kept, parameter: usize, tokens: &mut Vec<Token>)
+fn exchange_kept(lists: &mut Kept, parameter: usize, tokens: &mut Vec<Carried>)
     requires { parameter < length lists.old.kept.items }
     ensures kept { kept_lists lists.new ≡ slice_set (kept_lists lists.old) parameter tokens.old.items }
     ensures tokens { tokens.new.items ≡ slice_index_or (kept_lists lists.old) parameter [] }
@@ -170,7 +170,7 @@ fn give_list(
     network: &Network,
     input: &Input,
     channel: usize,
-    tokens: &mut Vec<Token>,
+    tokens: &mut Vec<Carried>,
 ) -> Result<(), NoMemory>
     requires here { channel < length (network_of network.now).channels }
     requires bare { tokens.old.items ≡ [] }
@@ -178,7 +178,7 @@ fn give_list(
     ensures others { OnOk result ((role_at (network_of network.now) channel ≡ InputRole → ⊥) → tokens.new.items ≡ tokens.old.items) }
 {
     'tokens: while let Some(token) = input.token(network, channel, tokens.len() as u64) {
-        tokens.push(token)?;
+        tokens.push(Carried::of(token))?;
     }
     Ok(())
 }

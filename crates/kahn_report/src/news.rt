@@ -10,7 +10,7 @@ ghost use Rattle.kahn_report.specs.Written.{Writes};
 use crate::write::{WriteFault, flush, put_ends, put_last, put_tokens};
 use kahn_network::network::Network;
 use kahn_pool::answer::{Answer, Stream};
-use kahn_streams::token::Token;
+use kahn_streams::carried::Carried;
 use kahn_streams::value::Line;
 use kahn_tree::steps::Steps;
 use std::io::Write;
@@ -22,7 +22,7 @@ fn put_more<W: Write, L: Ledger>(
     writer: &mut W,
     network: &Network,
     line: Line,
-    tokens: &[Token],
+    tokens: &[Carried],
     writes: &mut Steps<L>,
 ) -> Result<(), WriteFault>
     requires { IsLine network.now line }
@@ -46,7 +46,7 @@ fn shown_count(shown: &[Stream], number: usize) -> usize
 }
 
 /// The tokens of a stream behind so many.
-fn tokens_after(stream: &Stream, count: usize) -> &[Token]
+fn tokens_after(stream: &Stream, count: usize) -> &[Carried]
     ensures { result.now ≡ drop count stream.now.tokens.items }
 {
     match stream.tokens.get(count..) {

@@ -10,7 +10,7 @@ use crate::names::{channel_name, process_name};
 use itoa::Buffer;
 use kahn_network::network::Network;
 use kahn_pool::answer::{Answer, End, Outcome, Stream, Verdict};
-use kahn_streams::token::Token;
+use kahn_streams::carried::Carried;
 use kahn_streams::value::{Failure, Line, Value};
 use kahn_tree::steps::Steps;
 use std::io::Write;
@@ -114,7 +114,7 @@ pub(crate) fn put_tokens<W: Write, L: Ledger>(
     writer: &mut W,
     network: &Network,
     line: Line,
-    tokens: &[Token],
+    tokens: &[Carried],
     writes: &mut Steps<L>,
 ) -> Result<(), WriteFault>
     requires { IsLine network.now line }

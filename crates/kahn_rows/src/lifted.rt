@@ -20,11 +20,11 @@ use std::test::Fail;
 
 // The first token of the first stream, as a token of an input whose lists those of the token's begin.
 fn first_lifted(answer: &Answer, longer: &Input) -> Option<Token>
-    requires { (s : StreamOf) (k : ℕ) (t : TokenOf) → HasStream answer.now s → slice_get s.tokens.items k ≡ Some t → AreInputsExtended (inputs_of t.input.value) (inputs_of longer.now) }
+    requires { (s : StreamOf) (k : ℕ) (t : TokenOf) → HasStream answer.now s → slice_get s.tokens.items k ≡ Some t → (t.line ≡ s.line) × (t.place ≡ k) × AreInputsExtended (inputs_of t.input.value) (inputs_of longer.now) }
 {
     let stream = answer.streams.first()?;
     let token = stream.tokens.first()?;
-    Some(longer.lift(token.again()))
+    Some(longer.lift(token.token(stream.line, 0)))
 }
 
 #[test]

@@ -81,6 +81,13 @@ impl Carried {
         token_of(self, line, place, self.value)
     }
 
+    /// Says that its place is below 2^64: its contract is what it does.
+    pub fn counted(&self)
+        ensures { self.now.place < 2 ^ 64 }
+    {
+        let _value = self.value;
+    }
+
     /// The value of the token.
     pub fn value(&self) -> Value
         ensures { result ≡ self.now.value }

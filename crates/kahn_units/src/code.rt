@@ -14,7 +14,7 @@ use kahn_code::progress::Pause;
 use kahn_code::steps::Steps;
 use kahn_network::network::Network;
 use kahn_streams::input::Input;
-use kahn_streams::value::{Line, Value};
+use kahn_streams::value::Value;
 use kahn_syntax::parser::parse;
 use std::alloc::{Allocator, Global};
 use std::marker::Brand;
@@ -110,9 +110,6 @@ fn kept<A: Allocator + Copy + Drop>(cell: &Cell<A>) -> Option<usize>
     let tokens = cell.kept(1);
     for (place, token) in tokens.iter().enumerate() {
         let number = *EVEN.get(place)?;
-        if token.channel() != Line::Channel(1) || token.place() != place as u64 {
-            return None;
-        }
         if token.value() != Value::Integer(number) {
             return None;
         }
