@@ -17,18 +17,18 @@ use_map N (a ∷ acts) (suc q) = use_map N acts q
 pub use_at : {A : Type 0} (N : Network) (p : ℕ) (b : Body A) (q : ℕ) → IsBody N p b → slice_index_or b.uses.items q u.Value ≡ use_of N (actual_at (instance_at N p) q)
 use_at N p b q h = ap (λ l. slice_index_or l q u.Value) h.uses ∙ use_map N (instance_at N p).actuals q
 
-pub reads_by : (N : Network) (a : Actual) → u.Reads ≡ use_of N a → (d : ℕ) × (a ≡ Reads d)
-reads_by N (Reads d) e = (d, refl)
-reads_by N (Writes d) e = absurd cc
-reads_by N (Hands v) e = absurd cc
+pub reads_by : (N : Network) (a : Actual) (c : ℕ) → u.Reads c ≡ use_of N a → a ≡ Reads c
+reads_by N (Reads d) c e = let f : d ≡ c = cc in ap Reads f
+reads_by N (Writes d) c e = absurd cc
+reads_by N (Hands v) c e = absurd cc
 
 pub writes_by : (N : Network) (a : Actual) (c : ℕ) (b : Bool) → u.Writes c b ≡ use_of N a → (a ≡ Writes c) × (is_output (role_at N c) ≡ b)
 writes_by N (Reads d) c b e = absurd cc
 writes_by N (Writes d) c b e = let f : d ≡ c = cc in let g : b ≡ is_output (role_at N d) = cc in (ap Writes f, ap (λ x. is_output (role_at N x)) (ap (λ x. x) (let h : c ≡ d = cc in h)) ∙ (let k : is_output (role_at N d) ≡ b = cc in k))
 writes_by N (Hands v) c b e = absurd cc
 
-pub not_reads : (N : Network) (a : Actual) (w : Use) → w ≡ use_of N a → (w ≡ u.Reads → ⊥) → (d : ℕ) → a ≡ Reads d → ⊥
-not_reads N a w e ne d f = ne (e ∙ ap (use_of N) f)
+pub not_reads : (N : Network) (a : Actual) (w : Use) → w ≡ use_of N a → ((c : ℕ) → w ≡ u.Reads c → ⊥) → (d : ℕ) → a ≡ Reads d → ⊥
+not_reads N a w e ne d f = ne d (e ∙ ap (use_of N) f)
 
 pub not_writes : (N : Network) (a : Actual) (w : Use) → w ≡ use_of N a → ((c : ℕ) (b : Bool) → w ≡ u.Writes c b → ⊥) → (d : ℕ) → a ≡ Writes d → ⊥
 not_writes N a w e ne d f = ne d (is_output (role_at N d)) (e ∙ ap (use_of N) f)

@@ -1,10 +1,10 @@
 //! Every channel of a network in a plain queue, for a run on one thread.
 
-ghost use Rattle.std.specs.Prelude.{◌≡◌, ℕ, ◌<◌, length, map, slice_index_or, slice_get, Some, None, IfOk, []};
+ghost use Rattle.std.specs.Prelude.{◌≡◌, map, slice_index_or, None, IfOk};
 ghost use Rattle.kahn_network.specs.Network.{network_of, instance_at, actual_at};
 ghost use Rattle.kahn_network.specs.Wiring.{IsWellWired};
 ghost use Rattle.kahn_streams.specs.Tokens.{Names};
-ghost use Rattle.kahn_code.specs.Lines.{Lines, AreCounted, AreFirst, AreRoutes, Joins, actual_of, waiting_of, spare_of, next_at, route, route_of};
+ghost use Rattle.kahn_code.specs.Lines.{AreCounted, AreFirst, AreRoutes, route, route_of};
 
 use crate::code::CodeFault;
 use crate::opening::first_queues;
@@ -118,18 +118,6 @@ impl<A: Allocator> Plain<A> {
     {
         let _instance = self.instance;
     }
-
-    // The channel of a parameter of the instance.
-    fn channel_of(&self, parameter: usize) -> usize
-        requires { (c : ℕ) × Joins (actual_of self.now parameter) c }
-        ensures channel { (c : ℕ) → Joins (actual_of self.now parameter) c → result ≡ c }
-        ensures inside { result < length self.now.queues }
-    {
-        match known_at(&self.routes, self.instance, parameter) {
-            Some(channel) => channel,
-            None => unreachable!(),
-        }
-    }
 }
 
 // The channel that a row has for a parameter.
@@ -156,19 +144,6 @@ fn route_at<A: Allocator>(
     }
 }
 
-// `route_at`, for an instance and a parameter that the table has.
-fn known_at<A: Allocator>(
-    routes: &[Vec<Option<usize>, A>],
-    instance: usize,
-    parameter: usize,
-) -> Option<usize>
-    requires instance { instance < length routes.now }
-    requires parameter { parameter < length (slice_index_or (map (λ v. v.items) routes.now) instance []) }
-    ensures { result ≡ route (map (λ v. v.items) routes.now) instance parameter }
-{
-    routes[instance][parameter]
-}
-
 impl<A: Allocator> Ports for Plain<A> {
     ghost use Rattle.std.specs.Prelude.{◌≡◌, ◌<◌, ℕ, slice_get};
     ghost use Rattle.kahn_network.specs.Network.{Reads, Writes};
@@ -192,25 +167,21 @@ impl<A: Allocator> Ports for Plain<A> {
 
     ghost has_room = { λ s q. (c : ℕ) → actual_of s q ≡ Writes c → 0 < spare_of (slice_get s.queues c) };
 
-    fn ready(&mut self, parameter: usize) -> bool {
-        let channel = self.channel_of(parameter);
+    fn ready(&mut self, _parameter: usize, channel: usize) -> bool {
         !self.queues[channel].is_empty()
     }
 
-    fn take(&mut self, parameter: usize) -> Option<Token> {
-        let channel = self.channel_of(parameter);
+    fn take(&mut self, _parameter: usize, channel: usize) -> Option<Token> {
         self.queues[channel].take()
     }
 
     #[inline(always)]
-    fn room(&mut self, parameter: usize) -> Result<(), NoMemory> {
-        let channel = self.channel_of(parameter);
+    fn room(&mut self, _parameter: usize, channel: usize) -> Result<(), NoMemory> {
         self.queues[channel].room()
     }
 
     #[inline(always)]
-    fn put(&mut self, parameter: usize, token: Token) {
-        let channel = self.channel_of(parameter);
+    fn put(&mut self, _parameter: usize, channel: usize, token: Token) {
         self.queues[channel].put(token);
     }
 }

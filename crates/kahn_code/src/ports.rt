@@ -1,13 +1,13 @@
 //! Where an instance takes and puts tokens.
 
 ghost use Rattle.std.specs.Prelude.{◌≡◌, ℕ, ◌<◌, ◌^◌, IfSome, IfNone, IsSome, IsTrue, IsFalse, OnOk};
-ghost use Rattle.kahn_code.specs.Seats.{Seat, DoesRead, DoesWrite, IsRead, IsWritten, Stays, Moved, Leaves, Grows};
+ghost use Rattle.kahn_code.specs.Seats.{Seat, DoesRead, DoesWrite, IsNext, Stays, Moved, Leaves, Grows};
 
 use kahn_streams::memory::NoMemory;
 use kahn_streams::token::Token;
 
-/// The ends of an instance's channels, by the number of the parameter. What an instance sends on an output channel
-/// isn't put here.
+/// The ends of an instance's channels, by the number of the parameter, beside which its channel is told. What an instance
+/// sends on an output channel isn't put here.
 pub trait Ports {
     // the program, the input and the instance
     ghost seat: { Self → Seat };
@@ -36,8 +36,8 @@ pub trait Ports {
     ghost has_room: { Self → ℕ → Type 0 };
 
     /// Whether the next `take` gives a token. It takes no memory.
-    fn ready(&mut self, parameter: usize) -> bool
-        requires { DoesRead (seat self.old) parameter }
+    fn ready(&mut self, parameter: usize, channel: usize) -> bool
+        requires { DoesRead (seat self.old) parameter channel }
         ensures seat { seat self.new ≡ seat self.old }
         ensures others { Leaves (seat self.old) (others self.old) (others self.new) }
         ensures which { which self.new ≡ which self.old }
@@ -47,22 +47,22 @@ pub trait Ports {
         ensures dry { IsFalse result → is_dry self.new parameter };
 
     /// The token of the next place. It takes no memory.
-    fn take(&mut self, parameter: usize) -> Option<Token>
-        requires reads { DoesRead (seat self.old) parameter }
+    fn take(&mut self, parameter: usize, channel: usize) -> Option<Token>
+        requires reads { DoesRead (seat self.old) parameter channel }
         requires bound { next self.old parameter < 2 ^ 48 }
         ensures seat { seat self.new ≡ seat self.old }
         ensures others { Leaves (seat self.old) (others self.old) (others self.new) }
         ensures which { which self.new ≡ which self.old }
         ensures delivered { Grows (delivered self.old) (delivered self.new) }
-        ensures token { IfSome result (λ t. IsRead (seat self.old) parameter (next self.old parameter) t) }
+        ensures token { IfSome result (λ t. IsNext (seat self.old) channel (next self.old parameter) t) }
         ensures moved { IfSome result (λ _. Moved (next self.old) (next self.new) parameter) }
         ensures stays { IfNone result (Stays (next self.old) (next self.new)) }
         ensures dry { IfNone result (is_dry self.new parameter) }
         ensures some { is_ready self.old parameter → IsSome result };
 
     /// Makes room for one token.
-    fn room(&mut self, parameter: usize) -> Result<(), NoMemory>
-        requires { DoesWrite (seat self.old) parameter }
+    fn room(&mut self, parameter: usize, channel: usize) -> Result<(), NoMemory>
+        requires { DoesWrite (seat self.old) parameter channel }
         ensures seat { seat self.new ≡ seat self.old }
         ensures others { Leaves (seat self.old) (others self.old) (others self.new) }
         ensures which { which self.new ≡ which self.old }
@@ -71,11 +71,11 @@ pub trait Ports {
         ensures room { OnOk result (has_room self.new parameter) };
 
     /// Puts the token of the next place. It takes no memory.
-    fn put(&mut self, parameter: usize, token: Token)
-        requires writes { DoesWrite (seat self.old) parameter }
+    fn put(&mut self, parameter: usize, channel: usize, token: Token)
+        requires writes { DoesWrite (seat self.old) parameter channel }
         requires bound { next self.old parameter < 2 ^ 48 }
         requires room { has_room self.old parameter }
-        requires token { IsWritten (seat self.old) parameter (next self.old parameter) token }
+        requires token { IsNext (seat self.old) channel (next self.old parameter) token }
         ensures seat { seat self.new ≡ seat self.old }
         ensures others { Leaves (seat self.old) (others self.old) (others self.new) }
         ensures which { which self.new ≡ which self.old }

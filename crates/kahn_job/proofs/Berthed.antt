@@ -7,7 +7,7 @@ use Rattle.kahn_streams.specs.declared.token.Token.{Token}
 use Rattle.kahn_streams.specs.declared.value.Line.TheVariants.{Channel}
 use Rattle.kahn_streams.specs.Tokens.{Lists}
 use Rattle.kahn_code.specs.Cells.{is_output}
-use Rattle.kahn_code.specs.Seats.{DoesRead, DoesWrite, Grows, IsRead, IsWritten, Stays, Moved}
+use Rattle.kahn_code.specs.Seats.{DoesRead, DoesWrite, Grows, IsNext, Stays, Moved}
 use Rattle.kahn_lane.specs.Places.{lane_name, token_name}
 use Rattle.kahn_lane.proofs.Places.{token_name-is_of, is_of-token_name}
 use Rattle.kahn_job.specs.Ends.{Advances, End, Identity, IsSame, IsFlushed, Meets, identity_of}
@@ -54,12 +54,6 @@ written_within : (xs : List Actual) (q d : ℕ) (z : Actual) → ((d : ℕ) → 
 written_within [] q d z n e = absurd (n d e)
 written_within (a ∷ xs) zero d z n e = omega arith
 written_within (a ∷ xs) (suc q) d z n e = let r = written_within xs q d z n e in omega (arith, r)
-
-reads_one : {c d : ℕ} → Reads c ≡ Reads d → c ≡ d
-reads_one e = cc
-
-writes_one : {c d : ℕ} → Writes c ≡ Writes d → c ≡ d
-writes_one e = cc
 
 still_serves : (t : Program) (lists : Lists) (a : Actual) (old new : End) → IsSame old new → Serves t lists a old → Serves t lists a new
 still_serves t lists (Reads d) old new same s = (same.reads ∙ s.0, same.name ∙ s.1, λ i. same.lane ∙ s.2 i)
@@ -179,23 +173,23 @@ moved_set es q e l more = (
 
 pub is_read : (t : Program) (lists : Lists) (p : ℕ) (es : List End) → AreServed t lists p es → (q d : ℕ) →
     actual_at (instance_at (network_of t) p) q ≡ Reads d → (k : Token) → (end_at es q).name ≡ Some (token_name k) → k.place ≡ (end_at es q).next →
-    IsRead (record { network = t; input = lists; instance = p }) q ((end_at es q).next) k
+    IsNext (record { network = t; input = lists; instance = p }) d ((end_at es q).next) k
 is_read t lists p es h q d reads k named at =
     let s = serves_read t lists p es h q d reads in
     let o = is_of-token_name t lists d k (sym s.1 ∙ named) in
     record {
       names = o.0;
-      line = λ b e. o.1 ∙ ap Channel (reads_one (sym reads ∙ e));
+      line = o.1;
       place = at;
     }
 
 pub is_written : (t : Program) (lists : Lists) (p : ℕ) (es : List End) → AreServed t lists p es → (q d : ℕ) →
     actual_at (instance_at (network_of t) p) q ≡ Writes d → is_output (role_at (network_of t) d) ≡ false → (k : Token) →
-    IsWritten (record { network = t; input = lists; instance = p }) q ((end_at es q).next) k →
+    IsNext (record { network = t; input = lists; instance = p }) d ((end_at es q).next) k →
     ((end_at es q).name ≡ Some (token_name k)) × (k.place ≡ (end_at es q).next)
 is_written t lists p es h q d writes inner k w =
     let s = serves_written t lists p es h q d writes inner in
-    (s.1 ∙ ap Some (sym (token_name-is_of t lists d k w.names (w.line d writes))), w.place)
+    (s.1 ∙ ap Some (sym (token_name-is_of t lists d k w.names w.line)), w.place)
 
 pub none_flushed : (es : List End) → HaveFlushed es es
 none_flushed es = record {
@@ -249,15 +243,11 @@ module _ (seen : Berth) (t : Program) (lists : Lists) (p : ℕ) (es : List End) 
   identities_at l =
       identities_set es q new l (subst (λ x. IsSame x new) (sym (found es q old old l at)) same) ∙ ap (λ (b : Berth). identities b.ends) is
 
-  pub identities_read : DoesRead (seat_at seen) q → identities (slice_set es q new) ≡ identities seen.ends
-  identities_read reads =
-      let r : DoesRead (record { network = t; input = lists; instance = p }) q = subst (λ (b : Berth). DoesRead (seat_at b) q) (sym is) reads in
-      identities_at (within_read t lists p es h q r.0 r.1)
+  pub identities_read : (d : ℕ) → DoesRead (seat_at seen) q d → identities (slice_set es q new) ≡ identities seen.ends
+  identities_read d reads = identities_at (within_read t lists p es h q d (subst (λ (b : Berth). DoesRead (seat_at b) q d) (sym is) reads))
 
-  pub identities_written : DoesWrite (seat_at seen) q → identities (slice_set es q new) ≡ identities seen.ends
-  identities_written writes =
-      let w : DoesWrite (record { network = t; input = lists; instance = p }) q = subst (λ (b : Berth). DoesWrite (seat_at b) q) (sym is) writes in
-      identities_at (within_written t lists p es h q w.0 w.1)
+  pub identities_written : (d : ℕ) → DoesWrite (seat_at seen) q d → identities (slice_set es q new) ≡ identities seen.ends
+  identities_written d writes = identities_at (within_written t lists p es h q d (subst (λ (b : Berth). DoesWrite (seat_at b) q d) (sym is) writes).0)
 
 -- the first n ends were flushed
 abbrev pub UpTo : ℕ → List End → Type 0

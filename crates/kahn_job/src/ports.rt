@@ -61,19 +61,19 @@ impl<'n> Ports for Ends<'n> {
 
     ghost has_room = { λ s q. HasRoom (end_at s.ends q) };
 
-    fn ready(&mut self, parameter: usize) -> bool {
+    fn ready(&mut self, parameter: usize, _channel: usize) -> bool {
         self.ports[parameter].ready(self.network, self.input)
     }
 
-    fn take(&mut self, parameter: usize) -> Option<Token> {
+    fn take(&mut self, parameter: usize, _channel: usize) -> Option<Token> {
         self.ports[parameter].take(self.network, self.input)
     }
 
-    fn room(&mut self, parameter: usize) -> Result<(), NoMemory> {
+    fn room(&mut self, parameter: usize, _channel: usize) -> Result<(), NoMemory> {
         self.ports[parameter].room()
     }
 
-    fn put(&mut self, parameter: usize, token: Token) {
+    fn put(&mut self, parameter: usize, _channel: usize, token: Token) {
         self.ports[parameter].put(token);
     }
 }

@@ -5,4 +5,4 @@ pub returns-clause-which : goal.returns-clause-which
 returns-clause-which c =
     let i = c.self.inside in
     identities_written c.args.self.now i.network.now i.input.now i.instance i.ports.items c.self.view_is c.self.invariant c.args.parameter
-    c.index_mut.result.now c.put.new.self c.index_mut.ensures.value c.put.ensures.same c.requires.writes
+    c.index_mut.result.now c.put.new.self c.index_mut.ensures.value c.put.ensures.same c.args._channel c.requires.writes
