@@ -3,6 +3,7 @@
 use kahn_code::word::{Operand, Word, apply, negated};
 use kahn_streams::value::{Failure, Value};
 use kahn_tree::tree::Operator;
+use std::test::Fail;
 
 static RESULTS: [(Operator, Value, Value, Result<Value, Failure>); 29] = [
     (
@@ -190,12 +191,14 @@ fn plain(applied: Result<Word, Failure>) -> Result<Value, Failure> {
 }
 
 #[test]
-fn operators_at_their_limits(rt: HostRuntime) {
+fn operators_at_their_limits(rt: HostRuntime) -> Result<(), Fail> {
+    let alloc = rt.alloc();
     for (row, (operator, x, y, wanted)) in RESULTS.iter().enumerate() {
-        let registers = [Word::of(*x), Word::of(*y)];
+        let registers = vec![in alloc; Word::of(*x), Word::of(*y)]?;
         let given = plain(apply(*operator, &registers, 0, Operand::Register(1)));
         assert_eq!(rt; given, *wanted, "at {row}");
     }
     assert_eq!(rt; plain(negated(i64::MIN)), Err(Failure::Overflow));
     assert_eq!(rt; plain(negated(7)), Ok(Value::Integer(-7)));
+    Ok(())
 }
