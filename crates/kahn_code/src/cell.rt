@@ -129,7 +129,7 @@ impl<A: Allocator + Copy + Drop> Cell<A> {
         requires { parameter < length self.now.taken }
         ensures { result ≡ slice_index_or self.now.taken parameter 0 }
     {
-        self.progress.taken_at(parameter)
+        self.progress.taken[parameter]
     }
 
     /// How many tokens it sent on a parameter.
@@ -153,7 +153,7 @@ impl<A: Allocator + Copy + Drop> Cell<A> {
         requires { parameter < length self.now.kept }
         ensures { result.now ≡ slice_index_or self.now.kept parameter [] }
     {
-        self.progress.kept_at(parameter)
+        self.progress.kept[parameter].as_slice()
     }
 
     /// The same cell for an input whose lists begin with those of its own. It takes no memory.

@@ -38,19 +38,19 @@ pub returns-clause-at : goal.returns-clause-at
 returns-clause-at g c =
     let t = c.self.inside.network.value in
     let lists = c.self.inside.input.value in
-    let seat = seat_after (g.P.Ports.seat c.args.ports.now) (g.P.Ports.seat c.run.new.ports) c.args.self.now c.self.inside.progress c.run.new.self t lists c.self.view_is c.requires.ports c.run.ensures.seat c.run.ensures.names.0 in
+    let seat = seat_after (g.P.Ports.seat c.args.ports.now) (g.P.Ports.seat c.run.new.ports) c.args.self.now c.self.inside.progress c.run.new.self t lists c.self.view_is c.requires.ports c.run.ensures.ports.0 c.run.ensures.names.0 in
     at_after (g.P.Ports.seat c.run.new.ports) c.run.new.self t lists c.body-body.result.now (g.P.Ports.next c.run.new.ports) seat c.run.ensures.sits
 
 pub returns-clause-paused : goal.returns-clause-paused
 returns-clause-paused g c =
     let t = c.self.inside.network.value in
     let lists = c.self.inside.input.value in
-    let seat = seat_after (g.P.Ports.seat c.args.ports.now) (g.P.Ports.seat c.run.new.ports) c.args.self.now c.self.inside.progress c.run.new.self t lists c.self.view_is c.requires.ports c.run.ensures.seat c.run.ensures.names.0 in
+    let seat = seat_after (g.P.Ports.seat c.args.ports.now) (g.P.Ports.seat c.run.new.ports) c.args.self.now c.self.inside.progress c.run.new.self t lists c.self.view_is c.requires.ports c.run.ensures.ports.0 c.run.ensures.names.0 in
     paused_after (g.P.Ports.seat c.run.new.ports) c.run.new.self t lists (g.P.Ports.is_dry c.run.new.ports) (g.P.Ports.is_ready c.run.new.ports) c.self.inside.progress.events c.args.self.now.events c.args.quantum c.run.result seat (ap (λ v. v.events) c.self.view_is) c.run.ensures.paused
 
 pub invariant_of-self : goal.invariant_of-self
 invariant_of-self g c =
     let t = c.self.inside.network.value in
     let lists = c.self.inside.input.value in
-    let seat = seat_after (g.P.Ports.seat c.args.ports.now) (g.P.Ports.seat c.run.new.ports) c.args.self.now c.self.inside.progress c.run.new.self t lists c.self.view_is c.requires.ports c.run.ensures.seat c.run.ensures.names.0 in
+    let seat = seat_after (g.P.Ports.seat c.args.ports.now) (g.P.Ports.seat c.run.new.ports) c.args.self.now c.self.inside.progress c.run.new.self t lists c.self.view_is c.requires.ports c.run.ensures.ports.0 c.run.ensures.names.0 in
     standing_after (g.P.Ports.seat c.run.new.ports) c.run.new.self t lists c.body-body.result.now (g.P.Ports.next c.run.new.ports) seat c.run.ensures.sits (subst (λ p. p < length (network_of t).instances) (sym c.run.ensures.names.0) c.self.invariant.here)
