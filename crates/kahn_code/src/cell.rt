@@ -140,8 +140,8 @@ impl<A: Allocator + Copy + Drop> Cell<A> {
         self.progress.sent_at(parameter)
     }
 
-    /// Says that its counts are those of its parameters, and that none is greater than its events: its contract is what it
-    /// does.
+    /// Says that its counts are those of its parameters, that none is greater than its events, and that it keeps nothing of
+    /// what it needn't: its contract is what it does.
     pub fn sized(&self)
         ensures { AreCounts self.now }
     {

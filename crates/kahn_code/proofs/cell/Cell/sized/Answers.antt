@@ -19,4 +19,5 @@ returns g c =
       sent_size = s.1.sent_size;
       taken_few = taken_bound N I w p (core_of i.progress) s.0 s.1;
       sent_few = sent_bound N I w p (core_of i.progress) s.0 s.1;
+      bare = s.1.bare;
     })
