@@ -1,5 +1,6 @@
 -- Texts that are written piece by piece.
-use Rattle.std.proofs.Common.{◌≡◌, ℕ, ◌+◌, ◌≤◌, List, [], ◌++◌, length, Option, Result, Ok, Err, IsErr, refl, sym, ap, ◌∙◌, append_assoc, append-nil, arith, length-append, length-take, take, drop, ◌-◌, ◌<◌, take-append-drop, drop-cons, take_all, flat_map, get_or, subst, suc}
+use Rattle.std.proofs.Common.{◌≡◌, ℕ, ◌+◌, ◌≤◌, List, [], ◌++◌, length, Option, Result, Ok, Err, IsErr, refl, sym, ap, ◌∙◌, append_assoc, append-nil, arith, length-append, length-take, take, drop, ◌-◌, ◌<◌, ◌^◌, decimal, take-append-drop, drop-cons, flat_map, get_or, subst, suc}
+use Rattle.std.proofs.lemmas.Fmt.{length-decimal-le}
 use Rattle.std.proofs.lemmas.Grind.{flat_map-append}
 use Rattle.std.proofs.lemmas.List.Folds.{length-flat_map-take}
 use Rattle.std.proofs.lemmas.List.{take_rest}
@@ -55,11 +56,6 @@ pub loop_fails : {A : Type 0} (f : A → List ℕ) (xs : List A) (i : ℕ) (d : 
 loop_fails f xs i d a b c below first second =
     subst (AppendsFront a c) (sym (loop_split f xs i d below)) (goes_on_front a b c _ _ first (stops b c _ _ second))
 
--- all elements went out
-pub loop_ends : {A : Type 0} (f : A → List ℕ) (xs : List A) (i : ℕ) (a b : Option (List ℕ)) → length xs ≤ i
-    → Appends a b (flat_map f (take i xs)) → Appends a b (flat_map f xs)
-loop_ends f xs i a b past gone = subst (λ l. Appends a b (flat_map f l)) (take_all i xs past) gone
-
 -- the writes of the elements up to one are within the whole list's
 pub loop_few : {A : Type 0} (f : A → List ℕ) (xs : List A) (i : ℕ) (d : A) (first before after : ℕ) → i < length xs
     → before ≤ first + length (flat_map f (take i xs)) → after ≤ before + length (f (get_or xs i d)) → after ≤ first + length (flat_map f xs)
@@ -69,3 +65,7 @@ loop_few f xs i d first before after below few more = omega (arith, length-flat_
 pub flushed : {X E : Type 0} (a b c : Option (List ℕ)) (r : Result X E) (t : List ℕ) → Appends a b t → Keeps b c → Writes a c r t
 flushed a b c (Ok x) t gone kept = Appends-kept a b c t gone kept
 flushed a b c (Err e) t gone kept = (t, [], sym (append-nil t), Appends-kept a b c t gone kept)
+
+-- how many digits the magnitude of a signed number has
+pub digits_within : (n : ℕ) → n ≤ 2 ^ 63 → length (decimal n) ≤ 19
+digits_within n fits = length-decimal-le 19 n (omega arith) (omega arith) (omega arith)

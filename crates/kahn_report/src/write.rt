@@ -1,13 +1,14 @@
 //! The report text, written piece by piece.
 
-ghost use Rattle.std.specs.Prelude.{◌≡◌, ℕ, ◌+◌, ◌<◌, ◌≤◌, length, decimal, ◌++◌, [], ◌∷◌, codes, flat_map, All};
+ghost use Rattle.std.specs.Prelude.{◌≡◌, ℕ, ◌+◌, ◌*◌, ◌<◌, ◌≤◌, length, drop, decimal, ◌++◌, [], ◌∷◌, codes, flat_map, All};
+ghost use Rattle.std.specs.Fmt.{signed_decimal};
 ghost use Rattle.std.specs.List.{concat};
 ghost use Rattle.std.specs.Io.KnownBytes.{Keeps};
 ghost use Rattle.kahn_report.specs.Written.{Writes};
-ghost use Rattle.kahn_report.specs.Report.{report_text, value_text, line_head, tokens_text, stream_text, outcome_word, waited_name, end_words, end_text, ends_text, last_text, IsLine, HasItsLines};
+ghost use Rattle.kahn_report.specs.Report.{report_text, value_text, token_text, line_head, tokens_text, stream_text, outcome_word, waited_name, end_words, end_text, ends_text, last_text, IsLine, HasItsLines};
 
 use crate::names::{channel_name, process_name};
-use itoa::Buffer;
+use itoa::{Buffer, write_digits};
 use kahn_network::network::Network;
 use kahn_pool::answer::{Answer, End, Outcome, Stream, Verdict};
 use kahn_streams::carried::Carried;
@@ -17,6 +18,12 @@ use std::io::Write;
 use std::marker::Brand;
 use std::sync::ledger::{Blank, Ledger};
 use thiserror::Error;
+
+/// How many values are put together for one write.
+const TOGETHER: usize = 32;
+
+/// Room for so many, each of 20 bytes at most and a space.
+const ROOM: usize = 21 * TOGETHER;
 
 /// Why a text wasn't written whole.
 #[derive(Clone, Copy, Debug, PartialEq, Eq, Drop, Error)]
@@ -65,23 +72,75 @@ fn put_all<W: Write, L: Ledger>(
     Ok(())
 }
 
-/// Writes a space and a value.
+/// Places a text so that it ends at `end`, and gives where it begins.
 #[inline(always)]
-fn put_value<W: Write, L: Ledger>(
+fn place(text: &[u8], room: &mut [u8], end: usize) -> usize
+    requires { (length text.now ≤ end) × (end ≤ length room.old) }
+    ensures begins { result + length text.now ≡ end }
+    ensures placed { drop result room.new ≡ text.now ++ drop end room.old }
+{
+    let start = end - text.len();
+    room[start..end].copy_from_slice(text);
+    start
+}
+
+/// Places a number so that it ends at `end`, and gives where it begins.
+#[inline(always)]
+#[tactic(auto, using(crate::proofs::Pieces::digits_within))]
+fn place_number(number: i64, room: &mut [u8], end: usize) -> usize
+    requires { (20 ≤ end) × (end ≤ length room.old) }
+    ensures near { (result ≤ end) × (end ≤ result + 20) }
+    ensures placed { drop result room.new ≡ signed_decimal number ++ drop end room.old }
+{
+    let start = write_digits(number.unsigned_abs(), room, end);
+    if number < 0 {
+        place(b"-", room, start)
+    } else {
+        start
+    }
+}
+
+/// Places a space and a value so that they end at `end`, and gives where they begin.
+#[inline(always)]
+fn place_value(value: Value, room: &mut [u8], end: usize) -> usize
+    requires { (21 ≤ end) × (end ≤ length room.old) }
+    ensures near { (result ≤ end) × (end ≤ result + 21) }
+    ensures placed { drop result room.new ≡ concat (codes " " ∷ value_text value ∷ []) ++ drop end room.old }
+{
+    let start = match value {
+        Value::Integer(number) => place_number(number, room, end),
+        Value::Logical(true) => place(b"true", room, end),
+        Value::Logical(false) => place(b"false", room, end),
+    };
+    place(b" ", room, start)
+}
+
+/// Places the values of tokens at the end of the room, the last one first since digits come so, and gives their text.
+fn place_tokens<'a>(tokens: &[Carried], room: &'a mut [u8]) -> &'a [u8]
+    requires { 21 * length tokens.now ≤ length room.old }
+    ensures { result.now ≡ flat_map token_text tokens.now }
+{
+    let mut start = room.len();
+    for token in tokens.iter().rev() {
+        start = place_value(token.value(), room, start);
+    }
+    &room[start..]
+}
+
+/// Writes the values of tokens, so many by one write.
+fn put_values<W: Write, L: Ledger>(
     writer: &mut W,
-    value: Value,
+    tokens: &[Carried],
     writes: &mut Steps<L>,
 ) -> Result<(), WriteFault>
-    ensures text { Writes (W.contents writer.old) (W.contents writer.new) result (concat (codes " " ∷ value_text value ∷ [])) }
-    ensures few { writes.new ≤ writes.old + length (concat (codes " " ∷ value_text value ∷ [])) }
+    ensures text { Writes (W.contents writer.old) (W.contents writer.new) result (flat_map token_text tokens.now) }
+    ensures few { writes.new ≤ writes.old + length (flat_map token_text tokens.now) }
 {
-    let mut buffer = Buffer::new();
-    let text = match value {
-        Value::Integer(number) => buffer.format(number),
-        Value::Logical(true) => "true",
-        Value::Logical(false) => "false",
-    };
-    put_all(writer, &[b" ", text.as_bytes()], writes)
+    let mut room = [0; ROOM];
+    for chunk in tokens.chunks(TOGETHER) {
+        put(writer, place_tokens(chunk, &mut room), writes)?;
+    }
+    Ok(())
 }
 
 /// Writes what a stream's line begins with.
@@ -122,9 +181,7 @@ pub(crate) fn put_tokens<W: Write, L: Ledger>(
     ensures few { writes.new ≤ writes.old + length (tokens_text network.now line tokens.now) }
 {
     put_head(writer, network, line, writes)?;
-    for token in tokens {
-        put_value(writer, token.value(), writes)?;
-    }
+    put_values(writer, tokens, writes)?;
     put(writer, b"\n", writes)
 }
 
