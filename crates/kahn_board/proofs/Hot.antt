@@ -1,5 +1,5 @@
 -- The steps on the words budget, count and halted.
-use Rattle.std.proofs.Common.{◌≡◌, ℕ, zero, suc, ◌+◌, ◌-◌, ◌*◌, ◌/◌, ◌%◌, ◌^◌, ◌<◌, ◌≤◌, ◌≢◌, ◌⊎◌, inl, inr, eqb, List, length, get_or, set, sym, refl, ap, ◌∙◌, subst, arith, Option, length-set, get_or-set_same, get_or-set_other}
+use Rattle.std.proofs.Common.{◌≡◌, ℕ, ◌+◌, ◌-◌, ◌*◌, ◌/◌, ◌%◌, ◌^◌, ◌<◌, ◌≤◌, ◌≢◌, ◌⊎◌, inl, inr, eqb, List, length, get_or, set, sym, refl, ap, ◌∙◌, subst, arith, Option, length-set, get_or-set_same, get_or-set_other}
 use mathlib.Core.Logic.{dite}
 use native.Mathlib.Decide.{ℕ_discrete}
 use mathlib.Core.Option.{some, none}
@@ -10,22 +10,18 @@ use Rattle.atomic_table.specs.Table.{step, keeps, stepped, Allows}
 use Rattle.atomic_table.proofs.Lists.{exchanged}
 use Rattle.kahn_board.specs.Tale.{Tale}
 use Rattle.kahn_board.specs.Wires.{Wires}
-use Rattle.kahn_board.specs.Counts.{Owes, is_up, below}
+use Rattle.kahn_board.specs.Counts.{Owes, is_up}
 use Rattle.kahn_board.specs.Place.{Place, ready, held, parked, over}
 use Rattle.kahn_board.specs.Rule.{St, Deal, Whole, budget, count, halted}
-use Rattle.kahn_board.specs.Plays.{Sat, noted, saw, leaves_as, with_draw, undrawn, paid_up, paid_down, looked, drew, gave_back, counted_up, counted_down, halts, sees_halted, sees_count, sees_budget}
+use Rattle.kahn_board.specs.Plays.{Sat, noted, saw, leaves_as, with_draw, used, undrawn, paid_up, paid_down, looked, drew, uses, gave_back, counted_up, counted_down, halts, sees_halted, sees_count, sees_budget}
 use Rattle.kahn_board.specs.declared.view.View.{View}
 use Rattle.kahn_board.proofs.Sums.{term_le}
-use Rattle.kahn_board.proofs.Counting.{below-le}
+use Rattle.kahn_board.proofs.Counting.{below-le, below-term}
 use Rattle.kahn_board.proofs.Keeps.{state}
 use Rattle.kahn_board.proofs.Turns.{quiet_here, owed_less_here, downs_few, whole}
 use Rattle.kahn_board.proofs.Seconds.{Idle, idles}
 use Rattle.kahn_board.proofs.Changes.{one_less, owes_paid, leaves_free}
 use Rattle.kahn_board.proofs.Steps.{Fit, Goes, stays, unchanged}
-
-below-term : (f : ℕ → ℕ) (n p : ℕ) → p < n → f p ≤ below f n
-below-term f zero p h = absurd (omega arith)
-below-term f (suc n) p h = dite (ℕ_discrete p n) (λ e. omega (arith, ap f e)) (λ ne. omega (arith, below-term f n p (omega arith)))
 
 up_small : (x : Place) → is_up x ≤ 1
 up_small ready = omega arith
@@ -140,6 +136,10 @@ module _ {T : Type 0} (told : T → Option Tale) (belongs : ℕ → T → Type 0
         ),
       ))
       (λ miss. (noted m.0 r, keeps, tt, unchanged told belongs w d s a i id m r me fit, ((λ hit. absurd (miss hit)), λ _. refl)))
+
+  pub uses_some : (n id : ℕ) (m : Sat T) (i k : ℕ) → Fit told w m → i ≡ 8 * (w.instances + w.channels) → k ≤ m.0.drawn → Allows (Whole told belongs w d) n id m i (λ y. y) (uses k (step n i 0 0 none) m)
+  uses_some n id m i k fit at less s a wide me _ = let r : ℕ = get_or s.words i 0 in
+      (used m.0 k r, keeps, tt, budgets s a i r id m (m.0.drawn - k) (m.0.done + k) (m.0.loose + k) r me fit at (omega (arith, less)) (omega arith) (used m.0 k r) refl, refl)
 
   pub gives_back : (n id : ℕ) (m : Sat T) (i k : ℕ) → Fit told w m → i ≡ 8 * (w.instances + w.channels) → k ≤ m.0.drawn → Allows (Whole told belongs w d) n id m i (λ y. (y + k) % 2 ^ 64) (gave_back (step n i k 0 none) m)
   gives_back n id m i k fit at less s a wide me _ = let r : ℕ = get_or s.words i 0 in let new : ℕ = (r + k) % 2 ^ 64 in let b = a.reckoned.budgeted in let small = b.small in let sum = b.adds_up in

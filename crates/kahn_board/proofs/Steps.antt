@@ -23,7 +23,8 @@ use Rattle.kahn_board.specs.Rule.{St, published, IsHome, Stands, Ruled}
 use Rattle.kahn_board.specs.Plays.{Sat, noted, IsIn, claimed, set_down, parked_or_not, publishes}
 use Rattle.kahn_board.specs.declared.view.View.{View}
 use Rattle.kahn_board.proofs.Moved.{moved_here, at_moved, held_yes, held_no, is_held, held_apart, parked_yes, parked_no, is_parked, parked_apart, code_ready}
-use Rattle.kahn_board.proofs.Sums.{total-set}
+use Rattle.kahn_board.proofs.Sums.{total-set, term_le}
+use Rattle.kahn_board.proofs.Counting.{below-term}
 use Rattle.kahn_board.proofs.Keeps.{state, kept}
 
 abbrev half : ℕ → ℕ
@@ -201,6 +202,11 @@ module _ {T : Type 0} (told : T → Option Tale) (belongs : ℕ → T → Type 0
         leaves = λ h. absurd (omega arith);
       }))
 
+  -- the events of a cell, and those that a seat drew, are a number of 48 bits
+  few_drawn : (s : St T) (a : Whole told belongs w d s) (id : ℕ) (m : Sat T) (p : ℕ) → get_elem? s.views id ≡ some m.0 → Fit told w m → p < w.instances → get_or (set m.0.got p (a.reckoned.tally p)) p 0 + m.0.drawn < 2 ^ 48
+  few_drawn s a id m p me fit inside = let b = a.reckoned.budgeted in
+      omega (arith, b.small, b.adds_up, b.tallied, below-term a.reckoned.tally w.instances p inside, term_le (λ (v : View). v.drawn) s.views id m.0 me, get_or-set_same m.0.got p (a.reckoned.tally p) 0 (omega (arith, fit.got_long)))
+
   -- what a seat sees of the run as it takes a cell: whether it is halted
   pub sees : (s : St T) (a : Whole told belongs w d s) (id : ℕ) (v : View) (p : ℕ) (y : T) → get_elem? s.views id ≡ some v → p < w.instances → IsHome s p y
       → (seen : ℕ) × SeesMore v.seen seen × (seen ≡ 2 → halted w s.words ≢ 0) × ((seen ≡ 2) ⊎ FlushedAll (told y))
@@ -245,6 +251,7 @@ module _ {T : Type 0} (told : T → Option Tale) (belongs : ℕ → T → Type 0
               saw_it.1,
               saw_it.3,
               a.reckoned.lasting.belonging p y inside cell.1,
+              few_drawn s a id m p me fit inside,
             ),
           )),
           (λ miss. absurd (miss hit)),
@@ -442,6 +449,7 @@ module _ {T : Type 0} (told : T → Option Tale) (belongs : ℕ → T → Type 0
               saw_it.1,
               saw_it.3,
               a.reckoned.lasting.belonging p y inside cell.1,
+              few_drawn s a id m p me fit inside,
             ),
           )),
         ),

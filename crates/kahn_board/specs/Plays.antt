@@ -42,6 +42,10 @@ waking v c count p q = view v.parts v.hands (slice_set v.flushed c count) v.got 
 abbrev pub with_draw : View → ℕ → ℕ → View
 with_draw v k r = view v.parts v.hands v.flushed v.got k v.done v.loose v.owed v.down v.seen 2 (v.steps + 1) r
 
+-- n events of the draw were done, the others may still be done
+abbrev pub used : View → ℕ → ℕ → View
+used v n r = view v.parts v.hands v.flushed v.got (v.drawn - n) (v.done + n) (v.loose + n) v.owed v.down v.seen 2 (v.steps + 1) r
+
 -- n events of the draw weren't done, the others were
 abbrev pub undrawn : View → ℕ → ℕ → View
 undrawn v n r = view v.parts v.hands v.flushed v.got 0 (v.done + (v.drawn - n)) (v.loose + (v.drawn - n)) v.owed v.down v.seen 2 (v.steps + 1) r
@@ -87,11 +91,13 @@ module _ {T : Type 0} (told : T → Option Tale) (w : Wires) where
   parked_or_not p st m r n = (r ≡ st.first → (y : T) × TheFirst m p y × GaveUp m p 1 r n y) × (r ≢ st.first → (r % 2 ≡ 0) × (n ≡ (noted m.0 r, m.1)))
 
 module _ {T : Type 0} (told : T → Option Tale) (belongs : ℕ → T → Type 0) (w : Wires) where
-  -- the seat took the cell y of the instance p: what y tells as flushed is published; it has flushed all that it sent, or the run is halted; it belongs to p
+  -- the seat took the cell y of the instance p: what y tells as flushed is published; it has flushed all that it sent, or the run is halted; it belongs to p;
+  -- its events and those drawn are a number of 48 bits
   abbrev pub Got : Sat T → ℕ → ℕ → Sat T → T → Type 0
   Got m p r n y = (L : List ℕ) × (e : ℕ) × (seen : ℕ) × (n ≡ (took m.0 p L e seen r, (p, Some y) ∷ m.1)) × (slice_index m.0.hands p ≡ 0) × (length L ≡ length m.0.flushed)
       × Agrees w m.0 L × ((c k : ℕ) → flushed_of (told y) c ≡ Some k → (w.writer c ≡ Some p) × (c < w.channels) × (k ≡ slice_index L c))
       × TellsEvents (told y) e × SeesMore m.0.seen seen × ((seen ≡ 2) ⊎ FlushedAll (told y)) × belongs p y
+      × (slice_index (slice_set m.0.got p e) p + m.0.drawn < 2 ^ 48)
 
   abbrev pub claimed : ℕ → Play T
   claimed p st m r n = (r ≡ 0 → (y : T) × Got m p 0 n y) × (r ≢ 0 → n ≡ (noted m.0 r, m.1))
@@ -121,6 +127,9 @@ module _ {T : Type 0} where
   -- it drew the difference where the budget was still what it had found
   abbrev pub drew : Play T
   drew st m r n = (r ≡ st.first → (n ≡ (with_draw m.0 (st.first - st.second) r, m.1)) × ((p : ℕ) → IsIn m.0 p → slice_index m.0.got p + (st.first - st.second) < 2 ^ 48)) × (r ≢ st.first → n ≡ (noted m.0 r, m.1))
+
+  abbrev pub uses : ℕ → Play T
+  uses k st m r n = n ≡ (used m.0 k r, m.1)
 
   abbrev pub gave_back : Play T
   gave_back st m r n = n ≡ (undrawn m.0 st.first r, m.1)

@@ -48,6 +48,20 @@ impl<T: Told> Board<T> {
         self.table.shared.load::<Brand>(seat, word)
     }
 
+    // A load of which a number of the caller's is told.
+    fn load_for<P: Play<Option<T>, View>>(
+        &self,
+        seat: &mut atomic_table::Seat<Option<T>, View>,
+        word: usize,
+        number: u64,
+    ) -> u64
+        requires { MayStep (holds T.told T.after self.now.table.shared.key) self.now.table.shared.table_id seat.old word 0 0 (λ n. n) P.then }
+        ensures { HasStepped (holds T.told T.after self.now.table.shared.key) self.now.table.shared.table_id seat.old seat.new word 0 0 P.then result }
+    {
+        let _number = number;
+        self.load::<P>(seat, word)
+    }
+
     // A compare and exchange: the word was as found at a moment of the call.
     fn compare_exchange<P: Play<Option<T>, View>>(
         &self,
@@ -94,7 +108,7 @@ pub struct Seat<T> {
 }
 
 impl<T: Told> Seat<T> {
-    ghost use Rattle.kahn_board.specs.Calls.{Claims, IsSameSeat, IsFirst, KeepsAll, Swaps, MayLeave, OwesFew, GivesUp, Parks, Publishes, Draws, GivesBack, CountsUp, CountsDown, Halts, Looks};
+    ghost use Rattle.kahn_board.specs.Calls.{Claims, IsSameSeat, IsFirst, KeepsAll, Swaps, MayLeave, OwesFew, GivesUp, Parks, Publishes, Draws, Uses, GivesBack, CountsUp, CountsDown, Halts, Looks};
     ghost use Rattle.kahn_board.specs.Tale.{TellsEnd, TellsWait};
     ghost use Rattle.kahn_board.specs.declared.board.Rest.TheVariants.{Over};
     ghost use Rattle.kahn_board.specs.Plays.{IsIn};
@@ -271,6 +285,16 @@ impl<T: Told> Seat<T> {
         } else {
             Draw::Lost
         }
+    }
+
+    /// So many events of the draw were done. The others may still be done.
+    pub fn spend(&mut self, board: &Board<T>, n: u64)
+        requires board { self.old.seat.table_id ≡ board.now.table.shared.table_id }
+        requires drawn { n ≤ self.old.seat.me.0.drawn }
+        ensures { Uses self.old self.new n }
+    {
+        let word = 8 * (board.instances + board.channels);
+        board.load_for::<Brand>(&mut self.seat, word, n);
     }
 
     /// So many events of the draw weren't done, the others were.

@@ -1,5 +1,5 @@
 -- Which types may go from one thread to another, or be shared by threads, part by part.
---     task_send, seat_send, worker_send      a task, a worker's seat and a worker may go to another thread
+--     task_send, boxed_send, seat_send, worker_send      a task, also in its box, a worker's seat and a worker may go to another thread
 --     empty_sync      threads may share an empty list, also where they may not share what it is for
 --     board_sync      threads may share a board of what may go from one to another
 --     floor_sync      threads may share what the workers of a run share
@@ -34,6 +34,9 @@ use Rattle.kahn_board.specs.contracts.rule.Terms as Terms
 use Rattle.kahn_board.specs.contracts.view.View as View
 use Rattle.kahn_board.specs.declared.rule.Told.{Ghosts}
 use Rattle.kahn_board.proofs.board.Seat.TheSendSync as seat
+use Rattle.kahn_crew.specs.contracts.boxes.Boxed as Boxed
+use Rattle.kahn_crew.specs.contracts.boxes.Boxed.TheInside as InBoxed
+use Rattle.kahn_crew.specs.contracts.boxes.BoxedTold.TheImpl as told
 use Rattle.kahn_crew.specs.contracts.floor.Floor as Floor
 use Rattle.kahn_crew.proofs.hints.Hints.TheSendSync as hints
 use Rattle.kahn_crew.proofs.standing.Standing.TheSendSync as standing
@@ -41,7 +44,6 @@ use Rattle.kahn_crew.specs.contracts.routes.Routes as Routes
 use Rattle.kahn_crew.specs.contracts.routes.Routes.TheInside as InRoutes
 use Rattle.kahn_crew.specs.contracts.task.Task as Task
 use Rattle.kahn_crew.specs.contracts.task.Task.TheInside as InTask
-use Rattle.kahn_crew.specs.contracts.task.TaskTold.TheImpl as told
 use Rattle.kahn_crew.specs.contracts.worker.Worker as Worker
 
 module _ (a : NamedLft) where
@@ -49,11 +51,15 @@ module _ (a : NamedLft) where
   task_send = view_send (InTask.the_row a) _ _ _ _ (recorded_send (InTask.the_field a).row _ _ (InTask.the_type a).to_one
       (struct_send (S.shape (InTask.the_type a)) (job_send a, (standing.the_field_send, (std.Vec-send u64 (search sendable), tt)))))
 
-  seat_field_send : IsSend (Seat.the_field (Task.the_row a)).row
-  seat_field_send = seat.the_field_send (Task.the_row a) task_send
+  pub boxed_send : IsSend (Boxed.the_row a)
+  boxed_send = view_send (InBoxed.the_row a) _ _ _ _ (recorded_send (InBoxed.the_field a).row _ _ (InBoxed.the_type a).to_one
+      (struct_send (S.shape (InBoxed.the_type a)) (std.Box-send _ task_send, tt)))
 
-  pub seat_send : IsSend (Seat.the_row (Task.the_row a))
-  seat_send = seat.the_send (Task.the_row a) task_send
+  seat_field_send : IsSend (Seat.the_field (Boxed.the_row a)).row
+  seat_field_send = seat.the_field_send (Boxed.the_row a) boxed_send
+
+  pub seat_send : IsSend (Seat.the_row (Boxed.the_row a))
+  seat_send = seat.the_send (Boxed.the_row a) boxed_send
 
   pub worker_send : IsSend (Worker.the_row a)
   worker_send = recorded_send (Worker.the_field a).row _ _ (Worker.the_type a).to_one
@@ -99,4 +105,4 @@ module _ (b : NamedLft) where
 
   pub floor_sync : (a : NamedLft) → IsSync (Floor.the_row a b)
   floor_sync a = recorded_sync (Floor.the_field a b).row _ _ (Floor.the_type a b).to_one
-      (struct_sync (S.shape (Floor.the_type a b)) (shr_sync _ _ _ (board_sync (Task.the_row b) told.ghosts (task_send b)), (shr_sync _ _ _ routes_sync, (shr_sync _ _ _ code_sync, (search sendable, tt)))))
+      (struct_sync (S.shape (Floor.the_type a b)) (shr_sync _ _ _ (board_sync (Boxed.the_row b) told.ghosts (boxed_send b)), (shr_sync _ _ _ routes_sync, (shr_sync _ _ _ code_sync, (search sendable, tt)))))

@@ -17,8 +17,8 @@ IsDue w p x due.Ready = x.standing ≡ standing.Going
 IsDue w p x due.Over = TellsEnd (told_of x)
 IsDue w p x (due.Waits c k) = (c < w.channels) × (w.reader c ≡ Some p) × (k < 2 ^ 48) × TellsWait (told_of x) c k
 
--- in a turn of p, whose draw is given back: its task is at home, may be left, and may be set down so
+-- in a turn of p, which told what it did: its task is at home, may be left, and may be set down so
 abbrev pub CanRest : Terms Tasked → ℕ → Due → Seat Tasked → Type 0
 CanRest key p due s =
-    (l : ℕ) × (y : Tasked) × Holds p 0 l (Some y) s × Fits told_of (belongs IsLater key) (wired key) p y s.seat.me.0
+    (n : ℕ) × (l : ℕ) × (y : Tasked) × Holds p n l (Some y) s × Fits told_of (belongs IsLater key) (wired key) p y s.seat.me.0
     × IsDue (wired key) p y due

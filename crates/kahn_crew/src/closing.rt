@@ -8,6 +8,7 @@ ghost use Rattle.kahn_crew.specs.Crews.{IsWhole};
 ghost use Rattle.kahn_crew.specs.Left.{AreUntouched, HaveGone, IsOver};
 ghost use Rattle.kahn_crew.specs.Tasks.{Tasked};
 
+use crate::boxes::Boxed;
 use crate::left::Left;
 use crate::task::Task;
 use kahn_board::{Board, Closed, Seat};
@@ -15,14 +16,14 @@ use kahn_network::network::Network;
 use kahn_streams::input::Input;
 
 // The tasks of cells that are all there, in their order.
-fn out_of_cells<'n>(mut cells: Vec<Option<Task<'n>>>, mut tasks: Vec<Task<'n>>) -> Vec<Task<'n>>
+fn out_of_cells<'n>(mut cells: Vec<Option<Boxed<'n>>>, mut tasks: Vec<Task<'n>>) -> Vec<Task<'n>>
     requires full { (xs : List Tasked) × (cells.items ≡ map Some xs) }
     requires room { (tasks.items ≡ []) × (length cells.items ≤ vec_capacity tasks) }
     ensures { cells.entry.items ≡ map Some result.items }
 {
     while let Some(cell) = cells.pop() {
-        let Some(task) = cell else { unreachable!() };
-        tasks.push_reserved(task);
+        let Some(boxed) = cell else { unreachable!() };
+        tasks.push_reserved(boxed.open());
     }
     tasks.reverse();
     tasks
@@ -31,8 +32,8 @@ fn out_of_cells<'n>(mut cells: Vec<Option<Task<'n>>>, mut tasks: Vec<Task<'n>>) 
 /// What is left of a run on whose board nobody works. Where all workers have left by themselves the run is over. It takes no
 /// memory.
 pub(crate) fn leave<'n>(
-    board: Board<Task<'n>>,
-    seat: Seat<Task<'n>>,
+    board: Board<Boxed<'n>>,
+    seat: Seat<Boxed<'n>>,
     room: Vec<Task<'n>>,
     network: &'n Network,
     input: &'n Input,

@@ -14,6 +14,7 @@ ghost use Rattle.kahn_crew.specs.Tasks.{told_of};
 ghost use Rattle.kahn_crew.specs.Wants.{IsWant};
 ghost use Rattle.kahn_crew.specs.declared.fault.CrewFault.TheVariants.{NoMemory as NoMemoryFault};
 
+use crate::boxes::Boxed;
 use crate::closing::{leave, untouched};
 use crate::fault::CrewFault;
 use crate::floor::Floor;
@@ -39,8 +40,8 @@ use std::thread::Threads;
 
 // A worker for each seat.
 fn man<'n>(
-    board: &Board<Task<'n>>,
-    mut seats: Vec<Seat<Task<'n>>>,
+    board: &Board<Boxed<'n>>,
+    mut seats: Vec<Seat<Boxed<'n>>>,
     mut hints: Vec<Hints>,
     mut workers: Vec<Worker<'n>>,
 ) -> Vec<Worker<'n>>
@@ -64,10 +65,10 @@ fn man<'n>(
 
 // The seats of workers that have left.
 fn dismiss<'n>(
-    board: &Board<Task<'n>>,
+    board: &Board<Boxed<'n>>,
     mut workers: Vec<Worker<'n>>,
-    mut seats: Vec<Seat<Task<'n>>>,
-) -> Vec<Seat<Task<'n>>>
+    mut seats: Vec<Seat<Boxed<'n>>>,
+) -> Vec<Seat<Boxed<'n>>>
     requires room { (seats.items ≡ []) × (length workers.items ≤ vec_capacity seats) }
     requires each { All (HasGone board.now.table.shared.table_id) workers.items }
     ensures count { length result.items ≡ length workers.entry.items }
@@ -140,9 +141,9 @@ fn employ<'n, R: Threads + Wait + Sync, G: Gate + Sync>(
     alloc: Global,
     floor: &Floor<'_, 'n>,
     gate: &G,
-    seat: Seat<Task<'n>>,
+    seat: Seat<Boxed<'n>>,
     rooms: Rooms<'n>,
-) -> Result<Seat<Task<'n>>, (CrewFault, Seat<Task<'n>>)>
+) -> Result<Seat<Boxed<'n>>, (CrewFault, Seat<Boxed<'n>>)>
     requires floor { IsFloor floor.now.board.now.table.shared.key floor.now.routes.now floor.now.code.now.network.value }
     requires quantum { 0 < floor.now.quantum }
     requires seat { IsWhole floor.now.board.now.table.shared.table_id seat }

@@ -1,7 +1,7 @@
 //! What all workers of a run share.
 
+use crate::boxes::Boxed;
 use crate::routes::Routes;
-use crate::task::Task;
 use kahn_board::Board;
 use kahn_code::code::Code;
 
@@ -9,7 +9,7 @@ use kahn_code::code::Code;
 /// before another one is looked for.
 #[derive(Drop)]
 pub struct Floor<'b, 'n> {
-    pub board: &'b Board<Task<'n>>,
+    pub board: &'b Board<Boxed<'n>>,
     pub routes: &'b Routes<'n>,
     pub code: &'b Code,
     pub quantum: u64,

@@ -1,6 +1,7 @@
 //! The workers of a run: each takes one process after another, runs it for a part of the budget, and passes it on.
 #![tactic(auto)]
 
+mod boxes;
 mod closing;
 mod crew;
 mod fault;
@@ -10,6 +11,7 @@ mod hints;
 mod labor;
 mod left;
 mod opening;
+mod pick;
 mod plan;
 mod publish;
 mod rest;

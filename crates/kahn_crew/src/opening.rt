@@ -8,6 +8,7 @@ ghost use Rattle.kahn_board.specs.Wires.{wires};
 ghost use Rattle.kahn_crew.specs.Begins.{AreReady, HasBegun, IsNumber, ready_task};
 ghost use Rattle.kahn_crew.specs.Tasks.{told_of};
 
+use crate::boxes::{Boxed, box_all, unbox_all};
 use crate::task::Task;
 use kahn_board::{Board, Seat};
 use kahn_code::code::Code;
@@ -107,7 +108,7 @@ pub(crate) fn open_board<'n>(
     watch: Option<usize>,
     bound: u64,
     tasks: Vec<Task<'n>>,
-) -> Result<(Board<Task<'n>>, Seat<Task<'n>>), (NoMemory, Vec<Task<'n>>)>
+) -> Result<(Board<Boxed<'n>>, Seat<Boxed<'n>>), (NoMemory, Vec<Task<'n>>)>
     requires ready { AreReady network.now input.now watch tasks.items }
     requires few { bound + events_of told_of tasks.items < 2 ^ 48 }
     ensures seat { IfOk result (λ r. (r.1.seat.table_id ≡ r.0.table.shared.table_id) × (r.1.seat.me ≡ (opening_view (wires network.now), []))) }
@@ -119,5 +120,12 @@ pub(crate) fn open_board<'n>(
     let Ok(numbers) = numbers_of(alloc, network, input, watch, &tasks) else {
         return Err((NoMemory, tasks));
     };
-    Board::new(alloc, network, &numbers, tasks, bound)
+    let (boxes, room) = match box_all(alloc, tasks) {
+        Ok(boxed) => boxed,
+        Err(refused) => return Err(refused),
+    };
+    match Board::new(alloc, network, &numbers, boxes, bound) {
+        Ok(opened) => Ok(opened),
+        Err((fault, boxes)) => Err((fault, unbox_all(boxes, room))),
+    }
 }

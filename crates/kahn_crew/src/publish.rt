@@ -2,11 +2,12 @@
 
 ghost use Rattle.std.specs.Prelude.{◌≡◌, ◌≢◌, ◌⊎◌, ℕ, ◌<◌, ◌^◌, true, false, None, Option, IfNone};
 ghost use Rattle.kahn_code.specs.Standing.{count};
-ghost use Rattle.kahn_desk.specs.Turn.{Holds, IsIdle, IsSeatOf};
+ghost use Rattle.kahn_desk.specs.Turn.{Holds, IsBetween, IsSeatOf};
 ghost use Rattle.kahn_job.specs.Works.{width_of};
 ghost use Rattle.kahn_crew.specs.Floors.{HasKept, IsFloor, IsTaskOf};
 ghost use Rattle.kahn_crew.specs.Tasks.{AgreesWith, IsPublished, Tasked};
 
+use crate::boxes::Boxed;
 use crate::floor::Floor;
 use crate::hints::Hints;
 use crate::task::Task;
@@ -16,7 +17,7 @@ use kahn_desk::{stop, tell};
 // Publishes what was flushed on a parameter, where it is more than before. Answers the reader that it woke.
 pub(crate) fn publish_one<'n>(
     floor: &Floor<'_, 'n>,
-    seat: &mut Seat<Task<'n>>,
+    seat: &mut Seat<Boxed<'n>>,
     task: &mut Task<'n>,
     p: usize,
     parameter: usize,
@@ -38,21 +39,21 @@ pub(crate) fn publish_one<'n>(
 {
     floor.routes.wired();
     task.parameters();
-    let channel = floor.routes.target(p, parameter)?;
     let count = task.flushed(parameter);
     if count == task.published(parameter) {
         return None;
     }
+    let channel = floor.routes.target(p, parameter)?;
     task.mark(parameter, count);
     tell(seat, floor.board, p, channel, count)
 }
 
 // Where memory was refused for a hint the run is to stop. Otherwise the seat stays as it is.
-fn heed_hint<'n>(floor: &Floor<'_, 'n>, seat: &mut Seat<Task<'n>>, told: bool)
+fn heed_hint<'n>(floor: &Floor<'_, 'n>, seat: &mut Seat<Boxed<'n>>, told: bool)
     requires { seat.old.seat.table_id ≡ floor.now.board.now.table.shared.table_id }
     ensures same { IsSeatOf seat.old seat.new }
     ensures holds { (p n l : ℕ) (x : Option Tasked) → Holds p n l x seat.old → Holds p n l x seat.new }
-    ensures idle { IsIdle seat.old → IsIdle seat.new }
+    ensures rests { (n : ℕ) → IsBetween n seat.old → IsBetween n seat.new }
     ensures kept { (p : ℕ) → HasKept p seat.old.seat.me.0 seat.new.seat.me.0 }
     ensures flushed { seat.new.seat.me.0.flushed ≡ seat.old.seat.me.0.flushed }
     ensures refused { told ≡ false → seat.new.seat.me.0.seen ≡ 2 }
@@ -66,14 +67,14 @@ fn heed_hint<'n>(floor: &Floor<'_, 'n>, seat: &mut Seat<Task<'n>>, told: bool)
 /// Hints at an instance that is ready, where there is one. Where memory is refused the run is to stop.
 pub(crate) fn hint<'n>(
     floor: &Floor<'_, 'n>,
-    seat: &mut Seat<Task<'n>>,
+    seat: &mut Seat<Boxed<'n>>,
     hints: &mut Hints,
     woken: Option<usize>,
 )
     requires { seat.old.seat.table_id ≡ floor.now.board.now.table.shared.table_id }
     ensures same { IsSeatOf seat.old seat.new }
     ensures holds { (p n l : ℕ) (x : Option Tasked) → Holds p n l x seat.old → Holds p n l x seat.new }
-    ensures idle { IsIdle seat.old → IsIdle seat.new }
+    ensures rests { (n : ℕ) → IsBetween n seat.old → IsBetween n seat.new }
     ensures kept { (p : ℕ) → HasKept p seat.old.seat.me.0 seat.new.seat.me.0 }
     ensures flushed { seat.new.seat.me.0.flushed ≡ seat.old.seat.me.0.flushed }
     // Nothing is halted where no hint was to be given, and the run is where memory was refused for one.
@@ -89,7 +90,7 @@ pub(crate) fn hint<'n>(
 /// Publishes all that was flushed on each parameter, and hints at the readers that it woke.
 pub(crate) fn publish_all<'n>(
     floor: &Floor<'_, 'n>,
-    seat: &mut Seat<Task<'n>>,
+    seat: &mut Seat<Boxed<'n>>,
     hints: &mut Hints,
     task: &mut Task<'n>,
     p: usize,

@@ -3,8 +3,8 @@
 ghost use Rattle.std.specs.Prelude.{◌≡◌, ◌<◌, ◌≤◌, [], length, IfOk, OnOk};
 ghost use Rattle.std.specs.Vec.{vec_capacity};
 
+use crate::boxes::Boxed;
 use crate::hints::Hints;
-use crate::task::Task;
 use crate::worker::Worker;
 use crossbeam_deque::Worker as Deque;
 use kahn_board::Seat;
@@ -16,7 +16,7 @@ use std::alloc::Global;
 pub(crate) struct Rooms<'n> {
     pub(crate) hints: Vec<Hints>,
     pub(crate) workers: Vec<Worker<'n>>,
-    pub(crate) seats: Vec<Seat<Task<'n>>>,
+    pub(crate) seats: Vec<Seat<Boxed<'n>>>,
 }
 
 // Hints for so many workers, each with room for that many hints.

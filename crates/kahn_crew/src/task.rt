@@ -14,7 +14,6 @@ ghost use Rattle.kahn_crew.specs.declared.standing.Standing.TheVariants.{Going a
 ghost use Rattle.kahn_crew.specs.Tasks.{Continues, HasMet, IsTrueOf, standing_after};
 
 use crate::standing::Standing;
-use kahn_board::Told;
 use kahn_code::cell::Kept;
 use kahn_code::code::Code;
 use kahn_code::progress::Pause;
@@ -51,14 +50,6 @@ impl<'n> Model for Task<'n> {
     ghost view = { λ t. record { work = t.job; standing = t.standing; published = t.published.items } };
 
     ghost invariant = { λ t. IsTrueOf t.job t.standing × (length t.published.items ≡ width_of t.job) };
-}
-
-impl<'n> Told for Task<'n> {
-    ghost use Rattle.kahn_crew.specs.Tasks.{IsLater, told_of};
-
-    ghost told = { told_of };
-
-    ghost after = { IsLater };
 }
 
 // How many tokens a job sent on each of its parameters.

@@ -1,26 +1,30 @@
-//! A turn: an instance is run for a draw of events, and set down where it stands then.
+//! A turn: instances are run one after another for a draw of events, and each is set down where it stands then.
 
-ghost use Rattle.std.specs.Prelude.{◌≡◌, ◌⊎◌, ℕ, ◌+◌, ◌<◌, ◌≤◌, ◌^◌, length, slice_index, OnErr, OnOk, Option, Some};
+ghost use Rattle.std.specs.Prelude.{◌≡◌, ◌⊎◌, ℕ, ◌+◌, ◌-◌, ◌<◌, ◌≤◌, ◌^◌, length, slice_index, OnErr, OnOk, Option, Some};
 ghost use Rattle.kahn_network.specs.Network.{network_of};
 ghost use Rattle.kahn_board.specs.Dealt.{wired};
 ghost use Rattle.kahn_code.specs.declared.progress.Pause.TheVariants.{NoMemory as IsWant};
 ghost use Rattle.kahn_job.specs.Works.{IsDelivered};
-ghost use Rattle.kahn_desk.specs.Turn.{Holds, IsIdle, IsSeatOf};
+ghost use Rattle.kahn_desk.specs.Turn.{Holds, IsBetween, IsIdle, IsSeatOf};
 ghost use Rattle.kahn_crew.specs.Floors.{HasKept, HasTask, IsFloor, IsTaskOf};
 ghost use Rattle.kahn_crew.specs.Rests.{CanRest, IsDue};
 ghost use Rattle.kahn_crew.specs.Tasks.{Continues, IsLater, Tasked};
 ghost use Rattle.kahn_crew.specs.declared.standing.Standing.TheVariants.{Going as IsGoing};
 
+use crate::boxes::Boxed;
 use crate::floor::Floor;
 use crate::gate::Gate;
 use crate::hints::Hints;
+use crate::pick::pick_hinted;
 use crate::publish::{hint, publish_all};
 use crate::standing::Standing;
 use crate::task::Task;
 use kahn_board::Seat;
 use kahn_code::progress::Pause;
 use kahn_code::steps::Steps;
-use kahn_desk::{draw_some, give, put, rest_dry, rest_over, rest_ready, stop, take_cell};
+use kahn_desk::{
+    draw_some, give, put, rest_dry, rest_over, rest_ready, stop, take_cell, tell_done,
+};
 use kahn_streams::memory::NoMemory;
 use std::sync::Wait;
 use std::sync::ledger::Ledger;
@@ -58,7 +62,7 @@ fn due_of<'n>(floor: &Floor<'_, 'n>, task: &Task<'n>, p: usize) -> Due
 // Where memory was refused, for an event or for a segment, the run is to stop. Otherwise the seat stays as it is.
 fn heed<'n>(
     floor: &Floor<'_, 'n>,
-    seat: &mut Seat<Task<'n>>,
+    seat: &mut Seat<Boxed<'n>>,
     pause: Pause,
     flushed: Result<(), NoMemory>,
 )
@@ -81,7 +85,7 @@ fn heed<'n>(
 // the run is to stop.
 fn run_task<'n, L: Ledger>(
     floor: &Floor<'_, 'n>,
-    seat: &mut Seat<Task<'n>>,
+    seat: &mut Seat<Boxed<'n>>,
     task: &mut Task<'n>,
     drawn: u64,
     steps: &mut Steps<L>,
@@ -108,12 +112,18 @@ fn run_task<'n, L: Ledger>(
 }
 
 // Sets an instance down.
-fn rest<'n>(floor: &Floor<'_, 'n>, seat: &mut Seat<Task<'n>>, hints: &mut Hints, p: usize, due: Due)
+fn rest<'n>(
+    floor: &Floor<'_, 'n>,
+    seat: &mut Seat<Boxed<'n>>,
+    hints: &mut Hints,
+    p: usize,
+    due: Due,
+)
     requires board { seat.old.seat.table_id ≡ floor.now.board.now.table.shared.table_id }
     requires wires { ((wired floor.now.board.now.table.shared.key).channels ≡ floor.now.board.now.channels) }
     requires holds { CanRest floor.now.board.now.table.shared.key p due seat.old }
     ensures same { IsSeatOf seat.old seat.new }
-    ensures idle { IsIdle seat.new }
+    ensures rests { IsBetween seat.old.seat.me.0.drawn seat.new }
 {
     match due {
         Due::Ready => {
@@ -129,39 +139,78 @@ fn rest<'n>(floor: &Floor<'_, 'n>, seat: &mut Seat<Task<'n>>, hints: &mut Hints,
     }
 }
 
-// Runs an instance for the events that were drawn, and sets it down.
+// Runs an instance for at most so many events of a draw, and sets it down. Answers how many it did.
 fn spend<'n, L: Ledger>(
     floor: &Floor<'_, 'n>,
-    seat: &mut Seat<Task<'n>>,
+    seat: &mut Seat<Boxed<'n>>,
     hints: &mut Hints,
     p: usize,
     drawn: u64,
     steps: &mut Steps<L>,
-)
+) -> u64
     requires board { seat.old.seat.table_id ≡ floor.now.board.now.table.shared.table_id }
     requires floor { IsFloor floor.now.board.now.table.shared.key floor.now.routes.now floor.now.code.now.network.value }
     requires inside { p < length (network_of floor.now.routes.now).instances }
     requires few { slice_index seat.old.seat.me.0.got p + drawn < 2 ^ 48 }
     requires holds { HasTask floor.now.board.now.table.shared.key p drawn seat.old }
     ensures same { IsSeatOf seat.old seat.new }
-    ensures idle { IsIdle seat.new }
+    ensures done { result ≤ drawn }
+    ensures rests { IsBetween (drawn - result) seat.new }
 {
     floor.routes.wired();
-    let mut task = take_cell(seat, floor.board, p);
-    let done = run_task(floor, seat, &mut task, drawn, steps);
-    publish_all(floor, seat, hints, &mut task, p);
-    let due = due_of(floor, &task, p);
-    put(seat, floor.board, p, task);
-    give(seat, floor.board, p, drawn - done);
+    let mut boxed = take_cell(seat, floor.board, p);
+    let done = run_task(floor, seat, &mut boxed.task, drawn, steps);
+    publish_all(floor, seat, hints, &mut boxed.task, p);
+    let due = due_of(floor, &boxed.task, p);
+    put(seat, floor.board, p, boxed);
+    tell_done(seat, floor.board, p, done);
     rest(floor, seat, hints, p, due);
+    done
 }
 
-/// A turn of an instance that was picked: it is run for a part of the budget, where some is left, and set down.
+// Runs one instance after another for the events that were drawn, as long as more than half of a quantum is left, so that
+// each has time enough, and own hints name one that is ready. Answers how many are left. Whether the run is to stop is
+// looked for after that.
+fn spend_all<'n, G: Gate, L: Ledger>(
+    floor: &Floor<'_, 'n>,
+    gate: &G,
+    seat: &mut Seat<Boxed<'n>>,
+    hints: &mut Hints,
+    first: usize,
+    drawn: u64,
+    steps: &mut Steps<L>,
+) -> u64
+    requires board { seat.old.seat.table_id ≡ floor.now.board.now.table.shared.table_id }
+    requires floor { IsFloor floor.now.board.now.table.shared.key floor.now.routes.now floor.now.code.now.network.value }
+    requires inside { first < length (network_of floor.now.routes.now).instances }
+    requires few { slice_index seat.old.seat.me.0.got first + drawn < 2 ^ 48 }
+    requires holds { HasTask floor.now.board.now.table.shared.key first drawn seat.old }
+    ensures same { IsSeatOf seat.old seat.new }
+    ensures rests { IsBetween result seat.new }
+{
+    let mut p = first;
+    let mut left = drawn;
+    loop {
+        gate.enter(p);
+        let done = spend(floor, seat, hints, p, left, steps);
+        left -= done;
+        if done == 0 || left <= floor.quantum / 2 {
+            return left;
+        }
+        let Some(next) = pick_hinted(floor, seat, hints, false) else {
+            return left;
+        };
+        p = next;
+    }
+}
+
+/// A turn of an instance that was picked: it is run for a part of the budget, where some is left, and set down, and so are
+/// those that it woke while the part lasts.
 pub(crate) fn turn<'n, R: Wait, G: Gate, L: Ledger>(
     rt: &R,
     floor: &Floor<'_, 'n>,
     gate: &G,
-    seat: &mut Seat<Task<'n>>,
+    seat: &mut Seat<Boxed<'n>>,
     hints: &mut Hints,
     p: usize,
     steps: &mut Steps<L>,
@@ -177,8 +226,8 @@ pub(crate) fn turn<'n, R: Wait, G: Gate, L: Ledger>(
     floor.routes.wired();
     match draw_some(rt, seat, floor.board, p, floor.quantum) {
         Some(drawn) => {
-            gate.enter(p);
-            spend(floor, seat, hints, p, drawn, steps);
+            let left = spend_all(floor, gate, seat, hints, p, drawn, steps);
+            give(seat, floor.board, left);
         }
         None => rest_ready(seat, floor.board, p),
     }

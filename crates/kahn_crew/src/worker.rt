@@ -4,15 +4,16 @@ ghost use Rattle.std.specs.Prelude.{◌≡◌, ◌<◌, IfSome, IfNone};
 ghost use Rattle.kahn_desk.specs.Turn.{IsIdle, IsSeatOf};
 ghost use Rattle.kahn_crew.specs.Floors.{HasTask, IsFloor};
 
+use crate::boxes::Boxed;
 use crate::floor::Floor;
 use crate::gate::Gate;
 use crate::hints::Hints;
+use crate::pick::{pick_any, pick_hinted};
 use crate::rest::Rest;
-use crate::task::Task;
 use crate::turn::turn;
 use kahn_board::Seat;
 use kahn_code::steps::Steps;
-use kahn_desk::{go_on, pick};
+use kahn_desk::go_on;
 use std::marker::Brand;
 use std::sync::Wait;
 use std::sync::ledger::{Blank, Ledger};
@@ -23,52 +24,9 @@ const LONG: usize = 8;
 /// A worker: its seat at the board, its hints, and the instance at which it begins to look where it has none.
 #[derive(Drop)]
 pub struct Worker<'n> {
-    pub seat: Seat<Task<'n>>,
+    pub seat: Seat<Boxed<'n>>,
     pub hints: Hints,
     pub start: usize,
-}
-
-// Picks an instance that a hint names: one of the worker's own, or one that it steals.
-fn pick_hinted<'n>(
-    floor: &Floor<'_, 'n>,
-    seat: &mut Seat<Task<'n>>,
-    hints: &mut Hints,
-    steals: bool,
-) -> Option<usize>
-    requires board { seat.old.seat.table_id ≡ floor.now.board.now.table.shared.table_id }
-    requires idle { IsIdle seat.old }
-    ensures same { IsSeatOf seat.old seat.new }
-    ensures picked { IfSome result (λ p. (p < floor.now.board.now.instances) × HasTask floor.now.board.now.table.shared.key p 0 seat.new) }
-    ensures left { IfNone result (IsIdle seat.new) }
-{
-    for _ in 0..floor.board.instances {
-        let found = if steals { hints.steal() } else { hints.next() };
-        let Some(p) = found else {
-            return None;
-        };
-        if p < floor.board.instances && pick(seat, floor.board, p) {
-            return Some(p);
-        }
-    }
-    None
-}
-
-// Picks an instance that is ready, from the one with that number on, round all of them.
-fn pick_any<'n>(floor: &Floor<'_, 'n>, seat: &mut Seat<Task<'n>>, start: usize) -> Option<usize>
-    requires board { seat.old.seat.table_id ≡ floor.now.board.now.table.shared.table_id }
-    requires idle { IsIdle seat.old }
-    ensures same { IsSeatOf seat.old seat.new }
-    ensures picked { IfSome result (λ p. (p < floor.now.board.now.instances) × HasTask floor.now.board.now.table.shared.key p 0 seat.new) }
-    ensures left { IfNone result (IsIdle seat.new) }
-{
-    let count = floor.board.instances;
-    for step in 0..count {
-        let p = (start % count + step) % count;
-        if floor.board.looks_ready(p) && pick(seat, floor.board, p) {
-            return Some(p);
-        }
-    }
-    None
 }
 
 // An instance that looks ready, from the one with that number on, round all of them.

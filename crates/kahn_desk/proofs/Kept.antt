@@ -7,7 +7,7 @@ use Rattle.kahn_board.specs.Plays.{Sat, noted}
 use Rattle.kahn_board.specs.Calls.{Was, Claims}
 use Rattle.kahn_board.specs.declared.rule.Terms.{Terms}
 use Rattle.kahn_board.specs.declared.board.Seat.{Seat}
-use Rattle.kahn_desk.specs.Turn.{InTurn, Fits, Rests, IsIdle}
+use Rattle.kahn_desk.specs.Turn.{InTurn, Fits, IsBetween, RestsWith}
 
 module _ {T : Type 0} where
   -- it has what it had
@@ -25,7 +25,7 @@ module _ {T : Type 0} where
   pub kept_fits : (told : T → Option Tale) (belongs : ℕ → T → Type 0) (w : Wires) (p r : ℕ) (y : T) (m n : Sat T) → n.0 ≡ noted m.0 r → Fits told belongs w p y m.0 → Fits told belongs w p y n.0
   kept_fits told belongs w p r y m n is f = subst (Fits told belongs w p y) (sym is) record { published = f.published; events = f.events; flushed = f.flushed; belonging = f.belonging }
 
-  pub missed : (told : T → Option Tale) (after : T → T → Type 0) (key : Terms T) (s t : Seat T) (p : ℕ) (o : Option (Unit {0})) → Claims told after key s t p o → is_some o ≡ false → IsIdle s
-      → IsIdle t × ((r : ℕ) × (r ≢ 0) × Was told after key s s.seat.me.0 (8 * p) r)
-  missed told after key s t p None c out idle = let e = c.1 in (subst (λ (m : Sat T). Rests m.0) (sym e.3) idle, (e.0, e.1, e.2))
-  missed told after key s t p (Some u) c out idle = absurd (true≢false out)
+  pub missed : (told : T → Option Tale) (after : T → T → Type 0) (key : Terms T) (s t : Seat T) (p : ℕ) (o : Option (Unit {0})) → Claims told after key s t p o → is_some o ≡ false
+      → ((k : ℕ) → IsBetween k s → IsBetween k t) × ((r : ℕ) × (r ≢ 0) × Was told after key s s.seat.me.0 (8 * p) r)
+  missed told after key s t p None c out = let e = c.1 in ((λ k rests. subst (λ (m : Sat T). RestsWith k m.0) (sym e.3) rests), (e.0, e.1, e.2))
+  missed told after key s t p (Some u) c out = absurd (true≢false out)

@@ -2,15 +2,18 @@
 use Rattle.std.specs.Prelude.{◌≡◌, ◌≢◌, ◌⊎◌, ℕ, ◌+◌, ◌<◌, [], slice_index, Option, Some}
 use Rattle.kahn_board.specs.Tale.{Tale, FlushedAll, flushed_of, events_past}
 use Rattle.kahn_board.specs.Wires.{Wires}
-use Rattle.kahn_board.specs.Cuts.{IsFree}
+use Rattle.kahn_board.specs.Cuts.{HoldsNothing}
 use Rattle.kahn_board.specs.Hands.{Carries}
 use Rattle.kahn_board.specs.Plays.{Sat, IsIn, SeesMore}
 use Rattle.kahn_board.specs.declared.view.View.{View}
 use Rattle.kahn_board.specs.declared.board.Seat.{Seat}
 
--- it has no instance, drew and owes nothing, and each event that it told as done was told by a cell
+-- it has no instance, drew n events and owes nothing, and each event that it told as done was told by a cell
+abbrev pub RestsWith : ℕ → View → Type 0
+RestsWith n v = (HoldsNothing v × (v.drawn ≡ n) × (v.owed ≡ []) × (v.down ≡ 0)) × (v.loose ≡ 0)
+
 abbrev pub Rests : View → Type 0
-Rests v = IsFree v × (v.loose ≡ 0)
+Rests v = RestsWith 0 v
 
 -- what is known of the instance p stays: what its channels' numbers are, what its cell told when it was got; and no less was seen
 pub record Knows (w : Wires) (p : ℕ) (old new : View) : Type 0 where
@@ -35,6 +38,10 @@ module _ {T : Type 0} where
     pub down : m.0.down ≡ 0
     pub drawn : m.0.drawn ≡ n
     pub loose : m.0.loose ≡ l
+
+  -- between two instances of a turn, with n events of its draw left
+  abbrev pub IsBetween : ℕ → Seat T → Type 0
+  IsBetween n s = RestsWith n s.seat.me.0
 
   -- between two turns
   abbrev pub IsIdle : Seat T → Type 0

@@ -7,16 +7,16 @@ ghost use Rattle.kahn_board.specs.Calls.{Was, Looks};
 ghost use Rattle.kahn_board.specs.Rule.{channel_at};
 ghost use Rattle.kahn_board.specs.declared.board.Look.{Look};
 ghost use Rattle.kahn_board.specs.declared.board.Look.TheVariants.{Go};
-ghost use Rattle.kahn_desk.specs.Turn.{IsIdle, IsSeatOf, Holds, Fits};
+ghost use Rattle.kahn_desk.specs.Turn.{IsBetween, IsIdle, IsSeatOf, Holds, Fits};
 
 use kahn_board::{Board, Look, Rest, Seat, Told};
 
 /// The instance is ready for another turn.
 pub fn rest_ready<T: Told>(seat: &mut Seat<T>, board: &Board<T>, p: usize)
     requires board { seat.old.seat.table_id ≡ board.now.table.shared.table_id }
-    requires holds { (l : ℕ) × (y : T) × Holds p 0 l (Some y) seat.old × Fits T.told (belongs T.after board.now.table.shared.key) (wired board.now.table.shared.key) p y seat.old.seat.me.0 }
+    requires holds { (n : ℕ) × (l : ℕ) × (y : T) × Holds p n l (Some y) seat.old × Fits T.told (belongs T.after board.now.table.shared.key) (wired board.now.table.shared.key) p y seat.old.seat.me.0 }
     ensures same { IsSeatOf seat.old seat.new }
-    ensures idle { IsIdle seat.new }
+    ensures rests { IsBetween seat.old.seat.me.0.drawn seat.new }
 {
     seat.set_down(board, p, Rest::Ready);
 }
@@ -24,9 +24,9 @@ pub fn rest_ready<T: Told>(seat: &mut Seat<T>, board: &Board<T>, p: usize)
 /// The instance has ended.
 pub fn rest_over<T: Told>(seat: &mut Seat<T>, board: &Board<T>, p: usize)
     requires board { seat.old.seat.table_id ≡ board.now.table.shared.table_id }
-    requires holds { (l : ℕ) × (y : T) × Holds p 0 l (Some y) seat.old × Fits T.told (belongs T.after board.now.table.shared.key) (wired board.now.table.shared.key) p y seat.old.seat.me.0 × TellsEnd (T.told y) }
+    requires holds { (n : ℕ) × (l : ℕ) × (y : T) × Holds p n l (Some y) seat.old × Fits T.told (belongs T.after board.now.table.shared.key) (wired board.now.table.shared.key) p y seat.old.seat.me.0 × TellsEnd (T.told y) }
     ensures same { IsSeatOf seat.old seat.new }
-    ensures idle { IsIdle seat.new }
+    ensures rests { IsBetween seat.old.seat.me.0.drawn seat.new }
 {
     seat.set_down(board, p, Rest::Over);
     seat.count_down(board);
@@ -43,9 +43,9 @@ pub fn rest_dry<T: Told>(
 ) -> bool
     requires board { seat.old.seat.table_id ≡ board.now.table.shared.table_id }
     requires reads { (channel < board.now.channels) × ((wired board.now.table.shared.key).reader channel ≡ Some p) × (taken < 2 ^ 48) }
-    requires holds { (l : ℕ) × (y : T) × Holds p 0 l (Some y) seat.old × Fits T.told (belongs T.after board.now.table.shared.key) (wired board.now.table.shared.key) p y seat.old.seat.me.0 × TellsWait (T.told y) channel taken }
+    requires holds { (n : ℕ) × (l : ℕ) × (y : T) × Holds p n l (Some y) seat.old × Fits T.told (belongs T.after board.now.table.shared.key) (wired board.now.table.shared.key) p y seat.old.seat.me.0 × TellsWait (T.told y) channel taken }
     ensures same { IsSeatOf seat.old seat.new }
-    ensures idle { IsIdle seat.new }
+    ensures rests { IsBetween seat.old.seat.me.0.drawn seat.new }
     ensures late { result ≡ false → (r : ℕ) × (r / 2 ≢ taken) × Was T.told T.after board.now.table.shared.key seat.old seat.old.seat.me.0 (channel_at (wired board.now.table.shared.key) channel) r }
 {
     if !seat.park(board, p, channel, taken) {

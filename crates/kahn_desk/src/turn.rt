@@ -6,20 +6,21 @@ ghost use Rattle.kahn_board.specs.Calls.{Was};
 ghost use Rattle.kahn_board.specs.Plays.{noted, with_draw};
 ghost use Rattle.kahn_board.specs.Rule.{budget_at};
 ghost use Rattle.kahn_board.specs.declared.view.View.{View};
-ghost use Rattle.kahn_desk.specs.Turn.{IsIdle, IsSeatOf, Holds, Knows, Tells, Fits};
+ghost use Rattle.kahn_desk.specs.Turn.{IsBetween, IsIdle, IsSeatOf, Holds, Knows, Tells, Fits};
 
 use kahn_board::{Board, Draw, Rest, Seat, Told};
 use std::sync::Wait;
 
-/// Takes the instance, where it is ready. False where it is not, since another worker has it, or it waits, or it is
-/// over: its word was not 0 then.
+/// Takes the instance, where it is ready, for what is left of a draw. False where it is not, since another worker has it,
+/// or it waits, or it is over: its word was not 0 then.
 pub fn pick<T: Told>(seat: &mut Seat<T>, board: &Board<T>, p: usize) -> bool
     requires board { seat.old.seat.table_id ≡ board.now.table.shared.table_id }
-    requires idle { IsIdle seat.old }
+    requires rests { (n : ℕ) × IsBetween n seat.old }
     requires inside { p < board.now.instances }
     ensures same { IsSeatOf seat.old seat.new }
-    ensures picked { result ≡ true → (y : T) × Holds p 0 0 (Some y) seat.new × Fits T.told (belongs T.after board.now.table.shared.key) (wired board.now.table.shared.key) p y seat.new.seat.me.0 }
-    ensures left { result ≡ false → IsIdle seat.new × ((r : ℕ) × (r ≢ 0) × Was T.told T.after board.now.table.shared.key seat.old seat.old.seat.me.0 (8 * p) r) }
+    ensures picked { result ≡ true → (n : ℕ) → IsBetween n seat.old → (y : T) × Holds p n 0 (Some y) seat.new × Fits T.told (belongs T.after board.now.table.shared.key) (wired board.now.table.shared.key) p y seat.new.seat.me.0 }
+    ensures few { result ≡ true → slice_index seat.new.seat.me.0.got p + seat.new.seat.me.0.drawn < 2 ^ 48 }
+    ensures missed { result ≡ false → ((n : ℕ) → IsBetween n seat.old → IsBetween n seat.new) × ((r : ℕ) × (r ≢ 0) × Was T.told T.after board.now.table.shared.key seat.old seat.old.seat.me.0 (8 * p) r) }
 {
     seat.claim(board, p).is_some()
 }
@@ -103,18 +104,29 @@ pub fn stop<T: Told>(seat: &mut Seat<T>, board: &Board<T>)
     ensures same { IsSeatOf seat.old seat.new }
     ensures holds { (p n l : ℕ) (x : Option T) → Holds p n l x seat.old → Holds p n l x seat.new }
     ensures idle { IsIdle seat.old → IsIdle seat.new }
+    ensures rests { (n : ℕ) → IsBetween n seat.old → IsBetween n seat.new }
     ensures halted { (seat.new.seat.me.0.seen ≡ 2) × (seat.new.seat.me.0.flushed ≡ seat.old.seat.me.0.flushed) × (seat.new.seat.me.0.got ≡ seat.old.seat.me.0.got) }
 {
     seat.halt(board);
 }
 
-/// So many events of the draw were not done, the others were.
-pub fn give<T: Told>(seat: &mut Seat<T>, board: &Board<T>, p: usize, undone: u64)
+/// So many events of the draw were done. The others may still be done.
+pub fn tell_done<T: Told>(seat: &mut Seat<T>, board: &Board<T>, p: usize, done: u64)
     requires board { seat.old.seat.table_id ≡ board.now.table.shared.table_id }
-    requires holds { (n : ℕ) × (x : Option T) × Holds p n 0 x seat.old × (undone ≤ n) }
+    requires holds { (n : ℕ) × (x : Option T) × Holds p n 0 x seat.old × (done ≤ n) }
     ensures same { IsSeatOf seat.old seat.new }
     ensures knows { Knows (wired board.now.table.shared.key) p seat.old.seat.me.0 seat.new.seat.me.0 }
-    ensures holds { (n : ℕ) (x : Option T) → Holds p n 0 x seat.old → Holds p 0 (n - undone) x seat.new }
+    ensures holds { (n : ℕ) (x : Option T) → Holds p n 0 x seat.old → Holds p (n - done) done x seat.new }
+{
+    seat.spend(board, done);
+}
+
+/// What is left of the draw is not done.
+pub fn give<T: Told>(seat: &mut Seat<T>, board: &Board<T>, undone: u64)
+    requires board { seat.old.seat.table_id ≡ board.now.table.shared.table_id }
+    requires rests { IsBetween undone seat.old }
+    ensures same { IsSeatOf seat.old seat.new }
+    ensures idle { IsIdle seat.new }
 {
     seat.give_back(board, undone);
 }

@@ -8,8 +8,8 @@ use Rattle.kahn_crew.specs.Tasks.{IsLater, told_of}
 use Rattle.kahn_crew.proofs.Resting.{fits_still, task_of}
 use Rattle.kahn_crew.proofs.turn.turn.Goals as goal
 
-pub spend-requires-clause-holds : goal.spend-requires-clause-holds
-spend-requires-clause-holds g c =
+pub spend_all-left-requires-clause-holds : goal.spend_all-left-requires-clause-holds
+spend_all-left-requires-clause-holds g c =
     let t = c.args.floor.now.routes.now in
     let key = c.args.floor.now.board.now.table.shared.key in
     let code = c.args.floor.now.code.now.network.value in
@@ -40,4 +40,4 @@ rest_ready-requires-clause-holds g c =
     let knows : Knows (wires t) p old new = subst (λ (k : Program). Knows (wires k) p old new) c.requires.floor.network c.draw_some.ensures.knows in
     let holds : Holds p 0 0 (Some y) c.draw_some.new.seat = c.in-None.ensures.empty.1 (Some y) h.1 in
     let after = fits_still t c.wired.ensures key p y old new is knows (holds.loose ∙ sym h.1.loose) fits in
-    (0, y, holds, subst (λ (k : Program). Fits told_of (belongs IsLater key) (wires k) p y new) (sym c.requires.floor.network) after)
+    (0, 0, y, holds, subst (λ (k : Program). Fits told_of (belongs IsLater key) (wires k) p y new) (sym c.requires.floor.network) after)

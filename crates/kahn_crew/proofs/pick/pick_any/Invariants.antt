@@ -1,5 +1,5 @@
 use Rattle.kahn_desk.specs.Turn.{IsIdle, IsSeatOf}
-use Rattle.kahn_crew.proofs.worker.pick_any.Given as goal
+use Rattle.kahn_crew.proofs.pick.pick_any.Given as goal
 
 abbrev pub invariant-loop-step : goal.invariant-loop-step
 invariant-loop-step l = record {

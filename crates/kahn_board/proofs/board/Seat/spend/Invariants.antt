@@ -1,0 +1,5 @@
+use Rattle.kahn_board.specs.Plays.{uses}
+use Rattle.kahn_board.proofs.board.Seat.spend.Given as goal
+
+abbrev pub ghosts-load_for : goal.ghosts-load_for
+ghosts-load_for g a = record { then = uses a.number }

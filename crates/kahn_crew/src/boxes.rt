@@ -1,0 +1,94 @@
+//! Tasks in boxes, as they stand on the board.
+
+ghost use Rattle.std.specs.Prelude.{◌≡◌, ◌+◌, ◌≤◌, ◌++◌, [], length, reverse, IfOk, IfErr};
+ghost use Rattle.std.specs.Vec.{vec_capacity};
+
+use crate::task::Task;
+use kahn_board::Told;
+use kahn_streams::memory::NoMemory;
+use std::alloc::Global;
+use std::marker::Model;
+
+/// A task in a box of its own, so that it moves as one pointer. Contracts see the task.
+#[derive(Drop)]
+pub struct Boxed<'n> {
+    pub(crate) task: Box<Task<'n>>,
+}
+
+impl<'n> Model for Boxed<'n> {
+    ghost use Rattle.kahn_tree.specs.contracts.tree.Action as action;
+    ghost use Rattle.kahn_tree.specs.contracts.tree.Form as form;
+    ghost use Rattle.std.specs.Coded.{codes};
+    ghost use Rattle.kahn_crew.specs.Tasks.{Tasked};
+
+    ghost Value = { Tasked };
+
+    ghost coded = { Prim.hlevel (codes, action.the_row.coded, form.the_row.coded) };
+
+    ghost view = { λ b. b.task.value };
+}
+
+impl<'n> Told for Boxed<'n> {
+    ghost use Rattle.kahn_crew.specs.Tasks.{IsLater, told_of};
+
+    ghost told = { told_of };
+
+    ghost after = { IsLater };
+}
+
+impl<'n> Boxed<'n> {
+    // A refusal gives the task back.
+    fn new(alloc: Global, task: Task<'n>) -> Result<Boxed<'n>, Task<'n>>
+        ensures boxed { IfOk result (λ b. b ≡ task.entry) }
+        ensures refused { IfErr result (λ t. t ≡ task.entry) }
+    {
+        match Box::new(alloc, task) {
+            Ok(task) => Ok(Boxed { task }),
+            Err(refused) => Err(refused.value),
+        }
+    }
+
+    /// The task without its box. It takes no memory.
+    pub(crate) fn open(self) -> Task<'n>
+        ensures { result ≡ self.entry }
+    {
+        Box::into_inner(self.task)
+    }
+}
+
+/// Each task in a box, and the room of their list. A refusal leaves them as they were.
+pub(crate) fn box_all<'n>(
+    alloc: Global,
+    mut tasks: Vec<Task<'n>>,
+) -> Result<(Vec<Boxed<'n>>, Vec<Task<'n>>), (NoMemory, Vec<Task<'n>>)>
+    ensures boxed { IfOk result (λ r. r.0.items ≡ tasks.entry.items) }
+    ensures room { IfOk result (λ r. (r.1.items ≡ []) × (length tasks.entry.items ≤ vec_capacity r.1)) }
+    ensures refused { IfErr result (λ e. e.1.items ≡ tasks.entry.items) }
+{
+    let Ok(mut boxes) = Vec::with_capacity(alloc, tasks.len()) else {
+        return Err((NoMemory, tasks));
+    };
+    tasks.reverse();
+    while let Some(task) = tasks.pop() {
+        match Boxed::new(alloc, task) {
+            Ok(boxed) => boxes.push_reserved(boxed),
+            Err(task) => {
+                tasks.push_reserved(task);
+                return Err((NoMemory, unbox_all(boxes, tasks)));
+            }
+        }
+    }
+    Ok((boxes, tasks))
+}
+
+/// The tasks out of their boxes, and behind them those of a list that is the other way round and has room for all.
+pub(crate) fn unbox_all<'n>(mut boxes: Vec<Boxed<'n>>, mut tasks: Vec<Task<'n>>) -> Vec<Task<'n>>
+    requires { length boxes.items + length tasks.items ≤ vec_capacity tasks }
+    ensures { result.items ≡ boxes.entry.items ++ reverse tasks.entry.items }
+{
+    while let Some(boxed) = boxes.pop() {
+        tasks.push_reserved(boxed.open());
+    }
+    tasks.reverse();
+    tasks
+}
