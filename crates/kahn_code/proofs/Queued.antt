@@ -1,5 +1,6 @@
 -- Queues of channels, one of which changes.
 use Rattle.std.proofs.Common.{arith, ◌≡◌, ◌⊎◌, inl, inr, ℕ, zero, suc, ◌+◌, ◌<◌, List, [], ◌∷◌, length, refl, sym, ap, ◌∙◌, length-set, subst, Bool, true, false, not, IsTrue, IsFalse, Result, Ok, Err, OnOk, Option, Some, None, IfSome, IfNone, IsSome, slice_get, slice_set, slice_index_or, le_of_suc-le-suc}
+use Rattle.std.proofs.lemmas.Bool.{cases_eq}
 use Rattle.std.proofs.lemmas.Option.{slice_get-get_or}
 use Rattle.kahn_streams.specs.declared.token.Token.{Token}
 use Rattle.kahn_streams.specs.declared.value.Line.TheVariants.{Channel}
@@ -10,7 +11,6 @@ use Rattle.kahn_streams.specs.Tokens.{inputs_of}
 use Rattle.kahn_code.specs.Queues.{Waiting}
 use Rattle.kahn_code.specs.Lines.{Lines, AreQueued, Joins, actual_of, next_at, place_at, taken_of, given_of, waiting_of, spare_of}
 use Rattle.kahn_code.specs.Seats.{IsNext, Stays, Moved, Leaves}
-use Rattle.kahn_code.proofs.Stand.{same_or_not}
 
 set_here : (qs : List Waiting) (c : ℕ) (w : Waiting) → c < length qs → slice_get (slice_set qs c w) c ≡ Some w
 set_here [] c w l = absurd (omega (arith, l))
@@ -32,14 +32,14 @@ next_set : (qs : List Waiting) (c : ℕ) (w w' : Waiting) (a : Actual) → c < l
     (a ≡ Reads c → w'.taken ≡ w.taken) → (a ≡ Writes c → w'.taken + w'.waiting ≡ w.taken + w.waiting) →
     next_at (slice_set qs c w') a ≡ next_at qs a
 next_set qs c w w' (Hands v) l at r g = refl
-next_set qs c w w' (Reads d) l at r g = by (same_or_not d c)
+next_set qs c w w' (Reads d) l at r g = by (cases_eq d c)
   where
     by : (d ≡ c) ⊎ (d ≡ c → ⊥) → taken_of (slice_get (slice_set qs c w') d) ≡ taken_of (slice_get qs d)
     by (inr n) = ap taken_of (set_else qs c d w' n)
     by (inl e) =
         ap (λ k. taken_of (slice_get (slice_set qs c w') k)) e ∙ ap taken_of (set_here qs c w' l) ∙ r (ap Reads e) ∙
         sym (ap taken_of at) ∙ ap (λ k. taken_of (slice_get qs k)) (sym e)
-next_set qs c w w' (Writes d) l at r g = by (same_or_not d c)
+next_set qs c w w' (Writes d) l at r g = by (cases_eq d c)
   where
     by : (d ≡ c) ⊎ (d ≡ c → ⊥) → given_of (slice_get (slice_set qs c w') d) ≡ given_of (slice_get qs d)
     by (inr n) = ap given_of (set_else qs c d w' n)
@@ -84,13 +84,13 @@ pub queued_set : (s : Lines) (routes : List (List (Option ℕ))) (c : ℕ) (w w'
 queued_set s routes c w w' h l at same sums size = record {
   routed = h.routed;
   inside = λ p q d j. subst (λ n. d < n) (sym size) (h.inside p q d j);
-  named = λ d v e. named d v e (same_or_not d c);
+  named = λ d v e. named d v e (cases_eq d c);
   readers = h.readers;
   writers = h.writers;
   reader = h.reader;
   writer = h.writer;
   unwritten = h.unwritten;
-  given = λ d v e i. given d v e i (same_or_not d c);
+  given = λ d v e i. given d v e i (cases_eq d c);
 }
   where
     given : (d : ℕ) (v : Waiting) → slice_get (slice_set s.queues c w') d ≡ Some v → role_at (network_of s.network) d ≡ Input →
