@@ -1,5 +1,6 @@
 -- Queues of channels, one of which changes.
 use Rattle.std.proofs.Common.{arith, ◌≡◌, ◌⊎◌, inl, inr, ℕ, zero, suc, ◌+◌, ◌<◌, List, [], ◌∷◌, length, refl, sym, ap, ◌∙◌, length-set, subst, Bool, true, false, not, IsTrue, IsFalse, Result, Ok, Err, OnOk, Option, Some, None, IfSome, IfNone, IsSome, slice_get, slice_set, slice_index_or, le_of_suc-le-suc}
+use Rattle.std.proofs.lemmas.Bool.{cases_eq}
 use Rattle.std.proofs.lemmas.Option.{slice_get-get_or}
 use Rattle.kahn_streams.specs.declared.token.Token.{Token}
 use Rattle.kahn_streams.specs.declared.value.Line.TheVariants.{Channel}
@@ -10,7 +11,6 @@ use Rattle.kahn_streams.specs.Tokens.{inputs_of}
 use Rattle.kahn_code.specs.Queues.{Waiting}
 use Rattle.kahn_code.specs.Lines.{Lines, AreQueued, Joins, actual_of, next_at, place_at, taken_of, given_of, waiting_of, spare_of}
 use Rattle.kahn_code.specs.Seats.{IsNext, Stays, Moved, Leaves}
-use Rattle.std.proofs.lemmas.Bool.{cases_eq}
 
 set_here : (qs : List Waiting) (c : ℕ) (w : Waiting) → c < length qs → slice_get (slice_set qs c w) c ≡ Some w
 set_here [] c w l = absurd (omega (arith, l))
