@@ -168,9 +168,8 @@ fn spend<'n, L: Ledger>(
     done
 }
 
-// Runs one instance after another for the events that were drawn, as long as more than half of a quantum is left, so that
-// each has time enough, and own hints name one that is ready. Answers how many are left. Whether the run is to stop is
-// looked for after that.
+// Runs one instance after another for the events that were drawn, as long as more than seven eighths of a quantum are left,
+// so that each has about as many as a draw of its own, and own hints name one that is ready. Answers how many are left.
 fn spend_all<'n, G: Gate, L: Ledger>(
     floor: &Floor<'_, 'n>,
     gate: &G,
@@ -194,7 +193,7 @@ fn spend_all<'n, G: Gate, L: Ledger>(
         gate.enter(p);
         let done = spend(floor, seat, hints, p, left, steps);
         left -= done;
-        if done == 0 || left <= floor.quantum / 2 {
+        if done == 0 || left <= floor.quantum / 8 * 7 {
             return left;
         }
         let Some(next) = pick_hinted(floor, seat, hints, false) else {
