@@ -4,7 +4,7 @@ use Rattle.std.proofs.lemmas.List.{get_or_past}
 use Rattle.std.proofs.lemmas.Option.{slice_get_within}
 use Rattle.kahn_tree.specs.declared.tree.Program.{Program}
 use Rattle.kahn_streams.specs.Laws.{AreInputsExtended}
-use Rattle.kahn_network.specs.Network.{Actual, Reads, Writes, Hands, network_of, instance_at, actual_at, idle, role_at}
+use Rattle.kahn_network.specs.Network.{Actual, Reads, Writes, Hands, network_of, instance_at, actual_at, idle}
 use Rattle.kahn_network.specs.Wiring.{IsWellWired}
 use Rattle.kahn_network.proofs.Sourced.{reads_listed, writes_listed}
 use Rattle.kahn_streams.specs.Tokens.{Lists, inputs_of}

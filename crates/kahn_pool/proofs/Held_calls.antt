@@ -1,13 +1,10 @@
 -- What many calls make of a held run: it goes on, so each answer says no less than those before it.
-use Rattle.std.proofs.Common.{arith, ◌≡◌, ◌⊎◌, inl, inr, ℕ, ◌≤◌, List, [], ◌∷◌, map, refl, sym, ap, ◌∙◌, subst, true, slice_index_or}
-use Rattle.kahn_tree.specs.declared.tree.Program.{Program}
+use Rattle.std.proofs.Common.{arith, ◌≡◌, inl, inr, ℕ, List, [], ◌∷◌, map, refl, sym, ap, ◌∙◌, subst, true, slice_index_or}
 use Rattle.kahn_network.specs.Network.{Source, Given, Written, Nobody, Writes, network_of, instance_at, actual_at}
 use Rattle.kahn_network.specs.Wiring.{IsWellWired}
 use Rattle.kahn_streams.specs.declared.value.Value.{Value}
 use Rattle.kahn_streams.specs.declared.value.Line.{Line}
 use Rattle.kahn_streams.specs.declared.value.Line.TheVariants.{Channel, Print}
-use Rattle.kahn_streams.specs.declared.feeds.FeedFault.{FeedFault}
-use Rattle.kahn_streams.specs.Entries.{Entry}
 use Rattle.kahn_streams.specs.Solution.{IsPrefix, source}
 use Rattle.kahn_streams.specs.Tokens.{inputs_of}
 use Rattle.kahn_streams.proofs.Proved.{prefix_refl, prefix_trans}

@@ -1,5 +1,5 @@
 -- Two finished reports of the same texts are the same bytes.
-use Rattle.std.proofs.Common.{◌≡◌, ℕ, ◌+◌, List, [], ◌∷◌, ◌++◌, length, map, Option, Some, None, Ok, flat_map, refl, sym, ap, ◌∙◌, subst, codes, decimal, string_bytes, slice_index_or}
+use Rattle.std.proofs.Common.{◌≡◌, ℕ, ◌+◌, List, [], ◌∷◌, ◌++◌, length, map, Option, Some, None, flat_map, refl, sym, ap, ◌∙◌, subst, codes, decimal, string_bytes, slice_index_or}
 use Rattle.std.proofs.lemmas.List.Folds.{flat_map-map}
 use Rattle.std.specs.Io.KnownBytes.{Appends}
 use Rattle.std.specs.List.{concat}
@@ -17,7 +17,7 @@ use Rattle.kahn_syntax.specs.Texts.{IsProgram}
 use Rattle.kahn_syntax.proofs.OneTree.{one_tree}
 use Rattle.kahn_syntax.proofs.OneList.{same_lexemes}
 use Rattle.kahn_streams.specs.Solution.{Inputs}
-use Rattle.kahn_streams.specs.Tokens.{Lists, inputs_of}
+use Rattle.kahn_streams.specs.Tokens.{inputs_of}
 use Rattle.kahn_streams.specs.declared.value.Value.{Value}
 use Rattle.kahn_streams.specs.declared.value.Line.{Line}
 use Rattle.kahn_streams.specs.declared.value.Line.TheVariants.{Channel, Print}
@@ -30,9 +30,8 @@ use Rattle.kahn_pool.specs.declared.answer.Outcome.TheVariants.{Ended, Waits, Fa
 use Rattle.kahn_pool.specs.declared.answer.Stream.{Stream}
 use Rattle.kahn_pool.specs.declared.answer.Verdict.TheVariants.{Finished}
 use Rattle.kahn_pool.specs.Right.{AreOne, IsRight, line_of, values_of}
-use Rattle.kahn_pool.specs.Runs.{IsWatched, IsRun}
+use Rattle.kahn_pool.specs.Runs.{IsWatched}
 use Rattle.kahn_pool.proofs.Unique.{finished_is_one}
-use Rattle.kahn_report.specs.Inputs.{StandsFor}
 use Rattle.kahn_report.specs.Names as name
 use Rattle.kahn_report.specs.Entries.{lines_of}
 use Rattle.kahn_report.specs.News.{spaced_text}

@@ -1,5 +1,5 @@
 -- The parts of a line, one after another.
-use Rattle.std.proofs.Common.{◌≡◌, ℕ, ◌+◌, ◌<◌, List, [], ◌∷◌, ◌++◌, length, drop, get_or, ap, ap₂, sym, ◌∙◌, subst, add-one, drop-cons, arith, append_assoc, append-nil, drop_of_length-le, ◌≤◌}
+use Rattle.std.proofs.Common.{◌≡◌, ℕ, ◌+◌, ◌<◌, List, [], ◌∷◌, ◌++◌, length, drop, get_or, ap, sym, ◌∙◌, subst, add-one, drop-cons, arith, append_assoc, append-nil, drop_of_length-le, ◌≤◌}
 use Rattle.kahn_report.specs.Entries.{IsValue, Spells}
 use Rattle.kahn_streams.specs.declared.value.Value.{Value}
 

@@ -1,12 +1,12 @@
 -- One text spells one list of entries, and they give one input.
-use Rattle.std.proofs.Common.{arith, codes, nat_lt, ◌≡◌, ◌≢◌, inl, inr, ◌+◌, ◌<◌, ◌==◌, ℕ, ℤ, zero, suc, List, [], ◌∷◌, ◌++◌, length, slice_index, get_or, Bool, true, false, cond, All, refl, sym, ap, ◌∙◌, subst, eqb-true, drop, if◌then◌else◌}
+use Rattle.std.proofs.Common.{arith, codes, nat_lt, ◌≡◌, ◌≢◌, inl, inr, ◌+◌, ◌<◌, ◌==◌, ℕ, ℤ, suc, List, [], ◌∷◌, ◌++◌, length, slice_index, Bool, true, false, cond, refl, sym, ap, ◌∙◌, subst, eqb-true, drop, if◌then◌else◌}
 use mathlib.Core.Path.{fun_ext}
 use Rattle.std.proofs.lemmas.Bool.{lt-ltb}
 use Rattle.std.proofs.lemmas.Str.Parse.{digit_from_value}
 use Rattle.std.specs.Char.{to_ascii_lowercase}
 use Rattle.std.specs.List.{slice_split}
 use Rattle.std.specs.Str.{str_eq_ignore_ascii_case, str_to_ascii_lowercase}
-use Rattle.std.specs.Str.Parse.{AllDigits, without_leading_sign}
+use Rattle.std.specs.Str.Parse.{AllDigits}
 use Rattle.kahn_tree.specs.declared.tree.Program.{Program}
 use Rattle.kahn_tree.specs.View.{Scope, place_of}
 use Rattle.kahn_network.specs.Sides.{channel_names}
@@ -15,7 +15,7 @@ use Rattle.kahn_streams.specs.declared.value.Value.{Value}
 use Rattle.kahn_streams.specs.declared.value.Value.TheVariants.{Integer, Logical}
 use Rattle.kahn_streams.specs.Entries.{Entry, IsMadeOf, list_for}
 use Rattle.kahn_streams.specs.Tokens.{Lists, inputs_of}
-use Rattle.kahn_report.specs.Entries.{HasHead, IsName, IsBlank, IsValue, Spells, AreValues, IsEntry, AreEntries, is_blank, content}
+use Rattle.kahn_report.specs.Entries.{IsName, IsBlank, IsValue, Spells, AreValues, IsEntry, AreEntries, is_blank, content}
 use Rattle.kahn_report.proofs.Scanned.{scanned, same_tail}
 use Rattle.kahn_report.proofs.Words.{letter_dark}
 

@@ -6,13 +6,12 @@ use Rattle.kahn_tree.specs.declared.tree.Direction.TheVariants as direction
 use Rattle.kahn_tree.specs.declared.tree.Taking.TheVariants as taking
 use Rattle.kahn_tree.specs.declared.tree.Program.{Program}
 use Rattle.kahn_network.specs.Network.{network_of}
-use Rattle.kahn_syntax.specs.declared.lexeme.Lexeme.{Lexeme}
 use Rattle.kahn_syntax.specs.Drawn.{program_of}
 use Rattle.kahn_syntax.specs.declared.lexeme.Keyword.TheVariants as keyword
 use Rattle.kahn_syntax.specs.declared.lexeme.Sign.TheVariants as mark
 use Rattle.kahn_syntax.specs.Terminals.{Terminal, word, sign, name, number, terminals}
 use Rattle.kahn_syntax.specs.Texts.{IsProgram}
-use Rattle.kahn_syntax.specs.Trees.{ExpressionTree, truth, variable, wait, denial, bracket, conditional, StatementTree, empty, assign, send, print, block, if_else, repeat, StatementTrees, no_statement, statement, statements_words, AreSome, FormedStatements}
+use Rattle.kahn_syntax.specs.Trees.{truth, variable, wait, denial, bracket, conditional, empty, assign, send, print, block, if_else, repeat, StatementTrees, no_statement, statement, statements_words, AreSome, FormedStatements}
 use Rattle.kahn_syntax.specs.Programs as whole
 use Rattle.kahn_syntax.specs.Programs.{ParameterTree, VariableTree, DeclarationTree, InstanceTree, ProgramTree, ArgumentTree, GroupTree, TogetherTree, group, together, groups_parameters, groups_words, togethers_variables, togethers_words, AreGroups, AreTogether, Spells, Declares, Argues, Instantiates, Instances, names_words}
 use Rattle.kahn_syntax.proofs.OneTree.{one_tree}

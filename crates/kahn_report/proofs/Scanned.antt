@@ -1,11 +1,10 @@
 -- A line read from the left: blanks, a word, blanks, a colon.
-use Rattle.std.proofs.Common.{inl, inr, le_antisymm, Some, None, nat_lt, ◌≤◌, arith, ◌≡◌, ◌∙◌, ◌+◌, ◌<◌, ℕ, zero, suc, List, [], ◌∷◌, ◌++◌, length, take, drop, get_or, slice_index, Bool, true, false, not, cond, All, refl, sym, ap, subst, take-append-drop}
+use Rattle.std.proofs.Common.{inl, inr, le_antisymm, Some, None, nat_lt, ◌≤◌, arith, ◌≡◌, ◌∙◌, ◌+◌, ◌<◌, ℕ, zero, suc, List, [], ◌∷◌, ◌++◌, length, take, drop, Bool, true, false, not, cond, All, refl, sym, ap, subst, take-append-drop}
 use Rattle.std.specs.List.{position, position_or_len, prefix_len}
 use Rattle.std.specs.Option.{unwrap_or}
 use Rattle.std.proofs.lemmas.Bool.Decides.{leb_tells}
 use Rattle.std.proofs.lemmas.Bool.{lt-ltb}
 use Rattle.std.proofs.lemmas.List.Sums.{prefix_len-le-length}
-use Rattle.std.specs.Char.{is_ascii_alphabetic}
 use Rattle.std.proofs.Math.Seq.{take-append_seam, drop-append_seam}
 use Rattle.kahn_report.specs.Entries.{HasHead, IsName, IsBlank, is_blank, is_word_byte}
 use Rattle.kahn_report.proofs.Words.{letter_dark, blank_apart}

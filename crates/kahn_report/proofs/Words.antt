@@ -1,5 +1,5 @@
 -- The words of an input text: what spells a number or a name is ASCII.
-use Rattle.std.proofs.Common.{nat_le, ◌&&◌, ◌≤◌, Option, Some, None, MatchOption, Bor, arith, ◌≡◌, ◌≢◌, ◌==◌, ◌||◌, ◌⊎◌, ◌<◌, inl, inr, ℕ, ℤ, zero, suc, List, [], ◌∷◌, length, drop, get_or, slice_index, Bool, true, false, cond, All, refl, sym, ap, subst, eqb-true}
+use Rattle.std.proofs.Common.{nat_le, ◌&&◌, ◌≤◌, Option, Some, None, MatchOption, Bor, arith, ◌≡◌, ◌≢◌, ◌==◌, ◌||◌, ◌⊎◌, ◌<◌, inl, inr, ℕ, ℤ, suc, List, [], ◌∷◌, length, drop, get_or, slice_index, Bool, true, false, cond, All, refl, sym, subst, eqb-true}
 use Rattle.std.specs.Char.{is_ascii_alphabetic, is_ascii_alphanumeric}
 use Rattle.std.specs.Int.{is_in_range}
 use Rattle.std.proofs.lemmas.Bool.{leb-true}

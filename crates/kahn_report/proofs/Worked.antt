@@ -1,5 +1,5 @@
 -- What each part of the work says of the whole.
-use Rattle.std.proofs.Common.{◌≡◌, ℕ, List, Option, Err, refl}
+use Rattle.std.proofs.Common.{ℕ, List, Option, Err, refl}
 use Rattle.kahn_tree.specs.declared.tree.Program.{Program}
 use Rattle.kahn_config.specs.declared.Config.{Config}
 use Rattle.kahn_report.specs.declared.work.WorkFault.{WorkFault}

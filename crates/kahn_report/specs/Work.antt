@@ -1,9 +1,8 @@
 -- What the whole work does, from the bytes of the texts to the bytes of the report.
-use Rattle.std.specs.Prelude.{◌≡◌, ◌⊎◌, ℕ, ◌≤◌, List, Option, Some, None, Result, Ok, Err, string_bytes}
+use Rattle.std.specs.Prelude.{◌≡◌, ℕ, ◌≤◌, List, Option, Some, None, Result, Ok, Err, string_bytes}
 use Rattle.std.specs.declared.string.String.{String}
 use Rattle.std.specs.declared.alloc.Global.{Global}
 use Rattle.std.specs.Io.KnownBytes.{Appends}
-use Rattle.kahn_syntax.specs.declared.fault.SyntaxFault.{SyntaxFault}
 use Rattle.kahn_tree.specs.declared.tree.Program.{Program}
 use Rattle.kahn_syntax.specs.Drawn.{program_of}
 use Rattle.kahn_syntax.specs.Programs.{nesting}

@@ -1,4 +1,4 @@
-use Rattle.std.proofs.Common.{rules, tests, ◌≡◌, ◌∙◌, ◌==◌, ap, inl, inr, List, ℕ, ◌+◌, ◌<◌, ◌≤◌, length, map, [], ◌∷◌, ◌++◌, arith, Some, None, refl}
+use Rattle.std.proofs.Common.{rules, tests, ◌≡◌, ◌∙◌, ◌==◌, ap, inl, inr, ◌+◌, ◌≤◌, length, map, [], ◌∷◌, ◌++◌, arith, refl}
 use Rattle.std.proofs.lemmas.List.{length_push, map-append}
 use Rattle.std.proofs.lemmas.Iterator.Splits.{YieldsList-from_slice_split}
 use Rattle.std.proofs.lemmas.Iterator.Consumers.{YieldsList-turn, YieldsList-end}

@@ -1,5 +1,5 @@
 -- The entries so far are those of the lines so far, each of which is blank or an entry.
-use Rattle.std.proofs.Common.{◌≡◌, ℕ, List, ◌++◌, length, map, take, drop, All}
+use Rattle.std.proofs.Common.{◌≡◌, List, ◌++◌, length, map, take, drop, All}
 use Rattle.kahn_streams.specs.Entries.{Entry, entry_of}
 use Rattle.kahn_report.specs.Entries.{AreEntries, IsGood, lines_of}
 use Rattle.kahn_report.proofs.entries.read_entries.Given as goal

@@ -1,4 +1,4 @@
-use Rattle.std.proofs.Common.{◌≡◌, subst}
+use Rattle.std.proofs.Common.{subst}
 use Rattle.kahn_report.specs.Entries.{AreValues}
 use Rattle.kahn_report.proofs.entries.read_entry.Goals as goal
 

@@ -1,6 +1,5 @@
-use Rattle.std.proofs.Common.{◌≡◌, ◌∙◌, ap, length, not}
+use Rattle.std.proofs.Common.{◌∙◌, ap, length}
 use Rattle.std.specs.Option.{unwrap_or}
-use Rattle.kahn_report.specs.Entries.{is_blank, is_word_byte}
 use Rattle.kahn_report.proofs.Scanned.{stop_of}
 use Rattle.kahn_report.proofs.heads.blanks.Goals as goal
 

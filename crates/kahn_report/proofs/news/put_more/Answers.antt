@@ -1,8 +1,4 @@
-use Rattle.std.proofs.Common.{rules, ◌≡◌, ◌+◌, ◌≤◌, [], List, ℕ, length, map, subst, arith, ap}
-use Rattle.kahn_streams.specs.declared.token.Token.{Token}
-use Rattle.kahn_code.specs.Cells.{token_value}
-use Rattle.kahn_report.specs.Report.{tokens_text}
-use Rattle.kahn_report.specs.News.{more_text}
+use Rattle.std.proofs.Common.{rules, ◌≡◌, ◌+◌, ◌≤◌, [], List, ℕ, length, subst}
 use Rattle.kahn_report.specs.Written.{Writes}
 use Rattle.kahn_report.proofs.Fresh.{tokens_more}
 use Rattle.kahn_report.proofs.news.put_more.Goals as goal

@@ -1,4 +1,4 @@
-use Rattle.std.proofs.Common.{rules, ◌≡◌, ◌<◌, ◌≤◌, ◌+◌, List, ℕ, length, ◌++◌, get_or, drop, subst, sym, arith, length-append}
+use Rattle.std.proofs.Common.{rules, ◌<◌, ◌≤◌, ◌+◌, List, ℕ, length, ◌++◌, get_or, drop, subst, sym, arith, length-append}
 use Rattle.std.proofs.KnownBytes.{Appends-trans}
 use Rattle.kahn_report.specs.News.{fresh_text}
 use Rattle.kahn_report.specs.Written.{AppendsFront}

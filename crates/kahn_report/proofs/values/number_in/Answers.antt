@@ -1,4 +1,3 @@
-use Rattle.std.proofs.Common.{rules, ◌≡◌}
 use Rattle.kahn_report.proofs.Words.{number_utf8}
 use Rattle.kahn_report.proofs.values.number_in.Goals as goal
 

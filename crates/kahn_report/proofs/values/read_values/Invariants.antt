@@ -1,5 +1,5 @@
 -- The values so far are those of the parts so far.
-use Rattle.std.proofs.Common.{◌≡◌, ℕ, List, ◌++◌, length, drop}
+use Rattle.std.proofs.Common.{List, ◌++◌, length, drop}
 use Rattle.std.specs.List.{slice_split}
 use Rattle.kahn_streams.specs.declared.value.Value.{Value}
 use Rattle.kahn_report.specs.Entries.{Spells, is_blank}

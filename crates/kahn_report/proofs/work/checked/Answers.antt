@@ -1,4 +1,4 @@
-use Rattle.std.proofs.Common.{◌≡◌, sym, subst}
+use Rattle.std.proofs.Common.{sym, subst}
 use Rattle.kahn_report.specs.Work.{IsChecked}
 use Rattle.kahn_report.proofs.work.checked.Goals as goal
 

@@ -1,4 +1,4 @@
-use Rattle.std.proofs.Common.{arith, ◌≡◌, ◌+◌, ◌-◌, List, sym, ◌∙◌, subst, Some}
+use Rattle.std.proofs.Common.{arith, ◌-◌, List, sym, ◌∙◌, subst}
 use Rattle.kahn_network.specs.Network.{network_of}
 use Rattle.kahn_streams.specs.Tokens.{inputs_of}
 use Rattle.kahn_job.specs.Works.{Work}

@@ -1,4 +1,4 @@
-use Rattle.std.proofs.Common.{arith, rules, ◌≡◌, ◌+◌, ◌<◌, ◌^◌, List, Some, None, refl, ap, ◌∙◌, subst}
+use Rattle.std.proofs.Common.{arith, rules, ◌≡◌, ◌+◌, ◌<◌, ◌^◌, List, Some, None, refl, ◌∙◌, subst}
 use Rattle.kahn_job.specs.Works.{Work}
 use Rattle.kahn_pool.specs.HeldRuns.{HasResumed, HeldRun, IsResumed}
 use Rattle.kahn_pool.specs.Holding.{HasStopped}
