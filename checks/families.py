@@ -144,7 +144,7 @@ def long_processes():
     """As many instances as there may be of one process, whose text is as long as there may be: its code stands once."""
     start, bare = "integer A; ", instances(256, "integer A; if A = 1 then A := 1 ")
     report = [*(f"end {i} p: ended after 0" for i in range(1, 257)), "finished 0"]
-    limits = {"words": ["--workers", "1"], "limits": "200 10"}
+    limits = {"words": ["--workers", "1"], "limits": "200 2"}
     assignments = "A:=1;" * ((MOST_BYTES - len(instances(256, start))) // 5)
     yield row("256 instances of as many assignments as there may be", instances(256, start + assignments), report, **limits)
     # The sum is never reached: 256 times half a million operators would take longer than their code.
