@@ -11,4 +11,4 @@ token-requires c =
 pub lift-requires : goal.lift-requires
 lift-requires c =
     subst (λ (t : TokenOf). AreInputsExtended (inputs_of t.input.value) (inputs_of c.args.longer.now)) (sym c.token.ensures)
-    (c.requires c.in_ok-stream.stream.now 0 c.in_ok-token.token.now (0, search rules) (search rules)).2.1
+    (c.requires c.in_ok-stream.stream.now 0 c.in_ok-token.token.now (0, search rules) (search rules)).2
