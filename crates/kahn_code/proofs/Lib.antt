@@ -8,15 +8,12 @@ pub mod Uses
 pub mod Queued
 pub mod Kept
 pub mod Asks
-pub mod Driven
 pub mod Arguments
 pub mod Bodies
 pub mod Celled
 pub mod Few
 pub mod Sit
-pub mod Routed
 pub mod Readers
 pub mod Opened
-pub mod Joined
 pub mod Grown
 pub mod Widths

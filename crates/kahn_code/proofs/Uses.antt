@@ -1,11 +1,12 @@
 -- What the parameters of an instance are for.
-use Rattle.std.proofs.Common.{◌≡◌, ℕ, zero, suc, List, [], ◌∷◌, map, refl, ap, ◌∙◌, slice_index_or, pos, Bool, true, false, sym, ◌||◌}
+use Rattle.std.proofs.Common.{◌≡◌, ℕ, zero, suc, List, [], ◌∷◌, map, refl, ap, ◌∙◌, slice_index_or, pos, Option, Some, None, Bool, true, false, sym, ◌||◌}
 use Rattle.kahn_tree.specs.Syntax.{Number}
 use Rattle.kahn_network.specs.Network.{Network, Actual, Reads, Writes, Hands, instance_at, actual_at, role_at}
 use Rattle.kahn_code.specs.declared.body.Body.{Body}
 use Rattle.kahn_code.specs.declared.body.Use.{Use}
 use Rattle.kahn_code.specs.declared.body.Use.TheVariants as u
 use Rattle.kahn_code.specs.Cells.{is_output}
+use Rattle.kahn_code.specs.Lines.{route_of}
 use Rattle.kahn_code.specs.Machines.{use_of, IsBody}
 
 use_map : (N : Network) (acts : List Actual) (q : ℕ) →
@@ -16,6 +17,17 @@ use_map N (a ∷ acts) (suc q) = use_map N acts q
 
 pub use_at : {A : Type 0} (N : Network) (p : ℕ) (b : Body A) (q : ℕ) → IsBody N p b → slice_index_or b.uses.items q u.Value ≡ use_of N (actual_at (instance_at N p) q)
 use_at N p b q h = ap (λ l. slice_index_or l q u.Value) h.uses ∙ use_map N (instance_at N p).actuals q
+
+-- the channel of a use
+abbrev route_by : Use → Option ℕ
+route_by (u.Reads c) = Some c
+route_by (u.Writes c b) = Some c
+route_by u.Value = None
+
+pub routed : (N : Network) (a : Actual) {w : Use} → w ≡ use_of N a → route_by w ≡ route_of a
+routed N (Reads c) e = ap route_by e
+routed N (Writes c) e = ap route_by e
+routed N (Hands v) e = ap route_by e
 
 pub reads_by : (N : Network) (a : Actual) (c : ℕ) → u.Reads c ≡ use_of N a → a ≡ Reads c
 reads_by N (Reads d) c e = let f : d ≡ c = cc in ap Reads f

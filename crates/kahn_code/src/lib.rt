@@ -14,6 +14,5 @@ pub mod plain;
 pub mod ports;
 pub mod progress;
 pub mod queue;
-pub mod routes;
 pub mod steps;
 pub mod word;

@@ -1,6 +1,6 @@
 //! The plain queue of a channel.
 
-ghost use Rattle.std.specs.Prelude.{◌≡◌, ◌<◌, ◌≤◌, ◌+◌, ◌^◌, [], length, IfSome, IfNone, OnOk, IsTrue, ◌↔◌};
+ghost use Rattle.std.specs.Prelude.{◌≡◌, ◌<◌, ◌≤◌, ◌+◌, ◌^◌, [], length, IfSome, IfNone, OnOk};
 ghost use Rattle.kahn_streams.specs.declared.value.Line.TheVariants.{Channel};
 ghost use Rattle.kahn_streams.specs.Streams.{IsOf};
 ghost use Rattle.kahn_streams.specs.Tokens.{Names};
@@ -114,12 +114,5 @@ impl<A: Allocator> Queue<A> {
         ensures { result ≡ self.now.waiting }
     {
         self.tokens.len()
-    }
-
-    /// Whether none waits.
-    pub fn is_empty(&self) -> bool
-        ensures { IsTrue result ↔ (self.now.waiting ≡ 0) }
-    {
-        self.tokens.is_empty()
     }
 }

@@ -1,10 +1,12 @@
 -- Rows of parameters without ends, one by one.
-use Rattle.std.proofs.Common.{arith, ◌≡◌, ◌⊎◌, inl, inr, ℕ, zero, suc, ◌+◌, ◌<◌, ◌≤◌, List, [], ◌∷◌, ◌++◌, length, map, replicate, refl, sym, ap, ◌∙◌, subst, Option, slice_index_or, length-append, le_of_suc-le-suc}
+use Rattle.std.proofs.Common.{arith, ◌≡◌, ◌⊎◌, inl, inr, ℕ, zero, suc, ◌+◌, ◌<◌, ◌≤◌, List, [], ◌∷◌, ◌++◌, length, replicate, min, refl, sym, ap, ◌∙◌, subst, slice_index_or, length-append, le_of_suc-le-suc}
 use Rattle.std.proofs.lemmas.List.{get_or_past}
+use Rattle.kahn_tree.specs.View.{Scope}
+use Rattle.kahn_tree.specs.declared.tree.Argument.{Argument}
+use Rattle.kahn_tree.specs.declared.tree.Parameter.{Parameter}
 use Rattle.kahn_tree.specs.declared.tree.Program.{Program}
-use Rattle.kahn_network.specs.Network.{Network, Actual, network_of, instance_at, idle}
+use Rattle.kahn_network.specs.Network.{Network, actuals_of, network_of, instance_at, idle}
 use Rattle.kahn_streams.specs.Tokens.{Lists}
-use Rattle.kahn_code.specs.Lines.{AreRoutes, route_of}
 use Rattle.kahn_code.proofs.Lists.{split_at}
 use Rattle.kahn_job.specs.Ends.{End}
 use Rattle.kahn_job.specs.Ways.{nothing}
@@ -71,11 +73,8 @@ all_bare t lists rows n h e = record {
     bare p q (inl l) = ap (λ r. end_at r q) (h.each p l) ∙ bare_end (length (instance_at (network_of t) p).actuals) q
     bare p q (inr le) = ap (λ r. end_at r q) (get_or_past rows p [] (let c = h.count in omega (arith, c, le)))
 
-routes_size : (actuals : List Actual) → length (map route_of actuals) ≡ length actuals
-routes_size [] = refl
-routes_size (a ∷ actuals) = ap suc (routes_size actuals)
-
--- as many parameters as the table has routes
-pub as_wide : (N : Network) (table : List (List (Option ℕ))) (p w : ℕ) → AreRoutes N table → p < length N.instances →
-    w ≡ length (slice_index_or table p []) → w ≡ length (instance_at N p).actuals
-as_wide N table p w h l e = e ∙ ap (λ (r : List (Option ℕ)). length r) (h.each p l) ∙ routes_size (instance_at N p).actuals
+-- a parameter for each argument
+pub actuals_size : (names : Scope) (ps : List Parameter) (xs : List Argument) → length (actuals_of names ps xs) ≡ min (length ps) (length xs)
+actuals_size names [] xs = omega arith
+actuals_size names (p ∷ ps) [] = omega arith
+actuals_size names (p ∷ ps) (x ∷ xs) = let r = actuals_size names ps xs in omega (arith, r)

@@ -1,14 +1,13 @@
 //! The ends of all channels, by instance and parameter.
 
-ghost use Rattle.std.specs.Prelude.{◌≡◌, ◌+◌, ◌<◌, [], length, map, replicate, slice_index_or, slice_set, Some, IfOk, OnOk};
-ghost use Rattle.kahn_network.specs.Network.{network_of};
+ghost use Rattle.std.specs.Prelude.{◌≡◌, ◌+◌, ◌<◌, [], length, replicate, slice_index_or, slice_set, Some, IfOk, OnOk};
+ghost use Rattle.kahn_network.specs.Network.{network_of, instance_at};
 ghost use Rattle.kahn_network.specs.declared.sides.Side.{Side as SideOf};
 ghost use Rattle.kahn_job.specs.Openings.{AreEndsOf, AreHanded, placed};
 ghost use Rattle.kahn_job.specs.Ways.{nothing};
 
 use crate::fault::JobFault;
 use crate::port::Port;
-use kahn_code::routes::routes;
 use kahn_lane::lane;
 use kahn_network::network::Network;
 use kahn_network::sides::Side;
@@ -67,14 +66,14 @@ impl Row {
     }
 }
 
-// How many parameters an instance has, by a table of routes.
-fn width(routes: &[Vec<Option<usize>>], instance: usize) -> usize
-    ensures { result ≡ length (slice_index_or (map (λ v. v.items) routes.now) instance []) }
+// How many parameters an instance has.
+#[tactic(auto, using(crate::proofs::Bare::actuals_size))]
+fn width(network: &Network, instance: usize) -> usize
+    requires { instance < length (network_of network.now).instances }
+    ensures { result ≡ length (instance_at (network_of network.now) instance).actuals }
 {
-    match routes.get(instance) {
-        Some(row) => row.len(),
-        None => 0,
-    }
+    let made = network.instance(instance);
+    made.process.parameters.len().min(made.arguments.len())
 }
 
 // Puts an end where it belongs.
@@ -131,10 +130,9 @@ fn hand(
 fn bare_rows(alloc: Global, network: &Network, _input: &Input) -> Result<Vec<Row>, JobFault>
     ensures { IfOk result (λ rows. AreHanded network.now _input.now 0 rows.items) }
 {
-    let table = routes(alloc, network)?;
     let mut rows = Vec::new(alloc);
     for instance in 0..network.instances() {
-        rows.push(Row::bare(alloc, width(&table, instance))?)?;
+        rows.push(Row::bare(alloc, width(network, instance))?)?;
     }
     Ok(rows)
 }
