@@ -14,6 +14,5 @@ pub mod Celled
 pub mod Few
 pub mod Sit
 pub mod Readers
-pub mod Opened
 pub mod Grown
 pub mod Widths

@@ -1,5 +1,5 @@
 -- The plain queues of all channels, one of which changes.
-use Rattle.std.proofs.Common.{arith, ◌≡◌, ℕ, zero, suc, ◌+◌, ◌<◌, List, [], ◌∷◌, length, refl, sym, ap, ◌∙◌, length-set, subst, Option, Some, None, IfSome, IfNone, IsSome, slice_get, slice_set, slice_index_or}
+use Rattle.std.proofs.Common.{arith, ◌≡◌, ℕ, zero, suc, ◌+◌, ◌<◌, List, [], ◌∷◌, ◌++◌, length, refl, sym, ap, ◌∙◌, length-set, subst, Option, Some, None, IfSome, IfNone, IsSome, slice_get, slice_set, slice_index_or}
 use Rattle.std.proofs.lemmas.List.{get_or-set_same}
 use Rattle.std.proofs.lemmas.Option.{same_Some, slice_get_read}
 use Rattle.kahn_tree.specs.declared.tree.Program.{Program}
@@ -12,11 +12,20 @@ use Rattle.kahn_streams.specs.declared.value.Line.TheVariants.{Channel}
 use Rattle.kahn_streams.specs.Streams.{IsOf}
 use Rattle.kahn_streams.specs.Tokens.{Lists, inputs_of}
 use Rattle.kahn_code.specs.Queues.{Waiting}
-use Rattle.kahn_code.specs.Lines.{Lines, AreFirst, AreQueued, IsQueue, actual_of, at_first, next_at, place_at, queue_of, taken_of, given_of, waiting_of, spare_of}
+use Rattle.kahn_code.specs.Lines.{Lines, AreFirst, AreQueued, IsFirst, IsQueue, actual_of, at_first, next_at, place_at, queue_of, taken_of, given_of, waiting_of, spare_of}
 use Rattle.kahn_code.specs.Seats.{Seat, IsNext, Stays, Moved, Leaves}
+use Rattle.kahn_code.proofs.Lists as First
 use Rattle.kahn_code.proofs.Readers.{reads_once, writes_once}
 
--- those of a network and an input at the start
+-- ---- those of a network and an input at the start, one by one
+
+pub one_queue : (t : Program) (lists : Lists) (queues more : List Waiting) (w : Waiting) (n : ℕ) → First.AreFirst (IsFirst t lists) queues n → more ≡ queues ++ w ∷ [] → IsFirst t lists n w →
+    First.AreFirst (IsFirst t lists) more (n + 1)
+one_queue t lists = First.one_first (IsFirst t lists)
+
+pub all_queues : (t : Program) (lists : Lists) (queues : List Waiting) (n : ℕ) → First.AreFirst (IsFirst t lists) queues n → n ≡ length (network_of t).channels → AreFirst t lists queues
+all_queues t lists queues n h e = record { count = h.count ∙ e; each = h.each }
+
 pub queued : (t : Program) (lists : Lists) (i : ℕ) (queues : List Waiting) → IsWellWired t → AreFirst t lists queues →
     AreQueued (record { network = t; input = lists; instance = i; queues = queues })
 queued t lists i queues wired first = record {
@@ -35,26 +44,26 @@ queued t lists i queues wired first = record {
 
 -- ---- one place of a list is set
 
-set_here : (qs : List Waiting) (c : ℕ) (w : Waiting) → c < length qs → slice_get (slice_set qs c w) c ≡ Some w
-set_here qs c w l = slice_get_read (slice_set qs c w) (length qs) c w (sym (length-set qs c w)) l (sym (get_or-set_same qs c w w l))
+pub set_here : {X : Type 0} (xs : List X) (c : ℕ) (x : X) → c < length xs → slice_get (slice_set xs c x) c ≡ Some x
+set_here xs c x l = slice_get_read (slice_set xs c x) (length xs) c x (sym (length-set xs c x)) l (sym (get_or-set_same xs c x x l))
 
 -- what is read of place d stays, but where it is the one that is set
-set_get : (f : Option Waiting → ℕ) (qs : List Waiting) (c d : ℕ) (w w' : Waiting) → slice_get qs c ≡ Some w → (d ≡ c → f (Some w') ≡ f (Some w)) →
-    f (slice_get (slice_set qs c w') d) ≡ f (slice_get qs d)
-set_get f [] c d w w' at h = refl
-set_get f (x ∷ qs) zero zero w w' at h = h refl ∙ ap f (sym at)
-set_get f (x ∷ qs) zero (suc d) w w' at h = refl
-set_get f (x ∷ qs) (suc c) zero w w' at h = refl
-set_get f (x ∷ qs) (suc c) (suc d) w w' at h = set_get f qs c d w w' at (λ e. h (ap suc e))
+set_get : {X : Type 0} (f : Option X → ℕ) (xs : List X) (c d : ℕ) (x x' : X) → slice_get xs c ≡ Some x → (d ≡ c → f (Some x') ≡ f (Some x)) →
+    f (slice_get (slice_set xs c x') d) ≡ f (slice_get xs d)
+set_get f [] c d x x' at h = refl
+set_get f (y ∷ xs) zero zero x x' at h = h refl ∙ ap f (sym at)
+set_get f (y ∷ xs) zero (suc d) x x' at h = refl
+set_get f (y ∷ xs) (suc c) zero x x' at h = refl
+set_get f (y ∷ xs) (suc c) (suc d) x x' at h = set_get f xs c d x x' at (λ e. h (ap suc e))
 
--- what holds of each place holds of each, where it holds of what is set
-set_each : (P : ℕ → Waiting → Type 0) (qs : List Waiting) (c : ℕ) (w : Waiting) → ((d : ℕ) (v : Waiting) → slice_get qs d ≡ Some v → P d v) → P c w →
-    (d : ℕ) (v : Waiting) → slice_get (slice_set qs c w) d ≡ Some v → P d v
-set_each P [] c w h p d v e = absurd cc
-set_each P (x ∷ qs) zero w h p zero v e = subst (P zero) (same_Some w v e) p
-set_each P (x ∷ qs) zero w h p (suc d) v e = h (suc d) v e
-set_each P (x ∷ qs) (suc c) w h p zero v e = h zero v e
-set_each P (x ∷ qs) (suc c) w h p (suc d) v e = set_each (λ k. P (suc k)) qs c w (λ k. h (suc k)) p d v e
+-- what holds of each other place holds of each, where it holds of what is set
+pub set_each : {X : Type 0} (P : ℕ → X → Type 0) (xs : List X) (c : ℕ) (x : X) → ((d : ℕ) (y : X) → (d ≡ c → ⊥) → slice_get xs d ≡ Some y → P d y) → P c x →
+    (d : ℕ) (y : X) → slice_get (slice_set xs c x) d ≡ Some y → P d y
+set_each P [] c x h p d y e = absurd cc
+set_each P (z ∷ xs) zero x h p zero y e = subst (P zero) (same_Some x y e) p
+set_each P (z ∷ xs) zero x h p (suc d) y e = h (suc d) y (λ f. absurd (omega (arith, f))) e
+set_each P (z ∷ xs) (suc c) x h p zero y e = h zero y (λ f. absurd (omega (arith, f))) e
+set_each P (z ∷ xs) (suc c) x h p (suc d) y e = set_each (λ k. P (suc k)) xs c x (λ k u n. h (suc k) u (λ f. n (omega (arith, f)))) p d y e
 
 -- what changes when the queue of c does
 next_set : (qs : List Waiting) (c : ℕ) (w w' : Waiting) (a : Actual) → slice_get qs c ≡ Some w →
@@ -84,7 +93,7 @@ module _ (s : Lines) (h : AreQueued s) (c : ℕ) (w w' : Waiting) (inside : c < 
   still_queued same sums = record {
     wired = h.wired;
     count = length-set s.queues c w' ∙ h.count;
-    each = set_each (IsQueue s.network s.input) s.queues c w' h.each
+    each = set_each (IsQueue s.network s.input) s.queues c w' (λ d v other. h.each d v)
         (record { network = same.0 ∙ own.network; input = same.1 ∙ own.input; channel = same.2 ∙ own.channel; given = λ e. sums e ∙ own.given e });
   }
 

@@ -30,7 +30,7 @@ fn first_queue<A: Allocator + Copy + Drop>(
 }
 
 /// The queue of each channel before anything was taken or put: an input channel has its whole list.
-#[tactic(auto, using(crate::proofs::Opened::no_queues, crate::proofs::Opened::one_queue, crate::proofs::Opened::all_queues))]
+#[tactic(auto, using(crate::proofs::Lists::none_first, crate::proofs::Queued::one_queue, crate::proofs::Queued::all_queues))]
 pub fn first_queues<A: Allocator + Copy + Drop>(
     alloc: A,
     network: &Network,

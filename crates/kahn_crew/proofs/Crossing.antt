@@ -40,8 +40,6 @@ use Rattle.kahn_crew.specs.contracts.boxes.BoxedTold.TheImpl as told
 use Rattle.kahn_crew.specs.contracts.floor.Floor as Floor
 use Rattle.kahn_crew.proofs.hints.Hints.TheSendSync as hints
 use Rattle.kahn_crew.proofs.standing.Standing.TheSendSync as standing
-use Rattle.kahn_crew.specs.contracts.routes.Routes as Routes
-use Rattle.kahn_crew.specs.contracts.routes.Routes.TheInside as InRoutes
 use Rattle.kahn_crew.specs.contracts.task.Task as Task
 use Rattle.kahn_crew.specs.contracts.task.Task.TheInside as InTask
 use Rattle.kahn_crew.specs.contracts.worker.Worker as Worker
@@ -99,10 +97,6 @@ code_sync : IsSync (Code.the_row Heap.the_row ghosts)
 code_sync = code.the_sync Heap.the_row ghosts std.sync
 
 module _ (b : NamedLft) where
-  routes_sync : IsSync (Routes.the_row b)
-  routes_sync = view_sync (InRoutes.the_row b) _ _ _ _ (recorded_sync (InRoutes.the_field b).row _ _ (InRoutes.the_type b).to_one
-      (struct_sync (S.shape (InRoutes.the_type b)) (shr_sync _ _ _ network_sync, (std.Vec-sync _ (std.Vec-sync _ (option.the_sync usize (search sendable))), tt))))
-
   pub floor_sync : (a : NamedLft) → IsSync (Floor.the_row a b)
   floor_sync a = recorded_sync (Floor.the_field a b).row _ _ (Floor.the_type a b).to_one
-      (struct_sync (S.shape (Floor.the_type a b)) (shr_sync _ _ _ (board_sync (Boxed.the_row b) told.ghosts (boxed_send b)), (shr_sync _ _ _ routes_sync, (shr_sync _ _ _ code_sync, (search sendable, tt)))))
+      (struct_sync (S.shape (Floor.the_type a b)) (shr_sync _ _ _ (board_sync (Boxed.the_row b) told.ghosts (boxed_send b)), (shr_sync _ _ _ network_sync, (shr_sync _ _ _ code_sync, (search sendable, tt)))))

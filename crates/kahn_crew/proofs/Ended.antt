@@ -153,7 +153,7 @@ module _ (lists : Lists) (watch : Option ℕ) (key : Terms Tasked) (is_wired : I
 
   of_instance : (p : ℕ) (x : Tasked) → slice_get tasks p ≡ Some x → IsTaskOf t p x
   of_instance p x e =
-      task_of key t t p x (floor_of t lists watch key begun t t refl refl)
+      task_of key t t p x (floor_of t lists watch key begun t refl)
       (let lt = within p x e in omega (arith, lt, instances_are t is_wired)) (belong p x e)
 
   later : (p : ℕ) (y x : Tasked) → slice_get key.cells.value.items p ≡ Some y → slice_get tasks p ≡ Some x → Continues y x

@@ -9,8 +9,7 @@ use Rattle.kahn_network.specs.Wiring.{IsWellWired}
 use Rattle.kahn_code.specs.Cells.{is_output}
 use Rattle.kahn_code.specs.Standing.{count}
 use Rattle.kahn_code.specs.Lines.{Joins}
-use Rattle.kahn_code.proofs.Driven.{driven}
-use Rattle.kahn_code.proofs.Readers.{joins_parameter}
+use Rattle.kahn_code.proofs.Readers.{joins_parameter, driven}
 use Rattle.kahn_board.specs.Wires.{wires}
 use Rattle.kahn_board.specs.declared.view.View.{View}
 use Rattle.kahn_job.specs.Berths.{end_at}

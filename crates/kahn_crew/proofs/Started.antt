@@ -255,11 +255,10 @@ module _ (t : Program) (wired : IsWellWired t) (lists : Lists) (watch : Option �
 
 -- ---- what all workers of a run share
 
-pub floor_of : (t : Program) (lists : Lists) (watch : Option ℕ) (key : Terms Tasked) → HasBegun t lists watch key → (routes code : Program) →
-    routes ≡ t → code ≡ t → IsFloor key routes code
-floor_of t lists watch key b routes code e f = record {
-  network = b.network ∙ sym e;
-  code = f ∙ sym e;
-  count = b.ready.count ∙ ap (λ (k : Program). length (network_of k).instances) (sym e);
-  cells = λ p x at. let o = b.ready.each p x (at_both key.cells.value.items p x at) in (o.network ∙ sym e, o.instance);
+pub floor_of : (t : Program) (lists : Lists) (watch : Option ℕ) (key : Terms Tasked) → HasBegun t lists watch key → (code : Program) → code ≡ t → IsFloor key t code
+floor_of t lists watch key b code same = record {
+  network = b.network;
+  code = same;
+  count = b.ready.count;
+  cells = λ p x at. let o = b.ready.each p x (at_both key.cells.value.items p x at) in (o.network, o.instance);
 }

@@ -9,8 +9,7 @@ use Rattle.kahn_network.specs.Wiring.{IsWellWired}
 use Rattle.kahn_network.proofs.Sourced.{reads_listed, writes_listed}
 use Rattle.kahn_code.specs.Cells.{is_output}
 use Rattle.kahn_code.specs.Lines.{Joins, route_of}
-use Rattle.kahn_code.proofs.Readers.{joins_within, joins_parameter, reads_once}
-use Rattle.kahn_code.proofs.Driven.{driven}
+use Rattle.kahn_code.proofs.Readers.{joins_within, joins_parameter, reads_once, driven}
 use Rattle.kahn_board.specs.Wires.{wires, is_read}
 use Rattle.kahn_crew.specs.Tasks.{read_by, written_by, is_channel, first_that}
 use Rattle.kahn_crew.proofs.Found
@@ -82,6 +81,11 @@ in_yes false c e = eqb_refl c
 
 so_writes : (N : Network) (a : Actual) (c : ℕ) → a ≡ Writes c → is_output (role_at N c) ≡ false → is_channel (written_by N a) c ≡ true
 so_writes N a c e inner = subst (λ b. is_channel (written_by N b) c ≡ true) (sym e) (in_yes (is_output (role_at N c)) c inner)
+
+-- the channel of a parameter, by an equal program
+pub routed_as : {k t : Program} {o : Option ℕ} (p q : ℕ) → k ≡ t → o ≡ route_of (actual_at (instance_at (network_of k) p) q) →
+    route_of (actual_at (instance_at (network_of t) p) q) ≡ o
+routed_as p q same e = sym (e ∙ ap (λ (k : Program). route_of (actual_at (instance_at (network_of k) p) q)) same)
 
 -- ---- in a well wired program
 

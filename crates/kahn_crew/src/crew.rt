@@ -25,7 +25,6 @@ use crate::left::Left;
 use crate::opening::{first_tasks, open_board};
 use crate::plan::Plan;
 use crate::rooms::Rooms;
-use crate::routes::Routes;
 use crate::task::Task;
 use crate::worker::Worker;
 use kahn_board::{Board, Seat};
@@ -99,7 +98,7 @@ impl<'b, 'c, 'n, R: Wait + Sync, G: Gate + Sync> Hand<Shift<'b, 'c, 'n, R, G>> f
     ghost use Rattle.kahn_crew.specs.Crews.{HasGone, IsSeated};
     ghost use Rattle.kahn_crew.specs.Floors.{IsFloor};
 
-    ghost may = { λ s w. IsFloor s.floor.now.board.now.table.shared.key s.floor.now.routes.now s.floor.now.code.now.network.value × (0 < s.floor.now.quantum) × IsSeated s.floor.now.board.now.table.shared.table_id w };
+    ghost may = { λ s w. IsFloor s.floor.now.board.now.table.shared.key s.floor.now.network.now s.floor.now.code.now.network.value × (0 < s.floor.now.quantum) × IsSeated s.floor.now.board.now.table.shared.table_id w };
 
     ghost did = { λ s old new. HasGone s.floor.now.board.now.table.shared.table_id new × (new.seat.seat.me.0.parts ≡ old.seat.seat.me.0.parts) };
 
@@ -123,7 +122,7 @@ fn work_all<'n, R: Threads + Wait + Sync, G: Gate + Sync>(
     gate: &G,
     workers: Vec<Worker<'n>>,
 ) -> Labored<Worker<'n>>
-    requires floor { IsFloor floor.now.board.now.table.shared.key floor.now.routes.now floor.now.code.now.network.value }
+    requires floor { IsFloor floor.now.board.now.table.shared.key floor.now.network.now floor.now.code.now.network.value }
     requires quantum { 0 < floor.now.quantum }
     requires each { All (IsSeated floor.now.board.now.table.shared.table_id) workers.items }
     ensures count { length result.hands.items ≡ length workers.entry.items }
@@ -144,7 +143,7 @@ fn employ<'n, R: Threads + Wait + Sync, G: Gate + Sync>(
     seat: Seat<Boxed<'n>>,
     rooms: Rooms<'n>,
 ) -> Result<Seat<Boxed<'n>>, (CrewFault, Seat<Boxed<'n>>)>
-    requires floor { IsFloor floor.now.board.now.table.shared.key floor.now.routes.now floor.now.code.now.network.value }
+    requires floor { IsFloor floor.now.board.now.table.shared.key floor.now.network.now floor.now.code.now.network.value }
     requires quantum { 0 < floor.now.quantum }
     requires seat { IsWhole floor.now.board.now.table.shared.table_id seat }
     requires few { (1 ≤ length rooms.hints.items) × (length rooms.hints.items ≤ 16) }
@@ -174,24 +173,22 @@ fn employ<'n, R: Threads + Wait + Sync, G: Gate + Sync>(
     }
 }
 
-// What a crew takes memory for, before the board stands: the channels of all parameters, the rooms of so many workers, and
-// a list with room for the tasks that they leave.
+// What a crew takes memory for, before the board stands: the rooms of so many workers, and a list with room for the tasks
+// that they leave.
 fn prepare<'n>(
     alloc: Global,
     network: &'n Network,
     workers: usize,
-) -> Result<(Routes<'n>, Rooms<'n>, Vec<Task<'n>>), NoMemory>
+) -> Result<(Rooms<'n>, Vec<Task<'n>>), NoMemory>
     requires { 0 < workers }
-    ensures routes { IfOk result (λ r. r.0 ≡ network.now) }
-    ensures hints { IfOk result (λ r. length r.1.hints.items ≡ workers) }
-    ensures workers { IfOk result (λ r. (r.1.workers.items ≡ []) × (workers ≤ vec_capacity r.1.workers)) }
-    ensures seats { IfOk result (λ r. (r.1.seats.items ≡ []) × (workers ≤ vec_capacity r.1.seats)) }
-    ensures tasks { IfOk result (λ r. (r.2.items ≡ []) × (length (network_of network.now).instances ≤ vec_capacity r.2)) }
+    ensures hints { IfOk result (λ r. length r.0.hints.items ≡ workers) }
+    ensures workers { IfOk result (λ r. (r.0.workers.items ≡ []) × (workers ≤ vec_capacity r.0.workers)) }
+    ensures seats { IfOk result (λ r. (r.0.seats.items ≡ []) × (workers ≤ vec_capacity r.0.seats)) }
+    ensures tasks { IfOk result (λ r. (r.1.items ≡ []) × (length (network_of network.now).instances ≤ vec_capacity r.1)) }
 {
-    let routes = Routes::new(alloc, network)?;
     let rooms = Rooms::new(alloc, workers, network.instances())?;
     let room = Vec::with_capacity(alloc, network.instances())?;
-    Ok((routes, rooms, room))
+    Ok((rooms, room))
 }
 
 /// Runs tasks that may go on by several workers, until every worker has left: the run was halted since memory was refused to
@@ -223,7 +220,7 @@ pub fn run_tasks<'n, R: Threads + Wait + Sync, G: Gate + Sync>(
     ensures refused { IfErr result (λ e. HaveGone network.now input.now plan.watch (plan.bound + events_of told_of tasks.entry.items) tasks.entry.items e.1.tasks.items e.1.budget) }
     ensures untouched { IfErr result (λ e. e.0 ≡ NoMemoryFault → AreUntouched plan.bound tasks.entry.items e.1.tasks.items e.1.budget) }
 {
-    let Ok((routes, rooms, room)) = prepare(alloc, network, plan.workers) else {
+    let Ok((rooms, room)) = prepare(alloc, network, plan.workers) else {
         return Err((CrewFault::NoMemory, untouched(tasks, plan.bound)));
     };
     let (board, seat) = match open_board(alloc, network, input, plan.watch, plan.bound, tasks) {
@@ -234,7 +231,7 @@ pub fn run_tasks<'n, R: Threads + Wait + Sync, G: Gate + Sync>(
     };
     let floor = Floor {
         board: &board,
-        routes: &routes,
+        network,
         code,
         quantum: plan.quantum,
     };

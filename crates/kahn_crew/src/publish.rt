@@ -10,6 +10,7 @@ ghost use Rattle.kahn_crew.specs.Tasks.{AgreesWith, IsPublished, Tasked};
 use crate::boxes::Boxed;
 use crate::floor::Floor;
 use crate::hints::Hints;
+use crate::target::target;
 use crate::task::Task;
 use kahn_board::Seat;
 use kahn_desk::{stop, tell};
@@ -23,9 +24,9 @@ pub(crate) fn publish_one<'n>(
     parameter: usize,
 ) -> Option<usize>
     requires board { seat.old.seat.table_id ≡ floor.now.board.now.table.shared.table_id }
-    requires floor { IsFloor floor.now.board.now.table.shared.key floor.now.routes.now floor.now.code.now.network.value }
+    requires floor { IsFloor floor.now.board.now.table.shared.key floor.now.network.now floor.now.code.now.network.value }
     requires holds { (n : ℕ) × (l : ℕ) × Holds p n l None seat.old }
-    requires task { IsTaskOf floor.now.routes.now p task.old }
+    requires task { IsTaskOf floor.now.network.now p task.old }
     requires few { task.old.work.cell.events < 2 ^ 48 }
     requires agrees { AgreesWith task.old.work task.old.published seat.old.seat.me.0.flushed }
     requires inside { parameter < width_of task.old.work }
@@ -37,13 +38,13 @@ pub(crate) fn publish_one<'n>(
     ensures published { IsPublished task.new parameter }
     ensures others { (r : ℕ) → r ≢ parameter → count task.new.published r ≡ count task.old.published r }
 {
-    floor.routes.wired();
+    let _program = floor.network.program();
     task.parameters();
     let count = task.flushed(parameter);
     if count == task.published(parameter) {
         return None;
     }
-    let channel = floor.routes.target(p, parameter)?;
+    let channel = target(floor.network, floor.code, p, parameter)?;
     task.mark(parameter, count);
     tell(seat, floor.board, p, channel, count)
 }
@@ -96,9 +97,9 @@ pub(crate) fn publish_all<'n>(
     p: usize,
 )
     requires board { seat.old.seat.table_id ≡ floor.now.board.now.table.shared.table_id }
-    requires floor { IsFloor floor.now.board.now.table.shared.key floor.now.routes.now floor.now.code.now.network.value }
+    requires floor { IsFloor floor.now.board.now.table.shared.key floor.now.network.now floor.now.code.now.network.value }
     requires holds { (n : ℕ) × (l : ℕ) × Holds p n l None seat.old }
-    requires task { IsTaskOf floor.now.routes.now p task.old }
+    requires task { IsTaskOf floor.now.network.now p task.old }
     requires few { task.old.work.cell.events < 2 ^ 48 }
     requires agrees { AgreesWith task.old.work task.old.published seat.old.seat.me.0.flushed }
     ensures same { IsSeatOf seat.old seat.new }

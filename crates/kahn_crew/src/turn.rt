@@ -40,19 +40,19 @@ pub(crate) enum Due {
 
 // How a task is to be set down.
 fn due_of<'n>(floor: &Floor<'_, 'n>, task: &Task<'n>, p: usize) -> Due
-    requires floor { IsFloor floor.now.board.now.table.shared.key floor.now.routes.now floor.now.code.now.network.value }
-    requires task { IsTaskOf floor.now.routes.now p task.now }
-    requires inside { p < length (network_of floor.now.routes.now).instances }
+    requires floor { IsFloor floor.now.board.now.table.shared.key floor.now.network.now floor.now.code.now.network.value }
+    requires task { IsTaskOf floor.now.network.now p task.now }
+    requires inside { p < length (network_of floor.now.network.now).instances }
     requires few { task.now.work.cell.events < 2 ^ 48 }
     ensures { IsDue (wired floor.now.board.now.table.shared.key) p task.now result }
 {
     task.parameters();
-    floor.routes.wired();
+    let _program = floor.network.program();
     match task.standing() {
         Standing::Going => Due::Ready,
         Standing::Ended => Due::Over,
         Standing::Faulted(_) => Due::Over,
-        Standing::Dry(parameter) => match floor.routes.channel(p, parameter) {
+        Standing::Dry(parameter) => match floor.code.channel(p, parameter) {
             Some(channel) => Due::Waits(channel, task.taken(parameter)),
             None => unreachable!(),
         },
@@ -149,15 +149,15 @@ fn spend<'n, L: Ledger>(
     steps: &mut Steps<L>,
 ) -> u64
     requires board { seat.old.seat.table_id ≡ floor.now.board.now.table.shared.table_id }
-    requires floor { IsFloor floor.now.board.now.table.shared.key floor.now.routes.now floor.now.code.now.network.value }
-    requires inside { p < length (network_of floor.now.routes.now).instances }
+    requires floor { IsFloor floor.now.board.now.table.shared.key floor.now.network.now floor.now.code.now.network.value }
+    requires inside { p < length (network_of floor.now.network.now).instances }
     requires few { slice_index seat.old.seat.me.0.got p + drawn < 2 ^ 48 }
     requires holds { HasTask floor.now.board.now.table.shared.key p drawn seat.old }
     ensures same { IsSeatOf seat.old seat.new }
     ensures done { result ≤ drawn }
     ensures rests { IsBetween (drawn - result) seat.new }
 {
-    floor.routes.wired();
+    let _program = floor.network.program();
     let mut boxed = take_cell(seat, floor.board, p);
     let done = run_task(floor, seat, &mut boxed.task, drawn, steps);
     publish_all(floor, seat, hints, &mut boxed.task, p);
@@ -180,8 +180,8 @@ fn spend_all<'n, G: Gate, L: Ledger>(
     steps: &mut Steps<L>,
 ) -> u64
     requires board { seat.old.seat.table_id ≡ floor.now.board.now.table.shared.table_id }
-    requires floor { IsFloor floor.now.board.now.table.shared.key floor.now.routes.now floor.now.code.now.network.value }
-    requires inside { first < length (network_of floor.now.routes.now).instances }
+    requires floor { IsFloor floor.now.board.now.table.shared.key floor.now.network.now floor.now.code.now.network.value }
+    requires inside { first < length (network_of floor.now.network.now).instances }
     requires few { slice_index seat.old.seat.me.0.got first + drawn < 2 ^ 48 }
     requires holds { HasTask floor.now.board.now.table.shared.key first drawn seat.old }
     ensures same { IsSeatOf seat.old seat.new }
@@ -215,14 +215,14 @@ pub(crate) fn turn<'n, R: Wait, G: Gate, L: Ledger>(
     steps: &mut Steps<L>,
 )
     requires board { seat.old.seat.table_id ≡ floor.now.board.now.table.shared.table_id }
-    requires floor { IsFloor floor.now.board.now.table.shared.key floor.now.routes.now floor.now.code.now.network.value }
-    requires inside { p < length (network_of floor.now.routes.now).instances }
+    requires floor { IsFloor floor.now.board.now.table.shared.key floor.now.network.now floor.now.code.now.network.value }
+    requires inside { p < length (network_of floor.now.network.now).instances }
     requires quantum { 0 < floor.now.quantum }
     requires holds { HasTask floor.now.board.now.table.shared.key p 0 seat.old }
     ensures same { IsSeatOf seat.old seat.new }
     ensures idle { IsIdle seat.new }
 {
-    floor.routes.wired();
+    let _program = floor.network.program();
     match draw_some(rt, seat, floor.board, p, floor.quantum) {
         Some(drawn) => {
             let left = spend_all(floor, gate, seat, hints, p, drawn, steps);

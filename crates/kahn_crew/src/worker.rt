@@ -96,7 +96,7 @@ fn turns<'n, R: Wait, G: Gate, L: Ledger>(
     blank: Blank,
 )
     requires board { worker.old.seat.seat.table_id ≡ floor.now.board.now.table.shared.table_id }
-    requires floor { IsFloor floor.now.board.now.table.shared.key floor.now.routes.now floor.now.code.now.network.value }
+    requires floor { IsFloor floor.now.board.now.table.shared.key floor.now.network.now floor.now.code.now.network.value }
     requires quantum { 0 < floor.now.quantum }
     requires idle { IsIdle worker.old.seat }
     requires name { blank.name ≡ L.name }
@@ -133,7 +133,7 @@ impl<'n> Worker<'n> {
     /// Works until the run is halted, or no instance can go on, or the budget is empty.
     pub fn work<R: Wait, G: Gate>(&mut self, rt: &R, floor: &Floor<'_, 'n>, gate: &G)
         requires board { self.old.seat.seat.table_id ≡ floor.now.board.now.table.shared.table_id }
-        requires floor { IsFloor floor.now.board.now.table.shared.key floor.now.routes.now floor.now.code.now.network.value }
+        requires floor { IsFloor floor.now.board.now.table.shared.key floor.now.network.now floor.now.code.now.network.value }
         requires quantum { 0 < floor.now.quantum }
         requires idle { IsIdle self.old.seat }
         ensures same { IsSeatOf self.old.seat self.new.seat }

@@ -15,8 +15,7 @@ returns-in-Err-clause-refused g c =
 
 pub employ-requires-clause-floor : goal.employ-requires-clause-floor
 employ-requires-clause-floor g c =
-    let is = floor_of c.args.network.now c.args.input.now c.args.plan.watch c.in-Ok-open_board.opened.0.table.shared.key c.in-Ok-open_board.ensures.begun
-    c.in-Ok.routes c.args.code.now.network.value c.in-Ok.ensures.routes c.requires.code in
+    let is = floor_of c.args.network.now c.args.input.now c.args.plan.watch c.in-Ok-open_board.opened.0.table.shared.key c.in-Ok-open_board.ensures.begun _ c.requires.code in
     search (is)
 
 pub returns-in-Ok-employ-clause-over : goal.returns-in-Ok-employ-clause-over

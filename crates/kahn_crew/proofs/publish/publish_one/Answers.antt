@@ -10,11 +10,11 @@ use Rattle.kahn_crew.proofs.publish.publish_one.Goals as goal
 
 pub tell-requires-clause-writes : goal.tell-requires-clause-writes
 tell-requires-clause-writes c =
-    let t = c.args.floor.now.routes.now in
+    let t = c.args.floor.now.network.now in
     let p = c.args.p in
     let o = c.args.parameter in
     let d = c.in_ok-channel.channel in
-    let wired = c.wired.ensures in
+    let wired = c.program-program.ensures.wired in
     let written : written_by (network_of t) (actual_at (instance_at (network_of t) p) o) ≡ Some d = sym c.in_ok-channel.ensures in
     let here : actual_at (instance_at (network_of t) p) o ≡ Writes d = (written_so (network_of t) (actual_at (instance_at (network_of t) p) o) d written).0 in
     let same : t ≡ c.args.floor.now.board.now.table.shared.key.network.value = sym c.requires.floor.network in
@@ -32,7 +32,7 @@ returns-clause-holds c = λ n l h. c.tell.ensures.holds n l _ h
 
 pub returns-clause-agrees : goal.returns-clause-agrees
 returns-clause-agrees c =
-    let t = c.args.floor.now.routes.now in
+    let t = c.args.floor.now.network.now in
     let p = c.args.p in
     let o = c.args.parameter in
     let d = c.in_ok-channel.channel in
@@ -46,4 +46,4 @@ returns-clause-agrees c =
     let width = c.parameters.ensures.width in
     let inside = c.requires.inside in
     subst (λ (y : Tasked). AgreesWith y.work y.published new.flushed) (sym c.mark.ensures)
-    (agrees_told t c.wired.ensures x p o d k old new c.requires.task written (omega (arith, lists, width, inside)) tells c.requires.agrees)
+    (agrees_told t c.program-program.ensures.wired x p o d k old new c.requires.task written (omega (arith, lists, width, inside)) tells c.requires.agrees)

@@ -12,7 +12,7 @@ use Rattle.kahn_crew.proofs.turn.spend.Goals as goal
 
 pub run_task-done-requires-clause-code : goal.run_task-done-requires-clause-code
 run_task-done-requires-clause-code g c =
-    let t = c.args.floor.now.routes.now in
+    let t = c.args.floor.now.network.now in
     let key = c.args.floor.now.board.now.table.shared.key in
     let code = c.args.floor.now.code.now.network.value in
     let p = c.args.p in
@@ -25,7 +25,7 @@ run_task-done-requires-clause-code g c =
 
 pub publish_all-requires-clause-holds : goal.publish_all-requires-clause-holds
 publish_all-requires-clause-holds g c =
-    let t = c.args.floor.now.routes.now in
+    let t = c.args.floor.now.network.now in
     let key = c.args.floor.now.board.now.table.shared.key in
     let code = c.args.floor.now.code.now.network.value in
     let p = c.args.p in
@@ -40,7 +40,7 @@ publish_all-requires-clause-holds g c =
 
 pub publish_all-requires-clause-task : goal.publish_all-requires-clause-task
 publish_all-requires-clause-task g c =
-    let t = c.args.floor.now.routes.now in
+    let t = c.args.floor.now.network.now in
     let key = c.args.floor.now.board.now.table.shared.key in
     let code = c.args.floor.now.code.now.network.value in
     let p = c.args.p in
@@ -53,7 +53,7 @@ publish_all-requires-clause-task g c =
 
 pub publish_all-requires-clause-agrees : goal.publish_all-requires-clause-agrees
 publish_all-requires-clause-agrees g c =
-    let t = c.args.floor.now.routes.now in
+    let t = c.args.floor.now.network.now in
     let key = c.args.floor.now.board.now.table.shared.key in
     let code = c.args.floor.now.code.now.network.value in
     let p = c.args.p in
@@ -66,7 +66,7 @@ publish_all-requires-clause-agrees g c =
     let fits : Fits told_of (belongs IsLater key) (wires t) p x v =
     subst (λ (k : Program). Fits told_of (belongs IsLater key) (wires k) p x v) c.requires.floor.network
     (subst (λ (k : Tasked). Fits told_of (belongs IsLater key) (wires key.network.value) p k v) same h.2) in
-    let first : AgreesWith x.work x.published v.flushed = agrees_with t c.wired.ensures key p x v is (is_published key t code p x c.requires.floor c.requires.inside fits.belonging) fits in
+    let first : AgreesWith x.work x.published v.flushed = agrees_with t c.program-program.ensures.wired key p x v is (is_published key t code p x c.requires.floor c.requires.inside fits.belonging) fits in
     let known : c.run_task-done.new.seat.seat.me.0.flushed ≡ v.flushed = c.run_task-done.ensures.known ∙ ap (λ (k : View). k.flushed) c.take_cell-boxed.ensures.same.1 in
     subst (λ (k : Tasked). AgreesWith k.work k.published c.run_task-done.new.seat.seat.me.0.flushed) (sym c.deref_mut-2.ensures.value)
     (subst (λ (l : List ℕ). AgreesWith c.run_task-done.new.task.work c.run_task-done.new.task.published l) (sym known)
@@ -74,7 +74,7 @@ publish_all-requires-clause-agrees g c =
 
 pub due_of-due-requires-clause-task : goal.due_of-due-requires-clause-task
 due_of-due-requires-clause-task g c =
-    let t = c.args.floor.now.routes.now in
+    let t = c.args.floor.now.network.now in
     let key = c.args.floor.now.board.now.table.shared.key in
     let code = c.args.floor.now.code.now.network.value in
     let p = c.args.p in
@@ -89,7 +89,7 @@ due_of-due-requires-clause-task g c =
 
 pub put-requires-clause-holds : goal.put-requires-clause-holds
 put-requires-clause-holds g c =
-    let t = c.args.floor.now.routes.now in
+    let t = c.args.floor.now.network.now in
     let key = c.args.floor.now.board.now.table.shared.key in
     let code = c.args.floor.now.code.now.network.value in
     let p = c.args.p in
@@ -105,7 +105,7 @@ put-requires-clause-holds g c =
 
 pub tell_done-requires-clause-holds : goal.tell_done-requires-clause-holds
 tell_done-requires-clause-holds g c =
-    let t = c.args.floor.now.routes.now in
+    let t = c.args.floor.now.network.now in
     let key = c.args.floor.now.board.now.table.shared.key in
     let code = c.args.floor.now.code.now.network.value in
     let p = c.args.p in
@@ -122,7 +122,7 @@ tell_done-requires-clause-holds g c =
 
 pub rest-requires-clause-holds : goal.rest-requires-clause-holds
 rest-requires-clause-holds g c =
-    let t = c.args.floor.now.routes.now in
+    let t = c.args.floor.now.network.now in
     let key = c.args.floor.now.board.now.table.shared.key in
     let code = c.args.floor.now.code.now.network.value in
     let p = c.args.p in
@@ -150,7 +150,7 @@ rest-requires-clause-holds g c =
     subst (λ (k : View). Knows (wires t) p k v3) c.put.ensures.same.1
     (subst (λ (k : Program). Knows (wires k) p c.put.new.seat.seat.me.0 v3) c.requires.floor.network c.tell_done.ensures.knows) in
     let after : Fits told_of (belongs IsLater key) (wires t) p c.publish_all.new.task v3 =
-    fits_spent t c.wired.ensures key p done x c.run_task-done.new.task c.publish_all.new.task v0 v1 v2 v3 is fits taken.loose
+    fits_spent t c.program-program.ensures.wired key p done x c.run_task-done.new.task c.publish_all.new.task v0 v1 v2 v3 is fits taken.loose
     c.run_task-done.ensures.continues c.run_task-done.ensures.events.0 (c.run_task-done.ensures.kept p) c.run_task-done.ensures.delivered
     (c.publish_all.ensures.task.0 ∙ ap (λ (k : Tasked). k.work) c.deref_mut-2.ensures.value) c.publish_all.ensures.kept c.publish_all.ensures.agrees c.publish_all.ensures.all knows given.loose in (
       c.args.drawn - done,

@@ -6,7 +6,7 @@ use Rattle.kahn_crew.proofs.turn.spend_all.Goals as goal
 
 pub loop-first-preserved : goal.loop-first-preserved
 loop-first-preserved g c =
-    let t = c.args.floor.now.routes.now in
+    let t = c.args.floor.now.network.now in
     let board = c.args.floor.now.board.now in
     let counts : (wires t).instances ≡ board.instances = subst (λ (k : Program). (wires k).instances ≡ board.instances) c.requires.floor.network board.counts.0 in
     let is = instances_of t in

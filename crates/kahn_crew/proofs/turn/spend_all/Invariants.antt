@@ -7,7 +7,7 @@ use Rattle.kahn_crew.proofs.turn.spend_all.Given as goal
 abbrev pub invariant-loop-first : goal.invariant-loop-first
 invariant-loop-first g l = record {
   same : IsSeatOf l.fn.seat l.seat;
-  inside : l.p < length (network_of l.fn.floor.routes.now).instances;
+  inside : l.p < length (network_of l.fn.floor.network.now).instances;
   few : slice_index l.seat.seat.me.0.got l.p + l.left < 2 ^ 48;
   holds : HasTask l.fn.floor.board.now.table.shared.key l.p l.left l.seat;
 }

@@ -10,7 +10,7 @@ use Rattle.kahn_crew.proofs.turn.turn.Goals as goal
 
 pub spend_all-left-requires-clause-holds : goal.spend_all-left-requires-clause-holds
 spend_all-left-requires-clause-holds g c =
-    let t = c.args.floor.now.routes.now in
+    let t = c.args.floor.now.network.now in
     let key = c.args.floor.now.board.now.table.shared.key in
     let code = c.args.floor.now.code.now.network.value in
     let p = c.args.p in
@@ -22,12 +22,12 @@ spend_all-left-requires-clause-holds g c =
     let fits : Fits told_of (belongs IsLater key) (wires t) p y old = subst (λ (k : Program). Fits told_of (belongs IsLater key) (wires k) p y old) c.requires.floor.network h.2 in
     let knows : Knows (wires t) p old new = subst (λ (k : Program). Knows (wires k) p old new) c.requires.floor.network c.draw_some.ensures.knows in
     let holds : Holds p c.in-Some.drawn 0 (Some y) c.draw_some.new.seat = c.in-Some.ensures.drawn.3 (Some y) h.1 in
-    let after = fits_still t c.wired.ensures key p y old new is knows (holds.loose ∙ sym h.1.loose) fits in
+    let after = fits_still t c.program-program.ensures.wired key p y old new is knows (holds.loose ∙ sym h.1.loose) fits in
     (y, holds, subst (λ (k : Program). Fits told_of (belongs IsLater key) (wires k) p y new) (sym c.requires.floor.network) after)
 
 pub rest_ready-requires-clause-holds : goal.rest_ready-requires-clause-holds
 rest_ready-requires-clause-holds g c =
-    let t = c.args.floor.now.routes.now in
+    let t = c.args.floor.now.network.now in
     let key = c.args.floor.now.board.now.table.shared.key in
     let code = c.args.floor.now.code.now.network.value in
     let p = c.args.p in
@@ -39,5 +39,5 @@ rest_ready-requires-clause-holds g c =
     let fits : Fits told_of (belongs IsLater key) (wires t) p y old = subst (λ (k : Program). Fits told_of (belongs IsLater key) (wires k) p y old) c.requires.floor.network h.2 in
     let knows : Knows (wires t) p old new = subst (λ (k : Program). Knows (wires k) p old new) c.requires.floor.network c.draw_some.ensures.knows in
     let holds : Holds p 0 0 (Some y) c.draw_some.new.seat = c.in-None.ensures.empty.1 (Some y) h.1 in
-    let after = fits_still t c.wired.ensures key p y old new is knows (holds.loose ∙ sym h.1.loose) fits in
+    let after = fits_still t c.program-program.ensures.wired key p y old new is knows (holds.loose ∙ sym h.1.loose) fits in
     (0, 0, y, holds, subst (λ (k : Program). Fits told_of (belongs IsLater key) (wires k) p y new) (sym c.requires.floor.network) after)
