@@ -1,18 +1,23 @@
 -- Cells that stand where their queues stand.
 use Rattle.std.proofs.Common.{arith, ◌≡◌, ◌⊎◌, inl, inr, ℕ, zero, suc, ◌+◌, ◌<◌, ◌≤◌, List, [], ◌∷◌, length, map, refl, sym, ap, ◌∙◌, subst, Option, Some, None, slice_get, slice_set, slice_index_or, false, le_of_suc-le-suc, length-set}
+use Rattle.std.proofs.Math.Seq.{map-set_same}
+use Rattle.std.proofs.lemmas.List.{map-set}
+use Rattle.std.proofs.lemmas.Option.{get_or_from_slice_get, slice_get_read}
 use Rattle.kahn_network.specs.Network.{Network, Reads, Writes, network_of, instance_at, actual_at, role_at}
 use Rattle.kahn_network.specs.Sources.{IsFed}
-use Rattle.kahn_network.proofs.Sourced.{reads}
+pub use Rattle.kahn_network.proofs.Numbered.{there as got, within as within_get, mapped as get_map}
+use Rattle.kahn_network.proofs.Sourced.{reads, reads_listed}
 use Rattle.kahn_streams.specs.declared.value.Line.TheVariants.{Channel}
 use Rattle.kahn_streams.specs.Solution.{Inputs, source}
 use Rattle.kahn_streams.specs.Tokens.{inputs_of}
 use Rattle.kahn_code.specs.Cells.{View, exec_on, is_output}
-use Rattle.kahn_code.specs.Lines.{Lines as Queues, AreCounted, Joins, route_of, actual_of, place_at, next_at, taken_of, given_of, waiting_of}
+use Rattle.kahn_code.specs.Lines.{Lines as Queues, AreQueued, Joins, queue_of, route_of, actual_of, place_at, next_at, taken_of, given_of, waiting_of}
 use Rattle.kahn_code.specs.Queues.{Waiting}
 use Rattle.kahn_code.specs.Seats.{Seat, Leaves}
 use Rattle.kahn_code.specs.Standing.{count}
 use Rattle.kahn_code.specs.Told.{Told, told_view, seat_of, IsAt, IsStill}
-use Rattle.kahn_code.proofs.Readers.{joins_within}
+use Rattle.kahn_code.proofs.Queued.{set_each, set_here}
+use Rattle.kahn_code.proofs.Readers.{joins_within, reads_once}
 use Rattle.kahn_pool.specs.Gathered.{IsGiven, AreWithin, TookAll, view_at, nothing}
 use Rattle.kahn_pool.specs.Bench.{State}
 use Rattle.kahn_streams.specs.declared.value.Value.{Value}
@@ -22,7 +27,6 @@ use Rattle.kahn_code.specs.declared.progress.Pause.{Pause}
 use Rattle.kahn_code.specs.declared.progress.Pause.TheVariants as pause
 use Rattle.kahn_code.specs.Progress as code
 use Rattle.kahn_code.specs.Progress.{IsPause}
-use Rattle.kahn_code.proofs.Readers.{reads_once}
 use Rattle.kahn_streams.proofs.Dry.{dry_reads}
 use Rattle.kahn_pool.proofs.Bridged.{bridge}
 
@@ -31,63 +35,8 @@ use Rattle.kahn_pool.proofs.Bridged.{bridge}
 pub some_one : {X : Type 0} {x y : X} → Some x ≡ Some y → x ≡ y
 some_one e = cc
 
-pub got : {X : Type 0} (xs : List X) (i : ℕ) → i < length xs → (x : X) × (slice_get xs i ≡ Some x)
-got [] i l = absurd (omega (arith, l))
-got (x ∷ xs) zero l = (x, refl)
-got (x ∷ xs) (suc i) l = got xs i (le_of_suc-le-suc l)
-
-pub within_get : {X : Type 0} (xs : List X) (i : ℕ) (x : X) → slice_get xs i ≡ Some x → i < length xs
-within_get [] i x e = absurd cc
-within_get (y ∷ xs) zero x e = omega arith
-within_get (y ∷ xs) (suc i) x e = let r = within_get xs i x e in omega (arith, r)
-
 pub mapped : {X Y : Type 0} (f : X → Y) (xs : List X) (i : ℕ) (x : X) (d : Y) → slice_get xs i ≡ Some x → slice_index_or (map f xs) i d ≡ f x
-mapped f [] i x d e = absurd cc
-mapped f (y ∷ xs) zero x d e = ap f (some_is e)
-  where
-    some_is : Some y ≡ Some x → y ≡ x
-    some_is h = cc
-mapped f (y ∷ xs) (suc i) x d e = mapped f xs i x d e
-
-pub map_set : {X Y : Type 0} (f : X → Y) (xs : List X) (i : ℕ) (x : X) → map f (slice_set xs i x) ≡ slice_set (map f xs) i (f x)
-map_set f [] i x = refl
-map_set f (y ∷ xs) zero x = refl
-map_set f (y ∷ xs) (suc i) x = ap (λ l. f y ∷ l) (map_set f xs i x)
-
-pub set_same : {Y : Type 0} (ys : List Y) (i : ℕ) (y : Y) → slice_get ys i ≡ Some y → slice_set ys i y ≡ ys
-set_same [] i y e = refl
-set_same (z ∷ ys) zero y e = ap (λ w. w ∷ ys) (some_is e)
-  where
-    some_is : Some z ≡ Some y → y ≡ z
-    some_is h = cc
-set_same (z ∷ ys) (suc i) y e = ap (λ l. z ∷ l) (set_same ys i y e)
-
-pub get_map : {X Y : Type 0} (f : X → Y) (xs : List X) (i : ℕ) (x : X) → slice_get xs i ≡ Some x → slice_get (map f xs) i ≡ Some (f x)
-get_map f [] i x e = absurd cc
-get_map f (y ∷ xs) zero x e = ap (λ z. Some (f z)) (some_one e)
-get_map f (y ∷ xs) (suc i) x e = get_map f xs i x e
-
-pub set_here : {X : Type 0} (xs : List X) (i : ℕ) (x : X) → i < length xs → slice_get (slice_set xs i x) i ≡ Some x
-set_here [] i x l = absurd (omega (arith, l))
-set_here (y ∷ xs) zero x l = refl
-set_here (y ∷ xs) (suc i) x l = set_here xs i x (le_of_suc-le-suc l)
-
-pub set_else : {X : Type 0} (xs : List X) (i j : ℕ) (x : X) → (j ≡ i → ⊥) → slice_get (slice_set xs i x) j ≡ slice_get xs j
-set_else [] i j x n = refl
-set_else (y ∷ xs) zero zero x n = absurd (n refl)
-set_else (y ∷ xs) zero (suc j) x n = refl
-set_else (y ∷ xs) (suc i) zero x n = refl
-set_else (y ∷ xs) (suc i) (suc j) x n = set_else xs i j x (λ e. n (ap suc e))
-
-same_or : (d c : ℕ) → (d ≡ c) ⊎ (d ≡ c → ⊥)
-same_or zero zero = inl refl
-same_or zero (suc c) = inr (λ e. absurd (omega (arith, e)))
-same_or (suc d) zero = inr (λ e. absurd (omega (arith, e)))
-same_or (suc d) (suc c) = step (same_or d c)
-  where
-    step : (d ≡ c) ⊎ (d ≡ c → ⊥) → (suc d ≡ suc c) ⊎ (suc d ≡ suc c → ⊥)
-    step (inl e) = inl (ap suc e)
-    step (inr n) = inr (λ e. n (omega (arith, e)))
+mapped f xs i x d e = get_or_from_slice_get (map f xs) i (f x) d (get_map f xs i x e)
 
 -- ---- a cell that is seated
 
@@ -129,20 +78,21 @@ module _ (b : Table) (laid : IsLaid b) where
 
   -- ---- what was given and what was taken
 
-  module _ (counted : AreCounted b.queues) where
+  module _ (counted : AreQueued b.queues) where
     joins : (p q d : ℕ) → actual_at (instance_at N p) q ≡ Reads d → Joins (actual_at (instance_at N p) q) d
     joins p q d e = subst (λ a. Joins a d) (sym e) refl
 
     queue_at : (p q d : ℕ) → actual_at (instance_at N p) q ≡ Reads d → (w : Waiting) × (slice_get b.queues.queues d ≡ Some w)
     queue_at p q d e =
-        got b.queues.queues d
-        (counted.inside p q d (subst (λ t. Joins (actual_at (instance_at (network_of t) p) q) d) (sym laid.network) (joins p q d e)))
+        let same = laid.network in
+        let l = reads_listed b.network laid.wired p q d e in
+        got b.queues.queues d (subst (λ n. d < n) (sym (counted.count ∙ ap (λ t. length (network_of t).channels) same)) l)
 
     put_there : (d : ℕ) (w : Waiting) → slice_get b.queues.queues d ≡ Some w → IsFed N d → IsGiven N I views d (source N (Channel d)) (w.taken + w.waiting)
     put_there d w at (inl s) =
         let role = ap (λ t. role_at (network_of t) d) laid.network ∙ s.1 in
         subst (λ k. IsGiven N I views d k (w.taken + w.waiting)) (sym s.0)
-        (sym (counted.given d w at role ∙ ap (λ (l : List (List Value)). length (inputs_of l d)) laid.input))
+        (sym ((counted.each d w at).given role ∙ ap (λ (l : List (List Value)). length (inputs_of l d)) laid.input))
     put_there d w at (inr s) =
         let c = seated_at s.0 (joins_within N s.0 s.1 d (subst (λ a. Joins a d) (sym s.3) refl)) in
         let sum = sym (sent_there s.0 s.1 d c.0 c.2 s.3 (ap is_output s.4)) ∙ ap given_of at in
@@ -204,16 +154,13 @@ laid_after b laid p c c' q at same seat stands leaves = record {
   wired = laid.wired;
   code = laid.code;
   count = length-set b.cells p c' ∙ laid.count;
-  each = λ o d e. each o d e (same_or o p);
+  each = set_each (IsSeated (ran b p c' q)) b.cells p c' others mine;
   network = ap (λ (s : Seat). s.network) seat ∙ same.0 ∙ old.network;
   input = ap (λ (s : Seat). s.input) seat ∙ same.1 ∙ old.input;
 }
   where
     old : IsSeated b p c
     old = laid.each p c at
-
-    here : p < length b.cells
-    here = within_get b.cells p c at
 
     is : q.instance ≡ p
     is = ap (λ (s : Seat). s.instance) seat ∙ same.2 ∙ old.instance
@@ -227,12 +174,9 @@ laid_after b laid p c c' q at same seat stands leaves = record {
       at = subst (λ i. IsAt c' (λ r. next_at q.queues (actual_at (instance_at (network_of q.network) i) r))) is stands;
     }
 
-    each : (o : ℕ) (d : Told) → slice_get (slice_set b.cells p c') o ≡ Some d → (o ≡ p) ⊎ (o ≡ p → ⊥) → IsSeated (ran b p c' q) o d
-    each o d e (inl i) =
-        let f : c' ≡ d = some_one (sym (set_here b.cells p c' here) ∙ ap (slice_get (slice_set b.cells p c')) (sym i) ∙ e) in
-        subst (λ k. IsSeated (ran b p c' q) k d) (sym i) (subst (λ x. IsSeated (ran b p c' q) p x) f mine)
-    each o d e (inr n) =
-        let s : IsSeated b o d = laid.each o d (sym (set_else b.cells p o c' n) ∙ e) in
+    others : (o : ℕ) (d : Told) → (o ≡ p → ⊥) → slice_get b.cells o ≡ Some d → IsSeated (ran b p c' q) o d
+    others o d n e =
+        let s : IsSeated b o d = laid.each o d e in
         record {
           network = s.network;
           input = s.input;
@@ -252,7 +196,7 @@ view_same c c' e s = cc
 pub views_after : (b : Table) (p : ℕ) (c c' : Told) (q : Queues) → slice_get b.cells p ≡ Some c →
     (state_of (ran b p c' q)).cells ≡ slice_set (state_of b).cells p (view_at (state_of (ran b p c' q)).cells p)
 views_after b p c c' q at =
-    map_set told_view b.cells p c' ∙
+    map-set told_view b.cells p c' ∙
     ap (slice_set (map told_view b.cells) p)
     (sym (mapped told_view (slice_set b.cells p c') p c' nothing (set_here b.cells p c' (within_get b.cells p c at))))
 
@@ -264,32 +208,27 @@ pub still_after : (b : Table) (p : ℕ) (c c' : Told) (q : Queues) → slice_get
     state_of (ran b p c' q) ≡ state_of b
 still_after b p c c' q at e s =
     ap (λ l. let r : State = record { network = network_of b.network; input = inputs_of b.input; watch = b.watch; cells = l } in r)
-    (map_set told_view b.cells p c' ∙ ap (slice_set (map told_view b.cells) p) (view_same c c' e s) ∙
-    set_same (map told_view b.cells) p (told_view c) (get_map told_view b.cells p c at))
+    (map-set_same told_view b.cells p c' c (view_same c c' e s ∙ ap told_view (sym (get_or_from_slice_get b.cells p c c at))))
 
--- the channel that was found for a parameter
-pub channel_is : (b : Table) → IsLaid b → (p q d : ℕ) (o : Option ℕ) → o ≡ route_of (actual_at (instance_at (network_of b.queues.network) p) q) →
-    actual_at (instance_at (network_of b.network) p) q ≡ Reads d → o ≡ Some d
-channel_is b laid p q d o h e =
-    h ∙ subst (λ t. route_of (actual_at (instance_at (network_of t) p) q) ≡ Some d) (sym laid.network) (ap route_of e)
+-- ---- the channel that a parameter reads
 
-pub not_none : {d : ℕ} → None ≡ Some d → ⊥
-not_none e = cc
+module _ {b n : Table} (is : b ≡ n) (laid : IsLaid b) (p q d : ℕ) (reads : actual_at (instance_at (network_of n.network) p) q ≡ Reads d) where
+  same : b.code ≡ n.network
+  same = laid.code ∙ ap (λ (x : Table). x.network) is
+
+  pub channel_within : p < length (network_of b.code).instances
+  channel_within = subst (λ t. p < length (network_of t).instances) (sym same) (joins_within (network_of n.network) p q d (subst (λ a. Joins a d) (sym reads) refl))
+
+  pub channel_is : (o : Option ℕ) → o ≡ route_of (actual_at (instance_at (network_of b.code) p) q) → o ≡ Some d
+  channel_is o e = e ∙ ap (λ t. route_of (actual_at (instance_at (network_of t) p) q)) same ∙ ap route_of reads
 
 -- ---- one run of a cell
 
-pub found : (b : Table) → IsLaid b → (p : ℕ) (c d : Told) → p < length (network_of b.network).instances → c ≡ slice_index_or b.cells p d → slice_get b.cells p ≡ Some c
-found b laid p c d l is = by (got b.cells p (subst (λ n. p < n) (sym laid.count) l))
-  where
-    or_else : (xs : List Told) (i : ℕ) (x : Told) → slice_get xs i ≡ Some x → slice_index_or xs i d ≡ x
-    or_else [] i x e = absurd cc
-    or_else (y ∷ xs) zero x e = some_one e
-    or_else (y ∷ xs) (suc i) x e = or_else xs i x e
+pub found : {b n : Table} → b ≡ n → IsLaid b → (p : ℕ) {c : Told} → p < length (network_of n.network).instances → c ≡ slice_index_or b.cells p c → slice_get b.cells p ≡ Some c
+found {b} is laid p {c} l =
+    slice_get_read b.cells (length b.cells) p c refl (subst (λ k. p < k) (sym (laid.count ∙ ap (λ (x : Table). length (network_of x.network).instances) is)) l)
 
-    by : (x : Told) × (slice_get b.cells p ≡ Some x) → slice_get b.cells p ≡ Some c
-    by g = g.1 ∙ ap Some (sym (is ∙ or_else b.cells p g.0 g.1))
-
-module _ (b : Table) (laid : IsLaid b) (p : ℕ) (c : Told) (at : slice_get b.cells p ≡ Some c) where
+module _ {b : Table} (laid : IsLaid b) (p : ℕ) {c : Told} (at : slice_get b.cells p ≡ Some c) where
   abbrev lent : Queues
   lent = record { network = b.queues.network; input = b.queues.input; instance = p; queues = b.queues.queues }
 
@@ -323,20 +262,20 @@ module _ (b : Table) (laid : IsLaid b) (p : ℕ) (c : Told) (at : slice_get b.ce
         ap (λ t. actual_at (instance_at (network_of t) c'.instance) r) mine.network ∙
         ap (λ i. actual_at (instance_at (network_of b.network) i) r) mine.instance
 
-    module _ (counted : AreCounted q') (quantum : ℕ) (z : Pause)
+    module _ (counted : AreQueued q') (quantum : ℕ) (z : Pause)
         (paused : code.Paused (network_of c'.network) (inputs_of c'.input) c'.watch c'.instance (told_view c')
         (IsPause (network_of c'.network) c'.instance
-        (λ r. (d : ℕ) → actual_of q' r ≡ Reads d → waiting_of (slice_get q'.queues d) ≡ 0)
-        (λ r. (d : ℕ) → actual_of q' r ≡ Reads d → 0 < waiting_of (slice_get q'.queues d))
+        (λ r. waiting_of (queue_of q'.queues (actual_of q' r)) ≡ 0)
+        (λ r. 0 < waiting_of (queue_of q'.queues (actual_of q' r)))
         (c'.events ≡ c.events + quantum) z)) where
       abbrev now : State
       now = state_of (ran b p c' q')
 
       abbrev dry : ℕ → Type 0
-      dry r = (d : ℕ) → actual_of q' r ≡ Reads d → waiting_of (slice_get q'.queues d) ≡ 0
+      dry r = waiting_of (queue_of q'.queues (actual_of q' r)) ≡ 0
 
       abbrev ready : ℕ → Type 0
-      ready r = (d : ℕ) → actual_of q' r ≡ Reads d → 0 < waiting_of (slice_get q'.queues d)
+      ready r = 0 < waiting_of (queue_of q'.queues (actual_of q' r))
 
       paused_here : code.Paused (network_of b.network) (inputs_of b.input) b.watch p (told_view c')
           (IsPause (network_of b.network) p dry ready (c'.events ≡ c.events + quantum) z)
@@ -350,8 +289,8 @@ module _ (b : Table) (laid : IsLaid b) (p : ℕ) (c : Told) (at : slice_get b.ce
       paused_now =
           bridge now p dry ready (c'.events ≡ c.events + quantum)
           (λ n r T e. dry_reads b.network laid.wired n p r T e)
-          (λ r d e h. took_all (ran b p c' q') laid_now counted p r d e (h d (own_actual r ∙ e)))
-          (λ r d e h. left_some (ran b p c' q') laid_now counted p r d e (h d (own_actual r ∙ e)))
+          (λ r d e h. took_all (ran b p c' q') laid_now counted p r d e (subst (λ a. waiting_of (queue_of q'.queues a) ≡ 0) (own_actual r ∙ e) h))
+          (λ r d e h. left_some (ran b p c' q') laid_now counted p r d e (subst (λ a. 0 < waiting_of (queue_of q'.queues a)) (own_actual r ∙ e) h))
           (told_view c') z (view_after b p c c' q' at)
           (λ r s d e f. (reads_once b.network laid.wired p r p s d e f).1) paused_here
 

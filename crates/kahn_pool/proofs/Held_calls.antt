@@ -9,7 +9,7 @@ use Rattle.kahn_streams.specs.Solution.{IsPrefix, source}
 use Rattle.kahn_streams.specs.Tokens.{inputs_of}
 use Rattle.kahn_streams.proofs.Proved.{prefix_refl, prefix_trans}
 use Rattle.kahn_code.specs.Cells.{is_streamed, token_value}
-use Rattle.kahn_code.proofs.Driven.{driven}
+use Rattle.kahn_code.proofs.Readers.{driven}
 use Rattle.kahn_pool.specs.HeldRuns.{AreCalls, GoesOn, HasSoFar, HeldRun, IsAnswerOf, IsCall, IsSoFar, IsUnresumed, SaysNoLess, last_of, seen_at}
 use Rattle.kahn_pool.specs.Right.{values_of}
 use Rattle.kahn_pool.specs.declared.answer.Answer.{Answer}

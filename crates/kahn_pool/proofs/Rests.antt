@@ -20,8 +20,7 @@ use Rattle.kahn_code.specs.Lines.{Joins}
 use Rattle.kahn_code.specs.Progress as code
 use Rattle.kahn_code.specs.Standing.{count}
 use Rattle.kahn_code.specs.Told.{told_view}
-use Rattle.kahn_code.proofs.Driven.{driven}
-use Rattle.kahn_code.proofs.Readers.{joins_within, reads_once}
+use Rattle.kahn_code.proofs.Readers.{joins_within, reads_once, driven}
 use Rattle.kahn_job.specs.Ends.{IsReady}
 use Rattle.kahn_job.specs.Berths.{Serves, end_at}
 use Rattle.kahn_crew.specs.declared.standing.Standing.TheVariants as standing

@@ -170,7 +170,7 @@ impl<'n, L: Ledger> Bench for Workbench<'n, L> {
     }
 
     fn channel(&self, instance: usize, parameter: usize) -> usize {
-        match self.queues.channel(instance, parameter) {
+        match self.code.channel(instance, parameter) {
             Some(channel) => channel,
             None => unreachable!(),
         }

@@ -1,19 +1,14 @@
-use Rattle.std.proofs.Common.{◌≡◌, sym, ◌∙◌, subst}
-use Rattle.kahn_network.specs.Network.{network_of, instance_at, actual_at, Reads}
-use Rattle.kahn_pool.specs.Workbench.{Table}
-use Rattle.kahn_pool.proofs.Benched
+use Rattle.std.proofs.Common.{sym, ◌∙◌}
+use Rattle.std.proofs.lemmas.Option.{none-some}
+use Rattle.kahn_pool.proofs.Benched.{channel_within, channel_is, some_one}
 use Rattle.kahn_pool.proofs.workbench.WorkbenchBench.channel.Goals as goal
+
+pub channel-requires : goal.channel-requires
+channel-requires g c = channel_within c.self.view_is c.self.invariant.0 c.args.instance c.args.parameter c.requires.0 c.requires.1
 
 pub unreachable-requires : goal.unreachable-requires
 unreachable-requires g c =
-    let i = c.self.inside in
-    let b : Table = record { network = i.network.now; input = i.input.now; watch = i.watch; code = i.code.network.value; cells = i.cells.items; queues = i.queues } in
-    let reads = subst (λ (x : Table). actual_at (instance_at (network_of x.network) c.args.instance) c.args.parameter ≡ Reads c.requires.0) (sym c.self.view_is) c.requires.1 in
-    Benched.not_none (sym c.in-None.is ∙ Benched.channel_is b c.self.invariant.0 c.args.instance c.args.parameter c.requires.0 c.channel.result c.channel.ensures reads)
+    none-some _ (sym c.in-None.is ∙ channel_is c.self.view_is c.self.invariant.0 c.args.instance c.args.parameter c.requires.0 c.requires.1 _ c.channel.ensures)
 
 pub returns : goal.returns
-returns g c d e =
-    let i = c.self.inside in
-    let b : Table = record { network = i.network.now; input = i.input.now; watch = i.watch; code = i.code.network.value; cells = i.cells.items; queues = i.queues } in
-    let reads = subst (λ (x : Table). actual_at (instance_at (network_of x.network) c.args.instance) c.args.parameter ≡ Reads d) (sym c.self.view_is) e in
-    Benched.some_one (sym c.in-Some.is ∙ Benched.channel_is b c.self.invariant.0 c.args.instance c.args.parameter d c.channel.result c.channel.ensures reads)
+returns g c d reads = some_one (sym c.in-Some.is ∙ channel_is c.self.view_is c.self.invariant.0 c.args.instance c.args.parameter d reads _ c.channel.ensures)
