@@ -1,15 +1,15 @@
 -- The arguments of an instance and the names of channels, one by one.
 use Rattle.std.proofs.Common.{◌≡◌, ℕ, zero, suc, ◌+◌, true, false, List, [], ◌∷◌, ◌++◌, map, drop, Some, None, refl, sym, ap, ◌∙◌, slice_get, arith, append_assoc, append-nil, if◌then◌else◌, add-one}
 use Rattle.std.proofs.Common.{bytes_eq}
+use Rattle.std.proofs.Math.Seq.{drop-cons}
+use Rattle.std.proofs.lemmas.Option.{get_or_from_slice_get, slice_get_within}
 use Rattle.kahn_tree.specs.declared.tree.Parameter.{Parameter}
 use Rattle.kahn_tree.specs.declared.tree.Argument.{Argument}
 use Rattle.kahn_tree.specs.View.{Scope, place_of}
 use Rattle.kahn_network.specs.Network.{Actual, actual_of, actuals_of}
 
 drop_some : {A : Type 0} (xs : List A) (k : ℕ) (x : A) → slice_get xs k ≡ Some x → drop k xs ≡ x ∷ drop (suc k) xs
-drop_some [] k x e = absurd cc
-drop_some (y ∷ xs) zero x e = let f : y ≡ x = cc in ap (λ z. z ∷ xs) f
-drop_some (y ∷ xs) (suc k) x e = drop_some xs k x e
+drop_some xs k x e = drop-cons xs k x (slice_get_within xs k x e) ∙ ap (λ z. z ∷ drop (suc k) xs) (get_or_from_slice_get xs k x x e)
 
 drop_none : {A : Type 0} (xs : List A) (k : ℕ) → slice_get xs k ≡ None → drop k xs ≡ []
 drop_none [] zero e = refl

@@ -219,6 +219,6 @@ module _ {s n : Lines} (is : s ≡ n) (h : AreQueued s) (q c : ℕ) (writes_it :
           let step : w'.taken + w'.waiting ≡ suc (w.taken + w.waiting) = omega (arith, a, b) in
           rw (← is) (
             ap (next_at (slice_set s.queues c w')) write_here ∙ ap given_of (set_here s.queues c w' write_inside) ∙ step ∙
-            ap suc (sym (ap (next_at s.queues) write_here ∙ ap given_of (queue_at s h c w w write_inside value))),
+                ap suc (sym (ap (next_at s.queues) write_here ∙ ap given_of (queue_at s h c w w write_inside value))),
             λ r other. put_stays s.instance r (λ e f. other f),
           )

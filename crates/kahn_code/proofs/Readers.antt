@@ -1,7 +1,7 @@
 -- In a well wired program each channel is read at one side at most, and written at one at most.
 use Rattle.std.proofs.Common.{◌≡◌, ℕ, ◌<◌, length, Option, Some, None, refl, sym, ap, ◌∙◌, subst}
 use Rattle.kahn_tree.specs.declared.tree.Program.{Program}
-use Rattle.kahn_network.specs.Network.{Network, Actual, Reads, Writes, Hands, network_of, instance_at, actual_at}
+use Rattle.kahn_network.specs.Network.{Network, Actual, Reads, Writes, network_of, instance_at, actual_at}
 use Rattle.kahn_network.specs.Sides.{IsWithin, IsOnly, handed_at}
 use Rattle.kahn_network.specs.Wiring.{IsWellWired}
 use Rattle.kahn_network.specs.declared.sides.Side.{Side}

@@ -1,5 +1,5 @@
 -- What the parameters of an instance are for.
-use Rattle.std.proofs.Common.{◌≡◌, ℕ, zero, suc, List, [], ◌∷◌, map, refl, ap, ◌∙◌, slice_index_or, pos, Option, Some, None, Bool, true, false, sym, ◌||◌}
+use Rattle.std.proofs.Common.{◌≡◌, ℕ, zero, suc, List, [], ◌∷◌, map, refl, ap, ◌∙◌, slice_index_or, pos, Option, Some, None, Bool, sym}
 use Rattle.kahn_tree.specs.Syntax.{Number}
 use Rattle.kahn_network.specs.Network.{Network, Actual, Reads, Writes, Hands, instance_at, actual_at, role_at}
 use Rattle.kahn_code.specs.declared.body.Body.{Body}
@@ -36,7 +36,10 @@ reads_by N (Hands v) c e = absurd cc
 
 pub writes_by : (N : Network) (a : Actual) (c : ℕ) (b : Bool) → u.Writes c b ≡ use_of N a → (a ≡ Writes c) × (is_output (role_at N c) ≡ b)
 writes_by N (Reads d) c b e = absurd cc
-writes_by N (Writes d) c b e = let f : d ≡ c = cc in let g : b ≡ is_output (role_at N d) = cc in (ap Writes f, ap (λ x. is_output (role_at N x)) (ap (λ x. x) (let h : c ≡ d = cc in h)) ∙ (let k : is_output (role_at N d) ≡ b = cc in k))
+writes_by N (Writes d) c b e =
+    let f : d ≡ c = cc in
+    let g : is_output (role_at N d) ≡ b = cc in
+    (ap Writes f, ap (λ x. is_output (role_at N x)) (sym f) ∙ g)
 writes_by N (Hands v) c b e = absurd cc
 
 pub not_reads : (N : Network) (a : Actual) (w : Use) → w ≡ use_of N a → ((c : ℕ) → w ≡ u.Reads c → ⊥) → (d : ℕ) → a ≡ Reads d → ⊥
@@ -44,7 +47,3 @@ not_reads N a w e ne d f = ne d (e ∙ ap (use_of N) f)
 
 pub not_writes : (N : Network) (a : Actual) (w : Use) → w ≡ use_of N a → ((c : ℕ) (b : Bool) → w ≡ u.Writes c b → ⊥) → (d : ℕ) → a ≡ Writes d → ⊥
 not_writes N a w e ne d f = ne d (is_output (role_at N d)) (e ∙ ap (use_of N) f)
-
-pub neither : (a b : Bool) → false ≡ (a || b) → (a ≡ false) × (b ≡ false)
-neither false b e = (refl, sym e)
-neither true b e = absurd cc
