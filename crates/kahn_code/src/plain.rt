@@ -1,6 +1,6 @@
 //! Every channel of a network in a plain queue, for a run on one thread.
 
-ghost use Rattle.std.specs.Prelude.{◌≡◌, map, slice_index_or, None, IfOk};
+ghost use Rattle.std.specs.Prelude.{◌≡◌, IfOk};
 ghost use Rattle.kahn_network.specs.Wiring.{IsWellWired};
 ghost use Rattle.kahn_streams.specs.Tokens.{Names};
 ghost use Rattle.kahn_code.specs.Lines.{AreFirst, AreQueued};

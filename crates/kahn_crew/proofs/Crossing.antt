@@ -14,7 +14,7 @@ use denote.RawPtr.{Ptr, block_ptr, null_ptr, block_of, count_of, in_block}
 use denote.Struct.Declared as S
 use denote.Struct.Owning as owning
 use denote.Ref.{NamedLft}
-use denote.Param.Send.{IsSend, IsSync, SyncAt, FieldsAt, sendable, struct_send, recorded_send, view_send, struct_sync, struct_sync_at, array_sync_at, recorded_sync, view_sync, shr_sync}
+use denote.Param.Send.{IsSend, IsSync, SyncAt, FieldsAt, sendable, struct_send, recorded_send, view_send, struct_sync, struct_sync_at, array_sync_at, recorded_sync, shr_sync}
 use Rattle.std.proofs.Crossing as std
 use Rattle.std.proofs.option.Option.TheSendSync as option
 use Rattle.std.specs.contracts.alloc.Global as Heap
