@@ -4,9 +4,7 @@ use Rattle.std.proofs.Common.{bytes_eq}
 use Rattle.std.proofs.Math.Seq.{drop-cons}
 use Rattle.std.proofs.lemmas.Option.{get_or_from_slice_get, slice_get_within}
 use Rattle.kahn_tree.specs.declared.tree.Parameter.{Parameter}
-use Rattle.kahn_tree.specs.declared.tree.Argument.{Argument}
-use Rattle.kahn_tree.specs.View.{Scope, place_of}
-use Rattle.kahn_network.specs.Network.{Actual, actual_of, actuals_of}
+use Rattle.kahn_code.proofs.Common.{Argument, Scope, place_of, Actual, actual_of, actuals_of}
 
 drop_some : {A : Type 0} (xs : List A) (k : ℕ) (x : A) → slice_get xs k ≡ Some x → drop k xs ≡ x ∷ drop (suc k) xs
 drop_some xs k x e = drop-cons xs k x (slice_get_within xs k x e) ∙ ap (λ z. z ∷ drop (suc k) xs) (get_or_from_slice_get xs k x x e)

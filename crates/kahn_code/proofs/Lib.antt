@@ -16,3 +16,4 @@ pub mod Sit
 pub mod Readers
 pub mod Grown
 pub mod Widths
+pub mod Common

@@ -4,22 +4,10 @@ use Rattle.std.proofs.Math.Nat.{le-max_left, le-max_right}
 use mathlib.Core.Path.{fun_ext}
 use Rattle.std.proofs.lemmas.List.{get_or_past, map-append, length-map}
 pub use Rattle.std.proofs.lemmas.Bool.{cases_lt as split_at}
-use Rattle.kahn_tree.specs.Syntax.{Number}
+use Rattle.kahn_code.proofs.Common.{Number, Network, Actual, Reads, Writes, Hands, network_of, instance_at, actual_at, Written, Value, Line, Channel, Token, Tapes, Inputs, iterate, IsPrefix, Stands, tapes_of, goes_to, values_at, source, out, exec_at, some_same, prefix_get, prefix_refl, prefix_trans, iterates_rise, feeds, solves, script_at, values_append, AreInputsExtended, IsOf, Lists, inputs_of, Program}
 use Rattle.std.proofs.Common.{pos, slice_index_or}
 use Rattle.kahn_streams.proofs.Frame.{Begins}
-use Rattle.kahn_network.specs.Network.{Network, Actual, Reads, Writes, Hands, network_of, instance_at, actual_at, Written}
-use Rattle.kahn_streams.specs.declared.value.Value.{Value}
-use Rattle.kahn_streams.specs.declared.value.Line.{Line}
-use Rattle.kahn_streams.specs.declared.value.Line.TheVariants.{Channel}
-use Rattle.kahn_streams.specs.declared.token.Token.{Token}
-use Rattle.kahn_streams.specs.Script.{Tapes}
-use Rattle.kahn_streams.specs.Solution.{Inputs, iterate, IsPrefix, Stands, tapes_of, goes_to, values_at, source, out, exec_at}
 use Rattle.kahn_streams.proofs.Frame.{and_more, grows_play}
-use Rattle.kahn_streams.proofs.Proved.{some_same, prefix_get, prefix_refl, prefix_trans, iterates_rise, feeds, solves, script_at, values_append}
-use Rattle.kahn_streams.specs.Laws.{AreInputsExtended}
-use Rattle.kahn_streams.specs.Streams.{IsOf}
-use Rattle.kahn_streams.specs.Tokens.{Lists, inputs_of}
-use Rattle.kahn_tree.specs.declared.tree.Program.{Program}
 use Rattle.kahn_code.specs.Cells.{AllStand, IsKept, IsOwn, token_value, exec_on, sent_on}
 
 -- a list all of whose values stand in another begins it

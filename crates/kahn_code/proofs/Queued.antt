@@ -2,15 +2,7 @@
 use Rattle.std.proofs.Common.{arith, ◌≡◌, ℕ, zero, suc, ◌+◌, ◌<◌, List, [], ◌∷◌, ◌++◌, length, refl, sym, ap, ◌∙◌, length-set, subst, Option, Some, None, IfSome, IfNone, IsSome, slice_get, slice_set, slice_index_or}
 use Rattle.std.proofs.lemmas.List.{get_or-set_same}
 use Rattle.std.proofs.lemmas.Option.{same_Some, slice_get_read}
-use Rattle.kahn_tree.specs.declared.tree.Program.{Program}
-use Rattle.kahn_tree.specs.declared.tree.Role.TheVariants.{Input}
-use Rattle.kahn_network.specs.Network.{Actual, Reads, Writes, Hands, network_of, instance_at, actual_at, role_at}
-use Rattle.kahn_network.specs.Wiring.{IsWellWired}
-use Rattle.kahn_network.proofs.Sourced.{reads_listed, writes_listed, writes}
-use Rattle.kahn_streams.specs.declared.token.Token.{Token}
-use Rattle.kahn_streams.specs.declared.value.Line.TheVariants.{Channel}
-use Rattle.kahn_streams.specs.Streams.{IsOf}
-use Rattle.kahn_streams.specs.Tokens.{Lists, inputs_of}
+use Rattle.kahn_code.proofs.Common.{Program, Input, Actual, Reads, Writes, Hands, network_of, instance_at, actual_at, role_at, IsWellWired, reads_listed, writes_listed, writes, Token, Channel, IsOf, Lists, inputs_of}
 use Rattle.kahn_code.specs.Queues.{Waiting}
 use Rattle.kahn_code.specs.Lines.{Lines, AreFirst, AreQueued, IsFirst, IsQueue, actual_of, at_first, next_at, place_at, queue_of, taken_of, given_of, waiting_of, spare_of}
 use Rattle.kahn_code.specs.Seats.{Seat, IsNext, Stays, Moved, Leaves}

@@ -1,7 +1,6 @@
 -- What the parameters of an instance are for.
 use Rattle.std.proofs.Common.{◌≡◌, ℕ, zero, suc, List, [], ◌∷◌, map, refl, ap, ◌∙◌, slice_index_or, pos, Option, Some, None, Bool, sym}
-use Rattle.kahn_tree.specs.Syntax.{Number}
-use Rattle.kahn_network.specs.Network.{Network, Actual, Reads, Writes, Hands, instance_at, actual_at, role_at}
+use Rattle.kahn_code.proofs.Common.{Number, Network, Actual, Reads, Writes, Hands, instance_at, actual_at, role_at}
 use Rattle.kahn_code.specs.declared.body.Body.{Body}
 use Rattle.kahn_code.specs.declared.body.Use.{Use}
 use Rattle.kahn_code.specs.declared.body.Use.TheVariants as u

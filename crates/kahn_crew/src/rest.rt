@@ -8,13 +8,16 @@ use std::time::Duration;
 // How often a worker without hints of its own pauses before it looks elsewhere: for some tens of microseconds.
 const PAUSES: usize = 64;
 
-// How long a worker sleeps that has found nothing, in microseconds: so long at first, twice as long each time after.
+// How long a worker sleeps that has found nothing, in microseconds: at least so long.
 const SHORTEST: u64 = 50;
 
-// The longest sleep, in microseconds.
-const LONGEST: u64 = 1000;
+// At most so long. The end of a run waits for those who sleep.
+const LONGEST: u64 = 4000;
 
-/// How long a worker has rested since it found an instance last: first it pauses, and then it sleeps, for longer each time.
+// Between them, one part in so many of the time that it has slept since it found something.
+const PARTS: u64 = 8;
+
+/// How long a worker has rested since it found an instance last: first it pauses, and then it sleeps, for longer the longer it has slept.
 #[derive(Drop)]
 pub(crate) struct Rest {
     backoff: Backoff,
@@ -50,9 +53,8 @@ impl Rest {
 
     /// Sleeps, where nothing was found anywhere.
     pub(crate) fn sleep<R: Wait>(&mut self, rt: &R) {
-        self.slept = self.slept.min(LONGEST / 2) * 2;
-        self.slept = self.slept.max(SHORTEST);
-        self.parker
-            .park_timeout(rt, Duration::from_micros(self.slept));
+        let time = (self.slept / PARTS).max(SHORTEST).min(LONGEST);
+        self.parker.park_timeout(rt, Duration::from_micros(time));
+        self.slept = self.slept.saturating_add(time);
     }
 }

@@ -1,5 +1,5 @@
 use Rattle.std.proofs.Common.{◌∙◌}
-use Rattle.kahn_network.specs.Network.{network_of}
+use Rattle.kahn_code.proofs.Common.{network_of}
 use Rattle.kahn_code.proofs.Celled.{if_ok_both, opened_as, standing_opened}
 use Rattle.kahn_code.proofs.cell.opened.Goals as goal
 

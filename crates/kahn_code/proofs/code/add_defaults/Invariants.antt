@@ -1,5 +1,5 @@
 use Rattle.std.proofs.Common.{◌≡◌, ◌++◌, map, drop}
-use Rattle.kahn_streams.specs.Solution.{default_of}
+use Rattle.kahn_code.proofs.Common.{default_of}
 use Rattle.kahn_code.proofs.code.add_defaults.Given as goal
 
 abbrev pub invariant-loop-variable : goal.invariant-loop-variable

@@ -1,6 +1,5 @@
 use Rattle.std.proofs.Common.{◌≡◌, ◌++◌, map, drop}
-use Rattle.kahn_network.specs.Network.{network_of, actuals_of}
-use Rattle.kahn_network.specs.Sides.{channel_names}
+use Rattle.kahn_code.proofs.Common.{network_of, actuals_of, channel_names}
 use Rattle.kahn_code.specs.Machines.{use_of}
 use Rattle.kahn_code.proofs.code.add_uses.Given as goal
 

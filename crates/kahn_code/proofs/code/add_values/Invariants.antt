@@ -1,7 +1,5 @@
 use Rattle.std.proofs.Common.{◌≡◌, ◌++◌, map, drop}
-use Rattle.kahn_network.specs.Network.{actuals_of}
-use Rattle.kahn_network.specs.Sides.{channel_names}
-use Rattle.kahn_streams.specs.Solution.{opening_of}
+use Rattle.kahn_code.proofs.Common.{actuals_of, channel_names, opening_of}
 use Rattle.kahn_code.proofs.code.add_values.Given as goal
 
 abbrev pub invariant-loop-number : goal.invariant-loop-number

@@ -1,4 +1,4 @@
-use Rattle.kahn_network.specs.Network.{network_of}
+use Rattle.kahn_code.proofs.Common.{network_of}
 use Rattle.kahn_code.specs.Code.{IsCompiled}
 use Rattle.kahn_code.proofs.Lists.{one_first}
 use Rattle.kahn_code.proofs.code.bodies.Goals as goal

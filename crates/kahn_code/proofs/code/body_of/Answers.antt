@@ -1,4 +1,4 @@
-use Rattle.kahn_network.specs.Sides.{channel_names}
+use Rattle.kahn_code.proofs.Common.{channel_names}
 use Rattle.kahn_code.proofs.Bodies.{routine_made}
 use Rattle.kahn_code.proofs.code.body_of.Goals as goal
 

@@ -1,6 +1,5 @@
 use Rattle.std.proofs.Common.{◌≡◌, ◌+◌, drop}
-use Rattle.kahn_tree.specs.View.{place_of, bytes_of}
-use Rattle.kahn_network.specs.Sides.{channel_names}
+use Rattle.kahn_code.proofs.Common.{place_of, bytes_of, channel_names}
 use Rattle.kahn_code.proofs.code.channel_number.Given as goal
 
 abbrev pub invariant-loop-number : goal.invariant-loop-number

@@ -1,5 +1,5 @@
 use Rattle.std.proofs.Common.{◌≡◌, ◌+◌, ◌<◌, ◌≤◌, drop, length}
-use Rattle.kahn_tree.specs.View.{names_of, expression_of}
+use Rattle.kahn_code.proofs.Common.{names_of, expression_of}
 use Rattle.kahn_code.specs.Flat.{need, widened}
 use Rattle.kahn_code.proofs.Widths.{operands_need}
 use Rattle.kahn_code.proofs.depth.+widen_expression.Given as goal

@@ -1,6 +1,6 @@
 use Rattle.std.proofs.Common.{◌≡◌, ◌+◌, ◌∷◌, drop, sym, ap, ◌∙◌, arith}
 use Rattle.std.proofs.lemmas.Grind.{common_steps}
-use Rattle.kahn_tree.specs.View.{names_of, statement_of}
+use Rattle.kahn_code.proofs.Common.{names_of, statement_of}
 use Rattle.kahn_code.specs.Flat.{depth, widened}
 use Rattle.kahn_code.proofs.Widths.{widened_more, rows_depth, body_depth}
 use Rattle.kahn_code.proofs.depth.widen_body.Goals as goal

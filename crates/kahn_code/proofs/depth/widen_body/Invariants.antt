@@ -1,5 +1,5 @@
 use Rattle.std.proofs.Common.{◌≡◌, ◌+◌, drop}
-use Rattle.kahn_tree.specs.View.{names_of, body_of}
+use Rattle.kahn_code.proofs.Common.{names_of, body_of}
 use Rattle.kahn_code.specs.Flat.{depth, widened}
 use Rattle.kahn_code.proofs.Widths.{rows_depth}
 use Rattle.kahn_code.proofs.depth.widen_body.Given as goal

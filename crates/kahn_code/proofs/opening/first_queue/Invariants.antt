@@ -1,7 +1,5 @@
 use Rattle.std.proofs.Common.{◌≡◌, ◌⊎◌, ◌≤◌, ◌-◌, length}
-use Rattle.kahn_tree.specs.declared.tree.Role.TheVariants.{Input}
-use Rattle.kahn_network.specs.Network.{network_of, role_at}
-use Rattle.kahn_streams.specs.Tokens.{inputs_of}
+use Rattle.kahn_code.proofs.Common.{Input, network_of, role_at, inputs_of}
 use Rattle.kahn_code.proofs.opening.first_queue.Given as goal
 
 abbrev pub invariant-tokens : goal.invariant-tokens

@@ -1,5 +1,5 @@
 use Rattle.std.proofs.Common.{sym, ap, ◌∙◌, subst, ◌<◌, length}
-use Rattle.kahn_network.specs.Network.{network_of, instance_at}
+use Rattle.kahn_code.proofs.Common.{network_of, instance_at}
 use Rattle.kahn_code.specs.Cells.{AreDriven}
 use Rattle.kahn_code.specs.Flat.{stmt_code}
 use Rattle.kahn_code.specs.Machines.{IsBody}

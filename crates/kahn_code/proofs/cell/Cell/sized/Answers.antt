@@ -1,6 +1,5 @@
 use Rattle.std.proofs.Common.{subst}
-use Rattle.kahn_network.specs.Network.{network_of}
-use Rattle.kahn_streams.specs.Tokens.{inputs_of}
+use Rattle.kahn_code.proofs.Common.{network_of, inputs_of}
 use Rattle.kahn_code.specs.Progress.{core_of}
 use Rattle.kahn_code.specs.Told.{AreCounts}
 use Rattle.kahn_code.proofs.Few.{taken_bound, sent_bound}

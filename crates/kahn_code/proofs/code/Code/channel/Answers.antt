@@ -1,5 +1,5 @@
 use Rattle.std.proofs.Common.{sym, ◌∙◌}
-use Rattle.kahn_network.specs.Network.{network_of}
+use Rattle.kahn_code.proofs.Common.{network_of}
 use Rattle.kahn_code.proofs.Uses.{routed}
 use Rattle.kahn_code.proofs.code.Code.channel.Goals as goal
 

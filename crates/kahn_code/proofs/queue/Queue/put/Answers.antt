@@ -1,6 +1,5 @@
 use Rattle.std.proofs.Common.{ap, sym, ◌∙◌, ◌+◌}
-use Rattle.kahn_streams.specs.declared.value.Line.TheVariants.{Channel}
-use Rattle.kahn_streams.proofs.Token_lists.{follow_push, all_push}
+use Rattle.kahn_code.proofs.Common.{Channel, follow_push, all_push}
 use Rattle.kahn_code.specs.Queues.{Waiting}
 use Rattle.kahn_code.proofs.queue.Queue.put.Goals as goal
 
