@@ -1,13 +1,9 @@
 -- The arguments of an instance and the names of channels, one by one.
-use Rattle.std.proofs.Common.{◌≡◌, ℕ, zero, suc, ◌+◌, true, false, List, [], ◌∷◌, ◌++◌, map, drop, Some, None, refl, sym, ap, ◌∙◌, slice_get, arith, append_assoc, append-nil, if◌then◌else◌, add-one}
-use Rattle.std.proofs.Common.{bytes_eq}
-use Rattle.std.proofs.Math.Seq.{drop-cons}
-use Rattle.std.proofs.lemmas.Option.{get_or_from_slice_get, slice_get_within}
+use Rattle.std.proofs.Common.{◌≡◌, ℕ, zero, suc, ◌+◌, List, [], ◌∷◌, ◌++◌, map, drop, Some, None, refl, sym, ap, ◌∙◌, slice_get, append_assoc, append-nil, add-one}
 use Rattle.kahn_tree.specs.declared.tree.Parameter.{Parameter}
-use Rattle.kahn_code.proofs.Common.{Argument, Scope, place_of, Actual, actual_of, actuals_of}
-
-drop_some : {A : Type 0} (xs : List A) (k : ℕ) (x : A) → slice_get xs k ≡ Some x → drop k xs ≡ x ∷ drop (suc k) xs
-drop_some xs k x e = drop-cons xs k x (slice_get_within xs k x e) ∙ ap (λ z. z ∷ drop (suc k) xs) (get_or_from_slice_get xs k x x e)
+pub use Rattle.kahn_streams.proofs.Entered.{names_count}
+use Rattle.kahn_streams.proofs.Entered.{drop_some}
+use Rattle.kahn_code.proofs.Common.{Argument, Scope, Actual, actual_of, actuals_of}
 
 drop_none : {A : Type 0} (xs : List A) (k : ℕ) → slice_get xs k ≡ None → drop k xs ≡ []
 drop_none [] zero e = refl
@@ -39,20 +35,3 @@ pub actual_none : {A : Type 0} (g : Actual → A) (names : Scope) (ps : List Par
     slice_get xs k ≡ None → (now ++ map g (actuals_of names (drop k ps) (drop k xs))) ≡ all → now ≡ all
 actual_none g names ps xs k now all e i =
     sym (append-nil now) ∙ sym (ap (λ l. now ++ map g l) (ap (actuals_of names (drop k ps)) (drop_none xs k e) ∙ no_arguments names (drop k ps))) ∙ i
-
--- ---- the number of a name
-
-pub place_there : (names : Scope) (k : ℕ) (x y : List ℕ) → slice_get names k ≡ Some y →
-    place_of (drop k names) x ≡ (if bytes_eq x y then 0 else suc (place_of (drop (suc k) names) x))
-place_there names k x y e = ap (λ l. place_of l x) (drop_some names k y e)
-
-pub place_found : (names : Scope) (k n : ℕ) (x y : List ℕ) → slice_get names k ≡ Some y → n ≡ k + place_of (drop k names) x → bytes_eq x y ≡ true → k ≡ n
-place_found names k n x y e f g =
-    let h : place_of (drop k names) x ≡ 0 = place_there names k x y e ∙ ap (λ b. if b then 0 else suc (place_of (drop (suc k) names) x)) g in
-    omega (arith, f, h)
-
-pub place_missed : (names : Scope) (k n : ℕ) (x y : List ℕ) → slice_get names k ≡ Some y → n ≡ k + place_of (drop k names) x → bytes_eq x y ≡ false → n ≡ k + 1 + place_of (drop (k + 1) names) x
-place_missed names k n x y e f g =
-    let h : place_of (drop k names) x ≡ suc (place_of (drop (suc k) names) x) = place_there names k x y e ∙ ap (λ b. if b then 0 else suc (place_of (drop (suc k) names) x)) g in
-    let i : place_of (drop (suc k) names) x ≡ place_of (drop (k + 1) names) x = ap (λ j. place_of (drop j names) x) (sym (add-one k)) in
-    omega (arith, f, h, i)

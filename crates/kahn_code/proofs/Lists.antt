@@ -11,7 +11,7 @@ use Rattle.kahn_streams.proofs.Frame.{and_more, grows_play}
 use Rattle.kahn_code.specs.Cells.{AllStand, IsKept, IsOwn, token_value, exec_on, sent_on}
 
 -- a list all of whose values stand in another begins it
-found_in : (xs ys : List Value) → ((k : ℕ) (v : Value) → slice_get xs k ≡ Some v → slice_get ys k ≡ Some v) → IsPrefix xs ys
+pub found_in : (xs ys : List Value) → ((k : ℕ) (v : Value) → slice_get xs k ≡ Some v → slice_get ys k ≡ Some v) → IsPrefix xs ys
 found_in [] ys h = (ys, refl)
 found_in (x ∷ xs) [] h = let e : None ≡ Some x = h zero x refl in absurd cc
 found_in (x ∷ xs) (y ∷ ys) h =
@@ -19,7 +19,7 @@ found_in (x ∷ xs) (y ∷ ys) h =
     (r.0, ap (λ l. y ∷ l) r.1 ∙ ap (λ z. z ∷ (xs ++ r.0)) (some_same (h zero x refl)))
 
 -- one number is enough for all values of a list
-joint : (P : ℕ → ℕ → Value → Type 0) → ((n m k : ℕ) (v : Value) → n ≤ m → P n k v → P m k v) → (xs : List Value) →
+pub joint : (P : ℕ → ℕ → Value → Type 0) → ((n m k : ℕ) (v : Value) → n ≤ m → P n k v → P m k v) → (xs : List Value) →
     ((k : ℕ) (v : Value) → slice_get xs k ≡ Some v → (n : ℕ) × P n k v) →
     (n : ℕ) × ((k : ℕ) (v : Value) → slice_get xs k ≡ Some v → P n k v)
 joint P rise [] h = (0, λ k v e. absurd cc)
@@ -37,7 +37,7 @@ joint P rise (x ∷ xs) h =
     both one rest = (max one.0 rest.0, each one rest)
 
 -- values that stand begin an iterate
-stand_in : (N : Network) (I : Inputs) (c : Line) (xs : List Value) → AllStand N I c xs → (n : ℕ) × IsPrefix xs (iterate N I n c)
+pub stand_in : (N : Network) (I : Inputs) (c : Line) (xs : List Value) → AllStand N I c xs → (n : ℕ) × IsPrefix xs (iterate N I n c)
 stand_in N I c xs h =
     let r : (n : ℕ) × ((k : ℕ) (v : Value) → slice_get xs k ≡ Some v → slice_get (iterate N I n c) k ≡ Some v) =
     joint (λ n k v. slice_get (iterate N I n c) k ≡ Some v)

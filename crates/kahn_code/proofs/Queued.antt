@@ -1,11 +1,14 @@
 -- The plain queues of all channels, one of which changes.
-use Rattle.std.proofs.Common.{arith, ◌≡◌, ℕ, zero, suc, ◌+◌, ◌<◌, List, [], ◌∷◌, ◌++◌, length, refl, sym, ap, ◌∙◌, length-set, subst, Option, Some, None, IfSome, IfNone, IsSome, slice_get, slice_set, slice_index_or}
+use Rattle.std.proofs.Common.{arith, ◌≡◌, ◌≢◌, ℕ, zero, suc, ◌+◌, ◌<◌, ◌≤◌, List, [], ◌∷◌, ◌++◌, length, refl, sym, ap, ◌∙◌, length-set, subst, Option, Some, None, IfSome, IfNone, IsSome, true, false, slice_get, slice_set, slice_index_or}
 use Rattle.std.proofs.lemmas.List.{get_or-set_same}
 use Rattle.std.proofs.lemmas.Option.{same_Some, slice_get_read}
-use Rattle.kahn_code.proofs.Common.{Program, Input, Actual, Reads, Writes, Hands, network_of, instance_at, actual_at, role_at, IsWellWired, reads_listed, writes_listed, writes, Token, Channel, IsOf, Lists, inputs_of}
+use Rattle.kahn_code.proofs.Common.{Program, Input, Actual, Reads, Writes, Hands, network_of, instance_at, actual_at, role_at, IsWellWired, reads_listed, writes_listed, writes, Token, Channel, IsOf, Lists, Value, inputs_of}
+use Rattle.kahn_tree.specs.declared.tree.Role.{Role}
+use Rattle.kahn_tree.specs.declared.tree.Role.TheVariants.{Inner, Output}
+use Rattle.kahn_code.specs.Cells.{is_output}
 use Rattle.kahn_code.specs.Queues.{Waiting}
-use Rattle.kahn_code.specs.Lines.{Lines, AreFirst, AreQueued, IsFirst, IsQueue, actual_of, at_first, next_at, place_at, queue_of, taken_of, given_of, waiting_of, spare_of}
-use Rattle.kahn_code.specs.Seats.{Seat, IsNext, Stays, Moved, Leaves}
+use Rattle.kahn_code.specs.Lines.{Lines, AreFirst, AreQueued, IsFirst, IsQueue, Joins, actual_of, at_first, next_at, place_at, queue_of, taken_of, given_of, waiting_of, spare_of}
+use Rattle.kahn_code.specs.Seats.{Seat, IsNext, Stays, StayReady, Moved, Leaves}
 use Rattle.kahn_code.proofs.Lists as First
 use Rattle.kahn_code.proofs.Readers.{reads_once, writes_once}
 
@@ -34,19 +37,44 @@ queued t lists i queues wired first = record {
       };
 }
 
+-- nothing was taken, and nothing given but on input channels
+first_none : (r : Role) (vs : List Value) → is_output r ≡ false → (r ≡ Input → ⊥) → at_first r vs ≡ 0
+first_none Inner vs e n = refl
+first_none Input vs e n = absurd (n refl)
+first_none Output vs e n = let h : true ≡ false = e in absurd cc
+
+module _ (t : Program) (lists : Lists) (queues : List Waiting) (first : AreFirst t lists queues) where
+  pub taken_zero : (d : ℕ) (o : Option Waiting) → slice_get queues d ≡ o → taken_of o ≡ 0
+  taken_zero d None e = refl
+  taken_zero d (Some w) e = (first.each d w e).taken
+
+  pub given_zero : (d : ℕ) (o : Option Waiting) → is_output (role_at (network_of t) d) ≡ false → (role_at (network_of t) d ≡ Input → ⊥) → slice_get queues d ≡ o →
+      given_of o ≡ 0
+  given_zero d None inner n e = refl
+  given_zero d (Some w) inner n e =
+      let f = first.each d w e in
+      let a = f.taken in
+      let b = f.waiting ∙ first_none (role_at (network_of t) d) (inputs_of lists d) inner n in
+      omega (arith, a, b)
+
 -- ---- one place of a list is set
 
 pub set_here : {X : Type 0} (xs : List X) (c : ℕ) (x : X) → c < length xs → slice_get (slice_set xs c x) c ≡ Some x
 set_here xs c x l = slice_get_read (slice_set xs c x) (length xs) c x (sym (length-set xs c x)) l (sym (get_or-set_same xs c x x l))
 
+-- what holds of place d still holds, where it does of what is set
+set_keeps : {X : Type 0} (P : Option X → Type 0) (xs : List X) (c d : ℕ) (x x' : X) → slice_get xs c ≡ Some x → (d ≡ c → P (Some x) → P (Some x')) →
+    P (slice_get xs d) → P (slice_get (slice_set xs c x') d)
+set_keeps P [] c d x x' at h p = p
+set_keeps P (y ∷ xs) zero zero x x' at h p = h refl (subst P at p)
+set_keeps P (y ∷ xs) zero (suc d) x x' at h p = p
+set_keeps P (y ∷ xs) (suc c) zero x x' at h p = p
+set_keeps P (y ∷ xs) (suc c) (suc d) x x' at h p = set_keeps P xs c d x x' at (λ e. h (ap suc e)) p
+
 -- what is read of place d stays, but where it is the one that is set
 set_get : {X : Type 0} (f : Option X → ℕ) (xs : List X) (c d : ℕ) (x x' : X) → slice_get xs c ≡ Some x → (d ≡ c → f (Some x') ≡ f (Some x)) →
     f (slice_get (slice_set xs c x') d) ≡ f (slice_get xs d)
-set_get f [] c d x x' at h = refl
-set_get f (y ∷ xs) zero zero x x' at h = h refl ∙ ap f (sym at)
-set_get f (y ∷ xs) zero (suc d) x x' at h = refl
-set_get f (y ∷ xs) (suc c) zero x x' at h = refl
-set_get f (y ∷ xs) (suc c) (suc d) x x' at h = set_get f xs c d x x' at (λ e. h (ap suc e))
+set_get f xs c d x x' at h = set_keeps (λ o. f o ≡ f (slice_get xs d)) xs c d x x' at (λ e g. h e ∙ g) refl
 
 -- what holds of each other place holds of each, where it holds of what is set
 pub set_each : {X : Type 0} (P : ℕ → X → Type 0) (xs : List X) (c : ℕ) (x : X) → ((d : ℕ) (y : X) → (d ≡ c → ⊥) → slice_get xs d ≡ Some y → P d y) → P c x →
@@ -64,10 +92,20 @@ next_set qs c w w' (Reads d) at r g = set_get taken_of qs c d w w' at (λ e. r (
 next_set qs c w w' (Writes d) at r g = set_get given_of qs c d w w' at (λ e. g (ap Writes e))
 next_set qs c w w' (Hands v) at r g = refl
 
+-- where its queue has no fewer tokens, or isn't that of c, a parameter that is ready stays so
+ready_set : (qs : List Waiting) (c : ℕ) (w w' : Waiting) (a : Actual) → slice_get qs c ≡ Some w → (Joins a c → w.waiting ≤ w'.waiting) → 0 < waiting_of (queue_of qs a) →
+    0 < waiting_of (queue_of (slice_set qs c w') a)
+ready_set qs c w w' (Reads d) at more = set_keeps (λ o. 0 < waiting_of o) qs c d w w' at (λ e l. let m = more e in omega (arith, m, l))
+ready_set qs c w w' (Writes d) at more = set_keeps (λ o. 0 < waiting_of o) qs c d w w' at (λ e l. let m = more e in omega (arith, m, l))
+ready_set qs c w w' (Hands v) at more = λ l. l
+
 -- ---- the clauses of ports, over the queues as contracts see them
 
 abbrev pub changed : Lines → ℕ → Waiting → Lines
 changed s c w = record s { queues = slice_set s.queues c w }
+
+abbrev ready_at : Lines → ℕ → Type 0
+ready_at s q = 0 < waiting_of (queue_of s.queues (actual_of s q))
 
 abbrev pub seat_of : Lines → Seat
 seat_of s = record { network = s.network; input = s.input; instance = s.instance }
@@ -97,6 +135,9 @@ module _ (s : Lines) (h : AreQueued s) (c : ℕ) (w w' : Waiting) (inside : c < 
   all_stay : (w'.taken ≡ w.taken) × (w'.waiting ≡ w.waiting) → (p r : ℕ) → place_at (changed s c w') p r ≡ place_at s p r
   all_stay same p r = let a = same.0 in let b = same.1 in place_stays p r (λ e. a) (λ e. omega (arith, a, b))
 
+  more_stay : w.waiting ≤ w'.waiting → StayReady (ready_at s) (ready_at (changed s c w'))
+  more_stay more q = ready_set s.queues c w w' (actual_of s q) queue_at (λ e. more)
+
 -- what a take leaves
 pub record Took (n new : Lines) (q c : ℕ) (o : Option Token) : Type 0 where
   pub queued : AreQueued new
@@ -105,7 +146,8 @@ pub record Took (n new : Lines) (q c : ℕ) (o : Option Token) : Type 0 where
   pub moved : IfSome o (λ _. Moved (place_at n n.instance) (place_at new new.instance) q)
   pub stays : IfNone o (Stays (place_at n n.instance) (place_at new new.instance))
   pub dry : IfNone o (waiting_of (queue_of new.queues (actual_of new q)) ≡ 0)
-  pub some : 0 < waiting_of (queue_of n.queues (actual_of n q)) → IsSome o
+  pub some : ready_at n q → IsSome o
+  pub keeps : (r d : ℕ) → r ≢ q → actual_of n r ≡ Reads d → ready_at n r → ready_at new r
 
 -- queues s, seen as n, of which parameter q reads channel c
 module _ {s n : Lines} (is : s ≡ n) (h : AreQueued s) (q c : ℕ) (reads : actual_of n q ≡ Reads c) where
@@ -153,6 +195,8 @@ module _ {s n : Lines} (is : s ≡ n) (h : AreQueued s) (q c : ℕ) (reads : act
           stays = tt;
           dry = tt;
           some = λ ready. refl;
+          keeps = rw (← is) (λ r d other read. ready_set s.queues c w w' (actual_of s r) (queue_at s h c w w read_inside value)
+              (λ joins. absurd (read_once s.instance r (λ e f. other f) (read ∙ ap Reads (subst (λ a. Joins a c) read joins)))));
         }
     took w' None same told counts none =
         let kept : (w'.taken ≡ w.taken) × (w'.waiting ≡ w.waiting) = (ap (λ (x : Waiting). x.taken) none.0, ap (λ (x : Waiting). x.waiting) none.0) in
@@ -164,6 +208,7 @@ module _ {s n : Lines} (is : s ≡ n) (h : AreQueued s) (q c : ℕ) (reads : act
           stays = rw (← is) (stays s.instance);
           dry = ap (λ a. waiting_of (queue_of (slice_set s.queues c w') a)) read_here ∙ ap waiting_of (set_here s.queues c w' read_inside) ∙ kept.1 ∙ none.1;
           some = λ ready. let e = ap waiting_of queue_read in let z = none.1 in absurd (omega (arith, ready, e, z));
+          keeps = rw (← is) (λ r d other read. more_stay s h c w w' read_inside value (let e = kept.1 in omega (arith, e)) r);
         }
 
 -- of which it writes channel c
@@ -190,6 +235,9 @@ module _ {s n : Lines} (is : s ≡ n) (h : AreQueued s) (q c : ℕ) (writes_it :
       pub room_leaves : Leaves (seat_of n) (place_at n) (place_at (changed s c w'))
       room_leaves = rw (← is) (λ p r other. all_stay s h c w w' write_inside value counts p r)
 
+      pub room_keeps : StayReady (ready_at n) (ready_at (changed s c w'))
+      room_keeps = rw (← is) (more_stay s h c w w' write_inside value (let e = counts.1 in omega (arith, e)))
+
       pub room_there : 0 < w'.spare → 0 < spare_of (queue_of (slice_set s.queues c w') (actual_of s q))
       room_there room = subst (λ k. 0 < k) (sym (ap (λ a. spare_of (queue_of (slice_set s.queues c w') a)) write_here ∙ ap spare_of (set_here s.queues c w' write_inside))) room
 
@@ -203,6 +251,9 @@ module _ {s n : Lines} (is : s ≡ n) (h : AreQueued s) (q c : ℕ) (writes_it :
 
       pub put_leaves : Leaves (seat_of n) (place_at n) (place_at (changed s c w'))
       put_leaves = rw (← is) (λ p r other. put_stays p r (λ e f. other e))
+
+      pub put_keeps : StayReady (ready_at n) (ready_at (changed s c w'))
+      put_keeps = rw (← is) (more_stay s h c w w' write_inside value (let e = counts.1 in omega (arith, e)))
 
       pub put_moves : Moved (place_at n n.instance) (place_at (changed s c w') s.instance) q
       put_moves =

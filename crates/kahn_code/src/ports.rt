@@ -1,7 +1,7 @@
 //! Where an instance takes and puts tokens.
 
-ghost use Rattle.std.specs.Prelude.{◌≡◌, ℕ, ◌<◌, ◌^◌, IfSome, IfNone, IsSome, IsTrue, IsFalse, OnOk};
-ghost use Rattle.kahn_code.specs.Seats.{Seat, DoesRead, DoesWrite, IsNext, Stays, Moved, Leaves, Grows};
+ghost use Rattle.std.specs.Prelude.{◌≡◌, ◌≢◌, ℕ, ◌<◌, ◌^◌, IfSome, IfNone, IsSome, IsTrue, IsFalse, OnOk};
+ghost use Rattle.kahn_code.specs.Seats.{Seat, DoesRead, DoesWrite, IsNext, Stays, StayReady, Moved, Leaves, Grows};
 
 use kahn_streams::memory::NoMemory;
 use kahn_streams::token::Token;
@@ -26,7 +26,7 @@ pub trait Ports {
     // how many tokens that were put on each parameter were handed on to the reader
     ghost delivered: { Self → ℕ → ℕ };
 
-    // the next take gives a token
+    // the next take gives a token, until one is taken
     ghost is_ready: { Self → ℕ → Type 0 };
 
     // a take may give nothing
@@ -43,6 +43,7 @@ pub trait Ports {
         ensures which { which self.new ≡ which self.old }
         ensures delivered { Grows (delivered self.old) (delivered self.new) }
         ensures next { Stays (next self.old) (next self.new) }
+        ensures keeps { StayReady (is_ready self.old) (is_ready self.new) }
         ensures yes { IsTrue result → is_ready self.new parameter }
         ensures dry { IsFalse result → is_dry self.new parameter };
 
@@ -58,7 +59,8 @@ pub trait Ports {
         ensures moved { IfSome result (λ _. Moved (next self.old) (next self.new) parameter) }
         ensures stays { IfNone result (Stays (next self.old) (next self.new)) }
         ensures dry { IfNone result (is_dry self.new parameter) }
-        ensures some { is_ready self.old parameter → IsSome result };
+        ensures some { is_ready self.old parameter → IsSome result }
+        ensures keeps { (q d : ℕ) → q ≢ parameter → DoesRead (seat self.old) q d → is_ready self.old q → is_ready self.new q };
 
     /// Makes room for one token.
     fn room(&mut self, parameter: usize, channel: usize) -> Result<(), NoMemory>
@@ -68,7 +70,8 @@ pub trait Ports {
         ensures which { which self.new ≡ which self.old }
         ensures delivered { Grows (delivered self.old) (delivered self.new) }
         ensures next { Stays (next self.old) (next self.new) }
-        ensures room { OnOk result (has_room self.new parameter) };
+        ensures room { OnOk result (has_room self.new parameter) }
+        ensures keeps { StayReady (is_ready self.old) (is_ready self.new) };
 
     /// Puts the token of the next place. It takes no memory.
     fn put(&mut self, parameter: usize, channel: usize, token: Token)
@@ -80,5 +83,6 @@ pub trait Ports {
         ensures others { Leaves (seat self.old) (others self.old) (others self.new) }
         ensures which { which self.new ≡ which self.old }
         ensures delivered { Grows (delivered self.old) (delivered self.new) }
-        ensures moved { Moved (next self.old) (next self.new) parameter };
+        ensures moved { Moved (next self.old) (next self.new) parameter }
+        ensures keeps { StayReady (is_ready self.old) (is_ready self.new) };
 }

@@ -1,6 +1,6 @@
 -- Workers with their seats.
 use Rattle.std.proofs.Common.{arith, ◌≡◌, ℕ, suc, ◌+◌, ◌<◌, List, [], ◌∷◌, ◌++◌, length, All, sum_by, slice_index_or, refl, sym, ap, ◌∙◌, subst, Option, Some, option_to_list}
-use Rattle.std.proofs.lemmas.List.{get_or_append_left, get_or_push, length-append}
+use Rattle.std.proofs.lemmas.List.{length-append}
 use Rattle.std.proofs.lemmas.List.Elements.{All-push}
 use Rattle.std.proofs.lemmas.List.Sums.{sum_by_push, sum_by-cons}
 use Rattle.atomic_table.specs.Seated.{TableId}
@@ -10,12 +10,7 @@ use Rattle.kahn_desk.specs.Turn.{IsIdle}
 use Rattle.kahn_crew.specs.Crews.{HasGone, IsSeated, crew_parts}
 use Rattle.kahn_crew.specs.Tasks.{Tasked}
 use Rattle.kahn_crew.specs.declared.worker.Worker.{Worker}
-
-all_but_last : {A : Type 0} (P : A → Type 0) (xs : List A) (x : A) → All P (xs ++ x ∷ []) → All P xs × P x
-all_but_last P xs x all = (
-  (λ k d near. subst P (get_or_append_left xs (x ∷ []) d k near) (all k d (omega (arith, near, length-append xs (x ∷ []))))),
-  subst P (get_or_push xs x x (length xs) refl) (all (length xs) x (omega (arith, length-append xs (x ∷ [])))),
-)
+use Rattle.kahn_desk.proofs.Joined.{all_but_last}
 
 -- sums of lists that are alike at each place
 sum_same : {A : Type 0} (f : A → ℕ) (xs ys : List A) → length ys ≡ length xs → ((i : ℕ) (d : A) → i < length xs → f (slice_index_or ys i d) ≡ f (slice_index_or xs i d)) → sum_by f ys ≡ sum_by f xs

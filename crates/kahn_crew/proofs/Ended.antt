@@ -1,5 +1,5 @@
 -- What a closed board says of a run.
-use Rattle.std.proofs.Common.{arith, ◌≡◌, ◌⊎◌, inl, inr, ⊎_elim, ℕ, zero, suc, ◌+◌, ◌<◌, ◌≤◌, Bool, true, false, List, [], ◌∷◌, length, map, sum_by, refl, sym, ap, ◌∙◌, subst, eqb-true, Option, Some, None, slice_get, slice_index_or, pos}
+use Rattle.std.proofs.Common.{arith, ◌≡◌, ◌⊎◌, inl, inr, ⊎_elim, ℕ, zero, suc, ◌+◌, ◌<◌, ◌≤◌, Bool, true, false, List, [], ◌∷◌, length, map, sum_by, refl, sym, ap, ◌∙◌, subst, Option, Some, None, slice_get, slice_index_or, pos}
 use mathlib.Core.Option.{some, some-injective}
 use lib.ListN.{get_elem?}
 use Rattle.std.proofs.lemmas.List.{length-map}
@@ -31,18 +31,13 @@ use Rattle.kahn_crew.specs.Tasks.{Tasked, Continues, IsLater, count_on, handed, 
 use Rattle.kahn_crew.specs.declared.standing.Standing.{Standing}
 use Rattle.kahn_crew.specs.declared.standing.Standing.TheVariants as standing
 use Rattle.kahn_crew.proofs.Found
+use Rattle.kahn_crew.proofs.Found.{none_some, some_same}
 use Rattle.kahn_crew.proofs.Publishing.{handed_is}
 use Rattle.kahn_crew.proofs.Resting.{continues_here, task_of}
-use Rattle.kahn_crew.proofs.Started.{at_both, both_at, mapped_at, at_mapped, some_same, floor_of}
-use Rattle.kahn_crew.proofs.Wirings.{instances_are, reads_first, writes_first, writer_is}
+use Rattle.kahn_crew.proofs.Started.{at_both, both_at, mapped_at, at_mapped, floor_of}
+use Rattle.kahn_crew.proofs.Wirings.{instances_are, is_written_so, reads_first, writes_first, writer_is}
 
 -- ---- lists
-
-none_some : {A : Type 0} {x : A} → None ≡ Some x → ⊥
-none_some e = cc
-
-apart : true ≡ false → ⊥
-apart e = cc
 
 -- cells that are all there
 pub all_there : {A : Type 0} (n : ℕ) (cells : List (Option A)) → length cells ≡ n → ((p : ℕ) → p < n → (y : A) × (get_elem? cells p ≡ some (Some y))) → (xs : List A) × (cells ≡ map Some xs)
@@ -74,16 +69,11 @@ waits_so w (standing.Faulted k) c e = absurd (none_some e)
 waits_so w (standing.Dry q) c e = (q, refl, e)
 
 reads_so : (a : Actual) (c : ℕ) → read_by a ≡ Some c → a ≡ Reads c
-reads_so (Reads d) c e = ap Reads (some_same d c e)
+reads_so (Reads d) c e = ap Reads (some_same e)
 reads_so (Writes d) c e = absurd (none_some e)
 reads_so (Hands v) c e = absurd (none_some e)
 
 -- ---- who writes a channel
-
-written_so : (a : Actual) (c : ℕ) → is_written a c ≡ true → a ≡ Writes c
-written_so (Reads d) c e = absurd (apart (sym e))
-written_so (Writes d) c e = ap Writes (eqb-true d c e)
-written_so (Hands v) c e = absurd (apart (sym e))
 
 with_passes : (f : Actual → Bool) (is : List Instance) (k p : ℕ) → first_with f is k ≡ Some p → (r : ℕ) × (any_is f (slice_index_or is r idle).actuals ≡ true)
 with_passes f [] k p e = absurd (none_some e)
@@ -109,7 +99,7 @@ module _ (t : Program) (is_wired : IsWellWired t) where
   writer_found c p e =
       let w = with_passes (λ a. is_written a c) N.instances 0 p e in
       let a = Found.any_passes (λ a. is_written a c) (Hands (Number (pos 0))) (instance_at N w.0).actuals w.1 in
-      (w.0, a.0, written_so (actual_at (instance_at N w.0) a.0) c a.2)
+      (w.0, a.0, is_written_so (actual_at (instance_at N w.0) a.0) c a.2)
 
   -- nobody writes an input
   no_writer : (c : ℕ) → role_at N c ≡ role.Input → (wires t).writer c ≡ None
@@ -252,7 +242,7 @@ none_rose (z ∷ xs) (u ∷ ys) l h s zero x y e f =
     let g : z.work.cell.events ≤ u.work.cell.events = h zero z u refl refl in
     let r : sum_by task_events xs ≤ sum_by task_events ys = sums_rise xs ys (omega (arith, l)) (λ q. h (suc q)) in
     let same : u.work.cell.events ≡ z.work.cell.events = omega (arith, a, b, g, r, s) in
-    ap task_events (sym (some_same u y f)) ∙ same ∙ ap task_events (some_same z x e)
+    ap task_events (sym (some_same f)) ∙ same ∙ ap task_events (some_same e)
 none_rose (z ∷ xs) (u ∷ ys) l h s (suc p) x y e f =
     let a : sum_by task_events (z ∷ xs) ≡ z.work.cell.events + sum_by task_events xs = sum_by-cons task_events z xs in
     let b : sum_by task_events (u ∷ ys) ≡ u.work.cell.events + sum_by task_events ys = sum_by-cons task_events u ys in
@@ -307,12 +297,12 @@ untouched_gone t lists watch bound first tasks budget ready same left =
     subst (λ (l : List Tasked). HaveGone t lists watch (bound + events_of told_of first) first l budget) (sym same) (record {
       ready = ready;
       count = ready.count;
-      later = λ p x y e f. subst (Continues x) (some_same x y (sym e ∙ f)) (continues_here x);
+      later = λ p x y e f. subst (Continues x) (some_same (sym e ∙ f)) (continues_here x);
       events = let a : sum_by task_events first ≡ events_of told_of first = all_told first in omega (arith, a, left);
     })
 
 pub untouched_here : (bound : ℕ) (first tasks : List Tasked) (budget : ℕ) → tasks ≡ first → budget ≡ bound → AreUntouched bound first tasks budget
 untouched_here bound first tasks budget same left = record {
   unused = left;
-  cells = λ p x y e f. ap (λ (z : Tasked). z.work.cell) (sym (some_same x y (sym e ∙ subst (λ (l : List Tasked). slice_get l p ≡ Some y) same f)));
+  cells = λ p x y e f. ap (λ (z : Tasked). z.work.cell) (sym (some_same (sym e ∙ subst (λ (l : List Tasked). slice_get l p ≡ Some y) same f)));
 }

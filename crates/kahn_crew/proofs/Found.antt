@@ -8,10 +8,13 @@ abbrev number : Option ℕ → ℕ
 number None = 0
 number (Some p) = p
 
-none_some : {p : ℕ} → None ≡ Some p → ⊥
+pub none_some : {A : Type 0} {x : A} → None ≡ Some x → ⊥
 none_some e = cc
 
-apart : true ≡ false → ⊥
+pub some_same : {A : Type 0} {x y : A} → Some x ≡ Some y → x ≡ y
+some_same e = cc
+
+pub apart : true ≡ false → ⊥
 apart e = cc
 
 -- the one that passes is the first

@@ -21,12 +21,7 @@ use Rattle.kahn_code.specs.Told.{AreCounts}
 use Rattle.kahn_crew.specs.Floors.{HasKept, IsTaskOf}
 use Rattle.kahn_crew.specs.Tasks.{Tasked, AgreesWith, IsPublished, handed, written_by}
 use Rattle.kahn_crew.proofs.Wirings.{target, writer_is, written_inside}
-
-none_some : {c : ℕ} → None ≡ Some c → ⊥
-none_some e = cc
-
-some_same : {c d : ℕ} → Some d ≡ Some c → d ≡ c
-some_same e = cc
+use Rattle.kahn_crew.proofs.Found.{none_some, some_same}
 
 writes_same : {c d : ℕ} → Writes d ≡ Writes c → d ≡ c
 writes_same e = cc

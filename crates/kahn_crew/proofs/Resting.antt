@@ -26,6 +26,7 @@ use Rattle.kahn_crew.specs.Rests.{IsDue}
 use Rattle.kahn_crew.specs.Tasks.{Tasked, AgreesWith, Continues, HasStanding, IsLater, IsPublished, count_on, handed, read_by, reads_at, told_of, waits_on, writes_at, wrote_by}
 use Rattle.kahn_crew.proofs.Wirings.{reads_first, writes_first, first_writes, reader_is, writer_is, read_inside, written_inside}
 use Rattle.kahn_crew.proofs.Publishing.{handed_is}
+use Rattle.kahn_crew.proofs.Found.{none_some, some_same}
 
 -- ---- later states
 
@@ -119,12 +120,6 @@ pub is_published : (key : Terms Tasked) (t code : Program) (p : ℕ) (y : Tasked
 is_published key t code p y floor lt b = let f = found_at key.cells.value.items p (omega (arith, floor.count, lt)) in (b f.0 f.1).published
 
 -- ---- what is told
-
-none_some : {k : ℕ} → None ≡ Some k → ⊥
-none_some e = cc
-
-some_same : {k l : ℕ} → Some k ≡ Some l → k ≡ l
-some_same e = cc
 
 none_wrote : {k : ℕ × ℕ} → None ≡ Some k → ⊥
 none_wrote e = cc

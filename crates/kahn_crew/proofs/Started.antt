@@ -29,17 +29,12 @@ use Rattle.kahn_board.specs.declared.view.View.{View}
 use Rattle.kahn_crew.specs.Begins.{AreReady, HasBegun, IsNumber, IsReady, ready_task}
 use Rattle.kahn_crew.specs.Floors.{IsFloor}
 use Rattle.kahn_crew.specs.Tasks.{AgreesWith, IsLater, IsPublished, Tasked, told_of}
+use Rattle.kahn_crew.proofs.Found.{none_some, some_same}
 use Rattle.kahn_crew.proofs.Publishing.{handed_is}
 use Rattle.kahn_crew.proofs.Resting.{flushed_all, continues_here, published_is}
 use Rattle.kahn_crew.proofs.Wirings.{channels_are, instances_are}
 
 -- ---- lists
-
-none_some : {A : Type 0} {x : A} → None ≡ Some x → ⊥
-none_some e = cc
-
-pub some_same : {A : Type 0} (x y : A) → Some x ≡ Some y → x ≡ y
-some_same x y e = ap (λ o. elim o [ None ↦ x | Some z ↦ z ]) e
 
 pub at_both : {A : Type 0} (xs : List A) (p : ℕ) (x : A) → get_elem? xs p ≡ some x → slice_get xs p ≡ Some x
 at_both [] p x e = absurd (some-ne-none x (sym e))
@@ -48,7 +43,7 @@ at_both (y ∷ ys) (suc p) x e = at_both ys p x e
 
 pub both_at : {A : Type 0} (xs : List A) (p : ℕ) (x : A) → slice_get xs p ≡ Some x → get_elem? xs p ≡ some x
 both_at [] p x e = absurd (none_some e)
-both_at (y ∷ ys) zero x e = ap some (some_same y x e)
+both_at (y ∷ ys) zero x e = ap some (some_same e)
 both_at (y ∷ ys) (suc p) x e = both_at ys p x e
 
 pub there_is : {A : Type 0} (xs : List A) (p : ℕ) → p < length xs → (x : A) × (slice_get xs p ≡ Some x)
@@ -58,18 +53,18 @@ there_is (x ∷ xs) (suc p) h = there_is xs p (omega (arith, h))
 
 pub read_there : {A : Type 0} (xs : List A) (p : ℕ) (x d : A) → slice_get xs p ≡ Some x → slice_index_or xs p d ≡ x
 read_there [] p x d e = absurd (none_some e)
-read_there (y ∷ xs) zero x d e = some_same y x e
+read_there (y ∷ xs) zero x d e = some_same e
 read_there (y ∷ xs) (suc p) x d e = read_there xs p x d e
 
 -- what stands in the image is the image of what stands there
 pub mapped_at : {A B : Type 0} (f : A → B) (xs : List A) (p : ℕ) (y : B) → slice_get (map f xs) p ≡ Some y → (x : A) × (slice_get xs p ≡ Some x) × (y ≡ f x)
 mapped_at f [] p y e = absurd (none_some e)
-mapped_at f (x ∷ xs) zero y e = (x, refl, sym (some_same (f x) y e))
+mapped_at f (x ∷ xs) zero y e = (x, refl, sym (some_same e))
 mapped_at f (x ∷ xs) (suc p) y e = mapped_at f xs p y e
 
 pub at_mapped : {A B : Type 0} (f : A → B) (xs : List A) (p : ℕ) (x : A) → slice_get xs p ≡ Some x → slice_get (map f xs) p ≡ Some (f x)
 at_mapped f [] p x e = absurd (none_some e)
-at_mapped f (y ∷ xs) zero x e = ap Some (ap f (some_same y x e))
+at_mapped f (y ∷ xs) zero x e = ap Some (ap f (some_same e))
 at_mapped f (y ∷ xs) (suc p) x e = at_mapped f xs p x e
 
 middle_at : {A : Type 0} (before after : List A) (x : A) → slice_get (before ++ x ∷ after) (length before) ≡ Some x
@@ -127,7 +122,7 @@ no_events (w ∷ ws) h = let a : w.cell.events ≡ 0 = h 0 w refl in let b = no_
 pub at_most_all : (xs : List Tasked) (p : ℕ) (x : Tasked) → slice_get xs p ≡ Some x → x.work.cell.events ≤ events_of told_of xs
 at_most_all [] p x e = absurd (none_some e)
 at_most_all (y ∷ xs) zero x e =
-    let s : y.work.cell.events ≡ x.work.cell.events = ap (λ (z : Tasked). z.work.cell.events) (some_same y x e) in
+    let s : y.work.cell.events ≡ x.work.cell.events = ap (λ (z : Tasked). z.work.cell.events) (some_same e) in
     omega (arith, s)
 at_most_all (y ∷ xs) (suc p) x e = let r : x.work.cell.events ≤ events_of told_of xs = at_most_all xs p x e in omega (arith, r)
 
@@ -167,9 +162,6 @@ module _ (t : Program) (lists : Lists) (watch : Option ℕ) (jobs : List Work) (
 
 -- ---- how many tokens are published
 
-none_side : {s : Side} → None ≡ Some s → ⊥
-none_side e = cc
-
 module _ (t : Program) (wired : IsWellWired t) (lists : Lists) (watch : Option ℕ) (tasks : List Tasked) (f : AreReady t lists watch tasks) (c : ℕ) where
   pub number_given : role_at (network_of t) c ≡ Input → (n : ℕ) → n ≡ length (inputs_of lists c) → IsNumber t lists tasks c n
   number_given r n e = record {
@@ -183,7 +175,7 @@ module _ (t : Program) (wired : IsWellWired t) (lists : Lists) (watch : Option �
     given = λ i. absurd (apart_roles (sym r ∙ i));
     sent = λ p o x at w inner.
         let same : side_at p o ≡ s = only.1 (side_at p o) (Sourced.handed_within (network_of t) p o c (subst (λ a. Joins a c) (sym w) refl), w) in
-        let one : x ≡ y = some_same x y (sym at ∙ (ap (λ (u : Side). slice_get tasks u.instance) same ∙ here)) in
+        let one : x ≡ y = some_same (sym at ∙ (ap (λ (u : Side). slice_get tasks u.instance) same ∙ here)) in
         e ∙ (ap (λ (z : Tasked). count z.work.cell.sent s.parameter) (sym one) ∙ ap (λ (u : Side). count x.work.cell.sent u.parameter) (sym same));
   }
     where

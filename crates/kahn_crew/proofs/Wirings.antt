@@ -13,24 +13,10 @@ use Rattle.kahn_code.proofs.Readers.{joins_within, joins_parameter, reads_once, 
 use Rattle.kahn_board.specs.Wires.{wires, is_read}
 use Rattle.kahn_crew.specs.Tasks.{read_by, written_by, is_channel, first_that}
 use Rattle.kahn_crew.proofs.Found
+use Rattle.kahn_crew.proofs.Found.{apart, none_some, some_same}
 
 eqb_refl : (d : ℕ) → (d == d) ≡ true
 eqb_refl d = grind arith
-
-apart : true ≡ false → ⊥
-apart e = cc
-
-some_same : {c d : ℕ} → Some d ≡ Some c → d ≡ c
-some_same e = cc
-
-none_some : {c : ℕ} → None ≡ Some c → ⊥
-none_some e = cc
-
-pub none_side : {s : Side} → None ≡ Some s → ⊥
-none_side e = cc
-
-pub side_same : {s u : Side} → Some s ≡ Some u → s ≡ u
-side_same e = cc
 
 from_zero : (q : ℕ) → Some (0 + q) ≡ Some q
 from_zero q = ap Some (omega arith)
@@ -56,7 +42,7 @@ is_read_so (Hands v) c e = absurd (apart (sym e))
 so_is_read : (a : Actual) (c : ℕ) → a ≡ Reads c → is_read a c ≡ true
 so_is_read a c e = subst (λ b. is_read b c ≡ true) (sym e) (eqb_refl c)
 
-is_written_so : (a : Actual) (c : ℕ) → is_written a c ≡ true → a ≡ Writes c
+pub is_written_so : (a : Actual) (c : ℕ) → is_written a c ≡ true → a ≡ Writes c
 is_written_so (Reads d) c e = absurd (apart (sym e))
 is_written_so (Writes d) c e = ap Writes (eqb-true d c e)
 is_written_so (Hands v) c e = absurd (apart (sym e))

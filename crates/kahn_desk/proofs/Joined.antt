@@ -11,7 +11,7 @@ use Rattle.kahn_board.proofs.Seats.{zeros}
 use Rattle.kahn_desk.specs.Turn.{Rests, IsIdle}
 use Rattle.kahn_desk.specs.Crew.{parts_of, done_of}
 
-all_but_last : {A : Type 0} (P : A → Type 0) (xs : List A) (x : A) → All P (xs ++ x ∷ []) → All P xs × P x
+pub all_but_last : {A : Type 0} (P : A → Type 0) (xs : List A) (x : A) → All P (xs ++ x ∷ []) → All P xs × P x
 all_but_last P xs x all = (
   (λ k d near. subst P (get_or_append_left xs (x ∷ []) d k near) (all k d (omega (arith, near, length-append xs (x ∷ []))))),
   subst P (get_or_push xs x x (length xs) refl) (all (length xs) x (omega (arith, length-append xs (x ∷ [])))),

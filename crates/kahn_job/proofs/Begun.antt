@@ -1,24 +1,21 @@
 -- Jobs before their first events, one by one.
-use Rattle.std.proofs.Common.{arith, ◌≡◌, ◌⊎◌, inl, inr, ℕ, zero, suc, ◌+◌, ◌<◌, ◌≤◌, List, [], ◌∷◌, ◌++◌, length, replicate, refl, sym, ap, ◌∙◌, subst, Option, Some, slice_get, slice_set, slice_index_or, length-append}
+use Rattle.std.proofs.Common.{arith, ◌≡◌, ℕ, ◌+◌, ◌<◌, ◌≤◌, List, [], length, refl, sym, ap, ◌∙◌, subst, Option, slice_set, slice_index_or}
 use Rattle.std.proofs.lemmas.List.{length-set}
 use Rattle.kahn_tree.specs.declared.tree.Program.{Program}
 use Rattle.kahn_network.specs.Network.{Actual, Reads, Writes, Hands, network_of, instance_at, actual_at}
 use Rattle.kahn_network.specs.Wiring.{IsWellWired}
 use Rattle.kahn_network.proofs.Sourced.{reads_listed, writes_listed}
 use Rattle.kahn_streams.specs.Tokens.{Lists}
+use Rattle.kahn_streams.proofs.Entered.{none_of}
 use Rattle.kahn_code.specs.Lines.{Joins}
 use Rattle.kahn_code.specs.Standing.{count}
 use Rattle.kahn_code.specs.Told.{Told, seat_of}
+use Rattle.kahn_code.proofs.Lists.{AreFirst}
 use Rattle.kahn_job.specs.Ends.{End, ShareLane}
 use Rattle.kahn_job.specs.Berths.{Serves, end_at, seat_at}
 use Rattle.kahn_job.specs.Works.{Work, IsManned}
 use Rattle.kahn_job.specs.Openings.{AreHanded, AreOpening, IsFresh, IsOpening, IsReadyRow, end_in}
 use Rattle.kahn_job.proofs.Handed.{row_else}
-
-count_zero : (n q : ℕ) → count (replicate n zero) q ≡ zero
-count_zero zero q = refl
-count_zero (suc n) zero = refl
-count_zero (suc n) (suc q) = count_zero n q
 
 pub manned_first : (t : Program) (lists : Lists) (watch : Option ℕ) (p : ℕ) (c : Told) (row : List End) → IsOpening t lists watch p c →
     IsReadyRow t lists p row → p < length (network_of t).instances → IsManned c (record { network = t; input = lists; instance = p; ends = row })
@@ -26,8 +23,8 @@ manned_first t lists watch p c row o r l = record {
   seat = seats (sym o.network) (sym o.input) (sym o.instance);
   here = subst (λ i. i < length (network_of c.network).instances) (sym o.instance) (subst (λ k. p < length (network_of k).instances) (sym o.network) l);
   at = record {
-    reads = λ q d e. (r.fresh q).0 ∙ sym (ap (λ x. slice_index_or x q 0) o.taken ∙ count_zero _ q);
-    writes = λ q d e inner. (r.fresh q).0 ∙ sym (ap (λ x. slice_index_or x q 0) o.sent ∙ count_zero _ q);
+    reads = λ q d e. (r.fresh q).0 ∙ sym (ap (λ x. slice_index_or x q 0) o.taken ∙ none_of _ q 0);
+    writes = λ q d e inner. (r.fresh q).0 ∙ sym (ap (λ x. slice_index_or x q 0) o.sent ∙ none_of _ q 0);
   };
 }
   where
@@ -71,56 +68,17 @@ less_left t lists all n rows more h e = subst (AreLeft t lists all (n + 1)) (sym
     apart : (p : ℕ) → n + 1 ≤ p → p ≡ n → ⊥
     apart p l i = absurd (omega (arith, l, i))
 
--- the first n jobs are those of their instances, with the ends of their rows
-pub record AreBegun (t : Program) (lists : Lists) (watch : Option ℕ) (all : List (List End)) (jobs : List Work) (n : ℕ) : Type 0 where
-  pub count : length jobs ≡ n
-  pub each : (p : ℕ) (w : Work) → slice_get jobs p ≡ Some w → IsOpening t lists watch p w.cell × (w.ends ≡ slice_index_or all p [])
-
-pub no_jobs : (t : Program) (lists : Lists) (watch : Option ℕ) (all : List (List End)) (jobs : List Work) → jobs ≡ [] → AreBegun t lists watch all jobs 0
-no_jobs t lists watch all jobs e =
-    subst (λ l. AreBegun t lists watch all l 0) (sym e) (record { count = refl; each = λ p w a. absurd (none p w a) })
-  where
-    none : (p : ℕ) (w : Work) → slice_get [] p ≡ Some w → ⊥
-    none p w e = cc
-
-some_one : {v w : Work} → Some v ≡ Some w → v ≡ w
-some_one e = cc
-
-abbrev Begun : Program → Lists → Option ℕ → List (List End) → ℕ → Work → Type 0
+-- the job of an instance before its first event, with the ends of its row
+abbrev pub Begun : Program → Lists → Option ℕ → List (List End) → ℕ → Work → Type 0
 Begun t lists watch all p w = IsOpening t lists watch p w.cell × (w.ends ≡ slice_index_or all p [])
-
-pub one_job : (t : Program) (lists : Lists) (watch : Option ℕ) (all : List (List End)) (jobs more : List Work) (n : ℕ) (w : Work) →
-    AreBegun t lists watch all jobs n → Begun t lists watch all n w → more ≡ jobs ++ w ∷ [] → AreBegun t lists watch all more (n + 1)
-one_job t lists watch all jobs more n w h o is =
-    subst (λ l. AreBegun t lists watch all l (n + 1)) (sym is)
-    (record {
-      count = let l = length-append jobs (w ∷ []) in let c = h.count in omega (arith, l, c);
-      each = λ p x e. by p x (last jobs n p x h.count e);
-    })
-  where
-    last : (xs : List Work) (k : ℕ) (p : ℕ) (x : Work) → length xs ≡ k → slice_get (xs ++ w ∷ []) p ≡ Some x → (slice_get xs p ≡ Some x) ⊎ ((p ≡ k) × (w ≡ x))
-    last [] k zero x e f = inr (e, some_one f)
-    last [] k (suc p) x e f = absurd cc
-    last (y ∷ xs) zero p x e f = absurd (omega (arith, e))
-    last (y ∷ xs) (suc k) zero x e f = inl f
-    last (y ∷ xs) (suc k) (suc p) x e f = by (last xs k p x (omega (arith, e)) f)
-      where
-        by : (slice_get xs p ≡ Some x) ⊎ ((p ≡ k) × (w ≡ x)) → (slice_get (y ∷ xs) (suc p) ≡ Some x) ⊎ ((suc p ≡ suc k) × (w ≡ x))
-        by (inl a) = inl a
-        by (inr a) = inr (ap suc a.0, a.1)
-
-    by : (p : ℕ) (x : Work) → (slice_get jobs p ≡ Some x) ⊎ ((p ≡ n) × (w ≡ x)) → Begun t lists watch all p x
-    by p x (inl a) = h.each p x a
-    by p x (inr a) = subst (λ y. Begun t lists watch all p y) a.1 (subst (λ k. Begun t lists watch all k w) (sym a.0) o)
 
 -- the job of the next instance has the row that is left
 pub begun : (t : Program) (lists : Lists) (watch : Option ℕ) (all rows : List (List End)) (n : ℕ) (row : List End) (w : Work) →
-    AreLeft t lists all n rows → row ≡ slice_index_or rows n [] → IsOpening t lists watch n w.cell × (w.ends ≡ row) →
-    IsOpening t lists watch n w.cell × (w.ends ≡ slice_index_or all n [])
+    AreLeft t lists all n rows → row ≡ slice_index_or rows n [] → IsOpening t lists watch n w.cell × (w.ends ≡ row) → Begun t lists watch all n w
 begun t lists watch all rows n row w h e o = (o.0, o.1 ∙ e ∙ h.same n (omega arith))
 
 pub all_opening : (t : Program) (wired : IsWellWired t) (lists : Lists) (watch : Option ℕ) (all : List (List End)) (jobs : List Work) (n : ℕ) →
-    AreHanded t lists (length (network_of t).channels) all → AreBegun t lists watch all jobs n → n ≡ length (network_of t).instances →
+    AreHanded t lists (length (network_of t).channels) all → AreFirst (Begun t lists watch all) jobs n → n ≡ length (network_of t).instances →
     AreOpening t lists watch jobs
 all_opening t wired lists watch all jobs n h b e = record {
   count = b.count ∙ e;

@@ -1,11 +1,14 @@
 -- Ends of an instance's channels, one of which changes.
-use Rattle.std.proofs.Common.{arith, ◌≡◌, ◌⊎◌, inl, inr, ℕ, zero, suc, ◌+◌, ◌<◌, ◌≤◌, List, [], ◌∷◌, length, refl, sym, ap, ◌∙◌, subst, true, false, Some, slice_set, slice_index_or, le_of_suc-le-suc}
-use Rattle.std.proofs.lemmas.List.{length-set}
+use Rattle.std.proofs.Common.{arith, ◌≡◌, ◌⊎◌, inl, inr, ⊎_elim, ℕ, zero, suc, ◌+◌, ◌<◌, ◌≤◌, List, [], ◌∷◌, length, refl, sym, ap, ◌∙◌, subst, true, false, Some, slice_set, slice_index_or, le_of_suc-le-suc}
+use Rattle.std.proofs.lemmas.Bool.{cases_eq, cases_lt}
+use Rattle.std.proofs.lemmas.List.{length-set, get_or_default, get_or_past, get_or-set_same, get_or-set_other}
 use Rattle.kahn_tree.specs.declared.tree.Program.{Program}
 use Rattle.kahn_network.specs.Network.{Actual, Reads, Writes, Hands, network_of, instance_at, actual_at, role_at}
+use Rattle.kahn_network.proofs.Sourced.{handed_within}
 use Rattle.kahn_streams.specs.declared.token.Token.{Token}
 use Rattle.kahn_streams.specs.Tokens.{Lists}
 use Rattle.kahn_code.specs.Cells.{is_output}
+use Rattle.kahn_code.specs.Lines.{Joins}
 use Rattle.kahn_code.specs.Seats.{DoesRead, DoesWrite, Grows, IsNext, Stays, Moved}
 use Rattle.kahn_lane.specs.Places.{lane_name, token_name}
 use Rattle.kahn_lane.proofs.Places.{token_name-is_of, is_of-token_name}
@@ -13,46 +16,27 @@ use Rattle.kahn_job.specs.Ends.{Advances, End, Identity, IsSame, IsFlushed, Meet
 use Rattle.kahn_job.specs.Ways.{nothing}
 use Rattle.kahn_job.specs.Berths.{Berth, AreServed, Serves, end_at, identities, seat_at, HasFlushed, HaveAdvanced, HaveFlushed, HasStayed, HaveStayed, AreFlushed}
 
-same_or : (d c : ℕ) → (d ≡ c) ⊎ (d ≡ c → ⊥)
-same_or zero zero = inl refl
-same_or zero (suc c) = inr (λ e. absurd (omega (arith, e)))
-same_or (suc d) zero = inr (λ e. absurd (omega (arith, e)))
-same_or (suc d) (suc c) = step (same_or d c)
-  where
-    step : (d ≡ c) ⊎ (d ≡ c → ⊥) → (suc d ≡ suc c) ⊎ (suc d ≡ suc c → ⊥)
-    step (inl e) = inl (ap suc e)
-    step (inr n) = inr (λ e. n (omega (arith, e)))
-
 pub set_here : (es : List End) (q : ℕ) (e : End) → q < length es → end_at (slice_set es q e) q ≡ e
-set_here [] q e l = absurd (omega (arith, l))
-set_here (x ∷ es) zero e l = refl
-set_here (x ∷ es) (suc q) e l = set_here es q e (le_of_suc-le-suc l)
+set_here es q e l = get_or-set_same es q e nothing l
 
 pub set_else : (es : List End) (q r : ℕ) (e : End) → (r ≡ q → ⊥) → end_at (slice_set es q e) r ≡ end_at es r
-set_else [] q r e n = refl
-set_else (x ∷ es) zero zero e n = absurd (n refl)
-set_else (x ∷ es) zero (suc r) e n = refl
-set_else (x ∷ es) (suc q) zero e n = refl
-set_else (x ∷ es) (suc q) (suc r) e n = set_else es q r e (λ i. n (ap suc i))
+set_else es q r e n = get_or-set_other es q r e nothing n
+
+-- what holds of the end that is set, and of each other one, holds of each
+at_set : (P : ℕ → End → Type 0) (es : List End) (q : ℕ) (e : End) → q < length es → P q e → ((r : ℕ) → (r ≡ q → ⊥) → P r (end_at es r)) →
+    (r : ℕ) → P r (end_at (slice_set es q e) r)
+at_set P es q e l here further r = by (cases_eq r q)
+  where
+    by : (r ≡ q) ⊎ (r ≡ q → ⊥) → P r (end_at (slice_set es q e) r)
+    by (inl i) = subst (λ k. P k (end_at (slice_set es q e) k)) (sym i) (subst (P q) (sym (set_here es q e l)) here)
+    by (inr n) = subst (P r) (sym (set_else es q r e n)) (further r n)
 
 -- the end that was found in a list
+any_end : (es : List End) (q : ℕ) (d : End) → q < length es → slice_index_or es q d ≡ end_at es q
+any_end es q d l = get_or_default es q d nothing l
+
 pub found : (es : List End) (q : ℕ) (e d : End) → q < length es → e ≡ slice_index_or es q d → end_at es q ≡ e
-found es q e d l is = or_any es q d l ∙ sym is
-  where
-    or_any : (es : List End) (q : ℕ) (d : End) → q < length es → end_at es q ≡ slice_index_or es q d
-    or_any [] q d l = absurd (omega (arith, l))
-    or_any (x ∷ es) zero d l = refl
-    or_any (x ∷ es) (suc q) d l = or_any es q d (le_of_suc-le-suc l)
-
-read_within : (xs : List Actual) (q d : ℕ) (z : Actual) → ((d : ℕ) → z ≡ Reads d → ⊥) → slice_index_or xs q z ≡ Reads d → q < length xs
-read_within [] q d z n e = absurd (n d e)
-read_within (a ∷ xs) zero d z n e = omega arith
-read_within (a ∷ xs) (suc q) d z n e = let r = read_within xs q d z n e in omega (arith, r)
-
-written_within : (xs : List Actual) (q d : ℕ) (z : Actual) → ((d : ℕ) → z ≡ Writes d → ⊥) → slice_index_or xs q z ≡ Writes d → q < length xs
-written_within [] q d z n e = absurd (n d e)
-written_within (a ∷ xs) zero d z n e = omega arith
-written_within (a ∷ xs) (suc q) d z n e = let r = written_within xs q d z n e in omega (arith, r)
+found es q e d l is = sym (is ∙ any_end es q d l)
 
 still_serves : (t : Program) (lists : Lists) (a : Actual) (old new : End) → IsSame old new → Serves t lists a old → Serves t lists a new
 still_serves t lists (Reads d) old new same s = (same.reads ∙ s.0, same.name ∙ s.1, λ i. same.lane ∙ s.2 i)
@@ -67,16 +51,10 @@ same_then d e f a b = record { reads = b.reads ∙ a.reads; writes = b.writes �
 
 module _ (t : Program) (lists : Lists) (p : ℕ) (es : List End) (h : AreServed t lists p es) where
   pub within_read : (q d : ℕ) → actual_at (instance_at (network_of t) p) q ≡ Reads d → q < length es
-  within_read q d e =
-      let l = read_within (instance_at (network_of t) p).actuals q d _ (λ d x. absurd cc) e in
-      let n = h.count in
-      omega (arith, l, n)
+  within_read q d e = let l = (handed_within (network_of t) p q d (subst (λ a. Joins a d) (sym e) refl)).1 in let n = h.count in omega (arith, l, n)
 
   pub within_written : (q d : ℕ) → actual_at (instance_at (network_of t) p) q ≡ Writes d → q < length es
-  within_written q d e =
-      let l = written_within (instance_at (network_of t) p).actuals q d _ (λ d x. absurd cc) e in
-      let n = h.count in
-      omega (arith, l, n)
+  within_written q d e = let l = (handed_within (network_of t) p q d (subst (λ a. Joins a d) (sym e) refl)).1 in let n = h.count in omega (arith, l, n)
 
   pub serves_read : (q d : ℕ) → actual_at (instance_at (network_of t) p) q ≡ Reads d →
       ((end_at es q).reads ≡ true) × ((end_at es q).name ≡ Some (lane_name t lists d))
@@ -89,22 +67,10 @@ module _ (t : Program) (lists : Lists) (p : ℕ) (es : List End) (h : AreServed 
   pub served_set : (q : ℕ) (e : End) → q < length es → IsSame (end_at es q) e → Advances (end_at es q) e → AreServed t lists p (slice_set es q e)
   served_set q e l same further = record {
     count = length-set es q e ∙ h.count;
-    each = λ r. at r (same_or r q);
-    behind = λ r. less r (same_or r q);
+    each = at_set (λ r x. Serves t lists (actual_at (instance_at (network_of t) p) r) x) es q e l
+        (still_serves t lists (actual_at (instance_at (network_of t) p) q) (end_at es q) e same (h.each q)) (λ r n. h.each r);
+    behind = at_set (λ r x. x.flushed ≤ x.next) es q e l further.1 (λ r n. h.behind r);
   }
-    where
-      less : (r : ℕ) → (r ≡ q) ⊎ (r ≡ q → ⊥) → (end_at (slice_set es q e) r).flushed ≤ (end_at (slice_set es q e) r).next
-      less r (inr n) = subst (λ x. x.flushed ≤ x.next) (sym (set_else es q r e n)) (h.behind r)
-      less r (inl i) =
-          subst (λ k. (end_at (slice_set es q e) k).flushed ≤ (end_at (slice_set es q e) k).next) (sym i)
-          (subst (λ x. x.flushed ≤ x.next) (sym (set_here es q e l)) further.1)
-
-      at : (r : ℕ) → (r ≡ q) ⊎ (r ≡ q → ⊥) → Serves t lists (actual_at (instance_at (network_of t) p) r) (end_at (slice_set es q e) r)
-      at r (inr n) = subst (λ x. Serves t lists (actual_at (instance_at (network_of t) p) r) x) (sym (set_else es q r e n)) (h.each r)
-      at r (inl i) =
-          subst (λ k. Serves t lists (actual_at (instance_at (network_of t) p) k) (end_at (slice_set es q e) k)) (sym i)
-          (subst (λ x. Serves t lists (actual_at (instance_at (network_of t) p) q) x) (sym (set_here es q e l))
-          (still_serves t lists (actual_at (instance_at (network_of t) p) q) (end_at es q) e same (h.each q)))
 
 same_identity : (old new : End) → IsSame old new → identity_of new ≡ identity_of old
 same_identity old new s = λ i. record { reads = s.reads i; writes = s.writes i; lane = s.lane i; name = s.name i }
@@ -116,13 +82,7 @@ identities_set (x ∷ es) (suc q) e l s = ap (λ l. identity_of x ∷ l) (identi
 
 pub grows_set : (es : List End) (q : ℕ) (e : End) → q < length es → Advances (end_at es q) e →
     Grows (λ r. (end_at es r).flushed) (λ r. (end_at (slice_set es q e) r).flushed)
-grows_set es q e l further r = by (same_or r q)
-  where
-    by : (r ≡ q) ⊎ (r ≡ q → ⊥) → (end_at es r).flushed ≤ (end_at (slice_set es q e) r).flushed
-    by (inr n) = let same = ap (λ (x : End). x.flushed) (set_else es q r e n) in omega (arith, same)
-    by (inl i) =
-        subst (λ k. (end_at es k).flushed ≤ (end_at (slice_set es q e) k).flushed) (sym i)
-        (let here = ap (λ (x : End). x.flushed) (set_here es q e l) in let more = further.0 in omega (arith, here, more))
+grows_set es q e l further = at_set (λ r x. (end_at es r).flushed ≤ x.flushed) es q e l further.0 (λ r n. omega arith)
 
 identity_same : (old new : End) → identity_of new ≡ identity_of old → IsSame old new
 identity_same old new e = record {
@@ -152,13 +112,7 @@ advanced old new e g = record {
 -- no next place changes where the end's stays
 pub stays_set : (es : List End) (q : ℕ) (e : End) → q < length es → e.next ≡ (end_at es q).next →
     Stays (λ r. (end_at es r).next) (λ r. (end_at (slice_set es q e) r).next)
-stays_set es q e l same r = by (same_or r q)
-  where
-    by : (r ≡ q) ⊎ (r ≡ q → ⊥) → (end_at (slice_set es q e) r).next ≡ (end_at es r).next
-    by (inr n) = ap (λ (x : End). x.next) (set_else es q r e n)
-    by (inl i) =
-        ap (λ k. (end_at (slice_set es q e) k).next) i ∙ ap (λ (x : End). x.next) (set_here es q e l) ∙ same ∙
-        ap (λ k. (end_at es k).next) (sym i)
+stays_set es q e l same = at_set (λ r x. x.next ≡ (end_at es r).next) es q e l same (λ r n. refl)
 
 pub moved_set : (es : List End) (q : ℕ) (e : End) → q < length es → e.next ≡ (end_at es q).next + 1 →
     Moved (λ r. (end_at es r).next) (λ r. (end_at (slice_set es q e) r).next) q
@@ -201,7 +155,7 @@ pub flushed_set : (old es : List End) (q : ℕ) (e : End) → HaveFlushed old es
     e.next ≡ (end_at es q).next → (e.flushed ≡ (end_at es q).flushed) ⊎ (e.flushed ≡ e.next) → Advances (end_at es q) e → HaveFlushed old (slice_set es q e)
 flushed_set old es q e h l same next how advances = record {
   count = length-set es q e ∙ h.count;
-  each = λ r. at r (same_or r q);
+  each = at_set (λ r x. HasFlushed (end_at old r) x) es q e l (further (end_at old q) (end_at es q) (h.each q) same next how advances) (λ r n. h.each r);
 }
   where
     further : (a b : End) → HasFlushed a b → IsSame b e → e.next ≡ b.next → (e.flushed ≡ b.flushed) ⊎ (e.flushed ≡ e.next) → Advances b e → HasFlushed a e
@@ -217,12 +171,6 @@ flushed_set old es q e h l same next how advances = record {
         how_flushed (inr x) y = inr x
         how_flushed (inl x) (inl y) = inl (x ∙ y)
         how_flushed (inl x) (inr y) = inr (x ∙ y ∙ sym n)
-
-    at : (r : ℕ) → (r ≡ q) ⊎ (r ≡ q → ⊥) → HasFlushed (end_at old r) (end_at (slice_set es q e) r)
-    at r (inr n) = subst (λ x. HasFlushed (end_at old r) x) (sym (set_else es q r e n)) (h.each r)
-    at r (inl i) =
-        subst (λ k. HasFlushed (end_at old k) (end_at (slice_set es q e) k)) (sym i)
-        (subst (λ x. HasFlushed (end_at old q) x) (sym (set_here es q e l)) (further (end_at old q) (end_at es q) (h.each q) same next how advances))
 
 pub served_flushed : (t : Program) (lists : Lists) (p : ℕ) (old new : List End) → AreServed t lists p old → HaveFlushed old new → AreServed t lists p new
 served_flushed t lists p old new h f = record {
@@ -253,26 +201,10 @@ abbrev pub UpTo : ℕ → List End → Type 0
 UpTo n es = (r : ℕ) → r < n → IsFlushed (end_at es r)
 
 pub up_to_more : (es : List End) (n : ℕ) (e : End) → UpTo n es → n < length es → IsFlushed e → UpTo (n + 1) (slice_set es n e)
-up_to_more es n e h l is r less = by (same_or r n)
-  where
-    by : (r ≡ n) ⊎ (r ≡ n → ⊥) → IsFlushed (end_at (slice_set es n e) r)
-    by (inl i) = subst (λ k. IsFlushed (end_at (slice_set es n e) k)) (sym i) (subst IsFlushed (sym (set_here es n e l)) is)
-    by (inr x) = subst IsFlushed (sym (set_else es n r e x)) (h r (below r n (omega (arith, less)) x))
-      where
-        below : (r n : ℕ) → r < suc n → (r ≡ n → ⊥) → r < n
-        below zero zero l o = absurd (o refl)
-        below zero (suc n) l o = omega arith
-        below (suc r) zero l o = absurd (omega (arith, l))
-        below (suc r) (suc n) l o = let b = below r n (omega (arith, l)) (λ e. o (ap suc e)) in omega (arith, b)
+up_to_more es n e h l is = at_set (λ r x. r < n + 1 → IsFlushed x) es n e l (λ less. is) (λ r other less. h r (omega arith))
 
-past_none : (es : List End) (q : ℕ) → (q < length es) ⊎ (end_at es q ≡ nothing)
-past_none [] q = inr refl
-past_none (x ∷ es) zero = inl (omega arith)
-past_none (x ∷ es) (suc q) = by (past_none es q)
-  where
-    by : (q < length es) ⊎ (end_at es q ≡ nothing) → (suc q < length (x ∷ es)) ⊎ (end_at (x ∷ es) (suc q) ≡ nothing)
-    by (inl l) = inl (omega (arith, l))
-    by (inr e) = inr e
+pub past_none : (es : List End) (q : ℕ) → (q < length es) ⊎ (end_at es q ≡ nothing)
+past_none es q = ⊎_elim inl (λ l. inr (get_or_past es q nothing l)) (cases_lt q (length es))
 
 nothing_flushed : IsFlushed nothing
 nothing_flushed e = let h : false ≡ true = e in absurd cc
@@ -301,28 +233,19 @@ within_reads es q r = by (past_none es q)
     by (inl l) = l
     by (inr e) = absurd (none_true (sym (ap (λ (x : End). x.reads) e) ∙ r))
 
-stayed_self : (e : End) → HasStayed e e
+pub stayed_self : (e : End) → HasStayed e e
 stayed_self e = record { same = same_self e; next = refl; flushed = refl; ready = λ r. r }
 
 -- one end stays so
 pub stayed_set : (es : List End) (q : ℕ) (e : End) → q < length es → HasStayed (end_at es q) e → HaveStayed es (slice_set es q e)
-stayed_set es q e l s = record {
-  count = length-set es q e;
-  each = λ r. at r (same_or r q);
-}
-  where
-    at : (r : ℕ) → (r ≡ q) ⊎ (r ≡ q → ⊥) → HasStayed (end_at es r) (end_at (slice_set es q e) r)
-    at r (inr n) = subst (λ x. HasStayed (end_at es r) x) (sym (set_else es q r e n)) (stayed_self (end_at es r))
-    at r (inl i) =
-        subst (λ k. HasStayed (end_at es k) (end_at (slice_set es q e) k)) (sym i)
-        (subst (λ x. HasStayed (end_at es q) x) (sym (set_here es q e l)) s)
+stayed_set es q e l s = record { count = length-set es q e; each = at_set (λ r x. HasStayed (end_at es r) x) es q e l s (λ r n. stayed_self (end_at es r)) }
 
 -- two ends stay so, of which one was away meanwhile
 pub stayed_two : (es : List End) (o q : ℕ) (none w r : End) → (o ≡ q → ⊥) → o < length es → q < length es → HasStayed (end_at es o) w →
     HasStayed (end_at es q) r → HaveStayed es (slice_set (slice_set (slice_set es q none) o w) q r)
 stayed_two es o q none w r apart lo lq sw sr = record {
   count = length-set (slice_set away o w) q r ∙ length-set away o w ∙ length-set es q none;
-  each = λ k. at k (same_or k q) (same_or k o);
+  each = at_set (λ k x. HasStayed (end_at es k) x) (slice_set away o w) q r there sr (λ k n. others k n);
 }
   where
     away : List End
@@ -334,17 +257,9 @@ stayed_two es o q none w r apart lo lq sw sr = record {
     here : o < length away
     here = let two = length-set es q none in omega (arith, two, lo)
 
-    at : (k : ℕ) → (k ≡ q) ⊎ (k ≡ q → ⊥) → (k ≡ o) ⊎ (k ≡ o → ⊥) → HasStayed (end_at es k) (end_at (slice_set (slice_set away o w) q r) k)
-    at k (inl i) y =
-        subst (λ k. HasStayed (end_at es k) (end_at (slice_set (slice_set away o w) q r) k)) (sym i)
-        (subst (λ x. HasStayed (end_at es q) x) (sym (set_here (slice_set away o w) q r there)) sr)
-    at k (inr n) (inl i) =
-        subst (λ x. HasStayed (end_at es k) x) (sym (set_else (slice_set away o w) q k r n))
-        (subst (λ k. HasStayed (end_at es k) (end_at (slice_set away o w) k)) (sym i)
-        (subst (λ x. HasStayed (end_at es o) x) (sym (set_here away o w here)) sw))
-    at k (inr n) (inr m) =
-        subst (λ x. HasStayed (end_at es k) x) (sym (set_else (slice_set away o w) q k r n ∙ set_else away o k w m ∙ set_else es q k none n))
-        (stayed_self (end_at es k))
+    others : (k : ℕ) → (k ≡ q → ⊥) → HasStayed (end_at es k) (end_at (slice_set away o w) k)
+    others k n = at_set (λ k x. (k ≡ q → ⊥) → HasStayed (end_at es k) x) away o w here (λ n. sw)
+        (λ k m n. subst (λ x. HasStayed (end_at es k) x) (sym (set_else es q k none n)) (stayed_self (end_at es k))) k n
 
 pub served_stayed : (t : Program) (lists : Lists) (p : ℕ) (old new : List End) → AreServed t lists p old → HaveStayed old new → AreServed t lists p new
 served_stayed t lists p old new h f = record {
@@ -352,11 +267,6 @@ served_stayed t lists p old new h f = record {
   each = λ q. still_serves t lists (actual_at (instance_at (network_of t) p) q) (end_at old q) (end_at new q) (f.each q).same (h.each q);
   behind = λ q. let was = h.behind q in let one = (f.each q).next in let two = (f.each q).flushed in omega (arith, was, one, two);
 }
-
-any_end : (es : List End) (q : ℕ) (d : End) → q < length es → slice_index_or es q d ≡ end_at es q
-any_end [] q d l = absurd (omega (arith, l))
-any_end (x ∷ es) zero d l = refl
-any_end (x ∷ es) (suc q) d l = any_end es q d (le_of_suc-le-suc l)
 
 -- an end that is away meets another one, and comes back
 module _ (es : List End) (o q : ℕ) (apart : o ≡ q → ⊥) (writes : (end_at es o).writes ≡ true) (reads : (end_at es q).reads ≡ true) (none d a : End)

@@ -1,6 +1,9 @@
 -- The ends of a channel come to the parameters that it is handed to.
-use Rattle.std.proofs.Common.{arith, ◌≡◌, ◌⊎◌, inl, inr, ℕ, zero, suc, ◌+◌, ◌<◌, List, [], ◌∷◌, ◌++◌, length, replicate, refl, sym, ap, ◌∙◌, subst, true, false, Option, Some, None, slice_set, slice_index_or, le_of_suc-le-suc}
-use Rattle.std.proofs.lemmas.List.{length-set}
+use Rattle.std.proofs.Common.{arith, ◌≡◌, ◌⊎◌, inl, inr, ℕ, ◌+◌, ◌<◌, List, [], length, refl, sym, ap, ◌∙◌, subst, true, false, Option, Some, None, slice_set, slice_index_or}
+use Rattle.std.proofs.lemmas.Bool.{cases_eq}
+pub use Rattle.std.proofs.lemmas.List.{replicate_more}
+use Rattle.std.proofs.lemmas.List.{length-set, get_or-set_same, get_or-set_other}
+use Rattle.std.proofs.lemmas.Option.{none-some, same_Some}
 use Rattle.kahn_tree.specs.declared.tree.Program.{Program}
 use Rattle.kahn_tree.specs.declared.tree.Role.{Role}
 use Rattle.kahn_tree.specs.declared.tree.Role.TheVariants.{Inner, Input, Output}
@@ -18,37 +21,11 @@ use Rattle.kahn_job.specs.Berths.{Serves, end_at}
 use Rattle.kahn_job.specs.Openings.{AreEndsOf, AreHanded, IsFresh, end_in, placed}
 use Rattle.kahn_job.proofs.Berthed as ends
 
-pub replicate_more : (n : ℕ) (e : End) → replicate n e ++ e ∷ [] ≡ replicate (n + 1) e
-replicate_more n e = more n ∙ ap (λ k. replicate k e) step
-  where
-    more : (n : ℕ) → replicate n e ++ e ∷ [] ≡ replicate (suc n) e
-    more zero = refl
-    more (suc n) = ap (λ l. e ∷ l) (more n)
-
-    step : suc n ≡ n + 1
-    step = omega arith
-
-same_or : (d c : ℕ) → (d ≡ c) ⊎ (d ≡ c → ⊥)
-same_or zero zero = inl refl
-same_or zero (suc c) = inr (λ e. absurd (omega (arith, e)))
-same_or (suc d) zero = inr (λ e. absurd (omega (arith, e)))
-same_or (suc d) (suc c) = step (same_or d c)
-  where
-    step : (d ≡ c) ⊎ (d ≡ c → ⊥) → (suc d ≡ suc c) ⊎ (suc d ≡ suc c → ⊥)
-    step (inl e) = inl (ap suc e)
-    step (inr n) = inr (λ e. n (omega (arith, e)))
-
 pub row_here : (rows : List (List End)) (p : ℕ) (r : List End) → p < length rows → slice_index_or (slice_set rows p r) p [] ≡ r
-row_here [] p r l = absurd (omega (arith, l))
-row_here (x ∷ rows) zero r l = refl
-row_here (x ∷ rows) (suc p) r l = row_here rows p r (le_of_suc-le-suc l)
+row_here rows p r l = get_or-set_same rows p r [] l
 
 pub row_else : (rows : List (List End)) (p o : ℕ) (r : List End) → (o ≡ p → ⊥) → slice_index_or (slice_set rows p r) o [] ≡ slice_index_or rows o []
-row_else [] p o r n = refl
-row_else (x ∷ rows) zero zero r n = absurd (n refl)
-row_else (x ∷ rows) zero (suc o) r n = refl
-row_else (x ∷ rows) (suc p) zero r n = refl
-row_else (x ∷ rows) (suc p) (suc o) r n = row_else rows p o r (λ e. n (ap suc e))
+row_else rows p o r n = get_or-set_other rows p o r [] n
 
 -- where an end belongs there is a place for it
 abbrev pub HasPlace : List (List End) → Option Side → Type 0
@@ -60,15 +37,9 @@ Found rows side e p q =
     ((side ≡ Some (side_at p q)) × (end_in (placed rows side e) p q ≡ e))
     ⊎ ((side ≡ Some (side_at p q) → ⊥) × (end_in (placed rows side e) p q ≡ end_in rows p q))
 
-none_some : {s : Side} → None ≡ Some s → ⊥
-none_some e = cc
-
-some_one : {s u : Side} → Some s ≡ Some u → s ≡ u
-some_one e = cc
-
 pub found : (rows : List (List End)) (side : Option Side) (e : End) → HasPlace rows side → (p q : ℕ) → Found rows side e p q
-found rows None e h p q = inr (none_some, refl)
-found rows (Some s) e h p q = by (same_or p s.instance) (same_or q s.parameter)
+found rows None e h p q = inr (none-some (side_at p q), refl)
+found rows (Some s) e h p q = by (cases_eq p s.instance) (cases_eq q s.parameter)
   where
     row : List End
     row = slice_set (slice_index_or rows s.instance []) s.parameter e
@@ -77,9 +48,9 @@ found rows (Some s) e h p q = by (same_or p s.instance) (same_or q s.parameter)
     l = h s refl
 
     by : (p ≡ s.instance) ⊎ (p ≡ s.instance → ⊥) → (q ≡ s.parameter) ⊎ (q ≡ s.parameter → ⊥) → Found rows (Some s) e p q
-    by (inr n) y = inr (λ i. n (ap (λ (u : Side). u.instance) (sym (some_one i))), ap (λ r. end_at r q) (row_else rows s.instance p row n))
+    by (inr n) y = inr (λ i. n (ap (λ (u : Side). u.instance) (sym (same_Some _ _ i))), ap (λ r. end_at r q) (row_else rows s.instance p row n))
     by (inl x) (inr n) = inr (
-      λ i. n (ap (λ (u : Side). u.parameter) (sym (some_one i))),
+      λ i. n (ap (λ (u : Side). u.parameter) (sym (same_Some _ _ i))),
       ap (λ k. end_at (slice_index_or (slice_set rows s.instance row) k []) q) x ∙ ap (λ r. end_at r q) (row_here rows s.instance row l.0) ∙
           ends.set_else (slice_index_or rows s.instance []) s.parameter q e n ∙ ap (λ k. end_at (slice_index_or rows k []) q) (sym x),
     )
@@ -96,7 +67,7 @@ placed_count rows (Some s) e = length-set rows s.instance (slice_set (slice_inde
 pub placed_sizes : (rows : List (List End)) (side : Option Side) (e : End) → HasPlace rows side → (p : ℕ) →
     length (slice_index_or (placed rows side e) p []) ≡ length (slice_index_or rows p [])
 placed_sizes rows None e h p = refl
-placed_sizes rows (Some s) e h p = by (same_or p s.instance)
+placed_sizes rows (Some s) e h p = by (cases_eq p s.instance)
   where
     row : List End
     row = slice_set (slice_index_or rows s.instance []) s.parameter e
@@ -116,8 +87,8 @@ has_place t lists k rows side P h w only s e =
     let i = w s (at side only e) in (subst (λ n. s.instance < n) (sym h.count) i.0, subst (λ n. s.parameter < n) (sym (h.sizes s.instance)) i.1)
   where
     at : (o : Option Side) → IsOnly P o → o ≡ Some s → P s
-    at None none e = absurd (none_some e)
-    at (Some u) one e = subst P (some_one e) one.0
+    at None none e = absurd (none-some s e)
+    at (Some u) one e = subst P (same_Some _ _ e) one.0
 
 -- the one that passes is the one that was found
 only_one : (P : Side → Type 0) (side : Option Side) (s : Side) → IsOnly P side → P s → side ≡ Some s
@@ -125,8 +96,8 @@ only_one P None s none p = absurd (none s p)
 only_one P (Some u) s one p = ap Some (sym (one.1 s p))
 
 only_passes : (P : Side → Type 0) (side : Option Side) (s : Side) → IsOnly P side → side ≡ Some s → P s
-only_passes P None s none e = absurd (none_some e)
-only_passes P (Some u) s one e = subst P (some_one e) one.0
+only_passes P None s none e = absurd (none-some s e)
+only_passes P (Some u) s one e = subst P (same_Some _ _ e) one.0
 
 not_output : (r : Role) → (r ≡ Input → ⊥) → is_output r ≡ false → r ≡ Inner
 not_output Inner n e = refl
@@ -173,7 +144,7 @@ module _ (t : Program) (wired : IsWellWired t) (lists : Lists) (c : ℕ) (x y : 
     -- what was handed over before is none of this channel
     before : (p q d : ℕ) (a : Actual) → actual_at (instance_at N p) q ≡ a → (w ≡ Some (side_at p q) → ⊥) → (r ≡ Some (side_at p q) → ⊥) →
         Joins a d → d < c + 1 → Serves t lists (actual_at (instance_at N p) q) (end_in rows p q)
-    before p q d a is nw nr j l = by (same_or d c)
+    before p q d a is nw nr j l = by (cases_eq d c)
       where
         here : (a : Actual) → actual_at (instance_at N p) q ≡ a → Joins a c → ⊥
         here (Reads b) i j =
@@ -184,15 +155,9 @@ module _ (t : Program) (wired : IsWellWired t) (lists : Lists) (c : ℕ) (x y : 
             nw (only_one (IsWriter N c) w (side_at p q) ow (handed_within N p q c (subst (λ a. Joins a c) (sym i) j), at))
         here (Hands v) i j = j
 
-        less : (d c : ℕ) → d < suc c → (d ≡ c → ⊥) → d < c
-        less zero zero l o = absurd (o refl)
-        less zero (suc c) l o = omega arith
-        less (suc d) zero l o = absurd (omega (arith, l))
-        less (suc d) (suc c) l o = let b = less d c (omega (arith, l)) (λ e. o (ap suc e)) in omega (arith, b)
-
         by : (d ≡ c) ⊎ (d ≡ c → ⊥) → Serves t lists (actual_at (instance_at N p) q) (end_in rows p q)
         by (inl s) = absurd (here a is (subst (Joins a) s j))
-        by (inr n) = h.each p q d (subst (λ a. Joins a d) (sym is) j) (less d c (omega (arith, l)) n)
+        by (inr n) = h.each p q d (subst (λ a. Joins a d) (sym is) j) (omega arith)
 
     writer_end : (p o : ℕ) → actual_at (instance_at N p) o ≡ Writes c → Found first r y p o → Found rows w x p o → end_in (placed first r y) p o ≡ x
     writer_end p o i (inl a) b = let e : Reads c ≡ Writes c = sym (only_passes (IsReader N c) r (side_at p o) oo a.0).1 ∙ i in absurd cc
@@ -234,23 +199,14 @@ module _ (t : Program) (wired : IsWellWired t) (lists : Lists) (c : ℕ) (x y : 
         (sym (else_end p o d (subst (λ a. Joins a d) (sym i) refl) n (found first r y place_r p o) (found rows w x place_w p o)))
         (subst (λ z. ShareLane (end_in rows p o) z)
         (sym (else_end s q d (subst (λ a. Joins a d) (sym j) refl) n (found first r y place_r s q) (found rows w x place_w s q)))
-        (h.joined p s o q d i j (less d c l n)))
-      where
-        less : (d c : ℕ) → d < c + 1 → (d ≡ c → ⊥) → d < c
-        less d c l n = nearer d c (omega (arith, l)) n
-          where
-            nearer : (d c : ℕ) → d < suc c → (d ≡ c → ⊥) → d < c
-            nearer zero zero l o = absurd (o refl)
-            nearer zero (suc c) l o = omega arith
-            nearer (suc d) zero l o = absurd (omega (arith, l))
-            nearer (suc d) (suc c) l o = let b = nearer d c (omega (arith, l)) (λ e. o (ap suc e)) in omega (arith, b)
+        (h.joined p s o q d i j (omega arith)))
 
     pub handed_more : AreHanded t lists (c + 1) (placed first r y)
     handed_more = record {
       count = placed_count first r y ∙ placed_count rows w x ∙ h.count;
       sizes = λ p. placed_sizes first r y place_r p ∙ placed_sizes rows w x place_w p ∙ h.sizes p;
       each = λ p q d j l. at p q d j l (found first r y place_r p q) (found rows w x place_w p q);
-      joined = λ p s o q d i j l. both_ends p s o q d i j l (same_or d c);
+      joined = λ p s o q d i j l. both_ends p s o q d i j l (cases_eq d c);
       fresh = λ p q. new p q (found first r y place_r p q) (found rows w x place_w p q);
     }
       where

@@ -1,7 +1,8 @@
 -- Jobs on which nobody works: what changes where one of them gets another end, and how one goes on.
-use Rattle.std.proofs.Common.{arith, ◌≡◌, ◌⊎◌, inl, inr, ℕ, zero, suc, ◌<◌, ◌≤◌, List, [], ◌∷◌, length, refl, sym, ap, ◌∙◌, subst, slice_set, slice_index_or, le_of_suc-le-suc, None, slice_get, Some}
+use Rattle.std.proofs.Common.{arith, ◌≡◌, ◌⊎◌, inl, inr, ℕ, zero, suc, ◌<◌, ◌≤◌, List, [], ◌∷◌, length, refl, sym, ap, ◌∙◌, subst, slice_set, slice_index_or, le_of_suc-le-suc, slice_get, Some}
 use Rattle.std.proofs.lemmas.List.{get_or_past}
 use Rattle.std.proofs.lemmas.Option.{slice_get_within}
+use Rattle.std.proofs.lemmas.Option.{none-some, same_Some}
 use Rattle.kahn_tree.specs.declared.tree.Program.{Program}
 use Rattle.kahn_streams.specs.Laws.{AreInputsExtended}
 use Rattle.kahn_network.specs.Network.{Actual, Reads, Writes, Hands, network_of, instance_at, actual_at, idle}
@@ -82,12 +83,6 @@ all_settled t wired lists old new g = record {
     serves p q (Hands v) i b = tt
 
 -- ---- jobs come to rest
-
-none_some : {A : Type 0} {x : A} → None ≡ Some x → ⊥
-none_some e = cc
-
-some_same : {A : Type 0} (x y : A) → Some x ≡ Some y → x ≡ y
-some_same x y e = ap (λ o. elim o [ None ↦ x | Some z ↦ z ]) e
 
 -- the job of an instance, or there is none
 abbrev Here : List Work → ℕ → Type 0
@@ -172,9 +167,9 @@ module _ (t : Program) (lists : Lists) (ws : List Work) (h : AreTogether t lists
 
 pub cell_there : (ns os : List Work) → cells_of ns ≡ cells_of os → (p : ℕ) (w : Work) → slice_get ns p ≡ Some w →
     (x : Work) × (slice_get os p ≡ Some x) × (w.cell ≡ x.cell)
-cell_there [] os c p w e = absurd (none_some e)
+cell_there [] os c p w e = absurd (none-some _ e)
 cell_there (n ∷ ns) [] c p w e = absurd cc
-cell_there (n ∷ ns) (o ∷ os) c zero w e = (o, refl, ap (λ (z : Work). z.cell) (sym (some_same n w e)) ∙ first c)
+cell_there (n ∷ ns) (o ∷ os) c zero w e = (o, refl, ap (λ (z : Work). z.cell) (sym (same_Some n w e)) ∙ first c)
   where
     first : n.cell ∷ cells_of ns ≡ o.cell ∷ cells_of os → n.cell ≡ o.cell
     first e = cc
@@ -184,8 +179,8 @@ cell_there (n ∷ ns) (o ∷ os) c (suc p) w e = cell_there ns os (rest c) p w e
     rest e = cc
 
 pub row_there : (xs : List Work) (p : ℕ) (w : Work) → slice_get xs p ≡ Some w → slice_index_or (rows_of xs) p [] ≡ w.ends
-row_there [] p w e = absurd (none_some e)
-row_there (x ∷ xs) zero w e = ap (λ (z : Work). z.ends) (some_same x w e)
+row_there [] p w e = absurd (none-some _ e)
+row_there (x ∷ xs) zero w e = ap (λ (z : Work). z.ends) (same_Some x w e)
 row_there (x ∷ xs) (suc p) w e = row_there xs p w e
 
 pub cells_count : (ns os : List Work) → cells_of ns ≡ cells_of os → length ns ≡ length os

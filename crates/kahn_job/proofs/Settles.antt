@@ -1,5 +1,7 @@
 -- The ends of channels go on with an input that has grown, channel by channel.
-use Rattle.std.proofs.Common.{arith, ◌≡◌, ◌⊎◌, inl, inr, ℕ, zero, suc, ◌+◌, ◌<◌, ◌≤◌, Bool, true, false, List, length, refl, sym, ap, ◌∙◌, subst, None, Some, Result, Ok, Err, MatchResult}
+use Rattle.std.proofs.Common.{arith, ◌≡◌, ◌⊎◌, inl, inr, ⊎_elim, ℕ, ◌+◌, ◌<◌, ◌≤◌, Bool, true, false, List, length, refl, sym, ap, ◌∙◌, subst, None, Some, Result, Ok, Err, MatchResult}
+use Rattle.std.proofs.lemmas.Bool.{cases_eq}
+use Rattle.std.proofs.lemmas.Option.{same_Some}
 use Rattle.kahn_tree.specs.declared.tree.Program.{Program}
 use Rattle.kahn_tree.specs.declared.tree.Role.{Role}
 use Rattle.kahn_tree.specs.declared.tree.Role.TheVariants.{Inner, Input, Output}
@@ -23,23 +25,10 @@ use Rattle.kahn_job.specs.Settling.{AreAlike, AreElsewhere, AreResting, AreSettl
 use Rattle.kahn_job.proofs.Handed as handed
 use Rattle.kahn_job.proofs.Handed.{found, placed_count, placed_sizes}
 
-same_or : (d c : ℕ) → (d ≡ c) ⊎ (d ≡ c → ⊥)
-same_or zero zero = inl refl
-same_or zero (suc c) = inr (λ e. absurd (omega (arith, e)))
-same_or (suc d) zero = inr (λ e. absurd (omega (arith, e)))
-same_or (suc d) (suc c) = step (same_or d c)
-  where
-    step : (d ≡ c) ⊎ (d ≡ c → ⊥) → (suc d ≡ suc c) ⊎ (suc d ≡ suc c → ⊥)
-    step (inl e) = inl (ap suc e)
-    step (inr n) = inr (λ e. n (omega (arith, e)))
-
-some_one : {s u : Side} → Some s ≡ Some u → s ≡ u
-some_one e = cc
-
 -- ---- ends that come and go
 
 option_place : (rows : List (List End)) (s : Side) → HasPlace rows s → handed.HasPlace rows (Some s)
-option_place rows s h u e = subst (HasPlace rows) (some_one e) h
+option_place rows s h u e = subst (HasPlace rows) (same_Some _ _ e) h
 
 pub kept_place : (rows : List (List End)) (s u : Side) (e : End) → HasPlace rows s → HasPlace rows u → HasPlace (placed rows (Some s) e) u
 kept_place rows s u e hs hu = (
@@ -59,7 +48,7 @@ else_at : (rows : List (List End)) (s : Side) (e : End) → HasPlace rows s → 
 else_at rows s e h p q n = by (found rows (Some s) e (option_place rows s h) p q)
   where
     by : handed.Found rows (Some s) e p q → end_in (placed rows (Some s) e) p q ≡ end_in rows p q
-    by (inl a) = absurd (n (sym (some_one a.0)))
+    by (inl a) = absurd (n (sym (same_Some _ _ a.0)))
     by (inr b) = b.1
 
 -- either it is this one or it isn't
@@ -67,7 +56,7 @@ side_or : (rows : List (List End)) (s : Side) → HasPlace rows s → (p q : ℕ
 side_or rows s h p q = by (found rows (Some s) nothing (option_place rows s h) p q)
   where
     by : handed.Found rows (Some s) nothing p q → (side_at p q ≡ s) ⊎ (side_at p q ≡ s → ⊥)
-    by (inl a) = inl (sym (some_one a.0))
+    by (inl a) = inl (sym (same_Some _ _ a.0))
     by (inr b) = inr (λ e. b.0 (ap Some (sym e)))
 
 -- two ends were taken out, and two came back
@@ -328,12 +317,12 @@ module _ (t : Program) (wired : IsWellWired t) (lists : Lists) (rows : List (Lis
     -- either the end is one of this channel, and has settled, or it is as it was
     end_or : (new : List (List End)) → AreSettled t lists (λ d. d ≡ c) rows new → (p q : ℕ) (a : Actual) → actual_at (instance_at N p) q ≡ a →
         HasSettled (lane_name t lists c) (end_in rows p q) (end_in new p q) ⊎ (end_in new p q ≡ end_in rows p q)
-    end_or new s p q (Reads d) i = by (same_or d c)
+    end_or new s p q (Reads d) i = by (cases_eq d c)
       where
         by : (d ≡ c) ⊎ (d ≡ c → ⊥) → HasSettled (lane_name t lists c) (end_in rows p q) (end_in new p q) ⊎ (end_in new p q ≡ end_in rows p q)
         by (inl e) = inl (s.each p q c (carried_read p q c (i ∙ ap Reads e)) refl)
         by (inr n) = inr (s.others p q (λ b j e. n (subst (λ a. Joins a b) i j.0 ∙ e)))
-    end_or new s p q (Writes d) i = by (same_or d c) (is_output (role_at N d)) refl
+    end_or new s p q (Writes d) i = by (cases_eq d c) (is_output (role_at N d)) refl
       where
         by : (d ≡ c) ⊎ (d ≡ c → ⊥) → (b : Bool) → is_output (role_at N d) ≡ b →
             HasSettled (lane_name t lists c) (end_in rows p q) (end_in new p q) ⊎ (end_in new p q ≡ end_in rows p q)
@@ -363,7 +352,7 @@ module _ (t : Program) (wired : IsWellWired t) (lists : Lists) (rows : List (Lis
       sizes = λ p. s.sizes p ∙ h.sizes p;
       each = λ p q. served p q (actual_at (instance_at N p) q) refl (h.each p q);
       behind = λ p q. behind p q (end_or new s p q (actual_at (instance_at N p) q) refl);
-      joined = λ p u o q d i j. share p u o q d i j (same_or d c);
+      joined = λ p u o q d i j. share p u o q d i j (cases_eq d c);
     }
       where
         behind : (p q : ℕ) → HasSettled (lane_name t lists c) (end_in rows p q) (end_in new p q) ⊎ (end_in new p q ≡ end_in rows p q) →
@@ -375,14 +364,14 @@ module _ (t : Program) (wired : IsWellWired t) (lists : Lists) (rows : List (Lis
         now d e n = (lists, n, λ k. prefix_refl (inputs_of lists k))
 
         served : (p q : ℕ) (a : Actual) → actual_at (instance_at N p) q ≡ a → ServedBefore t lists a (end_in rows p q) → ServedBefore t lists a (end_in new p q)
-        served p q (Reads d) i b = by (same_or d c)
+        served p q (Reads d) i b = by (cases_eq d c)
           where
             by : (d ≡ c) ⊎ (d ≡ c → ⊥) → ServedBefore t lists (Reads d) (end_in new p q)
             by (inl e) =
                 let x = s.each p q d (carried_read p q d i) e in
                 (x.reads ∙ b.0, now d (end_in new p q) x.named, λ r. x.bare (b.2 r))
             by (inr n) = subst (ServedBefore t lists (Reads d)) (sym (s.others p q (λ k j e. n (subst (λ a. Joins a k) i j.0 ∙ e)))) b
-        served p q (Writes d) i b = λ o. by (same_or d c) o
+        served p q (Writes d) i b = λ o. by (cases_eq d c) o
           where
             by : (d ≡ c) ⊎ (d ≡ c → ⊥) → is_output (role_at N d) ≡ false → ((end_in new p q).writes ≡ true) × IsOfBefore t lists d (end_in new p q)
             by (inl e) o =
@@ -406,17 +395,7 @@ joins_one (Writes b) c d i j = sym i ∙ j
 joins_one (Hands v) c d i j = absurd i
 
 below_or : (d k : ℕ) → d < k + 1 → (d < k) ⊎ (d ≡ k)
-below_or d k l = by (same_or d k)
-  where
-    nearer : (d k : ℕ) → d < suc k → (d ≡ k → ⊥) → d < k
-    nearer zero zero l o = absurd (o refl)
-    nearer zero (suc k) l o = omega arith
-    nearer (suc d) zero l o = absurd (omega (arith, l))
-    nearer (suc d) (suc k) l o = let b = nearer d k (omega (arith, l)) (λ e. o (ap suc e)) in omega (arith, b)
-
-    by : (d ≡ k) ⊎ (d ≡ k → ⊥) → (d < k) ⊎ (d ≡ k)
-    by (inl e) = inr e
-    by (inr n) = inl (nearer d k (omega (arith, l)) n)
+below_or d k l = ⊎_elim inr (λ n. inl (omega arith)) (cases_eq d k)
 
 pub none_settled : (t : Program) (lists : Lists) (rows : List (List End)) → AreSettled t lists (λ c. c < 0) rows rows
 none_settled t lists rows = record {

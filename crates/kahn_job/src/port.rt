@@ -113,6 +113,7 @@ impl Port {
         ensures advances { Advances self.old self.new }
         ensures counts { (self.new.next ≡ self.old.next) × (self.new.known ≡ self.old.known) }
         ensures asked { self.new.asked ≡ self.old.left }
+        ensures keeps { IsReady self.old → IsReady self.new }
         ensures yes { IsTrue result → IsReady self.new }
         ensures dry { IsFalse result → IsDry self.new }
     {
@@ -159,6 +160,7 @@ impl Port {
         ensures advances { Advances self.old self.new }
         ensures counts { (self.new.next ≡ self.old.next) × ((self.new.flushed ≡ self.old.flushed) ⊎ (self.new.flushed ≡ self.old.next)) }
         ensures room { OnOk result (HasRoom self.new) }
+        ensures keeps { IsReady self.old → IsReady self.new }
     {
         match &mut self.way {
             Way::Takes(_, _) => Ok(()),
@@ -177,6 +179,7 @@ impl Port {
         ensures same { IsSame self.old self.new }
         ensures advances { Advances self.old self.new }
         ensures moved { (self.new.next ≡ self.old.next + 1) × (self.new.flushed ≡ self.old.flushed) }
+        ensures keeps { IsReady self.old → IsReady self.new }
     {
         match &mut self.way {
             Way::Takes(_, _) => {}
@@ -193,6 +196,7 @@ impl Port {
         ensures counts { (self.new.next ≡ self.old.next) × (self.new.known ≡ self.old.known) }
         ensures flushed { MatchResult result (λ _. IsFlushed self.new) (λ _. self.new.flushed ≡ self.old.flushed) }
         ensures all { (self.new.flushed ≡ self.old.flushed) ⊎ (self.new.flushed ≡ self.new.next) }
+        ensures room { HasRoom self.old → HasRoom self.new }
     {
         match &mut self.way {
             Way::Takes(_, _) => {}

@@ -129,11 +129,13 @@ impl<A: Allocator + Clone + Drop> Sender<A> {
     }
 
     /// Flushes the open segment, so that the reader can take its tokens, and answers how many tokens were flushed so
-    /// far, which is all that were put. Where memory is refused the segment stays open. An empty one needs none.
+    /// far, which is all that were put. Where memory is refused the segment stays open. An empty one needs none. Where there
+    /// was place for one token there is still.
     pub fn flush(&mut self) -> Result<u64, NoMemory>
         ensures same { SameSender self.old self.new × (sent self.new ≡ sent self.old) }
         ensures flushed { MatchResult result (λ n. (n ≡ sent self.old) × (flushed self.new ≡ sent self.old)) (λ _. flushed self.new ≡ flushed self.old) }
         ensures idle { sent self.old ≡ flushed self.old → IsOk result }
+        ensures room { HasRoom self.old → HasRoom self.new }
     {
         match self.current.len() {
             0 => Ok(self.flushed),
@@ -147,6 +149,7 @@ impl<A: Allocator + Clone + Drop> Sender<A> {
         requires { filled self.old ≡ 1 }
         ensures same { SameSender self.old self.new × (sent self.new ≡ sent self.old) }
         ensures flushed { MatchResult result (λ n. (n ≡ sent self.old) × (flushed self.new ≡ sent self.old)) (λ _. flushed self.new ≡ flushed self.old) }
+        ensures room { HasRoom self.old → HasRoom self.new }
     {
         let Ok(alloc) = self.current.allocator().clone() else {
             return Err(NoMemory);
@@ -168,17 +171,21 @@ impl<A: Allocator + Clone + Drop> Sender<A> {
         }
     }
 
-    // Flushes the open segment with its list.
+    // Flushes the open segment with its list, once there is another.
     fn flush_list(&mut self) -> Result<u64, NoMemory>
         requires { 0 < filled self.old }
         ensures same { SameSender self.old self.new × (sent self.new ≡ sent self.old) }
         ensures flushed { MatchResult result (λ n. (n ≡ sent self.old) × (flushed self.new ≡ sent self.old)) (λ _. flushed self.new ≡ flushed self.old) }
+        ensures room { HasRoom self.old → HasRoom self.new }
     {
         let Ok(alloc) = self.current.allocator().clone() else {
             return Err(NoMemory);
         };
+        let Ok(next) = Vec::with_capacity(alloc, SEGMENT) else {
+            return Err(NoMemory);
+        };
         let count = self.current.len() as u64;
-        let tokens = mem::replace(&mut self.current, Vec::new(alloc));
+        let tokens = mem::replace(&mut self.current, next);
         match self.worker.push_as::<Flushed>(Segment {
             tag: None,
             alone: None,

@@ -9,7 +9,7 @@ use Rattle.kahn_streams.specs.Script.{Dry, Cut, Got, Fault}
 use Rattle.kahn_streams.specs.Meaning.{Store}
 use Rattle.kahn_streams.specs.Solution as net
 use Rattle.kahn_network.specs.Network.{Network, Instance, idle, Reads, Writes, Hands, instance_at, actual_at, Source, Given, Written, Nobody}
-use Rattle.kahn_streams.specs.Solution.{Histories, Inputs, tape_of, tapes_of, exec_at, out, values_at, goes_to, source, fed, input_list, iterate, IsPrefix, Stands, IsWhole, HasEnd, Ending, ending}
+use Rattle.kahn_streams.specs.Solution.{Histories, Inputs, tapes_of, exec_at, out, values_at, goes_to, source, fed, input_list, iterate, IsPrefix, Stands, IsWhole, HasEnd, Ending, ending}
 use Rattle.kahn_streams.specs.Laws.{IsExtended, IsQuiet, IsSettled, KeepsTape}
 use Rattle.kahn_streams.proofs.Frame.{begins_nil}
 use Rattle.kahn_streams.proofs.Proved.{prefix_refl, prefix_trans, Feeds, out_grows, chain, solves, fits_all}
@@ -25,7 +25,8 @@ use Rattle.kahn_pool.specs.declared.answer.Outcome.{Outcome}
 use Rattle.kahn_pool.specs.declared.answer.Outcome.TheVariants.{Ended, Waits, Faulted, More}
 use Rattle.kahn_pool.specs.Right.{IsRight, IsOutcome, IsWaiting, IsDryOn, IsEnd, HasStream, events_of, values_of}
 use Rattle.kahn_pool.specs.Gathered.{IsGathered, IsStopped, Stood, nothing, view_at, IsAtRest, IsFrom, IsGiven, IsTold, tapes_from}
-use Rattle.kahn_pool.proofs.Lists.{stand_in, prefix_stands, both_stand, all_of_it, more_of_it, map_get}
+use Rattle.kahn_code.proofs.Lists.{stand_in}
+use Rattle.kahn_pool.proofs.Lists.{prefix_stands, both_stand, all_of_it, more_of_it, map_get}
 use Rattle.kahn_pool.proofs.Events.{same_sends, same_outcome, next_event, Moves}
 
 -- ---- the ends of a run that stopped

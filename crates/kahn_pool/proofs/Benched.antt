@@ -1,5 +1,5 @@
 -- Cells that stand where their queues stand.
-use Rattle.std.proofs.Common.{arith, ◌≡◌, inl, inr, ℕ, zero, suc, ◌+◌, ◌<◌, ◌≤◌, List, length, map, refl, sym, ap, ◌∙◌, subst, Option, Some, slice_get, slice_set, slice_index_or, false, length-set}
+use Rattle.std.proofs.Common.{arith, ◌≡◌, inl, inr, ℕ, ◌+◌, ◌<◌, ◌≤◌, List, length, map, refl, sym, ap, ◌∙◌, subst, Option, Some, slice_get, slice_set, slice_index_or, false, length-set}
 use Rattle.std.proofs.Math.Seq.{map-set_same}
 use Rattle.std.proofs.lemmas.List.{map-set}
 use Rattle.std.proofs.lemmas.Option.{get_or_from_slice_get, slice_get_read}
@@ -329,11 +329,5 @@ module _ {b : Table} (laid : IsLaid b) (p : ℕ) {c : Told} (at : slice_get b.ce
         let s = (subst (λ z. IsPause (network_of c'.network) c'.instance dry ready (c'.events ≡ c.events + quantum) z (exec_on (network_of c'.network) c'.events c'.instance h.stood.tapes).outcome) e h.is).1 in
         let x = before in
         let y = after in
-        let l : c'.events < c.events + quantum = less c'.events (c.events + quantum) most s in
+        let l : c'.events < c.events + quantum = omega (arith, most, s) in
         omega (arith, l, x, y)
-      where
-        less : (m n : ℕ) → m ≤ n → (m ≡ n → ⊥) → m < n
-        less zero zero le other = absurd (other refl)
-        less zero (suc n) le other = omega arith
-        less (suc m) zero le other = absurd (omega (arith, le))
-        less (suc m) (suc n) le other = let r = less m n (omega (arith, le)) (λ e. other (ap suc e)) in omega (arith, r)

@@ -1,5 +1,5 @@
 -- The ends of tasks.
-use Rattle.std.proofs.Common.{arith, ◌≡◌, ◌⊎◌, inl, inr, ℕ, zero, suc, ◌<◌, List, [], ◌∷◌, ◌++◌, length, refl, sym, ap, ◌∙◌, subst, Some, None, slice_get, length-append}
+use Rattle.std.proofs.Common.{arith, ◌≡◌, ◌⊎◌, inl, inr, ℕ, suc, ◌<◌, List, [], ◌∷◌, ◌++◌, length, refl, sym, ap, ◌∙◌, subst, Some, None, slice_get, length-append}
 use Rattle.kahn_tree.specs.declared.tree.Program.{Program}
 use Rattle.kahn_network.specs.Network.{Reads, Writes, network_of, instance_at, actual_at}
 use Rattle.kahn_network.specs.Sides.{IsWriter, IsReader, IsOnly}
@@ -9,6 +9,7 @@ use Rattle.kahn_network.specs.declared.sides.Side.{Side}
 use Rattle.kahn_network.proofs.Sourced.{handed_within, reads, reads_listed, writes}
 use Rattle.kahn_streams.specs.Tokens.{Lists, inputs_of}
 use Rattle.kahn_code.specs.Lines.{Joins}
+use Rattle.kahn_code.proofs.Lists.{at_last}
 use Rattle.kahn_code.proofs.Readers.{joins_parameter}
 use Rattle.kahn_code.specs.Standing.{count}
 use Rattle.kahn_crew.specs.declared.standing.Standing.TheVariants as standing
@@ -17,22 +18,22 @@ use Rattle.kahn_crew.specs.Left.{AreAll}
 use Rattle.kahn_pool.specs.Rested.{AreEndsOf, AreTold, IsEndOf, IsToldAs}
 use Rattle.kahn_pool.specs.declared.answer.End.{End}
 use Rattle.kahn_pool.specs.declared.answer.Outcome.TheVariants as outcome
-use Rattle.kahn_pool.proofs.Turns.{push_get}
+use Rattle.kahn_pool.proofs.Benched.{got, some_one}
 
-pub some_one : {X : Type 0} {x y : X} → Some x ≡ Some y → x ≡ y
-some_one e = cc
-
-writer_side : (t : Program) (p q c : ℕ) → actual_at (instance_at (network_of t) p) q ≡ Writes c → IsWriter (network_of t) c (side_at p q)
+pub writer_side : (t : Program) (p q c : ℕ) → actual_at (instance_at (network_of t) p) q ≡ Writes c → IsWriter (network_of t) c (side_at p q)
 writer_side t p q c e = (handed_within (network_of t) p q c (subst (λ a. Joins a c) (sym e) refl), e)
 
-reader_side : (t : Program) (p q c : ℕ) → actual_at (instance_at (network_of t) p) q ≡ Reads c → IsReader (network_of t) c (side_at p q)
+pub reader_side : (t : Program) (p q c : ℕ) → actual_at (instance_at (network_of t) p) q ≡ Reads c → IsReader (network_of t) c (side_at p q)
 reader_side t p q c e = (handed_within (network_of t) p q c (subst (λ a. Joins a c) (sym e) refl), e)
+
+-- what is handed to a task of instance p
+pub handed_to : (t : Program) (p q : ℕ) (x : Tasked) → x.work.cell.network ≡ t → x.work.cell.instance ≡ p → handed x.work q ≡ actual_at (instance_at (network_of t) p) q
+handed_to t p q x n i =
+    ap (λ k. actual_at (instance_at (network_of k) x.work.cell.instance) q) n ∙ ap (λ k. actual_at (instance_at (network_of t) k) q) i
 
 module _ (t : Program) (tasks : List Tasked) (h : AreTold t tasks) where
   pub handed_as : (p q : ℕ) (x : Tasked) → slice_get tasks p ≡ Some x → handed x.work q ≡ actual_at (instance_at (network_of t) p) q
-  handed_as p q x e =
-      ap (λ k. actual_at (instance_at (network_of k) x.work.cell.instance) q) (h.network p x e) ∙
-      ap (λ i. actual_at (instance_at (network_of t) i) q) (h.instance p x e)
+  handed_as p q x e = handed_to t p q x (h.network p x e) (h.instance p x e)
 
   pub sent_all : (lists : Lists) (c : ℕ) (w : Side) (x : Tasked) (n : ℕ) → IsWellWired t → IsOnly (IsWriter (network_of t) c) (Some w) → slice_get tasks w.instance ≡ Some x →
       n ≡ count x.work.cell.sent w.parameter → AreAll t lists tasks c n
@@ -57,11 +58,6 @@ pub one_number : (t : Program) (lists : Lists) (tasks : List Tasked) (p q d k n 
     actual_at (instance_at (network_of t) p) q ≡ Reads d → AreAll t lists tasks d n → AreAll t lists tasks d k → k ≡ n
 one_number t lists tasks p q d k n wired h r a b = by (reads t wired p q d r)
   where
-    got : {X : Type 0} (xs : List X) (i : ℕ) → i < length xs → (x : X) × (slice_get xs i ≡ Some x)
-    got [] i l = absurd (omega (arith, l))
-    got (x ∷ xs) zero l = (x, refl)
-    got (x ∷ xs) (suc i) l = got xs i (omega (arith, l))
-
     by : IsFed (network_of t) d → k ≡ n
     by (inl f) = b.given f.1 ∙ sym (a.given f.1)
     by (inr f) =
@@ -86,29 +82,6 @@ other_reader t c p q s only n e =
 
 pub no_reader : (t : Program) (c p q : ℕ) → IsOnly (IsReader (network_of t) c) None → actual_at (instance_at (network_of t) p) q ≡ Reads c → ⊥
 no_reader t c p q none e = none (side_at p q) (reader_side t p q c e)
-
-pub none_more : (P : ℕ → Type 0) (n : ℕ) → ((c : ℕ) → c < n → P c → ⊥) → (P n → ⊥) → (c : ℕ) → c < suc n → P c → ⊥
-none_more P n h last c l = by (same_or c n)
-  where
-    same_or : (a b : ℕ) → (a ≡ b) ⊎ (a ≡ b → ⊥)
-    same_or zero zero = inl refl
-    same_or zero (suc b) = inr (λ e. absurd (omega (arith, e)))
-    same_or (suc a) zero = inr (λ e. absurd (omega (arith, e)))
-    same_or (suc a) (suc b) = step (same_or a b)
-      where
-        step : (a ≡ b) ⊎ (a ≡ b → ⊥) → (suc a ≡ suc b) ⊎ (suc a ≡ suc b → ⊥)
-        step (inl e) = inl (ap suc e)
-        step (inr o) = inr (λ e. o (omega (arith, e)))
-
-    less : (a b : ℕ) → a < suc b → (a ≡ b → ⊥) → a < b
-    less zero zero l o = absurd (o refl)
-    less zero (suc b) l o = omega arith
-    less (suc a) zero l o = absurd (omega (arith, l))
-    less (suc a) (suc b) l o = let r = less a b (omega (arith, l)) (λ e. o (ap suc e)) in omega (arith, r)
-
-    by : (c ≡ n) ⊎ (c ≡ n → ⊥) → P c → ⊥
-    by (inl e) k = last (subst P e k)
-    by (inr o) k = h c (less c n l o) k
 
 pub none_all : (t : Program) (p q n : ℕ) → IsWellWired t → n ≡ length (network_of t).channels →
     ((c : ℕ) → c < n → actual_at (instance_at (network_of t) p) q ≡ Reads c → ⊥) → (c : ℕ) → actual_at (instance_at (network_of t) p) q ≡ Reads c → ⊥
@@ -136,7 +109,7 @@ pub more_ends : (t : Program) (lists : Lists) (tasks : List Tasked) (ends : List
     ((x : Tasked) → slice_get tasks n ≡ Some x → IsEndOf t lists tasks x y) → AreEndsOf t lists tasks (ends ++ y ∷ []) (suc n)
 more_ends t lists tasks ends n y h last = record {
   count = length-append ends (y ∷ []) ∙ (let c = h.count in omega (arith, c));
-  each = λ p x z a b. by p x z a (push_get ends y z p b);
+  each = λ p x z a b. by p x z a (at_last ends y p z b);
 }
   where
     by : (p : ℕ) (x : Tasked) (z : End) → slice_get tasks p ≡ Some x → (slice_get ends p ≡ Some z) ⊎ ((p ≡ length ends) × (y ≡ z)) → IsEndOf t lists tasks x z

@@ -1,5 +1,6 @@
 -- Streams filled from the lists of the cells, one by one.
 use Rattle.std.proofs.Common.{arith, ◌≡◌, ◌⊎◌, inl, inr, ℕ, zero, suc, ◌<◌, ◌≤◌, List, [], ◌∷◌, length, map, Some, refl, sym, ap, ◌∙◌, subst, slice_get, slice_set, slice_index_or}
+use Rattle.std.proofs.lemmas.Bool.{cases_eq}
 use Rattle.std.proofs.lemmas.List.{map-set, length-map, length-set, get_or-set_same, get_or-set_other, get_or-map}
 use Rattle.std.proofs.lemmas.Option.{slice_get_within, slice_get-get_or}
 use Rattle.kahn_streams.specs.declared.value.Line.{Line}
@@ -14,48 +15,10 @@ use Rattle.kahn_pool.specs.Bench.{State, AreStreams}
 use Rattle.kahn_pool.specs.Gathered.{view_at, IsFrom}
 use Rattle.kahn_pool.specs.Right.{line_of, stream_lines}
 use Rattle.kahn_pool.specs.Streams.{AreNamed, IsDeclared, IsFilled, AreFilled, AreLists, KeepsOthers, HasInputs, kept_lists, kept_in, printed_list, printed_in}
+use Rattle.kahn_pool.proofs.Lists.{set_get, set_else}
 use Rattle.kahn_pool.proofs.Named.{HasLine, has_line, line_at, stream_before, declared, once}
 
--- ---- numbers that are one or differ
-
-same_or : (a b : ℕ) → (a ≡ b) ⊎ (a ≡ b → ⊥)
-same_or zero zero = inl refl
-same_or zero (suc b) = inr (λ e. omega (arith, e))
-same_or (suc a) zero = inr (λ e. omega (arith, e))
-same_or (suc a) (suc b) = by (same_or a b)
-  where
-    by : (a ≡ b) ⊎ (a ≡ b → ⊥) → (suc a ≡ suc b) ⊎ (suc a ≡ suc b → ⊥)
-    by (inl e) = inl (ap suc e)
-    by (inr n) = inr (λ e. n (omega (arith, e)))
-
-pub lower : (a b : ℕ) → a < suc b → (a ≡ b → ⊥) → a < b
-lower zero zero h d = absurd (d refl)
-lower zero (suc b) h d = omega arith
-lower (suc a) zero h d = absurd (omega (arith, h))
-lower (suc a) (suc b) h d = let r : a < b = lower a b (omega (arith, h)) (λ e. d (ap suc e)) in omega (arith, r)
-
 -- ---- lists of which one changed
-
-pub set_get : {X : Type 0} (xs : List X) (n j : ℕ) (y z : X) → slice_get (slice_set xs n y) j ≡ Some z → ((j ≡ n) × (y ≡ z)) ⊎ ((j ≡ n → ⊥) × (slice_get xs j ≡ Some z))
-set_get [] n j y z e = absurd cc
-set_get (x ∷ xs) zero zero y z e = inl (refl, same e)
-  where
-    same : Some y ≡ Some z → y ≡ z
-    same f = cc
-set_get (x ∷ xs) zero (suc j) y z e = inr (λ f. omega (arith, f), e)
-set_get (x ∷ xs) (suc n) zero y z e = inr (λ f. omega (arith, f), e)
-set_get (x ∷ xs) (suc n) (suc j) y z e = by (set_get xs n j y z e)
-  where
-    by : ((j ≡ n) × (y ≡ z)) ⊎ ((j ≡ n → ⊥) × (slice_get xs j ≡ Some z)) → ((suc j ≡ suc n) × (y ≡ z)) ⊎ ((suc j ≡ suc n → ⊥) × (slice_get xs j ≡ Some z))
-    by (inl h) = inl (ap suc h.0, h.1)
-    by (inr h) = inr (λ f. h.0 (omega (arith, f)), h.1)
-
-pub set_else : {X : Type 0} (xs : List X) (n j : ℕ) (y : X) → (j ≡ n → ⊥) → slice_get (slice_set xs n y) j ≡ slice_get xs j
-set_else [] n j y f = refl
-set_else (x ∷ xs) zero zero y f = absurd (f refl)
-set_else (x ∷ xs) zero (suc j) y f = refl
-set_else (x ∷ xs) (suc n) zero y f = refl
-set_else (x ∷ xs) (suc n) (suc j) y f = set_else xs n j y (λ e. f (ap suc e))
 
 pub set_lines : (xs : List Stream) (n : ℕ) (x y : Stream) → slice_get xs n ≡ Some x → y.line ≡ x.line → map line_of (slice_set xs n y) ≡ map line_of xs
 set_lines [] n x y e f = refl
@@ -73,7 +36,7 @@ module _ {A : Type 0} (N : Network) (ls : List (Kept A)) (p : ℕ) (l l' : Kept 
 
   -- what is seen of the cell is as before
   lists_set : {X : Type 0} (f : Kept A → X) (d : X) (r : ℕ) → (p ≡ r → f l' ≡ f l) → slice_index_or (map f (slice_set ls p l')) r d ≡ slice_index_or (map f ls) r d
-  lists_set f d r same = ap (λ xs. slice_index_or xs r d) (map-set f ls p l') ∙ by (same_or r p)
+  lists_set f d r same = ap (λ xs. slice_index_or xs r d) (map-set f ls p l') ∙ by (cases_eq r p)
     where
       by : (r ≡ p) ⊎ (r ≡ p → ⊥) → slice_index_or (slice_set (map f ls) p (f l')) r d ≡ slice_index_or (map f ls) r d
       by (inl e) =
@@ -111,7 +74,7 @@ module _ {A : Type 0} (N : Network) (ls : List (Kept A)) (p : ℕ) (l l' : Kept 
       size = sym (length-map l'.kept.items (λ v. v.items)) ∙ (ap length e ∙ (length-set (kept_lists l) q before ∙ length-map l.kept.items (λ v. v.items)))
 
       other_kept : (r s : ℕ) → (p ≡ r → q ≡ s → ⊥) → kept_in (slice_set ls p l') r s ≡ kept_in ls r s
-      other_kept r s n = by (same_or r p)
+      other_kept r s n = by (cases_eq r p)
         where
           by : (r ≡ p) ⊎ (r ≡ p → ⊥) → kept_in (slice_set ls p l') r s ≡ kept_in ls r s
           by (inl h) = subst (λ k. kept_in (slice_set ls p l') k s ≡ kept_in ls k s) (sym h) (a ∙ sym b)
@@ -199,7 +162,7 @@ module _ {A : Type 0} (N : Network) (ls : List (Kept A)) (old : List Stream) (ks
 
       done_at : (j : ℕ) (u v : Stream) → j < suc n → slice_get old j ≡ Some u → ((j ≡ n) × (y ≡ v)) ⊎ ((j ≡ n → ⊥) × (slice_get now j ≡ Some v)) →
           IsFilled N ls (source N v.line) v.line u.tokens.items v.tokens.items
-      done_at j u v l a (inr h) = f.done j u v (lower j n l h.0) a h.1
+      done_at j u v l a (inr h) = f.done j u v (let o = h.0 in omega (arith, l, o)) a h.1
       done_at j u v l a (inl h) =
           subst (λ w. IsFilled N ls (source N w.line) w.line u.tokens.items w.tokens.items) h.1
           (subst (λ d. IsFilled N ls (source N d) d u.tokens.items y.tokens.items) (sym same)

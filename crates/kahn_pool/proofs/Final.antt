@@ -13,7 +13,7 @@ use Rattle.kahn_pool.specs.declared.answer.Verdict.TheVariants.{Finished, Bound}
 use Rattle.kahn_pool.specs.Right.{events_of, line_of, stream_lines}
 use Rattle.kahn_pool.specs.Gathered.{view_at, AreWithin, IsFrom, IsGathered, IsStopped}
 use Rattle.kahn_pool.specs.Bench.{State, view_events, IsLast, IsVerdict, AreStreams}
-use Rattle.kahn_pool.proofs.Turns.{push_get}
+use Rattle.kahn_code.proofs.Lists.{at_last}
 
 same_sums : (cs : List View) (xs : List End) → length xs ≡ length cs →
     ((p : ℕ) (x : End) → slice_get xs p ≡ Some x → x.events ≡ (view_at cs p).events) → sum_by events_of xs ≡ sum_by view_events cs
@@ -95,7 +95,7 @@ pub streams_push : (s : State) (ss : List Stream) (ls : List Line) (i : ℕ) (x 
 streams_push s ss ls i x e from h =
     record {
       named = map_push ss x ∙ (ap (λ l. l ++ x.line ∷ []) h.named ∙ sym (take_more ls i x.line e));
-      each = λ j y f. by j y (push_get ss x y j f);
+      each = λ j y f. by j y (at_last ss x j y f);
     }
   where
     by : (j : ℕ) (y : Stream) → (slice_get ss j ≡ Some y) ⊎ ((j ≡ length ss) × (x ≡ y)) →

@@ -16,8 +16,9 @@ use Rattle.kahn_pool.specs.declared.answer.Stream.{Stream}
 use Rattle.kahn_pool.specs.Right.{line_of}
 use Rattle.kahn_pool.specs.Streams.{AreNamed, IsDeclared, IsBare, HasInput, HaveInput, HasInputs}
 use Rattle.kahn_pool.proofs.Named.{declared, stream_before}
-use Rattle.kahn_pool.proofs.Filled.{set_get, set_else, set_lines, lower}
-use Rattle.kahn_pool.proofs.Turns.{push_get}
+use Rattle.kahn_code.proofs.Lists.{at_last}
+use Rattle.kahn_pool.proofs.Lists.{set_get, set_else}
+use Rattle.kahn_pool.proofs.Filled.{set_lines}
 
 -- ---- the list of a channel, token by token
 
@@ -50,8 +51,8 @@ pub begun_more : (N : Network) (I : Inputs) (c : ℕ) (vs : List Value) (ts us :
     t.line ≡ Channel c → t.place ≡ n → slice_get vs n ≡ Some t.value → IsOwn N I t → IsBegun N I c vs us
 begun_more N I c vs ts us t n b u e line place v mine = subst (IsBegun N I c vs) (sym u) (record {
   values = subst (λ l. IsPrefix l vs) (sym (map-append token_value ts (t ∷ []))) (prefix_more (map token_value ts) vs t.value b.values (ap (slice_get vs) (length-map ts token_value ∙ sym e) ∙ v));
-  places = λ k w f. by k w (push_get ts t w k f);
-  own = λ k w f. owned k w (push_get ts t w k f);
+  places = λ k w f. by k w (at_last ts t k w f);
+  own = λ k w f. owned k w (at_last ts t k w f);
 })
   where
     by : (k : ℕ) (w : Token) → (slice_get ts k ≡ Some w) ⊎ ((k ≡ length ts) × (t ≡ w)) → (w.line ≡ Channel c) × (w.place ≡ k)
@@ -163,7 +164,7 @@ module _ (N : Network) (I : Inputs) (old now : List Stream) (n : ℕ) (f : Givin
     where
       done_at : (j : ℕ) (u v : Stream) → j < suc n → slice_get old j ≡ Some u → ((j ≡ n) × (y ≡ v)) ⊎ ((j ≡ n → ⊥) × (slice_get now j ≡ Some v)) →
           HasInput N I (source N v.line) v.line u.tokens.items v.tokens.items
-      done_at j u v l a (inr h) = f.done j u v (lower j n l h.0) a h.1
+      done_at j u v l a (inr h) = f.done j u v (let o = h.0 in omega (arith, l, o)) a h.1
       done_at j u v l a (inl h) =
           subst (λ w. HasInput N I (source N w.line) w.line u.tokens.items w.tokens.items) h.1
           (subst (λ d. HasInput N I (source N d) d u.tokens.items y.tokens.items) (sym same)

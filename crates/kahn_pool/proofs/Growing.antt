@@ -17,7 +17,7 @@ use Rattle.kahn_code.proofs.Readers.{reads_once}
 use Rattle.kahn_pool.specs.Gathered.{Stood}
 use Rattle.kahn_pool.proofs.Channels.{by_channel}
 use Rattle.kahn_pool.proofs.Events.{same_sends}
-use Rattle.kahn_pool.proofs.Lists.{stand_in}
+use Rattle.kahn_code.proofs.Lists.{stand_in}
 
 module _ (N : Network) (p : ℕ) (G : ℕ → Histories) (rises : (m : ℕ) (c : Line) → IsPrefix (G m c) (G (suc m) c)) (T : Histories)
     (below : (c : Line) → (n : ℕ) × IsPrefix (T c) (G n c))

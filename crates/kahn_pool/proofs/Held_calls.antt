@@ -52,7 +52,7 @@ still a b g (Written p) (Channel c) vs (q, w, s, e) = (
 still a b g (Written p) (Print r) vs h = (map token_value (seen_at b.cells p).printed, refl)
 still a b g Nobody c vs h = absurd h
 
-still_so : (a b : HeldRun) → GoesOn a b → (c : Line) (vs : List Value) → HasSoFar a c vs → (us : List Value) × HasSoFar b c us
+pub still_so : (a b : HeldRun) → GoesOn a b → (c : Line) (vs : List Value) → HasSoFar a c vs → (us : List Value) × HasSoFar b c us
 still_so a b g c vs h =
     let m = still a b g (source (network_of a.network) c) c vs h in
     (m.0, subst (λ t. IsSoFar b (source (network_of t) c) c m.0) (sym g.network) m.1)

@@ -17,7 +17,7 @@ use Rattle.kahn_job.proofs.Settles.{stood_same}
 use Rattle.kahn_board.specs.Dealt.{events_of}
 use Rattle.kahn_crew.specs.Begins.{AreReady, IsReady, woken_task}
 use Rattle.kahn_crew.specs.Left.{AreUntouched, HaveGone, task_events}
-use Rattle.kahn_crew.specs.Tasks.{HasMet, Tasked, told_of, work_of}
+use Rattle.kahn_crew.specs.Tasks.{Tasked, told_of, work_of}
 use Rattle.kahn_crew.proofs.Ended.{all_told}
 use Rattle.kahn_crew.proofs.Started.{at_mapped, at_most_all, mapped_at, read_there}
 use Rattle.kahn_pool.specs.Concluded.{IsConcluded}
@@ -129,21 +129,6 @@ sum_cells (w ∷ ws) (x ∷ xs) e =
 
     rest : w.cell ∷ cells_of ws ≡ x.work.cell ∷ map cell_of xs → cells_of ws ≡ map cell_of xs
     rest e = cc
-
-pub met_self : (xs : List Tasked) → HaveMet xs xs
-met_self xs = record {
-  count = refl;
-  each = λ p x y e f.
-      subst (λ (z : Tasked). HasMet x z) (some_one (sym e ∙ f)) (record {
-        cell = refl;
-        standing = refl;
-        published = refl;
-        ends = record {
-          count = refl;
-          each = λ q. record { same = record { reads = refl; writes = refl; lane = refl; name = refl }; next = refl; flushed = refl; ready = λ r. r };
-        };
-      });
-}
 
 module _ (t : Program) (lists : Lists) (watch : Option ℕ) (bound : ℕ) (first old : List Tasked) (budget : ℕ)
     (gone : HaveGone t lists watch bound first old budget) (new : List Tasked) (asked : HaveSettled old new) (met : List Tasked) (meets : HaveMet new met)

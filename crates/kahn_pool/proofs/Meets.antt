@@ -2,25 +2,26 @@
 use Rattle.std.proofs.Common.{arith, ◌≡◌, ◌⊎◌, inl, inr, ℕ, zero, suc, ◌+◌, ◌<◌, ◌≤◌, true, false, List, [], ◌∷◌, ◌++◌, length, refl, sym, ap, ◌∙◌, subst, Some, None, slice_get, slice_set, slice_index_or, le_of_suc-le-suc}
 use Rattle.std.specs.List.{SwappedAt}
 use Rattle.std.proofs.lemmas.List.{length-set}
-use Rattle.std.proofs.lemmas.Option.{slice_get-get_or}
+use Rattle.std.proofs.lemmas.Bool.{cases_eq}
+use Rattle.std.proofs.lemmas.Option.{get_or_from_slice_get, slice_get-get_or}
 use Rattle.kahn_tree.specs.declared.tree.Program.{Program}
 use Rattle.kahn_network.specs.Network.{Reads, Writes, network_of, instance_at, actual_at, role_at}
 use Rattle.kahn_network.specs.Sides.{IsWriter, IsReader, IsOnly}
 use Rattle.kahn_network.specs.Sources.{IsFed}
 use Rattle.kahn_network.specs.Wiring.{IsWellWired, side_at}
 use Rattle.kahn_network.specs.declared.sides.Side.{Side}
-use Rattle.kahn_network.proofs.Sourced.{handed_within, reads, reads_listed}
+use Rattle.kahn_network.proofs.Sourced.{reads, reads_listed}
 use Rattle.kahn_code.specs.Cells.{is_output}
-use Rattle.kahn_code.specs.Lines.{Joins}
 use Rattle.kahn_code.specs.Standing.{count}
 use Rattle.kahn_job.specs.Ends.{End, IsSame, MayMeet, Meets, ShareLane}
 use Rattle.kahn_job.specs.Berths.{HasStayed, Serves, end_at}
 use Rattle.kahn_job.specs.Works.{Work, IsJob}
 use Rattle.kahn_crew.specs.Tasks.{Tasked, HasMet, handed}
+use Rattle.kahn_job.proofs.Berthed.{same_then, stayed_self}
+use Rattle.kahn_pool.proofs.Benched.{got, some_one, within_get}
+use Rattle.kahn_pool.proofs.Ended.{handed_to, reader_side, writer_side}
+use Rattle.kahn_pool.proofs.Lists.{set_get}
 use Rattle.kahn_pool.specs.Meetings.{AreJoined, CanMeet, CanMeetAt, HaveMet, IsBehind, IsBehindAt, IsBehindOn, ReadsOne, WritesOne}
-
-pub some_one : {X : Type 0} {x y : X} → Some x ≡ Some y → x ≡ y
-some_one e = cc
 
 -- ---- one meeting
 
@@ -70,12 +71,6 @@ apart w o q h k e = differ (sym h.1 ∙ ap (handed w) e ∙ k.1)
 
 -- ---- meetings
 
-same_then : (d e f : End) → IsSame d e → IsSame e f → IsSame d f
-same_then d e f a b = record { reads = b.reads ∙ a.reads; writes = b.writes ∙ a.writes; lane = b.lane ∙ a.lane; name = b.name ∙ a.name }
-
-stayed_self : (e : End) → HasStayed e e
-stayed_self e = record { same = record { reads = refl; writes = refl; lane = refl; name = refl }; next = refl; flushed = refl; ready = λ r. r }
-
 stayed_then : (d e f : End) → HasStayed d e → HasStayed e f → HasStayed d f
 stayed_then d e f a b = record {
   same = same_then d e f a.same b.same;
@@ -98,16 +93,6 @@ met_then x y z a b = record {
   };
 }
 
-got : {X : Type 0} (xs : List X) (i : ℕ) → i < length xs → (x : X) × (slice_get xs i ≡ Some x)
-got [] i l = absurd (omega (arith, l))
-got (x ∷ xs) zero l = (x, refl)
-got (x ∷ xs) (suc i) l = got xs i (le_of_suc-le-suc l)
-
-within_get : {X : Type 0} (xs : List X) (i : ℕ) (x : X) → slice_get xs i ≡ Some x → i < length xs
-within_get [] i x e = absurd cc
-within_get (y ∷ xs) zero x e = omega arith
-within_get (y ∷ xs) (suc i) x e = let r = within_get xs i x e in omega (arith, r)
-
 pub have_met_self : (xs : List Tasked) → HaveMet xs xs
 have_met_self xs = record { count = refl; each = λ p x y a b. subst (HasMet x) (some_one (sym a ∙ b)) (met_self x) }
 
@@ -120,24 +105,13 @@ have_met_then xs ys zs a b = record { count = b.count ∙ a.count; each = λ p x
     by : (p : ℕ) (x z : Tasked) → slice_get xs p ≡ Some x → slice_get zs p ≡ Some z → (y : Tasked) × (slice_get ys p ≡ Some y) → HasMet x z
     by p x z e f (y, g) = met_then x y z (a.each p x y e g) (b.each p y z g f)
 
-set_get : (xs : List Tasked) (n j : ℕ) (y z : Tasked) → slice_get (slice_set xs n y) j ≡ Some z → ((j ≡ n) × (y ≡ z)) ⊎ (slice_get xs j ≡ Some z)
-set_get [] n j y z e = absurd cc
-set_get (x ∷ xs) zero zero y z e = inl (refl, some_one e)
-set_get (x ∷ xs) zero (suc j) y z e = inr e
-set_get (x ∷ xs) (suc n) zero y z e = inr e
-set_get (x ∷ xs) (suc n) (suc j) y z e = by (set_get xs n j y z e)
-  where
-    by : ((j ≡ n) × (y ≡ z)) ⊎ (slice_get xs j ≡ Some z) → ((suc j ≡ suc n) × (y ≡ z)) ⊎ (slice_get xs j ≡ Some z)
-    by (inl h) = inl (ap suc h.0, h.1)
-    by (inr h) = inr h
-
 -- one task met another
 pub met_set : (xs : List Tasked) (n : ℕ) (x y : Tasked) → slice_get xs n ≡ Some x → HasMet x y → HaveMet xs (slice_set xs n y)
 met_set xs n x y at m = record { count = length-set xs n y; each = λ p u v a b. by p u v a (set_get xs n p y v b) }
   where
-    by : (p : ℕ) (u v : Tasked) → slice_get xs p ≡ Some u → ((p ≡ n) × (y ≡ v)) ⊎ (slice_get xs p ≡ Some v) → HasMet u v
+    by : (p : ℕ) (u v : Tasked) → slice_get xs p ≡ Some u → ((p ≡ n) × (y ≡ v)) ⊎ ((p ≡ n → ⊥) × (slice_get xs p ≡ Some v)) → HasMet u v
     by p u v a (inl k) = subst (HasMet u) k.1 (subst (λ w. HasMet w y) (some_one (sym at ∙ ap (slice_get xs) (sym k.0) ∙ a)) m)
-    by p u v a (inr k) = subst (HasMet u) (some_one (sym a ∙ k)) (met_self u)
+    by p u v a (inr k) = subst (HasMet u) (some_one (sym a ∙ k.1)) (met_self u)
 
 met_first : (a c : Tasked) (ps qs : List Tasked) → HasMet a c → HaveMet ps qs → HaveMet (a ∷ ps) (c ∷ qs)
 met_first a c ps qs m h = record { count = ap suc h.count; each = each }
@@ -166,11 +140,6 @@ get_high (x ∷ low) high zero e = absurd (omega (arith, e))
 get_high (x ∷ low) high (suc n) e = get_high low high n (omega (arith, e))
 
 -- ---- tasks that are joined
-
-pub read_at : (xs : List Tasked) (i : ℕ) (d x : Tasked) → slice_get xs i ≡ Some x → slice_index_or xs i d ≡ x
-read_at [] i d x e = absurd cc
-read_at (y ∷ xs) zero d x e = some_one e
-read_at (y ∷ xs) (suc i) d x e = read_at xs i d x e
 
 share_stayed : (a b c d : End) → IsSame a c → IsSame b d → ShareLane a b → ShareLane c d
 share_stayed a b c d f g h = (h.0, f.lane ∙ h.1, g.lane ∙ h.2)
@@ -212,9 +181,7 @@ behind_before t xs ys c m h p r o q x y e f w k =
 
 module _ (t : Program) (wired : IsWellWired t) (tasks : List Tasked) (j : AreJoined t tasks) where
   handed_as : (p q : ℕ) (x : Tasked) → slice_get tasks p ≡ Some x → handed x.work q ≡ actual_at (instance_at (network_of t) p) q
-  handed_as p q x e =
-      ap (λ k. actual_at (instance_at (network_of k) x.work.cell.instance) q) (j.network p x e) ∙
-      ap (λ i. actual_at (instance_at (network_of t) i) q) (j.instance p x e)
+  handed_as p q x e = handed_to t p q x (j.network p x e) (j.instance p x e)
 
   inner_at : (p o r q c : ℕ) → actual_at (instance_at (network_of t) p) o ≡ Writes c → actual_at (instance_at (network_of t) r) q ≡ Reads c →
       is_output (role_at (network_of t) c) ≡ false
@@ -243,12 +210,6 @@ module _ (t : Program) (wired : IsWellWired t) (tasks : List Tasked) (j : AreJoi
 is_side : (P : Side → Type 0) (s : Side) (p q : ℕ) → IsOnly P (Some s) → P (side_at p q) → (p ≡ s.instance) × (q ≡ s.parameter)
 is_side P s p q one h = let e = one.1 (side_at p q) h in (ap (λ (u : Side). u.instance) e, ap (λ (u : Side). u.parameter) e)
 
-writer_side : (t : Program) (p q c : ℕ) → actual_at (instance_at (network_of t) p) q ≡ Writes c → IsWriter (network_of t) c (side_at p q)
-writer_side t p q c e = (handed_within (network_of t) p q c (subst (λ a. Joins a c) (sym e) refl), e)
-
-reader_side : (t : Program) (p q c : ℕ) → actual_at (instance_at (network_of t) p) q ≡ Reads c → IsReader (network_of t) c (side_at p q)
-reader_side t p q c e = (handed_within (network_of t) p q c (subst (λ a. Joins a c) (sym e) refl), e)
-
 -- the reader is behind the writer, where these are the ones of the channel
 pub behind_on : (t : Program) (tasks : List Tasked) (c : ℕ) (w r : Side) → IsOnly (IsWriter (network_of t) c) (Some w) → IsOnly (IsReader (network_of t) c) (Some r) →
     IsBehindAt tasks w r → IsBehindOn t tasks c
@@ -270,29 +231,6 @@ pub behind_all : (t : Program) (wired : IsWellWired t) (tasks : List Tasked) (n 
     (c : ℕ) → IsBehindOn t tasks c
 behind_all t wired tasks n is h c p s o q x y e f k l =
     let b = reads_listed t wired s q c l in h c (omega (arith, b, is)) p s o q x y e f k l
-
-pub behind_more : (t : Program) (tasks : List Tasked) (n : ℕ) → ((c : ℕ) → c < n → IsBehindOn t tasks c) → IsBehindOn t tasks n → (c : ℕ) → c < suc n → IsBehindOn t tasks c
-behind_more t tasks n h last c l = by (same_or c n)
-  where
-    same_or : (a b : ℕ) → (a ≡ b) ⊎ (a ≡ b → ⊥)
-    same_or zero zero = inl refl
-    same_or zero (suc b) = inr (λ e. absurd (omega (arith, e)))
-    same_or (suc a) zero = inr (λ e. absurd (omega (arith, e)))
-    same_or (suc a) (suc b) = step (same_or a b)
-      where
-        step : (a ≡ b) ⊎ (a ≡ b → ⊥) → (suc a ≡ suc b) ⊎ (suc a ≡ suc b → ⊥)
-        step (inl e) = inl (ap suc e)
-        step (inr o) = inr (λ e. o (omega (arith, e)))
-
-    less : (a b : ℕ) → a < suc b → (a ≡ b → ⊥) → a < b
-    less zero zero l o = absurd (o refl)
-    less zero (suc b) l o = omega arith
-    less (suc a) zero l o = absurd (omega (arith, l))
-    less (suc a) (suc b) l o = let r = less a b (omega (arith, l)) (λ e. o (ap suc e)) in omega (arith, r)
-
-    by : (c ≡ n) ⊎ (c ≡ n → ⊥) → IsBehindOn t tasks c
-    by (inl e) = subst (IsBehindOn t tasks) (sym e) last
-    by (inr o) = h c (less c n l o)
 
 -- ---- the last task meets another one, and tasks change places
 
@@ -324,7 +262,7 @@ swapped_long xs ys i j s h =
 
 module _ (xs ys : List Tasked) (i j : ℕ) (s : Changed xs ys i j) (len : length ys ≡ length xs) (hi : i < length xs) (hj : j < length xs) where
   at_place : (p k : ℕ) (x : Tasked) → slice_get xs p ≡ Some x → k < length xs → ((d : Tasked) → slice_index_or ys k d ≡ slice_index_or xs p d) → slice_get ys k ≡ Some x
-  at_place p k x e l h = slice_get-get_or ys k x (omega (arith, l, len)) ∙ ap Some (h x ∙ read_at xs p x x e)
+  at_place p k x e l h = slice_get-get_or ys k x (omega (arith, l, len)) ∙ ap Some (h x ∙ get_or_from_slice_get xs p x x e)
 
   pub first_moves : (x : Tasked) → slice_get xs i ≡ Some x → slice_get ys j ≡ Some x
   first_moves x e = at_place i j x e hj s.1
@@ -334,16 +272,6 @@ module _ (xs ys : List Tasked) (i j : ℕ) (s : Changed xs ys i j) (len : length
 
   pub other_stays : (k : ℕ) (x : Tasked) → (k ≡ i → ⊥) → (k ≡ j → ⊥) → slice_get xs k ≡ Some x → slice_get ys k ≡ Some x
   other_stays k x n m e = at_place k k x e (within_get xs k x e) (λ d. s.2 k d n m)
-
-same_or : (a b : ℕ) → (a ≡ b) ⊎ (a ≡ b → ⊥)
-same_or zero zero = inl refl
-same_or zero (suc b) = inr (λ e. absurd (omega (arith, e)))
-same_or (suc a) zero = inr (λ e. absurd (omega (arith, e)))
-same_or (suc a) (suc b) = step (same_or a b)
-  where
-    step : (a ≡ b) ⊎ (a ≡ b → ⊥) → (suc a ≡ suc b) ⊎ (suc a ≡ suc b → ⊥)
-    step (inl e) = inl (ap suc e)
-    step (inr n) = inr (λ e. n (omega (arith, e)))
 
 -- the list, two changed places, meetings, and they change places again
 module _ (all xs ys end : List Tasked) (i j : ℕ) (s : SwappedAt all xs i j) (l : length xs ≡ length all) (m : HaveMet xs ys)
@@ -366,7 +294,7 @@ module _ (all xs ys end : List Tasked) (i j : ℕ) (s : SwappedAt all xs i j) (l
   end_long = sym k
 
   pub met_swapped : HaveMet all end
-  met_swapped = record { count = k ∙ m.count ∙ l; each = λ p x y e f. by p x y e f (same_or p i) (same_or p j) }
+  met_swapped = record { count = k ∙ m.count ∙ l; each = λ p x y e f. by p x y e f (cases_eq p i) (cases_eq p j) }
     where
       by : (p : ℕ) (x y : Tasked) → slice_get all p ≡ Some x → slice_get end p ≡ Some y → (p ≡ i) ⊎ (p ≡ i → ⊥) → (p ≡ j) ⊎ (p ≡ j → ⊥) → HasMet x y
       by p x y e f (inl a) b =
@@ -391,7 +319,7 @@ module _ (all xs : List Tasked) (w r v : Side) (last : ℕ) (long : length all �
 
   -- the writer's place, before and after
   pub writer_moves : (x : Tasked) → slice_get all w.instance ≡ Some x → slice_get xs v.instance ≡ Some x
-  writer_moves x e = by (same_or w.instance last)
+  writer_moves x e = by (cases_eq w.instance last)
     where
       by : (w.instance ≡ last) ⊎ (w.instance ≡ last → ⊥) → slice_get xs v.instance ≡ Some x
       by (inl a) = ap (slice_get xs) (mv.1 a) ∙ second_moves all xs r.instance last (changed all xs r.instance last s) l can.reads hl x (ap (slice_get all) (sym a) ∙ e)
@@ -413,17 +341,8 @@ module _ (all xs : List Tasked) (w r v : Side) (last : ℕ) (long : length all �
   behind_last h x y e f = subst (λ o. IsBehind x o y r.parameter) mv.0 (h x y (writer_moves x e) (reader_moves y f))
 
   pub moved_inside : v.instance < last
-  moved_inside = by (same_or w.instance last)
+  moved_inside = by (cases_eq w.instance last)
     where
-      less : (a b : ℕ) → a < b + 1 → (a ≡ b → ⊥) → a < b
-      less a b h n = nearer a b (omega (arith, h)) n
-        where
-          nearer : (a b : ℕ) → a < suc b → (a ≡ b → ⊥) → a < b
-          nearer zero zero l o = absurd (o refl)
-          nearer zero (suc b) l o = omega arith
-          nearer (suc a) zero l o = absurd (omega (arith, l))
-          nearer (suc a) (suc b) l o = let r = nearer a b (omega (arith, l)) (λ e. o (ap suc e)) in omega (arith, r)
-
       by : (w.instance ≡ last) ⊎ (w.instance ≡ last → ⊥) → v.instance < last
-      by (inl a) = subst (λ n. n < last) (sym (mv.1 a)) (less r.instance last (let h = can.reads in omega (arith, h, long)) (λ e. apart (a ∙ sym e)))
-      by (inr a) = subst (λ n. n < last) (sym (mv.2 a)) (less w.instance last (let h = can.writes in omega (arith, h, long)) a)
+      by (inl a) = subst (λ n. n < last) (sym (mv.1 a)) (let h = can.reads in let differ : r.instance ≡ last → ⊥ = λ e. apart (a ∙ sym e) in omega (arith, h, long, differ))
+      by (inr a) = subst (λ n. n < last) (sym (mv.2 a)) (let h = can.writes in omega (arith, h, long, a))

@@ -11,7 +11,7 @@ use Rattle.kahn_streams.specs.declared.value.Value.{Value}
 use Rattle.kahn_streams.specs.declared.value.Line.TheVariants.{Channel}
 use Rattle.kahn_streams.specs.Meaning.{Store}
 use Rattle.kahn_streams.specs.Script as script
-use Rattle.kahn_streams.specs.Script.{Cut, Dry}
+use Rattle.kahn_streams.specs.Script.{Dry}
 use Rattle.kahn_streams.specs.Solution.{Inputs, exec_at, fed, iterate, out, source}
 use Rattle.kahn_streams.specs.Tokens.{Lists, inputs_of}
 use Rattle.kahn_streams.proofs.Dry.{dry_reads}
@@ -35,8 +35,8 @@ use Rattle.kahn_pool.specs.Bench.{Rests}
 use Rattle.kahn_pool.specs.Gathered.{AreWithin, IsGiven, IsTold, Stood, nothing, view_at}
 use Rattle.kahn_pool.proofs.Benched.{get_map, got, mapped, some_one}
 use Rattle.kahn_pool.proofs.Channels.{told_by_channel}
-use Rattle.kahn_pool.proofs.Lists.{stand_in}
-use Rattle.kahn_pool.proofs.Ended.{one_number}
+use Rattle.kahn_code.proofs.Lists.{stand_in}
+use Rattle.kahn_pool.proofs.Ended.{handed_to, one_number}
 
 -- what stands on an input channel is of its list
 iter_given : (N : Network) (I : Inputs) (d n : ℕ) → source N (Channel d) ≡ Given → iterate N I n (Channel d) ≡ I d
@@ -58,12 +58,6 @@ written_one e = cc
 reads_one : {c d : ℕ} → Reads c ≡ Reads d → c ≡ d
 reads_one e = cc
 
-less : (m n : ℕ) → m ≤ n → (m ≡ n → ⊥) → m < n
-less zero zero le other = absurd (other refl)
-less zero (suc n) le other = omega arith
-less (suc m) zero le other = absurd (omega (arith, le))
-less (suc m) (suc n) le other = let r = less m n (omega (arith, le)) (λ e. other (ap suc e)) in omega (arith, r)
-
 module _ (t : Program) (wired : IsWellWired t) (lists : Lists) (watch : Option ℕ) (tasks : List Tasked) (of : AreTasks t lists watch tasks)
     (settled : (p : ℕ) (x : Tasked) → slice_get tasks p ≡ Some x → IsSettled x) where
   abbrev N : Network
@@ -79,9 +73,7 @@ module _ (t : Program) (wired : IsWellWired t) (lists : Lists) (watch : Option �
   viewed p x e = mapped told_view (map cell_of tasks) p x.work.cell nothing (get_map cell_of tasks p x e)
 
   handed_as : (p q : ℕ) (x : Tasked) → slice_get tasks p ≡ Some x → handed x.work q ≡ actual_at (instance_at N p) q
-  handed_as p q x e =
-      let o = of.each p x e in
-      ap (λ k. actual_at (instance_at (network_of k) x.work.cell.instance) q) o.network ∙ ap (λ i. actual_at (instance_at N i) q) o.instance
+  handed_as p q x e = let o = of.each p x e in handed_to t p q x o.network o.instance
 
   pub task_at : (p : ℕ) → p < length N.instances → (x : Tasked) × (slice_get tasks p ≡ Some x)
   task_at p l = got tasks p (subst (λ n. p < n) (sym of.count) l)
@@ -215,7 +207,9 @@ module _ (t : Program) (wired : IsWellWired t) (lists : Lists) (watch : Option �
         let here : actual_at (instance_at N p) q ≡ Reads d = sym (handed_as p q x e) ∙ r in
         let h = counted p q d x e here in
         let w : (view_at cells p).taken q ≡ count x.work.cell.taken q = ap (λ u. u.taken q) (viewed p x e) in
-        let m = less (count x.work.cell.taken q) h.0 h.1.within (λ i. not (subst (AreAll t lists tasks d) (sym i) h.1.all)) in
+        let within = h.1.within in
+        let other : count x.work.cell.taken q ≡ h.0 → ⊥ = λ i. not (subst (AreAll t lists tasks d) (sym i) h.1.all) in
+        let m : count x.work.cell.taken q < h.0 = omega (arith, within, other) in
         inr (q, d, h.0, here, subst (λ s. IsSaid x.work s o) s k, h.1.given, omega (arith, w, m))
 
     pub rests : (p : ℕ) (x : Tasked) (y : End) → slice_get tasks p ≡ Some x → IsEndOf t lists tasks x y → Rests (state_of t lists watch tasks) p y

@@ -16,6 +16,10 @@ use Rattle.kahn_job.specs.Works.{Work}
 use Rattle.kahn_crew.specs.declared.standing.Standing.{Standing}
 use Rattle.kahn_crew.specs.declared.standing.Standing.TheVariants as standing
 use Rattle.kahn_crew.specs.Tasks.{Tasked, Continues, IsTrueOf, standing_after}
+use Rattle.kahn_pool.proofs.Benched.{some_one}
+use Rattle.kahn_pool.proofs.Lists.{set_get, set_else}
+use Rattle.kahn_job.proofs.Berthed.{past_none}
+use Rattle.kahn_crew.proofs.Resting.{continues_here}
 use Rattle.kahn_pool.specs.Rested.{HaveSettled, IsSaid, IsSettled, Says, SettlesTo}
 
 -- ---- input channels
@@ -23,44 +27,12 @@ use Rattle.kahn_pool.specs.Rested.{HaveSettled, IsSaid, IsSettled, Says, Settles
 nothing_fed : IsFed nothing
 nothing_fed t lists d none name ready = absurd (omega (arith, ready))
 
-past_none : (es : List End) (q : ℕ) → (q < length es) ⊎ (end_at es q ≡ nothing)
-past_none [] q = inr refl
-past_none (x ∷ es) zero = inl (omega arith)
-past_none (x ∷ es) (suc q) = by (past_none es q)
-  where
-    by : (q < length es) ⊎ (end_at es q ≡ nothing) → (suc q < length (x ∷ es)) ⊎ (end_at (x ∷ es) (suc q) ≡ nothing)
-    by (inl l) = inl (omega (arith, l))
-    by (inr e) = inr e
-
 pub fed_all : (es : List End) (n : ℕ) → length es ≡ n → ((q : ℕ) → q < n → IsFed (end_at es q)) → (q : ℕ) → IsFed (end_at es q)
 fed_all es n is h q = by (past_none es q)
   where
     by : (q < length es) ⊎ (end_at es q ≡ nothing) → IsFed (end_at es q)
     by (inl l) = h q (omega (arith, l, is))
     by (inr e) = subst IsFed (sym e) nothing_fed
-
-pub fed_more : (es : List End) (n : ℕ) → ((q : ℕ) → q < n → IsFed (end_at es q)) → IsFed (end_at es n) → (q : ℕ) → q < suc n → IsFed (end_at es q)
-fed_more es n h last q l = by (same_or q n)
-  where
-    same_or : (a b : ℕ) → (a ≡ b) ⊎ (a ≡ b → ⊥)
-    same_or zero zero = inl refl
-    same_or zero (suc b) = inr (λ e. absurd (omega (arith, e)))
-    same_or (suc a) zero = inr (λ e. absurd (omega (arith, e)))
-    same_or (suc a) (suc b) = step (same_or a b)
-      where
-        step : (a ≡ b) ⊎ (a ≡ b → ⊥) → (suc a ≡ suc b) ⊎ (suc a ≡ suc b → ⊥)
-        step (inl e) = inl (ap suc e)
-        step (inr o) = inr (λ e. o (omega (arith, e)))
-
-    less : (a b : ℕ) → a < suc b → (a ≡ b → ⊥) → a < b
-    less zero zero l o = absurd (o refl)
-    less zero (suc b) l o = omega arith
-    less (suc a) zero l o = absurd (omega (arith, l))
-    less (suc a) (suc b) l o = let r = less a b (omega (arith, l)) (λ e. o (ap suc e)) in omega (arith, r)
-
-    by : (q ≡ n) ⊎ (q ≡ n → ⊥) → IsFed (end_at es q)
-    by (inl e) = subst (λ k. IsFed (end_at es k)) (sym e) last
-    by (inr o) = h q (less q n l o)
 
 -- ---- what a standing says
 
@@ -85,19 +57,8 @@ says_ran w s z dry spent e h = subst (Says w) (sym e) (record { stood = h.stood;
 
 -- ---- tasks
 
-pub later_self : (x : Tasked) → Continues x x
-later_self x = record {
-  network = refl;
-  input = refl;
-  instance = refl;
-  watch = refl;
-  ends = record { count = refl; same = λ q. record { reads = refl; writes = refl; lane = refl; name = refl }; flushed = λ q. le_refl (end_at x.work.ends q).flushed };
-  events = le_refl x.work.cell.events;
-  still = λ e. refl;
-}
-
 pub settles_still : (x : Tasked) → IsSettled x → SettlesTo x x
-settles_still x h = record { later = later_self x; events = refl; still = λ n. refl; settled = h }
+settles_still x h = record { later = continues_here x; events = refl; still = λ n. refl; settled = h }
 
 pub settles_ran : (x y : Tasked) → x.standing ≡ standing.Going → Continues x y → (x.work.cell.events ≤ y.work.cell.events) × (y.work.cell.events ≤ x.work.cell.events + 0) →
     IsSettled y → SettlesTo x y
@@ -117,36 +78,6 @@ pub record SettledTo (old new : List Tasked) (n : ℕ) : Type 0 where
 pub none_settled : (old : List Tasked) → SettledTo old old 0
 none_settled old = record { count = refl; done = λ p x y l e f. absurd (omega (arith, l)); rest = λ p l. refl }
 
-set_get : (xs : List Tasked) (n j : ℕ) (y z : Tasked) → slice_get (slice_set xs n y) j ≡ Some z → ((j ≡ n) × (y ≡ z)) ⊎ ((j ≡ n → ⊥) × (slice_get xs j ≡ Some z))
-set_get [] n j y z e = absurd cc
-set_get (x ∷ xs) zero zero y z e = inl (refl, same e)
-  where
-    same : Some y ≡ Some z → y ≡ z
-    same f = cc
-set_get (x ∷ xs) zero (suc j) y z e = inr (λ f. omega (arith, f), e)
-set_get (x ∷ xs) (suc n) zero y z e = inr (λ f. omega (arith, f), e)
-set_get (x ∷ xs) (suc n) (suc j) y z e = by (set_get xs n j y z e)
-  where
-    by : ((j ≡ n) × (y ≡ z)) ⊎ ((j ≡ n → ⊥) × (slice_get xs j ≡ Some z)) → ((suc j ≡ suc n) × (y ≡ z)) ⊎ ((suc j ≡ suc n → ⊥) × (slice_get xs j ≡ Some z))
-    by (inl h) = inl (ap suc h.0, h.1)
-    by (inr h) = inr (λ f. h.0 (omega (arith, f)), h.1)
-
-set_else : (xs : List Tasked) (n j : ℕ) (y : Tasked) → (j ≡ n → ⊥) → slice_get (slice_set xs n y) j ≡ slice_get xs j
-set_else [] n j y f = refl
-set_else (x ∷ xs) zero zero y f = absurd (f refl)
-set_else (x ∷ xs) zero (suc j) y f = refl
-set_else (x ∷ xs) (suc n) zero y f = refl
-set_else (x ∷ xs) (suc n) (suc j) y f = set_else xs n j y (λ e. f (ap suc e))
-
-lower : (a b : ℕ) → a < suc b → (a ≡ b → ⊥) → a < b
-lower zero zero h d = absurd (d refl)
-lower zero (suc b) h d = omega arith
-lower (suc a) zero h d = absurd (omega (arith, h))
-lower (suc a) (suc b) h d = let r : a < b = lower a b (omega (arith, h)) (λ e. d (ap suc e)) in omega (arith, r)
-
-some_one : {x y : Tasked} → Some x ≡ Some y → x ≡ y
-some_one e = cc
-
 module _ (old new : List Tasked) (n : ℕ) (h : SettledTo old new n) where
   pub next_old : (x : Tasked) → slice_get new n ≡ Some x → slice_get old n ≡ Some x
   next_old x e = sym (h.rest n (le_refl n)) ∙ e
@@ -161,7 +92,7 @@ module _ (old new : List Tasked) (n : ℕ) (h : SettledTo old new n) where
       by : (p : ℕ) (u v : Tasked) → p < suc n → slice_get old p ≡ Some u → ((p ≡ n) × (y ≡ v)) ⊎ ((p ≡ n → ⊥) × (slice_get new p ≡ Some v)) → SettlesTo u v
       by p u v l a (inl k) =
           subst (λ w. SettlesTo u w) k.1 (subst (λ w. SettlesTo w y) (some_one (sym (next_old x at) ∙ ap (slice_get old) (sym k.0) ∙ a)) s)
-      by p u v l a (inr k) = h.done p u v (lower p n l k.0) a k.1
+      by p u v l a (inr k) = h.done p u v (let o = k.0 in omega (arith, l, o)) a k.1
 
   pub all_settled : n ≡ length new → HaveSettled old new
   all_settled e = record { count = h.count; each = λ p x y a b. h.done p x y (below new p y b (le_of n (length new) e)) a b }

@@ -1,9 +1,11 @@
 -- Rounds over cells.
 use Rattle.std.proofs.Common.{arith, ◌≡◌, ◌⊎◌, inl, inr, ℕ, zero, suc, ◌+◌, ◌^◌, ◌<◌, ◌≤◌, List, [], ◌∷◌, ◌++◌, length, sum_by, refl, sym, ap, ◌∙◌, subst, Some, slice_get, slice_set, le_of_suc-le-suc, length-append, Bool, true, false, cond}
+use Rattle.std.proofs.lemmas.List.{length-set}
 use Rattle.std.proofs.lemmas.List.Sums.{sum_by-cons}
 use Rattle.kahn_streams.specs.Script as script
 use Rattle.kahn_streams.specs.Meaning.{Store}
 use Rattle.kahn_code.specs.Cells.{View}
+use Rattle.kahn_code.proofs.Lists.{at_last}
 use Rattle.kahn_pool.specs.declared.answer.End.{End}
 use Rattle.kahn_pool.specs.declared.answer.Outcome.{Outcome}
 use Rattle.kahn_code.specs.declared.progress.Pause.{Pause}
@@ -63,26 +65,7 @@ pub run_bound : (cs : List View) (p left quantum : ℕ) (b : Bool) → sum_by vi
 run_bound cs p left quantum true h most = let r = at_most_all cs p in omega (arith, h, most, r)
 run_bound cs p left quantum false h most = let r = at_most_all cs p in omega (arith, h, most, r)
 
-pub set_length : (cs : List View) (p : ℕ) (v : View) → length (slice_set cs p v) ≡ length cs
-set_length [] p v = refl
-set_length (c ∷ cs) zero v = refl
-set_length (c ∷ cs) (suc p) v = ap suc (set_length cs p v)
-
 -- ---- one instance more
-
-pub push_get : {X : Type 0} (xs : List X) (x y : X) (k : ℕ) → slice_get (xs ++ x ∷ []) k ≡ Some y →
-    (slice_get xs k ≡ Some y) ⊎ ((k ≡ length xs) × (x ≡ y))
-push_get [] x y zero e = inr (refl, same e)
-  where
-    same : Some x ≡ Some y → x ≡ y
-    same f = cc
-push_get [] x y (suc k) e = absurd cc
-push_get (z ∷ xs) x y zero e = inl e
-push_get (z ∷ xs) x y (suc k) e = later (push_get xs x y k e)
-  where
-    later : (slice_get xs k ≡ Some y) ⊎ ((k ≡ length xs) × (x ≡ y)) → (slice_get (z ∷ xs) (suc k) ≡ Some y) ⊎ ((suc k ≡ suc (length xs)) × (x ≡ y))
-    later (inl f) = inl f
-    later (inr f) = inr (ap suc f.0, f.1)
 
 -- what is known after an instance was run for at most `quantum` events
 pub record Ran (s s' : State) (p quantum : ℕ) (z : Pause) (x : End) : Type 0 where
@@ -110,7 +93,7 @@ module _ (s0 : State) (w0 t0 : ℕ) (s s' : State) (p left left' done : ℕ) (me
 
   known : length s'.cells ≡ length s'.network.instances
   known =
-      ap length ran.only ∙ (set_length s.cells p (view_at s'.cells p) ∙ (go.known ∙ ap (λ n. length n.instances) (sym ran.network)))
+      ap length ran.only ∙ (length-set s.cells p (view_at s'.cells p) ∙ (go.known ∙ ap (λ n. length n.instances) (sym ran.network)))
 
   size : length (ends ++ x ∷ []) ≡ suc p
   size = length-append ends (x ∷ []) ∙ (let a : length ends ≡ p = go.size in omega (arith, a))
@@ -169,7 +152,7 @@ module _ (s0 : State) (w0 t0 : ℕ) (s s' : State) (p left left' done : ℕ) (me
           by (inr a) = absurd (never a)
 
       still : moved ≡ false → AreEnds s' left' memory' (ends ++ x ∷ [])
-      still f k y h = by (push_get ends x y k h)
+      still f k y h = by (at_last ends x k y h)
         where
           by : (slice_get ends k ≡ Some y) ⊎ ((k ≡ length ends) × (x ≡ y)) → Rests s' k y × (y.outcome ≡ More → (left' ≡ 0) ⊎ (memory' ≡ true))
           by (inl e) =

@@ -2,7 +2,6 @@
 #![tactic(auto)]
 
 pub mod answer;
-mod bench;
 mod conclude;
 pub mod config;
 mod copies;

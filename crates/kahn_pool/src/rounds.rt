@@ -4,6 +4,7 @@ ghost use Rattle.kahn_streams.specs.Solution.{source};
 ghost use Rattle.kahn_pool.specs.Bench.{State, HasRun, Paused, Rests, Goes, GoesIn, IsSameRun, Marked, AreEnds, IsLast, IsVerdict, AreStreams, events_at, all_events, weight};
 ghost use Rattle.kahn_pool.specs.Gathered.{IsFrom};
 ghost use Rattle.kahn_pool.specs.Right.{IsRight, line_of, stream_lines};
+ghost use Rattle.kahn_pool.specs.Workbench.{state_of};
 ghost use Rattle.kahn_pool.specs.declared.answer.Outcome.TheVariants as outcome;
 ghost use Rattle.kahn_pool.specs.declared.answer.Stream.{Stream};
 ghost use Rattle.kahn_code.specs.declared.progress.Pause.TheVariants as pause;
@@ -11,10 +12,11 @@ ghost use Rattle.std.specs.Prelude.{vec_len, vec_capacity};
 ghost use Rattle.std.specs.Prelude.{◌≡◌, ◌⊎◌, ◌<◌, ◌≤◌, ◌+◌, ◌^◌, ℕ, suc, length, map, true, false, IsTrue, IsFalse, slice_get, Some, None, IfOk, IsOk, cond};
 
 use crate::answer::{Answer, End, Outcome, Verdict};
-use crate::bench::Bench;
 use crate::gate::Gate;
 use crate::laws;
+use crate::workbench::Workbench;
 use kahn_code::progress::Pause;
+use std::sync::ledger::Ledger;
 
 // A round in which each cell is run once.
 #[derive(Drop)]
@@ -27,10 +29,10 @@ struct Round {
 }
 
 // The end of an instance that stands so.
-fn end_of<B: Bench>(bench: &B, instance: usize, stopped: Pause) -> End
-    requires here { instance < length (B.state bench.now).network.instances }
-    requires paused { Paused (B.state bench.now) instance stopped }
-    ensures rests { Rests (B.state bench.now) instance result }
+fn end_of<L: Ledger>(bench: &Workbench<'_, L>, instance: usize, stopped: Pause) -> End
+    requires here { instance < length (state_of bench.now).network.instances }
+    requires paused { Paused (state_of bench.now) instance stopped }
+    ensures rests { Rests (state_of bench.now) instance result }
     ensures more { result.outcome ≡ outcome.More → (stopped ≡ pause.Spent) ⊎ (stopped ≡ pause.NoMemory) }
 {
     let outcome = match stopped {
@@ -47,10 +49,10 @@ fn end_of<B: Bench>(bench: &B, instance: usize, stopped: Pause) -> End
 }
 
 // Runs a cell for at most so many events, as the bench does. The gate is entered just before, where the cell may go on.
-fn run_gated<B: Bench, G: Gate>(bench: &mut B, gate: &G, instance: usize, quantum: u64) -> Pause
-    requires here { instance < length (B.state bench.old).network.instances }
-    requires bound { events_at (B.state bench.old) instance + quantum < 2 ^ 48 }
-    ensures { HasRun (B.state bench.old) (B.state bench.new) instance quantum result }
+fn run_gated<L: Ledger, G: Gate>(bench: &mut Workbench<'_, L>, gate: &G, instance: usize, quantum: u64) -> Pause
+    requires here { instance < length (state_of bench.old).network.instances }
+    requires bound { events_at (state_of bench.old) instance + quantum < 2 ^ 48 }
+    ensures { HasRun (state_of bench.old) (state_of bench.new) instance quantum result }
 {
     if quantum == 0 {
         return bench.run(instance, quantum);
@@ -98,15 +100,15 @@ impl Round {
     }
 
     // Runs one cell.
-    fn step<B: Bench, G: Gate>(&mut self, bench: &mut B, gate: &G, instance: usize)
-        requires here { instance < length (B.state bench.old).network.instances }
-        requires known { length (B.state bench.old).cells ≡ length (B.state bench.old).network.instances }
-        requires bound { all_events (B.state bench.old) + self.old.left < 2 ^ 48 }
+    fn step<L: Ledger, G: Gate>(&mut self, bench: &mut Workbench<'_, L>, gate: &G, instance: usize)
+        requires here { instance < length (state_of bench.old).network.instances }
+        requires known { length (state_of bench.old).cells ≡ length (state_of bench.old).network.instances }
+        requires bound { all_events (state_of bench.old) + self.old.left < 2 ^ 48 }
         requires room { vec_len self.old.ends < vec_capacity self.old.ends }
         requires share { 0 < self.old.share }
         ensures share { self.new.share ≡ self.old.share }
-        ensures goes { (s0 : State) (w0 t0 : ℕ) → GoesIn s0 w0 t0 (B.state bench.old) self.old instance → GoesIn s0 w0 t0 (B.state bench.new) self.new (suc instance) }
-        ensures same { IsSameRun (B.state bench.old) (B.state bench.new) }
+        ensures goes { (s0 : State) (w0 t0 : ℕ) → GoesIn s0 w0 t0 (state_of bench.old) self.old instance → GoesIn s0 w0 t0 (state_of bench.new) self.new (suc instance) }
+        ensures same { IsSameRun (state_of bench.old) (state_of bench.new) }
         ensures size { vec_len self.new.ends ≡ vec_len self.old.ends + 1 }
         ensures room { vec_capacity self.new.ends ≡ vec_capacity self.old.ends }
     {
@@ -120,8 +122,8 @@ impl Round {
 }
 
 // One round. Its ends go into the list that it is given, which has room for all.
-fn one_round<B: Bench, G: Gate>(
-    bench: &mut B,
+fn one_round<L: Ledger, G: Gate>(
+    bench: &mut Workbench<'_, L>,
     gate: &G,
     mut ends: Vec<End>,
     share: u64,
@@ -129,11 +131,11 @@ fn one_round<B: Bench, G: Gate>(
     memory: bool,
 ) -> Round
     requires share { 0 < share }
-    requires bound { all_events (B.state bench.old) + left < 2 ^ 48 }
-    requires known { length (B.state bench.old).cells ≡ length (B.state bench.old).network.instances }
-    requires room { length (B.state bench.old).network.instances ≤ vec_capacity ends }
-    ensures goes { Goes (B.state bench.old) (weight left memory) (all_events (B.state bench.old) + left) (B.state bench.new) result.left result.memory result.moved result.ends.items (length (B.state bench.new).network.instances) }
-    ensures same { IsSameRun (B.state bench.old) (B.state bench.new) }
+    requires bound { all_events (state_of bench.old) + left < 2 ^ 48 }
+    requires known { length (state_of bench.old).cells ≡ length (state_of bench.old).network.instances }
+    requires room { length (state_of bench.old).network.instances ≤ vec_capacity ends }
+    ensures goes { Goes (state_of bench.old) (weight left memory) (all_events (state_of bench.old) + left) (state_of bench.new) result.left result.memory result.moved result.ends.items (length (state_of bench.new).network.instances) }
+    ensures same { IsSameRun (state_of bench.old) (state_of bench.new) }
     ensures room { vec_capacity result.ends ≡ vec_capacity ends }
 {
     let count = bench.instance_count();
@@ -152,19 +154,19 @@ fn one_round<B: Bench, G: Gate>(
 }
 
 // Rounds, until one in which nothing was done.
-fn last_round<B: Bench, G: Gate>(
-    bench: &mut B,
+fn last_round<L: Ledger, G: Gate>(
+    bench: &mut Workbench<'_, L>,
     gate: &G,
     ends: Vec<End>,
     quantum: u64,
     bound: u64,
 ) -> Round
     requires share { 0 < quantum }
-    requires bound { all_events (B.state bench.old) + bound < 2 ^ 48 }
-    requires known { length (B.state bench.old).cells ≡ length (B.state bench.old).network.instances }
-    requires room { length (B.state bench.old).network.instances ≤ vec_capacity ends }
-    ensures last { IsLast (B.state bench.new) (all_events (B.state bench.old) + bound) result.left result.memory result.ends.items }
-    ensures same { IsSameRun (B.state bench.old) (B.state bench.new) }
+    requires bound { all_events (state_of bench.old) + bound < 2 ^ 48 }
+    requires known { length (state_of bench.old).cells ≡ length (state_of bench.old).network.instances }
+    requires room { length (state_of bench.old).network.instances ≤ vec_capacity ends }
+    ensures last { IsLast (state_of bench.new) (all_events (state_of bench.old) + bound) result.left result.memory result.ends.items }
+    ensures same { IsSameRun (state_of bench.old) (state_of bench.new) }
 {
     let mut ends = ends;
     let mut left = bound;
@@ -197,8 +199,8 @@ pub(crate) fn verdict_of(memory: bool, ends: &[End]) -> Verdict
 
 /// Runs the cells of a bench on one thread, each for at most `quantum` events at a time, before which the gate is entered,
 /// and answers right. The list of ends has room for each instance.
-pub fn run_bench<B: Bench, G: Gate>(
-    mut bench: B,
+pub fn run_bench<L: Ledger, G: Gate>(
+    mut bench: Workbench<'_, L>,
     gate: &G,
     ends: Vec<End>,
     quantum: u64,
@@ -206,10 +208,10 @@ pub fn run_bench<B: Bench, G: Gate>(
 ) -> Answer
     requires quantum { 0 < quantum }
     requires bound { bound < 2 ^ 48 }
-    requires fresh { all_events (B.state bench) ≡ 0 }
-    requires known { length (B.state bench).cells ≡ length (B.state bench).network.instances }
-    requires room { length (B.state bench).network.instances ≤ vec_capacity ends }
-    ensures right { IsRight (B.state bench).network (B.state bench).input bound (B.state bench).watch result }
+    requires fresh { all_events (state_of bench) ≡ 0 }
+    requires known { length (state_of bench).cells ≡ length (state_of bench).network.instances }
+    requires room { length (state_of bench).network.instances ≤ vec_capacity ends }
+    ensures right { IsRight (state_of bench.entry).network (state_of bench.entry).input bound (state_of bench.entry).watch result }
 {
     let last = last_round(&mut bench, gate, ends, quantum, bound);
     bench.within();

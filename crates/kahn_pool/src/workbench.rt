@@ -1,13 +1,14 @@
 //! The cells of a network over its plain queues.
 
-ghost use Rattle.kahn_network.specs.Network.{network_of};
-ghost use Rattle.kahn_pool.specs.Bench.{all_events};
+ghost use Rattle.kahn_network.specs.Network.{Reads, network_of, instance_at, actual_at};
 ghost use Rattle.kahn_streams.specs.Tokens.{Lists};
+ghost use Rattle.kahn_pool.specs.Bench.{HasRun, AreStreams, all_events, events_at};
+ghost use Rattle.kahn_pool.specs.Gathered.{AreWithin};
+ghost use Rattle.kahn_pool.specs.Right.{stream_lines};
 ghost use Rattle.kahn_pool.specs.Workbench.{Table, AreOpen, AreOpening, AreKeptOf, AreReady, state_of};
-ghost use Rattle.std.specs.Prelude.{◌≡◌, ◌≤◌, ℕ, [], length, map, IfOk, vec_capacity};
+ghost use Rattle.std.specs.Prelude.{◌≡◌, ◌≤◌, ◌<◌, ◌+◌, ◌^◌, ℕ, [], length, map, IfOk, vec_capacity};
 
 use crate::answer::Stream;
-use crate::bench::Bench;
 use crate::streams::{empty_streams, fill, watched_input};
 use kahn_code::cell::{Cell, Kept};
 use kahn_code::code::{Code, CodeFault, compile};
@@ -144,16 +145,21 @@ impl<'n, L: Ledger> Workbench<'n, L> {
     }
 }
 
-impl<'n, L: Ledger> Bench for Workbench<'n, L> {
-    ghost use Rattle.kahn_pool.specs.Workbench.{state_of};
-
-    ghost state = { state_of };
-
-    fn instance_count(&self) -> usize {
+impl<'n, L: Ledger> Workbench<'n, L> {
+    /// How many instances the network has, each with a cell.
+    pub(crate) fn instance_count(&self) -> usize
+        ensures count { result ≡ length (state_of self.now).network.instances }
+        ensures known { length (state_of self.now).cells ≡ length (state_of self.now).network.instances }
+    {
         self.network.instances()
     }
 
-    fn run(&mut self, instance: usize, quantum: u64) -> Pause {
+    /// Runs a cell for at most so many events.
+    pub(crate) fn run(&mut self, instance: usize, quantum: u64) -> Pause
+        requires here { instance < length (state_of self.old).network.instances }
+        requires bound { events_at (state_of self.old) instance + quantum < 2 ^ 48 }
+        ensures { HasRun (state_of self.old) (state_of self.new) instance quantum result }
+    {
         self.queues.at(instance);
         let pause = self.cells[instance].run(
             &self.code,
@@ -165,22 +171,36 @@ impl<'n, L: Ledger> Bench for Workbench<'n, L> {
         pause
     }
 
-    fn events(&self, instance: usize) -> u64 {
+    /// How many events an instance has done.
+    pub(crate) fn events(&self, instance: usize) -> u64
+        requires { instance < length (state_of self.now).network.instances }
+        ensures { result ≡ events_at (state_of self.now) instance }
+    {
         self.cells[instance].events()
     }
 
-    fn channel(&self, instance: usize, parameter: usize) -> usize {
+    /// The channel that a parameter reads.
+    pub(crate) fn channel(&self, instance: usize, parameter: usize) -> usize
+        requires { (c : ℕ) × (actual_at (instance_at (state_of self.now).network instance) parameter ≡ Reads c) }
+        ensures { (c : ℕ) → actual_at (instance_at (state_of self.now).network instance) parameter ≡ Reads c → result ≡ c }
+    {
         match self.code.channel(instance, parameter) {
             Some(channel) => channel,
             None => unreachable!(),
         }
     }
 
-    fn within(&self) {
+    /// Says that no reader took more than was given: its contract is what it does.
+    pub(crate) fn within(&self)
+        ensures { AreWithin (state_of self.now).network (state_of self.now).input (state_of self.now).cells }
+    {
         self.queues.counted();
     }
 
-    fn into_streams(self) -> Vec<Stream> {
+    /// The streams of the answer: what the writers kept. It takes no memory.
+    pub(crate) fn into_streams(self) -> Vec<Stream>
+        ensures { AreStreams (state_of self.entry) result.items (stream_lines (state_of self.entry).network (state_of self.entry).watch) }
+    {
         let mut kept = all_kept(self.cells, self.kept);
         let mut streams = self.streams;
         fill(self.network, &mut streams, &mut kept);

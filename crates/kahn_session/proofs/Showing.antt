@@ -1,42 +1,19 @@
 -- What was shown of the streams begins what they have later, so what is new stands behind it.
-use Rattle.std.proofs.Common.{◌≡◌, ◌∙◌, ℕ, zero, suc, true, List, [], ◌∷◌, ◌++◌, length, map, drop, Option, Some, None, refl, sym, ap, ap₂, subst}
-use Rattle.std.specs.Prelude.{slice_get, slice_index_or}
+use Rattle.std.proofs.Common.{◌≡◌, ◌∙◌, ℕ, zero, suc, List, [], ◌∷◌, ◌++◌, length, map, drop, Option, Some, None, refl, sym, ap, ap₂, subst}
+use Rattle.std.specs.Prelude.{slice_get}
 use Rattle.std.proofs.Math.Seq.{drop-append_seam}
-use Rattle.kahn_network.specs.Network.{Source, Given, Written, Nobody, Writes, network_of, instance_at, actual_at}
+use Rattle.kahn_network.specs.Network.{network_of}
 use Rattle.kahn_streams.specs.declared.value.Value.{Value}
 use Rattle.kahn_streams.specs.declared.value.Line.{Line}
-use Rattle.kahn_streams.specs.declared.value.Line.TheVariants.{Channel, Print}
-use Rattle.kahn_streams.specs.Solution.{IsPrefix, source}
-use Rattle.kahn_streams.specs.Tokens.{inputs_of}
+use Rattle.kahn_streams.specs.Solution.{IsPrefix}
 use Rattle.kahn_streams.proofs.Proved.{prefix_refl, prefix_trans}
-use Rattle.kahn_code.specs.Cells.{is_streamed, token_value}
-use Rattle.kahn_pool.specs.HeldRuns.{GoesOn, HasSoFar, HeldRun, IsAnswerOf, IsSoFar, seen_at}
+use Rattle.kahn_pool.specs.HeldRuns.{GoesOn, HasSoFar, HeldRun, IsAnswerOf}
 use Rattle.kahn_pool.specs.Right.{line_of, stream_lines, values_of}
 use Rattle.kahn_pool.specs.declared.answer.Answer.{Answer}
 use Rattle.kahn_pool.specs.declared.answer.Stream.{Stream}
+use Rattle.kahn_pool.proofs.Held_calls.{still_so}
 use Rattle.kahn_report.specs.News.{joined, news_since}
 use Rattle.kahn_session.specs.Shown.{AreShown}
-
--- what a later run has of a line that an earlier one has
-still : (a b : HeldRun) → GoesOn a b → (s : Source) (c : Line) (vs : List Value) → IsSoFar a s c vs → (us : List Value) × IsSoFar b s c us
-still a b g Given (Channel c) vs h = (inputs_of b.input c, refl)
-still a b g Given (Print r) vs h = absurd h
-still a b g (Written p) (Channel c) vs (q, w, s, e) = (
-  map token_value (slice_index_or (seen_at b.cells p).kept q []),
-  (
-    q,
-    subst (λ t. actual_at (instance_at (network_of t) p) q ≡ Writes c) (sym g.network) w,
-    subst (λ t. is_streamed (network_of t) b.watch c ≡ true) (sym g.network) (subst (λ n. is_streamed (network_of a.network) n c ≡ true) (sym g.watch) s),
-    refl,
-  ),
-)
-still a b g (Written p) (Print r) vs h = (map token_value (seen_at b.cells p).printed, refl)
-still a b g Nobody c vs h = absurd h
-
-still_so : (a b : HeldRun) → GoesOn a b → (c : Line) (vs : List Value) → HasSoFar a c vs → (us : List Value) × HasSoFar b c us
-still_so a b g c vs h =
-    let m = still a b g (source (network_of a.network) c) c vs h in
-    (m.0, subst (λ t. IsSoFar b (source (network_of t) c) c m.0) (sym g.network) m.1)
 
 -- both have the same lines
 lines_stay : (a b : HeldRun) → GoesOn a b → stream_lines (network_of b.network) b.watch ≡ stream_lines (network_of a.network) a.watch

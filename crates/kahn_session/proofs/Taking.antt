@@ -1,5 +1,5 @@
 -- What a line makes of a session.
-use Rattle.std.proofs.Common.{◌≡◌, ◌∙◌, ◌⊎◌, inl, inr, ℕ, ◌+◌, ◌<◌, Bool, false, List, map, sum_by, Option, Some, refl, sym, ap, subst}
+use Rattle.std.proofs.Common.{◌≡◌, ◌∙◌, inl, inr, ℕ, ◌+◌, ◌<◌, Bool, false, List, map, sum_by, Option, Some, refl, sym, ap, subst}
 use Rattle.std.specs.Prelude.{Err, min}
 use Rattle.kahn_network.specs.Wiring.{IsWellWired}
 use Rattle.kahn_streams.specs.declared.value.Value.{Value}

@@ -1,6 +1,6 @@
 -- Entries, one by one: the number of a name, what is given, and the lists.
 use Rattle.std.proofs.Common.{arith, ◌≡◌, ◌≢◌, ◌⊎◌, inl, inr, ℕ, zero, suc, ◌+◌, ◌<◌, ◌==◌, Bool, true, false, List, [], ◌∷◌, ◌++◌, length, map, take, drop, replicate, set, get_or, Some, refl, sym, ap, ◌∙◌, subst, slice_get, slice_index_or, if◌then◌else◌, add-one, bytes_eq, eq-eqb, length-set, get_or-set_same, get_or-set_other}
-use Rattle.std.proofs.lemmas.Bool.{eqb-true, eqb-false}
+use Rattle.std.proofs.lemmas.Bool.{cases_eq, eqb-true}
 use Rattle.std.proofs.lemmas.List.{length-map, length-replicate, take-append-le, take-map}
 use Rattle.std.proofs.lemmas.Option.{slice_get_read, slice_get-map}
 use Rattle.std.specs.Option.{option_map}
@@ -16,7 +16,7 @@ use Rattle.kahn_streams.specs.Entries.{Entry, channel_of, is_given, list_for, Is
 
 -- ---- the number of a name
 
-drop_some : {A : Type 0} (xs : List A) (k : ℕ) (x : A) → slice_get xs k ≡ Some x → drop k xs ≡ x ∷ drop (suc k) xs
+pub drop_some : {A : Type 0} (xs : List A) (k : ℕ) (x : A) → slice_get xs k ≡ Some x → drop k xs ≡ x ∷ drop (suc k) xs
 drop_some [] k x e = absurd cc
 drop_some (y ∷ xs) zero x e = let f : y ≡ x = cc in ap (λ z. z ∷ xs) f
 drop_some (y ∷ xs) (suc k) x e = drop_some xs k x e
@@ -130,20 +130,16 @@ none_filled t n flags lists e f l = record {
   marks = λ c. ap (λ x. slice_index_or x c false) f ∙ none_of n c false;
 }
 
-pub same_or_not : (a b : ℕ) (v : Bool) → (a == b) ≡ v → (a ≡ b) ⊎ (a ≢ b)
-same_or_not a b true e = inl (eqb-true a b e)
-same_or_not a b false e = inr (eqb-false a b e)
-
 module _ (t : Program) (done : List Entry) (flags : List Bool) (lists : Lists) (x : Entry) (h : AreFilled t done flags lists) where
   marks_more : IsFit t (is_given t done (channel_of t x)) x → (c : ℕ) → slice_index_or (set flags (channel_of t x) true) c false ≡ is_given t (done ++ x ∷ []) c
-  marks_more fit c = elim (same_or_not (channel_of t x) c (channel_of t x == c) refl) [
+  marks_more fit c = elim (cases_eq (channel_of t x) c) [
     | inl e ↦ subst (λ d. slice_index_or (set flags (channel_of t x) true) d false ≡ is_given t (done ++ x ∷ []) d) e
         (get_or-set_same flags (channel_of t x) true false (omega (arith, fit.named, h.size, names_count t)) ∙ sym (given_same t done x))
     | inr n ↦ get_or-set_other flags (channel_of t x) c true false (λ e. n (sym e)) ∙ h.marks c ∙ sym (given_other t done x c n)
   ]
 
   lists_more : IsFit t (is_given t done (channel_of t x)) x → (c : ℕ) → inputs_of (set lists (channel_of t x) x.1) c ≡ list_for t (done ++ x ∷ []) c
-  lists_more fit c = elim (same_or_not (channel_of t x) c (channel_of t x == c) refl) [
+  lists_more fit c = elim (cases_eq (channel_of t x) c) [
     | inl e ↦ subst (λ d. inputs_of (set lists (channel_of t x) x.1) d ≡ list_for t (done ++ x ∷ []) d) e
         (get_or-set_same lists (channel_of t x) x.1 [] (omega (arith, fit.named, h.made.count, names_count t)) ∙ sym (list_same t done x fit.first))
     | inr n ↦ get_or-set_other lists (channel_of t x) c x.1 [] (λ e. n (sym e)) ∙ h.made.lists c ∙ sym (list_other t done x c n)

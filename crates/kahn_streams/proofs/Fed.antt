@@ -1,6 +1,7 @@
 -- Values that are fed: what they leave, and tokens of the input before.
 use Rattle.std.proofs.Common.{arith, ◌≡◌, ◌≢◌, inl, inr, ℕ, ◌<◌, ◌≤◌, ◌==◌, Bool, true, false, List, [], ◌∷◌, ◌++◌, length, map, set, get_or, refl, sym, ap, ◌∙◌, subst, eq-eqb, eqb-true, append-nil, length-set, get_or-set_same, get_or-set_other, if◌then◌else◌}
 use Rattle.std.proofs.Math.Logic.{∥∥₁_elim, ∥∥₁_prop}
+use Rattle.std.proofs.lemmas.Bool.{cases_eq}
 use Rattle.std.proofs.lemmas.List.{get_or-map, get_or_past, length-map, map-set, set-get_or}
 use Rattle.kahn_tree.specs.declared.tree.Kind.{Kind}
 use Rattle.kahn_tree.specs.declared.tree.Role.TheVariants.{Input}
@@ -16,7 +17,7 @@ use Rattle.kahn_streams.specs.Solution.{Stands}
 use Rattle.kahn_streams.specs.Tokens.{Lists, inputs_of, Holds}
 use Rattle.kahn_streams.proofs.Proved.{prefix_get}
 use Rattle.kahn_streams.proofs.Finished.{inputs_grow}
-use Rattle.kahn_streams.proofs.Entered.{names_count, same_or_not}
+use Rattle.kahn_streams.proofs.Entered.{names_count}
 
 fed_same : (t : Program) (e : Entry) → fed_to t e (channel_of t e) ≡ e.1
 fed_same t e = ap (λ b. if b then e.1 else []) (eq-eqb (channel_of t e) (channel_of t e) refl)
@@ -31,7 +32,7 @@ fed_other t e c n = by (channel_of t e == c) refl
 module _ (t : Program) (before : Lists) (e : Entry) where
   lists_fed : channel_of t e < length before → (c : ℕ)
       → inputs_of (set before (channel_of t e) (inputs_of before (channel_of t e) ++ e.1)) c ≡ inputs_of before c ++ fed_to t e c
-  lists_fed below c = elim (same_or_not (channel_of t e) c (channel_of t e == c) refl) [
+  lists_fed below c = elim (cases_eq (channel_of t e) c) [
     | inl h ↦ subst (λ d. inputs_of (set before (channel_of t e) (inputs_of before (channel_of t e) ++ e.1)) d ≡ inputs_of before d ++ fed_to t e d) h
         (get_or-set_same before (channel_of t e) (inputs_of before (channel_of t e) ++ e.1) [] below
         ∙ ap (λ l. inputs_of before (channel_of t e) ++ l) (sym (fed_same t e)))

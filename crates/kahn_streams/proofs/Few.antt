@@ -1,9 +1,10 @@
 -- No list has more values than a channel may have.
-use Rattle.std.proofs.Common.{arith, ◌≡◌, inl, inr, ℕ, ◌<◌, ◌≤◌, ◌==◌, List, [], length, replicate, set, refl, sym, ap, ◌∙◌, subst, get_or-set_same, get_or-set_other}
+use Rattle.std.proofs.Common.{arith, ◌≡◌, inl, inr, ℕ, ◌<◌, ◌≤◌, List, [], length, replicate, set, sym, ap, ◌∙◌, subst, get_or-set_same, get_or-set_other}
+use Rattle.std.proofs.lemmas.Bool.{cases_eq}
 use Rattle.kahn_streams.specs.declared.value.Value.{Value}
 use Rattle.kahn_streams.specs.Entries.{AreFew, most_values}
 use Rattle.kahn_streams.specs.Tokens.{Lists, inputs_of}
-use Rattle.kahn_streams.proofs.Entered.{none_of, same_or_not}
+use Rattle.kahn_streams.proofs.Entered.{none_of}
 
 pub none_few : (n : ℕ) (lists : Lists) → lists ≡ replicate n [] → AreFew lists
 none_few n lists e c =
@@ -16,7 +17,7 @@ list_few lists shown c vs few e at = subst (λ l. length l ≤ most_values) (ap 
 
 set_few : (lists : Lists) (c : ℕ) (vs : List Value) → c < length lists → AreFew lists → length vs ≤ most_values → AreFew (set lists c vs)
 set_few lists c vs below few short d =
-    elim (same_or_not c d (c == d) refl) [
+    elim (cases_eq c d) [
       | inl h ↦ subst (λ k. length (inputs_of (set lists c vs) k) ≤ most_values) h
           (subst (λ l. length l ≤ most_values) (sym (get_or-set_same lists c vs [] below)) short)
       | inr n ↦ subst (λ l. length l ≤ most_values) (sym (get_or-set_other lists c d vs [] (λ h. n (sym h)))) (few d)

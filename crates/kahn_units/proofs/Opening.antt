@@ -1,43 +1,16 @@
 -- A cell and plain queues at their openings.
-use Rattle.std.proofs.Common.{arith, ◌≡◌, ℕ, zero, suc, ◌<◌, List, length, replicate, refl, sym, ap, ◌∙◌, subst, Option, Some, None, slice_get, slice_index_or, true, false}
+use Rattle.std.proofs.Common.{arith, ◌≡◌, ℕ, ◌<◌, length, replicate, refl, sym, ap, ◌∙◌, subst, slice_index_or}
 use Rattle.kahn_tree.specs.declared.tree.Program.{Program}
-use Rattle.kahn_tree.specs.declared.tree.Role.{Role}
-use Rattle.kahn_tree.specs.declared.tree.Role.TheVariants.{Inner, Input, Output}
-use Rattle.kahn_network.specs.Network.{Reads, Writes, network_of, instance_at, actual_at, role_at}
+use Rattle.kahn_network.specs.Network.{Writes, network_of, instance_at, actual_at, role_at}
 use Rattle.kahn_network.specs.Wiring.{IsWellWired}
 use Rattle.kahn_network.proofs.Sourced.{writes}
-use Rattle.kahn_streams.specs.declared.value.Value.{Value}
-use Rattle.kahn_streams.specs.Tokens.{Lists, inputs_of}
+use Rattle.kahn_streams.specs.Tokens.{Lists}
 use Rattle.kahn_code.specs.Cells.{is_output}
-use Rattle.kahn_code.specs.Lines.{Lines as Queues, AreFirst, actual_of, at_first, next_at, taken_of, given_of}
-use Rattle.kahn_code.specs.Queues.{Waiting}
-use Rattle.kahn_code.specs.Standing.{count}
-use Rattle.kahn_code.specs.Told.{Told, IsAt}
+use Rattle.kahn_code.specs.Lines.{Lines as Queues, AreFirst, next_at}
+use Rattle.kahn_code.specs.Told.{Told}
+use Rattle.kahn_streams.proofs.Entered.{none_of}
+use Rattle.kahn_code.proofs.Queued.{given_zero, taken_zero}
 use Rattle.kahn_units.specs.Standing.{Stands}
-
-count_zero : (n q : ℕ) → count (replicate n zero) q ≡ zero
-count_zero zero q = refl
-count_zero (suc n) zero = refl
-count_zero (suc n) (suc q) = count_zero n q
-
-first_none : (r : Role) (vs : List Value) → is_output r ≡ false → (r ≡ Input → ⊥) → at_first r vs ≡ 0
-first_none Inner vs e n = refl
-first_none Input vs e n = absurd (n refl)
-first_none Output vs e n = let h : true ≡ false = e in absurd cc
-
-module _ (t : Program) (lists : Lists) (queues : List Waiting) (first : AreFirst t lists queues) where
-  taken_zero : (d : ℕ) (o : Option Waiting) → slice_get queues d ≡ o → taken_of o ≡ 0
-  taken_zero d None e = refl
-  taken_zero d (Some w) e = (first.each d w e).taken
-
-  given_zero : (d : ℕ) (o : Option Waiting) → is_output (role_at (network_of t) d) ≡ false → (role_at (network_of t) d ≡ Input → ⊥) → slice_get queues d ≡ o →
-      given_of o ≡ 0
-  given_zero d None inner n e = refl
-  given_zero d (Some w) inner n e =
-      let f = first.each d w e in
-      let a = f.taken in
-      let b = f.waiting ∙ first_none (role_at (network_of t) d) (inputs_of lists d) inner n in
-      omega (arith, a, b)
 
 -- the first cell stands where the queues stand, as the first instance's ports
 pub stands_first : (t : Program) (lists : Lists) (c : Told) (q : Queues) → IsWellWired t → 0 < length (network_of t).instances →
@@ -53,13 +26,13 @@ stands_first t lists c q wired some names none queued first = record {
   at = record {
     reads = λ r d e.
         ap (next_at q.queues) (own r ∙ e) ∙ taken_zero t lists q.queues first d _ refl ∙
-        sym (ap (λ l. slice_index_or l r 0) none.0 ∙ count_zero _ r);
+        sym (ap (λ l. slice_index_or l r 0) none.0 ∙ none_of _ r 0);
     writes = λ r d e inner.
         let here : actual_at (instance_at (network_of t) 0) r ≡ Writes d =
         ap (λ k. actual_at (instance_at (network_of k) 0) r) (sym queued.0) ∙ own r ∙ e in
         ap (next_at q.queues) (own r ∙ e) ∙
         given_zero t lists q.queues first d _ (ap (λ k. is_output (role_at (network_of k) d)) (sym names.0) ∙ inner) (writes t wired 0 r d here).1 refl ∙
-        sym (ap (λ l. slice_index_or l r 0) none.1 ∙ count_zero _ r);
+        sym (ap (λ l. slice_index_or l r 0) none.1 ∙ none_of _ r 0);
   };
 }
   where

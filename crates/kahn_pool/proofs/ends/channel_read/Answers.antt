@@ -1,13 +1,14 @@
 use Rattle.std.proofs.Common.{rules, ◌≡◌, length, add-one}
 use Rattle.kahn_network.specs.Network.{network_of, instance_at, actual_at, Reads}
-use Rattle.kahn_pool.proofs.Ended.{none_all, none_more}
+use Rattle.kahn_pool.proofs.Ended.{none_all}
+use Rattle.kahn_pool.proofs.Lists.{below_more}
 use Rattle.kahn_pool.proofs.ends.channel_read.Goals as goal
 
 pub loop-channel-preserved : goal.loop-channel-preserved
 loop-channel-preserved c =
     let t = c.args.network.now in
     rw (add-one c.loop-channel.channel)
-    (none_more (λ d. actual_at (instance_at (network_of t) c.args.instance) c.args.parameter ≡ Reads d) c.loop-channel.channel c.loop-channel.invariant
+    (below_more (λ d. actual_at (instance_at (network_of t) c.args.instance) c.args.parameter ≡ Reads d → ⊥) c.loop-channel.channel c.loop-channel.invariant
     (search rules))
 
 pub returns-clause-none : goal.returns-clause-none

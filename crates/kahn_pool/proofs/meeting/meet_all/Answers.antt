@@ -1,6 +1,8 @@
 use Rattle.std.proofs.Common.{rules, ◌≡◌, length, add-one}
 use Rattle.kahn_network.specs.Network.{network_of}
-use Rattle.kahn_pool.proofs.Meets.{behind_all, behind_before, behind_more, have_met_then, joined_met}
+use Rattle.kahn_pool.proofs.Lists.{below_more}
+use Rattle.kahn_pool.specs.Meetings.{IsBehindOn}
+use Rattle.kahn_pool.proofs.Meets.{behind_all, behind_before, have_met_then, joined_met}
 use Rattle.kahn_pool.proofs.meeting.meet_all.Goals as goal
 
 pub loop-channel-preserved : goal.loop-channel-preserved
@@ -12,7 +14,7 @@ loop-channel-preserved c =
     (record {
       joined = joined_met t c.loop-channel.tasks.items c.meet_on.new.tasks.items i.joined met;
       met = have_met_then c.args.tasks.now.items c.loop-channel.tasks.items c.meet_on.new.tasks.items i.met met;
-      behind = behind_more t c.args.tasks.now.items c.loop-channel.channel i.behind (behind_before t c.args.tasks.now.items c.loop-channel.tasks.items c.loop-channel.channel i.met c.meet_on.ensures.behind);
+      behind = below_more (IsBehindOn t c.args.tasks.now.items) c.loop-channel.channel i.behind (behind_before t c.args.tasks.now.items c.loop-channel.tasks.items c.loop-channel.channel i.met c.meet_on.ensures.behind);
     })
 
 pub returns-clause-behind : goal.returns-clause-behind

@@ -2,7 +2,8 @@ use Rattle.std.proofs.Common.{rules, ◌≡◌, ◌<◌, ◌++◌, ◌∷◌, []
 use Rattle.std.proofs.lemmas.Option.{slice_get-get_or}
 use Rattle.kahn_crew.specs.Tasks.{Tasked}
 use Rattle.kahn_pool.specs.Meetings.{HaveMet, IsBehind}
-use Rattle.kahn_pool.proofs.Meets.{get_last, get_low, met_last, some_one}
+use Rattle.kahn_pool.proofs.Meets.{get_last, get_low, met_last}
+use Rattle.kahn_pool.proofs.Benched.{some_one}
 use Rattle.kahn_pool.proofs.meeting.meet_last.Goals as goal
 
 pub meet-requires : goal.meet-requires

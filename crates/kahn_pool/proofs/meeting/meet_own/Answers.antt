@@ -2,7 +2,8 @@ use Rattle.std.proofs.Common.{◌≡◌, sym, ap, ◌∙◌, subst, Some, slice_
 use Rattle.std.proofs.lemmas.Option.{slice_get-get_or}
 use Rattle.kahn_crew.specs.Tasks.{Tasked}
 use Rattle.kahn_pool.specs.Meetings.{IsBehind}
-use Rattle.kahn_pool.proofs.Meets.{met_set, some_one}
+use Rattle.kahn_pool.proofs.Meets.{met_set}
+use Rattle.kahn_pool.proofs.Benched.{some_one}
 use Rattle.kahn_pool.proofs.meeting.meet_own.Goals as goal
 
 pub meet_self-requires : goal.meet_self-requires

@@ -4,7 +4,8 @@ use Rattle.kahn_crew.specs.Tasks.{told_of}
 use Rattle.kahn_crew.proofs.Ended.{untouched_gone}
 use Rattle.kahn_crew.proofs.Started.{at_most_all}
 use Rattle.kahn_pool.specs.Holding.{AreHeld}
-use Rattle.kahn_pool.proofs.Held_jobs.{held_after, met_self, none_done}
+use Rattle.kahn_pool.proofs.Held_jobs.{held_after, none_done}
+use Rattle.kahn_pool.proofs.Meets.{have_met_self}
 use Rattle.kahn_pool.proofs.part.first_counted.Goals as goal
 
 pub settle_all-requires-clause-code : goal.settle_all-requires-clause-code
@@ -27,7 +28,7 @@ returns-clause-held g c bound =
     let ws = c.rest_all.result.items in
     subst (λ b. AreHeld t lists c.args.watch b ws bound) all
     (held_after t lists c.args.watch (bound + events_of told_of tasks) tasks tasks bound
-    (untouched_gone t lists c.args.watch bound tasks tasks bound c.in_ok-tasks.ensures.ready refl refl) new c.settle_all.ensures new (met_self new) ws c.rest_all.ensures.same
+    (untouched_gone t lists c.args.watch bound tasks tasks bound c.in_ok-tasks.ensures.ready refl refl) new c.settle_all.ensures new (have_met_self new) ws c.rest_all.ensures.same
     c.rest_all.ensures.jobs)
 
 pub returns-clause-none : goal.returns-clause-none

@@ -1,5 +1,6 @@
 use Rattle.std.proofs.Common.{◌+◌, length, sym, ap, ◌∙◌, add-one}
 use Rattle.kahn_pool.specs.Bench.{all_events, weight}
+use Rattle.kahn_pool.specs.Workbench.{state_of}
 use Rattle.kahn_pool.proofs.rounds.one_round.Goals as goal
 
 pub loop-instance-preserved : goal.loop-instance-preserved
@@ -7,7 +8,7 @@ loop-instance-preserved g c =
     let i = c.loop-instance.invariant in
     rw (add-one c.loop-instance.instance)
     (record {
-      goes = c.step.ensures.goes (g.B.Bench.state c.args.bench.now) (weight c.args.left c.args.memory) (all_events (g.B.Bench.state c.args.bench.now) + c.args.left) i.goes;
+      goes = c.step.ensures.goes (state_of c.args.bench.now) (weight c.args.left c.args.memory) (all_events (state_of c.args.bench.now) + c.args.left) i.goes;
       count = i.count ∙ ap (λ n. length n.instances) (sym c.step.ensures.same.0);
       size = c.step.ensures.size ∙ ap (λ n. n + 1) i.size ∙ add-one c.loop-instance.instance;
       room = rw c.step.ensures.room i.room;

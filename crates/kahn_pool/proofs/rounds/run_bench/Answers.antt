@@ -2,17 +2,18 @@ use Rattle.std.proofs.Common.{◌≡◌, ◌+◌, ◌-◌, subst, arith}
 use Rattle.kahn_pool.specs.Bench.{all_events, IsLast, IsVerdict}
 use Rattle.kahn_pool.specs.Right.{IsRight}
 use Rattle.kahn_pool.specs.declared.answer.Answer.{Answer}
+use Rattle.kahn_pool.specs.Workbench.{state_of}
 use Rattle.kahn_pool.proofs.Final.{gathered}
 use Rattle.kahn_pool.proofs.rounds.run_bench.Goals as goal
 
 pub returns : goal.returns
 returns g c =
-    let start = g.B.Bench.state c.args.bench in
-    let s = g.B.Bench.state c.last_round-last.new.bench in
+    let start = state_of c.args.bench in
+    let s = state_of c.last_round-last.new.bench in
     let b = c.args.bound in
     let last = c.last_round-last.result in
-    let fresh : all_events (g.B.Bench.state c.args.bench) ≡ 0 = c.requires.fresh in
-    let zero : all_events (g.B.Bench.state c.args.bench) + b ≡ b = omega (arith, fresh) in
+    let fresh : all_events (state_of c.args.bench) ≡ 0 = c.requires.fresh in
+    let zero : all_events (state_of c.args.bench) + b ≡ b = omega (arith, fresh) in
     let h : IsLast s b last.left last.memory last.ends.items =
     subst (λ t. IsLast s t last.left last.memory last.ends.items) zero c.last_round-last.ensures.last
     in

@@ -1,4 +1,4 @@
-use Rattle.std.proofs.Common.{◌≡◌, string_bytes}
+use Rattle.std.proofs.Common.{string_bytes}
 use Rattle.kahn_streams.specs.Entries.{Entry}
 use Rattle.kahn_report.specs.Entries.{IsEntry, content}
 use Rattle.kahn_session.specs.Live.{IsText}

@@ -1,6 +1,6 @@
 use Rattle.std.proofs.Common.{arith}
 use Rattle.std.proofs.lemmas.Result.{on_ok_weaker}
-use Rattle.kahn_code.proofs.Queued.{write_inside, room_queued, room_stays, room_leaves, room_there}
+use Rattle.kahn_code.proofs.Queued.{write_inside, room_queued, room_stays, room_leaves, room_keeps, room_there}
 use Rattle.kahn_code.proofs.plain.PlainPorts.room.Goals as goal
 
 pub index_mut-requires : goal.index_mut-requires
@@ -19,3 +19,6 @@ pub returns-clause-room : goal.returns-clause-room
 returns-clause-room g c =
     on_ok_weaker c.room.result
     (room_there c.self.view_is c.self.invariant c.args._parameter c.args.channel c.requires.0 c.index_mut.ensures.value _ c.room.ensures.names c.room.ensures.counts) c.room.ensures.room
+
+pub returns-clause-keeps : goal.returns-clause-keeps
+returns-clause-keeps g c = room_keeps c.self.view_is c.self.invariant c.args._parameter c.args.channel c.requires.0 c.index_mut.ensures.value _ c.room.ensures.names c.room.ensures.counts

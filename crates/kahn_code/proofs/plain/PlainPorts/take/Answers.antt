@@ -26,4 +26,5 @@ returns g c =
       stays = t.stays;
       dry = t.dry;
       some = t.some;
+      keeps = t.keeps;
     }

@@ -1,16 +1,17 @@
 use Rattle.std.proofs.Common.{◌≡◌, ◌-◌, ◌<◌, ◌≤◌, arith, length}
 use Rattle.kahn_pool.specs.Bench.{events_at}
+use Rattle.kahn_pool.specs.Workbench.{state_of}
 use Rattle.kahn_pool.proofs.Turns.{run_bound, goes_on}
 use Rattle.kahn_pool.proofs.rounds.Round.step.Goals as goal
 
 pub run_gated-stopped-requires-clause-bound : goal.run_gated-stopped-requires-clause-bound
 run_gated-stopped-requires-clause-bound g c =
-    run_bound (g.B.Bench.state c.args.bench.now).cells c.args.instance c.args.self.now.left c.quantum-quantum.result c.args.self.now.memory c.requires.bound c.quantum-quantum.ensures.most
+    run_bound (state_of c.args.bench.now).cells c.args.instance c.args.self.now.left c.quantum-quantum.result c.args.self.now.memory c.requires.bound c.quantum-quantum.ensures.most
 
 pub returns-clause-goes : goal.returns-clause-goes
 returns-clause-goes g c s0 w0 t0 go =
-    let s = g.B.Bench.state c.args.bench.now in
-    let t = g.B.Bench.state c.run_gated-stopped.new.bench in
+    let s = state_of c.args.bench.now in
+    let t = state_of c.run_gated-stopped.new.bench in
     let p = c.args.instance in
     let a : c.events-before.result ≡ events_at s p = c.events-before.ensures in
     let b : c.events.result ≡ events_at t p = c.events.ensures in

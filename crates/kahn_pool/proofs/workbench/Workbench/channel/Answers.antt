@@ -1,7 +1,7 @@
 use Rattle.std.proofs.Common.{sym, ◌∙◌}
 use Rattle.std.proofs.lemmas.Option.{none-some}
 use Rattle.kahn_pool.proofs.Benched.{channel_within, channel_is, some_one}
-use Rattle.kahn_pool.proofs.workbench.WorkbenchBench.channel.Goals as goal
+use Rattle.kahn_pool.proofs.workbench.Workbench.channel.Goals as goal
 
 pub channel-requires : goal.channel-requires
 channel-requires g c = channel_within c.self.view_is c.self.invariant.0 c.args.instance c.args.parameter c.requires.0 c.requires.1

@@ -2,7 +2,7 @@ use Rattle.std.proofs.Common.{refl, subst}
 use Rattle.kahn_pool.specs.Bench.{HasRun}
 use Rattle.kahn_pool.specs.Workbench.{Table, state_of}
 use Rattle.kahn_pool.proofs.Benched
-use Rattle.kahn_pool.proofs.workbench.WorkbenchBench.run.Goals as goal
+use Rattle.kahn_pool.proofs.workbench.Workbench.run.Goals as goal
 
 pub run-pause-requires-clause-code : goal.run-pause-requires-clause-code
 run-pause-requires-clause-code g c =

@@ -2,7 +2,7 @@ use Rattle.std.proofs.Common.{subst}
 use Rattle.kahn_pool.specs.Gathered.{AreWithin}
 use Rattle.kahn_pool.specs.Workbench.{Table, state_of}
 use Rattle.kahn_pool.proofs.Benched.{within}
-use Rattle.kahn_pool.proofs.workbench.WorkbenchBench.within.Goals as goal
+use Rattle.kahn_pool.proofs.workbench.Workbench.within.Goals as goal
 
 pub returns : goal.returns
 returns g c =

@@ -6,7 +6,7 @@ use Rattle.kahn_pool.specs.Workbench.{Table, state_of}
 use Rattle.kahn_pool.proofs.Filled.{are_streams}
 use Rattle.kahn_pool.proofs.Kept_sizes.{are_lists}
 use Rattle.kahn_pool.proofs.Seen.{kept_seen, printed_seen}
-use Rattle.kahn_pool.proofs.workbench.WorkbenchBench.into_streams.Goals as goal
+use Rattle.kahn_pool.proofs.workbench.Workbench.into_streams.Goals as goal
 
 pub all_kept-kept-requires-clause-empty : goal.all_kept-kept-requires-clause-empty
 all_kept-kept-requires-clause-empty g c = c.self.invariant.1.empty
