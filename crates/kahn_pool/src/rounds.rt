@@ -49,7 +49,12 @@ fn end_of<L: Ledger>(bench: &Workbench<'_, L>, instance: usize, stopped: Pause) 
 }
 
 // Runs a cell for at most so many events, as the bench does. The gate is entered just before, where the cell may go on.
-fn run_gated<L: Ledger, G: Gate>(bench: &mut Workbench<'_, L>, gate: &G, instance: usize, quantum: u64) -> Pause
+fn run_gated<L: Ledger, G: Gate>(
+    bench: &mut Workbench<'_, L>,
+    gate: &G,
+    instance: usize,
+    quantum: u64,
+) -> Pause
     requires here { instance < length (state_of bench.old).network.instances }
     requires bound { events_at (state_of bench.old) instance + quantum < 2 ^ 48 }
     ensures { HasRun (state_of bench.old) (state_of bench.new) instance quantum result }
