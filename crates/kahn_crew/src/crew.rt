@@ -1,4 +1,4 @@
-//! A crew: all workers of a run, each in a thread of its own where one can be made.
+//! A crew: all workers of a run, the first in the caller's thread and each other in one of its own.
 
 ghost use Rattle.std.specs.Prelude.{◌≡◌, ◌+◌, ◌<◌, ◌≤◌, ◌^◌, [], true, length, All, IfOk, IfErr, MatchResult};
 ghost use Rattle.std.specs.Vec.{vec_capacity};

@@ -15,7 +15,7 @@ pub(crate) enum PartFault {
     NoThread,
 }
 
-/// Why a line of input isn't taken, or its part waits. After each of them the session goes on with the next line.
+/// Why a line of input isn't taken, or its part waits. After each but `Write` the session goes on with the next line.
 #[derive(Clone, Copy, Debug, PartialEq, Eq, Drop, Error)]
 pub enum TakeFault {
     /// The line has more than 16,777,216 bytes. Nothing changed.
@@ -42,7 +42,8 @@ pub enum TakeFault {
     /// The values are fed, and a thread couldn't be started. A blank line tries again.
     #[error("waits for a thread")]
     WaitsForThread,
-    /// The part was run, and what is new couldn't be written whole. A prefix of it was.
+    /// The part was run, and what is new couldn't be written whole. A prefix of it was, and a later line would write it again
+    /// from its beginning.
     #[error("news could not be written")]
     Write(WriteFault),
 }
