@@ -10,7 +10,7 @@ use crate::memory::NoMemory;
 use crate::tree::{Name, Process};
 use std::alloc::{Allocator, Global};
 use std::collections::HashMap;
-use std::hash::{BuildHasherDefault, FoldHasher};
+use std::hash::{BuildHasherDefault, DefaultHasher};
 use std::marker::Model;
 
 /// A process whose names are found by a look-up, and not by a walk over all of them. Contracts see the process.
@@ -20,7 +20,7 @@ pub struct Numbered<'p, A: Allocator = Global> {
     numbers: Table<A>,
 }
 
-type Table<A> = HashMap<String, usize, BuildHasherDefault<FoldHasher>, A>;
+type Table<A> = HashMap<String, usize, BuildHasherDefault<DefaultHasher>, A>;
 
 impl<'p, A: Allocator> Model for Numbered<'p, A> {
     ghost use Rattle.kahn_tree.specs.contracts.tree.Action as action;
@@ -60,7 +60,7 @@ impl<'p, A: Allocator + Clone> Numbered<'p, A> {
     pub fn of(alloc: A, process: &'p Process) -> Result<Numbered<'p, A>, NoMemory>
         ensures { IfOk result (λ n. n ≡ process.now) }
     {
-        let mut numbers = HashMap::new(alloc);
+        let mut numbers = HashMap::with_hasher(alloc, BuildHasherDefault::new());
         for (number, parameter) in process.parameters.iter().enumerate() {
             note(&mut numbers, &parameter.name, number)?;
         }
