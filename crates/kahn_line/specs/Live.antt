@@ -1,9 +1,9 @@
 -- What the words of the command line of the program that is fed line by line ask for.
 use Rattle.std.specs.Prelude.{◌≡◌, ⊤, ℕ, List, [], true, Option, Result, codes, option_map, string_bytes}
 use Rattle.std.specs.declared.result.Result.TheVariants.{Ok, Err}
-use Rattle.clap.specs.Words.{App, Text, IsAmong, fault_of, first_of, kind_of, matches_of, new_app, new_rule, one_of, with_rule}
+use Rattle.clap.specs.Words.{App, Text, IsAmong, fault_of, first_of, kind_of, matches_of, new_rule, one_of, with_rule}
 use Rattle.kahn_config.specs.Limits.{IsInRange}
-use Rattle.kahn_line.specs.Line.{number_or, number_rule, text_rule}
+use Rattle.kahn_line.specs.Line.{bare_app, number_or, number_rule, text_rule}
 use Rattle.kahn_line.specs.declared.line.LineFault.{LineFault}
 use Rattle.kahn_line.specs.declared.line.LineFault.TheVariants.{Refused, NoMemory}
 use Rattle.kahn_line.specs.declared.live.LiveOptions.{LiveOptions}
@@ -11,7 +11,7 @@ use Rattle.kahn_line.specs.declared.live.LiveOptions.{LiveOptions}
 -- the program text's path without a name, which is there, and the options
 abbrev pub live_app : App
 live_app =
-    with_rule (with_rule (with_rule (with_rule (with_rule (new_app (codes "kahn_live"))
+    with_rule (with_rule (with_rule (with_rule (with_rule (bare_app (codes "kahn_live"))
     (record (new_rule (codes "PROGRAM")) { required = true }))
     (number_rule (codes "workers") 1 16 (codes "4")))
     (number_rule (codes "quantum") 1 1000000 (codes "1000")))
@@ -35,7 +35,7 @@ pub record IsLive (words : List Text) (o : LiveOptions) : Type 0 where
   pub step : o.config.bound ≡ live_number words (codes "step") 1000000
   pub in_range : IsInRange o.config.workers o.config.quantum o.config.bound
 
--- what the words ask for; or what is at fault in them, and `--help` is such a fault; or want of memory
+-- what the words ask for; or what is at fault in them, and `--help` and `--version` are such faults; or want of memory
 abbrev pub IsLiveRead : List Text → Result LiveOptions LineFault → Type 0
 IsLiveRead words (Ok o) = IsLive words o × (fault_of live_app words ≡ [])
 IsLiveRead words (Err (Refused e)) = IsAmong (kind_of e) (fault_of live_app words)

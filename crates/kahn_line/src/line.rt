@@ -1,8 +1,8 @@
 //! The command line.
 
 ghost use Rattle.std.specs.Prelude.{◌≡◌, IfOk, codes, false, map, option_map, string_bytes};
-ghost use Rattle.clap.specs.Words.{app_of, first_value, found_of, new_app, one_text, rule_of};
-ghost use Rattle.kahn_line.specs.Line.{kahn_app, number_rule, text_rule, IsRead, IsSet, IsTold, ReadsOr};
+ghost use Rattle.clap.specs.Words.{app_of, first_value, found_of, one_text, rule_of};
+ghost use Rattle.kahn_line.specs.Line.{bare_app, kahn_app, number_rule, text_rule, IsRead, IsSet, IsTold, ReadsOr};
 ghost use Rattle.kahn_line.specs.declared.line.LineFault.TheVariants.{NoMemory};
 
 use clap::builder::ValueParser;
@@ -12,6 +12,9 @@ use kahn_config::Config;
 use std::alloc::{AllocError, Global};
 use std::convert::AsStr;
 use thiserror::Error;
+
+/// The version of the programs, which `--version` prints behind the name of the program. CHANGELOG.md has it as its newest heading.
+static VERSION: &str = "0.9.0";
 
 static ABOUT: &str =
     "Runs a network of processes that send one another values over channels, and reports what was sent.";
@@ -64,7 +67,7 @@ pub struct Options {
 /// Why a command line asks for no run.
 #[derive(Debug, Drop, Error)]
 pub enum LineFault {
-    /// The words are refused, or ask for the help: the text for the user.
+    /// The words are refused, or ask for the help or the version: the text for the user.
     #[error("{0}")]
     Refused(clap::Error),
     /// Memory was refused.
@@ -150,18 +153,19 @@ pub(crate) fn watch_arg<'a>(alloc: Global, help: &'a str) -> Arg<'a>
     text_arg(alloc, "watch", "NAME", help)
 }
 
-/// A program's name and the texts round its options in the help.
+/// A program's name, its version, and the texts round its options in the help.
 pub(crate) fn bare<'a>(
     alloc: Global,
     name: &'a str,
     about: &'a str,
     more: &'a str,
 ) -> Result<Command<'a>, AllocError>
-    ensures { IfOk result (λ c. app_of c ≡ new_app name.entry.now) }
+    ensures { IfOk result (λ c. app_of c ≡ bare_app name.entry.now) }
 {
     Ok(
         Command::new(alloc, name)
             .bin_name(name)?
+            .version(VERSION)
             .about(about)
             .after_help(more),
     )
@@ -235,7 +239,7 @@ pub(crate) fn config_of(
 }
 
 /// Reads the words of a command line, the first of which is the name of the program. It refuses with `Refused` where
-/// clap refuses the words, and where they ask for the help, and with `NoMemory` where memory was refused.
+/// clap refuses the words, and where they ask for the help or the version, and with `NoMemory` where memory was refused.
 pub fn read_line<'a, S: AsStr>(alloc: Global, words: &'a [S]) -> Result<Options, LineFault>
     ensures { IsRead (map S.text words.now) result }
 {

@@ -80,8 +80,8 @@ fn live_command<'a>(alloc: Global) -> Result<Command<'a>, AllocError>
 }
 
 /// Reads the words of a command line, the first of which is the name of the program. It refuses with `Refused` where
-/// clap refuses the words, as where they name no program text, and where they ask for the help, and with `NoMemory` where
-/// memory was refused.
+/// clap refuses the words, as where they name no program text, and where they ask for the help or the version, and with
+/// `NoMemory` where memory was refused.
 pub fn read_live_line<'a, S: AsStr>(alloc: Global, words: &'a [S]) -> Result<LiveOptions, LineFault>
     ensures { IsLiveRead (map S.text words.now) result }
 {
