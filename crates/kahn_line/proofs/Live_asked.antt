@@ -25,14 +25,14 @@ step_parsed = (apart, (apart, (apart, ((λ e. refl), (apart, tt)))))
 
 -- the options that are made of what a parse found are those that the words ask for
 pub asked_live : (cmd : Command) (m : ArgMatches) (words : List Text) → IsParsedFrom cmd m → HasMatchesOf (app_of cmd) words m → app_of cmd ≡ live_app
-    → (o : LiveOptions) → option_map string_bytes o.program ≡ first_value (found_of m) (codes "PROGRAM") → IsSet (found_of m) (codes "step") o.config
+    → (o : LiveOptions) → option_map string_bytes o.program ≡ first_value (found_of m) (codes "PROGRAM") → IsSet (found_of m) 1 (codes "step") o.config
     → IsLive words o
 asked_live cmd m words p matches is o program set =
     let f = found_of m in
     let rows : rows_of f ≡ matches_of live_app words = (matches (ap is_simple is)).0 ∙ ap (λ (a : App). matches_of a words) is in
     let text : (id : Text) → first_value f id ≡ live_text words id = λ id. first_value-rows f id ∙ ap (first_of id) rows in
     let one : (id : Text) → one_text f id ≡ one_of id (matches_of live_app words) = λ id. one_text-rows f id ∙ ap (one_of id) rows in
-    let workers = known 1 16 4 (one_text f (codes "workers")) o.config.workers set.workers
+    let workers = known 1 16 1 (one_text f (codes "workers")) o.config.workers set.threads
     (passed live_app refl refl cmd m p is (codes "workers") 1 16 workers_parsed 119 refl ((λ e. omega arith), (λ e. omega arith), (λ e. omega arith))) (omega arith) (omega arith) in
     let quantum = known 1 1000000 1000 (one_text f (codes "quantum")) o.config.quantum set.quantum
     (passed live_app refl refl cmd m p is (codes "quantum") 1 1000000 quantum_parsed 113 refl ((λ e. omega arith), (λ e. omega arith), (λ e. omega arith))) (omega arith) (omega arith) in
@@ -42,7 +42,7 @@ asked_live cmd m words p matches is o program set =
     record {
       program = program ∙ text (codes "PROGRAM");
       watch = set.watch ∙ text (codes "watch");
-      workers = workers.0 ∙ ap (number_or 4) (one (codes "workers"));
+      workers = workers.0 ∙ ap (number_or 1) (one (codes "workers"));
       quantum = quantum.0 ∙ ap (number_or 1000) (one (codes "quantum"));
       step = step.0 ∙ ap (number_or 1000000) (one (codes "step"));
       in_range = (workers.1, workers.2, quantum.1, quantum.2, omega arith);

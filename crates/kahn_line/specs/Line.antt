@@ -65,9 +65,9 @@ abbrev pub ReadsOr : ℕ → Option Text → ℕ → Type 0
 ReadsOr other None n = n ≡ other
 ReadsOr other (Some text) n = IsNumeral 10 (without_leading_plus text) → digits_value 10 (without_leading_plus text) < 2 ^ 64 → n ≡ number_or other (Some text)
 
--- a run is set up by what was found, where the option of this name has its bound
-pub record IsSet (f : Found) (limit : Text) (c : Config) : Type 0 where
-  pub workers : ReadsOr 4 (one_text f (codes "workers")) c.workers
+-- a run is set up by what was found, with so many workers where it has no number of them; the option of this name has its bound
+pub record IsSet (f : Found) (workers : ℕ) (limit : Text) (c : Config) : Type 0 where
+  pub threads : ReadsOr workers (one_text f (codes "workers")) c.workers
   pub quantum : ReadsOr 1000 (one_text f (codes "quantum")) c.quantum
   pub bound : ReadsOr 1000000 (one_text f limit) c.bound
   pub watch : option_map string_bytes c.watch ≡ first_value f (codes "watch")

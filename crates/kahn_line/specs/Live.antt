@@ -13,7 +13,7 @@ abbrev pub live_app : App
 live_app =
     with_rule (with_rule (with_rule (with_rule (with_rule (bare_app (codes "kahn_live"))
     (record (new_rule (codes "PROGRAM")) { required = true }))
-    (number_rule (codes "workers") 1 16 (codes "4")))
+    (number_rule (codes "workers") 1 16 (codes "1")))
     (number_rule (codes "quantum") 1 1000000 (codes "1000")))
     (number_rule (codes "step") 1 281474976710655 (codes "1000000")))
     (text_rule (codes "watch"))
@@ -30,7 +30,7 @@ live_number words name other = number_or other (one_of name (matches_of live_app
 pub record IsLive (words : List Text) (o : LiveOptions) : Type 0 where
   pub program : option_map string_bytes o.program ≡ live_text words (codes "PROGRAM")
   pub watch : option_map string_bytes o.config.watch ≡ live_text words (codes "watch")
-  pub workers : o.config.workers ≡ live_number words (codes "workers") 4
+  pub workers : o.config.workers ≡ live_number words (codes "workers") 1
   pub quantum : o.config.quantum ≡ live_number words (codes "quantum") 1000
   pub step : o.config.bound ≡ live_number words (codes "step") 1000000
   pub in_range : IsInRange o.config.workers o.config.quantum o.config.bound

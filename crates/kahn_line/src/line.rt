@@ -122,12 +122,12 @@ pub(crate) fn number_arg<'a>(
         .default_value(given)
 }
 
-/// The option of the number of workers.
-pub(crate) fn workers_arg<'a>(alloc: Global) -> Arg<'a>
-    ensures rule { rule_of result ≡ number_rule (codes "workers") 1 16 (codes "4") }
+/// The option of the number of workers, and how many there are where the words don't say.
+pub(crate) fn workers_arg<'a>(alloc: Global, given: &'a str) -> Arg<'a>
+    ensures rule { rule_of result ≡ number_rule (codes "workers") 1 16 given.entry.now }
     ensures local { result.global ≡ false }
 {
-    number_arg(alloc, "workers", 1, 16, "4", "Number of threads, 1 to 16")
+    number_arg(alloc, "workers", 1, 16, given, "Number of threads, 1 to 16")
 }
 
 /// The option of the quantum.
@@ -199,7 +199,7 @@ fn command<'a>(alloc: Global) -> Result<Command<'a>, AllocError>
     bare(alloc, "kahn", ABOUT, MORE)?
         .arg(program)?
         .arg(input)?
-        .arg(workers_arg(alloc))?
+        .arg(workers_arg(alloc, "4"))?
         .arg(quantum_arg(alloc))?
         .arg(bound)?
         .arg(watch)
@@ -222,16 +222,17 @@ fn number_or(matches: &ArgMatches<'_>, name: &str, other: u64) -> u64
     matches.get_one::<u64>(name).unwrap_or(other)
 }
 
-/// How the run is set up, by the name of the option with its bound.
+/// How the run is set up, by the number of workers where none was found and the name of the option with its bound.
 pub(crate) fn config_of(
     alloc: Global,
     matches: &ArgMatches<'_>,
+    workers: u64,
     limit: &str,
 ) -> Result<Config, AllocError>
-    ensures { IfOk result (IsSet (found_of matches.now) limit.now) }
+    ensures { IfOk result (IsSet (found_of matches.now) workers limit.now) }
 {
     Ok(Config {
-        workers: number_or(matches, "workers", 4),
+        workers: number_or(matches, "workers", workers),
         quantum: number_or(matches, "quantum", 1000),
         bound: number_or(matches, limit, 1_000_000),
         watch: copied(alloc, matches.get_str("watch"))?,
@@ -247,6 +248,6 @@ pub fn read_line<'a, S: AsStr>(alloc: Global, words: &'a [S]) -> Result<Options,
     Ok(Options {
         program: copied(alloc, matches.get_str("PROGRAM"))?,
         input: copied(alloc, matches.get_str("input"))?,
-        config: config_of(alloc, &matches, "bound")?,
+        config: config_of(alloc, &matches, 4, "bound")?,
     })
 }

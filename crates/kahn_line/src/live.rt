@@ -73,7 +73,7 @@ fn live_command<'a>(alloc: Global) -> Result<Command<'a>, AllocError>
     );
     bare(alloc, "kahn_live", ABOUT, MORE)?
         .arg(program)?
-        .arg(workers_arg(alloc))?
+        .arg(workers_arg(alloc, "1"))?
         .arg(quantum_arg(alloc))?
         .arg(step)?
         .arg(watch)
@@ -88,6 +88,6 @@ pub fn read_live_line<'a, S: AsStr>(alloc: Global, words: &'a [S]) -> Result<Liv
     let matches = live_command(alloc)?.try_get_matches_from(words)?;
     Ok(LiveOptions {
         program: copied(alloc, matches.get_str("PROGRAM"))?,
-        config: config_of(alloc, &matches, "step")?,
+        config: config_of(alloc, &matches, 1, "step")?,
     })
 }
