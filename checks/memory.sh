@@ -31,7 +31,7 @@ begin() {
 # goes_on: whether a further growth is to be refused.
 goes_on() {
   number=$((number + 1))
-  [ $alike -lt 25 ] && [ $number -lt 2000 ]
+  [ $alike -lt 25 ] && [ $number -lt 2000 ] && [ $failed -lt 20 ]
 }
 
 # refused PROGRAM WORD..: runs a program with the growth of that number refused: sets status and said, and leaves part and error.
@@ -75,7 +75,7 @@ refuse_run() {
     elif [ "$status $said" = "6 kahn: no thread" ] && [ ! -s part ]; then
       threads=$((threads + 1))
       pass
-    elif [ "$status$said" = 4 ] && python3 compare.py whole part; then
+    elif [ "$status$said" = 4 ] && python3 compare.py whole part 2> why; then
       stopped=$((stopped + 1))
       pass
     else
