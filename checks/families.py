@@ -221,7 +221,7 @@ def long_runs():
     ended = ["B: 549755289600", "print 1 p:", "end 1 p: waits on A after 2097154", "finished 2097154"]
     given = "A:" + "".join(f" {value}" for value in range(1048576))
     for words in (["--workers", "1"], ["--workers", "4", "--quantum", "64"]):
-        yield row(f"1048576 values through one process {' '.join(words)}", program, ended, given=given, words=[*words, "--bound", "3000000"], limits="600 5")
+        yield row(f"1048576 values through one process by workers {words[1]}", program, ended, given=given, words=[*words, "--bound", "3000000"], limits="600 5")
     program = "begin process p(); begin integer I; while I < 2000000 do begin I := I + 1; print I end end; p() end"
     printed = "print 1 p:" + "".join(f" {value}" for value in range(1, 2000001))
     report = [printed, "end 1 p: ended after 4000001", "finished 4000001"]

@@ -5,7 +5,7 @@ use crate::programs::{HANDED_ON, TWO_COUNTS};
 use crate::rows::{AMPLE, config, reported};
 use crossbeam_utils::Backoff;
 use kahn_pool::answer::Verdict;
-use kahn_pool::gate::{Gate, Open};
+use kahn_pool::gate::Gate;
 use std::alloc::{AllocError, Global};
 use std::sync::atomic::{AtomicU64, Ordering};
 use std::test::Fail;
@@ -208,9 +208,9 @@ impl Gate for Meeting {
     }
 }
 
-// 16 instances of a process that prints twice.
-fn prints(alloc: Global) -> Result<String, AllocError> {
-    let mut text = String::from_str(alloc, "begin process p(); begin print 1; print 2 end; p()")?;
+// 16 instances of a process with this body.
+fn sixteen(alloc: Global, body: &str) -> Result<String, AllocError> {
+    let mut text = format!(in alloc; "begin process p(); begin {body} end; p()")?;
     for _ in 1..16u64 {
         text.push_str(" par p()")?;
     }
@@ -218,19 +218,22 @@ fn prints(alloc: Global) -> Result<String, AllocError> {
     Ok(text)
 }
 
-const ONCE: u64 = 0x1111_1111_1111_1111;
+// A body of 14 events.
+const SHORT: &str = "integer I; while I < 6 do begin I := I + 1; print I end; print 7";
 
-const TWICE: u64 = 0x2222_2222_2222_2222;
+// Once for each of 16 instances.
+const EACH: u64 = 0x1111_1111_1111_1111;
 
 // As many workers as are asked for are there at the same time and never more, and one comes to each quantum of each process.
 #[test]
 fn workers_at_once(rt: HostRuntime) -> Result<(), Fail> {
-    let program = prints(rt.alloc())?;
-    for workers in 1..17 {
-        for (quantum, came) in [(1, TWICE), (2, ONCE), (7, ONCE), (1000, ONCE)] {
+    let program = sixteen(rt.alloc(), SHORT)?;
+    for workers in 1..17u64 {
+        for (quantum, times) in [(1, 14), (2, 7), (7, 2), (1000, 1)] {
             let gate = Meeting::of(workers);
             let config = config(rt.alloc(), workers, quantum, AMPLE, None)?;
             let (verdict, _) = reported(&rt, rt.alloc(), program.as_str(), "", config, &gate)?;
+            let came = EACH.wrapping_mul(times);
             assert_eq!(rt; gate.told(), (came, workers, 0), "{workers} {quantum}");
             assert_eq!(rt; verdict, Verdict::Finished);
         }
@@ -238,26 +241,27 @@ fn workers_at_once(rt: HostRuntime) -> Result<(), Fail> {
     Ok(())
 }
 
-// The same in two parts of a held run: the quantum, the bounds of the parts, and how many come in each.
+// Each part of a held run has the workers, the quantum and the gate that it was given: 64 quanta are done in each.
 #[test]
 fn workers_at_once_in_parts(rt: HostRuntime) -> Result<(), Fail> {
     let alloc = rt.alloc();
-    let network = network_of(alloc, prints(alloc)?.as_str())?;
+    let network = network_of(alloc, sixteen(alloc, "repeat begin end")?.as_str())?;
     for workers in 1..17u64 {
-        for (quantum, bound, entries) in [(1, 16, 16), (2, 16, 8), (7, AMPLE, 16), (1000, AMPLE, 16)]
-        {
+        for (quantum, bound) in [(1, 64), (2, 128), (7, 448), (1000, 64_000)] {
             let config = config(alloc, workers, quantum, 0, None)?;
             let mut held = begun(alloc, &network, "", config)?;
-            let met = workers.min(entries);
-            for (more, met) in [(bound, met), (16, if bound == 16 { met } else { 0 })] {
-                let gate = Meeting::of(met);
-                held.resume(&rt, more, &gate)?;
+            for _ in 0..2u64 {
+                let gate = Meeting::of(workers);
+                assert_eq!(rt; held.resume(&rt, bound, &gate), Ok(Verdict::Bound));
                 let (_, most, late) = gate.told();
-                let came = gate.entries.load(Ordering::SeqCst);
-                let entries = if met == 0 { 0 } else { entries };
-                assert_eq!(rt; (came, most, late), (entries, met, 0), "{workers} {quantum}");
+                let entries = gate.entries.load(Ordering::SeqCst);
+                assert_eq!(rt;
+                    (entries, most, late),
+                    (64, workers, 0),
+                    "{workers} {quantum}"
+                );
+                assert_eq!(rt; held.budget(), 0);
             }
-            assert_eq!(rt; held.resume(&rt, 0, &Open), Ok(Verdict::Finished));
         }
     }
     Ok(())

@@ -164,7 +164,10 @@ fn the_flush_of_each_writer_fails(rt: HostRuntime) -> Result<(), Fail> {
         assert_eq!(rt; (writer.calls, writer.flushes), (38, 2));
         assert_eq!(rt; write_line(&mut writer, &[b"digraph"]), told);
         assert_eq!(rt; (writer.calls, writer.flushes), (45, 3));
-        assert_eq!(rt; writer.taken.as_slice(), b"end 1 count: ended after 7\nfinished 7\ndigraph".as_slice());
+        assert_eq!(rt;
+            writer.taken.as_slice(),
+            b"end 1 count: ended after 7\nfinished 7\ndigraph".as_slice()
+        );
     }
     Ok(())
 }

@@ -22,7 +22,10 @@ fn words_are_refused(rt: HostRuntime) {
 fn a_line_without_words(rt: HostRuntime) -> Result<(), Fail> {
     let options = read_line(rt.alloc(), &["kahn"])?;
     let config = options.config;
-    assert_eq!(rt; (config.workers, config.quantum, config.bound), (4, 1000, 1_000_000));
+    assert_eq!(rt;
+        (config.workers, config.quantum, config.bound),
+        (4, 1000, 1_000_000)
+    );
     assert!(rt; options.program.is_none() && options.input.is_none() && config.watch.is_none());
     Ok(())
 }
