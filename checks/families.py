@@ -102,6 +102,12 @@ def long_texts():
     every = [f"n{number}" for number in range(55000)]
     each = body("; ".join(f"{name}:=1" for name in every), f"integer {', '.join(every)}; ")
     yield row("as many names as are each written once more", each, ENDED, words=["--workers", "1"], limits="200 5")
+    alike = [f"q6ddy9kyA8foNlypV_ly5C5G{number:08d}" + "x" * 16 for number in range(21000)]
+    ended, limits = {"report": ENDED, "words": ["--workers", "1"]}, "200 1"
+    yield row("21000 names that one seed hashes alike", body("", f"integer {','.join(alike)}; "), **ended, limits=limits)
+    some = alike[:9500]
+    used = body("; ".join(f"{name}:=1" for name in some), f"integer {', '.join(some)}; ")
+    yield row("names that one seed hashes alike are each written once more", used, **ended, limits=limits)
     yield refused("brackets up to the most bytes", "begin process p(); begin print ".ljust(MOST_BYTES, "("), "1:96: nesting is too deep")
     yield refused("not up to the most bytes", filled("not ", "print "), "1:288: nesting is too deep")
     semicolons = "; " * (MOST_BYTES // 2)

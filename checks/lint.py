@@ -90,7 +90,7 @@ def long_files():
 def without_head():
     """Sources and definitions whose first line doesn't say what they are; lists of modules say nothing."""
     for path, text in files("src/**/*.rt", "specs/**/*.antt"):
-        if not text.startswith(("//!", "-- ")) and os.path.basename(path) != "Lib.antt":
+        if not text.startswith(("//!", "-- ")) and os.path.basename(path) not in ("Lib.antt", "inner.antt"):
             yield path
 
 

@@ -8,8 +8,8 @@ ghost use Rattle.kahn_check.specs.Faults.{Declares};
 
 use crate::fault::CheckFault;
 use indexmap::IndexMap;
-use kahn_network::sides::Side;
-use kahn_tree::tree::{Name, Taking};
+use kahn_network::Side;
+use kahn_tree::{Name, Taking};
 use std::alloc::Global;
 use std::hash::{BuildHasherDefault, DefaultHasher};
 use std::marker::Model;

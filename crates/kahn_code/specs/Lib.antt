@@ -1,4 +1,3 @@
-pub mod Words
 pub mod Flat
 pub mod Cells
 pub mod Standing
@@ -9,3 +8,4 @@ pub mod Lines
 pub mod Progress
 pub mod Code
 pub mod Told
+pub mod inner

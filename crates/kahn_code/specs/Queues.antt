@@ -1,4 +1,4 @@
--- What contracts see of the plain queue of a channel.
+-- Believed. What contracts see of the plain queue of a channel.
 use Rattle.std.specs.Prelude.{ℕ}
 use Rattle.kahn_tree.specs.declared.tree.Program.{Program}
 use Rattle.kahn_streams.specs.Tokens.{Lists}

@@ -14,12 +14,9 @@ ghost use Rattle.kahn_code.specs.Told.{AreCounts, seat_of, told_of, told_view, I
 use crate::code::{Code, CodeFault};
 use crate::ports::Ports;
 use crate::progress::{Pause, Progress};
-use crate::steps::Steps;
-use kahn_network::network::Network;
-use kahn_streams::about::About;
-use kahn_streams::carried::Carried;
-use kahn_streams::input::Input;
-use kahn_streams::memory::NoMemory;
+use kahn_network::Network;
+use kahn_streams::{About, Carried, Input, NoMemory};
+use kahn_tree::Steps;
 use std::alloc::{Allocator, Global};
 use std::marker::Model;
 use std::sync::ledger::Ledger;

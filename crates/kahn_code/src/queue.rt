@@ -5,13 +5,8 @@ ghost use Rattle.kahn_streams.specs.declared.value.Line.TheVariants.{Channel};
 ghost use Rattle.kahn_streams.specs.Streams.{IsOf};
 ghost use Rattle.kahn_streams.specs.Tokens.{Names};
 
-use kahn_network::network::Network;
-use kahn_streams::about::About;
-use kahn_streams::carried::Carried;
-use kahn_streams::input::Input;
-use kahn_streams::memory::NoMemory;
-use kahn_streams::token::Token;
-use kahn_streams::value::Line;
+use kahn_network::Network;
+use kahn_streams::{About, Carried, Input, Line, NoMemory, Token};
 use std::alloc::Allocator;
 use std::collections::VecDeque;
 use std::marker::Model;

@@ -1,4 +1,4 @@
--- The status that the program ends with.
+-- Believed. The status that the program ends with.
 use Rattle.std.specs.Prelude.{ℕ, Result}
 use Rattle.std.specs.declared.result.Result.TheVariants.{Ok, Err}
 use Rattle.kahn_syntax.specs.declared.fault.SyntaxFault.TheVariants as syntax
@@ -10,8 +10,8 @@ use Rattle.kahn_pool.specs.declared.config.RunFault.TheVariants as run
 use Rattle.kahn_report.specs.declared.input.TextFault.TheVariants as text
 use Rattle.kahn_report.specs.declared.read.ReadFault.{ReadFault}
 use Rattle.kahn_report.specs.declared.read.ReadFault.TheVariants as read
-use Rattle.kahn_report.specs.declared.work.WorkFault.{WorkFault}
-use Rattle.kahn_report.specs.declared.work.WorkFault.TheVariants as work
+use Rattle.kahn_report.specs.declared.working.WorkFault.{WorkFault}
+use Rattle.kahn_report.specs.declared.working.WorkFault.TheVariants as work
 use Rattle.kahn_fault.specs.declared.fault.Fault.{Fault}
 use Rattle.kahn_fault.specs.declared.fault.Fault.TheVariants.{Open, Program, InputText, Work}
 

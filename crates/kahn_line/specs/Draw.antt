@@ -1,4 +1,4 @@
--- What the words of the command line of the program that draws ask for.
+-- Believed. What the words of the command line of the program that draws ask for.
 use Rattle.std.specs.Prelude.{◌≡◌, ⊤, List, [], Option, Result, codes, option_map, string_bytes}
 use Rattle.std.specs.declared.result.Result.TheVariants.{Ok, Err}
 use Rattle.clap.specs.Words.{App, Text, IsAmong, fault_of, first_of, kind_of, matches_of, new_rule, with_rule}

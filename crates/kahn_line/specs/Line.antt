@@ -1,4 +1,4 @@
--- What the words of a command line ask for, in the words of the library that reads them.
+-- Believed. What the words of a command line ask for, in the words of the library that reads them.
 use Rattle.std.specs.Prelude.{◌≡◌, ◌≢◌, ◌⊎◌, ◌<◌, ◌^◌, ⊤, ℕ, List, [], ◌∷◌, true, Option, Some, None, Result, codes, option_map, string_bytes}
 use Rattle.std.specs.declared.result.Result.TheVariants.{Ok, Err}
 use Rattle.std.specs.Str.Parse.{IsNumeral, digits_value, without_leading_plus}

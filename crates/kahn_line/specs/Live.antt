@@ -1,4 +1,4 @@
--- What the words of the command line of the program that is fed line by line ask for.
+-- Believed. What the words of the command line of the program that is fed line by line ask for.
 use Rattle.std.specs.Prelude.{◌≡◌, ⊤, ℕ, List, [], true, Option, Result, codes, option_map, string_bytes}
 use Rattle.std.specs.declared.result.Result.TheVariants.{Ok, Err}
 use Rattle.clap.specs.Words.{App, Text, IsAmong, fault_of, first_of, kind_of, matches_of, new_rule, one_of, with_rule}

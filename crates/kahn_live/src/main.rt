@@ -5,14 +5,9 @@ mod lines;
 
 use kahn_fault::Fault;
 use kahn_line::{LiveOptions, read_live_line, tell_line, tell_no_memory, tell_words};
-use kahn_pool::answer::Verdict;
-use kahn_pool::config::{Config, RunFault};
-use kahn_pool::gate::Open;
-use kahn_report::read::ReadFault;
-use kahn_report::work::{WorkFault, checked};
-use kahn_session::fault::TakeFault;
-use kahn_session::refusal::write_refusal;
-use kahn_session::session::Session;
+use kahn_pool::{Config, Open, RunFault, Verdict};
+use kahn_report::{ReadFault, WorkFault, checked};
+use kahn_session::{Session, TakeFault, write_refusal};
 use kahn_texts::{Texts, read_texts, tell};
 use lines::{Next, next_line};
 use std::io::{BufRead, BufReader, BufWriter, Write};

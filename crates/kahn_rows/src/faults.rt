@@ -1,16 +1,11 @@
 //! What is told of each fault, and the status.
 
-use kahn_check::fault::CheckFault;
+use kahn_check::CheckFault;
 use kahn_fault::{Fault, fault_line, status};
-use kahn_pool::answer::Verdict;
-use kahn_pool::config::RunFault;
-use kahn_report::input::TextFault;
-use kahn_report::read::ReadFault;
-use kahn_report::work::WorkFault;
-use kahn_report::write::WriteFault;
-use kahn_streams::entries::InputFault;
-use kahn_syntax::fault::{SyntaxFault, What};
-use kahn_tree::span::Span;
+use kahn_pool::{RunFault, Verdict};
+use kahn_report::{ReadFault, TextFault, WorkFault, WriteFault};
+use kahn_streams::InputFault;
+use kahn_syntax::{Span, SyntaxFault, What};
 use std::alloc::Global;
 use std::test::Fail;
 

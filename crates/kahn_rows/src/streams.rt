@@ -5,17 +5,14 @@ ghost use Rattle.std.specs.Prelude.{Some};
 use crate::held::network_of;
 use crate::programs::COUNT;
 use crate::rows::{AMPLE, config};
-use kahn_check::fault::CheckFault;
+use kahn_check::CheckFault;
 use kahn_fault::{Fault, fault_line};
-use kahn_pool::answer::Verdict;
-use kahn_pool::gate::Open;
-use kahn_pool::one::run_one;
-use kahn_report::news::{write_closing, write_news};
-use kahn_report::read::{ReadFault, read_text};
-use kahn_report::work::{WorkFault, work};
-use kahn_report::write::{WriteFault, write_line};
-use kahn_streams::input::Input;
-use kahn_tree::span::Span;
+use kahn_pool::{Open, Verdict, run_one};
+use kahn_report::{
+    ReadFault, WorkFault, WriteFault, read_text, work, write_closing, write_line, write_news,
+};
+use kahn_streams::Input;
+use kahn_syntax::Span;
 use std::alloc::Global;
 use std::io;
 use std::io::{Error, ErrorKind, Read, Write};

@@ -10,7 +10,7 @@ use Rattle.kahn_pool.proofs.Held_calls.{goes_on_same, goes_on_then}
 use Rattle.kahn_report.specs.News.{news_since}
 use Rattle.kahn_session.specs.Live.{HasAnswered, HasGoneOn, IsFedBy, IsTaken, IsUnfedBy, Live}
 use Rattle.kahn_session.specs.Pace.{HasAnswer, HasNoAnswer, Pace, most_bound, part_bound}
-use Rattle.kahn_session.specs.Shown.{AreShown}
+use Rattle.kahn_session.specs.inner.Shown.{AreShown}
 use Rattle.kahn_session.specs.declared.fault.TakeFault.{TakeFault}
 use Rattle.kahn_session.specs.declared.fault.TakeFault.TheVariants.{TooLong, NotUtf8, BadLine, BadValue, Feed, NoMemory, WaitsForMemory, WaitsForThread, Write}
 use Rattle.kahn_session.proofs.Showing.{news_fit}

@@ -1,4 +1,4 @@
--- A session: a run that is fed line by line, and what it has shown of its streams (this project's profile).
+-- Believed. A session: a run that is fed line by line, and what it has shown of its streams (this project's profile).
 use Rattle.std.specs.Prelude.{◌≡◌, ◌⊎◌, ℕ, ◌<◌, ◌≤◌, Bool, true, false, List, [], map, length, replicate, Option, Some, None, Result, Ok, Err}
 use Rattle.std.specs.Io.KnownBytes.{Appends}
 use Rattle.std.specs.Str.{IsUtf8}

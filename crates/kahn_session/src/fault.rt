@@ -1,7 +1,7 @@
 //! Why a line of input isn't taken.
 
-use kahn_report::write::WriteFault;
-use kahn_streams::feeds::FeedFault;
+use kahn_report::WriteFault;
+use kahn_streams::FeedFault;
 use thiserror::Error;
 
 /// Why a part of a run gives no verdict.

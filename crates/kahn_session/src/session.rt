@@ -14,15 +14,10 @@ ghost use Rattle.kahn_session.specs.Pace.{HasAnswer, HasNoAnswer};
 
 use crate::fault::{PartFault, TakeFault};
 use crate::pace::Paced;
-use kahn_network::network::Network;
-use kahn_pool::answer::{Answer, Stream, Verdict};
-use kahn_pool::config::{Config, RunFault};
-use kahn_pool::gate::Gate;
-use kahn_report::entries::{LineFault, MOST_BYTES, read_line};
-use kahn_report::news::{write_closing, write_news};
-use kahn_report::write::WriteFault;
-use kahn_streams::input::Input;
-use kahn_streams::value::Value;
+use kahn_network::Network;
+use kahn_pool::{Answer, Config, Gate, RunFault, Stream, Verdict};
+use kahn_report::{LineFault, MOST_BYTES, WriteFault, read_line, write_closing, write_news};
+use kahn_streams::{Input, Value};
 use std::alloc::Global;
 use std::io::Write;
 use std::marker::Model;
@@ -49,7 +44,7 @@ impl<'n> Model for Session<'n> {
     ghost use Rattle.kahn_pool.specs.HeldRuns.{IsAnswerOf};
     ghost use Rattle.kahn_pool.specs.declared.answer.Answer.{Answer as AnswerOf};
     ghost use Rattle.kahn_session.specs.Live.{Live, shown_of};
-    ghost use Rattle.kahn_session.specs.Shown.{AreShown};
+    ghost use Rattle.kahn_session.specs.inner.Shown.{AreShown};
 
     ghost Value = { Live };
 

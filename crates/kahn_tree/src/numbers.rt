@@ -4,7 +4,7 @@ ghost use Rattle.std.specs.Prelude.{◌≡◌, List, ℕ, IfOk, OnOk};
 ghost use Rattle.std.proofs.Common.{bytes_eq};
 ghost use Rattle.std.specs.BTreeMap.{get_by_text};
 ghost use Rattle.kahn_tree.specs.View.{bytes_of, names_of, number_of};
-ghost use Rattle.kahn_tree.specs.Numbers.{noted};
+ghost use Rattle.kahn_tree.specs.inner.Numbers.{noted};
 
 use crate::memory::NoMemory;
 use crate::tree::{Name, Process};
@@ -26,7 +26,7 @@ impl<'p, A: Allocator> Model for Numbered<'p, A> {
     ghost use Rattle.kahn_tree.specs.contracts.tree.Action as action;
     ghost use Rattle.kahn_tree.specs.contracts.tree.Form as form;
     ghost use Rattle.kahn_tree.specs.declared.tree.Process.{Process as Meant};
-    ghost use Rattle.kahn_tree.specs.Numbers.{AreNumbers};
+    ghost use Rattle.kahn_tree.specs.inner.Numbers.{AreNumbers};
     ghost use Rattle.kahn_tree.specs.View.{names_of};
     ghost use Rattle.std.specs.Coded.{codes};
     ghost use Rattle.std.specs.BTreeMap.{get_by_text};

@@ -2,10 +2,8 @@
 //! instances, then the channels.
 
 use crate::syntax::limits::repeated;
-use kahn_check::fault::CheckFault;
-use kahn_check::network::check;
-use kahn_syntax::parser::parse;
-use kahn_tree::span::Span;
+use kahn_check::{CheckFault, check};
+use kahn_syntax::{Span, parse};
 use std::alloc::{AllocError, Global};
 use std::test::Fail;
 

@@ -1,8 +1,7 @@
 //! Texts of the language, accepted and refused.
 
 use super::limits::fault;
-use kahn_syntax::fault::{SyntaxFault, What};
-use kahn_tree::span::Span;
+use kahn_syntax::{Span, SyntaxFault, What};
 
 static COUNTING: &str =
     "Begin Integer output channel W;\n  Process count(integer out W; integer N);\n  Begin integer I;\n    while I < N do begin send I on W; I := I + 1 end\n  End;\n  count(W, 3)\nEnd;\n";

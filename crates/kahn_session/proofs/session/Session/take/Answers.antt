@@ -10,7 +10,7 @@ use Rattle.kahn_report.specs.Report.{HasItsLines, IsLine}
 use Rattle.kahn_report.specs.Written.{AppendsFront}
 use Rattle.kahn_report.proofs.Right_lines.{right_lines}
 use Rattle.kahn_session.specs.Pace.{Pace}
-use Rattle.kahn_session.specs.Shown.{AreShown}
+use Rattle.kahn_session.specs.inner.Shown.{AreShown}
 use Rattle.kahn_session.specs.Live.{HasBroken, HasTaken, IsTaken, Live, shown_of}
 use Rattle.kahn_session.proofs.Showing.{shown_all, shown_on}
 use Rattle.kahn_session.proofs.Taking.{answered, halted_on, waiting, whole_on}
