@@ -40,6 +40,16 @@ say "a run that its bound stops" 3 'W: 0 1 2\nend 1 count: wants more after 6\ns
 run --workers=16 --quantum 1 "$double" --bound 281474976710655 --watch=A --input "$top/examples/double.input" < /dev/null
 say "all options" 0 'A: 1 2 3\nB: 2 4 6\nend 1 double: waits on A after 10\nfinished 10\n' ''
 
+# the version is that of the newest changes
+version=$(sed -n 's/^## \([0-9.]*\)$/\1/p' "$top/CHANGELOG.md" | head -n 1)
+find_live
+find_draw
+for program in "$kahn" "$live" "$draw"; do
+  "$program" --version > output 2> error < /dev/null
+  printf '%s' $? > status
+  say "the version of $program" 0 "$(basename "$program") $version\n" ''
+done
+
 # texts that aren't UTF-8
 printf 'begin \377' > bytes
 run < bytes
