@@ -50,12 +50,13 @@ try_texts() {
   part "grammars for editors" timeout 600 python3 checks/grammars.py
 }
 
-# The parts that try the programs which KAHN, KAHN_LIVE and KAHN_DRAW name.
+# The parts that try the programs which KAHN, KAHN_LIVE, KAHN_DRAW and KAHN_EXPLAIN name.
 try_programs() {
   part "files, streams and words that go wrong" timeout 600 bash checks/program.sh
   part "lines that come through pipes" timeout 600 bash checks/live.sh
   part "rows" bash checks/rows.sh
   part "pictures" bash checks/draw.sh
+  part "why runs stopped" timeout 600 bash checks/explain.sh
   part "commands of the pages" timeout 600 bash checks/transcripts.sh
   part "the release" timeout 600 bash checks/release.sh
   part "threads that are refused" bash checks/threads.sh

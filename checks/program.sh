@@ -44,7 +44,8 @@ say "all options" 0 'A: 1 2 3\nB: 2 4 6\nend 1 double: waits on A after 10\nfini
 version=$(sed -n 's/^## \([0-9.]*\)$/\1/p' "$top/CHANGELOG.md" | head -n 1)
 find_live
 find_draw
-for program in "$kahn" "$live" "$draw"; do
+find_explain
+for program in "$kahn" "$live" "$draw" "$explain"; do
   "$program" --version > output 2> error < /dev/null
   printf '%s' $? > status
   say "the version of $program" 0 "$(basename "$program") $version\n" ''

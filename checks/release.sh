@@ -6,6 +6,7 @@ source "$(dirname "${BASH_SOURCE[0]}")/common.sh"
 find_program
 find_live
 find_draw
+find_explain
 
 if ! is_released; then
   echo "release/ isn't of these sources: its programs are not compared"
@@ -21,6 +22,7 @@ compare() {
 compare kahn "$kahn"
 compare kahn_live "$live"
 compare kahn_draw "$draw"
+compare kahn_explain "$explain"
 
 # same NAME GIVEN WANTED: compares two texts.
 same() {
@@ -44,7 +46,7 @@ ln -s "$work/copy/kahn_draw" "$work/home/draw"
 same "another program through a link of another name" "$(given "$work/home/draw" examples/count.kahn | head -n 1)" "digraph network {"
 
 same "an installation" "$(given bash install.sh "$work/prefix" > /dev/null && "$work/prefix/bin/kahn" examples/count.kahn)" "$report"
-same "what is installed" "$(cd "$work/prefix" && find . -type f | sort | tr '\n' ' ')" "./bin/kahn ./bin/kahn_draw ./bin/kahn_live "
+same "what is installed" "$(cd "$work/prefix" && find . -type f | sort | tr '\n' ' ')" "./bin/kahn ./bin/kahn_draw ./bin/kahn_explain ./bin/kahn_live "
 given bash install.sh --uninstall "$work/prefix" > /dev/null
 same "what is left" "$(find "$work/prefix" -type f)" ""
 given DESTDIR="$work/root" PREFIX=/opt/kahn bash install.sh > /dev/null

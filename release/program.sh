@@ -1,6 +1,6 @@
 # shellcheck shell=bash
 # Sourced by kahn, by install.sh and by the scripts here, with top set to the top of the repository: finds the programs.
-programs=(kahn kahn_live kahn_draw)
+programs=(kahn kahn_live kahn_draw kahn_explain)
 
 # is_program NAME: whether one of the programs has this name.
 is_program() {

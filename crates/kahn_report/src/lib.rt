@@ -20,6 +20,7 @@ pub use write::{WriteFault, write_report};
 
 // For the crates above.
 pub use entries::{LineFault, MOST_BYTES, read_entries, read_line};
+pub use names::{channel_name, process_name};
 pub use news::{write_closing, write_news};
 pub use working::checked;
 pub use write::{write_line, write_line_counted};

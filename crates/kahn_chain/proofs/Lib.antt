@@ -1,0 +1,3 @@
+mod Causes
+mod Leading
+mod Walking
