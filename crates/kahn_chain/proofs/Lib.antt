@@ -1,3 +1,3 @@
-mod Causes
+mod Caused
 mod Leading
 mod Walking

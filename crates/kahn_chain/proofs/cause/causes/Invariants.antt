@@ -1,6 +1,6 @@
 -- The causes so far.
 use Rattle.kahn_network.specs.Network.{network_of}
-use Rattle.kahn_chain.proofs.Causes.{AreFirst}
+use Rattle.kahn_chain.proofs.Caused.{AreFirst}
 use Rattle.kahn_chain.proofs.cause.causes.Given as goal
 
 abbrev pub invariant-loop-instance : goal.invariant-loop-instance
