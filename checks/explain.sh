@@ -67,7 +67,7 @@ network tail 'integer channel A, B, C; integer output channel W;' 'copy(B, W) pa
 gives "the end of a stream" 0 "1 copy waits on B from 2 copy, as 4 count has ended: for ever
 2 copy waits on C from 3 copy, as 4 count has ended: for ever
 3 copy waits on A from 4 count, as 4 count has ended: for ever
-finished 16" '' tail
+finished 15" '' tail
 network input 'integer input channel A; integer channel B; integer output channel W;' 'copy(B, W) par copy(A, B)'
 echo 'A: 1 2' > values
 gives "an input" 0 "1 copy waits on B from 2 copy, as 2 copy waits on A, an input
@@ -76,7 +76,7 @@ finished 14" '' input --input values
 network fault 'integer channel A, B; integer output channel W;' 'copy(B, W) par divide(A, B) par count(A, 3)'
 gives "a fault" 8 "1 copy waits on B from 2 divide, as 2 divide has a fault: for ever
 2 divide has a fault, division
-finished 12" '' fault
+finished 10" '' fault
 network both 'integer channel A, B, C; integer output channel W;' 'copy(C, C) par divide(A, B) par count(A, 3) par copy(B, W)'
 "$explain" both > output 2> error
 if [ $? = 8 ] && grep -q "1 copy waits on C from 1 copy, as 1 copy $dead" output; then pass; else fail "a fault beside a ring"; fi
