@@ -1,5 +1,8 @@
 //! Why a line of input isn't taken.
 
+ghost use Rattle.std.specs.Prelude.{◌≡◌};
+ghost use Rattle.kahn_session.specs.Live.{breaks};
+
 use kahn_report::WriteFault;
 use kahn_streams::FeedFault;
 use thiserror::Error;
@@ -42,8 +45,16 @@ pub enum TakeFault {
     /// The values are fed, and a thread couldn't be started. A blank line tries again.
     #[error("waits for a thread")]
     WaitsForThread,
-    /// The part was run, and what is new couldn't be written whole. A prefix of it was, and a later line would write it again
-    /// from its beginning.
+    /// The part was run, and what is new couldn't be written whole. A prefix of it was, and the session is broken.
     #[error("news could not be written")]
     Write(WriteFault),
+}
+
+impl TakeFault {
+    /// Whether the session is broken by it.
+    pub fn breaks(self) -> bool
+        ensures { result ≡ breaks self }
+    {
+        matches!(self, TakeFault::Write(_))
+    }
 }
