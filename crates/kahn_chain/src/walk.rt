@@ -3,7 +3,7 @@
 ghost use Rattle.std.specs.Prelude.{◌≡◌, ◌<◌, IfOk, length};
 ghost use Rattle.kahn_network.specs.Network.{network_of};
 ghost use Rattle.kahn_chain.specs.Chain.{AreStandings};
-ghost use Rattle.kahn_chain.specs.inner.Walk.{IsNext, IsWalked};
+ghost use Rattle.kahn_chain.specs.inner.Walk.{IsStepFrom, IsWalked};
 
 use crate::standing::{Cause, Standing};
 use kahn_network::Network;
@@ -31,7 +31,7 @@ pub(crate) struct Walked {
 fn next(network: &Network, standings: &[Standing], instance: usize) -> Step
     requires known { AreStandings (network_of network.now) standings.now }
     requires here { instance < length standings.now }
-    ensures { IsNext (network_of network.now) standings.now instance result }
+    ensures { IsStepFrom (network_of network.now) standings.now instance result }
 {
     match standings[instance] {
         Standing::Waits(channel) => match network.writer(channel) {

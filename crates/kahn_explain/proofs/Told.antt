@@ -14,7 +14,7 @@ use Rattle.kahn_report.specs.declared.working.WorkFault.TheVariants.{Syntax, Che
 use Rattle.kahn_report.specs.Written.{AppendsFront}
 use Rattle.kahn_why.specs.Words.{IsAnswer, IsExplained}
 use Rattle.kahn_why.specs.declared.told.Explanation.{Explanation}
-use Rattle.kahn_explain.specs.Explaining.{IsExplanationOf, IsTold}
+use Rattle.kahn_explain.specs.Explaining.{IsExplanationOf, HasExplained}
 
 -- the answer of a run of a checked program
 pub run_answer : (program : List ℕ) (t : Program) (config : Config) (lists : Lists) (a : Answer) → IsChecked program t → IsRun t lists config a → IsAnswer t a
@@ -32,7 +32,7 @@ broke_off old new text gone = subst (AppendsFront old new) (append-nil text) gon
 
 -- what each part says of the whole
 pub unchecked : (program input : List ℕ) (config : Config) (written : Option (List ℕ)) (fault : WorkFault) → IsUnchecked program fault →
-    IsTold program input config written written (Err fault)
+    HasExplained program input config written written (Err fault)
 unchecked program input config written (Syntax f) h = (h, refl)
 unchecked program input config written (Check f) h = (h, refl)
 unchecked program input config written (Text f) h = absurd h
@@ -40,12 +40,12 @@ unchecked program input config written (Run f) h = absurd h
 unchecked program input config written (Write f) h = absurd h
 
 pub unanswered : (program input : List ℕ) (config : Config) (written : Option (List ℕ)) (t : Program) (fault : WorkFault) → IsChecked program t →
-    IsUnanswered t input config fault → IsTold program input config written written (Err fault)
+    IsUnanswered t input config fault → HasExplained program input config written written (Err fault)
 unanswered program input config written t (Syntax f) is h = absurd h
 unanswered program input config written t (Check f) is h = absurd h
 unanswered program input config written t (Text f) is h = ((t, is, h), refl)
 unanswered program input config written t (Run f) is h = (inr (t, h.0, is, h.1, h.2), refl)
 unanswered program input config written t (Write f) is h = absurd h
 
-pub unexplained : (program input : List ℕ) (config : Config) (written : Option (List ℕ)) → IsTold program input config written written (Err (Run NoMemory))
+pub unexplained : (program input : List ℕ) (config : Config) (written : Option (List ℕ)) → HasExplained program input config written written (Err (Run NoMemory))
 unexplained program input config written = (inl refl, refl)

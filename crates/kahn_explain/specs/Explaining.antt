@@ -4,7 +4,7 @@ use Rattle.std.specs.Io.KnownBytes.{Appends}
 use Rattle.kahn_config.specs.declared.Config.{Config}
 use Rattle.kahn_tree.specs.declared.tree.Program.{Program}
 use Rattle.kahn_streams.specs.Tokens.{Lists}
-use Rattle.kahn_pool.specs.Runs.{IsUnrun}
+use Rattle.kahn_pool.specs.Runs.{IsRun, IsUnrun}
 use Rattle.kahn_pool.specs.declared.answer.Answer.{Answer}
 use Rattle.kahn_pool.specs.declared.answer.Verdict.TheVariants.{Finished, Bound, Memory}
 use Rattle.kahn_pool.specs.declared.config.RunFault.TheVariants.{NoMemory}
@@ -18,6 +18,10 @@ use Rattle.kahn_why.specs.declared.told.Explanation.{Explanation}
 use Rattle.kahn_why.specs.declared.told.Told.{Told}
 use Rattle.kahn_why.specs.declared.told.Told.TheVariants as told
 
+-- a right answer of the run of a network on an input text
+abbrev pub IsAnswerFor : Program → List ℕ → Config → Answer → Type 0
+IsAnswerFor t text config a = (lists : Lists) × StandsFor t text lists × IsRun t lists config a
+
 -- why a right answer of the run of these texts stopped
 abbrev pub IsExplanationOf : List ℕ → List ℕ → Config → Explanation → Type 0
 IsExplanationOf program input config e =
@@ -25,15 +29,15 @@ IsExplanationOf program input config e =
 
 -- the explanation went out, or why not: the first of the faults in this order, after which nothing was written, or the writer's,
 -- after which a prefix of it was
-abbrev pub IsTold : List ℕ → List ℕ → Config → Option (List ℕ) → Option (List ℕ) → Result Told WorkFault → Type 0
-IsTold program input config old new (Ok x) =
+abbrev pub HasExplained : List ℕ → List ℕ → Config → Option (List ℕ) → Option (List ℕ) → Result Told WorkFault → Type 0
+HasExplained program input config old new (Ok x) =
     (e : Explanation) × IsExplanationOf program input config e × (e.told ≡ x) × Appends old new (string_bytes e.text)
-IsTold program input config old new (Err (Syntax f)) = IsUnchecked program (Syntax f) × (new ≡ old)
-IsTold program input config old new (Err (Check f)) = IsUnchecked program (Check f) × (new ≡ old)
-IsTold program input config old new (Err (Text f)) = ((t : Program) × IsChecked program t × IsTextFault t input f) × (new ≡ old)
-IsTold program input config old new (Err (Run f)) =
+HasExplained program input config old new (Err (Syntax f)) = IsUnchecked program (Syntax f) × (new ≡ old)
+HasExplained program input config old new (Err (Check f)) = IsUnchecked program (Check f) × (new ≡ old)
+HasExplained program input config old new (Err (Text f)) = ((t : Program) × IsChecked program t × IsTextFault t input f) × (new ≡ old)
+HasExplained program input config old new (Err (Run f)) =
     ((f ≡ NoMemory) ⊎ ((t : Program) × (lists : Lists) × IsChecked program t × StandsFor t input lists × IsUnrun t config f)) × (new ≡ old)
-IsTold program input config old new (Err (Write f)) =
+HasExplained program input config old new (Err (Write f)) =
     (e : Explanation) × IsExplanationOf program input config e × AppendsFront old new (string_bytes e.text)
 
 -- the status for what a run came to

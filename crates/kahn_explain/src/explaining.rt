@@ -1,11 +1,8 @@
 //! From a program text and an input text to why the run stopped.
 
 ghost use Rattle.std.specs.Prelude.{◌≡◌, MatchResult};
-ghost use Rattle.kahn_pool.specs.Runs.{IsRun};
-ghost use Rattle.kahn_report.specs.Inputs.{StandsFor};
 ghost use Rattle.kahn_report.specs.Work.{IsUnanswered};
-ghost use Rattle.kahn_streams.specs.Tokens.{Lists};
-ghost use Rattle.kahn_explain.specs.Explaining.{IsTold, told_status};
+ghost use Rattle.kahn_explain.specs.Explaining.{HasExplained, IsAnswerFor, told_status};
 
 use kahn_network::Network;
 use kahn_pool::{Answer, Config, Open, RunFault, Verdict, run};
@@ -24,7 +21,7 @@ fn answered<R: Threads + Wait + Sync>(
     text: &str,
     config: Config,
 ) -> Result<Answer, WorkFault>
-    ensures { MatchResult result (λ a. (lists : Lists) × StandsFor network.now text.now lists × IsRun network.now lists config a) (IsUnanswered network.now text.now config) }
+    ensures { MatchResult result (IsAnswerFor network.now text.now config) (IsUnanswered network.now text.now config) }
 {
     let input = read_input(alloc, text, network)?;
     match run(rt, alloc, network, input, config, &Open) {
@@ -43,7 +40,7 @@ pub(crate) fn explain<R: Threads + Wait + Sync, W: Write>(
     config: Config,
     writer: &mut W,
 ) -> Result<Told, WorkFault>
-    ensures { IsTold program.now input.now config (W.contents writer.old) (W.contents writer.new) result }
+    ensures { HasExplained program.now input.now config (W.contents writer.old) (W.contents writer.new) result }
 {
     let network = match checked(alloc, program) {
         Ok(network) => network,

@@ -21,7 +21,7 @@ use Rattle.kahn_pool.specs.declared.answer.Outcome.TheVariants.{Ended, Waits, Fa
 use Rattle.kahn_pool.specs.declared.answer.Verdict.{Verdict}
 use Rattle.kahn_pool.specs.declared.answer.Verdict.TheVariants.{Finished, Bound, Memory}
 use Rattle.kahn_why.specs.Why.{standing_of, standings_of, stands}
-use Rattle.kahn_why.specs.Words.{AreOfNetwork, IsAnswer, IsOfNetwork, cause_at, line_text, lines_text, place_of}
+use Rattle.kahn_why.specs.Words.{AreOfNetwork, IsAnswer, IsOfNetwork, cause_at, line_text, lines_text, ends_at}
 use Rattle.kahn_why.proofs.Stands.{end_of, waiting}
 
 -- the line of the end at i, and those that follow
@@ -42,7 +42,7 @@ lines_moved t v ys xs i d all old new line below is added before =
     ∙ ap (λ l. old ++ l) (sym (lines_split t v ys xs i d below))
     ∙ before
 
-place_within : (N : Network) (ss : List Standing) (p : ℕ) (y : Cause) → IsCause N ss p y → place_of y < length ss
+place_within : (N : Network) (ss : List Standing) (p : ℕ) (y : Cause) → IsCause N ss p y → ends_at y < length ss
 place_within N ss p (Input z c) is = slice_get_within ss z (S.Waits c) is.1
 place_within N ss p (Stopped z s) is = slice_get_within ss z s is.1
 place_within N ss p (Ring z) is = slice_get_within ss z (S.Waits is.1.ring.0) is.1.ring.2.0
@@ -56,7 +56,7 @@ of_network t xs ys p d e h below =
     let few : length xs ≡ length t.instances.items = sym (length-map xs stands) ∙ many in
     let y = get_or ys p e in
     let at : slice_get ys p ≡ Some y = slice_get-get_or ys p e (omega (arith, below, h.causes.each, length-map xs stands)) in
-    let led : place_of y < length (map stands xs) = place_within N (map stands xs) p y (h.causes.causes p y at) in
+    let led : ends_at y < length (map stands xs) = place_within N (map stands xs) p y (h.causes.causes p y at) in
     record {
       here = omega (arith, below, few);
       there = omega (arith, led, many);

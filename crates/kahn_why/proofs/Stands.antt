@@ -22,7 +22,7 @@ use Rattle.kahn_pool.specs.declared.answer.Outcome.{Outcome}
 use Rattle.kahn_pool.specs.declared.answer.Outcome.TheVariants.{Ended, Waits, Faulted, More}
 use Rattle.kahn_pool.specs.declared.answer.Verdict.{Verdict}
 use Rattle.kahn_pool.specs.declared.answer.Verdict.TheVariants.{Finished, Bound, Memory}
-use Rattle.kahn_why.specs.Why.{IsFinal, IsOver, StayForGood, standing_of, standings_of, stands}
+use Rattle.kahn_why.specs.Why.{IsFinal, IsEndedOrFaulted, StayForGood, standing_of, standings_of, stands}
 use Rattle.kahn_why.specs.inner.Stuck.{AreStuck}
 use Rattle.kahn_why.proofs.Good.{stays_so}
 
@@ -86,13 +86,13 @@ module _ (N : Network) (ss : List Standing) where
       (parted p (nodes w z h) q k)
 
   abbrev IsOut : ℕ → Type 0
-  IsOut q = (s : Standing) × (slice_get ss q ≡ Some s) × IsOver s
+  IsOut q = (s : Standing) × (slice_get ss q ≡ Some s) × IsEndedOrFaulted s
 
   -- each of these is over, or waits on one of them
   abbrev IsClosed : List ℕ → Type 0
   IsClosed L = (q : ℕ) → is_in L q ≡ true → IsOut q ⊎ IsOn L q
 
-  closed_end : (p z : ℕ) (s : Standing) (h : Leads N ss p z) → slice_get ss z ≡ Some s → IsOver s → IsClosed (nodes p z h)
+  closed_end : (p z : ℕ) (s : Standing) (h : Leads N ss p z) → slice_get ss z ≡ Some s → IsEndedOrFaulted s → IsClosed (nodes p z h)
   closed_end p z s h e over q k = ⊎_elim (λ same. inl (s, ap (slice_get ss) same ∙ e, over)) inr (closed p z h q k)
 
   closed_ring : (p z : ℕ) (h : Leads N ss p z) (r : LeadsOn N ss z z) → IsClosed (nodes p z h ++ nodes r.1 z r.3)
@@ -153,7 +153,7 @@ through o x e apart = (λ cut. none (sym (ap ending cut) ∙ e), λ q dry. apart
     one : {q : ℕ} → Some x ≡ Some (net.Waiting q) → x ≡ net.Waiting q
     one f = cc
 
-out_of : (v : Verdict) (N : Network) (A : Histories) (p e : ℕ) (o : Outcome) → IsOver (standing_of o) → IsOutcome v N A p e o
+out_of : (v : Verdict) (N : Network) (A : Histories) (p e : ℕ) (o : Outcome) → IsEndedOrFaulted (standing_of o) → IsOutcome v N A p e o
     → IsThrough (exec_at N e p A).outcome
 out_of v N A p e Ended over h = through (exec_at N e p A).outcome net.Ended h (λ q f. absurd cc)
 out_of v N A p e (Faulted k) over h = through (exec_at N e p A).outcome (net.Faulted k) h (λ q f. absurd cc)
@@ -185,7 +185,7 @@ module _ (N : Network) (I : Inputs) (bound : ℕ) (watch : Option ℕ) (a : Answ
   out : (q : ℕ) → IsOut N ss q → IsThrough (exec_at N (events_at q) q r.tapes).outcome
   out q h =
       let (x, has, is) = stood q h.0 h.1 in
-      out_of a.verdict N r.tapes q (events_at q) x.outcome (subst IsOver (sym is) h.2) (came q x has)
+      out_of a.verdict N r.tapes q (events_at q) x.outcome (subst IsEndedOrFaulted (sym is) h.2) (came q x has)
 
   same_dry : (o : Came Store) (q d : ℕ) → o ≡ Dry q → o ≡ Dry d → q ≡ d
   same_dry o q d e f = cc
@@ -232,8 +232,8 @@ module _ (N : Network) (I : Inputs) (bound : ℕ) (watch : Option ℕ) (a : Answ
         let at : slice_get ss p ≡ Some S.More = slice_get-map stands a.ends.items p ∙ ap (option_map stands) has ∙ ap (λ o. Some (standing_of o)) e in
         ⊎_elim (λ o. more_over o.0 (sym at ∙ o.1) o.2) (λ on. more_waits on.0 (sym at ∙ on.2.0)) h
       where
-        more_over : (s : Standing) → Some S.More ≡ Some s → IsOver s → ⊥
-        more_over s f over = subst IsOver (sym same) over
+        more_over : (s : Standing) → Some S.More ≡ Some s → IsEndedOrFaulted s → ⊥
+        more_over s f over = subst IsEndedOrFaulted (sym same) over
           where
             same : S.More ≡ s
             same = cc

@@ -27,16 +27,16 @@ stands x = standing_of x.outcome
 abbrev pub standings_of : Answer → List Standing
 standings_of a = map stands a.ends.items
 
-abbrev pub IsOver : Standing → Type 0
-IsOver S.Ended = Unit {0}
-IsOver (S.Waits c) = ⊥
-IsOver S.Faulted = Unit {0}
-IsOver S.More = ⊥
+abbrev pub IsEndedOrFaulted : Standing → Type 0
+IsEndedOrFaulted S.Ended = Unit {0}
+IsEndedOrFaulted (S.Waits c) = ⊥
+IsEndedOrFaulted S.Faulted = Unit {0}
+IsEndedOrFaulted S.More = ⊥
 
 -- a ring, or an instance that has ended or has a fault
 abbrev pub IsFinal : Cause → Type 0
 IsFinal (Input z c) = ⊥
-IsFinal (Stopped z s) = IsOver s
+IsFinal (Stopped z s) = IsEndedOrFaulted s
 IsFinal (Ring z) = Unit {0}
 
 -- this is the end of p, whatever is added to the input

@@ -71,9 +71,9 @@ cause_text t v p (Input z c) = input_text t (z == p) z c
 cause_text t v p (Stopped z s) = as_text t z (stopped_text s) (lasting_text v s) []
 cause_text t v p (Ring z) = as_text t z (codes " is in a deadlock") (for_ever_text v) []
 
-abbrev pub fault_text : Failure → List ℕ
-fault_text Overflow = codes "overflow"
-fault_text Division = codes "division"
+abbrev pub failure_words : Failure → List ℕ
+failure_words Overflow = codes "overflow"
+failure_words Division = codes "division"
 
 -- the line of p, which waits on c by this cause
 abbrev pub waits_text : Program → Verdict → ℕ → ℕ → Cause → List ℕ
@@ -82,7 +82,7 @@ waits_text t v p c y =
 
 -- the line of p, which has this fault
 abbrev pub faulted_text : Program → ℕ → Failure → List ℕ
-faulted_text t p k = concat (who_text t p ∷ codes " has a fault, " ∷ fault_text k ∷ codes "\n" ∷ [])
+faulted_text t p k = concat (who_text t p ∷ codes " has a fault, " ∷ failure_words k ∷ codes "\n" ∷ [])
 
 -- the line of p, which stands so by this cause
 abbrev pub line_text : Program → Verdict → ℕ → Outcome → Cause → List ℕ
@@ -134,15 +134,15 @@ IsExplained t a e =
 
 -- ---- what may be said
 
-abbrev pub place_of : Cause → ℕ
-place_of (Input z c) = z
-place_of (Stopped z s) = z
-place_of (Ring z) = z
+abbrev pub ends_at : Cause → ℕ
+ends_at (Input z c) = z
+ends_at (Stopped z s) = z
+ends_at (Ring z) = z
 
 -- the instances and the channel are the network's
 pub record IsOfNetwork (t : Program) (p : ℕ) (o : Outcome) (y : Cause) : Type 0 where
   pub here : p < length t.instances.items
-  pub there : place_of y < length t.instances.items
+  pub there : ends_at y < length t.instances.items
   pub channel : (c : ℕ) → o ≡ Waits c → c < length (network_of t).channels
 
 -- the causes are those of these ends

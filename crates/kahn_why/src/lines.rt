@@ -2,7 +2,7 @@
 
 ghost use Rattle.std.specs.Prelude.{◌≡◌, ◌<◌, ◌++◌, IfOk, length, string_bytes};
 ghost use Rattle.kahn_network.specs.Network.{network_of};
-ghost use Rattle.kahn_why.specs.Words.{as_text, cause_text, faulted_text, line_text, lines_text, waits_text, place_of, AreOfNetwork, IsOfNetwork};
+ghost use Rattle.kahn_why.specs.Words.{as_text, cause_text, faulted_text, line_text, lines_text, waits_text, ends_at, AreOfNetwork, IsOfNetwork};
 
 use crate::pieces::{add, add_source, add_who, fault_word, for_ever, lasting, stopped_word};
 use kahn_chain::Cause;
@@ -37,7 +37,7 @@ fn add_cause(
     instance: usize,
     cause: Cause,
 ) -> Result<(), AllocError>
-    requires { place_of cause < length network.now.instances.items }
+    requires { ends_at cause < length network.now.instances.items }
     ensures { IfOk result (λ _. string_bytes text.new ≡ string_bytes text.old ++ cause_text network.now verdict instance cause) }
 {
     match cause {
@@ -67,7 +67,7 @@ fn add_waits(
     cause: Cause,
 ) -> Result<(), AllocError>
     requires here { instance < length network.now.instances.items }
-    requires there { place_of cause < length network.now.instances.items }
+    requires there { ends_at cause < length network.now.instances.items }
     requires channel { channel < length (network_of network.now).channels }
     ensures { IfOk result (λ _. string_bytes text.new ≡ string_bytes text.old ++ waits_text network.now verdict instance channel cause) }
 {

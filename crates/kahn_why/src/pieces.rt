@@ -2,7 +2,7 @@
 
 ghost use Rattle.std.specs.Prelude.{◌≡◌, ◌<◌, ◌++◌, IfOk, flat_map, length, string_bytes};
 ghost use Rattle.kahn_network.specs.Network.{channel_source, network_of};
-ghost use Rattle.kahn_why.specs.Words.{fault_text, for_ever_text, lasting_text, source_text, stopped_text, who_text};
+ghost use Rattle.kahn_why.specs.Words.{failure_words, for_ever_text, lasting_text, source_text, stopped_text, who_text};
 
 use itoa::Buffer;
 use kahn_chain::Standing;
@@ -88,7 +88,7 @@ pub(crate) fn lasting(verdict: Verdict, standing: Standing) -> &'static str
 
 /// The word for a fault.
 pub(crate) fn fault_word(kind: Failure) -> &'static str
-    ensures { result.now ≡ fault_text kind }
+    ensures { result.now ≡ failure_words kind }
 {
     match kind {
         Failure::Overflow => "overflow",

@@ -16,9 +16,9 @@ IsHere N ss z (Stopped y s) = (y ≡ z) × IsCause N ss z (Stopped y s)
 IsHere N ss z (Ring y) = ⊥
 
 -- the one that z waits on, or why there is none
-abbrev pub IsNext : Network → List Standing → ℕ → Step → Type 0
-IsNext N ss z (On w) = (w < length ss) × ((c : ℕ) × Awaits N ss z c w)
-IsNext N ss z (Stop x) = IsHere N ss z x
+abbrev pub IsStepFrom : Network → List Standing → ℕ → Step → Type 0
+IsStepFrom N ss z (On w) = (w < length ss) × ((c : ℕ) × Awaits N ss z c w)
+IsStepFrom N ss z (Stop x) = IsHere N ss z x
 
 -- where the walk from p stopped; in a ring at any of its instances
 abbrev pub IsStop : Network → List Standing → ℕ → Cause → Type 0
