@@ -29,8 +29,8 @@ abbrev pub live_number : List Text → Text → ℕ → ℕ
 live_number words name other = number_or other (one_of name (matches_of live_app words))
 
 -- whether the words give a name
-abbrev pub is_given : List Text → Text → Bool
-is_given words name = not (count_of name (matches_of live_app words) == 0)
+abbrev pub live_flag : List Text → Text → Bool
+live_flag words name = not (count_of name (matches_of live_app words) == 0)
 
 -- the options are those that the words name, and its numbers are within their limits; the events of a part are the bound
 pub record IsLive (words : List Text) (o : LiveOptions) : Type 0 where
@@ -39,7 +39,7 @@ pub record IsLive (words : List Text) (o : LiveOptions) : Type 0 where
   pub workers : o.config.workers ≡ live_number words (codes "workers") 1
   pub quantum : o.config.quantum ≡ live_number words (codes "quantum") 1000
   pub step : o.config.bound ≡ live_number words (codes "step") 1000000
-  pub keep_going : o.keep_going ≡ is_given words (codes "keep-going")
+  pub keep_going : o.keep_going ≡ live_flag words (codes "keep-going")
   pub in_range : IsInRange o.config.workers o.config.quantum o.config.bound
 
 -- what the words ask for; or what is at fault in them, and `--help` and `--version` are such faults; or want of memory
