@@ -195,7 +195,7 @@ impl Meeting {
 
 impl Gate for Meeting {
     fn enter(&self, instance: usize) {
-        let digit = 1u64.wrapping_shl((instance as u32).wrapping_mul(4));
+        let digit = 1u64.wrapping_shl((instance % 16) as u32 * 4);
         self.came.fetch_add(digit, Ordering::SeqCst);
         let here = self.here.fetch_add(1, Ordering::SeqCst).wrapping_add(1);
         self.most.fetch_max(here, Ordering::SeqCst);
