@@ -98,7 +98,7 @@ def compare_rows(page, tried, kahn, draw):
 
 
 def fill(page, program, text="", bound="1000000"):
-    page.value(f"void ([at('program').value, at('input').value, at('bound').value] = {json.dumps([program, text, bound])}, changed())")
+    page.value(f"void ([at('program').value, at('input').value, at('bound').value] = {json.dumps([program, text, bound])}, at('program').oninput())")
 
 
 def try_fields(page, path, tried):
@@ -145,7 +145,7 @@ def take(page, path, width, height, **more):
 
 def take_pictures(page, folder):
     page.wait("!at('run').disabled")
-    page.value("void (at('example').value = 'fibonacci', at('example').onchange())")
+    page.value("void (at('example').value = 'alternating-bit', at('example').onchange())")
     page.wait("!at('run').disabled")
     take(page, f"{folder}/page-report.png", 1200, 720)
     take(page, f"{folder}/page-phone.png", 380, 900, scheme="dark")

@@ -61,6 +61,7 @@ function show({ status, report, picture, time }, program) {
   }
   mark(place);
   at("picture").replaceChildren(...drawn(new TextDecoder().decode(picture)));
+  at("picture").hidden = at("network").hidden = picture.length === 0;
 }
 
 async function runTexts() {
@@ -104,7 +105,10 @@ at("example").onchange = () => {
   const found = EXAMPLES.find(([name]) => name === at("example").value);
   if (found) put(found[1], found[2], "1000000");
 };
-at("program").oninput = changed;
+at("program").oninput = () => {
+  at("example").value = "";
+  changed();
+};
 at("program").onscroll = scroll;
 at("input").oninput = link;
 at("bound").oninput = link;
