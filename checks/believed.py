@@ -18,8 +18,8 @@ import sys
 
 TOP = os.environ.get("TREE") or os.path.dirname(os.path.dirname(os.path.abspath(__file__)))
 BELOW = "// For the crates above."
-ITEM = re.compile(r"(?m)^pub (?:const )?(?:fn|struct|enum|trait|const|type) (\w+)")
-HEAD = re.compile(r"(?m)^(?:pub(?:\(\w+\))? )?(?:unsafe |const )*(fn|struct|enum|trait|impl|const|type)\b(?:<[^{]*?>)?\s+(.*)")
+ITEM = re.compile(r"(?m)^pub (?:const |extern \"C\" )?(?:fn|struct|enum|trait|const|type) (\w+)")
+HEAD = re.compile(r"(?m)^(?:pub(?:\(\w+\))? )?(?:unsafe |const |extern \"C\" )*(fn|struct|enum|trait|impl|const|type)\b(?:<[^{]*?>)?\s+(.*)")
 WORD = re.compile(r"[A-Za-z_][\w'-]*(?:\.[A-Za-z_][\w'-]*)*")
 DEFINED = re.compile(r"\s*(?:abbrev |unfoldable |unfolding \S+ )*pub (data |record )?([A-Za-z_][\w'-]*)")
 
