@@ -1,6 +1,6 @@
 //! A job on which nobody works, while its input may grow.
 
-ghost use Rattle.std.specs.Prelude.{◌≡◌, ◌<◌, length, map, slice_set, IfOk};
+ghost use Rattle.std.specs.Prelude.{◌≡◌, ◌<◌, length, map, slice_index_or, slice_set, [], IfOk};
 ghost use Rattle.kahn_job.specs.inner.Berths.{end_at};
 ghost use Rattle.kahn_job.specs.inner.Idles.{CanGoOn};
 ghost use Rattle.kahn_job.specs.inner.Works.{width_of};
@@ -11,7 +11,7 @@ use crate::port::Port;
 use crate::ports::Ends;
 use kahn_code::{Cell, Kept};
 use kahn_network::Network;
-use kahn_streams::{Input, NoMemory};
+use kahn_streams::{Carried, Input, NoMemory};
 use std::alloc::Global;
 use std::marker::Model;
 use std::mem;
@@ -64,6 +64,22 @@ impl Idle {
         ensures rest { self.new ≡ record self.old { ends = slice_set self.old.ends parameter port } }
     {
         mem::replace(&mut self.ports[parameter], port)
+    }
+
+    /// What its cell kept of what it sent by a parameter.
+    pub fn kept(&self, parameter: usize) -> &[Carried]
+        requires { parameter < width_of self.now }
+        ensures { result.now ≡ slice_index_or self.now.cell.kept parameter [] }
+    {
+        let _parameters = self.cell.parameters();
+        self.cell.kept(parameter)
+    }
+
+    /// What its cell printed.
+    pub fn printed(&self) -> &[Carried]
+        ensures { result.now ≡ self.now.cell.printed }
+    {
+        self.cell.printed()
     }
 
     /// A copy of what its cell kept. It refuses only where memory was refused.

@@ -23,27 +23,13 @@ use Rattle.kahn_pool.specs.declared.answer.Verdict.{Verdict}
 use Rattle.kahn_pool.specs.declared.answer.Verdict.TheVariants.{Finished, Bound, Memory}
 use Rattle.kahn_pool.specs.declared.answer.Outcome.{Outcome}
 use Rattle.kahn_pool.specs.declared.answer.Outcome.TheVariants.{Ended, Waits, Faulted, More}
-use Rattle.kahn_pool.specs.Right.{IsRight, IsOutcome, IsWaiting, IsDryOn, IsEnd, HasStream, events_of, values_of}
+use Rattle.kahn_pool.specs.Right.{AreRight, IsRight, IsOutcome, IsWaiting, IsDryOn, IsEnd, HasStream, events_of, values_of}
 use Rattle.kahn_pool.specs.inner.Gathered.{IsGathered, IsStopped, Stood, nothing, view_at, IsAtRest, IsFrom, IsGiven, IsTold, tapes_from}
 use Rattle.kahn_code.proofs.Lists.{stand_in}
 use Rattle.kahn_pool.proofs.Lists.{prefix_stands, both_stand, all_of_it, more_of_it, map_get}
 use Rattle.kahn_pool.proofs.Events.{same_sends, same_outcome, next_event, Moves}
 
 -- ---- the ends of a run that stopped
-
--- what is right of the verdict, the ends and the events, whatever streams there are
-pub record AreRight (N : Network) (I : Inputs) (bound : ℕ) (v : Verdict) (ends : List End) (events : ℕ) : Type 0 where
-  pub tapes : Histories
-  pub inputs : (c : Line) → source N c ≡ Given → tapes c ≡ input_list I c
-  pub others : (c : Line) → (n : ℕ) × IsPrefix (tapes c) (iterate N I n c)
-  pub instances : length ends ≡ length N.instances
-  pub does : (p : ℕ) (x : End) → slice_get ends p ≡ Some x → (exec_at N x.events p tapes).events ≡ x.events
-  pub sends : (p : ℕ) (x : End) → slice_get ends p ≡ Some x → (c : Line) → source N c ≡ Written p → out N x.events p tapes c ≡ tapes c
-  pub outcomes : (p : ℕ) (x : End) → slice_get ends p ≡ Some x → IsOutcome v N tapes p x.events x.outcome
-  pub total : events ≡ sum_by events_of ends
-  pub within : events ≤ bound
-  pub ended : v ≡ Finished → (p : ℕ) (x : End) → slice_get ends p ≡ Some x → IsEnd N I p x.outcome x.events
-  pub bounded : v ≡ Bound → (events ≡ bound) × ((p : ℕ) × (x : End) × (slice_get ends p ≡ Some x) × (x.outcome ≡ More))
 
 module _ (N : Network) (I : Inputs) (bound : ℕ) (watch : Option ℕ) (said : Verdict) (ends : List End) (done : ℕ)
     (g : IsStopped N I bound watch said ends done) where
@@ -387,22 +373,11 @@ module _ (N : Network) (I : Inputs) (bound : ℕ) (watch : Option ℕ) (a : Answ
   pub assembled : IsRight N I bound watch a
   unfolding are_right
   assembled =
-      let r = are_right N I bound watch a.verdict a.ends.items a.events g.stopped in
       record {
+        run = are_right N I bound watch a.verdict a.ends.items a.events g.stopped;
         named = g.lines;
         tokens = tokens;
         own = λ s k t h x. (kept s h).own k t x;
-        tapes = r.tapes;
-        inputs = r.inputs;
-        others = r.others;
-        instances = r.instances;
-        does = r.does;
-        sends = r.sends;
         values = λ s h. (kept s h).values;
-        outcomes = r.outcomes;
-        total = r.total;
-        within = r.within;
         whole = whole;
-        ended = r.ended;
-        bounded = r.bounded;
       }

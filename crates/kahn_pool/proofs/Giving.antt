@@ -14,19 +14,13 @@ use Rattle.kahn_network.specs.Network.{Network, Instance, Source, Given, Written
 use Rattle.kahn_code.specs.Cells.{IsKept, IsOwn, token_value}
 use Rattle.kahn_pool.specs.declared.answer.Stream.{Stream}
 use Rattle.kahn_pool.specs.Right.{line_of}
-use Rattle.kahn_pool.specs.inner.Streams.{AreNamed, IsDeclared, IsBare, HasInput, HaveInput, HasInputs}
+use Rattle.kahn_pool.specs.inner.Streams.{AreNamed, IsBegun, IsDeclared, IsBare, HasInput, HaveInput, HasInputs}
 use Rattle.kahn_pool.proofs.Named.{declared, stream_before}
 use Rattle.kahn_code.proofs.Lists.{at_last}
 use Rattle.kahn_pool.proofs.Lists.{set_get, set_else}
 use Rattle.kahn_pool.proofs.Filled.{set_lines}
 
 -- ---- the list of a channel, token by token
-
--- these tokens begin the list
-pub record IsBegun (N : Network) (I : Inputs) (c : ℕ) (vs : List Value) (ts : List Token) : Type 0 where
-  pub values : IsPrefix (map token_value ts) vs
-  pub places : (k : ℕ) (t : Token) → slice_get ts k ≡ Some t → (t.line ≡ Channel c) × (t.place ≡ k)
-  pub own : (k : ℕ) (t : Token) → slice_get ts k ≡ Some t → IsOwn N I t
 
 pub begun_none : (N : Network) (I : Inputs) (c : ℕ) (vs : List Value) (ts : List Token) → ts ≡ [] → IsBegun N I c vs ts
 begun_none N I c vs ts e = subst (IsBegun N I c vs) (sym e) (record { values = (vs, refl); places = λ k t f. absurd cc; own = λ k t f. absurd cc })

@@ -221,7 +221,7 @@ module _ (t : Program) (lists : Lists) (watch : Option ℕ) (workers quantum bou
         ap (λ (z : View). z.printed) v ∙ sym (ap (λ (z : Seen). z.printed) s),
       )
 
-  view_is : (p : ℕ) →
+  pub view_is : (p : ℕ) →
       ((view_at (cells_seen ws) p).events ≡ (seen_at held.cells p).events)
       × ((q : ℕ) → (view_at (cells_seen ws) p).kept q ≡ slice_index_or (seen_at held.cells p).kept q [])
       × ((view_at (cells_seen ws) p).printed ≡ (seen_at held.cells p).printed)

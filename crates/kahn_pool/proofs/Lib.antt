@@ -25,3 +25,4 @@ pub mod Growing
 pub mod Held_jobs
 pub mod Held_runs
 pub mod Held_calls
+pub mod Held_streams

@@ -19,9 +19,8 @@ use Rattle.kahn_pool.specs.declared.answer.Verdict.{Verdict}
 use Rattle.kahn_pool.specs.declared.answer.Verdict.TheVariants.{Finished, Bound, Memory}
 use Rattle.kahn_pool.specs.declared.answer.Outcome.{Outcome}
 use Rattle.kahn_pool.specs.declared.answer.Outcome.TheVariants.{Ended, Waits, Faulted, More}
-use Rattle.kahn_pool.specs.Right.{IsRight, IsOutcome, IsEnd, events_of}
+use Rattle.kahn_pool.specs.Right.{AreRight, IsRight, IsOutcome, IsEnd, events_of}
 use Rattle.kahn_pool.specs.Exact.{IsWithin, Settles, AreBegun}
-use Rattle.kahn_pool.proofs.Assembling.{AreRight}
 
 -- ---- on longer tapes and with more events allowed no fewer events are done
 
@@ -197,30 +196,15 @@ module _ (N : Network) (I : Inputs) (bound : ℕ) (said : Verdict) (ends : List 
 
 -- ---- right answers
 
-rights : (N : Network) (I : Inputs) (bound : ℕ) (watch : Option ℕ) (a : Answer) → IsRight N I bound watch a → AreRight N I bound a.verdict a.ends.items a.events
-rights N I bound watch a r = record {
-  tapes = r.tapes;
-  inputs = r.inputs;
-  others = r.others;
-  instances = r.instances;
-  does = r.does;
-  sends = r.sends;
-  outcomes = r.outcomes;
-  total = r.total;
-  within = r.within;
-  ended = r.ended;
-  bounded = r.bounded;
-}
-
 module _ (N : Network) (I : Inputs) (bound : ℕ) (watch : Option ℕ) (a : Answer) (r : IsRight N I bound watch a) where
   pub counted : a.verdict ≡ Finished → HasSize N I a.events
-  counted = counted_ends N I bound a.verdict a.ends.items a.events (rights N I bound watch a r)
+  counted = counted_ends N I bound a.verdict a.ends.items a.events r.run
 
   pub settles : Settles N I bound a.verdict
-  settles = settles_ends N I bound a.verdict a.ends.items a.events (rights N I bound watch a r)
+  settles = settles_ends N I bound a.verdict a.ends.items a.events r.run
 
   pub begun : AreBegun N I a
-  begun s h = let o = r.others s.line in (o.0, subst (λ l. IsPrefix l (iterate N I o.0 s.line)) (sym (r.values s h)) o.1)
+  begun s h = let o = r.run.others s.line in (o.0, subst (λ l. IsPrefix l (iterate N I o.0 s.line)) (sym (r.values s h)) o.1)
 
 -- ---- two of them
 

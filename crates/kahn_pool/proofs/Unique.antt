@@ -73,7 +73,7 @@ finished_is_one N I watch n m a b r s f g =
       lines = lines;
       values = same_streams N I a.streams.items b.streams.items lines (λ j x e. r.whole f x (j, e)) (λ j x e. s.whole g x (j, e));
       ends = ends;
-      events = r.total ∙ (ap (λ l. sum_by events_of l) ends ∙ sym s.total);
+      events = r.run.total ∙ (ap (λ l. sum_by events_of l) ends ∙ sym s.run.total);
     }
   where
     lines : map line_of a.streams.items ≡ map line_of b.streams.items
@@ -81,5 +81,5 @@ finished_is_one N I watch n m a b r s f g =
 
     ends : a.ends.items ≡ b.ends.items
     ends =
-        same_lists a.ends.items b.ends.items (r.instances ∙ sym s.instances) (λ p x y h k.
-        same_end N I p x y (r.ended f p x h) (s.ended g p y k))
+        same_lists a.ends.items b.ends.items (r.run.instances ∙ sym s.run.instances) (λ p x y h k.
+        same_end N I p x y (r.run.ended f p x h) (s.run.ended g p y k))

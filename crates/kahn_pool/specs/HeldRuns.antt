@@ -1,7 +1,7 @@
 -- Believed. A run that is held between its parts: what contracts see of it, and what its calls make of it (this project's profile).
-use Rattle.std.specs.Prelude.{◌≡◌, ◌⊎◌, ℕ, ◌+◌, ◌<◌, ◌≤◌, ◌^◌, true, List, [], ◌∷◌, map, Option, Some, None, slice_index_or}
+use Rattle.std.specs.Prelude.{◌≡◌, ◌⊎◌, ℕ, suc, ◌+◌, ◌<◌, ◌≤◌, ◌^◌, true, List, [], ◌∷◌, map, sum_by, Option, Some, None, slice_get, slice_index_or, if◌then◌else◌}
 use Rattle.kahn_tree.specs.declared.tree.Program.{Program}
-use Rattle.kahn_network.specs.Network.{Source, Given, Written, Nobody, Writes, network_of, instance_at, actual_at}
+use Rattle.kahn_network.specs.Network.{Actual, Source, Given, Written, Nobody, Writes, network_of, instance_at, actual_at, is_written}
 use Rattle.kahn_streams.specs.declared.token.Token.{Token}
 use Rattle.kahn_streams.specs.declared.value.Value.{Value}
 use Rattle.kahn_streams.specs.declared.value.Line.{Line}
@@ -10,17 +10,18 @@ use Rattle.kahn_streams.specs.declared.feeds.FeedFault.{FeedFault}
 use Rattle.kahn_streams.specs.Entries.{Entry}
 use Rattle.kahn_streams.specs.Feeds.{IsFed, IsUnwelcome}
 use Rattle.kahn_streams.specs.Laws.{AreInputsExtended}
-use Rattle.kahn_streams.specs.Solution.{IsPrefix, source}
+use Rattle.kahn_streams.specs.Solution.{IsPrefix, IsWhole, source}
 use Rattle.kahn_streams.specs.Tokens.{Lists, inputs_of}
 use Rattle.kahn_code.specs.Cells.{is_streamed, token_value}
 use Rattle.kahn_code.specs.Told.{Told}
 use Rattle.kahn_pool.specs.Exact.{Settles}
-use Rattle.kahn_pool.specs.Right.{IsRight, HasStream, HasEndAt, values_of}
+use Rattle.kahn_pool.specs.Right.{AreRight, IsRight, HasStream, HasEndAt, stream_lines, values_of}
 use Rattle.kahn_pool.specs.Runs.{IsAllowed, IsUndeclared, IsWatched}
 use Rattle.kahn_pool.specs.declared.answer.Answer.{Answer}
 use Rattle.kahn_pool.specs.declared.answer.End.{End}
 use Rattle.kahn_pool.specs.declared.answer.Stream.{Stream}
 use Rattle.kahn_pool.specs.declared.answer.Verdict.{Verdict}
+use Rattle.kahn_pool.specs.declared.answer.Verdict.TheVariants.{Finished}
 use Rattle.kahn_config.specs.declared.Config.{Config}
 use Rattle.kahn_pool.specs.declared.config.RunFault.{RunFault}
 use Rattle.kahn_pool.specs.declared.config.RunFault.TheVariants as fault
@@ -72,6 +73,28 @@ IsSoFar h Nobody c vs = ⊥
 -- these values are those of the stream of the line so far
 abbrev pub HasSoFar : HeldRun → Line → List Value → Type 0
 HasSoFar h c vs = IsSoFar h (source (network_of h.network) c) c vs
+
+-- the number of the first parameter by which the channel is written
+abbrev pub writing : List Actual → ℕ → ℕ
+writing [] c = 0
+writing (a ∷ rest) c = if is_written a c then 0 else suc (writing rest c)
+
+-- what was given to the line so far, by its source; nothing where it has none
+abbrev pub given_so_far : HeldRun → Source → Line → List Value
+given_so_far h Given (Channel c) = inputs_of h.input c
+given_so_far h Given (Print r) = []
+given_so_far h (Written p) (Channel c) =
+    map token_value (slice_index_or (seen_at h.cells p).kept (writing (instance_at (network_of h.network) p).actuals c) [])
+given_so_far h (Written p) (Print r) = map token_value (seen_at h.cells p).printed
+given_so_far h Nobody c = []
+
+-- the values of the stream of a line so far
+abbrev pub so_far : HeldRun → Line → List Value
+so_far h c = given_so_far h (source (network_of h.network) c) c
+
+-- the line is that of a stream of the run
+abbrev pub IsLineOf : HeldRun → Line → Type 0
+IsLineOf h c = (j : ℕ) × (slice_get (stream_lines (network_of h.network) h.watch) j ≡ Some c)
 
 -- the second is the first later on: each stream of the first is a prefix of the same stream of the second, and no instance's
 -- events go down
@@ -146,6 +169,14 @@ pub record IsAnswerOf (h : HeldRun) (a : Answer) : Type 0 where
   pub verdict : h.verdict ≡ Some a.verdict
   pub streams : (s : Stream) → HasStream a s → HasSoFar h s.line (values_of s)
   pub events : (p : ℕ) (x : End) → HasEndAt a p x → x.events ≡ (seen_at h.cells p).events
+
+-- a verdict and ends that are right for the input so far and the bound so far, with the streams so far: these are the tapes of the
+-- right answer, and where it has finished they are whole
+pub record IsRightSoFar (h : HeldRun) (v : Verdict) (ends : List End) : Type 0 where
+  pub right : AreRight (network_of h.network) (inputs_of h.input) h.bound v ends (sum_by seen_events h.cells)
+  pub values : (c : Line) (vs : List Value) → HasSoFar h c vs → vs ≡ right.tapes c
+  pub whole : v ≡ Finished → (c : Line) (vs : List Value) → HasSoFar h c vs → IsWhole (network_of h.network) (inputs_of h.input) c vs
+  pub events : (p : ℕ) (x : End) → slice_get ends p ≡ Some x → x.events ≡ (seen_at h.cells p).events
 
 -- ---- many calls
 

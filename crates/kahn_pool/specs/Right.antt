@@ -84,32 +84,37 @@ IsEnd N I p More e = ⊥
 
 -- ---- the right answer
 
+-- a verdict, the ends and the sum of the events that are right, whatever is said of streams
+pub record AreRight (N : Network) (I : Inputs) (bound : ℕ) (v : Verdict) (ends : List End) (events : ℕ) : Type 0 where
+  -- there are tapes, the input lists on the input channels and else prefixes of some iterate, such that each instance
+  -- does its events on them and sends them on each line that it writes
+  pub tapes : Histories
+  pub inputs : (c : Line) → source N c ≡ Given → tapes c ≡ input_list I c
+  pub others : (c : Line) → (n : ℕ) × IsPrefix (tapes c) (iterate N I n c)
+  pub instances : length ends ≡ length N.instances
+  pub does : (p : ℕ) (x : End) → slice_get ends p ≡ Some x → (exec_at N x.events p tapes).events ≡ x.events
+  pub sends : (p : ℕ) (x : End) → slice_get ends p ≡ Some x → (c : Line) → source N c ≡ Written p → out N x.events p tapes c ≡ tapes c
+  -- each outcome is that of its instance on the tapes
+  pub outcomes : (p : ℕ) (x : End) → slice_get ends p ≡ Some x → IsOutcome v N tapes p x.events x.outcome
+  -- `events` is the sum, and at most the bound
+  pub total : events ≡ sum_by events_of ends
+  pub within : events ≤ bound
+  -- where it has finished each end is that of its instance in the solution
+  pub ended : v ≡ Finished → (p : ℕ) (x : End) → slice_get ends p ≡ Some x → IsEnd N I p x.outcome x.events
+  -- where the bound stopped it, the bound is used up and some instance has a next event
+  pub bounded : v ≡ Bound → (events ≡ bound) × ((p : ℕ) × (x : End) × (slice_get ends p ≡ Some x) × (x.outcome ≡ More))
+
 pub record IsRight (N : Network) (I : Inputs) (bound : ℕ) (watch : Option ℕ) (a : Answer) : Type 0 where
+  pub run : AreRight N I bound a.verdict a.ends.items a.events
   -- its streams are those that are named; the token at index k of the stream of line c has line c, place k, and a value that stands there
   pub named : map line_of a.streams.items ≡ stream_lines N watch
   pub tokens : (s : Stream) (k : ℕ) (t : Token) → HasStream a s → slice_get s.tokens.items k ≡ Some t →
       (t.line ≡ s.line) × (t.place ≡ k) × Stands N I s.line k t.value
   -- each token is of this network, and of an input whose lists begin those of this one, so that `Input::lift` takes it
   pub own : (s : Stream) (k : ℕ) (t : Token) → HasStream a s → slice_get s.tokens.items k ≡ Some t → IsOwn N I t
-  -- there are tapes, the input lists on the input channels and else prefixes of some iterate, such that each instance
-  -- does its events on them and sends them on each line that it writes; the values of each answered stream are theirs
-  pub tapes : Histories
-  pub inputs : (c : Line) → source N c ≡ Given → tapes c ≡ input_list I c
-  pub others : (c : Line) → (n : ℕ) × IsPrefix (tapes c) (iterate N I n c)
-  pub instances : length a.ends.items ≡ length N.instances
-  pub does : (p : ℕ) (x : End) → HasEndAt a p x → (exec_at N x.events p tapes).events ≡ x.events
-  pub sends : (p : ℕ) (x : End) → HasEndAt a p x → (c : Line) → source N c ≡ Written p → out N x.events p tapes c ≡ tapes c
-  pub values : (s : Stream) → HasStream a s → values_of s ≡ tapes s.line
-  -- each outcome is that of its instance on the tapes
-  pub outcomes : (p : ℕ) (x : End) → HasEndAt a p x → IsOutcome a.verdict N tapes p x.events x.outcome
-  -- `events` is the sum, and at most the bound
-  pub total : a.events ≡ sum_by events_of a.ends.items
-  pub within : a.events ≤ bound
-  -- a finished answer has the whole of each line and the end of each instance
+  -- the values of each stream are the tape of its line, and where the answer has finished the whole of it
+  pub values : (s : Stream) → HasStream a s → values_of s ≡ run.tapes s.line
   pub whole : a.verdict ≡ Finished → (s : Stream) → HasStream a s → IsWhole N I s.line (values_of s)
-  pub ended : a.verdict ≡ Finished → (p : ℕ) (x : End) → HasEndAt a p x → IsEnd N I p x.outcome x.events
-  -- where the bound stopped it, the bound is used up and some instance has a next event
-  pub bounded : a.verdict ≡ Bound → (a.events ≡ bound) × ((p : ℕ) × (x : End) × HasEndAt a p x × (x.outcome ≡ More))
 
 -- two answers that say the same
 pub record AreOne (a b : Answer) : Type 0 where

@@ -1,11 +1,13 @@
 //! Runs that are cut into parts: between two parts a run is held, more events may be allowed and more values fed.
 
-ghost use Rattle.std.specs.Prelude.{◌≡◌, ◌↔◌, ℕ, ◌+◌, Some, length, sum_by, IfOk, IsTrue, MatchResult};
+ghost use Rattle.std.specs.Prelude.{◌≡◌, ◌↔◌, ℕ, ◌+◌, Some, length, map, slice_get, sum_by, IfOk, IsTrue, MatchResult};
 ghost use Rattle.kahn_network.specs.Network.{network_of};
-ghost use Rattle.kahn_pool.specs.HeldRuns.{HasFed, HasStarted, IsAnswerOf, IsResumed, IsUnfed, IsUnresumed, IsUnstarted, seen_events};
+ghost use Rattle.kahn_code.specs.Cells.{token_value};
+ghost use Rattle.kahn_pool.specs.HeldRuns.{HasFed, HasSoFar, HasStarted, IsAnswerOf, IsLineOf, IsResumed, IsRightSoFar, IsUnfed, IsUnresumed, IsUnstarted, seen_events};
+ghost use Rattle.kahn_pool.specs.Right.{line_of, stream_lines};
 ghost use Rattle.kahn_pool.specs.declared.answer.Verdict.{Verdict as VerdictOf};
 
-use crate::answer::{Answer, End, Verdict};
+use crate::answer::{Answer, End, Stream, Verdict};
 use crate::config::RunFault;
 use crate::copies::{copied_ends, copied_streams};
 use crate::held_fault::HeldFault;
@@ -13,17 +15,29 @@ use crate::laws;
 use crate::part::{Part, PartRoom, first_idles, run_part};
 use crate::plan::plan_of;
 use crate::running::watched;
+use crate::streams::{empty_streams, give_watched};
 use kahn_code::{Code, compile};
 use kahn_config::{Config, MOST_BOUND};
 use kahn_crew::{CrewFault, Gate, Plan};
 use kahn_job::Idle;
-use kahn_network::Network;
-use kahn_streams::{FeedFault, Input, NoMemory, Value};
+use kahn_network::{Network, Side};
+use kahn_streams::{Carried, FeedFault, Input, Line, NoMemory, Value};
 use std::alloc::Global;
 use std::marker::Model;
 use std::mem;
 use std::sync::Wait;
 use std::thread::Threads;
+
+// The lines of streams.
+fn lines_of(alloc: Global, streams: &[Stream]) -> Result<Vec<Line>, NoMemory>
+    ensures { IfOk result (λ lines. lines.items ≡ map line_of streams.now) }
+{
+    let mut lines = Vec::with_capacity(alloc, streams.len())?;
+    for number in 0..streams.len() {
+        lines.push_reserved(streams[number].line);
+    }
+    Ok(lines)
+}
 
 /// A run between its parts: a network, its input so far, the sum of its bounds so far, and where each process stands.
 ///
@@ -40,6 +54,8 @@ pub struct Held<'n> {
     idles: Vec<Idle>,
     ends: Vec<End>,
     verdict: Option<Verdict>,
+    // The list of a watched input channel, up to the last part.
+    given: Vec<Carried>,
 }
 
 impl<'n> Model for Held<'n> {
@@ -49,7 +65,7 @@ impl<'n> Model for Held<'n> {
     ghost use Rattle.std.specs.Prelude.{map};
     ghost use Rattle.kahn_job.specs.inner.Idles.{cells_of};
     ghost use Rattle.kahn_pool.specs.HeldRuns.{HeldRun, seen_of};
-    ghost use Rattle.kahn_pool.specs.inner.Holding.{IsHolding};
+    ghost use Rattle.kahn_pool.specs.inner.Holding.{IsGiving, IsHolding};
 
     ghost Value = { HeldRun };
 
@@ -57,7 +73,8 @@ impl<'n> Model for Held<'n> {
 
     ghost view = { λ h. record { network = h.network.now; input = h.input; watch = h.plan.watch; workers = h.plan.workers; quantum = h.plan.quantum; bound = h.plan.bound; cells = map seen_of (cells_of h.idles.items); verdict = h.verdict } };
 
-    ghost invariant = { λ h. IsHolding h.network.now h.code.network.value h.input h.plan.watch h.plan.workers h.plan.quantum h.plan.bound h.idles.items h.budget h.ends.items h.verdict };
+    ghost invariant = { λ h. IsHolding h.network.now h.code.network.value h.input h.plan.watch h.plan.workers h.plan.quantum h.plan.bound h.idles.items h.budget h.ends.items h.verdict
+        × IsGiving h.network.now h.input h.plan.watch h.given.items h.verdict };
 }
 
 impl<'n> Held<'n> {
@@ -92,6 +109,7 @@ impl<'n> Held<'n> {
             idles,
             ends: Vec::new(alloc),
             verdict: None,
+            given: Vec::new(alloc),
         })
     }
 
@@ -115,6 +133,12 @@ impl<'n> Held<'n> {
             return Err(HeldFault::BadMore);
         }
         let room = PartRoom::new(self.alloc, self.network.instances())?;
+        give_watched(
+            self.network,
+            &self.input,
+            self.plan.watch,
+            &mut self.given,
+        )?;
         let idles = mem::replace(&mut self.idles, Vec::new(self.alloc));
         let _program = self.network.program();
         let part = Part {
@@ -169,11 +193,62 @@ impl<'n> Held<'n> {
         self.budget
     }
 
+    /// The verdict of the last part, where nothing changed since. It takes no memory.
+    pub fn verdict(&self) -> Option<Verdict>
+        ensures { result ≡ self.now.verdict }
+    {
+        self.verdict
+    }
+
     /// Whether the last call that changed anything was a `resume` that answered. Then there is an answer.
     pub fn settled(&self) -> bool
         ensures { IsTrue result ↔ ((v : VerdictOf) × (self.now.verdict ≡ Some v)) }
     {
         self.verdict.is_some()
+    }
+
+    /// The events of all parts so far. It takes no memory.
+    pub fn events(&self) -> u64
+        ensures { result ≡ sum_by seen_events self.now.cells }
+    {
+        self.plan.bound - self.budget
+    }
+
+    /// The lines of the streams of an answer, in order. It refuses only where memory was refused.
+    pub fn lines(&self) -> Result<Vec<Line>, NoMemory>
+        ensures { IfOk result (λ lines. lines.items ≡ stream_lines (network_of self.now.network) self.now.watch) }
+    {
+        let streams = empty_streams(self.alloc, self.network, self.plan.watch)?;
+        lines_of(self.alloc, &streams)
+    }
+
+    /// What the stream of a line has so far, in place order. It is asked for only where the run is settled, and for a line
+    /// of `lines`. It takes no memory.
+    pub fn stream(&self, line: Line) -> &[Carried]
+        requires settled { (v : VerdictOf) × (self.now.verdict ≡ Some v) }
+        requires line { IsLineOf self.now line }
+        ensures { HasSoFar self.now line (map token_value result.now) }
+    {
+        let _program = self.network.program();
+        match line {
+            Line::Channel(channel) => match self.network.writer(channel) {
+                Some(Side {
+                    instance,
+                    parameter,
+                }) => self.idles[instance].kept(parameter),
+                None => &self.given,
+            },
+            Line::Print(instance) => self.idles[instance].printed(),
+        }
+    }
+
+    /// How each instance stands, right for the input so far and the bound so far. It is asked for only where the run is
+    /// settled. It takes no memory.
+    pub fn ends(&self) -> &[End]
+        requires { (v : VerdictOf) × (self.now.verdict ≡ Some v) }
+        ensures { (v : VerdictOf) → self.now.verdict ≡ Some v → IsRightSoFar self.now v result.now }
+    {
+        &self.ends
     }
 
     /// A copy of the answer, right for the input so far and the bound so far. It is asked for only where the run is

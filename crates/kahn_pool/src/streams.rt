@@ -11,7 +11,7 @@ ghost use Rattle.kahn_streams.specs.Solution.{source};
 ghost use Rattle.kahn_streams.specs.Tokens.{inputs_of};
 ghost use Rattle.kahn_code.specs.Cells.{IsKept, is_streamed};
 ghost use Rattle.kahn_pool.specs.Right.{line_of, channel_lines, print_lines, stream_lines};
-ghost use Rattle.kahn_pool.specs.inner.Streams.{AreNamed, IsDeclared, IsBare, kept_lists, AreLists, IsFilled, AreFilled, KeepsOthers, HasInput, HasInputs, HaveInput};
+ghost use Rattle.kahn_pool.specs.inner.Streams.{AreAllGiven, AreGiven, AreNamed, IsBegun, IsDeclared, IsBare, kept_lists, AreLists, IsFilled, AreFilled, KeepsOthers, HasInput, HasInputs, HaveInput};
 
 use crate::answer::Stream;
 use kahn_code::Kept;
@@ -160,15 +160,15 @@ pub fn fill(network: &Network, streams: &mut Vec<Stream>, lists: &mut Vec<Kept>)
     }
 }
 
-// The whole list of an input channel.
+// The rest of the list of an input channel, behind the tokens that begin it.
 fn give_list(
     network: &Network,
     input: &Input,
     channel: usize,
     tokens: &mut Vec<Carried>,
 ) -> Result<(), NoMemory>
-    requires here { channel < length (network_of network.now).channels }
-    requires bare { tokens.old.items ≡ [] }
+    requires begun { IsBegun (network_of network.now) (inputs_of input.now) channel (inputs_of input.now channel) tokens.old.items }
+    ensures begun { IsBegun (network_of network.now) (inputs_of input.now) channel (inputs_of input.now channel) tokens.new.items }
     ensures given { OnOk result (role_at (network_of network.now) channel ≡ InputRole → IsKept (network_of network.now) (inputs_of input.now) (ChannelLine channel) (inputs_of input.now channel) tokens.new.items) }
     ensures others { OnOk result ((role_at (network_of network.now) channel ≡ InputRole → ⊥) → tokens.new.items ≡ tokens.old.items) }
 {
@@ -189,6 +189,27 @@ fn give_input(network: &Network, input: &Input, stream: &mut Stream) -> Result<(
         give_list(network, input, channel, &mut stream.tokens)?;
     }
     Ok(())
+}
+
+/// Gives the rest of the list of a watched input channel. It refuses only where memory was refused.
+pub(crate) fn give_watched(
+    network: &Network,
+    input: &Input,
+    watch: Option<usize>,
+    tokens: &mut Vec<Carried>,
+) -> Result<(), NoMemory>
+    requires begun { AreGiven (network_of network.now) (inputs_of input.now) watch tokens.old.items }
+    ensures begun { AreGiven (network_of network.now) (inputs_of input.now) watch tokens.new.items }
+    ensures all { OnOk result (AreAllGiven (network_of network.now) (inputs_of input.now) watch tokens.new.items) }
+    ensures still { AreAllGiven (network_of network.now) (inputs_of input.now) watch tokens.old.items → AreAllGiven (network_of network.now) (inputs_of input.now) watch tokens.new.items }
+{
+    let Some(channel) = watch else {
+        return Ok(());
+    };
+    if input.count(channel) <= tokens.len() {
+        return Ok(());
+    }
+    give_list(network, input, channel, tokens)
 }
 
 /// Gives each stream of an input channel the whole list of that channel; the others stay. It refuses only where memory

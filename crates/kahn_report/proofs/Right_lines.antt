@@ -39,12 +39,15 @@ each_all P [] h k d below = absurd (omega (arith, below))
 each_all P (x ∷ xs) h zero d below = h.0
 each_all P (x ∷ xs) h (suc k) d below = each_all P xs h.1 k d (omega (arith, below))
 
-pub right_lines : (t : Program) (watch : Option ℕ) (a : Answer) → map line_of a.streams.items ≡ stream_lines (network_of t) watch → HasItsLines t a
-right_lines t watch a named =
+-- the lines of the streams are lines of the network
+pub streamed_lines : (t : Program) (watch : Option ℕ) → AllByRecursion (IsLine t) (stream_lines (network_of t) watch)
+streamed_lines t watch =
     let N = network_of t in
     let all_channels : length N.channels ≡ channel_count t = length-map {B = Kind × Role} (channels_of t.declarations.items) (λ c. c.1) in
     let all_instances : length N.instances ≡ instance_count t = length-map {B = Instance} t.instances.items _ in
     let channels : 0 + length N.channels ≤ channel_count t = omega (arith, all_channels) in
     let instances : 0 + length N.instances ≤ instance_count t = omega (arith, all_instances) in
-    each_all (IsLine t) a.streams.items (subst (AllByRecursion (IsLine t)) (sym named)
-    (each_append (IsLine t) (channel_lines watch N.channels 0) (print_lines N.instances 0) (each_channel t watch N.channels 0 channels) (each_print t N.instances 0 instances)))
+    each_append (IsLine t) (channel_lines watch N.channels 0) (print_lines N.instances 0) (each_channel t watch N.channels 0 channels) (each_print t N.instances 0 instances)
+
+pub right_lines : (t : Program) (watch : Option ℕ) (a : Answer) → map line_of a.streams.items ≡ stream_lines (network_of t) watch → HasItsLines t a
+right_lines t watch a named = each_all (IsLine t) a.streams.items (subst (AllByRecursion (IsLine t)) (sym named) (streamed_lines t watch))

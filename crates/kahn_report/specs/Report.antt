@@ -81,8 +81,11 @@ verdict_text Bound = codes "stopped by bound "
 verdict_text Memory = codes "stopped by memory "
 
 -- the last line, with the sum of the events
+abbrev pub last_line : Verdict → ℕ → List ℕ
+last_line verdict events = concat (verdict_text verdict ∷ decimal events ∷ line_feed ∷ [])
+
 abbrev pub last_text : Answer → List ℕ
-last_text answer = concat (verdict_text answer.verdict ∷ decimal answer.events ∷ line_feed ∷ [])
+last_text answer = last_line answer.verdict answer.events
 
 -- the report text: the streams, the instances in order, and how the run ended
 abbrev pub report_text : Program → Answer → List ℕ

@@ -5,7 +5,7 @@ ghost use Rattle.std.specs.Fmt.{signed_decimal};
 ghost use Rattle.std.specs.List.{concat};
 ghost use Rattle.std.specs.Io.KnownBytes.{Keeps};
 ghost use Rattle.kahn_report.specs.Written.{Writes};
-ghost use Rattle.kahn_report.specs.Report.{report_text, value_text, token_text, line_head, tokens_text, stream_text, outcome_word, waited_name, end_words, end_text, ends_text, last_text, IsLine, HasItsLines};
+ghost use Rattle.kahn_report.specs.Report.{report_text, value_text, token_text, line_head, tokens_text, stream_text, outcome_word, waited_name, end_words, end_text, ends_text, last_line, IsLine, HasItsLines};
 
 use crate::names::{channel_name, process_name};
 use itoa::{Buffer, write_digits};
@@ -268,15 +268,16 @@ fn put_words<'a, W: Write, L: Ledger>(
 /// Writes the last line.
 pub(crate) fn put_last<W: Write, L: Ledger>(
     writer: &mut W,
-    answer: &Answer,
+    verdict: Verdict,
+    events: u64,
     writes: &mut Steps<L>,
 ) -> Result<(), WriteFault>
-    ensures text { Writes (W.contents writer.old) (W.contents writer.new) result (last_text answer.now) }
-    ensures few { writes.new ≤ writes.old + length (last_text answer.now) }
+    ensures text { Writes (W.contents writer.old) (W.contents writer.new) result (last_line verdict events) }
+    ensures few { writes.new ≤ writes.old + length (last_line verdict events) }
 {
     let mut buffer = Buffer::new();
-    let events = buffer.format(answer.events).as_bytes();
-    let word: &[u8] = match answer.verdict {
+    let events = buffer.format(events).as_bytes();
+    let word: &[u8] = match verdict {
         Verdict::Finished => b"finished ",
         Verdict::Bound => b"stopped by bound ",
         Verdict::Memory => b"stopped by memory ",
@@ -342,7 +343,7 @@ pub fn write_counted<W: Write, L: Ledger>(
 {
     put_streams(writer, network, &answer.streams, writes)?;
     put_ends(writer, network, &answer.ends, writes)?;
-    put_last(writer, answer, writes)?;
+    put_last(writer, answer.verdict, answer.events, writes)?;
     flush(writer, writes)
 }
 

@@ -9,7 +9,7 @@ use kahn_check::CheckFault;
 use kahn_fault::{Fault, fault_line};
 use kahn_pool::{Open, Verdict, run_one};
 use kahn_report::{
-    ReadFault, WorkFault, WriteFault, read_text, work, write_closing, write_line, write_news,
+    ReadFault, WorkFault, WriteFault, read_text, work, write_closing, write_line,
 };
 use kahn_streams::Input;
 use kahn_syntax::Span;
@@ -155,12 +155,19 @@ fn the_flush_of_each_writer_fails(rt: HostRuntime) -> Result<(), Fail> {
     let answer = run_one(alloc, &network, Input::none(alloc, &network)?, 100)?;
     for (fails, told) in [(false, Ok(())), (true, Err(WriteFault::Failed))] {
         let mut writer = Slow::new(alloc, 0, None, fails);
-        assert_eq!(rt; write_news(&mut writer, &network, &[], &[]), told);
-        assert_eq!(rt; (writer.calls, writer.flushes), (0, 1));
-        assert_eq!(rt; write_closing(&mut writer, &network, &answer), told);
-        assert_eq!(rt; (writer.calls, writer.flushes), (38, 2));
+        assert_eq!(rt;
+            write_closing(
+                &mut writer,
+                &network,
+                answer.verdict,
+                &answer.ends,
+                answer.events
+            ),
+            told
+        );
+        assert_eq!(rt; (writer.calls, writer.flushes), (38, 1));
         assert_eq!(rt; write_line(&mut writer, &[b"digraph"]), told);
-        assert_eq!(rt; (writer.calls, writer.flushes), (45, 3));
+        assert_eq!(rt; (writer.calls, writer.flushes), (45, 2));
         assert_eq!(rt;
             writer.taken.as_slice(),
             b"end 1 count: ended after 7\nfinished 7\ndigraph".as_slice()

@@ -1,3 +1,4 @@
 pub mod Steps
 pub mod Showing
+pub mod Fresh
 pub mod Taking

@@ -1,87 +1,108 @@
 -- What was shown of the streams begins what they have later, so what is new stands behind it.
-use Rattle.std.proofs.Common.{◌≡◌, ◌∙◌, ℕ, zero, suc, List, [], ◌∷◌, ◌++◌, length, map, drop, Option, Some, None, refl, sym, ap, ap₂, subst}
+use Rattle.std.proofs.Common.{arith, ◌≡◌, ◌∙◌, ℕ, zero, suc, ◌+◌, ◌≤◌, List, [], ◌∷◌, ◌++◌, length, length-append, map, take, drop, Some, refl, sym, ap, ap₂, subst}
 use Rattle.std.specs.Prelude.{slice_get}
-use Rattle.std.proofs.Math.Seq.{drop-append_seam}
 use Rattle.kahn_network.specs.Network.{network_of}
+use Rattle.kahn_network.specs.Wiring.{IsWellWired}
 use Rattle.kahn_streams.specs.declared.value.Value.{Value}
 use Rattle.kahn_streams.specs.declared.value.Line.{Line}
 use Rattle.kahn_streams.specs.Solution.{IsPrefix}
-use Rattle.kahn_streams.proofs.Proved.{prefix_refl, prefix_trans}
-use Rattle.kahn_pool.specs.HeldRuns.{GoesOn, HasSoFar, HeldRun, IsAnswerOf}
-use Rattle.kahn_pool.specs.Right.{line_of, stream_lines, values_of}
-use Rattle.kahn_pool.specs.declared.answer.Answer.{Answer}
-use Rattle.kahn_pool.specs.declared.answer.Stream.{Stream}
+use Rattle.kahn_pool.specs.HeldRuns.{GoesOn, HasSoFar, HeldRun, so_far}
+use Rattle.kahn_pool.specs.Right.{stream_lines}
 use Rattle.kahn_pool.proofs.Held_calls.{still_so}
-use Rattle.kahn_report.specs.News.{joined, news_since}
-use Rattle.kahn_session.specs.inner.Shown.{AreShown}
+use Rattle.kahn_pool.proofs.Held_streams.{so_far_is}
+use Rattle.kahn_report.specs.News.{joined}
+use Rattle.kahn_session.specs.Live.{lines_of}
+use Rattle.kahn_session.specs.inner.Shown.{AreAllShown, AreShown, news_of, shown_of}
 
 -- both have the same lines
-lines_stay : (a b : HeldRun) → GoesOn a b → stream_lines (network_of b.network) b.watch ≡ stream_lines (network_of a.network) a.watch
+pub lines_stay : (a b : HeldRun) → GoesOn a b → lines_of b ≡ lines_of a
 lines_stay a b g = ap (λ t. stream_lines (network_of t) b.watch) g.network ∙ ap (λ w. stream_lines (network_of a.network) w) g.watch
 
+longer : (vs ws : List Value) → IsPrefix vs ws → length vs ≤ length ws
+longer vs ws (zs, e) = let n = ap length e in let m = length-append vs zs in omega (arith, n, m)
+
 -- what was shown of a run was shown of it later on
-pub shown_on : (a b : HeldRun) (shown : List (List Value)) → GoesOn a b → AreShown a shown → AreShown b shown
-shown_on a b shown g h j c vs line at =
-    let (ws, so, front) = h j c vs (subst (λ l. slice_get l j ≡ Some c) (lines_stay a b g) line) at in
-    let (us, later) = still_so a b g c ws so in
-    (us, later, prefix_trans vs ws us front (g.streams c ws us so later))
+pub shown_on : (a b : HeldRun) (counts : List ℕ) → GoesOn a b → AreShown a counts → AreShown b counts
+shown_on a b counts g h j c n line at =
+    let (vs, so, few) = h j c n (subst (λ l. slice_get l j ≡ Some c) (lines_stay a b g) line) at in
+    let (us, later) = still_so a b g c vs so in
+    let more = longer vs us (g.streams c vs us so later) in
+    (us, later, omega (arith, few, more))
 
--- the element of which the image stands there
-got : {A B : Type 0} (f : A → B) (xs : List A) (j : ℕ) (y : B) → slice_get (map f xs) j ≡ Some y → (x : A) × (slice_get xs j ≡ Some x) × (f x ≡ y)
-got f [] zero y e = absurd cc
-got f [] (suc j) y e = absurd cc
-got f (x ∷ xs) zero y e = (x, refl, cc)
-got f (x ∷ xs) (suc j) y e = got f xs j y e
+take_front : (n : ℕ) (vs zs : List Value) → n ≤ length vs → take n (vs ++ zs) ≡ take n vs
+take_front zero vs zs few = refl
+take_front (suc n) [] zs few = absurd (omega (arith, few))
+take_front (suc n) (v ∷ vs) zs few = ap (λ l. v ∷ l) (take_front n vs zs (omega (arith, few)))
 
--- and its line stands there among the lines of the streams
-lined : (h : HeldRun) (a : Answer) → IsAnswerOf h a → (j : ℕ) (s : Stream) → slice_get a.streams.items j ≡ Some s →
-    slice_get (stream_lines (network_of h.network) h.watch) j ≡ Some s.line
-lined h a is j s at = subst (λ l. slice_get l j ≡ Some s.line) is.right.named (imaged a.streams.items j s at)
+-- the values that were shown are the first of the stream later on too
+abbrev Stay : HeldRun → HeldRun → List Line → List ℕ → Type 0
+Stay a b lines counts = (j : ℕ) (c : Line) (n : ℕ) → slice_get lines j ≡ Some c → slice_get counts j ≡ Some n → take n (so_far b c) ≡ take n (so_far a c)
+
+stay : (a b : HeldRun) (counts : List ℕ) → IsWellWired a.network → GoesOn a b → AreShown a counts → Stay a b (lines_of a) counts
+stay a b counts wired g h j c n line at =
+    let (vs, so, few) = h j c n line at in
+    let (us, later) = still_so a b g c vs so in
+    let (zs, e) = g.streams c vs us so later in
+    ap (take n) (sym (so_far_is b (subst IsWellWired (sym g.network) wired) c us later)) ∙ ap (take n) e ∙ take_front n vs zs few
+    ∙ ap (take n) (so_far_is a wired c vs so)
+
+same_shown : (a b : HeldRun) (lines : List Line) (counts : List ℕ) → Stay a b lines counts → shown_of b lines counts ≡ shown_of a lines counts
+same_shown a b [] counts h = refl
+same_shown a b (c ∷ lines) [] h = refl
+same_shown a b (c ∷ lines) (n ∷ counts) h =
+    ap₂ (λ (x : List Value) (l : List (List Value)). x ∷ l) (h 0 c n refl refl) (same_shown a b lines counts (λ j. h (suc j)))
+
+-- what was shown stays what it was
+pub shown_stays : (a b : HeldRun) (counts : List ℕ) → IsWellWired a.network → GoesOn a b → AreShown a counts →
+    shown_of b (lines_of a) counts ≡ shown_of a (lines_of a) counts
+shown_stays a b counts wired g h = same_shown a b (lines_of a) counts (stay a b counts wired g h)
+
+take_drop : (n : ℕ) (vs : List Value) → take n vs ++ drop n vs ≡ vs
+take_drop zero vs = refl
+take_drop (suc n) [] = refl
+take_drop (suc n) (v ∷ vs) = ap (λ l. v ∷ l) (take_drop n vs)
+
+none_shown : (h : HeldRun) (lines : List Line) → shown_of h lines [] ≡ []
+none_shown h [] = refl
+none_shown h (c ∷ lines) = refl
+
+put_together : (a b : HeldRun) (lines : List Line) (counts : List ℕ) → Stay a b lines counts →
+    joined (shown_of a lines counts) (news_of b lines counts) ≡ map (so_far b) lines
+put_together a b [] counts h = refl
+put_together a b (c ∷ lines) [] h =
+    ap (λ l. so_far b c ∷ l) (ap (λ s. joined s (news_of b lines [])) (sym (none_shown a lines)) ∙ put_together a b lines [] (λ j d n at there. absurd (nothing j n there)))
   where
-    imaged : (xs : List Stream) (j : ℕ) (s : Stream) → slice_get xs j ≡ Some s → slice_get (map line_of xs) j ≡ Some s.line
-    imaged [] zero s e = absurd cc
-    imaged [] (suc j) s e = absurd cc
-    imaged (x ∷ xs) zero s e = ap (λ (y : Option Stream). elim y [ Some z ↦ Some z.line | None ↦ None ]) e
-    imaged (x ∷ xs) (suc j) s e = imaged xs j s e
+    nothing : (j n : ℕ) → slice_get [] j ≡ Some n → ⊥
+    nothing zero n e = cc
+    nothing (suc j) n e = cc
+put_together a b (c ∷ lines) (n ∷ counts) h =
+    ap₂ (λ (x : List Value) (l : List (List Value)). x ∷ l)
+    (ap (λ l. l ++ drop n (so_far b c)) (sym (h 0 c n refl refl)) ∙ take_drop n (so_far b c))
+    (put_together a b lines counts (λ j. h (suc j)))
 
-same_line : {c d : Line} → Some c ≡ Some d → c ≡ d
-same_line e = cc
+-- what was shown and the news are the streams so far
+pub news_fit : (a b : HeldRun) (counts : List ℕ) → IsWellWired a.network → GoesOn a b → AreShown a counts →
+    joined (shown_of a (lines_of a) counts) (news_of b (lines_of a) counts) ≡ map (so_far b) (lines_of a)
+news_fit a b counts wired g h = put_together a b (lines_of a) counts (stay a b counts wired g h)
 
--- a whole answer was shown
-pub shown_all : (h : HeldRun) (a : Answer) → IsAnswerOf h a → AreShown h (map values_of a.streams.items)
-shown_all h a is j c vs line at =
-    let (s, there, values) = got values_of a.streams.items j vs at in
-    let one : s.line ≡ c = same_line (sym (lined h a is j s there) ∙ line) in
-    (values_of s, subst (λ l. HasSoFar h l (values_of s)) one (is.streams s (j, there)), subst (λ l. IsPrefix l (values_of s)) values (prefix_refl (values_of s)))
+-- ---- all was shown
 
--- what was shown begins the streams of a later answer
-begins : (a b : HeldRun) (shown : List (List Value)) (x : Answer) → GoesOn a b → AreShown a shown → IsAnswerOf b x →
-    (j : ℕ) (vs ws : List Value) → slice_get shown j ≡ Some vs → slice_get (map values_of x.streams.items) j ≡ Some ws → IsPrefix vs ws
-begins a b shown x g h is j vs ws before after =
-    let (s, there, values) = got values_of x.streams.items j ws after in
-    let line = subst (λ l. slice_get l j ≡ Some s.line) (lines_stay a b g) (lined b x is j s there) in
-    let (us, so, front) = h j s.line vs line before in
-    subst (IsPrefix vs) values (prefix_trans vs us (values_of s) front (g.streams s.line us (values_of s) so (is.streams s (j, there))))
+pub all_are_shown : (h : HeldRun) (counts : List ℕ) → AreAllShown h counts → AreShown h counts
+all_are_shown h counts all j c n line at = let (vs, so, e) = all.each j c n line at in (vs, so, omega (arith, e))
 
-behind : (vs ws : List Value) → IsPrefix vs ws → vs ++ drop (length vs) ws ≡ ws
-behind vs ws (zs, e) = subst (λ (l : List Value). vs ++ drop (length vs) l ≡ l) (sym e) (ap (λ (l : List Value). vs ++ l) (drop-append_seam vs zs))
+whole : (h : HeldRun) (lines : List Line) (counts : List ℕ) → length counts ≡ length lines →
+    ((j : ℕ) (c : Line) (n : ℕ) → slice_get lines j ≡ Some c → slice_get counts j ≡ Some n → n ≡ length (so_far h c)) → shown_of h lines counts ≡ map (so_far h) lines
+whole h [] counts many each = refl
+whole h (c ∷ lines) [] many each = absurd (omega (arith, many))
+whole h (c ∷ lines) (n ∷ counts) many each =
+    ap₂ (λ (x : List Value) (l : List (List Value)). x ∷ l)
+    (ap (λ k. take k (so_far h c)) (each 0 c n refl refl) ∙ take_all (so_far h c))
+    (whole h lines counts (omega (arith, many)) (λ j. each (suc j)))
+  where
+    take_all : (vs : List Value) → take (length vs) vs ≡ vs
+    take_all [] = refl
+    take_all (v ∷ vs) = ap (λ l. v ∷ l) (take_all vs)
 
-abbrev none : List (List Value)
-none = []
-
-none_there : (j : ℕ) (vs : List Value) → slice_get none j ≡ Some vs → ⊥
-none_there zero vs e = cc
-none_there (suc j) vs e = cc
-
-put_together : (shown streams : List (List Value)) → ((j : ℕ) (vs ws : List Value) → slice_get shown j ≡ Some vs → slice_get streams j ≡ Some ws → IsPrefix vs ws)
-    → joined shown (news_since shown streams) ≡ streams
-put_together [] [] h = refl
-put_together (vs ∷ shown) [] h = refl
-put_together [] (ws ∷ streams) h = ap (λ l. ws ∷ l) (put_together [] streams (λ j xs ys at there. absurd (none_there j xs at)))
-put_together (vs ∷ shown) (ws ∷ streams) h =
-    ap₂ (λ (x : List Value) (l : List (List Value)). x ∷ l) (behind vs ws (h 0 vs ws refl refl)) (put_together shown streams (λ j. h (suc j)))
-
--- what was shown and the news are the streams of the answer
-pub news_fit : (a b : HeldRun) (shown : List (List Value)) (x : Answer) → GoesOn a b → AreShown a shown → IsAnswerOf b x →
-    joined shown (news_since shown (map values_of x.streams.items)) ≡ map values_of x.streams.items
-news_fit a b shown x g h is = put_together shown (map values_of x.streams.items) (begins a b shown x g h is)
+pub all_shown : (h : HeldRun) (counts : List ℕ) → IsWellWired h.network → AreAllShown h counts → shown_of h (lines_of h) counts ≡ map (so_far h) (lines_of h)
+all_shown h counts wired all =
+    whole h (lines_of h) counts all.many (λ j c n line at. let (vs, so, e) = all.each j c n line at in e ∙ ap length (so_far_is h wired c vs so))

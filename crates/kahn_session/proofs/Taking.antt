@@ -1,19 +1,21 @@
 -- What a line makes of a session.
-use Rattle.std.proofs.Common.{◌≡◌, ◌∙◌, inl, inr, ℕ, ◌+◌, ◌<◌, Bool, false, List, map, sum_by, Option, Some, refl, sym, ap, subst}
+use Rattle.std.proofs.Common.{◌≡◌, ◌∙◌, inl, inr, ℕ, ◌+◌, ◌<◌, Bool, List, map, sum_by, Option, refl, sym, ap, subst}
 use Rattle.std.specs.Prelude.{Err, min}
 use Rattle.kahn_network.specs.Wiring.{IsWellWired}
 use Rattle.kahn_streams.specs.declared.value.Value.{Value}
-use Rattle.kahn_pool.specs.HeldRuns.{GoesOn, HeldRun, Seen, seen_events}
-use Rattle.kahn_pool.specs.Right.{values_of}
-use Rattle.kahn_pool.specs.declared.answer.Answer.{Answer}
+use Rattle.kahn_pool.specs.HeldRuns.{GoesOn, HeldRun, IsRightSoFar, Seen, seen_events, so_far}
+use Rattle.kahn_pool.specs.declared.answer.End.{End}
+use Rattle.kahn_pool.specs.declared.answer.Verdict.{Verdict}
 use Rattle.kahn_pool.proofs.Held_calls.{goes_on_same, goes_on_then}
-use Rattle.kahn_report.specs.News.{news_since}
-use Rattle.kahn_session.specs.Live.{HasAnswered, HasGoneOn, IsFedBy, IsTaken, IsUnfedBy, Live}
-use Rattle.kahn_session.specs.Pace.{HasAnswer, HasNoAnswer, Pace, most_bound, part_bound}
-use Rattle.kahn_session.specs.inner.Shown.{AreShown}
+use Rattle.kahn_report.specs.News.{joined}
+use Rattle.kahn_session.specs.Live.{HasAnswered, HasGoneOn, IsFedBy, IsTaken, IsUnfedBy, Live, lines_of}
+use Rattle.kahn_session.specs.Pace.{IsNoPart, IsPart, Pace, most_bound, part_bound}
+use Rattle.kahn_session.specs.inner.Shown.{AreShown, news_of, shown_of}
+use Rattle.kahn_session.specs.declared.fault.PartFault.{PartFault}
+use Rattle.kahn_session.specs.declared.fault.PartFault.TheVariants as part
 use Rattle.kahn_session.specs.declared.fault.TakeFault.{TakeFault}
 use Rattle.kahn_session.specs.declared.fault.TakeFault.TheVariants.{TooLong, NotUtf8, BadLine, BadValue, Feed, NoMemory, WaitsForMemory, WaitsForThread, Write}
-use Rattle.kahn_session.proofs.Showing.{news_fit}
+use Rattle.kahn_session.proofs.Showing.{lines_stay, news_fit}
 
 fed_on : (line : List ℕ) (a b : HeldRun) → IsWellWired a.network → IsFedBy line a b → GoesOn a b
 fed_on line a b wired (text, inl (blank, same)) = subst (GoesOn a) (sym same) (goes_on_same a wired)
@@ -27,19 +29,16 @@ fed_workers : (line : List ℕ) (a b : HeldRun) → IsFedBy line a b → b.worke
 fed_workers line a b (text, inl (blank, same)) = ap (λ (h : HeldRun). h.workers) same
 fed_workers line a b (text, inr (entry, is, fed)) = ap (λ (h : HeldRun). h.workers) fed.rest
 
--- a part that has no answer goes on too, and its input stays
-no_answer_on : (p q : Pace) (f : TakeFault) → IsWellWired p.run.network → HasNoAnswer p q f → GoesOn p.run q.run × (q.run.input ≡ p.run.input) × (q.step ≡ p.step)
-no_answer_on p q TooLong wired h = absurd h
-no_answer_on p q NotUtf8 wired h = absurd h
-no_answer_on p q BadLine wired h = absurd h
-no_answer_on p q BadValue wired h = absurd h
-no_answer_on p q (Feed f) wired h = absurd h
-no_answer_on p q NoMemory wired h = absurd h
-no_answer_on p q WaitsForMemory wired (inl same) =
+-- a part that has no verdict goes on too, and its input stays
+no_part_on : (p q : Pace) (f : PartFault) → IsWellWired p.run.network → IsNoPart p q f → GoesOn p.run q.run × (q.run.input ≡ p.run.input) × (q.step ≡ p.step)
+no_part_on p q part.NoMemory wired same =
     (subst (λ (r : Pace). GoesOn p.run r.run) (sym same) (goes_on_same p.run wired), ap (λ (r : Pace). r.run.input) same, ap (λ (r : Pace). r.step) same)
-no_answer_on p q WaitsForMemory wired (inr run) = (run.goes_on, run.input, run.step)
-no_answer_on p q WaitsForThread wired (run, several) = (run.goes_on, run.input, run.step)
-no_answer_on p q (Write f) wired h = absurd h
+no_part_on p q part.NoThread wired (run, several) = (run.goes_on, run.input, run.step)
+
+-- for what the session waits then
+abbrev pub waits_for : PartFault → TakeFault
+waits_for part.NoMemory = WaitsForMemory
+waits_for part.NoThread = WaitsForThread
 
 module _ (line : List ℕ) (h : HeldRun) (wired : IsWellWired h.network) (p q : Pace) (fed : IsFedBy line h p.run) where
   first_on : GoesOn h p.run
@@ -52,47 +51,37 @@ module _ (line : List ℕ) (h : HeldRun) (wired : IsWellWired h.network) (p q : 
   pub whole_on : GoesOn p.run q.run → GoesOn h q.run
   whole_on g = goes_on_then h p.run q.run first_on g
 
-  pub halted_on : (f : TakeFault) → HasNoAnswer p q f → GoesOn h q.run
-  halted_on f n = whole_on (no_answer_on p q f still_wired n).0
+  pub halted_on : (f : PartFault) → IsNoPart p q f → GoesOn h q.run
+  halted_on f n = whole_on (no_part_on p q f still_wired n).0
 
-  module _ (step : ℕ) (step_is : p.step ≡ step) (shown : List (List Value)) (settled broken : Bool) where
-    gone_on : (later : List (List Value)) (now torn : Bool) → GoesOn p.run q.run → q.run.input ≡ p.run.input → q.step ≡ p.step →
-        HasGoneOn line (record { run = h; step = step; shown = shown; settled = settled; broken = broken }) (record { run = q.run; step = q.step; shown = later; settled = now; broken = torn })
-    gone_on later now torn g input stays = record { fed = (p.run, fed, input); goes_on = whole_on g; step = stays ∙ step_is }
+  module _ (step : ℕ) (step_is : p.step ≡ step) (shown : List (List Value)) (broken : Bool) where
+    gone_on : (later : List (List Value)) (torn : Bool) → GoesOn p.run q.run → q.run.input ≡ p.run.input → q.step ≡ p.step →
+        HasGoneOn line (record { run = h; step = step; shown = shown; broken = broken }) (record { run = q.run; step = q.step; shown = later; broken = torn })
+    gone_on later torn g input stays = record { fed = (p.run, fed, input); goes_on = whole_on g; step = stays ∙ step_is }
 
     -- a line that was fed, and whose part waits
-    pub waiting : (before : Option (List ℕ)) (f : TakeFault) → HasNoAnswer p q f →
-        IsTaken line (record { run = h; step = step; shown = shown; settled = settled; broken = broken }) (record { run = q.run; step = q.step; shown = shown; settled = false; broken = broken }) before before (Err f)
-    waiting before TooLong n = absurd n
-    waiting before NotUtf8 n = absurd n
-    waiting before BadLine n = absurd n
-    waiting before BadValue n = absurd n
-    waiting before (Feed f) n = absurd n
-    waiting before NoMemory n = absurd n
-    waiting before WaitsForMemory n =
-        let (g, input, stays) = no_answer_on p q WaitsForMemory still_wired n in
-        record { gone_on = gone_on shown false broken g input stays; shown = refl; settled = refl; text = refl }
-    waiting before WaitsForThread n =
-        let (g, input, stays) = no_answer_on p q WaitsForThread still_wired n in
-        (record { gone_on = gone_on shown false broken g input stays; shown = refl; settled = refl; text = refl }, subst (λ n. 1 < n) (fed_workers line h p.run fed) n.1)
-    waiting before (Write f) n = absurd n
+    pub waiting : (before : Option (List ℕ)) (later : List (List Value)) (f : PartFault) → later ≡ shown → IsNoPart p q f →
+        IsTaken line (record { run = h; step = step; shown = shown; broken = broken }) (record { run = q.run; step = q.step; shown = later; broken = broken }) before before (Err (waits_for f))
+    waiting before later part.NoMemory same n =
+        let (g, input, stays) = no_part_on p q part.NoMemory still_wired n in
+        record { gone_on = gone_on later broken g input stays; shown = same; text = refl }
+    waiting before later part.NoThread same n =
+        let (g, input, stays) = no_part_on p q part.NoThread still_wired n in
+        (record { gone_on = gone_on later broken g input stays; shown = same; text = refl }, subst (λ n. 1 < n) (fed_workers line h p.run fed) n.1)
 
-    -- a line that was fed, and whose part has its answer
-    pub answered : (later : List (List Value)) (now torn : Bool) (a : Answer) → AreShown h shown → HasAnswer p q a →
-        HasAnswered line (record { run = h; step = step; shown = shown; settled = settled; broken = broken }) (record { run = q.run; step = q.step; shown = later; settled = now; broken = torn }) a (news_since shown (map values_of a.streams.items))
-    answered later now torn a are n = record {
-      gone_on = gone_on later now torn n.run.goes_on n.run.input n.run.step;
+    -- a line that was fed, and whose part has a verdict
+    pub answered : (counts : List ℕ) (later : List (List Value)) (torn : Bool) (v : Verdict) (ends : List End) → shown ≡ shown_of h (lines_of h) counts → AreShown h counts →
+        IsPart p q v → IsRightSoFar q.run v ends →
+        HasAnswered line (record { run = h; step = step; shown = shown; broken = broken }) (record { run = q.run; step = q.step; shown = later; broken = torn }) v (news_of q.run (lines_of h) counts)
+    answered counts later torn v ends is are n right = record {
+      gone_on = gone_on later torn n.run.goes_on n.run.input n.run.step;
       bound = n.run.bound ∙ ap (λ m. part_bound m p.run) step_is ∙ ap (λ (l : List Seen). min (sum_by seen_events l + step) most_bound) (fed_cells line h p.run fed);
-      is = n.is;
+      verdict = n.settled;
+      ends = (ends, right);
       exact = n.exact;
-      joined = news_fit h q.run shown a (whole_on n.run.goes_on) are n.is;
+      joined = ap (λ (s : List (List Value)). joined s (news_of q.run (lines_of h) counts)) is ∙ news_fit h q.run counts wired (whole_on n.run.goes_on) are
+          ∙ ap (λ l. map (so_far q.run) l) (sym (lines_stay h q.run (whole_on n.run.goes_on)));
     }
-
--- an answer that is kept is one
-pub kept_is_one : (kept : Option Answer) (a b : Answer) → kept ≡ Some a → kept ≡ Some b → a ≡ b
-kept_is_one kept a b one other =
-    let both : Some a ≡ Some b = sym one ∙ other in
-    cc
 
 -- a line that is refused changes nothing
 pub refused : (line : List ℕ) (old new : Live) (before : Option (List ℕ)) (f : TakeFault) → new ≡ old → IsUnfedBy line old.run f → IsTaken line old new before before (Err f)

@@ -1,25 +1,26 @@
 -- Believed. A session: a run that is fed line by line, and what it has shown of its streams (this project's profile).
-use Rattle.std.specs.Prelude.{◌≡◌, ◌⊎◌, ℕ, ◌<◌, ◌≤◌, Bool, true, false, List, [], map, length, replicate, Option, Some, None, Result, Ok, Err}
+use Rattle.std.specs.Prelude.{◌≡◌, ◌⊎◌, ℕ, ◌<◌, ◌≤◌, Bool, true, false, List, [], map, length, replicate, Option, Some, Result, Ok, Err}
 use Rattle.std.specs.Io.KnownBytes.{Appends}
 use Rattle.std.specs.Str.{IsUtf8}
 use Rattle.kahn_config.specs.declared.Config.{Config}
 use Rattle.kahn_tree.specs.declared.tree.Program.{Program}
 use Rattle.kahn_network.specs.Network.{network_of}
 use Rattle.kahn_streams.specs.declared.value.Value.{Value}
+use Rattle.kahn_streams.specs.declared.value.Line.{Line}
 use Rattle.kahn_streams.specs.Entries.{Entry}
 use Rattle.kahn_streams.specs.Feeds.{IsUnwelcome}
 use Rattle.kahn_streams.specs.Tokens.{inputs_of}
 use Rattle.kahn_pool.specs.Exact.{Settles}
-use Rattle.kahn_pool.specs.HeldRuns.{GoesOn, HasFed, HasStarted, HeldRun, IsAnswerOf, IsUnstarted}
-use Rattle.kahn_pool.specs.Right.{line_of, values_of}
-use Rattle.kahn_pool.specs.declared.answer.Answer.{Answer}
+use Rattle.kahn_pool.specs.HeldRuns.{GoesOn, HasFed, HasStarted, HeldRun, IsRightSoFar, IsUnstarted, so_far}
+use Rattle.kahn_pool.specs.Right.{stream_lines}
+use Rattle.kahn_pool.specs.declared.answer.End.{End}
 use Rattle.kahn_pool.specs.declared.answer.Verdict.{Verdict}
 use Rattle.kahn_pool.specs.declared.config.RunFault.{RunFault}
 use Rattle.kahn_pool.specs.declared.config.RunFault.TheVariants as fault
 use Rattle.kahn_report.specs.Entries.{IsBlank, IsEntry, HasNoHead, HasNoValues, content, most_bytes}
-use Rattle.kahn_report.specs.News.{joined, news_text}
+use Rattle.kahn_report.specs.News.{closing_text, joined, news_text}
 use Rattle.kahn_report.specs.Written.{AppendsFront}
-use Rattle.kahn_session.specs.Pace.{part_bound}
+use Rattle.kahn_session.specs.Pace.{events_of, part_bound}
 use Rattle.kahn_session.specs.declared.fault.TakeFault.{TakeFault}
 use Rattle.kahn_session.specs.declared.fault.TakeFault.TheVariants.{TooLong, NotUtf8, BadLine, BadValue, Feed, NoMemory, WaitsForMemory, WaitsForThread, Write}
 
@@ -29,15 +30,16 @@ pub record Live : Type 0 where
   pub step : ℕ
   -- the values of each stream that went out so far, in the order of the streams; none before the first part
   pub shown : List (List Value)
-  -- whether that is the answer of the run as it now stands
-  pub settled : Bool
   -- whether a write failed: then `shown` doesn't tell what went out
   pub broken : Bool
 
--- the values of each stream of an answer that was shown
-abbrev pub shown_of : Option Answer → List (List Value)
-shown_of None = []
-shown_of (Some a) = map values_of a.streams.items
+-- the lines of the streams of a run
+abbrev pub lines_of : HeldRun → List Line
+lines_of h = stream_lines (network_of h.network) h.watch
+
+-- the run has a verdict for its input so far and its bound so far, and no write failed
+abbrev pub IsSettled : Live → Type 0
+IsSettled s = (s.broken ≡ false) × ((v : Verdict) × (s.run.verdict ≡ Some v))
 
 -- ---- the start
 
@@ -46,7 +48,6 @@ pub record HasOpened (t : Program) (config : Config) (s : Live) : Type 0 where
   pub run : HasStarted t (replicate (length (network_of t).channels) []) config s.run
   pub step : s.step ≡ config.bound
   pub shown : s.shown ≡ []
-  pub settled : s.settled ≡ false
   pub broken : s.broken ≡ false
 
 abbrev pub IsUnopened : Program → Config → RunFault → Type 0
@@ -85,42 +86,38 @@ pub record HasGoneOn (line : List ℕ) (old new : Live) : Type 0 where
   pub goes_on : GoesOn old.run new.run
   pub step : new.step ≡ old.step
 
--- this is the right answer for the input so far and the bound so far, and what is new on each stream, behind what was shown of
--- it, is its stream of this answer
-pub record HasAnswered (line : List ℕ) (old new : Live) (a : Answer) (news : List (List Value)) : Type 0 where
+-- the part has this verdict, and the ends that are right for the input so far and the bound so far; and what is new on each
+-- stream, behind what was shown of it, is its stream so far
+pub record HasAnswered (line : List ℕ) (old new : Live) (v : Verdict) (news : List (List Value)) : Type 0 where
   pub gone_on : HasGoneOn line old new
   pub bound : new.run.bound ≡ part_bound old.step old.run
-  pub is : IsAnswerOf new.run a
-  pub exact : Settles (network_of new.run.network) (inputs_of new.run.input) new.run.bound a.verdict
-  pub joined : joined old.shown news ≡ map values_of a.streams.items
+  pub verdict : new.run.verdict ≡ Some v
+  pub ends : (ends : List End) × IsRightSoFar new.run v ends
+  pub exact : Settles (network_of new.run.network) (inputs_of new.run.input) new.run.bound v
+  pub joined : joined old.shown news ≡ map (so_far new.run) (lines_of new.run)
 
 -- the text of the news
-abbrev pub text_of : Live → Answer → List (List Value) → List ℕ
-text_of s a news = news_text s.run.network (map line_of a.streams.items) news
+abbrev pub text_of : Live → List (List Value) → List ℕ
+text_of s news = news_text s.run.network (lines_of s.run) news
 
 -- the news went out
 pub record HasTaken (line : List ℕ) (old new : Live) (before after : Option (List ℕ)) (v : Verdict) : Type 0 where
-  pub answer : Answer
   pub news : List (List Value)
-  pub answered : HasAnswered line old new answer news
-  pub verdict : answer.verdict ≡ v
-  pub shown : new.shown ≡ map values_of answer.streams.items
-  pub settled : new.settled ≡ true
-  pub text : Appends before after (text_of new answer news)
+  pub answered : HasAnswered line old new v news
+  pub shown : new.shown ≡ map (so_far new.run) (lines_of new.run)
+  pub text : Appends before after (text_of new news)
 
 -- a fault of the writer: a prefix of the news went out
 pub record HasBroken (line : List ℕ) (old new : Live) (before after : Option (List ℕ)) : Type 0 where
-  pub answer : Answer
+  pub verdict : Verdict
   pub news : List (List Value)
-  pub answered : HasAnswered line old new answer news
-  pub settled : new.settled ≡ false
-  pub text : AppendsFront before after (text_of new answer news)
+  pub answered : HasAnswered line old new verdict news
+  pub text : AppendsFront before after (text_of new news)
 
 -- the line's values are fed and its part waits: nothing went out
 pub record IsWaiting (line : List ℕ) (old new : Live) (before after : Option (List ℕ)) : Type 0 where
   pub gone_on : HasGoneOn line old new
   pub shown : new.shown ≡ old.shown
-  pub settled : new.settled ≡ false
   pub text : after ≡ before
 
 -- whether the session is broken by a fault
@@ -153,3 +150,10 @@ IsTaken line old new before after (Err NoMemory) = IsRefused line old new before
 IsTaken line old new before after (Err WaitsForMemory) = IsWaiting line old new before after
 IsTaken line old new before after (Err WaitsForThread) = IsWaiting line old new before after × (1 < old.run.workers)
 IsTaken line old new before after (Err (Write f)) = HasBroken line old new before after
+
+-- ---- the end
+
+-- the text of how the run ended: its verdict, with the ends that are right for the input so far and the bound so far
+abbrev pub Closes : HeldRun → Verdict → List ℕ → Type 0
+Closes h v text =
+    (h.verdict ≡ Some v) × ((ends : List End) × IsRightSoFar h v ends × (text ≡ closing_text h.network v ends (events_of h)))

@@ -1,15 +1,12 @@
 -- Believed. A held run, each part of which may take so many events (this project's profile).
-use Rattle.std.specs.Prelude.{◌≡◌, ◌⊎◌, ℕ, ◌+◌, ◌<◌, min, sum_by}
+use Rattle.std.specs.Prelude.{◌≡◌, ℕ, ◌+◌, ◌<◌, min, sum_by, Some}
 use Rattle.kahn_network.specs.Network.{network_of}
 use Rattle.kahn_streams.specs.Tokens.{inputs_of}
 use Rattle.kahn_pool.specs.Exact.{Settles}
-use Rattle.kahn_pool.specs.HeldRuns.{GoesOn, HeldRun, IsAnswerOf, seen_events}
-use Rattle.kahn_pool.specs.declared.answer.Answer.{Answer}
+use Rattle.kahn_pool.specs.HeldRuns.{GoesOn, HeldRun, seen_events}
 use Rattle.kahn_pool.specs.declared.answer.Verdict.{Verdict}
 use Rattle.kahn_session.specs.declared.fault.PartFault.{PartFault}
 use Rattle.kahn_session.specs.declared.fault.PartFault.TheVariants.{NoMemory, NoThread}
-use Rattle.kahn_session.specs.declared.fault.TakeFault.{TakeFault}
-use Rattle.kahn_session.specs.declared.fault.TakeFault.TheVariants.{WaitsForMemory, WaitsForThread}
 
 pub record Pace : Type 0 where
   pub run : HeldRun
@@ -38,21 +35,10 @@ pub record HasRun (old new : Pace) : Type 0 where
 -- and it has this verdict
 pub record IsPart (old new : Pace) (v : Verdict) : Type 0 where
   pub run : HasRun old new
+  pub settled : new.run.verdict ≡ Some v
   pub exact : Settles (network_of new.run.network) (inputs_of new.run.input) new.run.bound v
 
 -- why it has none: want of memory leaves all as it was
 abbrev pub IsNoPart : Pace → Pace → PartFault → Type 0
 IsNoPart old new NoMemory = new ≡ old
 IsNoPart old new NoThread = HasRun old new × (1 < old.run.workers)
-
--- a part was run, and this is the right answer for the input so far and the bound so far
-pub record HasAnswer (old new : Pace) (a : Answer) : Type 0 where
-  pub run : HasRun old new
-  pub is : IsAnswerOf new.run a
-  pub exact : Settles (network_of new.run.network) (inputs_of new.run.input) new.run.bound a.verdict
-
--- why there is none: memory was refused for the part, which leaves all as it was, or for the answer; or no thread was started
-abbrev pub HasNoAnswer : Pace → Pace → TakeFault → Type 0
-HasNoAnswer old new WaitsForMemory = (new ≡ old) ⊎ HasRun old new
-HasNoAnswer old new WaitsForThread = HasRun old new × (1 < old.run.workers)
-HasNoAnswer old new f = ⊥

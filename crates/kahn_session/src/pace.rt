@@ -1,15 +1,17 @@
 //! A held run, each part of which may take so many events.
 
-ghost use Rattle.std.specs.Prelude.{◌≡◌, ℕ, ◌+◌, Some, length, replicate, [], IfOk, MatchResult};
+ghost use Rattle.std.specs.Prelude.{◌≡◌, ℕ, ◌+◌, Some, length, map, replicate, [], IfOk, MatchResult};
 ghost use Rattle.kahn_network.specs.Network.{network_of};
-ghost use Rattle.kahn_pool.specs.HeldRuns.{HasFed, HasStarted, IsAnswerOf, IsUnfed, IsUnstarted};
+ghost use Rattle.kahn_code.specs.Cells.{token_value};
+ghost use Rattle.kahn_pool.specs.HeldRuns.{HasFed, HasSoFar, HasStarted, IsLineOf, IsRightSoFar, IsUnfed, IsUnstarted};
+ghost use Rattle.kahn_pool.specs.Right.{stream_lines};
 ghost use Rattle.kahn_pool.specs.declared.answer.Verdict.{Verdict as VerdictOf};
-ghost use Rattle.kahn_session.specs.Pace.{IsNoPart, IsPart, part_bound};
+ghost use Rattle.kahn_session.specs.Pace.{IsNoPart, IsPart, events_of, part_bound};
 
 use crate::fault::PartFault;
 use kahn_network::Network;
-use kahn_pool::{Answer, Config, Gate, Held, HeldFault, MOST_BOUND, RunFault, Verdict};
-use kahn_streams::{FeedFault, Input, NoMemory, Value};
+use kahn_pool::{Config, End, Gate, Held, HeldFault, MOST_BOUND, RunFault, Verdict};
+use kahn_streams::{Carried, FeedFault, Input, Line, NoMemory, Value};
 use std::alloc::Global;
 use std::marker::Model;
 use std::sync::Wait;
@@ -73,8 +75,7 @@ impl<'n> Paced<'n> {
         rt: &R,
         gate: &G,
     ) -> Result<Verdict, PartFault>
-        ensures part { MatchResult result (IsPart self.old self.new) (IsNoPart self.old self.new) }
-        ensures settled { IfOk result (λ v. self.new.run.verdict ≡ Some v) }
+        ensures { MatchResult result (IsPart self.old self.new) (IsNoPart self.old self.new) }
     {
         let more = self.more();
         match self.held.resume(rt, more, gate) {
@@ -99,11 +100,41 @@ impl<'n> Paced<'n> {
         self.held.feed(channel, values)
     }
 
-    /// A copy of the answer.
-    pub(crate) fn answer(&self) -> Result<Answer, NoMemory>
-        requires { (v : VerdictOf) × (self.now.run.verdict ≡ Some v) }
-        ensures { IfOk result (IsAnswerOf self.now.run) }
+    /// The lines of its streams, in order.
+    pub(crate) fn lines(&self) -> Result<Vec<Line>, NoMemory>
+        ensures { IfOk result (λ lines. lines.items ≡ stream_lines (network_of self.now.run.network) self.now.run.watch) }
     {
-        self.held.answer()
+        self.held.lines()
+    }
+
+    /// What the stream of a line has so far.
+    pub(crate) fn stream(&self, line: Line) -> &[Carried]
+        requires settled { (v : VerdictOf) × (self.now.run.verdict ≡ Some v) }
+        requires line { IsLineOf self.now.run line }
+        ensures { HasSoFar self.now.run line (map token_value result.now) }
+    {
+        self.held.stream(line)
+    }
+
+    /// The verdict of the last part, where nothing changed since.
+    pub(crate) fn verdict(&self) -> Option<Verdict>
+        ensures { result ≡ self.now.run.verdict }
+    {
+        self.held.verdict()
+    }
+
+    /// How each instance stands.
+    pub(crate) fn ends(&self) -> &[End]
+        requires { (v : VerdictOf) × (self.now.run.verdict ≡ Some v) }
+        ensures { (v : VerdictOf) → self.now.run.verdict ≡ Some v → IsRightSoFar self.now.run v result.now }
+    {
+        self.held.ends()
+    }
+
+    /// The events of all parts so far.
+    pub(crate) fn events(&self) -> u64
+        ensures { result ≡ events_of self.now.run }
+    {
+        self.held.events()
     }
 }

@@ -1,23 +1,22 @@
 //! Sessions: what a line of input makes of a run, and what goes out after it.
 
 ghost use Rattle.std.specs.Io.KnownBytes.{Appends};
-ghost use Rattle.std.specs.Prelude.{◌≡◌, true, false, map, MatchOption, MatchResult};
+ghost use Rattle.std.specs.Prelude.{◌≡◌, ◌↔◌, ◌≤◌, ℕ, List, Some, false, drop, length, slice_index_or, vec_capacity, [], IfOk, IsTrue, MatchOption, MatchResult};
 ghost use Rattle.kahn_streams.specs.Entries.{entry_of};
-ghost use Rattle.kahn_pool.specs.HeldRuns.{HeldRun, IsAnswerOf};
-ghost use Rattle.kahn_pool.specs.Right.{values_of};
-ghost use Rattle.kahn_pool.specs.declared.answer.Answer.{Answer as AnswerOf};
+ghost use Rattle.kahn_pool.specs.HeldRuns.{HeldRun};
+ghost use Rattle.kahn_pool.specs.declared.answer.Verdict.{Verdict as VerdictOf};
 ghost use Rattle.kahn_report.specs.Entries.{IsBlank, IsEntry, content};
-ghost use Rattle.kahn_report.specs.News.{closing_text};
-ghost use Rattle.kahn_report.specs.Written.{AppendsFront};
-ghost use Rattle.kahn_session.specs.Live.{HasOpened, IsFedBy, IsTaken, IsText, IsUnfedBy, IsUnopened, breaks, shown_of};
-ghost use Rattle.kahn_session.specs.Pace.{HasAnswer, HasNoAnswer};
+ghost use Rattle.kahn_report.specs.News.{news_text};
+ghost use Rattle.kahn_report.specs.Written.{AppendsFront, Writes};
+ghost use Rattle.kahn_session.specs.Live.{Closes, HasOpened, IsFedBy, IsSettled, IsTaken, IsText, IsUnfedBy, IsUnopened, breaks, lines_of};
+ghost use Rattle.kahn_session.specs.inner.Shown.{AreAllShown, news_of};
 
 use crate::fault::{PartFault, TakeFault};
 use crate::pace::Paced;
 use kahn_network::Network;
-use kahn_pool::{Answer, Config, Gate, RunFault, Stream, Verdict};
+use kahn_pool::{Config, Gate, RunFault, Verdict};
 use kahn_report::{LineFault, MOST_BYTES, WriteFault, read_line, write_closing, write_news};
-use kahn_streams::{Input, Value};
+use kahn_streams::{Carried, Input, Line, NoMemory, Value};
 use std::alloc::Global;
 use std::io::Write;
 use std::marker::Model;
@@ -25,15 +24,15 @@ use std::str;
 use std::sync::Wait;
 use std::thread::Threads;
 
-/// A run that is fed line by line, and the last answer that it has shown, which it keeps.
+/// A run that is fed line by line, and how much of each of its streams was shown. It keeps no values of its own.
 #[derive(Drop)]
 pub struct Session<'n> {
     alloc: Global,
     network: &'n Network,
     paced: Paced<'n>,
-    last: Option<Answer>,
-    // Whether it is the answer of the run as it now stands.
-    settled: bool,
+    lines: Vec<Line>,
+    // How many values of each stream went out; none before the first part.
+    shown: Vec<usize>,
     // Whether a write failed, after which nothing tells what went out.
     broken: bool,
 }
@@ -42,19 +41,18 @@ impl<'n> Model for Session<'n> {
     ghost use Rattle.kahn_tree.specs.contracts.tree.Action as action;
     ghost use Rattle.kahn_tree.specs.contracts.tree.Form as form;
     ghost use Rattle.std.specs.Coded.{codes};
-    ghost use Rattle.std.specs.Prelude.{◌≡◌, true, Some};
-    ghost use Rattle.kahn_pool.specs.HeldRuns.{IsAnswerOf};
-    ghost use Rattle.kahn_pool.specs.declared.answer.Answer.{Answer as AnswerOf};
-    ghost use Rattle.kahn_session.specs.Live.{Live, shown_of};
-    ghost use Rattle.kahn_session.specs.inner.Shown.{AreShown};
+    ghost use Rattle.std.specs.Prelude.{◌≡◌, ◌≤◌, length, vec_capacity};
+    ghost use Rattle.kahn_session.specs.Live.{Live, lines_of};
+    ghost use Rattle.kahn_session.specs.inner.Shown.{AreShown, shown_of};
 
     ghost Value = { Live };
 
     ghost coded = { Prim.hlevel (codes, action.the_row.coded, form.the_row.coded) };
 
-    ghost view = { λ s. record { run = s.paced.run; step = s.paced.step; shown = shown_of s.last; settled = s.settled; broken = s.broken } };
+    ghost view = { λ s. record { run = s.paced.run; step = s.paced.step; shown = shown_of s.paced.run s.lines.items s.shown.items; broken = s.broken } };
 
-    ghost invariant = { λ s. (s.paced.run.network ≡ s.network.now) × AreShown s.paced.run (shown_of s.last) × (s.settled ≡ true → (a : AnswerOf) × (s.last ≡ Some a) × IsAnswerOf s.paced.run a) };
+    ghost invariant = { λ s. (s.paced.run.network ≡ s.network.now) × (s.lines.items ≡ lines_of s.paced.run) × AreShown s.paced.run s.shown.items
+        × (length s.lines.items ≤ vec_capacity s.shown) };
 }
 
 /// The entry of a line, or nothing where the line is blank.
@@ -91,31 +89,82 @@ fn feed_line(alloc: Global, paced: &mut Paced<'_>, line: &[u8]) -> Result<(), Ta
     }
 }
 
-/// The streams of an answer, where there is one.
-fn shown_streams(last: &Option<Answer>) -> &[Stream]
-    ensures { map values_of result.now ≡ shown_of last.now }
+/// Room for so many counts.
+fn room_for(alloc: Global, many: usize) -> Result<Vec<usize>, NoMemory>
+    ensures { IfOk result (λ counts. (counts.items ≡ []) × (many ≤ vec_capacity counts)) }
 {
-    match last {
-        Some(answer) => answer.streams.as_slice(),
+    Ok(Vec::with_capacity(alloc, many)?)
+}
+
+/// How many values of a stream were shown.
+fn shown_count(shown: &[usize], number: usize) -> usize
+    ensures { result ≡ slice_index_or shown.now number 0 }
+{
+    match shown.get(number) {
+        Some(count) => *count,
+        None => 0,
+    }
+}
+
+/// The tokens behind so many.
+fn tokens_after(tokens: &[Carried], count: usize) -> &[Carried]
+    ensures { result.now ≡ drop count tokens.now }
+{
+    match tokens.get(count..) {
+        Some(rest) => rest,
         None => &[],
     }
 }
 
-/// Runs a part, and gives its answer.
-fn answer_part<R: Threads + Wait + Sync, G: Gate + Sync>(
-    rt: &R,
-    paced: &mut Paced<'_>,
-    gate: &G,
-) -> Result<Answer, TakeFault>
-    ensures { MatchResult result (HasAnswer paced.old paced.new) (HasNoAnswer paced.old paced.new) }
+/// Writes what is new on each stream behind what was shown of it.
+fn put_news<W: Write>(
+    writer: &mut W,
+    network: &Network,
+    run: &Paced<'_>,
+    lines: &[Line],
+    shown: &[usize],
+) -> Result<(), WriteFault>
+    requires network { run.now.run.network ≡ network.now }
+    requires lines { lines.now ≡ lines_of run.now.run }
+    requires settled { (v : VerdictOf) × (run.now.run.verdict ≡ Some v) }
+    ensures { Writes (W.contents writer.old) (W.contents writer.new) result (news_text network.now lines.now (news_of run.now.run lines.now shown.now)) }
 {
-    match paced.part(rt, gate) {
-        Ok(_) => match paced.answer() {
-            Ok(answer) => Ok(answer),
-            Err(_) => Err(TakeFault::WaitsForMemory),
-        },
-        Err(PartFault::NoMemory) => Err(TakeFault::WaitsForMemory),
-        Err(PartFault::NoThread) => Err(TakeFault::WaitsForThread),
+    let _program = network.program();
+    for (number, line) in lines.iter().enumerate() {
+        let tokens = tokens_after(run.stream(*line), shown_count(shown, number));
+        write_news(writer, network, *line, tokens)?;
+    }
+    Ok(())
+}
+
+/// Writes what is new, and flushes.
+fn show<W: Write>(
+    writer: &mut W,
+    network: &Network,
+    run: &Paced<'_>,
+    lines: &[Line],
+    shown: &[usize],
+) -> Result<(), WriteFault>
+    requires network { run.now.run.network ≡ network.now }
+    requires lines { lines.now ≡ lines_of run.now.run }
+    requires settled { (v : VerdictOf) × (run.now.run.verdict ≡ Some v) }
+    ensures { Writes (W.contents writer.old) (W.contents writer.new) result (news_text network.now lines.now (news_of run.now.run lines.now shown.now)) }
+{
+    put_news(writer, network, run, lines, shown)?;
+    writer.flush().map_err(|_| WriteFault::Failed)
+}
+
+/// Counts the values of each stream, all of which were shown. It takes no memory.
+fn count_shown(run: &Paced<'_>, lines: &[Line], shown: &mut Vec<usize>)
+    requires lines { lines.now ≡ lines_of run.now.run }
+    requires settled { (v : VerdictOf) × (run.now.run.verdict ≡ Some v) }
+    requires room { length lines.now ≤ vec_capacity shown.old }
+    ensures counts { AreAllShown run.now.run shown.new.items }
+    ensures room { length lines.now ≤ vec_capacity shown.new }
+{
+    shown.clear();
+    for number in 0..lines.len() {
+        shown.push_reserved(run.stream(lines[number]).len());
     }
 }
 
@@ -134,12 +183,14 @@ impl<'n> Session<'n> {
     {
         let input = Input::none(alloc, network)?;
         let paced = Paced::start(alloc, network, input, config)?;
+        let lines = paced.lines()?;
+        let shown = room_for(alloc, lines.len())?;
         Ok(Session {
             alloc,
             network,
             paced,
-            last: None,
-            settled: false,
+            lines,
+            shown,
             broken: false,
         })
     }
@@ -168,35 +219,30 @@ impl<'n> Session<'n> {
         if let Err(fault) = feed_line(self.alloc, &mut self.paced, line) {
             return Err(fault);
         }
-        self.settled = false;
-        let answer = match answer_part(rt, &mut self.paced, gate) {
-            Ok(answer) => answer,
-            Err(fault) => return Err(fault),
+        let verdict = match self.paced.part(rt, gate) {
+            Ok(verdict) => verdict,
+            Err(PartFault::NoMemory) => return Err(TakeFault::WaitsForMemory),
+            Err(PartFault::NoThread) => return Err(TakeFault::WaitsForThread),
         };
-        match write_news(
+        if let Err(fault) = show(
             writer,
             self.network,
-            shown_streams(&self.last),
-            &answer.streams,
+            &self.paced,
+            &self.lines,
+            &self.shown,
         ) {
-            Ok(()) => {
-                let verdict = answer.verdict;
-                self.last = Some(answer);
-                self.settled = true;
-                Ok(verdict)
-            }
-            Err(fault) => {
-                self.broken = true;
-                Err(TakeFault::Write(fault))
-            }
+            self.broken = true;
+            return Err(TakeFault::Write(fault));
         }
+        count_shown(&self.paced, &self.lines, &mut self.shown);
+        Ok(verdict)
     }
 
-    /// Whether what was shown is the answer of the run as it now stands. Then the session may be closed.
+    /// Whether the last part has a verdict that still holds, and no write failed. Then the session may be closed.
     pub fn settled(&self) -> bool
-        ensures { result ≡ self.now.settled }
+        ensures { IsTrue result ↔ IsSettled self.now }
     {
-        self.settled
+        !self.broken && self.paced.verdict().is_some()
     }
 
     /// Whether a write failed. Then the session takes no further line, and it is never settled.
@@ -209,15 +255,22 @@ impl<'n> Session<'n> {
     /// Writes the last lines of a report, how each process stands and how the run ended, and flushes. It is asked for only
     /// where the session is settled. It takes no memory. After a fault of the writer a prefix of the lines went out.
     pub fn close<W: Write>(&self, writer: &mut W) -> Result<Verdict, WriteFault>
-        requires { self.now.settled ≡ true }
-        ensures { MatchResult result (λ v. (a : AnswerOf) × IsAnswerOf self.now.run a × (a.verdict ≡ v) × Appends (W.contents writer.old) (W.contents writer.new) (closing_text self.now.run.network a))
-            (λ _. (a : AnswerOf) × IsAnswerOf self.now.run a × AppendsFront (W.contents writer.old) (W.contents writer.new) (closing_text self.now.run.network a)) }
+        requires { IsSettled self.now }
+        ensures { MatchResult result
+            (λ v. (text : List ℕ) × Closes self.now.run v text × Appends (W.contents writer.old) (W.contents writer.new) text)
+            (λ _. (v : VerdictOf) × (text : List ℕ) × Closes self.now.run v text × AppendsFront (W.contents writer.old) (W.contents writer.new) text) }
     {
-        let Some(answer) = &self.last else {
+        let Some(verdict) = self.paced.verdict() else {
             unreachable!()
         };
-        match write_closing(writer, self.network, answer) {
-            Ok(()) => Ok(answer.verdict),
+        match write_closing(
+            writer,
+            self.network,
+            verdict,
+            self.paced.ends(),
+            self.paced.events(),
+        ) {
+            Ok(()) => Ok(verdict),
             Err(fault) => Err(fault),
         }
     }

@@ -72,16 +72,16 @@ read_of Memory N A p e c h = (h.2.0, h.2.1)
 -- the ends of a right answer wait on channels of the network
 pub answered : (t : Program) (a : Answer) → IsAnswer t a → AreStandings (network_of t) (standings_of a)
 answered t a (wired, I, bound, watch, right) = record {
-  each = length-map a.ends.items stands ∙ right.instances;
+  each = length-map a.ends.items stands ∙ right.run.instances;
   channels = reads;
 }
   where
     reads : (p c : ℕ) → slice_get (standings_of a) p ≡ Some (S.Waits c) → c < length (network_of t).channels
     reads p c e =
         let x = end_of a.ends.items p (S.Waits c) (slice_get a.ends.items p) refl (sym (slice_get-map stands a.ends.items p) ∙ e) in
-        let out : IsOutcome a.verdict (network_of t) right.tapes p x.0.events (Waits c) =
-        subst (IsOutcome a.verdict (network_of t) right.tapes p x.0.events) (waiting x.0.outcome c x.2) (right.outcomes p x.0 x.1) in
-        let read = read_of a.verdict (network_of t) right.tapes p x.0.events c out in
+        let out : IsOutcome a.verdict (network_of t) right.run.tapes p x.0.events (Waits c) =
+        subst (IsOutcome a.verdict (network_of t) right.run.tapes p x.0.events) (waiting x.0.outcome c x.2) (right.run.outcomes p x.0 x.1) in
+        let read = read_of a.verdict (network_of t) right.run.tapes p x.0.events c out in
         reads_listed t wired p read.0 c read.1
 
 -- the causes that were found for the answer's standings are those of its ends

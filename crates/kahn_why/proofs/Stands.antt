@@ -173,19 +173,19 @@ module _ (N : Network) (I : Inputs) (bound : ℕ) (watch : Option ℕ) (a : Answ
   stood : (q : ℕ) (s : Standing) → slice_get ss q ≡ Some s → (x : End) × HasEndAt a q x × (stands x ≡ s)
   stood q s e = end_of a.ends.items q s (slice_get a.ends.items q) refl (sym (slice_get-map stands a.ends.items q) ∙ e)
 
-  came : (q : ℕ) (x : End) → HasEndAt a q x → IsOutcome a.verdict N r.tapes q (events_at q) x.outcome
-  came q x h = subst (λ e. IsOutcome a.verdict N r.tapes q e x.outcome) (count q x h) (r.outcomes q x h)
+  came : (q : ℕ) (x : End) → HasEndAt a q x → IsOutcome a.verdict N r.run.tapes q (events_at q) x.outcome
+  came q x h = subst (λ e. IsOutcome a.verdict N r.run.tapes q e x.outcome) (count q x h) (r.run.outcomes q x h)
 
-  dry : (q c : ℕ) → slice_get ss q ≡ Some (S.Waits c) → IsDryOn N r.tapes q (events_at q) c
+  dry : (q c : ℕ) → slice_get ss q ≡ Some (S.Waits c) → IsDryOn N r.run.tapes q (events_at q) c
   dry q c e =
       let (x, has, is) = stood q (S.Waits c) e in
-      dry_of a.verdict N r.tapes q (events_at q) c clear
-      (subst (IsOutcome a.verdict N r.tapes q (events_at q)) (waiting x.outcome c is) (came q x has))
+      dry_of a.verdict N r.run.tapes q (events_at q) c clear
+      (subst (IsOutcome a.verdict N r.run.tapes q (events_at q)) (waiting x.outcome c is) (came q x has))
 
-  out : (q : ℕ) → IsOut N ss q → IsThrough (exec_at N (events_at q) q r.tapes).outcome
+  out : (q : ℕ) → IsOut N ss q → IsThrough (exec_at N (events_at q) q r.run.tapes).outcome
   out q h =
       let (x, has, is) = stood q h.0 h.1 in
-      out_of a.verdict N r.tapes q (events_at q) x.outcome (subst IsEndedOrFaulted (sym is) h.2) (came q x has)
+      out_of a.verdict N r.run.tapes q (events_at q) x.outcome (subst IsEndedOrFaulted (sym is) h.2) (came q x has)
 
   same_dry : (o : Came Store) (q d : ℕ) → o ≡ Dry q → o ≡ Dry d → q ≡ d
   same_dry o q d e f = cc
@@ -195,37 +195,37 @@ module _ (N : Network) (I : Inputs) (bound : ℕ) (watch : Option ℕ) (a : Answ
     has_end q (inl h) = let s = stood q h.0 h.1 in (s.0, s.1)
     has_end q (inr on) = let s = stood q (S.Waits on.0) on.2.0 in (s.0, s.1)
 
-    not_cut : (q : ℕ) → IsOut N ss q ⊎ IsOn N ss L q → (exec_at N (events_at q) q r.tapes).outcome ≡ Cut → ⊥
+    not_cut : (q : ℕ) → IsOut N ss q ⊎ IsOn N ss L q → (exec_at N (events_at q) q r.run.tapes).outcome ≡ Cut → ⊥
     not_cut q (inl h) e = (out q h).0 e
-    not_cut q (inr on) e = let d = dry q on.0 on.2.0 in bad d.0 (exec_at N (events_at q) q r.tapes).outcome (sym e) d.2
+    not_cut q (inr on) e = let d = dry q on.0 on.2.0 in bad d.0 (exec_at N (events_at q) q r.run.tapes).outcome (sym e) d.2
       where
         bad : (k : ℕ) (o : Came Store) → Cut ≡ o → o ≡ Dry k → ⊥
         bad k o f g = absurd cc
 
-    waits : (p q : ℕ) → IsOut N ss p ⊎ IsOn N ss L p → (exec_at N (events_at p) p r.tapes).outcome ≡ Dry q
+    waits : (p q : ℕ) → IsOut N ss p ⊎ IsOn N ss L p → (exec_at N (events_at p) p r.run.tapes).outcome ≡ Dry q
         → (c w : ℕ) × (actual_at (instance_at N p) q ≡ Reads c) × (channel_source N c ≡ Written w) × (is_in L w ≡ true)
     waits p q (inl h) e = absurd ((out p h).1 q e)
     waits p q (inr on) e =
         let d = dry p on.0 on.2.0 in
-        let same : d.0 ≡ q = same_dry (exec_at N (events_at p) p r.tapes).outcome d.0 q d.2 e in
+        let same : d.0 ≡ q = same_dry (exec_at N (events_at p) p r.run.tapes).outcome d.0 q d.2 e in
         (on.0, on.1, subst (λ k. actual_at (instance_at N p) k ≡ Reads on.0) same d.1, on.2.1, on.3)
 
-    stuck : AreStuck N I r.tapes events_at (is_in L)
+    stuck : AreStuck N I r.run.tapes events_at (is_in L)
     stuck = record {
-      reached = r.others;
+      reached = r.run.others;
       over = λ p s. not_cut p (shut p s);
       sends = λ c p s source.
           let x = has_end p (shut p s) in
-          subst (λ e. net.out N e p r.tapes c ≡ r.tapes c) (count p x.0 x.1) (r.sends p x.0 x.1 c source);
+          subst (λ e. net.out N e p r.run.tapes c ≡ r.run.tapes c) (count p x.0 x.1) (r.run.sends p x.0 x.1 c source);
       waits = λ p q s. waits p q (shut p s);
     }
 
     good : (J : Inputs) → AreInputsExtended I J → (p : ℕ) → is_in L p ≡ true → (x : End) → HasEndAt a p x → (o : net.Ending)
-        → ending (exec_at N (events_at p) p r.tapes).outcome ≡ Some o → net.HasEnd N J p o x.events
+        → ending (exec_at N (events_at p) p r.run.tapes).outcome ≡ Some o → net.HasEnd N J p o x.events
     good J longer p s x has o e =
         subst (net.HasEnd N J p o) (sym (count p x has))
-        (stays_so N I r.tapes events_at (is_in L) stuck J longer p s o e
-        (subst (λ k. (exec_at N k p r.tapes).events ≡ k) (count p x has) (r.does p x has)))
+        (stays_so N I r.run.tapes events_at (is_in L) stuck J longer p s o e
+        (subst (λ k. (exec_at N k p r.run.tapes).events ≡ k) (count p x has) (r.run.does p x has)))
 
     no_more : (p : ℕ) (x : End) → HasEndAt a p x → IsOut N ss p ⊎ IsOn N ss L p → x.outcome ≡ More → ⊥
     no_more p x has h e =
@@ -243,10 +243,10 @@ module _ (N : Network) (I : Inputs) (bound : ℕ) (watch : Option ℕ) (a : Answ
 
     for_end : (J : Inputs) → AreInputsExtended I J → (p : ℕ) → is_in L p ≡ true → (x : End) → HasEndAt a p x → (o : Outcome) → x.outcome ≡ o
         → IsEnd N J p o x.events
-    for_end J longer p s x has Ended e = good J longer p s x has net.Ended (subst (IsOutcome a.verdict N r.tapes p (events_at p)) e (came p x has))
-    for_end J longer p s x has (Faulted k) e = good J longer p s x has (net.Faulted k) (subst (IsOutcome a.verdict N r.tapes p (events_at p)) e (came p x has))
+    for_end J longer p s x has Ended e = good J longer p s x has net.Ended (subst (IsOutcome a.verdict N r.run.tapes p (events_at p)) e (came p x has))
+    for_end J longer p s x has (Faulted k) e = good J longer p s x has (net.Faulted k) (subst (IsOutcome a.verdict N r.run.tapes p (events_at p)) e (came p x has))
     for_end J longer p s x has (Waits c) e =
-        let d = dry_of a.verdict N r.tapes p (events_at p) c clear (subst (IsOutcome a.verdict N r.tapes p (events_at p)) e (came p x has)) in
+        let d = dry_of a.verdict N r.run.tapes p (events_at p) c clear (subst (IsOutcome a.verdict N r.run.tapes p (events_at p)) e (came p x has)) in
         (d.0, d.1, good J longer p s x has (net.Waiting d.0) (ap ending d.2))
     for_end J longer p s x has More e = absurd (no_more p x has (shut p s) e)
 

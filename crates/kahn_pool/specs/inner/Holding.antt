@@ -4,11 +4,13 @@ use Rattle.kahn_tree.specs.declared.tree.Program.{Program}
 use Rattle.kahn_network.specs.Network.{network_of}
 use Rattle.kahn_streams.specs.Laws.{AreInputsExtended}
 use Rattle.kahn_streams.specs.Tokens.{Lists, inputs_of}
+use Rattle.kahn_streams.specs.declared.token.Token.{Token}
 use Rattle.kahn_code.specs.Cells.{View, StoodBy}
 use Rattle.kahn_code.specs.Told.{Told, told_view}
 use Rattle.kahn_job.specs.inner.Idles.{AreIdle, cells_of}
 use Rattle.kahn_job.specs.inner.Works.{Work}
 use Rattle.kahn_pool.specs.inner.Bench.{State}
+use Rattle.kahn_pool.specs.inner.Streams.{AreAllGiven, AreGiven}
 use Rattle.kahn_pool.specs.inner.Concluded.{IsConcluded}
 use Rattle.kahn_config.specs.Limits.{IsInRange}
 use Rattle.kahn_pool.specs.declared.answer.End.{End}
@@ -53,6 +55,11 @@ pub record IsHolding (t compiled : Program) (lists : Lists) (watch : Option ℕ)
   pub range : IsInRange workers quantum bound
   pub held : AreHeld t lists watch bound ws budget
   pub ended : AreEnded (held_state t lists watch ws) bound budget ends verdict
+
+-- the tokens that are lent of a watched input channel: where there is a verdict they are its whole list
+abbrev pub IsGiving : Program → Lists → Option ℕ → List Token → Option Verdict → Type 0
+IsGiving t lists watch given verdict =
+    AreGiven (network_of t) (inputs_of lists) watch given × ((v : Verdict) → verdict ≡ Some v → AreAllGiven (network_of t) (inputs_of lists) watch given)
 
 -- the job has done no fewer events, and its input has grown
 pub record HasRisen (w v : Work) : Type 0 where

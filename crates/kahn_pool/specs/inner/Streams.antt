@@ -1,12 +1,14 @@
 -- Inner. The streams of an answer, and the lists from which they are filled.
 use Rattle.std.specs.Prelude.{◌≡◌, ℕ, ◌<◌, List, [], length, map, Option, Some, slice_get, slice_index_or}
+use Rattle.kahn_tree.specs.declared.tree.Role.TheVariants.{Input}
+use Rattle.kahn_streams.specs.declared.value.Value.{Value}
 use Rattle.kahn_streams.specs.declared.value.Line.{Line}
 use Rattle.kahn_streams.specs.declared.value.Line.TheVariants.{Channel, Print}
 use Rattle.kahn_streams.specs.declared.token.Token.{Token}
-use Rattle.kahn_streams.specs.Solution.{Inputs, source}
-use Rattle.kahn_network.specs.Network.{Network, Writes, Source, Given, Written, Nobody, instance_at, actual_at}
+use Rattle.kahn_streams.specs.Solution.{Inputs, IsPrefix, source}
+use Rattle.kahn_network.specs.Network.{Network, Writes, Source, Given, Written, Nobody, instance_at, actual_at, role_at}
 use Rattle.kahn_code.specs.declared.cell.Kept.{Kept}
-use Rattle.kahn_code.specs.Cells.{IsKept}
+use Rattle.kahn_code.specs.Cells.{IsKept, IsOwn, token_value}
 use Rattle.kahn_pool.specs.declared.answer.Stream.{Stream}
 use Rattle.kahn_pool.specs.Right.{line_of, stream_lines}
 
@@ -65,6 +67,20 @@ KeepsOthers N c old new =
     (d : Line) → (d ≡ c → ⊥) → (before after : List Token) → IsFilled N new (source N d) d before after → IsFilled N old (source N d) d before after
 
 -- ---- streams that are given the lists of the input
+
+-- these tokens begin the list of channel c
+pub record IsBegun (N : Network) (I : Inputs) (c : ℕ) (vs : List Value) (ts : List Token) : Type 0 where
+  pub values : IsPrefix (map token_value ts) vs
+  pub places : (k : ℕ) (t : Token) → slice_get ts k ≡ Some t → (t.line ≡ Channel c) × (t.place ≡ k)
+  pub own : (k : ℕ) (t : Token) → slice_get ts k ≡ Some t → IsOwn N I t
+
+-- where a channel is watched these tokens begin its list
+abbrev pub AreGiven : Network → Inputs → Option ℕ → List Token → Type 0
+AreGiven N I watch ts = (c : ℕ) → watch ≡ Some c → IsBegun N I c (I c) ts
+
+-- and where it is an input channel they are all of it
+abbrev pub AreAllGiven : Network → Inputs → Option ℕ → List Token → Type 0
+AreAllGiven N I watch ts = (c : ℕ) → watch ≡ Some c → role_at N c ≡ Input → map token_value ts ≡ I c
 
 -- each stream of an input channel has the whole list of that channel
 abbrev pub HasInputs : Network → Inputs → List Stream → Type 0

@@ -3,7 +3,7 @@ use Rattle.kahn_network.specs.Network.{network_of}
 use Rattle.kahn_streams.specs.Solution.{source}
 use Rattle.kahn_streams.specs.Tokens.{inputs_of}
 use Rattle.kahn_pool.specs.inner.Streams.{HasInput}
-use Rattle.kahn_pool.proofs.Giving.{channel_given}
+use Rattle.kahn_pool.proofs.Giving.{begun_none, channel_given}
 use Rattle.kahn_pool.proofs.streams.give_input.Goals as goal
 
 pub returns-in_ok-give_list-clause-given : goal.returns-in_ok-give_list-clause-given
@@ -14,3 +14,8 @@ returns-in_ok-give_list-clause-given c =
     let after = c.give_list.new.tokens.items in
     subst (λ d. HasInput N I (source N d) d before after) (sym c.in-Channel.is)
     (channel_given N I c.in-Channel.channel before after c.in_ok-give_list.ensures.given c.in_ok-give_list.ensures.others)
+
+pub give_list-requires : goal.give_list-requires
+give_list-requires c =
+    let vs = inputs_of c.args.input.now c.in-Channel.channel in
+    begun_none (network_of c.args.network.now) (inputs_of c.args.input.now) c.in-Channel.channel vs c.args.stream.now.tokens.items c.requires.bare

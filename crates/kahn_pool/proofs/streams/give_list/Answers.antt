@@ -1,14 +1,14 @@
-use Rattle.std.proofs.Common.{rules, arith, ◌≡◌, inl, inr, ◌+◌, [], ◌∷◌, length, length-append, ap, ◌∙◌}
+use Rattle.std.proofs.Common.{rules, arith, ◌≡◌, inl, inr, ◌+◌, [], ◌∷◌, length, length-append, refl, ap, ◌∙◌}
 use Rattle.std.proofs.lemmas.Option.{slice_get_within}
 use Rattle.kahn_network.specs.Network.{network_of}
 use Rattle.kahn_streams.specs.Tokens.{inputs_of}
 use Rattle.kahn_code.proofs.Lists.{own_of}
-use Rattle.kahn_pool.proofs.Giving.{begun_none, begun_more, falls}
+use Rattle.kahn_pool.proofs.Giving.{begun_more, falls}
 use Rattle.kahn_pool.proofs.streams.give_list.Goals as goal
 
 pub tokens-init : goal.tokens-init
 tokens-init c =
-    record { begun = begun_none (network_of c.args.network.now) (inputs_of c.args.input.now) c.args.channel (inputs_of c.args.input.now c.args.channel) c.args.tokens.now.items c.requires.bare; given = inl c.requires.bare }
+    record { begun = c.requires; given = inl refl }
 
 pub tokens-smaller : goal.tokens-smaller
 tokens-smaller c =

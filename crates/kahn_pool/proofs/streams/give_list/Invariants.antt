@@ -1,14 +1,14 @@
-use Rattle.std.proofs.Common.{◌≡◌, ◌⊎◌, ◌-◌, [], length}
+use Rattle.std.proofs.Common.{◌≡◌, ◌⊎◌, ◌-◌, length}
 use Rattle.kahn_tree.specs.declared.tree.Role.TheVariants.{Input}
 use Rattle.kahn_network.specs.Network.{network_of, role_at}
 use Rattle.kahn_streams.specs.Tokens.{inputs_of}
-use Rattle.kahn_pool.proofs.Giving.{IsBegun}
+use Rattle.kahn_pool.specs.inner.Streams.{IsBegun}
 use Rattle.kahn_pool.proofs.streams.give_list.Given as goal
 
 abbrev pub invariant-tokens : goal.invariant-tokens
 invariant-tokens l = record {
   begun : IsBegun (network_of l.network) (inputs_of l.input) l.channel (inputs_of l.input l.channel) l.tokens.items;
-  given : (l.tokens.items ≡ []) ⊎ (role_at (network_of l.network) l.channel ≡ Input);
+  given : (l.tokens.items ≡ l.fn.tokens.items) ⊎ (role_at (network_of l.network) l.channel ≡ Input);
 }
 
 abbrev pub decreases-tokens : goal.decreases-tokens

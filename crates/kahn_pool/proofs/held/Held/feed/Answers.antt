@@ -1,13 +1,18 @@
 use Rattle.std.proofs.Common.{refl, subst, None}
 use Rattle.kahn_pool.specs.HeldRuns.{HasFed, HeldRun}
+use Rattle.kahn_network.specs.Network.{network_of}
+use Rattle.kahn_streams.specs.Tokens.{inputs_of}
 use Rattle.kahn_pool.proofs.Held_runs.{goes_on_fed, holding_fed, run_of}
+use Rattle.kahn_pool.proofs.Held_streams.{given_on}
 use Rattle.kahn_pool.proofs.held.Held.feed.Goals as goal
 
 pub invariant_of-self-2 : goal.invariant_of-self-2
 invariant_of-self-2 c =
-    let i = c.self.inside in
-    holding_fed i.network.now c.program-program.ensures.wired i.code.network.value i.input i.plan.watch i.plan.workers i.plan.quantum i.plan.bound i.idles.items i.budget
-    i.ends.items i.verdict c.self.invariant c.extend.new.self c.extend.ensures.grown c.extend.ensures.size
+    let i = c.self.inside in (
+      holding_fed i.network.now c.program-program.ensures.wired i.code.network.value i.input i.plan.watch i.plan.workers i.plan.quantum i.plan.bound i.idles.items i.budget
+          i.ends.items i.verdict c.self.invariant.0 c.extend.new.self c.extend.ensures.grown c.extend.ensures.size,
+      (given_on (network_of i.network.now) (inputs_of i.input) (inputs_of c.extend.new.self) i.plan.watch i.given.items c.extend.ensures.grown c.self.invariant.1.0, λ v e. absurd cc),
+    )
 
 pub returns : goal.returns
 returns c =
@@ -20,5 +25,5 @@ returns c =
       fed = c.in_ok-extend.ensures.fed;
       rest = refl;
       goes_on = goes_on_fed i.network.now c.program-program.ensures.wired i.code.network.value i.input i.plan.watch i.plan.workers i.plan.quantum i.plan.bound i.idles.items
-          i.budget i.ends.items i.verdict c.self.invariant c.extend.new.self c.extend.ensures.grown;
+          i.budget i.ends.items i.verdict c.self.invariant.0 c.extend.new.self c.extend.ensures.grown;
     })

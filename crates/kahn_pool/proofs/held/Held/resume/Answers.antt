@@ -9,27 +9,27 @@ pub invariant_of-self : goal.invariant_of-self
 invariant_of-self g c =
     let i = c.self.inside in
     let e : c.replace-idles.result.items ≡ i.idles.items = search rules in
-    let r = c.self.invariant.range.4 in
+    let r = c.self.invariant.0.range.4 in
     let f = c.if-self-more.false in
     let few : i.plan.bound + c.args.more < 2 ^ 48 = omega (arith, f, r) in
     let s = subst
     (λ (l : List Work). HasStopped i.network.now i.input i.plan.watch i.plan.workers (i.plan.bound + c.args.more) l (i.budget + c.args.more) c.run_part-stopped.result) e
     c.run_part-stopped.ensures in
     still_holding i.network.now c.program-program.ensures.wired i.code.network.value i.input i.plan.watch i.plan.workers i.plan.quantum i.plan.bound i.idles.items i.budget
-    i.ends.items i.verdict c.self.invariant c.args.more few c.run_part-stopped.result s (search rules)
+    i.ends.items i.verdict c.self.invariant.0 c.args.more few c.run_part-stopped.result s (search rules)
 
 pub returns-in-Err-NoMemory : goal.returns-in-Err-NoMemory
 returns-in-Err-NoMemory g c =
     let i = c.self.inside in
     let e : c.replace-idles.result.items ≡ i.idles.items = search rules in
-    let r = c.self.invariant.range.4 in
+    let r = c.self.invariant.0.range.4 in
     let f = c.if-self-more.false in
     let few : i.plan.bound + c.args.more < 2 ^ 48 = omega (arith, f, r) in
     let s = subst
     (λ (l : List Work). HasStopped i.network.now i.input i.plan.watch i.plan.workers (i.plan.bound + c.args.more) l (i.budget + c.args.more) c.run_part-stopped.result) e
     c.run_part-stopped.ensures in (
       still_same i.network.now c.program-program.ensures.wired i.code.network.value i.input i.plan.watch i.plan.workers i.plan.quantum i.plan.bound i.idles.items i.budget
-          i.ends.items i.verdict c.self.invariant c.args.more few c.run_part-stopped.result s (search rules) ∙ c.self.view_is,
+          i.ends.items i.verdict c.self.invariant.0 c.args.more few c.run_part-stopped.result s (search rules) ∙ c.self.view_is,
       subst (λ (h : HeldRun). h.bound + c.args.more < 2 ^ 48) c.self.view_is few,
     )
 
@@ -37,7 +37,7 @@ pub returns-in-Ok : goal.returns-in-Ok
 returns-in-Ok g c =
     let i = c.self.inside in
     let e : c.replace-idles.result.items ≡ i.idles.items = search rules in
-    let r = c.self.invariant.range.4 in
+    let r = c.self.invariant.0.range.4 in
     let f = c.if-self-more.false in
     let few : i.plan.bound + c.args.more < 2 ^ 48 = omega (arith, f, r) in
     let s = subst
@@ -46,21 +46,21 @@ returns-in-Ok g c =
     let v = c.in-Ok.verdict in
     subst (λ (h : HeldRun). IsResumed c.args.more h (run_of i.network.now i.input i.plan.watch i.plan.workers i.plan.quantum (i.plan.bound + c.args.more) c.run_part-stopped.result.idles.items (Some v)) v) c.self.view_is
     (resumed_ok i.network.now c.program-program.ensures.wired i.code.network.value i.input i.plan.watch i.plan.workers i.plan.quantum i.plan.bound i.idles.items i.budget
-    i.ends.items i.verdict c.self.invariant c.args.more few c.run_part-stopped.result s v c.in-Ok.is)
+    i.ends.items i.verdict c.self.invariant.0 c.args.more few c.run_part-stopped.result s v c.in-Ok.is)
 
 pub returns-in-Err : goal.returns-in-Err
 returns-in-Err g c =
     let i = c.self.inside in
     let e : c.replace-idles.result.items ≡ i.idles.items = search rules in
-    let r = c.self.invariant.range.4 in
+    let r = c.self.invariant.0.range.4 in
     let f = c.if-self-more.false in
     let few : i.plan.bound + c.args.more < 2 ^ 48 = omega (arith, f, r) in
     let s = subst
     (λ (l : List Work). HasStopped i.network.now i.input i.plan.watch i.plan.workers (i.plan.bound + c.args.more) l (i.budget + c.args.more) c.run_part-stopped.result) e
     c.run_part-stopped.ensures in (
       subst (λ (h : HeldRun). HasResumed c.args.more h (run_of i.network.now i.input i.plan.watch i.plan.workers i.plan.quantum (i.plan.bound + c.args.more) c.run_part-stopped.result.idles.items None)) c.self.view_is (resumed i.network.now c.program-program.ensures.wired i.code.network.value i.input i.plan.watch i.plan.workers i.plan.quantum i.plan.bound i.idles.items i.budget
-          i.ends.items i.verdict c.self.invariant c.args.more few c.run_part-stopped.result s None),
+          i.ends.items i.verdict c.self.invariant.0 c.args.more few c.run_part-stopped.result s None),
       refl,
       subst (λ (h : HeldRun). 1 < h.workers) c.self.view_is (several i.network.now c.program-program.ensures.wired i.code.network.value i.input i.plan.watch i.plan.workers i.plan.quantum i.plan.bound i.idles.items i.budget
-          i.ends.items i.verdict c.self.invariant c.args.more few c.run_part-stopped.result s (search rules)),
+          i.ends.items i.verdict c.self.invariant.0 c.args.more few c.run_part-stopped.result s (search rules)),
     )

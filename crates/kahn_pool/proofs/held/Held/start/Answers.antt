@@ -1,4 +1,7 @@
-use Rattle.std.proofs.Common.{rules, refl, sym, subst}
+use Rattle.std.proofs.Common.{rules, [], refl, sym, subst}
+use Rattle.kahn_network.specs.Network.{network_of}
+use Rattle.kahn_streams.specs.Tokens.{inputs_of}
+use Rattle.kahn_pool.proofs.Giving.{begun_none}
 use Rattle.kahn_config.specs.Limits.{IsInRange}
 use Rattle.kahn_pool.specs.Runs.{IsWatched}
 use Rattle.kahn_pool.proofs.Held_runs.{in_range_alike, none_seen}
@@ -8,13 +11,16 @@ pub invariant_of-result : goal.invariant_of-result
 invariant_of-result c =
     let range : IsInRange c.args.config.workers c.args.config.quantum c.args.config.bound = search rules in
     let p = c.plan_of-plan.ensures in
-    record {
-      code = c.in_ok-code.ensures;
-      fits = c.requires.fits;
-      range = in_range_alike _ _ _ _ _ _ p.workers p.quantum p.bound range;
-      held = c.in_ok-idles.ensures.held c.plan_of-plan.result.bound;
-      ended = tt;
-    }
+    let I = inputs_of c.args.input in (
+      record {
+        code = c.in_ok-code.ensures;
+        fits = c.requires.fits;
+        range = in_range_alike _ _ _ _ _ _ p.workers p.quantum p.bound range;
+        held = c.in_ok-idles.ensures.held c.plan_of-plan.result.bound;
+        ended = tt;
+      },
+      (λ channel e. begun_none (network_of c.args.network.now) I channel (I channel) [] refl, λ v e. absurd cc),
+    )
 
 pub returns : goal.returns
 returns c =

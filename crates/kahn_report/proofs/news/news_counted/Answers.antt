@@ -1,7 +1,7 @@
 use Rattle.std.proofs.Common.{rules, ◌≡◌, ◌+◌, ◌≤◌, [], List, ℕ, length, subst}
 use Rattle.kahn_report.specs.Written.{Writes}
 use Rattle.kahn_report.proofs.Fresh.{tokens_more}
-use Rattle.kahn_report.proofs.news.put_more.Goals as goal
+use Rattle.kahn_report.proofs.news.news_counted.Goals as goal
 
 pub returns-clause-text : goal.returns-clause-text
 returns-clause-text g c =

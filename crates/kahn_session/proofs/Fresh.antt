@@ -1,0 +1,70 @@
+-- What is new on the streams, one after another.
+use Rattle.std.proofs.Common.{arith, ◌≡◌, ◌∙◌, ℕ, zero, suc, ◌+◌, ◌<◌, List, [], ◌∷◌, ◌++◌, length, map, drop, get_or, add-one, append_assoc, refl, sym, ap, subst, Some}
+use Rattle.std.specs.Prelude.{slice_get, slice_index_or}
+use Rattle.std.specs.List.{AllByRecursion}
+use Rattle.std.proofs.lemmas.List.{drop-map}
+use Rattle.kahn_tree.specs.declared.tree.Program.{Program}
+use Rattle.kahn_network.specs.Wiring.{IsWellWired}
+use Rattle.kahn_streams.specs.declared.token.Token.{Token}
+use Rattle.kahn_streams.specs.declared.value.Line.{Line}
+use Rattle.kahn_code.specs.Cells.{token_value}
+use Rattle.kahn_pool.specs.HeldRuns.{HasSoFar, HeldRun, so_far}
+use Rattle.kahn_pool.proofs.Held_streams.{so_far_is}
+use Rattle.kahn_report.specs.News.{more_text, news_text}
+use Rattle.kahn_report.specs.Report.{IsLine}
+use Rattle.kahn_report.proofs.Right_lines.{streamed_lines}
+use Rattle.kahn_session.specs.Live.{lines_of}
+use Rattle.kahn_session.specs.inner.Shown.{news_of}
+
+-- what is new on one stream
+abbrev pub news_line : Program → HeldRun → List ℕ → ℕ → Line → List ℕ
+news_line program h counts i c = more_text program c (drop (slice_index_or counts i 0) (so_far h c))
+
+-- and on those from one on
+abbrev pub rest_text : Program → HeldRun → List Line → List ℕ → ℕ → List ℕ
+rest_text program h lines counts i = news_text program (drop i lines) (news_of h (drop i lines) (drop i counts))
+
+drop_none : (n : ℕ) → drop {A = ℕ} n [] ≡ []
+drop_none zero = refl
+drop_none (suc n) = refl
+
+split : (program : Program) (h : HeldRun) (lines : List Line) (counts : List ℕ) (i : ℕ) (d : Line) → i < length lines →
+    rest_text program h lines counts i ≡ news_line program h counts i (get_or lines i d) ++ rest_text program h lines counts (suc i)
+split program h [] counts i d below = absurd (omega (arith, below))
+split program h (c ∷ lines) [] zero d below = refl
+split program h (c ∷ lines) (n ∷ counts) zero d below = refl
+split program h (c ∷ lines) [] (suc i) d below =
+    ap (λ l. news_text program (drop i lines) (news_of h (drop i lines) l)) (sym (drop_none i)) ∙ split program h lines [] i d (omega (arith, below))
+split program h (c ∷ lines) (n ∷ counts) (suc i) d below = split program h lines counts i d (omega (arith, below))
+
+-- the line of the stream at i, and those that follow
+pub news_split : (program : Program) (h : HeldRun) (lines : List Line) (counts : List ℕ) (i : ℕ) (d : Line) → i < length lines →
+    rest_text program h lines counts i ≡ news_line program h counts i (get_or lines i d) ++ rest_text program h lines counts (i + 1)
+news_split program h lines counts i d below =
+    subst (λ n. rest_text program h lines counts i ≡ news_line program h counts i (get_or lines i d) ++ rest_text program h lines counts n) (sym (add-one i))
+    (split program h lines counts i d below)
+
+pub news_moved : (program : Program) (h : HeldRun) (lines : List Line) (counts : List ℕ) (i : ℕ) (d : Line) (all done : List ℕ) → i < length lines →
+    all ≡ done ++ rest_text program h lines counts i →
+    all ≡ (done ++ news_line program h counts i (get_or lines i d)) ++ rest_text program h lines counts (i + 1)
+news_moved program h lines counts i d all done below e =
+    e ∙ ap (λ l. done ++ l) (news_split program h lines counts i d below)
+    ∙ sym (append_assoc done (news_line program h counts i (get_or lines i d)) (rest_text program h lines counts (i + 1)))
+
+-- the tokens behind so many are what is new
+pub tokens_new : (program : Program) (h : HeldRun) (c : Line) (ts us : List Token) (n : ℕ) → IsWellWired h.network → HasSoFar h c (map token_value ts) → us ≡ drop n ts →
+    more_text program c (map token_value us) ≡ more_text program c (drop n (so_far h c))
+tokens_new program h c ts us n wired so e =
+    ap (more_text program c) (ap (map token_value) e ∙ drop-map token_value n ts ∙ ap (drop n) (so_far_is h wired c (map token_value ts) so))
+
+all_at : {A : Type 0} (P : A → Type 0) (xs : List A) (i : ℕ) (x : A) → AllByRecursion P xs → slice_get xs i ≡ Some x → P x
+all_at P [] i x h e = absurd cc
+all_at P (y ∷ xs) zero x h e = subst P (same e) h.0
+  where
+    same : Some y ≡ Some x → y ≡ x
+    same f = cc
+all_at P (y ∷ xs) (suc i) x h e = all_at P xs i x h.1 e
+
+-- a line of a stream is one of the network
+pub is_line : (t : Program) (h : HeldRun) (i : ℕ) (c : Line) → h.network ≡ t → slice_get (lines_of h) i ≡ Some c → IsLine t c
+is_line t h i c e at = subst (λ u. IsLine u c) e (all_at (IsLine h.network) (lines_of h) i c (streamed_lines h.network h.watch) at)
