@@ -7,6 +7,7 @@ pub mod Stand
 pub mod Uses
 pub mod Queued
 pub mod Kept
+pub mod Behind
 pub mod Asks
 pub mod Arguments
 pub mod Bodies

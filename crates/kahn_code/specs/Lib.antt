@@ -6,6 +6,7 @@ pub mod Machines
 pub mod Seats
 pub mod Queues
 pub mod Lines
+pub mod Gone
 pub mod Progress
 pub mod Code
 pub mod Told
