@@ -8,6 +8,7 @@ pub mod Uses
 pub mod Queued
 pub mod Kept
 pub mod Behind
+pub mod Begin
 pub mod Asks
 pub mod Arguments
 pub mod Bodies
