@@ -54,3 +54,8 @@ refuse_by() {
 find_draw() {
   draw=$(found kahn_draw "${KAHN_DRAW:-}") || exit 2
 }
+
+# Sets explain: the program that the variable KAHN_EXPLAIN names, or else that of this tree.
+find_explain() {
+  explain=$(found kahn_explain "${KAHN_EXPLAIN:-}") || exit 2
+}

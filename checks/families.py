@@ -102,6 +102,12 @@ def long_texts():
     every = [f"n{number}" for number in range(55000)]
     each = body("; ".join(f"{name}:=1" for name in every), f"integer {', '.join(every)}; ")
     yield row("as many names as are each written once more", each, ENDED, words=["--workers", "1"], limits="200 5")
+    alike = [f"q6ddy9kyA8foNlypV_ly5C5G{number:08d}" + "x" * 16 for number in range(21000)]
+    ended, limits = {"report": ENDED, "words": ["--workers", "1"]}, "200 1"
+    yield row("21000 names that one seed hashes alike", body("", f"integer {','.join(alike)}; "), **ended, limits=limits)
+    some = alike[:9500]
+    used = body("; ".join(f"{name}:=1" for name in some), f"integer {', '.join(some)}; ")
+    yield row("names that one seed hashes alike are each written once more", used, **ended, limits=limits)
     yield refused("brackets up to the most bytes", "begin process p(); begin print ".ljust(MOST_BYTES, "("), "1:96: nesting is too deep")
     yield refused("not up to the most bytes", filled("not ", "print "), "1:288: nesting is too deep")
     semicolons = "; " * (MOST_BYTES // 2)
@@ -187,6 +193,47 @@ def numbers():
             yield row(f"{option} {number} is within its limit", program, report, words=[f"--{option}", str(number)])
 
 
+def operands():
+    """Right operands as deep as they may be: each has a level of its own, and is there before the one on its left is applied."""
+    for name, part, inner, value in (("sums", "1 + (", "1", 65), ("waits", "wait(U) - (", "wait(U)", 1), ("words", "false or (", "true", "true")):
+        program = f"""begin integer input channel A; process p(integer in U); begin print {part * 64}{inner}{")" * 64} end; p(A) end"""
+        events = 66 if name == "waits" else 1
+        report = [f"print 1 p: {value}", f"end 1 p: ended after {events}", f"finished {events}"]
+        yield row(f"64 right operands of {name}", program, report, given="A:" + " 1" * 65)
+
+
+def parameters():
+    """Processes, parameters and arguments, many more than a small table holds."""
+    every = " ".join(f"process p{i}(); begin end;" for i in range(12000))
+    yield row("12000 processes", f"begin {every} p11999() end", ["end 1 p11999: ended after 0", "finished 0"])
+    names = [f"A{i}" for i in range(2000)]
+    program = f"begin process p(integer {', '.join(names)}); begin print {' + '.join(names)}; print A1999 end; p({', '.join(map(str, range(2000)))}) end"
+    yield row("2000 parameters and arguments", program, ["print 1 p: 1999000 1999", "end 1 p: ended after 2", "finished 2"])
+    # 17 instances with 60 channels each: 1,020 entries of the input, the last channel first
+    sixty = [f"U{k}" for k in range(60)]
+    sum_of = " + ".join(f"wait({name})" for name in sixty)
+    each = [", ".join(f"X{60 * i + k}" for k in range(60)) for i in range(17)]
+    program = f"""begin integer input channel {", ".join(each)}; process q(integer in {", ".join(sixty)}); begin print {sum_of}; print wait(U59) end;
+      {" par ".join(f"q({it})" for it in each)} end"""
+    given = "".join(f"X{number}: {number} {number + 1}\n" for number in reversed(range(1020)))
+    prints = [f"print {i + 1} q: {3600 * i + 1770} {60 * i + 60}" for i in range(17)]
+    yield row("1020 entries for 60 parameters", program, [*prints, *(f"end {i + 1} q: ended after 63" for i in range(17)), "finished 1071"], given=given)
+
+
+def long_runs():
+    """As many values as a channel may be given through one process, and two million prints, within limits on memory and time."""
+    program = """begin integer input channel A; integer output channel B; process p(integer in U; integer out W);
+      begin integer S, I; while I < 1048576 do begin S := S + wait(U); I := I + 1 end; send S on W; print wait(U) end; p(A, B) end"""
+    ended = ["B: 549755289600", "print 1 p:", "end 1 p: waits on A after 2097154", "finished 2097154"]
+    given = "A:" + "".join(f" {value}" for value in range(1048576))
+    for words in (["--workers", "1"], ["--workers", "4", "--quantum", "64"]):
+        yield row(f"1048576 values through one process by workers {words[1]}", program, ended, given=given, words=[*words, "--bound", "3000000"], limits="600 5")
+    program = "begin process p(); begin integer I; while I < 2000000 do begin I := I + 1; print I end end; p() end"
+    printed = "print 1 p:" + "".join(f" {value}" for value in range(1, 2000001))
+    report = [printed, "end 1 p: ended after 4000001", "finished 4000001"]
+    yield row("2000000 prints", program, report, words=["--workers", "1", "--bound", "4000001"], limits="600 5")
+
+
 def long_inputs():
     """As many values as a channel may be given, and one more."""
     program = "begin integer input channel A; process p(integer in U); begin end; p(A) end"
@@ -196,5 +243,5 @@ def long_inputs():
 
 
 def rows():
-    for family in (prefixes, nesting, long_texts, large_networks, long_processes, copies, four_turns, numbers, long_inputs):
+    for family in (prefixes, nesting, long_texts, large_networks, long_processes, copies, four_turns, numbers, operands, parameters, long_runs, long_inputs):
         yield from family()

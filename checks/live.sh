@@ -76,7 +76,7 @@ send '' 'A: 3 4' 'A:'
 wants "a blank line and two values" 'B: 6 8'
 send 'Z: 1' 'B: 1' 'A: true' 'A: 1 x' 'A 1' 'A: 5' $'A: 6\r'
 wants "lines that are refused" 'B: 10' 'B: 12'
-ends "doubling" 0 'kahn: input line 6: no such channel\nkahn: input line 7: not an input channel\nkahn: input line 8: kind does not agree\nkahn: input line 9: not a value\nkahn: input line 10: not a name and a colon\n' \
+ends "doubling" 1 'kahn: input line 6: no such channel\nkahn: input line 7: not an input channel\nkahn: input line 8: kind does not agree\nkahn: input line 9: not a value\nkahn: input line 10: not a name and a colon\n' \
   'end 1 double: waits on A after 19' 'finished 19'
 
 for workers in 1 2 16; do
@@ -113,11 +113,19 @@ gives "a print stream" 0 'print 1 add: 1\nprint 1 add: 3 6\nend 1 add: waits on 
 
 # lines that aren't text, and that are too long
 printf 'A: 1\200\nA: 7\n' > lines
-gives "a line that isn't UTF-8" 0 'B: 14\nend 1 double: waits on A after 4\nfinished 4\n' 'kahn: input line 1: not UTF-8\n' "$double" < lines
+gives "a line that isn't UTF-8" 1 'B: 14\nend 1 double: waits on A after 4\nfinished 4\n' 'kahn: input line 1: not UTF-8\n' "$double" < lines
 { printf 'A: 1' && head -c 16777213 /dev/zero | tr '\0' ' ' && printf '\nA: 7\n'; } > lines
-gives "a line that is too long" 0 'B: 14\nend 1 double: waits on A after 4\nfinished 4\n' 'kahn: input line 1: line is too long\n' "$double" < lines
+gives "a line that is too long" 1 'B: 14\nend 1 double: waits on A after 4\nfinished 4\n' 'kahn: input line 1: line is too long\n' "$double" < lines
 { printf 'A: 1' && head -c 16777212 /dev/zero | tr '\0' ' ' && printf '\nA: 7\n'; } > lines
 gives "the longest line" 0 'B: 2\nB: 14\nend 1 double: waits on A after 7\nfinished 7\n' '' "$double" < lines
+
+# a refused line makes the status 1 and no other one less, and may be told to leave it
+printf 'A: 1\nA: x\nA: 3\n' > lines
+told='kahn: input line 2: not a value\n'
+gives "a refused line" 1 'B: 2\nB: 6\nend 1 double: waits on A after 7\nfinished 7\n' "$told" "$double" < lines
+gives "a refused line that is passed over" 0 'B: 2\nB: 6\nend 1 double: waits on A after 7\nfinished 7\n' "$told" "$double" --keep-going < lines
+gives "a refused line, and a step used up" 3 'W: 0\nend 1 count: wants more after 3\nstopped by bound 3\n' \
+  'kahn: input line 1: not a name and a colon\n' "$count" --step 3 <<< 'no line'
 
 # two programs in one pipe
 printf 'A: 1\nA: 2\n' | "$live" "$double" | grep --line-buffered '^B' | sed -u 's/^B/A/' > lines
@@ -138,9 +146,9 @@ done
 same "the help: status" $? 0
 same "the help" "$(grep -c -e '--step' output.all)" 1
 if [ -e /dev/full ]; then
-  printf 'A: 1\n' | "$live" "$double" > /dev/full 2> error
+  printf 'A: x\nA: 1\n' | "$live" "$double" > /dev/full 2> error
   same "a full disk: status" $? 5
-  same "a full disk" "$(cat error)" "kahn: report could not be written"
+  same "a full disk" "$(cat error)" $'kahn: input line 1: not a value\nkahn: report could not be written'
 fi
 
 # each of the first threads refused, two of which a part by three workers starts: the next line goes on, or else the end
@@ -151,6 +159,11 @@ for number in 1 2 3 4 5 6; do
   same "thread $number refused" "$(sed -n 's/^B://p' output.all | tr -d '\n')" ' 2 4'
   same "thread $number refused: errors" "$(cat error)" "kahn: input line $(((number - 1) / 2)): waits for a thread"
 done
+
+# by default a part starts no thread
+printf 'A: 1\n' | FAIL_AT=1 LD_PRELOAD="$work/refuse.so" timeout 60 "$live" "$double" > output.all 2> error
+same "one worker: status" $? 0
+same "one worker: errors" "$(cat error)" ''
 
 # each growth refused: the program that sends as many values through a copy as a line says
 cat > copy.kahn <<'P'
@@ -194,7 +207,7 @@ refuse() {
   if [ $last = 4 ] && [ ! -s output.all ] && [ "$(cat error)" = "kahn: no memory" ]; then
     began=$((began + 1))
     pass
-  elif [ $last = 0 ] && [ "$values" = "$wanted" ] && [ "$(tail -n 3 output.all)" = "$whole_end" ]; then
+  elif [ $last = 1 ] && [ "$values" = "$wanted" ] && [ "$(tail -n 3 output.all)" = "$whole_end" ]; then
     alike=$((alike + 1))
     if grep -q 'memory' error; then
       waited=$((waited + 1))

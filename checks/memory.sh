@@ -1,28 +1,18 @@
 #!/usr/bin/env bash
 # Runs the built program with its first growth of memory refused, then with its second, and so on, until 25 runs in a row
 # are as if nothing had been refused. Each other run has to tell want of memory, or of a thread, which takes memory too, or to
-# give a report that memory stopped: each of its streams begins the whole one, and the events of its ends add up.
+# give a report that memory stopped: each of its streams begins the whole one, and the events of its ends add up. All that a run
+# reserves comes before its first worker: once a run got as far as a thread or an event, no later one tells want of memory.
 #
-#   memory.sh [whole]      one small network by two workers; or a chain of copies and an example by several
+# Then the same with the program that is fed line by line: whatever is refused in the first part of a held run, or in the next,
+# the parts after it go on to the whole answer.
 source "$(dirname "${BASH_SOURCE[0]}")/common.sh"
 find_program
+find_live
 refuse_by refuse_growth.c
+cd "$work" || exit 2
 
-# copies CHANNELS: the program that sends 65 values through as many copies as there are inner channels.
-copies() {
-  echo "begin integer output channel W; integer channel X0"
-  for k in $(seq 1 $(($1 - 1))); do echo ", X$k"; done
-  echo ";
-    process count(integer out W; integer N);
-    begin integer I; while I < N do begin send I on W; I := I + 1 end end;
-    process copy(integer in U; integer out W);
-    begin repeat send wait(U) on W end;
-    count(X0, 65)"
-  for k in $(seq 1 $(($1 - 1))); do echo "par copy(X$((k - 1)), X$k)"; done
-  echo "par copy(X$(($1 - 1)), W) end"
-}
-
-cat > "$work/compare.py" <<'P'
+cat > compare.py <<'P'
 import sys
 whole, part = (open(name).read().split("\n") for name in sys.argv[1:])
 for all, line in zip(whole, part):
@@ -33,50 +23,116 @@ told = sum(int(line.split()[-1]) for line in part if line.startswith("end "))
 assert part[-2] == f"stopped by memory {told}", part
 P
 
-# refuse WORD..: refuses each growth of a run in turn.
-refuse() {
-  local number=0 alike=0 wanting=0 threads=0 stopped=0 status said
-  "$kahn" "$@" > "$work/whole" 2>&1 || { fail "$*: $(head -c 300 "$work/whole")"; return; }
-  while [ $alike -lt 25 ] && [ $number -lt 2000 ]; do
-    number=$((number + 1))
-    FAIL_AT=$number LD_PRELOAD="$work/refuse.so" timeout 60 "$kahn" "$@" > "$work/part" 2>&1
-    status=$?
-    said=$(head -c 300 "$work/part")
+# begin: counts of runs that want memory, lack a thread, are stopped by memory or wait in a part, and of those alike in a row.
+begin() {
+  number=0 alike=0 wanting=0 threads=0 stopped=0
+}
+
+# goes_on: whether a further growth is to be refused.
+goes_on() {
+  number=$((number + 1))
+  [ $alike -lt 25 ] && [ $number -lt 2000 ] && [ $failed -lt 20 ]
+}
+
+# refused PROGRAM WORD..: runs a program with the growth of that number refused: sets status and said, and leaves part and error.
+refused() {
+  FAIL_AT=$number LD_PRELOAD="$work/refuse.so" timeout 60 "$@" > part 2> error
+  status=$?
+  said=$(head -c 300 error)
+}
+
+# wants_memory: whether the last run told want of memory, and no earlier one got further.
+wants_memory() {
+  [ "$status $said" = "4 kahn: no memory" ] && [ ! -s part ] && [ $((threads + stopped)) = 0 ]
+}
+
+# ended NAME WORKERS: what all runs together have to show. One worker takes no thread.
+ended() {
+  [ $wanting -gt 0 ] || fail "$1: no growth was refused before the first worker"
+  [ $((threads + stopped)) -gt 0 ] || fail "$1: no growth was refused after the first worker began"
+  [ "$2" -gt 1 ] || [ $threads = 0 ] || fail "$1: one worker wants a thread"
+  [ $alike = 25 ] || fail "$1: growths are still refused after $number runs"
+  echo "$1: $wanting want memory, $threads want a thread, $stopped ${3:-are stopped by memory}"
+}
+
+# refuse_run PROGRAM WORKERS QUANTUM: each growth of a run in turn.
+refuse_run() {
+  local words=("$1" --workers "$2" --quantum "$3")
+  local name="${words[*]##*/}"
+  "$kahn" "${words[@]}" > whole 2>&1 || { fail "$name: $(head -c 300 whole)"; return; }
+  begin
+  while goes_on; do
+    refused "$kahn" "${words[@]}"
     alike=$((alike + 1))
-    if [ $status = 0 ] && cmp -s "$work/whole" "$work/part"; then
+    if [ "$status$said" = 0 ] && cmp -s whole part; then
       pass
       continue
     fi
     alike=0
-    if [ "$status $said" = "4 kahn: no memory" ]; then
+    if wants_memory; then
       wanting=$((wanting + 1))
       pass
-    elif [ "$status $said" = "6 kahn: no thread" ]; then
+    elif [ "$status $said" = "6 kahn: no thread" ] && [ ! -s part ]; then
       threads=$((threads + 1))
       pass
-    elif [ $status = 4 ] && python3 "$work/compare.py" "$work/whole" "$work/part"; then
+    elif [ "$status$said" = 4 ] && python3 compare.py whole part 2> why; then
       stopped=$((stopped + 1))
       pass
     else
-      fail "$* with growth $number refused: status $status, $said"
+      fail "$name with growth $number refused: status $status, $said, $(head -c 300 part)"
     fi
   done
-  [ $wanting -gt 0 ] || fail "$*: no growth was refused"
-  [ $alike = 25 ] || fail "$*: growths are still refused after $number runs"
-  echo "$*: $wanting want memory, $threads want a thread, $stopped are stopped by memory"
+  ended "$name" "$2"
 }
 
-cd "$work" || exit 2
-if [ "${1:-}" = whole ]; then
-  copies 3 > copies.kahn
-  refuse "$top/examples/sample-four-turns.kahn"
-  for workers in 1 2 8; do
-    for quantum in 1 1000; do
-      refuse copies.kahn --workers $workers --quantum $quantum
-    done
+# is_whole: whether the streams of the last run, put together, and its last lines are those of the whole report.
+is_whole() {
+  [ $status = 0 ] && [ "W:$(sed -n 's/^W://p' part | tr -d '\n')" = "$(head -n 1 whole)" ] && cmp -s <(grep -v '^W:' whole) <(grep -v '^W:' part)
+}
+
+# refuse_parts WORKERS QUANTUM: each growth of a held run in turn. Its first part may take just as many events as the run has;
+# a blank line begins the next, and one more comes at the end, where that one waits.
+refuse_parts() {
+  local words=(copies.kahn --workers "$1" --quantum "$2") name="parts of copies.kahn --workers $1 --quantum $2"
+  "$kahn" "${words[@]}" > whole
+  begin
+  while goes_on; do
+    refused "$live" "${words[@]}" --step "$(sed -n 's/^finished //p' whole)" <<< ""
+    # a line for which memory was refused is passed over, and may be told by the status
+    [ "$status $said" != "1 kahn: input line 1: no memory" ] || status=0
+    alike=$((alike + 1))
+    if is_whole && [ -z "$said" ]; then
+      pass
+      continue
+    fi
+    alike=0
+    if wants_memory; then
+      wanting=$((wanting + 1))
+      pass
+    elif is_whole && [[ $said =~ ^kahn:\ input\ line\ [01]:\ (no\ memory|waits\ for\ (memory|a\ thread))$ ]]; then
+      case $said in *thread) threads=$((threads + 1)) ;; *) stopped=$((stopped + 1)) ;; esac
+      pass
+    else
+      fail "$name with growth $number refused: status $status, $said, $(head -c 300 part)"
+    fi
   done
-else
-  copies 1 > copy.kahn
-  refuse copy.kahn --workers 2 --quantum 1
-fi
+  ended "$name" "$1" "wait for memory"
+}
+
+cat > copies.kahn <<'P'
+begin integer channel X0, X1, X2; integer output channel W;
+  process count(integer out W; integer N);
+  begin integer I; while I < N do begin send I on W; I := I + 1 end end;
+  process copy(integer in U; integer out W);
+  begin repeat send wait(U) on W end;
+  count(X0, 65) par copy(X0, X1) par copy(X1, X2) par copy(X2, W)
+end
+P
+for workers in 1 2 8; do
+  for quantum in 1 1000; do
+    refuse_run copies.kahn $workers $quantum
+    refuse_run "$top/examples/sample-four-turns.kahn" $workers $quantum
+  done
+  refuse_parts $workers 1
+done
 finish

@@ -40,6 +40,17 @@ say "a run that its bound stops" 3 'W: 0 1 2\nend 1 count: wants more after 6\ns
 run --workers=16 --quantum 1 "$double" --bound 281474976710655 --watch=A --input "$top/examples/double.input" < /dev/null
 say "all options" 0 'A: 1 2 3\nB: 2 4 6\nend 1 double: waits on A after 10\nfinished 10\n' ''
 
+# the version is that of the newest changes
+version=$(sed -n 's/^## \([0-9.]*\)$/\1/p' "$top/CHANGELOG.md" | head -n 1)
+find_live
+find_draw
+find_explain
+for program in "$kahn" "$live" "$draw" "$explain"; do
+  "$program" --version > output 2> error < /dev/null
+  printf '%s' $? > status
+  say "the version of $program" 0 "$(basename "$program") $version\n" ''
+done
+
 # texts that aren't UTF-8
 printf 'begin \377' > bytes
 run < bytes
@@ -131,7 +142,17 @@ say "no standard error" 1 '' ''
 # the command line
 run "$(printf '\377')" < /dev/null
 say "a word that isn't UTF-8" 2 '' 'error: a word of the command line is not UTF-8\n'
-FAIL_AT=1 LD_PRELOAD="$work/refuse.so" "$kahn" "$count" > output 2> error < /dev/null
-printf '%s' $? > status
-say "want of memory on the command line" 4 '' 'kahn: no memory\n'
+# each growth refused until the words are read: their strings, their list, and what is read of them
+wanting=0
+for number in $(seq 1 40); do
+  FAIL_AT=$number LD_PRELOAD="$work/refuse.so" "$kahn" --workers 17 > output 2> error < /dev/null
+  printf '%s' $? > status
+  if grep -q "^error: invalid value '17' for '--workers <N>': 17 is not in 1..=16$" error && [ "$(cat status)" = 2 ] && [ ! -s output ]; then
+    pass
+  else
+    wanting=$((wanting + 1))
+    say "want of memory on the command line, at growth $number" 4 '' 'kahn: no memory\n'
+  fi
+done
+[ $wanting -gt 10 ] && [ $wanting -lt 40 ] || fail "$wanting of 40 growths are of the command line"
 finish

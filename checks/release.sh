@@ -6,6 +6,7 @@ source "$(dirname "${BASH_SOURCE[0]}")/common.sh"
 find_program
 find_live
 find_draw
+find_explain
 
 if ! is_released; then
   echo "release/ isn't of these sources: its programs are not compared"
@@ -21,19 +22,60 @@ compare() {
 compare kahn "$kahn"
 compare kahn_live "$live"
 compare kahn_draw "$draw"
+compare kahn_explain "$explain"
 
 # same NAME GIVEN WANTED: compares two texts.
 same() {
   if [ "$2" = "$3" ]; then pass; else fail "$1: '${2:0:300}', wanted '${3:0:300}'"; fi
 }
-mkdir "$work/copy"
+# given NAME WORD..: what the words print in an environment with little more than a path.
+given() {
+  env -i PATH=/usr/bin:/bin HOME="$work/home" "$@" 2>&1
+}
+report=$(cat "$top/examples/count.report")
+mkdir "$work/copy" "$work/home"
 tar -C "$top" --exclude=./.git --exclude='out' -cf - . | tar -C "$work/copy" -xf -
 cd "$work/copy" || exit 2
-same "a program of release/" "$(env -i PATH=/usr/bin:/bin ./kahn < examples/count.kahn 2>&1)" "$(cat examples/count.report)"
-same "the same once more" "$(env -i PATH=/usr/bin:/bin ./kahn < examples/count.kahn 2>&1)" "$(cat examples/count.report)"
-same "an installation" "$(env -i PATH=/usr/bin:/bin bash install.sh "$work/prefix" > /dev/null && "$work/prefix/bin/kahn" examples/count.kahn)" \
-  "$(cat examples/count.report)"
+same "a program of release/" "$(given ./kahn examples/count.kahn)" "$report"
+same "the same once more" "$(given ./kahn examples/count.kahn)" "$report"
+ln -s copy/kahn "$work/kahn"
+ln -s "$work/kahn" "$work/home/other"
+same "through a link" "$(given "$work/kahn" examples/count.kahn)" "$report"
+same "through a link of another name to a link" "$(given "$work/home/other" examples/count.kahn)" "$report"
+ln -s "$work/copy/kahn_draw" "$work/home/draw"
+same "another program through a link of another name" "$(given "$work/home/draw" examples/count.kahn | head -n 1)" "digraph network {"
+
+same "an installation" "$(given bash install.sh "$work/prefix" > /dev/null && "$work/prefix/bin/kahn" examples/count.kahn)" "$report"
+same "what is installed" "$(cd "$work/prefix" && find . -type f | sort | tr '\n' ' ')" "./bin/kahn ./bin/kahn_draw ./bin/kahn_explain ./bin/kahn_live "
+given bash install.sh --uninstall "$work/prefix" > /dev/null
+same "what is left" "$(find "$work/prefix" -type f)" ""
+given DESTDIR="$work/root" PREFIX=/opt/kahn bash install.sh > /dev/null
+same "an installation under DESTDIR" "$(given "$work/root/opt/kahn/bin/kahn" examples/count.kahn)" "$report"
+same "the help of install.sh" "$(given bash install.sh --help | sed -n 's/^  install/install/p')" \
+  "install.sh [--uninstall] [PREFIX]      into PREFIX/bin, or from there"
+
+# without xz, where python3 unpacks
+mkdir "$work/bin"
+for tool in bash cat chmod cut dirname basename env find grep mkdir mktemp mv readlink rm sha256sum sort xargs; do
+  ln -s "$(command -v "$tool")" "$work/bin/$tool"
+done
+ln -s "$(python3 -c 'import sys; print(sys.executable)')" "$work/bin/python3"
+rm -rf release/out
+same "without xz" "$(env -i PATH="$work/bin" HOME="$work/home" ./kahn examples/count.kahn 2>&1)" "$report"
+
+# a folder that can't be written, by a user who isn't root
+rm -rf release/out "$work/home/.cache"
+chmod -R a-w,a+rX "$work/copy"
+chmod 755 "$work"
+chmod 777 "$work/home"
+user=()
+[ "$(id -u)" != 0 ] || user=(setpriv --reuid=65534 --regid=65534 --clear-groups --inh-caps=-all --bounding-set=-all)
+same "a folder that can't be written" "$(given "${user[@]}" ./kahn examples/count.kahn)" "$report"
+same "where the program was unpacked" "$(find "$work/home/.cache" -name kahn -type f | wc -l)" 1
+chmod -R u+w "$work/copy"
+
 echo "# changed" >> crates.txt
-same "other sources" "$(env -i PATH=/usr/bin:/bin ./kahn < examples/count.kahn 2>&1)" \
-  "kahn: these sources have no release: the program must be built first, and the Rattle toolchain (rt) is not on the path"
+same "other sources" "$(given ./kahn examples/count.kahn)" \
+  "kahn: these sources have no release: bash release/build.sh proves and builds the programs"
+same "nothing is built without the toolchain" "$(given bash release/build.sh)" "build.sh: the Rattle toolchain (rt) is not on the path"
 finish

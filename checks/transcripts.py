@@ -1,6 +1,6 @@
 """The commands of the README and of docs/, run in a copy of this tree and compared with what the pages say that they print.
 
-    transcripts.py KAHN KAHN_LIVE KAHN_DRAW WORK [FILE..]      WORK is an empty folder
+    transcripts.py KAHN KAHN_LIVE KAHN_DRAW KAHN_EXPLAIN WORK [FILE..]      WORK is an empty folder
 
 A block between lines of three backticks whose first line begins with `$ ` is a list of commands, each with what it prints on
 standard output and standard error. A line that begins with `$ ` is a command, as far as the next such line. A block that begins
@@ -33,7 +33,7 @@ def commands(page):
 
 
 def copy_tree(programs, work):
-    """A folder with all that stands at the top of this tree, in which the three programs are those that were named."""
+    """A folder with all that stands at the top of this tree, in which the programs are those that were named."""
     for name in os.listdir(TOP):
         if name not in programs:
             os.symlink(f"{TOP}/{name}", f"{work}/{name}")
@@ -41,8 +41,8 @@ def copy_tree(programs, work):
         os.symlink(path, f"{work}/{name}")
 
 
-def main(kahn, live, draw, work, *pages):
-    copy_tree({"kahn": kahn, "kahn_live": live, "kahn_draw": draw}, work)
+def main(kahn, live, draw, explain, work, *pages):
+    copy_tree({"kahn": kahn, "kahn_live": live, "kahn_draw": draw, "kahn_explain": explain}, work)
     passed = failed = 0
     for page in pages or PAGES:
         for number, command, wanted in commands(page):

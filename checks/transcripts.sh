@@ -6,4 +6,5 @@ source "$(dirname "${BASH_SOURCE[0]}")/common.sh"
 find_program
 find_live
 find_draw
-python3 "$top/checks/transcripts.py" "$kahn" "$live" "$draw" "$work" "$@"
+find_explain
+python3 "$top/checks/transcripts.py" "$kahn" "$live" "$draw" "$explain" "$work" "$@"

@@ -6,7 +6,6 @@
 set -eu
 top=$(cd "$(dirname "${BASH_SOURCE[0]}")/.." && pwd)
 source "$top/release/program.sh"
-programs=(kahn kahn_live kahn_draw)
 for name in "${programs[@]}"; do
   is_newer "$top/crates/$name/out/$name" || { echo "crates/$name/out/$name isn't there, or is older than a source: build it first" >&2; exit 1; }
 done

@@ -1,5 +1,15 @@
 # shellcheck shell=bash
 # Sourced by kahn, by install.sh and by the scripts here, with top set to the top of the repository: finds the programs.
+programs=(kahn kahn_live kahn_draw kahn_explain)
+
+# is_program NAME: whether one of the programs has this name.
+is_program() {
+  local name
+  for name in "${programs[@]}"; do
+    [ "$name" = "$1" ] && return
+  done
+  return 1
+}
 
 # sources: every source that the programs are built from, with its hash, one a line.
 sources() {
@@ -28,46 +38,51 @@ unpacked() {
   fi
 }
 
-# unpack NAME: unpacks the released program to release/out, and compares its hash with the one that was written down.
+# cache: the folder for unpacked programs where release/ can't be written, one for each release.
+cache() {
+  echo "${XDG_CACHE_HOME:-${HOME:-/var/tmp}/.cache}/kahn/$(sha256sum < "$top/release/programs.sha256" | cut -c 1-16)"
+}
+
+# unpack NAME FOLDER: unpacks the released program to the folder, and compares its hash with the one that was written down.
+# 1 where the folder can't be written.
 unpack() {
   local part
-  mkdir -p "$top/release/out" && part=$(mktemp "$top/release/out/$1.XXXXXX") || return 1
+  part=$(mkdir -p "$2" 2> /dev/null && mktemp "$2/$1.XXXXXX" 2> /dev/null) || return 1
   if unpacked "$1" > "$part" && chmod 755 "$part" \
     && grep -q "^$(sha256sum < "$part" | cut -d ' ' -f 1)  $1\$" "$top/release/programs.sha256"; then
-    mv "$part" "$top/release/out/$1"
+    mv "$part" "$2/$1"
   else
     rm -f "$part"
     echo "$1: the program in release/ can't be unpacked (by xz or python3), or isn't the one that was released" >&2
-    return 1
+    return 5
   fi
 }
 
-# build NAME: proves and builds a program.
-build() {
-  command -v rt > /dev/null || {
-    echo "$1: these sources have no release: the program must be built first, and the Rattle toolchain (rt) is not on the path" >&2
-    return 5
-  }
-  echo "$1: proving and building the program first; from nothing this takes about 45 minutes" >&2
-  local log
-  log=$(mktemp)
-  if ! (cd "$top/crates/$1" && rt run -- --help) < /dev/null > "$log" 2>&1; then
-    tail -n 20 "$log" >&2
-    echo "$1: the build failed; the whole of what it said is in $log" >&2
-    return 5
-  fi
-  rm -f "$log"
-  touch "$top/crates/$1/out/$1"
+# find_released NAME: sets program to the path of the unpacked program of the release, where that is of these sources.
+find_released() {
+  local folder status=1
+  for folder in "$top/release/out" "$(cache)"; do
+    program="$folder/$1"
+    is_newer "$program" && return
+  done
+  [ -e "$top/release/$1.xz" ] && is_released || return 1
+  for folder in "$top/release/out" "$(cache)"; do
+    program="$folder/$1"
+    status=0
+    unpack "$1" "$folder" || status=$?
+    [ "$status" = 1 ] || return "$status"
+  done
+  echo "$1: neither release/out nor $(cache) can be written; XDG_CACHE_HOME names another place" >&2
+  return 5
 }
 
 # find_built NAME: sets program to the path of the program of that name: the one that was built here, or else the released one, where
-# they are of these sources; or else it is proved and built.
+# they are of these sources. It builds nothing: else it says what to run, and gives 5.
 find_built() {
+  local status=0
   program="$top/crates/$1/out/$1"
   is_newer "$program" && return
-  program="$top/release/out/$1"
-  is_newer "$program" && return
-  is_released && [ -e "$top/release/$1.xz" ] && unpack "$1" && return
-  program="$top/crates/$1/out/$1"
-  build "$1"
+  find_released "$1" || status=$?
+  [ "$status" != 1 ] || echo "$1: these sources have no release: bash release/build.sh proves and builds the programs" >&2
+  [ "$status" = 0 ] || return 5
 }

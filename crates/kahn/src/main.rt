@@ -3,10 +3,8 @@
 
 use kahn_fault::Fault;
 use kahn_line::{Options, read_line, tell_line, tell_no_memory, tell_words};
-use kahn_pool::answer::Verdict;
-use kahn_pool::config::{Config, RunFault};
-use kahn_pool::gate::Open;
-use kahn_report::work::{WorkFault, work};
+use kahn_pool::{Config, Open, RunFault, Verdict};
+use kahn_report::{WorkFault, work};
 use kahn_texts::{Texts, read_texts, tell};
 use std::io::{BufWriter, Write};
 use std::process::ExitCode;

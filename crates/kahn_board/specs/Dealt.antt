@@ -1,4 +1,4 @@
--- What a board was given.
+-- Believed. What a board was given.
 use Rattle.std.specs.Prelude.{◌≡◌, ℕ, List, Option}
 use mathlib.Core.Option.{some}
 use lib.ListN.{get_elem?}

@@ -1,4 +1,4 @@
--- What a seat knows of its own view and of the slots that it has.
+-- Believed. What a seat knows of its own view and of the slots that it has.
 use Rattle.std.specs.Prelude.{◌≡◌, ◌⊎◌, [], ◌∷◌, ℕ, ◌+◌, ◌*◌, ◌<◌, ◌≤◌, List, map, length, slice_index, Option}
 use Rattle.atomic_table.specs.Table.{Me}
 use Rattle.atomic_table.specs.Seated.{TableId}

@@ -1,4 +1,4 @@
--- The rule of a board's table: what is true between any two steps of any seats.
+-- Believed. The rule of a board's table: what is true between any two steps of any seats.
 -- Words stand eight apart, each in a cache line of its own. Among n instances and m channels:
 -- word 8 p of the instance p is 0 where it is ready, 1 where it is held or parked, 2 where it is over;
 -- word 8 (n + c) of the channel c is 2 k, or 2 k + 1 where the reader is parked on it, k being the number published;

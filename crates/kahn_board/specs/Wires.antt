@@ -1,4 +1,4 @@
--- What the rule reads of a network.
+-- Believed. What the rule reads of a network.
 use Rattle.std.specs.Prelude.{ℕ, suc, List, [], ◌∷◌, length, Bool, true, false, ◌==◌, if◌then◌else◌, Option, None, Some}
 use Rattle.kahn_tree.specs.declared.tree.Program.{Program}
 use Rattle.kahn_network.specs.Network.{Network, Instance, Actual, Reads, Writes, Hands, is_written, network_of}

@@ -12,7 +12,7 @@ use crate::board::{Board, Seat};
 use crate::rule::Told;
 use crate::view::View;
 use atomic_table::{Join, Split};
-use kahn_tree::memory::NoMemory;
+use kahn_tree::NoMemory;
 use std::alloc::Global;
 use std::collections::VecDeque;
 

@@ -11,6 +11,8 @@ mod wiring;
 
 pub use board::{Board, Draw, Look, Rest, Seat};
 pub use closing::Closed;
+
+// For the crates above.
 pub use rule::{Rule, Terms, Told};
 pub use view::View;
 pub use wiring::{reader_of, writer_of};

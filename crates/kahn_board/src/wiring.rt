@@ -3,8 +3,8 @@
 ghost use Rattle.std.specs.Prelude.{◌≡◌, ◌≤◌, ◌<◌, ℕ, IfOk, length, slice_index_or, None};
 ghost use Rattle.kahn_board.specs.Wires.{wires};
 
-use kahn_network::network::Network;
-use kahn_tree::memory::NoMemory;
+use kahn_network::Network;
+use kahn_tree::NoMemory;
 use std::alloc::Global;
 
 /// How many instances and channels a network has, and who reads each channel.

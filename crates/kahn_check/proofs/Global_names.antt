@@ -12,7 +12,7 @@ use Rattle.kahn_check.specs.declared.fault.CheckFault.TheVariants.{NoMemory, Dec
 use Rattle.kahn_check.specs.declared.globals.Entry.{Entry}
 use Rattle.kahn_network.specs.Wires.{the_process, process_at}
 use Rattle.kahn_network.specs.Wiring.{Global}
-use Rattle.kahn_check.specs.Globals.{global_of, option_global, IsPlaced}
+use Rattle.kahn_check.specs.inner.Globals.{global_of, option_global, IsPlaced}
 
 abbrev pub shown : List (List ℕ × Entry) → List (List ℕ × Global)
 shown es = map (λ e. (e.0, global_of e.1)) es

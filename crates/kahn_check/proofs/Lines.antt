@@ -15,8 +15,8 @@ use Rattle.kahn_tree.specs.declared.tree.Program.{Program}
 use Rattle.kahn_tree.specs.View.{bytes_of}
 use Rattle.kahn_check.specs.declared.fault.CheckFault.{CheckFault}
 use Rattle.kahn_check.specs.Faults.{IsMet}
-use Rattle.kahn_check.specs.Tables.{Ends, taken, handed_all, side_in, sides_in}
-use Rattle.kahn_check.specs.Wires.{as_lines, line_in, lines_in}
+use Rattle.kahn_check.specs.inner.Tables.{Ends, taken, handed_all, side_in, sides_in}
+use Rattle.kahn_check.specs.inner.Wires.{as_lines, line_in, lines_in}
 use Rattle.kahn_network.specs.Wires.{Line, first, line_of, lines_of}
 use Rattle.kahn_network.specs.Wiring.{Handover, same_direction, ends, handed_from, declared_channels}
 use Rattle.kahn_check.proofs.Declared.{met_first}

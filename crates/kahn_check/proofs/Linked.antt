@@ -23,7 +23,7 @@ use Rattle.kahn_network.specs.Wiring.{entries, Global, IsChannel, IsProcess, dec
 use Rattle.kahn_network.specs.declared.sides.Side.{Side}
 use Rattle.kahn_check.specs.Order.{most_instances, too_many, miscounted, overtaken, misplaced, argument_faults, arguments_faults, made_faults, instance_faults, missing, side_faults, sides_faults, declaration_faults, faults}
 use Rattle.kahn_network.specs.Wiring.{is_closed}
-use Rattle.kahn_check.specs.Tables.{Ends, held, taken, place_faults, places_faults, made_in, handed_all, seats_faults, side_in, sides_in}
+use Rattle.kahn_check.specs.inner.Tables.{Ends, held, taken, place_faults, places_faults, made_in, handed_all, seats_faults, side_in, sides_in}
 use Rattle.kahn_check.proofs.Wired.{well_wired}
 use Rattle.kahn_network.proofs.Handed.{Table}
 use Rattle.kahn_check.proofs.Placed.{taken_append}

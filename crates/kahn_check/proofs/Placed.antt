@@ -14,12 +14,12 @@ use Rattle.kahn_check.specs.declared.fault.CheckFault.TheVariants.{TooMany, Unkn
 use Rattle.kahn_check.specs.Faults.{verdict, IsMet}
 use Rattle.kahn_network.specs.Wiring.{Global, IsChannel, IsProcess, Handover, handed, handed_in, parameters_of, same_direction, side_at}
 use Rattle.kahn_check.specs.Order.{most_instances, miscounted}
-use Rattle.kahn_check.specs.Tables.{Ends, taken, place_faults, places_faults, made_in, meant, handed_to, handed_all, seats_faults}
+use Rattle.kahn_check.specs.inner.Tables.{Ends, taken, place_faults, places_faults, made_in, meant, handed_to, handed_all, seats_faults}
 use Rattle.kahn_network.proofs.Handed.{Table}
 use Rattle.kahn_network.proofs.Numbered.{the_process}
 use Rattle.kahn_network.specs.Network.{process_of}
 use Rattle.kahn_network.specs.Wires.{process_at}
-use Rattle.kahn_check.specs.Globals.{known, IsTable}
+use Rattle.kahn_check.specs.inner.Globals.{known, IsTable}
 use Rattle.kahn_check.specs.declared.globals.Globals.{Globals}
 use Rattle.kahn_tree.specs.declared.tree.Declaration.{Declaration}
 use Rattle.std.proofs.lemmas.List.{map-append}

@@ -1,4 +1,4 @@
--- What is wrong with a program, in the order in which it is looked for. Only the first is answered: what is
+-- Believed. What is wrong with a program, in the order in which it is looked for. Only the first is answered: what is
 -- listed after it is of no import.
 use Rattle.kahn_network.specs.Wiring.{Scope}
 use Rattle.std.specs.Prelude.{◌≡◌, ◌⊎◌, ℕ, Bool, true, false, List, [], ◌∷◌, ◌++◌, Option, None, Some, Result, Ok, Err, MatchResult, IsSome, if◌then◌else◌}

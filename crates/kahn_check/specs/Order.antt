@@ -1,4 +1,4 @@
--- What is wrong with a whole program, in the order in which it is looked for.
+-- Believed. What is wrong with a whole program, in the order in which it is looked for.
 use Rattle.kahn_network.specs.Wiring.{is_closed}
 use Rattle.std.specs.Prelude.{ℕ, suc, ◌+◌, Bool, true, false, List, [], ◌∷◌, ◌++◌, map, length, Option, None, Some, if◌then◌else◌, nat_lt, nat_eq}
 use Rattle.std.proofs.Common.{bytes_eq}

@@ -3,17 +3,17 @@
 ghost use Rattle.std.specs.Prelude.{◌≡◌, ◌++◌, ◌∷◌, []};
 ghost use Rattle.kahn_tree.specs.View.{bytes_of};
 ghost use Rattle.kahn_check.specs.Faults.{Checks};
-ghost use Rattle.kahn_check.specs.Globals.{known};
+ghost use Rattle.kahn_check.specs.inner.Globals.{known};
 ghost use Rattle.kahn_check.specs.Order.{second as second_of};
-ghost use Rattle.kahn_check.specs.Tables.{misplaced_in, place_faults, HaveGot};
+ghost use Rattle.kahn_check.specs.inner.Tables.{misplaced_in, place_faults, HaveGot};
 ghost use Rattle.kahn_network.specs.Wiring.{handed, is_closed};
 
 use crate::expression::agree;
 use crate::fault::CheckFault;
 use crate::globals::{Entry, Globals};
 use crate::names::Sides;
-use kahn_network::sides::Side;
-use kahn_tree::tree::{Argument, Direction, Kind, Name, Role, Taking};
+use kahn_network::Side;
+use kahn_tree::{Argument, Direction, Kind, Name, Role, Taking};
 
 /// Whether no instance may stand at that side of the channel.
 pub fn closed(direction: Direction, role: Role) -> bool

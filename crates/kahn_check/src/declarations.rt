@@ -2,14 +2,14 @@
 
 ghost use Rattle.std.specs.Prelude.{◌≡◌, ◌≤◌, ◌+◌, [], List, OnOk, length};
 ghost use Rattle.kahn_check.specs.Faults.{Checks};
-ghost use Rattle.kahn_check.specs.Globals.{known, ArePlaced, HaveJoined, IsTable};
+ghost use Rattle.kahn_check.specs.inner.Globals.{known, ArePlaced, HaveJoined, IsTable};
 ghost use Rattle.kahn_tree.specs.declared.tree.Declaration.{Declaration};
 ghost use Rattle.kahn_check.specs.Order.{most_channels, channel_faults, declaration_faults};
 
 use crate::fault::CheckFault;
 use crate::globals::{Entry, Globals};
 use crate::process::check_process;
-use kahn_tree::tree::{Declaration, Kind, Name, Program, Role};
+use kahn_tree::{Declaration, Kind, Name, Program, Role};
 use std::alloc::Global;
 
 /// The most channels of a program.

@@ -7,8 +7,7 @@ ghost use Rattle.kahn_tree.specs.View.{bytes_of};
 
 use crate::fault::CheckFault;
 use crate::names::Scope;
-use kahn_tree::span::Span;
-use kahn_tree::tree::{Direction, Expression, Form, Kind, Name, Operator, Taking};
+use kahn_tree::{Direction, Expression, Form, Kind, Name, Operator, Span, Taking};
 
 /// The kind that an operator takes. The operands of `=` and `<>` are of any one kind.
 pub fn operand_kind(operator: Operator) -> Option<Kind>

@@ -2,17 +2,17 @@
 
 ghost use Rattle.std.specs.Prelude.{◌≡◌, [], MatchResult, length};
 ghost use Rattle.kahn_check.specs.Faults.{Checks, IsMet};
-ghost use Rattle.kahn_check.specs.Globals.{known, IsTable};
+ghost use Rattle.kahn_check.specs.inner.Globals.{known, IsTable};
 ghost use Rattle.kahn_network.specs.Wiring.{handed_in};
-ghost use Rattle.kahn_check.specs.Seats.{AreSeated};
-ghost use Rattle.kahn_check.specs.Tables.{places_faults, HaveGot, seats_faults};
+ghost use Rattle.kahn_check.specs.inner.Seats.{AreSeated};
+ghost use Rattle.kahn_check.specs.inner.Tables.{places_faults, HaveGot, seats_faults};
 
 use crate::argument::place;
 use crate::fault::CheckFault;
 use crate::globals::{Entry, Globals};
 use crate::names::Sides;
-use kahn_network::sides::Side;
-use kahn_tree::tree::{Argument, Parameter, Program};
+use kahn_network::Side;
+use kahn_tree::{Argument, Parameter, Program};
 use std::alloc::Global;
 
 /// The most instances of a program.

@@ -5,12 +5,17 @@
 mod argument;
 mod declarations;
 mod expression;
-pub mod fault;
+mod fault;
 mod globals;
 mod instance;
-pub mod laws;
+mod laws;
 mod names;
-pub mod network;
+mod network;
 mod process;
 mod statement;
 mod wires;
+
+pub use fault::CheckFault;
+pub use kahn_network::{Channel, Instance, Network, Side};
+pub use laws::exact;
+pub use network::check;

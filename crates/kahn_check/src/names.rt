@@ -8,15 +8,17 @@ ghost use Rattle.kahn_check.specs.Faults.{Declares};
 
 use crate::fault::CheckFault;
 use indexmap::IndexMap;
-use kahn_network::sides::Side;
-use kahn_tree::tree::{Name, Taking};
+use kahn_network::Side;
+use kahn_tree::{Name, Taking};
 use std::alloc::Global;
+use std::hash::{BuildHasherDefault, DefaultHasher};
 use std::marker::Model;
 
 /// What each name stands for, in the order in which they were added.
 #[derive(Drop)]
 pub struct Names<V> {
-    names: IndexMap<String, V>,
+    // not by the default's hash, under which names can be found by a rule that all have one place in the table
+    names: IndexMap<String, V, BuildHasherDefault<DefaultHasher>>,
 }
 
 /// What each name that a process body sees stands for.
@@ -39,7 +41,7 @@ impl<V: Copy> Names<V> {
         ensures { result ≡ [] }
     {
         Names {
-            names: IndexMap::new(alloc),
+            names: IndexMap::with_hasher(alloc, BuildHasherDefault::new()),
         }
     }
 

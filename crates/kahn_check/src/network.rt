@@ -9,8 +9,8 @@ use crate::declarations::declarations;
 use crate::fault::CheckFault;
 use crate::instance::instances;
 use crate::wires::all_wires;
-use kahn_network::network::{Network, kept};
-use kahn_tree::tree::Program;
+use kahn_network::{Network, kept};
+use kahn_tree::Program;
 use std::alloc::Global;
 
 /// The network of a program, or the first thing that is wrong with it, in this order: the declarations

@@ -8,7 +8,7 @@ ghost use Rattle.kahn_check.specs.Order.{twice, process_faults};
 use crate::fault::CheckFault;
 use crate::names::Scope;
 use crate::statement::body;
-use kahn_tree::tree::{Process, Taking};
+use kahn_tree::{Process, Taking};
 use std::alloc::Global;
 
 /// The names of a process, its parameters first and then its variables.

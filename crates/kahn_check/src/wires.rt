@@ -2,15 +2,15 @@
 
 ghost use Rattle.std.specs.Prelude.{◌≡◌, ◌++◌, map};
 ghost use Rattle.kahn_check.specs.Faults.{verdict, Checks};
-ghost use Rattle.kahn_check.specs.Tables.{side_in, sides_in};
-ghost use Rattle.kahn_check.specs.Wires.{as_lines, line_in, lines_in};
+ghost use Rattle.kahn_check.specs.inner.Tables.{side_in, sides_in};
+ghost use Rattle.kahn_check.specs.inner.Wires.{as_lines, line_in, lines_in};
 ghost use Rattle.kahn_network.specs.Wires.{shown};
 ghost use Rattle.kahn_network.specs.Wiring.{declared_channels};
 
 use crate::fault::CheckFault;
 use crate::names::Sides;
-use kahn_network::wires::Wire;
-use kahn_tree::tree::{Declaration, Kind, Name, Role};
+use kahn_network::Wire;
+use kahn_tree::{Declaration, Kind, Name, Role};
 use std::alloc::Global;
 
 /// Whether the sides of a channel that must be taken are taken.

@@ -6,7 +6,7 @@ pub mod Lists
 pub mod Stand
 pub mod Uses
 pub mod Queued
-pub mod Kept
+pub mod Nested_lists
 pub mod Behind
 pub mod Begin
 pub mod Asks

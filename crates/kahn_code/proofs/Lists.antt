@@ -6,8 +6,8 @@ use Rattle.std.proofs.lemmas.List.{get_or_past, map-append, length-map}
 pub use Rattle.std.proofs.lemmas.Bool.{cases_lt as split_at}
 use Rattle.kahn_code.proofs.Common.{Number, Network, Actual, Reads, Writes, Hands, network_of, instance_at, actual_at, Written, Value, Line, Channel, Token, Tapes, Inputs, iterate, IsPrefix, Stands, tapes_of, goes_to, values_at, source, out, exec_at, some_same, prefix_get, prefix_refl, prefix_trans, iterates_rise, feeds, solves, script_at, values_append, AreInputsExtended, IsOf, Lists, inputs_of, Program}
 use Rattle.std.proofs.Common.{pos, slice_index_or}
-use Rattle.kahn_streams.proofs.Frame.{Begins}
-use Rattle.kahn_streams.proofs.Frame.{and_more, grows_play}
+use Rattle.kahn_streams.proofs.Framed.{Begins}
+use Rattle.kahn_streams.proofs.Framed.{and_more, grows_play}
 use Rattle.kahn_code.specs.Cells.{AllStand, IsKept, IsOwn, token_value, exec_on, sent_on}
 
 -- a list all of whose values stand in another begins it

@@ -1,4 +1,3 @@
-pub mod Words
 pub mod Flat
 pub mod Cells
 pub mod Standing
@@ -6,7 +5,7 @@ pub mod Machines
 pub mod Seats
 pub mod Queues
 pub mod Lines
-pub mod Gone
 pub mod Progress
 pub mod Code
 pub mod Told
+pub mod inner

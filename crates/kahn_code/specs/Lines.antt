@@ -1,4 +1,4 @@
--- What contracts see of the plain queues of all channels.
+-- Believed. What contracts see of the plain queues of all channels.
 use Rattle.std.specs.Prelude.{◌≡◌, ℕ, ◌+◌, List, length, Option, Some, None, slice_get}
 use Rattle.kahn_tree.specs.declared.tree.Program.{Program}
 use Rattle.kahn_network.specs.Network.{Actual, Reads, Writes, Hands, network_of, instance_at, actual_at, role_at}

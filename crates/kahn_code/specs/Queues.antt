@@ -1,9 +1,7 @@
--- What contracts see of the plain queue of a channel.
-use Rattle.std.specs.Prelude.{◌≡◌, ℕ, List, [], ◌∷◌}
+-- Believed. What contracts see of the plain queue of a channel.
+use Rattle.std.specs.Prelude.{ℕ}
 use Rattle.kahn_tree.specs.declared.tree.Program.{Program}
-use Rattle.kahn_streams.specs.declared.token.Token.{Token}
-use Rattle.kahn_streams.specs.Laws.{AreInputsExtended}
-use Rattle.kahn_streams.specs.Tokens.{Lists, inputs_of}
+use Rattle.kahn_streams.specs.Tokens.{Lists}
 
 -- the network, the input and the channel that its tokens are of; how many were taken; how many wait; for how many more
 -- there is room
@@ -14,8 +12,3 @@ pub record Waiting : Type 0 where
   pub taken : ℕ
   pub waiting : ℕ
   pub spare : ℕ
-
--- these are tokens of this network, and of inputs whose lists begin those of this one
-abbrev pub AllBegin : Program → Lists → List Token → Type 0
-AllBegin network input [] = Unit {0}
-AllBegin network input (t ∷ ts) = (t.network.value ≡ network) × AreInputsExtended (inputs_of t.input.value) (inputs_of input) × AllBegin network input ts

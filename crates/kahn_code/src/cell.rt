@@ -12,10 +12,9 @@ ghost use Rattle.kahn_code.specs.Told.{AreCounts, seat_of, told_view, IsAt, IsSt
 use crate::code::{Code, CodeFault};
 use crate::ports::Ports;
 use crate::progress::Pause;
-use crate::steps::Steps;
 use crate::tap::Tap;
-use kahn_streams::carried::Carried;
-use kahn_streams::input::Input;
+use kahn_streams::{Carried, Input};
+use kahn_tree::Steps;
 use std::alloc::{Allocator, Global};
 use std::marker::Model;
 use std::sync::ledger::Ledger;
@@ -40,7 +39,7 @@ impl<A: Allocator + Copy + Drop> Model for Cell<A> {
     ghost use Rattle.kahn_tree.specs.contracts.tree.Form as form;
     ghost use Rattle.std.specs.Coded.{codes};
     ghost use Rattle.std.specs.Prelude.{◌≡◌};
-    ghost use Rattle.kahn_code.specs.Gone.{nothing_gone};
+    ghost use Rattle.kahn_code.specs.inner.Gone.{nothing_gone};
     ghost use Rattle.kahn_code.specs.Told.{Told};
 
     ghost Value = { Told };

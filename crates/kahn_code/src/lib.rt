@@ -1,20 +1,31 @@
 //! Flat code of processes, and the cells that run it.
 #![tactic(auto)]
 
-pub mod body;
-pub mod cell;
-pub mod code;
-pub mod depth;
-pub mod emit;
-pub mod instruction;
-pub mod laws;
-pub mod machine;
-pub mod opening;
-pub mod past;
-pub mod plain;
-pub mod ports;
-pub mod progress;
-pub mod queue;
-pub mod steps;
-pub mod tap;
-pub mod word;
+mod body;
+mod cell;
+mod code;
+mod depth;
+mod emit;
+mod instruction;
+mod laws;
+mod machine;
+mod opening;
+mod past;
+mod plain;
+mod ports;
+mod progress;
+mod queue;
+mod tap;
+mod word;
+
+pub use cell::{Cell, Kept};
+pub use code::{Code, CodeFault, compile};
+pub use kahn_tree::Steps;
+pub use laws::compiles;
+pub use plain::Plain;
+pub use ports::Ports;
+pub use progress::Pause;
+
+// For the crates above.
+pub use tap::Tap;
+pub use word::{Operand, Word, apply, negated};

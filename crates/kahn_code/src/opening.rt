@@ -6,9 +6,8 @@ ghost use Rattle.kahn_network.specs.Wiring.{IsWellWired};
 ghost use Rattle.kahn_code.specs.Lines.{AreFirst, IsFirst};
 
 use crate::queue::Queue;
-use kahn_network::network::Network;
-use kahn_streams::input::Input;
-use kahn_streams::memory::NoMemory;
+use kahn_network::Network;
+use kahn_streams::{Input, NoMemory};
 use std::alloc::Allocator;
 
 // The queue of a channel, with the tokens of the channel's list where it is an input channel.

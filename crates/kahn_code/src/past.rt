@@ -9,7 +9,7 @@ impl Model for Past {
     ghost use Rattle.kahn_tree.specs.contracts.tree.Action as action;
     ghost use Rattle.kahn_tree.specs.contracts.tree.Form as form;
     ghost use Rattle.std.specs.Coded.{codes};
-    ghost use Rattle.kahn_code.specs.Gone.{Gone, nothing_gone};
+    ghost use Rattle.kahn_code.specs.inner.Gone.{Gone, nothing_gone};
 
     ghost Value = { Gone };
 

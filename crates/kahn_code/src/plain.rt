@@ -9,11 +9,8 @@ use crate::code::CodeFault;
 use crate::opening::first_queues;
 use crate::ports::Ports;
 use crate::queue::Queue;
-use kahn_network::network::Network;
-use kahn_streams::about::About;
-use kahn_streams::input::Input;
-use kahn_streams::memory::NoMemory;
-use kahn_streams::token::Token;
+use kahn_network::Network;
+use kahn_streams::{About, Input, NoMemory, Token};
 use std::alloc::Allocator;
 use std::marker::Model;
 

@@ -3,8 +3,7 @@
 ghost use Rattle.std.specs.Prelude.{◌≡◌, ◌≢◌, ℕ, ◌<◌, ◌^◌, IfSome, IfNone, IsSome, IsTrue, IsFalse, OnOk};
 ghost use Rattle.kahn_code.specs.Seats.{Seat, DoesRead, DoesWrite, IsNext, Stays, StayReady, Moved, Leaves, Grows};
 
-use kahn_streams::memory::NoMemory;
-use kahn_streams::token::Token;
+use kahn_streams::{NoMemory, Token};
 
 /// The ends of an instance's channels, by the number of the parameter, beside which its channel is told. What an instance
 /// sends on an output channel isn't put here.

@@ -6,13 +6,8 @@ ghost use Rattle.kahn_streams.specs.Laws.{AreInputsExtended};
 ghost use Rattle.kahn_streams.specs.Streams.{IsOf};
 ghost use Rattle.kahn_streams.specs.Tokens.{Holds, Lists, Names, inputs_of};
 
-use kahn_network::network::Network;
-use kahn_streams::about::About;
-use kahn_streams::carried::Carried;
-use kahn_streams::input::Input;
-use kahn_streams::memory::NoMemory;
-use kahn_streams::token::Token;
-use kahn_streams::value::{Line, Value};
+use kahn_network::Network;
+use kahn_streams::{About, Carried, Input, Line, NoMemory, Token, Value};
 use std::alloc::Allocator;
 use std::collections::VecDeque;
 use std::marker::Model;
@@ -35,7 +30,8 @@ impl<A: Allocator> Model for Queue<A> {
     ghost use Rattle.std.specs.VecDeque.{deque_len, deque_capacity};
     ghost use Rattle.kahn_streams.specs.declared.value.Line.TheVariants.{Channel};
     ghost use Rattle.kahn_streams.specs.Streams.{Follow};
-    ghost use Rattle.kahn_code.specs.Queues.{Waiting, AllBegin};
+    ghost use Rattle.kahn_code.specs.Queues.{Waiting};
+    ghost use Rattle.kahn_code.specs.inner.Begins.{AllBegin};
 
     ghost Value = { Waiting };
 

@@ -7,22 +7,20 @@ ghost use Rattle.kahn_code.specs.Flat.{stmt_code, depth, registers_of};
 ghost use Rattle.kahn_streams.specs.Laws.{AreInputsExtended};
 ghost use Rattle.kahn_streams.specs.Solution.{opening};
 ghost use Rattle.kahn_streams.specs.Tokens.{Names};
-ghost use Rattle.kahn_code.specs.Gone.{behind, nothing_gone};
-ghost use Rattle.kahn_code.specs.Progress.{Paused, IsPause, core_of, opening_core};
+ghost use Rattle.kahn_code.specs.inner.Gone.{kept_behind, nothing_gone};
+ghost use Rattle.kahn_code.specs.Progress.{core_of, opening_core};
 ghost use Rattle.kahn_code.specs.Seats.{Leaves, Grows};
 ghost use Rattle.kahn_code.specs.Standing.{tokens};
-ghost use Rattle.kahn_code.specs.Told.{AreCounts, seat_of, tapped_of, told_view, IsAt, IsStanding, IsStill};
+ghost use Rattle.kahn_code.specs.Told.{AreCounts, seat_of, IsAt, IsStanding, IsStill};
+ghost use Rattle.kahn_code.specs.inner.Tapped.{AreUnused, IsPausedBy, IsSameProcess, tapped_of};
 
 use crate::cell::Kept;
 use crate::code::{Code, CodeFault};
 use crate::ports::Ports;
 use crate::progress::{Pause, Progress};
-use crate::steps::Steps;
-use kahn_network::network::Network;
-use kahn_streams::about::About;
-use kahn_streams::carried::Carried;
-use kahn_streams::input::Input;
-use kahn_streams::memory::NoMemory;
+use kahn_network::Network;
+use kahn_streams::{About, Carried, Input, NoMemory};
+use kahn_tree::Steps;
 use std::alloc::{Allocator, Global};
 use std::marker::Model;
 use std::sync::ledger::Ledger;
@@ -40,7 +38,8 @@ impl<A: Allocator + Copy + Drop> Model for Tap<A> {
     ghost use Rattle.kahn_tree.specs.contracts.tree.Action as action;
     ghost use Rattle.kahn_tree.specs.contracts.tree.Form as form;
     ghost use Rattle.std.specs.Coded.{codes};
-    ghost use Rattle.kahn_code.specs.Told.{Tapped, tapped_of, IsStanding};
+    ghost use Rattle.kahn_code.specs.Told.{IsStanding};
+    ghost use Rattle.kahn_code.specs.inner.Tapped.{Tapped, tapped_of};
 
     ghost Value = { Tapped };
 
@@ -64,7 +63,7 @@ impl<A: Allocator + Copy + Drop> Tap<A> {
         requires { instance < length (network_of code.now.network.value).instances }
         ensures names { IfOk result (λ c. (c.told.network ≡ code.now.network.value) × (c.told.input ≡ input) × (c.told.instance ≡ instance) × (c.told.watch ≡ watch)) }
         ensures none { IfOk result (λ c. (c.told.events ≡ 0) × (c.told.printed ≡ []) × (c.gone ≡ nothing_gone)) }
-        ensures parameters { IfOk result (λ c. let n = length (instance_at (network_of code.now.network.value) instance).actuals in (c.told.taken ≡ replicate n 0) × (c.told.sent ≡ replicate n 0) × (c.told.kept ≡ replicate n [])) }
+        ensures parameters { IfOk result (λ c. AreUnused (length (instance_at (network_of code.now.network.value) instance).actuals) c.told) }
     {
         let progress = opened(alloc, code, instance, watch)?;
         Ok(assembled(progress, code))
@@ -83,7 +82,7 @@ impl<A: Allocator + Copy + Drop> Tap<A> {
         requires ports { P.seat ports.old ≡ seat_of self.old.told }
         requires at { IsAt self.old.told (P.next ports.old) }
         requires events { self.old.told.events + quantum < 2 ^ 48 }
-        ensures names { (self.new.told.network ≡ self.old.told.network) × (self.new.told.input ≡ self.old.told.input) × (self.new.told.instance ≡ self.old.told.instance) × (self.new.told.watch ≡ self.old.told.watch) }
+        ensures names { IsSameProcess self.old.told self.new.told }
         ensures gone { self.new.gone ≡ self.old.gone }
         ensures ports { P.seat ports.new ≡ seat_of self.new.told }
         ensures others { Leaves (P.seat ports.old) (P.others ports.old) (P.others ports.new) }
@@ -91,7 +90,7 @@ impl<A: Allocator + Copy + Drop> Tap<A> {
         ensures delivered { Grows (P.delivered ports.old) (P.delivered ports.new) }
         ensures at { IsAt self.new.told (P.next ports.new) }
         // What the source says of the cell and of the pause.
-        ensures paused { Paused (network_of self.new.told.network) (inputs_of self.new.told.input) self.new.told.watch self.new.told.instance (told_view self.new.told) (IsPause (network_of self.new.told.network) self.new.told.instance (P.is_dry ports.new) (P.is_ready ports.new) (self.new.told.events ≡ self.old.told.events + quantum) result) }
+        ensures paused { IsPausedBy self.new.told (P.is_dry ports.new) (P.is_ready ports.new) (self.new.told.events ≡ self.old.told.events + quantum) result }
         ensures events { (self.old.told.events ≤ self.new.told.events) × (self.new.told.events ≤ self.old.told.events + quantum) }
         // Where no event was done, counts and lists are as before.
         ensures still { self.new.told.events ≡ self.old.told.events → IsStill self.old.told self.new.told }
@@ -146,7 +145,7 @@ impl<A: Allocator + Copy + Drop> Tap<A> {
 
     /// What it kept since it last let go, without the tap. It takes no memory.
     pub fn into_lists(self) -> Kept<A>
-        ensures kept { behind self.gone.kept (map (λ v. v.items) result.kept.items) ≡ self.told.kept }
+        ensures kept { kept_behind self.gone.kept (map (λ v. v.items) result.kept.items) ≡ self.told.kept }
         ensures printed { self.gone.printed ++ result.printed.items ≡ self.told.printed }
         ensures parameters { length result.kept.items ≡ length (instance_at (network_of self.told.network) self.told.instance).actuals }
     {

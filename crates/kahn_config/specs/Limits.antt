@@ -1,4 +1,4 @@
--- The limits on the numbers of a run (this project's profile).
+-- Believed. The limits on the numbers of a run (this project's profile).
 use Rattle.std.specs.Prelude.{ℕ, ◌≤◌, ◌<◌, ◌^◌}
 
 abbrev pub IsInRange : ℕ → ℕ → ℕ → Type 0

@@ -5,10 +5,10 @@ use Rattle.std.proofs.lemmas.List.Elements.{All-push}
 use Rattle.std.proofs.lemmas.List.Sums.{sum_by_push, sum_by-cons}
 use Rattle.atomic_table.specs.Seated.{TableId}
 use Rattle.kahn_board.specs.declared.board.Seat.{Seat}
-use Rattle.kahn_desk.specs.Crew.{parts_of}
-use Rattle.kahn_desk.specs.Turn.{IsIdle}
-use Rattle.kahn_crew.specs.Crews.{HasGone, IsSeated, crew_parts}
-use Rattle.kahn_crew.specs.Tasks.{Tasked}
+use Rattle.kahn_desk.specs.inner.Crew.{parts_of}
+use Rattle.kahn_desk.specs.inner.Turn.{IsIdle}
+use Rattle.kahn_crew.specs.inner.Crews.{HasGone, IsSeated, crew_parts}
+use Rattle.kahn_crew.specs.inner.Tasks.{Tasked}
 use Rattle.kahn_crew.specs.declared.worker.Worker.{Worker}
 use Rattle.kahn_desk.proofs.Joined.{all_but_last}
 

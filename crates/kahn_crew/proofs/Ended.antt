@@ -15,8 +15,8 @@ use Rattle.kahn_network.proofs.Sourced
 use Rattle.kahn_streams.specs.Tokens.{Lists}
 use Rattle.kahn_code.specs.Cells.{is_output}
 use Rattle.kahn_code.specs.Standing.{count}
-use Rattle.kahn_job.specs.Berths.{end_at}
-use Rattle.kahn_job.specs.Works.{Work}
+use Rattle.kahn_job.specs.inner.Berths.{end_at}
+use Rattle.kahn_job.specs.inner.Works.{Work}
 use Rattle.kahn_board.specs.Closing as closed
 use Rattle.kahn_board.specs.Closing.{Closes}
 use Rattle.kahn_board.specs.Counts.{below}
@@ -24,10 +24,10 @@ use Rattle.kahn_board.specs.Dealt.{belongs, dealt, wired, events_of}
 use Rattle.kahn_board.specs.Wires.{wires, any_is, first_with}
 use Rattle.kahn_board.specs.declared.rule.Terms.{Terms}
 use Rattle.kahn_board.specs.declared.view.View.{View}
-use Rattle.kahn_crew.specs.Begins.{AreReady, HasBegun, all_events}
-use Rattle.kahn_crew.specs.Floors.{IsTaskOf}
-use Rattle.kahn_crew.specs.Left.{AreAll, AreUntouched, HaveGone, IsAtRest, IsOver, task_events}
-use Rattle.kahn_crew.specs.Tasks.{Tasked, Continues, IsLater, count_on, handed, read_by, reads_at, told_of, waits_on, writes_at, wrote_by}
+use Rattle.kahn_crew.specs.inner.Begins.{AreReady, HasBegun, all_events}
+use Rattle.kahn_crew.specs.inner.Floors.{IsTaskOf}
+use Rattle.kahn_crew.specs.inner.Left.{AreAll, AreUntouched, HaveGone, IsAtRest, IsOver, task_events}
+use Rattle.kahn_crew.specs.inner.Tasks.{Tasked, Continues, IsLater, count_on, handed, read_by, reads_at, told_of, waits_on, writes_at, wrote_by}
 use Rattle.kahn_crew.specs.declared.standing.Standing.{Standing}
 use Rattle.kahn_crew.specs.declared.standing.Standing.TheVariants as standing
 use Rattle.kahn_crew.proofs.Found

@@ -2,7 +2,7 @@
 use Rattle.std.proofs.Common.{arith, ◌≡◌, ℕ, zero, suc, ◌+◌, ◌<◌, Bool, true, false, List, [], ◌∷◌, length, refl, sym, ap, ◌∙◌, Option, Some, None, slice_index_or}
 use Rattle.kahn_network.specs.Network.{Actual, Instance, idle}
 use Rattle.kahn_board.specs.Wires.{any_is, first_with}
-use Rattle.kahn_crew.specs.Tasks.{first_that}
+use Rattle.kahn_crew.specs.inner.Tasks.{first_that}
 
 abbrev number : Option ℕ → ℕ
 number None = 0

@@ -12,14 +12,14 @@ use Rattle.kahn_code.specs.Lines.{Joins}
 use Rattle.kahn_code.proofs.Readers.{joins_parameter, driven}
 use Rattle.kahn_board.specs.Wires.{wires}
 use Rattle.kahn_board.specs.declared.view.View.{View}
-use Rattle.kahn_job.specs.Berths.{end_at}
-use Rattle.kahn_job.specs.Works.{Work, width_of}
-use Rattle.kahn_desk.specs.Turn.{Tells}
+use Rattle.kahn_job.specs.inner.Berths.{end_at}
+use Rattle.kahn_job.specs.inner.Works.{Work, width_of}
+use Rattle.kahn_desk.specs.inner.Turn.{Tells}
 use Rattle.kahn_board.specs.Plays.{SeesMore}
-use Rattle.kahn_job.specs.Works.{IsJob}
+use Rattle.kahn_job.specs.inner.Works.{IsJob}
 use Rattle.kahn_code.specs.Told.{AreCounts}
-use Rattle.kahn_crew.specs.Floors.{HasKept, IsTaskOf}
-use Rattle.kahn_crew.specs.Tasks.{Tasked, AgreesWith, IsPublished, handed, written_by}
+use Rattle.kahn_crew.specs.inner.Floors.{HasKept, IsTaskOf}
+use Rattle.kahn_crew.specs.inner.Tasks.{Tasked, AgreesWith, IsPublished, handed, written_by}
 use Rattle.kahn_crew.proofs.Wirings.{target, writer_is, written_inside}
 use Rattle.kahn_crew.proofs.Found.{none_some, some_same}
 

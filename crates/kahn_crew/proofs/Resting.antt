@@ -16,14 +16,14 @@ use Rattle.kahn_board.specs.Plays.{SeesMore}
 use Rattle.kahn_board.specs.Tale.{FlushedAll, flushed_of, second_of}
 use Rattle.kahn_board.specs.declared.rule.Terms.{Terms}
 use Rattle.kahn_board.specs.declared.view.View.{View}
-use Rattle.kahn_desk.specs.Turn.{Fits, Knows}
-use Rattle.kahn_job.specs.Berths.{HaveAdvanced, end_at}
-use Rattle.kahn_job.specs.Works.{Work, IsDelivered}
+use Rattle.kahn_desk.specs.inner.Turn.{Fits, Knows}
+use Rattle.kahn_job.specs.inner.Berths.{HaveAdvanced, end_at}
+use Rattle.kahn_job.specs.inner.Works.{Work, IsDelivered}
 use Rattle.kahn_crew.specs.declared.standing.Standing.TheVariants as standing
 use Rattle.kahn_crew.specs.declared.turn.Due.TheVariants as due
-use Rattle.kahn_crew.specs.Floors.{IsFloor, IsTaskOf, HasKept}
-use Rattle.kahn_crew.specs.Rests.{IsDue}
-use Rattle.kahn_crew.specs.Tasks.{Tasked, AgreesWith, Continues, HasStanding, IsLater, IsPublished, count_on, handed, read_by, reads_at, told_of, waits_on, writes_at, wrote_by}
+use Rattle.kahn_crew.specs.inner.Floors.{IsFloor, IsTaskOf, HasKept}
+use Rattle.kahn_crew.specs.inner.Rests.{IsDue}
+use Rattle.kahn_crew.specs.inner.Tasks.{Tasked, AgreesWith, Continues, HasStanding, IsLater, IsPublished, count_on, handed, read_by, reads_at, told_of, waits_on, writes_at, wrote_by}
 use Rattle.kahn_crew.proofs.Wirings.{reads_first, writes_first, first_writes, reader_is, writer_is, read_inside, written_inside}
 use Rattle.kahn_crew.proofs.Publishing.{handed_is}
 use Rattle.kahn_crew.proofs.Found.{none_some, some_same}

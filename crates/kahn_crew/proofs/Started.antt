@@ -16,19 +16,19 @@ use Rattle.kahn_code.specs.Cells.{is_output}
 use Rattle.kahn_code.specs.Lines.{Joins}
 use Rattle.kahn_code.specs.Standing.{count}
 use Rattle.kahn_code.specs.Told.{AreCounts}
-use Rattle.kahn_job.specs.Berths.{end_at}
-use Rattle.kahn_job.specs.Ends.{ShareLane}
-use Rattle.kahn_job.specs.Openings.{AreOpening, IsOpening}
-use Rattle.kahn_job.specs.Works.{Work}
+use Rattle.kahn_job.specs.inner.Berths.{end_at}
+use Rattle.kahn_job.specs.inner.Ends.{ShareLane}
+use Rattle.kahn_job.specs.inner.Openings.{AreOpening, IsOpening}
+use Rattle.kahn_job.specs.inner.Works.{Work}
 use Rattle.kahn_board.specs.Dealt.{events_of}
 use Rattle.kahn_board.specs.Opening.{Opens}
 use Rattle.kahn_board.specs.Rule.{view}
 use Rattle.kahn_board.specs.Wires.{wires}
 use Rattle.kahn_board.specs.declared.rule.Terms.{Terms}
 use Rattle.kahn_board.specs.declared.view.View.{View}
-use Rattle.kahn_crew.specs.Begins.{AreReady, HasBegun, IsNumber, IsReady, ready_task}
-use Rattle.kahn_crew.specs.Floors.{IsFloor}
-use Rattle.kahn_crew.specs.Tasks.{AgreesWith, IsLater, IsPublished, Tasked, told_of}
+use Rattle.kahn_crew.specs.inner.Begins.{AreReady, HasBegun, IsNumber, IsReady, ready_task}
+use Rattle.kahn_crew.specs.inner.Floors.{IsFloor}
+use Rattle.kahn_crew.specs.inner.Tasks.{AgreesWith, IsLater, IsPublished, Tasked, told_of}
 use Rattle.kahn_crew.proofs.Found.{none_some, some_same}
 use Rattle.kahn_crew.proofs.Publishing.{handed_is}
 use Rattle.kahn_crew.proofs.Resting.{flushed_all, continues_here, published_is}

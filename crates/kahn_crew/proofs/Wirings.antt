@@ -11,7 +11,7 @@ use Rattle.kahn_code.specs.Cells.{is_output}
 use Rattle.kahn_code.specs.Lines.{Joins, route_of}
 use Rattle.kahn_code.proofs.Readers.{joins_within, joins_parameter, reads_once, driven}
 use Rattle.kahn_board.specs.Wires.{wires, is_read}
-use Rattle.kahn_crew.specs.Tasks.{read_by, written_by, is_channel, first_that}
+use Rattle.kahn_crew.specs.inner.Tasks.{read_by, written_by, is_channel, first_that}
 use Rattle.kahn_crew.proofs.Found
 use Rattle.kahn_crew.proofs.Found.{apart, none_some, some_same}
 

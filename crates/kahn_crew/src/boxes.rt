@@ -5,7 +5,7 @@ ghost use Rattle.std.specs.Vec.{vec_capacity};
 
 use crate::task::Task;
 use kahn_board::Told;
-use kahn_streams::memory::NoMemory;
+use kahn_streams::NoMemory;
 use std::alloc::Global;
 use std::marker::Model;
 
@@ -19,7 +19,7 @@ impl<'n> Model for Boxed<'n> {
     ghost use Rattle.kahn_tree.specs.contracts.tree.Action as action;
     ghost use Rattle.kahn_tree.specs.contracts.tree.Form as form;
     ghost use Rattle.std.specs.Coded.{codes};
-    ghost use Rattle.kahn_crew.specs.Tasks.{Tasked};
+    ghost use Rattle.kahn_crew.specs.inner.Tasks.{Tasked};
 
     ghost Value = { Tasked };
 
@@ -29,7 +29,7 @@ impl<'n> Model for Boxed<'n> {
 }
 
 impl<'n> Told for Boxed<'n> {
-    ghost use Rattle.kahn_crew.specs.Tasks.{IsLater, told_of};
+    ghost use Rattle.kahn_crew.specs.inner.Tasks.{IsLater, told_of};
 
     ghost told = { told_of };
 

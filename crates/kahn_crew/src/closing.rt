@@ -3,17 +3,17 @@
 ghost use Rattle.std.specs.Prelude.{◌≡◌, ◌≤◌, [], List, length, map, Some};
 ghost use Rattle.std.specs.Vec.{vec_capacity};
 ghost use Rattle.kahn_network.specs.Network.{network_of};
-ghost use Rattle.kahn_crew.specs.Begins.{HasBegun, all_events};
-ghost use Rattle.kahn_crew.specs.Crews.{IsWhole};
-ghost use Rattle.kahn_crew.specs.Left.{AreUntouched, HaveGone, IsOver};
-ghost use Rattle.kahn_crew.specs.Tasks.{Tasked};
+ghost use Rattle.kahn_crew.specs.inner.Begins.{HasBegun, all_events};
+ghost use Rattle.kahn_crew.specs.inner.Crews.{IsWhole};
+ghost use Rattle.kahn_crew.specs.inner.Left.{AreUntouched, HaveGone, IsOver};
+ghost use Rattle.kahn_crew.specs.inner.Tasks.{Tasked};
 
 use crate::boxes::Boxed;
 use crate::left::Left;
 use crate::task::Task;
 use kahn_board::{Board, Closed, Seat};
-use kahn_network::network::Network;
-use kahn_streams::input::Input;
+use kahn_network::Network;
+use kahn_streams::Input;
 
 // The tasks of cells that are all there, in their order.
 fn out_of_cells<'n>(mut cells: Vec<Option<Boxed<'n>>>, mut tasks: Vec<Task<'n>>) -> Vec<Task<'n>>

@@ -1,17 +1,17 @@
-//! A crew: all workers of a run, each in a thread of its own where one can be made.
+//! A crew: all workers of a run, the first in the caller's thread and each other in one of its own.
 
 ghost use Rattle.std.specs.Prelude.{◌≡◌, ◌+◌, ◌<◌, ◌≤◌, ◌^◌, [], true, length, All, IfOk, IfErr, MatchResult};
 ghost use Rattle.std.specs.Vec.{vec_capacity};
 ghost use Rattle.kahn_network.specs.Network.{network_of};
 ghost use Rattle.kahn_board.specs.Dealt.{events_of};
-ghost use Rattle.kahn_desk.specs.Crew.{parts_of};
-ghost use Rattle.kahn_desk.specs.Turn.{IsIdle, IsSeatOf};
-ghost use Rattle.kahn_crew.specs.Crews.{HasGone, IsSeated, IsWhole, crew_parts};
-ghost use Rattle.kahn_crew.specs.Floors.{IsFloor};
-ghost use Rattle.kahn_crew.specs.Begins.{AreReady};
-ghost use Rattle.kahn_crew.specs.Left.{AreUntouched, HaveGone, HaveLeft, IsOver};
-ghost use Rattle.kahn_crew.specs.Tasks.{told_of};
-ghost use Rattle.kahn_crew.specs.Wants.{IsWant};
+ghost use Rattle.kahn_desk.specs.inner.Crew.{parts_of};
+ghost use Rattle.kahn_desk.specs.inner.Turn.{IsIdle, IsSeatOf};
+ghost use Rattle.kahn_crew.specs.inner.Crews.{HasGone, IsSeated, IsWhole, crew_parts};
+ghost use Rattle.kahn_crew.specs.inner.Floors.{IsFloor};
+ghost use Rattle.kahn_crew.specs.inner.Begins.{AreReady};
+ghost use Rattle.kahn_crew.specs.inner.Left.{AreUntouched, HaveGone, HaveLeft, IsOver};
+ghost use Rattle.kahn_crew.specs.inner.Tasks.{told_of};
+ghost use Rattle.kahn_crew.specs.inner.Wants.{IsWant};
 ghost use Rattle.kahn_crew.specs.declared.fault.CrewFault.TheVariants.{NoMemory as NoMemoryFault};
 
 use crate::boxes::Boxed;
@@ -28,11 +28,10 @@ use crate::rooms::Rooms;
 use crate::task::Task;
 use crate::worker::Worker;
 use kahn_board::{Board, Seat};
-use kahn_code::code::Code;
+use kahn_code::Code;
 use kahn_desk::{join_all, split_all, stop};
-use kahn_network::network::Network;
-use kahn_streams::input::Input;
-use kahn_streams::memory::NoMemory;
+use kahn_network::Network;
+use kahn_streams::{Input, NoMemory};
 use std::alloc::Global;
 use std::sync::Wait;
 use std::thread::Threads;
@@ -95,8 +94,8 @@ struct Shift<'b, 'c, 'n, R, G> {
 
 impl<'b, 'c, 'n, R: Wait + Sync, G: Gate + Sync> Hand<Shift<'b, 'c, 'n, R, G>> for Worker<'n> {
     ghost use Rattle.std.specs.Prelude.{◌≡◌, ◌<◌};
-    ghost use Rattle.kahn_crew.specs.Crews.{HasGone, IsSeated};
-    ghost use Rattle.kahn_crew.specs.Floors.{IsFloor};
+    ghost use Rattle.kahn_crew.specs.inner.Crews.{HasGone, IsSeated};
+    ghost use Rattle.kahn_crew.specs.inner.Floors.{IsFloor};
 
     ghost may = { λ s w. IsFloor s.floor.now.board.now.table.shared.key s.floor.now.network.now s.floor.now.code.now.network.value × (0 < s.floor.now.quantum) × IsSeated s.floor.now.board.now.table.shared.table_id w };
 

@@ -1,6 +1,6 @@
 //! Why the workers of a run leave nothing.
 
-use kahn_streams::memory::NoMemory;
+use kahn_streams::NoMemory;
 use std::alloc::AllocError;
 use thiserror::Error;
 

@@ -2,8 +2,8 @@
 
 use crate::boxes::Boxed;
 use kahn_board::Board;
-use kahn_code::code::Code;
-use kahn_network::network::Network;
+use kahn_code::Code;
+use kahn_network::Network;
 
 /// The board on which the tasks are, their network and its code, and how many events a task may do before another one is
 /// looked for.

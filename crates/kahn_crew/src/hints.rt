@@ -3,7 +3,7 @@
 ghost use Rattle.std.specs.Prelude.{◌≡◌, false, true};
 
 use crossbeam_deque::{Steal, Stealer, Worker};
-use kahn_streams::memory::NoMemory;
+use kahn_streams::NoMemory;
 use std::alloc::AllocError;
 
 /// The hints of one worker: its own, and those of the others, which it may steal. A hint that is out of date does no harm.

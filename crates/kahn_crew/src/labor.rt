@@ -2,7 +2,7 @@
 
 ghost use Rattle.std.specs.Prelude.{◌≡◌, ℕ, ◌<◌, true, length, All, slice_index_or};
 ghost use Rattle.std.specs.Vec.{vec_capacity};
-ghost use Rattle.kahn_crew.specs.Crews.{Went};
+ghost use Rattle.kahn_crew.specs.inner.Crews.{Went};
 
 use std::snapshot::Snapshot;
 use std::sync::Wait;

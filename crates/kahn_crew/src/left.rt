@@ -3,7 +3,7 @@
 use crate::task::Task;
 
 /// The tasks of all instances in order, once all workers have left; how many events of the bound are left; and whether the
-/// run was halted, since memory was refused.
+/// run was halted, since memory or a thread was refused.
 #[derive(Drop)]
 pub struct Left<'n> {
     pub tasks: Vec<Task<'n>>,

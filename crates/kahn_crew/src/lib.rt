@@ -23,6 +23,7 @@ mod turn;
 mod waking;
 mod worker;
 
+// For the crates above.
 pub use crew::{run_crew, run_tasks};
 pub use fault::CrewFault;
 pub use gate::{Gate, Open};

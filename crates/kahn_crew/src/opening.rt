@@ -5,18 +5,17 @@ ghost use Rattle.kahn_network.specs.Network.{network_of};
 ghost use Rattle.kahn_board.specs.Dealt.{events_of};
 ghost use Rattle.kahn_board.specs.Rule.{opening_view};
 ghost use Rattle.kahn_board.specs.Wires.{wires};
-ghost use Rattle.kahn_crew.specs.Begins.{AreReady, HasBegun, IsNumber, ready_task};
-ghost use Rattle.kahn_crew.specs.Tasks.{told_of};
+ghost use Rattle.kahn_crew.specs.inner.Begins.{AreReady, HasBegun, IsNumber, ready_task};
+ghost use Rattle.kahn_crew.specs.inner.Tasks.{told_of};
 
 use crate::boxes::{Boxed, box_all, unbox_all};
 use crate::task::Task;
 use kahn_board::{Board, Seat};
-use kahn_code::code::Code;
+use kahn_code::Code;
 use kahn_job::{Job, jobs};
-use kahn_network::network::Network;
-use kahn_streams::input::Input;
-use kahn_streams::memory::NoMemory;
-use kahn_tree::tree::Role;
+use kahn_network::Network;
+use kahn_streams::{Input, NoMemory};
+use kahn_tree::Role;
 use std::alloc::Global;
 
 // The first tasks of the jobs of all instances.

@@ -1,8 +1,8 @@
 //! Which instance is taken next.
 
 ghost use Rattle.std.specs.Prelude.{◌≡◌, ℕ, ◌+◌, ◌<◌, ◌^◌, false, true, slice_index, IfSome, IfNone};
-ghost use Rattle.kahn_desk.specs.Turn.{IsBetween, IsIdle, IsSeatOf};
-ghost use Rattle.kahn_crew.specs.Floors.{HasTask};
+ghost use Rattle.kahn_desk.specs.inner.Turn.{IsBetween, IsIdle, IsSeatOf};
+ghost use Rattle.kahn_crew.specs.inner.Floors.{HasTask};
 
 use crate::boxes::Boxed;
 use crate::floor::Floor;

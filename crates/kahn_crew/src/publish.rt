@@ -2,10 +2,10 @@
 
 ghost use Rattle.std.specs.Prelude.{◌≡◌, ◌≢◌, ◌⊎◌, ℕ, ◌<◌, ◌^◌, true, false, None, Option, IfNone};
 ghost use Rattle.kahn_code.specs.Standing.{count};
-ghost use Rattle.kahn_desk.specs.Turn.{Holds, IsBetween, IsSeatOf};
-ghost use Rattle.kahn_job.specs.Works.{width_of};
-ghost use Rattle.kahn_crew.specs.Floors.{HasKept, IsFloor, IsTaskOf};
-ghost use Rattle.kahn_crew.specs.Tasks.{AgreesWith, IsPublished, Tasked};
+ghost use Rattle.kahn_desk.specs.inner.Turn.{Holds, IsBetween, IsSeatOf};
+ghost use Rattle.kahn_job.specs.inner.Works.{width_of};
+ghost use Rattle.kahn_crew.specs.inner.Floors.{HasKept, IsFloor, IsTaskOf};
+ghost use Rattle.kahn_crew.specs.inner.Tasks.{AgreesWith, IsPublished, Tasked};
 
 use crate::boxes::Boxed;
 use crate::floor::Floor;

@@ -8,7 +8,7 @@ use crate::hints::Hints;
 use crate::worker::Worker;
 use crossbeam_deque::Worker as Deque;
 use kahn_board::Seat;
-use kahn_streams::memory::NoMemory;
+use kahn_streams::NoMemory;
 use std::alloc::Global;
 
 /// The hints of all workers, and lists with room for the workers and for their seats.

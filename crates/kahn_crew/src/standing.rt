@@ -1,10 +1,10 @@
 //! Where a process stood when it was last run.
 
 ghost use Rattle.std.specs.Prelude.{◌≡◌};
-ghost use Rattle.kahn_crew.specs.Tasks.{standing_after};
+ghost use Rattle.kahn_crew.specs.inner.Tasks.{standing_after};
 
-use kahn_code::progress::Pause;
-use kahn_streams::value::Failure;
+use kahn_code::Pause;
+use kahn_streams::Failure;
 
 /// Where a process stood when it was last run, as far as more runs can't change it.
 #[derive(Clone, Copy, Debug, PartialEq, Eq)]

@@ -2,11 +2,11 @@
 
 ghost use Rattle.std.specs.Prelude.{◌≡◌, ◌<◌, length};
 ghost use Rattle.kahn_network.specs.Network.{network_of, instance_at, actual_at};
-ghost use Rattle.kahn_crew.specs.Tasks.{written_by};
+ghost use Rattle.kahn_crew.specs.inner.Tasks.{written_by};
 
-use kahn_code::code::Code;
-use kahn_network::network::Network;
-use kahn_tree::tree::Role;
+use kahn_code::Code;
+use kahn_network::Network;
+use kahn_tree::Role;
 
 /// The channel between processes that a parameter writes.
 pub(crate) fn target(

@@ -5,23 +5,19 @@ ghost use Rattle.kahn_network.specs.Network.{network_of, instance_at};
 ghost use Rattle.kahn_code.specs.Flat.{stmt_code};
 ghost use Rattle.kahn_code.specs.Standing.{count};
 ghost use Rattle.kahn_code.specs.Told.{AreCounts};
-ghost use Rattle.kahn_job.specs.Ends.{MayMeet, Meets};
-ghost use Rattle.kahn_job.specs.Berths.{HaveFlushed, IsFed, end_at};
-ghost use Rattle.kahn_job.specs.Idles.{CanGoOn};
-ghost use Rattle.kahn_job.specs.Works.{HasPaused, IsDelivered, IsJob, width_of};
-ghost use Rattle.kahn_crew.specs.Begins.{ready_task, woken_task};
+ghost use Rattle.kahn_job.specs.inner.Ends.{MayMeet, Meets};
+ghost use Rattle.kahn_job.specs.inner.Berths.{HaveFlushed, IsFed, end_at};
+ghost use Rattle.kahn_job.specs.inner.Idles.{CanGoOn};
+ghost use Rattle.kahn_job.specs.inner.Works.{HasPaused, IsDelivered, IsJob, width_of};
+ghost use Rattle.kahn_crew.specs.inner.Begins.{ready_task, woken_task};
 ghost use Rattle.kahn_crew.specs.declared.standing.Standing.TheVariants.{Going as IsGoing};
-ghost use Rattle.kahn_crew.specs.Tasks.{Continues, HasMet, IsTrueOf, standing_after};
+ghost use Rattle.kahn_crew.specs.inner.Tasks.{Continues, HasMet, IsTrueOf, standing_after};
 
 use crate::standing::Standing;
-use kahn_code::cell::Kept;
-use kahn_code::code::Code;
-use kahn_code::progress::Pause;
-use kahn_code::steps::Steps;
+use kahn_code::{Code, Kept, Pause, Steps};
 use kahn_job::{Idle, Job};
-use kahn_network::network::Network;
-use kahn_streams::input::Input;
-use kahn_streams::memory::NoMemory;
+use kahn_network::Network;
+use kahn_streams::{Input, NoMemory};
 use std::alloc::Global;
 use std::marker::Model;
 use std::sync::ledger::Ledger;
@@ -40,8 +36,8 @@ impl<'n> Model for Task<'n> {
     ghost use Rattle.kahn_tree.specs.contracts.tree.Form as form;
     ghost use Rattle.std.specs.Coded.{codes};
     ghost use Rattle.std.specs.Prelude.{◌≡◌, length};
-    ghost use Rattle.kahn_crew.specs.Tasks.{Tasked, IsTrueOf};
-    ghost use Rattle.kahn_job.specs.Works.{width_of};
+    ghost use Rattle.kahn_crew.specs.inner.Tasks.{Tasked, IsTrueOf};
+    ghost use Rattle.kahn_job.specs.inner.Works.{width_of};
 
     ghost Value = { Tasked };
 

@@ -4,11 +4,11 @@ ghost use Rattle.std.specs.Prelude.{◌≡◌, ◌⊎◌, ℕ, ◌+◌, ◌-◌,
 ghost use Rattle.kahn_network.specs.Network.{network_of};
 ghost use Rattle.kahn_board.specs.Dealt.{wired};
 ghost use Rattle.kahn_code.specs.declared.progress.Pause.TheVariants.{NoMemory as IsWant};
-ghost use Rattle.kahn_job.specs.Works.{IsDelivered};
-ghost use Rattle.kahn_desk.specs.Turn.{Holds, IsBetween, IsIdle, IsSeatOf};
-ghost use Rattle.kahn_crew.specs.Floors.{HasKept, HasTask, IsFloor, IsTaskOf};
-ghost use Rattle.kahn_crew.specs.Rests.{CanRest, IsDue};
-ghost use Rattle.kahn_crew.specs.Tasks.{Continues, IsLater, Tasked};
+ghost use Rattle.kahn_job.specs.inner.Works.{IsDelivered};
+ghost use Rattle.kahn_desk.specs.inner.Turn.{Holds, IsBetween, IsIdle, IsSeatOf};
+ghost use Rattle.kahn_crew.specs.inner.Floors.{HasKept, HasTask, IsFloor, IsTaskOf};
+ghost use Rattle.kahn_crew.specs.inner.Rests.{CanRest, IsDue};
+ghost use Rattle.kahn_crew.specs.inner.Tasks.{Continues, IsLater, Tasked};
 ghost use Rattle.kahn_crew.specs.declared.standing.Standing.TheVariants.{Going as IsGoing};
 
 use crate::boxes::Boxed;
@@ -20,12 +20,11 @@ use crate::publish::{hint, publish_all};
 use crate::standing::Standing;
 use crate::task::Task;
 use kahn_board::Seat;
-use kahn_code::progress::Pause;
-use kahn_code::steps::Steps;
+use kahn_code::{Pause, Steps};
 use kahn_desk::{
     draw_some, give, put, rest_dry, rest_over, rest_ready, stop, take_cell, tell_done,
 };
-use kahn_streams::memory::NoMemory;
+use kahn_streams::NoMemory;
 use std::sync::Wait;
 use std::sync::ledger::Ledger;
 

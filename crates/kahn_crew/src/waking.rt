@@ -2,15 +2,15 @@
 
 ghost use Rattle.std.specs.Prelude.{◌≡◌, ℕ, ◌≤◌, [], All, Some, length, map, slice_get};
 ghost use Rattle.std.specs.Vec.{vec_capacity};
-ghost use Rattle.kahn_job.specs.Idles.{CanGoOn};
-ghost use Rattle.kahn_job.specs.Works.{IsJob, Work};
-ghost use Rattle.kahn_crew.specs.Begins.{woken_task};
-ghost use Rattle.kahn_crew.specs.Tasks.{work_of};
+ghost use Rattle.kahn_job.specs.inner.Idles.{CanGoOn};
+ghost use Rattle.kahn_job.specs.inner.Works.{IsJob, Work};
+ghost use Rattle.kahn_crew.specs.inner.Begins.{woken_task};
+ghost use Rattle.kahn_crew.specs.inner.Tasks.{work_of};
 
 use crate::task::Task;
 use kahn_job::Idle;
-use kahn_network::network::Network;
-use kahn_streams::input::Input;
+use kahn_network::Network;
+use kahn_streams::Input;
 
 /// The tasks of idle jobs that go on with an input. The list that is given has room for all. It takes no memory.
 pub fn wake_all<'n>(

@@ -1,8 +1,8 @@
 //! A worker: it takes one instance after another, until there is a reason to leave.
 
 ghost use Rattle.std.specs.Prelude.{◌≡◌, ◌<◌, IfSome, IfNone};
-ghost use Rattle.kahn_desk.specs.Turn.{IsIdle, IsSeatOf};
-ghost use Rattle.kahn_crew.specs.Floors.{HasTask, IsFloor};
+ghost use Rattle.kahn_desk.specs.inner.Turn.{IsIdle, IsSeatOf};
+ghost use Rattle.kahn_crew.specs.inner.Floors.{HasTask, IsFloor};
 
 use crate::boxes::Boxed;
 use crate::floor::Floor;
@@ -12,7 +12,7 @@ use crate::pick::{pick_any, pick_hinted};
 use crate::rest::Rest;
 use crate::turn::turn;
 use kahn_board::Seat;
-use kahn_code::steps::Steps;
+use kahn_code::Steps;
 use kahn_desk::go_on;
 use std::marker::Brand;
 use std::sync::Wait;

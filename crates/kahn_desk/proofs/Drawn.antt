@@ -3,7 +3,7 @@ use Rattle.std.proofs.Common.{◌≡◌, ℕ, Option, get_or, ap, sym, refl, inl
 use Rattle.kahn_board.specs.Wires.{Wires}
 use Rattle.kahn_board.specs.Hands.{Carries}
 use Rattle.kahn_board.specs.Plays.{Sat, noted, with_draw}
-use Rattle.kahn_desk.specs.Turn.{InTurn, Knows}
+use Rattle.kahn_desk.specs.inner.Turn.{InTurn, Knows}
 
 module _ {T : Type 0} where
   -- nothing changed but how many steps it made

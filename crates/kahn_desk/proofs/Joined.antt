@@ -8,8 +8,8 @@ use Rattle.kahn_board.specs.Cuts.{kept_part, cut_part, joined}
 use Rattle.kahn_board.specs.Plays.{Sat}
 use Rattle.kahn_board.specs.declared.board.Seat.{Seat}
 use Rattle.kahn_board.proofs.Seats.{zeros}
-use Rattle.kahn_desk.specs.Turn.{Rests, IsIdle}
-use Rattle.kahn_desk.specs.Crew.{parts_of, done_of}
+use Rattle.kahn_desk.specs.inner.Turn.{Rests, IsIdle}
+use Rattle.kahn_desk.specs.inner.Crew.{parts_of, done_of}
 
 pub all_but_last : {A : Type 0} (P : A → Type 0) (xs : List A) (x : A) → All P (xs ++ x ∷ []) → All P xs × P x
 all_but_last P xs x all = (

@@ -7,7 +7,7 @@ use Rattle.kahn_board.specs.Plays.{Sat, noted}
 use Rattle.kahn_board.specs.Calls.{Was, Claims}
 use Rattle.kahn_board.specs.declared.rule.Terms.{Terms}
 use Rattle.kahn_board.specs.declared.board.Seat.{Seat}
-use Rattle.kahn_desk.specs.Turn.{InTurn, Fits, IsBetween, RestsWith}
+use Rattle.kahn_desk.specs.inner.Turn.{InTurn, Fits, IsBetween, RestsWith}
 
 module _ {T : Type 0} where
   -- it has what it had

@@ -9,7 +9,7 @@ use Rattle.kahn_board.specs.declared.view.View.{View}
 use Rattle.kahn_board.specs.declared.board.Seat.{Seat}
 use Rattle.kahn_board.specs.declared.board.Look.{Look}
 use Rattle.kahn_board.specs.declared.board.Look.TheVariants.{Halted, Quiet, NoBudget, Go}
-use Rattle.kahn_desk.specs.Turn.{Rests, IsIdle, IsSeatOf}
+use Rattle.kahn_desk.specs.inner.Turn.{Rests, IsIdle, IsSeatOf}
 
 none_total : (l : List ℕ) → ((p : ℕ) → get_or l p 0 ≡ 0) → total (λ x. x) l ≡ 0
 none_total [] h = refl

@@ -8,7 +8,7 @@ use Rattle.kahn_board.specs.Hands.{Facts, Carries}
 use Rattle.kahn_board.specs.Plays.{Sat, IsIn, Got, took, gave, waking, paid_up}
 use Rattle.kahn_board.specs.declared.view.View.{View}
 use Rattle.kahn_board.proofs.Woken.{hand_again}
-use Rattle.kahn_desk.specs.Turn.{InTurn, Tells}
+use Rattle.kahn_desk.specs.inner.Turn.{InTurn, Tells}
 
 no_more : (t : Option Tale) (e k : ℕ) → TellsEvents t e → k ≡ e → events_past t k - k ≡ 0
 no_more None e k tells is = omega arith

@@ -1,2 +1,1 @@
-pub mod Turn
-pub mod Crew
+pub mod inner

@@ -2,11 +2,11 @@
 
 ghost use Rattle.std.specs.Prelude.{◌≡◌, ℕ, ◌+◌, ◌<◌, ◌≤◌, length, All, IfOk, IfErr};
 ghost use Rattle.kahn_board.specs.Rule.{all_parts};
-ghost use Rattle.kahn_desk.specs.Turn.{IsIdle};
-ghost use Rattle.kahn_desk.specs.Crew.{parts_of, done_of};
+ghost use Rattle.kahn_desk.specs.inner.Turn.{IsIdle};
+ghost use Rattle.kahn_desk.specs.inner.Crew.{parts_of, done_of};
 
 use kahn_board::{Board, Seat, Told};
-use kahn_tree::memory::NoMemory;
+use kahn_tree::NoMemory;
 use std::alloc::Global;
 
 /// So many seats from one. `NoMemory` comes with the one seat.

@@ -7,7 +7,7 @@ ghost use Rattle.kahn_board.specs.Calls.{Was, Looks};
 ghost use Rattle.kahn_board.specs.Rule.{channel_at};
 ghost use Rattle.kahn_board.specs.declared.board.Look.{Look};
 ghost use Rattle.kahn_board.specs.declared.board.Look.TheVariants.{Go};
-ghost use Rattle.kahn_desk.specs.Turn.{IsBetween, IsIdle, IsSeatOf, Holds, Fits};
+ghost use Rattle.kahn_desk.specs.inner.Turn.{IsBetween, IsIdle, IsSeatOf, Holds, Fits};
 
 use kahn_board::{Board, Look, Rest, Seat, Told};
 

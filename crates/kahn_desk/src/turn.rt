@@ -6,7 +6,7 @@ ghost use Rattle.kahn_board.specs.Calls.{Was};
 ghost use Rattle.kahn_board.specs.Plays.{noted, with_draw};
 ghost use Rattle.kahn_board.specs.Rule.{budget_at};
 ghost use Rattle.kahn_board.specs.declared.view.View.{View};
-ghost use Rattle.kahn_desk.specs.Turn.{IsBetween, IsIdle, IsSeatOf, Holds, Knows, Tells, Fits};
+ghost use Rattle.kahn_desk.specs.inner.Turn.{IsBetween, IsIdle, IsSeatOf, Holds, Knows, Tells, Fits};
 
 use kahn_board::{Board, Draw, Rest, Seat, Told};
 use std::sync::Wait;

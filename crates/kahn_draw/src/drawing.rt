@@ -3,9 +3,8 @@
 ghost use Rattle.kahn_draw.specs.Drawing.{IsDrawn};
 
 use kahn_graph::picture_text;
-use kahn_pool::config::RunFault;
-use kahn_report::work::{WorkFault, checked};
-use kahn_report::write::write_line;
+use kahn_pool::RunFault;
+use kahn_report::{WorkFault, checked, write_line};
 use std::alloc::Global;
 use std::io::Write;
 

@@ -6,7 +6,7 @@ mod drawing;
 use drawing::draw;
 use kahn_fault::Fault;
 use kahn_line::{DrawOptions, read_draw_line, tell_line, tell_no_memory, tell_words};
-use kahn_pool::answer::Verdict;
+use kahn_pool::Verdict;
 use kahn_texts::{Texts, read_texts, tell};
 use std::io::Write;
 use std::process::ExitCode;

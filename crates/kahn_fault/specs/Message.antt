@@ -1,4 +1,4 @@
--- What the program says of a fault: one line.
+-- Believed. What the program says of a fault: one line.
 use Rattle.std.specs.Prelude.{ℕ, List, [], ◌∷◌, codes, decimal, length, min, string_bytes, Option}
 use Rattle.std.specs.Prelude.{Some, None}
 use Rattle.std.specs.List.{concat}
@@ -19,8 +19,8 @@ use Rattle.kahn_report.specs.declared.input.TextFault.{TextFault}
 use Rattle.kahn_report.specs.declared.input.TextFault.TheVariants as text
 use Rattle.kahn_report.specs.declared.read.ReadFault.{ReadFault}
 use Rattle.kahn_report.specs.declared.read.ReadFault.TheVariants as read
-use Rattle.kahn_report.specs.declared.work.WorkFault.{WorkFault}
-use Rattle.kahn_report.specs.declared.work.WorkFault.TheVariants as work
+use Rattle.kahn_report.specs.declared.working.WorkFault.{WorkFault}
+use Rattle.kahn_report.specs.declared.working.WorkFault.TheVariants as work
 use Rattle.kahn_fault.specs.declared.fault.Fault.{Fault}
 use Rattle.kahn_fault.specs.declared.fault.Fault.TheVariants.{Open, Program, InputText, Work}
 

@@ -1,5 +1,5 @@
--- The status that the program ends with.
-use Rattle.std.specs.Prelude.{ℕ, Result}
+-- Believed. The status that the program ends with.
+use Rattle.std.specs.Prelude.{ℕ, zero, suc, Bool, true, false, Result}
 use Rattle.std.specs.declared.result.Result.TheVariants.{Ok, Err}
 use Rattle.kahn_syntax.specs.declared.fault.SyntaxFault.TheVariants as syntax
 use Rattle.kahn_check.specs.declared.fault.CheckFault.TheVariants as checked
@@ -10,8 +10,8 @@ use Rattle.kahn_pool.specs.declared.config.RunFault.TheVariants as run
 use Rattle.kahn_report.specs.declared.input.TextFault.TheVariants as text
 use Rattle.kahn_report.specs.declared.read.ReadFault.{ReadFault}
 use Rattle.kahn_report.specs.declared.read.ReadFault.TheVariants as read
-use Rattle.kahn_report.specs.declared.work.WorkFault.{WorkFault}
-use Rattle.kahn_report.specs.declared.work.WorkFault.TheVariants as work
+use Rattle.kahn_report.specs.declared.working.WorkFault.{WorkFault}
+use Rattle.kahn_report.specs.declared.working.WorkFault.TheVariants as work
 use Rattle.kahn_fault.specs.declared.fault.Fault.{Fault}
 use Rattle.kahn_fault.specs.declared.fault.Fault.TheVariants.{Open, Program, InputText, Work}
 
@@ -44,3 +44,13 @@ status_of (Err (Open path)) = 5
 status_of (Err (Program path fault)) = read_status fault
 status_of (Err (InputText path fault)) = read_status fault
 status_of (Err (Work fault)) = work_status fault
+
+-- 1 in place of 0 where a line was refused
+abbrev pub with_refused : Bool → ℕ → ℕ
+with_refused false status = status
+with_refused true zero = 1
+with_refused true (suc status) = suc status
+
+-- of an answer to lines, some of which may have been refused
+abbrev pub live_status_of : Bool → Result Verdict Fault → ℕ
+live_status_of refused answer = with_refused refused (status_of answer)

@@ -1,17 +1,14 @@
 //! Why a run has no report, and what the program ends with.
 
 ghost use Rattle.std.specs.Prelude.{◌≡◌};
-ghost use Rattle.kahn_fault.specs.Status.{read_status, work_status, status_of};
+ghost use Rattle.kahn_fault.specs.Status.{live_status_of, read_status, work_status, status_of};
 
 use crate::message::path_words;
-use kahn_check::fault::CheckFault;
-use kahn_pool::answer::Verdict;
-use kahn_pool::config::RunFault;
-use kahn_report::input::TextFault;
-use kahn_report::read::ReadFault;
-use kahn_report::work::WorkFault;
-use kahn_streams::entries::InputFault;
-use kahn_syntax::fault::SyntaxFault;
+use kahn_check::CheckFault;
+use kahn_pool::{RunFault, Verdict};
+use kahn_report::{ReadFault, TextFault, WorkFault};
+use kahn_streams::InputFault;
+use kahn_syntax::SyntaxFault;
 use std::fmt;
 use std::fmt::{Display, Formatter, Write};
 use thiserror::Error;
@@ -96,5 +93,16 @@ pub fn status(answer: &Result<Verdict, Fault>) -> u8
         Err(Fault::Open(_)) => 5,
         Err(Fault::Program(_, fault) | Fault::InputText(_, fault)) => read_status(*fault),
         Err(Fault::Work(fault)) => work_status(*fault),
+    }
+}
+
+/// The status that a program ends with which takes its input line by line: that of its answer, and 1 in place of 0 where a
+/// line was refused. It takes no memory.
+pub fn live_status(answer: &Result<Verdict, Fault>, refused: bool) -> u8
+    ensures { result ≡ live_status_of refused answer.now }
+{
+    match (refused, status(answer)) {
+        (true, 0) => 1,
+        (_, status) => status,
     }
 }

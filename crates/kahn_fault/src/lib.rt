@@ -4,5 +4,5 @@
 mod fault;
 mod message;
 
-pub use fault::{Fault, status};
+pub use fault::{Fault, live_status, status};
 pub use message::{fault_line, line_counted};

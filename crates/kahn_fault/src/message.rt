@@ -7,16 +7,12 @@ ghost use Rattle.kahn_fault.specs.Message.{words_line, two_line, between_line, p
 
 use crate::fault::Fault;
 use itoa::Buffer;
-use kahn_check::fault::CheckFault;
-use kahn_pool::config::RunFault;
-use kahn_report::input::TextFault;
-use kahn_report::read::ReadFault;
-use kahn_report::work::WorkFault;
-use kahn_report::write::{WriteFault, write_line_counted};
-use kahn_streams::entries::InputFault;
-use kahn_syntax::fault::{SyntaxFault, What};
-use kahn_tree::span::Span;
-use kahn_tree::steps::Steps;
+use kahn_check::CheckFault;
+use kahn_pool::RunFault;
+use kahn_report::{ReadFault, TextFault, WorkFault, WriteFault, write_line_counted};
+use kahn_streams::InputFault;
+use kahn_syntax::{SyntaxFault, What};
+use kahn_tree::{Span, Steps};
 use std::io::Write;
 use std::marker::Brand;
 use std::sync::ledger::{Blank, Ledger};

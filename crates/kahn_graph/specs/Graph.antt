@@ -1,4 +1,4 @@
--- The picture of a network: a text in the language of Graphviz with a node for each instance and an edge for each channel,
+-- Believed. The picture of a network: a text in the language of Graphviz with a node for each instance and an edge for each channel,
 -- from its writer to its reader, with what the lines of a run's report say of them, where there is one. This project's own
 -- choice of what a picture shows.
 use Rattle.std.specs.Prelude.{◌≡◌, ℕ, ◌+◌, List, [], ◌∷◌, ◌++◌, length, codes, decimal, Bool, true, false, Option, None, Some, slice_get}

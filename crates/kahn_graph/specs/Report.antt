@@ -1,4 +1,4 @@
--- What the lines of a run's report say of an instance and of a channel, as further lines of their labels.
+-- Believed. What the lines of a run's report say of an instance and of a channel, as further lines of their labels.
 use Rattle.std.specs.Prelude.{ℕ, ◌+◌, Bool, ◌==◌, ◌||◌, List, [], ◌∷◌, Option, None, Some, codes, decimal, drop, if◌then◌else◌, length, nat_eq}
 use Rattle.std.specs.Char.{is_ascii_alphanumeric}
 use Rattle.std.specs.Option.{option_or}

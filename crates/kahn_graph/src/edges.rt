@@ -7,9 +7,8 @@ ghost use Rattle.kahn_graph.specs.Graph.{place_text, mark_text, style_text, edge
 use crate::pieces::add;
 use crate::report::add_carried;
 use itoa::Buffer;
-use kahn_network::network::{Channel, Network};
-use kahn_network::sides::Side;
-use kahn_tree::tree::{Kind, Role};
+use kahn_network::{Channel, Network, Side};
+use kahn_tree::{Kind, Role};
 use std::alloc::AllocError;
 
 // Adds where an edge of a channel begins or ends.

@@ -10,9 +10,8 @@ ghost use Rattle.kahn_graph.specs.Graph.{values_text, node_text, IsNode, IsAll, 
 use crate::pieces::add;
 use crate::report::add_ended;
 use itoa::Buffer;
-use kahn_network::network::Network;
-use kahn_tree::prints::process_prints;
-use kahn_tree::tree::{Argument, Process};
+use kahn_network::Network;
+use kahn_tree::{Argument, Process, process_prints};
 use std::alloc::AllocError;
 
 // A logical value as it is written.

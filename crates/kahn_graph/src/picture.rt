@@ -8,7 +8,7 @@ use crate::edges::add_edges;
 use crate::nodes::add_nodes;
 use crate::pieces::add;
 use crate::report::lines;
-use kahn_network::network::Network;
+use kahn_network::Network;
 use std::alloc::{AllocError, Global};
 
 // The picture of a network, with what the lines of a report say of it.

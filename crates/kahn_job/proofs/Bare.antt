@@ -8,10 +8,10 @@ use Rattle.kahn_tree.specs.declared.tree.Program.{Program}
 use Rattle.kahn_network.specs.Network.{Network, actuals_of, network_of, instance_at, idle}
 use Rattle.kahn_streams.specs.Tokens.{Lists}
 use Rattle.kahn_code.proofs.Lists.{split_at}
-use Rattle.kahn_job.specs.Ends.{End}
-use Rattle.kahn_job.specs.Ways.{nothing}
-use Rattle.kahn_job.specs.Berths.{end_at}
-use Rattle.kahn_job.specs.Openings.{AreHanded, IsFresh, end_in}
+use Rattle.kahn_job.specs.inner.Ends.{End}
+use Rattle.kahn_job.specs.inner.Ways.{nothing}
+use Rattle.kahn_job.specs.inner.Berths.{end_at}
+use Rattle.kahn_job.specs.inner.Openings.{AreHanded, IsFresh, end_in}
 
 -- the rows of the first instances
 pub record AreBare (N : Network) (rows : List (List End)) (n : ℕ) : Type 0 where

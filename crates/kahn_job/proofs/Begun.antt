@@ -11,10 +11,10 @@ use Rattle.kahn_code.specs.Lines.{Joins}
 use Rattle.kahn_code.specs.Standing.{count}
 use Rattle.kahn_code.specs.Told.{Told, seat_of}
 use Rattle.kahn_code.proofs.Lists.{AreFirst}
-use Rattle.kahn_job.specs.Ends.{End, ShareLane}
-use Rattle.kahn_job.specs.Berths.{Serves, end_at, seat_at}
-use Rattle.kahn_job.specs.Works.{Work, IsManned}
-use Rattle.kahn_job.specs.Openings.{AreHanded, AreOpening, IsFresh, IsOpening, IsReadyRow, end_in}
+use Rattle.kahn_job.specs.inner.Ends.{End, ShareLane}
+use Rattle.kahn_job.specs.inner.Berths.{Serves, end_at, seat_at}
+use Rattle.kahn_job.specs.inner.Works.{Work, IsManned}
+use Rattle.kahn_job.specs.inner.Openings.{AreHanded, AreOpening, IsFresh, IsOpening, IsReadyRow, end_in}
 use Rattle.kahn_job.proofs.Handed.{row_else}
 
 pub manned_first : (t : Program) (lists : Lists) (watch : Option ℕ) (p : ℕ) (c : Told) (row : List End) → IsOpening t lists watch p c →

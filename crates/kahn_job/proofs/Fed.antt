@@ -4,9 +4,9 @@ use Rattle.kahn_streams.specs.declared.value.Line.TheVariants.{Channel}
 use Rattle.kahn_streams.specs.Tokens.{inputs_of}
 use Rattle.kahn_lane.specs.declared.name.LaneName.{LaneName}
 use Rattle.kahn_lane.specs.Places.{lane_name}
-use Rattle.kahn_job.specs.Ends.{Lane}
-use Rattle.kahn_job.specs.Berths.{IsFed}
-use Rattle.kahn_job.specs.Ways.{end_of}
+use Rattle.kahn_job.specs.inner.Ends.{Lane}
+use Rattle.kahn_job.specs.inner.Berths.{IsFed}
+use Rattle.kahn_job.specs.inner.Ways.{end_of}
 use Rattle.kahn_job.specs.declared.port.Way.{Way}
 use Rattle.kahn_job.specs.declared.port.Way.TheVariants as way
 

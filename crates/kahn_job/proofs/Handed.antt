@@ -10,15 +10,15 @@ use Rattle.kahn_tree.specs.declared.tree.Role.TheVariants.{Inner, Input, Output}
 use Rattle.kahn_network.specs.Network.{Network, Actual, Reads, Writes, Hands, network_of, instance_at, actual_at, role_at}
 use Rattle.kahn_network.specs.Sides.{IsWriter, IsReader, IsOnly, IsWithin}
 use Rattle.kahn_network.specs.Wiring.{IsWellWired, side_at}
-use Rattle.kahn_network.specs.Sources.{IsFed}
+use Rattle.kahn_network.specs.inner.Sources.{IsFed}
 use Rattle.kahn_network.specs.declared.sides.Side.{Side}
 use Rattle.kahn_network.proofs.Sourced.{handed_within, reads, writes}
 use Rattle.kahn_streams.specs.Tokens.{Lists}
 use Rattle.kahn_code.specs.Cells.{is_output}
 use Rattle.kahn_code.specs.Lines.{Joins}
-use Rattle.kahn_job.specs.Ends.{End, ShareLane}
-use Rattle.kahn_job.specs.Berths.{Serves, end_at}
-use Rattle.kahn_job.specs.Openings.{AreEndsOf, AreHanded, IsFresh, end_in, placed}
+use Rattle.kahn_job.specs.inner.Ends.{End, ShareLane}
+use Rattle.kahn_job.specs.inner.Berths.{Serves, end_at}
+use Rattle.kahn_job.specs.inner.Openings.{AreEndsOf, AreHanded, IsFresh, end_in, placed}
 use Rattle.kahn_job.proofs.Berthed as ends
 
 pub row_here : (rows : List (List End)) (p : ℕ) (r : List End) → p < length rows → slice_index_or (slice_set rows p r) p [] ≡ r

@@ -12,12 +12,12 @@ use Rattle.kahn_streams.specs.Tokens.{Lists, inputs_of}
 use Rattle.kahn_streams.proofs.Proved.{prefix_refl, prefix_trans}
 use Rattle.kahn_code.specs.Told.{Told, IsAt}
 use Rattle.kahn_code.specs.Lines.{Joins}
-use Rattle.kahn_job.specs.Ends.{End, ShareLane}
-use Rattle.kahn_job.specs.Berths.{AreServed, Serves, end_at}
-use Rattle.kahn_job.specs.Openings.{end_in}
-use Rattle.kahn_job.specs.Works.{Work, IsManned}
-use Rattle.kahn_job.specs.Idles.{AreIdle, AreTogether, CanGoOn, HaveSettled, IsIdle, cells_of, rows_of}
-use Rattle.kahn_job.specs.Settling.{ServedBefore, AreResting, HaveStood, IsOfBefore}
+use Rattle.kahn_job.specs.inner.Ends.{End, ShareLane}
+use Rattle.kahn_job.specs.inner.Berths.{AreServed, Serves, end_at}
+use Rattle.kahn_job.specs.inner.Openings.{end_in}
+use Rattle.kahn_job.specs.inner.Works.{Work, IsManned}
+use Rattle.kahn_job.specs.inner.Idles.{AreIdle, AreTogether, CanGoOn, HaveSettled, IsIdle, cells_of, rows_of}
+use Rattle.kahn_job.specs.inner.Settling.{ServedBefore, AreResting, HaveStood, IsOfBefore}
 use Rattle.kahn_job.proofs.Settles.{AreGoing, carried_read, carried_write}
 
 pub rows_length : (ws : List Work) → length (rows_of ws) ≡ length ws

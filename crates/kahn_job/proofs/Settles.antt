@@ -8,7 +8,7 @@ use Rattle.kahn_tree.specs.declared.tree.Role.TheVariants.{Inner, Input, Output}
 use Rattle.kahn_network.specs.declared.sides.Side.{Side}
 use Rattle.kahn_network.specs.Network.{Network, Actual, Reads, Writes, Hands, network_of, instance_at, actual_at, role_at}
 use Rattle.kahn_network.specs.Sides.{IsWriter, IsReader, IsOnly, IsServed}
-use Rattle.kahn_network.specs.Sources.{IsFed}
+use Rattle.kahn_network.specs.inner.Sources.{IsFed}
 use Rattle.kahn_network.specs.Wiring.{IsWellWired, side_at}
 use Rattle.kahn_network.proofs.Sided.{channel_served}
 use Rattle.kahn_network.proofs.Sourced.{handed_within, reads, writes}
@@ -18,10 +18,10 @@ use Rattle.kahn_code.specs.Cells.{is_output}
 use Rattle.kahn_code.specs.Lines.{Joins}
 use Rattle.kahn_lane.specs.declared.name.LaneName.{LaneName}
 use Rattle.kahn_lane.specs.Places.{lane_name, moved_to}
-use Rattle.kahn_job.specs.Ends.{End, ShareLane}
-use Rattle.kahn_job.specs.Ways.{nothing}
-use Rattle.kahn_job.specs.Openings.{end_in, placed}
-use Rattle.kahn_job.specs.Settling.{AreAlike, AreElsewhere, AreResting, AreSettled, CanFeed, CanSettle, HasExchanged, HasPlace, HasSettled, HaveExchanged, HasStood, HaveStood, IsCarried, IsOfBefore, ServedBefore, end_of_side}
+use Rattle.kahn_job.specs.inner.Ends.{End, ShareLane}
+use Rattle.kahn_job.specs.inner.Ways.{nothing}
+use Rattle.kahn_job.specs.inner.Openings.{end_in, placed}
+use Rattle.kahn_job.specs.inner.Settling.{AreAlike, AreElsewhere, AreResting, AreSettled, CanFeed, CanSettle, HasExchanged, HasPlace, HasSettled, HaveExchanged, HasStood, HaveStood, IsCarried, IsOfBefore, ServedBefore, end_of_side}
 use Rattle.kahn_job.proofs.Handed as handed
 use Rattle.kahn_job.proofs.Handed.{found, placed_count, placed_sizes}
 

@@ -3,9 +3,8 @@
 ghost use Rattle.std.specs.Prelude.{◌≡◌, length, map, IfOk};
 ghost use Rattle.kahn_network.specs.Network.{network_of, instance_at};
 
-use kahn_code::cell::{Cell, Kept};
-use kahn_streams::carried::Carried;
-use kahn_streams::memory::NoMemory;
+use kahn_code::{Cell, Kept};
+use kahn_streams::{Carried, NoMemory};
 use std::alloc::Global;
 
 // The same tokens once more.

@@ -1,8 +1,8 @@
 //! What the making of jobs refuses with.
 
-use kahn_code::code::CodeFault;
+use kahn_code::CodeFault;
 use kahn_lane::LaneFault;
-use kahn_streams::memory::NoMemory;
+use kahn_streams::NoMemory;
 use std::alloc::{AllocError, AllocFailed};
 use thiserror::Error;
 

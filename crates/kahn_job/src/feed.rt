@@ -6,10 +6,8 @@ ghost use Rattle.kahn_lane.specs.Places.{lane_name, token_name};
 ghost use Rattle.kahn_streams.specs.Tokens.{Lists, Names, inputs_of};
 ghost use Rattle.kahn_tree.specs.declared.tree.Role.TheVariants.{Input as InputRole};
 
-use kahn_network::network::Network;
-use kahn_streams::about::About;
-use kahn_streams::input::Input;
-use kahn_streams::token::Token;
+use kahn_network::Network;
+use kahn_streams::{About, Input, Token};
 use std::marker::Model;
 
 /// An input channel, and the place of the token that is taken next. Of which network it is and for which input, contracts
@@ -29,7 +27,7 @@ impl Model for Feed {
     ghost use Rattle.std.specs.Coded.{codes};
     ghost use Rattle.std.specs.Prelude.{◌≡◌, ◌<◌, length};
     ghost use Rattle.kahn_network.specs.Network.{network_of, role_at};
-    ghost use Rattle.kahn_job.specs.Feeding.{Feeding};
+    ghost use Rattle.kahn_job.specs.inner.Feeding.{Feeding};
 
     ghost Value = { Feeding };
 

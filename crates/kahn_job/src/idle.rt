@@ -1,18 +1,17 @@
 //! A job on which nobody works, while its input may grow.
 
 ghost use Rattle.std.specs.Prelude.{◌≡◌, ◌<◌, length, map, slice_set, IfOk};
-ghost use Rattle.kahn_job.specs.Berths.{end_at};
-ghost use Rattle.kahn_job.specs.Idles.{CanGoOn};
-ghost use Rattle.kahn_job.specs.Works.{width_of};
+ghost use Rattle.kahn_job.specs.inner.Berths.{end_at};
+ghost use Rattle.kahn_job.specs.inner.Idles.{CanGoOn};
+ghost use Rattle.kahn_job.specs.inner.Works.{width_of};
 
 use crate::copies::lists_of;
 use crate::job::Job;
 use crate::port::Port;
 use crate::ports::Ends;
-use kahn_code::cell::{Cell, Kept};
-use kahn_network::network::Network;
-use kahn_streams::input::Input;
-use kahn_streams::memory::NoMemory;
+use kahn_code::{Cell, Kept};
+use kahn_network::Network;
+use kahn_streams::{Input, NoMemory};
 use std::alloc::Global;
 use std::marker::Model;
 use std::mem;
@@ -32,7 +31,7 @@ impl Model for Idle {
     ghost use Rattle.kahn_tree.specs.contracts.tree.Form as form;
     ghost use Rattle.std.specs.Coded.{codes};
     ghost use Rattle.std.specs.Prelude.{◌≡◌, length};
-    ghost use Rattle.kahn_job.specs.Works.{Work, width_of};
+    ghost use Rattle.kahn_job.specs.inner.Works.{Work, width_of};
 
     ghost Value = { Work };
 

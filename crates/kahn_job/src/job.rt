@@ -4,17 +4,14 @@ ghost use Rattle.std.specs.Prelude.{◌≡◌, ◌+◌, ◌*◌, ◌^◌, ◌<�
 ghost use Rattle.kahn_network.specs.Network.{network_of, instance_at};
 ghost use Rattle.kahn_code.specs.Flat.{stmt_code};
 ghost use Rattle.kahn_code.specs.Told.{AreCounts, IsStill};
-ghost use Rattle.kahn_job.specs.Ends.{MayMeet, Meets};
-ghost use Rattle.kahn_job.specs.Berths.{HaveAdvanced, HaveFlushed, HaveStayed, IsFed, end_at};
-ghost use Rattle.kahn_job.specs.Works.{HasPaused, IsDelivered, IsJob, IsManned, width_of};
+ghost use Rattle.kahn_job.specs.inner.Ends.{MayMeet, Meets};
+ghost use Rattle.kahn_job.specs.inner.Berths.{HaveAdvanced, HaveFlushed, HaveStayed, IsFed, end_at};
+ghost use Rattle.kahn_job.specs.inner.Works.{HasPaused, IsDelivered, IsJob, IsManned, width_of};
 
 use crate::idle::Idle;
 use crate::ports::Ends;
-use kahn_code::cell::{Cell, Kept};
-use kahn_code::code::Code;
-use kahn_code::progress::Pause;
-use kahn_code::steps::Steps;
-use kahn_streams::memory::NoMemory;
+use kahn_code::{Cell, Code, Kept, Pause, Steps};
+use kahn_streams::NoMemory;
 use std::marker::Model;
 use std::sync::ledger::Ledger;
 
@@ -30,7 +27,7 @@ impl<'n> Model for Job<'n> {
     ghost use Rattle.kahn_tree.specs.contracts.tree.Action as action;
     ghost use Rattle.kahn_tree.specs.contracts.tree.Form as form;
     ghost use Rattle.std.specs.Coded.{codes};
-    ghost use Rattle.kahn_job.specs.Works.{Work, IsManned};
+    ghost use Rattle.kahn_job.specs.inner.Works.{Work, IsManned};
 
     ghost Value = { Work };
 

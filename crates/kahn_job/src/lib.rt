@@ -12,6 +12,7 @@ mod ports;
 mod rows;
 mod settling;
 
+// For the crates above.
 pub use fault::JobFault;
 pub use idle::Idle;
 pub use job::Job;

@@ -3,16 +3,15 @@
 ghost use Rattle.std.specs.Prelude.{◌≡◌, ◌<◌, length, IfOk};
 ghost use Rattle.kahn_network.specs.Network.{network_of};
 ghost use Rattle.kahn_streams.specs.Tokens.{Lists};
-ghost use Rattle.kahn_job.specs.Openings.{AreOpening, IsOpening, IsReadyRow};
+ghost use Rattle.kahn_job.specs.inner.Openings.{AreOpening, IsOpening, IsReadyRow};
 
 use crate::fault::JobFault;
 use crate::job::Job;
 use crate::ports::Ends;
 use crate::rows::{Row, all_rows, take_row};
-use kahn_code::cell::Cell;
-use kahn_code::code::Code;
-use kahn_network::network::Network;
-use kahn_streams::input::Input;
+use kahn_code::{Cell, Code};
+use kahn_network::Network;
+use kahn_streams::Input;
 use std::alloc::Global;
 
 // The cell of an instance at its opening, for the input that is named.

@@ -6,18 +6,15 @@ ghost use Rattle.kahn_lane.specs.LaneEnds.{SameSender, flushed, left, sender_lan
 ghost use Rattle.kahn_lane.specs.Places.{moved_to, token_name};
 ghost use Rattle.kahn_lane.specs.declared.name.LaneName.{LaneName};
 ghost use Rattle.kahn_tree.specs.declared.tree.Role.TheVariants.{Input as InputRole};
-ghost use Rattle.kahn_job.specs.Ends.{Advances, MayMeet, Meets, HasRoom, IsDry, IsFlushed, IsReady, IsSame, ShareLane};
-ghost use Rattle.kahn_job.specs.Berths.{HasStayed, IsFed, IsFor};
-ghost use Rattle.kahn_job.specs.Settling.{CanFeed, CanSettle, HasSettled};
-ghost use Rattle.kahn_job.specs.Ways.{taking, feeding, putting, nothing};
+ghost use Rattle.kahn_job.specs.inner.Ends.{Advances, MayMeet, Meets, HasRoom, IsDry, IsFlushed, IsReady, IsSame, ShareLane};
+ghost use Rattle.kahn_job.specs.inner.Berths.{HasStayed, IsFed, IsFor};
+ghost use Rattle.kahn_job.specs.inner.Settling.{CanFeed, CanSettle, HasSettled};
+ghost use Rattle.kahn_job.specs.inner.Ways.{taking, feeding, putting, nothing};
 
 use crate::feed::Feed;
 use kahn_lane::{Receiver, Sender, meet, settle};
-use kahn_network::network::Network;
-use kahn_streams::about::About;
-use kahn_streams::input::Input;
-use kahn_streams::memory::NoMemory;
-use kahn_streams::token::Token;
+use kahn_network::Network;
+use kahn_streams::{About, Input, NoMemory, Token};
 use std::marker::Model;
 
 // What a parameter does. The reader's end of a lane remembers, for contracts alone, how many segments it knew to have left
@@ -41,13 +38,13 @@ impl Model for Port {
     ghost use Rattle.kahn_tree.specs.contracts.tree.Action as action;
     ghost use Rattle.kahn_tree.specs.contracts.tree.Form as form;
     ghost use Rattle.std.specs.Coded.{codes};
-    ghost use Rattle.kahn_job.specs.Ends.{End};
+    ghost use Rattle.kahn_job.specs.inner.Ends.{End};
 
     ghost Value = { End };
 
     ghost coded = { Prim.hlevel (codes, action.the_row.coded, form.the_row.coded) };
 
-    ghost use Rattle.kahn_job.specs.Ways.{end_of};
+    ghost use Rattle.kahn_job.specs.inner.Ways.{end_of};
 
     ghost view = { λ p. end_of p.way };
 }

@@ -1,15 +1,13 @@
 //! The ends of the channels of an instance.
 
 ghost use Rattle.std.specs.Prelude.{◌≡◌, ◌<◌, ◌≤◌, ◌+◌, true, length, OnOk};
-ghost use Rattle.kahn_job.specs.Berths.{AreFlushed, AreServed, HaveFlushed, HaveStayed, IsFed, end_at, seat_at};
-ghost use Rattle.kahn_job.specs.Ends.{MayMeet, Meets};
+ghost use Rattle.kahn_job.specs.inner.Berths.{AreFlushed, AreServed, HaveFlushed, HaveStayed, IsFed, end_at, seat_at};
+ghost use Rattle.kahn_job.specs.inner.Ends.{MayMeet, Meets};
 
 use crate::port::Port;
-use kahn_code::ports::Ports;
-use kahn_network::network::Network;
-use kahn_streams::input::Input;
-use kahn_streams::memory::NoMemory;
-use kahn_streams::token::Token;
+use kahn_code::Ports;
+use kahn_network::Network;
+use kahn_streams::{Input, NoMemory, Token};
 use std::marker::Model;
 use std::mem;
 
@@ -27,7 +25,7 @@ impl<'n> Model for Ends<'n> {
     ghost use Rattle.kahn_tree.specs.contracts.tree.Action as action;
     ghost use Rattle.kahn_tree.specs.contracts.tree.Form as form;
     ghost use Rattle.std.specs.Coded.{codes};
-    ghost use Rattle.kahn_job.specs.Berths.{Berth, AreServed};
+    ghost use Rattle.kahn_job.specs.inner.Berths.{Berth, AreServed};
 
     ghost Value = { Berth };
 
@@ -40,8 +38,8 @@ impl<'n> Model for Ends<'n> {
 
 impl<'n> Ports for Ends<'n> {
     ghost use Rattle.std.specs.Prelude.{List};
-    ghost use Rattle.kahn_job.specs.Berths.{seat_at, end_at, identities};
-    ghost use Rattle.kahn_job.specs.Ends.{Identity, IsReady, IsDry, HasRoom};
+    ghost use Rattle.kahn_job.specs.inner.Berths.{seat_at, end_at, identities};
+    ghost use Rattle.kahn_job.specs.inner.Ends.{Identity, IsReady, IsDry, HasRoom};
 
     ghost seat = { seat_at };
 

@@ -3,16 +3,15 @@
 ghost use Rattle.std.specs.Prelude.{◌≡◌, ◌+◌, ◌<◌, [], length, replicate, slice_index_or, slice_set, Some, IfOk, OnOk};
 ghost use Rattle.kahn_network.specs.Network.{network_of, instance_at};
 ghost use Rattle.kahn_network.specs.declared.sides.Side.{Side as SideOf};
-ghost use Rattle.kahn_job.specs.Openings.{AreEndsOf, AreHanded, placed};
-ghost use Rattle.kahn_job.specs.Ways.{nothing};
+ghost use Rattle.kahn_job.specs.inner.Openings.{AreEndsOf, AreHanded, placed};
+ghost use Rattle.kahn_job.specs.inner.Ways.{nothing};
 
 use crate::fault::JobFault;
 use crate::port::Port;
 use kahn_lane::lane;
-use kahn_network::network::Network;
-use kahn_network::sides::Side;
-use kahn_streams::input::Input;
-use kahn_tree::tree::Role;
+use kahn_network::{Network, Side};
+use kahn_streams::Input;
+use kahn_tree::Role;
 use std::alloc::Global;
 use std::marker::Model;
 use std::mem;
@@ -28,7 +27,7 @@ impl Model for Row {
     ghost use Rattle.kahn_tree.specs.contracts.tree.Action as action;
     ghost use Rattle.kahn_tree.specs.contracts.tree.Form as form;
     ghost use Rattle.std.specs.Coded.{codes};
-    ghost use Rattle.kahn_job.specs.Ends.{End};
+    ghost use Rattle.kahn_job.specs.inner.Ends.{End};
 
     ghost Value = { List End };
 

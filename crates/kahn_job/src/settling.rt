@@ -2,17 +2,15 @@
 
 ghost use Rattle.std.specs.Prelude.{◌≡◌, ◌<◌, length, Some, OnOk, MatchResult};
 ghost use Rattle.kahn_network.specs.Network.{network_of};
-ghost use Rattle.kahn_job.specs.Idles.{HaveSettled, cells_of, rows_of};
-ghost use Rattle.kahn_job.specs.Openings.{placed};
-ghost use Rattle.kahn_job.specs.Settling.{AreAlike, AreResting, AreSettled, CanFeed, CanSettle, HasExchanged, HasPlace, HaveExchanged, HaveStood, end_of_side};
-ghost use Rattle.kahn_job.specs.Ways.{nothing};
+ghost use Rattle.kahn_job.specs.inner.Idles.{HaveSettled, cells_of, rows_of};
+ghost use Rattle.kahn_job.specs.inner.Openings.{placed};
+ghost use Rattle.kahn_job.specs.inner.Settling.{AreAlike, AreResting, AreSettled, CanFeed, CanSettle, HasExchanged, HasPlace, HaveExchanged, HaveStood, end_of_side};
+ghost use Rattle.kahn_job.specs.inner.Ways.{nothing};
 
 use crate::idle::Idle;
 use crate::port::Port;
-use kahn_network::network::Network;
-use kahn_network::sides::Side;
-use kahn_streams::input::Input;
-use kahn_streams::memory::NoMemory;
+use kahn_network::{Network, Side};
+use kahn_streams::{Input, NoMemory};
 
 // Gives a parameter another end, and gives out the one it had.
 fn exchange(idles: &mut [Idle], side: Side, port: Port) -> Port

@@ -9,7 +9,7 @@ use Rattle.kahn_lane.specs.declared.segments.Segment.{Segment}
 use Rattle.kahn_lane.specs.declared.segments.Stage.{Stage}
 use Rattle.kahn_lane.specs.declared.segments.Stage.TheVariants.{Opening, Telling, Running}
 use Rattle.kahn_lane.specs.Places.{Named, told, first_place, mark, opening, telling, both, owner, writing, reading, spent}
-use Rattle.kahn_lane.specs.LaneRule.{size, Filled, Chain, Writes, Reads, Fits, IsRunning, IsOpening, IsTelling, Laned, Tells, Flushes, Steals, Empties}
+use Rattle.kahn_lane.specs.inner.LaneRule.{size, Filled, Chain, Writes, Reads, Fits, IsRunning, IsOpening, IsTelling, Laned, Tells, Flushes, Steals, Empties}
 use Rattle.kahn_lane.proofs.Views.{at_end, All, all_set, all_one, one, all_more}
 
 -- a pass without rights fits any rule

@@ -7,7 +7,7 @@ use Rattle.kahn_streams.specs.declared.token.Token.{Token}
 use Rattle.kahn_streams.specs.declared.value.Line.TheVariants.{Channel}
 use Rattle.kahn_lane.specs.declared.name.LaneName.{LaneName}
 use Rattle.kahn_lane.specs.declared.segments.Segment.{Segment}
-use Rattle.kahn_lane.specs.LaneRule.{tokens_of}
+use Rattle.kahn_lane.specs.inner.LaneRule.{tokens_of}
 use Rattle.kahn_lane.specs.Places.{Named, Placed, token_name, lane_name, moved_to}
 
 pub placed_more : (c : Named) (n : ℕ) (xs : List Token) (x t : Token) → Placed c n xs → x ≡ t → c ≡ Some (token_name t) → t.place ≡ n + length xs → Placed c n (xs ++ x ∷ [])

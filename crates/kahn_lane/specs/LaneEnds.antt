@@ -1,4 +1,4 @@
--- What a contract sees of the two ends of a lane.
+-- Believed. What a contract sees of the two ends of a lane.
 use Rattle.std.specs.Prelude.{◌≡◌, ℕ, ◌+◌, ◌-◌, ◌<◌, vec_len, vec_capacity}
 use Rattle.kahn_lane.specs.Places.{Named}
 use Rattle.crossbeam_deque.specs.Handles.{view, taken as left_front, worker_view, worker_deque, stealer_deque}

@@ -1,4 +1,4 @@
--- Tokens at consecutive places, and what a pass of a lane knows.
+-- Believed. Tokens at consecutive places, and what a pass of a lane knows.
 use Rattle.std.specs.Prelude.{◌≡◌, ℕ, ◌+◌, Bool, true, false, List, [], ◌∷◌, ⊤, Option, Some, None}
 use Rattle.std.specs.Coded.{Coded-set, coded_ℕ, coded_option, ×_prop, Unit-prop}
 use Rattle.kahn_tree.specs.declared.tree.Program.{Program}

@@ -1,6 +1,6 @@
 //! What the making of a lane or a relay refuses with.
 
-use kahn_streams::memory::NoMemory;
+use kahn_streams::NoMemory;
 use std::alloc::AllocError;
 use thiserror::Error;
 

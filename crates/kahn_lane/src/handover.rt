@@ -9,7 +9,7 @@ ghost use Rattle.kahn_lane.specs.RelayEnds.{giver_relay, taker_relay, given, got
 use crate::ends::{Blank, Giver, Got, InOrder, Log, Roles, Sent, Taker, Total};
 use crate::fault::LaneFault;
 use crossbeam_deque::{Steal, Worker};
-use kahn_streams::memory::NoMemory;
+use kahn_streams::NoMemory;
 use std::alloc::Allocator;
 use std::mem;
 

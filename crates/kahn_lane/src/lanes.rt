@@ -7,7 +7,7 @@
 ghost use Rattle.std.specs.Prelude.{◌≡◌, ◌+◌, ◌≤◌, ◌<◌, ◌^◌, ◌⊎◌, true, false, vec_len, vec_capacity, IfOk, IsOk, IsSome, MatchResult, MatchOption, Some};
 ghost use Rattle.crossbeam_deque.specs.Handles.{worker_view, worker_deque, worker_flavor, stealer_deque, stealer_flavor};
 ghost use Rattle.kahn_lane.specs.Places.{lane_name, token_name, tag_name, owner};
-ghost use Rattle.kahn_lane.specs.LaneRule.{size, tokens_of};
+ghost use Rattle.kahn_lane.specs.inner.LaneRule.{size, tokens_of};
 ghost use Rattle.kahn_lane.specs.LaneEnds.{sender_lane, receiver_lane, sender_name, receiver_name, filled, flushed, sent, HasRoom, taken, waiting, IsReady, known, left, SameSender, SameReceiver};
 
 use crate::fault::LaneFault;
@@ -17,12 +17,8 @@ use crate::segments::{
     Stolen, Telling,
 };
 use crossbeam_deque::Steal;
-use kahn_network::network::Network;
-use kahn_streams::carried::Carried;
-use kahn_streams::input::Input;
-use kahn_streams::memory::NoMemory;
-use kahn_streams::token::Token;
-use kahn_streams::value::Line;
+use kahn_network::Network;
+use kahn_streams::{Carried, Input, Line, NoMemory, Token};
 use std::alloc::Allocator;
 use std::mem;
 

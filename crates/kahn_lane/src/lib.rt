@@ -6,18 +6,20 @@
 //! its maker was given.
 #![tactic(auto)]
 
-pub mod ends;
-pub mod fault;
-pub mod handover;
-pub mod lanes;
-pub mod lifted;
-pub mod name;
-pub mod segments;
-pub mod settling;
+mod ends;
+mod fault;
+mod handover;
+mod lanes;
+mod lifted;
+mod name;
+mod segments;
+mod settling;
 
 pub use ends::{Giver, Taker};
 pub use fault::LaneFault;
 pub use handover::relay;
 pub use lanes::{lane, meet};
 pub use segments::{Receiver, Sender};
+
+// For the crates above.
 pub use settling::settle;

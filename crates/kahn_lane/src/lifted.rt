@@ -4,7 +4,7 @@ ghost use Rattle.std.specs.Prelude.{◌≡◌, Some};
 ghost use Rattle.kahn_lane.specs.Places.{Placed, Placed-prop, lane_name-prop, moved_to, tag_name};
 
 use crate::name::Tag;
-use kahn_streams::carried::Carried;
+use kahn_streams::Carried;
 use std::alloc::{Allocator, Global};
 
 /// Tokens at consecutive places that were of one input and are lifted to another.

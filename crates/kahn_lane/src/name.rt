@@ -6,10 +6,8 @@
 ghost use Rattle.std.specs.Prelude.{◌≡◌, ◌≤◌, ◌^◌};
 ghost use Rattle.kahn_streams.specs.Tokens.{Names};
 
-use kahn_network::network::Network;
-use kahn_streams::about::About;
-use kahn_streams::input::Input;
-use kahn_streams::value::Line;
+use kahn_network::Network;
+use kahn_streams::{About, Input, Line};
 
 /// A network, an input and a line. Contracts alone speak of it: no value of it is made.
 pub struct LaneName {

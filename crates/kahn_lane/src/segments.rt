@@ -18,8 +18,7 @@ ghost use Rattle.kahn_lane.specs.declared.segments.Stage.TheVariants.{Running};
 use crate::name::{LaneName, Tag};
 use crossbeam_deque::protocol::{Join, Lesson, Outcome, Protocol, Split};
 use crossbeam_deque::{Pass, Stealer, Worker};
-use kahn_streams::carried::Carried;
-use kahn_streams::value::Line;
+use kahn_streams::{Carried, Line};
 use std::alloc::{Allocator, Global};
 
 /// A run of tokens at consecutive places: one alone, which takes no list, or those of a list. The first segment of a lane
@@ -58,7 +57,7 @@ pub struct InPlaces;
 
 impl<A: Allocator> Protocol<Segment<A>, Mark> for InPlaces {
     ghost use Rattle.kahn_lane.specs.Places.{opening, spent};
-    ghost use Rattle.kahn_lane.specs.LaneRule.{Laned};
+    ghost use Rattle.kahn_lane.specs.inner.LaneRule.{Laned};
 
     ghost holds = { Laned };
 
@@ -71,7 +70,7 @@ impl<A: Allocator> Protocol<Segment<A>, Mark> for InPlaces {
 pub struct Telling;
 
 impl<A: Allocator> Outcome<Segment<A>, Mark> for Telling {
-    ghost use Rattle.kahn_lane.specs.LaneRule.{Tells};
+    ghost use Rattle.kahn_lane.specs.inner.LaneRule.{Tells};
 
     ghost then = { λ _. Tells };
 }
@@ -130,7 +129,7 @@ impl Join<Mark> for Bare {
 pub struct Flushed;
 
 impl<A: Allocator> Outcome<Segment<A>, Mark> for Flushed {
-    ghost use Rattle.kahn_lane.specs.LaneRule.{Flushes};
+    ghost use Rattle.kahn_lane.specs.inner.LaneRule.{Flushes};
 
     ghost then = { Flushes };
 }
@@ -140,7 +139,7 @@ pub struct Stolen;
 
 impl<A: Allocator> Outcome<Segment<A>, Mark> for Stolen {
     ghost use Rattle.std.specs.Prelude.{◌≤◌};
-    ghost use Rattle.kahn_lane.specs.LaneRule.{Steals};
+    ghost use Rattle.kahn_lane.specs.inner.LaneRule.{Steals};
 
     ghost then = { Steals };
 
@@ -152,7 +151,7 @@ pub struct Emptied;
 
 impl<A: Allocator> Outcome<Segment<A>, Mark> for Emptied {
     ghost use Rattle.std.specs.Prelude.{◌≡◌};
-    ghost use Rattle.kahn_lane.specs.LaneRule.{Empties};
+    ghost use Rattle.kahn_lane.specs.inner.LaneRule.{Empties};
 
     ghost then = { Empties };
 

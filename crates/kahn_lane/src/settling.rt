@@ -8,8 +8,8 @@ ghost use Rattle.std.specs.Prelude.{◌≡◌, ◌+◌, ◌-◌, ◌≤◌, ◌<
 ghost use Rattle.crossbeam_deque.specs.Handles.{worker_view, worker_flavor};
 ghost use Rattle.kahn_lane.specs.Places.{Placed, moved_to, tag_name, token_name};
 ghost use Rattle.kahn_lane.specs.LaneEnds.{sender_lane, receiver_lane, sender_name, receiver_name, flushed, sent, taken, waiting, IsReady, known};
-ghost use Rattle.kahn_lane.specs.LaneRule.{size, tokens_of};
-ghost use Rattle.kahn_lane.specs.Settles.{IsGrown, LiftsTo, SameLifted};
+ghost use Rattle.kahn_lane.specs.inner.LaneRule.{size, tokens_of};
+ghost use Rattle.kahn_lane.specs.inner.Settles.{IsGrown, LiftsTo, SameLifted};
 ghost use Rattle.kahn_lane.specs.declared.name.LaneName.{LaneName};
 ghost use Rattle.kahn_lane.specs.declared.segments.Stage.TheVariants.{Running};
 
@@ -18,9 +18,7 @@ use crate::lanes::lane_from;
 use crate::lifted::Lifted;
 use crate::name::move_tag;
 use crate::segments::{Behind, Emptied, LaneWorker, Receiver, Segment, Sender, Sides};
-use kahn_streams::carried::Carried;
-use kahn_streams::input::Input;
-use kahn_streams::memory::NoMemory;
+use kahn_streams::{Carried, Input, NoMemory};
 use std::alloc::{Allocator, Global};
 
 impl<A: Allocator + Drop> Lifted<A> {

@@ -170,14 +170,14 @@ bound_parsed = (apart, (apart, (apart, (apart, ((λ e. refl), (apart, tt))))))
 -- the options that are made of what a parse found are those that the words ask for
 pub asked : (cmd : Command) (m : ArgMatches) (words : List Text) → IsParsedFrom cmd m → HasMatchesOf (app_of cmd) words m → app_of cmd ≡ kahn_app
     → (o : Options) → option_map string_bytes o.program ≡ first_value (found_of m) (codes "PROGRAM")
-    → option_map string_bytes o.input ≡ first_value (found_of m) (codes "input") → IsSet (found_of m) (codes "bound") o.config
+    → option_map string_bytes o.input ≡ first_value (found_of m) (codes "input") → IsSet (found_of m) 4 (codes "bound") o.config
     → IsAsked words o
 asked cmd m words p matches is o program input set =
     let f = found_of m in
     let rows : rows_of f ≡ matches_of kahn_app words = (matches (ap is_simple is)).0 ∙ ap (λ (a : App). matches_of a words) is in
     let text : (id : Text) → first_value f id ≡ text_of words id = λ id. first_value-rows f id ∙ ap (first_of id) rows in
     let one : (id : Text) → one_text f id ≡ one_of id (matches_of kahn_app words) = λ id. one_text-rows f id ∙ ap (one_of id) rows in
-    let workers = known 1 16 4 (one_text f (codes "workers")) o.config.workers set.workers
+    let workers = known 1 16 4 (one_text f (codes "workers")) o.config.workers set.threads
     (passed kahn_app refl refl cmd m p is (codes "workers") 1 16 workers_parsed 119 refl ((λ e. omega arith), (λ e. omega arith), (λ e. omega arith))) (omega arith) (omega arith) in
     let quantum = known 1 1000000 1000 (one_text f (codes "quantum")) o.config.quantum set.quantum
     (passed kahn_app refl refl cmd m p is (codes "quantum") 1 1000000 quantum_parsed 113 refl ((λ e. omega arith), (λ e. omega arith), (λ e. omega arith))) (omega arith) (omega arith) in

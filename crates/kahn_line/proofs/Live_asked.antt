@@ -1,10 +1,10 @@
 -- What a parse of the words gives the options of the program that is fed line by line.
-use Rattle.std.proofs.Common.{◌≡◌, ◌∙◌, List, refl, ap, arith, codes}
+use Rattle.std.proofs.Common.{◌≡◌, ◌∙◌, not, ◌==◌, List, refl, ap, arith, codes}
 use Rattle.std.specs.Prelude.{option_map, string_bytes}
 use Rattle.clap.specs.Built.{IsParsedFrom}
 use Rattle.clap.specs.Matches.{found_of, first_value, one_text}
 use Rattle.clap.specs.Simple.{App, HasMatchesOf, app_of, is_simple, matches_of}
-use Rattle.clap.specs.Walk.{Text, first_of, one_of, rows_of}
+use Rattle.clap.specs.Walk.{Text, count_of, first_of, one_of, rows_of}
 use Rattle.clap.specs.declared.builder.command.Command.{Command}
 use Rattle.clap.specs.declared.builder.value_parser.ValueParser.TheVariants.{Unsigned}
 use Rattle.clap.specs.declared.parser.matches.ArgMatches.{ArgMatches}
@@ -15,24 +15,25 @@ use Rattle.kahn_line.specs.declared.live.LiveOptions.{LiveOptions}
 use Rattle.kahn_line.proofs.Asked.{ParsedAs, apart, known, passed}
 
 workers_parsed : ParsedAs live_app.top.rules (codes "workers") (Unsigned 1 16)
-workers_parsed = (apart, ((λ e. refl), (apart, (apart, (apart, tt)))))
+workers_parsed = (apart, ((λ e. refl), (apart, (apart, (apart, (apart, tt))))))
 
 quantum_parsed : ParsedAs live_app.top.rules (codes "quantum") (Unsigned 1 1000000)
-quantum_parsed = (apart, (apart, ((λ e. refl), (apart, (apart, tt)))))
+quantum_parsed = (apart, (apart, ((λ e. refl), (apart, (apart, (apart, tt))))))
 
 step_parsed : ParsedAs live_app.top.rules (codes "step") (Unsigned 1 281474976710655)
-step_parsed = (apart, (apart, (apart, ((λ e. refl), (apart, tt)))))
+step_parsed = (apart, (apart, (apart, ((λ e. refl), (apart, (apart, tt))))))
 
 -- the options that are made of what a parse found are those that the words ask for
 pub asked_live : (cmd : Command) (m : ArgMatches) (words : List Text) → IsParsedFrom cmd m → HasMatchesOf (app_of cmd) words m → app_of cmd ≡ live_app
-    → (o : LiveOptions) → option_map string_bytes o.program ≡ first_value (found_of m) (codes "PROGRAM") → IsSet (found_of m) (codes "step") o.config
+    → (o : LiveOptions) → option_map string_bytes o.program ≡ first_value (found_of m) (codes "PROGRAM") → IsSet (found_of m) 1 (codes "step") o.config
+    → o.keep_going ≡ not (count_of (codes "keep-going") (rows_of (found_of m)) == 0)
     → IsLive words o
-asked_live cmd m words p matches is o program set =
+asked_live cmd m words p matches is o program set keep =
     let f = found_of m in
     let rows : rows_of f ≡ matches_of live_app words = (matches (ap is_simple is)).0 ∙ ap (λ (a : App). matches_of a words) is in
     let text : (id : Text) → first_value f id ≡ live_text words id = λ id. first_value-rows f id ∙ ap (first_of id) rows in
     let one : (id : Text) → one_text f id ≡ one_of id (matches_of live_app words) = λ id. one_text-rows f id ∙ ap (one_of id) rows in
-    let workers = known 1 16 4 (one_text f (codes "workers")) o.config.workers set.workers
+    let workers = known 1 16 1 (one_text f (codes "workers")) o.config.workers set.threads
     (passed live_app refl refl cmd m p is (codes "workers") 1 16 workers_parsed 119 refl ((λ e. omega arith), (λ e. omega arith), (λ e. omega arith))) (omega arith) (omega arith) in
     let quantum = known 1 1000000 1000 (one_text f (codes "quantum")) o.config.quantum set.quantum
     (passed live_app refl refl cmd m p is (codes "quantum") 1 1000000 quantum_parsed 113 refl ((λ e. omega arith), (λ e. omega arith), (λ e. omega arith))) (omega arith) (omega arith) in
@@ -42,8 +43,9 @@ asked_live cmd m words p matches is o program set =
     record {
       program = program ∙ text (codes "PROGRAM");
       watch = set.watch ∙ text (codes "watch");
-      workers = workers.0 ∙ ap (number_or 4) (one (codes "workers"));
+      workers = workers.0 ∙ ap (number_or 1) (one (codes "workers"));
       quantum = quantum.0 ∙ ap (number_or 1000) (one (codes "quantum"));
       step = step.0 ∙ ap (number_or 1000000) (one (codes "step"));
+      keep_going = keep ∙ ap (λ rs. not (count_of (codes "keep-going") rs == 0)) rows;
       in_range = (workers.1, workers.2, quantum.1, quantum.2, omega arith);
     }

@@ -1,15 +1,15 @@
--- What the words of the command line of the program that draws ask for.
+-- Believed. What the words of the command line of the program that draws ask for.
 use Rattle.std.specs.Prelude.{◌≡◌, ⊤, List, [], Option, Result, codes, option_map, string_bytes}
 use Rattle.std.specs.declared.result.Result.TheVariants.{Ok, Err}
-use Rattle.clap.specs.Words.{App, Text, IsAmong, fault_of, first_of, kind_of, matches_of, new_app, new_rule, with_rule}
-use Rattle.kahn_line.specs.Line.{text_rule}
+use Rattle.clap.specs.Words.{App, Text, IsAmong, fault_of, first_of, kind_of, matches_of, new_rule, with_rule}
+use Rattle.kahn_line.specs.Line.{bare_app, text_rule}
 use Rattle.kahn_line.specs.declared.line.LineFault.{LineFault}
 use Rattle.kahn_line.specs.declared.line.LineFault.TheVariants.{Refused, NoMemory}
 use Rattle.kahn_line.specs.declared.draw.DrawOptions.{DrawOptions}
 
 -- the program text's path without a name, and the report's
 abbrev pub draw_app : App
-draw_app = with_rule (with_rule (new_app (codes "kahn_draw")) (new_rule (codes "PROGRAM"))) (text_rule (codes "report"))
+draw_app = with_rule (with_rule (bare_app (codes "kahn_draw")) (new_rule (codes "PROGRAM"))) (text_rule (codes "report"))
 
 -- the text that the words give for a name
 abbrev pub draw_text : List Text → Text → Option Text
@@ -20,7 +20,7 @@ pub record IsDraw (words : List Text) (o : DrawOptions) : Type 0 where
   pub program : option_map string_bytes o.program ≡ draw_text words (codes "PROGRAM")
   pub report : option_map string_bytes o.report ≡ draw_text words (codes "report")
 
--- what the words ask for; or what is at fault in them, and `--help` is such a fault; or want of memory
+-- what the words ask for; or what is at fault in them, and `--help` and `--version` are such faults; or want of memory
 abbrev pub IsDrawRead : List Text → Result DrawOptions LineFault → Type 0
 IsDrawRead words (Ok o) = IsDraw words o × (fault_of draw_app words ≡ [])
 IsDrawRead words (Err (Refused e)) = IsAmong (kind_of e) (fault_of draw_app words)

@@ -1,4 +1,5 @@
 pub mod Draw
+pub mod Explain
 pub mod Line
 pub mod Live
 pub mod Refusal

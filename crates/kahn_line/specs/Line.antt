@@ -1,5 +1,5 @@
--- What the words of a command line ask for, in the words of the library that reads them.
-use Rattle.std.specs.Prelude.{◌≡◌, ◌≢◌, ◌⊎◌, ◌<◌, ◌^◌, ⊤, ℕ, List, [], ◌∷◌, Option, Some, None, Result, codes, option_map, string_bytes}
+-- Believed. What the words of a command line ask for, in the words of the library that reads them.
+use Rattle.std.specs.Prelude.{◌≡◌, ◌≢◌, ◌⊎◌, ◌<◌, ◌^◌, ⊤, ℕ, List, [], ◌∷◌, true, Option, Some, None, Result, codes, option_map, string_bytes}
 use Rattle.std.specs.declared.result.Result.TheVariants.{Ok, Err}
 use Rattle.std.specs.Str.Parse.{IsNumeral, digits_value, without_leading_plus}
 use Rattle.clap.specs.Words.{App, Rule, Text, IsAmong, fault_of, first_of, first_value, kind_of, matches_of, new_app, new_rule, one_of, one_text, with_rule}
@@ -22,10 +22,14 @@ abbrev pub number_rule : Text → ℕ → ℕ → Text → Rule
 number_rule name least most given =
     record (text_rule name) { parser = Some (Unsigned least most); defaults = given ∷ [] }
 
+-- a program with `--help` and `--version`, before it has arguments
+abbrev pub bare_app : Text → App
+bare_app name = record (new_app name) { top = record (new_app name).top { has_version = true } }
+
 -- the options, and the program text's path without a name
 abbrev pub kahn_app : App
 kahn_app =
-    with_rule (with_rule (with_rule (with_rule (with_rule (with_rule (new_app (codes "kahn"))
+    with_rule (with_rule (with_rule (with_rule (with_rule (with_rule (bare_app (codes "kahn"))
     (new_rule (codes "PROGRAM")))
     (text_rule (codes "input")))
     (number_rule (codes "workers") 1 16 (codes "4")))
@@ -61,9 +65,9 @@ abbrev pub ReadsOr : ℕ → Option Text → ℕ → Type 0
 ReadsOr other None n = n ≡ other
 ReadsOr other (Some text) n = IsNumeral 10 (without_leading_plus text) → digits_value 10 (without_leading_plus text) < 2 ^ 64 → n ≡ number_or other (Some text)
 
--- a run is set up by what was found, where the option of this name has its bound
-pub record IsSet (f : Found) (limit : Text) (c : Config) : Type 0 where
-  pub workers : ReadsOr 4 (one_text f (codes "workers")) c.workers
+-- a run is set up by what was found, with so many workers where it has no number of them; the option of this name has its bound
+pub record IsSet (f : Found) (workers : ℕ) (limit : Text) (c : Config) : Type 0 where
+  pub threads : ReadsOr workers (one_text f (codes "workers")) c.workers
   pub quantum : ReadsOr 1000 (one_text f (codes "quantum")) c.quantum
   pub bound : ReadsOr 1000000 (one_text f limit) c.bound
   pub watch : option_map string_bytes c.watch ≡ first_value f (codes "watch")
@@ -72,7 +76,7 @@ pub record IsSet (f : Found) (limit : Text) (c : Config) : Type 0 where
 abbrev pub IsTold : Error → LineFault → Type 0
 IsTold e fault = ((kind_of e ≡ OutOfMemory) × (fault ≡ NoMemory)) ⊎ ((kind_of e ≢ OutOfMemory) × (fault ≡ Refused e))
 
--- what the words ask for; or what is at fault in them, and `--help` is such a fault; or want of memory
+-- what the words ask for; or what is at fault in them, and `--help` and `--version` are such faults; or want of memory
 abbrev pub IsRead : List Text → Result Options LineFault → Type 0
 IsRead words (Ok o) = IsAsked words o × (fault_of kahn_app words ≡ [])
 IsRead words (Err (Refused e)) = IsAmong (kind_of e) (fault_of kahn_app words)

@@ -1,9 +1,10 @@
--- What the words of the command line of the program that is fed line by line ask for.
-use Rattle.std.specs.Prelude.{◌≡◌, ⊤, ℕ, List, [], true, Option, Result, codes, option_map, string_bytes}
+-- Believed. What the words of the command line of the program that is fed line by line ask for.
+use Rattle.std.specs.Prelude.{◌≡◌, ⊤, ℕ, List, [], Bool, true, not, ◌==◌, Some, Option, Result, codes, option_map, string_bytes}
 use Rattle.std.specs.declared.result.Result.TheVariants.{Ok, Err}
-use Rattle.clap.specs.Words.{App, Text, IsAmong, fault_of, first_of, kind_of, matches_of, new_app, new_rule, one_of, with_rule}
+use Rattle.clap.specs.Words.{App, Text, IsAmong, count_of, fault_of, first_of, kind_of, matches_of, new_rule, one_of, with_rule}
+use Rattle.clap.specs.declared.builder.ArgAction.TheVariants.{Count}
 use Rattle.kahn_config.specs.Limits.{IsInRange}
-use Rattle.kahn_line.specs.Line.{number_or, number_rule, text_rule}
+use Rattle.kahn_line.specs.Line.{bare_app, number_or, number_rule, text_rule}
 use Rattle.kahn_line.specs.declared.line.LineFault.{LineFault}
 use Rattle.kahn_line.specs.declared.line.LineFault.TheVariants.{Refused, NoMemory}
 use Rattle.kahn_line.specs.declared.live.LiveOptions.{LiveOptions}
@@ -11,12 +12,13 @@ use Rattle.kahn_line.specs.declared.live.LiveOptions.{LiveOptions}
 -- the program text's path without a name, which is there, and the options
 abbrev pub live_app : App
 live_app =
-    with_rule (with_rule (with_rule (with_rule (with_rule (new_app (codes "kahn_live"))
+    with_rule (with_rule (with_rule (with_rule (with_rule (with_rule (bare_app (codes "kahn_live"))
     (record (new_rule (codes "PROGRAM")) { required = true }))
-    (number_rule (codes "workers") 1 16 (codes "4")))
+    (number_rule (codes "workers") 1 16 (codes "1")))
     (number_rule (codes "quantum") 1 1000000 (codes "1000")))
     (number_rule (codes "step") 1 281474976710655 (codes "1000000")))
-    (text_rule (codes "watch"))
+    (text_rule (codes "watch")))
+    (record (new_rule (codes "keep-going")) { long = Some (codes "keep-going"); action = Some Count })
 
 -- the text that the words give for a name
 abbrev pub live_text : List Text → Text → Option Text
@@ -26,16 +28,21 @@ live_text words name = first_of name (matches_of live_app words)
 abbrev pub live_number : List Text → Text → ℕ → ℕ
 live_number words name other = number_or other (one_of name (matches_of live_app words))
 
+-- whether the words give a name
+abbrev pub live_flag : List Text → Text → Bool
+live_flag words name = not (count_of name (matches_of live_app words) == 0)
+
 -- the options are those that the words name, and its numbers are within their limits; the events of a part are the bound
 pub record IsLive (words : List Text) (o : LiveOptions) : Type 0 where
   pub program : option_map string_bytes o.program ≡ live_text words (codes "PROGRAM")
   pub watch : option_map string_bytes o.config.watch ≡ live_text words (codes "watch")
-  pub workers : o.config.workers ≡ live_number words (codes "workers") 4
+  pub workers : o.config.workers ≡ live_number words (codes "workers") 1
   pub quantum : o.config.quantum ≡ live_number words (codes "quantum") 1000
   pub step : o.config.bound ≡ live_number words (codes "step") 1000000
+  pub keep_going : o.keep_going ≡ live_flag words (codes "keep-going")
   pub in_range : IsInRange o.config.workers o.config.quantum o.config.bound
 
--- what the words ask for; or what is at fault in them, and `--help` is such a fault; or want of memory
+-- what the words ask for; or what is at fault in them, and `--help` and `--version` are such faults; or want of memory
 abbrev pub IsLiveRead : List Text → Result LiveOptions LineFault → Type 0
 IsLiveRead words (Ok o) = IsLive words o × (fault_of live_app words ≡ [])
 IsLiveRead words (Err (Refused e)) = IsAmong (kind_of e) (fault_of live_app words)

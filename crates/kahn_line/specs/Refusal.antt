@@ -1,4 +1,4 @@
--- The status of a program whose command line asks for no run.
+-- Believed. The status of a program whose command line asks for no run.
 use Rattle.std.specs.Prelude.{ℕ}
 use Rattle.clap.specs.Words.{kind_of}
 use Rattle.clap.specs.declared.error.kind.ErrorKind.{ErrorKind}

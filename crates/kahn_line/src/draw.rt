@@ -60,7 +60,7 @@ fn draw_command<'a>(alloc: Global) -> Result<Command<'a>, AllocError>
 }
 
 /// Reads the words of a command line, the first of which is the name of the program. It refuses with `Refused` where
-/// clap refuses the words, and where they ask for the help, and with `NoMemory` where memory was refused.
+/// clap refuses the words, and where they ask for the help or the version, and with `NoMemory` where memory was refused.
 pub fn read_draw_line<'a, S: AsStr>(alloc: Global, words: &'a [S]) -> Result<DrawOptions, LineFault>
     ensures { IsDrawRead (map S.text words.now) result }
 {

@@ -1,8 +1,8 @@
 //! The command line.
 
 ghost use Rattle.std.specs.Prelude.{◌≡◌, IfOk, codes, false, map, option_map, string_bytes};
-ghost use Rattle.clap.specs.Words.{app_of, first_value, found_of, new_app, one_text, rule_of};
-ghost use Rattle.kahn_line.specs.Line.{kahn_app, number_rule, text_rule, IsRead, IsSet, IsTold, ReadsOr};
+ghost use Rattle.clap.specs.Words.{app_of, first_value, found_of, one_text, rule_of};
+ghost use Rattle.kahn_line.specs.Line.{bare_app, kahn_app, number_rule, text_rule, IsRead, IsSet, IsTold, ReadsOr};
 ghost use Rattle.kahn_line.specs.declared.line.LineFault.TheVariants.{NoMemory};
 
 use clap::builder::ValueParser;
@@ -12,6 +12,9 @@ use kahn_config::Config;
 use std::alloc::{AllocError, Global};
 use std::convert::AsStr;
 use thiserror::Error;
+
+/// The version of the programs, which `--version` prints behind the name of the program. CHANGELOG.md has it as its newest heading.
+static VERSION: &str = "0.9.0";
 
 static ABOUT: &str =
     "Runs a network of processes that send one another values over channels, and reports what was sent.";
@@ -64,7 +67,7 @@ pub struct Options {
 /// Why a command line asks for no run.
 #[derive(Debug, Drop, Error)]
 pub enum LineFault {
-    /// The words are refused, or ask for the help: the text for the user.
+    /// The words are refused, or ask for the help or the version: the text for the user.
     #[error("{0}")]
     Refused(clap::Error),
     /// Memory was refused.
@@ -119,12 +122,12 @@ pub(crate) fn number_arg<'a>(
         .default_value(given)
 }
 
-/// The option of the number of workers.
-pub(crate) fn workers_arg<'a>(alloc: Global) -> Arg<'a>
-    ensures rule { rule_of result ≡ number_rule (codes "workers") 1 16 (codes "4") }
+/// The option of the number of workers, and how many there are where the words don't say.
+pub(crate) fn workers_arg<'a>(alloc: Global, given: &'a str) -> Arg<'a>
+    ensures rule { rule_of result ≡ number_rule (codes "workers") 1 16 given.entry.now }
     ensures local { result.global ≡ false }
 {
-    number_arg(alloc, "workers", 1, 16, "4", "Number of threads, 1 to 16")
+    number_arg(alloc, "workers", 1, 16, given, "Number of threads, 1 to 16")
 }
 
 /// The option of the quantum.
@@ -150,18 +153,19 @@ pub(crate) fn watch_arg<'a>(alloc: Global, help: &'a str) -> Arg<'a>
     text_arg(alloc, "watch", "NAME", help)
 }
 
-/// A program's name and the texts round its options in the help.
+/// A program's name, its version, and the texts round its options in the help.
 pub(crate) fn bare<'a>(
     alloc: Global,
     name: &'a str,
     about: &'a str,
     more: &'a str,
 ) -> Result<Command<'a>, AllocError>
-    ensures { IfOk result (λ c. app_of c ≡ new_app name.entry.now) }
+    ensures { IfOk result (λ c. app_of c ≡ bare_app name.entry.now) }
 {
     Ok(
         Command::new(alloc, name)
             .bin_name(name)?
+            .version(VERSION)
             .about(about)
             .after_help(more),
     )
@@ -195,7 +199,7 @@ fn command<'a>(alloc: Global) -> Result<Command<'a>, AllocError>
     bare(alloc, "kahn", ABOUT, MORE)?
         .arg(program)?
         .arg(input)?
-        .arg(workers_arg(alloc))?
+        .arg(workers_arg(alloc, "4"))?
         .arg(quantum_arg(alloc))?
         .arg(bound)?
         .arg(watch)
@@ -218,16 +222,17 @@ fn number_or(matches: &ArgMatches<'_>, name: &str, other: u64) -> u64
     matches.get_one::<u64>(name).unwrap_or(other)
 }
 
-/// How the run is set up, by the name of the option with its bound.
+/// How the run is set up, by the number of workers where none was found and the name of the option with its bound.
 pub(crate) fn config_of(
     alloc: Global,
     matches: &ArgMatches<'_>,
+    workers: u64,
     limit: &str,
 ) -> Result<Config, AllocError>
-    ensures { IfOk result (IsSet (found_of matches.now) limit.now) }
+    ensures { IfOk result (IsSet (found_of matches.now) workers limit.now) }
 {
     Ok(Config {
-        workers: number_or(matches, "workers", 4),
+        workers: number_or(matches, "workers", workers),
         quantum: number_or(matches, "quantum", 1000),
         bound: number_or(matches, limit, 1_000_000),
         watch: copied(alloc, matches.get_str("watch"))?,
@@ -235,7 +240,7 @@ pub(crate) fn config_of(
 }
 
 /// Reads the words of a command line, the first of which is the name of the program. It refuses with `Refused` where
-/// clap refuses the words, and where they ask for the help, and with `NoMemory` where memory was refused.
+/// clap refuses the words, and where they ask for the help or the version, and with `NoMemory` where memory was refused.
 pub fn read_line<'a, S: AsStr>(alloc: Global, words: &'a [S]) -> Result<Options, LineFault>
     ensures { IsRead (map S.text words.now) result }
 {
@@ -243,6 +248,6 @@ pub fn read_line<'a, S: AsStr>(alloc: Global, words: &'a [S]) -> Result<Options,
     Ok(Options {
         program: copied(alloc, matches.get_str("PROGRAM"))?,
         input: copied(alloc, matches.get_str("input"))?,
-        config: config_of(alloc, &matches, "bound")?,
+        config: config_of(alloc, &matches, 4, "bound")?,
     })
 }

@@ -7,7 +7,7 @@ ghost use Rattle.kahn_line.specs.Live.{live_app, IsLiveRead};
 use crate::line::{
     LineFault, bare, config_of, copied, number_arg, quantum_arg, watch_arg, workers_arg,
 };
-use clap::{Arg, Command};
+use clap::{Arg, ArgAction, Command};
 use kahn_config::Config;
 use std::alloc::{AllocError, Global};
 use std::convert::AsStr;
@@ -36,7 +36,7 @@ refused after a line was taken, that is told too; the next line, which may be bl
 
 Exit status:
   0  the end was reached: the run finished
-  1  program refused
+  1  program refused; or the end was reached, and a line was refused
   2  command line refused
   3  the end was reached: a part used its step up
   4  no memory
@@ -50,6 +50,8 @@ pub struct LiveOptions {
     pub program: Option<String>,
     /// How the run is set up. Its bound is how many events a part may take.
     pub config: Config,
+    /// Whether lines that are refused leave the status as it is.
+    pub keep_going: bool,
 }
 
 /// The rules of the command line.
@@ -71,23 +73,29 @@ fn live_command<'a>(alloc: Global) -> Result<Command<'a>, AllocError>
         alloc,
         "A channel that is shown too, besides the output channels",
     );
+    let keep_going = Arg::new(alloc, "keep-going")
+        .long("keep-going")
+        .action(ArgAction::Count)
+        .help("Leaves the status 0 where lines were refused");
     bare(alloc, "kahn_live", ABOUT, MORE)?
         .arg(program)?
-        .arg(workers_arg(alloc))?
+        .arg(workers_arg(alloc, "1"))?
         .arg(quantum_arg(alloc))?
         .arg(step)?
-        .arg(watch)
+        .arg(watch)?
+        .arg(keep_going)
 }
 
 /// Reads the words of a command line, the first of which is the name of the program. It refuses with `Refused` where
-/// clap refuses the words, as where they name no program text, and where they ask for the help, and with `NoMemory` where
-/// memory was refused.
+/// clap refuses the words, as where they name no program text, and where they ask for the help or the version, and with
+/// `NoMemory` where memory was refused.
 pub fn read_live_line<'a, S: AsStr>(alloc: Global, words: &'a [S]) -> Result<LiveOptions, LineFault>
     ensures { IsLiveRead (map S.text words.now) result }
 {
     let matches = live_command(alloc)?.try_get_matches_from(words)?;
     Ok(LiveOptions {
         program: copied(alloc, matches.get_str("PROGRAM"))?,
-        config: config_of(alloc, &matches, "step")?,
+        config: config_of(alloc, &matches, 1, "step")?,
+        keep_going: matches.get_count("keep-going") != 0,
     })
 }

@@ -22,8 +22,8 @@ pub fn tell_no_memory(rt: &impl Eprint) -> u8
     NO_MEMORY
 }
 
-/// Tells why a command line asks for no run, and gives the status: 0 where it asks for the help, which goes to standard
-/// output, 2 where it is refused, and 4 where memory was.
+/// Tells why a command line asks for no run, and gives the status: 0 where it asks for the help or the version, which
+/// goes to standard output, 2 where it is refused, and 4 where memory was.
 pub fn tell_line(rt: &(impl Print + Eprint), fault: &LineFault) -> u8
     ensures { result ≡ line_status fault.now }
 {

@@ -1,6 +1,6 @@
 //! The lines of standard input, one at a time.
 
-use kahn_report::entries::MOST_BYTES;
+use kahn_report::MOST_BYTES;
 use std::io::{BufRead, Error, ErrorKind, Read};
 
 /// What came.

@@ -2,17 +2,15 @@
 #![tactic(auto)]
 
 mod lines;
+mod telling;
 
-use kahn_fault::Fault;
+ghost use Rattle.std.specs.Prelude.{◌≡◌, false, IfOk};
+
+use kahn_fault::{Fault, live_status};
 use kahn_line::{LiveOptions, read_live_line, tell_line, tell_no_memory, tell_words};
-use kahn_pool::answer::Verdict;
-use kahn_pool::config::{Config, RunFault};
-use kahn_pool::gate::Open;
-use kahn_report::read::ReadFault;
-use kahn_report::work::{WorkFault, checked};
-use kahn_session::fault::TakeFault;
-use kahn_session::refusal::write_refusal;
-use kahn_session::session::Session;
+use kahn_pool::{Config, Open, RunFault, Verdict};
+use kahn_report::{ReadFault, WorkFault, checked};
+use kahn_session::{Session, TakeFault};
 use kahn_texts::{Texts, read_texts, tell};
 use lines::{Next, next_line};
 use std::io::{BufRead, BufReader, BufWriter, Write};
@@ -21,6 +19,7 @@ use std::rt::Runtime;
 use std::sync::Wait;
 use std::thread::Threads;
 use std::{env, io};
+use telling::Teller;
 
 /// Want of memory, as a fault of the run.
 fn wants_memory() -> Fault {
@@ -43,15 +42,21 @@ fn take_line<R: Threads + Wait + Sync, W: Write, E: Write>(
     line: &[u8],
     number: u64,
     writer: &mut W,
-    errors: &mut E,
-) -> Result<(), Fault> {
-    let refused = match session.take(rt, line, &Open, writer) {
-        Ok(Verdict::Memory) => TakeFault::WaitsForMemory,
-        Ok(_) => return Ok(()),
-        Err(TakeFault::Write(fault)) => return Err(last_fault(TakeFault::Write(fault))),
-        Err(fault) => fault,
-    };
-    let _ = write_refusal(errors, number, refused);
+    teller: &mut Teller<'_, E>,
+) -> Result<(), Fault>
+    requires { session.old.broken ≡ false }
+    ensures { IfOk result (λ _. session.new.broken ≡ false) }
+{
+    match session.take(rt, line, &Open, writer) {
+        Ok(Verdict::Memory) => teller.tell(number, TakeFault::WaitsForMemory),
+        Ok(_) => {}
+        Err(fault) => {
+            if fault.breaks() {
+                return Err(last_fault(fault));
+            }
+            teller.tell(number, fault);
+        }
+    }
     Ok(())
 }
 
@@ -61,18 +66,19 @@ fn take_lines<R: AllocGlobal + Threads + Wait + Sync, B: BufRead, W: Write, E: W
     session: &mut Session<'_>,
     reader: &mut B,
     writer: &mut W,
-    errors: &mut E,
-) -> Result<(), Fault> {
-    take_line(rt, session, b"", 0, writer, errors)?;
+    teller: &mut Teller<'_, E>,
+) -> Result<(), Fault>
+    requires { session.old.broken ≡ false }
+    ensures { IfOk result (λ _. session.new.broken ≡ false) }
+{
+    take_line(rt, session, b"", 0, writer, teller)?;
     let mut line = Vec::new(rt.alloc());
     for number in 1..u64::MAX {
         match next_line(reader, &mut line) {
-            Next::Line => take_line(rt, session, &line, number, writer, errors)?,
+            Next::Line => take_line(rt, session, &line, number, writer, teller)?,
             Next::End => return Ok(()),
             Next::Failed => return Err(Fault::Program(None, ReadFault::Failed)),
-            Next::NoMemory => {
-                let _ = write_refusal(errors, number, TakeFault::NoMemory);
-            }
+            Next::NoMemory => teller.tell(number, TakeFault::NoMemory),
         }
     }
     Ok(())
@@ -83,7 +89,9 @@ fn close<R: Threads + Wait + Sync, W: Write>(
     rt: &R,
     session: &mut Session<'_>,
     writer: &mut W,
-) -> Result<Verdict, Fault> {
+) -> Result<Verdict, Fault>
+    requires { session.old.broken ≡ false }
+{
     if !session.settled() {
         if let Err(fault) = session.take(rt, b"", &Open, writer) {
             return Err(last_fault(fault));
@@ -100,7 +108,7 @@ fn run<R: Runtime + AllocGlobal + Threads + Wait + Sync, E: Write>(
     rt: &R,
     texts: &Texts,
     config: Config,
-    errors: &mut E,
+    teller: &mut Teller<'_, E>,
 ) -> Result<Verdict, Fault> {
     let network = match checked(rt.alloc(), texts.program.as_str()) {
         Ok(network) => network,
@@ -116,7 +124,7 @@ fn run<R: Runtime + AllocGlobal + Threads + Wait + Sync, E: Write>(
     let Ok(mut writer) = BufWriter::new(rt.alloc(), io::writer(rt)) else {
         return Err(wants_memory());
     };
-    take_lines(rt, &mut session, &mut reader, &mut writer, errors)?;
+    take_lines(rt, &mut session, &mut reader, &mut writer, teller)?;
     close(rt, &mut session, &mut writer)
 }
 
@@ -128,8 +136,11 @@ fn answered<R: Runtime + AllocGlobal + Threads + Wait + Sync, W: Write>(
 ) -> u8 {
     match read_texts(rt, options.program, None) {
         Ok(texts) => {
-            let answer = run(rt, &texts, options.config, writer);
-            tell(&answer, texts.program.as_str(), writer).status
+            let mut teller = Teller::new(writer);
+            let answer = run(rt, &texts, options.config, &mut teller);
+            let refused = teller.refused && !options.keep_going;
+            let _ = tell(&answer, texts.program.as_str(), writer);
+            live_status(&answer, refused)
         }
         Err(fault) => tell(&Err(fault), "", writer).status,
     }

@@ -3,5 +3,5 @@ pub mod Picked
 pub mod Sided
 pub mod Fitted
 pub mod Sourced
-pub mod Kept
+pub mod Kept_network
 pub mod Handed

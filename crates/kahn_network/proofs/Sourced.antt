@@ -8,7 +8,7 @@ use Rattle.kahn_tree.specs.declared.tree.Role.TheVariants.{Inner, Input, Output}
 use Rattle.kahn_tree.specs.Syntax.{Number}
 use Rattle.kahn_network.specs.Network.{Network, Instance, Actual, Reads, Writes, Hands, network_of, instance_at, actual_at, role_at, idle, Given, Written, first_writer, source_by, channel_source}
 use Rattle.kahn_network.specs.Sides.{IsWithin, IsWriter, IsReader, IsOnly, HasOne, IsServed, IsListed, IsFit, source_of}
-use Rattle.kahn_network.specs.Sources.{HasSender, IsFed}
+use Rattle.kahn_network.specs.inner.Sources.{HasSender, IsFed}
 use Rattle.kahn_network.specs.Wiring.{IsWellWired}
 use Rattle.kahn_network.specs.declared.sides.Side.{Side}
 use Rattle.kahn_network.proofs.Fitted.{instances_fit}

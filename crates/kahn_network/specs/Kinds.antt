@@ -1,4 +1,4 @@
--- Which bodies agree in kind and direction: a relation by cases on the abstract syntax.
+-- Believed. Which bodies agree in kind and direction: a relation by cases on the abstract syntax.
 use Rattle.std.specs.Prelude.{◌≡◌, ℕ, List, Option, None, Some, slice_get}
 use Rattle.kahn_tree.specs.declared.tree.Kind.{Kind}
 use Rattle.kahn_tree.specs.declared.tree.Kind.TheVariants.{Integer, Logical}

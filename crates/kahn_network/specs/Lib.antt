@@ -2,6 +2,6 @@ pub mod Network
 pub mod Kinds
 pub mod Wiring
 pub mod Sides
-pub mod Sources
 pub mod Made
 pub mod Wires
+pub mod inner

@@ -1,4 +1,4 @@
--- What the instances of a program are made of.
+-- Believed. What the instances of a program are made of.
 use Rattle.std.specs.Prelude.{◌≡◌, ℕ, List, Some, slice_get}
 use Rattle.kahn_tree.specs.declared.tree.Process.{Process}
 use Rattle.kahn_tree.specs.declared.tree.Argument.{Argument}

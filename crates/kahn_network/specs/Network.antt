@@ -1,4 +1,4 @@
--- A network as contracts see it: its channels, and its instances with what is handed to each parameter.
+-- Believed. A network as contracts see it: its channels, and its instances with what is handed to each parameter.
 -- The main program of Kahn's paper (section 2) composes instances of processes by channels; the kinds, roles
 -- and value arguments are this project's profile.
 use Rattle.std.specs.Prelude.{ℕ, suc, List, [], ◌∷◌, ◌++◌, map, Option, Some, None, pos, Bool, true, false, ◌==◌, if◌then◌else◌, slice_index_or}

@@ -1,4 +1,4 @@
--- Who writes and who reads a channel of a network, by numbers.
+-- Believed. Who writes and who reads a channel of a network, by numbers.
 use Rattle.std.specs.Prelude.{◌≡◌, ℕ, ◌<◌, Bool, false, ◌==◌, length, List, [], ◌∷◌, ◌++◌, map, Option, None, Some, slice_get}
 use Rattle.kahn_tree.specs.declared.tree.Kind.{Kind}
 use Rattle.kahn_tree.specs.declared.tree.Role.{Role}

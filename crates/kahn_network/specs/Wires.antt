@@ -1,4 +1,4 @@
--- The tables of a network, as its program has them.
+-- Believed. The tables of a network, as its program has them.
 use Rattle.std.specs.Prelude.{◌≡◌, ℕ, suc, List, [], ◌∷◌, map, Option, None, Some, slice_get, string_bytes, if◌then◌else◌}
 use Rattle.std.proofs.Common.{bytes_eq}
 use Rattle.std.specs.Map.{lookup}

@@ -1,4 +1,4 @@
--- Which programs are well wired: a property of the program, which speaks of no walk.
+-- Believed. Which programs are well wired: a property of the program, which speaks of no walk.
 use Rattle.std.specs.Prelude.{◌≡◌, ℕ, suc, ◌≤◌, Bool, true, false, ◌&&◌, List, [], ◌∷◌, ◌++◌, map, length, Option, None, Some, if◌then◌else◌}
 use Rattle.std.proofs.Common.{bytes_eq}
 use Rattle.std.specs.Map.{lookup}

@@ -6,7 +6,7 @@ ghost use Rattle.std.specs.Prelude.{◌≡◌, ◌<◌, ℕ, length};
 ghost use Rattle.std.specs.List.{AllByRecursion};
 ghost use Rattle.kahn_network.specs.Network.{Given, Reads, Writes, Written, actual_at, channel_source, instance_at, network_of, role_at};
 ghost use Rattle.kahn_network.specs.Sides.{IsServed, IsFit};
-ghost use Rattle.kahn_network.specs.Sources.{HasSender, IsFed};
+ghost use Rattle.kahn_network.specs.inner.Sources.{HasSender, IsFed};
 ghost use Rattle.kahn_network.specs.Wiring.{IsWellWired};
 
 /// Each channel of a well wired program has one writer and one reader, but for an input no writer

@@ -10,7 +10,7 @@ ghost use Rattle.kahn_network.specs.Wiring.{IsWellWired};
 
 use crate::sides::Side;
 use crate::wires::Wire;
-use kahn_tree::tree::{Argument, Declaration, Kind, Process, Program, Role};
+use kahn_tree::{Argument, Declaration, Kind, Process, Program, Role};
 use std::marker::Model;
 
 /// A well wired program. Contracts see the program that it was made from.

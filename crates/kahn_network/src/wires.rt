@@ -1,7 +1,7 @@
 //! A declared channel with its two sides.
 
 use crate::sides::Side;
-use kahn_tree::tree::{Kind, Role};
+use kahn_tree::{Kind, Role};
 
 /// A declared channel, and where its two sides are.
 #[derive(Drop)]

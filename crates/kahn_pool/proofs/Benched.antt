@@ -4,7 +4,7 @@ use Rattle.std.proofs.Math.Seq.{map-set_same}
 use Rattle.std.proofs.lemmas.List.{map-set}
 use Rattle.std.proofs.lemmas.Option.{get_or_from_slice_get, slice_get_read}
 use Rattle.kahn_network.specs.Network.{Network, Reads, Writes, network_of, instance_at, actual_at, role_at}
-use Rattle.kahn_network.specs.Sources.{IsFed}
+use Rattle.kahn_network.specs.inner.Sources.{IsFed}
 pub use Rattle.kahn_network.proofs.Numbered.{there as got, within as within_get, mapped as get_map}
 use Rattle.kahn_network.proofs.Sourced.{reads, reads_listed}
 use Rattle.kahn_streams.specs.declared.value.Line.TheVariants.{Channel}
@@ -18,11 +18,11 @@ use Rattle.kahn_code.specs.Standing.{count}
 use Rattle.kahn_code.specs.Told.{Told, told_view, seat_of, IsAt, IsStill}
 use Rattle.kahn_code.proofs.Queued.{set_each, set_here}
 use Rattle.kahn_code.proofs.Readers.{joins_within, reads_once}
-use Rattle.kahn_pool.specs.Gathered.{IsGiven, AreWithin, TookAll, view_at, nothing}
-use Rattle.kahn_pool.specs.Bench.{State}
+use Rattle.kahn_pool.specs.inner.Gathered.{IsGiven, AreWithin, TookAll, view_at, nothing}
+use Rattle.kahn_pool.specs.inner.Bench.{State}
 use Rattle.kahn_streams.specs.declared.value.Value.{Value}
-use Rattle.kahn_pool.specs.Workbench.{Table, IsLaid, IsSeated, state_of}
-use Rattle.kahn_pool.specs.Bench.{Paused, events_at}
+use Rattle.kahn_pool.specs.inner.Workbench.{Table, IsLaid, IsSeated, state_of}
+use Rattle.kahn_pool.specs.inner.Bench.{Paused, events_at}
 use Rattle.kahn_code.specs.declared.progress.Pause.{Pause}
 use Rattle.kahn_code.specs.declared.progress.Pause.TheVariants as pause
 use Rattle.kahn_code.specs.Progress as code

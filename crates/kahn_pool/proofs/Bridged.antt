@@ -9,9 +9,9 @@ use Rattle.kahn_code.specs.declared.progress.Pause.TheVariants as pause
 use Rattle.kahn_code.specs.Cells.{View, exec_on}
 use Rattle.kahn_code.specs.Progress as code
 use Rattle.kahn_code.specs.Progress.{IsPause}
-use Rattle.kahn_pool.specs.Bench.{State, Paused, IsPaused}
-use Rattle.kahn_pool.specs.Gathered.{view_at, Stood, TookAll, HasUntaken, IsGiven}
-use Rattle.kahn_pool.specs.Parameters.{ReadsOnce}
+use Rattle.kahn_pool.specs.inner.Bench.{State, Paused, IsPaused}
+use Rattle.kahn_pool.specs.inner.Gathered.{view_at, Stood, TookAll, HasUntaken, IsGiven}
+use Rattle.kahn_pool.specs.inner.Parameters.{ReadsOnce}
 use Rattle.kahn_pool.proofs.Channels.{told_by_channel}
 
 module _ (s : State) (p : ℕ) (dry ready : ℕ → Type 0) (spent : Type 0)

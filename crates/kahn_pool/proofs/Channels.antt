@@ -10,8 +10,8 @@ use Rattle.kahn_streams.specs.Meaning.{Store, exec}
 use Rattle.kahn_network.specs.Network.{Network, Actual, Reads, Writes, Hands, instance_at, actual_at}
 use Rattle.kahn_streams.specs.Solution.{Inputs, Histories, tape_of, tapes_of, exec_at, out, opening, values_at, goes_to}
 use Rattle.kahn_code.specs.Cells.{View, AllStand, IsKept, exec_on, sent_on, StoodBy}
-use Rattle.kahn_pool.specs.Gathered.{Stood}
-use Rattle.kahn_pool.specs.Parameters.{ReadsOnce}
+use Rattle.kahn_pool.specs.inner.Gathered.{Stood}
+use Rattle.kahn_pool.specs.inner.Parameters.{ReadsOnce}
 
 abbrev reads_here : Actual → ℕ → Bool
 reads_here (Reads c) d = c == d

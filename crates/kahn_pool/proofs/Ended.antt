@@ -3,7 +3,7 @@ use Rattle.std.proofs.Common.{arith, ◌≡◌, ◌⊎◌, inl, inr, ℕ, suc, �
 use Rattle.kahn_tree.specs.declared.tree.Program.{Program}
 use Rattle.kahn_network.specs.Network.{Reads, Writes, network_of, instance_at, actual_at}
 use Rattle.kahn_network.specs.Sides.{IsWriter, IsReader, IsOnly}
-use Rattle.kahn_network.specs.Sources.{IsFed}
+use Rattle.kahn_network.specs.inner.Sources.{IsFed}
 use Rattle.kahn_network.specs.Wiring.{IsWellWired, side_at}
 use Rattle.kahn_network.specs.declared.sides.Side.{Side}
 use Rattle.kahn_network.proofs.Sourced.{handed_within, reads, reads_listed, writes}
@@ -13,9 +13,9 @@ use Rattle.kahn_code.proofs.Lists.{at_last}
 use Rattle.kahn_code.proofs.Readers.{joins_parameter}
 use Rattle.kahn_code.specs.Standing.{count}
 use Rattle.kahn_crew.specs.declared.standing.Standing.TheVariants as standing
-use Rattle.kahn_crew.specs.Tasks.{Tasked, handed}
-use Rattle.kahn_crew.specs.Left.{AreAll}
-use Rattle.kahn_pool.specs.Rested.{AreEndsOf, AreTold, IsEndOf, IsToldAs}
+use Rattle.kahn_crew.specs.inner.Tasks.{Tasked, handed}
+use Rattle.kahn_crew.specs.inner.Left.{AreAll}
+use Rattle.kahn_pool.specs.inner.Rested.{AreEndsOf, AreTold, IsEndOf, IsToldAs}
 use Rattle.kahn_pool.specs.declared.answer.End.{End}
 use Rattle.kahn_pool.specs.declared.answer.Outcome.TheVariants as outcome
 use Rattle.kahn_pool.proofs.Benched.{got, some_one}

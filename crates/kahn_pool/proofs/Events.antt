@@ -8,7 +8,7 @@ use Rattle.kahn_streams.specs.Meaning.{Store}
 use Rattle.kahn_network.specs.Network.{Network, Instance, instance_at}
 use Rattle.kahn_streams.specs.Solution.{Histories, opening, tapes_of, exec_at}
 use Rattle.kahn_streams.specs.Laws.{AreSame, KeepsTape, IsExtended}
-use Rattle.kahn_streams.proofs.Frame.{and_more}
+use Rattle.kahn_streams.proofs.Framed.{and_more}
 use Rattle.kahn_streams.proofs.Runs.{play_on, play_taken, ran, cut_is_full}
 use Rattle.kahn_streams.proofs.Proved.{feeds, script_at, exec_alike, frame}
 use Rattle.kahn_streams.proofs.Finished.{unrolled}

@@ -11,10 +11,10 @@ use Rattle.kahn_network.specs.Network.{Network, Writes, Source, Given, Written, 
 use Rattle.kahn_code.specs.declared.cell.Kept.{Kept}
 use Rattle.kahn_code.specs.Cells.{IsKept}
 use Rattle.kahn_pool.specs.declared.answer.Stream.{Stream}
-use Rattle.kahn_pool.specs.Bench.{State, AreStreams}
-use Rattle.kahn_pool.specs.Gathered.{view_at, IsFrom}
+use Rattle.kahn_pool.specs.inner.Bench.{State, AreStreams}
+use Rattle.kahn_pool.specs.inner.Gathered.{view_at, IsFrom}
 use Rattle.kahn_pool.specs.Right.{line_of, stream_lines}
-use Rattle.kahn_pool.specs.Streams.{AreNamed, IsDeclared, IsFilled, AreFilled, AreLists, KeepsOthers, HasInputs, kept_lists, kept_in, printed_list, printed_in}
+use Rattle.kahn_pool.specs.inner.Streams.{AreNamed, IsDeclared, IsFilled, AreFilled, AreLists, KeepsOthers, HasInputs, kept_lists, kept_in, printed_list, printed_in}
 use Rattle.kahn_pool.proofs.Lists.{set_get, set_else}
 use Rattle.kahn_pool.proofs.Named.{HasLine, has_line, line_at, stream_before, declared, once}
 

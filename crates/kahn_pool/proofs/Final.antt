@@ -11,8 +11,8 @@ use Rattle.kahn_pool.specs.declared.answer.Outcome.TheVariants.{More}
 use Rattle.kahn_pool.specs.declared.answer.Verdict.{Verdict}
 use Rattle.kahn_pool.specs.declared.answer.Verdict.TheVariants.{Finished, Bound}
 use Rattle.kahn_pool.specs.Right.{events_of, line_of, stream_lines}
-use Rattle.kahn_pool.specs.Gathered.{view_at, AreWithin, IsFrom, IsGathered, IsStopped}
-use Rattle.kahn_pool.specs.Bench.{State, view_events, IsLast, IsVerdict, AreStreams}
+use Rattle.kahn_pool.specs.inner.Gathered.{view_at, AreWithin, IsFrom, IsGathered, IsStopped}
+use Rattle.kahn_pool.specs.inner.Bench.{State, view_events, IsLast, IsVerdict, AreStreams}
 use Rattle.kahn_code.proofs.Lists.{at_last}
 
 same_sums : (cs : List View) (xs : List End) → length xs ≡ length cs →

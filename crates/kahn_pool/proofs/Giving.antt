@@ -14,7 +14,7 @@ use Rattle.kahn_network.specs.Network.{Network, Instance, Source, Given, Written
 use Rattle.kahn_code.specs.Cells.{IsKept, IsOwn, token_value}
 use Rattle.kahn_pool.specs.declared.answer.Stream.{Stream}
 use Rattle.kahn_pool.specs.Right.{line_of}
-use Rattle.kahn_pool.specs.Streams.{AreNamed, IsDeclared, IsBare, HasInput, HaveInput, HasInputs}
+use Rattle.kahn_pool.specs.inner.Streams.{AreNamed, IsDeclared, IsBare, HasInput, HaveInput, HasInputs}
 use Rattle.kahn_pool.proofs.Named.{declared, stream_before}
 use Rattle.kahn_code.proofs.Lists.{at_last}
 use Rattle.kahn_pool.proofs.Lists.{set_get, set_else}

@@ -10,11 +10,11 @@ use Rattle.kahn_streams.specs.declared.value.Line.TheVariants.{Channel, Print}
 use Rattle.kahn_streams.specs.Laws.{AreInputsExtended, IsExtended}
 use Rattle.kahn_streams.specs.Solution.{Histories, Inputs, IsPrefix, goes_to, iterate, out, tape_of, values_at}
 use Rattle.kahn_streams.proofs.Finished.{inputs_grow}
-use Rattle.kahn_streams.proofs.Frame.{begins_nil}
+use Rattle.kahn_streams.proofs.Framed.{begins_nil}
 use Rattle.kahn_streams.proofs.Proved.{chain, fits_all, iterates_rise, out_grows, prefix_refl, prefix_trans}
 use Rattle.kahn_code.specs.Cells.{StoodBy, View, is_streamed, token_value}
 use Rattle.kahn_code.proofs.Readers.{reads_once}
-use Rattle.kahn_pool.specs.Gathered.{Stood}
+use Rattle.kahn_pool.specs.inner.Gathered.{Stood}
 use Rattle.kahn_pool.proofs.Channels.{by_channel}
 use Rattle.kahn_pool.proofs.Events.{same_sends}
 use Rattle.kahn_code.proofs.Lists.{stand_in}

@@ -8,28 +8,28 @@ use Rattle.kahn_streams.specs.Laws.{AreInputsExtended}
 use Rattle.kahn_streams.specs.Tokens.{Lists, inputs_of}
 use Rattle.kahn_code.specs.Cells.{StoodBy, is_output}
 use Rattle.kahn_code.specs.Told.{Told, told_view}
-use Rattle.kahn_job.specs.Berths.{Serves, end_at}
-use Rattle.kahn_job.specs.Ends.{ShareLane}
-use Rattle.kahn_job.specs.Idles.{AreIdle, AreTogether, CanGoOn, HaveSettled as RowsSettled, cells_of, rows_of}
-use Rattle.kahn_job.specs.Works.{IsDelivered, IsJob, Work}
+use Rattle.kahn_job.specs.inner.Berths.{Serves, end_at}
+use Rattle.kahn_job.specs.inner.Ends.{ShareLane}
+use Rattle.kahn_job.specs.inner.Idles.{AreIdle, AreTogether, CanGoOn, HaveSettled as RowsSettled, cells_of, rows_of}
+use Rattle.kahn_job.specs.inner.Works.{IsDelivered, IsJob, Work}
 use Rattle.kahn_job.proofs.Idles.{all_idle, cell_there, idle_goes_on, idle_grown, row_there}
 use Rattle.kahn_job.proofs.Settles.{stood_same}
 use Rattle.kahn_board.specs.Dealt.{events_of}
-use Rattle.kahn_crew.specs.Begins.{AreReady, IsReady, woken_task}
-use Rattle.kahn_crew.specs.Left.{AreUntouched, HaveGone, task_events}
-use Rattle.kahn_crew.specs.Tasks.{Tasked, told_of, work_of}
+use Rattle.kahn_crew.specs.inner.Begins.{AreReady, IsReady, woken_task}
+use Rattle.kahn_crew.specs.inner.Left.{AreUntouched, HaveGone, task_events}
+use Rattle.kahn_crew.specs.inner.Tasks.{Tasked, told_of, work_of}
 use Rattle.kahn_crew.proofs.Ended.{all_told}
 use Rattle.kahn_crew.proofs.Started.{at_mapped, at_most_all, mapped_at, read_there}
-use Rattle.kahn_pool.specs.Concluded.{IsConcluded}
+use Rattle.kahn_pool.specs.inner.Concluded.{IsConcluded}
 use Rattle.kahn_pool.specs.HeldRuns.{seen_of}
-use Rattle.kahn_pool.specs.Holding.{AreEnded, AreHeld, HasRisen, HasStopped, HaveRisen, cell_alone, held_state, work_events}
-use Rattle.kahn_pool.specs.Meetings.{HaveMet}
-use Rattle.kahn_pool.specs.Rested.{HaveSettled, IsTaskOf, cell_of, state_of}
-use Rattle.kahn_pool.specs.Bench.{State}
+use Rattle.kahn_pool.specs.inner.Holding.{AreEnded, AreHeld, HasRisen, HasStopped, HaveRisen, cell_alone, held_state, work_events}
+use Rattle.kahn_pool.specs.inner.Meetings.{HaveMet}
+use Rattle.kahn_pool.specs.inner.Rested.{HaveSettled, IsTaskOf, cell_of, state_of}
+use Rattle.kahn_pool.specs.inner.Bench.{State}
 use Rattle.kahn_pool.specs.declared.answer.End.{End as RunEnd}
 use Rattle.kahn_pool.specs.declared.answer.Verdict.{Verdict}
 use Rattle.kahn_pool.specs.declared.part.Stopped.{Stopped}
-use Rattle.kahn_crew.specs.Wants.{IsWant}
+use Rattle.kahn_crew.specs.inner.Wants.{IsWant}
 use Rattle.kahn_crew.specs.declared.fault.CrewFault.{CrewFault}
 use Rattle.kahn_crew.specs.declared.fault.CrewFault.TheVariants.{NoMemory}
 use Rattle.kahn_streams.proofs.Proved.{prefix_refl}

@@ -13,31 +13,31 @@ use Rattle.kahn_streams.specs.declared.value.Line.TheVariants.{Channel, Print}
 use Rattle.kahn_streams.specs.Laws.{AreInputsExtended}
 use Rattle.kahn_streams.specs.Solution.{IsPrefix, source}
 use Rattle.kahn_streams.specs.Tokens.{Lists, inputs_of}
-use Rattle.kahn_streams.proofs.Frame.{begins_nil}
+use Rattle.kahn_streams.proofs.Framed.{begins_nil}
 use Rattle.kahn_streams.proofs.Proved.{prefix_refl}
 use Rattle.kahn_code.specs.Cells.{View, is_streamed, token_value}
 use Rattle.kahn_code.specs.Lines.{Joins}
 use Rattle.kahn_code.specs.Told.{Told, told_view}
 use Rattle.kahn_code.proofs.Readers.{joins_within}
-use Rattle.kahn_job.specs.Idles.{cells_of, rows_of}
-use Rattle.kahn_job.specs.Settling.{AreResting, HaveStood}
+use Rattle.kahn_job.specs.inner.Idles.{cells_of, rows_of}
+use Rattle.kahn_job.specs.inner.Settling.{AreResting, HaveStood}
 use Rattle.kahn_job.proofs.Idles.{idle_still}
 use Rattle.kahn_job.proofs.Settles.{stood_same}
-use Rattle.kahn_crew.specs.Wants.{IsWant}
+use Rattle.kahn_crew.specs.inner.Wants.{IsWant}
 use Rattle.kahn_crew.specs.declared.fault.CrewFault.TheVariants.{NoMemory, NoThread}
 use Rattle.kahn_pool.specs.declared.part.Stopped.{Stopped}
-use Rattle.kahn_job.specs.Works.{Work}
-use Rattle.kahn_pool.specs.Bench.{AreStreams}
-use Rattle.kahn_pool.specs.Concluded.{IsConcluded}
+use Rattle.kahn_job.specs.inner.Works.{Work}
+use Rattle.kahn_pool.specs.inner.Bench.{AreStreams}
+use Rattle.kahn_pool.specs.inner.Concluded.{IsConcluded}
 use Rattle.kahn_pool.specs.Exact.{Settles}
-use Rattle.kahn_pool.specs.Gathered.{IsFrom, IsGathered, nothing, view_at}
+use Rattle.kahn_pool.specs.inner.Gathered.{IsFrom, IsGathered, nothing, view_at}
 use Rattle.kahn_pool.specs.HeldRuns.{GoesOn, HasResumed, HeldRun, IsAnswerOf, IsResumed, IsSoFar, Seen, seen_at, seen_events, seen_of, unseen}
-use Rattle.kahn_pool.specs.Holding.{AreEnded, AreHeld, HasStopped, HaveRisen, IsHolding, cell_alone, cells_seen, held_state, work_events}
+use Rattle.kahn_pool.specs.inner.Holding.{AreEnded, AreHeld, HasStopped, HaveRisen, IsHolding, cell_alone, cells_seen, held_state, work_events}
 use Rattle.kahn_pool.specs.Right.{IsRight, stream_lines}
 use Rattle.kahn_pool.specs.declared.answer.Answer.{Answer}
 use Rattle.kahn_pool.specs.declared.answer.End.{End}
 use Rattle.kahn_pool.specs.declared.answer.Verdict.{Verdict}
-use Rattle.kahn_pool.proofs.Assembled.{are_right}
+use Rattle.kahn_pool.proofs.Assembling.{are_right}
 use Rattle.kahn_pool.proofs.Benched.{got, mapped}
 use Rattle.kahn_pool.proofs.Final.{gathered, stopped}
 use Rattle.kahn_pool.proofs.Held_jobs.{ended_alike, held_again, held_alike, held_grown, held_more, rises_since, risen_here, same_seen}

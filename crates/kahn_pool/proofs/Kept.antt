@@ -6,13 +6,13 @@ use Rattle.kahn_network.specs.Network.{network_of, instance_at}
 use Rattle.kahn_streams.specs.Tokens.{Lists}
 use Rattle.kahn_code.specs.declared.cell.Kept.{Kept}
 use Rattle.kahn_code.specs.Told.{Told}
-use Rattle.kahn_job.specs.Idles.{AreIdle, cells_of}
-use Rattle.kahn_job.specs.Works.{Work}
-use Rattle.kahn_crew.specs.Tasks.{Tasked}
+use Rattle.kahn_job.specs.inner.Idles.{AreIdle, cells_of}
+use Rattle.kahn_job.specs.inner.Works.{Work}
+use Rattle.kahn_crew.specs.inner.Tasks.{Tasked}
 use Rattle.kahn_crew.proofs.Started.{mapped_at}
-use Rattle.kahn_pool.specs.Rested.{AreTasks, cell_of}
-use Rattle.kahn_pool.specs.Streams.{AreLists, kept_lists}
-use Rattle.kahn_pool.specs.Workbench.{AreKeptOf, actuals_of, parameters_of}
+use Rattle.kahn_pool.specs.inner.Rested.{AreTasks, cell_of}
+use Rattle.kahn_pool.specs.inner.Streams.{AreLists, kept_lists}
+use Rattle.kahn_pool.specs.inner.Workbench.{AreKeptOf, actuals_of, parameters_of}
 use Rattle.kahn_pool.proofs.Benched.{get_map, got, some_one, within_get}
 
 -- of cells that are those of the instances, in order

@@ -4,8 +4,8 @@ use Rattle.std.proofs.lemmas.List.{length-map}
 use Rattle.kahn_network.specs.Network.{network_of, instance_at}
 use Rattle.kahn_code.specs.declared.cell.Kept.{Kept}
 use Rattle.kahn_code.specs.Told.{Told}
-use Rattle.kahn_pool.specs.Streams.{AreLists, kept_lists}
-use Rattle.kahn_pool.specs.Workbench.{Table, IsLaid, AreKeptOf, parameters_of, actuals_of}
+use Rattle.kahn_pool.specs.inner.Streams.{AreLists, kept_lists}
+use Rattle.kahn_pool.specs.inner.Workbench.{Table, IsLaid, AreKeptOf, parameters_of, actuals_of}
 use Rattle.kahn_pool.proofs.Benched.{got, get_map, some_one, within_get}
 
 pub are_lists : {A : Type 0} (b : Table) → IsLaid b → (kept : List (Kept A)) → AreKeptOf b.cells kept → AreLists (network_of b.network) kept

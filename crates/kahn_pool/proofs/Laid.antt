@@ -13,8 +13,8 @@ use Rattle.kahn_code.specs.Standing.{count}
 use Rattle.kahn_code.specs.Told.{Told, told_view, IsAt}
 use Rattle.kahn_code.proofs.Lists.{one_first}
 use Rattle.kahn_code.proofs.Queued.{given_zero, taken_zero}
-use Rattle.kahn_pool.specs.Bench.{view_events}
-use Rattle.kahn_pool.specs.Workbench.{IsLaid, IsSeated, IsOpening, AreOpening}
+use Rattle.kahn_pool.specs.inner.Bench.{view_events}
+use Rattle.kahn_pool.specs.inner.Workbench.{IsLaid, IsSeated, IsOpening, AreOpening}
 
 pub laid_first : (t code : Program) (lists : Lists) (watch : Option ℕ) (cells : List Told) (q : Queues) → IsWellWired t → code ≡ t →
     AreOpening t lists watch cells (length (network_of t).instances) → (q.network ≡ t) × (q.input ≡ lists) → AreFirst t lists q.queues →

@@ -1,6 +1,6 @@
 pub mod Lists
 pub mod Events
-pub mod Assembled
+pub mod Assembling
 pub mod Turns
 pub mod Final
 pub mod Channels

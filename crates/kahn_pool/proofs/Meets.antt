@@ -7,21 +7,21 @@ use Rattle.std.proofs.lemmas.Option.{get_or_from_slice_get, slice_get-get_or}
 use Rattle.kahn_tree.specs.declared.tree.Program.{Program}
 use Rattle.kahn_network.specs.Network.{Reads, Writes, network_of, instance_at, actual_at, role_at}
 use Rattle.kahn_network.specs.Sides.{IsWriter, IsReader, IsOnly}
-use Rattle.kahn_network.specs.Sources.{IsFed}
+use Rattle.kahn_network.specs.inner.Sources.{IsFed}
 use Rattle.kahn_network.specs.Wiring.{IsWellWired, side_at}
 use Rattle.kahn_network.specs.declared.sides.Side.{Side}
 use Rattle.kahn_network.proofs.Sourced.{reads, reads_listed}
 use Rattle.kahn_code.specs.Cells.{is_output}
 use Rattle.kahn_code.specs.Standing.{count}
-use Rattle.kahn_job.specs.Ends.{End, IsSame, MayMeet, Meets, ShareLane}
-use Rattle.kahn_job.specs.Berths.{HasStayed, Serves, end_at}
-use Rattle.kahn_job.specs.Works.{Work, IsJob}
-use Rattle.kahn_crew.specs.Tasks.{Tasked, HasMet, handed}
+use Rattle.kahn_job.specs.inner.Ends.{End, IsSame, MayMeet, Meets, ShareLane}
+use Rattle.kahn_job.specs.inner.Berths.{HasStayed, Serves, end_at}
+use Rattle.kahn_job.specs.inner.Works.{Work, IsJob}
+use Rattle.kahn_crew.specs.inner.Tasks.{Tasked, HasMet, handed}
 use Rattle.kahn_job.proofs.Berthed.{same_then, stayed_self}
 use Rattle.kahn_pool.proofs.Benched.{got, some_one, within_get}
 use Rattle.kahn_pool.proofs.Ended.{handed_to, reader_side, writer_side}
 use Rattle.kahn_pool.proofs.Lists.{set_get}
-use Rattle.kahn_pool.specs.Meetings.{AreJoined, CanMeet, CanMeetAt, HaveMet, IsBehind, IsBehindAt, IsBehindOn, ReadsOne, WritesOne}
+use Rattle.kahn_pool.specs.inner.Meetings.{AreJoined, CanMeet, CanMeetAt, HaveMet, IsBehind, IsBehindAt, IsBehindOn, ReadsOne, WritesOne}
 
 -- ---- one meeting
 

@@ -11,7 +11,7 @@ use Rattle.kahn_network.specs.Network.{Network, Instance}
 use Rattle.kahn_code.specs.Cells.{is_output, is_watched, is_streamed}
 use Rattle.kahn_pool.specs.declared.answer.Stream.{Stream}
 use Rattle.kahn_pool.specs.Right.{line_of, channel_lines, print_lines, stream_lines}
-use Rattle.kahn_pool.specs.Streams.{AreNamed, IsDeclared}
+use Rattle.kahn_pool.specs.inner.Streams.{AreNamed, IsDeclared}
 
 -- ---- what the lines are
 

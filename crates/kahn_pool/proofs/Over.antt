@@ -8,18 +8,18 @@ use Rattle.kahn_network.specs.Wiring.{IsWellWired}
 use Rattle.kahn_streams.specs.Tokens.{Lists}
 use Rattle.kahn_code.specs.Standing.{count}
 use Rattle.kahn_code.specs.Told.{Told, told_view}
-use Rattle.kahn_job.specs.Berths.{end_at}
+use Rattle.kahn_job.specs.inner.Berths.{end_at}
 use Rattle.kahn_crew.specs.declared.standing.Standing.TheVariants as standing
-use Rattle.kahn_crew.specs.Tasks.{Tasked, handed, is_over}
-use Rattle.kahn_crew.specs.Left.{AreAll, HaveGone, IsAtRest, IsOver, task_events}
-use Rattle.kahn_pool.specs.Meetings.{AreJoined, HaveMet, IsBehindOn}
-use Rattle.kahn_pool.specs.Rested.{AreEndsOf, AreTasks, HaveSettled, IsTaskOf, IsToldAs, SettlesTo, cell_of, state_of}
-use Rattle.kahn_pool.specs.Gathers.{HasEnded}
+use Rattle.kahn_crew.specs.inner.Tasks.{Tasked, handed, is_over}
+use Rattle.kahn_crew.specs.inner.Left.{AreAll, HaveGone, IsAtRest, IsOver, task_events}
+use Rattle.kahn_pool.specs.inner.Meetings.{AreJoined, HaveMet, IsBehindOn}
+use Rattle.kahn_pool.specs.inner.Rested.{AreEndsOf, AreTasks, HaveSettled, IsTaskOf, IsToldAs, SettlesTo, cell_of, state_of}
+use Rattle.kahn_pool.specs.inner.Gathers.{HasEnded}
 use Rattle.kahn_pool.specs.declared.answer.End.{End}
 use Rattle.kahn_pool.specs.declared.answer.Outcome.TheVariants as outcome
 use Rattle.kahn_pool.specs.declared.answer.Verdict.{Verdict}
 use Rattle.kahn_pool.specs.declared.answer.Verdict.TheVariants as verdict
-use Rattle.kahn_pool.specs.Bench.{IsLast, IsVerdict, Rests, view_events}
+use Rattle.kahn_pool.specs.inner.Bench.{IsLast, IsVerdict, Rests, view_events}
 use Rattle.kahn_pool.proofs.Benched.{got, some_one, within_get}
 use Rattle.kahn_pool.proofs.Rests as rests
 

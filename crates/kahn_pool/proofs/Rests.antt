@@ -4,7 +4,7 @@ use Rattle.kahn_tree.specs.declared.tree.Program.{Program}
 use Rattle.kahn_tree.specs.declared.tree.Role.{Role}
 use Rattle.kahn_tree.specs.declared.tree.Role.TheVariants.{Inner, Input}
 use Rattle.kahn_network.specs.Network.{Network, Reads, Writes, Given, Written, network_of, instance_at, actual_at, role_at}
-use Rattle.kahn_network.specs.Sources.{IsFed as IsFedBy}
+use Rattle.kahn_network.specs.inner.Sources.{IsFed as IsFedBy}
 use Rattle.kahn_network.specs.Wiring.{IsWellWired}
 use Rattle.kahn_network.proofs.Sourced.{reads, writes}
 use Rattle.kahn_streams.specs.declared.value.Value.{Value}
@@ -21,18 +21,18 @@ use Rattle.kahn_code.specs.Progress as code
 use Rattle.kahn_code.specs.Standing.{count}
 use Rattle.kahn_code.specs.Told.{told_view}
 use Rattle.kahn_code.proofs.Readers.{joins_within, reads_once, driven}
-use Rattle.kahn_job.specs.Ends.{IsReady}
-use Rattle.kahn_job.specs.Berths.{Serves, end_at}
+use Rattle.kahn_job.specs.inner.Ends.{IsReady}
+use Rattle.kahn_job.specs.inner.Berths.{Serves, end_at}
 use Rattle.kahn_crew.specs.declared.standing.Standing.TheVariants as standing
-use Rattle.kahn_crew.specs.Tasks.{Tasked, handed}
-use Rattle.kahn_crew.specs.Left.{AreAll}
-use Rattle.kahn_pool.specs.Meetings.{IsBehindOn}
-use Rattle.kahn_pool.specs.Rested.{AreTasks, AreTold, IsDryOf, IsEndOf, IsSaid, IsSettled, IsTaskOf, IsToldAs, cell_of, state_of}
+use Rattle.kahn_crew.specs.inner.Tasks.{Tasked, handed}
+use Rattle.kahn_crew.specs.inner.Left.{AreAll}
+use Rattle.kahn_pool.specs.inner.Meetings.{IsBehindOn}
+use Rattle.kahn_pool.specs.inner.Rested.{AreTasks, AreTold, IsDryOf, IsEndOf, IsSaid, IsSettled, IsTaskOf, IsToldAs, cell_of, state_of}
 use Rattle.kahn_pool.specs.declared.answer.End.{End}
 use Rattle.kahn_pool.specs.declared.answer.Outcome.{Outcome}
 use Rattle.kahn_pool.specs.declared.answer.Outcome.TheVariants as outcome
-use Rattle.kahn_pool.specs.Bench.{Rests}
-use Rattle.kahn_pool.specs.Gathered.{AreWithin, IsGiven, IsTold, Stood, nothing, view_at}
+use Rattle.kahn_pool.specs.inner.Bench.{Rests}
+use Rattle.kahn_pool.specs.inner.Gathered.{AreWithin, IsGiven, IsTold, Stood, nothing, view_at}
 use Rattle.kahn_pool.proofs.Benched.{get_map, got, mapped, some_one}
 use Rattle.kahn_pool.proofs.Channels.{told_by_channel}
 use Rattle.kahn_code.proofs.Lists.{stand_in}

@@ -9,18 +9,18 @@ use Rattle.kahn_code.specs.declared.progress.Pause.{Pause}
 use Rattle.kahn_code.specs.declared.progress.Pause.TheVariants as pause
 use Rattle.kahn_code.specs.Progress.{Paused, IsPause}
 use Rattle.kahn_code.specs.Told.{told_view}
-use Rattle.kahn_job.specs.Ends.{End, IsReady}
-use Rattle.kahn_job.specs.Berths.{IsFed, end_at}
-use Rattle.kahn_job.specs.Ways.{nothing}
-use Rattle.kahn_job.specs.Works.{Work}
+use Rattle.kahn_job.specs.inner.Ends.{End, IsReady}
+use Rattle.kahn_job.specs.inner.Berths.{IsFed, end_at}
+use Rattle.kahn_job.specs.inner.Ways.{nothing}
+use Rattle.kahn_job.specs.inner.Works.{Work}
 use Rattle.kahn_crew.specs.declared.standing.Standing.{Standing}
 use Rattle.kahn_crew.specs.declared.standing.Standing.TheVariants as standing
-use Rattle.kahn_crew.specs.Tasks.{Tasked, Continues, IsTrueOf, standing_after}
+use Rattle.kahn_crew.specs.inner.Tasks.{Tasked, Continues, IsTrueOf, standing_after}
 use Rattle.kahn_pool.proofs.Benched.{some_one}
 use Rattle.kahn_pool.proofs.Lists.{set_get, set_else}
 use Rattle.kahn_job.proofs.Berthed.{past_none}
 use Rattle.kahn_crew.proofs.Resting.{continues_here}
-use Rattle.kahn_pool.specs.Rested.{HaveSettled, IsSaid, IsSettled, Says, SettlesTo}
+use Rattle.kahn_pool.specs.inner.Rested.{HaveSettled, IsSaid, IsSettled, Says, SettlesTo}
 
 -- ---- input channels
 

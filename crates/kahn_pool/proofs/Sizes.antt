@@ -10,7 +10,7 @@ use Rattle.kahn_streams.specs.Script.{Tapes, Script, Give, Fail, Waits, Sends, T
 use Rattle.kahn_network.specs.Network.{Network, Instance, Hands, instance_at}
 use Rattle.kahn_streams.specs.Solution as net
 use Rattle.kahn_streams.specs.Solution.{Histories, Inputs, tapes_of, exec_at, iterate, IsPrefix, Ending, HasEnd, HasSizes, none_left, one_more, HasSize}
-use Rattle.kahn_streams.proofs.Frame.{and_more, put_more}
+use Rattle.kahn_streams.proofs.Framed.{and_more, put_more}
 use Rattle.kahn_streams.proofs.Fuel.{play_alike}
 use Rattle.kahn_streams.proofs.Proved.{prefix_trans, Feeds, feeds, script_at, exec_alike, chain, iterates_rise, fits_all}
 use Rattle.kahn_pool.specs.declared.answer.Answer.{Answer}
@@ -21,7 +21,7 @@ use Rattle.kahn_pool.specs.declared.answer.Outcome.{Outcome}
 use Rattle.kahn_pool.specs.declared.answer.Outcome.TheVariants.{Ended, Waits, Faulted, More}
 use Rattle.kahn_pool.specs.Right.{IsRight, IsOutcome, IsEnd, events_of}
 use Rattle.kahn_pool.specs.Exact.{IsWithin, Settles, AreBegun}
-use Rattle.kahn_pool.proofs.Assembled.{AreRight}
+use Rattle.kahn_pool.proofs.Assembling.{AreRight}
 
 -- ---- on longer tapes and with more events allowed no fewer events are done
 

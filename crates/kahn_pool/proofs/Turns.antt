@@ -12,8 +12,8 @@ use Rattle.kahn_code.specs.declared.progress.Pause.{Pause}
 use Rattle.kahn_code.specs.declared.progress.Pause.TheVariants as pause
 use Rattle.kahn_pool.specs.declared.answer.Outcome.TheVariants.{More, Waits}
 use Rattle.kahn_network.specs.Network.{Reads, actual_at, instance_at}
-use Rattle.kahn_pool.specs.Gathered.{view_at, IsTold, TookAll}
-use Rattle.kahn_pool.specs.Bench.{State, IsPaused, Rests, events_at, view_events, all_events, weight, AreEnds, Goes, Marked}
+use Rattle.kahn_pool.specs.inner.Gathered.{view_at, IsTold, TookAll}
+use Rattle.kahn_pool.specs.inner.Bench.{State, IsPaused, Rests, events_at, view_events, all_events, weight, AreEnds, Goes, Marked}
 
 -- a pause and an outcome that say the same
 pub told_as : (s : State) (p : ℕ) (o : script.Outcome Store) (z z' : Pause) (x x' : Outcome) → z ≡ z' → x ≡ x' →

@@ -1,4 +1,4 @@
--- When a right answer is a finished one, and what a stopped one has.
+-- Believed. When a right answer is a finished one, and what a stopped one has.
 use Rattle.std.specs.Prelude.{◌≡◌, ℕ, ◌≤◌, ◌↔◌}
 use Rattle.kahn_network.specs.Network.{Network}
 use Rattle.kahn_streams.specs.Solution.{Inputs, iterate, IsPrefix, HasSize}

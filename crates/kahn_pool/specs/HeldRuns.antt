@@ -1,4 +1,4 @@
--- A run that is held between its parts: what contracts see of it, and what its calls make of it (this project's profile).
+-- Believed. A run that is held between its parts: what contracts see of it, and what its calls make of it (this project's profile).
 use Rattle.std.specs.Prelude.{◌≡◌, ◌⊎◌, ℕ, ◌+◌, ◌<◌, ◌≤◌, ◌^◌, true, List, [], ◌∷◌, map, Option, Some, None, slice_index_or}
 use Rattle.kahn_tree.specs.declared.tree.Program.{Program}
 use Rattle.kahn_network.specs.Network.{Source, Given, Written, Nobody, Writes, network_of, instance_at, actual_at}

@@ -1,15 +1,6 @@
 pub mod Right
 pub mod Exact
-pub mod Gathered
-pub mod Bench
-pub mod Parameters
 pub mod Limits
-pub mod Workbench
-pub mod Streams
 pub mod Runs
-pub mod Rested
-pub mod Meetings
-pub mod Gathers
-pub mod Concluded
 pub mod HeldRuns
-pub mod Holding
+pub mod inner

@@ -1,4 +1,4 @@
--- Why a run is refused.
+-- Believed. Why a run is refused.
 use Rattle.std.specs.Prelude.{ℕ, ◌≤◌, ◌<◌, ◌^◌}
 use Rattle.kahn_crew.specs.declared.fault.CrewFault.{CrewFault}
 use Rattle.kahn_crew.specs.declared.fault.CrewFault.TheVariants as crew

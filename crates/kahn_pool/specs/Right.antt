@@ -1,4 +1,4 @@
--- The right answer of a run: what it says of streams, events and ends, for a network, an input, a bound and a watched
+-- Believed. The right answer of a run: what it says of streams, events and ends, for a network, an input, a bound and a watched
 -- channel. It names no schedule. (This project's profile, over the solution of Kahn's paper.)
 use Rattle.std.specs.Prelude.{◌≡◌, ℕ, suc, ◌≤◌, ◌||◌, List, [], ◌∷◌, ◌++◌, length, map, sum_by, Option, Some, slice_get, if◌then◌else◌}
 use Rattle.kahn_streams.specs.declared.value.Value.{Value}

@@ -1,4 +1,4 @@
--- What a run is asked for, and why it is refused (this project's profile).
+-- Believed. What a run is asked for, and why it is refused (this project's profile).
 use Rattle.std.specs.Prelude.{◌≡◌, ℕ, ◌<◌, ◌≤◌, length, Option, Some, None, string_bytes}
 use Rattle.std.specs.declared.string.String.{String}
 use Rattle.std.specs.declared.alloc.Global.{Global}

@@ -1,7 +1,6 @@
 //! Answers of a run.
 
-use kahn_streams::carried::Carried;
-use kahn_streams::value::{Failure, Line};
+use kahn_streams::{Carried, Failure, Line};
 
 /// Why a run stopped.
 #[derive(Clone, Copy, Debug, PartialEq, Eq)]

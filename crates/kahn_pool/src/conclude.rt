@@ -2,10 +2,10 @@
 
 ghost use Rattle.std.specs.Prelude.{◌≡◌, ◌↔◌, ◌≤◌, length, true, vec_capacity};
 ghost use Rattle.kahn_network.specs.Network.{network_of};
-ghost use Rattle.kahn_pool.specs.Concluded.{IsConcluded};
-ghost use Rattle.kahn_pool.specs.Gathers.{HasEnded};
-ghost use Rattle.kahn_pool.specs.Meetings.{HaveMet};
-ghost use Rattle.kahn_pool.specs.Rested.{state_of};
+ghost use Rattle.kahn_pool.specs.inner.Concluded.{IsConcluded};
+ghost use Rattle.kahn_pool.specs.inner.Gathers.{HasEnded};
+ghost use Rattle.kahn_pool.specs.inner.Meetings.{HaveMet};
+ghost use Rattle.kahn_pool.specs.inner.Rested.{state_of};
 ghost use Rattle.kahn_pool.specs.declared.answer.Verdict.TheVariants as verdict;
 
 use crate::answer::{End, Verdict};
@@ -13,8 +13,8 @@ use crate::ends::ends_of;
 use crate::meeting::meet_all;
 use crate::rounds::verdict_of;
 use kahn_crew::{Left, Task};
-use kahn_network::network::Network;
-use kahn_streams::input::Input;
+use kahn_network::Network;
+use kahn_streams::Input;
 
 /// The tasks of a run that stopped, the end of each instance, and why it stopped.
 #[derive(Drop)]

@@ -1,9 +1,8 @@
-//! Why a run is refused, and how it is set up.
+//! Why a run is refused.
 
-use kahn_code::code::CodeFault;
-pub use kahn_config::{Config, MOST_BOUND, MOST_QUANTUM, MOST_WORKERS};
+use kahn_code::CodeFault;
 use kahn_crew::CrewFault;
-use kahn_streams::memory::NoMemory;
+use kahn_streams::NoMemory;
 use thiserror::Error;
 
 /// Why there is no answer.

@@ -2,20 +2,19 @@
 
 ghost use Rattle.std.specs.Prelude.{◌≡◌, IfOk};
 ghost use Rattle.kahn_network.specs.Network.{network_of};
-ghost use Rattle.kahn_job.specs.Idles.{AreIdle, cells_of};
-ghost use Rattle.kahn_pool.specs.Bench.{AreStreams};
-ghost use Rattle.kahn_pool.specs.Holding.{held_state};
+ghost use Rattle.kahn_job.specs.inner.Idles.{AreIdle, cells_of};
+ghost use Rattle.kahn_pool.specs.inner.Bench.{AreStreams};
+ghost use Rattle.kahn_pool.specs.inner.Holding.{held_state};
 ghost use Rattle.kahn_pool.specs.Right.{stream_lines};
-ghost use Rattle.kahn_pool.specs.Workbench.{AreKeptOf};
+ghost use Rattle.kahn_pool.specs.inner.Workbench.{AreKeptOf};
 
 use crate::answer::{End, Stream};
 use crate::streams::fill;
 use crate::workbench::opening_streams;
-use kahn_code::cell::Kept;
+use kahn_code::Kept;
 use kahn_job::Idle;
-use kahn_network::network::Network;
-use kahn_streams::input::Input;
-use kahn_streams::memory::NoMemory;
+use kahn_network::Network;
+use kahn_streams::{Input, NoMemory};
 use std::alloc::Global;
 
 // What the cell of each job kept.

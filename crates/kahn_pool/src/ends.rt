@@ -2,16 +2,15 @@
 
 ghost use Rattle.std.specs.Prelude.{◌≡◌, ◌↔◌, ℕ, ◌<◌, ◌≤◌, length, Some, IfSome, IfNone, IsTrue, slice_get, vec_capacity};
 ghost use Rattle.kahn_network.specs.Network.{network_of, instance_at, actual_at, Reads};
-ghost use Rattle.kahn_crew.specs.Left.{AreAll};
-ghost use Rattle.kahn_crew.specs.Tasks.{Tasked};
-ghost use Rattle.kahn_pool.specs.Rested.{AreEndsOf, AreTold, IsDryOf, IsEndOf, IsToldAs};
+ghost use Rattle.kahn_crew.specs.inner.Left.{AreAll};
+ghost use Rattle.kahn_crew.specs.inner.Tasks.{Tasked};
+ghost use Rattle.kahn_pool.specs.inner.Rested.{AreEndsOf, AreTold, IsDryOf, IsEndOf, IsToldAs};
 ghost use Rattle.kahn_crew.specs.declared.standing.Standing.TheVariants as standing;
 
 use crate::answer::{End, Outcome};
 use kahn_crew::{Standing, Task};
-use kahn_network::network::Network;
-use kahn_network::sides::Side;
-use kahn_streams::input::Input;
+use kahn_network::{Network, Side};
+use kahn_streams::Input;
 
 // Whether it is this parameter of this instance.
 fn is_side(side: Side, instance: usize, parameter: usize) -> bool

@@ -3,13 +3,13 @@
 ghost use Rattle.std.specs.Prelude.{◌≡◌, ◌↔◌, ◌≤◌, ◌<◌, ◌^◌, [], length, map, true, vec_capacity, IfOk};
 ghost use Rattle.kahn_network.specs.Network.{network_of};
 ghost use Rattle.kahn_streams.specs.Tokens.{inputs_of};
-ghost use Rattle.kahn_pool.specs.Bench.{AreStreams};
+ghost use Rattle.kahn_pool.specs.inner.Bench.{AreStreams};
 ghost use Rattle.kahn_pool.specs.Right.{IsRight, stream_lines};
-ghost use Rattle.kahn_pool.specs.Workbench.{AreKeptOf, AreReady};
+ghost use Rattle.kahn_pool.specs.inner.Workbench.{AreKeptOf, AreReady};
 ghost use Rattle.kahn_pool.specs.declared.answer.Verdict.TheVariants as verdict;
-ghost use Rattle.kahn_pool.specs.Gathers.{HasEnded, IsRoom};
-ghost use Rattle.kahn_crew.specs.Left.{HaveLeft};
-ghost use Rattle.kahn_pool.specs.Rested.{AreTasks, cell_of, state_of};
+ghost use Rattle.kahn_pool.specs.inner.Gathers.{HasEnded, IsRoom};
+ghost use Rattle.kahn_crew.specs.inner.Left.{HaveLeft};
+ghost use Rattle.kahn_pool.specs.inner.Rested.{AreTasks, cell_of, state_of};
 
 use crate::answer::{Answer, End, Stream};
 use crate::conclude::{Conclusion, conclude};
@@ -17,12 +17,10 @@ use crate::laws;
 use crate::settle::settle_all;
 use crate::streams::fill;
 use crate::workbench::opening_streams;
-use kahn_code::cell::Kept;
-use kahn_code::code::{Code, CodeFault};
-use kahn_code::steps::Steps;
+use kahn_code::{Code, CodeFault, Kept, Steps};
 use kahn_crew::{Left, Task};
-use kahn_network::network::Network;
-use kahn_streams::input::Input;
+use kahn_network::Network;
+use kahn_streams::Input;
 use std::alloc::Global;
 use std::sync::ledger::Ledger;
 

@@ -6,22 +6,19 @@ ghost use Rattle.kahn_pool.specs.HeldRuns.{HasFed, HasStarted, IsAnswerOf, IsRes
 ghost use Rattle.kahn_pool.specs.declared.answer.Verdict.{Verdict as VerdictOf};
 
 use crate::answer::{Answer, End, Verdict};
-use crate::config::{Config, MOST_BOUND, RunFault};
+use crate::config::RunFault;
 use crate::copies::{copied_ends, copied_streams};
-use crate::gate::Gate;
 use crate::held_fault::HeldFault;
 use crate::laws;
 use crate::part::{Part, PartRoom, first_idles, run_part};
 use crate::plan::plan_of;
-use crate::run::watched;
-use kahn_code::code::{Code, compile};
-use kahn_crew::{CrewFault, Plan};
+use crate::running::watched;
+use kahn_code::{Code, compile};
+use kahn_config::{Config, MOST_BOUND};
+use kahn_crew::{CrewFault, Gate, Plan};
 use kahn_job::Idle;
-use kahn_network::network::Network;
-use kahn_streams::feeds::FeedFault;
-use kahn_streams::input::Input;
-use kahn_streams::memory::NoMemory;
-use kahn_streams::value::Value;
+use kahn_network::Network;
+use kahn_streams::{FeedFault, Input, NoMemory, Value};
 use std::alloc::Global;
 use std::marker::Model;
 use std::mem;
@@ -50,9 +47,9 @@ impl<'n> Model for Held<'n> {
     ghost use Rattle.kahn_tree.specs.contracts.tree.Form as form;
     ghost use Rattle.std.specs.Coded.{codes};
     ghost use Rattle.std.specs.Prelude.{map};
-    ghost use Rattle.kahn_job.specs.Idles.{cells_of};
+    ghost use Rattle.kahn_job.specs.inner.Idles.{cells_of};
     ghost use Rattle.kahn_pool.specs.HeldRuns.{HeldRun, seen_of};
-    ghost use Rattle.kahn_pool.specs.Holding.{IsHolding};
+    ghost use Rattle.kahn_pool.specs.inner.Holding.{IsHolding};
 
     ghost Value = { HeldRun };
 

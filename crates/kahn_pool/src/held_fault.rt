@@ -1,7 +1,7 @@
 //! Why a held run doesn't go on.
 
 use kahn_crew::CrewFault;
-use kahn_streams::memory::NoMemory;
+use kahn_streams::NoMemory;
 use thiserror::Error;
 
 /// Why a part of a held run gives no verdict, by the first of these that holds.

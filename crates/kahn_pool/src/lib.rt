@@ -1,23 +1,38 @@
 //! Runs of a network, and what their answers mean.
 #![tactic(auto)]
 
-pub mod answer;
+mod answer;
 mod conclude;
-pub mod config;
+mod config;
 mod copies;
 mod ends;
-pub mod gate;
 mod gather;
-pub mod held;
-pub mod held_fault;
-pub mod laws;
+mod held;
+mod held_fault;
+mod laws;
 mod meeting;
-pub mod one;
+mod one;
 mod part;
 mod plan;
 mod rounds;
-pub mod run;
+mod running;
 mod settle;
 mod streams;
 mod workbench;
 mod workers;
+
+pub use answer::{Answer, End, Outcome, Stream, Verdict};
+pub use config::RunFault;
+pub use held::Held;
+pub use held_fault::HeldFault;
+pub use kahn_config::{Config, MOST_BOUND, MOST_QUANTUM, MOST_WORKERS};
+pub use kahn_crew::{Gate, Open};
+pub use laws::{
+    calls_go_on, finished_exactly, finished_is_one, goes_on_same, goes_on_then, stopped_begins,
+    verdict_is_one,
+};
+pub use one::run_one;
+pub use running::run;
+
+// For the crates above.
+pub use laws::{assembled, by_channel};

@@ -2,12 +2,11 @@
 
 ghost use Rattle.std.specs.Prelude.{◌≡◌, ℕ, ◌<◌, ◌+◌, length, Some, slice_get, vec_len};
 ghost use Rattle.kahn_network.specs.Network.{network_of};
-ghost use Rattle.kahn_crew.specs.Tasks.{HasMet, Tasked};
-ghost use Rattle.kahn_pool.specs.Meetings.{AreJoined, CanMeet, CanMeetAt, HaveMet, IsBehind, IsBehindAt, IsBehindOn};
+ghost use Rattle.kahn_crew.specs.inner.Tasks.{HasMet, Tasked};
+ghost use Rattle.kahn_pool.specs.inner.Meetings.{AreJoined, CanMeet, CanMeetAt, HaveMet, IsBehind, IsBehindAt, IsBehindOn};
 
 use kahn_crew::Task;
-use kahn_network::network::Network;
-use kahn_network::sides::Side;
+use kahn_network::{Network, Side};
 
 // The writer and the reader of a channel meet.
 fn meet<'n>(writer: &mut Task<'n>, output: usize, reader: &mut Task<'n>, input: usize)

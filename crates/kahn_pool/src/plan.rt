@@ -2,7 +2,7 @@
 
 ghost use Rattle.std.specs.Prelude.{◌≡◌, ◌≤◌};
 
-use crate::config::Config;
+use kahn_config::Config;
 use kahn_crew::Plan;
 
 /// The plan of a run of that configuration, with the channel that is to be watched.

@@ -1,10 +1,10 @@
 //! A run on one thread: round after round, until a round in which nothing was done.
 
 ghost use Rattle.kahn_streams.specs.Solution.{source};
-ghost use Rattle.kahn_pool.specs.Bench.{State, HasRun, Paused, Rests, Goes, GoesIn, IsSameRun, Marked, AreEnds, IsLast, IsVerdict, AreStreams, events_at, all_events, weight};
-ghost use Rattle.kahn_pool.specs.Gathered.{IsFrom};
+ghost use Rattle.kahn_pool.specs.inner.Bench.{State, HasRun, Paused, Rests, Goes, GoesIn, IsSameRun, Marked, AreEnds, IsLast, IsVerdict, AreStreams, events_at, all_events, weight};
+ghost use Rattle.kahn_pool.specs.inner.Gathered.{IsFrom};
 ghost use Rattle.kahn_pool.specs.Right.{IsRight, line_of, stream_lines};
-ghost use Rattle.kahn_pool.specs.Workbench.{state_of};
+ghost use Rattle.kahn_pool.specs.inner.Workbench.{state_of};
 ghost use Rattle.kahn_pool.specs.declared.answer.Outcome.TheVariants as outcome;
 ghost use Rattle.kahn_pool.specs.declared.answer.Stream.{Stream};
 ghost use Rattle.kahn_code.specs.declared.progress.Pause.TheVariants as pause;
@@ -12,10 +12,10 @@ ghost use Rattle.std.specs.Prelude.{vec_len, vec_capacity};
 ghost use Rattle.std.specs.Prelude.{◌≡◌, ◌⊎◌, ◌<◌, ◌≤◌, ◌+◌, ◌^◌, ℕ, suc, length, map, true, false, IsTrue, IsFalse, slice_get, Some, None, IfOk, IsOk, cond};
 
 use crate::answer::{Answer, End, Outcome, Verdict};
-use crate::gate::Gate;
 use crate::laws;
 use crate::workbench::Workbench;
-use kahn_code::progress::Pause;
+use kahn_code::Pause;
+use kahn_crew::Gate;
 use std::sync::ledger::Ledger;
 
 // A round in which each cell is run once.

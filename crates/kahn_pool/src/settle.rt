@@ -1,13 +1,12 @@
 //! Each task that may go on is asked once more what comes next.
 
 ghost use Rattle.std.specs.Prelude.{◌≡◌, ℕ, ◌^◌, ◌<◌, length, Some, slice_get};
-ghost use Rattle.kahn_job.specs.Berths.{IsFed, end_at};
-ghost use Rattle.kahn_crew.specs.Tasks.{Tasked};
-ghost use Rattle.kahn_pool.specs.Rested.{HaveSettled, IsSettled, SettlesTo};
+ghost use Rattle.kahn_job.specs.inner.Berths.{IsFed, end_at};
+ghost use Rattle.kahn_crew.specs.inner.Tasks.{Tasked};
+ghost use Rattle.kahn_pool.specs.inner.Rested.{HaveSettled, IsSettled, SettlesTo};
 ghost use Rattle.kahn_crew.specs.declared.standing.Standing.TheVariants as standing;
 
-use kahn_code::code::Code;
-use kahn_code::steps::Steps;
+use kahn_code::{Code, Steps};
 use kahn_crew::{Standing, Task};
 use std::sync::ledger::Ledger;
 

@@ -11,18 +11,13 @@ ghost use Rattle.kahn_streams.specs.Solution.{source};
 ghost use Rattle.kahn_streams.specs.Tokens.{inputs_of};
 ghost use Rattle.kahn_code.specs.Cells.{IsKept, is_streamed};
 ghost use Rattle.kahn_pool.specs.Right.{line_of, channel_lines, print_lines, stream_lines};
-ghost use Rattle.kahn_pool.specs.Streams.{AreNamed, IsDeclared, IsBare, kept_lists, AreLists, IsFilled, AreFilled, KeepsOthers, HasInput, HasInputs, HaveInput};
+ghost use Rattle.kahn_pool.specs.inner.Streams.{AreNamed, IsDeclared, IsBare, kept_lists, AreLists, IsFilled, AreFilled, KeepsOthers, HasInput, HasInputs, HaveInput};
 
 use crate::answer::Stream;
-use kahn_code::cell::Kept;
-use kahn_network::network::Network;
-use kahn_network::sides::Side;
-use kahn_streams::carried::Carried;
-use kahn_streams::input::Input;
-use kahn_streams::memory::NoMemory;
-use kahn_streams::value::Line;
-use kahn_tree::prints::declaration_prints;
-use kahn_tree::tree::Role;
+use kahn_code::Kept;
+use kahn_network::{Network, Side};
+use kahn_streams::{Carried, Input, Line, NoMemory};
+use kahn_tree::{Role, declaration_prints};
 use std::alloc::Global;
 use std::mem;
 

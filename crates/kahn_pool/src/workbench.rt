@@ -2,22 +2,17 @@
 
 ghost use Rattle.kahn_network.specs.Network.{Reads, network_of, instance_at, actual_at};
 ghost use Rattle.kahn_streams.specs.Tokens.{Lists};
-ghost use Rattle.kahn_pool.specs.Bench.{HasRun, AreStreams, all_events, events_at};
-ghost use Rattle.kahn_pool.specs.Gathered.{AreWithin};
+ghost use Rattle.kahn_pool.specs.inner.Bench.{HasRun, AreStreams, all_events, events_at};
+ghost use Rattle.kahn_pool.specs.inner.Gathered.{AreWithin};
 ghost use Rattle.kahn_pool.specs.Right.{stream_lines};
-ghost use Rattle.kahn_pool.specs.Workbench.{Table, AreOpen, AreOpening, AreKeptOf, AreReady, state_of};
+ghost use Rattle.kahn_pool.specs.inner.Workbench.{Table, AreOpen, AreOpening, AreKeptOf, AreReady, state_of};
 ghost use Rattle.std.specs.Prelude.{◌≡◌, ◌≤◌, ◌<◌, ◌+◌, ◌^◌, ℕ, [], length, map, IfOk, vec_capacity};
 
 use crate::answer::Stream;
 use crate::streams::{empty_streams, fill, watched_input};
-use kahn_code::cell::{Cell, Kept};
-use kahn_code::code::{Code, CodeFault, compile};
-use kahn_code::plain::Plain;
-use kahn_code::progress::Pause;
-use kahn_code::steps::Steps;
-use kahn_network::network::Network;
-use kahn_streams::input::Input;
-use kahn_streams::memory::NoMemory;
+use kahn_code::{Cell, Code, CodeFault, Kept, Pause, Plain, Steps, compile};
+use kahn_network::Network;
+use kahn_streams::{Input, NoMemory};
 use std::alloc::Global;
 use std::marker::Model;
 use std::sync::ledger::Ledger;
@@ -41,7 +36,7 @@ impl<'n, L: Ledger> Model for Workbench<'n, L> {
     ghost use Rattle.kahn_tree.specs.contracts.tree.Form as form;
     ghost use Rattle.std.specs.Coded.{codes};
     ghost use Rattle.std.specs.Prelude.{vec_capacity};
-    ghost use Rattle.kahn_pool.specs.Workbench.{Table, IsLaid, AreReady};
+    ghost use Rattle.kahn_pool.specs.inner.Workbench.{Table, IsLaid, AreReady};
 
     ghost Value = { Table };
 

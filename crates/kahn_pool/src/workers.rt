@@ -8,13 +8,11 @@ ghost use Rattle.std.specs.Prelude.{◌≡◌, ◌<◌, ◌≤◌, ◌^◌, Matc
 
 use crate::answer::Answer;
 use crate::config::RunFault;
-use crate::gate::Gate;
 use crate::gather::{Room, answer_of};
-use kahn_code::code::compile;
-use kahn_code::steps::Steps;
-use kahn_crew::{Plan, run_crew};
-use kahn_network::network::Network;
-use kahn_streams::input::Input;
+use kahn_code::{Steps, compile};
+use kahn_crew::{Gate, Plan, run_crew};
+use kahn_network::Network;
+use kahn_streams::Input;
 use std::alloc::Global;
 use std::marker::Brand;
 use std::sync::Wait;

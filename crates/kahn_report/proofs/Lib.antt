@@ -11,5 +11,5 @@ pub mod Told
 pub mod Worked
 pub mod Same_programs
 pub mod Same_inputs
-pub mod One_report
-pub mod Sample_text
+pub mod Same_reports
+pub mod Sample_spelt

@@ -2,8 +2,8 @@
 use Rattle.std.proofs.Common.{ℕ, List, Option, Err, refl}
 use Rattle.kahn_tree.specs.declared.tree.Program.{Program}
 use Rattle.kahn_config.specs.declared.Config.{Config}
-use Rattle.kahn_report.specs.declared.work.WorkFault.{WorkFault}
-use Rattle.kahn_report.specs.declared.work.WorkFault.TheVariants.{Syntax, Check, Text, Run, Write}
+use Rattle.kahn_report.specs.declared.working.WorkFault.{WorkFault}
+use Rattle.kahn_report.specs.declared.working.WorkFault.TheVariants.{Syntax, Check, Text, Run, Write}
 use Rattle.kahn_report.specs.Work.{IsChecked, IsUnchecked, IsUnanswered, IsWorked}
 
 pub unchecked : (program input : List ℕ) (config : Config) (written : Option (List ℕ)) (fault : WorkFault) → IsUnchecked program fault →

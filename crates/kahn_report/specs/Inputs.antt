@@ -1,4 +1,4 @@
--- The input that an input text stands for, and why a text stands for none.
+-- Believed. The input that an input text stands for, and why a text stands for none.
 use Rattle.std.specs.Prelude.{ℕ, List}
 use Rattle.kahn_tree.specs.declared.tree.Program.{Program}
 use Rattle.kahn_streams.specs.declared.entries.InputFault.{InputFault}

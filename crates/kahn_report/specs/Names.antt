@@ -1,4 +1,4 @@
--- The names in a network, by number, counted from 0.
+-- Believed. The names in a network, by number, counted from 0.
 use Rattle.std.specs.Prelude.{ℕ, List, [], length, map, slice_index_or}
 use Rattle.kahn_tree.specs.declared.tree.Declaration.{Declaration}
 use Rattle.kahn_tree.specs.declared.tree.Program.{Program}

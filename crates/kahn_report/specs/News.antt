@@ -1,4 +1,4 @@
--- The text of what is new on streams since they were shown (this project's profile).
+-- Believed. The text of what is new on streams since they were shown (this project's profile).
 use Rattle.std.specs.Prelude.{ℕ, List, [], ◌∷◌, ◌++◌, codes, drop, flat_map, length, map}
 use Rattle.std.specs.List.{concat}
 use Rattle.kahn_tree.specs.declared.tree.Program.{Program}

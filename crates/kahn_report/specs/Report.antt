@@ -1,4 +1,4 @@
--- The report text of an answer of a network: a function of the program and the answer, line by line. Each line ends
+-- Believed. The report text of an answer of a network: a function of the program and the answer, line by line. Each line ends
 -- with a line feed and has no blank at its end.
 use Rattle.std.specs.Prelude.{ℕ, ◌+◌, ◌<◌, List, [], ◌∷◌, ◌++◌, codes, decimal, flat_map, All, true, false}
 use Rattle.std.specs.Fmt.{signed_decimal}

@@ -1,4 +1,4 @@
--- The sample text, word by word. Kahn's paper has it in section 2.
+-- Believed. The sample text, word by word. Kahn's paper has it in section 2.
 use Rattle.std.specs.Prelude.{◌≡◌, ℕ, List, [], ◌∷◌, codes, pos}
 use Rattle.kahn_syntax.specs.declared.lexeme.Keyword.TheVariants as keyword
 use Rattle.kahn_syntax.specs.declared.lexeme.Sign.TheVariants as mark

@@ -1,4 +1,4 @@
--- What the whole work does, from the bytes of the texts to the bytes of the report.
+-- Believed. What the whole work does, from the bytes of the texts to the bytes of the report.
 use Rattle.std.specs.Prelude.{◌≡◌, ℕ, ◌≤◌, List, Option, Some, None, Result, Ok, Err, string_bytes}
 use Rattle.std.specs.declared.string.String.{String}
 use Rattle.std.specs.declared.alloc.Global.{Global}
@@ -18,8 +18,8 @@ use Rattle.kahn_pool.specs.declared.answer.Verdict.TheVariants.{Finished}
 use Rattle.kahn_config.specs.declared.Config.{Config}
 use Rattle.kahn_pool.specs.Exact.{Settles}
 use Rattle.kahn_pool.specs.Runs.{IsRun, IsUnrun}
-use Rattle.kahn_report.specs.declared.work.WorkFault.{WorkFault}
-use Rattle.kahn_report.specs.declared.work.WorkFault.TheVariants.{Syntax, Check, Text, Run, Write}
+use Rattle.kahn_report.specs.declared.working.WorkFault.{WorkFault}
+use Rattle.kahn_report.specs.declared.working.WorkFault.TheVariants.{Syntax, Check, Text, Run, Write}
 use Rattle.kahn_report.specs.Inputs.{StandsFor, IsTextFault}
 use Rattle.kahn_report.specs.Report.{report_text}
 use Rattle.kahn_report.specs.Written.{AppendsFront}

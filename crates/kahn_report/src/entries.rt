@@ -7,7 +7,7 @@ ghost use Rattle.kahn_streams.specs.Entries.{entry_of};
 use crate::heads::{head_of, is_blank};
 use crate::input::TextFault;
 use crate::values::{ValuesFault, read_values};
-use kahn_streams::value::Value;
+use kahn_streams::Value;
 use std::alloc::Global;
 use thiserror::Error;
 

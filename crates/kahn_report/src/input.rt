@@ -6,9 +6,8 @@ ghost use Rattle.kahn_streams.specs.Kinded.{IsInputFor};
 ghost use Rattle.kahn_report.specs.Inputs.{IsTextFault, StandsFor};
 
 use crate::entries::read_entries;
-use kahn_network::network::Network;
-use kahn_streams::entries::InputFault;
-use kahn_streams::input::Input;
+use kahn_network::Network;
+use kahn_streams::{Input, InputFault};
 use std::alloc::Global;
 use thiserror::Error;
 

@@ -1,13 +1,26 @@
 //! Texts in and out of a run: the input text, the report text, and reading and writing them.
 #![tactic(auto)]
 
-pub mod entries;
+mod entries;
 mod heads;
-pub mod input;
-pub mod laws;
-pub mod names;
-pub mod news;
-pub mod read;
+mod input;
+mod laws;
+mod names;
+mod news;
+mod read;
 mod values;
-pub mod work;
-pub mod write;
+mod working;
+mod write;
+
+pub use input::{TextFault, read_input};
+pub use laws::{one_report, sample_text};
+pub use read::{ReadFault, read_text};
+pub use working::{WorkFault, work};
+pub use write::{WriteFault, write_report};
+
+// For the crates above.
+pub use entries::{LineFault, MOST_BYTES, read_entries, read_line};
+pub use names::{channel_name, process_name};
+pub use news::{write_closing, write_news};
+pub use working::checked;
+pub use write::{write_line, write_line_counted};

@@ -3,8 +3,8 @@
 ghost use Rattle.std.specs.Prelude.{◌≡◌};
 ghost use Rattle.kahn_report.specs.Names.{channel_name, process_name};
 
-use kahn_network::network::Network;
-use kahn_tree::tree::Declaration;
+use kahn_network::Network;
+use kahn_tree::Declaration;
 
 /// The declared name of a channel, or nothing past the last. It takes no memory.
 pub fn channel_name(network: &Network, channel: usize) -> &str

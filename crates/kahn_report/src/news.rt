@@ -8,11 +8,10 @@ ghost use Rattle.kahn_report.specs.News.{more_text, fresh_text, closing_text};
 ghost use Rattle.kahn_report.specs.Written.{Writes};
 
 use crate::write::{WriteFault, flush, put_ends, put_last, put_tokens};
-use kahn_network::network::Network;
-use kahn_pool::answer::{Answer, Stream};
-use kahn_streams::carried::Carried;
-use kahn_streams::value::Line;
-use kahn_tree::steps::Steps;
+use kahn_network::Network;
+use kahn_pool::{Answer, Stream};
+use kahn_streams::{Carried, Line};
+use kahn_tree::Steps;
 use std::io::Write;
 use std::marker::Brand;
 use std::sync::ledger::{Blank, Ledger};

@@ -4,7 +4,7 @@ ghost use Rattle.std.specs.Prelude.{◌≡◌, ℕ, ◌+◌, ◌<◌, ◌≤◌,
 ghost use Rattle.std.specs.Str.{IsUtf8};
 ghost use Rattle.kahn_report.specs.Reading.{GivesAll, Stands};
 
-use kahn_tree::steps::Steps;
+use kahn_tree::Steps;
 use std::alloc::Global;
 use std::io::Read;
 use std::marker::Brand;

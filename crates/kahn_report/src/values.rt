@@ -5,7 +5,7 @@ ghost use Rattle.kahn_report.specs.Entries.{IsValue, AreValues};
 ghost use Rattle.kahn_streams.specs.declared.value.Value.{Value};
 ghost use Rattle.kahn_streams.specs.declared.value.Value.TheVariants.{Integer};
 
-use kahn_streams::value::Value;
+use kahn_streams::Value;
 use std::alloc::Global;
 use std::str;
 

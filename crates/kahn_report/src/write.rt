@@ -9,11 +9,10 @@ ghost use Rattle.kahn_report.specs.Report.{report_text, value_text, token_text, 
 
 use crate::names::{channel_name, process_name};
 use itoa::{Buffer, write_digits};
-use kahn_network::network::Network;
-use kahn_pool::answer::{Answer, End, Outcome, Stream, Verdict};
-use kahn_streams::carried::Carried;
-use kahn_streams::value::{Failure, Line, Value};
-use kahn_tree::steps::Steps;
+use kahn_network::Network;
+use kahn_pool::{Answer, End, Outcome, Stream, Verdict};
+use kahn_streams::{Carried, Failure, Line, Value};
+use kahn_tree::Steps;
 use std::io::Write;
 use std::marker::Brand;
 use std::sync::ledger::{Blank, Ledger};

@@ -1,16 +1,11 @@
 //! What is told of each fault, and the status.
 
-use kahn_check::fault::CheckFault;
+use kahn_check::CheckFault;
 use kahn_fault::{Fault, fault_line, status};
-use kahn_pool::answer::Verdict;
-use kahn_pool::config::RunFault;
-use kahn_report::input::TextFault;
-use kahn_report::read::ReadFault;
-use kahn_report::work::WorkFault;
-use kahn_report::write::WriteFault;
-use kahn_streams::entries::InputFault;
-use kahn_syntax::fault::{SyntaxFault, What};
-use kahn_tree::span::Span;
+use kahn_pool::{RunFault, Verdict};
+use kahn_report::{ReadFault, TextFault, WorkFault, WriteFault};
+use kahn_streams::InputFault;
+use kahn_syntax::{Span, SyntaxFault, What};
 use std::alloc::Global;
 use std::test::Fail;
 
@@ -252,11 +247,17 @@ fn told(alloc: Global, fault: Fault) -> Result<(String, u8), Fail> {
     Ok((String::from_utf8(written)?, status(&Err(fault))))
 }
 
-// Whether the fault has this line and this status, and is shown in the words that end the line.
+// Whether the fault has this line and this status, and is shown in the words of the line behind its place in the program.
 fn tells(alloc: Global, fault: Fault, line: &str, number: u8) -> Result<bool, Fail> {
-    let shown = format!(in alloc; "{fault}\n")?;
+    let shown = if line.starts_with("kahn: 2:3: ") {
+        format!(in alloc; "kahn: 2:3: {fault}\n")?
+    } else if line.starts_with("kahn: 2:8: ") {
+        format!(in alloc; "kahn: 2:8: {fault}\n")?
+    } else {
+        format!(in alloc; "kahn: {fault}\n")?
+    };
     let (said, status) = told(alloc, fault)?;
-    Ok(said.as_str() == line && status == number && line.ends_with(shown.as_str()))
+    Ok(said.as_str() == line && shown.as_str() == line && status == number)
 }
 
 #[test]

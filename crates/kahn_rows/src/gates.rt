@@ -1,11 +1,10 @@
 //! Gates that hold one process until another has come to a quantum: so many workers run processes at the same time.
 
-use crate::held::{begun, network_of, report_of};
+use crate::held::{begun, network_of};
 use crate::programs::{HANDED_ON, TWO_COUNTS};
 use crate::rows::{AMPLE, config, reported};
 use crossbeam_utils::Backoff;
-use kahn_pool::answer::Verdict;
-use kahn_pool::gate::Gate;
+use kahn_pool::{Gate, Verdict};
 use std::alloc::{AllocError, Global};
 use std::sync::atomic::{AtomicU64, Ordering};
 use std::test::Fail;
@@ -124,50 +123,93 @@ fn held_before_its_quantum(rt: HostRuntime) -> Result<(), Fail> {
     Ok(())
 }
 
-// Each part of a held run has the workers, the quantum and the gate that it was given.
+// A gate that writes down the instances in the order in which they came: digits to the base 4, from 1.
+#[derive(Drop)]
+struct Ordered {
+    came: AtomicU64,
+}
+
+impl Gate for Ordered {
+    fn enter(&self, instance: usize) {
+        let came = self.came.load(Ordering::SeqCst).wrapping_mul(4);
+        let digit = (instance as u64).wrapping_add(1);
+        self.came.store(came.wrapping_add(digit), Ordering::SeqCst);
+    }
+}
+
+// One worker enters the gate for each quantum of each process in turn.
 #[test]
-fn two_at_once_in_parts(rt: HostRuntime) -> Result<(), Fail> {
-    let alloc = rt.alloc();
-    let first =
-        "V: 0 1\nW: 0 1\nend 1 count: wants more after 4\nend 2 count: wants more after 4\nstopped by bound 8\n";
-    let second =
-        "V: 0 1 2\nW: 0 1 2\nend 1 count: ended after 7\nend 2 count: ended after 7\nfinished 14\n";
-    let network = network_of(alloc, TWO_COUNTS)?;
-    let config = config(alloc, 2, 1, 0, None)?;
-    let mut held = begun(alloc, &network, "", config)?;
-    for (more, verdict, entered, left, report) in [
-        (8, Verdict::Bound, (4, 4, 0), 0, first),
-        (100, Verdict::Finished, (3, 3, 0), 94, second),
-    ] {
-        let gate = Holding::of(None);
-        assert_eq!(rt; held.resume(&rt, more, &gate), Ok(verdict));
-        assert_eq!(rt; gate.told(), entered);
-        assert_eq!(rt; held.budget(), left);
-        assert_eq!(rt; report_of(alloc, &network, &held)?.as_str(), report);
+fn one_worker_takes_turns(rt: HostRuntime) -> Result<(), Fail> {
+    let rows = [
+        (TWO_COUNTS, 1, 0b01_10_01_10_01_10_01_10_01_10_01_10_01_10),
+        (TWO_COUNTS, 2, 0b01_10_01_10_01_10_01_10),
+        (TWO_COUNTS, 7, 0b01_10),
+        (TWO_COUNTS, 1000, 0b01_10),
+        (HANDED_ON, 1, 0b01_10_10),
+        (HANDED_ON, 1000, 0b01_10),
+    ];
+    for (program, quantum, came) in rows {
+        let gate = Ordered {
+            came: AtomicU64::new(0),
+        };
+        let config = config(rt.alloc(), 1, quantum, AMPLE, None)?;
+        let (verdict, _) = reported(&rt, rt.alloc(), program, "", config, &gate)?;
+        assert_eq!(rt; gate.came.load(Ordering::SeqCst), came);
+        assert_eq!(rt; verdict, Verdict::Finished);
     }
     Ok(())
 }
 
-// A gate that lets nobody go before so many have come, or turns ran out.
+// A gate that lets nobody go before so many have come, or turns ran out. It tells how often each of 16 instances came, as
+// digits to the base 16, how many were there at the same time, and how often turns ran out.
 #[derive(Drop)]
 struct Meeting {
     wanted: u64,
     entries: AtomicU64,
+    came: AtomicU64,
+    here: AtomicU64,
+    most: AtomicU64,
     late: AtomicU64,
 }
 
+impl Meeting {
+    fn of(wanted: u64) -> Meeting {
+        Meeting {
+            wanted,
+            entries: AtomicU64::new(0),
+            came: AtomicU64::new(0),
+            here: AtomicU64::new(0),
+            most: AtomicU64::new(0),
+            late: AtomicU64::new(0),
+        }
+    }
+
+    fn told(&self) -> (u64, u64, u64) {
+        (
+            self.came.load(Ordering::SeqCst),
+            self.most.load(Ordering::SeqCst),
+            self.late.load(Ordering::SeqCst),
+        )
+    }
+}
+
 impl Gate for Meeting {
-    fn enter(&self, _instance: usize) {
+    fn enter(&self, instance: usize) {
+        let digit = 1u64.wrapping_shl((instance % 16) as u32 * 4);
+        self.came.fetch_add(digit, Ordering::SeqCst);
+        let here = self.here.fetch_add(1, Ordering::SeqCst).wrapping_add(1);
+        self.most.fetch_max(here, Ordering::SeqCst);
         self.entries.fetch_add(1, Ordering::SeqCst);
         if !wait_for(&self.entries, self.wanted) {
             self.late.fetch_add(1, Ordering::SeqCst);
         }
+        self.here.fetch_sub(1, Ordering::SeqCst);
     }
 }
 
-// 16 instances of a process that prints twice.
-fn prints(alloc: Global) -> Result<String, AllocError> {
-    let mut text = String::from_str(alloc, "begin process p(); begin print 1; print 2 end; p()")?;
+// 16 instances of a process with this body.
+fn sixteen(alloc: Global, body: &str) -> Result<String, AllocError> {
+    let mut text = format!(in alloc; "begin process p(); begin {body} end; p()")?;
     for _ in 1..16u64 {
         text.push_str(" par p()")?;
     }
@@ -175,21 +217,51 @@ fn prints(alloc: Global) -> Result<String, AllocError> {
     Ok(text)
 }
 
-// Sixteen workers are there at the same time, and one comes to each quantum too.
+// A body of 14 events.
+const SHORT: &str = "integer I; while I < 6 do begin I := I + 1; print I end; print 7";
+
+// Once for each of 16 instances.
+const EACH: u64 = 0x1111_1111_1111_1111;
+
+// As many workers as are asked for are there at the same time and never more, and one comes to each quantum of each process.
 #[test]
-fn sixteen_at_once(rt: HostRuntime) -> Result<(), Fail> {
-    let program = prints(rt.alloc())?;
-    for (workers, quantum, entries) in [(16, 1, 32), (16, 2, 16), (1, 1, 32), (1, 2, 16)] {
-        let gate = Meeting {
-            wanted: workers,
-            entries: AtomicU64::new(0),
-            late: AtomicU64::new(0),
-        };
-        let config = config(rt.alloc(), workers, quantum, AMPLE, None)?;
-        let (verdict, _) = reported(&rt, rt.alloc(), program.as_str(), "", config, &gate)?;
-        assert_eq!(rt; gate.late.load(Ordering::SeqCst), 0);
-        assert_eq!(rt; gate.entries.load(Ordering::SeqCst), entries);
-        assert_eq!(rt; verdict, Verdict::Finished);
+fn workers_at_once(rt: HostRuntime) -> Result<(), Fail> {
+    let program = sixteen(rt.alloc(), SHORT)?;
+    for workers in 1..17u64 {
+        for (quantum, times) in [(1, 14), (2, 7), (7, 2), (1000, 1)] {
+            let gate = Meeting::of(workers);
+            let config = config(rt.alloc(), workers, quantum, AMPLE, None)?;
+            let (verdict, _) = reported(&rt, rt.alloc(), program.as_str(), "", config, &gate)?;
+            let came = EACH.wrapping_mul(times);
+            assert_eq!(rt; gate.told(), (came, workers, 0), "{workers} {quantum}");
+            assert_eq!(rt; verdict, Verdict::Finished);
+        }
+    }
+    Ok(())
+}
+
+// Each part of a held run has the workers, the quantum and the gate that it was given: 64 quanta are done in each.
+#[test]
+fn workers_at_once_in_parts(rt: HostRuntime) -> Result<(), Fail> {
+    let alloc = rt.alloc();
+    let network = network_of(alloc, sixteen(alloc, "repeat begin end")?.as_str())?;
+    for workers in 1..17u64 {
+        for (quantum, bound) in [(1, 64), (2, 128), (7, 448), (1000, 64_000)] {
+            let config = config(alloc, workers, quantum, 0, None)?;
+            let mut held = begun(alloc, &network, "", config)?;
+            for _ in 0..2u64 {
+                let gate = Meeting::of(workers);
+                assert_eq!(rt; held.resume(&rt, bound, &gate), Ok(Verdict::Bound));
+                let (_, most, late) = gate.told();
+                let entries = gate.entries.load(Ordering::SeqCst);
+                assert_eq!(rt;
+                    (entries, most, late),
+                    (64, workers, 0),
+                    "{workers} {quantum}"
+                );
+                assert_eq!(rt; held.budget(), 0);
+            }
+        }
     }
     Ok(())
 }

@@ -1,11 +1,10 @@
 //! Input texts for the doubling process.
 
 use crate::programs::DOUBLE;
-use kahn_check::network::check;
-use kahn_report::input::{TextFault, read_input};
-use kahn_streams::entries::InputFault;
-use kahn_streams::value::Value;
-use kahn_syntax::parser::parse;
+use kahn_check::check;
+use kahn_report::{TextFault, read_input};
+use kahn_streams::{InputFault, Value};
+use kahn_syntax::parse;
 use std::test::Fail;
 
 static REFUSED: [(&str, TextFault); 11] = [

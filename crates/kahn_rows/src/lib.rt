@@ -23,3 +23,5 @@ mod rows;
 mod sizes;
 #[cfg(test)]
 mod streams;
+#[cfg(test)]
+mod words;

@@ -10,12 +10,8 @@ ghost use Rattle.kahn_streams.specs.declared.token.Token.{Token as TokenOf};
 use crate::held::network_of;
 use crate::programs::LEAD;
 use crate::rows::config;
-use kahn_pool::answer::Answer;
-use kahn_pool::gate::Open;
-use kahn_pool::held::Held;
-use kahn_streams::input::Input;
-use kahn_streams::token::Token;
-use kahn_streams::value::{Line, Value};
+use kahn_pool::{Answer, Held, Open};
+use kahn_streams::{Input, Line, Token, Value};
 use std::test::Fail;
 
 // The first token of the first stream, as a token of an input whose lists those of the token's begin.

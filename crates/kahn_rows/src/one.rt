@@ -1,12 +1,10 @@
 //! A run on the caller's thread.
 
 use crate::programs::DOUBLE;
-use kahn_check::network::check;
-use kahn_pool::answer::Verdict;
-use kahn_pool::one::run_one;
-use kahn_report::input::read_input;
-use kahn_report::write::write_report;
-use kahn_syntax::parser::parse;
+use kahn_check::check;
+use kahn_pool::{Verdict, run_one};
+use kahn_report::{read_input, write_report};
+use kahn_syntax::parse;
 use std::test::Fail;
 
 #[test]

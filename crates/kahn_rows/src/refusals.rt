@@ -4,20 +4,12 @@ use crate::programs::{
     COUNT, DOUBLE, INVERT, NO_LOGICAL_WRITER, NO_WRITER, TWO_READERS, TWO_WRITERS,
 };
 use crate::rows::{AMPLE, config};
-use kahn_check::fault::CheckFault;
-use kahn_check::network::check;
+use kahn_check::{CheckFault, check};
 use kahn_fault::{Fault, fault_line, status};
-use kahn_pool::config::RunFault;
-use kahn_pool::gate::Open;
-use kahn_pool::one::run_one;
-use kahn_pool::run::run;
-use kahn_report::input::TextFault;
-use kahn_report::work::{WorkFault, work};
-use kahn_streams::entries::InputFault;
-use kahn_streams::input::Input;
-use kahn_syntax::fault::{SyntaxFault, What};
-use kahn_syntax::parser::parse;
-use kahn_tree::span::Span;
+use kahn_pool::{Open, RunFault, run, run_one};
+use kahn_report::{TextFault, WorkFault, work};
+use kahn_streams::{Input, InputFault};
+use kahn_syntax::{Span, SyntaxFault, What, parse};
 use std::test::Fail;
 
 // A program, an input, the channel that is watched, the fault, its line, and the status.

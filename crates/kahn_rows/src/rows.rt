@@ -4,10 +4,8 @@ use crate::programs::{
     ALTERNATE, COUNT, DIVISION, DOUBLE, FOUR_TURNS, INVERT, LEAST, LOOP, MARKS, OVERFLOW, PRINTS,
     RING, SAMPLE, SIGNS, SILENT, TOP, TRUTH, TWO_COUNTS, UNREAD,
 };
-use kahn_pool::answer::Verdict;
-use kahn_pool::config::Config;
-use kahn_pool::gate::{Gate, Open};
-use kahn_report::work::work;
+use kahn_pool::{Config, Gate, Open, Verdict};
+use kahn_report::work;
 use std::alloc::{AllocError, Global};
 use std::sync::Wait;
 use std::test::Fail;

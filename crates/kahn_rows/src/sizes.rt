@@ -1,8 +1,7 @@
 //! Long streams, and networks that are as large as they may be.
 
 use crate::rows::{AMPLE, config, reported};
-use kahn_pool::answer::Verdict;
-use kahn_pool::gate::Open;
+use kahn_pool::{Open, Verdict};
 use std::alloc::{AllocError, Global};
 use std::test::Fail;
 

@@ -2,16 +2,17 @@
 
 ghost use Rattle.std.specs.Prelude.{Some};
 
+use crate::held::network_of;
 use crate::programs::COUNT;
 use crate::rows::{AMPLE, config};
-use kahn_check::fault::CheckFault;
+use kahn_check::CheckFault;
 use kahn_fault::{Fault, fault_line};
-use kahn_pool::answer::Verdict;
-use kahn_pool::gate::Open;
-use kahn_report::read::{ReadFault, read_text};
-use kahn_report::work::{WorkFault, work};
-use kahn_report::write::WriteFault;
-use kahn_tree::span::Span;
+use kahn_pool::{Open, Verdict, run_one};
+use kahn_report::{
+    ReadFault, WorkFault, WriteFault, read_text, work, write_closing, write_line, write_news,
+};
+use kahn_streams::Input;
+use kahn_syntax::Span;
 use std::alloc::Global;
 use std::io;
 use std::io::{Error, ErrorKind, Read, Write};
@@ -142,6 +143,28 @@ fn the_flush_alone_fails(rt: HostRuntime) -> Result<(), Fail> {
         );
         assert_eq!(rt; writer.taken.as_slice(), line.as_slice());
         assert_eq!(rt; (writer.calls, writer.flushes), (33, 1));
+    }
+    Ok(())
+}
+
+// What a writer took whose calls count, where its flush fails or not, and what each call of a writer said of it.
+#[test]
+fn the_flush_of_each_writer_fails(rt: HostRuntime) -> Result<(), Fail> {
+    let alloc = rt.alloc();
+    let network = network_of(alloc, COUNT)?;
+    let answer = run_one(alloc, &network, Input::none(alloc, &network)?, 100)?;
+    for (fails, told) in [(false, Ok(())), (true, Err(WriteFault::Failed))] {
+        let mut writer = Slow::new(alloc, 0, None, fails);
+        assert_eq!(rt; write_news(&mut writer, &network, &[], &[]), told);
+        assert_eq!(rt; (writer.calls, writer.flushes), (0, 1));
+        assert_eq!(rt; write_closing(&mut writer, &network, &answer), told);
+        assert_eq!(rt; (writer.calls, writer.flushes), (38, 2));
+        assert_eq!(rt; write_line(&mut writer, &[b"digraph"]), told);
+        assert_eq!(rt; (writer.calls, writer.flushes), (45, 3));
+        assert_eq!(rt;
+            writer.taken.as_slice(),
+            b"end 1 count: ended after 7\nfinished 7\ndigraph".as_slice()
+        );
     }
     Ok(())
 }

@@ -13,7 +13,7 @@ use Rattle.kahn_pool.specs.declared.answer.Answer.{Answer}
 use Rattle.kahn_pool.specs.declared.answer.Stream.{Stream}
 use Rattle.kahn_pool.proofs.Held_calls.{still_so}
 use Rattle.kahn_report.specs.News.{joined, news_since}
-use Rattle.kahn_session.specs.Shown.{AreShown}
+use Rattle.kahn_session.specs.inner.Shown.{AreShown}
 
 -- both have the same lines
 lines_stay : (a b : HeldRun) → GoesOn a b → stream_lines (network_of b.network) b.watch ≡ stream_lines (network_of a.network) a.watch

@@ -10,7 +10,7 @@ use Rattle.kahn_pool.proofs.Held_calls.{goes_on_same, goes_on_then}
 use Rattle.kahn_report.specs.News.{news_since}
 use Rattle.kahn_session.specs.Live.{HasAnswered, HasGoneOn, IsFedBy, IsTaken, IsUnfedBy, Live}
 use Rattle.kahn_session.specs.Pace.{HasAnswer, HasNoAnswer, Pace, most_bound, part_bound}
-use Rattle.kahn_session.specs.Shown.{AreShown}
+use Rattle.kahn_session.specs.inner.Shown.{AreShown}
 use Rattle.kahn_session.specs.declared.fault.TakeFault.{TakeFault}
 use Rattle.kahn_session.specs.declared.fault.TakeFault.TheVariants.{TooLong, NotUtf8, BadLine, BadValue, Feed, NoMemory, WaitsForMemory, WaitsForThread, Write}
 use Rattle.kahn_session.proofs.Showing.{news_fit}
@@ -55,14 +55,14 @@ module _ (line : List ℕ) (h : HeldRun) (wired : IsWellWired h.network) (p q : 
   pub halted_on : (f : TakeFault) → HasNoAnswer p q f → GoesOn h q.run
   halted_on f n = whole_on (no_answer_on p q f still_wired n).0
 
-  module _ (step : ℕ) (step_is : p.step ≡ step) (shown : List (List Value)) (settled : Bool) where
-    gone_on : (later : List (List Value)) (now : Bool) → GoesOn p.run q.run → q.run.input ≡ p.run.input → q.step ≡ p.step →
-        HasGoneOn line (record { run = h; step = step; shown = shown; settled = settled }) (record { run = q.run; step = q.step; shown = later; settled = now })
-    gone_on later now g input stays = record { fed = (p.run, fed, input); goes_on = whole_on g; step = stays ∙ step_is }
+  module _ (step : ℕ) (step_is : p.step ≡ step) (shown : List (List Value)) (settled broken : Bool) where
+    gone_on : (later : List (List Value)) (now torn : Bool) → GoesOn p.run q.run → q.run.input ≡ p.run.input → q.step ≡ p.step →
+        HasGoneOn line (record { run = h; step = step; shown = shown; settled = settled; broken = broken }) (record { run = q.run; step = q.step; shown = later; settled = now; broken = torn })
+    gone_on later now torn g input stays = record { fed = (p.run, fed, input); goes_on = whole_on g; step = stays ∙ step_is }
 
     -- a line that was fed, and whose part waits
     pub waiting : (before : Option (List ℕ)) (f : TakeFault) → HasNoAnswer p q f →
-        IsTaken line (record { run = h; step = step; shown = shown; settled = settled }) (record { run = q.run; step = q.step; shown = shown; settled = false }) before before (Err f)
+        IsTaken line (record { run = h; step = step; shown = shown; settled = settled; broken = broken }) (record { run = q.run; step = q.step; shown = shown; settled = false; broken = broken }) before before (Err f)
     waiting before TooLong n = absurd n
     waiting before NotUtf8 n = absurd n
     waiting before BadLine n = absurd n
@@ -71,17 +71,17 @@ module _ (line : List ℕ) (h : HeldRun) (wired : IsWellWired h.network) (p q : 
     waiting before NoMemory n = absurd n
     waiting before WaitsForMemory n =
         let (g, input, stays) = no_answer_on p q WaitsForMemory still_wired n in
-        record { gone_on = gone_on shown false g input stays; shown = refl; settled = refl; text = refl }
+        record { gone_on = gone_on shown false broken g input stays; shown = refl; settled = refl; text = refl }
     waiting before WaitsForThread n =
         let (g, input, stays) = no_answer_on p q WaitsForThread still_wired n in
-        (record { gone_on = gone_on shown false g input stays; shown = refl; settled = refl; text = refl }, subst (λ n. 1 < n) (fed_workers line h p.run fed) n.1)
+        (record { gone_on = gone_on shown false broken g input stays; shown = refl; settled = refl; text = refl }, subst (λ n. 1 < n) (fed_workers line h p.run fed) n.1)
     waiting before (Write f) n = absurd n
 
     -- a line that was fed, and whose part has its answer
-    pub answered : (later : List (List Value)) (now : Bool) (a : Answer) → AreShown h shown → HasAnswer p q a →
-        HasAnswered line (record { run = h; step = step; shown = shown; settled = settled }) (record { run = q.run; step = q.step; shown = later; settled = now }) a (news_since shown (map values_of a.streams.items))
-    answered later now a are n = record {
-      gone_on = gone_on later now n.run.goes_on n.run.input n.run.step;
+    pub answered : (later : List (List Value)) (now torn : Bool) (a : Answer) → AreShown h shown → HasAnswer p q a →
+        HasAnswered line (record { run = h; step = step; shown = shown; settled = settled; broken = broken }) (record { run = q.run; step = q.step; shown = later; settled = now; broken = torn }) a (news_since shown (map values_of a.streams.items))
+    answered later now torn a are n = record {
+      gone_on = gone_on later now torn n.run.goes_on n.run.input n.run.step;
       bound = n.run.bound ∙ ap (λ m. part_bound m p.run) step_is ∙ ap (λ (l : List Seen). min (sum_by seen_events l + step) most_bound) (fed_cells line h p.run fed);
       is = n.is;
       exact = n.exact;

@@ -1,4 +1,4 @@
 pub mod Pace
-pub mod Shown
 pub mod Live
 pub mod Refusals
+pub mod inner

@@ -1,4 +1,4 @@
--- A session: a run that is fed line by line, and what it has shown of its streams (this project's profile).
+-- Believed. A session: a run that is fed line by line, and what it has shown of its streams (this project's profile).
 use Rattle.std.specs.Prelude.{◌≡◌, ◌⊎◌, ℕ, ◌<◌, ◌≤◌, Bool, true, false, List, [], map, length, replicate, Option, Some, None, Result, Ok, Err}
 use Rattle.std.specs.Io.KnownBytes.{Appends}
 use Rattle.std.specs.Str.{IsUtf8}
@@ -31,6 +31,8 @@ pub record Live : Type 0 where
   pub shown : List (List Value)
   -- whether that is the answer of the run as it now stands
   pub settled : Bool
+  -- whether a write failed: then `shown` doesn't tell what went out
+  pub broken : Bool
 
 -- the values of each stream of an answer that was shown
 abbrev pub shown_of : Option Answer → List (List Value)
@@ -45,6 +47,7 @@ pub record HasOpened (t : Program) (config : Config) (s : Live) : Type 0 where
   pub step : s.step ≡ config.bound
   pub shown : s.shown ≡ []
   pub settled : s.settled ≡ false
+  pub broken : s.broken ≡ false
 
 abbrev pub IsUnopened : Program → Config → RunFault → Type 0
 IsUnopened t config fault.BadConfig = IsUnstarted t config fault.BadConfig
@@ -110,7 +113,6 @@ pub record HasBroken (line : List ℕ) (old new : Live) (before after : Option (
   pub answer : Answer
   pub news : List (List Value)
   pub answered : HasAnswered line old new answer news
-  pub shown : new.shown ≡ old.shown
   pub settled : new.settled ≡ false
   pub text : AppendsFront before after (text_of new answer news)
 
@@ -120,6 +122,18 @@ pub record IsWaiting (line : List ℕ) (old new : Live) (before after : Option (
   pub shown : new.shown ≡ old.shown
   pub settled : new.settled ≡ false
   pub text : after ≡ before
+
+-- whether the session is broken by a fault
+abbrev pub breaks : TakeFault → Bool
+breaks TooLong = false
+breaks NotUtf8 = false
+breaks BadLine = false
+breaks BadValue = false
+breaks (Feed f) = false
+breaks NoMemory = false
+breaks WaitsForMemory = false
+breaks WaitsForThread = false
+breaks (Write f) = true
 
 -- nothing changed, and why
 pub record IsRefused (line : List ℕ) (old new : Live) (before after : Option (List ℕ)) (f : TakeFault) : Type 0 where

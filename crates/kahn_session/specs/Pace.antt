@@ -1,4 +1,4 @@
--- A held run, each part of which may take so many events (this project's profile).
+-- Believed. A held run, each part of which may take so many events (this project's profile).
 use Rattle.std.specs.Prelude.{◌≡◌, ◌⊎◌, ℕ, ◌+◌, ◌<◌, min, sum_by}
 use Rattle.kahn_network.specs.Network.{network_of}
 use Rattle.kahn_streams.specs.Tokens.{inputs_of}

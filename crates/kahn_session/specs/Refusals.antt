@@ -1,4 +1,4 @@
--- What is said of a line of input that isn't taken, or whose part waits: one line (this project's profile).
+-- Believed. What is said of a line of input that isn't taken, or whose part waits: one line (this project's profile).
 use Rattle.std.specs.Prelude.{ℕ, List, [], ◌∷◌, codes, decimal}
 use Rattle.std.specs.List.{concat}
 use Rattle.kahn_streams.specs.declared.feeds.FeedFault.{FeedFault}

@@ -1,7 +1,10 @@
 //! Why a line of input isn't taken.
 
-use kahn_report::write::WriteFault;
-use kahn_streams::feeds::FeedFault;
+ghost use Rattle.std.specs.Prelude.{◌≡◌};
+ghost use Rattle.kahn_session.specs.Live.{breaks};
+
+use kahn_report::WriteFault;
+use kahn_streams::FeedFault;
 use thiserror::Error;
 
 /// Why a part of a run gives no verdict.
@@ -15,7 +18,7 @@ pub(crate) enum PartFault {
     NoThread,
 }
 
-/// Why a line of input isn't taken, or its part waits. After each of them the session goes on with the next line.
+/// Why a line of input isn't taken, or its part waits. After each but `Write` the session goes on with the next line.
 #[derive(Clone, Copy, Debug, PartialEq, Eq, Drop, Error)]
 pub enum TakeFault {
     /// The line has more than 16,777,216 bytes. Nothing changed.
@@ -42,7 +45,16 @@ pub enum TakeFault {
     /// The values are fed, and a thread couldn't be started. A blank line tries again.
     #[error("waits for a thread")]
     WaitsForThread,
-    /// The part was run, and what is new couldn't be written whole. A prefix of it was.
+    /// The part was run, and what is new couldn't be written whole. A prefix of it was, and the session is broken.
     #[error("news could not be written")]
     Write(WriteFault),
+}
+
+impl TakeFault {
+    /// Whether the session is broken by it.
+    pub fn breaks(self) -> bool
+        ensures { result ≡ breaks self }
+    {
+        matches!(self, TakeFault::Write(_))
+    }
 }

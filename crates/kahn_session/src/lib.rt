@@ -1,7 +1,11 @@
 //! A run that is fed line by line, and shows after each line what is new on its streams.
 #![tactic(auto)]
 
-pub mod fault;
+mod fault;
 mod pace;
-pub mod refusal;
-pub mod session;
+mod refusal;
+mod session;
+
+pub use fault::TakeFault;
+pub use refusal::write_refusal;
+pub use session::Session;

@@ -6,8 +6,8 @@ ghost use Rattle.kahn_session.specs.Refusals.{feed_words, refusal_line, refusal_
 
 use crate::fault::TakeFault;
 use itoa::Buffer;
-use kahn_report::write::{WriteFault, write_line};
-use kahn_streams::feeds::FeedFault;
+use kahn_report::{WriteFault, write_line};
+use kahn_streams::FeedFault;
 use std::io::Write;
 
 /// Why values aren't fed.

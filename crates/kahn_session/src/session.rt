@@ -1,7 +1,7 @@
 //! Sessions: what a line of input makes of a run, and what goes out after it.
 
 ghost use Rattle.std.specs.Io.KnownBytes.{Appends};
-ghost use Rattle.std.specs.Prelude.{◌≡◌, true, map, MatchOption, MatchResult};
+ghost use Rattle.std.specs.Prelude.{◌≡◌, true, false, map, MatchOption, MatchResult};
 ghost use Rattle.kahn_streams.specs.Entries.{entry_of};
 ghost use Rattle.kahn_pool.specs.HeldRuns.{HeldRun, IsAnswerOf};
 ghost use Rattle.kahn_pool.specs.Right.{values_of};
@@ -9,20 +9,15 @@ ghost use Rattle.kahn_pool.specs.declared.answer.Answer.{Answer as AnswerOf};
 ghost use Rattle.kahn_report.specs.Entries.{IsBlank, IsEntry, content};
 ghost use Rattle.kahn_report.specs.News.{closing_text};
 ghost use Rattle.kahn_report.specs.Written.{AppendsFront};
-ghost use Rattle.kahn_session.specs.Live.{HasOpened, IsFedBy, IsTaken, IsText, IsUnfedBy, IsUnopened, shown_of};
+ghost use Rattle.kahn_session.specs.Live.{HasOpened, IsFedBy, IsTaken, IsText, IsUnfedBy, IsUnopened, breaks, shown_of};
 ghost use Rattle.kahn_session.specs.Pace.{HasAnswer, HasNoAnswer};
 
 use crate::fault::{PartFault, TakeFault};
 use crate::pace::Paced;
-use kahn_network::network::Network;
-use kahn_pool::answer::{Answer, Stream, Verdict};
-use kahn_pool::config::{Config, RunFault};
-use kahn_pool::gate::Gate;
-use kahn_report::entries::{LineFault, MOST_BYTES, read_line};
-use kahn_report::news::{write_closing, write_news};
-use kahn_report::write::WriteFault;
-use kahn_streams::input::Input;
-use kahn_streams::value::Value;
+use kahn_network::Network;
+use kahn_pool::{Answer, Config, Gate, RunFault, Stream, Verdict};
+use kahn_report::{LineFault, MOST_BYTES, WriteFault, read_line, write_closing, write_news};
+use kahn_streams::{Input, Value};
 use std::alloc::Global;
 use std::io::Write;
 use std::marker::Model;
@@ -39,6 +34,8 @@ pub struct Session<'n> {
     last: Option<Answer>,
     // Whether it is the answer of the run as it now stands.
     settled: bool,
+    // Whether a write failed, after which nothing tells what went out.
+    broken: bool,
 }
 
 impl<'n> Model for Session<'n> {
@@ -49,13 +46,13 @@ impl<'n> Model for Session<'n> {
     ghost use Rattle.kahn_pool.specs.HeldRuns.{IsAnswerOf};
     ghost use Rattle.kahn_pool.specs.declared.answer.Answer.{Answer as AnswerOf};
     ghost use Rattle.kahn_session.specs.Live.{Live, shown_of};
-    ghost use Rattle.kahn_session.specs.Shown.{AreShown};
+    ghost use Rattle.kahn_session.specs.inner.Shown.{AreShown};
 
     ghost Value = { Live };
 
     ghost coded = { Prim.hlevel (codes, action.the_row.coded, form.the_row.coded) };
 
-    ghost view = { λ s. record { run = s.paced.run; step = s.paced.step; shown = shown_of s.last; settled = s.settled } };
+    ghost view = { λ s. record { run = s.paced.run; step = s.paced.step; shown = shown_of s.last; settled = s.settled; broken = s.broken } };
 
     ghost invariant = { λ s. (s.paced.run.network ≡ s.network.now) × AreShown s.paced.run (shown_of s.last) × (s.settled ≡ true → (a : AnswerOf) × (s.last ≡ Some a) × IsAnswerOf s.paced.run a) };
 }
@@ -143,6 +140,7 @@ impl<'n> Session<'n> {
             paced,
             last: None,
             settled: false,
+            broken: false,
         })
     }
 
@@ -153,7 +151,8 @@ impl<'n> Session<'n> {
     ///
     /// The line is refused with `TooLong`, `NotUtf8`, `BadLine`, `BadValue`, `Feed` and `NoMemory`, in this order: then
     /// nothing changed and nothing was written. With `WaitsForMemory` and `WaitsForThread` the values are fed and the part
-    /// waits for the next line: nothing was written. With `Write` the part was run, and a prefix of what is new was written.
+    /// waits for the next line: nothing was written. With `Write` the part was run, and a prefix of what is new was written:
+    /// the session is broken, and takes no further line.
     pub fn take<R: Threads + Wait + Sync, G: Gate + Sync, W: Write>(
         &mut self,
         rt: &R,
@@ -161,7 +160,9 @@ impl<'n> Session<'n> {
         gate: &G,
         writer: &mut W,
     ) -> Result<Verdict, TakeFault>
-        ensures { IsTaken line.now self.old self.new (W.contents writer.old) (W.contents writer.new) result }
+        requires { self.old.broken ≡ false }
+        ensures taken { IsTaken line.now self.old self.new (W.contents writer.old) (W.contents writer.new) result }
+        ensures broken { MatchResult result (λ _. self.new.broken ≡ false) (λ f. self.new.broken ≡ breaks f) }
     {
         let _program = self.network.program();
         if let Err(fault) = feed_line(self.alloc, &mut self.paced, line) {
@@ -184,7 +185,10 @@ impl<'n> Session<'n> {
                 self.settled = true;
                 Ok(verdict)
             }
-            Err(fault) => Err(TakeFault::Write(fault)),
+            Err(fault) => {
+                self.broken = true;
+                Err(TakeFault::Write(fault))
+            }
         }
     }
 
@@ -193,6 +197,13 @@ impl<'n> Session<'n> {
         ensures { result ≡ self.now.settled }
     {
         self.settled
+    }
+
+    /// Whether a write failed. Then the session takes no further line, and it is never settled.
+    pub fn broken(&self) -> bool
+        ensures { result ≡ self.now.broken }
+    {
+        self.broken
     }
 
     /// Writes the last lines of a report, how each process stands and how the run ended, and flushes. It is asked for only

@@ -1,5 +1,5 @@
 pub mod Computed
-pub mod Frame
+pub mod Framed
 pub mod Fuel
 pub mod Proved
 pub mod Runs
@@ -8,7 +8,7 @@ pub mod Finished
 pub mod Composed
 pub mod Loops
 pub mod Token_lists
-pub mod Found
+pub mod Finding
 pub mod Kinded
 pub mod Kinded_networks
 pub mod Dry

@@ -11,7 +11,7 @@ use Rattle.kahn_streams.specs.Meaning.{Store, script_of}
 use Rattle.kahn_network.specs.Network.{Network, Instance, Actual, Reads, Writes, Hands, instance_at, actual_at, Source, Given, Written, Nobody}
 use Rattle.kahn_streams.specs.Solution.{Histories, Inputs, opening, tape_of, tapes_of, exec_at, out, values_at, goes_to, source, fed, input_list, iterate, IsPrefix}
 use Rattle.kahn_streams.specs.Laws.{IsChain, HasOneValue, IsSolved, IsSolution, IsBelow, AreSame, KeepsTape, IsExtended, Frame}
-use Rattle.kahn_streams.proofs.Frame.{and_more, widened, cut_short, Stays, frame_play, dry_play, Begins, begins_nil, grows_play}
+use Rattle.kahn_streams.proofs.Framed.{and_more, widened, cut_short, Stays, frame_play, dry_play, Begins, begins_nil, grows_play}
 use Rattle.kahn_streams.proofs.Fuel.{Alike, gives, script_alike, play_alike}
 
 -- ---- prefixes

@@ -4,7 +4,7 @@ use Rattle.std.proofs.Common.{◌≡◌, ℕ, zero, suc, ◌==◌, Bool, true, f
 use Rattle.kahn_streams.specs.declared.value.Value.{Value}
 use Rattle.kahn_streams.specs.Script.{Tapes, Script, Give, Fail, Waits, Sends, Turns, Rest, Outcome, Dry, Cut, Reached, at_once, after_event, after_send, put, wait_at, play}
 use Rattle.kahn_streams.specs.Steps.{Step, Took, Sent, Turned, Follows, here, took, sent, turned, empty, taken, sends_of, and_then, since, halted, RanBy}
-use Rattle.kahn_streams.proofs.Frame.{and_more}
+use Rattle.kahn_streams.proofs.Framed.{and_more}
 use Rattle.kahn_streams.proofs.Fuel.{Alike, gives, fails, waits_last, waits, sends_last, sends, turns_last, turns}
 
 -- ---- one step after another

@@ -18,7 +18,7 @@ use Rattle.std.proofs.Math.Nat.{le-max_left, le-max_right}
 use Rattle.std.proofs.Common.{max, ne_eqb, ◌==◌, if◌then◌else◌}
 use Rattle.kahn_streams.specs.Sample.{no_input, f_turn, g_turn, h_turn, sample_network, Sample}
 use Rattle.kahn_streams.proofs.Runs.{play_on, follows_append}
-use Rattle.kahn_streams.proofs.Frame.{and_more}
+use Rattle.kahn_streams.proofs.Framed.{and_more}
 
 abbrev number : ℕ → Value
 number n = Integer (pos n)

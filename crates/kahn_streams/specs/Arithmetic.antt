@@ -1,4 +1,4 @@
--- The operators on values, at 64 bits.
+-- Believed. The operators on values, at 64 bits.
 use Rattle.std.specs.Prelude.{◌^◌, ℤ, pos, negsuc, ◌+ℤ◌, ◌-ℤ◌, ◌*ℤ◌, Bool, false, not, ◌&&◌, ◌||◌, nat_lt, int_lt, int_le, int_div, int_rem, Result, Ok, Err, if◌then◌else◌}
 use Rattle.std.proofs.Common.{int_eq}
 use Rattle.std.specs.Bool.{beq}

@@ -1,4 +1,4 @@
--- The meaning of a whole by the meanings of its parts, told apart from the continuations.
+-- Believed. The meaning of a whole by the meanings of its parts, told apart from the continuations.
 use Rattle.std.specs.Prelude.{◌≡◌, ℕ, ◌+◌, ◌-◌, ◌++◌, suc}
 use Rattle.kahn_streams.specs.declared.value.Value.{Value}
 use Rattle.kahn_tree.specs.Syntax.{Expr, Stmt, While, If, Seq, Skip, Repeat}

@@ -1,4 +1,4 @@
--- The entries from which an input is made: names of channels, each with the values that it is fed. Which entries are
+-- Believed. The entries from which an input is made: names of channels, each with the values that it is fed. Which entries are
 -- refused, and which list a channel gets, are this project's profile.
 use Rattle.std.specs.Prelude.{◌≡◌, ◌≢◌, ℕ, ◌+◌, ◌<◌, ◌≤◌, ◌==◌, Bool, true, false, List, [], ◌∷◌, length, take, Some, slice_get, string_bytes, if◌then◌else◌}
 use Rattle.std.specs.declared.string.String.{String}

@@ -1,4 +1,4 @@
--- The definitions at work on small networks. Each statement holds by computation.
+-- Believed. The definitions at work on small networks. Each statement holds by computation.
 use Rattle.std.specs.Prelude.{◌≡◌, true, ℕ, zero, suc, [], ◌∷◌, pos, Some, None}
 use Rattle.kahn_streams.specs.declared.value.Value.TheVariants.{Integer}
 use Rattle.kahn_streams.specs.declared.value.Failure.TheVariants.{Overflow}

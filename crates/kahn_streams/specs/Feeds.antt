@@ -1,4 +1,4 @@
--- Values that are fed to an input which stands already (this project's profile).
+-- Believed. Values that are fed to an input which stands already (this project's profile).
 use Rattle.std.specs.Prelude.{◌≡◌, ◌≢◌, ℕ, ◌+◌, ◌<◌, ◌≤◌, ◌==◌, List, [], ◌++◌, length, if◌then◌else◌}
 use Rattle.kahn_tree.specs.declared.tree.Program.{Program}
 use Rattle.kahn_tree.specs.declared.tree.Role.TheVariants.{Input}

@@ -1,4 +1,4 @@
--- Values and the kinds of the channels on which they stand.
+-- Believed. Values and the kinds of the channels on which they stand.
 use Rattle.std.specs.Prelude.{◌≡◌, ◌≢◌, ℕ, List, [], length}
 use Rattle.std.specs.List.{AllByRecursion}
 use Rattle.kahn_tree.specs.declared.tree.Kind.{Kind}

@@ -1,4 +1,4 @@
--- The laws of the meaning.
+-- Believed. The laws of the meaning.
 use Rattle.std.specs.Prelude.{◌≡◌, ◌≤◌, ℕ, suc, max, List, ◌++◌, slice_get, Some}
 use Rattle.kahn_streams.specs.declared.value.Value.{Value}
 use Rattle.kahn_streams.specs.declared.value.Line.{Line}

@@ -1,4 +1,4 @@
--- The meaning of expressions and statements, by cases on the syntax. `next` is what is done with the result.
+-- Believed. The meaning of expressions and statements, by cases on the syntax. `next` is what is done with the result.
 use Rattle.std.specs.Prelude.{ℕ, zero, suc, true, false, not, neg_ℤ, List, Result, Ok, Err, slice_index_or, slice_set, pos}
 use Rattle.kahn_streams.specs.declared.value.Value.{Value}
 use Rattle.kahn_streams.specs.declared.value.Value.TheVariants.{Integer, Logical}

@@ -1,4 +1,4 @@
--- The network of the sample text as its text gives it, statement for statement and the empty ones too: its history on X is
+-- Believed. The network of the sample text as its text gives it, statement for statement and the empty ones too: its history on X is
 -- 0 1 0 1 and so on.
 use Rattle.std.specs.Prelude.{ℕ, [], ◌∷◌, pos, ◌%◌, ◌↔◌, ◌≡◌, true}
 use Rattle.kahn_streams.specs.declared.value.Value.{Value}

@@ -1,4 +1,4 @@
--- What a process does next, and how far it comes with given tapes and a given number of events.
+-- Believed. What a process does next, and how far it comes with given tapes and a given number of events.
 use Rattle.std.specs.Prelude.{ℕ, zero, suc, ◌==◌, List, [], ◌∷◌, if◌then◌else◌}
 use Rattle.kahn_streams.specs.declared.value.Value.{Value}
 use Rattle.kahn_streams.specs.declared.value.Failure.{Failure}

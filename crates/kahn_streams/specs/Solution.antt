@@ -1,4 +1,4 @@
--- What the processes of a network send on given histories, and the least solution of the network's equations,
+-- Believed. What the processes of a network send on given histories, and the least solution of the network's equations,
 -- as the limit of the iterates that start from empty histories (Kahn's paper, section 3). Events, ends and the
 -- size are this project's profile.
 use Rattle.std.specs.Prelude.{◌≡◌, ℕ, zero, suc, ◌+◌, ◌≤◌, ◌==◌, Bool, false, List, [], ◌∷◌, ◌++◌, map, Option, Some, None, pos, if◌then◌else◌, slice_get}

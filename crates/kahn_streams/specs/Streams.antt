@@ -1,4 +1,4 @@
--- What contracts say of lists of tokens.
+-- Believed. What contracts say of lists of tokens.
 use Rattle.std.specs.Prelude.{◌≡◌, ℕ, suc, List, [], ◌∷◌, Some, slice_get}
 use Rattle.kahn_tree.specs.declared.tree.Program.{Program}
 use Rattle.kahn_streams.specs.declared.value.Line.{Line}

@@ -1,4 +1,4 @@
--- What contracts say of tokens and inputs. A token is a value with its place on its line (this project's profile);
+-- Believed. What contracts say of tokens and inputs. A token is a value with its place on its line (this project's profile);
 -- that its value stands there in the least solution is what its type keeps.
 use Rattle.std.specs.Prelude.{ℕ, List, [], slice_index_or}
 use Rattle.kahn_tree.specs.declared.tree.Program.{Program}

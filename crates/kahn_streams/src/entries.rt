@@ -7,10 +7,9 @@ ghost use Rattle.kahn_network.specs.Sides.{channel_names};
 ghost use Rattle.kahn_streams.specs.Entries.{IsFit, IsRefused};
 ghost use Rattle.kahn_streams.specs.Kinded.{AreOfKind};
 
-use crate::memory::NoMemory;
 use crate::value::Value;
-use kahn_network::network::Network;
-use kahn_tree::tree::{Kind, Role};
+use kahn_network::Network;
+use kahn_tree::{Kind, NoMemory, Role};
 use std::alloc::AllocError;
 use thiserror::Error;
 

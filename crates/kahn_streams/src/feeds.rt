@@ -7,10 +7,9 @@ ghost use Rattle.kahn_network.specs.Sides.{channel_names};
 ghost use Rattle.kahn_streams.specs.Feeds.{IsMeant, IsNotMeant};
 
 use crate::entries::{are_of_kind, channel_named};
-use crate::memory::NoMemory;
 use crate::value::Value;
-use kahn_network::network::Network;
-use kahn_tree::tree::Role;
+use kahn_network::Network;
+use kahn_tree::{NoMemory, Role};
 use thiserror::Error;
 
 /// Why values aren't fed to an input, by the first of these that holds.

@@ -12,11 +12,10 @@ ghost use Rattle.kahn_tree.specs.declared.tree.Role.TheVariants.{Input as InputR
 
 use crate::entries::{InputFault, MOST_VALUES, are_of_kind, channel_for};
 use crate::feeds::{FeedFault, channel_meant};
-use crate::memory::NoMemory;
 use crate::token::Token;
 use crate::value::{Line, Value};
-use kahn_network::network::Network;
-use kahn_tree::tree::Role;
+use kahn_network::Network;
+use kahn_tree::{NoMemory, Role};
 use std::alloc::Global;
 use std::marker::Model;
 

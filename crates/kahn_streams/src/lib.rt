@@ -1,12 +1,27 @@
 //! Values, tokens, inputs, and what a network means: the least solution of its equations, with its laws.
 #![tactic(auto)]
 
-pub mod about;
-pub mod carried;
-pub mod entries;
-pub mod feeds;
-pub mod input;
-pub mod laws;
-pub mod memory;
-pub mod token;
-pub mod value;
+mod about;
+mod carried;
+mod entries;
+mod feeds;
+mod input;
+mod laws;
+mod token;
+mod value;
+
+pub use carried::Carried;
+pub use entries::InputFault;
+pub use feeds::FeedFault;
+pub use input::Input;
+pub use kahn_tree::NoMemory;
+pub use laws::{
+    chain, composes, counts, determined, dry_reads, examples, found, frame, grows, kinds, least,
+    one_value, ran_by_steps, replays, sample, sends_stand, settles, solves,
+};
+pub use token::Token;
+pub use value::{Failure, Line, Value};
+
+// For the crates above.
+pub use about::About;
+pub use entries::channel_named;

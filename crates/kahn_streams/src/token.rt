@@ -10,7 +10,7 @@ ghost use Rattle.kahn_streams.specs.Tokens.{Holds, Names};
 use crate::about::About;
 use crate::input::Input;
 use crate::value::{Line, Value};
-use kahn_network::network::Network;
+use kahn_network::Network;
 
 /// A value that stands at its place of its line, in the solution of its network for its input.
 #[derive(Drop)]

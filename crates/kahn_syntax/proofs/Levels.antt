@@ -5,10 +5,10 @@ use Rattle.kahn_syntax.specs.declared.parser.operator.Level.{Level}
 use Rattle.kahn_syntax.specs.declared.parser.operator.Level.TheVariants.{Or, And, Sum, Term}
 use Rattle.kahn_tree.specs.declared.tree.Operator.{Operator}
 use Rattle.kahn_syntax.specs.Terminals.{Terminal}
-use Rattle.kahn_syntax.specs.Rungs.{at, tighter, rung_of}
+use Rattle.kahn_syntax.specs.inner.Rungs.{at, tighter, rung_of}
 use Rattle.kahn_syntax.specs.Trees.{ExpressionTree, level, OperandTrees, no_operand, operand, expression_words, operands_words, expression_nesting, operands_nesting, rank, FormedOperands}
 use Rattle.kahn_syntax.specs.Drawn.{expression_of, operands_of}
-use Rattle.kahn_syntax.specs.Reads.{Fits, joined, rank_of}
+use Rattle.kahn_syntax.specs.inner.Reads.{Fits, joined, rank_of}
 
 -- how many functions are called below an operand of this level before a lexeme is read
 abbrev pub height : Level → ℕ

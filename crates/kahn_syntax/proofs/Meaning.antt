@@ -7,8 +7,8 @@ use Rattle.kahn_syntax.specs.declared.parser.cursor.Stop.TheVariants.{Refused, T
 use Rattle.kahn_syntax.specs.Terminals.{Terminal, terminal, terminals}
 use Rattle.kahn_syntax.specs.Programs.{ProgramTree, program, Spells, MaybeSemicolon, nesting}
 use Rattle.kahn_syntax.specs.Faults.{IsWhole, Begins, BeginsWithin, IsNothing, IsOther, IsTooDeep, StandsAt, Placed}
-use Rattle.kahn_syntax.specs.Machine.{ProgramPart, Fate, Refuses, TooFar, fate}
-use Rattle.kahn_syntax.specs.Reads.{Halts}
+use Rattle.kahn_syntax.specs.inner.Machine.{ProgramPart, Fate, Refuses, TooFar, fate}
+use Rattle.kahn_syntax.specs.inner.Reads.{Halts}
 use Rattle.kahn_syntax.proofs.WholePrograms.{whole_program}
 use Rattle.kahn_syntax.proofs.Viable.{Fits}
 use Rattle.kahn_syntax.proofs.Reached.{Stuck, stuck_at, short_at, Deep, deep_at, refuses_left, far_left, whole_refuses, whole_far, le_or}

@@ -15,15 +15,15 @@ use Rattle.kahn_syntax.specs.declared.parser.cursor.Stop.{Stop}
 use Rattle.kahn_syntax.specs.declared.parser.cursor.Stop.TheVariants.{Refused, TooDeep, NoMemory}
 use Rattle.kahn_syntax.specs.Terminals.{Terminal, word, sign, name, terminal, terminals, First}
 use Rattle.kahn_syntax.specs.Terminals as terminals_are
-use Rattle.kahn_syntax.specs.Machine.{Token, BecomesToken, BeginToken, ChannelToken, CloseToken, CommaToken, DoToken, ElseToken, EndToken, IfToken, NameToken, NotToken, NumberToken, OnToken, OpenToken, ParToken, ProcessToken, SemicolonToken, ThenToken, takes, leads, class_of, Tail, NamesTail, StatementsTail, GroupsTail, ArgumentsTail, InstancesTail, ElseTail, LastTail, lead, goes_on, again, leads_kind, leads_declaration, Part, ProgramPart, DeclarationsPart, DeclarationPart, ProcessPart, GroupsPart, GroupPart, VariablesPart, InstancePart, ArgumentsPart, ArgumentPart, ExpressionPart, OperatorsPart, StatementPart, SimplePart, TailPart, TokenPart, LevelPart, levels, step, Refuses, TooFar, fate}
+use Rattle.kahn_syntax.specs.inner.Machine.{Token, BecomesToken, BeginToken, ChannelToken, CloseToken, CommaToken, DoToken, ElseToken, EndToken, IfToken, NameToken, NotToken, NumberToken, OnToken, OpenToken, ParToken, ProcessToken, SemicolonToken, ThenToken, takes, leads, class_of, Tail, NamesTail, StatementsTail, GroupsTail, ArgumentsTail, InstancesTail, ElseTail, LastTail, lead, goes_on, again, leads_kind, leads_declaration, Part, ProgramPart, DeclarationsPart, DeclarationPart, ProcessPart, GroupsPart, GroupPart, VariablesPart, InstancePart, ArgumentsPart, ArgumentPart, ExpressionPart, OperatorsPart, StatementPart, SimplePart, TailPart, TokenPart, LevelPart, levels, step, Refuses, TooFar, fate}
 use Rattle.kahn_tree.specs.declared.tree.Operator.{Operator}
 use Rattle.kahn_syntax.specs.declared.parser.operator.Level.{Level}
 use Rattle.kahn_syntax.specs.declared.parser.operator.Level.TheVariants.{Or, And, Sum, Term}
 use Rattle.kahn_syntax.specs.Trees.{operator_terminal, rank}
-use Rattle.kahn_syntax.specs.Rungs.{Rung, whole, ors, denials, relations, sums, factors, at, tighter, rung_of, Lacks}
+use Rattle.kahn_syntax.specs.inner.Rungs.{Rung, whole, ors, denials, relations, sums, factors, at, tighter, rung_of, Lacks}
 use Rattle.kahn_tree.specs.declared.tree.Kind.{Kind}
 use Rattle.kahn_syntax.specs.Programs.{kind_terminal}
-use Rattle.kahn_syntax.specs.Reads.{IsAbsent, Reads, Moves, Stops, Halts, rank_of, ExpressionRead, StatementRead}
+use Rattle.kahn_syntax.specs.inner.Reads.{IsAbsent, Reads, Moves, Stops, Halts, rank_of, ExpressionRead, StatementRead}
 use Rattle.kahn_syntax.proofs.WholePrograms.{take_kind}
 use Rattle.kahn_syntax.proofs.Steps.{go, skip_level, skip_tail, take_tail, take_token, no_token, IsChain, open_chain, open_whole, open_denial, skip_operators, take_operator}
 use Rattle.kahn_syntax.proofs.Reached.{go_far}

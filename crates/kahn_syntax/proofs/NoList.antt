@@ -10,7 +10,7 @@ use Rattle.kahn_syntax.specs.declared.lexeme.Lexeme.{Lexeme}
 use Rattle.kahn_syntax.specs.declared.lexeme.Class.{Class}
 use Rattle.kahn_syntax.specs.declared.lexeme.Class.TheVariants.{Word, Name, Number, Sign}
 use Rattle.kahn_syntax.specs.Lexemes.{IsBlank, IsWord, IsRun, HasForm, IsLongest, IsSpelled, IsCommentWord, IsOfClass, Stands, Closes, IsComment, Lexed, largest_number, letters_of}
-use Rattle.kahn_syntax.specs.Items.{IsFaultAt}
+use Rattle.kahn_syntax.specs.inner.Items.{IsFaultAt}
 use Rattle.kahn_syntax.proofs.Keywords.{keyword_short}
 use Rattle.kahn_syntax.proofs.OneList.{Walk, ends, blank, comment, lexeme, walk, walk_le, run_first, form_grows, form_dark, same_end, no_comment, comment_grows, comment_dark, same_comment, same_lexeme, lexeme_dark, lexeme_comment}
 use Rattle.kahn_syntax.proofs.Runs.{length_slice}

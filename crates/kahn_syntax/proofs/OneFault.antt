@@ -7,7 +7,7 @@ use Rattle.kahn_syntax.specs.declared.fault.SyntaxFault.{SyntaxFault}
 use Rattle.kahn_syntax.specs.declared.fault.SyntaxFault.TheVariants.{TooLong, BadCharacter, NumberTooLarge, CommentOpen, NameTooLong, Expected, TooDeep, NoMemory}
 use Rattle.kahn_syntax.specs.declared.fault.What.TheVariants.{More, Nothing, Other}
 use Rattle.kahn_syntax.specs.Lexemes.{IsLongest, IsBadCharacter, IsLargeNumber, IsOpenComment, IsLongName, IsReached, IsLexFault, most_bytes}
-use Rattle.kahn_syntax.specs.Items.{IsFaultAt}
+use Rattle.kahn_syntax.specs.inner.Items.{IsFaultAt}
 use Rattle.kahn_syntax.specs.Terminals.{Terminal, terminal, terminals}
 use Rattle.kahn_syntax.specs.Programs.{Spells}
 use Rattle.kahn_syntax.specs.Faults.{Begins, BeginsWithin, IsNothing, IsOther, IsTooDeep, IsFault}

@@ -20,7 +20,7 @@ use Rattle.kahn_tree.specs.declared.tree.Argument.TheVariants as argued
 use Rattle.kahn_tree.specs.declared.tree.Instance.{Instance}
 use Rattle.kahn_tree.specs.declared.tree.Program.{Program}
 use Rattle.kahn_syntax.specs.Programs.{AreNames, names_words, further_names_words, parameter, variable, channels, process, DeclarationTree, kind_terminal, role_words, taking_words, GroupTree, group, TogetherTree, together, group_words, further_groups_words, groups_words, groups_parameters, IsGroup, AreGroups, Parameters, togethers_words, togethers_variables, AreTogether, Variables, Declares, Declarations, Argues, FurtherArguments, Arguments, Instantiates, FurtherInstances, Instances, MaybeSemicolon, Spells, declarations_nesting}
-use Rattle.kahn_syntax.specs.Reads.{IsSound, AreSound}
+use Rattle.kahn_syntax.specs.inner.Reads.{IsSound, AreSound}
 use Rattle.kahn_syntax.specs.Spans as named
 use Rattle.kahn_syntax.specs.Spans.{NamedGroup, NamedTogether, RoleSpans, DirectionSpans, kind_of, GroupSpans, FurtherGroupsSpan, GroupsSpan, all_parameters, ParametersSpan, TogethersSpan, all_variables, VariablesSpan, DeclarationSpans, DeclarationsSpan, ArgumentSpans, FurtherArgumentsSpan, ArgumentsSpan, InstanceSpans, FurtherInstancesSpan, InstancesSpan, MayPart, ProgramSpans, Takes, NamesSpan, FurtherNamesSpan, FormSpans, OperandRowSpans, ActionSpans, OtherSpans, StatementRowSpans, FurtherRowSpans, FurtherStatementsSpan, StatementsSpan}
 use Rattle.kahn_syntax.specs.declared.lexeme.Keyword.TheVariants as keyword

@@ -5,9 +5,9 @@ use Rattle.kahn_syntax.specs.declared.lexeme.Sign.TheVariants as mark
 use Rattle.kahn_syntax.specs.declared.lexeme.Class.TheVariants as class
 use Rattle.kahn_syntax.specs.declared.lexeme.Lexeme.{Lexeme}
 use Rattle.kahn_syntax.specs.Terminals.{terminals, word, name, First}
-use Rattle.kahn_syntax.specs.Rungs.{whole}
-use Rattle.kahn_syntax.specs.Machine.{BeginToken, CloseToken, DoToken, ElseToken, EndToken, NameToken, OnToken, OpenToken, SemicolonToken, ThenToken, ElseTail, StatementsTail, Part, ProcessPart, GroupsPart, VariablesPart, StatementPart, SimplePart, ExpressionPart, TailPart, TokenPart, LevelPart}
-use Rattle.kahn_syntax.specs.Reads.{Moves, Reads, Stops, head_parts}
+use Rattle.kahn_syntax.specs.inner.Rungs.{whole}
+use Rattle.kahn_syntax.specs.inner.Machine.{BeginToken, CloseToken, DoToken, ElseToken, EndToken, NameToken, OnToken, OpenToken, SemicolonToken, ThenToken, ElseTail, StatementsTail, Part, ProcessPart, GroupsPart, VariablesPart, StatementPart, SimplePart, ExpressionPart, TailPart, TokenPart, LevelPart}
+use Rattle.kahn_syntax.specs.inner.Reads.{Moves, Reads, Stops, head_parts}
 use Rattle.kahn_syntax.specs.declared.parser.cursor.Stop.{Stop}
 use Rattle.kahn_syntax.specs.declared.parser.cursor.Stop.TheVariants.{Refused, TooDeep, NoMemory}
 use Rattle.kahn_syntax.proofs.Moves.{then, call, call_two, one, token, expected, goes}

@@ -6,8 +6,8 @@ use Rattle.kahn_syntax.specs.declared.lexeme.Keyword.TheVariants as keyword
 use Rattle.kahn_tree.specs.declared.tree.Operator.{Operator}
 use Rattle.kahn_syntax.specs.Terminals.{Terminal, word}
 use Rattle.kahn_syntax.specs.Trees.{rank, operator_terminal}
-use Rattle.kahn_syntax.specs.Rungs.{Rung, whole, ors, ands, denials, relations, sums, terms, factors, at, tighter, operator_of, rank_or, Lacks}
-use Rattle.kahn_syntax.specs.Machine.{Token, takes, leads, Tail, lead, goes_on, Part, ExpressionPart, OperatorsPart, TailPart, TokenPart, LevelPart, levels, may_end, step, step_operator, again, Refuses, TooFar, onward, fate}
+use Rattle.kahn_syntax.specs.inner.Rungs.{Rung, whole, ors, ands, denials, relations, sums, terms, factors, at, tighter, operator_of, rank_or, Lacks}
+use Rattle.kahn_syntax.specs.inner.Machine.{Token, takes, leads, Tail, lead, goes_on, Part, ExpressionPart, OperatorsPart, TailPart, TokenPart, LevelPart, levels, may_end, step, step_operator, again, Refuses, TooFar, onward, fate}
 use Rattle.kahn_syntax.proofs.Unique.{Ends, is_operator}
 
 le_test : (a b : ℕ) → a ≤ b → nat_le a b ≡ true

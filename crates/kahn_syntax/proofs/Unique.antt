@@ -7,8 +7,8 @@ use Rattle.kahn_tree.specs.declared.tree.Operator.{Operator}
 use Rattle.kahn_tree.specs.declared.tree.Operator.TheVariants as operator
 use Rattle.kahn_syntax.specs.Terminals.{Terminal, word, sign}
 use Rattle.kahn_syntax.specs.Trees.{ExpressionTree, number, truth, variable, wait, negation, denial, bracket, level, conditional, OperandTrees, no_operand, operand, operator_terminal, expression_words, operands_words, expression_nesting, operands_nesting, rank, IsOne, Formed, FormedOperands}
-use Rattle.kahn_syntax.specs.Reads.{Fits, joined}
-use Rattle.kahn_syntax.specs.Rungs.{operator_of, rank_or, Rung, whole, ors, ands, denials, relations, sums, terms, factors, at}
+use Rattle.kahn_syntax.specs.inner.Reads.{Fits, joined}
+use Rattle.kahn_syntax.specs.inner.Rungs.{operator_of, rank_or, Rung, whole, ors, ands, denials, relations, sums, terms, factors, at}
 use Rattle.kahn_syntax.proofs.Levels.{joined_words}
 
 -- the list doesn't go on with an operator of this level or of a tighter one

@@ -18,10 +18,10 @@ use Rattle.kahn_syntax.specs.Terminals as terminal
 use Rattle.kahn_syntax.specs.Trees.{ExpressionTree, number, truth, variable, wait, negation, denial, bracket, conditional, OperandTrees, no_operand, operand, StatementTree, empty, assign, send, print, block, if_then, if_else, while_do, repeat, StatementTrees, no_statement, statement, operator_terminal, rank, expression_words, operands_words, statement_words, further_words, expression_nesting, operands_nesting, statement_nesting, statements_nesting, FormedOperands, FormedStatement, FormedStatements, IsSimple}
 use Rattle.kahn_syntax.specs.Programs.{GroupTree, group, TogetherTree, together, DeclarationTree, channels, process, ArgumentTree, channel, InstanceTree, instance, kind_terminal, role_words, taking_words, further_names_words, group_words, groups_words, further_groups_words, groups_parameters, IsGroup, AreGroups, togethers_words, togethers_variables, AreTogether, Declares, Declarations, Argues, Arguments, FurtherArguments, Instantiates, Instances, FurtherInstances, MaybeSemicolon, declaration_nesting, declarations_nesting}
 use Rattle.kahn_syntax.specs.Programs as tree
-use Rattle.kahn_syntax.specs.Reads as reads
-use Rattle.kahn_syntax.specs.Reads.{joined}
-use Rattle.kahn_syntax.specs.Rungs.{Rung, whole, ors, ands, denials, relations, sums, terms, factors, at, tighter, operator_of}
-use Rattle.kahn_syntax.specs.Machine.{Token, BecomesToken, BeginToken, ChannelToken, CloseToken, CommaToken, DoToken, ElseToken, EndToken, IfToken, NameToken, NotToken, NumberToken, OnToken, OpenToken, ParToken, ProcessToken, SemicolonToken, ThenToken, takes, Tail, NamesTail, StatementsTail, GroupsTail, ArgumentsTail, InstancesTail, ElseTail, LastTail, lead, goes_on, Part, ProgramPart, DeclarationsPart, DeclarationPart, ProcessPart, RolePart, GroupsPart, GroupPart, TakingPart, VariablesPart, StatementPart, SimplePart, ExpressionPart, OperatorsPart, InstancePart, ArgumentsPart, ArgumentPart, TailPart, TokenPart, LevelPart, levels, may_end, names_then, channels_then, step, step_factor, step_relation, step_denial, step_or, step_whole, step_expression, again, step_operator, step_simple, step_statement, step_process, step_declaration, step_declarations, step_role, step_taking, step_kind, step_instance, step_argument, step_arguments, step_program}
+use Rattle.kahn_syntax.specs.inner.Reads as reads
+use Rattle.kahn_syntax.specs.inner.Reads.{joined}
+use Rattle.kahn_syntax.specs.inner.Rungs.{Rung, whole, ors, ands, denials, relations, sums, terms, factors, at, tighter, operator_of}
+use Rattle.kahn_syntax.specs.inner.Machine.{Token, BecomesToken, BeginToken, ChannelToken, CloseToken, CommaToken, DoToken, ElseToken, EndToken, IfToken, NameToken, NotToken, NumberToken, OnToken, OpenToken, ParToken, ProcessToken, SemicolonToken, ThenToken, takes, Tail, NamesTail, StatementsTail, GroupsTail, ArgumentsTail, InstancesTail, ElseTail, LastTail, lead, goes_on, Part, ProgramPart, DeclarationsPart, DeclarationPart, ProcessPart, RolePart, GroupsPart, GroupPart, TakingPart, VariablesPart, StatementPart, SimplePart, ExpressionPart, OperatorsPart, InstancePart, ArgumentsPart, ArgumentPart, TailPart, TokenPart, LevelPart, levels, may_end, names_then, channels_then, step, step_factor, step_relation, step_denial, step_or, step_whole, step_expression, again, step_operator, step_simple, step_statement, step_process, step_declaration, step_declarations, step_role, step_taking, step_kind, step_instance, step_argument, step_arguments, step_program}
 use Rattle.kahn_syntax.proofs.Levels.{joined_words, joined_nesting}
 use Rattle.kahn_syntax.proofs.Unique.{IsNoneOrOne, rank_within}
 use Rattle.kahn_syntax.proofs.Steps.{IsChain}

@@ -13,7 +13,7 @@ use Rattle.kahn_syntax.specs.Terminals.{Terminal, word, sign, name}
 use Rattle.kahn_syntax.specs.Terminals as terminal
 use Rattle.kahn_syntax.specs.Trees.{statements_words}
 use Rattle.kahn_syntax.specs.Programs.{GroupTree, group, TogetherTree, together, ParameterTree, VariableTree, DeclarationTree, channels, process, ArgumentTree, channel, number, truth, InstanceTree, instance, ProgramTree, program, kind_terminal, role_words, taking_words, names_words, further_names_words, AreNames, group_words, groups_words, further_groups_words, IsGroup, AreGroups, Parameters, togethers_words, AreTogether, Variables, Declares, Declarations, Argues, Arguments, FurtherArguments, Instantiates, Instances, FurtherInstances, MaybeSemicolon, Spells, declaration_nesting, declarations_nesting, nesting}
-use Rattle.kahn_syntax.specs.Machine.{BeginToken, ChannelToken, CloseToken, CommaToken, EndToken, NameToken, NumberToken, OpenToken, ParToken, SemicolonToken, leads, NamesTail, StatementsTail, GroupsTail, ArgumentsTail, InstancesTail, LastTail, Part, ProgramPart, DeclarationsPart, DeclarationPart, RolePart, GroupsPart, GroupPart, TakingPart, VariablesPart, StatementPart, InstancePart, ArgumentsPart, ArgumentPart, TailPart, TokenPart, names_then, channels_then, levels, step, Whole, fate}
+use Rattle.kahn_syntax.specs.inner.Machine.{BeginToken, ChannelToken, CloseToken, CommaToken, EndToken, NameToken, NumberToken, OpenToken, ParToken, SemicolonToken, leads, NamesTail, StatementsTail, GroupsTail, ArgumentsTail, InstancesTail, LastTail, Part, ProgramPart, DeclarationsPart, DeclarationPart, RolePart, GroupsPart, GroupPart, TakingPart, VariablesPart, StatementPart, InstancePart, ArgumentsPart, ArgumentPart, TailPart, TokenPart, names_then, channels_then, levels, step, Whole, fate}
 use Rattle.kahn_syntax.proofs.OneTree.{NoKind, statements_start, Named, named_instances, NoPar, no_par_end}
 use Rattle.kahn_syntax.proofs.Steps.{go, take_token, take_tail, skip_tail}
 use Rattle.kahn_syntax.proofs.WholeStatements.{whole_statements}

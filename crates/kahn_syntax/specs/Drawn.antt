@@ -1,4 +1,4 @@
--- The tree that a value of the program's types stands for, without its spans.
+-- Believed. The tree that a value of the program's types stands for, without its spans.
 use Rattle.std.specs.Prelude.{ℕ, List, [], ◌∷◌, map, string_bytes}
 use Rattle.kahn_tree.specs.declared.tree.Name.{Name}
 use Rattle.kahn_tree.specs.declared.tree.Form.{Form, Number, Logical, Variable, Wait, Negate', Not', Bracket', Level', Conditional', Row_of-Operand, end_of-Operand, more_of-Operand}

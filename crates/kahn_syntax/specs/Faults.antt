@@ -1,4 +1,4 @@
--- Why a list of lexemes is refused.
+-- Believed. Why a list of lexemes is refused.
 use Rattle.std.specs.Prelude.{◌≡◌, ℕ, List, [], ◌∷◌, ◌++◌, ◌+◌, ◌≤◌, ◌<◌, length}
 use Rattle.kahn_syntax.specs.declared.lexeme.Lexeme.{Lexeme}
 use Rattle.kahn_tree.specs.declared.span.Span.{Span}

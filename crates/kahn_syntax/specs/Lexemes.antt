@@ -1,4 +1,4 @@
--- The lexemes of a text: forms, classes, and the list that a text has.
+-- Believed. The lexemes of a text: forms, classes, and the list that a text has.
 use Rattle.std.specs.Prelude.{◌≡◌, ℕ, ◌+◌, ◌≤◌, ◌<◌, ◌⊎◌, List, [], ◌∷◌, pos, length, slice_index, slice_range, codes, IsCharBoundary}
 use Rattle.std.specs.Str.{str_to_ascii_lowercase}
 use Rattle.std.specs.Str.Parse.{digits_value}

@@ -1,4 +1,4 @@
--- The spans of a tree over the lexemes of its text, by cases like those of its spelling: each part takes the lexemes from a
+-- Believed. The spans of a tree over the lexemes of its text, by cases like those of its spelling: each part takes the lexemes from a
 -- place of the list up to the rest, and a name, a statement and an expression has the span from the first of them to the last.
 use Rattle.std.specs.Prelude.{◌≡◌, ℕ, ℤ, ◌+◌, List, [], ◌∷◌, ◌++◌, ◌⊎◌, Option, Some, None, length, map, neg_ℤ}
 use Rattle.kahn_syntax.specs.declared.lexeme.Keyword.TheVariants as keyword

@@ -1,4 +1,4 @@
--- The alphabet of the grammar, and the terminals that lexemes are.
+-- Believed. The alphabet of the grammar, and the terminals that lexemes are.
 use Rattle.std.specs.Prelude.{◌≡◌, ◌≤◌, ℕ, ℤ, pos, List, [], ◌∷◌, length, slice_range, IsCharBoundary}
 use Rattle.kahn_tree.specs.declared.span.Span.{Span}
 use Rattle.kahn_syntax.specs.declared.lexeme.Keyword.{Keyword}

@@ -1,4 +1,4 @@
--- What a whole text is: its lexemes, the program that they spell, and where a fault stands.
+-- Believed. What a whole text is: its lexemes, the program that they spell, and where a fault stands.
 use Rattle.std.specs.Prelude.{ℕ, List, ◌≤◌, ◌⊎◌, length}
 use Rattle.kahn_tree.specs.declared.tree.Program.{Program}
 use Rattle.kahn_syntax.specs.declared.fault.SyntaxFault.{SyntaxFault}

@@ -1,4 +1,4 @@
--- Trees as contracts see them: what each spells, which are of the grammar, and how deep they nest.
+-- Believed. Trees as contracts see them: what each spells, which are of the grammar, and how deep they nest.
 use Rattle.std.specs.Prelude.{◌≡◌, ℕ, ℤ, Bool, true, false, List, ◌∷◌, ◌+◌, ◌≤◌, ◌<◌, max}
 use Rattle.kahn_syntax.specs.declared.lexeme.Keyword.TheVariants as keyword
 use Rattle.kahn_syntax.specs.declared.lexeme.Sign.TheVariants as mark

@@ -5,12 +5,12 @@ mod forms;
 ghost use Rattle.std.specs.Prelude.{◌≡◌, ℕ, ◌+◌, ◌<◌, ◌≤◌, List, length, slice_index, All, IfOk, IfErr, IsCharBoundary};
 ghost use Rattle.kahn_syntax.specs.declared.lexeme.Lexeme.{Lexeme};
 ghost use Rattle.kahn_syntax.specs.Lexemes.{IsBlank, IsWord, IsRun, IsLongest, IsLexFault, IsSlice, Lexed, most_bytes};
-ghost use Rattle.kahn_syntax.specs.Items.{IsItem, IsFaultAt};
+ghost use Rattle.kahn_syntax.specs.inner.Items.{IsItem, IsFaultAt};
 
 use crate::fault::SyntaxFault;
 use crate::lexeme::{Class, Keyword, Lexeme};
 use crate::lexer::forms::{Form, comment_end, form_at, is_blank};
-use kahn_tree::span::Span;
+use kahn_tree::Span;
 use std::alloc::Global;
 
 /// The most bytes that a text may have.

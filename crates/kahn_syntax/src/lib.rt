@@ -1,10 +1,18 @@
 //! The source text of Kahn's language: lexemes, and the parser to the tree of `kahn_tree`.
 #![tactic(auto)]
 
-pub use kahn_tree::{span as span, tree as tree};
+mod fault;
+mod keyword;
+mod lexeme;
+mod lexer;
+mod parser;
 
-pub mod fault;
-pub mod keyword;
-pub mod lexeme;
-pub mod lexer;
-pub mod parser;
+pub use fault::{SyntaxFault, What};
+pub use kahn_tree::{
+    Action, Argument, Declaration, Direction, Expression, Form, Instance, Kind, Name, Operand,
+    Operator, Parameter, Process, Program, Role, Span, Statement, Taking, Variable,
+};
+pub use lexeme::{Class, Keyword, Lexeme, Sign};
+pub use lexer::{lex, one_list};
+pub use parser::program::one_tree;
+pub use parser::{one_fault, parse};

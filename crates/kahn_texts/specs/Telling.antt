@@ -1,4 +1,4 @@
--- What a program tells of its run in the end.
+-- Believed. What a program tells of its run in the end.
 use Rattle.std.specs.Prelude.{ℕ, List, [], Result}
 use Rattle.std.specs.declared.result.Result.TheVariants.{Ok, Err}
 use Rattle.kahn_pool.specs.declared.answer.Verdict.{Verdict}

@@ -6,8 +6,8 @@ ghost use Rattle.kahn_report.specs.Written.{Writes};
 ghost use Rattle.kahn_texts.specs.Telling.{told_text};
 
 use kahn_fault::{Fault, fault_line, status};
-use kahn_pool::answer::Verdict;
-use kahn_report::write::WriteFault;
+use kahn_pool::Verdict;
+use kahn_report::WriteFault;
 use std::io::Write;
 
 /// What was told.

@@ -5,7 +5,7 @@ ghost use Rattle.kahn_report.specs.Reading.{GivesAll};
 ghost use Rattle.kahn_texts.specs.Texts.{most_program_bytes, most_input_bytes, AreWithin, IsOfProgram, IsOfInput, IsOfTexts, StandsForProgram, StandsForInput};
 
 use kahn_fault::Fault;
-use kahn_report::read::read_text;
+use kahn_report::read_text;
 use std::alloc::Global;
 use std::fs;
 use std::io::Read;

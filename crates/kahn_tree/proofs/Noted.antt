@@ -5,7 +5,7 @@ use Rattle.std.proofs.lemmas.Slice.Eq.{bytes_eq-Decides}
 use Rattle.std.specs.Map.{update}
 use Rattle.kahn_tree.specs.declared.tree.Process.{Process}
 use Rattle.kahn_tree.specs.View.{Scope, place_of, names_of}
-use Rattle.kahn_tree.specs.Numbers.{number_in, noted}
+use Rattle.kahn_tree.specs.inner.Numbers.{number_in, noted}
 
 -- what stands for a name once all these are noted, the first with the number n
 abbrev pub noted_all : Scope → ℕ → List ℕ → Option ℕ → Option ℕ

@@ -2,4 +2,4 @@ pub mod Place
 pub mod View
 pub mod Syntax
 pub mod Prints
-pub mod Numbers
+pub mod inner

@@ -1,4 +1,4 @@
--- Lines and columns of a text, both from 1. A line feed is the byte 10.
+-- Believed. Lines and columns of a text, both from 1. A line feed is the byte 10.
 use Rattle.std.specs.Prelude.{ℕ, ◌+◌, List, take, not, ◌==◌, count_by}
 use Rattle.std.specs.List.{suffix_len}
 

@@ -1,4 +1,4 @@
--- Which processes print, reached or not.
+-- Believed. Which processes print, reached or not.
 use Rattle.std.specs.Prelude.{Bool, false}
 use Rattle.kahn_tree.specs.declared.tree.Declaration.{Declaration}
 use Rattle.kahn_tree.specs.declared.tree.Declaration.TheVariants as D

@@ -1,4 +1,4 @@
--- Abstract syntax: a process body with its names resolved to numbers. The names of a process are numbered
+-- Believed. Abstract syntax: a process body with its names resolved to numbers. The names of a process are numbered
 -- from 0, its parameters first and then its variables, in order of declaration.
 use Rattle.std.specs.Prelude.{ℕ, ℤ, Bool, true, false, ◌||◌}
 use Rattle.kahn_tree.specs.declared.tree.Operator.{Operator}

@@ -1,4 +1,4 @@
--- The abstract syntax that a source tree stands for: names become numbers, the operators of one level
+-- Believed. The abstract syntax that a source tree stands for: names become numbers, the operators of one level
 -- become nested pairs from the left, and a missing `else` does nothing.
 use Rattle.std.specs.Prelude.{ℕ, suc, List, [], ◌∷◌, ◌++◌, map, string_bytes, if◌then◌else◌}
 use Rattle.std.proofs.Common.{bytes_eq}

@@ -2,9 +2,20 @@
 //! needs: want of memory, and a counter of steps.
 #![tactic(auto)]
 
-pub mod memory;
-pub mod numbers;
-pub mod prints;
-pub mod span;
-pub mod steps;
-pub mod tree;
+mod memory;
+mod numbers;
+mod prints;
+mod span;
+mod steps;
+mod tree;
+
+// For the crates above.
+pub use memory::NoMemory;
+pub use numbers::Numbered;
+pub use prints::{declaration_prints, process_prints};
+pub use span::Span;
+pub use steps::Steps;
+pub use tree::{
+    Action, Argument, Declaration, Direction, Expression, Form, Instance, Kind, Name, Operand,
+    Operator, Parameter, Process, Program, Role, Statement, Taking, Variable,
+};

@@ -2,15 +2,14 @@
 
 ghost use Rattle.std.specs.Prelude.{◌≡◌, List, ℕ, IfOk, OnOk};
 ghost use Rattle.std.proofs.Common.{bytes_eq};
-ghost use Rattle.std.specs.HashMap.{get_by_text};
+ghost use Rattle.std.specs.BTreeMap.{get_by_text};
 ghost use Rattle.kahn_tree.specs.View.{bytes_of, names_of, number_of};
-ghost use Rattle.kahn_tree.specs.Numbers.{noted};
+ghost use Rattle.kahn_tree.specs.inner.Numbers.{noted};
 
 use crate::memory::NoMemory;
 use crate::tree::{Name, Process};
 use std::alloc::{Allocator, Global};
-use std::collections::HashMap;
-use std::hash::{BuildHasherDefault, FoldHasher};
+use std::collections::BTreeMap;
 use std::marker::Model;
 
 /// A process whose names are found by a look-up, and not by a walk over all of them. Contracts see the process.
@@ -20,16 +19,17 @@ pub struct Numbered<'p, A: Allocator = Global> {
     numbers: Table<A>,
 }
 
-type Table<A> = HashMap<String, usize, BuildHasherDefault<FoldHasher>, A>;
+// In order: whoever chooses the names can't make a look-up slow, as he can with a hash whose seed is known.
+type Table<A> = BTreeMap<String, usize, A>;
 
 impl<'p, A: Allocator> Model for Numbered<'p, A> {
     ghost use Rattle.kahn_tree.specs.contracts.tree.Action as action;
     ghost use Rattle.kahn_tree.specs.contracts.tree.Form as form;
     ghost use Rattle.kahn_tree.specs.declared.tree.Process.{Process as Meant};
-    ghost use Rattle.kahn_tree.specs.Numbers.{AreNumbers};
+    ghost use Rattle.kahn_tree.specs.inner.Numbers.{AreNumbers};
     ghost use Rattle.kahn_tree.specs.View.{names_of};
     ghost use Rattle.std.specs.Coded.{codes};
-    ghost use Rattle.std.specs.HashMap.{get_by_text};
+    ghost use Rattle.std.specs.BTreeMap.{get_by_text};
 
     ghost Value = { Meant };
 
@@ -60,7 +60,7 @@ impl<'p, A: Allocator + Clone> Numbered<'p, A> {
     pub fn of(alloc: A, process: &'p Process) -> Result<Numbered<'p, A>, NoMemory>
         ensures { IfOk result (λ n. n ≡ process.now) }
     {
-        let mut numbers = HashMap::new(alloc);
+        let mut numbers = BTreeMap::new(alloc);
         for (number, parameter) in process.parameters.iter().enumerate() {
             note(&mut numbers, &parameter.name, number)?;
         }

@@ -10,7 +10,7 @@ use Rattle.kahn_code.specs.Lines.{Lines as Queues, AreFirst, next_at}
 use Rattle.kahn_code.specs.Told.{Told}
 use Rattle.kahn_streams.proofs.Entered.{none_of}
 use Rattle.kahn_code.proofs.Queued.{given_zero, taken_zero}
-use Rattle.kahn_units.specs.Standing.{Stands}
+use Rattle.kahn_units.specs.inner.Standing.{Stands}
 
 -- the first cell stands where the queues stand, as the first instance's ports
 pub stands_first : (t : Program) (lists : Lists) (c : Told) (q : Queues) → IsWellWired t → 0 < length (network_of t).instances →

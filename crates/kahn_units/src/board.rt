@@ -5,13 +5,12 @@ ghost use Rattle.kahn_board.specs.Cuts.{HoldsNothing};
 ghost use Rattle.kahn_board.specs.Dealt.{wired};
 ghost use Rattle.kahn_board.specs.Rule.{all_parts};
 ghost use Rattle.kahn_board.specs.Wires.{wires};
-ghost use Rattle.kahn_units.specs.Working.{IsSquare, KeepsShare, HasCell, KeepsCells, KeepsOtherCells};
+ghost use Rattle.kahn_units.specs.inner.Working.{IsSquare, KeepsShare, HasCell, KeepsCells, KeepsOtherCells};
 
 use kahn_board::{Board, Closed, Draw, Look, Rest, Seat, Told, writer_of};
-use kahn_check::network::check;
-use kahn_network::network::Network;
-use kahn_streams::memory::NoMemory;
-use kahn_syntax::parser::parse;
+use kahn_check::{Network, check};
+use kahn_streams::NoMemory;
+use kahn_syntax::parse;
 use std::alloc::Global;
 use std::test::*;
 

@@ -2,14 +2,12 @@
 //! instances, then the channels.
 
 use crate::syntax::limits::repeated;
-use kahn_check::fault::CheckFault;
-use kahn_check::network::check;
-use kahn_syntax::parser::parse;
-use kahn_tree::span::Span;
+use kahn_check::{CheckFault, check};
+use kahn_syntax::{Span, parse};
 use std::alloc::{AllocError, Global};
 use std::test::Fail;
 
-static REFUSED: [(&str, CheckFault); 43] = [
+static REFUSED: [(&str, CheckFault); 12] = [
     (
         "begin integer channel X, X; process p(); begin end; p() end",
         CheckFault::DeclaredTwice(Span { from: 25, to: 26 }),
@@ -51,135 +49,11 @@ static REFUSED: [(&str, CheckFault); 43] = [
         CheckFault::TwoReaders(Span { from: 70, to: 71 }),
     ),
     (
-        "begin integer channel X; process s(integer out A); begin end; process r(integer in A); begin end; s(X) par r(X) par r(X) end",
-        CheckFault::TwoReaders(Span { from: 118, to: 119 }),
-    ),
-    (
         "begin integer channel X; process p(); begin end; p() end",
         CheckFault::NoWriter(Span { from: 22, to: 23 }),
     ),
     (
         "begin integer channel X; process s(integer out A); begin send 1 on A end; s(X) end",
-        CheckFault::NoReader(Span { from: 22, to: 23 }),
-    ),
-    (
-        "begin process p(); begin print Z end; integer channel X, X; p() end",
-        CheckFault::Unknown(Span { from: 31, to: 32 }),
-    ),
-    (
-        "begin process q(); begin print Z end; process p(); begin end; p() end",
-        CheckFault::Unknown(Span { from: 31, to: 32 }),
-    ),
-    (
-        "begin integer channel p; process p(); begin end; p() end",
-        CheckFault::DeclaredTwice(Span { from: 33, to: 34 }),
-    ),
-    (
-        "begin process p(integer N); begin logical N; end; p(1) end",
-        CheckFault::DeclaredTwice(Span { from: 42, to: 43 }),
-    ),
-    (
-        "begin integer output channel W; process s(integer out A); begin send true on B end; s(W) end",
-        CheckFault::Unknown(Span { from: 77, to: 78 }),
-    ),
-    (
-        "begin integer output channel W; process s(integer out A); begin send Z on B end; s(W) end",
-        CheckFault::Unknown(Span { from: 69, to: 70 }),
-    ),
-    (
-        "begin integer input channel R; process r(integer in A); begin send true on A end; r(R) end",
-        CheckFault::WrongDirection(Span { from: 75, to: 76 }),
-    ),
-    (
-        "begin process p(); begin N := M end; p() end",
-        CheckFault::Unknown(Span { from: 25, to: 26 }),
-    ),
-    (
-        "begin process p(); begin integer I; I := not M end; p() end",
-        CheckFault::Unknown(Span { from: 45, to: 46 }),
-    ),
-    (
-        "begin process p(); begin integer I; I := (true) end; p() end",
-        CheckFault::WrongKind(Span { from: 41, to: 47 }),
-    ),
-    (
-        "begin process p(); begin if 1 then print Z end; p() end",
-        CheckFault::WrongKind(Span { from: 28, to: 29 }),
-    ),
-    (
-        "begin process p(); begin while true do print Z end; p() end",
-        CheckFault::Unknown(Span { from: 45, to: 46 }),
-    ),
-    (
-        "begin process p(); begin print true + Z end; p() end",
-        CheckFault::WrongKind(Span { from: 31, to: 35 }),
-    ),
-    (
-        "begin process p(); begin print 1 + (2 = 3) end; p() end",
-        CheckFault::WrongKind(Span { from: 35, to: 42 }),
-    ),
-    (
-        "begin process p(); begin print true = 1 end; p() end",
-        CheckFault::WrongKind(Span { from: 38, to: 39 }),
-    ),
-    (
-        "begin process p(); begin print 1 < 2 or 3 end; p() end",
-        CheckFault::WrongKind(Span { from: 40, to: 41 }),
-    ),
-    (
-        "begin process p(); begin print not 1 end; p() end",
-        CheckFault::WrongKind(Span { from: 35, to: 36 }),
-    ),
-    (
-        "begin process p(); begin print if true then 1 else false end; p() end",
-        CheckFault::WrongKind(Span { from: 51, to: 56 }),
-    ),
-    (
-        "begin process p(); begin print if 1 then Z else 2 end; p() end",
-        CheckFault::WrongKind(Span { from: 34, to: 35 }),
-    ),
-    (
-        "begin integer channel X; process p(); begin end; X() end",
-        CheckFault::Unknown(Span { from: 49, to: 50 }),
-    ),
-    (
-        "begin process p(integer in A); begin end; p(p) end",
-        CheckFault::ChannelExpected(Span { from: 44, to: 45 }),
-    ),
-    (
-        "begin process p(integer in A); begin end; p(1) end",
-        CheckFault::ChannelExpected(Span { from: 44, to: 45 }),
-    ),
-    (
-        "begin process p(integer in A); begin end; p(Z) end",
-        CheckFault::Unknown(Span { from: 44, to: 45 }),
-    ),
-    (
-        "begin integer channel X; process p(integer N); begin end; p(X) end",
-        CheckFault::ValueExpected(Span { from: 60, to: 61 }),
-    ),
-    (
-        "begin process p(integer N); begin end; p(true) end",
-        CheckFault::WrongKind(Span { from: 41, to: 45 }),
-    ),
-    (
-        "begin process p(integer N; integer in A); begin end; p(true, Z) end",
-        CheckFault::WrongKind(Span { from: 55, to: 59 }),
-    ),
-    (
-        "begin integer input channel X; process s(integer out A); begin end; s(X) end",
-        CheckFault::TwoWriters(Span { from: 70, to: 71 }),
-    ),
-    (
-        "begin integer channel X; process s(integer out A, B); begin end; s(X, X) end",
-        CheckFault::TwoWriters(Span { from: 70, to: 71 }),
-    ),
-    (
-        "begin integer channel X, Y; process s(integer out A); begin end; s(Y) end",
-        CheckFault::NoWriter(Span { from: 22, to: 23 }),
-    ),
-    (
-        "begin integer channel X; integer input channel Y; process s(integer out A); begin end; s(X) end",
         CheckFault::NoReader(Span { from: 22, to: 23 }),
     ),
 ];

@@ -3,19 +3,13 @@
 ghost use Rattle.std.specs.Prelude.{◌≡◌, ◌<◌, length, IfOk, replicate};
 ghost use Rattle.kahn_network.specs.Network.{network_of, instance_at};
 ghost use Rattle.kahn_streams.specs.Tokens.{Lists};
-ghost use Rattle.kahn_units.specs.Standing.{Stands};
+ghost use Rattle.kahn_units.specs.inner.Standing.{Stands};
 
 use crate::rationed::Rationed;
-use kahn_check::network::check;
-use kahn_code::cell::Cell;
-use kahn_code::code::{Code, CodeFault, compile};
-use kahn_code::plain::Plain;
-use kahn_code::progress::Pause;
-use kahn_code::steps::Steps;
-use kahn_network::network::Network;
-use kahn_streams::input::Input;
-use kahn_streams::value::Value;
-use kahn_syntax::parser::parse;
+use kahn_check::{Network, check};
+use kahn_code::{Cell, Code, CodeFault, Pause, Plain, Steps, compile};
+use kahn_streams::{Input, Value};
+use kahn_syntax::parse;
 use std::alloc::{Allocator, Global};
 use std::marker::Brand;
 use std::process::Abort;

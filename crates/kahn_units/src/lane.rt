@@ -5,7 +5,7 @@ ghost use Rattle.kahn_lane.specs.RelayEnds.{giver_relay, taker_relay};
 
 use crate::rationed::Rationed;
 use kahn_lane::{Giver, LaneFault, Taker, relay};
-use kahn_streams::memory::NoMemory;
+use kahn_streams::NoMemory;
 use std::alloc::Global;
 use std::test::*;
 use std::thread;

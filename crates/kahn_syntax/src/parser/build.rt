@@ -13,8 +13,7 @@ ghost use Rattle.kahn_syntax.specs.Trees.{operator_terminal};
 
 use crate::lexeme::Lexeme;
 use crate::parser::cursor::{Read, Stop, reach};
-use kahn_tree::span::Span;
-use kahn_tree::tree::{Action, Expression, Form, Operand, Operator, Statement};
+use kahn_tree::{Action, Expression, Form, Operand, Operator, Span, Statement};
 use std::alloc::Global;
 
 /// An expression of this form, from the first lexeme of the input to the last one before the rest.

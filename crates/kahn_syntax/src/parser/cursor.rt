@@ -3,12 +3,12 @@
 ghost use Rattle.std.specs.Prelude.{◌≡◌, ℕ, ◌≤◌, ◌<◌, ◌+◌, List, [], false, length, IfOk, IfErr, IfSome, IfNone, MatchOption};
 ghost use Rattle.kahn_syntax.specs.Terminals.{First, AreProper, IsUnsigned};
 ghost use Rattle.kahn_syntax.specs.Faults.{Placed};
-ghost use Rattle.kahn_syntax.specs.Reads.{IsAbsent};
+ghost use Rattle.kahn_syntax.specs.inner.Reads.{IsAbsent};
 ghost use Rattle.kahn_syntax.specs.Spans.{IsPast, Covers};
 ghost use Rattle.kahn_syntax.specs.declared.parser.cursor.Stop.TheVariants.{Refused, TooDeep, NoMemory};
 
 use crate::lexeme::{Class, Lexeme};
-use kahn_tree::span::Span;
+use kahn_tree::Span;
 use std::alloc::{AllocError, AllocFailed};
 
 /// The most levels of nesting.

@@ -8,17 +8,15 @@ ghost use Rattle.kahn_syntax.specs.Terminals.{terminals, word, sign, AreProper};
 ghost use Rattle.kahn_syntax.specs.Programs.{kind_terminal, role_words, taking_words, names_words, AreNames, Parameters, Variables, Declares, Declarations, declaration_nesting, declarations_nesting, parameter, variable};
 ghost use Rattle.kahn_syntax.specs.Drawn.{name_of};
 ghost use Rattle.kahn_syntax.specs.Drawn.{parameter_of, variable_of, process_of, declaration_of};
-ghost use Rattle.kahn_syntax.specs.Machine.{DeclarationsPart, DeclarationPart, ProcessPart, RolePart, GroupsPart, GroupPart, TakingPart, VariablesPart, leads_kind, leads_declaration};
-ghost use Rattle.kahn_syntax.specs.Reads.{Reads, Stops, PartRead, IsSound, AreSound, head_parts, HeadSpans};
+ghost use Rattle.kahn_syntax.specs.inner.Machine.{DeclarationsPart, DeclarationPart, ProcessPart, RolePart, GroupsPart, GroupPart, TakingPart, VariablesPart, leads_kind, leads_declaration};
+ghost use Rattle.kahn_syntax.specs.inner.Reads.{Reads, Stops, PartRead, IsSound, AreSound, head_parts, HeadSpans};
 ghost use Rattle.kahn_syntax.specs.Spans.{IsPast, DeclarationsSpan, DeclarationSpans, RoleSpans, ProcessSpans, ParametersSpan, GroupSpans, DirectionSpans, VariablesSpan, group, together, kind_of, parameters_of, variables_of};
 
 use crate::lexeme::{Class, Keyword, Lexeme, Sign};
 use crate::parser::cursor::{Read, Stop, expect, next, past};
 use crate::parser::names::{read_name, read_names};
 use crate::parser::statement::read_statements;
-use kahn_tree::tree::{
-    Declaration, Direction, Kind, Name, Parameter, Process, Role, Taking, Variable,
-};
+use kahn_tree::{Declaration, Direction, Kind, Name, Parameter, Process, Role, Taking, Variable};
 use std::alloc::Global;
 
 // The kind that stands first, and the lexemes after it.

@@ -5,16 +5,16 @@ ghost use Rattle.kahn_syntax.specs.declared.lexeme.Keyword.TheVariants as keywor
 ghost use Rattle.kahn_syntax.specs.declared.lexeme.Class.TheVariants as class;
 ghost use Rattle.kahn_syntax.specs.Terminals.{First, AreProper};
 ghost use Rattle.kahn_syntax.specs.Spans.{IsPast};
-ghost use Rattle.kahn_syntax.specs.Reads.{ExpressionRead, ExpressionBefore, Stops};
-ghost use Rattle.kahn_syntax.specs.Rungs.{whole, denials, relations, factors, tighter, rung_of};
-ghost use Rattle.kahn_syntax.specs.Machine.{ExpressionPart, TokenPart, class_of, token_of};
+ghost use Rattle.kahn_syntax.specs.inner.Reads.{ExpressionRead, ExpressionBefore, Stops};
+ghost use Rattle.kahn_syntax.specs.inner.Rungs.{whole, denials, relations, factors, tighter, rung_of};
+ghost use Rattle.kahn_syntax.specs.inner.Machine.{ExpressionPart, TokenPart, class_of, token_of};
 
 use crate::lexeme::{Class, Keyword, Lexeme, Sign};
 use crate::parser::build::{compared, made};
 use crate::parser::cursor::{Read, Stop, deeper, expect, next, past};
 use crate::parser::names::read_name;
 use crate::parser::operator::{Level, next_comparison, next_not, next_operator};
-use kahn_tree::tree::{Expression, Form, Operand};
+use kahn_tree::{Expression, Form, Operand};
 use std::alloc::Global;
 
 /// An expression.

@@ -3,15 +3,15 @@
 ghost use Rattle.std.specs.Prelude.{◌≡◌, ◌+◌, ◌<◌, [], ◌∷◌, ◌⊎◌, false, length, map, IfOk, IfErr, MatchResult};
 ghost use Rattle.kahn_syntax.specs.declared.parser.cursor.Stop.TheVariants.{Refused, NoMemory};
 ghost use Rattle.kahn_syntax.specs.Terminals.{name, terminals, AreProper};
-ghost use Rattle.kahn_syntax.specs.Machine.{NameToken, leads, names_then};
+ghost use Rattle.kahn_syntax.specs.inner.Machine.{NameToken, leads, names_then};
 ghost use Rattle.kahn_syntax.specs.Drawn.{name_of};
-ghost use Rattle.kahn_syntax.specs.Reads.{PartRead, Stops};
+ghost use Rattle.kahn_syntax.specs.inner.Reads.{PartRead, Stops};
 ghost use Rattle.kahn_syntax.specs.Spans.{NameSpans, NamesSpan};
 ghost use Rattle.kahn_syntax.specs.Programs.{names_words, AreNames};
 
 use crate::lexeme::{Class, Lexeme, Sign};
 use crate::parser::cursor::{Read, Stop, past};
-use kahn_tree::tree::Name;
+use kahn_tree::Name;
 use std::alloc::Global;
 
 /// The name that stands first.

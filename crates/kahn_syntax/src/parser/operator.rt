@@ -3,15 +3,15 @@
 ghost use Rattle.std.specs.Prelude.{◌≡◌, ◌+◌, List, ℕ, ◌∷◌, false, length, IfSome, IfNone};
 ghost use Rattle.kahn_syntax.specs.declared.lexeme.Keyword.TheVariants as keyword;
 ghost use Rattle.kahn_syntax.specs.Terminals.{word, terminals, AreProper};
-ghost use Rattle.kahn_syntax.specs.Rungs.{Lacks};
-ghost use Rattle.kahn_syntax.specs.Machine.{NotToken, leads};
+ghost use Rattle.kahn_syntax.specs.inner.Rungs.{Lacks};
+ghost use Rattle.kahn_syntax.specs.inner.Machine.{NotToken, leads};
 ghost use Rattle.kahn_syntax.specs.Trees.{operator_terminal, rank};
-ghost use Rattle.kahn_syntax.specs.Reads.{rank_of};
+ghost use Rattle.kahn_syntax.specs.inner.Reads.{rank_of};
 ghost use Rattle.kahn_syntax.specs.Spans.{IsPast};
 
 use crate::lexeme::{Class, Keyword, Lexeme, Sign};
 use crate::parser::cursor::next;
-use kahn_tree::tree::Operator;
+use kahn_tree::Operator;
 
 /// A level whose operators may follow one another. From `Or` to `Term` they bind tighter.
 #[derive(Clone, Copy)]

@@ -4,22 +4,21 @@ ghost use Rattle.std.specs.Prelude.{◌≡◌, ◌≤◌, ◌<◌, ◌+◌, [], 
 ghost use Rattle.kahn_syntax.specs.declared.lexeme.Keyword.TheVariants as keyword;
 ghost use Rattle.kahn_syntax.specs.declared.lexeme.Sign.TheVariants as mark;
 ghost use Rattle.kahn_syntax.specs.Terminals.{Terminal, terminals, AreProper, sign, number};
-ghost use Rattle.kahn_syntax.specs.Machine.{NumberToken, leads, InstancePart, ArgumentsPart, ArgumentPart, TailPart, InstancesTail, LastTail};
+ghost use Rattle.kahn_syntax.specs.inner.Machine.{NumberToken, leads, InstancePart, ArgumentsPart, ArgumentPart, TailPart, InstancesTail, LastTail};
 ghost use Rattle.kahn_syntax.specs.Faults.{IsFault};
 ghost use Rattle.kahn_syntax.specs.declared.fault.SyntaxFault.TheVariants as SyntaxFault;
 ghost use Rattle.kahn_syntax.specs.Programs.{ProgramTree, Spells, nesting, Instances, Instantiates, Arguments, Argues, MaybeSemicolon};
 ghost use Rattle.kahn_syntax.specs.Drawn.{declaration_of, program_of};
 ghost use Rattle.kahn_syntax.specs.declared.lexeme.Lexeme.{Lexeme};
 ghost use Rattle.kahn_syntax.specs.Spans.{IsPast, Takes, MayPart, ArgumentSpans, ArgumentsSpan, InstanceSpans, InstancesSpan, ProgramSpans};
-ghost use Rattle.kahn_syntax.specs.Reads.{Reads, Stops, Halts, PartRead, AreSound};
+ghost use Rattle.kahn_syntax.specs.inner.Reads.{Reads, Stops, Halts, PartRead, AreSound};
 
 use crate::fault::{SyntaxFault, What};
 use crate::lexeme::{Class, Keyword, Lexeme, Sign};
 use crate::parser::cursor::{Read, Stop, expect, next, past, reach, span_at};
 use crate::parser::declaration::read_declarations;
 use crate::parser::names::read_name;
-use kahn_tree::span::Span;
-use kahn_tree::tree::{Argument, Instance, Program};
+use kahn_tree::{Argument, Instance, Program, Span};
 use std::alloc::Global;
 
 /// The program that the lexemes of a text are.

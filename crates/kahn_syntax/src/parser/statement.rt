@@ -5,15 +5,15 @@ ghost use Rattle.kahn_syntax.specs.declared.lexeme.Keyword.TheVariants as keywor
 ghost use Rattle.kahn_syntax.specs.declared.lexeme.Class.TheVariants as class;
 ghost use Rattle.kahn_syntax.specs.Terminals.{terminals, First, AreProper};
 ghost use Rattle.kahn_syntax.specs.Spans.{IsPast};
-ghost use Rattle.kahn_syntax.specs.Reads.{StatementRead, StatementsRead, Stops};
-ghost use Rattle.kahn_syntax.specs.Machine.{NameToken, leads, StatementsTail, StatementPart, SimplePart, TailPart};
+ghost use Rattle.kahn_syntax.specs.inner.Reads.{StatementRead, StatementsRead, Stops};
+ghost use Rattle.kahn_syntax.specs.inner.Machine.{NameToken, leads, StatementsTail, StatementPart, SimplePart, TailPart};
 
 use crate::lexeme::{Class, Keyword, Lexeme, Sign};
 use crate::parser::build::{block, if_else, if_then, repeated, while_do};
 use crate::parser::cursor::{Read, deeper, expect, next, past, reach};
 use crate::parser::expression::{read_before, read_expression};
 use crate::parser::names::read_name;
-use kahn_tree::tree::{Action, Statement};
+use kahn_tree::{Action, Statement};
 use std::alloc::Global;
 
 /// One statement or more, with semicolons between.

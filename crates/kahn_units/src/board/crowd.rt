@@ -2,7 +2,7 @@
 
 ghost use Rattle.std.specs.Prelude.{◌≡◌, ◌+◌, ◌<◌, ◌≤◌, IfSome};
 ghost use Rattle.std.specs.Thread.{IsSync};
-ghost use Rattle.kahn_units.specs.Working.{IsSquare, KeepsShare, HasCell};
+ghost use Rattle.kahn_units.specs.inner.Working.{IsSquare, KeepsShare, HasCell};
 
 use super::*;
 use std::process::Abort;

@@ -3,7 +3,7 @@
 ghost use Rattle.std.specs.Prelude.{◌≡◌, ◌+◌, IfOk};
 ghost use Rattle.kahn_board.specs.Cuts.{HoldsNothing};
 ghost use Rattle.kahn_board.specs.Rule.{all_parts};
-ghost use Rattle.kahn_units.specs.Working.{IsSquare, KeepsShare, HasCell};
+ghost use Rattle.kahn_units.specs.inner.Working.{IsSquare, KeepsShare, HasCell};
 
 use super::*;
 use std::process::Abort;

@@ -6,13 +6,10 @@ ghost use Rattle.kahn_lane.specs.Places.{lane_name};
 ghost use Rattle.kahn_lane.specs.LaneEnds.{sender_lane, receiver_lane, sender_name, sent, HasRoom, SameSender, SameReceiver};
 
 use crate::rationed::Rationed;
-use kahn_check::network::check;
+use kahn_check::{Network, check};
 use kahn_lane::{Receiver, Sender, lane, meet, settle};
-use kahn_network::network::Network;
-use kahn_streams::input::Input;
-use kahn_streams::memory::NoMemory;
-use kahn_streams::value::Value;
-use kahn_syntax::parser::parse;
+use kahn_streams::{Input, NoMemory, Value};
+use kahn_syntax::parse;
 use std::alloc::{Allocator, Global};
 use std::process::Abort;
 use std::test::Fail;

@@ -1,8 +1,8 @@
 //! The operators on values at their limits.
 
-use kahn_code::word::{Operand, Word, apply, negated};
-use kahn_streams::value::{Failure, Value};
-use kahn_tree::tree::Operator;
+use kahn_code::{Operand, Word, apply, negated};
+use kahn_streams::{Failure, Value};
+use kahn_syntax::Operator;
 use std::test::Fail;
 
 static RESULTS: [(Operator, Value, Value, Result<Value, Failure>); 29] = [

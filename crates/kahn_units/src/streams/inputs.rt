@@ -1,12 +1,8 @@
 //! Inputs of networks: their values, their tokens, and what is refused.
 
-use kahn_check::network::check;
-use kahn_network::network::Network;
-use kahn_streams::entries::InputFault;
-use kahn_streams::feeds::FeedFault;
-use kahn_streams::input::Input;
-use kahn_streams::value::Value;
-use kahn_syntax::parser::parse;
+use kahn_check::{Network, check};
+use kahn_streams::{FeedFault, Input, InputFault, Value};
+use kahn_syntax::parse;
 use std::alloc::Global;
 use std::test::Fail;
 

@@ -1,9 +1,6 @@
 //! Lexemes of texts.
 
-use kahn_syntax::fault::SyntaxFault;
-use kahn_syntax::lexeme::{Class, Keyword, Lexeme, Sign};
-use kahn_syntax::lexer::lex;
-use kahn_tree::span::Span;
+use kahn_syntax::{Class, Keyword, Lexeme, Sign, Span, SyntaxFault, lex};
 use std::test::Fail;
 
 static READ: [(&str, &[Lexeme]); 3] = [

@@ -1,9 +1,6 @@
 //! Texts that are as long or as deep as they may be, and those that are more.
 
-use kahn_syntax::fault::SyntaxFault;
-use kahn_syntax::lexer::lex;
-use kahn_syntax::parser::parse;
-use kahn_tree::span::Span;
+use kahn_syntax::{Span, SyntaxFault, lex, parse};
 use std::test::Fail;
 
 // Each text by its pieces, and how often each of them comes.

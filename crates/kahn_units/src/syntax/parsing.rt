@@ -1,13 +1,12 @@
 //! Texts of the language, accepted and refused.
 
 use super::limits::fault;
-use kahn_syntax::fault::{SyntaxFault, What};
-use kahn_tree::span::Span;
+use kahn_syntax::{Span, SyntaxFault, What};
 
 static COUNTING: &str =
     "Begin Integer output channel W;\n  Process count(integer out W; integer N);\n  Begin integer I;\n    while I < N do begin send I on W; I := I + 1 end\n  End;\n  count(W, 3)\nEnd;\n";
 
-static TEXTS: [(&str, Option<SyntaxFault>); 18] = [
+static TEXTS: [(&str, Option<SyntaxFault>); 8] = [
     (
         "",
         Some(SyntaxFault::Expected(Span { from: 0, to: 0 }, What::More)),
@@ -21,48 +20,8 @@ static TEXTS: [(&str, Option<SyntaxFault>); 18] = [
         Some(SyntaxFault::Expected(Span { from: 38, to: 39 }, What::Nothing)),
     ),
     (
-        "begin process p(); begin end; p() end; x",
-        Some(SyntaxFault::Expected(Span { from: 39, to: 40 }, What::Nothing)),
-    ),
-    (
         "begin process p(); begin logical A; if A then if A then end; p() end",
         Some(SyntaxFault::Expected(Span { from: 46, to: 48 }, What::Other)),
-    ),
-    (
-        "begin process p(); begin print 1 < 2 < 3 end; p() end",
-        Some(SyntaxFault::Expected(Span { from: 37, to: 38 }, What::Other)),
-    ),
-    (
-        "begin process p(); begin print not not 1 + not 2 end; p() end",
-        Some(SyntaxFault::Expected(Span { from: 43, to: 46 }, What::Other)),
-    ),
-    (
-        "begin p() par end",
-        Some(SyntaxFault::Expected(Span { from: 14, to: 17 }, What::Other)),
-    ),
-    (
-        "begin process p(); begin end; p(1,) end",
-        Some(SyntaxFault::Expected(Span { from: 34, to: 35 }, What::Other)),
-    ),
-    (
-        "begin process p(integer N); begin end; p(-) end",
-        Some(SyntaxFault::Expected(Span { from: 42, to: 43 }, What::Other)),
-    ),
-    (
-        "begin process p(;); begin end; p() end",
-        Some(SyntaxFault::Expected(Span { from: 16, to: 17 }, What::Other)),
-    ),
-    (
-        "begin process p(integer in A;); begin end; p() end",
-        Some(SyntaxFault::Expected(Span { from: 29, to: 30 }, What::Other)),
-    ),
-    (
-        "begin process p(integer in A); begin print wait(1) end; p(X) end",
-        Some(SyntaxFault::Expected(Span { from: 48, to: 49 }, What::Other)),
-    ),
-    (
-        "begin process p(integer in A); begin print wait(A + 1) end; p(X) end",
-        Some(SyntaxFault::Expected(Span { from: 50, to: 51 }, What::Other)),
     ),
     (
         "begin integer output channel W; process s(integer out A); begin send 9223372036854775808 on A end; s(W) par s(W) end",

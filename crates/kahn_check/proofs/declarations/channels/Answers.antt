@@ -2,7 +2,7 @@ use Rattle.std.proofs.Common.{arith, ◌≡◌, ◌<◌, ◌+◌, ◌++◌, ◌�
 use Rattle.std.proofs.lemmas.Grind.{common_steps}
 use Rattle.std.specs.Map.{lookup}
 use Rattle.kahn_tree.specs.View.{bytes_of}
-use Rattle.kahn_check.specs.Globals.{known}
+use Rattle.kahn_check.specs.inner.Globals.{known}
 use Rattle.kahn_check.specs.Order.{most_channels, channel_faults}
 use Rattle.kahn_network.specs.Wiring.{entries, IsChannel}
 use Rattle.kahn_network.proofs.Handed.{as_channels}

@@ -1,6 +1,6 @@
 use Rattle.std.proofs.Common.{◌≡◌, ◌≤◌, ◌+◌, ◌++◌, List, drop}
 use Rattle.kahn_tree.specs.declared.tree.Declaration.{Declaration}
-use Rattle.kahn_check.specs.Globals.{known, ArePlaced}
+use Rattle.kahn_check.specs.inner.Globals.{known, ArePlaced}
 use Rattle.kahn_network.specs.Wiring.{entries}
 use Rattle.kahn_check.specs.Order.{most_channels, channel_faults}
 use Rattle.kahn_network.proofs.Handed.{as_channels}

@@ -3,7 +3,7 @@ use Rattle.std.proofs.lemmas.Grind.{common_steps}
 use Rattle.std.specs.Map.{lookup}
 use Rattle.kahn_tree.specs.declared.tree.Declaration.TheVariants as D
 use Rattle.kahn_tree.specs.View.{bytes_of}
-use Rattle.kahn_check.specs.Globals.{known, ArePlaced}
+use Rattle.kahn_check.specs.inner.Globals.{known, ArePlaced}
 use Rattle.kahn_check.specs.Order.{most_channels, channel_faults, process_faults, declaration_faults}
 use Rattle.kahn_network.specs.Wiring.{entries, declared_of, IsProcess}
 use Rattle.kahn_network.proofs.Handed.{as_channels}

@@ -1,5 +1,5 @@
 use Rattle.std.proofs.Common.{◌≡◌, ◌≤◌, ◌++◌, [], drop}
-use Rattle.kahn_check.specs.Globals.{known, ArePlaced}
+use Rattle.kahn_check.specs.inner.Globals.{known, ArePlaced}
 use Rattle.kahn_network.specs.Wiring.{entries, declared_of}
 use Rattle.kahn_check.specs.Order.{most_channels, declaration_faults}
 use Rattle.kahn_check.proofs.declarations.declarations.Given as goal

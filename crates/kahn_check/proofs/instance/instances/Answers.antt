@@ -4,10 +4,10 @@ use Rattle.kahn_tree.specs.declared.tree.Direction.TheVariants.{In, Out}
 use Rattle.kahn_check.specs.Order.{most_instances}
 use Rattle.kahn_check.specs.Faults.{IsMet}
 use Rattle.kahn_check.specs.declared.globals.Entry.TheVariants as E
-use Rattle.kahn_check.specs.Globals.{known, IsPlaced}
+use Rattle.kahn_check.specs.inner.Globals.{known, IsPlaced}
 use Rattle.kahn_network.specs.Wires.{process_at}
 use Rattle.kahn_network.specs.Wiring.{IsProcess, handed_in}
-use Rattle.kahn_check.specs.Tables.{places_faults, meant, seats_faults, taken, handed_all}
+use Rattle.kahn_check.specs.inner.Tables.{places_faults, meant, seats_faults, taken, handed_all}
 use Rattle.kahn_check.proofs.Placed.{seats_met, seats_step, seats_more, found_of, one_more}
 use Rattle.kahn_check.proofs.instance.instances.Goals as goal
 

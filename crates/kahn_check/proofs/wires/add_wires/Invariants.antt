@@ -1,6 +1,6 @@
 use Rattle.std.proofs.Common.{◌≡◌, ◌++◌, map, drop}
-use Rattle.kahn_check.specs.Tables.{sides_in}
-use Rattle.kahn_check.specs.Wires.{as_lines, lines_in}
+use Rattle.kahn_check.specs.inner.Tables.{sides_in}
+use Rattle.kahn_check.specs.inner.Wires.{as_lines, lines_in}
 use Rattle.kahn_network.specs.Wires.{shown}
 use Rattle.kahn_check.proofs.wires.add_wires.Given as goal
 

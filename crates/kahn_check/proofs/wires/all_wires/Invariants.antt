@@ -1,6 +1,6 @@
 use Rattle.std.proofs.Common.{◌≡◌, ◌++◌, map, drop}
-use Rattle.kahn_check.specs.Tables.{sides_in}
-use Rattle.kahn_check.specs.Wires.{lines_in}
+use Rattle.kahn_check.specs.inner.Tables.{sides_in}
+use Rattle.kahn_check.specs.inner.Wires.{lines_in}
 use Rattle.kahn_network.specs.Wires.{shown}
 use Rattle.kahn_network.specs.Wiring.{declared_channels}
 use Rattle.kahn_check.proofs.wires.all_wires.Given as goal

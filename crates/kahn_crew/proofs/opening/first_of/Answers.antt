@@ -1,5 +1,5 @@
 use Rattle.std.proofs.Common.{rules}
-use Rattle.kahn_crew.specs.Begins.{ready_task}
+use Rattle.kahn_crew.specs.inner.Begins.{ready_task}
 use Rattle.kahn_crew.proofs.Started.{none_taken, one_taken, all_taken}
 use Rattle.kahn_crew.proofs.opening.first_of.Goals as goal
 

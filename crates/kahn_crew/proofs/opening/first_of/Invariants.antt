@@ -1,5 +1,5 @@
 use Rattle.std.proofs.Common.{length}
-use Rattle.kahn_crew.specs.Begins.{ready_task}
+use Rattle.kahn_crew.specs.inner.Begins.{ready_task}
 use Rattle.kahn_crew.proofs.Started.{Taking}
 use Rattle.kahn_crew.proofs.opening.first_of.Given as goal
 

@@ -1,4 +1,4 @@
-use Rattle.kahn_desk.specs.Turn.{IsIdle, IsSeatOf}
+use Rattle.kahn_desk.specs.inner.Turn.{IsIdle, IsSeatOf}
 use Rattle.kahn_crew.proofs.pick.pick_any.Given as goal
 
 abbrev pub invariant-loop-step : goal.invariant-loop-step

@@ -1,5 +1,5 @@
 use Rattle.std.proofs.Common.{ℕ}
-use Rattle.kahn_desk.specs.Turn.{IsBetween, IsSeatOf}
+use Rattle.kahn_desk.specs.inner.Turn.{IsBetween, IsSeatOf}
 use Rattle.kahn_crew.proofs.pick.pick_hinted.Given as goal
 
 abbrev pub invariant-loop : goal.invariant-loop

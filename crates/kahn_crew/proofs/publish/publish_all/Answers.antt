@@ -1,5 +1,5 @@
 use Rattle.std.proofs.Common.{◌∙◌, sym, subst, ℕ, List, None}
-use Rattle.kahn_crew.specs.Tasks.{AgreesWith}
+use Rattle.kahn_crew.specs.inner.Tasks.{AgreesWith}
 use Rattle.kahn_crew.proofs.Publishing.{kept_still, published_more}
 use Rattle.kahn_crew.proofs.publish.publish_all.Goals as goal
 

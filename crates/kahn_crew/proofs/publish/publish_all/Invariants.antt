@@ -1,7 +1,7 @@
 use Rattle.std.proofs.Common.{◌≡◌, ℕ, ◌<◌, None}
-use Rattle.kahn_desk.specs.Turn.{Holds, IsSeatOf}
-use Rattle.kahn_crew.specs.Floors.{HasKept}
-use Rattle.kahn_crew.specs.Tasks.{AgreesWith, IsPublished}
+use Rattle.kahn_desk.specs.inner.Turn.{Holds, IsSeatOf}
+use Rattle.kahn_crew.specs.inner.Floors.{HasKept}
+use Rattle.kahn_crew.specs.inner.Tasks.{AgreesWith, IsPublished}
 use Rattle.kahn_crew.proofs.publish.publish_all.Given as goal
 
 abbrev pub invariant-loop-parameter : goal.invariant-loop-parameter

@@ -2,8 +2,8 @@ use Rattle.std.proofs.Common.{arith, ◌≡◌, ◌<◌, sym, subst, Some}
 use Rattle.kahn_tree.specs.declared.tree.Program.{Program}
 use Rattle.kahn_network.specs.Network.{Writes, network_of, instance_at, actual_at}
 use Rattle.kahn_board.specs.Wires.{wires}
-use Rattle.kahn_desk.specs.Turn.{Tells}
-use Rattle.kahn_crew.specs.Tasks.{Tasked, AgreesWith, written_by}
+use Rattle.kahn_desk.specs.inner.Turn.{Tells}
+use Rattle.kahn_crew.specs.inner.Tasks.{Tasked, AgreesWith, written_by}
 use Rattle.kahn_crew.proofs.Wirings.{writer_is, written_inside}
 use Rattle.kahn_crew.proofs.Publishing.{written_so, agrees_told, flushed_few}
 use Rattle.kahn_crew.proofs.publish.publish_one.Goals as goal

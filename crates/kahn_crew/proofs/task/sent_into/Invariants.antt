@@ -1,5 +1,5 @@
 use Rattle.std.proofs.Common.{◌≡◌, length, take}
-use Rattle.kahn_job.specs.Works.{width_of}
+use Rattle.kahn_job.specs.inner.Works.{width_of}
 use Rattle.kahn_crew.proofs.task.sent_into.Given as goal
 
 abbrev pub invariant-loop-parameter : goal.invariant-loop-parameter

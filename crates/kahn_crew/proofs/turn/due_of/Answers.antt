@@ -3,8 +3,8 @@ use Rattle.kahn_tree.specs.declared.tree.Program.{Program}
 use Rattle.kahn_board.specs.Wires.{wires}
 use Rattle.kahn_crew.specs.declared.standing.Standing.TheVariants as standing
 use Rattle.kahn_crew.specs.declared.turn.Due.TheVariants as due
-use Rattle.kahn_crew.specs.Rests.{IsDue}
-use Rattle.kahn_crew.specs.Tasks.{HasStanding, IsTrueOf}
+use Rattle.kahn_crew.specs.inner.Rests.{IsDue}
+use Rattle.kahn_crew.specs.inner.Tasks.{HasStanding, IsTrueOf}
 use Rattle.kahn_crew.proofs.Resting.{due_waits, dry_routed}
 use Rattle.kahn_crew.proofs.Wirings.{routed_as}
 use Rattle.kahn_crew.proofs.turn.due_of.Goals as goal

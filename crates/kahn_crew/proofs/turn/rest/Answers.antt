@@ -1,6 +1,6 @@
 use Rattle.std.proofs.Common.{subst}
 use Rattle.kahn_board.specs.Dealt.{wired}
-use Rattle.kahn_crew.specs.Rests.{IsDue}
+use Rattle.kahn_crew.specs.inner.Rests.{IsDue}
 use Rattle.kahn_crew.proofs.turn.rest.Goals as goal
 
 pub rest_over-requires-clause-holds : goal.rest_over-requires-clause-holds

@@ -6,11 +6,11 @@ use Rattle.kahn_code.specs.declared.progress.Pause.{Pause}
 use Rattle.kahn_code.specs.declared.progress.Pause.TheVariants as pause
 use Rattle.kahn_code.specs.Cells.{exec_on}
 use Rattle.kahn_code.specs.Progress.{IsPause}
-use Rattle.kahn_job.specs.Ends.{IsDry, IsReady}
-use Rattle.kahn_job.specs.Berths.{end_at}
-use Rattle.kahn_job.specs.Works.{Work}
+use Rattle.kahn_job.specs.inner.Ends.{IsDry, IsReady}
+use Rattle.kahn_job.specs.inner.Berths.{end_at}
+use Rattle.kahn_job.specs.inner.Works.{Work}
 use Rattle.kahn_crew.specs.declared.standing.Standing.TheVariants as standing
-use Rattle.kahn_crew.specs.Tasks.{standing_after}
+use Rattle.kahn_crew.specs.inner.Tasks.{standing_after}
 use Rattle.kahn_crew.proofs.turn.run_task.Goals as goal
 
 either_of : {E : Type 0} (r : Result (Unit {0}) E) {P Q : Type 0} → OnOk r P → OnErr r Q → Q ⊎ P

@@ -3,10 +3,10 @@ use Rattle.kahn_tree.specs.declared.tree.Program.{Program}
 use Rattle.kahn_board.specs.Dealt.{belongs}
 use Rattle.kahn_board.specs.Wires.{wires}
 use Rattle.kahn_board.specs.declared.view.View.{View}
-use Rattle.kahn_desk.specs.Turn.{Fits, Holds, IsBetween, Knows}
-use Rattle.kahn_crew.specs.Floors.{IsTaskOf}
-use Rattle.kahn_crew.specs.Rests.{IsDue}
-use Rattle.kahn_crew.specs.Tasks.{Tasked, AgreesWith, IsLater, told_of}
+use Rattle.kahn_desk.specs.inner.Turn.{Fits, Holds, IsBetween, Knows}
+use Rattle.kahn_crew.specs.inner.Floors.{IsTaskOf}
+use Rattle.kahn_crew.specs.inner.Rests.{IsDue}
+use Rattle.kahn_crew.specs.inner.Tasks.{Tasked, AgreesWith, IsLater, told_of}
 use Rattle.kahn_crew.proofs.Resting.{agrees_later, agrees_with, fits_spent, is_published, task_later, task_of, task_work}
 use Rattle.kahn_crew.proofs.turn.spend.Goals as goal
 

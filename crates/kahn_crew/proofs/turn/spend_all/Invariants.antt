@@ -1,7 +1,7 @@
 use Rattle.std.proofs.Common.{◌+◌, ◌<◌, ◌^◌, length, slice_index}
 use Rattle.kahn_network.specs.Network.{network_of}
-use Rattle.kahn_desk.specs.Turn.{IsSeatOf}
-use Rattle.kahn_crew.specs.Floors.{HasTask}
+use Rattle.kahn_desk.specs.inner.Turn.{IsSeatOf}
+use Rattle.kahn_crew.specs.inner.Floors.{HasTask}
 use Rattle.kahn_crew.proofs.turn.spend_all.Given as goal
 
 abbrev pub invariant-loop-first : goal.invariant-loop-first

@@ -2,9 +2,9 @@ use Rattle.std.proofs.Common.{sym, ◌∙◌, subst, Some}
 use Rattle.kahn_tree.specs.declared.tree.Program.{Program}
 use Rattle.kahn_board.specs.Dealt.{belongs}
 use Rattle.kahn_board.specs.Wires.{wires}
-use Rattle.kahn_desk.specs.Turn.{Fits, Holds, Knows}
-use Rattle.kahn_crew.specs.Floors.{IsTaskOf}
-use Rattle.kahn_crew.specs.Tasks.{IsLater, told_of}
+use Rattle.kahn_desk.specs.inner.Turn.{Fits, Holds, Knows}
+use Rattle.kahn_crew.specs.inner.Floors.{IsTaskOf}
+use Rattle.kahn_crew.specs.inner.Tasks.{IsLater, told_of}
 use Rattle.kahn_crew.proofs.Resting.{fits_still, task_of}
 use Rattle.kahn_crew.proofs.turn.turn.Goals as goal
 

@@ -1,6 +1,6 @@
 use Rattle.std.proofs.Common.{◌≡◌, All, map, vec_capacity}
-use Rattle.kahn_job.specs.Works.{IsJob}
-use Rattle.kahn_crew.specs.Tasks.{work_of}
+use Rattle.kahn_job.specs.inner.Works.{IsJob}
+use Rattle.kahn_crew.specs.inner.Tasks.{work_of}
 use Rattle.kahn_crew.proofs.waking.rest_all.Given as goal
 
 abbrev pub invariant-loop-task : goal.invariant-loop-task

@@ -1,4 +1,4 @@
-use Rattle.kahn_desk.specs.Turn.{IsIdle, IsSeatOf}
+use Rattle.kahn_desk.specs.inner.Turn.{IsIdle, IsSeatOf}
 use Rattle.kahn_crew.proofs.worker.turns.Given as goal
 
 abbrev pub invariant-loop : goal.invariant-loop

@@ -1,4 +1,4 @@
-use Rattle.kahn_job.specs.Openings.{AreHanded}
+use Rattle.kahn_job.specs.inner.Openings.{AreHanded}
 use Rattle.kahn_job.proofs.rows.all_rows.Given as goal
 
 abbrev pub invariant-loop-channel : goal.invariant-loop-channel

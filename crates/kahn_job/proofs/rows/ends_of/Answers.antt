@@ -1,7 +1,7 @@
 use Rattle.std.proofs.Common.{rules, refl, sym, ap, subst, Some}
 use Rattle.kahn_lane.specs.LaneEnds.{receiver_lane}
-use Rattle.kahn_job.specs.Openings.{AreEndsOf}
-use Rattle.kahn_job.specs.Ways.{putting}
+use Rattle.kahn_job.specs.inner.Openings.{AreEndsOf}
+use Rattle.kahn_job.specs.inner.Ways.{putting}
 use Rattle.kahn_job.proofs.Handed.{inner_is_not_input}
 use Rattle.kahn_job.proofs.rows.ends_of.Goals as goal
 

@@ -1,5 +1,5 @@
 use Rattle.std.proofs.Common.{◌+◌, sym, ap, ◌∙◌, subst}
-use Rattle.kahn_job.specs.Openings.{AreHanded, placed}
+use Rattle.kahn_job.specs.inner.Openings.{AreHanded, placed}
 use Rattle.kahn_job.proofs.Handed.{handed_more}
 use Rattle.kahn_job.proofs.rows.hand.Goals as goal
 

@@ -1,9 +1,9 @@
 use Rattle.std.proofs.Common.{sym, ap, ◌∙◌, subst, Some}
 use Rattle.kahn_lane.specs.Places.{moved_to}
-use Rattle.kahn_job.specs.Idles.{rows_of}
-use Rattle.kahn_job.specs.Openings.{placed}
-use Rattle.kahn_job.specs.Settling.{AreAlike, CanSettle, HasSettled, HaveExchanged, end_of_side}
-use Rattle.kahn_job.specs.Ways.{nothing}
+use Rattle.kahn_job.specs.inner.Idles.{rows_of}
+use Rattle.kahn_job.specs.inner.Openings.{placed}
+use Rattle.kahn_job.specs.inner.Settling.{AreAlike, CanSettle, HasSettled, HaveExchanged, end_of_side}
+use Rattle.kahn_job.specs.inner.Ways.{nothing}
 use Rattle.kahn_job.proofs.Settles.{alike, exchanged, reader_kept}
 use Rattle.kahn_job.proofs.settling.settle_lane.Goals as goal
 

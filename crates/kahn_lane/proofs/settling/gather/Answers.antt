@@ -1,6 +1,6 @@
 use Rattle.std.proofs.Common.{ap, subst, sym, ◌∙◌}
 use Rattle.kahn_lane.specs.Places.{tag_name}
-use Rattle.kahn_lane.specs.Settles.{IsGrown}
+use Rattle.kahn_lane.specs.inner.Settles.{IsGrown}
 use Rattle.kahn_lane.specs.declared.name.Tag.{Tag}
 use Rattle.kahn_lane.specs.declared.segments.Mark.{Mark}
 use Rattle.kahn_lane.proofs.LaneMoves.{merges, behind}

@@ -1,6 +1,6 @@
 use Rattle.std.proofs.Common.{length, sym, subst}
-use Rattle.kahn_pool.specs.Bench.{IsVerdict}
-use Rattle.kahn_pool.specs.Rested.{AreEndsOf, AreTold}
+use Rattle.kahn_pool.specs.inner.Bench.{IsVerdict}
+use Rattle.kahn_pool.specs.inner.Rested.{AreEndsOf, AreTold}
 use Rattle.kahn_pool.proofs.Over.{is_last}
 use Rattle.kahn_pool.proofs.Rests as rests
 use Rattle.kahn_pool.proofs.conclude.conclude.Goals as goal

@@ -1,6 +1,6 @@
 use Rattle.std.proofs.Common.{◌≡◌, map, vec_capacity}
-use Rattle.kahn_pool.specs.Workbench.{AreKeptOf}
-use Rattle.kahn_pool.specs.Rested.{cell_of}
+use Rattle.kahn_pool.specs.inner.Workbench.{AreKeptOf}
+use Rattle.kahn_pool.specs.inner.Rested.{cell_of}
 use Rattle.kahn_pool.proofs.gather.all_kept.Given as goal
 
 abbrev pub invariant-loop-task : goal.invariant-loop-task

@@ -2,10 +2,10 @@ use Rattle.std.proofs.Common.{◌≡◌, ◌+◌, ◌-◌, map, sum_by, subst, a
 use Rattle.kahn_network.specs.Network.{network_of}
 use Rattle.kahn_streams.specs.Tokens.{inputs_of}
 use Rattle.kahn_code.specs.Told.{told_view}
-use Rattle.kahn_crew.specs.Left.{task_events}
-use Rattle.kahn_pool.specs.Rested.{state_of}
+use Rattle.kahn_crew.specs.inner.Left.{task_events}
+use Rattle.kahn_pool.specs.inner.Rested.{state_of}
 use Rattle.kahn_pool.proofs.Over.{same_cells, tasks_met}
-use Rattle.kahn_pool.specs.Bench.{AreStreams, State}
+use Rattle.kahn_pool.specs.inner.Bench.{AreStreams, State}
 use Rattle.kahn_pool.specs.Right.{stream_lines}
 use Rattle.kahn_pool.specs.declared.answer.Answer.{Answer}
 use Rattle.kahn_pool.proofs.Final.{gathered}

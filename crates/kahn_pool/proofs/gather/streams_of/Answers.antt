@@ -1,5 +1,5 @@
 use Rattle.std.proofs.Common.{map}
-use Rattle.kahn_pool.specs.Rested.{cell_of, state_of}
+use Rattle.kahn_pool.specs.inner.Rested.{cell_of, state_of}
 use Rattle.kahn_pool.proofs.Kept.{are_lists}
 use Rattle.kahn_pool.proofs.Filled.{are_streams}
 use Rattle.kahn_pool.proofs.Seen.{kept_seen, printed_seen}

@@ -1,5 +1,5 @@
 use Rattle.kahn_pool.proofs.laws.assembled.Goals as goal
-use Rattle.kahn_pool.proofs.Assembled
+use Rattle.kahn_pool.proofs.Assembling
 
 pub returns : goal.returns
-returns c = Assembled.assembled
+returns c = Assembling.assembled

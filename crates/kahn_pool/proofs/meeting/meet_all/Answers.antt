@@ -1,7 +1,7 @@
 use Rattle.std.proofs.Common.{rules, ◌≡◌, length, add-one}
 use Rattle.kahn_network.specs.Network.{network_of}
 use Rattle.kahn_pool.proofs.Lists.{below_more}
-use Rattle.kahn_pool.specs.Meetings.{IsBehindOn}
+use Rattle.kahn_pool.specs.inner.Meetings.{IsBehindOn}
 use Rattle.kahn_pool.proofs.Meets.{behind_all, behind_before, have_met_then, joined_met}
 use Rattle.kahn_pool.proofs.meeting.meet_all.Goals as goal
 

@@ -1,5 +1,5 @@
 use Rattle.std.proofs.Common.{ℕ, ◌<◌}
-use Rattle.kahn_pool.specs.Meetings.{AreJoined, HaveMet, IsBehindOn}
+use Rattle.kahn_pool.specs.inner.Meetings.{AreJoined, HaveMet, IsBehindOn}
 use Rattle.kahn_pool.proofs.meeting.meet_all.Given as goal
 
 abbrev pub invariant-loop-channel : goal.invariant-loop-channel

@@ -1,7 +1,7 @@
 use Rattle.std.proofs.Common.{rules, ◌≡◌, ◌<◌, ◌++◌, ◌∷◌, [], length, sym, ap, ◌∙◌, subst, Some, slice_get}
 use Rattle.std.proofs.lemmas.Option.{slice_get-get_or}
-use Rattle.kahn_crew.specs.Tasks.{Tasked}
-use Rattle.kahn_pool.specs.Meetings.{HaveMet, IsBehind}
+use Rattle.kahn_crew.specs.inner.Tasks.{Tasked}
+use Rattle.kahn_pool.specs.inner.Meetings.{HaveMet, IsBehind}
 use Rattle.kahn_pool.proofs.Meets.{get_last, get_low, met_last}
 use Rattle.kahn_pool.proofs.Benched.{some_one}
 use Rattle.kahn_pool.proofs.meeting.meet_last.Goals as goal

@@ -1,7 +1,7 @@
 use Rattle.std.proofs.Common.{◌≡◌, sym, ap, ◌∙◌, subst, Some, slice_get}
 use Rattle.std.proofs.lemmas.Option.{slice_get-get_or}
-use Rattle.kahn_crew.specs.Tasks.{Tasked}
-use Rattle.kahn_pool.specs.Meetings.{IsBehind}
+use Rattle.kahn_crew.specs.inner.Tasks.{Tasked}
+use Rattle.kahn_pool.specs.inner.Meetings.{IsBehind}
 use Rattle.kahn_pool.proofs.Meets.{met_set}
 use Rattle.kahn_pool.proofs.Benched.{some_one}
 use Rattle.kahn_pool.proofs.meeting.meet_own.Goals as goal

@@ -1,9 +1,9 @@
 use Rattle.std.proofs.Common.{arith, ◌≡◌, ◌+◌, sym, ◌∙◌, subst, refl}
 use Rattle.kahn_board.specs.Dealt.{events_of}
-use Rattle.kahn_crew.specs.Tasks.{told_of}
+use Rattle.kahn_crew.specs.inner.Tasks.{told_of}
 use Rattle.kahn_crew.proofs.Ended.{untouched_gone}
 use Rattle.kahn_crew.proofs.Started.{at_most_all}
-use Rattle.kahn_pool.specs.Holding.{AreHeld}
+use Rattle.kahn_pool.specs.inner.Holding.{AreHeld}
 use Rattle.kahn_pool.proofs.Held_jobs.{held_after, none_done}
 use Rattle.kahn_pool.proofs.Meets.{have_met_self}
 use Rattle.kahn_pool.proofs.part.first_counted.Goals as goal

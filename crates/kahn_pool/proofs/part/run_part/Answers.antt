@@ -2,7 +2,7 @@ use Rattle.std.proofs.Common.{Err, List, refl, ap, map}
 use Rattle.kahn_code.specs.Told.{Told}
 use Rattle.kahn_job.proofs.Idles.{idle_still}
 use Rattle.kahn_crew.specs.declared.fault.CrewFault.TheVariants.{NoMemory}
-use Rattle.kahn_pool.specs.Holding.{cell_alone}
+use Rattle.kahn_pool.specs.inner.Holding.{cell_alone}
 use Rattle.kahn_pool.specs.declared.part.Stopped.{Stopped}
 use Rattle.kahn_pool.proofs.Held_jobs.{held_alike, refused_so, rises_since, risen_here, stopped_since}
 use Rattle.kahn_pool.proofs.part.run_part.Goals as goal

@@ -1,8 +1,8 @@
 use Rattle.std.proofs.Common.{arith, ◌+◌, sym, ◌∙◌, subst}
 use Rattle.kahn_board.specs.Dealt.{events_of}
-use Rattle.kahn_crew.specs.Begins.{AreReady}
-use Rattle.kahn_crew.specs.Left.{HaveGone}
-use Rattle.kahn_crew.specs.Tasks.{told_of}
+use Rattle.kahn_crew.specs.inner.Begins.{AreReady}
+use Rattle.kahn_crew.specs.inner.Left.{HaveGone}
+use Rattle.kahn_crew.specs.inner.Tasks.{told_of}
 use Rattle.kahn_pool.proofs.Held_jobs.{all_events, alone_still, goes_on, have_risen, refused_so, stopped_so, woken_ready}
 use Rattle.kahn_pool.proofs.part.run_settled.Goals as goal
 

@@ -2,8 +2,8 @@ use Rattle.std.proofs.Common.{inl}
 use Rattle.std.proofs.Common.{sym, ap, ◌∙◌, subst}
 use Rattle.kahn_network.specs.Network.{Reads}
 use Rattle.kahn_streams.specs.Solution.{exec_at}
-use Rattle.kahn_pool.specs.Bench.{IsPaused, events_at}
-use Rattle.kahn_pool.specs.Workbench.{state_of}
+use Rattle.kahn_pool.specs.inner.Bench.{IsPaused, events_at}
+use Rattle.kahn_pool.specs.inner.Workbench.{state_of}
 use Rattle.kahn_pool.proofs.Turns.{told_as, told_dry}
 use Rattle.kahn_pool.proofs.rounds.end_of.Goals as goal
 use Rattle.kahn_pool.proofs.rounds.end_of.Goals.{in-Spent, in-NoMemory, in-Ended, in-Fault, in-Dry}

@@ -1,6 +1,6 @@
 use Rattle.std.proofs.Common.{◌≡◌, ◌≤◌, ◌+◌, length, vec_capacity}
-use Rattle.kahn_pool.specs.Bench.{all_events, weight}
-use Rattle.kahn_pool.specs.Workbench.{state_of}
+use Rattle.kahn_pool.specs.inner.Bench.{all_events, weight}
+use Rattle.kahn_pool.specs.inner.Workbench.{state_of}
 use Rattle.kahn_pool.proofs.rounds.last_round.Given as goal
 
 abbrev pub invariant-rounds : goal.invariant-rounds

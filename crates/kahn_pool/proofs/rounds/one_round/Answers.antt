@@ -1,6 +1,6 @@
 use Rattle.std.proofs.Common.{◌+◌, length, sym, ap, ◌∙◌, add-one}
-use Rattle.kahn_pool.specs.Bench.{all_events, weight}
-use Rattle.kahn_pool.specs.Workbench.{state_of}
+use Rattle.kahn_pool.specs.inner.Bench.{all_events, weight}
+use Rattle.kahn_pool.specs.inner.Workbench.{state_of}
 use Rattle.kahn_pool.proofs.rounds.one_round.Goals as goal
 
 pub loop-instance-preserved : goal.loop-instance-preserved

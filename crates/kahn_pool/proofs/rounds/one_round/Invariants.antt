@@ -1,6 +1,6 @@
 use Rattle.std.proofs.Common.{◌≡◌, ◌≤◌, ◌+◌, length, vec_len, vec_capacity}
-use Rattle.kahn_pool.specs.Bench.{Goes, all_events, weight}
-use Rattle.kahn_pool.specs.Workbench.{state_of}
+use Rattle.kahn_pool.specs.inner.Bench.{Goes, all_events, weight}
+use Rattle.kahn_pool.specs.inner.Workbench.{state_of}
 use Rattle.kahn_pool.proofs.rounds.one_round.Given as goal
 
 abbrev pub invariant-loop-instance : goal.invariant-loop-instance

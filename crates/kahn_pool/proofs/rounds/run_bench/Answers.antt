@@ -1,8 +1,8 @@
 use Rattle.std.proofs.Common.{◌≡◌, ◌+◌, ◌-◌, subst, arith}
-use Rattle.kahn_pool.specs.Bench.{all_events, IsLast, IsVerdict}
+use Rattle.kahn_pool.specs.inner.Bench.{all_events, IsLast, IsVerdict}
 use Rattle.kahn_pool.specs.Right.{IsRight}
 use Rattle.kahn_pool.specs.declared.answer.Answer.{Answer}
-use Rattle.kahn_pool.specs.Workbench.{state_of}
+use Rattle.kahn_pool.specs.inner.Workbench.{state_of}
 use Rattle.kahn_pool.proofs.Final.{gathered}
 use Rattle.kahn_pool.proofs.rounds.run_bench.Goals as goal
 

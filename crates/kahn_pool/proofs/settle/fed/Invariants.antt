@@ -1,5 +1,5 @@
 use Rattle.std.proofs.Common.{ℕ, ◌<◌}
-use Rattle.kahn_job.specs.Berths.{IsFed, end_at}
+use Rattle.kahn_job.specs.inner.Berths.{IsFed, end_at}
 use Rattle.kahn_pool.proofs.settle.fed.Given as goal
 
 abbrev pub invariant-loop-parameter : goal.invariant-loop-parameter

@@ -1,6 +1,6 @@
 use Rattle.std.proofs.Common.{rules, ◌≡◌, ◌<◌, length, sym, ap, ◌∙◌, Some, slice_get, add-one}
 use Rattle.std.proofs.lemmas.Option.{slice_get-get_or}
-use Rattle.kahn_crew.specs.Tasks.{Tasked}
+use Rattle.kahn_crew.specs.inner.Tasks.{Tasked}
 use Rattle.kahn_pool.proofs.Settled.{one_settled, all_settled}
 use Rattle.kahn_pool.proofs.settle.settle_all.Goals as goal
 

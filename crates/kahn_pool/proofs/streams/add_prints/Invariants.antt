@@ -2,7 +2,7 @@ use Rattle.std.proofs.Common.{◌≡◌, ◌++◌, drop, map}
 use Rattle.std.specs.List.{All}
 use Rattle.kahn_network.specs.Network.{network_of}
 use Rattle.kahn_pool.specs.Right.{line_of, print_lines}
-use Rattle.kahn_pool.specs.Streams.{IsBare}
+use Rattle.kahn_pool.specs.inner.Streams.{IsBare}
 use Rattle.kahn_pool.proofs.streams.add_prints.Given as goal
 
 abbrev pub invariant-loop-instance : goal.invariant-loop-instance

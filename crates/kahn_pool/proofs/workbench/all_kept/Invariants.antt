@@ -1,5 +1,5 @@
 use Rattle.std.proofs.Common.{◌≡◌, vec_capacity}
-use Rattle.kahn_pool.specs.Workbench.{AreKeptOf}
+use Rattle.kahn_pool.specs.inner.Workbench.{AreKeptOf}
 use Rattle.kahn_pool.proofs.workbench.all_kept.Given as goal
 
 abbrev pub invariant-loop-cell : goal.invariant-loop-cell

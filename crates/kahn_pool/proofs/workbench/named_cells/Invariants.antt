@@ -1,4 +1,4 @@
-use Rattle.kahn_pool.specs.Workbench.{AreOpening}
+use Rattle.kahn_pool.specs.inner.Workbench.{AreOpening}
 use Rattle.kahn_pool.proofs.workbench.named_cells.Given as goal
 
 abbrev pub ghost-new : goal.ghost-new

@@ -1,5 +1,5 @@
 use Rattle.kahn_report.proofs.laws.one_report.Goals as goal
-use Rattle.kahn_report.proofs.One_report
+use Rattle.kahn_report.proofs.Same_reports
 
 pub returns : goal.returns
-returns c = One_report.one_report
+returns c = Same_reports.one_report

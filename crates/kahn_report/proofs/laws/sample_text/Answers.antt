@@ -1,5 +1,5 @@
 use Rattle.kahn_report.proofs.laws.sample_text.Goals as goal
-use Rattle.kahn_report.proofs.Sample_text
+use Rattle.kahn_report.proofs.Sample_spelt
 
 pub returns : goal.returns
-returns c = Sample_text.sample_text
+returns c = Sample_spelt.sample_text

@@ -1,5 +1,5 @@
 use Rattle.kahn_streams.proofs.laws.found.Goals as goal
-use Rattle.kahn_streams.proofs.Found
+use Rattle.kahn_streams.proofs.Finding
 
 pub returns : goal.returns
-returns c = Found.found
+returns c = Finding.found

@@ -1,5 +1,5 @@
 use Rattle.std.proofs.Common.{sym, subst, ◌∙◌}
-use Rattle.kahn_units.specs.Standing.{Stands}
+use Rattle.kahn_units.specs.inner.Standing.{Stands}
 use Rattle.kahn_units.proofs.Opening.{stands_first}
 use Rattle.kahn_units.proofs.code.opening.Goals as goal
 

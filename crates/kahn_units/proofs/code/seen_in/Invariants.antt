@@ -1,5 +1,5 @@
 use Rattle.std.proofs.Common.{◌≡◌}
-use Rattle.kahn_units.specs.Standing.{Stands}
+use Rattle.kahn_units.specs.inner.Standing.{Stands}
 use Rattle.kahn_units.proofs.code.seen_in.Given as goal
 
 abbrev pub invariant-loop-number : goal.invariant-loop-number

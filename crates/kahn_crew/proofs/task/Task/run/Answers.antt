@@ -1,6 +1,6 @@
 use Rattle.std.proofs.Common.{sym, ◌∙◌, subst}
-use Rattle.kahn_job.specs.Works.{HasPaused}
-use Rattle.kahn_crew.specs.Tasks.{Tasked}
+use Rattle.kahn_job.specs.inner.Works.{HasPaused}
+use Rattle.kahn_crew.specs.inner.Tasks.{Tasked}
 use Rattle.kahn_crew.proofs.Trues.{true_after, same_width}
 use Rattle.kahn_crew.proofs.task.Task.run.Goals as goal
 

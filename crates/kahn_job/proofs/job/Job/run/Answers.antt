@@ -1,6 +1,6 @@
 use Rattle.std.proofs.Common.{subst}
-use Rattle.kahn_job.specs.Berths.{HaveAdvanced}
-use Rattle.kahn_job.specs.Works.{Work, HasPaused}
+use Rattle.kahn_job.specs.inner.Berths.{HaveAdvanced}
+use Rattle.kahn_job.specs.inner.Works.{Work, HasPaused}
 use Rattle.kahn_job.proofs.Berthed.{advanced}
 use Rattle.kahn_job.proofs.job.Job.run.Goals as goal
 

@@ -1,5 +1,5 @@
 use Rattle.std.proofs.Common.{◌≡◌, replicate}
-use Rattle.kahn_job.specs.Ways.{nothing}
+use Rattle.kahn_job.specs.inner.Ways.{nothing}
 use Rattle.kahn_job.proofs.rows.Row.bare.Given as goal
 
 abbrev pub invariant-loop : goal.invariant-loop

@@ -1,6 +1,6 @@
 use Rattle.std.proofs.Common.{arith, ap, subst, sym, ◌∙◌, Some}
 use Rattle.kahn_lane.specs.Places.{Placed, tag_name, token_name, moved_to}
-use Rattle.kahn_lane.specs.Settles.{IsGrown}
+use Rattle.kahn_lane.specs.inner.Settles.{IsGrown}
 use Rattle.kahn_streams.specs.declared.token.Token.{Token}
 use Rattle.kahn_lane.specs.declared.name.LaneName.{LaneName}
 use Rattle.kahn_lane.proofs.Places.{placed_more, token_name-moved}

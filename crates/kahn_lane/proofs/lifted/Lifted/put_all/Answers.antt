@@ -1,6 +1,6 @@
 use Rattle.std.proofs.Common.{arith, ap, subst, sym, ◌∙◌}
 use Rattle.kahn_lane.specs.Places.{tag_name}
-use Rattle.kahn_lane.specs.Settles.{IsGrown}
+use Rattle.kahn_lane.specs.inner.Settles.{IsGrown}
 use Rattle.kahn_lane.specs.declared.name.Tag.{Tag}
 use Rattle.kahn_lane.proofs.Places.{placed_at, same_name}
 use Rattle.kahn_lane.proofs.lifted.Lifted.put_all.Goals as goal

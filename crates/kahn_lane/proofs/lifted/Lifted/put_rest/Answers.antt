@@ -1,8 +1,8 @@
 use Rattle.std.proofs.Common.{arith, ap, subst, sym, ◌∙◌, Some}
 use Rattle.crossbeam_deque.specs.Handles.{worker_view}
 use Rattle.kahn_lane.specs.Places.{Placed, tag_name}
-use Rattle.kahn_lane.specs.LaneRule.{tokens_of}
-use Rattle.kahn_lane.specs.Settles.{IsGrown}
+use Rattle.kahn_lane.specs.inner.LaneRule.{tokens_of}
+use Rattle.kahn_lane.specs.inner.Settles.{IsGrown}
 use Rattle.kahn_lane.specs.declared.name.Tag.{Tag}
 use Rattle.kahn_lane.specs.declared.segments.Mark.{Mark}
 use Rattle.kahn_lane.proofs.LaneMoves.{empties}

@@ -1,7 +1,7 @@
 use Rattle.std.proofs.Common.{arith, ◌≡◌, ap, length, subst, sym, None}
 use Rattle.crossbeam_deque.specs.Handles.{worker_view}
 use Rattle.kahn_lane.specs.Places.{Placed}
-use Rattle.kahn_lane.specs.LaneRule.{tokens_of}
+use Rattle.kahn_lane.specs.inner.LaneRule.{tokens_of}
 use Rattle.kahn_lane.specs.declared.segments.Segment.{Segment}
 use Rattle.kahn_lane.proofs.LaneMoves.{flushes}
 use Rattle.kahn_lane.proofs.Places.{tokens_alone}

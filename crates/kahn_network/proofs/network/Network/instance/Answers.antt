@@ -5,7 +5,7 @@ use Rattle.kahn_network.specs.Network.{network_of, instance_at, instance_from}
 use Rattle.kahn_network.specs.Sides.{channel_names}
 use Rattle.kahn_network.specs.Wires.{the_process, process_at}
 use Rattle.kahn_network.proofs.Numbered.{at_index}
-use Rattle.kahn_network.proofs.Kept.{process_count, instance_count, number_within, instance_declared, instance_kept, never_channels}
+use Rattle.kahn_network.proofs.Kept_network.{process_count, instance_count, number_within, instance_declared, instance_kept, never_channels}
 use Rattle.kahn_network.proofs.network.Network.instance.Goals as goal
 
 pub index-requires : goal.index-requires

@@ -1,7 +1,7 @@
 use Rattle.std.proofs.Common.{rules, arith, ◌≡◌, ◌∙◌, sym, ap, subst, ◌<◌, length, Some}
 use Rattle.kahn_network.specs.Network.{network_of}
 use Rattle.kahn_network.proofs.Numbered.{at_index}
-use Rattle.kahn_network.proofs.Kept.{IsWire, wire_count, wire_at}
+use Rattle.kahn_network.proofs.Kept_network.{IsWire, wire_count, wire_at}
 use Rattle.kahn_network.proofs.network.Network.reader.Goals as goal
 
 pub index-requires : goal.index-requires

@@ -1,11 +1,11 @@
 use Rattle.std.proofs.Common.{arith, ◌-◌, List, sym, ◌∙◌, subst}
 use Rattle.kahn_network.specs.Network.{network_of}
 use Rattle.kahn_streams.specs.Tokens.{inputs_of}
-use Rattle.kahn_job.specs.Works.{Work}
-use Rattle.kahn_pool.specs.Bench.{AreStreams}
-use Rattle.kahn_pool.specs.Concluded.{IsConcluded}
+use Rattle.kahn_job.specs.inner.Works.{Work}
+use Rattle.kahn_pool.specs.inner.Bench.{AreStreams}
+use Rattle.kahn_pool.specs.inner.Concluded.{IsConcluded}
 use Rattle.kahn_pool.specs.HeldRuns.{HeldRun, IsAnswerOf}
-use Rattle.kahn_pool.specs.Holding.{AreEnded, held_state}
+use Rattle.kahn_pool.specs.inner.Holding.{AreEnded, held_state}
 use Rattle.kahn_pool.specs.Right.{stream_lines}
 use Rattle.kahn_pool.specs.declared.answer.Answer.{Answer}
 use Rattle.kahn_pool.specs.declared.answer.End.{End}

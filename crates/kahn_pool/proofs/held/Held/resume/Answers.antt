@@ -1,7 +1,7 @@
 use Rattle.std.proofs.Common.{arith, rules, ◌≡◌, ◌+◌, ◌<◌, ◌^◌, List, Some, None, refl, ◌∙◌, subst}
-use Rattle.kahn_job.specs.Works.{Work}
+use Rattle.kahn_job.specs.inner.Works.{Work}
 use Rattle.kahn_pool.specs.HeldRuns.{HasResumed, HeldRun, IsResumed}
-use Rattle.kahn_pool.specs.Holding.{HasStopped}
+use Rattle.kahn_pool.specs.inner.Holding.{HasStopped}
 use Rattle.kahn_pool.proofs.Held_runs.{resumed, resumed_ok, run_of, several, still_holding, still_same}
 use Rattle.kahn_pool.proofs.held.Held.resume.Goals as goal
 

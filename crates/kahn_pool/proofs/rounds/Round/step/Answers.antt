@@ -1,6 +1,6 @@
 use Rattle.std.proofs.Common.{◌≡◌, ◌-◌, ◌<◌, ◌≤◌, arith, length}
-use Rattle.kahn_pool.specs.Bench.{events_at}
-use Rattle.kahn_pool.specs.Workbench.{state_of}
+use Rattle.kahn_pool.specs.inner.Bench.{events_at}
+use Rattle.kahn_pool.specs.inner.Workbench.{state_of}
 use Rattle.kahn_pool.proofs.Turns.{run_bound, goes_on}
 use Rattle.kahn_pool.proofs.rounds.Round.step.Goals as goal
 

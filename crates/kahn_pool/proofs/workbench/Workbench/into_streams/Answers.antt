@@ -1,8 +1,8 @@
 use Rattle.std.proofs.Common.{arith, subst}
 use Rattle.kahn_network.specs.Network.{network_of}
-use Rattle.kahn_pool.specs.Bench.{AreStreams}
+use Rattle.kahn_pool.specs.inner.Bench.{AreStreams}
 use Rattle.kahn_pool.specs.Right.{stream_lines}
-use Rattle.kahn_pool.specs.Workbench.{Table, state_of}
+use Rattle.kahn_pool.specs.inner.Workbench.{Table, state_of}
 use Rattle.kahn_pool.proofs.Filled.{are_streams}
 use Rattle.kahn_pool.proofs.Kept_sizes.{are_lists}
 use Rattle.kahn_pool.proofs.Seen.{kept_seen, printed_seen}

@@ -1,6 +1,6 @@
 use Rattle.std.proofs.Common.{refl, subst}
-use Rattle.kahn_pool.specs.Bench.{HasRun}
-use Rattle.kahn_pool.specs.Workbench.{Table, state_of}
+use Rattle.kahn_pool.specs.inner.Bench.{HasRun}
+use Rattle.kahn_pool.specs.inner.Workbench.{Table, state_of}
 use Rattle.kahn_pool.proofs.Benched
 use Rattle.kahn_pool.proofs.workbench.Workbench.run.Goals as goal
 

@@ -1,6 +1,6 @@
 use Rattle.std.proofs.Common.{subst}
-use Rattle.kahn_pool.specs.Gathered.{AreWithin}
-use Rattle.kahn_pool.specs.Workbench.{Table, state_of}
+use Rattle.kahn_pool.specs.inner.Gathered.{AreWithin}
+use Rattle.kahn_pool.specs.inner.Workbench.{Table, state_of}
 use Rattle.kahn_pool.proofs.Benched.{within}
 use Rattle.kahn_pool.proofs.workbench.Workbench.within.Goals as goal
 

@@ -10,7 +10,7 @@ use Rattle.kahn_report.specs.Report.{HasItsLines, IsLine}
 use Rattle.kahn_report.specs.Written.{AppendsFront}
 use Rattle.kahn_report.proofs.Right_lines.{right_lines}
 use Rattle.kahn_session.specs.Pace.{Pace}
-use Rattle.kahn_session.specs.Shown.{AreShown}
+use Rattle.kahn_session.specs.inner.Shown.{AreShown}
 use Rattle.kahn_session.specs.Live.{HasBroken, HasTaken, IsTaken, Live, shown_of}
 use Rattle.kahn_session.proofs.Showing.{shown_all, shown_on}
 use Rattle.kahn_session.proofs.Taking.{answered, halted_on, waiting, whole_on}
@@ -35,8 +35,8 @@ invariant_of-self-in-Err-answer_part g c =
     let on = halted_on c.args.line.now h wired c.feed_line.new.paced q c.in_default.ensures.fed c.in-Err-answer_part.fault c.in-Err-answer_part.ensures in
     (on.network ∙ c.self.invariant.0, shown_on h q.run (shown_of i.last) on c.self.invariant.1, (λ e. absurd (apart e)))
 
-pub returns-in-Err-answer_part : goal.returns-in-Err-answer_part
-returns-in-Err-answer_part g c =
+pub returns-in-Err-answer_part-clause-taken : goal.returns-in-Err-answer_part-clause-taken
+returns-in-Err-answer_part-clause-taken g c =
     let i = c.self.inside in
     let h = i.paced.run in
     let wired : IsWellWired h.network = subst IsWellWired (sym c.self.invariant.0) c.program-program.ensures.wired in
@@ -44,9 +44,9 @@ returns-in-Err-answer_part g c =
     let shown = shown_of i.last in
     let f = c.in-Err-answer_part.fault in
     let before = g.W.Write.contents c.args.writer.now in
-    let new : Live = record { run = q.run; step = q.step; shown = shown; settled = false } in
+    let new : Live = record { run = q.run; step = q.step; shown = shown; settled = false; broken = i.broken } in
     subst (λ (s : Live). IsTaken c.args.line.now s new before before (Err f)) c.self.view_is
-    (waiting c.args.line.now h wired c.feed_line.new.paced q c.in_default.ensures.fed i.paced.step c.feed_line.ensures.step shown i.settled before f c.in-Err-answer_part.ensures)
+    (waiting c.args.line.now h wired c.feed_line.new.paced q c.in_default.ensures.fed i.paced.step c.feed_line.ensures.step shown i.settled i.broken before f c.in-Err-answer_part.ensures)
 
 pub write_news-requires : goal.write_news-requires
 write_news-requires g c =
@@ -80,8 +80,8 @@ invariant_of-self-in-Err-write_news g c =
     let on = whole_on c.args.line.now h wired c.feed_line.new.paced q c.in_default.ensures.fed n.run.goes_on in
     (on.network ∙ c.self.invariant.0, shown_on h q.run (shown_of i.last) on c.self.invariant.1, (λ e. absurd (apart e)))
 
-pub returns-in-Ok-write_news : goal.returns-in-Ok-write_news
-returns-in-Ok-write_news g c =
+pub returns-in-Ok-write_news-clause-taken : goal.returns-in-Ok-write_news-clause-taken
+returns-in-Ok-write_news-clause-taken g c =
     let i = c.self.inside in
     let h = i.paced.run in
     let wired : IsWellWired h.network = subst IsWellWired (sym c.self.invariant.0) c.program-program.ensures.wired in
@@ -96,13 +96,13 @@ returns-in-Ok-write_news g c =
     let text = rw c.shown_streams.ensures at (rw c.deref.ensures.value at c.in-Ok-write_news.ensures) in
     let before = g.W.Write.contents c.args.writer.now in
     let after = g.W.Write.contents c.write_news.new.writer in
-    let old : Live = record { run = h; step = i.paced.step; shown = shown; settled = i.settled } in
-    let new : Live = record { run = q.run; step = q.step; shown = later; settled = true } in
+    let old : Live = record { run = h; step = i.paced.step; shown = shown; settled = i.settled; broken = i.broken } in
+    let new : Live = record { run = q.run; step = q.step; shown = later; settled = true; broken = i.broken } in
     let taken : HasTaken c.args.line.now old new before after a.verdict =
     record {
       answer = a;
       news = news;
-      answered = answered c.args.line.now h wired p q c.in_default.ensures.fed i.paced.step c.feed_line.ensures.step shown i.settled later true a c.self.invariant.1 n;
+      answered = answered c.args.line.now h wired p q c.in_default.ensures.fed i.paced.step c.feed_line.ensures.step shown i.settled i.broken later true i.broken a c.self.invariant.1 n;
       verdict = refl;
       shown = refl;
       settled = refl;
@@ -110,8 +110,8 @@ returns-in-Ok-write_news g c =
     } in
     subst (λ (s : Live). HasTaken c.args.line.now s new before after a.verdict) c.self.view_is taken
 
-pub returns-in-Err-write_news : goal.returns-in-Err-write_news
-returns-in-Err-write_news g c =
+pub returns-in-Err-write_news-clause-taken : goal.returns-in-Err-write_news-clause-taken
+returns-in-Err-write_news-clause-taken g c =
     let i = c.self.inside in
     let h = i.paced.run in
     let wired : IsWellWired h.network = subst IsWellWired (sym c.self.invariant.0) c.program-program.ensures.wired in
@@ -125,14 +125,13 @@ returns-in-Err-write_news g c =
     let text = rw c.shown_streams.ensures at (rw c.deref.ensures.value at c.in-Err-write_news.ensures) in
     let before = g.W.Write.contents c.args.writer.now in
     let after = g.W.Write.contents c.write_news.new.writer in
-    let old : Live = record { run = h; step = i.paced.step; shown = shown; settled = i.settled } in
-    let new : Live = record { run = q.run; step = q.step; shown = shown; settled = false } in
+    let old : Live = record { run = h; step = i.paced.step; shown = shown; settled = i.settled; broken = i.broken } in
+    let new : Live = record { run = q.run; step = q.step; shown = shown; settled = false; broken = true } in
     let broken : HasBroken c.args.line.now old new before after =
     record {
       answer = a;
       news = news;
-      answered = answered c.args.line.now h wired p q c.in_default.ensures.fed i.paced.step c.feed_line.ensures.step shown i.settled shown false a c.self.invariant.1 n;
-      shown = refl;
+      answered = answered c.args.line.now h wired p q c.in_default.ensures.fed i.paced.step c.feed_line.ensures.step shown i.settled i.broken shown false true a c.self.invariant.1 n;
       settled = refl;
       text = subst (λ t. AppendsFront before after (news_text t (map line_of a.streams.items) news)) (sym (on.network ∙ c.self.invariant.0)) text;
     } in

@@ -1,7 +1,7 @@
 use Rattle.std.proofs.Common.{◌≤◌, [], ◌∷◌, length, map}
 use Rattle.kahn_syntax.specs.Terminals.{AreProper}
-use Rattle.kahn_syntax.specs.Machine.{DeclarationsPart}
-use Rattle.kahn_syntax.specs.Reads.{Moves, AreSound}
+use Rattle.kahn_syntax.specs.inner.Machine.{DeclarationsPart}
+use Rattle.kahn_syntax.specs.inner.Reads.{Moves, AreSound}
 use Rattle.kahn_syntax.specs.Drawn.{declaration_of}
 use Rattle.kahn_syntax.specs.Spans.{DeclarationsSpan}
 use Rattle.kahn_syntax.proofs.parser.declaration.read_declarations.Given as goal

@@ -3,7 +3,7 @@ use Rattle.std.proofs.lemmas.Result.{err_from_is_err_and}
 use Rattle.kahn_syntax.specs.declared.lexeme.Sign.TheVariants as mark
 use Rattle.kahn_syntax.specs.declared.lexeme.Class.TheVariants as class
 use Rattle.kahn_syntax.specs.Terminals.{sign, terminals}
-use Rattle.kahn_syntax.specs.Machine.{leads_kind, GroupsTail, GroupsPart, GroupPart, TailPart}
+use Rattle.kahn_syntax.specs.inner.Machine.{leads_kind, GroupsTail, GroupsPart, GroupPart, TailPart}
 use Rattle.kahn_syntax.specs.Spans.{group, parameters_of}
 use Rattle.kahn_syntax.proofs.Moves.{opens_groups, groups_end, then, then_stops, call, call_stops, goes, ends}
 use Rattle.kahn_syntax.proofs.Spanning as S

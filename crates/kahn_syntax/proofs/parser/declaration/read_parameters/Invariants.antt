@@ -2,8 +2,8 @@ use Rattle.std.proofs.Common.{◌≤◌, List, [], ◌∷◌, ◌++◌, length}
 use Rattle.kahn_syntax.specs.declared.lexeme.Lexeme.{Lexeme}
 use Rattle.kahn_syntax.specs.Spans.{NamedGroup, GroupSpans, parameters_of}
 use Rattle.kahn_syntax.specs.Terminals.{AreProper}
-use Rattle.kahn_syntax.specs.Machine.{GroupsPart, GroupPart, TailPart, GroupsTail}
-use Rattle.kahn_syntax.specs.Reads.{Moves}
+use Rattle.kahn_syntax.specs.inner.Machine.{GroupsPart, GroupPart, TailPart, GroupsTail}
+use Rattle.kahn_syntax.specs.inner.Reads.{Moves}
 use Rattle.kahn_syntax.proofs.Spanning.{SomeParametersSpan}
 use Rattle.kahn_syntax.proofs.parser.declaration.read_parameters.Given as goal
 

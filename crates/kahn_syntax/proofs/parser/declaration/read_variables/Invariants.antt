@@ -1,7 +1,7 @@
 use Rattle.std.proofs.Common.{◌≤◌, [], ◌∷◌, length}
 use Rattle.kahn_syntax.specs.Terminals.{AreProper}
-use Rattle.kahn_syntax.specs.Machine.{VariablesPart}
-use Rattle.kahn_syntax.specs.Reads.{Moves}
+use Rattle.kahn_syntax.specs.inner.Machine.{VariablesPart}
+use Rattle.kahn_syntax.specs.inner.Reads.{Moves}
 use Rattle.kahn_syntax.specs.Spans.{VariablesSpan}
 use Rattle.kahn_syntax.proofs.parser.declaration.read_variables.Given as goal
 

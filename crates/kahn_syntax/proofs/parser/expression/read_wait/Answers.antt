@@ -4,8 +4,8 @@ use Rattle.kahn_syntax.specs.declared.lexeme.Keyword.TheVariants as keyword
 use Rattle.kahn_syntax.specs.declared.lexeme.Sign.TheVariants as mark
 use Rattle.kahn_syntax.specs.declared.lexeme.Class.TheVariants as class
 use Rattle.kahn_syntax.specs.Terminals.{word, name, sign}
-use Rattle.kahn_syntax.specs.Rungs.{factors}
-use Rattle.kahn_syntax.specs.Machine.{CloseToken, NameToken, OpenToken, ExpressionPart, TokenPart}
+use Rattle.kahn_syntax.specs.inner.Rungs.{factors}
+use Rattle.kahn_syntax.specs.inner.Machine.{CloseToken, NameToken, OpenToken, ExpressionPart, TokenPart}
 use Rattle.kahn_syntax.specs.Drawn.{name_of}
 use Rattle.kahn_syntax.proofs.Moves.{made, then, then_stops, one, token, expected, unexpected, no_name}
 use Rattle.kahn_syntax.proofs.Spanning as S

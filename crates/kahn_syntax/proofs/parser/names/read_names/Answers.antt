@@ -3,7 +3,7 @@ use Rattle.std.proofs.lemmas.Result.{err_from_is_err_and}
 use Rattle.kahn_syntax.specs.declared.lexeme.Sign.TheVariants as mark
 use Rattle.kahn_syntax.specs.declared.lexeme.Class.TheVariants as class
 use Rattle.kahn_syntax.specs.Terminals.{name, sign}
-use Rattle.kahn_syntax.specs.Machine.{NameToken, NamesTail, TailPart, names_then}
+use Rattle.kahn_syntax.specs.inner.Machine.{NameToken, NamesTail, TailPart, names_then}
 use Rattle.kahn_syntax.specs.Drawn.{name_of}
 use Rattle.kahn_syntax.specs.Spans.{NamesSpan}
 use Rattle.kahn_syntax.proofs.Spanning as S

@@ -2,7 +2,7 @@ use Rattle.std.proofs.Common.{◌≡◌, ℕ, List, false, Option, Some, None, I
 use Rattle.std.specs.Prelude.{FitsSigned}
 use Rattle.std.proofs.lemmas.Int.{to_z-of_z}
 use Rattle.kahn_syntax.specs.Terminals.{IsUnsigned, AreProper, terminals}
-use Rattle.kahn_syntax.specs.Machine.{NumberToken, leads}
+use Rattle.kahn_syntax.specs.inner.Machine.{NumberToken, leads}
 use Rattle.kahn_syntax.proofs.Negative.{number_fits, negative_fits}
 use Rattle.kahn_syntax.proofs.parser.program.next_negative.Goals as goal
 

@@ -4,7 +4,7 @@ use Rattle.kahn_syntax.specs.declared.lexeme.Keyword.TheVariants as keyword
 use Rattle.kahn_syntax.specs.declared.lexeme.Sign.TheVariants as mark
 use Rattle.kahn_syntax.specs.declared.lexeme.Class.TheVariants as class
 use Rattle.kahn_syntax.specs.Terminals.{word, sign, terminals, IsUnsigned, number, name}
-use Rattle.kahn_syntax.specs.Machine.{NumberToken, ArgumentPart, TokenPart}
+use Rattle.kahn_syntax.specs.inner.Machine.{NumberToken, ArgumentPart, TokenPart}
 use Rattle.kahn_syntax.proofs.Moves.{leads_argument, no_argument, only_memory, then_stops, one, absent, token, then}
 use Rattle.kahn_syntax.specs.declared.parser.cursor.Stop.TheVariants.{Refused}
 use Rattle.kahn_syntax.proofs.Lists.{first_of}

@@ -3,7 +3,7 @@ use Rattle.std.proofs.lemmas.Result.{err_from_is_err_and}
 use Rattle.kahn_syntax.specs.declared.lexeme.Sign.TheVariants as mark
 use Rattle.kahn_syntax.specs.declared.lexeme.Class.TheVariants as class
 use Rattle.kahn_syntax.specs.Terminals.{sign}
-use Rattle.kahn_syntax.specs.Machine.{CloseToken, ArgumentsTail, ArgumentsPart, ArgumentPart, TailPart, TokenPart}
+use Rattle.kahn_syntax.specs.inner.Machine.{CloseToken, ArgumentsTail, ArgumentsPart, ArgumentPart, TailPart, TokenPart}
 use Rattle.kahn_syntax.specs.Spans.{ArgumentsSpan}
 use Rattle.kahn_syntax.proofs.Moves.{opens_arguments, then, then_stops, call, call_stops, one, expected, goes, ends, unexpected}
 use Rattle.kahn_syntax.proofs.Spanning as S

@@ -3,8 +3,8 @@ use Rattle.kahn_tree.specs.declared.tree.Argument.{Argument}
 use Rattle.kahn_syntax.specs.declared.lexeme.Lexeme.{Lexeme}
 use Rattle.kahn_syntax.specs.Spans.{ArgumentSpans}
 use Rattle.kahn_syntax.specs.Terminals.{AreProper}
-use Rattle.kahn_syntax.specs.Machine.{ArgumentsPart, ArgumentPart, TailPart, TokenPart, CloseToken, ArgumentsTail}
-use Rattle.kahn_syntax.specs.Reads.{Moves}
+use Rattle.kahn_syntax.specs.inner.Machine.{ArgumentsPart, ArgumentPart, TailPart, TokenPart, CloseToken, ArgumentsTail}
+use Rattle.kahn_syntax.specs.inner.Reads.{Moves}
 use Rattle.kahn_syntax.proofs.Spanning.{SomeArgumentsSpan}
 use Rattle.kahn_syntax.proofs.parser.program.read_arguments.Given as goal
 

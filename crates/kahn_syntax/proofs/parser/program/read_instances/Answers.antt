@@ -3,7 +3,7 @@ use Rattle.std.proofs.lemmas.Result.{err_from_is_err_and}
 use Rattle.kahn_syntax.specs.declared.lexeme.Keyword.TheVariants as keyword
 use Rattle.kahn_syntax.specs.declared.lexeme.Class.TheVariants as class
 use Rattle.kahn_syntax.specs.Terminals.{word}
-use Rattle.kahn_syntax.specs.Machine.{InstancesTail, InstancePart, TailPart}
+use Rattle.kahn_syntax.specs.inner.Machine.{InstancesTail, InstancePart, TailPart}
 use Rattle.kahn_syntax.specs.Spans.{InstancesSpan}
 use Rattle.kahn_syntax.proofs.Moves.{then, then_stops, call, call_stops, goes, ends}
 use Rattle.kahn_syntax.proofs.Spanning as S

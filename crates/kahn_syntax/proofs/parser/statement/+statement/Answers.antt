@@ -4,13 +4,13 @@ use Rattle.kahn_syntax.specs.declared.lexeme.Keyword.TheVariants as keyword
 use Rattle.kahn_syntax.specs.declared.lexeme.Sign.TheVariants as mark
 use Rattle.kahn_syntax.specs.declared.lexeme.Class.TheVariants as class
 use Rattle.kahn_syntax.specs.Terminals.{word, sign, terminals}
-use Rattle.kahn_syntax.specs.Rungs.{whole}
-use Rattle.kahn_syntax.specs.Machine.{leads, DoToken, EndToken, NameToken, ThenToken, StatementsTail, ElseTail, StatementPart, SimplePart, ExpressionPart, TailPart, TokenPart, LevelPart}
+use Rattle.kahn_syntax.specs.inner.Rungs.{whole}
+use Rattle.kahn_syntax.specs.inner.Machine.{leads, DoToken, EndToken, NameToken, ThenToken, StatementsTail, ElseTail, StatementPart, SimplePart, ExpressionPart, TailPart, TokenPart, LevelPart}
 use Rattle.kahn_syntax.proofs.Moves.{leads_statement, opens_simple, leads_simple, simple_ends, opened_simple, then, then_stops, call, call_stops, call_two, call_two_stops, one, deep, expected, goes, ends, level_ends, unexpected}
 use Rattle.kahn_syntax.specs.Trees.{FormedStatement, FormedStatements, statements_nesting, IsSimple, statement_nesting}
 use Rattle.kahn_syntax.specs.Drawn.{statement_of, statements_of}
 use Rattle.kahn_syntax.specs.Spans.{StatementSpans}
-use Rattle.kahn_syntax.specs.Reads.{ExpressionRead, StatementRead}
+use Rattle.kahn_syntax.specs.inner.Reads.{ExpressionRead, StatementRead}
 use Rattle.kahn_syntax.proofs.Lists.{first_of}
 use Rattle.kahn_syntax.proofs.Spanning as S
 use Rattle.kahn_syntax.proofs.Spanning.{SomeStatements}

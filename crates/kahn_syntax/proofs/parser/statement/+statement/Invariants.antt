@@ -3,8 +3,8 @@ use Rattle.kahn_tree.specs.declared.tree.Statement.{Statement}
 use Rattle.kahn_syntax.specs.declared.lexeme.Lexeme.{Lexeme}
 use Rattle.kahn_syntax.specs.Spans.{StatementSpans}
 use Rattle.kahn_syntax.specs.Terminals.{AreProper}
-use Rattle.kahn_syntax.specs.Machine.{StatementsTail, StatementPart, TailPart}
-use Rattle.kahn_syntax.specs.Reads.{Moves}
+use Rattle.kahn_syntax.specs.inner.Machine.{StatementsTail, StatementPart, TailPart}
+use Rattle.kahn_syntax.specs.inner.Reads.{Moves}
 use Rattle.kahn_syntax.specs.Trees.{statements_nesting, FormedStatements}
 use Rattle.kahn_syntax.specs.Drawn.{statements_of}
 use Rattle.kahn_syntax.proofs.Spanning.{SomeStatements}

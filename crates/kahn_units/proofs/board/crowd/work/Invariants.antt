@@ -1,4 +1,4 @@
-use Rattle.kahn_units.specs.Working.{IsSquare, KeepsShare}
+use Rattle.kahn_units.specs.inner.Working.{IsSquare, KeepsShare}
 use Rattle.kahn_units.proofs.board.crowd.work.Given as goal
 
 abbrev pub invariant-loop : goal.invariant-loop

@@ -1,0 +1,156 @@
+#!/usr/bin/env python3
+"""Counts what passes a limit of the house, and compares the counts with checks/limits.txt, which may only fall.
+
+lint.py           the counts; a part with more than its limit fails, and so does one with less, until the limit is lowered
+lint.py --all     each place that is counted, too
+
+It reads src/, specs/ and proofs/ of each crate, and proves nothing.
+"""
+import collections
+import glob
+import os
+import re
+import sys
+
+TOP = os.path.dirname(os.path.dirname(os.path.abspath(__file__)))
+LIMITS = f"{TOP}/checks/limits.txt"
+LONG_CLAUSE, LONG_BODY, LONG_FILE = 160, 40, 500
+
+CLAUSE = re.compile(r"^ *(?:requires|ensures|(?:pub )?ghost \w+(?: =|:))[^{\n]*\{", re.M)
+FUNCTION = re.compile(r"^( *)(?:pub(?:\([a-z]+\))? )?(?:unsafe )?fn (\w+)")
+PUBLIC = re.compile(r"^ *pub (?:unsafe )?(fn|struct|enum|trait|type|const|static) (\w+)")
+DEFINED = re.compile(r"^(?: *abbrev pub |(?:abbrev )?(?:pub )?(?:record |data )?)([^\s:(={]+)(?: [^=]*)?:")
+
+
+def read(path):
+    with open(path, encoding="utf-8") as it:
+        return it.read()
+
+
+def files(*patterns):
+    """The files of the crates that fit, each as a path from the top and a text."""
+    for pattern in patterns:
+        for path in sorted(glob.glob(f"{TOP}/crates/*/{pattern}", recursive=True)):
+            yield os.path.relpath(path, TOP), read(path)
+
+
+def line_of(text, at):
+    return text.count("\n", 0, at) + 1
+
+
+def clause_from(text, start, opened):
+    """The clause that begins there and whose brace was opened before the second place, in one line."""
+    depth = 1
+    for at in range(opened, len(text)):
+        depth += {"{": 1, "}": -1}.get(text[at], 0)
+        if depth == 0:
+            return " ".join(text[start : at + 1].split())
+    return ""
+
+
+def long_clauses():
+    for path, text in files("src/**/*.rt"):
+        for found in CLAUSE.finditer(text):
+            length = len(clause_from(text, found.start(), found.end()))
+            if length > LONG_CLAUSE:
+                yield f"{path}:{line_of(text, found.start())}: {length} characters"
+
+
+def body_from(lines, start, indent):
+    """The lines of code of the body of the function that begins there, behind its clauses; none where it has no body."""
+    opened = start
+    while lines[opened] != indent + "{" and not re.match(rf"{indent}\S.* \{{$", lines[opened]):
+        if lines[opened].endswith((";", "}")) and opened > start and not lines[opened].startswith(indent + " "):
+            return []
+        opened += 1
+        if opened == len(lines) or lines[opened - 1].endswith(";"):
+            return []
+    body = lines[opened + 1 : lines.index(indent + "}", opened)]
+    return [line for line in body if line.strip() and not line.strip().startswith("//")]
+
+
+def long_bodies():
+    for path, text in files("src/**/*.rt"):
+        lines = text.split("\n")
+        for at, line in enumerate(lines):
+            found = FUNCTION.match(line)
+            if found:
+                length = len(body_from(lines, at, found.group(1)))
+                if length > LONG_BODY:
+                    yield f"{path}:{at + 1}: {found.group(2)}, {length} lines"
+
+
+def long_files():
+    for path, text in files("src/**/*.rt", "specs/**/*.antt", "proofs/**/*.antt"):
+        length = text.count("\n")
+        if length > LONG_FILE:
+            yield f"{path}: {length} lines"
+
+
+def without_head():
+    """Sources and definitions whose first line doesn't say what they are; lists of modules say nothing."""
+    for path, text in files("src/**/*.rt", "specs/**/*.antt"):
+        if not text.startswith(("//!", "-- ")) and os.path.basename(path) not in ("Lib.antt", "inner.antt"):
+            yield path
+
+
+def without_words():
+    for path, text in files("src/**/*.rt"):
+        lines = text.split("\n")
+        for at, line in enumerate(lines):
+            found = PUBLIC.match(line)
+            before = at - 1
+            while before >= 0 and lines[before].strip().startswith("#["):
+                before -= 1
+            if found and not (before >= 0 and lines[before].strip().startswith("///")):
+                yield f"{path}:{at + 1}: {found.group(2)}"
+
+
+def names_twice():
+    """Names that specs/ of the crates define in more places than one."""
+    places = collections.defaultdict(list)
+    for path, text in files("specs/**/*.antt"):
+        for at, line in enumerate(text.split("\n")):
+            found = DEFINED.match(line)
+            if found and not line.startswith(("--", "pub use ", "use ", "module ")):
+                places[found.group(1)].append(f"{path}:{at + 1}")
+    for name, where in sorted(places.items()):
+        if len(where) > 1:
+            yield f"{name}: {', '.join(where)}"
+
+
+PARTS = {
+    "clauses over 160 characters": long_clauses,
+    "names of specs that are defined more than once": names_twice,
+    "bodies over 40 lines": long_bodies,
+    "files over 500 lines": long_files,
+    "sources and definitions without a head": without_head,
+    "public items without words": without_words,
+}
+
+
+def limits():
+    found = {}
+    for line in read(LIMITS).splitlines():
+        if line and not line.startswith("#"):
+            number, part = line.split(" ", 1)
+            found[part] = int(number)
+    return found
+
+
+def main():
+    allowed, failed = limits(), 0
+    for part, places in PARTS.items():
+        found, most = list(places()), allowed.get(part, 0)
+        good = len(found) == most
+        failed += not good
+        what = "" if good else " FAILED: may not grow" if len(found) > most else " FAILED: lower the limit in checks/limits.txt"
+        print(f"{len(found):4} of {most:4} {part}{what}")
+        if "--all" in sys.argv or len(found) > most:
+            print("".join(f"          {place}\n" for place in found), end="")
+    print(f"{len(PARTS) - failed} passed, {failed} failed")
+    return failed > 0
+
+
+if __name__ == "__main__":
+    sys.exit(main())

@@ -1,0 +1,68 @@
+#!/usr/bin/env bash
+# Makes the Debian package twice, and compares the bytes; installs it into an empty root, runs what it has there, takes it away, and
+# looks for what is left. The manual pages and completions are compared with the help of each program. Where dpkg isn't there it says
+# so, and does the last alone; likewise where release/kahn.html or the programs aren't of these sources.
+source "$(dirname "${BASH_SOURCE[0]}")/common.sh"
+source "$top/web/page.sh"
+find_program
+find_live
+find_draw
+find_explain
+PATH="$PATH:/usr/sbin:/sbin"
+
+# same NAME GIVEN WANTED: compares two texts.
+same() {
+  if [ "$2" = "$3" ]; then pass; else fail "$1: '${2:0:300}', wanted '${3:0:300}'"; fi
+}
+
+# in_root WORD..: dpkg on the empty root.
+in_root() {
+  dpkg --root="$work/root" --force-not-root --force-depends --log="$work/log" "$@" > "$work/said" 2>&1 || { fail "dpkg $*: $(tail -n 3 "$work/said")"; return 1; }
+}
+
+# try_manual NAME: a manual page, as it is shown.
+try_manual() {
+  local page="$work/root/usr/share/man/man1/$1.1.gz"
+  if command -v man > /dev/null; then
+    same "the manual page of $1" "$(MANWIDTH=80 man -l --warnings "$page" 2>&1 | grep -c "^NAME\|^OPTIONS\|warning:")" 2
+  else
+    same "the manual page of $1" "$(zcat "$page" | head -c 4)" '.\" '
+  fi
+}
+
+# try_package FILE: installs it, runs it, takes it away.
+try_package() {
+  local root="$work/root" name
+  mkdir -p "$root/var/lib/dpkg/info" "$root/var/lib/dpkg/updates"
+  touch "$root/var/lib/dpkg/status" "$root/var/lib/dpkg/available"
+  in_root --install "$1" || return
+  for name in "${programs[@]}"; do
+    same "the version of $name" "$("$root/usr/bin/$name" --version)" "$name $(dpkg-deb -f "$1" Version)"
+    try_manual "$name"
+  done
+  same "an example" "$("$root/usr/bin/kahn" "$root/usr/share/doc/kahn/examples/count.kahn")" "$(cat "$top/examples/count.report")"
+  same "the page" "$(sha256sum < "$root/usr/share/doc/kahn/kahn.html")" "$(sha256sum < "$top/release/kahn.html")"
+  same "a completion" "$(bash -c 'source "$1"; _kahn kahn --wor; echo "${COMPREPLY[@]}"' bash "$root/usr/share/bash-completion/completions/kahn")" --workers
+  same "no file is anybody's to write" "$(find "$root/usr" -perm /022 -not -type l | head -n 3)" ""
+  in_root --purge kahn || return
+  same "what is left" "$(find "$root" -mindepth 1 -not -path "$root/var*")" ""
+}
+
+python3 "$top/checks/manuals.py" "$kahn" "$live" "$draw" "$explain" | tee "$work/manuals"
+[[ $(tail -n 1 "$work/manuals") =~ ^([0-9]+)\ passed,\ ([0-9]+)\ failed$ ]] || fail "manuals.py counts nothing"
+passed=$((passed + ${BASH_REMATCH[1]:-0}))
+failed=$((failed + ${BASH_REMATCH[2]:-0}))
+if ! command -v dpkg-deb > /dev/null; then
+  echo "no dpkg: the package is not made"
+elif ! is_page_released; then
+  echo "release/kahn.html isn't of these sources, \`bash web/build.sh\` makes it: the package is not made"
+elif ! find_built kahn 2> /dev/null; then
+  echo "no programs of these sources: the package is not made"
+else
+  mkdir "$work/first" "$work/second"
+  first=$(bash "$top/release/deb.sh" "$work/first") || fail "the package isn't made"
+  second=$(bash "$top/release/deb.sh" "$work/second") || fail "the package isn't made once more"
+  if cmp -s "$first" "$second"; then pass; else fail "two packages differ"; fi
+  try_package "$first"
+fi
+finish

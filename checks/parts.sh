@@ -1,0 +1,67 @@
+# shellcheck shell=bash
+# Sourced by gate and try, at the top of the repository: runs parts, each of which ends with a line "N passed, M failed", and adds
+# these lines up. A part that fails doesn't stop the others.
+said=$(mktemp)
+trap 'rm -f "$said"' EXIT
+passed=0
+failed=0
+
+# stop WORD..: says what is missing, before anything is tried.
+stop() {
+  echo "$(basename "$0"): $*" >&2
+  echo "0 passed, 1 failed"
+  exit 2
+}
+
+# part NAME WORD..: runs a part and adds up its last line. A part that doesn't count, or counts nothing, has failed once.
+part() {
+  local name=$1 status
+  shift
+  echo "== $name"
+  "$@" 2>&1 | tee "$said"
+  status=${PIPESTATUS[0]}
+  if [[ $(tail -n 1 "$said") =~ ^([0-9]+)\ passed,\ ([0-9]+)\ failed$ ]]; then
+    passed=$((passed + BASH_REMATCH[1]))
+    failed=$((failed + BASH_REMATCH[2]))
+    [ "${BASH_REMATCH[2]}" -gt 0 ] && return
+    [ "$status" = 0 ] && [ "${BASH_REMATCH[1]}" -gt 0 ] && return
+  fi
+  failed=$((failed + 1))
+  echo "FAILED $name: status $status, and not 0 with a last line that counts what passed"
+}
+
+# The sum of all parts, and the status.
+finish_parts() {
+  echo "$passed passed, $failed failed"
+  [ "$failed" = 0 ]
+}
+
+# What the parts want beside the toolchain.
+need_tools() {
+  command -v python3 > /dev/null || stop "python3 is missing: it is in the Debian package python3"
+  command -v "${CC:-cc}" > /dev/null || stop "a C compiler (${CC:-cc}) is missing: it is in the Debian package gcc"
+  "${CC:-cc}" -fsyntax-only checks/*.c || stop "the C compiler can't read checks/*.c: the headers are in the Debian package libc6-dev"
+}
+
+# The parts that read the texts of the repository.
+try_texts() {
+  part "limits of the house" python3 checks/lint.py
+  part "what must be believed" python3 checks/believed.py
+  part "grammars for editors" timeout 600 python3 checks/grammars.py
+}
+
+# The parts that try the programs which KAHN, KAHN_LIVE, KAHN_DRAW and KAHN_EXPLAIN name.
+try_programs() {
+  part "files, streams and words that go wrong" timeout 600 bash checks/program.sh
+  part "lines that come through pipes" timeout 600 bash checks/live.sh
+  part "rows" bash checks/rows.sh
+  part "pictures" bash checks/draw.sh
+  part "why runs stopped" timeout 600 bash checks/explain.sh
+  part "commands of the pages" timeout 600 bash checks/transcripts.sh
+  part "the release" timeout 600 bash checks/release.sh
+  part "the page in a browser" timeout 700 bash checks/web.sh
+  part "the Debian package" timeout 300 bash checks/package.sh
+  part "threads that are refused" bash checks/threads.sh
+  part "growths of memory that are refused" bash checks/memory.sh
+  part "random programs" python3 fuzz/fuzz.py "$KAHN" 300
+}

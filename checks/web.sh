@@ -1,0 +1,33 @@
+#!/usr/bin/env bash
+# Tries the page release/kahn.html, or the one that the variable PAGE names, in a headless Chromium (Debian's package chromium, or the
+# one that BROWSER names) against the programs. Where no browser is there it says so and counts one pass for it; likewise where the page
+# isn't of these sources.
+source "$(dirname "${BASH_SOURCE[0]}")/common.sh"
+source "$top/web/page.sh"
+find_program
+find_draw
+
+# One start of a page in fifty or so doesn't come to an answer on a machine that is full of work, so a run has a second try.
+try_page() {
+  timeout 300 python3 "$top/checks/web.py" "$browser" "$page" "$kahn" "$draw" > "$work/said" 2>&1
+}
+
+page=${PAGE:-$top/release/kahn.html}
+browser=$(command -v "${BROWSER:-chromium}") || {
+  echo "no browser ${BROWSER:-chromium}: the page is not tried (Debian's package chromium)"
+  pass
+  finish
+  exit
+}
+if [ -z "${PAGE:-}" ] && ! is_page_released; then
+  echo "release/kahn.html isn't of these sources: \`bash web/build.sh\` makes it"
+  pass
+  finish
+  exit
+fi
+try_page || ! grep -q "no answer in time" "$work/said" || try_page
+cat "$work/said"
+[[ $(tail -n 1 "$work/said") =~ ^([0-9]+)\ passed,\ ([0-9]+)\ failed$ ]] || fail "web.py counts nothing"
+passed=$((passed + ${BASH_REMATCH[1]:-0}))
+failed=$((failed + ${BASH_REMATCH[2]:-0}))
+finish

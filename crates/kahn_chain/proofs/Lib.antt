@@ -1,0 +1,3 @@
+mod Caused
+mod Leading
+mod Walking

@@ -1,0 +1,48 @@
+-- Believed. Why an instance of a network goes no further. Each instance waits on at most one channel, which has at most one writer, so
+-- its waits are one chain.
+use Rattle.std.specs.Prelude.{◌≡◌, ℕ, ◌<◌, ◌≤◌, List, length, Some, slice_get}
+use Rattle.kahn_network.specs.Network.{Network, Given, Written, channel_source}
+use Rattle.kahn_chain.specs.declared.standing.Standing.{Standing}
+use Rattle.kahn_chain.specs.declared.standing.Standing.TheVariants.{Ended, Waits, Faulted, More}
+use Rattle.kahn_chain.specs.declared.standing.Cause.{Cause}
+use Rattle.kahn_chain.specs.declared.standing.Cause.TheVariants.{Input, Stopped, Ring}
+
+-- the list says how each instance stands, and each waits on a channel of the network
+pub record AreStandings (N : Network) (ss : List Standing) : Type 0 where
+  pub each : length ss ≡ length N.instances
+  pub channels : (p c : ℕ) → slice_get ss p ≡ Some (Waits c) → c < length N.channels
+
+-- instance p waits on channel c, which instance w writes
+abbrev pub Awaits : Network → List Standing → ℕ → ℕ → ℕ → Type 0
+Awaits N ss p c w = (slice_get ss p ≡ Some (Waits c)) × (channel_source N c ≡ Written w)
+
+-- from one instance to another by such waits
+pub data Leads (N : Network) (ss : List Standing) : ℕ → ℕ → Type 0 where
+  stays : {p : ℕ} → Leads N ss p p
+  onward : {p c w z : ℕ} → Awaits N ss p c w → Leads N ss w z → Leads N ss p z
+
+-- from one instance to another by at least one
+abbrev pub LeadsOn : Network → List Standing → ℕ → ℕ → Type 0
+LeadsOn N ss p z = (c w : ℕ) × Awaits N ss p c w × Leads N ss w z
+
+-- these instances wait on one another in a ring, and z has the least number of them
+pub record IsLeastOfRing (N : Network) (ss : List Standing) (z : ℕ) : Type 0 where
+  pub ring : LeadsOn N ss z z
+  pub least : (w : ℕ) → Leads N ss z w → z ≤ w
+
+abbrev pub IsNoWait : Standing → Type 0
+IsNoWait Ended = Unit {0}
+IsNoWait (Waits c) = ⊥
+IsNoWait Faulted = Unit {0}
+IsNoWait More = Unit {0}
+
+-- why p goes no further: the one that waits on an input, or that doesn't wait, or the first of a ring, by number
+abbrev pub IsCause : Network → List Standing → ℕ → Cause → Type 0
+IsCause N ss p (Input z c) = Leads N ss p z × (slice_get ss z ≡ Some (Waits c)) × (channel_source N c ≡ Given)
+IsCause N ss p (Stopped z s) = Leads N ss p z × (slice_get ss z ≡ Some s) × IsNoWait s
+IsCause N ss p (Ring z) = Leads N ss p z × IsLeastOfRing N ss z
+
+-- one cause for each instance
+pub record AreCauses (N : Network) (ss : List Standing) (ys : List Cause) : Type 0 where
+  pub each : length ys ≡ length ss
+  pub causes : (p : ℕ) (y : Cause) → slice_get ys p ≡ Some y → IsCause N ss p y

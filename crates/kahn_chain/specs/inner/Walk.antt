@@ -1,0 +1,33 @@
+-- Inner. A walk along the waits of an instance.
+use Rattle.std.specs.Prelude.{◌≡◌, ℕ, ◌<◌, ◌≤◌, List, length}
+use Rattle.kahn_network.specs.Network.{Network}
+use Rattle.kahn_chain.specs.Chain.{Awaits, Leads, LeadsOn, IsCause}
+use Rattle.kahn_chain.specs.declared.standing.Standing.{Standing}
+use Rattle.kahn_chain.specs.declared.standing.Cause.{Cause}
+use Rattle.kahn_chain.specs.declared.standing.Cause.TheVariants.{Input, Stopped, Ring}
+use Rattle.kahn_chain.specs.declared.walk.Step.{Step}
+use Rattle.kahn_chain.specs.declared.walk.Step.TheVariants.{On, Stop}
+use Rattle.kahn_chain.specs.declared.walk.Walked.{Walked}
+
+-- where instance z itself goes no further
+abbrev pub IsHere : Network → List Standing → ℕ → Cause → Type 0
+IsHere N ss z (Input y c) = (y ≡ z) × IsCause N ss z (Input y c)
+IsHere N ss z (Stopped y s) = (y ≡ z) × IsCause N ss z (Stopped y s)
+IsHere N ss z (Ring y) = ⊥
+
+-- the one that z waits on, or why there is none
+abbrev pub IsStepFrom : Network → List Standing → ℕ → Step → Type 0
+IsStepFrom N ss z (On w) = (w < length ss) × ((c : ℕ) × Awaits N ss z c w)
+IsStepFrom N ss z (Stop x) = IsHere N ss z x
+
+-- where the walk from p stopped; in a ring at any of its instances
+abbrev pub IsStop : Network → List Standing → ℕ → Cause → Type 0
+IsStop N ss p (Input z c) = IsCause N ss p (Input z c)
+IsStop N ss p (Stopped z s) = IsCause N ss p (Stopped z s)
+IsStop N ss p (Ring z) = Leads N ss p z × LeadsOn N ss z z
+
+-- where the walk from p stopped, and the least of the instances on it
+pub record IsWalked (N : Network) (ss : List Standing) (p : ℕ) (x : Walked) : Type 0 where
+  pub stop : IsStop N ss p x.stop
+  pub reached : Leads N ss p x.least
+  pub least : (w : ℕ) → Leads N ss p w → x.least ≤ w

@@ -1,0 +1,44 @@
+//! Why an instance goes no further.
+
+ghost use Rattle.std.specs.Prelude.{◌<◌, IfOk, length};
+ghost use Rattle.kahn_network.specs.Network.{network_of};
+ghost use Rattle.kahn_chain.specs.Chain.{AreCauses, AreStandings, IsCause};
+
+use crate::standing::{Cause, Standing};
+use crate::walk::walk;
+use kahn_network::Network;
+use std::alloc::{AllocError, Global};
+
+/// Why an instance goes no further, where the instances stand so: its waits lead to one that waits on an input, to one that
+/// doesn't wait, or into a ring, of which the least number is told. It refuses only where memory was refused.
+pub fn cause(
+    alloc: Global,
+    network: &Network,
+    standings: &[Standing],
+    instance: usize,
+) -> Result<Cause, AllocError>
+    requires known { AreStandings (network_of network.now) standings.now }
+    requires here { instance < length standings.now }
+    ensures { IfOk result (IsCause (network_of network.now) standings.now instance) }
+{
+    match walk(alloc, network, standings, instance)?.stop {
+        Cause::Ring(one) => Ok(Cause::Ring(walk(alloc, network, standings, one)?.least)),
+        stop => Ok(stop),
+    }
+}
+
+/// Why each instance goes no further. It refuses only where memory was refused.
+pub fn causes(
+    alloc: Global,
+    network: &Network,
+    standings: &[Standing],
+) -> Result<Vec<Cause>, AllocError>
+    requires { AreStandings (network_of network.now) standings.now }
+    ensures { IfOk result (λ list. AreCauses (network_of network.now) standings.now list.items) }
+{
+    let mut list = Vec::new(alloc);
+    for instance in 0..standings.len() {
+        list.push(cause(alloc, network, standings, instance)?)?;
+    }
+    Ok(list)
+}

@@ -1,0 +1,12 @@
+//! The law of causes. The function does nothing: its contract is the law.
+
+ghost use Rattle.std.specs.Prelude.{◌≡◌, ℕ, List};
+ghost use Rattle.kahn_network.specs.Network.{Network};
+ghost use Rattle.kahn_chain.specs.Chain.{IsCause};
+ghost use Rattle.kahn_chain.specs.declared.standing.Cause.{Cause};
+ghost use Rattle.kahn_chain.specs.declared.standing.Standing.{Standing};
+
+/// An instance has one cause; so a ring is told exactly where there is one.
+pub fn one_cause()
+    ensures { (N : Network) (ss : List Standing) (p : ℕ) (a b : Cause) → IsCause N ss p a → IsCause N ss p b → a ≡ b }
+{}

@@ -1,0 +1,12 @@
+//! Why an instance of a network goes no further.
+#![tactic(auto)]
+
+mod cause;
+mod laws;
+mod standing;
+mod walk;
+
+// For the crates above.
+pub use cause::causes;
+pub use laws::one_cause;
+pub use standing::{Cause, Standing};

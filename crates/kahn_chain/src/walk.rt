@@ -1,0 +1,73 @@
+//! A walk along the waits of an instance.
+
+ghost use Rattle.std.specs.Prelude.{◌≡◌, ◌<◌, IfOk, length};
+ghost use Rattle.kahn_network.specs.Network.{network_of};
+ghost use Rattle.kahn_chain.specs.Chain.{AreStandings};
+ghost use Rattle.kahn_chain.specs.inner.Walk.{IsStepFrom, IsWalked};
+
+use crate::standing::{Cause, Standing};
+use kahn_network::Network;
+use std::alloc::{AllocError, Global};
+
+/// What comes behind an instance on its chain of waits.
+#[derive(Clone, Copy)]
+pub(crate) enum Step {
+    /// The instance that it waits on.
+    On(usize),
+    /// None.
+    Stop(Cause),
+}
+
+/// Where a walk stopped.
+#[derive(Clone, Copy)]
+pub(crate) struct Walked {
+    /// Why; in a ring, any of its instances.
+    pub stop: Cause,
+    /// The least instance on it.
+    pub least: usize,
+}
+
+/// What comes behind an instance.
+fn next(network: &Network, standings: &[Standing], instance: usize) -> Step
+    requires known { AreStandings (network_of network.now) standings.now }
+    requires here { instance < length standings.now }
+    ensures { IsStepFrom (network_of network.now) standings.now instance result }
+{
+    match standings[instance] {
+        Standing::Waits(channel) => match network.writer(channel) {
+            Some(side) => Step::On(side.instance),
+            None => Step::Stop(Cause::Input(instance, channel)),
+        },
+        standing => Step::Stop(Cause::Stopped(instance, standing)),
+    }
+}
+
+/// Walks from an instance to the end of its chain, or until it comes to one a second time.
+pub(crate) fn walk(
+    alloc: Global,
+    network: &Network,
+    standings: &[Standing],
+    first: usize,
+) -> Result<Walked, AllocError>
+    requires known { AreStandings (network_of network.now) standings.now }
+    requires here { first < length standings.now }
+    ensures { IfOk result (IsWalked (network_of network.now) standings.now first) }
+{
+    let mut marks = vec![in alloc; false; standings.len()]?;
+    let mut at = first;
+    let mut least = first;
+    loop {
+        if marks[at] {
+            return Ok(Walked {
+                stop: Cause::Ring(at),
+                least,
+            });
+        }
+        marks[at] = true;
+        least = least.min(at);
+        match next(network, standings, at) {
+            Step::On(instance) => at = instance,
+            Step::Stop(stop) => return Ok(Walked { stop, least }),
+        }
+    }
+}

@@ -1,0 +1,4 @@
+pub mod Globals
+pub mod Seats
+pub mod Tables
+pub mod Wires

@@ -1,0 +1,17 @@
+-- Inner. What the instances of a program make of it.
+use Rattle.std.specs.Prelude.{◌≡◌, ℕ, List, [], map}
+use Rattle.kahn_tree.specs.declared.tree.Direction.TheVariants.{In, Out}
+use Rattle.kahn_tree.specs.declared.tree.Program.{Program}
+use Rattle.kahn_tree.specs.View.{bytes_of}
+use Rattle.kahn_network.specs.Network.{process_of}
+use Rattle.kahn_network.specs.Wires.{process_at}
+use Rattle.kahn_network.specs.Wiring.{Global}
+use Rattle.kahn_check.specs.declared.instance.Seats.{Seats}
+use Rattle.kahn_check.specs.inner.Tables.{taken, handed_all, seats_faults}
+
+-- each side of a channel that an instance has, where the process of each instance is declared, and that no instance is wrong
+pub record AreSeated (t : Program) (g : List (List ℕ × Global)) (s : Seats) : Type 0 where
+  pub writers : s.writers ≡ taken Out (handed_all g 0 t.instances.items)
+  pub readers : s.readers ≡ taken In (handed_all g 0 t.instances.items)
+  pub processes : map (process_at t.declarations.items) s.processes.items ≡ map (λ i. process_of t.declarations.items (bytes_of i.process)) t.instances.items
+  pub faultless : seats_faults g [] [] 0 t.instances.items ≡ []

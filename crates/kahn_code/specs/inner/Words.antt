@@ -1,0 +1,23 @@
+-- Inner. Which value a word is.
+use Rattle.std.specs.Prelude.{◌≡◌, refl, ℤ, pos, Bool, true, false, if◌then◌else◌}
+use Rattle.kahn_streams.specs.declared.value.Value.{Value}
+use Rattle.kahn_streams.specs.declared.value.Value.TheVariants.{Integer, Logical}
+use Rattle.kahn_code.specs.declared.word.Word.TheInside.{Inside}
+
+abbrev pub value_of : Inside → Value
+value_of w = if w.is_logical then Logical w.truth else Integer w.number
+
+-- the number of a logical value is 0, the truth value of an integer false
+abbrev pub IsWord : Inside → Type 0
+IsWord w = (w.is_logical ≡ true → w.number ≡ pos 0) × (w.is_logical ≡ false → w.truth ≡ false)
+
+abbrev pub word_of : Value → Inside
+word_of (Integer z) = record { number = z; truth = false; is_logical = false }
+word_of (Logical b) = record { number = pos 0; truth = b; is_logical = true }
+
+by_fields : (n : ℤ) (t b : Bool) → (b ≡ true → n ≡ pos 0) → (b ≡ false → t ≡ false) → word_of (if b then Logical t else Integer n) ≡ record { number = n; truth = t; is_logical = b }
+by_fields n t true zero plain = let e = zero refl in cc
+by_fields n t false zero plain = let e = plain refl in cc
+
+pub word_of-value_of : (w : Inside) → IsWord w → word_of (value_of w) ≡ w
+word_of-value_of w h = by_fields w.number w.truth w.is_logical h.0 h.1

@@ -1,9 +1,0 @@
--- Why the workers of a run leave nothing (this project's profile).
-use Rattle.std.specs.Prelude.{ℕ, ◌<◌}
-use Rattle.kahn_crew.specs.declared.fault.CrewFault.{CrewFault}
-use Rattle.kahn_crew.specs.declared.fault.CrewFault.TheVariants as fault
-
--- memory was wanting, or a thread for one of several workers: one works in the caller's
-abbrev pub IsWant : ℕ → CrewFault → Type 0
-IsWant workers fault.NoMemory = Unit {0}
-IsWant workers fault.NoThread = 1 < workers

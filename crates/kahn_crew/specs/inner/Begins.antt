@@ -1,0 +1,57 @@
+-- Inner. A run before its next events.
+use Rattle.std.specs.Prelude.{◌≡◌, ℕ, ◌+◌, ◌<◌, false, List, length, Option, Some, slice_get}
+use Rattle.kahn_tree.specs.declared.tree.Program.{Program}
+use Rattle.kahn_tree.specs.declared.tree.Role.TheVariants as role
+use Rattle.kahn_network.specs.Network.{Reads, Writes, network_of, instance_at, actual_at, role_at}
+use Rattle.kahn_streams.specs.Tokens.{Lists, inputs_of}
+use Rattle.kahn_code.specs.Cells.{is_output}
+use Rattle.kahn_code.specs.Standing.{count}
+use Rattle.kahn_job.specs.inner.Berths.{end_at}
+use Rattle.kahn_job.specs.inner.Ends.{ShareLane}
+use Rattle.kahn_job.specs.inner.Works.{Work, IsDelivered}
+use Rattle.kahn_board.specs.Dealt.{dealt, events_of}
+use Rattle.kahn_board.specs.declared.rule.Terms.{Terms}
+use Rattle.kahn_crew.specs.declared.standing.Standing.TheVariants as standing
+use Rattle.kahn_crew.specs.inner.Tasks.{Tasked, told_of}
+
+-- the task of a job that may go on, of which all that it sent is published
+abbrev pub ready_task : Work → Tasked
+ready_task w = record { work = w; standing = standing.Going; published = w.cell.sent }
+
+-- the task of an idle job that goes on with this input
+abbrev pub woken_task : Lists → Work → Tasked
+woken_task lists w = ready_task (record w { cell = record w.cell { input = lists } })
+
+-- the task is that of instance p, which may go on; all that it sent was flushed, and counts as published
+pub record IsReady (t : Program) (lists : Lists) (watch : Option ℕ) (p : ℕ) (x : Tasked) : Type 0 where
+  pub network : x.work.cell.network ≡ t
+  pub input : x.work.cell.input ≡ lists
+  pub instance : x.work.cell.instance ≡ p
+  pub watched : x.work.cell.watch ≡ watch
+  pub published : x.published ≡ x.work.cell.sent
+  pub delivered : IsDelivered x.work
+
+-- the tasks of all instances, before their first events or after earlier runs
+pub record AreReady (t : Program) (lists : Lists) (watch : Option ℕ) (tasks : List Tasked) : Type 0 where
+  pub count : length tasks ≡ length (network_of t).instances
+  pub each : (p : ℕ) (x : Tasked) → slice_get tasks p ≡ Some x → IsReady t lists watch p x
+  -- a channel from one instance to another, or to itself, is one lane: its writer and its reader have the two ends
+  pub joined : (p r o q d : ℕ) (x y : Tasked) → slice_get tasks p ≡ Some x → slice_get tasks r ≡ Some y →
+      actual_at (instance_at (network_of t) p) o ≡ Writes d → actual_at (instance_at (network_of t) r) q ≡ Reads d →
+      ShareLane (end_at x.work.ends o) (end_at y.work.ends q)
+
+-- n tokens of the channel c are published at the start: the whole list of an input, and what the writer of an inner channel sent
+pub record IsNumber (t : Program) (lists : Lists) (tasks : List Tasked) (c n : ℕ) : Type 0 where
+  pub given : role_at (network_of t) c ≡ role.Input → n ≡ length (inputs_of lists c)
+  pub sent : (p o : ℕ) (x : Tasked) → slice_get tasks p ≡ Some x → actual_at (instance_at (network_of t) p) o ≡ Writes c →
+      is_output (role_at (network_of t) c) ≡ false → n ≡ count x.work.cell.sent o
+
+-- how many events may have been done in all: those of the tasks so far and the bound of the board
+abbrev pub all_events : Terms Tasked → ℕ
+all_events key = key.bound + events_of told_of key.cells.value.items
+
+-- the board was made of such tasks, and that many tokens are published
+pub record HasBegun (t : Program) (lists : Lists) (watch : Option ℕ) (key : Terms Tasked) : Type 0 where
+  pub network : key.network.value ≡ t
+  pub ready : AreReady t lists watch key.cells.value.items
+  pub numbers : (c : ℕ) → c < length (network_of t).channels → IsNumber t lists key.cells.value.items c ((dealt told_of key).published c)

@@ -1,0 +1,48 @@
+-- Inner. How the tasks of a run stand once all workers have left.
+use Rattle.std.specs.Prelude.{◌≡◌, ◌⊎◌, ℕ, ◌+◌, Bool, true, List, length, sum_by, Option, Some, slice_get}
+use Rattle.kahn_tree.specs.declared.tree.Program.{Program}
+use Rattle.kahn_tree.specs.declared.tree.Role.TheVariants.{Input}
+use Rattle.kahn_network.specs.Network.{Reads, Writes, network_of, role_at}
+use Rattle.kahn_streams.specs.Tokens.{Lists, inputs_of}
+use Rattle.kahn_code.specs.Standing.{count}
+use Rattle.kahn_crew.specs.inner.Begins.{AreReady}
+use Rattle.kahn_crew.specs.declared.standing.Standing.TheVariants as standing
+use Rattle.kahn_crew.specs.inner.Tasks.{Tasked, Continues, handed, is_over}
+
+abbrev pub task_events : Tasked → ℕ
+task_events x = x.work.cell.events
+
+-- k tokens of the channel d are all that was sent there, or the whole list of an input channel
+pub record AreAll (t : Program) (lists : Lists) (tasks : List Tasked) (d k : ℕ) : Type 0 where
+  pub given : role_at (network_of t) d ≡ Input → k ≡ length (inputs_of lists d)
+  pub sent : (r o : ℕ) (z : Tasked) → slice_get tasks r ≡ Some z → handed z.work o ≡ Writes d → count z.work.cell.sent o ≡ k
+
+-- the task has ended, or waits on a channel of which it took all
+abbrev pub IsAtRest : Program → Lists → List Tasked → Tasked → Type 0
+IsAtRest t lists tasks x =
+    (is_over x.standing ≡ true)
+    ⊎ ((q d : ℕ) × (x.standing ≡ standing.Dry q) × (handed x.work q ≡ Reads d) × AreAll t lists tasks d (count x.work.cell.taken q))
+
+-- the run was halted, or the bound is used up, or all are at rest
+abbrev pub IsOver : Program → Lists → List Tasked → ℕ → Bool → Type 0
+IsOver t lists tasks budget halted =
+    (halted ≡ true) ⊎ ((budget ≡ 0) ⊎ ((p : ℕ) (x : Tasked) → slice_get tasks p ≡ Some x → IsAtRest t lists tasks x))
+
+-- the tasks of all instances once nobody works on them: they are those that were ready, later, and so much is left of the
+-- bound of all events
+pub record HaveGone (t : Program) (lists : Lists) (watch : Option ℕ) (bound : ℕ) (first tasks : List Tasked) (budget : ℕ) : Type 0 where
+  pub ready : AreReady t lists watch first
+  pub count : length tasks ≡ length (network_of t).instances
+  pub later : (p : ℕ) (x y : Tasked) → slice_get first p ≡ Some x → slice_get tasks p ≡ Some y → Continues x y
+  pub events : budget + sum_by task_events tasks ≡ bound
+
+-- nothing was done: each cell is as it was, and nothing of the bound is used
+pub record AreUntouched (bound : ℕ) (first tasks : List Tasked) (budget : ℕ) : Type 0 where
+  pub unused : budget ≡ bound
+  pub cells : (p : ℕ) (x y : Tasked) → slice_get first p ≡ Some x → slice_get tasks p ≡ Some y → y.work.cell ≡ x.work.cell
+
+-- so after a run of which all workers have left
+pub record HaveLeft (t : Program) (lists : Lists) (watch : Option ℕ) (bound : ℕ) (tasks : List Tasked) (budget : ℕ) (halted : Bool) : Type 0 where
+  pub first : List Tasked
+  pub gone : HaveGone t lists watch bound first tasks budget
+  pub over : IsOver t lists tasks budget halted

@@ -1,0 +1,156 @@
+-- Inner. What contracts see of a task, and what it tells the board.
+use Rattle.std.specs.Prelude.{◌≡◌, ◌≤◌, ℕ, suc, Bool, true, false, List, [], ◌∷◌, Option, Some, None, if◌then◌else◌, ◌==◌}
+use Rattle.kahn_network.specs.Network.{Network, Actual, Reads, Writes, Hands, network_of, instance_at, actual_at, role_at}
+use Rattle.kahn_streams.specs.Meaning.{Store}
+use Rattle.kahn_streams.specs.Script.{Outcome, Dry as IsDryAt}
+use Rattle.kahn_streams.specs.Solution as end
+use Rattle.kahn_streams.specs.Solution.{ending}
+use Rattle.kahn_streams.specs.Tokens.{inputs_of}
+use Rattle.kahn_code.specs.declared.progress.Pause.{Pause}
+use Rattle.kahn_code.specs.declared.progress.Pause.TheVariants as pause
+use Rattle.kahn_code.specs.Cells.{is_output}
+use Rattle.kahn_code.specs.Progress.{Paused}
+use Rattle.kahn_code.specs.Standing.{count}
+use Rattle.kahn_code.specs.Told.{told_view}
+use Rattle.kahn_job.specs.inner.Berths.{HaveAdvanced, HaveStayed, end_at}
+use Rattle.kahn_job.specs.inner.Works.{Work}
+use Rattle.kahn_board.specs.Tale.{Tale}
+use Rattle.kahn_crew.specs.declared.standing.Standing.{Standing}
+use Rattle.kahn_crew.specs.declared.standing.Standing.TheVariants as standing
+
+-- a job, where its process stood when it was last run, and by parameter how many of the tokens that it sent are published
+pub record Tasked : Type 0 where
+  pub work : Work
+  pub standing : Standing
+  pub published : List ℕ
+
+abbrev pub work_of : Tasked → Work
+work_of x = x.work
+
+abbrev pub standing_after : Pause → Standing
+standing_after pause.Spent = standing.Going
+standing_after pause.NoMemory = standing.Going
+standing_after pause.Ended = standing.Ended
+standing_after (pause.Fault k) = standing.Faulted k
+standing_after (pause.Dry q) = standing.Dry q
+
+-- what a standing says of the outcome of the process on the values that it took
+abbrev pub IsStanding : Standing → Outcome Store → Type 0
+IsStanding standing.Going o = Unit {0}
+IsStanding standing.Ended o = ending o ≡ Some end.Ended
+IsStanding (standing.Faulted k) o = ending o ≡ Some (end.Faulted k)
+IsStanding (standing.Dry q) o = o ≡ IsDryAt q
+
+abbrev pub HasStanding : Work → Standing → Type 0
+HasStanding w s =
+    Paused (network_of w.cell.network) (inputs_of w.cell.input) w.cell.watch w.cell.instance (told_view w.cell) (IsStanding s)
+
+-- where it has one, the standing is that of the process
+abbrev pub IsTrueOf : Work → Standing → Type 0
+IsTrueOf w standing.Going = Unit {0}
+IsTrueOf w standing.Ended = HasStanding w standing.Ended
+IsTrueOf w (standing.Faulted k) = HasStanding w (standing.Faulted k)
+IsTrueOf w (standing.Dry q) = HasStanding w (standing.Dry q)
+
+-- ---- what a task tells the board
+
+-- what is handed to a parameter of the task's instance
+abbrev pub handed : Work → ℕ → Actual
+handed w q = actual_at (instance_at (network_of w.cell.network) w.cell.instance) q
+
+-- the channel that is read
+abbrev pub read_by : Actual → Option ℕ
+read_by (Reads c) = Some c
+read_by (Writes c) = None
+read_by (Hands v) = None
+
+-- the channel between processes that is written
+abbrev pub written_by : Network → Actual → Option ℕ
+written_by N (Reads c) = None
+written_by N (Writes c) = if is_output (role_at N c) then None else Some c
+written_by N (Hands v) = None
+
+abbrev pub is_channel : Option ℕ → ℕ → Bool
+is_channel None c = false
+is_channel (Some d) c = d == c
+
+-- the number of the first one that passes, counted from q on
+abbrev pub first_that : (Actual → Bool) → List Actual → ℕ → Option ℕ
+first_that f [] q = None
+first_that f (a ∷ rest) q = if f a then Some q else first_that f rest (suc q)
+
+abbrev pub actuals_of : Work → List Actual
+actuals_of w = (instance_at (network_of w.cell.network) w.cell.instance).actuals
+
+-- the parameter that reads the channel, and the one that writes it, where it is a channel between processes
+abbrev pub reads_at : Work → ℕ → Option ℕ
+reads_at w c = first_that (λ a. is_channel (read_by a) c) (actuals_of w) 0
+
+abbrev pub writes_at : Work → ℕ → Option ℕ
+writes_at w c = first_that (λ a. is_channel (written_by (network_of w.cell.network) a) c) (actuals_of w) 0
+
+abbrev pub count_on : List ℕ → Option ℕ → ℕ
+count_on xs None = 0
+count_on xs (Some q) = count xs q
+
+-- how many tokens the parameter sent, and how many of them its lane has
+abbrev pub wrote_by : Work → Option ℕ → Option (ℕ × ℕ)
+wrote_by w None = None
+wrote_by w (Some q) = Some (count w.cell.sent q, (end_at w.ends q).flushed)
+
+abbrev pub is_over : Standing → Bool
+is_over standing.Going = false
+is_over standing.Ended = true
+is_over (standing.Faulted k) = true
+is_over (standing.Dry q) = false
+
+abbrev pub waits_on : Work → Standing → Option ℕ
+waits_on w standing.Going = None
+waits_on w standing.Ended = None
+waits_on w (standing.Faulted k) = None
+waits_on w (standing.Dry q) = read_by (handed w q)
+
+abbrev pub tale_of : Tasked → Tale
+tale_of t = record {
+  events = t.work.cell.events;
+  has_ended = is_over t.standing;
+  waits = waits_on t.work t.standing;
+  taken = λ c. count_on t.work.cell.taken (reads_at t.work c);
+  wrote = λ c. wrote_by t.work (writes_at t.work c);
+}
+
+abbrev pub told_of : Tasked → Option Tale
+told_of t = Some (tale_of t)
+
+-- the second continues the first: of the same instance of the same network and input, with the same ends; and where it did
+-- no event, its cell is as it was
+pub record Continues (old new : Tasked) : Type 0 where
+  pub network : new.work.cell.network ≡ old.work.cell.network
+  pub input : new.work.cell.input ≡ old.work.cell.input
+  pub instance : new.work.cell.instance ≡ old.work.cell.instance
+  pub watch : new.work.cell.watch ≡ old.work.cell.watch
+  pub ends : HaveAdvanced old.work.ends new.work.ends
+  pub events : old.work.cell.events ≤ new.work.cell.events
+  pub still : new.work.cell.events ≡ old.work.cell.events → new.work.cell ≡ old.work.cell
+
+-- the second is the first after it met another one: its ends at most know more
+pub record HasMet (old new : Tasked) : Type 0 where
+  pub cell : new.work.cell ≡ old.work.cell
+  pub standing : new.standing ≡ old.standing
+  pub published : new.published ≡ old.published
+  pub ends : HaveStayed old.work.ends new.work.ends
+
+-- the number of tokens published by each parameter that writes a channel between processes is the one that is known of the channel
+abbrev pub AgreesWith : Work → List ℕ → List ℕ → Type 0
+AgreesWith w published known =
+    (o c : ℕ) → handed w o ≡ Writes c → is_output (role_at (network_of w.cell.network) c) ≡ false → count published o ≡ count known c
+
+-- what was flushed by the parameter o is published
+abbrev pub IsPublished : Tasked → ℕ → Type 0
+IsPublished t o =
+    (c : ℕ) → handed t.work o ≡ Writes c → is_output (role_at (network_of t.work.cell.network) c) ≡ false → count t.published o ≡ (end_at t.work.ends o).flushed
+
+-- the second is a later state of the first, between two turns
+pub record IsLater (old new : Tasked) : Type 0 where
+  pub continues : Continues old new
+  pub published : (o : ℕ) → IsPublished new o

@@ -1,0 +1,64 @@
+-- Inner. What a worker's seat has and knows between two turns and in a turn.
+use Rattle.std.specs.Prelude.{◌≡◌, ◌≢◌, ◌⊎◌, ℕ, ◌+◌, ◌<◌, [], slice_index, Option, Some}
+use Rattle.kahn_board.specs.Tale.{Tale, FlushedAll, flushed_of, events_past}
+use Rattle.kahn_board.specs.Wires.{Wires}
+use Rattle.kahn_board.specs.Cuts.{HoldsNothing}
+use Rattle.kahn_board.specs.Hands.{Carries}
+use Rattle.kahn_board.specs.Plays.{Sat, IsIn, SeesMore}
+use Rattle.kahn_board.specs.declared.view.View.{View}
+use Rattle.kahn_board.specs.declared.board.Seat.{Seat}
+
+-- it has no instance, drew n events and owes nothing, and each event that it told as done was told by a cell
+abbrev pub RestsWith : ℕ → View → Type 0
+RestsWith n v = (HoldsNothing v × (v.drawn ≡ n) × (v.owed ≡ []) × (v.down ≡ 0)) × (v.loose ≡ 0)
+
+abbrev pub Rests : View → Type 0
+Rests v = RestsWith 0 v
+
+-- what is known of the instance p stays: what its channels' numbers are, what its cell told when it was got; and no less was seen
+pub record Knows (w : Wires) (p : ℕ) (old new : View) : Type 0 where
+  pub flushed : (c : ℕ) → c < w.channels → w.writer c ≡ Some p → slice_index new.flushed c ≡ slice_index old.flushed c
+  pub got : slice_index new.got p ≡ slice_index old.got p
+  pub seen : SeesMore old.seen new.seen
+
+-- p told that k tokens of its channel c are published
+pub record Tells (w : Wires) (p c k : ℕ) (old new : View) : Type 0 where
+  pub here : slice_index new.flushed c ≡ k
+  pub others : (d : ℕ) → d ≢ c → d < w.channels → w.writer d ≡ Some p → slice_index new.flushed d ≡ slice_index old.flushed d
+  pub got : slice_index new.got p ≡ slice_index old.got p
+  pub seen : SeesMore old.seen new.seen
+
+module _ {T : Type 0} where
+  -- it has the instance p alone, with x in its slot; it owes nothing, drew n events, and of those told as done l were told by no cell yet
+  pub record InTurn (p n l : ℕ) (x : Option T) (m : Sat T) : Type 0 where
+    pub mine : IsIn m.0 p
+    pub alone : (q : ℕ) → q ≢ p → slice_index m.0.hands q ≡ 0
+    pub slot : Carries m.1 p x
+    pub owed : m.0.owed ≡ []
+    pub down : m.0.down ≡ 0
+    pub drawn : m.0.drawn ≡ n
+    pub loose : m.0.loose ≡ l
+
+  -- between two instances of a turn, with n events of its draw left
+  abbrev pub IsBetween : ℕ → Seat T → Type 0
+  IsBetween n s = RestsWith n s.seat.me.0
+
+  -- between two turns
+  abbrev pub IsIdle : Seat T → Type 0
+  IsIdle s = Rests s.seat.me.0
+
+  -- in a turn of p
+  abbrev pub Holds : ℕ → ℕ → ℕ → Option T → Seat T → Type 0
+  Holds p n l x s = InTurn p n l x s.seat.me
+
+  -- the same seat, with the same parts
+  abbrev pub IsSeatOf : Seat T → Seat T → Type 0
+  IsSeatOf s t = (t.seat.table_id ≡ s.seat.table_id) × (t.seat.id ≡ s.seat.id) × (t.seat.me.0.parts ≡ s.seat.me.0.parts)
+
+module _ {T : Type 0} (told : T → Option Tale) (belongs : ℕ → T → Type 0) (w : Wires) where
+  -- the cell y of p may be left: what it tells as flushed is published, its events are those told as done, it flushed all that it sent unless the run is halted, it belongs to p
+  pub record Fits (p : ℕ) (y : T) (v : View) : Type 0 where
+    pub published : (c l : ℕ) → flushed_of (told y) c ≡ Some l → (c < w.channels) × (w.writer c ≡ Some p) × (l ≡ slice_index v.flushed c)
+    pub events : events_past (told y) (slice_index v.got p) ≡ slice_index v.got p + v.loose
+    pub flushed : (v.seen ≡ 2) ⊎ FlushedAll (told y)
+    pub belonging : belongs p y

@@ -1,0 +1,51 @@
+-- An explanation that was written as the one piece of a line.
+use Rattle.std.proofs.Common.{ℕ, List, [], ◌++◌, Option, Err, inl, inr, refl, subst, append-nil}
+use Rattle.std.specs.Io.KnownBytes.{Appends}
+use Rattle.kahn_config.specs.declared.Config.{Config}
+use Rattle.kahn_tree.specs.declared.tree.Program.{Program}
+use Rattle.kahn_streams.specs.Tokens.{Lists, inputs_of}
+use Rattle.kahn_pool.specs.Runs.{IsRun}
+use Rattle.kahn_pool.specs.declared.answer.Answer.{Answer}
+use Rattle.kahn_report.specs.Inputs.{StandsFor}
+use Rattle.kahn_pool.specs.declared.config.RunFault.TheVariants.{NoMemory}
+use Rattle.kahn_report.specs.Work.{IsChecked, IsUnanswered, IsUnchecked}
+use Rattle.kahn_report.specs.declared.working.WorkFault.{WorkFault}
+use Rattle.kahn_report.specs.declared.working.WorkFault.TheVariants.{Syntax, Check, Text, Run, Write}
+use Rattle.kahn_report.specs.Written.{AppendsFront}
+use Rattle.kahn_why.specs.Words.{IsAnswer, IsExplained}
+use Rattle.kahn_why.specs.declared.told.Explanation.{Explanation}
+use Rattle.kahn_explain.specs.Explaining.{IsExplanationOf, HasExplained}
+
+-- the answer of a run of a checked program
+pub run_answer : (program : List ℕ) (t : Program) (config : Config) (lists : Lists) (a : Answer) → IsChecked program t → IsRun t lists config a → IsAnswer t a
+run_answer program t config lists a checked ran = (checked.1, inputs_of lists, config.bound, ran.1.0, ran.1.2)
+
+pub explains : (program input : List ℕ) (config : Config) (t : Program) (a : Answer) (e : Explanation) → IsChecked program t
+    → (lists : Lists) × StandsFor t input lists × IsRun t lists config a → IsExplained t a e → IsExplanationOf program input config e
+explains program input config t a e checked ran is = (t, ran.0, a, (checked, ran.1, ran.2), is)
+
+pub went_out : (old new : Option (List ℕ)) (text : List ℕ) → Appends old new (text ++ []) → Appends old new text
+went_out old new text gone = subst (Appends old new) (append-nil text) gone
+
+pub broke_off : (old new : Option (List ℕ)) (text : List ℕ) → AppendsFront old new (text ++ []) → AppendsFront old new text
+broke_off old new text gone = subst (AppendsFront old new) (append-nil text) gone
+
+-- what each part says of the whole
+pub unchecked : (program input : List ℕ) (config : Config) (written : Option (List ℕ)) (fault : WorkFault) → IsUnchecked program fault →
+    HasExplained program input config written written (Err fault)
+unchecked program input config written (Syntax f) h = (h, refl)
+unchecked program input config written (Check f) h = (h, refl)
+unchecked program input config written (Text f) h = absurd h
+unchecked program input config written (Run f) h = absurd h
+unchecked program input config written (Write f) h = absurd h
+
+pub unanswered : (program input : List ℕ) (config : Config) (written : Option (List ℕ)) (t : Program) (fault : WorkFault) → IsChecked program t →
+    IsUnanswered t input config fault → HasExplained program input config written written (Err fault)
+unanswered program input config written t (Syntax f) is h = absurd h
+unanswered program input config written t (Check f) is h = absurd h
+unanswered program input config written t (Text f) is h = ((t, is, h), refl)
+unanswered program input config written t (Run f) is h = (inr (t, h.0, is, h.1, h.2), refl)
+unanswered program input config written t (Write f) is h = absurd h
+
+pub unexplained : (program input : List ℕ) (config : Config) (written : Option (List ℕ)) → HasExplained program input config written written (Err (Run NoMemory))
+unexplained program input config written = (inl refl, refl)

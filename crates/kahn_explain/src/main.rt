@@ -1,0 +1,61 @@
+//! Runs a network of processes and channels, and explains why the run stopped.
+#![tactic(auto)]
+
+mod explaining;
+
+use explaining::{explain, status};
+use kahn_fault::Fault;
+use kahn_line::{ExplainOptions, read_explain_line, tell_line, tell_no_memory, tell_words};
+use kahn_pool::Config;
+use kahn_texts::{Texts, read_texts, tell};
+use kahn_why::Told;
+use std::io::Write;
+use std::process::ExitCode;
+use std::rt::Runtime;
+use std::sync::Wait;
+use std::thread::Threads;
+use std::{env, io};
+
+/// Runs the program on the input, and explains on standard output.
+fn explain_texts<R: Runtime + AllocGlobal + Threads + Wait + Sync>(
+    rt: &R,
+    texts: &Texts,
+    config: Config,
+) -> Result<Told, Fault> {
+    let program = texts.program.as_str();
+    let input = texts.input.as_str();
+    match explain(rt, rt.alloc(), program, input, config, &mut io::writer(rt)) {
+        Ok(told) => Ok(told),
+        Err(fault) => Err(Fault::Work(fault)),
+    }
+}
+
+/// Does what the command line asks for, and gives the status. Faults are told to the writer.
+fn answered<R: Runtime + AllocGlobal + Threads + Wait + Sync, W: Write>(
+    rt: &R,
+    options: ExplainOptions,
+    writer: &mut W,
+) -> u8 {
+    match read_texts(rt, options.program, options.input) {
+        Ok(texts) => match explain_texts(rt, &texts, options.config) {
+            Ok(told) => status(told),
+            Err(fault) => tell(&Err(fault), texts.program.as_str(), writer).status,
+        },
+        Err(fault) => tell(&Err(fault), "", writer).status,
+    }
+}
+
+fn main(rt: HostRuntime) -> ExitCode {
+    let words = match env::args(&rt) {
+        Ok(words) => words,
+        Err(error) => return ExitCode::from(tell_words(&rt, &error)),
+    };
+    let Ok(words) = words.collect::<Vec<String>>(rt.alloc()) else {
+        return ExitCode::from(tell_no_memory(&rt));
+    };
+    let status = match read_explain_line(rt.alloc(), words.as_slice()) {
+        Ok(options) => answered(&rt, options, &mut rt.stderr()),
+        Err(fault) => tell_line(&rt, &fault),
+    };
+    ExitCode::from(status)
+}

@@ -1,0 +1,83 @@
+-- Inner. What contracts see of the ends of an instance's channels.
+use Rattle.std.specs.Prelude.{◌≡◌, ◌⊎◌, ℕ, ◌<◌, ◌≤◌, true, false, List, length, map, None, Some, slice_index_or}
+use Rattle.kahn_tree.specs.declared.tree.Program.{Program}
+use Rattle.kahn_tree.specs.declared.tree.Role.TheVariants.{Input}
+use Rattle.kahn_network.specs.Network.{Actual, Reads, Writes, Hands, network_of, instance_at, actual_at, role_at}
+use Rattle.kahn_streams.specs.Tokens.{Lists, inputs_of}
+use Rattle.kahn_code.specs.Cells.{is_output}
+use Rattle.kahn_code.specs.Seats.{Seat}
+use Rattle.kahn_lane.specs.declared.name.LaneName.{LaneName}
+use Rattle.kahn_lane.specs.Places.{lane_name}
+use Rattle.kahn_job.specs.inner.Ends.{End, Identity, IsSame, IsReady, IsFlushed, identity_of}
+use Rattle.kahn_job.specs.inner.Ways.{nothing}
+
+-- the network, the input and the instance, and the end that each parameter has
+pub record Berth : Type 0 where
+  pub network : Program
+  pub input : Lists
+  pub instance : ℕ
+  pub ends : List End
+
+abbrev pub seat_at : Berth → Seat
+seat_at b = record { network = b.network; input = b.input; instance = b.instance }
+
+abbrev pub end_at : List End → ℕ → End
+end_at ends q = slice_index_or ends q nothing
+
+-- the end is that of the channel that is handed over; an input channel has no lane
+abbrev pub Serves : Program → Lists → Actual → End → Type 0
+Serves t lists (Reads d) e = (e.reads ≡ true) × (e.name ≡ Some (lane_name t lists d)) × (role_at (network_of t) d ≡ Input → e.lane ≡ None)
+Serves t lists (Writes d) e = is_output (role_at (network_of t) d) ≡ false → (e.writes ≡ true) × (e.name ≡ Some (lane_name t lists d))
+Serves t lists (Hands v) e = Unit {0}
+
+-- a channel of which it is an end is one of this network, for this input
+abbrev pub IsFor : Program → Lists → End → Type 0
+IsFor t lists e = (n : LaneName) → e.name ≡ Some n → (n.network ≡ t) × (n.input ≡ lists)
+
+-- what is ready at the end of an input channel is a value of its list
+abbrev pub IsFed : End → Type 0
+IsFed e = (t : Program) (lists : Lists) (d : ℕ) → e.lane ≡ None → e.name ≡ Some (lane_name t lists d) → IsReady e → e.next < length (inputs_of lists d)
+
+-- which ends they are
+abbrev pub identities : List End → List Identity
+identities ends = map identity_of ends
+
+-- each parameter has the end of its channel, on which no more is flushed than was put
+pub record AreServed (t : Program) (lists : Lists) (p : ℕ) (ends : List End) : Type 0 where
+  pub count : length ends ≡ length (instance_at (network_of t) p).actuals
+  pub each : (q : ℕ) → Serves t lists (actual_at (instance_at (network_of t) p) q) (end_at ends q)
+  pub behind : (q : ℕ) → (end_at ends q).flushed ≤ (end_at ends q).next
+
+-- they are the same ends, and nothing that was flushed is taken back
+pub record HaveAdvanced (old new : List End) : Type 0 where
+  pub count : length new ≡ length old
+  pub same : (q : ℕ) → IsSame (end_at old q) (end_at new q)
+  pub flushed : (q : ℕ) → (end_at old q).flushed ≤ (end_at new q).flushed
+
+-- it is the same end, where it stood, and at most knows more
+pub record HasStayed (old new : End) : Type 0 where
+  pub same : IsSame old new
+  pub next : new.next ≡ old.next
+  pub flushed : new.flushed ≡ old.flushed
+  pub ready : IsReady old → IsReady new
+
+-- so for all ends
+pub record HaveStayed (old new : List End) : Type 0 where
+  pub count : length new ≡ length old
+  pub each : (q : ℕ) → HasStayed (end_at old q) (end_at new q)
+
+-- it is the same end, where it stood, and all that was put was flushed or as much is flushed as before
+pub record HasFlushed (old new : End) : Type 0 where
+  pub same : IsSame old new
+  pub next : new.next ≡ old.next
+  pub flushed : (new.flushed ≡ old.flushed) ⊎ (new.flushed ≡ new.next)
+  pub grows : old.flushed ≤ new.flushed
+
+-- so for all ends
+pub record HaveFlushed (old new : List End) : Type 0 where
+  pub count : length new ≡ length old
+  pub each : (q : ℕ) → HasFlushed (end_at old q) (end_at new q)
+
+-- on each channel what was put was flushed
+abbrev pub AreFlushed : List End → Type 0
+AreFlushed ends = (q : ℕ) → IsFlushed (end_at ends q)

@@ -1,0 +1,84 @@
+-- Inner. What contracts see of the end of a channel that a parameter has.
+use Rattle.std.specs.Prelude.{◌≡◌, ◌⊎◌, ℕ, ◌+◌, ◌<◌, ◌≤◌, Bool, true, Option, Some}
+use Rattle.std.specs.declared.alloc.Global.{Global}
+use Rattle.kahn_lane.specs.Places.{Named}
+
+-- which lane it is an end of
+abbrev pub Lane : Type 0
+Lane = (ℕ × ℕ) × Global
+
+pub record End : Type 0 where
+  -- tokens are taken here, or put here; neither where the parameter has no end
+  pub reads : Bool
+  pub writes : Bool
+  -- the lane, where it is the end of one, and what its tokens are of
+  pub lane : Option Lane
+  pub name : Named
+  -- the place of the next token
+  pub next : ℕ
+  -- how many tokens wait at hand; how many there are as far as this end knows; how many segments it knows to have left, and
+  -- how many it knew so when it was last asked for a token
+  pub waiting : ℕ
+  pub known : ℕ
+  pub left : ℕ
+  pub asked : ℕ
+  -- how many tokens were flushed; how many stand in the open segment, and for how many it has memory
+  pub flushed : ℕ
+  pub filled : ℕ
+  pub capacity : ℕ
+
+-- what of an end never changes
+pub record Identity : Type 0 where
+  pub reads : Bool
+  pub writes : Bool
+  pub lane : Option Lane
+  pub name : Named
+
+abbrev pub identity_of : End → Identity
+identity_of e = record { reads = e.reads; writes = e.writes; lane = e.lane; name = e.name }
+
+-- it is the same end, of the same channel
+pub record IsSame (old new : End) : Type 0 where
+  pub reads : new.reads ≡ old.reads
+  pub writes : new.writes ≡ old.writes
+  pub lane : new.lane ≡ old.lane
+  pub name : new.name ≡ old.name
+
+-- they are the two ends of one lane
+abbrev pub ShareLane : End → End → Type 0
+ShareLane a b = (l : Lane) × (a.lane ≡ Some l) × (b.lane ≡ Some l)
+
+-- they are the writer's and the reader's end of one lane
+pub record MayMeet (writer reader : End) : Type 0 where
+  pub writes : writer.writes ≡ true
+  pub reads : reader.reads ≡ true
+  pub lane : ShareLane writer reader
+
+-- the two ends met: n tokens that the writer's flushed weren't taken, which are no fewer than those at hand, and the reader's
+-- is `now` and knows of all that were flushed
+pub record Meets (writer reader now : End) (n : ℕ) : Type 0 where
+  pub count : reader.next + n ≡ writer.flushed
+  pub held : reader.waiting ≤ n
+  pub known : now.known ≡ writer.flushed
+  pub asked : now.asked ≡ now.left
+
+-- nothing that was flushed is taken back, and no more is flushed than was put
+abbrev pub Advances : End → End → Type 0
+Advances old new = (old.flushed ≤ new.flushed) × (new.flushed ≤ new.next)
+
+-- the next take gives a token
+abbrev pub IsReady : End → Type 0
+IsReady e = 0 < e.waiting
+
+-- all tokens that it knew of were taken, or 64 steals met another step since it was last asked: so many segments have left
+-- the lane meanwhile
+abbrev pub IsDry : End → Type 0
+IsDry e = (e.known ≤ e.next) ⊎ (e.asked + 64 ≤ e.left)
+
+-- there is room for one token
+abbrev pub HasRoom : End → Type 0
+HasRoom e = (e.filled < 64) × (e.filled < e.capacity)
+
+-- what was put was flushed
+abbrev pub IsFlushed : End → Type 0
+IsFlushed e = e.writes ≡ true → e.flushed ≡ e.next

@@ -1,0 +1,72 @@
+-- Inner. Jobs before their first event.
+use Rattle.std.specs.Prelude.{◌≡◌, ℕ, ◌<◌, true, List, [], length, replicate, Option, None, Some, slice_get, slice_set, slice_index_or}
+use Rattle.kahn_tree.specs.declared.tree.Program.{Program}
+use Rattle.kahn_tree.specs.declared.tree.Role.TheVariants.{Inner, Input, Output}
+use Rattle.kahn_network.specs.Network.{Reads, Writes, network_of, instance_at, actual_at, role_at}
+use Rattle.kahn_network.specs.declared.sides.Side.{Side}
+use Rattle.kahn_streams.specs.Tokens.{Lists}
+use Rattle.kahn_code.specs.Lines.{Joins}
+use Rattle.kahn_code.specs.Told.{Told}
+use Rattle.kahn_lane.specs.Places.{lane_name}
+use Rattle.kahn_job.specs.inner.Ends.{End, ShareLane}
+use Rattle.kahn_job.specs.inner.Berths.{AreServed, Serves, end_at}
+use Rattle.kahn_job.specs.inner.Works.{Work}
+
+-- nothing was taken, put or flushed
+abbrev pub IsFresh : End → Type 0
+IsFresh e = (e.next ≡ 0) × (e.flushed ≡ 0)
+
+-- the two ends of a channel, the writer's and the reader's
+pub record AreEndsOf (t : Program) (lists : Lists) (c : ℕ) (writer reader : End) : Type 0 where
+  pub puts : role_at (network_of t) c ≡ Inner → (writer.writes ≡ true) × (writer.name ≡ Some (lane_name t lists c))
+  pub takes : (role_at (network_of t) c ≡ Output → ⊥) → (reader.reads ≡ true) × (reader.name ≡ Some (lane_name t lists c))
+  pub feeds : role_at (network_of t) c ≡ Input → reader.lane ≡ None
+  -- they are the ends of one lane
+  pub lane : role_at (network_of t) c ≡ Inner → ShareLane writer reader
+  pub new_writer : IsFresh writer
+  pub new_reader : IsFresh reader
+
+abbrev pub end_in : List (List End) → ℕ → ℕ → End
+end_in rows p q = end_at (slice_index_or rows p []) q
+
+-- the end comes to that parameter of that instance
+abbrev pub placed : List (List End) → Option Side → End → List (List End)
+placed rows None e = rows
+placed rows (Some s) e = slice_set rows s.instance (slice_set (slice_index_or rows s.instance []) s.parameter e)
+
+-- a row for each instance, in which the parameters have the ends of the first k channels
+pub record AreHanded (t : Program) (lists : Lists) (k : ℕ) (rows : List (List End)) : Type 0 where
+  pub count : length rows ≡ length (network_of t).instances
+  pub sizes : (p : ℕ) → length (slice_index_or rows p []) ≡ length (instance_at (network_of t) p).actuals
+  pub each : (p q d : ℕ) → Joins (actual_at (instance_at (network_of t) p) q) d → d < k →
+      Serves t lists (actual_at (instance_at (network_of t) p) q) (end_in rows p q)
+  pub joined : (p r o q d : ℕ) → actual_at (instance_at (network_of t) p) o ≡ Writes d → actual_at (instance_at (network_of t) r) q ≡ Reads d →
+      d < k → ShareLane (end_in rows p o) (end_in rows r q)
+  pub fresh : (p q : ℕ) → IsFresh (end_in rows p q)
+
+-- the cell of instance p before its first event
+pub record IsOpening (t : Program) (lists : Lists) (watch : Option ℕ) (p : ℕ) (c : Told) : Type 0 where
+  pub network : c.network ≡ t
+  pub input : c.input ≡ lists
+  pub instance : c.instance ≡ p
+  pub watched : c.watch ≡ watch
+  pub events : c.events ≡ 0
+  pub taken : c.taken ≡ replicate (length (instance_at (network_of t) p).actuals) 0
+  pub sent : c.sent ≡ replicate (length (instance_at (network_of t) p).actuals) 0
+  pub kept : c.kept ≡ replicate (length (instance_at (network_of t) p).actuals) []
+  pub printed : c.printed ≡ []
+
+-- the jobs of all instances before their first events
+pub record AreOpening (t : Program) (lists : Lists) (watch : Option ℕ) (jobs : List Work) : Type 0 where
+  pub count : length jobs ≡ length (network_of t).instances
+  -- nothing was taken, put or flushed
+  pub each : (p : ℕ) (w : Work) → slice_get jobs p ≡ Some w → IsOpening t lists watch p w.cell × ((q : ℕ) → IsFresh (end_at w.ends q))
+  -- a channel from one instance to another, or to itself, is one lane: its writer and its reader have the two ends
+  pub joined : (p r o q d : ℕ) (w v : Work) → slice_get jobs p ≡ Some w → slice_get jobs r ≡ Some v →
+      actual_at (instance_at (network_of t) p) o ≡ Writes d → actual_at (instance_at (network_of t) r) q ≡ Reads d →
+      ShareLane (end_at w.ends o) (end_at v.ends q)
+
+-- the ends of instance p, before anything was taken or put
+pub record IsReadyRow (t : Program) (lists : Lists) (p : ℕ) (row : List End) : Type 0 where
+  pub served : AreServed t lists p row
+  pub fresh : (q : ℕ) → IsFresh (end_at row q)

@@ -1,0 +1,116 @@
+-- Inner. The ends of channels go on with an input that has grown.
+use Rattle.std.specs.Prelude.{◌≡◌, ◌⊎◌, ℕ, ◌<◌, ◌≤◌, true, false, List, [], length, None, Some, slice_index_or}
+use Rattle.kahn_tree.specs.declared.tree.Program.{Program}
+use Rattle.kahn_tree.specs.declared.tree.Role.TheVariants.{Input}
+use Rattle.kahn_network.specs.declared.sides.Side.{Side}
+use Rattle.kahn_network.specs.Wiring.{side_at}
+use Rattle.kahn_network.specs.Network.{Actual, Reads, Writes, Hands, network_of, instance_at, actual_at, role_at}
+use Rattle.kahn_streams.specs.Laws.{AreInputsExtended}
+use Rattle.kahn_streams.specs.Tokens.{Lists, inputs_of}
+use Rattle.kahn_code.specs.Cells.{is_output}
+use Rattle.kahn_code.specs.Lines.{Joins}
+use Rattle.kahn_lane.specs.declared.name.LaneName.{LaneName}
+use Rattle.kahn_lane.specs.Places.{lane_name, moved_to}
+use Rattle.kahn_lane.specs.inner.Settles.{IsGrown}
+use Rattle.kahn_job.specs.inner.Ends.{End, IsFlushed, ShareLane}
+use Rattle.kahn_job.specs.inner.Openings.{end_in}
+
+-- it has become an end of what the name says: it stands where it stood, and what was put is flushed
+pub record HasSettled (name : LaneName) (old new : End) : Type 0 where
+  pub named : new.name ≡ Some name
+  pub reads : new.reads ≡ old.reads
+  pub writes : new.writes ≡ old.writes
+  pub next : new.next ≡ old.next
+  pub bare : old.lane ≡ None → new.lane ≡ None
+  pub flushed : IsFlushed new
+  pub behind : new.flushed ≤ new.next
+
+-- the end is one of the channel, for an input whose lists begin those of this one
+abbrev pub IsOfBefore : Program → Lists → ℕ → End → Type 0
+IsOfBefore t lists d e = (older : Lists) × (e.name ≡ Some (lane_name t older d)) × AreInputsExtended (inputs_of older) (inputs_of lists)
+
+-- the end is that of the channel that is handed over, for such an input; an input channel has no lane
+abbrev pub ServedBefore : Program → Lists → Actual → End → Type 0
+ServedBefore t lists (Reads d) e = (e.reads ≡ true) × IsOfBefore t lists d e × (role_at (network_of t) d ≡ Input → e.lane ≡ None)
+ServedBefore t lists (Writes d) e = is_output (role_at (network_of t) d) ≡ false → (e.writes ≡ true) × IsOfBefore t lists d e
+ServedBefore t lists (Hands v) e = Unit {0}
+
+-- the ends of all instances, each for an input whose lists begin those of this one
+pub record AreResting (t : Program) (lists : Lists) (rows : List (List End)) : Type 0 where
+  pub count : length rows ≡ length (network_of t).instances
+  pub sizes : (p : ℕ) → length (slice_index_or rows p []) ≡ length (instance_at (network_of t) p).actuals
+  pub each : (p q : ℕ) → ServedBefore t lists (actual_at (instance_at (network_of t) p) q) (end_in rows p q)
+  pub behind : (p q : ℕ) → (end_in rows p q).flushed ≤ (end_in rows p q).next
+  -- a channel from one instance to another, or to itself, is one lane: its writer and its reader have the two ends
+  pub joined : (p r o q d : ℕ) → actual_at (instance_at (network_of t) p) o ≡ Writes d → actual_at (instance_at (network_of t) r) q ≡ Reads d →
+      ShareLane (end_in rows p o) (end_in rows r q)
+
+-- a channel that isn't an output is handed over there
+abbrev pub IsCarried : Program → Actual → ℕ → Type 0
+IsCarried t a d = Joins a d × (is_output (role_at (network_of t) d) ≡ false)
+
+-- the ends of the channels that pass have become ends for this input, and all others are as they were
+pub record AreSettled (t : Program) (lists : Lists) (passes : ℕ → Type 0) (old new : List (List End)) : Type 0 where
+  pub count : length new ≡ length old
+  pub sizes : (p : ℕ) → length (slice_index_or new p []) ≡ length (slice_index_or old p [])
+  pub each : (p q d : ℕ) → IsCarried t (actual_at (instance_at (network_of t) p) q) d → passes d →
+      HasSettled (lane_name t lists d) (end_in old p q) (end_in new p q)
+  pub others : (p q : ℕ) → ((d : ℕ) → IsCarried t (actual_at (instance_at (network_of t) p) q) d → passes d → ⊥) → end_in new p q ≡ end_in old p q
+  pub joined : (p r o q d : ℕ) → actual_at (instance_at (network_of t) p) o ≡ Writes d → actual_at (instance_at (network_of t) r) q ≡ Reads d →
+      passes d → ShareLane (end_in new p o) (end_in new r q)
+
+-- the end stands where it stood, and nothing that was flushed there is taken back
+pub record HasStood (old new : End) : Type 0 where
+  pub next : new.next ≡ old.next
+  pub flushed : old.writes ≡ true → old.flushed ≤ new.flushed
+  pub writes : new.writes ≡ old.writes
+
+-- so for all ends
+abbrev pub HaveStood : List (List End) → List (List End) → Type 0
+HaveStood old new = (p q : ℕ) → HasStood (end_in old p q) (end_in new p q)
+
+-- ---- two ends, or one
+
+-- they are the two ends of a lane, for an input whose lists begin those of this one
+pub record CanSettle (lists : Lists) (writer reader : End) : Type 0 where
+  pub writes : writer.writes ≡ true
+  pub reads : reader.reads ≡ true
+  pub lane : ShareLane writer reader
+  pub grown : (n : LaneName) × (writer.name ≡ Some n) × IsGrown n lists
+
+-- it is the end of an input channel, for such an input
+pub record CanFeed (lists : Lists) (reader : End) : Type 0 where
+  pub reads : reader.reads ≡ true
+  pub bare : reader.lane ≡ None
+  pub grown : (n : LaneName) × (reader.name ≡ Some n) × IsGrown n lists
+
+-- the instance and the parameter are there
+abbrev pub HasPlace : List (List End) → Side → Type 0
+HasPlace rows s = (s.instance < length rows) × (s.parameter < length (slice_index_or rows s.instance []))
+
+abbrev pub end_of_side : List (List End) → Side → End
+end_of_side rows s = end_in rows s.instance s.parameter
+
+-- the ends of the others are as they were
+pub record AreElsewhere (here : Side → Type 0) (old new : List (List End)) : Type 0 where
+  pub count : length new ≡ length old
+  pub sizes : (p : ℕ) → length (slice_index_or new p []) ≡ length (slice_index_or old p [])
+  pub others : (p q : ℕ) → (here (side_at p q) → ⊥) → end_in new p q ≡ end_in old p q
+
+-- the lane between the two has settled
+pub record HaveExchanged (lists : Lists) (writer reader : Side) (old new : List (List End)) : Type 0 where
+  pub elsewhere : AreElsewhere (λ s. (s ≡ writer) ⊎ (s ≡ reader)) old new
+  pub lane : ShareLane (end_of_side new writer) (end_of_side new reader)
+  pub writes : (n : LaneName) → (end_of_side old writer).name ≡ Some n → HasSettled (moved_to lists n) (end_of_side old writer) (end_of_side new writer)
+  pub reads : (n : LaneName) → (end_of_side old writer).name ≡ Some n → HasSettled (moved_to lists n) (end_of_side old reader) (end_of_side new reader)
+
+-- the end of the input channel has settled
+pub record HasExchanged (lists : Lists) (reader : Side) (old new : List (List End)) : Type 0 where
+  pub elsewhere : AreElsewhere (λ s. s ≡ reader) old new
+  pub reads : (n : LaneName) → (end_of_side old reader).name ≡ Some n → HasSettled (moved_to lists n) (end_of_side old reader) (end_of_side new reader)
+
+-- the ends are the same
+pub record AreAlike (old new : List (List End)) : Type 0 where
+  pub count : length new ≡ length old
+  pub sizes : (p : ℕ) → length (slice_index_or new p []) ≡ length (slice_index_or old p [])
+  pub same : (p q : ℕ) → end_in new p q ≡ end_in old p q

@@ -1,0 +1,86 @@
+-- Inner. What is seen of an end, by what it does.
+use Rattle.std.specs.Prelude.{◌-◌, ℕ, true, false, length, Some, None}
+use Rattle.std.specs.declared.alloc.Global.{Global}
+use Rattle.kahn_streams.specs.Tokens.{inputs_of}
+use Rattle.kahn_lane.specs.declared.segments.Sender.{Sender}
+use Rattle.kahn_lane.specs.declared.segments.Receiver.{Receiver}
+use Rattle.kahn_lane.specs.LaneEnds.{sender_lane, receiver_lane, sender_name, receiver_name, flushed, sent, filled, capacity, taken, waiting, known, left}
+use Rattle.kahn_lane.specs.Places.{lane_name}
+use Rattle.kahn_job.specs.inner.Ends.{End}
+use Rattle.kahn_job.specs.inner.Feeding.{Feeding}
+use Rattle.kahn_job.specs.declared.port.Way.{Way}
+use Rattle.kahn_job.specs.declared.port.Way.TheVariants as way
+
+-- the reader's end of a lane, and how many segments it knew to have left when it was last asked
+abbrev pub taking : Receiver Global → ℕ → End
+taking r asked = record {
+  reads = true;
+  writes = false;
+  lane = Some (receiver_lane r);
+  name = receiver_name r;
+  next = taken r;
+  waiting = waiting r;
+  known = known r;
+  left = left r;
+  asked = asked;
+  flushed = 0;
+  filled = 0;
+  capacity = 0;
+}
+
+-- an input channel, whose list is known whole
+abbrev pub feeding : Feeding → End
+feeding f = record {
+  reads = true;
+  writes = false;
+  lane = None;
+  name = Some (lane_name f.network f.input f.channel);
+  next = f.next;
+  waiting = length (inputs_of f.input f.channel) - f.next;
+  known = length (inputs_of f.input f.channel);
+  left = 0;
+  asked = 0;
+  flushed = 0;
+  filled = 0;
+  capacity = 0;
+}
+
+-- the writer's end of a lane
+abbrev pub putting : Sender Global → End
+putting s = record {
+  reads = false;
+  writes = true;
+  lane = Some (sender_lane s);
+  name = sender_name s;
+  next = sent s;
+  waiting = 0;
+  known = 0;
+  left = 0;
+  asked = 0;
+  flushed = flushed s;
+  filled = filled s;
+  capacity = capacity s;
+}
+
+-- no end
+abbrev pub nothing : End
+nothing = record {
+  reads = false;
+  writes = false;
+  lane = None;
+  name = None;
+  next = 0;
+  waiting = 0;
+  known = 0;
+  left = 0;
+  asked = 0;
+  flushed = 0;
+  filled = 0;
+  capacity = 0;
+}
+
+abbrev pub end_of : Way → End
+end_of (way.Takes r asked) = taking r asked.value
+end_of (way.Feeds f) = feeding f
+end_of (way.Puts s) = putting s
+end_of way.Nothing = nothing

@@ -1,0 +1,44 @@
+-- Inner. What contracts see of a job: a cell with the ends of its channels.
+use Rattle.std.specs.Prelude.{◌≡◌, ℕ, ◌+◌, ◌<◌, false, List, length}
+use Rattle.kahn_network.specs.Network.{Writes, network_of, instance_at, actual_at, role_at}
+use Rattle.kahn_streams.specs.Tokens.{inputs_of}
+use Rattle.kahn_code.specs.declared.progress.Pause.{Pause}
+use Rattle.kahn_code.specs.Cells.{is_output}
+use Rattle.kahn_code.specs.Progress.{Paused, IsPause}
+use Rattle.kahn_code.specs.Standing.{count}
+use Rattle.kahn_code.specs.Told.{Told, IsAt, seat_of, told_view}
+use Rattle.kahn_job.specs.inner.Ends.{End, IsDry, IsReady}
+use Rattle.kahn_job.specs.inner.Berths.{Berth, AreServed, end_at, seat_at}
+
+-- the cell, and the end that each of its parameters has
+pub record Work : Type 0 where
+  pub cell : Told
+  pub ends : List End
+
+-- how many parameters the process of the job has
+abbrev pub width_of : Work → ℕ
+width_of w = length (instance_at (network_of w.cell.network) w.cell.instance).actuals
+
+-- the ends are those of the cell's instance, and stand where the cell stands
+pub record IsManned (c : Told) (b : Berth) : Type 0 where
+  pub seat : seat_at b ≡ seat_of c
+  pub here : c.instance < length (network_of c.network).instances
+  pub at : IsAt c (λ q. (end_at b.ends q).next)
+
+-- the ends of a job are those of its cell's channels, and stand where the cell stands
+pub record IsJob (w : Work) : Type 0 where
+  pub here : w.cell.instance < length (network_of w.cell.network).instances
+  pub served : AreServed w.cell.network w.cell.input w.cell.instance w.ends
+  pub at : IsAt w.cell (λ q. (end_at w.ends q).next)
+
+-- all that the cell sent on the channels between processes was flushed
+abbrev pub IsDelivered : Work → Type 0
+IsDelivered w = (q d : ℕ) → actual_at (instance_at (network_of w.cell.network) w.cell.instance) q ≡ Writes d →
+    is_output (role_at (network_of w.cell.network) d) ≡ false → (end_at w.ends q).flushed ≡ count w.cell.sent q
+
+-- after a run for at most so many events: what the source says of the cell, and of the pause by the ends
+abbrev pub HasPaused : Work → Work → ℕ → Pause → Type 0
+HasPaused old new quantum z =
+    Paused (network_of new.cell.network) (inputs_of new.cell.input) new.cell.watch new.cell.instance (told_view new.cell)
+    (IsPause (network_of new.cell.network) new.cell.instance (λ q. IsDry (end_at new.ends q)) (λ q. IsReady (end_at new.ends q))
+    (new.cell.events ≡ old.cell.events + quantum) z)

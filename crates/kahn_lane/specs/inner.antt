@@ -1,0 +1,3 @@
+pub mod LaneRule
+pub mod RelayRule
+pub mod Settles

@@ -1,0 +1,97 @@
+-- Inner.
+-- The rule of a lane's deque: the segments in it have consecutive places, from the reader's number of stolen tokens to the writer's number of flushed ones.
+use Rattle.std.specs.Prelude.{◌≡◌, ℕ, ◌+◌, ◌^◌, ◌<◌, ◌≤◌, ◌⊎◌, true, List, [], ◌∷◌, length, Option, Some, None}
+use mathlib.Core.Option.{some}
+use lib.ListN.{get_elem?}
+use Rattle.kahn_streams.specs.declared.token.Token.{Token}
+use Rattle.kahn_lane.specs.declared.segments.Mark.{Mark}
+use Rattle.kahn_lane.specs.declared.segments.Segment.{Segment}
+use Rattle.kahn_lane.specs.declared.segments.Stage.TheVariants as stage
+use Rattle.kahn_lane.specs.Places.{Named, Placed, mark, opening, telling, told, first_place}
+
+-- only the writer may flush; it knows what the tokens are of, and how many were flushed
+abbrev pub Writes : ℕ → Named → ℕ → ℕ → Mark → Type 0
+Writes writer name flushed port v = v.writes ≡ true → (port ≡ writer) × (v.writes_on ≡ name) × (v.flushed ≡ flushed)
+
+-- only the reader may steal; it knows what the tokens are of, and how many were stolen, and knows of no more than were flushed
+abbrev pub Reads : ℕ → Named → ℕ → ℕ → ℕ → Mark → Type 0
+Reads reader name flushed stolen port v =
+    v.reads ≡ true → (port ≡ reader) × (v.reads_on ≡ name) × (v.stolen ≡ stolen) × (v.known ≤ flushed)
+
+-- what a pass knows is so
+abbrev pub Fits : ℕ → ℕ → Named → ℕ → ℕ → ℕ → Mark → Type 0
+Fits writer reader name flushed stolen port v =
+    (v.stage ≡ stage.Running) × Writes writer name flushed port v × Reads reader name flushed stolen port v
+
+module _ {A : Type 0} where
+  -- the tokens of a segment
+  abbrev pub tokens_of : Segment A → List Token
+  tokens_of s = given s.alone
+    where
+      given : Option Token → List Token
+      given None = s.tokens.items
+      given (Some c) = c ∷ []
+
+  -- how many tokens a segment has
+  abbrev pub size : Segment A → ℕ
+  size s = length (tokens_of s)
+
+  -- a segment has some tokens, of this name, at the places from n on
+  abbrev pub Filled : Named → ℕ → Segment A → Type 0
+  Filled name n s = (0 < size s) × Placed name n (tokens_of s)
+
+  -- the segments have the tokens of the places from one number up to another, in order, none left out and none twice
+  abbrev pub Chain : Named → ℕ → ℕ → List (Segment A) → Type 0
+  Chain name from to [] = from ≡ to
+  Chain name from to (s ∷ ss) = Filled name from s × Chain name (from + size s) to ss
+
+  -- the lane has no name yet, and nothing in it
+  abbrev pub IsOpening : List (Segment A) → List Mark → Type 0
+  IsOpening items views = (items ≡ []) × (views ≡ opening ∷ [])
+
+  -- the one segment has no tokens, and tells what the lane's tokens are of, and the place of the first
+  abbrev pub IsTelling : List (Segment A) → List Mark → Type 0
+  IsTelling items views =
+      (s : Segment A) × (items ≡ s ∷ []) × (first_place s.tag ≤ 2 ^ 48) × (views ≡ telling (told s.tag) (first_place s.tag) ∷ [])
+
+  pub record IsRunning (items : List (Segment A)) (views : List Mark) : Type 0 where
+    -- the pass that may flush, and the one that may steal
+    pub writer : ℕ
+    pub reader : ℕ
+    -- what the tokens are of
+    pub name : Named
+    -- how many tokens were flushed, and how many of them were stolen
+    pub flushed : ℕ
+    pub stolen : ℕ
+    pub limited : flushed ≤ 2 ^ 48
+    -- the deque has those that were flushed and not stolen
+    pub chain : Chain name stolen flushed items
+    -- what the passes know is so
+    pub fits : (port : ℕ) (v : Mark) → get_elem? views port ≡ some v → Fits writer reader name flushed stolen port v
+
+  abbrev pub Laned : List (Segment A) → List Mark → Type 0
+  Laned items views = IsOpening items views ⊎ (IsTelling items views ⊎ IsRunning items views)
+
+  -- the name and the first place are told
+  abbrev pub Tells : List (Segment A) → Mark → Type 0
+  Tells [] w = ⊥
+  Tells (s ∷ ss) w = w ≡ telling (told s.tag) (first_place s.tag)
+
+  -- a segment is flushed
+  abbrev pub Flushes : Mark → List (Segment A) → Mark → Type 0
+  Flushes v [] w = ⊥
+  Flushes v (s ∷ ss) w = w ≡ mark v.stage v.writes v.reads v.writes_on v.reads_on (v.flushed + size s) v.stolen v.known
+
+  -- a segment is stolen, whose tokens stand at the next places
+  abbrev pub Steals : Mark → List (Segment A) → Mark → Type 0
+  Steals v [] w = ⊥
+  Steals v (s ∷ ss) w =
+      Filled v.reads_on v.stolen s × (v.stolen + size s ≤ 2 ^ 48)
+      × (w ≡ mark v.stage v.writes v.reads v.writes_on v.reads_on v.flushed (v.stolen + size s) v.known)
+
+  -- a segment is taken out where both ends are, whose tokens stand at the next places, up to those that were flushed
+  abbrev pub Empties : Mark → List (Segment A) → Mark → Type 0
+  Empties v [] w = ⊥
+  Empties v (s ∷ ss) w =
+      Filled v.reads_on v.stolen s × (v.stolen + size s ≤ v.flushed)
+      × (w ≡ mark v.stage v.writes v.reads v.writes_on v.reads_on v.flushed (v.stolen + size s) v.known)

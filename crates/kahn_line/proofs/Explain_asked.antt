@@ -1,0 +1,51 @@
+-- What a parse of the words gives the options of the program that explains.
+use Rattle.std.proofs.Common.{◌≡◌, ◌∙◌, List, refl, ap, arith, codes}
+use Rattle.std.specs.Prelude.{option_map, string_bytes}
+use Rattle.clap.specs.Built.{IsParsedFrom}
+use Rattle.clap.specs.Matches.{found_of, first_value, one_text}
+use Rattle.clap.specs.Simple.{App, HasMatchesOf, app_of, is_simple, matches_of}
+use Rattle.clap.specs.Walk.{Text, first_of, one_of, rows_of}
+use Rattle.clap.specs.declared.builder.command.Command.{Command}
+use Rattle.clap.specs.declared.builder.value_parser.ValueParser.TheVariants.{Unsigned}
+use Rattle.clap.specs.declared.parser.matches.ArgMatches.{ArgMatches}
+use Rattle.clap.proofs.WalkLemmas.{first_value-rows, one_text-rows}
+use Rattle.kahn_line.specs.Line.{number_or, IsSet}
+use Rattle.kahn_line.specs.Explain.{explain_app, explain_text, IsExplain}
+use Rattle.kahn_line.specs.declared.explain.ExplainOptions.{ExplainOptions}
+use Rattle.kahn_line.proofs.Asked.{ParsedAs, apart, known, passed}
+
+workers_parsed : ParsedAs explain_app.top.rules (codes "workers") (Unsigned 1 16)
+workers_parsed = (apart, (apart, ((λ e. refl), (apart, (apart, tt)))))
+
+quantum_parsed : ParsedAs explain_app.top.rules (codes "quantum") (Unsigned 1 1000000)
+quantum_parsed = (apart, (apart, (apart, ((λ e. refl), (apart, tt)))))
+
+bound_parsed : ParsedAs explain_app.top.rules (codes "bound") (Unsigned 0 281474976710655)
+bound_parsed = (apart, (apart, (apart, (apart, ((λ e. refl), tt)))))
+
+-- the options that are made of what a parse found are those that the words ask for
+pub asked_explain : (cmd : Command) (m : ArgMatches) (words : List Text) → IsParsedFrom cmd m → HasMatchesOf (app_of cmd) words m → app_of cmd ≡ explain_app
+    → (o : ExplainOptions) → option_map string_bytes o.program ≡ first_value (found_of m) (codes "PROGRAM")
+    → option_map string_bytes o.input ≡ first_value (found_of m) (codes "input") → IsSet (found_of m) 4 (codes "bound") o.config
+    → IsExplain words o
+asked_explain cmd m words p matches is o program input set =
+    let f = found_of m in
+    let rows : rows_of f ≡ matches_of explain_app words = (matches (ap is_simple is)).0 ∙ ap (λ (a : App). matches_of a words) is in
+    let text : (id : Text) → first_value f id ≡ explain_text words id = λ id. first_value-rows f id ∙ ap (first_of id) rows in
+    let one : (id : Text) → one_text f id ≡ one_of id (matches_of explain_app words) = λ id. one_text-rows f id ∙ ap (one_of id) rows in
+    let workers = known 1 16 4 (one_text f (codes "workers")) o.config.workers set.threads
+    (passed explain_app refl refl cmd m p is (codes "workers") 1 16 workers_parsed 119 refl ((λ e. omega arith), (λ e. omega arith), (λ e. omega arith))) (omega arith) (omega arith) in
+    let quantum = known 1 1000000 1000 (one_text f (codes "quantum")) o.config.quantum set.quantum
+    (passed explain_app refl refl cmd m p is (codes "quantum") 1 1000000 quantum_parsed 113 refl ((λ e. omega arith), (λ e. omega arith), (λ e. omega arith))) (omega arith) (omega arith) in
+    let bound = known 0 281474976710655 1000000 (one_text f (codes "bound")) o.config.bound set.bound
+    (passed explain_app refl refl cmd m p is (codes "bound") 0 281474976710655 bound_parsed 98 refl ((λ e. omega arith), (λ e. omega arith), (λ e. omega arith))) (omega arith) (omega arith) in
+    let most = bound.2 in
+    record {
+      program = program ∙ text (codes "PROGRAM");
+      input = input ∙ text (codes "input");
+      watch = set.watch ∙ text (codes "watch");
+      workers = workers.0 ∙ ap (number_or 4) (one (codes "workers"));
+      quantum = quantum.0 ∙ ap (number_or 1000) (one (codes "quantum"));
+      bound = bound.0 ∙ ap (number_or 1000000) (one (codes "bound"));
+      in_range = (workers.1, workers.2, quantum.1, quantum.2, omega arith);
+    }

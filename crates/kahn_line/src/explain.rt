@@ -1,0 +1,96 @@
+//! The command line of the program that explains why a run stopped.
+
+ghost use Rattle.std.specs.Prelude.{◌≡◌, IfOk, map};
+ghost use Rattle.clap.specs.Words.{app_of};
+ghost use Rattle.kahn_line.specs.Explain.{explain_app, IsExplainRead};
+
+use crate::line::{
+    LineFault, bare, config_of, copied, number_arg, quantum_arg, text_arg, workers_arg,
+};
+use clap::{Arg, Command};
+use kahn_config::Config;
+use std::alloc::{AllocError, Global};
+use std::convert::AsStr;
+
+static ABOUT: &str = "Runs a network of processes, and explains why the run stopped.";
+
+// What stands after the options in the help.
+static MORE: &str = "\
+A line is written for each process that waits or has a fault: whom it waits on, and where its chain of waits leads. That is
+an input, a process that has ended, has a fault or wants more events, or a deadlock: a ring of processes that wait on one
+another. The last line says how the run ended. With a program whose process 1 waits on 2, and 2 on 1:
+
+  kahn_explain ring.kahn
+
+  1 stage waits on A from 2 stage, as 1 stage is in a deadlock: for ever
+  2 stage waits on B from 1 stage, as 1 stage is in a deadlock: for ever
+  finished 2
+
+What is for ever stays so whatever is added to the input, and however long the run is.
+
+Exit status:
+  0  the run finished, without a deadlock and without a fault
+  1  program or input refused
+  2  command line refused
+  3  the run was stopped by the bound
+  4  no memory
+  5  a file can't be read or isn't UTF-8, or the lines can't be written
+  6  run refused: no thread could be started
+  7  processes are in a deadlock
+  8  a process has a fault of arithmetic, whatever else there is";
+
+/// What the command line asks for.
+#[derive(Debug, Drop)]
+pub struct ExplainOptions {
+    /// The path of the program text, or nothing for standard input.
+    pub program: Option<String>,
+    /// The path of the input text, or nothing for the empty text.
+    pub input: Option<String>,
+    /// How the run is set up. No channel is watched.
+    pub config: Config,
+}
+
+/// The rules of the command line.
+fn explain_command<'a>(alloc: Global) -> Result<Command<'a>, AllocError>
+    ensures { IfOk result (λ c. app_of c ≡ explain_app) }
+{
+    let program = Arg::new(alloc, "PROGRAM").help(
+        "File of the program text; standard input where it is left out",
+    );
+    let input = text_arg(
+        alloc,
+        "input",
+        "FILE",
+        "File of the input text, lines such as `A: 1 2 3`: an input channel and its values",
+    );
+    let bound = number_arg(
+        alloc,
+        "bound",
+        0,
+        281_474_976_710_655,
+        "1000000",
+        "Events after which the run is stopped, 0 to 281474976710655",
+    );
+    bare(alloc, "kahn_explain", ABOUT, MORE)?
+        .arg(program)?
+        .arg(input)?
+        .arg(workers_arg(alloc, "4"))?
+        .arg(quantum_arg(alloc))?
+        .arg(bound)
+}
+
+/// Reads the words of a command line, the first of which is the name of the program. It refuses with `Refused` where
+/// clap refuses the words, and where they ask for the help or the version, and with `NoMemory` where memory was refused.
+pub fn read_explain_line<'a, S: AsStr>(
+    alloc: Global,
+    words: &'a [S],
+) -> Result<ExplainOptions, LineFault>
+    ensures { IsExplainRead (map S.text words.now) result }
+{
+    let matches = explain_command(alloc)?.try_get_matches_from(words)?;
+    Ok(ExplainOptions {
+        program: copied(alloc, matches.get_str("PROGRAM"))?,
+        input: copied(alloc, matches.get_str("input"))?,
+        config: config_of(alloc, &matches, 4, "bound")?,
+    })
+}

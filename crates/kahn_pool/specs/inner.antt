@@ -1,0 +1,10 @@
+pub mod Bench
+pub mod Concluded
+pub mod Gathered
+pub mod Gathers
+pub mod Holding
+pub mod Meetings
+pub mod Parameters
+pub mod Rested
+pub mod Streams
+pub mod Workbench

@@ -1,0 +1,118 @@
+-- Inner. A run over cells.
+use Rattle.std.specs.Prelude.{◌≡◌, ◌⊎◌, ℕ, ◌+◌, ◌<◌, ◌≤◌, Bool, true, false, List, length, map, sum_by, Option, Some, slice_get, slice_set, cond}
+use Rattle.kahn_streams.specs.Script as script
+use Rattle.kahn_streams.specs.Script.{Dry, Cut}
+use Rattle.kahn_streams.specs.Meaning.{Store}
+use Rattle.kahn_streams.specs.Solution as net
+use Rattle.kahn_network.specs.Network.{Network, Reads, instance_at, actual_at}
+use Rattle.kahn_streams.specs.Solution.{Inputs, exec_at, source, ending}
+use Rattle.kahn_code.specs.declared.progress.Pause.{Pause}
+use Rattle.kahn_code.specs.declared.progress.Pause.TheVariants as pause
+use Rattle.kahn_code.specs.Cells.{View}
+use Rattle.kahn_pool.specs.declared.answer.End.{End}
+use Rattle.kahn_pool.specs.declared.answer.Outcome.TheVariants.{More}
+use Rattle.kahn_pool.specs.declared.answer.Verdict.{Verdict}
+use Rattle.kahn_pool.specs.inner.Gathered.{view_at, Stood, TookAll, HasUntaken, IsAtRest, IsFrom}
+use Rattle.kahn_pool.specs.Right.{line_of}
+use Rattle.kahn_pool.specs.declared.answer.Stream.{Stream}
+use Rattle.kahn_pool.specs.declared.rounds.Round.{Round}
+use Rattle.kahn_pool.specs.declared.answer.Verdict.TheVariants.{Finished, Bound, Memory}
+use Rattle.kahn_streams.specs.declared.value.Line.{Line}
+
+pub record State : Type 0 where
+  pub network : Network
+  pub input : Inputs
+  pub watch : Option ℕ
+  pub cells : List View
+
+abbrev pub events_at : State → ℕ → ℕ
+events_at s p = (view_at s.cells p).events
+
+-- what a pause says of the outcome
+abbrev pub IsPaused : State → ℕ → Pause → script.Outcome Store → Type 0
+IsPaused s p pause.Ended o = ending o ≡ Some net.Ended
+IsPaused s p (pause.Fault k) o = ending o ≡ Some (net.Faulted k)
+IsPaused s p (pause.Dry q) o =
+    (c : ℕ) × (actual_at (instance_at s.network p) q ≡ Reads c) × (o ≡ Dry q) × TookAll s.network s.input s.cells p q c
+IsPaused s p pause.Spent o = (o ≡ Cut) ⊎ HasUntaken s.network s.input s.cells p o
+IsPaused s p pause.NoMemory o = o ≡ Cut
+
+pub record Paused (s : State) (p : ℕ) (z : Pause) : Type 0 where
+  pub stood : Stood s.network s.input s.watch p (view_at s.cells p)
+  pub told : IsPaused s p z (exec_at s.network (events_at s p) p stood.tapes).outcome
+
+-- of the same network and input, with the same channel watched
+abbrev pub IsSameRun : State → State → Type 0
+IsSameRun s t = (t.network ≡ s.network) × (t.input ≡ s.input) × (t.watch ≡ s.watch)
+
+-- the cell of p was run for at most so many events, and paused so
+pub record HasRun (s t : State) (p quantum : ℕ) (z : Pause) : Type 0 where
+  pub same : IsSameRun s t
+  -- the other cells are left as they are
+  pub only : t.cells ≡ slice_set s.cells p (view_at t.cells p)
+  pub events : (events_at s p ≤ events_at t p) × (events_at t p ≤ events_at s p + quantum)
+  -- where no event was done all is as before
+  pub still : events_at t p ≡ events_at s p → t ≡ s
+  pub paused : Paused t p z
+  pub spent : z ≡ pause.Spent → events_at t p ≡ events_at s p + quantum
+  pub wanted : z ≡ pause.NoMemory → events_at t p < events_at s p + quantum
+
+abbrev pub Rests : State → ℕ → End → Type 0
+Rests s p x = IsAtRest s.network s.input s.watch s.cells p x
+
+-- ---- rounds
+
+abbrev pub view_events : View → ℕ
+view_events v = v.events
+
+-- the events of all instances
+abbrev pub all_events : State → ℕ
+all_events s = sum_by view_events s.cells
+
+-- how much there is to do: it falls with each event, and where memory is wanted for the first time
+abbrev pub weight : ℕ → Bool → ℕ
+weight left memory = left + cond memory 0 1
+
+-- each end is that of its instance, which wants more only where it may not go on
+abbrev pub AreEnds : State → ℕ → Bool → List End → Type 0
+AreEnds s left memory ends =
+    (p : ℕ) (x : End) → slice_get ends p ≡ Some x → Rests s p x × (x.outcome ≡ More → (left ≡ 0) ⊎ (memory ≡ true))
+
+-- a round from s0 with so much to do and so many events in all, at instance k
+pub record Goes (s0 : State) (w0 t0 : ℕ) (s : State) (left : ℕ) (memory moved : Bool) (ends : List End) (k : ℕ) : Type 0 where
+  pub network : s.network ≡ s0.network
+  pub input : s.input ≡ s0.input
+  pub watch : s.watch ≡ s0.watch
+  pub known : length s.cells ≡ length s.network.instances
+  pub total : all_events s + left ≡ t0
+  pub size : length ends ≡ k
+  pub still : moved ≡ false → AreEnds s left memory ends
+  pub falls : moved ≡ true → weight left memory < w0
+  pub rises : weight left memory ≤ w0
+
+abbrev pub GoesIn : State → ℕ → ℕ → State → Round → ℕ → Type 0
+GoesIn s0 w0 t0 s r k = Goes s0 w0 t0 s r.left r.memory r.moved r.ends.items k
+
+-- how a round is marked after so many events and this pause
+abbrev pub Marked : Pause → ℕ → Bool → Bool → Bool → Bool → Type 0
+Marked z done memory moved memory' moved' =
+    ((z ≡ pause.NoMemory) × (memory' ≡ true) × (moved' ≡ true)) ⊎
+    ((z ≡ pause.NoMemory → ⊥) × (memory' ≡ memory) × (((0 < done) × (moved' ≡ true)) ⊎ ((done ≡ 0) × (moved' ≡ moved))))
+
+-- after the last round: with so many events and so much left in all, each end is that of its instance
+pub record IsLast (s : State) (t0 left : ℕ) (memory : Bool) (xs : List End) : Type 0 where
+  pub known : length s.cells ≡ length s.network.instances
+  pub total : all_events s + left ≡ t0
+  pub size : length xs ≡ length s.network.instances
+  pub ends : AreEnds s left memory xs
+
+-- the rule of verdicts
+abbrev pub IsVerdict : Bool → List End → Verdict → Type 0
+IsVerdict memory ends Memory = memory ≡ true
+IsVerdict memory ends Finished = (memory ≡ false) × ((p : ℕ) (x : End) → slice_get ends p ≡ Some x → x.outcome ≡ More → ⊥)
+IsVerdict memory ends Bound = (memory ≡ false) × ((p : ℕ) × (x : End) × (slice_get ends p ≡ Some x) × (x.outcome ≡ More))
+
+-- these are the streams of the answer
+pub record AreStreams (s : State) (streams : List Stream) (lines : List Line) : Type 0 where
+  pub named : map line_of streams ≡ lines
+  pub each : (j : ℕ) (x : Stream) → slice_get streams j ≡ Some x → IsFrom s.network s.input s.watch s.cells (source s.network x.line) x.line x.tokens.items

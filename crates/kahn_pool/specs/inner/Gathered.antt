@@ -1,0 +1,109 @@
+-- Inner. Cells at rest, and the answer that is put together from them.
+use Rattle.std.specs.Prelude.{◌≡◌, ◌⊎◌, ℕ, ◌<◌, ◌≤◌, List, [], length, map, sum_by, Option, Some, slice_get, slice_index_or, true}
+use Rattle.kahn_streams.specs.declared.value.Line.{Line}
+use Rattle.kahn_streams.specs.declared.value.Line.TheVariants.{Channel, Print}
+use Rattle.kahn_streams.specs.Script as script
+use Rattle.kahn_streams.specs.Script.{Dry, Cut}
+use Rattle.kahn_streams.specs.Steps.{empty}
+use Rattle.kahn_streams.specs.Meaning.{Store}
+use Rattle.kahn_streams.specs.Solution as net
+use Rattle.kahn_network.specs.Network.{Network, Reads, Writes, instance_at, actual_at, Source, Given, Written, Nobody}
+use Rattle.kahn_streams.specs.Solution.{Histories, Inputs, exec_at, out, source, fed, ending}
+use Rattle.kahn_pool.specs.declared.answer.Answer.{Answer}
+use Rattle.kahn_pool.specs.declared.answer.Stream.{Stream}
+use Rattle.kahn_pool.specs.declared.answer.End.{End}
+use Rattle.kahn_streams.specs.declared.token.Token.{Token}
+use Rattle.kahn_pool.specs.declared.answer.Verdict.{Verdict}
+use Rattle.kahn_pool.specs.declared.answer.Verdict.TheVariants.{Finished, Bound}
+use Rattle.kahn_pool.specs.declared.answer.Outcome.{Outcome}
+use Rattle.kahn_pool.specs.declared.answer.Outcome.TheVariants.{Ended, Waits, Faulted, More}
+use Rattle.kahn_code.specs.Cells.{AllStand, View, IsKept, is_streamed}
+use Rattle.kahn_pool.specs.Right.{line_of, events_of, stream_lines, HasStream}
+
+abbrev pub nothing : View
+nothing = record { events = 0; taken = λ q. 0; sent = λ q. 0; kept = λ q. []; printed = [] }
+
+abbrev pub view_at : List View → ℕ → View
+view_at cells p = slice_index_or cells p nothing
+
+-- What the cell of instance p says: on the values that it took the process does its events and takes all of them; these
+-- values stand on the channels that it reads; it sent so many, and kept what it sent on streams.
+pub record Stood (N : Network) (I : Inputs) (watch : Option ℕ) (p : ℕ) (c : View) : Type 0 where
+  pub tapes : Histories
+  pub does : (exec_at N c.events p tapes).events ≡ c.events
+  pub all : (exec_at N c.events p tapes).left ≡ empty
+  pub stand : (d : Line) → AllStand N I d (tapes d)
+  pub took : (q d : ℕ) → actual_at (instance_at N p) q ≡ Reads d → length (tapes (Channel d)) ≡ c.taken q
+  pub only : (d : Line) → (tapes d ≡ []) ⊎ ((q b : ℕ) × (d ≡ Channel b) × (actual_at (instance_at N p) q ≡ Reads b))
+  pub gave : (q d : ℕ) → actual_at (instance_at N p) q ≡ Writes d → length (out N c.events p tapes (Channel d)) ≡ c.sent q
+  pub kept : (q d : ℕ) → actual_at (instance_at N p) q ≡ Writes d → is_streamed N watch d ≡ true →
+      IsKept N I (Channel d) (out N c.events p tapes (Channel d)) (c.kept q)
+  pub printed : IsKept N I (Print p) (out N c.events p tapes (Print p)) c.printed
+
+-- so many values were given to channel c, by its writer or by the input
+abbrev pub IsGiven : Network → Inputs → List View → ℕ → Source → ℕ → Type 0
+IsGiven N I cells c Given n = length (I c) ≡ n
+IsGiven N I cells c (Written w) n = (o : ℕ) × (actual_at (instance_at N w) o ≡ Writes c) × ((view_at cells w).sent o ≡ n)
+IsGiven N I cells c Nobody n = ⊥
+
+-- no reader took more than was given
+abbrev pub AreWithin : Network → Inputs → List View → Type 0
+AreWithin N I cells =
+    (p q c : ℕ) → actual_at (instance_at N p) q ≡ Reads c → (n : ℕ) × IsGiven N I cells c (source N (Channel c)) n × ((view_at cells p).taken q ≤ n)
+
+-- instance p reads c, of which it took all
+abbrev pub TookAll : Network → Inputs → List View → ℕ → ℕ → ℕ → Type 0
+TookAll N I cells p q c = IsGiven N I cells c (source N (Channel c)) ((view_at cells p).taken q)
+
+-- instance p is dry on a channel of which it did not take all
+abbrev pub HasUntaken : Network → Inputs → List View → ℕ → script.Outcome Store → Type 0
+HasUntaken N I cells p o =
+    (q c n : ℕ) × (actual_at (instance_at N p) q ≡ Reads c) × (o ≡ Dry q) × IsGiven N I cells c (source N (Channel c)) n × ((view_at cells p).taken q < n)
+
+-- the rule of outcomes: what stands in the answer for a cell that is so
+abbrev pub IsTold : Network → Inputs → List View → ℕ → script.Outcome Store → Outcome → Type 0
+IsTold N I cells p o Ended = ending o ≡ Some net.Ended
+IsTold N I cells p o (Faulted k) = ending o ≡ Some (net.Faulted k)
+IsTold N I cells p o (Waits c) = (q : ℕ) × (actual_at (instance_at N p) q ≡ Reads c) × (o ≡ Dry q) × TookAll N I cells p q c
+IsTold N I cells p o More = (o ≡ Cut) ⊎ HasUntaken N I cells p o
+
+-- the cell of p stands so, and x is its end
+pub record IsAtRest (N : Network) (I : Inputs) (watch : Option ℕ) (cells : List View) (p : ℕ) (x : End) : Type 0 where
+  pub stood : Stood N I watch p (view_at cells p)
+  pub count : x.events ≡ (view_at cells p).events
+  pub told : IsTold N I cells p (exec_at N (view_at cells p).events p stood.tapes).outcome x.outcome
+
+-- these tokens are the stream of line c: what its writer kept, or the input's list
+abbrev pub IsFrom : Network → Inputs → Option ℕ → List View → Source → Line → List Token → Type 0
+IsFrom N I watch cells Given (Channel c) ts = IsKept N I (Channel c) (I c) ts
+IsFrom N I watch cells (Written p) (Channel c) ts =
+    (q : ℕ) × (actual_at (instance_at N p) q ≡ Writes c) × (is_streamed N watch c ≡ true) × (ts ≡ (view_at cells p).kept q)
+IsFrom N I watch cells (Written p) (Print r) ts = ts ≡ (view_at cells p).printed
+IsFrom N I watch cells Given (Print r) ts = ⊥
+IsFrom N I watch cells Nobody c ts = ⊥
+
+-- what the input and the writers gave to each line
+abbrev pub tapes_from : Network → Inputs → (ℕ → ℕ) → (ℕ → Histories) → Histories
+tapes_from N I events T c = fed (source N c) I (λ p. out N (events p) p (T p) c) c
+
+-- these are the verdict, the ends and the events of a run that stopped
+pub record IsStopped (N : Network) (I : Inputs) (bound : ℕ) (watch : Option ℕ) (v : Verdict) (ends : List End) (events : ℕ) : Type 0 where
+  -- from the cells
+  pub cells : List View
+  pub known : length cells ≡ length N.instances
+  pub instances : length ends ≡ length N.instances
+  pub each : (p : ℕ) (x : End) → slice_get ends p ≡ Some x → IsAtRest N I watch cells p x
+  -- from the channels
+  pub channels : AreWithin N I cells
+  -- the rule of verdicts
+  pub finished : v ≡ Finished → (p : ℕ) (x : End) → slice_get ends p ≡ Some x → x.outcome ≡ More → ⊥
+  pub bounded : v ≡ Bound → (events ≡ bound) × ((p : ℕ) × (x : End) × (slice_get ends p ≡ Some x) × (x.outcome ≡ More))
+  -- the count of events
+  pub total : events ≡ sum_by events_of ends
+  pub within : events ≤ bound
+
+pub record IsGathered (N : Network) (I : Inputs) (bound : ℕ) (watch : Option ℕ) (a : Answer) : Type 0 where
+  pub stopped : IsStopped N I bound watch a.verdict a.ends.items a.events
+  -- the lists that the cells kept, and the list of a watched input channel
+  pub lines : map line_of a.streams.items ≡ stream_lines N watch
+  pub streams : (s : Stream) → HasStream a s → IsFrom N I watch stopped.cells (source N s.line) s.line s.tokens.items

@@ -1,0 +1,87 @@
+-- Inner. The jobs of a held run.
+use Rattle.std.specs.Prelude.{◌≡◌, ℕ, ◌+◌, ◌<◌, ◌≤◌, ◌^◌, Bool, List, [], length, map, sum_by, Option, Some, None, Err, MatchResult, slice_get, vec_capacity}
+use Rattle.kahn_tree.specs.declared.tree.Program.{Program}
+use Rattle.kahn_network.specs.Network.{network_of}
+use Rattle.kahn_streams.specs.Laws.{AreInputsExtended}
+use Rattle.kahn_streams.specs.Tokens.{Lists, inputs_of}
+use Rattle.kahn_code.specs.Cells.{View, StoodBy}
+use Rattle.kahn_code.specs.Told.{Told, told_view}
+use Rattle.kahn_job.specs.inner.Idles.{AreIdle, cells_of}
+use Rattle.kahn_job.specs.inner.Works.{Work}
+use Rattle.kahn_pool.specs.inner.Bench.{State}
+use Rattle.kahn_pool.specs.inner.Concluded.{IsConcluded}
+use Rattle.kahn_config.specs.Limits.{IsInRange}
+use Rattle.kahn_pool.specs.declared.answer.End.{End}
+use Rattle.kahn_pool.specs.declared.answer.Verdict.{Verdict}
+use Rattle.kahn_pool.specs.declared.part.PartRoom.{PartRoom}
+use Rattle.kahn_pool.specs.declared.part.Stopped.{Stopped}
+use Rattle.kahn_crew.specs.inner.Wants.{IsWant}
+use Rattle.kahn_crew.specs.declared.plan.Plan.{Plan}
+use Rattle.kahn_crew.specs.declared.fault.CrewFault.TheVariants.{NoMemory}
+
+abbrev pub cells_seen : List Work → List View
+cells_seen ws = map told_view (cells_of ws)
+
+-- the cell without its input
+abbrev pub cell_alone : Told → Told
+cell_alone c = record c { input = [] }
+
+abbrev pub work_events : Work → ℕ
+work_events w = w.cell.events
+
+-- what rounds see of the jobs
+abbrev pub held_state : Program → Lists → Option ℕ → List Work → State
+held_state t lists watch ws = record { network = network_of t; input = inputs_of lists; watch = watch; cells = cells_seen ws }
+
+-- the jobs of all instances at rest, with so much left of the bound; what each cell says is true of its process
+pub record AreHeld (t : Program) (lists : Lists) (watch : Option ℕ) (bound : ℕ) (ws : List Work) (budget : ℕ) : Type 0 where
+  pub idle : AreIdle t lists ws
+  pub watched : (p : ℕ) (w : Work) → slice_get ws p ≡ Some w → w.cell.watch ≡ watch
+  pub stood : (p : ℕ) (w : Work) → slice_get ws p ≡ Some w → StoodBy (network_of t) (inputs_of w.cell.input) watch p (told_view w.cell)
+  pub events : budget + sum_by work_events ws ≡ bound
+
+-- where there is a verdict, it and the ends are those of the last part
+abbrev pub AreEnded : State → ℕ → ℕ → List End → Option Verdict → Type 0
+AreEnded s bound budget ends None = Unit {0}
+AreEnded s bound budget ends (Some v) = (halted : Bool) × IsConcluded s bound budget halted v ends
+
+-- all that a held run keeps
+pub record IsHolding (t compiled : Program) (lists : Lists) (watch : Option ℕ) (workers quantum bound : ℕ) (ws : List Work) (budget : ℕ) (ends : List End)
+    (verdict : Option Verdict) : Type 0 where
+  pub code : compiled ≡ t
+  pub fits : length lists ≡ length (network_of t).channels
+  pub range : IsInRange workers quantum bound
+  pub held : AreHeld t lists watch bound ws budget
+  pub ended : AreEnded (held_state t lists watch ws) bound budget ends verdict
+
+-- the job has done no fewer events, and its input has grown
+pub record HasRisen (w v : Work) : Type 0 where
+  pub events : w.cell.events ≤ v.cell.events
+  pub input : AreInputsExtended (inputs_of w.cell.input) (inputs_of v.cell.input)
+
+abbrev pub HaveRisen : List Work → List Work → Type 0
+HaveRisen old new = (p : ℕ) (w v : Work) → slice_get old p ≡ Some w → slice_get new p ≡ Some v → HasRisen w v
+
+-- such a part may run: the code is the network's, the numbers are within their limits, and the jobs are those of a held run
+pub record IsPart (t compiled : Program) (lists : Lists) (plan : Plan) (bound : ℕ) (ws : List Work) : Type 0 where
+  pub code : compiled ≡ t
+  pub few : (1 ≤ plan.workers) × (plan.workers ≤ 16)
+  pub quantum : 0 < plan.quantum
+  pub bounded : bound < 2 ^ 48
+  pub held : AreHeld t lists plan.watch bound ws plan.bound
+
+-- a part of a run with so many events, of which the bound of all is the sum, has left these jobs: none has done fewer events;
+-- with a verdict it and the ends are those of the jobs; and where memory was refused nothing was done
+pub record HasStopped (t : Program) (lists : Lists) (watch : Option ℕ) (workers bound : ℕ) (old : List Work) (more : ℕ) (r : Stopped) : Type 0 where
+  pub held : AreHeld t lists watch bound r.idles.items r.budget
+  pub risen : HaveRisen old r.idles.items
+  pub outcome : MatchResult r.outcome
+      (λ v. (halted : Bool) × IsConcluded (held_state t lists watch r.idles.items) bound r.budget halted v r.ends.items)
+      (IsWant workers)
+  pub untouched : r.outcome ≡ Err NoMemory → (r.budget ≡ more) × (map cell_alone (cells_of r.idles.items) ≡ map cell_alone (cells_of old))
+
+-- there is room for so many tasks, jobs and ends
+pub record IsRoomFor (n : ℕ) (r : PartRoom) : Type 0 where
+  pub tasks : (r.tasks.items ≡ []) × (n ≤ vec_capacity r.tasks)
+  pub idles : (r.idles.items ≡ []) × (n ≤ vec_capacity r.idles)
+  pub ends : n ≤ vec_capacity r.ends

@@ -1,0 +1,103 @@
+-- Inner. How tasks stand when no more is run, and what stands in the answer for each.
+use Rattle.std.specs.Prelude.{◌≡◌, ◌⊎◌, ℕ, List, length, map, Option, Some, slice_get}
+use Rattle.kahn_tree.specs.declared.tree.Program.{Program}
+use Rattle.kahn_network.specs.Network.{Reads, network_of, instance_at, actual_at}
+use Rattle.kahn_streams.specs.Script as script
+use Rattle.kahn_streams.specs.Script.{Cut, Dry}
+use Rattle.kahn_streams.specs.Meaning.{Store}
+use Rattle.kahn_streams.specs.Tokens.{Lists, inputs_of}
+use Rattle.kahn_code.specs.Progress.{Paused}
+use Rattle.kahn_code.specs.Standing.{count}
+use Rattle.kahn_code.specs.Told.{Told, told_view}
+use Rattle.kahn_job.specs.inner.Ends.{IsReady}
+use Rattle.kahn_job.specs.inner.Berths.{IsFed, end_at}
+use Rattle.kahn_job.specs.inner.Works.{Work, IsJob}
+use Rattle.kahn_crew.specs.declared.standing.Standing.{Standing}
+use Rattle.kahn_crew.specs.declared.standing.Standing.TheVariants as standing
+use Rattle.kahn_crew.specs.inner.Tasks.{Tasked, Continues, IsStanding, handed}
+use Rattle.kahn_crew.specs.inner.Left.{AreAll}
+use Rattle.kahn_pool.specs.inner.Bench.{State}
+use Rattle.kahn_pool.specs.declared.answer.End.{End}
+use Rattle.kahn_pool.specs.declared.answer.Outcome.{Outcome}
+use Rattle.kahn_pool.specs.declared.answer.Outcome.TheVariants as outcome
+
+abbrev pub cell_of : Tasked → Told
+cell_of x = x.work.cell
+
+-- what rounds see of the tasks
+abbrev pub state_of : Program → Lists → Option ℕ → List Tasked → State
+state_of t lists watch tasks =
+    record { network = network_of t; input = inputs_of lists; watch = watch; cells = map told_view (map cell_of tasks) }
+
+-- the task is that of instance p
+pub record IsTaskOf (t : Program) (lists : Lists) (watch : Option ℕ) (p : ℕ) (x : Tasked) : Type 0 where
+  pub network : x.work.cell.network ≡ t
+  pub input : x.work.cell.input ≡ lists
+  pub instance : x.work.cell.instance ≡ p
+  pub watched : x.work.cell.watch ≡ watch
+
+-- the tasks of all instances, in order
+pub record AreTasks (t : Program) (lists : Lists) (watch : Option ℕ) (tasks : List Tasked) : Type 0 where
+  pub count : length tasks ≡ length (network_of t).instances
+  pub each : (p : ℕ) (x : Tasked) → slice_get tasks p ≡ Some x → IsTaskOf t lists watch p x
+
+-- what it says of the outcome of a process that no more is run: where it may go on it has a next event, or a token is
+-- ready on the channel that it reads
+abbrev pub IsSaid : Work → Standing → script.Outcome Store → Type 0
+IsSaid w standing.Going o = (o ≡ Cut) ⊎ ((q d : ℕ) × (handed w q ≡ Reads d) × (o ≡ Dry q) × IsReady (end_at w.ends q))
+IsSaid w standing.Ended o = IsStanding standing.Ended o
+IsSaid w (standing.Faulted k) o = IsStanding (standing.Faulted k) o
+IsSaid w (standing.Dry q) o = IsStanding (standing.Dry q) o
+
+abbrev pub Says : Work → Standing → Type 0
+Says w s =
+    Paused (network_of w.cell.network) (inputs_of w.cell.input) w.cell.watch w.cell.instance (told_view w.cell) (IsSaid w s)
+
+pub record IsSettled (x : Tasked) : Type 0 where
+  pub says : Says x.work x.standing
+  pub job : IsJob x.work
+  pub fed : (q : ℕ) → IsFed (end_at x.work.ends q)
+
+-- the first task was settled: the second is a later state of it, after as many events; one that may not go on is the same
+pub record SettlesTo (old new : Tasked) : Type 0 where
+  pub later : Continues old new
+  pub events : new.work.cell.events ≡ old.work.cell.events
+  pub still : (old.standing ≡ standing.Going → ⊥) → new ≡ old
+  pub settled : IsSettled new
+
+pub record HaveSettled (old new : List Tasked) : Type 0 where
+  pub count : length new ≡ length old
+  pub each : (p : ℕ) (x y : Tasked) → slice_get old p ≡ Some x → slice_get new p ≡ Some y → SettlesTo x y
+
+-- ---- ends
+
+-- the parameter of the instance reads a channel
+abbrev pub IsDryOf : Program → ℕ → ℕ → Type 0
+IsDryOf t p q = (d : ℕ) × (actual_at (instance_at (network_of t) p) q ≡ Reads d)
+
+-- the tasks of all instances, in order; one that is dry is so on a parameter that reads a channel
+pub record AreTold (t : Program) (tasks : List Tasked) : Type 0 where
+  pub count : length tasks ≡ length (network_of t).instances
+  pub network : (p : ℕ) (x : Tasked) → slice_get tasks p ≡ Some x → x.work.cell.network ≡ t
+  pub instance : (p : ℕ) (x : Tasked) → slice_get tasks p ≡ Some x → x.work.cell.instance ≡ p
+  pub dry : (p q : ℕ) (x : Tasked) → slice_get tasks p ≡ Some x → x.standing ≡ standing.Dry q → IsDryOf t p q
+
+-- what stands in the answer for a task among these
+abbrev pub IsToldAs : Program → Lists → List Tasked → Tasked → Outcome → Type 0
+IsToldAs t lists tasks x outcome.Ended = x.standing ≡ standing.Ended
+IsToldAs t lists tasks x (outcome.Faulted k) = x.standing ≡ standing.Faulted k
+IsToldAs t lists tasks x (outcome.Waits c) =
+    (q : ℕ) × (x.standing ≡ standing.Dry q) × (handed x.work q ≡ Reads c) × AreAll t lists tasks c (count x.work.cell.taken q)
+IsToldAs t lists tasks x outcome.More =
+    (x.standing ≡ standing.Going)
+    ⊎ ((q d : ℕ) × (x.standing ≡ standing.Dry q) × (handed x.work q ≡ Reads d) × (AreAll t lists tasks d (count x.work.cell.taken q) → ⊥))
+
+-- the end of a task among these
+pub record IsEndOf (t : Program) (lists : Lists) (tasks : List Tasked) (x : Tasked) (e : End) : Type 0 where
+  pub events : e.events ≡ x.work.cell.events
+  pub told : IsToldAs t lists tasks x e.outcome
+
+-- the ends of the first n of these tasks
+pub record AreEndsOf (t : Program) (lists : Lists) (tasks : List Tasked) (ends : List End) (n : ℕ) : Type 0 where
+  pub count : length ends ≡ n
+  pub each : (p : ℕ) (x : Tasked) (e : End) → slice_get tasks p ≡ Some x → slice_get ends p ≡ Some e → IsEndOf t lists tasks x e

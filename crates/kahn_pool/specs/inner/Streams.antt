@@ -1,0 +1,84 @@
+-- Inner. The streams of an answer, and the lists from which they are filled.
+use Rattle.std.specs.Prelude.{◌≡◌, ℕ, ◌<◌, List, [], length, map, Option, Some, slice_get, slice_index_or}
+use Rattle.kahn_streams.specs.declared.value.Line.{Line}
+use Rattle.kahn_streams.specs.declared.value.Line.TheVariants.{Channel, Print}
+use Rattle.kahn_streams.specs.declared.token.Token.{Token}
+use Rattle.kahn_streams.specs.Solution.{Inputs, source}
+use Rattle.kahn_network.specs.Network.{Network, Writes, Source, Given, Written, Nobody, instance_at, actual_at}
+use Rattle.kahn_code.specs.declared.cell.Kept.{Kept}
+use Rattle.kahn_code.specs.Cells.{IsKept}
+use Rattle.kahn_pool.specs.declared.answer.Stream.{Stream}
+use Rattle.kahn_pool.specs.Right.{line_of, stream_lines}
+
+-- the lines of the streams, for some watched channel
+abbrev pub AreNamed : Network → List Stream → Type 0
+AreNamed N streams = (watch : Option ℕ) × (map line_of streams ≡ stream_lines N watch)
+
+-- the network has that channel, or that instance
+abbrev pub IsDeclared : Network → Line → Type 0
+IsDeclared N (Channel c) = c < length N.channels
+IsDeclared N (Print p) = p < length N.instances
+
+-- the stream has no tokens yet
+abbrev pub IsBare : Stream → Type 0
+IsBare x = x.tokens.items ≡ []
+
+-- ---- what the cells kept
+
+-- by the number of the parameter, the tokens that a cell kept
+abbrev pub kept_lists : {A : Type 0} → Kept A → List (List Token)
+kept_lists l = map (λ v. v.items) l.kept.items
+
+abbrev pub printed_list : {A : Type 0} → Kept A → List Token
+printed_list l = l.printed.items
+
+-- what instance p kept on parameter q
+abbrev pub kept_in : {A : Type 0} → List (Kept A) → ℕ → ℕ → List Token
+kept_in ls p q = slice_index_or (slice_index_or (map kept_lists ls) p []) q []
+
+-- what instance p printed
+abbrev pub printed_in : {A : Type 0} → List (Kept A) → ℕ → List Token
+printed_in ls p = slice_index_or (map printed_list ls) p []
+
+-- lists for each instance, one for each of its parameters
+pub record AreLists {A : Type 0} (N : Network) (ls : List (Kept A)) : Type 0 where
+  pub count : length ls ≡ length N.instances
+  pub parameters : (p : ℕ) (l : Kept A) → slice_get ls p ≡ Some l → length l.kept.items ≡ length (instance_at N p).actuals
+
+-- ---- streams that are filled from the lists
+
+-- a line of this source with these tokens before has those after: what its writer kept; a list of the input stays
+abbrev pub IsFilled : {A : Type 0} → Network → List (Kept A) → Source → Line → List Token → List Token → Type 0
+IsFilled N ls Given c before after = after ≡ before
+IsFilled N ls (Written p) (Channel c) before after = (q : ℕ) × (actual_at (instance_at N p) q ≡ Writes c) × (after ≡ kept_in ls p q)
+IsFilled N ls (Written p) (Print r) before after = after ≡ printed_in ls p
+IsFilled N ls Nobody c before after = ⊥
+
+pub record AreFilled {A : Type 0} (N : Network) (ls : List (Kept A)) (old new : List Stream) : Type 0 where
+  pub lines : map line_of new ≡ map line_of old
+  pub each : (j : ℕ) (x y : Stream) → slice_get old j ≡ Some x → slice_get new j ≡ Some y →
+      IsFilled N ls (source N y.line) y.line x.tokens.items y.tokens.items
+
+-- the lists of every other line are as before
+abbrev pub KeepsOthers : {A : Type 0} → Network → Line → List (Kept A) → List (Kept A) → Type 0
+KeepsOthers N c old new =
+    (d : Line) → (d ≡ c → ⊥) → (before after : List Token) → IsFilled N new (source N d) d before after → IsFilled N old (source N d) d before after
+
+-- ---- streams that are given the lists of the input
+
+-- each stream of an input channel has the whole list of that channel
+abbrev pub HasInputs : Network → Inputs → List Stream → Type 0
+HasInputs N I streams =
+    (j c : ℕ) (x : Stream) → slice_get streams j ≡ Some x → x.line ≡ Channel c → source N (Channel c) ≡ Given → IsKept N I (Channel c) (I c) x.tokens.items
+
+-- a line of this source with these tokens before has those after: the whole list of an input channel; all others stay
+abbrev pub HasInput : Network → Inputs → Source → Line → List Token → List Token → Type 0
+HasInput N I Given (Channel c) before after = IsKept N I (Channel c) (I c) after
+HasInput N I Given (Print r) before after = after ≡ before
+HasInput N I (Written p) c before after = after ≡ before
+HasInput N I Nobody c before after = after ≡ before
+
+pub record HaveInput (N : Network) (I : Inputs) (old new : List Stream) : Type 0 where
+  pub lines : map line_of new ≡ map line_of old
+  pub each : (j : ℕ) (x y : Stream) → slice_get old j ≡ Some x → slice_get new j ≡ Some y →
+      HasInput N I (source N y.line) y.line x.tokens.items y.tokens.items

@@ -1,0 +1,81 @@
+-- Inner. The cells of a network over its plain queues, as a run on one thread has them.
+use Rattle.std.specs.Prelude.{◌≡◌, ℕ, ◌≤◌, List, [], length, map, replicate, Option, Some, slice_get}
+use Rattle.kahn_tree.specs.declared.tree.Program.{Program}
+use Rattle.kahn_network.specs.Network.{network_of, instance_at}
+use Rattle.kahn_network.specs.Wiring.{IsWellWired}
+use Rattle.kahn_streams.specs.Tokens.{Lists, inputs_of}
+use Rattle.kahn_code.specs.Lines.{Lines as Queues, place_at}
+use Rattle.kahn_code.specs.Told.{Told, told_view, IsAt}
+use Rattle.kahn_code.specs.declared.cell.Kept.{Kept}
+use Rattle.kahn_pool.specs.inner.Bench.{State}
+use Rattle.kahn_pool.specs.Right.{line_of, stream_lines}
+use Rattle.kahn_pool.specs.inner.Streams.{HasInputs, kept_lists, printed_list}
+use Rattle.kahn_pool.specs.declared.answer.Stream.{Stream}
+
+-- the program and the input, the watched channel, the program of the code, the cells and the queues
+pub record Table : Type 0 where
+  pub network : Program
+  pub input : Lists
+  pub watch : Option ℕ
+  pub code : Program
+  pub cells : List Told
+  pub queues : Queues
+
+-- what rounds see of it
+abbrev pub state_of : Table → State
+state_of b = record { network = network_of b.network; input = inputs_of b.input; watch = b.watch; cells = map told_view b.cells }
+
+-- the cell is that of instance p, and stands where the queues stand
+pub record IsSeated (b : Table) (p : ℕ) (c : Told) : Type 0 where
+  pub network : c.network ≡ b.network
+  pub input : c.input ≡ b.input
+  pub instance : c.instance ≡ p
+  pub watch : c.watch ≡ b.watch
+  pub at : IsAt c (place_at b.queues p)
+
+-- a cell for each instance, and the queues of the same network and input
+pub record IsLaid (b : Table) : Type 0 where
+  pub wired : IsWellWired b.network
+  pub code : b.code ≡ b.network
+  pub count : length b.cells ≡ length (network_of b.network).instances
+  pub each : (p : ℕ) (c : Told) → slice_get b.cells p ≡ Some c → IsSeated b p c
+  pub network : b.queues.network ≡ b.network
+  pub input : b.queues.input ≡ b.input
+
+-- the cell of instance p at its opening
+pub record IsOpening (t : Program) (lists : Lists) (watch : Option ℕ) (p : ℕ) (c : Told) : Type 0 where
+  pub network : c.network ≡ t
+  pub input : c.input ≡ lists
+  pub instance : c.instance ≡ p
+  pub watched : c.watch ≡ watch
+  pub events : c.events ≡ 0
+  pub taken : c.taken ≡ replicate (length (instance_at (network_of t) p).actuals) 0
+  pub sent : c.sent ≡ replicate (length (instance_at (network_of t) p).actuals) 0
+
+-- the cells of the first n instances at their openings
+pub record AreOpening (t : Program) (lists : Lists) (watch : Option ℕ) (cells : List Told) (n : ℕ) : Type 0 where
+  pub count : length cells ≡ n
+  pub each : (p : ℕ) (c : Told) → slice_get cells p ≡ Some c → IsOpening t lists watch p c
+
+-- the streams of an answer before any cell's token was moved there: an input channel has its whole list
+pub record AreOpen (t : Program) (lists : Lists) (watch : Option ℕ) (streams : List Stream) : Type 0 where
+  pub lines : map line_of streams ≡ stream_lines (network_of t) watch
+  pub given : HasInputs (network_of t) (inputs_of lists) streams
+
+-- there are streams, and room for what each cell kept
+pub record AreReady {A : Type 0} (t : Program) (lists : Lists) (watch : Option ℕ) (streams : List Stream) (kept : List A) (room : ℕ) : Type 0 where
+  pub begun : AreOpen t lists watch streams
+  pub empty : kept ≡ []
+  pub enough : length (network_of t).instances ≤ room
+
+abbrev pub parameters_of : {A : Type 0} → Kept A → ℕ
+parameters_of k = length k.kept.items
+
+abbrev pub actuals_of : Told → ℕ
+actuals_of c = length (instance_at (network_of c.network) c.instance).actuals
+
+-- these are the lists that the cells kept
+pub record AreKeptOf {A : Type 0} (cells : List Told) (kept : List (Kept A)) : Type 0 where
+  pub sent : map kept_lists kept ≡ map (λ (c : Told). c.kept) cells
+  pub printed : map printed_list kept ≡ map (λ (c : Told). c.printed) cells
+  pub parameters : map parameters_of kept ≡ map actuals_of cells

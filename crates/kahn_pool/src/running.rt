@@ -1,0 +1,77 @@
+//! Runs of a network.
+
+ghost use Rattle.kahn_network.specs.Network.{network_of};
+ghost use Rattle.kahn_pool.specs.Exact.{Settles};
+ghost use Rattle.kahn_pool.specs.Runs.{IsRun, IsUndeclared, IsUnrun, IsWatched};
+ghost use Rattle.kahn_pool.specs.declared.config.RunFault.TheVariants.{UnknownWatch};
+ghost use Rattle.kahn_streams.specs.Tokens.{inputs_of};
+ghost use Rattle.std.specs.Prelude.{◌≡◌, length, IfOk, MatchResult};
+
+use crate::answer::Answer;
+use crate::config::RunFault;
+use crate::laws;
+use crate::one::run_watched;
+use crate::plan::plan_of;
+use crate::workers::run_workers;
+use kahn_config::Config;
+use kahn_crew::Gate;
+use kahn_network::Network;
+use kahn_streams::{Input, channel_named};
+use std::alloc::Global;
+use std::sync::Wait;
+use std::thread::Threads;
+
+// The channel that is to be watched.
+pub(crate) fn watched(network: &Network, name: &Option<String>) -> Result<Option<usize>, RunFault>
+    ensures { MatchResult result (IsWatched network.now name.now) (λ f. (f ≡ UnknownWatch) × IsUndeclared network.now name.now) }
+{
+    match name {
+        None => Ok(None),
+        Some(name) => match channel_named(network, name.as_str()) {
+            Some(channel) => Ok(Some(channel)),
+            None => Err(RunFault::UnknownWatch),
+        },
+    }
+}
+
+/// Runs a network with an input that fits it. Its answer is right, whatever the number of workers and the quantum are.
+/// Where its verdict isn't `Memory` it is `Finished` exactly where the size of the solution is at most the bound, so the
+/// two change no verdict. A finished answer is the same for all of them and for every bound; of one that was stopped, which
+/// events were done may depend on them, and never what stands at a place of a stream.
+///
+/// It refuses with `BadConfig` where a number of the configuration is out of its limit, then with `UnknownWatch` where
+/// no channel has the name that is to be watched, with `NoMemory` where memory was refused before the first event, and
+/// with `NoThread` where a thread couldn't be started, which one worker never takes: it has the caller's thread, where it
+/// runs one process after another over plain queues. Of several each other one has a thread of its own. Memory that is
+/// refused later stops the run: its answer has the verdict `Memory`. Before each quantum of an instance the gate is entered.
+pub fn run<R: Threads + Wait + Sync, G: Gate + Sync>(
+    rt: &R,
+    alloc: Global,
+    network: &Network,
+    input: Input,
+    config: Config,
+    gate: &G,
+) -> Result<Answer, RunFault>
+    requires fits { length input ≡ length (network_of network.now).channels }
+    ensures told { MatchResult result (IsRun network.now input config) (IsUnrun network.now config) }
+    ensures exact { IfOk result (λ a. Settles (network_of network.now) (inputs_of input) config.bound a.verdict) }
+{
+    if !config.is_in_range() {
+        return Err(RunFault::BadConfig);
+    }
+    let watch = watched(network, &config.watch)?;
+    laws::finished_exactly();
+    let plan = plan_of(&config, watch);
+    if plan.workers == 1 {
+        return Ok(run_watched(
+            alloc,
+            gate,
+            network,
+            &input,
+            watch,
+            plan.quantum,
+            plan.bound,
+        )?);
+    }
+    run_workers(rt, alloc, network, &input, plan, gate)
+}

@@ -1,0 +1,4 @@
+pub mod Items
+pub mod Machine
+pub mod Reads
+pub mod Rungs

@@ -1,0 +1,37 @@
+-- Inner. What the lexer meets at one place of a text.
+use Rattle.std.specs.Prelude.{◌≡◌, ℕ, List}
+use Rattle.kahn_syntax.specs.declared.lexer.Item.{Item}
+use Rattle.kahn_syntax.specs.declared.lexer.Item.TheVariants as item
+use Rattle.kahn_syntax.specs.declared.lexer.forms.Form.{Form}
+use Rattle.kahn_syntax.specs.declared.lexer.forms.Form.TheVariants as form
+use Rattle.kahn_syntax.specs.declared.fault.SyntaxFault.{SyntaxFault}
+use Rattle.kahn_syntax.specs.declared.fault.SyntaxFault.TheVariants.{TooLong, BadCharacter, NumberTooLarge, CommentOpen, NameTooLong, Expected, TooDeep, NoMemory}
+use Rattle.kahn_syntax.specs.Lexemes.{IsWord, IsRun, IsSign, Stands, IsComment, IsBadCharacter, IsLargeNumber, IsOpenComment, IsLongName}
+
+-- the place after a form
+abbrev pub form_end : Form → ℕ
+form_end (form.Word to) = to
+form_end (form.Run to) = to
+form_end (form.Sign s to) = to
+
+-- the bytes from a to the form's end have that form
+abbrev pub IsOfForm : List ℕ → Form → ℕ → Type 0
+IsOfForm text (form.Word to) a = IsWord text a to
+IsOfForm text (form.Run to) a = IsRun text a to
+IsOfForm text (form.Sign s to) a = IsSign text s a to
+
+-- the item stands at a
+abbrev pub IsItem : List ℕ → ℕ → Item → Type 0
+IsItem text a (item.Lexeme x) = (x.span.from ≡ a) × Stands text x
+IsItem text a (item.Comment b) = IsComment text a b
+
+-- the fault stands at a, whatever stands before
+abbrev pub IsFaultAt : List ℕ → ℕ → SyntaxFault → Type 0
+IsFaultAt text a (BadCharacter at) = (at.from ≡ a) × IsBadCharacter text at
+IsFaultAt text a (NumberTooLarge at) = (at.from ≡ a) × IsLargeNumber text at
+IsFaultAt text a (CommentOpen at) = (at.from ≡ a) × IsOpenComment text at
+IsFaultAt text a (NameTooLong at) = (at.from ≡ a) × IsLongName text at
+IsFaultAt text a TooLong = ⊥
+IsFaultAt text a (Expected at what) = ⊥
+IsFaultAt text a (TooDeep at) = ⊥
+IsFaultAt text a NoMemory = ⊥

@@ -1,0 +1,131 @@
+-- Inner. What each function of the parser reads, and where it stops.
+use Rattle.std.specs.Prelude.{◌≡◌, ℕ, List, [], ◌∷◌, ◌++◌, ◌+◌, ◌≤◌, ◌<◌, false, length, Some}
+use Rattle.kahn_tree.specs.declared.tree.Expression.{Expression}
+use Rattle.kahn_tree.specs.declared.tree.Statement.{Statement}
+use Rattle.kahn_syntax.specs.declared.parser.cursor.Stop.{Stop}
+use Rattle.kahn_syntax.specs.declared.parser.cursor.Stop.TheVariants.{Refused, TooDeep, NoMemory}
+use Rattle.kahn_syntax.specs.declared.parser.operator.Level.{Level}
+use Rattle.kahn_syntax.specs.declared.parser.operator.Level.TheVariants.{Or, And, Sum, Term}
+use Rattle.kahn_syntax.specs.declared.lexeme.Class.{Class}
+use Rattle.kahn_syntax.specs.declared.lexeme.Lexeme.{Lexeme}
+use Rattle.kahn_syntax.specs.declared.lexeme.Keyword.{Keyword}
+use Rattle.kahn_syntax.specs.declared.lexeme.Keyword.TheVariants as keyword
+use Rattle.kahn_syntax.specs.declared.lexeme.Sign.TheVariants as mark
+use Rattle.kahn_tree.specs.declared.tree.Parameter.{Parameter}
+use Rattle.kahn_syntax.specs.Programs.{DeclarationTree, channels, process}
+use Rattle.kahn_syntax.specs.Terminals.{Terminal, word, sign, terminals, AreProper}
+use Rattle.kahn_syntax.specs.inner.Machine.{Token, class_of, token_of, leads, Part, ProgramPart, ExpressionPart, StatementPart, SimplePart, TailPart, StatementsTail, TokenPart, GroupsPart, OpenToken, CloseToken, SemicolonToken, BeginToken, levels, Refuses, TooFar, fate}
+use Rattle.kahn_syntax.specs.inner.Rungs.{Rung, whole, at}
+use Rattle.kahn_syntax.specs.Drawn.{expression_of, statement_of, statements_of}
+use Rattle.kahn_syntax.specs.Spans.{Takes, ParametersSpan, ExpressionSpans, StatementSpans, StatementsSpan}
+use Rattle.kahn_syntax.specs.Trees.{ExpressionTree, OperandTrees, no_operand, operand, level, binds, Formed, expression_nesting, StatementTree, statements_words, FormedStatement, FormedStatements, IsSimple, AreSome, statement_nesting, statements_nesting}
+
+-- an expression that may stand at this level
+abbrev pub Fits : ℕ → ExpressionTree → Type 0
+Fits n e = (n ≤ binds e) × Formed e
+
+abbrev pub rank_of : Level → ℕ
+rank_of Or = 1
+rank_of And = 2
+rank_of Sum = 5
+rank_of Term = 6
+
+-- the node of a level, or the first operand alone where there is no other
+abbrev pub joined : ExpressionTree → OperandTrees → ExpressionTree
+joined e no_operand = e
+joined e (operand o f os) = level e (operand o f os)
+
+-- no token of this class stands first
+abbrev pub IsAbsent : Class → List Lexeme → Type 0
+IsAbsent wanted input = (t : Token) → class_of t ≡ Some wanted → (text : List ℕ) → leads t (terminals text input) ≡ false
+
+-- Whatever is open below these parts, with so many levels: over what was read of the input, to the rest, the parts become those.
+abbrev pub Moves : List ℕ → ℕ → List Part → List Part → List Lexeme → List Lexeme → Type 0
+Moves text depth parts those input rest =
+    (s : List Part) → levels s ≡ depth → fate 64 (parts ++ s) (terminals text input) ≡ fate 64 (those ++ s) (terminals text rest)
+
+-- the parts are read
+abbrev pub Reads : List ℕ → ℕ → List Part → List Lexeme → List Lexeme → Type 0
+Reads text depth parts input rest = Moves text depth parts [] input rest
+
+-- The parts aren't read, and here is why.
+abbrev pub Stops : List ℕ → ℕ → List Part → List Lexeme → Stop → Type 0
+Stops text depth parts input (Refused ended left) = (s : List Part) → levels s ≡ depth → fate 64 (parts ++ s) (terminals text input) ≡ Refuses ended left
+Stops text depth parts input (TooDeep left) = (s : List Part) → levels s ≡ depth → fate 64 (parts ++ s) (terminals text input) ≡ TooFar left
+Stops text depth parts input NoMemory = Unit {0}
+
+-- The list isn't a program, and here is why.
+abbrev pub Halts : List Terminal → Stop → Type 0
+Halts ks (Refused ended left) = fate 64 (ProgramPart ∷ []) ks ≡ Refuses ended left
+Halts ks (TooDeep left) = fate 64 (ProgramPart ∷ []) ks ≡ TooFar left
+Halts ks NoMemory = Unit {0}
+
+-- With so many levels open, an expression of this level of the grammar is read from the input to the rest.
+pub record ExpressionRead (text : List ℕ) (depth : ℕ) (g : Rung) (e : Expression) (input rest : List Lexeme) : Type 0 where
+  pub spans : ExpressionSpans text e input rest
+  pub fits : Fits (at g) (expression_of e)
+  pub nesting : depth + expression_nesting (expression_of e) ≤ 64
+  pub shorter : length rest < length input
+  pub proper : AreProper text rest
+  pub reads : Reads text depth (ExpressionPart g ∷ []) input rest
+
+-- the same for any expression and the keyword after it
+pub record ExpressionBefore (text : List ℕ) (depth : ℕ) (last : Keyword) (e : Expression) (input rest : List Lexeme) : Type 0 where
+  pub between : List Lexeme
+  pub spans : ExpressionSpans text e input between
+  pub takes : Takes text (word last) between rest
+  pub fits : Fits 0 (expression_of e)
+  pub nesting : depth + expression_nesting (expression_of e) ≤ 64
+  pub shorter : length rest < length input
+  pub proper : AreProper text rest
+  pub reads : Reads text depth (ExpressionPart whole ∷ TokenPart (token_of last) ∷ []) input rest
+
+-- a statement that may stand for this part: `else` may follow a simple one
+abbrev pub MayStand : Part → StatementTree → Type 0
+MayStand SimplePart s = IsSimple s
+MayStand _ s = Unit {0}
+
+-- a statement is read
+pub record StatementRead (text : List ℕ) (depth : ℕ) (p : Part) (s : Statement) (input rest : List Lexeme) : Type 0 where
+  pub spans : StatementSpans text s input rest
+  pub formed : FormedStatement (statement_of s)
+  pub simple : MayStand p (statement_of s)
+  pub nesting : depth + statement_nesting (statement_of s) ≤ 64
+  pub shorter : length rest ≤ length input
+  pub proper : AreProper text rest
+  pub reads : Reads text depth (p ∷ []) input rest
+
+-- one statement or more, with semicolons between
+pub record StatementsRead (text : List ℕ) (depth : ℕ) (ss : List Statement) (input rest : List Lexeme) : Type 0 where
+  pub words : terminals text input ≡ statements_words (statements_of ss) (terminals text rest)
+  pub spans : StatementsSpan text ss input rest
+  pub formed : FormedStatements (statements_of ss)
+  pub some : AreSome (statements_of ss)
+  pub nesting : depth + statements_nesting (statements_of ss) ≤ 64
+  pub shorter : length rest ≤ length input
+  pub proper : AreProper text rest
+  pub reads : Reads text depth (StatementPart ∷ TailPart StatementsTail ∷ []) input rest
+
+-- Where no level is open, a part is read from the input to the rest, and its spans are over the lexemes between.
+pub record PartRead (text : List ℕ) (parts : List Part) (S : List Lexeme → List Lexeme → Type 0) (input rest : List Lexeme) : Type 0 where
+  pub spans : S input rest
+  pub shorter : length rest ≤ length input
+  pub proper : AreProper text rest
+  pub reads : Reads text 0 parts input rest
+
+-- a body is one of the grammar, within the limit of nesting
+abbrev pub IsSound : DeclarationTree → Type 0
+IsSound (channels k role ns) = Unit {0}
+IsSound (process n ps vs body) = AreSome body × FormedStatements body × (statements_nesting body ≤ 64)
+
+abbrev pub AreSound : List DeclarationTree → Type 0
+AreSound [] = Unit {0}
+AreSound (d ∷ ds) = IsSound d × AreSound ds
+
+-- the parameters of a process in their brackets, and what stands between them and its body
+abbrev pub head_parts : List Part
+head_parts = TokenPart OpenToken ∷ GroupsPart ∷ TokenPart CloseToken ∷ TokenPart SemicolonToken ∷ TokenPart BeginToken ∷ []
+
+abbrev pub HeadSpans : List ℕ → List Parameter → List Lexeme → List Lexeme → Type 0
+HeadSpans text ps xs r = (a : List Lexeme) × (b : List Lexeme) × (c : List Lexeme) × (d : List Lexeme) × Takes text (sign mark.Open) xs a
+    × ParametersSpan text ps a b × Takes text (sign mark.Close) b c × Takes text (sign mark.Semicolon) c d × Takes text (word keyword.Begin) d r

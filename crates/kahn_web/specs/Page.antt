@@ -1,0 +1,35 @@
+-- Believed. What the page is answered for its texts, which are bytes.
+use Rattle.std.specs.Prelude.{◌≡◌, ℕ, ◌≤◌, ◌<◌, List, [], Option, Some, Result, length, take}
+use Rattle.std.specs.declared.result.Result.TheVariants.{Ok, Err}
+use Rattle.std.specs.Str.{IsUtf8}
+use Rattle.kahn_pool.specs.declared.answer.Verdict.{Verdict}
+use Rattle.kahn_fault.specs.declared.fault.Fault.{Fault}
+use Rattle.kahn_fault.specs.declared.fault.Fault.TheVariants.{Open, Program, InputText, Work}
+use Rattle.kahn_fault.specs.Status.{status_of}
+use Rattle.kahn_report.specs.declared.write.WriteFault.{WriteFault}
+use Rattle.kahn_report.specs.Work.{IsWorked}
+use Rattle.kahn_report.specs.Written.{Writes}
+use Rattle.kahn_texts.specs.Telling.{told_text}
+use Rattle.kahn_web.specs.Alone.{alone}
+
+-- what the work by one thread did, or which text is no UTF-8, after which nothing was written
+abbrev pub IsAnswerAlone : List ℕ → List ℕ → ℕ → Option (List ℕ) → Option (List ℕ) → Result Verdict Fault → Type 0
+IsAnswerAlone program input bound old new (Ok verdict) = IsWorked program input (alone bound) old new (Ok verdict)
+IsAnswerAlone program input bound old new (Err (Open path)) = ⊥
+IsAnswerAlone program input bound old new (Err (Program path fault)) = (IsUtf8 program → ⊥) × (new ≡ old)
+IsAnswerAlone program input bound old new (Err (InputText path fault)) = (IsUtf8 input → ⊥) × (new ≡ old)
+IsAnswerAlone program input bound old new (Err (Work fault)) = IsWorked program input (alone bound) old new (Err fault)
+
+-- the same, with the line of the fault behind it, and the status
+abbrev pub IsSaidAlone : List ℕ → List ℕ → ℕ → Option (List ℕ) → Option (List ℕ) → ℕ → Type 0
+IsSaidAlone program input bound old new status =
+    (answer : Result Verdict Fault) × (middle : Option (List ℕ)) × (line : Result (Unit {0}) WriteFault) × IsAnswerAlone program input bound old middle answer × (status ≡ status_of answer) × Writes middle new line (told_text program answer)
+
+-- the bytes stand at the front of a room that has so many, and a smaller one keeps what it has
+abbrev pub IsPut : List ℕ → List ℕ → List ℕ → ℕ → Type 0
+IsPut bytes old new size = (size ≡ length bytes) × (size ≤ length old → take size new ≡ bytes) × (length old < size → new ≡ old)
+
+-- what was said of a run was put into the room
+abbrev pub IsRunInto : List ℕ → List ℕ → ℕ → List ℕ → List ℕ → ℕ → ℕ → Type 0
+IsRunInto program input bound old new status size =
+    (written : List ℕ) × IsSaidAlone program input bound (Some []) (Some written) status × IsPut written old new size

@@ -1,0 +1,72 @@
+//! Runs and draws texts for a host that calls in, as a page does: the bytes of a program and an input in, those of a report out; the
+//! bytes of a program and a report in, those of a picture out.
+#![tactic(auto)]
+
+ghost use Rattle.kahn_web.specs.Page.{IsPut, IsRunInto};
+ghost use Rattle.kahn_web.specs.Picture.{IsDrawnInto};
+
+mod alone;
+mod drawing;
+mod texts;
+
+use crate::drawing::drawn;
+use crate::texts::run_texts;
+use std::alloc::Global;
+
+/// What a run told.
+#[repr(C)]
+#[derive(Drop)]
+pub struct Told {
+    /// The status that the program `kahn` ends with for the same texts.
+    pub status: u64,
+    /// How many bytes the report has, or the line of the fault where there is no report.
+    pub length: u64,
+}
+
+// Copies the bytes to the front of the room where it has so many, and gives how many there are.
+fn put(bytes: &[u8], room: &mut [u8]) -> u64
+    ensures { IsPut bytes.now room.old room.new result }
+{
+    if bytes.len() <= room.len() {
+        room[..bytes.len()].copy_from_slice(bytes);
+    }
+    bytes.len() as u64
+}
+
+/// Runs a program on an input for at most `bound` events on the caller's thread. The report, or the line of the fault where there is
+/// none, is copied to the front of the room where the room has so many bytes. Where it hasn't, the room keeps its bytes.
+#[unsafe(no_mangle)]
+pub extern "C" fn kahn_web_run(
+    alloc: Global,
+    program: &[u8],
+    input: &[u8],
+    bound: u64,
+    room: &mut [u8],
+    outcome: &mut Told,
+)
+    ensures { IsRunInto program.now input.now bound room.old room.new outcome.new.status outcome.new.length }
+{
+    let mut written = Vec::new(alloc);
+    let status = run_texts(alloc, program, input, bound, &mut written);
+    *outcome = Told {
+        status: status as u64,
+        length: put(written.as_slice(), room),
+    };
+}
+
+/// Draws the network of a program, with what the report of a run says of it; the report may be empty. The picture, in the language of
+/// Graphviz, is copied as a report is, and its length is given, which is 0 where there is no picture.
+#[unsafe(no_mangle)]
+pub extern "C" fn kahn_web_draw(
+    alloc: Global,
+    program: &[u8],
+    report: &[u8],
+    room: &mut [u8],
+) -> u64
+    ensures { IsDrawnInto program.now report.now room.old room.new result }
+{
+    match drawn(alloc, program, report) {
+        Some(picture) => put(picture.as_bytes(), room),
+        None => 0,
+    }
+}

@@ -1,0 +1,3 @@
+mod Good
+mod Lined
+mod Stands

@@ -1,0 +1,3 @@
+pub mod Why
+pub mod Words
+pub mod inner

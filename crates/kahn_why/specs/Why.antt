@@ -1,0 +1,48 @@
+-- Believed. Why the instances of an answer go no further, and which of them never will.
+use Rattle.std.specs.Prelude.{ℕ, List, map}
+use Rattle.kahn_network.specs.Network.{Network}
+use Rattle.kahn_streams.specs.Solution.{Inputs}
+use Rattle.kahn_streams.specs.Laws.{AreInputsExtended}
+use Rattle.kahn_chain.specs.Chain.{IsCause}
+use Rattle.kahn_chain.specs.declared.standing.Standing.{Standing}
+use Rattle.kahn_chain.specs.declared.standing.Standing.TheVariants as S
+use Rattle.kahn_chain.specs.declared.standing.Cause.{Cause}
+use Rattle.kahn_chain.specs.declared.standing.Cause.TheVariants.{Input, Stopped, Ring}
+use Rattle.kahn_pool.specs.Right.{HasEndAt, IsEnd}
+use Rattle.kahn_pool.specs.declared.answer.Answer.{Answer}
+use Rattle.kahn_pool.specs.declared.answer.End.{End}
+use Rattle.kahn_pool.specs.declared.answer.Outcome.{Outcome}
+use Rattle.kahn_pool.specs.declared.answer.Outcome.TheVariants.{Ended, Waits, Faulted, More}
+
+abbrev pub standing_of : Outcome → Standing
+standing_of Ended = S.Ended
+standing_of (Waits c) = S.Waits c
+standing_of (Faulted k) = S.Faulted
+standing_of More = S.More
+
+abbrev pub stands : End → Standing
+stands x = standing_of x.outcome
+
+-- how the instances of an answer stand
+abbrev pub standings_of : Answer → List Standing
+standings_of a = map stands a.ends.items
+
+abbrev pub IsEndedOrFaulted : Standing → Type 0
+IsEndedOrFaulted S.Ended = Unit {0}
+IsEndedOrFaulted (S.Waits c) = ⊥
+IsEndedOrFaulted S.Faulted = Unit {0}
+IsEndedOrFaulted S.More = ⊥
+
+-- a ring, or an instance that has ended or has a fault
+abbrev pub IsFinal : Cause → Type 0
+IsFinal (Input z c) = ⊥
+IsFinal (Stopped z s) = IsEndedOrFaulted s
+IsFinal (Ring z) = Unit {0}
+
+-- this is the end of p, whatever is added to the input
+abbrev pub IsForGood : Network → Inputs → ℕ → End → Type 0
+IsForGood N I p x = (J : Inputs) → AreInputsExtended I J → IsEnd N J p x.outcome x.events
+
+-- the end of each instance that has such a cause is for good
+abbrev pub StayForGood : Network → Inputs → Answer → Type 0
+StayForGood N I a = (p : ℕ) (x : End) (y : Cause) → HasEndAt a p x → IsCause N (standings_of a) p y → IsFinal y → IsForGood N I p x

@@ -1,0 +1,16 @@
+//! The law of what is for ever. The function does nothing: its contract is the law.
+
+ghost use Rattle.std.specs.Prelude.{◌≡◌, ℕ, Option};
+ghost use Rattle.kahn_network.specs.Network.{Network};
+ghost use Rattle.kahn_pool.specs.Right.{IsRight};
+ghost use Rattle.kahn_pool.specs.declared.answer.Answer.{Answer};
+ghost use Rattle.kahn_pool.specs.declared.answer.Verdict.TheVariants.{Memory};
+ghost use Rattle.kahn_streams.specs.Solution.{Inputs};
+ghost use Rattle.kahn_why.specs.Why.{StayForGood};
+
+/// Whatever is added to the input, and whatever the bound is, an instance has the end that a right answer gives it, where its
+/// cause is a ring, or an instance that has ended or has a fault. Want of memory is no such answer: it can leave values where
+/// a reader doesn't come to them.
+pub fn for_good()
+    ensures { (N : Network) (I : Inputs) (bound : ℕ) (watch : Option ℕ) (a : Answer) → IsRight N I bound watch a → (a.verdict ≡ Memory → ⊥) → StayForGood N I a }
+{}

@@ -1,0 +1,15 @@
+# Completion of the words of kahn, kahn_live, kahn_draw and kahn_explain in bash. Where it has none, bash completes file names.
+
+_kahn() {
+  local word=$2 options
+  COMPREPLY=()
+  [[ $word == -* ]] || return 0
+  case ${1##*/} in
+    kahn) options="--input --workers --quantum --bound --watch --help --version" ;;
+    kahn_live) options="--workers --quantum --step --watch --keep-going --help --version" ;;
+    kahn_draw) options="--report --help --version" ;;
+    kahn_explain) options="--input --workers --quantum --bound --help --version" ;;
+  esac
+  mapfile -t COMPREPLY < <(compgen -W "$options" -- "$word")
+}
+complete -o default -F _kahn kahn kahn_live kahn_draw kahn_explain

@@ -1,0 +1,9 @@
+# Completion of the words of kahn_live in fish.
+
+complete -c kahn_live -l workers -x -d 'number of threads'
+complete -c kahn_live -l quantum -x -d 'events that a process does at a time'
+complete -c kahn_live -l step -x -d 'events that a part may take'
+complete -c kahn_live -l watch -x -d 'a channel that is shown too'
+complete -c kahn_live -l keep-going -d 'leave the status 0 where lines were refused'
+complete -c kahn_live -s h -l help -d 'print help'
+complete -c kahn_live -s V -l version -d 'print version'

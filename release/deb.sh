@@ -1,0 +1,72 @@
+#!/usr/bin/env bash
+# Makes the Debian package of the programs: those that were built here, or those of release/, with the page, manual pages, completions,
+# editors, examples and docs. Two calls make the same bytes. It builds nothing.
+#
+#   deb.sh [FOLDER]      into FOLDER, or release/out: kahn_VERSION_amd64.deb
+set -eu
+umask 022
+top=$(cd "$(dirname "${BASH_SOURCE[0]}")/.." && pwd)
+source "$top/release/program.sh"
+source "$top/web/page.sh"
+is_page_released || { echo "release/kahn.html isn't of these sources: \`bash web/build.sh\` makes it" >&2; exit 1; }
+to=${1:-$top/release/out}
+version=$(sed -nE 's/^## ([0-9]+\.[0-9]+\.[0-9]+)( .*)?$/\1/p' "$top/CHANGELOG.md" | head -n 1)
+root=$(mktemp -d)
+trap 'rm -rf "$root"' EXIT
+chmod 755 "$root"
+# All files have one time, the midnight of a day of the first release.
+export SOURCE_DATE_EPOCH=1795564800
+
+# put FOLDER FILE..: files that are read, in a folder below /usr.
+put() {
+  local folder="$root/usr/$1"
+  shift
+  mkdir -p "$folder"
+  install -m 644 "$@" "$folder"
+}
+
+mkdir -p "$root/usr/bin"
+for name in "${programs[@]}"; do
+  find_built "$name" || exit $?
+  install -m 755 "$program" "$root/usr/bin/$name"
+done
+for name in "${programs[@]}"; do
+  mkdir -p "$root/usr/share/man/man1"
+  gzip -9n < "$top/docs/man/$name.1" > "$root/usr/share/man/man1/$name.1.gz"
+  put share/fish/vendor_completions.d "$top/editors/completions/$name.fish"
+  mkdir -p "$root/usr/share/bash-completion/completions"
+  install -m 644 "$top/editors/completions/kahn.bash" "$root/usr/share/bash-completion/completions/$name"
+done
+put share/zsh/vendor-completions "$top/editors/completions/_kahn"
+for name in vim vscode; do
+  (cd "$top/editors" && find "$name" -type f) | while read -r file; do put "share/kahn/editors/$(dirname "$file")" "$top/editors/$file"; done
+done
+doc="share/doc/kahn"
+put "$doc" "$top/README.md" "$top/release/kahn.html"
+put "$doc/docs" "$top"/docs/*.md
+put "$doc/docs/pictures" "$top"/docs/pictures/*.{svg,png}
+put "$doc/examples" "$top"/examples/*
+gzip -9n < "$top/CHANGELOG.md" > "$root/usr/$doc/changelog.gz"
+install -m 644 "$top/LICENSE" "$root/usr/$doc/copyright"
+
+mkdir "$root/DEBIAN"
+(cd "$root" && find usr -type f | LC_ALL=C sort | xargs -d '\n' md5sum) > "$root/DEBIAN/md5sums"
+cat > "$root/DEBIAN/control" << END
+Package: kahn
+Version: $version
+Architecture: amd64
+Section: interpreters
+Priority: optional
+Installed-Size: $(find "$root/usr" -type f -printf '%s\n' | awk '{ sum += $1 } END { print int((sum + 1023) / 1024) }')
+Depends: libc6 (>= 2.34)
+Suggests: graphviz
+Maintainer: the maintainers of kahn <kahn@localhost>
+Description: proved parallel interpreter of Kahn's process networks
+ Runs networks of processes that send one another values over channels, in
+ the language of G. Kahn, on several threads. What a channel carries doesn't
+ depend on the speeds of the processes; that is proved of the program itself.
+END
+find "$root" -exec touch -h -d "@$SOURCE_DATE_EPOCH" {} +
+mkdir -p "$to"
+DPKG_DEB_THREADS_MAX=1 dpkg-deb --root-owner-group -Zxz -z9 --build "$root" "$to/kahn_${version}_amd64.deb" > /dev/null
+echo "$to/kahn_${version}_amd64.deb"

@@ -1,0 +1,121 @@
+// The page: its fields and buttons.
+
+const at = (id) => document.getElementById(id);
+const texts = () => ({ program: at("program").value, input: at("input").value, bound: at("bound").value || "0" });
+
+// The place that a fault line names, as an index into the program: the line, the column and the index. Columns count bytes.
+function placeOf(fault, program) {
+  const found = /^kahn: (\d+):(\d+): /.exec(fault);
+  if (!found) return undefined;
+  const [line, column] = [Number(found[1]), Number(found[2])];
+  const lines = program.split("\n");
+  const before = lines.slice(0, line - 1).reduce((sum, it) => sum + it.length + 1, 0);
+  const bytes = new TextEncoder().encode(lines[line - 1] ?? "").slice(0, column - 1);
+  return { line, column, index: before + new TextDecoder().decode(bytes).length };
+}
+
+// Numbers the lines, and marks the lexeme at the place, where there is one.
+function mark(place) {
+  const program = at("program").value;
+  at("numbers").replaceChildren();
+  program.split("\n").forEach((_, i) => {
+    const number = document.createElement(place?.line === i + 1 ? "b" : "span");
+    number.textContent = `${i + 1}\n`;
+    at("numbers").append(number);
+  });
+  at("marks").replaceChildren();
+  if (!place) return;
+  const lexeme = /^(?:\w+|:=|[^\n])?/u.exec(program.slice(place.index))[0];
+  const marked = document.createElement("mark");
+  marked.textContent = lexeme || " ";
+  at("marks").append(program.slice(0, place.index), marked);
+}
+
+function scroll() {
+  const { scrollTop, scrollLeft } = at("program");
+  at("numbers").style.transform = `translateY(${-scrollTop}px)`;
+  at("marks").style.transform = `translate(${-scrollLeft}px, ${-scrollTop}px)`;
+}
+
+function goTo(place) {
+  const field = at("program");
+  field.focus();
+  field.setSelectionRange(place.index, place.index);
+  const height = field.scrollHeight / Math.max(1, field.value.split("\n").length);
+  field.scrollTop = Math.max(0, height * (place.line - 4));
+  scroll();
+}
+
+const STATES = ["finished", "program or input refused", "command line refused", "stopped by its bound", "out of memory", "not read or written", "refused"];
+
+function show({ status, report, picture, time }, program) {
+  const text = new TextDecoder().decode(report);
+  const place = placeOf(text, program);
+  at("report").textContent = text;
+  at("report").classList.toggle("fault", text.startsWith("kahn: "));
+  at("state").textContent = status === 7 ? "no answer" : `status ${status}: ${STATES[status]}, ${time.toFixed(1)} ms`;
+  at("place").hidden = !place;
+  if (place) {
+    at("place").textContent = `Go to line ${place.line}, column ${place.column}`;
+    at("place").onclick = () => goTo(place);
+  }
+  mark(place);
+  at("picture").replaceChildren(...drawn(new TextDecoder().decode(picture)));
+  at("picture").hidden = at("network").hidden = picture.length === 0;
+}
+
+async function runTexts() {
+  if (at("run").disabled) return;
+  at("run").disabled = true;
+  at("stop").disabled = false;
+  at("state").textContent = "runs";
+  const { program, input, bound } = texts();
+  show(await run(program, input, bound), program);
+  at("run").disabled = false;
+  at("stop").disabled = true;
+}
+
+// The link carries the texts behind its #, which no browser sends to anybody.
+function link() {
+  at("link").href = `#${new URLSearchParams(texts())}`;
+}
+
+function changed() {
+  mark();
+  scroll();
+  link();
+}
+
+function put(program, input, bound) {
+  Object.entries({ program, input, bound }).forEach(([name, text]) => (at(name).value = text));
+  changed();
+  at("program").scrollTop = 0;
+  return runTexts();
+}
+
+function putLinked() {
+  const carried = new URLSearchParams(location.hash.slice(1));
+  const [name, program, input] = EXAMPLES.find(([it]) => it === "squares") ?? EXAMPLES[0];
+  at("example").value = carried.has("program") ? "" : name;
+  return put(carried.get("program") ?? program, carried.get("input") ?? (carried.has("program") ? "" : input), carried.get("bound") ?? "1000000");
+}
+
+EXAMPLES.forEach(([name]) => at("example").append(new Option(name)));
+at("example").onchange = () => {
+  const found = EXAMPLES.find(([name]) => name === at("example").value);
+  if (found) put(found[1], found[2], "1000000");
+};
+at("program").oninput = () => {
+  at("example").value = "";
+  changed();
+};
+at("program").onscroll = scroll;
+at("input").oninput = link;
+at("bound").oninput = link;
+at("run").onclick = runTexts;
+at("stop").onclick = () => stop("stopped by hand");
+onkeydown = (event) => {
+  if (event.key === "Enter" && (event.ctrlKey || event.metaKey)) runTexts();
+};
+onhashchange = putLinked;
+putLinked();
