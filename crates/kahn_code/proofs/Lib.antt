@@ -7,6 +7,8 @@ pub mod Stand
 pub mod Uses
 pub mod Queued
 pub mod Nested_lists
+pub mod Behind
+pub mod Begin
 pub mod Asks
 pub mod Arguments
 pub mod Bodies

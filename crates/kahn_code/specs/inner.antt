@@ -1,1 +1,4 @@
 pub mod Words
+pub mod Gone
+pub mod Tapped
+pub mod Begins

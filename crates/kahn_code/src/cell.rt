@@ -3,19 +3,17 @@
 ghost use Rattle.std.specs.Prelude.{◌≡◌, ℕ, ◌+◌, ◌*◌, ◌^◌, ◌<◌, ◌≤◌, length, [], map, replicate, slice_index_or, IfOk};
 ghost use Rattle.kahn_network.specs.Network.{network_of, instance_at};
 ghost use Rattle.kahn_streams.specs.Tokens.{Lists, inputs_of};
-ghost use Rattle.kahn_code.specs.Flat.{stmt_code, depth, registers_of};
+ghost use Rattle.kahn_code.specs.Flat.{stmt_code};
 ghost use Rattle.kahn_streams.specs.Laws.{AreInputsExtended};
-ghost use Rattle.kahn_streams.specs.Solution.{opening};
-ghost use Rattle.kahn_streams.specs.Tokens.{Names};
-ghost use Rattle.kahn_code.specs.Progress.{Paused, IsPause, core_of, opening_core};
+ghost use Rattle.kahn_code.specs.Progress.{Paused, IsPause};
 ghost use Rattle.kahn_code.specs.Seats.{Leaves, Grows};
-ghost use Rattle.kahn_code.specs.Told.{AreCounts, seat_of, told_of, told_view, IsAt, IsStanding, IsStill};
+ghost use Rattle.kahn_code.specs.Told.{AreCounts, seat_of, told_view, IsAt, IsStill};
 
 use crate::code::{Code, CodeFault};
 use crate::ports::Ports;
-use crate::progress::{Pause, Progress};
-use kahn_network::Network;
-use kahn_streams::{About, Carried, Input, NoMemory};
+use crate::progress::Pause;
+use crate::tap::Tap;
+use kahn_streams::{Carried, Input};
 use kahn_tree::Steps;
 use std::alloc::{Allocator, Global};
 use std::marker::Model;
@@ -26,9 +24,7 @@ use std::sync::ledger::Ledger;
 /// tokens it took and sent and the tokens that it keeps.
 #[derive(Drop)]
 pub struct Cell<A: Allocator + Copy + Drop = Global> {
-    progress: Progress<A>,
-    network: About<Network>,
-    input: About<Input>,
+    tap: Tap<A>,
 }
 
 /// What a cell kept: of each parameter what it sent there, where it is kept, and what it printed, in place order.
@@ -42,15 +38,17 @@ impl<A: Allocator + Copy + Drop> Model for Cell<A> {
     ghost use Rattle.kahn_tree.specs.contracts.tree.Action as action;
     ghost use Rattle.kahn_tree.specs.contracts.tree.Form as form;
     ghost use Rattle.std.specs.Coded.{codes};
-    ghost use Rattle.kahn_code.specs.Told.{Told, told_of, IsStanding};
+    ghost use Rattle.std.specs.Prelude.{◌≡◌};
+    ghost use Rattle.kahn_code.specs.inner.Gone.{nothing_gone};
+    ghost use Rattle.kahn_code.specs.Told.{Told};
 
     ghost Value = { Told };
 
     ghost coded = { Prim.hlevel (codes, action.the_row.coded, form.the_row.coded) };
 
-    ghost view = { λ c. told_of c.progress c.network.value c.input.value };
+    ghost view = { λ c. c.tap.told };
 
-    ghost invariant = { λ c. IsStanding c.progress c.network.value c.input.value };
+    ghost invariant = { λ c. c.tap.gone ≡ nothing_gone };
 }
 
 impl<A: Allocator + Copy + Drop> Cell<A> {
@@ -68,8 +66,9 @@ impl<A: Allocator + Copy + Drop> Cell<A> {
         ensures none { IfOk result (λ c. (c.events ≡ 0) × (c.printed ≡ [])) }
         ensures parameters { IfOk result (λ c. let n = length (instance_at (network_of code.now.network.value) instance).actuals in (c.taken ≡ replicate n 0) × (c.sent ≡ replicate n 0) × (c.kept ≡ replicate n [])) }
     {
-        let progress = opened(alloc, code, instance, watch)?;
-        Ok(assembled(progress, code))
+        Ok(Cell {
+            tap: Tap::new(alloc, code, instance, watch)?,
+        })
     }
 
     /// Runs for at most so many events. With a quantum of 0 it only says what comes next, and takes no memory. A cell
@@ -100,17 +99,14 @@ impl<A: Allocator + Copy + Drop> Cell<A> {
         ensures cost { steps.new ≤ steps.old + (quantum + 1) * length (stmt_code (instance_at (network_of self.old.network) self.old.instance).body) }
         ensures counted { steps.old + self.new.events ≤ steps.new + self.old.events }
     {
-        let routine = code.routine(self.progress.instance);
-        let body = code.body(self.progress.instance);
-        self.progress
-            .run(&routine.instructions, body, quantum, ports, steps)
+        self.tap.run(code, quantum, ports, steps)
     }
 
     /// The number of its events.
     pub fn events(&self) -> u64
         ensures { result ≡ self.now.events }
     {
-        self.progress.events
+        self.tap.events()
     }
 
     /// The number of parameters of its process.
@@ -118,7 +114,7 @@ impl<A: Allocator + Copy + Drop> Cell<A> {
         ensures number { result ≡ length (instance_at (network_of self.now.network) self.now.instance).actuals }
         ensures lists { (result ≡ length self.now.taken) × (result ≡ length self.now.sent) × (result ≡ length self.now.kept) }
     {
-        self.progress.taken.len()
+        self.tap.parameters()
     }
 
     /// How many tokens it took on a parameter.
@@ -126,7 +122,7 @@ impl<A: Allocator + Copy + Drop> Cell<A> {
         requires { parameter < length self.now.taken }
         ensures { result ≡ slice_index_or self.now.taken parameter 0 }
     {
-        self.progress.taken[parameter]
+        self.tap.taken(parameter)
     }
 
     /// How many tokens it sent on a parameter.
@@ -134,7 +130,7 @@ impl<A: Allocator + Copy + Drop> Cell<A> {
         requires { parameter < length self.now.sent }
         ensures { result ≡ slice_index_or self.now.sent parameter 0 }
     {
-        self.progress.sent_at(parameter)
+        self.tap.sent(parameter)
     }
 
     /// Says that its counts are those of its parameters, that none is greater than its events, and that it keeps nothing of
@@ -142,7 +138,7 @@ impl<A: Allocator + Copy + Drop> Cell<A> {
     pub fn sized(&self)
         ensures { AreCounts self.now }
     {
-        let _events = self.progress.events;
+        self.tap.sized();
     }
 
     /// The tokens that it keeps of what it sent on a parameter.
@@ -150,7 +146,7 @@ impl<A: Allocator + Copy + Drop> Cell<A> {
         requires { parameter < length self.now.kept }
         ensures { result.now ≡ slice_index_or self.now.kept parameter [] }
     {
-        self.progress.kept[parameter].as_slice()
+        self.tap.fresh(parameter)
     }
 
     /// The same cell for an input whose lists begin with those of its own. It takes no memory.
@@ -158,11 +154,8 @@ impl<A: Allocator + Copy + Drop> Cell<A> {
         requires { AreInputsExtended (inputs_of self.input) (inputs_of input.now) }
         ensures { result ≡ record self { input = input.now } }
     {
-        let about = named(input);
         Cell {
-            progress: self.progress,
-            network: self.network,
-            input: about,
+            tap: regrown(self.tap, input),
         }
     }
 
@@ -172,53 +165,24 @@ impl<A: Allocator + Copy + Drop> Cell<A> {
         ensures printed { result.printed.items ≡ self.printed }
         ensures parameters { length result.kept.items ≡ length (instance_at (network_of self.network) self.instance).actuals }
     {
-        Kept {
-            kept: self.progress.kept,
-            printed: self.progress.printed,
-        }
+        self.tap.into_lists()
     }
 
     /// The tokens of its print stream.
     pub fn printed(&self) -> &[Carried]
         ensures { result.now ≡ self.now.printed }
     {
-        self.progress.printed.as_slice()
+        self.tap.fresh_prints()
     }
 }
 
-// An instance of the network of the code, at its opening.
-fn opened<A: Allocator + Copy + Drop>(
-    alloc: A,
-    code: &Code<A>,
-    instance: usize,
-    watch: Option<usize>,
-) -> Result<Progress<A>, NoMemory>
-    requires { instance < length (network_of code.now.network.value).instances }
-    ensures core { IfOk result (λ c. let i = instance_at (network_of code.now.network.value) instance in core_of c ≡ opening_core (registers_of (depth i.body) (opening i)) (length i.actuals)) }
-    ensures names { IfOk result (λ c. (c.instance ≡ instance) × (c.watch ≡ watch)) }
-    ensures stands { IfOk result (λ c. (lists : Lists) → IsStanding c code.now.network.value lists) }
+// The same tap for a longer input, by its name.
+fn regrown<A: Allocator + Copy + Drop>(tap: Tap<A>, _input: &Input) -> Tap<A>
+    ghost input: { Lists }
+    requires { AreInputsExtended (inputs_of tap.told.input) (inputs_of input) }
+    ensures { result ≡ record tap { told = record tap.told { input = input } } }
 {
-    let routine = code.routine(instance);
-    Progress::new(alloc, routine, code.body(instance), instance, watch)
-}
-
-// A cell of a network and an input of that name.
-fn assembled<A: Allocator + Copy + Drop>(progress: Progress<A>, _code: &Code<A>) -> Cell<A>
-    ghost names: { Names }
-    requires { IsStanding progress names.network names.input }
-    ensures { result ≡ told_of progress names.network names.input }
-{
-    Cell {
-        progress,
-        network: About::named(),
-        input: About::named(),
-    }
-}
-
-// An input of that name.
-fn named(_input: &Input) -> About<Input>
-    ghost name: { Lists }
-    ensures { result.value ≡ name }
-{
-    About::named()
+    let mut tap = tap;
+    tap.regrow();
+    tap
 }

@@ -10,10 +10,12 @@ mod instruction;
 mod laws;
 mod machine;
 mod opening;
+mod past;
 mod plain;
 mod ports;
 mod progress;
 mod queue;
+mod tap;
 mod word;
 
 pub use cell::{Cell, Kept};
@@ -25,4 +27,5 @@ pub use ports::Ports;
 pub use progress::Pause;
 
 // For the crates above.
+pub use tap::Tap;
 pub use word::{Operand, Word, apply, negated};

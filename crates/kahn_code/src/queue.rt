@@ -2,11 +2,12 @@
 
 ghost use Rattle.std.specs.Prelude.{◌≡◌, ◌<◌, ◌≤◌, ◌+◌, ◌^◌, [], length, IfSome, IfNone, OnOk};
 ghost use Rattle.kahn_streams.specs.declared.value.Line.TheVariants.{Channel};
+ghost use Rattle.kahn_streams.specs.Laws.{AreInputsExtended};
 ghost use Rattle.kahn_streams.specs.Streams.{IsOf};
-ghost use Rattle.kahn_streams.specs.Tokens.{Names};
+ghost use Rattle.kahn_streams.specs.Tokens.{Holds, Lists, Names, inputs_of};
 
 use kahn_network::Network;
-use kahn_streams::{About, Carried, Input, Line, NoMemory, Token};
+use kahn_streams::{About, Carried, Input, Line, NoMemory, Token, Value};
 use std::alloc::Allocator;
 use std::collections::VecDeque;
 use std::marker::Model;
@@ -28,8 +29,9 @@ impl<A: Allocator> Model for Queue<A> {
     ghost use Rattle.std.specs.Prelude.{◌-◌, length};
     ghost use Rattle.std.specs.VecDeque.{deque_len, deque_capacity};
     ghost use Rattle.kahn_streams.specs.declared.value.Line.TheVariants.{Channel};
-    ghost use Rattle.kahn_streams.specs.Streams.{Follow, AllOf};
+    ghost use Rattle.kahn_streams.specs.Streams.{Follow};
     ghost use Rattle.kahn_code.specs.Queues.{Waiting};
+    ghost use Rattle.kahn_code.specs.inner.Begins.{AllBegin};
 
     ghost Value = { Waiting };
 
@@ -37,7 +39,7 @@ impl<A: Allocator> Model for Queue<A> {
 
     ghost view = { λ q. record { network = q.network.value; input = q.input.value; channel = q.channel; taken = q.taken; waiting = length q.tokens.items; spare = deque_capacity q.tokens - deque_len q.tokens } };
 
-    ghost invariant = { λ q. Follow (Channel q.channel) q.taken q.tokens.items × AllOf q.network.value q.input.value q.tokens.items };
+    ghost invariant = { λ q. Follow (Channel q.channel) q.taken q.tokens.items × AllBegin q.network.value q.input.value q.tokens.items };
 }
 
 impl<A: Allocator> Queue<A> {
@@ -73,9 +75,24 @@ impl<A: Allocator> Queue<A> {
         ensures none { IfNone result ((self.new ≡ self.old) × (self.old.waiting ≡ 0)) }
     {
         let carried = self.tokens.pop_front()?;
-        let token = carried.token(Line::Channel(self.channel), self.taken);
+        let token = lifted(
+            &self.network,
+            &self.input,
+            carried.token(Line::Channel(self.channel), self.taken),
+            Line::Channel(self.channel),
+            self.taken,
+        );
         self.taken += 1;
         Some(token)
+    }
+
+    /// Goes on for an input whose lists begin with those of its own. It takes no memory.
+    pub fn regrow(&mut self)
+        ghost input: { Lists }
+        requires { AreInputsExtended (inputs_of self.old.input) (inputs_of input) }
+        ensures { self.new ≡ record self.old { input = input } }
+    {
+        self.input = About::named();
     }
 
     /// Makes room for one token more.
@@ -110,4 +127,37 @@ impl<A: Allocator> Queue<A> {
     {
         self.tokens.len()
     }
+}
+
+// The token of the same place of another input, where the value stands too.
+fn lifted(
+    network: &About<Network>,
+    input: &About<Input>,
+    token: Token,
+    line: Line,
+    place: u64,
+) -> Token
+    requires names { (token.network.value ≡ network.now.value) × AreInputsExtended (inputs_of token.input.value) (inputs_of input.now.value) }
+    requires here { (token.line ≡ line) × (token.place ≡ place) }
+    ensures here { (result.line ≡ line) × (result.place ≡ place) }
+    ensures names { IsOf network.now.value input.now.value result }
+{
+    let value = token.value();
+    named_token(network, input, line, place, value)
+}
+
+// The token of a value that stands there, for names that are at hand.
+fn named_token(
+    _network: &About<Network>,
+    _input: &About<Input>,
+    line: Line,
+    place: u64,
+    value: Value,
+) -> Token
+    ghost names: { Names }
+    requires { Holds names.network names.input line place value }
+    ensures here { (result.line ≡ line) × (result.place ≡ place) × (result.value ≡ value) }
+    ensures names { IsOf names.network names.input result }
+{
+    Token::of(line, place, value)
 }

@@ -1,4 +1,4 @@
 use Rattle.kahn_code.proofs.cell.Cell.grown.Given as goal
 
-abbrev pub ghost-named : goal.ghost-named
-ghost-named g a = a._input.now
+abbrev pub ghost-regrown : goal.ghost-regrown
+ghost-regrown g a = a._input.now

@@ -1,5 +1,6 @@
 use Rattle.std.proofs.Common.{ap, sym, ◌∙◌, ◌+◌}
-use Rattle.kahn_code.proofs.Common.{Channel, follow_push, all_push}
+use Rattle.kahn_code.proofs.Common.{Channel, follow_push}
+use Rattle.kahn_code.proofs.Begin.{begin_push}
 use Rattle.kahn_code.specs.Queues.{Waiting}
 use Rattle.kahn_code.proofs.queue.Queue.put.Goals as goal
 
@@ -11,6 +12,6 @@ invariant_of-self g c =
       follow_push (Channel q.channel) q.taken q.tokens.items c.args.token c.self.invariant.0
           (c.requires.line ∙ ap (λ (w : Waiting). Channel w.channel) is)
           (c.requires.place ∙ ap (λ (w : Waiting). w.taken + w.waiting) is),
-      all_push q.network.value q.input.value q.tokens.items c.args.token c.self.invariant.1
+      begin_push q.network.value q.input.value q.tokens.items c.args.token c.self.invariant.1
           (c.requires.names.0 ∙ ap (λ (w : Waiting). w.network) is, c.requires.names.1 ∙ ap (λ (w : Waiting). w.input) is),
     )

@@ -1,4 +1,4 @@
-use Rattle.kahn_code.proofs.cell.assembled.Given as goal
+use Rattle.kahn_code.proofs.tap.assembled.Given as goal
 
 abbrev pub ghost-named : goal.ghost-named
 ghost-named g a = g.names.network

@@ -1,7 +1,7 @@
 use Rattle.std.proofs.Common.{◌∙◌}
 use Rattle.kahn_code.proofs.Common.{network_of}
 use Rattle.kahn_code.proofs.Celled.{if_ok_both, opened_as, standing_opened}
-use Rattle.kahn_code.proofs.cell.opened.Goals as goal
+use Rattle.kahn_code.proofs.tap.opened.Goals as goal
 
 pub returns-clause-core : goal.returns-clause-core
 returns-clause-core g c =

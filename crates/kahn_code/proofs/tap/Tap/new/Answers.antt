@@ -1,5 +1,5 @@
 use Rattle.std.proofs.Common.{rules}
-use Rattle.kahn_code.proofs.cell.Cell.new.Goals as goal
+use Rattle.kahn_code.proofs.tap.Tap.new.Goals as goal
 
 pub assembled-requires : goal.assembled-requires
 assembled-requires g c =

@@ -3,7 +3,7 @@ use Rattle.kahn_code.proofs.Common.{network_of, inputs_of}
 use Rattle.kahn_code.specs.Progress.{core_of}
 use Rattle.kahn_code.specs.Told.{AreCounts}
 use Rattle.kahn_code.proofs.Few.{taken_bound, sent_bound}
-use Rattle.kahn_code.proofs.cell.Cell.sized.Goals as goal
+use Rattle.kahn_code.proofs.tap.Tap.sized.Goals as goal
 
 pub returns : goal.returns
 returns g c =
@@ -13,7 +13,7 @@ returns g c =
     let w = i.progress.watch in
     let p = i.progress.instance in
     let s = c.self.invariant.stands in
-    subst AreCounts c.self.view_is (record {
+    subst (λ v. AreCounts v.told) c.self.view_is (record {
       taken_size = s.1.taken_size;
       sent_size = s.1.sent_size;
       taken_few = taken_bound N I w p (core_of i.progress) s.0 s.1;

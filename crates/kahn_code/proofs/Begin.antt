@@ -1,0 +1,17 @@
+-- Tokens of inputs that begin another one.
+use Rattle.std.proofs.Common.{◌≡◌, List, [], ◌∷◌, ◌++◌, sym, subst}
+use Rattle.kahn_code.proofs.Common.{Program, Token, Lists, inputs_of, AreInputsExtended, IsOf, prefix_refl, prefix_trans}
+use Rattle.kahn_code.specs.inner.Begins.{AllBegin}
+
+pub all_longer : (t : Program) (before after : Lists) (ts : List Token) → AreInputsExtended (inputs_of before) (inputs_of after) → AllBegin t before ts → AllBegin t after ts
+all_longer t before after [] grown h = tt
+all_longer t before after (x ∷ ts) grown h = (h.0, λ c. prefix_trans _ _ _ (h.1 c) (grown c), all_longer t before after ts grown h.2)
+
+pub begin_push : (t : Program) (lists : Lists) (ts : List Token) (x : Token) → AllBegin t lists ts → IsOf t lists x → AllBegin t lists (ts ++ x ∷ [])
+begin_push t lists [] x h is = (is.0, subst (λ i. AreInputsExtended (inputs_of i) (inputs_of lists)) (sym is.1) (λ c. prefix_refl (inputs_of lists c)), tt)
+begin_push t lists (y ∷ ts) x h is = (h.0, h.1, begin_push t lists ts x h.2 is)
+
+pub first_begins : (t : Program) (lists : Lists) (ts rest : List Token) (x y : Token) → ts ≡ x ∷ rest → y ≡ x → AllBegin t lists ts → (y.network.value ≡ t) × AreInputsExtended (inputs_of y.input.value) (inputs_of lists)
+first_begins t lists ts rest x y e same h =
+    let all : AllBegin t lists (x ∷ rest) = subst (AllBegin t lists) e h in
+    subst (λ z. (z.network.value ≡ t) × AreInputsExtended (inputs_of z.input.value) (inputs_of lists)) (sym same) (all.0, all.1)
