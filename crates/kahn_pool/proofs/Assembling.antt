@@ -1,6 +1,6 @@
 -- An answer put together from cells at rest is right.
 use mathlib.Core.Path.{fun_ext}
-use Rattle.std.proofs.Common.{arith, ◌≡◌, ◌⊎◌, inl, inr, ℕ, zero, suc, ◌<◌, ◌≤◌, max, List, [], ◌∷◌, length, sum_by, refl, sym, ap, ◌∙◌, subst, le_refl, not-suc-le-zero, Option, Some, None, slice_get, slice_index_or, pos}
+use Rattle.std.proofs.Common.{arith, ◌≡◌, ◌⊎◌, inl, inr, ℕ, zero, suc, ◌<◌, ◌≤◌, max, List, [], ◌∷◌, length, sum_by, map, refl, sym, ap, ◌∙◌, subst, true, le_refl, not-suc-le-zero, Option, Some, None, slice_get, slice_index_or, pos}
 use Rattle.kahn_streams.specs.declared.value.Line.{Line}
 use Rattle.kahn_streams.specs.declared.value.Line.TheVariants.{Channel, Print}
 use Rattle.kahn_tree.specs.Syntax.{Number}
@@ -14,7 +14,7 @@ use Rattle.kahn_streams.specs.Laws.{IsExtended, IsQuiet, IsSettled, KeepsTape}
 use Rattle.kahn_streams.proofs.Framed.{begins_nil}
 use Rattle.kahn_streams.proofs.Proved.{prefix_refl, prefix_trans, Feeds, out_grows, chain, solves, fits_all}
 use Rattle.kahn_streams.proofs.Finished.{settled}
-use Rattle.kahn_code.specs.Cells.{AllStand, View, IsKept}
+use Rattle.kahn_code.specs.Cells.{AllStand, View, IsKept, is_streamed, token_value}
 use Rattle.kahn_pool.specs.declared.answer.Answer.{Answer}
 use Rattle.kahn_pool.specs.declared.answer.Stream.{Stream}
 use Rattle.kahn_pool.specs.declared.answer.End.{End}
@@ -325,6 +325,23 @@ module _ (N : Network) (I : Inputs) (bound : ℕ) (watch : Option ℕ) (said : V
         ended = end_of;
         bounded = g.bounded;
       }
+
+  -- ---- what is known of the lines
+
+  -- what a writer kept, and what a process printed, is the tape
+  pub kept_values : (p q d : ℕ) → source N (Channel d) ≡ Written p → actual_at (instance_at N p) q ≡ Writes d → is_streamed N watch d ≡ true →
+      map token_value ((view_at g.cells p).kept q) ≡ are_right.tapes (Channel d)
+  unfolding are_right
+  kept_values p q d s w streamed =
+      ((stood p).kept q d w streamed).values ∙ sym (ap (λ x. fed x I (λ r. out N (e r) r (T r) (Channel d)) (Channel d)) s)
+
+  pub printed_values : (p : ℕ) → map token_value (view_at g.cells p).printed ≡ are_right.tapes (Print p)
+  unfolding are_right
+  printed_values p = (stood p).printed.values
+
+  pub whole_tapes : said ≡ Finished → (c : Line) → IsWhole N I c (are_right.tapes c)
+  unfolding are_right
+  whole_tapes f c = (settles f).0 c
 
 -- ---- an answer
 

@@ -64,6 +64,11 @@ stopped s bound left memory v ends done last rule within count =
         in
         omega (arith, t, e, count)
 
+pub stopped_cells : (s : State) (bound left : ℕ) (memory : Bool) (v : Verdict) (ends : List End) (done : ℕ) (last : IsLast s bound left memory ends) (rule : IsVerdict memory ends v)
+    (within : AreWithin s.network s.input s.cells) (count : done + left ≡ bound) → (stopped s bound left memory v ends done last rule within count).cells ≡ s.cells
+unfolding stopped
+stopped_cells s bound left memory v ends done last rule within count = refl
+
 pub gathered : (s : State) (bound left : ℕ) (memory : Bool) (a : Answer) → IsLast s bound left memory a.ends.items →
     AreStreams s a.streams.items (stream_lines s.network s.watch) → IsVerdict memory a.ends.items a.verdict →
     AreWithin s.network s.input s.cells → a.events + left ≡ bound → IsGathered s.network s.input bound s.watch a

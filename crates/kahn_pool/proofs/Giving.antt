@@ -104,6 +104,10 @@ role_given Input s n e = refl
 role_given Inner s n e = absurd (n e)
 role_given Output s n e = absurd (n e)
 
+-- a channel that is given from outside is an input channel
+pub input_role : (N : Network) (c : ℕ) → channel_source N c ≡ Given → role_at N c ≡ Input
+input_role N c e = role_given (role_at N c) (first_writer N.instances 0 c) (no_given N.instances 0 c) e
+
 given_role : (r : Role) (s : Source) → r ≡ Input → source_by r s ≡ Given
 given_role r s e = ap (λ x. source_by x s) e
 
@@ -112,7 +116,7 @@ pub channel_given : (N : Network) (I : Inputs) (c : ℕ) (before after : List To
 channel_given N I c before after f g = by (source N (Channel c)) refl
   where
     by : (o : Source) → channel_source N c ≡ o → HasInput N I o (Channel c) before after
-    by Given e = f (role_given (role_at N c) (first_writer N.instances 0 c) (no_given N.instances 0 c) e)
+    by Given e = f (input_role N c e)
     by (Written p) e = g (λ r. absurd (let h : Given ≡ Written p = sym (given_role (role_at N c) (first_writer N.instances 0 c) r) ∙ e in cc))
     by Nobody e = g (λ r. absurd (let h : Given ≡ Nobody = sym (given_role (role_at N c) (first_writer N.instances 0 c) r) ∙ e in cc))
 

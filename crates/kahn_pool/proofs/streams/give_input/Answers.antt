@@ -18,4 +18,4 @@ returns-in_ok-give_list-clause-given c =
 pub give_list-requires : goal.give_list-requires
 give_list-requires c =
     let vs = inputs_of c.args.input.now c.in-Channel.channel in
-    begun_none (network_of c.args.network.now) (inputs_of c.args.input.now) c.in-Channel.channel vs c.args.stream.now.tokens.items c.requires.bare
+    record { begun = begun_none (network_of c.args.network.now) (inputs_of c.args.input.now) c.in-Channel.channel vs c.args.stream.now.tokens.items c.requires.bare }

@@ -8,7 +8,7 @@ use Rattle.kahn_pool.proofs.streams.give_list.Goals as goal
 
 pub tokens-init : goal.tokens-init
 tokens-init c =
-    record { begun = c.requires; given = inl refl }
+    record { begun = c.requires.begun; given = inl refl }
 
 pub tokens-smaller : goal.tokens-smaller
 tokens-smaller c =

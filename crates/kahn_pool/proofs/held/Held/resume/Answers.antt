@@ -5,8 +5,8 @@ use Rattle.kahn_pool.specs.inner.Holding.{HasStopped}
 use Rattle.kahn_pool.proofs.Held_runs.{resumed, resumed_ok, run_of, several, still_holding, still_same}
 use Rattle.kahn_pool.proofs.held.Held.resume.Goals as goal
 
-pub invariant_of-self : goal.invariant_of-self
-invariant_of-self g c =
+pub invariant_of-self-in-Err-NoMemory : goal.invariant_of-self-in-Err-NoMemory
+invariant_of-self-in-Err-NoMemory g c =
     let i = c.self.inside in
     let e : c.replace-idles.result.items ≡ i.idles.items = search rules in
     let r = c.self.invariant.0.range.4 in
@@ -14,9 +14,11 @@ invariant_of-self g c =
     let few : i.plan.bound + c.args.more < 2 ^ 48 = omega (arith, f, r) in
     let s = subst
     (λ (l : List Work). HasStopped i.network.now i.input i.plan.watch i.plan.workers (i.plan.bound + c.args.more) l (i.budget + c.args.more) c.run_part-stopped.result) e
-    c.run_part-stopped.ensures in
-    still_holding i.network.now c.program-program.ensures.wired i.code.network.value i.input i.plan.watch i.plan.workers i.plan.quantum i.plan.bound i.idles.items i.budget
-    i.ends.items i.verdict c.self.invariant.0 c.args.more few c.run_part-stopped.result s (search rules)
+    c.run_part-stopped.ensures in (
+      still_holding i.network.now c.program-program.ensures.wired i.code.network.value i.input i.plan.watch i.plan.workers i.plan.quantum i.plan.bound i.idles.items i.budget
+          i.ends.items i.verdict c.self.invariant.0 c.args.more few c.run_part-stopped.result s (search rules),
+      (c.in_ok-give_watched.ensures.begun, λ v said. c.in_ok-give_watched.ensures.all),
+    )
 
 pub returns-in-Err-NoMemory : goal.returns-in-Err-NoMemory
 returns-in-Err-NoMemory g c =

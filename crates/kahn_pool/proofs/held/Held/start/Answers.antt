@@ -1,4 +1,4 @@
-use Rattle.std.proofs.Common.{rules, [], refl, sym, subst}
+use Rattle.std.proofs.Common.{rules, refl, sym, subst}
 use Rattle.kahn_network.specs.Network.{network_of}
 use Rattle.kahn_streams.specs.Tokens.{inputs_of}
 use Rattle.kahn_pool.proofs.Giving.{begun_none}
@@ -19,7 +19,7 @@ invariant_of-result c =
         held = c.in_ok-idles.ensures.held c.plan_of-plan.result.bound;
         ended = tt;
       },
-      (λ channel e. begun_none (network_of c.args.network.now) I channel (I channel) [] refl, λ v e. absurd cc),
+      (λ channel e. begun_none (network_of c.args.network.now) I channel (I channel) c.new-2.result.items (search rules), λ v e. absurd cc),
     )
 
 pub returns : goal.returns
