@@ -55,7 +55,7 @@ news_moved program h lines counts i d all done below e =
 pub tokens_new : (program : Program) (h : HeldRun) (c : Line) (ts us : List Token) (n : ℕ) → IsWellWired h.network → HasSoFar h c (map token_value ts) → us ≡ drop n ts →
     more_text program c (map token_value us) ≡ more_text program c (drop n (so_far h c))
 tokens_new program h c ts us n wired so e =
-    ap (more_text program c) (ap (map token_value) e ∙ drop-map token_value n ts ∙ ap (drop n) (so_far_is h wired c (map token_value ts) so))
+    ap (more_text program c) (ap (map token_value) e ∙ sym (drop-map token_value n ts) ∙ ap (drop n) (so_far_is h wired c (map token_value ts) so))
 
 all_at : {A : Type 0} (P : A → Type 0) (xs : List A) (i : ℕ) (x : A) → AllByRecursion P xs → slice_get xs i ≡ Some x → P x
 all_at P [] i x h e = absurd cc

@@ -10,13 +10,17 @@ use Rattle.kahn_pool.specs.HeldRuns.{GoesOn, HasSoFar, HeldRun, so_far}
 use Rattle.kahn_pool.specs.Right.{stream_lines}
 use Rattle.kahn_pool.proofs.Held_calls.{still_so}
 use Rattle.kahn_pool.proofs.Held_streams.{so_far_is}
-use Rattle.kahn_report.specs.News.{joined}
+use Rattle.kahn_report.specs.News.{joined, news_text}
+use Rattle.kahn_tree.specs.declared.tree.Program.{Program}
 use Rattle.kahn_session.specs.Live.{lines_of}
 use Rattle.kahn_session.specs.inner.Shown.{AreAllShown, AreShown, news_of, shown_of}
 
 -- both have the same lines
 pub lines_stay : (a b : HeldRun) → GoesOn a b → lines_of b ≡ lines_of a
 lines_stay a b g = ap (λ t. stream_lines (network_of t) b.watch) g.network ∙ ap (λ w. stream_lines (network_of a.network) w) g.watch
+
+pub kept_lines : (a b : HeldRun) (lines : List Line) → lines ≡ lines_of a → GoesOn a b → lines ≡ lines_of b
+kept_lines a b lines e g = e ∙ sym (lines_stay a b g)
 
 longer : (vs ws : List Value) → IsPrefix vs ws → length vs ≤ length ws
 longer vs ws (zs, e) = let n = ap length e in let m = length-append vs zs in omega (arith, n, m)
@@ -57,12 +61,23 @@ pub shown_stays : (a b : HeldRun) (counts : List ℕ) → IsWellWired a.network 
     shown_of b (lines_of a) counts ≡ shown_of a (lines_of a) counts
 shown_stays a b counts wired g h = same_shown a b (lines_of a) counts (stay a b counts wired g h)
 
+pub kept_shown : (a b : HeldRun) (lines : List Line) (counts : List ℕ) → lines ≡ lines_of a → IsWellWired a.network → GoesOn a b → AreShown a counts →
+    shown_of b lines counts ≡ shown_of a lines counts
+kept_shown a b lines counts e wired g h = subst (λ l. shown_of b l counts ≡ shown_of a l counts) (sym e) (shown_stays a b counts wired g h)
+
+-- the text of the news, by what it is of
+pub news_texts : (t : Program) (a b : HeldRun) (lines : List Line) (counts : List ℕ) → t ≡ b.network → lines ≡ lines_of b → lines ≡ lines_of a →
+    news_text t lines (news_of b lines counts) ≡ news_text b.network (lines_of b) (news_of b (lines_of a) counts)
+news_texts t a b lines counts e f g =
+    ap (λ u. news_text u lines (news_of b lines counts)) e ∙ ap (λ l. news_text b.network l (news_of b lines counts)) f
+    ∙ ap (λ l. news_text b.network (lines_of b) (news_of b l counts)) g
+
 take_drop : (n : ℕ) (vs : List Value) → take n vs ++ drop n vs ≡ vs
 take_drop zero vs = refl
 take_drop (suc n) [] = refl
 take_drop (suc n) (v ∷ vs) = ap (λ l. v ∷ l) (take_drop n vs)
 
-none_shown : (h : HeldRun) (lines : List Line) → shown_of h lines [] ≡ []
+pub none_shown : (h : HeldRun) (lines : List Line) → shown_of h lines [] ≡ []
 none_shown h [] = refl
 none_shown h (c ∷ lines) = refl
 

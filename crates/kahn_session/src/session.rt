@@ -224,6 +224,7 @@ impl<'n> Session<'n> {
             Err(PartFault::NoMemory) => return Err(TakeFault::WaitsForMemory),
             Err(PartFault::NoThread) => return Err(TakeFault::WaitsForThread),
         };
+        let _ends = self.paced.ends();
         if let Err(fault) = show(
             writer,
             self.network,
