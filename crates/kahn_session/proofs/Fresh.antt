@@ -13,7 +13,7 @@ use Rattle.kahn_pool.proofs.Held_streams.{so_far_is}
 use Rattle.kahn_report.specs.News.{more_text, news_text}
 use Rattle.kahn_report.specs.Report.{IsLine}
 use Rattle.kahn_report.proofs.Right_lines.{streamed_lines}
-use Rattle.kahn_session.specs.Live.{lines_of}
+use Rattle.kahn_session.specs.Live.{run_lines}
 use Rattle.kahn_session.specs.inner.Shown.{news_of}
 
 -- what is new on one stream
@@ -66,5 +66,5 @@ all_at P (y ∷ xs) zero x h e = subst P (same e) h.0
 all_at P (y ∷ xs) (suc i) x h e = all_at P xs i x h.1 e
 
 -- a line of a stream is one of the network
-pub is_line : (t : Program) (h : HeldRun) (i : ℕ) (c : Line) → h.network ≡ t → slice_get (lines_of h) i ≡ Some c → IsLine t c
-is_line t h i c e at = subst (λ u. IsLine u c) e (all_at (IsLine h.network) (lines_of h) i c (streamed_lines h.network h.watch) at)
+pub is_line : (t : Program) (h : HeldRun) (i : ℕ) (c : Line) → h.network ≡ t → slice_get (run_lines h) i ≡ Some c → IsLine t c
+is_line t h i c e at = subst (λ u. IsLine u c) e (all_at (IsLine h.network) (run_lines h) i c (streamed_lines h.network h.watch) at)

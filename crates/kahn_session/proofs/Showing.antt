@@ -12,14 +12,14 @@ use Rattle.kahn_pool.proofs.Held_calls.{still_so}
 use Rattle.kahn_pool.proofs.Held_streams.{so_far_is}
 use Rattle.kahn_report.specs.News.{joined, news_text}
 use Rattle.kahn_tree.specs.declared.tree.Program.{Program}
-use Rattle.kahn_session.specs.Live.{lines_of}
+use Rattle.kahn_session.specs.Live.{run_lines}
 use Rattle.kahn_session.specs.inner.Shown.{AreAllShown, AreShown, news_of, shown_of}
 
 -- both have the same lines
-pub lines_stay : (a b : HeldRun) → GoesOn a b → lines_of b ≡ lines_of a
+pub lines_stay : (a b : HeldRun) → GoesOn a b → run_lines b ≡ run_lines a
 lines_stay a b g = ap (λ t. stream_lines (network_of t) b.watch) g.network ∙ ap (λ w. stream_lines (network_of a.network) w) g.watch
 
-pub kept_lines : (a b : HeldRun) (lines : List Line) → lines ≡ lines_of a → GoesOn a b → lines ≡ lines_of b
+pub kept_lines : (a b : HeldRun) (lines : List Line) → lines ≡ run_lines a → GoesOn a b → lines ≡ run_lines b
 kept_lines a b lines e g = e ∙ sym (lines_stay a b g)
 
 longer : (vs ws : List Value) → IsPrefix vs ws → length vs ≤ length ws
@@ -42,7 +42,7 @@ take_front (suc n) (v ∷ vs) zs few = ap (λ l. v ∷ l) (take_front n vs zs (o
 abbrev Stay : HeldRun → HeldRun → List Line → List ℕ → Type 0
 Stay a b lines counts = (j : ℕ) (c : Line) (n : ℕ) → slice_get lines j ≡ Some c → slice_get counts j ≡ Some n → take n (so_far b c) ≡ take n (so_far a c)
 
-stay : (a b : HeldRun) (counts : List ℕ) → IsWellWired a.network → GoesOn a b → AreShown a counts → Stay a b (lines_of a) counts
+stay : (a b : HeldRun) (counts : List ℕ) → IsWellWired a.network → GoesOn a b → AreShown a counts → Stay a b (run_lines a) counts
 stay a b counts wired g h j c n line at =
     let (vs, so, few) = h j c n line at in
     let (us, later) = still_so a b g c vs so in
@@ -58,19 +58,19 @@ same_shown a b (c ∷ lines) (n ∷ counts) h =
 
 -- what was shown stays what it was
 pub shown_stays : (a b : HeldRun) (counts : List ℕ) → IsWellWired a.network → GoesOn a b → AreShown a counts →
-    shown_of b (lines_of a) counts ≡ shown_of a (lines_of a) counts
-shown_stays a b counts wired g h = same_shown a b (lines_of a) counts (stay a b counts wired g h)
+    shown_of b (run_lines a) counts ≡ shown_of a (run_lines a) counts
+shown_stays a b counts wired g h = same_shown a b (run_lines a) counts (stay a b counts wired g h)
 
-pub kept_shown : (a b : HeldRun) (lines : List Line) (counts : List ℕ) → lines ≡ lines_of a → IsWellWired a.network → GoesOn a b → AreShown a counts →
+pub kept_shown : (a b : HeldRun) (lines : List Line) (counts : List ℕ) → lines ≡ run_lines a → IsWellWired a.network → GoesOn a b → AreShown a counts →
     shown_of b lines counts ≡ shown_of a lines counts
 kept_shown a b lines counts e wired g h = subst (λ l. shown_of b l counts ≡ shown_of a l counts) (sym e) (shown_stays a b counts wired g h)
 
 -- the text of the news, by what it is of
-pub news_texts : (t : Program) (a b : HeldRun) (lines : List Line) (counts : List ℕ) → t ≡ b.network → lines ≡ lines_of b → lines ≡ lines_of a →
-    news_text t lines (news_of b lines counts) ≡ news_text b.network (lines_of b) (news_of b (lines_of a) counts)
+pub news_texts : (t : Program) (a b : HeldRun) (lines : List Line) (counts : List ℕ) → t ≡ b.network → lines ≡ run_lines b → lines ≡ run_lines a →
+    news_text t lines (news_of b lines counts) ≡ news_text b.network (run_lines b) (news_of b (run_lines a) counts)
 news_texts t a b lines counts e f g =
     ap (λ u. news_text u lines (news_of b lines counts)) e ∙ ap (λ l. news_text b.network l (news_of b lines counts)) f
-    ∙ ap (λ l. news_text b.network (lines_of b) (news_of b l counts)) g
+    ∙ ap (λ l. news_text b.network (run_lines b) (news_of b l counts)) g
 
 take_drop : (n : ℕ) (vs : List Value) → take n vs ++ drop n vs ≡ vs
 take_drop zero vs = refl
@@ -97,8 +97,8 @@ put_together a b (c ∷ lines) (n ∷ counts) h =
 
 -- what was shown and the news are the streams so far
 pub news_fit : (a b : HeldRun) (counts : List ℕ) → IsWellWired a.network → GoesOn a b → AreShown a counts →
-    joined (shown_of a (lines_of a) counts) (news_of b (lines_of a) counts) ≡ map (so_far b) (lines_of a)
-news_fit a b counts wired g h = put_together a b (lines_of a) counts (stay a b counts wired g h)
+    joined (shown_of a (run_lines a) counts) (news_of b (run_lines a) counts) ≡ map (so_far b) (run_lines a)
+news_fit a b counts wired g h = put_together a b (run_lines a) counts (stay a b counts wired g h)
 
 -- ---- all was shown
 
@@ -118,6 +118,6 @@ whole h (c ∷ lines) (n ∷ counts) many each =
     take_all [] = refl
     take_all (v ∷ vs) = ap (λ l. v ∷ l) (take_all vs)
 
-pub all_shown : (h : HeldRun) (counts : List ℕ) → IsWellWired h.network → AreAllShown h counts → shown_of h (lines_of h) counts ≡ map (so_far h) (lines_of h)
+pub all_shown : (h : HeldRun) (counts : List ℕ) → IsWellWired h.network → AreAllShown h counts → shown_of h (run_lines h) counts ≡ map (so_far h) (run_lines h)
 all_shown h counts wired all =
-    whole h (lines_of h) counts all.many (λ j c n line at. let (vs, so, e) = all.each j c n line at in e ∙ ap length (so_far_is h wired c vs so))
+    whole h (run_lines h) counts all.many (λ j c n line at. let (vs, so, e) = all.each j c n line at in e ∙ ap length (so_far_is h wired c vs so))

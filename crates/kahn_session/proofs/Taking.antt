@@ -8,7 +8,7 @@ use Rattle.kahn_pool.specs.declared.answer.End.{End}
 use Rattle.kahn_pool.specs.declared.answer.Verdict.{Verdict}
 use Rattle.kahn_pool.proofs.Held_calls.{goes_on_same, goes_on_then}
 use Rattle.kahn_report.specs.News.{joined}
-use Rattle.kahn_session.specs.Live.{HasAnswered, HasGoneOn, IsFedBy, IsTaken, IsUnfedBy, Live, lines_of}
+use Rattle.kahn_session.specs.Live.{HasAnswered, HasGoneOn, IsFedBy, IsTaken, IsUnfedBy, Live, run_lines}
 use Rattle.kahn_session.specs.Pace.{IsNoPart, IsPart, Pace, most_bound, part_bound}
 use Rattle.kahn_session.specs.inner.Shown.{AreShown, news_of, shown_of}
 use Rattle.kahn_session.specs.declared.fault.PartFault.{PartFault}
@@ -70,16 +70,16 @@ module _ (line : List ℕ) (h : HeldRun) (wired : IsWellWired h.network) (p q : 
         (record { gone_on = gone_on later broken g input stays; shown = same; text = refl }, subst (λ n. 1 < n) (fed_workers line h p.run fed) n.1)
 
     -- a line that was fed, and whose part has a verdict
-    pub answered : (counts : List ℕ) (later : List (List Value)) (torn : Bool) (v : Verdict) (ends : List End) → shown ≡ shown_of h (lines_of h) counts → AreShown h counts →
+    pub answered : (counts : List ℕ) (later : List (List Value)) (torn : Bool) (v : Verdict) (ends : List End) → shown ≡ shown_of h (run_lines h) counts → AreShown h counts →
         IsPart p q v → IsRightSoFar q.run v ends →
-        HasAnswered line (record { run = h; step = step; shown = shown; broken = broken }) (record { run = q.run; step = q.step; shown = later; broken = torn }) v (news_of q.run (lines_of h) counts)
+        HasAnswered line (record { run = h; step = step; shown = shown; broken = broken }) (record { run = q.run; step = q.step; shown = later; broken = torn }) v (news_of q.run (run_lines h) counts)
     answered counts later torn v ends is are n right = record {
       gone_on = gone_on later torn n.run.goes_on n.run.input n.run.step;
       bound = n.run.bound ∙ ap (λ m. part_bound m p.run) step_is ∙ ap (λ (l : List Seen). min (sum_by seen_events l + step) most_bound) (fed_cells line h p.run fed);
       verdict = n.settled;
       ends = (ends, right);
       exact = n.exact;
-      joined = ap (λ (s : List (List Value)). joined s (news_of q.run (lines_of h) counts)) is ∙ news_fit h q.run counts wired (whole_on n.run.goes_on) are
+      joined = ap (λ (s : List (List Value)). joined s (news_of q.run (run_lines h) counts)) is ∙ news_fit h q.run counts wired (whole_on n.run.goes_on) are
           ∙ ap (λ l. map (so_far q.run) l) (sym (lines_stay h q.run (whole_on n.run.goes_on)));
     }
 

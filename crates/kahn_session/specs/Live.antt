@@ -20,6 +20,7 @@ use Rattle.kahn_pool.specs.declared.config.RunFault.TheVariants as fault
 use Rattle.kahn_report.specs.Entries.{IsBlank, IsEntry, HasNoHead, HasNoValues, content, most_bytes}
 use Rattle.kahn_report.specs.News.{closing_text, joined, news_text}
 use Rattle.kahn_report.specs.Written.{AppendsFront}
+use Rattle.kahn_report.specs.declared.write.WriteFault.{WriteFault}
 use Rattle.kahn_session.specs.Pace.{events_of, part_bound}
 use Rattle.kahn_session.specs.declared.fault.TakeFault.{TakeFault}
 use Rattle.kahn_session.specs.declared.fault.TakeFault.TheVariants.{TooLong, NotUtf8, BadLine, BadValue, Feed, NoMemory, WaitsForMemory, WaitsForThread, Write}
@@ -34,12 +35,12 @@ pub record Live : Type 0 where
   pub broken : Bool
 
 -- the lines of the streams of a run
-abbrev pub lines_of : HeldRun → List Line
-lines_of h = stream_lines (network_of h.network) h.watch
+abbrev pub run_lines : HeldRun → List Line
+run_lines h = stream_lines (network_of h.network) h.watch
 
 -- the run has a verdict for its input so far and its bound so far, and no write failed
-abbrev pub IsSettled : Live → Type 0
-IsSettled s = (s.broken ≡ false) × ((v : Verdict) × (s.run.verdict ≡ Some v))
+abbrev pub HasVerdict : Live → Type 0
+HasVerdict s = (s.broken ≡ false) × ((v : Verdict) × (s.run.verdict ≡ Some v))
 
 -- ---- the start
 
@@ -94,25 +95,25 @@ pub record HasAnswered (line : List ℕ) (old new : Live) (v : Verdict) (news : 
   pub verdict : new.run.verdict ≡ Some v
   pub ends : (ends : List End) × IsRightSoFar new.run v ends
   pub exact : Settles (network_of new.run.network) (inputs_of new.run.input) new.run.bound v
-  pub joined : joined old.shown news ≡ map (so_far new.run) (lines_of new.run)
+  pub joined : joined old.shown news ≡ map (so_far new.run) (run_lines new.run)
 
 -- the text of the news
-abbrev pub text_of : Live → List (List Value) → List ℕ
-text_of s news = news_text s.run.network (lines_of s.run) news
+abbrev pub news_written : Live → List (List Value) → List ℕ
+news_written s news = news_text s.run.network (run_lines s.run) news
 
 -- the news went out
 pub record HasTaken (line : List ℕ) (old new : Live) (before after : Option (List ℕ)) (v : Verdict) : Type 0 where
   pub news : List (List Value)
   pub answered : HasAnswered line old new v news
-  pub shown : new.shown ≡ map (so_far new.run) (lines_of new.run)
-  pub text : Appends before after (text_of new news)
+  pub shown : new.shown ≡ map (so_far new.run) (run_lines new.run)
+  pub text : Appends before after (news_written new news)
 
 -- a fault of the writer: a prefix of the news went out
 pub record HasBroken (line : List ℕ) (old new : Live) (before after : Option (List ℕ)) : Type 0 where
   pub verdict : Verdict
   pub news : List (List Value)
   pub answered : HasAnswered line old new verdict news
-  pub text : AppendsFront before after (text_of new news)
+  pub text : AppendsFront before after (news_written new news)
 
 -- the line's values are fed and its part waits: nothing went out
 pub record IsWaiting (line : List ℕ) (old new : Live) (before after : Option (List ℕ)) : Type 0 where
@@ -154,6 +155,11 @@ IsTaken line old new before after (Err (Write f)) = HasBroken line old new befor
 -- ---- the end
 
 -- the text of how the run ended: its verdict, with the ends that are right for the input so far and the bound so far
-abbrev pub Closes : HeldRun → Verdict → List ℕ → Type 0
-Closes h v text =
+abbrev pub IsLastText : HeldRun → Verdict → List ℕ → Type 0
+IsLastText h v text =
     (h.verdict ≡ Some v) × ((ends : List End) × IsRightSoFar h v ends × (text ≡ closing_text h.network v ends (events_of h)))
+
+-- the text went out, or after a fault of the writer a prefix of it
+abbrev pub IsClosed : HeldRun → Option (List ℕ) → Option (List ℕ) → Result Verdict WriteFault → Type 0
+IsClosed h before after (Ok v) = (text : List ℕ) × IsLastText h v text × Appends before after text
+IsClosed h before after (Err f) = (v : Verdict) × (text : List ℕ) × IsLastText h v text × AppendsFront before after text

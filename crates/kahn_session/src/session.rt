@@ -1,14 +1,13 @@
 //! Sessions: what a line of input makes of a run, and what goes out after it.
 
-ghost use Rattle.std.specs.Io.KnownBytes.{Appends};
 ghost use Rattle.std.specs.Prelude.{◌≡◌, ◌↔◌, ◌≤◌, ℕ, List, Some, false, drop, length, slice_index_or, vec_capacity, [], IfOk, IsTrue, MatchOption, MatchResult};
 ghost use Rattle.kahn_streams.specs.Entries.{entry_of};
 ghost use Rattle.kahn_pool.specs.HeldRuns.{HeldRun};
 ghost use Rattle.kahn_pool.specs.declared.answer.Verdict.{Verdict as VerdictOf};
 ghost use Rattle.kahn_report.specs.Entries.{IsBlank, IsEntry, content};
 ghost use Rattle.kahn_report.specs.News.{news_text};
-ghost use Rattle.kahn_report.specs.Written.{AppendsFront, Writes};
-ghost use Rattle.kahn_session.specs.Live.{Closes, HasOpened, IsFedBy, IsSettled, IsTaken, IsText, IsUnfedBy, IsUnopened, breaks, lines_of};
+ghost use Rattle.kahn_report.specs.Written.{Writes};
+ghost use Rattle.kahn_session.specs.Live.{HasOpened, IsClosed, IsFedBy, HasVerdict, IsTaken, IsText, IsUnfedBy, IsUnopened, breaks, run_lines};
 ghost use Rattle.kahn_session.specs.inner.Shown.{AreAllShown, news_of};
 
 use crate::fault::{PartFault, TakeFault};
@@ -42,7 +41,7 @@ impl<'n> Model for Session<'n> {
     ghost use Rattle.kahn_tree.specs.contracts.tree.Form as form;
     ghost use Rattle.std.specs.Coded.{codes};
     ghost use Rattle.std.specs.Prelude.{◌≡◌, ◌≤◌, length, vec_capacity};
-    ghost use Rattle.kahn_session.specs.Live.{Live, lines_of};
+    ghost use Rattle.kahn_session.specs.Live.{Live, run_lines};
     ghost use Rattle.kahn_session.specs.inner.Shown.{AreShown, shown_of};
 
     ghost Value = { Live };
@@ -51,7 +50,7 @@ impl<'n> Model for Session<'n> {
 
     ghost view = { λ s. record { run = s.paced.run; step = s.paced.step; shown = shown_of s.paced.run s.lines.items s.shown.items; broken = s.broken } };
 
-    ghost invariant = { λ s. (s.paced.run.network ≡ s.network.now) × (s.lines.items ≡ lines_of s.paced.run) × AreShown s.paced.run s.shown.items
+    ghost invariant = { λ s. (s.paced.run.network ≡ s.network.now) × (s.lines.items ≡ run_lines s.paced.run) × AreShown s.paced.run s.shown.items
         × (length s.lines.items ≤ vec_capacity s.shown) };
 }
 
@@ -125,7 +124,7 @@ fn put_news<W: Write>(
     shown: &[usize],
 ) -> Result<(), WriteFault>
     requires network { run.now.run.network ≡ network.now }
-    requires lines { lines.now ≡ lines_of run.now.run }
+    requires lines { lines.now ≡ run_lines run.now.run }
     requires settled { (v : VerdictOf) × (run.now.run.verdict ≡ Some v) }
     ensures { Writes (W.contents writer.old) (W.contents writer.new) result (news_text network.now lines.now (news_of run.now.run lines.now shown.now)) }
 {
@@ -146,7 +145,7 @@ fn show<W: Write>(
     shown: &[usize],
 ) -> Result<(), WriteFault>
     requires network { run.now.run.network ≡ network.now }
-    requires lines { lines.now ≡ lines_of run.now.run }
+    requires lines { lines.now ≡ run_lines run.now.run }
     requires settled { (v : VerdictOf) × (run.now.run.verdict ≡ Some v) }
     ensures { Writes (W.contents writer.old) (W.contents writer.new) result (news_text network.now lines.now (news_of run.now.run lines.now shown.now)) }
 {
@@ -156,7 +155,7 @@ fn show<W: Write>(
 
 /// Counts the values of each stream, all of which were shown. It takes no memory.
 fn count_shown(run: &Paced<'_>, lines: &[Line], shown: &mut Vec<usize>)
-    requires lines { lines.now ≡ lines_of run.now.run }
+    requires lines { lines.now ≡ run_lines run.now.run }
     requires settled { (v : VerdictOf) × (run.now.run.verdict ≡ Some v) }
     requires room { length lines.now ≤ vec_capacity shown.old }
     ensures counts { AreAllShown run.now.run shown.new.items }
@@ -241,7 +240,7 @@ impl<'n> Session<'n> {
 
     /// Whether the last part has a verdict that still holds, and no write failed. Then the session may be closed.
     pub fn settled(&self) -> bool
-        ensures { IsTrue result ↔ IsSettled self.now }
+        ensures { IsTrue result ↔ HasVerdict self.now }
     {
         !self.broken && self.paced.verdict().is_some()
     }
@@ -256,10 +255,8 @@ impl<'n> Session<'n> {
     /// Writes the last lines of a report, how each process stands and how the run ended, and flushes. It is asked for only
     /// where the session is settled. It takes no memory. After a fault of the writer a prefix of the lines went out.
     pub fn close<W: Write>(&self, writer: &mut W) -> Result<Verdict, WriteFault>
-        requires { IsSettled self.now }
-        ensures { MatchResult result
-            (λ v. (text : List ℕ) × Closes self.now.run v text × Appends (W.contents writer.old) (W.contents writer.new) text)
-            (λ _. (v : VerdictOf) × (text : List ℕ) × Closes self.now.run v text × AppendsFront (W.contents writer.old) (W.contents writer.new) text) }
+        requires { HasVerdict self.now }
+        ensures { IsClosed self.now.run (W.contents writer.old) (W.contents writer.new) result }
     {
         let Some(verdict) = self.paced.verdict() else {
             unreachable!()

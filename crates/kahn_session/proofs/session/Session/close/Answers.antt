@@ -2,7 +2,7 @@ use Rattle.std.proofs.Common.{◌≡◌, ◌∙◌, ℕ, List, Some, sym, ap, su
 use Rattle.kahn_pool.specs.declared.answer.Verdict.{Verdict as VerdictOf}
 use Rattle.kahn_report.specs.News.{closing_text}
 use Rattle.kahn_report.specs.Written.{AppendsFront}
-use Rattle.kahn_session.specs.Live.{Closes, Live}
+use Rattle.kahn_session.specs.Live.{IsLastText, Live}
 use Rattle.kahn_session.proofs.session.Session.close.Goals as goal
 
 pub returns-in-Err : goal.returns-in-Err
@@ -15,6 +15,6 @@ returns-in-Err g c =
     let text = closing_text i.network.now v ends c.events.result in
     let same = ap (λ t. closing_text t v ends c.events.result) (sym c.self.invariant.0) ∙ ap (λ n. closing_text h.network v ends n) c.events.ensures in
     subst
-    (λ (s : Live). (x : VerdictOf) × (l : List ℕ) × Closes s.run x l × AppendsFront (g.W.Write.contents c.args.writer.now) (g.W.Write.contents c.write_closing.new.writer) l)
+    (λ (s : Live). (x : VerdictOf) × (l : List ℕ) × IsLastText s.run x l × AppendsFront (g.W.Write.contents c.args.writer.now) (g.W.Write.contents c.write_closing.new.writer) l)
     c.self.view_is
     (v, text, (is, (ends, c.ends.ensures v is, same)), c.in-Err.ensures)

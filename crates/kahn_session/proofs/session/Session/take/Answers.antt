@@ -5,7 +5,7 @@ use Rattle.kahn_streams.specs.declared.value.Line.{Line}
 use Rattle.kahn_report.specs.Written.{AppendsFront}
 use Rattle.kahn_session.specs.declared.fault.PartFault.TheVariants as part
 use Rattle.kahn_session.specs.inner.Shown.{news_of, shown_of}
-use Rattle.kahn_session.specs.Live.{HasBroken, HasTaken, IsWaiting, Live, lines_of}
+use Rattle.kahn_session.specs.Live.{HasBroken, HasTaken, IsWaiting, Live, run_lines}
 use Rattle.kahn_session.proofs.Showing.{all_shown, kept_lines, kept_shown, news_texts, shown_on}
 use Rattle.kahn_session.proofs.Taking.{answered, halted_on, waiting, whole_on}
 use Rattle.kahn_session.proofs.session.Session.take.Goals as goal
@@ -120,7 +120,7 @@ returns-in-Err-show-clause-taken g c =
     subst (λ (s : Live). HasBroken line s new before after) c.self.view_is
     (record {
       verdict = v;
-      news = news_of q.run (lines_of h) counts;
+      news = news_of q.run (run_lines h) counts;
       answered = answered line h wired p q fed i.paced.step c.feed_line.ensures.step (shown_of h lines counts) i.broken counts later true v c.ends-ends.result.now is c.self.invariant.2 n right;
       text = subst (AppendsFront before after) texts (rw c.deref-2.ensures.value at (rw c.deref.ensures.value at c.in-Err-show.ensures));
     })
@@ -149,7 +149,7 @@ returns-clause-taken g c =
     let new : Live = record { run = q.run; step = q.step; shown = later; broken = i.broken } in
     subst (λ (s : Live). HasTaken line s new before after v) c.self.view_is
     (record {
-      news = news_of q.run (lines_of h) counts;
+      news = news_of q.run (run_lines h) counts;
       answered = answered line h wired p q fed i.paced.step c.feed_line.ensures.step (shown_of h lines counts) i.broken counts later i.broken v c.ends-ends.result.now is c.self.invariant.2 n right;
       shown = ap (λ (l : List Line). shown_of q.run l shown) (kept_lines h q.run lines c.self.invariant.1 on)
           ∙ all_shown q.run shown (subst IsWellWired (sym on.network) wired) c.count_shown.ensures.counts;
