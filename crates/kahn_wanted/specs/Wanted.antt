@@ -46,7 +46,6 @@ members group.Operand = class.Name ∷ class.Number (pos 0) ∷ class.Sign sign.
 members group.Statement = class.Name ∷ words (word.Send ∷ word.Print ∷ word.Begin ∷ word.If ∷ word.While ∷ word.Repeat ∷ [])
 members group.SimpleStatement = class.Name ∷ words (word.Send ∷ word.Print ∷ word.Begin ∷ [])
 members group.Declaration = words (word.Integer ∷ word.Logical ∷ word.Process ∷ [])
-members group.Kind = words (word.Integer ∷ word.Logical ∷ [])
 members group.Operator =
     signs (sign.Plus ∷ sign.Minus ∷ sign.Times ∷ sign.Equal ∷ sign.Unequal ∷ sign.Less ∷ sign.AtMost ∷ sign.Greater ∷ sign.AtLeast ∷ [])
     ++ words (word.Div ∷ word.Mod ∷ word.And ∷ word.Or ∷ [])

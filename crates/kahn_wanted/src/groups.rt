@@ -21,8 +21,6 @@ pub enum Group {
     SimpleStatement,
     /// A declaration of channels or of a process.
     Declaration,
-    /// `integer` or `logical`.
-    Kind,
     /// Any operator between operands.
     Operator,
     /// An operator of integers.
@@ -48,13 +46,12 @@ struct Told {
 }
 
 /// The groups; one that has another stands before it.
-const GROUPS: [Group; 9] = [
+const GROUPS: [Group; 8] = [
     Group::Expression,
     Group::Operand,
     Group::Statement,
     Group::SimpleStatement,
     Group::Declaration,
-    Group::Kind,
     Group::Operator,
     Group::Arithmetic,
     Group::Comparison,
@@ -105,8 +102,6 @@ static DECLARATION: [Class; 3] = [
     Class::Word(Keyword::Process),
 ];
 
-static KIND: [Class; 2] = [Class::Word(Keyword::Integer), Class::Word(Keyword::Logical)];
-
 static OPERATOR: [Class; 13] = [
     Class::Sign(Sign::Plus),
     Class::Sign(Sign::Minus),
@@ -151,7 +146,6 @@ impl Group {
             Group::Statement => &STATEMENT,
             Group::SimpleStatement => &SIMPLE,
             Group::Declaration => &DECLARATION,
-            Group::Kind => &KIND,
             Group::Operator => &OPERATOR,
             Group::Arithmetic => &ARITHMETIC,
             Group::Comparison => &COMPARISON,
