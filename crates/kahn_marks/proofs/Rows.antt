@@ -2,11 +2,11 @@
 use Rattle.std.proofs.Common.{◌≡◌, ℕ, ◌+◌, zero, suc, List, [], ◌∷◌, ◌++◌, length, refl, sym, ap, ◌∙◌, add-one, append_assoc, append-nil, arith, chars, encode_utf8, flat_map}
 use Rattle.std.proofs.lemmas.Str.{chars-nil}
 use Rattle.kahn_marks.specs.declared.columns.Row.{Row}
-use Rattle.kahn_marks.specs.Marks.{piece_of, placed, repeated}
+use Rattle.kahn_marks.specs.Marks.{piece_of, with_places, times_over}
 
 -- what is written of characters, the first of which begins at `at`
 abbrev pub written : Row → ℕ → ℕ → ℕ → List ℕ → List ℕ
-written row from bytes at cs = flat_map (λ p. piece_of row from bytes p.0 p.1) (placed at cs)
+written row from bytes at cs = flat_map (λ p. piece_of row from bytes p.0 p.1) (with_places at cs)
 
 -- one character more
 pub moved : (row : Row) (from bytes here at next c : ℕ) (cs ds old new all : List ℕ) → here ≡ at → cs ≡ c ∷ ds → next ≡ at + length (encode_utf8 c)
@@ -28,11 +28,11 @@ done row from bytes at rest text all none before =
     sym (append-nil text) ∙ ap (λ l. text ++ written row from bytes at l) (sym (ap chars (none_left rest none) ∙ chars-nil)) ∙ before
 
 -- once more, at the end
-pub once_more : (n : ℕ) (piece : List ℕ) → repeated (suc n) piece ≡ repeated n piece ++ piece
+pub once_more : (n : ℕ) (piece : List ℕ) → times_over (suc n) piece ≡ times_over n piece ++ piece
 once_more zero piece = append-nil piece
-once_more (suc n) piece = ap (λ l. piece ++ l) (once_more n piece) ∙ sym (append_assoc piece (repeated n piece) piece)
+once_more (suc n) piece = ap (λ l. piece ++ l) (once_more n piece) ∙ sym (append_assoc piece (times_over n piece) piece)
 
-pub repeated_more : (n : ℕ) (piece old mid new : List ℕ) → mid ≡ old ++ repeated n piece → new ≡ mid ++ piece → new ≡ old ++ repeated (n + 1) piece
+pub repeated_more : (n : ℕ) (piece old mid new : List ℕ) → mid ≡ old ++ times_over n piece → new ≡ mid ++ piece → new ≡ old ++ times_over (n + 1) piece
 repeated_more n piece old mid new before added =
-    added ∙ ap (λ l. l ++ piece) before ∙ append_assoc old (repeated n piece) piece
-    ∙ ap (λ l. old ++ l) (sym (once_more n piece)) ∙ ap (λ k. old ++ repeated k piece) (sym (add-one n))
+    added ∙ ap (λ l. l ++ piece) before ∙ append_assoc old (times_over n piece) piece
+    ∙ ap (λ l. old ++ l) (sym (once_more n piece)) ∙ ap (λ k. old ++ times_over k piece) (sym (add-one n))

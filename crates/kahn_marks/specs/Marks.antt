@@ -10,13 +10,13 @@ use Rattle.kahn_marks.specs.declared.columns.Row.{Row}
 use Rattle.kahn_marks.specs.declared.columns.Row.TheVariants.{Source, Blanks, Carets}
 
 -- the piece so many times
-abbrev pub repeated : ℕ → List ℕ → List ℕ
-repeated zero piece = []
-repeated (suc n) piece = piece ++ repeated n piece
+abbrev pub times_over : ℕ → List ℕ → List ℕ
+times_over zero piece = []
+times_over (suc n) piece = piece ++ times_over n piece
 
 -- a character as it is shown: a tab as four blanks, a control character as U+FFFD
-abbrev pub shown : ℕ → List ℕ
-shown c = if c == 9 then codes "    " else if is_control c then encode_utf8 0xFFFD else encode_utf8 c
+abbrev pub shown_character : ℕ → List ℕ
+shown_character c = if c == 9 then codes "    " else if is_control c then encode_utf8 0xFFFD else encode_utf8 c
 
 -- the columns that it takes then in a terminal
 abbrev pub columns : ℕ → ℕ
@@ -28,21 +28,21 @@ is_near from at = nat_le (from - 80) at && nat_lt (at - from) 80
 
 -- what each row has of a character that begins at byte `at` of the line, where the part begins at `from` and has so many bytes
 abbrev pub near_piece : Row → ℕ → ℕ → ℕ → ℕ → List ℕ
-near_piece Source from bytes at c = shown c
-near_piece Blanks from bytes at c = if nat_lt at from then repeated (columns c) (codes " ") else []
-near_piece Carets from bytes at c = if nat_le from at && nat_lt (at - from) bytes then repeated (columns c) (codes "^") else []
+near_piece Source from bytes at c = shown_character c
+near_piece Blanks from bytes at c = if nat_lt at from then times_over (columns c) (codes " ") else []
+near_piece Carets from bytes at c = if nat_le from at && nat_lt (at - from) bytes then times_over (columns c) (codes "^") else []
 
 abbrev pub piece_of : Row → ℕ → ℕ → ℕ → ℕ → List ℕ
 piece_of row from bytes at c = if is_near from at then near_piece row from bytes at c else []
 
 -- characters, each with the byte at which it begins, where the first one begins at `at`
-abbrev pub placed : ℕ → List ℕ → List (ℕ × ℕ)
-placed at [] = []
-placed at (c ∷ cs) = (at, c) ∷ placed (at + length (encode_utf8 c)) cs
+abbrev pub with_places : ℕ → List ℕ → List (ℕ × ℕ)
+with_places at [] = []
+with_places at (c ∷ cs) = (at, c) ∷ with_places (at + length (encode_utf8 c)) cs
 
 -- a row of a line
 abbrev pub row_of : Row → List ℕ → ℕ → ℕ → List ℕ
-row_of row line from bytes = flat_map (λ p. piece_of row from bytes p.0 p.1) (placed 0 (chars line))
+row_of row line from bytes = flat_map (λ p. piece_of row from bytes p.0 p.1) (with_places 0 (chars line))
 
 -- one caret at least
 abbrev pub one_at_least : List ℕ → List ℕ
@@ -60,7 +60,7 @@ line_at text n = slice_index_or (lines text) n []
 abbrev pub rows_text : List ℕ → List ℕ → ℕ → ℕ → List ℕ
 rows_text line number from bytes =
     concat (codes " " ∷ number ∷ codes " | " ∷ row_of Source line from bytes ∷ codes "\n " ∷ [])
-    ++ repeated (length number) (codes " ")
+    ++ times_over (length number) (codes " ")
     ++ concat (codes " | " ∷ row_of Blanks line from bytes ∷ carets_of line from bytes ∷ codes "\n" ∷ [])
 
 -- `PATH:LINE:COLUMN: error: WORDS`

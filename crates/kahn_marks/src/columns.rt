@@ -2,7 +2,7 @@
 
 ghost use Rattle.std.specs.Prelude.{◌≡◌, ◌++◌, ◌<◌, IfOk, chars, flat_map, string_bytes};
 ghost use Rattle.kahn_marks.specs.declared.columns.Row.{Row};
-ghost use Rattle.kahn_marks.specs.Marks.{columns, is_near, piece_of, placed, shown};
+ghost use Rattle.kahn_marks.specs.Marks.{columns, is_near, piece_of, with_places, shown_character};
 
 use crate::pieces::add_repeated;
 use std::alloc::{AllocError, Global};
@@ -44,7 +44,7 @@ fn columns(character: char) -> usize
 
 /// Adds a character as it is shown: a tab as four blanks, and a control character as U+FFFD.
 fn add_shown(text: &mut String, character: char) -> Result<(), AllocError>
-    ensures { IfOk result (λ _. string_bytes text.new ≡ string_bytes text.old ++ shown character) }
+    ensures { IfOk result (λ _. string_bytes text.new ≡ string_bytes text.old ++ shown_character character) }
 {
     if character == '\t' {
         text.push_str("    ")
@@ -88,7 +88,7 @@ pub(crate) fn row_of(
     from: usize,
     bytes: usize,
 ) -> Result<String, AllocError>
-    ensures { IfOk result (λ text. string_bytes text ≡ flat_map (λ p. piece_of row from bytes p.0 p.1) (placed 0 (chars line.now))) }
+    ensures { IfOk result (λ text. string_bytes text ≡ flat_map (λ p. piece_of row from bytes p.0 p.1) (with_places 0 (chars line.now))) }
 {
     let mut text = String::new(alloc);
     for (at, character) in line.char_indices() {

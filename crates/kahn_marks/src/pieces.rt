@@ -1,7 +1,7 @@
 //! Texts that grow by pieces.
 
 ghost use Rattle.std.specs.Prelude.{◌≡◌, ◌++◌, IfOk, flat_map, string_bytes};
-ghost use Rattle.kahn_marks.specs.Marks.{repeated};
+ghost use Rattle.kahn_marks.specs.Marks.{times_over};
 
 use std::alloc::AllocError;
 
@@ -17,7 +17,7 @@ pub fn add(text: &mut String, pieces: &[&str]) -> Result<(), AllocError>
 
 /// Adds a piece so many times.
 pub fn add_repeated(text: &mut String, piece: &str, times: usize) -> Result<(), AllocError>
-    ensures { IfOk result (λ _. string_bytes text.new ≡ string_bytes text.old ++ repeated times piece.now) }
+    ensures { IfOk result (λ _. string_bytes text.new ≡ string_bytes text.old ++ times_over times piece.now) }
 {
     for _time in 0..times {
         text.push_str(piece)?;

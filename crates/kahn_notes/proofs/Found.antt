@@ -10,7 +10,7 @@ use Rattle.kahn_syntax.specs.Texts.{AreLexemes}
 use Rattle.kahn_syntax.proofs.Cuts.{lexed_slices}
 use Rattle.kahn_syntax.proofs.Proper.{lexed_proper}
 use Rattle.kahn_wanted.specs.declared.found.Unexpected.{Unexpected}
-use Rattle.kahn_wanted.specs.Wanted.{IsAt, IsInstead, IsUnexpected}
+use Rattle.kahn_wanted.specs.Wanted.{IsAtFault, IsInstead, IsUnexpected}
 use Rattle.kahn_notes.specs.Notes.{MayFind}
 
 within : (text : List ℕ) (before after : List Lexeme) (x : Lexeme) → AreProper text (before ++ x ∷ after) → IsProper text x.what x.span
@@ -24,7 +24,7 @@ instead : (text : List ℕ) (xs : List Lexeme) (span : Span) (u : Unexpected) �
 instead text xs span u h (before, x, after, e, is, found, told) =
     subst (MayFind text) (sym found) (within text before after x (subst (AreProper text) e h))
 
-at_place : (text : List ℕ) (xs : List Lexeme) (span : Span) (what : What) (u : Unexpected) → AreProper text xs → IsAt text xs span what u → MayFind text u.found
+at_place : (text : List ℕ) (xs : List Lexeme) (span : Span) (what : What) (u : Unexpected) → AreProper text xs → IsAtFault text xs span what u → MayFind text u.found
 at_place text xs span More u h is = subst (MayFind text) (sym is.0) tt
 at_place text xs span Nothing u h is = instead text xs span u h is
 at_place text xs span Other u h is = instead text xs span u h is

@@ -45,31 +45,31 @@ MayFind text (Some x) = IsProper text x.what x.span
 MayFind text None = Unit {0}
 
 -- any lexeme of a class, and any of a group
-abbrev pub class_words : Class → List ℕ
-class_words (class.Word k) = keyword_words k
-class_words class.Name = codes "a name"
-class_words (class.Number n) = codes "a number"
-class_words (class.Sign s) = sign_words s
+abbrev pub any_words : Class → List ℕ
+any_words (class.Word k) = keyword_words k
+any_words class.Name = codes "a name"
+any_words (class.Number n) = codes "a number"
+any_words (class.Sign s) = sign_words s
 
-abbrev pub group_words : Group → List ℕ
-group_words group.Expression = codes "an expression"
-group_words group.Operand = codes "an operand"
-group_words group.Statement = codes "a statement"
-group_words group.SimpleStatement = codes "a simple statement"
-group_words group.Declaration = codes "a declaration"
-group_words group.Operator = codes "an operator"
-group_words group.Arithmetic = codes "an arithmetic operator"
-group_words group.Comparison = codes "a comparison"
+abbrev pub wanted_words : Group → List ℕ
+wanted_words group.Expression = codes "an expression"
+wanted_words group.Operand = codes "an operand"
+wanted_words group.Statement = codes "a statement"
+wanted_words group.SimpleStatement = codes "a simple statement"
+wanted_words group.Declaration = codes "a declaration"
+wanted_words group.Operator = codes "an operator"
+wanted_words group.Arithmetic = codes "an arithmetic operator"
+wanted_words group.Comparison = codes "a comparison"
 
 -- the end of the text may stand behind a whole program
-abbrev pub end_words : What → List (List ℕ)
-end_words Nothing = codes "the end of the text" ∷ []
-end_words More = []
-end_words Other = []
+abbrev pub text_end_words : What → List (List ℕ)
+text_end_words Nothing = codes "the end of the text" ∷ []
+text_end_words More = []
+text_end_words Other = []
 
 -- what may stand at a place
 abbrev pub pieces_of : Wanted → What → List (List ℕ)
-pieces_of w what = map group_words w.groups.items ++ map class_words w.others.items ++ end_words what
+pieces_of w what = map wanted_words w.groups.items ++ map any_words w.others.items ++ text_end_words what
 
 -- what stands behind a piece where so many are left
 abbrev pub separator : ℕ → List ℕ

@@ -1,7 +1,7 @@
 //! The words for lexemes and for groups of them.
 
 ghost use Rattle.std.specs.Prelude.{◌≡◌};
-ghost use Rattle.kahn_notes.specs.Notes.{class_words, group_words, keyword_words, sign_words};
+ghost use Rattle.kahn_notes.specs.Notes.{any_words, wanted_words, keyword_words, sign_words};
 
 use kahn_syntax::{Class, Keyword, Sign};
 use kahn_wanted::Group;
@@ -67,7 +67,7 @@ pub(crate) fn sign_words(sign: Sign) -> &'static str
 
 /// What any lexeme of a class is called.
 pub(crate) fn class_words(class: Class) -> &'static str
-    ensures { result.now ≡ class_words class }
+    ensures { result.now ≡ any_words class }
 {
     match class {
         Class::Word(keyword) => keyword_words(keyword),
@@ -79,7 +79,7 @@ pub(crate) fn class_words(class: Class) -> &'static str
 
 /// What a group is called.
 pub(crate) fn group_words(group: Group) -> &'static str
-    ensures { result.now ≡ group_words group }
+    ensures { result.now ≡ wanted_words group }
 {
     match group {
         Group::Expression => "an expression",

@@ -13,7 +13,7 @@ use Rattle.kahn_syntax.specs.inner.Rungs.{Rung, whole, ors, ands, denials, relat
 use Rattle.kahn_syntax.specs.inner.Machine.{Token, NameToken, NumberToken, takes, lead, Part, ProgramPart, DeclarationsPart, DeclarationPart, ProcessPart, RolePart, GroupsPart, GroupPart, TakingPart, VariablesPart, StatementPart, SimplePart, ExpressionPart, OperatorsPart, InstancePart, ArgumentsPart, ArgumentPart, TailPart, TokenPart, LevelPart, levels, may_end, step, step_expression, Whole, Refuses, TooFar, fate, onward, goes_on}
 use Rattle.kahn_syntax.proofs.Viable.{Fits, fits_some, further}
 use Rattle.kahn_syntax.proofs.WholePrograms.{whole_program}
-use Rattle.kahn_wanted.specs.Wanted.{class_of}
+use Rattle.kahn_wanted.specs.Wanted.{class_of_terminal}
 use Rattle.kahn_wanted.specs.inner.Asked.{nowhere}
 
 -- two names, or two numbers
@@ -168,11 +168,11 @@ data Probed (k : Terminal) (l : Terminal) : Type 0 where
   same : k ≡ l → Probed k l
   alike : Alike k l → Alike l k → Probed k l
 
-sign_probed : (text : List ℕ) (s : Sign) → sign_terminal s ≡ terminal text (class_of (sign_terminal s)) nowhere
+sign_probed : (text : List ℕ) (s : Sign) → sign_terminal s ≡ terminal text (class_of_terminal (sign_terminal s)) nowhere
 sign_probed text mark.Not = refl
 sign_probed text s = refl
 
-probed : (text t : List ℕ) (c : Class) (at : Span) → Probed (terminal t c at) (terminal text (class_of (terminal t c at)) nowhere)
+probed : (text t : List ℕ) (c : Class) (at : Span) → Probed (terminal t c at) (terminal text (class_of_terminal (terminal t c at)) nowhere)
 probed text t (class.Word w) at = same refl
 probed text t class.Name at = alike (names _ _) (names _ _)
 probed text t (class.Number n) at = alike (numbers _ _) (numbers _ _)
@@ -188,9 +188,9 @@ back before k l (alike a b) h = alike_begin before l k b h
 
 -- a lexeme may stand where the one of its class may that was tried
 pub tried : (text t : List ℕ) (before : List Terminal) (c : Class) (at : Span) → Begins (before ++ terminal t c at ∷ [])
-    → Begins (before ++ terminal text (class_of (terminal t c at)) nowhere ∷ [])
+    → Begins (before ++ terminal text (class_of_terminal (terminal t c at)) nowhere ∷ [])
 tried text t before c at h = there before _ _ (probed text t c at) h
 
-pub stands : (text t : List ℕ) (before : List Terminal) (c : Class) (at : Span) → Begins (before ++ terminal text (class_of (terminal t c at)) nowhere ∷ [])
+pub stands : (text t : List ℕ) (before : List Terminal) (c : Class) (at : Span) → Begins (before ++ terminal text (class_of_terminal (terminal t c at)) nowhere ∷ [])
     → Begins (before ++ terminal t c at ∷ [])
 stands text t before c at h = back before _ _ (probed text t c at) h

@@ -10,12 +10,12 @@ use Rattle.kahn_syntax.specs.Terminals.{Terminal, terminal, terminals}
 use Rattle.kahn_syntax.specs.Programs.{ProgramTree, Spells}
 use Rattle.kahn_syntax.specs.Faults.{Begins, BeginsWithin, IsTooDeep, IsFault}
 use Rattle.kahn_syntax.proofs.Meaning.{terminals_append}
-use Rattle.kahn_wanted.specs.inner.Asked.{AreLed, Says, is_more}
+use Rattle.kahn_wanted.specs.inner.Asked.{AreLed, AnswersBegin, is_more}
 
-pub whole : (ks : List Terminal) (t : ProgramTree) → Spells t ks → Says ks true
+pub whole : (ks : List Terminal) (t : ProgramTree) → Spells t ks → AnswersBegin ks true
 whole ks t h = (t, [], subst (Spells t) (sym (append-nil ks)) h)
 
-pub more : (text : List ℕ) (xs : List Lexeme) (at : Span) → IsFault text xs (Expected at More) → Says (terminals text xs) true
+pub more : (text : List ℕ) (xs : List Lexeme) (at : Span) → IsFault text xs (Expected at More) → AnswersBegin (terminals text xs) true
 more text xs at (_, _, (t, after, h, _), _) = (t, after, h)
 
 -- what begins with more begins with less
@@ -32,10 +32,10 @@ none : (text : List ℕ) (xs before after : List Lexeme) (x : Lexeme) → xs ≡
     ¬ (Begins (terminals text before ++ terminal text x.what x.span ∷ [])) → ¬ (Begins (terminals text xs))
 none text xs before after x e never h = never (front _ (terminals text after) (subst Begins (cut text xs before after x e) h))
 
-pub nothing : (text : List ℕ) (xs : List Lexeme) (at : Span) → IsFault text xs (Expected at Nothing) → Says (terminals text xs) false
+pub nothing : (text : List ℕ) (xs : List Lexeme) (at : Span) → IsFault text xs (Expected at Nothing) → AnswersBegin (terminals text xs) false
 nothing text xs at (before, x, after, e, _, (_, never)) = none text xs before after x e never
 
-pub other : (text : List ℕ) (xs : List Lexeme) (at : Span) → IsFault text xs (Expected at Other) → Says (terminals text xs) false
+pub other : (text : List ℕ) (xs : List Lexeme) (at : Span) → IsFault text xs (Expected at Other) → AnswersBegin (terminals text xs) false
 other text xs at (before, x, after, e, _, (_, _, never)) = none text xs before after x e never
 
 -- a list that ends with x, cut elsewhere: at its end, or before it
@@ -76,11 +76,11 @@ too_deep text xs front before after x y e within (_, here, deeper) (last h) =
 too_deep text xs front before after x y e (t, more, spells, small) (_, here, deeper) (early rest h) =
     absurd (omega (arith, small, deeper t (terminals text rest ++ more) (subst (Spells t) (ap (λ (l : List Terminal). l ++ more) (ap (terminals text) h ∙ terminals_append text before (x ∷ rest)) ∙ append_assoc (terminals text before) (terminals text (x ∷ rest)) more) spells)))
 
-pub deep : (text : List ℕ) (xs : List Lexeme) (at : Span) → AreLed text xs → IsFault text xs (TooDeep at) → Says (terminals text xs) true
+pub deep : (text : List ℕ) (xs : List Lexeme) (at : Span) → AreLed text xs → IsFault text xs (TooDeep at) → AnswersBegin (terminals text xs) true
 deep text xs at (front, y, f, within) (before, x, after, e, _, h) =
     too_deep text xs front before after x y e within h (where_cut before after front x y (sym f ∙ e))
 
-pub expected : (text : List ℕ) (xs : List Lexeme) (at : Span) (what : What) → IsFault text xs (Expected at what) → Says (terminals text xs) (is_more what)
+pub expected : (text : List ℕ) (xs : List Lexeme) (at : Span) (what : What) → IsFault text xs (Expected at what) → AnswersBegin (terminals text xs) (is_more what)
 expected text xs at More h = more text xs at h
 expected text xs at Nothing h = nothing text xs at h
 expected text xs at Other h = other text xs at h

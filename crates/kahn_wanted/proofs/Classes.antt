@@ -15,7 +15,7 @@ use Rattle.kahn_syntax.specs.Terminals.{terminal, terminals, sign_terminal, IsUn
 use Rattle.kahn_wanted.specs.declared.asked.TheConstants.{CLASSES}
 use Rattle.kahn_wanted.specs.declared.groups.Group.{Group}
 use Rattle.kahn_wanted.specs.declared.groups.Wanted.{Wanted}
-use Rattle.kahn_wanted.specs.Wanted.{AreWanted, class_of, members, told}
+use Rattle.kahn_wanted.specs.Wanted.{AreWanted, class_of_terminal, members, told_classes}
 use Rattle.kahn_wanted.specs.inner.Asked.{AreOf, nowhere}
 use Rattle.kahn_wanted.proofs.Alike.{stands, tried}
 
@@ -52,7 +52,7 @@ word_there keyword.True = (27, lit< tt, refl)
 word_there keyword.Wait = (28, lit< tt, refl)
 word_there keyword.While = (29, lit< tt, refl)
 
-sign_there : (s : Sign) → Contains CLASSES (class_of (sign_terminal s))
+sign_there : (s : Sign) → Contains CLASSES (class_of_terminal (sign_terminal s))
 sign_there mark.Becomes = (30, lit< tt, refl)
 sign_there mark.Open = (31, lit< tt, refl)
 sign_there mark.Close = (32, lit< tt, refl)
@@ -70,17 +70,17 @@ sign_there mark.AtLeast = (43, lit< tt, refl)
 sign_there mark.Not = word_there keyword.Not
 
 -- the class of each lexeme is in the table
-there : (text : List ℕ) (c : Class) (at : Span) → Contains CLASSES (class_of (terminal text c at))
+there : (text : List ℕ) (c : Class) (at : Span) → Contains CLASSES (class_of_terminal (terminal text c at))
 there text (class.Word w) at = word_there w
 there text class.Name at = (0, lit< tt, refl)
 there text (class.Number n) at = (1, lit< tt, refl)
 there text (class.Sign s) at = sign_there s
 
 -- what is told of the table is told of all lexemes
-pub wanted_of : (text : List ℕ) (before : List Lexeme) (ws : List Class) (w : Wanted) → AreOf text before CLASSES ws → ((c : Class) → Contains (told w) c ↔ Contains ws c)
+pub wanted_of : (text : List ℕ) (before : List Lexeme) (ws : List Class) (w : Wanted) → AreOf text before CLASSES ws → ((c : Class) → Contains (told_classes w) c ↔ Contains ws c)
     → AreWanted (terminals text before) w
 wanted_of text before ws w of is t x =
-    let c = class_of (terminal t x.what x.span) in
+    let c = class_of_terminal (terminal t x.what x.span) in
     let here = there t x.what x.span in (
       (λ h. stands text t (terminals text before) x.what x.span ((of c here).0 ((is c).0 h))),
       (λ h. (is c).1 ((of c here).1 (tried text t (terminals text before) x.what x.span h))),
@@ -139,10 +139,10 @@ group_more classes old new groups all g ms is more added within h = (
 
 pub group_same : (classes old new : List Class) (groups all : List Group) → new ≡ old → all ≡ groups
     → (old ≡ flat_map members groups) × All (Contains classes) old → (new ≡ flat_map members all) × All (Contains classes) new
-group_same classes old new groups all told more h = (told ∙ h.0 ∙ ap (flat_map members) (sym more), subst (All (Contains classes)) (sym told) h.1)
+group_same classes old new groups all same more h = (same ∙ h.0 ∙ ap (flat_map members) (sym more), subst (All (Contains classes)) (sym same) h.1)
 
-pub all_grouped : (classes said others : List Class) (w : Wanted) → told w ≡ said ++ others → All (Contains classes) said → All (Contains classes) others
-    → All (Contains (said ++ others)) classes → (c : Class) → Contains (told w) c ↔ Contains classes c
+pub all_grouped : (classes said others : List Class) (w : Wanted) → told_classes w ≡ said ++ others → All (Contains classes) said → All (Contains classes) others
+    → All (Contains (said ++ others)) classes → (c : Class) → Contains (told_classes w) c ↔ Contains classes c
 all_grouped classes said others w e s o h c = (
   (λ m. All-contains (Contains classes) (said ++ others) c (All-append (Contains classes) said others s o) (subst (λ l. Contains l c) e m)),
   (λ m. subst (λ l. Contains l c) (sym e) (All-contains (Contains (said ++ others)) classes c h m)),

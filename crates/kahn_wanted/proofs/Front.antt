@@ -14,7 +14,7 @@ use Rattle.kahn_syntax.specs.Texts.{AreLexemes, IsTextFault}
 use Rattle.kahn_syntax.proofs.Meaning.{terminals_append}
 use Rattle.kahn_syntax.proofs.OneList.{same_lexemes}
 use Rattle.kahn_syntax.proofs.Reached.{le_or}
-use Rattle.kahn_wanted.specs.inner.Asked.{IsStanding}
+use Rattle.kahn_wanted.specs.inner.Asked.{StandsBehind}
 
 pub proper_front : (text : List ℕ) (n : ℕ) (xs : List Lexeme) → AreProper text xs → AreProper text (take n xs)
 proper_front text zero xs h = tt
@@ -28,13 +28,13 @@ within_front text n before (t, after, h, small) =
     ap (terminals text) (sym (take-append-drop n before)) ∙ terminals_append text (take n before) (drop n before) in
     (t, terminals text (drop n before) ++ after, subst (Spells t) (ap (λ l. l ++ after) e ∙ append_assoc _ _ after) h, small)
 
-pub within_first : (text : List ℕ) (xs : List Lexeme) (span : Span) (n : ℕ) → IsStanding text xs span
+pub within_first : (text : List ℕ) (xs : List Lexeme) (span : Span) (n : ℕ) → StandsBehind text xs span
     → ((k : ℕ) (d : Lexeme) → k < n → (get_or xs k d).span ≡ span → ⊥) → BeginsWithin (terminals text (take n xs))
 within_first text xs span n (before, x, after, e, is, within) first =
     let few : n ≤ length before = ⊎_elim (λ h. h) (λ h. absurd (first (length before) x h (ap (λ (y : Lexeme). y.span) (ap (λ l. get_or l (length before) x) e ∙ get_or-append_seam before x after x) ∙ sym is))) (le_or n (length before)) in
     subst (λ l. BeginsWithin (terminals text l)) (sym (ap (take n) e ∙ take-append-le n before (x ∷ after) few)) (within_front text n before within)
 
-pub below_all : (text : List ℕ) (xs : List Lexeme) (span : Span) (n : ℕ) → IsStanding text xs span
+pub below_all : (text : List ℕ) (xs : List Lexeme) (span : Span) (n : ℕ) → StandsBehind text xs span
     → ((k : ℕ) (d : Lexeme) → k < n → (get_or xs k d).span ≡ span → ⊥) → n ≤ length xs → n < length xs
 below_all text xs span n (before, x, after, e, is, within) first most =
     let many : length xs ≡ length before + (length after + 1) = ap length e ∙ length-append before (x ∷ after) ∙ omega arith in
@@ -49,10 +49,10 @@ of_lexemes text ys span what a h =
 pub at_end : (text : List ℕ) (ys : List Lexeme) (span : Span) → IsFault text ys (Expected span More) → BeginsWithin (terminals text ys)
 at_end text ys span h = h.2
 
-pub at_other : (text : List ℕ) (ys : List Lexeme) (span : Span) → IsFault text ys (Expected span Other) → IsStanding text ys span
+pub at_other : (text : List ℕ) (ys : List Lexeme) (span : Span) → IsFault text ys (Expected span Other) → StandsBehind text ys span
 at_other text ys span (before, x, after, e, is, h) = (before, x, after, e, is, h.0)
 
-pub at_nothing : (text : List ℕ) (ys : List Lexeme) (span : Span) → IsFault text ys (Expected span Nothing) → IsStanding text ys span
+pub at_nothing : (text : List ℕ) (ys : List Lexeme) (span : Span) → IsFault text ys (Expected span Nothing) → StandsBehind text ys span
 at_nothing text ys span (before, x, after, e, is, ((t, h, small), none)) = (before, x, after, e, is, (t, [], subst (Spells t) (sym (append-nil _)) h, small))
 
 pub cut_at : (xs : List Lexeme) (n : ℕ) (d : Lexeme) → n < length xs → xs ≡ take n xs ++ get_or xs n d ∷ drop (n + 1) xs

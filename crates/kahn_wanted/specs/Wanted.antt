@@ -20,15 +20,15 @@ use Rattle.kahn_wanted.specs.declared.groups.Wanted.{Wanted}
 use Rattle.kahn_wanted.specs.declared.found.Unexpected.{Unexpected}
 
 -- with this one behind them the terminals begin a program
-abbrev pub MayStand : List Terminal → Terminal → Type 0
-MayStand before k = Begins (before ++ k ∷ [])
+abbrev pub MayFollow : List Terminal → Terminal → Type 0
+MayFollow before k = Begins (before ++ k ∷ [])
 
 -- the class of such terminals: all names are of one, and all numbers are of that of 0
-abbrev pub class_of : Terminal → Class
-class_of (terminal.word w) = class.Word w
-class_of (terminal.sign s) = class.Sign s
-class_of (terminal.number z) = class.Number (pos 0)
-class_of (terminal.name n) = class.Name
+abbrev pub class_of_terminal : Terminal → Class
+class_of_terminal (terminal.word w) = class.Word w
+class_of_terminal (terminal.sign s) = class.Sign s
+class_of_terminal (terminal.number z) = class.Number (pos 0)
+class_of_terminal (terminal.name n) = class.Name
 
 abbrev pub words : List Keyword → List Class
 words [] = []
@@ -53,12 +53,12 @@ members group.Arithmetic = signs (sign.Plus ∷ sign.Minus ∷ sign.Times ∷ []
 members group.Comparison = signs (sign.Equal ∷ sign.Unequal ∷ sign.Less ∷ sign.AtMost ∷ sign.Greater ∷ sign.AtLeast ∷ [])
 
 -- the classes that are told: those of the groups, and the others
-abbrev pub told : Wanted → List Class
-told w = flat_map members w.groups.items ++ w.others.items
+abbrev pub told_classes : Wanted → List Class
+told_classes w = flat_map members w.groups.items ++ w.others.items
 
 -- a lexeme may stand behind these terminals exactly where its class is told
 abbrev pub AreWanted : List Terminal → Wanted → Type 0
-AreWanted before w = (text : List ℕ) (x : Lexeme) → let k = terminal.terminal text x.what x.span in Contains (told w) (class_of k) ↔ MayStand before k
+AreWanted before w = (text : List ℕ) (x : Lexeme) → let k = terminal.terminal text x.what x.span in Contains (told_classes w) (class_of_terminal k) ↔ MayFollow before k
 
 -- The lexeme with this span stands there, and what may stand there instead.
 abbrev pub IsInstead : List ℕ → List Lexeme → Span → Unexpected → Type 0
@@ -66,9 +66,9 @@ IsInstead text xs span u = (before : List Lexeme) × (x : Lexeme) × (after : Li
     × AreWanted (terminals text before) u.wanted
 
 -- What stands where a text goes wrong, which is nothing at its end, and what may stand there.
-abbrev pub IsAt : List ℕ → List Lexeme → Span → What → Unexpected → Type 0
-IsAt text xs span More u = (u.found ≡ None) × AreWanted (terminals text xs) u.wanted
-IsAt text xs span what u = IsInstead text xs span u
+abbrev pub IsAtFault : List ℕ → List Lexeme → Span → What → Unexpected → Type 0
+IsAtFault text xs span More u = (u.found ≡ None) × AreWanted (terminals text xs) u.wanted
+IsAtFault text xs span what u = IsInstead text xs span u
 
 abbrev pub IsUnexpected : List ℕ → Span → What → Unexpected → Type 0
-IsUnexpected text span what u = (xs : List Lexeme) × AreLexemes text xs × IsAt text xs span what u
+IsUnexpected text span what u = (xs : List Lexeme) × AreLexemes text xs × IsAtFault text xs span what u

@@ -4,7 +4,7 @@ ghost use Rattle.std.specs.Prelude.{◌≡◌, ◌∷◌, ◌++◌, [], All, IfO
 ghost use Rattle.kahn_syntax.specs.Terminals.{terminal, terminals, AreProper, IsProper, IsUnsigned};
 ghost use Rattle.kahn_syntax.specs.declared.fault.SyntaxFault.TheVariants.{NoMemory};
 ghost use Rattle.kahn_syntax.specs.Faults.{Begins, BeginsWithin, IsFault};
-ghost use Rattle.kahn_wanted.specs.inner.Asked.{AreLed, AreOf, MayCome, Says, is_more};
+ghost use Rattle.kahn_wanted.specs.inner.Asked.{AreLed, AreOf, MayCome, AnswersBegin, is_more};
 
 use kahn_syntax::{Class, Keyword, Lexeme, Sign, Span, SyntaxFault, What, parse_lexemes};
 use std::alloc::Global;
@@ -71,7 +71,7 @@ fn is_more(what: What) -> bool
 fn said(text: &str, lexemes: &[Lexeme], fault: SyntaxFault) -> Result<bool, SyntaxFault>
     requires led { AreLed text.now lexemes.now }
     requires fault { IsFault text.now lexemes.now fault }
-    ensures says { IfOk result (Says (terminals text.now lexemes.now)) }
+    ensures says { IfOk result (AnswersBegin (terminals text.now lexemes.now)) }
     ensures memory { IfErr result (λ e. e ≡ NoMemory) }
 {
     match fault {
@@ -85,7 +85,7 @@ fn said(text: &str, lexemes: &[Lexeme], fault: SyntaxFault) -> Result<bool, Synt
 fn begins(alloc: Global, text: &str, lexemes: &[Lexeme]) -> Result<bool, SyntaxFault>
     requires proper { AreProper text.now lexemes.now }
     requires led { AreLed text.now lexemes.now }
-    ensures says { IfOk result (Says (terminals text.now lexemes.now)) }
+    ensures says { IfOk result (AnswersBegin (terminals text.now lexemes.now)) }
     ensures memory { IfErr result (λ e. e ≡ NoMemory) }
 {
     match parse_lexemes(alloc, text, lexemes) {
@@ -104,7 +104,7 @@ fn may_come(
     requires proper { AreProper text.now before.now }
     requires one { IsProper text.now lexeme.what lexeme.span }
     requires within { BeginsWithin (terminals text.now before.now) }
-    ensures says { IfOk result (Says (terminals text.now before.now ++ terminal text.now lexeme.what lexeme.span ∷ [])) }
+    ensures says { IfOk result (AnswersBegin (terminals text.now before.now ++ terminal text.now lexeme.what lexeme.span ∷ [])) }
     ensures memory { IfErr result (λ e. e ≡ NoMemory) }
 {
     let mut lexemes = Vec::new(alloc);

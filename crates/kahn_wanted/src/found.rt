@@ -6,8 +6,8 @@ ghost use Rattle.kahn_syntax.specs.declared.lexeme.Lexeme.{Lexeme};
 ghost use Rattle.kahn_syntax.specs.Faults.{BeginsWithin, IsFault};
 ghost use Rattle.kahn_syntax.specs.Terminals.{terminals, AreProper};
 ghost use Rattle.kahn_syntax.specs.Texts.{IsTextFault};
-ghost use Rattle.kahn_wanted.specs.Wanted.{AreWanted, IsAt, IsInstead, IsUnexpected};
-ghost use Rattle.kahn_wanted.specs.inner.Asked.{IsStanding};
+ghost use Rattle.kahn_wanted.specs.Wanted.{AreWanted, IsAtFault, IsInstead, IsUnexpected};
+ghost use Rattle.kahn_wanted.specs.inner.Asked.{StandsBehind};
 
 use crate::asked::classes;
 use crate::groups::{Wanted, grouped};
@@ -58,7 +58,7 @@ fn instead(
     span: Span,
 ) -> Result<Unexpected, NoMemory>
     requires proper { AreProper text.now lexemes.now }
-    requires standing { IsStanding text.now lexemes.now span }
+    requires standing { StandsBehind text.now lexemes.now span }
     ensures { IfOk result (IsInstead text.now lexemes.now span) }
 {
     let number = count_before(lexemes, span);
@@ -93,7 +93,7 @@ fn wanted_of(
 ) -> Result<Unexpected, NoMemory>
     requires proper { AreProper text.now lexemes.now }
     requires fault { IsFault text.now lexemes.now (Expected span what) }
-    ensures { IfOk result (IsAt text.now lexemes.now span what) }
+    ensures { IfOk result (IsAtFault text.now lexemes.now span what) }
 {
     match what {
         What::More => at_end(alloc, text, lexemes),

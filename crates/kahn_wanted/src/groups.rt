@@ -3,7 +3,7 @@
 ghost use Rattle.std.specs.Prelude.{◌≡◌, ◌↔◌, ◌++◌, All, Contains, IfOk, MatchBool, flat_map};
 ghost use Rattle.std.specs.Bool.{OnTrue};
 ghost use Rattle.kahn_syntax.specs.declared.lexeme.Class.{Class};
-ghost use Rattle.kahn_wanted.specs.Wanted.{members, told};
+ghost use Rattle.kahn_wanted.specs.Wanted.{members, told_classes};
 
 use kahn_syntax::{Class, Keyword, Sign};
 use std::alloc::{AllocError, Global};
@@ -206,7 +206,7 @@ fn find_others(alloc: Global, classes: &[Class], told: &[Class]) -> Result<Vec<C
 
 /// The classes, in groups where all members of one are there.
 pub(crate) fn grouped(alloc: Global, classes: &[Class]) -> Result<Wanted, AllocError>
-    ensures { IfOk result (λ w. (c : Class) → Contains (told w) c ↔ Contains classes.now c) }
+    ensures { IfOk result (λ w. (c : Class) → Contains (told_classes w) c ↔ Contains classes.now c) }
 {
     let Told {
         groups,

@@ -13,9 +13,9 @@ abbrev pub AreLed : List ℕ → List Lexeme → Type 0
 AreLed text xs = (before : List Lexeme) × (x : Lexeme) × (xs ≡ before ++ x ∷ []) × BeginsWithin (terminals text before)
 
 -- whether they begin a program
-abbrev pub Says : List Terminal → Bool → Type 0
-Says ks true = Begins ks
-Says ks false = ¬ (Begins ks)
+abbrev pub AnswersBegin : List Terminal → Bool → Type 0
+AnswersBegin ks true = Begins ks
+AnswersBegin ks false = ¬ (Begins ks)
 
 -- whether only more is wanted
 abbrev pub is_more : What → Bool
@@ -36,5 +36,5 @@ abbrev pub AreOf : List ℕ → List Lexeme → List Class → List Class → Ty
 AreOf text before some ws = (c : Class) → Contains some c → Contains ws c ↔ MayCome text before c
 
 -- the lexeme with this span stands behind others that begin a program within the limit
-abbrev pub IsStanding : List ℕ → List Lexeme → Span → Type 0
-IsStanding text xs span = (before : List Lexeme) × (x : Lexeme) × (after : List Lexeme) × (xs ≡ before ++ x ∷ after) × (span ≡ x.span) × BeginsWithin (terminals text before)
+abbrev pub StandsBehind : List ℕ → List Lexeme → Span → Type 0
+StandsBehind text xs span = (before : List Lexeme) × (x : Lexeme) × (after : List Lexeme) × (xs ≡ before ++ x ∷ after) × (span ≡ x.span) × BeginsWithin (terminals text before)

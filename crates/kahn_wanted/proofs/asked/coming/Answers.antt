@@ -3,7 +3,7 @@ use Rattle.std.proofs.lemmas.List.Elements.{All-get_or}
 use Rattle.kahn_syntax.specs.declared.lexeme.Class.TheVariants as class
 use Rattle.kahn_syntax.specs.declared.lexeme.Keyword.TheVariants as keyword
 use Rattle.kahn_syntax.specs.Terminals.{IsUnsigned, terminal, terminals}
-use Rattle.kahn_wanted.specs.inner.Asked.{MayCome, Says, nowhere}
+use Rattle.kahn_wanted.specs.inner.Asked.{MayCome, AnswersBegin, nowhere}
 use Rattle.kahn_wanted.proofs.Classes.{all_told, one_less, one_more, plain_proper}
 use Rattle.kahn_wanted.proofs.asked.coming.Goals as goal
 use Rattle.kahn_wanted.proofs.asked.coming.Goals.{then-branch+in_ok-push, else-branch}
@@ -25,10 +25,10 @@ loop-class-preserved c =
     elim c.if-branch.branch [
       | then-branch+in_ok-push w ↦
           one_more P some i d c.loop-class.wanted.items c.if-branch.wanted.items below (cc (w.wanted-is, w.in_ok-push.ensures.items))
-          (subst (Says ks) w.if-branch.true c.in_ok-may_come.ensures.says) c.loop-class.invariant
+          (subst (AnswersBegin ks) w.if-branch.true c.in_ok-may_come.ensures.says) c.loop-class.invariant
       | else-branch w ↦
           one_less P some i d c.loop-class.wanted.items c.if-branch.wanted.items below (cc (w.wanted-is))
-          (subst (Says ks) w.if-branch.false c.in_ok-may_come.ensures.says) c.loop-class.invariant
+          (subst (AnswersBegin ks) w.if-branch.false c.in_ok-may_come.ensures.says) c.loop-class.invariant
     ]
 
 pub returns-clause-told : goal.returns-clause-told

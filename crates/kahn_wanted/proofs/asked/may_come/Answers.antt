@@ -2,7 +2,7 @@ use Rattle.std.proofs.Common.{◌≡◌, List, [], ◌∷◌, ◌++◌, IfOk, ap
 use Rattle.kahn_syntax.specs.declared.lexeme.Lexeme.{Lexeme}
 use Rattle.kahn_syntax.specs.Terminals.{AreProper, terminals}
 use Rattle.kahn_syntax.proofs.Meaning.{terminals_append}
-use Rattle.kahn_wanted.specs.inner.Asked.{Says}
+use Rattle.kahn_wanted.specs.inner.Asked.{AnswersBegin}
 use Rattle.kahn_wanted.proofs.Classes.{proper_more}
 use Rattle.kahn_wanted.proofs.asked.may_come.Goals as goal
 
@@ -18,4 +18,4 @@ begins-requires-clause-proper c =
 pub returns-clause-says : goal.returns-clause-says
 returns-clause-says c =
     let e = put c.deref.result.now c.args.before.now c.args.lexeme c.deref.ensures.value c.in_ok-push.ensures.items c.in_ok-extend_from_slice.ensures.items c.new-lexemes.ensures.items in
-    subst (λ ks. IfOk c.begins.result (Says ks)) (ap (terminals c.args.text.now) e ∙ terminals_append c.args.text.now c.args.before.now (c.args.lexeme ∷ [])) c.begins.ensures.says
+    subst (λ ks. IfOk c.begins.result (AnswersBegin ks)) (ap (terminals c.args.text.now) e ∙ terminals_append c.args.text.now c.args.before.now (c.args.lexeme ∷ [])) c.begins.ensures.says

@@ -5,7 +5,7 @@ use Rattle.kahn_syntax.specs.Faults.{IsFault}
 use Rattle.kahn_syntax.specs.Texts.{AreLexemes}
 use Rattle.kahn_syntax.specs.Terminals.{AreProper}
 use Rattle.kahn_syntax.proofs.Proper.{lexed_proper}
-use Rattle.kahn_wanted.specs.Wanted.{IsAt, IsUnexpected}
+use Rattle.kahn_wanted.specs.Wanted.{IsAtFault, IsUnexpected}
 use Rattle.kahn_wanted.proofs.Front.{of_lexemes}
 use Rattle.kahn_wanted.proofs.found.wanted_at.Goals as goal
 
@@ -20,5 +20,5 @@ wanted_of-requires c =
 pub returns : goal.returns
 returns c =
     let text = c.args.text.now in
-    IfOk-weaker c.wanted_of.result (IsAt text c.deref.result.now c.args.span c.args.what) (IsUnexpected text c.args.span c.args.what)
+    IfOk-weaker c.wanted_of.result (IsAtFault text c.deref.result.now c.args.span c.args.what) (IsUnexpected text c.args.span c.args.what)
     (λ u h. (c.deref.result.now, subst (AreLexemes text) (sym c.deref.ensures.value) c.in-Ok.ensures.lexed, h)) c.wanted_of.ensures

@@ -1,7 +1,7 @@
 use Rattle.std.proofs.Common.{IfOk, subst, sym}
 use Rattle.kahn_syntax.specs.declared.fault.SyntaxFault.TheVariants.{Expected}
 use Rattle.kahn_syntax.specs.Faults.{IsFault}
-use Rattle.kahn_wanted.specs.Wanted.{IsAt}
+use Rattle.kahn_wanted.specs.Wanted.{IsAtFault}
 use Rattle.kahn_wanted.proofs.Front.{at_end, at_nothing, at_other}
 use Rattle.kahn_wanted.proofs.found.wanted_of.Goals as goal
 
@@ -18,10 +18,10 @@ instead-requires-in-Other-clause-standing c =
     at_other c.args.text.now c.args.lexemes.now c.args.span (subst (λ w. IsFault c.args.text.now c.args.lexemes.now (Expected c.args.span w)) c.in-Other.is c.requires.fault)
 
 pub returns-in-More : goal.returns-in-More
-returns-in-More c = subst (λ w. IfOk c.at_end.result (IsAt c.args.text.now c.args.lexemes.now c.args.span w)) (sym c.in-More.is) c.at_end.ensures
+returns-in-More c = subst (λ w. IfOk c.at_end.result (IsAtFault c.args.text.now c.args.lexemes.now c.args.span w)) (sym c.in-More.is) c.at_end.ensures
 
 pub returns-in-Nothing : goal.returns-in-Nothing
-returns-in-Nothing c = subst (λ w. IfOk c.instead.result (IsAt c.args.text.now c.args.lexemes.now c.args.span w)) (sym c.in-Nothing.is) c.instead.ensures
+returns-in-Nothing c = subst (λ w. IfOk c.instead.result (IsAtFault c.args.text.now c.args.lexemes.now c.args.span w)) (sym c.in-Nothing.is) c.instead.ensures
 
 pub returns-in-Other : goal.returns-in-Other
-returns-in-Other c = subst (λ w. IfOk c.instead-in-Other.result (IsAt c.args.text.now c.args.lexemes.now c.args.span w)) (sym c.in-Other.is) c.instead-in-Other.ensures
+returns-in-Other c = subst (λ w. IfOk c.instead-in-Other.result (IsAtFault c.args.text.now c.args.lexemes.now c.args.span w)) (sym c.in-Other.is) c.instead-in-Other.ensures
