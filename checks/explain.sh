@@ -1,6 +1,6 @@
 #!/usr/bin/env bash
-# Explains why runs stopped: rings, tails into a ring, ends of streams, faults, the bound; the examples; and files and words that go
-# wrong.
+# Explains why runs stopped: rings, tails into a ring, ends of streams, faults, the bound; the examples; what is wrong with the texts of
+# checks/mistakes; and files and words that go wrong.
 source "$(dirname "${BASH_SOURCE[0]}")/common.sh"
 find_explain
 cd "$work" || exit 2
@@ -106,9 +106,31 @@ for report in "$top"/examples/*.report; do
   fi
 done
 
+# each mistake with what is said of it
+cd "$top/checks/mistakes" || exit 2
+for program in *.kahn; do
+  name=${program%.kahn}
+  "$explain" "$program" > "$work/output" 2> "$work/error" < /dev/null
+  status=$?
+  if [ "$status" = 1 ] && cmp -s "$work/output" "$name.note" && [ ! -s "$work/error" ]; then
+    pass
+  else
+    fail "mistakes/$name: status $status, $(head -c 600 "$work/output"), $(head -c 300 "$work/error")"
+  fi
+done
+cd "$work" || exit 2
+{ cat "$top/checks/mistakes/a-sign-for-becomes.kahn"; head -c 1000000 /dev/zero | tr '\0' ' '; } > long
+gives "a text of a million bytes" 1 'long:8:9: error: found `=`, where `:=` may stand
+ 8 |       I = wait(U);
+   |         ^' '' long
+head -c 1048577 /dev/zero | tr '\0' ' ' > long
+gives "a text that is too long" 1 '' 'kahn: program text is too long' long
+
 gives "a file that isn't there" 5 '' 'kahn: cannot read nothing' nothing
 gives "an input that isn't there" 5 '' 'kahn: cannot read nothing' "$ring" --input nothing
-gives "an empty text" 1 '' 'kahn: 1:1: text ends too early'
+gives "an empty text" 1 '<stdin>:1:1: error: found the end of the text, where `begin` may stand
+ 1 | 
+   | ^' ''
 echo 'NONE: 1' > values
 gives "an input of no channel" 1 '' 'kahn: input entry 1: no such channel' "$ring" --input values
 for words in "a b" "--workers 0" "--watch A" "--report"; do

@@ -1,5 +1,5 @@
 -- An explanation that was written as the one piece of a line.
-use Rattle.std.proofs.Common.{ℕ, List, [], ◌++◌, Option, Err, inl, inr, refl, subst, append-nil}
+use Rattle.std.proofs.Common.{ℕ, List, [], ◌++◌, Option, Result, Ok, Err, inl, inr, refl, subst, append-nil}
 use Rattle.std.specs.Io.KnownBytes.{Appends}
 use Rattle.kahn_config.specs.declared.Config.{Config}
 use Rattle.kahn_tree.specs.declared.tree.Program.{Program}
@@ -8,13 +8,16 @@ use Rattle.kahn_pool.specs.Runs.{IsRun}
 use Rattle.kahn_pool.specs.declared.answer.Answer.{Answer}
 use Rattle.kahn_report.specs.Inputs.{StandsFor}
 use Rattle.kahn_pool.specs.declared.config.RunFault.TheVariants.{NoMemory}
-use Rattle.kahn_report.specs.Work.{IsChecked, IsUnanswered, IsUnchecked}
+use Rattle.kahn_report.specs.Work.{IsChecked, IsUnanswered}
 use Rattle.kahn_report.specs.declared.working.WorkFault.{WorkFault}
 use Rattle.kahn_report.specs.declared.working.WorkFault.TheVariants.{Syntax, Check, Text, Run, Write}
 use Rattle.kahn_report.specs.Written.{AppendsFront}
 use Rattle.kahn_why.specs.Words.{IsAnswer, IsExplained}
 use Rattle.kahn_why.specs.declared.told.Explanation.{Explanation}
 use Rattle.kahn_explain.specs.Explaining.{IsExplanationOf, HasExplained}
+use Rattle.kahn_explain.specs.inner.Told.{HasRefused}
+use Rattle.kahn_explain.specs.declared.explaining.Came.{Came}
+use Rattle.kahn_explain.specs.declared.explaining.Came.TheVariants.{Stopped, Refused}
 
 -- the answer of a run of a checked program
 pub run_answer : (program : List ℕ) (t : Program) (config : Config) (lists : Lists) (a : Answer) → IsChecked program t → IsRun t lists config a → IsAnswer t a
@@ -31,21 +34,23 @@ pub broke_off : (old new : Option (List ℕ)) (text : List ℕ) → AppendsFront
 broke_off old new text gone = subst (AppendsFront old new) (append-nil text) gone
 
 -- what each part says of the whole
-pub unchecked : (program input : List ℕ) (config : Config) (written : Option (List ℕ)) (fault : WorkFault) → IsUnchecked program fault →
-    HasExplained program input config written written (Err fault)
-unchecked program input config written (Syntax f) h = (h, refl)
-unchecked program input config written (Check f) h = (h, refl)
-unchecked program input config written (Text f) h = absurd h
-unchecked program input config written (Run f) h = absurd h
-unchecked program input config written (Write f) h = absurd h
+pub refused : (path program input : List ℕ) (config : Config) (old new : Option (List ℕ)) (r : Result Came WorkFault) → HasRefused path program old new r →
+    HasExplained path program input config old new r
+refused path program input config old new (Ok (Stopped x)) h = absurd h
+refused path program input config old new (Ok Refused) h = h
+refused path program input config old new (Err (Syntax f)) h = h
+refused path program input config old new (Err (Check f)) h = h
+refused path program input config old new (Err (Text f)) h = absurd h
+refused path program input config old new (Err (Run f)) h = (inl h.0, h.1)
+refused path program input config old new (Err (Write f)) h = inr h
 
-pub unanswered : (program input : List ℕ) (config : Config) (written : Option (List ℕ)) (t : Program) (fault : WorkFault) → IsChecked program t →
-    IsUnanswered t input config fault → HasExplained program input config written written (Err fault)
-unanswered program input config written t (Syntax f) is h = absurd h
-unanswered program input config written t (Check f) is h = absurd h
-unanswered program input config written t (Text f) is h = ((t, is, h), refl)
-unanswered program input config written t (Run f) is h = (inr (t, h.0, is, h.1, h.2), refl)
-unanswered program input config written t (Write f) is h = absurd h
+pub unanswered : (path program input : List ℕ) (config : Config) (written : Option (List ℕ)) (t : Program) (fault : WorkFault) → IsChecked program t →
+    IsUnanswered t input config fault → HasExplained path program input config written written (Err fault)
+unanswered path program input config written t (Syntax f) is h = absurd h
+unanswered path program input config written t (Check f) is h = absurd h
+unanswered path program input config written t (Text f) is h = ((t, is, h), refl)
+unanswered path program input config written t (Run f) is h = (inr (t, h.0, is, h.1, h.2), refl)
+unanswered path program input config written t (Write f) is h = absurd h
 
-pub unexplained : (program input : List ℕ) (config : Config) (written : Option (List ℕ)) → HasExplained program input config written written (Err (Run NoMemory))
-unexplained program input config written = (inl refl, refl)
+pub unexplained : (path program input : List ℕ) (config : Config) (written : Option (List ℕ)) → HasExplained path program input config written written (Err (Run NoMemory))
+unexplained path program input config written = (inl refl, refl)

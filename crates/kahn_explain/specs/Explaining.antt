@@ -1,5 +1,5 @@
 -- Believed. What explaining does, from the bytes of the program text and of the input text to the bytes of the explanation.
-use Rattle.std.specs.Prelude.{◌≡◌, ◌⊎◌, ℕ, List, Option, Result, Ok, Err, string_bytes}
+use Rattle.std.specs.Prelude.{◌≡◌, ◌⊎◌, ℕ, List, Option, Some, None, Result, Ok, Err, string_bytes}
 use Rattle.std.specs.Io.KnownBytes.{Appends}
 use Rattle.kahn_config.specs.declared.Config.{Config}
 use Rattle.kahn_tree.specs.declared.tree.Program.{Program}
@@ -13,6 +13,11 @@ use Rattle.kahn_report.specs.Work.{IsAnswered, IsChecked, IsUnchecked}
 use Rattle.kahn_report.specs.Written.{AppendsFront}
 use Rattle.kahn_report.specs.declared.working.WorkFault.{WorkFault}
 use Rattle.kahn_report.specs.declared.working.WorkFault.TheVariants.{Syntax, Check, Text, Run, Write}
+use Rattle.std.specs.declared.alloc.Global.{Global}
+use Rattle.std.specs.declared.string.String.{String}
+use Rattle.kahn_explain.specs.Refusing.{IsRefusal}
+use Rattle.kahn_explain.specs.declared.explaining.Came.{Came}
+use Rattle.kahn_explain.specs.declared.explaining.Came.TheVariants.{Stopped, Refused}
 use Rattle.kahn_why.specs.Words.{IsExplained}
 use Rattle.kahn_why.specs.declared.told.Explanation.{Explanation}
 use Rattle.kahn_why.specs.declared.told.Told.{Told}
@@ -27,23 +32,35 @@ abbrev pub IsExplanationOf : List ℕ → List ℕ → Config → Explanation �
 IsExplanationOf program input config e =
     (t : Program) × (lists : Lists) × (a : Answer) × IsAnswered program input config t lists a × IsExplained t a e
 
--- the explanation went out, or why not: the first of the faults in this order, after which nothing was written, or the writer's,
--- after which a prefix of it was
-abbrev pub HasExplained : List ℕ → List ℕ → Config → Option (List ℕ) → Option (List ℕ) → Result Told WorkFault → Type 0
-HasExplained program input config old new (Ok x) =
-    (e : Explanation) × IsExplanationOf program input config e × (e.told ≡ x) × Appends old new (string_bytes e.text)
-HasExplained program input config old new (Err (Syntax f)) = IsUnchecked program (Syntax f) × (new ≡ old)
-HasExplained program input config old new (Err (Check f)) = IsUnchecked program (Check f) × (new ≡ old)
-HasExplained program input config old new (Err (Text f)) = ((t : Program) × IsChecked program t × IsTextFault t input f) × (new ≡ old)
-HasExplained program input config old new (Err (Run f)) =
-    ((f ≡ NoMemory) ⊎ ((t : Program) × (lists : Lists) × IsChecked program t × StandsFor t input lists × IsUnrun t config f)) × (new ≡ old)
-HasExplained program input config old new (Err (Write f)) =
-    (e : Explanation) × IsExplanationOf program input config e × AppendsFront old new (string_bytes e.text)
+-- the note on a fault of the program text
+abbrev pub IsNoteOn : List ℕ → List ℕ → String Global → Type 0
+IsNoteOn path program note = (f : WorkFault) × IsUnchecked program f × IsRefusal path program f (Some note)
 
--- the status for what a run came to
+-- The explanation went out, or the note on a fault of the program text, or why neither: the first of the faults in this order,
+-- after which nothing was written, or the writer's, after which a prefix was. A fault of the program text is answered where it
+-- has no place.
+abbrev pub HasExplained : List ℕ → List ℕ → List ℕ → Config → Option (List ℕ) → Option (List ℕ) → Result Came WorkFault → Type 0
+HasExplained path program input config old new (Ok (Stopped x)) =
+    (e : Explanation) × IsExplanationOf program input config e × (e.told ≡ x) × Appends old new (string_bytes e.text)
+HasExplained path program input config old new (Ok Refused) = (note : String Global) × IsNoteOn path program note × Appends old new (string_bytes note)
+HasExplained path program input config old new (Err (Syntax f)) = IsUnchecked program (Syntax f) × IsRefusal path program (Syntax f) None × (new ≡ old)
+HasExplained path program input config old new (Err (Check f)) = IsUnchecked program (Check f) × IsRefusal path program (Check f) None × (new ≡ old)
+HasExplained path program input config old new (Err (Text f)) = ((t : Program) × IsChecked program t × IsTextFault t input f) × (new ≡ old)
+HasExplained path program input config old new (Err (Run f)) =
+    ((f ≡ NoMemory) ⊎ ((t : Program) × (lists : Lists) × IsChecked program t × StandsFor t input lists × IsUnrun t config f)) × (new ≡ old)
+HasExplained path program input config old new (Err (Write f)) =
+    ((e : Explanation) × IsExplanationOf program input config e × AppendsFront old new (string_bytes e.text))
+    ⊎ ((note : String Global) × IsNoteOn path program note × AppendsFront old new (string_bytes note))
+
+-- the status for how a run stopped
 abbrev pub told_status : Told → ℕ
 told_status told.Fault = 8
 told_status told.Deadlock = 7
 told_status (told.Stop Finished) = 0
 told_status (told.Stop Bound) = 3
 told_status (told.Stop Memory) = 4
+
+-- and for what the explaining came to
+abbrev pub came_status : Came → ℕ
+came_status (Stopped told) = told_status told
+came_status Refused = 1

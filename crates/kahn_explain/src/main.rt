@@ -1,14 +1,15 @@
-//! Runs a network of processes and channels, and explains why the run stopped.
+//! Runs a network of processes and channels, and explains why the run stopped, or what is wrong with the program text.
 #![tactic(auto)]
 
 mod explaining;
+mod refusing;
 
-use explaining::{explain, status};
+use explaining::{Came, explain, status};
 use kahn_fault::Fault;
 use kahn_line::{ExplainOptions, read_explain_line, tell_line, tell_no_memory, tell_words};
 use kahn_pool::Config;
 use kahn_texts::{Texts, read_texts, tell};
-use kahn_why::Told;
+use refusing::path_name;
 use std::io::Write;
 use std::process::ExitCode;
 use std::rt::Runtime;
@@ -19,13 +20,15 @@ use std::{env, io};
 /// Runs the program on the input, and explains on standard output.
 fn explain_texts<R: Runtime + AllocGlobal + Threads + Wait + Sync>(
     rt: &R,
+    path: &str,
     texts: &Texts,
     config: Config,
-) -> Result<Told, Fault> {
+) -> Result<Came, Fault> {
     let program = texts.program.as_str();
     let input = texts.input.as_str();
-    match explain(rt, rt.alloc(), program, input, config, &mut io::writer(rt)) {
-        Ok(told) => Ok(told),
+    let writer = &mut io::writer(rt);
+    match explain(rt, rt.alloc(), path, program, input, config, writer) {
+        Ok(came) => Ok(came),
         Err(fault) => Err(Fault::Work(fault)),
     }
 }
@@ -34,11 +37,12 @@ fn explain_texts<R: Runtime + AllocGlobal + Threads + Wait + Sync>(
 fn answered<R: Runtime + AllocGlobal + Threads + Wait + Sync, W: Write>(
     rt: &R,
     options: ExplainOptions,
+    path: &str,
     writer: &mut W,
 ) -> u8 {
     match read_texts(rt, options.program, options.input) {
-        Ok(texts) => match explain_texts(rt, &texts, options.config) {
-            Ok(told) => status(told),
+        Ok(texts) => match explain_texts(rt, path, &texts, options.config) {
+            Ok(came) => status(came),
             Err(fault) => tell(&Err(fault), texts.program.as_str(), writer).status,
         },
         Err(fault) => tell(&Err(fault), "", writer).status,
@@ -54,7 +58,10 @@ fn main(rt: HostRuntime) -> ExitCode {
         return ExitCode::from(tell_no_memory(&rt));
     };
     let status = match read_explain_line(rt.alloc(), words.as_slice()) {
-        Ok(options) => answered(&rt, options, &mut rt.stderr()),
+        Ok(options) => match path_name(rt.alloc(), &options.program) {
+            Ok(path) => answered(&rt, options, path.as_str(), &mut rt.stderr()),
+            Err(_) => tell_no_memory(&rt),
+        },
         Err(fault) => tell_line(&rt, &fault),
     };
     ExitCode::from(status)

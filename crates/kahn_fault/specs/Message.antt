@@ -5,6 +5,7 @@ use Rattle.std.specs.List.{concat}
 use Rattle.std.specs.declared.alloc.Global.{Global}
 use Rattle.std.specs.declared.string.String.{String}
 use Rattle.kahn_tree.specs.Place.{line_of, column_of}
+use Rattle.kahn_tree.specs.declared.span.Span.{Span}
 use Rattle.kahn_syntax.specs.declared.fault.SyntaxFault.{SyntaxFault}
 use Rattle.kahn_syntax.specs.declared.fault.SyntaxFault.TheVariants as syntax
 use Rattle.kahn_syntax.specs.declared.fault.What.{What}
@@ -40,10 +41,10 @@ between_line before between after = concat (codes "kahn: " ∷ before ∷ betwee
 abbrev pub place_line : List ℕ → ℕ → List ℕ → List ℕ
 place_line program from words = concat (codes "kahn: " ∷ decimal (line_of program from) ∷ codes ":" ∷ decimal (column_of program from) ∷ codes ": " ∷ words ∷ codes "\n" ∷ [])
 
--- a line with the place of a byte, where there is one; beyond the text it is told as the text's end
-abbrev pub placed_line : List ℕ → Option ℕ → List ℕ → List ℕ
+-- a line with the place of a part, where there is one; beyond the text it is told as the text's end
+abbrev pub placed_line : List ℕ → Option Span → List ℕ → List ℕ
 placed_line program None words = words_line words
-placed_line program (Some from) words = place_line program (min from (length program)) words
+placed_line program (Some span) words = place_line program (min span.from (length program)) words
 
 -- of memory that was refused
 abbrev pub memory_line : List ℕ
@@ -55,16 +56,16 @@ what_words Other = codes "this cannot stand here"
 what_words More = codes "text ends too early"
 what_words Nothing = codes "text goes on after the program"
 
--- where a text is no program: the byte, where there is one
-abbrev pub syntax_place : SyntaxFault → Option ℕ
-syntax_place syntax.TooLong = None
-syntax_place (syntax.BadCharacter span) = Some span.from
-syntax_place (syntax.NumberTooLarge span) = Some span.from
-syntax_place (syntax.CommentOpen span) = Some span.from
-syntax_place (syntax.NameTooLong span) = Some span.from
-syntax_place (syntax.Expected span what) = Some span.from
-syntax_place (syntax.TooDeep span) = Some span.from
-syntax_place syntax.NoMemory = None
+-- where a text is no program, where it is one place
+abbrev pub syntax_span : SyntaxFault → Option Span
+syntax_span syntax.TooLong = None
+syntax_span (syntax.BadCharacter span) = Some span
+syntax_span (syntax.NumberTooLarge span) = Some span
+syntax_span (syntax.CommentOpen span) = Some span
+syntax_span (syntax.NameTooLong span) = Some span
+syntax_span (syntax.Expected span what) = Some span
+syntax_span (syntax.TooDeep span) = Some span
+syntax_span syntax.NoMemory = None
 
 -- why a text is no program
 abbrev pub syntax_words : SyntaxFault → List ℕ
@@ -77,21 +78,21 @@ syntax_words (syntax.Expected span what) = what_words what
 syntax_words (syntax.TooDeep span) = codes "nesting is too deep"
 syntax_words syntax.NoMemory = codes "no memory"
 
--- where a program is refused
-abbrev pub check_place : CheckFault → Option ℕ
-check_place (checked.DeclaredTwice span) = Some span.from
-check_place (checked.Unknown span) = Some span.from
-check_place (checked.WrongKind span) = Some span.from
-check_place (checked.WrongCount span) = Some span.from
-check_place (checked.ChannelExpected span) = Some span.from
-check_place (checked.ValueExpected span) = Some span.from
-check_place (checked.WrongDirection span) = Some span.from
-check_place (checked.NoWriter span) = Some span.from
-check_place (checked.TwoWriters span) = Some span.from
-check_place (checked.NoReader span) = Some span.from
-check_place (checked.TwoReaders span) = Some span.from
-check_place (checked.TooMany span) = Some span.from
-check_place checked.NoMemory = None
+-- where a program is refused, where it is one place
+abbrev pub check_span : CheckFault → Option Span
+check_span (checked.DeclaredTwice span) = Some span
+check_span (checked.Unknown span) = Some span
+check_span (checked.WrongKind span) = Some span
+check_span (checked.WrongCount span) = Some span
+check_span (checked.ChannelExpected span) = Some span
+check_span (checked.ValueExpected span) = Some span
+check_span (checked.WrongDirection span) = Some span
+check_span (checked.NoWriter span) = Some span
+check_span (checked.TwoWriters span) = Some span
+check_span (checked.NoReader span) = Some span
+check_span (checked.TwoReaders span) = Some span
+check_span (checked.TooMany span) = Some span
+check_span checked.NoMemory = None
 
 -- why a program is refused
 abbrev pub check_words : CheckFault → List ℕ
@@ -136,8 +137,8 @@ run_line run.Stalled = words_line (codes "workers stalled")
 
 -- of a run without a report
 abbrev pub work_line : List ℕ → WorkFault → List ℕ
-work_line program (work.Syntax fault) = placed_line program (syntax_place fault) (syntax_words fault)
-work_line program (work.Check fault) = placed_line program (check_place fault) (check_words fault)
+work_line program (work.Syntax fault) = placed_line program (syntax_span fault) (syntax_words fault)
+work_line program (work.Check fault) = placed_line program (check_span fault) (check_words fault)
 work_line program (work.Text fault) = text_line fault
 work_line program (work.Run fault) = run_line fault
 work_line program (work.Write fault) = words_line (codes "report could not be written")

@@ -6,3 +6,6 @@ mod message;
 
 pub use fault::{Fault, live_status, status};
 pub use message::{fault_line, line_counted};
+
+// For the crates above.
+pub use message::{check_span, check_words, syntax_span, syntax_words};

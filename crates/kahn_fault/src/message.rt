@@ -3,7 +3,7 @@
 ghost use Rattle.std.specs.Prelude.{◌≡◌, ◌+◌, ◌<◌, ◌≤◌, [], ◌∷◌, length, decimal, codes};
 ghost use Rattle.std.specs.List.{concat};
 ghost use Rattle.kahn_report.specs.Written.{Writes};
-ghost use Rattle.kahn_fault.specs.Message.{words_line, two_line, between_line, place_line, placed_line, memory_line, what_words, syntax_place, syntax_words, check_place, check_words, entry_line, text_line, run_line, work_line, read_line, path_words, fault_text};
+ghost use Rattle.kahn_fault.specs.Message.{words_line, two_line, between_line, place_line, placed_line, memory_line, what_words, syntax_span, syntax_words, check_span, check_words, entry_line, text_line, run_line, work_line, read_line, path_words, fault_text};
 
 use crate::fault::Fault;
 use itoa::Buffer;
@@ -147,7 +147,7 @@ fn put_byte<W: Write, L: Ledger>(
 fn put_placed<W: Write, L: Ledger>(
     writer: &mut W,
     program: &str,
-    place: Option<usize>,
+    place: Option<Span>,
     words: &str,
     writes: &mut Steps<L>,
 ) -> Result<(), WriteFault>
@@ -155,7 +155,7 @@ fn put_placed<W: Write, L: Ledger>(
     ensures few { writes.new ≤ writes.old + length (placed_line program.now place words.now) + 1 }
 {
     match place {
-        Some(from) => put_byte(writer, program, from.min(program.len()), words, writes),
+        Some(span) => put_byte(writer, program, span.from.min(program.len()), words, writes),
         None => put_words(writer, words, writes),
     }
 }
@@ -171,9 +171,9 @@ fn what_words(what: What) -> &'static str
     }
 }
 
-/// Where a text is no program: the byte, where there is one.
-fn syntax_place(fault: SyntaxFault) -> Option<usize>
-    ensures { result ≡ syntax_place fault }
+/// Where a text is no program, where it is one place.
+pub fn syntax_span(fault: SyntaxFault) -> Option<Span>
+    ensures { result ≡ syntax_span fault }
 {
     match fault {
         SyntaxFault::TooLong | SyntaxFault::NoMemory => None,
@@ -182,12 +182,12 @@ fn syntax_place(fault: SyntaxFault) -> Option<usize>
         | SyntaxFault::CommentOpen(span)
         | SyntaxFault::NameTooLong(span)
         | SyntaxFault::Expected(span, _)
-        | SyntaxFault::TooDeep(span) => Some(span.from),
+        | SyntaxFault::TooDeep(span) => Some(span),
     }
 }
 
 /// Why a text is no program.
-fn syntax_words(fault: SyntaxFault) -> &'static str
+pub fn syntax_words(fault: SyntaxFault) -> &'static str
     ensures { result.now ≡ syntax_words fault }
 {
     match fault {
@@ -202,9 +202,9 @@ fn syntax_words(fault: SyntaxFault) -> &'static str
     }
 }
 
-/// Where a program is refused.
-fn check_place(fault: CheckFault) -> Option<usize>
-    ensures { result ≡ check_place fault }
+/// Where a program is refused, where it is one place.
+pub fn check_span(fault: CheckFault) -> Option<Span>
+    ensures { result ≡ check_span fault }
 {
     match fault {
         CheckFault::NoMemory => None,
@@ -219,12 +219,12 @@ fn check_place(fault: CheckFault) -> Option<usize>
         | CheckFault::TwoWriters(span)
         | CheckFault::NoReader(span)
         | CheckFault::TwoReaders(span)
-        | CheckFault::TooMany(span) => Some(span.from),
+        | CheckFault::TooMany(span) => Some(span),
     }
 }
 
 /// Why a program is refused.
-fn check_words(fault: CheckFault) -> &'static str
+pub fn check_words(fault: CheckFault) -> &'static str
     ensures { result.now ≡ check_words fault }
 {
     match fault {
@@ -323,14 +323,14 @@ fn put_work<W: Write, L: Ledger>(
         WorkFault::Syntax(fault) => put_placed(
             writer,
             program,
-            syntax_place(fault),
+            syntax_span(fault),
             syntax_words(fault),
             writes,
         ),
         WorkFault::Check(fault) => put_placed(
             writer,
             program,
-            check_place(fault),
+            check_span(fault),
             check_words(fault),
             writes,
         ),

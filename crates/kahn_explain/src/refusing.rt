@@ -1,0 +1,107 @@
+//! Why a program text is refused, as a note on the place.
+
+ghost use Rattle.std.specs.Prelude.{◌≡◌, IfOk, option_map, string_bytes};
+ghost use Rattle.kahn_marks.specs.Marks.{marked};
+ghost use Rattle.kahn_report.specs.Work.{IsUnchecked};
+ghost use Rattle.kahn_syntax.specs.Texts.{IsTextFault as IsSyntaxFault};
+ghost use Rattle.kahn_explain.specs.Refusing.{IsCheckRefusal, IsRefusal, IsSyntaxRefusal, expected_of, path_name};
+
+use kahn_check::CheckFault;
+use kahn_fault::{check_span, check_words, syntax_span, syntax_words};
+use kahn_marks::marked;
+use kahn_notes::unexpected_note;
+use kahn_report::WorkFault;
+use kahn_syntax::{SyntaxFault, What};
+use kahn_tree::{NoMemory, Span};
+use std::alloc::{AllocError, Global};
+
+/// What the path of the program text is called in a note.
+pub(crate) fn path_name(alloc: Global, program: &Option<String>) -> Result<String, AllocError>
+    ensures { IfOk result (λ path. string_bytes path ≡ path_name program.now) }
+{
+    match program {
+        Some(path) => String::from_str(alloc, path.as_str()),
+        None => String::from_str(alloc, "<stdin>"),
+    }
+}
+
+/// A note on a place, where there is one.
+fn placed_note(
+    alloc: Global,
+    path: &str,
+    program: &str,
+    place: Option<Span>,
+    words: &str,
+) -> Result<Option<String>, NoMemory>
+    ensures { IfOk result (λ note. option_map string_bytes note ≡ option_map (λ span. marked path.now program.now span words.now) place) }
+{
+    match place {
+        Some(span) => Ok(Some(marked(alloc, path, program, span, words)?)),
+        None => Ok(None),
+    }
+}
+
+/// The place and the reason, where a lexeme can't stand or the text ends too early.
+fn expected_of(fault: SyntaxFault) -> Option<(Span, What)>
+    ensures { result ≡ expected_of fault }
+{
+    match fault {
+        SyntaxFault::Expected(span, what) => Some((span, what)),
+        _ => None,
+    }
+}
+
+/// The note on a fault of the text, where it has a place.
+fn syntax_note(
+    alloc: Global,
+    path: &str,
+    program: &str,
+    fault: SyntaxFault,
+) -> Result<Option<String>, NoMemory>
+    requires { IsSyntaxFault program.now fault }
+    ensures { IfOk result (IsSyntaxRefusal path.now program.now fault) }
+{
+    match expected_of(fault) {
+        Some((span, what)) => {
+            let note = unexpected_note(alloc, path, program, span, what)?;
+            Ok(Some(note))
+        }
+        None => {
+            let place = syntax_span(fault);
+            placed_note(alloc, path, program, place, syntax_words(fault))
+        }
+    }
+}
+
+/// The note on a fault of the network, where it has a place.
+fn check_note(
+    alloc: Global,
+    path: &str,
+    program: &str,
+    fault: CheckFault,
+) -> Result<Option<String>, NoMemory>
+    ensures { IfOk result (IsCheckRefusal path.now program.now fault) }
+{
+    let place = check_span(fault);
+    placed_note(alloc, path, program, place, check_words(fault))
+}
+
+/// The note on a fault of a program text, where it has a place: what stands there and what may stand there, or the words of
+/// the fault. It refuses only where memory was refused.
+pub(crate) fn refusal_note(
+    alloc: Global,
+    path: &str,
+    program: &str,
+    fault: WorkFault,
+) -> Result<Option<String>, NoMemory>
+    requires { IsUnchecked program.now fault }
+    ensures { IfOk result (IsRefusal path.now program.now fault) }
+{
+    match fault {
+        WorkFault::Syntax(fault) => syntax_note(alloc, path, program, fault),
+        WorkFault::Check(fault) => check_note(alloc, path, program, fault),
+        WorkFault::Text(_) => Ok(None),
+        WorkFault::Run(_) => Ok(None),
+        WorkFault::Write(_) => Ok(None),
+    }
+}

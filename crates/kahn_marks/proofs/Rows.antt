@@ -1,0 +1,38 @@
+-- The characters of a line, one after another.
+use Rattle.std.proofs.Common.{◌≡◌, ℕ, ◌+◌, zero, suc, List, [], ◌∷◌, ◌++◌, length, refl, sym, ap, ◌∙◌, add-one, append_assoc, append-nil, arith, chars, encode_utf8, flat_map}
+use Rattle.std.proofs.lemmas.Str.{chars-nil}
+use Rattle.kahn_marks.specs.declared.columns.Row.{Row}
+use Rattle.kahn_marks.specs.Marks.{piece_of, with_places, times_over}
+
+-- what is written of characters, the first of which begins at `at`
+abbrev pub written : Row → ℕ → ℕ → ℕ → List ℕ → List ℕ
+written row from bytes at cs = flat_map (λ p. piece_of row from bytes p.0 p.1) (with_places at cs)
+
+-- one character more
+pub moved : (row : Row) (from bytes here at next c : ℕ) (cs ds old new all : List ℕ) → here ≡ at → cs ≡ c ∷ ds → next ≡ at + length (encode_utf8 c)
+    → new ≡ old ++ piece_of row from bytes here c → old ++ written row from bytes at cs ≡ all → new ++ written row from bytes next ds ≡ all
+moved row from bytes here at next c cs ds old new all same is step added before =
+    ap (λ l. l ++ written row from bytes next ds) (added ∙ ap (λ n. old ++ piece_of row from bytes n c) same)
+    ∙ append_assoc old (piece_of row from bytes at c) (written row from bytes next ds)
+    ∙ ap (λ n. old ++ (piece_of row from bytes at c ++ written row from bytes n ds)) step
+    ∙ ap (λ l. old ++ written row from bytes at l) (sym is)
+    ∙ before
+
+none_left : (xs : List ℕ) → length xs ≡ 0 → xs ≡ []
+none_left [] e = refl
+none_left (x ∷ xs) e = absurd (omega (arith, e))
+
+-- and none
+pub done : (row : Row) (from bytes at : ℕ) (rest text all : List ℕ) → length rest ≡ 0 → text ++ written row from bytes at (chars rest) ≡ all → text ≡ all
+done row from bytes at rest text all none before =
+    sym (append-nil text) ∙ ap (λ l. text ++ written row from bytes at l) (sym (ap chars (none_left rest none) ∙ chars-nil)) ∙ before
+
+-- once more, at the end
+pub once_more : (n : ℕ) (piece : List ℕ) → times_over (suc n) piece ≡ times_over n piece ++ piece
+once_more zero piece = append-nil piece
+once_more (suc n) piece = ap (λ l. piece ++ l) (once_more n piece) ∙ sym (append_assoc piece (times_over n piece) piece)
+
+pub repeated_more : (n : ℕ) (piece old mid new : List ℕ) → mid ≡ old ++ times_over n piece → new ≡ mid ++ piece → new ≡ old ++ times_over (n + 1) piece
+repeated_more n piece old mid new before added =
+    added ∙ ap (λ l. l ++ piece) before ∙ append_assoc old (times_over n piece) piece
+    ∙ ap (λ l. old ++ l) (sym (once_more n piece)) ∙ ap (λ k. old ++ times_over k piece) (sym (add-one n))

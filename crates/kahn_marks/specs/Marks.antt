@@ -1,0 +1,78 @@
+-- Believed. A note on a part of a text: where it stands and what is said, the source line, and carets under the part.
+use Rattle.std.specs.Prelude.{ℕ, zero, suc, ◌+◌, ◌-◌, ◌==◌, ◌&&◌, List, [], ◌∷◌, ◌++◌, Bool, false, if◌then◌else◌, nat_le, nat_lt, unwrap_or, codes, chars, decimal, encode_utf8, flat_map, length, min, slice_index_or}
+use Rattle.std.specs.List.{concat}
+use Rattle.std.specs.Char.{is_control}
+use Rattle.std.specs.Str.Lines.{lines}
+use Rattle.unicode_width.specs.Width.{char_width}
+use Rattle.kahn_tree.specs.Place.{line_of, column_of}
+use Rattle.kahn_tree.specs.declared.span.Span.{Span}
+use Rattle.kahn_marks.specs.declared.columns.Row.{Row}
+use Rattle.kahn_marks.specs.declared.columns.Row.TheVariants.{Source, Blanks, Carets}
+
+-- the piece so many times
+abbrev pub times_over : ℕ → List ℕ → List ℕ
+times_over zero piece = []
+times_over (suc n) piece = piece ++ times_over n piece
+
+-- a character as it is shown: a tab as four blanks, a control character as U+FFFD
+abbrev pub shown_character : ℕ → List ℕ
+shown_character c = if c == 9 then codes "    " else if is_control c then encode_utf8 0xFFFD else encode_utf8 c
+
+-- the columns that it takes then in a terminal
+abbrev pub columns : ℕ → ℕ
+columns c = if c == 9 then 4 else if is_control c then 1 else unwrap_or (char_width false c) 0
+
+-- Of a part's line 80 bytes are shown before the part, and 80 from its first byte on.
+abbrev pub is_near : ℕ → ℕ → Bool
+is_near from at = nat_le (from - 80) at && nat_lt (at - from) 80
+
+-- what each row has of a character that begins at byte `at` of the line, where the part begins at `from` and has so many bytes
+abbrev pub near_piece : Row → ℕ → ℕ → ℕ → ℕ → List ℕ
+near_piece Source from bytes at c = shown_character c
+near_piece Blanks from bytes at c = if nat_lt at from then times_over (columns c) (codes " ") else []
+near_piece Carets from bytes at c = if nat_le from at && nat_lt (at - from) bytes then times_over (columns c) (codes "^") else []
+
+abbrev pub piece_of : Row → ℕ → ℕ → ℕ → ℕ → List ℕ
+piece_of row from bytes at c = if is_near from at then near_piece row from bytes at c else []
+
+-- characters, each with the byte at which it begins, where the first one begins at `at`
+abbrev pub with_places : ℕ → List ℕ → List (ℕ × ℕ)
+with_places at [] = []
+with_places at (c ∷ cs) = (at, c) ∷ with_places (at + length (encode_utf8 c)) cs
+
+-- a row of a line
+abbrev pub row_of : Row → List ℕ → ℕ → ℕ → List ℕ
+row_of row line from bytes = flat_map (λ p. piece_of row from bytes p.0 p.1) (with_places 0 (chars line))
+
+-- one caret at least
+abbrev pub one_at_least : List ℕ → List ℕ
+one_at_least [] = codes "^"
+one_at_least (c ∷ cs) = c ∷ cs
+
+abbrev pub carets_of : List ℕ → ℕ → ℕ → List ℕ
+carets_of line from bytes = one_at_least (row_of Carets line from bytes)
+
+-- a line of a text, from 0; the empty one where it has not so many
+abbrev pub line_at : List ℕ → ℕ → List ℕ
+line_at text n = slice_index_or (lines text) n []
+
+-- the source line with its number, and the carets below
+abbrev pub rows_text : List ℕ → List ℕ → ℕ → ℕ → List ℕ
+rows_text line number from bytes =
+    concat (codes " " ∷ number ∷ codes " | " ∷ row_of Source line from bytes ∷ codes "\n " ∷ [])
+    ++ times_over (length number) (codes " ")
+    ++ concat (codes " | " ∷ row_of Blanks line from bytes ∷ carets_of line from bytes ∷ codes "\n" ∷ [])
+
+-- `PATH:LINE:COLUMN: error: WORDS`
+abbrev pub heading : List ℕ → List ℕ → List ℕ → List ℕ → List ℕ
+heading path line column words = concat (path ∷ codes ":" ∷ line ∷ codes ":" ∷ column ∷ codes ": error: " ∷ words ∷ codes "\n" ∷ [])
+
+-- what is said of a part that begins at byte `from` of the text and has so many bytes
+abbrev pub marked_at : List ℕ → List ℕ → ℕ → ℕ → List ℕ → List ℕ
+marked_at path text from bytes words =
+    heading path (decimal (line_of text from)) (decimal (column_of text from)) words
+    ++ rows_text (line_at text (line_of text from - 1)) (decimal (line_of text from)) (column_of text from - 1) bytes
+
+-- the heading and the rows; a part that begins beyond the text is told as the text's end
+abbrev pub marked : List ℕ → List ℕ → Span → List ℕ → List ℕ
+marked path text span words = marked_at path text (min span.from (length text)) (span.to - min span.from (length text)) words

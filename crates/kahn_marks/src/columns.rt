@@ -1,0 +1,98 @@
+//! How the characters of a source line are shown, and what stands below them.
+
+ghost use Rattle.std.specs.Prelude.{◌≡◌, ◌++◌, ◌<◌, IfOk, chars, flat_map, string_bytes};
+ghost use Rattle.kahn_marks.specs.declared.columns.Row.{Row};
+ghost use Rattle.kahn_marks.specs.Marks.{columns, is_near, piece_of, with_places, shown_character};
+
+use crate::pieces::add_repeated;
+use std::alloc::{AllocError, Global};
+use unicode_width::UnicodeWidthChar;
+
+/// How many bytes before and behind a place are shown of its line.
+const NEAR: usize = 80;
+
+/// What is written of a source line.
+#[derive(Clone, Copy)]
+pub(crate) enum Row {
+    /// The line.
+    Source,
+    /// Blanks below what stands before the part.
+    Blanks,
+    /// Carets below the part.
+    Carets,
+}
+
+/// Whether a character that begins at a byte is shown, where the part begins at another.
+fn is_near(from: usize, at: usize) -> bool
+    ensures { result ≡ is_near from at }
+{
+    from.saturating_sub(NEAR) <= at && at.saturating_sub(from) < NEAR
+}
+
+/// The columns that a character takes as it is shown.
+fn columns(character: char) -> usize
+    ensures { result ≡ columns character }
+{
+    if character == '\t' {
+        4
+    } else if character.is_control() {
+        1
+    } else {
+        character.width().unwrap_or(0)
+    }
+}
+
+/// Adds a character as it is shown: a tab as four blanks, and a control character as U+FFFD.
+fn add_shown(text: &mut String, character: char) -> Result<(), AllocError>
+    ensures { IfOk result (λ _. string_bytes text.new ≡ string_bytes text.old ++ shown_character character) }
+{
+    if character == '\t' {
+        text.push_str("    ")
+    } else if character.is_control() {
+        text.push('\u{FFFD}')
+    } else {
+        text.push(character)
+    }
+}
+
+/// Adds what one row has of the character that begins at a byte of the line, where the part begins at another and has so
+/// many bytes.
+fn add_piece(
+    text: &mut String,
+    row: Row,
+    from: usize,
+    bytes: usize,
+    at: usize,
+    character: char,
+) -> Result<(), AllocError>
+    ensures { IfOk result (λ _. string_bytes text.new ≡ string_bytes text.old ++ piece_of row from bytes at character) }
+{
+    if !is_near(from, at) {
+        return Ok(());
+    }
+    match row {
+        Row::Source => add_shown(text, character),
+        Row::Blanks if at < from => add_repeated(text, " ", columns(character)),
+        Row::Carets if from <= at && at - from < bytes => {
+            add_repeated(text, "^", columns(character))
+        }
+        Row::Blanks | Row::Carets => Ok(()),
+    }
+}
+
+/// A row of a source line.
+pub(crate) fn row_of(
+    alloc: Global,
+    line: &str,
+    row: Row,
+    from: usize,
+    bytes: usize,
+) -> Result<String, AllocError>
+    ensures { IfOk result (λ text. string_bytes text ≡ flat_map (λ p. piece_of row from bytes p.0 p.1) (with_places 0 (chars line.now))) }
+{
+    let mut text = String::new(alloc);
+    for (at, character) in line.char_indices() {
+        add_piece(&mut text, row, from, bytes, at, character)?;
+    }
+    Ok(text)
+}

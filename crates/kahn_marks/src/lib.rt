@@ -1,0 +1,10 @@
+//! A note on a part of a text, as lines: where it stands and what is said, the source line, and carets under the part.
+#![tactic(auto)]
+
+mod columns;
+mod note;
+mod pieces;
+
+// For the crates above.
+pub use note::marked;
+pub use pieces::{add, add_repeated};

@@ -1,0 +1,97 @@
+//! A note on a part of a text.
+
+ghost use Rattle.std.specs.Prelude.{◌≡◌, ◌-◌, ◌++◌, IfOk, map, slice_index_or, string_bytes};
+ghost use Rattle.std.specs.Str.Lines.{lines};
+ghost use Rattle.kahn_marks.specs.Marks.{carets_of, heading, line_at, marked, rows_text};
+
+use crate::columns::{Row, row_of};
+use crate::pieces::{add, add_repeated};
+use itoa::Buffer;
+use kahn_tree::Span;
+use std::alloc::{AllocError, Global};
+
+/// The lines of a text.
+fn lines(alloc: Global, text: &str) -> Result<Vec<&str>, AllocError>
+    ensures { IfOk result (λ v. map (λ line. line.now) v.items ≡ lines text.now) }
+{
+    text.lines().collect(alloc)
+}
+
+/// A line of a text, from 0; the empty one where it has not so many.
+fn line_at(alloc: Global, text: &str, number: usize) -> Result<&str, AllocError>
+    ensures { IfOk result (λ line. line.now ≡ line_at text.now number) }
+{
+    let lines = lines(alloc, text)?;
+    Ok(lines.get(number).copied().unwrap_or(""))
+}
+
+/// The carets below a part of a line: one at least.
+fn carets(alloc: Global, line: &str, from: usize, bytes: usize) -> Result<String, AllocError>
+    ensures { IfOk result (λ text. string_bytes text ≡ carets_of line.now from bytes) }
+{
+    let mut text = row_of(alloc, line, Row::Carets, from, bytes)?;
+    if text.is_empty() {
+        text.push_str("^")?;
+    }
+    Ok(text)
+}
+
+/// Adds a source line with its number, and carets under the part that begins at a byte of it and has so many bytes.
+fn add_rows(
+    note: &mut String,
+    alloc: Global,
+    line: &str,
+    number: &str,
+    from: usize,
+    bytes: usize,
+) -> Result<(), AllocError>
+    ensures { IfOk result (λ _. string_bytes note.new ≡ string_bytes note.old ++ rows_text line.now number.now from bytes) }
+{
+    let source = row_of(alloc, line, Row::Source, from, bytes)?;
+    let blanks = row_of(alloc, line, Row::Blanks, from, bytes)?;
+    let carets = carets(alloc, line, from, bytes)?;
+    add(note, &[" ", number, " | ", source.as_str(), "\n "])?;
+    add_repeated(note, " ", number.len())?;
+    add(note, &[" | ", blanks.as_str(), carets.as_str(), "\n"])
+}
+
+/// Adds the heading of a note.
+fn add_heading<'a>(
+    note: &mut String,
+    path: &'a str,
+    line: &'a str,
+    column: &'a str,
+    words: &'a str,
+) -> Result<(), AllocError>
+    ensures { IfOk result (λ _. string_bytes note.new ≡ string_bytes note.old ++ heading path.now line.now column.now words.now) }
+{
+    add(
+        note,
+        &[path, ":", line, ":", column, ": error: ", words, "\n"],
+    )
+}
+
+/// A note on a part of the text of a file, in three lines: `PATH:LINE:COLUMN: error: WORDS`, the line where the part begins,
+/// and carets under the part. A part that begins beyond the text is told as the text's end. It refuses only where memory was
+/// refused.
+pub fn marked(
+    alloc: Global,
+    path: &str,
+    text: &str,
+    span: Span,
+    words: &str,
+) -> Result<String, AllocError>
+    ensures { IfOk result (λ note. string_bytes note ≡ marked path.now text.now span words.now) }
+{
+    let from = span.from.min(text.len());
+    let (line, column) = Span { from, to: from }.place(text);
+    let mut first = Buffer::new();
+    let mut second = Buffer::new();
+    let number = first.format(line);
+    let mut note = String::new(alloc);
+    add_heading(&mut note, path, number, second.format(column), words)?;
+    let source = line_at(alloc, text, line - 1)?;
+    let bytes = span.to.saturating_sub(from);
+    add_rows(&mut note, alloc, source, number, column - 1, bytes)?;
+    Ok(note)
+}

@@ -1,0 +1,83 @@
+//! What is said of a lexeme that can't stand where it stands, or of a text that ends too early.
+
+ghost use Rattle.std.specs.Prelude.{◌≡◌, ◌++◌, IfOk, string_bytes};
+ghost use Rattle.kahn_syntax.specs.declared.fault.SyntaxFault.TheVariants.{Expected};
+ghost use Rattle.kahn_syntax.specs.Terminals.{IsProper};
+ghost use Rattle.kahn_syntax.specs.Texts.{IsTextFault};
+ghost use Rattle.kahn_notes.specs.Notes.{IsNote, MayFind, found_words, lexeme_words, unexpected_words};
+
+use crate::listing::{add_listed, pieces_of};
+use crate::words::{keyword_words, sign_words};
+use itoa::Buffer;
+use kahn_marks::{add, marked};
+use kahn_syntax::{Class, Lexeme, Span, What};
+use kahn_tree::NoMemory;
+use kahn_wanted::{Unexpected, wanted_at};
+use std::alloc::{AllocError, Global};
+
+/// Adds what a lexeme is.
+fn add_lexeme(note: &mut String, text: &str, lexeme: Lexeme) -> Result<(), AllocError>
+    requires { IsProper text.now lexeme.what lexeme.span }
+    ensures { IfOk result (λ _. string_bytes note.new ≡ string_bytes note.old ++ lexeme_words text.now lexeme.what lexeme.span) }
+{
+    match lexeme.what {
+        Class::Word(keyword) => add(note, &["the keyword ", keyword_words(keyword)]),
+        Class::Name => add(
+            note,
+            &["the name `", &text[lexeme.span.from..lexeme.span.to], "`"],
+        ),
+        Class::Number(number) => {
+            let mut buffer = Buffer::new();
+            add(note, &["the number ", buffer.format(number)])
+        }
+        Class::Sign(sign) => add(note, &[sign_words(sign)]),
+    }
+}
+
+/// Adds what stands at a place.
+fn add_found(note: &mut String, text: &str, found: Option<Lexeme>) -> Result<(), AllocError>
+    requires { MayFind text.now found }
+    ensures { IfOk result (λ _. string_bytes note.new ≡ string_bytes note.old ++ found_words text.now found) }
+{
+    match found {
+        Some(lexeme) => add_lexeme(note, text, lexeme),
+        None => add(note, &["the end of the text"]),
+    }
+}
+
+/// What is said of a place.
+fn words_of(
+    alloc: Global,
+    text: &str,
+    what: What,
+    unexpected: &Unexpected,
+) -> Result<String, AllocError>
+    requires { MayFind text.now unexpected.now.found }
+    ensures { IfOk result (λ words. string_bytes words ≡ unexpected_words text.now what unexpected.now) }
+{
+    let pieces = pieces_of(alloc, &unexpected.wanted, what)?;
+    let mut words = String::new(alloc);
+    add(&mut words, &["found "])?;
+    add_found(&mut words, text, unexpected.found)?;
+    add(&mut words, &[", where "])?;
+    add_listed(&mut words, &pieces)?;
+    add(&mut words, &[" may stand"])?;
+    Ok(words)
+}
+
+/// A note on a place where a text goes wrong: what stands there, and what may stand there. It refuses only where memory was
+/// refused.
+pub fn unexpected_note(
+    alloc: Global,
+    path: &str,
+    text: &str,
+    span: Span,
+    what: What,
+) -> Result<String, NoMemory>
+    requires { IsTextFault text.now (Expected span what) }
+    ensures { IfOk result (IsNote path.now text.now span what) }
+{
+    let unexpected = wanted_at(alloc, text, span, what)?;
+    let words = words_of(alloc, text, what, &unexpected)?;
+    Ok(marked(alloc, path, text, span, words.as_str())?)
+}

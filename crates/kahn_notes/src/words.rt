@@ -1,0 +1,94 @@
+//! The words for lexemes and for groups of them.
+
+ghost use Rattle.std.specs.Prelude.{◌≡◌};
+ghost use Rattle.kahn_notes.specs.Notes.{any_words, wanted_words, keyword_words, sign_words};
+
+use kahn_syntax::{Class, Keyword, Sign};
+use kahn_wanted::Group;
+
+/// A keyword between quotes.
+pub(crate) fn keyword_words(keyword: Keyword) -> &'static str
+    ensures { result.now ≡ keyword_words keyword }
+{
+    match keyword {
+        Keyword::And => "`and`",
+        Keyword::Begin => "`begin`",
+        Keyword::Channel => "`channel`",
+        Keyword::Div => "`div`",
+        Keyword::Do => "`do`",
+        Keyword::Else => "`else`",
+        Keyword::End => "`end`",
+        Keyword::False => "`false`",
+        Keyword::If => "`if`",
+        Keyword::In => "`in`",
+        Keyword::Input => "`input`",
+        Keyword::Integer => "`integer`",
+        Keyword::Logical => "`logical`",
+        Keyword::Mod => "`mod`",
+        Keyword::Not => "`not`",
+        Keyword::On => "`on`",
+        Keyword::Or => "`or`",
+        Keyword::Out => "`out`",
+        Keyword::Output => "`output`",
+        Keyword::Par => "`par`",
+        Keyword::Print => "`print`",
+        Keyword::Process => "`process`",
+        Keyword::Repeat => "`repeat`",
+        Keyword::Send => "`send`",
+        Keyword::Then => "`then`",
+        Keyword::True => "`true`",
+        Keyword::Wait => "`wait`",
+        Keyword::While => "`while`",
+    }
+}
+
+/// A sign between quotes.
+pub(crate) fn sign_words(sign: Sign) -> &'static str
+    ensures { result.now ≡ sign_words sign }
+{
+    match sign {
+        Sign::Becomes => "`:=`",
+        Sign::Open => "`(`",
+        Sign::Close => "`)`",
+        Sign::Comma => "`,`",
+        Sign::Semicolon => "`;`",
+        Sign::Plus => "`+`",
+        Sign::Minus => "`-`",
+        Sign::Times => "`*`",
+        Sign::Equal => "`=`",
+        Sign::Unequal => "`<>`",
+        Sign::Less => "`<`",
+        Sign::AtMost => "`<=`",
+        Sign::Greater => "`>`",
+        Sign::AtLeast => "`>=`",
+        Sign::Not => "`\u{AC}`",
+    }
+}
+
+/// What any lexeme of a class is called.
+pub(crate) fn class_words(class: Class) -> &'static str
+    ensures { result.now ≡ any_words class }
+{
+    match class {
+        Class::Word(keyword) => keyword_words(keyword),
+        Class::Name => "a name",
+        Class::Number(_) => "a number",
+        Class::Sign(sign) => sign_words(sign),
+    }
+}
+
+/// What a group is called.
+pub(crate) fn group_words(group: Group) -> &'static str
+    ensures { result.now ≡ wanted_words group }
+{
+    match group {
+        Group::Expression => "an expression",
+        Group::Operand => "an operand",
+        Group::Statement => "a statement",
+        Group::SimpleStatement => "a simple statement",
+        Group::Declaration => "a declaration",
+        Group::Operator => "an operator",
+        Group::Arithmetic => "an arithmetic operator",
+        Group::Comparison => "a comparison",
+    }
+}

@@ -1,0 +1,61 @@
+-- The lexemes before a fault.
+use Rattle.std.proofs.Common.{◌≡◌, ℕ, ◌+◌, ◌≤◌, ◌<◌, zero, suc, List, [], ◌∷◌, ◌++◌, length, take, drop, get_or, sym, ap, ◌∙◌, subst, arith, append_assoc, append-nil, add-one, length-append, ⊎_elim}
+use Rattle.std.proofs.Math.Seq.{drop-cons, get_or-append_seam}
+use Rattle.std.proofs.lemmas.List.{take-append-le, take-append-drop}
+use Rattle.kahn_tree.specs.declared.span.Span.{Span}
+use Rattle.kahn_syntax.specs.declared.lexeme.Lexeme.{Lexeme}
+use Rattle.kahn_syntax.specs.declared.fault.SyntaxFault.TheVariants.{Expected}
+use Rattle.kahn_syntax.specs.declared.fault.What.{What}
+use Rattle.kahn_syntax.specs.declared.fault.What.TheVariants.{More, Nothing, Other}
+use Rattle.kahn_syntax.specs.Terminals.{terminals, AreProper}
+use Rattle.kahn_syntax.specs.Programs.{Spells}
+use Rattle.kahn_syntax.specs.Faults.{BeginsWithin, IsFault}
+use Rattle.kahn_syntax.specs.Texts.{AreLexemes, IsTextFault}
+use Rattle.kahn_syntax.proofs.Meaning.{terminals_append}
+use Rattle.kahn_syntax.proofs.OneList.{same_lexemes}
+use Rattle.kahn_syntax.proofs.Reached.{le_or}
+use Rattle.kahn_wanted.specs.inner.Asked.{StandsBehind}
+
+pub proper_front : (text : List ℕ) (n : ℕ) (xs : List Lexeme) → AreProper text xs → AreProper text (take n xs)
+proper_front text zero xs h = tt
+proper_front text (suc n) [] h = tt
+proper_front text (suc n) (x ∷ xs) h = (h.0, proper_front text n xs h.1)
+
+-- what begins with more within the limit begins with less
+within_front : (text : List ℕ) (n : ℕ) (before : List Lexeme) → BeginsWithin (terminals text before) → BeginsWithin (terminals text (take n before))
+within_front text n before (t, after, h, small) =
+    let e : terminals text before ≡ terminals text (take n before) ++ terminals text (drop n before) =
+    ap (terminals text) (sym (take-append-drop n before)) ∙ terminals_append text (take n before) (drop n before) in
+    (t, terminals text (drop n before) ++ after, subst (Spells t) (ap (λ l. l ++ after) e ∙ append_assoc _ _ after) h, small)
+
+pub within_first : (text : List ℕ) (xs : List Lexeme) (span : Span) (n : ℕ) → StandsBehind text xs span
+    → ((k : ℕ) (d : Lexeme) → k < n → (get_or xs k d).span ≡ span → ⊥) → BeginsWithin (terminals text (take n xs))
+within_first text xs span n (before, x, after, e, is, within) first =
+    let few : n ≤ length before = ⊎_elim (λ h. h) (λ h. absurd (first (length before) x h (ap (λ (y : Lexeme). y.span) (ap (λ l. get_or l (length before) x) e ∙ get_or-append_seam before x after x) ∙ sym is))) (le_or n (length before)) in
+    subst (λ l. BeginsWithin (terminals text l)) (sym (ap (take n) e ∙ take-append-le n before (x ∷ after) few)) (within_front text n before within)
+
+pub below_all : (text : List ℕ) (xs : List Lexeme) (span : Span) (n : ℕ) → StandsBehind text xs span
+    → ((k : ℕ) (d : Lexeme) → k < n → (get_or xs k d).span ≡ span → ⊥) → n ≤ length xs → n < length xs
+below_all text xs span n (before, x, after, e, is, within) first most =
+    let many : length xs ≡ length before + (length after + 1) = ap length e ∙ length-append before (x ∷ after) ∙ omega arith in
+    ⊎_elim (λ h. omega (arith, h, many, most))
+    (λ h. absurd (first (length before) x h (ap (λ (y : Lexeme). y.span) (ap (λ l. get_or l (length before) x) e ∙ get_or-append_seam before x after x) ∙ sym is))) (le_or n (length before))
+
+-- the fault of a text is that of its lexemes
+pub of_lexemes : (text : List ℕ) (ys : List Lexeme) (span : Span) (what : What) → AreLexemes text ys → IsTextFault text (Expected span what) → IsFault text ys (Expected span what)
+of_lexemes text ys span what a h =
+    ⊎_elim (λ (f : ⊥). absurd f) (λ r. subst (λ l. IsFault text l (Expected span what)) (same_lexemes text 0 (length text) r.0 ys r.1.1 a.1) r.2) h
+
+pub at_end : (text : List ℕ) (ys : List Lexeme) (span : Span) → IsFault text ys (Expected span More) → BeginsWithin (terminals text ys)
+at_end text ys span h = h.2
+
+pub at_other : (text : List ℕ) (ys : List Lexeme) (span : Span) → IsFault text ys (Expected span Other) → StandsBehind text ys span
+at_other text ys span (before, x, after, e, is, h) = (before, x, after, e, is, h.0)
+
+pub at_nothing : (text : List ℕ) (ys : List Lexeme) (span : Span) → IsFault text ys (Expected span Nothing) → StandsBehind text ys span
+at_nothing text ys span (before, x, after, e, is, ((t, h, small), none)) = (before, x, after, e, is, (t, [], subst (Spells t) (sym (append-nil _)) h, small))
+
+pub cut_at : (xs : List Lexeme) (n : ℕ) (d : Lexeme) → n < length xs → xs ≡ take n xs ++ get_or xs n d ∷ drop (n + 1) xs
+cut_at xs n d below =
+    let e : drop n xs ≡ get_or xs n d ∷ drop (n + 1) xs = rw add-one (drop-cons xs n d below) in
+    sym (take-append-drop n xs) ∙ ap (λ l. take n xs ++ l) e

@@ -1,0 +1,4 @@
+mod Alike
+mod Answering
+mod Classes
+mod Front

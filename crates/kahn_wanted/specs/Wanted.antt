@@ -1,0 +1,74 @@
+-- Believed. Which lexemes may stand at a place of a text.
+use Rattle.std.specs.Prelude.{◌≡◌, ◌↔◌, ℕ, List, [], ◌∷◌, ◌++◌, pos, Some, None, Contains, flat_map}
+use Rattle.kahn_tree.specs.declared.span.Span.{Span}
+use Rattle.kahn_syntax.specs.declared.lexeme.Class.{Class}
+use Rattle.kahn_syntax.specs.declared.lexeme.Class.TheVariants as class
+use Rattle.kahn_syntax.specs.declared.lexeme.Keyword.{Keyword}
+use Rattle.kahn_syntax.specs.declared.lexeme.Keyword.TheVariants as word
+use Rattle.kahn_syntax.specs.declared.lexeme.Sign.{Sign}
+use Rattle.kahn_syntax.specs.declared.lexeme.Sign.TheVariants as sign
+use Rattle.kahn_syntax.specs.declared.lexeme.Lexeme.{Lexeme}
+use Rattle.kahn_syntax.specs.declared.fault.What.{What}
+use Rattle.kahn_syntax.specs.declared.fault.What.TheVariants.{More}
+use Rattle.kahn_syntax.specs.Terminals as terminal
+use Rattle.kahn_syntax.specs.Terminals.{Terminal, terminals}
+use Rattle.kahn_syntax.specs.Faults.{Begins}
+use Rattle.kahn_syntax.specs.Texts.{AreLexemes}
+use Rattle.kahn_wanted.specs.declared.groups.Group.{Group}
+use Rattle.kahn_wanted.specs.declared.groups.Group.TheVariants as group
+use Rattle.kahn_wanted.specs.declared.groups.Wanted.{Wanted}
+use Rattle.kahn_wanted.specs.declared.found.Unexpected.{Unexpected}
+
+-- with this one behind them the terminals begin a program
+abbrev pub MayFollow : List Terminal → Terminal → Type 0
+MayFollow before k = Begins (before ++ k ∷ [])
+
+-- the class of such terminals: all names are of one, and all numbers are of that of 0
+abbrev pub class_of_terminal : Terminal → Class
+class_of_terminal (terminal.word w) = class.Word w
+class_of_terminal (terminal.sign s) = class.Sign s
+class_of_terminal (terminal.number z) = class.Number (pos 0)
+class_of_terminal (terminal.name n) = class.Name
+
+abbrev pub words : List Keyword → List Class
+words [] = []
+words (w ∷ ws) = class.Word w ∷ words ws
+
+abbrev pub signs : List Sign → List Class
+signs [] = []
+signs (s ∷ ss) = class.Sign s ∷ signs ss
+
+-- what an operand begins with, a simple statement, and so on
+abbrev pub members : Group → List Class
+members group.Expression = class.Name ∷ class.Number (pos 0) ∷ class.Sign sign.Open ∷ class.Sign sign.Minus
+    ∷ words (word.True ∷ word.False ∷ word.Wait ∷ word.Not ∷ word.If ∷ [])
+members group.Operand = class.Name ∷ class.Number (pos 0) ∷ class.Sign sign.Open ∷ class.Sign sign.Minus ∷ words (word.True ∷ word.False ∷ word.Wait ∷ [])
+members group.Statement = class.Name ∷ words (word.Send ∷ word.Print ∷ word.Begin ∷ word.If ∷ word.While ∷ word.Repeat ∷ [])
+members group.SimpleStatement = class.Name ∷ words (word.Send ∷ word.Print ∷ word.Begin ∷ [])
+members group.Declaration = words (word.Integer ∷ word.Logical ∷ word.Process ∷ [])
+members group.Operator =
+    signs (sign.Plus ∷ sign.Minus ∷ sign.Times ∷ sign.Equal ∷ sign.Unequal ∷ sign.Less ∷ sign.AtMost ∷ sign.Greater ∷ sign.AtLeast ∷ [])
+    ++ words (word.Div ∷ word.Mod ∷ word.And ∷ word.Or ∷ [])
+members group.Arithmetic = signs (sign.Plus ∷ sign.Minus ∷ sign.Times ∷ []) ++ words (word.Div ∷ word.Mod ∷ [])
+members group.Comparison = signs (sign.Equal ∷ sign.Unequal ∷ sign.Less ∷ sign.AtMost ∷ sign.Greater ∷ sign.AtLeast ∷ [])
+
+-- the classes that are told: those of the groups, and the others
+abbrev pub told_classes : Wanted → List Class
+told_classes w = flat_map members w.groups.items ++ w.others.items
+
+-- a lexeme may stand behind these terminals exactly where its class is told
+abbrev pub AreWanted : List Terminal → Wanted → Type 0
+AreWanted before w = (text : List ℕ) (x : Lexeme) → let k = terminal.terminal text x.what x.span in Contains (told_classes w) (class_of_terminal k) ↔ MayFollow before k
+
+-- The lexeme with this span stands there, and what may stand there instead.
+abbrev pub IsInstead : List ℕ → List Lexeme → Span → Unexpected → Type 0
+IsInstead text xs span u = (before : List Lexeme) × (x : Lexeme) × (after : List Lexeme) × (xs ≡ before ++ x ∷ after) × (span ≡ x.span) × (u.found ≡ Some x)
+    × AreWanted (terminals text before) u.wanted
+
+-- What stands where a text goes wrong, which is nothing at its end, and what may stand there.
+abbrev pub IsAtFault : List ℕ → List Lexeme → Span → What → Unexpected → Type 0
+IsAtFault text xs span More u = (u.found ≡ None) × AreWanted (terminals text xs) u.wanted
+IsAtFault text xs span what u = IsInstead text xs span u
+
+abbrev pub IsUnexpected : List ℕ → Span → What → Unexpected → Type 0
+IsUnexpected text span what u = (xs : List Lexeme) × AreLexemes text xs × IsAtFault text xs span what u

@@ -1,0 +1,114 @@
+//! What stands where a text goes wrong, and what may stand there.
+
+ghost use Rattle.std.specs.Prelude.{◌≡◌, ◌≤◌, ◌<◌, ℕ, IfOk, None, length, slice_index_or};
+ghost use Rattle.kahn_syntax.specs.declared.fault.SyntaxFault.TheVariants.{Expected};
+ghost use Rattle.kahn_syntax.specs.declared.lexeme.Lexeme.{Lexeme};
+ghost use Rattle.kahn_syntax.specs.Faults.{BeginsWithin, IsFault};
+ghost use Rattle.kahn_syntax.specs.Terminals.{terminals, AreProper};
+ghost use Rattle.kahn_syntax.specs.Texts.{IsTextFault};
+ghost use Rattle.kahn_wanted.specs.Wanted.{AreWanted, IsAtFault, IsInstead, IsUnexpected};
+ghost use Rattle.kahn_wanted.specs.inner.Asked.{StandsBehind};
+
+use crate::asked::classes;
+use crate::groups::{Wanted, grouped};
+use kahn_syntax::{Lexeme, Span, What, lex};
+use kahn_tree::NoMemory;
+use std::alloc::Global;
+
+/// What stands where a text goes wrong, and what may stand there.
+#[derive(Drop)]
+pub struct Unexpected {
+    /// The lexeme that stands there, or nothing at the text's end.
+    pub found: Option<Lexeme>,
+    /// What may stand there.
+    pub wanted: Wanted,
+}
+
+/// What may stand behind lexemes that begin a program.
+fn wanted_behind(alloc: Global, text: &str, before: &[Lexeme]) -> Result<Wanted, NoMemory>
+    requires proper { AreProper text.now before.now }
+    requires within { BeginsWithin (terminals text.now before.now) }
+    ensures { IfOk result (AreWanted (terminals text.now before.now)) }
+{
+    let Ok(classes) = classes(alloc, text, before) else {
+        return Err(NoMemory);
+    };
+    Ok(grouped(alloc, &classes)?)
+}
+
+/// How many lexemes stand before the first one with this span.
+fn count_before(lexemes: &[Lexeme], span: Span) -> usize
+    ensures within { result ≤ length lexemes.now }
+    ensures found { (d : Lexeme) → result < length lexemes.now → (slice_index_or lexemes.now result d).span ≡ span }
+    ensures first { (k : ℕ) (d : Lexeme) → k < result → ¬ ((slice_index_or lexemes.now k d).span ≡ span) }
+{
+    for (number, lexeme) in lexemes.iter().enumerate() {
+        if lexeme.span == span {
+            return number;
+        }
+    }
+    lexemes.len()
+}
+
+/// What stands at a lexeme, and what may stand there instead.
+fn instead(
+    alloc: Global,
+    text: &str,
+    lexemes: &[Lexeme],
+    span: Span,
+) -> Result<Unexpected, NoMemory>
+    requires proper { AreProper text.now lexemes.now }
+    requires standing { StandsBehind text.now lexemes.now span }
+    ensures { IfOk result (IsInstead text.now lexemes.now span) }
+{
+    let number = count_before(lexemes, span);
+    let found = lexemes[number];
+    let wanted = wanted_behind(alloc, text, &lexemes[..number])?;
+    Ok(Unexpected {
+        found: Some(found),
+        wanted,
+    })
+}
+
+/// What stands at the end of a text, and what may stand there.
+fn at_end(alloc: Global, text: &str, lexemes: &[Lexeme]) -> Result<Unexpected, NoMemory>
+    requires proper { AreProper text.now lexemes.now }
+    requires within { BeginsWithin (terminals text.now lexemes.now) }
+    ensures { IfOk result (λ u. (u.found ≡ None) × AreWanted (terminals text.now lexemes.now) u.wanted) }
+{
+    let wanted = wanted_behind(alloc, text, lexemes)?;
+    Ok(Unexpected {
+        found: None,
+        wanted,
+    })
+}
+
+/// What stands where lexemes go wrong, and what may stand there.
+fn wanted_of(
+    alloc: Global,
+    text: &str,
+    lexemes: &[Lexeme],
+    span: Span,
+    what: What,
+) -> Result<Unexpected, NoMemory>
+    requires proper { AreProper text.now lexemes.now }
+    requires fault { IsFault text.now lexemes.now (Expected span what) }
+    ensures { IfOk result (IsAtFault text.now lexemes.now span what) }
+{
+    match what {
+        What::More => at_end(alloc, text, lexemes),
+        What::Nothing => instead(alloc, text, lexemes, span),
+        What::Other => instead(alloc, text, lexemes, span),
+    }
+}
+
+/// What stands where a text goes wrong, and what may stand there. It refuses only where memory was refused.
+pub fn wanted_at(alloc: Global, text: &str, span: Span, what: What) -> Result<Unexpected, NoMemory>
+    requires { IsTextFault text.now (Expected span what) }
+    ensures { IfOk result (IsUnexpected text.now span what) }
+{
+    let Ok(lexemes) = lex(alloc, text) else {
+        return Err(NoMemory);
+    };
+    wanted_of(alloc, text, &lexemes, span, what)
+}
