@@ -145,9 +145,9 @@ def take(page, path, width, height, **more):
 
 def take_pictures(page, folder):
     page.wait("!at('run').disabled")
-    page.value("void (at('example').value = 'alternating-bit', at('example').onchange())")
+    page.value("void (at('example').value = 'squares', at('example').onchange())")
     page.wait("!at('run').disabled")
-    take(page, f"{folder}/page-report.png", 1200, 720)
+    take(page, f"{folder}/page-report.png", 1200, 620)
     take(page, f"{folder}/page-phone.png", 380, 900, scheme="dark")
     fill(page, FAULTY)
     page.value("at('run').click()")
