@@ -20,14 +20,20 @@ in_root() {
   dpkg --root="$work/root" --force-not-root --force-depends --log="$work/log" "$@" > "$work/said" 2>&1 || { fail "dpkg $*: $(tail -n 3 "$work/said")"; return 1; }
 }
 
-# try_manual NAME: a manual page, as it is shown.
+# try_manual NAME: a manual page, as `man NAME` shows it.
 try_manual() {
-  local page="$work/root/usr/share/man/man1/$1.1.gz"
+  local folder="$work/root/usr/share/man"
   if command -v man > /dev/null; then
-    same "the manual page of $1" "$(MANWIDTH=80 man -l --warnings "$page" 2>&1 | grep -c "^NAME\|^OPTIONS\|warning:")" 2
+    same "the manual page of $1" "$(LC_ALL=C MANPATH="$folder" MANWIDTH=80 man --warnings "$1" 2>&1 | grep -c "^NAME\|^ *$1 - \|^OPTIONS\|warning:")" 3
   else
-    same "the manual page of $1" "$(zcat "$page" | head -c 4)" '.\" '
+    same "the manual page of $1" "$(zcat "$folder/man1/$1.1.gz" | head -c 4)" '.\" '
   fi
+}
+
+# completed NAME WORD: what bash makes of a word after the name, by the function that the file of that name gives it.
+completed() {
+  bash -c 'source "$1/$2"; complete=$(complete -p "$2"); [[ $complete =~ \ -F\ ([^ ]+) ]] && "${BASH_REMATCH[1]}" "$2" "$3" "$2"
+    echo "${COMPREPLY[@]}"' bash "$work/root/usr/share/bash-completion/completions" "$@"
 }
 
 # try_package FILE: installs it, runs it, takes it away.
@@ -40,9 +46,9 @@ try_package() {
     same "the version of $name" "$("$root/usr/bin/$name" --version)" "$name $(dpkg-deb -f "$1" Version)"
     try_manual "$name"
   done
-  same "an example" "$("$root/usr/bin/kahn" "$root/usr/share/doc/kahn/examples/count.kahn")" "$(cat "$top/examples/count.report")"
+  same "an example" "$(PATH="$root/usr/bin" kahn "$root/usr/share/doc/kahn/examples/count.kahn")" "$(cat "$top/examples/count.report")"
   same "the page" "$(sha256sum < "$root/usr/share/doc/kahn/kahn.html")" "$(sha256sum < "$top/release/kahn.html")"
-  same "a completion" "$(bash -c 'source "$1"; _kahn kahn --wor; echo "${COMPREPLY[@]}"' bash "$root/usr/share/bash-completion/completions/kahn")" --workers
+  same "completions" "$(completed kahn --wor) $(completed kahn_live --wor) $(completed kahn_draw --rep)" "--workers --workers --report"
   same "no file is anybody's to write" "$(find "$root/usr" -perm /022 -not -type l | head -n 3)" ""
   in_root --purge kahn || return
   same "what is left" "$(find "$root" -mindepth 1 -not -path "$root/var*")" ""

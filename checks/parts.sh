@@ -59,6 +59,7 @@ try_programs() {
   part "why runs stopped" timeout 600 bash checks/explain.sh
   part "commands of the pages" timeout 600 bash checks/transcripts.sh
   part "the release" timeout 600 bash checks/release.sh
+  part "the first ten minutes" timeout 300 bash checks/newcomer.sh
   part "the page in a browser" timeout 700 bash checks/web.sh
   part "the Debian package" timeout 300 bash checks/package.sh
   part "threads that are refused" bash checks/threads.sh

@@ -1,6 +1,7 @@
 """The page, in a headless Chromium: reports, faults and pictures compared byte for byte with the programs, and its fields and buttons.
 
     web.py BROWSER PAGE KAHN KAHN_DRAW            runs the rows of checks/rows, the examples and what is refused
+    web.py BROWSER PAGE --opens                   opens the page, which shows a report at once
     web.py BROWSER PAGE --pictures FOLDER         takes pictures of the page: a report, a fault at its place, a phone by night
 """
 import base64
@@ -17,6 +18,7 @@ import browser
 import rows
 
 SECONDS = 270
+SECONDS_TO_OPEN = 60
 MOST_BOUND = "281474976710655"
 
 # Runs cases, one after the other, and gives what each run told, with its bytes in base64.
@@ -101,11 +103,15 @@ def fill(page, program, text="", bound="1000000"):
     page.value(f"void ([at('program').value, at('input').value, at('bound').value] = {json.dumps([program, text, bound])}, at('program').oninput())")
 
 
+def try_opening(page, tried):
+    page.wait("!at('run').disabled")
+    tried.same("a report when it opens", page.value("at('report').textContent"), open(f"{TOP}/examples/squares.report", encoding="utf-8").read())
+
+
 def try_fields(page, path, tried):
     """What somebody does with the page."""
     settled = "!at('run').disabled"
-    page.wait(settled)
-    tried.same("a report when it opens", page.value("at('report').textContent"), open(f"{TOP}/examples/squares.report", encoding="utf-8").read())
+    try_opening(page, tried)
     page.value("void (at('example').value = 'filter', at('example').onchange())")
     page.wait(settled)
     tried.same("an example", page.value("at('report').textContent"), open(f"{TOP}/examples/filter.report", encoding="utf-8").read())
@@ -145,9 +151,9 @@ def take(page, path, width, height, **more):
 
 def take_pictures(page, folder):
     page.wait("!at('run').disabled")
-    page.value("void (at('example').value = 'alternating-bit', at('example').onchange())")
+    page.value("void (at('example').value = 'squares', at('example').onchange())")
     page.wait("!at('run').disabled")
-    take(page, f"{folder}/page-report.png", 1200, 720)
+    take(page, f"{folder}/page-report.png", 1200, 620)
     take(page, f"{folder}/page-phone.png", 380, 900, scheme="dark")
     fill(page, FAULTY)
     page.value("at('run').click()")
@@ -158,14 +164,17 @@ def take_pictures(page, folder):
 def main(program, path, *words):
     tried = Tried()
     try:
-        with browser.Browser(program, path, SECONDS) as page:
+        with browser.Browser(program, path, SECONDS_TO_OPEN if words[0] == "--opens" else SECONDS) as page:
             if words[0] == "--pictures":
                 take_pictures(page, words[1])
                 return 0
-            try_fields(page, path, tried)
-            page.open(path)
-            page.wait("!at('run').disabled")
-            compare_rows(page, tried, *words)
+            if words[0] == "--opens":
+                try_opening(page, tried)
+            else:
+                try_fields(page, path, tried)
+                page.open(path)
+                page.wait("!at('run').disabled")
+                compare_rows(page, tried, *words)
     except (RuntimeError, TimeoutError) as error:
         tried.same("the page", str(error), "an answer")
     print(f"{tried.passed} passed, {tried.failed} failed")
