@@ -133,12 +133,7 @@ impl<'n> Held<'n> {
             return Err(HeldFault::BadMore);
         }
         let room = PartRoom::new(self.alloc, self.network.instances())?;
-        give_watched(
-            self.network,
-            &self.input,
-            self.plan.watch,
-            &mut self.given,
-        )?;
+        give_watched(self.network, &self.input, self.plan.watch, &mut self.given)?;
         let idles = mem::replace(&mut self.idles, Vec::new(self.alloc));
         let _program = self.network.program();
         let part = Part {
@@ -232,10 +227,12 @@ impl<'n> Held<'n> {
         let _program = self.network.program();
         match line {
             Line::Channel(channel) => match self.network.writer(channel) {
-                Some(Side {
-                    instance,
-                    parameter,
-                }) => self.idles[instance].kept(parameter),
+                Some(
+                    Side {
+                        instance,
+                        parameter,
+                    },
+                ) => self.idles[instance].kept(parameter),
                 None => &self.given,
             },
             Line::Print(instance) => self.idles[instance].printed(),

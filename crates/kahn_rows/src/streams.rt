@@ -8,9 +8,7 @@ use crate::rows::{AMPLE, config};
 use kahn_check::CheckFault;
 use kahn_fault::{Fault, fault_line};
 use kahn_pool::{Open, Verdict, run_one};
-use kahn_report::{
-    ReadFault, WorkFault, WriteFault, read_text, work, write_closing, write_line,
-};
+use kahn_report::{ReadFault, WorkFault, WriteFault, read_text, work, write_closing, write_line};
 use kahn_streams::Input;
 use kahn_syntax::Span;
 use std::alloc::Global;

@@ -224,13 +224,7 @@ impl<'n> Session<'n> {
             Err(PartFault::NoThread) => return Err(TakeFault::WaitsForThread),
         };
         let _ends = self.paced.ends();
-        if let Err(fault) = show(
-            writer,
-            self.network,
-            &self.paced,
-            &self.lines,
-            &self.shown,
-        ) {
+        if let Err(fault) = show(writer, self.network, &self.paced, &self.lines, &self.shown) {
             self.broken = true;
             return Err(TakeFault::Write(fault));
         }
