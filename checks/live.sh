@@ -1,7 +1,7 @@
 #!/usr/bin/env bash
 # Runs the program that is fed line by line through pipes that are held open, and waits for each line of output before the
-# next line of input is sent. Then with each of its first threads refused, and then with its first growth of memory refused,
-# with its second, and so on: a later line has to go on to the whole answer.
+# next line of input is sent. Then 200,000 lines, whose time may not grow with what came before. Then with each of its first threads
+# refused, and then with its first growth of memory refused, with its second, and so on: a later line has to go on to the whole answer.
 #
 #   live.sh [whole]      up to the 40th growth that a line tells of; or until ten runs in a row tell of none
 source "$(dirname "${BASH_SOURCE[0]}")/common.sh"
@@ -176,6 +176,24 @@ begin integer input channel N; integer output channel W; integer channel X;
 end
 P
 wanted="W:$(seq -s '' -f ' %g' 0 64)"
+
+# soak LINES SECONDS: the sums of as many ones, a line for each, within so many seconds of processor time.
+soak() {
+  local status
+  (ulimit -t "$2"; yes 'A: 1' | head -n "$1" | "$live" sums.kahn > output.all)
+  status=$?
+  same "$1 lines: status" $status 0
+  if cmp -s <(sed -n 's/^SUMS: //p' output.all) <(seq "$1"); then pass; else fail "$1 lines: sums"; fi
+}
+
+cat > sums.kahn << 'END'
+begin integer input channel A; integer output channel SUMS;
+  process sums(integer in U; integer out W);
+  begin integer S; repeat begin S := S + wait(U); send S on W end end;
+  sums(A, SUMS)
+end
+END
+soak 200000 5
 
 # awaits LINE: a line of the errors, or the program's end, within ten seconds.
 awaits() {
