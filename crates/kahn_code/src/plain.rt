@@ -1,9 +1,9 @@
 //! Every channel of a network in a plain queue, for a run on one thread.
 
-ghost use Rattle.std.specs.Prelude.{◌≡◌, IfOk};
+ghost use Rattle.std.specs.Prelude.{◌≡◌, IfOk, slice_get};
 ghost use Rattle.kahn_network.specs.Wiring.{IsWellWired};
 ghost use Rattle.kahn_streams.specs.Tokens.{Names};
-ghost use Rattle.kahn_code.specs.Lines.{AreFirst, AreQueued};
+ghost use Rattle.kahn_code.specs.Lines.{AreFirst, AreQueued, waiting_of};
 
 use crate::code::CodeFault;
 use crate::opening::first_queues;
@@ -80,6 +80,16 @@ impl<A: Allocator> Plain<A> {
         ensures { AreQueued self.now }
     {
         let _instance = self.instance;
+    }
+
+    /// How many tokens wait in the queue of a channel; none where no channel has that number.
+    pub fn waiting(&self, channel: usize) -> usize
+        ensures { result ≡ waiting_of (slice_get self.now.queues channel) }
+    {
+        match self.queues.get(channel) {
+            Some(queue) => queue.len(),
+            None => 0,
+        }
     }
 }
 

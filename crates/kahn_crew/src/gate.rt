@@ -5,6 +5,12 @@
 pub trait Gate {
     /// The instance is about to run.
     fn enter(&self, instance: usize);
+
+    /// Whether `enter` does nothing. Only then a run by several workers may begin on the caller's thread alone, and start no
+    /// other where there is no work for two.
+    fn is_open(&self) -> bool {
+        false
+    }
 }
 
 /// The gate that does nothing.
@@ -13,4 +19,8 @@ pub struct Open;
 
 impl Gate for Open {
     fn enter(&self, _instance: usize) {}
+
+    fn is_open(&self) -> bool {
+        true
+    }
 }

@@ -33,7 +33,7 @@ fed_workers line a b (text, inr (entry, is, fed)) = ap (λ (h : HeldRun). h.work
 no_part_on : (p q : Pace) (f : PartFault) → IsWellWired p.run.network → IsNoPart p q f → GoesOn p.run q.run × (q.run.input ≡ p.run.input) × (q.step ≡ p.step)
 no_part_on p q part.NoMemory wired same =
     (subst (λ (r : Pace). GoesOn p.run r.run) (sym same) (goes_on_same p.run wired), ap (λ (r : Pace). r.run.input) same, ap (λ (r : Pace). r.step) same)
-no_part_on p q part.NoThread wired (run, several) = (run.goes_on, run.input, run.step)
+no_part_on p q part.NoThread wired (run, open, several) = (run.goes_on, run.input, run.step)
 
 -- for what the session waits then
 abbrev pub waits_for : PartFault → TakeFault
@@ -64,10 +64,10 @@ module _ (line : List ℕ) (h : HeldRun) (wired : IsWellWired h.network) (p q : 
         IsTaken line (record { run = h; step = step; shown = shown; broken = broken }) (record { run = q.run; step = q.step; shown = later; broken = broken }) before before (Err (waits_for f))
     waiting before later part.NoMemory same n =
         let (g, input, stays) = no_part_on p q part.NoMemory still_wired n in
-        record { gone_on = gone_on later broken g input stays; shown = same; text = refl }
+        (record { gone_on = gone_on later broken g input stays; shown = same; text = refl }, subst (λ (r : Pace). IsFedBy line h r.run) (sym n) fed)
     waiting before later part.NoThread same n =
         let (g, input, stays) = no_part_on p q part.NoThread still_wired n in
-        (record { gone_on = gone_on later broken g input stays; shown = same; text = refl }, subst (λ n. 1 < n) (fed_workers line h p.run fed) n.1)
+        (record { gone_on = gone_on later broken g input stays; shown = same; text = refl }, n.1, subst (λ n. 1 < n) (fed_workers line h p.run fed) n.2)
 
     -- a line that was fed, and whose part has a verdict
     pub answered : (counts : List ℕ) (later : List (List Value)) (torn : Bool) (v : Verdict) (ends : List End) → shown ≡ shown_of h (run_lines h) counts → AreShown h counts →

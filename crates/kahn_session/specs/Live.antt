@@ -1,5 +1,5 @@
 -- Believed. A session: a run that is fed line by line, and what it has shown of its streams (this project's profile).
-use Rattle.std.specs.Prelude.{◌≡◌, ◌⊎◌, ℕ, ◌<◌, ◌≤◌, Bool, true, false, List, [], map, length, replicate, Option, Some, Result, Ok, Err}
+use Rattle.std.specs.Prelude.{◌≡◌, ◌⊎◌, ℕ, ◌<◌, ◌≤◌, Bool, true, false, List, [], map, length, replicate, Option, None, Some, Result, Ok, Err}
 use Rattle.std.specs.Io.KnownBytes.{Appends}
 use Rattle.std.specs.Str.{IsUtf8}
 use Rattle.kahn_config.specs.declared.Config.{Config}
@@ -148,8 +148,8 @@ IsTaken line old new before after (Err BadLine) = IsRefused line old new before 
 IsTaken line old new before after (Err BadValue) = IsRefused line old new before after BadValue
 IsTaken line old new before after (Err (Feed f)) = IsRefused line old new before after (Feed f)
 IsTaken line old new before after (Err NoMemory) = IsRefused line old new before after NoMemory
-IsTaken line old new before after (Err WaitsForMemory) = IsWaiting line old new before after
-IsTaken line old new before after (Err WaitsForThread) = IsWaiting line old new before after × (1 < old.run.workers)
+IsTaken line old new before after (Err WaitsForMemory) = IsWaiting line old new before after × IsFedBy line old.run new.run
+IsTaken line old new before after (Err WaitsForThread) = IsWaiting line old new before after × (new.run.verdict ≡ None) × (1 < old.run.workers)
 IsTaken line old new before after (Err (Write f)) = HasBroken line old new before after
 
 -- ---- the end

@@ -1,5 +1,5 @@
 -- Believed. A held run, each part of which may take so many events (this project's profile).
-use Rattle.std.specs.Prelude.{◌≡◌, ℕ, ◌+◌, ◌<◌, min, sum_by, Some}
+use Rattle.std.specs.Prelude.{◌≡◌, ℕ, ◌+◌, ◌<◌, min, sum_by, None, Some}
 use Rattle.kahn_network.specs.Network.{network_of}
 use Rattle.kahn_streams.specs.Tokens.{inputs_of}
 use Rattle.kahn_pool.specs.Exact.{Settles}
@@ -41,4 +41,4 @@ pub record IsPart (old new : Pace) (v : Verdict) : Type 0 where
 -- why it has none: want of memory leaves all as it was
 abbrev pub IsNoPart : Pace → Pace → PartFault → Type 0
 IsNoPart old new NoMemory = new ≡ old
-IsNoPart old new NoThread = HasRun old new × (1 < old.run.workers)
+IsNoPart old new NoThread = HasRun old new × (new.run.verdict ≡ None) × (1 < old.run.workers)

@@ -1,11 +1,11 @@
-use Rattle.std.proofs.Common.{◌≡◌, ◌∙◌, ◌<◌, ℕ, List, true, sym, ap, subst}
+use Rattle.std.proofs.Common.{◌≡◌, ◌∙◌, ◌<◌, ℕ, List, None, true, sym, ap, subst}
 use Rattle.std.specs.Io.KnownBytes.{Appends}
 use Rattle.kahn_network.specs.Wiring.{IsWellWired}
 use Rattle.kahn_streams.specs.declared.value.Line.{Line}
 use Rattle.kahn_report.specs.Written.{AppendsFront}
 use Rattle.kahn_session.specs.declared.fault.PartFault.TheVariants as part
 use Rattle.kahn_session.specs.inner.Shown.{news_of, shown_of}
-use Rattle.kahn_session.specs.Live.{HasBroken, HasTaken, IsWaiting, Live, run_lines}
+use Rattle.kahn_session.specs.Live.{HasBroken, HasTaken, IsFedBy, IsWaiting, Live, run_lines}
 use Rattle.kahn_session.proofs.Showing.{all_shown, kept_lines, kept_shown, news_texts, shown_on}
 use Rattle.kahn_session.proofs.Taking.{answered, halted_on, waiting, whole_on}
 use Rattle.kahn_session.proofs.session.Session.take.Goals as goal
@@ -41,7 +41,7 @@ returns-in-Err-NoMemory-clause-taken g c =
     let before = g.W.Write.contents c.args.writer.now in
     let later = shown_of q.run lines counts in
     let new : Live = record { run = q.run; step = q.step; shown = later; broken = i.broken } in
-    subst (λ (s : Live). IsWaiting line s new before before) c.self.view_is
+    subst (λ (s : Live). IsWaiting line s new before before × IsFedBy line s.run new.run) c.self.view_is
     (waiting line h wired p q fed i.paced.step c.feed_line.ensures.step (shown_of h lines counts) i.broken before later part.NoMemory
     (kept_shown h q.run lines counts c.self.invariant.1 wired on c.self.invariant.2) n)
 
@@ -76,7 +76,7 @@ returns-in-Err-NoThread-clause-taken g c =
     let before = g.W.Write.contents c.args.writer.now in
     let later = shown_of q.run lines counts in
     let new : Live = record { run = q.run; step = q.step; shown = later; broken = i.broken } in
-    subst (λ (s : Live). IsWaiting line s new before before × (1 < s.run.workers)) c.self.view_is
+    subst (λ (s : Live). IsWaiting line s new before before × (new.run.verdict ≡ None) × (1 < s.run.workers)) c.self.view_is
     (waiting line h wired p q fed i.paced.step c.feed_line.ensures.step (shown_of h lines counts) i.broken before later part.NoThread
     (kept_shown h q.run lines counts c.self.invariant.1 wired on c.self.invariant.2) n)
 
