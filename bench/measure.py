@@ -2,9 +2,10 @@
 
     measure.py KAHN [--runs N] [WORKLOAD ..]      KAHN is the program; without names all workloads, nine runs each
 
-For each workload it prints the events, the milliseconds with 1, 2 and 4 workers and by hand (one thread, built by rustc where it is
-there), and the speed of each as a multiple of that by hand. With `perf` or `valgrind` there is a column with the machine
-instructions an event, of one worker and by hand.
+For each workload it prints the events; the milliseconds with 1, 2, 4 and 16 workers; for these the time by the clock and that of all
+processors as multiples of those of one worker; and, where there is an interpreter by hand of it (one thread, built by rustc where it
+is there), its milliseconds, the speed of each as a multiple of that by hand, and with `perf` or `valgrind` the machine instructions an
+event, of one worker and by hand.
 """
 import os
 import re
@@ -15,26 +16,39 @@ import sys
 import tempfile
 import time
 
-HERE = os.path.dirname(os.path.abspath(__file__))
-WORKERS = (1, 2, 4)
+sys.dont_write_bytecode = True
+sys.path.append(os.path.dirname(os.path.abspath(__file__)))
+import workloads
+
+HERE = workloads.HERE
+WORKERS = (1, 2, 4, 16)
 BOUND = str(2**48 - 1)
+BY_HAND = ("pipeline", "sample", "pipelines", "arithmetic")
 
 
-def pipelines():
-    """64 pipelines of one source and one copy, independent of one another."""
-    lines = ["begin"]
-    lines += [f"  integer channel X{k}; integer output channel W{k};" for k in range(64)]
-    lines += ["  process count(integer out W; integer N);"]
-    lines += ["  begin integer I; while I < N do begin send I on W; I := I + 1 end end;"]
-    lines += ["  process copy(integer in U; integer out W);", "  begin repeat send wait(U) on W end;"]
-    lines += ["  " + " par\n  ".join(f"count(X{k}, 10000) par copy(X{k}, W{k})" for k in range(64)), "end"]
-    return "\n".join(lines) + "\n"
+def example(name):
+    with open(f"{HERE}/../examples/{name}.kahn", encoding="utf-8") as it:
+        return it.read()
+
+
+WORKLOADS = {
+    "counting": example("count"),
+    "pipeline": workloads.pipeline(1_000_000),
+    "sample": workloads.sample(200_000),
+    "pipelines": workloads.pipelines(10_000),
+    "arithmetic": workloads.arithmetic(10_000_000),
+    "ring": workloads.ring(4_000),
+    "ring-against": workloads.ring(4_000, against=True),
+    "chain": workloads.chain(4_000),
+}
 
 
 def milliseconds(words):
+    """The time of a run by the clock, and of all processors together."""
     start = time.perf_counter()
-    subprocess.run(words, stdout=subprocess.DEVNULL, check=False)
-    return (time.perf_counter() - start) * 1000
+    ran = subprocess.Popen(words, stdout=subprocess.DEVNULL)
+    used = os.wait4(ran.pid, 0)[2]
+    return (time.perf_counter() - start) * 1000, (used.ru_utime + used.ru_stime) * 1000
 
 
 def instructions(words, room):
@@ -57,18 +71,19 @@ def measure(name, program, kahn, by_hand, runs, room):
     ways = {workers: [kahn, program, "--workers", str(workers), "--bound", BOUND] for workers in WORKERS}
     report = subprocess.run(ways[1], capture_output=True, text=True, check=True).stdout
     events = int(report.split()[-1])
-    if by_hand and name != "counting":
+    if by_hand and name in BY_HAND:
         ways["by hand"] = [by_hand, name]
     times = {way: [] for way in ways}
     for _ in range(runs):
         for way, words in ways.items():
             times[way].append(milliseconds(words))
-    medians = {way: statistics.median(found) for way, found in times.items()}
-    line = f"{name:11} {events:10}" + "".join(f" {medians[way]:9.1f}" for way in ways)
+    clock, used = ({way: statistics.median(it[which] for it in found) for way, found in times.items()} for which in (0, 1))
+    line = f"{name:13} {events:10}" + "".join(f" {clock[way]:8.1f}" for way in WORKERS)
+    for of in (clock, used):
+        line += " |" + "".join(f" {of[way] / of[1]:5.2f}" for way in WORKERS[1:])
     if "by hand" in ways:
-        line = f"{line:62}" + "".join(f" {medians['by hand'] / medians[way]:6.2f}" for way in WORKERS)
-        counted = [instructions(ways[way], room) for way in (1, "by hand")]
-        line += "".join(f" {it / events:8.0f}" for it in counted if it)
+        line += f" | {clock['by hand']:8.1f}" + "".join(f" {clock['by hand'] / clock[way]:5.2f}" for way in WORKERS)
+        line += " |" + "".join(f" {it / events:5.0f}" for it in (instructions(ways[way], room) for way in (1, "by hand")) if it)
     print(line, flush=True)
 
 
@@ -79,13 +94,12 @@ def main(kahn, *words):
         by_hand = f"{room}/by_hand" if shutil.which("rustc") else None
         if by_hand:
             subprocess.run(["rustc", "-C", "opt-level=3", "-o", by_hand, f"{HERE}/by_hand.rs"], check=True, stderr=subprocess.DEVNULL)
-        with open(f"{room}/pipelines.kahn", "w", encoding="utf-8") as it:
-            it.write(pipelines())
-        programs = {"counting": f"{HERE}/../examples/count.kahn", "pipelines": f"{room}/pipelines.kahn"}
-        programs |= {name: f"{HERE}/{name}.kahn" for name in ("pipeline", "sample", "arithmetic")}
-        print(f"{'':11} {'events':>10} {'1 worker':>9} {'2':>9} {'4':>9} {'by hand':>9} {'speed: 1':>11} {'2':>6} {'4':>6} {'instr. 1':>8} {'by hand':>8}")
-        for name, program in programs.items():
+        print(f"{'':13} {'events':>10} {'1 worker':>8} {'2':>8} {'4':>8} {'16':>8} | clock: 2, 4, 16 | processors | by hand, speeds of 1, 2, 4, 16 | instructions")
+        for name, text in WORKLOADS.items():
             if not wanted or name in wanted:
+                program = f"{room}/{name}.kahn"
+                with open(program, "w", encoding="utf-8") as it:
+                    it.write(text)
                 measure(name, program, kahn, by_hand, runs, room)
 
 

@@ -40,6 +40,13 @@ find_program() {
   kahn=$(found kahn "${KAHN:-}") || exit 2
 }
 
+# Sets crowd: the program that the variable KAHN_CROWD names, or else that of this tree, whose workers all begin at once; none where
+# it wasn't built, since it isn't released.
+find_crowd() {
+  crowd=${KAHN_CROWD:-$top/crates/kahn_crowd/out/kahn_crowd}
+  [ -x "$crowd" ] || crowd=
+}
+
 # Sets live: the program that the variable KAHN_LIVE names, or else that of this tree.
 find_live() {
   live=$(found kahn_live "${KAHN_LIVE:-}") || exit 2

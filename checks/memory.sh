@@ -4,10 +4,14 @@
 # give a report that memory stopped: each of its streams begins the whole one, and the events of its ends add up. All that a run
 # reserves comes before its first worker: once a run got as far as a thread or an event, no later one tells want of memory.
 #
+# Several workers begin at once in the program of checks (`kahn_crowd`) where it was built; `kahn` itself goes over to them in a
+# pipeline that is long enough.
+#
 # Then the same with the program that is fed line by line: whatever is refused in the first part of a held run, or in the next,
 # the parts after it go on to the whole answer.
 source "$(dirname "${BASH_SOURCE[0]}")/common.sh"
 find_program
+find_crowd
 find_live
 refuse_by refuse_growth.c
 cd "$work" || exit 2
@@ -55,14 +59,14 @@ ended() {
   echo "$1: $wanting want memory, $threads want a thread, $stopped ${3:-are stopped by memory}"
 }
 
-# refuse_run PROGRAM WORKERS QUANTUM: each growth of a run in turn.
+# refuse_run RUNNER PROGRAM WORKERS QUANTUM: each growth of a run in turn.
 refuse_run() {
-  local words=("$1" --workers "$2" --quantum "$3")
-  local name="${words[*]##*/}"
+  local words=("$2" --workers "$3" --quantum "$4")
+  local name="$(basename "$1") ${words[*]##*/}"
   "$kahn" "${words[@]}" > whole 2>&1 || { fail "$name: $(head -c 300 whole)"; return; }
   begin
   while goes_on; do
-    refused "$kahn" "${words[@]}"
+    refused "$1" "${words[@]}"
     alike=$((alike + 1))
     if [ "$status$said" = 0 ] && cmp -s whole part; then
       pass
@@ -82,7 +86,7 @@ refuse_run() {
       fail "$name with growth $number refused: status $status, $said, $(head -c 300 part)"
     fi
   done
-  ended "$name" "$2"
+  ended "$name" "$3"
 }
 
 # is_whole: whether the streams of the last run, put together, and its last lines are those of the whole report.
@@ -128,11 +132,13 @@ begin integer channel X0, X1, X2; integer output channel W;
   count(X0, 65) par copy(X0, X1) par copy(X1, X2) par copy(X2, W)
 end
 P
+sed 's/65/20000/' copies.kahn > long.kahn
 for workers in 1 2 8; do
   for quantum in 1 1000; do
-    refuse_run copies.kahn $workers $quantum
-    refuse_run "$top/examples/sample-four-turns.kahn" $workers $quantum
+    refuse_run "${crowd:-$kahn}" copies.kahn $workers $quantum
+    refuse_run "${crowd:-$kahn}" "$top/examples/sample-four-turns.kahn" $workers $quantum
   done
   refuse_parts $workers 1
 done
+refuse_run "$kahn" long.kahn 4 1000
 finish

@@ -50,7 +50,7 @@ try_texts() {
   part "grammars for editors" timeout 600 python3 checks/grammars.py
 }
 
-# The parts that try the programs which KAHN, KAHN_LIVE, KAHN_DRAW and KAHN_EXPLAIN name.
+# The parts that try the programs which KAHN, KAHN_LIVE, KAHN_DRAW and KAHN_EXPLAIN name, and KAHN_CROWD, which isn't released.
 try_programs() {
   part "files, streams and words that go wrong" timeout 600 bash checks/program.sh
   part "lines that come through pipes" timeout 600 bash checks/live.sh
@@ -64,5 +64,10 @@ try_programs() {
   part "the Debian package" timeout 300 bash checks/package.sh
   part "threads that are refused" bash checks/threads.sh
   part "growths of memory that are refused" bash checks/memory.sh
+  part "machine instructions of the workloads" timeout 300 python3 bench/counts.py "$KAHN"
   part "random programs" python3 fuzz/fuzz.py "$KAHN" 300
+  if [ -x "${KAHN_CROWD:-}" ]; then
+    part "rows, by workers that begin at once" bash checks/rows.sh "$KAHN_CROWD"
+    part "random programs, by workers that begin at once" python3 fuzz/fuzz.py "$KAHN_CROWD" 300
+  fi
 }

@@ -1,8 +1,12 @@
 #!/usr/bin/env bash
-# Runs the built program with its first thread refused, then with its second, and so on. Each run whose thread was refused
-# has to say so, with its status and without a report, and each other run has to give the whole report.
+# Runs a program with its first thread refused, then with its second, and so on. Each run whose thread was refused has to say so, with
+# its status and without a report, and each other run has to give the whole report.
+#
+# `kahn` starts threads only where there is work for several: a long pipeline has it, and the examples haven't. The program
+# of checks whose workers all begin at once, where it was built, starts them for each example.
 source "$(dirname "${BASH_SOURCE[0]}")/common.sh"
 find_program
+find_crowd
 refuse_by refuse_thread.c
 refused=0
 
@@ -11,28 +15,47 @@ is_refused() {
   [ "$1" = 6 ] && [ ! -s "$work/report" ] && [ "$(cat "$work/fault")" = "kahn: no thread" ]
 }
 
-# refuse PROGRAM WORKERS: one worker has the caller's thread, so that many threads less one are started.
+# refuse RUNNER PROGRAM WORKERS STARTED: so many threads are started; with each of them refused in turn, and with one more.
 refuse() {
   local number status
-  for number in $(seq 1 $(($2 + 2))); do
-    FAIL_AT=$number LD_PRELOAD="$work/refuse.so" timeout 60 "$kahn" --workers "$2" "$1" > "$work/report" 2> "$work/fault"
+  for number in $(seq 1 $(($4 + 3))); do
+    FAIL_AT=$number LD_PRELOAD="$work/refuse.so" timeout 60 "$1" --workers "$3" "$2" > "$work/report" 2> "$work/fault"
     status=$?
-    if [ "$number" -lt "$2" ] && is_refused $status; then
+    if [ "$number" -le "$4" ] && is_refused $status; then
       refused=$((refused + 1))
       pass
-    elif [ "$number" -ge "$2" ] && [ $status = 0 ] && cmp -s "${1%.kahn}.report" "$work/report"; then
+    elif [ "$number" -gt "$4" ] && [ $status = 0 ] && cmp -s "${2%.kahn}.report" "$work/report"; then
       pass
     else
-      fail "$(basename "$1") with thread $number of $2 workers refused: status $status, $(head -c 300 "$work/fault")"
+      fail "$(basename "$1") $(basename "$2") with thread $number of $3 workers refused: status $status, $(head -c 300 "$work/fault")"
     fi
   done
 }
 
+cat > "$work/long.kahn" <<'P'
+begin integer channel X, Y; integer output channel W;
+  process count(integer out W; integer N);
+  begin integer I; while I < N do begin send I on W; I := I + 1 end end;
+  process copy(integer in U; integer out W);
+  begin repeat send wait(U) on W end;
+  count(X, 50000) par copy(X, Y) par copy(Y, W)
+end
+P
+"$kahn" --workers 1 "$work/long.kahn" > "$work/long.report" || fail "the long pipeline"
+for workers in 1 2 3; do
+  refuse "$kahn" "$work/long.kahn" $workers $((workers - 1))
+done
+# three instances, so three workers
+refuse "$kahn" "$work/long.kahn" 16 2
+
 for program in "$top"/examples/*.kahn; do
   if [ -e "${program%.kahn}.report" ] && [ ! -e "${program%.kahn}.input" ]; then
-    for workers in 1 2 3 4 16; do
-      refuse "$program" $workers
-    done
+    refuse "$kahn" "$program" 16 0
+    if [ -n "$crowd" ]; then
+      for workers in 1 2 3 4 16; do
+        refuse "$crowd" "$program" $workers $((workers - 1))
+      done
+    fi
   fi
 done
 [ $refused -gt 0 ] || fail "no thread was refused"

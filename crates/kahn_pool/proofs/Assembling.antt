@@ -1,6 +1,6 @@
 -- An answer put together from cells at rest is right.
 use mathlib.Core.Path.{fun_ext}
-use Rattle.std.proofs.Common.{arith, ◌≡◌, ◌⊎◌, inl, inr, ℕ, zero, suc, ◌<◌, ◌≤◌, max, List, [], ◌∷◌, length, sum_by, map, refl, sym, ap, ◌∙◌, subst, true, le_refl, not-suc-le-zero, Option, Some, None, slice_get, slice_index_or, pos}
+use Rattle.std.proofs.Common.{arith, ◌≡◌, ◌⊎◌, inl, inr, ℕ, zero, suc, ◌<◌, ◌≤◌, max, List, [], ◌∷◌, length, map, refl, sym, ap, ◌∙◌, subst, true, le_refl, not-suc-le-zero, Option, Some, None, slice_get, slice_index_or, pos}
 use Rattle.kahn_streams.specs.declared.value.Line.{Line}
 use Rattle.kahn_streams.specs.declared.value.Line.TheVariants.{Channel, Print}
 use Rattle.kahn_tree.specs.Syntax.{Number}
@@ -23,7 +23,7 @@ use Rattle.kahn_pool.specs.declared.answer.Verdict.{Verdict}
 use Rattle.kahn_pool.specs.declared.answer.Verdict.TheVariants.{Finished, Bound, Memory}
 use Rattle.kahn_pool.specs.declared.answer.Outcome.{Outcome}
 use Rattle.kahn_pool.specs.declared.answer.Outcome.TheVariants.{Ended, Waits, Faulted, More}
-use Rattle.kahn_pool.specs.Right.{AreRight, IsRight, IsOutcome, IsWaiting, IsDryOn, IsEnd, HasStream, events_of, values_of}
+use Rattle.kahn_pool.specs.Right.{AreRight, IsRight, IsOutcome, IsWaiting, IsDryOn, IsEnd, HasStream, values_of}
 use Rattle.kahn_pool.specs.inner.Gathered.{IsGathered, IsStopped, Stood, nothing, view_at, IsAtRest, IsFrom, IsGiven, IsTold, tapes_from}
 use Rattle.kahn_code.proofs.Lists.{stand_in}
 use Rattle.kahn_pool.proofs.Lists.{prefix_stands, both_stand, all_of_it, more_of_it, map_get}

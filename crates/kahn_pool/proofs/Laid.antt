@@ -9,7 +9,6 @@ use Rattle.kahn_streams.specs.Tokens.{Lists}
 use Rattle.kahn_streams.proofs.Entered.{none_of}
 use Rattle.kahn_code.specs.Cells.{is_output}
 use Rattle.kahn_code.specs.Lines.{Lines as Queues, AreFirst, place_at, next_at}
-use Rattle.kahn_code.specs.Standing.{count}
 use Rattle.kahn_code.specs.Told.{Told, told_view, IsAt}
 use Rattle.kahn_code.proofs.Lists.{one_first}
 use Rattle.kahn_code.proofs.Queued.{given_zero, taken_zero}

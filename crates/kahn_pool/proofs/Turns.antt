@@ -13,7 +13,8 @@ use Rattle.kahn_code.specs.declared.progress.Pause.TheVariants as pause
 use Rattle.kahn_pool.specs.declared.answer.Outcome.TheVariants.{More, Waits}
 use Rattle.kahn_network.specs.Network.{Reads, actual_at, instance_at}
 use Rattle.kahn_pool.specs.inner.Gathered.{view_at, IsTold, TookAll}
-use Rattle.kahn_pool.specs.inner.Bench.{State, IsPaused, Rests, events_at, view_events, all_events, weight, AreEnds, Goes, Marked}
+use Rattle.kahn_pool.specs.declared.rounds.Round.{Round}
+use Rattle.kahn_pool.specs.inner.Bench.{State, IsPaused, Rests, events_at, view_events, all_events, weight, AreEnds, Goes, GoesIn, HasMoved, HasVisited, Marked}
 
 -- a pause and an outcome that say the same
 pub told_as : (s : State) (p : ℕ) (o : script.Outcome Store) (z z' : Pause) (x x' : Outcome) → z ≡ z' → x ≡ x' →
@@ -67,111 +68,116 @@ run_bound cs p left quantum false h most = let r = at_most_all cs p in omega (ar
 
 -- ---- one instance more
 
--- what is known after an instance was run for at most `quantum` events
-pub record Ran (s s' : State) (p quantum : ℕ) (z : Pause) (x : End) : Type 0 where
-  pub network : s'.network ≡ s.network
-  pub input : s'.input ≡ s.input
-  pub watch : s'.watch ≡ s.watch
-  pub only : s'.cells ≡ slice_set s.cells p (view_at s'.cells p)
-  pub up : events_at s p ≤ events_at s' p
-  pub still : events_at s' p ≡ events_at s p → s' ≡ s
-  pub spent : z ≡ pause.Spent → events_at s' p ≡ events_at s p + quantum
-  pub wanted : z ≡ pause.NoMemory → events_at s' p < events_at s p + quantum
-  pub rests : Rests s' p x
-  pub more : x.outcome ≡ More → (z ≡ pause.Spent) ⊎ (z ≡ pause.NoMemory)
+module _ (s s' : State) (r r' : Round) (p : ℕ) (x : End) (here : p < length s.cells) (v : HasVisited s s' r r' p x) where
+  known_on : length s.cells ≡ length s.network.instances → length s'.cells ≡ length s'.network.instances
+  known_on k = ap length v.ran.only ∙ (length-set s.cells p (view_at s'.cells p) ∙ (k ∙ ap (λ n. length n.instances) (sym v.ran.same.0)))
 
-module _ (s0 : State) (w0 t0 : ℕ) (s s' : State) (p left left' done : ℕ) (memory memory' moved moved' : Bool) (z : Pause) (x : End)
-    (ends : List End) (go : Goes s0 w0 t0 s left memory moved ends p) (quantum : ℕ) (ran : Ran s s' p quantum z x)
-    (here : p < length s.cells) (counts : events_at s p + done ≡ events_at s' p) (lefts : left' + done ≡ left)
-    (most : quantum ≤ cond memory 0 left) (none : quantum ≡ 0 → (left ≡ 0) ⊎ (memory ≡ true)) where
-  total : all_events s' + left' ≡ t0
-  total =
-      let a : all_events s' ≡ sum_by view_events (slice_set s.cells p (view_at s'.cells p)) = ap (λ l. sum_by view_events l) ran.only in
+  total_on : all_events s' + r'.left ≡ all_events s + r.left
+  total_on =
+      let a : all_events s' ≡ sum_by view_events (slice_set s.cells p (view_at s'.cells p)) = ap (λ l. sum_by view_events l) v.ran.only in
       let b = sum_set s.cells p (view_at s'.cells p) here in
-      let c : all_events s + left ≡ t0 = go.total in
-      omega (arith, a, b, c, counts, lefts)
+      let c = v.counts in
+      let l = v.left in
+      omega (arith, a, b, c, l)
 
-  known : length s'.cells ≡ length s'.network.instances
-  known =
-      ap length ran.only ∙ (length-set s.cells p (view_at s'.cells p) ∙ (go.known ∙ ap (λ n. length n.instances) (sym ran.network)))
-
-  size : length (ends ++ x ∷ []) ≡ suc p
-  size = length-append ends (x ∷ []) ∙ (let a : length ends ≡ p = go.size in omega (arith, a))
-
-  -- moved: less is to be done
-  goes_moved : moved' ≡ true → weight left' memory' < weight left memory → Goes s0 w0 t0 s' left' memory' moved' (ends ++ x ∷ []) (suc p)
-  goes_moved m l =
-      record {
-        network = ran.network ∙ go.network;
-        input = ran.input ∙ go.input;
-        watch = ran.watch ∙ go.watch;
-        known = known;
-        total = total;
-        size = size;
-        still = λ f. absurd (let g : true ≡ false = sym m ∙ f in cc);
-        falls = λ _. let r : weight left memory ≤ w0 = go.rises in omega (arith, r, l);
-        rises = let r : weight left memory ≤ w0 = go.rises in omega (arith, r, l);
-      }
-
-  -- not moved: all is as before, with one end more
-  goes_still : done ≡ 0 → (z ≡ pause.NoMemory → ⊥) → memory' ≡ memory → moved' ≡ moved → Goes s0 w0 t0 s' left' memory' moved' (ends ++ x ∷ []) (suc p)
-  goes_still d never m v =
-      record {
-        network = ran.network ∙ go.network;
-        input = ran.input ∙ go.input;
-        watch = ran.watch ∙ go.watch;
-        known = known;
-        total = total;
-        size = size;
-        still = λ f. still (sym v ∙ f);
-        falls = λ f. subst (λ k. k < w0) (sym same_weight) (go.falls (sym v ∙ f));
-        rises = subst (λ k. k ≤ w0) (sym same_weight) go.rises;
-      }
+  lighter_on : weight r'.left r'.memory ≤ weight r.left r.memory
+  lighter_on = by v.marked
     where
-      same_left : left' ≡ left
-      same_left = omega (arith, lefts, d)
+      by : Marked v.stopped v.done r.memory r.moved r'.memory r'.moved → weight r'.left r'.memory ≤ weight r.left r.memory
+      by (inl h) = rw h.1 (let l = v.left in omega (arith, l))
+      by (inr h) = rw h.1 (let l = v.left in omega (arith, l))
 
-      same_weight : weight left' memory' ≡ weight left memory
-      same_weight = ap (λ l. weight l memory') same_left ∙ ap (weight left) m
+  -- a visit more of those that may go on
+  pub moves_on : (s0 : State) (left : ℕ) (memory : Bool) → HasMoved s0 s left memory r.left r.memory → HasMoved s0 s' left memory r'.left r'.memory
+  moves_on s0 left memory h = record {
+    same = (v.ran.same.0 ∙ h.same.0, v.ran.same.1 ∙ h.same.1, v.ran.same.2 ∙ h.same.2);
+    known = known_on h.known;
+    total = total_on ∙ h.total;
+    lighter = let a = lighter_on in let b = h.lighter in omega (arith, a, b);
+  }
 
-      same_state : s' ≡ s
-      same_state = ran.still (omega (arith, counts, d))
+  module _ (s0 : State) (w0 t0 : ℕ) (go : GoesIn s0 w0 t0 s r p) where
+    size : length (r.ends.items ++ x ∷ []) ≡ suc p
+    size = length-append r.ends.items (x ∷ []) ∙ (let a : length r.ends.items ≡ p = go.size in omega (arith, a))
 
-      out_of : events_at s' p ≡ events_at s p + quantum → (left ≡ 0) ⊎ (memory ≡ true)
-      out_of f = none (omega (arith, f, counts, d))
+    -- moved: less is to be done
+    goes_moved : r'.moved ≡ true → weight r'.left r'.memory < weight r.left r.memory → Goes s0 w0 t0 s' r'.left r'.memory r'.moved (r.ends.items ++ x ∷ []) (suc p)
+    goes_moved m l =
+        record {
+          network = v.ran.same.0 ∙ go.network;
+          input = v.ran.same.1 ∙ go.input;
+          watch = v.ran.same.2 ∙ go.watch;
+          known = known_on go.known;
+          total = total_on ∙ go.total;
+          size = size;
+          still = λ f. absurd (let g : true ≡ false = sym m ∙ f in cc);
+          falls = λ _. let w : weight r.left r.memory ≤ w0 = go.rises in omega (arith, w, l);
+          rises = let w : weight r.left r.memory ≤ w0 = go.rises in omega (arith, w, l);
+        }
 
-      one : x.outcome ≡ More → (left' ≡ 0) ⊎ (memory' ≡ true)
-      one f = by (ran.more f)
-        where
-          turn : (left ≡ 0) ⊎ (memory ≡ true) → (left' ≡ 0) ⊎ (memory' ≡ true)
-          turn (inl a) = inl (same_left ∙ a)
-          turn (inr a) = inr (m ∙ a)
+    -- not moved: all is as before, with one end more
+    goes_still : v.done ≡ 0 → (v.stopped ≡ pause.NoMemory → ⊥) → r'.memory ≡ r.memory → r'.moved ≡ r.moved →
+        Goes s0 w0 t0 s' r'.left r'.memory r'.moved (r.ends.items ++ x ∷ []) (suc p)
+    goes_still d never m u =
+        record {
+          network = v.ran.same.0 ∙ go.network;
+          input = v.ran.same.1 ∙ go.input;
+          watch = v.ran.same.2 ∙ go.watch;
+          known = known_on go.known;
+          total = total_on ∙ go.total;
+          size = size;
+          still = λ f. still (sym u ∙ f);
+          falls = λ f. subst (λ k. k < w0) (sym same_weight) (go.falls (sym u ∙ f));
+          rises = subst (λ k. k ≤ w0) (sym same_weight) go.rises;
+        }
+      where
+        same_left : r'.left ≡ r.left
+        same_left = let l = v.left in omega (arith, l, d)
 
-          by : (z ≡ pause.Spent) ⊎ (z ≡ pause.NoMemory) → (left' ≡ 0) ⊎ (memory' ≡ true)
-          by (inl a) = turn (out_of (ran.spent a))
-          by (inr a) = absurd (never a)
+        same_weight : weight r'.left r'.memory ≡ weight r.left r.memory
+        same_weight = ap (λ l. weight l r'.memory) same_left ∙ ap (weight r.left) m
 
-      still : moved ≡ false → AreEnds s' left' memory' (ends ++ x ∷ [])
-      still f k y h = by (at_last ends x k y h)
-        where
-          by : (slice_get ends k ≡ Some y) ⊎ ((k ≡ length ends) × (x ≡ y)) → Rests s' k y × (y.outcome ≡ More → (left' ≡ 0) ⊎ (memory' ≡ true))
-          by (inl e) =
-              let old = go.still f k y e in (
-                subst (λ u. Rests u k y) (sym same_state) old.0,
-                subst (λ l. y.outcome ≡ More → (l ≡ 0) ⊎ (memory' ≡ true)) (sym same_left) (subst (λ b. y.outcome ≡ More → (left ≡ 0) ⊎ (b ≡ true)) (sym m) old.1),
-              )
-          by (inr e) =
-              subst (λ u. Rests s' k u × (u.outcome ≡ More → (left' ≡ 0) ⊎ (memory' ≡ true))) e.1
-              (subst (λ j. Rests s' j x × (x.outcome ≡ More → (left' ≡ 0) ⊎ (memory' ≡ true))) (sym (e.0 ∙ go.size)) (ran.rests, one))
+        same_state : s' ≡ s
+        same_state = v.ran.still (let c = v.counts in omega (arith, c, d))
 
-  pub goes_on : Marked z done memory moved memory' moved' → Goes s0 w0 t0 s' left' memory' moved' (ends ++ x ∷ []) (suc p)
-  goes_on (inl h) = goes_moved h.2 (lighter memory refl (ran.wanted h.0))
-    where
-      lighter : (b : Bool) → memory ≡ b → events_at s' p < events_at s p + quantum → weight left' memory' < weight left memory
-      lighter true e f =
-          let u : events_at s p ≤ events_at s' p = ran.up in
-          let m : quantum ≤ 0 = subst (λ b. quantum ≤ cond b 0 left) e most in
-          absurd (omega (arith, u, m, f))
-      lighter false e f = rw (h.1, e) (omega (arith, lefts))
-  goes_on (inr (never, m, inl h)) = goes_moved h.1 (rw m (let d = h.0 in omega (arith, lefts, d)))
-  goes_on (inr (never, m, inr h)) = goes_still h.0 never m h.1
+        out_of : events_at s' p ≡ events_at s p + v.quantum → (r.left ≡ 0) ⊎ (r.memory ≡ true)
+        out_of f = v.none (let c = v.counts in omega (arith, f, c, d))
+
+        one : x.outcome ≡ More → (r'.left ≡ 0) ⊎ (r'.memory ≡ true)
+        one f = by (v.more f)
+          where
+            turn : (r.left ≡ 0) ⊎ (r.memory ≡ true) → (r'.left ≡ 0) ⊎ (r'.memory ≡ true)
+            turn (inl a) = inl (same_left ∙ a)
+            turn (inr a) = inr (m ∙ a)
+
+            by : (v.stopped ≡ pause.Spent) ⊎ (v.stopped ≡ pause.NoMemory) → (r'.left ≡ 0) ⊎ (r'.memory ≡ true)
+            by (inl a) = turn (out_of (v.ran.spent a))
+            by (inr a) = absurd (never a)
+
+        still : r.moved ≡ false → AreEnds s' r'.left r'.memory (r.ends.items ++ x ∷ [])
+        still f k y h = by (at_last r.ends.items x k y h)
+          where
+            by : (slice_get r.ends.items k ≡ Some y) ⊎ ((k ≡ length r.ends.items) × (x ≡ y)) → Rests s' k y × (y.outcome ≡ More → (r'.left ≡ 0) ⊎ (r'.memory ≡ true))
+            by (inl e) =
+                let old = go.still f k y e in (
+                  subst (λ u. Rests u k y) (sym same_state) old.0,
+                  subst (λ l. y.outcome ≡ More → (l ≡ 0) ⊎ (r'.memory ≡ true)) (sym same_left) (subst (λ b. y.outcome ≡ More → (r.left ≡ 0) ⊎ (b ≡ true)) (sym m) old.1),
+                )
+            by (inr e) =
+                subst (λ u. Rests s' k u × (u.outcome ≡ More → (r'.left ≡ 0) ⊎ (r'.memory ≡ true))) e.1
+                (subst (λ j. Rests s' j x × (x.outcome ≡ More → (r'.left ≡ 0) ⊎ (r'.memory ≡ true))) (sym (e.0 ∙ go.size)) (v.rests, one))
+
+    pub goes_on : Goes s0 w0 t0 s' r'.left r'.memory r'.moved (r.ends.items ++ x ∷ []) (suc p)
+    goes_on = by v.marked
+      where
+        lighter : (b : Bool) → r.memory ≡ b → r'.memory ≡ true → events_at s' p < events_at s p + v.quantum → weight r'.left r'.memory < weight r.left r.memory
+        lighter true e h f =
+            let u : events_at s p ≤ events_at s' p = v.ran.events.0 in
+            let m : v.quantum ≤ 0 = subst (λ b. v.quantum ≤ cond b 0 r.left) e v.most in
+            absurd (omega (arith, u, m, f))
+        lighter false e h f = rw (h, e) (let l = v.left in omega (arith, l))
+
+        by : Marked v.stopped v.done r.memory r.moved r'.memory r'.moved → Goes s0 w0 t0 s' r'.left r'.memory r'.moved (r.ends.items ++ x ∷ []) (suc p)
+        by (inl h) = goes_moved h.2 (lighter r.memory refl h.1 (v.ran.wanted h.0))
+        by (inr (never, m, inl h)) = goes_moved h.1 (rw m (let d = h.0 in let l = v.left in omega (arith, l, d)))
+        by (inr (never, m, inr h)) = goes_still h.0 never m h.1

@@ -2,6 +2,7 @@
 #![tactic(auto)]
 
 mod answer;
+mod awake;
 mod conclude;
 mod config;
 mod copies;
@@ -10,11 +11,13 @@ mod gather;
 mod held;
 mod held_fault;
 mod laws;
+mod looks;
 mod meeting;
 mod one;
 mod part;
 mod plan;
 mod rounds;
+mod run_queue;
 mod running;
 mod settle;
 mod streams;

@@ -5,7 +5,7 @@ ghost use Rattle.kahn_pool.specs.Exact.{Settles};
 ghost use Rattle.kahn_pool.specs.Limits.{IsRefused};
 ghost use Rattle.kahn_pool.specs.Right.{IsRight};
 ghost use Rattle.kahn_streams.specs.Tokens.{inputs_of};
-ghost use Rattle.std.specs.Prelude.{◌≡◌, ◌<◌, ◌^◌, ℕ, length, IfOk, IfErr, MatchResult, None};
+ghost use Rattle.std.specs.Prelude.{◌≡◌, ◌<◌, ◌^◌, ℕ, length, true, IfOk, IfErr, MatchOption, MatchResult, None};
 
 use crate::answer::Answer;
 use crate::config::RunFault;
@@ -34,23 +34,53 @@ fn run_opened<G: Gate, L: Ledger>(
     watch: Option<usize>,
     quantum: u64,
     bound: u64,
-) -> Result<Answer, CodeFault>
+    may_leave: bool,
+) -> Result<Option<Answer>, CodeFault>
     requires quantum { 0 < quantum }
     requires name { blank.name ≡ L.name }
     requires parts { blank.parts ≡ L.parts }
     requires some { 0 < blank.parts }
     requires bound { bound < 2 ^ 48 }
-    ensures { IfOk result (IsRight (network_of network.now) (inputs_of input.now) bound watch) }
+    ensures { IfOk result (λ a. MatchOption a (may_leave ≡ true) (IsRight (network_of network.now) (inputs_of input.now) bound watch)) }
 {
     let steps = Steps::<L>::open(blank);
     let ends = Vec::with_capacity(alloc, network.instances())?;
     let bench = Workbench::new(alloc, network, input, watch, steps)?;
-    Ok(run_bench(bench, gate, ends, quantum, bound))
+    Ok(run_bench(bench, gate, ends, quantum, bound, may_leave))
 }
 
 /// Runs a network on the caller's thread over plain queues, with a watched channel or none, each process for at most
-/// `quantum` events before the next one. Before each quantum the gate is entered. It refuses only where memory was refused
-/// before the first event.
+/// `quantum` events before the next one. Before each quantum the gate is entered. It answers nothing where the run may be left
+/// and there is work for several. It refuses only where memory was refused before the first event.
+pub(crate) fn run_alone<G: Gate>(
+    alloc: Global,
+    gate: &G,
+    network: &Network,
+    input: &Input,
+    watch: Option<usize>,
+    quantum: u64,
+    bound: u64,
+    may_leave: bool,
+) -> Result<Option<Answer>, CodeFault>
+    requires quantum { 0 < quantum }
+    requires fits { length input.now ≡ length (network_of network.now).channels }
+    requires bound { bound < 2 ^ 48 }
+    ensures { IfOk result (λ a. MatchOption a (may_leave ≡ true) (IsRight (network_of network.now) (inputs_of input.now) bound watch)) }
+{
+    run_opened::<G, Brand>(
+        alloc,
+        Blank::new(1),
+        gate,
+        network,
+        input,
+        watch,
+        quantum,
+        bound,
+        may_leave,
+    )
+}
+
+/// The same to the end.
 pub(crate) fn run_watched<G: Gate>(
     alloc: Global,
     gate: &G,
@@ -65,16 +95,10 @@ pub(crate) fn run_watched<G: Gate>(
     requires bound { bound < 2 ^ 48 }
     ensures { IfOk result (IsRight (network_of network.now) (inputs_of input.now) bound watch) }
 {
-    run_opened::<G, Brand>(
-        alloc,
-        Blank::new(1),
-        gate,
-        network,
-        input,
-        watch,
-        quantum,
-        bound,
-    )
+    match run_alone(alloc, gate, network, input, watch, quantum, bound, false)? {
+        Some(answer) => Ok(answer),
+        None => unreachable!(),
+    }
 }
 
 /// Runs a network on the caller's thread over plain queues, without a watched channel, for at most `bound` events. The

@@ -1,7 +1,8 @@
-//! A run on one thread: round after round, until a round in which nothing was done.
+//! A run on one thread: those that may go on, one after another, and then all in turn, until a round of all in which nothing
+//! was done.
 
 ghost use Rattle.kahn_streams.specs.Solution.{source};
-ghost use Rattle.kahn_pool.specs.inner.Bench.{State, HasRun, Paused, Rests, Goes, GoesIn, IsSameRun, Marked, AreEnds, IsLast, IsVerdict, AreStreams, events_at, all_events, weight};
+ghost use Rattle.kahn_pool.specs.inner.Bench.{State, HasRun, Paused, Rests, Goes, GoesIn, HasMoved, HasVisited, IsSameRun, Marked, AreEnds, IsLast, IsVerdict, AreStreams, events_at, all_events, weight};
 ghost use Rattle.kahn_pool.specs.inner.Gathered.{IsFrom};
 ghost use Rattle.kahn_pool.specs.Right.{IsRight, line_of, stream_lines};
 ghost use Rattle.kahn_pool.specs.inner.Workbench.{state_of};
@@ -9,7 +10,7 @@ ghost use Rattle.kahn_pool.specs.declared.answer.Outcome.TheVariants as outcome;
 ghost use Rattle.kahn_pool.specs.declared.answer.Stream.{Stream};
 ghost use Rattle.kahn_code.specs.declared.progress.Pause.TheVariants as pause;
 ghost use Rattle.std.specs.Prelude.{vec_len, vec_capacity};
-ghost use Rattle.std.specs.Prelude.{◌≡◌, ◌⊎◌, ◌<◌, ◌≤◌, ◌+◌, ◌^◌, ℕ, suc, length, map, true, false, IsTrue, IsFalse, slice_get, Some, None, IfOk, IsOk, cond};
+ghost use Rattle.std.specs.Prelude.{◌≡◌, ◌⊎◌, ◌<◌, ◌≤◌, ◌+◌, ◌^◌, ℕ, suc, length, map, true, false, IsTrue, IsFalse, slice_get, Some, None, IfOk, IsOk, MatchOption, cond};
 
 use crate::answer::{Answer, End, Outcome, Verdict};
 use crate::laws;
@@ -17,6 +18,9 @@ use crate::workbench::Workbench;
 use kahn_code::Pause;
 use kahn_crew::Gate;
 use std::sync::ledger::Ledger;
+
+// How many visits of those that may go on come before each round of all, for each instance.
+const VISITS: usize = 64;
 
 // A round in which each cell is run once.
 #[derive(Drop)]
@@ -48,7 +52,8 @@ fn end_of<L: Ledger>(bench: &Workbench<'_, L>, instance: usize, stopped: Pause) 
     }
 }
 
-// Runs a cell for at most so many events, as the bench does. The gate is entered just before, where the cell may go on.
+// Runs a cell for at most so many events, as the bench does. A gate that isn't open is entered just before, where the cell may
+// go on.
 fn run_gated<L: Ledger, G: Gate>(
     bench: &mut Workbench<'_, L>,
     gate: &G,
@@ -59,7 +64,7 @@ fn run_gated<L: Ledger, G: Gate>(
     requires bound { events_at (state_of bench.old) instance + quantum < 2 ^ 48 }
     ensures { HasRun (state_of bench.old) (state_of bench.new) instance quantum result }
 {
-    if quantum == 0 {
+    if quantum == 0 || gate.is_open() {
         return bench.run(instance, quantum);
     }
     let next = bench.run(instance, 0);
@@ -104,7 +109,31 @@ impl Round {
         }
     }
 
-    // Runs one cell.
+    // Runs one cell, and marks what was done. Answers how it stands then.
+    fn visit<L: Ledger, G: Gate>(
+        &mut self,
+        bench: &mut Workbench<'_, L>,
+        gate: &G,
+        instance: usize,
+    ) -> End
+        requires here { instance < length (state_of bench.old).network.instances }
+        requires bound { all_events (state_of bench.old) + self.old.left < 2 ^ 48 }
+        requires share { 0 < self.old.share }
+        ensures visited { HasVisited (state_of bench.old) (state_of bench.new) self.old self.new instance result }
+        ensures ends { self.new.ends ≡ self.old.ends }
+        ensures share { self.new.share ≡ self.old.share }
+    {
+        let before = bench.events(instance);
+        let quantum = self.quantum();
+        let stopped = run_gated(bench, gate, instance, quantum);
+        let done = bench.events(instance) - before;
+        self.mark(done, stopped);
+        let end = end_of(bench, instance, stopped);
+        bench.saw(instance, done, end.outcome);
+        end
+    }
+
+    // Visits one cell and notes its end.
     fn step<L: Ledger, G: Gate>(&mut self, bench: &mut Workbench<'_, L>, gate: &G, instance: usize)
         requires here { instance < length (state_of bench.old).network.instances }
         requires known { length (state_of bench.old).cells ≡ length (state_of bench.old).network.instances }
@@ -117,13 +146,53 @@ impl Round {
         ensures size { vec_len self.new.ends ≡ vec_len self.old.ends + 1 }
         ensures room { vec_capacity self.new.ends ≡ vec_capacity self.old.ends }
     {
-        let before = bench.events(instance);
-        let quantum = self.quantum();
-        let stopped = run_gated(bench, gate, instance, quantum);
-        let done = bench.events(instance) - before;
-        self.mark(done, stopped);
-        self.ends.push_reserved(end_of(bench, instance, stopped));
+        let end = self.visit(bench, gate, instance);
+        self.ends.push_reserved(end);
     }
+
+    // Whether nothing more may be done.
+    fn is_over(&self) -> bool {
+        self.memory || self.left == 0
+    }
+}
+
+// Visits those that may go on, one after another, so many before each round of all. It does nothing where the gate isn't open: then
+// all take turns.
+fn run_awake<L: Ledger, G: Gate>(
+    bench: &mut Workbench<'_, L>,
+    gate: &G,
+    ends: Vec<End>,
+    share: u64,
+    left: u64,
+    memory: bool,
+    may_leave: bool,
+) -> Round
+    requires share { 0 < share }
+    requires bound { all_events (state_of bench.old) + left < 2 ^ 48 }
+    requires known { length (state_of bench.old).cells ≡ length (state_of bench.old).network.instances }
+    ensures moved { HasMoved (state_of bench.old) (state_of bench.new) left memory result.left result.memory }
+    ensures ends { result.ends ≡ ends }
+{
+    let mut round = Round {
+        share,
+        left,
+        memory,
+        moved: false,
+        ends,
+    };
+    if !gate.is_open() {
+        return round;
+    }
+    for _ in 0..bench.instance_count().saturating_mul(VISITS) {
+        if round.is_over() || may_leave && bench.is_wide() {
+            return round;
+        }
+        let Some(instance) = bench.next() else {
+            return round;
+        };
+        round.visit(bench, gate, instance);
+    }
+    round
 }
 
 // One round. Its ends go into the list that it is given, which has room for all.
@@ -158,28 +227,33 @@ fn one_round<L: Ledger, G: Gate>(
     round
 }
 
-// Rounds, until one in which nothing was done.
+// Rounds, until one in which nothing was done, or there is work for several and the run may be left to them.
 fn last_round<L: Ledger, G: Gate>(
     bench: &mut Workbench<'_, L>,
     gate: &G,
     ends: Vec<End>,
     quantum: u64,
     bound: u64,
-) -> Round
+    may_leave: bool,
+) -> Option<Round>
     requires share { 0 < quantum }
     requires bound { all_events (state_of bench.old) + bound < 2 ^ 48 }
     requires known { length (state_of bench.old).cells ≡ length (state_of bench.old).network.instances }
     requires room { length (state_of bench.old).network.instances ≤ vec_capacity ends }
-    ensures last { IsLast (state_of bench.new) (all_events (state_of bench.old) + bound) result.left result.memory result.ends.items }
+    ensures last { MatchOption result (may_leave ≡ true) (λ r. IsLast (state_of bench.new) (all_events (state_of bench.old) + bound) r.left r.memory r.ends.items) }
     ensures same { IsSameRun (state_of bench.old) (state_of bench.new) }
 {
     let mut ends = ends;
     let mut left = bound;
     let mut memory = false;
     'rounds: loop {
-        let round = one_round(bench, gate, ends, quantum, left, memory);
+        let awake = run_awake(bench, gate, ends, quantum, left, memory, may_leave);
+        if may_leave && bench.is_wide() {
+            return None;
+        }
+        let round = one_round(bench, gate, awake.ends, quantum, awake.left, awake.memory);
         if !round.moved {
-            return round;
+            return Some(round);
         }
         ends = round.ends;
         left = round.left;
@@ -202,23 +276,11 @@ pub(crate) fn verdict_of(memory: bool, ends: &[End]) -> Verdict
     Verdict::Finished
 }
 
-/// Runs the cells of a bench on one thread, each for at most `quantum` events at a time, before which the gate is entered,
-/// and answers right. The list of ends has room for each instance.
-pub fn run_bench<L: Ledger, G: Gate>(
-    mut bench: Workbench<'_, L>,
-    gate: &G,
-    ends: Vec<End>,
-    quantum: u64,
-    bound: u64,
-) -> Answer
-    requires quantum { 0 < quantum }
-    requires bound { bound < 2 ^ 48 }
-    requires fresh { all_events (state_of bench) ≡ 0 }
-    requires known { length (state_of bench).cells ≡ length (state_of bench).network.instances }
-    requires room { length (state_of bench).network.instances ≤ vec_capacity ends }
-    ensures right { IsRight (state_of bench.entry).network (state_of bench.entry).input bound (state_of bench.entry).watch result }
+// The answer of a run of which this was the last round.
+fn answered<L: Ledger>(bench: Workbench<'_, L>, last: Round, bound: u64) -> Answer
+    requires { IsLast (state_of bench) bound last.left last.memory last.ends.items }
+    ensures { IsRight (state_of bench.entry).network (state_of bench.entry).input bound (state_of bench.entry).watch result }
 {
-    let last = last_round(&mut bench, gate, ends, quantum, bound);
     bench.within();
     laws::assembled();
     let verdict = verdict_of(last.memory, &last.ends);
@@ -227,5 +289,29 @@ pub fn run_bench<L: Ledger, G: Gate>(
         streams: bench.into_streams(),
         events: bound - last.left,
         ends: last.ends,
+    }
+}
+
+/// Runs the cells of a bench on one thread, each for at most `quantum` events at a time, before which the gate is entered,
+/// and answers right. It answers nothing where the run may be left and there is work for several. The list of ends has room for
+/// each instance.
+pub fn run_bench<L: Ledger, G: Gate>(
+    mut bench: Workbench<'_, L>,
+    gate: &G,
+    ends: Vec<End>,
+    quantum: u64,
+    bound: u64,
+    may_leave: bool,
+) -> Option<Answer>
+    requires quantum { 0 < quantum }
+    requires bound { bound < 2 ^ 48 }
+    requires fresh { all_events (state_of bench) ≡ 0 }
+    requires known { length (state_of bench).cells ≡ length (state_of bench).network.instances }
+    requires room { length (state_of bench).network.instances ≤ vec_capacity ends }
+    ensures right { MatchOption result (may_leave ≡ true) (IsRight (state_of bench.entry).network (state_of bench.entry).input bound (state_of bench.entry).watch) }
+{
+    match last_round(&mut bench, gate, ends, quantum, bound, may_leave) {
+        Some(last) => Some(answered(bench, last, bound)),
+        None => None,
     }
 }

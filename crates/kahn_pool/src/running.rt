@@ -2,24 +2,29 @@
 
 ghost use Rattle.kahn_network.specs.Network.{network_of};
 ghost use Rattle.kahn_pool.specs.Exact.{Settles};
+ghost use Rattle.kahn_pool.specs.Limits.{IsWant};
+ghost use Rattle.kahn_pool.specs.Right.{IsRight};
 ghost use Rattle.kahn_pool.specs.Runs.{IsRun, IsUndeclared, IsUnrun, IsWatched};
 ghost use Rattle.kahn_pool.specs.declared.config.RunFault.TheVariants.{UnknownWatch};
 ghost use Rattle.kahn_streams.specs.Tokens.{inputs_of};
-ghost use Rattle.std.specs.Prelude.{◌≡◌, length, IfOk, MatchResult};
+ghost use Rattle.std.specs.Prelude.{◌≡◌, ◌<◌, ◌≤◌, ◌^◌, length, IfOk, MatchResult};
 
 use crate::answer::Answer;
 use crate::config::RunFault;
 use crate::laws;
-use crate::one::run_watched;
+use crate::one::{run_alone, run_watched};
 use crate::plan::plan_of;
 use crate::workers::run_workers;
 use kahn_config::Config;
-use kahn_crew::Gate;
+use kahn_crew::{Gate, Plan};
 use kahn_network::Network;
 use kahn_streams::{Input, channel_named};
 use std::alloc::Global;
 use std::sync::Wait;
 use std::thread::Threads;
+
+// How many events a process may do before the next one while a run is on one thread, whatever the quantum of several is.
+const FIRST_QUANTUM: u64 = 1000;
 
 // The channel that is to be watched.
 pub(crate) fn watched(network: &Network, name: &Option<String>) -> Result<Option<usize>, RunFault>
@@ -34,6 +39,39 @@ pub(crate) fn watched(network: &Network, name: &Option<String>) -> Result<Option
     }
 }
 
+// Runs a network by several workers where the gate is open: at first on the caller's thread alone, over plain queues. Where
+// there is work for several, the run begins anew with all workers, of which nobody sees anything; where memory is refused for
+// them it is made to the end alone.
+fn run_first<R: Threads + Wait + Sync, G: Gate + Sync>(
+    rt: &R,
+    alloc: Global,
+    network: &Network,
+    input: &Input,
+    plan: Plan,
+    gate: &G,
+) -> Result<Answer, RunFault>
+    requires fits { length input.now ≡ length (network_of network.now).channels }
+    requires few { (1 ≤ plan.workers) × (plan.workers ≤ 16) }
+    requires quantum { 0 < plan.quantum }
+    requires bound { plan.bound < 2 ^ 48 }
+    ensures { MatchResult result (IsRight (network_of network.now) (inputs_of input.now) plan.bound plan.watch) (IsWant plan.workers) }
+{
+    let (watch, bound) = (plan.watch, plan.bound);
+    let quantum = plan.quantum.min(FIRST_QUANTUM);
+    let first = run_alone(alloc, gate, network, input, watch, quantum, bound, true)?;
+    if let Some(answer) = first {
+        return Ok(answer);
+    }
+    let workers = plan.workers.min(network.instances().max(1));
+    let crew = Plan { workers, ..plan };
+    match run_workers(rt, alloc, network, input, crew, gate) {
+        Err(RunFault::NoMemory) => Ok(run_watched(
+            alloc, gate, network, input, watch, quantum, bound,
+        )?),
+        told => told,
+    }
+}
+
 /// Runs a network with an input that fits it. Its answer is right, whatever the number of workers and the quantum are.
 /// Where its verdict isn't `Memory` it is `Finished` exactly where the size of the solution is at most the bound, so the
 /// two change no verdict. A finished answer is the same for all of them and for every bound; of one that was stopped, which
@@ -42,8 +80,10 @@ pub(crate) fn watched(network: &Network, name: &Option<String>) -> Result<Option
 /// It refuses with `BadConfig` where a number of the configuration is out of its limit, then with `UnknownWatch` where
 /// no channel has the name that is to be watched, with `NoMemory` where memory was refused before the first event, and
 /// with `NoThread` where a thread couldn't be started, which one worker never takes: it has the caller's thread, where it
-/// runs one process after another over plain queues. Of several each other one has a thread of its own. Memory that is
-/// refused later stops the run: its answer has the verdict `Memory`. Before each quantum of an instance the gate is entered.
+/// runs one process after another over plain queues. Of several each other one has a thread of its own. Where the gate is
+/// open several begin as one does, and start threads only once there is work for two, for as many workers as there are
+/// instances at most. Memory that is refused later stops the run: its answer has the verdict `Memory`. Before each quantum of
+/// an instance a gate that isn't open is entered.
 pub fn run<R: Threads + Wait + Sync, G: Gate + Sync>(
     rt: &R,
     alloc: Global,
@@ -63,15 +103,11 @@ pub fn run<R: Threads + Wait + Sync, G: Gate + Sync>(
     laws::finished_exactly();
     let plan = plan_of(&config, watch);
     if plan.workers == 1 {
-        return Ok(run_watched(
-            alloc,
-            gate,
-            network,
-            &input,
-            watch,
-            plan.quantum,
-            plan.bound,
-        )?);
+        let (quantum, bound) = (plan.quantum, plan.bound);
+        return Ok(run_watched(alloc, gate, network, &input, watch, quantum, bound)?);
+    }
+    if gate.is_open() {
+        return run_first(rt, alloc, network, &input, plan, gate);
     }
     run_workers(rt, alloc, network, &input, plan, gate)
 }

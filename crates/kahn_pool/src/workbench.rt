@@ -6,9 +6,11 @@ ghost use Rattle.kahn_pool.specs.inner.Bench.{HasRun, AreStreams, all_events, ev
 ghost use Rattle.kahn_pool.specs.inner.Gathered.{AreWithin};
 ghost use Rattle.kahn_pool.specs.Right.{stream_lines};
 ghost use Rattle.kahn_pool.specs.inner.Workbench.{Table, AreOpen, AreOpening, AreKeptOf, AreReady, state_of};
-ghost use Rattle.std.specs.Prelude.{◌≡◌, ◌≤◌, ◌<◌, ◌+◌, ◌^◌, ℕ, [], length, map, IfOk, vec_capacity};
+ghost use Rattle.std.specs.Prelude.{◌≡◌, ◌≤◌, ◌<◌, ◌+◌, ◌^◌, ℕ, [], length, map, IfOk, IfSome, vec_capacity};
 
-use crate::answer::Stream;
+use crate::answer::{Outcome, Stream};
+use crate::awake::Awake;
+use crate::looks::Looks;
 use crate::streams::{empty_streams, fill, watched_input};
 use kahn_code::{Cell, Code, CodeFault, Kept, Pause, Plain, Steps, compile};
 use kahn_network::Network;
@@ -29,6 +31,8 @@ pub struct Workbench<'n, L: Ledger> {
     steps: Steps<L>,
     streams: Vec<Stream>,
     kept: Vec<Kept>,
+    awake: Awake,
+    looks: Looks,
 }
 
 impl<'n, L: Ledger> Model for Workbench<'n, L> {
@@ -125,6 +129,7 @@ impl<'n, L: Ledger> Workbench<'n, L> {
         let queues = Plain::new(alloc, network, input)?;
         let streams = opening_streams(alloc, network, input, watch)?;
         let kept = Vec::with_capacity(alloc, network.instances())?;
+        let awake = Awake::new(alloc, network)?;
         let _program = network.program();
         Ok(Workbench {
             network,
@@ -136,6 +141,8 @@ impl<'n, L: Ledger> Workbench<'n, L> {
             steps,
             streams,
             kept,
+            awake,
+            looks: Looks::new(),
         })
     }
 }
@@ -183,6 +190,37 @@ impl<'n, L: Ledger> Workbench<'n, L> {
             Some(channel) => channel,
             None => unreachable!(),
         }
+    }
+
+    /// Remembers how a visit of so many events left an instance, for `next` and `is_wide`.
+    pub(crate) fn saw(&mut self, instance: usize, done: u64, outcome: Outcome)
+        ensures { self.new ≡ self.old }
+    {
+        self.looks.saw(instance, done);
+        match outcome {
+            Outcome::More => self.awake.goes_on(instance),
+            Outcome::Waits(channel) => self.awake.waits(instance, channel),
+            Outcome::Ended | Outcome::Faulted(_) => self.awake.ends(instance),
+        }
+        if done > 0 {
+            self.awake.wake_readers(instance, &self.queues);
+        }
+    }
+
+    /// An instance that may go on, as far as is known.
+    pub(crate) fn next(&mut self) -> Option<usize>
+        ensures same { self.new ≡ self.old }
+        ensures here { IfSome result (λ p. p < length (state_of self.new).network.instances) }
+    {
+        match self.awake.next() {
+            Some(instance) if instance < self.network.instances() => Some(instance),
+            _ => None,
+        }
+    }
+
+    /// Whether there is work for several, as far as is known.
+    pub(crate) fn is_wide(&self) -> bool {
+        self.looks.is_wide()
     }
 
     /// Says that no reader took more than was given: its contract is what it does.

@@ -3,6 +3,7 @@
 ghost use Rattle.std.specs.Prelude.{IsTrue};
 ghost use Rattle.kahn_report.specs.Report.{HasItsLines, IsLine};
 
+use crate::gates::Through;
 use crate::programs::{ADD, ALTERNATE, COPIES, COUNT, DIVISION, DOUBLE, FOUR_TURNS, INVERT, TOP};
 use crate::rows::{AMPLE, below, config, reported, shuffled, streams_begin};
 use kahn_check::{Network, check};
@@ -246,7 +247,7 @@ fn says<R: Threads + Wait + Sync>(
     call: Call,
 ) -> Result<bool, Fail> {
     match call {
-        Call::Resume(more, told) => Ok(held.resume(rt, more, &Open) == told),
+        Call::Resume(more, told) => Ok(held.resume(rt, more, &Through) == told),
         Call::Feed(channel, values, times, told) => {
             let values = repeated(alloc, values, times)?;
             Ok(held.feed(channel, values) == told)
@@ -341,13 +342,13 @@ fn agrees_in_parts<R: Threads + Wait + Sync>(
     for _ in 0..below(12, shuffled(number)) {
         number = shuffled(number);
         feed_pieces(alloc, &mut held, &mut entries, below(30, number))?;
-        held.resume(rt, below(90, shuffled(number)), &Open)?;
+        held.resume(rt, below(90, shuffled(number)), &Through)?;
         if !streams_begin(whole, report_of(alloc, &network, &held)?.as_str()) {
             return Ok(false);
         }
     }
     feed_pieces(alloc, &mut held, &mut entries, AMPLE)?;
-    let verdict = held.resume(rt, AMPLE, &Open)?;
+    let verdict = held.resume(rt, AMPLE, &Through)?;
     let report = report_of(alloc, &network, &held)?;
     Ok(verdict == Verdict::Finished && report.as_str() == whole)
 }

@@ -1,10 +1,11 @@
 //! Programs and inputs with the reports that an independent reading of the language gives them.
 
+use crate::gates::Through;
 use crate::programs::{
     ALTERNATE, COUNT, DIVISION, DOUBLE, FOUR_TURNS, INVERT, LEAST, LOOP, MARKS, OVERFLOW, PRINTS,
     RING, SAMPLE, SIGNS, SILENT, TOP, TRUTH, TWO_COUNTS, UNREAD,
 };
-use kahn_pool::{Config, Gate, Open, Verdict};
+use kahn_pool::{Config, Gate, Verdict};
 use kahn_report::work;
 use std::alloc::{AllocError, Global};
 use std::sync::Wait;
@@ -348,7 +349,7 @@ fn reports(rt: HostRuntime) -> Result<(), Fail> {
         for workers in [1, 2, 4, 16] {
             for quantum in [1, 7, 1000, 1_000_000] {
                 let config = config(rt.alloc(), workers, quantum, bound, watch)?;
-                let (told, written) = reported(&rt, rt.alloc(), program, input, config, &Open)?;
+                let (told, written) = reported(&rt, rt.alloc(), program, input, config, &Through)?;
                 assert_eq!(rt; told, verdict, "{name}");
                 assert_eq!(rt; written.as_str(), report, "{name}");
             }
@@ -422,7 +423,7 @@ fn the_sample_is_stopped_by_its_bound(rt: HostRuntime) -> Result<(), Fail> {
         for workers in [1, 2, 4, 16] {
             for quantum in [1, 7, 1000, 1_000_000] {
                 let config = config(rt.alloc(), workers, quantum, bound, None)?;
-                let (verdict, report) = reported(&rt, rt.alloc(), program, "", config, &Open)?;
+                let (verdict, report) = reported(&rt, rt.alloc(), program, "", config, &Through)?;
                 assert!(rt;
                     is_stopped(whole, bound, verdict, report.as_str()),
                     "{workers} {quantum}"
@@ -468,7 +469,7 @@ fn agrees_at<R: Threads + Wait + Sync>(
     let quantum = below(most, second).saturating_add(1);
     let bound = below(60, shuffled(second));
     let config = config(alloc, workers, quantum, bound, watch)?;
-    let (verdict, report) = reported(rt, alloc, program, input, config, &Open)?;
+    let (verdict, report) = reported(rt, alloc, program, input, config, &Through)?;
     Ok(agrees(whole, bound, verdict, report.as_str()))
 }
 

@@ -1,8 +1,10 @@
 //! Long streams, and networks that are as large as they may be.
 
+use crate::gates::Through;
 use crate::rows::{AMPLE, config, reported};
-use kahn_pool::{Open, Verdict};
+use kahn_pool::{Gate, Verdict};
 use std::alloc::{AllocError, Global};
+use std::sync::atomic::{AtomicU64, Ordering};
 use std::test::Fail;
 
 // A chain of three copies after a count to this number.
@@ -62,9 +64,54 @@ fn a_chain_of_copies(rt: HostRuntime) -> Result<(), Fail> {
         let program = chain(rt.alloc(), number)?;
         let report = counted(rt.alloc(), number, ends)?;
         let config = config(rt.alloc(), 8, 1, 2_000_000, None)?;
-        let (verdict, written) = reported(&rt, rt.alloc(), program.as_str(), "", config, &Open)?;
+        let (verdict, written) = reported(&rt, rt.alloc(), program.as_str(), "", config, &Through)?;
         assert_eq!(rt; verdict, Verdict::Finished);
         assert!(rt; written.as_str() == report.as_str(), "{number}");
+    }
+    Ok(())
+}
+
+// A gate that says that it is open: only workers enter it, and not who runs all processes alone.
+#[derive(Drop)]
+struct Counted {
+    entries: AtomicU64,
+}
+
+impl Gate for Counted {
+    fn enter(&self, _instance: usize) {
+        self.entries.fetch_add(1, Ordering::SeqCst);
+    }
+
+    fn is_open(&self) -> bool {
+        true
+    }
+}
+
+// At an open gate workers come where there is much to do in long visits for several, and nowhere else. The report is the same.
+#[test]
+fn workers_come_where_there_is_work_for_them(rt: HostRuntime) -> Result<(), Fail> {
+    let rows = [
+        (64, 4, 1000, SHORT, false),
+        (100_000, 1, 1000, LONG, false),
+        (100_000, 4, 1000, LONG, true),
+        (100_000, 16, 1_000_000, LONG, true),
+        (100_000, 4, 7, LONG, false),
+    ];
+    for (number, workers, quantum, ends, come) in rows {
+        let program = chain(rt.alloc(), number)?;
+        let report = counted(rt.alloc(), number, ends)?;
+        let config = config(rt.alloc(), workers, quantum, 2_000_000, None)?;
+        let gate = Counted {
+            entries: AtomicU64::new(0),
+        };
+        let (verdict, written) = reported(&rt, rt.alloc(), program.as_str(), "", config, &gate)?;
+        assert_eq!(rt; verdict, Verdict::Finished);
+        assert!(rt; written.as_str() == report.as_str(), "{number} {quantum}");
+        assert_eq!(rt;
+            gate.entries.load(Ordering::SeqCst) > 0,
+            come,
+            "{workers} {quantum}"
+        );
     }
     Ok(())
 }
@@ -114,7 +161,7 @@ fn as_many_instances_and_channels_as_may_be(rt: HostRuntime) -> Result<(), Fail>
     for (program, process) in [(instances.as_str(), "p"), (loops.as_str(), "q")] {
         let report = all_ended(rt.alloc(), process)?;
         let config = config(rt.alloc(), 16, 1000, AMPLE, None)?;
-        let (verdict, written) = reported(&rt, rt.alloc(), program, "", config, &Open)?;
+        let (verdict, written) = reported(&rt, rt.alloc(), program, "", config, &Through)?;
         assert_eq!(rt; verdict, Verdict::Finished);
         assert_eq!(rt; written.as_str(), report.as_str());
     }

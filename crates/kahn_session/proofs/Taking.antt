@@ -33,7 +33,7 @@ fed_workers line a b (text, inr (entry, is, fed)) = ap (λ (h : HeldRun). h.work
 no_part_on : (p q : Pace) (f : PartFault) → IsWellWired p.run.network → IsNoPart p q f → GoesOn p.run q.run × (q.run.input ≡ p.run.input) × (q.step ≡ p.step)
 no_part_on p q part.NoMemory wired same =
     (subst (λ (r : Pace). GoesOn p.run r.run) (sym same) (goes_on_same p.run wired), ap (λ (r : Pace). r.run.input) same, ap (λ (r : Pace). r.step) same)
-no_part_on p q part.NoThread wired (run, open, several) = (run.goes_on, run.input, run.step)
+no_part_on p q part.NoThread wired (run, unsettled, several) = (run.goes_on, run.input, run.step)
 
 -- for what the session waits then
 abbrev pub waits_for : PartFault → TakeFault

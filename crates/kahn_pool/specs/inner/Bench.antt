@@ -99,6 +99,27 @@ Marked z done memory moved memory' moved' =
     ((z ≡ pause.NoMemory) × (memory' ≡ true) × (moved' ≡ true)) ⊎
     ((z ≡ pause.NoMemory → ⊥) × (memory' ≡ memory) × (((0 < done) × (moved' ≡ true)) ⊎ ((done ≡ 0) × (moved' ≡ moved))))
 
+-- an instance was visited: run for at most so many events, after which it stands so, and the round is marked
+pub record HasVisited (s t : State) (old new : Round) (p : ℕ) (x : End) : Type 0 where
+  pub quantum : ℕ
+  pub most : quantum ≤ cond old.memory 0 old.left
+  pub none : quantum ≡ 0 → (old.left ≡ 0) ⊎ (old.memory ≡ true)
+  pub stopped : Pause
+  pub ran : HasRun s t p quantum stopped
+  pub done : ℕ
+  pub counts : events_at s p + done ≡ events_at t p
+  pub left : new.left + done ≡ old.left
+  pub marked : Marked stopped done old.memory old.moved new.memory new.moved
+  pub rests : Rests t p x
+  pub more : x.outcome ≡ More → (stopped ≡ pause.Spent) ⊎ (stopped ≡ pause.NoMemory)
+
+-- instances were visited, with so much left before and after it
+pub record HasMoved (s t : State) (left : ℕ) (memory : Bool) (left' : ℕ) (memory' : Bool) : Type 0 where
+  pub same : IsSameRun s t
+  pub known : length t.cells ≡ length t.network.instances
+  pub total : all_events t + left' ≡ all_events s + left
+  pub lighter : weight left' memory' ≤ weight left memory
+
 -- after the last round: with so many events and so much left in all, each end is that of its instance
 pub record IsLast (s : State) (t0 left : ℕ) (memory : Bool) (xs : List End) : Type 0 where
   pub known : length s.cells ≡ length s.network.instances

@@ -1,0 +1,100 @@
+//! The run queue of a run on one thread.
+
+use kahn_streams::NoMemory;
+use std::alloc::Global;
+use std::collections::VecDeque;
+
+// Whether an instance may go on, and whether it stands in the queue.
+#[derive(Clone, Copy, Drop)]
+struct Place {
+    awake: bool,
+    queued: bool,
+}
+
+/// The instances that may go on, in the order of their turns. It is a hint, on which no answer depends: one that is
+/// wrongly missing is asked in the next round of all, and one that is wrongly there is asked in vain.
+#[derive(Drop)]
+pub(crate) struct RunQueue {
+    places: Vec<Place>,
+    turns: VecDeque<usize>,
+    // A reader that comes before all others, since something was just sent to it.
+    next: Option<usize>,
+    // How many readers came so, one after another.
+    handed: usize,
+}
+
+impl RunQueue {
+    /// All so many instances, in order. It refuses only where memory was refused.
+    pub(crate) fn new(alloc: Global, instances: usize) -> Result<RunQueue, NoMemory> {
+        let mut places = Vec::with_capacity(alloc, instances)?;
+        let mut turns = VecDeque::with_capacity(alloc, instances)?;
+        for instance in 0..instances {
+            places.push(Place {
+                awake: true,
+                queued: true,
+            })?;
+            turns.push_back(instance)?;
+        }
+        Ok(RunQueue {
+            places,
+            turns,
+            next: None,
+            handed: 0,
+        })
+    }
+
+    /// The instance goes on when its turn comes, behind all that stand there.
+    pub(crate) fn wake(&mut self, instance: usize) {
+        if let Some(place) = self.places.get_mut(instance) {
+            place.awake = true;
+            if !place.queued {
+                place.queued = self.turns.push_back(instance).is_ok();
+            }
+        }
+    }
+
+    /// The instance sleeps until it is woken.
+    pub(crate) fn sleep(&mut self, instance: usize) {
+        if let Some(place) = self.places.get_mut(instance) {
+            place.awake = false;
+        }
+    }
+
+    /// The instance reads what was just sent: it goes on before all others, unless so many as there are came so one after
+    /// another, or another one does.
+    pub(crate) fn hand(&mut self, instance: usize) {
+        if self.next.is_none() && self.handed < self.places.len() {
+            self.next = Some(instance);
+        } else {
+            self.wake(instance);
+        }
+    }
+
+    // Takes an instance out of the queue. Whether it is awake.
+    fn leaves(&mut self, instance: usize) -> bool {
+        match self.places.get_mut(instance) {
+            Some(place) => {
+                place.queued = false;
+                place.awake
+            }
+            None => false,
+        }
+    }
+
+    /// Whose turn it is; nobody's where all sleep.
+    pub(crate) fn pop(&mut self) -> Option<usize> {
+        if let Some(reader) = self.next {
+            self.next = None;
+            self.handed = self.handed.saturating_add(1);
+            return Some(reader);
+        }
+        self.handed = 0;
+        for _ in 0..self.turns.len() {
+            let instance = self.turns.pop_front()?;
+            if self.leaves(instance) {
+                return Some(instance);
+            }
+        }
+        None
+    }
+}
