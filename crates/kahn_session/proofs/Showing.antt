@@ -1,12 +1,12 @@
 -- What was shown of the streams begins what they have later, so what is new stands behind it.
-use Rattle.std.proofs.Common.{arith, ◌≡◌, ◌∙◌, ℕ, zero, suc, ◌+◌, ◌≤◌, List, [], ◌∷◌, ◌++◌, length, length-append, map, take, drop, Option, Some, refl, sym, ap, ap₂, subst}
+use Rattle.std.proofs.Common.{arith, ◌≡◌, ◌∙◌, ℕ, zero, suc, ◌≤◌, List, [], ◌∷◌, ◌++◌, length, length-append, map, take, drop, Option, Some, refl, sym, ap, ap₂, subst}
 use Rattle.std.specs.Prelude.{slice_get}
 use Rattle.kahn_network.specs.Network.{network_of}
 use Rattle.kahn_network.specs.Wiring.{IsWellWired}
 use Rattle.kahn_streams.specs.declared.value.Value.{Value}
 use Rattle.kahn_streams.specs.declared.value.Line.{Line}
 use Rattle.kahn_streams.specs.Solution.{IsPrefix}
-use Rattle.kahn_pool.specs.HeldRuns.{GoesOn, HasSoFar, HeldRun, so_far}
+use Rattle.kahn_pool.specs.HeldRuns.{GoesOn, HeldRun, so_far}
 use Rattle.kahn_pool.specs.Right.{stream_lines}
 use Rattle.kahn_pool.proofs.Held_calls.{still_so}
 use Rattle.kahn_pool.proofs.Held_streams.{so_far_is}

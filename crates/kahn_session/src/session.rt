@@ -167,13 +167,11 @@ fn put_plain<W: Write>(
     ensures { Writes (W.contents writer.old) (W.contents writer.new) result (plain_text (slice_index_or (news_of run.now.run lines.now shown.now) number [])) }
 {
     let _program = network.program();
-    let Some(line) = lines.get(number) else {
+    if number >= lines.len() {
         return Ok(());
-    };
-    write_plain(
-        writer,
-        tokens_after(run.stream(*line), shown_count(shown, number)),
-    )
+    }
+    let tokens = tokens_after(run.stream(lines[number]), shown_count(shown, number));
+    write_plain(writer, tokens)
 }
 
 /// Writes what is new, in the form of the session.
