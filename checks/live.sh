@@ -127,6 +127,60 @@ gives "a refused line that is passed over" 0 'B: 2\nB: 6\nend 1 double: waits on
 gives "a refused line, and a step used up" 3 'W: 0\nend 1 count: wants more after 3\nstopped by bound 3\n' \
   'kahn: input line 1: not a name and a colon\n' "$count" --step 3 <<< 'no line'
 
+# a byte order mark before the first line alone
+printf '\357\273\277A: 1\r\n\357\273\277A: 2\r\n' > lines
+gives "a byte order mark" 1 'B: 2\nend 1 double: waits on A after 4\nfinished 4\n' 'kahn: input line 2: not a name and a colon\n' "$double" < lines
+
+# lines that are fed at the end: in order, with the numbers behind the last one's, and refused as others are
+cat > runs.kahn <<'P'
+begin integer input channel RAW; integer output channel RUNS;
+  process encode(integer in U; integer out W; integer MARK);
+  begin integer LAST, NEXT, N;
+    LAST := wait(U); N := 1;
+    while LAST <> MARK do begin
+      NEXT := wait(U);
+      if NEXT = LAST then N := N + 1 else begin send N on W; send LAST on W; LAST := NEXT; N := 1 end
+    end
+  end;
+  encode(RAW, RUNS, -1)
+end
+P
+printf 'RAW: 7 7\nRAW: 9' > lines
+gives "no end mark" 0 'RUNS: 2 7\nend 1 encode: waits on RAW after 8\nfinished 8\n' '' runs.kahn < lines
+gives "an end mark" 0 'RUNS: 2 7\nRUNS: 1 9\nend 1 encode: ended after 12\nfinished 12\n' '' runs.kahn --at-end RAW=-1 < lines
+gives "several lines at the end" 0 'B: 2\nB: 4\nB: 6 8\nend 1 double: waits on A after 13\nfinished 13\n' '' \
+  "$double" --at-end A=2 --at-end 'A=3 4' <<< 'A: 1'
+gives "lines at the end that are refused" 1 'B: 2\nB: 4\nend 1 double: waits on A after 7\nfinished 7\n' \
+  'kahn: input line 2: no such channel\nkahn: input line 3: not an input channel\nkahn: input line 4: kind does not agree\nkahn: input line 5: not a value\nkahn: input line 6: not a name and a colon\n' \
+  "$double" --at-end Z=1 --at-end B=1 --at-end A=true --at-end A=1=2 --at-end A --at-end A=2 <<< 'A: 1'
+
+# values alone: of the first stream or of the one that is named, as they come
+start "$double" --plain A
+send '1'
+wants "the first value alone" '2'
+send '' '2 3' $'\t4 \r'
+wants "further values alone" '4' '6' '8'
+ends "values alone" 0 '' ''
+printf '\357\273\2771\r\n2' > lines
+gives "values alone behind a byte order mark" 0 '2\n4\n' '' "$double" --plain A,B < lines
+gives "the values of the input alone" 0 '1\n2\n' '' "$double" --plain A,A < lines
+gives "values alone, and an end mark" 0 '2\n7\n1\n9\n' '' runs.kahn --plain RAW --at-end RAW=-1 <<< '7 7 9'
+gives "a line of values that is refused" 1 '2\n6\n' 'kahn: input line 2: not a value\nend 1 double: waits on A after 7\nfinished 7\n' "$double" --plain A <<< $'1\nA: 2\n3'
+gives "a line of values that is passed over" 0 '2\n6\n' 'kahn: input line 2: not a value\n' "$double" --plain A --keep-going <<< $'1\n2 x\n3'
+gives "values alone, and no such input" 6 '' 'kahn: input line 0: no such channel\n' "$double" --plain Z <<< '1'
+gives "values alone, and an output for the input" 6 '' 'kahn: input line 0: not an input channel\n' "$double" --plain B <<< '1'
+gives "values alone, and no name" 6 '' 'kahn: input line 0: not a name and a colon\n' "$double" --plain ,B <<< '1'
+gives "values alone, and no such output" 6 '' 'kahn: watched channel is not declared\n' "$double" --plain A,Z <<< '1'
+
+# who reads may go: then the program ends, and says nothing
+for words in '' '--plain A'; do
+  # shellcheck disable=SC2086
+  yes "$([ -n "$words" ] || echo 'A: ')1" | timeout 20 "$live" "$double" $words 2> error | head -n 1 > output.all
+  same "a reader that goes, '$words': status" "${PIPESTATUS[1]}" 0
+  same "a reader that goes, '$words': errors" "$(cat error)" ''
+  same "a reader that goes, '$words'" "$(cat output.all)" "$([ -n "$words" ] || echo 'B: ')2"
+done
+
 # two programs in one pipe
 printf 'A: 1\nA: 2\n' | "$live" "$double" | grep --line-buffered '^B' | sed -u 's/^B/A/' > lines
 gives "a pipe" 0 'B: 4\nB: 8\nend 1 double: waits on A after 7\nfinished 7\n' '' "$double" < lines

@@ -9,7 +9,7 @@ import sys
 
 TOP = os.path.dirname(os.path.dirname(os.path.abspath(__file__)))
 COMPLETIONS = f"{TOP}/editors/completions"
-OPTION = re.compile(r"(?m)^  (?:    |(-\w), )(--[\w-]+)(?:\.\.\.)?(?: <(\w+)>)? {2,}(.*)$")
+OPTION = re.compile(r"(?m)^  (?:    |(-\w), )(--[\w-]+)(?:\.\.\.)?(?: <([^>]+)>)? {2,}(.*)$")
 
 
 def read(path):
@@ -36,7 +36,7 @@ def paged(page):
     options, statuses = [], []
     for _, head, text in re.findall(r"(?m)^(\.TP)\n\.BI? ?(.*)\n(.*)$", parts["OPTIONS"].replace("\n.BR ", "\n.B ")):
         words = re.findall(r"--?[\w-]+", plain(head))
-        value = re.search(r'" (\w+)"$', head)
+        value = re.search(r'" (\S+)"$', head)
         options.append((" ".join(words), value[1] if value else "", plain(text)))
     for head, text in re.findall(r"(?m)^\.TP\n\.B (\d)\n(.*)$", parts["EXIT STATUS"]):
         statuses.append((head, plain(text)))
@@ -52,7 +52,7 @@ def bash(name):
 def zsh(name):
     text = read(f"{COMPLETIONS}/_kahn")
     block = re.search(rf"(?m)^  {name}\)\n((?:    .*\n)*)", text)[1] + text.split("esac\n")[1]
-    return re.findall(r"'(--[\w-]+)\[", block) + re.findall(r",(--[\w-]+)\}", block)
+    return re.findall(r"'\*?(--[\w-]+)\[", block) + re.findall(r",(--[\w-]+)\}", block)
 
 
 def fish(name):

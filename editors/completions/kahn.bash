@@ -6,7 +6,7 @@ _kahn() {
   [[ $word == -* ]] || return 0
   case ${1##*/} in
     kahn) options="--input --workers --quantum --bound --watch --help --version" ;;
-    kahn_live) options="--workers --quantum --step --watch --keep-going --help --version" ;;
+    kahn_live) options="--workers --quantum --step --watch --keep-going --at-end --plain --help --version" ;;
     kahn_draw) options="--report --help --version" ;;
     kahn_explain) options="--input --workers --quantum --bound --help --version" ;;
   esac

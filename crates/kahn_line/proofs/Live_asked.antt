@@ -1,34 +1,39 @@
 -- What a parse of the words gives the options of the program that is fed line by line.
-use Rattle.std.proofs.Common.{◌≡◌, ◌∙◌, not, ◌==◌, List, refl, ap, arith, codes}
-use Rattle.std.specs.Prelude.{option_map, string_bytes}
+use Rattle.std.proofs.Common.{◌≡◌, ◌∙◌, not, ◌==◌, List, [], ◌∷◌, map, Option, refl, sym, ap, arith, codes}
+use Rattle.std.specs.Prelude.{option_map, string_bytes, unwrap_or}
+use Rattle.std.specs.Borrow.{Bor}
 use Rattle.clap.specs.Built.{IsParsedFrom}
-use Rattle.clap.specs.Matches.{found_of, first_value, one_text}
+use Rattle.clap.specs.Matches.{found_of, first_value, matched_of, one_text, raw_values}
 use Rattle.clap.specs.Simple.{App, HasMatchesOf, app_of, is_simple, matches_of}
 use Rattle.clap.specs.Walk.{Text, count_of, first_of, one_of, rows_of}
 use Rattle.clap.specs.declared.builder.command.Command.{Command}
 use Rattle.clap.specs.declared.builder.value_parser.ValueParser.TheVariants.{Unsigned}
 use Rattle.clap.specs.declared.parser.matches.ArgMatches.{ArgMatches}
-use Rattle.clap.proofs.WalkLemmas.{first_value-rows, one_text-rows}
+use Rattle.clap.specs.declared.parser.matches.Found.{Found}
+use Rattle.clap.proofs.WalkLemmas.{first_value-rows, one_text-rows, raw_values-rows}
 use Rattle.kahn_line.specs.Line.{number_or, IsSet}
 use Rattle.kahn_line.specs.Live.{live_app, live_text, IsLive}
+use Rattle.kahn_line.specs.Parts.{found_texts, parted, plain_parts, row_texts, set_line}
 use Rattle.kahn_line.specs.declared.live.LiveOptions.{LiveOptions}
 use Rattle.kahn_line.proofs.Asked.{ParsedAs, apart, known, passed}
 
 workers_parsed : ParsedAs live_app.top.rules (codes "workers") (Unsigned 1 16)
-workers_parsed = (apart, ((λ e. refl), (apart, (apart, (apart, (apart, tt))))))
+workers_parsed = (apart, ((λ e. refl), (apart, (apart, (apart, (apart, (apart, (apart, tt))))))))
 
 quantum_parsed : ParsedAs live_app.top.rules (codes "quantum") (Unsigned 1 1000000)
-quantum_parsed = (apart, (apart, ((λ e. refl), (apart, (apart, (apart, tt))))))
+quantum_parsed = (apart, (apart, ((λ e. refl), (apart, (apart, (apart, (apart, (apart, tt))))))))
 
 step_parsed : ParsedAs live_app.top.rules (codes "step") (Unsigned 1 281474976710655)
-step_parsed = (apart, (apart, (apart, ((λ e. refl), (apart, (apart, tt))))))
+step_parsed = (apart, (apart, (apart, ((λ e. refl), (apart, (apart, (apart, (apart, tt))))))))
 
 -- the options that are made of what a parse found are those that the words ask for
 pub asked_live : (cmd : Command) (m : ArgMatches) (words : List Text) → IsParsedFrom cmd m → HasMatchesOf (app_of cmd) words m → app_of cmd ≡ live_app
     → (o : LiveOptions) → option_map string_bytes o.program ≡ first_value (found_of m) (codes "PROGRAM") → IsSet (found_of m) 1 (codes "step") o.config
     → o.keep_going ≡ not (count_of (codes "keep-going") (rows_of (found_of m)) == 0)
+    → map string_bytes o.at_end.items ≡ map set_line (found_texts (found_of m) (codes "at-end"))
+    → option_map plain_parts o.plain ≡ option_map (parted 44) (first_value (found_of m) (codes "plain"))
     → IsLive words o
-asked_live cmd m words p matches is o program set keep =
+asked_live cmd m words p matches is o program set keep at_end plain =
     let f = found_of m in
     let rows : rows_of f ≡ matches_of live_app words = (matches (ap is_simple is)).0 ∙ ap (λ (a : App). matches_of a words) is in
     let text : (id : Text) → first_value f id ≡ live_text words id = λ id. first_value-rows f id ∙ ap (first_of id) rows in
@@ -47,5 +52,22 @@ asked_live cmd m words p matches is o program set keep =
       quantum = quantum.0 ∙ ap (number_or 1000) (one (codes "quantum"));
       step = step.0 ∙ ap (number_or 1000000) (one (codes "step"));
       keep_going = keep ∙ ap (λ rs. not (count_of (codes "keep-going") rs == 0)) rows;
+      at_end = at_end ∙ ap (λ rs. map set_line (row_texts (codes "at-end") rs)) rows;
+      plain = plain ∙ ap (option_map (parted 44)) (text (codes "plain"));
       in_range = (workers.1, workers.2, quantum.1, quantum.2, omega arith);
     }
+
+-- all texts that were found for a name, as they are lent
+abbrev Lent : Type 0
+Lent = Option (Bor (List (Bor Text)))
+
+abbrev pub lent_texts : Lent → Option (List Text)
+lent_texts = option_map (λ s. map (λ v. v.now) s.now)
+
+pub found_lent : (f : Found) (name : Text) (o : Lent) → lent_texts o ≡ option_map raw_values (matched_of f name) → found_texts f name ≡ unwrap_or (lent_texts o) []
+found_lent f name o is = ap (λ (ts : Option (List Text)). unwrap_or ts []) (sym (raw_values-rows f name) ∙ sym is)
+
+-- the lines of words, by the words that are lent
+pub lines_lent : (words : List (Bor Text)) → map (λ w. set_line w.now) words ≡ map set_line (map (λ v. v.now) words)
+lines_lent [] = refl
+lines_lent (w ∷ words) = ap (λ l. set_line w.now ∷ l) (lines_lent words)

@@ -1,5 +1,6 @@
 pub mod Draw
 pub mod Explain
 pub mod Line
+pub mod Parts
 pub mod Live
 pub mod Refusal

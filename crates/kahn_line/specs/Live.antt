@@ -1,28 +1,43 @@
 -- Believed. What the words of the command line of the program that is fed line by line ask for.
-use Rattle.std.specs.Prelude.{◌≡◌, ⊤, ℕ, List, [], Bool, true, not, ◌==◌, Some, Option, Result, codes, option_map, string_bytes}
+use Rattle.std.specs.Prelude.{◌≡◌, ⊤, ℕ, List, [], map, Bool, true, not, ◌==◌, Some, Option, Result, codes, option_map, string_bytes}
 use Rattle.std.specs.declared.result.Result.TheVariants.{Ok, Err}
-use Rattle.clap.specs.Words.{App, Text, IsAmong, count_of, fault_of, first_of, kind_of, matches_of, new_rule, one_of, with_rule}
-use Rattle.clap.specs.declared.builder.ArgAction.TheVariants.{Count}
+use Rattle.clap.specs.Words.{App, Rule, Text, IsAmong, count_of, fault_of, first_of, kind_of, matches_of, new_rule, one_of, with_rule}
+use Rattle.clap.specs.declared.builder.ArgAction.TheVariants.{Append, Count}
 use Rattle.kahn_config.specs.Limits.{IsInRange}
 use Rattle.kahn_line.specs.Line.{bare_app, number_or, number_rule, text_rule}
+use Rattle.kahn_line.specs.Parts.{parted, plain_parts, row_texts, set_line}
 use Rattle.kahn_line.specs.declared.line.LineFault.{LineFault}
 use Rattle.kahn_line.specs.declared.line.LineFault.TheVariants.{Refused, NoMemory}
 use Rattle.kahn_line.specs.declared.live.LiveOptions.{LiveOptions}
 
+-- an option without a text
+abbrev pub keep_going_rule : Rule
+keep_going_rule = record (new_rule (codes "keep-going")) { long = Some (codes "keep-going"); action = Some Count }
+
+-- an option with a text that may be given again
+abbrev pub at_end_rule : Rule
+at_end_rule = record (text_rule (codes "at-end")) { action = Some Append }
+
 -- the program text's path without a name, which is there, and the options
 abbrev pub live_app : App
 live_app =
-    with_rule (with_rule (with_rule (with_rule (with_rule (with_rule (bare_app (codes "kahn_live"))
+    with_rule (with_rule (with_rule (with_rule (with_rule (with_rule (with_rule (with_rule (bare_app (codes "kahn_live"))
     (record (new_rule (codes "PROGRAM")) { required = true }))
     (number_rule (codes "workers") 1 16 (codes "1")))
     (number_rule (codes "quantum") 1 1000000 (codes "1000")))
     (number_rule (codes "step") 1 281474976710655 (codes "1000000")))
     (text_rule (codes "watch")))
-    (record (new_rule (codes "keep-going")) { long = Some (codes "keep-going"); action = Some Count })
+    keep_going_rule)
+    at_end_rule)
+    (text_rule (codes "plain"))
 
 -- the text that the words give for a name
 abbrev pub live_text : List Text → Text → Option Text
 live_text words name = first_of name (matches_of live_app words)
+
+-- all texts that the words give for a name
+abbrev pub live_texts : List Text → Text → List Text
+live_texts words name = row_texts name (matches_of live_app words)
 
 -- the number that the words give for a name
 abbrev pub live_number : List Text → Text → ℕ → ℕ
@@ -40,6 +55,9 @@ pub record IsLive (words : List Text) (o : LiveOptions) : Type 0 where
   pub quantum : o.config.quantum ≡ live_number words (codes "quantum") 1000
   pub step : o.config.bound ≡ live_number words (codes "step") 1000000
   pub keep_going : o.keep_going ≡ live_flag words (codes "keep-going")
+  pub at_end : map string_bytes o.at_end.items ≡ map set_line (live_texts words (codes "at-end"))
+  -- 44 is the comma
+  pub plain : option_map plain_parts o.plain ≡ option_map (parted 44) (live_text words (codes "plain"))
   pub in_range : IsInRange o.config.workers o.config.quantum o.config.bound
 
 -- what the words ask for; or what is at fault in them, and `--help` and `--version` are such faults; or want of memory

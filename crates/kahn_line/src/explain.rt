@@ -28,6 +28,9 @@ another. The last line says how the run ended. With a program whose process 1 wa
 
 What is for ever stays so whatever is added to the input, and however long the run is.
 
+Of a program text that is refused the place is told, with its source line and a caret line below it. Where a part can't
+stand there, so is all that may stand in its place.
+
 Exit status:
   0  the run finished, without a deadlock and without a fault
   1  program or input refused

@@ -1,13 +1,16 @@
 //! The command line of the program that is fed line by line.
 
-ghost use Rattle.std.specs.Prelude.{◌≡◌, IfOk, map};
-ghost use Rattle.clap.specs.Words.{app_of};
-ghost use Rattle.kahn_line.specs.Live.{live_app, IsLiveRead};
+ghost use Rattle.std.specs.Prelude.{◌≡◌, IfOk, codes, false, map, string_bytes};
+ghost use Rattle.clap.specs.Words.{app_of, found_of, rule_of};
+ghost use Rattle.kahn_line.specs.Line.{text_rule};
+ghost use Rattle.kahn_line.specs.Parts.{found_texts, set_line};
+ghost use Rattle.kahn_line.specs.Live.{at_end_rule, keep_going_rule, live_app, IsLiveRead};
 
 use crate::line::{
-    LineFault, bare, config_of, copied, number_arg, quantum_arg, watch_arg, workers_arg,
+    LineFault, bare, config_of, copied, number_arg, quantum_arg, text_arg, watch_arg, workers_arg,
 };
-use clap::{Arg, ArgAction, Command};
+use crate::parts::{Plain, plain_of, set_lines};
+use clap::{Arg, ArgAction, ArgMatches, Command};
 use kahn_config::Config;
 use std::alloc::{AllocError, Global};
 use std::convert::AsStr;
@@ -32,16 +35,26 @@ A part of the run is the events that come after a line. A blank line feeds nothi
 line a part is run too. The last lines, how each process stands and how the run ended, come at the end of the input.
 
 A line that can't be taken is told on standard error with its number, and changes nothing. Where memory or a thread is
-refused after a line was taken, that is told too; the next line, which may be blank, goes on.
+refused after a line was taken, that is told too; the next line, which may be blank, goes on. The lines of `--at-end` have
+the numbers behind the last one's.
+
+With `--plain` a line has the values alone, with blanks between, and what is new on one stream is written alone, one value
+a line. The last lines go to standard error then, and only where the status isn't 0:
+
+  printf '1\\n2 3\\n' | kahn_live double.kahn --plain A,B
+
+  2
+  4
+  6
 
 Exit status:
-  0  the end was reached: the run finished
-  1  program refused; or the end was reached, and a line was refused
+  0  the end was reached: the run finished; or nobody reads the lines any more
+  1  program refused; or a line was refused, where it would be 0
   2  command line refused
   3  the end was reached: a part used its step up
   4  no memory
   5  a file or standard input can't be read, the program isn't UTF-8, or the lines can't be written
-  6  run refused: the watched channel isn't declared, or no thread could be started";
+  6  run refused: a channel that is named isn't there, or no thread could be started";
 
 /// What the command line asks for.
 #[derive(Debug, Drop)]
@@ -52,6 +65,48 @@ pub struct LiveOptions {
     pub config: Config,
     /// Whether lines that are refused leave the status as it is.
     pub keep_going: bool,
+    /// The lines that are fed once the input has ended, in this order.
+    pub at_end: Vec<String>,
+    /// The channels whose values stand alone in the lines of input and output, where they do.
+    pub plain: Option<Plain>,
+}
+
+/// The option by which refused lines leave the status as it is.
+fn keep_going_arg<'a>(alloc: Global) -> Arg<'a>
+    ensures rule { rule_of result ≡ keep_going_rule }
+    ensures local { result.global ≡ false }
+{
+    Arg::new(alloc, "keep-going")
+        .long("keep-going")
+        .action(ArgAction::Count)
+        .help("Leaves the status 0 where lines were refused")
+}
+
+/// The option of a line that is fed at the end of the input, which may be given again.
+fn at_end_arg<'a>(alloc: Global) -> Arg<'a>
+    ensures rule { rule_of result ≡ at_end_rule }
+    ensures local { result.global ≡ false }
+{
+    text_arg(
+        alloc,
+        "at-end",
+        "NAME=VALUE",
+        "Feeds a line `NAME: VALUE` once the input has ended; may be given again",
+    )
+    .action(ArgAction::Append)
+}
+
+/// The option of the channels whose values stand alone.
+fn plain_arg<'a>(alloc: Global) -> Arg<'a>
+    ensures rule { rule_of result ≡ text_rule (codes "plain") }
+    ensures local { result.global ≡ false }
+{
+    text_arg(
+        alloc,
+        "plain",
+        "IN[,OUT]",
+        "Takes values of IN alone, and writes those of OUT alone, or else of the first stream",
+    )
 }
 
 /// The rules of the command line.
@@ -73,17 +128,25 @@ fn live_command<'a>(alloc: Global) -> Result<Command<'a>, AllocError>
         alloc,
         "A channel that is shown too, besides the output channels",
     );
-    let keep_going = Arg::new(alloc, "keep-going")
-        .long("keep-going")
-        .action(ArgAction::Count)
-        .help("Leaves the status 0 where lines were refused");
     bare(alloc, "kahn_live", ABOUT, MORE)?
         .arg(program)?
         .arg(workers_arg(alloc, "1"))?
         .arg(quantum_arg(alloc))?
         .arg(step)?
         .arg(watch)?
-        .arg(keep_going)
+        .arg(keep_going_arg(alloc))?
+        .arg(at_end_arg(alloc))?
+        .arg(plain_arg(alloc))
+}
+
+/// The lines that are fed at the end of the input.
+fn lines_at_end(alloc: Global, matches: &ArgMatches<'_>) -> Result<Vec<String>, AllocError>
+    ensures { IfOk result (λ lines. map string_bytes lines.items ≡ map set_line (found_texts (found_of matches.now) (codes "at-end"))) }
+{
+    match matches.get_strs("at-end") {
+        Some(words) => set_lines(alloc, words),
+        None => Ok(Vec::new(alloc)),
+    }
 }
 
 /// Reads the words of a command line, the first of which is the name of the program. It refuses with `Refused` where
@@ -97,5 +160,7 @@ pub fn read_live_line<'a, S: AsStr>(alloc: Global, words: &'a [S]) -> Result<Liv
         program: copied(alloc, matches.get_str("PROGRAM"))?,
         config: config_of(alloc, &matches, 1, "step")?,
         keep_going: matches.get_count("keep-going") != 0,
+        at_end: lines_at_end(alloc, &matches)?,
+        plain: plain_of(alloc, matches.get_str("plain"))?,
     })
 }

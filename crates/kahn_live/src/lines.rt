@@ -1,6 +1,7 @@
 //! The lines of standard input, one at a time.
 
 use kahn_report::MOST_BYTES;
+use std::alloc::AllocError;
 use std::io::{BufRead, Error, ErrorKind, Read};
 
 /// What came.
@@ -47,4 +48,31 @@ fn failed_line<B: BufRead>(reader: &mut B, error: &Error) -> Next {
         return Next::Failed;
     }
     Next::NoMemory
+}
+
+/// A line without a byte order mark, which only the first line may begin with.
+pub(crate) fn without_mark(line: &[u8], number: u64) -> &[u8] {
+    if number != 1 {
+        return line;
+    }
+    match line.strip_prefix(b"\xEF\xBB\xBF") {
+        Some(rest) => rest,
+        None => line,
+    }
+}
+
+/// The line as it is fed: as it stands, or behind the name of the input channel and a colon, where values stand alone.
+pub(crate) fn fed_line<'a>(
+    input: Option<&str>,
+    line: &'a [u8],
+    room: &'a mut Vec<u8>,
+) -> Result<&'a [u8], AllocError> {
+    let Some(input) = input else {
+        return Ok(line);
+    };
+    room.clear();
+    room.extend_from_slice(input.as_bytes())?;
+    room.push(b':')?;
+    room.extend_from_slice(line)?;
+    Ok(room.as_slice())
 }

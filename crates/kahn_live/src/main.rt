@@ -2,105 +2,142 @@
 #![tactic(auto)]
 
 mod lines;
+mod outlet;
+mod taking;
 mod telling;
 
 ghost use Rattle.std.specs.Prelude.{◌≡◌, false, IfOk};
+ghost use Rattle.kahn_session.specs.Live.{HasVerdict};
 
 use kahn_fault::{Fault, live_status};
-use kahn_line::{LiveOptions, read_live_line, tell_line, tell_no_memory, tell_words};
+use kahn_line::{LiveOptions, Plain, read_live_line, tell_line, tell_no_memory, tell_words};
+use kahn_network::Network;
 use kahn_pool::{Config, Open, RunFault, Verdict};
-use kahn_report::{ReadFault, WorkFault, checked};
-use kahn_session::{Session, TakeFault};
+use kahn_report::{WorkFault, checked};
+use kahn_session::Session;
 use kahn_texts::{Texts, read_texts, tell};
-use lines::{Next, next_line};
-use std::io::{BufRead, BufReader, BufWriter, Write};
+use outlet::Outlet;
+use std::alloc::AllocError;
+use std::io::{BufReader, BufWriter, Write};
 use std::process::ExitCode;
 use std::rt::Runtime;
 use std::sync::Wait;
 use std::thread::Threads;
 use std::{env, io};
+use taking::{Fed, last_fault, take_all, wants_memory};
 use telling::Teller;
 
-/// Want of memory, as a fault of the run.
-fn wants_memory() -> Fault {
-    Fault::Work(WorkFault::Run(RunFault::NoMemory))
+/// The status where there is no input channel of the name whose values stand alone.
+const NO_INPUT: u8 = 6;
+
+/// How a run ended.
+#[derive(Drop)]
+enum Ending {
+    /// The end of the input was reached.
+    Reached(Verdict),
+    /// Nobody reads what is new any more.
+    Gone,
+    /// There is no input channel of the name whose values stand alone.
+    NoInput,
 }
 
-/// A fault of a line, where the run ends with it.
-fn last_fault(fault: TakeFault) -> Fault {
-    match fault {
-        TakeFault::Write(fault) => Fault::Work(WorkFault::Write(fault)),
-        TakeFault::WaitsForThread => Fault::Work(WorkFault::Run(RunFault::NoThread)),
-        _ => wants_memory(),
+/// The number of the stream of which the values alone are shown.
+fn plain_stream(session: &Session<'_>, plain: &Plain) -> Option<usize> {
+    match &plain.output {
+        Some(output) => session.stream_of(output.as_str()),
+        None => Some(0),
     }
 }
 
-/// Takes a line of that number, and tells where it is refused or its part waits. It fails where nothing can be written.
-fn take_line<R: Threads + Wait + Sync, W: Write, E: Write>(
+/// The session, which shows the values of one stream alone where these channels are named.
+fn in_form<'n>(mut session: Session<'n>, plain: Option<&Plain>) -> Result<Session<'n>, RunFault>
+    requires { session.entry.broken ≡ false }
+    ensures { IfOk result (λ shown. shown.broken ≡ false) }
+{
+    let Some(plain) = plain else {
+        return Ok(session);
+    };
+    let Some(number) = plain_stream(&session, plain) else {
+        return Err(RunFault::UnknownWatch);
+    };
+    session.show_plain(number);
+    Ok(session)
+}
+
+/// A session of the network before its first part.
+fn started<'n, R: AllocGlobal>(
+    rt: &R,
+    network: &'n Network,
+    config: Config,
+    plain: Option<&Plain>,
+) -> Result<Session<'n>, RunFault>
+    ensures { IfOk result (λ session. session.broken ≡ false) }
+{
+    in_form(Session::start(rt.alloc(), network, config)?, plain)
+}
+
+/// Runs one more part where the last one waits.
+fn settle<R: Threads + Wait + Sync, W: Write>(
     rt: &R,
     session: &mut Session<'_>,
-    line: &[u8],
-    number: u64,
     writer: &mut W,
-    teller: &mut Teller<'_, E>,
 ) -> Result<(), Fault>
     requires { session.old.broken ≡ false }
-    ensures { IfOk result (λ _. session.new.broken ≡ false) }
+    ensures { IfOk result (λ _. HasVerdict session.new) }
 {
-    match session.take(rt, line, &Open, writer) {
-        Ok(Verdict::Memory) => teller.tell(number, TakeFault::WaitsForMemory),
-        Ok(_) => {}
-        Err(fault) => {
-            if fault.breaks() {
-                return Err(last_fault(fault));
-            }
-            teller.tell(number, fault);
-        }
+    if session.settled() {
+        return Ok(());
     }
-    Ok(())
+    match session.take(rt, b"", &Open, writer) {
+        Ok(_) => Ok(()),
+        Err(fault) => Err(last_fault(fault)),
+    }
 }
 
-/// Takes the lines of the reader, after a part before the first.
-fn take_lines<R: AllocGlobal + Threads + Wait + Sync, B: BufRead, W: Write, E: Write>(
-    rt: &R,
-    session: &mut Session<'_>,
-    reader: &mut B,
-    writer: &mut W,
-    teller: &mut Teller<'_, E>,
-) -> Result<(), Fault>
-    requires { session.old.broken ≡ false }
-    ensures { IfOk result (λ _. session.new.broken ≡ false) }
+/// Writes how the run ended.
+fn close<W: Write>(session: &Session<'_>, writer: &mut W) -> Result<Verdict, Fault>
+    requires { HasVerdict session.now }
 {
-    take_line(rt, session, b"", 0, writer, teller)?;
-    let mut line = Vec::new(rt.alloc());
-    for number in 1..u64::MAX {
-        match next_line(reader, &mut line) {
-            Next::Line => take_line(rt, session, &line, number, writer, teller)?,
-            Next::End => return Ok(()),
-            Next::Failed => return Err(Fault::Program(None, ReadFault::Failed)),
-            Next::NoMemory => teller.tell(number, TakeFault::NoMemory),
-        }
-    }
-    Ok(())
-}
-
-/// Writes how the run ended, after one more part where the last one waits.
-fn close<R: Threads + Wait + Sync, W: Write>(
-    rt: &R,
-    session: &mut Session<'_>,
-    writer: &mut W,
-) -> Result<Verdict, Fault>
-    requires { session.old.broken ≡ false }
-{
-    if !session.settled() {
-        if let Err(fault) = session.take(rt, b"", &Open, writer) {
-            return Err(last_fault(fault));
-        }
-    }
     match session.close(writer) {
         Ok(verdict) => Ok(verdict),
         Err(fault) => Err(Fault::Work(WorkFault::Write(fault))),
     }
+}
+
+/// Tells how the run ended, where the status isn't 0.
+fn close_plain<E: Write>(session: &Session<'_>, teller: &mut Teller<'_, E>) -> Verdict
+    requires { HasVerdict session.now }
+{
+    let Some(verdict) = session.verdict() else {
+        unreachable!()
+    };
+    if live_status(&Ok(verdict), teller.refused) != 0 {
+        let _ = session.close(teller.errors);
+    }
+    verdict
+}
+
+/// Takes the lines of standard input, and writes what is new to the writer.
+fn work<R: Runtime + AllocGlobal + Threads + Wait + Sync, W: Write, E: Write>(
+    rt: &R,
+    session: &mut Session<'_>,
+    fed: Fed<'_>,
+    writer: &mut W,
+    teller: &mut Teller<'_, E>,
+) -> Result<Ending, Fault>
+    requires { session.old.broken ≡ false }
+{
+    let Ok(mut reader) = BufReader::new(rt.alloc(), rt.reader()) else {
+        return Err(wants_memory());
+    };
+    if !take_all(rt, session, &mut reader, fed, writer, teller)? {
+        return Ok(Ending::NoInput);
+    }
+    settle(rt, session, writer)?;
+    if fed.input.is_some() {
+        return Ok(Ending::Reached(close_plain(session, teller)));
+    }
+    Ok(Ending::Reached(close(session, writer)?))
 }
 
 /// Runs the program on standard input, and writes what is new to standard output.
@@ -108,40 +145,83 @@ fn run<R: Runtime + AllocGlobal + Threads + Wait + Sync, E: Write>(
     rt: &R,
     texts: &Texts,
     config: Config,
+    plain: Option<&Plain>,
+    at_end: &[String],
     teller: &mut Teller<'_, E>,
-) -> Result<Verdict, Fault> {
+) -> Result<Ending, Fault> {
     let network = match checked(rt.alloc(), texts.program.as_str()) {
         Ok(network) => network,
         Err(fault) => return Err(Fault::Work(fault)),
     };
-    let mut session = match Session::start(rt.alloc(), &network, config) {
+    let mut session = match started(rt, &network, config, plain) {
         Ok(session) => session,
         Err(fault) => return Err(Fault::Work(WorkFault::Run(fault))),
     };
-    let Ok(mut reader) = BufReader::new(rt.alloc(), rt.reader()) else {
+    let Ok(writer) = BufWriter::new(rt.alloc(), io::writer(rt)) else {
         return Err(wants_memory());
     };
-    let Ok(mut writer) = BufWriter::new(rt.alloc(), io::writer(rt)) else {
-        return Err(wants_memory());
+    let mut outlet = Outlet::new(writer);
+    let fed = Fed {
+        input: plain.map(|plain| plain.input.as_str()),
+        at_end,
     };
-    take_lines(rt, &mut session, &mut reader, &mut writer, teller)?;
-    close(rt, &mut session, &mut writer)
+    let ending = work(rt, &mut session, fed, &mut outlet, teller);
+    if outlet.gone() {
+        return Ok(Ending::Gone);
+    }
+    ending
+}
+
+/// How the run is set up: the channel whose values alone are shown is watched, so that it has a stream.
+fn watching<R: AllocGlobal>(
+    rt: &R,
+    config: Config,
+    plain: Option<&Plain>,
+) -> Result<Config, AllocError> {
+    let Some(plain) = plain else {
+        return Ok(config);
+    };
+    let Some(output) = &plain.output else {
+        return Ok(config);
+    };
+    Ok(Config {
+        watch: Some(String::from_str(rt.alloc(), output.as_str())?),
+        ..config
+    })
+}
+
+/// Runs the program, tells a fault of it, and gives the status.
+fn status_of<R: Runtime + AllocGlobal + Threads + Wait + Sync, W: Write>(
+    rt: &R,
+    texts: &Texts,
+    options: LiveOptions,
+    writer: &mut W,
+) -> u8 {
+    let mut teller = Teller::new(writer, options.keep_going);
+    let plain = options.plain.as_ref();
+    let ending = match watching(rt, options.config, plain) {
+        Ok(config) => run(rt, texts, config, plain, &options.at_end, &mut teller),
+        Err(_) => Err(wants_memory()),
+    };
+    let refused = teller.refused;
+    let answer = match ending {
+        Ok(Ending::Reached(verdict)) => Ok(verdict),
+        Ok(Ending::Gone) => Ok(Verdict::Finished),
+        Ok(Ending::NoInput) => return NO_INPUT,
+        Err(fault) => Err(fault),
+    };
+    let _ = tell(&answer, texts.program.as_str(), writer);
+    live_status(&answer, refused)
 }
 
 /// Does what the command line asks for, and gives the status. Faults are told to the writer.
 fn answered<R: Runtime + AllocGlobal + Threads + Wait + Sync, W: Write>(
     rt: &R,
-    options: LiveOptions,
+    mut options: LiveOptions,
     writer: &mut W,
 ) -> u8 {
-    match read_texts(rt, options.program, None) {
-        Ok(texts) => {
-            let mut teller = Teller::new(writer);
-            let answer = run(rt, &texts, options.config, &mut teller);
-            let refused = teller.refused && !options.keep_going;
-            let _ = tell(&answer, texts.program.as_str(), writer);
-            live_status(&answer, refused)
-        }
+    match read_texts(rt, options.program.take(), None) {
+        Ok(texts) => status_of(rt, &texts, options, writer),
         Err(fault) => tell(&Err(fault), "", writer).status,
     }
 }

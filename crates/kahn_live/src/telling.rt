@@ -6,24 +6,32 @@ use std::io::Write;
 /// A writer of faults, and whether a line was refused.
 #[derive(Drop)]
 pub(crate) struct Teller<'a, E: Write> {
-    errors: &'a mut E,
+    pub(crate) errors: &'a mut E,
+    // Whether refused lines leave the status as it is.
+    keep_going: bool,
     pub(crate) refused: bool,
 }
 
 impl<'a, E: Write> Teller<'a, E> {
-    /// Before the first line.
-    pub(crate) fn new(errors: &'a mut E) -> Teller<'a, E> {
+    /// Before the first line. With `keep_going` no line counts as refused.
+    pub(crate) fn new(errors: &'a mut E, keep_going: bool) -> Teller<'a, E> {
         Teller {
             errors,
+            keep_going,
             refused: false,
         }
     }
 
     /// Tells why the line of that number isn't taken, or that its part waits. Only the first is a refused line.
     pub(crate) fn tell(&mut self, number: u64, fault: TakeFault) {
-        if !matches!(fault, TakeFault::WaitsForMemory | TakeFault::WaitsForThread) {
+        let _ = write_refusal(self.errors, number, fault);
+        if !self.keep_going && !waits(fault) {
             self.refused = true;
         }
-        let _ = write_refusal(self.errors, number, fault);
     }
+}
+
+/// Whether the line was taken and its part waits.
+pub(crate) fn waits(fault: TakeFault) -> bool {
+    matches!(fault, TakeFault::WaitsForMemory | TakeFault::WaitsForThread)
 }

@@ -2,6 +2,7 @@
 use Rattle.std.specs.Prelude.{ℕ, List, [], ◌∷◌, ◌++◌, codes, flat_map}
 use Rattle.std.specs.List.{concat}
 use Rattle.kahn_tree.specs.declared.tree.Program.{Program}
+use Rattle.kahn_streams.specs.declared.token.Token.{Token}
 use Rattle.kahn_streams.specs.declared.value.Value.{Value}
 use Rattle.kahn_streams.specs.declared.value.Line.{Line}
 use Rattle.kahn_pool.specs.declared.answer.End.{End}
@@ -22,6 +23,17 @@ abbrev pub news_text : Program → List Line → List (List Value) → List ℕ
 news_text program [] news = []
 news_text program (line ∷ lines) [] = []
 news_text program (line ∷ lines) (values ∷ news) = more_text program line values ++ news_text program lines news
+
+-- a value alone, and a line feed
+abbrev pub plain_line : Value → List ℕ
+plain_line value = value_text value ++ line_feed
+
+abbrev pub token_line : Token → List ℕ
+token_line token = plain_line token.value
+
+-- values alone, each on a line of its own
+abbrev pub plain_text : List Value → List ℕ
+plain_text values = flat_map plain_line values
 
 -- what was shown of each stream, and behind it the news
 abbrev pub joined : List (List Value) → List (List Value) → List (List Value)

@@ -19,10 +19,10 @@ use std::sync::ledger::{Blank, Ledger};
 use thiserror::Error;
 
 /// How many values are put together for one write.
-const TOGETHER: usize = 32;
+pub(crate) const TOGETHER: usize = 32;
 
 /// Room for so many, each of 20 bytes at most and a space.
-const ROOM: usize = 21 * TOGETHER;
+pub(crate) const ROOM: usize = 21 * TOGETHER;
 
 /// Why a text wasn't written whole.
 #[derive(Clone, Copy, Debug, PartialEq, Eq, Drop, Error)]
@@ -35,7 +35,7 @@ pub enum WriteFault {
 
 /// Writes bytes, by as many writes as it takes.
 #[inline(always)]
-fn put<W: Write, L: Ledger>(
+pub(crate) fn put<W: Write, L: Ledger>(
     writer: &mut W,
     bytes: &[u8],
     writes: &mut Steps<L>,
@@ -73,7 +73,7 @@ fn put_all<W: Write, L: Ledger>(
 
 /// Places a text so that it ends at `end`, and gives where it begins.
 #[inline(always)]
-fn place(text: &[u8], room: &mut [u8], end: usize) -> usize
+pub(crate) fn place(text: &[u8], room: &mut [u8], end: usize) -> usize
     requires { (length text.now ≤ end) × (end ≤ length room.old) }
     ensures begins { result + length text.now ≡ end }
     ensures placed { drop result room.new ≡ text.now ++ drop end room.old }
@@ -99,18 +99,28 @@ fn place_number(number: i64, room: &mut [u8], end: usize) -> usize
     }
 }
 
+/// Places a value so that it ends at `end`, and gives where it begins.
+#[inline(always)]
+pub(crate) fn place_value(value: Value, room: &mut [u8], end: usize) -> usize
+    requires { (20 ≤ end) × (end ≤ length room.old) }
+    ensures near { (result ≤ end) × (end ≤ result + 20) }
+    ensures placed { drop result room.new ≡ value_text value ++ drop end room.old }
+{
+    match value {
+        Value::Integer(number) => place_number(number, room, end),
+        Value::Logical(true) => place(b"true", room, end),
+        Value::Logical(false) => place(b"false", room, end),
+    }
+}
+
 /// Places a space and a value so that they end at `end`, and gives where they begin.
 #[inline(always)]
-fn place_value(value: Value, room: &mut [u8], end: usize) -> usize
+fn place_spaced(value: Value, room: &mut [u8], end: usize) -> usize
     requires { (21 ≤ end) × (end ≤ length room.old) }
     ensures near { (result ≤ end) × (end ≤ result + 21) }
     ensures placed { drop result room.new ≡ concat (codes " " ∷ value_text value ∷ []) ++ drop end room.old }
 {
-    let start = match value {
-        Value::Integer(number) => place_number(number, room, end),
-        Value::Logical(true) => place(b"true", room, end),
-        Value::Logical(false) => place(b"false", room, end),
-    };
+    let start = place_value(value, room, end);
     place(b" ", room, start)
 }
 
@@ -121,7 +131,7 @@ fn place_tokens<'a>(tokens: &[Carried], room: &'a mut [u8]) -> &'a [u8]
 {
     let mut start = room.len();
     for token in tokens.iter().rev() {
-        start = place_value(token.value(), room, start);
+        start = place_spaced(token.value(), room, start);
     }
     &room[start..]
 }

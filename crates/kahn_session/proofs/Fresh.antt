@@ -1,5 +1,5 @@
 -- What is new on the streams, one after another.
-use Rattle.std.proofs.Common.{arith, ◌≡◌, ◌∙◌, ℕ, zero, suc, ◌+◌, ◌<◌, List, [], ◌∷◌, ◌++◌, length, map, drop, get_or, add-one, append_assoc, refl, sym, ap, subst, Some}
+use Rattle.std.proofs.Common.{arith, ◌≡◌, ◌∙◌, ℕ, zero, suc, ◌+◌, ◌<◌, ◌≤◌, List, [], ◌∷◌, ◌++◌, length, map, drop, get_or, add-one, append_assoc, refl, sym, ap, subst, Some}
 use Rattle.std.specs.Prelude.{slice_get, slice_index_or}
 use Rattle.std.specs.List.{AllByRecursion}
 use Rattle.std.proofs.lemmas.List.{drop-map}
@@ -52,10 +52,29 @@ news_moved program h lines counts i d all done below e =
     ∙ sym (append_assoc done (news_line program h counts i (get_or lines i d)) (rest_text program h lines counts (i + 1)))
 
 -- the tokens behind so many are what is new
+pub values_new : (h : HeldRun) (c : Line) (ts us : List Token) (n : ℕ) → IsWellWired h.network → HasSoFar h c (map token_value ts) → us ≡ drop n ts →
+    map token_value us ≡ drop n (so_far h c)
+values_new h c ts us n wired so e =
+    ap (map token_value) e ∙ sym (drop-map token_value n ts) ∙ ap (drop n) (so_far_is h wired c (map token_value ts) so)
+
 pub tokens_new : (program : Program) (h : HeldRun) (c : Line) (ts us : List Token) (n : ℕ) → IsWellWired h.network → HasSoFar h c (map token_value ts) → us ≡ drop n ts →
     more_text program c (map token_value us) ≡ more_text program c (drop n (so_far h c))
-tokens_new program h c ts us n wired so e =
-    ap (more_text program c) (ap (map token_value) e ∙ sym (drop-map token_value n ts) ∙ ap (drop n) (so_far_is h wired c (map token_value ts) so))
+tokens_new program h c ts us n wired so e = ap (more_text program c) (values_new h c ts us n wired so e)
+
+-- the news of the stream of a number, and of no stream
+pub news_at : (h : HeldRun) (lines : List Line) (counts : List ℕ) (i : ℕ) (d : Line) → i < length lines →
+    slice_index_or (news_of h lines counts) i [] ≡ drop (slice_index_or counts i 0) (so_far h (slice_index_or lines i d))
+news_at h [] counts i d below = absurd (omega (arith, below))
+news_at h (c ∷ lines) [] zero d below = refl
+news_at h (c ∷ lines) (n ∷ counts) zero d below = refl
+news_at h (c ∷ lines) [] (suc i) d below = news_at h lines [] i d (omega (arith, below))
+news_at h (c ∷ lines) (n ∷ counts) (suc i) d below = news_at h lines counts i d (omega (arith, below))
+
+pub news_past : (h : HeldRun) (lines : List Line) (counts : List ℕ) (i : ℕ) → length lines ≤ i → slice_index_or (news_of h lines counts) i [] ≡ []
+news_past h [] counts i past = refl
+news_past h (c ∷ lines) counts zero past = absurd (omega (arith, past))
+news_past h (c ∷ lines) [] (suc i) past = news_past h lines [] i (omega (arith, past))
+news_past h (c ∷ lines) (n ∷ counts) (suc i) past = news_past h lines counts i (omega (arith, past))
 
 all_at : {A : Type 0} (P : A → Type 0) (xs : List A) (i : ℕ) (x : A) → AllByRecursion P xs → slice_get xs i ≡ Some x → P x
 all_at P [] i x h e = absurd cc

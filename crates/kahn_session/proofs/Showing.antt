@@ -1,18 +1,18 @@
 -- What was shown of the streams begins what they have later, so what is new stands behind it.
-use Rattle.std.proofs.Common.{arith, ◌≡◌, ◌∙◌, ℕ, zero, suc, ◌+◌, ◌≤◌, List, [], ◌∷◌, ◌++◌, length, length-append, map, take, drop, Some, refl, sym, ap, ap₂, subst}
+use Rattle.std.proofs.Common.{arith, ◌≡◌, ◌∙◌, ℕ, zero, suc, ◌≤◌, List, [], ◌∷◌, ◌++◌, length, length-append, map, take, drop, Option, Some, refl, sym, ap, ap₂, subst}
 use Rattle.std.specs.Prelude.{slice_get}
 use Rattle.kahn_network.specs.Network.{network_of}
 use Rattle.kahn_network.specs.Wiring.{IsWellWired}
 use Rattle.kahn_streams.specs.declared.value.Value.{Value}
 use Rattle.kahn_streams.specs.declared.value.Line.{Line}
 use Rattle.kahn_streams.specs.Solution.{IsPrefix}
-use Rattle.kahn_pool.specs.HeldRuns.{GoesOn, HasSoFar, HeldRun, so_far}
+use Rattle.kahn_pool.specs.HeldRuns.{GoesOn, HeldRun, so_far}
 use Rattle.kahn_pool.specs.Right.{stream_lines}
 use Rattle.kahn_pool.proofs.Held_calls.{still_so}
 use Rattle.kahn_pool.proofs.Held_streams.{so_far_is}
-use Rattle.kahn_report.specs.News.{joined, news_text}
+use Rattle.kahn_report.specs.News.{joined}
 use Rattle.kahn_tree.specs.declared.tree.Program.{Program}
-use Rattle.kahn_session.specs.Live.{run_lines}
+use Rattle.kahn_session.specs.Live.{form_text, run_lines}
 use Rattle.kahn_session.specs.inner.Shown.{AreAllShown, AreShown, news_of, shown_of}
 
 -- both have the same lines
@@ -66,11 +66,11 @@ pub kept_shown : (a b : HeldRun) (lines : List Line) (counts : List ℕ) → lin
 kept_shown a b lines counts e wired g h = subst (λ l. shown_of b l counts ≡ shown_of a l counts) (sym e) (shown_stays a b counts wired g h)
 
 -- the text of the news, by what it is of
-pub news_texts : (t : Program) (a b : HeldRun) (lines : List Line) (counts : List ℕ) → t ≡ b.network → lines ≡ run_lines b → lines ≡ run_lines a →
-    news_text t lines (news_of b lines counts) ≡ news_text b.network (run_lines b) (news_of b (run_lines a) counts)
-news_texts t a b lines counts e f g =
-    ap (λ u. news_text u lines (news_of b lines counts)) e ∙ ap (λ l. news_text b.network l (news_of b lines counts)) f
-    ∙ ap (λ l. news_text b.network (run_lines b) (news_of b l counts)) g
+pub news_texts : (form : Option ℕ) (t : Program) (a b : HeldRun) (lines : List Line) (counts : List ℕ) → t ≡ b.network → lines ≡ run_lines b → lines ≡ run_lines a →
+    form_text form t lines (news_of b lines counts) ≡ form_text form b.network (run_lines b) (news_of b (run_lines a) counts)
+news_texts form t a b lines counts e f g =
+    ap (λ u. form_text form u lines (news_of b lines counts)) e ∙ ap (λ l. form_text form b.network l (news_of b lines counts)) f
+    ∙ ap (λ l. form_text form b.network (run_lines b) (news_of b l counts)) g
 
 take_drop : (n : ℕ) (vs : List Value) → take n vs ++ drop n vs ≡ vs
 take_drop zero vs = refl

@@ -54,14 +54,14 @@ module _ (line : List ℕ) (h : HeldRun) (wired : IsWellWired h.network) (p q : 
   pub halted_on : (f : PartFault) → IsNoPart p q f → GoesOn h q.run
   halted_on f n = whole_on (no_part_on p q f still_wired n).0
 
-  module _ (step : ℕ) (step_is : p.step ≡ step) (shown : List (List Value)) (broken : Bool) where
+  module _ (step : ℕ) (step_is : p.step ≡ step) (shown : List (List Value)) (broken : Bool) (plain : Option ℕ) where
     gone_on : (later : List (List Value)) (torn : Bool) → GoesOn p.run q.run → q.run.input ≡ p.run.input → q.step ≡ p.step →
-        HasGoneOn line (record { run = h; step = step; shown = shown; broken = broken }) (record { run = q.run; step = q.step; shown = later; broken = torn })
-    gone_on later torn g input stays = record { fed = (p.run, fed, input); goes_on = whole_on g; step = stays ∙ step_is }
+        HasGoneOn line (record { run = h; step = step; shown = shown; broken = broken; plain = plain }) (record { run = q.run; step = q.step; shown = later; broken = torn; plain = plain })
+    gone_on later torn g input stays = record { fed = (p.run, fed, input); goes_on = whole_on g; step = stays ∙ step_is; plain = refl }
 
     -- a line that was fed, and whose part waits
     pub waiting : (before : Option (List ℕ)) (later : List (List Value)) (f : PartFault) → later ≡ shown → IsNoPart p q f →
-        IsTaken line (record { run = h; step = step; shown = shown; broken = broken }) (record { run = q.run; step = q.step; shown = later; broken = broken }) before before (Err (waits_for f))
+        IsTaken line (record { run = h; step = step; shown = shown; broken = broken; plain = plain }) (record { run = q.run; step = q.step; shown = later; broken = broken; plain = plain }) before before (Err (waits_for f))
     waiting before later part.NoMemory same n =
         let (g, input, stays) = no_part_on p q part.NoMemory still_wired n in
         (record { gone_on = gone_on later broken g input stays; shown = same; text = refl }, subst (λ (r : Pace). IsFedBy line h r.run) (sym n) fed)
@@ -72,7 +72,7 @@ module _ (line : List ℕ) (h : HeldRun) (wired : IsWellWired h.network) (p q : 
     -- a line that was fed, and whose part has a verdict
     pub answered : (counts : List ℕ) (later : List (List Value)) (torn : Bool) (v : Verdict) (ends : List End) → shown ≡ shown_of h (run_lines h) counts → AreShown h counts →
         IsPart p q v → IsRightSoFar q.run v ends →
-        HasAnswered line (record { run = h; step = step; shown = shown; broken = broken }) (record { run = q.run; step = q.step; shown = later; broken = torn }) v (news_of q.run (run_lines h) counts)
+        HasAnswered line (record { run = h; step = step; shown = shown; broken = broken; plain = plain }) (record { run = q.run; step = q.step; shown = later; broken = torn; plain = plain }) v (news_of q.run (run_lines h) counts)
     answered counts later torn v ends is are n right = record {
       gone_on = gone_on later torn n.run.goes_on n.run.input n.run.step;
       bound = n.run.bound ∙ ap (λ m. part_bound m p.run) step_is ∙ ap (λ (l : List Seen). min (sum_by seen_events l + step) most_bound) (fed_cells line h p.run fed);

@@ -1,5 +1,5 @@
 -- Believed. A session: a run that is fed line by line, and what it has shown of its streams (this project's profile).
-use Rattle.std.specs.Prelude.{◌≡◌, ◌⊎◌, ℕ, ◌<◌, ◌≤◌, Bool, true, false, List, [], map, length, replicate, Option, None, Some, Result, Ok, Err}
+use Rattle.std.specs.Prelude.{◌≡◌, ◌⊎◌, ℕ, ◌<◌, ◌≤◌, Bool, true, false, List, [], map, length, replicate, slice_get, slice_index_or, Option, None, Some, Result, Ok, Err}
 use Rattle.std.specs.Io.KnownBytes.{Appends}
 use Rattle.std.specs.Str.{IsUtf8}
 use Rattle.kahn_config.specs.declared.Config.{Config}
@@ -7,6 +7,7 @@ use Rattle.kahn_tree.specs.declared.tree.Program.{Program}
 use Rattle.kahn_network.specs.Network.{network_of}
 use Rattle.kahn_streams.specs.declared.value.Value.{Value}
 use Rattle.kahn_streams.specs.declared.value.Line.{Line}
+use Rattle.kahn_streams.specs.declared.value.Line.TheVariants.{Channel}
 use Rattle.kahn_streams.specs.Entries.{Entry}
 use Rattle.kahn_streams.specs.Feeds.{IsUnwelcome}
 use Rattle.kahn_streams.specs.Tokens.{inputs_of}
@@ -18,7 +19,8 @@ use Rattle.kahn_pool.specs.declared.answer.Verdict.{Verdict}
 use Rattle.kahn_pool.specs.declared.config.RunFault.{RunFault}
 use Rattle.kahn_pool.specs.declared.config.RunFault.TheVariants as fault
 use Rattle.kahn_report.specs.Entries.{IsBlank, IsEntry, HasNoHead, HasNoValues, content, most_bytes}
-use Rattle.kahn_report.specs.News.{closing_text, joined, news_text}
+use Rattle.kahn_report.specs.Names.{channel_name}
+use Rattle.kahn_report.specs.News.{closing_text, joined, news_text, plain_text}
 use Rattle.kahn_report.specs.Written.{AppendsFront}
 use Rattle.kahn_report.specs.declared.write.WriteFault.{WriteFault}
 use Rattle.kahn_session.specs.Pace.{events_of, part_bound}
@@ -33,6 +35,8 @@ pub record Live : Type 0 where
   pub shown : List (List Value)
   -- whether a write failed: then `shown` doesn't tell what went out
   pub broken : Bool
+  -- the number of the stream whose values alone are shown, one a line; else all streams are
+  pub plain : Option ℕ
 
 -- the lines of the streams of a run
 abbrev pub run_lines : HeldRun → List Line
@@ -50,6 +54,7 @@ pub record HasOpened (t : Program) (config : Config) (s : Live) : Type 0 where
   pub step : s.step ≡ config.bound
   pub shown : s.shown ≡ []
   pub broken : s.broken ≡ false
+  pub plain : s.plain ≡ None
 
 abbrev pub IsUnopened : Program → Config → RunFault → Type 0
 IsUnopened t config fault.BadConfig = IsUnstarted t config fault.BadConfig
@@ -57,6 +62,10 @@ IsUnopened t config fault.UnknownWatch = IsUnstarted t config fault.UnknownWatch
 IsUnopened t config fault.NoMemory = Unit {0}
 IsUnopened t config fault.NoThread = ⊥
 IsUnopened t config fault.Stalled = ⊥
+
+-- the stream of this number is that of a channel of this name
+abbrev pub IsStreamOf : HeldRun → ℕ → List ℕ → Type 0
+IsStreamOf h number name = (channel : ℕ) × (slice_get (run_lines h) number ≡ Some (Channel channel)) × (channel_name h.network channel ≡ name)
 
 -- ---- a line of input
 
@@ -86,6 +95,7 @@ pub record HasGoneOn (line : List ℕ) (old new : Live) : Type 0 where
   pub fed : (h : HeldRun) × IsFedBy line old.run h × (new.run.input ≡ h.input)
   pub goes_on : GoesOn old.run new.run
   pub step : new.step ≡ old.step
+  pub plain : new.plain ≡ old.plain
 
 -- the part has this verdict, and the ends that are right for the input so far and the bound so far; and what is new on each
 -- stream, behind what was shown of it, is its stream so far
@@ -97,9 +107,14 @@ pub record HasAnswered (line : List ℕ) (old new : Live) (v : Verdict) (news : 
   pub exact : Settles (network_of new.run.network) (inputs_of new.run.input) new.run.bound v
   pub joined : joined old.shown news ≡ map (so_far new.run) (run_lines new.run)
 
+-- the text of the news of streams: a line for each that has some, or the values alone of one of them
+abbrev pub form_text : Option ℕ → Program → List Line → List (List Value) → List ℕ
+form_text None program lines news = news_text program lines news
+form_text (Some number) program lines news = plain_text (slice_index_or news number [])
+
 -- the text of the news
 abbrev pub news_written : Live → List (List Value) → List ℕ
-news_written s news = news_text s.run.network (run_lines s.run) news
+news_written s news = form_text s.plain s.run.network (run_lines s.run) news
 
 -- the news went out
 pub record HasTaken (line : List ℕ) (old new : Live) (before after : Option (List ℕ)) (v : Verdict) : Type 0 where

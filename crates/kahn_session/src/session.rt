@@ -1,20 +1,24 @@
 //! Sessions: what a line of input makes of a run, and what goes out after it.
 
-ghost use Rattle.std.specs.Prelude.{◌≡◌, ◌↔◌, ◌≤◌, ℕ, List, Some, false, drop, length, slice_index_or, vec_capacity, [], IfOk, IsTrue, MatchOption, MatchResult};
+ghost use Rattle.std.specs.Prelude.{◌≡◌, ◌↔◌, ◌≤◌, ℕ, List, Some, false, true, drop, length, slice_index_or, vec_capacity, [], IfOk, IfSome, IsTrue, MatchOption, MatchResult};
 ghost use Rattle.kahn_streams.specs.Entries.{entry_of};
 ghost use Rattle.kahn_pool.specs.HeldRuns.{HeldRun};
 ghost use Rattle.kahn_pool.specs.declared.answer.Verdict.{Verdict as VerdictOf};
 ghost use Rattle.kahn_report.specs.Entries.{IsBlank, IsEntry, content};
-ghost use Rattle.kahn_report.specs.News.{news_text};
+ghost use Rattle.kahn_report.specs.Names.{channel_name};
+ghost use Rattle.kahn_report.specs.News.{news_text, plain_text};
 ghost use Rattle.kahn_report.specs.Written.{Writes};
-ghost use Rattle.kahn_session.specs.Live.{HasOpened, IsClosed, IsFedBy, HasVerdict, IsTaken, IsText, IsUnfedBy, IsUnopened, breaks, run_lines};
+ghost use Rattle.kahn_session.specs.Live.{HasOpened, IsClosed, IsFedBy, HasVerdict, IsStreamOf, IsTaken, IsText, IsUnfedBy, IsUnopened, breaks, form_text, run_lines};
 ghost use Rattle.kahn_session.specs.inner.Shown.{AreAllShown, news_of};
 
 use crate::fault::{PartFault, TakeFault};
 use crate::pace::Paced;
 use kahn_network::Network;
 use kahn_pool::{Config, Gate, RunFault, Verdict};
-use kahn_report::{LineFault, MOST_BYTES, WriteFault, read_line, write_closing, write_news};
+use kahn_report::{
+    LineFault, MOST_BYTES, WriteFault, channel_name, read_line, write_closing, write_news,
+    write_plain,
+};
 use kahn_streams::{Carried, Input, Line, NoMemory, Value};
 use std::alloc::Global;
 use std::io::Write;
@@ -34,6 +38,8 @@ pub struct Session<'n> {
     shown: Vec<usize>,
     // Whether a write failed, after which nothing tells what went out.
     broken: bool,
+    // The number of the stream whose values alone are shown.
+    plain: Option<usize>,
 }
 
 impl<'n> Model for Session<'n> {
@@ -42,13 +48,13 @@ impl<'n> Model for Session<'n> {
     ghost use Rattle.std.specs.Coded.{codes};
     ghost use Rattle.std.specs.Prelude.{◌≡◌, ◌≤◌, length, vec_capacity};
     ghost use Rattle.kahn_session.specs.Live.{Live, run_lines};
-    ghost use Rattle.kahn_session.specs.inner.Shown.{AreShown, shown_of};
+    ghost use Rattle.kahn_session.specs.inner.Shown.{AreShown, live_of};
 
     ghost Value = { Live };
 
     ghost coded = { Prim.hlevel (codes, action.the_row.coded, form.the_row.coded) };
 
-    ghost view = { λ s. record { run = s.paced.run; step = s.paced.step; shown = shown_of s.paced.run s.lines.items s.shown.items; broken = s.broken } };
+    ghost view = { λ s. live_of s.paced s.lines.items s.shown.items s.broken s.plain };
 
     ghost invariant = { λ s. (s.paced.run.network ≡ s.network.now) × (s.lines.items ≡ run_lines s.paced.run) × AreShown s.paced.run s.shown.items
         × (length s.lines.items ≤ vec_capacity s.shown) };
@@ -85,6 +91,16 @@ fn feed_line(alloc: Global, paced: &mut Paced<'_>, line: &[u8]) -> Result<(), Ta
             Err(fault) => Err(TakeFault::Feed(fault)),
         },
         Err(fault) => Err(fault),
+    }
+}
+
+/// Whether the line is that of a channel of that name.
+fn is_of(network: &Network, line: Line, name: &str) -> bool
+    ensures { result ≡ true → (channel : ℕ) × (line ≡ Line.Channel channel) × (channel_name network.now channel ≡ name.now) }
+{
+    match line {
+        Line::Channel(channel) => channel_name(network, channel) == name,
+        Line::Print(_) => false,
     }
 }
 
@@ -136,6 +152,48 @@ fn put_news<W: Write>(
     Ok(())
 }
 
+/// Writes the values alone that are new on the stream of that number, and nothing where there is none.
+fn put_plain<W: Write>(
+    writer: &mut W,
+    network: &Network,
+    run: &Paced<'_>,
+    lines: &[Line],
+    shown: &[usize],
+    number: usize,
+) -> Result<(), WriteFault>
+    requires network { run.now.run.network ≡ network.now }
+    requires lines { lines.now ≡ run_lines run.now.run }
+    requires settled { (v : VerdictOf) × (run.now.run.verdict ≡ Some v) }
+    ensures { Writes (W.contents writer.old) (W.contents writer.new) result (plain_text (slice_index_or (news_of run.now.run lines.now shown.now) number [])) }
+{
+    let _program = network.program();
+    if number >= lines.len() {
+        return Ok(());
+    }
+    let tokens = tokens_after(run.stream(lines[number]), shown_count(shown, number));
+    write_plain(writer, tokens)
+}
+
+/// Writes what is new, in the form of the session.
+fn put_form<W: Write>(
+    writer: &mut W,
+    network: &Network,
+    run: &Paced<'_>,
+    lines: &[Line],
+    shown: &[usize],
+    plain: Option<usize>,
+) -> Result<(), WriteFault>
+    requires network { run.now.run.network ≡ network.now }
+    requires lines { lines.now ≡ run_lines run.now.run }
+    requires settled { (v : VerdictOf) × (run.now.run.verdict ≡ Some v) }
+    ensures { Writes (W.contents writer.old) (W.contents writer.new) result (form_text plain network.now lines.now (news_of run.now.run lines.now shown.now)) }
+{
+    match plain {
+        None => put_news(writer, network, run, lines, shown),
+        Some(number) => put_plain(writer, network, run, lines, shown, number),
+    }
+}
+
 /// Writes what is new, and flushes.
 fn show<W: Write>(
     writer: &mut W,
@@ -143,13 +201,14 @@ fn show<W: Write>(
     run: &Paced<'_>,
     lines: &[Line],
     shown: &[usize],
+    plain: Option<usize>,
 ) -> Result<(), WriteFault>
     requires network { run.now.run.network ≡ network.now }
     requires lines { lines.now ≡ run_lines run.now.run }
     requires settled { (v : VerdictOf) × (run.now.run.verdict ≡ Some v) }
-    ensures { Writes (W.contents writer.old) (W.contents writer.new) result (news_text network.now lines.now (news_of run.now.run lines.now shown.now)) }
+    ensures { Writes (W.contents writer.old) (W.contents writer.new) result (form_text plain network.now lines.now (news_of run.now.run lines.now shown.now)) }
 {
-    put_news(writer, network, run, lines, shown)?;
+    put_form(writer, network, run, lines, shown, plain)?;
     writer.flush().map_err(|_| WriteFault::Failed)
 }
 
@@ -191,12 +250,33 @@ impl<'n> Session<'n> {
             lines,
             shown,
             broken: false,
+            plain: None,
         })
     }
 
+    /// The number of the stream of a channel of that name, or nothing where it has none.
+    pub fn stream_of(&self, channel: &str) -> Option<usize>
+        ensures { IfSome result (λ number. IsStreamOf self.now.run number channel.now) }
+    {
+        for (number, line) in self.lines.iter().enumerate() {
+            if is_of(self.network, *line, channel) {
+                return Some(number);
+            }
+        }
+        None
+    }
+
+    /// From now on shows the stream of that number alone, as in a report from 0, and of it the values alone, one a line; and
+    /// nothing where there is no such stream.
+    pub fn show_plain(&mut self, number: usize)
+        ensures { self.new ≡ record self.old { plain = Some number } }
+    {
+        self.plain = Some(number);
+    }
+
     /// Feeds the values of a line of input, which stands without its line feed, runs a part, and writes what is new: a line
-    /// for each stream that has grown, its heading as in a report and then the values behind those that were shown, and
-    /// flushes. A blank line feeds nothing. The part goes on until nothing can, or until it took as many events as each part
+    /// for each stream that has grown, its heading as in a report and then the values behind those that were shown, or after
+    /// `show_plain` the values alone of its stream; and flushes. A blank line feeds nothing. The part goes on until nothing can, or until it took as many events as each part
     /// may, or memory was refused.
     ///
     /// The line is refused with `TooLong`, `NotUtf8`, `BadLine`, `BadValue`, `Feed` and `NoMemory`, in this order: then
@@ -224,7 +304,14 @@ impl<'n> Session<'n> {
             Err(PartFault::NoThread) => return Err(TakeFault::WaitsForThread),
         };
         let _ends = self.paced.ends();
-        if let Err(fault) = show(writer, self.network, &self.paced, &self.lines, &self.shown) {
+        if let Err(fault) = show(
+            writer,
+            self.network,
+            &self.paced,
+            &self.lines,
+            &self.shown,
+            self.plain,
+        ) {
             self.broken = true;
             return Err(TakeFault::Write(fault));
         }
@@ -237,6 +324,13 @@ impl<'n> Session<'n> {
         ensures { IsTrue result ↔ HasVerdict self.now }
     {
         !self.broken && self.paced.verdict().is_some()
+    }
+
+    /// The verdict of the last part, where nothing changed since.
+    pub fn verdict(&self) -> Option<Verdict>
+        ensures { result ≡ self.now.run.verdict }
+    {
+        self.paced.verdict()
     }
 
     /// Whether a write failed. Then the session takes no further line, and it is never settled.

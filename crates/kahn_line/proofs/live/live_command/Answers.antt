@@ -1,7 +1,6 @@
-use Rattle.std.proofs.Common.{ap, ap₂, ◌∙◌, ◌≡◌, true, false, codes, Some, rules}
+use Rattle.std.proofs.Common.{ap, ap₂, ◌∙◌, ◌≡◌, true, false, codes}
 use Rattle.std.proofs.lemmas.Result.{IfOk-weaker}
 use Rattle.clap.specs.Words.{Rule, new_rule, rule_of, with_rule}
-use Rattle.clap.specs.declared.builder.ArgAction.TheVariants.{Count}
 use Rattle.clap.specs.declared.builder.arg.Arg.{Arg}
 use Rattle.kahn_line.proofs.live.live_command.Goals as goal
 
@@ -16,6 +15,6 @@ returns c =
     let three = c.in_ok-arg-3.ensures.shape c.quantum_arg.ensures.local ∙ ap₂ with_rule two c.quantum_arg.ensures.rule in
     let four = c.in_ok-arg-4.ensures.shape c.number_arg-step.ensures.local ∙ ap₂ with_rule three c.number_arg-step.ensures.rule in
     let five = c.in_ok-arg-5.ensures.shape c.watch_arg-watch.ensures.local ∙ ap₂ with_rule four c.watch_arg-watch.ensures.rule in
-    let flag_local : c.help-keep_going.result.global ≡ false = search rules in
-    let flag : rule_of c.help-keep_going.result ≡ record (new_rule (codes "keep-going")) { long = Some (codes "keep-going"); action = Some Count } = search rules in
-    IfOk-weaker c.arg-6.result _ _ (λ r h. h.shape flag_local ∙ ap₂ with_rule five flag) c.arg-6.ensures
+    let six = c.in_ok-arg-6.ensures.shape c.keep_going_arg.ensures.local ∙ ap₂ with_rule five c.keep_going_arg.ensures.rule in
+    let seven = c.in_ok-arg-7.ensures.shape c.at_end_arg.ensures.local ∙ ap₂ with_rule six c.at_end_arg.ensures.rule in
+    IfOk-weaker c.arg-8.result _ _ (λ r h. h.shape c.plain_arg.ensures.local ∙ ap₂ with_rule seven c.plain_arg.ensures.rule) c.arg-8.ensures

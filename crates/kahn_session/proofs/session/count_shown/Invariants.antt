@@ -1,5 +1,5 @@
 use Rattle.std.proofs.Common.{◌≡◌, ◌≤◌, ℕ, length, Some}
-use Rattle.std.specs.Prelude.{List, map, slice_get}
+use Rattle.std.specs.Prelude.{List, slice_get}
 use Rattle.std.specs.Vec.{vec_capacity}
 use Rattle.kahn_streams.specs.declared.value.Line.{Line}
 use Rattle.kahn_streams.specs.declared.value.Value.{Value}

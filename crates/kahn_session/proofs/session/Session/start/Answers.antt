@@ -13,4 +13,5 @@ returns c =
       step = started.1;
       shown = ap (λ (l : List ℕ). shown_of h lines l) c.in_ok-shown.ensures.0 ∙ none_shown h lines;
       broken = refl;
+      plain = refl;
     }

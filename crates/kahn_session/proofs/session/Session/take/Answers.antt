@@ -1,4 +1,4 @@
-use Rattle.std.proofs.Common.{◌≡◌, ◌∙◌, ◌<◌, ℕ, List, None, true, sym, ap, subst}
+use Rattle.std.proofs.Common.{◌≡◌, ◌∙◌, ◌<◌, List, None, true, sym, ap, subst}
 use Rattle.std.specs.Io.KnownBytes.{Appends}
 use Rattle.kahn_network.specs.Wiring.{IsWellWired}
 use Rattle.kahn_streams.specs.declared.value.Line.{Line}
@@ -40,9 +40,9 @@ returns-in-Err-NoMemory-clause-taken g c =
     let on = halted_on line h wired p q fed part.NoMemory n in
     let before = g.W.Write.contents c.args.writer.now in
     let later = shown_of q.run lines counts in
-    let new : Live = record { run = q.run; step = q.step; shown = later; broken = i.broken } in
+    let new : Live = record { run = q.run; step = q.step; shown = later; broken = i.broken; plain = i.plain } in
     subst (λ (s : Live). IsWaiting line s new before before × IsFedBy line s.run new.run) c.self.view_is
-    (waiting line h wired p q fed i.paced.step c.feed_line.ensures.step (shown_of h lines counts) i.broken before later part.NoMemory
+    (waiting line h wired p q fed i.paced.step c.feed_line.ensures.step (shown_of h lines counts) i.broken i.plain before later part.NoMemory
     (kept_shown h q.run lines counts c.self.invariant.1 wired on c.self.invariant.2) n)
 
 pub invariant_of-self-in-Err-NoThread : goal.invariant_of-self-in-Err-NoThread
@@ -75,9 +75,9 @@ returns-in-Err-NoThread-clause-taken g c =
     let on = halted_on line h wired p q fed part.NoThread n in
     let before = g.W.Write.contents c.args.writer.now in
     let later = shown_of q.run lines counts in
-    let new : Live = record { run = q.run; step = q.step; shown = later; broken = i.broken } in
+    let new : Live = record { run = q.run; step = q.step; shown = later; broken = i.broken; plain = i.plain } in
     subst (λ (s : Live). IsWaiting line s new before before × (new.run.verdict ≡ None) × (1 < s.run.workers)) c.self.view_is
-    (waiting line h wired p q fed i.paced.step c.feed_line.ensures.step (shown_of h lines counts) i.broken before later part.NoThread
+    (waiting line h wired p q fed i.paced.step c.feed_line.ensures.step (shown_of h lines counts) i.broken i.plain before later part.NoThread
     (kept_shown h q.run lines counts c.self.invariant.1 wired on c.self.invariant.2) n)
 
 pub invariant_of-self-in-Err-show : goal.invariant_of-self-in-Err-show
@@ -114,14 +114,14 @@ returns-in-Err-show-clause-taken g c =
     let after = g.W.Write.contents c.show.new.writer in
     let is = ap (λ (l : List Line). shown_of h l counts) c.self.invariant.1 in
     let right = c.ends-ends.ensures v n.settled in
-    let texts = news_texts i.network.now h q.run lines counts (sym (on.network ∙ c.self.invariant.0)) (kept_lines h q.run lines c.self.invariant.1 on) c.self.invariant.1 in
+    let texts = news_texts i.plain i.network.now h q.run lines counts (sym (on.network ∙ c.self.invariant.0)) (kept_lines h q.run lines c.self.invariant.1 on) c.self.invariant.1 in
     let later = shown_of q.run lines counts in
-    let new : Live = record { run = q.run; step = q.step; shown = later; broken = true } in
+    let new : Live = record { run = q.run; step = q.step; shown = later; broken = true; plain = i.plain } in
     subst (λ (s : Live). HasBroken line s new before after) c.self.view_is
     (record {
       verdict = v;
       news = news_of q.run (run_lines h) counts;
-      answered = answered line h wired p q fed i.paced.step c.feed_line.ensures.step (shown_of h lines counts) i.broken counts later true v c.ends-ends.result.now is c.self.invariant.2 n right;
+      answered = answered line h wired p q fed i.paced.step c.feed_line.ensures.step (shown_of h lines counts) i.broken i.plain counts later true v c.ends-ends.result.now is c.self.invariant.2 n right;
       text = subst (AppendsFront before after) texts (rw c.deref-2.ensures.value at (rw c.deref.ensures.value at c.in-Err-show.ensures));
     })
 
@@ -143,14 +143,14 @@ returns-clause-taken g c =
     let after = g.W.Write.contents c.show.new.writer in
     let is = ap (λ (l : List Line). shown_of h l counts) c.self.invariant.1 in
     let right = c.ends-ends.ensures v n.settled in
-    let texts = news_texts i.network.now h q.run lines counts (sym (on.network ∙ c.self.invariant.0)) (kept_lines h q.run lines c.self.invariant.1 on) c.self.invariant.1 in
+    let texts = news_texts i.plain i.network.now h q.run lines counts (sym (on.network ∙ c.self.invariant.0)) (kept_lines h q.run lines c.self.invariant.1 on) c.self.invariant.1 in
     let shown = c.count_shown.new.shown.items in
     let later = shown_of q.run lines shown in
-    let new : Live = record { run = q.run; step = q.step; shown = later; broken = i.broken } in
+    let new : Live = record { run = q.run; step = q.step; shown = later; broken = i.broken; plain = i.plain } in
     subst (λ (s : Live). HasTaken line s new before after v) c.self.view_is
     (record {
       news = news_of q.run (run_lines h) counts;
-      answered = answered line h wired p q fed i.paced.step c.feed_line.ensures.step (shown_of h lines counts) i.broken counts later i.broken v c.ends-ends.result.now is c.self.invariant.2 n right;
+      answered = answered line h wired p q fed i.paced.step c.feed_line.ensures.step (shown_of h lines counts) i.broken i.plain counts later i.broken v c.ends-ends.result.now is c.self.invariant.2 n right;
       shown = ap (λ (l : List Line). shown_of q.run l shown) (kept_lines h q.run lines c.self.invariant.1 on)
           ∙ all_shown q.run shown (subst IsWellWired (sym on.network) wired) c.count_shown.ensures.counts;
       text = subst (Appends before after) texts (rw c.deref-2.ensures.value at (rw c.deref.ensures.value at c.in_default-show.ensures));

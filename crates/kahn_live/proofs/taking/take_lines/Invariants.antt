@@ -1,5 +1,5 @@
 use Rattle.std.proofs.Common.{◌≡◌, false}
-use Rattle.kahn_live.proofs.take_lines.Given as goal
+use Rattle.kahn_live.proofs.taking.take_lines.Given as goal
 
 abbrev pub invariant-loop-number : goal.invariant-loop-number
 invariant-loop-number g l = l.session.broken ≡ false

@@ -1,0 +1,33 @@
+-- Believed. What words of a command line say that have two parts.
+use Rattle.std.specs.Prelude.{ℕ, List, ◌++◌, Option, None, Some, ◌==◌, length, codes, if◌then◌else◌, nat_lt, option_map, string_bytes, unwrap_or, []}
+use Rattle.std.specs.List.{after_first, before_first, position_or_len}
+use Rattle.clap.specs.Words.{Row, Text, all_of, rows_of}
+use Rattle.clap.specs.declared.parser.matches.Found.{Found}
+use Rattle.kahn_line.specs.declared.parts.Plain.{Plain}
+
+-- what stands before the first such sign, and what stands behind it; a word without the sign is the first part alone
+abbrev pub parted : ℕ → Text → Text × Option Text
+parted sign word = (
+  before_first (λ b. b == sign) word,
+  if nat_lt (position_or_len (λ b. b == sign) word) (length word) then Some (after_first (λ b. b == sign) word) else None,
+)
+
+-- the parts as a line of input, a name and values; a name alone is the line
+abbrev pub line_of_parts : Text × Option Text → Text
+line_of_parts (name, None) = name
+line_of_parts (name, Some value) = name ++ (codes ": " ++ value)
+
+-- the line that `NAME=VALUE` stands for, where 61 is the sign `=`
+abbrev pub set_line : Text → Text
+set_line word = line_of_parts (parted 61 word)
+
+-- the names of the channels whose values stand alone
+abbrev pub plain_parts : Plain → Text × Option Text
+plain_parts p = (string_bytes p.input, option_map string_bytes p.output)
+
+-- all texts that were found for a name
+abbrev pub row_texts : Text → List Row → List Text
+row_texts name rows = unwrap_or (all_of name rows) []
+
+abbrev pub found_texts : Found → Text → List Text
+found_texts found name = row_texts name (rows_of found)

@@ -1,0 +1,178 @@
+//! The lines of a run: those of the input, and those that are fed at its end.
+
+ghost use Rattle.std.specs.Prelude.{◌≡◌, false, IfOk};
+
+use crate::lines::{Next, fed_line, next_line, without_mark};
+use crate::telling::{Teller, waits};
+use kahn_fault::Fault;
+use kahn_pool::{Open, RunFault, Verdict};
+use kahn_report::{ReadFault, WorkFault};
+use kahn_session::{Session, TakeFault};
+use kahn_streams::FeedFault;
+use std::io::{BufRead, Write};
+use std::sync::Wait;
+use std::thread::Threads;
+
+/// Which lines are fed.
+#[derive(Clone, Copy)]
+pub(crate) struct Fed<'a> {
+    /// The name of the channel whose values stand alone in the lines of the input, where they do.
+    pub(crate) input: Option<&'a str>,
+    /// The lines behind those of the input.
+    pub(crate) at_end: &'a [String],
+}
+
+/// Want of memory, as a fault of the run.
+pub(crate) fn wants_memory() -> Fault {
+    Fault::Work(WorkFault::Run(RunFault::NoMemory))
+}
+
+/// A fault of a line, where the run ends with it.
+pub(crate) fn last_fault(fault: TakeFault) -> Fault {
+    match fault {
+        TakeFault::Write(fault) => Fault::Work(WorkFault::Write(fault)),
+        TakeFault::WaitsForThread => Fault::Work(WorkFault::Run(RunFault::NoThread)),
+        _ => wants_memory(),
+    }
+}
+
+/// Takes a line of that number, and tells where it is refused, and gives why, or where its part waits. It fails where nothing
+/// can be written.
+fn take_line<R: Threads + Wait + Sync, W: Write, E: Write>(
+    rt: &R,
+    session: &mut Session<'_>,
+    line: &[u8],
+    number: u64,
+    writer: &mut W,
+    teller: &mut Teller<'_, E>,
+) -> Result<Option<TakeFault>, Fault>
+    requires { session.old.broken ≡ false }
+    ensures { IfOk result (λ _. session.new.broken ≡ false) }
+{
+    match session.take(rt, line, &Open, writer) {
+        Ok(Verdict::Memory) => teller.tell(number, TakeFault::WaitsForMemory),
+        Ok(_) => {}
+        Err(fault) => {
+            if fault.breaks() {
+                return Err(last_fault(fault));
+            }
+            teller.tell(number, fault);
+            if !waits(fault) {
+                return Ok(Some(fault));
+            }
+        }
+    }
+    Ok(None)
+}
+
+/// Takes a line of the input. Where memory is refused for it, that is told.
+fn take_read<R: Threads + Wait + Sync, W: Write, E: Write>(
+    rt: &R,
+    session: &mut Session<'_>,
+    input: Option<&str>,
+    line: &[u8],
+    number: u64,
+    room: &mut Vec<u8>,
+    writer: &mut W,
+    teller: &mut Teller<'_, E>,
+) -> Result<(), Fault>
+    requires { session.old.broken ≡ false }
+    ensures { IfOk result (λ _. session.new.broken ≡ false) }
+{
+    let Ok(fed) = fed_line(input, without_mark(line, number), room) else {
+        teller.tell(number, TakeFault::NoMemory);
+        return Ok(());
+    };
+    let _ = take_line(rt, session, fed, number, writer, teller)?;
+    Ok(())
+}
+
+/// Takes the lines of the reader, and gives the number behind the last one's.
+fn take_lines<R: AllocGlobal + Threads + Wait + Sync, B: BufRead, W: Write, E: Write>(
+    rt: &R,
+    session: &mut Session<'_>,
+    reader: &mut B,
+    fed: Fed<'_>,
+    writer: &mut W,
+    teller: &mut Teller<'_, E>,
+) -> Result<u64, Fault>
+    requires { session.old.broken ≡ false }
+    ensures { IfOk result (λ _. session.new.broken ≡ false) }
+{
+    let mut line = Vec::new(rt.alloc());
+    let mut room = Vec::new(rt.alloc());
+    for number in 1..u64::MAX {
+        match next_line(reader, &mut line) {
+            Next::Line => take_read(
+                rt, session, fed.input, &line, number, &mut room, writer, teller,
+            )?,
+            Next::End => return Ok(number),
+            Next::Failed => return Err(Fault::Program(None, ReadFault::Failed)),
+            Next::NoMemory => teller.tell(number, TakeFault::NoMemory),
+        }
+    }
+    Ok(u64::MAX)
+}
+
+/// Takes the lines that are fed at the end, whose numbers begin with that one.
+fn take_last<R: Threads + Wait + Sync, W: Write, E: Write>(
+    rt: &R,
+    session: &mut Session<'_>,
+    lines: &[String],
+    first: u64,
+    writer: &mut W,
+    teller: &mut Teller<'_, E>,
+) -> Result<(), Fault>
+    requires { session.old.broken ≡ false }
+    ensures { IfOk result (λ _. session.new.broken ≡ false) }
+{
+    let mut number = first;
+    for line in lines {
+        let _ = take_line(rt, session, line.as_bytes(), number, writer, teller)?;
+        number = number.saturating_add(1);
+    }
+    Ok(())
+}
+
+/// Runs the part before the first line, and tells whether there is an input channel of the name whose values stand alone.
+fn begin<R: AllocGlobal + Threads + Wait + Sync, W: Write, E: Write>(
+    rt: &R,
+    session: &mut Session<'_>,
+    input: Option<&str>,
+    writer: &mut W,
+    teller: &mut Teller<'_, E>,
+) -> Result<bool, Fault>
+    requires { session.old.broken ≡ false }
+    ensures { IfOk result (λ _. session.new.broken ≡ false) }
+{
+    let mut room = Vec::new(rt.alloc());
+    let Ok(line) = fed_line(input, b"", &mut room) else {
+        return Err(wants_memory());
+    };
+    match take_line(rt, session, line, 0, writer, teller)? {
+        None => Ok(true),
+        Some(TakeFault::NoMemory | TakeFault::Feed(FeedFault::NoMemory)) => Err(wants_memory()),
+        Some(_) => Ok(false),
+    }
+}
+
+/// Takes all lines, after a part before the first, and tells whether there is an input channel of the name whose values stand
+/// alone; else no line is taken.
+pub(crate) fn take_all<R: AllocGlobal + Threads + Wait + Sync, B: BufRead, W: Write, E: Write>(
+    rt: &R,
+    session: &mut Session<'_>,
+    reader: &mut B,
+    fed: Fed<'_>,
+    writer: &mut W,
+    teller: &mut Teller<'_, E>,
+) -> Result<bool, Fault>
+    requires { session.old.broken ≡ false }
+    ensures { IfOk result (λ _. session.new.broken ≡ false) }
+{
+    if !begin(rt, session, fed.input, writer, teller)? {
+        return Ok(false);
+    }
+    let number = take_lines(rt, session, reader, fed, writer, teller)?;
+    take_last(rt, session, fed.at_end, number, writer, teller)?;
+    Ok(true)
+}

@@ -1,0 +1,16 @@
+-- What isn't of the tokens that are left went out, by at most as many writes.
+use Rattle.std.proofs.Common.{◌≡◌, ℕ, ◌+◌, ◌≤◌, List, length, ◌++◌, flat_map}
+use Rattle.std.specs.Io.KnownBytes.{Appends}
+use Rattle.std.specs.Slice.Iter.{chunks_rest, chunks_size}
+use Rattle.kahn_report.specs.News.{token_line}
+use Rattle.kahn_report.proofs.plain.plain_counted.Given as goal
+
+abbrev pub invariant-loop-chunk : goal.invariant-loop-chunk
+invariant-loop-chunk g l =
+    (goal.iterator-loop-chunk g).can_next l.chunk-iterator
+    × (goal.iterator-loop-chunk g).is_finite l.chunk-iterator
+    × (chunks_size l.chunk-iterator ≡ 32)
+    × (length l.room ≡ 672)
+    × ((done : List ℕ) × (flat_map token_line l.tokens ≡ done ++ flat_map token_line (chunks_rest l.chunk-iterator))
+    × Appends (g.W.Write.contents l.initial.writer) (g.W.Write.contents l.writer) done
+    × (l.writes ≤ l.initial.writes + length done))
