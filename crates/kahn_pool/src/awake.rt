@@ -99,15 +99,16 @@ impl Awake {
         self.queue.sleep(instance);
     }
 
-    /// Wakes who sleeps at a channel that the instance writes, where something waits there now.
-    pub(crate) fn wake_readers(&mut self, instance: usize, queues: &Plain<Global>) {
+    /// Wakes who sleeps at a channel that the instance writes, where something waits there now. After a long visit such a reader
+    /// comes next, so that what was sent doesn't pile up; else what is sent comes together until its turn.
+    pub(crate) fn wake_readers(&mut self, instance: usize, is_long: bool, queues: &Plain<Global>) {
         let Some(channels) = self.written.get(instance) else {
             return;
         };
         for channel in channels {
             if queues.waiting(*channel) > 0 {
                 if let Some(reader) = woken(&mut self.sleepers, *channel) {
-                    self.queue.hand(reader);
+                    self.queue.woken(reader, is_long);
                 }
             }
         }

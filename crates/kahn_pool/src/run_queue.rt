@@ -60,10 +60,10 @@ impl RunQueue {
         }
     }
 
-    /// The instance reads what was just sent: it goes on before all others, unless so many as there are came so one after
-    /// another, or another one does.
-    pub(crate) fn hand(&mut self, instance: usize) {
-        if self.next.is_none() && self.handed < self.places.len() {
+    /// The instance reads what was just sent. Where that is much it goes on before all others, unless so many as there are came
+    /// so one after another, or another one does.
+    pub(crate) fn woken(&mut self, instance: usize, is_much: bool) {
+        if is_much && self.next.is_none() && self.handed < self.places.len() {
             self.next = Some(instance);
         } else {
             self.wake(instance);

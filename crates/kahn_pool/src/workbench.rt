@@ -196,14 +196,14 @@ impl<'n, L: Ledger> Workbench<'n, L> {
     pub(crate) fn saw(&mut self, instance: usize, done: u64, outcome: Outcome)
         ensures { self.new ≡ self.old }
     {
-        self.looks.saw(instance, done);
+        let is_long = self.looks.saw(instance, done);
         match outcome {
             Outcome::More => self.awake.goes_on(instance),
             Outcome::Waits(channel) => self.awake.waits(instance, channel),
             Outcome::Ended | Outcome::Faulted(_) => self.awake.ends(instance),
         }
         if done > 0 {
-            self.awake.wake_readers(instance, &self.queues);
+            self.awake.wake_readers(instance, is_long, &self.queues);
         }
     }
 
