@@ -2,3 +2,4 @@ pub mod Words
 pub mod Gone
 pub mod Tapped
 pub mod Begins
+pub mod Forms

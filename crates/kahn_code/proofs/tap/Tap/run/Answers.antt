@@ -31,7 +31,7 @@ run-requires-clause-sits g c =
 pub run-requires-clause-code : goal.run-requires-clause-code
 run-requires-clause-code g c =
     let same = c.requires.code ∙ ap (λ v. v.told.network) (sym c.self.view_is) in
-    c.deref.ensures.value ∙ c.routine-routine.ensures.instructions ∙ ap (λ z. stmt_code (instance_at (network_of z) c.self.inside.progress.instance).body) same
+    c.routine-routine.ensures.instructions ∙ ap (λ z. stmt_code (instance_at (network_of z) c.self.inside.progress.instance).body) same
     ∙ ap seat_code (ap (λ v. seat_of v.told) c.self.view_is ∙ sym c.requires.ports)
 
 pub returns-clause-at : goal.returns-clause-at
