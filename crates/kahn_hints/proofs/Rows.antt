@@ -1,7 +1,9 @@
--- The operands of a level and the statements of a block, as lists.
-use Rattle.std.proofs.Common.{◌≡◌, List, [], ◌∷◌, Option, None, refl, ap}
+-- The operands of a level and the statements of a block, as lists; and no arguments.
+use Rattle.std.proofs.Common.{◌≡◌, ℕ, List, [], ◌∷◌, Option, None, refl, ap}
 use Rattle.std.specs.Option.{option_or}
 use Rattle.kahn_tree.specs.declared.span.Span.{Span}
+use Rattle.kahn_tree.specs.declared.tree.Direction.{Direction}
+use Rattle.kahn_tree.specs.declared.tree.Parameter.{Parameter}
 use Rattle.kahn_tree.specs.declared.tree.Kind.{Kind}
 use Rattle.kahn_tree.specs.declared.tree.Form.{Row_of-Operand, end_of-Operand, more_of-Operand}
 use Rattle.kahn_tree.specs.declared.tree.Form.TheBlock.{items-the_row-Operand}
@@ -12,6 +14,7 @@ use Rattle.kahn_network.specs.Kinds.{gives}
 use Rattle.kahn_network.specs.Wiring.{Scope}
 use Rattle.kahn_check.specs.Faults.{level_kind}
 use Rattle.kahn_hints.specs.declared.uses.Use.{Use}
+use Rattle.kahn_hints.specs.Places.{passed_in}
 use Rattle.kahn_hints.specs.Uses.{expression_use, level_use, or_inside, row_use, statement_use, statements_use, use_inside}
 
 abbrev pub list_kind : Kind → List Operand → Kind
@@ -33,3 +36,7 @@ level_uses s at (more_of-Operand o span e rest) = ap (λ r. option_or (or_inside
 pub row_uses : {m : _} (s : Scope) (at : Span) (row : Row_of-Statement m) → row_use s at row ≡ statements_use s at (items-the_row-Statement m row)
 row_uses s at end_of-Statement = refl
 row_uses s at (more_of-Statement span a rest) = ap (λ r. option_or (statement_use s at a) r) (row_uses s at rest)
+
+pub none_passed : (d : Direction) (word : List ℕ) (qs : List Parameter) → passed_in d word qs [] ≡ None
+none_passed d word [] = refl
+none_passed d word (q ∷ qs) = refl

@@ -1,3 +1,4 @@
 pub mod Names
 pub mod Near
+pub mod Places
 pub mod Uses
