@@ -1,3 +1,4 @@
+pub mod Hints
 pub mod Names
 pub mod Near
 pub mod Places

@@ -43,16 +43,16 @@ abbrev pub process_declaring : Program → Span → Option Process
 process_declaring t at = find (declares at) (processes_of t.declarations.items)
 
 -- the process whose body has a part at this place
-abbrev pub uses : Span → Process → Bool
-uses at p = is_some (body_use p at)
+abbrev pub has_use : Span → Process → Bool
+has_use at p = is_some (body_use p at)
 
 abbrev pub process_using : Program → Span → Option Process
-process_using t at = find (uses at) (processes_of t.declarations.items)
+process_using t at = find (has_use at) (processes_of t.declarations.items)
 
 -- the names of a process, or those of the program where there is none, of the sort that is asked for
-abbrev pub names_of : Option Sort → Program → Option Process → List Name
-names_of asked t None = program_names asked t
-names_of asked t (Some p) = process_names asked p
+abbrev pub names_seen : Option Sort → Program → Option Process → List Name
+names_seen asked t None = program_names asked t
+names_seen asked t (Some p) = process_names asked p
 
 -- the name of an argument, where it hands the channel of these letters over in a direction
 abbrev pub passed_if : Direction → List ℕ → Taking → Argument → Option Name

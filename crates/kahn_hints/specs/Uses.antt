@@ -2,6 +2,7 @@
 use Rattle.std.specs.Prelude.{Bool, ◌&&◌, List, [], ◌∷◌, Option, Some, None, if◌then◌else◌, nat_eq}
 use Rattle.std.specs.Option.{option_or}
 use Rattle.kahn_tree.specs.declared.span.Span.{Span}
+use Rattle.kahn_tree.specs.declared.tree.Name.{Name}
 use Rattle.kahn_tree.specs.declared.tree.Kind.TheVariants as K
 use Rattle.kahn_tree.specs.declared.tree.Form.{Form, Number, Logical, Variable, Wait, Negate', Not', Bracket', Level', Conditional', Row_of-Operand, end_of-Operand, more_of-Operand}
 use Rattle.kahn_tree.specs.declared.tree.Expression.{Expression}
@@ -49,11 +50,15 @@ abbrev mutual
 abbrev pub expression_use : Scope → Span → Expression → Option Use
 expression_use s at e = or_inside s at e.span e.form (use_inside s at e.form)
 
+-- a name, or inside an expression
+abbrev pub named_use : Scope → Span → Name → Use → Expression → Option Use
+named_use s at x u e = if same_span x.span at then Some u else expression_use s at e
+
 abbrev mutual
   pub statement_use : Scope → Span → Action → Option Use
   statement_use s at Empty = None
-  statement_use s at (Assign x e) = if same_span x.span at then Some use_as.Assigned else expression_use s at e
-  statement_use s at (Send e q) = if same_span q.span at then Some use_as.Sent else expression_use s at e
+  statement_use s at (Assign x e) = named_use s at x use_as.Assigned e
+  statement_use s at (Send e q) = named_use s at q use_as.Sent e
   statement_use s at (Print e) = expression_use s at e
   statement_use s at (Block' shape row) = row_use s at row
   statement_use s at (If' t p span a b) = option_or (expression_use s at t) (option_or (statement_use s at a) (else_use s at b))

@@ -10,14 +10,14 @@ ghost use Rattle.kahn_check.specs.Faults.{find, kind_in, kind_of};
 use kahn_tree::{Expression, Form, Kind, Name, Operator, Process, Taking};
 
 /// Whether two words have the same letters.
-pub fn same_bytes(first: &[u8], second: &[u8]) -> bool
+pub(crate) fn same_bytes(first: &[u8], second: &[u8]) -> bool
     ensures { result ≡ bytes_eq first.now second.now }
 {
     first == second
 }
 
 /// What a name stands for in a process: the first of its parameters and variables that is called so.
-pub fn taking_of(process: &Process, name: &Name) -> Option<Taking>
+pub(crate) fn taking_of(process: &Process, name: &Name) -> Option<Taking>
     ensures { result ≡ find (scope_of process.now) (bytes_of name.now) }
 {
     let word = name.text.as_bytes();
@@ -67,7 +67,7 @@ fn gives(operator: Operator) -> Kind
 }
 
 /// The kind of an expression that has no fault inside.
-pub fn kind_of(process: &Process, expression: &Expression) -> Kind
+pub(crate) fn kind_of(process: &Process, expression: &Expression) -> Kind
     ensures { result ≡ kind_of (scope_of process.now) expression.now.form }
 {
     match &expression.form {

@@ -2,6 +2,7 @@
 //! what is found.
 #![tactic(auto)]
 
+mod hint;
 mod kinds;
 mod names;
 mod near;
@@ -9,7 +10,4 @@ mod places;
 mod uses;
 
 // For the crates above.
-pub use names::{process_names, program_names};
-pub use near::nearest;
-pub use places::{called_first, names_of, passed, process_declaring, process_using, word_at};
-pub use uses::{body_use, instances_use};
+pub use hint::check_note;

@@ -8,7 +8,7 @@ use std::alloc::{AllocError, Global};
 
 /// What a name stands for.
 #[derive(Clone, Copy)]
-pub enum Sort {
+pub(crate) enum Sort {
     /// A variable, or a parameter that takes a value.
     Value,
     /// A channel, or a parameter that takes one.
@@ -79,7 +79,7 @@ fn keep_variable<'p>(
 }
 
 /// The names that a process declares, of the sort that is asked for: its parameters first and then its variables.
-pub fn process_names<'p>(
+pub(crate) fn process_names<'p>(
     alloc: Global,
     process: &'p Process,
     asked: Option<Sort>,
@@ -116,7 +116,7 @@ fn add_globals<'p>(
 }
 
 /// The names that a program declares, of the sort that is asked for, in order.
-pub fn program_names<'p>(
+pub(crate) fn program_names<'p>(
     alloc: Global,
     program: &'p Program,
     asked: Option<Sort>,

@@ -3,7 +3,7 @@
 ghost use Rattle.std.specs.Prelude.{◌≡◌, IfOk, map, option_map};
 ghost use Rattle.std.specs.List.{find};
 ghost use Rattle.kahn_network.specs.Wiring.{processes_of, same_direction};
-ghost use Rattle.kahn_hints.specs.Places.{called_first, declares, is_called, names_of, passed, passed_by, passed_if, passed_in, process_called, process_declaring, process_using, uses, word_at};
+ghost use Rattle.kahn_hints.specs.Places.{called_first, declares, is_called, names_seen, passed, passed_by, passed_if, passed_in, process_called, process_declaring, process_using, has_use, word_at};
 
 use crate::kinds::same_bytes;
 use crate::names::{Sort, process_names, program_names};
@@ -14,7 +14,7 @@ use kahn_tree::{
 use std::alloc::{AllocError, Global};
 
 /// The letters at a place of a text; none where it isn't within the text.
-pub fn word_at(text: &str, at: Span) -> &[u8]
+pub(crate) fn word_at(text: &str, at: Span) -> &[u8]
     ensures { result.now ≡ word_at text.now at }
 {
     match text.as_bytes().get(at.from..at.to) {
@@ -31,7 +31,7 @@ fn is_called(word: &[u8], name: &Name) -> bool
 }
 
 /// The first of the names with these letters.
-pub fn called_first<'p>(word: &[u8], names: &[&'p Name]) -> Option<&'p Name>
+pub(crate) fn called_first<'p>(word: &[u8], names: &[&'p Name]) -> Option<&'p Name>
     ensures { option_map (λ n. n.now) result ≡ called_first word.now (map (λ n. n.now) names.now) }
 {
     for name in names {
@@ -43,7 +43,7 @@ pub fn called_first<'p>(word: &[u8], names: &[&'p Name]) -> Option<&'p Name>
 }
 
 /// The first process that a program declares under these letters.
-pub fn process_called<'p>(program: &'p Program, word: &[u8]) -> Option<&'p Process>
+pub(crate) fn process_called<'p>(program: &'p Program, word: &[u8]) -> Option<&'p Process>
     ensures { option_map (λ p. p.now) result ≡ process_called program.now word.now }
 {
     for declaration in &program.declarations {
@@ -74,7 +74,7 @@ fn declares(at: Span, process: &Process) -> bool
 }
 
 /// The process that declares a name at this place.
-pub fn process_declaring(program: &Program, at: Span) -> Option<&Process>
+pub(crate) fn process_declaring(program: &Program, at: Span) -> Option<&Process>
     ensures { option_map (λ p. p.now) result ≡ process_declaring program.now at }
 {
     for declaration in &program.declarations {
@@ -88,19 +88,19 @@ pub fn process_declaring(program: &Program, at: Span) -> Option<&Process>
 }
 
 /// Whether the body of a process has a part at this place.
-fn uses(at: Span, process: &Process) -> bool
-    ensures { result ≡ uses at process.now }
+fn has_use(at: Span, process: &Process) -> bool
+    ensures { result ≡ has_use at process.now }
 {
     body_use(process, at).is_some()
 }
 
 /// The process whose body has a part at this place.
-pub fn process_using(program: &Program, at: Span) -> Option<&Process>
+pub(crate) fn process_using(program: &Program, at: Span) -> Option<&Process>
     ensures { option_map (λ p. p.now) result ≡ process_using program.now at }
 {
     for declaration in &program.declarations {
         if let Declaration::Process(process) = declaration {
-            if uses(at, process) {
+            if has_use(at, process) {
                 return Some(process);
             }
         }
@@ -109,13 +109,13 @@ pub fn process_using(program: &Program, at: Span) -> Option<&Process>
 }
 
 /// The names of a process, or those of the program where there is none, of the sort that is asked for.
-pub fn names_of<'p>(
+pub(crate) fn names_seen<'p>(
     alloc: Global,
     program: &'p Program,
     process: Option<&'p Process>,
     asked: Option<Sort>,
 ) -> Result<Vec<&'p Name>, AllocError>
-    ensures { IfOk result (λ names. map (λ n. n.now) names.items ≡ names_of asked program.now (option_map (λ p. p.now) process.entry)) }
+    ensures { IfOk result (λ names. map (λ n. n.now) names.items ≡ names_seen asked program.now (option_map (λ p. p.now) process.entry)) }
 {
     match process {
         Some(process) => process_names(alloc, process, asked),
@@ -191,7 +191,11 @@ fn passed_by<'p>(
 }
 
 /// The first argument of all that hands the channel of these letters over in a direction.
-pub fn passed<'p>(program: &'p Program, direction: Direction, word: &[u8]) -> Option<&'p Name>
+pub(crate) fn passed<'p>(
+    program: &'p Program,
+    direction: Direction,
+    word: &[u8],
+) -> Option<&'p Name>
     ensures { option_map (λ n. n.now) result ≡ passed program.now direction word.now }
 {
     for instance in &program.instances {

@@ -1,4 +1,4 @@
-use Rattle.std.proofs.Common.{rules, arith, ◌≡◌, ◌∙◌, sym, ap, [], drop}
+use Rattle.std.proofs.Common.{arith, ◌≡◌, ◌∙◌, sym, ap, [], drop}
 use Rattle.std.proofs.lemmas.Grind.{common_steps}
 use Rattle.kahn_hints.specs.Places.{passed_in}
 use Rattle.kahn_hints.proofs.Rows.{none_passed}
