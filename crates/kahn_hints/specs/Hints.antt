@@ -4,6 +4,7 @@ use Rattle.std.specs.List.{concat, find}
 use Rattle.kahn_tree.specs.View.{bytes_of}
 use Rattle.kahn_tree.specs.declared.span.Span.{Span}
 use Rattle.kahn_tree.specs.declared.tree.Name.{Name}
+use Rattle.kahn_tree.specs.declared.tree.Kind.{Kind}
 use Rattle.kahn_tree.specs.declared.tree.Kind.TheVariants as K
 use Rattle.kahn_tree.specs.declared.tree.Direction.{Direction}
 use Rattle.kahn_tree.specs.declared.tree.Direction.TheVariants.{In, Out}
@@ -21,13 +22,14 @@ use Rattle.kahn_hints.specs.declared.uses.Use.{Use}
 use Rattle.kahn_hints.specs.declared.uses.Use.TheVariants as use_as
 use Rattle.kahn_hints.specs.Names.{program_names}
 use Rattle.kahn_hints.specs.Near.{nearest}
-use Rattle.kahn_hints.specs.Places.{called_first, names_seen, passed, process_called, process_declaring, process_using, word_at}
+use Rattle.kahn_hints.specs.Places.{called_first, channel_kind, names_seen, passed, process_called, process_declaring, process_using, word_at}
 use Rattle.kahn_hints.specs.Uses.{body_use, instances_use, same_span}
 
 -- what is said of another place
 abbrev pub reason_words : Reason → List ℕ
 reason_words reason.DeclaredFirst = codes "declared here first"
 reason_words reason.Declared = codes "declared here"
+reason_words reason.NoProcess = codes "declared here, and not as a process"
 reason_words reason.WrittenFirst = codes "handed over here first, to be written"
 reason_words reason.ReadFirst = codes "handed over here first, to be read"
 reason_words reason.Input = codes "declared here as an input, which is written from outside"
@@ -59,8 +61,8 @@ place_as r None = None
 place_as r (Some n) = Some (n.span, r)
 
 -- the first of the names in sight at a place with the letters that stand there
-abbrev pub declared_here : List ℕ → Program → Span → Option (Span × Reason)
-declared_here text t at = place_as reason.Declared (called_first (word_at text at) (names_seen None t (process_using t at)))
+abbrev pub declared_here : List ℕ → Program → Span → Reason → Option (Span × Reason)
+declared_here text t at r = place_as r (called_first (word_at text at) (names_seen None t (process_using t at)))
 
 -- the first of the names that are declared beside the one at a place, with the same letters
 abbrev pub declared_first : List ℕ → Program → Span → Option (Span × Reason)
@@ -89,14 +91,14 @@ taken_before text t d at = before_or_declared (passed t d (word_at text at)) t d
 -- another place that has to do with a fault, and why
 abbrev pub second_place : List ℕ → Program → CheckFault → Option (Span × Reason)
 second_place text t (checked.DeclaredTwice at) = declared_first text t at
-second_place text t (checked.WrongKind at) = declared_here text t at
-second_place text t (checked.WrongCount at) = declared_here text t at
-second_place text t (checked.ChannelExpected at) = declared_here text t at
-second_place text t (checked.ValueExpected at) = declared_here text t at
-second_place text t (checked.WrongDirection at) = declared_here text t at
+second_place text t (checked.WrongKind at) = declared_here text t at reason.Declared
+second_place text t (checked.WrongCount at) = declared_here text t at reason.Declared
+second_place text t (checked.ChannelExpected at) = declared_here text t at reason.Declared
+second_place text t (checked.ValueExpected at) = declared_here text t at reason.Declared
+second_place text t (checked.WrongDirection at) = declared_here text t at reason.Declared
 second_place text t (checked.TwoWriters at) = taken_before text t Out at
 second_place text t (checked.TwoReaders at) = taken_before text t In at
-second_place text t (checked.Unknown at) = None
+second_place text t (checked.Unknown at) = declared_here text t at reason.NoProcess
 second_place text t (checked.NoWriter at) = None
 second_place text t (checked.NoReader at) = None
 second_place text t (checked.TooMany at) = None
@@ -130,11 +132,20 @@ abbrev pub count_words : Program → Option Instance → List ℕ
 count_words t None = []
 count_words t (Some i) = counted_for (process_called t (bytes_of i.process)) i
 
--- the kind that is wanted and the one that is found: of two kinds the one is wanted where the other is at fault
-abbrev pub kind_words : Option Use → List ℕ
-kind_words (Some (use_as.Expression K.Integer)) = codes ": wanted logical, found integer"
-kind_words (Some (use_as.Expression K.Logical)) = codes ": wanted integer, found logical"
-kind_words _ = []
+-- the kind of what stands at a place: of an expression, or of the channel that is handed over
+abbrev pub kind_if : List ℕ → Program → Span → Option Use → Option Kind
+kind_if text t at (Some (use_as.Expression k)) = Some k
+kind_if text t at (Some use_as.Handed) = channel_kind t (word_at text at)
+kind_if text t at _ = None
+
+abbrev pub found_kind : List ℕ → Program → Span → Option Kind
+found_kind text t at = kind_if text t at (use_at t at)
+
+-- the kind that is wanted and the one that is found: where one of the two kinds is at fault, the other is wanted
+abbrev pub kind_words : Option Kind → List ℕ
+kind_words (Some K.Integer) = codes ": wanted logical, found integer"
+kind_words (Some K.Logical) = codes ": wanted integer, found logical"
+kind_words None = []
 
 abbrev pub direction_words : Option Use → List ℕ
 direction_words (Some use_as.Waited) = codes ": wanted `in`, found `out`"
@@ -158,7 +169,7 @@ value_words _ = []
 abbrev pub tail_of : List ℕ → Program → CheckFault → List ℕ
 tail_of text t (checked.Unknown at) = near_words (told_near text t at)
 tail_of text t (checked.WrongCount at) = count_words t (named_instance t at)
-tail_of text t (checked.WrongKind at) = kind_words (use_at t at)
+tail_of text t (checked.WrongKind at) = kind_words (found_kind text t at)
 tail_of text t (checked.WrongDirection at) = direction_words (use_at t at)
 tail_of text t (checked.ChannelExpected at) = channel_words (use_at t at)
 tail_of text t (checked.ValueExpected at) = value_words (use_at t at)

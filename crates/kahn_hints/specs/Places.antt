@@ -6,6 +6,9 @@ use Rattle.std.proofs.Common.{bytes_eq}
 use Rattle.kahn_tree.specs.View.{bytes_of}
 use Rattle.kahn_tree.specs.declared.span.Span.{Span}
 use Rattle.kahn_tree.specs.declared.tree.Name.{Name}
+use Rattle.kahn_tree.specs.declared.tree.Kind.{Kind}
+use Rattle.kahn_tree.specs.declared.tree.Declaration.{Declaration}
+use Rattle.kahn_tree.specs.declared.tree.Declaration.TheVariants as D
 use Rattle.kahn_tree.specs.declared.tree.Direction.{Direction}
 use Rattle.kahn_tree.specs.declared.tree.Taking.{Taking}
 use Rattle.kahn_tree.specs.declared.tree.Taking.TheVariants as T
@@ -53,6 +56,15 @@ process_using t at = find (has_use at) (processes_of t.declarations.items)
 abbrev pub names_seen : Option Sort → Program → Option Process → List Name
 names_seen asked t None = program_names asked t
 names_seen asked t (Some p) = process_names asked p
+
+-- the kind of the channel that a program declares under these letters
+abbrev pub declared_kind : List ℕ → List Declaration → Option Kind
+declared_kind word [] = None
+declared_kind word (D.Channels kind role names ∷ rest) = if list_any (is_called word) names.items then Some kind else declared_kind word rest
+declared_kind word (D.Process p ∷ rest) = declared_kind word rest
+
+abbrev pub channel_kind : Program → List ℕ → Option Kind
+channel_kind t word = declared_kind word t.declarations.items
 
 -- the name of an argument, where it hands the channel of these letters over in a direction
 abbrev pub passed_if : Direction → List ℕ → Taking → Argument → Option Name

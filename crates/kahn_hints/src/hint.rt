@@ -2,12 +2,13 @@
 
 ghost use Rattle.std.specs.Prelude.{◌≡◌, ◌++◌, IfOk, option_map, string_bytes};
 ghost use Rattle.std.specs.List.{find};
-ghost use Rattle.kahn_hints.specs.Hints.{asked_sort, channel_words, check_note, closed_reason, count_words, counted_words, declared_first, declared_here, declared_role, direction_words, first_reason, named_instance, kind_words, meant_words, near_words, second_place, second_text, reason_words, taken_before, tail_of, told_near, use_at, value_words};
+ghost use Rattle.kahn_hints.specs.Hints.{asked_sort, channel_words, check_note, closed_reason, count_words, counted_words, declared_first, declared_here, declared_role, direction_words, first_reason, found_kind, kind_words, named_instance, meant_words, near_words, second_place, second_text, reason_words, taken_before, tail_of, told_near, use_at, value_words};
 
 use crate::names::{Sort, program_names};
 use crate::near::nearest;
 use crate::places::{
-    called_first, names_seen, passed, process_called, process_declaring, process_using, word_at,
+    called_first, channel_kind, names_seen, passed, process_called, process_declaring,
+    process_using, word_at,
 };
 use crate::uses::{Use, body_use, instances_use, same_span};
 use itoa::Buffer;
@@ -23,6 +24,8 @@ pub(crate) enum Reason {
     DeclaredFirst,
     /// The name at fault is declared there.
     Declared,
+    /// The name at fault is declared there, and isn't that of a process.
+    NoProcess,
     /// The channel is handed over there first, to be written.
     WrittenFirst,
     /// The same, to be read.
@@ -40,6 +43,7 @@ fn reason_words(reason: Reason) -> &'static str
     match reason {
         Reason::DeclaredFirst => "declared here first",
         Reason::Declared => "declared here",
+        Reason::NoProcess => "declared here, and not as a process",
         Reason::WrittenFirst => "handed over here first, to be written",
         Reason::ReadFirst => "handed over here first, to be read",
         Reason::Input => "declared here as an input, which is written from outside",
@@ -78,12 +82,13 @@ fn declared_here(
     text: &str,
     program: &Program,
     at: Span,
+    reason: Reason,
 ) -> Result<Option<(Span, Reason)>, AllocError>
-    ensures { IfOk result (λ place. place ≡ declared_here text.now program.now at) }
+    ensures { IfOk result (λ place. place ≡ declared_here text.now program.now at reason) }
 {
     let names = names_seen(alloc, program, process_using(program, at), None)?;
     let place = match called_first(word_at(text, at), &names) {
-        Some(name) => Some((name.span, Reason::Declared)),
+        Some(name) => Some((name.span, reason)),
         None => None,
     };
     Ok(place)
@@ -174,14 +179,20 @@ fn second_place(
 {
     match fault {
         CheckFault::DeclaredTwice(at) => declared_first(alloc, text, program, at),
-        CheckFault::WrongKind(at) => declared_here(alloc, text, program, at),
-        CheckFault::WrongCount(at) => declared_here(alloc, text, program, at),
-        CheckFault::ChannelExpected(at) => declared_here(alloc, text, program, at),
-        CheckFault::ValueExpected(at) => declared_here(alloc, text, program, at),
-        CheckFault::WrongDirection(at) => declared_here(alloc, text, program, at),
+        CheckFault::WrongKind(at) => declared_here(alloc, text, program, at, Reason::Declared),
+        CheckFault::WrongCount(at) => declared_here(alloc, text, program, at, Reason::Declared),
+        CheckFault::ChannelExpected(at) => declared_here(
+            alloc,
+            text,
+            program,
+            at,
+            Reason::Declared,
+        ),
+        CheckFault::ValueExpected(at) => declared_here(alloc, text, program, at, Reason::Declared),
+        CheckFault::WrongDirection(at) => declared_here(alloc, text, program, at, Reason::Declared),
         CheckFault::TwoWriters(at) => taken_before(alloc, text, program, Direction::Out, at),
         CheckFault::TwoReaders(at) => taken_before(alloc, text, program, Direction::In, at),
-        CheckFault::Unknown(_) => Ok(None),
+        CheckFault::Unknown(at) => declared_here(alloc, text, program, at, Reason::NoProcess),
         CheckFault::NoWriter(_) => Ok(None),
         CheckFault::NoReader(_) => Ok(None),
         CheckFault::TooMany(_) => Ok(None),
@@ -256,14 +267,25 @@ fn add_count(words: &mut String, program: &Program, at: Span) -> Result<(), Allo
     }
 }
 
+/// The kind of what stands at a place: of an expression, or of the channel that is handed over.
+fn found_kind(text: &str, program: &Program, at: Span) -> Option<Kind>
+    ensures { result ≡ found_kind text.now program.now at }
+{
+    match use_at(program, at) {
+        Some(Use::Expression(kind)) => Some(kind),
+        Some(Use::Handed) => channel_kind(program, word_at(text, at)),
+        _ => None,
+    }
+}
+
 /// The kind that is wanted and the one that is found.
-fn kind_words(found: Option<Use>) -> &'static str
+fn kind_words(found: Option<Kind>) -> &'static str
     ensures { result.now ≡ kind_words found }
 {
     match found {
-        Some(Use::Expression(Kind::Integer)) => ": wanted logical, found integer",
-        Some(Use::Expression(Kind::Logical)) => ": wanted integer, found logical",
-        _ => "",
+        Some(Kind::Integer) => ": wanted logical, found integer",
+        Some(Kind::Logical) => ": wanted integer, found logical",
+        None => "",
     }
 }
 
@@ -316,7 +338,7 @@ fn add_tail(
     match fault {
         CheckFault::Unknown(at) => add_near(words, told_near(alloc, text, program, at)?),
         CheckFault::WrongCount(at) => add_count(words, program, at),
-        CheckFault::WrongKind(at) => words.push_str(kind_words(use_at(program, at))),
+        CheckFault::WrongKind(at) => words.push_str(kind_words(found_kind(text, program, at))),
         CheckFault::WrongDirection(at) => words.push_str(direction_words(use_at(program, at))),
         CheckFault::ChannelExpected(at) => words.push_str(channel_words(use_at(program, at))),
         CheckFault::ValueExpected(at) => words.push_str(value_words(use_at(program, at))),

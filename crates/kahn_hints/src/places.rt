@@ -1,15 +1,16 @@
 //! Where the names of a program are declared and handed over.
 
 ghost use Rattle.std.specs.Prelude.{◌≡◌, IfOk, map, option_map};
-ghost use Rattle.std.specs.List.{find};
+ghost use Rattle.std.specs.List.{find, list_any};
 ghost use Rattle.kahn_network.specs.Wiring.{processes_of, same_direction};
-ghost use Rattle.kahn_hints.specs.Places.{called_first, declares, is_called, names_seen, passed, passed_by, passed_if, passed_in, process_called, process_declaring, process_using, has_use, word_at};
+ghost use Rattle.kahn_hints.specs.Places.{called_first, channel_kind, declares, is_called, names_seen, passed, passed_by, passed_if, passed_in, process_called, process_declaring, process_using, has_use, word_at};
 
 use crate::kinds::same_bytes;
 use crate::names::{Sort, process_names, program_names};
 use crate::uses::{body_use, same_span};
 use kahn_tree::{
-    Argument, Declaration, Direction, Instance, Name, Parameter, Process, Program, Span, Taking,
+    Argument, Declaration, Direction, Instance, Kind, Name, Parameter, Process, Program, Span,
+    Taking,
 };
 use std::alloc::{AllocError, Global};
 
@@ -121,6 +122,32 @@ pub(crate) fn names_seen<'p>(
         Some(process) => process_names(alloc, process, asked),
         None => program_names(alloc, program, asked),
     }
+}
+
+/// Whether one of the names has these letters.
+fn is_among(word: &[u8], names: &[Name]) -> bool
+    ensures { result ≡ list_any (is_called word.now) names.now }
+{
+    for name in names {
+        if is_called(word, name) {
+            return true;
+        }
+    }
+    false
+}
+
+/// The kind of the channel that a program declares under these letters.
+pub(crate) fn channel_kind(program: &Program, word: &[u8]) -> Option<Kind>
+    ensures { result ≡ channel_kind program.now word.now }
+{
+    for declaration in &program.declarations {
+        if let Declaration::Channels(kind, _, names) = declaration {
+            if is_among(word, names) {
+                return Some(*kind);
+            }
+        }
+    }
+    None
 }
 
 /// Whether two directions are the same.
