@@ -9,5 +9,7 @@ mod near;
 mod places;
 mod uses;
 
+pub use near::one_nearest;
+
 // For the crates above.
 pub use hint::check_note;
