@@ -30,6 +30,7 @@ abbrev pub reason_words : Reason → List ℕ
 reason_words reason.DeclaredFirst = codes "declared here first"
 reason_words reason.Declared = codes "declared here"
 reason_words reason.NoProcess = codes "declared here, and not as a process"
+reason_words reason.Outside = codes "declared here, outside of the process, which sees its own names alone"
 reason_words reason.WrittenFirst = codes "handed over here first, to be written"
 reason_words reason.ReadFirst = codes "handed over here first, to be read"
 reason_words reason.Input = codes "declared here as an input, which is written from outside"
@@ -61,8 +62,16 @@ place_as r None = None
 place_as r (Some n) = Some (n.span, r)
 
 -- the first of the names in sight at a place with the letters that stand there
-abbrev pub declared_here : List ℕ → Program → Span → Reason → Option (Span × Reason)
-declared_here text t at r = place_as r (called_first (word_at text at) (names_seen None t (process_using t at)))
+abbrev pub declared_here : List ℕ → Program → Span → Option (Span × Reason)
+declared_here text t at = place_as reason.Declared (called_first (word_at text at) (names_seen None t (process_using t at)))
+
+-- the first of the names of the program with those letters, where it may not stand: in a body, or in the instances
+abbrev pub outside_reason : Option Process → Reason
+outside_reason (Some p) = reason.Outside
+outside_reason None = reason.NoProcess
+
+abbrev pub declared_outside : List ℕ → Program → Span → Option (Span × Reason)
+declared_outside text t at = place_as (outside_reason (process_using t at)) (called_first (word_at text at) (program_names None t))
 
 -- the first of the names that are declared beside the one at a place, with the same letters
 abbrev pub declared_first : List ℕ → Program → Span → Option (Span × Reason)
@@ -91,14 +100,14 @@ taken_before text t d at = before_or_declared (passed t d (word_at text at)) t d
 -- another place that has to do with a fault, and why
 abbrev pub second_place : List ℕ → Program → CheckFault → Option (Span × Reason)
 second_place text t (checked.DeclaredTwice at) = declared_first text t at
-second_place text t (checked.WrongKind at) = declared_here text t at reason.Declared
-second_place text t (checked.WrongCount at) = declared_here text t at reason.Declared
-second_place text t (checked.ChannelExpected at) = declared_here text t at reason.Declared
-second_place text t (checked.ValueExpected at) = declared_here text t at reason.Declared
-second_place text t (checked.WrongDirection at) = declared_here text t at reason.Declared
+second_place text t (checked.WrongKind at) = declared_here text t at
+second_place text t (checked.WrongCount at) = declared_here text t at
+second_place text t (checked.ChannelExpected at) = declared_here text t at
+second_place text t (checked.ValueExpected at) = declared_here text t at
+second_place text t (checked.WrongDirection at) = declared_here text t at
 second_place text t (checked.TwoWriters at) = taken_before text t Out at
 second_place text t (checked.TwoReaders at) = taken_before text t In at
-second_place text t (checked.Unknown at) = declared_here text t at reason.NoProcess
+second_place text t (checked.Unknown at) = declared_outside text t at
 second_place text t (checked.NoWriter at) = None
 second_place text t (checked.NoReader at) = None
 second_place text t (checked.TooMany at) = None

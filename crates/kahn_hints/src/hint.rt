@@ -2,7 +2,7 @@
 
 ghost use Rattle.std.specs.Prelude.{◌≡◌, ◌++◌, IfOk, option_map, string_bytes};
 ghost use Rattle.std.specs.List.{find};
-ghost use Rattle.kahn_hints.specs.Hints.{asked_sort, channel_words, check_note, closed_reason, count_words, counted_words, declared_first, declared_here, declared_role, direction_words, first_reason, found_kind, kind_words, named_instance, meant_words, near_words, second_place, second_text, reason_words, taken_before, tail_of, told_near, use_at, value_words};
+ghost use Rattle.kahn_hints.specs.Hints.{asked_sort, channel_words, check_note, closed_reason, count_words, counted_words, declared_first, declared_here, declared_outside, declared_role, direction_words, first_reason, found_kind, kind_words, named_instance, meant_words, near_words, outside_reason, second_place, second_text, reason_words, taken_before, tail_of, told_near, use_at, value_words};
 
 use crate::names::{Sort, program_names};
 use crate::near::nearest;
@@ -26,6 +26,8 @@ pub(crate) enum Reason {
     Declared,
     /// The name at fault is declared there, and isn't that of a process.
     NoProcess,
+    /// The name at fault is declared there, and the body of a process doesn't see it.
+    Outside,
     /// The channel is handed over there first, to be written.
     WrittenFirst,
     /// The same, to be read.
@@ -44,6 +46,7 @@ fn reason_words(reason: Reason) -> &'static str
         Reason::DeclaredFirst => "declared here first",
         Reason::Declared => "declared here",
         Reason::NoProcess => "declared here, and not as a process",
+        Reason::Outside => "declared here, outside of the process, which sees its own names alone",
         Reason::WrittenFirst => "handed over here first, to be written",
         Reason::ReadFirst => "handed over here first, to be read",
         Reason::Input => "declared here as an input, which is written from outside",
@@ -82,13 +85,39 @@ fn declared_here(
     text: &str,
     program: &Program,
     at: Span,
-    reason: Reason,
 ) -> Result<Option<(Span, Reason)>, AllocError>
-    ensures { IfOk result (λ place. place ≡ declared_here text.now program.now at reason) }
+    ensures { IfOk result (λ place. place ≡ declared_here text.now program.now at) }
 {
     let names = names_seen(alloc, program, process_using(program, at), None)?;
     let place = match called_first(word_at(text, at), &names) {
-        Some(name) => Some((name.span, reason)),
+        Some(name) => Some((name.span, Reason::Declared)),
+        None => None,
+    };
+    Ok(place)
+}
+
+/// Why the place is told where a name is declared that may not stand at another one: in a body, or in the instances.
+fn outside_reason(process: Option<&Process>) -> Reason
+    ensures { result ≡ outside_reason (option_map (λ p. p.now) process.entry) }
+{
+    match process {
+        Some(_) => Reason::Outside,
+        None => Reason::NoProcess,
+    }
+}
+
+/// The first of the names of the program with the letters at a place, where it may not stand.
+fn declared_outside(
+    alloc: Global,
+    text: &str,
+    program: &Program,
+    at: Span,
+) -> Result<Option<(Span, Reason)>, AllocError>
+    ensures { IfOk result (λ place. place ≡ declared_outside text.now program.now at) }
+{
+    let names = program_names(alloc, program, None)?;
+    let place = match called_first(word_at(text, at), &names) {
+        Some(name) => Some((name.span, outside_reason(process_using(program, at)))),
         None => None,
     };
     Ok(place)
@@ -179,20 +208,14 @@ fn second_place(
 {
     match fault {
         CheckFault::DeclaredTwice(at) => declared_first(alloc, text, program, at),
-        CheckFault::WrongKind(at) => declared_here(alloc, text, program, at, Reason::Declared),
-        CheckFault::WrongCount(at) => declared_here(alloc, text, program, at, Reason::Declared),
-        CheckFault::ChannelExpected(at) => declared_here(
-            alloc,
-            text,
-            program,
-            at,
-            Reason::Declared,
-        ),
-        CheckFault::ValueExpected(at) => declared_here(alloc, text, program, at, Reason::Declared),
-        CheckFault::WrongDirection(at) => declared_here(alloc, text, program, at, Reason::Declared),
+        CheckFault::WrongKind(at) => declared_here(alloc, text, program, at),
+        CheckFault::WrongCount(at) => declared_here(alloc, text, program, at),
+        CheckFault::ChannelExpected(at) => declared_here(alloc, text, program, at),
+        CheckFault::ValueExpected(at) => declared_here(alloc, text, program, at),
+        CheckFault::WrongDirection(at) => declared_here(alloc, text, program, at),
         CheckFault::TwoWriters(at) => taken_before(alloc, text, program, Direction::Out, at),
         CheckFault::TwoReaders(at) => taken_before(alloc, text, program, Direction::In, at),
-        CheckFault::Unknown(at) => declared_here(alloc, text, program, at, Reason::NoProcess),
+        CheckFault::Unknown(at) => declared_outside(alloc, text, program, at),
         CheckFault::NoWriter(_) => Ok(None),
         CheckFault::NoReader(_) => Ok(None),
         CheckFault::TooMany(_) => Ok(None),
