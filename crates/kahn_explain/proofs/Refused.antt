@@ -4,14 +4,17 @@ use Rattle.std.specs.Prelude.{MatchOption, option_map}
 use Rattle.std.specs.declared.alloc.Global.{Global}
 use Rattle.std.specs.declared.string.String.{String}
 use Rattle.kahn_tree.specs.declared.span.Span.{Span}
+use Rattle.kahn_tree.specs.declared.tree.Program.{Program}
+use Rattle.kahn_check.specs.declared.fault.CheckFault.{CheckFault}
 use Rattle.kahn_syntax.specs.declared.fault.What.{What}
 use Rattle.kahn_syntax.specs.declared.fault.SyntaxFault.{SyntaxFault}
 use Rattle.kahn_syntax.specs.declared.fault.SyntaxFault.TheVariants.{Expected}
-use Rattle.kahn_syntax.specs.Texts.{IsTextFault}
-use Rattle.kahn_fault.specs.Message.{syntax_span, syntax_words}
+use Rattle.kahn_syntax.specs.Texts.{IsProgram, IsTextFault}
+use Rattle.kahn_fault.specs.Message.{check_span, check_words, syntax_span, syntax_words}
+use Rattle.kahn_hints.specs.Hints.{check_note}
 use Rattle.kahn_marks.specs.Marks.{marked}
 use Rattle.kahn_notes.specs.Notes.{IsNote}
-use Rattle.kahn_explain.specs.Refusing.{IsSyntaxRefusal, expected_of}
+use Rattle.kahn_explain.specs.Refusing.{IsCheckRefusal, IsSyntaxRefusal, expected_of}
 
 abbrev unwrapped : Span × What → Option (Span × What) → Span × What
 unwrapped d None = d
@@ -37,3 +40,11 @@ told_other path program words f place note e at said h =
     subst (λ o. MatchOption o (option_map string_bytes note ≡ option_map (λ s. marked path program s (syntax_words f)) (syntax_span f))
     (λ p. (w : String Global) × (note ≡ Some w) × IsNote path program p.0 p.1 w)) (sym e)
     (h ∙ ap (λ l. option_map (λ s. marked path program s l) place) said ∙ ap (option_map (λ s. marked path program s (syntax_words f))) at)
+
+-- what is said of a fault of the network
+pub told_network : (path program said : List ℕ) (f : CheckFault) (span : Span) (t : Program) (words : String Global) → check_span f ≡ Some span → said ≡ check_words f →
+    IsProgram program t → string_bytes words ≡ check_note path program t f span said → IsCheckRefusal path program f (Some words)
+told_network path program said f span t words at same spelled is =
+    subst (λ o. MatchOption o (Some words ≡ None) (λ s. (u : Program) × (w : String Global) × IsProgram program u × (Some words ≡ Some w) × (string_bytes w ≡ check_note path program u f s (check_words f))))
+    (sym at)
+    (t, words, spelled, refl, is ∙ ap (check_note path program t f span) same)

@@ -3,13 +3,16 @@ use Rattle.std.specs.Prelude.{◌≡◌, ℕ, List, Option, Some, None, MatchOpt
 use Rattle.std.specs.declared.alloc.Global.{Global}
 use Rattle.std.specs.declared.string.String.{String}
 use Rattle.kahn_tree.specs.declared.span.Span.{Span}
+use Rattle.kahn_tree.specs.declared.tree.Program.{Program}
 use Rattle.kahn_check.specs.declared.fault.CheckFault.{CheckFault}
 use Rattle.kahn_syntax.specs.declared.fault.What.{What}
 use Rattle.kahn_syntax.specs.declared.fault.SyntaxFault.{SyntaxFault}
 use Rattle.kahn_syntax.specs.declared.fault.SyntaxFault.TheVariants.{Expected}
 use Rattle.kahn_report.specs.declared.working.WorkFault.{WorkFault}
 use Rattle.kahn_report.specs.declared.working.WorkFault.TheVariants.{Syntax, Check, Text, Run, Write}
+use Rattle.kahn_syntax.specs.Texts.{IsProgram}
 use Rattle.kahn_fault.specs.Message.{check_span, check_words, syntax_span, syntax_words}
+use Rattle.kahn_hints.specs.Hints.{check_note}
 use Rattle.kahn_marks.specs.Marks.{marked}
 use Rattle.kahn_notes.specs.Notes.{IsNote}
 
@@ -24,8 +27,10 @@ IsSyntaxRefusal path program f note = MatchOption (expected_of f)
     (option_map string_bytes note ≡ option_map (λ span. marked path program span (syntax_words f)) (syntax_span f))
     (λ e. (words : String Global) × (note ≡ Some words) × IsNote path program e.0 e.1 words)
 
+-- of a fault of the network it says what the program that the text spells has to do with it, where the fault has a place
 abbrev pub IsCheckRefusal : List ℕ → List ℕ → CheckFault → Option (String Global) → Type 0
-IsCheckRefusal path program f note = option_map string_bytes note ≡ option_map (λ span. marked path program span (check_words f)) (check_span f)
+IsCheckRefusal path program f note = MatchOption (check_span f) (note ≡ None)
+    (λ span. (t : Program) × (words : String Global) × IsProgram program t × (note ≡ Some words) × (string_bytes words ≡ check_note path program t f span (check_words f)))
 
 -- the note on a fault, where it has a place
 abbrev pub IsRefusal : List ℕ → List ℕ → WorkFault → Option (String Global) → Type 0

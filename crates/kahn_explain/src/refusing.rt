@@ -8,10 +8,11 @@ ghost use Rattle.kahn_explain.specs.Refusing.{IsCheckRefusal, IsRefusal, IsSynta
 
 use kahn_check::CheckFault;
 use kahn_fault::{check_span, check_words, syntax_span, syntax_words};
+use kahn_hints::check_note;
 use kahn_marks::marked;
 use kahn_notes::unexpected_note;
 use kahn_report::WorkFault;
-use kahn_syntax::{SyntaxFault, What};
+use kahn_syntax::{SyntaxFault, What, parse};
 use kahn_tree::{NoMemory, Span};
 use std::alloc::{AllocError, Global};
 
@@ -73,8 +74,8 @@ fn syntax_note(
     }
 }
 
-/// The note on a fault of the network, where it has a place.
-fn check_note(
+/// The note on a fault of the network of a program text, where it has a place.
+fn network_note(
     alloc: Global,
     path: &str,
     program: &str,
@@ -82,12 +83,21 @@ fn check_note(
 ) -> Result<Option<String>, NoMemory>
     ensures { IfOk result (IsCheckRefusal path.now program.now fault) }
 {
-    let place = check_span(fault);
-    placed_note(alloc, path, program, place, check_words(fault))
+    let Some(span) = check_span(fault) else {
+        return Ok(None);
+    };
+    // A text that was checked is refused for want of memory alone.
+    let Ok(tree) = parse(alloc, program) else {
+        return Err(NoMemory);
+    };
+    let words = check_words(fault);
+    let note = check_note(alloc, path, program, &tree, fault, span, words)?;
+    Ok(Some(note))
 }
 
 /// The note on a fault of a program text, where it has a place: what stands there and what may stand there, or the words of
-/// the fault. It refuses only where memory was refused.
+/// the fault with what is wanted and what is found, the nearest name, and another place that has to do with it. It refuses
+/// only where memory was refused.
 pub(crate) fn refusal_note(
     alloc: Global,
     path: &str,
@@ -99,7 +109,7 @@ pub(crate) fn refusal_note(
 {
     match fault {
         WorkFault::Syntax(fault) => syntax_note(alloc, path, program, fault),
-        WorkFault::Check(fault) => check_note(alloc, path, program, fault),
+        WorkFault::Check(fault) => network_note(alloc, path, program, fault),
         WorkFault::Text(_) => Ok(None),
         WorkFault::Run(_) => Ok(None),
         WorkFault::Write(_) => Ok(None),

@@ -63,16 +63,24 @@ rows_text line number from bytes =
     ++ times_over (length number) (codes " ")
     ++ concat (codes " | " ∷ row_of Blanks line from bytes ∷ carets_of line from bytes ∷ codes "\n" ∷ [])
 
--- `PATH:LINE:COLUMN: error: WORDS`
-abbrev pub heading : List ℕ → List ℕ → List ℕ → List ℕ → List ℕ
-heading path line column words = concat (path ∷ codes ":" ∷ line ∷ codes ":" ∷ column ∷ codes ": error: " ∷ words ∷ codes "\n" ∷ [])
+-- `PATH:LINE:COLUMN: SORT: WORDS`, where the sort is `error` or `note`
+abbrev pub heading : List ℕ → List ℕ → List ℕ → List ℕ → List ℕ → List ℕ
+heading path line column sort words =
+    concat (path ∷ codes ":" ∷ line ∷ codes ":" ∷ column ∷ codes ": " ∷ sort ∷ codes ": " ∷ words ∷ codes "\n" ∷ [])
 
 -- what is said of a part that begins at byte `from` of the text and has so many bytes
-abbrev pub marked_at : List ℕ → List ℕ → ℕ → ℕ → List ℕ → List ℕ
-marked_at path text from bytes words =
-    heading path (decimal (line_of text from)) (decimal (column_of text from)) words
+abbrev pub marked_at : List ℕ → List ℕ → List ℕ → ℕ → ℕ → List ℕ → List ℕ
+marked_at sort path text from bytes words =
+    heading path (decimal (line_of text from)) (decimal (column_of text from)) sort words
     ++ rows_text (line_at text (line_of text from - 1)) (decimal (line_of text from)) (column_of text from - 1) bytes
 
 -- the heading and the rows; a part that begins beyond the text is told as the text's end
+abbrev pub marked_as : List ℕ → List ℕ → List ℕ → Span → List ℕ → List ℕ
+marked_as sort path text span words = marked_at sort path text (min span.from (length text)) (span.to - min span.from (length text)) words
+
+-- the part that is at fault, and one that has to do with it
 abbrev pub marked : List ℕ → List ℕ → Span → List ℕ → List ℕ
-marked path text span words = marked_at path text (min span.from (length text)) (span.to - min span.from (length text)) words
+marked path text span words = marked_as (codes "error") path text span words
+
+abbrev pub marked_too : List ℕ → List ℕ → Span → List ℕ → List ℕ
+marked_too path text span words = marked_as (codes "note") path text span words

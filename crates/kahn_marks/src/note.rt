@@ -2,7 +2,7 @@
 
 ghost use Rattle.std.specs.Prelude.{◌≡◌, ◌-◌, ◌++◌, IfOk, map, slice_index_or, string_bytes};
 ghost use Rattle.std.specs.Str.Lines.{lines};
-ghost use Rattle.kahn_marks.specs.Marks.{carets_of, heading, line_at, marked, rows_text};
+ghost use Rattle.kahn_marks.specs.Marks.{carets_of, heading, line_at, marked, marked_as, marked_too, rows_text};
 
 use crate::columns::{Row, row_of};
 use crate::pieces::{add, add_repeated};
@@ -61,14 +61,39 @@ fn add_heading<'a>(
     path: &'a str,
     line: &'a str,
     column: &'a str,
+    sort: &'a str,
     words: &'a str,
 ) -> Result<(), AllocError>
-    ensures { IfOk result (λ _. string_bytes note.new ≡ string_bytes note.old ++ heading path.now line.now column.now words.now) }
+    ensures { IfOk result (λ _. string_bytes note.new ≡ string_bytes note.old ++ heading path.now line.now column.now sort.now words.now) }
 {
     add(
         note,
-        &[path, ":", line, ":", column, ": error: ", words, "\n"],
+        &[path, ":", line, ":", column, ": ", sort, ": ", words, "\n"],
     )
+}
+
+/// A note of a sort on a part of the text of a file.
+fn marked_as(
+    alloc: Global,
+    sort: &str,
+    path: &str,
+    text: &str,
+    span: Span,
+    words: &str,
+) -> Result<String, AllocError>
+    ensures { IfOk result (λ note. string_bytes note ≡ marked_as sort.now path.now text.now span words.now) }
+{
+    let from = span.from.min(text.len());
+    let (line, column) = Span { from, to: from }.place(text);
+    let mut first = Buffer::new();
+    let mut second = Buffer::new();
+    let number = first.format(line);
+    let mut note = String::new(alloc);
+    add_heading(&mut note, path, number, second.format(column), sort, words)?;
+    let source = line_at(alloc, text, line - 1)?;
+    let bytes = span.to.saturating_sub(from);
+    add_rows(&mut note, alloc, source, number, column - 1, bytes)?;
+    Ok(note)
 }
 
 /// A note on a part of the text of a file, in three lines: `PATH:LINE:COLUMN: error: WORDS`, the line where the part begins,
@@ -83,15 +108,18 @@ pub fn marked(
 ) -> Result<String, AllocError>
     ensures { IfOk result (λ note. string_bytes note ≡ marked path.now text.now span words.now) }
 {
-    let from = span.from.min(text.len());
-    let (line, column) = Span { from, to: from }.place(text);
-    let mut first = Buffer::new();
-    let mut second = Buffer::new();
-    let number = first.format(line);
-    let mut note = String::new(alloc);
-    add_heading(&mut note, path, number, second.format(column), words)?;
-    let source = line_at(alloc, text, line - 1)?;
-    let bytes = span.to.saturating_sub(from);
-    add_rows(&mut note, alloc, source, number, column - 1, bytes)?;
-    Ok(note)
+    marked_as(alloc, "error", path, text, span, words)
+}
+
+/// The same of another part, which has to do with the one that is at fault: `PATH:LINE:COLUMN: note: WORDS`.
+pub fn marked_too(
+    alloc: Global,
+    path: &str,
+    text: &str,
+    span: Span,
+    words: &str,
+) -> Result<String, AllocError>
+    ensures { IfOk result (λ note. string_bytes note ≡ marked_too path.now text.now span words.now) }
+{
+    marked_as(alloc, "note", path, text, span, words)
 }

@@ -1,0 +1,2 @@
+mod Nearest
+mod Rows

@@ -1,0 +1,201 @@
+-- Believed. What more is told of a fault of a network.
+use Rattle.std.specs.Prelude.{ℕ, List, [], ◌∷◌, ◌++◌, Option, Some, None, codes, decimal, if◌then◌else◌, length}
+use Rattle.std.specs.List.{concat, find}
+use Rattle.kahn_tree.specs.View.{bytes_of}
+use Rattle.kahn_tree.specs.declared.span.Span.{Span}
+use Rattle.kahn_tree.specs.declared.tree.Name.{Name}
+use Rattle.kahn_tree.specs.declared.tree.Kind.{Kind}
+use Rattle.kahn_tree.specs.declared.tree.Kind.TheVariants as K
+use Rattle.kahn_tree.specs.declared.tree.Direction.{Direction}
+use Rattle.kahn_tree.specs.declared.tree.Direction.TheVariants.{In, Out}
+use Rattle.kahn_tree.specs.declared.tree.Process.{Process}
+use Rattle.kahn_tree.specs.declared.tree.Instance.{Instance}
+use Rattle.kahn_tree.specs.declared.tree.Program.{Program}
+use Rattle.kahn_check.specs.declared.fault.CheckFault.{CheckFault}
+use Rattle.kahn_check.specs.declared.fault.CheckFault.TheVariants as checked
+use Rattle.kahn_marks.specs.Marks.{marked, marked_too}
+use Rattle.kahn_hints.specs.declared.hint.Reason.{Reason}
+use Rattle.kahn_hints.specs.declared.hint.Reason.TheVariants as reason
+use Rattle.kahn_hints.specs.declared.names.Sort.{Sort}
+use Rattle.kahn_hints.specs.declared.names.Sort.TheVariants as sort
+use Rattle.kahn_hints.specs.declared.uses.Use.{Use}
+use Rattle.kahn_hints.specs.declared.uses.Use.TheVariants as use_as
+use Rattle.kahn_hints.specs.Names.{program_names}
+use Rattle.kahn_hints.specs.Near.{nearest}
+use Rattle.kahn_hints.specs.Places.{called_first, channel_kind, names_seen, passed, process_called, process_declaring, process_using, word_at}
+use Rattle.kahn_hints.specs.Uses.{body_use, instances_use, same_span}
+
+-- what is said of another place
+abbrev pub reason_words : Reason → List ℕ
+reason_words reason.DeclaredFirst = codes "declared here first"
+reason_words reason.Declared = codes "declared here"
+reason_words reason.NoProcess = codes "declared here, and not as a process"
+reason_words reason.Outside = codes "declared here, outside of the process, which sees its own names alone"
+reason_words reason.WrittenFirst = codes "handed over here first, to be written"
+reason_words reason.ReadFirst = codes "handed over here first, to be read"
+reason_words reason.Input = codes "declared here as an input, which is written from outside"
+reason_words reason.Output = codes "declared here as an output, which is read from outside"
+
+-- the use of what stands at a place: in the body of a process, or in the instances
+abbrev pub use_of_place : Program → Span → Option Process → Option Use
+use_of_place t at None = instances_use t at
+use_of_place t at (Some p) = body_use p at
+
+abbrev pub use_at : Program → Span → Option Use
+use_at t at = use_of_place t at (process_using t at)
+
+-- the sort of the names that may stand where a name is used
+abbrev pub asked_sort : Option Use → Option Sort
+asked_sort None = None
+asked_sort (Some (use_as.Expression k)) = Some sort.Value
+asked_sort (Some use_as.Assigned) = Some sort.Value
+asked_sort (Some use_as.Waited) = Some sort.Channel
+asked_sort (Some use_as.Sent) = Some sort.Channel
+asked_sort (Some use_as.Handed) = Some sort.Channel
+asked_sort (Some use_as.Process) = Some sort.Process
+
+-- ---- another place
+
+-- that of a name, and why it is told
+abbrev pub place_as : Reason → Option Name → Option (Span × Reason)
+place_as r None = None
+place_as r (Some n) = Some (n.span, r)
+
+-- the first of the names in sight at a place with the letters that stand there
+abbrev pub declared_here : List ℕ → Program → Span → Option (Span × Reason)
+declared_here text t at = place_as reason.Declared (called_first (word_at text at) (names_seen None t (process_using t at)))
+
+-- the first of the names of the program with those letters, where it may not stand: in a body, or in the instances
+abbrev pub outside_reason : Option Process → Reason
+outside_reason (Some p) = reason.Outside
+outside_reason None = reason.NoProcess
+
+abbrev pub declared_outside : List ℕ → Program → Span → Option (Span × Reason)
+declared_outside text t at = place_as (outside_reason (process_using t at)) (called_first (word_at text at) (program_names None t))
+
+-- the first of the names that are declared beside the one at a place, with the same letters
+abbrev pub declared_first : List ℕ → Program → Span → Option (Span × Reason)
+declared_first text t at = place_as reason.DeclaredFirst (called_first (word_at text at) (names_seen None t (process_declaring t at)))
+
+abbrev pub first_reason : Direction → Reason
+first_reason Out = reason.WrittenFirst
+first_reason In = reason.ReadFirst
+
+abbrev pub closed_reason : Direction → Reason
+closed_reason Out = reason.Input
+closed_reason In = reason.Output
+
+-- where a channel is declared that no instance may write or read
+abbrev pub declared_role : Program → Direction → List ℕ → Option (Span × Reason)
+declared_role t d word = place_as (closed_reason d) (called_first word (program_names (Some sort.Channel) t))
+
+-- where it is handed over before, or else its declaration
+abbrev pub before_or_declared : Option Name → Program → Direction → List ℕ → Span → Option (Span × Reason)
+before_or_declared None t d word at = declared_role t d word
+before_or_declared (Some n) t d word at = if same_span n.span at then declared_role t d word else Some (n.span, first_reason d)
+
+abbrev pub taken_before : List ℕ → Program → Direction → Span → Option (Span × Reason)
+taken_before text t d at = before_or_declared (passed t d (word_at text at)) t d (word_at text at) at
+
+-- another place that has to do with a fault, and why
+abbrev pub second_place : List ℕ → Program → CheckFault → Option (Span × Reason)
+second_place text t (checked.DeclaredTwice at) = declared_first text t at
+second_place text t (checked.WrongKind at) = declared_here text t at
+second_place text t (checked.WrongCount at) = declared_here text t at
+second_place text t (checked.ChannelExpected at) = declared_here text t at
+second_place text t (checked.ValueExpected at) = declared_here text t at
+second_place text t (checked.WrongDirection at) = declared_here text t at
+second_place text t (checked.TwoWriters at) = taken_before text t Out at
+second_place text t (checked.TwoReaders at) = taken_before text t In at
+second_place text t (checked.Unknown at) = declared_outside text t at
+second_place text t (checked.NoWriter at) = None
+second_place text t (checked.NoReader at) = None
+second_place text t (checked.TooMany at) = None
+second_place text t checked.NoMemory = None
+
+-- ---- behind the words of a fault
+
+-- the nearest name of those in sight that may stand there
+abbrev pub told_near : List ℕ → Program → Span → Option Name
+told_near text t at = nearest (word_at text at) (names_seen (asked_sort (use_at t at)) t (process_using t at))
+
+abbrev pub meant_words : Name → List ℕ
+meant_words n = concat (codes "; did you mean `" ∷ bytes_of n ∷ codes "`?" ∷ [])
+
+abbrev pub near_words : Option Name → List ℕ
+near_words None = []
+near_words (Some n) = meant_words n
+
+-- the instance whose process is named at a place, and how many arguments are wanted and found there
+abbrev pub named_instance : Program → Span → Option Instance
+named_instance t at = find (λ i. same_span i.process.span at) t.instances.items
+
+abbrev pub counted_words : ℕ → ℕ → List ℕ
+counted_words wanted found = concat (codes ": wanted " ∷ decimal wanted ∷ codes ", found " ∷ decimal found ∷ [])
+
+abbrev pub counted_for : Option Process → Instance → List ℕ
+counted_for None i = []
+counted_for (Some p) i = counted_words (length p.parameters.items) (length i.arguments.items)
+
+abbrev pub count_words : Program → Option Instance → List ℕ
+count_words t None = []
+count_words t (Some i) = counted_for (process_called t (bytes_of i.process)) i
+
+-- the kind of what stands at a place: of an expression, or of the channel that is handed over
+abbrev pub kind_if : List ℕ → Program → Span → Option Use → Option Kind
+kind_if text t at (Some (use_as.Expression k)) = Some k
+kind_if text t at (Some use_as.Handed) = channel_kind t (word_at text at)
+kind_if text t at _ = None
+
+abbrev pub found_kind : List ℕ → Program → Span → Option Kind
+found_kind text t at = kind_if text t at (use_at t at)
+
+-- the kind that is wanted and the one that is found: where one of the two kinds is at fault, the other is wanted
+abbrev pub kind_words : Option Kind → List ℕ
+kind_words (Some K.Integer) = codes ": wanted logical, found integer"
+kind_words (Some K.Logical) = codes ": wanted integer, found logical"
+kind_words None = []
+
+abbrev pub direction_words : Option Use → List ℕ
+direction_words (Some use_as.Waited) = codes ": wanted `in`, found `out`"
+direction_words (Some use_as.Sent) = codes ": wanted `out`, found `in`"
+direction_words _ = []
+
+-- what is found where a channel is wanted, and where a value is
+abbrev pub channel_words : Option Use → List ℕ
+channel_words (Some use_as.Handed) = codes ", found a process"
+channel_words (Some use_as.Waited) = codes ", found a value"
+channel_words (Some use_as.Sent) = codes ", found a value"
+channel_words (Some (use_as.Expression k)) = codes ", found a value"
+channel_words _ = []
+
+abbrev pub value_words : Option Use → List ℕ
+value_words (Some (use_as.Expression k)) = codes ", found a channel"
+value_words (Some use_as.Assigned) = codes ", found a channel"
+value_words (Some use_as.Handed) = codes ", found a name"
+value_words _ = []
+
+abbrev pub tail_of : List ℕ → Program → CheckFault → List ℕ
+tail_of text t (checked.Unknown at) = near_words (told_near text t at)
+tail_of text t (checked.WrongCount at) = count_words t (named_instance t at)
+tail_of text t (checked.WrongKind at) = kind_words (found_kind text t at)
+tail_of text t (checked.WrongDirection at) = direction_words (use_at t at)
+tail_of text t (checked.ChannelExpected at) = channel_words (use_at t at)
+tail_of text t (checked.ValueExpected at) = value_words (use_at t at)
+tail_of text t (checked.DeclaredTwice at) = []
+tail_of text t (checked.TwoWriters at) = []
+tail_of text t (checked.TwoReaders at) = []
+tail_of text t (checked.NoWriter at) = []
+tail_of text t (checked.NoReader at) = []
+tail_of text t (checked.TooMany at) = []
+tail_of text t checked.NoMemory = []
+
+-- ---- the note
+
+abbrev pub second_text : List ℕ → List ℕ → Option (Span × Reason) → List ℕ
+second_text path text None = []
+second_text path text (Some (at, r)) = marked_too path text at (reason_words r)
+
+-- the note on a fault of a program of that text, at its place and with its words; and another place
+abbrev pub check_note : List ℕ → List ℕ → Program → CheckFault → Span → List ℕ → List ℕ
+check_note path text t fault span words = marked path text span (words ++ tail_of text t fault) ++ second_text path text (second_place text t fault)

@@ -1,0 +1,5 @@
+pub mod Hints
+pub mod Names
+pub mod Near
+pub mod Places
+pub mod Uses

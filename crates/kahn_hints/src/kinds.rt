@@ -1,0 +1,90 @@
+//! The kinds of names and of expressions.
+
+ghost use Rattle.std.specs.Prelude.{◌≡◌};
+ghost use Rattle.std.proofs.Common.{bytes_eq};
+ghost use Rattle.kahn_tree.specs.View.{bytes_of};
+ghost use Rattle.kahn_network.specs.Kinds.{gives};
+ghost use Rattle.kahn_network.specs.Wiring.{scope_of};
+ghost use Rattle.kahn_check.specs.Faults.{find, kind_in, kind_of};
+
+use kahn_tree::{Expression, Form, Kind, Name, Operator, Process, Taking};
+
+/// Whether two words have the same letters.
+pub(crate) fn same_bytes(first: &[u8], second: &[u8]) -> bool
+    ensures { result ≡ bytes_eq first.now second.now }
+{
+    first == second
+}
+
+/// What a name stands for in a process: the first of its parameters and variables that is called so.
+pub(crate) fn taking_of(process: &Process, name: &Name) -> Option<Taking>
+    ensures { result ≡ find (scope_of process.now) (bytes_of name.now) }
+{
+    let word = name.text.as_bytes();
+    for parameter in &process.parameters {
+        if same_bytes(word, parameter.name.text.as_bytes()) {
+            return Some(parameter.taking);
+        }
+    }
+    for variable in &process.variables {
+        if same_bytes(word, variable.name.text.as_bytes()) {
+            return Some(Taking::Value(variable.kind));
+        }
+    }
+    None
+}
+
+/// The kind of a value, or of the values of a channel.
+fn kind_in(taking: Option<Taking>) -> Kind
+    ensures { result ≡ kind_in taking }
+{
+    match taking {
+        None => Kind::Integer,
+        Some(Taking::Channel(_, kind)) => kind,
+        Some(Taking::Value(kind)) => kind,
+    }
+}
+
+/// The kind that an operator gives.
+fn gives(operator: Operator) -> Kind
+    ensures { result ≡ gives operator }
+{
+    match operator {
+        Operator::Or
+        | Operator::And
+        | Operator::Equal
+        | Operator::Unequal
+        | Operator::Less
+        | Operator::AtMost
+        | Operator::Greater
+        | Operator::AtLeast => Kind::Logical,
+        Operator::Add
+        | Operator::Subtract
+        | Operator::Multiply
+        | Operator::Divide
+        | Operator::Remainder => Kind::Integer,
+    }
+}
+
+/// The kind of an expression that has no fault inside.
+pub(crate) fn kind_of(process: &Process, expression: &Expression) -> Kind
+    ensures { result ≡ kind_of (scope_of process.now) expression.now.form }
+{
+    match &expression.form {
+        Form::Number(_) => Kind::Integer,
+        Form::Logical(_) => Kind::Logical,
+        Form::Variable(name) => kind_in(taking_of(process, name)),
+        Form::Wait(name) => kind_in(taking_of(process, name)),
+        Form::Negate(_) => Kind::Integer,
+        Form::Not(_) => Kind::Logical,
+        Form::Bracket(inner) => kind_of(process, inner),
+        Form::Level(first, rest) => {
+            let mut kind = kind_of(process, first);
+            for operand in rest {
+                kind = gives(operand.operator);
+            }
+            kind
+        }
+        Form::Conditional(_, yes, _) => kind_of(process, yes),
+    }
+}

@@ -1,0 +1,15 @@
+//! What more is told of a fault of a network: another place that has to do with it, a name that is near, what is wanted and
+//! what is found.
+#![tactic(auto)]
+
+mod hint;
+mod kinds;
+mod names;
+mod near;
+mod places;
+mod uses;
+
+pub use near::one_nearest;
+
+// For the crates above.
+pub use hint::check_note;

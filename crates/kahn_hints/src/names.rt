@@ -1,0 +1,131 @@
+//! The names of a process and of a program, by what they stand for.
+
+ghost use Rattle.std.specs.Prelude.{◌≡◌, ◌++◌, ◌==◌, IfOk, map};
+ghost use Rattle.kahn_hints.specs.Names.{globals_of, is_sort, kept, kept_parameter, kept_variable, program_names, process_names, taking_sort};
+
+use kahn_tree::{Declaration, Name, Parameter, Process, Program, Taking, Variable};
+use std::alloc::{AllocError, Global};
+
+/// What a name stands for.
+#[derive(Clone, Copy)]
+pub(crate) enum Sort {
+    /// A variable, or a parameter that takes a value.
+    Value,
+    /// A channel, or a parameter that takes one.
+    Channel,
+    /// A process.
+    Process,
+}
+
+/// Whether a sort is the one that is asked for; each is where none is.
+fn is_sort(asked: Option<Sort>, sort: Sort) -> bool
+    ensures { result ≡ is_sort asked sort }
+{
+    match (asked, sort) {
+        (None, _) => true,
+        (Some(Sort::Value), Sort::Value) => true,
+        (Some(Sort::Channel), Sort::Channel) => true,
+        (Some(Sort::Process), Sort::Process) => true,
+        _ => false,
+    }
+}
+
+/// What a parameter's name stands for.
+fn taking_sort(taking: Taking) -> Sort
+    ensures { result ≡ taking_sort taking }
+{
+    match taking {
+        Taking::Channel(_, _) => Sort::Channel,
+        Taking::Value(_) => Sort::Value,
+    }
+}
+
+/// Adds a name of a sort, where it is the one that is asked for.
+fn keep<'p>(
+    names: &mut Vec<&'p Name>,
+    asked: Option<Sort>,
+    sort: Sort,
+    name: &'p Name,
+) -> Result<(), AllocError>
+    ensures { IfOk result (λ _. map (λ n. n.now) names.new.items ≡ map (λ n. n.now) names.old.items ++ kept asked sort name.now) }
+{
+    if is_sort(asked, sort) {
+        names.push(name)?;
+    }
+    Ok(())
+}
+
+/// Adds the name of a parameter.
+fn keep_parameter<'p>(
+    names: &mut Vec<&'p Name>,
+    asked: Option<Sort>,
+    parameter: &'p Parameter,
+) -> Result<(), AllocError>
+    ensures { IfOk result (λ _. map (λ n. n.now) names.new.items ≡ map (λ n. n.now) names.old.items ++ kept_parameter asked parameter.now) }
+{
+    let sort = taking_sort(parameter.taking);
+    keep(names, asked, sort, &parameter.name)
+}
+
+/// Adds the name of a variable.
+fn keep_variable<'p>(
+    names: &mut Vec<&'p Name>,
+    asked: Option<Sort>,
+    variable: &'p Variable,
+) -> Result<(), AllocError>
+    ensures { IfOk result (λ _. map (λ n. n.now) names.new.items ≡ map (λ n. n.now) names.old.items ++ kept_variable asked variable.now) }
+{
+    keep(names, asked, Sort::Value, &variable.name)
+}
+
+/// The names that a process declares, of the sort that is asked for: its parameters first and then its variables.
+pub(crate) fn process_names<'p>(
+    alloc: Global,
+    process: &'p Process,
+    asked: Option<Sort>,
+) -> Result<Vec<&'p Name>, AllocError>
+    ensures { IfOk result (λ names. map (λ n. n.now) names.items ≡ process_names asked process.now) }
+{
+    let mut names = Vec::new(alloc);
+    for parameter in &process.parameters {
+        keep_parameter(&mut names, asked, parameter)?;
+    }
+    for variable in &process.variables {
+        keep_variable(&mut names, asked, variable)?;
+    }
+    Ok(names)
+}
+
+/// Adds the names of a declaration, of the sort that is asked for.
+fn add_globals<'p>(
+    names: &mut Vec<&'p Name>,
+    asked: Option<Sort>,
+    declaration: &'p Declaration,
+) -> Result<(), AllocError>
+    ensures { IfOk result (λ _. map (λ n. n.now) names.new.items ≡ map (λ n. n.now) names.old.items ++ globals_of asked declaration.now) }
+{
+    match declaration {
+        Declaration::Channels(_, _, channels) => {
+            for channel in channels {
+                keep(names, asked, Sort::Channel, channel)?;
+            }
+            Ok(())
+        }
+        Declaration::Process(process) => keep(names, asked, Sort::Process, &process.name),
+    }
+}
+
+/// The names that a program declares, of the sort that is asked for, in order.
+pub(crate) fn program_names<'p>(
+    alloc: Global,
+    program: &'p Program,
+    asked: Option<Sort>,
+) -> Result<Vec<&'p Name>, AllocError>
+    ensures { IfOk result (λ names. map (λ n. n.now) names.items ≡ program_names asked program.now) }
+{
+    let mut names = Vec::new(alloc);
+    for declaration in &program.declarations {
+        add_globals(&mut names, asked, declaration)?;
+    }
+    Ok(names)
+}

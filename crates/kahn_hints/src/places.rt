@@ -1,0 +1,234 @@
+//! Where the names of a program are declared and handed over.
+
+ghost use Rattle.std.specs.Prelude.{◌≡◌, IfOk, map, option_map};
+ghost use Rattle.std.specs.List.{find, list_any};
+ghost use Rattle.kahn_network.specs.Wiring.{processes_of, same_direction};
+ghost use Rattle.kahn_hints.specs.Places.{called_first, channel_kind, declares, is_called, names_seen, passed, passed_by, passed_if, passed_in, process_called, process_declaring, process_using, has_use, word_at};
+
+use crate::kinds::same_bytes;
+use crate::names::{Sort, process_names, program_names};
+use crate::uses::{body_use, same_span};
+use kahn_tree::{
+    Argument, Declaration, Direction, Instance, Kind, Name, Parameter, Process, Program, Span,
+    Taking,
+};
+use std::alloc::{AllocError, Global};
+
+/// The letters at a place of a text; none where it isn't within the text.
+pub(crate) fn word_at(text: &str, at: Span) -> &[u8]
+    ensures { result.now ≡ word_at text.now at }
+{
+    match text.as_bytes().get(at.from..at.to) {
+        Some(word) => word,
+        None => &[],
+    }
+}
+
+/// Whether a name has these letters.
+fn is_called(word: &[u8], name: &Name) -> bool
+    ensures { result ≡ is_called word.now name.now }
+{
+    same_bytes(word, name.text.as_bytes())
+}
+
+/// The first of the names with these letters.
+pub(crate) fn called_first<'p>(word: &[u8], names: &[&'p Name]) -> Option<&'p Name>
+    ensures { option_map (λ n. n.now) result ≡ called_first word.now (map (λ n. n.now) names.now) }
+{
+    for name in names {
+        if is_called(word, name) {
+            return Some(*name);
+        }
+    }
+    None
+}
+
+/// The first process that a program declares under these letters.
+pub(crate) fn process_called<'p>(program: &'p Program, word: &[u8]) -> Option<&'p Process>
+    ensures { option_map (λ p. p.now) result ≡ process_called program.now word.now }
+{
+    for declaration in &program.declarations {
+        if let Declaration::Process(process) = declaration {
+            if is_called(word, &process.name) {
+                return Some(process);
+            }
+        }
+    }
+    None
+}
+
+/// Whether a process declares a name at this place.
+fn declares(at: Span, process: &Process) -> bool
+    ensures { result ≡ declares at process.now }
+{
+    for parameter in &process.parameters {
+        if same_span(parameter.name.span, at) {
+            return true;
+        }
+    }
+    for variable in &process.variables {
+        if same_span(variable.name.span, at) {
+            return true;
+        }
+    }
+    false
+}
+
+/// The process that declares a name at this place.
+pub(crate) fn process_declaring(program: &Program, at: Span) -> Option<&Process>
+    ensures { option_map (λ p. p.now) result ≡ process_declaring program.now at }
+{
+    for declaration in &program.declarations {
+        if let Declaration::Process(process) = declaration {
+            if declares(at, process) {
+                return Some(process);
+            }
+        }
+    }
+    None
+}
+
+/// Whether the body of a process has a part at this place.
+fn has_use(at: Span, process: &Process) -> bool
+    ensures { result ≡ has_use at process.now }
+{
+    body_use(process, at).is_some()
+}
+
+/// The process whose body has a part at this place.
+pub(crate) fn process_using(program: &Program, at: Span) -> Option<&Process>
+    ensures { option_map (λ p. p.now) result ≡ process_using program.now at }
+{
+    for declaration in &program.declarations {
+        if let Declaration::Process(process) = declaration {
+            if has_use(at, process) {
+                return Some(process);
+            }
+        }
+    }
+    None
+}
+
+/// The names of a process, or those of the program where there is none, of the sort that is asked for.
+pub(crate) fn names_seen<'p>(
+    alloc: Global,
+    program: &'p Program,
+    process: Option<&'p Process>,
+    asked: Option<Sort>,
+) -> Result<Vec<&'p Name>, AllocError>
+    ensures { IfOk result (λ names. map (λ n. n.now) names.items ≡ names_seen asked program.now (option_map (λ p. p.now) process.entry)) }
+{
+    match process {
+        Some(process) => process_names(alloc, process, asked),
+        None => program_names(alloc, program, asked),
+    }
+}
+
+/// Whether one of the names has these letters.
+fn is_among(word: &[u8], names: &[Name]) -> bool
+    ensures { result ≡ list_any (is_called word.now) names.now }
+{
+    for name in names {
+        if is_called(word, name) {
+            return true;
+        }
+    }
+    false
+}
+
+/// The kind of the channel that a program declares under these letters.
+pub(crate) fn channel_kind(program: &Program, word: &[u8]) -> Option<Kind>
+    ensures { result ≡ channel_kind program.now word.now }
+{
+    for declaration in &program.declarations {
+        if let Declaration::Channels(kind, _, names) = declaration {
+            if is_among(word, names) {
+                return Some(*kind);
+            }
+        }
+    }
+    None
+}
+
+/// Whether two directions are the same.
+fn same_direction(first: Direction, second: Direction) -> bool
+    ensures { result ≡ same_direction first second }
+{
+    match (first, second) {
+        (Direction::In, Direction::In) | (Direction::Out, Direction::Out) => true,
+        (Direction::In, Direction::Out) | (Direction::Out, Direction::In) => false,
+    }
+}
+
+/// The name of an argument, where it hands the channel of these letters over in a direction.
+fn passed_if<'p>(
+    direction: Direction,
+    word: &[u8],
+    taking: Taking,
+    argument: &'p Argument,
+) -> Option<&'p Name>
+    ensures { option_map (λ n. n.now) result ≡ passed_if direction word.now taking argument.now }
+{
+    let Taking::Channel(found, _) = taking else {
+        return None;
+    };
+    let Argument::Channel(name) = argument else {
+        return None;
+    };
+    if same_direction(direction, found) && is_called(word, name) {
+        Some(name)
+    } else {
+        None
+    }
+}
+
+/// The first of such arguments, by their parameters.
+fn passed_in<'p>(
+    direction: Direction,
+    word: &[u8],
+    parameters: &[Parameter],
+    arguments: &'p [Argument],
+) -> Option<&'p Name>
+    ensures { option_map (λ n. n.now) result ≡ passed_in direction word.now parameters.now arguments.now }
+{
+    for (number, argument) in arguments.iter().enumerate() {
+        let Some(parameter) = parameters.get(number) else {
+            return None;
+        };
+        if let Some(name) = passed_if(direction, word, parameter.taking, argument) {
+            return Some(name);
+        }
+    }
+    None
+}
+
+/// The first of such arguments of an instance.
+fn passed_by<'p>(
+    program: &Program,
+    direction: Direction,
+    word: &[u8],
+    instance: &'p Instance,
+) -> Option<&'p Name>
+    ensures { option_map (λ n. n.now) result ≡ passed_by program.now direction word.now instance.now }
+{
+    match process_called(program, instance.process.text.as_bytes()) {
+        Some(process) => passed_in(direction, word, &process.parameters, &instance.arguments),
+        None => None,
+    }
+}
+
+/// The first argument of all that hands the channel of these letters over in a direction.
+pub(crate) fn passed<'p>(
+    program: &'p Program,
+    direction: Direction,
+    word: &[u8],
+) -> Option<&'p Name>
+    ensures { option_map (λ n. n.now) result ≡ passed program.now direction word.now }
+{
+    for instance in &program.instances {
+        if let Some(name) = passed_by(program, direction, word, instance) {
+            return Some(name);
+        }
+    }
+    None
+}
