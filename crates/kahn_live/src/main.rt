@@ -51,7 +51,7 @@ fn plain_stream(session: &Session<'_>, plain: &Plain) -> Option<usize> {
 
 /// The session, which shows the values of one stream alone where these channels are named.
 fn in_form<'n>(mut session: Session<'n>, plain: Option<&Plain>) -> Result<Session<'n>, RunFault>
-    requires { session.entry.broken ≡ false }
+    requires { session.broken ≡ false }
     ensures { IfOk result (λ shown. shown.broken ≡ false) }
 {
     let Some(plain) = plain else {
