@@ -1,5 +1,8 @@
 //! The lines of standard input, one at a time.
 
+ghost use Rattle.std.specs.Prelude.{◌≡◌, ◌∷◌, ◌++◌, IfOk};
+ghost use Rattle.std.specs.Option.{option_map_or};
+
 use kahn_report::MOST_BYTES;
 use std::alloc::AllocError;
 use std::io::{BufRead, Error, ErrorKind, Read};
@@ -66,7 +69,9 @@ pub(crate) fn fed_line<'a>(
     input: Option<&str>,
     line: &'a [u8],
     room: &'a mut Vec<u8>,
-) -> Result<&'a [u8], AllocError> {
+) -> Result<&'a [u8], AllocError>
+    ensures { IfOk result (λ fed. fed.now ≡ option_map_or (λ name. name.now ++ (58 ∷ line.entry.now)) input.entry line.entry.now) }
+{
     let Some(input) = input else {
         return Ok(line);
     };

@@ -51,7 +51,7 @@ fn plain_stream(session: &Session<'_>, plain: &Plain) -> Option<usize> {
 
 /// The session, which shows the values of one stream alone where these channels are named.
 fn in_form<'n>(mut session: Session<'n>, plain: Option<&Plain>) -> Result<Session<'n>, RunFault>
-    requires { session.entry.broken ≡ false }
+    requires { session.broken ≡ false }
     ensures { IfOk result (λ shown. shown.broken ≡ false) }
 {
     let Some(plain) = plain else {
@@ -190,38 +190,60 @@ fn watching<R: AllocGlobal>(
     })
 }
 
-/// Runs the program, tells a fault of it, and gives the status.
-fn status_of<R: Runtime + AllocGlobal + Threads + Wait + Sync, W: Write>(
-    rt: &R,
-    texts: &Texts,
-    options: LiveOptions,
+/// Tells a fault of the run, and gives the status.
+fn told<W: Write>(
+    ending: Result<Ending, Fault>,
+    refused: bool,
+    program: &str,
     writer: &mut W,
 ) -> u8 {
-    let mut teller = Teller::new(writer, options.keep_going);
-    let plain = options.plain.as_ref();
-    let ending = match watching(rt, options.config, plain) {
-        Ok(config) => run(rt, texts, config, plain, &options.at_end, &mut teller),
-        Err(_) => Err(wants_memory()),
-    };
-    let refused = teller.refused;
     let answer = match ending {
         Ok(Ending::Reached(verdict)) => Ok(verdict),
         Ok(Ending::Gone) => Ok(Verdict::Finished),
         Ok(Ending::NoInput) => return NO_INPUT,
         Err(fault) => Err(fault),
     };
-    let _ = tell(&answer, texts.program.as_str(), writer);
+    let _ = tell(&answer, program, writer);
     live_status(&answer, refused)
+}
+
+/// Runs the program of the texts, and gives how it ended and whether a line was refused.
+fn ran<R: Runtime + AllocGlobal + Threads + Wait + Sync, W: Write>(
+    rt: &R,
+    texts: &Texts,
+    config: Config,
+    plain: Option<&Plain>,
+    at_end: &[String],
+    keep_going: bool,
+    writer: &mut W,
+) -> (Result<Ending, Fault>, bool) {
+    let mut teller = Teller::new(writer, keep_going);
+    let ending = match watching(rt, config, plain) {
+        Ok(config) => run(rt, texts, config, plain, at_end, &mut teller),
+        Err(_) => Err(wants_memory()),
+    };
+    (ending, teller.refused)
 }
 
 /// Does what the command line asks for, and gives the status. Faults are told to the writer.
 fn answered<R: Runtime + AllocGlobal + Threads + Wait + Sync, W: Write>(
     rt: &R,
-    mut options: LiveOptions,
+    options: LiveOptions,
     writer: &mut W,
 ) -> u8 {
-    match read_texts(rt, options.program.take(), None) {
-        Ok(texts) => status_of(rt, &texts, options, writer),
+    let LiveOptions {
+        program,
+        config,
+        keep_going,
+        at_end,
+        plain,
+    } = options;
+    match read_texts(rt, program, None) {
+        Ok(texts) => {
+            let plain = plain.as_ref();
+            let (ending, refused) = ran(rt, &texts, config, plain, &at_end, keep_going, writer);
+            told(ending, refused, texts.program.as_str(), writer)
+        }
         Err(fault) => tell(&Err(fault), "", writer).status,
     }
 }
