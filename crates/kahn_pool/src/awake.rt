@@ -1,5 +1,6 @@
 //! Who may go on in a run on one thread, and who waits for what.
 
+use crate::answer::{End, Outcome};
 use crate::run_queue::RunQueue;
 use kahn_code::Plain;
 use kahn_network::Network;
@@ -67,7 +68,7 @@ fn woken(sleepers: &mut Vec<Option<usize>>, channel: usize) -> Option<usize> {
 }
 
 impl Awake {
-    /// All instances are awake. It refuses only where memory was refused.
+    /// Nobody is awake. It refuses only where memory was refused.
     pub(crate) fn new(alloc: Global, network: &Network) -> Result<Awake, NoMemory> {
         Ok(Awake {
             written: written_by(alloc, network)?,
@@ -76,39 +77,45 @@ impl Awake {
         })
     }
 
-    /// Whose turn it is; nobody's where all sleep.
-    pub(crate) fn next(&mut self) -> Option<usize> {
-        self.queue.pop()
+    /// The instance stands so: it may go on, or sleeps until something comes on a channel that is empty, or is over.
+    pub(crate) fn stands(&mut self, instance: usize, outcome: Outcome, queues: &Plain<Global>) {
+        match outcome {
+            Outcome::More => self.queue.wake(instance),
+            Outcome::Waits(channel) if queues.waiting(channel) > 0 => self.queue.wake(instance),
+            Outcome::Waits(channel) => self.sleeps(instance, channel),
+            Outcome::Ended | Outcome::Faulted(_) => self.queue.sleep(instance),
+        }
     }
 
-    /// The instance may go on.
-    pub(crate) fn goes_on(&mut self, instance: usize) {
-        self.queue.wake(instance);
+    /// All stand as these ends say.
+    pub(crate) fn all_stand(&mut self, ends: &[End], queues: &Plain<Global>) {
+        for (instance, end) in ends.iter().enumerate() {
+            self.stands(instance, end.outcome, queues);
+        }
     }
 
-    /// The instance found this channel empty.
-    pub(crate) fn waits(&mut self, instance: usize, channel: usize) {
+    // The instance sleeps until something comes on the channel.
+    fn sleeps(&mut self, instance: usize, channel: usize) {
         self.queue.sleep(instance);
         if let Some(sleeper) = self.sleepers.get_mut(channel) {
             *sleeper = Some(instance);
         }
     }
 
-    /// The instance is over.
-    pub(crate) fn ends(&mut self, instance: usize) {
-        self.queue.sleep(instance);
+    /// Whose turn it is; nobody's where all sleep.
+    pub(crate) fn next(&mut self) -> Option<usize> {
+        self.queue.pop()
     }
 
-    /// Wakes who sleeps at a channel that the instance writes, where something waits there now. After a long visit such a reader
-    /// comes next, so that what was sent doesn't pile up; else what is sent comes together until its turn.
-    pub(crate) fn wake_readers(&mut self, instance: usize, is_long: bool, queues: &Plain<Global>) {
+    /// Wakes who sleeps at a channel that the instance writes, where something waits there now.
+    pub(crate) fn wake_readers(&mut self, instance: usize, queues: &Plain<Global>) {
         let Some(channels) = self.written.get(instance) else {
             return;
         };
         for channel in channels {
             if queues.waiting(*channel) > 0 {
                 if let Some(reader) = woken(&mut self.sleepers, *channel) {
-                    self.queue.woken(reader, is_long);
+                    self.queue.hand(reader);
                 }
             }
         }

@@ -29,11 +29,10 @@ impl Looks {
         }
     }
 
-    /// Notes a visit of so many events. Whether it was long.
-    pub(crate) fn saw(&mut self, instance: usize, done: u64) -> bool {
-        let is_long = done >= LONG;
+    /// Notes a visit of so many events.
+    pub(crate) fn saw(&mut self, instance: usize, done: u64) {
         self.done = self.done.saturating_add(done);
-        if is_long {
+        if done >= LONG {
             self.long = self.long.saturating_add(done);
             let is_other = match self.busy {
                 Some(busy) => busy != instance,
@@ -42,7 +41,6 @@ impl Looks {
             self.several = self.several || is_other;
             self.busy = Some(instance);
         }
-        is_long
     }
 
     /// Whether most was done by long visits of several instances, in a run that is still short.

@@ -29,6 +29,8 @@ struct Round {
     left: u64,
     memory: bool,
     moved: bool,
+    // How many visits were in vain.
+    vain: usize,
     ends: Vec<End>,
 }
 
@@ -87,6 +89,8 @@ impl Round {
         self.left -= done;
         if done > 0 {
             self.moved = true;
+        } else {
+            self.vain = self.vain.saturating_add(1);
         }
         if matches!(stopped, Pause::NoMemory) {
             self.memory = true;
@@ -129,7 +133,7 @@ impl Round {
         let done = bench.events(instance) - before;
         self.mark(done, stopped);
         let end = end_of(bench, instance, stopped);
-        bench.saw(instance, done, end.outcome);
+        bench.saw(instance, done);
         end
     }
 
@@ -154,10 +158,14 @@ impl Round {
     fn is_over(&self) -> bool {
         self.memory || self.left == 0
     }
+
+    // Whether most visits were in vain.
+    fn is_sparse(&self) -> bool {
+        self.vain > self.ends.len() / 2
+    }
 }
 
-// Visits those that may go on, one after another, so many before each round of all. It does nothing where the gate isn't open: then
-// all take turns.
+// Visits those that may go on as the ends of the last round say, one after another, so many before the next round of all.
 fn run_awake<L: Ledger, G: Gate>(
     bench: &mut Workbench<'_, L>,
     gate: &G,
@@ -178,11 +186,10 @@ fn run_awake<L: Ledger, G: Gate>(
         left,
         memory,
         moved: false,
+        vain: 0,
         ends,
     };
-    if !gate.is_open() {
-        return round;
-    }
+    bench.stand(&round.ends);
     for _ in 0..bench.instance_count().saturating_mul(VISITS) {
         if round.is_over() || may_leave && bench.is_wide() {
             return round;
@@ -190,7 +197,8 @@ fn run_awake<L: Ledger, G: Gate>(
         let Some(instance) = bench.next() else {
             return round;
         };
-        round.visit(bench, gate, instance);
+        let end = round.visit(bench, gate, instance);
+        bench.left(instance, end.outcome);
     }
     round
 }
@@ -210,6 +218,7 @@ fn one_round<L: Ledger, G: Gate>(
     requires room { length (state_of bench.old).network.instances ≤ vec_capacity ends }
     ensures goes { Goes (state_of bench.old) (weight left memory) (all_events (state_of bench.old) + left) (state_of bench.new) result.left result.memory result.moved result.ends.items (length (state_of bench.new).network.instances) }
     ensures same { IsSameRun (state_of bench.old) (state_of bench.new) }
+    ensures share { result.share ≡ share }
     ensures room { vec_capacity result.ends ≡ vec_capacity ends }
 {
     let count = bench.instance_count();
@@ -219,12 +228,40 @@ fn one_round<L: Ledger, G: Gate>(
         left,
         memory,
         moved: false,
+        vain: 0,
         ends,
     };
     for instance in 0..count {
         round.step(bench, gate, instance);
     }
     round
+}
+
+// What comes before a round of all: where the gate is open and most visits of the last round were in vain, those that may go on are
+// visited. At other gates all take turns.
+fn run_between<L: Ledger, G: Gate>(
+    bench: &mut Workbench<'_, L>,
+    gate: &G,
+    last: Round,
+    may_leave: bool,
+) -> Round
+    requires share { 0 < last.share }
+    requires bound { all_events (state_of bench.old) + last.left < 2 ^ 48 }
+    requires known { length (state_of bench.old).cells ≡ length (state_of bench.old).network.instances }
+    ensures moved { HasMoved (state_of bench.old) (state_of bench.new) last.left last.memory result.left result.memory }
+    ensures ends { result.ends ≡ last.ends }
+{
+    if gate.is_open() && last.is_sparse() {
+        let Round {
+            share,
+            left,
+            memory,
+            ends,
+            ..
+        } = last;
+        return run_awake(bench, gate, ends, share, left, memory, may_leave);
+    }
+    last
 }
 
 // Rounds, until one in which nothing was done, or there is work for several and the run may be left to them.
@@ -247,17 +284,17 @@ fn last_round<L: Ledger, G: Gate>(
     let mut left = bound;
     let mut memory = false;
     'rounds: loop {
-        let awake = run_awake(bench, gate, ends, quantum, left, memory, may_leave);
-        if may_leave && bench.is_wide() {
-            return None;
-        }
-        let round = one_round(bench, gate, awake.ends, quantum, awake.left, awake.memory);
+        let round = one_round(bench, gate, ends, quantum, left, memory);
         if !round.moved {
             return Some(round);
         }
-        ends = round.ends;
-        left = round.left;
-        memory = round.memory;
+        let between = run_between(bench, gate, round, may_leave);
+        if may_leave && bench.is_wide() {
+            return None;
+        }
+        ends = between.ends;
+        left = between.left;
+        memory = between.memory;
     }
 }
 

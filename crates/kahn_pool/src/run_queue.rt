@@ -24,16 +24,15 @@ pub(crate) struct RunQueue {
 }
 
 impl RunQueue {
-    /// All so many instances, in order. It refuses only where memory was refused.
+    /// Nobody, of so many instances. It refuses only where memory was refused.
     pub(crate) fn new(alloc: Global, instances: usize) -> Result<RunQueue, NoMemory> {
         let mut places = Vec::with_capacity(alloc, instances)?;
-        let mut turns = VecDeque::with_capacity(alloc, instances)?;
-        for instance in 0..instances {
+        let turns = VecDeque::with_capacity(alloc, instances)?;
+        for _ in 0..instances {
             places.push(Place {
-                awake: true,
-                queued: true,
+                awake: false,
+                queued: false,
             })?;
-            turns.push_back(instance)?;
         }
         Ok(RunQueue {
             places,
@@ -60,10 +59,10 @@ impl RunQueue {
         }
     }
 
-    /// The instance reads what was just sent. Where that is much it goes on before all others, unless so many as there are came
-    /// so one after another, or another one does.
-    pub(crate) fn woken(&mut self, instance: usize, is_much: bool) {
-        if is_much && self.next.is_none() && self.handed < self.places.len() {
+    /// The instance reads what was just sent: it goes on before all others, unless so many as there are came so one after
+    /// another, or another one does.
+    pub(crate) fn hand(&mut self, instance: usize) {
+        if self.next.is_none() && self.handed < self.places.len() {
             self.next = Some(instance);
         } else {
             self.wake(instance);

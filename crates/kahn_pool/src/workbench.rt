@@ -8,7 +8,7 @@ ghost use Rattle.kahn_pool.specs.Right.{stream_lines};
 ghost use Rattle.kahn_pool.specs.inner.Workbench.{Table, AreOpen, AreOpening, AreKeptOf, AreReady, state_of};
 ghost use Rattle.std.specs.Prelude.{◌≡◌, ◌≤◌, ◌<◌, ◌+◌, ◌^◌, ℕ, [], length, map, IfOk, IfSome, vec_capacity};
 
-use crate::answer::{Outcome, Stream};
+use crate::answer::{End, Outcome, Stream};
 use crate::awake::Awake;
 use crate::looks::Looks;
 use crate::streams::{empty_streams, fill, watched_input};
@@ -192,19 +192,26 @@ impl<'n, L: Ledger> Workbench<'n, L> {
         }
     }
 
-    /// Remembers how a visit of so many events left an instance, for `next` and `is_wide`.
-    pub(crate) fn saw(&mut self, instance: usize, done: u64, outcome: Outcome)
+    /// Remembers a visit of so many events, for `is_wide`.
+    pub(crate) fn saw(&mut self, instance: usize, done: u64)
         ensures { self.new ≡ self.old }
     {
-        let is_long = self.looks.saw(instance, done);
-        match outcome {
-            Outcome::More => self.awake.goes_on(instance),
-            Outcome::Waits(channel) => self.awake.waits(instance, channel),
-            Outcome::Ended | Outcome::Faulted(_) => self.awake.ends(instance),
-        }
-        if done > 0 {
-            self.awake.wake_readers(instance, is_long, &self.queues);
-        }
+        self.looks.saw(instance, done);
+    }
+
+    /// Remembers how all instances stand, for `next`.
+    pub(crate) fn stand(&mut self, ends: &[End])
+        ensures { self.new ≡ self.old }
+    {
+        self.awake.all_stand(ends, &self.queues);
+    }
+
+    /// Remembers how a visit left an instance, for `next`.
+    pub(crate) fn left(&mut self, instance: usize, outcome: Outcome)
+        ensures { self.new ≡ self.old }
+    {
+        self.awake.stands(instance, outcome, &self.queues);
+        self.awake.wake_readers(instance, &self.queues);
     }
 
     /// An instance that may go on, as far as is known.

@@ -73,11 +73,11 @@ fn a_chain_of_copies(rt: HostRuntime) -> Result<(), Fail> {
 
 // A gate that says that it is open: only workers enter it, and not who runs all processes alone.
 #[derive(Drop)]
-struct Counted {
+struct Tally {
     entries: AtomicU64,
 }
 
-impl Gate for Counted {
+impl Gate for Tally {
     fn enter(&self, _instance: usize) {
         self.entries.fetch_add(1, Ordering::SeqCst);
     }
@@ -101,7 +101,7 @@ fn workers_come_where_there_is_work_for_them(rt: HostRuntime) -> Result<(), Fail
         let program = chain(rt.alloc(), number)?;
         let report = counted(rt.alloc(), number, ends)?;
         let config = config(rt.alloc(), workers, quantum, 2_000_000, None)?;
-        let gate = Counted {
+        let gate = Tally {
             entries: AtomicU64::new(0),
         };
         let (verdict, written) = reported(&rt, rt.alloc(), program.as_str(), "", config, &gate)?;

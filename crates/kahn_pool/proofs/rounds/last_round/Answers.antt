@@ -6,7 +6,7 @@ returns-then-not-round-clause-last g c =
     let goes = c.one_round-round.ensures.goes in
     record {
       known = goes.known;
-      total = goes.total ∙ (c.run_awake-awake.ensures.moved.total ∙ c.rounds.invariant.total);
+      total = goes.total ∙ c.rounds.invariant.total;
       size = goes.size;
       ends = goes.still (search rules);
     }
