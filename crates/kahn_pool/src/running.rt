@@ -23,8 +23,13 @@ use std::alloc::Global;
 use std::sync::Wait;
 use std::thread::Threads;
 
-// How many events a process may do before the next one while a run is on one thread, whatever the quantum of several is.
-const FIRST_QUANTUM: u64 = 1000;
+// How many events a process may do before the next one while a run of several workers is on one thread, whatever their quantum is: a
+// round of all comes soon to an end, so that it is seen whether there is work for them.
+fn first_quantum(instances: usize) -> u64
+    ensures { 0 < result }
+{
+    (30_000 / instances.max(1) as u64).max(100).min(1000)
+}
 
 // The channel that is to be watched.
 pub(crate) fn watched(network: &Network, name: &Option<String>) -> Result<Option<usize>, RunFault>
@@ -57,7 +62,7 @@ fn run_first<R: Threads + Wait + Sync, G: Gate + Sync>(
     ensures { MatchResult result (IsRight (network_of network.now) (inputs_of input.now) plan.bound plan.watch) (IsWant plan.workers) }
 {
     let (watch, bound) = (plan.watch, plan.bound);
-    let quantum = plan.quantum.min(FIRST_QUANTUM);
+    let quantum = plan.quantum.min(first_quantum(network.instances()));
     let first = run_alone(alloc, gate, network, input, watch, quantum, bound, true)?;
     if let Some(answer) = first {
         return Ok(answer);
