@@ -19,3 +19,4 @@ pub mod Readers
 pub mod Grown
 pub mod Widths
 pub mod Common
+pub mod Roomy

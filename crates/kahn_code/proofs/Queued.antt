@@ -8,7 +8,7 @@ use Rattle.kahn_tree.specs.declared.tree.Role.TheVariants.{Inner, Output}
 use Rattle.kahn_code.specs.Cells.{is_output}
 use Rattle.kahn_code.specs.Queues.{Waiting}
 use Rattle.kahn_code.specs.Lines.{Lines, AreFirst, AreQueued, IsFirst, IsQueue, Joins, actual_of, at_first, next_at, place_at, queue_of, taken_of, given_of, waiting_of, spare_of}
-use Rattle.kahn_code.specs.Seats.{Seat, IsNext, Stays, StayReady, Moved, Leaves}
+use Rattle.kahn_code.specs.Seats.{Seat, IsNext, Stays, StayReady, KeepsRoom, Moved, Leaves}
 use Rattle.kahn_code.proofs.Lists as First
 use Rattle.kahn_code.proofs.Readers.{reads_once, writes_once}
 
@@ -99,6 +99,13 @@ ready_set qs c w w' (Reads d) at more = set_keeps (λ o. 0 < waiting_of o) qs c 
 ready_set qs c w w' (Writes d) at more = set_keeps (λ o. 0 < waiting_of o) qs c d w w' at (λ e l. let m = more e in omega (arith, m, l))
 ready_set qs c w w' (Hands v) at more = λ l. l
 
+-- where its queue has room still, where it had some, or isn't that of c, a parameter that has room keeps it
+room_set : (qs : List Waiting) (c : ℕ) (w w' : Waiting) (a : Actual) → slice_get qs c ≡ Some w → (Joins a c → 0 < w.spare → 0 < w'.spare) → 0 < spare_of (queue_of qs a) →
+    0 < spare_of (queue_of (slice_set qs c w') a)
+room_set qs c w w' (Reads d) at more = set_keeps (λ o. 0 < spare_of o) qs c d w w' at more
+room_set qs c w w' (Writes d) at more = set_keeps (λ o. 0 < spare_of o) qs c d w w' at more
+room_set qs c w w' (Hands v) at more = λ l. l
+
 -- ---- the clauses of ports, over the queues as contracts see them
 
 abbrev pub changed : Lines → ℕ → Waiting → Lines
@@ -106,6 +113,9 @@ changed s c w = record s { queues = slice_set s.queues c w }
 
 abbrev ready_at : Lines → ℕ → Type 0
 ready_at s q = 0 < waiting_of (queue_of s.queues (actual_of s q))
+
+abbrev roomy_at : Lines → ℕ → Type 0
+roomy_at s q = 0 < spare_of (queue_of s.queues (actual_of s q))
 
 abbrev pub seat_of : Lines → Seat
 seat_of s = record { network = s.network; input = s.input; instance = s.instance }
@@ -137,6 +147,14 @@ module _ (s : Lines) (h : AreQueued s) (c : ℕ) (w w' : Waiting) (inside : c < 
 
   more_stay : w.waiting ≤ w'.waiting → StayReady (ready_at s) (ready_at (changed s c w'))
   more_stay more q = ready_set s.queues c w w' (actual_of s q) queue_at (λ e. more)
+
+  rooms_stay : (0 < w.spare → 0 < w'.spare) → KeepsRoom (roomy_at s) (roomy_at (changed s c w'))
+  rooms_stay more q = room_set s.queues c w w' (actual_of s q) queue_at (λ e. more)
+
+-- a take leaves the room that there was
+room_taken : (w w' : Waiting) (o : Option Token) → IfSome o (λ _. w'.spare ≡ w.spare + 1) → IfNone o ((w' ≡ w) × (w.waiting ≡ 0)) → 0 < w.spare → 0 < w'.spare
+room_taken w w' (Some t) more none lt = omega (arith, more)
+room_taken w w' None more none lt = subst (λ (x : Waiting). 0 < x.spare) (sym none.0) lt
 
 -- what a take leaves
 pub record Took (n new : Lines) (q c : ℕ) (o : Option Token) : Type 0 where
@@ -211,6 +229,9 @@ module _ {s n : Lines} (is : s ≡ n) (h : AreQueued s) (q c : ℕ) (reads : act
           keeps = rw (← is) (λ r d other read. more_stay s h c w w' read_inside value (let e = kept.1 in omega (arith, e)) r);
         }
 
+    pub took_rooms : (w' : Waiting) (o : Option Token) → IfSome o (λ _. w'.spare ≡ w.spare + 1) → IfNone o ((w' ≡ w) × (w.waiting ≡ 0)) → KeepsRoom (roomy_at n) (roomy_at (changed s c w'))
+    took_rooms w' o more none = rw (← is) (rooms_stay s h c w w' read_inside value (room_taken w w' o more none))
+
 -- of which it writes channel c
 module _ {s n : Lines} (is : s ≡ n) (h : AreQueued s) (q c : ℕ) (writes_it : actual_of n q ≡ Writes c) where
   write_here : actual_of s q ≡ Writes c
@@ -240,6 +261,25 @@ module _ {s n : Lines} (is : s ≡ n) (h : AreQueued s) (q c : ℕ) (writes_it :
 
       pub room_there : 0 < w'.spare → 0 < spare_of (queue_of (slice_set s.queues c w') (actual_of s q))
       room_there room = subst (λ k. 0 < k) (sym (ap (λ a. spare_of (queue_of (slice_set s.queues c w') a)) write_here ∙ ap spare_of (set_here s.queues c w' write_inside))) room
+
+    queue_written : queue_of n.queues (actual_of n q) ≡ Some w
+    queue_written = rw (← is) (ap (queue_of s.queues) write_here ∙ queue_at s h c w w' write_inside value)
+
+    queue_made : queue_of (slice_set s.queues c w') (actual_of s q) ≡ Some w'
+    queue_made = ap (queue_of (slice_set s.queues c w')) write_here ∙ set_here s.queues c w' write_inside
+
+    pub room_here : roomy_at n q → 0 < w.spare
+    room_here l = subst (λ o. 0 < spare_of o) queue_written l
+
+    pub room_gone : w'.spare ≡ 0 → roomy_at (changed s c w') q → ⊥
+    room_gone none l = let more : 0 < w'.spare = subst (λ o. 0 < spare_of o) queue_made l in omega (arith, none, more)
+
+    pub room_rooms : (0 < w.spare → 0 < w'.spare) → KeepsRoom (roomy_at n) (roomy_at (changed s c w'))
+    room_rooms more = rw (← is) (rooms_stay s h c w w' write_inside value more)
+
+    pub put_rooms : (r d : ℕ) → r ≢ q → (actual_of n r ≡ Writes d) × (is_output (role_at (network_of n.network) d) ≡ false) → roomy_at n r → roomy_at (changed s c w') r
+    put_rooms = rw (← is) (λ r d other written. room_set s.queues c w w' (actual_of s r) (queue_at s h c w w' write_inside value)
+        (λ joins. absurd (write_once s.instance r (λ e f. other f) (written.0 ∙ ap Writes (subst (λ a. Joins a c) written.0 joins)))))
 
     -- where a token was put
     module _ (counts : (w'.taken ≡ w.taken) × (w'.waiting ≡ w.waiting + 1)) where

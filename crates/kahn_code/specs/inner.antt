@@ -3,3 +3,4 @@ pub mod Gone
 pub mod Tapped
 pub mod Begins
 pub mod Forms
+pub mod Rooms

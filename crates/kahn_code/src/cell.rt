@@ -7,7 +7,7 @@ ghost use Rattle.kahn_code.specs.Flat.{stmt_code};
 ghost use Rattle.kahn_streams.specs.Laws.{AreInputsExtended};
 ghost use Rattle.kahn_code.specs.Progress.{Paused, IsPause};
 ghost use Rattle.kahn_code.specs.Seats.{Leaves, Grows};
-ghost use Rattle.kahn_code.specs.Told.{AreCounts, seat_of, told_view, IsAt, IsStill};
+ghost use Rattle.kahn_code.specs.Told.{AreCounts, seat_of, told_view, IsAt, IsStill, WantsRoom};
 
 use crate::code::{Code, CodeFault};
 use crate::ports::Ports;
@@ -93,8 +93,10 @@ impl<A: Allocator + Copy + Drop> Cell<A> {
         // What the source says of the cell and of the pause.
         ensures paused { Paused (network_of self.new.network) (inputs_of self.new.input) self.new.watch self.new.instance (told_view self.new) (IsPause (network_of self.new.network) self.new.instance (P.is_dry ports.new) (P.is_ready ports.new) (self.new.events ≡ self.old.events + quantum) result) }
         ensures events { (self.old.events ≤ self.new.events) × (self.new.events ≤ self.old.events + quantum) }
-        // Where no event was done, counts and lists are as before.
+        // Where no event was done, counts and lists are as before, and for how many tokens more lists have room.
         ensures still { self.new.events ≡ self.old.events → IsStill self.old self.new }
+        // Where memory was refused, what it would send next has no room.
+        ensures refused { result ≡ Pause.NoMemory → WantsRoom self.new (P.has_room ports.new) }
         // How many instructions were executed: at least one for each event.
         ensures cost { steps.new ≤ steps.old + (quantum + 1) * length (stmt_code (instance_at (network_of self.old.network) self.old.instance).body) }
         ensures counted { steps.old + self.new.events ≤ steps.new + self.old.events }

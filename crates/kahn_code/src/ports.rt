@@ -1,7 +1,7 @@
 //! Where an instance takes and puts tokens.
 
-ghost use Rattle.std.specs.Prelude.{◌≡◌, ◌≢◌, ℕ, ◌<◌, ◌^◌, IfSome, IfNone, IsSome, IsTrue, IsFalse, OnOk};
-ghost use Rattle.kahn_code.specs.Seats.{Seat, DoesRead, DoesWrite, IsNext, Stays, StayReady, Moved, Leaves, Grows};
+ghost use Rattle.std.specs.Prelude.{◌≡◌, ◌≢◌, ℕ, ◌<◌, ◌^◌, IfSome, IfNone, IsSome, IsTrue, IsFalse, OnOk, OnErr, IsOk};
+ghost use Rattle.kahn_code.specs.Seats.{Seat, DoesRead, DoesWrite, IsNext, Stays, StayReady, KeepsRoom, Moved, Leaves, Grows};
 
 use kahn_streams::{NoMemory, Token};
 
@@ -43,6 +43,7 @@ pub trait Ports {
         ensures delivered { Grows (delivered self.old) (delivered self.new) }
         ensures next { Stays (next self.old) (next self.new) }
         ensures keeps { StayReady (is_ready self.old) (is_ready self.new) }
+        ensures rooms { KeepsRoom (has_room self.old) (has_room self.new) }
         ensures yes { IsTrue result → is_ready self.new parameter }
         ensures dry { IsFalse result → is_dry self.new parameter };
 
@@ -59,9 +60,10 @@ pub trait Ports {
         ensures stays { IfNone result (Stays (next self.old) (next self.new)) }
         ensures dry { IfNone result (is_dry self.new parameter) }
         ensures some { is_ready self.old parameter → IsSome result }
-        ensures keeps { (q d : ℕ) → q ≢ parameter → DoesRead (seat self.old) q d → is_ready self.old q → is_ready self.new q };
+        ensures keeps { (q d : ℕ) → q ≢ parameter → DoesRead (seat self.old) q d → is_ready self.old q → is_ready self.new q }
+        ensures rooms { KeepsRoom (has_room self.old) (has_room self.new) };
 
-    /// Makes room for one token.
+    /// Makes room for one token. Where there is room already it takes no memory, and so refuses nothing.
     fn room(&mut self, parameter: usize, channel: usize) -> Result<(), NoMemory>
         requires { DoesWrite (seat self.old) parameter channel }
         ensures seat { seat self.new ≡ seat self.old }
@@ -70,7 +72,10 @@ pub trait Ports {
         ensures delivered { Grows (delivered self.old) (delivered self.new) }
         ensures next { Stays (next self.old) (next self.new) }
         ensures room { OnOk result (has_room self.new parameter) }
-        ensures keeps { StayReady (is_ready self.old) (is_ready self.new) };
+        ensures full { OnErr result (has_room self.new parameter → ⊥) }
+        ensures spare { has_room self.old parameter → IsOk result }
+        ensures keeps { StayReady (is_ready self.old) (is_ready self.new) }
+        ensures rooms { KeepsRoom (has_room self.old) (has_room self.new) };
 
     /// Puts the token of the next place. It takes no memory.
     fn put(&mut self, parameter: usize, channel: usize, token: Token)
@@ -83,5 +88,6 @@ pub trait Ports {
         ensures which { which self.new ≡ which self.old }
         ensures delivered { Grows (delivered self.old) (delivered self.new) }
         ensures moved { Moved (next self.old) (next self.new) parameter }
-        ensures keeps { StayReady (is_ready self.old) (is_ready self.new) };
+        ensures keeps { StayReady (is_ready self.old) (is_ready self.new) }
+        ensures rooms { (q d : ℕ) → q ≢ parameter → DoesWrite (seat self.old) q d → has_room self.old q → has_room self.new q };
 }

@@ -1,6 +1,6 @@
 //! The plain queue of a channel.
 
-ghost use Rattle.std.specs.Prelude.{◌≡◌, ◌<◌, ◌≤◌, ◌+◌, ◌^◌, [], length, IfSome, IfNone, OnOk};
+ghost use Rattle.std.specs.Prelude.{◌≡◌, ◌<◌, ◌≤◌, ◌+◌, ◌^◌, [], length, IfSome, IfNone, OnOk, OnErr, IsOk};
 ghost use Rattle.kahn_streams.specs.declared.value.Line.TheVariants.{Channel};
 ghost use Rattle.kahn_streams.specs.Laws.{AreInputsExtended};
 ghost use Rattle.kahn_streams.specs.Streams.{IsOf};
@@ -66,12 +66,13 @@ impl<A: Allocator> Queue<A> {
         }
     }
 
-    /// The token of the next place. None where none waits.
+    /// The token of the next place. None where none waits. It takes no memory.
     pub fn take(&mut self) -> Option<Token>
         requires { self.old.taken < 2 ^ 48 }
         ensures names { (self.new.network ≡ self.old.network) × (self.new.input ≡ self.old.input) × (self.new.channel ≡ self.old.channel) }
         ensures token { IfSome result (λ t. IsOf self.old.network self.old.input t × (t.line ≡ Channel self.old.channel) × (t.place ≡ self.old.taken)) }
         ensures moved { IfSome result (λ _. (self.new.taken ≡ self.old.taken + 1) × (self.new.waiting + 1 ≡ self.old.waiting)) }
+        ensures spare { IfSome result (λ _. self.new.spare ≡ self.old.spare + 1) }
         ensures none { IfNone result ((self.new ≡ self.old) × (self.old.waiting ≡ 0)) }
     {
         let carried = self.tokens.pop_front()?;
@@ -95,21 +96,26 @@ impl<A: Allocator> Queue<A> {
         self.input = About::named();
     }
 
-    /// Makes room for one token more.
+    /// Makes room for one token more. Where there is room already it takes no memory, and so refuses nothing.
     #[inline(always)]
     pub fn room(&mut self) -> Result<(), NoMemory>
         ensures names { (self.new.network ≡ self.old.network) × (self.new.input ≡ self.old.input) × (self.new.channel ≡ self.old.channel) }
         ensures counts { (self.new.taken ≡ self.old.taken) × (self.new.waiting ≡ self.old.waiting) }
         ensures room { OnOk result (0 < self.new.spare) }
+        ensures full { OnErr result (self.new.spare ≡ 0) }
+        ensures spare { 0 < self.old.spare → IsOk result × (self.new ≡ self.old) }
     {
         if self.tokens.len() < self.tokens.capacity() {
             return Ok(());
         }
-        self.tokens.reserve(1)?;
-        Ok(())
+        let _grown = self.tokens.reserve(1);
+        if self.tokens.len() < self.tokens.capacity() {
+            return Ok(());
+        }
+        Err(NoMemory)
     }
 
-    /// Puts the token of the next place.
+    /// Puts the token of the next place. It takes no memory.
     pub fn put(&mut self, token: Token)
         requires room { 0 < self.old.spare }
         requires names { IsOf self.old.network self.old.input token }
@@ -117,6 +123,7 @@ impl<A: Allocator> Queue<A> {
         requires place { token.place ≡ self.old.taken + self.old.waiting }
         ensures names { (self.new.network ≡ self.old.network) × (self.new.input ≡ self.old.input) × (self.new.channel ≡ self.old.channel) }
         ensures counts { (self.new.taken ≡ self.old.taken) × (self.new.waiting ≡ self.old.waiting + 1) }
+        ensures spare { self.new.spare + 1 ≡ self.old.spare }
     {
         self.tokens.push_back_reserved(Carried::of(token));
     }

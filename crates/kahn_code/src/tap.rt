@@ -11,8 +11,8 @@ ghost use Rattle.kahn_code.specs.inner.Gone.{kept_behind, nothing_gone};
 ghost use Rattle.kahn_code.specs.Progress.{core_of, opening_core};
 ghost use Rattle.kahn_code.specs.Seats.{Leaves, Grows};
 ghost use Rattle.kahn_code.specs.Standing.{tokens};
-ghost use Rattle.kahn_code.specs.Told.{AreCounts, seat_of, IsAt, IsStanding, IsStill};
-ghost use Rattle.kahn_code.specs.inner.Tapped.{AreUnused, IsPausedBy, IsSameProcess, tapped_of};
+ghost use Rattle.kahn_code.specs.Told.{AreCounts, seat_of, IsAt, IsStanding, IsStill, WantsRoom};
+ghost use Rattle.kahn_code.specs.inner.Tapped.{AreUnused, HasForgotten, IsPausedBy, IsSameProcess, tapped_of};
 
 use crate::cell::Kept;
 use crate::code::{Code, CodeFault};
@@ -92,8 +92,10 @@ impl<A: Allocator + Copy + Drop> Tap<A> {
         // What the source says of the cell and of the pause.
         ensures paused { IsPausedBy self.new.told (P.is_dry ports.new) (P.is_ready ports.new) (self.new.told.events ≡ self.old.told.events + quantum) result }
         ensures events { (self.old.told.events ≤ self.new.told.events) × (self.new.told.events ≤ self.old.told.events + quantum) }
-        // Where no event was done, counts and lists are as before.
+        // Where no event was done, counts and lists are as before, and for how many tokens more lists have room.
         ensures still { self.new.told.events ≡ self.old.told.events → IsStill self.old.told self.new.told }
+        // Where memory was refused, what it would send next has no room.
+        ensures refused { result ≡ Pause.NoMemory → WantsRoom self.new.told (P.has_room ports.new) }
         // How many instructions were executed: at least one for each event.
         ensures cost { steps.new ≤ steps.old + (quantum + 1) * length (stmt_code (instance_at (network_of self.old.told.network) self.old.told.instance).body) }
         ensures counted { steps.old + self.new.told.events ≤ steps.new + self.old.told.events }
@@ -172,7 +174,7 @@ impl<A: Allocator + Copy + Drop> Tap<A> {
 
     /// Lets go of the tokens that it keeps. It takes no memory.
     pub fn forget(&mut self)
-        ensures { self.new ≡ record self.old { gone = record { kept = self.old.told.kept; printed = self.old.told.printed } } }
+        ensures { HasForgotten self.old self.new }
     {
         self.progress.forget();
     }

@@ -196,6 +196,11 @@ module _ (seen : Berth) (t : Program) (lists : Lists) (p : ℕ) (es : List End) 
   pub identities_written : (d : ℕ) → DoesWrite (seat_at seen) q d → identities (slice_set es q new) ≡ identities seen.ends
   identities_written d writes = identities_at (within_written t lists p es h q d (subst (λ (b : Berth). DoesWrite (seat_at b) q d) (sym is) writes).0)
 
+  -- what is so of the new end is so of the end that stands there
+  pub written_at : (P : End → Type 0) (d : ℕ) → DoesWrite (seat_at seen) q d → P new → P (end_at (slice_set es q new) q)
+  written_at P d writes holds =
+      subst P (sym (set_here es q new (within_written t lists p es h q d (subst (λ (b : Berth). DoesWrite (seat_at b) q d) (sym is) writes).0))) holds
+
 -- the first n ends were flushed
 abbrev pub UpTo : ℕ → List End → Type 0
 UpTo n es = (r : ℕ) → r < n → IsFlushed (end_at es r)

@@ -1,6 +1,6 @@
 //! The end of a channel that a parameter has.
 
-ghost use Rattle.std.specs.Prelude.{◌≡◌, ◌⊎◌, ℕ, ◌<◌, ◌≤◌, ◌+◌, ◌^◌, true, length, Some, IfSome, IfNone, IfOk, IfErr, IsSome, IsTrue, IsFalse, OnOk, MatchResult};
+ghost use Rattle.std.specs.Prelude.{◌≡◌, ◌⊎◌, ℕ, ◌<◌, ◌≤◌, ◌+◌, ◌^◌, true, length, Some, IfSome, IfNone, IfOk, IfErr, IsOk, IsSome, IsTrue, IsFalse, OnOk, OnErr, MatchResult};
 ghost use Rattle.kahn_network.specs.Network.{network_of, role_at};
 ghost use Rattle.kahn_lane.specs.LaneEnds.{SameSender, flushed, left, sender_lane, sender_name, sent};
 ghost use Rattle.kahn_lane.specs.Places.{moved_to, token_name};
@@ -111,6 +111,7 @@ impl Port {
         ensures counts { (self.new.next ≡ self.old.next) × (self.new.known ≡ self.old.known) }
         ensures asked { self.new.asked ≡ self.old.left }
         ensures keeps { IsReady self.old → IsReady self.new }
+        ensures rooms { HasRoom self.old → HasRoom self.new }
         ensures yes { IsTrue result → IsReady self.new }
         ensures dry { IsFalse result → IsDry self.new }
     {
@@ -138,6 +139,7 @@ impl Port {
         ensures asked { self.new.asked ≡ self.old.left }
         ensures none { IfNone result ((self.new.next ≡ self.old.next) × IsDry self.new) }
         ensures some { IsReady self.old → IsSome result }
+        ensures rooms { HasRoom self.old → HasRoom self.new }
     {
         match &mut self.way {
             Way::Takes(receiver, asked) => {
@@ -150,14 +152,18 @@ impl Port {
         }
     }
 
-    /// Makes room for one token. Where the open segment is full it is flushed first.
+    /// Makes room for one token. Where the open segment is full it is flushed first. Where there is room already it takes no
+    /// memory.
     pub(crate) fn room(&mut self) -> Result<(), NoMemory>
         requires { self.old.writes ≡ true }
         ensures same { IsSame self.old self.new }
         ensures advances { Advances self.old self.new }
         ensures counts { (self.new.next ≡ self.old.next) × ((self.new.flushed ≡ self.old.flushed) ⊎ (self.new.flushed ≡ self.old.next)) }
         ensures room { OnOk result (HasRoom self.new) }
+        ensures full { OnErr result (HasRoom self.new → ⊥) }
+        ensures spare { HasRoom self.old → IsOk result }
         ensures keeps { IsReady self.old → IsReady self.new }
+        ensures rooms { HasRoom self.old → HasRoom self.new }
     {
         match &mut self.way {
             Way::Takes(_, _) => Ok(()),

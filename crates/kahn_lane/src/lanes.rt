@@ -4,7 +4,7 @@
 //! the reader is to see it. The reader steals a segment where its own is used up, and takes its tokens one by one.
 //! No call ever holds its thread.
 
-ghost use Rattle.std.specs.Prelude.{◌≡◌, ◌+◌, ◌≤◌, ◌<◌, ◌^◌, ◌⊎◌, true, false, vec_len, vec_capacity, IfOk, IsOk, IsSome, MatchResult, MatchOption, Some};
+ghost use Rattle.std.specs.Prelude.{◌≡◌, ◌+◌, ◌≤◌, ◌<◌, ◌^◌, ◌⊎◌, true, false, vec_len, vec_capacity, IfOk, IsOk, OnErr, IsSome, MatchResult, MatchOption, Some};
 ghost use Rattle.crossbeam_deque.specs.Handles.{worker_view, worker_deque, worker_flavor, stealer_deque, stealer_flavor};
 ghost use Rattle.kahn_lane.specs.Places.{lane_name, token_name, tag_name, owner};
 ghost use Rattle.kahn_lane.specs.inner.LaneRule.{size, tokens_of};
@@ -105,12 +105,14 @@ pub fn lane<A: Allocator + Clone + Drop>(
 
 impl<A: Allocator + Clone + Drop> Sender<A> {
     /// Makes place for one token. Where the open segment has 64 tokens it is flushed first. Where memory is refused
-    /// all tokens stay, and those of a full segment may have been flushed. Where there is place already it takes none.
+    /// all tokens stay, those of a full segment may have been flushed, and there is no place. Where there is place already
+    /// it takes none.
     pub fn room(&mut self) -> Result<(), NoMemory>
         ensures same { SameSender self.old self.new × (sent self.new ≡ sent self.old) }
         ensures room { IfOk result (λ _. HasRoom self.new) }
         ensures flushed { (flushed self.new ≡ flushed self.old) ⊎ ((sent self.old ≡ flushed self.old + 64) × (flushed self.new ≡ sent self.old)) }
         ensures spare { HasRoom self.old → IsOk result }
+        ensures full { OnErr result (HasRoom self.new → ⊥) }
     {
         if self.current.len() >= SEGMENT {
             self.flush()?;

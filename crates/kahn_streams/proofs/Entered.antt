@@ -1,5 +1,6 @@
 -- Entries, one by one: the number of a name, what is given, and the lists.
-use Rattle.std.proofs.Common.{arith, ◌≡◌, ◌≢◌, ◌⊎◌, inl, inr, ℕ, zero, suc, ◌+◌, ◌<◌, ◌==◌, Bool, true, false, List, [], ◌∷◌, ◌++◌, length, map, take, drop, replicate, set, get_or, Some, refl, sym, ap, ◌∙◌, subst, slice_get, slice_index_or, if◌then◌else◌, add-one, bytes_eq, eq-eqb, length-set, get_or-set_same, get_or-set_other}
+use Rattle.std.proofs.Common.{arith, ◌≡◌, ◌≢◌, ◌⊎◌, inl, inr, ℕ, zero, suc, ◌+◌, ◌<◌, ◌==◌, Bool, true, false, List, [], ◌∷◌, ◌++◌, length, map, take, drop, replicate, set, get_or, Some, refl, sym, ap, ◌∙◌, subst, slice_get, slice_index_or, if◌then◌else◌, Result, Ok, Err, add-one, bytes_eq, eq-eqb, length-set, get_or-set_same, get_or-set_other}
+use Rattle.std.specs.Prelude.{MatchResult}
 use Rattle.std.proofs.lemmas.Bool.{cases_eq, eqb-true}
 use Rattle.std.proofs.lemmas.List.{length-map, length-replicate, take-append-le, take-map}
 use Rattle.std.proofs.lemmas.Option.{slice_get_read, slice_get-map}
@@ -10,6 +11,7 @@ use Rattle.kahn_tree.specs.View.{Scope, place_of}
 use Rattle.kahn_network.specs.Network.{network_of, kind_at, role_at, channels_of}
 use Rattle.kahn_network.specs.Sides.{channel_names}
 use Rattle.kahn_streams.specs.declared.entries.InputFault.{InputFault}
+use Rattle.kahn_streams.specs.declared.entries.InputFault.TheVariants.{NoMemory}
 use Rattle.kahn_streams.specs.Kinded.{AreOfKind, IsInputFor}
 use Rattle.kahn_streams.specs.Tokens.{Lists, inputs_of}
 use Rattle.kahn_streams.specs.Entries.{Entry, channel_of, is_given, list_for, IsFit, IsRefused, AreFit, IsFirstRefused, IsMadeOf}
@@ -220,3 +222,9 @@ read_so_far f done all e = ap (map f) (sym (map_same done) ∙ e) ∙ sym (take-
 
 pub read_all : {A : Type 0} (f : A → Entry) (done all : List A) → map (λ x. x) done ≡ all → map f done ≡ map f all
 read_all f done all e = ap (map f) (sym (map_same done) ∙ e)
+
+-- ---- a refusal of an entry, where memory may be refused beside
+
+pub or_memory : {T : Type 0} (P : T → Type 0) (Q : InputFault → Type 0) (r : Result T InputFault) → MatchResult r P Q → MatchResult r P (λ fault. (fault ≡ NoMemory) ⊎ Q fault)
+or_memory P Q (Ok x) h = h
+or_memory P Q (Err fault) h = inr h

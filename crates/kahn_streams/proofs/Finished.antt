@@ -7,6 +7,7 @@ use Rattle.kahn_streams.specs.declared.value.Line.{Line}
 use Rattle.kahn_streams.specs.declared.value.Line.TheVariants.{Channel, Print}
 use Rattle.kahn_tree.specs.Syntax.{Number, Stmt}
 use Rattle.kahn_streams.specs.Script.{Tapes, Script, Give, Fail, Waits, Sends, Turns, Rest, Outcome, Got, Dry, Fault, Cut, Reached, after_event, after_send, put, wait_at, play}
+use Rattle.kahn_streams.specs.Meaning.{Store, exec, script_of}
 use Rattle.kahn_network.specs.Network.{Network, Instance, Hands, instance_at, Source, Given, Written, Nobody}
 use Rattle.kahn_streams.specs.Solution.{IsWhole, Histories, Inputs, tapes_of, exec_at, out, values_at, goes_to, source, fed, input_list, iterate, IsPrefix, HasEnd, HasSizes, none_left, one_more, Ending, ending}
 use Rattle.kahn_streams.specs.Laws.{IsSolution, IsExtended, InputsGrow, AreInputsExtended, SendsStand, IsQuiet, IsSettled, IsCounted, IsUnrolled, IsDetermined}
@@ -44,6 +45,11 @@ more_events N n m p H le h =
     play_alike (exec_alike N n m p le) (tapes_of (instance_at N p) H)
     in
     more_play n m (script_at N m p) (tapes_of (instance_at N p) H) le (λ e. h (ap (λ r. r.outcome) a ∙ e)) ∙ sym a
+
+pub more_exec : (b : Stmt) (s : Store) (n m : ℕ) (T : Tapes) → n ≤ m → ((exec n b s T).outcome ≡ Cut → ⊥) → exec m b s T ≡ exec n b s T
+more_exec b s n m T le h =
+    let a : exec n b s T ≡ play n (script_of m b s Give) T = play_alike (script_alike n n m b (le_refl n) le s Give Give (λ r. gives)) T in
+    more_play n m (script_of m b s Give) T le (λ e. h (ap (λ r. r.outcome) a ∙ e)) ∙ sym a
 
 over : {A : Type 0} (o : Outcome A) (x : Ending) → ending o ≡ Some x → o ≡ Cut → ⊥
 over (Got a) x e f = absurd cc

@@ -1,6 +1,6 @@
 //! The lists that are fed to the input channels.
 
-ghost use Rattle.std.specs.Prelude.{◌≡◌, ◌+◌, ◌++◌, ◌<◌, ◌≤◌, ◌↔◌, ◌⊎◌, if◌then◌else◌, is_ok, IsTrue, IfSome, IfNone, IfOk, MatchResult, length, map, slice_get, slice_index_or, slice_set, [], replicate};
+ghost use Rattle.std.specs.Prelude.{◌≡◌, ◌+◌, ◌++◌, ◌<◌, ◌≤◌, ◌↔◌, ◌⊎◌, if◌then◌else◌, is_ok, IsTrue, IfSome, IfNone, IfOk, IfErr, OnErr, MatchResult, false, length, map, slice_get, slice_index_or, slice_set, [], replicate, vec_capacity};
 ghost use Rattle.kahn_streams.specs.Entries.{entry_of, most_values, IsMadeOf, IsFirstRefused};
 ghost use Rattle.kahn_streams.specs.Feeds.{IsFed, IsUnwelcome};
 ghost use Rattle.kahn_streams.specs.Laws.{AreInputsExtended};
@@ -63,16 +63,9 @@ impl Input {
             (λ fault. (fault ≡ InputFault.NoMemory) ⊎ IsFirstRefused network.now (map entry_of entries.items) fault) }
         ensures fits { IfOk result (IsInputFor (network_of network.now)) }
     {
-        let mut input = Input::none(alloc, network)?;
-        let mut given = vec![in alloc; false; network.channels()]?;
-        let mut number = 0;
-        for (name, values) in entries {
-            number += 1;
-            let channel = channel_for(network, &given, &name, &values, number)?;
-            given[channel] = true;
-            input.give(channel, values);
-        }
-        Ok(input)
+        let input = Input::none(alloc, network)?;
+        let given = vec![in alloc; false; network.channels()]?;
+        filled(network, input, given, entries)
     }
 
     // Gives a channel its list, which takes no copy.
@@ -86,7 +79,7 @@ impl Input {
 
     /// Appends values to the list of the input channel of that name. It refuses a name of no channel, then a channel that
     /// is no input, then a value of another kind than the channel's, then what would make more than 1,048,576 values of
-    /// the channel, and then where memory was refused. A refusal leaves the input as it was.
+    /// the channel, and then where memory was refused, which no empty list is. A refusal leaves the input as it was.
     pub fn extend(
         &mut self,
         network: &Network,
@@ -96,6 +89,7 @@ impl Input {
         requires { length self.old ≡ length (network_of network.now).channels }
         ensures fed { MatchResult result (λ _. IsFed network.now self.old (channel.now, values.items) self.new)
             (λ fault. (self.new ≡ self.old) × IsUnwelcome network.now self.old (channel.now, values.items) fault) }
+        ensures some { IfErr result (λ fault. fault ≡ FeedFault.NoMemory → 0 < length values.items) }
         ensures fits { IsInputFor (network_of network.now) self.old → IsInputFor (network_of network.now) self.new }
         ensures grown { AreInputsExtended (inputs_of self.old) (inputs_of self.new) }
         ensures size { length self.new ≡ length self.old }
@@ -119,12 +113,13 @@ impl Input {
     }
 
     // Appends values to the list of a channel.
-    fn append(&mut self, channel: usize, mut values: Vec<Value>) -> Result<(), NoMemory>
+    fn append(&mut self, channel: usize, values: Vec<Value>) -> Result<(), NoMemory>
         requires here { channel < length self.old }
         requires few { length (inputs_of self.old channel) + length values.items ≤ most_values }
-        ensures { self.new ≡ (if is_ok result then slice_set self.old channel (inputs_of self.old channel ++ values.items) else self.old) }
+        ensures lists { self.new ≡ (if is_ok result then slice_set self.old channel (inputs_of self.old channel ++ values.items) else self.old) }
+        ensures some { OnErr result (0 < length values.items) }
     {
-        self.lists[channel].append(&mut values)?;
+        add_values(&mut self.lists[channel], values)?;
         Ok(())
     }
 
@@ -189,6 +184,39 @@ impl Input {
             None => &[],
         }
     }
+}
+
+// The empty input with the lists of these entries. Given are the channels that an entry before names, at first none.
+// Nothing grows here, so memory isn't refused.
+fn filled(
+    network: &Network,
+    mut input: Input,
+    mut given: Vec<bool>,
+    entries: Vec<(String, Vec<Value>)>,
+) -> Result<Input, InputFault>
+    requires empty { input ≡ replicate (length (network_of network.now).channels) [] }
+    requires none { given.items ≡ replicate (length (network_of network.now).channels) false }
+    ensures made { MatchResult result (IsMadeOf network.now (map entry_of entries.items)) (IsFirstRefused network.now (map entry_of entries.items)) }
+    ensures fits { IfOk result (IsInputFor (network_of network.now)) }
+{
+    let mut number = 0;
+    for (name, values) in entries {
+        number += 1;
+        let channel = channel_for(network, &given, &name, &values, number)?;
+        given[channel] = true;
+        input.give(channel, values);
+    }
+    Ok(input)
+}
+
+// Adds values to a list. It refuses only where the list hasn't room for them.
+fn add_values(list: &mut Vec<Value>, mut values: Vec<Value>) -> Result<(), NoMemory>
+    ensures items { list.new.items ≡ (if is_ok result then list.old.items ++ values.items else list.old.items) }
+    ensures full { OnErr result (vec_capacity list.old < length list.old.items + length values.items) }
+    ensures some { OnErr result (0 < length values.items) }
+{
+    list.append(&mut values)?;
+    Ok(())
 }
 
 // Whether an input may have these values for the channel.

@@ -1,4 +1,4 @@
-use Rattle.kahn_code.proofs.Queued.{put_queued, put_leaves, put_moves, put_keeps}
+use Rattle.kahn_code.proofs.Queued.{put_queued, put_leaves, put_moves, put_keeps, put_rooms}
 use Rattle.kahn_code.proofs.plain.PlainPorts.put.Goals as goal
 
 pub invariant_of-self : goal.invariant_of-self
@@ -12,3 +12,6 @@ returns-clause-moved g c = put_moves c.self.view_is c.self.invariant c.args._par
 
 pub returns-clause-keeps : goal.returns-clause-keeps
 returns-clause-keeps g c = put_keeps c.self.view_is c.self.invariant c.args._parameter c.args.channel c.requires.writes.0 c.index_mut.ensures.value _ c.put.ensures.names c.put.ensures.counts
+
+pub returns-clause-rooms : goal.returns-clause-rooms
+returns-clause-rooms g c = put_rooms c.self.view_is c.self.invariant c.args._parameter c.args.channel c.requires.writes.0 c.index_mut.ensures.value _ c.put.ensures.names

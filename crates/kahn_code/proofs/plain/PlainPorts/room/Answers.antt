@@ -1,6 +1,6 @@
-use Rattle.std.proofs.Common.{arith}
-use Rattle.std.proofs.lemmas.Result.{on_ok_weaker}
-use Rattle.kahn_code.proofs.Queued.{write_inside, room_queued, room_stays, room_leaves, room_keeps, room_there}
+use Rattle.std.proofs.Common.{arith, sym, subst, ◌<◌}
+use Rattle.std.proofs.lemmas.Result.{on_ok_weaker, on_err_weaker}
+use Rattle.kahn_code.proofs.Queued.{write_inside, room_queued, room_stays, room_leaves, room_keeps, room_there, room_here, room_gone, room_rooms}
 use Rattle.kahn_code.proofs.plain.PlainPorts.room.Goals as goal
 
 pub index_mut-requires : goal.index_mut-requires
@@ -22,3 +22,17 @@ returns-clause-room g c =
 
 pub returns-clause-keeps : goal.returns-clause-keeps
 returns-clause-keeps g c = room_keeps c.self.view_is c.self.invariant c.args._parameter c.args.channel c.requires.0 c.index_mut.ensures.value _ c.room.ensures.names c.room.ensures.counts
+
+pub returns-clause-full : goal.returns-clause-full
+returns-clause-full g c =
+    on_err_weaker c.room.result
+    (room_gone c.self.view_is c.self.invariant c.args._parameter c.args.channel c.requires.0 c.index_mut.ensures.value _ c.room.ensures.names) c.room.ensures.full
+
+pub returns-clause-spare : goal.returns-clause-spare
+returns-clause-spare g c there =
+    (c.room.ensures.spare (room_here c.self.view_is c.self.invariant c.args._parameter c.args.channel c.requires.0 c.index_mut.ensures.value c.room.new.self c.room.ensures.names there)).0
+
+pub returns-clause-rooms : goal.returns-clause-rooms
+returns-clause-rooms g c =
+    room_rooms c.self.view_is c.self.invariant c.args._parameter c.args.channel c.requires.0 c.index_mut.ensures.value c.room.new.self c.room.ensures.names
+    (λ there. subst (λ w. 0 < w.spare) (sym (c.room.ensures.spare there).1) there)

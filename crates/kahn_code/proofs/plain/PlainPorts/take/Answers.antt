@@ -1,5 +1,5 @@
 use Rattle.std.proofs.Common.{arith, refl, rules}
-use Rattle.kahn_code.proofs.Queued.{read_inside, next_read, took}
+use Rattle.kahn_code.proofs.Queued.{read_inside, next_read, took, took_rooms}
 use Rattle.kahn_code.proofs.plain.PlainPorts.take.Goals as goal
 
 pub index_mut-requires : goal.index_mut-requires
@@ -27,4 +27,5 @@ returns g c =
       dry = t.dry;
       some = t.some;
       keeps = t.keeps;
+      rooms = took_rooms c.self.view_is c.self.invariant c.args._parameter c.args.channel c.requires.reads c.index_mut.ensures.value _ _ e.spare e.none;
     }

@@ -5,7 +5,7 @@ use Rattle.kahn_code.specs.Flat.{stmt_code}
 use Rattle.kahn_code.specs.Machines.{IsBody}
 use Rattle.kahn_code.specs.Seats.{seat_code}
 use Rattle.kahn_code.specs.Told.{seat_of}
-use Rattle.kahn_code.proofs.Celled.{sits_of, seat_after, at_after, standing_after, paused_after}
+use Rattle.kahn_code.proofs.Celled.{sits_of, seat_after, at_after, standing_after, paused_after, wants_after}
 use Rattle.kahn_code.proofs.tap.Tap.run.Goals as goal
 
 pub routine-routine-requires : goal.routine-routine-requires
@@ -47,6 +47,21 @@ returns-clause-paused g c =
     let lists = c.self.inside.input.value in
     let seat = seat_after (g.P.Ports.seat c.args.ports.now) (g.P.Ports.seat c.run.new.ports) c.args.self.now.told c.self.inside.progress c.run.new.self t lists (ap (λ v. v.told) c.self.view_is) c.requires.ports c.run.ensures.ports.0 c.run.ensures.names.0 in
     paused_after (g.P.Ports.seat c.run.new.ports) c.run.new.self t lists (g.P.Ports.is_dry c.run.new.ports) (g.P.Ports.is_ready c.run.new.ports) c.self.inside.progress.events c.args.self.now.told.events c.args.quantum c.run.result seat (ap (λ v. v.told.events) c.self.view_is) c.run.ensures.paused
+
+pub returns-clause-still : goal.returns-clause-still
+returns-clause-still g c e =
+    let is = c.self.view_is in
+    let same = e ∙ sym (ap (λ v. v.told.events) is) in
+    let h = c.run.ensures.still same in
+    let r = c.run.ensures.room same in
+    (h.0 ∙ ap (λ v. v.told.taken) is, h.1 ∙ ap (λ v. v.told.sent) is, h.2 ∙ ap (λ v. v.told.kept) is, h.3 ∙ ap (λ v. v.told.printed) is, ap (λ x. x.0) r ∙ ap (λ v. v.told.spare) is, ap (λ x. x.1) r ∙ ap (λ v. v.told.print_spare) is)
+
+pub returns-clause-refused : goal.returns-clause-refused
+returns-clause-refused g c told =
+    let t = c.self.inside.network.value in
+    let lists = c.self.inside.input.value in
+    let seat = seat_after (g.P.Ports.seat c.args.ports.now) (g.P.Ports.seat c.run.new.ports) c.args.self.now.told c.self.inside.progress c.run.new.self t lists (ap (λ v. v.told) c.self.view_is) c.requires.ports c.run.ensures.ports.0 c.run.ensures.names.0 in
+    wants_after (g.P.Ports.seat c.run.new.ports) c.run.new.self t lists (g.P.Ports.has_room c.run.new.ports) seat (c.run.ensures.refused told)
 
 pub invariant_of-self : goal.invariant_of-self
 invariant_of-self g c =

@@ -6,32 +6,32 @@ use Rattle.kahn_streams.proofs.Fed.{item_fed, item_kept}
 use Rattle.kahn_streams.proofs.Few.{put_few, same_few}
 use Rattle.kahn_streams.proofs.input.Input.append.Goals as goal
 
-pub returns-in_err-append : goal.returns-in_err-append
-returns-in_err-append c =
-    let kept : c.append.new.self.items ≡ c.index_mut.result.now.items = search rules in
+pub returns-in_err-add_values-clause-lists : goal.returns-in_err-add_values-clause-lists
+returns-in_err-add_values-clause-lists c =
+    let kept : c.add_values.new.list.items ≡ c.index_mut.result.now.items = search rules in
     let p = err_from_is_err_and c.from_residual.result c.from_residual.ensures.1 in
     rw p.1
-    (item_kept (λ v. v.items) c.self.inside.lists.items c.args.self.now c.args.channel c.index_mut.result.now c.append.new.self c.self.view_is c.requires.here c.index_mut.ensures.value kept)
+    (item_kept (λ v. v.items) c.self.inside.lists.items c.args.self.now c.args.channel c.index_mut.result.now c.add_values.new.list c.self.view_is c.requires.here c.index_mut.ensures.value kept)
 
-pub returns : goal.returns
-returns c =
-    let fed : c.append.new.self.items ≡ c.index_mut.result.now.items ++ c.args.values.items = search rules in
-    item_fed (λ v. v.items) c.self.inside.lists.items c.args.self.now c.args.channel c.index_mut.result.now c.append.new.self c.self.view_is c.requires.here c.index_mut.ensures.value c.args.values.items fed
+pub returns-clause-lists : goal.returns-clause-lists
+returns-clause-lists c =
+    let fed : c.add_values.new.list.items ≡ c.index_mut.result.now.items ++ c.args.values.items = search rules in
+    item_fed (λ v. v.items) c.self.inside.lists.items c.args.self.now c.args.channel c.index_mut.result.now c.add_values.new.list c.self.view_is c.requires.here c.index_mut.ensures.value c.args.values.items fed
 
 pub invariant_of-self : goal.invariant_of-self
 invariant_of-self c =
-    let kept : c.append.new.self.items ≡ c.index_mut.result.now.items = search rules in
+    let kept : c.add_values.new.list.items ≡ c.index_mut.result.now.items = search rules in
     let few = same_few (map (λ v. v.items) c.self.inside.lists.items) c.args.self.now c.self.invariant (sym c.self.view_is) in
-    same_few c.args.self.now (map (λ v. v.items) (slice_set c.self.inside.lists.items c.args.channel c.append.new.self)) few
-    (item_kept (λ v. v.items) c.self.inside.lists.items c.args.self.now c.args.channel c.index_mut.result.now c.append.new.self c.self.view_is c.requires.here c.index_mut.ensures.value kept)
+    same_few c.args.self.now (map (λ v. v.items) (slice_set c.self.inside.lists.items c.args.channel c.add_values.new.list)) few
+    (item_kept (λ v. v.items) c.self.inside.lists.items c.args.self.now c.args.channel c.index_mut.result.now c.add_values.new.list c.self.view_is c.requires.here c.index_mut.ensures.value kept)
 
 pub invariant_of-self-2 : goal.invariant_of-self-2
 invariant_of-self-2 c =
-    let fed : c.append.new.self.items ≡ c.index_mut.result.now.items ++ c.args.values.items = search rules in
+    let fed : c.add_values.new.list.items ≡ c.index_mut.result.now.items ++ c.args.values.items = search rules in
     let few = same_few (map (λ v. v.items) c.self.inside.lists.items) c.args.self.now c.self.invariant (sym c.self.view_is) in
     let list = inputs_of c.args.self.now c.args.channel ++ c.args.values.items in
     let long = length-append (inputs_of c.args.self.now c.args.channel) c.args.values.items in
     let room : length (inputs_of c.args.self.now c.args.channel) + length c.args.values.items ≤ most_values = c.requires.few in
     let short : length list ≤ most_values = omega (arith, long, room) in
-    put_few c.args.self.now (map (λ v. v.items) (slice_set c.self.inside.lists.items c.args.channel c.append.new.self)) c.args.channel list c.requires.here few short
-    (item_fed (λ v. v.items) c.self.inside.lists.items c.args.self.now c.args.channel c.index_mut.result.now c.append.new.self c.self.view_is c.requires.here c.index_mut.ensures.value c.args.values.items fed)
+    put_few c.args.self.now (map (λ v. v.items) (slice_set c.self.inside.lists.items c.args.channel c.add_values.new.list)) c.args.channel list c.requires.here few short
+    (item_fed (λ v. v.items) c.self.inside.lists.items c.args.self.now c.args.channel c.index_mut.result.now c.add_values.new.list c.self.view_is c.requires.here c.index_mut.ensures.value c.args.values.items fed)

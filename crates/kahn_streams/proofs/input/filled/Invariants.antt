@@ -2,7 +2,7 @@
 use Rattle.std.proofs.Common.{◌≡◌, length, map}
 use Rattle.kahn_streams.specs.Entries.{entry_of}
 use Rattle.kahn_streams.proofs.Entered.{AreFilled}
-use Rattle.kahn_streams.proofs.input.Input.new.Given as goal
+use Rattle.kahn_streams.proofs.input.filled.Given as goal
 
 abbrev pub invariant-loop-name : goal.invariant-loop-name
 invariant-loop-name l = record {
