@@ -68,9 +68,9 @@ module _ {T : Type 0} (told : T → Option Tale) (belongs : ℕ → T → Type 0
     at_rest p y over cells back not_halted inside home is z = inl (a.ruled.parking.ends p y inside is home)
 
     -- it is halted only where this seat did so
-    pub halter_is : halted w s.words ≢ 0 → v.seen ≡ 2
+    pub halter_is : halted w s.words ≢ 0 → (v.seen ≡ 2) × (0 < v.raised)
     halter_is ne = let t = a.reckoned.lasting.halter ne in dite (ℕ_discrete t.0 id)
-        (λ is. let same : v ≡ t.1 = some-injective v t.1 (sym me ∙ (sym (ap (λ (k : ℕ). get_elem? s.views k) is) ∙ t.2)) in ap (λ (k : View). k.seen) same ∙ t.3)
+        (λ is. let same : v ≡ t.1 = some-injective v t.1 (sym me ∙ (sym (ap (λ (k : ℕ). get_elem? s.views k) is) ∙ t.2)) in (ap (λ (k : View). k.seen) same ∙ t.3, omega (arith, ap (λ (k : View). k.raised) same, t.4)))
         (λ apart. absurd (omega (arith, t.3, ap (λ (k : View). k.seen) (others_spent t.0 t.1 apart t.2))))
 
     pub by_done : (cells : List (Option T)) → ((q : ℕ) (z : T) → q < w.instances → get_elem? cells q ≡ some (Some z) → IsHome s q z) → v.stage ≡ 1
@@ -100,6 +100,7 @@ module _ {T : Type 0} (told : T → Option Tale) (belongs : ℕ → T → Type 0
         belonging = λ p y near e. a.reckoned.lasting.belonging p y near (back p y near e);
         budget_is = omega (arith, budget_left told belongs w d s a id v me all free, b_is);
         events = (a.reckoned.tally, (λ p y near e. a.reckoned.budgeted.tells p y near (back p y near e)), events_left told belongs w d s a id v me all free);
-        halt_seen = ((λ two. flags (λ z. a.reckoned.lasting.saw_halted id v me two (h_is ∙ z))), λ yes. halter_is told belongs w d s a id v me all free (λ z. flagged yes (sym h_is ∙ z)));
+        halt_seen = ((λ two. flags (λ z. a.reckoned.lasting.saw_halted id v me two (h_is ∙ z))), λ yes. (halter_is told belongs w d s a id v me all free (λ z. flagged yes (sym h_is ∙ z))).0);
+        halt_raised = ((λ up. flags (λ z. a.reckoned.lasting.saw_halted id v me ((a.reckoned.lasting.sights id v me).1 up) (h_is ∙ z))), λ yes. (halter_is told belongs w d s a id v me all free (λ z. flagged yes (sym h_is ∙ z))).1);
         by_done = λ one. ⊎_elim (λ ne. inl (flags (λ z. ne (h_is ∙ z)))) (λ t. ⊎_elim (λ z. inr (inl (sym b_is ∙ z))) (λ f. inr (inr f)) t) (by_done told belongs w d s a id v me all free cells back one);
       }

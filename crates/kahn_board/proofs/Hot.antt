@@ -13,7 +13,7 @@ use Rattle.kahn_board.specs.Wires.{Wires}
 use Rattle.kahn_board.specs.Counts.{Owes, is_up}
 use Rattle.kahn_board.specs.Place.{Place, ready, held, parked, over}
 use Rattle.kahn_board.specs.Rule.{St, Deal, Whole, budget, count, halted}
-use Rattle.kahn_board.specs.Plays.{Sat, noted, saw, leaves_as, with_draw, used, undrawn, paid_up, paid_down, looked, drew, uses, gave_back, counted_up, counted_down, halts, sees_halted, sees_count, sees_budget}
+use Rattle.kahn_board.specs.Plays.{Sat, noted, saw, leaves_as, with_draw, used, undrawn, paid_up, paid_down, halting, looked, drew, uses, gave_back, counted_up, counted_down, halts, sees_halted, sees_count, sees_budget}
 use Rattle.kahn_board.specs.declared.view.View.{View}
 use Rattle.kahn_board.proofs.Sums.{term_le}
 use Rattle.kahn_board.proofs.Counting.{below-le, below-term}
@@ -60,8 +60,9 @@ module _ {T : Type 0} (told : T → Option Tale) (belongs : ℕ → T → Type 0
     saw_quiet = quiet_is;
     saw_halted = halted_is;
     knows = knows;
+    raises = omega arith;
     halter = λ ne. inl ne;
-    sights = small;
+    sights = (small, λ up. knows ((a.reckoned.lasting.sights id m.0 me).1 up));
     fixed = λ c h none. refl;
     leaves = λ h. (let free = leaves_free m.0 h in omega arith, stopped);
   }
@@ -83,7 +84,7 @@ module _ {T : Type 0} (told : T → Option Tale) (belongs : ℕ → T → Type 0
   pub looks_budget : (n id : ℕ) (m : Sat T) (i : ℕ) → Fit told w m → i ≡ 8 * (w.instances + w.channels) → Allows (Whole told belongs w d) n id m i (λ y. y) (sees_budget (step n i 0 0 none) m)
   looks_budget n id m i fit at s a wide me _ = let r : ℕ = get_or s.words i 0 in let is : r ≡ budget w s.words = ap (λ (k : ℕ). get_or s.words k 0) at in
       dite (ℕ_discrete r 0)
-      (λ z. (saw m.0 m.0.seen (leaves_as m.0) r, keeps, tt, sights s a i id m m.0.seen r me fit (a.reckoned.lasting.saw_quiet id m.0 me) (a.reckoned.lasting.saw_halted id m.0 me) (λ e. e) (a.reckoned.lasting.sights id m.0 me) (inr (inr (sym is ∙ z))), ((λ _. refl), λ ne. absurd (ne z))))
+      (λ z. (saw m.0 m.0.seen (leaves_as m.0) r, keeps, tt, sights s a i id m m.0.seen r me fit (a.reckoned.lasting.saw_quiet id m.0 me) (a.reckoned.lasting.saw_halted id m.0 me) (λ e. e) (a.reckoned.lasting.sights id m.0 me).0 (inr (inr (sym is ∙ z))), ((λ _. refl), λ ne. absurd (ne z))))
       (λ ne. (noted m.0 r, keeps, tt, unchanged told belongs w d s a i id m r me fit, ((λ z. absurd (ne z)), λ _. refl)))
 
   pub notes : (n id : ℕ) (m : Sat T) (i : ℕ) → Fit told w m → Allows (Whole told belongs w d) n id m i (λ y. y) (looked (step n i 0 0 none) m)
@@ -91,7 +92,7 @@ module _ {T : Type 0} (told : T → Option Tale) (belongs : ℕ → T → Type 0
 
   -- a step that moves events between the budget, the draw and those done
   budgets : (s : St T) (a : Whole told belongs w d s) (i k id : ℕ) (m : Sat T) (drawn done loose r : ℕ) → get_elem? s.views id ≡ some m.0 → Fit told w m → i ≡ 8 * (w.instances + w.channels) → k + drawn + done ≡ get_or s.words i 0 + m.0.drawn + m.0.done → loose + m.0.done ≡ m.0.loose + done
-      → (v : View) → v ≡ record { parts = m.0.parts; hands = m.0.hands; flushed = m.0.flushed; got = m.0.got; drawn = drawn; done = done; loose = loose; owed = m.0.owed; down = m.0.down; seen = m.0.seen; stage = 2; steps = m.0.steps + 1; found = r }
+      → (v : View) → v ≡ record { parts = m.0.parts; hands = m.0.hands; flushed = m.0.flushed; got = m.0.got; drawn = drawn; done = done; loose = loose; owed = m.0.owed; down = m.0.down; seen = m.0.seen; stage = 2; steps = m.0.steps + 1; found = r; raised = m.0.raised }
       → Whole told belongs w d (stepped s i k id m.1 v keeps)
   budgets s a i k id m drawn done loose r me fit at sum moved v is = let wide = a.ruled.wide in let ws = set s.words i k in
       let now : budget w ws ≡ k = ap (λ (j : ℕ). get_or ws j 0) (sym at) ∙ get_or-set_same s.words i k 0 (omega arith) in
@@ -111,8 +112,9 @@ module _ {T : Type 0} (told : T → Option Tale) (belongs : ℕ → T → Type 0
         saw_quiet = λ e. counts ∙ a.reckoned.lasting.saw_quiet id m.0 me (sym (ap (λ (u : View). u.seen) is) ∙ e);
         saw_halted = λ e z. a.reckoned.lasting.saw_halted id m.0 me (sym (ap (λ (u : View). u.seen) is) ∙ e) (sym halts_same ∙ z);
         knows = λ e. ap (λ (u : View). u.seen) is ∙ e;
+        raises = omega (arith, ap (λ (u : View). u.raised) is);
         halter = λ ne. inl (λ z. ne (halts_same ∙ z));
-        sights = omega (arith, ap (λ (u : View). u.seen) is, a.reckoned.lasting.sights id m.0 me);
+        sights = let t = a.reckoned.lasting.sights id m.0 me in (omega (arith, ap (λ (u : View). u.seen) is, t.0), λ up. ap (λ (u : View). u.seen) is ∙ t.1 (omega (arith, ap (λ (u : View). u.raised) is, up)));
         fixed = λ c h none. ap (λ (j : ℕ). j / 2) (get_or-set_other s.words i (8 * (w.instances + c)) k 0 (λ e. omega arith));
         leaves = λ h. absurd (omega (arith, ap (λ (u : View). u.stage) is));
       }
@@ -151,9 +153,9 @@ module _ {T : Type 0} (told : T → Option Tale) (belongs : ℕ → T → Type 0
   -- a step on the count
   counts : (s : St T) (a : Whole told belongs w d s) (i k id : ℕ) (m : Sat T) (v : View) → get_elem? s.views id ≡ some m.0 → Fit told w m → i ≡ 8 * (w.instances + w.channels) + 8
       → k + length v.owed + m.0.down ≡ get_or s.words i 0 + length m.0.owed + v.down → Owes m.0.hands v.owed → v.down ≤ m.0.down → get_or s.words i 0 ≢ 0
-      → v.parts ≡ m.0.parts → v.hands ≡ m.0.hands → v.flushed ≡ m.0.flushed → v.got ≡ m.0.got → v.drawn ≡ m.0.drawn → v.done ≡ m.0.done → v.loose ≡ m.0.loose → v.seen ≡ m.0.seen → v.stage ≡ 2
+      → v.parts ≡ m.0.parts → v.hands ≡ m.0.hands → v.flushed ≡ m.0.flushed → v.got ≡ m.0.got → v.drawn ≡ m.0.drawn → v.done ≡ m.0.done → v.loose ≡ m.0.loose → v.seen ≡ m.0.seen → v.raised ≡ m.0.raised → v.stage ≡ 2
       → Whole told belongs w d (stepped s i k id m.1 v keeps)
-  counts s a i k id m v me fit at sum pairs less some_left parts hands flushed got drawn done loose seen stage = let wide = a.ruled.wide in let ws = set s.words i k in
+  counts s a i k id m v me fit at sum pairs less some_left parts hands flushed got drawn done loose seen raised stage = let wide = a.ruled.wide in let ws = set s.words i k in
       let now : count w ws ≡ k = ap (λ (j : ℕ). get_or ws j 0) (sym at) ∙ get_or-set_same s.words i k 0 (omega arith) in
       let was : count w s.words ≡ get_or s.words i 0 = ap (λ (j : ℕ). get_or s.words j 0) (sym at) in
       let budgets_same : budget w ws ≡ budget w s.words = get_or-set_other s.words i (8 * (w.instances + w.channels)) k 0 (λ e. omega arith) in
@@ -172,8 +174,9 @@ module _ {T : Type 0} (told : T → Option Tale) (belongs : ℕ → T → Type 0
         saw_quiet = λ e. absurd (not_quiet (a.reckoned.lasting.saw_quiet id m.0 me (sym seen ∙ e)));
         saw_halted = λ e z. a.reckoned.lasting.saw_halted id m.0 me (sym seen ∙ e) (sym halts_same ∙ z);
         knows = λ e. seen ∙ e;
+        raises = omega (arith, raised);
         halter = λ ne. inl (λ z. ne (halts_same ∙ z));
-        sights = omega (arith, seen, a.reckoned.lasting.sights id m.0 me);
+        sights = let t = a.reckoned.lasting.sights id m.0 me in (omega (arith, seen, t.0), λ up. seen ∙ t.1 (omega (arith, raised, up)));
         fixed = λ c h none. ap (λ (j : ℕ). j / 2) (get_or-set_other s.words i (8 * (w.instances + c)) k 0 (λ e. omega arith));
         leaves = λ h. absurd (omega (arith, stage));
       }
@@ -184,24 +187,24 @@ module _ {T : Type 0} (told : T → Option Tale) (belongs : ℕ → T → Type 0
       let downs = downs_few told belongs w d s a.place a.ruled c in let ups = below-le (λ p. is_up (a.place p)) w.instances (λ q. up_small (a.place q)) in
       let is : new ≡ r + 1 = omega arith in let mine = term_le (λ (v : View). length v.owed) s.views id m.0 me in
       let some_left : r ≢ 0 = (λ z. let q = quiet_here told belongs w d s a.place a.ruled c (was ∙ z) in absurd (omega (arith, q.1))) in
-      (paid_up m.0 r, keeps, tt, counts s a i new id m (paid_up m.0 r) me fit at (omega (arith, one_less m.0.owed owes)) (owes_paid m.0.hands m.0.owed (c.pairs id m.0 me)) (omega arith) some_left refl refl refl refl refl refl refl refl refl, refl)
+      (paid_up m.0 r, keeps, tt, counts s a i new id m (paid_up m.0 r) me fit at (omega (arith, one_less m.0.owed owes)) (owes_paid m.0.hands m.0.owed (c.pairs id m.0 me)) (omega arith) some_left refl refl refl refl refl refl refl refl refl refl, refl)
 
   pub counts_down : (n id : ℕ) (m : Sat T) (i : ℕ) → Fit told w m → i ≡ 8 * (w.instances + w.channels) + 8 → 0 < m.0.down → Allows (Whole told belongs w d) n id m i (λ y. (y + (2 ^ 64 - 1)) % 2 ^ 64) (counted_down (step n i 1 0 none) m)
   counts_down n id m i fit at owes s a wide me small = let r : ℕ = get_or s.words i 0 in let new : ℕ = (r + (2 ^ 64 - 1)) % 2 ^ 64 in let c = a.reckoned.counted in let sum = c.adds_up in
       let was : count w s.words ≡ r = ap (λ (j : ℕ). get_or s.words j 0) (sym at) in
       let mine = term_le (λ (v : View). v.down) s.views id m.0 me in let less = (owed_less_here told belongs w d s a.place a.ruled c).0 in
       let is : new + 1 ≡ r = omega arith in
-      (paid_down m.0 r, keeps, tt, counts s a i new id m (paid_down m.0 r) me fit at (omega arith) (c.pairs id m.0 me) (omega arith) (λ z. omega arith) refl refl refl refl refl refl refl refl refl, refl)
+      (paid_down m.0 r, keeps, tt, counts s a i new id m (paid_down m.0 r) me fit at (omega arith) (c.pairs id m.0 me) (omega arith) (λ z. omega arith) refl refl refl refl refl refl refl refl refl refl, refl)
 
   pub stops : (n id : ℕ) (m : Sat T) (i new : ℕ) → Fit told w m → i ≡ 8 * (w.instances + w.channels) + 16 → new ≡ 1 → Allows (Whole told belongs w d) n id m i (λ _. new) (λ _. halts (step n i new 0 none) m new)
   stops n id m i new fit at one s a wide me _ = let long = a.ruled.wide in let ws = set s.words i new in
       let now : halted w ws ≢ 0 = (λ z. absurd (omega (arith, z, one, ap (λ (j : ℕ). get_or ws j 0) (sym at), get_or-set_same s.words i new 0 (omega arith)))) in
       let counts_same : count w ws ≡ count w s.words = get_or-set_other s.words i (8 * (w.instances + w.channels) + 8) new 0 (λ e. omega arith) in
       let budgets_same : budget w ws ≡ budget w s.words = get_or-set_other s.words i (8 * (w.instances + w.channels)) new 0 (λ e. omega arith) in (
-        saw m.0 2 2 new,
+        halting m.0 new,
         keeps,
         tt,
-        at_hot s a i new id m (saw m.0 2 2 new) me fit (omega arith) refl refl refl record {
+        at_hot s a i new id m (halting m.0 new) me fit (omega arith) refl refl refl record {
           hands_same = refl;
           got_same = refl;
           drawing = omega (arith, budgets_same);
@@ -214,8 +217,9 @@ module _ {T : Type 0} (told : T → Option Tale) (belongs : ℕ → T → Type 0
           saw_quiet = λ e. absurd (omega (arith, e));
           saw_halted = λ _. now;
           knows = λ _. refl;
-          halter = λ _. inr refl;
-          sights = omega arith;
+          raises = omega arith;
+          halter = λ _. inr (refl, omega arith);
+          sights = (omega arith, λ _. refl);
           fixed = λ c h none. ap (λ (j : ℕ). j / 2) (get_or-set_other s.words i (8 * (w.instances + c)) new 0 (λ e. omega arith));
           leaves = λ h. absurd (omega arith);
         },

@@ -155,7 +155,7 @@ module _ {T : Type 0} (told : T → Option Tale) (after : T → T → Type 0) (w
           saw_quiet = λ j v e one. let t = at_first (opening_view w) v j e in absurd (omega (arith, ap (λ (u : View). u.seen) t.1, one));
           saw_halted = λ j v e two. let t = at_first (opening_view w) v j e in absurd (omega (arith, ap (λ (u : View). u.seen) t.1, two));
           halter = λ ne. absurd (ne (sym (at 16) ∙ b.not_halted));
-          sights = λ j v e. let t = at_first (opening_view w) v j e in subst (λ (u : View). u.seen ≤ 2) t.1 (omega arith);
+          sights = λ j v e. let t = at_first (opening_view w) v j e in subst (λ (u : View). (u.seen ≤ 2) × (0 < u.raised → u.seen ≡ 2)) t.1 (omega arith, λ up. absurd (omega (arith, up)));
           flushed_all = λ p y h home _. o.flushed_all p y (of_home cells p y home);
           belonging = λ p y h home. (let there = of_home cells p y home in itself after cells p y there (o.selves p y there));
           fixed = λ c near none_writes. refl;

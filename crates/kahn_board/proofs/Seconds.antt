@@ -55,8 +55,9 @@ module _ {T : Type 0} (told : T → Option Tale) (belongs : ℕ → T → Type 0
     pub saw_quiet : v'.seen ≡ 1 → count w ws ≡ 0
     pub saw_halted : v'.seen ≡ 2 → halted w ws ≢ 0
     pub knows : v.seen ≡ 2 → v'.seen ≡ 2
-    pub halter : halted w ws ≢ 0 → (halted w s.words ≢ 0) ⊎ (v'.seen ≡ 2)
-    pub sights : v'.seen ≤ 2
+    pub raises : v.raised ≤ v'.raised
+    pub halter : halted w ws ≢ 0 → (halted w s.words ≢ 0) ⊎ ((v'.seen ≡ 2) × (0 < v'.raised))
+    pub sights : (v'.seen ≤ 2) × (0 < v'.raised → v'.seen ≡ 2)
     pub fixed : (c : ℕ) → c < w.channels → w.writer c ≡ None → published w ws c ≡ published w s.words c
     pub leaves : v'.stage ≤ 1 → (v'.drawn ≡ 0) × ((halted w ws ≢ 0) ⊎ ((count w ws ≡ 0) ⊎ (budget w ws ≡ 0)))
 
@@ -77,6 +78,7 @@ module _ {T : Type 0} (told : T → Option Tale) (belongs : ℕ → T → Type 0
     saw_quiet = m.saw_quiet;
     saw_halted = m.saw_halted;
     knows = m.knows;
+    raises = m.raises;
     halter = m.halter;
     sights = m.sights;
     flushed_all = λ q y h home zero_now. q₀.lasting.flushed_all q y h home (dite (ℕ_discrete (halted w s.words) 0) (λ e. e) (λ ne. absurd (m.still_halted ne zero_now)));
@@ -90,10 +92,10 @@ module _ {T : Type 0} (told : T → Option Tale) (belongs : ℕ → T → Type 0
       → get_elem? s.views id ≡ some m.0 → p < w.instances → length m.0.hands ≡ w.instances → length m.0.got ≡ w.instances → i < 8 * (w.instances + w.channels)
       → get_or m.0.hands p 0 ≡ 0 → is_up (place p) + length owed ≡ length m.0.owed + 1 → Owes (set m.0.hands p 1) owed → SeesMore m.0.seen seen → (seen ≡ 2 → halted w s.words ≢ 0)
       → ((c : ℕ) → c < w.channels → w.writer c ≡ None → published w (set s.words i k) c ≡ published w s.words c)
-      → Reckoned told belongs w d (moved place p (held id)) (state told w (set s.words i k) (set s.homes p none) (set s.views id (view m.0.parts (set m.0.hands p 1) L (set m.0.got p (q₀.tally p)) m.0.drawn m.0.done m.0.loose owed m.0.down seen 2 (m.0.steps + 1) found)))
+      → Reckoned told belongs w d (moved place p (held id)) (state told w (set s.words i k) (set s.homes p none) (set s.views id (view m.0.parts (set m.0.hands p 1) L (set m.0.got p (q₀.tally p)) m.0.drawn m.0.done m.0.loose owed m.0.down seen 2 (m.0.steps + 1) found m.0.raised)))
   takes_second s place r q₀ i k id m p L owed seen found me inside long got_long near free counts pairs sees halted_is fixed =
       let ws = set s.words i k in let same = hot s.words i k near in let v = m.0 in let hs : List (maybe.Option (Option T)) = set s.homes p none in
-      let v' : View = view v.parts (set v.hands p 1) L (set v.got p (q₀.tally p)) v.drawn v.done v.loose owed v.down seen 2 (v.steps + 1) found in
+      let v' : View = view v.parts (set v.hands p 1) L (set v.got p (q₀.tally p)) v.drawn v.done v.loose owed v.down seen 2 (v.steps + 1) found v.raised in
       let was_home : (q : ℕ) (y : T) → get_elem? hs q ≡ some (some (Some y)) → IsHome s q y = λ q y home. dite (ℕ_discrete q p)
       (λ e. absurd (some-ne-none (Some y) (some-injective (some (Some y)) none (sym home ∙ (ap (λ (j : ℕ). get_elem? hs j) e ∙ set_here s.homes p none (omega (arith, r.deep)))))))
       (λ ne. sym (set_else s.homes p q none ne) ∙ home) in
@@ -115,8 +117,9 @@ module _ {T : Type 0} (told : T → Option Tale) (belongs : ℕ → T → Type 0
         saw_quiet = λ e. same.count_same ∙ ⊎_elim (λ is. q₀.lasting.saw_quiet id v me (sym is ∙ e)) (λ is. absurd (omega arith)) sees;
         saw_halted = λ e z. halted_is e (sym same.halted_same ∙ z);
         knows = λ e. ⊎_elim (λ is. is ∙ e) (λ is. is) sees;
+        raises = omega arith;
         halter = λ ne. inl (λ z. ne (same.halted_same ∙ z));
-        sights = ⊎_elim (λ is. omega (arith, is, q₀.lasting.sights id v me)) (λ is. omega (arith, is)) sees;
+        sights = let t = q₀.lasting.sights id v me in (⊎_elim (λ is. omega (arith, is, t.0)) (λ is. omega (arith, is)) sees, λ up. ⊎_elim (λ is. is ∙ t.1 up) (λ is. is) sees);
         flushed_all = λ q y h home zero_now. q₀.lasting.flushed_all q y h (was_home q y home) (sym same.halted_same ∙ zero_now);
         belonging = λ q y h home. q₀.lasting.belonging q y h (was_home q y home);
         fixed = fixed;
@@ -158,6 +161,7 @@ module _ {T : Type 0} (told : T → Option Tale) (belongs : ℕ → T → Type 0
         saw_quiet = λ e. same.count_same ∙ q₀.lasting.saw_quiet id v me e;
         saw_halted = λ e z. q₀.lasting.saw_halted id v me e (sym same.halted_same ∙ z);
         knows = λ e. e;
+        raises = omega arith;
         halter = λ ne. inl (λ z. ne (same.halted_same ∙ z));
         sights = q₀.lasting.sights id v me;
         flushed_all = λ q z h home zero_now. dite (ℕ_discrete q p)

@@ -196,6 +196,7 @@ module _ {T : Type 0} (told : T → Option Tale) (belongs : ℕ → T → Type 0
         saw_quiet = a.reckoned.lasting.saw_quiet id m.0 me;
         saw_halted = a.reckoned.lasting.saw_halted id m.0 me;
         knows = λ e. e;
+        raises = omega arith;
         halter = λ ne. inl ne;
         sights = a.reckoned.lasting.sights id m.0 me;
         fixed = λ c h none. refl;
@@ -390,6 +391,7 @@ module _ {T : Type 0} (told : T → Option Tale) (belongs : ℕ → T → Type 0
               saw_quiet = λ e. hots.count_same ∙ a.reckoned.lasting.saw_quiet id m.0 me e;
               saw_halted = λ e z. a.reckoned.lasting.saw_halted id m.0 me e (sym hots.halted_same ∙ z);
               knows = λ e. e;
+              raises = omega arith;
               halter = λ ne. inl (λ z. ne (hots.halted_same ∙ z));
               sights = a.reckoned.lasting.sights id m.0 me;
               fixed = fixed;

@@ -18,46 +18,50 @@ Play T = Step (Option T) → Sat T → ℕ → Sat T → Type 0
 
 -- the view after a step that found r and told the seat nothing else
 abbrev pub noted : View → ℕ → View
-noted v r = view v.parts v.hands v.flushed v.got v.drawn v.done v.loose v.owed v.down v.seen 2 (v.steps + 1) r
+noted v r = view v.parts v.hands v.flushed v.got v.drawn v.done v.loose v.owed v.down v.seen 2 (v.steps + 1) r v.raised
 
 abbrev pub IsIn : View → ℕ → Type 0
 IsIn v p = slice_index v.hands p ≡ 1
 
 -- the instance p is got: `flushed` is published, its cell told `events`
 abbrev pub took : View → ℕ → List ℕ → ℕ → ℕ → ℕ → View
-took v p flushed events seen r = view v.parts (slice_set v.hands p 1) flushed (slice_set v.got p events) v.drawn v.done v.loose v.owed v.down seen 2 (v.steps + 1) r
+took v p flushed events seen r = view v.parts (slice_set v.hands p 1) flushed (slice_set v.got p events) v.drawn v.done v.loose v.owed v.down seen 2 (v.steps + 1) r v.raised
 
 -- the instance p is given up, by a cell that tells t, with `more` counts down to pay
 abbrev pub gave : View → ℕ → Option Tale → ℕ → ℕ → View
-gave v p t more r = view v.parts (slice_set v.hands p 0) v.flushed v.got v.drawn v.done (v.loose - (events_past t (slice_index v.got p) - slice_index v.got p)) v.owed (v.down + more) v.seen 2 (v.steps + 1) r
+gave v p t more r = view v.parts (slice_set v.hands p 0) v.flushed v.got v.drawn v.done (v.loose - (events_past t (slice_index v.got p) - slice_index v.got p)) v.owed (v.down + more) v.seen 2 (v.steps + 1) r v.raised
 
 -- `count` tokens of the channel c are published
 abbrev pub told_of : View → ℕ → ℕ → View
-told_of v c count = view v.parts v.hands (slice_set v.flushed c count) v.got v.drawn v.done v.loose v.owed v.down v.seen v.stage v.steps v.found
+told_of v c count = view v.parts v.hands (slice_set v.flushed c count) v.got v.drawn v.done v.loose v.owed v.down v.seen v.stage v.steps v.found v.raised
 
 -- the same, and q woke p
 abbrev pub waking : View → ℕ → ℕ → ℕ → ℕ → View
-waking v c count p q = view v.parts v.hands (slice_set v.flushed c count) v.got v.drawn v.done v.loose (v.owed ++ (p, q) ∷ []) v.down v.seen v.stage v.steps v.found
+waking v c count p q = view v.parts v.hands (slice_set v.flushed c count) v.got v.drawn v.done v.loose (v.owed ++ (p, q) ∷ []) v.down v.seen v.stage v.steps v.found v.raised
 
 abbrev pub with_draw : View → ℕ → ℕ → View
-with_draw v k r = view v.parts v.hands v.flushed v.got k v.done v.loose v.owed v.down v.seen 2 (v.steps + 1) r
+with_draw v k r = view v.parts v.hands v.flushed v.got k v.done v.loose v.owed v.down v.seen 2 (v.steps + 1) r v.raised
 
 -- n events of the draw were done, the others may still be done
 abbrev pub used : View → ℕ → ℕ → View
-used v n r = view v.parts v.hands v.flushed v.got (v.drawn - n) (v.done + n) (v.loose + n) v.owed v.down v.seen 2 (v.steps + 1) r
+used v n r = view v.parts v.hands v.flushed v.got (v.drawn - n) (v.done + n) (v.loose + n) v.owed v.down v.seen 2 (v.steps + 1) r v.raised
 
 -- n events of the draw weren't done, the others were
 abbrev pub undrawn : View → ℕ → ℕ → View
-undrawn v n r = view v.parts v.hands v.flushed v.got 0 (v.done + (v.drawn - n)) (v.loose + (v.drawn - n)) v.owed v.down v.seen 2 (v.steps + 1) r
+undrawn v n r = view v.parts v.hands v.flushed v.got 0 (v.done + (v.drawn - n)) (v.loose + (v.drawn - n)) v.owed v.down v.seen 2 (v.steps + 1) r v.raised
 
 abbrev pub paid_up : View → ℕ → View
-paid_up v r = view v.parts v.hands v.flushed v.got v.drawn v.done v.loose (drop 1 v.owed) v.down v.seen 2 (v.steps + 1) r
+paid_up v r = view v.parts v.hands v.flushed v.got v.drawn v.done v.loose (drop 1 v.owed) v.down v.seen 2 (v.steps + 1) r v.raised
 
 abbrev pub paid_down : View → ℕ → View
-paid_down v r = view v.parts v.hands v.flushed v.got v.drawn v.done v.loose v.owed (v.down - 1) v.seen 2 (v.steps + 1) r
+paid_down v r = view v.parts v.hands v.flushed v.got v.drawn v.done v.loose v.owed (v.down - 1) v.seen 2 (v.steps + 1) r v.raised
 
 abbrev pub saw : View → ℕ → ℕ → ℕ → View
-saw v seen stage r = view v.parts v.hands v.flushed v.got v.drawn v.done v.loose v.owed v.down seen stage (v.steps + 1) r
+saw v seen stage r = view v.parts v.hands v.flushed v.got v.drawn v.done v.loose v.owed v.down seen stage (v.steps + 1) r v.raised
+
+-- it halted the run
+abbrev pub halting : View → ℕ → View
+halting v r = view v.parts v.hands v.flushed v.got v.drawn v.done v.loose v.owed v.down 2 2 (v.steps + 1) r (v.raised + 1)
 
 -- done where it holds, drew and owes nothing, else busy
 abbrev pub burden : View → ℕ
@@ -141,7 +145,7 @@ module _ {T : Type 0} where
   counted_down st m r n = n ≡ (paid_down m.0 r, m.1)
 
   abbrev pub halts : Play T
-  halts st m r n = n ≡ (saw m.0 2 2 r, m.1)
+  halts st m r n = n ≡ (halting m.0 r, m.1)
 
   abbrev pub sees_halted : Play T
   sees_halted st m r n = (r ≢ 0 → n ≡ (saw m.0 2 (leaves_as m.0) r, m.1)) × (r ≡ 0 → (m.0.seen ≢ 2) × (n ≡ (noted m.0 r, m.1)))

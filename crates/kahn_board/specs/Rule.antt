@@ -20,8 +20,8 @@ use Rattle.kahn_board.specs.declared.view.View.{View}
 abbrev pub all_parts : ℕ
 all_parts = 65536
 
-abbrev pub view : ℕ → List ℕ → List ℕ → List ℕ → ℕ → ℕ → ℕ → Owed → ℕ → ℕ → ℕ → ℕ → ℕ → View
-view parts hands flushed got drawn done loose owed down seen stage steps found = record {
+abbrev pub view : ℕ → List ℕ → List ℕ → List ℕ → ℕ → ℕ → ℕ → Owed → ℕ → ℕ → ℕ → ℕ → ℕ → ℕ → View
+view parts hands flushed got drawn done loose owed down seen stage steps found raised = record {
   parts = parts;
   hands = hands;
   flushed = flushed;
@@ -35,15 +35,16 @@ view parts hands flushed got drawn done loose owed down seen stage steps found =
   stage = stage;
   steps = steps;
   found = found;
+  raised = raised;
 }
 
 -- the view of a seat that was joined to another
 abbrev pub spent : View
-spent = view 0 [] [] [] 0 0 0 [] 0 0 0 0 0
+spent = view 0 [] [] [] 0 0 0 [] 0 0 0 0 0 0
 
 -- the view of a seat that has so many parts, and has and knows nothing, among n instances and k channels
 abbrev pub blank : ℕ → ℕ → ℕ → View
-blank n k parts = view parts (replicate n 0) (replicate k 0) (replicate n 0) 0 0 0 [] 0 0 0 0 0
+blank n k parts = view parts (replicate n 0) (replicate k 0) (replicate n 0) 0 0 0 [] 0 0 0 0 0 0
 
 -- the view of the first seat
 abbrev pub opening_view : Wires → View
@@ -87,9 +88,9 @@ pub record Deal : Type 0 where
   pub events : ℕ
   pub published : ℕ → ℕ
 
--- a seat halted the run, or saw that it is halted
+-- a seat halted the run, and knows it
 abbrev pub IsHalter : List View → Type 0
-IsHalter views = (j : ℕ) × (v : View) × (get_elem? views j ≡ some v) × (v.seen ≡ 2)
+IsHalter views = (j : ℕ) × (v : View) × (get_elem? views j ≡ some v) × (v.seen ≡ 2) × (0 < v.raised)
 
 module _ {T : Type 0} where
   -- the cell y of the instance p is at home
@@ -159,7 +160,8 @@ module _ {T : Type 0} where
     pub saw_halted : (j : ℕ) (v : View) → get_elem? s.views j ≡ some v → v.seen ≡ 2 → halted w s.words ≢ 0
     -- it is halted only where a seat did so
     pub halter : halted w s.words ≢ 0 → IsHalter s.views
-    pub sights : (j : ℕ) (v : View) → get_elem? s.views j ≡ some v → v.seen ≤ 2
+    -- a seat that halted it knows so
+    pub sights : (j : ℕ) (v : View) → get_elem? s.views j ≡ some v → (v.seen ≤ 2) × (0 < v.raised → v.seen ≡ 2)
     pub flushed_all : (p : ℕ) (y : T) → p < w.instances → IsHome s p y → halted w s.words ≡ 0 → FlushedAll (told y)
     pub belonging : (p : ℕ) (y : T) → p < w.instances → IsHome s p y → belongs p y
     pub fixed : (c : ℕ) → c < w.channels → w.writer c ≡ std.None → published w s.words c ≡ d.published c

@@ -89,8 +89,7 @@ impl<T: Told> Board<T> {
         reader
     }
 
-    /// Whether the instance looks ready. It is a hint, of which no clause says more: when it is answered another worker may
-    /// have claimed the instance, or set it down. An idle worker looks before it claims, since a claim writes a word.
+    /// Whether the instance looks ready. It is a hint, of which no clause says more, for a worker that waits a little.
     pub fn looks_ready(&self, p: usize) -> bool
         requires { p < self.now.instances }
     {
@@ -108,7 +107,7 @@ pub struct Seat<T> {
 }
 
 impl<T: Told> Seat<T> {
-    ghost use Rattle.kahn_board.specs.Calls.{Claims, IsSameSeat, IsFirst, KeepsAll, Swaps, MayLeave, OwesFew, GivesUp, Parks, Publishes, Draws, Uses, GivesBack, CountsUp, CountsDown, Halts, Looks};
+    ghost use Rattle.kahn_board.specs.Calls.{Claims, LooksAt, IsSameSeat, IsFirst, KeepsAll, Swaps, MayLeave, OwesFew, GivesUp, Parks, Publishes, Draws, Uses, GivesBack, CountsUp, CountsDown, Halts, Looks};
     ghost use Rattle.kahn_board.specs.Tale.{TellsEnd, TellsWait};
     ghost use Rattle.kahn_board.specs.declared.board.Rest.TheVariants.{Over};
     ghost use Rattle.kahn_board.specs.Plays.{IsIn};
@@ -116,6 +115,16 @@ impl<T: Told> Seat<T> {
     ghost use Rattle.atomic_table.specs.Table.{turned as shifted};
     ghost use Rattle.kahn_board.specs.Dealt.{belongs, wired};
     ghost use Rattle.kahn_board.specs.Rest.{downs_of};
+
+    /// Whether the instance is ready: it was so, or it wasn't, at a moment of the call. An idle worker looks before it claims,
+    /// since a claim writes a word.
+    pub fn looks_ready(&mut self, board: &Board<T>, p: usize) -> bool
+        requires { (self.old.seat.table_id ≡ board.now.table.shared.table_id) × (p < board.now.instances) }
+        ensures { LooksAt T.told T.after board.now.table.shared.key self.old self.new p result }
+    {
+        let found = board.load::<Notes>(&mut self.seat, 8 * p);
+        found == 0
+    }
 
     /// Takes the instance into the seat's hands where it is ready, with its cell at home. `None` where it isn't ready: then
     /// all stays as it is.

@@ -1,6 +1,9 @@
 pub mod Found
 pub mod Wirings
 pub mod Publishing
+pub mod Heeding
+pub mod Round
+pub mod Told_to_leave
 pub mod Resting
 pub mod Started
 pub mod Ended

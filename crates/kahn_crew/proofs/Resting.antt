@@ -94,6 +94,8 @@ ran_on x y names ends events still = record {
         sent = s.1 i;
         kept = s.2 i;
         printed = s.3 i;
+        spare = s.4 i;
+        print_spare = s.5 i;
       };
 }
 

@@ -213,7 +213,7 @@ module _ (t : Program) (wired : IsWellWired t) (lists : Lists) (watch : Option �
     (long : length numbers ≡ length (network_of t).channels)
     (each : (c : ℕ) → c < length numbers → IsNumber t lists tasks c (slice_index numbers c) × (slice_index numbers c < 2 ^ 48)) where
   abbrev known : View
-  known = view 0 [] numbers [] 0 0 0 [] 0 0 0 0 0
+  known = view 0 [] numbers [] 0 0 0 [] 0 0 0 0 0 0
 
   inner_here : (p : ℕ) (y : Tasked) (c : ℕ) → IsReady t lists watch p y → is_output (role_at (network_of y.work.cell.network) c) ≡ false → is_output (role_at (network_of t) c) ≡ false
   inner_here p y c o inner = subst (λ (k : Program). is_output (role_at (network_of k) c) ≡ false) o.network inner

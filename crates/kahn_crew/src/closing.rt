@@ -1,6 +1,6 @@
 //! How a run ends: the board hands out its tasks.
 
-ghost use Rattle.std.specs.Prelude.{◌≡◌, ◌≤◌, [], List, length, map, Some};
+ghost use Rattle.std.specs.Prelude.{◌≡◌, ◌<◌, ◌≤◌, [], true, List, length, map, Some};
 ghost use Rattle.std.specs.Vec.{vec_capacity};
 ghost use Rattle.kahn_network.specs.Network.{network_of};
 ghost use Rattle.kahn_crew.specs.inner.Begins.{HasBegun, all_events};
@@ -34,6 +34,7 @@ fn out_of_cells<'n>(mut cells: Vec<Option<Boxed<'n>>>, mut tasks: Vec<Task<'n>>)
 pub(crate) fn leave<'n>(
     board: Board<Boxed<'n>>,
     seat: Seat<Boxed<'n>>,
+    wanted: bool,
     room: Vec<Task<'n>>,
     network: &'n Network,
     input: &'n Input,
@@ -45,6 +46,8 @@ pub(crate) fn leave<'n>(
     ensures gone { HaveGone network.now input.now _watch (all_events board.entry.table.shared.key) board.entry.table.shared.key.cells.value.items result.tasks.items result.budget }
     ensures untouched { seat.entry.seat.me.0.done ≡ 0 → AreUntouched board.entry.table.shared.key.bound board.entry.table.shared.key.cells.value.items result.tasks.items result.budget }
     ensures over { seat.entry.seat.me.0.stage ≡ 1 → IsOver network.now input.now result.tasks.items result.budget result.halted }
+    ensures halted { (0 < seat.entry.seat.me.0.raised → result.halted ≡ true) × (result.halted ≡ true → 0 < seat.entry.seat.me.0.raised) }
+    ensures wanted { result.wanted ≡ wanted }
 {
     let _program = network.program();
     let Closed {
@@ -56,6 +59,7 @@ pub(crate) fn leave<'n>(
         tasks: out_of_cells(cells, room),
         budget,
         halted,
+        wanted,
     }
 }
 
@@ -67,5 +71,6 @@ pub(crate) fn untouched<'n>(tasks: Vec<Task<'n>>, bound: u64) -> Left<'n>
         tasks,
         budget: bound,
         halted: false,
+        wanted: false,
     }
 }

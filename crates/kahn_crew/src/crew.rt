@@ -1,18 +1,18 @@
 //! A crew: all workers of a run, the first in the caller's thread and each other in one of its own.
 
-ghost use Rattle.std.specs.Prelude.{◌≡◌, ◌+◌, ◌<◌, ◌≤◌, ◌^◌, [], true, length, All, IfOk, IfErr, MatchResult};
+ghost use Rattle.std.specs.Prelude.{◌≡◌, ◌+◌, ◌<◌, ◌≤◌, ◌^◌, [], true, false, length, All, IfOk, IfErr, MatchResult};
 ghost use Rattle.std.specs.Vec.{vec_capacity};
 ghost use Rattle.kahn_network.specs.Network.{network_of};
 ghost use Rattle.kahn_board.specs.Dealt.{events_of};
-ghost use Rattle.kahn_desk.specs.inner.Crew.{parts_of};
+ghost use Rattle.kahn_desk.specs.inner.Crew.{parts_of, raised_of};
 ghost use Rattle.kahn_desk.specs.inner.Turn.{IsIdle, IsSeatOf};
-ghost use Rattle.kahn_crew.specs.inner.Crews.{HasGone, IsSeated, IsWhole, crew_parts};
+ghost use Rattle.kahn_crew.specs.inner.Crews.{HasCause, HasGone, IsSeated, IsWhole, crew_parts, crew_raised};
 ghost use Rattle.kahn_crew.specs.inner.Floors.{IsFloor};
 ghost use Rattle.kahn_crew.specs.inner.Begins.{AreReady};
 ghost use Rattle.kahn_crew.specs.inner.Left.{AreUntouched, HaveGone, HaveLeft, IsOver};
 ghost use Rattle.kahn_crew.specs.inner.Tasks.{told_of};
 ghost use Rattle.kahn_crew.specs.inner.Wants.{IsWant};
-ghost use Rattle.kahn_crew.specs.declared.fault.CrewFault.TheVariants.{NoMemory as NoMemoryFault};
+ghost use Rattle.kahn_crew.specs.declared.fault.CrewFault.TheVariants.{NoMemory as NoMemoryFault, NoThread as NoThreadFault};
 
 use crate::boxes::Boxed;
 use crate::closing::{leave, untouched};
@@ -49,6 +49,7 @@ fn man<'n>(
     ensures count { length result.items ≡ length seats.entry.items }
     ensures each { All (IsSeated board.now.table.shared.table_id) result.items }
     ensures sums { crew_parts result.items ≡ parts_of seats.entry.items }
+    ensures raised { crew_raised result.items ≡ raised_of seats.entry.items }
 {
     while let Some(seat) = seats.pop() {
         let hints = hints.pop().unwrap();
@@ -61,27 +62,31 @@ fn man<'n>(
     workers
 }
 
-// The seats of workers that have left.
+// The seats of workers that have left, and whether one of them wanted memory.
 fn dismiss<'n>(
     board: &Board<Boxed<'n>>,
     mut workers: Vec<Worker<'n>>,
     mut seats: Vec<Seat<Boxed<'n>>>,
-) -> Vec<Seat<Boxed<'n>>>
+) -> (Vec<Seat<Boxed<'n>>>, bool)
     requires room { (seats.items ≡ []) × (length workers.items ≤ vec_capacity seats) }
     requires each { All (HasGone board.now.table.shared.table_id) workers.items }
-    ensures count { length result.items ≡ length workers.entry.items }
-    ensures each { All (λ s. (s.seat.table_id ≡ board.now.table.shared.table_id) × IsIdle s × (s.seat.me.0.stage ≡ 1)) result.items }
-    ensures sums { parts_of result.items ≡ crew_parts workers.entry.items }
+    ensures count { length result.0.items ≡ length workers.entry.items }
+    ensures each { All (λ s. (s.seat.table_id ≡ board.now.table.shared.table_id) × IsIdle s × (s.seat.me.0.stage ≡ 1)) result.0.items }
+    ensures sums { parts_of result.0.items ≡ crew_parts workers.entry.items }
+    ensures raised { raised_of result.0.items ≡ crew_raised workers.entry.items }
+    ensures wanted { All HasCause workers.entry.items → 0 < raised_of result.0.items → result.1 ≡ true }
 {
+    let mut wanted = false;
     while let Some(worker) = workers.pop() {
         let Worker {
             seat,
-            hints: _,
+            hints,
             start: _,
         } = worker;
+        wanted |= hints.wanted;
         seats.push_reserved(seat);
     }
-    seats
+    (seats, wanted)
 }
 
 // What all workers of a crew share.
@@ -94,14 +99,14 @@ struct Shift<'b, 'c, 'n, R, G> {
 
 impl<'b, 'c, 'n, R: Wait + Sync, G: Gate + Sync> Hand<Shift<'b, 'c, 'n, R, G>> for Worker<'n> {
     ghost use Rattle.std.specs.Prelude.{◌≡◌, ◌<◌};
-    ghost use Rattle.kahn_crew.specs.inner.Crews.{HasGone, IsSeated};
-    ghost use Rattle.kahn_crew.specs.inner.Floors.{IsFloor};
+    ghost use Rattle.kahn_crew.specs.inner.Crews.{HasGone, HasQuit, IsSeated};
+    ghost use Rattle.kahn_crew.specs.inner.Floors.{Heeds, IsFloor};
 
     ghost may = { λ s w. IsFloor s.floor.now.board.now.table.shared.key s.floor.now.network.now s.floor.now.code.now.network.value × (0 < s.floor.now.quantum) × IsSeated s.floor.now.board.now.table.shared.table_id w };
 
-    ghost did = { λ s old new. HasGone s.floor.now.board.now.table.shared.table_id new × (new.seat.seat.me.0.parts ≡ old.seat.seat.me.0.parts) };
+    ghost did = { λ s old new. HasGone s.floor.now.board.now.table.shared.table_id new × Heeds old.hints.wanted old.seat new.hints.wanted new.seat };
 
-    ghost quit = { λ s old new. HasGone s.floor.now.board.now.table.shared.table_id new × (new.seat.seat.me.0.parts ≡ old.seat.seat.me.0.parts) };
+    ghost quit = { λ s old new. HasQuit s.floor.now.board.now.table.shared.table_id old new };
 
     fn halt(mut self, shared: &Shift<'b, 'c, 'n, R, G>) -> Worker<'n> {
         stop(&mut self.seat, shared.floor.board);
@@ -128,12 +133,14 @@ fn work_all<'n, R: Threads + Wait + Sync, G: Gate + Sync>(
     ensures each { All (HasGone floor.now.board.now.table.shared.table_id) result.hands.items }
     ensures sums { crew_parts result.hands.items ≡ crew_parts workers.entry.items }
     ensures several { result.refused ≡ true → 1 < length workers.entry.items }
+    ensures halted { result.refused ≡ true → 0 < crew_raised result.hands.items }
+    ensures cause { result.refused ≡ false → crew_raised workers.entry.items ≡ 0 → All HasCause result.hands.items }
 {
     labor_all(rt, &Shift { rt, floor, gate }, workers)
 }
 
-// The board's one seat, once a crew has worked and left. It comes with a fault too: `NoMemory` before anybody worked,
-// `NoThread` once those have left that were started.
+// The board's one seat, once a crew has worked and left, and whether one of it wanted memory. Both come with a fault too:
+// `NoMemory` before anybody worked, `NoThread` once those have left that were started.
 fn employ<'n, R: Threads + Wait + Sync, G: Gate + Sync>(
     rt: &R,
     alloc: Global,
@@ -141,13 +148,17 @@ fn employ<'n, R: Threads + Wait + Sync, G: Gate + Sync>(
     gate: &G,
     seat: Seat<Boxed<'n>>,
     rooms: Rooms<'n>,
-) -> Result<Seat<Boxed<'n>>, (CrewFault, Seat<Boxed<'n>>)>
+) -> Result<(Seat<Boxed<'n>>, bool), (CrewFault, Seat<Boxed<'n>>, bool)>
     requires floor { IsFloor floor.now.board.now.table.shared.key floor.now.network.now floor.now.code.now.network.value }
     requires quantum { 0 < floor.now.quantum }
     requires seat { IsWhole floor.now.board.now.table.shared.table_id seat }
+    requires calm { seat.seat.me.0.raised ≡ 0 }
     requires few { (1 ≤ length rooms.hints.items) × (length rooms.hints.items ≤ 16) }
     requires rooms { (rooms.workers.items ≡ []) × (length rooms.hints.items ≤ vec_capacity rooms.workers) × (rooms.seats.items ≡ []) × (length rooms.hints.items ≤ vec_capacity rooms.seats) }
-    ensures left { IfOk result (λ s. IsWhole floor.now.board.now.table.shared.table_id s × (s.seat.me.0.stage ≡ 1)) }
+    ensures left { IfOk result (λ r. IsWhole floor.now.board.now.table.shared.table_id r.0 × (r.0.seat.me.0.stage ≡ 1)) }
+    // The run was halted only where memory was wanted, or a thread.
+    ensures cause { IfOk result (λ r. 0 < r.0.seat.me.0.raised → r.1 ≡ true) }
+    ensures halted { IfErr result (λ e. e.0 ≡ NoThreadFault → 0 < e.1.seat.me.0.raised) }
     ensures refused { IfErr result (λ e. IsWant (length rooms.entry.hints.items) e.0 × IsWhole floor.now.board.now.table.shared.table_id e.1) }
     // Where memory was refused nobody worked.
     ensures idle { IfErr result (λ e. e.0 ≡ NoMemoryFault → e.1.seat.me.0.done ≡ seat.entry.seat.me.0.done) }
@@ -161,14 +172,15 @@ fn employ<'n, R: Threads + Wait + Sync, G: Gate + Sync>(
         Ok(seats) => {
             let workers = man(floor.board, seats, hints, workers);
             let Labored { hands, refused } = work_all(rt, floor, gate, workers);
-            let seat = join_all(floor.board, dismiss(floor.board, hands, room));
+            let (seats, wanted) = dismiss(floor.board, hands, room);
+            let seat = join_all(floor.board, seats);
             if refused {
-                Err((CrewFault::NoThread, seat))
+                Err((CrewFault::NoThread, seat, wanted))
             } else {
-                Ok(seat)
+                Ok((seat, wanted))
             }
         }
-        Err((fault, seat)) => Err((CrewFault::from(fault), seat)),
+        Err((fault, seat)) => Err((CrewFault::from(fault), seat, false)),
     }
 }
 
@@ -215,7 +227,9 @@ pub fn run_tasks<'n, R: Threads + Wait + Sync, G: Gate + Sync>(
     requires bound { plan.bound + events_of told_of tasks.items < 2 ^ 48 }
     ensures gone { IfOk result (λ left. HaveGone network.now input.now plan.watch (plan.bound + events_of told_of tasks.entry.items) tasks.entry.items left.tasks.items left.budget) }
     ensures over { IfOk result (λ left. IsOver network.now input.now left.tasks.items left.budget left.halted) }
+    ensures cause { IfOk result (λ left. left.halted ≡ true → left.wanted ≡ true) }
     ensures wants { IfErr result (λ e. IsWant plan.workers e.0) }
+    ensures halted { IfErr result (λ e. e.0 ≡ NoThreadFault → e.1.halted ≡ true) }
     ensures refused { IfErr result (λ e. HaveGone network.now input.now plan.watch (plan.bound + events_of told_of tasks.entry.items) tasks.entry.items e.1.tasks.items e.1.budget) }
     ensures untouched { IfErr result (λ e. e.0 ≡ NoMemoryFault → AreUntouched plan.bound tasks.entry.items e.1.tasks.items e.1.budget) }
 {
@@ -235,9 +249,12 @@ pub fn run_tasks<'n, R: Threads + Wait + Sync, G: Gate + Sync>(
         quantum: plan.quantum,
     };
     match employ(rt, alloc, &floor, gate, seat, rooms) {
-        Ok(seat) => Ok(leave(board, seat, room, network, input, plan.watch)),
-        Err((fault, seat)) => {
-            let left = leave(board, seat, room, network, input, plan.watch);
+        Ok((seat, wanted)) => {
+            let left = leave(board, seat, wanted, room, network, input, plan.watch);
+            Ok(left)
+        }
+        Err((fault, seat, wanted)) => {
+            let left = leave(board, seat, wanted, room, network, input, plan.watch);
             Err((fault, left))
         }
     }
@@ -262,7 +279,8 @@ pub fn run_crew<'n, R: Threads + Wait + Sync, G: Gate + Sync>(
     requires few { (1 ≤ plan.workers) × (plan.workers ≤ 16) }
     requires quantum { 0 < plan.quantum }
     requires bound { plan.bound < 2 ^ 48 }
-    ensures { MatchResult result (λ left. HaveLeft network.now input.now plan.watch plan.bound left.tasks.items left.budget left.halted) (IsWant plan.workers) }
+    ensures ran { MatchResult result (λ left. HaveLeft network.now input.now plan.watch plan.bound left.tasks.items left.budget left.halted) (IsWant plan.workers) }
+    ensures cause { IfOk result (λ left. left.halted ≡ true → left.wanted ≡ true) }
 {
     let tasks = first_tasks(alloc, network, input, code, plan.watch)?;
     match run_tasks(rt, alloc, network, input, code, plan, tasks, gate) {

@@ -14,7 +14,8 @@ pub struct Hints {
     second: Option<usize>,
     own: Worker<usize>,
     others: Vec<Stealer<usize>>,
-    pub(crate) refused: bool,
+    // Whether memory was refused to the worker: for a hint, an event or a segment.
+    pub(crate) wanted: bool,
 }
 
 impl Hints {
@@ -25,7 +26,7 @@ impl Hints {
             second: None,
             own,
             others,
-            refused: false,
+            wanted: false,
         }
     }
 
@@ -42,12 +43,12 @@ impl Hints {
 
     /// One hint more. False where memory was refused, which stays noted.
     pub fn push(&mut self, instance: usize) -> bool
-        ensures told { result ≡ true → self.new.refused ≡ self.old.refused }
-        ensures noted { result ≡ false → self.new.refused ≡ true }
+        ensures told { result ≡ true → self.new.wanted ≡ self.old.wanted }
+        ensures noted { result ≡ false → self.new.wanted ≡ true }
     {
         if self.second.is_some() || !self.own.is_empty() {
             let told = self.own.push(instance).is_ok();
-            self.refused |= !told;
+            self.wanted |= !told;
             return told;
         }
         if self.first.is_some() {
@@ -58,8 +59,17 @@ impl Hints {
         true
     }
 
+    /// Memory was refused to the worker elsewhere, which stays noted.
+    pub fn want(&mut self)
+        ensures { self.new.wanted ≡ true }
+    {
+        self.wanted = true;
+    }
+
     /// The oldest hint of its own.
-    pub fn next(&mut self) -> Option<usize> {
+    pub fn next(&mut self) -> Option<usize>
+        ensures { self.new.wanted ≡ self.old.wanted }
+    {
         let oldest = self.first;
         self.first = self.second;
         self.second = None;
@@ -69,8 +79,20 @@ impl Hints {
         }
     }
 
+    /// A hint: one of its own, or one that it steals.
+    pub fn find(&mut self, steals: bool) -> Option<usize>
+        ensures { self.new.wanted ≡ self.old.wanted }
+    {
+        if steals {
+            return self.steal();
+        }
+        self.next()
+    }
+
     /// A hint of another worker.
-    pub fn steal(&mut self) -> Option<usize> {
+    pub fn steal(&mut self) -> Option<usize>
+        ensures { self.new.wanted ≡ self.old.wanted }
+    {
         for other in self.others.iter() {
             if let Steal::Success(instance) = other.steal() {
                 return Some(instance);

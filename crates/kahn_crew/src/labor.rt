@@ -2,7 +2,7 @@
 
 ghost use Rattle.std.specs.Prelude.{◌≡◌, ℕ, ◌<◌, true, length, All, slice_index_or};
 ghost use Rattle.std.specs.Vec.{vec_capacity};
-ghost use Rattle.kahn_crew.specs.inner.Crews.{Went};
+ghost use Rattle.kahn_crew.specs.inner.Crews.{OneWent, Went};
 
 use std::snapshot::Snapshot;
 use std::sync::Wait;
@@ -78,6 +78,7 @@ fn labor_from<'s, E, R: Threads, C: Sync + 's, T: Hand<C> + Send + Drop + 's>(
     ensures count { length result.hands.items ≡ length hands.items }
     ensures each { (i : ℕ) (d : T) → i < length hands.items → Went result.refused (T.did shared.now) (T.quit shared.now) (slice_index_or hands.items i d) (slice_index_or result.hands.items i d) }
     ensures several { result.refused ≡ true → 1 < length hands.items }
+    ensures quits { result.refused ≡ true → OneWent (T.quit shared.now) hands.items result.hands.items }
 {
     let Some(hand) = hands.pop() else {
         return Labored {
@@ -130,6 +131,7 @@ pub(crate) fn labor_all<R: Threads + Wait + Sync, C: Sync, T: Hand<C> + Send + D
     ensures count { length result.hands.items ≡ length hands.items }
     ensures each { (i : ℕ) (d : T) → i < length hands.items → Went result.refused (T.did shared.now) (T.quit shared.now) (slice_index_or hands.items i d) (slice_index_or result.hands.items i d) }
     ensures several { result.refused ≡ true → 1 < length hands.items }
+    ensures quits { result.refused ≡ true → OneWent (T.quit shared.now) hands.items result.hands.items }
 {
     thread::scope(
         thread::scope_env(),
@@ -140,6 +142,7 @@ pub(crate) fn labor_all<R: Threads + Wait + Sync, C: Sync, T: Hand<C> + Send + D
             ensures count { length result.hands.items ≡ length hands.items }
             ensures each { (i : ℕ) (d : T) → i < length hands.items → Went result.refused (T.did shared.entry.now) (T.quit shared.entry.now) (slice_index_or hands.items i d) (slice_index_or result.hands.items i d) }
             ensures several { result.refused ≡ true → 1 < length hands.items }
+            ensures quits { result.refused ≡ true → OneWent (T.quit shared.entry.now) hands.items result.hands.items }
         { labor_from(rt, scope, shared, hands) },
     )
 }

@@ -2,13 +2,13 @@
 
 ghost use Rattle.std.specs.Prelude.{◌≡◌, ℕ, ◌+◌, ◌<◌, ◌^◌, false, true, slice_index, IfSome, IfNone};
 ghost use Rattle.kahn_desk.specs.inner.Turn.{IsBetween, IsIdle, IsSeatOf};
-ghost use Rattle.kahn_crew.specs.inner.Floors.{HasTask};
+ghost use Rattle.kahn_crew.specs.inner.Floors.{HasTask, WasNotReady};
 
 use crate::boxes::Boxed;
 use crate::floor::Floor;
 use crate::hints::Hints;
 use kahn_board::Seat;
-use kahn_desk::pick;
+use kahn_desk::{looks_ready, pick};
 
 // Takes the instance, where there is one of that number that is ready. It looks first, since a claim writes a word.
 fn pick_one<'n>(floor: &Floor<'_, 'n>, seat: &mut Seat<Boxed<'n>>, p: usize) -> bool
@@ -18,8 +18,12 @@ fn pick_one<'n>(floor: &Floor<'_, 'n>, seat: &mut Seat<Boxed<'n>>, p: usize) -> 
     ensures picked { result ≡ true → (p < floor.now.board.now.instances) × ((n : ℕ) → IsBetween n seat.old → HasTask floor.now.board.now.table.shared.key p n seat.new) }
     ensures few { result ≡ true → slice_index seat.new.seat.me.0.got p + seat.new.seat.me.0.drawn < 2 ^ 48 }
     ensures missed { result ≡ false → (n : ℕ) → IsBetween n seat.old → IsBetween n seat.new }
+    ensures late { result ≡ false → p < floor.now.board.now.instances → WasNotReady floor.now.board.now.table.shared.key seat.old p }
 {
-    if p >= floor.board.instances || !floor.board.looks_ready(p) {
+    if p >= floor.board.instances {
+        return false;
+    }
+    if !looks_ready(seat, floor.board, p) {
         return false;
     }
     pick(seat, floor.board, p)
@@ -38,10 +42,10 @@ pub(crate) fn pick_hinted<'n>(
     ensures picked { IfSome result (λ p. (p < floor.now.board.now.instances) × ((n : ℕ) → IsBetween n seat.old → HasTask floor.now.board.now.table.shared.key p n seat.new)) }
     ensures few { IfSome result (λ p. slice_index seat.new.seat.me.0.got p + seat.new.seat.me.0.drawn < 2 ^ 48) }
     ensures left { IfNone result ((n : ℕ) → IsBetween n seat.old → IsBetween n seat.new) }
+    ensures kept { hints.new.wanted ≡ hints.old.wanted }
 {
     for _ in 0..floor.board.instances {
-        let found = if steals { hints.steal() } else { hints.next() };
-        let Some(p) = found else {
+        let Some(p) = hints.find(steals) else {
             return None;
         };
         if pick_one(floor, seat, p) {
@@ -62,6 +66,7 @@ pub(crate) fn pick_any<'n>(
     ensures same { IsSeatOf seat.old seat.new }
     ensures picked { IfSome result (λ p. (p < floor.now.board.now.instances) × HasTask floor.now.board.now.table.shared.key p 0 seat.new) }
     ensures left { IfNone result (IsIdle seat.new) }
+    ensures none { IfNone result ((p : ℕ) → p < floor.now.board.now.instances → WasNotReady floor.now.board.now.table.shared.key seat.old p) }
 {
     let count = floor.board.instances;
     for step in 0..count {

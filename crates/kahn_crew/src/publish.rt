@@ -2,9 +2,9 @@
 
 ghost use Rattle.std.specs.Prelude.{◌≡◌, ◌≢◌, ◌⊎◌, ℕ, ◌<◌, ◌^◌, true, false, None, Option, IfNone};
 ghost use Rattle.kahn_code.specs.Standing.{count};
-ghost use Rattle.kahn_desk.specs.inner.Turn.{Holds, IsBetween, IsSeatOf};
+ghost use Rattle.kahn_desk.specs.inner.Turn.{HasHalted, Holds, IsBetween, IsSeatOf};
 ghost use Rattle.kahn_job.specs.inner.Works.{width_of};
-ghost use Rattle.kahn_crew.specs.inner.Floors.{HasKept, IsFloor, IsTaskOf};
+ghost use Rattle.kahn_crew.specs.inner.Floors.{HasKept, Heeds, IsFloor, IsTaskOf};
 ghost use Rattle.kahn_crew.specs.inner.Tasks.{AgreesWith, IsPublished, Tasked};
 
 use crate::boxes::Boxed;
@@ -52,7 +52,7 @@ pub(crate) fn publish_one<'n>(
 // Where memory was refused for a hint the run is to stop. Otherwise the seat stays as it is.
 fn heed_hint<'n>(floor: &Floor<'_, 'n>, seat: &mut Seat<Boxed<'n>>, told: bool)
     requires { seat.old.seat.table_id ≡ floor.now.board.now.table.shared.table_id }
-    ensures same { IsSeatOf seat.old seat.new }
+    ensures halts { told ≡ false → HasHalted seat.old seat.new }
     ensures holds { (p n l : ℕ) (x : Option Tasked) → Holds p n l x seat.old → Holds p n l x seat.new }
     ensures rests { (n : ℕ) → IsBetween n seat.old → IsBetween n seat.new }
     ensures kept { (p : ℕ) → HasKept p seat.old.seat.me.0 seat.new.seat.me.0 }
@@ -73,14 +73,14 @@ pub(crate) fn hint<'n>(
     woken: Option<usize>,
 )
     requires { seat.old.seat.table_id ≡ floor.now.board.now.table.shared.table_id }
-    ensures same { IsSeatOf seat.old seat.new }
+    ensures same { Heeds hints.old.wanted seat.old hints.new.wanted seat.new }
     ensures holds { (p n l : ℕ) (x : Option Tasked) → Holds p n l x seat.old → Holds p n l x seat.new }
     ensures rests { (n : ℕ) → IsBetween n seat.old → IsBetween n seat.new }
     ensures kept { (p : ℕ) → HasKept p seat.old.seat.me.0 seat.new.seat.me.0 }
     ensures flushed { seat.new.seat.me.0.flushed ≡ seat.old.seat.me.0.flushed }
     // Nothing is halted where no hint was to be given, and the run is where memory was refused for one.
     ensures none { IfNone woken (seat.new ≡ seat.old) }
-    ensures refused { (hints.new.refused ≡ hints.old.refused) ⊎ (seat.new.seat.me.0.seen ≡ 2) }
+    ensures refused { (hints.new.wanted ≡ hints.old.wanted) ⊎ (seat.new.seat.me.0.seen ≡ 2) }
 {
     if let Some(instance) = woken {
         let told = hints.push(instance);
@@ -102,7 +102,7 @@ pub(crate) fn publish_all<'n>(
     requires task { IsTaskOf floor.now.network.now p task.old }
     requires few { task.old.work.cell.events < 2 ^ 48 }
     requires agrees { AgreesWith task.old.work task.old.published seat.old.seat.me.0.flushed }
-    ensures same { IsSeatOf seat.old seat.new }
+    ensures same { Heeds hints.old.wanted seat.old hints.new.wanted seat.new }
     ensures holds { (n l : ℕ) → Holds p n l None seat.old → Holds p n l None seat.new }
     ensures kept { HasKept p seat.old.seat.me.0 seat.new.seat.me.0 }
     ensures task { (task.new.work ≡ task.old.work) × (task.new.standing ≡ task.old.standing) }

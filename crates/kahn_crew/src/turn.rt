@@ -5,9 +5,9 @@ ghost use Rattle.kahn_network.specs.Network.{network_of};
 ghost use Rattle.kahn_board.specs.Dealt.{wired};
 ghost use Rattle.kahn_code.specs.declared.progress.Pause.TheVariants.{NoMemory as IsWant};
 ghost use Rattle.kahn_job.specs.inner.Works.{IsDelivered};
-ghost use Rattle.kahn_desk.specs.inner.Turn.{Holds, IsBetween, IsIdle, IsSeatOf};
-ghost use Rattle.kahn_crew.specs.inner.Floors.{HasKept, HasTask, IsFloor, IsTaskOf};
-ghost use Rattle.kahn_crew.specs.inner.Rests.{CanRest, IsDue};
+ghost use Rattle.kahn_desk.specs.inner.Turn.{Holds, IsBetween, IsIdle};
+ghost use Rattle.kahn_crew.specs.inner.Floors.{HasKept, HasTask, Heeds, IsFloor, IsTaskOf};
+ghost use Rattle.kahn_crew.specs.inner.Rests.{CanRest, IsDue, IsSetDown};
 ghost use Rattle.kahn_crew.specs.inner.Tasks.{Continues, IsLater, Tasked};
 ghost use Rattle.kahn_crew.specs.declared.standing.Standing.TheVariants.{Going as IsGoing};
 
@@ -62,21 +62,23 @@ fn due_of<'n>(floor: &Floor<'_, 'n>, task: &Task<'n>, p: usize) -> Due
 fn heed<'n>(
     floor: &Floor<'_, 'n>,
     seat: &mut Seat<Boxed<'n>>,
+    hints: &mut Hints,
     pause: Pause,
     flushed: Result<(), NoMemory>,
 )
     requires { seat.old.seat.table_id ≡ floor.now.board.now.table.shared.table_id }
-    ensures same { IsSeatOf seat.old seat.new }
+    ensures same { Heeds hints.old.wanted seat.old hints.new.wanted seat.new }
     ensures holds { (p n l : ℕ) (x : Option Tasked) → Holds p n l x seat.old → Holds p n l x seat.new }
     ensures kept { (p : ℕ) → HasKept p seat.old.seat.me.0 seat.new.seat.me.0 }
     ensures known { seat.new.seat.me.0.flushed ≡ seat.old.seat.me.0.flushed }
     ensures refused { OnErr flushed (seat.new.seat.me.0.seen ≡ 2) }
     ensures wanted { pause ≡ IsWant → seat.new.seat.me.0.seen ≡ 2 }
-    ensures stays { OnOk flushed ((pause ≡ IsWant → ⊥) → seat.new ≡ seat.old) }
+    ensures stays { OnOk flushed ((pause ≡ IsWant → ⊥) → (seat.new ≡ seat.old) × (hints.new.wanted ≡ hints.old.wanted)) }
 {
     if flushed.is_ok() && !matches!(pause, Pause::NoMemory) {
         return;
     }
+    hints.want();
     stop(seat, floor.board);
 }
 
@@ -85,6 +87,7 @@ fn heed<'n>(
 fn run_task<'n, L: Ledger>(
     floor: &Floor<'_, 'n>,
     seat: &mut Seat<Boxed<'n>>,
+    hints: &mut Hints,
     task: &mut Task<'n>,
     drawn: u64,
     steps: &mut Steps<L>,
@@ -92,7 +95,7 @@ fn run_task<'n, L: Ledger>(
     requires board { seat.old.seat.table_id ≡ floor.now.board.now.table.shared.table_id }
     requires code { floor.now.code.now.network.value ≡ task.old.work.cell.network }
     requires few { task.old.work.cell.events + drawn < 2 ^ 48 }
-    ensures same { IsSeatOf seat.old seat.new }
+    ensures same { Heeds hints.old.wanted seat.old hints.new.wanted seat.new }
     ensures holds { (p n l : ℕ) (x : Option Tasked) → Holds p n l x seat.old → Holds p n l x seat.new }
     ensures kept { (p : ℕ) → HasKept p seat.old.seat.me.0 seat.new.seat.me.0 }
     ensures known { seat.new.seat.me.0.flushed ≡ seat.old.seat.me.0.flushed }
@@ -106,7 +109,7 @@ fn run_task<'n, L: Ledger>(
     let before = task.events();
     let pause = task.run(floor.code, drawn, steps);
     let flushed = task.flush();
-    heed(floor, seat, pause, flushed);
+    heed(floor, seat, hints, pause, flushed);
     task.events() - before
 }
 
@@ -121,8 +124,9 @@ fn rest<'n>(
     requires board { seat.old.seat.table_id ≡ floor.now.board.now.table.shared.table_id }
     requires wires { ((wired floor.now.board.now.table.shared.key).channels ≡ floor.now.board.now.channels) }
     requires holds { CanRest floor.now.board.now.table.shared.key p due seat.old }
-    ensures same { IsSeatOf seat.old seat.new }
+    ensures same { Heeds hints.old.wanted seat.old hints.new.wanted seat.new }
     ensures rests { IsBetween seat.old.seat.me.0.drawn seat.new }
+    ensures set_down { IsSetDown floor.now.board.now.table.shared.key p due seat.old seat.new }
 {
     match due {
         Due::Ready => {
@@ -152,13 +156,13 @@ fn spend<'n, L: Ledger>(
     requires inside { p < length (network_of floor.now.network.now).instances }
     requires few { slice_index seat.old.seat.me.0.got p + drawn < 2 ^ 48 }
     requires holds { HasTask floor.now.board.now.table.shared.key p drawn seat.old }
-    ensures same { IsSeatOf seat.old seat.new }
+    ensures same { Heeds hints.old.wanted seat.old hints.new.wanted seat.new }
     ensures done { result ≤ drawn }
     ensures rests { IsBetween (drawn - result) seat.new }
 {
     let _program = floor.network.program();
     let mut boxed = take_cell(seat, floor.board, p);
-    let done = run_task(floor, seat, &mut boxed.task, drawn, steps);
+    let done = run_task(floor, seat, hints, &mut boxed.task, drawn, steps);
     publish_all(floor, seat, hints, &mut boxed.task, p);
     let due = due_of(floor, &boxed.task, p);
     put(seat, floor.board, p, boxed);
@@ -183,7 +187,7 @@ fn spend_all<'n, G: Gate, L: Ledger>(
     requires inside { first < length (network_of floor.now.network.now).instances }
     requires few { slice_index seat.old.seat.me.0.got first + drawn < 2 ^ 48 }
     requires holds { HasTask floor.now.board.now.table.shared.key first drawn seat.old }
-    ensures same { IsSeatOf seat.old seat.new }
+    ensures same { Heeds hints.old.wanted seat.old hints.new.wanted seat.new }
     ensures rests { IsBetween result seat.new }
 {
     let mut p = first;
@@ -218,7 +222,7 @@ pub(crate) fn turn<'n, R: Wait, G: Gate, L: Ledger>(
     requires inside { p < length (network_of floor.now.network.now).instances }
     requires quantum { 0 < floor.now.quantum }
     requires holds { HasTask floor.now.board.now.table.shared.key p 0 seat.old }
-    ensures same { IsSeatOf seat.old seat.new }
+    ensures same { Heeds hints.old.wanted seat.old hints.new.wanted seat.new }
     ensures idle { IsIdle seat.new }
 {
     let _program = floor.network.program();

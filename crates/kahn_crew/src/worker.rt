@@ -2,7 +2,7 @@
 
 ghost use Rattle.std.specs.Prelude.{◌≡◌, ◌<◌, IfSome, IfNone};
 ghost use Rattle.kahn_desk.specs.inner.Turn.{IsIdle, IsSeatOf};
-ghost use Rattle.kahn_crew.specs.inner.Floors.{HasTask, IsFloor};
+ghost use Rattle.kahn_crew.specs.inner.Floors.{HasTask, Heeds, IsFloor};
 
 use crate::boxes::Boxed;
 use crate::floor::Floor;
@@ -65,6 +65,7 @@ fn pick_elsewhere<'n>(floor: &Floor<'_, 'n>, worker: &mut Worker<'n>, rest: &Res
     ensures same { IsSeatOf worker.old.seat worker.new.seat }
     ensures picked { IfSome result (λ p. (p < floor.now.board.now.instances) × HasTask floor.now.board.now.table.shared.key p 0 worker.new.seat) }
     ensures left { IfNone result (IsIdle worker.new.seat) }
+    ensures kept { worker.new.hints.wanted ≡ worker.old.hints.wanted }
 {
     wait_a_little(floor, rest, worker.start);
     match pick_hinted(floor, &mut worker.seat, &mut worker.hints, true) {
@@ -80,6 +81,7 @@ fn pick_next<'n>(floor: &Floor<'_, 'n>, worker: &mut Worker<'n>, rest: &Rest) ->
     ensures same { IsSeatOf worker.old.seat worker.new.seat }
     ensures picked { IfSome result (λ p. (p < floor.now.board.now.instances) × HasTask floor.now.board.now.table.shared.key p 0 worker.new.seat) }
     ensures left { IfNone result (IsIdle worker.new.seat) }
+    ensures kept { worker.new.hints.wanted ≡ worker.old.hints.wanted }
 {
     match pick_hinted(floor, &mut worker.seat, &mut worker.hints, false) {
         Some(p) => Some(p),
@@ -102,7 +104,7 @@ fn turns<'n, R: Wait, G: Gate, L: Ledger>(
     requires name { blank.name ≡ L.name }
     requires parts { blank.parts ≡ L.parts }
     requires some { 0 < blank.parts }
-    ensures same { IsSeatOf worker.old.seat worker.new.seat }
+    ensures same { Heeds worker.old.hints.wanted worker.old.seat worker.new.hints.wanted worker.new.seat }
     ensures left { IsIdle worker.new.seat × (worker.new.seat.seat.me.0.stage ≡ 1) }
 {
     let mut steps = Steps::<L>::open(blank);
@@ -136,7 +138,7 @@ impl<'n> Worker<'n> {
         requires floor { IsFloor floor.now.board.now.table.shared.key floor.now.network.now floor.now.code.now.network.value }
         requires quantum { 0 < floor.now.quantum }
         requires idle { IsIdle self.old.seat }
-        ensures same { IsSeatOf self.old.seat self.new.seat }
+        ensures same { Heeds self.old.hints.wanted self.old.seat self.new.hints.wanted self.new.seat }
         ensures left { IsIdle self.new.seat × (self.new.seat.seat.me.0.stage ≡ 1) }
     {
         turns::<R, G, Brand>(rt, floor, gate, self, Blank::new(1));

@@ -10,6 +10,7 @@ module _ {T : Type 0} where
   pub record Same (m n : Sat T) : Type 0 where
     pub slots : n.1 ≡ m.1
     pub parts : n.0.parts ≡ m.0.parts
+    pub raised : n.0.raised ≡ m.0.raised
     pub hands : n.0.hands ≡ m.0.hands
     pub flushed : n.0.flushed ≡ m.0.flushed
     pub got : n.0.got ≡ m.0.got
@@ -20,13 +21,13 @@ module _ {T : Type 0} where
     pub seen : n.0.seen ≡ m.0.seen
 
   pub same_self : (m : Sat T) → Same m m
-  same_self m = record { slots = refl; parts = refl; hands = refl; flushed = refl; got = refl; drawn = refl; loose = refl; owed = refl; down = refl; seen = refl }
+  same_self m = record { slots = refl; parts = refl; raised = refl; hands = refl; flushed = refl; got = refl; drawn = refl; loose = refl; owed = refl; down = refl; seen = refl }
 
   pub same_noted : (m n k : Sat T) (r : ℕ) → Same m n → k ≡ (noted n.0 r, n.1) → Same m k
-  same_noted m n k r s is = subst (Same m) (sym is) record { slots = s.slots; parts = s.parts; hands = s.hands; flushed = s.flushed; got = s.got; drawn = s.drawn; loose = s.loose; owed = s.owed; down = s.down; seen = s.seen }
+  same_noted m n k r s is = subst (Same m) (sym is) record { slots = s.slots; parts = s.parts; raised = s.raised; hands = s.hands; flushed = s.flushed; got = s.got; drawn = s.drawn; loose = s.loose; owed = s.owed; down = s.down; seen = s.seen }
 
   pub same_noted_twice : (m n k : Sat T) (a b : ℕ) → Same m n → k ≡ (noted (noted n.0 a) b, n.1) → Same m k
-  same_noted_twice m n k a b s is = subst (Same m) (sym is) record { slots = s.slots; parts = s.parts; hands = s.hands; flushed = s.flushed; got = s.got; drawn = s.drawn; loose = s.loose; owed = s.owed; down = s.down; seen = s.seen }
+  same_noted_twice m n k a b s is = subst (Same m) (sym is) record { slots = s.slots; parts = s.parts; raised = s.raised; hands = s.hands; flushed = s.flushed; got = s.got; drawn = s.drawn; loose = s.loose; owed = s.owed; down = s.down; seen = s.seen }
 
   pub same_knows : (w : Wires) (p : ℕ) (m n : Sat T) → Same m n → Knows w p m.0 n.0
   same_knows w p m n s = record { flushed = λ c _ _. ap (λ l. get_or l c 0) s.flushed; got = ap (λ l. get_or l p 0) s.got; seen = inl s.seen }

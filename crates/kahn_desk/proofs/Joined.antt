@@ -9,7 +9,7 @@ use Rattle.kahn_board.specs.Plays.{Sat}
 use Rattle.kahn_board.specs.declared.board.Seat.{Seat}
 use Rattle.kahn_board.proofs.Seats.{zeros}
 use Rattle.kahn_desk.specs.inner.Turn.{Rests, IsIdle}
-use Rattle.kahn_desk.specs.inner.Crew.{parts_of, done_of}
+use Rattle.kahn_desk.specs.inner.Crew.{parts_of, done_of, raised_of}
 
 pub all_but_last : {A : Type 0} (P : A → Type 0) (xs : List A) (x : A) → All P (xs ++ x ∷ []) → All P xs × P x
 all_but_last P xs x all = (
@@ -31,6 +31,7 @@ module _ {T : Type 0} where
     pub each : All (IsOf z) left
     pub parts : now.seat.me.0.parts + parts_of left ≡ first.seat.me.0.parts + parts_of others
     pub done : now.seat.me.0.done + done_of left ≡ first.seat.me.0.done + done_of others
+    pub raised : now.seat.me.0.raised + raised_of left ≡ first.seat.me.0.raised + raised_of others
     pub stage : All IsDone others → first.seat.me.0.stage ≡ 1 → All IsDone left × (now.seat.me.0.stage ≡ 1)
 
   pub join_one : (z : TableId) (first : Seat T) (others : List (Seat T)) (now : Seat T) (left : List (Seat T)) (next other : Seat T) (rest : List (Seat T))
@@ -41,6 +42,7 @@ module _ {T : Type 0} where
     each = t.0;
     parts = omega (arith, j.parts, ap (λ (m : Sat T). m.0.parts) is, ap parts_of split, sum_by_push (λ (s : Seat T). s.seat.me.0.parts) rest other);
     done = omega (arith, j.done, ap (λ (m : Sat T). m.0.done) is, ap done_of split, sum_by_push (λ (s : Seat T). s.seat.me.0.done) rest other);
+    raised = omega (arith, j.raised, ap (λ (m : Sat T). m.0.raised) is, ap raised_of split, sum_by_push (λ (s : Seat T). s.seat.me.0.raised) rest other);
     stage = λ all one. let k = j.stage all one in let s = all_but_last IsDone rest other (subst (All IsDone) split k.0) in (s.0, omega (arith, ap (λ (m : Sat T). m.0.stage) is, k.1, s.1));
   }
 
@@ -51,6 +53,7 @@ module _ {T : Type 0} where
     pub each : All (IsOf z) made
     pub parts : (now.seat.me.0.parts + length made ≡ whole.seat.me.0.parts) × (parts_of made ≡ length made)
     pub done : (now.seat.me.0.done ≡ whole.seat.me.0.done) × (done_of made ≡ 0)
+    pub raised : (now.seat.me.0.raised ≡ whole.seat.me.0.raised) × (raised_of made ≡ 0)
 
   pub split_one : (z : TableId) (whole : Seat T) (made : List (Seat T)) (now : Seat T) (made' : List (Seat T)) (kept cut : Seat T) → Splitting z whole made now → made' ≡ made ++ cut ∷ [] → 1 < now.seat.me.0.parts
       → (kept.seat.table_id ≡ now.seat.table_id) × (kept.seat.id ≡ now.seat.id) × (kept.seat.me ≡ (kept_part now.seat.me.0, now.seat.me.1)) × (cut.seat.table_id ≡ now.seat.table_id) × (cut.seat.me ≡ (cut_part now.seat.me.0, []))
@@ -67,12 +70,17 @@ module _ {T : Type 0} where
       ap (λ (m : Sat T). m.0.done) e.2 ∙ s.done.0,
       omega (arith, s.done.1, ap done_of is, sum_by_push (λ (s : Seat T). s.seat.me.0.done) made cut, ap (λ (m : Sat T). m.0.done) e.4),
     );
+    raised = (
+      ap (λ (m : Sat T). m.0.raised) e.2 ∙ s.raised.0,
+      omega (arith, s.raised.1, ap raised_of is, sum_by_push (λ (s : Seat T). s.seat.me.0.raised) made cut, ap (λ (m : Sat T). m.0.raised) e.4),
+    );
   }
 
   -- the one that is left comes to those that were cut off
-  pub split_all : (z : TableId) (whole : Seat T) (made : List (Seat T)) (now : Seat T) (all : List (Seat T)) → Splitting z whole made now → all ≡ made ++ now ∷ [] → All (IsOf z) all × (parts_of all ≡ whole.seat.me.0.parts) × (done_of all ≡ whole.seat.me.0.done)
+  pub split_all : (z : TableId) (whole : Seat T) (made : List (Seat T)) (now : Seat T) (all : List (Seat T)) → Splitting z whole made now → all ≡ made ++ now ∷ [] → All (IsOf z) all × (parts_of all ≡ whole.seat.me.0.parts) × (done_of all ≡ whole.seat.me.0.done) × (raised_of all ≡ whole.seat.me.0.raised)
   split_all z whole made now all s is = (
     subst (All (IsOf z)) (sym is) (All-push (IsOf z) made now s.each (s.same, s.idle)),
     omega (arith, s.parts.0, s.parts.1, ap parts_of is, sum_by_push (λ (s : Seat T). s.seat.me.0.parts) made now),
     omega (arith, s.done.0, s.done.1, ap done_of is, sum_by_push (λ (s : Seat T). s.seat.me.0.done) made now),
+    omega (arith, s.raised.0, s.raised.1, ap raised_of is, sum_by_push (λ (s : Seat T). s.seat.me.0.raised) made now),
   )

@@ -25,11 +25,11 @@ module _ {T : Type 0} (told : T → Option Tale) (after : T → T → Type 0) (k
   abbrev pub Left : Seat T → Seat T → Type 0
   Left s t = IsSeatOf s t × IsIdle t × (t.seat.me.0.stage ≡ 1)
 
-  leaves : (s t : Seat T) (u : View) → t.seat.table_id ≡ s.seat.table_id → t.seat.id ≡ s.seat.id → t.seat.me.0 ≡ u → u.parts ≡ s.seat.me.0.parts → Rests u → u.stage ≡ 1 → Left s t
-  leaves s t u table seat is parts rests stage = ((table, seat, ap (λ v. v.parts) is ∙ parts), subst Rests (sym is) rests, ap (λ v. v.stage) is ∙ stage)
+  leaves : (s t : Seat T) (u : View) → t.seat.table_id ≡ s.seat.table_id → t.seat.id ≡ s.seat.id → t.seat.me.0 ≡ u → u.parts ≡ s.seat.me.0.parts → u.raised ≡ s.seat.me.0.raised → Rests u → u.stage ≡ 1 → Left s t
+  leaves s t u table seat is parts raised rests stage = ((table, seat, ap (λ v. v.parts) is ∙ parts, ap (λ v. v.raised) is ∙ raised), subst Rests (sym is) rests, ap (λ v. v.stage) is ∙ stage)
 
   pub left : (s t : Seat T) (k : Look) → Looks told after key s t k → IsIdle s → k ≢ Go → Left s t
-  left s t Halted l r ne = leaves s t _ l.0.0 l.0.1 (ap (λ m. m.0) l.1.3) refl r (leaves_done s.seat.me.0 r)
-  left s t Quiet l r ne = leaves s t _ l.0.0 l.0.1 (ap (λ m. m.0) l.4) refl r (leaves_done s.seat.me.0 r)
-  left s t NoBudget l r ne = leaves s t _ l.0.0 l.0.1 (ap (λ m. m.0) l.4.4) refl r (leaves_done s.seat.me.0 r)
+  left s t Halted l r ne = leaves s t _ l.0.0 l.0.1 (ap (λ m. m.0) l.1.3) refl refl r (leaves_done s.seat.me.0 r)
+  left s t Quiet l r ne = leaves s t _ l.0.0 l.0.1 (ap (λ m. m.0) l.4) refl refl r (leaves_done s.seat.me.0 r)
+  left s t NoBudget l r ne = leaves s t _ l.0.0 l.0.1 (ap (λ m. m.0) l.4.4) refl refl r (leaves_done s.seat.me.0 r)
   left s t Go l r ne = absurd (ne refl)

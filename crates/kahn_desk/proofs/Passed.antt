@@ -36,7 +36,7 @@ module _ {T : Type 0} (told : T → Option Tale) (belongs : ℕ → T → Type 0
   pub passes : (m n k j : Sat T) (p c count r q a b : ℕ) (y : T) → Woke m c count r q a y n → k ≡ (paid_up n.0 b, n.1)
       → ((z : T) → Carries k.1 r (Some z) → (d : ℕ) × (j.0 ≡ gave k.0 r (told z) 0 d)) → ((s : ℕ) (x : Option T) → s ≢ r → Carries k.1 s x → Carries j.1 s x)
       → IsIn m.0 p → p < w.instances → c < w.channels → w.writer c ≡ Some p
-      → ((i l : ℕ) (x : Option T) → InTurn p i l x m → InTurn p i l x j) × Tells w p c count m.0 j.0 × (j.0.parts ≡ m.0.parts)
+      → ((i l : ℕ) (x : Option T) → InTurn p i l x m → InTurn p i l x j) × Tells w p c count m.0 j.0 × (j.0.parts ≡ m.0.parts) × (j.0.raised ≡ m.0.raised)
   passes m n k j p c count r q a b y woke is given kept mine inside near writes = let got = woke.got in let L = got.0 in let e = got.1 in let seen = got.2 in
       let N : Sat T = (took (waking m.0 c count r q) r L e seen a, (r, Some y) ∷ m.1) in
       let K : Sat T = (paid_up N.0 b, N.1) in
@@ -64,4 +64,5 @@ module _ {T : Type 0} (told : T → Option Tale) (belongs : ℕ → T → Type 0
         (λ i l x t. subst (λ (v : View). InTurn p i l x (v, j.1)) (sym j_is) (turn i l x t)),
         subst (Tells w p c count m.0) (sym j_is) tells,
         ap (λ (v : View). v.parts) j_is,
+        ap (λ (v : View). v.raised) j_is,
       )

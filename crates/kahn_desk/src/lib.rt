@@ -8,4 +8,4 @@ mod turn;
 // For the crates above.
 pub use crew::{join_all, split_all};
 pub use rest::{go_on, rest_dry, rest_over, rest_ready};
-pub use turn::{draw_some, give, pick, put, stop, take_cell, tell, tell_done};
+pub use turn::{draw_some, give, looks_ready, pick, put, stop, take_cell, tell, tell_done};

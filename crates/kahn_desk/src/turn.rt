@@ -2,14 +2,25 @@
 
 ghost use Rattle.std.specs.Prelude.{◌≡◌, ◌≢◌, ℕ, ◌+◌, ◌-◌, ◌*◌, ◌^◌, ◌<◌, ◌≤◌, min, slice_index, true, false, Option, Some, None, IfSome, IfNone};
 ghost use Rattle.kahn_board.specs.Dealt.{belongs, wired};
-ghost use Rattle.kahn_board.specs.Calls.{Was};
+ghost use Rattle.kahn_board.specs.Calls.{Was, LooksAt, Uses, GivesBack};
 ghost use Rattle.kahn_board.specs.Plays.{noted, with_draw};
 ghost use Rattle.kahn_board.specs.Rule.{budget_at};
 ghost use Rattle.kahn_board.specs.declared.view.View.{View};
-ghost use Rattle.kahn_desk.specs.inner.Turn.{IsBetween, IsIdle, IsSeatOf, Holds, Knows, Tells, Fits};
+ghost use Rattle.kahn_desk.specs.inner.Turn.{IsBetween, IsIdle, IsSeatOf, HasHalted, Holds, Knows, Tells, Fits};
 
 use kahn_board::{Board, Draw, Rest, Seat, Told};
 use std::sync::Wait;
+
+/// Whether the instance is ready. False where it wasn't at a moment of the call.
+pub fn looks_ready<T: Told>(seat: &mut Seat<T>, board: &Board<T>, p: usize) -> bool
+    requires board { seat.old.seat.table_id ≡ board.now.table.shared.table_id }
+    requires inside { p < board.now.instances }
+    ensures same { IsSeatOf seat.old seat.new }
+    ensures rests { (n : ℕ) → IsBetween n seat.old → IsBetween n seat.new }
+    ensures looks { LooksAt T.told T.after board.now.table.shared.key seat.old seat.new p result }
+{
+    seat.looks_ready(board, p)
+}
 
 /// Takes the instance, where it is ready, for what is left of a draw. False where it is not, since another worker has it,
 /// or it waits, or it is over: its word was not 0 then.
@@ -101,7 +112,7 @@ pub fn tell<T: Told>(
 /// The run is to stop: each worker leaves after its turn.
 pub fn stop<T: Told>(seat: &mut Seat<T>, board: &Board<T>)
     requires { seat.old.seat.table_id ≡ board.now.table.shared.table_id }
-    ensures same { IsSeatOf seat.old seat.new }
+    ensures same { HasHalted seat.old seat.new }
     ensures holds { (p n l : ℕ) (x : Option T) → Holds p n l x seat.old → Holds p n l x seat.new }
     ensures idle { IsIdle seat.old → IsIdle seat.new }
     ensures rests { (n : ℕ) → IsBetween n seat.old → IsBetween n seat.new }
@@ -117,6 +128,7 @@ pub fn tell_done<T: Told>(seat: &mut Seat<T>, board: &Board<T>, p: usize, done: 
     ensures same { IsSeatOf seat.old seat.new }
     ensures knows { Knows (wired board.now.table.shared.key) p seat.old.seat.me.0 seat.new.seat.me.0 }
     ensures holds { (n : ℕ) (x : Option T) → Holds p n 0 x seat.old → Holds p (n - done) done x seat.new }
+    ensures used { Uses seat.old seat.new done }
 {
     seat.spend(board, done);
 }
@@ -127,6 +139,7 @@ pub fn give<T: Told>(seat: &mut Seat<T>, board: &Board<T>, undone: u64)
     requires rests { IsBetween undone seat.old }
     ensures same { IsSeatOf seat.old seat.new }
     ensures idle { IsIdle seat.new }
+    ensures back { GivesBack seat.old seat.new undone }
 {
     seat.give_back(board, undone);
 }

@@ -1,9 +1,10 @@
 -- Inner. What all workers of a run share.
-use Rattle.std.specs.Prelude.{◌≡◌, ℕ, length, slice_index, Some}
+use Rattle.std.specs.Prelude.{◌≡◌, ◌≢◌, ◌⊎◌, ℕ, ◌*◌, ◌<◌, Bool, true, length, slice_index, Some}
 use mathlib.Core.Option.{some}
 use lib.ListN.{get_elem?}
 use Rattle.kahn_tree.specs.declared.tree.Program.{Program}
 use Rattle.kahn_network.specs.Network.{network_of}
+use Rattle.kahn_board.specs.Calls.{Was}
 use Rattle.kahn_board.specs.Dealt.{belongs, wired}
 use Rattle.kahn_board.specs.declared.board.Seat.{Seat}
 use Rattle.kahn_board.specs.declared.rule.Terms.{Terms}
@@ -31,3 +32,17 @@ HasTask key p n s = (y : Tasked) × Holds p n 0 (Some y) s × Fits told_of (belo
 pub record HasKept (p : ℕ) (old new : View) : Type 0 where
   pub got : slice_index new.got p ≡ slice_index old.got p
   pub seen : SeesMore old.seen new.seen
+
+-- of whether memory was wanted and how often the run was halted, before and after: it was halted where memory was wanted, and nowhere else
+abbrev pub RaisesAsWanted : Bool → ℕ → Bool → ℕ → Type 0
+RaisesAsWanted wanted j wants k = ((k ≡ j) × (wants ≡ wanted)) ⊎ ((j < k) × (wants ≡ true))
+
+-- the same seat, with the same parts, which halted the run where its worker wanted memory, and nowhere else
+abbrev pub Heeds : Bool → Seat Tasked → Bool → Seat Tasked → Type 0
+Heeds wanted s wants t =
+    (t.seat.table_id ≡ s.seat.table_id) × (t.seat.id ≡ s.seat.id) × (t.seat.me.0.parts ≡ s.seat.me.0.parts)
+    × RaisesAsWanted wanted s.seat.me.0.raised wants t.seat.me.0.raised
+
+-- the instance p wasn't ready at a moment at which the seat had such a view
+abbrev pub WasNotReady : Terms Tasked → Seat Tasked → ℕ → Type 0
+WasNotReady key s p = (v : View) × (r : ℕ) × (r ≢ 0) × Was told_of IsLater key s v (8 * p) r

@@ -4,7 +4,7 @@ use Rattle.kahn_board.specs.Tale.{Tale, FlushedAll, flushed_of, events_past}
 use Rattle.kahn_board.specs.Wires.{Wires}
 use Rattle.kahn_board.specs.Cuts.{HoldsNothing}
 use Rattle.kahn_board.specs.Hands.{Carries}
-use Rattle.kahn_board.specs.Plays.{Sat, IsIn, SeesMore}
+use Rattle.kahn_board.specs.Plays.{Sat, IsIn, SeesMore, gave, paid_down}
 use Rattle.kahn_board.specs.declared.view.View.{View}
 use Rattle.kahn_board.specs.declared.board.Seat.{Seat}
 
@@ -51,9 +51,24 @@ module _ {T : Type 0} where
   abbrev pub Holds : ℕ → ℕ → ℕ → Option T → Seat T → Type 0
   Holds p n l x s = InTurn p n l x s.seat.me
 
-  -- the same seat, with the same parts
+  -- the same seat, with the same parts, which didn't halt the run
   abbrev pub IsSeatOf : Seat T → Seat T → Type 0
-  IsSeatOf s t = (t.seat.table_id ≡ s.seat.table_id) × (t.seat.id ≡ s.seat.id) × (t.seat.me.0.parts ≡ s.seat.me.0.parts)
+  IsSeatOf s t =
+      (t.seat.table_id ≡ s.seat.table_id) × (t.seat.id ≡ s.seat.id) × (t.seat.me.0.parts ≡ s.seat.me.0.parts) × (t.seat.me.0.raised ≡ s.seat.me.0.raised)
+
+  -- the same seat, with the same parts, which halted the run once
+  abbrev pub HasHalted : Seat T → Seat T → Type 0
+  HasHalted s t =
+      (t.seat.table_id ≡ s.seat.table_id) × (t.seat.id ≡ s.seat.id) × (t.seat.me.0.parts ≡ s.seat.me.0.parts) × (t.seat.me.0.raised ≡ s.seat.me.0.raised + 1)
+
+  -- p with its cell was set down ready, where the view was v
+  abbrev pub SetsReady : (T → Option Tale) → Seat T → View → Seat T → ℕ → Type 0
+  SetsReady told s v t p = (y : T) → Carries s.seat.me.1 p (Some y) → (r : ℕ) × (t.seat.me.0 ≡ gave v p (told y) 0 r)
+
+  -- p with its cell was parked, or is over, and the count down for it is paid
+  abbrev pub SetsStill : (T → Option Tale) → Seat T → Seat T → ℕ → Type 0
+  SetsStill told s t p =
+      (y : T) → Carries s.seat.me.1 p (Some y) → (r : ℕ) × (q : ℕ) × (t.seat.me.0 ≡ paid_down (gave s.seat.me.0 p (told y) 1 r) q)
 
 module _ {T : Type 0} (told : T → Option Tale) (belongs : ℕ → T → Type 0) (w : Wires) where
   -- the cell y of p may be left: what it tells as flushed is published, its events are those told as done, it flushed all that it sent unless the run is halted, it belongs to p

@@ -19,7 +19,7 @@ employ-requires-clause-floor g c =
     search (is)
 
 pub returns-in-Ok-employ-clause-over : goal.returns-in-Ok-employ-clause-over
-returns-in-Ok-employ-clause-over g c = c.leave.ensures.over c.in-Ok-employ.ensures.left.1
+returns-in-Ok-employ-clause-over g c = c.leave-left.ensures.over c.in-Ok-employ.ensures.left.1
 
 pub returns-in_default-clause-untouched : goal.returns-in_default-clause-untouched
 returns-in_default-clause-untouched g c = λ none.

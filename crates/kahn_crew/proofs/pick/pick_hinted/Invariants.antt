@@ -1,4 +1,4 @@
-use Rattle.std.proofs.Common.{ℕ}
+use Rattle.std.proofs.Common.{◌≡◌, ℕ}
 use Rattle.kahn_desk.specs.inner.Turn.{IsBetween, IsSeatOf}
 use Rattle.kahn_crew.proofs.pick.pick_hinted.Given as goal
 
@@ -6,4 +6,5 @@ abbrev pub invariant-loop : goal.invariant-loop
 invariant-loop l = record {
   same : IsSeatOf l.fn.seat l.seat;
   rests : (n : ℕ) → IsBetween n l.fn.seat → IsBetween n l.seat;
+  kept : l.hints.wanted ≡ l.fn.hints.wanted;
 }

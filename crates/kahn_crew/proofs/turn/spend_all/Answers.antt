@@ -1,6 +1,7 @@
 use Rattle.std.proofs.Common.{arith, ◌≡◌, ◌+◌, ◌-◌, ◌<◌, ◌^◌, ◌∙◌, subst, slice_index, ℕ}
 use Rattle.kahn_tree.specs.declared.tree.Program.{Program}
 use Rattle.kahn_board.specs.Wires.{wires}
+use Rattle.kahn_crew.proofs.Heeding.{heeds_then, heeds_still}
 use Rattle.kahn_crew.proofs.Resting.{instances_of}
 use Rattle.kahn_crew.proofs.turn.spend_all.Goals as goal
 
@@ -17,7 +18,16 @@ loop-first-preserved g c =
     let a = c.spend-done.ensures.same in
     let b = c.pick_hinted.ensures.same in
     record {
-      same = (b.0 ∙ (a.0 ∙ i.same.0), b.1 ∙ (a.1 ∙ i.same.1), b.2 ∙ (a.2 ∙ i.same.2));
+      same =
+          let w0 = c.args.hints.now.wanted in
+          let w1 = c.loop-first.hints.wanted in
+          let w2 = c.spend-done.new.hints.wanted in
+          let w3 = c.pick_hinted.new.hints.wanted in
+          let s0 = c.args.seat.now in
+          let s1 = c.loop-first.seat in
+          let s2 = c.spend-done.new.seat in
+          let s3 = c.pick_hinted.new.seat in
+          heeds_then w0 w1 w3 s0 s1 s3 i.same (heeds_then w1 w2 w3 s1 s2 s3 a (heeds_still w2 w3 s2 s3 c.pick_hinted.ensures.kept b));
       inside = omega (arith, counts, is, lt);
       few = subst (λ (k : ℕ). slice_index c.pick_hinted.new.seat.seat.me.0.got c.in-Some.next + k < 2 ^ 48) task.1.drawn c.in-Some.ensures.few;
       holds = task;

@@ -1,5 +1,6 @@
-use Rattle.std.proofs.Common.{refl}
+use Rattle.std.proofs.Common.{refl, ap, ◌∙◌}
 use Rattle.kahn_board.specs.Dealt.{belongs, wired}
+use Rattle.kahn_board.specs.Plays.{gave, paid_down}
 use Rattle.kahn_desk.proofs.Kept.{kept_turn, kept_fits}
 use Rattle.kahn_desk.proofs.rest.rest_dry.Goals as goal
 
@@ -11,3 +12,15 @@ rest_ready-requires-clause-holds g c = let k = c.args.board.now.table.shared.key
   kept_turn _ _ _ e.1.0 _ m n e.1.3 e.2 h.3,
   kept_fits g.T.Told.told (belongs g.T.Told.after k) (wired k) _ e.1.0 _ m n e.1.3 h.4,
 )
+
+pub returns-then-not-park-clause-late : goal.returns-then-not-park-clause-late
+returns-then-not-park-clause-late g c = λ _.
+    let e = c.if-not-park.ensures.1 refl in
+    let k = e.1 in
+    (k.0, k.1, k.2, λ y had. let u = c.rest_ready.ensures.ready y (e.2 c.args.p _ had) in (u.0, u.1 ∙ ap (λ v. gave v c.args.p (g.T.Told.told y) 0 u.0) k.3))
+
+pub returns-clause-parked : goal.returns-clause-parked
+returns-clause-parked g c = λ _ y had.
+    let e = (c.if-not-park.ensures.0 refl).1 y had in
+    let d = c.count_down.ensures.1 in
+    (e.0, d.0, ap (λ m. m.0) d.1 ∙ ap (λ v. paid_down v d.0) e.1)

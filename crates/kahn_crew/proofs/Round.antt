@@ -1,0 +1,30 @@
+-- A worker that goes round all instances, and finds none that is ready.
+use Rattle.std.proofs.Common.{arith, ◌≡◌, ℕ, ◌+◌, ◌-◌, ◌*◌, ◌%◌, ◌<◌, refl, ap, ◌∙◌, ⊎_elim, subst}
+use mathlib.Core.Logic.{dite}
+use native.Mathlib.Decide.{ℕ_discrete}
+use Rattle.std.proofs.Math.Nat.{add-mod_left, mod-eq_of_lt, mod-lt}
+use Rattle.kahn_board.specs.Dealt.{holds}
+use Rattle.kahn_board.specs.declared.board.Seat.{Seat}
+use Rattle.kahn_board.specs.declared.rule.Terms.{Terms}
+use Rattle.kahn_board.proofs.Turns.{was_at}
+use Rattle.kahn_crew.specs.inner.Floors.{WasNotReady}
+use Rattle.kahn_crew.specs.inner.Tasks.{Tasked, IsLater, told_of}
+
+-- each is met once
+met : (n a p : ℕ) → a < n → p < n → (k : ℕ) × (k < n) × ((a + k) % n ≡ p)
+met n a p la lp = by (p - a) refl (a - p) refl
+  where
+    by : (d : ℕ) → p - a ≡ d → (e : ℕ) → a - p ≡ e → (k : ℕ) × (k < n) × ((a + k) % n ≡ p)
+    by d is e f = dite (ℕ_discrete e 0)
+        (λ z. (d, omega (arith, is, lp), ap (λ k. k % n) (omega (arith, is, f, z)) ∙ mod-eq_of_lt lp))
+        (λ ne. (n - e, omega (arith, f, la, ne), ap (λ k. k % n) (omega (arith, f, la, ne)) ∙ (add-mod_left n p ∙ mod-eq_of_lt lp)))
+
+-- the same seat tells it
+pub not_ready_of : (key : Terms Tasked) (s t : Seat Tasked) (p : ℕ) → t.seat.id ≡ s.seat.id → WasNotReady key t p → WasNotReady key s p
+not_ready_of key s t p same w = (w.0, w.1, w.2, was_at (holds told_of IsLater key) t.seat.id s.seat.id w.0 w.0 (8 * p) (8 * p) w.1 w.1 same refl refl refl w.3)
+
+-- once it has gone round, each wasn't ready at a moment
+pub none_ready : (key : Terms Tasked) (s : Seat Tasked) (n start : ℕ) → ((k : ℕ) → k < n → WasNotReady key s ((start % n + k) % n)) → (p : ℕ) → p < n → WasNotReady key s p
+none_ready key s n start each p lt =
+    let m = met n (start % n) p (mod-lt start (omega (arith, lt))) lt in
+    subst (WasNotReady key s) m.2 (each m.0 m.1)
