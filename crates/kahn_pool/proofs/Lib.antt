@@ -3,6 +3,7 @@ pub mod Events
 pub mod Assembling
 pub mod Turns
 pub mod Final
+pub mod Lacking
 pub mod Channels
 pub mod Unique
 pub mod Sizes
@@ -26,3 +27,4 @@ pub mod Held_jobs
 pub mod Held_runs
 pub mod Held_calls
 pub mod Held_streams
+pub mod Watching

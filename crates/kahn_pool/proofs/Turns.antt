@@ -14,7 +14,7 @@ use Rattle.kahn_pool.specs.declared.answer.Outcome.TheVariants.{More, Waits}
 use Rattle.kahn_network.specs.Network.{Reads, actual_at, instance_at}
 use Rattle.kahn_pool.specs.inner.Gathered.{view_at, IsTold, TookAll}
 use Rattle.kahn_pool.specs.declared.rounds.Round.{Round}
-use Rattle.kahn_pool.specs.inner.Bench.{State, IsPaused, Rests, events_at, view_events, all_events, weight, AreEnds, Goes, GoesIn, HasMoved, HasVisited, Marked}
+use Rattle.kahn_pool.specs.inner.Bench.{State, IsPaused, Rests, events_at, view_events, all_events, weight, AreEnds, Goes, GoesIn, HasMoved, HasVisited, LacksMemory, Marked, Paused}
 
 -- a pause and an outcome that say the same
 pub told_as : (s : State) (p : ℕ) (o : script.Outcome Store) (z z' : Pause) (x x' : Outcome) → z ≡ z' → x ≡ x' →
@@ -87,6 +87,33 @@ module _ (s s' : State) (r r' : Round) (p : ℕ) (x : End) (here : p < length s.
       by (inl h) = rw h.1 (let l = v.left in omega (arith, l))
       by (inr h) = rw h.1 (let l = v.left in omega (arith, l))
 
+  -- memory that was refused before or now: some instance is paused for it
+  lacks_on : LacksMemory s r.left r.memory → LacksMemory s' r'.left r'.memory
+  lacks_on before m = by v.marked
+    where
+      within : (b : Bool) → v.quantum ≤ cond b 0 r.left → v.quantum ≤ r.left
+      within true h = omega (arith, h)
+      within false h = h
+
+      by : Marked v.stopped v.done r.memory r.moved r'.memory r'.moved → (0 < r'.left) × ((k : ℕ) × (k < length s'.cells) × Paused s' k pause.NoMemory)
+      by (inl h) =
+          let w = v.ran.wanted h.0 in
+          let q = within r.memory v.most in
+          let c = v.counts in
+          let l = v.left in
+          let long : length s'.cells ≡ length s.cells = ap length v.ran.only ∙ length-set s.cells p (view_at s'.cells p) in
+          (omega (arith, w, q, c, l), (p, omega (arith, here, long), subst (Paused s' p) h.0 v.ran.paused))
+      by (inr h) =
+          let was : r.memory ≡ true = sym h.1 ∙ m in
+          let none : v.quantum ≤ 0 = subst (λ b. v.quantum ≤ cond b 0 r.left) was v.most in
+          let u = v.ran.events in
+          let c = v.counts in
+          let l = v.left in
+          let same_left : r'.left ≡ r.left = omega (arith, u.0, u.1, none, c, l) in
+          let same_state : s' ≡ s = v.ran.still (omega (arith, u.0, u.1, none)) in
+          let old = before was in
+          (subst (λ n. 0 < n) (sym same_left) old.0, subst (λ z. (k : ℕ) × (k < length z.cells) × Paused z k pause.NoMemory) (sym same_state) old.1)
+
   -- a visit more of those that may go on
   pub moves_on : (s0 : State) (left : ℕ) (memory : Bool) → HasMoved s0 s left memory r.left r.memory → HasMoved s0 s' left memory r'.left r'.memory
   moves_on s0 left memory h = record {
@@ -94,6 +121,7 @@ module _ (s s' : State) (r r' : Round) (p : ℕ) (x : End) (here : p < length s.
     known = known_on h.known;
     total = total_on ∙ h.total;
     lighter = let a = lighter_on in let b = h.lighter in omega (arith, a, b);
+    lacks = λ f. lacks_on (h.lacks f);
   }
 
   module _ (s0 : State) (w0 t0 : ℕ) (go : GoesIn s0 w0 t0 s r p) where
@@ -113,6 +141,7 @@ module _ (s s' : State) (r r' : Round) (p : ℕ) (x : End) (here : p < length s.
           still = λ f. absurd (let g : true ≡ false = sym m ∙ f in cc);
           falls = λ _. let w : weight r.left r.memory ≤ w0 = go.rises in omega (arith, w, l);
           rises = let w : weight r.left r.memory ≤ w0 = go.rises in omega (arith, w, l);
+          lacks = lacks_on go.lacks;
         }
 
     -- not moved: all is as before, with one end more
@@ -129,6 +158,7 @@ module _ (s s' : State) (r r' : Round) (p : ℕ) (x : End) (here : p < length s.
           still = λ f. still (sym u ∙ f);
           falls = λ f. subst (λ k. k < w0) (sym same_weight) (go.falls (sym u ∙ f));
           rises = subst (λ k. k ≤ w0) (sym same_weight) go.rises;
+          lacks = lacks_on go.lacks;
         }
       where
         same_left : r'.left ≡ r.left

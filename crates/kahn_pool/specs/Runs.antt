@@ -1,9 +1,8 @@
 -- Believed. What a run is asked for, and why it is refused (this project's profile).
-use Rattle.std.specs.Prelude.{◌≡◌, ℕ, ◌<◌, ◌≤◌, length, Option, Some, None, string_bytes}
+use Rattle.std.specs.Prelude.{◌≡◌, ℕ, ◌<◌, Option, Some, None, slice_get, string_bytes}
 use Rattle.std.specs.declared.string.String.{String}
 use Rattle.std.specs.declared.alloc.Global.{Global}
 use Rattle.kahn_tree.specs.declared.tree.Program.{Program}
-use Rattle.kahn_tree.specs.View.{place_of}
 use Rattle.kahn_network.specs.Network.{network_of}
 use Rattle.kahn_network.specs.Sides.{channel_names}
 use Rattle.kahn_streams.specs.Tokens.{Lists, inputs_of}
@@ -18,15 +17,20 @@ use Rattle.kahn_pool.specs.Right.{IsRight}
 abbrev pub IsAllowed : Config → Type 0
 IsAllowed config = IsInRange config.workers config.quantum config.bound
 
+-- channel c has the name
+abbrev pub IsNamed : Program → ℕ → String Global → Type 0
+IsNamed t c name = slice_get (channel_names t) c ≡ Some (string_bytes name)
+
 -- the channel of the name that is to be watched, or none where none is named
 abbrev pub IsWatched : Program → Option (String Global) → Option ℕ → Type 0
 IsWatched t None watch = watch ≡ None
-IsWatched t (Some name) watch = (watch ≡ Some (place_of (channel_names t) (string_bytes name))) × (place_of (channel_names t) (string_bytes name) < length (channel_names t))
+IsWatched t (Some name) None = ⊥
+IsWatched t (Some name) (Some c) = IsNamed t c name
 
 -- a channel is to be watched, and none has its name
 abbrev pub IsUndeclared : Program → Option (String Global) → Type 0
 IsUndeclared t None = ⊥
-IsUndeclared t (Some name) = length (channel_names t) ≤ place_of (channel_names t) (string_bytes name)
+IsUndeclared t (Some name) = (c : ℕ) → IsNamed t c name → ⊥
 
 -- the right answer, with the channel that is to be watched
 abbrev pub IsRun : Program → Lists → Config → Answer → Type 0

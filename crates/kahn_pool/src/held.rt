@@ -78,8 +78,8 @@ impl<'n> Model for Held<'n> {
 }
 
 impl<'n> Held<'n> {
-    /// A run of a network with an input that fits it, before its first event. It keeps the allocator for its later calls. The bound of the configuration is the first
-    /// one: `resume(0)` runs for that many events.
+    /// A run of a network with an input that fits it, before its first event. It keeps the allocator for its later calls. The bound
+    /// of the configuration is the first one: `resume(0)` runs for that many events.
     ///
     /// It refuses with `BadConfig` where a number of the configuration is out of its limit, then with `UnknownWatch` where
     /// no channel has the name that is to be watched, and with `NoMemory` where memory was refused.
@@ -146,7 +146,7 @@ impl<'n> Held<'n> {
             },
             bound: self.plan.bound + more,
         };
-        let stopped = run_part(rt, self.alloc, &part, idles, room, gate);
+        let stopped = run_part(rt, self.alloc, self.plan, &part, idles, room, gate);
         self.idles = stopped.idles;
         if let Err(CrewFault::NoMemory) = stopped.outcome {
             return Err(HeldFault::NoMemory);

@@ -1,11 +1,11 @@
 //! A run on the caller's thread.
 
 ghost use Rattle.kahn_network.specs.Network.{network_of};
-ghost use Rattle.kahn_pool.specs.Exact.{Settles};
+ghost use Rattle.kahn_pool.specs.Exact.{IsCutShort, Settles};
 ghost use Rattle.kahn_pool.specs.Limits.{IsRefused};
 ghost use Rattle.kahn_pool.specs.Right.{IsRight};
 ghost use Rattle.kahn_streams.specs.Tokens.{inputs_of};
-ghost use Rattle.std.specs.Prelude.{◌≡◌, ◌<◌, ◌^◌, ℕ, length, true, IfOk, IfErr, MatchOption, MatchResult, None};
+ghost use Rattle.std.specs.Prelude.{◌≡◌, ◌<◌, ◌^◌, ℕ, length, true, IfOk, IfErr, IfSome, MatchOption, MatchResult, None};
 
 use crate::answer::Answer;
 use crate::config::RunFault;
@@ -41,7 +41,8 @@ fn run_opened<G: Gate, L: Ledger>(
     requires parts { blank.parts ≡ L.parts }
     requires some { 0 < blank.parts }
     requires bound { bound < 2 ^ 48 }
-    ensures { IfOk result (λ a. MatchOption a (may_leave ≡ true) (IsRight (network_of network.now) (inputs_of input.now) bound watch)) }
+    ensures right { IfOk result (λ a. MatchOption a (may_leave ≡ true) (IsRight (network_of network.now) (inputs_of input.now) bound watch)) }
+    ensures short { IfOk result (λ a. IfSome a (IsCutShort bound)) }
 {
     let steps = Steps::<L>::open(blank);
     let ends = Vec::with_capacity(alloc, network.instances())?;
@@ -65,7 +66,8 @@ pub(crate) fn run_alone<G: Gate>(
     requires quantum { 0 < quantum }
     requires fits { length input.now ≡ length (network_of network.now).channels }
     requires bound { bound < 2 ^ 48 }
-    ensures { IfOk result (λ a. MatchOption a (may_leave ≡ true) (IsRight (network_of network.now) (inputs_of input.now) bound watch)) }
+    ensures right { IfOk result (λ a. MatchOption a (may_leave ≡ true) (IsRight (network_of network.now) (inputs_of input.now) bound watch)) }
+    ensures short { IfOk result (λ a. IfSome a (IsCutShort bound)) }
 {
     run_opened::<G, Brand>(
         alloc,
@@ -93,7 +95,8 @@ pub(crate) fn run_watched<G: Gate>(
     requires quantum { 0 < quantum }
     requires fits { length input.now ≡ length (network_of network.now).channels }
     requires bound { bound < 2 ^ 48 }
-    ensures { IfOk result (IsRight (network_of network.now) (inputs_of input.now) bound watch) }
+    ensures right { IfOk result (IsRight (network_of network.now) (inputs_of input.now) bound watch) }
+    ensures short { IfOk result (IsCutShort bound) }
 {
     match run_alone(alloc, gate, network, input, watch, quantum, bound, false)? {
         Some(answer) => Ok(answer),
@@ -105,8 +108,9 @@ pub(crate) fn run_watched<G: Gate>(
 /// input fits the network.
 ///
 /// It refuses with `BadConfig` exactly where the bound is 2^48 or more, and with `NoMemory` where memory was refused
-/// before the first event. Memory that is refused later stops the run: its answer has the verdict `Memory`. Else the
-/// verdict is `Finished` exactly where the size of the solution is at most the bound.
+/// before the first event. Memory that is refused later stops the run: its answer has the verdict `Memory`, which it has only
+/// where an instance has a next event and the bound isn't used up. Else the verdict is `Finished` exactly where the size of
+/// the solution is at most the bound.
 pub fn run_one(
     alloc: Global,
     network: &Network,
@@ -116,6 +120,7 @@ pub fn run_one(
     requires fits { length input ≡ length (network_of network.now).channels }
     ensures right { IfOk result (IsRight (network_of network.now) (inputs_of input) bound None) }
     ensures exact { IfOk result (λ a. Settles (network_of network.now) (inputs_of input) bound a.verdict) }
+    ensures short { IfOk result (IsCutShort bound) }
     ensures refused { IfErr result (IsRefused bound) }
     ensures answered { IfOk result (λ _. bound < 2 ^ 48) }
 {

@@ -8,7 +8,7 @@ ghost use Rattle.kahn_job.specs.inner.Idles.{HaveSettled, cells_of, rows_of};
 ghost use Rattle.kahn_job.specs.inner.Settling.{AreResting, HaveStood};
 ghost use Rattle.kahn_job.specs.inner.Works.{Work};
 ghost use Rattle.kahn_pool.specs.inner.Concluded.{IsConcluded};
-ghost use Rattle.kahn_pool.specs.inner.Holding.{AreHeld, HasStopped, IsPart, IsRoomFor, held_state};
+ghost use Rattle.kahn_pool.specs.inner.Holding.{AreHeld, HasStopped, IsPart, IsPartOf, IsRoomFor, held_state};
 ghost use Rattle.kahn_pool.specs.inner.Rested.{cell_of};
 ghost use Rattle.kahn_pool.specs.declared.answer.Verdict.{Verdict as VerdictOf};
 
@@ -239,19 +239,22 @@ fn settle_ends(
     (idles, settled)
 }
 
-/// Runs idle jobs for so many events as the plan has, until every worker has left.
+/// Runs idle jobs for so many events as the plan of the part has, until every worker has left. Its workers and its quantum are
+/// those of the whole run.
 ///
 /// Where memory was refused before the first event each job is as it was; where a thread couldn't be started those that
 /// were are halted and gathered, and the jobs are where they were left.
 pub(crate) fn run_part<'n, R: Threads + Wait + Sync, G: Gate + Sync>(
     rt: &R,
     alloc: Global,
+    _whole: Plan,
     part: &Part<'n>,
     idles: Vec<Idle>,
     room: PartRoom<'n>,
     gate: &G,
 ) -> Stopped
     requires part { IsPart part.now.network.now part.now.code.now.network.value part.now.input.now part.now.plan part.now.bound idles.items }
+    requires plan { IsPartOf _whole part.now.plan }
     requires room { IsRoomFor (length (network_of part.now.network.now).instances) room }
     ensures { HasStopped part.now.network.now part.now.input.now part.now.plan.watch part.now.plan.workers part.now.bound idles.items part.now.plan.bound result }
 {

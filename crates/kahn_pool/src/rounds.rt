@@ -1,16 +1,17 @@
-//! A run on one thread: those that may go on, one after another, and then all in turn, until a round of all in which nothing
-//! was done.
+//! A run on one thread: rounds in which each instance has its turn, until one in which nothing was done. After a round in which
+//! most turns were in vain, those that may go on come one after another before the next round.
 
 ghost use Rattle.kahn_streams.specs.Solution.{source};
-ghost use Rattle.kahn_pool.specs.inner.Bench.{State, HasRun, Paused, Rests, Goes, GoesIn, HasMoved, HasVisited, IsSameRun, Marked, AreEnds, IsLast, IsVerdict, AreStreams, events_at, all_events, weight};
+ghost use Rattle.kahn_pool.specs.inner.Bench.{State, HasRun, Paused, Rests, Goes, GoesIn, HasMoved, LacksMemory, HasVisited, IsSameRun, Marked, AreEnds, IsLast, IsVerdict, AreStreams, events_at, all_events, turn_of, weight};
 ghost use Rattle.kahn_pool.specs.inner.Gathered.{IsFrom};
+ghost use Rattle.kahn_pool.specs.Exact.{IsCutShort};
 ghost use Rattle.kahn_pool.specs.Right.{IsRight, line_of, stream_lines};
 ghost use Rattle.kahn_pool.specs.inner.Workbench.{state_of};
 ghost use Rattle.kahn_pool.specs.declared.answer.Outcome.TheVariants as outcome;
 ghost use Rattle.kahn_pool.specs.declared.answer.Stream.{Stream};
 ghost use Rattle.kahn_code.specs.declared.progress.Pause.TheVariants as pause;
 ghost use Rattle.std.specs.Prelude.{vec_len, vec_capacity};
-ghost use Rattle.std.specs.Prelude.{◌≡◌, ◌⊎◌, ◌<◌, ◌≤◌, ◌+◌, ◌^◌, ℕ, suc, length, map, true, false, IsTrue, IsFalse, slice_get, Some, None, IfOk, IsOk, MatchOption, cond};
+ghost use Rattle.std.specs.Prelude.{◌≡◌, ◌⊎◌, ◌<◌, ◌≤◌, ◌+◌, ◌^◌, ℕ, suc, length, map, true, false, IsTrue, IsFalse, slice_get, Some, None, IfOk, IfSome, IsOk, MatchOption, cond};
 
 use crate::answer::{Answer, End, Outcome, Verdict};
 use crate::laws;
@@ -19,7 +20,7 @@ use kahn_code::Pause;
 use kahn_crew::Gate;
 use std::sync::ledger::Ledger;
 
-// How many visits of those that may go on come before each round of all, for each instance.
+// How many visits of those that may go on come between two rounds of all at most, for each instance.
 const VISITS: usize = 64;
 
 // A round in which each cell is run once.
@@ -103,6 +104,7 @@ impl Round {
         requires { 0 < self.now.share }
         ensures most { result ≤ cond self.now.memory 0 self.now.left }
         ensures none { result ≡ 0 → (self.now.left ≡ 0) ⊎ (self.now.memory ≡ true) }
+        ensures turn { result ≡ turn_of self.now.share self.now.left self.now.memory }
     {
         if self.memory {
             0
@@ -180,6 +182,7 @@ fn run_awake<L: Ledger, G: Gate>(
     requires known { length (state_of bench.old).cells ≡ length (state_of bench.old).network.instances }
     ensures moved { HasMoved (state_of bench.old) (state_of bench.new) left memory result.left result.memory }
     ensures ends { result.ends ≡ ends }
+    ensures share { result.share ≡ share }
 {
     let mut round = Round {
         share,
@@ -216,6 +219,7 @@ fn one_round<L: Ledger, G: Gate>(
     requires bound { all_events (state_of bench.old) + left < 2 ^ 48 }
     requires known { length (state_of bench.old).cells ≡ length (state_of bench.old).network.instances }
     requires room { length (state_of bench.old).network.instances ≤ vec_capacity ends }
+    requires lacks { LacksMemory (state_of bench.old) left memory }
     ensures goes { Goes (state_of bench.old) (weight left memory) (all_events (state_of bench.old) + left) (state_of bench.new) result.left result.memory result.moved result.ends.items (length (state_of bench.new).network.instances) }
     ensures same { IsSameRun (state_of bench.old) (state_of bench.new) }
     ensures share { result.share ≡ share }
@@ -250,6 +254,7 @@ fn run_between<L: Ledger, G: Gate>(
     requires known { length (state_of bench.old).cells ≡ length (state_of bench.old).network.instances }
     ensures moved { HasMoved (state_of bench.old) (state_of bench.new) last.left last.memory result.left result.memory }
     ensures ends { result.ends ≡ last.ends }
+    ensures share { result.share ≡ last.share }
 {
     if gate.is_open() && last.is_sparse() {
         let Round {
@@ -278,6 +283,8 @@ fn last_round<L: Ledger, G: Gate>(
     requires known { length (state_of bench.old).cells ≡ length (state_of bench.old).network.instances }
     requires room { length (state_of bench.old).network.instances ≤ vec_capacity ends }
     ensures last { MatchOption result (may_leave ≡ true) (λ r. IsLast (state_of bench.new) (all_events (state_of bench.old) + bound) r.left r.memory r.ends.items) }
+    ensures lacks { IfSome result (λ r. LacksMemory (state_of bench.new) r.left r.memory) }
+    ensures share { IfSome result (λ r. r.share ≡ quantum) }
     ensures same { IsSameRun (state_of bench.old) (state_of bench.new) }
 {
     let mut ends = ends;
@@ -315,8 +322,10 @@ pub(crate) fn verdict_of(memory: bool, ends: &[End]) -> Verdict
 
 // The answer of a run of which this was the last round.
 fn answered<L: Ledger>(bench: Workbench<'_, L>, last: Round, bound: u64) -> Answer
-    requires { IsLast (state_of bench) bound last.left last.memory last.ends.items }
-    ensures { IsRight (state_of bench.entry).network (state_of bench.entry).input bound (state_of bench.entry).watch result }
+    requires last { IsLast (state_of bench) bound last.left last.memory last.ends.items }
+    requires lacks { LacksMemory (state_of bench) last.left last.memory }
+    ensures right { IsRight (state_of bench.entry).network (state_of bench.entry).input bound (state_of bench.entry).watch result }
+    ensures short { IsCutShort bound result }
 {
     bench.within();
     laws::assembled();
@@ -330,8 +339,8 @@ fn answered<L: Ledger>(bench: Workbench<'_, L>, last: Round, bound: u64) -> Answ
 }
 
 /// Runs the cells of a bench on one thread, each for at most `quantum` events at a time, before which the gate is entered,
-/// and answers right. It answers nothing where the run may be left and there is work for several. The list of ends has room for
-/// each instance.
+/// and answers right: want of memory stopped it only where an instance has a next event and the bound isn't used up. It answers
+/// nothing where the run may be left and there is work for several. The list of ends has room for each instance.
 pub fn run_bench<L: Ledger, G: Gate>(
     mut bench: Workbench<'_, L>,
     gate: &G,
@@ -346,6 +355,7 @@ pub fn run_bench<L: Ledger, G: Gate>(
     requires known { length (state_of bench).cells ≡ length (state_of bench).network.instances }
     requires room { length (state_of bench).network.instances ≤ vec_capacity ends }
     ensures right { MatchOption result (may_leave ≡ true) (IsRight (state_of bench.entry).network (state_of bench.entry).input bound (state_of bench.entry).watch) }
+    ensures short { IfSome result (IsCutShort bound) }
 {
     match last_round(&mut bench, gate, ends, quantum, bound, may_leave) {
         Some(last) => Some(answered(bench, last, bound)),

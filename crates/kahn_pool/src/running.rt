@@ -1,7 +1,7 @@
 //! Runs of a network.
 
 ghost use Rattle.kahn_network.specs.Network.{network_of};
-ghost use Rattle.kahn_pool.specs.Exact.{Settles};
+ghost use Rattle.kahn_pool.specs.Exact.{IsCutShort, Settles};
 ghost use Rattle.kahn_pool.specs.Limits.{IsWant};
 ghost use Rattle.kahn_pool.specs.Right.{IsRight};
 ghost use Rattle.kahn_pool.specs.Runs.{IsRun, IsUndeclared, IsUnrun, IsWatched};
@@ -13,7 +13,7 @@ use crate::answer::Answer;
 use crate::config::RunFault;
 use crate::laws;
 use crate::one::{run_alone, run_watched};
-use crate::plan::plan_of;
+use crate::plan::{crew_plan, plan_of};
 use crate::workers::run_workers;
 use kahn_config::Config;
 use kahn_crew::{Gate, Plan};
@@ -67,8 +67,7 @@ fn run_first<R: Threads + Wait + Sync, G: Gate + Sync>(
     if let Some(answer) = first {
         return Ok(answer);
     }
-    let workers = plan.workers.min(network.instances().max(1));
-    let crew = Plan { workers, ..plan };
+    let crew = crew_plan(plan, network.instances());
     match run_workers(rt, alloc, network, input, crew, gate) {
         Err(RunFault::NoMemory) => Ok(run_watched(
             alloc, gate, network, input, watch, quantum, bound,
@@ -87,8 +86,9 @@ fn run_first<R: Threads + Wait + Sync, G: Gate + Sync>(
 /// with `NoThread` where a thread couldn't be started, which one worker never takes: it has the caller's thread, where it
 /// runs one process after another over plain queues. Of several each other one has a thread of its own. Where the gate is
 /// open several begin as one does, and start threads only once there is work for two, for as many workers as there are
-/// instances at most. Memory that is refused later stops the run: its answer has the verdict `Memory`. Before each quantum of
-/// an instance a gate that isn't open is entered.
+/// instances at most. Memory that is refused later stops the run: its answer has the verdict `Memory`, by one worker only where
+/// an instance has a next event and the bound isn't used up. Before each quantum of an instance a gate that isn't open is
+/// entered.
 pub fn run<R: Threads + Wait + Sync, G: Gate + Sync>(
     rt: &R,
     alloc: Global,
@@ -100,6 +100,7 @@ pub fn run<R: Threads + Wait + Sync, G: Gate + Sync>(
     requires fits { length input ≡ length (network_of network.now).channels }
     ensures told { MatchResult result (IsRun network.now input config) (IsUnrun network.now config) }
     ensures exact { IfOk result (λ a. Settles (network_of network.now) (inputs_of input) config.bound a.verdict) }
+    ensures short { IfOk result (λ a. config.workers ≡ 1 → IsCutShort config.bound a) }
 {
     if !config.is_in_range() {
         return Err(RunFault::BadConfig);

@@ -1,16 +1,18 @@
 //! A run by several workers.
 
 ghost use Rattle.kahn_network.specs.Network.{network_of};
+ghost use Rattle.kahn_crew.specs.inner.Wants.{IsWant as LacksWorker};
 ghost use Rattle.kahn_pool.specs.Limits.{IsWant};
 ghost use Rattle.kahn_pool.specs.Right.{IsRight};
+ghost use Rattle.kahn_pool.specs.inner.Gathers.{IsRoom};
 ghost use Rattle.kahn_streams.specs.Tokens.{inputs_of};
 ghost use Rattle.std.specs.Prelude.{◌≡◌, ◌<◌, ◌≤◌, ◌^◌, MatchResult};
 
 use crate::answer::Answer;
 use crate::config::RunFault;
 use crate::gather::{Room, answer_of};
-use kahn_code::{Steps, compile};
-use kahn_crew::{Gate, Plan, run_crew};
+use kahn_code::{Code, Steps, compile};
+use kahn_crew::{CrewFault, Gate, Plan, run_crew};
 use kahn_network::Network;
 use kahn_streams::Input;
 use std::alloc::Global;
@@ -18,6 +20,31 @@ use std::marker::Brand;
 use std::sync::Wait;
 use std::sync::ledger::{Blank, Ledger};
 use std::thread::Threads;
+
+// Runs with the room for the answer at hand, so that after the first event nothing more is reserved.
+fn run_reserved<R: Threads + Wait + Sync, G: Gate + Sync, L: Ledger>(
+    rt: &R,
+    alloc: Global,
+    network: &Network,
+    input: &Input,
+    code: &Code,
+    plan: Plan,
+    room: Room,
+    gate: &G,
+    steps: &mut Steps<L>,
+) -> Result<Answer, CrewFault>
+    requires code { code.now.network.value ≡ network.now }
+    requires few { (1 ≤ plan.workers) × (plan.workers ≤ 16) }
+    requires quantum { 0 < plan.quantum }
+    requires bound { plan.bound < 2 ^ 48 }
+    requires room { IsRoom network.now input.now plan.watch room }
+    ensures { MatchResult result (IsRight (network_of network.now) (inputs_of input.now) plan.bound plan.watch) (LacksWorker plan.workers) }
+{
+    let left = run_crew(rt, alloc, network, input, code, plan, gate)?;
+    Ok(answer_of(
+        network, input, plan.watch, plan.bound, left, code, room, steps,
+    ))
+}
 
 // Counts the steps of the last look at each task on a ledger of its own, and runs.
 fn run_counted<R: Threads + Wait + Sync, G: Gate + Sync, L: Ledger>(
@@ -40,10 +67,9 @@ fn run_counted<R: Threads + Wait + Sync, G: Gate + Sync, L: Ledger>(
     let mut steps = Steps::<L>::open(blank);
     let code = compile(alloc, network)?;
     let room = Room::new(alloc, network, input, plan.watch)?;
-    let left = run_crew(rt, alloc, network, input, &code, plan, gate)?;
-    Ok(answer_of(
-        network, input, plan.watch, plan.bound, left, &code, room, &mut steps,
-    ))
+    Ok(run_reserved(
+        rt, alloc, network, input, &code, plan, room, gate, &mut steps,
+    )?)
 }
 
 /// Runs a network by several workers, one in the caller's thread and each other in one of its own, and answers right. It

@@ -1,5 +1,6 @@
 -- Two finished reports of the same texts are the same bytes.
 use Rattle.std.proofs.Common.{◌≡◌, ℕ, ◌+◌, List, [], ◌∷◌, ◌++◌, length, map, Option, Some, None, flat_map, refl, sym, ap, ◌∙◌, subst, codes, decimal, string_bytes, slice_index_or}
+use Rattle.std.proofs.lemmas.Bool.{eqb-true}
 use Rattle.std.proofs.lemmas.List.Folds.{flat_map-map}
 use Rattle.std.specs.Io.KnownBytes.{Appends}
 use Rattle.std.specs.List.{concat}
@@ -9,6 +10,9 @@ use Rattle.kahn_tree.specs.declared.tree.Program.{Program}
 use Rattle.kahn_tree.specs.View.{Scope, place_of}
 use Rattle.kahn_network.specs.Network.{Network, network_of}
 use Rattle.kahn_network.specs.Sides.{channel_names}
+use Rattle.kahn_network.specs.Wiring.{IsWellWired}
+use Rattle.kahn_network.proofs.Handed.{bytes_self}
+use Rattle.kahn_network.proofs.Numbered.{distinct_channels, number_test}
 use Rattle.kahn_syntax.specs.declared.lexeme.Lexeme.{Lexeme}
 use Rattle.kahn_syntax.specs.Drawn.{program_of}
 use Rattle.kahn_syntax.specs.Programs.{Spells}
@@ -53,9 +57,14 @@ abbrev place_in : Scope → Option (List ℕ) → Option ℕ
 place_in names None = None
 place_in names (Some name) = Some (place_of names name)
 
-watch_is : (t : Program) (watched : Option (String Global)) (watch : Option ℕ) → IsWatched t watched watch → watch ≡ place_in (channel_names t) (watched_name watched)
-watch_is t None watch h = h
-watch_is t (Some name) watch h = h.0
+watch_is : (t : Program) → IsWellWired t → (watched : Option (String Global)) (watch : Option ℕ) → IsWatched t watched watch →
+    watch ≡ place_in (channel_names t) (watched_name watched)
+watch_is t wired None watch h = h
+watch_is t wired (Some name) None named = absurd named
+watch_is t wired (Some name) (Some c) named =
+    let x = string_bytes name in
+    let test = number_test (channel_names t) c x x (distinct_channels t.declarations.items wired.names) named in
+    ap Some (sym (eqb-true (place_of (channel_names t) x) c (test ∙ bytes_self x)))
 
 -- ---- one answer is one text
 
@@ -137,8 +146,8 @@ one_report program input config other old new newer watched (t, i, a, (checked, 
     let entries = one_list (lines_of input) stands.0 restands.0 stands.1.1 restands.1.1 in
     let lists : inputs_of i ≡ inputs_of j = one_input t u stands.0 restands.0 i j channels entries stands.2 restands.2 in
     let place : run.1.0 ≡ rerun.1.0 =
-    watch_is t config.watch run.1.0 run.1.1 ∙ ap (λ (c : Scope). place_in c (watched_name config.watch)) channels ∙ ap (place_in (channel_names u)) watched
-    ∙ sym (watch_is u other.watch rerun.1.0 rerun.1.1) in
+    watch_is t checked.1 config.watch run.1.0 run.1.1 ∙ ap (λ (c : Scope). place_in c (watched_name config.watch)) channels ∙ ap (place_in (channel_names u)) watched
+    ∙ sym (watch_is u rechecked.1 other.watch rerun.1.0 rerun.1.1) in
     let one = one_answer (network_of t) (network_of u) (inputs_of i) (inputs_of j) config.bound other.bound run.1.0 rerun.1.0 a b (one_network t u tree) lists place run.1.2 rerun.1.2 verdict reverdict in
     appended old (report_text t a) (report_text u b) new newer gone regone
     (same_report t u channels (one_processes t u tree) a b one (verdict ∙ sym reverdict))

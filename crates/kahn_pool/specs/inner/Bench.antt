@@ -1,5 +1,5 @@
 -- Inner. A run over cells.
-use Rattle.std.specs.Prelude.{◌≡◌, ◌⊎◌, ℕ, ◌+◌, ◌<◌, ◌≤◌, Bool, true, false, List, length, map, sum_by, Option, Some, slice_get, slice_set, cond}
+use Rattle.std.specs.Prelude.{◌≡◌, ◌⊎◌, ℕ, ◌+◌, ◌<◌, ◌≤◌, Bool, true, false, List, length, map, sum_by, Option, Some, slice_get, slice_set, cond, min}
 use Rattle.kahn_streams.specs.Script as script
 use Rattle.kahn_streams.specs.Script.{Dry, Cut}
 use Rattle.kahn_streams.specs.Meaning.{Store}
@@ -60,6 +60,10 @@ pub record HasRun (s t : State) (p quantum : ℕ) (z : Pause) : Type 0 where
 abbrev pub Rests : State → ℕ → End → Type 0
 Rests s p x = IsAtRest s.network s.input s.watch s.cells p x
 
+-- where memory was refused, so much is left of the bound and some instance stands where it paused for want of memory
+abbrev pub LacksMemory : State → ℕ → Bool → Type 0
+LacksMemory s left memory = memory ≡ true → (0 < left) × ((p : ℕ) × (p < length s.cells) × Paused s p pause.NoMemory)
+
 -- ---- rounds
 
 abbrev pub view_events : View → ℕ
@@ -89,6 +93,7 @@ pub record Goes (s0 : State) (w0 t0 : ℕ) (s : State) (left : ℕ) (memory move
   pub still : moved ≡ false → AreEnds s left memory ends
   pub falls : moved ≡ true → weight left memory < w0
   pub rises : weight left memory ≤ w0
+  pub lacks : LacksMemory s left memory
 
 abbrev pub GoesIn : State → ℕ → ℕ → State → Round → ℕ → Type 0
 GoesIn s0 w0 t0 s r k = Goes s0 w0 t0 s r.left r.memory r.moved r.ends.items k
@@ -99,9 +104,14 @@ Marked z done memory moved memory' moved' =
     ((z ≡ pause.NoMemory) × (memory' ≡ true) × (moved' ≡ true)) ⊎
     ((z ≡ pause.NoMemory → ⊥) × (memory' ≡ memory) × (((0 < done) × (moved' ≡ true)) ⊎ ((done ≡ 0) × (moved' ≡ moved))))
 
+-- how many events an instance may do in its turn: none once memory was refused, else its share, or what is left where that is less
+abbrev pub turn_of : ℕ → ℕ → Bool → ℕ
+turn_of share left memory = cond memory 0 (min share left)
+
 -- an instance was visited: run for at most so many events, after which it stands so, and the round is marked
 pub record HasVisited (s t : State) (old new : Round) (p : ℕ) (x : End) : Type 0 where
   pub quantum : ℕ
+  pub turn : quantum ≡ turn_of old.share old.left old.memory
   pub most : quantum ≤ cond old.memory 0 old.left
   pub none : quantum ≡ 0 → (old.left ≡ 0) ⊎ (old.memory ≡ true)
   pub stopped : Pause
@@ -119,6 +129,7 @@ pub record HasMoved (s t : State) (left : ℕ) (memory : Bool) (left' : ℕ) (me
   pub known : length t.cells ≡ length t.network.instances
   pub total : all_events t + left' ≡ all_events s + left
   pub lighter : weight left' memory' ≤ weight left memory
+  pub lacks : LacksMemory s left memory → LacksMemory t left' memory'
 
 -- after the last round: with so many events and so much left in all, each end is that of its instance
 pub record IsLast (s : State) (t0 left : ℕ) (memory : Bool) (xs : List End) : Type 0 where

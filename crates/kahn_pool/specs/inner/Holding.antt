@@ -77,6 +77,10 @@ pub record IsPart (t compiled : Program) (lists : Lists) (plan : Plan) (bound : 
   pub bounded : bound < 2 ^ 48
   pub held : AreHeld t lists plan.watch bound ws plan.bound
 
+-- a part goes by the plan of its run: with its workers and its quantum
+abbrev pub IsPartOf : Plan → Plan → Type 0
+IsPartOf whole part = (part.watch ≡ whole.watch) × (part.workers ≡ whole.workers) × (part.quantum ≡ whole.quantum)
+
 -- a part of a run with so many events, of which the bound of all is the sum, has left these jobs: none has done fewer events;
 -- with a verdict it and the ends are those of the jobs; and where memory was refused nothing was done
 pub record HasStopped (t : Program) (lists : Lists) (watch : Option ℕ) (workers bound : ℕ) (old : List Work) (more : ℕ) (r : Stopped) : Type 0 where

@@ -1,5 +1,5 @@
 use Rattle.std.proofs.Common.{◌≡◌, ◌≤◌, ◌+◌, length, vec_capacity}
-use Rattle.kahn_pool.specs.inner.Bench.{all_events, weight}
+use Rattle.kahn_pool.specs.inner.Bench.{LacksMemory, all_events, weight}
 use Rattle.kahn_pool.specs.inner.Workbench.{state_of}
 use Rattle.kahn_pool.proofs.rounds.last_round.Given as goal
 
@@ -10,6 +10,7 @@ invariant-rounds g l = record {
   watch : (state_of l.bench).watch ≡ (state_of l.fn.bench).watch;
   known : length (state_of l.bench).cells ≡ length (state_of l.bench).network.instances;
   total : all_events (state_of l.bench) + l.left ≡ all_events (state_of l.fn.bench) + l.fn.bound;
+  lacks : LacksMemory (state_of l.bench) l.left l.memory;
   room : length (state_of l.bench).network.instances ≤ vec_capacity l.ends;
 }
 

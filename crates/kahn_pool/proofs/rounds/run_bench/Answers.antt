@@ -4,14 +4,17 @@ use Rattle.kahn_pool.specs.Right.{IsRight}
 use Rattle.kahn_pool.specs.inner.Workbench.{state_of}
 use Rattle.kahn_pool.proofs.rounds.run_bench.Goals as goal
 
-pub answered-requires : goal.answered-requires
-answered-requires g c =
+pub answered-requires-clause-last : goal.answered-requires-clause-last
+answered-requires-clause-last g c =
     let s = state_of c.last_round.new.bench in
     let last = c.in-Some.last in
     let b = c.args.bound in
     let fresh : all_events (state_of c.args.bench) ≡ 0 = c.requires.fresh in
     let zero : all_events (state_of c.args.bench) + b ≡ b = omega (arith, fresh) in
     subst (λ t. IsLast s t last.left last.memory last.ends.items) zero (rw c.in-Some.is at c.last_round.ensures.last)
+
+pub answered-requires-clause-lacks : goal.answered-requires-clause-lacks
+answered-requires-clause-lacks g c = rw c.in-Some.is at c.last_round.ensures.lacks
 
 pub returns-in-Some : goal.returns-in-Some
 returns-in-Some g c =
@@ -22,5 +25,6 @@ returns-in-Some g c =
     record {
       right = subst (λ n. IsRight n start.input b start.watch a) c.last_round.ensures.same.0
           (subst (λ i. IsRight s.network i b start.watch a) c.last_round.ensures.same.1
-          (subst (λ w. IsRight s.network s.input b w a) c.last_round.ensures.same.2 c.answered.ensures));
+          (subst (λ w. IsRight s.network s.input b w a) c.last_round.ensures.same.2 c.answered.ensures.right));
+      short = c.answered.ensures.short;
     }

@@ -20,6 +20,7 @@ returns-clause-visited g c =
     rw c.saw.ensures
     (record {
       quantum = c.quantum-quantum.result;
+      turn = c.quantum-quantum.ensures.turn;
       most = c.quantum-quantum.ensures.most;
       none = c.quantum-quantum.ensures.none;
       stopped = c.run_gated-stopped.result;
