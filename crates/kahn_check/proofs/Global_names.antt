@@ -13,6 +13,7 @@ use Rattle.kahn_check.specs.declared.globals.Entry.{Entry}
 use Rattle.kahn_network.specs.Wires.{the_process, process_at}
 use Rattle.kahn_network.specs.Wiring.{Global}
 use Rattle.kahn_check.specs.inner.Globals.{global_of, option_global, IsPlaced}
+use Rattle.kahn_check.specs.inner.Firsts.{kept_first, kept_as}
 
 abbrev pub shown : List (List ℕ × Entry) → List (List ℕ × Global)
 shown es = map (λ e. (e.0, global_of e.1)) es
@@ -65,3 +66,10 @@ placed_here zero [] p rest h = cc
 placed_here zero (e ∷ es) p rest h = let same : e ≡ D.Process p = cc in ap (λ d. the_process (Some d)) same
 placed_here (suc k) [] p rest h = cc
 placed_here (suc k) (e ∷ es) p rest h = placed_here k es p rest h
+
+pub kept_global : (es : List (List ℕ × Entry)) (x : List ℕ) (w : Entry) → shown (kept_first es x w) ≡ kept_first (shown es) x (global_of w)
+kept_global es x w = by (lookup (bytes_eq x) es) ∙ ap (λ o. kept_as o (shown es) x (global_of w)) (find_global x es)
+  where
+    by : (o : Option Entry) → shown (kept_as o es x w) ≡ kept_as (option_global o) (shown es) x (global_of w)
+    by None = one_more_shown es x w
+    by (Some e) = refl

@@ -86,7 +86,7 @@ link_arguments t before i q (p ∷ ps) (x ∷ xs) =
     (λ j. link_argument t before p.taking x j ++ places_faults (table t) (w j) (r j) i (suc q) ps xs)
     ∙ ap (λ z. argument_faults t before p.taking x ++ z) (link_arguments t (before ++ one) i (suc q) ps xs)
 
-link_made : (t : Program) (before : List Handover) (i : ℕ) (o : Option Global) (x : Instance) → made_in (table t) (taken Out before) (taken In before) i o x ≡ made_faults t before i o x
+pub link_made : (t : Program) (before : List Handover) (i : ℕ) (o : Option Global) (x : Instance) → made_in (table t) (taken Out before) (taken In before) i o x ≡ made_faults t before i o x
 link_made t before i None x = refl
 link_made t before i (Some (IsChannel kind role)) x = refl
 link_made t before i (Some (IsProcess p)) x =
@@ -108,7 +108,7 @@ link_handed t i (x ∷ xs) = ap (λ z. handed_by t i x ++ z) (link_handed t (suc
 abbrev all_handed : Program → List Handover
 all_handed t = handed_from t 0 t.instances.items
 
-link_side : (t : Program) (n : Name) (role : Role) → side_in (taken Out (all_handed t)) (taken In (all_handed t)) n role ≡ side_faults t n role
+pub link_side : (t : Program) (n : Name) (role : Role) → side_in (taken Out (all_handed t)) (taken In (all_handed t)) n role ≡ side_faults t n role
 link_side t n role =
     let w = headed Out (bytes_of n) (all_handed t) in
     let r = headed In (bytes_of n) (all_handed t) in

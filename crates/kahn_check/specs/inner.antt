@@ -1,3 +1,4 @@
+pub mod Firsts
 pub mod Globals
 pub mod Seats
 pub mod Tables

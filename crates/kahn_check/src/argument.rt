@@ -1,8 +1,9 @@
 //! Whether an argument is what its parameter wants.
 
-ghost use Rattle.std.specs.Prelude.{◌≡◌, ◌++◌, ◌∷◌, []};
-ghost use Rattle.kahn_tree.specs.View.{bytes_of};
-ghost use Rattle.kahn_check.specs.Faults.{Checks};
+ghost use Rattle.std.specs.Prelude.{◌≡◌, IfOk};
+ghost use Rattle.kahn_tree.specs.declared.tree.Direction.TheVariants.{In, Out};
+ghost use Rattle.kahn_check.specs.Faults.{Checks, verdict};
+ghost use Rattle.kahn_check.specs.inner.Firsts.{got_first};
 ghost use Rattle.kahn_check.specs.inner.Globals.{known};
 ghost use Rattle.kahn_check.specs.Order.{second as second_of};
 ghost use Rattle.kahn_check.specs.inner.Tables.{misplaced_in, place_faults, HaveGot};
@@ -13,7 +14,7 @@ use crate::fault::CheckFault;
 use crate::globals::{Entry, Globals};
 use crate::names::Sides;
 use kahn_network::Side;
-use kahn_tree::{Argument, Direction, Kind, Name, Role, Taking};
+use kahn_tree::{Argument, Direction, Kind, Name, NoMemory, Role, Taking};
 
 /// Whether no instance may stand at that side of the channel.
 pub fn closed(direction: Direction, role: Role) -> bool
@@ -36,16 +37,15 @@ pub fn second(direction: Direction, name: &Name) -> CheckFault
     }
 }
 
-/// Hands one side of a channel over.
-pub fn hand_over(
+/// Whether a channel may be handed over in that direction.
+pub fn misplaced(
     globals: &Globals,
-    side: &mut Sides,
+    side: &Sides,
     direction: Direction,
     kind: Kind,
     name: &Name,
-    end: Side,
 ) -> Result<(), CheckFault>
-    ensures { Checks (misplaced_in (known globals.now) side.old direction kind name.now) (λ u. side.new ≡ side.old ++ (bytes_of name.now, end) ∷ []) result }
+    ensures { result ≡ verdict (misplaced_in (known globals.now) side.now direction kind name.now) tt }
 {
     match globals.find(name) {
         None => Err(CheckFault::Unknown(name.span)),
@@ -57,13 +57,66 @@ pub fn hand_over(
             }
             match side.find(name) {
                 Some(_) => Err(second(direction, name)),
-                None => side.add(name, end),
+                None => Ok(()),
             }
         }
     }
 }
 
+/// Whether an argument is what its parameter wants.
+pub fn fits(
+    globals: &Globals,
+    writers: &Sides,
+    readers: &Sides,
+    taking: Taking,
+    argument: &Argument,
+) -> Result<(), CheckFault>
+    ensures { result ≡ verdict (place_faults (known globals.now) writers.now readers.now taking argument.now) tt }
+{
+    match (taking, argument) {
+        (Taking::Channel(Direction::Out, kind), Argument::Channel(name)) => misplaced(
+            globals,
+            writers,
+            Direction::Out,
+            kind,
+            name,
+        ),
+        (Taking::Channel(Direction::In, kind), Argument::Channel(name)) => misplaced(
+            globals,
+            readers,
+            Direction::In,
+            kind,
+            name,
+        ),
+        (Taking::Channel(_, _), Argument::Number(_, span) | Argument::Logical(_, span)) => Err(
+            CheckFault::ChannelExpected(*span),
+        ),
+        (Taking::Value(_), Argument::Channel(name)) => Err(CheckFault::ValueExpected(name.span)),
+        (Taking::Value(kind), Argument::Number(_, span)) => agree(kind, Kind::Integer, *span),
+        (Taking::Value(kind), Argument::Logical(_, span)) => agree(kind, Kind::Logical, *span),
+    }
+}
+
+/// Hands a channel over, unless that side of it is handed over already.
+pub fn keep(
+    writers: &mut Sides,
+    readers: &mut Sides,
+    taking: Taking,
+    argument: &Argument,
+    end: Side,
+) -> Result<(), NoMemory>
+    ensures writers { IfOk result (λ u. writers.new ≡ got_first Out writers.old (handed end taking argument.now)) }
+    ensures readers { IfOk result (λ u. readers.new ≡ got_first In readers.old (handed end taking argument.now)) }
+{
+    match (taking, argument) {
+        (Taking::Channel(Direction::Out, _), Argument::Channel(name)) => writers.keep(name, end),
+        (Taking::Channel(Direction::In, _), Argument::Channel(name)) => readers.keep(name, end),
+        (_, _) => Ok(()),
+    }
+}
+
 /// Whether an argument is what its parameter wants; a channel is handed over.
+#[tactic(auto, using(crate::proofs::Alike::no_faults, crate::proofs::Alike::one_fault, crate::proofs::Alike::got_fresh))]
 pub fn place(
     globals: &Globals,
     writers: &mut Sides,
@@ -74,28 +127,9 @@ pub fn place(
 ) -> Result<(), CheckFault>
     ensures { Checks (place_faults (known globals.now) writers.old readers.old taking argument.now) (λ u. HaveGot (handed end taking argument.now) writers.old readers.old writers.new readers.new) result }
 {
-    match (taking, argument) {
-        (Taking::Channel(Direction::Out, kind), Argument::Channel(name)) => hand_over(
-            globals,
-            writers,
-            Direction::Out,
-            kind,
-            name,
-            end,
-        ),
-        (Taking::Channel(Direction::In, kind), Argument::Channel(name)) => hand_over(
-            globals,
-            readers,
-            Direction::In,
-            kind,
-            name,
-            end,
-        ),
-        (Taking::Channel(_, _), Argument::Number(_, span) | Argument::Logical(_, span)) => Err(
-            CheckFault::ChannelExpected(*span),
-        ),
-        (Taking::Value(_), Argument::Channel(name)) => Err(CheckFault::ValueExpected(name.span)),
-        (Taking::Value(kind), Argument::Number(_, span)) => agree(kind, Kind::Integer, *span),
-        (Taking::Value(kind), Argument::Logical(_, span)) => agree(kind, Kind::Logical, *span),
+    fits(globals, writers, readers, taking, argument)?;
+    match keep(writers, readers, taking, argument, end) {
+        Ok(()) => Ok(()),
+        Err(NoMemory) => Err(CheckFault::NoMemory),
     }
 }

@@ -13,7 +13,7 @@ use kahn_tree::{Declaration, Kind, Name, Program, Role};
 use std::alloc::Global;
 
 /// The most channels of a program.
-const MOST_CHANNELS: usize = 1024;
+pub const MOST_CHANNELS: usize = 1024;
 
 /// The names of a channel declaration, of which `count` are declared before. Answers how many are declared then.
 #[tactic(auto, using(crate::proofs::Declared::channel_new, crate::proofs::Declared::channel_limit, crate::proofs::Declared::channel_known, crate::proofs::Declared::more_channels))]

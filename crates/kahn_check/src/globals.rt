@@ -1,16 +1,17 @@
 //! The names that a program declares: its channels and its processes, in one name space.
 
-ghost use Rattle.std.specs.Prelude.{◌≡◌, [], OnOk, IfSome, List};
+ghost use Rattle.std.specs.Prelude.{◌≡◌, [], IfOk, OnOk, IfSome, List};
 ghost use Rattle.std.specs.Map.{lookup};
 ghost use Rattle.std.proofs.Common.{bytes_eq};
 ghost use Rattle.kahn_tree.specs.declared.tree.Declaration.{Declaration};
 ghost use Rattle.kahn_tree.specs.View.{bytes_of};
 ghost use Rattle.kahn_check.specs.Faults.{Declares};
+ghost use Rattle.kahn_check.specs.inner.Firsts.{kept_first};
 ghost use Rattle.kahn_check.specs.inner.Globals.{known, global_of, option_global, ArePlaced, IsPlaced};
 
 use crate::fault::CheckFault;
 use crate::names::Names;
-use kahn_tree::{Kind, Name, Process, Role};
+use kahn_tree::{Kind, Name, NoMemory, Process, Role};
 use std::alloc::Global;
 
 /// What a name stands for: a channel, or a process with the number of its declaration.
@@ -51,5 +52,12 @@ impl<'p> Globals<'p> {
         ensures placed { OnOk result ((ds : List Declaration) → ArePlaced ds self.old → IsPlaced ds what.entry → ArePlaced ds self.new) }
     {
         self.names.declare(name, what)
+    }
+
+    /// Declares a name, unless it stands for something already.
+    pub fn keep(&mut self, name: &Name, what: Entry<'p>) -> Result<(), NoMemory>
+        ensures { IfOk result (λ u. known self.new ≡ kept_first (known self.old) (bytes_of name.now) (global_of what.entry)) }
+    {
+        self.names.keep(name, what)
     }
 }

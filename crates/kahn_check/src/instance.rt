@@ -16,7 +16,7 @@ use kahn_tree::{Argument, Parameter, Program};
 use std::alloc::Global;
 
 /// The most instances of a program.
-const MOST_INSTANCES: usize = 256;
+pub const MOST_INSTANCES: usize = 256;
 
 /// The arguments of an instance, one for each parameter.
 #[tactic(auto, using(crate::proofs::Placed::places_step, crate::proofs::Placed::places_met, crate::proofs::Placed::taken_more))]

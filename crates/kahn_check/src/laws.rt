@@ -1,7 +1,9 @@
 //! The laws of the definitions. Each function does nothing: its contract is the law.
 
 ghost use Rattle.kahn_tree.specs.declared.tree.Program.{Program};
-ghost use Rattle.std.specs.Prelude.{◌≡◌, []};
+ghost use Rattle.std.specs.Prelude.{◌≡◌, ◌++◌, []};
+ghost use Rattle.kahn_check.specs.Parts.{parts, side_parts, faults_by_part, together};
+ghost use Rattle.kahn_check.specs.Faults.{verdict};
 ghost use Rattle.kahn_check.specs.Order.{faults};
 ghost use Rattle.kahn_network.specs.Wiring.{IsWellWired};
 
@@ -9,4 +11,11 @@ ghost use Rattle.kahn_network.specs.Wiring.{IsWellWired};
 pub fn exact()
     ensures sound { (t : Program) → faults t ≡ [] → IsWellWired t }
     ensures complete { (t : Program) → IsWellWired t → faults t ≡ [] }
+{}
+
+/// The parts of a program, put together, are its faults; so what is told of them begins with what `check` answers, and nothing is told of
+/// a program that is well wired.
+pub fn part_by_part()
+    ensures whole { (t : Program) → together (parts t ++ side_parts t) ≡ faults t }
+    ensures first { (t : Program) → verdict (faults_by_part t) (tt {0}) ≡ verdict (faults t) (tt {0}) }
 {}

@@ -11,11 +11,13 @@ mod instance;
 mod laws;
 mod names;
 mod network;
+mod part;
 mod process;
 mod statement;
 mod wires;
 
 pub use fault::CheckFault;
 pub use kahn_network::{Channel, Instance, Network, Side};
-pub use laws::exact;
+pub use laws::{exact, part_by_part};
 pub use network::check;
+pub use part::every;

@@ -1,15 +1,16 @@
 //! Names, and what each of them stands for.
 
-ghost use Rattle.std.specs.Prelude.{◌≡◌, ◌++◌, ◌∷◌, [], MatchResult, None};
+ghost use Rattle.std.specs.Prelude.{◌≡◌, ◌++◌, ◌∷◌, [], IfOk, MatchResult, None};
 ghost use Rattle.std.specs.Map.{lookup};
 ghost use Rattle.std.proofs.Common.{bytes_eq};
 ghost use Rattle.kahn_tree.specs.View.{bytes_of};
 ghost use Rattle.kahn_check.specs.Faults.{Declares};
+ghost use Rattle.kahn_check.specs.inner.Firsts.{kept_first};
 
 use crate::fault::CheckFault;
 use indexmap::IndexMap;
 use kahn_network::Side;
-use kahn_tree::{Name, Taking};
+use kahn_tree::{Name, NoMemory, Taking};
 use std::alloc::Global;
 use std::hash::{BuildHasherDefault, DefaultHasher};
 use std::marker::Model;
@@ -59,6 +60,19 @@ impl<V: Copy> Names<V> {
     {
         self.names.insert(name.text.clone()?, what)?;
         Ok(())
+    }
+
+    /// Adds a name, unless it stands for something already.
+    pub fn keep(&mut self, name: &Name, what: V) -> Result<(), NoMemory>
+        ensures { IfOk result (λ u. self.new ≡ kept_first self.old (bytes_of name.now) what) }
+    {
+        if self.find(name).is_some() {
+            return Ok(());
+        }
+        match self.add(name, what) {
+            Ok(()) => Ok(()),
+            Err(_) => Err(NoMemory),
+        }
     }
 
     /// Declares a name, which must stand for nothing yet.

@@ -1,0 +1,77 @@
+"""Programs with several faults: the notes of the built `kahn_explain` against reference.py.
+
+    parts.py EXPLAIN COUNT [SEED]     the same seed makes the same texts; where none is given it is chosen at random
+
+Each is an example of examples/ with some names, numbers and words put in the place of others. Each difference is printed.
+"""
+import glob
+import os
+import random
+import re
+import subprocess
+import sys
+
+sys.dont_write_bytecode = True
+TOP = os.path.dirname(os.path.dirname(os.path.abspath(__file__)))
+sys.path.insert(0, os.path.join(TOP, "fuzz"))
+import reference as ref
+
+HEADING = re.compile(r"(?m)^<stdin>:(\d+):(\d+): error: ([a-z ]*)")
+MORE = re.compile(r"\nand (\d+) faults? more\n\Z")
+WORD = re.compile(rb"[A-Za-z_][A-Za-z_0-9]*|\d+")
+MOST = 20
+
+
+def broken(rng, text):
+    """A text in which some words are put in the place of others."""
+    words = list(WORD.finditer(text))
+    body = [w for w in words if w.group().lower().decode() not in ref.KEYWORDS or rng.random() < 0.02]
+    for old in sorted(rng.sample(body, min(len(body), rng.randint(1, 6))), key=lambda w: -w.start()):
+        new = rng.choice([rng.choice(body).group(), rng.choice(body).group(), b"NOWHERE", b"7", b"true"])
+        text = text[:old.start()] + new + text[old.end():]
+    return text
+
+
+def difference(ran, wanted):
+    if wanted is None or not wanted:
+        return None
+    out = ran.stdout.decode()
+    got = [(int(line), int(column), words.strip()) for line, column, words in HEADING.findall(out)]
+    more = MORE.search(out)
+    if ran.returncode != 1 or ran.stderr:
+        return f"status {ran.returncode}, {ran.stderr[:200]!r}"
+    if int(more.group(1)) if more else 0:
+        if len(wanted) - MOST != int(more.group(1)):
+            return f"{more.group(1)} more, not {len(wanted) - MOST}"
+    elif len(wanted) > MOST:
+        return "no word of more"
+    if got != wanted[:MOST]:
+        return f"{got}, not {wanted[:MOST]}"
+    return None
+
+
+def main():
+    explain, count = os.path.abspath(sys.argv[1]), int(sys.argv[2])
+    seed = int(sys.argv[3]) if len(sys.argv) > 3 else random.randrange(10**9)
+    texts = [open(path, "rb").read() for path in sorted(glob.glob(f"{TOP}/examples/*.kahn"))]
+    passed = failed = several = 0
+    for number in range(seed, seed + count):
+        rng = random.Random(number)
+        text = broken(rng, rng.choice(texts))
+        wanted = ref.told(text)
+        if not wanted:
+            continue
+        several += len(wanted) > 1
+        what = difference(subprocess.run([explain], input=text, capture_output=True, timeout=60), wanted)
+        if what is None:
+            passed += 1
+        else:
+            failed += 1
+            print(f"FAILED {number}: {what}", flush=True)
+    print(f"seed {seed}, {several} with several faults")
+    print(f"{passed} passed, {failed} failed")
+    return 1 if failed else 0
+
+
+if __name__ == "__main__":
+    sys.exit(main())
