@@ -63,7 +63,7 @@ rows_text line number from bytes =
     ++ times_over (length number) (codes " ")
     ++ concat (codes " | " ∷ row_of Blanks line from bytes ∷ carets_of line from bytes ∷ codes "\n" ∷ [])
 
--- `PATH:LINE:COLUMN: SORT: WORDS`, where the sort is `error` or `note`
+-- `PATH:LINE:COLUMN: SORT: WORDS`, where the sort is `error`, `note` or `warning`
 abbrev pub heading : List ℕ → List ℕ → List ℕ → List ℕ → List ℕ → List ℕ
 heading path line column sort words =
     concat (path ∷ codes ":" ∷ line ∷ codes ":" ∷ column ∷ codes ": " ∷ sort ∷ codes ": " ∷ words ∷ codes "\n" ∷ [])
@@ -78,9 +78,12 @@ marked_at sort path text from bytes words =
 abbrev pub marked_as : List ℕ → List ℕ → List ℕ → Span → List ℕ → List ℕ
 marked_as sort path text span words = marked_at sort path text (min span.from (length text)) (span.to - min span.from (length text)) words
 
--- the part that is at fault, and one that has to do with it
+-- the part that is at fault, one that has to do with it, and one that is allowed, and seldom meant
 abbrev pub marked : List ℕ → List ℕ → Span → List ℕ → List ℕ
 marked path text span words = marked_as (codes "error") path text span words
 
 abbrev pub marked_too : List ℕ → List ℕ → Span → List ℕ → List ℕ
 marked_too path text span words = marked_as (codes "note") path text span words
+
+abbrev pub marked_warning : List ℕ → List ℕ → Span → List ℕ → List ℕ
+marked_warning path text span words = marked_as (codes "warning") path text span words

@@ -6,5 +6,5 @@ mod note;
 mod pieces;
 
 // For the crates above.
-pub use note::{marked, marked_too};
+pub use note::{marked, marked_too, marked_warning};
 pub use pieces::{add, add_repeated};

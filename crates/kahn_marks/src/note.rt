@@ -2,7 +2,7 @@
 
 ghost use Rattle.std.specs.Prelude.{◌≡◌, ◌-◌, ◌++◌, IfOk, map, slice_index_or, string_bytes};
 ghost use Rattle.std.specs.Str.Lines.{lines};
-ghost use Rattle.kahn_marks.specs.Marks.{carets_of, heading, line_at, marked, marked_as, marked_too, rows_text};
+ghost use Rattle.kahn_marks.specs.Marks.{carets_of, heading, line_at, marked, marked_as, marked_too, marked_warning, rows_text};
 
 use crate::columns::{Row, row_of};
 use crate::pieces::{add, add_repeated};
@@ -122,4 +122,17 @@ pub fn marked_too(
     ensures { IfOk result (λ note. string_bytes note ≡ marked_too path.now text.now span words.now) }
 {
     marked_as(alloc, "note", path, text, span, words)
+}
+
+/// The same of what is allowed, and seldom meant: `PATH:LINE:COLUMN: warning: WORDS`.
+pub fn marked_warning(
+    alloc: Global,
+    path: &str,
+    text: &str,
+    span: Span,
+    words: &str,
+) -> Result<String, AllocError>
+    ensures { IfOk result (λ note. string_bytes note ≡ marked_warning path.now text.now span words.now) }
+{
+    marked_as(alloc, "warning", path, text, span, words)
 }

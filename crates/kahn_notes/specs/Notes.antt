@@ -1,9 +1,10 @@
--- Believed. What is said of a place where a text goes wrong: what stands there, and what may stand there.
-use Rattle.std.specs.Prelude.{◌≡◌, ◌==◌, ℕ, List, [], ◌∷◌, ◌++◌, Option, Some, None, codes, if◌then◌else◌, length, map, slice_range, string_bytes}
+-- Believed. What is said of a place where a text goes wrong: what stands there, what may stand there, and the changes that mend it.
+use Rattle.std.specs.Prelude.{◌≡◌, ◌==◌, ℕ, List, [], ◌∷◌, ◌++◌, Option, Some, None, codes, decimal, if◌then◌else◌, length, map, min, option_map, slice_range, string_bytes, take}
 use Rattle.std.specs.Fmt.{signed_decimal}
 use Rattle.std.specs.List.{concat}
 use Rattle.std.specs.declared.alloc.Global.{Global}
 use Rattle.std.specs.declared.string.String.{String}
+use Rattle.kahn_tree.specs.Place.{line_of}
 use Rattle.kahn_tree.specs.declared.span.Span.{Span}
 use Rattle.kahn_syntax.specs.declared.fault.What.{What}
 use Rattle.kahn_syntax.specs.declared.fault.What.TheVariants.{More, Nothing, Other}
@@ -18,8 +19,13 @@ use Rattle.kahn_wanted.specs.declared.groups.Group.{Group}
 use Rattle.kahn_wanted.specs.declared.groups.Group.TheVariants as group
 use Rattle.kahn_wanted.specs.declared.groups.Wanted.{Wanted}
 use Rattle.kahn_wanted.specs.declared.found.Unexpected.{Unexpected}
+use Rattle.kahn_wanted.specs.declared.changes.Spot.{Spot}
+use Rattle.kahn_wanted.specs.declared.changes.Spot.TheVariants.{Between, Here, Before}
+use Rattle.kahn_wanted.specs.declared.changes.Change.{Change}
+use Rattle.kahn_wanted.specs.declared.mended.Mends.{Mends}
+use Rattle.kahn_wanted.specs.Mends.{AreMendsOf}
 use Rattle.kahn_wanted.specs.Wanted.{IsUnexpected}
-use Rattle.kahn_marks.specs.Marks.{marked}
+use Rattle.kahn_marks.specs.Marks.{marked, times_over}
 
 -- the words for lexemes, with quotes round their letters
 abbrev pub keyword_words : Keyword → List ℕ
@@ -84,6 +90,57 @@ abbrev pub unexpected_words : List ℕ → What → Unexpected → List ℕ
 unexpected_words text what u =
     concat (codes "found " ∷ found_words text u.found ∷ codes ", where " ∷ listed (pieces_of u.wanted what) ∷ codes " may stand" ∷ [])
 
+-- the lexeme before a place
+abbrev pub article : Class → List ℕ
+article (class.Sign s) = codes "the "
+article _ = []
+
+abbrev pub last_words : List ℕ → Option Lexeme → List ℕ
+last_words text (Some x) = concat (article x.what ∷ lexeme_words text x.what x.span ∷ [])
+last_words text None = []
+
+-- a change of the lexeme that was found
+abbrev pub put_words : List ℕ → Option Lexeme → Spot → Option Class → List ℕ
+put_words text last Between (Some c) = concat (any_words c ∷ codes " before it" ∷ [])
+put_words text last Here (Some c) = concat (any_words c ∷ codes " in its place" ∷ [])
+put_words text last Before (Some c) = concat (any_words c ∷ codes " in place of " ∷ last_words text last ∷ codes " before it" ∷ [])
+put_words text last Here None = codes "leaving it out"
+put_words text last Before None = codes "leaving out the one before it"
+put_words text last Between None = []
+
+abbrev pub change_words : List ℕ → Option Lexeme → Change → List ℕ
+change_words text last c = put_words text last c.spot c.put
+
+-- One change is told, and of two to seven the first three; of more, none.
+abbrev pub lead_words : ℕ → Option (List ℕ)
+lead_words n =
+    if n == 1 then Some (codes "the one change here that makes the text a program: ")
+    else if n == 2 then Some (codes "the two changes here that make the text a program: ")
+    else if n == 3 then Some (codes "the three changes here that make the text a program: ")
+    else if n == 4 then Some (codes "three of the four changes here that make the text a program: ")
+    else if n == 5 then Some (codes "three of the five changes here that make the text a program: ")
+    else if n == 6 then Some (codes "three of the six changes here that make the text a program: ")
+    else if n == 7 then Some (codes "three of the seven changes here that make the text a program: ")
+    else None
+
+abbrev pub mends_words : List ℕ → Mends → Option (List ℕ)
+mends_words text m = option_map (λ lead. lead ++ listed (map (change_words text m.before) (take 3 m.changes.items))) (lead_words (length m.changes.items))
+
+-- a line below the carets; as many columns as the number of the source line takes are left free
+abbrev pub remark : List ℕ → Span → List ℕ → List ℕ
+remark text span words =
+    concat (codes " " ∷ times_over (length (decimal (line_of text (min span.from (length text))))) (codes " ") ∷ codes " = " ∷ words ∷ codes "\n" ∷ [])
+
+abbrev pub remark_or_none : List ℕ → Span → Option (List ℕ) → List ℕ
+remark_or_none text span (Some words) = remark text span words
+remark_or_none text span None = []
+
+-- what stands below a note
+abbrev pub mended_text : List ℕ → Span → Option Mends → List ℕ
+mended_text text span (Some m) = remark_or_none text span (mends_words text m)
+mended_text text span None = []
+
 -- the note on that place of the text of a file
 abbrev pub IsNote : List ℕ → List ℕ → Span → What → String Global → Type 0
-IsNote path text span what note = (u : Unexpected) × IsUnexpected text span what u × (string_bytes note ≡ marked path text span (unexpected_words text what u))
+IsNote path text span what note = (u : Unexpected) × IsUnexpected text span what u × (m : Option Mends) × AreMendsOf text span what m
+    × (string_bytes note ≡ marked path text span (unexpected_words text what u) ++ mended_text text span m)

@@ -1,7 +1,9 @@
-//! What is said of a place where a text goes wrong: what stands there, and what may stand there.
+//! What is said of a place where a text goes wrong: what stands there, what may stand there, and
+//! the changes that mend it.
 #![tactic(auto)]
 
 mod listing;
+mod mended;
 mod unexpected;
 mod words;
 

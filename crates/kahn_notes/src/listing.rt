@@ -9,7 +9,7 @@ use kahn_wanted::Wanted;
 use std::alloc::{AllocError, Global};
 
 /// What stands behind a piece where so many are left.
-fn separator(left: usize) -> &'static str
+pub(crate) fn separator(left: usize) -> &'static str
     ensures { result.now ≡ separator left }
 {
     match left {

@@ -1,22 +1,23 @@
 //! What is said of a lexeme that can't stand where it stands, or of a text that ends too early.
 
-ghost use Rattle.std.specs.Prelude.{◌≡◌, ◌++◌, IfOk, string_bytes};
+ghost use Rattle.std.specs.Prelude.{◌≡◌, ◌++◌, IfOk, IfSome, string_bytes};
 ghost use Rattle.kahn_syntax.specs.declared.fault.SyntaxFault.TheVariants.{Expected};
 ghost use Rattle.kahn_syntax.specs.Terminals.{IsProper};
 ghost use Rattle.kahn_syntax.specs.Texts.{IsTextFault};
-ghost use Rattle.kahn_notes.specs.Notes.{IsNote, MayFind, found_words, lexeme_words, unexpected_words};
+ghost use Rattle.kahn_notes.specs.Notes.{IsNote, MayFind, found_words, lexeme_words, mended_text, unexpected_words};
 
 use crate::listing::{add_listed, pieces_of};
+use crate::mended::with_mends;
 use crate::words::{keyword_words, sign_words};
 use itoa::Buffer;
 use kahn_marks::{add, marked};
 use kahn_syntax::{Class, Lexeme, Span, What};
 use kahn_tree::NoMemory;
-use kahn_wanted::{Unexpected, wanted_at};
+use kahn_wanted::{Mends, Unexpected, mends_at, wanted_at};
 use std::alloc::{AllocError, Global};
 
 /// Adds what a lexeme is.
-fn add_lexeme(note: &mut String, text: &str, lexeme: Lexeme) -> Result<(), AllocError>
+pub(crate) fn add_lexeme(note: &mut String, text: &str, lexeme: Lexeme) -> Result<(), AllocError>
     requires { IsProper text.now lexeme.what lexeme.span }
     ensures { IfOk result (λ _. string_bytes note.new ≡ string_bytes note.old ++ lexeme_words text.now lexeme.what lexeme.span) }
 {
@@ -65,8 +66,26 @@ fn words_of(
     Ok(words)
 }
 
-/// A note on a place where a text goes wrong: what stands there, and what may stand there. It refuses only where memory was
-/// refused.
+/// A note on a place, with what is said of the changes there, where they were looked for.
+fn noted(
+    alloc: Global,
+    note: String,
+    text: &str,
+    span: Span,
+    mends: Option<Mends>,
+) -> Result<String, AllocError>
+    requires { IfSome mends (λ m. MayFind text.now m.before) }
+    ensures { IfOk result (λ all. string_bytes all ≡ string_bytes note ++ mended_text text.now span mends) }
+{
+    match mends {
+        Some(mends) => with_mends(alloc, note, text, span, &mends),
+        None => Ok(note),
+    }
+}
+
+/// A note on a place where a text goes wrong: what stands there, what may stand there, and the changes of one lexeme there with
+/// which the text is a program, where there are one to seven and the text has at most 8,192 lexemes; of more than three the
+/// first three. It refuses only where memory was refused.
 pub fn unexpected_note(
     alloc: Global,
     path: &str,
@@ -78,6 +97,8 @@ pub fn unexpected_note(
     ensures { IfOk result (IsNote path.now text.now span what) }
 {
     let unexpected = wanted_at(alloc, text, span, what)?;
+    let mends = mends_at(alloc, text, span, what)?;
     let words = words_of(alloc, text, what, &unexpected)?;
-    Ok(marked(alloc, path, text, span, words.as_str())?)
+    let note = marked(alloc, path, text, span, words.as_str())?;
+    Ok(noted(alloc, note, text, span, mends)?)
 }

@@ -48,7 +48,7 @@ expression_same terms s _ _ (numbers y z) = refl
 expression_same factors s _ _ (numbers y z) = refl
 
 -- no part looks at a name's bytes, or at a number's value
-step_same : (s : List Part) (k l : Terminal) → Alike k l → step s k ≡ step s l
+pub step_same : (s : List Part) (k l : Terminal) → Alike k l → step s k ≡ step s l
 step_same [] k l h = refl
 step_same (ProgramPart ∷ s) _ _ (names a b) = refl
 step_same (ProgramPart ∷ s) _ _ (numbers y z) = refl
@@ -164,7 +164,7 @@ alike_begin before k l h b =
     runs_begin (before ++ l ∷ []) _ refl (subst IsSome (run_same (ProgramPart ∷ []) before k l h) (begins_runs (before ++ k ∷ []) b))
 
 -- the terminal of a lexeme of that class, which is the same or alike
-data Probed (k : Terminal) (l : Terminal) : Type 0 where
+pub data Probed (k : Terminal) (l : Terminal) : Type 0 where
   same : k ≡ l → Probed k l
   alike : Alike k l → Alike l k → Probed k l
 
@@ -172,7 +172,7 @@ sign_probed : (text : List ℕ) (s : Sign) → sign_terminal s ≡ terminal text
 sign_probed text mark.Not = refl
 sign_probed text s = refl
 
-probed : (text t : List ℕ) (c : Class) (at : Span) → Probed (terminal t c at) (terminal text (class_of_terminal (terminal t c at)) nowhere)
+pub probed : (text t : List ℕ) (c : Class) (at : Span) → Probed (terminal t c at) (terminal text (class_of_terminal (terminal t c at)) nowhere)
 probed text t (class.Word w) at = same refl
 probed text t class.Name at = alike (names _ _) (names _ _)
 probed text t (class.Number n) at = alike (numbers _ _) (numbers _ _)

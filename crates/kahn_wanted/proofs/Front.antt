@@ -1,7 +1,8 @@
 -- The lexemes before a fault.
-use Rattle.std.proofs.Common.{◌≡◌, ℕ, ◌+◌, ◌≤◌, ◌<◌, zero, suc, List, [], ◌∷◌, ◌++◌, length, take, drop, get_or, sym, ap, ◌∙◌, subst, arith, append_assoc, append-nil, add-one, length-append, ⊎_elim}
+use Rattle.std.proofs.Common.{◌≡◌, ℕ, ◌+◌, ◌≤◌, ◌<◌, zero, suc, List, [], ◌∷◌, ◌++◌, length, take, drop, get_or, slice_get, Some, sym, ap, ◌∙◌, subst, arith, append_assoc, append-nil, add-one, length-append, ⊎_elim}
 use Rattle.std.proofs.Math.Seq.{drop-cons, get_or-append_seam}
 use Rattle.std.proofs.lemmas.List.{take-append-le, take-append-drop}
+use Rattle.std.proofs.lemmas.Option.{slice_get-get_or}
 use Rattle.kahn_tree.specs.declared.span.Span.{Span}
 use Rattle.kahn_syntax.specs.declared.lexeme.Lexeme.{Lexeme}
 use Rattle.kahn_syntax.specs.declared.fault.SyntaxFault.TheVariants.{Expected}
@@ -59,3 +60,11 @@ pub cut_at : (xs : List Lexeme) (n : ℕ) (d : Lexeme) → n < length xs → xs 
 cut_at xs n d below =
     let e : drop n xs ≡ get_or xs n d ∷ drop (n + 1) xs = rw add-one (drop-cons xs n d below) in
     sym (take-append-drop n xs) ∙ ap (λ l. take n xs ++ l) e
+
+-- the lexeme with the span is found
+pub found_there : (text : List ℕ) (xs : List Lexeme) (span : Span) (n : ℕ) → StandsBehind text xs span
+    → ((k : ℕ) (d : Lexeme) → k < n → (get_or xs k d).span ≡ span → ⊥) → n ≤ length xs → ((d : Lexeme) → n < length xs → (get_or xs n d).span ≡ span)
+    → (x : Lexeme) × (slice_get xs n ≡ Some x) × (span ≡ x.span)
+found_there text xs span n (before, x, after, e, is, within) first most found =
+    let below : n < length xs = below_all text xs span n (before, x, after, e, is, within) first most in
+    (get_or xs n x, slice_get-get_or xs n x below, sym (found x below))

@@ -2,3 +2,5 @@ mod Alike
 mod Answering
 mod Classes
 mod Front
+mod Splices
+mod Whole

@@ -10,7 +10,7 @@ use kahn_syntax::{Class, Keyword, Lexeme, Sign, Span, SyntaxFault, What, parse_l
 use std::alloc::Global;
 
 /// The classes of lexemes; the one of the number 0 stands for all numbers. The sign for `not` is the word.
-const CLASSES: [Class; 44] = [
+pub(crate) const CLASSES: [Class; 44] = [
     Class::Name,
     Class::Number(0),
     Class::Word(Keyword::And),

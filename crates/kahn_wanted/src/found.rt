@@ -37,7 +37,7 @@ fn wanted_behind(alloc: Global, text: &str, before: &[Lexeme]) -> Result<Wanted,
 }
 
 /// How many lexemes stand before the first one with this span.
-fn count_before(lexemes: &[Lexeme], span: Span) -> usize
+pub(crate) fn count_before(lexemes: &[Lexeme], span: Span) -> usize
     ensures within { result ≤ length lexemes.now }
     ensures found { (d : Lexeme) → result < length lexemes.now → (slice_index_or lexemes.now result d).span ≡ span }
     ensures first { (k : ℕ) (d : Lexeme) → k < result → ¬ ((slice_index_or lexemes.now k d).span ≡ span) }

@@ -1,9 +1,13 @@
-//! Which lexemes may stand at a place of a text.
+//! Which lexemes may stand at a place of a text, and with which changes of one lexeme there the text is a program.
 #![tactic(auto)]
 
 mod asked;
+mod changes;
 mod found;
 mod groups;
+mod mended;
 
+pub use changes::{Change, Spot};
 pub use found::{Unexpected, wanted_at};
 pub use groups::{Group, Wanted};
+pub use mended::{Mends, mends_at};

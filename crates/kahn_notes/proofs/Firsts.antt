@@ -1,0 +1,13 @@
+-- The changes that are told, and their words.
+use Rattle.std.proofs.Common.{◌≡◌, ◌<◌, ℕ, List, ◌++◌, length, take, sym, ap, ◌∙◌, append_assoc, arith}
+use Rattle.std.proofs.lemmas.List.{take_all}
+use Rattle.kahn_wanted.specs.declared.changes.Change.{Change}
+
+-- fewer than three are all told
+pub all_of_few : (xs : List Change) → length xs < 3 → xs ≡ take 3 xs
+all_of_few xs few = sym (take_all 3 xs (omega (arith, few)))
+
+-- words that come in three steps
+pub joined : (old a b l e one two new : List ℕ) → one ≡ old ++ (a ++ b) → two ≡ one ++ l → new ≡ two ++ e → new ≡ old ++ (a ++ (b ++ (l ++ e)))
+joined old a b l e one two new p q r =
+    r ∙ ap (λ t. t ++ e) (q ∙ ap (λ t. t ++ l) p) ∙ append_assoc (old ++ (a ++ b)) l e ∙ append_assoc old (a ++ b) (l ++ e) ∙ ap (λ t. old ++ t) (append_assoc a b (l ++ e))

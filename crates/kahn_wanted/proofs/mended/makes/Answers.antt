@@ -1,0 +1,9 @@
+use Rattle.std.proofs.Common.{subst, sym, ◌∙◌}
+use Rattle.kahn_syntax.specs.Terminals.{AreProper}
+use Rattle.kahn_wanted.proofs.Splices.{proper_changed}
+use Rattle.kahn_wanted.proofs.mended.makes.Goals as goal
+
+pub is_whole-requires : goal.is_whole-requires
+is_whole-requires c =
+    subst (AreProper c.args.text.now) (sym (c.deref.ensures.value ∙ c.in_ok-changed.ensures))
+    (proper_changed c.args.text.now c.args.lexemes.now c.args.number c.args.change c.utf8.text c.requires.proper c.requires.plain)

@@ -1,0 +1,23 @@
+use Rattle.std.proofs.Common.{subst, sym}
+use Rattle.kahn_syntax.specs.declared.fault.SyntaxFault.TheVariants.{Expected}
+use Rattle.kahn_syntax.specs.declared.fault.What.TheVariants.{Nothing, Other}
+use Rattle.kahn_syntax.specs.Faults.{IsFault}
+use Rattle.kahn_wanted.specs.Mends.{IsPlace}
+use Rattle.kahn_wanted.proofs.Front.{at_nothing, at_other, found_there}
+use Rattle.kahn_wanted.proofs.mended.place_of.Goals as goal
+
+pub returns-in-Nothing-clause-place : goal.returns-in-Nothing-clause-place
+returns-in-Nothing-clause-place c =
+    let xs = c.args.lexemes.now in
+    let n = c.count_before.result in
+    let f = subst (λ w. IsFault c.args._text.now xs (Expected c.args.span w)) c.in-Nothing.is c.requires in
+    subst (λ w. IsPlace xs c.args.span w n) (sym c.in-Nothing.is)
+    (found_there c.args._text.now xs c.args.span n (at_nothing c.args._text.now xs c.args.span f) c.count_before.ensures.first c.count_before.ensures.within c.count_before.ensures.found)
+
+pub returns-in-Other-clause-place : goal.returns-in-Other-clause-place
+returns-in-Other-clause-place c =
+    let xs = c.args.lexemes.now in
+    let n = c.count_before-in-Other.result in
+    let f = subst (λ w. IsFault c.args._text.now xs (Expected c.args.span w)) c.in-Other.is c.requires in
+    subst (λ w. IsPlace xs c.args.span w n) (sym c.in-Other.is)
+    (found_there c.args._text.now xs c.args.span n (at_other c.args._text.now xs c.args.span f) c.count_before-in-Other.ensures.first c.count_before-in-Other.ensures.within c.count_before-in-Other.ensures.found)
