@@ -1,0 +1,98 @@
+-- The operands of a level and the statements of a block and of a body, one after another.
+use Rattle.std.proofs.Common.{◌≡◌, ◌||◌, ◌++◌, ◌∙◌, Bool, true, false, List, [], ◌∷◌, refl, ap, flat_map}
+use Rattle.kahn_tree.specs.Syntax.{Expr, Stmt}
+use Rattle.kahn_tree.specs.View.{Scope, body_of, expr_of, expression_of, level_of, row_of, statement_of, stmt_of}
+use Rattle.kahn_tree.specs.declared.tree.Form.{Row_of-Operand, end_of-Operand, more_of-Operand}
+use Rattle.kahn_tree.specs.declared.tree.Form.TheBlock.{items-the_row-Operand}
+use Rattle.kahn_tree.specs.declared.tree.Operand.{Operand}
+use Rattle.kahn_tree.specs.declared.tree.Action.{Row_of-Statement, end_of-Statement, more_of-Statement}
+use Rattle.kahn_tree.specs.declared.tree.Action.TheBlock.{items-the_row-Statement}
+use Rattle.kahn_tree.specs.declared.tree.Statement.{Statement}
+use Rattle.kahn_warnings.specs.Loops.{is_seen, never_ends, waits_in}
+use Rattle.kahn_warnings.specs.Uses.{is_assigned_in, is_named, is_used_in}
+use Rattle.kahn_warnings.specs.Warnings.{block_items, first_unreached, row_warnings, statement_warnings, warned_where}
+use Rattle.kahn_warnings.specs.declared.warning.Warning.{Warning}
+use Rattle.kahn_warnings.specs.declared.warning.WarningKind.TheVariants.{Unreached}
+
+or_assoc : (a b c : Bool) → ((a || b) || c) ≡ (a || (b || c))
+or_assoc true b c = refl
+or_assoc false b c = refl
+
+-- operands
+
+abbrev pub operands_named : Scope → List Operand → Bool
+operands_named names [] = false
+operands_named names (o ∷ rest) = is_named 0 (expression_of names o.expression) || operands_named names rest
+
+pub level_named : {m : _} (names : Scope) (first : Expr) (row : Row_of-Operand m) →
+    is_named 0 (level_of names first row) ≡ is_named 0 first || operands_named names (items-the_row-Operand m row)
+level_named names first end_of-Operand = or_false (is_named 0 first)
+  where
+    or_false : (a : Bool) → a ≡ a || false
+    or_false true = refl
+    or_false false = refl
+level_named names first (more_of-Operand o at e rest) = level_named names _ rest ∙ or_assoc (is_named 0 first) (is_named 0 (expr_of names e)) _
+
+abbrev pub operands_wait : Scope → List Operand → Bool
+operands_wait names [] = false
+operands_wait names (o ∷ rest) = waits_in (expression_of names o.expression) || operands_wait names rest
+
+pub level_waits : {m : _} (names : Scope) (first : Expr) (row : Row_of-Operand m) →
+    waits_in (level_of names first row) ≡ waits_in first || operands_wait names (items-the_row-Operand m row)
+level_waits names first end_of-Operand = or_false (waits_in first)
+  where
+    or_false : (a : Bool) → a ≡ a || false
+    or_false true = refl
+    or_false false = refl
+level_waits names first (more_of-Operand o at e rest) = level_waits names _ rest ∙ or_assoc (waits_in first) (waits_in (expr_of names e)) _
+
+-- statements
+
+abbrev pub any_in : (Stmt → Bool) → Scope → List Statement → Bool
+any_in f names [] = false
+any_in f names (s ∷ rest) = f (statement_of names s) || any_in f names rest
+
+pub block_is_used_in : {m : _} (names : Scope) (row : Row_of-Statement m) → is_used_in 0 (row_of names row) ≡ any_in (is_used_in 0) names (items-the_row-Statement m row)
+block_is_used_in names end_of-Statement = refl
+block_is_used_in names (more_of-Statement at a rest) = ap (λ b. is_used_in 0 (stmt_of names a) || b) (block_is_used_in names rest)
+
+pub body_is_used_in : (names : Scope) (ss : List Statement) → is_used_in 0 (body_of names ss) ≡ any_in (is_used_in 0) names ss
+body_is_used_in names [] = refl
+body_is_used_in names (s ∷ rest) = ap (λ b. is_used_in 0 (statement_of names s) || b) (body_is_used_in names rest)
+
+pub block_is_assigned_in : {m : _} (names : Scope) (row : Row_of-Statement m) →
+    is_assigned_in 0 (row_of names row) ≡ any_in (is_assigned_in 0) names (items-the_row-Statement m row)
+block_is_assigned_in names end_of-Statement = refl
+block_is_assigned_in names (more_of-Statement at a rest) = ap (λ b. is_assigned_in 0 (stmt_of names a) || b) (block_is_assigned_in names rest)
+
+pub body_is_assigned_in : (names : Scope) (ss : List Statement) → is_assigned_in 0 (body_of names ss) ≡ any_in (is_assigned_in 0) names ss
+body_is_assigned_in names [] = refl
+body_is_assigned_in names (s ∷ rest) = ap (λ b. is_assigned_in 0 (statement_of names s) || b) (body_is_assigned_in names rest)
+
+pub block_never_ends : {m : _} (names : Scope) (row : Row_of-Statement m) → never_ends (row_of names row) ≡ any_in never_ends names (items-the_row-Statement m row)
+block_never_ends names end_of-Statement = refl
+block_never_ends names (more_of-Statement at a rest) = ap (λ b. never_ends (stmt_of names a) || b) (block_never_ends names rest)
+
+pub block_is_seen : {m : _} (names : Scope) (row : Row_of-Statement m) → is_seen (row_of names row) ≡ any_in is_seen names (items-the_row-Statement m row)
+block_is_seen names end_of-Statement = refl
+block_is_seen names (more_of-Statement at a rest) = ap (λ b. is_seen (stmt_of names a) || b) (block_is_seen names rest)
+
+-- warnings
+
+abbrev pub each : Statement → List Warning
+each s = statement_warnings s.span s.action
+
+pub block_warned : {m : _} (row : Row_of-Statement m) → row_warnings row ≡ flat_map each (items-the_row-Statement m row)
+block_warned end_of-Statement = refl
+block_warned (more_of-Statement span a rest) = ap (λ ws. statement_warnings span a ++ ws) (block_warned rest)
+
+pub block_same : {m : _} (row : Row_of-Statement m) → block_items row ≡ items-the_row-Statement m row
+block_same end_of-Statement = refl
+block_same (more_of-Statement span a rest) = ap (λ ss. record { span = span; action = a } ∷ ss) (block_same rest)
+
+pub block_statement : {m : _} (row : Row_of-Statement m) →
+    row_warnings row ++ warned_where Unreached (first_unreached (block_items row))
+    ≡ flat_map each (items-the_row-Statement m row) ++ warned_where Unreached (first_unreached (items-the_row-Statement m row))
+block_statement {m = m} row =
+    ap (λ ws. ws ++ warned_where Unreached (first_unreached (block_items row))) (block_warned row)
+    ∙ ap (λ ss. flat_map each (items-the_row-Statement m row) ++ warned_where Unreached (first_unreached ss)) (block_same row)

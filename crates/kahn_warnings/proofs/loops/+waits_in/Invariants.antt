@@ -1,0 +1,9 @@
+-- None of the operands so far waits.
+use Rattle.std.proofs.Common.{◌≡◌, drop}
+use Rattle.kahn_tree.specs.View.{Scope, expression_of}
+use Rattle.kahn_warnings.specs.Loops.{waits_in}
+use Rattle.kahn_warnings.proofs.Lists.{operands_wait}
+use Rattle.kahn_warnings.proofs.loops.+waits_in.Given as goal
+
+abbrev pub invariant-loop-operand : goal.invariant-loop-operand
+invariant-loop-operand l = (names : Scope) → operands_wait names (drop l.operand-index l.operand-items) ≡ waits_in (expression_of names l.expression)

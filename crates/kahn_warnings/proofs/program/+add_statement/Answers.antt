@@ -1,0 +1,23 @@
+use Rattle.std.proofs.Common.{rules, arith, ◌≡◌, ◌++◌, ◌∙◌, ap, sym, append_assoc, flat_map, take}
+use Rattle.std.proofs.lemmas.Grind.{common_steps}
+use Rattle.std.proofs.lemmas.Result.{IfOk-weaker}
+use Rattle.kahn_tree.specs.declared.tree.Action.TheViews.{the_lemmas}
+use Rattle.kahn_warnings.specs.Warnings.{first_unreached, statement_warnings, warned_where}
+use Rattle.kahn_warnings.specs.declared.warning.WarningKind.TheVariants.{Unreached}
+use Rattle.kahn_warnings.proofs.Lists.{block_statement, each}
+use Rattle.kahn_warnings.proofs.program.+add_statement.Goals as goal
+
+pub returns-after-loop-inner : goal.returns-after-loop-inner
+returns-after-loop-inner t c =
+    let old = c.args.warnings.now.items in
+    let xs = c.in-Block.statements.items in
+    let ss = c.deref-inner-items.result.now in
+    let it = c.args.statement.now in
+    let whole : statement_warnings it.span it.action ≡ flat_map each xs ++ warned_where Unreached (first_unreached xs) = search (rules, the_lemmas, block_statement) in
+    let all : take c.loop-inner.inner-index ss ≡ ss = grind (arith, common_steps) in
+    let last = c.first_unreached.ensures ∙ ap first_unreached c.deref.ensures.value in
+    IfOk-weaker c.add_where.result _ _
+    (λ r h. h ∙ ap (λ l. l ++ warned_where Unreached c.first_unreached.result) (c.loop-inner.invariant ∙ ap (λ l. old ++ flat_map each l) (all ∙ c.deref-inner-items.ensures.value))
+    ∙ ap (λ o. (old ++ flat_map each xs) ++ warned_where Unreached o) last
+    ∙ append_assoc old (flat_map each xs) (warned_where Unreached (first_unreached xs)) ∙ ap (λ l. old ++ l) (sym whole))
+    c.add_where.ensures

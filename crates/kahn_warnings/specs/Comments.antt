@@ -1,0 +1,45 @@
+-- Believed. Comments that go on over a line's end, and have the beginning of a statement behind that.
+use Rattle.std.specs.Prelude.{◌≡◌, ℕ, ◌+◌, ◌-◌, ◌≤◌, ◌<◌, Bool, true, false, ◌||◌, ◌&&◌, ◌==◌, not, IsTrue, List, [], ◌∷◌, codes, drop, length, slice_index}
+use Rattle.std.specs.Char.{eq_ignore_ascii_case, is_ascii_alphanumeric}
+use Rattle.kahn_syntax.specs.Lexemes.{IsBlank, IsComment, Stands}
+use Rattle.kahn_syntax.specs.declared.lexeme.Lexeme.{Lexeme}
+use Rattle.kahn_warnings.specs.declared.warning.Warning.{Warning}
+use Rattle.kahn_warnings.specs.declared.warning.WarningKind.TheVariants.{LongComment}
+
+-- letters, digits and `_`
+abbrev pub is_of_word : ℕ → Bool
+is_of_word b = is_ascii_alphanumeric b || b == 95
+
+-- a text begins with this word, in any letter case, and no letter, digit or `_` goes on behind it
+abbrev pub has_word : List ℕ → List ℕ → Bool
+has_word [] [] = true
+has_word [] (b ∷ rest) = not (is_of_word b)
+has_word (c ∷ letters) [] = false
+has_word (c ∷ letters) (b ∷ rest) = eq_ignore_ascii_case c b && has_word letters rest
+
+-- it begins with these bytes
+abbrev pub has_bytes : List ℕ → List ℕ → Bool
+has_bytes [] rest = true
+has_bytes (c ∷ bytes) [] = false
+has_bytes (c ∷ bytes) (b ∷ rest) = c == b && has_bytes bytes rest
+
+-- `:=` begins at byte i, or a whole word `wait` or `send`, which the byte before isn't a part of
+abbrev pub is_statement_at : List ℕ → ℕ → Bool
+is_statement_at text i =
+    has_bytes (codes ":=") (drop i text)
+    || (not (is_of_word (slice_index text (i - 1))) && (has_word (codes "wait") (drop i text) || has_word (codes "send") (drop i text)))
+
+-- between bytes a and b a line ends, and one of them begins behind that
+abbrev pub Swallows : List ℕ → ℕ → ℕ → Type 0
+Swallows text a b = (e : ℕ) × (i : ℕ) × (a ≤ e) × (e < i) × (i < b) × (slice_index text e ≡ 10) × IsTrue (is_statement_at text i)
+
+abbrev pub comment_warning : ℕ → ℕ → Warning
+comment_warning a b = record { kind = LongComment; span = record { from = a; to = b } }
+
+-- from byte a on the text is blanks, comments and lexemes, and these are the warnings of its comments, in order
+pub data CommentWarnings (text : List ℕ) : ℕ → List Warning → Type 0 where
+  at_the_end : CommentWarnings text (length text) []
+  behind_a_blank : {a : ℕ} {ws : List Warning} → IsBlank (slice_index text a) → CommentWarnings text (a + 1) ws → CommentWarnings text a ws
+  behind_a_lexeme : {ws : List Warning} (x : Lexeme) → Stands text x → CommentWarnings text x.span.to ws → CommentWarnings text x.span.from ws
+  behind_a_comment : {a b : ℕ} {ws : List Warning} → IsComment text a b → ¬ (Swallows text a b) → CommentWarnings text b ws → CommentWarnings text a ws
+  warned_of : {a b : ℕ} {ws : List Warning} → IsComment text a b → Swallows text a b → CommentWarnings text b ws → CommentWarnings text a (comment_warning a b ∷ ws)

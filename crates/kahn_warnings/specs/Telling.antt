@@ -1,0 +1,32 @@
+-- Believed. How warnings are told.
+use Rattle.std.specs.Prelude.{◌≡◌, ℕ, ◌-◌, List, [], ◌++◌, codes, flat_map}
+use Rattle.kahn_tree.specs.declared.span.Span.{Span}
+use Rattle.kahn_tree.specs.declared.tree.Program.{Program}
+use Rattle.kahn_marks.specs.Marks.{marked_too, marked_warning}
+use Rattle.kahn_warnings.specs.Warnings.{AreWarnings}
+use Rattle.kahn_warnings.specs.declared.warning.Warning.{Warning}
+use Rattle.kahn_warnings.specs.declared.warning.WarningKind.{WarningKind}
+use Rattle.kahn_warnings.specs.declared.warning.WarningKind.TheVariants.{LongComment, NoInstance, Unused, Unread, Idle, Unreached}
+
+abbrev pub warning_words : WarningKind → List ℕ
+warning_words LongComment = codes "comment goes on to a later line, over `:=`, `wait` or `send`"
+warning_words NoInstance = codes "process has no instance"
+warning_words Unused = codes "name is never used"
+warning_words Unread = codes "name is assigned, and never read"
+warning_words Idle = codes "loop never ends, and doesn't wait, send or print"
+warning_words Unreached = codes "statement is never reached: one before it never ends"
+
+-- of a comment its last byte is told too
+abbrev pub last_byte : Span → Span
+last_byte at = record { from = at.to - 1; to = at.to }
+
+abbrev pub end_note : List ℕ → List ℕ → WarningKind → Span → List ℕ
+end_note path text LongComment at = marked_too path text (last_byte at) (codes "comment ends here")
+end_note path text _ at = []
+
+abbrev pub warning_note : List ℕ → List ℕ → Warning → List ℕ
+warning_note path text w = marked_warning path text w.span (warning_words w.kind) ++ end_note path text w.kind w.span
+
+-- the notes on all that is warned of in a program of this text
+abbrev pub AreWarningNotes : List ℕ → List ℕ → Program → List ℕ → Type 0
+AreWarningNotes path text t notes = (ws : List Warning) × AreWarnings text t ws × (notes ≡ flat_map (warning_note path text) ws)

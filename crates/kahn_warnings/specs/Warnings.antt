@@ -1,0 +1,112 @@
+-- Believed. What is warned of, and in which order: the comments first, then one process after another, and in each its instances, its
+-- parameters, its variables and its statements.
+use Rattle.std.specs.Prelude.{◌≡◌, ℕ, Bool, List, [], ◌∷◌, ◌++◌, Option, Some, None, if◌then◌else◌, flat_map}
+use Rattle.std.specs.List.{list_any}
+use Rattle.std.specs.Option.{option_or}
+use Rattle.std.proofs.Common.{bytes_eq}
+use Rattle.kahn_tree.specs.View.{bytes_of, stmt_of, statement_of}
+use Rattle.kahn_tree.specs.declared.span.Span.{Span}
+use Rattle.kahn_tree.specs.declared.tree.Name.{Name}
+use Rattle.kahn_tree.specs.declared.tree.Action.{Action, Empty, Assign, Send, Print, Block', If', While', Repeat', Row_of-Statement, end_of-Statement, more_of-Statement, Held-Action-If-2, None', Some'}
+use Rattle.kahn_tree.specs.declared.tree.Statement.{Statement}
+use Rattle.kahn_tree.specs.declared.tree.Process.{Process}
+use Rattle.kahn_tree.specs.declared.tree.Instance.{Instance}
+use Rattle.kahn_tree.specs.declared.tree.Declaration.{Declaration}
+use Rattle.kahn_tree.specs.declared.tree.Declaration.TheVariants as D
+use Rattle.kahn_tree.specs.declared.tree.Program.{Program}
+use Rattle.kahn_warnings.specs.Comments.{CommentWarnings}
+use Rattle.kahn_warnings.specs.Loops.{is_seen, never_ends}
+use Rattle.kahn_warnings.specs.Uses.{assigns, uses_name}
+use Rattle.kahn_warnings.specs.declared.warning.Warning.{Warning}
+use Rattle.kahn_warnings.specs.declared.warning.WarningKind.{WarningKind}
+use Rattle.kahn_warnings.specs.declared.warning.WarningKind.TheVariants.{NoInstance, Unused, Unread, Idle, Unreached}
+
+-- a warning of a part of the text, and none where the part stands nowhere
+abbrev pub warned : WarningKind → Span → Warning
+warned k at = record { kind = k; span = at }
+
+abbrev pub warned_where : WarningKind → Option Span → List Warning
+warned_where k None = []
+warned_where k (Some at) = warned k at ∷ []
+
+-- ---- a process without an instance
+
+abbrev pub is_of : Process → Instance → Bool
+is_of p i = bytes_eq (bytes_of i.process) (bytes_of p.name)
+
+abbrev pub process_warnings : List Instance → Process → List Warning
+process_warnings is p = if list_any (is_of p) is then [] else warned NoInstance p.name.span ∷ []
+
+-- ---- names that aren't used
+
+abbrev pub unread_kind : Bool → WarningKind
+unread_kind is_assigned = if is_assigned then Unread else Unused
+
+abbrev pub name_warnings : Process → Name → List Warning
+name_warnings p n = if uses_name p (bytes_of n) then [] else warned (unread_kind (assigns p (bytes_of n))) n.span ∷ []
+
+abbrev pub parameter_warnings : Process → List Warning
+parameter_warnings p = flat_map (λ q. name_warnings p q.name) p.parameters.items
+
+abbrev pub variable_warnings : Process → List Warning
+variable_warnings p = flat_map (λ v. name_warnings p v.name) p.variables.items
+
+abbrev pub names_warnings : Process → List Warning
+names_warnings p = parameter_warnings p ++ variable_warnings p
+
+-- ---- loops
+
+-- a loop of this body
+abbrev pub idle_warnings : Option Span → Action → List Warning
+idle_warnings at a = if is_seen (stmt_of [] a) then [] else warned_where Idle at
+
+-- the first of these statements that isn't empty
+abbrev pub first_standing : List Statement → Option Span
+first_standing [] = None
+first_standing (s ∷ rest) = option_or s.span (first_standing rest)
+
+-- the first such statement behind one that never ends
+abbrev pub first_unreached : List Statement → Option Span
+first_unreached [] = None
+first_unreached (s ∷ rest) = if never_ends (statement_of [] s) then first_standing rest else first_unreached rest
+
+-- the statements of a block
+abbrev pub block_items : {m : _} → Row_of-Statement m → List Statement
+block_items end_of-Statement = []
+block_items (more_of-Statement at a rest) = record { span = at; action = a } ∷ block_items rest
+
+-- in a statement that stands here
+abbrev mutual
+  pub statement_warnings : Option Span → Action → List Warning
+  statement_warnings at Empty = []
+  statement_warnings at (Assign x e) = []
+  statement_warnings at (Send e q) = []
+  statement_warnings at (Print e) = []
+  statement_warnings at (Block' shape row) = row_warnings row ++ warned_where Unreached (first_unreached (block_items row))
+  statement_warnings at (If' t p span a b) = statement_warnings span a ++ else_warnings b
+  statement_warnings at (While' t p span a) = statement_warnings span a
+  statement_warnings at (Repeat' p span a) = idle_warnings at a ++ statement_warnings span a
+
+  pub row_warnings : {m : _} → Row_of-Statement m → List Warning
+  row_warnings end_of-Statement = []
+  row_warnings (more_of-Statement span a rest) = statement_warnings span a ++ row_warnings rest
+
+  pub else_warnings : Held-Action-If-2 → List Warning
+  else_warnings None' = []
+  else_warnings (Some' p span a) = statement_warnings span a
+
+abbrev pub body_warnings : List Statement → List Warning
+body_warnings ss = flat_map (λ s. statement_warnings s.span s.action) ss ++ warned_where Unreached (first_unreached ss)
+
+-- ---- the whole
+
+abbrev pub declaration_warnings : List Instance → Declaration → List Warning
+declaration_warnings is (D.Channels kind role names) = []
+declaration_warnings is (D.Process p) = process_warnings is p ++ names_warnings p ++ body_warnings p.statements.items
+
+abbrev pub program_warnings : Program → List Warning
+program_warnings t = flat_map (declaration_warnings t.instances.items) t.declarations.items
+
+-- all that is warned of in a program of this text
+abbrev pub AreWarnings : List ℕ → Program → List Warning → Type 0
+AreWarnings text t ws = (comments : List Warning) × CommentWarnings text 0 comments × (ws ≡ comments ++ program_warnings t)

@@ -1,0 +1,182 @@
+//! Comments that go on over a line's end, and have the beginning of a statement behind that.
+
+ghost use Rattle.std.specs.Prelude.{◌≡◌, ◌↔◌, ℕ, ◌+◌, ◌≤◌, ◌<◌, IfNone, IfOk, IfSome, IsTrue, length, slice_index};
+ghost use Rattle.kahn_syntax.specs.Lexemes.{Gap, IsBlank, IsComment};
+ghost use Rattle.kahn_warnings.specs.Comments.{CommentWarnings, Swallows, has_bytes, has_word, is_of_word, is_statement_at};
+ghost use Rattle.kahn_warnings.specs.inner.Passing.{Passed};
+
+use crate::warning::{Warning, WarningKind};
+use kahn_syntax::lex;
+use kahn_tree::{NoMemory, Span};
+use std::alloc::{AllocError, Global};
+
+/// Whether it is a space, a tab, a CR or an LF.
+fn is_blank(b: u8) -> bool
+    ensures { IsTrue result ↔ IsBlank b }
+{
+    b == b' ' || b == b'\t' || b == b'\r' || b == b'\n'
+}
+
+/// Whether it is a letter, a digit or `_`.
+fn is_of_word(b: u8) -> bool
+    ensures { result ≡ is_of_word b }
+{
+    b.is_ascii_alphanumeric() || b == b'_'
+}
+
+/// Whether a text begins with a word, in any letter case, and no letter, digit or `_` goes on behind it.
+fn has_word(word: &[u8], text: &[u8]) -> bool
+    ensures { result ≡ has_word word.now text.now }
+{
+    match (word.split_first(), text.split_first()) {
+        (None, None) => true,
+        (None, Some((byte, _))) => !is_of_word(*byte),
+        (Some(_), None) => false,
+        (Some((letter, letters)), Some((byte, rest))) => {
+            letter.eq_ignore_ascii_case(byte) && has_word(letters, rest)
+        }
+    }
+}
+
+/// Whether a text begins with these bytes.
+fn has_bytes(bytes: &[u8], text: &[u8]) -> bool
+    ensures { result ≡ has_bytes bytes.now text.now }
+{
+    match (bytes.split_first(), text.split_first()) {
+        (None, _) => true,
+        (Some(_), None) => false,
+        (Some((wanted, others)), Some((byte, rest))) => {
+            *wanted == *byte && has_bytes(others, rest)
+        }
+    }
+}
+
+/// Whether `:=`, or a whole word `wait` or `send`, begins at a byte that isn't the first of the text.
+fn is_statement_at(text: &[u8], at: usize) -> bool
+    requires low { 0 < at }
+    requires high { at < length text.now }
+    ensures { result ≡ is_statement_at text.now at }
+{
+    let rest = &text[at..];
+    has_bytes(b":=", rest)
+        || (!is_of_word(text[at - 1]) && (has_word(b"wait", rest) || has_word(b"send", rest)))
+}
+
+/// Whether one begins between two bytes.
+fn has_statement(text: &[u8], from: usize, to: usize) -> bool
+    requires low { 0 < from }
+    requires high { to ≤ length text.now }
+    ensures { IsTrue result ↔ ((i : ℕ) × (from ≤ i) × (i < to) × IsTrue (is_statement_at text.now i)) }
+{
+    let mut at = from;
+    'places: while at < to {
+        if is_statement_at(text, at) {
+            return true;
+        }
+        at += 1;
+    }
+    false
+}
+
+/// The first line feed between two bytes.
+fn line_feed(text: &[u8], from: usize, to: usize) -> Option<usize>
+    requires { to ≤ length text.now }
+    ensures found { IfSome result (λ e. (from ≤ e) × (e < to) × (slice_index text.now e ≡ 10)) }
+    ensures first { IfSome result (λ e. (i : ℕ) → from ≤ i → i < e → ¬ (slice_index text.now i ≡ 10)) }
+    ensures none { IfNone result ((i : ℕ) → from ≤ i → i < to → ¬ (slice_index text.now i ≡ 10)) }
+{
+    let mut at = from;
+    'bytes: while at < to {
+        if text[at] == b'\n' {
+            return Some(at);
+        }
+        at += 1;
+    }
+    None
+}
+
+/// Whether a line ends between two bytes, and a statement begins behind that.
+fn swallows(text: &[u8], from: usize, to: usize) -> bool
+    requires { to ≤ length text.now }
+    ensures { IsTrue result ↔ Swallows text.now from to }
+{
+    match line_feed(text, from, to) {
+        Some(end) => has_statement(text, end + 1, to),
+        None => false,
+    }
+}
+
+/// Where a comment ends that begins here.
+fn comment_end(text: &[u8], from: usize) -> usize
+    requires { (b : ℕ) × IsComment text.now from b }
+    ensures { IsComment text.now from result }
+{
+    let mut at = from;
+    'bytes: while text[at] != b';' {
+        at += 1;
+    }
+    at + 1
+}
+
+/// Adds the warning of a comment, where there is one.
+fn add_comment(
+    warnings: &mut Vec<Warning>,
+    text: &[u8],
+    from: usize,
+    to: usize,
+) -> Result<(), AllocError>
+    requires comment { IsComment text.now from to }
+    requires inside { to ≤ length text.now }
+    ensures { IfOk result (λ _. (a : ℕ) → Passed text.now a warnings.old.items from → Passed text.now a warnings.new.items to) }
+{
+    if swallows(text, from, to) {
+        warnings.push(Warning {
+            kind: WarningKind::LongComment,
+            span: Span { from, to },
+        })?;
+    }
+    Ok(())
+}
+
+/// Adds the warnings of the comments between two lexemes.
+fn add_gap(
+    warnings: &mut Vec<Warning>,
+    text: &[u8],
+    from: usize,
+    to: usize,
+) -> Result<(), AllocError>
+    requires gap { Gap text.now from to }
+    requires inside { to ≤ length text.now }
+    ensures { IfOk result (λ _. (a : ℕ) → Passed text.now a warnings.old.items from → Passed text.now a warnings.new.items to) }
+{
+    let mut at = from;
+    'gap: while at < to {
+        if is_blank(text[at]) {
+            at += 1;
+        } else {
+            let end = comment_end(text, at);
+            add_comment(warnings, text, at, end)?;
+            at = end;
+        }
+    }
+    Ok(())
+}
+
+/// The warnings of the comments of a text that has lexemes, in order. It refuses only where memory was refused.
+pub(crate) fn comment_warnings(alloc: Global, text: &str) -> Result<Vec<Warning>, NoMemory>
+    ensures { IfOk result (λ ws. CommentWarnings text.now 0 ws.items) }
+{
+    // A text that has lexemes is refused for want of memory alone.
+    let Ok(lexemes) = lex(alloc, text) else {
+        return Err(NoMemory);
+    };
+    let bytes = text.as_bytes();
+    let mut warnings = Vec::new(alloc);
+    let mut at = 0;
+    for lexeme in &lexemes {
+        add_gap(&mut warnings, bytes, at, lexeme.span.from)?;
+        at = lexeme.span.to;
+    }
+    add_gap(&mut warnings, bytes, at, bytes.len())?;
+    Ok(warnings)
+}

@@ -1,0 +1,86 @@
+//! How warnings are told.
+
+ghost use Rattle.std.specs.Prelude.{◌≡◌, ◌++◌, IfOk, string_bytes};
+ghost use Rattle.kahn_warnings.specs.Telling.{AreWarningNotes, end_note, last_byte, warning_note, warning_words};
+
+use crate::program::warnings;
+use crate::warning::{Warning, WarningKind};
+use kahn_marks::{marked_too, marked_warning};
+use kahn_tree::{NoMemory, Program, Span};
+use std::alloc::{AllocError, Global};
+
+/// What is said of a warning.
+fn warning_words(kind: WarningKind) -> &'static str
+    ensures { result.now ≡ warning_words kind }
+{
+    match kind {
+        WarningKind::LongComment => "comment goes on to a later line, over `:=`, `wait` or `send`",
+        WarningKind::NoInstance => "process has no instance",
+        WarningKind::Unused => "name is never used",
+        WarningKind::Unread => "name is assigned, and never read",
+        WarningKind::Idle => "loop never ends, and doesn't wait, send or print",
+        WarningKind::Unreached => "statement is never reached: one before it never ends",
+    }
+}
+
+/// The last byte of a part.
+fn last_byte(span: Span) -> Span
+    ensures { result ≡ last_byte span }
+{
+    Span {
+        from: span.to.saturating_sub(1),
+        to: span.to,
+    }
+}
+
+/// Adds the note on the end of a comment.
+fn add_end(
+    notes: &mut String,
+    alloc: Global,
+    path: &str,
+    text: &str,
+    warning: Warning,
+) -> Result<(), AllocError>
+    ensures { IfOk result (λ _. string_bytes notes.new ≡ string_bytes notes.old ++ end_note path.now text.now warning.kind warning.span) }
+{
+    if let WarningKind::LongComment = warning.kind {
+        let last = last_byte(warning.span);
+        let note = marked_too(alloc, path, text, last, "comment ends here")?;
+        notes.push_str(note.as_str())?;
+    }
+    Ok(())
+}
+
+/// Adds the note on a warning.
+fn add_note(
+    notes: &mut String,
+    alloc: Global,
+    path: &str,
+    text: &str,
+    warning: Warning,
+) -> Result<(), AllocError>
+    ensures { IfOk result (λ _. string_bytes notes.new ≡ string_bytes notes.old ++ warning_note path.now text.now warning) }
+{
+    let words = warning_words(warning.kind);
+    let note = marked_warning(alloc, path, text, warning.span, words)?;
+    notes.push_str(note.as_str())?;
+    add_end(notes, alloc, path, text, warning)
+}
+
+/// The notes on all that is warned of in a program of this text; the empty text where there is nothing to warn of. It refuses
+/// only where memory was refused.
+pub fn warning_notes(
+    alloc: Global,
+    path: &str,
+    text: &str,
+    program: &Program,
+) -> Result<String, NoMemory>
+    ensures { IfOk result (λ notes. AreWarningNotes path.now text.now program.now (string_bytes notes)) }
+{
+    let warnings = warnings(alloc, program, text)?;
+    let mut notes = String::new(alloc);
+    for warning in &warnings {
+        add_note(&mut notes, alloc, path, text, *warning)?;
+    }
+    Ok(notes)
+}

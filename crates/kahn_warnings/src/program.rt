@@ -1,0 +1,146 @@
+//! All that is warned of in a program.
+
+ghost use Rattle.std.specs.Prelude.{◌≡◌, ◌++◌, IfOk};
+ghost use Rattle.kahn_tree.specs.View.{stmt_of};
+ghost use Rattle.kahn_warnings.specs.Warnings.{AreWarnings, body_warnings, declaration_warnings, first_standing, first_unreached, idle_warnings, statement_warnings, warned_where};
+
+use crate::comments::comment_warnings;
+use crate::loops::{is_seen, never_ends};
+use crate::names::{add_names, add_process, warned};
+use crate::warning::{Warning, WarningKind};
+use kahn_tree::{Action, Declaration, Instance, NoMemory, Program, Span, Statement};
+use std::alloc::{AllocError, Global};
+
+/// Adds a warning of a part, where that stands anywhere.
+fn add_where(
+    warnings: &mut Vec<Warning>,
+    kind: WarningKind,
+    place: Option<Span>,
+) -> Result<(), AllocError>
+    ensures { IfOk result (λ _. warnings.new.items ≡ warnings.old.items ++ warned_where kind place) }
+{
+    if let Some(span) = place {
+        warnings.push(warned(kind, span))?;
+    }
+    Ok(())
+}
+
+/// Adds the warning of a loop without an end, where it neither waits nor sends nor prints.
+fn add_idle(
+    warnings: &mut Vec<Warning>,
+    place: Option<Span>,
+    body: &Statement,
+) -> Result<(), AllocError>
+    ensures { IfOk result (λ _. warnings.new.items ≡ warnings.old.items ++ idle_warnings place body.now.action) }
+{
+    if is_seen(body) {
+        return Ok(());
+    }
+    add_where(warnings, WarningKind::Idle, place)
+}
+
+/// Where the first of these statements stands that isn't empty.
+fn first_standing(statements: &[Statement]) -> Option<Span>
+    ensures { result ≡ first_standing statements.now }
+{
+    for statement in statements {
+        if let Some(span) = statement.span {
+            return Some(span);
+        }
+    }
+    None
+}
+
+/// Where the first such statement stands behind one that never ends.
+fn first_unreached(statements: &[Statement]) -> Option<Span>
+    ensures { result ≡ first_unreached statements.now }
+{
+    match statements.split_first() {
+        None => None,
+        Some((first, rest)) => {
+            if never_ends(first) {
+                first_standing(rest)
+            } else {
+                first_unreached(rest)
+            }
+        }
+    }
+}
+
+/// Adds the warnings of a statement.
+fn add_statement(warnings: &mut Vec<Warning>, statement: &Statement) -> Result<(), AllocError>
+    ensures { IfOk result (λ _. warnings.new.items ≡ warnings.old.items ++ statement_warnings statement.now.span statement.now.action) }
+{
+    match &statement.action {
+        Action::Empty => Ok(()),
+        Action::Assign(_, _) => Ok(()),
+        Action::Send(_, _) => Ok(()),
+        Action::Print(_) => Ok(()),
+        Action::Block(statements) => {
+            for inner in statements {
+                add_statement(warnings, inner)?;
+            }
+            add_where(
+                warnings,
+                WarningKind::Unreached,
+                first_unreached(statements),
+            )
+        }
+        Action::If(_, yes, no) => {
+            add_statement(warnings, yes)?;
+            match no {
+                Some(no) => add_statement(warnings, no),
+                None => Ok(()),
+            }
+        }
+        Action::While(_, body) => add_statement(warnings, body),
+        Action::Repeat(body) => {
+            add_idle(warnings, statement.span, body)?;
+            add_statement(warnings, body)
+        }
+    }
+}
+
+/// Adds those of a body.
+fn add_body(warnings: &mut Vec<Warning>, statements: &[Statement]) -> Result<(), AllocError>
+    ensures { IfOk result (λ _. warnings.new.items ≡ warnings.old.items ++ body_warnings statements.now) }
+{
+    for statement in statements {
+        add_statement(warnings, statement)?;
+    }
+    add_where(
+        warnings,
+        WarningKind::Unreached,
+        first_unreached(statements),
+    )
+}
+
+/// Adds those of a declaration.
+fn add_declaration(
+    warnings: &mut Vec<Warning>,
+    instances: &[Instance],
+    declaration: &Declaration,
+) -> Result<(), AllocError>
+    ensures { IfOk result (λ _. warnings.new.items ≡ warnings.old.items ++ declaration_warnings instances.now declaration.now) }
+{
+    match declaration {
+        Declaration::Channels(_, _, _) => Ok(()),
+        Declaration::Process(process) => {
+            add_process(warnings, instances, process)?;
+            add_names(warnings, process)?;
+            add_body(warnings, &process.statements)
+        }
+    }
+}
+
+/// All that is warned of in a program of this text: the comments first, then one process after another. It refuses only where
+/// memory was refused. The time is that of the names of each process times the size of its body.
+pub fn warnings(alloc: Global, program: &Program, text: &str) -> Result<Vec<Warning>, NoMemory>
+    ensures { IfOk result (λ ws. AreWarnings text.now program.now ws.items) }
+{
+    let mut warnings = comment_warnings(alloc, text)?;
+    for declaration in &program.declarations {
+        add_declaration(&mut warnings, &program.instances, declaration)?;
+    }
+    Ok(warnings)
+}

@@ -1,0 +1,30 @@
+//! A warning.
+
+use kahn_tree::Span;
+
+/// What is warned of.
+#[derive(Clone, Copy, Debug, PartialEq, Eq)]
+pub enum WarningKind {
+    /// A comment goes on over a line's end, and `:=`, `wait` or `send` stands behind that in it.
+    LongComment,
+    /// A process that no instance names.
+    NoInstance,
+    /// A parameter or a variable that its process never names.
+    Unused,
+    /// A parameter or a variable that its process assigns, and never reads.
+    Unread,
+    /// A loop without an end that waits for nothing, sends nothing and prints nothing.
+    Idle,
+    /// A statement behind one that never ends.
+    Unreached,
+}
+
+/// A warning, and the part of the text that it is about.
+#[derive(Clone, Copy, Debug, PartialEq, Eq)]
+pub struct Warning {
+    /// What is warned of.
+    pub kind: WarningKind,
+    /// The whole comment; the name of the process, of the parameter or of the variable where it is declared; the loop; or the
+    /// first statement that isn't reached.
+    pub span: Span,
+}
