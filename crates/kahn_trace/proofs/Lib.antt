@@ -1,0 +1,4 @@
+mod Begun
+mod Lines
+mod Tables
+mod Watched_columns
