@@ -1,3 +1,4 @@
 mod Caused
+mod Chaining
 mod Leading
 mod Walking

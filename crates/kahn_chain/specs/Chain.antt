@@ -1,6 +1,6 @@
 -- Believed. Why an instance of a network goes no further. Each instance waits on at most one channel, which has at most one writer, so
 -- its waits are one chain.
-use Rattle.std.specs.Prelude.{◌≡◌, ℕ, ◌<◌, ◌≤◌, List, length, Some, slice_get}
+use Rattle.std.specs.Prelude.{◌≡◌, ℕ, ◌<◌, ◌≤◌, List, Bool, true, false, length, Some, slice_get}
 use Rattle.kahn_network.specs.Network.{Network, Given, Written, channel_source}
 use Rattle.kahn_chain.specs.declared.standing.Standing.{Standing}
 use Rattle.kahn_chain.specs.declared.standing.Standing.TheVariants.{Ended, Waits, Faulted, More}
@@ -46,3 +46,13 @@ IsCause N ss p (Ring z) = Leads N ss p z × IsLeastOfRing N ss z
 pub record AreCauses (N : Network) (ss : List Standing) (ys : List Cause) : Type 0 where
   pub each : length ys ≡ length ss
   pub causes : (p : ℕ) (y : Cause) → slice_get ys p ≡ Some y → IsCause N ss p y
+
+-- a mark is set where the waits of p lead back to it
+abbrev pub IsRingMark : Network → List Standing → ℕ → Bool → Type 0
+IsRingMark N ss p true = LeadsOn N ss p p
+IsRingMark N ss p false = LeadsOn N ss p p → ⊥
+
+-- one mark for each instance
+pub record AreRings (N : Network) (ss : List Standing) (marks : List Bool) : Type 0 where
+  pub each : length marks ≡ length ss
+  pub rings : (p : ℕ) (mark : Bool) → slice_get marks p ≡ Some mark → IsRingMark N ss p mark

@@ -3,10 +3,12 @@
 
 mod cause;
 mod laws;
+mod ring;
 mod standing;
 mod walk;
 
 // For the crates above.
 pub use cause::causes;
 pub use laws::one_cause;
+pub use ring::rings;
 pub use standing::{Cause, Standing};

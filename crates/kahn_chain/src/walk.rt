@@ -28,7 +28,7 @@ pub(crate) struct Walked {
 }
 
 /// What comes behind an instance.
-fn next(network: &Network, standings: &[Standing], instance: usize) -> Step
+pub(crate) fn next(network: &Network, standings: &[Standing], instance: usize) -> Step
     requires known { AreStandings (network_of network.now) standings.now }
     requires here { instance < length standings.now }
     ensures { IsStepFrom (network_of network.now) standings.now instance result }

@@ -11,7 +11,7 @@ use Rattle.kahn_report.specs.Written.{AppendsFront}
 
 -- a picture of the network of the text, with what the report says of it
 abbrev pub IsPictureOf : List ℕ → List ℕ → List ℕ → Type 0
-IsPictureOf program report picture = (t : Program) × IsChecked program t × IsPicture t (lines report) picture
+IsPictureOf program report picture = (t : Program) × IsChecked program t × IsPicture t program (lines report) picture
 
 -- a picture of the text's network went out, or why not: the text is at fault, or memory was refused, and nothing went out; or
 -- a write failed after a prefix of the picture

@@ -23,7 +23,7 @@ pub(crate) fn draw<W: Write>(
         Ok(network) => network,
         Err(fault) => return Err(fault),
     };
-    let Ok(picture) = picture_text(alloc, &network, report) else {
+    let Ok(picture) = picture_text(alloc, &network, program, report) else {
         return Err(WorkFault::Run(RunFault::NoMemory));
     };
     match write_line(writer, &[picture.as_bytes()]) {

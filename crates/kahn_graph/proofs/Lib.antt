@@ -1,2 +1,5 @@
 mod Headings
+mod Marked
+mod Named
 mod Texts
+mod Waits

@@ -10,15 +10,23 @@ use Rattle.kahn_tree.specs.declared.tree.Role.{Role}
 use Rattle.kahn_tree.specs.declared.tree.Role.TheVariants.{Inner, Input, Output}
 use Rattle.kahn_tree.specs.declared.tree.Argument.{Argument}
 use Rattle.kahn_tree.specs.declared.tree.Argument.TheVariants as A
+use Rattle.kahn_tree.specs.declared.tree.Instance.{Instance}
+use Rattle.kahn_tree.specs.declared.tree.Name.{Name}
+use Rattle.kahn_tree.specs.declared.tree.Parameter.{Parameter}
 use Rattle.kahn_tree.specs.declared.tree.Process.{Process}
 use Rattle.kahn_tree.specs.declared.tree.Program.{Program}
+use Rattle.kahn_tree.specs.Place.{line_of, column_of}
 use Rattle.kahn_tree.specs.Prints.{process_prints}
 use Rattle.kahn_tree.specs.View.{bytes_of}
 use Rattle.kahn_network.specs.declared.sides.Side.{Side}
 use Rattle.kahn_network.specs.Made.{IsMadeOf}
 use Rattle.kahn_network.specs.Network.{network_of, kind_at, role_at}
 use Rattle.kahn_network.specs.Sides.{IsOnly, IsWriter, IsReader, channel_names}
+use Rattle.kahn_chain.specs.declared.standing.Standing.{Standing}
+use Rattle.kahn_chain.specs.declared.standing.Standing.TheVariants as Stands
 use Rattle.kahn_graph.specs.Report.{ended_text, carried_text}
+use Rattle.kahn_chain.specs.Chain.{IsRingMark}
+use Rattle.kahn_graph.specs.Stands.{told_standing, told_standings, IsWaitMark}
 
 -- ---- instances
 
@@ -26,28 +34,55 @@ abbrev pub truth_text : Bool → List ℕ
 truth_text true = codes "true"
 truth_text false = codes "false"
 
+-- a value by the name of its parameter, after what separates it from the value before
+abbrev pub named_text : List ℕ → Parameter → List ℕ → List ℕ
+named_text before q value = concat (before ∷ bytes_of q.name ∷ codes "=" ∷ value ∷ [])
+
 -- the value arguments, the first after `before` and each further one after a comma; channels are shown by edges
-abbrev pub values_text : List ℕ → List Argument → List ℕ
-values_text before [] = []
-values_text before (A.Channel n ∷ rest) = values_text before rest
-values_text before (A.Number z at ∷ rest) = concat (before ∷ signed_decimal z ∷ []) ++ values_text (codes ", ") rest
-values_text before (A.Logical b at ∷ rest) = concat (before ∷ truth_text b ∷ []) ++ values_text (codes ", ") rest
+abbrev pub values_text : List ℕ → List Parameter → List Argument → List ℕ
+values_text before [] xs = []
+values_text before (q ∷ qs) [] = []
+values_text before (q ∷ qs) (A.Channel n ∷ rest) = values_text before qs rest
+values_text before (q ∷ qs) (A.Number z at ∷ rest) = named_text before q (signed_decimal z) ++ values_text (codes ", ") qs rest
+values_text before (q ∷ qs) (A.Logical b at ∷ rest) = named_text before q (truth_text b) ++ values_text (codes ", ") qs rest
 
 -- a second border where the process prints
 abbrev pub border_text : Bool → List ℕ
 border_text true = codes ", peripheries=2"
 border_text false = []
 
--- the node of an instance: its label has its number from 1, its process, the values below them, and how it ended
-abbrev pub node_text : List (List ℕ) → ℕ → Process → List Argument → List ℕ
-node_text report i p arguments =
+-- the colour of a box by how its instance stands; it stays white where the instance waits, or where that isn't told
+abbrev pub colour_text : Option Standing → List ℕ
+colour_text None = []
+colour_text (Some Stands.Ended) = codes ", style=filled, fillcolor=lightgrey"
+colour_text (Some (Stands.Waits c)) = []
+colour_text (Some Stands.Faulted) = codes ", style=filled, fillcolor=salmon"
+colour_text (Some Stands.More) = codes ", style=filled, fillcolor=palegreen"
+
+-- a red border where the instance is on a ring of waits
+abbrev pub ring_text : Bool → List ℕ
+ring_text true = codes ", color=red"
+ring_text false = []
+
+-- where a name stands in the program text, as a line and a column
+abbrev pub tip_text : List ℕ → Name → List ℕ
+tip_text source n =
+    concat (codes ", tooltip=\"" ∷ bytes_of n ∷ codes " at " ∷ decimal (line_of source n.span.from) ∷ codes ":" ∷ decimal (column_of source n.span.from) ∷ codes "\"" ∷ [])
+
+-- the node of an instance of the program: its label has its number from 1, its process, the values below them, and how it ended
+abbrev pub node_text : Program → List (List ℕ) → ℕ → Process → List Argument → Bool → List ℕ
+node_text t report i p arguments ring =
     concat (codes "  p" ∷ decimal i ∷ codes " [label=\"" ∷ decimal (i + 1) ∷ codes " " ∷ bytes_of p.name ∷ [])
-    ++ (values_text (codes "\\n") arguments
-    ++ (ended_text report i (bytes_of p.name) ++ concat (codes "\"" ∷ border_text (process_prints p) ∷ codes "];\n" ∷ [])))
+    ++ (values_text (codes "\\n") p.parameters.items arguments
+    ++ (ended_text report i (bytes_of p.name)
+    ++ concat (codes "\"" ∷ border_text (process_prints p) ∷ colour_text (told_standing t report i (bytes_of p.name)) ∷ ring_text ring ∷ [])))
 
 -- the text is the node of instance i of the program
-abbrev pub IsNode : Program → List (List ℕ) → ℕ → List ℕ → Type 0
-IsNode t report i text = (p : Process) × (arguments : List Argument) × IsMadeOf t i p arguments × (text ≡ node_text report i p arguments)
+abbrev pub IsNode : Program → List ℕ → List (List ℕ) → ℕ → List ℕ → Type 0
+IsNode t source report i text =
+    (p : Process) × (arguments : List Argument) × (x : Instance) × (ring : Bool)
+    × IsMadeOf t i p arguments × (slice_get t.instances.items i ≡ Some x) × IsRingMark (network_of t) (told_standings t report) i ring
+    × (text ≡ node_text t report i p arguments ring ++ (tip_text source x.process ++ codes "];\n"))
 
 -- ---- channels
 
@@ -67,18 +102,36 @@ abbrev pub style_text : Kind → List ℕ
 style_text K.Integer = codes "solid"
 style_text K.Logical = codes "dashed"
 
+-- a red and broad line where a ring waits on the channel
+abbrev pub awaited_text : Bool → List ℕ
+awaited_text true = codes ", color=red, penwidth=2"
+awaited_text false = []
+
+-- the name of the parameter at a side
+abbrev pub IsPort : Program → Side → List ℕ → Type 0
+IsPort t s name =
+    (p : Process) × (arguments : List Argument) × (q : Parameter)
+    × IsMadeOf t s.instance p arguments × (slice_get p.parameters.items s.parameter ≡ Some q) × (name ≡ bytes_of q.name)
+
+-- that name as an attribute of an edge, where the edge has that side
+abbrev pub IsPortText : Program → List ℕ → Option Side → List ℕ → Type 0
+IsPortText t attribute None text = text ≡ []
+IsPortText t attribute (Some s) text =
+    (name : List ℕ) × IsPort t s name × (text ≡ concat (codes ", " ∷ attribute ∷ codes "=\"" ∷ name ∷ codes "\"" ∷ []))
+
 -- the edge of a channel with that name, from its writer to its reader; its label has the name, and how many values it carried
 abbrev pub edge_text : List (List ℕ) → ℕ → List ℕ → Kind → Option Side → Option Side → List ℕ
 edge_text report c name kind writer reader =
-    concat (codes "  " ∷ place_text c writer ∷ codes " -> " ∷ place_text c reader ∷ codes " [label=\"" ∷ name ∷ carried_text report name ∷ codes "\", style=" ∷ style_text kind ∷ codes "];\n" ∷ [])
+    concat (codes "  " ∷ place_text c writer ∷ codes " -> " ∷ place_text c reader ∷ codes " [label=\"" ∷ name ∷ carried_text report name ∷ codes "\", style=" ∷ style_text kind ∷ [])
 
 -- the text is the edge of channel c of the program, after its mark
 abbrev pub IsEdge : Program → List (List ℕ) → ℕ → List ℕ → Type 0
 IsEdge t report c text =
     let n = network_of t in
-    (name : List ℕ) × (writer : Option Side) × (reader : Option Side)
+    (name : List ℕ) × (writer : Option Side) × (reader : Option Side) × (tail : List ℕ) × (head : List ℕ) × (ring : Bool)
     × (slice_get (channel_names t) c ≡ Some name) × IsOnly (IsWriter n c) writer × IsOnly (IsReader n c) reader
-    × (text ≡ mark_text c (role_at n c) ++ edge_text report c name (kind_at n c) writer reader)
+    × IsPortText t (codes "taillabel") writer tail × IsPortText t (codes "headlabel") reader head × IsWaitMark n (told_standings t report) c ring
+    × (text ≡ mark_text c (role_at n c) ++ (edge_text report c name (kind_at n c) writer reader ++ (tail ++ (head ++ concat (awaited_text ring ∷ codes "];\n" ∷ [])))))
 
 -- ---- the whole
 
@@ -92,15 +145,19 @@ abbrev pub IsAll : (ℕ → List ℕ → Type 0) → ℕ → List ℕ → Type 0
 IsAll P count text = (texts : List (List ℕ)) × (length texts ≡ count) × AreTexts P 0 texts × (text ≡ concat texts)
 
 abbrev pub opening_text : List ℕ
-opening_text = codes "digraph network {\n  rankdir=LR;\n  node [shape=box];\n"
+opening_text = codes "digraph network {\n  rankdir=LR;\n  node [shape=box];\n  edge [labelfontsize=9, labeldistance=1.5, labelangle=45];\n"
 
 abbrev pub closing_text : List ℕ
 closing_text = codes "}\n"
 
--- the text is the picture of the network, with what the lines of a report say of it: the nodes of all instances, and then the
+abbrev pub AreNodes : Program → List ℕ → List (List ℕ) → List ℕ → Type 0
+AreNodes t source report = IsAll (IsNode t source report) (length (network_of t).instances)
+
+abbrev pub AreEdges : Program → List (List ℕ) → List ℕ → Type 0
+AreEdges t report = IsAll (IsEdge t report) (length (network_of t).channels)
+
+-- the text is the picture of the network of a program text, with what the lines of a report say of it: the nodes of all instances, and then the
 -- edges of all channels
-abbrev pub IsPicture : Program → List (List ℕ) → List ℕ → Type 0
-IsPicture t report text =
-    (nodes : List ℕ) × (edges : List ℕ)
-    × IsAll (IsNode t report) (length (network_of t).instances) nodes × IsAll (IsEdge t report) (length (network_of t).channels) edges
-    × (text ≡ opening_text ++ (nodes ++ (edges ++ closing_text)))
+abbrev pub IsPicture : Program → List ℕ → List (List ℕ) → List ℕ → Type 0
+IsPicture t source report text =
+    (nodes : List ℕ) × (edges : List ℕ) × AreNodes t source report nodes × AreEdges t report edges × (text ≡ opening_text ++ (nodes ++ (edges ++ closing_text)))

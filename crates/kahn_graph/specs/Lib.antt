@@ -1,2 +1,4 @@
 pub mod Graph
 pub mod Report
+pub mod Stands
+pub mod inner

@@ -34,9 +34,13 @@ abbrev pub ending_text : Option (List ℕ) → List ℕ
 ending_text None = []
 ending_text (Some words) = if list_all is_plain words then concat (codes "\\n" ∷ words ∷ []) else []
 
--- what the report's lines add to the label of instance i of a process of that name
+-- the words that tell how instance i ended, of a process of that name
+abbrev pub told_ending : List (List ℕ) → ℕ → List ℕ → Option (List ℕ)
+told_ending report i name = behind (end_heading i name) report
+
+-- what the report's lines add to its label
 abbrev pub ended_text : List (List ℕ) → ℕ → List ℕ → List ℕ
-ended_text report i name = ending_text (behind (end_heading i name) report)
+ended_text report i name = ending_text (told_ending report i name)
 
 -- and to that of a channel of that name
 abbrev pub carried_text : List (List ℕ) → List ℕ → List ℕ

@@ -1,12 +1,16 @@
 //! The edges of a picture.
 
-ghost use Rattle.std.specs.Prelude.{◌≡◌, ◌<◌, ◌++◌, ℕ, List, Option, IfOk, length, map, string_bytes};
+ghost use Rattle.std.specs.Prelude.{◌≡◌, ◌<◌, ◌++◌, Option, IfOk, length, string_bytes};
 ghost use Rattle.kahn_network.specs.Network.{network_of};
-ghost use Rattle.kahn_graph.specs.Graph.{place_text, mark_text, style_text, edge_text, IsEdge, IsAll};
+ghost use Rattle.kahn_graph.specs.Graph.{place_text, mark_text, style_text, awaited_text, edge_text, IsEdge, AreEdges};
+ghost use Rattle.kahn_graph.specs.inner.Adding.{Adds, IsKnown, said};
 
 use crate::pieces::add;
+use crate::ports::add_port;
 use crate::report::add_carried;
+use crate::stands::is_ring_channel;
 use itoa::Buffer;
+use kahn_chain::Standing;
 use kahn_network::{Channel, Network, Side};
 use kahn_tree::{Kind, Role};
 use std::alloc::AllocError;
@@ -51,7 +55,14 @@ fn style(kind: Kind) -> &'static str
     }
 }
 
-// Adds the edge of a channel, from its writer to its reader.
+// How an edge is drawn on which a ring may wait.
+fn ring_line(ring: bool) -> &'static str
+    ensures { result.now ≡ awaited_text ring }
+{
+    if ring { ", color=red, penwidth=2" } else { "" }
+}
+
+// Adds the edge of a channel, from its writer to its reader, as far as the names at its ends.
 fn add_line(
     text: &mut String,
     report: &[&str],
@@ -60,7 +71,7 @@ fn add_line(
     writer: Option<Side>,
     reader: Option<Side>,
 ) -> Result<(), AllocError>
-    ensures { IfOk result (λ _. string_bytes text.new ≡ string_bytes text.old ++ edge_text (map (λ line. line.now) report.now) number channel.entry.name.now channel.entry.kind writer reader) }
+    ensures { IfOk result (λ _. string_bytes text.new ≡ string_bytes text.old ++ edge_text (said report.now) number channel.entry.name.now channel.entry.kind writer reader) }
 {
     add(text, &["  "])?;
     add_place(text, number, writer)?;
@@ -68,7 +79,7 @@ fn add_line(
     add_place(text, number, reader)?;
     add(text, &[" [label=\"", channel.name])?;
     add_carried(text, report, channel.name)?;
-    add(text, &["\", style=", style(channel.kind), "];\n"])
+    add(text, &["\", style=", style(channel.kind)])
 }
 
 // Adds the mark and the edge of a channel.
@@ -76,16 +87,24 @@ fn add_edge(
     text: &mut String,
     network: &Network,
     report: &[&str],
+    standings: &[Standing],
+    rings: &[bool],
     channel: usize,
 ) -> Result<(), AllocError>
-    requires { channel < length (network_of network.now).channels }
-    ensures { IfOk result (λ _. (edge : List ℕ) × IsEdge network.now (map (λ line. line.now) report.now) channel edge × (string_bytes text.new ≡ string_bytes text.old ++ edge)) }
+    requires here { channel < length (network_of network.now).channels }
+    requires known { IsKnown network.now (said report.now) standings.now rings.now }
+    ensures { IfOk result (λ _. Adds (IsEdge network.now (said report.now) channel) (string_bytes text.old) (string_bytes text.new)) }
 {
     let found = network.channel(channel);
     let writer = network.writer(channel);
     let reader = network.reader(channel);
+    let ring = is_ring_channel(network, report, standings, rings, channel);
     add_mark(text, channel, found.role)?;
-    add_line(text, report, channel, found, writer, reader)
+    add_line(text, report, channel, found, writer, reader)?;
+    add_port(text, network, "taillabel", writer)?;
+    add_port(text, network, "headlabel", reader)?;
+    add(text, &[ring_line(ring), "];\n"])?;
+    Ok(())
 }
 
 /// Adds the edges of all channels.
@@ -93,11 +112,14 @@ pub(crate) fn add_edges(
     text: &mut String,
     network: &Network,
     report: &[&str],
+    standings: &[Standing],
+    rings: &[bool],
 ) -> Result<(), AllocError>
-    ensures { IfOk result (λ _. (edges : List ℕ) × IsAll (IsEdge network.now (map (λ line. line.now) report.now)) (length (network_of network.now).channels) edges × (string_bytes text.new ≡ string_bytes text.old ++ edges)) }
+    requires { IsKnown network.now (said report.now) standings.now rings.now }
+    ensures { IfOk result (λ _. Adds (AreEdges network.now (said report.now)) (string_bytes text.old) (string_bytes text.new)) }
 {
     for channel in 0..network.channels() {
-        add_edge(text, network, report, channel)?;
+        add_edge(text, network, report, standings, rings, channel)?;
     }
     Ok(())
 }

@@ -5,6 +5,9 @@ mod edges;
 mod nodes;
 mod picture;
 mod pieces;
+mod ports;
 mod report;
+mod stands;
+mod tips;
 
 pub use picture::picture_text;

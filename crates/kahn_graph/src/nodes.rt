@@ -1,17 +1,18 @@
 //! The nodes of a picture.
 
-ghost use Rattle.std.specs.Prelude.{◌≡◌, ◌<◌, ◌++◌, ℕ, List, IfOk, codes, length, map, string_bytes, [], ◌∷◌};
-ghost use Rattle.std.specs.Fmt.{signed_decimal};
-ghost use Rattle.std.specs.List.{concat};
-ghost use Rattle.kahn_tree.specs.declared.tree.Argument.{Argument};
+ghost use Rattle.std.specs.Prelude.{◌≡◌, ◌<◌, ◌++◌, IfOk, codes, length, string_bytes};
 ghost use Rattle.kahn_network.specs.Network.{network_of};
-ghost use Rattle.kahn_graph.specs.Graph.{values_text, node_text, IsNode, IsAll, border_text, truth_text};
+ghost use Rattle.kahn_graph.specs.Graph.{named_text, values_text, node_text, IsNode, AreNodes, border_text, colour_text, ring_text, truth_text};
+ghost use Rattle.kahn_graph.specs.inner.Adding.{Adds, AddsValue, IsKnown, said};
 
 use crate::pieces::add;
 use crate::report::add_ended;
+use crate::stands::{is_ring_instance, standing};
+use crate::tips::add_tip;
 use itoa::Buffer;
+use kahn_chain::Standing;
 use kahn_network::Network;
-use kahn_tree::{Argument, Process, process_prints};
+use kahn_tree::{Argument, Parameter, Process, process_prints};
 use std::alloc::AllocError;
 
 // A logical value as it is written.
@@ -21,43 +22,56 @@ fn truth_word(truth: bool) -> &'static str
     if truth { "true" } else { "false" }
 }
 
-// Adds a number, after what separates it from what stands before.
-fn add_number(text: &mut String, before: &str, number: i64) -> Result<(), AllocError>
-    ensures { IfOk result (λ _. string_bytes text.new ≡ string_bytes text.old ++ concat (before.now ∷ signed_decimal number ∷ [])) }
+// Adds a value by the name of its parameter, after what separates it from what stands before.
+fn add_named(
+    text: &mut String,
+    before: &str,
+    parameter: &Parameter,
+    value: &str,
+) -> Result<(), AllocError>
+    ensures { IfOk result (λ _. string_bytes text.new ≡ string_bytes text.old ++ named_text before.now parameter.now value.now) }
 {
-    let mut buffer = Buffer::new();
-    let number = buffer.format(number);
-    add(text, &[before, number])
+    add(text, &[before])?;
+    add(text, &[parameter.name.text.as_str()])?;
+    add(text, &["=", value])
 }
 
 // Adds an argument where it is a value, and says what separates it from the next.
 fn add_value(
     text: &mut String,
     before: &'static str,
+    parameter: &Parameter,
     argument: &Argument,
 ) -> Result<&'static str, AllocError>
-    ensures { IfOk result (λ next. (rest : List Argument) → string_bytes text.new ++ values_text next.now rest ≡ string_bytes text.old ++ values_text before.now (argument.now ∷ rest)) }
+    ensures { IfOk result (λ next. AddsValue (string_bytes text.old) before.now (string_bytes text.new) next.now parameter.now argument.now) }
 {
     match argument {
         Argument::Channel(_) => Ok(before),
         Argument::Number(number, _) => {
-            add_number(text, before, *number)?;
+            let mut buffer = Buffer::new();
+            add_named(text, before, parameter, buffer.format(*number))?;
             Ok(", ")
         }
         Argument::Logical(truth, _) => {
-            add(text, &[before, truth_word(*truth)])?;
+            add_named(text, before, parameter, truth_word(*truth))?;
             Ok(", ")
         }
     }
 }
 
-// Adds the values among arguments.
-fn add_values(text: &mut String, arguments: &[Argument]) -> Result<(), AllocError>
-    ensures { IfOk result (λ _. string_bytes text.new ≡ string_bytes text.old ++ values_text (codes "\\n") arguments.now) }
+// Adds the values among arguments, by the names of their parameters.
+fn add_values(
+    text: &mut String,
+    parameters: &[Parameter],
+    arguments: &[Argument],
+) -> Result<(), AllocError>
+    ensures { IfOk result (λ _. string_bytes text.new ≡ string_bytes text.old ++ values_text (codes "\\n") parameters.now arguments.now) }
 {
     let mut before = "\\n";
-    for argument in arguments {
-        before = add_value(text, before, argument)?;
+    for index in 0..arguments.len().min(parameters.len()) {
+        let parameter = &parameters[index];
+        let argument = &arguments[index];
+        before = add_value(text, before, parameter, argument)?;
     }
     Ok(())
 }
@@ -69,16 +83,37 @@ fn border(prints: bool) -> &'static str
     if prints { ", peripheries=2" } else { "" }
 }
 
-// Adds the node of an instance with that number, which runs that process.
+// What gives its colour to the box of an instance that stands so.
+fn colour(standing: Option<Standing>) -> &'static str
+    ensures { result.now ≡ colour_text standing }
+{
+    match standing {
+        None | Some(Standing::Waits(_)) => "",
+        Some(Standing::Ended) => ", style=filled, fillcolor=lightgrey",
+        Some(Standing::Faulted) => ", style=filled, fillcolor=salmon",
+        Some(Standing::More) => ", style=filled, fillcolor=palegreen",
+    }
+}
+
+// What gives a red border to an instance that is on a ring of waits.
+fn ring_border(ring: bool) -> &'static str
+    ensures { result.now ≡ ring_text ring }
+{
+    if ring { ", color=red" } else { "" }
+}
+
+// Adds the node of an instance with that number, which runs that process, as far as its colours.
 fn add_made(
     text: &mut String,
+    network: &Network,
     report: &[&str],
     instance: usize,
     process: &Process,
     arguments: &[Argument],
+    ring: bool,
 ) -> Result<(), AllocError>
     requires { instance < usize.MAX }
-    ensures { IfOk result (λ _. string_bytes text.new ≡ string_bytes text.old ++ node_text (map (λ line. line.now) report.now) instance process.now arguments.now) }
+    ensures { IfOk result (λ _. string_bytes text.new ≡ string_bytes text.old ++ node_text network.now (said report.now) instance process.now arguments.now ring) }
 {
     let mut first = Buffer::new();
     let mut second = Buffer::new();
@@ -86,36 +121,57 @@ fn add_made(
     let number = second.format(instance + 1);
     let name = process.name.text.as_str();
     add(text, &["  p", node, " [label=\"", number, " ", name])?;
-    add_values(text, arguments)?;
+    add_values(text, &process.parameters, arguments)?;
     add_ended(text, report, instance, process.name.text.as_str())?;
     let border = border(process_prints(process));
-    add(text, &["\"", border, "];\n"])
+    let colour = colour(standing(network, report, instance, process.name.text.as_str()));
+    add(text, &["\"", border, colour, ring_border(ring)])
 }
 
 // Adds the node of an instance.
 fn add_node(
     text: &mut String,
     network: &Network,
+    source: &str,
     report: &[&str],
+    standings: &[Standing],
+    rings: &[bool],
     instance: usize,
 ) -> Result<(), AllocError>
-    requires { instance < length (network_of network.now).instances }
-    ensures { IfOk result (λ _. (node : List ℕ) × IsNode network.now (map (λ line. line.now) report.now) instance node × (string_bytes text.new ≡ string_bytes text.old ++ node)) }
+    requires here { instance < length (network_of network.now).instances }
+    requires known { IsKnown network.now (said report.now) standings.now rings.now }
+    ensures { IfOk result (λ _. Adds (IsNode network.now source.now (said report.now) instance) (string_bytes text.old) (string_bytes text.new)) }
 {
     let made = network.instance(instance);
-    add_made(text, report, instance, made.process, made.arguments)
+    let ring = is_ring_instance(network, report, standings, rings, instance);
+    add_made(
+        text,
+        network,
+        report,
+        instance,
+        made.process,
+        made.arguments,
+        ring,
+    )?;
+    add_tip(text, network, source, instance)?;
+    add(text, &["];\n"])?;
+    Ok(())
 }
 
 /// Adds the nodes of all instances.
 pub(crate) fn add_nodes(
     text: &mut String,
     network: &Network,
+    source: &str,
     report: &[&str],
+    standings: &[Standing],
+    rings: &[bool],
 ) -> Result<(), AllocError>
-    ensures { IfOk result (λ _. (nodes : List ℕ) × IsAll (IsNode network.now (map (λ line. line.now) report.now)) (length (network_of network.now).instances) nodes × (string_bytes text.new ≡ string_bytes text.old ++ nodes)) }
+    requires { IsKnown network.now (said report.now) standings.now rings.now }
+    ensures { IfOk result (λ _. Adds (AreNodes network.now source.now (said report.now)) (string_bytes text.old) (string_bytes text.new)) }
 {
     for instance in 0..network.instances() {
-        add_node(text, network, report, instance)?;
+        add_node(text, network, source, report, standings, rings, instance)?;
     }
     Ok(())
 }

@@ -3,7 +3,7 @@
 ghost use Rattle.std.specs.Prelude.{◌≡◌, ◌<◌, ◌++◌, IfOk, map, option_map, string_bytes};
 ghost use Rattle.std.specs.List.{list_all};
 ghost use Rattle.std.specs.Str.Lines.{lines};
-ghost use Rattle.kahn_graph.specs.Report.{without as without_heading, behind as behind_heading, count_text, is_plain as plain, ending_text, ended_text, carried_text};
+ghost use Rattle.kahn_graph.specs.Report.{without as without_heading, behind as behind_heading, count_text, is_plain as plain, ending_text, told_ending, ended_text, carried_text};
 
 use crate::pieces::add;
 use itoa::Buffer;
@@ -16,8 +16,8 @@ pub(crate) fn lines(alloc: Global, report: &str) -> Result<Vec<&str>, AllocError
     report.lines().collect(alloc)
 }
 
-// What is left of a line without the pieces of a heading.
-fn without<'r>(line: &'r str, heading: &[&str]) -> Option<&'r str>
+/// What is left of a line without the pieces of a heading.
+pub(crate) fn without<'r>(line: &'r str, heading: &[&str]) -> Option<&'r str>
     ensures { option_map (λ rest. rest.now) result ≡ without_heading (map (λ piece. piece.now) heading.now) line.now }
 {
     let mut rest = line;
@@ -79,6 +79,16 @@ fn add_ending(text: &mut String, words: Option<&str>) -> Result<(), AllocError>
     }
 }
 
+/// The words that tell in a report how an instance ended that runs a process of that name.
+pub(crate) fn ending<'r>(report: &[&'r str], instance: usize, name: &str) -> Option<&'r str>
+    requires { instance < usize.MAX }
+    ensures { option_map (λ words. words.now) result ≡ told_ending (map (λ line. line.now) report.now) instance name.now }
+{
+    let mut buffer = Buffer::new();
+    let number = buffer.format(instance + 1);
+    behind(report, &["end ", number, " ", name, ": "])
+}
+
 /// Adds what a report says of an instance that runs a process of that name.
 pub(crate) fn add_ended(
     text: &mut String,
@@ -89,9 +99,7 @@ pub(crate) fn add_ended(
     requires { instance < usize.MAX }
     ensures { IfOk result (λ _. string_bytes text.new ≡ string_bytes text.old ++ ended_text (map (λ line. line.now) report.now) instance name.now) }
 {
-    let mut buffer = Buffer::new();
-    let number = buffer.format(instance + 1);
-    add_ending(text, behind(report, &["end ", number, " ", name, ": "]))
+    add_ending(text, ending(report, instance, name))
 }
 
 /// Adds what a report says of a channel of that name.

@@ -1,5 +1,6 @@
 -- Inner. A walk along the waits of an instance.
-use Rattle.std.specs.Prelude.{◌≡◌, ℕ, ◌<◌, ◌≤◌, List, length}
+use Rattle.std.specs.Prelude.{◌≡◌, ℕ, ◌<◌, ◌≤◌, List, Bool, true, false, length}
+use Rattle.std.proofs.Common.{get_or}
 use Rattle.kahn_network.specs.Network.{Network}
 use Rattle.kahn_chain.specs.Chain.{Awaits, Leads, LeadsOn, IsCause}
 use Rattle.kahn_chain.specs.declared.standing.Standing.{Standing}
@@ -31,3 +32,9 @@ pub record IsWalked (N : Network) (ss : List Standing) (p : ℕ) (x : Walked) : 
   pub stop : IsStop N ss p x.stop
   pub reached : Leads N ss p x.least
   pub least : (w : ℕ) → Leads N ss p w → x.least ≤ w
+
+-- marked are the instances to which the waits of p lead
+pub record AreOnChain (N : Network) (ss : List Standing) (p : ℕ) (marks : List Bool) : Type 0 where
+  pub size : length marks ≡ length ss
+  pub sound : (q : ℕ) → get_or marks q false ≡ true → Leads N ss p q
+  pub whole : (q : ℕ) → Leads N ss p q → get_or marks q false ≡ true

@@ -1,12 +1,16 @@
-use Rattle.std.proofs.Common.{map, refl}
-use Rattle.kahn_graph.specs.Graph.{IsNode, node_text}
-use Rattle.kahn_graph.proofs.Texts.{some_text}
+use Rattle.std.proofs.Common.{◌++◌, ap, codes}
+use Rattle.kahn_graph.specs.Graph.{node_text}
+use Rattle.kahn_graph.specs.inner.Adding.{said}
+use Rattle.kahn_graph.proofs.Named.{three_grown}
 use Rattle.kahn_graph.proofs.nodes.add_node.Goals as goal
 
 pub returns : goal.returns
 returns c =
     let process = c.instance-made.result.process.now in
     let arguments = c.instance-made.result.arguments.now in
-    let report = map (λ line. line.now) c.args.report.now in
-    some_text c.add_made.result (IsNode c.args.network.now report c.args.instance) _ _ (node_text report c.args.instance process arguments)
-    (process, arguments, c.instance-made.ensures.declared, refl) c.add_made.ensures
+    let ring = c.is_ring_instance-ring.result in
+    let (tip, (x, found, is), after) = c.in_ok-add_tip.ensures in (
+      node_text c.args.network.now (said c.args.report.now) c.args.instance process arguments ring ++ (tip ++ codes "];\n"),
+      (process, arguments, x, ring, c.instance-made.ensures.declared, found, c.is_ring_instance-ring.ensures, ap (λ y. node_text c.args.network.now (said c.args.report.now) c.args.instance process arguments ring ++ (y ++ codes "];\n")) is),
+      three_grown _ tip _ _ _ _ _ c.in_ok-add_made.ensures after c.in_ok-add.ensures,
+    )

@@ -5,7 +5,8 @@ use denote.Shadow.{shadow}
 use Rattle.kahn_graph.specs.Graph.{values_text}
 use Rattle.kahn_graph.proofs.nodes.add_values.Given as goal
 
-abbrev pub invariant-loop-argument : goal.invariant-loop-argument
-invariant-loop-argument l =
+abbrev pub invariant-loop-index : goal.invariant-loop-index
+invariant-loop-index l =
     shadow (Utf8 l.before)
-    × (string_bytes l.text ++ values_text l.before (drop l.argument-index l.arguments) ≡ string_bytes l.initial.text ++ values_text (codes "\\n") l.arguments)
+    × (string_bytes l.text ++ values_text l.before (drop l.index l.parameters) (drop l.index l.arguments)
+    ≡ string_bytes l.initial.text ++ values_text (codes "\\n") l.parameters l.arguments)

@@ -4,5 +4,5 @@ use Rattle.kahn_graph.proofs.picture.picture_text.Goals as goal
 
 pub returns : goal.returns
 returns c =
-    subst (λ report. IfOk c.drawn.result (λ text. IsPicture c.args.network.now report (string_bytes text)))
-    (ap (map (λ line. line.now)) c.deref.ensures.value ∙ c.in_ok-report.ensures) c.drawn.ensures
+    subst (λ report. IfOk c.told_picture.result (λ text. IsPicture c.args.network.now c.args.source.now report (string_bytes text)))
+    (ap (map (λ line. line.now)) c.deref.ensures.value ∙ c.in_ok-report.ensures) c.told_picture.ensures

@@ -1,0 +1,150 @@
+-- Values and ends of edges by the names of parameters.
+use Rattle.std.proofs.Common.{◌≡◌, ◌∙◌, ℕ, zero, suc, ◌+◌, ◌<◌, ◌≤◌, Bool, ◌⊎◌, inl, inr, ⊎_elim, IfSome, List, [], ◌∷◌, ◌++◌, Option, None, Some, ap, ap₂, append_assoc, arith, codes, decimal, drop, drop_of_length-le, length, min, not, ◌==◌, count_by, refl, slice_get, slice_index_or, sym, take, take_all}
+use Rattle.std.proofs.lemmas.Bool.{cases_lt}
+use Rattle.std.proofs.lemmas.List.{length-map}
+use Rattle.std.specs.List.{suffix_len}
+use Rattle.std.specs.List.{concat}
+use Rattle.kahn_tree.specs.declared.tree.Argument.{Argument}
+use Rattle.kahn_tree.specs.declared.tree.Kind.{Kind}
+use Rattle.kahn_tree.specs.declared.tree.Name.{Name}
+use Rattle.kahn_tree.specs.declared.tree.Parameter.{Parameter}
+use Rattle.kahn_tree.specs.declared.tree.Process.{Process}
+use Rattle.kahn_tree.specs.declared.tree.Program.{Program}
+use Rattle.kahn_tree.specs.declared.tree.Role.{Role}
+use Rattle.kahn_tree.specs.Place.{column_of, line_of}
+use Rattle.kahn_tree.specs.View.{Scope, bytes_of}
+use Rattle.kahn_network.specs.declared.sides.Side.{Side}
+use Rattle.kahn_network.specs.Network.{Network, network_of, actuals_of, instance_at, instance_from, kind_at, process_of, role_at}
+use Rattle.kahn_network.specs.Sides.{IsOnly, IsReader, IsWithin, IsWriter, channel_names}
+use Rattle.kahn_graph.specs.Graph.{IsEdge, IsPortText, awaited_text, edge_text, mark_text, tip_text, values_text}
+use Rattle.kahn_graph.specs.Stands.{IsWaitMark, told_standings}
+use Rattle.kahn_graph.proofs.Waits.{front}
+
+-- ---- values
+
+pub next_value : (before : List ℕ) (qs : List Parameter) (xs : List Argument) (k : ℕ) (q : Parameter) (x : Argument) → slice_get qs k ≡ Some q → slice_get xs k ≡ Some x
+    → values_text before (drop k qs) (drop k xs) ≡ values_text before (q ∷ drop (k + 1) qs) (x ∷ drop (k + 1) xs)
+next_value before qs xs k q x e f = ap₂ (values_text before) (front qs k q e) (front xs k x f)
+
+no_argument : (before : List ℕ) (qs : List Parameter) → values_text before qs [] ≡ []
+no_argument before [] = refl
+no_argument before (q ∷ qs) = refl
+
+pub no_value_more : (before : List ℕ) (qs : List Parameter) (xs : List Argument) (k : ℕ) → (length qs ≤ k) ⊎ (length xs ≤ k) → values_text before (drop k qs) (drop k xs) ≡ []
+no_value_more before qs xs k (inl le) = ap (λ l. values_text before l (drop k xs)) (drop_of_length-le qs le)
+no_value_more before qs xs k (inr le) = ap (values_text before (drop k qs)) (drop_of_length-le xs le) ∙ no_argument before (drop k qs)
+
+-- nothing is left behind the last of the shorter list
+pub values_end : (before : List ℕ) (qs : List Parameter) (xs : List Argument) (n k : ℕ) → n ≡ min (length xs) (length qs) → n ≤ k
+    → values_text before (drop k qs) (drop k xs) ≡ []
+values_end before qs xs n k e le = ⊎_elim few_arguments few_parameters (cases_lt (length xs) (length qs))
+  where
+    few_arguments : length xs < length qs → values_text before (drop k qs) (drop k xs) ≡ []
+    few_arguments lt = no_value_more before qs xs k (inr (omega (arith, e, le, lt)))
+
+    few_parameters : length qs ≤ length xs → values_text before (drop k qs) (drop k xs) ≡ []
+    few_parameters ge = no_value_more before qs xs k (inl (omega (arith, e, le, ge)))
+
+pub at_index : {A : Type 0} (xs : List A) (c : ℕ) (x : A) → c < length xs → slice_index_or xs c x ≡ x → slice_get xs c ≡ Some x
+at_index [] c x lt h = absurd (omega arith)
+at_index (y ∷ ys) zero x lt h = ap Some h
+at_index (y ∷ ys) (suc c) x lt h = at_index ys c x (omega arith) h
+
+-- ---- sides
+
+few_actuals : (names : Scope) (qs : List Parameter) (xs : List Argument) → length (actuals_of names qs xs) ≤ length qs
+few_actuals names [] xs = omega arith
+few_actuals names (q ∷ qs) [] = omega arith
+few_actuals names (q ∷ qs) (x ∷ xs) = let less = few_actuals names qs xs in omega (arith, less)
+
+pub port_within : (N : Network) (names : Scope) (p : Process) (xs : List Argument) (s : Side) → IsWithin N s → instance_at N s.instance ≡ instance_from names (Some p) xs
+    → s.parameter < length p.parameters.items
+port_within N names p xs s within e =
+    let same : length (instance_at N s.instance).actuals ≡ length (actuals_of names p.parameters.items xs) = ap (λ i. length i.actuals) e in
+    let less : length (actuals_of names p.parameters.items xs) ≤ length p.parameters.items = few_actuals names p.parameters.items xs in
+    omega (arith, within.1, same, less)
+
+pub writer_within : (N : Network) (c : ℕ) (o : Option Side) → IsOnly (IsWriter N c) o → IfSome o (IsWithin N)
+writer_within N c None only = tt
+writer_within N c (Some s) only = only.0.0
+
+pub reader_within : (N : Network) (c : ℕ) (o : Option Side) → IsOnly (IsReader N c) o → IfSome o (IsWithin N)
+reader_within N c None only = tt
+reader_within N c (Some s) only = only.0.0
+
+-- ---- edges
+
+-- five pieces after what stands there
+pub five_grown : (a b c d e old one two three four new : List ℕ) → one ≡ old ++ a → two ≡ one ++ b → three ≡ two ++ c → four ≡ three ++ d → new ≡ four ++ e
+    → new ≡ old ++ (a ++ (b ++ (c ++ (d ++ e))))
+five_grown a b c d e old one two three four new f g h i j =
+    let last : new ≡ three ++ (d ++ e) = j ∙ (ap (λ l. l ++ e) i ∙ append_assoc three d e) in
+    let third : new ≡ two ++ (c ++ (d ++ e)) = last ∙ (ap (λ l. l ++ (d ++ e)) h ∙ append_assoc two c (d ++ e)) in
+    let second : new ≡ one ++ (b ++ (c ++ (d ++ e))) = third ∙ (ap (λ l. l ++ (c ++ (d ++ e))) g ∙ append_assoc one b (c ++ (d ++ e))) in
+    second ∙ (ap (λ l. l ++ (b ++ (c ++ (d ++ e)))) f ∙ append_assoc old a (b ++ (c ++ (d ++ e))))
+
+pub edge_of : (t : Program) (report : List (List ℕ)) (c : ℕ) (name tail head : List ℕ) (kind : Kind) (role : Role) (writer reader : Option Side) (ring : Bool)
+    → slice_get (channel_names t) c ≡ Some name → kind ≡ kind_at (network_of t) c → role ≡ role_at (network_of t) c
+    → IsOnly (IsWriter (network_of t) c) writer → IsOnly (IsReader (network_of t) c) reader
+    → IsPortText t (codes "taillabel") writer tail → IsPortText t (codes "headlabel") reader head → IsWaitMark (network_of t) (told_standings t report) c ring
+    → IsEdge t report c (mark_text c role ++ (edge_text report c name kind writer reader ++ (tail ++ (head ++ concat (awaited_text ring ∷ codes "];\n" ∷ [])))))
+edge_of t report c name tail head kind role writer reader ring e k r w d it ih m = (
+  name,
+  writer,
+  reader,
+  tail,
+  head,
+  ring,
+  e,
+  w,
+  d,
+  it,
+  ih,
+  m,
+  ap₂ (λ x y. mark_text c x ++ (edge_text report c name y writer reader ++ (tail ++ (head ++ concat (awaited_text ring ∷ codes "];\n" ∷ []))))) r k,
+)
+
+-- three pieces after what stands there
+pub three_grown : (a b c old one two new : List ℕ) → one ≡ old ++ a → two ≡ one ++ b → new ≡ two ++ c → new ≡ old ++ (a ++ (b ++ c))
+three_grown a b c old one two new f g h =
+    let last : new ≡ one ++ (b ++ c) = h ∙ (ap (λ l. l ++ c) g ∙ append_assoc one b c) in
+    last ∙ (ap (λ l. l ++ (b ++ c)) f ∙ append_assoc old a (b ++ c))
+
+-- ---- places
+
+same_take : (l : List ℕ) (n m : ℕ) → m ≡ min n (length l) → take m l ≡ take n l
+same_take l n m e = ⊎_elim within past (cases_lt n (length l))
+  where
+    within : n < length l → take m l ≡ take n l
+    within lt = let same : m ≡ n = omega (arith, e, lt) in ap (λ k. take k l) same
+
+    past : length l ≤ n → take m l ≡ take n l
+    past le = let more : length l ≤ m = omega (arith, e, le) in take_all m l more ∙ sym (take_all n l le)
+
+pub same_line : (l : List ℕ) (n m : ℕ) → m ≡ min n (length l) → line_of l m ≡ line_of l n
+same_line l n m e = ap (λ x. count_by (λ b. b == 10) x + 1) (same_take l n m e)
+
+pub same_column : (l : List ℕ) (n m : ℕ) → m ≡ min n (length l) → column_of l m ≡ column_of l n
+same_column l n m e = ap (λ x. suffix_len (λ b. not (b == 10)) x + 1) (same_take l n m e)
+
+-- as many instances as the tree has
+pub as_many_trees : (t : Program) (i : ℕ) → i < length (network_of t).instances → i < length t.instances.items
+as_many_trees t i le =
+    let same : length (network_of t).instances ≡ length t.instances.items =
+    length-map t.instances.items (λ x. instance_from (channel_names t) (process_of t.declarations.items (bytes_of x.process)) x.arguments.items) in
+    omega (arith, le, same)
+
+-- the pieces of a place after what stands there
+pub tip_grown : (source : List ℕ) (n : Name) (old mid new name line column : List ℕ) → name ≡ bytes_of n → line ≡ decimal (line_of source n.span.from)
+    → column ≡ decimal (column_of source n.span.from) → mid ≡ old ++ (codes ", tooltip=\"" ++ (name ++ codes " at "))
+    → new ≡ mid ++ (line ++ (codes ":" ++ (column ++ codes "\""))) → new ≡ old ++ tip_text source n
+tip_grown source n old mid new name line column en el ec f g =
+    let rest : List ℕ = line ++ (codes ":" ++ (column ++ codes "\"")) in
+    let first : List ℕ = codes ", tooltip=\"" ++ (name ++ codes " at ") in
+    let shape : List ℕ → List ℕ → List ℕ → List ℕ = λ x l c. codes ", tooltip=\"" ++ (x ++ (codes " at " ++ (l ++ (codes ":" ++ (c ++ codes "\""))))) in
+    let whole : new ≡ old ++ (first ++ rest) = g ∙ (ap (λ l. l ++ rest) f ∙ append_assoc old first rest) in
+    let inner : first ++ rest ≡ shape name line column = ap (λ l. codes ", tooltip=\"" ++ l) (append_assoc name (codes " at ") rest) in
+    let named : shape name line column ≡ tip_text source n =
+    ap (λ x. shape x line column) en
+    ∙ (ap (λ l. shape (bytes_of n) l column) el ∙ ap (λ c. shape (bytes_of n) (decimal (line_of source n.span.from)) c) ec) in
+    whole ∙ ap (λ l. old ++ l) (inner ∙ named)

@@ -1,0 +1,15 @@
+use Rattle.std.proofs.Common.{subst}
+use Rattle.kahn_network.specs.Network.{network_of}
+use Rattle.kahn_graph.specs.inner.Adding.{IsWaitAt}
+use Rattle.kahn_graph.proofs.Marked.{no_wait_more, some_wait}
+use Rattle.kahn_graph.proofs.stands.is_any_wait.Goals as goal
+
+pub returns-then-is_wait_at : goal.returns-then-is_wait_at
+returns-then-is_wait_at c =
+    some_wait (network_of c.args.network.now) c.args.standings.now c.args.channel c.loop-instance.instance
+    (subst (IsWaitAt (network_of c.args.network.now) c.args.standings.now c.args.channel c.loop-instance.instance) c.if-is_wait_at.true c.is_wait_at.ensures)
+
+pub loop-instance-preserved : goal.loop-instance-preserved
+loop-instance-preserved c =
+    no_wait_more (network_of c.args.network.now) c.args.standings.now c.args.channel c.loop-instance.instance c.loop-instance.invariant
+    (subst (IsWaitAt (network_of c.args.network.now) c.args.standings.now c.args.channel c.loop-instance.instance) c.if-is_wait_at.false c.is_wait_at.ensures)

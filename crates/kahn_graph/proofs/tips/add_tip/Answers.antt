@@ -1,0 +1,14 @@
+use Rattle.std.proofs.Common.{rules}
+use Rattle.kahn_graph.proofs.Named.{as_many_trees, at_index}
+use Rattle.kahn_graph.proofs.tips.add_tip.Goals as goal
+
+pub index-placed-requires : goal.index-placed-requires
+index-placed-requires c =
+    let within = as_many_trees c.args.network.now c.args.instance c.requires in
+    search (rules, within)
+
+pub returns : goal.returns
+returns c =
+    let placed = c.index-placed.result.now in
+    let within = as_many_trees c.args.network.now c.args.instance c.requires in
+    (_, (placed, at_index c.args.network.now.instances.items c.args.instance placed within (search rules), search rules), c.in_ok-add_name.ensures)

@@ -1,0 +1,47 @@
+-- Inner. Texts that grow by the texts of items.
+use Rattle.std.specs.Prelude.{◌≡◌, ℕ, Bool, true, false, ◌==◌, List, ◌∷◌, ◌++◌, map, Some, slice_get}
+use Rattle.std.proofs.Common.{Bor}
+use Rattle.kahn_tree.specs.declared.tree.Argument.{Argument}
+use Rattle.kahn_tree.specs.declared.tree.Instance.{Instance}
+use Rattle.kahn_tree.specs.declared.tree.Parameter.{Parameter}
+use Rattle.kahn_tree.specs.declared.tree.Program.{Program}
+use Rattle.kahn_network.specs.Network.{Network, network_of}
+use Rattle.kahn_chain.specs.declared.standing.Standing.{Standing}
+use Rattle.kahn_chain.specs.declared.standing.Standing.TheVariants.{Ended, Waits, Faulted, More}
+use Rattle.kahn_chain.specs.Chain.{AreRings, LeadsOn}
+use Rattle.kahn_graph.specs.Graph.{tip_text, values_text}
+use Rattle.kahn_graph.specs.Stands.{told_standings}
+
+-- the lines of a report that is lent line by line
+abbrev pub said : List (Bor (List ℕ)) → List (List ℕ)
+said = map (λ line. line.now)
+
+-- behind the old text stands one of these
+abbrev pub Adds : (List ℕ → Type 0) → List ℕ → List ℕ → Type 0
+Adds P old new = (text : List ℕ) × P text × (new ≡ old ++ text)
+
+-- an argument was added, and what is left comes after what separates it from the next
+abbrev pub AddsValue : List ℕ → List ℕ → List ℕ → List ℕ → Parameter → Argument → Type 0
+AddsValue old before new next q x =
+    (qs : List Parameter) (rest : List Argument) → new ++ values_text next qs rest ≡ old ++ values_text before (q ∷ qs) (x ∷ rest)
+
+-- the text tells where instance i stands in the program text
+abbrev pub IsTip : Program → List ℕ → ℕ → List ℕ → Type 0
+IsTip t source i text = (x : Instance) × (slice_get t.instances.items i ≡ Some x) × (text ≡ tip_text source x.process)
+
+-- how the instances stand by a report, and which are on rings
+pub record IsKnown (t : Program) (report : List (List ℕ)) (ss : List Standing) (marks : List Bool) : Type 0 where
+  pub told : ss ≡ told_standings t report
+  pub rings : AreRings (network_of t) ss marks
+
+-- the answer tells whether instance p waits on channel c and is on a ring
+abbrev pub IsWaitAt : Network → List Standing → ℕ → ℕ → Bool → Type 0
+IsWaitAt N ss c p true = (slice_get ss p ≡ Some (Waits c)) × LeadsOn N ss p p
+IsWaitAt N ss c p false = slice_get ss p ≡ Some (Waits c) → LeadsOn N ss p p → ⊥
+
+-- one that stands so waits on channel c
+abbrev pub is_wait : ℕ → Standing → Bool
+is_wait c Ended = false
+is_wait c (Waits d) = d == c
+is_wait c Faulted = false
+is_wait c More = false

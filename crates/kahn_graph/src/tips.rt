@@ -1,0 +1,54 @@
+//! Where the instances of a picture stand in the program text.
+
+ghost use Rattle.std.specs.Prelude.{◌≡◌, ◌<◌, ◌++◌, IfOk, length, string_bytes};
+ghost use Rattle.kahn_network.specs.Network.{network_of};
+ghost use Rattle.kahn_tree.specs.Place.{line_of, column_of};
+ghost use Rattle.kahn_graph.specs.Graph.{tip_text};
+ghost use Rattle.kahn_graph.specs.inner.Adding.{Adds, IsTip};
+
+use crate::pieces::add;
+use itoa::Buffer;
+use kahn_network::Network;
+use kahn_tree::{Name, Span};
+use std::alloc::AllocError;
+
+// The line and the column of a byte of a text, or of its end where the text has no such byte.
+fn place(source: &str, from: usize) -> (usize, usize)
+    ensures line { result.0 ≡ line_of source.now from }
+    ensures column { result.1 ≡ column_of source.now from }
+{
+    let from = from.min(source.len());
+    let span = Span { from, to: from };
+    span.place(source)
+}
+
+// Adds where a name stands.
+fn add_name(text: &mut String, source: &str, name: &Name) -> Result<(), AllocError>
+    ensures { IfOk result (λ _. string_bytes text.new ≡ string_bytes text.old ++ tip_text source.now name.now) }
+{
+    let (line, column) = place(source, name.span.from);
+    let mut first = Buffer::new();
+    let mut second = Buffer::new();
+    add(text, &[", tooltip=\"", name.text.as_str(), " at "])?;
+    add(
+        text,
+        &[first.format(line), ":", second.format(column), "\""],
+    )?;
+    Ok(())
+}
+
+/// Adds where an instance stands in the program text.
+pub(crate) fn add_tip(
+    text: &mut String,
+    network: &Network,
+    source: &str,
+    instance: usize,
+) -> Result<(), AllocError>
+    requires { instance < length (network_of network.now).instances }
+    ensures { IfOk result (λ _. Adds (IsTip network.now source.now instance) (string_bytes text.old) (string_bytes text.new)) }
+{
+    let program = network.program();
+    let placed = &program.instances[instance];
+    add_name(text, source, &placed.process)?;
+    Ok(())
+}
