@@ -2,3 +2,4 @@ pub mod Steps
 pub mod Showing
 pub mod Fresh
 pub mod Taking
+pub mod Named

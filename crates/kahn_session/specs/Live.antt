@@ -63,9 +63,17 @@ IsUnopened t config fault.NoMemory = Unit {0}
 IsUnopened t config fault.NoThread = ⊥
 IsUnopened t config fault.Stalled = ⊥
 
+-- the line is that of a channel of this name
+abbrev pub IsNamedLine : Program → Line → List ℕ → Type 0
+IsNamedLine t line name = (channel : ℕ) × (line ≡ Channel channel) × (channel_name t channel ≡ name)
+
+-- the line of this number is that of a channel of this name
+abbrev pub IsNamedAt : Program → List Line → ℕ → List ℕ → Type 0
+IsNamedAt t lines number name = (line : Line) × (slice_get lines number ≡ Some line) × IsNamedLine t line name
+
 -- the stream of this number is that of a channel of this name
 abbrev pub IsStreamOf : HeldRun → ℕ → List ℕ → Type 0
-IsStreamOf h number name = (channel : ℕ) × (slice_get (run_lines h) number ≡ Some (Channel channel)) × (channel_name h.network channel ≡ name)
+IsStreamOf h number name = IsNamedAt h.network (run_lines h) number name
 
 -- ---- a line of input
 

@@ -1,6 +1,6 @@
 //! Sessions: what a line of input makes of a run, and what goes out after it.
 
-ghost use Rattle.std.specs.Prelude.{◌≡◌, ◌↔◌, ◌≤◌, ℕ, List, Some, false, true, drop, length, slice_index_or, vec_capacity, [], IfOk, IfSome, IsTrue, MatchOption, MatchResult};
+ghost use Rattle.std.specs.Prelude.{◌≡◌, ◌↔◌, ◌≤◌, ℕ, List, Some, false, true, drop, length, slice_index_or, vec_capacity, [], IfOk, IsTrue, MatchOption, MatchResult};
 ghost use Rattle.kahn_streams.specs.Entries.{entry_of};
 ghost use Rattle.kahn_pool.specs.HeldRuns.{HeldRun};
 ghost use Rattle.kahn_pool.specs.declared.answer.Verdict.{Verdict as VerdictOf};
@@ -8,7 +8,7 @@ ghost use Rattle.kahn_report.specs.Entries.{IsBlank, IsEntry, content};
 ghost use Rattle.kahn_report.specs.Names.{channel_name};
 ghost use Rattle.kahn_report.specs.News.{news_text, plain_text};
 ghost use Rattle.kahn_report.specs.Written.{Writes};
-ghost use Rattle.kahn_session.specs.Live.{HasOpened, IsClosed, IsFedBy, HasVerdict, IsStreamOf, IsTaken, IsText, IsUnfedBy, IsUnopened, breaks, form_text, run_lines};
+ghost use Rattle.kahn_session.specs.Live.{HasOpened, IsClosed, IsFedBy, HasVerdict, IsNamedAt, IsNamedLine, IsStreamOf, IsTaken, IsText, IsUnfedBy, IsUnopened, breaks, form_text, run_lines};
 ghost use Rattle.kahn_session.specs.inner.Shown.{AreAllShown, news_of};
 
 use crate::fault::{PartFault, TakeFault};
@@ -96,12 +96,24 @@ fn feed_line(alloc: Global, paced: &mut Paced<'_>, line: &[u8]) -> Result<(), Ta
 
 /// Whether the line is that of a channel of that name.
 fn is_of(network: &Network, line: Line, name: &str) -> bool
-    ensures { result ≡ true → (channel : ℕ) × (line ≡ Line.Channel channel) × (channel_name network.now channel ≡ name.now) }
+    ensures { (result ≡ true) ↔ IsNamedLine network.now line name.now }
 {
     match line {
         Line::Channel(channel) => channel_name(network, channel) == name,
         Line::Print(_) => false,
     }
+}
+
+/// The number of the first line that is that of a channel of that name.
+fn line_of(network: &Network, lines: &[Line], name: &str) -> Option<usize>
+    ensures { MatchOption result ((n : ℕ) → ¬ IsNamedAt network.now lines.now n name.now) (λ number. IsNamedAt network.now lines.now number name.now) }
+{
+    for number in 0..lines.len() {
+        if is_of(network, lines[number], name) {
+            return Some(number);
+        }
+    }
+    None
 }
 
 /// Room for so many counts.
@@ -256,14 +268,9 @@ impl<'n> Session<'n> {
 
     /// The number of the stream of a channel of that name, or nothing where it has none.
     pub fn stream_of(&self, channel: &str) -> Option<usize>
-        ensures { IfSome result (λ number. IsStreamOf self.now.run number channel.now) }
+        ensures { MatchOption result ((n : ℕ) → ¬ IsStreamOf self.now.run n channel.now) (λ number. IsStreamOf self.now.run number channel.now) }
     {
-        for (number, line) in self.lines.iter().enumerate() {
-            if is_of(self.network, *line, channel) {
-                return Some(number);
-            }
-        }
-        None
+        line_of(self.network, self.lines.as_slice(), channel)
     }
 
     /// From now on shows the stream of that number alone, as in a report from 0, and of it the values alone, one a line; and

@@ -1,0 +1,45 @@
+-- The line of a channel of some name, looked for from the first one on.
+use Rattle.std.proofs.Common.{Bool, true, false, ◌≡◌, ℕ, zero, suc, ◌+◌, ◌<◌, ◌≤◌, List, [], ◌∷◌, length, Some, ⊎_elim, subst, sym, ◌∙◌, arith, refl}
+use Rattle.std.specs.Prelude.{MatchOption, Option, slice_get, slice_index_or}
+use Rattle.std.proofs.lemmas.Bool.{cases_lt}
+use Rattle.std.proofs.lemmas.Option.{same_Some}
+use Rattle.kahn_tree.specs.declared.tree.Program.{Program}
+use Rattle.kahn_streams.specs.declared.value.Line.{Line}
+use Rattle.kahn_session.specs.Live.{IsNamedAt, IsNamedLine}
+
+pub there : (lines : List Line) (n : ℕ) (d : Line) → n < length lines → slice_get lines n ≡ Some (slice_index_or lines n d)
+there [] n d below = absurd (omega (arith, below))
+there (x ∷ lines) zero d below = refl
+there (x ∷ lines) (suc n) d below = there lines n d (omega (arith, below))
+
+past_none : (lines : List Line) (n : ℕ) (x : Line) → slice_get lines n ≡ Some x → n < length lines
+past_none [] zero x h = cc
+past_none [] (suc n) x h = cc
+past_none (y ∷ lines) zero x h = omega arith
+past_none (y ∷ lines) (suc n) x h = let i : n < length lines = past_none lines n x h in omega (arith, i)
+
+not_both : (b : Bool) → b ≡ true → b ≡ false → ⊥
+not_both true e f = cc
+not_both false e f = cc
+
+-- none up to one that isn't
+pub further : (t : Program) (lines : List Line) (name : List ℕ) (n : ℕ) (d : Line) (is : Bool) → n < length lines →
+    (IsNamedLine t (slice_index_or lines n d) name → is ≡ true) → is ≡ false →
+    ((j : ℕ) → j < n → IsNamedAt t lines j name → ⊥) → (j : ℕ) → j < n + 1 → IsNamedAt t lines j name → ⊥
+further t lines name n d is below told other before j next (line, at, named) =
+    ⊎_elim (λ lt. before j lt (line, at, named)) (λ le. not_both is (told (subst (λ c. IsNamedLine t c name) (here (omega (arith, next, le))) named)) other) (cases_lt j n)
+  where
+    here : j ≡ n → line ≡ slice_index_or lines n d
+    here e = same_Some line (slice_index_or lines n d) (sym at ∙ subst (λ k. slice_get lines k ≡ Some (slice_index_or lines n d)) (sym e) (there lines n d below))
+
+-- none at all
+pub nowhere : (t : Program) (lines : List Line) (name : List ℕ) (n : ℕ) → length lines ≤ n → ((j : ℕ) → j < n → IsNamedAt t lines j name → ⊥) →
+    (j : ℕ) → IsNamedAt t lines j name → ⊥
+nowhere t lines name n all none j (line, at, named) = none j (omega (arith, all, past_none lines j line at)) (line, at, named)
+
+-- what a search among the lines of a program found is so of the same lines of the same program
+abbrev pub Found : Program → List Line → List ℕ → Option ℕ → Type 0
+Found t lines name found = MatchOption found ((n : ℕ) → IsNamedAt t lines n name → ⊥) (λ number. IsNamedAt t lines number name)
+
+pub same_found : (t u : Program) (lines rows : List Line) (name : List ℕ) (found : Option ℕ) → t ≡ u → lines ≡ rows → Found t lines name found → Found u rows name found
+same_found t u lines rows name found e f h = subst (λ p. Found p rows name found) e (subst (λ l. Found t l name found) f h)
