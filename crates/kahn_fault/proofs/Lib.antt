@@ -1,2 +1,4 @@
 mod Refused
 mod Renamed
+mod Bodies
+mod Places

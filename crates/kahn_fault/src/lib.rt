@@ -2,9 +2,11 @@
 #![tactic(auto)]
 
 mod fault;
+mod laws;
 mod message;
 
 pub use fault::{Fault, live_status, status};
+pub use laws::fault_lies;
 pub use message::{fault_line, line_counted};
 
 // For the crates above.
