@@ -1,6 +1,6 @@
 #!/usr/bin/env bash
 # Explains why runs stopped: rings, tails into a ring, ends of streams, faults, the bound; the examples; what is wrong with the texts of
-# checks/mistakes; and files and words that go wrong.
+# checks/mistakes; what is warned of in those of checks/warnings; tables of histories; and files and words that go wrong.
 source "$(dirname "${BASH_SOURCE[0]}")/common.sh"
 find_explain
 cd "$work" || exit 2
@@ -19,25 +19,23 @@ gives() {
   fi
 }
 
-# network FILE CHANNELS INSTANCES: a program of these, whose processes are copy, begin_with, count, divide and clock.
+# process NAME INSTANCES TEXT: a process, where one of the instances is of it.
+process() {
+  case " $2" in *" $1("*) echo "  process $1($3;" ;; esac
+}
+
+# network FILE CHANNELS INSTANCES: a program of these, with the processes that they are of.
 network() {
-  cat > "$1" <<P
-begin $2
-  process copy(integer in U; integer out W);
-  begin repeat send wait(U) on W end;
-  process begin_with(integer in U; integer out W; integer N);
-  begin send N on W; repeat send wait(U) on W end;
-  process count(integer out W; integer N);
-  begin integer I; while I < N do begin send I on W; I := I + 1 end end;
-  process divide(integer in U; integer out W);
-  begin repeat send 1 div wait(U) on W end;
-  process clock(integer out W);
-  begin integer I; repeat begin send I on W; I := 1 - I end end;
-  process drop(integer in U);
-  begin integer I; repeat I := wait(U) end;
-  $3
-end
-P
+  {
+    echo "begin $2"
+    process copy "$3" 'integer in U; integer out W); begin repeat send wait(U) on W end'
+    process begin_with "$3" 'integer in U; integer out W; integer N); begin send N on W; repeat send wait(U) on W end'
+    process count "$3" 'integer out W; integer N); begin integer I; while I < N do begin send I on W; I := I + 1 end end'
+    process divide "$3" 'integer in U; integer out W); begin repeat send 1 div wait(U) on W end'
+    process clock "$3" 'integer out W); begin integer I; repeat begin send I on W; I := 1 - I end end'
+    process drop "$3" 'integer in U); begin integer I; repeat I := wait(U) end'
+    printf '  %s\nend\n' "$3"
+  } > "$1"
 }
 
 dead='is in a deadlock: for ever'
@@ -89,6 +87,48 @@ network long "integer channel C$channels;" "$rounds copy(C255, C0)"
 "$explain" long > output 2> error
 if [ $? = 7 ] && [ "$(grep -c "as 1 copy $dead\$" output)" = 256 ]; then pass; else fail "a ring of 256: $(head -c 300 error)"; fi
 
+# tables of all histories
+gives "a table of one channel" 0 'place,W
+1,0
+2,1
+3,2' '' "$top/examples/count.kahn" --trace
+gives "a table of the sample network, stopped" 3 'place,X,Y,Z,T1,T2,print 1 f
+1,0,0,1,0,1,0
+2,1,0,1,0,1,1
+3,0,0,1,0,1,0
+4,1,,,,,1
+5,0,,,,,0
+6,1,,,,,1' "$("$explain" "$top/examples/sample.kahn" --bound 60 --workers 1 --quantum 10)" \
+  "$top/examples/sample.kahn" --bound 60 --workers 1 --quantum 10 --trace
+gives "a table beside a ring" 7 'place,A,B,C,RES,TICK,LOG
+1,,,,,0,
+2,,,,,1,
+3,,,,,2,
+4,,,,,3,
+5,,,,,4,' "$("$explain" "$ring")" "$ring" --trace
+cat > marked << 'P'
+begin
+  integer input channel A; logical channel ODD; integer output channel B; logical input channel NONE; logical output channel LAST;
+  process mark(integer in U; logical out W; integer out X);
+  begin integer I; repeat begin I := wait(U); print(I mod 2 = 1); send I mod 2 = 1 on W; send I on X end end;
+  process tell(logical in U, V; logical out W);
+  begin integer N; repeat begin if wait(U) then print(N); N := N - 1; send wait(V) on W end end;
+  mark(A, ODD, B) par tell(ODD, NONE, LAST)
+end
+P
+printf 'A: 3 4 -5\nNONE: true FALSE\n' > values
+gives "a table of logical values and prints" 0 'place,A,ODD,B,NONE,LAST,print 1 mark,print 2 tell
+1,3,true,3,true,true,true,0
+2,4,false,4,false,false,false,
+3,-5,false,-5,,,false,' '' marked --input values --trace
+gives "a table without a value" 3 'place,A,B,W' 'stopped by bound 0' fault --bound 0 --trace
+echo 'begin process p(); begin end; p() end' > none
+gives "a table without a column" 0 'place' '' none --trace
+cp "$top/checks/mistakes/a-sign-for-becomes.kahn" .
+gives "a table of a text that is refused" 1 '' "$(cat "$top/checks/mistakes/a-sign-for-becomes.note")" a-sign-for-becomes.kahn --trace
+echo 'W: 1' > values
+gives "a table with an input that is refused" 1 '' 'kahn: input entry 1: not an input channel' "$top/examples/count.kahn" --input values --trace
+
 for report in "$top"/examples/*.report; do
   name=$(basename "$report" .report)
   words=("$top/examples/$name.kahn")
@@ -118,11 +158,47 @@ for program in *.kahn; do
     fail "mistakes/$name: status $status, $(head -c 600 "$work/output"), $(head -c 300 "$work/error")"
   fi
 done
+
+# each program with what is warned of: told before the explanation, and alone with --strict, which refuses it
+cd "$top/checks/warnings" || exit 2
+for program in *.kahn; do
+  name=${program%.kahn}
+  "$explain" "$program" > "$work/output" 2> "$work/error" < /dev/null
+  told=$?
+  "$explain" "$program" --strict > "$work/other" 2>> "$work/error" < /dev/null
+  status=$?
+  if [ -s "$name.note" ]; then
+    tail -c "+$(($(stat -c %s "$name.note") + 1))" "$work/output" > "$work/rest"
+    wanted=1 && cp "$name.note" "$work/wanted"
+  else
+    wanted=$told && cp "$work/output" "$work/rest" && cp "$work/output" "$work/wanted"
+  fi
+  if [ "$told" != 1 ] && [ "$status" = "$wanted" ] && cmp -s "$work/other" "$work/wanted" && [ ! -s "$work/error" ] &&
+    cat "$name.note" "$work/rest" | cmp -s - "$work/output" && ! grep -q ': warning: ' "$work/rest"; then
+    pass
+  else
+    fail "warnings/$name: status $told and $status, $(head -c 600 "$work/output"), $(head -c 300 "$work/error")"
+  fi
+done
+cd "$top/checks/rows" || exit 2
+for program in */program.kahn; do "$explain" "$program" --bound 100 < /dev/null 2> /dev/null | grep ': warning: '; done > "$work/output"
+if cmp -s "$work/output" "$top/checks/warnings/rows.note"; then pass; else fail "warnings of the rows: $(head -c 600 "$work/output")"; fi
 cd "$work" || exit 2
+# examples with words put in the place of others: which parts have a fault, by a second reading
+if python3 "$top/fuzz/parts.py" "$explain" 600 > output 2>&1; then pass; else fail "parts: $(tail -n 5 output)"; fi
 { cat "$top/checks/mistakes/a-sign-for-becomes.kahn"; head -c 1000000 /dev/zero | tr '\0' ' '; } > long
 gives "a text of a million bytes" 1 'long:8:9: error: found `=`, where `:=` may stand
  8 |       I = wait(U);
-   |         ^' '' long
+   |         ^
+   = the one change here that makes the text a program: `:=` in its place' '' long
+# changes are looked for in texts of up to 8,192 lexemes
+statements=$(printf 'print 1;%.0s' $(seq 2725))
+echo "begin process p(); begin $statements I = 1 end; p() end;" > most
+"$explain" most > output
+if [ "$(tail -n 1 output)" = '   = the one change here that makes the text a program: `:=` in its place' ]; then pass; else fail "8,192 lexemes: $(tail -n 1 output)"; fi
+echo "begin process p(); begin $statements; I = 1 end; p() end;" > more
+"$explain" more > output
+if [ "$(wc -l < output)" = 3 ] && grep -q 'found `=`, where' output; then pass; else fail "8,193 lexemes: $(tail -n 1 output)"; fi
 head -c 1048577 /dev/zero | tr '\0' ' ' > long
 gives "a text that is too long" 1 '' 'kahn: program text is too long' long
 
@@ -143,5 +219,7 @@ if [ $? = 0 ] && grep -q 'for ever' output; then pass; else fail "the help"; fi
 if [ -e /dev/full ]; then
   "$explain" "$ring" > /dev/full 2> error < /dev/null
   if [ $? = 5 ] && grep -qx 'kahn: report could not be written' error; then pass; else fail "a full disk"; fi
+  "$explain" "$ring" --trace > /dev/full 2> error < /dev/null
+  if [ $? = 5 ] && [ "$(cat error)" = 'kahn: report could not be written' ]; then pass; else fail "a table on a full disk"; fi
 fi
 finish

@@ -8,7 +8,7 @@ _kahn() {
     kahn) options="--input --workers --quantum --bound --watch --help --version" ;;
     kahn_live) options="--workers --quantum --step --watch --keep-going --at-end --plain --help --version" ;;
     kahn_draw) options="--report --help --version" ;;
-    kahn_explain) options="--input --workers --quantum --bound --help --version" ;;
+    kahn_explain) options="--input --workers --quantum --bound --strict --trace --help --version" ;;
   esac
   mapfile -t COMPREPLY < <(compgen -W "$options" -- "$word")
 }

@@ -1,2 +1,4 @@
-mod Refused
+pub mod Noted
+pub mod Refused
 mod Told
+mod Traced_texts

@@ -1,20 +1,26 @@
 -- Notes on faults of a program text.
-use Rattle.std.proofs.Common.{◌≡◌, ℕ, List, Option, Some, None, refl, sym, subst, ap, ◌∙◌, string_bytes}
+use Rattle.std.proofs.Common.{◌≡◌, ℕ, List, [], ◌∷◌, Option, Some, None, Err, inr, refl, sym, subst, ap, ◌∙◌, string_bytes}
 use Rattle.std.specs.Prelude.{MatchOption, option_map}
 use Rattle.std.specs.declared.alloc.Global.{Global}
 use Rattle.std.specs.declared.string.String.{String}
 use Rattle.kahn_tree.specs.declared.span.Span.{Span}
 use Rattle.kahn_tree.specs.declared.tree.Program.{Program}
 use Rattle.kahn_check.specs.declared.fault.CheckFault.{CheckFault}
+use Rattle.kahn_check.specs.Faults.{verdict}
+use Rattle.kahn_check.specs.Order.{faults}
+use Rattle.kahn_check.specs.Parts.{faults_by_part}
 use Rattle.kahn_syntax.specs.declared.fault.What.{What}
 use Rattle.kahn_syntax.specs.declared.fault.SyntaxFault.{SyntaxFault}
 use Rattle.kahn_syntax.specs.declared.fault.SyntaxFault.TheVariants.{Expected}
-use Rattle.kahn_syntax.specs.Texts.{IsProgram, IsTextFault}
-use Rattle.kahn_fault.specs.Message.{check_span, check_words, syntax_span, syntax_words}
-use Rattle.kahn_hints.specs.Hints.{check_note}
+use Rattle.kahn_syntax.specs.Texts.{IsTextFault}
+use Rattle.kahn_fault.specs.Message.{syntax_span, syntax_words}
 use Rattle.kahn_marks.specs.Marks.{marked}
 use Rattle.kahn_notes.specs.Notes.{IsNote}
-use Rattle.kahn_explain.specs.Refusing.{IsCheckRefusal, IsSyntaxRefusal, expected_of}
+use Rattle.kahn_report.specs.Work.{IsParsed}
+use Rattle.kahn_report.specs.declared.working.WorkFault.TheVariants.{Check, Syntax}
+use Rattle.kahn_explain.specs.Explaining.{IsNoteOn}
+use Rattle.kahn_explain.specs.Noting.{faults_text}
+use Rattle.kahn_explain.specs.Refusing.{IsRefusal, IsSyntaxRefusal, expected_of}
 
 abbrev unwrapped : Span × What → Option (Span × What) → Span × What
 unwrapped d None = d
@@ -41,10 +47,16 @@ told_other path program words f place note e at said h =
     (λ p. (w : String Global) × (note ≡ Some w) × IsNote path program p.0 p.1 w)) (sym e)
     (h ∙ ap (λ l. option_map (λ s. marked path program s l) place) said ∙ ap (option_map (λ s. marked path program s (syntax_words f))) at)
 
--- what is said of a fault of the network
-pub told_network : (path program said : List ℕ) (f : CheckFault) (span : Span) (t : Program) (words : String Global) → check_span f ≡ Some span → said ≡ check_words f →
-    IsProgram program t → string_bytes words ≡ check_note path program t f span said → IsCheckRefusal path program f (Some words)
-told_network path program said f span t words at same spelled is =
-    subst (λ o. MatchOption o (Some words ≡ None) (λ s. (u : Program) × (w : String Global) × IsProgram program u × (Some words ≡ Some w) × (string_bytes w ≡ check_note path program u f s (check_words f))))
-    (sym at)
-    (t, words, spelled, refl, is ∙ ap (check_note path program t f span) same)
+-- what is said of the faults of the network
+pub told_faults : (path program : List ℕ) (t : Program) (fs : List CheckFault) (words : String Global) → IsParsed program t → (fs ≡ [] → ⊥) → fs ≡ faults_by_part t →
+    verdict (faults_by_part t) (tt {0}) ≡ verdict (faults t) (tt {0}) → string_bytes words ≡ faults_text path program t fs → IsNoteOn path program words
+told_faults path program t [] words parsed some told first is = absurd (some refl)
+told_faults path program t (g ∷ gs) words parsed some told first is =
+    let met : verdict (faults t) (tt {0}) ≡ Err g = sym first ∙ ap (λ z. verdict z (tt {0})) (sym told) in
+    (Check g, (t, parsed, inr met), (t, parsed, met, is ∙ ap (faults_text path program t) told))
+
+-- what is said of a fault of the text, as the note on it
+pub told_syntax : (path program : List ℕ) (f : SyntaxFault) (note : Option (String Global)) → IsTextFault program f → IsSyntaxRefusal path program f note →
+    MatchOption note (IsRefusal path program (Syntax f) None) (IsNoteOn path program)
+told_syntax path program f None fault h = h
+told_syntax path program f (Some words) fault h = (Syntax f, fault, h)

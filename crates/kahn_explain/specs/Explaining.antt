@@ -1,5 +1,5 @@
 -- Believed. What explaining does, from the bytes of the program text and of the input text to the bytes of the explanation.
-use Rattle.std.specs.Prelude.{◌≡◌, ◌⊎◌, ℕ, List, Option, Some, None, Result, Ok, Err, string_bytes}
+use Rattle.std.specs.Prelude.{◌≡◌, ◌⊎◌, ◌++◌, ℕ, Bool, true, List, [], Option, Some, None, Result, Ok, Err, string_bytes}
 use Rattle.std.specs.Io.KnownBytes.{Appends}
 use Rattle.kahn_config.specs.declared.Config.{Config}
 use Rattle.kahn_tree.specs.declared.tree.Program.{Program}
@@ -18,6 +18,7 @@ use Rattle.std.specs.declared.string.String.{String}
 use Rattle.kahn_explain.specs.Refusing.{IsRefusal}
 use Rattle.kahn_explain.specs.declared.explaining.Came.{Came}
 use Rattle.kahn_explain.specs.declared.explaining.Came.TheVariants.{Stopped, Refused}
+use Rattle.kahn_warnings.specs.Telling.{AreWarningNotes}
 use Rattle.kahn_why.specs.Words.{IsExplained}
 use Rattle.kahn_why.specs.declared.told.Explanation.{Explanation}
 use Rattle.kahn_why.specs.declared.told.Told.{Told}
@@ -36,21 +37,41 @@ IsExplanationOf program input config e =
 abbrev pub IsNoteOn : List ℕ → List ℕ → String Global → Type 0
 IsNoteOn path program note = (f : WorkFault) × IsUnchecked program f × IsRefusal path program f (Some note)
 
--- The explanation went out, or the note on a fault of the program text, or why neither: the first of the faults in this order,
--- after which nothing was written, or the writer's, after which a prefix was. A fault of the program text is answered where it
--- has no place.
-abbrev pub HasExplained : List ℕ → List ℕ → List ℕ → Config → Option (List ℕ) → Option (List ℕ) → Result Came WorkFault → Type 0
-HasExplained path program input config old new (Ok (Stopped x)) =
-    (e : Explanation) × IsExplanationOf program input config e × (e.told ≡ x) × Appends old new (string_bytes e.text)
-HasExplained path program input config old new (Ok Refused) = (note : String Global) × IsNoteOn path program note × Appends old new (string_bytes note)
-HasExplained path program input config old new (Err (Syntax f)) = IsUnchecked program (Syntax f) × IsRefusal path program (Syntax f) None × (new ≡ old)
-HasExplained path program input config old new (Err (Check f)) = IsUnchecked program (Check f) × IsRefusal path program (Check f) None × (new ≡ old)
-HasExplained path program input config old new (Err (Text f)) = ((t : Program) × IsChecked program t × IsTextFault t input f) × (new ≡ old)
-HasExplained path program input config old new (Err (Run f)) =
-    ((f ≡ NoMemory) ⊎ ((t : Program) × (lists : Lists) × IsChecked program t × StandsFor t input lists × IsUnrun t config f)) × (new ≡ old)
-HasExplained path program input config old new (Err (Write f)) =
-    ((e : Explanation) × IsExplanationOf program input config e × AppendsFront old new (string_bytes e.text))
-    ⊎ ((note : String Global) × IsNoteOn path program note × AppendsFront old new (string_bytes note))
+-- the notes on what is warned of in the program of this text
+abbrev pub AreNotesOn : List ℕ → List ℕ → List ℕ → Type 0
+AreNotesOn path program notes = (t : Program) × IsChecked program t × AreWarningNotes path program t notes
+
+-- and there are none where it is asked to be strict
+abbrev pub AreAllowed : List ℕ → List ℕ → Bool → List ℕ → Type 0
+AreAllowed path program strict notes = AreNotesOn path program notes × (strict ≡ true → notes ≡ [])
+
+-- the notes and the explanation
+abbrev pub IsToldOf : List ℕ → List ℕ → List ℕ → Config → Bool → Explanation → List ℕ → Type 0
+IsToldOf path program input config strict e text =
+    (notes : List ℕ) × AreAllowed path program strict notes × IsExplanationOf program input config e × (text ≡ notes ++ string_bytes e.text)
+
+-- why the program text is refused: the note on its fault, or the notes on what is warned of
+abbrev pub IsRefusedFor : List ℕ → List ℕ → Bool → List ℕ → Type 0
+IsRefusedFor path program strict text =
+    ((note : String Global) × IsNoteOn path program note × (text ≡ string_bytes note)) ⊎ ((strict ≡ true) × AreNotesOn path program text × ¬ (text ≡ []))
+
+-- The explanation went out, or why the program text is refused, or why neither: the first of the faults in this order, after which
+-- nothing was written, or the writer's, after which a prefix was. A fault of the program text is answered where it has no place.
+abbrev pub HasExplained : List ℕ → List ℕ → List ℕ → Config → Bool → Option (List ℕ) → Option (List ℕ) → Result Came WorkFault → Type 0
+HasExplained path program input config strict old new (Ok (Stopped x)) =
+    (e : Explanation) × (text : List ℕ) × IsToldOf path program input config strict e text × (e.told ≡ x) × Appends old new text
+HasExplained path program input config strict old new (Ok Refused) = (text : List ℕ) × IsRefusedFor path program strict text × Appends old new text
+HasExplained path program input config strict old new (Err (Syntax f)) =
+    IsUnchecked program (Syntax f) × IsRefusal path program (Syntax f) None × (new ≡ old)
+HasExplained path program input config strict old new (Err (Check f)) = IsUnchecked program (Check f) × IsRefusal path program (Check f) None × (new ≡ old)
+HasExplained path program input config strict old new (Err (Text f)) =
+    ((t : Program) × IsChecked program t × IsTextFault t input f) × ((notes : List ℕ) × AreAllowed path program strict notes) × (new ≡ old)
+HasExplained path program input config strict old new (Err (Run f)) =
+    ((f ≡ NoMemory)
+    ⊎ (((t : Program) × (lists : Lists) × IsChecked program t × StandsFor t input lists × IsUnrun t config f) × ((notes : List ℕ) × AreAllowed path program strict notes)))
+    × (new ≡ old)
+HasExplained path program input config strict old new (Err (Write f)) =
+    (text : List ℕ) × (((e : Explanation) × IsToldOf path program input config strict e text) ⊎ IsRefusedFor path program strict text) × AppendsFront old new text
 
 -- the status for how a run stopped
 abbrev pub told_status : Told → ℕ

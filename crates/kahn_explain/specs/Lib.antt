@@ -1,3 +1,5 @@
 pub mod Explaining
+pub mod Noting
 pub mod Refusing
+pub mod Tracing
 pub mod inner

@@ -1,20 +1,23 @@
 -- Believed. The note on why a program text is refused.
-use Rattle.std.specs.Prelude.{◌≡◌, ℕ, List, Option, Some, None, MatchOption, codes, option_map, string_bytes}
+use Rattle.std.specs.Prelude.{◌≡◌, ℕ, List, Option, Some, None, Err, MatchOption, codes, option_map, string_bytes}
 use Rattle.std.specs.declared.alloc.Global.{Global}
 use Rattle.std.specs.declared.string.String.{String}
 use Rattle.kahn_tree.specs.declared.span.Span.{Span}
 use Rattle.kahn_tree.specs.declared.tree.Program.{Program}
 use Rattle.kahn_check.specs.declared.fault.CheckFault.{CheckFault}
+use Rattle.kahn_check.specs.Faults.{verdict}
+use Rattle.kahn_check.specs.Order.{faults}
+use Rattle.kahn_check.specs.Parts.{faults_by_part}
 use Rattle.kahn_syntax.specs.declared.fault.What.{What}
 use Rattle.kahn_syntax.specs.declared.fault.SyntaxFault.{SyntaxFault}
 use Rattle.kahn_syntax.specs.declared.fault.SyntaxFault.TheVariants.{Expected}
 use Rattle.kahn_report.specs.declared.working.WorkFault.{WorkFault}
 use Rattle.kahn_report.specs.declared.working.WorkFault.TheVariants.{Syntax, Check, Text, Run, Write}
-use Rattle.kahn_syntax.specs.Texts.{IsProgram}
-use Rattle.kahn_fault.specs.Message.{check_span, check_words, syntax_span, syntax_words}
-use Rattle.kahn_hints.specs.Hints.{check_note}
+use Rattle.kahn_fault.specs.Message.{check_span, syntax_span, syntax_words}
 use Rattle.kahn_marks.specs.Marks.{marked}
 use Rattle.kahn_notes.specs.Notes.{IsNote}
+use Rattle.kahn_report.specs.Work.{IsParsed}
+use Rattle.kahn_explain.specs.Noting.{faults_text}
 
 -- the place and the reason, where a lexeme can't stand or the text ends too early
 abbrev pub expected_of : SyntaxFault → Option (Span × What)
@@ -27,10 +30,13 @@ IsSyntaxRefusal path program f note = MatchOption (expected_of f)
     (option_map string_bytes note ≡ option_map (λ span. marked path program span (syntax_words f)) (syntax_span f))
     (λ e. (words : String Global) × (note ≡ Some words) × IsNote path program e.0 e.1 words)
 
--- of a fault of the network it says what the program that the text spells has to do with it, where the fault has a place
+-- of a fault of the network: the text spells a program whose first fault it is, and the note tells the parts of that program
+abbrev pub IsNetworkNote : List ℕ → List ℕ → CheckFault → String Global → Type 0
+IsNetworkNote path program f words = (t : Program) × IsParsed program t × (verdict (faults t) (tt {0}) ≡ Err f) × (string_bytes words ≡ faults_text path program t (faults_by_part t))
+
+-- where it has a place
 abbrev pub IsCheckRefusal : List ℕ → List ℕ → CheckFault → Option (String Global) → Type 0
-IsCheckRefusal path program f note = MatchOption (check_span f) (note ≡ None)
-    (λ span. (t : Program) × (words : String Global) × IsProgram program t × (note ≡ Some words) × (string_bytes words ≡ check_note path program t f span (check_words f)))
+IsCheckRefusal path program f note = MatchOption note (check_span f ≡ None) (IsNetworkNote path program f)
 
 -- the note on a fault, where it has a place
 abbrev pub IsRefusal : List ℕ → List ℕ → WorkFault → Option (String Global) → Type 0

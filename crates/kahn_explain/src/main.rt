@@ -1,10 +1,12 @@
-//! Runs a network of processes and channels, and explains why the run stopped, or what is wrong with the program text.
+//! Runs a network of processes and channels, and explains why the run stopped, or what is wrong with the program text; or writes
+//! all that its channels carried.
 #![tactic(auto)]
 
 mod explaining;
+mod noting;
 mod refusing;
 
-use explaining::{Came, explain, status};
+use explaining::{Came, explain, status, trace};
 use kahn_fault::Fault;
 use kahn_line::{ExplainOptions, read_explain_line, tell_line, tell_no_memory, tell_words};
 use kahn_pool::Config;
@@ -23,11 +25,41 @@ fn explain_texts<R: Runtime + AllocGlobal + Threads + Wait + Sync>(
     path: &str,
     texts: &Texts,
     config: Config,
+    strict: bool,
 ) -> Result<Came, Fault> {
     let program = texts.program.as_str();
     let input = texts.input.as_str();
     let writer = &mut io::writer(rt);
-    match explain(rt, rt.alloc(), path, program, input, config, writer) {
+    match explain(rt, rt.alloc(), path, program, input, config, strict, writer) {
+        Ok(came) => Ok(came),
+        Err(fault) => Err(Fault::Work(fault)),
+    }
+}
+
+/// Runs the program on the input, and writes what its channels carried on standard output; and to the writer what is warned of in
+/// it and why the run stopped, or why there is none.
+fn trace_texts<R: Runtime + AllocGlobal + Threads + Wait + Sync, W: Write>(
+    rt: &R,
+    path: &str,
+    texts: &Texts,
+    config: Config,
+    strict: bool,
+    writer: &mut W,
+) -> Result<Came, Fault> {
+    let program = texts.program.as_str();
+    let input = texts.input.as_str();
+    let table = &mut io::writer(rt);
+    match trace(
+        rt,
+        rt.alloc(),
+        path,
+        program,
+        input,
+        config,
+        strict,
+        table,
+        writer,
+    ) {
         Ok(came) => Ok(came),
         Err(fault) => Err(Fault::Work(fault)),
     }
@@ -41,10 +73,17 @@ fn answered<R: Runtime + AllocGlobal + Threads + Wait + Sync, W: Write>(
     writer: &mut W,
 ) -> u8 {
     match read_texts(rt, options.program, options.input) {
-        Ok(texts) => match explain_texts(rt, path, &texts, options.config) {
-            Ok(came) => status(came),
-            Err(fault) => tell(&Err(fault), texts.program.as_str(), writer).status,
-        },
+        Ok(texts) => {
+            let came = if options.trace {
+                trace_texts(rt, path, &texts, options.config, options.strict, writer)
+            } else {
+                explain_texts(rt, path, &texts, options.config, options.strict)
+            };
+            match came {
+                Ok(came) => status(came),
+                Err(fault) => tell(&Err(fault), texts.program.as_str(), writer).status,
+            }
+        }
         Err(fault) => tell(&Err(fault), "", writer).status,
     }
 }

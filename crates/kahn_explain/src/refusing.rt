@@ -1,14 +1,16 @@
 //! Why a program text is refused, as a note on the place.
 
-ghost use Rattle.std.specs.Prelude.{◌≡◌, IfOk, option_map, string_bytes};
+ghost use Rattle.std.specs.Prelude.{◌≡◌, IfOk, MatchOption, None, option_map, string_bytes};
 ghost use Rattle.kahn_marks.specs.Marks.{marked};
 ghost use Rattle.kahn_report.specs.Work.{IsUnchecked};
 ghost use Rattle.kahn_syntax.specs.Texts.{IsTextFault as IsSyntaxFault};
-ghost use Rattle.kahn_explain.specs.Refusing.{IsCheckRefusal, IsRefusal, IsSyntaxRefusal, expected_of, path_name};
+ghost use Rattle.kahn_fault.specs.Message.{check_span};
+ghost use Rattle.kahn_explain.specs.Explaining.{IsNoteOn};
+ghost use Rattle.kahn_explain.specs.Refusing.{IsRefusal, IsSyntaxRefusal, expected_of, path_name};
 
-use kahn_check::CheckFault;
-use kahn_fault::{check_span, check_words, syntax_span, syntax_words};
-use kahn_hints::check_note;
+use crate::noting::faults_note;
+use kahn_check::{CheckFault, every, part_by_part};
+use kahn_fault::{check_span, syntax_span, syntax_words};
 use kahn_marks::marked;
 use kahn_notes::unexpected_note;
 use kahn_report::WorkFault;
@@ -74,30 +76,35 @@ fn syntax_note(
     }
 }
 
-/// The note on a fault of the network of a program text, where it has a place.
+/// The notes on what is wrong with the network of a program text, where its first fault has a place.
 fn network_note(
     alloc: Global,
     path: &str,
     program: &str,
     fault: CheckFault,
 ) -> Result<Option<String>, NoMemory>
-    ensures { IfOk result (IsCheckRefusal path.now program.now fault) }
+    ensures { IfOk result (λ note. MatchOption note (check_span fault ≡ None) (IsNoteOn path.now program.now)) }
 {
-    let Some(span) = check_span(fault) else {
+    if check_span(fault).is_none() {
         return Ok(None);
-    };
-    // A text that was checked is refused for want of memory alone.
+    }
+    // A text that was checked is refused for want of memory alone, and what it spells has a fault.
     let Ok(tree) = parse(alloc, program) else {
         return Err(NoMemory);
     };
-    let words = check_words(fault);
-    let note = check_note(alloc, path, program, &tree, fault, span, words)?;
+    let faults = every(alloc, &tree)?;
+    if faults.is_empty() {
+        return Err(NoMemory);
+    }
+    part_by_part();
+    let note = faults_note(alloc, path, program, &tree, &faults)?;
     Ok(Some(note))
 }
 
 /// The note on a fault of a program text, where it has a place: what stands there and what may stand there, or the words of
-/// the fault with what is wanted and what is found, the nearest name, and another place that has to do with it. It refuses
-/// only where memory was refused.
+/// the fault with what is wanted and what is found, the nearest name, and another place that has to do with it. Of a network each
+/// part that has a fault is told. It refuses only where memory was refused.
+#[tactic(auto, using(crate::proofs::Refused::told_syntax))]
 pub(crate) fn refusal_note(
     alloc: Global,
     path: &str,
@@ -105,7 +112,7 @@ pub(crate) fn refusal_note(
     fault: WorkFault,
 ) -> Result<Option<String>, NoMemory>
     requires { IsUnchecked program.now fault }
-    ensures { IfOk result (IsRefusal path.now program.now fault) }
+    ensures { IfOk result (λ note. MatchOption note (IsRefusal path.now program.now fault None) (IsNoteOn path.now program.now)) }
 {
     match fault {
         WorkFault::Syntax(fault) => syntax_note(alloc, path, program, fault),

@@ -1,10 +1,10 @@
 -- What a parse of the words gives the options of the program that explains.
-use Rattle.std.proofs.Common.{◌≡◌, ◌∙◌, List, refl, ap, arith, codes}
+use Rattle.std.proofs.Common.{◌≡◌, ◌∙◌, not, ◌==◌, List, refl, ap, arith, codes}
 use Rattle.std.specs.Prelude.{option_map, string_bytes}
 use Rattle.clap.specs.Built.{IsParsedFrom}
 use Rattle.clap.specs.Matches.{found_of, first_value, one_text}
 use Rattle.clap.specs.Simple.{App, HasMatchesOf, app_of, is_simple, matches_of}
-use Rattle.clap.specs.Walk.{Text, first_of, one_of, rows_of}
+use Rattle.clap.specs.Walk.{Text, count_of, first_of, one_of, rows_of}
 use Rattle.clap.specs.declared.builder.command.Command.{Command}
 use Rattle.clap.specs.declared.builder.value_parser.ValueParser.TheVariants.{Unsigned}
 use Rattle.clap.specs.declared.parser.matches.ArgMatches.{ArgMatches}
@@ -15,20 +15,22 @@ use Rattle.kahn_line.specs.declared.explain.ExplainOptions.{ExplainOptions}
 use Rattle.kahn_line.proofs.Asked.{ParsedAs, apart, known, passed}
 
 workers_parsed : ParsedAs explain_app.top.rules (codes "workers") (Unsigned 1 16)
-workers_parsed = (apart, (apart, ((λ e. refl), (apart, (apart, tt)))))
+workers_parsed = (apart, (apart, ((λ e. refl), (apart, (apart, (apart, (apart, tt)))))))
 
 quantum_parsed : ParsedAs explain_app.top.rules (codes "quantum") (Unsigned 1 1000000)
-quantum_parsed = (apart, (apart, (apart, ((λ e. refl), (apart, tt)))))
+quantum_parsed = (apart, (apart, (apart, ((λ e. refl), (apart, (apart, (apart, tt)))))))
 
 bound_parsed : ParsedAs explain_app.top.rules (codes "bound") (Unsigned 0 281474976710655)
-bound_parsed = (apart, (apart, (apart, (apart, ((λ e. refl), tt)))))
+bound_parsed = (apart, (apart, (apart, (apart, ((λ e. refl), (apart, (apart, tt)))))))
 
 -- the options that are made of what a parse found are those that the words ask for
 pub asked_explain : (cmd : Command) (m : ArgMatches) (words : List Text) → IsParsedFrom cmd m → HasMatchesOf (app_of cmd) words m → app_of cmd ≡ explain_app
     → (o : ExplainOptions) → option_map string_bytes o.program ≡ first_value (found_of m) (codes "PROGRAM")
     → option_map string_bytes o.input ≡ first_value (found_of m) (codes "input") → IsSet (found_of m) 4 (codes "bound") o.config
+    → o.strict ≡ not (count_of (codes "strict") (rows_of (found_of m)) == 0)
+    → o.trace ≡ not (count_of (codes "trace") (rows_of (found_of m)) == 0)
     → IsExplain words o
-asked_explain cmd m words p matches is o program input set =
+asked_explain cmd m words p matches is o program input set strict trace =
     let f = found_of m in
     let rows : rows_of f ≡ matches_of explain_app words = (matches (ap is_simple is)).0 ∙ ap (λ (a : App). matches_of a words) is in
     let text : (id : Text) → first_value f id ≡ explain_text words id = λ id. first_value-rows f id ∙ ap (first_of id) rows in
@@ -47,5 +49,7 @@ asked_explain cmd m words p matches is o program input set =
       workers = workers.0 ∙ ap (number_or 4) (one (codes "workers"));
       quantum = quantum.0 ∙ ap (number_or 1000) (one (codes "quantum"));
       bound = bound.0 ∙ ap (number_or 1000000) (one (codes "bound"));
+      strict = strict ∙ ap (λ rs. not (count_of (codes "strict") rs == 0)) rows;
+      trace = trace ∙ ap (λ rs. not (count_of (codes "trace") rs == 0)) rows;
       in_range = (workers.1, workers.2, quantum.1, quantum.2, omega arith);
     }

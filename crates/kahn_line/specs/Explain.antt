@@ -1,22 +1,33 @@
 -- Believed. What the words of the command line of the program that explains ask for.
-use Rattle.std.specs.Prelude.{◌≡◌, ⊤, ℕ, List, [], Option, Result, codes, option_map, string_bytes}
+use Rattle.std.specs.Prelude.{◌≡◌, ⊤, ℕ, List, [], Bool, not, ◌==◌, Some, Option, Result, codes, option_map, string_bytes}
 use Rattle.std.specs.declared.result.Result.TheVariants.{Ok, Err}
-use Rattle.clap.specs.Words.{App, Text, IsAmong, fault_of, first_of, kind_of, matches_of, new_rule, one_of, with_rule}
+use Rattle.clap.specs.Words.{App, Rule, Text, IsAmong, count_of, fault_of, first_of, kind_of, matches_of, new_rule, one_of, with_rule}
+use Rattle.clap.specs.declared.builder.ArgAction.TheVariants.{Count}
 use Rattle.kahn_config.specs.Limits.{IsInRange}
 use Rattle.kahn_line.specs.Line.{bare_app, number_or, number_rule, text_rule}
 use Rattle.kahn_line.specs.declared.line.LineFault.{LineFault}
 use Rattle.kahn_line.specs.declared.line.LineFault.TheVariants.{Refused, NoMemory}
 use Rattle.kahn_line.specs.declared.explain.ExplainOptions.{ExplainOptions}
 
+-- the option by which a program with a warning is refused, without a text
+abbrev pub strict_rule : Rule
+strict_rule = record (new_rule (codes "strict")) { long = Some (codes "strict"); action = Some Count }
+
+-- the option for a table of all histories, without a text
+abbrev pub trace_rule : Rule
+trace_rule = record (new_rule (codes "trace")) { long = Some (codes "trace"); action = Some Count }
+
 -- the program text's path without a name, and the options
 abbrev pub explain_app : App
 explain_app =
-    with_rule (with_rule (with_rule (with_rule (with_rule (bare_app (codes "kahn_explain"))
+    with_rule (with_rule (with_rule (with_rule (with_rule (with_rule (with_rule (bare_app (codes "kahn_explain"))
     (new_rule (codes "PROGRAM")))
     (text_rule (codes "input")))
     (number_rule (codes "workers") 1 16 (codes "4")))
     (number_rule (codes "quantum") 1 1000000 (codes "1000")))
-    (number_rule (codes "bound") 0 281474976710655 (codes "1000000"))
+    (number_rule (codes "bound") 0 281474976710655 (codes "1000000")))
+    strict_rule)
+    trace_rule
 
 -- the text that the words give for a name
 abbrev pub explain_text : List Text → Text → Option Text
@@ -26,6 +37,10 @@ explain_text words name = first_of name (matches_of explain_app words)
 abbrev pub explain_number : List Text → Text → ℕ → ℕ
 explain_number words name other = number_or other (one_of name (matches_of explain_app words))
 
+-- whether the words give a name
+abbrev pub explain_flag : List Text → Text → Bool
+explain_flag words name = not (count_of name (matches_of explain_app words) == 0)
+
 -- the options are those that the words name, and its numbers are within their limits; no option has the name `watch`
 pub record IsExplain (words : List Text) (o : ExplainOptions) : Type 0 where
   pub program : option_map string_bytes o.program ≡ explain_text words (codes "PROGRAM")
@@ -34,6 +49,8 @@ pub record IsExplain (words : List Text) (o : ExplainOptions) : Type 0 where
   pub workers : o.config.workers ≡ explain_number words (codes "workers") 4
   pub quantum : o.config.quantum ≡ explain_number words (codes "quantum") 1000
   pub bound : o.config.bound ≡ explain_number words (codes "bound") 1000000
+  pub strict : o.strict ≡ explain_flag words (codes "strict")
+  pub trace : o.trace ≡ explain_flag words (codes "trace")
   pub in_range : IsInRange o.config.workers o.config.quantum o.config.bound
 
 -- what the words ask for; or what is at fault in them, and `--help` and `--version` are such faults; or want of memory

@@ -1,13 +1,13 @@
 //! The command line of the program that explains why a run stopped.
 
-ghost use Rattle.std.specs.Prelude.{◌≡◌, IfOk, map};
-ghost use Rattle.clap.specs.Words.{app_of};
-ghost use Rattle.kahn_line.specs.Explain.{explain_app, IsExplainRead};
+ghost use Rattle.std.specs.Prelude.{◌≡◌, IfOk, false, map};
+ghost use Rattle.clap.specs.Words.{app_of, rule_of};
+ghost use Rattle.kahn_line.specs.Explain.{explain_app, strict_rule, trace_rule, IsExplainRead};
 
 use crate::line::{
     LineFault, bare, config_of, copied, number_arg, quantum_arg, text_arg, workers_arg,
 };
-use clap::{Arg, Command};
+use clap::{Arg, ArgAction, Command};
 use kahn_config::Config;
 use std::alloc::{AllocError, Global};
 use std::convert::AsStr;
@@ -31,9 +31,24 @@ What is for ever stays so whatever is added to the input, and however long the r
 Of a program text that is refused the place is told, with its source line and a caret line below it. Where a part can't
 stand there, so is all that may stand in its place.
 
+What is allowed and seldom meant is told before the explanation, as a warning: a comment that goes on over statements, a
+name that is never read, a process without an instance, a loop that does nothing, a statement that is never reached. With
+`--strict` a program with a warning isn't run.
+
+With `--trace` all that the channels carried is written in place of the explanation, as a table in CSV: a column for each
+channel and each process that prints, and a row for each place. That takes one run more for each channel that is no output.
+Warnings and the explanation go to standard error then, the explanation only where the status isn't 0; of a run that was
+stopped the columns are beginnings. With a program that doubles what comes on A, and the input `A: 1 2`:
+
+  kahn_explain double.kahn --input data.txt --trace
+
+  place,A,B
+  1,1,2
+  2,2,4
+
 Exit status:
   0  the run finished, without a deadlock and without a fault
-  1  program or input refused
+  1  program or input refused, with `--strict` for a warning too
   2  command line refused
   3  the run was stopped by the bound
   4  no memory
@@ -51,6 +66,32 @@ pub struct ExplainOptions {
     pub input: Option<String>,
     /// How the run is set up. No channel is watched.
     pub config: Config,
+    /// Whether a program with a warning is refused.
+    pub strict: bool,
+    /// Whether a table of all histories is written.
+    pub trace: bool,
+}
+
+/// The option by which a program with a warning is refused.
+fn strict_arg<'a>(alloc: Global) -> Arg<'a>
+    ensures rule { rule_of result ≡ strict_rule }
+    ensures local { result.global ≡ false }
+{
+    Arg::new(alloc, "strict")
+        .long("strict")
+        .action(ArgAction::Count)
+        .help("Refuses a program with a warning")
+}
+
+/// The option for a table of all histories.
+fn trace_arg<'a>(alloc: Global) -> Arg<'a>
+    ensures rule { rule_of result ≡ trace_rule }
+    ensures local { result.global ≡ false }
+{
+    Arg::new(alloc, "trace")
+        .long("trace")
+        .action(ArgAction::Count)
+        .help("Writes all that the channels carried, as a table in CSV")
 }
 
 /// The rules of the command line.
@@ -79,7 +120,9 @@ fn explain_command<'a>(alloc: Global) -> Result<Command<'a>, AllocError>
         .arg(input)?
         .arg(workers_arg(alloc, "4"))?
         .arg(quantum_arg(alloc))?
-        .arg(bound)
+        .arg(bound)?
+        .arg(strict_arg(alloc))?
+        .arg(trace_arg(alloc))
 }
 
 /// Reads the words of a command line, the first of which is the name of the program. It refuses with `Refused` where
@@ -95,5 +138,7 @@ pub fn read_explain_line<'a, S: AsStr>(
         program: copied(alloc, matches.get_str("PROGRAM"))?,
         input: copied(alloc, matches.get_str("input"))?,
         config: config_of(alloc, &matches, 4, "bound")?,
+        strict: matches.get_count("strict") != 0,
+        trace: matches.get_count("trace") != 0,
     })
 }

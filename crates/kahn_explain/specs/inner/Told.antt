@@ -22,3 +22,13 @@ HasRefused path program old new (Err (Check f)) = IsUnchecked program (Check f) 
 HasRefused path program old new (Err (Text f)) = ⊥
 HasRefused path program old new (Err (Run f)) = (f ≡ NoMemory) × (new ≡ old)
 HasRefused path program old new (Err (Write f)) = (note : String Global) × IsNoteOn path program note × AppendsFront old new (string_bytes note)
+
+-- the notes on what is warned of went out, or why not
+abbrev pub HasWarned : List ℕ → Option (List ℕ) → Option (List ℕ) → Result Came WorkFault → Type 0
+HasWarned notes old new (Ok (Stopped x)) = ⊥
+HasWarned notes old new (Ok Refused) = Appends old new notes
+HasWarned notes old new (Err (Syntax f)) = ⊥
+HasWarned notes old new (Err (Check f)) = ⊥
+HasWarned notes old new (Err (Text f)) = ⊥
+HasWarned notes old new (Err (Run f)) = ⊥
+HasWarned notes old new (Err (Write f)) = AppendsFront old new notes

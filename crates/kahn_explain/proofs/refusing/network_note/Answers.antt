@@ -1,8 +1,14 @@
-use Rattle.std.proofs.Common.{sym}
-use Rattle.kahn_explain.proofs.Refused.{told_network}
+use Rattle.std.proofs.Common.{◌≡◌, ◌==◌, ◌∙◌, [], ap, length, true}
+use Rattle.kahn_explain.proofs.Refused.{told_faults}
 use Rattle.kahn_explain.proofs.refusing.network_note.Goals as goal
 
 pub returns : goal.returns
 returns c =
-    told_network c.args.path.now c.args.program.now c.check_words-words.result.now c.args.fault c.in-Some.span c.in-Ok.tree c.in_ok-note.note
-    (sym c.in-Some.ensures) c.check_words-words.ensures c.in-Ok.ensures.spells c.in_ok-note.ensures
+    let path = c.args.path.now in
+    let program = c.args.program.now in
+    let tree = c.in-Ok.tree in
+    let faults = c.in_ok-faults.faults.items in
+    let some : faults ≡ [] → ⊥ =
+    (λ e. let none : c.is_empty.result ≡ true = c.is_empty.ensures ∙ ap (λ n. n == 0) (c.in_ok-faults.faults.ok.0 ∙ ap length e) in cc (none, c.if-is_empty.false)) in
+    told_faults path program tree faults c.in_ok-note.note (c.in-Ok.ensures.spells, c.in-Ok.ensures.nesting) some c.in_ok-faults.ensures (c.part_by_part.ensures.first tree)
+    (rw c.deref.ensures.value at c.in_ok-note.ensures)
