@@ -115,7 +115,7 @@ def try_fields(page, path, tried):
     page.value("void (at('example').value = 'filter', at('example').onchange())")
     page.wait(settled)
     tried.same("an example", page.value("at('report').textContent"), open(f"{TOP}/examples/filter.report", encoding="utf-8").read())
-    tried.same("its picture", page.value("[...document.querySelectorAll('#picture g text')].map((it) => it.textContent)[1]"), "3")
+    tried.same("its picture", page.value("[...document.querySelectorAll('#picture g text')].map((it) => it.textContent)[1]"), "DIVISOR=3")
     fill(page, FAULTY)
     page.value("at('run').click()")
     page.wait(settled)

@@ -3,18 +3,28 @@
 
 const CHARACTER = 7.3, LINE = 16, GAP = 18;
 
+// The class by which the page draws what Graphviz fills with a colour.
+const FILLED = { lightgrey: "ended", salmon: "fault", palegreen: "more" };
+
+// What stands behind the label of a line, by its names.
+function attributes(text) {
+  return Object.fromEntries([...text.matchAll(/, (\w+)=(?:"([^"]*)"|(\w+))/g)].map(([, name, quoted, bare]) => [name, quoted ?? bare]));
+}
+
 // The nodes and edges of the text. An edge of a node with itself is a loop.
 function readPicture(text) {
   const nodes = new Map(), edges = [];
   for (const line of text.split("\n")) {
     const found = /^ {2}(\w+)(?: -> (\w+))? \[label="([^"]*)"(.*)\];$/.exec(line);
     if (!found) continue;
-    const lines = found[3].split("\\n");
-    if (found[2]) edges.push({ from: nodes.get(found[1]), to: nodes.get(found[2]), lines, isDashed: found[4].includes("dashed") });
-    else {
-      const isPlain = found[4].includes("plaintext");
-      const width = CHARACTER * Math.max(...lines.map((it) => it.length)) + 14;
-      nodes.set(found[1], { lines, isPlain, isDouble: found[4].includes("peripheries"), width, height: LINE * lines.length + 12, out: [], into: [] });
+    const lines = found[3].split("\\n"), more = attributes(found[4]), isRing = more.color === "red";
+    if (found[2]) {
+      const ends = [["from", more.taillabel], ["to", more.headlabel]].flatMap(([word, name]) => (name ? `${word} ${name}` : []));
+      edges.push({ from: nodes.get(found[1]), to: nodes.get(found[2]), lines, isRing, isDashed: more.style === "dashed", tip: ends.join(" ") });
+    } else {
+      const isPlain = more.shape === "plaintext", isDouble = "peripheries" in more;
+      const width = CHARACTER * Math.max(...lines.map((it) => it.length)) + 14, height = LINE * lines.length + 12;
+      nodes.set(found[1], { lines, isPlain, isDouble, isRing, width, height, kind: FILLED[more.fillcolor] ?? "node", tip: more.tooltip, out: [], into: [] });
     }
   }
   return { nodes: [...nodes.values()], edges };
@@ -130,12 +140,20 @@ function written(lines, x, y) {
   return lines.map((line, i) => element("text", { x, y: y + LINE * (i - (lines.length - 1) / 2) + 4 }, line));
 }
 
+// What the pointer is told over a box or an arrow.
+function told({ tip }) {
+  return tip ? [element("title", {}, tip)] : [];
+}
+
+function classOf({ isDashed, isRing }) {
+  return `${isDashed ? "dashed" : "solid"}${isRing ? " ring" : ""}`;
+}
+
 function box(node) {
   const { x, y, width, height } = node;
   const frame = (more) => element("rect", { x: x - width / 2 - more, y: y - height / 2 - more, width: width + 2 * more, height: height + 2 * more, rx: 3 });
   const frames = node.isPlain ? [] : node.isDouble ? [frame(3), frame(0)] : [frame(0)];
-  const kind = node.lines.some((it) => it.startsWith("fault ")) ? "fault" : "node";
-  return element("g", { class: kind }, ...frames, ...written(node.lines, x, y));
+  return element("g", { class: node.isRing ? `${node.kind} ring` : node.kind }, ...told(node), ...frames, ...written(node.lines, x, y));
 }
 
 function arrow(edge) {
@@ -147,15 +165,15 @@ function arrow(edge) {
     return `C${middle} ${fromY} ${middle} ${y} ${x} ${y}`;
   });
   const end = edge.isBack ? "marker-start" : "marker-end";
-  const line = element("path", { d: `M${points[0]}${curve.join("")}`, [end]: "url(#head)", class: edge.isDashed ? "dashed" : "solid" });
+  const line = element("path", { d: `M${points[0]}${curve.join("")}`, [end]: "url(#head)", class: classOf(edge) }, ...told(edge));
   return [line, ...written(edge.lines, (points[0][0] + points[1][0]) / 2, (points[0][1] + points[1][1]) / 2)];
 }
 
-function loop({ from, lines, isDashed }) {
-  const { x, y, width, height } = from, top = y - height / 2;
+function loop(edge) {
+  const { x, y, width, height } = edge.from, top = y - height / 2;
   const d = `M${x + width / 4} ${top}C${x + width / 3} ${top - 34} ${x - width / 3} ${top - 34} ${x - width / 4} ${top}`;
-  const line = element("path", { d, "marker-end": "url(#head)", class: isDashed ? "dashed" : "solid" });
-  return [line, ...written(lines, x, top - 26)];
+  const line = element("path", { d, "marker-end": "url(#head)", class: classOf(edge) }, ...told(edge));
+  return [line, ...written(edge.lines, x, top - 26)];
 }
 
 // What the text shows, as an element, or none where the text shows nothing.

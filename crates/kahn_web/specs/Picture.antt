@@ -8,7 +8,7 @@ use Rattle.kahn_web.specs.Page.{IsPut}
 
 -- a picture of the network of the text, with what the report says of it
 abbrev pub IsNetworkPicture : List ℕ → List ℕ → List ℕ → Type 0
-IsNetworkPicture program report picture = (t : Program) × IsChecked program t × IsPicture t (lines report) picture
+IsNetworkPicture program report picture = (t : Program) × IsChecked program t × IsPicture t program (lines report) picture
 
 -- there is no picture, or one that was put into the room
 abbrev pub IsDrawnInto : List ℕ → List ℕ → List ℕ → List ℕ → ℕ → Type 0

@@ -21,7 +21,7 @@ pub fn drawn(alloc: Global, program: &[u8], report: &[u8]) -> Option<String>
     let Ok(network) = checked(alloc, program) else {
         return None;
     };
-    match picture_text(alloc, &network, report) {
+    match picture_text(alloc, &network, program, report) {
         Ok(picture) => Some(picture),
         Err(_) => None,
     }

@@ -9,5 +9,6 @@ returns-in-Ok-picture_text c =
     let network = c.in-Ok-checked.network in (
       network,
       subst (λ text. IsChecked text network) c.in-Ok.ensures.cases.0 c.in-Ok-checked.ensures,
-      subst (λ text. IsPicture network (lines text) (string_bytes c.in-Ok-picture_text.picture)) c.in-Ok-from_utf8.ensures.cases.0 c.in-Ok-picture_text.ensures,
+      subst (λ source. IsPicture network source (lines c.args.report.now) (string_bytes c.in-Ok-picture_text.picture)) c.in-Ok.ensures.cases.0
+          (subst (λ text. IsPicture network c.in-Ok.program.now (lines text) (string_bytes c.in-Ok-picture_text.picture)) c.in-Ok-from_utf8.ensures.cases.0 c.in-Ok-picture_text.ensures),
     )
