@@ -119,6 +119,27 @@ def names_twice():
             yield f"{name}: {', '.join(where)}"
 
 
+def unfit_edits():
+    """Must-fail edits that can't be applied: each text is one line, and what is old stands in its file exactly once."""
+    for path in sorted(glob.glob(f"{TOP}/crates/*/must-fail/*.edit") + glob.glob(f"{TOP}/checks/edits/*/*.edit")):
+        name = os.path.relpath(path, TOP)
+        crate = f"{TOP}/crates/{name.split('/')[1 if name.startswith('crates/') else 2]}"
+        file, old, texts = "", "", {}
+        for line in read(path).splitlines():
+            word, _, rest = line.partition(":")
+            rest = rest.removeprefix(" ")
+            if word == "file":
+                file = rest
+                texts.setdefault(file, read(f"{crate}/{file}"))
+            elif word == "old" and texts[file].count(rest) == 1:
+                old = rest
+            elif word == "new" and old:
+                texts[file] = texts[file].replace(old, rest)
+                old = ""
+            else:
+                yield f"{name}: {line}"
+
+
 PARTS = {
     "clauses over 160 characters": long_clauses,
     "names of specs that are defined more than once": names_twice,
@@ -126,6 +147,7 @@ PARTS = {
     "files over 500 lines": long_files,
     "sources and definitions without a head": without_head,
     "public items without words": without_words,
+    "must-fail edits that can't be applied": unfit_edits,
 }
 
 
