@@ -24,7 +24,7 @@ in_root() {
 try_manual() {
   local folder="$work/root/usr/share/man"
   if command -v man > /dev/null; then
-    same "the manual page of $1" "$(LC_ALL=C MANPATH="$folder" MANWIDTH=80 man --warnings "$1" 2>&1 | grep -c "^NAME\|^ *$1 - \|^OPTIONS\|warning:")" 3
+    same "the manual page of $1" "$(LC_ALL=C MANPATH="$folder" MANWIDTH=80 man --warnings "$1" 2>&1 | grep -c "^NAME\|^ *$1 - \|^OPTIONS\|: warning:")" 3
   else
     same "the manual page of $1" "$(zcat "$folder/man1/$1.1.gz" | head -c 4)" '.\" '
   fi

@@ -66,6 +66,7 @@ try_programs() {
   part "growths of memory that are refused" bash checks/memory.sh
   part "machine instructions of the workloads" timeout 300 python3 bench/counts.py "$KAHN"
   part "random programs" python3 fuzz/fuzz.py "$KAHN" 300
+  part "changes that mend random texts" timeout 300 python3 fuzz/mends.py "$KAHN_EXPLAIN" 200
   if [ -x "${KAHN_CROWD:-}" ]; then
     part "rows, by workers that begin at once" bash checks/rows.sh "$KAHN_CROWD"
     part "random programs, by workers that begin at once" python3 fuzz/fuzz.py "$KAHN_CROWD" 300
