@@ -8,6 +8,7 @@ Each file of specs/ says in its first line which it is, and stands accordingly:
 - `-- Inner. ..`: none is, and only proofs and clauses below the surface read it; it stands in `specs/inner/`.
 
 The reading list of docs/meaning.md has just the files that the clauses of `kahn_report::work` reach, and names definitions that they reach.
+What docs/reading.md shows stands so in one of the files that it names: the lines of each block, in their order.
 
 With `--files CRATE::ITEM ..` it only tells how many lines of definitions of each file those items reach, or all public ones.
 """
@@ -181,6 +182,20 @@ def differences(house, public):
             yield f"{module}: the reading list names what the clauses of work don't reach there"
 
 
+def shown():
+    """The blocks of docs/reading.md, and those that stand in no file that it names: two lists of blocks."""
+    page = read(f"{TOP}/docs/reading.md")
+    texts = [read(f"{TOP}/{path}").split("\n") for path in set(re.findall(r"crates/[\w/]+\.(?:antt|rt)", page))]
+    blocks = [block.split("\n") for block in re.findall(r"(?m)(?:^ {4}.*\n)+", page)]
+    blocks = [[line[4:] for line in block if line] for block in blocks]
+
+    def stands(block, lines):
+        rest = iter(lines)
+        return all(line in rest for line in block)
+
+    return blocks, [block for block in blocks if not any(stands(block, lines) for lines in texts)]
+
+
 def main():
     house = House()
     crates = sorted(os.path.basename(os.path.dirname(path)) for path in glob.glob(f"{TOP}/crates/*/src"))
@@ -191,8 +206,10 @@ def main():
             print(f"{sum(len(held[name]) for at, name in seen if at == module):4} of {sum(map(len, held.values())):4} {module}")
         return 0
     wrong = list(differences(house, public))
+    blocks, strange = shown()
+    wrong += [f"docs/reading.md: this stands in no file that the page names: {block[0]}" for block in strange]
     print(*(f"FAILED {line}" for line in wrong), sep="\n", end="\n" if wrong else "")
-    print(f"{len(house.heads) + len(listed()) - len(wrong)} passed, {len(wrong)} failed")
+    print(f"{len(house.heads) + len(listed()) + len(blocks) - len(wrong)} passed, {len(wrong)} failed")
     return 1 if wrong or not listed() else 0
 
 
