@@ -1,6 +1,6 @@
 //! Several that work at the same time.
 
-ghost use Rattle.std.specs.Prelude.{◌≡◌, ℕ, ◌<◌, true, length, All, slice_index_or};
+ghost use Rattle.std.specs.Prelude.{◌≡◌, ℕ, ◌<◌, ◌≤◌, true, false, length, All, slice_index_or};
 ghost use Rattle.std.specs.Vec.{vec_capacity};
 ghost use Rattle.kahn_crew.specs.inner.Crews.{OneWent, Went};
 
@@ -63,6 +63,24 @@ fn leave_all<C, T: Hand<C>>(shared: &C, mut hands: Vec<T>) -> Vec<T>
     let mut left = leave_all(shared, hands);
     left.push_reserved(hand.halt(shared).labor(shared));
     left
+}
+
+// One works in this thread, where there is one.
+fn labor_here<C, T: Hand<C>>(shared: &C, mut hands: Vec<T>) -> Labored<T>
+    requires may { All (T.may shared.now) hands.items }
+    requires few { length hands.items ≤ 1 }
+    ensures room { vec_capacity result.hands ≡ vec_capacity hands }
+    ensures count { length result.hands.items ≡ length hands.items }
+    ensures each { (i : ℕ) (d : T) → i < length hands.items → T.did shared.now (slice_index_or hands.items i d) (slice_index_or result.hands.items i d) }
+    ensures calm { result.refused ≡ false }
+{
+    if let Some(hand) = hands.pop() {
+        hands.push_reserved(hand.labor(shared));
+    }
+    Labored {
+        hands,
+        refused: false,
+    }
 }
 
 // All work, the first in this thread and each other in one of its own. Where one can't be started, this thread tells all
@@ -133,6 +151,9 @@ pub(crate) fn labor_all<R: Threads + Wait + Sync, C: Sync, T: Hand<C> + Send + D
     ensures several { result.refused ≡ true → 1 < length hands.items }
     ensures quits { result.refused ≡ true → OneWent (T.quit shared.now) hands.items result.hands.items }
 {
+    if hands.len() <= 1 {
+        return labor_here(shared, hands);
+    }
     thread::scope(
         thread::scope_env(),
         rt,

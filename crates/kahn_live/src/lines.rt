@@ -5,7 +5,7 @@ ghost use Rattle.std.specs.Option.{option_map_or};
 
 use kahn_report::MOST_BYTES;
 use std::alloc::AllocError;
-use std::io::{BufRead, Error, ErrorKind, Read};
+use std::io::{BufRead, BufReader, Error, ErrorKind, Read};
 
 /// What came.
 pub(crate) enum Next {
@@ -17,6 +17,11 @@ pub(crate) enum Next {
     Failed,
     /// Memory was refused for the line. It is passed over.
     NoMemory,
+}
+
+/// Whether the next line can be read without a wait: its line feed has come.
+pub(crate) fn has_line<R: Read>(reader: &BufReader<R>) -> bool {
+    reader.buffer().contains(&b'\n')
 }
 
 /// Reads the next line without its line feed. The last line needs none.

@@ -122,7 +122,7 @@ fn work<R: Runtime + AllocGlobal + Threads + Wait + Sync, W: Write, E: Write>(
     rt: &R,
     session: &mut Session<'_>,
     fed: Fed<'_>,
-    writer: &mut W,
+    outlet: &mut Outlet<W>,
     teller: &mut Teller<'_, E>,
 ) -> Result<Ending, Fault>
     requires { session.old.broken ≡ false }
@@ -130,14 +130,15 @@ fn work<R: Runtime + AllocGlobal + Threads + Wait + Sync, W: Write, E: Write>(
     let Ok(mut reader) = BufReader::new(rt.alloc(), rt.reader()) else {
         return Err(wants_memory());
     };
-    if !take_all(rt, session, &mut reader, fed, writer, teller)? {
+    if !take_all(rt, session, &mut reader, fed, outlet, teller)? {
         return Ok(Ending::NoInput);
     }
-    settle(rt, session, writer)?;
+    settle(rt, session, outlet)?;
     if fed.input.is_some() {
+        outlet.send()?;
         return Ok(Ending::Reached(close_plain(session, teller)));
     }
-    Ok(Ending::Reached(close(session, writer)?))
+    Ok(Ending::Reached(close(session, outlet)?))
 }
 
 /// Runs the program on standard input, and writes what is new to standard output.
@@ -166,10 +167,13 @@ fn run<R: Runtime + AllocGlobal + Threads + Wait + Sync, E: Write>(
         at_end,
     };
     let ending = work(rt, &mut session, fed, &mut outlet, teller);
+    let sent = outlet.send();
     if outlet.gone() {
         return Ok(Ending::Gone);
     }
-    ending
+    let ending = ending?;
+    sent?;
+    Ok(ending)
 }
 
 /// How the run is set up: the channel whose values alone are shown is watched, so that it has a stream.

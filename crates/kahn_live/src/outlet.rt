@@ -1,11 +1,15 @@
-//! The writer of what is new, and whether nobody reads it any more.
+//! The writer of what is new: what is flushed goes out before the next wait, and not line by line.
 
+use kahn_fault::Fault;
+use kahn_report::{WorkFault, WriteFault};
 use std::io::{ErrorKind, Result, Write};
 
-/// A writer that remembers whether its reader is gone.
+/// A writer that puts flushes off until `send`, and remembers whether its reader is gone.
 #[derive(Drop)]
 pub(crate) struct Outlet<W: Write> {
     writer: W,
+    // Whether a flush was put off.
+    due: bool,
     gone: bool,
 }
 
@@ -14,6 +18,7 @@ impl<W: Write> Outlet<W> {
     pub(crate) fn new(writer: W) -> Outlet<W> {
         Outlet {
             writer,
+            due: false,
             gone: false,
         }
     }
@@ -21,6 +26,17 @@ impl<W: Write> Outlet<W> {
     /// Whether a write failed since nobody reads any more.
     pub(crate) fn gone(&self) -> bool {
         self.gone
+    }
+
+    /// Sends what was flushed, where that was put off.
+    pub(crate) fn send(&mut self) -> core::result::Result<(), Fault> {
+        if !self.due {
+            return Ok(());
+        }
+        self.due = false;
+        let done = self.writer.flush();
+        self.gone |= is_gone(&done);
+        done.map_err(|_| Fault::Work(WorkFault::Write(WriteFault::Failed)))
     }
 }
 
@@ -37,13 +53,12 @@ impl<W: Write> Write for Outlet<W> {
 
     fn write(&mut self, buf: &[u8]) -> Result<usize> {
         let done = self.writer.write(buf);
-        self.gone = is_gone(&done);
+        self.gone |= is_gone(&done);
         done
     }
 
     fn flush(&mut self) -> Result<()> {
-        let done = self.writer.flush();
-        self.gone = is_gone(&done);
-        done
+        self.due = true;
+        Ok(())
     }
 }

@@ -2,14 +2,15 @@
 
 ghost use Rattle.std.specs.Prelude.{◌≡◌, false, IfOk};
 
-use crate::lines::{Next, fed_line, next_line, without_mark};
+use crate::lines::{Next, fed_line, has_line, next_line, without_mark};
+use crate::outlet::Outlet;
 use crate::telling::{Teller, waits};
 use kahn_fault::Fault;
 use kahn_pool::{Open, RunFault, Verdict};
 use kahn_report::{ReadFault, WorkFault};
 use kahn_session::{Session, TakeFault};
 use kahn_streams::FeedFault;
-use std::io::{BufRead, Write};
+use std::io::{BufReader, Read, Write};
 use std::sync::Wait;
 use std::thread::Threads;
 
@@ -36,6 +37,18 @@ pub(crate) fn last_fault(fault: TakeFault) -> Fault {
     }
 }
 
+/// Tells a fault of the line of that number, behind what is new so far. It fails where that can't be written.
+fn tell<W: Write, E: Write>(
+    fault: TakeFault,
+    number: u64,
+    outlet: &mut Outlet<W>,
+    teller: &mut Teller<'_, E>,
+) -> Result<(), Fault> {
+    outlet.send()?;
+    teller.tell(number, fault);
+    Ok(())
+}
+
 /// Takes a line of that number, and tells where it is refused, and gives why, or where its part waits. It fails where nothing
 /// can be written.
 fn take_line<R: Threads + Wait + Sync, W: Write, E: Write>(
@@ -43,20 +56,20 @@ fn take_line<R: Threads + Wait + Sync, W: Write, E: Write>(
     session: &mut Session<'_>,
     line: &[u8],
     number: u64,
-    writer: &mut W,
+    outlet: &mut Outlet<W>,
     teller: &mut Teller<'_, E>,
 ) -> Result<Option<TakeFault>, Fault>
     requires { session.old.broken ≡ false }
     ensures { IfOk result (λ _. session.new.broken ≡ false) }
 {
-    match session.take(rt, line, &Open, writer) {
-        Ok(Verdict::Memory) => teller.tell(number, TakeFault::WaitsForMemory),
+    match session.take(rt, line, &Open, outlet) {
+        Ok(Verdict::Memory) => tell(TakeFault::WaitsForMemory, number, outlet, teller)?,
         Ok(_) => {}
         Err(fault) => {
             if fault.breaks() {
                 return Err(last_fault(fault));
             }
-            teller.tell(number, fault);
+            tell(fault, number, outlet, teller)?;
             if !waits(fault) {
                 return Ok(Some(fault));
             }
@@ -73,27 +86,27 @@ fn take_read<R: Threads + Wait + Sync, W: Write, E: Write>(
     line: &[u8],
     number: u64,
     room: &mut Vec<u8>,
-    writer: &mut W,
+    outlet: &mut Outlet<W>,
     teller: &mut Teller<'_, E>,
 ) -> Result<(), Fault>
     requires { session.old.broken ≡ false }
     ensures { IfOk result (λ _. session.new.broken ≡ false) }
 {
     let Ok(fed) = fed_line(input, without_mark(line, number), room) else {
-        teller.tell(number, TakeFault::NoMemory);
-        return Ok(());
+        return tell(TakeFault::NoMemory, number, outlet, teller);
     };
-    let _ = take_line(rt, session, fed, number, writer, teller)?;
+    let _ = take_line(rt, session, fed, number, outlet, teller)?;
     Ok(())
 }
 
-/// Takes the lines of the reader, and gives the number behind the last one's.
-fn take_lines<R: AllocGlobal + Threads + Wait + Sync, B: BufRead, W: Write, E: Write>(
+/// Takes the lines of the reader, and gives the number behind the last one's. What is new goes out before each read that may
+/// wait.
+fn take_lines<R: AllocGlobal + Threads + Wait + Sync, I: Read, W: Write, E: Write>(
     rt: &R,
     session: &mut Session<'_>,
-    reader: &mut B,
+    reader: &mut BufReader<I>,
     fed: Fed<'_>,
-    writer: &mut W,
+    outlet: &mut Outlet<W>,
     teller: &mut Teller<'_, E>,
 ) -> Result<u64, Fault>
     requires { session.old.broken ≡ false }
@@ -102,13 +115,16 @@ fn take_lines<R: AllocGlobal + Threads + Wait + Sync, B: BufRead, W: Write, E: W
     let mut line = Vec::new(rt.alloc());
     let mut room = Vec::new(rt.alloc());
     for number in 1..u64::MAX {
+        if !has_line(reader) {
+            outlet.send()?;
+        }
         match next_line(reader, &mut line) {
             Next::Line => take_read(
-                rt, session, fed.input, &line, number, &mut room, writer, teller,
+                rt, session, fed.input, &line, number, &mut room, outlet, teller,
             )?,
             Next::End => return Ok(number),
             Next::Failed => return Err(Fault::Program(None, ReadFault::Failed)),
-            Next::NoMemory => teller.tell(number, TakeFault::NoMemory),
+            Next::NoMemory => tell(TakeFault::NoMemory, number, outlet, teller)?,
         }
     }
     Ok(u64::MAX)
@@ -120,7 +136,7 @@ fn take_last<R: Threads + Wait + Sync, W: Write, E: Write>(
     session: &mut Session<'_>,
     lines: &[String],
     first: u64,
-    writer: &mut W,
+    outlet: &mut Outlet<W>,
     teller: &mut Teller<'_, E>,
 ) -> Result<(), Fault>
     requires { session.old.broken ≡ false }
@@ -128,7 +144,7 @@ fn take_last<R: Threads + Wait + Sync, W: Write, E: Write>(
 {
     let mut number = first;
     for line in lines {
-        let _ = take_line(rt, session, line.as_bytes(), number, writer, teller)?;
+        let _ = take_line(rt, session, line.as_bytes(), number, outlet, teller)?;
         number = number.saturating_add(1);
     }
     Ok(())
@@ -139,7 +155,7 @@ fn begin<R: AllocGlobal + Threads + Wait + Sync, W: Write, E: Write>(
     rt: &R,
     session: &mut Session<'_>,
     input: Option<&str>,
-    writer: &mut W,
+    outlet: &mut Outlet<W>,
     teller: &mut Teller<'_, E>,
 ) -> Result<bool, Fault>
     requires { session.old.broken ≡ false }
@@ -149,7 +165,7 @@ fn begin<R: AllocGlobal + Threads + Wait + Sync, W: Write, E: Write>(
     let Ok(line) = fed_line(input, b"", &mut room) else {
         return Err(wants_memory());
     };
-    match take_line(rt, session, line, 0, writer, teller)? {
+    match take_line(rt, session, line, 0, outlet, teller)? {
         None => Ok(true),
         Some(TakeFault::NoMemory | TakeFault::Feed(FeedFault::NoMemory)) => Err(wants_memory()),
         Some(_) => Ok(false),
@@ -158,21 +174,21 @@ fn begin<R: AllocGlobal + Threads + Wait + Sync, W: Write, E: Write>(
 
 /// Takes all lines, after a part before the first, and tells whether there is an input channel of the name whose values stand
 /// alone; else no line is taken.
-pub(crate) fn take_all<R: AllocGlobal + Threads + Wait + Sync, B: BufRead, W: Write, E: Write>(
+pub(crate) fn take_all<R: AllocGlobal + Threads + Wait + Sync, I: Read, W: Write, E: Write>(
     rt: &R,
     session: &mut Session<'_>,
-    reader: &mut B,
+    reader: &mut BufReader<I>,
     fed: Fed<'_>,
-    writer: &mut W,
+    outlet: &mut Outlet<W>,
     teller: &mut Teller<'_, E>,
 ) -> Result<bool, Fault>
     requires { session.old.broken ≡ false }
     ensures { IfOk result (λ _. session.new.broken ≡ false) }
 {
-    if !begin(rt, session, fed.input, writer, teller)? {
+    if !begin(rt, session, fed.input, outlet, teller)? {
         return Ok(false);
     }
-    let number = take_lines(rt, session, reader, fed, writer, teller)?;
-    take_last(rt, session, fed.at_end, number, writer, teller)?;
+    let number = take_lines(rt, session, reader, fed, outlet, teller)?;
+    take_last(rt, session, fed.at_end, number, outlet, teller)?;
     Ok(true)
 }
