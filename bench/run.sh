@@ -1,5 +1,5 @@
 #!/usr/bin/env bash
-# Prints the times of the workloads by the program that `./kahn` builds, beside the interpreter by hand.
+# Prints the times of the workloads by the program that `./kahn` runs, beside the interpreter by hand.
 #
 #   run.sh [--runs N] [WORKLOAD ..]      medians of nine runs, or of N; all workloads, or those named
 set -eu

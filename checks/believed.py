@@ -10,7 +10,7 @@ Each file of specs/ says in its first line which it is, and stands accordingly:
 The reading list of docs/meaning.md has just the files that the clauses of `kahn_report::work` reach, and names definitions that they reach.
 What docs/reading.md shows stands so in one of the files that it names: the lines of each block, in their order.
 
-With `--files CRATE::ITEM ..` it only tells how many lines of definitions of each file those items reach, or all public ones.
+With `--files CRATE::ITEM ..` it only tells how many lines of definitions of each file those items reach, or all public ones, and the sum.
 """
 import glob
 import os
@@ -202,9 +202,14 @@ def main():
     public = [item for crate in crates for item in exported(crate)]
     if sys.argv[1:2] == ["--files"]:
         seen = house.reached(roots([item for item in public if not sys.argv[2:] or f"{item[0]}::{item[2]}" in sys.argv[2:]]))
+        total = 0
         for module, held in house.held.items():
-            print(f"{sum(len(held[name]) for at, name in seen if at == module):4} of {sum(map(len, held.values())):4} {module}")
-        return 0
+            lines = sum(len(held[name]) for at, name in seen if at == module)
+            total += lines
+            if lines:
+                print(f"{lines:4} of {sum(map(len, held.values())):4} {module}")
+        print(f"{total:4} in all")
+        return 0 if total else "nothing public is called so"
     wrong = list(differences(house, public))
     blocks, strange = shown()
     wrong += [f"docs/reading.md: this stands in no file that the page names: {block[0]}" for block in strange]
