@@ -2,7 +2,8 @@
 
 use kahn_fault::Fault;
 use kahn_report::{WorkFault, WriteFault};
-use std::io::{ErrorKind, Result, Write};
+use std::io;
+use std::io::{ErrorKind, Write};
 
 /// A writer that puts flushes off until `send`, and remembers whether its reader is gone.
 #[derive(Drop)]
@@ -29,7 +30,7 @@ impl<W: Write> Outlet<W> {
     }
 
     /// Sends what was flushed, where that was put off.
-    pub(crate) fn send(&mut self) -> core::result::Result<(), Fault> {
+    pub(crate) fn send(&mut self) -> Result<(), Fault> {
         if !self.due {
             return Ok(());
         }
@@ -41,7 +42,7 @@ impl<W: Write> Outlet<W> {
 }
 
 /// Whether a call failed since nobody reads any more.
-fn is_gone<T>(done: &Result<T>) -> bool {
+fn is_gone<T>(done: &io::Result<T>) -> bool {
     match done {
         Ok(_) => false,
         Err(error) => error.kind() == ErrorKind::BrokenPipe,
@@ -51,13 +52,13 @@ fn is_gone<T>(done: &Result<T>) -> bool {
 impl<W: Write> Write for Outlet<W> {
     ghost contents = { λ o. W.contents o.writer };
 
-    fn write(&mut self, buf: &[u8]) -> Result<usize> {
+    fn write(&mut self, buf: &[u8]) -> io::Result<usize> {
         let done = self.writer.write(buf);
         self.gone |= is_gone(&done);
         done
     }
 
-    fn flush(&mut self) -> Result<()> {
+    fn flush(&mut self) -> io::Result<()> {
         self.due = true;
         Ok(())
     }

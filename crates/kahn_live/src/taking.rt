@@ -38,7 +38,7 @@ pub(crate) fn last_fault(fault: TakeFault) -> Fault {
 }
 
 /// Tells a fault of the line of that number, behind what is new so far. It fails where that can't be written.
-fn tell<W: Write, E: Write>(
+fn tell_behind<W: Write, E: Write>(
     fault: TakeFault,
     number: u64,
     outlet: &mut Outlet<W>,
@@ -63,13 +63,13 @@ fn take_line<R: Threads + Wait + Sync, W: Write, E: Write>(
     ensures { IfOk result (λ _. session.new.broken ≡ false) }
 {
     match session.take(rt, line, &Open, outlet) {
-        Ok(Verdict::Memory) => tell(TakeFault::WaitsForMemory, number, outlet, teller)?,
+        Ok(Verdict::Memory) => tell_behind(TakeFault::WaitsForMemory, number, outlet, teller)?,
         Ok(_) => {}
         Err(fault) => {
             if fault.breaks() {
                 return Err(last_fault(fault));
             }
-            tell(fault, number, outlet, teller)?;
+            tell_behind(fault, number, outlet, teller)?;
             if !waits(fault) {
                 return Ok(Some(fault));
             }
@@ -93,7 +93,7 @@ fn take_read<R: Threads + Wait + Sync, W: Write, E: Write>(
     ensures { IfOk result (λ _. session.new.broken ≡ false) }
 {
     let Ok(fed) = fed_line(input, without_mark(line, number), room) else {
-        return tell(TakeFault::NoMemory, number, outlet, teller);
+        return tell_behind(TakeFault::NoMemory, number, outlet, teller);
     };
     let _ = take_line(rt, session, fed, number, outlet, teller)?;
     Ok(())
@@ -124,7 +124,7 @@ fn take_lines<R: AllocGlobal + Threads + Wait + Sync, I: Read, W: Write, E: Writ
             )?,
             Next::End => return Ok(number),
             Next::Failed => return Err(Fault::Program(None, ReadFault::Failed)),
-            Next::NoMemory => tell(TakeFault::NoMemory, number, outlet, teller)?,
+            Next::NoMemory => tell_behind(TakeFault::NoMemory, number, outlet, teller)?,
         }
     }
     Ok(u64::MAX)
