@@ -9,6 +9,7 @@ pub mod Queued
 pub mod Nested_lists
 pub mod Behind
 pub mod Begin
+pub mod Poured
 pub mod Asks
 pub mod Arguments
 pub mod Bodies

@@ -72,7 +72,7 @@ set_keeps P (y ∷ xs) (suc c) zero x x' at h p = p
 set_keeps P (y ∷ xs) (suc c) (suc d) x x' at h p = set_keeps P xs c d x x' at (λ e. h (ap suc e)) p
 
 -- what is read of place d stays, but where it is the one that is set
-set_get : {X : Type 0} (f : Option X → ℕ) (xs : List X) (c d : ℕ) (x x' : X) → slice_get xs c ≡ Some x → (d ≡ c → f (Some x') ≡ f (Some x)) →
+pub set_get : {X : Type 0} (f : Option X → ℕ) (xs : List X) (c d : ℕ) (x x' : X) → slice_get xs c ≡ Some x → (d ≡ c → f (Some x') ≡ f (Some x)) →
     f (slice_get (slice_set xs c x') d) ≡ f (slice_get xs d)
 set_get f xs c d x x' at h = set_keeps (λ o. f o ≡ f (slice_get xs d)) xs c d x x' at (λ e g. h e ∙ g) refl
 
@@ -122,13 +122,13 @@ seat_of s = record { network = s.network; input = s.input; instance = s.instance
 
 -- queues of which channel c has w, and later w'
 module _ (s : Lines) (h : AreQueued s) (c : ℕ) (w w' : Waiting) (inside : c < length s.queues) (value : w ≡ slice_index_or s.queues c w) where
-  queue_at : slice_get s.queues c ≡ Some w
+  pub queue_at : slice_get s.queues c ≡ Some w
   queue_at = slice_get_read s.queues (length s.queues) c w refl inside value
 
   own : IsQueue s.network s.input c w
   own = h.each c w queue_at
 
-  still_queued : (w'.network ≡ w.network) × (w'.input ≡ w.input) × (w'.channel ≡ w.channel) →
+  pub still_queued : (w'.network ≡ w.network) × (w'.input ≡ w.input) × (w'.channel ≡ w.channel) →
       (role_at (network_of s.network) c ≡ Input → w'.taken + w'.waiting ≡ w.taken + w.waiting) → AreQueued (changed s c w')
   still_queued same sums = record {
     wired = h.wired;

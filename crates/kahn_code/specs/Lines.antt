@@ -1,5 +1,5 @@
 -- Believed. What contracts see of the plain queues of all channels.
-use Rattle.std.specs.Prelude.{◌≡◌, ℕ, ◌+◌, List, length, Option, Some, None, slice_get}
+use Rattle.std.specs.Prelude.{◌≡◌, ℕ, ◌+◌, ◌==◌, List, [], ◌++◌, length, Option, Some, None, slice_get, if◌then◌else◌}
 use Rattle.kahn_tree.specs.declared.tree.Program.{Program}
 use Rattle.kahn_network.specs.Network.{Actual, Reads, Writes, Hands, network_of, instance_at, actual_at, role_at}
 use Rattle.kahn_network.specs.Wiring.{IsWellWired}
@@ -94,3 +94,15 @@ pub record IsFirst (t : Program) (lists : Lists) (c : ℕ) (w : Waiting) : Type 
 pub record AreFirst (t : Program) (lists : Lists) (queues : List Waiting) : Type 0 where
   pub count : length queues ≡ length (network_of t).channels
   pub each : (c : ℕ) (w : Waiting) → slice_get queues c ≡ Some w → IsFirst t lists c w
+
+-- the lists after have these values behind those of channel c, and are else as before
+abbrev pub IsPoured : Lists → ℕ → List Value → Lists → Type 0
+IsPoured before c values after = (d : ℕ) → inputs_of after d ≡ inputs_of before d ++ (if c == d then values else [])
+
+-- the queues go on for this input: so many tokens more wait in the queue of channel c, and else as many as before
+pub record HasPoured (c n : ℕ) (input : Lists) (old new : Lines) : Type 0 where
+  pub network : new.network ≡ old.network
+  pub lists : new.input ≡ input
+  pub instance : new.instance ≡ old.instance
+  pub taken : (d : ℕ) → taken_of (slice_get new.queues d) ≡ taken_of (slice_get old.queues d)
+  pub waiting : (d : ℕ) → waiting_of (slice_get new.queues d) ≡ waiting_of (slice_get old.queues d) + (if c == d then n else 0)

@@ -3,4 +3,5 @@ pub mod Gone
 pub mod Tapped
 pub mod Begins
 pub mod Forms
+pub mod Regrown
 pub mod Rooms

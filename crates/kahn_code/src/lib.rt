@@ -15,6 +15,7 @@ mod opening;
 mod past;
 mod plain;
 mod ports;
+mod pouring;
 mod progress;
 mod queue;
 mod tap;

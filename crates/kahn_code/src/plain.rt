@@ -1,16 +1,19 @@
 //! Every channel of a network in a plain queue, for a run on one thread.
 
-ghost use Rattle.std.specs.Prelude.{◌≡◌, IfOk, slice_get};
+ghost use Rattle.std.specs.Prelude.{◌≡◌, ◌<◌, ◌^◌, IfOk, MatchResult, length, slice_get};
+ghost use Rattle.kahn_tree.specs.declared.tree.Role.TheVariants.{Input as InputRole};
+ghost use Rattle.kahn_network.specs.Network.{network_of, role_at};
 ghost use Rattle.kahn_network.specs.Wiring.{IsWellWired};
-ghost use Rattle.kahn_streams.specs.Tokens.{Names};
-ghost use Rattle.kahn_code.specs.Lines.{AreFirst, AreQueued, waiting_of};
+ghost use Rattle.kahn_streams.specs.Tokens.{Lists, Names, inputs_of};
+ghost use Rattle.kahn_code.specs.Lines.{AreFirst, AreQueued, HasPoured, IsPoured, taken_of, waiting_of};
 
 use crate::code::CodeFault;
 use crate::opening::first_queues;
 use crate::ports::Ports;
+use crate::pouring::{give_all, regrow_all};
 use crate::queue::Queue;
 use kahn_network::Network;
-use kahn_streams::{About, Input, NoMemory, Token};
+use kahn_streams::{About, Input, NoMemory, Token, Value};
 use std::alloc::Allocator;
 use std::marker::Model;
 
@@ -80,6 +83,35 @@ impl<A: Allocator> Plain<A> {
         ensures { AreQueued self.now }
     {
         let _instance = self.instance;
+    }
+
+    /// How many tokens were taken from the queue of a channel; none where no channel has that number.
+    pub fn taken(&self, channel: usize) -> u64
+        ensures { result ≡ taken_of (slice_get self.now.queues channel) }
+    {
+        match self.queues.get(channel) {
+            Some(queue) => queue.taken(),
+            None => 0,
+        }
+    }
+
+    /// Goes on for a longer input, in which these values stand behind those of an input channel: there they wait behind
+    /// those that wait. It refuses only where memory was refused, and then none of them waits. The caller names the input
+    /// for contracts alone.
+    pub fn pour(&mut self, channel: usize, values: &[Value]) -> Result<(), NoMemory>
+        ghost input: { Lists }
+        requires role { role_at (network_of self.old.network) channel ≡ InputRole }
+        requires lists { IsPoured self.old.input channel values.now input }
+        requires few { length (inputs_of input channel) < 2 ^ 64 }
+        ensures { MatchResult result (λ _. HasPoured channel (length values.now) input self.old self.new) (λ _. HasPoured channel 0 self.old.input self.old self.new) }
+    {
+        if self.queues[channel].room_for(values.len()).is_err() {
+            return Err(NoMemory);
+        }
+        regrow_all(&mut self.queues);
+        give_all(&mut self.queues[channel], values);
+        self.input = About::named();
+        Ok(())
     }
 
     /// How many tokens wait in the queue of a channel; none where no channel has that number.

@@ -1,6 +1,8 @@
 //! The plain queue of a channel.
 
-ghost use Rattle.std.specs.Prelude.{◌≡◌, ◌<◌, ◌≤◌, ◌+◌, ◌^◌, [], length, IfSome, IfNone, OnOk, OnErr, IsOk};
+ghost use Rattle.std.specs.Prelude.{◌≡◌, ◌<◌, ◌≤◌, ◌+◌, ◌^◌, [], length, slice_get, IfSome, IfNone, OnOk, OnErr, IsOk, Some};
+ghost use Rattle.kahn_network.specs.Network.{network_of, role_at};
+ghost use Rattle.kahn_tree.specs.declared.tree.Role.TheVariants.{Input as InputRole};
 ghost use Rattle.kahn_streams.specs.declared.value.Line.TheVariants.{Channel};
 ghost use Rattle.kahn_streams.specs.Laws.{AreInputsExtended};
 ghost use Rattle.kahn_streams.specs.Streams.{IsOf};
@@ -133,6 +135,39 @@ impl<A: Allocator> Queue<A> {
         ensures { result ≡ self.now.waiting }
     {
         self.tokens.len()
+    }
+
+    /// How many tokens were taken.
+    pub fn taken(&self) -> u64
+        ensures { result ≡ self.now.taken }
+    {
+        self.taken
+    }
+
+    /// Makes room for so many tokens more. Where there is room already it takes no memory.
+    pub fn room_for(&mut self, count: usize) -> Result<(), NoMemory>
+        ensures names { (self.new.network ≡ self.old.network) × (self.new.input ≡ self.old.input) × (self.new.channel ≡ self.old.channel) }
+        ensures counts { (self.new.taken ≡ self.old.taken) × (self.new.waiting ≡ self.old.waiting) }
+        ensures room { OnOk result (count ≤ self.new.spare) }
+    {
+        self.tokens.reserve(count)?;
+        Ok(())
+    }
+
+    /// Puts the value of the next place of an input channel. It takes no memory.
+    pub fn give(&mut self, value: Value)
+        requires room { 0 < self.old.spare }
+        requires input { role_at (network_of self.old.network) self.old.channel ≡ InputRole }
+        requires here { slice_get (inputs_of self.old.input self.old.channel) (self.old.taken + self.old.waiting) ≡ Some value }
+        requires few { self.old.taken + self.old.waiting < 2 ^ 64 }
+        ensures names { (self.new.network ≡ self.old.network) × (self.new.input ≡ self.old.input) × (self.new.channel ≡ self.old.channel) }
+        ensures counts { (self.new.taken ≡ self.old.taken) × (self.new.waiting ≡ self.old.waiting + 1) }
+        ensures spare { self.new.spare + 1 ≡ self.old.spare }
+    {
+        let line = Line::Channel(self.channel);
+        let place = self.taken + self.tokens.len() as u64;
+        let token = named_token(&self.network, &self.input, line, place, value);
+        self.put(token);
     }
 }
 

@@ -1,0 +1,7 @@
+-- Inner. Queues that go on for a longer input.
+use Rattle.kahn_streams.specs.Tokens.{Lists}
+use Rattle.kahn_code.specs.Queues.{Waiting}
+
+-- the same queue, for this input
+abbrev pub regrown : Lists → Waiting → Waiting
+regrown input w = record w { input = input }
