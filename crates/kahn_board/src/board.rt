@@ -1,6 +1,6 @@
 //! The board, and the seats that step on it.
 
-ghost use Rattle.std.specs.Prelude.{◌≡◌, ◌≢◌, ℕ, ◌+◌, ◌*◌, ◌^◌, ◌<◌, ◌≤◌, ◌==◌, [], ◌∷◌, ◌++◌, map, drop, length, Option, slice_index, slice_index_or, None, Some};
+ghost use Rattle.std.specs.Prelude.{◌≡◌, ◌≢◌, ℕ, ◌+◌, ◌-◌, ◌*◌, ◌%◌, ◌^◌, ◌<◌, ◌≤◌, ◌==◌, [], ◌∷◌, ◌++◌, map, drop, length, Option, slice_index, slice_index_or, None, Some};
 ghost use Rattle.std.specs.VecDeque.{deque_capacity};
 ghost use Rattle.std.specs.Vec.{vec_capacity};
 ghost use Rattle.kahn_board.specs.Hands.{Facts};
@@ -76,6 +76,19 @@ impl<T: Told> Board<T> {
         self.table
             .shared
             .compare_exchange::<Brand>(seat, word, old, new)
+    }
+
+    // A fetch and subtract: the word was so at a moment of the call.
+    fn fetch_sub<P: Play<Option<T>, View>>(
+        &self,
+        seat: &mut atomic_table::Seat<Option<T>, View>,
+        word: usize,
+        k: u64,
+    ) -> u64
+        requires { MayStep (holds T.told T.after self.now.table.shared.key) self.now.table.shared.table_id seat.old word k 0 (λ n. (n + (2 ^ 64 - k)) % 2 ^ 64) P.then }
+        ensures { HasStepped (holds T.told T.after self.now.table.shared.key) self.now.table.shared.table_id seat.old seat.new word k 0 P.then result }
+    {
+        self.table.shared.fetch_sub::<Brand>(seat, word, k)
     }
 
     // Who reads the channel, where somebody does.
@@ -268,13 +281,10 @@ impl<T: Told> Seat<T> {
     pub fn count_down(&mut self, board: &Board<T>)
         requires board { self.old.seat.table_id ≡ board.now.table.shared.table_id }
         requires owes { 0 < self.old.seat.me.0.down }
-        ensures { CountsDown self.old self.new }
+        ensures { CountsDown T.told T.after board.now.table.shared.key self.old self.new }
     {
         let word = 8 * (board.instances + board.channels) + 8;
-        board
-            .table
-            .shared
-            .fetch_sub::<CountingDown>(&mut self.seat, word, 1);
+        board.fetch_sub::<CountingDown>(&mut self.seat, word, 1);
     }
 
     /// Draws up to `quantum` events from the budget.

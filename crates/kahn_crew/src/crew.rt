@@ -139,11 +139,12 @@ fn work_all<'n, R: Threads + Wait + Sync, G: Gate + Sync>(
     labor_all(rt, &Shift { rt, floor, gate }, workers)
 }
 
-// The board's one seat, once a crew has worked and left, and whether one of it wanted memory. Both come with a fault too:
-// `NoMemory` before anybody worked, `NoThread` once those have left that were started.
+// The board's one seat, once a crew of the plan's workers has worked by its quantum and left, and whether one of it wanted
+// memory. Both come with a fault too: `NoMemory` before anybody worked, `NoThread` once those have left that were started.
 fn employ<'n, R: Threads + Wait + Sync, G: Gate + Sync>(
     rt: &R,
     alloc: Global,
+    _plan: Plan,
     floor: &Floor<'_, 'n>,
     gate: &G,
     seat: Seat<Boxed<'n>>,
@@ -153,6 +154,7 @@ fn employ<'n, R: Threads + Wait + Sync, G: Gate + Sync>(
     requires quantum { 0 < floor.now.quantum }
     requires seat { IsWhole floor.now.board.now.table.shared.table_id seat }
     requires calm { seat.seat.me.0.raised ≡ 0 }
+    requires plan { (floor.now.quantum ≡ _plan.quantum) × (length rooms.hints.items ≡ _plan.workers) }
     requires few { (1 ≤ length rooms.hints.items) × (length rooms.hints.items ≤ 16) }
     requires rooms { (rooms.workers.items ≡ []) × (length rooms.hints.items ≤ vec_capacity rooms.workers) × (rooms.seats.items ≡ []) × (length rooms.hints.items ≤ vec_capacity rooms.seats) }
     ensures left { IfOk result (λ r. IsWhole floor.now.board.now.table.shared.table_id r.0 × (r.0.seat.me.0.stage ≡ 1)) }
@@ -248,7 +250,7 @@ pub fn run_tasks<'n, R: Threads + Wait + Sync, G: Gate + Sync>(
         code,
         quantum: plan.quantum,
     };
-    match employ(rt, alloc, &floor, gate, seat, rooms) {
+    match employ(rt, alloc, plan, &floor, gate, seat, rooms) {
         Ok((seat, wanted)) => {
             let left = leave(board, seat, wanted, room, network, input, plan.watch);
             Ok(left)

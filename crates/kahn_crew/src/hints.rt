@@ -19,8 +19,10 @@ pub struct Hints {
 }
 
 impl Hints {
-    /// The hints of a worker.
-    pub fn new(own: Worker<usize>, others: Vec<Stealer<usize>>) -> Hints {
+    /// The hints of a worker, to which no memory was refused yet.
+    pub fn new(own: Worker<usize>, others: Vec<Stealer<usize>>) -> Hints
+        ensures { result.wanted ≡ false }
+    {
         Hints {
             first: None,
             second: None,

@@ -19,13 +19,12 @@ use crate::pick::pick_hinted;
 use crate::publish::{hint, publish_all};
 use crate::standing::Standing;
 use crate::task::Task;
-use kahn_board::Seat;
+use kahn_board::{Draw, Seat};
 use kahn_code::{Pause, Steps};
 use kahn_desk::{
     draw_some, give, put, rest_dry, rest_over, rest_ready, stop, take_cell, tell_done,
 };
 use kahn_streams::NoMemory;
-use std::sync::Wait;
 use std::sync::ledger::Ledger;
 
 /// How an instance is to be set down.
@@ -206,10 +205,9 @@ fn spend_all<'n, G: Gate, L: Ledger>(
     }
 }
 
-/// A turn of an instance that was picked: it is run for a part of the budget, where some is left, and set down, and so are
-/// those that it woke while the part lasts.
-pub(crate) fn turn<'n, R: Wait, G: Gate, L: Ledger>(
-    rt: &R,
+/// A turn of an instance that was picked: it is run for a part of the budget, where some is left that other workers don't
+/// take first, and set down, and so are those that it woke while the part lasts.
+pub(crate) fn turn<'n, G: Gate, L: Ledger>(
     floor: &Floor<'_, 'n>,
     gate: &G,
     seat: &mut Seat<Boxed<'n>>,
@@ -226,11 +224,12 @@ pub(crate) fn turn<'n, R: Wait, G: Gate, L: Ledger>(
     ensures idle { IsIdle seat.new }
 {
     let _program = floor.network.program();
-    match draw_some(rt, seat, floor.board, p, floor.quantum) {
-        Some(drawn) => {
+    match draw_some(seat, floor.board, p, floor.quantum) {
+        Draw::Got(drawn) => {
             let left = spend_all(floor, gate, seat, hints, p, drawn, steps);
             give(seat, floor.board, left);
         }
-        None => rest_ready(seat, floor.board, p),
+        Draw::Lost => rest_ready(seat, floor.board, p),
+        Draw::Empty => rest_ready(seat, floor.board, p),
     }
 }

@@ -116,15 +116,8 @@ fn turns<'n, R: Wait, G: Gate, L: Ledger>(
         match pick_next(floor, worker, &rest) {
             Some(p) => {
                 rest.over();
-                turn(
-                    rt,
-                    floor,
-                    gate,
-                    &mut worker.seat,
-                    &mut worker.hints,
-                    p,
-                    &mut steps,
-                );
+                let (seat, hints) = (&mut worker.seat, &mut worker.hints);
+                turn(floor, gate, seat, hints, p, &mut steps);
             }
             None => rest.sleep(rt),
         }

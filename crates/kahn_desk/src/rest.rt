@@ -29,7 +29,7 @@ pub fn rest_over<T: Told>(seat: &mut Seat<T>, board: &Board<T>, p: usize)
     requires holds { (n : ℕ) × (l : ℕ) × (y : T) × Holds p n l (Some y) seat.old × Fits T.told (belongs T.after board.now.table.shared.key) (wired board.now.table.shared.key) p y seat.old.seat.me.0 × TellsEnd (T.told y) }
     ensures same { IsSeatOf seat.old seat.new }
     ensures rests { IsBetween seat.old.seat.me.0.drawn seat.new }
-    ensures over { SetsStill T.told seat.old seat.new p }
+    ensures over { SetsStill T.told T.after board.now.table.shared.key seat.old seat.new p }
 {
     seat.set_down(board, p, Rest::Over);
     seat.count_down(board);
@@ -49,7 +49,7 @@ pub fn rest_dry<T: Told>(
     requires holds { (n : ℕ) × (l : ℕ) × (y : T) × Holds p n l (Some y) seat.old × Fits T.told (belongs T.after board.now.table.shared.key) (wired board.now.table.shared.key) p y seat.old.seat.me.0 × TellsWait (T.told y) channel taken }
     ensures same { IsSeatOf seat.old seat.new }
     ensures rests { IsBetween seat.old.seat.me.0.drawn seat.new }
-    ensures parked { result ≡ true → SetsStill T.told seat.old seat.new p }
+    ensures parked { result ≡ true → SetsStill T.told T.after board.now.table.shared.key seat.old seat.new p }
     ensures late { result ≡ false → (r : ℕ) × (r / 2 ≢ taken) × Was T.told T.after board.now.table.shared.key seat.old seat.old.seat.me.0 (channel_at (wired board.now.table.shared.key) channel) r × SetsReady T.told seat.old (noted seat.old.seat.me.0 r) seat.new p }
 {
     if !seat.park(board, p, channel, taken) {

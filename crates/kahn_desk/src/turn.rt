@@ -1,15 +1,15 @@
 //! The calls of a turn, from the pick of an instance to the give back of what was not done.
 
-ghost use Rattle.std.specs.Prelude.{◌≡◌, ◌≢◌, ℕ, ◌+◌, ◌-◌, ◌*◌, ◌^◌, ◌<◌, ◌≤◌, min, slice_index, true, false, Option, Some, None, IfSome, IfNone};
+ghost use Rattle.std.specs.Prelude.{◌≡◌, ◌≢◌, ℕ, ◌+◌, ◌-◌, ◌*◌, ◌^◌, ◌<◌, ◌≤◌, slice_index, true, false, Option, Some, None, IfSome, IfNone};
 ghost use Rattle.kahn_board.specs.Dealt.{belongs, wired};
 ghost use Rattle.kahn_board.specs.Calls.{Was, LooksAt, Uses, GivesBack};
-ghost use Rattle.kahn_board.specs.Plays.{noted, with_draw};
-ghost use Rattle.kahn_board.specs.Rule.{budget_at};
-ghost use Rattle.kahn_board.specs.declared.view.View.{View};
+ghost use Rattle.kahn_desk.specs.inner.Drawn.{DrawsAgain, FitsDraw, drawn_of};
 ghost use Rattle.kahn_desk.specs.inner.Turn.{IsBetween, IsIdle, IsSeatOf, HasHalted, Holds, Knows, Tells, Fits};
 
 use kahn_board::{Board, Draw, Rest, Seat, Told};
-use std::sync::Wait;
+
+// How often it draws at most, where another worker comes between.
+const DRAWS: usize = 64;
 
 /// Whether the instance is ready. False where it wasn't at a moment of the call.
 pub fn looks_ready<T: Told>(seat: &mut Seat<T>, board: &Board<T>, p: usize) -> bool
@@ -36,32 +36,26 @@ pub fn pick<T: Told>(seat: &mut Seat<T>, board: &Board<T>, p: usize) -> bool
     seat.claim(board, p).is_some()
 }
 
-/// Draws events from the budget, again while other workers come between: the smaller of `quantum` and the budget at that
-/// moment. `None` where the budget was 0.
-pub fn draw_some<T: Told>(
-    rt: &impl Wait,
-    seat: &mut Seat<T>,
-    board: &Board<T>,
-    p: usize,
-    quantum: u64,
-) -> Option<u64>
+/// Draws events from the budget, again where another worker comes between: the smaller of `quantum` and the budget at that
+/// moment. `Empty` where the budget was 0, `Lost` where another worker came between 64 times.
+pub fn draw_some<T: Told>(seat: &mut Seat<T>, board: &Board<T>, p: usize, quantum: u64) -> Draw
     requires board { seat.old.seat.table_id ≡ board.now.table.shared.table_id }
     requires holds { (x : Option T) × Holds p 0 0 x seat.old }
     requires some { 0 < quantum }
     ensures same { IsSeatOf seat.old seat.new }
     ensures knows { Knows (wired board.now.table.shared.key) p seat.old.seat.me.0 seat.new.seat.me.0 }
-    ensures drawn { IfSome result (λ n. (0 < n) × (n ≤ quantum) × (slice_index seat.new.seat.me.0.got p + n < 2 ^ 48) × ((x : Option T) → Holds p 0 0 x seat.old → Holds p n 0 x seat.new)) }
-    ensures all { IfSome result (λ n. (a : ℕ) × (v : View) × (n ≡ min quantum a) × Was T.told T.after board.now.table.shared.key seat.old v (budget_at (wired board.now.table.shared.key)) a × (seat.new.seat.me.0 ≡ with_draw v n a)) }
-    ensures empty { IfNone result (((v : View) × Was T.told T.after board.now.table.shared.key seat.old v (budget_at (wired board.now.table.shared.key)) 0 × (seat.new.seat.me.0 ≡ noted v 0)) × ((x : Option T) → Holds p 0 0 x seat.old → Holds p 0 0 x seat.new)) }
+    ensures draws { DrawsAgain T.told T.after board.now.table.shared.key 64 quantum seat.old seat.new result }
+    ensures fits { FitsDraw quantum (slice_index seat.new.seat.me.0.got p) result }
+    ensures drawn { (x : Option T) → Holds p 0 0 x seat.old → Holds p (drawn_of result) 0 x seat.new }
 {
-    for _ in rt.forever() {
+    for _ in 1..DRAWS {
         match seat.draw(board, quantum) {
-            Draw::Got(n) => return Some(n),
-            Draw::Empty => return None,
+            Draw::Got(n) => return Draw::Got(n),
+            Draw::Empty => return Draw::Empty,
             Draw::Lost => {}
         }
     }
-    unreachable!()
+    seat.draw(board, quantum)
 }
 
 /// Moves the cell out of its slot.

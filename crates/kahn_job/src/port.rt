@@ -158,7 +158,7 @@ impl Port {
         requires { self.old.writes ≡ true }
         ensures same { IsSame self.old self.new }
         ensures advances { Advances self.old self.new }
-        ensures counts { (self.new.next ≡ self.old.next) × ((self.new.flushed ≡ self.old.flushed) ⊎ (self.new.flushed ≡ self.old.next)) }
+        ensures counts { (self.new.next ≡ self.old.next) × ((self.new.flushed ≡ self.old.flushed) ⊎ ((self.old.next ≡ self.old.flushed + 64) × (self.new.flushed ≡ self.old.next))) }
         ensures room { OnOk result (HasRoom self.new) }
         ensures full { OnErr result (HasRoom self.new → ⊥) }
         ensures spare { HasRoom self.old → IsOk result }

@@ -95,8 +95,10 @@ fn gather<'n>(
 ) -> Answer
     requires ended { HasEnded network.now input.now watch bound left.tasks.items left.budget left.halted }
     requires room { IsRoom network.now input.now watch room }
+    requires cause { left.halted ≡ true → left.wanted ≡ true }
     ensures right { IsRight (network_of network.now) (inputs_of input.now) bound watch result }
     ensures verdict { result.verdict ≡ verdict.Memory ↔ left.entry.halted ≡ true }
+    ensures memory { result.verdict ≡ verdict.Memory → left.entry.wanted ≡ true }
 {
     let events = bound - left.budget;
     let Conclusion {
@@ -115,7 +117,7 @@ fn gather<'n>(
 }
 
 /// The answer of the tasks that the workers left, of a run of at most `bound` events. Its verdict is `Memory` exactly where
-/// the run was halted. It takes no memory: the room is given.
+/// the run was halted, which it was only where memory was refused to a worker. It takes no memory: the room is given.
 pub fn answer_of<'n, L: Ledger>(
     network: &'n Network,
     input: &'n Input,
@@ -130,8 +132,10 @@ pub fn answer_of<'n, L: Ledger>(
     requires code { code.now.network.value ≡ network.now }
     requires bound { bound < 2 ^ 48 }
     requires room { IsRoom network.now input.now watch room }
+    requires cause { left.halted ≡ true → left.wanted ≡ true }
     ensures right { IsRight (network_of network.now) (inputs_of input.now) bound watch result }
     ensures verdict { result.verdict ≡ verdict.Memory ↔ left.entry.halted ≡ true }
+    ensures memory { result.verdict ≡ verdict.Memory → left.entry.wanted ≡ true }
 {
     settle_all(&mut left.tasks, code, steps);
     gather(network, input, watch, bound, left, room)

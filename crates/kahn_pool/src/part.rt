@@ -1,6 +1,6 @@
 //! A part of a held run: idle jobs go on, and come to rest again.
 
-ghost use Rattle.std.specs.Prelude.{◌≡◌, ℕ, ◌≤◌, ◌<◌, ◌^◌, Bool, List, [], Ok, Err, Some, length, map, slice_get, vec_capacity, IfOk, OnOk};
+ghost use Rattle.std.specs.Prelude.{◌≡◌, ℕ, ◌≤◌, ◌<◌, ◌^◌, Bool, List, [], Ok, Err, Some, true, length, map, slice_get, vec_capacity, IfOk, OnOk};
 ghost use Rattle.kahn_network.specs.Network.{network_of};
 ghost use Rattle.kahn_crew.specs.inner.Left.{HaveGone, HaveLeft};
 ghost use Rattle.kahn_crew.specs.inner.Tasks.{Tasked};
@@ -11,6 +11,7 @@ ghost use Rattle.kahn_pool.specs.inner.Concluded.{IsConcluded};
 ghost use Rattle.kahn_pool.specs.inner.Holding.{AreHeld, HasStopped, IsPart, IsPartOf, IsRoomFor, held_state};
 ghost use Rattle.kahn_pool.specs.inner.Rested.{cell_of};
 ghost use Rattle.kahn_pool.specs.declared.answer.Verdict.{Verdict as VerdictOf};
+ghost use Rattle.kahn_pool.specs.declared.answer.Verdict.TheVariants as verdict;
 
 use crate::answer::{End, Verdict};
 use crate::conclude::{Conclusion, conclude};
@@ -106,7 +107,7 @@ pub(crate) fn first_idles(
     first_counted::<Brand>(alloc, Blank::new(1), network, input, code, watch)
 }
 
-// The jobs, the ends and the verdict of a run that is over.
+// The jobs, the ends and the verdict of a run that is over: `Memory` only where memory was refused to a worker.
 fn finish<'n, L: Ledger>(
     part: &Part<'n>,
     mut left: Left<'n>,
@@ -119,9 +120,11 @@ fn finish<'n, L: Ledger>(
     requires bound { part.now.bound < 2 ^ 48 }
     requires idles { (idles.items ≡ []) × (length (network_of part.now.network.now).instances ≤ vec_capacity idles) }
     requires ends { length (network_of part.now.network.now).instances ≤ vec_capacity ends }
+    requires cause { left.halted ≡ true → left.wanted ≡ true }
     ensures held { AreHeld part.now.network.now part.now.input.now part.now.plan.watch part.now.bound result.idles.items result.budget }
     ensures cells { cells_of result.idles.items ≡ map cell_of left.entry.tasks.items }
     ensures outcome { (v : VerdictOf) × (halted : Bool) × (result.outcome ≡ Ok v) × IsConcluded (held_state part.now.network.now part.now.input.now part.now.plan.watch result.idles.items) part.now.bound result.budget halted v result.ends.items }
+    ensures memory { IfOk result.outcome (λ v. v ≡ verdict.Memory → left.entry.wanted ≡ true) }
 {
     settle_all(&mut left.tasks, part.code, steps);
     let budget = left.budget;

@@ -28,6 +28,6 @@ CanRest key p due s =
 -- p that was due so was set down so: it is over; or it is parked, unless other than k tokens were published
 abbrev pub IsSetDown : Terms Tasked → ℕ → Due → Seat Tasked → Seat Tasked → Type 0
 IsSetDown key p due.Ready s t = Unit {0}
-IsSetDown key p due.Over s t = SetsStill told_of s t p
+IsSetDown key p due.Over s t = SetsStill told_of IsLater key s t p
 IsSetDown key p (due.Waits c k) s t =
-    SetsStill told_of s t p ⊎ ((r : ℕ) × (r / 2 ≢ k) × Was told_of IsLater key s s.seat.me.0 (channel_at (wired key) c) r)
+    SetsStill told_of IsLater key s t p ⊎ ((r : ℕ) × (r / 2 ≢ k) × Was told_of IsLater key s s.seat.me.0 (channel_at (wired key) c) r)

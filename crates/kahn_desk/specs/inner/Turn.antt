@@ -1,5 +1,9 @@
 -- Inner. What a worker's seat has and knows between two turns and in a turn.
 use Rattle.std.specs.Prelude.{◌≡◌, ◌≢◌, ◌⊎◌, ℕ, ◌+◌, ◌<◌, [], slice_index, Option, Some}
+use Rattle.kahn_board.specs.Calls.{Was}
+use Rattle.kahn_board.specs.Dealt.{wired}
+use Rattle.kahn_board.specs.Rule.{count_at}
+use Rattle.kahn_board.specs.declared.rule.Terms.{Terms}
 use Rattle.kahn_board.specs.Tale.{Tale, FlushedAll, flushed_of, events_past}
 use Rattle.kahn_board.specs.Wires.{Wires}
 use Rattle.kahn_board.specs.Cuts.{HoldsNothing}
@@ -65,10 +69,12 @@ module _ {T : Type 0} where
   abbrev pub SetsReady : (T → Option Tale) → Seat T → View → Seat T → ℕ → Type 0
   SetsReady told s v t p = (y : T) → Carries s.seat.me.1 p (Some y) → (r : ℕ) × (t.seat.me.0 ≡ gave v p (told y) 0 r)
 
-  -- p with its cell was parked, or is over, and the count down for it is paid
-  abbrev pub SetsStill : (T → Option Tale) → Seat T → Seat T → ℕ → Type 0
-  SetsStill told s t p =
-      (y : T) → Carries s.seat.me.1 p (Some y) → (r : ℕ) × (q : ℕ) × (t.seat.me.0 ≡ paid_down (gave s.seat.me.0 p (told y) 1 r) q)
+module _ {T : Type 0} (told : T → Option Tale) (after : T → T → Type 0) (key : Terms T) where
+  -- p with its cell was parked, or is over: the seat owed a count down for it at a moment of the call, and paid it
+  abbrev pub SetsStill : Seat T → Seat T → ℕ → Type 0
+  SetsStill s t p = (y : T) → Carries s.seat.me.1 p (Some y) → (r : ℕ) × (q : ℕ)
+      × Was told after key s (gave s.seat.me.0 p (told y) 1 r) (count_at (wired key)) q
+      × (t.seat.me.0 ≡ paid_down (gave s.seat.me.0 p (told y) 1 r) q)
 
 module _ {T : Type 0} (told : T → Option Tale) (belongs : ℕ → T → Type 0) (w : Wires) where
   -- the cell y of p may be left: what it tells as flushed is published, its events are those told as done, it flushed all that it sent unless the run is halted, it belongs to p

@@ -1,6 +1,7 @@
 use Rattle.std.proofs.Common.{refl, ap, ◌∙◌}
-use Rattle.kahn_board.specs.Dealt.{belongs, wired}
+use Rattle.kahn_board.specs.Dealt.{belongs, holds, wired}
 use Rattle.kahn_board.specs.Plays.{gave, paid_down}
+use Rattle.kahn_board.proofs.Turns.{was_at}
 use Rattle.kahn_desk.proofs.Kept.{kept_turn, kept_fits}
 use Rattle.kahn_desk.proofs.rest.rest_dry.Goals as goal
 
@@ -21,6 +22,7 @@ returns-then-not-park-clause-late g c = λ _.
 
 pub returns-clause-parked : goal.returns-clause-parked
 returns-clause-parked g c = λ _ y had.
-    let e = (c.if-not-park.ensures.0 refl).1 y had in
+    let up = c.if-not-park.ensures.0 refl in
+    let e = up.1 y had in
     let d = c.count_down.ensures.1 in
-    (e.0, d.0, ap (λ m. m.0) d.1 ∙ ap (λ v. paid_down v d.0) e.1)
+    (e.0, d.0, was_at (holds g.T.Told.told g.T.Told.after c.args.board.now.table.shared.key) _ _ _ _ _ _ _ _ up.0.1 e.1 refl refl d.1, ap (λ m. m.0) d.2 ∙ ap (λ v. paid_down v d.0) e.1)

@@ -1,6 +1,7 @@
-use Rattle.std.proofs.Common.{rules, arith}
-use Rattle.kahn_board.specs.Dealt.{belongs, dealt, wired}
+use Rattle.std.proofs.Common.{rules, arith, refl}
+use Rattle.kahn_board.specs.Dealt.{belongs, dealt, holds, wired}
 use Rattle.kahn_board.proofs.Hot.{counts_down}
+use Rattle.kahn_board.proofs.Turns.{was_at}
 use Rattle.kahn_board.proofs.Seats.{fit}
 use Rattle.kahn_board.proofs.board.Seat.count_down.Goals as goal
 
@@ -11,3 +12,7 @@ fetch_sub-requires g c = let b = c.args.board.now in let told = g.T.Told.told in
       omega (arith, b.sized.0),
       counts_down told own w d _ _ _ _ f (omega (arith, b.counts.0, b.counts.1)) c.requires.owes,
     )
+
+pub returns : goal.returns
+returns g c = let b = c.args.board.now in let rule = holds g.T.Told.told g.T.Told.after b.table.shared.key in let e = c.fetch_sub.ensures in
+    ((e.0, e.1), (c.fetch_sub.result, was_at rule _ _ _ _ _ _ _ _ refl refl (omega (arith, b.counts.0, b.counts.1)) refl e.2.1, e.2.0))
