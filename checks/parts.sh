@@ -67,6 +67,8 @@ try_programs() {
   part "machine instructions of the workloads" timeout 300 python3 bench/counts.py "$KAHN"
   part "random programs" python3 fuzz/fuzz.py "$KAHN" 300
   part "changes that mend random texts" timeout 300 python3 fuzz/mends.py "$KAHN_EXPLAIN" 200
+  part "what may stand in random texts" timeout 300 python3 fuzz/sets.py "$KAHN_EXPLAIN" 150
+  part "why random networks stop" timeout 300 python3 fuzz/causes.py "$KAHN_EXPLAIN" "$KAHN" 150
   if [ -x "${KAHN_CROWD:-}" ]; then
     part "rows, by workers that begin at once" bash checks/rows.sh "$KAHN_CROWD"
     part "random programs, by workers that begin at once" python3 fuzz/fuzz.py "$KAHN_CROWD" 300

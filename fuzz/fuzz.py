@@ -22,6 +22,8 @@ NUMBERS = (0, 1, 2, 3, 5, 7, 10, 1000, 2**31, 2**62, 2**63 - 1)
 
 
 class Maker:
+    INSTANCES, CHANNELS = 5, 7
+
     def __init__(self, rng):
         self.r = rng
 
@@ -117,10 +119,10 @@ class Maker:
 
     # ---- programs
     def program(self):
-        count = self.r.randint(1, 5)
+        count = self.r.randint(1, self.INSTANCES)
         ends = [[] for _ in range(count)]  # of each instance: (way, kind, channel)
         channels = []
-        for i in range(self.r.randint(0, 7)):
+        for i in range(self.r.randint(0, self.CHANNELS)):
             role = self.pick("inner", "inner", "inner", "input", "output")
             kind = self.pick("integer", "integer", "integer", "logical")
             name = f"{self.pick('X', 'Y', 'chan_', 'Z')}{i}"

@@ -103,6 +103,13 @@ def line_of(changes):
     return LEADS[len(changes)] + (told[0] if len(told) == 1 else ", ".join(told[:-1]) + " or " + told[-1])
 
 
+def advice(lexemes, at):
+    """What is said of a statement behind `then` that isn't a simple one."""
+    if 0 < at < len(lexemes) and lexemes[at - 1][:2] == ("word", "then") and lexemes[at][:2] in (("word", "if"), ("word", "while"), ("word", "repeat")):
+        return f"{'an' if lexemes[at][1] == 'if' else 'a'} `{lexemes[at][1]}` behind `then` stands between `begin` and `end`"
+    return None
+
+
 def broken(rng):
     """A random text with a fault of the grammar, its lexemes, and the number of the one at fault."""
     while True:
@@ -116,7 +123,7 @@ def one(program, room, seed):
     """(None, how many changes there are), or (what differs, the text's path)."""
     text, lexemes, at = broken(random.Random(seed))
     changes = mends(text, lexemes, at)
-    wanted = line_of(changes)
+    wanted = [line for line in (line_of(changes), advice(lexemes, at)) if line]
     path = f"{room}/{seed}.kahn"
     with open(path, "wb") as it:
         it.write(text)
@@ -126,7 +133,7 @@ def one(program, room, seed):
         return str(error), path
     lines = ran.stdout.decode().split("\n")
     said = [line.split(" = ", 1)[1] for line in lines[3:] if line.strip()]
-    if ran.returncode != 1 or ran.stderr or said != ([] if wanted is None else [wanted]):
+    if ran.returncode != 1 or ran.stderr or said != wanted:
         return f"status {ran.returncode}, {said}, not {wanted}", path
     os.remove(path)
     return None, len(changes)

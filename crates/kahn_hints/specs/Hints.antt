@@ -22,7 +22,7 @@ use Rattle.kahn_hints.specs.declared.uses.Use.{Use}
 use Rattle.kahn_hints.specs.declared.uses.Use.TheVariants as use_as
 use Rattle.kahn_hints.specs.Names.{program_names}
 use Rattle.kahn_hints.specs.Near.{nearest}
-use Rattle.kahn_hints.specs.Places.{called_first, channel_kind, names_seen, passed, process_called, process_declaring, process_using, word_at}
+use Rattle.kahn_hints.specs.Places.{called_first, channel_kind, is_called, names_seen, passed, process_called, process_declaring, process_using, word_at}
 use Rattle.kahn_hints.specs.Uses.{body_use, instances_use, same_span}
 
 -- what is said of another place
@@ -115,9 +115,14 @@ second_place text t checked.NoMemory = None
 
 -- ---- behind the words of a fault
 
--- the nearest name of those in sight that may stand there
+-- a name that has other letters
+abbrev pub other_than : List ℕ → Option Name → Option Name
+other_than word None = None
+other_than word (Some n) = if is_called word n then None else Some n
+
+-- the nearest name of those in sight that may stand there; none where that is the name itself, declared a second time
 abbrev pub told_near : List ℕ → Program → Span → Option Name
-told_near text t at = nearest (word_at text at) (names_seen (asked_sort (use_at t at)) t (process_using t at))
+told_near text t at = other_than (word_at text at) (nearest (word_at text at) (names_seen (asked_sort (use_at t at)) t (process_using t at)))
 
 abbrev pub meant_words : Name → List ℕ
 meant_words n = concat (codes "; did you mean `" ∷ bytes_of n ∷ codes "`?" ∷ [])

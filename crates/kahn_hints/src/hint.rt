@@ -2,12 +2,12 @@
 
 ghost use Rattle.std.specs.Prelude.{◌≡◌, ◌++◌, IfOk, option_map, string_bytes};
 ghost use Rattle.std.specs.List.{find};
-ghost use Rattle.kahn_hints.specs.Hints.{asked_sort, channel_words, check_note, closed_reason, count_words, counted_words, declared_first, declared_here, declared_outside, declared_role, direction_words, first_reason, found_kind, kind_words, named_instance, meant_words, near_words, outside_reason, second_place, second_text, reason_words, taken_before, tail_of, told_near, use_at, value_words};
+ghost use Rattle.kahn_hints.specs.Hints.{asked_sort, channel_words, check_note, closed_reason, count_words, counted_words, declared_first, declared_here, declared_outside, declared_role, direction_words, first_reason, found_kind, kind_words, named_instance, meant_words, near_words, other_than, outside_reason, second_place, second_text, reason_words, taken_before, tail_of, told_near, use_at, value_words};
 
 use crate::names::{Sort, program_names};
 use crate::near::nearest;
 use crate::places::{
-    called_first, channel_kind, names_seen, passed, process_called, process_declaring,
+    called_first, channel_kind, is_called, names_seen, passed, process_called, process_declaring,
     process_using, word_at,
 };
 use crate::uses::{Use, body_use, instances_use, same_span};
@@ -223,7 +223,24 @@ fn second_place(
     }
 }
 
-/// The name that is nearest to the one at a place, of those in sight that may stand there.
+/// A name, where its letters are others than those of a word.
+fn other_than<'p>(word: &[u8], name: Option<&'p Name>) -> Option<&'p Name>
+    ensures { option_map (λ n. n.now) result ≡ other_than word.now (option_map (λ n. n.now) name.entry) }
+{
+    match name {
+        Some(name) => {
+            if is_called(word, name) {
+                None
+            } else {
+                Some(name)
+            }
+        }
+        None => None,
+    }
+}
+
+/// The name that is nearest to the one at a place, of those in sight that may stand there; none where that is the same, declared
+/// a second time.
 fn told_near<'p>(
     alloc: Global,
     text: &str,
@@ -234,7 +251,8 @@ fn told_near<'p>(
 {
     let asked = asked_sort(use_at(program, at));
     let names = names_seen(alloc, program, process_using(program, at), asked)?;
-    Ok(nearest(word_at(text, at), &names))
+    let word = word_at(text, at);
+    Ok(other_than(word, nearest(word, &names)))
 }
 
 /// Adds a name that was perhaps meant.

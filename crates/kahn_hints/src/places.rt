@@ -25,7 +25,7 @@ pub(crate) fn word_at(text: &str, at: Span) -> &[u8]
 }
 
 /// Whether a name has these letters.
-fn is_called(word: &[u8], name: &Name) -> bool
+pub(crate) fn is_called(word: &[u8], name: &Name) -> bool
     ensures { result ≡ is_called word.now name.now }
 {
     same_bytes(word, name.text.as_bytes())

@@ -1,5 +1,5 @@
--- Believed. What is said of a place where a text goes wrong: what stands there, what may stand there, and the changes that mend it.
-use Rattle.std.specs.Prelude.{◌≡◌, ◌==◌, ℕ, List, [], ◌∷◌, ◌++◌, Option, Some, None, codes, decimal, if◌then◌else◌, length, map, min, option_map, slice_range, string_bytes, take}
+-- Believed. What is said of a place where a text goes wrong: what stands there, what may stand there, and what mends it.
+use Rattle.std.specs.Prelude.{◌≡◌, ◌==◌, ℕ, Bool, true, false, List, [], ◌∷◌, ◌++◌, Option, Some, None, codes, decimal, if◌then◌else◌, length, map, min, option_map, slice_range, string_bytes, take}
 use Rattle.std.specs.Fmt.{signed_decimal}
 use Rattle.std.specs.List.{concat}
 use Rattle.std.specs.declared.alloc.Global.{Global}
@@ -11,6 +11,7 @@ use Rattle.kahn_syntax.specs.declared.fault.What.TheVariants.{More, Nothing, Oth
 use Rattle.kahn_syntax.specs.declared.lexeme.Class.{Class}
 use Rattle.kahn_syntax.specs.declared.lexeme.Class.TheVariants as class
 use Rattle.kahn_syntax.specs.declared.lexeme.Keyword.{Keyword}
+use Rattle.kahn_syntax.specs.declared.lexeme.Keyword.TheVariants as word
 use Rattle.kahn_syntax.specs.declared.lexeme.Sign.{Sign}
 use Rattle.kahn_syntax.specs.declared.lexeme.Lexeme.{Lexeme}
 use Rattle.kahn_syntax.specs.Lexemes.{bytes_of_sign, letters_of}
@@ -135,12 +136,28 @@ abbrev pub remark_or_none : List ℕ → Span → Option (List ℕ) → List ℕ
 remark_or_none text span (Some words) = remark text span words
 remark_or_none text span None = []
 
--- what stands below a note
-abbrev pub mended_text : List ℕ → Span → Option Mends → List ℕ
-mended_text text span (Some m) = remark_or_none text span (mends_words text m)
-mended_text text span None = []
+-- what is said where a statement stands behind `then` that isn't a simple one
+abbrev pub nested_words : Class → Option (List ℕ)
+nested_words (class.Word word.If) = Some (codes "an `if` behind `then` stands between `begin` and `end`")
+nested_words (class.Word word.While) = Some (codes "a `while` behind `then` stands between `begin` and `end`")
+nested_words (class.Word word.Repeat) = Some (codes "a `repeat` behind `then` stands between `begin` and `end`")
+nested_words _ = None
+
+abbrev pub is_then : Class → Bool
+is_then (class.Word word.Then) = true
+is_then _ = false
+
+abbrev pub advice : Option Lexeme → Option Lexeme → Option (List ℕ)
+advice (Some before) (Some found) = if is_then before.what then nested_words found.what else None
+advice (Some before) None = None
+advice None found = None
+
+-- what stands below a note on what was found
+abbrev pub mended_text : List ℕ → Span → Option Lexeme → Option Mends → List ℕ
+mended_text text span found (Some m) = remark_or_none text span (mends_words text m) ++ remark_or_none text span (advice m.before found)
+mended_text text span found None = []
 
 -- the note on that place of the text of a file
 abbrev pub IsNote : List ℕ → List ℕ → Span → What → String Global → Type 0
 IsNote path text span what note = (u : Unexpected) × IsUnexpected text span what u × (m : Option Mends) × AreMendsOf text span what m
-    × (string_bytes note ≡ marked path text span (unexpected_words text what u) ++ mended_text text span m)
+    × (string_bytes note ≡ marked path text span (unexpected_words text what u) ++ mended_text text span u.found m)

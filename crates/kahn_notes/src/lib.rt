@@ -2,6 +2,7 @@
 //! the changes that mend it.
 #![tactic(auto)]
 
+mod advice;
 mod listing;
 mod mended;
 mod unexpected;

@@ -1,9 +1,10 @@
-//! What is said of the changes of one lexeme with which a text is a program.
+//! What is said of the changes of one lexeme with which a text is a program, and advice.
 
 ghost use Rattle.std.specs.Prelude.{◌≡◌, ◌++◌, IfOk, Some, map, option_map, string_bytes, take};
 ghost use Rattle.kahn_wanted.specs.declared.changes.Spot.TheVariants.{Before};
-ghost use Rattle.kahn_notes.specs.Notes.{MayFind, article, change_words, last_words, lead_words, listed, mends_words, put_words, remark, remark_or_none};
+ghost use Rattle.kahn_notes.specs.Notes.{MayFind, article, change_words, last_words, lead_words, listed, mended_text, mends_words, put_words, remark, remark_or_none};
 
+use crate::advice::advice;
 use crate::listing::separator;
 use crate::unexpected::add_lexeme;
 use crate::words::class_words;
@@ -154,7 +155,7 @@ fn add_remark(note: &mut String, text: &str, span: Span, words: &str) -> Result<
 }
 
 /// A note with what is said of the changes, where something is.
-pub(crate) fn with_mends(
+fn with_mends(
     alloc: Global,
     note: String,
     text: &str,
@@ -172,4 +173,36 @@ pub(crate) fn with_mends(
         }
         None => Ok(note),
     }
+}
+
+/// Adds advice below the carets under a part, where there is some.
+fn add_advice(
+    note: &mut String,
+    text: &str,
+    span: Span,
+    words: Option<&'static str>,
+) -> Result<(), AllocError>
+    ensures { IfOk result (λ _. string_bytes note.new ≡ string_bytes note.old ++ remark_or_none text.now span (option_map (λ w. w.now) words.entry)) }
+{
+    match words {
+        Some(words) => add_remark(note, text, span, words),
+        None => Ok(()),
+    }
+}
+
+/// A note with what is said of the changes, and with advice on what was found, where something is.
+pub(crate) fn with_help(
+    alloc: Global,
+    note: String,
+    text: &str,
+    span: Span,
+    found: Option<Lexeme>,
+    mends: &Mends,
+) -> Result<String, AllocError>
+    requires { MayFind text.now mends.now.before }
+    ensures { IfOk result (λ all. string_bytes all ≡ string_bytes note ++ mended_text text.now span found (Some mends.now)) }
+{
+    let mut note = with_mends(alloc, note, text, span, mends)?;
+    add_advice(&mut note, text, span, advice(mends.before, found))?;
+    Ok(note)
 }

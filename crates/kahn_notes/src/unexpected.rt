@@ -7,7 +7,7 @@ ghost use Rattle.kahn_syntax.specs.Texts.{IsTextFault};
 ghost use Rattle.kahn_notes.specs.Notes.{IsNote, MayFind, found_words, lexeme_words, mended_text, unexpected_words};
 
 use crate::listing::{add_listed, pieces_of};
-use crate::mended::with_mends;
+use crate::mended::with_help;
 use crate::words::{keyword_words, sign_words};
 use itoa::Buffer;
 use kahn_marks::{add, marked};
@@ -66,26 +66,28 @@ fn words_of(
     Ok(words)
 }
 
-/// A note on a place, with what is said of the changes there, where they were looked for.
+/// A note on a place where that was found, with what is said of the changes there, where they were looked for.
 fn noted(
     alloc: Global,
     note: String,
     text: &str,
     span: Span,
+    found: Option<Lexeme>,
     mends: Option<Mends>,
 ) -> Result<String, AllocError>
     requires { IfSome mends (λ m. MayFind text.now m.before) }
-    ensures { IfOk result (λ all. string_bytes all ≡ string_bytes note ++ mended_text text.now span mends) }
+    ensures { IfOk result (λ all. string_bytes all ≡ string_bytes note ++ mended_text text.now span found mends) }
 {
     match mends {
-        Some(mends) => with_mends(alloc, note, text, span, &mends),
+        Some(mends) => with_help(alloc, note, text, span, found, &mends),
         None => Ok(note),
     }
 }
 
 /// A note on a place where a text goes wrong: what stands there, what may stand there, and the changes of one lexeme there with
 /// which the text is a program, where there are one to seven and the text has at most 8,192 lexemes; of more than three the
-/// first three. It refuses only where memory was refused.
+/// first three; and that an `if`, a `while` or a `repeat` behind `then` stands in a block. It refuses only where memory was
+/// refused.
 pub fn unexpected_note(
     alloc: Global,
     path: &str,
@@ -100,5 +102,5 @@ pub fn unexpected_note(
     let mends = mends_at(alloc, text, span, what)?;
     let words = words_of(alloc, text, what, &unexpected)?;
     let note = marked(alloc, path, text, span, words.as_str())?;
-    Ok(noted(alloc, note, text, span, mends)?)
+    Ok(noted(alloc, note, text, span, unexpected.found, mends)?)
 }

@@ -1,2 +1,5 @@
 mod Lists
 mod Gaps
+mod Folding
+mod Holding
+mod Unseen

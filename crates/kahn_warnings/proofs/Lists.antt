@@ -10,7 +10,8 @@ use Rattle.kahn_tree.specs.declared.tree.Action.TheBlock.{items-the_row-Statemen
 use Rattle.kahn_tree.specs.declared.tree.Statement.{Statement}
 use Rattle.kahn_warnings.specs.Loops.{is_seen, never_ends, waits_in}
 use Rattle.kahn_warnings.specs.Uses.{is_assigned_in, is_named, is_used_in}
-use Rattle.kahn_warnings.specs.Warnings.{block_items, first_unreached, row_warnings, statement_warnings, warned_where}
+use Rattle.kahn_warnings.specs.Warned.{warned_where}
+use Rattle.kahn_warnings.specs.Warnings.{block_items, first_unreached, row_warnings, statement_warnings}
 use Rattle.kahn_warnings.specs.declared.warning.Warning.{Warning}
 use Rattle.kahn_warnings.specs.declared.warning.WarningKind.TheVariants.{Unreached}
 

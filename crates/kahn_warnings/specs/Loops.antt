@@ -1,6 +1,8 @@
 -- Believed. Statements that never end, and loops that nobody sees.
-use Rattle.std.specs.Prelude.{Bool, true, false, ◌||◌, ◌&&◌}
+use Rattle.std.specs.Prelude.{◌≡◌, ℕ, Bool, true, false, ◌||◌, ◌&&◌, []}
 use Rattle.kahn_tree.specs.Syntax.{Expr, Literal, Variable, Wait, Negate, Not, Binary, Conditional, Stmt, Skip, Assign, Send, Print, Seq, If, While, Repeat}
+use Rattle.kahn_streams.specs.Meaning.{Store, exec}
+use Rattle.kahn_streams.specs.Script.{Tapes}
 
 -- by its form a statement never ends: whatever is behind it isn't reached
 abbrev pub never_ends : Stmt → Bool
@@ -33,3 +35,11 @@ is_seen (Seq a b) = is_seen a || is_seen b
 is_seen (If t a b) = waits_in t || is_seen a || is_seen b
 is_seen (While t a) = waits_in t || is_seen a
 is_seen (Repeat a) = is_seen a
+
+-- ---- the law
+
+-- Whatever the values of the names and whatever the tapes hold: what stands behind a statement that never ends by its form isn't done, and
+-- one that isn't seen takes nothing and sends nothing.
+pub record LoopsHold : Type 0 where
+  pub unreached : (a b : Stmt) → never_ends a ≡ true → (n : ℕ) (s : Store) (T : Tapes) → exec n (Seq a b) s T ≡ exec n a s T
+  pub unseen : (a : Stmt) → is_seen a ≡ false → (n : ℕ) (s : Store) (T : Tapes) → ((exec n a s T).left ≡ T) × ((exec n a s T).sent ≡ [])

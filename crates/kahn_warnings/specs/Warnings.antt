@@ -1,6 +1,6 @@
 -- Believed. What is warned of, and in which order: the comments first, then one process after another, and in each its instances, its
--- parameters, its variables and its statements.
-use Rattle.std.specs.Prelude.{◌≡◌, ℕ, Bool, List, [], ◌∷◌, ◌++◌, Option, Some, None, if◌then◌else◌, flat_map}
+-- parameters, its variables, its statements and the constants in these.
+use Rattle.std.specs.Prelude.{◌≡◌, ℕ, Bool, List, [], ◌∷◌, ◌++◌, Option, None, if◌then◌else◌, flat_map}
 use Rattle.std.specs.List.{list_any}
 use Rattle.std.specs.Option.{option_or}
 use Rattle.std.proofs.Common.{bytes_eq}
@@ -15,19 +15,13 @@ use Rattle.kahn_tree.specs.declared.tree.Declaration.{Declaration}
 use Rattle.kahn_tree.specs.declared.tree.Declaration.TheVariants as D
 use Rattle.kahn_tree.specs.declared.tree.Program.{Program}
 use Rattle.kahn_warnings.specs.Comments.{CommentWarnings}
+use Rattle.kahn_warnings.specs.Constants.{constant_warnings}
 use Rattle.kahn_warnings.specs.Loops.{is_seen, never_ends}
 use Rattle.kahn_warnings.specs.Uses.{assigns, uses_name}
+use Rattle.kahn_warnings.specs.Warned.{warned, warned_where}
 use Rattle.kahn_warnings.specs.declared.warning.Warning.{Warning}
 use Rattle.kahn_warnings.specs.declared.warning.WarningKind.{WarningKind}
 use Rattle.kahn_warnings.specs.declared.warning.WarningKind.TheVariants.{NoInstance, Unused, Unread, Idle, Unreached}
-
--- a warning of a part of the text, and none where the part stands nowhere
-abbrev pub warned : WarningKind → Span → Warning
-warned k at = record { kind = k; span = at }
-
-abbrev pub warned_where : WarningKind → Option Span → List Warning
-warned_where k None = []
-warned_where k (Some at) = warned k at ∷ []
 
 -- ---- a process without an instance
 
@@ -98,11 +92,16 @@ abbrev mutual
 abbrev pub body_warnings : List Statement → List Warning
 body_warnings ss = flat_map (λ s. statement_warnings s.span s.action) ss ++ warned_where Unreached (first_unreached ss)
 
+-- ---- constants
+
+abbrev pub body_constants : List Statement → List Warning
+body_constants ss = flat_map (λ s. constant_warnings s.action) ss
+
 -- ---- the whole
 
 abbrev pub declaration_warnings : List Instance → Declaration → List Warning
 declaration_warnings is (D.Channels kind role names) = []
-declaration_warnings is (D.Process p) = process_warnings is p ++ names_warnings p ++ body_warnings p.statements.items
+declaration_warnings is (D.Process p) = process_warnings is p ++ names_warnings p ++ body_warnings p.statements.items ++ body_constants p.statements.items
 
 abbrev pub program_warnings : Program → List Warning
 program_warnings t = flat_map (declaration_warnings t.instances.items) t.declarations.items

@@ -2,7 +2,8 @@
 
 ghost use Rattle.std.specs.Prelude.{◌≡◌, ◌++◌, IfOk};
 ghost use Rattle.std.specs.List.{list_any};
-ghost use Rattle.kahn_warnings.specs.Warnings.{is_of, name_warnings, names_warnings, parameter_warnings, process_warnings, unread_kind, variable_warnings, warned};
+ghost use Rattle.kahn_warnings.specs.Warnings.{is_of, name_warnings, names_warnings, parameter_warnings, process_warnings, unread_kind, variable_warnings};
+ghost use Rattle.kahn_warnings.specs.Warned.{warned};
 
 use crate::uses::{assigns, uses};
 use crate::warning::{Warning, WarningKind};

@@ -20,6 +20,10 @@ fn warning_words(kind: WarningKind) -> &'static str
         WarningKind::Unread => "name is assigned, and never read",
         WarningKind::Idle => "loop never ends, and doesn't wait, send or print",
         WarningKind::Unreached => "statement is never reached: one before it never ends",
+        WarningKind::Divides => "divisor is always 0",
+        WarningKind::Overflows => "result is always out of range: overflow",
+        WarningKind::AlwaysTrue => "test is always true",
+        WarningKind::AlwaysFalse => "test is always false",
     }
 }
 

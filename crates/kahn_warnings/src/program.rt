@@ -2,11 +2,13 @@
 
 ghost use Rattle.std.specs.Prelude.{◌≡◌, ◌++◌, IfOk};
 ghost use Rattle.kahn_tree.specs.View.{stmt_of};
-ghost use Rattle.kahn_warnings.specs.Warnings.{AreWarnings, body_warnings, declaration_warnings, first_standing, first_unreached, idle_warnings, statement_warnings, warned_where};
+ghost use Rattle.kahn_warnings.specs.Warnings.{AreWarnings, body_constants, body_warnings, declaration_warnings, first_standing, first_unreached, idle_warnings, statement_warnings};
+ghost use Rattle.kahn_warnings.specs.Warned.{warned_where};
 
 use crate::comments::comment_warnings;
 use crate::loops::{is_seen, never_ends};
 use crate::names::{add_names, add_process, warned};
+use crate::surely::add_constants;
 use crate::warning::{Warning, WarningKind};
 use kahn_tree::{Action, Declaration, Instance, NoMemory, Program, Span, Statement};
 use std::alloc::{AllocError, Global};
@@ -115,6 +117,19 @@ fn add_body(warnings: &mut Vec<Warning>, statements: &[Statement]) -> Result<(),
     )
 }
 
+/// Adds those of the constants in a body.
+fn add_body_constants(
+    warnings: &mut Vec<Warning>,
+    statements: &[Statement],
+) -> Result<(), AllocError>
+    ensures { IfOk result (λ _. warnings.new.items ≡ warnings.old.items ++ body_constants statements.now) }
+{
+    for statement in statements {
+        add_constants(warnings, statement)?;
+    }
+    Ok(())
+}
+
 /// Adds those of a declaration.
 fn add_declaration(
     warnings: &mut Vec<Warning>,
@@ -128,7 +143,8 @@ fn add_declaration(
         Declaration::Process(process) => {
             add_process(warnings, instances, process)?;
             add_names(warnings, process)?;
-            add_body(warnings, &process.statements)
+            add_body(warnings, &process.statements)?;
+            add_body_constants(warnings, &process.statements)
         }
     }
 }

@@ -17,6 +17,14 @@ pub enum WarningKind {
     Idle,
     /// A statement behind one that never ends.
     Unreached,
+    /// An operator that divides by 0 wherever it is reached.
+    Divides,
+    /// An operator whose result is past 64 bits wherever it is reached.
+    Overflows,
+    /// A test of an `if` that is true wherever it is reached.
+    AlwaysTrue,
+    /// A test of an `if` or of a `while` that is false wherever it is reached.
+    AlwaysFalse,
 }
 
 /// A warning, and the part of the text that it is about.
@@ -24,7 +32,7 @@ pub enum WarningKind {
 pub struct Warning {
     /// What is warned of.
     pub kind: WarningKind,
-    /// The whole comment; the name of the process, of the parameter or of the variable where it is declared; the loop; or the
-    /// first statement that isn't reached.
+    /// The whole comment; the name of the process, of the parameter or of the variable where it is declared; the loop; the
+    /// first statement that isn't reached; the right operand, or the one behind a sign; or the test.
     pub span: Span,
 }

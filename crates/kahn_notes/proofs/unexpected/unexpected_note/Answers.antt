@@ -17,5 +17,5 @@ returns c = (
   c.in_ok-mends.mends,
   c.in_ok-mends.ensures,
   c.in_ok-noted.ensures
-      ∙ ap (λ l. l ++ mended_text c.args.text.now c.args.span c.in_ok-mends.mends) (c.in_ok-note.ensures ∙ ap (marked c.args.path.now c.args.text.now c.args.span) (c.as_str.ensures.value ∙ c.in_ok-words.ensures)),
+      ∙ ap (λ l. l ++ mended_text c.args.text.now c.args.span c.in_ok-unexpected.unexpected.found c.in_ok-mends.mends) (c.in_ok-note.ensures ∙ ap (marked c.args.path.now c.args.text.now c.args.span) (c.as_str.ensures.value ∙ c.in_ok-words.ensures)),
 )

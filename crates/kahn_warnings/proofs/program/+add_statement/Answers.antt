@@ -2,7 +2,8 @@ use Rattle.std.proofs.Common.{rules, arith, ◌≡◌, ◌++◌, ◌∙◌, ap, 
 use Rattle.std.proofs.lemmas.Grind.{common_steps}
 use Rattle.std.proofs.lemmas.Result.{IfOk-weaker}
 use Rattle.kahn_tree.specs.declared.tree.Action.TheViews.{the_lemmas}
-use Rattle.kahn_warnings.specs.Warnings.{first_unreached, statement_warnings, warned_where}
+use Rattle.kahn_warnings.specs.Warned.{warned_where}
+use Rattle.kahn_warnings.specs.Warnings.{first_unreached, statement_warnings}
 use Rattle.kahn_warnings.specs.declared.warning.WarningKind.TheVariants.{Unreached}
 use Rattle.kahn_warnings.proofs.Lists.{block_statement, each}
 use Rattle.kahn_warnings.proofs.program.+add_statement.Goals as goal

@@ -1,0 +1,127 @@
+-- Expressions with a value by their constants have it.
+use mathlib.Core.Path.{fun_ext}
+use Rattle.std.proofs.Common.{◌≡◌, ◌∙◌, ℕ, zero, suc, ◌&&◌, Bool, true, false, Option, Some, None, Result, Ok, Err, neg_ℤ, not, ap, sym, refl, if◌then◌else◌}
+use Rattle.std.proofs.lemmas.Option.{none-some, same_Some}
+use Rattle.std.specs.Prelude.{int_div, int_rem}
+use Rattle.kahn_tree.specs.Syntax.{Expr, Literal, Variable, Wait, Negate, Not, Binary, Conditional, Stmt, If, While}
+use Rattle.kahn_tree.specs.declared.tree.Operator.{Operator}
+use Rattle.kahn_tree.specs.declared.tree.Operator.TheVariants.{Divide, Remainder}
+use Rattle.kahn_streams.specs.declared.value.Value.{Value}
+use Rattle.kahn_streams.specs.declared.value.Value.TheVariants.{Logical}
+use Rattle.kahn_streams.specs.declared.value.Failure.{Failure}
+use Rattle.kahn_streams.specs.declared.value.Failure.TheVariants.{Division}
+use Rattle.kahn_streams.specs.Arithmetic.{apply, is_zero, number, ranged, truth}
+use Rattle.kahn_streams.specs.Meaning.{Store, constant, exec, script_of, settle, turns_of, value_of}
+use Rattle.kahn_streams.specs.Script.{Fail, Give, Script, Tapes, Turns, play}
+use Rattle.kahn_warnings.specs.Constants.{ConstantsHold, bad, chosen, constant_of, divides, combined, good, inverted, negate_fault, negated, sure_fault}
+
+good_ok : (r : Result Value Failure) (v : Value) → good r ≡ Some v → r ≡ Ok v
+good_ok (Ok w) v e = ap Ok (same_Some w v e)
+good_ok (Err k) v e = absurd (none-some v e)
+
+bad_err : (r : Result Value Failure) (k : Failure) → bad r ≡ Some k → r ≡ Err k
+bad_err (Ok w) k e = absurd (none-some k e)
+bad_err (Err j) k e = ap Err (same_Some j k e)
+
+pub holds : {A : Type 0} (e : Expr) (v : Value) (s : Store) (next : Value → Script A) → constant_of e ≡ Some v → value_of e s next ≡ next v
+holds (Literal c) v s next h = ap next (same_Some (constant c) v h)
+holds (Variable x) v s next h = absurd (none-some v h)
+holds (Wait q) v s next h = absurd (none-some v h)
+holds (Negate e) v s next h = by (constant_of e) refl (λ w is. holds e w s (λ x. settle (ranged (neg_ℤ (number x))) next) is) h
+  where
+    by : (x : Option Value) → constant_of e ≡ x
+        → ((w : Value) → constant_of e ≡ Some w → value_of (Negate e) s next ≡ settle (ranged (neg_ℤ (number w))) next) → negated x ≡ Some v
+        → value_of (Negate e) s next ≡ next v
+    by None is inner g = absurd (none-some v g)
+    by (Some w) is inner g = inner w is ∙ ap (λ r. settle r next) (good_ok (ranged (neg_ℤ (number w))) v g)
+holds (Not e) v s next h = by (constant_of e) refl (λ w is. holds e w s (λ x. next (Logical (not (truth x)))) is) h
+  where
+    by : (x : Option Value) → constant_of e ≡ x → ((w : Value) → constant_of e ≡ Some w → value_of (Not e) s next ≡ next (Logical (not (truth w))))
+        → inverted x ≡ Some v → value_of (Not e) s next ≡ next v
+    by None is inner g = absurd (none-some v g)
+    by (Some w) is inner g = inner w is ∙ ap next (same_Some (Logical (not (truth w))) v g)
+holds (Binary o a b) v s next h =
+    by (constant_of a) (constant_of b) refl refl (λ x y is his.
+    holds a x s (λ p. value_of b s (λ q. settle (apply o p q) next)) is ∙ holds b y s (λ q. settle (apply o x q) next) his) h
+  where
+    by : (x y : Option Value) → constant_of a ≡ x → constant_of b ≡ y
+        → ((x y : Value) → constant_of a ≡ Some x → constant_of b ≡ Some y → value_of (Binary o a b) s next ≡ settle (apply o x y) next)
+        → combined o x y ≡ Some v → value_of (Binary o a b) s next ≡ next v
+    by None y is his inner g = absurd (none-some v g)
+    by (Some x) None is his inner g = absurd (none-some v g)
+    by (Some x) (Some y) is his inner g = inner x y is his ∙ ap (λ r. settle r next) (good_ok (apply o x y) v g)
+holds (Conditional t a b) v s next h =
+    by (constant_of t) refl (λ w is. holds t w s (λ x. elim (truth x) [ true ↦ value_of a s next | false ↦ value_of b s next ]) is)
+    (holds a v s next) (holds b v s next) h
+  where
+    taken : (c : Bool) → (constant_of a ≡ Some v → value_of a s next ≡ next v) → (constant_of b ≡ Some v → value_of b s next ≡ next v)
+        → (if c then constant_of a else constant_of b) ≡ Some v → (elim c [ true ↦ value_of a s next | false ↦ value_of b s next ]) ≡ next v
+    taken true first second g = first g
+    taken false first second g = second g
+
+    by : (x : Option Value) → constant_of t ≡ x
+        → ((w : Value) → constant_of t ≡ Some w → value_of (Conditional t a b) s next ≡ (elim (truth w) [ true ↦ value_of a s next | false ↦ value_of b s next ]))
+        → (constant_of a ≡ Some v → value_of a s next ≡ next v) → (constant_of b ≡ Some v → value_of b s next ≡ next v)
+        → chosen x (constant_of a) (constant_of b) ≡ Some v → value_of (Conditional t a b) s next ≡ next v
+    by None is test first second g = absurd (none-some v g)
+    by (Some w) is test first second g = test w is ∙ taken (truth w) first second g
+
+pub sign_fails : {A : Type 0} (e : Expr) (k : Failure) (s : Store) (next : Value → Script A) → negate_fault (constant_of e) ≡ Some k → value_of (Negate e) s next ≡ Fail k
+sign_fails e k s next h = by (constant_of e) refl h
+  where
+    by : (x : Option Value) → constant_of e ≡ x → negate_fault x ≡ Some k → value_of (Negate e) s next ≡ Fail k
+    by None is g = absurd (none-some k g)
+    by (Some w) is g = holds e w s (λ x. settle (ranged (neg_ℤ (number x))) next) is ∙ ap (λ r. settle r next) (bad_err (ranged (neg_ℤ (number w))) k g)
+
+by_zero : (o : Operator) (x y : Value) (k : Failure) → (if divides o && is_zero (number y) then Some Division else None) ≡ Some k → apply o x y ≡ Err k
+by_zero Divide x y k h = by (is_zero (number y)) (ranged (int_div (number x) (number y))) h
+  where
+    by : (c : Bool) (r : Result Value Failure) → (if true && c then Some Division else None) ≡ Some k → (if c then Err Division else r) ≡ Err k
+    by true r g = ap Err (same_Some Division k g)
+    by false r g = absurd (none-some k g)
+by_zero Remainder x y k h = by (is_zero (number y)) (ranged (int_rem (number x) (number y))) h
+  where
+    by : (c : Bool) (r : Result Value Failure) → (if true && c then Some Division else None) ≡ Some k → (if c then Err Division else r) ≡ Err k
+    by true r g = ap Err (same_Some Division k g)
+    by false r g = absurd (none-some k g)
+by_zero o x y k h = absurd (none-some k h)
+
+pub operator_fails : {A : Type 0} (o : Operator) (a b : Expr) (k : Failure) (s : Store) (next : Value → Script A) →
+    sure_fault o (constant_of a) (constant_of b) ≡ Some k → value_of (Binary o a b) s next ≡ value_of a s (λ v. Fail k)
+operator_fails {A = A} o a b k s next h = by (constant_of a) (constant_of b) refl refl h
+  where
+    by : (x y : Option Value) → constant_of a ≡ x → constant_of b ≡ y → sure_fault o x y ≡ Some k → value_of (Binary o a b) s next ≡ value_of a s (λ v. Fail k)
+    by None None is his g = absurd (none-some k g)
+    by (Some x) None is his g = absurd (none-some k g)
+    by None (Some y) is his g =
+        ap (value_of a s) (fun_ext (λ p. holds b y s (λ q. settle (apply o p q) next) his ∙ ap (λ r. settle r next) (by_zero o p y k g)))
+    by (Some x) (Some y) is his g =
+        holds a x s (λ p. value_of b s (λ q. settle (apply o p q) next)) is
+        ∙ holds b y s (λ q. settle (apply o x q) next) his
+        ∙ ap (λ r. settle r next) (bad_err (apply o x y) k g)
+        ∙ sym (holds {A = A} a x s (λ v. Fail k) is)
+
+branch_taken : (t : Expr) (a b : Stmt) (v : Value) → constant_of t ≡ Some v → (n : ℕ) (s : Store) (T : Tapes) → exec n (If t a b) s T ≡ exec n (if truth v then a else b) s T
+branch_taken t a b v h n s T = ap (λ c. play n c T) (holds t v s _ h ∙ taken (truth v))
+  where
+    taken : (c : Bool) → (elim c [ true ↦ script_of n a s Give | false ↦ script_of n b s Give ]) ≡ script_of n (if c then a else b) s Give
+    taken true = refl
+    taken false = refl
+
+no_turn : (t : Expr) (a : Stmt) (v : Value) → constant_of t ≡ Some v → truth v ≡ false → (n : ℕ) (s : Store) (T : Tapes) → exec n (While t a) s T ≡ play n (Turns (Give s)) T
+no_turn t a v h f zero s T = refl
+no_turn t a v h f (suc n) s T = ap (λ c. play (suc n) (Turns c) T) (holds t v s _ h ∙ passed (truth v) f)
+  where
+    passed : (c : Bool) → c ≡ false →
+        (elim c [ true ↦ script_of (suc n) a s (λ r. turns_of n (λ r go. value_of t r go) (λ r go. script_of (suc n) a r go) r Give) | false ↦ Give s ]) ≡ Give s
+    passed true g = cc
+    passed false g = refl
+
+pub constants_hold : ConstantsHold
+constants_hold = record {
+  value = λ e v h n s T. ap (λ c. play n c T) (holds e v s Give h);
+  sign = λ e k h n s T. ap (λ c. play n c T) (sign_fails e k s Give h);
+  operator = λ o a b k h n s T. ap (λ c. play n c T) (operator_fails o a b k s Give h);
+  branch = branch_taken;
+  turn = no_turn;
+}

@@ -1,0 +1,9 @@
+-- The value of the operands so far.
+use Rattle.std.proofs.Common.{◌≡◌, drop}
+use Rattle.kahn_tree.specs.View.{Scope, expression_of}
+use Rattle.kahn_warnings.specs.Constants.{constant_of}
+use Rattle.kahn_warnings.proofs.Folding.{level_constant}
+use Rattle.kahn_warnings.proofs.constants.+constant_of.Given as goal
+
+abbrev pub invariant-loop-operand : goal.invariant-loop-operand
+invariant-loop-operand l = (names : Scope) → level_constant names l.left (drop l.operand-index l.operand-items) ≡ constant_of (expression_of names l.expression)

@@ -1,0 +1,15 @@
+use Rattle.std.proofs.Common.{rules, arith, ◌≡◌, ◌++◌, ◌∙◌, ap, sym, flat_map, take}
+use Rattle.std.proofs.lemmas.Grind.{common_steps}
+use Rattle.kahn_tree.specs.declared.tree.Action.TheViews.{the_lemmas}
+use Rattle.kahn_warnings.specs.Constants.{constant_warnings}
+use Rattle.kahn_warnings.proofs.Folding.{constants_in, row_warned}
+use Rattle.kahn_warnings.proofs.surely.+add_constants.Goals as goal
+
+pub returns-after-loop-inner : goal.returns-after-loop-inner
+returns-after-loop-inner t c =
+    let old = c.args.warnings.now.items in
+    let xs = c.in-Block.statements.items in
+    let ss = c.deref-inner-items.result.now in
+    let whole : constant_warnings c.args.statement.now.action ≡ flat_map constants_in xs = search (rules, the_lemmas, row_warned) in
+    let all : take c.loop-inner.inner-index ss ≡ ss = grind (arith, common_steps) in
+    c.loop-inner.invariant ∙ ap (λ l. old ++ flat_map constants_in l) (all ∙ c.deref-inner-items.ensures.value) ∙ ap (λ ws. old ++ ws) (sym whole)

@@ -1,0 +1,13 @@
+-- Believed. A warning of a part of the text.
+use Rattle.std.specs.Prelude.{List, [], ◌∷◌, Option, Some, None}
+use Rattle.kahn_tree.specs.declared.span.Span.{Span}
+use Rattle.kahn_warnings.specs.declared.warning.Warning.{Warning}
+use Rattle.kahn_warnings.specs.declared.warning.WarningKind.{WarningKind}
+
+-- of this part, and none where the part stands nowhere
+abbrev pub warned : WarningKind → Span → Warning
+warned k at = record { kind = k; span = at }
+
+abbrev pub warned_where : WarningKind → Option Span → List Warning
+warned_where k None = []
+warned_where k (Some at) = warned k at ∷ []

@@ -1,0 +1,137 @@
+//! The values that expressions have wherever they are reached, and the faults of operators on these.
+
+ghost use Rattle.std.specs.Prelude.{◌≡◌};
+ghost use Rattle.kahn_tree.specs.View.{Scope, expression_of};
+ghost use Rattle.kahn_warnings.specs.Constants.{bad, chosen, constant_of, divides, combined, good, inverted, negate_fault, negated, sure_fault};
+
+use crate::arithmetic::{apply, is_zero, negate, truth};
+use kahn_streams::{Failure, Value};
+use kahn_tree::{Expression, Form, Operator};
+
+/// The value, where there is no fault.
+fn good(outcome: Result<Value, Failure>) -> Option<Value>
+    ensures { result ≡ good outcome }
+{
+    match outcome {
+        Ok(value) => Some(value),
+        Err(_) => None,
+    }
+}
+
+/// The fault, where there is one.
+fn bad(outcome: Result<Value, Failure>) -> Option<Failure>
+    ensures { result ≡ bad outcome }
+{
+    match outcome {
+        Ok(_) => None,
+        Err(failure) => Some(failure),
+    }
+}
+
+/// The value with the other sign.
+fn negated(value: Option<Value>) -> Option<Value>
+    ensures { result ≡ negated value }
+{
+    match value {
+        None => None,
+        Some(value) => good(negate(value)),
+    }
+}
+
+/// The other truth value.
+fn inverted(value: Option<Value>) -> Option<Value>
+    ensures { result ≡ inverted value }
+{
+    match value {
+        None => None,
+        Some(value) => Some(Value::Logical(!truth(value))),
+    }
+}
+
+/// The value of an operator on two operands.
+pub(crate) fn combined(
+    operator: Operator,
+    left: Option<Value>,
+    right: Option<Value>,
+) -> Option<Value>
+    ensures { result ≡ combined operator left right }
+{
+    match (left, right) {
+        (None, _) => None,
+        (Some(_), None) => None,
+        (Some(left), Some(right)) => good(apply(operator, left, right)),
+    }
+}
+
+/// That of one of two branches.
+fn chosen(test: Option<Value>, yes: Option<Value>, no: Option<Value>) -> Option<Value>
+    ensures { result ≡ chosen test yes no }
+{
+    match test {
+        None => None,
+        Some(value) => { if truth(value) { yes } else { no } }
+    }
+}
+
+/// The value that an expression has wherever it is reached, by the constants in it.
+pub(crate) fn constant_of(expression: &Expression) -> Option<Value>
+    ensures { (names : Scope) → result ≡ constant_of (expression_of names expression.now) }
+{
+    match &expression.form {
+        Form::Number(number) => Some(Value::Integer(*number)),
+        Form::Logical(truth) => Some(Value::Logical(*truth)),
+        Form::Variable(_) => None,
+        Form::Wait(_) => None,
+        Form::Negate(inner) => negated(constant_of(inner)),
+        Form::Not(inner) => inverted(constant_of(inner)),
+        Form::Bracket(inner) => constant_of(inner),
+        Form::Level(first, rest) => {
+            let mut left = constant_of(first);
+            for operand in rest {
+                left = combined(operand.operator, left, constant_of(&operand.expression));
+            }
+            left
+        }
+        Form::Conditional(test, yes, no) => {
+            chosen(constant_of(test), constant_of(yes), constant_of(no))
+        }
+    }
+}
+
+/// The fault of a sign before a value.
+pub(crate) fn negate_fault(value: Option<Value>) -> Option<Failure>
+    ensures { result ≡ negate_fault value }
+{
+    match value {
+        None => None,
+        Some(value) => bad(negate(value)),
+    }
+}
+
+/// Whether an operator divides.
+fn divides(operator: Operator) -> bool
+    ensures { result ≡ divides operator }
+{
+    matches!(operator, Operator::Divide | Operator::Remainder)
+}
+
+/// The fault that an operator has whenever both operands have their values.
+pub(crate) fn sure_fault(
+    operator: Operator,
+    left: Option<Value>,
+    right: Option<Value>,
+) -> Option<Failure>
+    ensures { result ≡ sure_fault operator left right }
+{
+    match (left, right) {
+        (_, None) => None,
+        (None, Some(value)) => {
+            if divides(operator) && is_zero(value) {
+                Some(Failure::Division)
+            } else {
+                None
+            }
+        }
+        (Some(left), Some(right)) => bad(apply(operator, left, right)),
+    }
+}

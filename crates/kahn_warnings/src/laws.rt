@@ -1,0 +1,16 @@
+//! The laws of what is warned of.
+
+ghost use Rattle.kahn_warnings.specs.Constants.{ConstantsHold};
+ghost use Rattle.kahn_warnings.specs.Loops.{LoopsHold};
+
+/// The law of constants: what is warned of happens wherever it is reached, whatever the values of the names and whatever comes on the
+/// channels. Its contract is what it does.
+pub fn constants_hold()
+    ensures { ConstantsHold }
+{}
+
+/// The law of loops: what stands behind a statement that never ends is never done, and a loop that doesn't wait, send or print takes
+/// nothing and sends nothing. Its contract is what it does.
+pub fn loops_hold()
+    ensures { LoopsHold }
+{}

@@ -1,0 +1,202 @@
+"""Random networks that stop: why each process waits, as kahn_explain says it, against what the report of kahn and the tree say.
+
+    causes.py KAHN_EXPLAIN KAHN [COUNT] [SEED]     the same seed makes the same texts; where none is given it is chosen at random
+
+Who waits on whom is read off the report's end lines and the wiring of reference.py. Whoever has gone as many waits onward as there are
+instances, and still waits on one of them, is in a ring. What is said to be for ever is tried: the interpreter of reference.py runs the
+network on a longer input, and each such process has to end there as it did. A difference is printed, and its texts are kept.
+"""
+import os
+import random
+import re
+import shutil
+import subprocess
+import sys
+import tempfile
+from concurrent.futures import ThreadPoolExecutor
+
+sys.dont_write_bytecode = True
+sys.path.insert(0, os.path.dirname(os.path.abspath(__file__)))
+import fuzz
+import reference as ref
+
+WARNED = re.compile(r"[^\n]*:\d+:\d+: warning: ")
+FOR_EVER = ("ring", "ended", "fault overflow", "fault division")
+
+
+class Maker(fuzz.Maker):
+    """Networks of short processes, each with what it does to its channels in an order of its own."""
+
+    INSTANCES, CHANNELS = 12, 20
+
+    def process(self, name, shape):
+        if self.chance(0.15):
+            return super().process(name, shape)
+        ports = [(f"U{k}", way, kind) for k, (way, kind) in enumerate(shape)]
+        steps = [self.step(*port) for port in ports if self.chance(0.95)]
+        steps += [self.step(*self.r.choice(ports)) for _ in range(self.r.randint(0, 2)) if ports]
+        self.r.shuffle(steps)
+        first = [self.step(*port) for port in ports if port[1] == "out" and self.chance(0.3)]
+        steps = [step for step in steps if step] + ([self.pick("I := 12 div (3 - I)", "I := I * 9223372036854775807")] if self.chance(0.12) else [])
+        turn = "I := I + 1; " + "; ".join(steps)
+        form = self.r.random()
+        body = f"repeat begin {turn} end" if form < 0.55 else f"while I < {self.r.randint(1, 4)} do begin {turn} end" if form < 0.8 else turn
+        groups = "; ".join(f"{kind}{'' if way == 'value' else ' ' + way} {port}" for port, way, kind in ports)
+        return f"process {name}({groups}); begin integer I; logical B; {'; '.join(first + [body])} end"
+
+    def step(self, port, way, kind):
+        if way == "in":
+            return f"{'I' if kind == 'integer' else 'B'} := wait({port})"
+        return "" if way == "value" else f"send {'I' if kind == 'integer' else 'B'} on {port}"
+
+
+def case(seed):
+    """A program, an input, and the words of the command line for a run by one worker."""
+    rng = random.Random(seed)
+    while True:
+        maker = Maker(rng)
+        text = maker.program()
+        try:
+            checked = ref.Checker(ref.Parser(ref.lex(text.encode()), len(text.encode())).program())
+            source = maker.input()
+            inputs = ref.input_of(checked, source.encode())
+        except ref.Fault:
+            continue
+        bound = rng.choice((0, 3, 10, 100, 1000, 3000, 3000, 3000))
+        return text, source, checked, inputs, ["--bound", str(bound), "--quantum", str(rng.choice((1, 2, 10, 1000)))], rng
+
+
+def ends_of(checked, report):
+    """How each instance stands, what it waits on and its events; and the last line."""
+    lines = report[:-1].split("\n")
+    found = [ref.END.match(line) for line in lines[-1 - len(checked.instances):-1]]
+    names = {name: c for c, (name, _, _, _) in enumerate(checked.channels)}
+    return [(m.group(3), names.get(m.group(4)), int(m.group(5))) for m in found], lines[-1]
+
+
+def awaited(checked, ends, p):
+    """The instance that p waits on, or None."""
+    channel = ends[p][1]
+    return None if channel is None or checked.channels[channel][2] == "input" else checked.writer[channel][0]
+
+
+def cause(checked, ends, p):
+    """(why, z): what the waits of p lead to, and the instance by which that is told."""
+    for _ in ends:
+        onward = awaited(checked, ends, p)
+        if onward is None:
+            return ("an input" if ends[p][1] is not None else ends[p][0]), p
+        p = onward
+    ring = [p]
+    while awaited(checked, ends, ring[-1]) != p:
+        ring.append(awaited(checked, ends, ring[-1]))
+    return "ring", min(ring)
+
+
+def line_of(checked, ends, p):
+    """What is said of an instance that waits or has a fault."""
+    def who(z):
+        return f"{z + 1} {checked.instances[z][0][1]}"
+
+    word, channel, _ = ends[p]
+    if channel is None:
+        return f"{who(p)} has a fault, {word.split()[1]}"
+    name, writer = checked.channels[channel][0], awaited(checked, ends, p)
+    out = f"{who(p)} waits on {name}" + (", an input" if writer is None else f" from {who(writer)}")
+    why, z = cause(checked, ends, p)
+    if why == "an input":
+        return out if z == p else f"{out}, as {who(z)} waits on {checked.channels[ends[z][1]][0]}, an input"
+    if why == "wants more":
+        return f"{out}, as {who(z)} wants more events"
+    return f"{out}, as {who(z)} " + {"ring": "is in a deadlock", "ended": "has ended"}.get(why, "has a fault") + ": for ever"
+
+
+def wanted_of(checked, ends, last):
+    """The explanation, its status, and the causes."""
+    told = [p for p, (word, channel, _) in enumerate(ends) if channel is not None or word.startswith("fault")]
+    causes = {p: cause(checked, ends, p) for p in told}
+    text = "".join(line_of(checked, ends, p) + "\n" for p in told) + last + "\n"
+    whys = [why for why, _ in causes.values()]
+    status = 8 if any(ends[p][0].startswith("fault") for p in told) else 7 if "ring" in whys else 3 if last.startswith("stopped by bound") else 0
+    return text, status, causes
+
+
+def lasts(checked, inputs, ends, causes, rng):
+    """What isn't for ever of what is said to be, by a longer input; or how many processes were looked at."""
+    longer = {}
+    for c, (_, kind, role, _) in enumerate(checked.channels):
+        more = [rng.randint(-5, 5) if kind == "integer" else rng.random() < 0.5 for _ in range(rng.randint(0, 6))]
+        if role == "input":
+            longer[c] = inputs.get(c, []) + more
+    network = ref.Network(checked, longer)
+    finished = network.run(4000)
+    count = 0
+    for p, (why, _) in causes.items():
+        if why in FOR_EVER:
+            it = network.processes[p]
+            now = it.state if it.state != "more" else "wants more" if it.waits() is None else "waits on " + checked.channels[it.waits()][0]
+            if it.events > ends[p][2] or finished and (now, it.events) != (ends[p][0], ends[p][2]):
+                return f"{p + 1} {ends[p]}, and with a longer input {now} after {it.events}"
+            count += finished
+    return count
+
+
+def one(explain, kahn, room, seed):
+    """(None, the causes and how many of them were tried), or (what differs, the texts' paths)."""
+    number = seed * 1000
+    while True:
+        text, source, checked, inputs, words, rng = case(number)
+        path = f"{room}/{seed}.kahn"
+        for name, content in ((path, text), (path + ".input", source)):
+            with open(name, "w", encoding="utf-8", newline="") as it:
+                it.write(content)
+        words = [path, "--input", path + ".input", *words, "--workers"]
+        ran = subprocess.run([kahn, *words, "1"], stdin=subprocess.DEVNULL, capture_output=True, timeout=60)
+        ends, last = ends_of(checked, ran.stdout.decode())
+        wanted, status, causes = wanted_of(checked, ends, last)
+        if causes:
+            break
+        number += 1
+    workers = str(rng.choice((1, 4, 16))) if last.startswith("finished") else "1"
+    ran = subprocess.run([explain, *words, workers], stdin=subprocess.DEVNULL, capture_output=True, timeout=60)
+    got = ran.stdout.decode()
+    before = got[:-len(wanted)]
+    if not got.endswith(wanted) or before and not WARNED.match(before) or ran.returncode != status or ran.stderr:
+        return f"status {ran.returncode}, not {status}, {got!r}, not {wanted!r}, {ran.stderr[:200]!r}", " ".join(words)
+    tried = lasts(checked, inputs, ends, causes, rng)
+    if isinstance(tried, str):
+        return tried, " ".join(words)
+    os.remove(path)
+    os.remove(path + ".input")
+    return None, ([why for why, _ in causes.values()], tried)
+
+
+def main():
+    explain, kahn, count = os.path.abspath(sys.argv[1]), os.path.abspath(sys.argv[2]), int(sys.argv[3]) if len(sys.argv) > 3 else 150
+    first = int(sys.argv[4]) if len(sys.argv) > 4 else random.randrange(10**6)
+    print(f"seed {first}", flush=True)
+    room = tempfile.mkdtemp(prefix="kahn-causes-")
+    kinds, tried, failed = {}, 0, 0
+    seeds = range(first, first + count)
+    with ThreadPoolExecutor(os.cpu_count()) as pool:
+        for seed, (what, more) in zip(seeds, pool.map(lambda seed: one(explain, kahn, room, seed), seeds)):
+            if what is not None:
+                failed += 1
+                print(f"FAILED {seed}: {what}\n   {more}", flush=True)
+                continue
+            tried += more[1]
+            for why in more[0]:
+                kinds[why] = kinds.get(why, 0) + 1
+    for why in sorted(kinds, key=kinds.get, reverse=True):
+        print(f"{kinds[why]:6} {why}")
+    print(f"{tried:6} for ever, tried with a longer input")
+    if failed:
+        print(f"the texts are kept in {room}")
+    else:
+        shutil.rmtree(room)
+    print(f"{count - failed} passed, {failed} failed")
+    return 1 if failed else 0
+
+
+if __name__ == "__main__":
+    sys.exit(main())
