@@ -7,11 +7,12 @@ ghost use Rattle.kahn_code.specs.Flat.{stmt_code, depth, registers_of};
 ghost use Rattle.kahn_streams.specs.Laws.{AreInputsExtended};
 ghost use Rattle.kahn_streams.specs.Solution.{opening};
 ghost use Rattle.kahn_streams.specs.Tokens.{Names};
+ghost use Rattle.kahn_code.specs.Cells.{StoodBy};
 ghost use Rattle.kahn_code.specs.inner.Gone.{kept_behind, nothing_gone};
 ghost use Rattle.kahn_code.specs.Progress.{core_of, opening_core};
 ghost use Rattle.kahn_code.specs.Seats.{Leaves, Grows};
 ghost use Rattle.kahn_code.specs.Standing.{tokens};
-ghost use Rattle.kahn_code.specs.Told.{AreCounts, seat_of, IsAt, IsStanding, IsStill, WantsRoom};
+ghost use Rattle.kahn_code.specs.Told.{AreCounts, seat_of, told_view, IsAt, IsStanding, IsStill, WantsRoom};
 ghost use Rattle.kahn_code.specs.inner.Tapped.{AreUnused, HasForgotten, IsPausedBy, IsSameProcess, tapped_of};
 
 use crate::cell::Kept;
@@ -142,6 +143,15 @@ impl<A: Allocator + Copy + Drop> Tap<A> {
     pub fn sized(&self)
         ensures { AreCounts self.now.told }
     {
+        let _events = self.progress.events;
+    }
+
+    /// Says where its process stands: on the values that it took it does its events. Its contract is what it does.
+    pub fn stood(&self, network: &Network)
+        requires { self.now.told.network ≡ network.now }
+        ensures { StoodBy (network_of network.now) (inputs_of self.now.told.input) self.now.told.watch self.now.told.instance (told_view self.now.told) }
+    {
+        let _program = network.program();
         let _events = self.progress.events;
     }
 

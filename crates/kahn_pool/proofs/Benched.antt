@@ -141,7 +141,7 @@ abbrev pub IsSame : Told → Told → Type 0
 IsSame old new = (new.network ≡ old.network) × (new.input ≡ old.input) × (new.instance ≡ old.instance) × (new.watch ≡ old.watch)
 
 abbrev pub ran : Table → ℕ → Told → Queues → Table
-ran b p c q = record { network = b.network; input = b.input; watch = b.watch; code = b.code; cells = slice_set b.cells p c; queues = q }
+ran b p c q = record { network = b.network; input = b.input; watch = b.watch; code = b.code; cells = slice_set b.cells p c; gone = b.gone; queues = q }
 
 -- the queues as the ports of instance p
 abbrev pub ports_of : Queues → Seat

@@ -1,6 +1,6 @@
 -- An answer that want of memory cut short.
 use mathlib.Core.Path.{fun_ext}
-use Rattle.std.proofs.Common.{arith, ◌≡◌, ◌⊎◌, inl, inr, ℕ, ◌+◌, ◌<◌, List, [], length, refl, sym, ap, ◌∙◌, subst, Option, Some, slice_get, Bool, true}
+use Rattle.std.proofs.Common.{arith, ◌≡◌, ◌⊎◌, inl, inr, ℕ, ◌+◌, [], length, refl, sym, ap, ◌∙◌, subst, Option, Bool, true}
 use Rattle.std.proofs.lemmas.Option.{none-some}
 use Rattle.kahn_network.proofs.Numbered.{there}
 use Rattle.kahn_network.specs.Network.{Network, Reads, instance_at, actual_at}

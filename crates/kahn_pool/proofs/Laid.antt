@@ -1,5 +1,6 @@
 -- Cells at their openings over queues from which nothing was taken.
-use Rattle.std.proofs.Common.{arith, ◌≡◌, ℕ, zero, suc, ◌+◌, List, [], ◌∷◌, ◌++◌, length, map, sum_by, refl, sym, ap, ◌∙◌, Option, Some, slice_get, slice_index_or}
+use Rattle.std.proofs.Common.{arith, ◌≡◌, ℕ, zero, suc, ◌+◌, List, [], ◌∷◌, ◌++◌, length, map, replicate, sum_by, refl, sym, ap, ◌∙◌, Option, Some, slice_get, slice_index_or}
+use Rattle.std.proofs.lemmas.List.{map-append, replicate-append-replicate}
 use Rattle.std.proofs.lemmas.List.Sums.{sum_by-cons}
 use Rattle.kahn_tree.specs.declared.tree.Program.{Program}
 use Rattle.kahn_network.specs.Network.{Writes, network_of, instance_at, actual_at, role_at}
@@ -13,12 +14,14 @@ use Rattle.kahn_code.specs.Told.{Told, told_view, IsAt}
 use Rattle.kahn_code.proofs.Lists.{one_first}
 use Rattle.kahn_code.proofs.Queued.{given_zero, taken_zero}
 use Rattle.kahn_pool.specs.inner.Bench.{view_events}
-use Rattle.kahn_pool.specs.inner.Workbench.{IsLaid, IsSeated, IsOpening, AreOpening}
+use Rattle.kahn_code.specs.inner.Gone.{nothing_gone}
+use Rattle.kahn_code.specs.inner.Tapped.{Tapped}
+use Rattle.kahn_pool.specs.inner.Workbench.{IsLaid, IsSeated, IsOpening, AreOpening, gone_in, table_of, told_in}
 
-pub laid_first : (t code : Program) (lists : Lists) (watch : Option ℕ) (cells : List Told) (q : Queues) → IsWellWired t → code ≡ t →
-    AreOpening t lists watch cells (length (network_of t).instances) → (q.network ≡ t) × (q.input ≡ lists) → AreFirst t lists q.queues →
-    IsLaid (record { network = t; input = lists; watch = watch; code = code; cells = cells; queues = q })
-laid_first t code lists watch cells q wired same cells_open names first = record {
+pub laid_first : (t code : Program) (lists : Lists) (watch : Option ℕ) (taps : List Tapped) (q : Queues) → IsWellWired t → code ≡ t →
+    AreOpening t lists watch (map told_in taps) (length (network_of t).instances) → (q.network ≡ t) × (q.input ≡ lists) → AreFirst t lists q.queues →
+    IsLaid (table_of t lists watch code taps q)
+laid_first t code lists watch taps q wired same cells_open names first = record {
   wired = wired;
   code = same;
   count = cells_open.count;
@@ -27,8 +30,7 @@ laid_first t code lists watch cells q wired same cells_open names first = record
   input = names.1;
 }
   where
-    each : (p : ℕ) (c : Told) → slice_get cells p ≡ Some c →
-        IsSeated (record { network = t; input = lists; watch = watch; code = code; cells = cells; queues = q }) p c
+    each : (p : ℕ) (c : Told) → slice_get (map told_in taps) p ≡ Some c → IsSeated (table_of t lists watch code taps q) p c
     each p c at =
         let o : IsOpening t lists watch p c = cells_open.each p c at in
         record {
@@ -63,6 +65,14 @@ pub opening_more : (t : Program) (lists : Lists) (watch : Option ℕ) (cells all
 opening_more t lists watch cells all n c h o is =
     let r = one_first (IsOpening t lists watch) cells all c n (record { count = h.count; each = h.each }) is o in
     record { count = r.count; each = r.each }
+
+-- and it let go of nothing
+pub whole_more : (taps all : List Tapped) (n : ℕ) (x : Tapped) → map gone_in taps ≡ replicate n nothing_gone → x.gone ≡ nothing_gone → all ≡ taps ++ x ∷ [] →
+    map gone_in all ≡ replicate (n + 1) nothing_gone
+whole_more taps all n x h e is = ap (map gone_in) is ∙ map-append gone_in taps (x ∷ []) ∙ ap (λ l. l ++ x.gone ∷ []) h ∙ ap (λ g. replicate n nothing_gone ++ g ∷ []) e ∙ more n
+  where
+    more : (n : ℕ) → replicate n nothing_gone ++ nothing_gone ∷ [] ≡ replicate (n + 1) nothing_gone
+    more n = replicate-append-replicate n 1 nothing_gone
 
 pub no_events : (cells : List Told) → ((p : ℕ) (c : Told) → slice_get cells p ≡ Some c → c.events ≡ 0) → sum_by view_events (map told_view cells) ≡ 0
 no_events [] h = refl

@@ -9,6 +9,7 @@ pub mod Unique
 pub mod Sizes
 pub mod Bridged
 pub mod Benched
+pub mod Tapping
 pub mod Laid
 pub mod Named
 pub mod Filled

@@ -3,6 +3,7 @@
 
 mod answer;
 mod awake;
+mod bench;
 mod conclude;
 mod config;
 mod copies;

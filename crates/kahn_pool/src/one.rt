@@ -44,10 +44,12 @@ fn run_opened<G: Gate, L: Ledger>(
     ensures right { IfOk result (λ a. MatchOption a (may_leave ≡ true) (IsRight (network_of network.now) (inputs_of input.now) bound watch)) }
     ensures short { IfOk result (λ a. IfSome a (IsCutShort bound)) }
 {
-    let steps = Steps::<L>::open(blank);
+    let mut steps = Steps::<L>::open(blank);
     let ends = Vec::with_capacity(alloc, network.instances())?;
-    let bench = Workbench::new(alloc, network, input, watch, steps)?;
-    Ok(run_bench(bench, gate, ends, quantum, bound, may_leave))
+    let bench = Workbench::new(alloc, network, input, watch)?;
+    Ok(run_bench(
+        bench, &mut steps, gate, ends, quantum, bound, may_leave,
+    ))
 }
 
 /// Runs a network on the caller's thread over plain queues, with a watched channel or none, each process for at most

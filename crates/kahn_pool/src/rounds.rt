@@ -6,7 +6,7 @@ ghost use Rattle.kahn_pool.specs.inner.Bench.{State, HasRun, Paused, Rests, Goes
 ghost use Rattle.kahn_pool.specs.inner.Gathered.{IsFrom};
 ghost use Rattle.kahn_pool.specs.Exact.{IsCutShort};
 ghost use Rattle.kahn_pool.specs.Right.{IsRight, line_of, stream_lines};
-ghost use Rattle.kahn_pool.specs.inner.Workbench.{state_of};
+ghost use Rattle.kahn_pool.specs.inner.Workbench.{HasWorked, state_of};
 ghost use Rattle.kahn_pool.specs.declared.answer.Outcome.TheVariants as outcome;
 ghost use Rattle.kahn_pool.specs.declared.answer.Stream.{Stream};
 ghost use Rattle.kahn_code.specs.declared.progress.Pause.TheVariants as pause;
@@ -14,9 +14,10 @@ ghost use Rattle.std.specs.Prelude.{vec_len, vec_capacity};
 ghost use Rattle.std.specs.Prelude.{◌≡◌, ◌⊎◌, ◌<◌, ◌≤◌, ◌+◌, ◌^◌, ℕ, suc, length, map, true, false, IsTrue, IsFalse, slice_get, Some, None, IfOk, IfSome, IsOk, MatchOption, cond};
 
 use crate::answer::{Answer, End, Outcome, Verdict};
+use crate::bench::Bench;
 use crate::laws;
 use crate::workbench::Workbench;
-use kahn_code::Pause;
+use kahn_code::{Pause, Steps};
 use kahn_crew::Gate;
 use std::sync::ledger::Ledger;
 
@@ -36,7 +37,7 @@ struct Round {
 }
 
 // The end of an instance that stands so.
-fn end_of<L: Ledger>(bench: &Workbench<'_, L>, instance: usize, stopped: Pause) -> End
+fn end_of(bench: &Bench<'_>, instance: usize, stopped: Pause) -> End
     requires here { instance < length (state_of bench.now).network.instances }
     requires paused { Paused (state_of bench.now) instance stopped }
     ensures rests { Rests (state_of bench.now) instance result }
@@ -58,24 +59,26 @@ fn end_of<L: Ledger>(bench: &Workbench<'_, L>, instance: usize, stopped: Pause) 
 // Runs a cell for at most so many events, as the bench does. A gate that isn't open is entered just before, where the cell may
 // go on.
 fn run_gated<L: Ledger, G: Gate>(
-    bench: &mut Workbench<'_, L>,
+    bench: &mut Bench<'_>,
+    steps: &mut Steps<L>,
     gate: &G,
     instance: usize,
     quantum: u64,
 ) -> Pause
     requires here { instance < length (state_of bench.old).network.instances }
     requires bound { events_at (state_of bench.old) instance + quantum < 2 ^ 48 }
-    ensures { HasRun (state_of bench.old) (state_of bench.new) instance quantum result }
+    ensures ran { HasRun (state_of bench.old) (state_of bench.new) instance quantum result }
+    ensures worked { HasWorked bench.old bench.new }
 {
     if quantum == 0 || gate.is_open() {
-        return bench.run(instance, quantum);
+        return bench.run(instance, quantum, steps);
     }
-    let next = bench.run(instance, 0);
+    let next = bench.run(instance, 0, steps);
     if !matches!(next, Pause::Spent) {
         return next;
     }
     gate.enter(instance);
-    bench.run(instance, quantum)
+    bench.run(instance, quantum, steps)
 }
 
 impl Round {
@@ -118,7 +121,8 @@ impl Round {
     // Runs one cell, and marks what was done. Answers how it stands then.
     fn visit<L: Ledger, G: Gate>(
         &mut self,
-        bench: &mut Workbench<'_, L>,
+        bench: &mut Bench<'_>,
+        steps: &mut Steps<L>,
         gate: &G,
         instance: usize,
     ) -> End
@@ -128,10 +132,11 @@ impl Round {
         ensures visited { HasVisited (state_of bench.old) (state_of bench.new) self.old self.new instance result }
         ensures ends { self.new.ends ≡ self.old.ends }
         ensures share { self.new.share ≡ self.old.share }
+        ensures worked { HasWorked bench.old bench.new }
     {
         let before = bench.events(instance);
         let quantum = self.quantum();
-        let stopped = run_gated(bench, gate, instance, quantum);
+        let stopped = run_gated(bench, steps, gate, instance, quantum);
         let done = bench.events(instance) - before;
         self.mark(done, stopped);
         let end = end_of(bench, instance, stopped);
@@ -140,7 +145,13 @@ impl Round {
     }
 
     // Visits one cell and notes its end.
-    fn step<L: Ledger, G: Gate>(&mut self, bench: &mut Workbench<'_, L>, gate: &G, instance: usize)
+    fn step<L: Ledger, G: Gate>(
+        &mut self,
+        bench: &mut Bench<'_>,
+        steps: &mut Steps<L>,
+        gate: &G,
+        instance: usize,
+    )
         requires here { instance < length (state_of bench.old).network.instances }
         requires known { length (state_of bench.old).cells ≡ length (state_of bench.old).network.instances }
         requires bound { all_events (state_of bench.old) + self.old.left < 2 ^ 48 }
@@ -151,8 +162,9 @@ impl Round {
         ensures same { IsSameRun (state_of bench.old) (state_of bench.new) }
         ensures size { vec_len self.new.ends ≡ vec_len self.old.ends + 1 }
         ensures room { vec_capacity self.new.ends ≡ vec_capacity self.old.ends }
+        ensures worked { HasWorked bench.old bench.new }
     {
-        let end = self.visit(bench, gate, instance);
+        let end = self.visit(bench, steps, gate, instance);
         self.ends.push_reserved(end);
     }
 
@@ -169,7 +181,8 @@ impl Round {
 
 // Visits those that may go on as the ends of the last round say, one after another, so many before the next round of all.
 fn run_awake<L: Ledger, G: Gate>(
-    bench: &mut Workbench<'_, L>,
+    bench: &mut Bench<'_>,
+    steps: &mut Steps<L>,
     gate: &G,
     ends: Vec<End>,
     share: u64,
@@ -183,6 +196,7 @@ fn run_awake<L: Ledger, G: Gate>(
     ensures moved { HasMoved (state_of bench.old) (state_of bench.new) left memory result.left result.memory }
     ensures ends { result.ends ≡ ends }
     ensures share { result.share ≡ share }
+    ensures worked { HasWorked bench.old bench.new }
 {
     let mut round = Round {
         share,
@@ -200,7 +214,7 @@ fn run_awake<L: Ledger, G: Gate>(
         let Some(instance) = bench.next() else {
             return round;
         };
-        let end = round.visit(bench, gate, instance);
+        let end = round.visit(bench, steps, gate, instance);
         bench.left(instance, end.outcome);
     }
     round
@@ -208,7 +222,8 @@ fn run_awake<L: Ledger, G: Gate>(
 
 // One round. Its ends go into the list that it is given, which has room for all.
 fn one_round<L: Ledger, G: Gate>(
-    bench: &mut Workbench<'_, L>,
+    bench: &mut Bench<'_>,
+    steps: &mut Steps<L>,
     gate: &G,
     mut ends: Vec<End>,
     share: u64,
@@ -224,6 +239,7 @@ fn one_round<L: Ledger, G: Gate>(
     ensures same { IsSameRun (state_of bench.old) (state_of bench.new) }
     ensures share { result.share ≡ share }
     ensures room { vec_capacity result.ends ≡ vec_capacity ends }
+    ensures worked { HasWorked bench.old bench.new }
 {
     let count = bench.instance_count();
     ends.clear();
@@ -236,7 +252,7 @@ fn one_round<L: Ledger, G: Gate>(
         ends,
     };
     for instance in 0..count {
-        round.step(bench, gate, instance);
+        round.step(bench, steps, gate, instance);
     }
     round
 }
@@ -244,7 +260,8 @@ fn one_round<L: Ledger, G: Gate>(
 // What comes before a round of all: where the gate is open and most visits of the last round were in vain, those that may go on are
 // visited. At other gates all take turns.
 fn run_between<L: Ledger, G: Gate>(
-    bench: &mut Workbench<'_, L>,
+    bench: &mut Bench<'_>,
+    steps: &mut Steps<L>,
     gate: &G,
     last: Round,
     may_leave: bool,
@@ -255,6 +272,7 @@ fn run_between<L: Ledger, G: Gate>(
     ensures moved { HasMoved (state_of bench.old) (state_of bench.new) last.left last.memory result.left result.memory }
     ensures ends { result.ends ≡ last.ends }
     ensures share { result.share ≡ last.share }
+    ensures worked { HasWorked bench.old bench.new }
 {
     if gate.is_open() && last.is_sparse() {
         let Round {
@@ -264,14 +282,15 @@ fn run_between<L: Ledger, G: Gate>(
             ends,
             ..
         } = last;
-        return run_awake(bench, gate, ends, share, left, memory, may_leave);
+        return run_awake(bench, steps, gate, ends, share, left, memory, may_leave);
     }
     last
 }
 
 // Rounds, until one in which nothing was done, or there is work for several and the run may be left to them.
 fn last_round<L: Ledger, G: Gate>(
-    bench: &mut Workbench<'_, L>,
+    bench: &mut Bench<'_>,
+    steps: &mut Steps<L>,
     gate: &G,
     ends: Vec<End>,
     quantum: u64,
@@ -286,16 +305,17 @@ fn last_round<L: Ledger, G: Gate>(
     ensures lacks { IfSome result (λ r. LacksMemory (state_of bench.new) r.left r.memory) }
     ensures share { IfSome result (λ r. r.share ≡ quantum) }
     ensures same { IsSameRun (state_of bench.old) (state_of bench.new) }
+    ensures worked { HasWorked bench.old bench.new }
 {
     let mut ends = ends;
     let mut left = bound;
     let mut memory = false;
     'rounds: loop {
-        let round = one_round(bench, gate, ends, quantum, left, memory);
+        let round = one_round(bench, steps, gate, ends, quantum, left, memory);
         if !round.moved {
             return Some(round);
         }
-        let between = run_between(bench, gate, round, may_leave);
+        let between = run_between(bench, steps, gate, round, may_leave);
         if may_leave && bench.is_wide() {
             return None;
         }
@@ -321,7 +341,7 @@ pub(crate) fn verdict_of(memory: bool, ends: &[End]) -> Verdict
 }
 
 // The answer of a run of which this was the last round.
-fn answered<L: Ledger>(bench: Workbench<'_, L>, last: Round, bound: u64) -> Answer
+fn answered(bench: Workbench<'_>, last: Round, bound: u64) -> Answer
     requires last { IsLast (state_of bench) bound last.left last.memory last.ends.items }
     requires lacks { LacksMemory (state_of bench) last.left last.memory }
     ensures right { IsRight (state_of bench.entry).network (state_of bench.entry).input bound (state_of bench.entry).watch result }
@@ -342,7 +362,8 @@ fn answered<L: Ledger>(bench: Workbench<'_, L>, last: Round, bound: u64) -> Answ
 /// and answers right: want of memory stopped it only where an instance has a next event and the bound isn't used up. It answers
 /// nothing where the run may be left and there is work for several. The list of ends has room for each instance.
 pub fn run_bench<L: Ledger, G: Gate>(
-    mut bench: Workbench<'_, L>,
+    mut bench: Workbench<'_>,
+    steps: &mut Steps<L>,
     gate: &G,
     ends: Vec<End>,
     quantum: u64,
@@ -357,7 +378,7 @@ pub fn run_bench<L: Ledger, G: Gate>(
     ensures right { MatchOption result (may_leave ≡ true) (IsRight (state_of bench.entry).network (state_of bench.entry).input bound (state_of bench.entry).watch) }
     ensures short { IfSome result (IsCutShort bound) }
 {
-    match last_round(&mut bench, gate, ends, quantum, bound, may_leave) {
+    match last_round(&mut bench.bench, steps, gate, ends, quantum, bound, may_leave) {
         Some(last) => Some(answered(bench, last, bound)),
         None => None,
     }

@@ -1,5 +1,5 @@
 -- Inner. The cells of a network over its plain queues, as a run on one thread has them.
-use Rattle.std.specs.Prelude.{◌≡◌, ℕ, ◌≤◌, List, [], length, map, replicate, Option, Some, slice_get}
+use Rattle.std.specs.Prelude.{◌≡◌, ℕ, ◌≤◌, List, [], ◌∷◌, ◌++◌, length, map, replicate, Option, Some, slice_get}
 use Rattle.kahn_tree.specs.declared.tree.Program.{Program}
 use Rattle.kahn_network.specs.Network.{network_of, instance_at}
 use Rattle.kahn_network.specs.Wiring.{IsWellWired}
@@ -7,23 +7,49 @@ use Rattle.kahn_streams.specs.Tokens.{Lists, inputs_of}
 use Rattle.kahn_code.specs.Lines.{Lines as Queues, place_at}
 use Rattle.kahn_code.specs.Told.{Told, told_view, IsAt}
 use Rattle.kahn_code.specs.declared.cell.Kept.{Kept}
-use Rattle.kahn_pool.specs.inner.Bench.{State}
+use Rattle.kahn_code.specs.inner.Gone.{Gone, kept_behind, nothing_gone}
+use Rattle.kahn_code.specs.inner.Tapped.{Tapped}
+use Rattle.kahn_pool.specs.inner.Bench.{State, events_at}
 use Rattle.kahn_pool.specs.Right.{line_of, stream_lines}
 use Rattle.kahn_pool.specs.inner.Streams.{HasInputs, kept_lists, printed_list}
 use Rattle.kahn_pool.specs.declared.answer.Stream.{Stream}
 
--- the program and the input, the watched channel, the program of the code, the cells and the queues
+-- the program and the input, the watched channel, the program of the code, the cells, what they let go of, and the queues
 pub record Table : Type 0 where
   pub network : Program
   pub input : Lists
   pub watch : Option ℕ
   pub code : Program
   pub cells : List Told
+  pub gone : List Gone
   pub queues : Queues
+
+abbrev pub told_in : Tapped → Told
+told_in x = x.told
+
+abbrev pub gone_in : Tapped → Gone
+gone_in x = x.gone
+
+-- what contracts see of these taps over these queues
+abbrev pub table_of : Program → Lists → Option ℕ → Program → List Tapped → Queues → Table
+table_of t lists watch code taps queues =
+    record { network = t; input = lists; watch = watch; code = code; cells = map told_in taps; gone = map gone_in taps; queues = queues }
+
+-- none of so many cells has let go of anything
+abbrev pub AreWhole : ℕ → List Gone → Type 0
+AreWhole n gone = gone ≡ replicate n nothing_gone
 
 -- what rounds see of it
 abbrev pub state_of : Table → State
 state_of b = record { network = network_of b.network; input = inputs_of b.input; watch = b.watch; cells = map told_view b.cells }
+
+-- later, on the same network and input with the same channel watched: nothing more was let go of, and no instance has fewer events
+pub record HasWorked (old new : Table) : Type 0 where
+  pub network : new.network ≡ old.network
+  pub input : new.input ≡ old.input
+  pub watch : new.watch ≡ old.watch
+  pub gone : new.gone ≡ old.gone
+  pub events : (p : ℕ) → events_at (state_of old) p ≤ events_at (state_of new) p
 
 -- the cell is that of instance p, and stands where the queues stand
 pub record IsSeated (b : Table) (p : ℕ) (c : Told) : Type 0 where
@@ -73,6 +99,17 @@ parameters_of k = length k.kept.items
 
 abbrev pub actuals_of : Told → ℕ
 actuals_of c = length (instance_at (network_of c.network) c.instance).actuals
+
+-- these lists are there of what the tap kept, behind what it let go of
+abbrev pub IsLeft : {A : Type 0} → Tapped → Kept A → Type 0
+IsLeft x k =
+    (kept_behind x.gone.kept (kept_lists k) ≡ x.told.kept) × (x.gone.printed ++ printed_list k ≡ x.told.printed) × (parameters_of k ≡ actuals_of x.told)
+
+abbrev pub AreLeft : {A : Type 0} → List Tapped → List (Kept A) → Type 0
+AreLeft [] [] = Unit {0}
+AreLeft [] (k ∷ kept) = ⊥
+AreLeft (x ∷ taps) [] = ⊥
+AreLeft (x ∷ taps) (k ∷ kept) = IsLeft x k × AreLeft taps kept
 
 -- these are the lists that the cells kept
 pub record AreKeptOf {A : Type 0} (cells : List Told) (kept : List (Kept A)) : Type 0 where

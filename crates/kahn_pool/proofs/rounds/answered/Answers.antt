@@ -7,7 +7,7 @@ use Rattle.kahn_pool.proofs.Lacking.{cut_short}
 use Rattle.kahn_pool.proofs.rounds.answered.Goals as goal
 
 pub returns-clause-right : goal.returns-clause-right
-returns-clause-right g c =
+returns-clause-right c =
     let s = state_of c.args.bench in
     let b = c.args.bound in
     let last = c.args.last in
@@ -20,7 +20,7 @@ returns-clause-right g c =
     (omega (arith, total)))
 
 pub returns-clause-short : goal.returns-clause-short
-returns-clause-short g c =
+returns-clause-short c =
     let s = state_of c.args.bench in
     let b = c.args.bound in
     let last = c.args.last in

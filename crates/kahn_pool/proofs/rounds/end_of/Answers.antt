@@ -9,7 +9,7 @@ use Rattle.kahn_pool.proofs.rounds.end_of.Goals as goal
 use Rattle.kahn_pool.proofs.rounds.end_of.Goals.{in-Spent, in-NoMemory, in-Ended, in-Fault, in-Dry}
 
 pub returns-clause-rests : goal.returns-clause-rests
-returns-clause-rests g c =
+returns-clause-rests c =
     let s = state_of c.args.bench.now in
     let p = c.args.instance in
     let h = c.requires.paused in
@@ -27,7 +27,7 @@ returns-clause-rests g c =
     }
 
 pub channel-requires : goal.channel-requires
-channel-requires g c =
+channel-requires c =
     let s = state_of c.args.bench.now in
     let p = c.args.instance in
     let h = c.requires.paused in

@@ -1,6 +1,6 @@
 use Rattle.std.proofs.Common.{◌≡◌, ◌≤◌, ◌+◌, length, vec_capacity}
 use Rattle.kahn_pool.specs.inner.Bench.{LacksMemory, all_events, weight}
-use Rattle.kahn_pool.specs.inner.Workbench.{state_of}
+use Rattle.kahn_pool.specs.inner.Workbench.{HasWorked, state_of}
 use Rattle.kahn_pool.proofs.rounds.last_round.Given as goal
 
 abbrev pub invariant-rounds : goal.invariant-rounds
@@ -8,6 +8,7 @@ invariant-rounds g l = record {
   network : (state_of l.bench).network ≡ (state_of l.fn.bench).network;
   input : (state_of l.bench).input ≡ (state_of l.fn.bench).input;
   watch : (state_of l.bench).watch ≡ (state_of l.fn.bench).watch;
+  worked : HasWorked l.fn.bench l.bench;
   known : length (state_of l.bench).cells ≡ length (state_of l.bench).network.instances;
   total : all_events (state_of l.bench) + l.left ≡ all_events (state_of l.fn.bench) + l.fn.bound;
   lacks : LacksMemory (state_of l.bench) l.left l.memory;

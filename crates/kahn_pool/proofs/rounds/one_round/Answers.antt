@@ -1,6 +1,7 @@
 use Rattle.std.proofs.Common.{◌+◌, length, sym, ap, ◌∙◌, add-one}
 use Rattle.kahn_pool.specs.inner.Bench.{all_events, weight}
 use Rattle.kahn_pool.specs.inner.Workbench.{state_of}
+use Rattle.kahn_pool.proofs.Tapping.{worked_on}
 use Rattle.kahn_pool.proofs.rounds.one_round.Goals as goal
 
 pub loop-instance-preserved : goal.loop-instance-preserved
@@ -13,5 +14,6 @@ loop-instance-preserved g c =
       size = c.step.ensures.size ∙ ap (λ n. n + 1) i.size ∙ add-one c.loop-instance.instance;
       room = rw c.step.ensures.room i.room;
       share = c.step.ensures.share ∙ i.share;
+      worked = worked_on i.worked c.step.ensures.worked;
       capacity = c.step.ensures.room ∙ i.capacity;
     })

@@ -1,6 +1,6 @@
 use Rattle.std.proofs.Common.{◌≡◌, ◌≤◌, ◌+◌, length, vec_len, vec_capacity}
 use Rattle.kahn_pool.specs.inner.Bench.{Goes, all_events, weight}
-use Rattle.kahn_pool.specs.inner.Workbench.{state_of}
+use Rattle.kahn_pool.specs.inner.Workbench.{HasWorked, state_of}
 use Rattle.kahn_pool.proofs.rounds.one_round.Given as goal
 
 abbrev pub invariant-loop-instance : goal.invariant-loop-instance
@@ -10,5 +10,6 @@ invariant-loop-instance g l = record {
   size : vec_len l.round.ends ≡ l.instance;
   room : l.count ≤ vec_capacity l.round.ends;
   share : l.round.share ≡ l.fn.share;
+  worked : HasWorked l.fn.bench l.bench;
   capacity : vec_capacity l.round.ends ≡ vec_capacity l.fn.ends;
 }

@@ -1,7 +1,8 @@
 use Rattle.std.proofs.Common.{arith, rules, ◌<◌, length, sym, subst}
 use Rattle.kahn_pool.specs.inner.Bench.{HasMoved}
-use Rattle.kahn_pool.specs.inner.Workbench.{Table, state_of}
+use Rattle.kahn_pool.specs.inner.Workbench.{HasWorked, Table, state_of}
 use Rattle.kahn_pool.proofs.Turns.{moves_on}
+use Rattle.kahn_pool.proofs.Tapping.{worked_on}
 use Rattle.kahn_pool.proofs.rounds.run_awake.Goals as goal
 
 pub loop-preserved : goal.loop-preserved
@@ -20,5 +21,8 @@ loop-preserved g c =
           subst (λ (b : Table). HasMoved s0 (state_of b) c.args.left c.args.memory r.left r.memory) (sym c.left.ensures)
           (moves_on s (state_of c.visit-end.new.bench) c.loop.round r p c.visit-end.result here c.visit-end.ensures.visited s0 c.args.left c.args.memory before);
       share = search rules;
+      worked =
+          subst (HasWorked c.args.bench.now) (sym c.left.ensures)
+          (worked_on (subst (HasWorked c.args.bench.now) (sym c.next.ensures.same) i.worked) c.visit-end.ensures.worked);
       ends = search rules;
     }

@@ -1,7 +1,7 @@
-use Rattle.std.proofs.Common.{◌≡◌, ◌+◌, subst, arith}
-use Rattle.kahn_pool.specs.inner.Bench.{all_events, IsLast}
+use Rattle.std.proofs.Common.{◌≡◌, ◌+◌, ap, ◌∙◌, subst, arith}
+use Rattle.kahn_pool.specs.inner.Bench.{State, all_events, IsLast}
 use Rattle.kahn_pool.specs.Right.{IsRight}
-use Rattle.kahn_pool.specs.inner.Workbench.{state_of}
+use Rattle.kahn_pool.specs.inner.Workbench.{Table, state_of}
 use Rattle.kahn_pool.proofs.rounds.run_bench.Goals as goal
 
 pub answered-requires-clause-last : goal.answered-requires-clause-last
@@ -9,8 +9,8 @@ answered-requires-clause-last g c =
     let s = state_of c.last_round.new.bench in
     let last = c.in-Some.last in
     let b = c.args.bound in
-    let fresh : all_events (state_of c.args.bench) ≡ 0 = c.requires.fresh in
-    let zero : all_events (state_of c.args.bench) + b ≡ b = omega (arith, fresh) in
+    let fresh : all_events (state_of c.bench.inside.bench) ≡ 0 = ap (λ (x : Table). all_events (state_of x)) c.bench.view_is ∙ c.requires.fresh in
+    let zero : all_events (state_of c.bench.inside.bench) + b ≡ b = omega (arith, fresh) in
     subst (λ t. IsLast s t last.left last.memory last.ends.items) zero (rw c.in-Some.is at c.last_round.ensures.last)
 
 pub answered-requires-clause-lacks : goal.answered-requires-clause-lacks
@@ -19,12 +19,14 @@ answered-requires-clause-lacks g c = rw c.in-Some.is at c.last_round.ensures.lac
 pub returns-in-Some : goal.returns-in-Some
 returns-in-Some g c =
     let start = state_of c.args.bench in
+    let is = ap state_of c.bench.view_is in
+    let same = c.last_round.ensures.same in
     let s = state_of c.last_round.new.bench in
     let b = c.args.bound in
     let a = c.answered.result in
     record {
-      right = subst (λ n. IsRight n start.input b start.watch a) c.last_round.ensures.same.0
-          (subst (λ i. IsRight s.network i b start.watch a) c.last_round.ensures.same.1
-          (subst (λ w. IsRight s.network s.input b w a) c.last_round.ensures.same.2 c.answered.ensures.right));
+      right = subst (λ n. IsRight n start.input b start.watch a) (same.0 ∙ ap (λ (x : State). x.network) is)
+          (subst (λ i. IsRight s.network i b start.watch a) (same.1 ∙ ap (λ (x : State). x.input) is)
+          (subst (λ w. IsRight s.network s.input b w a) (same.2 ∙ ap (λ (x : State). x.watch) is) c.answered.ensures.right));
       short = c.answered.ensures.short;
     }

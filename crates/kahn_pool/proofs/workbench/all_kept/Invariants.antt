@@ -1,10 +1,11 @@
-use Rattle.std.proofs.Common.{◌≡◌, vec_capacity}
-use Rattle.kahn_pool.specs.inner.Workbench.{AreKeptOf}
+use Rattle.std.proofs.Common.{◌≡◌, length, vec_capacity}
+use Rattle.kahn_pool.specs.inner.Workbench.{AreLeft}
 use Rattle.kahn_pool.proofs.workbench.all_kept.Given as goal
 
-abbrev pub invariant-loop-cell : goal.invariant-loop-cell
-invariant-loop-cell l =
-    (goal.iterator-loop-cell).can_next l.cell-iterator ×
-    (goal.iterator-loop-cell).is_finite l.cell-iterator ×
-    AreKeptOf l.yielded l.kept.items ×
-    (vec_capacity l.kept ≡ vec_capacity l.fn.kept)
+abbrev pub invariant-loop-tap : goal.invariant-loop-tap
+invariant-loop-tap l =
+    (goal.iterator-loop-tap).can_next l.tap-iterator ×
+    (goal.iterator-loop-tap).is_finite l.tap-iterator ×
+    AreLeft l.yielded l.kept.items ×
+    (vec_capacity l.kept ≡ vec_capacity l.fn.kept) ×
+    (length l.kept.items ≡ length l.yielded)

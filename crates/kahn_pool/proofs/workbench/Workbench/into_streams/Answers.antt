@@ -1,36 +1,47 @@
-use Rattle.std.proofs.Common.{arith, subst}
+use Rattle.std.proofs.Common.{arith, ap, sym, ◌∙◌, subst, length}
+use Rattle.std.proofs.lemmas.List.{length-map}
 use Rattle.kahn_network.specs.Network.{network_of}
 use Rattle.kahn_pool.specs.inner.Bench.{AreStreams}
 use Rattle.kahn_pool.specs.Right.{stream_lines}
-use Rattle.kahn_pool.specs.inner.Workbench.{Table, state_of}
+use Rattle.kahn_pool.specs.inner.Workbench.{IsLaid, Table, state_of, told_in}
 use Rattle.kahn_pool.proofs.Filled.{are_streams}
 use Rattle.kahn_pool.proofs.Kept_sizes.{are_lists}
 use Rattle.kahn_pool.proofs.Seen.{kept_seen, printed_seen}
+use Rattle.kahn_pool.proofs.Tapping.{all_left}
 use Rattle.kahn_pool.proofs.workbench.Workbench.into_streams.Goals as goal
 
 pub all_kept-kept-requires-clause-empty : goal.all_kept-kept-requires-clause-empty
-all_kept-kept-requires-clause-empty g c = c.self.invariant.1.empty
+all_kept-kept-requires-clause-empty c = c.self.invariant.2.empty
 
 pub all_kept-kept-requires-clause-room : goal.all_kept-kept-requires-clause-room
-all_kept-kept-requires-clause-room g c =
-    let n = c.self.invariant.0.count in
-    let m = c.self.invariant.1.enough in
-    omega (arith, n, m)
+all_kept-kept-requires-clause-room c =
+    let taps = c.into_taps.ensures in
+    let l = length-map c.into_taps.result.items told_in in
+    let e = ap length taps.told in
+    let n = taps.laid.count in
+    let k = ap (λ t. length (network_of t).instances) c.self.invariant.0 in
+    let m = c.self.invariant.2.enough in
+    omega (arith, l, e, n, k, m)
 
 pub fill-requires-clause-named : goal.fill-requires-clause-named
-fill-requires-clause-named g c = (c.self.inside.watch, c.self.invariant.1.begun.lines)
+fill-requires-clause-named c = (c.self.inside.bench.watch, c.self.invariant.2.begun.lines)
 
 pub fill-requires-clause-lists : goal.fill-requires-clause-lists
-fill-requires-clause-lists g c =
-    let i = c.self.inside in
-    let b : Table = record { network = i.network.now; input = i.input.now; watch = i.watch; code = i.code.network.value; cells = i.cells.items; queues = i.queues } in
-    are_lists b c.self.invariant.0 c.all_kept-kept.result.items c.all_kept-kept.ensures
+fill-requires-clause-lists c =
+    let b = c.self.inside.bench in
+    let taps = c.into_taps.ensures in
+    let same = ap (λ t. let z : Table = record b { network = t } in z) c.self.invariant.0 in
+    are_lists (record b { network = c.self.inside.network.now }) (subst IsLaid same taps.laid) c.all_kept-kept.result.items
+    (all_left c.into_taps.result.items c.all_kept-kept.result.items b taps.told taps.gone c.all_kept-kept.ensures _ c.self.invariant.1)
 
 pub returns : goal.returns
-returns g c =
+returns c =
     let i = c.self.inside in
-    let b : Table = record { network = i.network.now; input = i.input.now; watch = i.watch; code = i.code.network.value; cells = i.cells.items; queues = i.queues } in
+    let taps = c.into_taps.ensures in
+    let b : Table = record i.bench { network = i.network.now } in
+    let same = ap (λ t. let z : Table = record i.bench { network = t } in z) c.self.invariant.0 in
     let ls = c.all_kept-kept.result.items in
-    subst (λ (x : Table). AreStreams (state_of x) c.fill.new.streams.items (stream_lines (network_of x.network) x.watch)) c.self.view_is
-    (are_streams (state_of b) ls i.streams.items c.fill.new.streams.items c.self.invariant.1.begun.lines c.fill.ensures
-    (kept_seen ls i.cells.items c.all_kept-kept.ensures.sent) (printed_seen ls i.cells.items c.all_kept-kept.ensures.printed) c.self.invariant.1.begun.given)
+    let left = all_left c.into_taps.result.items ls i.bench taps.told taps.gone c.all_kept-kept.ensures _ c.self.invariant.1 in
+    subst (λ (x : Table). AreStreams (state_of x) c.fill.new.streams.items (stream_lines (network_of x.network) x.watch)) (sym same ∙ c.self.view_is)
+    (are_streams (state_of b) ls i.streams.items c.fill.new.streams.items c.self.invariant.2.begun.lines c.fill.ensures
+    (kept_seen ls i.bench.cells left.sent) (printed_seen ls i.bench.cells left.printed) c.self.invariant.2.begun.given)

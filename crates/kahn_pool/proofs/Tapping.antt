@@ -1,0 +1,126 @@
+-- Taps over plain queues, one of which runs.
+use Rattle.std.proofs.Common.{arith, ◌≡◌, ◌⊎◌, inl, inr, ℕ, ◌<◌, ◌≤◌, List, [], ◌∷◌, ◌++◌, length, map, replicate, refl, sym, ap, ◌∙◌, subst, zero, suc, Option, Some, slice_get, slice_set, slice_index_or}
+use Rattle.std.proofs.Math.Seq.{map-set_same}
+use Rattle.std.proofs.lemmas.List.{get_or-set_other, length-map, map-set}
+use Rattle.std.proofs.lemmas.Bool.{cases_eq}
+use Rattle.std.proofs.lemmas.Option.{slice_get_read}
+use Rattle.kahn_tree.specs.declared.tree.Program.{Program}
+use Rattle.kahn_network.specs.Network.{network_of}
+use Rattle.kahn_streams.specs.Tokens.{Lists}
+use Rattle.kahn_code.specs.inner.Gone.{Gone, kept_behind, nothing_gone}
+use Rattle.kahn_code.specs.inner.Tapped.{Tapped}
+use Rattle.kahn_code.specs.Lines.{Lines as Queues}
+use Rattle.kahn_code.specs.Cells.{View}
+use Rattle.kahn_code.specs.Told.{Told}
+use Rattle.kahn_code.specs.declared.progress.Pause.{Pause}
+use Rattle.kahn_code.specs.declared.cell.Kept.{Kept}
+use Rattle.kahn_pool.specs.declared.answer.Stream.{Stream}
+use Rattle.kahn_pool.specs.inner.Bench.{HasRun, State, events_at}
+use Rattle.kahn_pool.specs.inner.Gathered.{nothing, view_at}
+use Rattle.kahn_pool.specs.inner.Streams.{kept_lists, printed_list}
+use Rattle.kahn_pool.specs.inner.Workbench.{AreKeptOf, AreLeft, AreReady, AreWhole, IsLaid, IsLeft, HasWorked, Table, actuals_of, gone_in, parameters_of, state_of, table_of, told_in}
+use Rattle.kahn_pool.proofs.Benched.{get_map, ran, viewed}
+
+-- ---- later states of a bench
+
+pub worked_none : {a b : Table} → b ≡ a → HasWorked a b
+worked_none {a} e = subst (HasWorked a) (sym e) (record { network = refl; input = refl; watch = refl; gone = refl; events = λ p. omega arith })
+
+pub worked_on : {a b c : Table} → HasWorked a b → HasWorked b c → HasWorked a c
+worked_on h k = record {
+  network = k.network ∙ h.network;
+  input = k.input ∙ h.input;
+  watch = k.watch ∙ h.watch;
+  gone = k.gone ∙ h.gone;
+  events = λ p. let a = h.events p in let b = k.events p in omega (arith, a, b);
+}
+
+-- the events of an instance that ran, and of the others
+ran_events : (s t : State) (p quantum : ℕ) (z : Pause) → HasRun s t p quantum z → (o : ℕ) → events_at s o ≤ events_at t o
+ran_events s t p quantum z h o = by (cases_eq o p)
+  where
+    by : (o ≡ p) ⊎ (o ≡ p → ⊥) → events_at s o ≤ events_at t o
+    by (inl e) = subst (λ o. events_at s o ≤ events_at t o) (sym e) h.events.0
+    by (inr n) =
+        let same : view_at t.cells o ≡ view_at s.cells o = ap (λ l. view_at l o) h.only ∙ get_or-set_other s.cells p o (view_at t.cells p) nothing n in
+        let e = ap (λ (v : View). v.events) same in
+        omega (arith, e)
+
+-- ---- a tap runs
+
+module _ {t : Program} {lists : Lists} {watch : Option ℕ} {code : Program} (taps : List Tapped) {q : Queues} {n : Table} (is : table_of t lists watch code taps q ≡ n)
+    (laid : IsLaid (table_of t lists watch code taps q)) (p : ℕ) {x : Tapped} (here : p < length (network_of n.network).instances) (value : x ≡ slice_index_or taps p x) where
+  abbrev b : Table
+  b = table_of t lists watch code taps q
+
+  tap_at : slice_get taps p ≡ Some x
+  tap_at =
+      slice_get_read taps (length taps) p x refl
+      (subst (λ k. p < k) (sym (sym (length-map taps told_in) ∙ laid.count ∙ ap (λ (y : Table). length (network_of y.network).instances) is)) here) value
+
+  pub found : slice_get b.cells p ≡ Some x.told
+  found = get_map told_in taps p x tap_at
+
+  pub events_here : events_at (state_of n) p ≡ x.told.events
+  events_here = ap (λ (y : Table). events_at (state_of y) p) (sym is) ∙ ap (λ (v : View). v.events) (viewed b laid p x.told found)
+
+  module _ (y : Tapped) (gone : y.gone ≡ x.gone) (q' : Queues) where
+    gone_same : map gone_in (slice_set taps p y) ≡ map gone_in taps
+    gone_same = map-set_same gone_in taps p y x (gone ∙ ap gone_in value)
+
+    pub ran_is : ran b p y.told q' ≡ table_of t lists watch code (slice_set taps p y) q'
+    ran_is =
+        ap (λ (cs : List Told). let z : Table = record { network = t; input = lists; watch = watch; code = code; cells = cs; gone = map gone_in taps; queues = q' } in z) (sym (map-set told_in taps p y)) ∙
+        ap (λ (gs : List Gone). let z : Table = record { network = t; input = lists; watch = watch; code = code; cells = map told_in (slice_set taps p y); gone = gs; queues = q' } in z) (sym gone_same)
+
+    abbrev now : Table
+    now = table_of t lists watch code (slice_set taps p y) q'
+
+    pub run_worked : (quantum : ℕ) (z : Pause) → HasRun (state_of n) (state_of now) p quantum z → HasWorked n now
+    run_worked quantum z h = record {
+      network = ap (λ (x : Table). x.network) is;
+      input = ap (λ (x : Table). x.input) is;
+      watch = ap (λ (x : Table). x.watch) is;
+      gone = gone_same ∙ ap (λ (x : Table). x.gone) is;
+      events = ran_events (state_of n) (state_of now) p quantum z h;
+    }
+
+-- ---- what is there of what was kept
+
+pub left_more : {A : Type 0} (taps : List Tapped) (kept : List (Kept A)) (x : Tapped) (k : Kept A) → AreLeft taps kept → IsLeft x k → AreLeft (taps ++ x ∷ []) (kept ++ k ∷ [])
+left_more [] [] x k h e = (e, tt)
+left_more [] (l ∷ kept) x k h e = absurd h
+left_more (y ∷ taps) [] x k h e = absurd h
+left_more (y ∷ taps) (l ∷ kept) x k h e = (h.0, left_more taps kept x k h.1 e)
+
+-- where nothing was let go of it is all
+pub left_whole : {A : Type 0} (taps : List Tapped) (kept : List (Kept A)) (n : ℕ) → AreLeft taps kept → map gone_in taps ≡ replicate n nothing_gone → AreKeptOf (map told_in taps) kept
+left_whole [] [] n h e = record { sent = refl; printed = refl; parameters = refl }
+left_whole [] (k ∷ kept) n h e = absurd h
+left_whole (x ∷ taps) [] n h e = absurd h
+left_whole (x ∷ taps) (k ∷ kept) zero h e = absurd cc
+left_whole (x ∷ taps) (k ∷ kept) (suc n) h e =
+    let none : x.gone ≡ nothing_gone = cc in
+    let rest : map gone_in taps ≡ replicate n nothing_gone = cc in
+    let r = left_whole taps kept n h.1 rest in
+    let all = subst (λ (g : Gone). (kept_behind g.kept (kept_lists k) ≡ x.told.kept) × (g.printed ++ printed_list k ≡ x.told.printed)) none (h.0.0, h.0.1) in
+    record {
+      sent = ap (λ l. l ∷ map kept_lists kept) all.0 ∙ ap (λ l. x.told.kept ∷ l) r.sent;
+      printed = ap (λ l. l ∷ map printed_list kept) all.1 ∙ ap (λ l. x.told.printed ∷ l) r.printed;
+      parameters = ap (λ l. l ∷ map parameters_of kept) h.0.2 ∙ ap (λ l. actuals_of x.told ∷ l) r.parameters;
+    }
+
+-- the lists of a bench on which nothing was let go of
+pub all_left : {A : Type 0} (taps : List Tapped) (kept : List (Kept A)) (b : Table) → map told_in taps ≡ b.cells → map gone_in taps ≡ b.gone → AreLeft taps kept → (n : ℕ) → AreWhole n b.gone →
+    AreKeptOf b.cells kept
+all_left taps kept b told gone h n whole = subst (λ cs. AreKeptOf cs kept) told (left_whole taps kept n h (gone ∙ whole))
+
+-- there is still room for the answer of the same bench
+pub still_ready : {A : Type 0} {streams : List Stream} {kept : List A} {room : ℕ} (t : Program) (old new : Table) → HasWorked old new →
+    (old.network ≡ t) × AreWhole (length (network_of t).instances) old.gone × AreReady t old.input old.watch streams kept room →
+    (new.network ≡ t) × AreWhole (length (network_of t).instances) new.gone × AreReady t new.input new.watch streams kept room
+still_ready {streams = streams} {kept = kept} {room = room} t old new same h = (
+  same.network ∙ h.0,
+  same.gone ∙ h.1,
+  subst (λ w. AreReady t new.input w streams kept room) (sym same.watch) (subst (λ i. AreReady t i old.watch streams kept room) (sym same.input) h.2),
+)

@@ -1,0 +1,63 @@
+use Rattle.std.proofs.Common.{arith, refl, subst}
+use Rattle.kahn_pool.specs.inner.Bench.{HasRun}
+use Rattle.kahn_pool.specs.inner.Workbench.{IsLaid, Table, state_of, table_of}
+use Rattle.kahn_pool.proofs.Benched
+use Rattle.kahn_pool.proofs.Tapping as Tapping
+use Rattle.kahn_pool.proofs.bench.Bench.run.Goals as goal
+
+pub run-pause-requires-clause-code : goal.run-pause-requires-clause-code
+run-pause-requires-clause-code g c =
+    let at = Tapping.found c.self.inside.taps.items c.self.view_is c.self.invariant c.args.instance c.requires.here c.index_mut.ensures.value in
+    Benched.code_is c.self.invariant c.args.instance at
+
+pub run-pause-requires-clause-ports : goal.run-pause-requires-clause-ports
+run-pause-requires-clause-ports g c =
+    let at = Tapping.found c.self.inside.taps.items c.self.view_is c.self.invariant c.args.instance c.requires.here c.index_mut.ensures.value in
+    Benched.ports_are c.self.invariant c.args.instance at c.at.new.self c.at.ensures
+
+pub run-pause-requires-clause-at : goal.run-pause-requires-clause-at
+run-pause-requires-clause-at g c =
+    let at = Tapping.found c.self.inside.taps.items c.self.view_is c.self.invariant c.args.instance c.requires.here c.index_mut.ensures.value in
+    Benched.at_is c.self.invariant c.args.instance at c.at.new.self c.at.ensures
+
+pub run-pause-requires-clause-events : goal.run-pause-requires-clause-events
+run-pause-requires-clause-events g c =
+    let e = Tapping.events_here c.self.inside.taps.items c.self.view_is c.self.invariant c.args.instance c.requires.here c.index_mut.ensures.value in
+    let l = c.requires.bound in
+    omega (arith, e, l)
+
+pub invariant_of-self : goal.invariant_of-self
+invariant_of-self g c =
+    let at = Tapping.found c.self.inside.taps.items c.self.view_is c.self.invariant c.args.instance c.requires.here c.index_mut.ensures.value in
+    let new = c.run-pause.new.self in
+    let ports = c.run-pause.new.ports in
+    let e = c.run-pause.ensures in
+    subst IsLaid (Tapping.ran_is c.self.inside.taps.items c.self.view_is c.self.invariant c.args.instance c.requires.here c.index_mut.ensures.value new e.gone ports)
+    (Benched.laid_now c.self.invariant c.args.instance at new.told c.at.new.self ports c.at.ensures e.names e.ports e.at e.others)
+
+pub returns : goal.returns
+returns g c =
+    let i = c.self.inside in
+    let b : Table = table_of i.network.now i.input.value i.watch i.code.network.value i.taps.items i.queues in
+    let laid = c.self.invariant in
+    let at = Tapping.found c.self.inside.taps.items c.self.view_is laid c.args.instance c.requires.here c.index_mut.ensures.value in
+    let tap = c.run-pause.new.self in
+    let new = tap.told in
+    let ports = c.run-pause.new.ports in
+    let e = c.run-pause.ensures in
+    let z = c.run-pause.result in
+    let n = c.args.quantum in
+    let ran = subst (λ (y : Table). HasRun (state_of c.args.self.now) (state_of y) c.args.instance n z)
+    (Tapping.ran_is c.self.inside.taps.items c.self.view_is laid c.args.instance c.requires.here c.index_mut.ensures.value tap e.gone ports)
+    (subst (λ (x : Table). HasRun (state_of x) (state_of (Benched.ran b c.args.instance new ports)) c.args.instance n z) c.self.view_is
+    (record {
+      same = (refl, refl, refl);
+      only = Benched.views_after b c.args.instance _ new ports at;
+      events = Benched.events_now laid c.args.instance at new c.at.new.self ports c.at.ensures e.names e.ports e.at e.others n e.events;
+      still = Benched.still_now laid c.args.instance at new c.at.new.self ports c.at.ensures e.names e.ports e.at e.others e.still;
+      paused = Benched.paused_now laid c.args.instance at new c.at.new.self ports c.at.ensures e.names e.ports e.at e.others c.counted.ensures n z e.paused;
+      spent = Benched.spent_now laid c.args.instance at new c.at.new.self ports c.at.ensures e.names e.ports e.at e.others n _ _ z e.paused;
+      wanted = Benched.wanted_now laid c.args.instance at new c.at.new.self ports c.at.ensures e.names e.ports e.at e.others n _ _ z e.paused e.events.1;
+    }))
+    in
+    (ran, Tapping.run_worked c.self.inside.taps.items c.self.view_is laid c.args.instance c.requires.here c.index_mut.ensures.value tap e.gone ports n z ran)

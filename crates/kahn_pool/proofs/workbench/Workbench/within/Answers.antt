@@ -1,9 +1,0 @@
-use Rattle.std.proofs.Common.{subst}
-use Rattle.kahn_pool.specs.inner.Gathered.{AreWithin}
-use Rattle.kahn_pool.specs.inner.Workbench.{Table, state_of}
-use Rattle.kahn_pool.proofs.Benched.{within}
-use Rattle.kahn_pool.proofs.workbench.Workbench.within.Goals as goal
-
-pub returns : goal.returns
-returns g c =
-    subst (λ (x : Table). AreWithin (state_of x).network (state_of x).input (state_of x).cells) c.self.view_is (within _ c.self.invariant.0 c.counted.ensures)

@@ -1,0 +1,226 @@
+//! The processes of a network over its plain queues.
+
+ghost use Rattle.kahn_network.specs.Network.{Reads, network_of, instance_at, actual_at};
+ghost use Rattle.kahn_streams.specs.Tokens.{Lists};
+ghost use Rattle.kahn_pool.specs.inner.Bench.{HasRun, all_events, events_at};
+ghost use Rattle.kahn_pool.specs.inner.Gathered.{AreWithin};
+ghost use Rattle.kahn_pool.specs.inner.Workbench.{AreOpening, AreWhole, IsLaid, HasWorked, gone_in, state_of, table_of, told_in};
+ghost use Rattle.std.specs.Prelude.{◌≡◌, ◌<◌, ◌+◌, ◌^◌, ℕ, length, map, IfOk, IfSome};
+
+use crate::answer::{End, Outcome};
+use crate::awake::Awake;
+use crate::looks::Looks;
+use kahn_code::{Code, CodeFault, Pause, Plain, Steps, Tap, compile};
+use kahn_network::Network;
+use kahn_streams::{About, Input};
+use std::alloc::Global;
+use std::marker::Model;
+use std::sync::ledger::Ledger;
+
+/// The processes of a network over its plain queues. What they keep they let go of when they are told to.
+#[derive(Drop)]
+pub(crate) struct Bench<'n> {
+    network: &'n Network,
+    input: About<Input>,
+    watch: Option<usize>,
+    code: Code,
+    taps: Vec<Tap>,
+    queues: Plain<Global>,
+    awake: Awake,
+    looks: Looks,
+}
+
+impl<'n> Model for Bench<'n> {
+    ghost use Rattle.kahn_tree.specs.contracts.tree.Action as action;
+    ghost use Rattle.kahn_tree.specs.contracts.tree.Form as form;
+    ghost use Rattle.std.specs.Coded.{codes};
+    ghost use Rattle.kahn_pool.specs.inner.Workbench.{Table, IsLaid, table_of};
+
+    ghost Value = { Table };
+
+    ghost coded = { Prim.hlevel (codes, action.the_row.coded, form.the_row.coded) };
+
+    ghost view = { λ b. table_of b.network.now b.input.value b.watch b.code.network.value b.taps.items b.queues };
+
+    ghost invariant = { λ b. IsLaid (table_of b.network.now b.input.value b.watch b.code.network.value b.taps.items b.queues) };
+}
+
+// The taps of all instances at their openings, for the input that is named.
+fn named_taps(
+    alloc: Global,
+    network: &Network,
+    code: &Code,
+    _input: &Input,
+    watch: Option<usize>,
+) -> Result<Vec<Tap>, CodeFault>
+    ghost input: { Lists }
+    requires code { code.now.network.value ≡ network.now }
+    ensures opening { IfOk result (λ taps. AreOpening network.now input watch (map told_in taps.items) (length (network_of network.now).instances)) }
+    ensures whole { IfOk result (λ taps. AreWhole (length (network_of network.now).instances) (map gone_in taps.items)) }
+{
+    let mut taps = Vec::new(alloc);
+    for instance in 0..network.instances() {
+        taps.push(Tap::new(alloc, code, instance, watch)?)?;
+    }
+    Ok(taps)
+}
+
+// The taps of all instances at their openings.
+fn opening_taps(
+    alloc: Global,
+    network: &Network,
+    code: &Code,
+    input: &Input,
+    watch: Option<usize>,
+) -> Result<Vec<Tap>, CodeFault>
+    requires code { code.now.network.value ≡ network.now }
+    ensures opening { IfOk result (λ taps. AreOpening network.now input.now watch (map told_in taps.items) (length (network_of network.now).instances)) }
+    ensures whole { IfOk result (λ taps. AreWhole (length (network_of network.now).instances) (map gone_in taps.items)) }
+{
+    named_taps(alloc, network, code, input, watch)
+}
+
+impl<'n> Bench<'n> {
+    /// All processes at their openings. It refuses only where memory was refused.
+    pub(crate) fn new(
+        alloc: Global,
+        network: &'n Network,
+        input: &Input,
+        watch: Option<usize>,
+    ) -> Result<Bench<'n>, CodeFault>
+        ensures names { IfOk result (λ b. (b.network ≡ network.now) × (b.input ≡ input.now) × (b.watch ≡ watch)) }
+        ensures fresh { IfOk result (λ b. all_events (state_of b) ≡ 0) }
+        ensures whole { IfOk result (λ b. AreWhole (length (network_of network.now).instances) b.gone) }
+    {
+        let code = compile(alloc, network)?;
+        let taps = opening_taps(alloc, network, &code, input, watch)?;
+        let queues = Plain::new(alloc, network, input)?;
+        let awake = Awake::new(alloc, network)?;
+        let _program = network.program();
+        Ok(Bench::named(network, input, watch, code, taps, queues, awake))
+    }
+
+    // Those of the input that is named.
+    fn named(
+        network: &'n Network,
+        _input: &Input,
+        watch: Option<usize>,
+        code: Code,
+        taps: Vec<Tap>,
+        queues: Plain<Global>,
+        awake: Awake,
+    ) -> Bench<'n>
+        ghost input: { Lists }
+        requires { IsLaid (table_of network.now input watch code.network.value taps.items queues) }
+        ensures { result ≡ table_of network.now input watch code.network.value taps.items queues }
+    {
+        Bench {
+            network,
+            input: About::named(),
+            watch,
+            code,
+            taps,
+            queues,
+            awake,
+            looks: Looks::new(),
+        }
+    }
+
+    /// How many instances the network has, each with a tap.
+    pub(crate) fn instance_count(&self) -> usize
+        ensures count { result ≡ length (state_of self.now).network.instances }
+        ensures known { length (state_of self.now).cells ≡ length (state_of self.now).network.instances }
+    {
+        self.network.instances()
+    }
+
+    /// Runs a process for at most so many events.
+    pub(crate) fn run<L: Ledger>(
+        &mut self,
+        instance: usize,
+        quantum: u64,
+        steps: &mut Steps<L>,
+    ) -> Pause
+        requires here { instance < length (state_of self.old).network.instances }
+        requires bound { events_at (state_of self.old) instance + quantum < 2 ^ 48 }
+        ensures { HasRun (state_of self.old) (state_of self.new) instance quantum result × HasWorked self.old self.new }
+    {
+        self.queues.at(instance);
+        let pause = self.taps[instance].run(&self.code, quantum, &mut self.queues, steps);
+        self.queues.counted();
+        pause
+    }
+
+    /// How many events an instance has done.
+    pub(crate) fn events(&self, instance: usize) -> u64
+        requires { instance < length (state_of self.now).network.instances }
+        ensures { result ≡ events_at (state_of self.now) instance }
+    {
+        self.taps[instance].events()
+    }
+
+    /// The channel that a parameter reads.
+    pub(crate) fn channel(&self, instance: usize, parameter: usize) -> usize
+        requires { (c : ℕ) × (actual_at (instance_at (state_of self.now).network instance) parameter ≡ Reads c) }
+        ensures { (c : ℕ) → actual_at (instance_at (state_of self.now).network instance) parameter ≡ Reads c → result ≡ c }
+    {
+        match self.code.channel(instance, parameter) {
+            Some(channel) => channel,
+            None => unreachable!(),
+        }
+    }
+
+    /// Remembers a visit of so many events, for `is_wide`.
+    pub(crate) fn saw(&mut self, instance: usize, done: u64)
+        ensures { self.new ≡ self.old }
+    {
+        self.looks.saw(instance, done);
+    }
+
+    /// Remembers how all instances stand, for `next`.
+    pub(crate) fn stand(&mut self, ends: &[End])
+        ensures { self.new ≡ self.old }
+    {
+        self.awake.all_stand(ends, &self.queues);
+    }
+
+    /// Remembers how a visit left an instance, for `next`.
+    pub(crate) fn left(&mut self, instance: usize, outcome: Outcome)
+        ensures { self.new ≡ self.old }
+    {
+        self.awake.stands(instance, outcome, &self.queues);
+        self.awake.wake_readers(instance, &self.queues);
+    }
+
+    /// An instance that may go on, as far as is known.
+    pub(crate) fn next(&mut self) -> Option<usize>
+        ensures same { self.new ≡ self.old }
+        ensures here { IfSome result (λ p. p < length (state_of self.new).network.instances) }
+    {
+        match self.awake.next() {
+            Some(instance) if instance < self.network.instances() => Some(instance),
+            _ => None,
+        }
+    }
+
+    /// Whether there is work for several, as far as is known.
+    pub(crate) fn is_wide(&self) -> bool {
+        self.looks.is_wide()
+    }
+
+    /// Says that no reader took more than was given: its contract is what it does.
+    pub(crate) fn within(&self)
+        ensures { AreWithin (state_of self.now).network (state_of self.now).input (state_of self.now).cells }
+    {
+        self.queues.counted();
+    }
+
+    /// Its taps, without the queues. It takes no memory.
+    pub(crate) fn into_taps(self) -> Vec<Tap>
+        ensures told { map told_in result.items ≡ self.entry.cells }
+        ensures gone { map gone_in result.items ≡ self.entry.gone }
+        ensures laid { IsLaid self.entry }
+    {
+        self.taps
+    }
+}
