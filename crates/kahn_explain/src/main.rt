@@ -3,6 +3,7 @@
 #![tactic(auto)]
 
 mod explaining;
+mod helping;
 mod noting;
 mod refusing;
 

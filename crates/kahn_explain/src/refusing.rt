@@ -4,13 +4,14 @@ ghost use Rattle.std.specs.Prelude.{◌≡◌, IfOk, MatchOption, None, option_m
 ghost use Rattle.kahn_marks.specs.Marks.{marked};
 ghost use Rattle.kahn_report.specs.Work.{IsUnchecked};
 ghost use Rattle.kahn_syntax.specs.Texts.{IsTextFault as IsSyntaxFault};
-ghost use Rattle.kahn_fault.specs.Message.{check_span};
+ghost use Rattle.kahn_fault.specs.Message.{check_span, syntax_span};
 ghost use Rattle.kahn_explain.specs.Explaining.{IsNoteOn};
-ghost use Rattle.kahn_explain.specs.Refusing.{IsRefusal, IsSyntaxRefusal, expected_of, path_name};
+ghost use Rattle.kahn_explain.specs.Refusing.{IsRefusal, IsSyntaxRefusal, expected_of, path_name, refused_words};
 
+use crate::helping::refused_words;
 use crate::noting::faults_note;
 use kahn_check::{CheckFault, every, part_by_part};
-use kahn_fault::{check_span, syntax_span, syntax_words};
+use kahn_fault::{check_span, syntax_span};
 use kahn_marks::marked;
 use kahn_notes::unexpected_note;
 use kahn_report::WorkFault;
@@ -28,18 +29,21 @@ pub(crate) fn path_name(alloc: Global, program: &Option<String>) -> Result<Strin
     }
 }
 
-/// A note on a place, where there is one.
+/// A note with the words of a fault, where that has a place.
 fn placed_note(
     alloc: Global,
     path: &str,
     program: &str,
-    place: Option<Span>,
-    words: &str,
+    fault: SyntaxFault,
 ) -> Result<Option<String>, NoMemory>
-    ensures { IfOk result (λ note. option_map string_bytes note ≡ option_map (λ span. marked path.now program.now span words.now) place) }
+    ensures { IfOk result (λ note. option_map string_bytes note ≡ option_map (λ span. marked path.now program.now span (refused_words program.now fault)) (syntax_span fault)) }
 {
-    match place {
-        Some(span) => Ok(Some(marked(alloc, path, program, span, words)?)),
+    match syntax_span(fault) {
+        Some(span) => {
+            let words = refused_words(alloc, program, fault)?;
+            let note = marked(alloc, path, program, span, words.as_str())?;
+            Ok(Some(note))
+        }
         None => Ok(None),
     }
 }
@@ -69,10 +73,7 @@ fn syntax_note(
             let note = unexpected_note(alloc, path, program, span, what)?;
             Ok(Some(note))
         }
-        None => {
-            let place = syntax_span(fault);
-            placed_note(alloc, path, program, place, syntax_words(fault))
-        }
+        None => placed_note(alloc, path, program, fault),
     }
 }
 
