@@ -30,5 +30,5 @@ pub use ports::Ports;
 pub use progress::Pause;
 
 // For the crates above.
-pub use tap::Tap;
+pub use tap::{Tap, regrow_taps};
 pub use word::{Operand, Word, apply, negated};

@@ -1,6 +1,6 @@
 //! A tap: one process of a network on its way, which lets go of what it kept.
 
-ghost use Rattle.std.specs.Prelude.{◌≡◌, ℕ, ◌+◌, ◌*◌, ◌^◌, ◌<◌, ◌≤◌, length, [], map, replicate, ◌++◌, slice_index_or, IfOk};
+ghost use Rattle.std.specs.Prelude.{◌≡◌, ℕ, ◌+◌, ◌*◌, ◌^◌, ◌<◌, ◌≤◌, length, [], map, replicate, ◌++◌, slice_get, slice_index_or, IfOk, Some};
 ghost use Rattle.kahn_network.specs.Network.{network_of, instance_at};
 ghost use Rattle.kahn_streams.specs.Tokens.{Lists, inputs_of};
 ghost use Rattle.kahn_code.specs.Flat.{stmt_code, depth, registers_of};
@@ -13,7 +13,7 @@ ghost use Rattle.kahn_code.specs.Progress.{core_of, opening_core};
 ghost use Rattle.kahn_code.specs.Seats.{Leaves, Grows};
 ghost use Rattle.kahn_code.specs.Standing.{tokens};
 ghost use Rattle.kahn_code.specs.Told.{AreCounts, seat_of, told_view, IsAt, IsStanding, IsStill, WantsRoom};
-ghost use Rattle.kahn_code.specs.inner.Tapped.{AreUnused, HasForgotten, IsPausedBy, IsSameProcess, tapped_of};
+ghost use Rattle.kahn_code.specs.inner.Tapped.{AreUnused, HasForgotten, IsPausedBy, IsSameProcess, Tapped, regrown_tap, tapped_of};
 
 use crate::cell::Kept;
 use crate::code::{Code, CodeFault};
@@ -225,5 +225,16 @@ fn assembled<A: Allocator + Copy + Drop>(progress: Progress<A>, _code: &Code<A>)
         progress,
         network: About::named(),
         input: About::named(),
+    }
+}
+
+/// All taps go on for an input whose lists begin with those of their own. It takes no memory.
+pub fn regrow_taps<A: Allocator + Copy + Drop>(taps: &mut Vec<Tap<A>, A>)
+    ghost input: { Lists }
+    requires { (p : ℕ) (x : Tapped) → slice_get taps.old.items p ≡ Some x → AreInputsExtended (inputs_of x.told.input) (inputs_of input) }
+    ensures { taps.new.items ≡ map (regrown_tap input) taps.old.items }
+{
+    for number in 0..taps.len() {
+        taps[number].regrow();
     }
 }

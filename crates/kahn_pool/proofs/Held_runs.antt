@@ -15,7 +15,7 @@ use Rattle.kahn_streams.specs.Solution.{IsPrefix, source}
 use Rattle.kahn_streams.specs.Tokens.{Lists, inputs_of}
 use Rattle.kahn_streams.proofs.Framed.{begins_nil}
 use Rattle.kahn_streams.proofs.Proved.{prefix_refl}
-use Rattle.kahn_code.specs.Cells.{View, is_streamed, token_value}
+use Rattle.kahn_code.specs.Cells.{StoodBy, View, token_value}
 use Rattle.kahn_code.specs.Lines.{Joins}
 use Rattle.kahn_code.specs.Told.{Told, told_view}
 use Rattle.kahn_code.proofs.Readers.{joins_within}
@@ -41,7 +41,8 @@ use Rattle.kahn_pool.proofs.Assembling.{are_right}
 use Rattle.kahn_pool.proofs.Benched.{got, mapped}
 use Rattle.kahn_pool.proofs.Final.{gathered, stopped}
 use Rattle.kahn_pool.proofs.Held_jobs.{ended_alike, held_again, held_alike, held_grown, held_more, rises_since, risen_here, same_seen}
-use Rattle.kahn_pool.proofs.Growing.{kept_grows, printed_grows, stood_by_channel}
+use Rattle.kahn_pool.proofs.Going_on as Going
+use Rattle.kahn_pool.proofs.Going_on.{AllStandBy, HasRisenTo}
 use Rattle.kahn_pool.proofs.Sizes.{settles_ends}
 use Rattle.kahn_crew.proofs.Started.{at_mapped}
 
@@ -82,6 +83,12 @@ job_or (w ∷ ws) (suc p) = step (job_or ws p)
     step (inl a) = inl a
     step (inr l) = inr (omega (arith, l))
 
+-- the job of a cell
+job_from : (ws : List Work) (p : ℕ) (c : Told) → slice_get (cells_of ws) p ≡ Some c → (w : Work) × (slice_get ws p ≡ Some w) × (c ≡ w.cell)
+job_from [] p c e = absurd cc
+job_from (w ∷ ws) zero c e = (w, refl, cc)
+job_from (w ∷ ws) (suc p) c e = job_from ws p c e
+
 past_map : {A B : Type 0} (f : A → B) (xs : List A) (p : ℕ) (d : B) → length xs ≤ p → slice_index_or (map f xs) p d ≡ d
 past_map f [] p d l = refl
 past_map f (x ∷ xs) zero d l = absurd (omega (arith, l))
@@ -102,79 +109,21 @@ module _ (t : Program) (wired : IsWellWired t) (lists after : Lists) (grown : Ar
   abbrev now : HeldRun
   now = run_of t after watch workers quantum total us next
 
-  also : (p : ℕ) (w : Work) → slice_get ws p ≡ Some w → (v : Work) × (slice_get us p ≡ Some v)
-  also p w e =
-      let l = within ws p w e in
-      let a = old.idle.count in
-      let b = new.idle.count in
-      got us p (omega (arith, l, a, b))
+  standing : (vs : List Work) → ((p : ℕ) (w : Work) → slice_get vs p ≡ Some w → StoodBy N (inputs_of w.cell.input) watch p (told_view w.cell)) → AllStandBy t watch (cells_of vs)
+  standing vs h p c e = let w = job_from vs p c e in subst (λ (z : Told). StoodBy N (inputs_of z.input) watch p (told_view z)) (sym w.2) (h p w.0 w.1)
 
-  kept : (p q r c : ℕ) (w v : Work) → slice_get ws p ≡ Some w → slice_get us p ≡ Some v → actual_at (instance_at N p) q ≡ Writes c →
-      actual_at (instance_at N p) r ≡ Writes c → is_streamed N watch c ≡ true →
-      IsPrefix (map token_value (slice_index_or w.cell.kept q [])) (map token_value (slice_index_or v.cell.kept r []))
-  kept p q r c w v e f a b s =
-      let x = risen p w v e f in
-      kept_grows N (inputs_of w.cell.input) (inputs_of v.cell.input) x.input watch p (told_view w.cell) (told_view v.cell)
-      (stood_by_channel t wired (inputs_of w.cell.input) watch p (told_view w.cell) (old.stood p w e))
-      (stood_by_channel t wired (inputs_of v.cell.input) watch p (told_view v.cell) (new.stood p v f)) x.events q r c a b s
-
-  printed : (p : ℕ) (w v : Work) → slice_get ws p ≡ Some w → slice_get us p ≡ Some v → IsPrefix (map token_value w.cell.printed) (map token_value v.cell.printed)
-  printed p w v e f =
-      let x = risen p w v e f in
-      printed_grows N (inputs_of w.cell.input) (inputs_of v.cell.input) x.input watch p (told_view w.cell) (told_view v.cell)
-      (stood_by_channel t wired (inputs_of w.cell.input) watch p (told_view w.cell) (old.stood p w e))
-      (stood_by_channel t wired (inputs_of v.cell.input) watch p (told_view v.cell) (new.stood p v f)) x.events
-
-  there_written : (p q c : ℕ) → actual_at (instance_at N p) q ≡ Writes c → (w : Work) × (slice_get ws p ≡ Some w)
-  there_written p q c e =
-      let l = joins_within N p q c (subst (λ a. Joins a c) (sym e) refl) in
-      let n = old.idle.count in
-      got ws p (omega (arith, l, n))
-
-  streams : (s : Source) (c : Line) (vs xs : List Value) → IsSoFar before s c vs → IsSoFar now s c xs → IsPrefix vs xs
-  streams Given (Channel c) vs xs a b =
-      subst (λ l. IsPrefix l xs) (sym a) (subst (IsPrefix (inputs_of lists c)) (sym b) (grown c))
-  streams Given (Print r) vs xs a b = absurd a
-  streams (Written p) (Channel c) vs xs (q, a, s, e) (r, b, s', f) =
-      let w = there_written p q c a in
-      let v = also p w.0 w.1 in
-      subst (λ l. IsPrefix l xs) (sym (e ∙ ap (λ (z : Seen). map token_value (slice_index_or z.kept q [])) (seen_there ws p w.0 w.1)))
-      (subst (IsPrefix (map token_value (slice_index_or w.0.cell.kept q [])))
-      (sym (f ∙ ap (λ (z : Seen). map token_value (slice_index_or z.kept r [])) (seen_there us p v.0 v.1)))
-      (kept p q r c w.0 v.0 w.1 v.1 a b s))
-  streams (Written p) (Print r) vs xs a b = by (there_or ws p)
-    where
-      by : ((w : Work) × (slice_get ws p ≡ Some w)) ⊎ (seen_at (map seen_of (cells_of ws)) p ≡ unseen) → IsPrefix vs xs
-      by (inl w) =
-          let v = also p w.0 w.1 in
-          subst (λ l. IsPrefix l xs) (sym (a ∙ ap (λ (z : Seen). map token_value z.printed) (seen_there ws p w.0 w.1)))
-          (subst (IsPrefix (map token_value w.0.cell.printed)) (sym (b ∙ ap (λ (z : Seen). map token_value z.printed) (seen_there us p v.0 v.1)))
-          (printed p w.0 v.0 w.1 v.1))
-      by (inr n) = subst (λ l. IsPrefix l xs) (sym (a ∙ ap (λ (z : Seen). map token_value z.printed) n)) (begins_nil xs)
-  streams Nobody c vs xs a b = absurd a
-
-  events : (p : ℕ) → ((w : Work) × (slice_get ws p ≡ Some w)) ⊎ (seen_at (map seen_of (cells_of ws)) p ≡ unseen) →
-      (seen_at before.cells p).events ≤ (seen_at now.cells p).events
-  events p (inl w) =
-      let v = also p w.0 w.1 in
-      let a : (seen_at before.cells p).events ≡ w.0.cell.events = ap (λ (z : Seen). z.events) (seen_there ws p w.0 w.1) in
-      let b : (seen_at now.cells p).events ≡ v.0.cell.events = ap (λ (z : Seen). z.events) (seen_there us p v.0 v.1) in
-      let l = (risen p w.0 v.0 w.1 v.1).events in
-      omega (arith, a, b, l)
-  events p (inr n) =
-      let a : (seen_at before.cells p).events ≡ 0 = ap (λ (z : Seen). z.events) n in
-      omega (arith, a)
+  risen_cells : (p : ℕ) (c d : Told) → slice_get (cells_of ws) p ≡ Some c → slice_get (cells_of us) p ≡ Some d → HasRisenTo c d
+  risen_cells p c d e f =
+      let w = job_from ws p c e in
+      let v = job_from us p d f in
+      let x = risen p w.0 v.0 w.1 v.1 in
+      subst (λ (z : Told). HasRisenTo z d) (sym w.2) (subst (HasRisenTo w.0.cell) (sym v.2) (x.events, x.input))
 
   pub goes_on : GoesOn before now
-  goes_on = record {
-    network = refl;
-    watch = refl;
-    workers = refl;
-    quantum = refl;
-    input = grown;
-    streams = λ c vs xs a b. streams (source N c) c vs xs a b;
-    events = λ p. events p (there_or ws p);
-  }
+  goes_on =
+      Going.goes_on t wired lists after grown watch workers quantum bound total (cells_of ws) (cells_of us)
+      (length-map ws (λ (w : Work). w.cell) ∙ old.idle.count) (length-map us (λ (w : Work). w.cell) ∙ new.idle.count)
+      (standing ws old.stood) (standing us new.stood) risen_cells said next
 
 -- ---- the verdict of a part
 

@@ -10,6 +10,7 @@ pub mod Sizes
 pub mod Bridged
 pub mod Benched
 pub mod Tapping
+pub mod Taking_in
 pub mod Laid
 pub mod Named
 pub mod Filled
@@ -24,6 +25,7 @@ pub mod Rests
 pub mod Over
 pub mod Kept
 pub mod Growing
+pub mod Going_on
 pub mod Held_jobs
 pub mod Held_runs
 pub mod Held_calls

@@ -1,15 +1,16 @@
 -- Inner. The cells of a network over its plain queues, as a run on one thread has them.
-use Rattle.std.specs.Prelude.{◌≡◌, ℕ, ◌≤◌, List, [], ◌∷◌, ◌++◌, length, map, replicate, Option, Some, slice_get}
+use Rattle.std.specs.Prelude.{◌≡◌, ℕ, ◌+◌, ◌≤◌, ◌==◌, List, [], ◌∷◌, ◌++◌, length, map, replicate, Option, Some, slice_get, if◌then◌else◌}
 use Rattle.kahn_tree.specs.declared.tree.Program.{Program}
 use Rattle.kahn_network.specs.Network.{network_of, instance_at}
 use Rattle.kahn_network.specs.Wiring.{IsWellWired}
 use Rattle.kahn_streams.specs.Tokens.{Lists, inputs_of}
-use Rattle.kahn_code.specs.Lines.{Lines as Queues, place_at}
+use Rattle.kahn_code.specs.Lines.{Lines as Queues, place_at, waiting_of}
 use Rattle.kahn_code.specs.Told.{Told, told_view, IsAt}
 use Rattle.kahn_code.specs.declared.cell.Kept.{Kept}
 use Rattle.kahn_code.specs.inner.Gone.{Gone, kept_behind, nothing_gone}
 use Rattle.kahn_code.specs.inner.Tapped.{Tapped}
 use Rattle.kahn_pool.specs.inner.Bench.{State, events_at}
+use Rattle.kahn_pool.specs.HeldRuns.{seen_of}
 use Rattle.kahn_pool.specs.Right.{line_of, stream_lines}
 use Rattle.kahn_pool.specs.inner.Streams.{HasInputs, kept_lists, printed_list}
 use Rattle.kahn_pool.specs.declared.answer.Stream.{Stream}
@@ -50,6 +51,20 @@ pub record HasWorked (old new : Table) : Type 0 where
   pub watch : new.watch ≡ old.watch
   pub gone : new.gone ≡ old.gone
   pub events : (p : ℕ) → events_at (state_of old) p ≤ events_at (state_of new) p
+
+-- the same tap, for this input
+abbrev pub regrown_tap : Lists → Tapped → Tapped
+regrown_tap input x = record x { told = record x.told { input = input } }
+
+-- it goes on for this input: so many values more wait on channel c, and nothing else changes
+pub record HasTakenIn (c n : ℕ) (input : Lists) (old new : Table) : Type 0 where
+  pub network : new.network ≡ old.network
+  pub lists : new.input ≡ input
+  pub watch : new.watch ≡ old.watch
+  pub gone : new.gone ≡ old.gone
+  pub views : map told_view new.cells ≡ map told_view old.cells
+  pub seen : map seen_of new.cells ≡ map seen_of old.cells
+  pub waiting : (d : ℕ) → waiting_of (slice_get new.queues.queues d) ≡ waiting_of (slice_get old.queues.queues d) + (if c == d then n else 0)
 
 -- the cell is that of instance p, and stands where the queues stand
 pub record IsSeated (b : Table) (p : ℕ) (c : Told) : Type 0 where

@@ -1,0 +1,138 @@
+-- A bench that goes on for a longer input.
+use Rattle.std.proofs.Common.{arith, ◌≡◌, ℕ, zero, suc, ◌+◌, ◌==◌, Bool, true, false, List, [], ◌∷◌, length, map, refl, sym, ap, ◌∙◌, subst, eqb-true, Option, Some, None, slice_get, if◌then◌else◌}
+use Rattle.std.proofs.lemmas.List.{length-map}
+use Rattle.kahn_tree.specs.declared.tree.Program.{Program}
+use Rattle.kahn_tree.specs.declared.tree.Role.TheVariants.{Input}
+use Rattle.kahn_network.specs.Network.{Actual, Reads, Writes, Hands, network_of, instance_at, actual_at, role_at}
+use Rattle.kahn_network.proofs.Sourced.{writes}
+use Rattle.kahn_streams.specs.Laws.{AreInputsExtended}
+use Rattle.kahn_streams.specs.Tokens.{Lists, inputs_of}
+use Rattle.kahn_code.specs.Cells.{View}
+use Rattle.kahn_code.specs.Lines.{Lines as Queues, HasPoured, given_of, next_at, place_at, taken_of, waiting_of}
+use Rattle.kahn_code.specs.Queues.{Waiting}
+use Rattle.kahn_code.specs.Told.{Told, told_view}
+use Rattle.kahn_code.specs.inner.Tapped.{Tapped}
+use Rattle.kahn_pool.specs.HeldRuns.{Seen, seen_of}
+use Rattle.kahn_pool.specs.inner.Workbench.{HasTakenIn, IsLaid, IsSeated, Table, gone_in, regrown_tap, table_of, told_in}
+
+given_sum : (o : Option Waiting) → given_of o ≡ taken_of o + waiting_of o
+given_sum None = refl
+given_sum (Some w) = refl
+
+-- what is read of all is read of the same taps for another input
+map_regrown : {X : Type 0} (f : Tapped → X) (input : Lists) → ((x : Tapped) → f (regrown_tap input x) ≡ f x) → (taps : List Tapped) → map f (map (regrown_tap input) taps) ≡ map f taps
+map_regrown f input e [] = refl
+map_regrown f input e (x ∷ taps) = ap (λ y. y ∷ map f (map (regrown_tap input) taps)) (e x) ∙ ap (λ ys. f x ∷ ys) (map_regrown f input e taps)
+
+views_of : {X : Type 0} (f : Told → X) (taps : List Tapped) → map f (map told_in taps) ≡ map (λ x. f x.told) taps
+views_of f [] = refl
+views_of f (x ∷ taps) = ap (λ ys. f x.told ∷ ys) (views_of f taps)
+
+told_from : (taps : List Tapped) (p : ℕ) (c : Told) → slice_get (map told_in taps) p ≡ Some c → (x : Tapped) × (slice_get taps p ≡ Some x) × (c ≡ x.told)
+told_from [] p c e = absurd cc
+told_from (x ∷ taps) zero c e = (x, refl, cc)
+told_from (x ∷ taps) (suc p) c e = told_from taps p c e
+
+regrown_from : (input : Lists) (taps : List Tapped) (p : ℕ) (c : Told) → slice_get (map told_in (map (regrown_tap input) taps)) p ≡ Some c →
+    (d : Told) × (slice_get (map told_in taps) p ≡ Some d) × (c ≡ record d { input = input })
+regrown_from input [] p c e = absurd cc
+regrown_from input (x ∷ taps) zero c e = (x.told, refl, cc)
+regrown_from input (x ∷ taps) (suc p) c e = regrown_from input taps p c e
+
+-- ---- taps over queues into which values were poured
+
+module _ {t : Program} {lists : Lists} {watch : Option ℕ} {code : Program} (taps : List Tapped) {q : Queues} (laid : IsLaid (table_of t lists watch code taps q)) (c n : ℕ)
+    (role : role_at (network_of t) c ≡ Input) (input : Lists) (q' : Queues) (poured : HasPoured c n input q q') where
+  abbrev old : Table
+  old = table_of t lists watch code taps q
+
+  -- no instance writes the channel
+  other : (p r d : ℕ) → actual_at (instance_at (network_of t) p) r ≡ Writes d → (b : Bool) → (c == d) ≡ b → ◌≡◌ {A = ℕ} (if b then n else 0) 0
+  other p r d e true same = absurd ((writes t laid.wired p r d e).1 (subst (λ k. role_at (network_of t) k ≡ Input) (eqb-true c d same) role))
+  other p r d e false same = refl
+
+  next_same : (p r : ℕ) (a : Actual) → actual_at (instance_at (network_of t) p) r ≡ a → next_at q'.queues a ≡ next_at q.queues a
+  next_same p r (Reads d) e = poured.taken d
+  next_same p r (Writes d) e =
+      let x = given_sum (slice_get q'.queues d) in
+      let y = given_sum (slice_get q.queues d) in
+      let a = poured.taken d in
+      let b = poured.waiting d in
+      let z = other p r d e (c == d) refl in
+      omega (arith, x, y, a, b, z)
+  next_same p r (Hands v) e = refl
+
+  place_same : (p r : ℕ) → place_at q' p r ≡ place_at q p r
+  place_same p r =
+      ap (λ k. next_at q'.queues (actual_at (instance_at (network_of k) p) r)) (poured.network ∙ laid.network) ∙ next_same p r _ refl ∙
+      ap (λ k. next_at q.queues (actual_at (instance_at (network_of k) p) r)) (sym laid.network)
+
+  -- the queues go on, and not yet the taps
+  module _ (same : input ≡ lists) where
+    pub roomier_laid : IsLaid (table_of t lists watch code taps q')
+    roomier_laid = record {
+      wired = laid.wired;
+      code = laid.code;
+      count = laid.count;
+      each = λ p d at.
+          let s = laid.each p d at in
+          record {
+            network = s.network;
+            input = s.input;
+            instance = s.instance;
+            watch = s.watch;
+            at = record { reads = λ r e h. place_same p r ∙ s.at.reads r e h; writes = λ r e h i. place_same p r ∙ s.at.writes r e h i };
+          };
+      network = poured.network ∙ laid.network;
+      input = poured.lists ∙ same;
+    }
+
+    pub roomier_in : HasTakenIn c n lists old (table_of t lists watch code taps q')
+    roomier_in = record { network = refl; lists = refl; watch = refl; gone = refl; views = refl; seen = refl; waiting = poured.waiting }
+
+  -- and the taps
+  module _ (name : Lists) (named : name ≡ input) where
+    abbrev new : Table
+    new = table_of t name watch code (map (regrown_tap input) taps) q'
+
+    pub poured_laid : IsLaid new
+    poured_laid = record {
+      wired = laid.wired;
+      code = laid.code;
+      count = length-map (map (regrown_tap input) taps) told_in ∙ length-map taps (regrown_tap input) ∙ sym (length-map taps told_in) ∙ laid.count;
+      each = λ p d at.
+          let x = regrown_from input taps p d at in
+          let s = laid.each p x.0 x.1 in
+          subst (IsSeated new p) (sym x.2)
+          (record {
+            network = s.network;
+            input = sym named;
+            instance = s.instance;
+            watch = s.watch;
+            at = record { reads = λ r e h. place_same p r ∙ s.at.reads r e h; writes = λ r e h i. place_same p r ∙ s.at.writes r e h i };
+          });
+      network = poured.network ∙ laid.network;
+      input = poured.lists ∙ sym named;
+    }
+
+    pub poured_in : HasTakenIn c n input old new
+    poured_in = record {
+      network = refl;
+      lists = named;
+      watch = refl;
+      gone = map_regrown gone_in input (λ x. refl) taps;
+      views = views_of told_view (map (regrown_tap input) taps) ∙ map_regrown (λ x. told_view x.told) input (λ x. refl) taps ∙ sym (views_of told_view taps);
+      seen = views_of seen_of (map (regrown_tap input) taps) ∙ map_regrown (λ x. seen_of x.told) input (λ x. refl) taps ∙ sym (views_of seen_of taps);
+      waiting = poured.waiting;
+    }
+
+-- the taps begin the longer input
+pub taps_grow : {t : Program} {lists : Lists} {watch : Option ℕ} {code : Program} (taps : List Tapped) {q : Queues} → IsLaid (table_of t lists watch code taps q) → (input : Lists) →
+    AreInputsExtended (inputs_of lists) (inputs_of input) → (p : ℕ) (x : Tapped) → slice_get taps p ≡ Some x → AreInputsExtended (inputs_of x.told.input) (inputs_of input)
+taps_grow taps laid input grown p x at =
+    subst (λ l. AreInputsExtended (inputs_of l) (inputs_of input)) (sym (laid.each p x.told (told_at taps p x at)).input) grown
+  where
+    told_at : (taps : List Tapped) (p : ℕ) (x : Tapped) → slice_get taps p ≡ Some x → slice_get (map told_in taps) p ≡ Some x.told
+    told_at [] p x e = absurd cc
+    told_at (y ∷ taps) zero x e = cc
+    told_at (y ∷ taps) (suc p) x e = told_at taps p x e
