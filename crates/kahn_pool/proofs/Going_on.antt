@@ -109,6 +109,14 @@ module _ (t : Program) (wired : IsWellWired t) (lists after : Lists) (grown : Ar
       by (inr n) = subst (λ l. IsPrefix l xs) (sym (a ∙ ap (λ (z : Seen). map token_value z.printed) n)) (begins_nil xs)
   streams Nobody c vs xs a b = absurd a
 
+  -- each line of the first is there later on
+  there_now : (s : Source) (c : Line) (vs : List Value) → IsSoFar before s c vs → (xs : List Value) × IsSoFar now s c xs
+  there_now Given (Channel c) vs a = (inputs_of after c, refl)
+  there_now Given (Print r) vs a = absurd a
+  there_now (Written p) (Channel c) vs (q, a, s, e) = (map token_value (slice_index_or (seen_at now.cells p).kept q []), (q, a, s, refl))
+  there_now (Written p) (Print r) vs a = (map token_value (seen_at now.cells p).printed, refl)
+  there_now Nobody c vs a = absurd a
+
   events : (p : ℕ) → ((c : Told) × (slice_get cells p ≡ Some c)) ⊎ (seen_at (map seen_of cells) p ≡ unseen) →
       (seen_at before.cells p).events ≤ (seen_at now.cells p).events
   events p (inl w) =
@@ -128,6 +136,6 @@ module _ (t : Program) (wired : IsWellWired t) (lists after : Lists) (grown : Ar
     workers = refl;
     quantum = refl;
     input = grown;
-    streams = λ c vs xs a b. streams (source N c) c vs xs a b;
+    streams = λ c vs a. let (xs, b) = there_now (source N c) c vs a in (xs, b, streams (source N c) c vs xs a b);
     events = λ p. events p (there_or cells p);
   }

@@ -1,6 +1,6 @@
 -- What many calls make of a held run: it goes on, so each answer says no less than those before it.
-use Rattle.std.proofs.Common.{arith, ◌≡◌, inl, inr, ℕ, List, [], ◌∷◌, map, refl, sym, ap, ◌∙◌, subst, true, slice_index_or}
-use Rattle.kahn_network.specs.Network.{Source, Given, Written, Nobody, Writes, network_of, instance_at, actual_at}
+use Rattle.std.proofs.Common.{arith, ◌≡◌, inl, inr, ℕ, List, [], ◌∷◌, map, refl, sym, ap, ◌∙◌, subst, slice_index_or}
+use Rattle.kahn_network.specs.Network.{Source, Given, Written, Nobody, network_of}
 use Rattle.kahn_network.specs.Wiring.{IsWellWired}
 use Rattle.kahn_streams.specs.declared.value.Value.{Value}
 use Rattle.kahn_streams.specs.declared.value.Line.{Line}
@@ -8,7 +8,7 @@ use Rattle.kahn_streams.specs.declared.value.Line.TheVariants.{Channel, Print}
 use Rattle.kahn_streams.specs.Solution.{IsPrefix, source}
 use Rattle.kahn_streams.specs.Tokens.{inputs_of}
 use Rattle.kahn_streams.proofs.Proved.{prefix_refl, prefix_trans}
-use Rattle.kahn_code.specs.Cells.{is_streamed, token_value}
+use Rattle.kahn_code.specs.Cells.{token_value}
 use Rattle.kahn_code.proofs.Readers.{driven}
 use Rattle.kahn_pool.specs.HeldRuns.{AreCalls, GoesOn, HasSoFar, HeldRun, IsAnswerOf, IsCall, IsSoFar, IsUnresumed, SaysNoLess, last_of, seen_at}
 use Rattle.kahn_pool.specs.Right.{values_of}
@@ -32,30 +32,15 @@ goes_on_same h wired = record {
   workers = refl;
   quantum = refl;
   input = λ c. prefix_refl (inputs_of h.input c);
-  streams = λ c vs ws a b. subst (IsPrefix vs) (one_so_far h wired (source (network_of h.network) c) c vs ws a b) (prefix_refl vs);
+  streams = λ c vs a. (vs, a, prefix_refl vs);
   events = λ p. omega arith;
 }
 
--- what a later run has of a line that an earlier one has
-still : (a b : HeldRun) → GoesOn a b → (s : Source) (c : Line) (vs : List Value) → IsSoFar a s c vs → (us : List Value) × IsSoFar b s c us
-still a b g Given (Channel c) vs h = (inputs_of b.input c, refl)
-still a b g Given (Print r) vs h = absurd h
-still a b g (Written p) (Channel c) vs (q, w, s, e) = (
-  map token_value (slice_index_or (seen_at b.cells p).kept q []),
-  (
-    q,
-    subst (λ t. actual_at (instance_at (network_of t) p) q ≡ Writes c) (sym g.network) w,
-    subst (λ t. is_streamed (network_of t) b.watch c ≡ true) (sym g.network) (subst (λ n. is_streamed (network_of a.network) n c ≡ true) (sym g.watch) s),
-    refl,
-  ),
-)
-still a b g (Written p) (Print r) vs h = (map token_value (seen_at b.cells p).printed, refl)
-still a b g Nobody c vs h = absurd h
-
-pub still_so : (a b : HeldRun) → GoesOn a b → (c : Line) (vs : List Value) → HasSoFar a c vs → (us : List Value) × HasSoFar b c us
-still_so a b g c vs h =
-    let m = still a b g (source (network_of a.network) c) c vs h in
-    (m.0, subst (λ t. IsSoFar b (source (network_of t) c) c m.0) (sym g.network) m.1)
+-- a list of an earlier run begins that of a later one
+begins : (a b : HeldRun) → IsWellWired a.network → GoesOn a b → (c : Line) (vs ws : List Value) → HasSoFar a c vs → HasSoFar b c ws → IsPrefix vs ws
+begins a b wired g c vs ws u w =
+    let (us, x, p) = g.streams c vs u in
+    subst (IsPrefix vs) (one_so_far b (subst IsWellWired (sym g.network) wired) (source (network_of b.network) c) c us ws x w) p
 
 pub goes_on_then : (a b c : HeldRun) → GoesOn a b → GoesOn b c → GoesOn a c
 goes_on_then a b c g h = record {
@@ -64,7 +49,7 @@ goes_on_then a b c g h = record {
   workers = h.workers ∙ g.workers;
   quantum = h.quantum ∙ g.quantum;
   input = λ d. prefix_trans (inputs_of a.input d) (inputs_of b.input d) (inputs_of c.input d) (g.input d) (h.input d);
-  streams = λ d vs ws u w. let m = still_so a b g d vs u in prefix_trans vs m.0 ws (g.streams d vs m.0 u m.1) (h.streams d m.0 ws m.1 w);
+  streams = λ d vs u. let (us, x, p) = g.streams d vs u in let (ws, y, q) = h.streams d us x in (ws, y, prefix_trans vs us ws p q);
   events = λ p. let x = g.events p in let y = h.events p in omega (arith, x, y);
 }
 
@@ -94,6 +79,6 @@ pub answers : (h : HeldRun) (later : List HeldRun) (a b : Answer) → IsWellWire
 answers h later a b wired all x y =
     let g = calls h later wired all in
     record {
-      streams = λ s z u w e. g.streams s.line (values_of s) (values_of z) (x.streams s u) (subst (λ l. HasSoFar (last_of h later) l (values_of z)) (sym e) (y.streams z w));
+      streams = λ s z u w e. begins h (last_of h later) wired g s.line (values_of s) (values_of z) (x.streams s u) (subst (λ l. HasSoFar (last_of h later) l (values_of z)) (sym e) (y.streams z w));
       events = λ p k l u w. let m = g.events p in let i = x.events p k u in let j = y.events p l w in omega (arith, m, i, j);
     }

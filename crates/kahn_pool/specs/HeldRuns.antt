@@ -96,15 +96,15 @@ so_far h c = given_so_far h (source (network_of h.network) c) c
 abbrev pub IsLineOf : HeldRun → Line → Type 0
 IsLineOf h c = (j : ℕ) × (slice_get (stream_lines (network_of h.network) h.watch) j ≡ Some c)
 
--- the second is the first later on: each stream of the first is a prefix of the same stream of the second, and no instance's
--- events go down
+-- the second is the first later on: each stream of the first is there in the second, and begins it, and no instance's events
+-- go down
 pub record GoesOn (old new : HeldRun) : Type 0 where
   pub network : new.network ≡ old.network
   pub watch : new.watch ≡ old.watch
   pub workers : new.workers ≡ old.workers
   pub quantum : new.quantum ≡ old.quantum
   pub input : AreInputsExtended (inputs_of old.input) (inputs_of new.input)
-  pub streams : (c : Line) (vs ws : List Value) → HasSoFar old c vs → HasSoFar new c ws → IsPrefix vs ws
+  pub streams : (c : Line) (vs : List Value) → HasSoFar old c vs → (ws : List Value) × HasSoFar new c ws × IsPrefix vs ws
   pub events : (p : ℕ) → (seen_at old.cells p).events ≤ (seen_at new.cells p).events
 
 -- ---- the start

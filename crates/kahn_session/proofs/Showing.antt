@@ -8,7 +8,6 @@ use Rattle.kahn_streams.specs.declared.value.Line.{Line}
 use Rattle.kahn_streams.specs.Solution.{IsPrefix}
 use Rattle.kahn_pool.specs.HeldRuns.{GoesOn, HeldRun, so_far}
 use Rattle.kahn_pool.specs.Right.{stream_lines}
-use Rattle.kahn_pool.proofs.Held_calls.{still_so}
 use Rattle.kahn_pool.proofs.Held_streams.{so_far_is}
 use Rattle.kahn_report.specs.News.{joined}
 use Rattle.kahn_tree.specs.declared.tree.Program.{Program}
@@ -29,8 +28,8 @@ longer vs ws (zs, e) = let n = ap length e in let m = length-append vs zs in ome
 pub shown_on : (a b : HeldRun) (counts : List ℕ) → GoesOn a b → AreShown a counts → AreShown b counts
 shown_on a b counts g h j c n line at =
     let (vs, so, few) = h j c n (subst (λ l. slice_get l j ≡ Some c) (lines_stay a b g) line) at in
-    let (us, later) = still_so a b g c vs so in
-    let more = longer vs us (g.streams c vs us so later) in
+    let (us, later, begun) = g.streams c vs so in
+    let more = longer vs us begun in
     (us, later, omega (arith, few, more))
 
 take_front : (n : ℕ) (vs zs : List Value) → n ≤ length vs → take n (vs ++ zs) ≡ take n vs
@@ -45,8 +44,7 @@ Stay a b lines counts = (j : ℕ) (c : Line) (n : ℕ) → slice_get lines j ≡
 stay : (a b : HeldRun) (counts : List ℕ) → IsWellWired a.network → GoesOn a b → AreShown a counts → Stay a b (run_lines a) counts
 stay a b counts wired g h j c n line at =
     let (vs, so, few) = h j c n line at in
-    let (us, later) = still_so a b g c vs so in
-    let (zs, e) = g.streams c vs us so later in
+    let (us, later, (zs, e)) = g.streams c vs so in
     ap (take n) (sym (so_far_is b (subst IsWellWired (sym g.network) wired) c us later)) ∙ ap (take n) e ∙ take_front n vs zs few
     ∙ ap (take n) (so_far_is a wired c vs so)
 
