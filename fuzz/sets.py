@@ -2,6 +2,8 @@
 
     sets.py KAHN_EXPLAIN [COUNT] [SEED]     the same seed makes the same texts; where none is given it is chosen at random
 
+Before these stands the sample network, cut off at each place in turn, with a lexeme behind that can't stand there.
+
 The second grammar is GRAMMAR, docs/language.md as rules, read by Earley's items: a lexeme may stand behind a beginning exactly if an
 item of it wants that lexeme next. Each that may is tried as well: the beginning, the lexeme and more of them, one by one, until the
 program is whole, which the parser of reference.py must read; and at each that may not that parser must fail. A difference is printed,
@@ -225,6 +227,25 @@ def broken(rng):
             return text, *found
 
 
+SAMPLE = os.path.join(os.path.dirname(os.path.dirname(os.path.abspath(__file__))), "examples", "sample.kahn")
+
+
+def sample():
+    with open(SAMPLE, "rb") as it:
+        text = it.read()
+    return text, ref.lex(text)
+
+
+def cut(number):
+    """The sample network up to the lexeme of that number, with one behind that can't stand there, and the number of the one at fault."""
+    text, lexemes = sample()
+    before = lexemes[:number]
+    wanted, _ = may_stand(before)
+    wrong = next(word for word in ALL if word not in wanted)
+    text = text[:before[-1][3] if before else 0] + f" {dict(zip(ALL, mends.CLASSES))[wrong][1]}".encode()
+    return text, *mends.place_of(text)
+
+
 def difference(ran, text, lexemes, at):
     wanted, whole = may_stand(lexemes[:at])
     if isinstance(wanted, str):
@@ -242,8 +263,8 @@ def difference(ran, text, lexemes, at):
 
 
 def one(program, room, seed):
-    """(None, what may stand), or (what differs, the text's path)."""
-    text, lexemes, at = broken(random.Random(seed))
+    """(None, what may stand), or (what differs, the text's path). A negative seed is a place of the sample network."""
+    text, lexemes, at = broken(random.Random(seed)) if seed >= 0 else cut(-1 - seed)
     path = f"{room}/{seed}.kahn"
     with open(path, "wb") as it:
         it.write(text)
@@ -264,9 +285,9 @@ def main():
     print(f"seed {first}", flush=True)
     room = tempfile.mkdtemp(prefix="kahn-sets-")
     sets, failed = set(), 0
-    seeds = range(first, first + count)
+    seeds = [-1 - number for number in range(len(sample()[1]) + 1)] + list(range(first, first + count))
     with ProcessPoolExecutor(os.cpu_count()) as pool:
-        for seed, (what, more) in zip(seeds, pool.map(one, [program] * count, [room] * count, seeds, chunksize=8)):
+        for seed, (what, more) in zip(seeds, pool.map(one, [program] * len(seeds), [room] * len(seeds), seeds, chunksize=8)):
             if what is None:
                 sets.add(more)
             else:
@@ -277,7 +298,7 @@ def main():
         print(f"the texts are kept in {room}")
     else:
         shutil.rmtree(room)
-    print(f"{count - failed} passed, {failed} failed")
+    print(f"{len(seeds) - failed} passed, {failed} failed")
     return 1 if failed else 0
 
 

@@ -1,6 +1,6 @@
 -- Notes on faults of a program text.
 use Rattle.std.proofs.Common.{◌≡◌, ℕ, List, [], ◌∷◌, Option, Some, None, Err, inr, refl, sym, subst, ap, ◌∙◌, string_bytes}
-use Rattle.std.specs.Prelude.{MatchOption, option_map}
+use Rattle.std.specs.Prelude.{MatchOption}
 use Rattle.std.specs.declared.alloc.Global.{Global}
 use Rattle.std.specs.declared.string.String.{String}
 use Rattle.kahn_tree.specs.declared.span.Span.{Span}
@@ -13,14 +13,12 @@ use Rattle.kahn_syntax.specs.declared.fault.What.{What}
 use Rattle.kahn_syntax.specs.declared.fault.SyntaxFault.{SyntaxFault}
 use Rattle.kahn_syntax.specs.declared.fault.SyntaxFault.TheVariants.{Expected}
 use Rattle.kahn_syntax.specs.Texts.{IsTextFault}
-use Rattle.kahn_fault.specs.Message.{syntax_span}
-use Rattle.kahn_marks.specs.Marks.{marked}
 use Rattle.kahn_notes.specs.Notes.{IsNote}
 use Rattle.kahn_report.specs.Work.{IsParsed}
 use Rattle.kahn_report.specs.declared.working.WorkFault.TheVariants.{Check, Syntax}
 use Rattle.kahn_explain.specs.Explaining.{IsNoteOn}
 use Rattle.kahn_explain.specs.Noting.{faults_text}
-use Rattle.kahn_explain.specs.Refusing.{IsRefusal, IsSyntaxRefusal, expected_of, refused_words}
+use Rattle.kahn_explain.specs.Refusing.{IsPlacedNote, IsRefusal, IsSyntaxRefusal, expected_of}
 
 abbrev unwrapped : Span × What → Option (Span × What) → Span × What
 unwrapped d None = d
@@ -36,14 +34,14 @@ expected program f span what e h = absurd cc
 pub told_expected : (path program : List ℕ) (f : SyntaxFault) (span : Span) (what : What) (words : String Global) → expected_of f ≡ Some (span, what)
     → IsNote path program span what words → IsSyntaxRefusal path program f (Some words)
 told_expected path program f span what words e h =
-    subst (λ o. MatchOption o (option_map string_bytes (Some words) ≡ option_map (λ at. marked path program at (refused_words program f)) (syntax_span f))
+    subst (λ o. MatchOption o (IsPlacedNote path program f (Some words))
     (λ p. (w : String Global) × (Some words ≡ Some w) × IsNote path program p.0 p.1 w)) (sym e) (words, refl, h)
 
 -- and of the others
 pub told_other : (path program : List ℕ) (f : SyntaxFault) (note : Option (String Global)) → expected_of f ≡ None
-    → option_map string_bytes note ≡ option_map (λ at. marked path program at (refused_words program f)) (syntax_span f) → IsSyntaxRefusal path program f note
+    → IsPlacedNote path program f note → IsSyntaxRefusal path program f note
 told_other path program f note e h =
-    subst (λ o. MatchOption o (option_map string_bytes note ≡ option_map (λ s. marked path program s (refused_words program f)) (syntax_span f))
+    subst (λ o. MatchOption o (IsPlacedNote path program f note)
     (λ p. (w : String Global) × (note ≡ Some w) × IsNote path program p.0 p.1 w)) (sym e) h
 
 -- what is said of the faults of the network

@@ -52,10 +52,14 @@ character_help program _ = []
 abbrev pub refused_words : List ℕ → SyntaxFault → List ℕ
 refused_words program f = syntax_words f ++ character_help program f
 
+-- at its place, where it has one
+abbrev pub IsPlacedNote : List ℕ → List ℕ → SyntaxFault → Option (String Global) → Type 0
+IsPlacedNote path program f note = option_map string_bytes note ≡ option_map (λ span. marked path program span (refused_words program f)) (syntax_span f)
+
 -- of such a lexeme it says what may stand there; else it has the words of the fault, where that has a place
 abbrev pub IsSyntaxRefusal : List ℕ → List ℕ → SyntaxFault → Option (String Global) → Type 0
 IsSyntaxRefusal path program f note = MatchOption (expected_of f)
-    (option_map string_bytes note ≡ option_map (λ span. marked path program span (refused_words program f)) (syntax_span f))
+    (IsPlacedNote path program f note)
     (λ e. (words : String Global) × (note ≡ Some words) × IsNote path program e.0 e.1 words)
 
 -- of a fault of the network: the text spells a program whose first fault it is, and the note tells the parts of that program

@@ -1,12 +1,11 @@
 //! Why a program text is refused, as a note on the place.
 
-ghost use Rattle.std.specs.Prelude.{◌≡◌, IfOk, MatchOption, None, option_map, string_bytes};
-ghost use Rattle.kahn_marks.specs.Marks.{marked};
+ghost use Rattle.std.specs.Prelude.{◌≡◌, IfOk, MatchOption, None, string_bytes};
 ghost use Rattle.kahn_report.specs.Work.{IsUnchecked};
 ghost use Rattle.kahn_syntax.specs.Texts.{IsTextFault as IsSyntaxFault};
-ghost use Rattle.kahn_fault.specs.Message.{check_span, syntax_span};
+ghost use Rattle.kahn_fault.specs.Message.{check_span};
 ghost use Rattle.kahn_explain.specs.Explaining.{IsNoteOn};
-ghost use Rattle.kahn_explain.specs.Refusing.{IsRefusal, IsSyntaxRefusal, expected_of, path_name, refused_words};
+ghost use Rattle.kahn_explain.specs.Refusing.{IsPlacedNote, IsRefusal, IsSyntaxRefusal, expected_of, path_name};
 
 use crate::helping::refused_words;
 use crate::noting::faults_note;
@@ -36,7 +35,7 @@ fn placed_note(
     program: &str,
     fault: SyntaxFault,
 ) -> Result<Option<String>, NoMemory>
-    ensures { IfOk result (λ note. option_map string_bytes note ≡ option_map (λ span. marked path.now program.now span (refused_words program.now fault)) (syntax_span fault)) }
+    ensures { IfOk result (IsPlacedNote path.now program.now fault) }
 {
     match syntax_span(fault) {
         Some(span) => {

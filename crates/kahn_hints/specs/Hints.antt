@@ -21,8 +21,8 @@ use Rattle.kahn_hints.specs.declared.names.Sort.TheVariants as sort
 use Rattle.kahn_hints.specs.declared.uses.Use.{Use}
 use Rattle.kahn_hints.specs.declared.uses.Use.TheVariants as use_as
 use Rattle.kahn_hints.specs.Names.{program_names}
-use Rattle.kahn_hints.specs.Near.{nearest}
-use Rattle.kahn_hints.specs.Places.{called_first, channel_kind, is_called, names_seen, passed, process_called, process_declaring, process_using, word_at}
+use Rattle.kahn_hints.specs.Places.{called_first, channel_kind, names_seen, passed, process_called, process_declaring, process_using, word_at}
+use Rattle.kahn_hints.specs.Sight.{unknown_words}
 use Rattle.kahn_hints.specs.Uses.{body_use, instances_use, same_span}
 
 -- what is said of another place
@@ -115,21 +115,9 @@ second_place text t checked.NoMemory = None
 
 -- ---- behind the words of a fault
 
--- a name that has other letters
-abbrev pub other_than : List ℕ → Option Name → Option Name
-other_than word None = None
-other_than word (Some n) = if is_called word n then None else Some n
-
--- the nearest name of those in sight that may stand there; none where that is the name itself, declared a second time
-abbrev pub told_near : List ℕ → Program → Span → Option Name
-told_near text t at = other_than (word_at text at) (nearest (word_at text at) (names_seen (asked_sort (use_at t at)) t (process_using t at)))
-
-abbrev pub meant_words : Name → List ℕ
-meant_words n = concat (codes "; did you mean `" ∷ bytes_of n ∷ codes "`?" ∷ [])
-
-abbrev pub near_words : Option Name → List ℕ
-near_words None = []
-near_words (Some n) = meant_words n
+-- a name that isn't declared, by those in sight that may stand there
+abbrev pub unknown_at : List ℕ → Program → Span → List ℕ
+unknown_at text t at = unknown_words (word_at text at) (names_seen (asked_sort (use_at t at)) t (process_using t at))
 
 -- the instance whose process is named at a place, and how many arguments are wanted and found there
 abbrev pub named_instance : Program → Span → Option Instance
@@ -181,7 +169,7 @@ value_words (Some use_as.Handed) = codes ", found a name"
 value_words _ = []
 
 abbrev pub tail_of : List ℕ → Program → CheckFault → List ℕ
-tail_of text t (checked.Unknown at) = near_words (told_near text t at)
+tail_of text t (checked.Unknown at) = unknown_at text t at
 tail_of text t (checked.WrongCount at) = count_words t (named_instance t at)
 tail_of text t (checked.WrongKind at) = kind_words (found_kind text t at)
 tail_of text t (checked.WrongDirection at) = direction_words (use_at t at)

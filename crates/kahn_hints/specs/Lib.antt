@@ -2,4 +2,5 @@ pub mod Hints
 pub mod Names
 pub mod Near
 pub mod Places
+pub mod Sight
 pub mod Uses

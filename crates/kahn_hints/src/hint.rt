@@ -2,19 +2,19 @@
 
 ghost use Rattle.std.specs.Prelude.{◌≡◌, ◌++◌, IfOk, option_map, string_bytes};
 ghost use Rattle.std.specs.List.{find};
-ghost use Rattle.kahn_hints.specs.Hints.{asked_sort, channel_words, check_note, closed_reason, count_words, counted_words, declared_first, declared_here, declared_outside, declared_role, direction_words, first_reason, found_kind, kind_words, named_instance, meant_words, near_words, other_than, outside_reason, second_place, second_text, reason_words, taken_before, tail_of, told_near, use_at, value_words};
+ghost use Rattle.kahn_hints.specs.Hints.{asked_sort, channel_words, check_note, closed_reason, count_words, counted_words, declared_first, declared_here, declared_outside, declared_role, direction_words, first_reason, found_kind, kind_words, named_instance, outside_reason, second_place, second_text, reason_words, taken_before, tail_of, unknown_at, use_at, value_words};
 
 use crate::names::{Sort, program_names};
-use crate::near::nearest;
 use crate::places::{
-    called_first, channel_kind, is_called, names_seen, passed, process_called, process_declaring,
+    called_first, channel_kind, names_seen, passed, process_called, process_declaring,
     process_using, word_at,
 };
+use crate::sight::add_unknown;
 use crate::uses::{Use, body_use, instances_use, same_span};
 use itoa::Buffer;
 use kahn_check::CheckFault;
 use kahn_marks::{add, marked, marked_too};
-use kahn_tree::{Direction, Instance, Kind, Name, NoMemory, Process, Program, Span};
+use kahn_tree::{Direction, Instance, Kind, NoMemory, Process, Program, Span};
 use std::alloc::{AllocError, Global};
 
 /// Why another place is told beside that of a fault.
@@ -223,53 +223,19 @@ fn second_place(
     }
 }
 
-/// A name, where its letters are others than those of a word.
-fn other_than<'p>(word: &[u8], name: Option<&'p Name>) -> Option<&'p Name>
-    ensures { option_map (λ n. n.now) result ≡ other_than word.now (option_map (λ n. n.now) name.entry) }
-{
-    match name {
-        Some(name) => {
-            if is_called(word, name) {
-                None
-            } else {
-                Some(name)
-            }
-        }
-        None => None,
-    }
-}
-
-/// The name that is nearest to the one at a place, of those in sight that may stand there; none where that is the same, declared
-/// a second time.
-fn told_near<'p>(
+/// Adds what is said of a name at a place that isn't declared.
+fn add_unknown_at(
+    words: &mut String,
     alloc: Global,
     text: &str,
-    program: &'p Program,
+    program: &Program,
     at: Span,
-) -> Result<Option<&'p Name>, AllocError>
-    ensures { IfOk result (λ name. option_map (λ n. n.now) name ≡ told_near text.now program.now at) }
+) -> Result<(), AllocError>
+    ensures { IfOk result (λ _. string_bytes words.new ≡ string_bytes words.old ++ unknown_at text.now program.now at) }
 {
     let asked = asked_sort(use_at(program, at));
     let names = names_seen(alloc, program, process_using(program, at), asked)?;
-    let word = word_at(text, at);
-    Ok(other_than(word, nearest(word, &names)))
-}
-
-/// Adds a name that was perhaps meant.
-fn add_meant(words: &mut String, name: &Name) -> Result<(), AllocError>
-    ensures { IfOk result (λ _. string_bytes words.new ≡ string_bytes words.old ++ meant_words name.now) }
-{
-    add(words, &["; did you mean `", name.text.as_str(), "`?"])
-}
-
-/// Adds the name that is nearest.
-fn add_near(words: &mut String, name: Option<&Name>) -> Result<(), AllocError>
-    ensures { IfOk result (λ _. string_bytes words.new ≡ string_bytes words.old ++ near_words (option_map (λ n. n.now) name.entry)) }
-{
-    match name {
-        Some(name) => add_meant(words, name),
-        None => Ok(()),
-    }
+    add_unknown(words, word_at(text, at), &names)
 }
 
 /// The instance whose process is named at a place.
@@ -377,7 +343,7 @@ fn add_tail(
     ensures { IfOk result (λ _. string_bytes words.new ≡ string_bytes words.old ++ tail_of text.now program.now fault) }
 {
     match fault {
-        CheckFault::Unknown(at) => add_near(words, told_near(alloc, text, program, at)?),
+        CheckFault::Unknown(at) => add_unknown_at(words, alloc, text, program, at),
         CheckFault::WrongCount(at) => add_count(words, program, at),
         CheckFault::WrongKind(at) => words.push_str(kind_words(found_kind(text, program, at))),
         CheckFault::WrongDirection(at) => words.push_str(direction_words(use_at(program, at))),

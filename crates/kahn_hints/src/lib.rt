@@ -7,6 +7,7 @@ mod kinds;
 mod names;
 mod near;
 mod places;
+mod sight;
 mod uses;
 
 pub use near::one_nearest;

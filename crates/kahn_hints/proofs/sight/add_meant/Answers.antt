@@ -1,6 +1,6 @@
 use Rattle.std.proofs.Common.{◌≡◌, ◌++◌, IfOk, [], ◌∷◌, codes, string_bytes, subst}
 use Rattle.std.specs.List.{concat}
-use Rattle.kahn_hints.proofs.hint.add_meant.Goals as goal
+use Rattle.kahn_hints.proofs.sight.add_meant.Goals as goal
 
 pub returns : goal.returns
 returns c =
