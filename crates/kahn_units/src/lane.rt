@@ -41,7 +41,7 @@ fn a_refused_item_comes_back(rt: HostRuntime) -> Result<(), Fail> {
             break;
         }
     }
-    assert!(rt; refused > 1);
+    assert_eq!(rt; refused, 2);
     for k in 1..refused {
         assert_eq!(rt; taker.take(), Some(k));
     }

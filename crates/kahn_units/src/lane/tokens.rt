@@ -162,7 +162,7 @@ fn two_segments_and_a_token_with_each_growth_refused(rt: HostRuntime) -> Result<
     assert!(rt; !passed(&rt, &memory, &memory, &network, &input, 0)?);
     for number in 1..100 {
         if !passed(&rt, &memory, &memory, &network, &input, number)? {
-            assert!(rt; number > 4);
+            assert_eq!(rt; number, 5);
             return Ok(());
         }
     }
