@@ -17,6 +17,7 @@ ghost use Rattle.kahn_code.specs.inner.Tapped.{AreUnused, HasForgotten, IsPaused
 
 use crate::cell::Kept;
 use crate::code::{Code, CodeFault};
+use crate::plain::Plain;
 use crate::ports::Ports;
 use crate::progress::{Pause, Progress};
 use kahn_network::Network;
@@ -228,8 +229,8 @@ fn assembled<A: Allocator + Copy + Drop>(progress: Progress<A>, _code: &Code<A>)
     }
 }
 
-/// All taps go on for an input whose lists begin with those of their own. It takes no memory.
-pub fn regrow_taps<A: Allocator + Copy + Drop>(taps: &mut Vec<Tap<A>, A>)
+// All taps go on for the input that is named, whose lists begin with those of their own.
+fn regrow_all<A: Allocator + Copy + Drop>(taps: &mut Vec<Tap<A>, A>, _queues: &Plain<A>)
     ghost input: { Lists }
     requires { (p : ℕ) (x : Tapped) → slice_get taps.old.items p ≡ Some x → AreInputsExtended (inputs_of x.told.input) (inputs_of input) }
     ensures { taps.new.items ≡ map (regrown_tap input) taps.old.items }
@@ -237,4 +238,12 @@ pub fn regrow_taps<A: Allocator + Copy + Drop>(taps: &mut Vec<Tap<A>, A>)
     for number in 0..taps.len() {
         taps[number].regrow();
     }
+}
+
+/// All taps go on for the input of the queues, whose lists begin with those of their own. It takes no memory.
+pub fn regrow_taps<A: Allocator + Copy + Drop>(taps: &mut Vec<Tap<A>, A>, queues: &Plain<A>)
+    requires { (p : ℕ) (x : Tapped) → slice_get taps.old.items p ≡ Some x → AreInputsExtended (inputs_of x.told.input) (inputs_of queues.now.input) }
+    ensures { taps.new.items ≡ map (regrown_tap queues.now.input) taps.old.items }
+{
+    regrow_all(taps, queues);
 }

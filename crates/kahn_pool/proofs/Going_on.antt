@@ -1,5 +1,5 @@
 -- Cells that have done no fewer events: their streams have grown.
-use Rattle.std.proofs.Common.{arith, ◌≡◌, ◌⊎◌, inl, inr, ℕ, zero, suc, ◌<◌, ◌≤◌, List, [], ◌∷◌, length, map, refl, sym, ap, ◌∙◌, subst, Option, Some, slice_get, slice_index_or, true}
+use Rattle.std.proofs.Common.{arith, ◌≡◌, ◌⊎◌, inl, inr, ℕ, zero, suc, ◌≤◌, List, [], ◌∷◌, length, map, refl, sym, ap, ◌∙◌, subst, Option, Some, slice_get, slice_index_or, true}
 use Rattle.kahn_tree.specs.declared.tree.Program.{Program}
 use Rattle.kahn_network.specs.Network.{Network, Source, Given, Written, Nobody, Writes, network_of, instance_at, actual_at}
 use Rattle.kahn_network.specs.Wiring.{IsWellWired}

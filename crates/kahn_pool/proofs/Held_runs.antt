@@ -1,24 +1,20 @@
 -- A held run goes on: its streams grow, and no instance has fewer events.
-use Rattle.std.proofs.Common.{arith, ◌≡◌, ◌⊎◌, inl, inr, ℕ, zero, suc, ◌+◌, ◌<◌, ◌≤◌, ◌^◌, List, [], ◌∷◌, length, map, sum_by, refl, sym, ap, ◌∙◌, subst, Bool, Option, Some, None, Ok, Err, MatchResult, slice_get, slice_index_or, true}
+use Rattle.std.proofs.Common.{arith, ◌≡◌, ◌⊎◌, inl, inr, ℕ, zero, suc, ◌+◌, ◌<◌, ◌≤◌, ◌^◌, List, [], ◌∷◌, length, map, sum_by, refl, sym, ap, ◌∙◌, subst, Bool, Option, Some, None, Ok, Err, MatchResult, slice_get, slice_index_or}
 use Rattle.std.proofs.lemmas.List.{length-map}
 use Rattle.std.proofs.lemmas.List.Sums.{sum_by-cons}
 use Rattle.kahn_tree.specs.declared.tree.Program.{Program}
 use Rattle.kahn_config.specs.Limits.{IsInRange}
-use Rattle.kahn_network.specs.Network.{Network, Source, Given, Written, Nobody, Writes, network_of, instance_at, actual_at}
+use Rattle.kahn_network.specs.Network.{Network, Source, Given, Written, Nobody, network_of}
 use Rattle.kahn_network.specs.Wiring.{IsWellWired}
 use Rattle.kahn_streams.specs.declared.token.Token.{Token}
-use Rattle.kahn_streams.specs.declared.value.Value.{Value}
 use Rattle.kahn_streams.specs.declared.value.Line.{Line}
 use Rattle.kahn_streams.specs.declared.value.Line.TheVariants.{Channel, Print}
 use Rattle.kahn_streams.specs.Laws.{AreInputsExtended}
-use Rattle.kahn_streams.specs.Solution.{IsPrefix, source}
+use Rattle.kahn_streams.specs.Solution.{source}
 use Rattle.kahn_streams.specs.Tokens.{Lists, inputs_of}
-use Rattle.kahn_streams.proofs.Framed.{begins_nil}
 use Rattle.kahn_streams.proofs.Proved.{prefix_refl}
 use Rattle.kahn_code.specs.Cells.{StoodBy, View, token_value}
-use Rattle.kahn_code.specs.Lines.{Joins}
 use Rattle.kahn_code.specs.Told.{Told, told_view}
-use Rattle.kahn_code.proofs.Readers.{joins_within}
 use Rattle.kahn_job.specs.inner.Idles.{cells_of, rows_of}
 use Rattle.kahn_job.specs.inner.Settling.{AreResting, HaveStood}
 use Rattle.kahn_job.proofs.Idles.{idle_still}
@@ -38,7 +34,7 @@ use Rattle.kahn_pool.specs.declared.answer.Answer.{Answer}
 use Rattle.kahn_pool.specs.declared.answer.End.{End}
 use Rattle.kahn_pool.specs.declared.answer.Verdict.{Verdict}
 use Rattle.kahn_pool.proofs.Assembling.{are_right}
-use Rattle.kahn_pool.proofs.Benched.{got, mapped}
+use Rattle.kahn_pool.proofs.Benched.{mapped}
 use Rattle.kahn_pool.proofs.Final.{gathered, stopped}
 use Rattle.kahn_pool.proofs.Held_jobs.{ended_alike, held_again, held_alike, held_grown, held_more, rises_since, risen_here, same_seen}
 use Rattle.kahn_pool.proofs.Going_on as Going

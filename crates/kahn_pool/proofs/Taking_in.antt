@@ -1,5 +1,5 @@
 -- A bench that goes on for a longer input.
-use Rattle.std.proofs.Common.{arith, ◌≡◌, ℕ, zero, suc, ◌+◌, ◌==◌, Bool, true, false, List, [], ◌∷◌, length, map, refl, sym, ap, ◌∙◌, subst, eqb-true, Option, Some, None, slice_get, if◌then◌else◌}
+use Rattle.std.proofs.Common.{arith, ◌≡◌, ℕ, zero, suc, ◌+◌, ◌==◌, Bool, true, false, List, [], ◌∷◌, map, refl, sym, ap, ◌∙◌, subst, eqb-true, Option, Some, None, slice_get, if◌then◌else◌}
 use Rattle.std.proofs.lemmas.List.{length-map}
 use Rattle.kahn_tree.specs.declared.tree.Program.{Program}
 use Rattle.kahn_tree.specs.declared.tree.Role.TheVariants.{Input}
@@ -7,13 +7,12 @@ use Rattle.kahn_network.specs.Network.{Actual, Reads, Writes, Hands, network_of,
 use Rattle.kahn_network.proofs.Sourced.{writes}
 use Rattle.kahn_streams.specs.Laws.{AreInputsExtended}
 use Rattle.kahn_streams.specs.Tokens.{Lists, inputs_of}
-use Rattle.kahn_code.specs.Cells.{View}
 use Rattle.kahn_code.specs.Lines.{Lines as Queues, HasPoured, given_of, next_at, place_at, taken_of, waiting_of}
 use Rattle.kahn_code.specs.Queues.{Waiting}
 use Rattle.kahn_code.specs.Told.{Told, told_view}
-use Rattle.kahn_code.specs.inner.Tapped.{Tapped}
-use Rattle.kahn_pool.specs.HeldRuns.{Seen, seen_of}
-use Rattle.kahn_pool.specs.inner.Workbench.{HasTakenIn, IsLaid, IsSeated, Table, gone_in, regrown_tap, table_of, told_in}
+use Rattle.kahn_code.specs.inner.Tapped.{Tapped, regrown_tap}
+use Rattle.kahn_pool.specs.HeldRuns.{seen_of}
+use Rattle.kahn_pool.specs.inner.Workbench.{HasTakenIn, IsLaid, IsSeated, Table, gone_in, table_of, told_in}
 
 given_sum : (o : Option Waiting) → given_of o ≡ taken_of o + waiting_of o
 given_sum None = refl
@@ -87,8 +86,11 @@ module _ {t : Program} {lists : Lists} {watch : Option ℕ} {code : Program} (ta
       input = poured.lists ∙ same;
     }
 
-    pub roomier_in : HasTakenIn c n lists old (table_of t lists watch code taps q')
+    roomier_in : HasTakenIn c n lists old (table_of t lists watch code taps q')
     roomier_in = record { network = refl; lists = refl; watch = refl; gone = refl; views = refl; seen = refl; waiting = poured.waiting }
+
+    pub roomier_then : {s : Table} → old ≡ s → HasTakenIn c n s.input s (table_of t lists watch code taps q')
+    roomier_then is = subst (λ (x : Table). HasTakenIn c n x.input x (table_of t lists watch code taps q')) is roomier_in
 
   -- and the taps
   module _ (name : Lists) (named : name ≡ input) where
@@ -115,7 +117,7 @@ module _ {t : Program} {lists : Lists} {watch : Option ℕ} {code : Program} (ta
       input = poured.lists ∙ sym named;
     }
 
-    pub poured_in : HasTakenIn c n input old new
+    poured_in : HasTakenIn c n input old new
     poured_in = record {
       network = refl;
       lists = named;
@@ -125,6 +127,9 @@ module _ {t : Program} {lists : Lists} {watch : Option ℕ} {code : Program} (ta
       seen = views_of seen_of (map (regrown_tap input) taps) ∙ map_regrown (λ x. seen_of x.told) input (λ x. refl) taps ∙ sym (views_of seen_of taps);
       waiting = poured.waiting;
     }
+
+    pub poured_then : {s : Table} → old ≡ s → {grown : List Tapped} → grown ≡ map (regrown_tap input) taps → HasTakenIn c n input s (table_of t name watch code grown q')
+    poured_then is e = rw e (subst (λ (x : Table). HasTakenIn c n input x new) is poured_in)
 
 -- the taps begin the longer input
 pub taps_grow : {t : Program} {lists : Lists} {watch : Option ℕ} {code : Program} (taps : List Tapped) {q : Queues} → IsLaid (table_of t lists watch code taps q) → (input : Lists) →

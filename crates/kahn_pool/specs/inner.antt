@@ -1,5 +1,6 @@
 pub mod Bench
 pub mod Concluded
+pub mod Flows
 pub mod Gathered
 pub mod Gathers
 pub mod Holding

@@ -52,10 +52,6 @@ pub record HasWorked (old new : Table) : Type 0 where
   pub gone : new.gone ≡ old.gone
   pub events : (p : ℕ) → events_at (state_of old) p ≤ events_at (state_of new) p
 
--- the same tap, for this input
-abbrev pub regrown_tap : Lists → Tapped → Tapped
-regrown_tap input x = record x { told = record x.told { input = input } }
-
 -- it goes on for this input: so many values more wait on channel c, and nothing else changes
 pub record HasTakenIn (c n : ℕ) (input : Lists) (old new : Table) : Type 0 where
   pub network : new.network ≡ old.network

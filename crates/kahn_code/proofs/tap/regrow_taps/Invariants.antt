@@ -1,9 +1,4 @@
-use Rattle.std.proofs.Common.{◌≡◌, ◌++◌, drop, map, take}
-use Rattle.kahn_code.specs.inner.Tapped.{regrown_tap}
 use Rattle.kahn_code.proofs.tap.regrow_taps.Given as goal
 
-abbrev pub ghost-regrow : goal.ghost-regrow
-ghost-regrow g a = g.input
-
-abbrev pub invariant-loop-number : goal.invariant-loop-number
-invariant-loop-number g l = l.taps.items ≡ map (regrown_tap g.input) (take l.number l.fn.taps.items) ++ drop l.number l.fn.taps.items
+abbrev pub ghost-regrow_all : goal.ghost-regrow_all
+ghost-regrow_all g a = a._queues.now.input

@@ -1,7 +1,7 @@
 use Rattle.std.proofs.Common.{arith, ap, ◌∙◌, slice_index_or, slice_set}
 use Rattle.kahn_code.specs.inner.Tapped.{regrown_tap}
 use Rattle.kahn_code.proofs.Poured.{changed_next, changed_more, changed_all}
-use Rattle.kahn_code.proofs.tap.regrow_taps.Goals as goal
+use Rattle.kahn_code.proofs.tap.regrow_all.Goals as goal
 
 pub loop-number-preserved : goal.loop-number-preserved
 loop-number-preserved g c =
