@@ -1,18 +1,20 @@
 //! The processes of a network over its plain queues.
 
-ghost use Rattle.kahn_network.specs.Network.{Reads, network_of, instance_at, actual_at};
-ghost use Rattle.kahn_streams.specs.Tokens.{Lists};
+ghost use Rattle.kahn_network.specs.Network.{Reads, network_of, instance_at, actual_at, role_at};
+ghost use Rattle.kahn_streams.specs.Tokens.{Lists, inputs_of};
+ghost use Rattle.kahn_code.specs.Lines.{IsPoured};
+ghost use Rattle.kahn_tree.specs.declared.tree.Role.TheVariants.{Input as InputRole};
 ghost use Rattle.kahn_pool.specs.inner.Bench.{HasRun, all_events, events_at};
 ghost use Rattle.kahn_pool.specs.inner.Gathered.{AreWithin};
-ghost use Rattle.kahn_pool.specs.inner.Workbench.{AreOpening, AreWhole, IsLaid, HasWorked, gone_in, state_of, table_of, told_in};
-ghost use Rattle.std.specs.Prelude.{◌≡◌, ◌<◌, ◌+◌, ◌^◌, ℕ, length, map, IfOk, IfSome};
+ghost use Rattle.kahn_pool.specs.inner.Workbench.{AreOpening, AreWhole, HasTakenIn, HasWorked, IsLaid, gone_in, state_of, table_of, told_in};
+ghost use Rattle.std.specs.Prelude.{◌≡◌, ◌<◌, ◌+◌, ◌^◌, ℕ, length, map, IfOk, IfErr, IfSome};
 
 use crate::answer::{End, Outcome};
 use crate::awake::Awake;
 use crate::looks::Looks;
-use kahn_code::{Code, CodeFault, Pause, Plain, Steps, Tap, compile};
+use kahn_code::{Code, CodeFault, Pause, Plain, Steps, Tap, compile, regrow_taps};
 use kahn_network::Network;
-use kahn_streams::{About, Input};
+use kahn_streams::{About, Input, NoMemory, Value};
 use std::alloc::Global;
 use std::marker::Model;
 use std::sync::ledger::Ledger;
@@ -213,6 +215,26 @@ impl<'n> Bench<'n> {
         ensures { AreWithin (state_of self.now).network (state_of self.now).input (state_of self.now).cells }
     {
         self.queues.counted();
+    }
+
+    /// Goes on for a longer input, in which these values stand behind those of an input channel: they wait there. It refuses only
+    /// where memory was refused, and then all goes on as before. The caller names the input for contracts alone.
+    pub(crate) fn pour(&mut self, channel: usize, values: &[Value]) -> Result<(), NoMemory>
+        ghost input: { Lists }
+        requires role { role_at (network_of self.old.network) channel ≡ InputRole }
+        requires lists { IsPoured self.old.input channel values.now input }
+        requires few { length (inputs_of input channel) < 2 ^ 64 }
+        ensures poured { IfOk result (λ _. HasTakenIn channel (length values.now) input self.old self.new) }
+        ensures refused { IfErr result (λ _. HasTakenIn channel 0 self.old.input self.old self.new) }
+    {
+        match self.queues.pour(channel, values) {
+            Ok(()) => {
+                regrow_taps(&mut self.taps, &self.queues);
+                self.input = About::named();
+                Ok(())
+            }
+            Err(fault) => Err(fault),
+        }
     }
 
     /// Its taps, without the queues. It takes no memory.
