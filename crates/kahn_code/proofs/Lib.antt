@@ -20,3 +20,4 @@ pub mod Grown
 pub mod Widths
 pub mod Common
 pub mod Roomy
+pub mod Reach
