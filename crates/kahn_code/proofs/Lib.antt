@@ -21,3 +21,4 @@ pub mod Grown
 pub mod Widths
 pub mod Common
 pub mod Roomy
+pub mod Reach
