@@ -47,9 +47,7 @@ fn run_opened<G: Gate, L: Ledger>(
     let mut steps = Steps::<L>::open(blank);
     let ends = Vec::with_capacity(alloc, network.instances())?;
     let bench = Workbench::new(alloc, network, input, watch)?;
-    Ok(run_bench(
-        bench, &mut steps, gate, ends, quantum, bound, may_leave,
-    ))
+    Ok(run_bench(bench, &mut steps, gate, ends, quantum, bound, may_leave))
 }
 
 /// Runs a network on the caller's thread over plain queues, with a watched channel or none, each process for at most

@@ -378,7 +378,15 @@ pub fn run_bench<L: Ledger, G: Gate>(
     ensures right { MatchOption result (may_leave ≡ true) (IsRight (state_of bench.entry).network (state_of bench.entry).input bound (state_of bench.entry).watch) }
     ensures short { IfSome result (IsCutShort bound) }
 {
-    match last_round(&mut bench.bench, steps, gate, ends, quantum, bound, may_leave) {
+    match last_round(
+        &mut bench.bench,
+        steps,
+        gate,
+        ends,
+        quantum,
+        bound,
+        may_leave,
+    ) {
         Some(last) => Some(answered(bench, last, bound)),
         None => None,
     }

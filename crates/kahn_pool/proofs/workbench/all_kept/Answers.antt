@@ -10,8 +10,7 @@ loop-tap-preserved c =
     let e = c.into_lists.ensures in
     let x = c.in-Some.tap in
     let k = c.into_lists.result in
-    let kept = c.loop-tap.kept.items in
-    (
+    let kept = c.loop-tap.kept.items in (
       tt,
       tt,
       subst (AreLeft _) (sym c.push_reserved.ensures.items) (left_more c.loop-tap.yielded kept x k i.2 (e.kept, e.printed, e.parameters)),

@@ -6,8 +6,7 @@ pub invariant_of-result : goal.invariant_of-result
 invariant_of-result c =
     let b = c.in_ok-bench.ensures in
     let t = c.args.network.now in
-    let out = c.in_ok-streams.streams.items in
-    (
+    let out = c.in_ok-streams.streams.items in (
       b.names.0,
       b.whole,
       record {
