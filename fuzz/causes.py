@@ -9,7 +9,6 @@ network on a longer input, and each such process has to end there as it did. A d
 import os
 import random
 import re
-import shutil
 import subprocess
 import sys
 import tempfile
@@ -190,12 +189,7 @@ def main():
     for why in sorted(kinds, key=kinds.get, reverse=True):
         print(f"{kinds[why]:6} {why}")
     print(f"{tried:6} for ever, tried with a longer input")
-    if failed:
-        print(f"the texts are kept in {room}")
-    else:
-        shutil.rmtree(room)
-    print(f"{count - failed} passed, {failed} failed")
-    return 1 if failed else 0
+    return fuzz.finished(room, count - failed, failed)
 
 
 if __name__ == "__main__":

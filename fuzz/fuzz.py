@@ -352,6 +352,16 @@ def kind_of(wanted):
     return re.sub(r"\d+", "N", fault) or ("stopped" if wanted.stopped else "finished")
 
 
+def finished(room, passed, failed):
+    """The last line, and the status. Where something failed the texts are kept in their folder."""
+    if failed:
+        print(f"the texts are kept in {room}")
+    else:
+        shutil.rmtree(room)
+    print(f"{passed} passed, {failed} failed")
+    return 1 if failed else 0
+
+
 def main():
     program, count = os.path.abspath(sys.argv[1]), int(sys.argv[2])
     first = int(sys.argv[3]) if len(sys.argv) > 3 else random.randrange(10**9)
@@ -367,12 +377,7 @@ def main():
                 print(f"FAILED {seed}: {what}\n   {' '.join(more)}", flush=True)
     for kind in sorted(kinds, key=kinds.get, reverse=True):
         print(f"{kinds[kind]:6} {kind}")
-    if failed:
-        print(f"the texts are kept in {room}")
-    else:
-        shutil.rmtree(room)
-    print(f"{count - failed - kinds.get('skipped', 0)} passed, {failed} failed")
-    return 1 if failed else 0
+    return finished(room, count - failed - kinds.get('skipped', 0), failed)
 
 
 if __name__ == "__main__":

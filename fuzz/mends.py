@@ -6,7 +6,6 @@ Each change beside the fault is tried, with each class of lexemes. A difference 
 """
 import os
 import random
-import shutil
 import subprocess
 import sys
 import tempfile
@@ -155,12 +154,7 @@ def main():
                 print(f"FAILED {seed}: {what}\n   {more}", flush=True)
     for some, word in ((range(1), "no change"), (range(1, 2), "one"), (range(2, 8), "two to seven"), (range(8, 200), "more")):
         print(f"{sum(counts.get(n, 0) for n in some):6} {word}")
-    if failed:
-        print(f"the texts are kept in {room}")
-    else:
-        shutil.rmtree(room)
-    print(f"{count - failed} passed, {failed} failed")
-    return 1 if failed else 0
+    return fuzz.finished(room, count - failed, failed)
 
 
 if __name__ == "__main__":

@@ -12,7 +12,6 @@ and its text is kept where the line names it.
 import os
 import random
 import re
-import shutil
 import subprocess
 import sys
 import tempfile
@@ -294,12 +293,7 @@ def main():
                 failed += 1
                 print(f"FAILED {seed}: {what}\n   {more}", flush=True)
     print(f"{len(sets):6} different sets")
-    if failed:
-        print(f"the texts are kept in {room}")
-    else:
-        shutil.rmtree(room)
-    print(f"{len(seeds) - failed} passed, {failed} failed")
-    return 1 if failed else 0
+    return fuzz.finished(room, len(seeds) - failed, failed)
 
 
 if __name__ == "__main__":
