@@ -2,11 +2,11 @@
 
 ghost use Rattle.std.specs.Prelude.{◌≡◌, IfOk};
 ghost use Rattle.kahn_tree.specs.declared.tree.Direction.TheVariants.{In, Out};
-ghost use Rattle.kahn_check.specs.Faults.{Checks, verdict};
+ghost use Rattle.kahn_check.specs.Faults.{verdict};
 ghost use Rattle.kahn_check.specs.inner.Firsts.{got_first};
 ghost use Rattle.kahn_check.specs.inner.Globals.{known};
 ghost use Rattle.kahn_check.specs.Order.{second as second_of};
-ghost use Rattle.kahn_check.specs.inner.Tables.{misplaced_in, place_faults, HaveGot};
+ghost use Rattle.kahn_check.specs.inner.Tables.{misplaced_in, place_faults, HandsOver};
 ghost use Rattle.kahn_network.specs.Wiring.{handed, is_closed};
 
 use crate::expression::agree;
@@ -125,7 +125,7 @@ pub fn place(
     argument: &Argument,
     end: Side,
 ) -> Result<(), CheckFault>
-    ensures { Checks (place_faults (known globals.now) writers.old readers.old taking argument.now) (λ u. HaveGot (handed end taking argument.now) writers.old readers.old writers.new readers.new) result }
+    ensures { HandsOver (known globals.now) end taking argument.now writers.old readers.old writers.new readers.new result }
 {
     fits(globals, writers, readers, taking, argument)?;
     match keep(writers, readers, taking, argument, end) {

@@ -2,7 +2,7 @@
 
 ghost use Rattle.std.specs.Prelude.{◌≡◌, ◌≤◌, ◌+◌, [], List, OnOk, length};
 ghost use Rattle.kahn_check.specs.Faults.{Checks};
-ghost use Rattle.kahn_check.specs.inner.Globals.{known, ArePlaced, HaveJoined, IsTable};
+ghost use Rattle.kahn_check.specs.inner.Globals.{known, ArePlaced, HaveMore, IsTable};
 ghost use Rattle.kahn_tree.specs.declared.tree.Declaration.{Declaration};
 ghost use Rattle.kahn_check.specs.Order.{most_channels, channel_faults, declaration_faults};
 
@@ -25,7 +25,7 @@ pub fn channels<'p>(
     names: &[Name],
 ) -> Result<usize, CheckFault>
     requires { count ≤ most_channels }
-    ensures met { Checks (channel_faults (known globals.old) count kind role names.now) (λ n. (n ≡ count + length names.now) × (n ≤ most_channels) × HaveJoined kind role names.now globals.old globals.new) result }
+    ensures met { Checks (channel_faults (known globals.old) count kind role names.now) (HaveMore count kind role names.now globals.old globals.new) result }
     ensures placed { OnOk result ((ds : List Declaration) → ArePlaced ds globals.old → ArePlaced ds globals.new) }
 {
     let mut declared = count;

@@ -3,9 +3,8 @@
 ghost use Rattle.std.specs.Prelude.{◌≡◌, [], MatchResult, length};
 ghost use Rattle.kahn_check.specs.Faults.{Checks, IsMet};
 ghost use Rattle.kahn_check.specs.inner.Globals.{known, IsTable};
-ghost use Rattle.kahn_network.specs.Wiring.{handed_in};
 ghost use Rattle.kahn_check.specs.inner.Seats.{AreSeated};
-ghost use Rattle.kahn_check.specs.inner.Tables.{places_faults, HaveGot, seats_faults};
+ghost use Rattle.kahn_check.specs.inner.Tables.{HandsAll, seats_faults};
 
 use crate::argument::place;
 use crate::fault::CheckFault;
@@ -29,7 +28,7 @@ pub fn places(
     arguments: &[Argument],
 ) -> Result<(), CheckFault>
     requires { length parameters.now ≡ length arguments.now }
-    ensures { Checks (places_faults (known globals.now) writers.old readers.old instance 0 parameters.now arguments.now) (λ u. HaveGot (handed_in instance 0 parameters.now arguments.now) writers.old readers.old writers.new readers.new) result }
+    ensures { HandsAll (known globals.now) instance parameters.now arguments.now writers.old readers.old writers.new readers.new result }
 {
     for (number, argument) in arguments.iter().enumerate() {
         place(

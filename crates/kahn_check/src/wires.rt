@@ -1,9 +1,9 @@
 //! The declared channels, each with the writer and the reader that its role asks for.
 
-ghost use Rattle.std.specs.Prelude.{◌≡◌, ◌++◌, map};
+ghost use Rattle.std.specs.Prelude.{◌≡◌};
 ghost use Rattle.kahn_check.specs.Faults.{verdict, Checks};
-ghost use Rattle.kahn_check.specs.inner.Tables.{side_in, sides_in};
-ghost use Rattle.kahn_check.specs.inner.Wires.{as_lines, line_in, lines_in};
+ghost use Rattle.kahn_check.specs.inner.Tables.{side_in};
+ghost use Rattle.kahn_check.specs.inner.Wires.{AreWiresOf, HaveWires, as_lines, line_in};
 ghost use Rattle.kahn_network.specs.Wires.{shown};
 ghost use Rattle.kahn_network.specs.Wiring.{declared_channels};
 
@@ -72,7 +72,7 @@ pub fn add_wires(
     role: Role,
     names: &[Name],
 ) -> Result<(), CheckFault>
-    ensures { Checks (sides_in writers.now readers.now (as_lines kind role names.now)) (λ u. map shown wires.new.items ≡ map shown wires.old.items ++ lines_in writers.now readers.now (as_lines kind role names.now)) result }
+    ensures { HaveWires writers.now readers.now (as_lines kind role names.now) wires.old.items wires.new.items result }
 {
     for name in names {
         wires.push(make_wire(writers, readers, kind, role, name)?)?;
@@ -88,7 +88,7 @@ pub fn all_wires(
     readers: &Sides,
     declarations: &[Declaration],
 ) -> Result<Vec<Wire>, CheckFault>
-    ensures { Checks (sides_in writers.now readers.now (declared_channels declarations.now)) (λ w. map shown w.items ≡ lines_in writers.now readers.now (declared_channels declarations.now)) result }
+    ensures { AreWiresOf writers.now readers.now (declared_channels declarations.now) result }
 {
     let mut wires = Vec::new(alloc);
     for declaration in declarations {

@@ -11,3 +11,6 @@ mod stands;
 mod tips;
 
 pub use picture::picture_text;
+
+// For the crates above.
+pub use report::{lines, without};

@@ -10,14 +10,14 @@ use itoa::Buffer;
 use std::alloc::{AllocError, Global};
 
 /// The lines of a report.
-pub(crate) fn lines(alloc: Global, report: &str) -> Result<Vec<&str>, AllocError>
+pub fn lines(alloc: Global, report: &str) -> Result<Vec<&str>, AllocError>
     ensures { IfOk result (λ v. map (λ line. line.now) v.items ≡ lines report.now) }
 {
     report.lines().collect(alloc)
 }
 
 /// What is left of a line without the pieces of a heading.
-pub(crate) fn without<'r>(line: &'r str, heading: &[&str]) -> Option<&'r str>
+pub fn without<'r>(line: &'r str, heading: &[&str]) -> Option<&'r str>
     ensures { option_map (λ rest. rest.now) result ≡ without_heading (map (λ piece. piece.now) heading.now) line.now }
 {
     let mut rest = line;

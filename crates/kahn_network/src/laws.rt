@@ -1,12 +1,12 @@
 //! The laws of the definitions. Each function does nothing: its contract is the law.
 
 ghost use Rattle.kahn_tree.specs.declared.tree.Program.{Program};
-ghost use Rattle.kahn_tree.specs.declared.tree.Role.TheVariants.{Input, Output};
+ghost use Rattle.kahn_tree.specs.declared.tree.Role.TheVariants.{Input};
 ghost use Rattle.std.specs.Prelude.{◌≡◌, ◌<◌, ℕ, length};
 ghost use Rattle.std.specs.List.{AllByRecursion};
-ghost use Rattle.kahn_network.specs.Network.{Given, Reads, Writes, Written, actual_at, channel_source, instance_at, network_of, role_at};
+ghost use Rattle.kahn_network.specs.Network.{Given, Reads, Writes, actual_at, channel_source, instance_at, network_of, role_at};
 ghost use Rattle.kahn_network.specs.Sides.{IsServed, IsFit};
-ghost use Rattle.kahn_network.specs.inner.Sources.{HasSender, IsFed};
+ghost use Rattle.kahn_network.specs.inner.Sources.{IsFed, IsSentBy, OutputsHaveSenders};
 ghost use Rattle.kahn_network.specs.Wiring.{IsWellWired};
 
 /// Each channel of a well wired program has one writer and one reader, but for an input no writer
@@ -28,7 +28,7 @@ pub fn fit()
 /// sends its values, and the values of an input come from outside.
 pub fn sources()
     ensures reads { (t : Program) → IsWellWired t → (p q c : ℕ) → actual_at (instance_at (network_of t) p) q ≡ Reads c → IsFed (network_of t) c }
-    ensures writes { (t : Program) → IsWellWired t → (p q c : ℕ) → actual_at (instance_at (network_of t) p) q ≡ Writes c → (channel_source (network_of t) c ≡ Written p) × (role_at (network_of t) c ≡ Input → ⊥) }
-    ensures outputs { (t : Program) → IsWellWired t → (c : ℕ) → role_at (network_of t) c ≡ Output → c < length (network_of t).channels → HasSender (network_of t) c }
+    ensures writes { (t : Program) → IsWellWired t → (p q c : ℕ) → actual_at (instance_at (network_of t) p) q ≡ Writes c → IsSentBy (network_of t) p c }
+    ensures outputs { (t : Program) → IsWellWired t → OutputsHaveSenders (network_of t) }
     ensures inputs { (t : Program) → IsWellWired t → (c : ℕ) → role_at (network_of t) c ≡ Input → channel_source (network_of t) c ≡ Given }
 {}

@@ -14,7 +14,8 @@ use Rattle.kahn_streams.specs.declared.entries.InputFault.{InputFault}
 use Rattle.kahn_streams.specs.declared.entries.InputFault.TheVariants.{NoMemory}
 use Rattle.kahn_streams.specs.Kinded.{AreOfKind, IsInputFor}
 use Rattle.kahn_streams.specs.Tokens.{Lists, inputs_of}
-use Rattle.kahn_streams.specs.Entries.{Entry, channel_of, is_given, list_for, IsFit, IsRefused, AreFit, IsFirstRefused, IsMadeOf}
+use Rattle.kahn_streams.specs.Entries.{Entry, FailsFirst, asked_of_entry, channel_of, is_given, list_for, AreFit, IsFirstRefused, IsMadeOf}
+use Rattle.kahn_streams.specs.inner.Marked.{IsFitHere}
 
 -- ---- the number of a name
 
@@ -77,6 +78,21 @@ list_other : (t : Program) (es : List Entry) (e : Entry) (c : ℕ) → channel_o
 list_other t [] e c n = ap (λ b. if b then e.1 else []) (not_same (channel_of t e) c (channel_of t e == c) refl n)
 list_other t (x ∷ es) e c n = ap (λ l. if channel_of t x == c then x.1 else l) (list_other t es e c n)
 
+-- ---- what an entry has to be
+
+module _ (t : Program) (given : Bool) (entry : Entry) where
+  fit_named : IsFitHere t given entry → channel_of t entry < length (channel_names t)
+  fit_named (named, rest) = named
+
+  fit_input : IsFitHere t given entry → role_at (network_of t) (channel_of t entry) ≡ Input
+  fit_input (named, (input, rest)) = input
+
+  fit_first : IsFitHere t given entry → given ≡ false
+  fit_first (named, (input, (first, rest))) = first
+
+  fit_kinded : IsFitHere t given entry → AreOfKind (kind_at (network_of t) (channel_of t entry)) entry.1
+  fit_kinded (named, (input, (first, (kinded, rest)))) = kinded
+
 -- ---- the entries that are fit
 
 some_in_none : {A : Type 0} {B : Type 0} (k : ℕ) (x : A) → slice_get [] k ≡ Some x → B
@@ -99,14 +115,14 @@ take_all : (es : List Entry) (x : Entry) → take (length es) (es ++ x ∷ []) �
 take_all [] x = refl
 take_all (y ∷ es) x = ap (λ l. y ∷ l) (take_all es x)
 
-pub fit_more : (t : Program) (es : List Entry) (x : Entry) → AreFit t es → IsFit t (is_given t es (channel_of t x)) x → AreFit t (es ++ x ∷ [])
+pub fit_more : (t : Program) (es : List Entry) (x : Entry) → AreFit t es → IsFitHere t (is_given t es (channel_of t x)) x → AreFit t (es ++ x ∷ [])
 unfolding Last
 fit_more t es x all one k e at =
     elim (last es x k e at) [
-      | inl h ↦ subst (λ l. IsFit t (is_given t l (channel_of t e)) e) (sym (take-append-le k es (x ∷ []) (omega (arith, h.0)))) (all k e h.1)
-      | inr h ↦ subst (λ n. IsFit t (is_given t (take n (es ++ x ∷ [])) (channel_of t e)) e) (sym h.0)
-          (subst (λ l. IsFit t (is_given t l (channel_of t e)) e) (sym (take_all es x))
-          (subst (λ y. IsFit t (is_given t es (channel_of t y)) y) h.1 one))
+      | inl h ↦ subst (λ l. IsFitHere t (is_given t l (channel_of t e)) e) (sym (take-append-le k es (x ∷ []) (omega (arith, h.0)))) (all k e h.1)
+      | inr h ↦ subst (λ n. IsFitHere t (is_given t (take n (es ++ x ∷ [])) (channel_of t e)) e) (sym h.0)
+          (subst (λ l. IsFitHere t (is_given t l (channel_of t e)) e) (sym (take_all es x))
+          (subst (λ y. IsFitHere t (is_given t es (channel_of t y)) y) h.1 one))
     ]
 
 -- ---- the flags and the lists, after the first entries
@@ -133,21 +149,21 @@ none_filled t n flags lists e f l = record {
 }
 
 module _ (t : Program) (done : List Entry) (flags : List Bool) (lists : Lists) (x : Entry) (h : AreFilled t done flags lists) where
-  marks_more : IsFit t (is_given t done (channel_of t x)) x → (c : ℕ) → slice_index_or (set flags (channel_of t x) true) c false ≡ is_given t (done ++ x ∷ []) c
+  marks_more : IsFitHere t (is_given t done (channel_of t x)) x → (c : ℕ) → slice_index_or (set flags (channel_of t x) true) c false ≡ is_given t (done ++ x ∷ []) c
   marks_more fit c = elim (cases_eq (channel_of t x) c) [
     | inl e ↦ subst (λ d. slice_index_or (set flags (channel_of t x) true) d false ≡ is_given t (done ++ x ∷ []) d) e
-        (get_or-set_same flags (channel_of t x) true false (omega (arith, fit.named, h.size, names_count t)) ∙ sym (given_same t done x))
+        (get_or-set_same flags (channel_of t x) true false (omega (arith, fit_named t _ x fit, h.size, names_count t)) ∙ sym (given_same t done x))
     | inr n ↦ get_or-set_other flags (channel_of t x) c true false (λ e. n (sym e)) ∙ h.marks c ∙ sym (given_other t done x c n)
   ]
 
-  lists_more : IsFit t (is_given t done (channel_of t x)) x → (c : ℕ) → inputs_of (set lists (channel_of t x) x.1) c ≡ list_for t (done ++ x ∷ []) c
+  lists_more : IsFitHere t (is_given t done (channel_of t x)) x → (c : ℕ) → inputs_of (set lists (channel_of t x) x.1) c ≡ list_for t (done ++ x ∷ []) c
   lists_more fit c = elim (cases_eq (channel_of t x) c) [
     | inl e ↦ subst (λ d. inputs_of (set lists (channel_of t x) x.1) d ≡ list_for t (done ++ x ∷ []) d) e
-        (get_or-set_same lists (channel_of t x) x.1 [] (omega (arith, fit.named, h.made.count, names_count t)) ∙ sym (list_same t done x fit.first))
+        (get_or-set_same lists (channel_of t x) x.1 [] (omega (arith, fit_named t _ x fit, h.made.count, names_count t)) ∙ sym (list_same t done x (fit_first t _ x fit)))
     | inr n ↦ get_or-set_other lists (channel_of t x) c x.1 [] (λ e. n (sym e)) ∙ h.made.lists c ∙ sym (list_other t done x c n)
   ]
 
-  more_here : IsFit t (is_given t done (channel_of t x)) x → AreFilled t (done ++ x ∷ []) (set flags (channel_of t x) true) (set lists (channel_of t x) x.1)
+  more_here : IsFitHere t (is_given t done (channel_of t x)) x → AreFilled t (done ++ x ∷ []) (set flags (channel_of t x) true) (set lists (channel_of t x) x.1)
   more_here fit = record {
     made = record {
       fit = fit_more t done x h.made.fit fit;
@@ -159,21 +175,21 @@ module _ (t : Program) (done : List Entry) (flags : List Bool) (lists : Lists) (
   }
 
   -- one entry more
-  pub more_filled : (c : ℕ) → c ≡ channel_of t x → IsFit t (slice_index_or flags (channel_of t x) false) x → AreFilled t (done ++ x ∷ []) (set flags c true) (set lists c x.1)
+  pub more_filled : (c : ℕ) → c ≡ channel_of t x → IsFitHere t (slice_index_or flags (channel_of t x) false) x → AreFilled t (done ++ x ∷ []) (set flags c true) (set lists c x.1)
   more_filled c is fit =
       subst (λ d. AreFilled t (done ++ x ∷ []) (set flags d true) (set lists d x.1)) (sym is)
-      (more_here (subst (λ b. IsFit t b x) (h.marks (channel_of t x)) fit))
+      (more_here (subst (λ b. IsFitHere t b x) (h.marks (channel_of t x)) fit))
 
   -- the first entry that is refused
   pub first_refused : (all : List Entry) (k n : ℕ) (fault : InputFault) → slice_get all k ≡ Some x → done ≡ take k all → n ≡ k + 1 →
-      IsRefused t (slice_index_or flags (channel_of t x) false) x n fault → IsFirstRefused t all fault
+      FailsFirst (asked_of_entry t (slice_index_or flags (channel_of t x) false) n x) fault → IsFirstRefused t all fault
   first_refused all k n fault at are is refused = (
     k,
     x,
     at,
     subst (AreFit t) are h.made.fit,
-    subst (λ m. IsRefused t (is_given t (take k all) (channel_of t x)) x m fault) is
-        (subst (λ b. IsRefused t b x n fault) (h.marks (channel_of t x) ∙ ap (λ l. is_given t l (channel_of t x)) are) refused),
+    subst (λ m. FailsFirst (asked_of_entry t (is_given t (take k all) (channel_of t x)) m x) fault) is
+        (subst (λ b. FailsFirst (asked_of_entry t b n x) fault) (h.marks (channel_of t x) ∙ ap (λ l. is_given t l (channel_of t x)) are) refused),
   )
 
 -- ---- kinds
@@ -201,8 +217,8 @@ pub made_fits : (t : Program) (es : List Entry) (lists : Lists) → IsMadeOf t e
 made_fits t es lists made = record {
   count = made.count;
   lists_fit = λ c. record {
-    kinded = λ is. subst (AreOfKind (kind_at (network_of t) c)) (sym (made.lists c)) (list_kinded t es (λ k e at. (made.fit k e at).kinded) c);
-    bare = λ n. made.lists c ∙ list_bare t es (λ k e at. (made.fit k e at).input) c n;
+    kinded = λ is. subst (AreOfKind (kind_at (network_of t) c)) (sym (made.lists c)) (list_kinded t es (λ k e at. fit_kinded t _ e (made.fit k e at)) c);
+    bare = λ n. made.lists c ∙ list_bare t es (λ k e at. fit_input t _ e (made.fit k e at)) c n;
   };
 }
 

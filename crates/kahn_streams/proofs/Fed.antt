@@ -7,10 +7,13 @@ use Rattle.kahn_tree.specs.declared.tree.Kind.{Kind}
 use Rattle.kahn_tree.specs.declared.tree.Role.TheVariants.{Input}
 use Rattle.kahn_tree.specs.declared.tree.Program.{Program}
 use Rattle.kahn_network.specs.Network.{Network, network_of, kind_at, role_at}
+use Rattle.kahn_network.specs.Sides.{channel_names}
 use Rattle.kahn_streams.specs.declared.value.Value.{Value}
 use Rattle.kahn_streams.specs.declared.value.Line.{Line}
 use Rattle.kahn_streams.specs.Entries.{Entry, channel_of, most_values}
-use Rattle.kahn_streams.specs.Feeds.{IsMeant, IsFed, fed_to, total}
+use Rattle.kahn_streams.specs.Feeds.{IsMeant, IsNotMeant, IsUnwelcome, IsFed, fed_to, total}
+use Rattle.kahn_streams.specs.declared.feeds.FeedFault.{FeedFault}
+use Rattle.kahn_streams.specs.declared.feeds.FeedFault.TheVariants.{UnknownName, NotAnInput, WrongKind, TooMany, NoMemory}
 use Rattle.kahn_streams.specs.Kinded.{AreOfKind, IsListFor, IsInputFor}
 use Rattle.kahn_streams.specs.Laws.{AreInputsExtended}
 use Rattle.kahn_streams.specs.Solution.{Stands}
@@ -28,6 +31,38 @@ fed_other t e c n = by (channel_of t e == c) refl
     by : (b : Bool) → (channel_of t e == c) ≡ b → (if b then e.1 else []) ≡ []
     by true h = absurd (n (eqb-true (channel_of t e) c h))
     by false h = refl
+
+-- ---- what an entry has to be
+
+module _ (t : Program) (e : Entry) where
+  pub meant_named : IsMeant t e → channel_of t e < length (channel_names t)
+  meant_named (named, rest) = named
+
+  pub meant_input : IsMeant t e → role_at (network_of t) (channel_of t e) ≡ Input
+  meant_input (named, (input, rest)) = input
+
+  pub meant_kinded : IsMeant t e → AreOfKind (kind_at (network_of t) (channel_of t e)) e.1
+  meant_kinded (named, (input, (kinded, rest))) = kinded
+
+  -- what isn't meant for an input channel isn't fed for that, whatever the lists are
+  pub not_many : IsNotMeant t e TooMany → ⊥
+  not_many (inl h) = absurd cc
+  not_many (inr (named, inl h)) = absurd cc
+  not_many (inr (named, inr (input, inl h))) = absurd cc
+  not_many (inr (named, inr (input, inr (kinded, h)))) = h
+
+  pub not_memory : IsNotMeant t e NoMemory → ⊥
+  not_memory (inl h) = absurd cc
+  not_memory (inr (named, inl h)) = absurd cc
+  not_memory (inr (named, inr (input, inl h))) = absurd cc
+  not_memory (inr (named, inr (input, inr (kinded, h)))) = h
+
+  pub unwelcome : (lists : Lists) (fault : FeedFault) → IsNotMeant t e fault → IsUnwelcome t lists e fault
+  unwelcome lists UnknownName h = h
+  unwelcome lists NotAnInput h = h
+  unwelcome lists WrongKind h = h
+  unwelcome lists TooMany h = absurd (not_many h)
+  unwelcome lists NoMemory h = absurd (not_memory h)
 
 module _ (t : Program) (before : Lists) (e : Entry) where
   lists_fed : channel_of t e < length before → (c : ℕ)
@@ -49,7 +84,7 @@ module _ (t : Program) (before : Lists) (e : Entry) where
         meant = meant;
         within = within;
         count = ap length here ∙ length-set before (channel_of t e) (inputs_of before (channel_of t e) ++ e.1);
-        lists = λ d. ap (λ l. inputs_of l d) here ∙ lists_fed (omega (arith, meant.named, fits, names_count t)) d;
+        lists = λ d. ap (λ l. inputs_of l d) here ∙ lists_fed (omega (arith, meant_named t e meant, fits, names_count t)) d;
       }
 
 -- the lists before are prefixes of those after
@@ -69,12 +104,12 @@ fed_kinded : (t : Program) (e : Entry) → IsMeant t e → (c : ℕ) → AreOfKi
 fed_kinded t e h c = by (channel_of t e == c) refl
   where
     by : (b : Bool) → (channel_of t e == c) ≡ b → AreOfKind (kind_at (network_of t) c) (if b then e.1 else [])
-    by true i = subst (λ d. AreOfKind (kind_at (network_of t) d) e.1) (eqb-true (channel_of t e) c i) h.kinded
+    by true i = subst (λ d. AreOfKind (kind_at (network_of t) d) e.1) (eqb-true (channel_of t e) c i) (meant_kinded t e h)
     by false i = tt
 
 -- what isn't fed to an input channel is nothing
 fed_bare : (t : Program) (e : Entry) → IsMeant t e → (c : ℕ) → role_at (network_of t) c ≢ Input → fed_to t e c ≡ []
-fed_bare t e h c n = fed_other t e c (λ i. n (subst (λ d. role_at (network_of t) d ≡ Input) i h.input))
+fed_bare t e h c n = fed_other t e c (λ i. n (subst (λ d. role_at (network_of t) d ≡ Input) i (meant_input t e h)))
 
 -- lists that fit still fit
 pub fed_fits : (t : Program) (before : Lists) (e : Entry) (after : Lists) → IsFed t before e after → IsInputFor (network_of t) before → IsInputFor (network_of t) after

@@ -1,6 +1,6 @@
 -- Believed. The entries from which an input is made: names of channels, each with the values that it is fed. Which entries are
 -- refused, and which list a channel gets, are this project's profile.
-use Rattle.std.specs.Prelude.{◌≡◌, ◌≢◌, ℕ, ◌+◌, ◌<◌, ◌≤◌, ◌==◌, Bool, true, false, List, [], ◌∷◌, length, take, Some, slice_get, string_bytes, if◌then◌else◌}
+use Rattle.std.specs.Prelude.{◌≡◌, ◌⊎◌, ℕ, ◌+◌, ◌<◌, ◌≤◌, ◌==◌, Bool, true, false, List, [], ◌∷◌, length, take, Some, slice_get, string_bytes, if◌then◌else◌}
 use Rattle.std.specs.declared.string.String.{String}
 use Rattle.std.specs.declared.vec.Vec.{Vec}
 use Rattle.std.specs.declared.alloc.Global.{Global}
@@ -31,6 +31,14 @@ Entry = List ℕ × List Value
 abbrev pub entry_of : (String Global × Vec Value Global) → Entry
 entry_of entry = (string_bytes entry.0, entry.1.items)
 
+-- no channel has the name
+abbrev pub IsNoName : Program → List ℕ → Type 0
+IsNoName t name = length (channel_names t) ≤ place_of (channel_names t) name
+
+-- the channel of this number has it
+abbrev pub IsNameOf : Program → List ℕ → ℕ → Type 0
+IsNameOf t name c = (c ≡ place_of (channel_names t) name) × (c < length (channel_names t))
+
 -- the number of the channel that an entry names, past the last where no channel has the name
 abbrev pub channel_of : Program → Entry → ℕ
 channel_of t entry = place_of (channel_names t) entry.0
@@ -45,37 +53,40 @@ abbrev pub list_for : Program → List Entry → ℕ → List Value
 list_for t [] c = []
 list_for t (entry ∷ entries) c = if channel_of t entry == c then entry.1 else list_for t entries c
 
--- nothing is wrong with an entry, where the test says whether one before it names the same channel
-pub record IsFit (t : Program) (given : Bool) (entry : Entry) : Type 0 where
-  pub named : channel_of t entry < length (channel_names t)
-  pub input : role_at (network_of t) (channel_of t entry) ≡ Input
-  pub first : given ≡ false
-  pub kinded : AreOfKind (kind_at (network_of t) (channel_of t entry)) entry.1
-  pub within : length entry.1 ≤ most_values
+-- all of these hold; each stands beside the fault of what it doesn't hold of
+abbrev pub AllHold : {F : Type 0} → List (Type 0 × F) → Type 0
+AllHold [] = Unit {0}
+AllHold ((holds, told) ∷ rest) = holds × AllHold rest
 
--- entry n, counted from 1, is refused for this, and for nothing that comes earlier in this order
-abbrev pub IsRefused : Program → Bool → Entry → ℕ → InputFault → Type 0
-IsRefused t given entry n (UnknownName m) = (m ≡ n) × (length (channel_names t) ≤ channel_of t entry)
-IsRefused t given entry n (NotAnInput m) =
-    (m ≡ n) × (channel_of t entry < length (channel_names t)) × (role_at (network_of t) (channel_of t entry) ≢ Input)
-IsRefused t given entry n (GivenTwice m) =
-    (m ≡ n) × (channel_of t entry < length (channel_names t)) × (role_at (network_of t) (channel_of t entry) ≡ Input) × (given ≡ true)
-IsRefused t given entry n (WrongKind m) =
-    (m ≡ n) × (channel_of t entry < length (channel_names t)) × (role_at (network_of t) (channel_of t entry) ≡ Input) × (given ≡ false)
-    × ¬ AreOfKind (kind_at (network_of t) (channel_of t entry)) entry.1
-IsRefused t given entry n (TooMany m) =
-    (m ≡ n) × (channel_of t entry < length (channel_names t)) × (role_at (network_of t) (channel_of t entry) ≡ Input) × (given ≡ false)
-    × AreOfKind (kind_at (network_of t) (channel_of t entry)) entry.1 × (most_values < length entry.1)
-IsRefused t given entry n NoMemory = ⊥
+-- this is the fault beside the first of them that doesn't hold
+abbrev pub FailsFirst : {F : Type 0} → List (Type 0 × F) → F → Type 0
+FailsFirst [] fault = ⊥
+FailsFirst ((holds, told) ∷ rest) fault = (¬ holds × (fault ≡ told)) ⊎ (holds × FailsFirst rest fault)
 
--- nothing is wrong with any of the entries, each of which comes after those before it
+-- what entry n, counted from 1, has to be, in this order, where the test says whether one before it names the same channel
+abbrev pub asked_of_entry : Program → Bool → ℕ → Entry → List (Type 0 × InputFault)
+asked_of_entry t given n entry = (channel_of t entry < length (channel_names t), UnknownName n)
+    ∷ (role_at (network_of t) (channel_of t entry) ≡ Input, NotAnInput n)
+    ∷ (given ≡ false, GivenTwice n)
+    ∷ (AreOfKind (kind_at (network_of t) (channel_of t entry)) entry.1, WrongKind n)
+    ∷ (length entry.1 ≤ most_values, TooMany n) ∷ []
+
+-- what the one at place k of the entries has to be
+abbrev pub asked_at : Program → List Entry → ℕ → Entry → List (Type 0 × InputFault)
+asked_at t entries k entry = asked_of_entry t (is_given t (take k entries) (channel_of t entry)) (k + 1) entry
+
+-- nothing is wrong with any of the entries
 abbrev pub AreFit : Program → List Entry → Type 0
-AreFit t entries = (k : ℕ) (entry : Entry) → slice_get entries k ≡ Some entry → IsFit t (is_given t (take k entries) (channel_of t entry)) entry
+AreFit t entries = (k : ℕ) (entry : Entry) → slice_get entries k ≡ Some entry → AllHold (asked_at t entries k entry)
 
 -- the first of the entries with which something is wrong, and what it is
 abbrev pub IsFirstRefused : Program → List Entry → InputFault → Type 0
-IsFirstRefused t entries fault = (k : ℕ) × (entry : Entry) × (slice_get entries k ≡ Some entry) × AreFit t (take k entries)
-    × IsRefused t (is_given t (take k entries) (channel_of t entry)) entry (k + 1) fault
+IsFirstRefused t entries fault =
+    (k : ℕ) × (entry : Entry) × (slice_get entries k ≡ Some entry) × AreFit t (take k entries) × FailsFirst (asked_at t entries k entry) fault
+
+-- why no input is made of the entries: memory was refused, or something is wrong with one of them
+abbrev pub IsNotMade : Program → List Entry → InputFault → Type 0
+IsNotMade t entries fault = (fault ≡ NoMemory) ⊎ IsFirstRefused t entries fault
 
 -- nothing is wrong with the entries, and these are the lists that they give the channels
 pub record IsMadeOf (t : Program) (entries : List Entry) (input : Lists) : Type 0 where

@@ -8,7 +8,7 @@ use Rattle.kahn_streams.specs.declared.value.Value.{Value}
 use Rattle.kahn_streams.specs.declared.value.Value.TheVariants.{Integer, Logical}
 use Rattle.kahn_network.specs.Network.{Network, kind_at, role_at}
 use Rattle.kahn_streams.specs.declared.value.Line.TheVariants.{Channel}
-use Rattle.kahn_streams.specs.Solution.{Histories}
+use Rattle.kahn_streams.specs.Solution.{Histories, Inputs, iterate}
 use Rattle.kahn_streams.specs.Tokens.{Lists, inputs_of}
 
 -- an integer is of the kind of integers, a truth value of the logical kind
@@ -23,6 +23,10 @@ AreOfKind k vs = AllByRecursion (λ v. kind_of_value v ≡ k) vs
 -- each channel's history has the channel's kind
 abbrev pub AreKinded : Network → Histories → Type 0
 AreKinded N H = (c : ℕ) → AreOfKind (kind_at N c) (H (Channel c))
+
+-- so is each iterate
+abbrev pub AreIteratesKinded : Network → Inputs → Type 0
+AreIteratesKinded N I = (n : ℕ) → AreKinded N (iterate N I n)
 
 -- what an input may have for channel c: an input channel has values of its kind, any other channel has none
 pub record IsListFor (N : Network) (c : ℕ) (vs : List Value) : Type 0 where

@@ -5,8 +5,8 @@ use Rattle.kahn_streams.specs.declared.value.Line.{Line}
 use Rattle.kahn_streams.specs.Script.{Give, Tapes, play, Port, Outcome, Got, Dry, Fault, Cut, Reached}
 use Rattle.kahn_streams.specs.Meaning.{Store, script_of, exec}
 use Rattle.kahn_tree.specs.Syntax.{Stmt}
-use Rattle.kahn_network.specs.Network.{Network, Instance, instance_at, Given, Written}
-use Rattle.kahn_streams.specs.Solution.{Histories, Inputs, tapes_of, exec_at, out, source, input_list, iterate, IsPrefix, Stands, IsWhole, HasEnd, HasSize, Ending, ending}
+use Rattle.kahn_network.specs.Network.{Network, Instance, Reads, actual_at, instance_at, Given, Written}
+use Rattle.kahn_streams.specs.Solution.{Histories, Inputs, tapes_of, exec_at, out, source, input_list, iterate, opening, IsPrefix, Stands, IsWhole, HasEnd, HasSize, Ending, ending}
 
 -- each iterate is a prefix of the next
 abbrev pub IsChain : Network → Inputs → Type 0
@@ -56,6 +56,11 @@ IsExtended H G = (c : Line) → IsPrefix (H c) (G c)
 
 abbrev pub Frame : Network → Type 0
 Frame N = (n p : ℕ) (H G : Histories) → IsExtended H G → IsFramed N n p H G
+
+-- a process runs dry only at a parameter that reads a channel
+abbrev pub RunsDryAtReads : Network → Type 0
+RunsDryAtReads N = (n p q : ℕ) (T : Tapes) → (exec n (instance_at N p).body (opening (instance_at N p)) T).outcome ≡ Dry q
+    → (d : ℕ) × (actual_at (instance_at N p) q ≡ Reads d)
 
 -- each input list of I is a prefix of that of J
 abbrev pub AreInputsExtended : Inputs → Inputs → Type 0

@@ -12,3 +12,4 @@ pub mod Examples
 pub mod Kinded
 pub mod Entries
 pub mod Feeds
+pub mod inner

@@ -1,7 +1,7 @@
 -- Believed. The events of a run, one by one.
 use Rattle.std.specs.Prelude.{◌≡◌, ℕ, suc, ◌==◌, List, [], ◌∷◌, ◌++◌, length, if◌then◌else◌}
 use Rattle.kahn_streams.specs.declared.value.Value.{Value}
-use Rattle.kahn_streams.specs.Script.{Port, Tapes, Script, Waits, Sends, Turns, Reached, Outcome}
+use Rattle.kahn_streams.specs.Script.{Port, Tapes, Script, Waits, Sends, Turns, Reached, Outcome, play}
 
 pub data Step : Type 0 where
   Took : ℕ → Value → Step
@@ -52,6 +52,10 @@ halted (Script.Waits q go) = Outcome.Dry q
 halted (Script.Sends p v s) = Outcome.Cut
 halted (Script.Turns s) = Outcome.Cut
 halted Script.Rest = Outcome.Cut
+
+-- with just the events done and the values taken, all is taken and the same is sent
+abbrev pub Replays : {A : Type 0} → Script A → List Step → Script A → Type 0
+Replays s steps to = play (length steps) s (taken steps) ≡ record { outcome = halted to; left = empty; events = length steps; sent = sends_of steps }
 
 -- where a run stopped: nothing more to do, a fault, an empty tape, or an event that isn't allowed any more
 abbrev pub StoppedAt : {A : Type 0} → Outcome A → Tapes → Script A → Type 0

@@ -1,10 +1,9 @@
 //! The entries from which an input is made: names of channels, each with its values.
 
-ghost use Rattle.std.specs.Prelude.{◌≡◌, ◌↔◌, ◌<◌, ◌≤◌, IsTrue, MatchOption, MatchResult, false, length, slice_index_or};
-ghost use Rattle.kahn_tree.specs.View.{place_of};
+ghost use Rattle.std.specs.Prelude.{◌≡◌, ◌↔◌, IsTrue, MatchOption, MatchResult, length};
 ghost use Rattle.kahn_network.specs.Network.{network_of};
-ghost use Rattle.kahn_network.specs.Sides.{channel_names};
-ghost use Rattle.kahn_streams.specs.Entries.{IsFit, IsRefused};
+ghost use Rattle.kahn_streams.specs.Entries.{IsNameOf, IsNoName};
+ghost use Rattle.kahn_streams.specs.inner.Marked.{IsRefusedAt, IsTakenAt};
 ghost use Rattle.kahn_streams.specs.Kinded.{AreOfKind};
 
 use crate::value::Value;
@@ -66,8 +65,7 @@ impl From<NoMemory> for InputFault {
 /// It takes no memory.
 #[tactic(auto, using(crate::proofs::Entered::place_found, crate::proofs::Entered::place_missed, crate::proofs::Entered::names_count))]
 pub fn channel_named(network: &Network, name: &str) -> Option<usize>
-    ensures { MatchOption result (length (channel_names network.now) ≤ place_of (channel_names network.now) name.now)
-        (λ c. (c ≡ place_of (channel_names network.now) name.now) × (c < length (channel_names network.now))) }
+    ensures { MatchOption result (IsNoName network.now name.now) (IsNameOf network.now name.now) }
 {
     for channel in 0..network.channels() {
         if name == network.channel(channel).name {
@@ -94,9 +92,7 @@ pub(crate) fn channel_for(
     entry: usize,
 ) -> Result<usize, InputFault>
     requires { length given.now ≡ length (network_of network.now).channels }
-    ensures { let channel = place_of (channel_names network.now) name.now in
-        MatchResult result (λ c. (c ≡ channel) × IsFit network.now (slice_index_or given.now channel false) (name.now, values.now))
-        (IsRefused network.now (slice_index_or given.now channel false) (name.now, values.now) entry) }
+    ensures { MatchResult result (IsTakenAt network.now given.now (name.now, values.now)) (IsRefusedAt network.now given.now (name.now, values.now) entry) }
 {
     let Some(channel) = channel_named(network, name) else {
         return Err(InputFault::UnknownName(entry));

@@ -1,10 +1,7 @@
 //! Values that are fed to an input which stands already.
 
-ghost use Rattle.std.specs.Prelude.{◌≡◌, ◌<◌, ◌≤◌, MatchResult, length};
-ghost use Rattle.kahn_tree.specs.View.{place_of};
-ghost use Rattle.kahn_network.specs.Network.{network_of, kind_at, role_at};
-ghost use Rattle.kahn_network.specs.Sides.{channel_names};
-ghost use Rattle.kahn_streams.specs.Feeds.{IsMeant, IsNotMeant};
+ghost use Rattle.std.specs.Prelude.{MatchResult};
+ghost use Rattle.kahn_streams.specs.Feeds.{IsMeantFor, IsNotMeant};
 
 use crate::entries::{are_of_kind, channel_named};
 use crate::value::Value;
@@ -43,14 +40,9 @@ impl From<NoMemory> for FeedFault {
     }
 }
 
-// The channel for which the values are meant, or why there is none.
-pub(crate) fn channel_meant(
-    network: &Network,
-    name: &str,
-    values: &[Value],
-) -> Result<usize, FeedFault>
-    ensures { MatchResult result (λ c. (c ≡ place_of (channel_names network.now) name.now) × IsMeant network.now (name.now, values.now))
-        (IsNotMeant network.now (name.now, values.now)) }
+/// The channel for which values are meant that are fed by its name, or why there is none.
+pub fn channel_meant(network: &Network, name: &str, values: &[Value]) -> Result<usize, FeedFault>
+    ensures { MatchResult result (IsMeantFor network.now (name.now, values.now)) (IsNotMeant network.now (name.now, values.now)) }
 {
     let Some(channel) = channel_named(network, name) else {
         return Err(FeedFault::UnknownName);

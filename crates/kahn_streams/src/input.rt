@@ -1,8 +1,8 @@
 //! The lists that are fed to the input channels.
 
-ghost use Rattle.std.specs.Prelude.{◌≡◌, ◌+◌, ◌++◌, ◌<◌, ◌≤◌, ◌↔◌, ◌⊎◌, if◌then◌else◌, is_ok, IsTrue, IfSome, IfNone, IfOk, IfErr, OnErr, MatchResult, false, length, map, slice_get, slice_index_or, slice_set, [], replicate, vec_capacity};
-ghost use Rattle.kahn_streams.specs.Entries.{entry_of, most_values, IsMadeOf, IsFirstRefused};
-ghost use Rattle.kahn_streams.specs.Feeds.{IsFed, IsUnwelcome};
+ghost use Rattle.std.specs.Prelude.{◌≡◌, ◌+◌, ◌++◌, ◌<◌, ◌≤◌, ◌↔◌, if◌then◌else◌, is_ok, IsTrue, IfSome, IfNone, IfOk, IfErr, OnErr, MatchResult, false, length, map, slice_get, slice_index_or, slice_set, [], replicate, vec_capacity};
+ghost use Rattle.kahn_streams.specs.Entries.{entry_of, most_values, IsMadeOf, IsNotMade, IsFirstRefused};
+ghost use Rattle.kahn_streams.specs.Feeds.{LeavesFed};
 ghost use Rattle.kahn_streams.specs.Laws.{AreInputsExtended};
 ghost use Rattle.kahn_streams.specs.Kinded.{IsListFor, IsInputFor};
 ghost use Rattle.kahn_streams.specs.Tokens.{inputs_of};
@@ -59,8 +59,7 @@ impl Input {
         network: &Network,
         entries: Vec<(String, Vec<Value>)>,
     ) -> Result<Input, InputFault>
-        ensures made { MatchResult result (IsMadeOf network.now (map entry_of entries.items))
-            (λ fault. (fault ≡ InputFault.NoMemory) ⊎ IsFirstRefused network.now (map entry_of entries.items) fault) }
+        ensures made { MatchResult result (IsMadeOf network.now (map entry_of entries.items)) (IsNotMade network.now (map entry_of entries.items)) }
         ensures fits { IfOk result (IsInputFor (network_of network.now)) }
     {
         let input = Input::none(alloc, network)?;
@@ -80,6 +79,7 @@ impl Input {
     /// Appends values to the list of the input channel of that name. It refuses a name of no channel, then a channel that
     /// is no input, then a value of another kind than the channel's, then what would make more than 1,048,576 values of
     /// the channel, and then where memory was refused, which no empty list is. A refusal leaves the input as it was.
+    #[tactic(auto, using(crate::proofs::Fed::unwelcome))]
     pub fn extend(
         &mut self,
         network: &Network,
@@ -87,8 +87,7 @@ impl Input {
         values: Vec<Value>,
     ) -> Result<(), FeedFault>
         requires { length self.old ≡ length (network_of network.now).channels }
-        ensures fed { MatchResult result (λ _. IsFed network.now self.old (channel.now, values.items) self.new)
-            (λ fault. (self.new ≡ self.old) × IsUnwelcome network.now self.old (channel.now, values.items) fault) }
+        ensures fed { LeavesFed network.now (channel.now, values.items) self.old self.new result }
         ensures some { IfErr result (λ fault. fault ≡ FeedFault.NoMemory → 0 < length values.items) }
         ensures fits { IsInputFor (network_of network.now) self.old → IsInputFor (network_of network.now) self.new }
         ensures grown { AreInputsExtended (inputs_of self.old) (inputs_of self.new) }

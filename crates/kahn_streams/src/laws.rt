@@ -2,21 +2,21 @@
 
 ghost use Rattle.kahn_streams.specs.Compose.{ExpressionsCompose, StatementsCompose, LoopsUnroll};
 ghost use Rattle.kahn_streams.specs.Examples.{Counting, Doubling, Overflowing, Ring, OwnChannel, Alternating, Silent, LimitedSample};
-ghost use Rattle.kahn_streams.specs.Kinded.{IsInputFor, AreKinded};
-ghost use Rattle.kahn_streams.specs.Laws.{IsChain, HasOneValue, IsSolved, IsSolution, IsBelow, Frame, IsQuiet, IsSettled, SendsStand, InputsGrow, IsCounted, IsUnrolled, IsDetermined};
-ghost use Rattle.kahn_streams.specs.Meaning.{Store, exec};
-ghost use Rattle.kahn_network.specs.Network.{Network, Reads, actual_at, instance_at, network_of};
+ghost use Rattle.kahn_streams.specs.Kinded.{IsInputFor, AreIteratesKinded};
+ghost use Rattle.kahn_streams.specs.Laws.{IsChain, HasOneValue, IsSolved, IsSolution, IsBelow, Frame, IsQuiet, IsSettled, SendsStand, InputsGrow, RunsDryAtReads, IsCounted, IsUnrolled, IsDetermined};
+ghost use Rattle.kahn_streams.specs.Meaning.{Store};
+ghost use Rattle.kahn_network.specs.Network.{Network, network_of};
 ghost use Rattle.kahn_network.specs.Wiring.{IsWellWired};
-ghost use Rattle.kahn_streams.specs.Solution.{Inputs, Histories, Ending, Stands, iterate, opening};
+ghost use Rattle.kahn_streams.specs.Solution.{Inputs, Histories, Ending, Stands};
 ghost use Rattle.kahn_streams.specs.Sample.{Sample};
-ghost use Rattle.kahn_streams.specs.Script.{Script, Tapes, Dry, play};
-ghost use Rattle.kahn_streams.specs.Steps.{Step, Follows, RanBy, taken, sends_of, halted, empty};
+ghost use Rattle.kahn_streams.specs.Script.{Script, Tapes, play};
+ghost use Rattle.kahn_streams.specs.Steps.{Step, Follows, RanBy, Replays};
 ghost use Rattle.kahn_streams.specs.Tokens.{Lists, inputs_of};
 ghost use Rattle.kahn_tree.specs.Syntax.{Expr, Stmt};
 ghost use Rattle.kahn_tree.specs.declared.tree.Program.{Program};
 ghost use Rattle.kahn_streams.specs.declared.value.Line.{Line};
 ghost use Rattle.kahn_streams.specs.declared.value.Value.{Value};
-ghost use Rattle.std.specs.Prelude.{ℕ, suc, [], List, length, ◌≡◌};
+ghost use Rattle.std.specs.Prelude.{ℕ, List};
 
 /// Each iterate is a prefix of the next.
 pub fn chain()
@@ -65,7 +65,7 @@ pub fn grows()
 
 /// With just the events done and the values taken, all is taken and the same is sent.
 pub fn replays()
-    ensures { (s s' : Script Store) (steps : List Step) → Follows s steps s' → play (length steps) s (taken steps) ≡ record { outcome = halted s'; left = empty; events = length steps; sent = sends_of steps } }
+    ensures { (s s' : Script Store) (steps : List Step) → Follows s steps s' → Replays s steps s' }
 {}
 
 /// What is reached is reached by steps.
@@ -99,12 +99,12 @@ pub fn found()
 
 /// Every value of an iterate on a channel has the channel's kind, where the program is well wired and the input fits it.
 pub fn kinds()
-    ensures { (t : Program) (lists : Lists) → IsWellWired t → IsInputFor (network_of t) lists → (n : ℕ) → AreKinded (network_of t) (iterate (network_of t) (inputs_of lists) n) }
+    ensures { (t : Program) (lists : Lists) → IsWellWired t → IsInputFor (network_of t) lists → AreIteratesKinded (network_of t) (inputs_of lists) }
 {}
 
 /// In a well wired program a process runs dry only at a parameter that reads a channel.
 pub fn dry_reads()
-    ensures { (t : Program) → IsWellWired t → (n p q : ℕ) (T : Tapes) → (exec n (instance_at (network_of t) p).body (opening (instance_at (network_of t) p)) T).outcome ≡ Dry q → (d : ℕ) × (actual_at (instance_at (network_of t) p) q ≡ Reads d) }
+    ensures { (t : Program) → IsWellWired t → RunsDryAtReads (network_of t) }
 {}
 
 /// The definitions at work on small networks.

@@ -25,3 +25,4 @@ pub use value::{Failure, Line, Value};
 // For the crates above.
 pub use about::About;
 pub use entries::channel_named;
+pub use feeds::channel_meant;

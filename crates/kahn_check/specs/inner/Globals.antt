@@ -1,5 +1,5 @@
 -- Inner. What the names of a program stand for, as the map keeps it.
-use Rattle.std.specs.Prelude.{◌≡◌, ℕ, List, ◌++◌, map, Option, None, Some}
+use Rattle.std.specs.Prelude.{◌≡◌, ℕ, ◌+◌, ◌≤◌, List, ◌++◌, length, map, Option, None, Some}
 use Rattle.std.specs.List.{AllByRecursion}
 use Rattle.kahn_tree.specs.declared.tree.Declaration.{Declaration}
 use Rattle.kahn_tree.specs.declared.tree.Kind.{Kind}
@@ -8,6 +8,7 @@ use Rattle.kahn_tree.specs.declared.tree.Role.{Role}
 use Rattle.kahn_check.specs.declared.globals.Entry.{Entry}
 use Rattle.kahn_check.specs.declared.globals.Entry.TheVariants as E
 use Rattle.kahn_check.specs.declared.globals.Globals.{Globals}
+use Rattle.kahn_check.specs.Order.{most_channels}
 use Rattle.kahn_network.specs.Wires.{process_at}
 use Rattle.kahn_network.specs.Wiring.{Global, IsChannel, IsProcess, declared_of, entries}
 
@@ -33,6 +34,10 @@ ArePlaced ds g = AllByRecursion (λ e. IsPlaced ds e.1) g.names
 -- the names of channels that are declared behind the known ones
 abbrev pub HaveJoined : Kind → Role → List Name → Globals → Globals → Type 0
 HaveJoined kind role names before after = known after ≡ known before ++ entries (map (λ x. (x, IsChannel kind role)) names)
+
+-- the same where n of them are declared then, count before these
+abbrev pub HaveMore : ℕ → Kind → Role → List Name → Globals → Globals → ℕ → Type 0
+HaveMore count kind role names before after n = (n ≡ count + length names) × (n ≤ most_channels) × HaveJoined kind role names before after
 
 -- what these declarations declare
 pub record IsTable (ds : List Declaration) (g : Globals) : Type 0 where

@@ -1,5 +1,5 @@
 -- Inner. The same faults of instances, by tables of who has each side of a channel.
-use Rattle.std.specs.Prelude.{◌≡◌, ℕ, suc, List, [], ◌∷◌, ◌++◌, length, Option, None, Some, if◌then◌else◌}
+use Rattle.std.specs.Prelude.{◌≡◌, ℕ, suc, List, [], ◌∷◌, ◌++◌, length, Option, None, Some, Result, if◌then◌else◌}
 use Rattle.std.proofs.Common.{bytes_eq}
 use Rattle.std.specs.Map.{lookup}
 use Rattle.kahn_tree.specs.declared.tree.Name.{Name}
@@ -15,7 +15,7 @@ use Rattle.kahn_tree.specs.declared.tree.Parameter.{Parameter}
 use Rattle.kahn_tree.specs.declared.tree.Argument.{Argument}
 use Rattle.kahn_tree.specs.declared.tree.Argument.TheVariants as A
 use Rattle.kahn_tree.specs.View.{bytes_of}
-use Rattle.kahn_check.specs.Faults.{wrong}
+use Rattle.kahn_check.specs.Faults.{Checks, wrong}
 use Rattle.kahn_tree.specs.declared.tree.Instance.{Instance}
 use Rattle.kahn_network.specs.Wiring.{Global, IsChannel, IsProcess, Handover, handed, handed_in, parameters_of, same_direction, side_at}
 use Rattle.kahn_network.specs.declared.sides.Side.{Side}
@@ -59,6 +59,14 @@ places_faults g w r i q [] xs = []
 places_faults g w r i q (p ∷ ps) [] = []
 places_faults g w r i q (p ∷ ps) (x ∷ xs) =
     place_faults g w r p.taking x ++ places_faults g (w ++ taken Out (handed (side_at i q) p.taking x)) (r ++ taken In (handed (side_at i q) p.taking x)) i (suc q) ps xs
+
+-- one argument is handed over to both tables, or the faults of it
+abbrev pub HandsOver : {A : Type 0} → List (List ℕ × Global) → Side → Taking → Argument → Ends → Ends → Ends → Ends → Result A CheckFault → Type 0
+HandsOver g e k x w r w' r' result = Checks (place_faults g w r k x) (λ _. HaveGot (handed e k x) w r w' r') result
+
+-- and all arguments of an instance
+abbrev pub HandsAll : {A : Type 0} → List (List ℕ × Global) → ℕ → List Parameter → List Argument → Ends → Ends → Ends → Ends → Result A CheckFault → Type 0
+HandsAll g i ps xs w r w' r' result = Checks (places_faults g w r i 0 ps xs) (λ _. HaveGot (handed_in i 0 ps xs) w r w' r') result
 
 abbrev pub made_in : List (List ℕ × Global) → Ends → Ends → ℕ → Option Global → Instance → List CheckFault
 made_in g w r i None x = Unknown x.process.span ∷ []

@@ -1,13 +1,18 @@
 -- Inner. The tables of the walk, as a network keeps them.
-use Rattle.std.specs.Prelude.{List, map}
+use Rattle.std.specs.Prelude.{◌≡◌, List, ◌++◌, map, Result}
 use Rattle.std.proofs.Common.{bytes_eq}
 use Rattle.std.specs.Map.{lookup}
+use Rattle.std.specs.declared.alloc.Global.{Global}
+use Rattle.std.specs.declared.vec.Vec.{Vec}
 use Rattle.kahn_tree.specs.declared.tree.Name.{Name}
 use Rattle.kahn_tree.specs.declared.tree.Kind.{Kind}
 use Rattle.kahn_tree.specs.declared.tree.Role.{Role}
 use Rattle.kahn_tree.specs.View.{bytes_of}
-use Rattle.kahn_check.specs.inner.Tables.{Ends}
-use Rattle.kahn_network.specs.Wires.{Line}
+use Rattle.kahn_check.specs.Faults.{Checks}
+use Rattle.kahn_check.specs.declared.fault.CheckFault.{CheckFault}
+use Rattle.kahn_check.specs.inner.Tables.{Ends, sides_in}
+use Rattle.kahn_network.specs.Wires.{Line, shown}
+use Rattle.kahn_network.specs.declared.wires.Wire.{Wire}
 
 -- the channels of one declaration
 abbrev pub as_lines : Kind → Role → List Name → List (Name × (Kind × Role))
@@ -19,3 +24,11 @@ line_in w r c = ((bytes_of c.0, c.1), (lookup (bytes_eq (bytes_of c.0)) w, looku
 
 abbrev pub lines_in : Ends → Ends → List (Name × (Kind × Role)) → List Line
 lines_in w r cs = map (line_in w r) cs
+
+-- the wires of these channels stand behind those before, or the faults of them
+abbrev pub HaveWires : {A : Type 0} → Ends → Ends → List (Name × (Kind × Role)) → List Wire → List Wire → Result A CheckFault → Type 0
+HaveWires w r cs before after result = Checks (sides_in w r cs) (λ _. map shown after ≡ map shown before ++ lines_in w r cs) result
+
+-- they are the wires of these channels, or the faults of them
+abbrev pub AreWiresOf : Ends → Ends → List (Name × (Kind × Role)) → Result (Vec Wire Global) CheckFault → Type 0
+AreWiresOf w r cs result = Checks (sides_in w r cs) (λ wires. map shown wires.items ≡ lines_in w r cs) result

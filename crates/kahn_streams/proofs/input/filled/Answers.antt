@@ -3,7 +3,8 @@ use Rattle.std.proofs.lemmas.List.{length_push, map-append}
 use Rattle.std.proofs.lemmas.Iterator.Adapters.{YieldsList-from_vec}
 use Rattle.std.proofs.lemmas.Iterator.Consumers.{YieldsList-so_far, YieldsList-turn}
 use Rattle.std.proofs.lemmas.Result.{err_from_is_err_and}
-use Rattle.kahn_streams.specs.Entries.{Entry, entry_of, channel_of, IsFit, IsRefused}
+use Rattle.kahn_streams.specs.Entries.{Entry, entry_of, channel_of}
+use Rattle.kahn_streams.specs.inner.Marked.{IsFitHere, IsRefusedAt}
 use Rattle.kahn_streams.proofs.Entered.{more_filled, first_refused, made_fits, read_here, read_so_far}
 use Rattle.kahn_streams.proofs.input.filled.Goals as goal
 
@@ -13,7 +14,7 @@ returns-in_err-channel-clause-made c =
     let done = c.loop-name.yielded in
     let fault = c.in_err-channel.field-0.0 in
     let entry : Entry = entry_of (c.in-Some.name, c.in-Some.values) in
-    let refused : IsRefused c.args.network.now (slice_index_or c.loop-name.given.items (channel_of c.args.network.now entry) false) entry (c.loop-name.number + 1) fault = search rules in
+    let refused : IsRefusedAt c.args.network.now c.loop-name.given.items entry (c.loop-name.number + 1) fault = search rules in
     let road = YieldsList-from_vec {s = c.into_iter-name-iterator.result} items (search rules) (search rules) in
     let t = YieldsList-turn road done c.loop-name.name-iterator c.loop-name.yielded_by c.next.result c.next.new.self (c.in-Some.name, c.in-Some.values) c.in-Some.is c.next.ensures.steps in
     let it = first_refused c.args.network.now (map entry_of done) c.loop-name.given.items c.loop-name.input entry c.loop-name.invariant.filled
@@ -29,7 +30,7 @@ loop-name-preserved c =
     let entry : Entry = entry_of (c.in-Some.name, c.in-Some.values) in
     let done = c.loop-name.yielded in
     let e = length_push done (c.in-Some.name, c.in-Some.values) in
-    let fit : IsFit c.args.network.now (slice_index_or c.loop-name.given.items (channel_of c.args.network.now entry) false) entry = search rules in
+    let fit : IsFitHere c.args.network.now (slice_index_or c.loop-name.given.items (channel_of c.args.network.now entry) false) entry = search rules in
     let is : c.in_ok-channel.channel ≡ channel_of c.args.network.now entry = search rules in
     record {
       next = search rules;
