@@ -1,3 +1,4 @@
+pub mod Building
 pub mod Items
 pub mod Machine
 pub mod Reads

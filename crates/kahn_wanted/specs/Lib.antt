@@ -1,3 +1,4 @@
+pub mod Blocks
 pub mod Mends
 pub mod Wanted
 pub mod inner

@@ -2,11 +2,13 @@
 #![tactic(auto)]
 
 mod asked;
+mod blocks;
 mod changes;
 mod found;
 mod groups;
 mod mended;
 
+pub use blocks::{Block, Blocks, blocks_at};
 pub use changes::{Change, Spot};
 pub use found::{Unexpected, wanted_at};
 pub use groups::{Group, Wanted};

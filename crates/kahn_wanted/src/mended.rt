@@ -110,7 +110,7 @@ fn all_mends(
 }
 
 /// How many lexemes stand before a fault.
-fn place_of(_text: &str, lexemes: &[Lexeme], span: Span, what: What) -> usize
+pub(crate) fn place_of(_text: &str, lexemes: &[Lexeme], span: Span, what: What) -> usize
     requires { IsFault _text.now lexemes.now (Expected span what) }
     ensures place { IsPlace lexemes.now span what result }
     ensures within { result ≤ length lexemes.now }

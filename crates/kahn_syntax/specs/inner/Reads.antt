@@ -1,5 +1,5 @@
 -- Inner. What each function of the parser reads, and where it stops.
-use Rattle.std.specs.Prelude.{◌≡◌, ℕ, List, [], ◌∷◌, ◌++◌, ◌+◌, ◌≤◌, ◌<◌, false, length, Some}
+use Rattle.std.specs.Prelude.{◌≡◌, ℕ, List, [], ◌∷◌, ◌++◌, ◌+◌, ◌≤◌, ◌<◌, false, length, map, Some, Result, MatchResult}
 use Rattle.kahn_tree.specs.declared.tree.Expression.{Expression}
 use Rattle.kahn_tree.specs.declared.tree.Statement.{Statement}
 use Rattle.kahn_syntax.specs.declared.parser.cursor.Stop.{Stop}
@@ -12,12 +12,14 @@ use Rattle.kahn_syntax.specs.declared.lexeme.Keyword.{Keyword}
 use Rattle.kahn_syntax.specs.declared.lexeme.Keyword.TheVariants as keyword
 use Rattle.kahn_syntax.specs.declared.lexeme.Sign.TheVariants as mark
 use Rattle.kahn_tree.specs.declared.tree.Parameter.{Parameter}
+use Rattle.kahn_tree.specs.declared.tree.Argument.{Argument}
+use Rattle.kahn_tree.specs.declared.tree.Declaration.{Declaration}
 use Rattle.kahn_syntax.specs.Programs.{DeclarationTree, channels, process}
 use Rattle.kahn_syntax.specs.Terminals.{Terminal, word, sign, terminals, AreProper}
 use Rattle.kahn_syntax.specs.inner.Machine.{Token, class_of, token_of, leads, Part, ProgramPart, ExpressionPart, StatementPart, SimplePart, TailPart, StatementsTail, TokenPart, GroupsPart, OpenToken, CloseToken, SemicolonToken, BeginToken, levels, Refuses, TooFar, fate}
 use Rattle.kahn_syntax.specs.inner.Rungs.{Rung, whole, at}
-use Rattle.kahn_syntax.specs.Drawn.{expression_of, statement_of, statements_of}
-use Rattle.kahn_syntax.specs.Spans.{Takes, ParametersSpan, ExpressionSpans, StatementSpans, StatementsSpan}
+use Rattle.kahn_syntax.specs.Drawn.{declaration_of, expression_of, statement_of, statements_of}
+use Rattle.kahn_syntax.specs.Spans.{Takes, ArgumentsSpan, DeclarationsSpan, ParametersSpan, ExpressionSpans, StatementSpans, StatementsSpan}
 use Rattle.kahn_syntax.specs.Trees.{ExpressionTree, OperandTrees, no_operand, operand, level, binds, Formed, expression_nesting, StatementTree, statements_words, FormedStatement, FormedStatements, IsSimple, AreSome, statement_nesting, statements_nesting}
 
 -- an expression that may stand at this level
@@ -129,3 +131,40 @@ head_parts = TokenPart OpenToken ∷ GroupsPart ∷ TokenPart CloseToken ∷ Tok
 abbrev pub HeadSpans : List ℕ → List Parameter → List Lexeme → List Lexeme → Type 0
 HeadSpans text ps xs r = (a : List Lexeme) × (b : List Lexeme) × (c : List Lexeme) × (d : List Lexeme) × Takes text (sign mark.Open) xs a
     × ParametersSpan text ps a b × Takes text (sign mark.Close) b c × Takes text (sign mark.Semicolon) c d × Takes text (word keyword.Begin) d r
+
+-- declarations whose bodies are of the grammar
+abbrev pub SoundDeclarationsSpan : List ℕ → List Declaration → List Lexeme → List Lexeme → Type 0
+SoundDeclarationsSpan text ds xs r = AreSound (map declaration_of ds) × DeclarationsSpan text ds xs r
+
+-- arguments and the bracket behind them
+abbrev pub ClosedArgumentsSpan : List ℕ → List Argument → List Lexeme → List Lexeme → Type 0
+ClosedArgumentsSpan text arguments xs r = (a : List Lexeme) × ArgumentsSpan text arguments xs a × Takes text (sign mark.Close) a r
+
+-- ---- what a call answers: what was read, with the rest, or why it isn't
+
+-- parts, where no level is open, to what has such spans
+abbrev pub ParsesPart : {R : Type 0} → Result R Stop → List ℕ → List Part → (R → List Lexeme → List Lexeme → Type 0) → List Lexeme → (R → List Lexeme) → Type 0
+ParsesPart result text parts spans input rest =
+    MatchResult result (λ r. PartRead text parts (spans r) input (rest r)) (λ e. Stops text 0 parts input e)
+
+-- an expression of this level of the grammar
+abbrev pub ParsesExpression : {R : Type 0} → Result R Stop → List ℕ → ℕ → Rung → (R → Expression) → List Lexeme → (R → List Lexeme) → Type 0
+ParsesExpression result text depth g value input rest =
+    MatchResult result (λ r. ExpressionRead text depth g (value r) input (rest r)) (λ e. Stops text depth (ExpressionPart g ∷ []) input e)
+
+-- any expression and the keyword after it
+abbrev pub ParsesBefore : {R : Type 0} → Result R Stop → List ℕ → ℕ → Keyword → (R → Expression) → List Lexeme → (R → List Lexeme) → Type 0
+ParsesBefore result text depth last value input rest =
+    MatchResult result (λ r. ExpressionBefore text depth last (value r) input (rest r))
+    (λ e. Stops text depth (ExpressionPart whole ∷ TokenPart (token_of last) ∷ []) input e)
+
+-- a statement that may stand for this part
+abbrev pub ParsesStatement : {R : Type 0} → Result R Stop → List ℕ → ℕ → Part → (R → Statement) → List Lexeme → (R → List Lexeme) → Type 0
+ParsesStatement result text depth p value input rest =
+    MatchResult result (λ r. StatementRead text depth p (value r) input (rest r)) (λ e. Stops text depth (p ∷ []) input e)
+
+-- one statement or more
+abbrev pub ParsesStatements : {R : Type 0} → Result R Stop → List ℕ → ℕ → (R → List Statement) → List Lexeme → (R → List Lexeme) → Type 0
+ParsesStatements result text depth values input rest =
+    MatchResult result (λ r. StatementsRead text depth (values r) input (rest r))
+    (λ e. Stops text depth (StatementPart ∷ TailPart StatementsTail ∷ []) input e)

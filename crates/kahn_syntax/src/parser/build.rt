@@ -1,15 +1,11 @@
 //! Nodes of the tree, made of their parts.
 
-ghost use Rattle.std.specs.Prelude.{◌≡◌, ◌<◌, ℕ, List, length, IfOk, IfErr, MatchResult};
-ghost use Rattle.kahn_syntax.specs.declared.lexeme.Keyword.TheVariants as keyword;
-ghost use Rattle.kahn_syntax.specs.declared.lexeme.Sign.TheVariants as mark;
-ghost use Rattle.kahn_syntax.specs.declared.lexeme.Lexeme.{Lexeme};
+ghost use Rattle.std.specs.Prelude.{◌≡◌, ◌<◌, length, IfOk, IfErr, MatchResult};
 ghost use Rattle.kahn_syntax.specs.declared.parser.cursor.Stop.TheVariants.{NoMemory};
 ghost use Rattle.kahn_syntax.specs.Drawn.{expression_of, form_of, statement_of, statements_of};
-ghost use Rattle.kahn_syntax.specs.Spans.{Takes, Covers, FormSpans, ExpressionSpans, StatementSpans, StatementsSpan};
-ghost use Rattle.kahn_syntax.specs.Terminals.{word, sign};
+ghost use Rattle.kahn_syntax.specs.Spans.{Covers};
 ghost use Rattle.kahn_syntax.specs.Trees as tree;
-ghost use Rattle.kahn_syntax.specs.Trees.{operator_terminal};
+ghost use Rattle.kahn_syntax.specs.inner.Building.{SpansBlock, SpansIfElse, SpansIfThen, SpansOperation, SpansRepeat, SpansWhile};
 
 use crate::lexeme::Lexeme;
 use crate::parser::cursor::{Read, Stop, reach};
@@ -39,7 +35,7 @@ pub fn compared(
     right: Box<Expression>,
 ) -> Result<Form, Stop>
     ensures built { IfOk result (λ f. form_of f ≡ tree.level (expression_of left.value) (tree.operand operator (expression_of right.value) tree.no_operand)) }
-    ensures spans { IfOk result (λ f. (text : List ℕ) (xs a b r : List Lexeme) → ExpressionSpans text left.value xs a → Takes text (operator_terminal operator) a b → ExpressionSpans text right.value b r → FormSpans text f xs r) }
+    ensures spans { IfOk result (SpansOperation left.value operator right.value) }
     ensures stop { IfErr result (λ e. e ≡ NoMemory) }
 {
     let mut further = Vec::new(alloc);
@@ -53,7 +49,7 @@ pub fn compared(
 /// A conditional statement without `else`.
 pub fn if_then(span: Span, test: Box<Expression>, yes: Box<Statement>) -> Statement
     ensures built { statement_of result ≡ tree.if_then (expression_of test.value) (statement_of yes.value) }
-    ensures spans { (text : List ℕ) (xs a b c r : List Lexeme) → Covers span xs r → Takes text (word keyword.If) xs a → ExpressionSpans text test.value a b → Takes text (word keyword.Then) b c → StatementSpans text yes.value c r → StatementSpans text result xs r }
+    ensures spans { SpansIfThen span test.value yes.value result }
 {
     Statement {
         span: Some(span),
@@ -69,7 +65,7 @@ pub fn if_else(
     no: Box<Statement>,
 ) -> Statement
     ensures built { statement_of result ≡ tree.if_else (expression_of test.value) (statement_of yes.value) (statement_of no.value) }
-    ensures spans { (text : List ℕ) (xs a b c d g r : List Lexeme) → Covers span xs r → Takes text (word keyword.If) xs a → ExpressionSpans text test.value a b → Takes text (word keyword.Then) b c → StatementSpans text yes.value c d → Takes text (word keyword.Else) d g → StatementSpans text no.value g r → StatementSpans text result xs r }
+    ensures spans { SpansIfElse span test.value yes.value no.value result }
 {
     Statement {
         span: Some(span),
@@ -80,7 +76,7 @@ pub fn if_else(
 /// A loop with a test.
 pub fn while_do(span: Span, test: Box<Expression>, turn: Box<Statement>) -> Statement
     ensures built { statement_of result ≡ tree.while_do (expression_of test.value) (statement_of turn.value) }
-    ensures spans { (text : List ℕ) (xs a b c r : List Lexeme) → Covers span xs r → Takes text (word keyword.While) xs a → ExpressionSpans text test.value a b → Takes text (word keyword.Do) b c → StatementSpans text turn.value c r → StatementSpans text result xs r }
+    ensures spans { SpansWhile span test.value turn.value result }
 {
     Statement {
         span: Some(span),
@@ -91,7 +87,7 @@ pub fn while_do(span: Span, test: Box<Expression>, turn: Box<Statement>) -> Stat
 /// A loop without an end.
 pub fn repeated(span: Span, turn: Box<Statement>) -> Statement
     ensures built { statement_of result ≡ tree.repeat (statement_of turn.value) }
-    ensures spans { (text : List ℕ) (xs a r : List Lexeme) → Covers span xs r → Takes text (word keyword.Repeat) xs a → StatementSpans text turn.value a r → StatementSpans text result xs r }
+    ensures spans { SpansRepeat span turn.value result }
 {
     Statement {
         span: Some(span),
@@ -102,7 +98,7 @@ pub fn repeated(span: Span, turn: Box<Statement>) -> Statement
 /// A block of statements.
 pub fn block(span: Span, statements: Vec<Statement>) -> Statement
     ensures built { statement_of result ≡ tree.block (statements_of statements.items) }
-    ensures spans { (text : List ℕ) (xs a b r : List Lexeme) → Covers span xs r → Takes text (word keyword.Begin) xs a → StatementsSpan text statements.items a b → Takes text (word keyword.End) b r → StatementSpans text result xs r }
+    ensures spans { SpansBlock span statements.items result }
 {
     Statement {
         span: Some(span),

@@ -1,16 +1,15 @@
 //! Declarations of channels and processes.
 
-ghost use Rattle.std.specs.Prelude.{◌≡◌, ◌≤◌, ◌<◌, ◌+◌, ◌++◌, ◌∷◌, ℕ, List, [], length, map, is_some, IfOk, IfErr, IfSome, MatchResult};
+ghost use Rattle.std.specs.Prelude.{◌≡◌, ◌≤◌, ◌<◌, ◌+◌, ◌++◌, ◌∷◌, ℕ, List, [], length, is_some, IfOk, IfErr, IfSome};
 ghost use Rattle.kahn_syntax.specs.declared.lexeme.Keyword.TheVariants as keyword;
 ghost use Rattle.kahn_syntax.specs.declared.lexeme.Sign.TheVariants as mark;
 ghost use Rattle.kahn_syntax.specs.declared.parser.cursor.Stop.TheVariants.{NoMemory};
-ghost use Rattle.kahn_syntax.specs.Terminals.{terminals, word, sign, AreProper};
-ghost use Rattle.kahn_syntax.specs.Programs.{kind_terminal, role_words, taking_words, names_words, AreNames, Parameters, Variables, Declares, Declarations, declaration_nesting, declarations_nesting, parameter, variable};
-ghost use Rattle.kahn_syntax.specs.Drawn.{name_of};
-ghost use Rattle.kahn_syntax.specs.Drawn.{parameter_of, variable_of, process_of, declaration_of};
+ghost use Rattle.kahn_syntax.specs.Terminals.{terminals, AreProper};
+ghost use Rattle.kahn_syntax.specs.Programs.{kind_terminal, Parameters, Variables, Declarations};
+ghost use Rattle.kahn_syntax.specs.Drawn.{process_of, declaration_of};
 ghost use Rattle.kahn_syntax.specs.inner.Machine.{DeclarationsPart, DeclarationPart, ProcessPart, RolePart, GroupsPart, GroupPart, TakingPart, VariablesPart, leads_kind, leads_declaration};
-ghost use Rattle.kahn_syntax.specs.inner.Reads.{Reads, Stops, PartRead, IsSound, AreSound, head_parts, HeadSpans};
-ghost use Rattle.kahn_syntax.specs.Spans.{IsPast, DeclarationsSpan, DeclarationSpans, RoleSpans, ProcessSpans, ParametersSpan, GroupSpans, DirectionSpans, VariablesSpan, group, together, kind_of, parameters_of, variables_of};
+ghost use Rattle.kahn_syntax.specs.inner.Reads.{Reads, IsSound, head_parts, HeadSpans, ParsesPart, SoundDeclarationsSpan};
+ghost use Rattle.kahn_syntax.specs.Spans.{IsPast, DeclarationSpans, RoleSpans, ProcessSpans, ParametersSpan, GroupSpans, DirectionSpans, VariablesSpan, group, together, kind_of, parameters_of, variables_of};
 
 use crate::lexeme::{Class, Keyword, Lexeme, Sign};
 use crate::parser::cursor::{Read, Stop, expect, next, past};
@@ -41,7 +40,7 @@ pub fn read_declarations<'t>(
     input: &'t [Lexeme],
 ) -> Read<'t, Vec<Declaration>>
     requires proper { AreProper text.now input.now }
-    ensures { MatchResult result (λ r. PartRead text.now (DeclarationsPart ∷ []) (λ xs l. AreSound (map declaration_of r.0.items) × DeclarationsSpan text.now r.0.items xs l) input.now r.1.now) (λ e. Stops text.now 0 (DeclarationsPart ∷ []) input.now e) }
+    ensures { ParsesPart result text.now (DeclarationsPart ∷ []) (λ r. SoundDeclarationsSpan text.now r.0.items) input.now (λ r. r.1.now) }
 {
     let mut declarations = Vec::new(alloc);
     let mut rest = input;
@@ -70,7 +69,7 @@ fn begins_declaration(input: &[Lexeme]) -> bool
 // A declaration.
 fn read_declaration<'t>(alloc: Global, text: &str, input: &'t [Lexeme]) -> Read<'t, Declaration>
     requires proper { AreProper text.now input.now }
-    ensures { MatchResult result (λ r. PartRead text.now (DeclarationPart ∷ []) (λ xs l. IsSound (declaration_of r.0) × DeclarationSpans text.now r.0 xs l) input.now r.1.now) (λ e. Stops text.now 0 (DeclarationPart ∷ []) input.now e) }
+    ensures { ParsesPart result text.now (DeclarationPart ∷ []) (λ r xs l. IsSound (declaration_of r.0) × DeclarationSpans text.now r.0 xs l) input.now (λ r. r.1.now) }
 {
     match next_kind(input) {
         Some((kind, rest)) => {
@@ -103,7 +102,7 @@ fn read_role(input: &[Lexeme]) -> (Role, &[Lexeme])
 // A process with its body.
 fn read_process<'t>(alloc: Global, text: &str, input: &'t [Lexeme]) -> Read<'t, Process>
     requires proper { AreProper text.now input.now }
-    ensures { MatchResult result (λ r. PartRead text.now (ProcessPart ∷ []) (λ xs l. IsSound (process_of r.0) × ProcessSpans text.now r.0 xs l) input.now r.1.now) (λ e. Stops text.now 0 (ProcessPart ∷ []) input.now e) }
+    ensures { ParsesPart result text.now (ProcessPart ∷ []) (λ r xs l. IsSound (process_of r.0) × ProcessSpans text.now r.0 xs l) input.now (λ r. r.1.now) }
 {
     let rest = expect(input, Class::Word(Keyword::Process))?;
     let (name, rest) = read_name(alloc, text, rest)?;
@@ -123,7 +122,7 @@ fn read_process<'t>(alloc: Global, text: &str, input: &'t [Lexeme]) -> Read<'t, 
 // The parameters of a process in their brackets, and what stands between them and its body.
 fn read_head<'t>(alloc: Global, text: &str, input: &'t [Lexeme]) -> Read<'t, Vec<Parameter>>
     requires proper { AreProper text.now input.now }
-    ensures { MatchResult result (λ r. PartRead text.now head_parts (HeadSpans text.now r.0.items) input.now r.1.now) (λ e. Stops text.now 0 head_parts input.now e) }
+    ensures { ParsesPart result text.now head_parts (λ r. HeadSpans text.now r.0.items) input.now (λ r. r.1.now) }
 {
     let rest = expect(input, Class::Sign(Sign::Open))?;
     let (parameters, rest) = read_parameters(alloc, text, rest)?;
@@ -136,7 +135,7 @@ fn read_head<'t>(alloc: Global, text: &str, input: &'t [Lexeme]) -> Read<'t, Vec
 // The groups of parameters, with semicolons between: none or more.
 fn read_parameters<'t>(alloc: Global, text: &str, input: &'t [Lexeme]) -> Read<'t, Vec<Parameter>>
     requires proper { AreProper text.now input.now }
-    ensures { MatchResult result (λ r. PartRead text.now (GroupsPart ∷ []) (ParametersSpan text.now r.0.items) input.now r.1.now) (λ e. Stops text.now 0 (GroupsPart ∷ []) input.now e) }
+    ensures { ParsesPart result text.now (GroupsPart ∷ []) (λ r. ParametersSpan text.now r.0.items) input.now (λ r. r.1.now) }
 {
     let mut parameters = Vec::new(alloc);
     if next_kind(input).is_none() {
@@ -163,7 +162,7 @@ struct Group {
 // A group of parameters.
 fn read_group<'t>(alloc: Global, text: &str, input: &'t [Lexeme]) -> Read<'t, Group>
     requires proper { AreProper text.now input.now }
-    ensures { MatchResult result (λ r. PartRead text.now (GroupPart ∷ []) (GroupSpans text.now (group r.0.taking r.0.names.items)) input.now r.1.now) (λ e. Stops text.now 0 (GroupPart ∷ []) input.now e) }
+    ensures { ParsesPart result text.now (GroupPart ∷ []) (λ r. GroupSpans text.now (group r.0.taking r.0.names.items)) input.now (λ r. r.1.now) }
 {
     let Some((kind, rest)) = next_kind(input) else {
         return Err(Stop::Refused(false, input.len()));
@@ -206,7 +205,7 @@ fn add_parameters(
 // The variables of a body: none or more.
 fn read_variables<'t>(alloc: Global, text: &str, input: &'t [Lexeme]) -> Read<'t, Vec<Variable>>
     requires proper { AreProper text.now input.now }
-    ensures { MatchResult result (λ r. PartRead text.now (VariablesPart ∷ []) (VariablesSpan text.now r.0.items) input.now r.1.now) (λ e. Stops text.now 0 (VariablesPart ∷ []) input.now e) }
+    ensures { ParsesPart result text.now (VariablesPart ∷ []) (λ r. VariablesSpan text.now r.0.items) input.now (λ r. r.1.now) }
 {
     let mut variables = Vec::new(alloc);
     let mut rest = input;

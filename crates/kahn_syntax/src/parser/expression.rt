@@ -1,13 +1,13 @@
 //! Expressions.
 
-ghost use Rattle.std.specs.Prelude.{◌≡◌, ℕ, ◌≤◌, ◌+◌, [], ◌∷◌, length, Some, MatchResult};
+ghost use Rattle.std.specs.Prelude.{◌≡◌, ℕ, ◌≤◌, ◌+◌, length, Some};
 ghost use Rattle.kahn_syntax.specs.declared.lexeme.Keyword.TheVariants as keyword;
 ghost use Rattle.kahn_syntax.specs.declared.lexeme.Class.TheVariants as class;
 ghost use Rattle.kahn_syntax.specs.Terminals.{First, AreProper};
 ghost use Rattle.kahn_syntax.specs.Spans.{IsPast};
-ghost use Rattle.kahn_syntax.specs.inner.Reads.{ExpressionRead, ExpressionBefore, Stops};
+ghost use Rattle.kahn_syntax.specs.inner.Reads.{ParsesBefore, ParsesExpression};
 ghost use Rattle.kahn_syntax.specs.inner.Rungs.{whole, denials, relations, factors, tighter, rung_of};
-ghost use Rattle.kahn_syntax.specs.inner.Machine.{ExpressionPart, TokenPart, class_of, token_of};
+ghost use Rattle.kahn_syntax.specs.inner.Machine.{class_of, token_of};
 
 use crate::lexeme::{Class, Keyword, Lexeme, Sign};
 use crate::parser::build::{compared, made};
@@ -27,7 +27,7 @@ pub fn read_expression<'t>(
 ) -> Read<'t, Box<Expression>>
     requires depth { depth ≤ 64 }
     requires proper { AreProper text.now input.now }
-    ensures { MatchResult result (λ r. ExpressionRead text.now depth whole r.0.value input.now r.1.now) (λ e. Stops text.now depth (ExpressionPart whole ∷ []) input.now e) }
+    ensures { ParsesExpression result text.now depth whole (λ r. r.0.value) input.now (λ r. r.1.now) }
 {
     let Some(rest) = past(input, Class::Word(Keyword::If)) else {
         return read_level(alloc, text, input, Level::Or, depth);
@@ -51,7 +51,7 @@ pub fn read_before<'t>(
     requires depth { depth ≤ 64 }
     requires proper { AreProper text.now input.now }
     requires last { class_of (token_of last) ≡ Some (class.Word last) }
-    ensures { MatchResult result (λ r. ExpressionBefore text.now depth last r.0.value input.now r.1.now) (λ e. Stops text.now depth (ExpressionPart whole ∷ TokenPart (token_of last) ∷ []) input.now e) }
+    ensures { ParsesBefore result text.now depth last (λ r. r.0.value) input.now (λ r. r.1.now) }
 {
     let (expression, rest) = read_expression(alloc, text, input, depth)?;
     let rest = expect(rest, Class::Word(last))?;
@@ -69,7 +69,7 @@ fn read_level<'t>(
 ) -> Read<'t, Box<Expression>>
     requires depth { depth ≤ 64 }
     requires proper { AreProper text.now input.now }
-    ensures { MatchResult result (λ r. ExpressionRead text.now depth (rung_of level) r.0.value input.now r.1.now) (λ e. Stops text.now depth (ExpressionPart (rung_of level) ∷ []) input.now e) }
+    ensures { ParsesExpression result text.now depth (rung_of level) (λ r. r.0.value) input.now (λ r. r.1.now) }
 {
     let (first, mut rest) = read_operand(alloc, text, input, level, depth)?;
     let mut further = Vec::new(alloc);
@@ -98,7 +98,7 @@ fn read_operand<'t>(
 ) -> Read<'t, Box<Expression>>
     requires depth { depth ≤ 64 }
     requires proper { AreProper text.now input.now }
-    ensures { MatchResult result (λ r. ExpressionRead text.now depth (tighter (rung_of level)) r.0.value input.now r.1.now) (λ e. Stops text.now depth (ExpressionPart (tighter (rung_of level)) ∷ []) input.now e) }
+    ensures { ParsesExpression result text.now depth (tighter (rung_of level)) (λ r. r.0.value) input.now (λ r. r.1.now) }
 {
     match level {
         Level::Or => read_level(alloc, text, input, Level::And, depth),
@@ -118,7 +118,7 @@ fn read_denial<'t>(
 ) -> Read<'t, Box<Expression>>
     requires depth { depth ≤ 64 }
     requires proper { AreProper text.now input.now }
-    ensures { MatchResult result (λ r. ExpressionRead text.now depth denials r.0.value input.now r.1.now) (λ e. Stops text.now depth (ExpressionPart denials ∷ []) input.now e) }
+    ensures { ParsesExpression result text.now depth denials (λ r. r.0.value) input.now (λ r. r.1.now) }
 {
     let Some(rest) = next_not(input) else {
         return read_relation(alloc, text, input, depth);
@@ -138,7 +138,7 @@ fn read_relation<'t>(
 ) -> Read<'t, Box<Expression>>
     requires depth { depth ≤ 64 }
     requires proper { AreProper text.now input.now }
-    ensures { MatchResult result (λ r. ExpressionRead text.now depth relations r.0.value input.now r.1.now) (λ e. Stops text.now depth (ExpressionPart relations ∷ []) input.now e) }
+    ensures { ParsesExpression result text.now depth relations (λ r. r.0.value) input.now (λ r. r.1.now) }
 {
     let (left, rest) = read_level(alloc, text, input, Level::Sum, depth)?;
     let Some((operator, after)) = next_comparison(rest) else {
@@ -159,7 +159,7 @@ fn read_factor<'t>(
 ) -> Read<'t, Box<Expression>>
     requires depth { depth ≤ 64 }
     requires proper { AreProper text.now input.now }
-    ensures { MatchResult result (λ r. ExpressionRead text.now depth factors r.0.value input.now r.1.now) (λ e. Stops text.now depth (ExpressionPart factors ∷ []) input.now e) }
+    ensures { ParsesExpression result text.now depth factors (λ r. r.0.value) input.now (λ r. r.1.now) }
 {
     match next(input) {
         Some((Class::Number(number), rest)) => made(alloc, input, rest, Form::Number(number)),
@@ -196,7 +196,7 @@ fn read_wait<'t>(
     requires proper { AreProper text.now rest.now }
     requires follows { length input.now ≡ length rest.now + 1 }
     requires passed { IsPast input.now rest.now }
-    ensures { (depth : ℕ) → depth ≤ 64 → MatchResult result (λ r. ExpressionRead text.now depth factors r.0.value input.now r.1.now) (λ e. Stops text.now depth (ExpressionPart factors ∷ []) input.now e) }
+    ensures { (depth : ℕ) → depth ≤ 64 → ParsesExpression result text.now depth factors (λ r. r.0.value) input.now (λ r. r.1.now) }
 {
     let rest = expect(rest, Class::Sign(Sign::Open))?;
     let (name, rest) = read_name(alloc, text, rest)?;

@@ -1,13 +1,12 @@
 //! Names, one and in lists.
 
-ghost use Rattle.std.specs.Prelude.{◌≡◌, ◌+◌, ◌<◌, [], ◌∷◌, ◌⊎◌, false, length, map, IfOk, IfErr, MatchResult};
+ghost use Rattle.std.specs.Prelude.{◌≡◌, ◌+◌, ◌<◌, [], ◌∷◌, ◌⊎◌, false, length, IfOk, IfErr};
 ghost use Rattle.kahn_syntax.specs.declared.parser.cursor.Stop.TheVariants.{Refused, NoMemory};
 ghost use Rattle.kahn_syntax.specs.Terminals.{name, terminals, AreProper};
 ghost use Rattle.kahn_syntax.specs.inner.Machine.{NameToken, leads, names_then};
 ghost use Rattle.kahn_syntax.specs.Drawn.{name_of};
-ghost use Rattle.kahn_syntax.specs.inner.Reads.{PartRead, Stops};
+ghost use Rattle.kahn_syntax.specs.inner.Reads.{ParsesPart};
 ghost use Rattle.kahn_syntax.specs.Spans.{NameSpans, NamesSpan};
-ghost use Rattle.kahn_syntax.specs.Programs.{names_words, AreNames};
 
 use crate::lexeme::{Class, Lexeme, Sign};
 use crate::parser::cursor::{Read, Stop, past};
@@ -47,7 +46,7 @@ pub fn read_name<'t>(alloc: Global, text: &str, input: &'t [Lexeme]) -> Read<'t,
 /// One name or more, with commas between.
 pub fn read_names<'t>(alloc: Global, text: &str, input: &'t [Lexeme]) -> Read<'t, Vec<Name>>
     requires proper { AreProper text.now input.now }
-    ensures { MatchResult result (λ r. PartRead text.now (names_then []) (NamesSpan text.now r.0.items) input.now r.1.now) (λ e. Stops text.now 0 (names_then []) input.now e) }
+    ensures { ParsesPart result text.now (names_then []) (λ r. NamesSpan text.now r.0.items) input.now (λ r. r.1.now) }
 {
     let mut names = Vec::new(alloc);
     let mut rest = input;

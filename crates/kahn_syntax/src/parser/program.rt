@@ -1,17 +1,17 @@
 //! Instances and whole programs.
 
-ghost use Rattle.std.specs.Prelude.{◌≡◌, ◌≤◌, ◌<◌, ◌+◌, [], ◌∷◌, ℕ, ℤ, neg_ℤ, List, false, length, map, IfOk, IfErr, IfSome, IfNone, MatchResult};
+ghost use Rattle.std.specs.Prelude.{◌≡◌, ◌≤◌, ◌<◌, ◌+◌, [], ◌∷◌, ℕ, ℤ, neg_ℤ, List, false, length, map, IfOk, IfErr, IfSome, IfNone};
 ghost use Rattle.kahn_syntax.specs.declared.lexeme.Keyword.TheVariants as keyword;
 ghost use Rattle.kahn_syntax.specs.declared.lexeme.Sign.TheVariants as mark;
 ghost use Rattle.kahn_syntax.specs.Terminals.{Terminal, terminals, AreProper, sign, number};
 ghost use Rattle.kahn_syntax.specs.inner.Machine.{NumberToken, leads, InstancePart, ArgumentsPart, ArgumentPart, TailPart, InstancesTail, LastTail};
 ghost use Rattle.kahn_syntax.specs.Faults.{IsFault};
 ghost use Rattle.kahn_syntax.specs.declared.fault.SyntaxFault.TheVariants as SyntaxFault;
-ghost use Rattle.kahn_syntax.specs.Programs.{ProgramTree, Spells, nesting, Instances, Instantiates, Arguments, Argues, MaybeSemicolon};
+ghost use Rattle.kahn_syntax.specs.Programs.{ProgramTree, Spells, nesting, Instances};
 ghost use Rattle.kahn_syntax.specs.Drawn.{declaration_of, program_of};
 ghost use Rattle.kahn_syntax.specs.declared.lexeme.Lexeme.{Lexeme};
-ghost use Rattle.kahn_syntax.specs.Spans.{IsPast, Takes, MayPart, ArgumentSpans, ArgumentsSpan, InstanceSpans, InstancesSpan, ProgramSpans};
-ghost use Rattle.kahn_syntax.specs.inner.Reads.{Reads, Stops, Halts, PartRead, AreSound};
+ghost use Rattle.kahn_syntax.specs.Spans.{IsPast, MayPart, ArgumentSpans, InstanceSpans, InstancesSpan, ProgramSpans};
+ghost use Rattle.kahn_syntax.specs.inner.Reads.{Reads, Halts, AreSound, ClosedArgumentsSpan, ParsesPart};
 
 use crate::fault::{SyntaxFault, What};
 use crate::lexeme::{Class, Keyword, Lexeme, Sign};
@@ -105,7 +105,7 @@ fn past_semicolon(input: &[Lexeme]) -> &[Lexeme]
 // One instance or more, with `par` between.
 fn read_instances<'t>(alloc: Global, text: &str, input: &'t [Lexeme]) -> Read<'t, Vec<Instance>>
     requires proper { AreProper text.now input.now }
-    ensures { MatchResult result (λ r. PartRead text.now (InstancePart ∷ TailPart InstancesTail ∷ []) (InstancesSpan text.now r.0.items) input.now r.1.now) (λ e. Stops text.now 0 (InstancePart ∷ TailPart InstancesTail ∷ []) input.now e) }
+    ensures { ParsesPart result text.now (InstancePart ∷ TailPart InstancesTail ∷ []) (λ r. InstancesSpan text.now r.0.items) input.now (λ r. r.1.now) }
 {
     let mut instances = Vec::new(alloc);
     let mut rest = input;
@@ -122,7 +122,7 @@ fn read_instances<'t>(alloc: Global, text: &str, input: &'t [Lexeme]) -> Read<'t
 // An instance.
 fn read_instance<'t>(alloc: Global, text: &str, input: &'t [Lexeme]) -> Read<'t, Instance>
     requires proper { AreProper text.now input.now }
-    ensures { MatchResult result (λ r. PartRead text.now (InstancePart ∷ []) (InstanceSpans text.now r.0) input.now r.1.now) (λ e. Stops text.now 0 (InstancePart ∷ []) input.now e) }
+    ensures { ParsesPart result text.now (InstancePart ∷ []) (λ r. InstanceSpans text.now r.0) input.now (λ r. r.1.now) }
 {
     let (process, rest) = read_name(alloc, text, input)?;
     let rest = expect(rest, Class::Sign(Sign::Open))?;
@@ -133,7 +133,7 @@ fn read_instance<'t>(alloc: Global, text: &str, input: &'t [Lexeme]) -> Read<'t,
 // The arguments of an instance, with commas between, and the bracket after them: none or more.
 fn read_arguments<'t>(alloc: Global, text: &str, input: &'t [Lexeme]) -> Read<'t, Vec<Argument>>
     requires proper { AreProper text.now input.now }
-    ensures { MatchResult result (λ r. PartRead text.now (ArgumentsPart ∷ []) (λ xs l. (a : List Lexeme) × ArgumentsSpan text.now r.0.items xs a × Takes text.now (sign mark.Close) a l) input.now r.1.now) (λ e. Stops text.now 0 (ArgumentsPart ∷ []) input.now e) }
+    ensures { ParsesPart result text.now (ArgumentsPart ∷ []) (λ r. ClosedArgumentsSpan text.now r.0.items) input.now (λ r. r.1.now) }
 {
     let mut arguments = Vec::new(alloc);
     if let Some(rest) = past(input, Class::Sign(Sign::Close)) {
@@ -154,7 +154,7 @@ fn read_arguments<'t>(alloc: Global, text: &str, input: &'t [Lexeme]) -> Read<'t
 // An argument.
 fn read_argument<'t>(alloc: Global, text: &str, input: &'t [Lexeme]) -> Read<'t, Argument>
     requires proper { AreProper text.now input.now }
-    ensures { MatchResult result (λ r. PartRead text.now (ArgumentPart ∷ []) (ArgumentSpans text.now r.0) input.now r.1.now) (λ e. Stops text.now 0 (ArgumentPart ∷ []) input.now e) }
+    ensures { ParsesPart result text.now (ArgumentPart ∷ []) (λ r. ArgumentSpans text.now r.0) input.now (λ r. r.1.now) }
 {
     match next(input) {
         Some((Class::Number(number), rest)) => Ok((

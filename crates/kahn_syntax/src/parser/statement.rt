@@ -1,12 +1,12 @@
 //! Statements.
 
-ghost use Rattle.std.specs.Prelude.{◌≡◌, ◌≤◌, ◌+◌, [], ◌∷◌, true, length, MatchResult};
+ghost use Rattle.std.specs.Prelude.{◌≡◌, ◌≤◌, ◌+◌, true, length};
 ghost use Rattle.kahn_syntax.specs.declared.lexeme.Keyword.TheVariants as keyword;
 ghost use Rattle.kahn_syntax.specs.declared.lexeme.Class.TheVariants as class;
 ghost use Rattle.kahn_syntax.specs.Terminals.{terminals, First, AreProper};
 ghost use Rattle.kahn_syntax.specs.Spans.{IsPast};
-ghost use Rattle.kahn_syntax.specs.inner.Reads.{StatementRead, StatementsRead, Stops};
-ghost use Rattle.kahn_syntax.specs.inner.Machine.{NameToken, leads, StatementsTail, StatementPart, SimplePart, TailPart};
+ghost use Rattle.kahn_syntax.specs.inner.Reads.{ParsesStatement, ParsesStatements};
+ghost use Rattle.kahn_syntax.specs.inner.Machine.{NameToken, leads, StatementPart, SimplePart};
 
 use crate::lexeme::{Class, Keyword, Lexeme, Sign};
 use crate::parser::build::{block, if_else, if_then, repeated, while_do};
@@ -26,7 +26,7 @@ pub fn read_statements<'t>(
 ) -> Read<'t, Vec<Statement>>
     requires depth { depth ≤ 64 }
     requires proper { AreProper text.now input.now }
-    ensures { MatchResult result (λ r. StatementsRead text.now depth r.0.items input.now r.1.now) (λ e. Stops text.now depth (StatementPart ∷ TailPart StatementsTail ∷ []) input.now e) }
+    ensures { ParsesStatements result text.now depth (λ r. r.0.items) input.now (λ r. r.1.now) }
 {
     let mut statements = Vec::new(alloc);
     let mut rest = input;
@@ -50,7 +50,7 @@ fn read_statement<'t>(
 ) -> Read<'t, Statement>
     requires depth { depth ≤ 64 }
     requires proper { AreProper text.now input.now }
-    ensures { MatchResult result (λ r. StatementRead text.now depth StatementPart r.0 input.now r.1.now) (λ e. Stops text.now depth (StatementPart ∷ []) input.now e) }
+    ensures { ParsesStatement result text.now depth StatementPart (λ r. r.0) input.now (λ r. r.1.now) }
 {
     match next(input) {
         Some((Class::Word(Keyword::If), rest)) => read_if(alloc, text, input, rest, depth),
@@ -83,7 +83,7 @@ fn read_if<'t>(
     requires depth { depth ≤ 64 }
     requires proper { AreProper text.now rest.now }
     requires passed { IsPast input.now rest.now }
-    ensures { MatchResult result (λ r. StatementRead text.now depth StatementPart r.0 input.now r.1.now) (λ e. Stops text.now depth (StatementPart ∷ []) input.now e) }
+    ensures { ParsesStatement result text.now depth StatementPart (λ r. r.0) input.now (λ r. r.1.now) }
 {
     let inner = deeper(input, depth)?;
     let (test, rest) = read_before(alloc, text, rest, inner, Keyword::Then)?;
@@ -106,7 +106,7 @@ fn read_inner<'t>(
 ) -> Read<'t, Box<Statement>>
     requires depth { depth ≤ 64 }
     requires proper { AreProper text.now input.now }
-    ensures { MatchResult result (λ r. StatementRead text.now depth StatementPart r.0.value input.now r.1.now) (λ e. Stops text.now depth (StatementPart ∷ []) input.now e) }
+    ensures { ParsesStatement result text.now depth StatementPart (λ r. r.0.value) input.now (λ r. r.1.now) }
 {
     let (statement, rest) = read_statement(alloc, text, input, depth)?;
     let boxed = Box::new(alloc, statement)?;
@@ -123,7 +123,7 @@ fn read_simple<'t>(
 ) -> Read<'t, Statement>
     requires depth { depth ≤ 64 }
     requires proper { AreProper text.now input.now }
-    ensures { MatchResult result (λ r. StatementRead text.now depth SimplePart r.0 input.now r.1.now) (λ e. Stops text.now depth (SimplePart ∷ []) input.now e) }
+    ensures { ParsesStatement result text.now depth SimplePart (λ r. r.0) input.now (λ r. r.1.now) }
 {
     match next(input) {
         Some((Class::Name, _)) => read_assign(alloc, text, input, depth),
@@ -164,7 +164,7 @@ fn read_assign<'t>(
     requires depth { depth ≤ 64 }
     requires proper { AreProper text.now input.now }
     requires named { leads NameToken (terminals text.now input.now) ≡ true }
-    ensures { MatchResult result (λ r. StatementRead text.now depth SimplePart r.0 input.now r.1.now) (λ e. Stops text.now depth (SimplePart ∷ []) input.now e) }
+    ensures { ParsesStatement result text.now depth SimplePart (λ r. r.0) input.now (λ r. r.1.now) }
 {
     let (name, rest) = read_name(alloc, text, input)?;
     let rest = expect(rest, Class::Sign(Sign::Becomes))?;
@@ -191,7 +191,7 @@ fn read_send<'t>(
     requires depth { depth ≤ 64 }
     requires proper { AreProper text.now rest.now }
     requires passed { IsPast input.now rest.now }
-    ensures { MatchResult result (λ r. StatementRead text.now depth SimplePart r.0 input.now r.1.now) (λ e. Stops text.now depth (SimplePart ∷ []) input.now e) }
+    ensures { ParsesStatement result text.now depth SimplePart (λ r. r.0) input.now (λ r. r.1.now) }
 {
     let (value, rest) = read_before(alloc, text, rest, depth, Keyword::On)?;
     let (name, rest) = read_name(alloc, text, rest)?;

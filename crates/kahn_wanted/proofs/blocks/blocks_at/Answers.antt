@@ -1,0 +1,19 @@
+use Rattle.std.proofs.Common.{sym, subst}
+use Rattle.std.proofs.lemmas.Result.{IfOk-weaker}
+use Rattle.kahn_syntax.specs.declared.fault.SyntaxFault.TheVariants.{Expected}
+use Rattle.kahn_syntax.specs.Faults.{IsFault}
+use Rattle.kahn_syntax.specs.Texts.{AreLexemes}
+use Rattle.kahn_wanted.specs.Blocks.{AreBlocksAt, AreBlocksOf}
+use Rattle.kahn_wanted.proofs.Front.{of_lexemes}
+use Rattle.kahn_wanted.proofs.blocks.blocks_at.Goals as goal
+
+pub blocks_of-requires : goal.blocks_of-requires
+blocks_of-requires c =
+    let text = c.args.text.now in
+    subst (λ l. IsFault text l (Expected c.args.span c.args.what)) (sym c.deref.ensures.value) (of_lexemes text c.in-Ok.lexemes.items c.args.span c.args.what c.in-Ok.ensures.lexed c.requires)
+
+pub returns : goal.returns
+returns c =
+    let text = c.args.text.now in
+    IfOk-weaker c.blocks_of.result (AreBlocksAt text c.deref.result.now c.args.span c.args.what) (AreBlocksOf text c.args.span c.args.what)
+    (λ b h. (c.deref.result.now, subst (AreLexemes text) (sym c.deref.ensures.value) c.in-Ok.ensures.lexed, h)) c.blocks_of.ensures
