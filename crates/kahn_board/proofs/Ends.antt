@@ -10,7 +10,7 @@ use Rattle.kahn_board.specs.Counts.{is_up, below}
 use Rattle.kahn_board.specs.Place.{Place, ready, held, parked, over, total}
 use Rattle.kahn_board.specs.Rule.{St, Deal, spent, all_parts, published, budget, halted, IsHome, Whole, AllLeft}
 use Rattle.kahn_board.specs.Cuts.{IsFree}
-use Rattle.kahn_board.specs.Closing.{IsAtRest, Closes}
+use Rattle.kahn_board.specs.Closing.{IsQuietCell, Closes}
 use Rattle.kahn_board.specs.declared.view.View.{View}
 use Rattle.kahn_board.proofs.Sums.{terms_le}
 use Rattle.kahn_board.proofs.Turns.{quiet_here, all_none}
@@ -48,7 +48,7 @@ module _ {T : Type 0} (told : T → Option Tale) (belongs : ℕ → T → Type 0
       (id, v, me, one),
     )
 
-    at_rest : (p : ℕ) (y : T) (x : Place) (cells : List (Option T)) → ((q : ℕ) (z : T) → q < w.instances → get_elem? cells q ≡ some (Some z) → IsHome s q z) → halted w s.words ≡ 0 → p < w.instances → IsHome s p y → a.place p ≡ x → is_up x ≡ 0 → IsAtRest told belongs w d cells p y
+    at_rest : (p : ℕ) (y : T) (x : Place) (cells : List (Option T)) → ((q : ℕ) (z : T) → q < w.instances → get_elem? cells q ≡ some (Some z) → IsHome s q z) → halted w s.words ≡ 0 → p < w.instances → IsHome s p y → a.place p ≡ x → is_up x ≡ 0 → IsQuietCell told belongs w d cells p y
     at_rest p y ready cells back not_halted inside home is z = absurd (omega arith)
     at_rest p y (held j) cells back not_halted inside home is z = absurd (omega arith)
     at_rest p y (parked c) cells back not_halted inside home is z = let t = a.ruled.parking.reads p c inside is in
@@ -74,7 +74,7 @@ module _ {T : Type 0} (told : T → Option Tale) (belongs : ℕ → T → Type 0
         (λ apart. absurd (omega (arith, t.3, ap (λ (k : View). k.seen) (others_spent t.0 t.1 apart t.2))))
 
     pub by_done : (cells : List (Option T)) → ((q : ℕ) (z : T) → q < w.instances → get_elem? cells q ≡ some (Some z) → IsHome s q z) → v.stage ≡ 1
-        → (halted w s.words ≢ 0) ⊎ ((budget w s.words ≡ 0) ⊎ ((p : ℕ) (y : T) → p < w.instances → get_elem? cells p ≡ some (Some y) → IsAtRest told belongs w d cells p y))
+        → (halted w s.words ≢ 0) ⊎ ((budget w s.words ≡ 0) ⊎ ((p : ℕ) (y : T) → p < w.instances → get_elem? cells p ≡ some (Some y) → IsQuietCell told belongs w d cells p y))
     by_done cells back one = dite (ℕ_discrete (halted w s.words) 0)
         (λ not_halted. ⊎_elim (λ h. absurd (h not_halted)) (λ t. ⊎_elim
         (λ quiet_now. inr (inr (λ p y inside there. at_rest p y (a.place p) cells back not_halted inside (back p y inside there) refl ((quiet_here told belongs w d s a.place a.ruled a.reckoned.counted quiet_now).0 p inside))))

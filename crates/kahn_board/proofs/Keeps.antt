@@ -9,7 +9,7 @@ use Rattle.atomic_table.proofs.Lists.{at_set}
 use Rattle.kahn_board.specs.Tale.{Tale, TellsWait, TellsEnd, flushed_of}
 use Rattle.kahn_board.specs.Wires.{Wires}
 use Rattle.kahn_board.specs.Place.{Place, held, parked, over, word_code, held_by, mark_of, moved}
-use Rattle.kahn_board.specs.Rule.{St, published, IsHome, Stands, OnePair, Parked, Known, Parts, Ruled}
+use Rattle.kahn_board.specs.Rule.{St, published, IsHome, HasSlot, OnePair, Parked, Known, Parts, Ruled}
 use Rattle.kahn_board.specs.declared.view.View.{View}
 use Rattle.kahn_board.proofs.Moved.{at_moved, held_yes, is_held, held_apart}
 use Rattle.kahn_board.proofs.Sums.{total-set, there}
@@ -27,7 +27,7 @@ module _ {T : Type 0} (told : T → Option Tale) (w : Wires) where
     pub hands_are : (q : ℕ) → q < w.instances → get_or v'.hands q 0 ≡ held_by id (moved place p x q)
     pub not_theirs : (j : ℕ) → j ≢ id → held_by j x ≡ held_by j (place p)
     pub only_mine : (j : ℕ) → x ≡ held j → j ≡ id
-    pub stands : Stands x (get_elem? hs p)
+    pub stands : HasSlot x (get_elem? hs p)
     pub elsewhere : (q : ℕ) → q ≢ p → get_elem? hs q ≡ get_elem? s.homes q
     pub marks : (c : ℕ) → c < w.channels → get_or ws (8 * (w.instances + c)) 0 % 2 ≡ mark_of (moved place p x) (w.reader c) c
     pub reads : (c : ℕ) → x ≡ parked c → (c < w.channels) × (w.reader c ≡ Some p)
@@ -40,8 +40,8 @@ module _ {T : Type 0} (told : T → Option Tale) (w : Wires) where
     pub alive : 0 < v.parts
     pub parts : v'.parts ≡ v.parts
 
-  not_home : (s : St T) (q j : ℕ) (y : T) (x : Place) → Stands x (get_elem? s.homes q) → x ≡ held j → IsHome s q y → ⊥
-  not_home s q j y x stands is home = some-ne-none (Some y) (some-injective (some (Some y)) none (sym home ∙ subst (λ (k : Place). Stands k (get_elem? s.homes q)) is stands))
+  not_home : (s : St T) (q j : ℕ) (y : T) (x : Place) → HasSlot x (get_elem? s.homes q) → x ≡ held j → IsHome s q y → ⊥
+  not_home s q j y x stands is home = some-ne-none (Some y) (some-injective (some (Some y)) none (sym home ∙ subst (λ (k : Place). HasSlot k (get_elem? s.homes q)) is stands))
 
   module _ (s : St T) (place : ℕ → Place) (r : Ruled told w place s) (id p : ℕ) (v v' : View) (x : Place) (ws : List ℕ) (hs : List (maybe.Option (Option T))) (m : Move s place id p v v' x ws hs) where
     abbrev after : St T
@@ -60,7 +60,7 @@ module _ {T : Type 0} (told : T → Option Tale) (w : Wires) where
       seated = λ q j h. at_moved (λ k y. k < w.instances → y ≡ held j → j < length after.views) place p x q
           (λ l is. let near = there s.views id v m.mine in let e = m.only_mine j is in omega (arith, length-set s.views id v'))
           (λ ne l is. omega (arith, length-set s.views id v', r.one_pair.seated q j l is)) h;
-      cell_is = λ q h. at_moved (λ k y. k < w.instances → Stands y (get_elem? hs k)) place p x q (λ l. m.stands) (λ ne l. subst (Stands (place q)) (sym (m.elsewhere q ne)) (r.one_pair.cell_is q l)) h;
+      cell_is = λ q h. at_moved (λ k y. k < w.instances → HasSlot y (get_elem? hs k)) place p x q (λ l. m.stands) (λ ne l. subst (HasSlot (place q)) (sym (m.elsewhere q ne)) (r.one_pair.cell_is q l)) h;
     }
 
     parking_kept : Parked told w place' after

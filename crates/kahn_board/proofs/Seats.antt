@@ -4,7 +4,7 @@ use Rattle.atomic_table.specs.Seated.{TableId}
 use Rattle.atomic_table.specs.Table.{rest, turned as shifted}
 use Rattle.kahn_board.specs.Tale.{Tale}
 use Rattle.kahn_board.specs.Wires.{Wires}
-use Rattle.kahn_board.specs.Hands.{Lists, Facts, Carries}
+use Rattle.kahn_board.specs.Hands.{ListsHands, Facts, Carries}
 use Rattle.kahn_board.specs.Place.{total, only}
 use Rattle.kahn_board.proofs.Moved.{only_yes}
 use Rattle.kahn_board.specs.Plays.{Sat, noted, took, gave, waking, Got, GaveUp}
@@ -14,7 +14,7 @@ use Rattle.std.proofs.lemmas.List.{length-replicate}
 use Rattle.kahn_board.proofs.Steps.{Fit}
 use Rattle.kahn_board.proofs.Counting.{inside_of, has_room, took_one, put_once, gave_one, turned_one}
 
-lists_turned : (items hands : List ℕ) → 0 < length items → Lists items hands → Lists (drop 1 items ++ get_or items 0 0 ∷ []) hands
+lists_turned : (items hands : List ℕ) → 0 < length items → ListsHands items hands → ListsHands (drop 1 items ++ get_or items 0 0 ∷ []) hands
 lists_turned [] hands h l = absurd (omega arith)
 lists_turned (x ∷ xs) hands h l = turned_one xs hands x l
 
@@ -106,7 +106,7 @@ module _ {T : Type 0} (told : T → Option Tale) (w : Wires) where
   pub facts_gave : (m m' : Sat T) (z z' : TableId) (items items' : List ℕ) (room room' p more r : ℕ) (x : Option T) (y : T) → Facts m z items room → z' ≡ z → m.1 ≡ (p, x) ∷ rest m.1 → GaveUp told w m p more r m' y → items' ≡ drop 1 items → room' ≡ room → Facts m' z' items' room'
   facts_gave m m' z z' items items' room room' p more r x y f same first given is_items same_room =
       let listed : items ≡ p ∷ numbers (rest m.1) = sym f.3 ∙ ap (λ (c : Slots T). numbers c) first in
-      let mine : Lists (p ∷ numbers (rest m.1)) m.0.hands = subst (λ (l : List ℕ). Lists l m.0.hands) listed f.4 in
+      let mine : ListsHands (p ∷ numbers (rest m.1)) m.0.hands = subst (λ (l : List ℕ). ListsHands l m.0.hands) listed f.4 in
       let inside : p < length m.0.hands = inside_of m.0.hands p (omega (arith, mine p, only_yes p)) in
       let now : Facts (gave m.0 p (told y) more r, rest m.1) z (numbers (rest m.1)) room = (
         f.0,

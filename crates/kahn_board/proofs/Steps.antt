@@ -19,7 +19,7 @@ use Rattle.atomic_table.proofs.Lists.{at_set, set_here, set_else, exchanged}
 use Rattle.kahn_board.specs.Tale.{Tale, TellsWait, TellsEnd, FlushedAll, flushed_of}
 use Rattle.kahn_board.specs.Wires.{Wires}
 use Rattle.kahn_board.specs.Place.{Place, ready, held, parked, over, word_code, held_by, parked_on, mark_of, moved}
-use Rattle.kahn_board.specs.Rule.{St, published, IsHome, Stands, Ruled}
+use Rattle.kahn_board.specs.Rule.{St, published, IsHome, HasSlot, Ruled}
 use Rattle.kahn_board.specs.Plays.{Sat, noted, IsIn, claimed, set_down, parked_or_not, publishes}
 use Rattle.kahn_board.specs.declared.view.View.{View}
 use Rattle.kahn_board.proofs.Moved.{moved_here, at_moved, held_yes, held_no, is_held, held_apart, parked_yes, parked_no, is_parked, parked_apart, code_ready}
@@ -142,7 +142,7 @@ module _ {T : Type 0} (told : T → Option Tale) (w : Wires) where
       → ((q : ℕ) → q < w.instances → get_or (set s.words i k) (8 * q) 0 ≡ word_code (moved place p x q))
       → ((c : ℕ) → c < w.channels → get_or (set s.words i k) (8 * (w.instances + c)) 0 % 2 ≡ mark_of (moved place p x) (w.reader c) c)
       → ((c : ℕ) → c < w.channels → published w (set s.words i k) c ≡ published w s.words c)
-      → Stands x (some (some (Some y)))
+      → HasSlot x (some (some (Some y)))
       → ((c : ℕ) → x ≡ parked c → (c < w.channels) × (w.reader c ≡ Some p) × TellsWait (told y) c (published w (set s.words i k) c))
       → (x ≡ over → TellsEnd (told y))
       → ((c l : ℕ) → flushed_of (told y) c ≡ Some l → (c < w.channels) × (w.writer c ≡ Some p) × (l ≡ get_or v.flushed c 0))
@@ -160,7 +160,7 @@ module _ {T : Type 0} (told : T → Option Tale) (w : Wires) where
             (λ _. get_or-set_same v.hands p 0 0 (omega (arith, fit.hands_long)) ∙ sym (free id)) (λ ne l. get_or-set_other v.hands p q 0 0 ne ∙ r.one_pair.hands_are id v me q l) h;
         not_theirs = λ j ne. free j ∙ sym (ap (held_by j) is ∙ held_no j id (λ e. ne (sym e)));
         only_mine = λ j e. absurd (omega (arith, ap (held_by j) e, free j, held_yes j));
-        stands = subst (Stands x) (sym here) stands;
+        stands = subst (HasSlot x) (sym here) stands;
         elsewhere = λ q ne. set_else s.homes p q (some (Some y)) ne;
         marks = marks;
         reads = λ c e. let t = waits c e in (t.0, t.1);
@@ -220,7 +220,7 @@ module _ {T : Type 0} (told : T → Option Tale) (belongs : ℕ → T → Type 0
       exchanged x 0 1 (Goes s (8 * p) id m then)
       (λ hit.
       let is : place p ≡ ready = code_ready (place p) (sym (r.one_pair.word_is p inside) ∙ hit) in
-      let cell = subst (λ (z : Place). Stands z (get_elem? s.homes p)) is (r.one_pair.cell_is p inside) in
+      let cell = subst (λ (z : Place). HasSlot z (get_elem? s.homes p)) is (r.one_pair.cell_is p inside) in
       let y : T = cell.0 in let ws = set s.words (8 * p) 1 in let L : List ℕ = halves w ws in
       let wide' = r.wide in let e : ℕ = a.reckoned.tally p in let saw_it = sees s a id m.0 p y me inside cell.1 in let seen : ℕ = saw_it.0 in
       let v' : View = took m.0 p L e seen 0 in
@@ -265,7 +265,7 @@ module _ {T : Type 0} (told : T → Option Tale) (belongs : ℕ → T → Type 0
   claims_at n id m p p' said fit inside same = subst (λ (k : ℕ). Allows (Whole told belongs w d) n id m (8 * p) (λ y. either (eqb y 0) 1 y) (claimed told belongs w k (step n (8 * p) 0 1 said) m)) (sym same) (claims n id m p said fit inside)
 
   pub sets_down : (n id : ℕ) (v : View) (more : List (ℕ × Option T)) (p : ℕ) (y : T) (x : Place) (new : ℕ) → Fit told w (v, (p, Some y) ∷ more) → p < w.instances → IsIn v p
-      → new ≡ word_code x → ((j : ℕ) → held_by j x ≡ 0) → ((c : ℕ) → parked_on c x ≡ 0) → Stands x (some (some (Some y))) → (x ≡ over → TellsEnd (told y)) → is_up x + new / 2 ≡ 1 → Leaves told belongs w v p y → v.down < 2 ^ 32
+      → new ≡ word_code x → ((j : ℕ) → held_by j x ≡ 0) → ((c : ℕ) → parked_on c x ≡ 0) → HasSlot x (some (some (Some y))) → (x ≡ over → TellsEnd (told y)) → is_up x + new / 2 ≡ 1 → Leaves told belongs w v p y → v.down < 2 ^ 32
       → Allows (Whole told belongs w d) n id (v, (p, Some y) ∷ more) (8 * p) (λ _. new) (λ _. set_down told w p (step n (8 * p) new 0 none) (v, (p, Some y) ∷ more) new)
   sets_down n id v more p y x new fit inside is_in codes free unparked stands ends ups leaves few s a wide me _ = let place = a.place in let r = a.ruled in let wide' = r.wide in let ws = set s.words (8 * p) new in
       let is = mine_is told w s place r id (v, []) p me inside is_in in (
@@ -341,7 +341,7 @@ module _ {T : Type 0} (told : T → Option Tale) (belongs : ℕ → T → Type 0
       (λ e. subst (λ (k : ℕ). get_or (set m.0.flushed c (new / 2)) k 0 ≡ published w ws k) (sym e) (get_or-set_same m.0.flushed c (new / 2) 0 (omega (arith, fit.flushed_long)) ∙ ap half (sym now)))
       (λ ne. get_or-set_other m.0.flushed c d (new / 2) 0 ne ∙ (r.known id m.0 me q d h one near_d wr ∙ sym (elsewhere_same d ne))) in
       dite (ℕ_discrete (x % 2) 0)
-      (λ even. let cell = subst (λ (z : Place). Stands z (get_elem? s.homes q₀)) is (r.one_pair.cell_is q₀ writer_in) in let v' : View = noted (told_of m.0 c (new / 2)) x in
+      (λ even. let cell = subst (λ (z : Place). HasSlot z (get_elem? s.homes q₀)) is (r.one_pair.cell_is q₀ writer_in) in let v' : View = noted (told_of m.0 c (new / 2)) x in
       let stay : (q : ℕ) → moved place q₀ (held id) q ≡ place q = λ q. at_moved (λ k z. z ≡ place k) place q₀ (held id) q (sym is) (λ _. refl) in
       let unmarked : (d : ℕ) → mark_of (moved place q₀ (held id)) (w.reader d) d ≡ mark_of place (w.reader d) d = λ d. mark_same place q₀ (held id) (w.reader d) d (sym (ap (parked_on d) is)) in
       let hots = hot told belongs w d s.words i new (omega arith) in (
@@ -401,7 +401,7 @@ module _ {T : Type 0} (told : T → Option Tale) (belongs : ℕ → T → Type 0
       ))
       (λ not_even. let odd : x % 2 ≡ 1 = omega arith in let t = marked place (w.reader c) c (sym (r.parking.marks c near) ∙ (ap (λ (k : ℕ). k % 2) x_is ∙ odd)) in
       let p : ℕ = t.0 in let on_c : place p ≡ parked c = t.2 in let inside : p < w.instances = reader_in p t.1 in
-      let cell = subst (λ (z : Place). Stands z (get_elem? s.homes p)) on_c (r.one_pair.cell_is p inside) in let y : T = cell.0 in let L : List ℕ = halves w ws in
+      let cell = subst (λ (z : Place). HasSlot z (get_elem? s.homes p)) on_c (r.one_pair.cell_is p inside) in let y : T = cell.0 in let L : List ℕ = halves w ws in
       let e : ℕ = a.reckoned.tally p in let saw_it = sees s a id m.0 p y me inside cell.1 in let seen : ℕ = saw_it.0 in
       let free : get_or m.0.hands p 0 ≡ 0 = r.one_pair.hands_are id m.0 me p inside ∙ ap (held_by id) on_c in
       let v' : View = took (waking m.0 c (new / 2) p q₀) p L e seen x in (

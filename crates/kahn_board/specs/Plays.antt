@@ -71,8 +71,8 @@ abbrev pub leaves_as : View → ℕ
 leaves_as v = cond (burden v == 0) 1 2
 
 -- the numbers L are those of v where v has the writer
-abbrev pub Agrees : Wires → View → List ℕ → Type 0
-Agrees w v L = (q c : ℕ) → q < w.instances → c < w.channels → IsIn v q → w.writer c ≡ Some q → slice_index L c ≡ slice_index v.flushed c
+abbrev pub AgreesOnFlushed : Wires → View → List ℕ → Type 0
+AgreesOnFlushed w v L = (q c : ℕ) → q < w.instances → c < w.channels → IsIn v q → w.writer c ≡ Some q → slice_index L c ≡ slice_index v.flushed c
 
 -- a seat that has seen nothing less than before, or knows that the run is halted
 abbrev pub SeesMore : ℕ → ℕ → Type 0
@@ -99,7 +99,7 @@ module _ {T : Type 0} (told : T → Option Tale) (belongs : ℕ → T → Type 0
   -- its events and those drawn are a number of 48 bits
   abbrev pub Got : Sat T → ℕ → ℕ → Sat T → T → Type 0
   Got m p r n y = (L : List ℕ) × (e : ℕ) × (seen : ℕ) × (n ≡ (took m.0 p L e seen r, (p, Some y) ∷ m.1)) × (slice_index m.0.hands p ≡ 0) × (length L ≡ length m.0.flushed)
-      × Agrees w m.0 L × ((c k : ℕ) → flushed_of (told y) c ≡ Some k → (w.writer c ≡ Some p) × (c < w.channels) × (k ≡ slice_index L c))
+      × AgreesOnFlushed w m.0 L × ((c k : ℕ) → flushed_of (told y) c ≡ Some k → (w.writer c ≡ Some p) × (c < w.channels) × (k ≡ slice_index L c))
       × TellsEvents (told y) e × SeesMore m.0.seen seen × ((seen ≡ 2) ⊎ FlushedAll (told y)) × belongs p y
       × (slice_index (slice_set m.0.got p e) p + m.0.drawn < 2 ^ 48)
 
@@ -121,8 +121,8 @@ module _ {T : Type 0} where
   MayStep holds z s word old new f play = (s.table_id ≡ z) × (word < z.words) × Allows holds z.slots s.id s.me word f (play (step z.slots word old new none) s.me)
 
   -- it stepped, and the word was r at a moment of the call
-  abbrev pub HasStepped : (St T → Type 0) → TableId → shared.Seat (Option T) View → shared.Seat (Option T) View → ℕ → ℕ → ℕ → Play T → ℕ → Type 0
-  HasStepped holds z s t word old new play r =
+  abbrev pub HasPlayed : (St T → Type 0) → TableId → shared.Seat (Option T) View → shared.Seat (Option T) View → ℕ → ℕ → ℕ → Play T → ℕ → Type 0
+  HasPlayed holds z s t word old new play r =
       (t.table_id ≡ s.table_id) × (t.id ≡ s.id) × at_moment holds s.id play (step z.slots word old new none) s.me r t.me
 
   abbrev pub looked : Play T

@@ -98,18 +98,18 @@ module _ {T : Type 0} where
   IsHome s p y = get_elem? s.homes p ≡ some (some (Some y))
 
   -- a held cell's slot is out with the seat, any other is at home
-  abbrev pub Stands : Place → Option (Option (std.Option T)) → Type 0
-  Stands ready h = (y : T) × (h ≡ some (some (Some y)))
-  Stands (held j) h = h ≡ some none
-  Stands (parked c) h = (y : T) × (h ≡ some (some (Some y)))
-  Stands over h = (y : T) × (h ≡ some (some (Some y)))
+  abbrev pub HasSlot : Place → Option (Option (std.Option T)) → Type 0
+  HasSlot ready h = (y : T) × (h ≡ some (some (Some y)))
+  HasSlot (held j) h = h ≡ some none
+  HasSlot (parked c) h = (y : T) × (h ≡ some (some (Some y)))
+  HasSlot over h = (y : T) × (h ≡ some (some (Some y)))
 
   -- each instance is in one state, and held by one seat only, which alone can reach its cell
   pub record OnePair (w : Wires) (place : ℕ → Place) (s : St T) : Type 0 where
     pub word_is : (p : ℕ) → p < w.instances → slice_index s.words (8 * p) ≡ word_code (place p)
     pub hands_are : (j : ℕ) (v : View) → get_elem? s.views j ≡ some v → (p : ℕ) → p < w.instances → slice_index v.hands p ≡ held_by j (place p)
     pub seated : (p j : ℕ) → p < w.instances → place p ≡ held j → j < length s.views
-    pub cell_is : (p : ℕ) → p < w.instances → Stands (place p) (get_elem? s.homes p)
+    pub cell_is : (p : ℕ) → p < w.instances → HasSlot (place p) (get_elem? s.homes p)
 
   -- where p is parked on c, p reads c, waits on it and took what is published; what a cell at home tells as flushed is published
   pub record Parked (told : T → std.Option Tale) (w : Wires) (place : ℕ → Place) (s : St T) : Type 0 where

@@ -34,7 +34,7 @@ pub struct Board<T: Told> {
 
 impl<T: Told> Board<T> {
     ghost use prog.Atomic.{either};
-    ghost use Rattle.kahn_board.specs.Plays.{HasStepped, MayStep};
+    ghost use Rattle.kahn_board.specs.Plays.{HasPlayed, MayStep};
 
     // A load: the word was so at a moment of the call.
     fn load<P: Play<Option<T>, View>>(
@@ -43,7 +43,7 @@ impl<T: Told> Board<T> {
         word: usize,
     ) -> u64
         requires { MayStep (holds T.told T.after self.now.table.shared.key) self.now.table.shared.table_id seat.old word 0 0 (λ n. n) P.then }
-        ensures { HasStepped (holds T.told T.after self.now.table.shared.key) self.now.table.shared.table_id seat.old seat.new word 0 0 P.then result }
+        ensures { HasPlayed (holds T.told T.after self.now.table.shared.key) self.now.table.shared.table_id seat.old seat.new word 0 0 P.then result }
     {
         self.table.shared.load::<Brand>(seat, word)
     }
@@ -56,7 +56,7 @@ impl<T: Told> Board<T> {
         number: u64,
     ) -> u64
         requires { MayStep (holds T.told T.after self.now.table.shared.key) self.now.table.shared.table_id seat.old word 0 0 (λ n. n) P.then }
-        ensures { HasStepped (holds T.told T.after self.now.table.shared.key) self.now.table.shared.table_id seat.old seat.new word 0 0 P.then result }
+        ensures { HasPlayed (holds T.told T.after self.now.table.shared.key) self.now.table.shared.table_id seat.old seat.new word 0 0 P.then result }
     {
         let _number = number;
         self.load::<P>(seat, word)
@@ -71,7 +71,7 @@ impl<T: Told> Board<T> {
         new: u64,
     ) -> u64
         requires { MayStep (holds T.told T.after self.now.table.shared.key) self.now.table.shared.table_id seat.old word old new (λ n. either (n == old) new n) P.then }
-        ensures { HasStepped (holds T.told T.after self.now.table.shared.key) self.now.table.shared.table_id seat.old seat.new word old new P.then result }
+        ensures { HasPlayed (holds T.told T.after self.now.table.shared.key) self.now.table.shared.table_id seat.old seat.new word old new P.then result }
     {
         self.table
             .shared
@@ -86,7 +86,7 @@ impl<T: Told> Board<T> {
         k: u64,
     ) -> u64
         requires { MayStep (holds T.told T.after self.now.table.shared.key) self.now.table.shared.table_id seat.old word k 0 (λ n. (n + (2 ^ 64 - k)) % 2 ^ 64) P.then }
-        ensures { HasStepped (holds T.told T.after self.now.table.shared.key) self.now.table.shared.table_id seat.old seat.new word k 0 P.then result }
+        ensures { HasPlayed (holds T.told T.after self.now.table.shared.key) self.now.table.shared.table_id seat.old seat.new word k 0 P.then result }
     {
         self.table.shared.fetch_sub::<Brand>(seat, word, k)
     }
@@ -120,7 +120,7 @@ pub struct Seat<T> {
 }
 
 impl<T: Told> Seat<T> {
-    ghost use Rattle.kahn_board.specs.Calls.{Claims, LooksAt, IsSameSeat, IsFirst, KeepsAll, Swaps, MayLeave, OwesFew, GivesUp, Parks, Publishes, Draws, Uses, GivesBack, CountsUp, CountsDown, Halts, Looks};
+    ghost use Rattle.kahn_board.specs.Calls.{Claims, LooksAt, IsSameSeat, IsFirstSlot, KeepsAll, Swaps, MayLeave, OwesFew, GivesUp, Parks, Publishes, Draws, Uses, GivesBack, CountsUp, CountsDown, HasRaisedHalt, Looks};
     ghost use Rattle.kahn_board.specs.Tale.{TellsEnd, TellsWait};
     ghost use Rattle.kahn_board.specs.declared.board.Rest.TheVariants.{Over};
     ghost use Rattle.kahn_board.specs.Plays.{IsIn};
@@ -174,7 +174,7 @@ impl<T: Told> Seat<T> {
     fn bring(&mut self, p: usize)
         requires { IsIn self.old.seat.me.0 p }
         ensures same { IsSameSeat self.old self.new × (self.new.seat.me.0 ≡ self.old.seat.me.0) }
-        ensures first { IsFirst self.new p }
+        ensures first { IsFirstSlot self.new p }
         ensures kept { KeepsAll self.old self.new }
     {
         while self.first() != p {
@@ -332,7 +332,7 @@ impl<T: Told> Seat<T> {
     /// The run is to stop.
     pub fn halt(&mut self, board: &Board<T>)
         requires board { self.old.seat.table_id ≡ board.now.table.shared.table_id }
-        ensures { Halts self.old self.new }
+        ensures { HasRaisedHalt self.old self.new }
     {
         let word = 8 * (board.instances + board.channels) + 16;
         board.table.shared.store::<Halting>(&mut self.seat, word, 1);

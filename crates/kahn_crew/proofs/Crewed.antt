@@ -1,5 +1,5 @@
 -- Workers with their seats.
-use Rattle.std.proofs.Common.{arith, ◌≡◌, ⊎_elim, ℕ, zero, suc, ◌+◌, ◌<◌, ◌≤◌, Bool, true, false, true≢false, ◌||◌, List, [], ◌∷◌, ◌++◌, length, All, sum_by, slice_index_or, refl, sym, ap, ◌∙◌, subst, Option, Some, option_to_list}
+use Rattle.std.proofs.Common.{arith, ◌≡◌, ◌⊎◌, inl, inr, ⊎_elim, ℕ, zero, suc, ◌+◌, ◌<◌, ◌≤◌, Bool, true, false, true≢false, ◌||◌, List, [], ◌∷◌, ◌++◌, length, All, sum_by, slice_index_or, refl, sym, ap, ◌∙◌, subst, Option, Some, option_to_list}
 use mathlib.Core.Logic.{dite}
 use native.Mathlib.Decide.{ℕ_discrete}
 use Rattle.std.proofs.lemmas.List.{length-append}
@@ -7,10 +7,9 @@ use Rattle.std.proofs.lemmas.List.Elements.{All-push}
 use Rattle.std.proofs.lemmas.List.Sums.{sum_by_push, sum_by-cons}
 use Rattle.atomic_table.specs.Seated.{TableId}
 use Rattle.kahn_board.specs.declared.board.Seat.{Seat}
-use Rattle.kahn_desk.specs.inner.Crew.{parts_of, raised_of}
-use Rattle.kahn_desk.specs.inner.Turn.{IsIdle}
-use Rattle.kahn_crew.specs.inner.Crews.{HasCause, HasGone, IsSeated, crew_parts, crew_raised}
-use Rattle.kahn_crew.specs.inner.Floors.{Heeds}
+use Rattle.kahn_desk.specs.inner.Crew.{IsDoneAt, SitsAt, parts_of, raised_of}
+use Rattle.kahn_crew.specs.inner.Crews.{HasCause, HasGone, HasSeat, crew_parts, crew_raised}
+use Rattle.kahn_crew.specs.inner.Turns.{Heeds}
 use Rattle.kahn_crew.specs.inner.Tasks.{Tasked}
 use Rattle.kahn_crew.specs.declared.worker.Worker.{Worker}
 use Rattle.kahn_desk.proofs.Joined.{all_but_last}
@@ -25,21 +24,15 @@ sum_same f (x ∷ xs) (y ∷ ys) e h =
     let rest = sum_same f xs ys (omega (arith, e)) (λ i d lt. h (suc i) d (omega (arith, lt))) in
     omega (arith, head, rest, sum_by-cons f x xs, sum_by-cons f y ys)
 
-abbrev pub IsOf : TableId → Seat Tasked → Type 0
-IsOf z s = (s.seat.table_id ≡ z) × IsIdle s
-
-abbrev pub IsOver : TableId → Seat Tasked → Type 0
-IsOver z s = (s.seat.table_id ≡ z) × IsIdle s × (s.seat.me.0.stage ≡ 1)
-
 -- of all seats some have a worker, and the others wait
 pub record Manned (z : TableId) (all left : List (Seat Tasked)) (workers : List Worker) : Type 0 where
-  pub seated : All (IsSeated z) workers
-  pub idle : All (IsOf z) left
+  pub seated : All (HasSeat z) workers
+  pub idle : All (SitsAt z) left
   pub sums : crew_parts workers + parts_of left ≡ parts_of all
   pub raised : crew_raised workers + raised_of left ≡ raised_of all
   pub count : length workers + length left ≡ length all
 
-pub none_manned : (z : TableId) (all : List (Seat Tasked)) (workers : List Worker) → workers ≡ [] → All (IsOf z) all → Manned z all all workers
+pub none_manned : (z : TableId) (all : List (Seat Tasked)) (workers : List Worker) → workers ≡ [] → All (SitsAt z) all → Manned z all all workers
 none_manned z all workers e h = record {
   seated = λ k d lt. absurd (omega (arith, lt, ap length e));
   idle = h;
@@ -49,10 +42,10 @@ none_manned z all workers e h = record {
 }
 
 pub one_manned : (z : TableId) (all left rest : List (Seat Tasked)) (s : Seat Tasked) (workers more : List Worker) (w : Worker) → Manned z all left workers →
-    left ≡ rest ++ s ∷ [] → more ≡ workers ++ w ∷ [] → w.seat ≡ s → Manned z all rest more
-one_manned z all left rest s workers more w m e f is =
-    let t = all_but_last (IsOf z) rest s (subst (All (IsOf z)) e m.idle) in record {
-      seated = subst (All (IsSeated z)) (sym f) (All-push (IsSeated z) workers w m.seated (subst (IsOf z) (sym is) t.1));
+    left ≡ rest ++ s ∷ [] → more ≡ workers ++ w ∷ [] → w.seat ≡ s → w.hints.wanted ≡ false → Manned z all rest more
+one_manned z all left rest s workers more w m e f is calm =
+    let t = all_but_last (SitsAt z) rest s (subst (All (SitsAt z)) e m.idle) in record {
+      seated = subst (All (HasSeat z)) (sym f) (All-push (HasSeat z) workers w m.seated (subst (SitsAt z) (sym is) t.1, calm));
       idle = t.0;
       sums = omega (arith, m.sums, ap parts_of e, sum_by_push (λ (s : Seat Tasked). s.seat.me.0.parts) rest s, ap crew_parts f, sum_by_push (λ (w : Worker). w.seat.seat.me.0.parts) workers w, ap (λ (s : Seat Tasked). s.seat.me.0.parts) is);
       raised = omega (arith, m.raised, ap raised_of e, sum_by_push (λ (s : Seat Tasked). s.seat.me.0.raised) rest s, ap crew_raised f, sum_by_push (λ (w : Worker). w.seat.seat.me.0.raised) workers w, ap (λ (s : Seat Tasked). s.seat.me.0.raised) is);
@@ -61,11 +54,11 @@ one_manned z all left rest s workers more w m e f is =
 
 -- of all workers some gave back their seats
 pub record Dismissed (z : TableId) (all left : List Worker) (seats : List (Seat Tasked)) (wanted : Bool) : Type 0 where
-  pub over : All (IsOver z) seats
+  pub over : All (IsDoneAt z) seats
   pub gone : All (HasGone z) left
   pub sums : parts_of seats + crew_parts left ≡ crew_parts all
   pub raised : raised_of seats + crew_raised left ≡ crew_raised all
-  pub cause : All HasCause all → All HasCause left × (0 < raised_of seats → wanted ≡ true)
+  pub cause : All HasCause all → All HasCause left × (0 < raised_of seats → wanted ≡ true) × (wanted ≡ true → 0 < raised_of seats)
   pub count : length seats + length left ≡ length all
 
 pub none_dismissed : (z : TableId) (all : List Worker) (seats : List (Seat Tasked)) → seats ≡ [] → All (HasGone z) all → Dismissed z all all seats false
@@ -74,23 +67,27 @@ none_dismissed z all seats e h = record {
   gone = h;
   sums = omega (arith, ap parts_of e);
   raised = omega (arith, ap raised_of e);
-  cause = λ h. (h, λ lt. absurd (omega (arith, lt, ap raised_of e)));
+  cause = λ h. (h, (λ lt. absurd (omega (arith, lt, ap raised_of e))), (λ yes. absurd (true≢false (sym yes))));
   count = omega (arith, ap length e);
 }
 
 pub one_dismissed : (z : TableId) (all left rest : List Worker) (w : Worker) (seats more : List (Seat Tasked)) (s : Seat Tasked) (a b : Bool) → Dismissed z all left seats a →
-    left ≡ rest ++ w ∷ [] → more ≡ seats ++ s ∷ [] → w.seat ≡ s → (a ≡ true → b ≡ true) → (w.hints.wanted ≡ true → b ≡ true) → Dismissed z all rest more b
-one_dismissed z all left rest w seats more s a b m e f is before own =
+    left ≡ rest ++ w ∷ [] → more ≡ seats ++ s ∷ [] → w.seat ≡ s → (a ≡ true → b ≡ true) → (w.hints.wanted ≡ true → b ≡ true) → (b ≡ true → (a ≡ true) ⊎ (w.hints.wanted ≡ true)) → Dismissed z all rest more b
+one_dismissed z all left rest w seats more s a b m e f is before own back =
     let t = all_but_last (HasGone z) rest w (subst (All (HasGone z)) e m.gone) in record {
-      over = subst (All (IsOver z)) (sym f) (All-push (IsOver z) seats s m.over (subst (IsOver z) is t.1));
+      over = subst (All (IsDoneAt z)) (sym f) (All-push (IsDoneAt z) seats s m.over (subst (IsDoneAt z) is t.1));
       gone = t.0;
       sums = omega (arith, m.sums, ap crew_parts e, sum_by_push (λ (w : Worker). w.seat.seat.me.0.parts) rest w, ap parts_of f, sum_by_push (λ (s : Seat Tasked). s.seat.me.0.parts) seats s, ap (λ (s : Seat Tasked). s.seat.me.0.parts) is);
       raised = omega (arith, m.raised, ap crew_raised e, sum_by_push (λ (w : Worker). w.seat.seat.me.0.raised) rest w, ap raised_of f, sum_by_push (λ (s : Seat Tasked). s.seat.me.0.raised) seats s, ap (λ (s : Seat Tasked). s.seat.me.0.raised) is);
       cause = λ h. let c = m.cause h in let u = all_but_last HasCause rest w (subst (All HasCause) e c.0) in (
         u.0,
         λ lt. dite (ℕ_discrete (raised_of seats) 0)
-            (λ none. own (u.1 (omega (arith, lt, none, ap raised_of f, sum_by_push (λ (s : Seat Tasked). s.seat.me.0.raised) seats s, ap (λ (s : Seat Tasked). s.seat.me.0.raised) is))))
+            (λ none. own (u.1.0 (omega (arith, lt, none, ap raised_of f, sum_by_push (λ (s : Seat Tasked). s.seat.me.0.raised) seats s, ap (λ (s : Seat Tasked). s.seat.me.0.raised) is))))
             (λ some. before (c.1 (omega (arith, some)))),
+        λ yes. ⊎_elim
+            (λ x. omega (arith, c.2 x, ap raised_of f, sum_by_push (λ (s : Seat Tasked). s.seat.me.0.raised) seats s))
+            (λ x. omega (arith, u.1.1 x, ap raised_of f, sum_by_push (λ (s : Seat Tasked). s.seat.me.0.raised) seats s, ap (λ (s : Seat Tasked). s.seat.me.0.raised) is))
+            (back yes),
       );
       count = omega (arith, m.count, ap length e, length-append rest (w ∷ []), ap length f, length-append seats (s ∷ []));
     }
@@ -110,16 +107,17 @@ sum_least f [] i d lt = absurd (omega (arith, lt))
 sum_least f (x ∷ xs) zero d lt = omega (arith, sum_by-cons f x xs)
 sum_least f (x ∷ xs) (suc i) d lt = omega (arith, sum_by-cons f x xs, sum_least f xs i d (omega (arith, lt)))
 
--- those that halted the run wanted memory, where nobody had halted it
+-- those that halted the run wanted memory, and no others, where nobody had halted it and nobody had wanted memory
 pub all_caused : (old new : List Worker) → length new ≡ length old → crew_raised old ≡ 0 →
+    ((i : ℕ) (d : Worker) → i < length old → (slice_index_or old i d).hints.wanted ≡ false) →
     ((i : ℕ) (d : Worker) → i < length old → Heeds (slice_index_or old i d).hints.wanted (slice_index_or old i d).seat (slice_index_or new i d).hints.wanted (slice_index_or new i d).seat) →
     All HasCause new
-all_caused old new e none h i d lt raised =
+all_caused old new e none calm h i d lt =
     let at : i < length old = omega (arith, lt, e) in
     let least = sum_least (λ (w : Worker). w.seat.seat.me.0.raised) old i d at in
     ⊎_elim (λ (x : ((slice_index_or new i d).seat.seat.me.0.raised ≡ (slice_index_or old i d).seat.seat.me.0.raised) × ((slice_index_or new i d).hints.wanted ≡ (slice_index_or old i d).hints.wanted)).
-    absurd (omega (arith, x.0, raised, least, none)))
-    (λ x. x.1) (h i d at).3
+    ((λ raised. absurd (omega (arith, x.0, raised, least, none))), (λ yes. absurd (true≢false (sym yes ∙ (x.1 ∙ calm i d at))))))
+    (λ x. ((λ _. x.1), (λ _. omega (arith, x.0)))) (h i d at).3
 
 -- one of them halted it
 pub one_raised : (new : List Worker) (i : ℕ) → i < length new → ((d : Worker) → 0 < (slice_index_or new i d).seat.seat.me.0.raised) → 0 < crew_raised new
@@ -134,6 +132,10 @@ or_left false b e = absurd (true≢false (sym e))
 pub or_right : (a b : Bool) → b ≡ true → (a || b) ≡ true
 or_right true b e = refl
 or_right false b e = e
+
+pub or_either : (a b : Bool) → (a || b) ≡ true → (a ≡ true) ⊎ (b ≡ true)
+or_either true b e = inl refl
+or_either false b e = inr e
 
 -- one is taken from the end
 pub one_less : {A B : Type 0} (old new : List A) (o : Option A) (h : A) (seats rest : List B) (s : B) → length old ≡ length seats → old ≡ new ++ option_to_list o → o ≡ Some h →

@@ -2,7 +2,7 @@
 --     task_send, boxed_send, seat_send, worker_send      a task, also in its box, a worker's seat and a worker may go to another thread
 --     empty_sync      threads may share an empty list, also where they may not share what it is for
 --     board_sync      threads may share a board of what may go from one to another
---     floor_sync      threads may share what the workers of a run share
+--     run_sync      threads may share what the workers of a run share
 use mathlib.Core.Path.{◌≡◌, sym, subst}
 use mathlib.Core.List.{[], ◌∷◌}
 use base.Fml.{ftrue}
@@ -37,7 +37,7 @@ use Rattle.kahn_board.proofs.board.Seat.TheSendSync as seat
 use Rattle.kahn_crew.specs.contracts.boxes.Boxed as Boxed
 use Rattle.kahn_crew.specs.contracts.boxes.Boxed.TheInside as InBoxed
 use Rattle.kahn_crew.specs.contracts.boxes.BoxedTold.TheImpl as told
-use Rattle.kahn_crew.specs.contracts.floor.Floor as Floor
+use Rattle.kahn_crew.specs.contracts.run.Run as Run
 use Rattle.kahn_crew.proofs.hints.Hints.TheSendSync as hints
 use Rattle.kahn_crew.proofs.standing.Standing.TheSendSync as standing
 use Rattle.kahn_crew.specs.contracts.task.Task as Task
@@ -97,6 +97,6 @@ code_sync : IsSync (Code.the_row Heap.the_row ghosts)
 code_sync = code.the_sync Heap.the_row ghosts std.sync
 
 module _ (b : NamedLft) where
-  pub floor_sync : (a : NamedLft) → IsSync (Floor.the_row a b)
-  floor_sync a = recorded_sync (Floor.the_field a b).row _ _ (Floor.the_type a b).to_one
-      (struct_sync (S.shape (Floor.the_type a b)) (shr_sync _ _ _ (board_sync (Boxed.the_row b) told.ghosts (boxed_send b)), (shr_sync _ _ _ network_sync, (shr_sync _ _ _ code_sync, (search sendable, tt)))))
+  pub run_sync : (a : NamedLft) → IsSync (Run.the_row a b)
+  run_sync a = recorded_sync (Run.the_field a b).row _ _ (Run.the_type a b).to_one
+      (struct_sync (S.shape (Run.the_type a b)) (shr_sync _ _ _ (board_sync (Boxed.the_row b) told.ghosts (boxed_send b)), (shr_sync _ _ _ network_sync, (shr_sync _ _ _ code_sync, (search sendable, tt)))))

@@ -24,9 +24,9 @@ use Rattle.kahn_board.specs.Dealt.{belongs, dealt, wired, events_of}
 use Rattle.kahn_board.specs.Wires.{wires, any_is, first_with}
 use Rattle.kahn_board.specs.declared.rule.Terms.{Terms}
 use Rattle.kahn_board.specs.declared.view.View.{View}
-use Rattle.kahn_crew.specs.inner.Begins.{AreReady, HasBegun, all_events}
-use Rattle.kahn_crew.specs.inner.Floors.{IsTaskOf}
-use Rattle.kahn_crew.specs.inner.Left.{AreAll, AreUntouched, HaveGone, IsAtRest, IsOver, task_events}
+use Rattle.kahn_crew.specs.inner.Begins.{AreReadyTasks, HasBegun, all_events}
+use Rattle.kahn_crew.specs.inner.Lent.{IsTaskOf}
+use Rattle.kahn_crew.specs.inner.Left.{AreAll, AreUntouched, HaveGone, IsQuietTask, IsOver, task_events}
 use Rattle.kahn_crew.specs.inner.Tasks.{Tasked, Continues, IsLater, count_on, handed, read_by, reads_at, told_of, waits_on, writes_at, wrote_by}
 use Rattle.kahn_crew.specs.declared.standing.Standing.{Standing}
 use Rattle.kahn_crew.specs.declared.standing.Standing.TheVariants as standing
@@ -34,7 +34,7 @@ use Rattle.kahn_crew.proofs.Found
 use Rattle.kahn_crew.proofs.Found.{none_some, some_same}
 use Rattle.kahn_crew.proofs.Publishing.{handed_is}
 use Rattle.kahn_crew.proofs.Resting.{continues_here, task_of}
-use Rattle.kahn_crew.proofs.Started.{at_both, both_at, mapped_at, at_mapped, floor_of}
+use Rattle.kahn_crew.proofs.Started.{at_both, both_at, mapped_at, at_mapped, fits_of}
 use Rattle.kahn_crew.proofs.Wirings.{instances_are, is_written_so, reads_first, writes_first, writer_is}
 
 -- ---- lists
@@ -143,8 +143,7 @@ module _ (lists : Lists) (watch : Option ℕ) (key : Terms Tasked) (is_wired : I
 
   of_instance : (p : ℕ) (x : Tasked) → slice_get tasks p ≡ Some x → IsTaskOf t p x
   of_instance p x e =
-      task_of key t t p x (floor_of t lists watch key begun t refl)
-      (let lt = within p x e in omega (arith, lt, instances_are t is_wired)) (belong p x e)
+      task_of key t t p x (fits_of t lists watch key begun t refl) (within p x e) (λ z f. (belong p x e z f).continues)
 
   later : (p : ℕ) (y x : Tasked) → slice_get key.cells.value.items p ≡ Some y → slice_get tasks p ≡ Some x → Continues y x
   later p y x e f = (belong p x f y (both_at key.cells.value.items p y e)).continues
@@ -175,7 +174,7 @@ module _ (lists : Lists) (watch : Option ℕ) (key : Terms Tasked) (is_wired : I
         all.1 r (count w.cell.sent o) (end_at w.ends o).flushed z (within r z e) (writer_is t is_wired r o c there) (cell_at r z e) (ap (wrote_by w) first);
   }
 
-  at_rest : (p : ℕ) (x : Tasked) → slice_get tasks p ≡ Some x → closed.IsAtRest told_of (belongs IsLater key) (wired key) (dealt told_of key) (map Some tasks) p x → IsAtRest t lists tasks x
+  at_rest : (p : ℕ) (x : Tasked) → slice_get tasks p ≡ Some x → closed.IsQuietCell told_of (belongs IsLater key) (wired key) (dealt told_of key) (map Some tasks) p x → IsQuietTask t lists tasks x
   at_rest p x e (inl over) = inl over
   at_rest p x e (inr (c, k, lt, reads, tells, all)) =
       let is = of_instance p x e in
@@ -199,7 +198,7 @@ module _ (lists : Lists) (watch : Option ℕ) (key : Terms Tasked) (is_wired : I
   over_here : v.stage ≡ 1 → IsOver t lists tasks budget halted
   over_here gone = by (closes.by_done gone)
     where
-      by : (halted ≡ true) ⊎ ((budget ≡ 0) ⊎ ((p : ℕ) (y : Tasked) → p < n → get_elem? (map Some tasks) p ≡ some (Some y) → closed.IsAtRest told_of (belongs IsLater key) (wired key) (dealt told_of key) (map Some tasks) p y)) →
+      by : (halted ≡ true) ⊎ ((budget ≡ 0) ⊎ ((p : ℕ) (y : Tasked) → p < n → get_elem? (map Some tasks) p ≡ some (Some y) → closed.IsQuietCell told_of (belongs IsLater key) (wired key) (dealt told_of key) (map Some tasks) p y)) →
           IsOver t lists tasks budget halted
       by (inl h) = inl h
       by (inr (inl z)) = inr (inl z)
@@ -291,7 +290,7 @@ module _ (t : Program) (lists : Lists) (watch : Option ℕ) (key : Terms Tasked)
 
 -- ---- tasks on which nobody worked
 
-pub untouched_gone : (t : Program) (lists : Lists) (watch : Option ℕ) (bound : ℕ) (first tasks : List Tasked) (budget : ℕ) → AreReady t lists watch first →
+pub untouched_gone : (t : Program) (lists : Lists) (watch : Option ℕ) (bound : ℕ) (first tasks : List Tasked) (budget : ℕ) → AreReadyTasks t lists watch first →
     tasks ≡ first → budget ≡ bound → HaveGone t lists watch (bound + events_of told_of first) first tasks budget
 untouched_gone t lists watch bound first tasks budget ready same left =
     subst (λ (l : List Tasked). HaveGone t lists watch (bound + events_of told_of first) first l budget) (sym same) (record {

@@ -2,7 +2,7 @@
 use Rattle.std.proofs.Common.{arith, ◌≡◌, inl, inr, ℕ, Bool, ap, ◌∙◌}
 use Rattle.kahn_board.specs.declared.board.Seat.{Seat}
 use Rattle.kahn_desk.specs.inner.Turn.{IsSeatOf}
-use Rattle.kahn_crew.specs.inner.Floors.{Heeds, RaisesAsWanted}
+use Rattle.kahn_crew.specs.inner.Turns.{Heeds, RaisesAsWanted}
 use Rattle.kahn_crew.specs.inner.Tasks.{Tasked}
 
 raises_then : (a b c : Bool) (i j k : ℕ) → RaisesAsWanted a i b j → RaisesAsWanted b j c k → RaisesAsWanted a i c k

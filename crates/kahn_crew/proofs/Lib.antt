@@ -5,6 +5,7 @@ pub mod Heeding
 pub mod Round
 pub mod Told_to_leave
 pub mod Resting
+pub mod Working
 pub mod Started
 pub mod Ended
 pub mod Crewed

@@ -14,11 +14,11 @@ use Rattle.kahn_board.specs.Wires.{wires}
 use Rattle.kahn_board.specs.declared.view.View.{View}
 use Rattle.kahn_job.specs.inner.Berths.{end_at}
 use Rattle.kahn_job.specs.inner.Works.{Work, width_of}
-use Rattle.kahn_desk.specs.inner.Turn.{Tells}
+use Rattle.kahn_desk.specs.inner.Turn.{HasPublished}
 use Rattle.kahn_board.specs.Plays.{SeesMore}
 use Rattle.kahn_job.specs.inner.Works.{IsJob}
 use Rattle.kahn_code.specs.Told.{AreCounts}
-use Rattle.kahn_crew.specs.inner.Floors.{HasKept, IsTaskOf}
+use Rattle.kahn_crew.specs.inner.Lent.{IsTaskOf}
 use Rattle.kahn_crew.specs.inner.Tasks.{Tasked, AgreesWith, IsPublished, handed, written_by}
 use Rattle.kahn_crew.proofs.Wirings.{target, writer_is, written_inside}
 use Rattle.kahn_crew.proofs.Found.{none_some, some_same}
@@ -60,7 +60,7 @@ module _ (t : Program) (wired : IsWellWired t) where
 
   -- a number that is told
   pub agrees_told : (x : Tasked) (p o c k : ℕ) (old new : View) → IsTaskOf t p x → written_by (network_of t) (At p o) ≡ Some c → o < length x.published →
-      Tells (wires t) p c k old new → AgreesWith x.work x.published old.flushed → AgreesWith x.work (slice_set x.published o k) new.flushed
+      HasPublished (wires t) p c k old new → AgreesWith x.work x.published old.flushed → AgreesWith x.work (slice_set x.published o k) new.flushed
   agrees_told x p o c k old new is e lt tells agrees r d h inner =
       let here = written_so (network_of t) (At p o) c e in
       let there : At p r ≡ Writes d = sym (handed_is x.work p r is.0 is.1) ∙ h in
@@ -86,14 +86,11 @@ module _ (t : Program) (wired : IsWellWired t) where
 
 -- ---- one after the other
 
-sees_still : (a b c : ℕ) → SeesMore a b → SeesMore b c → SeesMore a c
+pub sees_still : (a b c : ℕ) → SeesMore a b → SeesMore b c → SeesMore a c
 sees_still a b c (inl e) (inl f) = inl (f ∙ e)
 sees_still a b c (inr e) (inl f) = inr (f ∙ e)
 sees_still a b c (inl e) (inr f) = inr f
 sees_still a b c (inr e) (inr f) = inr f
-
-pub kept_still : (p : ℕ) (a b c : View) → HasKept p a b → HasKept p b c → HasKept p a c
-kept_still p a b c f g = record { got = g.got ∙ f.got; seen = sees_still a.seen b.seen c.seen f.seen g.seen }
 
 -- what was published stays so where the numbers stay
 carried : (x y : Tasked) (r : ℕ) → y.work ≡ x.work → count y.published r ≡ count x.published r → IsPublished x r → IsPublished y r

@@ -10,7 +10,7 @@ use Rattle.kahn_code.specs.Lines.{route_of}
 use Rattle.kahn_code.specs.Standing.{count}
 use Rattle.kahn_code.specs.Told.{AreCounts, IsStill}
 use Rattle.kahn_streams.proofs.Dry.{dry_reads}
-use Rattle.kahn_board.specs.Dealt.{belongs}
+use Rattle.kahn_board.specs.Dealt.{belongs, wired}
 use Rattle.kahn_board.specs.Wires.{wires}
 use Rattle.kahn_board.specs.Plays.{SeesMore}
 use Rattle.kahn_board.specs.Tale.{FlushedAll, flushed_of, second_of}
@@ -21,7 +21,7 @@ use Rattle.kahn_job.specs.inner.Berths.{HaveAdvanced, end_at}
 use Rattle.kahn_job.specs.inner.Works.{Work, IsDelivered}
 use Rattle.kahn_crew.specs.declared.standing.Standing.TheVariants as standing
 use Rattle.kahn_crew.specs.declared.turn.Due.TheVariants as due
-use Rattle.kahn_crew.specs.inner.Floors.{IsFloor, IsTaskOf, HasKept}
+use Rattle.kahn_crew.specs.inner.Lent.{FitTogether, IsTaskOf}
 use Rattle.kahn_crew.specs.inner.Rests.{IsDue}
 use Rattle.kahn_crew.specs.inner.Tasks.{Tasked, AgreesWith, Continues, HasStanding, IsLater, IsPublished, count_on, handed, read_by, reads_at, told_of, waits_on, writes_at, wrote_by}
 use Rattle.kahn_crew.proofs.Wirings.{reads_first, writes_first, first_writes, reader_is, writer_is, read_inside, written_inside}
@@ -99,27 +99,24 @@ ran_on x y names ends events still = record {
       };
 }
 
-pub belongs_later : (key : Terms Tasked) (p : ℕ) (y x : Tasked) → belongs IsLater key p y → Continues y x → ((o : ℕ) → IsPublished x o) → belongs IsLater key p x
-belongs_later key p y x b l published z e = record { continues = continues_still z y x (b z e).continues l; published = published }
-
 found_at : {A : Type 0} (xs : List A) (p : ℕ) → p < length xs → (x : A) × (get_elem? xs p ≡ some x)
 found_at [] p h = absurd (omega (arith, h))
 found_at (x ∷ xs) zero h = (x, refl)
 found_at (x ∷ xs) (suc p) h = found_at xs p (omega (arith, h))
 
--- a task that belongs to p is that of p
-pub task_of : (key : Terms Tasked) (t code : Program) (p : ℕ) (y : Tasked) → IsFloor key t code → p < length (network_of t).instances →
-    belongs IsLater key p y → IsTaskOf t p y
-task_of key t code p y floor lt b =
-    let f = found_at key.cells.value.items p (omega (arith, floor.count, lt)) in
-    let l = (b f.0 f.1).continues in
-    let is = floor.cells p f.0 f.1 in
+-- a task that continues that of p is that of p
+pub task_of : (key : Terms Tasked) (lent code : Program) (p : ℕ) (x : Tasked) → FitTogether key lent code → p < (wired key).instances →
+    belongs Continues key p x → IsTaskOf key.network.value p x
+task_of key lent code p x fit lt b =
+    let f = found_at key.cells.value.items p (omega (arith, fit.count, lt)) in
+    let l = b f.0 f.1 in
+    let is = fit.cells p f.0 f.1 in
     (l.network ∙ is.0, l.instance ∙ is.1)
 
--- and what it flushed is published
-pub is_published : (key : Terms Tasked) (t code : Program) (p : ℕ) (y : Tasked) → IsFloor key t code → p < length (network_of t).instances →
+-- and of a later one all that it flushed is published
+pub is_published : (key : Terms Tasked) (lent code : Program) (p : ℕ) (y : Tasked) → FitTogether key lent code → p < (wired key).instances →
     belongs IsLater key p y → (o : ℕ) → IsPublished y o
-is_published key t code p y floor lt b = let f = found_at key.cells.value.items p (omega (arith, floor.count, lt)) in (b f.0 f.1).published
+is_published key lent code p y fit lt b = let f = found_at key.cells.value.items p (omega (arith, fit.count, lt)) in (b f.0 f.1).published
 
 -- ---- what is told
 
@@ -138,7 +135,7 @@ wrote_some : (w : Work) (m : Option ℕ) (k l : ℕ) → wrote_by w m ≡ Some (
 wrote_some w None k l e = absurd (none_wrote e)
 wrote_some w (Some o) k l e = let same = same_wrote e in (o, refl, ap (λ x. x.0) same, ap (λ x. x.1) same)
 
-sees_two : (a b : ℕ) → SeesMore a b → a ≡ 2 → b ≡ 2
+pub sees_two : (a b : ℕ) → SeesMore a b → a ≡ 2 → b ≡ 2
 sees_two a b (inl e) h = e ∙ h
 sees_two a b (inr e) h = e
 
@@ -171,14 +168,14 @@ module _ (t : Program) (wired : IsWellWired t) where
       sym f.2 ∙ (sym (delivered f.0 c h.0 h.1) ∙ f.3)
 
   -- a task that was run, flushed and published may be left
-  pub fits_after : (key : Terms Tasked) (p : ℕ) (y x : Tasked) (v : View) → IsTaskOf t p x → belongs IsLater key p y → Continues y x →
+  pub fits_after : (key : Terms Tasked) (p : ℕ) (x : Tasked) (v : View) → IsTaskOf t p x → belongs Continues key p x →
       AgreesWith x.work x.published v.flushed → ((o : ℕ) → IsPublished x o) → (v.seen ≡ 2) ⊎ IsDelivered x.work →
       x.work.cell.events ≡ slice_index v.got p + v.loose → Fits told_of (belongs IsLater key) (wires t) p x v
-  fits_after key p y x v is b l agrees published delivered events = record {
+  fits_after key p x v is first agrees published delivered events = record {
     published = published_is p x v is agrees published;
     events = events;
     flushed = ⊎_elim (λ e. inl e) (λ d. inr (flushed_all x is.0 d)) delivered;
-    belonging = belongs_later key p y x b l published;
+    belonging = λ z e. record { continues = first z e; published = published };
   }
 
   -- a seat that knows as much of p finds the task as fit
@@ -229,40 +226,12 @@ agrees_later y x known l same agrees o c h inner =
     ap (λ k. count k o) same ∙
     agrees o c (sym (handed_same y.work x.work o l.network l.instance) ∙ h) (ap (λ k. is_output (role_at (network_of k) c)) (sym l.network) ∙ inner)
 
-pub task_later : (t : Program) (p : ℕ) (y x : Tasked) → IsTaskOf t p y → Continues y x → IsTaskOf t p x
-task_later t p y x is l = (l.network ∙ is.0, l.instance ∙ is.1)
-
-later_work : (x y z : Tasked) → Continues x y → z.work ≡ y.work → Continues x z
-later_work x y z l same = subst (λ (w : Work). Continues x (record { work = w; standing = z.standing; published = z.published })) (sym same)
-    (record { network = l.network; input = l.input; instance = l.instance; watch = l.watch; ends = l.ends; events = l.events; still = l.still })
-
-pub task_work : (t : Program) (p : ℕ) (y x : Tasked) → IsTaskOf t p y → x.work ≡ y.work → IsTaskOf t p x
-task_work t p y x is same = (ap (λ (w : Work). w.cell.network) same ∙ is.0, ap (λ (w : Work). w.cell.instance) same ∙ is.1)
-
 module _ (t : Program) (wired : IsWellWired t) where
-  agrees_known : (p : ℕ) (x : Tasked) (old new : View) → IsTaskOf t p x → Knows (wires t) p old new → AgreesWith x.work x.published old.flushed →
+  pub agrees_known : (p : ℕ) (x : Tasked) (old new : View) → IsTaskOf t p x → Knows (wires t) p old new → AgreesWith x.work x.published old.flushed →
       AgreesWith x.work x.published new.flushed
   agrees_known p x old new is knows agrees o c h inner =
       let at : actual_at (instance_at (network_of t) p) o ≡ Writes c = sym (handed_is t wired x.work p o is.0 is.1) ∙ h in
       agrees o c h inner ∙ sym (knows.flushed c (written_inside t wired p o c at) (writer_is t wired p o c at))
-
-  pub fits_spent : (key : Terms Tasked) (p done : ℕ) (x y z : Tasked) (v0 v1 v2 v3 : View) → IsTaskOf t p x →
-      Fits told_of (belongs IsLater key) (wires t) p x v0 → v0.loose ≡ 0 →
-      Continues x y → y.work.cell.events ≡ x.work.cell.events + done → HasKept p v0 v1 → (v1.seen ≡ 2) ⊎ IsDelivered y.work →
-      z.work ≡ y.work → HasKept p v1 v2 → AgreesWith z.work z.published v2.flushed → ((o : ℕ) → IsPublished z o) →
-      Knows (wires t) p v2 v3 → v3.loose ≡ done → Fits told_of (belongs IsLater key) (wires t) p z v3
-  fits_spent key p done x y z v0 v1 v2 v3 is fits none l events first delivered same second agrees published knows loose =
-      let l2 = later_work x y z l same in
-      let isz = task_later t p x z is l2 in
-      let e0 : x.work.cell.events ≡ slice_index v0.got p + v0.loose = fits.events in
-      let e2 : z.work.cell.events ≡ y.work.cell.events = ap (λ (w : Work). w.cell.events) same in
-      let g1 = first.got in
-      let g2 = second.got in
-      let g3 = knows.got in
-      fits_after t wired key p x z v3 isz fits.belonging l2 (agrees_known p z v2 v3 isz knows agrees) published
-      (⊎_elim (λ e. inl (sees_two v2.seen v3.seen knows.seen (sees_two v1.seen v2.seen second.seen e)))
-      (λ d. inr (subst IsDelivered (sym same) d)) delivered)
-      (omega (arith, e0, e2, events, none, g1, g2, g3, loose))
 
 -- the board has as many instances as the network
 pub instances_of : (t : Program) → (wires t).instances ≡ length (network_of t).instances

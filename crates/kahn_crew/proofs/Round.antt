@@ -5,9 +5,9 @@ use native.Mathlib.Decide.{ℕ_discrete}
 use Rattle.std.proofs.Math.Nat.{add-mod_left, mod-eq_of_lt, mod-lt}
 use Rattle.kahn_board.specs.Dealt.{holds}
 use Rattle.kahn_board.specs.declared.board.Seat.{Seat}
-use Rattle.kahn_board.specs.declared.rule.Terms.{Terms}
 use Rattle.kahn_board.proofs.Turns.{was_at}
-use Rattle.kahn_crew.specs.inner.Floors.{WasNotReady}
+use Rattle.kahn_crew.specs.declared.run.Run.{Run}
+use Rattle.kahn_crew.specs.inner.Turns.{WasNotReady, terms_of}
 use Rattle.kahn_crew.specs.inner.Tasks.{Tasked, IsLater, told_of}
 
 -- each is met once
@@ -20,11 +20,11 @@ met n a p la lp = by (p - a) refl (a - p) refl
         (λ ne. (n - e, omega (arith, f, la, ne), ap (λ k. k % n) (omega (arith, f, la, ne)) ∙ (add-mod_left n p ∙ mod-eq_of_lt lp)))
 
 -- the same seat tells it
-pub not_ready_of : (key : Terms Tasked) (s t : Seat Tasked) (p : ℕ) → t.seat.id ≡ s.seat.id → WasNotReady key t p → WasNotReady key s p
-not_ready_of key s t p same w = (w.0, w.1, w.2, was_at (holds told_of IsLater key) t.seat.id s.seat.id w.0 w.0 (8 * p) (8 * p) w.1 w.1 same refl refl refl w.3)
+pub not_ready_of : (run : Run) (s t : Seat Tasked) (p : ℕ) → t.seat.id ≡ s.seat.id → WasNotReady run t p → WasNotReady run s p
+not_ready_of run s t p same w = (w.0, w.1, w.2, was_at (holds told_of IsLater (terms_of run)) t.seat.id s.seat.id w.0 w.0 (8 * p) (8 * p) w.1 w.1 same refl refl refl w.3)
 
 -- once it has gone round, each wasn't ready at a moment
-pub none_ready : (key : Terms Tasked) (s : Seat Tasked) (n start : ℕ) → ((k : ℕ) → k < n → WasNotReady key s ((start % n + k) % n)) → (p : ℕ) → p < n → WasNotReady key s p
-none_ready key s n start each p lt =
+pub none_ready : (run : Run) (s : Seat Tasked) (n start : ℕ) → ((k : ℕ) → k < n → WasNotReady run s ((start % n + k) % n)) → (p : ℕ) → p < n → WasNotReady run s p
+none_ready run s n start each p lt =
     let m = met n (start % n) p (mod-lt start (omega (arith, lt))) lt in
-    subst (WasNotReady key s) m.2 (each m.0 m.1)
+    subst (WasNotReady run s) m.2 (each m.0 m.1)

@@ -26,12 +26,12 @@ use Rattle.kahn_board.specs.Rule.{view}
 use Rattle.kahn_board.specs.Wires.{wires}
 use Rattle.kahn_board.specs.declared.rule.Terms.{Terms}
 use Rattle.kahn_board.specs.declared.view.View.{View}
-use Rattle.kahn_crew.specs.inner.Begins.{AreReady, HasBegun, IsNumber, IsReady, ready_task}
-use Rattle.kahn_crew.specs.inner.Floors.{IsFloor}
+use Rattle.kahn_crew.specs.inner.Begins.{AreReadyTasks, HasBegun, IsNumber, IsReadyTask, ready_task}
+use Rattle.kahn_crew.specs.inner.Lent.{FitTogether}
 use Rattle.kahn_crew.specs.inner.Tasks.{AgreesWith, IsLater, IsPublished, Tasked, told_of}
 use Rattle.kahn_crew.proofs.Found.{none_some, some_same}
 use Rattle.kahn_crew.proofs.Publishing.{handed_is}
-use Rattle.kahn_crew.proofs.Resting.{flushed_all, continues_here, published_is}
+use Rattle.kahn_crew.proofs.Resting.{flushed_all, instances_of, continues_here, published_is}
 use Rattle.kahn_crew.proofs.Wirings.{channels_are, instances_are}
 
 -- ---- lists
@@ -131,7 +131,7 @@ module _ (t : Program) (lists : Lists) (watch : Option ℕ) (jobs : List Work) (
   job_at p y e = mapped_at ready_task jobs p y (subst (λ (l : List Tasked). slice_get l p ≡ Some y) are e)
 
   -- nothing was sent or flushed
-  ready_first : (p : ℕ) (w : Work) → slice_get jobs p ≡ Some w → IsReady t lists watch p (ready_task w)
+  ready_first : (p : ℕ) (w : Work) → slice_get jobs p ≡ Some w → IsReadyTask t lists watch p (ready_task w)
   ready_first p w e =
       let o = (opened.each p w e).0 in
       record {
@@ -146,10 +146,10 @@ module _ (t : Program) (lists : Lists) (watch : Option ℕ) (jobs : List Work) (
       width_of_opening : IsOpening t lists watch p w.cell → ℕ
       width_of_opening o = length (instance_at (network_of t) p).actuals
 
-  pub first_ready : AreReady t lists watch tasks
+  pub first_ready : AreReadyTasks t lists watch tasks
   first_ready = record {
     count = ap (λ (l : List Tasked). length l) are ∙ length-map jobs ready_task ∙ opened.count;
-    each = λ p y e. let j = job_at p y e in subst (IsReady t lists watch p) (sym j.2) (ready_first p j.0 j.1);
+    each = λ p y e. let j = job_at p y e in subst (IsReadyTask t lists watch p) (sym j.2) (ready_first p j.0 j.1);
     joined = λ p r o q d x y e f i k.
         let a = job_at p x e in
         let b = job_at r y f in
@@ -162,7 +162,7 @@ module _ (t : Program) (lists : Lists) (watch : Option ℕ) (jobs : List Work) (
 
 -- ---- how many tokens are published
 
-module _ (t : Program) (wired : IsWellWired t) (lists : Lists) (watch : Option ℕ) (tasks : List Tasked) (f : AreReady t lists watch tasks) (c : ℕ) where
+module _ (t : Program) (wired : IsWellWired t) (lists : Lists) (watch : Option ℕ) (tasks : List Tasked) (f : AreReadyTasks t lists watch tasks) (c : ℕ) where
   pub number_given : role_at (network_of t) c ≡ Input → (n : ℕ) → n ≡ length (inputs_of lists c) → IsNumber t lists tasks c n
   number_given r n e = record {
     given = λ x. e;
@@ -209,13 +209,13 @@ module _ (t : Program) (wired : IsWellWired t) (lists : Lists) (watch : Option �
 
 -- ---- the board
 
-module _ (t : Program) (wired : IsWellWired t) (lists : Lists) (watch : Option ℕ) (numbers : List ℕ) (tasks : List Tasked) (f : AreReady t lists watch tasks)
+module _ (t : Program) (wired : IsWellWired t) (lists : Lists) (watch : Option ℕ) (numbers : List ℕ) (tasks : List Tasked) (f : AreReadyTasks t lists watch tasks)
     (long : length numbers ≡ length (network_of t).channels)
     (each : (c : ℕ) → c < length numbers → IsNumber t lists tasks c (slice_index numbers c) × (slice_index numbers c < 2 ^ 48)) where
   abbrev known : View
   known = view 0 [] numbers [] 0 0 0 [] 0 0 0 0 0 0
 
-  inner_here : (p : ℕ) (y : Tasked) (c : ℕ) → IsReady t lists watch p y → is_output (role_at (network_of y.work.cell.network) c) ≡ false → is_output (role_at (network_of t) c) ≡ false
+  inner_here : (p : ℕ) (y : Tasked) (c : ℕ) → IsReadyTask t lists watch p y → is_output (role_at (network_of y.work.cell.network) c) ≡ false → is_output (role_at (network_of t) c) ≡ false
   inner_here p y c o inner = subst (λ (k : Program). is_output (role_at (network_of k) c) ≡ false) o.network inner
 
   -- what an instance sent is what is published
@@ -227,7 +227,7 @@ module _ (t : Program) (wired : IsWellWired t) (lists : Lists) (watch : Option �
       let near : c < length numbers = omega (arith, long, lt) in
       ap (λ (xs : List ℕ). count xs q) o.published ∙ sym ((each c near).0.sent p q y e at (inner_here p y c o inner))
 
-  published_too : (p : ℕ) (y : Tasked) → IsReady t lists watch p y → (o : ℕ) → IsPublished y o
+  published_too : (p : ℕ) (y : Tasked) → IsReadyTask t lists watch p y → (o : ℕ) → IsPublished y o
   published_too p y r o c h inner = ap (λ (xs : List ℕ). count xs o) r.published ∙ sym (r.delivered o c h inner)
 
   -- the board may be made of them
@@ -247,10 +247,10 @@ module _ (t : Program) (wired : IsWellWired t) (lists : Lists) (watch : Option �
 
 -- ---- what all workers of a run share
 
-pub floor_of : (t : Program) (lists : Lists) (watch : Option ℕ) (key : Terms Tasked) → HasBegun t lists watch key → (code : Program) → code ≡ t → IsFloor key t code
-floor_of t lists watch key b code same = record {
-  network = b.network;
-  code = same;
-  count = b.ready.count;
-  cells = λ p x at. let o = b.ready.each p x (at_both key.cells.value.items p x at) in (o.network, o.instance);
+pub fits_of : (t : Program) (lists : Lists) (watch : Option ℕ) (key : Terms Tasked) → HasBegun t lists watch key → (code : Program) → code ≡ t → FitTogether key t code
+fits_of t lists watch key b code same = record {
+  network = sym b.network;
+  code = same ∙ sym b.network;
+  count = b.ready.count ∙ (sym (instances_of t) ∙ ap (λ (k : Program). (wires k).instances) (sym b.network));
+  cells = λ p x at. let o = b.ready.each p x (at_both key.cells.value.items p x at) in (o.network ∙ sym b.network, o.instance);
 }

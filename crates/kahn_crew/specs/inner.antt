@@ -1,7 +1,8 @@
 pub mod Begins
 pub mod Crews
-pub mod Floors
 pub mod Left
+pub mod Lent
 pub mod Rests
 pub mod Tasks
+pub mod Turns
 pub mod Wants

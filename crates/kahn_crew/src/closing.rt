@@ -3,9 +3,9 @@
 ghost use Rattle.std.specs.Prelude.{◌≡◌, ◌<◌, ◌≤◌, [], true, List, length, map, Some};
 ghost use Rattle.std.specs.Vec.{vec_capacity};
 ghost use Rattle.kahn_network.specs.Network.{network_of};
-ghost use Rattle.kahn_crew.specs.inner.Begins.{HasBegun, all_events};
-ghost use Rattle.kahn_crew.specs.inner.Crews.{IsWhole};
-ghost use Rattle.kahn_crew.specs.inner.Left.{AreUntouched, HaveGone, IsOver};
+ghost use Rattle.kahn_desk.specs.inner.Crew.{IsLoneSeat};
+ghost use Rattle.kahn_crew.specs.inner.Begins.{HasBegun};
+ghost use Rattle.kahn_crew.specs.inner.Left.{IsLeftOf, IsOver, IsUntouched};
 ghost use Rattle.kahn_crew.specs.inner.Tasks.{Tasked};
 
 use crate::boxes::Boxed;
@@ -40,11 +40,11 @@ pub(crate) fn leave<'n>(
     input: &'n Input,
     _watch: Option<usize>,
 ) -> Left<'n>
-    requires seat { IsWhole board.table.shared.table_id seat }
+    requires seat { IsLoneSeat board.table.shared.table_id seat }
     requires begun { HasBegun network.now input.now _watch board.table.shared.key }
     requires room { (room.items ≡ []) × (length (network_of network.now).instances ≤ vec_capacity room) }
-    ensures gone { HaveGone network.now input.now _watch (all_events board.entry.table.shared.key) board.entry.table.shared.key.cells.value.items result.tasks.items result.budget }
-    ensures untouched { seat.entry.seat.me.0.done ≡ 0 → AreUntouched board.entry.table.shared.key.bound board.entry.table.shared.key.cells.value.items result.tasks.items result.budget }
+    ensures gone { IsLeftOf network.now input.now _watch board.entry.table.shared.key result }
+    ensures untouched { seat.entry.seat.me.0.done ≡ 0 → IsUntouched board.entry.table.shared.key result }
     ensures over { seat.entry.seat.me.0.stage ≡ 1 → IsOver network.now input.now result.tasks.items result.budget result.halted }
     ensures halted { (0 < seat.entry.seat.me.0.raised → result.halted ≡ true) × (result.halted ≡ true → 0 < seat.entry.seat.me.0.raised) }
     ensures wanted { result.wanted ≡ wanted }

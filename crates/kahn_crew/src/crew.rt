@@ -4,20 +4,17 @@ ghost use Rattle.std.specs.Prelude.{◌≡◌, ◌+◌, ◌<◌, ◌≤◌, ◌^
 ghost use Rattle.std.specs.Vec.{vec_capacity};
 ghost use Rattle.kahn_network.specs.Network.{network_of};
 ghost use Rattle.kahn_board.specs.Dealt.{events_of};
-ghost use Rattle.kahn_desk.specs.inner.Crew.{parts_of, raised_of};
-ghost use Rattle.kahn_desk.specs.inner.Turn.{IsIdle, IsSeatOf};
-ghost use Rattle.kahn_crew.specs.inner.Crews.{HasCause, HasGone, IsSeated, IsWhole, crew_parts, crew_raised};
-ghost use Rattle.kahn_crew.specs.inner.Floors.{IsFloor};
-ghost use Rattle.kahn_crew.specs.inner.Begins.{AreReady};
-ghost use Rattle.kahn_crew.specs.inner.Left.{AreUntouched, HaveGone, HaveLeft, IsOver};
+ghost use Rattle.kahn_desk.specs.inner.Crew.{IsDoneAt, IsLoneSeat, SitsAt, parts_of, raised_of};
+ghost use Rattle.kahn_crew.specs.inner.Crews.{HasCause, HasGone, HasSeat, crew_parts, crew_raised};
+ghost use Rattle.kahn_crew.specs.inner.Begins.{AreReadyTasks};
+ghost use Rattle.kahn_crew.specs.inner.Left.{AreUntouched, IsLeftBy, HaveLeft, IsOver};
 ghost use Rattle.kahn_crew.specs.inner.Tasks.{told_of};
-ghost use Rattle.kahn_crew.specs.inner.Wants.{IsWant};
+ghost use Rattle.kahn_crew.specs.inner.Wants.{IsLack};
 ghost use Rattle.kahn_crew.specs.declared.fault.CrewFault.TheVariants.{NoMemory as NoMemoryFault, NoThread as NoThreadFault};
 
 use crate::boxes::Boxed;
 use crate::closing::{leave, untouched};
 use crate::fault::CrewFault;
-use crate::floor::Floor;
 use crate::gate::Gate;
 use crate::hints::Hints;
 use crate::labor::{Hand, Labored, labor_all};
@@ -25,6 +22,7 @@ use crate::left::Left;
 use crate::opening::{first_tasks, open_board};
 use crate::plan::Plan;
 use crate::rooms::Rooms;
+use crate::run::Run;
 use crate::task::Task;
 use crate::worker::Worker;
 use kahn_board::{Board, Seat};
@@ -45,9 +43,9 @@ fn man<'n>(
 ) -> Vec<Worker<'n>>
     requires hints { length hints.items ≡ length seats.items }
     requires room { (workers.items ≡ []) × (length seats.items ≤ vec_capacity workers) }
-    requires each { All (λ s. (s.seat.table_id ≡ board.now.table.shared.table_id) × IsIdle s) seats.items }
+    requires each { All (SitsAt board.now.table.shared.table_id) seats.items }
     ensures count { length result.items ≡ length seats.entry.items }
-    ensures each { All (IsSeated board.now.table.shared.table_id) result.items }
+    ensures each { All (HasSeat board.now.table.shared.table_id) result.items }
     ensures sums { crew_parts result.items ≡ parts_of seats.entry.items }
     ensures raised { crew_raised result.items ≡ raised_of seats.entry.items }
 {
@@ -55,7 +53,7 @@ fn man<'n>(
         let hints = hints.pop().unwrap();
         workers.push_reserved(Worker {
             seat,
-            hints,
+            hints: hints.fresh(),
             start: seats.len(),
         });
     }
@@ -71,10 +69,11 @@ fn dismiss<'n>(
     requires room { (seats.items ≡ []) × (length workers.items ≤ vec_capacity seats) }
     requires each { All (HasGone board.now.table.shared.table_id) workers.items }
     ensures count { length result.0.items ≡ length workers.entry.items }
-    ensures each { All (λ s. (s.seat.table_id ≡ board.now.table.shared.table_id) × IsIdle s × (s.seat.me.0.stage ≡ 1)) result.0.items }
+    ensures each { All (IsDoneAt board.now.table.shared.table_id) result.0.items }
     ensures sums { parts_of result.0.items ≡ crew_parts workers.entry.items }
     ensures raised { raised_of result.0.items ≡ crew_raised workers.entry.items }
     ensures wanted { All HasCause workers.entry.items → 0 < raised_of result.0.items → result.1 ≡ true }
+    ensures heard { All HasCause workers.entry.items → result.1 ≡ true → 0 < raised_of result.0.items }
 {
     let mut wanted = false;
     while let Some(worker) = workers.pop() {
@@ -93,28 +92,27 @@ fn dismiss<'n>(
 #[derive(Drop)]
 struct Shift<'b, 'c, 'n, R, G> {
     rt: &'b R,
-    floor: &'b Floor<'c, 'n>,
+    run: &'b Run<'c, 'n>,
     gate: &'b G,
 }
 
 impl<'b, 'c, 'n, R: Wait + Sync, G: Gate + Sync> Hand<Shift<'b, 'c, 'n, R, G>> for Worker<'n> {
-    ghost use Rattle.std.specs.Prelude.{◌≡◌, ◌<◌};
-    ghost use Rattle.kahn_crew.specs.inner.Crews.{HasGone, HasQuit, IsSeated};
-    ghost use Rattle.kahn_crew.specs.inner.Floors.{Heeds, IsFloor};
+    ghost use Rattle.kahn_crew.specs.inner.Crews.{HasGone, HasQuit, HasSeat};
+    ghost use Rattle.kahn_crew.specs.inner.Turns.{Heeds};
 
-    ghost may = { λ s w. IsFloor s.floor.now.board.now.table.shared.key s.floor.now.network.now s.floor.now.code.now.network.value × (0 < s.floor.now.quantum) × IsSeated s.floor.now.board.now.table.shared.table_id w };
+    ghost may = { λ s w. HasSeat s.run.now.board.now.table.shared.table_id w };
 
-    ghost did = { λ s old new. HasGone s.floor.now.board.now.table.shared.table_id new × Heeds old.hints.wanted old.seat new.hints.wanted new.seat };
+    ghost did = { λ s old new. HasGone s.run.now.board.now.table.shared.table_id new × Heeds old.hints.wanted old.seat new.hints.wanted new.seat };
 
-    ghost quit = { λ s old new. HasQuit s.floor.now.board.now.table.shared.table_id old new };
+    ghost quit = { λ s old new. HasQuit s.run.now.board.now.table.shared.table_id old new };
 
     fn halt(mut self, shared: &Shift<'b, 'c, 'n, R, G>) -> Worker<'n> {
-        stop(&mut self.seat, shared.floor.board);
+        stop(&mut self.seat, shared.run.board);
         self
     }
 
     fn labor(mut self, shared: &Shift<'b, 'c, 'n, R, G>) -> Worker<'n> {
-        self.work(shared.rt, shared.floor, shared.gate);
+        self.work(shared.rt, shared.run, shared.gate);
         self
     }
 }
@@ -122,21 +120,19 @@ impl<'b, 'c, 'n, R: Wait + Sync, G: Gate + Sync> Hand<Shift<'b, 'c, 'n, R, G>> f
 // All work at the same time, each until it has left. Where a thread can't be started for a worker, the run is halted.
 fn work_all<'n, R: Threads + Wait + Sync, G: Gate + Sync>(
     rt: &R,
-    floor: &Floor<'_, 'n>,
+    run: &Run<'_, 'n>,
     gate: &G,
     workers: Vec<Worker<'n>>,
 ) -> Labored<Worker<'n>>
-    requires floor { IsFloor floor.now.board.now.table.shared.key floor.now.network.now floor.now.code.now.network.value }
-    requires quantum { 0 < floor.now.quantum }
-    requires each { All (IsSeated floor.now.board.now.table.shared.table_id) workers.items }
+    requires each { All (HasSeat run.now.board.now.table.shared.table_id) workers.items }
     ensures count { length result.hands.items ≡ length workers.entry.items }
-    ensures each { All (HasGone floor.now.board.now.table.shared.table_id) result.hands.items }
+    ensures each { All (HasGone run.now.board.now.table.shared.table_id) result.hands.items }
     ensures sums { crew_parts result.hands.items ≡ crew_parts workers.entry.items }
     ensures several { result.refused ≡ true → 1 < length workers.entry.items }
     ensures halted { result.refused ≡ true → 0 < crew_raised result.hands.items }
     ensures cause { result.refused ≡ false → crew_raised workers.entry.items ≡ 0 → All HasCause result.hands.items }
 {
-    labor_all(rt, &Shift { rt, floor, gate }, workers)
+    labor_all(rt, &Shift { rt, run, gate }, workers)
 }
 
 // The board's one seat, once a crew of the plan's workers has worked by its quantum and left, and whether one of it wanted
@@ -145,23 +141,21 @@ fn employ<'n, R: Threads + Wait + Sync, G: Gate + Sync>(
     rt: &R,
     alloc: Global,
     _plan: Plan,
-    floor: &Floor<'_, 'n>,
+    run: &Run<'_, 'n>,
     gate: &G,
     seat: Seat<Boxed<'n>>,
     rooms: Rooms<'n>,
 ) -> Result<(Seat<Boxed<'n>>, bool), (CrewFault, Seat<Boxed<'n>>, bool)>
-    requires floor { IsFloor floor.now.board.now.table.shared.key floor.now.network.now floor.now.code.now.network.value }
-    requires quantum { 0 < floor.now.quantum }
-    requires seat { IsWhole floor.now.board.now.table.shared.table_id seat }
+    requires seat { IsLoneSeat run.now.board.now.table.shared.table_id seat }
     requires calm { seat.seat.me.0.raised ≡ 0 }
-    requires plan { (floor.now.quantum ≡ _plan.quantum) × (length rooms.hints.items ≡ _plan.workers) }
+    requires plan { (run.now.quantum ≡ _plan.quantum) × (length rooms.hints.items ≡ _plan.workers) }
     requires few { (1 ≤ length rooms.hints.items) × (length rooms.hints.items ≤ 16) }
-    requires rooms { (rooms.workers.items ≡ []) × (length rooms.hints.items ≤ vec_capacity rooms.workers) × (rooms.seats.items ≡ []) × (length rooms.hints.items ≤ vec_capacity rooms.seats) }
-    ensures left { IfOk result (λ r. IsWhole floor.now.board.now.table.shared.table_id r.0 × (r.0.seat.me.0.stage ≡ 1)) }
-    // The run was halted only where memory was wanted, or a thread.
+    ensures left { IfOk result (λ r. IsLoneSeat run.now.board.now.table.shared.table_id r.0 × (r.0.seat.me.0.stage ≡ 1)) }
+    // The run was halted where memory was wanted, and nowhere else but for want of a thread.
     ensures cause { IfOk result (λ r. 0 < r.0.seat.me.0.raised → r.1 ≡ true) }
+    ensures heard { IfOk result (λ r. r.1 ≡ true → 0 < r.0.seat.me.0.raised) }
     ensures halted { IfErr result (λ e. e.0 ≡ NoThreadFault → 0 < e.1.seat.me.0.raised) }
-    ensures refused { IfErr result (λ e. IsWant (length rooms.entry.hints.items) e.0 × IsWhole floor.now.board.now.table.shared.table_id e.1) }
+    ensures refused { IfErr result (λ e. IsLack (length rooms.entry.hints.items) e.0 × IsLoneSeat run.now.board.now.table.shared.table_id e.1) }
     // Where memory was refused nobody worked.
     ensures idle { IfErr result (λ e. e.0 ≡ NoMemoryFault → e.1.seat.me.0.done ≡ seat.entry.seat.me.0.done) }
 {
@@ -170,12 +164,12 @@ fn employ<'n, R: Threads + Wait + Sync, G: Gate + Sync>(
         workers,
         seats: room,
     } = rooms;
-    match split_all(alloc, floor.board, seat, hints.len()) {
+    match split_all(alloc, run.board, seat, hints.len()) {
         Ok(seats) => {
-            let workers = man(floor.board, seats, hints, workers);
-            let Labored { hands, refused } = work_all(rt, floor, gate, workers);
-            let (seats, wanted) = dismiss(floor.board, hands, room);
-            let seat = join_all(floor.board, seats);
+            let workers = man(run.board, seats, hints, workers);
+            let Labored { hands, refused } = work_all(rt, run, gate, workers);
+            let (seats, wanted) = dismiss(run.board, hands, room);
+            let seat = join_all(run.board, seats);
             if refused {
                 Err((CrewFault::NoThread, seat, wanted))
             } else {
@@ -195,8 +189,6 @@ fn prepare<'n>(
 ) -> Result<(Rooms<'n>, Vec<Task<'n>>), NoMemory>
     requires { 0 < workers }
     ensures hints { IfOk result (λ r. length r.0.hints.items ≡ workers) }
-    ensures workers { IfOk result (λ r. (r.0.workers.items ≡ []) × (workers ≤ vec_capacity r.0.workers)) }
-    ensures seats { IfOk result (λ r. (r.0.seats.items ≡ []) × (workers ≤ vec_capacity r.0.seats)) }
     ensures tasks { IfOk result (λ r. (r.1.items ≡ []) × (length (network_of network.now).instances ≤ vec_capacity r.1)) }
 {
     let rooms = Rooms::new(alloc, workers, network.instances())?;
@@ -225,14 +217,15 @@ pub fn run_tasks<'n, R: Threads + Wait + Sync, G: Gate + Sync>(
     requires code { code.now.network.value ≡ network.now }
     requires few { (1 ≤ plan.workers) × (plan.workers ≤ 16) }
     requires quantum { 0 < plan.quantum }
-    requires ready { AreReady network.now input.now plan.watch tasks.items }
+    requires ready { AreReadyTasks network.now input.now plan.watch tasks.items }
     requires bound { plan.bound + events_of told_of tasks.items < 2 ^ 48 }
-    ensures gone { IfOk result (λ left. HaveGone network.now input.now plan.watch (plan.bound + events_of told_of tasks.entry.items) tasks.entry.items left.tasks.items left.budget) }
+    ensures gone { IfOk result (λ left. IsLeftBy network.now input.now plan tasks.entry.items left) }
     ensures over { IfOk result (λ left. IsOver network.now input.now left.tasks.items left.budget left.halted) }
     ensures cause { IfOk result (λ left. left.halted ≡ true → left.wanted ≡ true) }
-    ensures wants { IfErr result (λ e. IsWant plan.workers e.0) }
+    ensures heard { IfOk result (λ left. left.wanted ≡ true → left.halted ≡ true) }
+    ensures wants { IfErr result (λ e. IsLack plan.workers e.0) }
     ensures halted { IfErr result (λ e. e.0 ≡ NoThreadFault → e.1.halted ≡ true) }
-    ensures refused { IfErr result (λ e. HaveGone network.now input.now plan.watch (plan.bound + events_of told_of tasks.entry.items) tasks.entry.items e.1.tasks.items e.1.budget) }
+    ensures refused { IfErr result (λ e. IsLeftBy network.now input.now plan tasks.entry.items e.1) }
     ensures untouched { IfErr result (λ e. e.0 ≡ NoMemoryFault → AreUntouched plan.bound tasks.entry.items e.1.tasks.items e.1.budget) }
 {
     let Ok((rooms, room)) = prepare(alloc, network, plan.workers) else {
@@ -244,13 +237,13 @@ pub fn run_tasks<'n, R: Threads + Wait + Sync, G: Gate + Sync>(
             return Err((CrewFault::NoMemory, untouched(tasks, plan.bound)));
         }
     };
-    let floor = Floor {
+    let run = Run {
         board: &board,
         network,
         code,
         quantum: plan.quantum,
     };
-    match employ(rt, alloc, plan, &floor, gate, seat, rooms) {
+    match employ(rt, alloc, plan, &run, gate, seat, rooms) {
         Ok((seat, wanted)) => {
             let left = leave(board, seat, wanted, room, network, input, plan.watch);
             Ok(left)
@@ -281,8 +274,9 @@ pub fn run_crew<'n, R: Threads + Wait + Sync, G: Gate + Sync>(
     requires few { (1 ≤ plan.workers) × (plan.workers ≤ 16) }
     requires quantum { 0 < plan.quantum }
     requires bound { plan.bound < 2 ^ 48 }
-    ensures ran { MatchResult result (λ left. HaveLeft network.now input.now plan.watch plan.bound left.tasks.items left.budget left.halted) (IsWant plan.workers) }
+    ensures ran { MatchResult result (λ left. HaveLeft network.now input.now plan.watch plan.bound left.tasks.items left.budget left.halted) (IsLack plan.workers) }
     ensures cause { IfOk result (λ left. left.halted ≡ true → left.wanted ≡ true) }
+    ensures heard { IfOk result (λ left. left.wanted ≡ true → left.halted ≡ true) }
 {
     let tasks = first_tasks(alloc, network, input, code, plan.watch)?;
     match run_tasks(rt, alloc, network, input, code, plan, tasks, gate) {

@@ -19,7 +19,7 @@ pub struct Hints {
 }
 
 impl Hints {
-    /// The hints of a worker, to which no memory was refused yet.
+    /// The hints of a worker, of which it has none yet.
     pub fn new(own: Worker<usize>, others: Vec<Stealer<usize>>) -> Hints
         ensures { result.wanted ≡ false }
     {
@@ -30,6 +30,14 @@ impl Hints {
             others,
             wanted: false,
         }
+    }
+
+    /// The same hints as a run begins: no memory was refused to the worker yet.
+    pub fn fresh(mut self) -> Hints
+        ensures { result.wanted ≡ false }
+    {
+        self.wanted = false;
+        self
     }
 
     /// What others take the hints with.

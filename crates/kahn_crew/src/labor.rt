@@ -1,8 +1,8 @@
 //! Several that work at the same time.
 
-ghost use Rattle.std.specs.Prelude.{◌≡◌, ℕ, ◌<◌, ◌≤◌, true, false, length, All, slice_index_or};
+ghost use Rattle.std.specs.Prelude.{◌≡◌, ◌<◌, ◌≤◌, true, false, length, All};
 ghost use Rattle.std.specs.Vec.{vec_capacity};
-ghost use Rattle.kahn_crew.specs.inner.Crews.{OneWent, Went};
+ghost use Rattle.kahn_crew.specs.inner.Crews.{AllWent, OneWent, Went};
 
 use std::snapshot::Snapshot;
 use std::sync::Wait;
@@ -55,7 +55,7 @@ fn leave_all<C, T: Hand<C>>(shared: &C, mut hands: Vec<T>) -> Vec<T>
     requires { All (T.may shared.now) hands.items }
     ensures room { vec_capacity result ≡ vec_capacity hands }
     ensures count { length result.items ≡ length hands.items }
-    ensures each { (i : ℕ) (d : T) → i < length hands.items → T.quit shared.now (slice_index_or hands.items i d) (slice_index_or result.items i d) }
+    ensures each { AllWent (T.quit shared.now) hands.items result.items }
 {
     let Some(hand) = hands.pop() else {
         return hands;
@@ -71,7 +71,7 @@ fn labor_here<C, T: Hand<C>>(shared: &C, mut hands: Vec<T>) -> Labored<T>
     requires few { length hands.items ≤ 1 }
     ensures room { vec_capacity result.hands ≡ vec_capacity hands }
     ensures count { length result.hands.items ≡ length hands.items }
-    ensures each { (i : ℕ) (d : T) → i < length hands.items → T.did shared.now (slice_index_or hands.items i d) (slice_index_or result.hands.items i d) }
+    ensures each { AllWent (T.did shared.now) hands.items result.hands.items }
     ensures calm { result.refused ≡ false }
 {
     if let Some(hand) = hands.pop() {
@@ -94,7 +94,7 @@ fn labor_from<'s, E, R: Threads, C: Sync + 's, T: Hand<C> + Send + Drop + 's>(
     requires { All (T.may shared.now) hands.items }
     ensures room { vec_capacity result.hands ≡ vec_capacity hands }
     ensures count { length result.hands.items ≡ length hands.items }
-    ensures each { (i : ℕ) (d : T) → i < length hands.items → Went result.refused (T.did shared.now) (T.quit shared.now) (slice_index_or hands.items i d) (slice_index_or result.hands.items i d) }
+    ensures each { AllWent (Went result.refused (T.did shared.now) (T.quit shared.now)) hands.items result.hands.items }
     ensures several { result.refused ≡ true → 1 < length hands.items }
     ensures quits { result.refused ≡ true → OneWent (T.quit shared.now) hands.items result.hands.items }
 {
@@ -147,7 +147,7 @@ pub(crate) fn labor_all<R: Threads + Wait + Sync, C: Sync, T: Hand<C> + Send + D
     requires { All (T.may shared.now) hands.items }
     ensures room { vec_capacity result.hands ≡ vec_capacity hands }
     ensures count { length result.hands.items ≡ length hands.items }
-    ensures each { (i : ℕ) (d : T) → i < length hands.items → Went result.refused (T.did shared.now) (T.quit shared.now) (slice_index_or hands.items i d) (slice_index_or result.hands.items i d) }
+    ensures each { AllWent (Went result.refused (T.did shared.now) (T.quit shared.now)) hands.items result.hands.items }
     ensures several { result.refused ≡ true → 1 < length hands.items }
     ensures quits { result.refused ≡ true → OneWent (T.quit shared.now) hands.items result.hands.items }
 {
@@ -161,7 +161,7 @@ pub(crate) fn labor_all<R: Threads + Wait + Sync, C: Sync, T: Hand<C> + Send + D
             requires { All (T.may shared.now) hands.items }
             ensures room { vec_capacity result.hands ≡ vec_capacity hands }
             ensures count { length result.hands.items ≡ length hands.items }
-            ensures each { (i : ℕ) (d : T) → i < length hands.items → Went result.refused (T.did shared.entry.now) (T.quit shared.entry.now) (slice_index_or hands.items i d) (slice_index_or result.hands.items i d) }
+            ensures each { AllWent (Went result.refused (T.did shared.entry.now) (T.quit shared.entry.now)) hands.items result.hands.items }
             ensures several { result.refused ≡ true → 1 < length hands.items }
             ensures quits { result.refused ≡ true → OneWent (T.quit shared.entry.now) hands.items result.hands.items }
         { labor_from(rt, scope, shared, hands) },

@@ -5,7 +5,7 @@ ghost use Rattle.kahn_network.specs.Network.{network_of};
 ghost use Rattle.kahn_board.specs.Dealt.{events_of};
 ghost use Rattle.kahn_board.specs.Rule.{opening_view};
 ghost use Rattle.kahn_board.specs.Wires.{wires};
-ghost use Rattle.kahn_crew.specs.inner.Begins.{AreReady, HasBegun, IsNumber, ready_task};
+ghost use Rattle.kahn_crew.specs.inner.Begins.{AreNumbersOf, AreReadyTasks, HasBegun, IsNumber, ready_task};
 ghost use Rattle.kahn_crew.specs.inner.Tasks.{told_of};
 
 use crate::boxes::{Boxed, box_all, unbox_all};
@@ -39,7 +39,7 @@ pub fn first_tasks<'n>(
     watch: Option<usize>,
 ) -> Result<Vec<Task<'n>>, NoMemory>
     requires { code.now.network.value ≡ network.now }
-    ensures ready { IfOk result (λ tasks. AreReady network.now input.now watch tasks.items) }
+    ensures ready { IfOk result (λ tasks. AreReadyTasks network.now input.now watch tasks.items) }
     ensures none { IfOk result (λ tasks. events_of told_of tasks.items ≡ 0) }
 {
     let Ok(jobs) = jobs(alloc, network, input, code, watch) else {
@@ -58,7 +58,7 @@ fn number(
     channel: usize,
 ) -> u64
     requires here { channel < length (network_of network.now).channels }
-    requires ready { AreReady network.now input.now _watch tasks.now }
+    requires ready { AreReadyTasks network.now input.now _watch tasks.now }
     requires few { events_of told_of tasks.now < 2 ^ 48 }
     ensures number { IsNumber network.now input.now tasks.now channel result }
     ensures few { result < 2 ^ 48 }
@@ -86,10 +86,10 @@ fn numbers_of(
     _watch: Option<usize>,
     tasks: &[Task],
 ) -> Result<Vec<u64>, NoMemory>
-    requires ready { AreReady network.now input.now _watch tasks.now }
+    requires ready { AreReadyTasks network.now input.now _watch tasks.now }
     requires few { events_of told_of tasks.now < 2 ^ 48 }
     ensures count { IfOk result (λ v. length v.items ≡ length (network_of network.now).channels) }
-    ensures each { IfOk result (λ v. (c : ℕ) → c < length v.items → IsNumber network.now input.now tasks.now c (slice_index v.items c) × (slice_index v.items c < 2 ^ 48)) }
+    ensures each { IfOk result (λ v. AreNumbersOf network.now input.now tasks.now v.items) }
 {
     let mut numbers = Vec::with_capacity(alloc, network.channels())?;
     for channel in 0..network.channels() {
@@ -108,7 +108,7 @@ pub(crate) fn open_board<'n>(
     bound: u64,
     tasks: Vec<Task<'n>>,
 ) -> Result<(Board<Boxed<'n>>, Seat<Boxed<'n>>), (NoMemory, Vec<Task<'n>>)>
-    requires ready { AreReady network.now input.now watch tasks.items }
+    requires ready { AreReadyTasks network.now input.now watch tasks.items }
     requires few { bound + events_of told_of tasks.items < 2 ^ 48 }
     ensures seat { IfOk result (λ r. (r.1.seat.table_id ≡ r.0.table.shared.table_id) × (r.1.seat.me ≡ (opening_view (wires network.now), []))) }
     ensures begun { IfOk result (λ r. HasBegun network.now input.now watch r.0.table.shared.key) }

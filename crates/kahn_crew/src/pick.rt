@@ -1,54 +1,50 @@
 //! Which instance is taken next.
 
-ghost use Rattle.std.specs.Prelude.{◌≡◌, ℕ, ◌+◌, ◌<◌, ◌^◌, false, true, slice_index, IfSome, IfNone};
-ghost use Rattle.kahn_desk.specs.inner.Turn.{IsBetween, IsIdle, IsSeatOf};
-ghost use Rattle.kahn_crew.specs.inner.Floors.{HasTask, WasNotReady};
+ghost use Rattle.std.specs.Prelude.{◌≡◌, ℕ, ◌<◌, false, true, IfSome, IfNone};
+ghost use Rattle.kahn_desk.specs.inner.Turn.{IsSeatOf};
+ghost use Rattle.kahn_crew.specs.inner.Turns.{HasTask, SitsWith, WasNotReady};
 
 use crate::boxes::Boxed;
-use crate::floor::Floor;
 use crate::hints::Hints;
+use crate::run::Run;
 use kahn_board::Seat;
 use kahn_desk::{looks_ready, pick};
 
 // Takes the instance, where there is one of that number that is ready. It looks first, since a claim writes a word.
-fn pick_one<'n>(floor: &Floor<'_, 'n>, seat: &mut Seat<Boxed<'n>>, p: usize) -> bool
-    requires board { seat.old.seat.table_id ≡ floor.now.board.now.table.shared.table_id }
-    requires rests { (n : ℕ) × IsBetween n seat.old }
+fn pick_one<'n>(run: &Run<'_, 'n>, seat: &mut Seat<Boxed<'n>>, p: usize) -> bool
+    requires { (n : ℕ) × SitsWith run.now n seat.old }
     ensures same { IsSeatOf seat.old seat.new }
-    ensures picked { result ≡ true → (p < floor.now.board.now.instances) × ((n : ℕ) → IsBetween n seat.old → HasTask floor.now.board.now.table.shared.key p n seat.new) }
-    ensures few { result ≡ true → slice_index seat.new.seat.me.0.got p + seat.new.seat.me.0.drawn < 2 ^ 48 }
-    ensures missed { result ≡ false → (n : ℕ) → IsBetween n seat.old → IsBetween n seat.new }
-    ensures late { result ≡ false → p < floor.now.board.now.instances → WasNotReady floor.now.board.now.table.shared.key seat.old p }
+    ensures picked { result ≡ true → (n : ℕ) → SitsWith run.now n seat.old → HasTask run.now p n seat.new }
+    ensures missed { result ≡ false → (n : ℕ) → SitsWith run.now n seat.old → SitsWith run.now n seat.new }
+    ensures late { result ≡ false → p < run.now.board.now.instances → WasNotReady run.now seat.old p }
 {
-    if p >= floor.board.instances {
+    if p >= run.board.instances {
         return false;
     }
-    if !looks_ready(seat, floor.board, p) {
+    if !looks_ready(seat, run.board, p) {
         return false;
     }
-    pick(seat, floor.board, p)
+    pick(seat, run.board, p)
 }
 
 /// Picks an instance that a hint names: one of the worker's own, or one that it steals.
 pub(crate) fn pick_hinted<'n>(
-    floor: &Floor<'_, 'n>,
+    run: &Run<'_, 'n>,
     seat: &mut Seat<Boxed<'n>>,
     hints: &mut Hints,
     steals: bool,
 ) -> Option<usize>
-    requires board { seat.old.seat.table_id ≡ floor.now.board.now.table.shared.table_id }
-    requires rests { (n : ℕ) × IsBetween n seat.old }
+    requires { (n : ℕ) × SitsWith run.now n seat.old }
     ensures same { IsSeatOf seat.old seat.new }
-    ensures picked { IfSome result (λ p. (p < floor.now.board.now.instances) × ((n : ℕ) → IsBetween n seat.old → HasTask floor.now.board.now.table.shared.key p n seat.new)) }
-    ensures few { IfSome result (λ p. slice_index seat.new.seat.me.0.got p + seat.new.seat.me.0.drawn < 2 ^ 48) }
-    ensures left { IfNone result ((n : ℕ) → IsBetween n seat.old → IsBetween n seat.new) }
+    ensures picked { IfSome result (λ p. (n : ℕ) → SitsWith run.now n seat.old → HasTask run.now p n seat.new) }
+    ensures left { IfNone result ((n : ℕ) → SitsWith run.now n seat.old → SitsWith run.now n seat.new) }
     ensures kept { hints.new.wanted ≡ hints.old.wanted }
 {
-    for _ in 0..floor.board.instances {
+    for _ in 0..run.board.instances {
         let Some(p) = hints.find(steals) else {
             return None;
         };
-        if pick_one(floor, seat, p) {
+        if pick_one(run, seat, p) {
             return Some(p);
         }
     }
@@ -57,21 +53,20 @@ pub(crate) fn pick_hinted<'n>(
 
 /// Picks an instance that is ready, from the one with that number on, round all of them.
 pub(crate) fn pick_any<'n>(
-    floor: &Floor<'_, 'n>,
+    run: &Run<'_, 'n>,
     seat: &mut Seat<Boxed<'n>>,
     start: usize,
 ) -> Option<usize>
-    requires board { seat.old.seat.table_id ≡ floor.now.board.now.table.shared.table_id }
-    requires idle { IsIdle seat.old }
+    requires { SitsWith run.now 0 seat.old }
     ensures same { IsSeatOf seat.old seat.new }
-    ensures picked { IfSome result (λ p. (p < floor.now.board.now.instances) × HasTask floor.now.board.now.table.shared.key p 0 seat.new) }
-    ensures left { IfNone result (IsIdle seat.new) }
-    ensures none { IfNone result ((p : ℕ) → p < floor.now.board.now.instances → WasNotReady floor.now.board.now.table.shared.key seat.old p) }
+    ensures picked { IfSome result (λ p. HasTask run.now p 0 seat.new) }
+    ensures left { IfNone result (SitsWith run.now 0 seat.new) }
+    ensures none { IfNone result ((p : ℕ) → p < run.now.board.now.instances → WasNotReady run.now seat.old p) }
 {
-    let count = floor.board.instances;
+    let count = run.board.instances;
     for step in 0..count {
         let p = (start % count + step) % count;
-        if pick_one(floor, seat, p) {
+        if pick_one(run, seat, p) {
             return Some(p);
         }
     }

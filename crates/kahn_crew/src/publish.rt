@@ -1,15 +1,16 @@
 //! What a task flushed is told to the board, so that the readers that wait for it go on.
 
-ghost use Rattle.std.specs.Prelude.{◌≡◌, ◌≢◌, ◌⊎◌, ℕ, ◌<◌, ◌^◌, true, false, None, Option, IfNone};
+ghost use Rattle.std.specs.Prelude.{◌≡◌, ◌≢◌, ◌⊎◌, ℕ, ◌<◌, true, false, IfNone};
 ghost use Rattle.kahn_code.specs.Standing.{count};
-ghost use Rattle.kahn_desk.specs.inner.Turn.{HasHalted, Holds, IsBetween, IsSeatOf};
+ghost use Rattle.kahn_board.specs.Plays.{SeesMore};
+ghost use Rattle.kahn_desk.specs.inner.Turn.{HasHalted, IsSeatOf};
 ghost use Rattle.kahn_job.specs.inner.Works.{width_of};
-ghost use Rattle.kahn_crew.specs.inner.Floors.{HasKept, Heeds, IsFloor, IsTaskOf};
-ghost use Rattle.kahn_crew.specs.inner.Tasks.{AgreesWith, IsPublished, Tasked};
+ghost use Rattle.kahn_crew.specs.inner.Tasks.{IsPublished};
+ghost use Rattle.kahn_crew.specs.inner.Turns.{Heeds, IsAtWork, SitsIn, StandsStill};
 
 use crate::boxes::Boxed;
-use crate::floor::Floor;
 use crate::hints::Hints;
+use crate::run::Run;
 use crate::target::target;
 use crate::task::Task;
 use kahn_board::Seat;
@@ -17,100 +18,82 @@ use kahn_desk::{stop, tell};
 
 // Publishes what was flushed on a parameter, where it is more than before. Answers the reader that it woke.
 pub(crate) fn publish_one<'n>(
-    floor: &Floor<'_, 'n>,
+    run: &Run<'_, 'n>,
     seat: &mut Seat<Boxed<'n>>,
     task: &mut Task<'n>,
     p: usize,
     parameter: usize,
 ) -> Option<usize>
-    requires board { seat.old.seat.table_id ≡ floor.now.board.now.table.shared.table_id }
-    requires floor { IsFloor floor.now.board.now.table.shared.key floor.now.network.now floor.now.code.now.network.value }
-    requires holds { (n : ℕ) × (l : ℕ) × Holds p n l None seat.old }
-    requires task { IsTaskOf floor.now.network.now p task.old }
-    requires few { task.old.work.cell.events < 2 ^ 48 }
-    requires agrees { AgreesWith task.old.work task.old.published seat.old.seat.me.0.flushed }
+    requires works { (n : ℕ) × (k : ℕ) × IsAtWork run.now p n k task.old seat.old }
     requires inside { parameter < width_of task.old.work }
     ensures same { IsSeatOf seat.old seat.new }
-    ensures holds { (n l : ℕ) → Holds p n l None seat.old → Holds p n l None seat.new }
-    ensures kept { HasKept p seat.old.seat.me.0 seat.new.seat.me.0 }
+    ensures works { (n k : ℕ) → IsAtWork run.now p n k task.old seat.old → IsAtWork run.now p n k task.new seat.new }
+    ensures seen { SeesMore seat.old.seat.me.0.seen seat.new.seat.me.0.seen }
     ensures task { (task.new.work ≡ task.old.work) × (task.new.standing ≡ task.old.standing) }
-    ensures agrees { AgreesWith task.new.work task.new.published seat.new.seat.me.0.flushed }
     ensures published { IsPublished task.new parameter }
     ensures others { (r : ℕ) → r ≢ parameter → count task.new.published r ≡ count task.old.published r }
 {
-    let _program = floor.network.program();
+    let _program = run.network.program();
     task.parameters();
     let count = task.flushed(parameter);
     if count == task.published(parameter) {
         return None;
     }
-    let channel = target(floor.network, floor.code, p, parameter)?;
+    let channel = target(run.network, run.code, p, parameter)?;
     task.mark(parameter, count);
-    tell(seat, floor.board, p, channel, count)
+    tell(seat, run.board, p, channel, count)
 }
 
 // Where memory was refused for a hint the run is to stop. Otherwise the seat stays as it is.
-fn heed_hint<'n>(floor: &Floor<'_, 'n>, seat: &mut Seat<Boxed<'n>>, told: bool)
-    requires { seat.old.seat.table_id ≡ floor.now.board.now.table.shared.table_id }
+fn heed_hint<'n>(run: &Run<'_, 'n>, seat: &mut Seat<Boxed<'n>>, told: bool)
+    requires { SitsIn run.now seat.old }
     ensures halts { told ≡ false → HasHalted seat.old seat.new }
-    ensures holds { (p n l : ℕ) (x : Option Tasked) → Holds p n l x seat.old → Holds p n l x seat.new }
-    ensures rests { (n : ℕ) → IsBetween n seat.old → IsBetween n seat.new }
-    ensures kept { (p : ℕ) → HasKept p seat.old.seat.me.0 seat.new.seat.me.0 }
-    ensures flushed { seat.new.seat.me.0.flushed ≡ seat.old.seat.me.0.flushed }
+    ensures still { StandsStill seat.old seat.new }
     ensures refused { told ≡ false → seat.new.seat.me.0.seen ≡ 2 }
     ensures stays { told ≡ true → seat.new ≡ seat.old }
 {
     if !told {
-        stop(seat, floor.board);
+        stop(seat, run.board);
     }
 }
 
 /// Hints at an instance that is ready, where there is one. Where memory is refused the run is to stop.
 pub(crate) fn hint<'n>(
-    floor: &Floor<'_, 'n>,
+    run: &Run<'_, 'n>,
     seat: &mut Seat<Boxed<'n>>,
     hints: &mut Hints,
     woken: Option<usize>,
 )
-    requires { seat.old.seat.table_id ≡ floor.now.board.now.table.shared.table_id }
+    requires { SitsIn run.now seat.old }
     ensures same { Heeds hints.old.wanted seat.old hints.new.wanted seat.new }
-    ensures holds { (p n l : ℕ) (x : Option Tasked) → Holds p n l x seat.old → Holds p n l x seat.new }
-    ensures rests { (n : ℕ) → IsBetween n seat.old → IsBetween n seat.new }
-    ensures kept { (p : ℕ) → HasKept p seat.old.seat.me.0 seat.new.seat.me.0 }
-    ensures flushed { seat.new.seat.me.0.flushed ≡ seat.old.seat.me.0.flushed }
+    ensures still { StandsStill seat.old seat.new }
     // Nothing is halted where no hint was to be given, and the run is where memory was refused for one.
     ensures none { IfNone woken (seat.new ≡ seat.old) }
     ensures refused { (hints.new.wanted ≡ hints.old.wanted) ⊎ (seat.new.seat.me.0.seen ≡ 2) }
 {
     if let Some(instance) = woken {
         let told = hints.push(instance);
-        heed_hint(floor, seat, told);
+        heed_hint(run, seat, told);
     }
 }
 
 /// Publishes all that was flushed on each parameter, and hints at the readers that it woke.
 pub(crate) fn publish_all<'n>(
-    floor: &Floor<'_, 'n>,
+    run: &Run<'_, 'n>,
     seat: &mut Seat<Boxed<'n>>,
     hints: &mut Hints,
     task: &mut Task<'n>,
     p: usize,
 )
-    requires board { seat.old.seat.table_id ≡ floor.now.board.now.table.shared.table_id }
-    requires floor { IsFloor floor.now.board.now.table.shared.key floor.now.network.now floor.now.code.now.network.value }
-    requires holds { (n : ℕ) × (l : ℕ) × Holds p n l None seat.old }
-    requires task { IsTaskOf floor.now.network.now p task.old }
-    requires few { task.old.work.cell.events < 2 ^ 48 }
-    requires agrees { AgreesWith task.old.work task.old.published seat.old.seat.me.0.flushed }
+    requires works { (n : ℕ) × (k : ℕ) × IsAtWork run.now p n k task.old seat.old }
     ensures same { Heeds hints.old.wanted seat.old hints.new.wanted seat.new }
-    ensures holds { (n l : ℕ) → Holds p n l None seat.old → Holds p n l None seat.new }
-    ensures kept { HasKept p seat.old.seat.me.0 seat.new.seat.me.0 }
+    ensures works { (n k : ℕ) → IsAtWork run.now p n k task.old seat.old → IsAtWork run.now p n k task.new seat.new }
+    ensures seen { SeesMore seat.old.seat.me.0.seen seat.new.seat.me.0.seen }
     ensures task { (task.new.work ≡ task.old.work) × (task.new.standing ≡ task.old.standing) }
-    ensures agrees { AgreesWith task.new.work task.new.published seat.new.seat.me.0.flushed }
     ensures all { (r : ℕ) → IsPublished task.new r }
 {
     for parameter in 0..task.parameters() {
-        let woken = publish_one(floor, seat, task, p, parameter);
-        hint(floor, seat, hints, woken);
+        let woken = publish_one(run, seat, task, p, parameter);
+        hint(run, seat, hints, woken);
     }
 }

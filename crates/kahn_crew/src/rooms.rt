@@ -17,6 +17,8 @@ pub(crate) struct Rooms<'n> {
     pub(crate) hints: Vec<Hints>,
     pub(crate) workers: Vec<Worker<'n>>,
     pub(crate) seats: Vec<Seat<Boxed<'n>>>,
+    ghost manned: { (workers.items ≡ []) × (length hints.items ≤ vec_capacity workers) },
+    ghost seated: { (seats.items ≡ []) × (length hints.items ≤ vec_capacity seats) },
 }
 
 // Hints for so many workers, each with room for that many hints.
@@ -81,9 +83,7 @@ impl<'n> Rooms<'n> {
         instances: usize,
     ) -> Result<Rooms<'n>, NoMemory>
         requires { 0 < workers }
-        ensures hints { IfOk result (λ r. length r.hints.items ≡ workers) }
-        ensures workers { IfOk result (λ r. (r.workers.items ≡ []) × (workers ≤ vec_capacity r.workers)) }
-        ensures seats { IfOk result (λ r. (r.seats.items ≡ []) × (workers ≤ vec_capacity r.seats)) }
+        ensures { IfOk result (λ r. length r.hints.items ≡ workers) }
     {
         let hints = first_hints(alloc, workers, instances)?;
         let room = Vec::with_capacity(alloc, workers)?;

@@ -1,22 +1,21 @@
 //! A turn: instances are run one after another for a draw of events, and each is set down where it stands then.
 
-ghost use Rattle.std.specs.Prelude.{◌≡◌, ◌⊎◌, ℕ, ◌+◌, ◌-◌, ◌<◌, ◌≤◌, ◌^◌, length, slice_index, OnErr, OnOk, Option, Some};
-ghost use Rattle.kahn_network.specs.Network.{network_of};
+ghost use Rattle.std.specs.Prelude.{◌≡◌, ◌⊎◌, ℕ, ◌+◌, ◌-◌, ◌≤◌, OnErr, OnOk};
 ghost use Rattle.kahn_board.specs.Dealt.{wired};
 ghost use Rattle.kahn_code.specs.declared.progress.Pause.TheVariants.{NoMemory as IsWant};
 ghost use Rattle.kahn_job.specs.inner.Works.{IsDelivered};
-ghost use Rattle.kahn_desk.specs.inner.Turn.{Holds, IsBetween, IsIdle};
-ghost use Rattle.kahn_crew.specs.inner.Floors.{HasKept, HasTask, Heeds, IsFloor, IsTaskOf};
+ghost use Rattle.kahn_desk.specs.inner.Turn.{IsBetweenTurns};
 ghost use Rattle.kahn_crew.specs.inner.Rests.{CanRest, IsDue, IsSetDown};
-ghost use Rattle.kahn_crew.specs.inner.Tasks.{Continues, IsLater, Tasked};
+ghost use Rattle.kahn_crew.specs.inner.Tasks.{IsPublished};
+ghost use Rattle.kahn_crew.specs.inner.Turns.{HasTask, Heeds, IsAtWork, IsTaskIn, SitsIn, SitsWith, StandsStill};
 ghost use Rattle.kahn_crew.specs.declared.standing.Standing.TheVariants.{Going as IsGoing};
 
 use crate::boxes::Boxed;
-use crate::floor::Floor;
 use crate::gate::Gate;
 use crate::hints::Hints;
 use crate::pick::pick_hinted;
 use crate::publish::{hint, publish_all};
+use crate::run::Run;
 use crate::standing::Standing;
 use crate::task::Task;
 use kahn_board::{Draw, Seat};
@@ -37,20 +36,17 @@ pub(crate) enum Due {
 }
 
 // How a task is to be set down.
-fn due_of<'n>(floor: &Floor<'_, 'n>, task: &Task<'n>, p: usize) -> Due
-    requires floor { IsFloor floor.now.board.now.table.shared.key floor.now.network.now floor.now.code.now.network.value }
-    requires task { IsTaskOf floor.now.network.now p task.now }
-    requires inside { p < length (network_of floor.now.network.now).instances }
-    requires few { task.now.work.cell.events < 2 ^ 48 }
-    ensures { IsDue (wired floor.now.board.now.table.shared.key) p task.now result }
+fn due_of<'n>(run: &Run<'_, 'n>, task: &Task<'n>, p: usize) -> Due
+    requires { IsTaskIn run.now p task.now }
+    ensures { IsDue (wired run.now.board.now.table.shared.key) p task.now result }
 {
     task.parameters();
-    let _program = floor.network.program();
+    let _program = run.network.program();
     match task.standing() {
         Standing::Going => Due::Ready,
         Standing::Ended => Due::Over,
         Standing::Faulted(_) => Due::Over,
-        Standing::Dry(parameter) => match floor.code.channel(p, parameter) {
+        Standing::Dry(parameter) => match run.code.channel(p, parameter) {
             Some(channel) => Due::Waits(channel, task.taken(parameter)),
             None => unreachable!(),
         },
@@ -59,17 +55,15 @@ fn due_of<'n>(floor: &Floor<'_, 'n>, task: &Task<'n>, p: usize) -> Due
 
 // Where memory was refused, for an event or for a segment, the run is to stop. Otherwise the seat stays as it is.
 fn heed<'n>(
-    floor: &Floor<'_, 'n>,
+    run: &Run<'_, 'n>,
     seat: &mut Seat<Boxed<'n>>,
     hints: &mut Hints,
     pause: Pause,
     flushed: Result<(), NoMemory>,
 )
-    requires { seat.old.seat.table_id ≡ floor.now.board.now.table.shared.table_id }
+    requires { SitsIn run.now seat.old }
     ensures same { Heeds hints.old.wanted seat.old hints.new.wanted seat.new }
-    ensures holds { (p n l : ℕ) (x : Option Tasked) → Holds p n l x seat.old → Holds p n l x seat.new }
-    ensures kept { (p : ℕ) → HasKept p seat.old.seat.me.0 seat.new.seat.me.0 }
-    ensures known { seat.new.seat.me.0.flushed ≡ seat.old.seat.me.0.flushed }
+    ensures still { StandsStill seat.old seat.new }
     ensures refused { OnErr flushed (seat.new.seat.me.0.seen ≡ 2) }
     ensures wanted { pause ≡ IsWant → seat.new.seat.me.0.seen ≡ 2 }
     ensures stays { OnOk flushed ((pause ≡ IsWant → ⊥) → (seat.new ≡ seat.old) × (hints.new.wanted ≡ hints.old.wanted)) }
@@ -78,64 +72,52 @@ fn heed<'n>(
         return;
     }
     hints.want();
-    stop(seat, floor.board);
+    stop(seat, run.board);
 }
 
-// Runs a task for at most so many events and flushes what it sent. Answers how many events it did. Where memory was refused
-// the run is to stop.
+// Runs the task of an instance for at most so many events, and flushes and publishes what it sent. Answers how many events it
+// did. Where memory was refused the run is to stop.
 fn run_task<'n, L: Ledger>(
-    floor: &Floor<'_, 'n>,
+    run: &Run<'_, 'n>,
     seat: &mut Seat<Boxed<'n>>,
     hints: &mut Hints,
     task: &mut Task<'n>,
+    p: usize,
     drawn: u64,
     steps: &mut Steps<L>,
 ) -> u64
-    requires board { seat.old.seat.table_id ≡ floor.now.board.now.table.shared.table_id }
-    requires code { floor.now.code.now.network.value ≡ task.old.work.cell.network }
-    requires few { task.old.work.cell.events + drawn < 2 ^ 48 }
+    requires { IsAtWork run.now p drawn 0 task.old seat.old }
     ensures same { Heeds hints.old.wanted seat.old hints.new.wanted seat.new }
-    ensures holds { (p n l : ℕ) (x : Option Tasked) → Holds p n l x seat.old → Holds p n l x seat.new }
-    ensures kept { (p : ℕ) → HasKept p seat.old.seat.me.0 seat.new.seat.me.0 }
-    ensures known { seat.new.seat.me.0.flushed ≡ seat.old.seat.me.0.flushed }
-    ensures continues { Continues task.old task.new }
-    ensures published { task.new.published ≡ task.old.published }
-    ensures events { (task.new.work.cell.events ≡ task.old.work.cell.events + result) × (result ≤ drawn) }
+    ensures works { IsAtWork run.now p drawn result task.new seat.new }
     ensures delivered { (seat.new.seat.me.0.seen ≡ 2) ⊎ IsDelivered task.new.work }
+    ensures published { (r : ℕ) → IsPublished task.new r }
     // A task that may go on did all the events, or the run is to stop.
     ensures spent { task.new.standing ≡ IsGoing → (task.new.work.cell.events ≡ task.old.work.cell.events + drawn) ⊎ (seat.new.seat.me.0.seen ≡ 2) }
 {
     let before = task.events();
-    let pause = task.run(floor.code, drawn, steps);
+    let pause = task.run(run.code, drawn, steps);
     let flushed = task.flush();
-    heed(floor, seat, hints, pause, flushed);
+    heed(run, seat, hints, pause, flushed);
+    publish_all(run, seat, hints, task, p);
     task.events() - before
 }
 
 // Sets an instance down.
-fn rest<'n>(
-    floor: &Floor<'_, 'n>,
-    seat: &mut Seat<Boxed<'n>>,
-    hints: &mut Hints,
-    p: usize,
-    due: Due,
-)
-    requires board { seat.old.seat.table_id ≡ floor.now.board.now.table.shared.table_id }
-    requires wires { ((wired floor.now.board.now.table.shared.key).channels ≡ floor.now.board.now.channels) }
-    requires holds { CanRest floor.now.board.now.table.shared.key p due seat.old }
+fn rest<'n>(run: &Run<'_, 'n>, seat: &mut Seat<Boxed<'n>>, hints: &mut Hints, p: usize, due: Due)
+    requires { CanRest run.now p due seat.old }
     ensures same { Heeds hints.old.wanted seat.old hints.new.wanted seat.new }
-    ensures rests { IsBetween seat.old.seat.me.0.drawn seat.new }
-    ensures set_down { IsSetDown floor.now.board.now.table.shared.key p due seat.old seat.new }
+    ensures rests { SitsWith run.now seat.old.seat.me.0.drawn seat.new }
+    ensures set_down { IsSetDown run.now p due seat.old seat.new }
 {
     match due {
         Due::Ready => {
-            rest_ready(seat, floor.board, p);
-            hint(floor, seat, hints, Some(p));
+            rest_ready(seat, run.board, p);
+            hint(run, seat, hints, Some(p));
         }
-        Due::Over => rest_over(seat, floor.board, p),
+        Due::Over => rest_over(seat, run.board, p),
         Due::Waits(channel, taken) => {
-            if !rest_dry(seat, floor.board, p, channel, taken) {
-                hint(floor, seat, hints, Some(p));
+            if !rest_dry(seat, run.board, p, channel, taken) {
+                hint(run, seat, hints, Some(p));
             }
         }
     }
@@ -143,37 +125,31 @@ fn rest<'n>(
 
 // Runs an instance for at most so many events of a draw, and sets it down. Answers how many it did.
 fn spend<'n, L: Ledger>(
-    floor: &Floor<'_, 'n>,
+    run: &Run<'_, 'n>,
     seat: &mut Seat<Boxed<'n>>,
     hints: &mut Hints,
     p: usize,
     drawn: u64,
     steps: &mut Steps<L>,
 ) -> u64
-    requires board { seat.old.seat.table_id ≡ floor.now.board.now.table.shared.table_id }
-    requires floor { IsFloor floor.now.board.now.table.shared.key floor.now.network.now floor.now.code.now.network.value }
-    requires inside { p < length (network_of floor.now.network.now).instances }
-    requires few { slice_index seat.old.seat.me.0.got p + drawn < 2 ^ 48 }
-    requires holds { HasTask floor.now.board.now.table.shared.key p drawn seat.old }
+    requires { HasTask run.now p drawn seat.old }
     ensures same { Heeds hints.old.wanted seat.old hints.new.wanted seat.new }
-    ensures done { result ≤ drawn }
-    ensures rests { IsBetween (drawn - result) seat.new }
+    ensures rests { (result ≤ drawn) × SitsWith run.now (drawn - result) seat.new }
 {
-    let _program = floor.network.program();
-    let mut boxed = take_cell(seat, floor.board, p);
-    let done = run_task(floor, seat, hints, &mut boxed.task, drawn, steps);
-    publish_all(floor, seat, hints, &mut boxed.task, p);
-    let due = due_of(floor, &boxed.task, p);
-    put(seat, floor.board, p, boxed);
-    tell_done(seat, floor.board, p, done);
-    rest(floor, seat, hints, p, due);
+    let _program = run.network.program();
+    let mut boxed = take_cell(seat, run.board, p);
+    let done = run_task(run, seat, hints, &mut boxed.task, p, drawn, steps);
+    let due = due_of(run, &boxed.task, p);
+    put(seat, run.board, p, boxed);
+    tell_done(seat, run.board, p, done);
+    rest(run, seat, hints, p, due);
     done
 }
 
 // Runs one instance after another for the events that were drawn, as long as more than seven eighths of a quantum are left,
 // so that each has about as many as a draw of its own, and own hints name one that is ready. Answers how many are left.
 fn spend_all<'n, G: Gate, L: Ledger>(
-    floor: &Floor<'_, 'n>,
+    run: &Run<'_, 'n>,
     gate: &G,
     seat: &mut Seat<Boxed<'n>>,
     hints: &mut Hints,
@@ -181,24 +157,20 @@ fn spend_all<'n, G: Gate, L: Ledger>(
     drawn: u64,
     steps: &mut Steps<L>,
 ) -> u64
-    requires board { seat.old.seat.table_id ≡ floor.now.board.now.table.shared.table_id }
-    requires floor { IsFloor floor.now.board.now.table.shared.key floor.now.network.now floor.now.code.now.network.value }
-    requires inside { first < length (network_of floor.now.network.now).instances }
-    requires few { slice_index seat.old.seat.me.0.got first + drawn < 2 ^ 48 }
-    requires holds { HasTask floor.now.board.now.table.shared.key first drawn seat.old }
+    requires { HasTask run.now first drawn seat.old }
     ensures same { Heeds hints.old.wanted seat.old hints.new.wanted seat.new }
-    ensures rests { IsBetween result seat.new }
+    ensures rests { SitsWith run.now result seat.new }
 {
     let mut p = first;
     let mut left = drawn;
     loop {
         gate.enter(p);
-        let done = spend(floor, seat, hints, p, left, steps);
+        let done = spend(run, seat, hints, p, left, steps);
         left -= done;
-        if done == 0 || left <= floor.quantum / 8 * 7 {
+        if done == 0 || left <= run.quantum / 8 * 7 {
             return left;
         }
-        let Some(next) = pick_hinted(floor, seat, hints, false) else {
+        let Some(next) = pick_hinted(run, seat, hints, false) else {
             return left;
         };
         p = next;
@@ -208,28 +180,24 @@ fn spend_all<'n, G: Gate, L: Ledger>(
 /// A turn of an instance that was picked: it is run for a part of the budget, where some is left that other workers don't
 /// take first, and set down, and so are those that it woke while the part lasts.
 pub(crate) fn turn<'n, G: Gate, L: Ledger>(
-    floor: &Floor<'_, 'n>,
+    run: &Run<'_, 'n>,
     gate: &G,
     seat: &mut Seat<Boxed<'n>>,
     hints: &mut Hints,
     p: usize,
     steps: &mut Steps<L>,
 )
-    requires board { seat.old.seat.table_id ≡ floor.now.board.now.table.shared.table_id }
-    requires floor { IsFloor floor.now.board.now.table.shared.key floor.now.network.now floor.now.code.now.network.value }
-    requires inside { p < length (network_of floor.now.network.now).instances }
-    requires quantum { 0 < floor.now.quantum }
-    requires holds { HasTask floor.now.board.now.table.shared.key p 0 seat.old }
+    requires { HasTask run.now p 0 seat.old }
     ensures same { Heeds hints.old.wanted seat.old hints.new.wanted seat.new }
-    ensures idle { IsIdle seat.new }
+    ensures idle { IsBetweenTurns seat.new }
 {
-    let _program = floor.network.program();
-    match draw_some(seat, floor.board, p, floor.quantum) {
+    let _program = run.network.program();
+    match draw_some(seat, run.board, p, run.quantum) {
         Draw::Got(drawn) => {
-            let left = spend_all(floor, gate, seat, hints, p, drawn, steps);
-            give(seat, floor.board, left);
+            let left = spend_all(run, gate, seat, hints, p, drawn, steps);
+            give(seat, run.board, left);
         }
-        Draw::Lost => rest_ready(seat, floor.board, p),
-        Draw::Empty => rest_ready(seat, floor.board, p),
+        Draw::Lost => rest_ready(seat, run.board, p),
+        Draw::Empty => rest_ready(seat, run.board, p),
     }
 }

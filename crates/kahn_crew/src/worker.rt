@@ -1,15 +1,15 @@
 //! A worker: it takes one instance after another, until there is a reason to leave.
 
 ghost use Rattle.std.specs.Prelude.{◌≡◌, ◌<◌, IfSome, IfNone};
-ghost use Rattle.kahn_desk.specs.inner.Turn.{IsIdle, IsSeatOf};
-ghost use Rattle.kahn_crew.specs.inner.Floors.{HasTask, Heeds, IsFloor};
+ghost use Rattle.kahn_desk.specs.inner.Turn.{IsBetweenTurns, IsSeatOf};
+ghost use Rattle.kahn_crew.specs.inner.Turns.{HasTask, Heeds, SitsWith};
 
 use crate::boxes::Boxed;
-use crate::floor::Floor;
 use crate::gate::Gate;
 use crate::hints::Hints;
 use crate::pick::{pick_any, pick_hinted};
 use crate::rest::Rest;
+use crate::run::Run;
 use crate::turn::turn;
 use kahn_board::Seat;
 use kahn_code::Steps;
@@ -30,11 +30,11 @@ pub struct Worker<'n> {
 }
 
 // An instance that looks ready, from the one with that number on, round all of them.
-fn looking_ready(floor: &Floor<'_, '_>, start: usize) -> Option<usize> {
-    let count = floor.board.instances;
+fn looking_ready(run: &Run<'_, '_>, start: usize) -> Option<usize> {
+    let count = run.board.instances;
     for step in 0..count {
         let p = (start % count + step) % count;
-        if floor.board.looks_ready(p) {
+        if run.board.looks_ready(p) {
             return Some(p);
         }
     }
@@ -42,12 +42,12 @@ fn looking_ready(floor: &Floor<'_, '_>, start: usize) -> Option<usize> {
 }
 
 // Waits a little, until an instance has looked ready for some time: it is seldom taken from the worker that woke it then.
-fn wait_a_little(floor: &Floor<'_, '_>, rest: &Rest, start: usize) {
+fn wait_a_little(run: &Run<'_, '_>, rest: &Rest, start: usize) {
     let mut last = None;
     let mut since = 0;
     for look in 0..rest.pauses() {
         rest.pause();
-        let found = looking_ready(floor, start);
+        let found = looking_ready(run, start);
         if found != last {
             last = found;
             since = look;
@@ -59,65 +59,60 @@ fn wait_a_little(floor: &Floor<'_, '_>, rest: &Rest, start: usize) {
 }
 
 // Picks an instance where the worker has no hints of its own: one that another's hint names, or else any that is ready.
-fn pick_elsewhere<'n>(floor: &Floor<'_, 'n>, worker: &mut Worker<'n>, rest: &Rest) -> Option<usize>
-    requires board { worker.old.seat.seat.table_id ≡ floor.now.board.now.table.shared.table_id }
-    requires idle { IsIdle worker.old.seat }
+fn pick_elsewhere<'n>(run: &Run<'_, 'n>, worker: &mut Worker<'n>, rest: &Rest) -> Option<usize>
+    requires { SitsWith run.now 0 worker.old.seat }
     ensures same { IsSeatOf worker.old.seat worker.new.seat }
-    ensures picked { IfSome result (λ p. (p < floor.now.board.now.instances) × HasTask floor.now.board.now.table.shared.key p 0 worker.new.seat) }
-    ensures left { IfNone result (IsIdle worker.new.seat) }
+    ensures picked { IfSome result (λ p. HasTask run.now p 0 worker.new.seat) }
+    ensures left { IfNone result (SitsWith run.now 0 worker.new.seat) }
     ensures kept { worker.new.hints.wanted ≡ worker.old.hints.wanted }
 {
-    wait_a_little(floor, rest, worker.start);
-    match pick_hinted(floor, &mut worker.seat, &mut worker.hints, true) {
+    wait_a_little(run, rest, worker.start);
+    match pick_hinted(run, &mut worker.seat, &mut worker.hints, true) {
         Some(p) => Some(p),
-        None => pick_any(floor, &mut worker.seat, worker.start),
+        None => pick_any(run, &mut worker.seat, worker.start),
     }
 }
 
 // Picks an instance.
-fn pick_next<'n>(floor: &Floor<'_, 'n>, worker: &mut Worker<'n>, rest: &Rest) -> Option<usize>
-    requires board { worker.old.seat.seat.table_id ≡ floor.now.board.now.table.shared.table_id }
-    requires idle { IsIdle worker.old.seat }
+fn pick_next<'n>(run: &Run<'_, 'n>, worker: &mut Worker<'n>, rest: &Rest) -> Option<usize>
+    requires { SitsWith run.now 0 worker.old.seat }
     ensures same { IsSeatOf worker.old.seat worker.new.seat }
-    ensures picked { IfSome result (λ p. (p < floor.now.board.now.instances) × HasTask floor.now.board.now.table.shared.key p 0 worker.new.seat) }
-    ensures left { IfNone result (IsIdle worker.new.seat) }
+    ensures picked { IfSome result (λ p. HasTask run.now p 0 worker.new.seat) }
+    ensures left { IfNone result (SitsWith run.now 0 worker.new.seat) }
     ensures kept { worker.new.hints.wanted ≡ worker.old.hints.wanted }
 {
-    match pick_hinted(floor, &mut worker.seat, &mut worker.hints, false) {
+    match pick_hinted(run, &mut worker.seat, &mut worker.hints, false) {
         Some(p) => Some(p),
-        None => pick_elsewhere(floor, worker, rest),
+        None => pick_elsewhere(run, worker, rest),
     }
 }
 
 // Turn after turn, until there is a reason to leave.
 fn turns<'n, R: Wait, G: Gate, L: Ledger>(
     rt: &R,
-    floor: &Floor<'_, 'n>,
+    run: &Run<'_, 'n>,
     gate: &G,
     worker: &mut Worker<'n>,
     blank: Blank,
 )
-    requires board { worker.old.seat.seat.table_id ≡ floor.now.board.now.table.shared.table_id }
-    requires floor { IsFloor floor.now.board.now.table.shared.key floor.now.network.now floor.now.code.now.network.value }
-    requires quantum { 0 < floor.now.quantum }
-    requires idle { IsIdle worker.old.seat }
+    requires idle { SitsWith run.now 0 worker.old.seat }
     requires name { blank.name ≡ L.name }
     requires parts { blank.parts ≡ L.parts }
     requires some { 0 < blank.parts }
     ensures same { Heeds worker.old.hints.wanted worker.old.seat worker.new.hints.wanted worker.new.seat }
-    ensures left { IsIdle worker.new.seat × (worker.new.seat.seat.me.0.stage ≡ 1) }
+    ensures left { IsBetweenTurns worker.new.seat × (worker.new.seat.seat.me.0.stage ≡ 1) }
 {
     let mut steps = Steps::<L>::open(blank);
     let mut rest = Rest::new();
     for _ in rt.forever() {
-        if !go_on(&mut worker.seat, floor.board) {
+        if !go_on(&mut worker.seat, run.board) {
             return;
         }
-        match pick_next(floor, worker, &rest) {
+        match pick_next(run, worker, &rest) {
             Some(p) => {
                 rest.over();
                 let (seat, hints) = (&mut worker.seat, &mut worker.hints);
-                turn(floor, gate, seat, hints, p, &mut steps);
+                turn(run, gate, seat, hints, p, &mut steps);
             }
             None => rest.sleep(rt),
         }
@@ -126,14 +121,11 @@ fn turns<'n, R: Wait, G: Gate, L: Ledger>(
 
 impl<'n> Worker<'n> {
     /// Works until the run is halted, or no instance can go on, or the budget is empty.
-    pub fn work<R: Wait, G: Gate>(&mut self, rt: &R, floor: &Floor<'_, 'n>, gate: &G)
-        requires board { self.old.seat.seat.table_id ≡ floor.now.board.now.table.shared.table_id }
-        requires floor { IsFloor floor.now.board.now.table.shared.key floor.now.network.now floor.now.code.now.network.value }
-        requires quantum { 0 < floor.now.quantum }
-        requires idle { IsIdle self.old.seat }
+    pub fn work<R: Wait, G: Gate>(&mut self, rt: &R, run: &Run<'_, 'n>, gate: &G)
+        requires { SitsWith run.now 0 self.old.seat }
         ensures same { Heeds self.old.hints.wanted self.old.seat self.new.hints.wanted self.new.seat }
-        ensures left { IsIdle self.new.seat × (self.new.seat.seat.me.0.stage ≡ 1) }
+        ensures left { IsBetweenTurns self.new.seat × (self.new.seat.seat.me.0.stage ≡ 1) }
     {
-        turns::<R, G, Brand>(rt, floor, gate, self, Blank::new(1));
+        turns::<R, G, Brand>(rt, run, gate, self, Blank::new(1));
     }
 }

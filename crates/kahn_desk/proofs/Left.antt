@@ -9,7 +9,7 @@ use Rattle.kahn_board.specs.declared.view.View.{View}
 use Rattle.kahn_board.specs.declared.board.Seat.{Seat}
 use Rattle.kahn_board.specs.declared.board.Look.{Look}
 use Rattle.kahn_board.specs.declared.board.Look.TheVariants.{Halted, Quiet, NoBudget, Go}
-use Rattle.kahn_desk.specs.inner.Turn.{Rests, IsIdle, IsSeatOf}
+use Rattle.kahn_desk.specs.inner.Turn.{Rests, IsBetweenTurns, IsSeatOf}
 
 none_total : (l : List ℕ) → ((p : ℕ) → get_or l p 0 ≡ 0) → total (λ x. x) l ≡ 0
 none_total [] h = refl
@@ -23,12 +23,12 @@ leaves_done v r = let none : burden v ≡ 0 = omega (arith, none_total v.hands r
 module _ {T : Type 0} (told : T → Option Tale) (after : T → T → Type 0) (key : Terms T) where
   -- it has left
   abbrev pub Left : Seat T → Seat T → Type 0
-  Left s t = IsSeatOf s t × IsIdle t × (t.seat.me.0.stage ≡ 1)
+  Left s t = IsSeatOf s t × IsBetweenTurns t × (t.seat.me.0.stage ≡ 1)
 
   leaves : (s t : Seat T) (u : View) → t.seat.table_id ≡ s.seat.table_id → t.seat.id ≡ s.seat.id → t.seat.me.0 ≡ u → u.parts ≡ s.seat.me.0.parts → u.raised ≡ s.seat.me.0.raised → Rests u → u.stage ≡ 1 → Left s t
   leaves s t u table seat is parts raised rests stage = ((table, seat, ap (λ v. v.parts) is ∙ parts, ap (λ v. v.raised) is ∙ raised), subst Rests (sym is) rests, ap (λ v. v.stage) is ∙ stage)
 
-  pub left : (s t : Seat T) (k : Look) → Looks told after key s t k → IsIdle s → k ≢ Go → Left s t
+  pub left : (s t : Seat T) (k : Look) → Looks told after key s t k → IsBetweenTurns s → k ≢ Go → Left s t
   left s t Halted l r ne = leaves s t _ l.0.0 l.0.1 (ap (λ m. m.0) l.1.3) refl refl r (leaves_done s.seat.me.0 r)
   left s t Quiet l r ne = leaves s t _ l.0.0 l.0.1 (ap (λ m. m.0) l.4) refl refl r (leaves_done s.seat.me.0 r)
   left s t NoBudget l r ne = leaves s t _ l.0.0 l.0.1 (ap (λ m. m.0) l.4.4) refl refl r (leaves_done s.seat.me.0 r)

@@ -8,7 +8,7 @@ use Rattle.kahn_board.specs.Hands.{Facts, Carries}
 use Rattle.kahn_board.specs.Plays.{Sat, IsIn, Got, took, gave, waking, paid_up}
 use Rattle.kahn_board.specs.declared.view.View.{View}
 use Rattle.kahn_board.proofs.Woken.{hand_again}
-use Rattle.kahn_desk.specs.inner.Turn.{InTurn, Tells}
+use Rattle.kahn_desk.specs.inner.Turn.{InTurn, HasPublished}
 
 no_more : (t : Option Tale) (e k : ℕ) → TellsEvents t e → k ≡ e → events_past t k - k ≡ 0
 no_more None e k tells is = omega arith
@@ -36,7 +36,7 @@ module _ {T : Type 0} (told : T → Option Tale) (belongs : ℕ → T → Type 0
   pub passes : (m n k j : Sat T) (p c count r q a b : ℕ) (y : T) → Woke m c count r q a y n → k ≡ (paid_up n.0 b, n.1)
       → ((z : T) → Carries k.1 r (Some z) → (d : ℕ) × (j.0 ≡ gave k.0 r (told z) 0 d)) → ((s : ℕ) (x : Option T) → s ≢ r → Carries k.1 s x → Carries j.1 s x)
       → IsIn m.0 p → p < w.instances → c < w.channels → w.writer c ≡ Some p
-      → ((i l : ℕ) (x : Option T) → InTurn p i l x m → InTurn p i l x j) × Tells w p c count m.0 j.0 × (j.0.parts ≡ m.0.parts) × (j.0.raised ≡ m.0.raised)
+      → ((i l : ℕ) (x : Option T) → InTurn p i l x m → InTurn p i l x j) × HasPublished w p c count m.0 j.0 × (j.0.parts ≡ m.0.parts) × (j.0.raised ≡ m.0.raised)
   passes m n k j p c count r q a b y woke is given kept mine inside near writes = let got = woke.got in let L = got.0 in let e = got.1 in let seen = got.2 in
       let N : Sat T = (took (waking m.0 c count r q) r L e seen a, (r, Some y) ∷ m.1) in
       let K : Sat T = (paid_up N.0 b, N.1) in
@@ -46,7 +46,7 @@ module _ {T : Type 0} (told : T → Option Tale) (belongs : ℕ → T → Type 0
       let j_is : j.0 ≡ J = out.1 ∙ ap (λ (z : Sat T). gave z.0 r (told y) 0 out.0) k_is in
       let apart : p ≢ r = (λ same. absurd (omega (arith, mine, got.4, ap (λ (z : ℕ). get_or m.0.hands z 0) same))) in
       let no_loose : events_past (told y) (get_or (set m.0.got r e) r 0) - get_or (set m.0.got r e) r 0 ≡ 0 = no_more (told y) e (get_or (set m.0.got r e) r 0) got.8 (get_or-set_same m.0.got r e 0 woke.reader) in
-      let tells : Tells w p c count m.0 J = record {
+      let tells : HasPublished w p c count m.0 J = record {
         here = got.6 p c inside near mine writes ∙ get_or-set_same m.0.flushed c count 0 woke.channel;
         others = λ d ne below wrote. got.6 p d inside below mine wrote ∙ get_or-set_other m.0.flushed c d count 0 (λ f. ne f);
         got = get_or-set_other m.0.got r p e 0 (λ f. apart f);
@@ -62,7 +62,7 @@ module _ {T : Type 0} (told : T → Option Tale) (belongs : ℕ → T → Type 0
         loose = omega (arith, no_loose, t.loose);
       } in (
         (λ i l x t. subst (λ (v : View). InTurn p i l x (v, j.1)) (sym j_is) (turn i l x t)),
-        subst (Tells w p c count m.0) (sym j_is) tells,
+        subst (HasPublished w p c count m.0) (sym j_is) tells,
         ap (λ (v : View). v.parts) j_is,
         ap (λ (v : View). v.raised) j_is,
       )

@@ -2,8 +2,7 @@
 
 ghost use Rattle.std.specs.Prelude.{◌≡◌, ℕ, ◌+◌, ◌<◌, ◌≤◌, length, All, IfOk, IfErr};
 ghost use Rattle.kahn_board.specs.Rule.{all_parts};
-ghost use Rattle.kahn_desk.specs.inner.Turn.{IsIdle};
-ghost use Rattle.kahn_desk.specs.inner.Crew.{parts_of, done_of, raised_of};
+ghost use Rattle.kahn_desk.specs.inner.Crew.{AddUp, IsDoneAt, IsLoneSeat, SitsAt, parts_of, done_of, raised_of};
 
 use kahn_board::{Board, Seat, Told};
 use kahn_tree::NoMemory;
@@ -16,16 +15,15 @@ pub fn split_all<T: Told>(
     seat: Seat<T>,
     count: usize,
 ) -> Result<Vec<Seat<T>, Global>, (NoMemory, Seat<T>)>
-    requires board { seat.seat.table_id ≡ board.now.table.shared.table_id }
-    requires whole { IsIdle seat × (seat.seat.me.0.parts ≡ all_parts) }
+    requires lone { IsLoneSeat board.now.table.shared.table_id seat }
     requires few { (1 ≤ count) × (count ≤ 16) }
     ensures counted { IfOk result (λ v. length v.items ≡ count) }
-    ensures each { IfOk result (λ v. All (λ s. (s.seat.table_id ≡ seat.seat.table_id) × IsIdle s) v.items) }
+    ensures each { IfOk result (λ v. All (SitsAt board.now.table.shared.table_id) v.items) }
     ensures sums { IfOk result (λ v. (parts_of v.items ≡ all_parts) × (done_of v.items ≡ seat.seat.me.0.done)) }
     // Nobody halts the run.
     ensures raised { IfOk result (λ v. raised_of v.items ≡ seat.seat.me.0.raised) }
-    ensures refused { IfErr result (λ e. (e.1.seat.table_id ≡ seat.seat.table_id) × IsIdle e.1 × (e.1.seat.me.0.parts ≡ all_parts) × (e.1.seat.me.0.done ≡ seat.seat.me.0.done)) }
-    ensures calm { IfErr result (λ e. e.1.seat.me.0.raised ≡ seat.seat.me.0.raised) }
+    ensures refused { IfErr result (λ e. IsLoneSeat board.now.table.shared.table_id e.1) }
+    ensures calm { IfErr result (λ e. (e.1.seat.me.0.done ≡ seat.seat.me.0.done) × (e.1.seat.me.0.raised ≡ seat.seat.me.0.raised)) }
 {
     let Ok(mut seats) = Vec::with_capacity(alloc, count) else {
         return Err((NoMemory, seat));
@@ -46,11 +44,10 @@ pub fn split_all<T: Told>(
 
 // One seat of the first and the others.
 fn join_rest<T: Told>(board: &Board<T>, first: Seat<T>, mut others: Vec<Seat<T>, Global>) -> Seat<T>
-    requires first { (first.seat.table_id ≡ board.now.table.shared.table_id) × IsIdle first }
-    requires others { All (λ s. (s.seat.table_id ≡ board.now.table.shared.table_id) × IsIdle s) others.items }
-    ensures same { (result.seat.table_id ≡ first.seat.table_id) × IsIdle result }
-    ensures sums { (result.seat.me.0.parts ≡ first.seat.me.0.parts + parts_of others.items) × (result.seat.me.0.done ≡ first.seat.me.0.done + done_of others.items) }
-    ensures raised { result.seat.me.0.raised ≡ first.seat.me.0.raised + raised_of others.items }
+    requires first { SitsAt board.now.table.shared.table_id first }
+    requires others { All (SitsAt board.now.table.shared.table_id) others.items }
+    ensures same { SitsAt board.now.table.shared.table_id result }
+    ensures sums { AddUp first others.items result }
     ensures left { All (λ s. s.seat.me.0.stage ≤ 1) others.items → first.seat.me.0.stage ≡ 1 → result.seat.me.0.stage ≡ 1 }
 {
     let mut seat = first;
@@ -64,8 +61,8 @@ fn join_rest<T: Told>(board: &Board<T>, first: Seat<T>, mut others: Vec<Seat<T>,
 /// One seat of all that have left.
 pub fn join_all<T: Told>(board: &Board<T>, mut seats: Vec<Seat<T>, Global>) -> Seat<T>
     requires some { 0 < length seats.items }
-    requires each { All (λ s. (s.seat.table_id ≡ board.now.table.shared.table_id) × IsIdle s × (s.seat.me.0.stage ≡ 1)) seats.items }
-    ensures idle { (result.seat.table_id ≡ board.now.table.shared.table_id) × IsIdle result × (result.seat.me.0.stage ≡ 1) }
+    requires each { All (IsDoneAt board.now.table.shared.table_id) seats.items }
+    ensures left { IsDoneAt board.now.table.shared.table_id result }
     ensures sums { (result.seat.me.0.parts ≡ parts_of seats.items) × (result.seat.me.0.done ≡ done_of seats.items) }
     ensures raised { result.seat.me.0.raised ≡ raised_of seats.items }
 {

@@ -1,10 +1,10 @@
 //! The calls of a turn, from the pick of an instance to the give back of what was not done.
 
 ghost use Rattle.std.specs.Prelude.{◌≡◌, ◌≢◌, ℕ, ◌+◌, ◌-◌, ◌*◌, ◌^◌, ◌<◌, ◌≤◌, slice_index, true, false, Option, Some, None, IfSome, IfNone};
-ghost use Rattle.kahn_board.specs.Dealt.{belongs, wired};
+ghost use Rattle.kahn_board.specs.Dealt.{wired};
 ghost use Rattle.kahn_board.specs.Calls.{Was, LooksAt, Uses, GivesBack};
 ghost use Rattle.kahn_desk.specs.inner.Drawn.{DrawsAgain, FitsDraw, drawn_of};
-ghost use Rattle.kahn_desk.specs.inner.Turn.{IsBetween, IsIdle, IsSeatOf, HasHalted, Holds, Knows, Tells, Fits};
+ghost use Rattle.kahn_desk.specs.inner.Turn.{BeginsTurn, IsBetween, IsBetweenTurns, IsSeatOf, HasHalted, HoldsInTurn, Knows, HasPublished};
 
 use kahn_board::{Board, Draw, Rest, Seat, Told};
 
@@ -29,9 +29,10 @@ pub fn pick<T: Told>(seat: &mut Seat<T>, board: &Board<T>, p: usize) -> bool
     requires rests { (n : ℕ) × IsBetween n seat.old }
     requires inside { p < board.now.instances }
     ensures same { IsSeatOf seat.old seat.new }
-    ensures picked { result ≡ true → (n : ℕ) → IsBetween n seat.old → (y : T) × Holds p n 0 (Some y) seat.new × Fits T.told (belongs T.after board.now.table.shared.key) (wired board.now.table.shared.key) p y seat.new.seat.me.0 }
+    ensures picked { result ≡ true → (n : ℕ) → IsBetween n seat.old → BeginsTurn T.told T.after board.now.table.shared.key p n seat.new }
     ensures few { result ≡ true → slice_index seat.new.seat.me.0.got p + seat.new.seat.me.0.drawn < 2 ^ 48 }
-    ensures missed { result ≡ false → ((n : ℕ) → IsBetween n seat.old → IsBetween n seat.new) × ((r : ℕ) × (r ≢ 0) × Was T.told T.after board.now.table.shared.key seat.old seat.old.seat.me.0 (8 * p) r) }
+    ensures missed { result ≡ false → (n : ℕ) → IsBetween n seat.old → IsBetween n seat.new }
+    ensures late { result ≡ false → (r : ℕ) × (r ≢ 0) × Was T.told T.after board.now.table.shared.key seat.old seat.old.seat.me.0 (8 * p) r }
 {
     seat.claim(board, p).is_some()
 }
@@ -40,13 +41,13 @@ pub fn pick<T: Told>(seat: &mut Seat<T>, board: &Board<T>, p: usize) -> bool
 /// moment. `Empty` where the budget was 0, `Lost` where another worker came between 64 times.
 pub fn draw_some<T: Told>(seat: &mut Seat<T>, board: &Board<T>, p: usize, quantum: u64) -> Draw
     requires board { seat.old.seat.table_id ≡ board.now.table.shared.table_id }
-    requires holds { (x : Option T) × Holds p 0 0 x seat.old }
+    requires holds { (x : Option T) × HoldsInTurn p 0 0 x seat.old }
     requires some { 0 < quantum }
     ensures same { IsSeatOf seat.old seat.new }
     ensures knows { Knows (wired board.now.table.shared.key) p seat.old.seat.me.0 seat.new.seat.me.0 }
     ensures draws { DrawsAgain T.told T.after board.now.table.shared.key 64 quantum seat.old seat.new result }
     ensures fits { FitsDraw quantum (slice_index seat.new.seat.me.0.got p) result }
-    ensures drawn { (x : Option T) → Holds p 0 0 x seat.old → Holds p (drawn_of result) 0 x seat.new }
+    ensures drawn { (x : Option T) → HoldsInTurn p 0 0 x seat.old → HoldsInTurn p (drawn_of result) 0 x seat.new }
 {
     for _ in 1..DRAWS {
         match seat.draw(board, quantum) {
@@ -61,10 +62,10 @@ pub fn draw_some<T: Told>(seat: &mut Seat<T>, board: &Board<T>, p: usize, quantu
 /// Moves the cell out of its slot.
 pub fn take_cell<T: Told>(seat: &mut Seat<T>, board: &Board<T>, p: usize) -> T
     requires board { seat.old.seat.table_id ≡ board.now.table.shared.table_id }
-    requires holds { (n : ℕ) × (l : ℕ) × (y : T) × Holds p n l (Some y) seat.old }
+    requires holds { (n : ℕ) × (l : ℕ) × (y : T) × HoldsInTurn p n l (Some y) seat.old }
     ensures same { IsSeatOf seat.old seat.new × (seat.new.seat.me.0 ≡ seat.old.seat.me.0) }
-    ensures holds { (n l : ℕ) (y : T) → Holds p n l (Some y) seat.old → Holds p n l None seat.new }
-    ensures cell { (n l : ℕ) (y : T) → Holds p n l (Some y) seat.old → y ≡ result }
+    ensures holds { (n l : ℕ) (y : T) → HoldsInTurn p n l (Some y) seat.old → HoldsInTurn p n l None seat.new }
+    ensures cell { (n l : ℕ) (y : T) → HoldsInTurn p n l (Some y) seat.old → y ≡ result }
 {
     seat.cell(board, p)
 }
@@ -72,9 +73,9 @@ pub fn take_cell<T: Told>(seat: &mut Seat<T>, board: &Board<T>, p: usize) -> T
 /// Puts the cell into its slot.
 pub fn put<T: Told>(seat: &mut Seat<T>, board: &Board<T>, p: usize, cell: T)
     requires board { seat.old.seat.table_id ≡ board.now.table.shared.table_id }
-    requires holds { (n : ℕ) × (l : ℕ) × Holds p n l None seat.old }
+    requires holds { (n : ℕ) × (l : ℕ) × HoldsInTurn p n l None seat.old }
     ensures same { IsSeatOf seat.old seat.new × (seat.new.seat.me.0 ≡ seat.old.seat.me.0) }
-    ensures holds { (n l : ℕ) → Holds p n l None seat.old → Holds p n l (Some cell) seat.new }
+    ensures holds { (n l : ℕ) → HoldsInTurn p n l None seat.old → HoldsInTurn p n l (Some cell) seat.new }
 {
     seat.put_back(board, p, cell);
 }
@@ -89,11 +90,11 @@ pub fn tell<T: Told>(
     count: u64,
 ) -> Option<usize>
     requires board { seat.old.seat.table_id ≡ board.now.table.shared.table_id }
-    requires holds { (n : ℕ) × (l : ℕ) × (x : Option T) × Holds p n l x seat.old }
+    requires holds { (n : ℕ) × (l : ℕ) × (x : Option T) × HoldsInTurn p n l x seat.old }
     requires writes { (channel < board.now.channels) × ((wired board.now.table.shared.key).writer channel ≡ Some p) × (count < 2 ^ 48) }
     ensures same { IsSeatOf seat.old seat.new }
-    ensures holds { (n l : ℕ) (x : Option T) → Holds p n l x seat.old → Holds p n l x seat.new }
-    ensures tells { Tells (wired board.now.table.shared.key) p channel count seat.old.seat.me.0 seat.new.seat.me.0 }
+    ensures holds { (n l : ℕ) (x : Option T) → HoldsInTurn p n l x seat.old → HoldsInTurn p n l x seat.new }
+    ensures tells { HasPublished (wired board.now.table.shared.key) p channel count seat.old.seat.me.0 seat.new.seat.me.0 }
     ensures woken { IfSome result (λ r. (r < board.now.instances) × ((wired board.now.table.shared.key).reader channel ≡ Some r)) }
     ensures alone { IfNone result (seat.new.seat.me.0.steps ≡ seat.old.seat.me.0.steps + 1) }
 {
@@ -107,8 +108,8 @@ pub fn tell<T: Told>(
 pub fn stop<T: Told>(seat: &mut Seat<T>, board: &Board<T>)
     requires { seat.old.seat.table_id ≡ board.now.table.shared.table_id }
     ensures same { HasHalted seat.old seat.new }
-    ensures holds { (p n l : ℕ) (x : Option T) → Holds p n l x seat.old → Holds p n l x seat.new }
-    ensures idle { IsIdle seat.old → IsIdle seat.new }
+    ensures holds { (p n l : ℕ) (x : Option T) → HoldsInTurn p n l x seat.old → HoldsInTurn p n l x seat.new }
+    ensures idle { IsBetweenTurns seat.old → IsBetweenTurns seat.new }
     ensures rests { (n : ℕ) → IsBetween n seat.old → IsBetween n seat.new }
     ensures halted { (seat.new.seat.me.0.seen ≡ 2) × (seat.new.seat.me.0.flushed ≡ seat.old.seat.me.0.flushed) × (seat.new.seat.me.0.got ≡ seat.old.seat.me.0.got) }
 {
@@ -118,10 +119,10 @@ pub fn stop<T: Told>(seat: &mut Seat<T>, board: &Board<T>)
 /// So many events of the draw were done. The others may still be done.
 pub fn tell_done<T: Told>(seat: &mut Seat<T>, board: &Board<T>, p: usize, done: u64)
     requires board { seat.old.seat.table_id ≡ board.now.table.shared.table_id }
-    requires holds { (n : ℕ) × (x : Option T) × Holds p n 0 x seat.old × (done ≤ n) }
+    requires holds { (n : ℕ) × (x : Option T) × HoldsInTurn p n 0 x seat.old × (done ≤ n) }
     ensures same { IsSeatOf seat.old seat.new }
     ensures knows { Knows (wired board.now.table.shared.key) p seat.old.seat.me.0 seat.new.seat.me.0 }
-    ensures holds { (n : ℕ) (x : Option T) → Holds p n 0 x seat.old → Holds p (n - done) done x seat.new }
+    ensures holds { (n : ℕ) (x : Option T) → HoldsInTurn p n 0 x seat.old → HoldsInTurn p (n - done) done x seat.new }
     ensures used { Uses seat.old seat.new done }
 {
     seat.spend(board, done);
@@ -132,7 +133,7 @@ pub fn give<T: Told>(seat: &mut Seat<T>, board: &Board<T>, undone: u64)
     requires board { seat.old.seat.table_id ≡ board.now.table.shared.table_id }
     requires rests { IsBetween undone seat.old }
     ensures same { IsSeatOf seat.old seat.new }
-    ensures idle { IsIdle seat.new }
+    ensures idle { IsBetweenTurns seat.new }
     ensures back { GivesBack seat.old seat.new undone }
 {
     seat.give_back(board, undone);

@@ -1,5 +1,5 @@
 -- Inner. A run before its next events.
-use Rattle.std.specs.Prelude.{◌≡◌, ℕ, ◌+◌, ◌<◌, false, List, length, Option, Some, slice_get}
+use Rattle.std.specs.Prelude.{◌≡◌, ℕ, ◌+◌, ◌^◌, ◌<◌, false, List, length, Option, Some, slice_get, slice_index}
 use Rattle.kahn_tree.specs.declared.tree.Program.{Program}
 use Rattle.kahn_tree.specs.declared.tree.Role.TheVariants as role
 use Rattle.kahn_network.specs.Network.{Reads, Writes, network_of, instance_at, actual_at, role_at}
@@ -23,7 +23,7 @@ abbrev pub woken_task : Lists → Work → Tasked
 woken_task lists w = ready_task (record w { cell = record w.cell { input = lists } })
 
 -- the task is that of instance p, which may go on; all that it sent was flushed, and counts as published
-pub record IsReady (t : Program) (lists : Lists) (watch : Option ℕ) (p : ℕ) (x : Tasked) : Type 0 where
+pub record IsReadyTask (t : Program) (lists : Lists) (watch : Option ℕ) (p : ℕ) (x : Tasked) : Type 0 where
   pub network : x.work.cell.network ≡ t
   pub input : x.work.cell.input ≡ lists
   pub instance : x.work.cell.instance ≡ p
@@ -32,9 +32,9 @@ pub record IsReady (t : Program) (lists : Lists) (watch : Option ℕ) (p : ℕ) 
   pub delivered : IsDelivered x.work
 
 -- the tasks of all instances, before their first events or after earlier runs
-pub record AreReady (t : Program) (lists : Lists) (watch : Option ℕ) (tasks : List Tasked) : Type 0 where
+pub record AreReadyTasks (t : Program) (lists : Lists) (watch : Option ℕ) (tasks : List Tasked) : Type 0 where
   pub count : length tasks ≡ length (network_of t).instances
-  pub each : (p : ℕ) (x : Tasked) → slice_get tasks p ≡ Some x → IsReady t lists watch p x
+  pub each : (p : ℕ) (x : Tasked) → slice_get tasks p ≡ Some x → IsReadyTask t lists watch p x
   -- a channel from one instance to another, or to itself, is one lane: its writer and its reader have the two ends
   pub joined : (p r o q d : ℕ) (x y : Tasked) → slice_get tasks p ≡ Some x → slice_get tasks r ≡ Some y →
       actual_at (instance_at (network_of t) p) o ≡ Writes d → actual_at (instance_at (network_of t) r) q ≡ Reads d →
@@ -46,6 +46,11 @@ pub record IsNumber (t : Program) (lists : Lists) (tasks : List Tasked) (c n : �
   pub sent : (p o : ℕ) (x : Tasked) → slice_get tasks p ≡ Some x → actual_at (instance_at (network_of t) p) o ≡ Writes c →
       is_output (role_at (network_of t) c) ≡ false → n ≡ count x.work.cell.sent o
 
+-- so for each channel, and each is a number of 48 bits
+abbrev pub AreNumbersOf : Program → Lists → List Tasked → List ℕ → Type 0
+AreNumbersOf t lists tasks numbers =
+    (c : ℕ) → c < length numbers → IsNumber t lists tasks c (slice_index numbers c) × (slice_index numbers c < 2 ^ 48)
+
 -- how many events may have been done in all: those of the tasks so far and the bound of the board
 abbrev pub all_events : Terms Tasked → ℕ
 all_events key = key.bound + events_of told_of key.cells.value.items
@@ -53,5 +58,5 @@ all_events key = key.bound + events_of told_of key.cells.value.items
 -- the board was made of such tasks, and that many tokens are published
 pub record HasBegun (t : Program) (lists : Lists) (watch : Option ℕ) (key : Terms Tasked) : Type 0 where
   pub network : key.network.value ≡ t
-  pub ready : AreReady t lists watch key.cells.value.items
+  pub ready : AreReadyTasks t lists watch key.cells.value.items
   pub numbers : (c : ℕ) → c < length (network_of t).channels → IsNumber t lists key.cells.value.items c ((dealt told_of key).published c)

@@ -35,15 +35,15 @@ standing_after (pause.Fault k) = standing.Faulted k
 standing_after (pause.Dry q) = standing.Dry q
 
 -- what a standing says of the outcome of the process on the values that it took
-abbrev pub IsStanding : Standing → Outcome Store → Type 0
-IsStanding standing.Going o = Unit {0}
-IsStanding standing.Ended o = ending o ≡ Some end.Ended
-IsStanding (standing.Faulted k) o = ending o ≡ Some (end.Faulted k)
-IsStanding (standing.Dry q) o = o ≡ IsDryAt q
+abbrev pub TellsOutcome : Standing → Outcome Store → Type 0
+TellsOutcome standing.Going o = Unit {0}
+TellsOutcome standing.Ended o = ending o ≡ Some end.Ended
+TellsOutcome (standing.Faulted k) o = ending o ≡ Some (end.Faulted k)
+TellsOutcome (standing.Dry q) o = o ≡ IsDryAt q
 
 abbrev pub HasStanding : Work → Standing → Type 0
 HasStanding w s =
-    Paused (network_of w.cell.network) (inputs_of w.cell.input) w.cell.watch w.cell.instance (told_view w.cell) (IsStanding s)
+    Paused (network_of w.cell.network) (inputs_of w.cell.input) w.cell.watch w.cell.instance (told_view w.cell) (TellsOutcome s)
 
 -- where it has one, the standing is that of the process
 abbrev pub IsTrueOf : Work → Standing → Type 0

@@ -4,6 +4,6 @@ use Rattle.kahn_crew.specs.declared.fault.CrewFault.{CrewFault}
 use Rattle.kahn_crew.specs.declared.fault.CrewFault.TheVariants as fault
 
 -- memory was wanting, or a thread for one of several workers: one works in the caller's
-abbrev pub IsWant : ℕ → CrewFault → Type 0
-IsWant workers fault.NoMemory = Unit {0}
-IsWant workers fault.NoThread = 1 < workers
+abbrev pub IsLack : ℕ → CrewFault → Type 0
+IsLack workers fault.NoMemory = Unit {0}
+IsLack workers fault.NoThread = 1 < workers

@@ -1,14 +1,14 @@
 -- Inner. What a worker's seat has and knows between two turns and in a turn.
-use Rattle.std.specs.Prelude.{◌≡◌, ◌≢◌, ◌⊎◌, ℕ, ◌+◌, ◌<◌, [], slice_index, Option, Some}
+use Rattle.std.specs.Prelude.{◌≡◌, ◌≢◌, ◌⊎◌, ℕ, ◌+◌, ◌*◌, ◌/◌, ◌<◌, [], slice_index, Option, Some}
 use Rattle.kahn_board.specs.Calls.{Was}
-use Rattle.kahn_board.specs.Dealt.{wired}
-use Rattle.kahn_board.specs.Rule.{count_at}
+use Rattle.kahn_board.specs.Dealt.{belongs, wired}
+use Rattle.kahn_board.specs.Rule.{channel_at, count_at}
 use Rattle.kahn_board.specs.declared.rule.Terms.{Terms}
 use Rattle.kahn_board.specs.Tale.{Tale, FlushedAll, flushed_of, events_past}
 use Rattle.kahn_board.specs.Wires.{Wires}
 use Rattle.kahn_board.specs.Cuts.{HoldsNothing}
 use Rattle.kahn_board.specs.Hands.{Carries}
-use Rattle.kahn_board.specs.Plays.{Sat, IsIn, SeesMore, gave, paid_down}
+use Rattle.kahn_board.specs.Plays.{Sat, IsIn, SeesMore, gave, noted, paid_down}
 use Rattle.kahn_board.specs.declared.view.View.{View}
 use Rattle.kahn_board.specs.declared.board.Seat.{Seat}
 
@@ -26,7 +26,7 @@ pub record Knows (w : Wires) (p : ℕ) (old new : View) : Type 0 where
   pub seen : SeesMore old.seen new.seen
 
 -- p told that k tokens of its channel c are published
-pub record Tells (w : Wires) (p c k : ℕ) (old new : View) : Type 0 where
+pub record HasPublished (w : Wires) (p c k : ℕ) (old new : View) : Type 0 where
   pub here : slice_index new.flushed c ≡ k
   pub others : (d : ℕ) → d ≢ c → d < w.channels → w.writer d ≡ Some p → slice_index new.flushed d ≡ slice_index old.flushed d
   pub got : slice_index new.got p ≡ slice_index old.got p
@@ -48,12 +48,12 @@ module _ {T : Type 0} where
   IsBetween n s = RestsWith n s.seat.me.0
 
   -- between two turns
-  abbrev pub IsIdle : Seat T → Type 0
-  IsIdle s = Rests s.seat.me.0
+  abbrev pub IsBetweenTurns : Seat T → Type 0
+  IsBetweenTurns s = Rests s.seat.me.0
 
   -- in a turn of p
-  abbrev pub Holds : ℕ → ℕ → ℕ → Option T → Seat T → Type 0
-  Holds p n l x s = InTurn p n l x s.seat.me
+  abbrev pub HoldsInTurn : ℕ → ℕ → ℕ → Option T → Seat T → Type 0
+  HoldsInTurn p n l x s = InTurn p n l x s.seat.me
 
   -- the same seat, with the same parts, which didn't halt the run
   abbrev pub IsSeatOf : Seat T → Seat T → Type 0
@@ -69,6 +69,14 @@ module _ {T : Type 0} where
   abbrev pub SetsReady : (T → Option Tale) → Seat T → View → Seat T → ℕ → Type 0
   SetsReady told s v t p = (y : T) → Carries s.seat.me.1 p (Some y) → (r : ℕ) × (t.seat.me.0 ≡ gave v p (told y) 0 r)
 
+module _ {T : Type 0} (told : T → Option Tale) (owns : ℕ → T → Type 0) (w : Wires) where
+  -- the cell y of p may be left: what it tells as flushed is published, its events are those told as done, it flushed all that it sent unless the run is halted, it belongs to p
+  pub record Fits (p : ℕ) (y : T) (v : View) : Type 0 where
+    pub published : (c l : ℕ) → flushed_of (told y) c ≡ Some l → (c < w.channels) × (w.writer c ≡ Some p) × (l ≡ slice_index v.flushed c)
+    pub events : events_past (told y) (slice_index v.got p) ≡ slice_index v.got p + v.loose
+    pub flushed : (v.seen ≡ 2) ⊎ FlushedAll (told y)
+    pub belonging : owns p y
+
 module _ {T : Type 0} (told : T → Option Tale) (after : T → T → Type 0) (key : Terms T) where
   -- p with its cell was parked, or is over: the seat owed a count down for it at a moment of the call, and paid it
   abbrev pub SetsStill : Seat T → Seat T → ℕ → Type 0
@@ -76,10 +84,16 @@ module _ {T : Type 0} (told : T → Option Tale) (after : T → T → Type 0) (k
       × Was told after key s (gave s.seat.me.0 p (told y) 1 r) (count_at (wired key)) q
       × (t.seat.me.0 ≡ paid_down (gave s.seat.me.0 p (told y) 1 r) q)
 
-module _ {T : Type 0} (told : T → Option Tale) (belongs : ℕ → T → Type 0) (w : Wires) where
-  -- the cell y of p may be left: what it tells as flushed is published, its events are those told as done, it flushed all that it sent unless the run is halted, it belongs to p
-  pub record Fits (p : ℕ) (y : T) (v : View) : Type 0 where
-    pub published : (c l : ℕ) → flushed_of (told y) c ≡ Some l → (c < w.channels) × (w.writer c ≡ Some p) × (l ≡ slice_index v.flushed c)
-    pub events : events_past (told y) (slice_index v.got p) ≡ slice_index v.got p + v.loose
-    pub flushed : (v.seen ≡ 2) ⊎ FlushedAll (told y)
-    pub belonging : belongs p y
+  -- p was set down ready, since other than k tokens of the channel c were published at a moment of the call
+  abbrev pub SetsLate : ℕ → ℕ → Seat T → Seat T → ℕ → Type 0
+  SetsLate c k s t p =
+      (r : ℕ) × (r / 2 ≢ k) × Was told after key s s.seat.me.0 (channel_at (wired key) c) r × SetsReady told s (noted s.seat.me.0 r) t p
+
+  -- a turn of p begins: its cell is at home and may be left, n events are drawn, and none of them is told as done
+  abbrev pub BeginsTurn : ℕ → ℕ → Seat T → Type 0
+  BeginsTurn p n s = (y : T) × HoldsInTurn p n 0 (Some y) s × Fits told (belongs after key) (wired key) p y s.seat.me.0
+
+  -- a turn of p ends: its cell, which is so, is at home and may be left
+  abbrev pub EndsTurn : ℕ → (T → Type 0) → Seat T → Type 0
+  EndsTurn p is s =
+      (n : ℕ) × (l : ℕ) × (y : T) × HoldsInTurn p n l (Some y) s × Fits told (belongs after key) (wired key) p y s.seat.me.0 × is y

@@ -1,6 +1,6 @@
 use Rattle.std.proofs.Common.{◌∙◌}
 use Rattle.kahn_crew.proofs.Ended.{untouched_gone, untouched_here}
-use Rattle.kahn_crew.proofs.Started.{floor_of}
+use Rattle.kahn_crew.proofs.Started.{fits_of}
 use Rattle.kahn_crew.proofs.crew.run_tasks.Goals as goal
 
 pub returns-in_default-clause-refused : goal.returns-in_default-clause-refused
@@ -13,10 +13,11 @@ returns-in-Err-clause-refused g c =
     untouched_gone c.args.network.now c.args.input.now c.args.plan.watch c.args.plan.bound c.args.tasks.items c.untouched-in-Err.result.tasks.items
     c.untouched-in-Err.result.budget c.requires.ready (c.untouched-in-Err.ensures.0 ∙ c.in-Err.ensures.refused) c.untouched-in-Err.ensures.1
 
-pub employ-requires-clause-floor : goal.employ-requires-clause-floor
-employ-requires-clause-floor g c =
-    let is = floor_of c.args.network.now c.args.input.now c.args.plan.watch c.in-Ok-open_board.opened.0.table.shared.key c.in-Ok-open_board.ensures.begun _ c.requires.code in
-    search (is)
+pub invariant_of-run : goal.invariant_of-run
+invariant_of-run g c = record {
+  fits = fits_of c.args.network.now c.args.input.now c.args.plan.watch c.in-Ok-open_board.opened.0.table.shared.key c.in-Ok-open_board.ensures.begun _ c.requires.code;
+  some = c.requires.quantum;
+}
 
 pub returns-in-Ok-employ-clause-over : goal.returns-in-Ok-employ-clause-over
 returns-in-Ok-employ-clause-over g c = c.leave-left.ensures.over c.in-Ok-employ.ensures.left.1

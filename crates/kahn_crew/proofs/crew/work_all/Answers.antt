@@ -1,19 +1,19 @@
 use Rattle.std.proofs.Common.{arith, ⊎_elim, true≢false, sym, ◌∙◌}
 use denote.Param.Send.{sendable}
 use Rattle.kahn_crew.proofs.Crewed.{all_caused, all_gone, one_raised}
-use Rattle.kahn_crew.proofs.Crossing.{floor_sync, worker_send}
+use Rattle.kahn_crew.proofs.Crossing.{run_sync, worker_send}
 use Rattle.kahn_crew.proofs.crew.work_all.Goals as goal
 
 pub returns : goal.returns
 returns g c =
-    let t = all_gone c.args.floor.now.board.now.table.shared.table_id c.args.workers.items c.labor_all.result.hands.items c.labor_all.ensures.count (λ i d h. ⊎_elim (λ done. (done.0, done.1.2)) (λ left. (left.1.0, left.1.1)) (c.labor_all.ensures.each i d h)) in
+    let t = all_gone c.args.run.now.board.now.table.shared.table_id c.args.workers.items c.labor_all.result.hands.items c.labor_all.ensures.count (λ i d h. ⊎_elim (λ done. (done.0, done.1.2)) (λ left. (left.1.0, left.1.1)) (c.labor_all.ensures.each i d h)) in
     record {
       count = c.labor_all.ensures.count;
       each = t.0;
       sums = t.1;
       several = c.labor_all.ensures.several;
       halted = λ yes. let q = c.labor_all.ensures.quits yes in one_raised c.labor_all.result.hands.items q.0 (omega (arith, q.1, c.labor_all.ensures.count)) (λ d. (q.2 d).2);
-      cause = λ no none. all_caused c.args.workers.items c.labor_all.result.hands.items c.labor_all.ensures.count none
+      cause = λ no none. all_caused c.args.workers.items c.labor_all.result.hands.items c.labor_all.ensures.count none (λ i d lt. (c.requires.each i d lt).1)
           (λ i d h. ⊎_elim (λ done. done.1) (λ left. absurd (true≢false (sym left.0 ∙ no))) (c.labor_all.ensures.each i d h));
     }
 
@@ -21,6 +21,6 @@ returns g c =
 pub labor_all-requires-send-T : goal.labor_all-requires-send-T
 labor_all-requires-send-T g c κs = search (worker_send, sendable) depth 20
 
--- threads may share the floor
+-- threads may share the run
 pub labor_all-requires-sync-C : goal.labor_all-requires-sync-C
-labor_all-requires-sync-C g c κs = search (floor_sync, sendable) depth 20
+labor_all-requires-sync-C g c κs = search (run_sync, sendable) depth 20

@@ -2,25 +2,25 @@ use Rattle.std.proofs.Common.{arith, ◌+◌, ◌%◌, ◌∙◌, sym, subst}
 use mathlib.Core.Logic.{dite}
 use native.Mathlib.Decide.{ℕ_discrete}
 use Rattle.std.proofs.Math.Nat.{mod-lt}
-use Rattle.kahn_crew.specs.inner.Floors.{WasNotReady}
+use Rattle.kahn_crew.specs.inner.Turns.{WasNotReady}
 use Rattle.kahn_crew.proofs.Round.{not_ready_of, none_ready}
 use Rattle.kahn_crew.proofs.pick.pick_any.Goals as goal
 
-pub pick_one-requires-clause-rests : goal.pick_one-requires-clause-rests
-pick_one-requires-clause-rests c = (0, c.loop-step.invariant.idle)
+pub pick_one-requires : goal.pick_one-requires
+pick_one-requires c = (0, c.loop-step.invariant.idle)
 
 pub returns-then-pick_one-clause-picked : goal.returns-then-pick_one-clause-picked
-returns-then-pick_one-clause-picked c = let picked = c.pick_one.ensures.picked c.if-pick_one.true in (picked.0, picked.1 0 c.loop-step.invariant.idle)
+returns-then-pick_one-clause-picked c = c.pick_one.ensures.picked c.if-pick_one.true 0 c.loop-step.invariant.idle
 
 pub loop-step-preserved : goal.loop-step-preserved
-loop-step-preserved c = let one = c.pick_one.ensures in let i = c.loop-step.invariant in let n = c.args.floor.now.board.now.instances in let start = c.args.start in let key = c.args.floor.now.board.now.table.shared.key in record {
+loop-step-preserved c = let one = c.pick_one.ensures in let i = c.loop-step.invariant in let n = c.args.run.now.board.now.instances in let start = c.args.start in let run = c.args.run.now in record {
   same = (one.same.0 ∙ i.same.0, one.same.1 ∙ i.same.1, one.same.2 ∙ i.same.2, one.same.3 ∙ i.same.3);
   idle = one.missed c.if-pick_one.false 0 i.idle;
   late = λ k lt. dite (ℕ_discrete k c.loop-step.step)
-      (λ is. subst (λ j. WasNotReady key c.args.seat.now ((start % n + j) % n)) (sym is)
-      (not_ready_of key c.args.seat.now c.loop-step.seat ((start % n + c.loop-step.step) % n) i.same.1 (one.late c.if-pick_one.false (mod-lt (start % n + c.loop-step.step) (omega (arith, c.loop-step-test.true))))))
+      (λ is. subst (λ j. WasNotReady run c.args.seat.now ((start % n + j) % n)) (sym is)
+      (not_ready_of run c.args.seat.now c.loop-step.seat ((start % n + c.loop-step.step) % n) i.same.1 (one.late c.if-pick_one.false (mod-lt (start % n + c.loop-step.step) (omega (arith, c.loop-step-test.true))))))
       (λ ne. i.late k (omega (arith, lt, ne)));
 }
 
 pub returns-clause-none : goal.returns-clause-none
-returns-clause-none c = none_ready c.args.floor.now.board.now.table.shared.key c.args.seat.now c.args.floor.now.board.now.instances c.args.start (λ k lt. c.loop-step.invariant.late k (omega (arith, lt, c.loop-step-test.false)))
+returns-clause-none c = none_ready c.args.run.now c.args.seat.now c.args.run.now.board.now.instances c.args.start (λ k lt. c.loop-step.invariant.late k (omega (arith, lt, c.loop-step-test.false)))

@@ -1,10 +1,11 @@
 use Rattle.std.proofs.Common.{◌≡◌, ℕ}
-use Rattle.kahn_desk.specs.inner.Turn.{IsBetween, IsSeatOf}
+use Rattle.kahn_desk.specs.inner.Turn.{IsSeatOf}
+use Rattle.kahn_crew.specs.inner.Turns.{SitsWith}
 use Rattle.kahn_crew.proofs.pick.pick_hinted.Given as goal
 
 abbrev pub invariant-loop : goal.invariant-loop
 invariant-loop l = record {
   same : IsSeatOf l.fn.seat l.seat;
-  rests : (n : ℕ) → IsBetween n l.fn.seat → IsBetween n l.seat;
+  rests : (n : ℕ) → SitsWith l.fn.run n l.fn.seat → SitsWith l.fn.run n l.seat;
   kept : l.hints.wanted ≡ l.fn.hints.wanted;
 }

@@ -1,49 +1,60 @@
-use Rattle.std.proofs.Common.{arith, ◌≡◌, ◌<◌, sym, subst, Some}
-use Rattle.kahn_tree.specs.declared.tree.Program.{Program}
+use Rattle.std.proofs.Common.{arith, ◌≡◌, ◌∙◌, sym, subst, Some, None}
+use Rattle.kahn_network.specs.Wiring.{IsWellWired}
 use Rattle.kahn_network.specs.Network.{Writes, network_of, instance_at, actual_at}
-use Rattle.kahn_board.specs.Wires.{wires}
-use Rattle.kahn_desk.specs.inner.Turn.{Tells}
-use Rattle.kahn_crew.specs.inner.Tasks.{Tasked, AgreesWith, written_by}
+use Rattle.kahn_crew.specs.inner.Tasks.{Tasked}
+use Rattle.kahn_crew.specs.inner.Turns.{IsAtWork, terms_of}
 use Rattle.kahn_crew.proofs.Wirings.{writer_is, written_inside}
-use Rattle.kahn_crew.proofs.Publishing.{written_so, agrees_told, flushed_few}
+use Rattle.kahn_crew.proofs.Publishing.{flushed_few, nothing_written, written_so}
+use Rattle.kahn_crew.proofs.Working.{in_hand, inside_lent, told, written_here}
 use Rattle.kahn_crew.proofs.publish.publish_one.Goals as goal
+
+pub target-requires-clause-code : goal.target-requires-clause-code
+target-requires-clause-code c = let fits = c.args.run.now.fits in fits.code ∙ sym fits.network
+
+pub target-requires-clause-inside : goal.target-requires-clause-inside
+target-requires-clause-inside c = inside_lent c.args.run.now c.args.p c.requires.works.2.inside
+
+pub tell-requires-clause-board : goal.tell-requires-clause-board
+tell-requires-clause-board c = c.requires.works.2.seated
+
+pub tell-requires-clause-holds : goal.tell-requires-clause-holds
+tell-requires-clause-holds c = let w = c.requires.works in (w.0, 0, None, w.2.holds)
 
 pub tell-requires-clause-writes : goal.tell-requires-clause-writes
 tell-requires-clause-writes c =
-    let t = c.args.floor.now.network.now in
+    let run = c.args.run.now in
+    let well = subst IsWellWired run.fits.network c.program-program.ensures.wired in
+    let t = (terms_of run).network.value in
     let p = c.args.p in
     let o = c.args.parameter in
     let d = c.in_ok-channel.channel in
-    let wired = c.program-program.ensures.wired in
-    let written : written_by (network_of t) (actual_at (instance_at (network_of t) p) o) ≡ Some d = sym c.in_ok-channel.ensures in
+    let w = c.requires.works in
+    let hand = in_hand run p w.0 w.1 c.args.task.now c.args.seat.now w.2 in
+    let written = written_here run p o (Some d) c.in_ok-channel.ensures in
     let here : actual_at (instance_at (network_of t) p) o ≡ Writes d = (written_so (network_of t) (actual_at (instance_at (network_of t) p) o) d written).0 in
-    let same : t ≡ c.args.floor.now.board.now.table.shared.key.network.value = sym c.requires.floor.network in
-    let inside : d < (wires c.args.floor.now.board.now.table.shared.key.network.value).channels = subst (λ (k : Program). d < (wires k).channels) same (written_inside t wired p o d here) in
-    let counts = c.args.floor.now.board.now.counts.1 in
-    let few = flushed_few t wired c.args.task.now p o d c.requires.task written c.parameters.ensures.job c.parameters.ensures.counts c.requires.few in
-    let count = c.flushed-count.ensures in (
-      omega (arith, inside, counts),
-      subst (λ (k : Program). (wires k).writer d ≡ Some p) same (writer_is t wired p o d here),
-      omega (arith, few, count),
-    )
+    let inside = written_inside t well p o d here in
+    let counts = run.board.now.counts.1 in
+    let few = flushed_few t well c.args.task.now p o d hand.1 written c.parameters.ensures.job c.parameters.ensures.counts hand.2 in
+    let count = c.flushed-count.ensures in
+    (omega (arith, inside, counts), writer_is t well p o d here, omega (arith, few, count))
 
-pub returns-clause-holds : goal.returns-clause-holds
-returns-clause-holds c = λ n l h. c.tell.ensures.holds n l _ h
-
-pub returns-clause-agrees : goal.returns-clause-agrees
-returns-clause-agrees c =
-    let t = c.args.floor.now.network.now in
+pub returns-in_err-channel-clause-published : goal.returns-in_err-channel-clause-published
+returns-in_err-channel-clause-published c =
+    let run = c.args.run.now in
+    let well = subst IsWellWired run.fits.network c.program-program.ensures.wired in
     let p = c.args.p in
     let o = c.args.parameter in
-    let d = c.in_ok-channel.channel in
-    let k = c.flushed-count.result in
-    let x = c.args.task.now in
-    let old = c.args.seat.now.seat.me.0 in
-    let new = c.tell.new.seat.seat.me.0 in
-    let written : written_by (network_of t) (actual_at (instance_at (network_of t) p) o) ≡ Some d = sym c.in_ok-channel.ensures in
-    let tells : Tells (wires t) p d k old new = subst (λ (j : Program). Tells (wires j) p d k old new) c.requires.floor.network c.tell.ensures.tells in
+    let w = c.requires.works in
+    nothing_written (terms_of run).network.value well c.args.task.now p o (in_hand run p w.0 w.1 c.args.task.now c.args.seat.now w.2).1 (written_here run p o None c.in_err-channel.ensures)
+
+pub returns-clause-works : goal.returns-clause-works
+returns-clause-works c = λ n k a.
+    let run = c.args.run.now in
+    let well = subst IsWellWired run.fits.network c.program-program.ensures.wired in
     let lists = c.parameters.ensures.lists.0 in
     let width = c.parameters.ensures.width in
     let inside = c.requires.inside in
-    subst (λ (y : Tasked). AgreesWith y.work y.published new.flushed) (sym c.mark.ensures)
-    (agrees_told t c.program-program.ensures.wired x p o d k old new c.requires.task written (omega (arith, lists, width, inside)) tells c.requires.agrees)
+    subst (λ (y : Tasked). IsAtWork run c.args.p n k y c.tell.new.seat) (sym c.mark.ensures)
+    (told run well c.args.p n k c.args.parameter c.in_ok-channel.channel c.flushed-count.result c.args.task.now c.args.seat.now c.tell.new.seat a
+    (c.tell.ensures.holds n 0 None a.holds) c.tell.ensures.same.0 c.tell.ensures.tells (written_here run c.args.p c.args.parameter (Some c.in_ok-channel.channel) c.in_ok-channel.ensures)
+    (omega (arith, lists, width, inside)))

@@ -1,4 +1,4 @@
-use Rattle.std.proofs.Common.{◌≡◌, ◌⊎◌, ℕ, ◌+◌, inl, inr, refl, sym, ap, ◌∙◌, Result, Ok, Err, OnOk, OnErr}
+use Rattle.std.proofs.Common.{arith, ◌≡◌, ◌⊎◌, ℕ, ◌+◌, ◌-◌, inl, inr, ⊎_elim, refl, sym, ap, ◌∙◌, subst, Result, Ok, Err, OnOk, OnErr}
 use Rattle.kahn_network.specs.Network.{Network, network_of}
 use Rattle.kahn_streams.specs.Meaning.{Store}
 use Rattle.kahn_streams.specs.Script.{Outcome}
@@ -8,9 +8,12 @@ use Rattle.kahn_code.specs.Cells.{exec_on}
 use Rattle.kahn_code.specs.Progress.{IsPause}
 use Rattle.kahn_job.specs.inner.Ends.{IsDry, IsReady}
 use Rattle.kahn_job.specs.inner.Berths.{end_at}
-use Rattle.kahn_job.specs.inner.Works.{Work}
+use Rattle.kahn_job.specs.inner.Works.{IsDelivered, Work}
 use Rattle.kahn_crew.specs.declared.standing.Standing.TheVariants as standing
 use Rattle.kahn_crew.specs.inner.Tasks.{standing_after}
+use Rattle.kahn_crew.specs.inner.Turns.{IsAtWork}
+use Rattle.kahn_crew.proofs.Resting.{sees_two}
+use Rattle.kahn_crew.proofs.Working.{in_hand, went}
 use Rattle.kahn_crew.proofs.turn.run_task.Goals as goal
 
 either_of : {E : Type 0} (r : Result (Unit {0}) E) {P Q : Type 0} → OnOk r P → OnErr r Q → Q ⊎ P
@@ -26,20 +29,53 @@ going_spent N p dry ready S H pause.Ended o e says halts = absurd cc
 going_spent N p dry ready S H (pause.Fault k) o e says halts = absurd cc
 going_spent N p dry ready S H (pause.Dry q) o e says halts = absurd cc
 
+pub run-pause-requires-clause-code : goal.run-pause-requires-clause-code
+run-pause-requires-clause-code g c = let run = c.args.run.now in run.fits.code ∙ sym (in_hand run c.args.p c.args.drawn 0 c.args.task.now c.args.seat.now c.requires).1.0
+
+pub run-pause-requires-clause-events : goal.run-pause-requires-clause-events
+run-pause-requires-clause-events g c = omega (arith, c.requires.events, c.requires.few)
+
+pub heed-requires : goal.heed-requires
+heed-requires g c = c.requires.seated
+
+pub publish_all-requires : goal.publish_all-requires
+publish_all-requires g c =
+    let x = c.args.task.now in
+    let y = c.run-pause.new.self in
+    let z = c.flush-flushed.new.self in
+    let r = c.run-pause.ensures in
+    let f = c.flush-flushed.ensures in
+    record {
+      works = (
+        c.args.drawn,
+        z.work.cell.events - x.work.cell.events,
+        went c.args.run.now c.args.p c.args.drawn x y z c.args.seat.now c.heed.new.seat c.requires c.heed.ensures.still c.heed.ensures.same.0 r.continues r.published r.events f.continues f.published f.cell,
+      );
+    }
+
+pub returns-clause-works : goal.returns-clause-works
+returns-clause-works g c =
+    let x = c.args.task.now in
+    let y = c.run-pause.new.self in
+    let z = c.flush-flushed.new.self in
+    let r = c.run-pause.ensures in
+    let f = c.flush-flushed.ensures in
+    let a = went c.args.run.now c.args.p c.args.drawn x y z c.args.seat.now c.heed.new.seat c.requires c.heed.ensures.still c.heed.ensures.same.0 r.continues r.published r.events f.continues f.published f.cell in
+    subst (λ (k : ℕ). IsAtWork c.args.run.now c.args.p c.args.drawn k c.publish_all.new.task c.publish_all.new.seat) (omega (arith, ap (λ (k : Work). k.cell.events) c.publish_all.ensures.task.0, c.events.ensures, c.events-before.ensures))
+    (c.publish_all.ensures.works c.args.drawn (z.work.cell.events - x.work.cell.events) a)
+
 pub returns-clause-delivered : goal.returns-clause-delivered
-returns-clause-delivered g c = either_of c.flush-flushed.result c.flush-flushed.ensures.all c.heed.ensures.refused
+returns-clause-delivered g c =
+    ⊎_elim (λ e. inl (sees_two c.heed.new.seat.seat.me.0.seen c.publish_all.new.seat.seat.me.0.seen c.publish_all.ensures.seen e))
+    (λ d. inr (subst IsDelivered (sym c.publish_all.ensures.task.0) d))
+    (either_of c.flush-flushed.result c.flush-flushed.ensures.all c.heed.ensures.refused)
 
 pub returns-clause-spent : goal.returns-clause-spent
-returns-clause-spent g c = λ going. all_or
+returns-clause-spent g c = λ going.
+    let w = c.run-pause.new.self.work in
+    ⊎_elim (λ all. inl (ap (λ (k : Work). k.cell.events) c.publish_all.ensures.task.0 ∙ (ap (λ v. v.events) c.flush-flushed.ensures.cell ∙ all)))
+    (λ halted. inr (sees_two c.heed.new.seat.seat.me.0.seen c.publish_all.new.seat.seat.me.0.seen c.publish_all.ensures.seen halted))
     (going_spent (network_of w.cell.network) w.cell.instance (λ q. IsDry (end_at w.ends q)) (λ q. IsReady (end_at w.ends q))
     (w.cell.events ≡ c.args.task.now.work.cell.events + c.args.drawn) (c.heed.new.seat.seat.me.0.seen ≡ 2)
     c.run-pause.result (exec_on (network_of w.cell.network) w.cell.events w.cell.instance c.run-pause.ensures.paused.stood.tapes).outcome
-    (sym c.run-pause.ensures.standing ∙ (sym c.flush-flushed.ensures.standing ∙ going)) c.run-pause.ensures.paused.is c.heed.ensures.wanted)
-  where
-    w : Work
-    w = c.run-pause.new.self.work
-
-    all_or : (w.cell.events ≡ c.args.task.now.work.cell.events + c.args.drawn) ⊎ (c.heed.new.seat.seat.me.0.seen ≡ 2) →
-        (c.flush-flushed.new.self.work.cell.events ≡ c.args.task.now.work.cell.events + c.args.drawn) ⊎ (c.heed.new.seat.seat.me.0.seen ≡ 2)
-    all_or (inl all) = inl (ap (λ v. v.events) c.flush-flushed.ensures.cell ∙ all)
-    all_or (inr halted) = inr halted
+    (sym c.run-pause.ensures.standing ∙ (sym c.flush-flushed.ensures.standing ∙ (sym c.publish_all.ensures.task.1 ∙ going))) c.run-pause.ensures.paused.is c.heed.ensures.wanted)

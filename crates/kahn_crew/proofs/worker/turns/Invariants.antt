@@ -1,7 +1,6 @@
-use Rattle.kahn_desk.specs.inner.Turn.{IsIdle}
-use Rattle.kahn_crew.specs.inner.Floors.{Heeds}
+use Rattle.kahn_crew.specs.inner.Turns.{Heeds, SitsWith}
 use Rattle.kahn_crew.proofs.worker.turns.Given as goal
 
 abbrev pub invariant-loop : goal.invariant-loop
 invariant-loop g l =
-    (goal.iterator-loop g).can_next l.iterator' × (goal.iterator-loop g).is_finite l.iterator' × Heeds l.initial.worker.hints.wanted l.initial.worker.seat l.worker.hints.wanted l.worker.seat × IsIdle l.worker.seat
+    (goal.iterator-loop g).can_next l.iterator' × (goal.iterator-loop g).is_finite l.iterator' × Heeds l.initial.worker.hints.wanted l.initial.worker.seat l.worker.hints.wanted l.worker.seat × SitsWith l.fn.run 0 l.worker.seat

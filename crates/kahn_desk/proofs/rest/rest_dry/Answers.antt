@@ -12,6 +12,7 @@ rest_ready-requires-clause-holds g c = let k = c.args.board.now.table.shared.key
   h.2,
   kept_turn _ _ _ e.1.0 _ m n e.1.3 e.2 h.3,
   kept_fits g.T.Told.told (belongs g.T.Told.after k) (wired k) _ e.1.0 _ m n e.1.3 h.4,
+  tt,
 )
 
 pub returns-then-not-park-clause-late : goal.returns-then-not-park-clause-late

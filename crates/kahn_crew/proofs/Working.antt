@@ -1,0 +1,137 @@
+-- A worker in a turn.
+use Rattle.std.proofs.Common.{arith, ◌≡◌, ◌⊎◌, inl, inr, ⊎_elim, ℕ, ◌+◌, ◌-◌, ◌<◌, ◌≤◌, ◌^◌, List, length, refl, sym, ap, ◌∙◌, subst, Option, Some, None, slice_index, slice_set}
+use Rattle.kahn_tree.specs.declared.tree.Program.{Program}
+use Rattle.kahn_network.specs.Network.{network_of, instance_at, actual_at}
+use Rattle.kahn_network.specs.Wiring.{IsWellWired}
+use Rattle.kahn_board.specs.Dealt.{belongs, wired}
+use Rattle.kahn_board.specs.declared.board.Seat.{Seat}
+use Rattle.kahn_board.specs.declared.rule.Terms.{Terms}
+use Rattle.kahn_board.specs.declared.view.View.{View}
+use Rattle.kahn_job.specs.inner.Works.{IsDelivered}
+use Rattle.kahn_desk.specs.inner.Turn.{Fits, HasPublished, HoldsInTurn, Knows}
+use Rattle.kahn_crew.specs.declared.run.Run.{Run}
+use Rattle.kahn_crew.specs.declared.turn.Due.{Due}
+use Rattle.kahn_crew.specs.inner.Lent.{IsTaskOf}
+use Rattle.kahn_crew.specs.inner.Rests.{CanRest, IsDue}
+use Rattle.kahn_crew.specs.inner.Tasks.{Tasked, AgreesWith, Continues, IsLater, IsPublished, told_of, written_by}
+use Rattle.kahn_crew.specs.inner.Turns.{HasTask, IsAtWork, IsTaskIn, StandsStill, terms_of}
+use Rattle.kahn_crew.proofs.Publishing.{agrees_told}
+use Rattle.kahn_crew.proofs.Resting.{agrees_known, agrees_later, agrees_with, continues_here, continues_still, fits_after, fits_still, instances_of, is_published, sees_two, task_of}
+
+pub still_self : (s : Seat Tasked) → StandsStill s s
+still_self s = record { holds = λ p n l x t. t; rests = λ n r. r; got = refl; flushed = refl; seen = inl refl }
+
+module _ (run : Run) where
+  abbrev key : Terms Tasked
+  key = terms_of run
+
+  abbrev t : Program
+  t = key.network.value
+
+  pub is_task : (p : ℕ) (x : Tasked) → p < (wired key).instances → belongs Continues key p x → IsTaskOf t p x
+  is_task p x lt b = task_of key run.network.now run.code.now.network.value p x run.fits lt b
+
+  -- it was run, by a seat that stands still
+  pub ran : (p n k j : ℕ) (x z : Tasked) (s u : Seat Tasked) → IsAtWork run p n k x s → StandsStill s u → u.seat.table_id ≡ s.seat.table_id → Continues x z →
+      z.published ≡ x.published → z.work.cell.events + k ≡ x.work.cell.events + j → j ≤ n → IsAtWork run p n j z u
+  ran p n k j x z s u a still table l same more most = record {
+    seated = table ∙ a.seated;
+    inside = a.inside;
+    few = subst (λ (g : List ℕ). slice_index g p + n < 2 ^ 48) (sym still.got) a.few;
+    most = most;
+    holds = still.holds p n 0 None a.holds;
+    events = omega (arith, a.events, more, ap (λ (g : List ℕ). slice_index g p) still.got);
+    agrees = subst (λ (f : List ℕ). AgreesWith z.work z.published f) (sym still.flushed) (agrees_later x z s.seat.me.0.flushed l same a.agrees);
+    first = λ f e. continues_still f x z (a.first f e) l;
+  }
+
+  pub stood : (p n k : ℕ) (x : Tasked) (s u : Seat Tasked) → IsAtWork run p n k x s → StandsStill s u → u.seat.table_id ≡ s.seat.table_id → IsAtWork run p n k x u
+  stood p n k x s u a still table = ran p n k k x x s u a still table (continues_here x) refl refl a.most
+
+  -- it was run and flushed
+  pub went : (p n : ℕ) (x y z : Tasked) (s u : Seat Tasked) → IsAtWork run p n 0 x s → StandsStill s u → u.seat.table_id ≡ s.seat.table_id →
+      Continues x y → y.published ≡ x.published → (x.work.cell.events ≤ y.work.cell.events) × (y.work.cell.events ≤ x.work.cell.events + n) →
+      Continues y z → z.published ≡ y.published → z.work.cell ≡ y.work.cell → IsAtWork run p n (z.work.cell.events - x.work.cell.events) z u
+  went p n x y z s u a still table l same most l2 same2 cell =
+      let events : z.work.cell.events ≡ y.work.cell.events = ap (λ v. v.events) cell in
+      ran p n 0 (z.work.cell.events - x.work.cell.events) x z s u a still table (continues_still x y z l l2) (same2 ∙ same)
+      (omega (arith, events, most)) (omega (arith, events, most))
+
+  pub in_hand : (p n k : ℕ) (x : Tasked) (s : Seat Tasked) → IsAtWork run p n k x s → IsTaskIn run p x
+  in_hand p n k x s a = (a.inside, is_task p x a.inside a.first, omega (arith, a.events, a.few, a.most))
+
+  -- the same instances in the network that was lent, and in the code
+  pub inside_lent : (p : ℕ) → p < (wired key).instances → p < length (network_of run.network.now).instances
+  inside_lent p lt = subst (λ (k : Program). p < length (network_of k).instances) (sym run.fits.network) (omega (arith, lt, instances_of t))
+
+  pub inside_code : (p : ℕ) → p < (wired key).instances → p < length (network_of run.code.now.network.value).instances
+  inside_code p lt = subst (λ (k : Program). p < length (network_of k).instances) (sym run.fits.code) (omega (arith, lt, instances_of t))
+
+  pub written_here : (p o : ℕ) (m : Option ℕ) → m ≡ written_by (network_of run.network.now) (actual_at (instance_at (network_of run.network.now) p) o) →
+      written_by (network_of t) (actual_at (instance_at (network_of t) p) o) ≡ m
+  written_here p o m e = subst (λ (k : Program). written_by (network_of k) (actual_at (instance_at (network_of k) p) o) ≡ m) run.fits.network (sym e)
+
+module _ (run : Run) (well : IsWellWired (terms_of run).network.value) where
+  -- events are drawn, or none are
+  pub still_has : (p n : ℕ) (s u : Seat Tasked) → HasTask run p 0 s → u.seat.table_id ≡ s.seat.table_id → Knows (wired (key run)) p s.seat.me.0 u.seat.me.0 →
+      ((x : Option Tasked) → HoldsInTurn p 0 0 x s → HoldsInTurn p n 0 x u) → slice_index u.seat.me.0.got p + n < 2 ^ 48 → HasTask run p n u
+  still_has p n s u h same knows drawn few =
+      let y = h.3.0 in
+      let is = is_task run p y h.1 (λ z e. (h.3.2.belonging z e).continues) in
+      let turn : HoldsInTurn p n 0 (Some y) u = drawn (Some y) h.3.1 in
+      (same ∙ h.0, h.1, few, (y, turn, fits_still (t run) well (key run) p y s.seat.me.0 u.seat.me.0 is knows (turn.loose ∙ sym h.3.1.loose) h.3.2))
+
+  -- the task is taken into the worker's hands
+  pub taken : (p n : ℕ) (x : Tasked) (s u : Seat Tasked) (h : HasTask run p n s) → h.3.0 ≡ x → HoldsInTurn p n 0 None u → u.seat.table_id ≡ s.seat.table_id →
+      u.seat.me.0 ≡ s.seat.me.0 → IsAtWork run p n 0 x u
+  taken p n x s u h same turn table view =
+      let v = s.seat.me.0 in
+      let fits : Fits told_of (belongs IsLater (key run)) (wired (key run)) p x v = subst (λ (k : Tasked). Fits told_of (belongs IsLater (key run)) (wired (key run)) p k v) same h.3.2 in
+      let first : belongs Continues (key run) p x = λ z e. (fits.belonging z e).continues in
+      let published = is_published (key run) run.network.now run.code.now.network.value p x run.fits h.1 fits.belonging in
+      let events : x.work.cell.events ≡ slice_index v.got p + v.loose = fits.events in
+      record {
+        seated = table ∙ h.0;
+        inside = h.1;
+        few = subst (λ (k : View). slice_index k.got p + n < 2 ^ 48) (sym view) h.2;
+        most = omega arith;
+        holds = turn;
+        events = subst (λ (k : View). x.work.cell.events ≡ slice_index k.got p + 0) (sym view) (omega (arith, events, h.3.1.loose));
+        agrees = subst (λ (k : View). AgreesWith x.work x.published k.flushed) (sym view) (agrees_with (t run) well (key run) p x v (is_task run p x h.1 first) published fits);
+        first = first;
+      }
+
+  -- a number was told
+  pub told : (p n k o c j : ℕ) (x : Tasked) (s u : Seat Tasked) → IsAtWork run p n k x s → HoldsInTurn p n 0 None u → u.seat.table_id ≡ s.seat.table_id →
+      HasPublished (wired (key run)) p c j s.seat.me.0 u.seat.me.0 → written_by (network_of (t run)) (actual_at (instance_at (network_of (t run)) p) o) ≡ Some c → o < length x.published →
+      IsAtWork run p n k (record { work = x.work; standing = x.standing; published = slice_set x.published o j }) u
+  told p n k o c j x s u a turn table tells written lt = record {
+    seated = table ∙ a.seated;
+    inside = a.inside;
+    few = omega (arith, a.few, tells.got);
+    most = a.most;
+    holds = turn;
+    events = omega (arith, a.events, tells.got);
+    agrees = agrees_told (t run) well x p o c j s.seat.me.0 u.seat.me.0 (is_task run p x a.inside a.first) written lt tells a.agrees;
+    first = λ f e. let l = a.first f e in record { network = l.network; input = l.input; instance = l.instance; watch = l.watch; ends = l.ends; events = l.events; still = l.still };
+  }
+
+  -- it is at home again, and may be set down as it is due
+  pub can_rest : (p n k : ℕ) (x : Tasked) (due : Due) (s u : Seat Tasked) → IsAtWork run p n k x s → ((o : ℕ) → IsPublished x o) →
+      (s.seat.me.0.seen ≡ 2) ⊎ IsDelivered x.work → u.seat.table_id ≡ s.seat.table_id → Knows (wired (key run)) p s.seat.me.0 u.seat.me.0 →
+      HoldsInTurn p (n - k) k (Some x) u → IsDue (wired (key run)) p x due → CanRest run p due u
+  can_rest p n k x due s u a published delivered table knows turn is_due =
+      let is = is_task run p x a.inside a.first in
+      let v = s.seat.me.0 in
+      let w = u.seat.me.0 in (
+        table ∙ a.seated,
+        (
+          n - k,
+          k,
+          x,
+          turn,
+          fits_after (t run) well (key run) p x w is a.first (agrees_known (t run) well p x v w is knows a.agrees) published
+              (⊎_elim (λ e. inl (sees_two v.seen w.seen knows.seen e)) (λ d. inr d) delivered) (omega (arith, a.events, knows.got, turn.loose)),
+          is_due,
+        ),
+      )

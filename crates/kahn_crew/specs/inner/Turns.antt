@@ -1,0 +1,68 @@
+-- Inner. What a worker has between two turns and in a turn.
+use Rattle.std.specs.Prelude.{◌≡◌, ◌≢◌, ◌⊎◌, ℕ, ◌+◌, ◌*◌, ◌^◌, ◌<◌, ◌≤◌, Bool, true, Option, None, slice_index}
+use Rattle.kahn_board.specs.Calls.{Was}
+use Rattle.kahn_board.specs.Dealt.{belongs, wired}
+use Rattle.kahn_board.specs.Plays.{SeesMore}
+use Rattle.kahn_board.specs.declared.board.Seat.{Seat}
+use Rattle.kahn_board.specs.declared.rule.Terms.{Terms}
+use Rattle.kahn_board.specs.declared.view.View.{View}
+use Rattle.kahn_desk.specs.inner.Turn.{BeginsTurn, HoldsInTurn, IsBetween}
+use Rattle.kahn_crew.specs.declared.run.Run.{Run}
+use Rattle.kahn_crew.specs.inner.Lent.{IsTaskOf}
+use Rattle.kahn_crew.specs.inner.Tasks.{AgreesWith, Continues, IsLater, Tasked, told_of}
+
+abbrev pub terms_of : Run → Terms Tasked
+terms_of run = run.board.now.table.shared.key
+
+-- the seat is at the board of the run
+abbrev pub SitsIn : Run → Seat Tasked → Type 0
+SitsIn run s = s.seat.table_id ≡ run.board.now.table.shared.table_id
+
+-- between two instances of a turn, with n events of its draw left
+abbrev pub SitsWith : Run → ℕ → Seat Tasked → Type 0
+SitsWith run n s = SitsIn run s × IsBetween n s
+
+-- a turn of p begins, with n events drawn: its task is at home and may be left
+abbrev pub HasTask : Run → ℕ → ℕ → Seat Tasked → Type 0
+HasTask run p n s =
+    SitsIn run s × (p < (wired (terms_of run)).instances) × (slice_index s.seat.me.0.got p + n < 2 ^ 48)
+    × BeginsTurn told_of IsLater (terms_of run) p n s
+
+-- in a turn of p, with n events drawn: its task is x now, which did k of them, and is in the worker's hands; what it counts as
+-- published is published
+pub record IsAtWork (run : Run) (p n k : ℕ) (x : Tasked) (s : Seat Tasked) : Type 0 where
+  pub seated : SitsIn run s
+  pub inside : p < (wired (terms_of run)).instances
+  pub few : slice_index s.seat.me.0.got p + n < 2 ^ 48
+  pub most : k ≤ n
+  pub holds : HoldsInTurn p n 0 None s
+  pub events : x.work.cell.events ≡ slice_index s.seat.me.0.got p + k
+  pub agrees : AgreesWith x.work x.published s.seat.me.0.flushed
+  pub first : belongs Continues (terms_of run) p x
+
+-- x is the task of the instance p of the run, and did so few events that their number fits
+abbrev pub IsTaskIn : Run → ℕ → Tasked → Type 0
+IsTaskIn run p x =
+    (p < (wired (terms_of run)).instances) × IsTaskOf (terms_of run).network.value p x × (x.work.cell.events < 2 ^ 48)
+
+-- a seat keeps what it holds and knows, though it may have halted the run
+pub record StandsStill (s t : Seat Tasked) : Type 0 where
+  pub holds : (p n l : ℕ) (x : Option Tasked) → HoldsInTurn p n l x s → HoldsInTurn p n l x t
+  pub rests : (n : ℕ) → IsBetween n s → IsBetween n t
+  pub got : t.seat.me.0.got ≡ s.seat.me.0.got
+  pub flushed : t.seat.me.0.flushed ≡ s.seat.me.0.flushed
+  pub seen : SeesMore s.seat.me.0.seen t.seat.me.0.seen
+
+-- of whether memory was wanted and how often the run was halted, before and after: it was halted where memory was wanted, and nowhere else
+abbrev pub RaisesAsWanted : Bool → ℕ → Bool → ℕ → Type 0
+RaisesAsWanted wanted j wants k = ((k ≡ j) × (wants ≡ wanted)) ⊎ ((j < k) × (wants ≡ true))
+
+-- the same seat, with the same parts, which halted the run where its worker wanted memory, and nowhere else
+abbrev pub Heeds : Bool → Seat Tasked → Bool → Seat Tasked → Type 0
+Heeds wanted s wants t =
+    (t.seat.table_id ≡ s.seat.table_id) × (t.seat.id ≡ s.seat.id) × (t.seat.me.0.parts ≡ s.seat.me.0.parts)
+    × RaisesAsWanted wanted s.seat.me.0.raised wants t.seat.me.0.raised
+
+-- the instance p wasn't ready at a moment at which the seat had such a view
+abbrev pub WasNotReady : Run → Seat Tasked → ℕ → Type 0
+WasNotReady run s p = (v : View) × (r : ℕ) × (r ≢ 0) × Was told_of IsLater (terms_of run) s v (8 * p) r
