@@ -8,7 +8,7 @@ use Rattle.kahn_code.proofs.Common.{Number, Network, Actual, Reads, Writes, Hand
 use Rattle.std.proofs.Common.{pos, slice_index_or}
 use Rattle.kahn_streams.proofs.Framed.{Begins}
 use Rattle.kahn_streams.proofs.Framed.{and_more, grows_play}
-use Rattle.kahn_code.specs.Cells.{AllStand, IsKept, IsOwn, token_value, exec_on, sent_on}
+use Rattle.kahn_code.specs.Cells.{AllStand, AreKeptTokens, IsOwn, token_value, exec_on, sent_on}
 
 -- a list all of whose values stand in another begins it
 pub found_in : (xs ys : List Value) → ((k : ℕ) (v : Value) → slice_get xs k ≡ Some v → slice_get ys k ≡ Some v) → IsPrefix xs ys
@@ -136,17 +136,17 @@ own_of t lists u h = (
 pub own_grown : (N : Network) (I J : Inputs) (t : Token) → AreInputsExtended I J → IsOwn N I t → IsOwn N J t
 own_grown N I J t grown h = (h.0, λ c. prefix_trans _ _ _ (h.1 c) (grown c))
 
-pub kept_grown : (N : Network) (I J : Inputs) (c : Line) (vs : List Value) (ts : List Token) → AreInputsExtended I J → IsKept N I c vs ts → IsKept N J c vs ts
+pub kept_grown : (N : Network) (I J : Inputs) (c : Line) (vs : List Value) (ts : List Token) → AreInputsExtended I J → AreKeptTokens N I c vs ts → AreKeptTokens N J c vs ts
 kept_grown N I J c vs ts grown h = record { values = h.values; places = h.places; own = λ k t e. own_grown N I J t grown (h.own k t e) }
 
-pub kept_none : (N : Network) (I : Inputs) (c : Line) → IsKept N I c [] []
+pub kept_none : (N : Network) (I : Inputs) (c : Line) → AreKeptTokens N I c [] []
 kept_none N I c = record { values = refl; places = λ k t e. absurd cc; own = λ k t e. absurd cc }
 
-pub kept_long : (N : Network) (I : Inputs) (c : Line) (vs : List Value) (ts : List Token) → IsKept N I c vs ts → length ts ≡ length vs
+pub kept_long : (N : Network) (I : Inputs) (c : Line) (vs : List Value) (ts : List Token) → AreKeptTokens N I c vs ts → length ts ≡ length vs
 kept_long N I c vs ts h = sym (length-map ts token_value) ∙ ap length h.values
 
-pub kept_push : (N : Network) (I : Inputs) (c : Line) (vs : List Value) (ts : List Token) (v : Value) (t : Token) → IsKept N I c vs ts → t.line ≡ c → t.place ≡ length vs → t.value ≡ v → IsOwn N I t →
-    IsKept N I c (vs ++ v ∷ []) (ts ++ t ∷ [])
+pub kept_push : (N : Network) (I : Inputs) (c : Line) (vs : List Value) (ts : List Token) (v : Value) (t : Token) → AreKeptTokens N I c vs ts → t.line ≡ c → t.place ≡ length vs → t.value ≡ v → IsOwn N I t →
+    AreKeptTokens N I c (vs ++ v ∷ []) (ts ++ t ∷ [])
 kept_push N I c vs ts v t h l p w o =
     record {
       values = map-append token_value ts (t ∷ []) ∙ ap (λ x. map token_value ts ++ x ∷ []) w ∙ ap (λ xs. xs ++ v ∷ []) h.values;

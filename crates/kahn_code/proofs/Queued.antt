@@ -8,7 +8,7 @@ use Rattle.kahn_tree.specs.declared.tree.Role.TheVariants.{Inner, Output}
 use Rattle.kahn_code.specs.Cells.{is_output}
 use Rattle.kahn_code.specs.Queues.{Waiting}
 use Rattle.kahn_code.specs.Lines.{Lines, AreFirst, AreQueued, IsFirst, IsQueue, Joins, actual_of, at_first, next_at, place_at, queue_of, taken_of, given_of, waiting_of, spare_of}
-use Rattle.kahn_code.specs.Seats.{Seat, IsNext, Stays, StayReady, KeepsRoom, Moved, Leaves}
+use Rattle.kahn_code.specs.Seats.{Seat, IsNext, Stays, StayReady, KeepsRoom, Moved, LeavesOthers}
 use Rattle.kahn_code.proofs.Lists as First
 use Rattle.kahn_code.proofs.Readers.{reads_once, writes_once}
 
@@ -159,7 +159,7 @@ room_taken w w' None more none lt = subst (λ (x : Waiting). 0 < x.spare) (sym n
 -- what a take leaves
 pub record Took (n new : Lines) (q c : ℕ) (o : Option Token) : Type 0 where
   pub queued : AreQueued new
-  pub others : Leaves (seat_of n) (place_at n) (place_at new)
+  pub others : LeavesOthers (seat_of n) (place_at n) (place_at new)
   pub token : IfSome o (IsNext (seat_of n) c (place_at n n.instance q))
   pub moved : IfSome o (λ _. Moved (place_at n n.instance) (place_at new new.instance) q)
   pub stays : IfNone o (Stays (place_at n n.instance) (place_at new new.instance))
@@ -253,7 +253,7 @@ module _ {s n : Lines} (is : s ≡ n) (h : AreQueued s) (q c : ℕ) (writes_it :
       pub room_stays : Stays (place_at n n.instance) (place_at (changed s c w') s.instance)
       room_stays = rw (← is) (all_stay s h c w w' write_inside value counts s.instance)
 
-      pub room_leaves : Leaves (seat_of n) (place_at n) (place_at (changed s c w'))
+      pub room_leaves : LeavesOthers (seat_of n) (place_at n) (place_at (changed s c w'))
       room_leaves = rw (← is) (λ p r other. all_stay s h c w w' write_inside value counts p r)
 
       pub room_keeps : StayReady (ready_at n) (ready_at (changed s c w'))
@@ -289,7 +289,7 @@ module _ {s n : Lines} (is : s ≡ n) (h : AreQueued s) (q c : ℕ) (writes_it :
       pub put_queued : AreQueued (changed s c w')
       put_queued = still_queued s h c w w' write_inside value same (λ e. absurd ((writes s.network h.wired s.instance q c write_here).1 e))
 
-      pub put_leaves : Leaves (seat_of n) (place_at n) (place_at (changed s c w'))
+      pub put_leaves : LeavesOthers (seat_of n) (place_at n) (place_at (changed s c w'))
       put_leaves = rw (← is) (λ p r other. put_stays p r (λ e f. other e))
 
       pub put_keeps : StayReady (ready_at n) (ready_at (changed s c w'))

@@ -6,7 +6,7 @@ ghost use Rattle.kahn_streams.specs.Tokens.{Lists, inputs_of};
 ghost use Rattle.kahn_code.specs.Flat.{stmt_code};
 ghost use Rattle.kahn_streams.specs.Laws.{AreInputsExtended};
 ghost use Rattle.kahn_code.specs.Progress.{Paused, IsPause};
-ghost use Rattle.kahn_code.specs.Seats.{Leaves, Grows};
+ghost use Rattle.kahn_code.specs.Seats.{LeavesOthers, Grows};
 ghost use Rattle.kahn_code.specs.Told.{AreCounts, seat_of, told_view, IsAt, IsStill, WantsRoom};
 
 use crate::code::{Code, CodeFault};
@@ -86,7 +86,7 @@ impl<A: Allocator + Copy + Drop> Cell<A> {
         requires events { self.old.events + quantum < 2 ^ 48 }
         ensures names { (self.new.network ≡ self.old.network) × (self.new.input ≡ self.old.input) × (self.new.instance ≡ self.old.instance) × (self.new.watch ≡ self.old.watch) }
         ensures ports { P.seat ports.new ≡ seat_of self.new }
-        ensures others { Leaves (P.seat ports.old) (P.others ports.old) (P.others ports.new) }
+        ensures others { LeavesOthers (P.seat ports.old) (P.others ports.old) (P.others ports.new) }
         ensures which { P.which ports.new ≡ P.which ports.old }
         ensures delivered { Grows (P.delivered ports.old) (P.delivered ports.new) }
         ensures at { IsAt self.new (P.next ports.new) }

@@ -1,7 +1,7 @@
 //! Where an instance takes and puts tokens.
 
 ghost use Rattle.std.specs.Prelude.{◌≡◌, ◌≢◌, ℕ, ◌<◌, ◌^◌, IfSome, IfNone, IsSome, IsTrue, IsFalse, OnOk, OnErr, IsOk};
-ghost use Rattle.kahn_code.specs.Seats.{Seat, DoesRead, DoesWrite, IsNext, Stays, StayReady, KeepsRoom, Moved, Leaves, Grows};
+ghost use Rattle.kahn_code.specs.Seats.{Seat, DoesRead, DoesWrite, IsNext, Stays, StayReady, KeepsRoom, Moved, LeavesOthers, Grows};
 
 use kahn_streams::{NoMemory, Token};
 
@@ -38,7 +38,7 @@ pub trait Ports {
     fn ready(&mut self, parameter: usize, channel: usize) -> bool
         requires { DoesRead (seat self.old) parameter channel }
         ensures seat { seat self.new ≡ seat self.old }
-        ensures others { Leaves (seat self.old) (others self.old) (others self.new) }
+        ensures others { LeavesOthers (seat self.old) (others self.old) (others self.new) }
         ensures which { which self.new ≡ which self.old }
         ensures delivered { Grows (delivered self.old) (delivered self.new) }
         ensures next { Stays (next self.old) (next self.new) }
@@ -52,7 +52,7 @@ pub trait Ports {
         requires reads { DoesRead (seat self.old) parameter channel }
         requires bound { next self.old parameter < 2 ^ 48 }
         ensures seat { seat self.new ≡ seat self.old }
-        ensures others { Leaves (seat self.old) (others self.old) (others self.new) }
+        ensures others { LeavesOthers (seat self.old) (others self.old) (others self.new) }
         ensures which { which self.new ≡ which self.old }
         ensures delivered { Grows (delivered self.old) (delivered self.new) }
         ensures token { IfSome result (λ t. IsNext (seat self.old) channel (next self.old parameter) t) }
@@ -67,7 +67,7 @@ pub trait Ports {
     fn room(&mut self, parameter: usize, channel: usize) -> Result<(), NoMemory>
         requires { DoesWrite (seat self.old) parameter channel }
         ensures seat { seat self.new ≡ seat self.old }
-        ensures others { Leaves (seat self.old) (others self.old) (others self.new) }
+        ensures others { LeavesOthers (seat self.old) (others self.old) (others self.new) }
         ensures which { which self.new ≡ which self.old }
         ensures delivered { Grows (delivered self.old) (delivered self.new) }
         ensures next { Stays (next self.old) (next self.new) }
@@ -84,7 +84,7 @@ pub trait Ports {
         requires room { has_room self.old parameter }
         requires token { IsNext (seat self.old) channel (next self.old parameter) token }
         ensures seat { seat self.new ≡ seat self.old }
-        ensures others { Leaves (seat self.old) (others self.old) (others self.new) }
+        ensures others { LeavesOthers (seat self.old) (others self.old) (others self.new) }
         ensures which { which self.new ≡ which self.old }
         ensures delivered { Grows (delivered self.old) (delivered self.new) }
         ensures moved { Moved (next self.old) (next self.new) parameter }

@@ -10,7 +10,7 @@ ghost use Rattle.kahn_streams.specs.Tokens.{Names};
 ghost use Rattle.kahn_code.specs.Cells.{StoodBy};
 ghost use Rattle.kahn_code.specs.inner.Gone.{kept_behind, nothing_gone};
 ghost use Rattle.kahn_code.specs.Progress.{core_of, opening_core};
-ghost use Rattle.kahn_code.specs.Seats.{Leaves, Grows};
+ghost use Rattle.kahn_code.specs.Seats.{LeavesOthers, Grows};
 ghost use Rattle.kahn_code.specs.Standing.{tokens};
 ghost use Rattle.kahn_code.specs.Told.{AreCounts, seat_of, told_view, IsAt, IsStanding, IsStill, WantsRoom};
 ghost use Rattle.kahn_code.specs.inner.Tapped.{AreUnused, HasForgotten, IsPausedBy, IsSameProcess, Tapped, regrown_tap, tapped_of};
@@ -87,7 +87,7 @@ impl<A: Allocator + Copy + Drop> Tap<A> {
         ensures names { IsSameProcess self.old.told self.new.told }
         ensures gone { self.new.gone ≡ self.old.gone }
         ensures ports { P.seat ports.new ≡ seat_of self.new.told }
-        ensures others { Leaves (P.seat ports.old) (P.others ports.old) (P.others ports.new) }
+        ensures others { LeavesOthers (P.seat ports.old) (P.others ports.old) (P.others ports.new) }
         ensures which { P.which ports.new ≡ P.which ports.old }
         ensures delivered { Grows (P.delivered ports.old) (P.delivered ports.new) }
         ensures at { IsAt self.new.told (P.next ports.new) }

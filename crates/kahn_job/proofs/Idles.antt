@@ -16,7 +16,7 @@ use Rattle.kahn_job.specs.inner.Ends.{End, ShareLane}
 use Rattle.kahn_job.specs.inner.Berths.{AreServed, Serves, end_at}
 use Rattle.kahn_job.specs.inner.Openings.{end_in}
 use Rattle.kahn_job.specs.inner.Works.{Work, IsManned}
-use Rattle.kahn_job.specs.inner.Idles.{AreIdle, AreTogether, CanGoOn, HaveSettled, IsIdle, cells_of, rows_of}
+use Rattle.kahn_job.specs.inner.Idles.{AreIdle, AreJoinedJobs, CanGoOn, HaveSettled, IsIdle, cells_of, rows_of}
 use Rattle.kahn_job.specs.inner.Settling.{ServedBefore, AreResting, HaveStood, IsOfBefore}
 use Rattle.kahn_job.proofs.Settles.{AreGoing, carried_read, carried_write}
 
@@ -97,7 +97,7 @@ here_or (w ∷ ws) (suc p) = step (here_or ws p)
     step (inl a) = inl a
     step (inr b) = let l = b.0 in inr (omega (arith, l), b.1)
 
-module _ (t : Program) (lists : Lists) (ws : List Work) (h : AreTogether t lists ws) where
+module _ (t : Program) (lists : Lists) (ws : List Work) (h : AreJoinedJobs t lists ws) where
   -- the ends of a job are those of its channels
   job_served : (p : ℕ) (w : Work) → slice_get ws p ≡ Some w → AreServed t lists p w.ends
   job_served p w e =

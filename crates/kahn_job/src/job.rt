@@ -1,9 +1,10 @@
 //! A job: one process of a network on its way, with the ends of its channels.
 
-ghost use Rattle.std.specs.Prelude.{◌≡◌, ◌+◌, ◌*◌, ◌^◌, ◌<◌, ◌≤◌, true, length, map, slice_index_or, OnOk};
+ghost use Rattle.std.specs.Prelude.{◌≡◌, ◌+◌, ◌*◌, ◌^◌, ◌<◌, ◌≤◌, length, map, slice_index_or, OnOk};
 ghost use Rattle.kahn_network.specs.Network.{network_of, instance_at};
 ghost use Rattle.kahn_code.specs.Flat.{stmt_code};
 ghost use Rattle.kahn_code.specs.Told.{AreCounts, IsStill};
+ghost use Rattle.kahn_code.specs.inner.Tapped.{IsSameProcess};
 ghost use Rattle.kahn_job.specs.inner.Ends.{MayMeet, Meets};
 ghost use Rattle.kahn_job.specs.inner.Berths.{HaveAdvanced, HaveFlushed, HaveStayed, IsFed, end_at};
 ghost use Rattle.kahn_job.specs.inner.Works.{HasPaused, IsDelivered, IsJob, IsManned, width_of};
@@ -52,7 +53,7 @@ impl<'n> Job<'n> {
     pub fn run<L: Ledger>(&mut self, code: &Code, quantum: u64, steps: &mut Steps<L>) -> Pause
         requires code { code.now.network.value ≡ self.old.cell.network }
         requires events { self.old.cell.events + quantum < 2 ^ 48 }
-        ensures names { (self.new.cell.network ≡ self.old.cell.network) × (self.new.cell.input ≡ self.old.cell.input) × (self.new.cell.instance ≡ self.old.cell.instance) × (self.new.cell.watch ≡ self.old.cell.watch) }
+        ensures names { IsSameProcess self.old.cell self.new.cell }
         ensures paused { HasPaused self.old self.new quantum result }
         ensures events { (self.old.cell.events ≤ self.new.cell.events) × (self.new.cell.events ≤ self.old.cell.events + quantum) }
         // Where no event was done, counts and lists are as before.

@@ -1,14 +1,14 @@
 //! The end of a channel that a parameter has.
 
-ghost use Rattle.std.specs.Prelude.{◌≡◌, ◌⊎◌, ℕ, ◌<◌, ◌≤◌, ◌+◌, ◌^◌, true, length, Some, IfSome, IfNone, IfOk, IfErr, IsOk, IsSome, IsTrue, IsFalse, OnOk, OnErr, MatchResult};
+ghost use Rattle.std.specs.Prelude.{◌≡◌, ◌⊎◌, ℕ, ◌<◌, ◌+◌, ◌^◌, true, length, Some, IfSome, IfNone, IfOk, IfErr, IsOk, IsSome, IsTrue, IsFalse, OnOk, OnErr, MatchResult};
 ghost use Rattle.kahn_network.specs.Network.{network_of, role_at};
 ghost use Rattle.kahn_lane.specs.LaneEnds.{SameSender, flushed, left, sender_lane, sender_name, sent};
 ghost use Rattle.kahn_lane.specs.Places.{moved_to, token_name};
 ghost use Rattle.kahn_lane.specs.declared.name.LaneName.{LaneName};
 ghost use Rattle.kahn_tree.specs.declared.tree.Role.TheVariants.{Input as InputRole};
-ghost use Rattle.kahn_job.specs.inner.Ends.{Advances, MayMeet, Meets, HasRoom, IsDry, IsFlushed, IsReady, IsSame, ShareLane};
+ghost use Rattle.kahn_job.specs.inner.Ends.{Advances, FlushesFull, MayMeet, Meets, HasRoom, IsDry, IsFlushed, IsReady, IsSame, ShareLane};
 ghost use Rattle.kahn_job.specs.inner.Berths.{HasStayed, IsFed, IsFor};
-ghost use Rattle.kahn_job.specs.inner.Settling.{CanFeed, CanSettle, HasSettled};
+ghost use Rattle.kahn_job.specs.inner.Settling.{BothSettle, CanFeed, CanSettle, HasSettled};
 ghost use Rattle.kahn_job.specs.inner.Ways.{taking, feeding, putting, nothing};
 
 use crate::feed::Feed;
@@ -158,7 +158,7 @@ impl Port {
         requires { self.old.writes ≡ true }
         ensures same { IsSame self.old self.new }
         ensures advances { Advances self.old self.new }
-        ensures counts { (self.new.next ≡ self.old.next) × ((self.new.flushed ≡ self.old.flushed) ⊎ ((self.old.next ≡ self.old.flushed + 64) × (self.new.flushed ≡ self.old.next))) }
+        ensures counts { FlushesFull self.old self.new }
         ensures room { OnOk result (HasRoom self.new) }
         ensures full { OnErr result (HasRoom self.new → ⊥) }
         ensures spare { HasRoom self.old → IsOk result }
@@ -234,7 +234,7 @@ impl Port {
     ) -> Result<(Port, Port), (NoMemory, Port, Port)>
         requires { CanSettle input.now self reader }
         ensures lane { IfOk result (λ r. ShareLane r.0 r.1) }
-        ensures settled { IfOk result (λ r. (n : LaneName) → self.name ≡ Some n → HasSettled (moved_to input.now n) self r.0 × HasSettled (moved_to input.now n) reader r.1) }
+        ensures settled { IfOk result (λ r. (n : LaneName) → self.name ≡ Some n → BothSettle (moved_to input.now n) self reader r.0 r.1) }
         ensures refused { IfErr result (λ e. (e.1 ≡ self) × (e.2 ≡ reader)) }
     {
         match self.way {
@@ -253,7 +253,7 @@ impl Port {
     ) -> Result<(Port, Port), (NoMemory, Port, Port)>
         requires { CanSettle input.now (putting sender) self }
         ensures lane { IfOk result (λ r. ShareLane r.0 r.1) }
-        ensures settled { IfOk result (λ r. (n : LaneName) → sender_name sender ≡ Some n → HasSettled (moved_to input.now n) (putting sender) r.0 × HasSettled (moved_to input.now n) self r.1) }
+        ensures settled { IfOk result (λ r. (n : LaneName) → sender_name sender ≡ Some n → BothSettle (moved_to input.now n) (putting sender) self r.0 r.1) }
         ensures refused { IfErr result (λ e. (e.1 ≡ putting sender) × (e.2 ≡ self)) }
     {
         match self.way {

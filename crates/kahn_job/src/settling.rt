@@ -1,11 +1,10 @@
 //! The ends of all channels go on with an input that has grown.
 
-ghost use Rattle.std.specs.Prelude.{◌≡◌, ◌<◌, length, Some, OnOk, MatchResult};
+ghost use Rattle.std.specs.Prelude.{◌≡◌, ◌<◌, length, Some, OnOk};
 ghost use Rattle.kahn_network.specs.Network.{network_of};
 ghost use Rattle.kahn_job.specs.inner.Idles.{HaveSettled, cells_of, rows_of};
 ghost use Rattle.kahn_job.specs.inner.Openings.{placed};
-ghost use Rattle.kahn_job.specs.inner.Settling.{AreAlike, AreResting, AreSettled, CanFeed, CanSettle, HasExchanged, HasPlace, HaveExchanged, HaveStood, end_of_side};
-ghost use Rattle.kahn_job.specs.inner.Ways.{nothing};
+ghost use Rattle.kahn_job.specs.inner.Settling.{GoesOrStays, AreResting, AreSettled, CanFeed, CanSettle, HasExchanged, HasPlace, HaveExchanged, HaveStood, end_of_side};
 
 use crate::idle::Idle;
 use crate::port::Port;
@@ -42,7 +41,7 @@ fn settle_lane(
     requires places { HasPlace (rows_of idles.old) writer × HasPlace (rows_of idles.old) reader }
     requires apart { writer ≡ reader → ⊥ }
     requires lane { CanSettle input.now (end_of_side (rows_of idles.old) writer) (end_of_side (rows_of idles.old) reader) }
-    ensures ends { MatchResult result (λ _. HaveExchanged input.now writer reader (rows_of idles.old) (rows_of idles.new)) (λ _. AreAlike (rows_of idles.old) (rows_of idles.new)) }
+    ensures ends { GoesOrStays result (HaveExchanged input.now writer reader) (rows_of idles.old) (rows_of idles.new) }
     ensures cells { cells_of idles.new ≡ cells_of idles.old }
 {
     let sender = exchange(idles, writer, Port::nothing());
@@ -80,7 +79,7 @@ fn settle_channel(
 ) -> Result<(), NoMemory>
     requires here { channel < length (network_of network.now).channels }
     requires resting { AreResting network.now input.now (rows_of idles.old) }
-    ensures ends { MatchResult result (λ _. AreSettled network.now input.now (λ c. c ≡ channel) (rows_of idles.old) (rows_of idles.new)) (λ _. AreAlike (rows_of idles.old) (rows_of idles.new)) }
+    ensures ends { GoesOrStays result (AreSettled network.now input.now (λ c. c ≡ channel)) (rows_of idles.old) (rows_of idles.new) }
     ensures cells { cells_of idles.new ≡ cells_of idles.old }
 {
     let _program = network.program();

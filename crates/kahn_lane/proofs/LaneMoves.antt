@@ -9,23 +9,23 @@ use Rattle.kahn_lane.specs.declared.segments.Segment.{Segment}
 use Rattle.kahn_lane.specs.declared.segments.Stage.{Stage}
 use Rattle.kahn_lane.specs.declared.segments.Stage.TheVariants.{Opening, Telling, Running}
 use Rattle.kahn_lane.specs.Places.{Named, told, first_place, mark, opening, telling, both, owner, writing, reading, spent}
-use Rattle.kahn_lane.specs.inner.LaneRule.{size, Filled, Chain, Writes, Reads, Fits, IsRunning, IsOpening, IsTelling, Laned, Tells, Flushes, Steals, Empties}
+use Rattle.kahn_lane.specs.inner.LaneRule.{size, Filled, Chain, WritesLane, ReadsLane, FitsLane, IsRunning, IsNewLane, IsTelling, Laned, TellsName, Flushes, Steals, Empties}
 use Rattle.kahn_lane.proofs.Views.{at_end, All, all_set, all_one, one, all_more}
 
 -- a pass without rights fits any rule
-no_rights : (writer reader : ℕ) (name : Named) (flushed stolen port : ℕ) → Fits writer reader name flushed stolen port spent
+no_rights : (writer reader : ℕ) (name : Named) (flushed stolen port : ℕ) → FitsLane writer reader name flushed stolen port spent
 no_rights writer reader name flushed stolen port = (refl, (λ p. absurd (true≢false (sym p))), λ p. absurd (true≢false (sym p)))
 
 -- the pass that may flush is no other than this one
-no_writer : (writer port j : ℕ) (name : Named) (flushed more : ℕ) (v : Mark) → port ≡ writer → j ≢ port → Writes writer name flushed j v → Writes writer name more j v
+no_writer : (writer port j : ℕ) (name : Named) (flushed more : ℕ) (v : Mark) → port ≡ writer → j ≢ port → WritesLane writer name flushed j v → WritesLane writer name more j v
 no_writer writer port j name flushed more v is other h = λ p. absurd (other ((h p).0 ∙ sym is))
 
 -- the pass that may steal is no other than this one
-no_reader : (reader port j : ℕ) (name : Named) (flushed stolen more : ℕ) (v : Mark) → port ≡ reader → j ≢ port → Reads reader name flushed stolen j v → Reads reader name flushed more j v
+no_reader : (reader port j : ℕ) (name : Named) (flushed stolen more : ℕ) (v : Mark) → port ≡ reader → j ≢ port → ReadsLane reader name flushed stolen j v → ReadsLane reader name flushed more j v
 no_reader reader port j name flushed stolen more v is other h = λ p. absurd (other ((h p).0 ∙ sym is))
 
 -- a reader knows of no more than were flushed when more are flushed
-reads_more : (reader port : ℕ) (name : Named) (flushed stolen n : ℕ) (v : Mark) → Reads reader name flushed stolen port v → Reads reader name (flushed + n) stolen port v
+reads_more : (reader port : ℕ) (name : Named) (flushed stolen n : ℕ) (v : Mark) → ReadsLane reader name flushed stolen port v → ReadsLane reader name (flushed + n) stolen port v
 reads_more reader port name flushed stolen n v h = λ p. let m = h p in (m.0, m.1, m.2, omega (arith, m.3))
 
 abbrev stage_number : Stage → ℕ
@@ -51,7 +51,7 @@ module _ (A : Type 0) where
   stage_of w views port v is at = ap (λ (m : Mark). m.stage) (one w v port (subst (λ l. get_elem? l port ≡ some v) is at)).1
 
   -- a lane that is opening has no pass of another stage, nor one that is telling
-  not_opening : (items : List (Segment A)) (views : List Mark) (port : ℕ) (v : Mark) (s : Stage) → IsOpening items views → get_elem? views port ≡ some v → v.stage ≡ s → stage_number Opening ≢ stage_number s → ⊥
+  not_opening : (items : List (Segment A)) (views : List Mark) (port : ℕ) (v : Mark) (s : Stage) → IsNewLane items views → get_elem? views port ≡ some v → v.stage ≡ s → stage_number Opening ≢ stage_number s → ⊥
   not_opening items views port v s o at stage other = apart Opening s (stage_of opening views port v o.1 at ∙ stage) other
 
   not_telling : (items : List (Segment A)) (views : List Mark) (port : ℕ) (v : Mark) (s : Stage) → IsTelling items views → get_elem? views port ≡ some v → v.stage ≡ s → stage_number Telling ≢ stage_number s → ⊥
@@ -67,10 +67,10 @@ module _ (A : Type 0) where
   pub opens : Laned {A = A} [] (opening ∷ [])
   opens = inl (refl, refl)
 
-  pub tells : (port : ℕ) (v : Mark) (s : Segment A) → v.stage ≡ Opening → first_place s.tag ≤ 2 ^ 48 → Pushes Laned port v (s ∷ []) (Tells (s ∷ []))
+  pub tells : (port : ℕ) (v : Mark) (s : Segment A) → v.stage ≡ Opening → first_place s.tag ≤ 2 ^ 48 → Pushes Laned port v (s ∷ []) (TellsName (s ∷ []))
   tells port v s stage fits items views h at =
       let w : Mark = telling (told s.tag) (first_place s.tag) in ⊎_elim
-      (λ (o : IsOpening items views).
+      (λ (o : IsNewLane items views).
       let first : port ≡ 0 = (one opening v port (subst (λ l. get_elem? l port ≡ some v) o.1 at)).0 in
       let alone : set views port w ≡ w ∷ [] = ap (λ l. set l port w) o.1 ∙ ap (λ j. set (opening ∷ []) j w) first in
       (w, inr (inl (s, ap (λ l. l ++ s ∷ []) o.0, fits, alone)), refl))
@@ -84,7 +84,7 @@ module _ (A : Type 0) where
 
   pub starts : (port : ℕ) (v : Mark) → v.stage ≡ Telling → Takes Laned port v 1 (λ (xs : List (Segment A)) w. w ≡ owner v.writes_on v.flushed)
   starts port v stage xs items views some_left few h at = ⊎_elim
-      (λ (o : IsOpening (xs ++ items) views). absurd (not_opening (xs ++ items) views port v Telling o at stage zero_one))
+      (λ (o : IsNewLane (xs ++ items) views). absurd (not_opening (xs ++ items) views port v Telling o at stage zero_one))
       (λ r. ⊎_elim
       (λ (t : IsTelling (xs ++ items) views).
       let m : Mark = telling (told t.0.tag) (first_place t.0.tag) in
@@ -94,7 +94,7 @@ module _ (A : Type 0) where
       let sizes : length xs + length items ≡ 1 = sym (length-append xs items) ∙ ap length t.1 in
       let none : items ≡ [] = none_left items (omega (arith, sizes, some_left)) in
       let alone : set views port w ≡ w ∷ [] = ap (λ l. set l port w) t.3 ∙ ap (λ j. set (m ∷ []) j w) here.0 in
-      let F : ℕ → Mark → Type 0 = Fits 0 0 v.writes_on v.flushed v.flushed in
+      let F : ℕ → Mark → Type 0 = FitsLane 0 0 v.writes_on v.flushed v.flushed in
       let mine : F 0 w = (refl, (λ _. (refl, refl, refl)), λ _. (refl, refl, refl, omega arith)) in (
         w,
         inr (inr (record {
@@ -118,7 +118,7 @@ module _ (A : Type 0) where
   -- the name is still in the deque
   pub starts_empty : (port : ℕ) (v : Mark) → v.stage ≡ Telling → Finds (Laned {A = A}) port v ⊥
   starts_empty port v stage views h at = ⊎_elim
-      (λ (o : IsOpening {A = A} [] views). not_opening [] views port v Telling o at stage zero_one)
+      (λ (o : IsNewLane {A = A} [] views). not_opening [] views port v Telling o at stage zero_one)
       (λ r. ⊎_elim (λ (t : IsTelling {A = A} [] views). not_empty t.0 t.1)
       (λ (r : IsRunning {A = A} [] views). not_running [] views port v Telling r at stage one_two) r)
       h
@@ -140,7 +140,7 @@ module _ (A : Type 0) where
       let to : ℕ = h.flushed + size s in
       let same : v.flushed ≡ h.flushed = my.2 in
       let filled : Filled h.name h.flushed s = subst (λ n. Filled h.name n s) same (subst (λ n. Filled n v.flushed s) my.1 f) in
-      let F : ℕ → Mark → Type 0 = Fits h.writer h.reader h.name to h.stolen in
+      let F : ℕ → Mark → Type 0 = FitsLane h.writer h.reader h.name to h.stolen in
       let now : F port w = (stage, (λ _. (my.0, my.1, ap (λ n. n + size s) same)), reads_more h.reader port h.name h.flushed h.stolen (size s) v mine.2) in (
         w,
         inr (inr (record {
@@ -169,7 +169,7 @@ module _ (A : Type 0) where
       let below : n ≤ h.flushed = chain_le h.name n h.flushed items rest in
       let filled : Filled v.reads_on v.stolen s = subst (λ m. Filled v.reads_on m s) (sym my.2) (subst (λ m. Filled m h.stolen s) (sym my.1) h.chain.0) in
       let most : h.flushed ≤ 2 ^ 48 = h.limited in
-      let F : ℕ → Mark → Type 0 = Fits h.writer h.reader h.name h.flushed n in
+      let F : ℕ → Mark → Type 0 = FitsLane h.writer h.reader h.name h.flushed n in
       let now : F port w = (stage, mine.1, λ _. (my.0, my.1, refl, my.3)) in (
         w,
         inr (inr (record {
@@ -227,10 +227,10 @@ module _ (A : Type 0) where
       let vs : List Mark = set views port l in
       let reader : ℕ = length vs in
       let flushed : v.flushed ≡ h.flushed = wr.2 in
-      let Old : ℕ → Mark → Type 0 = λ j u. (u.stage ≡ Running) × Writes h.writer h.name h.flushed j u × (u.reads ≢ true) in
+      let Old : ℕ → Mark → Type 0 = λ j u. (u.stage ≡ Running) × WritesLane h.writer h.name h.flushed j u × (u.reads ≢ true) in
       let old : All Old vs = all_set Old views port l (refl, (λ _. wr), λ p. true≢false (sym p))
       (λ j u other e. let his = h.fits j u e in (his.0, his.1, λ p. other ((his.2 p).0 ∙ sym rd.0))) in
-      let New : ℕ → Mark → Type 0 = λ j u. (j ≡ reader) → Fits h.writer reader h.name h.flushed h.stolen j u in
+      let New : ℕ → Mark → Type 0 = λ j u. (j ≡ reader) → FitsLane h.writer reader h.name h.flushed h.stolen j u in
       let new : (j : ℕ) → New j r = λ j here. (refl, (λ p. absurd (true≢false (sym p))), λ _. (here, rd.1, rd.2, omega (arith, flushed))) in
       inr (inr (record {
         writer = h.writer;
@@ -253,7 +253,7 @@ module _ (A : Type 0) where
       let vs : List Mark = set views port w in
       let was : get_elem? views other ≡ some u = ⊎_elim (λ x. absurd (two x.0)) (λ x. x.1) (at_set views port other w u at') in
       let rd = (h.fits other u was).2 b in
-      let F : ℕ → Mark → Type 0 = Fits h.writer port h.name h.flushed h.stolen in
+      let F : ℕ → Mark → Type 0 = FitsLane h.writer port h.name h.flushed h.stolen in
       let Now : ℕ → Mark → Type 0 = λ j y. j ≢ other → F j y in
       let now : All Now vs = all_set Now views port w (λ _. (refl, (λ _. wr), λ _. (refl, rd.1, rd.2, rd.3)))
       (λ j y _ e differs. let his = h.fits j y e in (his.0, his.1, λ p. absurd (differs ((his.2 p).0 ∙ sym rd.0)))) in
@@ -272,7 +272,7 @@ module _ (A : Type 0) where
   pub forks_bare : (port : ℕ) (v : Mark) → v.stage ≡ Running → Forks (Laned {A = A}) port v v spent
   forks_bare port v stage items views laned at =
       let h = running items views port v laned at stage in
-      let F : ℕ → Mark → Type 0 = Fits h.writer h.reader h.name h.flushed h.stolen in
+      let F : ℕ → Mark → Type 0 = FitsLane h.writer h.reader h.name h.flushed h.stolen in
       let old : All F (set views port v) = all_set F views port v (h.fits port v at) (λ j u _ e. h.fits j u e) in
       inr (inr (record {
         writer = h.writer;
@@ -289,7 +289,7 @@ module _ (A : Type 0) where
   pub merges_bare : (port : ℕ) (v : Mark) (other : ℕ) (u : Mark) → v.stage ≡ Running → Merges (Laned {A = A}) port v other u v spent
   merges_bare port v other u stage items views laned at two at' =
       let h = running items views port v laned at stage in
-      let F : ℕ → Mark → Type 0 = Fits h.writer h.reader h.name h.flushed h.stolen in
+      let F : ℕ → Mark → Type 0 = FitsLane h.writer h.reader h.name h.flushed h.stolen in
       let old : All F (set views port v) = all_set F views port v (h.fits port v at) (λ j y _ e. h.fits j y e) in
       inr (inr (record {
         writer = h.writer;

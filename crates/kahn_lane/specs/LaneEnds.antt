@@ -1,6 +1,7 @@
 -- Believed. What a contract sees of the two ends of a lane.
-use Rattle.std.specs.Prelude.{◌≡◌, ℕ, ◌+◌, ◌-◌, ◌<◌, vec_len, vec_capacity}
-use Rattle.kahn_lane.specs.Places.{Named}
+use Rattle.std.specs.Prelude.{◌≡◌, ◌⊎◌, ℕ, ◌+◌, ◌-◌, ◌<◌, ◌≤◌, Some, vec_len, vec_capacity}
+use Rattle.kahn_streams.specs.declared.token.Token.{Token}
+use Rattle.kahn_lane.specs.Places.{Named, token_name}
 use Rattle.crossbeam_deque.specs.Handles.{view, taken as left_front, worker_view, worker_deque, stealer_deque}
 use Rattle.kahn_lane.specs.declared.segments.Sender.{Sender}
 use Rattle.kahn_lane.specs.declared.segments.Receiver.{Receiver}
@@ -36,8 +37,8 @@ module _ {A : Type 0} where
   capacity s = vec_capacity s.current
 
   -- there is place for a token
-  abbrev pub HasRoom : Sender A → Type 0
-  HasRoom s = (filled s < 64) × (filled s < capacity s)
+  abbrev pub CanPut : Sender A → Type 0
+  CanPut s = (filled s < 64) × (filled s < capacity s)
 
   -- how many tokens were taken
   abbrev pub taken : Receiver A → ℕ
@@ -48,8 +49,8 @@ module _ {A : Type 0} where
   waiting r = vec_len r.current - r.used
 
   -- the next take gives a token
-  abbrev pub IsReady : Receiver A → Type 0
-  IsReady r = 0 < waiting r
+  abbrev pub CanTake : Receiver A → Type 0
+  CanTake r = 0 < waiting r
 
   -- how many tokens this end knows to have been flushed, from the last meeting
   abbrev pub known : Receiver A → ℕ
@@ -58,6 +59,23 @@ module _ {A : Type 0} where
   -- how many segments this end knows to have left the deque
   abbrev pub left : Receiver A → ℕ
   left r = left_front r.pass
+
+  -- both ends are of these tokens
+  abbrev pub AreEndsNamed : Named → Sender A → Receiver A → Type 0
+  AreEndsNamed n s r = (sender_name s ≡ n) × (receiver_name r ≡ n)
+
+  -- so many tokens were put and flushed, and as many were taken
+  abbrev pub HavePassed : ℕ → Sender A → Receiver A → Type 0
+  HavePassed n s r = (sent s ≡ n) × (flushed s ≡ n) × (taken r ≡ n) × (known r ≡ n)
+
+  -- the deque was empty, so that all that is known to have been flushed was taken; or 64 segments have left it that this end didn't
+  -- know to have left it
+  abbrev pub WasDry : Receiver A → Receiver A → Type 0
+  WasDry old new = (known old ≤ taken old) ⊎ (left old + 64 ≤ left new)
+
+  -- the token stands at the next place
+  abbrev pub TakesNext : Receiver A → Receiver A → Token → Type 0
+  TakesNext old new t = (receiver_name old ≡ Some (token_name t)) × (t.place ≡ taken old) × (taken new ≡ taken old + 1)
 
   -- it is an end of the same lane, for the same tokens
   abbrev pub SameSender : Sender A → Sender A → Type 0

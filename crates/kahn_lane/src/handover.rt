@@ -3,8 +3,8 @@
 //!
 //! A taker that finds nothing says so at once. It never holds its thread.
 
-ghost use Rattle.std.specs.Prelude.{◌≡◌, ◌+◌, ◌≤◌, ◌<◌, ◌⊎◌, List, [], ◌∷◌, ◌++◌, length, IfOk, MatchResult, MatchOption};
-ghost use Rattle.kahn_lane.specs.RelayEnds.{giver_relay, taker_relay, given, got, known, left};
+ghost use Rattle.std.specs.Prelude.{◌≡◌, ◌+◌, ◌<◌, List, [], ◌∷◌, ◌++◌, length, IfOk, MatchResult, MatchOption};
+ghost use Rattle.kahn_lane.specs.RelayEnds.{giver_relay, taker_relay, given, got, known, ComesBack, SameRelay, WasEmpty};
 
 use crate::ends::{Blank, Giver, Got, InOrder, Log, Roles, Sent, Taker, Total};
 use crate::fault::LaneFault;
@@ -34,7 +34,7 @@ impl<T, A: Allocator> Giver<T, A> {
     /// given is never refused.
     pub fn give(&mut self, item: T) -> Result<(), (NoMemory, T)>
         ensures same { giver_relay self.new ≡ giver_relay self.old }
-        ensures rule { MatchResult result (λ _. given self.new ≡ given self.old ++ item ∷ []) (λ e. (e.1 ≡ item) × (given self.new ≡ given self.old) × (0 < length (given self.old))) }
+        ensures rule { MatchResult result (λ _. given self.new ≡ given self.old ++ item ∷ []) (λ e. ComesBack self.old self.new item e.1) }
     {
         match self.worker.push_as::<Sent>(item) {
             Ok(()) => Ok(()),
@@ -49,7 +49,7 @@ impl<T, A: Allocator> Taker<T, A> {
     /// deque that this end didn't know to have left it. It takes no memory.
     pub fn take(&mut self) -> Option<T>
         ensures same { (taker_relay self.new ≡ taker_relay self.old) × (known self.new ≡ known self.old) }
-        ensures rule { MatchOption result ((got self.new ≡ got self.old) × ((known self.old ≤ length (got self.old)) ⊎ (left self.old + 64 ≤ left self.new))) (λ x. got self.new ≡ got self.old ++ x ∷ []) }
+        ensures rule { MatchOption result ((got self.new ≡ got self.old) × WasEmpty self.old self.new) (λ x. got self.new ≡ got self.old ++ x ∷ []) }
     {
         for _ in 0..TRIES {
             match self.stealer.steal_as::<Got>(&mut self.pass) {
@@ -65,7 +65,7 @@ impl<T, A: Allocator> Taker<T, A> {
     /// of what was given. It takes no memory.
     pub fn meet(&mut self, giver: &mut Giver<T, A>) -> u64
         requires { giver_relay giver.old ≡ taker_relay self.old }
-        ensures same { (giver_relay giver.new ≡ giver_relay giver.old) × (taker_relay self.new ≡ taker_relay self.old) × (given giver.new ≡ given giver.old) × (got self.new ≡ got self.old) }
+        ensures same { SameRelay giver.old giver.new self.old self.new }
         ensures rule { (items : List T) × (given giver.old ≡ got self.old ++ items) × (length items ≡ result) }
         ensures known { known self.new ≡ length (given giver.old) }
     {

@@ -8,7 +8,7 @@ ghost use Rattle.std.specs.Prelude.{◌≡◌, ◌+◌, ◌≤◌, ◌<◌, ◌^
 ghost use Rattle.crossbeam_deque.specs.Handles.{worker_view, worker_deque, worker_flavor, stealer_deque, stealer_flavor};
 ghost use Rattle.kahn_lane.specs.Places.{lane_name, token_name, tag_name, owner};
 ghost use Rattle.kahn_lane.specs.inner.LaneRule.{size, tokens_of};
-ghost use Rattle.kahn_lane.specs.LaneEnds.{sender_lane, receiver_lane, sender_name, receiver_name, filled, flushed, sent, HasRoom, taken, waiting, IsReady, known, left, SameSender, SameReceiver};
+ghost use Rattle.kahn_lane.specs.LaneEnds.{sender_lane, receiver_lane, sender_name, receiver_name, filled, flushed, sent, CanPut, taken, waiting, CanTake, known, left, SameSender, SameReceiver, AreEndsNamed, HavePassed, TakesNext, WasDry};
 
 use crate::fault::LaneFault;
 use crate::name::{Tag, make_tag};
@@ -60,7 +60,7 @@ pub(crate) fn lane_from<A: Allocator + Clone + Drop>(
 ) -> Result<(Sender<A>, Receiver<A>), LaneFault>
     requires { (tag_name head ≡ tag_name tag) × (head.from ≡ tag.from) }
     ensures lane { IfOk result (λ r. sender_lane r.0 ≡ receiver_lane r.1) }
-    ensures name { IfOk result (λ r. (sender_name r.0 ≡ Some (tag_name tag)) × (receiver_name r.1 ≡ Some (tag_name tag))) }
+    ensures name { IfOk result (λ r. AreEndsNamed (Some (tag_name tag)) r.0 r.1) }
     ensures start { IfOk result (λ r. (sent r.0 ≡ tag.from) × (flushed r.0 ≡ tag.from) × (taken r.1 ≡ tag.from) × (known r.1 ≡ tag.from)) }
     ensures dry { IfOk result (λ r. vec_len r.1.current ≡ 0) }
 {
@@ -94,8 +94,8 @@ pub fn lane<A: Allocator + Clone + Drop>(
     channel: usize,
 ) -> Result<(Sender<A>, Receiver<A>), LaneFault>
     ensures lane { IfOk result (λ r. sender_lane r.0 ≡ receiver_lane r.1) }
-    ensures name { IfOk result (λ r. (sender_name r.0 ≡ Some (lane_name network.now input.now channel)) × (receiver_name r.1 ≡ Some (lane_name network.now input.now channel))) }
-    ensures start { IfOk result (λ r. (sent r.0 ≡ 0) × (flushed r.0 ≡ 0) × (taken r.1 ≡ 0) × (known r.1 ≡ 0)) }
+    ensures name { IfOk result (λ r. AreEndsNamed (Some (lane_name network.now input.now channel)) r.0 r.1) }
+    ensures start { IfOk result (λ r. HavePassed 0 r.0 r.1) }
 {
     let line = Line::Channel(channel);
     let head = make_tag(network, input, line);
@@ -109,10 +109,10 @@ impl<A: Allocator + Clone + Drop> Sender<A> {
     /// it takes none.
     pub fn room(&mut self) -> Result<(), NoMemory>
         ensures same { SameSender self.old self.new × (sent self.new ≡ sent self.old) }
-        ensures room { IfOk result (λ _. HasRoom self.new) }
+        ensures room { IfOk result (λ _. CanPut self.new) }
         ensures flushed { (flushed self.new ≡ flushed self.old) ⊎ ((sent self.old ≡ flushed self.old + 64) × (flushed self.new ≡ sent self.old)) }
-        ensures spare { HasRoom self.old → IsOk result }
-        ensures full { OnErr result (HasRoom self.new → ⊥) }
+        ensures spare { CanPut self.old → IsOk result }
+        ensures full { OnErr result (CanPut self.new → ⊥) }
     {
         if self.current.len() >= SEGMENT {
             self.flush()?;
@@ -133,7 +133,7 @@ impl<A: Allocator + Clone + Drop> Sender<A> {
         ensures same { SameSender self.old self.new × (sent self.new ≡ sent self.old) }
         ensures flushed { MatchResult result (λ n. (n ≡ sent self.old) × (flushed self.new ≡ sent self.old)) (λ _. flushed self.new ≡ flushed self.old) }
         ensures idle { sent self.old ≡ flushed self.old → IsOk result }
-        ensures room { HasRoom self.old → HasRoom self.new }
+        ensures room { CanPut self.old → CanPut self.new }
     {
         match self.current.len() {
             0 => Ok(self.flushed),
@@ -147,7 +147,7 @@ impl<A: Allocator + Clone + Drop> Sender<A> {
         requires { filled self.old ≡ 1 }
         ensures same { SameSender self.old self.new × (sent self.new ≡ sent self.old) }
         ensures flushed { MatchResult result (λ n. (n ≡ sent self.old) × (flushed self.new ≡ sent self.old)) (λ _. flushed self.new ≡ flushed self.old) }
-        ensures room { HasRoom self.old → HasRoom self.new }
+        ensures room { CanPut self.old → CanPut self.new }
     {
         let Ok(alloc) = self.current.allocator().clone() else {
             return Err(NoMemory);
@@ -174,7 +174,7 @@ impl<A: Allocator + Clone + Drop> Sender<A> {
         requires { 0 < filled self.old }
         ensures same { SameSender self.old self.new × (sent self.new ≡ sent self.old) }
         ensures flushed { MatchResult result (λ n. (n ≡ sent self.old) × (flushed self.new ≡ sent self.old)) (λ _. flushed self.new ≡ flushed self.old) }
-        ensures room { HasRoom self.old → HasRoom self.new }
+        ensures room { CanPut self.old → CanPut self.new }
     {
         let Ok(alloc) = self.current.allocator().clone() else {
             return Err(NoMemory);
@@ -204,7 +204,7 @@ impl<A: Allocator + Clone + Drop> Sender<A> {
 impl<A: Allocator> Sender<A> {
     /// Puts the next token into the open segment, for which `room` has made place. It takes no memory.
     pub fn put(&mut self, token: Token)
-        requires room { HasRoom self.old }
+        requires room { CanPut self.old }
         requires token { (sender_name self.old ≡ Some (token_name token)) × (token.place ≡ sent self.old) × (sent self.old < 2 ^ 48) }
         ensures same { SameSender self.old self.new × (flushed self.new ≡ flushed self.old) }
         ensures sent { sent self.new ≡ sent self.old + 1 }
@@ -252,9 +252,9 @@ impl<A: Allocator + Drop> Receiver<A> {
     /// Whether there is a token for the next `take`. `false` comes only as `None` does there. It takes no memory.
     pub fn ready(&mut self) -> bool
         ensures same { SameReceiver self.old self.new × (taken self.new ≡ taken self.old) × (known self.new ≡ known self.old) }
-        ensures ready { result ≡ true → IsReady self.new }
-        ensures still { IsReady self.old → result ≡ true }
-        ensures dry { result ≡ false → (known self.old ≤ taken self.old) ⊎ (left self.old + 64 ≤ left self.new) }
+        ensures ready { result ≡ true → CanTake self.new }
+        ensures still { CanTake self.old → result ≡ true }
+        ensures dry { result ≡ false → WasDry self.old self.new }
     {
         self.used < self.current.len() || self.refill()
     }
@@ -265,8 +265,8 @@ impl<A: Allocator + Drop> Receiver<A> {
     /// it. It takes no memory.
     pub fn take(&mut self) -> Option<Token>
         ensures same { SameReceiver self.old self.new × (known self.new ≡ known self.old) }
-        ensures ready { IsReady self.old → IsSome result }
-        ensures rule { MatchOption result ((taken self.new ≡ taken self.old) × ((known self.old ≤ taken self.old) ⊎ (left self.old + 64 ≤ left self.new))) (λ t. (receiver_name self.old ≡ Some (token_name t)) × (t.place ≡ taken self.old) × (taken self.new ≡ taken self.old + 1)) }
+        ensures ready { CanTake self.old → IsSome result }
+        ensures rule { MatchOption result ((taken self.new ≡ taken self.old) × WasDry self.old self.new) (TakesNext self.old self.new) }
     {
         if !self.ready() {
             return None;
@@ -288,8 +288,8 @@ impl<A: Allocator + Drop> Receiver<A> {
     fn refill(&mut self) -> bool
         requires { waiting self.old ≡ 0 }
         ensures same { SameReceiver self.old self.new × (taken self.new ≡ taken self.old) × (known self.new ≡ known self.old) }
-        ensures ready { result ≡ true → IsReady self.new }
-        ensures dry { result ≡ false → (known self.old ≤ taken self.old) ⊎ (left self.old + 64 ≤ left self.new) }
+        ensures ready { result ≡ true → CanTake self.new }
+        ensures dry { result ≡ false → WasDry self.old self.new }
     {
         let taken = self.taken();
         for _ in 0..TRIES {
@@ -313,7 +313,7 @@ pub fn meet<A: Allocator>(sender: &mut Sender<A>, receiver: &mut Receiver<A>) ->
     requires { sender_lane sender.old ≡ receiver_lane receiver.old }
     ensures sender { SameSender sender.old sender.new × (sent sender.new ≡ sent sender.old) × (flushed sender.new ≡ flushed sender.old) }
     ensures receiver { SameReceiver receiver.old receiver.new × (taken receiver.new ≡ taken receiver.old) }
-    ensures ready { IsReady receiver.old → IsReady receiver.new }
+    ensures ready { CanTake receiver.old → CanTake receiver.new }
     ensures rule { taken receiver.old + result ≡ flushed sender.old }
     // What waits at hand is of these.
     ensures held { waiting receiver.old ≤ result }

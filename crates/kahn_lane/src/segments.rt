@@ -11,7 +11,7 @@
 //! a first segment, without tokens, which its maker pushes and takes out again before the ends are parted.
 
 ghost use Rattle.std.specs.Prelude.{◌≡◌, ◌+◌, ◌≤◌, ◌^◌, is_some, true, false, Some, vec_len, vec_capacity};
-ghost use Rattle.crossbeam_deque.specs.Handles.{view, worker_view, worker_flavor, worker_index, worker_capacity, stealer_deque, stealer_flavor};
+ghost use Rattle.crossbeam_deque.specs.Handles.{view, worker_view, worker_flavor, stealer_deque, stealer_flavor};
 ghost use Rattle.kahn_lane.specs.Places.{IsOn, IsOn-prop, Placed, Placed-prop, tag_name, name-prop, stage-prop};
 ghost use Rattle.kahn_lane.specs.declared.segments.Stage.TheVariants.{Running};
 
@@ -70,9 +70,9 @@ impl<A: Allocator> Protocol<Segment<A>, Mark> for InPlaces {
 pub struct Telling;
 
 impl<A: Allocator> Outcome<Segment<A>, Mark> for Telling {
-    ghost use Rattle.kahn_lane.specs.inner.LaneRule.{Tells};
+    ghost use Rattle.kahn_lane.specs.inner.LaneRule.{TellsName};
 
-    ghost then = { λ _. Tells };
+    ghost then = { λ _. TellsName };
 }
 
 /// The first segment is taken out again, and the lane begins. It can't be missing.

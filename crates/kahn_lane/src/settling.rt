@@ -4,14 +4,13 @@
 //! tokens that weren't taken are lifted to the input, in order, and a lane for this input begins where the old one
 //! ended, with all of them in the reader's hands.
 
-ghost use Rattle.std.specs.Prelude.{◌≡◌, ◌+◌, ◌-◌, ◌≤◌, ◌<◌, ◌^◌, [], true, Some, IfOk, IfErr, ℕ, length, vec_len, vec_capacity};
+ghost use Rattle.std.specs.Prelude.{◌≡◌, ◌+◌, ◌-◌, ◌≤◌, ◌<◌, [], Some, IfOk, IfErr, ℕ, length, vec_len, vec_capacity};
 ghost use Rattle.crossbeam_deque.specs.Handles.{worker_view, worker_flavor};
 ghost use Rattle.kahn_lane.specs.Places.{Placed, moved_to, tag_name, token_name};
-ghost use Rattle.kahn_lane.specs.LaneEnds.{sender_lane, receiver_lane, sender_name, receiver_name, flushed, sent, taken, waiting, IsReady, known};
+ghost use Rattle.kahn_lane.specs.LaneEnds.{sender_lane, receiver_lane, sender_name, receiver_name, flushed, sent, taken, waiting, CanTake, known, AreEndsNamed, HavePassed};
 ghost use Rattle.kahn_lane.specs.inner.LaneRule.{size, tokens_of};
-ghost use Rattle.kahn_lane.specs.inner.Settles.{IsGrown, LiftsTo, SameLifted};
+ghost use Rattle.kahn_lane.specs.inner.Settles.{HasBothRights, HasStolen, IsGrown, LiftsTo, SameLifted};
 ghost use Rattle.kahn_lane.specs.declared.name.LaneName.{LaneName};
-ghost use Rattle.kahn_lane.specs.declared.segments.Stage.TheVariants.{Running};
 
 use crate::fault::LaneFault;
 use crate::lanes::lane_from;
@@ -53,8 +52,8 @@ impl<A: Allocator + Drop> Lifted<A> {
     // Lifts the tokens of all segments in the deque, whose worker has both rights.
     fn put_rest(&mut self, input: &Input, worker: &mut LaneWorker<A>)
         requires room { (worker_view worker.old).flushed ≤ self.old.first + vec_capacity self.old.tokens }
-        requires worker { (worker_flavor worker.old ≡ 0) × ((worker_view worker.old).stage ≡ Running) × ((worker_view worker.old).writes ≡ true) × ((worker_view worker.old).reads ≡ true) }
-        requires next { ((worker_view worker.old).reads_on ≡ Some (tag_name self.old.from)) × ((worker_view worker.old).stolen ≡ self.old.first + vec_len self.old.tokens) }
+        requires worker { HasBothRights (worker_flavor worker.old) (worker_view worker.old) }
+        requires next { HasStolen (tag_name self.old.from) (self.old.first + vec_len self.old.tokens) (worker_view worker.old) }
         requires input { LiftsTo self.old input.now }
         ensures same { SameLifted self.old self.new }
         ensures all { self.new.first + vec_len self.new.tokens ≡ (worker_view worker.old).flushed }
@@ -95,8 +94,8 @@ fn prepare<A: Allocator + Clone + Drop>(
     input: &Input,
 ) -> Result<Prepared<A>, LaneFault>
     ensures lane { IfOk result (λ p. sender_lane p.sender ≡ receiver_lane p.receiver) }
-    ensures name { IfOk result (λ p. (sender_name p.sender ≡ Some (moved_to input.now (tag_name sender.now.tag))) × (receiver_name p.receiver ≡ Some (moved_to input.now (tag_name sender.now.tag)))) }
-    ensures start { IfOk result (λ p. (sent p.sender ≡ sent sender.now) × (flushed p.sender ≡ sent sender.now) × (taken p.receiver ≡ sent sender.now) × (known p.receiver ≡ sent sender.now)) }
+    ensures name { IfOk result (λ p. AreEndsNamed (Some (moved_to input.now (tag_name sender.now.tag))) p.sender p.receiver) }
+    ensures start { IfOk result (λ p. HavePassed (sent sender.now) p.sender p.receiver) }
     ensures dry { IfOk result (λ p. vec_len p.receiver.current ≡ 0) }
     ensures room { IfOk result (λ p. (p.tokens.items ≡ []) × (1 ≤ vec_capacity p.tokens) × (sent sender.now ≤ taken receiver.now + vec_capacity p.tokens)) }
 {
@@ -198,9 +197,9 @@ pub fn settle<A: Allocator + Clone + Drop>(
     requires lane { sender_lane sender ≡ receiver_lane receiver }
     requires grown { (n : LaneName) × (sender_name sender ≡ Some n) × IsGrown n input.now }
     ensures lane { IfOk result (λ r. sender_lane r.0 ≡ receiver_lane r.1) }
-    ensures name { IfOk result (λ r. (n : LaneName) → sender_name sender ≡ Some n → (sender_name r.0 ≡ Some (moved_to input.now n)) × (receiver_name r.1 ≡ Some (moved_to input.now n))) }
+    ensures name { IfOk result (λ r. (n : LaneName) → sender_name sender ≡ Some n → AreEndsNamed (Some (moved_to input.now n)) r.0 r.1) }
     ensures counts { IfOk result (λ r. (sent r.0 ≡ sent sender) × (flushed r.0 ≡ sent sender) × (taken r.1 ≡ taken receiver) × (known r.1 ≡ sent sender)) }
-    ensures ready { IfOk result (λ r. taken receiver < sent sender → IsReady r.1) }
+    ensures ready { IfOk result (λ r. taken receiver < sent sender → CanTake r.1) }
     ensures refused { IfErr result (λ e. (e.1 ≡ sender) × (e.2 ≡ receiver)) }
 {
     let Ok(

@@ -66,6 +66,10 @@ pub record Meets (writer reader now : End) (n : ℕ) : Type 0 where
 abbrev pub Advances : End → End → Type 0
 Advances old new = (old.flushed ≤ new.flushed) × (new.flushed ≤ new.next)
 
+-- nothing was flushed, or a full segment
+abbrev pub FlushesFull : End → End → Type 0
+FlushesFull old new = (new.next ≡ old.next) × ((new.flushed ≡ old.flushed) ⊎ ((old.next ≡ old.flushed + 64) × (new.flushed ≡ old.next)))
+
 -- the next take gives a token
 abbrev pub IsReady : End → Type 0
 IsReady e = 0 < e.waiting

@@ -19,7 +19,7 @@ abbrev pub cells_of : List Work → List Told
 cells_of ws = map (λ w. w.cell) ws
 
 -- the jobs of all instances, with this input; the two ends of each lane are among them
-pub record AreTogether (t : Program) (lists : Lists) (ws : List Work) : Type 0 where
+pub record AreJoinedJobs (t : Program) (lists : Lists) (ws : List Work) : Type 0 where
   pub count : length ws ≡ length (network_of t).instances
   pub each : (p : ℕ) (w : Work) → slice_get ws p ≡ Some w → IsJob w × (w.cell.network ≡ t) × (w.cell.input ≡ lists) × (w.cell.instance ≡ p)
   pub joined : (p r o q d : ℕ) (w v : Work) → slice_get ws p ≡ Some w → slice_get ws r ≡ Some v →

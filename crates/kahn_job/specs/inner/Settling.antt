@@ -1,5 +1,5 @@
 -- Inner. The ends of channels go on with an input that has grown.
-use Rattle.std.specs.Prelude.{◌≡◌, ◌⊎◌, ℕ, ◌<◌, ◌≤◌, true, false, List, [], length, None, Some, slice_index_or}
+use Rattle.std.specs.Prelude.{◌≡◌, ◌⊎◌, ℕ, ◌<◌, ◌≤◌, true, false, List, [], length, None, Some, slice_index_or, Result, MatchResult}
 use Rattle.kahn_tree.specs.declared.tree.Program.{Program}
 use Rattle.kahn_tree.specs.declared.tree.Role.TheVariants.{Input}
 use Rattle.kahn_network.specs.declared.sides.Side.{Side}
@@ -97,6 +97,10 @@ pub record AreElsewhere (here : Side → Type 0) (old new : List (List End)) : T
   pub sizes : (p : ℕ) → length (slice_index_or new p []) ≡ length (slice_index_or old p [])
   pub others : (p q : ℕ) → (here (side_at p q) → ⊥) → end_in new p q ≡ end_in old p q
 
+-- both ends of a lane have
+abbrev pub BothSettle : LaneName → End → End → End → End → Type 0
+BothSettle name writer reader sender receiver = HasSettled name writer sender × HasSettled name reader receiver
+
 -- the lane between the two has settled
 pub record HaveExchanged (lists : Lists) (writer reader : Side) (old new : List (List End)) : Type 0 where
   pub elsewhere : AreElsewhere (λ s. (s ≡ writer) ⊎ (s ≡ reader)) old new
@@ -114,3 +118,7 @@ pub record AreAlike (old new : List (List End)) : Type 0 where
   pub count : length new ≡ length old
   pub sizes : (p : ℕ) → length (slice_index_or new p []) ≡ length (slice_index_or old p [])
   pub same : (p q : ℕ) → end_in new p q ≡ end_in old p q
+
+-- it goes so, or where memory was refused the ends are the same
+abbrev pub GoesOrStays : {A E : Type 0} → Result A E → (List (List End) → List (List End) → Type 0) → List (List End) → List (List End) → Type 0
+GoesOrStays result goes old new = MatchResult result (λ _. goes old new) (λ _. AreAlike old new)

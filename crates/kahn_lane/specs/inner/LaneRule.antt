@@ -10,18 +10,18 @@ use Rattle.kahn_lane.specs.declared.segments.Stage.TheVariants as stage
 use Rattle.kahn_lane.specs.Places.{Named, Placed, mark, opening, telling, told, first_place}
 
 -- only the writer may flush; it knows what the tokens are of, and how many were flushed
-abbrev pub Writes : ℕ → Named → ℕ → ℕ → Mark → Type 0
-Writes writer name flushed port v = v.writes ≡ true → (port ≡ writer) × (v.writes_on ≡ name) × (v.flushed ≡ flushed)
+abbrev pub WritesLane : ℕ → Named → ℕ → ℕ → Mark → Type 0
+WritesLane writer name flushed port v = v.writes ≡ true → (port ≡ writer) × (v.writes_on ≡ name) × (v.flushed ≡ flushed)
 
 -- only the reader may steal; it knows what the tokens are of, and how many were stolen, and knows of no more than were flushed
-abbrev pub Reads : ℕ → Named → ℕ → ℕ → ℕ → Mark → Type 0
-Reads reader name flushed stolen port v =
+abbrev pub ReadsLane : ℕ → Named → ℕ → ℕ → ℕ → Mark → Type 0
+ReadsLane reader name flushed stolen port v =
     v.reads ≡ true → (port ≡ reader) × (v.reads_on ≡ name) × (v.stolen ≡ stolen) × (v.known ≤ flushed)
 
 -- what a pass knows is so
-abbrev pub Fits : ℕ → ℕ → Named → ℕ → ℕ → ℕ → Mark → Type 0
-Fits writer reader name flushed stolen port v =
-    (v.stage ≡ stage.Running) × Writes writer name flushed port v × Reads reader name flushed stolen port v
+abbrev pub FitsLane : ℕ → ℕ → Named → ℕ → ℕ → ℕ → Mark → Type 0
+FitsLane writer reader name flushed stolen port v =
+    (v.stage ≡ stage.Running) × WritesLane writer name flushed port v × ReadsLane reader name flushed stolen port v
 
 module _ {A : Type 0} where
   -- the tokens of a segment
@@ -46,8 +46,8 @@ module _ {A : Type 0} where
   Chain name from to (s ∷ ss) = Filled name from s × Chain name (from + size s) to ss
 
   -- the lane has no name yet, and nothing in it
-  abbrev pub IsOpening : List (Segment A) → List Mark → Type 0
-  IsOpening items views = (items ≡ []) × (views ≡ opening ∷ [])
+  abbrev pub IsNewLane : List (Segment A) → List Mark → Type 0
+  IsNewLane items views = (items ≡ []) × (views ≡ opening ∷ [])
 
   -- the one segment has no tokens, and tells what the lane's tokens are of, and the place of the first
   abbrev pub IsTelling : List (Segment A) → List Mark → Type 0
@@ -67,15 +67,15 @@ module _ {A : Type 0} where
     -- the deque has those that were flushed and not stolen
     pub chain : Chain name stolen flushed items
     -- what the passes know is so
-    pub fits : (port : ℕ) (v : Mark) → get_elem? views port ≡ some v → Fits writer reader name flushed stolen port v
+    pub fits : (port : ℕ) (v : Mark) → get_elem? views port ≡ some v → FitsLane writer reader name flushed stolen port v
 
   abbrev pub Laned : List (Segment A) → List Mark → Type 0
-  Laned items views = IsOpening items views ⊎ (IsTelling items views ⊎ IsRunning items views)
+  Laned items views = IsNewLane items views ⊎ (IsTelling items views ⊎ IsRunning items views)
 
   -- the name and the first place are told
-  abbrev pub Tells : List (Segment A) → Mark → Type 0
-  Tells [] w = ⊥
-  Tells (s ∷ ss) w = w ≡ telling (told s.tag) (first_place s.tag)
+  abbrev pub TellsName : List (Segment A) → Mark → Type 0
+  TellsName [] w = ⊥
+  TellsName (s ∷ ss) w = w ≡ telling (told s.tag) (first_place s.tag)
 
   -- a segment is flushed
   abbrev pub Flushes : Mark → List (Segment A) → Mark → Type 0

@@ -9,16 +9,16 @@ module _ {T : Type 0} where
   log pushes pops known given taken = record { pushes = pushes; pops = pops; known = known; given = given; taken = taken }
 
   -- only the writer may push, and it has the list of what was given
-  abbrev pub Writes : ℕ → List T → ℕ → Log T → Type 0
-  Writes writer given port v = v.pushes ≡ true → (port ≡ writer) × (v.given ≡ given)
+  abbrev pub WritesRelay : ℕ → List T → ℕ → Log T → Type 0
+  WritesRelay writer given port v = v.pushes ≡ true → (port ≡ writer) × (v.given ≡ given)
 
   -- only the reader may take; it has the list of what was taken, and knows of no more items than were given
-  abbrev pub Reads : ℕ → List T → List T → ℕ → Log T → Type 0
-  Reads reader given taken port v = v.pops ≡ true → (port ≡ reader) × (v.taken ≡ taken) × (v.known ≤ length given)
+  abbrev pub ReadsRelay : ℕ → List T → List T → ℕ → Log T → Type 0
+  ReadsRelay reader given taken port v = v.pops ≡ true → (port ≡ reader) × (v.taken ≡ taken) × (v.known ≤ length given)
 
   -- what a pass knows is so
-  abbrev pub Fits : ℕ → ℕ → List T → List T → ℕ → Log T → Type 0
-  Fits writer reader given taken port v = Writes writer given port v × Reads reader given taken port v
+  abbrev pub FitsRelay : ℕ → ℕ → List T → List T → ℕ → Log T → Type 0
+  FitsRelay writer reader given taken port v = WritesRelay writer given port v × ReadsRelay reader given taken port v
 
   pub record Relayed (items : List T) (views : List (Log T)) : Type 0 where
     -- the pass that may push, and the one that may take
@@ -30,4 +30,4 @@ module _ {T : Type 0} where
     -- what was given is what was taken, and then what the deque holds
     pub whole : given ≡ taken ++ items
     -- what the passes know is so
-    pub fits : (port : ℕ) (v : Log T) → get_elem? views port ≡ some v → Fits writer reader given taken port v
+    pub fits : (port : ℕ) (v : Log T) → get_elem? views port ≡ some v → FitsRelay writer reader given taken port v

@@ -1,14 +1,24 @@
 -- Inner. A lane goes on with an input that has grown.
-use Rattle.std.specs.Prelude.{◌≡◌, vec_capacity}
+use Rattle.std.specs.Prelude.{◌≡◌, ℕ, true, Some, vec_capacity}
 use Rattle.kahn_streams.specs.Laws.{AreInputsExtended}
 use Rattle.kahn_streams.specs.Tokens.{Lists, inputs_of}
 use Rattle.kahn_lane.specs.Places.{tag_name}
 use Rattle.kahn_lane.specs.declared.name.LaneName.{LaneName}
 use Rattle.kahn_lane.specs.declared.lifted.Lifted.{Lifted}
+use Rattle.kahn_lane.specs.declared.segments.Mark.{Mark}
+use Rattle.kahn_lane.specs.declared.segments.Stage.TheVariants.{Running}
 
 -- each list that the name's input has is a prefix of one of this input
 abbrev pub IsGrown : LaneName → Lists → Type 0
 IsGrown n input = AreInputsExtended (inputs_of n.input) (inputs_of input)
+
+-- a worker of this flavor that sees this has both rights of a lane that runs
+abbrev pub HasBothRights : ℕ → Mark → Type 0
+HasBothRights flavor v = (flavor ≡ 0) × (v.stage ≡ Running) × (v.writes ≡ true) × (v.reads ≡ true)
+
+-- so many tokens of this name were stolen
+abbrev pub HasStolen : LaneName → ℕ → Mark → Type 0
+HasStolen n k v = (v.reads_on ≡ Some n) × (v.stolen ≡ k)
 
 module _ {A : Type 0} where
   -- the tokens are lifted to this input
