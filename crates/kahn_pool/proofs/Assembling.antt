@@ -14,7 +14,7 @@ use Rattle.kahn_streams.specs.Laws.{IsExtended, IsQuiet, IsSettled, KeepsTape}
 use Rattle.kahn_streams.proofs.Framed.{begins_nil}
 use Rattle.kahn_streams.proofs.Proved.{prefix_refl, prefix_trans, Feeds, out_grows, chain, solves, fits_all}
 use Rattle.kahn_streams.proofs.Finished.{settled}
-use Rattle.kahn_code.specs.Cells.{AllStand, View, IsKept, is_streamed, token_value}
+use Rattle.kahn_code.specs.Cells.{AllStand, View, AreKeptTokens, is_streamed, token_value}
 use Rattle.kahn_pool.specs.declared.answer.Answer.{Answer}
 use Rattle.kahn_pool.specs.declared.answer.Stream.{Stream}
 use Rattle.kahn_pool.specs.declared.answer.End.{End}
@@ -24,7 +24,7 @@ use Rattle.kahn_pool.specs.declared.answer.Verdict.TheVariants.{Finished, Bound,
 use Rattle.kahn_pool.specs.declared.answer.Outcome.{Outcome}
 use Rattle.kahn_pool.specs.declared.answer.Outcome.TheVariants.{Ended, Waits, Faulted, More}
 use Rattle.kahn_pool.specs.Right.{AreRight, IsRight, IsOutcome, IsWaiting, IsDryOn, IsEnd, HasStream, values_of}
-use Rattle.kahn_pool.specs.inner.Gathered.{IsGathered, IsStopped, Stood, nothing, view_at, IsAtRest, IsFrom, IsGiven, IsTold, tapes_from}
+use Rattle.kahn_pool.specs.inner.Gathered.{IsGathered, IsStopped, Stood, nothing, view_at, EndsWith, IsFrom, IsGiven, IsOutcomeOf, tapes_from}
 use Rattle.kahn_code.proofs.Lists.{stand_in}
 use Rattle.kahn_pool.proofs.Lists.{prefix_stands, both_stand, all_of_it, more_of_it, map_get}
 use Rattle.kahn_pool.proofs.Events.{same_sends, same_outcome, next_event, Moves}
@@ -57,7 +57,7 @@ module _ (N : Network) (I : Inputs) (bound : ℕ) (watch : Option ℕ) (said : V
   idle_end = record { outcome = Ended; events = 0 }
 
   abbrev Rests : ℕ → Type 0
-  Rests p = (x : End) × IsAtRest N I watch g.cells p x
+  Rests p = (x : End) × EndsWith N I watch g.cells p x
 
   idle_stood : (p : ℕ) (c : View) → c ≡ nothing → instance_at N p ≡ idle → Stood N I watch p c
   idle_stood p c v i =
@@ -215,7 +215,7 @@ module _ (N : Network) (I : Inputs) (bound : ℕ) (watch : Option ℕ) (said : V
       not_cut (Fault k) f h = absurd cc
       not_cut Cut f h = absurd cc
 
-  outcome_by : (v : Verdict) (p : ℕ) (out : Outcome) → IsTold N I g.cells p (o p) out → IsOutcome v N A p (e p) out
+  outcome_by : (v : Verdict) (p : ℕ) (out : Outcome) → IsOutcomeOf N I g.cells p (o p) out → IsOutcome v N A p (e p) out
   outcome_by v p Ended h = kept_end p (o p) net.Ended refl h (keeps (o p) h)
     where
       keeps : (z : script.Outcome Store) → ending z ≡ Some net.Ended → KeepsTape (instance_at N p) (T p) A z
@@ -242,7 +242,7 @@ module _ (N : Network) (I : Inputs) (bound : ℕ) (watch : Option ℕ) (said : V
       waits Bound = dry
   outcome_by v p More h = next_event N p (e p) (T p) A (extended p) (stood p).does (stood p).all (moves h)
     where
-      moves : IsTold N I g.cells p (o p) More → Moves N p (T p) A (o p)
+      moves : IsOutcomeOf N I g.cells p (o p) More → Moves N p (T p) A (o p)
       moves (inl c) = inl c
       moves (inr m) =
           let x : length (T p (Channel m.1)) ≡ (view_at g.cells p).taken m.0 = (stood p).took m.0 m.1 m.3 in
@@ -364,18 +364,18 @@ module _ (N : Network) (I : Inputs) (bound : ℕ) (watch : Option ℕ) (a : Answ
   same_writer h = cc
 
   kept_by : (src : Source) (c : Line) (ts : List Token) → source N c ≡ src → IsFrom N I watch g.stopped.cells src c ts →
-      IsKept N I c (fed src I (λ p. out N (done_by p) p (took p) c) c) ts
+      AreKeptTokens N I c (fed src I (λ p. out N (done_by p) p (took p) c) c) ts
   unfolding stood stands_for
   kept_by Given (Channel c) ts s h = h
   kept_by Given (Print r) ts s h = absurd h
   kept_by (Written p) (Channel c) ts s h =
-      subst (IsKept N I (Channel c) (out N (done_by p) p (took p) (Channel c))) (sym h.3) ((stands_for p).kept h.0 c h.1 h.2)
+      subst (AreKeptTokens N I (Channel c) (out N (done_by p) p (took p) (Channel c))) (sym h.3) ((stands_for p).kept h.0 c h.1 h.2)
   kept_by (Written p) (Print r) ts s h =
-      subst (λ d. IsKept N I (Print d) (out N (done_by p) p (took p) (Print d)) ts) (sym (same_writer s))
-      (subst (IsKept N I (Print p) (out N (done_by p) p (took p) (Print p))) (sym h) (stands_for p).printed)
+      subst (λ d. AreKeptTokens N I (Print d) (out N (done_by p) p (took p) (Print d)) ts) (sym (same_writer s))
+      (subst (AreKeptTokens N I (Print p) (out N (done_by p) p (took p) (Print p))) (sym h) (stands_for p).printed)
   kept_by Nobody c ts s h = absurd h
 
-  kept : (s : Stream) → HasStream a s → IsKept N I s.line (given s.line) s.tokens.items
+  kept : (s : Stream) → HasStream a s → AreKeptTokens N I s.line (given s.line) s.tokens.items
   kept s h = kept_by (source N s.line) s.line s.tokens.items refl (g.streams s h)
 
   whole : a.verdict ≡ Finished → (s : Stream) → HasStream a s → IsWhole N I s.line (values_of s)

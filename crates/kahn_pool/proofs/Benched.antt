@@ -13,16 +13,16 @@ use Rattle.kahn_streams.specs.Tokens.{inputs_of}
 use Rattle.kahn_code.specs.Cells.{View, exec_on, is_output}
 use Rattle.kahn_code.specs.Lines.{Lines as Queues, AreQueued, Joins, queue_of, route_of, actual_of, place_at, next_at, taken_of, given_of, waiting_of}
 use Rattle.kahn_code.specs.Queues.{Waiting}
-use Rattle.kahn_code.specs.Seats.{Seat, Leaves}
+use Rattle.kahn_code.specs.Seats.{Seat, LeavesOthers}
 use Rattle.kahn_code.specs.Standing.{count}
 use Rattle.kahn_code.specs.Told.{Told, told_view, seat_of, IsAt, IsStill}
 use Rattle.kahn_code.proofs.Queued.{set_each, set_here}
 use Rattle.kahn_code.proofs.Readers.{joins_within, reads_once}
-use Rattle.kahn_pool.specs.inner.Gathered.{IsGiven, AreWithin, TookAll, view_at, nothing}
-use Rattle.kahn_pool.specs.inner.Bench.{State}
+use Rattle.kahn_pool.specs.inner.Gathered.{IsGiven, TookNoMore, TookAll, view_at, nothing}
+use Rattle.kahn_pool.specs.inner.Bench.{RunState}
 use Rattle.kahn_streams.specs.declared.value.Value.{Value}
 use Rattle.kahn_pool.specs.inner.Workbench.{Table, IsLaid, IsSeated, state_of}
-use Rattle.kahn_pool.specs.inner.Bench.{Paused, events_at}
+use Rattle.kahn_pool.specs.inner.Bench.{PausedAt, events_at}
 use Rattle.kahn_code.specs.declared.progress.Pause.{Pause}
 use Rattle.kahn_code.specs.declared.progress.Pause.TheVariants as pause
 use Rattle.kahn_code.specs.Progress as code
@@ -111,7 +111,7 @@ module _ (b : Table) (laid : IsLaid b) where
           ap (λ v. v.taken q) (viewed p c.0 c.1) ∙ sym (taken_there p q d c.0 c.2 e) ∙ ap taken_of w.1,
         )
 
-    pub within : AreWithin N I views
+    pub within : TookNoMore N I views
     within p q d e =
         let g = given_there p q d e in
         let t = g.3 in
@@ -149,7 +149,7 @@ ports_of q = record { network = q.network; input = q.input; instance = q.instanc
 
 pub laid_after : (b : Table) → IsLaid b → (p : ℕ) (c c' : Told) (q : Queues) → slice_get b.cells p ≡ Some c → IsSame c c' →
     ports_of q ≡ seat_of c' → IsAt c' (λ r. next_at q.queues (actual_at (instance_at (network_of q.network) q.instance) r)) →
-    Leaves (record { network = b.queues.network; input = b.queues.input; instance = p }) (place_at b.queues) (place_at q) → IsLaid (ran b p c' q)
+    LeavesOthers (record { network = b.queues.network; input = b.queues.input; instance = p }) (place_at b.queues) (place_at q) → IsLaid (ran b p c' q)
 laid_after b laid p c c' q at same seat stands leaves = record {
   wired = laid.wired;
   code = laid.code;
@@ -207,7 +207,7 @@ view_after b p c c' q at = mapped told_view (slice_set b.cells p c') p c' nothin
 pub still_after : (b : Table) (p : ℕ) (c c' : Told) (q : Queues) → slice_get b.cells p ≡ Some c → c'.events ≡ c.events → IsStill c c' →
     state_of (ran b p c' q) ≡ state_of b
 still_after b p c c' q at e s =
-    ap (λ l. let r : State = record { network = network_of b.network; input = inputs_of b.input; watch = b.watch; cells = l } in r)
+    ap (λ l. let r : RunState = record { network = network_of b.network; input = inputs_of b.input; watch = b.watch; cells = l } in r)
     (map-set_same told_view b.cells p c' c (view_same c c' e s ∙ ap told_view (sym (get_or_from_slice_get b.cells p c c at))))
 
 -- ---- the channel that a parameter reads
@@ -249,9 +249,9 @@ module _ {b : Table} (laid : IsLaid b) (p : ℕ) {c : Told} (at : slice_get b.ce
   at_is q is = subst (λ (x : Queues). IsAt c (λ r. next_at x.queues (actual_of x r))) (sym is) seated.at
 
   module _ (c' : Told) (q q' : Queues) (is : q ≡ lent) (same : IsSame c c') (seat : ports_of q' ≡ seat_of c')
-      (stands : IsAt c' (λ r. next_at q'.queues (actual_of q' r))) (leaves : Leaves (ports_of q) (place_at q) (place_at q')) where
+      (stands : IsAt c' (λ r. next_at q'.queues (actual_of q' r))) (leaves : LeavesOthers (ports_of q) (place_at q) (place_at q')) where
     pub laid_now : IsLaid (ran b p c' q')
-    laid_now = laid_after b laid p c c' q' at same seat stands (subst (λ (x : Queues). Leaves (ports_of x) (place_at x) (place_at q')) is leaves)
+    laid_now = laid_after b laid p c c' q' at same seat stands (subst (λ (x : Queues). LeavesOthers (ports_of x) (place_at x) (place_at q')) is leaves)
 
     mine : IsSeated (ran b p c' q') p c'
     mine = laid_now.each p c' (set_here b.cells p c' (within_get b.cells p c at))
@@ -268,7 +268,7 @@ module _ {b : Table} (laid : IsLaid b) (p : ℕ) {c : Told} (at : slice_get b.ce
         (λ r. waiting_of (queue_of q'.queues (actual_of q' r)) ≡ 0)
         (λ r. 0 < waiting_of (queue_of q'.queues (actual_of q' r)))
         (c'.events ≡ c.events + quantum) z)) where
-      abbrev now : State
+      abbrev now : RunState
       now = state_of (ran b p c' q')
 
       abbrev dry : ℕ → Type 0
@@ -285,7 +285,7 @@ module _ {b : Table} (laid : IsLaid b) (p : ℕ) {c : Told} (at : slice_get b.ce
           (subst (λ l. code.Paused (network_of b.network) (inputs_of l) c'.watch c'.instance (told_view c') (IsPause (network_of b.network) c'.instance dry ready (c'.events ≡ c.events + quantum) z)) mine.input
           (subst (λ t. code.Paused (network_of t) (inputs_of c'.input) c'.watch c'.instance (told_view c') (IsPause (network_of t) c'.instance dry ready (c'.events ≡ c.events + quantum) z)) mine.network paused)))
 
-      pub paused_now : Paused now p z
+      pub paused_now : PausedAt now p z
       paused_now =
           bridge now p dry ready (c'.events ≡ c.events + quantum)
           (λ n r T e. dry_reads b.network laid.wired n p r T e)

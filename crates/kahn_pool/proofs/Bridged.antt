@@ -9,12 +9,12 @@ use Rattle.kahn_code.specs.declared.progress.Pause.TheVariants as pause
 use Rattle.kahn_code.specs.Cells.{View, exec_on}
 use Rattle.kahn_code.specs.Progress as code
 use Rattle.kahn_code.specs.Progress.{IsPause}
-use Rattle.kahn_pool.specs.inner.Bench.{State, Paused, IsPaused}
+use Rattle.kahn_pool.specs.inner.Bench.{RunState, PausedAt, IsPaused}
 use Rattle.kahn_pool.specs.inner.Gathered.{view_at, Stood, TookAll, HasUntaken, IsGiven}
 use Rattle.kahn_pool.specs.inner.Parameters.{ReadsOnce}
 use Rattle.kahn_pool.proofs.Channels.{told_by_channel}
 
-module _ (s : State) (p : ℕ) (dry ready : ℕ → Type 0) (spent : Type 0)
+module _ (s : RunState) (p : ℕ) (dry ready : ℕ → Type 0) (spent : Type 0)
     (reads : (n q : ℕ) (T : Tapes) → (exec_on s.network n p T).outcome ≡ Dry q → (d : ℕ) × (actual_at (instance_at s.network p) q ≡ Reads d))
     (all : (q d : ℕ) → actual_at (instance_at s.network p) q ≡ Reads d → dry q → TookAll s.network s.input s.cells p q d)
     (some : (q d : ℕ) → actual_at (instance_at s.network p) q ≡ Reads d → ready q →
@@ -34,7 +34,7 @@ module _ (s : State) (p : ℕ) (dry ready : ℕ → Type 0) (spent : Type 0)
 
   -- what a pause says of a cell that is instance p of this state
   pub bridge : (c : View) (z : Pause) → view_at s.cells p ≡ c → ReadsOnce s.network p →
-      code.Paused s.network s.input s.watch p c (IsPause s.network p dry ready spent z) → Paused s p z
+      code.Paused s.network s.input s.watch p c (IsPause s.network p dry ready spent z) → PausedAt s p z
   bridge c z same once h = record { stood = told.0; told = told.1 }
     where
       told : (k : Stood s.network s.input s.watch p (view_at s.cells p)) × IsPaused s p z (exec_at s.network (view_at s.cells p).events p k.tapes).outcome

@@ -9,7 +9,7 @@ use Rattle.kahn_streams.specs.Script.{Tapes, Outcome}
 use Rattle.kahn_streams.specs.Meaning.{Store, exec}
 use Rattle.kahn_network.specs.Network.{Network, Actual, Reads, Writes, Hands, instance_at, actual_at}
 use Rattle.kahn_streams.specs.Solution.{Inputs, Histories, tape_of, tapes_of, exec_at, out, opening, values_at, goes_to}
-use Rattle.kahn_code.specs.Cells.{View, AllStand, IsKept, exec_on, sent_on, StoodBy}
+use Rattle.kahn_code.specs.Cells.{View, AllStand, AreKeptTokens, exec_on, sent_on, StoodBy}
 use Rattle.kahn_pool.specs.inner.Gathered.{Stood}
 use Rattle.kahn_pool.specs.inner.Parameters.{ReadsOnce}
 
@@ -123,8 +123,8 @@ module _ (N : Network) (I : Inputs) (watch : Option ℕ) (p : ℕ) (c : View) (o
         took = λ q d r. ap length (here q d r) ∙ s.took q;
         only = only_at;
         gave = λ q d r. ap length (same_sends (Channel d)) ∙ s.gave q d r;
-        kept = λ q d r h. subst (λ l. IsKept N I (Channel d) l (c.kept q)) (sym (same_sends (Channel d))) (s.kept q d r h);
-        printed = subst (λ l. IsKept N I (Print p) l c.printed) (sym (same_sends (Print p))) s.printed;
+        kept = λ q d r h. subst (λ l. AreKeptTokens N I (Channel d) l (c.kept q)) (sym (same_sends (Channel d))) (s.kept q d r h);
+        printed = subst (λ l. AreKeptTokens N I (Print p) l c.printed) (sym (same_sends (Print p))) s.printed;
       }
 
   pub by_channel : Stood N I watch p c

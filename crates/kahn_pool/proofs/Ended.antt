@@ -15,7 +15,7 @@ use Rattle.kahn_code.specs.Standing.{count}
 use Rattle.kahn_crew.specs.declared.standing.Standing.TheVariants as standing
 use Rattle.kahn_crew.specs.inner.Tasks.{Tasked, handed}
 use Rattle.kahn_crew.specs.inner.Left.{AreAll}
-use Rattle.kahn_pool.specs.inner.Rested.{AreEndsOf, AreTold, IsEndOf, IsToldAs}
+use Rattle.kahn_pool.specs.inner.Rested.{AreEndsOfTasks, AreTold, IsEndOf, IsToldAs}
 use Rattle.kahn_pool.specs.declared.answer.End.{End}
 use Rattle.kahn_pool.specs.declared.answer.Outcome.TheVariants as outcome
 use Rattle.kahn_pool.proofs.Benched.{got, some_one}
@@ -99,14 +99,14 @@ dry_told t lists tasks p q c n k wired h r all x at is s = (
 
 -- ---- all ends
 
-pub no_ends : (t : Program) (lists : Lists) (tasks : List Tasked) (ends : List End) → ends ≡ [] → AreEndsOf t lists tasks ends 0
+pub no_ends : (t : Program) (lists : Lists) (tasks : List Tasked) (ends : List End) → ends ≡ [] → AreEndsOfTasks t lists tasks ends 0
 no_ends t lists tasks ends e = record { count = ap length e; each = λ p x y a b. absurd (none p y (ap (λ l. slice_get l p) (sym e) ∙ b)) }
   where
     none : (p : ℕ) (y : End) → slice_get [] p ≡ Some y → ⊥
     none p y b = cc
 
-pub more_ends : (t : Program) (lists : Lists) (tasks : List Tasked) (ends : List End) (n : ℕ) (y : End) → AreEndsOf t lists tasks ends n →
-    ((x : Tasked) → slice_get tasks n ≡ Some x → IsEndOf t lists tasks x y) → AreEndsOf t lists tasks (ends ++ y ∷ []) (suc n)
+pub more_ends : (t : Program) (lists : Lists) (tasks : List Tasked) (ends : List End) (n : ℕ) (y : End) → AreEndsOfTasks t lists tasks ends n →
+    ((x : Tasked) → slice_get tasks n ≡ Some x → IsEndOf t lists tasks x y) → AreEndsOfTasks t lists tasks (ends ++ y ∷ []) (suc n)
 more_ends t lists tasks ends n y h last = record {
   count = length-append ends (y ∷ []) ∙ (let c = h.count in omega (arith, c));
   each = λ p x z a b. by p x z a (at_last ends y p z b);

@@ -9,12 +9,12 @@ use Rattle.kahn_streams.specs.declared.token.Token.{Token}
 use Rattle.kahn_streams.specs.Solution.{source}
 use Rattle.kahn_network.specs.Network.{Network, Writes, Source, Given, Written, Nobody, instance_at, actual_at}
 use Rattle.kahn_code.specs.declared.cell.Kept.{Kept}
-use Rattle.kahn_code.specs.Cells.{IsKept}
+use Rattle.kahn_code.specs.Cells.{AreKeptTokens}
 use Rattle.kahn_pool.specs.declared.answer.Stream.{Stream}
-use Rattle.kahn_pool.specs.inner.Bench.{State, AreStreams}
+use Rattle.kahn_pool.specs.inner.Bench.{RunState, AreStreams}
 use Rattle.kahn_pool.specs.inner.Gathered.{view_at, IsFrom}
 use Rattle.kahn_pool.specs.Right.{line_of, stream_lines}
-use Rattle.kahn_pool.specs.inner.Streams.{AreNamed, IsDeclared, IsFilled, AreFilled, AreLists, KeepsOthers, HasInputs, kept_lists, kept_in, printed_list, printed_in}
+use Rattle.kahn_pool.specs.inner.Streams.{AreNamed, IsDeclared, IsFilled, AreFilled, AreLists, KeepsOtherLines, HasInputs, kept_lists, kept_in, printed_list, printed_in}
 use Rattle.kahn_pool.proofs.Lists.{set_get, set_else}
 use Rattle.kahn_pool.proofs.Named.{HasLine, has_line, line_at, stream_before, declared, once}
 
@@ -66,7 +66,7 @@ module _ {A : Type 0} (N : Network) (ls : List (Kept A)) (p : ℕ) (l l' : Kept 
   -- the list of a parameter that writes channel c is taken
   pub kept_taken : (q c : ℕ) (before after : List Token) → actual_at (instance_at N p) q ≡ Writes c →
       kept_lists l' ≡ slice_set (kept_lists l) q before → l'.printed ≡ l.printed → after ≡ slice_index_or (kept_lists l) q [] → AreLists N ls →
-      AreLists N (slice_set ls p l') × (after ≡ kept_in ls p q) × KeepsOthers N (Channel c) ls (slice_set ls p l')
+      AreLists N (slice_set ls p l') × (after ≡ kept_in ls p q) × KeepsOtherLines N (Channel c) ls (slice_set ls p l')
   kept_taken q c before after w e f g are =
       (same_lists size are, g ∙ ap (λ xs. slice_index_or xs q []) (sym (lists_here kept_lists [])), λ d n. others d n)
     where
@@ -104,7 +104,7 @@ module _ {A : Type 0} (N : Network) (ls : List (Kept A)) (p : ℕ) (l l' : Kept 
 
   -- the list of the print stream is taken
   pub printed_taken : (after : List Token) → l'.kept ≡ l.kept → after ≡ l.printed.items → AreLists N ls →
-      AreLists N (slice_set ls p l') × (after ≡ printed_in ls p) × KeepsOthers N (Print p) ls (slice_set ls p l')
+      AreLists N (slice_set ls p l') × (after ≡ printed_in ls p) × KeepsOtherLines N (Print p) ls (slice_set ls p l')
   printed_taken after e f are =
       (same_lists (ap (λ v. length v.items) e) are, f ∙ sym (lists_here printed_list []), λ d n. others d n)
     where
@@ -144,7 +144,7 @@ module _ {A : Type 0} (N : Network) (ls : List (Kept A)) (old : List Stream) (ks
   next_declared x e = declared N old n x f.named (sym (f.rest n (omega arith)) ∙ e)
 
   pub filling_goes : (ks' : List (Kept A)) (x y : Stream) → slice_get now n ≡ Some x → y.line ≡ x.line → AreLists N ks' →
-      IsFilled N ks (source N x.line) x.line x.tokens.items y.tokens.items → KeepsOthers N x.line ks ks' → Filling N ls old ks' (slice_set now n y) (suc n)
+      IsFilled N ks (source N x.line) x.line x.tokens.items y.tokens.items → KeepsOtherLines N x.line ks ks' → Filling N ls old ks' (slice_set now n y) (suc n)
   filling_goes ks' x y e same lists filled others = record {
     named = f.named;
     lines = set_lines now n x y e same ∙ f.lines;
@@ -180,7 +180,7 @@ module _ {A : Type 0} (N : Network) (ls : List (Kept A)) (old : List Stream) (ks
 -- ---- the streams of an answer
 
 -- streams that are filled from the lists of these cells are those of the answer
-module _ {A : Type 0} (s : State) (ls : List (Kept A)) (old new : List Stream)
+module _ {A : Type 0} (s : RunState) (ls : List (Kept A)) (old new : List Stream)
     (named : map line_of old ≡ stream_lines s.network s.watch)
     (filled : AreFilled s.network ls old new)
     (kept : (p q : ℕ) → kept_in ls p q ≡ (view_at s.cells p).kept q)
@@ -191,7 +191,7 @@ module _ {A : Type 0} (s : State) (ls : List (Kept A)) (old new : List Stream)
     where
       turn : (j : ℕ) (x y : Stream) (d : Line) (o : Source) → slice_get old j ≡ Some x → x.line ≡ d → source s.network d ≡ o → HasLine s.network s.watch d →
           IsFilled s.network ls o d x.tokens.items y.tokens.items → IsFrom s.network s.input s.watch s.cells o d y.tokens.items
-      turn j x y (Channel c) Given a b e l h = subst (IsKept s.network s.input (Channel c) (s.input c)) (sym h) (given j c x a b e)
+      turn j x y (Channel c) Given a b e l h = subst (AreKeptTokens s.network s.input (Channel c) (s.input c)) (sym h) (given j c x a b e)
       turn j x y (Channel c) (Written p) a b e l (q, w, h) = (q, w, l.1, h ∙ kept p q)
       turn j x y (Channel c) Nobody a b e l h = absurd h
       turn j x y (Print r) Given a b e l h = absurd (differ e)

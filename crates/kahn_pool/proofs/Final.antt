@@ -11,8 +11,8 @@ use Rattle.kahn_pool.specs.declared.answer.Outcome.TheVariants.{More}
 use Rattle.kahn_pool.specs.declared.answer.Verdict.{Verdict}
 use Rattle.kahn_pool.specs.declared.answer.Verdict.TheVariants.{Finished, Bound}
 use Rattle.kahn_pool.specs.Right.{events_of, line_of, stream_lines}
-use Rattle.kahn_pool.specs.inner.Gathered.{view_at, AreWithin, IsFrom, IsGathered, IsStopped}
-use Rattle.kahn_pool.specs.inner.Bench.{State, view_events, IsLast, IsVerdict, AreStreams}
+use Rattle.kahn_pool.specs.inner.Gathered.{view_at, TookNoMore, IsFrom, IsGathered, IsStopped}
+use Rattle.kahn_pool.specs.inner.Bench.{RunState, view_events, IsLast, IsVerdict, AreStreams}
 use Rattle.kahn_code.proofs.Lists.{at_last}
 
 same_sums : (cs : List View) (xs : List End) → length xs ≡ length cs →
@@ -27,8 +27,8 @@ same_sums (c ∷ cs) (x ∷ xs) l h =
     let e : x.events ≡ c.events = h zero x refl in
     omega (arith, r, a, b, e)
 
-pub stopped : (s : State) (bound left : ℕ) (memory : Bool) (v : Verdict) (ends : List End) (done : ℕ) → IsLast s bound left memory ends → IsVerdict memory ends v →
-    AreWithin s.network s.input s.cells → done + left ≡ bound → IsStopped s.network s.input bound s.watch v ends done
+pub stopped : (s : RunState) (bound left : ℕ) (memory : Bool) (v : Verdict) (ends : List End) (done : ℕ) → IsLast s bound left memory ends → IsVerdict memory ends v →
+    TookNoMore s.network s.input s.cells → done + left ≡ bound → IsStopped s.network s.input bound s.watch v ends done
 stopped s bound left memory v ends done last rule within count =
     record {
       cells = s.cells;
@@ -64,14 +64,14 @@ stopped s bound left memory v ends done last rule within count =
         in
         omega (arith, t, e, count)
 
-pub stopped_cells : (s : State) (bound left : ℕ) (memory : Bool) (v : Verdict) (ends : List End) (done : ℕ) (last : IsLast s bound left memory ends) (rule : IsVerdict memory ends v)
-    (within : AreWithin s.network s.input s.cells) (count : done + left ≡ bound) → (stopped s bound left memory v ends done last rule within count).cells ≡ s.cells
+pub stopped_cells : (s : RunState) (bound left : ℕ) (memory : Bool) (v : Verdict) (ends : List End) (done : ℕ) (last : IsLast s bound left memory ends) (rule : IsVerdict memory ends v)
+    (within : TookNoMore s.network s.input s.cells) (count : done + left ≡ bound) → (stopped s bound left memory v ends done last rule within count).cells ≡ s.cells
 unfolding stopped
 stopped_cells s bound left memory v ends done last rule within count = refl
 
-pub gathered : (s : State) (bound left : ℕ) (memory : Bool) (a : Answer) → IsLast s bound left memory a.ends.items →
+pub gathered : (s : RunState) (bound left : ℕ) (memory : Bool) (a : Answer) → IsLast s bound left memory a.ends.items →
     AreStreams s a.streams.items (stream_lines s.network s.watch) → IsVerdict memory a.ends.items a.verdict →
-    AreWithin s.network s.input s.cells → a.events + left ≡ bound → IsGathered s.network s.input bound s.watch a
+    TookNoMore s.network s.input s.cells → a.events + left ≡ bound → IsGathered s.network s.input bound s.watch a
 unfolding stopped
 gathered s bound left memory a last streams rule within count =
     record {
@@ -94,7 +94,7 @@ map_push : (ss : List Stream) (x : Stream) → map line_of (ss ++ x ∷ []) ≡ 
 map_push [] x = refl
 map_push (y ∷ ss) x = ap (λ r. y.line ∷ r) (map_push ss x)
 
-pub streams_push : (s : State) (ss : List Stream) (ls : List Line) (i : ℕ) (x : Stream) → slice_get ls i ≡ Some x.line →
+pub streams_push : (s : RunState) (ss : List Stream) (ls : List Line) (i : ℕ) (x : Stream) → slice_get ls i ≡ Some x.line →
     IsFrom s.network s.input s.watch s.cells (source s.network x.line) x.line x.tokens.items →
     AreStreams s ss (take i ls) → AreStreams s (ss ++ x ∷ []) (take (suc i) ls)
 streams_push s ss ls i x e from h =

@@ -11,7 +11,7 @@ use Rattle.kahn_streams.specs.declared.value.Line.TheVariants.{Channel, Print}
 use Rattle.kahn_streams.specs.declared.token.Token.{Token}
 use Rattle.kahn_streams.specs.Solution.{Inputs, source, IsPrefix}
 use Rattle.kahn_network.specs.Network.{Network, Instance, Source, Given, Written, Nobody, any_written, first_writer, source_by, channel_source, role_at}
-use Rattle.kahn_code.specs.Cells.{IsKept, IsOwn, token_value}
+use Rattle.kahn_code.specs.Cells.{AreKeptTokens, IsOwn, token_value}
 use Rattle.kahn_pool.specs.declared.answer.Stream.{Stream}
 use Rattle.kahn_pool.specs.Right.{line_of}
 use Rattle.kahn_pool.specs.inner.Streams.{AreNamed, IsBegun, IsDeclared, IsBare, HasInput, HaveInput, HasInputs}
@@ -71,7 +71,7 @@ begun_within N I c vs ts b = by b.values
         longer [] ys = omega arith
         longer (x ∷ xs) ys = let r : length xs ≤ length (xs ++ ys) = longer xs ys in omega (arith, r)
 
-pub begun_all : (N : Network) (I : Inputs) (c : ℕ) (vs : List Value) (ts : List Token) → IsBegun N I c vs ts → length vs ≤ length ts → IsKept N I (Channel c) vs ts
+pub begun_all : (N : Network) (I : Inputs) (c : ℕ) (vs : List Value) (ts : List Token) → IsBegun N I c vs ts → length vs ≤ length ts → AreKeptTokens N I (Channel c) vs ts
 begun_all N I c vs ts b le = record { values = by b.values; places = b.places; own = b.own }
   where
     by : IsPrefix (map token_value ts) vs → map token_value ts ≡ vs
@@ -111,7 +111,7 @@ input_role N c e = role_given (role_at N c) (first_writer N.instances 0 c) (no_g
 given_role : (r : Role) (s : Source) → r ≡ Input → source_by r s ≡ Given
 given_role r s e = ap (λ x. source_by x s) e
 
-pub channel_given : (N : Network) (I : Inputs) (c : ℕ) (before after : List Token) → (role_at N c ≡ Input → IsKept N I (Channel c) (I c) after) →
+pub channel_given : (N : Network) (I : Inputs) (c : ℕ) (before after : List Token) → (role_at N c ≡ Input → AreKeptTokens N I (Channel c) (I c) after) →
     ((role_at N c ≡ Input → ⊥) → after ≡ before) → HasInput N I (source N (Channel c)) (Channel c) before after
 channel_given N I c before after f g = by (source N (Channel c)) refl
   where
@@ -183,11 +183,11 @@ have_inputs N I old new h j c y e at given =
     let x = stream_before old new j y h.lines e in
     by (source N y.line) (subst (λ d. source N d ≡ Given) (sym at) given) (h.each j x.0 y x.1 e)
   where
-    by : (o : Source) → o ≡ Given → HasInput N I o y.line (stream_before old new j y h.lines e).0.tokens.items y.tokens.items → IsKept N I (Channel c) (I c) y.tokens.items
+    by : (o : Source) → o ≡ Given → HasInput N I o y.line (stream_before old new j y h.lines e).0.tokens.items y.tokens.items → AreKeptTokens N I (Channel c) (I c) y.tokens.items
     by Given f k = on y.line at k
       where
-        on : (d : Line) → d ≡ Channel c → HasInput N I Given d (stream_before old new j y h.lines e).0.tokens.items y.tokens.items → IsKept N I (Channel c) (I c) y.tokens.items
-        on (Channel b) g k = subst (λ n. IsKept N I (Channel n) (I n) y.tokens.items) (same g) k
+        on : (d : Line) → d ≡ Channel c → HasInput N I Given d (stream_before old new j y h.lines e).0.tokens.items y.tokens.items → AreKeptTokens N I (Channel c) (I c) y.tokens.items
+        on (Channel b) g k = subst (λ n. AreKeptTokens N I (Channel n) (I n) y.tokens.items) (same g) k
           where
             same : Channel b ≡ Channel c → b ≡ c
             same m = cc

@@ -10,11 +10,12 @@ use Rattle.kahn_streams.specs.Laws.{AreInputsExtended}
 use Rattle.kahn_streams.specs.Solution.{IsPrefix, source}
 use Rattle.kahn_streams.specs.Tokens.{Lists, inputs_of}
 use Rattle.kahn_streams.proofs.Framed.{begins_nil}
-use Rattle.kahn_code.specs.Cells.{StoodBy, is_streamed, token_value}
+use Rattle.kahn_code.specs.Cells.{is_streamed, token_value}
 use Rattle.kahn_code.specs.Lines.{Joins}
 use Rattle.kahn_code.specs.Told.{Told, told_view}
 use Rattle.kahn_code.proofs.Readers.{joins_within}
 use Rattle.kahn_pool.specs.HeldRuns.{GoesOn, HeldRun, IsSoFar, Seen, seen_at, seen_of, unseen}
+use Rattle.kahn_pool.specs.inner.Workbench.{AllStandBy}
 use Rattle.kahn_pool.specs.declared.answer.Verdict.{Verdict}
 use Rattle.kahn_pool.proofs.Benched.{got, mapped, within_get}
 use Rattle.kahn_pool.proofs.Growing.{kept_grows, printed_grows, stood_by_channel}
@@ -44,10 +45,6 @@ there_or (c ∷ cells) (suc p) = there_or cells p
 -- a later state of a cell
 abbrev pub HasRisenTo : Told → Told → Type 0
 HasRisenTo c d = (c.events ≤ d.events) × AreInputsExtended (inputs_of c.input) (inputs_of d.input)
-
--- what these cells say of their processes is true
-abbrev pub AllStandBy : Program → Option ℕ → List Told → Type 0
-AllStandBy t watch cells = (p : ℕ) (c : Told) → slice_get cells p ≡ Some c → StoodBy (network_of t) (inputs_of c.input) watch p (told_view c)
 
 module _ (t : Program) (wired : IsWellWired t) (lists after : Lists) (grown : AreInputsExtended (inputs_of lists) (inputs_of after))
     (watch : Option ℕ) (workers quantum bound total : ℕ) (cells later : List Told)

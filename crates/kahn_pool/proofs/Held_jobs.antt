@@ -10,12 +10,12 @@ use Rattle.kahn_code.specs.Cells.{StoodBy, is_output}
 use Rattle.kahn_code.specs.Told.{Told, told_view}
 use Rattle.kahn_job.specs.inner.Berths.{Serves, end_at}
 use Rattle.kahn_job.specs.inner.Ends.{ShareLane}
-use Rattle.kahn_job.specs.inner.Idles.{AreIdle, AreTogether, CanGoOn, HaveSettled as RowsSettled, cells_of, rows_of}
+use Rattle.kahn_job.specs.inner.Idles.{AreIdle, AreJoinedJobs, CanGoOn, HaveSettled as RowsSettled, cells_of, rows_of}
 use Rattle.kahn_job.specs.inner.Works.{IsDelivered, IsJob, Work}
 use Rattle.kahn_job.proofs.Idles.{all_idle, cell_there, idle_goes_on, idle_grown, row_there}
 use Rattle.kahn_job.proofs.Settles.{stood_same}
 use Rattle.kahn_board.specs.Dealt.{events_of}
-use Rattle.kahn_crew.specs.inner.Begins.{AreReady, IsReady, woken_task}
+use Rattle.kahn_crew.specs.inner.Begins.{AreReadyTasks, IsReadyTask, woken_task}
 use Rattle.kahn_crew.specs.inner.Left.{AreUntouched, HaveGone, task_events}
 use Rattle.kahn_crew.specs.inner.Tasks.{Tasked, told_of, work_of}
 use Rattle.kahn_crew.proofs.Ended.{all_told}
@@ -24,12 +24,12 @@ use Rattle.kahn_pool.specs.inner.Concluded.{IsConcluded}
 use Rattle.kahn_pool.specs.HeldRuns.{seen_of}
 use Rattle.kahn_pool.specs.inner.Holding.{AreEnded, AreHeld, HasRisen, HasStopped, HaveRisen, cell_alone, held_state, work_events}
 use Rattle.kahn_pool.specs.inner.Meetings.{HaveMet}
-use Rattle.kahn_pool.specs.inner.Rested.{HaveSettled, IsTaskOf, cell_of, state_of}
-use Rattle.kahn_pool.specs.inner.Bench.{State}
+use Rattle.kahn_pool.specs.inner.Rested.{HaveSettledTasks, IsInstanceTask, cell_of, state_of}
+use Rattle.kahn_pool.specs.inner.Bench.{RunState}
 use Rattle.kahn_pool.specs.declared.answer.End.{End as RunEnd}
 use Rattle.kahn_pool.specs.declared.answer.Verdict.{Verdict}
 use Rattle.kahn_pool.specs.declared.part.Stopped.{Stopped}
-use Rattle.kahn_crew.specs.inner.Wants.{IsWant}
+use Rattle.kahn_crew.specs.inner.Wants.{IsLack}
 use Rattle.kahn_crew.specs.declared.fault.CrewFault.{CrewFault}
 use Rattle.kahn_crew.specs.declared.fault.CrewFault.TheVariants.{NoMemory}
 use Rattle.kahn_streams.proofs.Proved.{prefix_refl}
@@ -73,10 +73,10 @@ module _ (t : Program) (lists : Lists) (watch : Option ℕ) (bound : ℕ) (ws : 
       subst (λ es. (end_at es q).writes ≡ true → (end_at es q).flushed ≡ (end_at es q).next) row flushed (writes_there w x q d at inner)
       ∙ x.at.writes q d i o
 
-  pub woken_ready : AreReady t lists watch (map (woken_task lists) ws)
+  pub woken_ready : AreReadyTasks t lists watch (map (woken_task lists) ws)
   woken_ready = record {
     count = length-map ws (woken_task lists) ∙ h.idle.count;
-    each = λ p y e. let m = mapped_at (woken_task lists) ws p y e in subst (IsReady t lists watch p) (sym m.2) (ready p m.0 m.1);
+    each = λ p y e. let m = mapped_at (woken_task lists) ws p y e in subst (IsReadyTask t lists watch p) (sym m.2) (ready p m.0 m.1);
     joined = λ p r o q d x y e f i j.
         let a = mapped_at (woken_task lists) ws p x e in
         let b = mapped_at (woken_task lists) ws r y f in
@@ -86,7 +86,7 @@ module _ (t : Program) (lists : Lists) (watch : Option ℕ) (bound : ℕ) (ws : 
         (subst (λ es. ShareLane (end_at (slice_index_or (rows_of ws) p []) o) (end_at es q)) (row_there ws r b.0 b.1) (settled.joined p r o q d i j))));
   }
     where
-      ready : (p : ℕ) (w : Work) → slice_get ws p ≡ Some w → IsReady t lists watch p (woken_task lists w)
+      ready : (p : ℕ) (w : Work) → slice_get ws p ≡ Some w → IsReadyTask t lists watch p (woken_task lists w)
       ready p w e = record {
         network = (goes_on p w e).network;
         input = refl;
@@ -98,7 +98,7 @@ module _ (t : Program) (lists : Lists) (watch : Option ℕ) (bound : ℕ) (ws : 
 
 -- ---- tasks come to rest
 
-pub settled_cells : (xs ys : List Tasked) → HaveSettled xs ys → map cell_of ys ≡ map cell_of xs
+pub settled_cells : (xs ys : List Tasked) → HaveSettledTasks xs ys → map cell_of ys ≡ map cell_of xs
 settled_cells [] [] h = refl
 settled_cells [] (y ∷ ys) h = absurd (let n = h.count in omega (arith, n))
 settled_cells (x ∷ xs) [] h = absurd (let n = h.count in omega (arith, n))
@@ -131,7 +131,7 @@ sum_cells (w ∷ ws) (x ∷ xs) e =
     rest e = cc
 
 module _ (t : Program) (lists : Lists) (watch : Option ℕ) (bound : ℕ) (first old : List Tasked) (budget : ℕ)
-    (gone : HaveGone t lists watch bound first old budget) (new : List Tasked) (asked : HaveSettled old new) (met : List Tasked) (meets : HaveMet new met)
+    (gone : HaveGone t lists watch bound first old budget) (new : List Tasked) (asked : HaveSettledTasks old new) (met : List Tasked) (meets : HaveMet new met)
     (ws : List Work) (same : ws ≡ map work_of met) (jobs : All IsJob ws) where
   cells_met : cells_of ws ≡ map cell_of met
   cells_met = ap cells_of same ∙ works_of met
@@ -155,10 +155,10 @@ module _ (t : Program) (lists : Lists) (watch : Option ℕ) (bound : ℕ) (first
       let x = new_at p y.0 y.1 in
       (x.0, x.1, ap (λ (z : Work). z.cell) y.2 ∙ (meets.each p x.0 y.0 x.1 y.1).cell)
 
-  task_at : (p : ℕ) (x : Tasked) → slice_get new p ≡ Some x → IsTaskOf t lists watch p x
+  task_at : (p : ℕ) (x : Tasked) → slice_get new p ≡ Some x → IsInstanceTask t lists watch p x
   task_at = over.of_new t lists watch bound first old budget gone new asked
 
-  together : AreTogether t lists ws
+  together : AreJoinedJobs t lists ws
   together = record {
     count = ap (λ (l : List Work). length l) same ∙ length-map met work_of ∙ meets.count ∙ asked.count ∙ gone.count;
     each = λ p w e.
@@ -204,11 +204,11 @@ module _ (t : Program) (lists : Lists) (watch : Option ℕ) (bound : ℕ) (first
   pub held_concluded : (halted : Bool) (v : Verdict) (ends : List RunEnd) → IsConcluded (state_of t lists watch new) bound budget halted v ends →
       IsConcluded (held_state t lists watch ws) bound budget halted v ends
   held_concluded halted v ends c =
-      subst (λ cs. IsConcluded (let r : State = record { network = network_of t; input = inputs_of lists; watch = watch; cells = map told_view cs } in r) bound budget halted v ends)
+      subst (λ cs. IsConcluded (let r : RunState = record { network = network_of t; input = inputs_of lists; watch = watch; cells = map told_view cs } in r) bound budget halted v ends)
       (sym cells_new) c
 
 -- before their first events
-pub none_done : (old new : List Tasked) → HaveSettled old new → (ws : List Work) → ws ≡ map work_of new → events_of told_of old ≡ 0 →
+pub none_done : (old new : List Tasked) → HaveSettledTasks old new → (ws : List Work) → ws ≡ map work_of new → events_of told_of old ≡ 0 →
     (p : ℕ) (w : Work) → slice_get ws p ≡ Some w → w.cell.events ≡ 0
 none_done old new asked ws same none p w e =
     let cells = ap cells_of same ∙ works_of new ∙ settled_cells old new asked in
@@ -286,7 +286,7 @@ module _ (us ws : List Work) (same : map cell_alone (cells_of us) ≡ map cell_a
   pub ended_alike : (t : Program) (lists : Lists) (watch : Option ℕ) (bound budget : ℕ) (ends : List RunEnd) (v : Option Verdict) →
       AreEnded (held_state t lists watch ws) bound budget ends v → AreEnded (held_state t lists watch us) bound budget ends v
   ended_alike t lists watch bound budget ends v e =
-      subst (λ cs. AreEnded (let r : State = record { network = network_of t; input = inputs_of lists; watch = watch; cells = cs } in r) bound budget ends v)
+      subst (λ cs. AreEnded (let r : RunState = record { network = network_of t; input = inputs_of lists; watch = watch; cells = cs } in r) bound budget ends v)
       (sym same_views) e
 
 -- all of them
@@ -349,16 +349,16 @@ module _ (t : Program) (lists : Lists) (watch : Option ℕ) (workers bound : ℕ
   stopped_so v halted e c = record {
     held = held;
     risen = risen;
-    outcome = subst (λ o. MatchResult o Concludes (IsWant workers)) (sym e) (halted, c);
+    outcome = subst (λ o. MatchResult o Concludes (IsLack workers)) (sym e) (halted, c);
     untouched = λ f. absurd (ok_err (sym e ∙ f));
   }
 
-  pub refused_so : (fault : CrewFault) → IsWant workers fault → r.outcome ≡ Err fault →
+  pub refused_so : (fault : CrewFault) → IsLack workers fault → r.outcome ≡ Err fault →
       (fault ≡ NoMemory → (r.budget ≡ more) × (map cell_alone (cells_of r.idles.items) ≡ map cell_alone (cells_of old))) → HasStopped t lists watch workers bound old more r
   refused_so fault want e still = record {
     held = held;
     risen = risen;
-    outcome = subst (λ o. MatchResult o Concludes (IsWant workers)) (sym e) want;
+    outcome = subst (λ o. MatchResult o Concludes (IsLack workers)) (sym e) want;
     untouched = λ f. still (err_same (sym e ∙ f));
   }
 

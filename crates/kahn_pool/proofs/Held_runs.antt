@@ -19,7 +19,7 @@ use Rattle.kahn_job.specs.inner.Idles.{cells_of, rows_of}
 use Rattle.kahn_job.specs.inner.Settling.{AreResting, HaveStood}
 use Rattle.kahn_job.proofs.Idles.{idle_still}
 use Rattle.kahn_job.proofs.Settles.{stood_same}
-use Rattle.kahn_crew.specs.inner.Wants.{IsWant}
+use Rattle.kahn_crew.specs.inner.Wants.{IsLack}
 use Rattle.kahn_crew.specs.declared.fault.CrewFault.TheVariants.{NoMemory, NoThread}
 use Rattle.kahn_pool.specs.declared.part.Stopped.{Stopped}
 use Rattle.kahn_job.specs.inner.Works.{Work}
@@ -30,6 +30,7 @@ use Rattle.kahn_pool.specs.inner.Gathered.{IsFrom, IsGathered, nothing, view_at}
 use Rattle.kahn_pool.specs.HeldRuns.{GoesOn, HasResumed, HeldRun, IsAnswerOf, IsResumed, IsSoFar, Seen, seen_at, seen_events, seen_of, unseen}
 use Rattle.kahn_pool.specs.inner.Holding.{AreEnded, AreHeld, HasStopped, HaveRisen, IsHolding, cell_alone, cells_seen, held_state, work_events}
 use Rattle.kahn_pool.specs.Right.{IsRight, stream_lines}
+use Rattle.kahn_pool.specs.inner.Workbench.{AllStandBy}
 use Rattle.kahn_pool.specs.declared.answer.Answer.{Answer}
 use Rattle.kahn_pool.specs.declared.answer.End.{End}
 use Rattle.kahn_pool.specs.declared.answer.Verdict.{Verdict}
@@ -38,7 +39,7 @@ use Rattle.kahn_pool.proofs.Benched.{mapped}
 use Rattle.kahn_pool.proofs.Final.{gathered, stopped}
 use Rattle.kahn_pool.proofs.Held_jobs.{ended_alike, held_again, held_alike, held_grown, held_more, rises_since, risen_here, same_seen}
 use Rattle.kahn_pool.proofs.Going_on as Going
-use Rattle.kahn_pool.proofs.Going_on.{AllStandBy, HasRisenTo}
+use Rattle.kahn_pool.proofs.Going_on.{HasRisenTo}
 use Rattle.kahn_pool.proofs.Sizes.{settles_ends}
 use Rattle.kahn_crew.proofs.Started.{at_mapped}
 
@@ -282,7 +283,7 @@ module _ (t : Program) (wired : IsWellWired t) (compiled : Program) (lists : Lis
 
     pub resumed_ok : (v : Verdict) → r.outcome ≡ Ok v → IsResumed more (held_run bound ws verdict) (held_run (bound + more) r.idles.items (Some v)) v
     resumed_ok v e =
-        let c = subst (λ o. MatchResult o (λ v. (halted : Bool) × IsConcluded (held_state t lists watch r.idles.items) (bound + more) r.budget halted v r.ends.items) (IsWant workers)) e s.outcome in
+        let c = subst (λ o. MatchResult o (λ v. (halted : Bool) × IsConcluded (held_state t lists watch r.idles.items) (bound + more) r.budget halted v r.ends.items) (IsLack workers)) e s.outcome in
         (resumed (Some v), refl, part_settles t lists watch (bound + more) r.idles.items r.budget s.held c.0 v r.ends.items c.1)
 
     pub still_holding : r.outcome ≡ Err NoMemory → IsHolding t compiled lists watch workers quantum bound r.idles.items budget ends verdict
@@ -297,7 +298,7 @@ module _ (t : Program) (wired : IsWellWired t) (compiled : Program) (lists : Lis
 
     pub several : r.outcome ≡ Err NoThread → 1 < workers
     several e =
-        subst (λ o. MatchResult o (λ v. (halted : Bool) × IsConcluded (held_state t lists watch r.idles.items) (bound + more) r.budget halted v r.ends.items) (IsWant workers)) e s.outcome
+        subst (λ o. MatchResult o (λ v. (halted : Bool) × IsConcluded (held_state t lists watch r.idles.items) (bound + more) r.budget halted v r.ends.items) (IsLack workers)) e s.outcome
 
 -- before the first event
 pub none_seen : (ws : List Work) → ((p : ℕ) (w : Work) → slice_get ws p ≡ Some w → w.cell.events ≡ 0) → (p : ℕ) → (seen_at (map seen_of (cells_of ws)) p).events ≡ 0

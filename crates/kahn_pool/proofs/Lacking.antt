@@ -17,8 +17,8 @@ use Rattle.kahn_pool.specs.declared.answer.End.{End}
 use Rattle.kahn_pool.specs.declared.answer.Outcome.{Outcome}
 use Rattle.kahn_pool.specs.declared.answer.Outcome.TheVariants.{Ended, Waits, Faulted, More}
 use Rattle.kahn_pool.specs.Exact.{IsCutShort}
-use Rattle.kahn_pool.specs.inner.Gathered.{view_at, IsTold, Stood}
-use Rattle.kahn_pool.specs.inner.Bench.{State, events_at, IsLast, IsVerdict, LacksMemory, Paused, Rests}
+use Rattle.kahn_pool.specs.inner.Gathered.{view_at, IsOutcomeOf, Stood}
+use Rattle.kahn_pool.specs.inner.Bench.{RunState, events_at, IsLast, IsVerdict, LacksMemory, PausedAt, HasEndIn}
 use Rattle.kahn_pool.proofs.Lists.{all_of_it, both_stand}
 
 -- a cell stands on one family of tapes
@@ -42,21 +42,21 @@ module _ (N : Network) (I : Inputs) (watch : Option ℕ) (p : ℕ) (c : View) (a
   one_tapes = fun_ext one_tape
 
 -- what is told of an instance that has a next event
-next_told : (s : State) (p : ℕ) (o : script.Outcome Store) (y : Outcome) → o ≡ Cut → IsTold s.network s.input s.cells p o y → y ≡ More
+next_told : (s : RunState) (p : ℕ) (o : script.Outcome Store) (y : Outcome) → o ≡ Cut → IsOutcomeOf s.network s.input s.cells p o y → y ≡ More
 next_told s p o Ended cut h = absurd (none-some _ (sym (ap ending cut) ∙ h))
 next_told s p o (Faulted k) cut h = absurd (none-some _ (sym (ap ending cut) ∙ h))
 next_told s p o (Waits c) cut (q, r, dry, all) = let e : Cut ≡ script.Dry q = sym cut ∙ dry in absurd cc
 next_told s p o More cut h = refl
 
 -- one that is paused for want of memory has a next event, so its end says so
-wants_more : (s : State) (p : ℕ) (x : End) → Paused s p pause.NoMemory → Rests s p x → x.outcome ≡ More
+wants_more : (s : RunState) (p : ℕ) (x : End) → PausedAt s p pause.NoMemory → HasEndIn s p x → x.outcome ≡ More
 wants_more s p x paused rests =
     next_told s p (exec_at s.network (events_at s p) p rests.stood.tapes).outcome x.outcome
     (ap (λ (T : Histories). (exec_at s.network (events_at s p) p T).outcome) (one_tapes s.network s.input s.watch p (view_at s.cells p) rests.stood paused.stood)
     ∙ paused.told)
     rests.told
 
-pub cut_short : (s : State) (bound left : ℕ) (memory : Bool) (a : Answer) → IsLast s bound left memory a.ends.items → LacksMemory s left memory →
+pub cut_short : (s : RunState) (bound left : ℕ) (memory : Bool) (a : Answer) → IsLast s bound left memory a.ends.items → LacksMemory s left memory →
     IsVerdict memory a.ends.items a.verdict → a.events + left ≡ bound → IsCutShort bound a
 cut_short s bound left memory a last lacks rule count f =
     let refused : memory ≡ true = subst (IsVerdict memory a.ends.items) f rule in

@@ -11,6 +11,7 @@ pub mod Bridged
 pub mod Benched
 pub mod Tapping
 pub mod Taking_in
+pub mod Emptied
 pub mod Laid
 pub mod Named
 pub mod Filled
@@ -26,8 +27,12 @@ pub mod Over
 pub mod Kept
 pub mod Growing
 pub mod Going_on
+pub mod Righted
+pub mod Once_written
 pub mod Held_jobs
 pub mod Held_runs
 pub mod Held_calls
 pub mod Held_streams
+pub mod Flowed
+pub mod Poured_in
 pub mod Watching

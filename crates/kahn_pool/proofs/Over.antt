@@ -11,15 +11,15 @@ use Rattle.kahn_code.specs.Told.{Told, told_view}
 use Rattle.kahn_job.specs.inner.Berths.{end_at}
 use Rattle.kahn_crew.specs.declared.standing.Standing.TheVariants as standing
 use Rattle.kahn_crew.specs.inner.Tasks.{Tasked, handed, is_over}
-use Rattle.kahn_crew.specs.inner.Left.{AreAll, HaveGone, IsAtRest, IsOver, task_events}
+use Rattle.kahn_crew.specs.inner.Left.{AreAll, HaveGone, IsQuietTask, IsOver, task_events}
 use Rattle.kahn_pool.specs.inner.Meetings.{AreJoined, HaveMet, IsBehindOn}
-use Rattle.kahn_pool.specs.inner.Rested.{AreEndsOf, AreTasks, HaveSettled, IsTaskOf, IsToldAs, SettlesTo, cell_of, state_of}
+use Rattle.kahn_pool.specs.inner.Rested.{AreEndsOfTasks, AreTasks, HaveSettledTasks, IsInstanceTask, IsToldAs, SettlesTo, cell_of, state_of}
 use Rattle.kahn_pool.specs.inner.Gathers.{HasEnded}
 use Rattle.kahn_pool.specs.declared.answer.End.{End}
 use Rattle.kahn_pool.specs.declared.answer.Outcome.TheVariants as outcome
 use Rattle.kahn_pool.specs.declared.answer.Verdict.{Verdict}
 use Rattle.kahn_pool.specs.declared.answer.Verdict.TheVariants as verdict
-use Rattle.kahn_pool.specs.inner.Bench.{IsLast, IsVerdict, Rests, view_events}
+use Rattle.kahn_pool.specs.inner.Bench.{IsLast, IsVerdict, HasEndIn, view_events}
 use Rattle.kahn_pool.proofs.Benched.{got, some_one, within_get}
 use Rattle.kahn_pool.proofs.Rests as rests
 
@@ -69,7 +69,7 @@ module _ (t : Program) (lists : Lists) (watch : Option ℕ) (bound : ℕ) (first
       let y = first_at p x e in
       (gone.later p y.0 x y.1 e).network ∙ (gone.ready.each p y.0 y.1).network
 
-  left_task : (p : ℕ) (x : Tasked) → slice_get old p ≡ Some x → IsTaskOf t lists watch p x
+  left_task : (p : ℕ) (x : Tasked) → slice_get old p ≡ Some x → IsInstanceTask t lists watch p x
   left_task p x e =
       let y = first_at p x e in
       let l = gone.later p y.0 x y.1 e in
@@ -87,14 +87,14 @@ module _ (t : Program) (lists : Lists) (watch : Option ℕ) (bound : ℕ) (first
   lane_of : (p q : ℕ) (x y : Tasked) (at : slice_get first p ≡ Some y) (e : slice_get old p ≡ Some x) → (end_at x.work.ends q).lane ≡ (end_at y.work.ends q).lane
   lane_of p q x y at e = ((gone.later p y x at e).ends.same q).lane
 
-  module _ (new : List Tasked) (h : HaveSettled old new) where
+  module _ (new : List Tasked) (h : HaveSettledTasks old new) where
     pub was : (p : ℕ) (y : Tasked) → slice_get new p ≡ Some y → (x : Tasked) × (slice_get old p ≡ Some x)
     was p y e = let l = within_get new p y e in let n = h.count in got old p (omega (arith, l, n))
 
     pub step : (p : ℕ) (y : Tasked) (e : slice_get new p ≡ Some y) → SettlesTo (was p y e).0 y
     step p y e = h.each p (was p y e).0 y (was p y e).1 e
 
-    pub of_new : (p : ℕ) (y : Tasked) → slice_get new p ≡ Some y → IsTaskOf t lists watch p y
+    pub of_new : (p : ℕ) (y : Tasked) → slice_get new p ≡ Some y → IsInstanceTask t lists watch p y
     of_new p y e =
         let x = was p y e in
         let o = left_task p x.0 x.1 in
@@ -120,17 +120,17 @@ module _ (t : Program) (lists : Lists) (watch : Option ℕ) (bound : ℕ) (first
           (s.0, lane_new p o y e ∙ s.1, lane_new r q z f ∙ s.2);
     }
 
-    going_apart : (x : Tasked) → IsAtRest t lists old x → x.standing ≡ standing.Going → ⊥
+    going_apart : (x : Tasked) → IsQuietTask t lists old x → x.standing ≡ standing.Going → ⊥
     going_apart x (inl o) g = going_over (sym o ∙ ap is_over g)
     going_apart x (inr (q, d, s, r, k)) g = differ (sym s ∙ g)
       where
         differ : standing.Dry q ≡ standing.Going → ⊥
         differ f = cc
 
-    rest_new : ((p : ℕ) (x : Tasked) → slice_get old p ≡ Some x → IsAtRest t lists old x) → (p : ℕ) (y : Tasked) → slice_get new p ≡ Some y → IsAtRest t lists new y
+    rest_new : ((p : ℕ) (x : Tasked) → slice_get old p ≡ Some x → IsQuietTask t lists old x) → (p : ℕ) (y : Tasked) → slice_get new p ≡ Some y → IsQuietTask t lists new y
     rest_new rest p y e =
         let x = was p y e in
-        subst (IsAtRest t lists new) (sym (same p y e)) (by x.0 (rest p x.0 x.1))
+        subst (IsQuietTask t lists new) (sym (same p y e)) (by x.0 (rest p x.0 x.1))
       where
         same : (p : ℕ) (y : Tasked) (e : slice_get new p ≡ Some y) → y ≡ (was p y e).0
         same p y e = (step p y e).still (going_apart (was p y e).0 (rest p (was p y e).0 (was p y e).1))
@@ -144,7 +144,7 @@ module _ (t : Program) (lists : Lists) (watch : Option ℕ) (bound : ℕ) (first
               ap (λ (v : Tasked). count v.work.cell.sent o) s ∙ a.sent r o u.0 u.1 (ap (λ (v : Tasked). handed v.work o) (sym s) ∙ w);
         }
 
-        by : (x : Tasked) → IsAtRest t lists old x → IsAtRest t lists new x
+        by : (x : Tasked) → IsQuietTask t lists old x → IsQuietTask t lists new x
         by x (inl o) = inl o
         by x (inr (q, d, s, r, a)) = inr (q, d, s, r, all d (count x.work.cell.taken q) a)
 
@@ -157,8 +157,8 @@ module _ (t : Program) (lists : Lists) (watch : Option ℕ) (bound : ℕ) (first
       over = over is_over;
     }
       where
-        over : (halted ≡ true) ⊎ ((budget ≡ 0) ⊎ ((p : ℕ) (x : Tasked) → slice_get old p ≡ Some x → IsAtRest t lists old x)) →
-            (halted ≡ true) ⊎ ((budget ≡ 0) ⊎ ((p : ℕ) (x : Tasked) → slice_get new p ≡ Some x → IsAtRest t lists new x))
+        over : (halted ≡ true) ⊎ ((budget ≡ 0) ⊎ ((p : ℕ) (x : Tasked) → slice_get old p ≡ Some x → IsQuietTask t lists old x)) →
+            (halted ≡ true) ⊎ ((budget ≡ 0) ⊎ ((p : ℕ) (x : Tasked) → slice_get new p ≡ Some x → IsQuietTask t lists new x))
         over (inl a) = inl a
         over (inr (inl b)) = inr (inl b)
         over (inr (inr c)) = inr (inr (rest_new c))
@@ -178,9 +178,9 @@ sum_views (x ∷ xs) =
 
 module _ (t : Program) (wired : IsWellWired t) (lists : Lists) (watch : Option ℕ) (bound : ℕ) (tasks : List Tasked) (budget : ℕ) (halted : Bool)
     (h : HasEnded t lists watch bound tasks budget halted) (behind : (c : ℕ) → IsBehindOn t tasks c) (ends : List End)
-    (are : AreEndsOf t lists tasks ends (length tasks)) where
+    (are : AreEndsOfTasks t lists tasks ends (length tasks)) where
   -- a task at rest wants no more
-  no_more : (x : Tasked) → IsAtRest t lists tasks x → IsToldAs t lists tasks x outcome.More → ⊥
+  no_more : (x : Tasked) → IsQuietTask t lists tasks x → IsToldAs t lists tasks x outcome.More → ⊥
   no_more x (inl o) (inl g) = going_over (sym o ∙ ap is_over g)
   no_more x (inl o) (inr (q, d, s, r, k)) = going_over (sym o ∙ ap is_over s)
   no_more x (inr (q, d, s, r, a)) (inl g) = differ (sym s ∙ g)
@@ -210,13 +210,13 @@ module _ (t : Program) (wired : IsWellWired t) (lists : Lists) (watch : Option �
       task p y e = let l = within_get ends p y e in let n = are.count in got tasks p (omega (arith, l, n))
 
       more : (x : Tasked) (p : ℕ) → slice_get tasks p ≡ Some x → IsToldAs t lists tasks x outcome.More →
-          (halted ≡ true) ⊎ ((budget ≡ 0) ⊎ ((p : ℕ) (x : Tasked) → slice_get tasks p ≡ Some x → IsAtRest t lists tasks x)) → (budget ≡ 0) ⊎ (halted ≡ true)
+          (halted ≡ true) ⊎ ((budget ≡ 0) ⊎ ((p : ℕ) (x : Tasked) → slice_get tasks p ≡ Some x → IsQuietTask t lists tasks x)) → (budget ≡ 0) ⊎ (halted ≡ true)
       more x p e m (inl a) = inr a
       more x p e m (inr (inl b)) = inl b
       more x p e m (inr (inr c)) = absurd (no_more x (c p x e) m)
 
       one : (p : ℕ) (y : End) → slice_get ends p ≡ Some y → (x : Tasked) × (slice_get tasks p ≡ Some x) →
-          Rests (state_of t lists watch tasks) p y × (y.outcome ≡ outcome.More → (budget ≡ 0) ⊎ (halted ≡ true))
+          HasEndIn (state_of t lists watch tasks) p y × (y.outcome ≡ outcome.More → (budget ≡ 0) ⊎ (halted ≡ true))
       one p y e x =
           let k = are.each p x.0 y x.1 e in
           (rests.rests t wired lists watch tasks h.tasks_of h.settled behind p x.0 y x.1 k, λ m. more x.0 p x.1 (subst (IsToldAs t lists tasks x.0) m k.told) h.over)
@@ -242,7 +242,7 @@ tasks_met t lists watch xs ys of m = record { count = m.count ∙ of.count; each
     was : (p : ℕ) (y : Tasked) → slice_get ys p ≡ Some y → (x : Tasked) × (slice_get xs p ≡ Some x)
     was p y e = let l = within_get ys p y e in let n = m.count in got xs p (omega (arith, l, n))
 
-    by : (p : ℕ) (y : Tasked) → slice_get ys p ≡ Some y → (x : Tasked) × (slice_get xs p ≡ Some x) → IsTaskOf t lists watch p y
+    by : (p : ℕ) (y : Tasked) → slice_get ys p ≡ Some y → (x : Tasked) × (slice_get xs p ≡ Some x) → IsInstanceTask t lists watch p y
     by p y e x =
         let c = (m.each p x.0 y x.1 e).cell in
         let o = of.each p x.0 x.1 in

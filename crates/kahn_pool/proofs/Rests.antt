@@ -27,12 +27,12 @@ use Rattle.kahn_crew.specs.declared.standing.Standing.TheVariants as standing
 use Rattle.kahn_crew.specs.inner.Tasks.{Tasked, handed}
 use Rattle.kahn_crew.specs.inner.Left.{AreAll}
 use Rattle.kahn_pool.specs.inner.Meetings.{IsBehindOn}
-use Rattle.kahn_pool.specs.inner.Rested.{AreTasks, AreTold, IsDryOf, IsEndOf, IsSaid, IsSettled, IsTaskOf, IsToldAs, cell_of, state_of}
+use Rattle.kahn_pool.specs.inner.Rested.{AreTasks, AreTold, IsDryOf, IsEndOf, IsSaid, IsSettledTask, IsInstanceTask, IsToldAs, cell_of, state_of}
 use Rattle.kahn_pool.specs.declared.answer.End.{End}
 use Rattle.kahn_pool.specs.declared.answer.Outcome.{Outcome}
 use Rattle.kahn_pool.specs.declared.answer.Outcome.TheVariants as outcome
-use Rattle.kahn_pool.specs.inner.Bench.{Rests}
-use Rattle.kahn_pool.specs.inner.Gathered.{AreWithin, IsGiven, IsTold, Stood, nothing, view_at}
+use Rattle.kahn_pool.specs.inner.Bench.{HasEndIn}
+use Rattle.kahn_pool.specs.inner.Gathered.{TookNoMore, IsGiven, IsOutcomeOf, Stood, nothing, view_at}
 use Rattle.kahn_pool.proofs.Benched.{get_map, got, mapped, some_one}
 use Rattle.kahn_pool.proofs.Channels.{told_by_channel}
 use Rattle.kahn_code.proofs.Lists.{stand_in}
@@ -59,7 +59,7 @@ reads_one : {c d : ℕ} → Reads c ≡ Reads d → c ≡ d
 reads_one e = cc
 
 module _ (t : Program) (wired : IsWellWired t) (lists : Lists) (watch : Option ℕ) (tasks : List Tasked) (of : AreTasks t lists watch tasks)
-    (settled : (p : ℕ) (x : Tasked) → slice_get tasks p ≡ Some x → IsSettled x) where
+    (settled : (p : ℕ) (x : Tasked) → slice_get tasks p ≡ Some x → IsSettledTask x) where
   abbrev N : Network
   N = network_of t
 
@@ -118,7 +118,7 @@ module _ (t : Program) (wired : IsWellWired t) (lists : Lists) (watch : Option �
     counted : (p q d : ℕ) (x : Tasked) → slice_get tasks p ≡ Some x → actual_at (instance_at N p) q ≡ Reads d → (n : ℕ) × IsCounted p q d x n
     counted p q d x e r = by (reads t wired p q d r)
       where
-        o : IsTaskOf t lists watch p x
+        o : IsInstanceTask t lists watch p x
         o = of.each p x e
 
         list_is : length (inputs_of x.work.cell.input d) ≡ length (I d)
@@ -175,7 +175,7 @@ module _ (t : Program) (wired : IsWellWired t) (lists : Lists) (watch : Option �
               },
             )
 
-    pub within : AreWithin N I cells
+    pub within : TookNoMore N I cells
     within p q d r =
         let x = task_at p (joins_read p q d r) in
         let h = counted p q d x.0 x.1 r in
@@ -184,7 +184,7 @@ module _ (t : Program) (wired : IsWellWired t) (lists : Lists) (watch : Option �
         (h.0, h.1.given, omega (arith, v, le))
 
     told_as : (p : ℕ) (x : Tasked) → slice_get tasks p ≡ Some x → (u : Outcome) → IsToldAs t lists tasks x u → (o : script.Outcome Store) →
-        IsSaid x.work x.standing o → IsTold N I cells p o u
+        IsSaid x.work x.standing o → IsOutcomeOf N I cells p o u
     told_as p x e outcome.Ended h o k = subst (λ s. IsSaid x.work s o) h k
     told_as p x e (outcome.Faulted f) h o k = subst (λ s. IsSaid x.work s o) h k
     told_as p x e (outcome.Waits c) (q, s, r, all) o k =
@@ -195,7 +195,7 @@ module _ (t : Program) (wired : IsWellWired t) (lists : Lists) (watch : Option �
         (q, here, subst (λ s. IsSaid x.work s o) s k, subst (λ m. IsGiven N I cells c (source N (Channel c)) m) n h.1.given)
     told_as p x e outcome.More (inl s) o k = by (subst (λ s. IsSaid x.work s o) s k)
       where
-        by : IsSaid x.work standing.Going o → IsTold N I cells p o outcome.More
+        by : IsSaid x.work standing.Going o → IsOutcomeOf N I cells p o outcome.More
         by (inl c) = inl c
         by (inr (q, d, r, dry, ready)) =
             let here : actual_at (instance_at N p) q ≡ Reads d = sym (handed_as p q x e) ∙ r in
@@ -212,7 +212,7 @@ module _ (t : Program) (wired : IsWellWired t) (lists : Lists) (watch : Option �
         let m : count x.work.cell.taken q < h.0 = omega (arith, within, other) in
         inr (q, d, h.0, here, subst (λ s. IsSaid x.work s o) s k, h.1.given, omega (arith, w, m))
 
-    pub rests : (p : ℕ) (x : Tasked) (y : End) → slice_get tasks p ≡ Some x → IsEndOf t lists tasks x y → Rests (state_of t lists watch tasks) p y
+    pub rests : (p : ℕ) (x : Tasked) (y : End) → slice_get tasks p ≡ Some x → IsEndOf t lists tasks x y → HasEndIn (state_of t lists watch tasks) p y
     rests p x y e h = record {
       stood = told.0;
       count = h.events ∙ sym (ap (λ u. u.events) (viewed p x e));
@@ -222,8 +222,8 @@ module _ (t : Program) (wired : IsWellWired t) (lists : Lists) (watch : Option �
         paused : code.Paused N I watch p (told_view x.work.cell) (IsSaid x.work x.standing)
         paused = says_here p x e
 
-        told : (k : Stood N I watch p (view_at cells p)) × IsTold N I cells p (exec_at N (view_at cells p).events p k.tapes).outcome y.outcome
+        told : (k : Stood N I watch p (view_at cells p)) × IsOutcomeOf N I cells p (exec_at N (view_at cells p).events p k.tapes).outcome y.outcome
         told =
-            subst (λ u. (k : Stood N I watch p u) × IsTold N I cells p (exec_at N u.events p k.tapes).outcome y.outcome) (sym (viewed p x e))
+            subst (λ u. (k : Stood N I watch p u) × IsOutcomeOf N I cells p (exec_at N u.events p k.tapes).outcome y.outcome) (sym (viewed p x e))
             (told_by_channel N I watch p (told_view x.work.cell) (λ r s d f g. (reads_once t wired p r p s d f g).1) paused.stood
-            (λ o. IsTold N I cells p o y.outcome) (told_as p x e y.outcome h.told _ paused.is))
+            (λ o. IsOutcomeOf N I cells p o y.outcome) (told_as p x e y.outcome h.told _ paused.is))

@@ -20,7 +20,7 @@ use Rattle.kahn_pool.proofs.Benched.{some_one}
 use Rattle.kahn_pool.proofs.Lists.{set_get, set_else}
 use Rattle.kahn_job.proofs.Berthed.{past_none}
 use Rattle.kahn_crew.proofs.Resting.{continues_here}
-use Rattle.kahn_pool.specs.inner.Rested.{HaveSettled, IsSaid, IsSettled, Says, SettlesTo}
+use Rattle.kahn_pool.specs.inner.Rested.{HaveSettledTasks, IsSaid, IsSettledTask, Says, SettlesTo}
 
 -- ---- input channels
 
@@ -57,11 +57,11 @@ says_ran w s z dry spent e h = subst (Says w) (sym e) (record { stood = h.stood;
 
 -- ---- tasks
 
-pub settles_still : (x : Tasked) → IsSettled x → SettlesTo x x
+pub settles_still : (x : Tasked) → IsSettledTask x → SettlesTo x x
 settles_still x h = record { later = continues_here x; events = refl; still = λ n. refl; settled = h }
 
 pub settles_ran : (x y : Tasked) → x.standing ≡ standing.Going → Continues x y → (x.work.cell.events ≤ y.work.cell.events) × (y.work.cell.events ≤ x.work.cell.events + 0) →
-    IsSettled y → SettlesTo x y
+    IsSettledTask y → SettlesTo x y
 settles_ran x y going later events h = record {
   later = later;
   events = let a = events.0 in let b = events.1 in omega (arith, a, b);
@@ -94,7 +94,7 @@ module _ (old new : List Tasked) (n : ℕ) (h : SettledTo old new n) where
           subst (λ w. SettlesTo u w) k.1 (subst (λ w. SettlesTo w y) (some_one (sym (next_old x at) ∙ ap (slice_get old) (sym k.0) ∙ a)) s)
       by p u v l a (inr k) = h.done p u v (let o = k.0 in omega (arith, l, o)) a k.1
 
-  pub all_settled : n ≡ length new → HaveSettled old new
+  pub all_settled : n ≡ length new → HaveSettledTasks old new
   all_settled e = record { count = h.count; each = λ p x y a b. h.done p x y (below new p y b (le_of n (length new) e)) a b }
     where
       le_of : (a b : ℕ) → a ≡ b → b ≤ a

@@ -20,7 +20,7 @@ use Rattle.kahn_pool.specs.declared.answer.Verdict.TheVariants.{Finished, Bound,
 use Rattle.kahn_pool.specs.declared.answer.Outcome.{Outcome}
 use Rattle.kahn_pool.specs.declared.answer.Outcome.TheVariants.{Ended, Waits, Faulted, More}
 use Rattle.kahn_pool.specs.Right.{AreRight, IsRight, IsOutcome, IsEnd, events_of}
-use Rattle.kahn_pool.specs.Exact.{IsWithin, Settles, AreBegun}
+use Rattle.kahn_pool.specs.Exact.{IsWithinBound, Settles, AreBegun}
 
 -- ---- on longer tapes and with more events allowed no fewer events are done
 
@@ -163,7 +163,7 @@ module _ (N : Network) (I : Inputs) (bound : ℕ) (said : Verdict) (ends : List 
   below : (p : ℕ) (x : End) → slice_get ends p ≡ Some x → Below N I p x.events
   below p x h e o g = at_most N I r.tapes r.others p x.events e o (r.does p x h) g
 
-  stopped : said ≡ Bound → IsWithin N I bound → ⊥
+  stopped : said ≡ Bound → IsWithinBound N I bound → ⊥
   stopped v w =
       let b = r.bounded v in
       let p = b.1.0 in
@@ -186,7 +186,7 @@ module _ (N : Network) (I : Inputs) (bound : ℕ) (said : Verdict) (ends : List 
           at : j ≡ 0 + k → k ≡ j
           at e = omega (arith, e)
 
-  settled_by : (v : Verdict) → said ≡ v → IsWithin N I bound → (v ≡ Memory → ⊥) → v ≡ Finished
+  settled_by : (v : Verdict) → said ≡ v → IsWithinBound N I bound → (v ≡ Memory → ⊥) → v ≡ Finished
   settled_by Finished e w m = refl
   settled_by Bound e w m = absurd (stopped e w)
   settled_by Memory e w m = absurd (m refl)
@@ -212,7 +212,7 @@ pub verdict_is_one : (N : Network) (I : Inputs) (bound : ℕ) (watch other : Opt
     IsRight N I bound other b → (a.verdict ≡ Memory → ⊥) → (b.verdict ≡ Memory → ⊥) → a.verdict ≡ b.verdict
 verdict_is_one N I bound watch other a b r s m n = by a.verdict b.verdict (settles N I bound watch a r m) (settles N I bound other b s n) m n
   where
-    by : (v w : Verdict) → (v ≡ Finished) ↔ IsWithin N I bound → (w ≡ Finished) ↔ IsWithin N I bound → (v ≡ Memory → ⊥) → (w ≡ Memory → ⊥) → v ≡ w
+    by : (v w : Verdict) → (v ≡ Finished) ↔ IsWithinBound N I bound → (w ≡ Finished) ↔ IsWithinBound N I bound → (v ≡ Memory → ⊥) → (w ≡ Memory → ⊥) → v ≡ w
     by Finished w h g m n = sym (g.1 (h.0 refl))
     by Bound Finished h g m n = h.1 (g.0 refl)
     by Bound Bound h g m n = refl

@@ -15,10 +15,10 @@ use Rattle.kahn_code.specs.Told.{Told}
 use Rattle.kahn_code.specs.declared.progress.Pause.{Pause}
 use Rattle.kahn_code.specs.declared.cell.Kept.{Kept}
 use Rattle.kahn_pool.specs.declared.answer.Stream.{Stream}
-use Rattle.kahn_pool.specs.inner.Bench.{HasRun, State, events_at}
+use Rattle.kahn_pool.specs.inner.Bench.{HasRunCell, RunState, events_at}
 use Rattle.kahn_pool.specs.inner.Gathered.{nothing, view_at}
 use Rattle.kahn_pool.specs.inner.Streams.{kept_lists, printed_list}
-use Rattle.kahn_pool.specs.inner.Workbench.{AreKeptOf, AreLeft, AreReady, AreWhole, IsLaid, IsLeft, HasWorked, Table, actuals_of, gone_in, parameters_of, state_of, table_of, told_in}
+use Rattle.kahn_pool.specs.inner.Workbench.{AreKeptOf, AreLeft, AreStreamsReady, AreWhole, IsLaid, IsLeft, HasWorked, Table, actuals_of, gone_in, parameters_of, state_of, table_of, told_in}
 use Rattle.kahn_pool.proofs.Benched.{get_map, ran, viewed}
 
 -- ---- later states of a bench
@@ -36,7 +36,7 @@ worked_on h k = record {
 }
 
 -- the events of an instance that ran, and of the others
-ran_events : (s t : State) (p quantum : ℕ) (z : Pause) → HasRun s t p quantum z → (o : ℕ) → events_at s o ≤ events_at t o
+ran_events : (s t : RunState) (p quantum : ℕ) (z : Pause) → HasRunCell s t p quantum z → (o : ℕ) → events_at s o ≤ events_at t o
 ran_events s t p quantum z h o = by (cases_eq o p)
   where
     by : (o ≡ p) ⊎ (o ≡ p → ⊥) → events_at s o ≤ events_at t o
@@ -53,7 +53,7 @@ module _ {t : Program} {lists : Lists} {watch : Option ℕ} {code : Program} (ta
   abbrev b : Table
   b = table_of t lists watch code taps q
 
-  tap_at : slice_get taps p ≡ Some x
+  pub tap_at : slice_get taps p ≡ Some x
   tap_at =
       slice_get_read taps (length taps) p x refl
       (subst (λ k. p < k) (sym (sym (length-map taps told_in) ∙ laid.count ∙ ap (λ (y : Table). length (network_of y.network).instances) is)) here) value
@@ -76,7 +76,7 @@ module _ {t : Program} {lists : Lists} {watch : Option ℕ} {code : Program} (ta
     abbrev now : Table
     now = table_of t lists watch code (slice_set taps p y) q'
 
-    pub run_worked : (quantum : ℕ) (z : Pause) → HasRun (state_of n) (state_of now) p quantum z → HasWorked n now
+    pub run_worked : (quantum : ℕ) (z : Pause) → HasRunCell (state_of n) (state_of now) p quantum z → HasWorked n now
     run_worked quantum z h = record {
       network = ap (λ (x : Table). x.network) is;
       input = ap (λ (x : Table). x.input) is;
@@ -117,10 +117,10 @@ all_left taps kept b told gone h n whole = subst (λ cs. AreKeptOf cs kept) told
 
 -- there is still room for the answer of the same bench
 pub still_ready : {A : Type 0} {streams : List Stream} {kept : List A} {room : ℕ} (t : Program) (old new : Table) → HasWorked old new →
-    (old.network ≡ t) × AreWhole (length (network_of t).instances) old.gone × AreReady t old.input old.watch streams kept room →
-    (new.network ≡ t) × AreWhole (length (network_of t).instances) new.gone × AreReady t new.input new.watch streams kept room
+    (old.network ≡ t) × AreWhole (length (network_of t).instances) old.gone × AreStreamsReady t old.input old.watch streams kept room →
+    (new.network ≡ t) × AreWhole (length (network_of t).instances) new.gone × AreStreamsReady t new.input new.watch streams kept room
 still_ready {streams = streams} {kept = kept} {room = room} t old new same h = (
   same.network ∙ h.0,
   same.gone ∙ h.1,
-  subst (λ w. AreReady t new.input w streams kept room) (sym same.watch) (subst (λ i. AreReady t i old.watch streams kept room) (sym same.input) h.2),
+  subst (λ w. AreStreamsReady t new.input w streams kept room) (sym same.watch) (subst (λ i. AreStreamsReady t i old.watch streams kept room) (sym same.input) h.2),
 )

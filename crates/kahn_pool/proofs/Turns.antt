@@ -12,17 +12,17 @@ use Rattle.kahn_code.specs.declared.progress.Pause.{Pause}
 use Rattle.kahn_code.specs.declared.progress.Pause.TheVariants as pause
 use Rattle.kahn_pool.specs.declared.answer.Outcome.TheVariants.{More, Waits}
 use Rattle.kahn_network.specs.Network.{Reads, actual_at, instance_at}
-use Rattle.kahn_pool.specs.inner.Gathered.{view_at, IsTold, TookAll}
+use Rattle.kahn_pool.specs.inner.Gathered.{view_at, IsOutcomeOf, TookAll}
 use Rattle.kahn_pool.specs.declared.rounds.Round.{Round}
-use Rattle.kahn_pool.specs.inner.Bench.{State, IsPaused, Rests, events_at, view_events, all_events, weight, AreEnds, Goes, GoesIn, HasMoved, HasVisited, LacksMemory, Marked, Paused}
+use Rattle.kahn_pool.specs.inner.Bench.{RunState, IsPaused, HasEndIn, events_at, view_events, all_events, weight, AreEnds, Goes, GoesIn, HasMoved, HasVisited, LacksMemory, Marked, PausedAt}
 
 -- a pause and an outcome that say the same
-pub told_as : (s : State) (p : ℕ) (o : script.Outcome Store) (z z' : Pause) (x x' : Outcome) → z ≡ z' → x ≡ x' →
-    IsPaused s p z o → (IsPaused s p z' o → IsTold s.network s.input s.cells p o x') → IsTold s.network s.input s.cells p o x
-told_as s p o z z' x x' e f h go = subst (IsTold s.network s.input s.cells p o) (sym f) (go (subst (λ y. IsPaused s p y o) e h))
+pub told_as : (s : RunState) (p : ℕ) (o : script.Outcome Store) (z z' : Pause) (x x' : Outcome) → z ≡ z' → x ≡ x' →
+    IsPaused s p z o → (IsPaused s p z' o → IsOutcomeOf s.network s.input s.cells p o x') → IsOutcomeOf s.network s.input s.cells p o x
+told_as s p o z z' x x' e f h go = subst (IsOutcomeOf s.network s.input s.cells p o) (sym f) (go (subst (λ y. IsPaused s p y o) e h))
 
-pub told_dry : (s : State) (p : ℕ) (o : script.Outcome Store) (q c : ℕ) → actual_at (instance_at s.network p) q ≡ Reads c →
-    IsPaused s p (pause.Dry q) o → IsTold s.network s.input s.cells p o (Waits c)
+pub told_dry : (s : RunState) (p : ℕ) (o : script.Outcome Store) (q c : ℕ) → actual_at (instance_at s.network p) q ≡ Reads c →
+    IsPaused s p (pause.Dry q) o → IsOutcomeOf s.network s.input s.cells p o (Waits c)
 told_dry s p o q c r h = (q, r, h.2, subst (TookAll s.network s.input s.cells p q) (same_channel (sym h.1 ∙ r)) h.3)
   where
     same_channel : {c d : ℕ} → Reads c ≡ Reads d → c ≡ d
@@ -68,7 +68,7 @@ run_bound cs p left quantum false h most = let r = at_most_all cs p in omega (ar
 
 -- ---- one instance more
 
-module _ (s s' : State) (r r' : Round) (p : ℕ) (x : End) (here : p < length s.cells) (v : HasVisited s s' r r' p x) where
+module _ (s s' : RunState) (r r' : Round) (p : ℕ) (x : End) (here : p < length s.cells) (v : HasVisited s s' r r' p x) where
   known_on : length s.cells ≡ length s.network.instances → length s'.cells ≡ length s'.network.instances
   known_on k = ap length v.ran.only ∙ (length-set s.cells p (view_at s'.cells p) ∙ (k ∙ ap (λ n. length n.instances) (sym v.ran.same.0)))
 
@@ -95,14 +95,14 @@ module _ (s s' : State) (r r' : Round) (p : ℕ) (x : End) (here : p < length s.
       within true h = omega (arith, h)
       within false h = h
 
-      by : Marked v.stopped v.done r.memory r.moved r'.memory r'.moved → (0 < r'.left) × ((k : ℕ) × (k < length s'.cells) × Paused s' k pause.NoMemory)
+      by : Marked v.stopped v.done r.memory r.moved r'.memory r'.moved → (0 < r'.left) × ((k : ℕ) × (k < length s'.cells) × PausedAt s' k pause.NoMemory)
       by (inl h) =
           let w = v.ran.wanted h.0 in
           let q = within r.memory v.most in
           let c = v.counts in
           let l = v.left in
           let long : length s'.cells ≡ length s.cells = ap length v.ran.only ∙ length-set s.cells p (view_at s'.cells p) in
-          (omega (arith, w, q, c, l), (p, omega (arith, here, long), subst (Paused s' p) h.0 v.ran.paused))
+          (omega (arith, w, q, c, l), (p, omega (arith, here, long), subst (PausedAt s' p) h.0 v.ran.paused))
       by (inr h) =
           let was : r.memory ≡ true = sym h.1 ∙ m in
           let none : v.quantum ≤ 0 = subst (λ b. v.quantum ≤ cond b 0 r.left) was v.most in
@@ -112,10 +112,10 @@ module _ (s s' : State) (r r' : Round) (p : ℕ) (x : End) (here : p < length s.
           let same_left : r'.left ≡ r.left = omega (arith, u.0, u.1, none, c, l) in
           let same_state : s' ≡ s = v.ran.still (omega (arith, u.0, u.1, none)) in
           let old = before was in
-          (subst (λ n. 0 < n) (sym same_left) old.0, subst (λ z. (k : ℕ) × (k < length z.cells) × Paused z k pause.NoMemory) (sym same_state) old.1)
+          (subst (λ n. 0 < n) (sym same_left) old.0, subst (λ z. (k : ℕ) × (k < length z.cells) × PausedAt z k pause.NoMemory) (sym same_state) old.1)
 
   -- a visit more of those that may go on
-  pub moves_on : (s0 : State) (left : ℕ) (memory : Bool) → HasMoved s0 s left memory r.left r.memory → HasMoved s0 s' left memory r'.left r'.memory
+  pub moves_on : (s0 : RunState) (left : ℕ) (memory : Bool) → HasMoved s0 s left memory r.left r.memory → HasMoved s0 s' left memory r'.left r'.memory
   moves_on s0 left memory h = record {
     same = (v.ran.same.0 ∙ h.same.0, v.ran.same.1 ∙ h.same.1, v.ran.same.2 ∙ h.same.2);
     known = known_on h.known;
@@ -124,7 +124,7 @@ module _ (s s' : State) (r r' : Round) (p : ℕ) (x : End) (here : p < length s.
     lacks = λ f. lacks_on (h.lacks f);
   }
 
-  module _ (s0 : State) (w0 t0 : ℕ) (go : GoesIn s0 w0 t0 s r p) where
+  module _ (s0 : RunState) (w0 t0 : ℕ) (go : GoesIn s0 w0 t0 s r p) where
     size : length (r.ends.items ++ x ∷ []) ≡ suc p
     size = length-append r.ends.items (x ∷ []) ∙ (let a : length r.ends.items ≡ p = go.size in omega (arith, a))
 
@@ -187,15 +187,15 @@ module _ (s s' : State) (r r' : Round) (p : ℕ) (x : End) (here : p < length s.
         still : r.moved ≡ false → AreEnds s' r'.left r'.memory (r.ends.items ++ x ∷ [])
         still f k y h = by (at_last r.ends.items x k y h)
           where
-            by : (slice_get r.ends.items k ≡ Some y) ⊎ ((k ≡ length r.ends.items) × (x ≡ y)) → Rests s' k y × (y.outcome ≡ More → (r'.left ≡ 0) ⊎ (r'.memory ≡ true))
+            by : (slice_get r.ends.items k ≡ Some y) ⊎ ((k ≡ length r.ends.items) × (x ≡ y)) → HasEndIn s' k y × (y.outcome ≡ More → (r'.left ≡ 0) ⊎ (r'.memory ≡ true))
             by (inl e) =
                 let old = go.still f k y e in (
-                  subst (λ u. Rests u k y) (sym same_state) old.0,
+                  subst (λ u. HasEndIn u k y) (sym same_state) old.0,
                   subst (λ l. y.outcome ≡ More → (l ≡ 0) ⊎ (r'.memory ≡ true)) (sym same_left) (subst (λ b. y.outcome ≡ More → (r.left ≡ 0) ⊎ (b ≡ true)) (sym m) old.1),
                 )
             by (inr e) =
-                subst (λ u. Rests s' k u × (u.outcome ≡ More → (r'.left ≡ 0) ⊎ (r'.memory ≡ true))) e.1
-                (subst (λ j. Rests s' j x × (x.outcome ≡ More → (r'.left ≡ 0) ⊎ (r'.memory ≡ true))) (sym (e.0 ∙ go.size)) (v.rests, one))
+                subst (λ u. HasEndIn s' k u × (u.outcome ≡ More → (r'.left ≡ 0) ⊎ (r'.memory ≡ true))) e.1
+                (subst (λ j. HasEndIn s' j x × (x.outcome ≡ More → (r'.left ≡ 0) ⊎ (r'.memory ≡ true))) (sym (e.0 ∙ go.size)) (v.rests, one))
 
     pub goes_on : Goes s0 w0 t0 s' r'.left r'.memory r'.moved (r.ends.items ++ x ∷ []) (suc p)
     goes_on = by v.marked

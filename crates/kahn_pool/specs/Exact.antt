@@ -11,12 +11,12 @@ use Rattle.kahn_pool.specs.declared.answer.Verdict.TheVariants.{Finished, Memory
 use Rattle.kahn_pool.specs.Right.{HasEndAt, HasStream, values_of}
 
 -- the size of the solution is a number, and at most the bound
-abbrev pub IsWithin : Network → Inputs → ℕ → Type 0
-IsWithin N I bound = (size : ℕ) × HasSize N I size × (size ≤ bound)
+abbrev pub IsWithinBound : Network → Inputs → ℕ → Type 0
+IsWithinBound N I bound = (size : ℕ) × HasSize N I size × (size ≤ bound)
 
 -- want of memory apart, the verdict is that it finished exactly where the solution is within the bound
 abbrev pub Settles : Network → Inputs → ℕ → Verdict → Type 0
-Settles N I bound v = (v ≡ Memory → ⊥) → ((v ≡ Finished) ↔ IsWithin N I bound)
+Settles N I bound v = (v ≡ Memory → ⊥) → ((v ≡ Finished) ↔ IsWithinBound N I bound)
 
 -- where want of memory stopped it, the bound isn't used up and some instance has a next event: memory alone was wanting
 abbrev pub IsCutShort : ℕ → Answer → Type 0

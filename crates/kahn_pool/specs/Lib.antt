@@ -3,4 +3,5 @@ pub mod Exact
 pub mod Limits
 pub mod Runs
 pub mod HeldRuns
+pub mod Flows
 pub mod inner

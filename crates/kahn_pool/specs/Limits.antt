@@ -6,12 +6,12 @@ use Rattle.kahn_pool.specs.declared.config.RunFault.{RunFault}
 use Rattle.kahn_pool.specs.declared.config.RunFault.TheVariants as fault
 
 -- why a run on one thread is refused
-abbrev pub IsRefused : ℕ → RunFault → Type 0
-IsRefused bound fault.BadConfig = 2 ^ 48 ≤ bound
-IsRefused bound fault.NoMemory = bound < 2 ^ 48
-IsRefused bound fault.UnknownWatch = ⊥
-IsRefused bound fault.NoThread = ⊥
-IsRefused bound fault.Stalled = ⊥
+abbrev pub IsRefusedRun : ℕ → RunFault → Type 0
+IsRefusedRun bound fault.BadConfig = 2 ^ 48 ≤ bound
+IsRefusedRun bound fault.NoMemory = bound < 2 ^ 48
+IsRefusedRun bound fault.UnknownWatch = ⊥
+IsRefusedRun bound fault.NoThread = ⊥
+IsRefusedRun bound fault.Stalled = ⊥
 
 -- the same want, told by the workers
 abbrev pub of_crew : CrewFault → RunFault

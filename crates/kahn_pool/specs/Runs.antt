@@ -33,8 +33,8 @@ IsUndeclared t None = ⊥
 IsUndeclared t (Some name) = (c : ℕ) → IsNamed t c name → ⊥
 
 -- the right answer, with the channel that is to be watched
-abbrev pub IsRun : Program → Lists → Config → Answer → Type 0
-IsRun t lists config a =
+abbrev pub IsRightRun : Program → Lists → Config → Answer → Type 0
+IsRightRun t lists config a =
     IsAllowed config × ((watch : Option ℕ) × IsWatched t config.watch watch × IsRight (network_of t) (inputs_of lists) config.bound watch a)
 
 -- why there is none: first the numbers, then the watched channel, then want of memory, or of a thread for one of several

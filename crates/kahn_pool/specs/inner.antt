@@ -1,6 +1,6 @@
 pub mod Bench
 pub mod Concluded
-pub mod Flows
+pub mod FlowBench
 pub mod Gathered
 pub mod Gathers
 pub mod Holding

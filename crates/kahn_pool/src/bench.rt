@@ -2,22 +2,28 @@
 
 ghost use Rattle.kahn_network.specs.Network.{Reads, network_of, instance_at, actual_at, role_at};
 ghost use Rattle.kahn_streams.specs.Tokens.{Lists, inputs_of};
-ghost use Rattle.kahn_code.specs.Lines.{IsPoured};
+ghost use Rattle.kahn_code.specs.Lines.{AreQueued, IsPoured};
+ghost use Rattle.kahn_code.specs.Standing.{tokens};
+ghost use Rattle.kahn_code.specs.inner.Tapped.{Tapped};
 ghost use Rattle.kahn_tree.specs.declared.tree.Role.TheVariants.{Input as InputRole};
-ghost use Rattle.kahn_pool.specs.inner.Bench.{HasRun, all_events, events_at};
-ghost use Rattle.kahn_pool.specs.inner.Gathered.{AreWithin};
-ghost use Rattle.kahn_pool.specs.inner.Workbench.{AreOpening, AreWhole, HasTakenIn, HasWorked, IsLaid, gone_in, state_of, table_of, told_in};
-ghost use Rattle.std.specs.Prelude.{◌≡◌, ◌<◌, ◌+◌, ◌^◌, ℕ, length, map, IfOk, IfErr, IfSome};
+ghost use Rattle.kahn_pool.specs.inner.Bench.{HasRunCell, all_events, events_at};
+ghost use Rattle.kahn_pool.specs.inner.Gathered.{TookNoMore};
+ghost use Rattle.kahn_pool.specs.inner.Workbench.{AllStandBy, AreOpeningCells, AreWhole, HasEmptied, HasFresh, HasFreshPrints, HasTakenIn, HasWorked, HaveForgotten, IsCrowded, IsLaid, IsNextPlace, StandsAsTold, gone_in, state_of, table_of, told_in};
+ghost use Rattle.std.specs.Prelude.{◌≡◌, ◌<◌, ◌+◌, ◌++◌, ◌^◌, ℕ, Some, length, map, slice_get, IfOk, IfErr, IfSome, MatchOption, SomeIff};
 
 use crate::answer::{End, Outcome};
 use crate::awake::Awake;
 use crate::looks::Looks;
 use kahn_code::{Code, CodeFault, Pause, Plain, Steps, Tap, compile, regrow_taps};
+use kahn_config::MOST_BOUND;
 use kahn_network::Network;
-use kahn_streams::{About, Input, NoMemory, Value};
+use kahn_streams::{About, Carried, Input, NoMemory, Value};
 use std::alloc::Global;
 use std::marker::Model;
 use std::sync::ledger::Ledger;
+
+// The most values that wait on an input channel.
+const MOST_WAITING: usize = 1_048_576;
 
 /// The processes of a network over its plain queues. What they keep they let go of when they are told to.
 #[derive(Drop)]
@@ -57,7 +63,7 @@ fn named_taps(
 ) -> Result<Vec<Tap>, CodeFault>
     ghost input: { Lists }
     requires code { code.now.network.value ≡ network.now }
-    ensures opening { IfOk result (λ taps. AreOpening network.now input watch (map told_in taps.items) (length (network_of network.now).instances)) }
+    ensures opening { IfOk result (λ taps. AreOpeningCells network.now input watch (map told_in taps.items) (length (network_of network.now).instances)) }
     ensures whole { IfOk result (λ taps. AreWhole (length (network_of network.now).instances) (map gone_in taps.items)) }
 {
     let mut taps = Vec::new(alloc);
@@ -76,10 +82,38 @@ fn opening_taps(
     watch: Option<usize>,
 ) -> Result<Vec<Tap>, CodeFault>
     requires code { code.now.network.value ≡ network.now }
-    ensures opening { IfOk result (λ taps. AreOpening network.now input.now watch (map told_in taps.items) (length (network_of network.now).instances)) }
+    ensures opening { IfOk result (λ taps. AreOpeningCells network.now input.now watch (map told_in taps.items) (length (network_of network.now).instances)) }
     ensures whole { IfOk result (λ taps. AreWhole (length (network_of network.now).instances) (map gone_in taps.items)) }
 {
     named_taps(alloc, network, code, input, watch)
+}
+
+// All taps let go of what they keep.
+fn forget_all(taps: &mut Vec<Tap>)
+    ensures { HaveForgotten taps.old.items taps.new.items }
+{
+    for instance in 0..taps.len() {
+        taps[instance].forget();
+    }
+}
+
+// Says that each process stands where its tap says: its contract is what it does.
+fn all_stood(network: &Network, taps: &[Tap])
+    requires { (p : ℕ) (x : Tapped) → slice_get taps.now p ≡ Some x → x.told.network ≡ network.now }
+    ensures { (p : ℕ) (x : Tapped) → slice_get taps.now p ≡ Some x → StandsAsTold network.now x }
+{
+    for instance in 0..taps.len() {
+        taps[instance].stood(network);
+    }
+}
+
+// What a tap sent on a parameter since it last let go, where it is kept.
+fn fresh_of(tap: &Tap, parameter: usize) -> &[Carried]
+    requires { parameter < length (instance_at (network_of tap.now.told.network) tap.now.told.instance).actuals }
+    ensures { tokens tap.now.told.kept parameter ≡ tokens tap.now.gone.kept parameter ++ result.now }
+{
+    let _count = tap.parameters();
+    tap.fresh(parameter)
 }
 
 impl<'n> Bench<'n> {
@@ -145,7 +179,7 @@ impl<'n> Bench<'n> {
     ) -> Pause
         requires here { instance < length (state_of self.old).network.instances }
         requires bound { events_at (state_of self.old) instance + quantum < 2 ^ 48 }
-        ensures { HasRun (state_of self.old) (state_of self.new) instance quantum result × HasWorked self.old self.new }
+        ensures { HasRunCell (state_of self.old) (state_of self.new) instance quantum result × HasWorked self.old self.new }
     {
         self.queues.at(instance);
         let pause = self.taps[instance].run(&self.code, quantum, &mut self.queues, steps);
@@ -212,7 +246,7 @@ impl<'n> Bench<'n> {
 
     /// Says that no reader took more than was given: its contract is what it does.
     pub(crate) fn within(&self)
-        ensures { AreWithin (state_of self.now).network (state_of self.now).input (state_of self.now).cells }
+        ensures { TookNoMore (state_of self.now).network (state_of self.now).input (state_of self.now).cells }
     {
         self.queues.counted();
     }
@@ -235,6 +269,66 @@ impl<'n> Bench<'n> {
             }
             Err(fault) => Err(fault),
         }
+    }
+
+    /// The processes let go of all that they kept. It takes no memory.
+    pub(crate) fn forget(&mut self)
+        ensures { HasEmptied self.old self.new }
+    {
+        forget_all(&mut self.taps);
+    }
+
+    /// Says how all stand: its contract is what it does.
+    pub(crate) fn stood(&self)
+        ensures laid { IsLaid self.now }
+        ensures counted { AreQueued self.now.queues }
+        ensures each { AllStandBy self.now.network self.now.watch self.now.cells }
+    {
+        self.queues.counted();
+        all_stood(self.network, &self.taps);
+    }
+
+    /// What an instance sent on a parameter, where it is kept, since that was last let go of.
+    pub(crate) fn fresh(&self, instance: usize, parameter: usize) -> &[Carried]
+        requires here { instance < length (network_of self.now.network).instances }
+        requires parameter { parameter < length (instance_at (network_of self.now.network) instance).actuals }
+        ensures { HasFresh self.now instance parameter result.now }
+    {
+        fresh_of(&self.taps[instance], parameter)
+    }
+
+    /// What an instance printed since that was last let go of.
+    pub(crate) fn fresh_prints(&self, instance: usize) -> &[Carried]
+        requires { instance < length (network_of self.now.network).instances }
+        ensures { HasFreshPrints self.now instance result.now }
+    {
+        self.taps[instance].fresh_prints()
+    }
+
+    /// How many values the list of an input channel has; nothing where that is 2^64 or more.
+    pub(crate) fn given(&self, channel: usize) -> Option<u64>
+        requires { role_at (network_of self.now.network) channel ≡ InputRole }
+        ensures { SomeIff result (length (inputs_of self.now.input channel) < 2 ^ 64) (length (inputs_of self.now.input channel)) }
+    {
+        self.queues.counted();
+        let taken = self.queues.taken(channel);
+        taken.checked_add(self.queues.waiting(channel) as u64)
+    }
+
+    /// The place of the next value of an input channel, where so many more may be poured: at most 1,048,576 may wait, and places are
+    /// below 2^48.
+    pub(crate) fn next_place(&self, channel: usize, count: usize) -> Option<u64>
+        requires { role_at (network_of self.now.network) channel ≡ InputRole }
+        ensures { MatchOption result (IsCrowded self.now channel count) (IsNextPlace self.now channel count) }
+    {
+        if count > MOST_WAITING || self.queues.waiting(channel) > MOST_WAITING - count {
+            return None;
+        }
+        let place = self.given(channel)?;
+        if place > MOST_BOUND || MOST_BOUND - place < count as u64 {
+            return None;
+        }
+        Some(place)
     }
 
     /// Its taps, without the queues. It takes no memory.

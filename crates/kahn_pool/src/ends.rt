@@ -4,7 +4,7 @@ ghost use Rattle.std.specs.Prelude.{◌≡◌, ◌↔◌, ℕ, ◌<◌, ◌≤�
 ghost use Rattle.kahn_network.specs.Network.{network_of, instance_at, actual_at, Reads};
 ghost use Rattle.kahn_crew.specs.inner.Left.{AreAll};
 ghost use Rattle.kahn_crew.specs.inner.Tasks.{Tasked};
-ghost use Rattle.kahn_pool.specs.inner.Rested.{AreEndsOf, AreTold, IsDryOf, IsEndOf, IsToldAs};
+ghost use Rattle.kahn_pool.specs.inner.Rested.{AreEndsOfTasks, AreTold, IsDryOf, IsEndOf, IsToldAs};
 ghost use Rattle.kahn_crew.specs.declared.standing.Standing.TheVariants as standing;
 
 use crate::answer::{End, Outcome};
@@ -113,7 +113,7 @@ fn end_of(network: &Network, input: &Input, tasks: &[Task], instance: usize) -> 
 pub fn ends_of(network: &Network, input: &Input, tasks: &[Task], mut ends: Vec<End>) -> Vec<End>
     requires told { AreTold network.now tasks.now }
     requires room { length tasks.now ≤ vec_capacity ends }
-    ensures { AreEndsOf network.now input.now tasks.now result.items (length tasks.now) }
+    ensures { AreEndsOfTasks network.now input.now tasks.now result.items (length tasks.now) }
 {
     ends.clear();
     for instance in 0..tasks.len() {

@@ -5,7 +5,7 @@ ghost use Rattle.kahn_network.specs.Network.{network_of};
 ghost use Rattle.kahn_streams.specs.Tokens.{inputs_of};
 ghost use Rattle.kahn_pool.specs.inner.Bench.{AreStreams};
 ghost use Rattle.kahn_pool.specs.Right.{IsRight, stream_lines};
-ghost use Rattle.kahn_pool.specs.inner.Workbench.{AreKeptOf, AreReady};
+ghost use Rattle.kahn_pool.specs.inner.Workbench.{AreKeptOf, AreStreamsReady};
 ghost use Rattle.kahn_pool.specs.declared.answer.Verdict.TheVariants as verdict;
 ghost use Rattle.kahn_pool.specs.inner.Gathers.{HasEnded, IsRoom};
 ghost use Rattle.kahn_crew.specs.inner.Left.{HaveLeft};
@@ -76,7 +76,7 @@ fn streams_of(
     kept: Vec<Kept>,
 ) -> Vec<Stream>
     requires tasks { AreTasks network.now _input.now _watch tasks.items }
-    requires ready { AreReady network.now _input.now _watch streams.items kept.items (vec_capacity kept) }
+    requires ready { AreStreamsReady network.now _input.now _watch streams.items kept.items (vec_capacity kept) }
     ensures { AreStreams (state_of network.now _input.now _watch tasks.entry.items) result.items (stream_lines (network_of network.now) _watch) }
 {
     let mut kept = all_kept(tasks, kept);

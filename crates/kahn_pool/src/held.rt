@@ -28,8 +28,8 @@ use std::mem;
 use std::sync::Wait;
 use std::thread::Threads;
 
-// The lines of streams.
-fn lines_of(alloc: Global, streams: &[Stream]) -> Result<Vec<Line>, NoMemory>
+/// The lines of streams. It refuses only where memory was refused.
+pub(crate) fn lines_of(alloc: Global, streams: &[Stream]) -> Result<Vec<Line>, NoMemory>
     ensures { IfOk result (λ lines. lines.items ≡ map line_of streams.now) }
 {
     let mut lines = Vec::with_capacity(alloc, streams.len())?;

@@ -8,14 +8,17 @@ mod conclude;
 mod config;
 mod copies;
 mod ends;
+mod flow;
 mod gather;
 mod held;
 mod held_fault;
 mod laws;
+mod lent;
 mod looks;
 mod meeting;
 mod one;
 mod part;
+mod part_alone;
 mod plan;
 mod rounds;
 mod run_queue;
@@ -39,4 +42,5 @@ pub use one::run_one;
 pub use running::run;
 
 // For the crates above.
+pub use flow::Flow;
 pub use laws::{assembled, by_channel};

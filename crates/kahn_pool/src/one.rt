@@ -2,7 +2,7 @@
 
 ghost use Rattle.kahn_network.specs.Network.{network_of};
 ghost use Rattle.kahn_pool.specs.Exact.{IsCutShort, Settles};
-ghost use Rattle.kahn_pool.specs.Limits.{IsRefused};
+ghost use Rattle.kahn_pool.specs.Limits.{IsRefusedRun};
 ghost use Rattle.kahn_pool.specs.Right.{IsRight};
 ghost use Rattle.kahn_streams.specs.Tokens.{inputs_of};
 ghost use Rattle.std.specs.Prelude.{◌≡◌, ◌<◌, ◌^◌, ℕ, length, true, IfOk, IfErr, IfSome, MatchOption, MatchResult, None};
@@ -121,7 +121,7 @@ pub fn run_one(
     ensures right { IfOk result (IsRight (network_of network.now) (inputs_of input) bound None) }
     ensures exact { IfOk result (λ a. Settles (network_of network.now) (inputs_of input) bound a.verdict) }
     ensures short { IfOk result (IsCutShort bound) }
-    ensures refused { IfErr result (IsRefused bound) }
+    ensures refused { IfErr result (IsRefusedRun bound) }
     ensures answered { IfOk result (λ _. bound < 2 ^ 48) }
 {
     if bound > MOST_BOUND {

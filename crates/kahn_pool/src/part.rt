@@ -8,7 +8,7 @@ ghost use Rattle.kahn_job.specs.inner.Idles.{HaveSettled, cells_of, rows_of};
 ghost use Rattle.kahn_job.specs.inner.Settling.{AreResting, HaveStood};
 ghost use Rattle.kahn_job.specs.inner.Works.{Work};
 ghost use Rattle.kahn_pool.specs.inner.Concluded.{IsConcluded};
-ghost use Rattle.kahn_pool.specs.inner.Holding.{AreHeld, HasStopped, IsPart, IsPartOf, IsRoomFor, held_state};
+ghost use Rattle.kahn_pool.specs.inner.Holding.{AreHeld, HasStopped, IsHeldPart, IsPartOf, IsRoomFor, held_state};
 ghost use Rattle.kahn_pool.specs.inner.Rested.{cell_of};
 ghost use Rattle.kahn_pool.specs.declared.answer.Verdict.{Verdict as VerdictOf};
 ghost use Rattle.kahn_pool.specs.declared.answer.Verdict.TheVariants as verdict;
@@ -188,7 +188,7 @@ fn run_settled<'n, R: Threads + Wait + Sync, G: Gate + Sync, L: Ledger>(
     requires name { blank.name ≡ L.name }
     requires parts { blank.parts ≡ L.parts }
     requires some { 0 < blank.parts }
-    requires part { IsPart part.now.network.now part.now.code.now.network.value part.now.input.now part.now.plan part.now.bound idles.items }
+    requires part { IsHeldPart part.now.network.now part.now.code.now.network.value part.now.input.now part.now.plan part.now.bound idles.items }
     requires settled { HaveSettled part.now.network.now part.now.input.now (rows_of idles.items) }
     requires room { IsRoomFor (length (network_of part.now.network.now).instances) room }
     ensures { HasStopped part.now.network.now part.now.input.now part.now.plan.watch part.now.plan.workers part.now.bound idles.items part.now.plan.bound result }
@@ -217,7 +217,7 @@ fn run_marked<'n, R: Threads + Wait + Sync, G: Gate + Sync>(
     room: PartRoom<'n>,
     gate: &G,
 ) -> Stopped
-    requires part { IsPart part.now.network.now part.now.code.now.network.value part.now.input.now part.now.plan part.now.bound idles.items }
+    requires part { IsHeldPart part.now.network.now part.now.code.now.network.value part.now.input.now part.now.plan part.now.bound idles.items }
     requires settled { HaveSettled part.now.network.now part.now.input.now (rows_of idles.items) }
     requires room { IsRoomFor (length (network_of part.now.network.now).instances) room }
     ensures { HasStopped part.now.network.now part.now.input.now part.now.plan.watch part.now.plan.workers part.now.bound idles.items part.now.plan.bound result }
@@ -256,7 +256,7 @@ pub(crate) fn run_part<'n, R: Threads + Wait + Sync, G: Gate + Sync>(
     room: PartRoom<'n>,
     gate: &G,
 ) -> Stopped
-    requires part { IsPart part.now.network.now part.now.code.now.network.value part.now.input.now part.now.plan part.now.bound idles.items }
+    requires part { IsHeldPart part.now.network.now part.now.code.now.network.value part.now.input.now part.now.plan part.now.bound idles.items }
     requires plan { IsPartOf _whole part.now.plan }
     requires room { IsRoomFor (length (network_of part.now.network.now).instances) room }
     ensures { HasStopped part.now.network.now part.now.input.now part.now.plan.watch part.now.plan.workers part.now.bound idles.items part.now.plan.bound result }

@@ -2,7 +2,7 @@
 //! most turns were in vain, those that may go on come one after another before the next round.
 
 ghost use Rattle.kahn_streams.specs.Solution.{source};
-ghost use Rattle.kahn_pool.specs.inner.Bench.{State, HasRun, Paused, Rests, Goes, GoesIn, HasMoved, LacksMemory, HasVisited, IsSameRun, Marked, AreEnds, IsLast, IsVerdict, AreStreams, events_at, all_events, turn_of, weight};
+ghost use Rattle.kahn_pool.specs.inner.Bench.{RunState, HasRunCell, PausedAt, HasEndIn, Goes, GoesIn, HasMoved, LacksMemory, HasVisited, IsSameRun, Marked, AreEnds, IsLast, IsVerdict, AreStreams, events_at, all_events, turn_of, weight};
 ghost use Rattle.kahn_pool.specs.inner.Gathered.{IsFrom};
 ghost use Rattle.kahn_pool.specs.Exact.{IsCutShort};
 ghost use Rattle.kahn_pool.specs.Right.{IsRight, line_of, stream_lines};
@@ -24,23 +24,23 @@ use std::sync::ledger::Ledger;
 // How many visits of those that may go on come between two rounds of all at most, for each instance.
 const VISITS: usize = 64;
 
-// A round in which each cell is run once.
+/// A round in which each cell is run once.
 #[derive(Drop)]
-struct Round {
+pub(crate) struct Round {
     share: u64,
-    left: u64,
-    memory: bool,
+    pub(crate) left: u64,
+    pub(crate) memory: bool,
     moved: bool,
     // How many visits were in vain.
     vain: usize,
-    ends: Vec<End>,
+    pub(crate) ends: Vec<End>,
 }
 
 // The end of an instance that stands so.
 fn end_of(bench: &Bench<'_>, instance: usize, stopped: Pause) -> End
     requires here { instance < length (state_of bench.now).network.instances }
-    requires paused { Paused (state_of bench.now) instance stopped }
-    ensures rests { Rests (state_of bench.now) instance result }
+    requires paused { PausedAt (state_of bench.now) instance stopped }
+    ensures rests { HasEndIn (state_of bench.now) instance result }
     ensures more { result.outcome ≡ outcome.More → (stopped ≡ pause.Spent) ⊎ (stopped ≡ pause.NoMemory) }
 {
     let outcome = match stopped {
@@ -67,7 +67,7 @@ fn run_gated<L: Ledger, G: Gate>(
 ) -> Pause
     requires here { instance < length (state_of bench.old).network.instances }
     requires bound { events_at (state_of bench.old) instance + quantum < 2 ^ 48 }
-    ensures ran { HasRun (state_of bench.old) (state_of bench.new) instance quantum result }
+    ensures ran { HasRunCell (state_of bench.old) (state_of bench.new) instance quantum result }
     ensures worked { HasWorked bench.old bench.new }
 {
     if quantum == 0 || gate.is_open() {
@@ -158,7 +158,7 @@ impl Round {
         requires room { vec_len self.old.ends < vec_capacity self.old.ends }
         requires share { 0 < self.old.share }
         ensures share { self.new.share ≡ self.old.share }
-        ensures goes { (s0 : State) (w0 t0 : ℕ) → GoesIn s0 w0 t0 (state_of bench.old) self.old instance → GoesIn s0 w0 t0 (state_of bench.new) self.new (suc instance) }
+        ensures goes { (s0 : RunState) (w0 t0 : ℕ) → GoesIn s0 w0 t0 (state_of bench.old) self.old instance → GoesIn s0 w0 t0 (state_of bench.new) self.new (suc instance) }
         ensures same { IsSameRun (state_of bench.old) (state_of bench.new) }
         ensures size { vec_len self.new.ends ≡ vec_len self.old.ends + 1 }
         ensures room { vec_capacity self.new.ends ≡ vec_capacity self.old.ends }
@@ -287,8 +287,8 @@ fn run_between<L: Ledger, G: Gate>(
     last
 }
 
-// Rounds, until one in which nothing was done, or there is work for several and the run may be left to them.
-fn last_round<L: Ledger, G: Gate>(
+/// Rounds, until one in which nothing was done, or there is work for several and the run may be left to them.
+pub(crate) fn last_round<L: Ledger, G: Gate>(
     bench: &mut Bench<'_>,
     steps: &mut Steps<L>,
     gate: &G,
@@ -304,6 +304,7 @@ fn last_round<L: Ledger, G: Gate>(
     ensures last { MatchOption result (may_leave ≡ true) (λ r. IsLast (state_of bench.new) (all_events (state_of bench.old) + bound) r.left r.memory r.ends.items) }
     ensures lacks { IfSome result (λ r. LacksMemory (state_of bench.new) r.left r.memory) }
     ensures share { IfSome result (λ r. r.share ≡ quantum) }
+    ensures room { IfSome result (λ r. length (state_of bench.new).network.instances ≤ vec_capacity r.ends) }
     ensures same { IsSameRun (state_of bench.old) (state_of bench.new) }
     ensures worked { HasWorked bench.old bench.new }
 {

@@ -4,7 +4,7 @@ ghost use Rattle.kahn_network.specs.Network.{network_of};
 ghost use Rattle.kahn_pool.specs.Exact.{IsCutShort, Settles};
 ghost use Rattle.kahn_pool.specs.Limits.{IsWant};
 ghost use Rattle.kahn_pool.specs.Right.{IsRight};
-ghost use Rattle.kahn_pool.specs.Runs.{IsRun, IsUndeclared, IsUnrun, IsWatched};
+ghost use Rattle.kahn_pool.specs.Runs.{IsRightRun, IsUndeclared, IsUnrun, IsWatched};
 ghost use Rattle.kahn_pool.specs.declared.config.RunFault.TheVariants.{UnknownWatch};
 ghost use Rattle.kahn_streams.specs.Tokens.{inputs_of};
 ghost use Rattle.std.specs.Prelude.{◌≡◌, ◌<◌, ◌≤◌, ◌^◌, length, IfOk, MatchResult};
@@ -98,7 +98,7 @@ pub fn run<R: Threads + Wait + Sync, G: Gate + Sync>(
     gate: &G,
 ) -> Result<Answer, RunFault>
     requires fits { length input ≡ length (network_of network.now).channels }
-    ensures told { MatchResult result (IsRun network.now input config) (IsUnrun network.now config) }
+    ensures told { MatchResult result (IsRightRun network.now input config) (IsUnrun network.now config) }
     ensures exact { IfOk result (λ a. Settles (network_of network.now) (inputs_of input) config.bound a.verdict) }
     ensures short { IfOk result (λ a. config.workers ≡ 1 → IsCutShort config.bound a) }
 {

@@ -3,7 +3,7 @@
 ghost use Rattle.std.specs.Prelude.{◌≡◌, ℕ, ◌^◌, ◌<◌, length, Some, slice_get};
 ghost use Rattle.kahn_job.specs.inner.Berths.{IsFed, end_at};
 ghost use Rattle.kahn_crew.specs.inner.Tasks.{Tasked};
-ghost use Rattle.kahn_pool.specs.inner.Rested.{HaveSettled, IsSettled, SettlesTo};
+ghost use Rattle.kahn_pool.specs.inner.Rested.{HaveSettledTasks, IsSettledTask, SettlesTo};
 ghost use Rattle.kahn_crew.specs.declared.standing.Standing.TheVariants as standing;
 
 use kahn_code::{Code, Steps};
@@ -22,7 +22,7 @@ fn fed(task: &Task)
 // Says what is known of a task that may not go on: its contract is what it does.
 fn keep(task: &Task)
     requires { task.now.standing ≡ standing.Going → ⊥ }
-    ensures { IsSettled task.now }
+    ensures { IsSettledTask task.now }
 {
     let _standing = task.standing();
     let _parameters = task.parameters();
@@ -58,7 +58,7 @@ fn settle<L: Ledger>(task: &mut Task, code: &Code, steps: &mut Steps<L>)
 pub fn settle_all<L: Ledger>(tasks: &mut Vec<Task>, code: &Code, steps: &mut Steps<L>)
     requires code { (p : ℕ) (x : Tasked) → slice_get tasks.old.items p ≡ Some x → code.now.network.value ≡ x.work.cell.network }
     requires bound { (p : ℕ) (x : Tasked) → slice_get tasks.old.items p ≡ Some x → x.work.cell.events < 2 ^ 48 }
-    ensures { HaveSettled tasks.old.items tasks.new.items }
+    ensures { HaveSettledTasks tasks.old.items tasks.new.items }
 {
     for instance in 0..tasks.len() {
         settle(&mut tasks[instance], code, steps);

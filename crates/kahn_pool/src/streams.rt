@@ -9,9 +9,9 @@ ghost use Rattle.kahn_tree.specs.declared.tree.Role.TheVariants.{Input as InputR
 ghost use Rattle.kahn_streams.specs.declared.value.Line.TheVariants.{Channel as ChannelLine};
 ghost use Rattle.kahn_streams.specs.Solution.{source};
 ghost use Rattle.kahn_streams.specs.Tokens.{inputs_of};
-ghost use Rattle.kahn_code.specs.Cells.{IsKept, is_streamed};
+ghost use Rattle.kahn_code.specs.Cells.{AreKeptTokens, is_streamed};
 ghost use Rattle.kahn_pool.specs.Right.{line_of, channel_lines, print_lines, stream_lines};
-ghost use Rattle.kahn_pool.specs.inner.Streams.{AreAllGiven, AreGiven, AreNamed, IsBegun, IsDeclared, IsBare, kept_lists, AreLists, IsFilled, AreFilled, KeepsOthers, HasInput, HasInputs, HaveInput};
+ghost use Rattle.kahn_pool.specs.inner.Streams.{AreAllGiven, AreGiven, AreNamed, IsBegun, IsDeclared, IsBare, kept_lists, AreLists, IsFilled, AreFilled, KeepsOtherLines, HasInput, HasInputs, HaveInput};
 
 use crate::answer::Stream;
 use kahn_code::Kept;
@@ -130,7 +130,7 @@ fn fill_one(network: &Network, stream: &mut Stream, lists: &mut Vec<Kept>)
     ensures line { stream.new.line ≡ stream.old.line }
     ensures lists { AreLists (network_of network.now) lists.new.items }
     ensures filled { IsFilled (network_of network.now) lists.old.items (source (network_of network.now) stream.old.line) stream.old.line stream.old.tokens.items stream.new.tokens.items }
-    ensures others { KeepsOthers (network_of network.now) stream.old.line lists.old.items lists.new.items }
+    ensures others { KeepsOtherLines (network_of network.now) stream.old.line lists.old.items lists.new.items }
 {
     match stream.line {
         Line::Channel(channel) => {
@@ -169,7 +169,7 @@ fn give_list(
 ) -> Result<(), NoMemory>
     requires begun { IsBegun (network_of network.now) (inputs_of input.now) channel (inputs_of input.now channel) tokens.old.items }
     ensures begun { IsBegun (network_of network.now) (inputs_of input.now) channel (inputs_of input.now channel) tokens.new.items }
-    ensures given { OnOk result (role_at (network_of network.now) channel ≡ InputRole → IsKept (network_of network.now) (inputs_of input.now) (ChannelLine channel) (inputs_of input.now channel) tokens.new.items) }
+    ensures given { OnOk result (role_at (network_of network.now) channel ≡ InputRole → AreKeptTokens (network_of network.now) (inputs_of input.now) (ChannelLine channel) (inputs_of input.now channel) tokens.new.items) }
     ensures others { OnOk result ((role_at (network_of network.now) channel ≡ InputRole → ⊥) → tokens.new.items ≡ tokens.old.items) }
 {
     'tokens: while let Some(token) = input.token(network, channel, tokens.len() as u64) {

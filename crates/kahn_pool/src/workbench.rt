@@ -2,7 +2,7 @@
 
 ghost use Rattle.kahn_network.specs.Network.{network_of};
 ghost use Rattle.kahn_pool.specs.inner.Bench.{AreStreams, all_events};
-ghost use Rattle.kahn_pool.specs.inner.Gathered.{AreWithin};
+ghost use Rattle.kahn_pool.specs.inner.Gathered.{TookNoMore};
 ghost use Rattle.kahn_pool.specs.Right.{stream_lines};
 ghost use Rattle.kahn_pool.specs.inner.Workbench.{AreLeft, AreOpen, state_of};
 ghost use Rattle.std.specs.Prelude.{◌≡◌, ◌≤◌, [], length, IfOk, vec_capacity};
@@ -31,7 +31,7 @@ impl<'n> Model for Workbench<'n> {
     ghost use Rattle.std.specs.Coded.{codes};
     ghost use Rattle.std.specs.Prelude.{◌≡◌, length, vec_capacity};
     ghost use Rattle.kahn_network.specs.Network.{network_of};
-    ghost use Rattle.kahn_pool.specs.inner.Workbench.{Table, AreReady, AreWhole};
+    ghost use Rattle.kahn_pool.specs.inner.Workbench.{Table, AreStreamsReady, AreWhole};
 
     ghost Value = { Table };
 
@@ -40,7 +40,7 @@ impl<'n> Model for Workbench<'n> {
     ghost view = { λ w. w.bench };
 
     ghost invariant = { λ w. (w.bench.network ≡ w.network.now) × AreWhole (length (network_of w.network.now).instances) w.bench.gone
-        × AreReady w.network.now w.bench.input w.bench.watch w.streams.items w.kept.items (vec_capacity w.kept) };
+        × AreStreamsReady w.network.now w.bench.input w.bench.watch w.streams.items w.kept.items (vec_capacity w.kept) };
 }
 
 /// The streams of an answer, in which a watched input channel has its whole list.
@@ -93,7 +93,7 @@ impl<'n> Workbench<'n> {
 
     /// Says that no reader took more than was given: its contract is what it does.
     pub(crate) fn within(&self)
-        ensures { AreWithin (state_of self.now).network (state_of self.now).input (state_of self.now).cells }
+        ensures { TookNoMore (state_of self.now).network (state_of self.now).input (state_of self.now).cells }
     {
         self.bench.within();
     }

@@ -1,7 +1,7 @@
 //! A run by several workers.
 
 ghost use Rattle.kahn_network.specs.Network.{network_of};
-ghost use Rattle.kahn_crew.specs.inner.Wants.{IsWant as LacksWorker};
+ghost use Rattle.kahn_crew.specs.inner.Wants.{IsLack as LacksWorker};
 ghost use Rattle.kahn_pool.specs.Limits.{IsWant};
 ghost use Rattle.kahn_pool.specs.Right.{IsRight};
 ghost use Rattle.kahn_pool.specs.inner.Gathers.{IsRoom};

@@ -12,24 +12,24 @@ use Rattle.kahn_code.specs.Cells.{View}
 use Rattle.kahn_pool.specs.declared.answer.End.{End}
 use Rattle.kahn_pool.specs.declared.answer.Outcome.TheVariants.{More}
 use Rattle.kahn_pool.specs.declared.answer.Verdict.{Verdict}
-use Rattle.kahn_pool.specs.inner.Gathered.{view_at, Stood, TookAll, HasUntaken, IsAtRest, IsFrom}
+use Rattle.kahn_pool.specs.inner.Gathered.{view_at, Stood, TookAll, HasUntaken, EndsWith, IsFrom}
 use Rattle.kahn_pool.specs.Right.{line_of}
 use Rattle.kahn_pool.specs.declared.answer.Stream.{Stream}
 use Rattle.kahn_pool.specs.declared.rounds.Round.{Round}
 use Rattle.kahn_pool.specs.declared.answer.Verdict.TheVariants.{Finished, Bound, Memory}
 use Rattle.kahn_streams.specs.declared.value.Line.{Line}
 
-pub record State : Type 0 where
+pub record RunState : Type 0 where
   pub network : Network
   pub input : Inputs
   pub watch : Option ℕ
   pub cells : List View
 
-abbrev pub events_at : State → ℕ → ℕ
+abbrev pub events_at : RunState → ℕ → ℕ
 events_at s p = (view_at s.cells p).events
 
 -- what a pause says of the outcome
-abbrev pub IsPaused : State → ℕ → Pause → script.Outcome Store → Type 0
+abbrev pub IsPaused : RunState → ℕ → Pause → script.Outcome Store → Type 0
 IsPaused s p pause.Ended o = ending o ≡ Some net.Ended
 IsPaused s p (pause.Fault k) o = ending o ≡ Some (net.Faulted k)
 IsPaused s p (pause.Dry q) o =
@@ -37,32 +37,32 @@ IsPaused s p (pause.Dry q) o =
 IsPaused s p pause.Spent o = (o ≡ Cut) ⊎ HasUntaken s.network s.input s.cells p o
 IsPaused s p pause.NoMemory o = o ≡ Cut
 
-pub record Paused (s : State) (p : ℕ) (z : Pause) : Type 0 where
+pub record PausedAt (s : RunState) (p : ℕ) (z : Pause) : Type 0 where
   pub stood : Stood s.network s.input s.watch p (view_at s.cells p)
   pub told : IsPaused s p z (exec_at s.network (events_at s p) p stood.tapes).outcome
 
 -- of the same network and input, with the same channel watched
-abbrev pub IsSameRun : State → State → Type 0
+abbrev pub IsSameRun : RunState → RunState → Type 0
 IsSameRun s t = (t.network ≡ s.network) × (t.input ≡ s.input) × (t.watch ≡ s.watch)
 
 -- the cell of p was run for at most so many events, and paused so
-pub record HasRun (s t : State) (p quantum : ℕ) (z : Pause) : Type 0 where
+pub record HasRunCell (s t : RunState) (p quantum : ℕ) (z : Pause) : Type 0 where
   pub same : IsSameRun s t
   -- the other cells are left as they are
   pub only : t.cells ≡ slice_set s.cells p (view_at t.cells p)
   pub events : (events_at s p ≤ events_at t p) × (events_at t p ≤ events_at s p + quantum)
   -- where no event was done all is as before
   pub still : events_at t p ≡ events_at s p → t ≡ s
-  pub paused : Paused t p z
+  pub paused : PausedAt t p z
   pub spent : z ≡ pause.Spent → events_at t p ≡ events_at s p + quantum
   pub wanted : z ≡ pause.NoMemory → events_at t p < events_at s p + quantum
 
-abbrev pub Rests : State → ℕ → End → Type 0
-Rests s p x = IsAtRest s.network s.input s.watch s.cells p x
+abbrev pub HasEndIn : RunState → ℕ → End → Type 0
+HasEndIn s p x = EndsWith s.network s.input s.watch s.cells p x
 
 -- where memory was refused, so much is left of the bound and some instance stands where it paused for want of memory
-abbrev pub LacksMemory : State → ℕ → Bool → Type 0
-LacksMemory s left memory = memory ≡ true → (0 < left) × ((p : ℕ) × (p < length s.cells) × Paused s p pause.NoMemory)
+abbrev pub LacksMemory : RunState → ℕ → Bool → Type 0
+LacksMemory s left memory = memory ≡ true → (0 < left) × ((p : ℕ) × (p < length s.cells) × PausedAt s p pause.NoMemory)
 
 -- ---- rounds
 
@@ -70,7 +70,7 @@ abbrev pub view_events : View → ℕ
 view_events v = v.events
 
 -- the events of all instances
-abbrev pub all_events : State → ℕ
+abbrev pub all_events : RunState → ℕ
 all_events s = sum_by view_events s.cells
 
 -- how much there is to do: it falls with each event, and where memory is wanted for the first time
@@ -78,12 +78,12 @@ abbrev pub weight : ℕ → Bool → ℕ
 weight left memory = left + cond memory 0 1
 
 -- each end is that of its instance, which wants more only where it may not go on
-abbrev pub AreEnds : State → ℕ → Bool → List End → Type 0
+abbrev pub AreEnds : RunState → ℕ → Bool → List End → Type 0
 AreEnds s left memory ends =
-    (p : ℕ) (x : End) → slice_get ends p ≡ Some x → Rests s p x × (x.outcome ≡ More → (left ≡ 0) ⊎ (memory ≡ true))
+    (p : ℕ) (x : End) → slice_get ends p ≡ Some x → HasEndIn s p x × (x.outcome ≡ More → (left ≡ 0) ⊎ (memory ≡ true))
 
 -- a round from s0 with so much to do and so many events in all, at instance k
-pub record Goes (s0 : State) (w0 t0 : ℕ) (s : State) (left : ℕ) (memory moved : Bool) (ends : List End) (k : ℕ) : Type 0 where
+pub record Goes (s0 : RunState) (w0 t0 : ℕ) (s : RunState) (left : ℕ) (memory moved : Bool) (ends : List End) (k : ℕ) : Type 0 where
   pub network : s.network ≡ s0.network
   pub input : s.input ≡ s0.input
   pub watch : s.watch ≡ s0.watch
@@ -95,7 +95,7 @@ pub record Goes (s0 : State) (w0 t0 : ℕ) (s : State) (left : ℕ) (memory move
   pub rises : weight left memory ≤ w0
   pub lacks : LacksMemory s left memory
 
-abbrev pub GoesIn : State → ℕ → ℕ → State → Round → ℕ → Type 0
+abbrev pub GoesIn : RunState → ℕ → ℕ → RunState → Round → ℕ → Type 0
 GoesIn s0 w0 t0 s r k = Goes s0 w0 t0 s r.left r.memory r.moved r.ends.items k
 
 -- how a round is marked after so many events and this pause
@@ -109,22 +109,22 @@ abbrev pub turn_of : ℕ → ℕ → Bool → ℕ
 turn_of share left memory = cond memory 0 (min share left)
 
 -- an instance was visited: run for at most so many events, after which it stands so, and the round is marked
-pub record HasVisited (s t : State) (old new : Round) (p : ℕ) (x : End) : Type 0 where
+pub record HasVisited (s t : RunState) (old new : Round) (p : ℕ) (x : End) : Type 0 where
   pub quantum : ℕ
   pub turn : quantum ≡ turn_of old.share old.left old.memory
   pub most : quantum ≤ cond old.memory 0 old.left
   pub none : quantum ≡ 0 → (old.left ≡ 0) ⊎ (old.memory ≡ true)
   pub stopped : Pause
-  pub ran : HasRun s t p quantum stopped
+  pub ran : HasRunCell s t p quantum stopped
   pub done : ℕ
   pub counts : events_at s p + done ≡ events_at t p
   pub left : new.left + done ≡ old.left
   pub marked : Marked stopped done old.memory old.moved new.memory new.moved
-  pub rests : Rests t p x
+  pub rests : HasEndIn t p x
   pub more : x.outcome ≡ More → (stopped ≡ pause.Spent) ⊎ (stopped ≡ pause.NoMemory)
 
 -- instances were visited, with so much left before and after it
-pub record HasMoved (s t : State) (left : ℕ) (memory : Bool) (left' : ℕ) (memory' : Bool) : Type 0 where
+pub record HasMoved (s t : RunState) (left : ℕ) (memory : Bool) (left' : ℕ) (memory' : Bool) : Type 0 where
   pub same : IsSameRun s t
   pub known : length t.cells ≡ length t.network.instances
   pub total : all_events t + left' ≡ all_events s + left
@@ -132,7 +132,7 @@ pub record HasMoved (s t : State) (left : ℕ) (memory : Bool) (left' : ℕ) (me
   pub lacks : LacksMemory s left memory → LacksMemory t left' memory'
 
 -- after the last round: with so many events and so much left in all, each end is that of its instance
-pub record IsLast (s : State) (t0 left : ℕ) (memory : Bool) (xs : List End) : Type 0 where
+pub record IsLast (s : RunState) (t0 left : ℕ) (memory : Bool) (xs : List End) : Type 0 where
   pub known : length s.cells ≡ length s.network.instances
   pub total : all_events s + left ≡ t0
   pub size : length xs ≡ length s.network.instances
@@ -145,6 +145,6 @@ IsVerdict memory ends Finished = (memory ≡ false) × ((p : ℕ) (x : End) → 
 IsVerdict memory ends Bound = (memory ≡ false) × ((p : ℕ) × (x : End) × (slice_get ends p ≡ Some x) × (x.outcome ≡ More))
 
 -- these are the streams of the answer
-pub record AreStreams (s : State) (streams : List Stream) (lines : List Line) : Type 0 where
+pub record AreStreams (s : RunState) (streams : List Stream) (lines : List Line) : Type 0 where
   pub named : map line_of streams ≡ lines
   pub each : (j : ℕ) (x : Stream) → slice_get streams j ≡ Some x → IsFrom s.network s.input s.watch s.cells (source s.network x.line) x.line x.tokens.items

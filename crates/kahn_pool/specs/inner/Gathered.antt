@@ -17,7 +17,7 @@ use Rattle.kahn_pool.specs.declared.answer.Verdict.{Verdict}
 use Rattle.kahn_pool.specs.declared.answer.Verdict.TheVariants.{Finished, Bound}
 use Rattle.kahn_pool.specs.declared.answer.Outcome.{Outcome}
 use Rattle.kahn_pool.specs.declared.answer.Outcome.TheVariants.{Ended, Waits, Faulted, More}
-use Rattle.kahn_code.specs.Cells.{AllStand, View, IsKept, is_streamed}
+use Rattle.kahn_code.specs.Cells.{AllStand, View, AreKeptTokens, is_streamed}
 use Rattle.kahn_pool.specs.Right.{line_of, events_of, stream_lines, HasStream}
 
 abbrev pub nothing : View
@@ -37,8 +37,8 @@ pub record Stood (N : Network) (I : Inputs) (watch : Option ℕ) (p : ℕ) (c : 
   pub only : (d : Line) → (tapes d ≡ []) ⊎ ((q b : ℕ) × (d ≡ Channel b) × (actual_at (instance_at N p) q ≡ Reads b))
   pub gave : (q d : ℕ) → actual_at (instance_at N p) q ≡ Writes d → length (out N c.events p tapes (Channel d)) ≡ c.sent q
   pub kept : (q d : ℕ) → actual_at (instance_at N p) q ≡ Writes d → is_streamed N watch d ≡ true →
-      IsKept N I (Channel d) (out N c.events p tapes (Channel d)) (c.kept q)
-  pub printed : IsKept N I (Print p) (out N c.events p tapes (Print p)) c.printed
+      AreKeptTokens N I (Channel d) (out N c.events p tapes (Channel d)) (c.kept q)
+  pub printed : AreKeptTokens N I (Print p) (out N c.events p tapes (Print p)) c.printed
 
 -- so many values were given to channel c, by its writer or by the input
 abbrev pub IsGiven : Network → Inputs → List View → ℕ → Source → ℕ → Type 0
@@ -47,8 +47,8 @@ IsGiven N I cells c (Written w) n = (o : ℕ) × (actual_at (instance_at N w) o 
 IsGiven N I cells c Nobody n = ⊥
 
 -- no reader took more than was given
-abbrev pub AreWithin : Network → Inputs → List View → Type 0
-AreWithin N I cells =
+abbrev pub TookNoMore : Network → Inputs → List View → Type 0
+TookNoMore N I cells =
     (p q c : ℕ) → actual_at (instance_at N p) q ≡ Reads c → (n : ℕ) × IsGiven N I cells c (source N (Channel c)) n × ((view_at cells p).taken q ≤ n)
 
 -- instance p reads c, of which it took all
@@ -61,21 +61,21 @@ HasUntaken N I cells p o =
     (q c n : ℕ) × (actual_at (instance_at N p) q ≡ Reads c) × (o ≡ Dry q) × IsGiven N I cells c (source N (Channel c)) n × ((view_at cells p).taken q < n)
 
 -- the rule of outcomes: what stands in the answer for a cell that is so
-abbrev pub IsTold : Network → Inputs → List View → ℕ → script.Outcome Store → Outcome → Type 0
-IsTold N I cells p o Ended = ending o ≡ Some net.Ended
-IsTold N I cells p o (Faulted k) = ending o ≡ Some (net.Faulted k)
-IsTold N I cells p o (Waits c) = (q : ℕ) × (actual_at (instance_at N p) q ≡ Reads c) × (o ≡ Dry q) × TookAll N I cells p q c
-IsTold N I cells p o More = (o ≡ Cut) ⊎ HasUntaken N I cells p o
+abbrev pub IsOutcomeOf : Network → Inputs → List View → ℕ → script.Outcome Store → Outcome → Type 0
+IsOutcomeOf N I cells p o Ended = ending o ≡ Some net.Ended
+IsOutcomeOf N I cells p o (Faulted k) = ending o ≡ Some (net.Faulted k)
+IsOutcomeOf N I cells p o (Waits c) = (q : ℕ) × (actual_at (instance_at N p) q ≡ Reads c) × (o ≡ Dry q) × TookAll N I cells p q c
+IsOutcomeOf N I cells p o More = (o ≡ Cut) ⊎ HasUntaken N I cells p o
 
 -- the cell of p stands so, and x is its end
-pub record IsAtRest (N : Network) (I : Inputs) (watch : Option ℕ) (cells : List View) (p : ℕ) (x : End) : Type 0 where
+pub record EndsWith (N : Network) (I : Inputs) (watch : Option ℕ) (cells : List View) (p : ℕ) (x : End) : Type 0 where
   pub stood : Stood N I watch p (view_at cells p)
   pub count : x.events ≡ (view_at cells p).events
-  pub told : IsTold N I cells p (exec_at N (view_at cells p).events p stood.tapes).outcome x.outcome
+  pub told : IsOutcomeOf N I cells p (exec_at N (view_at cells p).events p stood.tapes).outcome x.outcome
 
 -- these tokens are the stream of line c: what its writer kept, or the input's list
 abbrev pub IsFrom : Network → Inputs → Option ℕ → List View → Source → Line → List Token → Type 0
-IsFrom N I watch cells Given (Channel c) ts = IsKept N I (Channel c) (I c) ts
+IsFrom N I watch cells Given (Channel c) ts = AreKeptTokens N I (Channel c) (I c) ts
 IsFrom N I watch cells (Written p) (Channel c) ts =
     (q : ℕ) × (actual_at (instance_at N p) q ≡ Writes c) × (is_streamed N watch c ≡ true) × (ts ≡ (view_at cells p).kept q)
 IsFrom N I watch cells (Written p) (Print r) ts = ts ≡ (view_at cells p).printed
@@ -92,9 +92,9 @@ pub record IsStopped (N : Network) (I : Inputs) (bound : ℕ) (watch : Option �
   pub cells : List View
   pub known : length cells ≡ length N.instances
   pub instances : length ends ≡ length N.instances
-  pub each : (p : ℕ) (x : End) → slice_get ends p ≡ Some x → IsAtRest N I watch cells p x
+  pub each : (p : ℕ) (x : End) → slice_get ends p ≡ Some x → EndsWith N I watch cells p x
   -- from the channels
-  pub channels : AreWithin N I cells
+  pub channels : TookNoMore N I cells
   -- the rule of verdicts
   pub finished : v ≡ Finished → (p : ℕ) (x : End) → slice_get ends p ≡ Some x → x.outcome ≡ More → ⊥
   pub bounded : v ≡ Bound → (events ≡ bound) × ((p : ℕ) × (x : End) × (slice_get ends p ≡ Some x) × (x.outcome ≡ More))

@@ -9,7 +9,7 @@ use Rattle.kahn_code.specs.Cells.{View, StoodBy}
 use Rattle.kahn_code.specs.Told.{Told, told_view}
 use Rattle.kahn_job.specs.inner.Idles.{AreIdle, cells_of}
 use Rattle.kahn_job.specs.inner.Works.{Work}
-use Rattle.kahn_pool.specs.inner.Bench.{State}
+use Rattle.kahn_pool.specs.inner.Bench.{RunState}
 use Rattle.kahn_pool.specs.inner.Streams.{AreAllGiven, AreGiven}
 use Rattle.kahn_pool.specs.inner.Concluded.{IsConcluded}
 use Rattle.kahn_config.specs.Limits.{IsInRange}
@@ -17,7 +17,7 @@ use Rattle.kahn_pool.specs.declared.answer.End.{End}
 use Rattle.kahn_pool.specs.declared.answer.Verdict.{Verdict}
 use Rattle.kahn_pool.specs.declared.part.PartRoom.{PartRoom}
 use Rattle.kahn_pool.specs.declared.part.Stopped.{Stopped}
-use Rattle.kahn_crew.specs.inner.Wants.{IsWant}
+use Rattle.kahn_crew.specs.inner.Wants.{IsLack}
 use Rattle.kahn_crew.specs.declared.plan.Plan.{Plan}
 use Rattle.kahn_crew.specs.declared.fault.CrewFault.TheVariants.{NoMemory}
 
@@ -32,7 +32,7 @@ abbrev pub work_events : Work → ℕ
 work_events w = w.cell.events
 
 -- what rounds see of the jobs
-abbrev pub held_state : Program → Lists → Option ℕ → List Work → State
+abbrev pub held_state : Program → Lists → Option ℕ → List Work → RunState
 held_state t lists watch ws = record { network = network_of t; input = inputs_of lists; watch = watch; cells = cells_seen ws }
 
 -- the jobs of all instances at rest, with so much left of the bound; what each cell says is true of its process
@@ -43,7 +43,7 @@ pub record AreHeld (t : Program) (lists : Lists) (watch : Option ℕ) (bound : �
   pub events : budget + sum_by work_events ws ≡ bound
 
 -- where there is a verdict, it and the ends are those of the last part
-abbrev pub AreEnded : State → ℕ → ℕ → List End → Option Verdict → Type 0
+abbrev pub AreEnded : RunState → ℕ → ℕ → List End → Option Verdict → Type 0
 AreEnded s bound budget ends None = Unit {0}
 AreEnded s bound budget ends (Some v) = (halted : Bool) × IsConcluded s bound budget halted v ends
 
@@ -70,7 +70,7 @@ abbrev pub HaveRisen : List Work → List Work → Type 0
 HaveRisen old new = (p : ℕ) (w v : Work) → slice_get old p ≡ Some w → slice_get new p ≡ Some v → HasRisen w v
 
 -- such a part may run: the code is the network's, the numbers are within their limits, and the jobs are those of a held run
-pub record IsPart (t compiled : Program) (lists : Lists) (plan : Plan) (bound : ℕ) (ws : List Work) : Type 0 where
+pub record IsHeldPart (t compiled : Program) (lists : Lists) (plan : Plan) (bound : ℕ) (ws : List Work) : Type 0 where
   pub code : compiled ≡ t
   pub few : (1 ≤ plan.workers) × (plan.workers ≤ 16)
   pub quantum : 0 < plan.quantum
@@ -88,7 +88,7 @@ pub record HasStopped (t : Program) (lists : Lists) (watch : Option ℕ) (worker
   pub risen : HaveRisen old r.idles.items
   pub outcome : MatchResult r.outcome
       (λ v. (halted : Bool) × IsConcluded (held_state t lists watch r.idles.items) bound r.budget halted v r.ends.items)
-      (IsWant workers)
+      (IsLack workers)
   pub untouched : r.outcome ≡ Err NoMemory → (r.budget ≡ more) × (map cell_alone (cells_of r.idles.items) ≡ map cell_alone (cells_of old))
 
 -- there is room for so many tasks, jobs and ends

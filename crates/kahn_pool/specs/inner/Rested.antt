@@ -14,9 +14,9 @@ use Rattle.kahn_job.specs.inner.Berths.{IsFed, end_at}
 use Rattle.kahn_job.specs.inner.Works.{Work, IsJob}
 use Rattle.kahn_crew.specs.declared.standing.Standing.{Standing}
 use Rattle.kahn_crew.specs.declared.standing.Standing.TheVariants as standing
-use Rattle.kahn_crew.specs.inner.Tasks.{Tasked, Continues, IsStanding, handed}
+use Rattle.kahn_crew.specs.inner.Tasks.{Tasked, Continues, TellsOutcome, handed}
 use Rattle.kahn_crew.specs.inner.Left.{AreAll}
-use Rattle.kahn_pool.specs.inner.Bench.{State}
+use Rattle.kahn_pool.specs.inner.Bench.{RunState}
 use Rattle.kahn_pool.specs.declared.answer.End.{End}
 use Rattle.kahn_pool.specs.declared.answer.Outcome.{Outcome}
 use Rattle.kahn_pool.specs.declared.answer.Outcome.TheVariants as outcome
@@ -25,12 +25,12 @@ abbrev pub cell_of : Tasked → Told
 cell_of x = x.work.cell
 
 -- what rounds see of the tasks
-abbrev pub state_of : Program → Lists → Option ℕ → List Tasked → State
+abbrev pub state_of : Program → Lists → Option ℕ → List Tasked → RunState
 state_of t lists watch tasks =
     record { network = network_of t; input = inputs_of lists; watch = watch; cells = map told_view (map cell_of tasks) }
 
 -- the task is that of instance p
-pub record IsTaskOf (t : Program) (lists : Lists) (watch : Option ℕ) (p : ℕ) (x : Tasked) : Type 0 where
+pub record IsInstanceTask (t : Program) (lists : Lists) (watch : Option ℕ) (p : ℕ) (x : Tasked) : Type 0 where
   pub network : x.work.cell.network ≡ t
   pub input : x.work.cell.input ≡ lists
   pub instance : x.work.cell.instance ≡ p
@@ -39,21 +39,21 @@ pub record IsTaskOf (t : Program) (lists : Lists) (watch : Option ℕ) (p : ℕ)
 -- the tasks of all instances, in order
 pub record AreTasks (t : Program) (lists : Lists) (watch : Option ℕ) (tasks : List Tasked) : Type 0 where
   pub count : length tasks ≡ length (network_of t).instances
-  pub each : (p : ℕ) (x : Tasked) → slice_get tasks p ≡ Some x → IsTaskOf t lists watch p x
+  pub each : (p : ℕ) (x : Tasked) → slice_get tasks p ≡ Some x → IsInstanceTask t lists watch p x
 
 -- what it says of the outcome of a process that no more is run: where it may go on it has a next event, or a token is
 -- ready on the channel that it reads
 abbrev pub IsSaid : Work → Standing → script.Outcome Store → Type 0
 IsSaid w standing.Going o = (o ≡ Cut) ⊎ ((q d : ℕ) × (handed w q ≡ Reads d) × (o ≡ Dry q) × IsReady (end_at w.ends q))
-IsSaid w standing.Ended o = IsStanding standing.Ended o
-IsSaid w (standing.Faulted k) o = IsStanding (standing.Faulted k) o
-IsSaid w (standing.Dry q) o = IsStanding (standing.Dry q) o
+IsSaid w standing.Ended o = TellsOutcome standing.Ended o
+IsSaid w (standing.Faulted k) o = TellsOutcome (standing.Faulted k) o
+IsSaid w (standing.Dry q) o = TellsOutcome (standing.Dry q) o
 
 abbrev pub Says : Work → Standing → Type 0
 Says w s =
     Paused (network_of w.cell.network) (inputs_of w.cell.input) w.cell.watch w.cell.instance (told_view w.cell) (IsSaid w s)
 
-pub record IsSettled (x : Tasked) : Type 0 where
+pub record IsSettledTask (x : Tasked) : Type 0 where
   pub says : Says x.work x.standing
   pub job : IsJob x.work
   pub fed : (q : ℕ) → IsFed (end_at x.work.ends q)
@@ -63,9 +63,9 @@ pub record SettlesTo (old new : Tasked) : Type 0 where
   pub later : Continues old new
   pub events : new.work.cell.events ≡ old.work.cell.events
   pub still : (old.standing ≡ standing.Going → ⊥) → new ≡ old
-  pub settled : IsSettled new
+  pub settled : IsSettledTask new
 
-pub record HaveSettled (old new : List Tasked) : Type 0 where
+pub record HaveSettledTasks (old new : List Tasked) : Type 0 where
   pub count : length new ≡ length old
   pub each : (p : ℕ) (x y : Tasked) → slice_get old p ≡ Some x → slice_get new p ≡ Some y → SettlesTo x y
 
@@ -98,6 +98,6 @@ pub record IsEndOf (t : Program) (lists : Lists) (tasks : List Tasked) (x : Task
   pub told : IsToldAs t lists tasks x e.outcome
 
 -- the ends of the first n of these tasks
-pub record AreEndsOf (t : Program) (lists : Lists) (tasks : List Tasked) (ends : List End) (n : ℕ) : Type 0 where
+pub record AreEndsOfTasks (t : Program) (lists : Lists) (tasks : List Tasked) (ends : List End) (n : ℕ) : Type 0 where
   pub count : length ends ≡ n
   pub each : (p : ℕ) (x : Tasked) (e : End) → slice_get tasks p ≡ Some x → slice_get ends p ≡ Some e → IsEndOf t lists tasks x e

@@ -8,7 +8,7 @@ use Rattle.kahn_streams.specs.declared.token.Token.{Token}
 use Rattle.kahn_streams.specs.Solution.{Inputs, IsPrefix, source}
 use Rattle.kahn_network.specs.Network.{Network, Writes, Source, Given, Written, Nobody, instance_at, actual_at, role_at}
 use Rattle.kahn_code.specs.declared.cell.Kept.{Kept}
-use Rattle.kahn_code.specs.Cells.{IsKept, IsOwn, token_value}
+use Rattle.kahn_code.specs.Cells.{AreKeptTokens, IsOwn, token_value}
 use Rattle.kahn_pool.specs.declared.answer.Stream.{Stream}
 use Rattle.kahn_pool.specs.Right.{line_of, stream_lines}
 
@@ -62,8 +62,8 @@ pub record AreFilled {A : Type 0} (N : Network) (ls : List (Kept A)) (old new : 
       IsFilled N ls (source N y.line) y.line x.tokens.items y.tokens.items
 
 -- the lists of every other line are as before
-abbrev pub KeepsOthers : {A : Type 0} → Network → Line → List (Kept A) → List (Kept A) → Type 0
-KeepsOthers N c old new =
+abbrev pub KeepsOtherLines : {A : Type 0} → Network → Line → List (Kept A) → List (Kept A) → Type 0
+KeepsOtherLines N c old new =
     (d : Line) → (d ≡ c → ⊥) → (before after : List Token) → IsFilled N new (source N d) d before after → IsFilled N old (source N d) d before after
 
 -- ---- streams that are given the lists of the input
@@ -85,11 +85,11 @@ AreAllGiven N I watch ts = (c : ℕ) → watch ≡ Some c → role_at N c ≡ In
 -- each stream of an input channel has the whole list of that channel
 abbrev pub HasInputs : Network → Inputs → List Stream → Type 0
 HasInputs N I streams =
-    (j c : ℕ) (x : Stream) → slice_get streams j ≡ Some x → x.line ≡ Channel c → source N (Channel c) ≡ Given → IsKept N I (Channel c) (I c) x.tokens.items
+    (j c : ℕ) (x : Stream) → slice_get streams j ≡ Some x → x.line ≡ Channel c → source N (Channel c) ≡ Given → AreKeptTokens N I (Channel c) (I c) x.tokens.items
 
 -- a line of this source with these tokens before has those after: the whole list of an input channel; all others stay
 abbrev pub HasInput : Network → Inputs → Source → Line → List Token → List Token → Type 0
-HasInput N I Given (Channel c) before after = IsKept N I (Channel c) (I c) after
+HasInput N I Given (Channel c) before after = AreKeptTokens N I (Channel c) (I c) after
 HasInput N I Given (Print r) before after = after ≡ before
 HasInput N I (Written p) c before after = after ≡ before
 HasInput N I Nobody c before after = after ≡ before

@@ -1,16 +1,20 @@
 -- Inner. The cells of a network over its plain queues, as a run on one thread has them.
-use Rattle.std.specs.Prelude.{◌≡◌, ℕ, ◌+◌, ◌≤◌, ◌==◌, List, [], ◌∷◌, ◌++◌, length, map, replicate, Option, Some, slice_get, if◌then◌else◌}
+use Rattle.std.specs.Prelude.{◌≡◌, ◌⊎◌, ℕ, ◌+◌, ◌<◌, ◌≤◌, ◌^◌, ◌==◌, List, [], ◌∷◌, ◌++◌, length, map, replicate, Option, Some, slice_get, slice_index_or, if◌then◌else◌}
 use Rattle.kahn_tree.specs.declared.tree.Program.{Program}
 use Rattle.kahn_network.specs.Network.{network_of, instance_at}
 use Rattle.kahn_network.specs.Wiring.{IsWellWired}
+use Rattle.kahn_streams.specs.declared.token.Token.{Token}
+use Rattle.kahn_streams.specs.Entries.{most_values}
 use Rattle.kahn_streams.specs.Tokens.{Lists, inputs_of}
 use Rattle.kahn_code.specs.Lines.{Lines as Queues, place_at, waiting_of}
+use Rattle.kahn_code.specs.Cells.{StoodBy}
+use Rattle.kahn_code.specs.Standing.{tokens}
 use Rattle.kahn_code.specs.Told.{Told, told_view, IsAt}
 use Rattle.kahn_code.specs.declared.cell.Kept.{Kept}
 use Rattle.kahn_code.specs.inner.Gone.{Gone, kept_behind, nothing_gone}
-use Rattle.kahn_code.specs.inner.Tapped.{Tapped}
-use Rattle.kahn_pool.specs.inner.Bench.{State, events_at}
-use Rattle.kahn_pool.specs.HeldRuns.{seen_of}
+use Rattle.kahn_code.specs.inner.Tapped.{HasForgotten, Tapped}
+use Rattle.kahn_pool.specs.inner.Bench.{RunState, events_at}
+use Rattle.kahn_pool.specs.HeldRuns.{seen_at, seen_of}
 use Rattle.kahn_pool.specs.Right.{line_of, stream_lines}
 use Rattle.kahn_pool.specs.inner.Streams.{HasInputs, kept_lists, printed_list}
 use Rattle.kahn_pool.specs.declared.answer.Stream.{Stream}
@@ -41,7 +45,7 @@ abbrev pub AreWhole : ℕ → List Gone → Type 0
 AreWhole n gone = gone ≡ replicate n nothing_gone
 
 -- what rounds see of it
-abbrev pub state_of : Table → State
+abbrev pub state_of : Table → RunState
 state_of b = record { network = network_of b.network; input = inputs_of b.input; watch = b.watch; cells = map told_view b.cells }
 
 -- later, on the same network and input with the same channel watched: nothing more was let go of, and no instance has fewer events
@@ -62,6 +66,55 @@ pub record HasTakenIn (c n : ℕ) (input : Lists) (old new : Table) : Type 0 whe
   pub seen : map seen_of new.cells ≡ map seen_of old.cells
   pub waiting : (d : ℕ) → waiting_of (slice_get new.queues.queues d) ≡ waiting_of (slice_get old.queues.queues d) + (if c == d then n else 0)
 
+-- what these cells say of their processes is true
+abbrev pub AllStandBy : Program → Option ℕ → List Told → Type 0
+AllStandBy t watch cells = (p : ℕ) (c : Told) → slice_get cells p ≡ Some c → StoodBy (network_of t) (inputs_of c.input) watch p (told_view c)
+
+-- each tap has let go of all that it kept
+pub record HaveForgotten (old new : List Tapped) : Type 0 where
+  pub count : length new ≡ length old
+  pub each : (p : ℕ) (x y : Tapped) → slice_get old p ≡ Some x → slice_get new p ≡ Some y → HasForgotten x y
+
+-- what its tap says of a process
+abbrev pub StandsAsTold : Program → Tapped → Type 0
+StandsAsTold t x = StoodBy (network_of t) (inputs_of x.told.input) x.told.watch x.told.instance (told_view x.told)
+
+-- all that a cell kept
+abbrev pub all_of : Told → Gone
+all_of c = record { kept = c.kept; printed = c.printed }
+
+-- all that the cells kept is let go of, of each at its place, and nothing else changes
+pub record HasEmptied (old new : Table) : Type 0 where
+  pub network : new.network ≡ old.network
+  pub input : new.input ≡ old.input
+  pub watch : new.watch ≡ old.watch
+  pub gone : new.gone ≡ map all_of old.cells
+  pub views : map told_view new.cells ≡ map told_view old.cells
+  pub seen : map seen_of new.cells ≡ map seen_of old.cells
+  pub queues : new.queues ≡ old.queues
+
+-- these tokens are what instance p kept on parameter q since that was last let go of
+abbrev pub HasFresh : Table → ℕ → ℕ → List Token → Type 0
+HasFresh b p q ts = tokens (seen_at (map seen_of b.cells) p).kept q ≡ tokens (slice_index_or b.gone p nothing_gone).kept q ++ ts
+
+-- these are what it printed since
+abbrev pub HasFreshPrints : Table → ℕ → List Token → Type 0
+HasFreshPrints b p ts = (seen_at (map seen_of b.cells) p).printed ≡ (slice_index_or b.gone p nothing_gone).printed ++ ts
+
+-- how many values wait on channel c, and how many its list has
+abbrev pub waiting_at : Table → ℕ → ℕ
+waiting_at b c = waiting_of (slice_get b.queues.queues c)
+
+abbrev pub given_at : Table → ℕ → ℕ
+given_at b c = length (inputs_of b.input c)
+
+-- n values more of channel c may be poured, and that is the place of the first; or they may not be
+abbrev pub IsNextPlace : Table → ℕ → ℕ → ℕ → Type 0
+IsNextPlace b c n place = (waiting_at b c + n ≤ most_values) × (given_at b c + n < 2 ^ 48) × (place ≡ given_at b c)
+
+abbrev pub IsCrowded : Table → ℕ → ℕ → Type 0
+IsCrowded b c n = (most_values < waiting_at b c + n) ⊎ (2 ^ 48 ≤ given_at b c + n)
+
 -- the cell is that of instance p, and stands where the queues stand
 pub record IsSeated (b : Table) (p : ℕ) (c : Told) : Type 0 where
   pub network : c.network ≡ b.network
@@ -80,7 +133,7 @@ pub record IsLaid (b : Table) : Type 0 where
   pub input : b.queues.input ≡ b.input
 
 -- the cell of instance p at its opening
-pub record IsOpening (t : Program) (lists : Lists) (watch : Option ℕ) (p : ℕ) (c : Told) : Type 0 where
+pub record IsOpeningCell (t : Program) (lists : Lists) (watch : Option ℕ) (p : ℕ) (c : Told) : Type 0 where
   pub network : c.network ≡ t
   pub input : c.input ≡ lists
   pub instance : c.instance ≡ p
@@ -90,9 +143,9 @@ pub record IsOpening (t : Program) (lists : Lists) (watch : Option ℕ) (p : ℕ
   pub sent : c.sent ≡ replicate (length (instance_at (network_of t) p).actuals) 0
 
 -- the cells of the first n instances at their openings
-pub record AreOpening (t : Program) (lists : Lists) (watch : Option ℕ) (cells : List Told) (n : ℕ) : Type 0 where
+pub record AreOpeningCells (t : Program) (lists : Lists) (watch : Option ℕ) (cells : List Told) (n : ℕ) : Type 0 where
   pub count : length cells ≡ n
-  pub each : (p : ℕ) (c : Told) → slice_get cells p ≡ Some c → IsOpening t lists watch p c
+  pub each : (p : ℕ) (c : Told) → slice_get cells p ≡ Some c → IsOpeningCell t lists watch p c
 
 -- the streams of an answer before any cell's token was moved there: an input channel has its whole list
 pub record AreOpen (t : Program) (lists : Lists) (watch : Option ℕ) (streams : List Stream) : Type 0 where
@@ -100,7 +153,7 @@ pub record AreOpen (t : Program) (lists : Lists) (watch : Option ℕ) (streams :
   pub given : HasInputs (network_of t) (inputs_of lists) streams
 
 -- there are streams, and room for what each cell kept
-pub record AreReady {A : Type 0} (t : Program) (lists : Lists) (watch : Option ℕ) (streams : List Stream) (kept : List A) (room : ℕ) : Type 0 where
+pub record AreStreamsReady {A : Type 0} (t : Program) (lists : Lists) (watch : Option ℕ) (streams : List Stream) (kept : List A) (room : ℕ) : Type 0 where
   pub begun : AreOpen t lists watch streams
   pub empty : kept ≡ []
   pub enough : length (network_of t).instances ≤ room

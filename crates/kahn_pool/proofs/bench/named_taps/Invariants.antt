@@ -1,6 +1,6 @@
 use Rattle.std.proofs.Common.{◌≡◌, map, replicate}
 use Rattle.kahn_code.specs.inner.Gone.{nothing_gone}
-use Rattle.kahn_pool.specs.inner.Workbench.{AreOpening, gone_in, told_in}
+use Rattle.kahn_pool.specs.inner.Workbench.{AreOpeningCells, gone_in, told_in}
 use Rattle.kahn_pool.proofs.bench.named_taps.Given as goal
 
 abbrev pub ghost-new : goal.ghost-new
@@ -8,6 +8,6 @@ ghost-new g a = g.input
 
 abbrev pub invariant-loop-instance : goal.invariant-loop-instance
 invariant-loop-instance g l = record {
-  opening : AreOpening l.network g.input l.watch (map told_in l.taps.items) l.instance;
+  opening : AreOpeningCells l.network g.input l.watch (map told_in l.taps.items) l.instance;
   whole : map gone_in l.taps.items ≡ replicate l.instance nothing_gone;
 }

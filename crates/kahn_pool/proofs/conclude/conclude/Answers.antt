@@ -1,6 +1,6 @@
 use Rattle.std.proofs.Common.{length, sym, subst}
 use Rattle.kahn_pool.specs.inner.Bench.{IsVerdict}
-use Rattle.kahn_pool.specs.inner.Rested.{AreEndsOf, AreTold}
+use Rattle.kahn_pool.specs.inner.Rested.{AreEndsOfTasks, AreTold}
 use Rattle.kahn_pool.proofs.Over.{is_last}
 use Rattle.kahn_pool.proofs.Rests as rests
 use Rattle.kahn_pool.proofs.conclude.conclude.Goals as goal
@@ -22,8 +22,8 @@ returns-clause-concluded c =
     let h = c.requires.ended in
     let ends = c.ends_of-ends.result.items in
     let behind = c.meet_all.ensures.behind in
-    let are : AreEndsOf t lists tasks ends (length tasks) =
-    subst (λ l. AreEndsOf t lists l ends (length l)) c.deref.ensures.value c.ends_of-ends.ensures
+    let are : AreEndsOfTasks t lists tasks ends (length tasks) =
+    subst (λ l. AreEndsOfTasks t lists l ends (length l)) c.deref.ensures.value c.ends_of-ends.ensures
     in
     let rule : IsVerdict c.args.left.halted ends c.verdict_of-verdict.result =
     subst (λ xs. IsVerdict c.args.left.halted xs c.verdict_of-verdict.result) c.deref-2.ensures.value c.verdict_of-verdict.ensures

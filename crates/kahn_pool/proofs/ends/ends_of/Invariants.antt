@@ -1,9 +1,9 @@
 use Rattle.std.proofs.Common.{◌≡◌, vec_capacity}
-use Rattle.kahn_pool.specs.inner.Rested.{AreEndsOf}
+use Rattle.kahn_pool.specs.inner.Rested.{AreEndsOfTasks}
 use Rattle.kahn_pool.proofs.ends.ends_of.Given as goal
 
 abbrev pub invariant-loop-instance : goal.invariant-loop-instance
 invariant-loop-instance l = record {
-  ends : AreEndsOf l.network l.input l.tasks l.ends.items l.instance;
+  ends : AreEndsOfTasks l.network l.input l.tasks l.ends.items l.instance;
   room : vec_capacity l.ends ≡ vec_capacity l.fn.ends;
 }

@@ -5,7 +5,7 @@ use Rattle.kahn_code.specs.Told.{told_view}
 use Rattle.kahn_crew.specs.inner.Left.{task_events}
 use Rattle.kahn_pool.specs.inner.Rested.{state_of}
 use Rattle.kahn_pool.proofs.Over.{same_cells, tasks_met}
-use Rattle.kahn_pool.specs.inner.Bench.{AreStreams, State}
+use Rattle.kahn_pool.specs.inner.Bench.{AreStreams, RunState}
 use Rattle.kahn_pool.specs.Right.{stream_lines}
 use Rattle.kahn_pool.specs.declared.answer.Answer.{Answer}
 use Rattle.kahn_pool.proofs.Final.{gathered}
@@ -29,7 +29,7 @@ returns-clause-right c =
     let done = c.conclude-tasks.ensures.concluded in
     let a : Answer = record { verdict = c.conclude-tasks.result.verdict; streams = c.streams_of-streams.result; ends = c.conclude-tasks.result.ends; events = bound - budget } in
     let streams : AreStreams s c.streams_of-streams.result.items (stream_lines (network_of t) watch) =
-    subst (λ cs. AreStreams (let r : State = record { network = network_of t; input = inputs_of lists; watch = watch; cells = map told_view cs } in r)
+    subst (λ cs. AreStreams (let r : RunState = record { network = network_of t; input = inputs_of lists; watch = watch; cells = map told_view cs } in r)
     c.streams_of-streams.result.items (stream_lines (network_of t) watch)) (same_cells tasks met c.conclude-tasks.ensures.met) c.streams_of-streams.ensures
     in
     let sum : budget + sum_by task_events tasks ≡ bound = h.events in

@@ -1,6 +1,6 @@
 use Rattle.std.proofs.Common.{arith, ◌+◌, sym, ◌∙◌, subst}
 use Rattle.kahn_board.specs.Dealt.{events_of}
-use Rattle.kahn_crew.specs.inner.Begins.{AreReady}
+use Rattle.kahn_crew.specs.inner.Begins.{AreReadyTasks}
 use Rattle.kahn_crew.specs.inner.Left.{HaveGone}
 use Rattle.kahn_crew.specs.inner.Tasks.{told_of}
 use Rattle.kahn_pool.proofs.Held_jobs.{all_events, alone_still, goes_on, have_risen, refused_so, stopped_so, woken_ready}
@@ -18,7 +18,7 @@ wake_all-tasks-requires-clause-each g c =
 
 pub run_tasks-requires-clause-ready : goal.run_tasks-requires-clause-ready
 run_tasks-requires-clause-ready g c κs within =
-    subst (AreReady c.args.part.now.network.now c.args.part.now.input.now c.args.part.now.plan.watch) (sym c.wake_all-tasks.ensures)
+    subst (AreReadyTasks c.args.part.now.network.now c.args.part.now.input.now c.args.part.now.plan.watch) (sym c.wake_all-tasks.ensures)
     (woken_ready c.args.part.now.network.now c.args.part.now.input.now c.args.part.now.plan.watch c.args.part.now.bound c.args.idles.items c.args.part.now.plan.bound c.requires.part.held c.requires.settled)
 
 pub run_tasks-requires-clause-bound : goal.run_tasks-requires-clause-bound

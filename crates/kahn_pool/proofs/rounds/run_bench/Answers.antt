@@ -1,5 +1,5 @@
 use Rattle.std.proofs.Common.{◌≡◌, ◌+◌, ap, ◌∙◌, subst, arith}
-use Rattle.kahn_pool.specs.inner.Bench.{State, all_events, IsLast}
+use Rattle.kahn_pool.specs.inner.Bench.{RunState, all_events, IsLast}
 use Rattle.kahn_pool.specs.Right.{IsRight}
 use Rattle.kahn_pool.specs.inner.Workbench.{Table, state_of}
 use Rattle.kahn_pool.proofs.rounds.run_bench.Goals as goal
@@ -25,8 +25,8 @@ returns-in-Some g c =
     let b = c.args.bound in
     let a = c.answered.result in
     record {
-      right = subst (λ n. IsRight n start.input b start.watch a) (same.0 ∙ ap (λ (x : State). x.network) is)
-          (subst (λ i. IsRight s.network i b start.watch a) (same.1 ∙ ap (λ (x : State). x.input) is)
-          (subst (λ w. IsRight s.network s.input b w a) (same.2 ∙ ap (λ (x : State). x.watch) is) c.answered.ensures.right));
+      right = subst (λ n. IsRight n start.input b start.watch a) (same.0 ∙ ap (λ (x : RunState). x.network) is)
+          (subst (λ i. IsRight s.network i b start.watch a) (same.1 ∙ ap (λ (x : RunState). x.input) is)
+          (subst (λ w. IsRight s.network s.input b w a) (same.2 ∙ ap (λ (x : RunState). x.watch) is) c.answered.ensures.right));
       short = c.answered.ensures.short;
     }

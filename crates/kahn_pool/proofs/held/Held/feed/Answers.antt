@@ -1,5 +1,6 @@
-use Rattle.std.proofs.Common.{refl, subst, None}
-use Rattle.kahn_pool.specs.HeldRuns.{HasFed, HeldRun}
+use Rattle.std.proofs.Common.{ap, refl, subst, None}
+use Rattle.std.proofs.lemmas.Result.{err_from_is_err_and}
+use Rattle.kahn_pool.specs.HeldRuns.{HasFed, HeldRun, IsUnfed}
 use Rattle.kahn_network.specs.Network.{network_of}
 use Rattle.kahn_streams.specs.Tokens.{inputs_of}
 use Rattle.kahn_pool.proofs.Held_runs.{goes_on_fed, holding_fed, run_of}
@@ -13,6 +14,19 @@ invariant_of-self-2 c =
           i.ends.items i.verdict c.self.invariant.0 c.extend.new.self c.extend.ensures.grown c.extend.ensures.size,
       (given_on (network_of i.network.now) (inputs_of i.input) (inputs_of c.extend.new.self) i.plan.watch i.given.items c.extend.ensures.grown c.self.invariant.1.0, λ v e. absurd cc),
     )
+
+pub returns-in_err-extend : goal.returns-in_err-extend
+returns-in_err-extend c =
+    let i = c.self.inside in
+    let (same, unwelcome) = c.in_err-extend.ensures.fed in
+    let left =
+    subst
+    (λ (h : HeldRun). IsUnfed (c.args.channel.now, c.args.values.items) h
+    (run_of i.network.now c.extend.new.self i.plan.watch i.plan.workers i.plan.quantum i.plan.bound i.idles.items i.verdict) c.in_err-extend.field-0.0)
+    c.self.view_is
+    (ap (λ lists. run_of i.network.now lists i.plan.watch i.plan.workers i.plan.quantum i.plan.bound i.idles.items i.verdict) same, unwelcome) in
+    let p = err_from_is_err_and c.from_residual.result c.from_residual.ensures.1 in
+    rw (p.1, p.2) left
 
 pub returns : goal.returns
 returns c =

@@ -1,31 +1,24 @@
--- Inner. A run that is fed as it goes, and that lets go of what it kept: what contracts see of it, and what its calls make of it (this
+-- Believed. A run that is fed as it goes, and that lets go of what it kept: what contracts see of it, and what its calls make of it (this
 -- project's profile).
-use Rattle.std.specs.Prelude.{◌≡◌, ◌⊎◌, ℕ, ◌+◌, ◌<◌, ◌≤◌, ◌^◌, List, [], length, map, replicate, take, Option, None, slice_index_or}
+use Rattle.std.specs.Prelude.{◌≡◌, ◌⊎◌, ℕ, ◌+◌, ◌-◌, ◌<◌, ◌≤◌, ◌^◌, List, [], ◌++◌, length, map, replicate, None, Some, slice_get, slice_index_or}
 use Rattle.kahn_tree.specs.declared.tree.Program.{Program}
-use Rattle.kahn_network.specs.Network.{Source, Given, Written, Nobody, network_of, instance_at}
+use Rattle.kahn_network.specs.Network.{network_of}
 use Rattle.kahn_streams.specs.declared.feeds.FeedFault.{FeedFault}
 use Rattle.kahn_streams.specs.declared.feeds.FeedFault.TheVariants.{UnknownName, NotAnInput, WrongKind, TooMany, NoMemory}
 use Rattle.kahn_streams.specs.declared.value.Line.{Line}
-use Rattle.kahn_streams.specs.declared.value.Line.TheVariants.{Channel, Print}
+use Rattle.kahn_streams.specs.declared.token.Token.{Token}
 use Rattle.kahn_streams.specs.declared.value.Value.{Value}
 use Rattle.kahn_streams.specs.Entries.{Entry, channel_of, most_values}
 use Rattle.kahn_streams.specs.Feeds.{IsMeant, IsNotMeant, total}
-use Rattle.kahn_streams.specs.Solution.{source}
-use Rattle.kahn_streams.specs.Tokens.{Lists, inputs_of}
+use Rattle.kahn_streams.specs.Tokens.{Lists}
 use Rattle.kahn_code.specs.Cells.{token_value}
-use Rattle.kahn_code.specs.Standing.{tokens}
-use Rattle.kahn_code.specs.inner.Gone.{nothing_gone}
 use Rattle.kahn_code.specs.Lines.{IsPoured}
 use Rattle.kahn_config.specs.declared.Config.{Config}
-use Rattle.kahn_pool.specs.HeldRuns.{GoesOn, HasStarted, HeldRun, IsResumed, seen_of, so_far, writing}
+use Rattle.kahn_pool.specs.HeldRuns.{GoesOn, HasStarted, HeldRun, IsResumed, so_far}
 use Rattle.kahn_pool.specs.Right.{stream_lines}
-use Rattle.kahn_pool.specs.declared.answer.End.{End}
 use Rattle.kahn_pool.specs.declared.answer.Verdict.{Verdict}
 use Rattle.kahn_pool.specs.declared.held_fault.HeldFault.{HeldFault}
 use Rattle.kahn_pool.specs.declared.held_fault.HeldFault.TheVariants.{BadMore}
-use Rattle.kahn_pool.specs.inner.Bench.{all_events}
-use Rattle.kahn_pool.specs.inner.Holding.{AreEnded}
-use Rattle.kahn_pool.specs.inner.Workbench.{Table, state_of}
 
 pub record Flowing : Type 0 where
   -- the run, with all that ever was fed, sent and printed, which contracts alone see
@@ -89,37 +82,7 @@ IsUnpoured entry old new WrongKind = (new ≡ old) × IsNotMeant old.run.network
 abbrev pub HasLetGo : Flowing → Flowing → Type 0
 HasLetGo old new = new ≡ record old { out = map (so_far old.run) (flow_lines old.run) }
 
--- ---- over a bench
-
--- what contracts see of the run of a bench: all that its taps ever kept
-abbrev pub run_of_bench : Table → ℕ → ℕ → ℕ → Option Verdict → HeldRun
-run_of_bench b workers quantum bound verdict = record {
-  network = b.network;
-  input = b.input;
-  watch = b.watch;
-  workers = workers;
-  quantum = quantum;
-  bound = bound;
-  cells = map seen_of b.cells;
-  verdict = verdict;
-}
-
--- what was let go of the stream of a line, by its source; of a watched input channel the first n values were
-abbrev pub let_go_by : Table → ℕ → Source → Line → List Value
-let_go_by b n Given (Channel c) = take n (inputs_of b.input c)
-let_go_by b n Given (Print r) = []
-let_go_by b n (Written p) (Channel c) =
-    map token_value (tokens (slice_index_or b.gone p nothing_gone).kept (writing (instance_at (network_of b.network) p).actuals c))
-let_go_by b n (Written p) (Print r) = map token_value (slice_index_or b.gone p nothing_gone).printed
-let_go_by b n Nobody c = []
-
--- of each stream, in their order
-abbrev pub let_go_of : Table → ℕ → List (List Value)
-let_go_of b n = map (λ c. let_go_by b n (source (network_of b.network) c) c) (stream_lines (network_of b.network) b.watch)
-
--- what the type keeps: so much is left of the bound, and where there is a verdict, it and the ends are those of the last part. That
--- each tap stands where it says is told by the tap
-pub record IsFlowing (b : Table) (bound budget : ℕ) (ends : List End) (verdict : Option Verdict) : Type 0 where
-  pub left : budget + all_events (state_of b) ≡ bound
-  pub few : bound < 2 ^ 48
-  pub ended : AreEnded (state_of b) bound budget ends verdict
+-- these tokens are what is new of the stream of a line since it was last let go of
+abbrev pub AreNew : Flowing → Line → List Token → Type 0
+AreNew f line ts =
+    (j : ℕ) → slice_get (flow_lines f.run) j ≡ Some line → so_far f.run line ≡ slice_index_or f.out j [] ++ map token_value ts

@@ -1,0 +1,99 @@
+-- A run with these cells is right so far: what its streams have are the tapes of the right answer.
+use Rattle.std.proofs.Common.{arith, ◌≡◌, ℕ, zero, suc, ◌+◌, Bool, List, [], ◌∷◌, map, sum_by, refl, sym, ap, ◌∙◌, subst, Option, slice_index_or}
+use Rattle.std.proofs.lemmas.List.Sums.{sum_by-cons}
+use Rattle.kahn_tree.specs.declared.tree.Program.{Program}
+use Rattle.kahn_network.specs.Network.{Network, Source, Given, Written, Nobody, network_of}
+use Rattle.kahn_streams.specs.declared.value.Value.{Value}
+use Rattle.kahn_streams.specs.declared.value.Line.{Line}
+use Rattle.kahn_streams.specs.declared.value.Line.TheVariants.{Channel, Print}
+use Rattle.kahn_streams.specs.Solution.{Inputs, IsWhole, source}
+use Rattle.kahn_streams.specs.Tokens.{Lists, inputs_of}
+use Rattle.kahn_code.specs.Cells.{View, token_value}
+use Rattle.kahn_code.specs.Told.{Told, told_view}
+use Rattle.kahn_pool.specs.Exact.{Settles}
+use Rattle.kahn_pool.specs.HeldRuns.{HasSoFar, HeldRun, IsRightSoFar, IsSoFar, seen_at, seen_events, seen_of}
+use Rattle.kahn_pool.specs.Right.{AreRight}
+use Rattle.kahn_pool.specs.inner.Bench.{RunState, all_events, view_events}
+use Rattle.kahn_pool.specs.inner.Concluded.{IsConcluded}
+use Rattle.kahn_pool.specs.inner.Gathered.{IsStopped, view_at}
+use Rattle.kahn_pool.specs.declared.answer.End.{End}
+use Rattle.kahn_pool.specs.declared.answer.Verdict.{Verdict}
+use Rattle.kahn_pool.proofs.Assembling.{are_right, kept_values, printed_values, whole_tapes}
+use Rattle.kahn_pool.proofs.Final.{stopped, stopped_cells}
+use Rattle.kahn_pool.proofs.Going_on.{run_with}
+use Rattle.kahn_pool.proofs.Sizes.{settles_ends}
+
+-- the verdict of a part goes by the size of the solution
+pub settled_by : (s : RunState) (bound left : ℕ) → left + all_events s ≡ bound → (halted : Bool) (v : Verdict) (ends : List End) →
+    IsConcluded s bound left halted v ends → Settles s.network s.input bound v
+settled_by s bound left sum halted v ends c =
+    settles_ends s.network s.input bound v ends (all_events s)
+    (are_right s.network s.input bound s.watch v ends (all_events s)
+    (stopped s bound left halted v ends (all_events s) c.last c.rule c.within (omega (arith, sum))))
+
+-- the events that contracts see are those of the cells
+pub events_seen : (cells : List Told) → sum_by seen_events (map seen_of cells) ≡ sum_by view_events (map told_view cells)
+events_seen [] = refl
+events_seen (c ∷ cells) =
+    sum_by-cons seen_events (seen_of c) (map seen_of cells) ∙ ap (λ n. c.events + n) (events_seen cells) ∙ sym (sum_by-cons view_events (told_view c) (map told_view cells))
+
+-- what is seen of a cell is what its view says
+pub seen_there : (cells : List Told) (p : ℕ) →
+    ((view_at (map told_view cells) p).events ≡ (seen_at (map seen_of cells) p).events)
+    × ((q : ℕ) → (view_at (map told_view cells) p).kept q ≡ slice_index_or (seen_at (map seen_of cells) p).kept q [])
+    × ((view_at (map told_view cells) p).printed ≡ (seen_at (map seen_of cells) p).printed)
+seen_there [] p = (refl, λ q. refl, refl)
+seen_there (c ∷ cells) zero = (refl, λ q. refl, refl)
+seen_there (c ∷ cells) (suc p) = seen_there cells p
+
+module _ (t : Program) (lists : Lists) (watch : Option ℕ) (workers quantum bound : ℕ) (cells : List Told) (verdict : Option Verdict) (left : ℕ) where
+  abbrev N : Network
+  N = network_of t
+
+  abbrev I : Inputs
+  I = inputs_of lists
+
+  abbrev state : RunState
+  state = record { network = N; input = I; watch = watch; cells = map told_view cells }
+
+  abbrev run : HeldRun
+  run = run_with t lists watch workers quantum bound cells verdict
+
+  abbrev done : ℕ
+  done = sum_by seen_events run.cells
+
+  module _ (sum : left + done ≡ bound) (halted : Bool) (v : Verdict) (ends : List End) (c : IsConcluded state bound left halted v ends) where
+    abbrev stop : IsStopped N I bound watch v ends done
+    stop = stopped state bound left halted v ends done c.last c.rule c.within (omega (arith, sum))
+
+    abbrev right : AreRight N I bound v ends done
+    right = are_right N I bound watch v ends done stop
+
+    cells_are : stop.cells ≡ map told_view cells
+    cells_are = stopped_cells state bound left halted v ends done c.last c.rule c.within (omega (arith, sum))
+
+    same_writer : {r p : ℕ} → Written r ≡ Written p → r ≡ p
+    same_writer h = cc
+
+    values_by : (s : Source) (d : Line) (vs : List Value) → source N d ≡ s → IsSoFar run s d vs → vs ≡ right.tapes d
+    values_by Given (Channel d) vs f h = h ∙ sym (right.inputs (Channel d) f)
+    values_by Given (Print r) vs f h = absurd h
+    values_by (Written p) (Channel d) vs f (q, w, s, h) =
+        h ∙ ap (map token_value) (sym ((seen_there cells p).1 q))
+        ∙ ap (λ (xs : List View). map token_value ((view_at xs p).kept q)) (sym cells_are) ∙ kept_values N I bound watch v ends done stop p q d f w s
+    values_by (Written p) (Print r) vs f h =
+        subst (λ x. vs ≡ right.tapes (Print x)) (sym (same_writer f))
+        (h ∙ ap (map token_value) (sym ((seen_there cells p).2))
+        ∙ ap (λ (xs : List View). map token_value (view_at xs p).printed) (sym cells_are) ∙ printed_values N I bound watch v ends done stop p)
+    values_by Nobody d vs f h = absurd h
+
+    values : (d : Line) (vs : List Value) → HasSoFar run d vs → vs ≡ right.tapes d
+    values d vs h = values_by (source N d) d vs refl h
+
+    pub right_with : IsRightSoFar run v ends
+    right_with = record {
+      right = right;
+      values = values;
+      whole = λ f d vs h. subst (IsWhole N I d) (sym (values d vs h)) (whole_tapes N I bound watch v ends done stop f d);
+      events = λ p x h. ((c.last.ends p x h).0).count ∙ (seen_there cells p).0;
+    }

@@ -1,0 +1,90 @@
+use Rattle.std.proofs.Common.{arith, ◌≡◌, ◌+◌, ◌++◌, false, true, List, drop, length, map, None, refl, sym, ap, ◌∙◌, subst}
+use Rattle.std.proofs.lemmas.Result.{err_from_is_err_and}
+use Rattle.kahn_tree.specs.declared.tree.Role.TheVariants.{Input}
+use Rattle.kahn_network.specs.Network.{network_of, role_at}
+use Rattle.kahn_streams.specs.Entries.{Entry, channel_of}
+use Rattle.kahn_streams.specs.Feeds.{IsMeant}
+use Rattle.kahn_streams.specs.Tokens.{Lists, inputs_of}
+use Rattle.kahn_streams.specs.declared.token.Token.{Token}
+use Rattle.kahn_code.specs.Cells.{is_watched, token_value}
+use Rattle.kahn_streams.proofs.Fed.{meant_input}
+use Rattle.kahn_code.proofs.Poured.{poured_length, poured_rest}
+use Rattle.kahn_pool.specs.Flows.{Flowing, HasPouredIn}
+use Rattle.kahn_pool.specs.inner.FlowBench.{flow_of}
+use Rattle.kahn_pool.proofs.Poured_in.{is_poured, poured_flow, poured_flowing, poured_lent, poured_lists, refused_same}
+use Rattle.kahn_pool.proofs.flow.Flow.feed.Goals as goal
+
+pub pour-poured-requires : goal.pour-poured-requires
+pour-poured-requires c =
+    let b = c.self.inside.bench in
+    let number = c.in_ok-number.number in
+    let vs = c.args.values.now in
+    let meant = c.in_ok-number.ensures in
+    let role : role_at (network_of b.network) number ≡ Input =
+    ap (λ t. role_at (network_of t) number) c.self.invariant.0 ∙ ap (λ k. role_at (network_of c.self.inside.network.now) k) meant.0 ∙ meant_input c.self.inside.network.now (c.args.channel.now, vs) meant.1 in
+    let size = poured_length b.input number vs (poured_lists number vs b.input) (is_poured number vs b.input) in
+    let few = c.in-Some.ensures.1 in
+    (role, (is_poured number vs b.input, omega (arith, size, few)))
+
+pub returns-in_err-poured : goal.returns-in_err-poured
+returns-in_err-poured c =
+    let i = c.self.inside in
+    let s = c.stood.ensures in
+    let z = c.stood-2.ensures in
+    let entry : Entry = (c.args.channel.now, c.args.values.now) in
+    let p = err_from_is_err_and c.from_residual-in_err-poured.result c.from_residual-in_err-poured.ensures.1 in
+    let same =
+    refused_same i.bench c.pour-poured.new.self c.in_ok-number.number c.in_err-poured.ensures.refused s.laid z.laid s.counted z.counted i.plan.workers i.plan.quantum
+    i.plan.bound i.verdict i.given.items c.make_room.new.tokens.items c.make_room.ensures.items ∙ c.self.view_is in
+    let meant = subst (λ (f : Flowing). IsMeant f.run.network entry) c.self.view_is (subst (λ t. IsMeant t entry) (sym c.self.invariant.0) c.in_ok-number.ensures.1) in
+    rw (p.1, p.2) (same, meant)
+
+pub lend-requires-clause-here : goal.lend-requires-clause-here
+lend-requires-clause-here c =
+    let b = c.self.inside.bench in
+    let number = c.in_ok-number.number in
+    let vs = c.args.values.now in
+    ap (λ (l : Lists). drop c.in-Some.place (inputs_of l number)) c.in_ok-poured.ensures.poured.lists
+    ∙ poured_rest b.input number vs (poured_lists number vs b.input) (is_poured number vs b.input) c.in-Some.place c.in-Some.ensures.2
+
+pub invariant_of-self-2 : goal.invariant_of-self-2
+invariant_of-self-2 c =
+    let i = c.self.inside in
+    let b = i.bench in
+    let d = c.pour-poured.new.self in
+    let number = c.in_ok-number.number in
+    let vs = c.args.values.now in
+    let h = c.in_ok-poured.ensures.poured in
+    let us = c.lend.new.tokens.items in
+    let kept = c.make_room.ensures.items in
+    let is : c.is_watched-lends.result ≡ is_watched b.watch number = c.is_watched-lends.ensures ∙ ap (λ w. is_watched w number) (sym c.self.invariant.1) in
+    let grown : is_watched b.watch number ≡ true → map token_value us ≡ map token_value i.given.items ++ vs =
+    λ e. c.lend.ensures.lent (is ∙ e) ∙ ap (λ (l : List Token). map token_value l ++ vs) kept in
+    let same : is_watched b.watch number ≡ false → us ≡ i.given.items = λ e. c.lend.ensures.same (is ∙ e) ∙ kept in (
+      h.network ∙ c.self.invariant.0,
+      h.watch ∙ c.self.invariant.1,
+      poured_flowing b d number (length vs) (poured_lists number vs b.input) h c.self.invariant.2,
+      poured_lent b d number vs (poured_lists number vs b.input) (is_poured number vs b.input) h i.given.items us c.self.invariant.3 grown same,
+    )
+
+pub returns : goal.returns
+returns c =
+    let i = c.self.inside in
+    let b = i.bench in
+    let d = c.pour-poured.new.self in
+    let number = c.in_ok-number.number in
+    let vs = c.args.values.now in
+    let h = c.in_ok-poured.ensures.poured in
+    let us = c.lend.new.tokens.items in
+    let kept = c.make_room.ensures.items in
+    let s = c.stood.ensures in
+    let entry : Entry = (c.args.channel.now, vs) in
+    let is : c.is_watched-lends.result ≡ is_watched b.watch number = c.is_watched-lends.ensures ∙ ap (λ w. is_watched w number) (sym c.self.invariant.1) in
+    let grown : is_watched b.watch number ≡ true → map token_value us ≡ map token_value i.given.items ++ vs =
+    λ e. c.lend.ensures.lent (is ∙ e) ∙ ap (λ (l : List Token). map token_value l ++ vs) kept in
+    let same : is_watched b.watch number ≡ false → us ≡ i.given.items = λ e. c.lend.ensures.same (is ∙ e) ∙ kept in
+    let named = c.in_ok-number.ensures.0 ∙ ap (λ t. channel_of t entry) (sym c.self.invariant.0) in
+    let meant = subst (λ t. IsMeant t entry) (sym c.self.invariant.0) c.in_ok-number.ensures.1 in
+    subst (λ (f : Flowing). HasPouredIn entry f (flow_of d i.plan.workers i.plan.quantum i.plan.bound None (length us))) c.self.view_is
+    (poured_flow b d number vs (poured_lists number vs b.input) (is_poured number vs b.input) h i.given.items us c.self.invariant.3 grown same s.laid s.each i.plan.workers
+    i.plan.quantum i.plan.bound i.verdict entry named refl meant c.in-Some.ensures.0)

@@ -1,0 +1,64 @@
+use Rattle.std.proofs.Common.{arith, rules, ◌≤◌, length, vec_capacity, refl, sym, ◌∙◌, subst}
+use Rattle.kahn_config.specs.Limits.{IsInRange}
+use Rattle.kahn_network.specs.Network.{network_of}
+use Rattle.kahn_streams.specs.Tokens.{inputs_of}
+use Rattle.kahn_pool.specs.Runs.{IsWatched}
+use Rattle.kahn_pool.specs.inner.Streams.{AreAllGiven}
+use Rattle.kahn_pool.proofs.Flowed.{all_lent, none_done, none_let_go}
+use Rattle.kahn_pool.proofs.Giving.{begun_none}
+use Rattle.kahn_pool.proofs.Held_runs.{in_range_alike}
+use Rattle.kahn_pool.proofs.flow.Flow.start.Goals as goal
+
+pub give_watched-requires : goal.give_watched-requires
+give_watched-requires c =
+    let I = inputs_of c.args.input in
+    record { begun = λ channel e. begun_none (network_of c.args.network.now) I channel (I channel) c.new-given.result.items (search rules) }
+
+pub invariant_of-result : goal.invariant_of-result
+invariant_of-result c =
+    let range : IsInRange c.args.config.workers c.args.config.quantum c.args.config.bound = search rules in
+    let p = c.plan_of-plan.ensures in
+    let r = in_range_alike _ _ _ _ _ _ p.workers p.quantum p.bound range in
+    let b = c.in_ok-bench.bench in
+    let e = c.in_ok-bench.ensures in
+    let fresh = e.fresh in
+    let ts = c.give_watched.new.tokens.items in
+    let all = subst (λ t. AreAllGiven (network_of t) (inputs_of b.input) b.watch ts) (sym e.names.0)
+    (subst (λ l. AreAllGiven (network_of c.args.network.now) (inputs_of l) b.watch ts) (sym e.names.1)
+    (subst (λ w. AreAllGiven (network_of c.args.network.now) (inputs_of c.args.input) w ts) (sym e.names.2) c.in_ok-give_watched.ensures.all)) in (
+      e.names.0,
+      e.names.2 ∙ sym p.watch,
+      record {
+        some = let q = r.2 in omega (arith, q);
+        left = omega (arith, fresh);
+        few = r.4;
+        enough = subst (λ t. length (network_of t).instances ≤ vec_capacity c.in_ok-ends.ends) (sym e.names.0) c.in_ok-ends.ensures;
+        ended = tt;
+      },
+      all_lent b (length (network_of c.args.network.now).instances) e.whole ts all,
+    )
+
+pub returns : goal.returns
+returns c =
+    let range : IsInRange c.args.config.workers c.args.config.quantum c.args.config.bound = search rules in
+    let p = c.plan_of-plan.ensures in
+    let b = c.in_ok-bench.bench in
+    let e = c.in_ok-bench.ensures in
+    let ts = c.give_watched.new.tokens.items in
+    let all = subst (λ t. AreAllGiven (network_of t) (inputs_of b.input) b.watch ts) (sym e.names.0)
+    (subst (λ l. AreAllGiven (network_of c.args.network.now) (inputs_of l) b.watch ts) (sym e.names.1)
+    (subst (λ w. AreAllGiven (network_of c.args.network.now) (inputs_of c.args.input) w ts) (sym e.names.2) c.in_ok-give_watched.ensures.all)) in
+    record {
+      run = record {
+        allowed = range;
+        watched = subst (IsWatched c.args.network.now c.args.config.watch) (sym e.names.2) c.in_ok-watch.ensures;
+        network = e.names.0;
+        input = e.names.1;
+        workers = p.workers;
+        quantum = p.quantum;
+        bound = p.bound;
+        none = none_done b.cells e.fresh;
+        unsettled = refl;
+      };
+      out = none_let_go b (length (network_of c.args.network.now).instances) e.whole ts all;
+    }

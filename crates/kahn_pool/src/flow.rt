@@ -1,0 +1,223 @@
+//! Runs on one thread that are fed as they go, and let go of what they kept.
+
+ghost use Rattle.std.specs.Prelude.{◌≡◌, ◌↔◌, ◌≤◌, ◌+◌, Some, length, sum_by, vec_capacity, IfOk, IsTrue, MatchResult};
+ghost use Rattle.kahn_network.specs.Network.{network_of};
+ghost use Rattle.kahn_pool.specs.HeldRuns.{IsLineOf, IsRightSoFar, IsUnstarted, seen_events};
+ghost use Rattle.kahn_pool.specs.Right.{stream_lines};
+ghost use Rattle.kahn_pool.specs.Flows.{AreNew, HasFlowed, HasLetGo, HasPouredIn, IsNotRun, IsRunOn, IsUnpoured};
+ghost use Rattle.kahn_pool.specs.declared.answer.Verdict.{Verdict as VerdictOf};
+
+use crate::answer::{End, Verdict};
+use crate::bench::Bench;
+use crate::config::RunFault;
+use crate::held::lines_of;
+use crate::held_fault::HeldFault;
+use crate::lent::{is_watched, lend, make_room};
+use crate::part_alone::run_part_alone;
+use crate::plan::plan_of;
+use crate::running::watched;
+use crate::streams::{empty_streams, give_watched};
+use kahn_config::{Config, MOST_BOUND};
+use kahn_crew::{Gate, Plan};
+use kahn_network::{Network, Side};
+use kahn_streams::{Carried, FeedFault, Input, Line, NoMemory, Value, channel_meant};
+use std::alloc::Global;
+use std::marker::Model;
+use std::mem;
+
+/// A run on one thread that is fed between its parts, and that lets go of what it kept of its streams: a network, the sum of its
+/// bounds so far, and where each process stands. What it let go of, and the input of which all was taken, contracts alone see.
+///
+/// Whatever its calls answer, what was sent on a stream stays as contracts see it, and no process has fewer events.
+#[derive(Drop)]
+pub struct Flow<'n> {
+    alloc: Global,
+    network: &'n Network,
+    bench: Bench<'n>,
+    plan: Plan,
+    budget: u64,
+    ends: Vec<End>,
+    verdict: Option<Verdict>,
+    // Of a watched input channel, the tokens that weren't let go of.
+    given: Vec<Carried>,
+}
+
+impl<'n> Model for Flow<'n> {
+    ghost use Rattle.kahn_tree.specs.contracts.tree.Action as action;
+    ghost use Rattle.kahn_tree.specs.contracts.tree.Form as form;
+    ghost use Rattle.std.specs.Coded.{codes};
+    ghost use Rattle.std.specs.Prelude.{length, vec_capacity};
+    ghost use Rattle.kahn_pool.specs.Flows.{Flowing};
+    ghost use Rattle.kahn_pool.specs.inner.FlowBench.{IsFlowOf, flow_of};
+
+    ghost Value = { Flowing };
+
+    ghost coded = { Prim.hlevel (codes, action.the_row.coded, form.the_row.coded) };
+
+    ghost view = { λ f. flow_of f.bench f.plan.workers f.plan.quantum f.plan.bound f.verdict (length f.given.items) };
+
+    ghost invariant = { λ f. IsFlowOf f.network.now f.plan f.bench f.budget (vec_capacity f.ends) f.ends.items f.verdict f.given.items };
+}
+
+// Room for the ends of all instances.
+fn room_for_ends(alloc: Global, network: &Network) -> Result<Vec<End>, NoMemory>
+    ensures { IfOk result (λ ends. length (network_of network.now).instances ≤ vec_capacity ends) }
+{
+    Ok(Vec::with_capacity(alloc, network.instances())?)
+}
+
+impl<'n> Flow<'n> {
+    /// A run of a network with an input, before its first event. It keeps the allocator for its later calls. The bound of the
+    /// configuration is the first one: `resume(0)` runs for that many events. Its workers are one, whatever the number says.
+    ///
+    /// It refuses with `BadConfig` where a number of the configuration is out of its limit, then with `UnknownWatch` where
+    /// no channel has the name that is to be watched, and with `NoMemory` where memory was refused.
+    pub fn start(
+        alloc: Global,
+        network: &'n Network,
+        input: Input,
+        config: Config,
+    ) -> Result<Flow<'n>, RunFault>
+        ensures { MatchResult result (HasFlowed network.now input config) (IsUnstarted network.now config) }
+    {
+        if !config.is_in_range() {
+            return Err(RunFault::BadConfig);
+        }
+        let watch = watched(network, &config.watch)?;
+        let plan = plan_of(&config, watch);
+        let ends = room_for_ends(alloc, network)?;
+        let mut given = Vec::new(alloc);
+        give_watched(network, &input, watch, &mut given)?;
+        let bench = Bench::new(alloc, network, &input, watch)?;
+        Ok(Flow {
+            alloc,
+            network,
+            bench,
+            plan,
+            budget: plan.bound,
+            ends,
+            verdict: None,
+            given,
+        })
+    }
+
+    /// Allows so many events more, and runs until the sum of all bounds is used up, or every process has ended or waits on a
+    /// channel of which it took all, or memory was refused. Before each quantum of an instance the gate is entered.
+    ///
+    /// It refuses only with `BadMore`, where the sum of all bounds would pass 2^48 - 1, and then nothing changes.
+    pub fn resume<G: Gate>(&mut self, more: u64, gate: &G) -> Result<Verdict, HeldFault>
+        ensures { MatchResult result (IsRunOn more self.old self.new) (IsNotRun more self.old self.new) }
+    {
+        if MOST_BOUND - self.plan.bound < more {
+            return Err(HeldFault::BadMore);
+        }
+        let ends = mem::replace(&mut self.ends, Vec::new(self.alloc));
+        let (quantum, bound) = (self.plan.quantum, self.budget + more);
+        self.bench.stood();
+        let part = run_part_alone(&mut self.bench, gate, ends, quantum, bound);
+        self.bench.stood();
+        self.plan.bound += more;
+        self.budget = part.left;
+        self.ends = part.ends;
+        self.verdict = Some(part.verdict);
+        Ok(part.verdict)
+    }
+
+    /// Appends values to the list of an input channel. No process runs before the next part, and there is no verdict until then, also
+    /// where there are no values.
+    ///
+    /// It refuses with `UnknownName` where no channel has the name, then with `NotAnInput` where the channel isn't an
+    /// input, `WrongKind` where a value isn't of its kind, `TooMany` where more than 1,048,576 values would wait there or a place would
+    /// be 2^48 or more, and `NoMemory` where memory was refused. A refusal leaves all as it was.
+    pub fn feed(&mut self, channel: &str, values: &[Value]) -> Result<(), FeedFault>
+        ensures { MatchResult result (λ _. HasPouredIn (channel.now, values.now) self.old self.new) (IsUnpoured (channel.now, values.now) self.old self.new) }
+    {
+        let number = channel_meant(self.network, channel, values)?;
+        self.bench.stood();
+        let Some(place) = self.bench.next_place(number, values.len()) else {
+            return Err(FeedFault::TooMany);
+        };
+        let lends = is_watched(self.plan.watch, number);
+        make_room(&mut self.given, lends, values.len())?;
+        let poured = self.bench.pour(number, values);
+        self.bench.stood();
+        poured?;
+        lend(&self.bench, &mut self.given, lends, number, place, values);
+        self.verdict = None;
+        Ok(())
+    }
+
+    /// Lets go of all that it kept of its streams. It takes no memory.
+    pub fn forget(&mut self)
+        ensures { HasLetGo self.old self.new }
+    {
+        self.bench.forget();
+        self.given.clear();
+    }
+
+    /// What is new of the stream of a line since it was last let go of, in place order. It is asked for only for a line of `lines`.
+    /// It takes no memory.
+    pub fn fresh(&self, line: Line) -> &[Carried]
+        requires { IsLineOf self.now.run line }
+        ensures { AreNew self.now line result.now }
+    {
+        self.bench.stood();
+        match line {
+            Line::Channel(channel) => match self.network.writer(channel) {
+                Some(
+                    Side {
+                        instance,
+                        parameter,
+                    },
+                ) => self.bench.fresh(instance, parameter),
+                None => &self.given,
+            },
+            Line::Print(instance) => self.bench.fresh_prints(instance),
+        }
+    }
+
+    /// How many events more the sum of all bounds so far allows.
+    pub fn budget(&self) -> u64
+        ensures { result + sum_by seen_events self.now.run.cells ≡ self.now.run.bound }
+    {
+        self.budget
+    }
+
+    /// The verdict of the last part, where nothing changed since. It takes no memory.
+    pub fn verdict(&self) -> Option<Verdict>
+        ensures { result ≡ self.now.run.verdict }
+    {
+        self.verdict
+    }
+
+    /// Whether the last call that changed the run was a `resume` that answered.
+    pub fn settled(&self) -> bool
+        ensures { IsTrue result ↔ ((v : VerdictOf) × (self.now.run.verdict ≡ Some v)) }
+    {
+        self.verdict.is_some()
+    }
+
+    /// The events of all parts so far. It takes no memory.
+    pub fn events(&self) -> u64
+        ensures { result ≡ sum_by seen_events self.now.run.cells }
+    {
+        self.plan.bound - self.budget
+    }
+
+    /// The lines of its streams, in order. It refuses only where memory was refused.
+    pub fn lines(&self) -> Result<Vec<Line>, NoMemory>
+        ensures { IfOk result (λ lines. lines.items ≡ stream_lines (network_of self.now.run.network) self.now.run.watch) }
+    {
+        let streams = empty_streams(self.alloc, self.network, self.plan.watch)?;
+        lines_of(self.alloc, &streams)
+    }
+
+    /// How each instance stands, right for the input so far and the bound so far. It is asked for only where the run is
+    /// settled. It takes no memory.
+    pub fn ends(&self) -> &[End]
+        requires { (v : VerdictOf) × (self.now.run.verdict ≡ Some v) }
+        ensures { (v : VerdictOf) → self.now.run.verdict ≡ Some v → IsRightSoFar self.now.run v result.now }
+    {
+        &self.ends
+    }
+}
