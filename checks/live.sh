@@ -1,7 +1,7 @@
 #!/usr/bin/env bash
 # Runs the program that is fed line by line through pipes that are held open, and waits for each line of output before the
-# next line of input is sent. Then 200,000 lines, whose time may not grow with what came before. Then with each of its first threads
-# refused, and then with its first growth of memory refused, with its second, and so on: a later line has to go on to the whole answer.
+# next line of input is sent. Then 200,000 lines, whose time may not grow with what came before, and 1,200,000,
+# whose memory may not. Then with its first growth of memory refused, with its second, and so on: a later line has to go on to the whole answer.
 #
 #   live.sh [whole]      up to the 40th growth that a line tells of; or until ten runs in a row tell of none
 source "$(dirname "${BASH_SOURCE[0]}")/common.sh"
@@ -79,17 +79,17 @@ wants "lines that are refused" 'B: 10' 'B: 12'
 ends "doubling" 1 'kahn: input line 6: no such channel\nkahn: input line 7: not an input channel\nkahn: input line 8: kind does not agree\nkahn: input line 9: not a value\nkahn: input line 10: not a name and a colon\n' \
   'end 1 double: waits on A after 19' 'finished 19'
 
-for workers in 1 2 16; do
-  start "$double" --watch A --workers $workers --quantum 1
+for quantum in 1 2 1000; do
+  start "$double" --watch A --quantum $quantum
   send 'A: 1 2'
   wants "a watched channel" 'A: 1 2' 'B: 2 4'
   send 'A: 3'
   wants "more of a watched channel" 'A: 3' 'B: 6'
-  ends "a watched channel, by $workers workers" 0 '' 'end 1 double: waits on A after 10' 'finished 10'
+  ends "a watched channel, by a quantum of $quantum" 0 '' 'end 1 double: waits on A after 10' 'finished 10'
 done
 
 # a step that is used up goes on by a blank line
-start "$count" --step 3 --workers 1
+start "$count" --step 3
 wants "a step" 'W: 0'
 send ''
 wants "a second step" 'W: 1 2'
@@ -205,16 +205,8 @@ if [ -e /dev/full ]; then
   same "a full disk" "$(cat error)" $'kahn: input line 1: not a value\nkahn: report could not be written'
 fi
 
-# each of the first threads refused, two of which a part by three workers starts: the next line goes on, or else the end
+# a part starts no thread
 refuse_by refuse_thread.c
-for number in 1 2 3 4 5 6; do
-  printf 'A: 1\nA: 2\n' | FAIL_AT=$number LD_PRELOAD="$work/refuse.so" timeout 60 "$live" "$double" --workers 3 > output.all 2> error
-  same "thread $number refused: status" $? 0
-  same "thread $number refused" "$(sed -n 's/^B://p' output.all | tr -d '\n')" ' 2 4'
-  same "thread $number refused: errors" "$(cat error)" "kahn: input line $(((number - 1) / 2)): waits for a thread"
-done
-
-# by default a part starts no thread
 printf 'A: 1\n' | FAIL_AT=1 LD_PRELOAD="$work/refuse.so" timeout 60 "$live" "$double" > output.all 2> error
 same "one worker: status" $? 0
 same "one worker: errors" "$(cat error)" ''
@@ -223,7 +215,9 @@ same "one worker: errors" "$(cat error)" ''
 cat > copy.kahn <<'P'
 begin integer input channel N; integer output channel W; integer channel X;
   process count(integer in U; integer out W);
-  begin integer I, N; N := wait(U); while I < N do begin send I on W; I := I + 1 end end;
+  begin integer I, N;
+    repeat begin N := wait(U); I := 0; while I < N do begin send I on W; I := I + 1 end end
+  end;
   process copy(integer in U; integer out W);
   begin repeat send wait(U) on W end;
   count(N, X) par copy(X, W)
@@ -247,7 +241,26 @@ begin integer input channel A; integer output channel SUMS;
   sums(A, SUMS)
 end
 END
+# where no process waits on an input any more no line is read
+printf 'begin integer input channel A; integer output channel W; process one(integer in U; integer out V); begin send wait(U) on V end; one(A, W) end' > one.kahn
+yes 'A: 1' | timeout 10 "$live" one.kahn > output.all 2> error
+same "a network that is over: status" "${PIPESTATUS[1]}" 0
+same "a network that is over" "$(tr '\n' '|' < output.all)$(cat error)" 'W: 1|end 1 one: ended after 2|finished 2|'
+
 soak 200000 5
+
+# what it keeps doesn't grow with the lines: the most memory that as many take, in kB, of one channel past 1,048,576 values
+most_memory() {
+  yes 'A: 1' | head -n "$1" | python3 -c '
+import os, sys
+child = os.posix_spawn(sys.argv[1], sys.argv[1:], os.environ, file_actions=[(os.POSIX_SPAWN_OPEN, 1, "output.all", os.O_WRONLY | os.O_CREAT | os.O_TRUNC, 0o600)])
+_, status, used = os.wait4(child, 0)
+print(used.ru_maxrss if status == 0 else "failed")' "$live" sums.kahn
+}
+few=$(most_memory 100000)
+many=$(most_memory 1200000)
+if [ "$many" != failed ] && [ "$((many - few))" -le 1024 ]; then pass; else fail "memory: $few kB for 100,000 lines, $many kB for 1,200,000"; fi
+same "1,200,000 lines: the last sum" "$(grep -c . output.all) $(tail -n 3 output.all | head -n 1)" "1200002 SUMS: 1200000"
 
 # awaits LINE: a line of the errors, or the program's end, within ten seconds.
 awaits() {
@@ -302,7 +315,7 @@ most=40
 [ "${1:-}" = whole ] && most=1000
 while [ $alike -lt 10 ] && [ $waited -lt $most ] && [ $number -lt 1000 ]; do
   number=$((number + 1))
-  refuse "$number" copy.kahn --workers 2 --quantum 1
+  refuse "$number" copy.kahn --quantum 1
 done
 [ $waited -gt 0 ] || fail "no line waited"
 [ $alike = 10 ] || [ $waited = $most ] || fail "growths are still refused after $number runs"

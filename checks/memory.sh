@@ -7,8 +7,9 @@
 # Several workers begin at once in the program of checks (`kahn_crowd`) where it was built; `kahn` itself goes over to them in a
 # pipeline that is long enough.
 #
-# Then the same with the program that is fed line by line: whatever is refused in the first part of a held run, or in the next,
-# the parts after it go on to the whole answer.
+# Then the same with a run that is held between its parts (a word of the program of checks): whatever is refused in a part, the next
+# one goes on to the whole answer, and takes no more events for it. And with the program that is fed line by line: whatever is refused
+# in the first part of a live run, or in the next, the parts after it go on to the whole answer.
 source "$(dirname "${BASH_SOURCE[0]}")/common.sh"
 find_program
 find_crowd
@@ -59,11 +60,13 @@ ended() {
   echo "$1: $wanting want memory, $threads want a thread, $stopped ${3:-are stopped by memory}"
 }
 
-# refuse_run RUNNER PROGRAM WORKERS QUANTUM: each growth of a run in turn.
+# refuse_run RUNNER PROGRAM WORKERS QUANTUM [held]: each growth of a run in turn. A held run may take just as many events as the run has
+# in all its parts, and nothing that is refused stops it.
 refuse_run() {
-  local words=("$2" --workers "$3" --quantum "$4")
+  local held=${5:-} words=("$2" --workers "$3" --quantum "$4")
+  "$kahn" "${words[@]}" > whole 2>&1 || { fail "$2: $(head -c 300 whole)"; return; }
+  [ -z "$held" ] || words=("$held" "${words[@]}" --bound "$(sed -n 's/^finished //p' whole)")
   local name="$(basename "$1") ${words[*]##*/}"
-  "$kahn" "${words[@]}" > whole 2>&1 || { fail "$name: $(head -c 300 whole)"; return; }
   begin
   while goes_on; do
     refused "$1" "${words[@]}"
@@ -76,17 +79,20 @@ refuse_run() {
     if wants_memory; then
       wanting=$((wanting + 1))
       pass
-    elif [ "$status $said" = "6 kahn: no thread" ] && [ ! -s part ]; then
+    elif [ -n "$held" ] && [ "$status $said" = "0 again" ] && cmp -s whole part; then
+      stopped=$((stopped + 1))
+      pass
+    elif [ -z "$held" ] && [ "$status $said" = "6 kahn: no thread" ] && [ ! -s part ]; then
       threads=$((threads + 1))
       pass
-    elif [ "$status$said" = 4 ] && python3 compare.py whole part 2> why; then
+    elif [ -z "$held" ] && [ "$status$said" = 4 ] && python3 compare.py whole part 2> why; then
       stopped=$((stopped + 1))
       pass
     else
       fail "$name with growth $number refused: status $status, $said, $(head -c 300 part)"
     fi
   done
-  ended "$name" "$3"
+  ended "$name" "$3" "${held:+go on in the next part}"
 }
 
 # is_whole: whether the streams of the last run, put together, and its last lines are those of the whole report.
@@ -94,11 +100,11 @@ is_whole() {
   [ $status = 0 ] && [ "W:$(sed -n 's/^W://p' part | tr -d '\n')" = "$(head -n 1 whole)" ] && cmp -s <(grep -v '^W:' whole) <(grep -v '^W:' part)
 }
 
-# refuse_parts WORKERS QUANTUM: each growth of a held run in turn. Its first part may take just as many events as the run has;
-# a blank line begins the next, and one more comes at the end, where that one waits.
+# refuse_parts QUANTUM: each growth of a live run in turn. Its first part may take just as many events as the run has; a blank line
+# begins the next, and one more comes at the end, where that one waits.
 refuse_parts() {
-  local words=(copies.kahn --workers "$1" --quantum "$2") name="parts of copies.kahn --workers $1 --quantum $2"
-  "$kahn" "${words[@]}" > whole
+  local words=(copies.kahn --quantum "$1") name="parts of copies.kahn --quantum $1"
+  "$kahn" "${words[@]}" --workers 1 > whole
   begin
   while goes_on; do
     refused "$live" "${words[@]}" --step "$(sed -n 's/^finished //p' whole)" <<< ""
@@ -113,14 +119,14 @@ refuse_parts() {
     if wants_memory; then
       wanting=$((wanting + 1))
       pass
-    elif is_whole && [[ $said =~ ^kahn:\ input\ line\ [01]:\ (no\ memory|waits\ for\ (memory|a\ thread))$ ]]; then
-      case $said in *thread) threads=$((threads + 1)) ;; *) stopped=$((stopped + 1)) ;; esac
+    elif is_whole && [[ $said =~ ^kahn:\ input\ line\ [01]:\ (no\ memory|waits\ for\ memory)$ ]]; then
+      stopped=$((stopped + 1))
       pass
     else
       fail "$name with growth $number refused: status $status, $said, $(head -c 300 part)"
     fi
   done
-  ended "$name" "$1" "wait for memory"
+  ended "$name" 1 "wait for memory"
 }
 
 cat > copies.kahn <<'P'
@@ -137,8 +143,9 @@ for workers in 1 2 8; do
   for quantum in 1 1000; do
     refuse_run "${crowd:-$kahn}" copies.kahn $workers $quantum
     refuse_run "${crowd:-$kahn}" "$top/examples/sample-four-turns.kahn" $workers $quantum
+    [ -z "$crowd" ] || refuse_run "$crowd" copies.kahn $workers $quantum held
   done
-  refuse_parts $workers 1
 done
+refuse_parts 1
 refuse_run "$kahn" long.kahn 4 1000
 finish

@@ -3,7 +3,8 @@
 # its status and without a report, and each other run has to give the whole report.
 #
 # `kahn` starts threads only where there is work for several: a long pipeline has it, and the examples haven't. The program
-# of checks whose workers all begin at once, where it was built, starts them for each example.
+# of checks whose workers all begin at once, where it was built, starts them for each example; and a held run of it goes on in its next
+# part to the whole report.
 source "$(dirname "${BASH_SOURCE[0]}")/common.sh"
 find_program
 find_crowd
@@ -32,6 +33,19 @@ refuse() {
   done
 }
 
+# refuse_held PROGRAM WORKERS: each thread of the first part of a held run in turn.
+refuse_held() {
+  local number
+  for number in $(seq 1 $(($2 - 1))); do
+    FAIL_AT=$number LD_PRELOAD="$work/refuse.so" timeout 60 "$crowd" held --workers "$2" "$1" > "$work/report" 2> "$work/fault"
+    if [ $? = 0 ] && [ "$(cat "$work/fault")" = again ] && cmp -s "${1%.kahn}.report" "$work/report"; then
+      pass
+    else
+      fail "held $(basename "$1") with thread $number of $2 workers refused: $(head -c 300 "$work/fault")"
+    fi
+  done
+}
+
 cat > "$work/long.kahn" <<'P'
 begin integer channel X, Y; integer output channel W;
   process count(integer out W; integer N);
@@ -54,6 +68,7 @@ for program in "$top"/examples/*.kahn; do
     if [ -n "$crowd" ]; then
       for workers in 1 2 3 4 16; do
         refuse "$crowd" "$program" $workers $((workers - 1))
+        refuse_held "$program" $workers
       done
     fi
   fi

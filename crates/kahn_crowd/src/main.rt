@@ -1,12 +1,18 @@
 //! The program `kahn` with a gate that doesn't say that it is open: as many workers as are asked for begin at once, over lanes and
-//! the board, however little there is to do. It is for checks alone, and isn't released.
+//! the board, however little there is to do. With `held` before its other words the run is held between parts, and goes on where
+//! something was refused. It is for checks alone, and isn't released.
 #![tactic(auto)]
+
+mod parts;
+
+ghost use Rattle.std.specs.Prelude.{◌≤◌, IsTrue, length};
 
 use kahn_fault::Fault;
 use kahn_line::{Options, read_line, tell_line, tell_no_memory, tell_words};
 use kahn_pool::{Config, Gate, RunFault, Verdict};
 use kahn_report::{WorkFault, work};
 use kahn_texts::{Texts, read_texts, tell};
+use parts::work_in_parts;
 use std::io::{BufWriter, Write};
 use std::process::ExitCode;
 use std::rt::Runtime;
@@ -45,18 +51,49 @@ fn run<R: Runtime + AllocGlobal + Threads + Wait + Sync>(
     }
 }
 
+/// The same in parts.
+fn run_held<R: Runtime + AllocGlobal + Threads + Wait + Sync, E: Write>(
+    rt: &R,
+    texts: &Texts,
+    config: Config,
+    errors: &mut E,
+) -> Result<Verdict, Fault> {
+    let program = texts.program.as_str();
+    let input = texts.input.as_str();
+    let writer = &mut io::writer(rt);
+    match work_in_parts(rt, program, input, config, &Through, writer, errors) {
+        Ok(verdict) => Ok(verdict),
+        Err(fault) => Err(Fault::Work(fault)),
+    }
+}
+
 /// Does what the command line asks for, and gives the status. Faults are told to the writer.
 fn answered<R: Runtime + AllocGlobal + Threads + Wait + Sync, W: Write>(
     rt: &R,
     options: Options,
+    held: bool,
     writer: &mut W,
 ) -> u8 {
     match read_texts(rt, options.program, options.input) {
         Ok(texts) => {
-            let answer = run(rt, &texts, options.config);
+            let answer = if held {
+                run_held(rt, &texts, options.config, writer)
+            } else {
+                run(rt, &texts, options.config)
+            };
             tell(&answer, texts.program.as_str(), writer).status
         }
         Err(fault) => tell(&Err(fault), "", writer).status,
+    }
+}
+
+/// Whether the run is to be held between parts.
+fn is_held(words: &[String]) -> bool
+    ensures { IsTrue result → 1 ≤ length words.now }
+{
+    match words.get(1) {
+        Some(word) => word.as_str() == "held",
+        None => false,
     }
 }
 
@@ -68,8 +105,10 @@ fn main(rt: HostRuntime) -> ExitCode {
     let Ok(words) = words.collect::<Vec<String>>(rt.alloc()) else {
         return ExitCode::from(tell_no_memory(&rt));
     };
-    let status = match read_line(rt.alloc(), words.as_slice()) {
-        Ok(options) => answered(&rt, options, &mut rt.stderr()),
+    let held = is_held(&words);
+    let others = if held { &words[1..] } else { &words[..] };
+    let status = match read_line(rt.alloc(), others) {
+        Ok(options) => answered(&rt, options, held, &mut rt.stderr()),
         Err(fault) => tell_line(&rt, &fault),
     };
     ExitCode::from(status)

@@ -21,9 +21,8 @@ at_end_rule = record (text_rule (codes "at-end")) { action = Some Append }
 -- the program text's path without a name, which is there, and the options
 abbrev pub live_app : App
 live_app =
-    with_rule (with_rule (with_rule (with_rule (with_rule (with_rule (with_rule (with_rule (bare_app (codes "kahn_live"))
+    with_rule (with_rule (with_rule (with_rule (with_rule (with_rule (with_rule (bare_app (codes "kahn_live"))
     (record (new_rule (codes "PROGRAM")) { required = true }))
-    (number_rule (codes "workers") 1 16 (codes "1")))
     (number_rule (codes "quantum") 1 1000000 (codes "1000")))
     (number_rule (codes "step") 1 281474976710655 (codes "1000000")))
     (text_rule (codes "watch")))
@@ -51,7 +50,7 @@ live_flag words name = not (count_of name (matches_of live_app words) == 0)
 pub record IsLive (words : List Text) (o : LiveOptions) : Type 0 where
   pub program : option_map string_bytes o.program ≡ live_text words (codes "PROGRAM")
   pub watch : option_map string_bytes o.config.watch ≡ live_text words (codes "watch")
-  pub workers : o.config.workers ≡ live_number words (codes "workers") 1
+  pub workers : o.config.workers ≡ 1
   pub quantum : o.config.quantum ≡ live_number words (codes "quantum") 1000
   pub step : o.config.bound ≡ live_number words (codes "step") 1000000
   pub keep_going : o.keep_going ≡ live_flag words (codes "keep-going")

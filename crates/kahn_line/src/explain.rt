@@ -28,6 +28,12 @@ another. The last line says how the run ended. With a program whose process 1 wa
 
 What is for ever stays so whatever is added to the input, and however long the run is.
 
+With `--report` nothing is run: what is explained is how a report of `kahn` ends, that of the same program. The options of a
+run say nothing then.
+
+  kahn ring.kahn > report.txt
+  kahn_explain ring.kahn --report report.txt
+
 Of a program text that is refused the place is told, with its source line and a caret line below it. Where a part can't
 stand there, so is all that may stand in its place.
 
@@ -48,7 +54,7 @@ stopped the columns are beginnings. With a program that doubles what comes on A,
 
 Exit status:
   0  the run finished, without a deadlock and without a fault
-  1  program or input refused, with `--strict` for a warning too
+  1  program, input or report refused, with `--strict` for a warning too
   2  command line refused
   3  the run was stopped by the bound
   4  no memory
@@ -64,6 +70,8 @@ pub struct ExplainOptions {
     pub program: Option<String>,
     /// The path of the input text, or nothing for the empty text.
     pub input: Option<String>,
+    /// The path of the report of a run, or nothing for a run of its own.
+    pub report: Option<String>,
     /// How the run is set up. No channel is watched.
     pub config: Config,
     /// Whether a program with a warning is refused.
@@ -107,6 +115,12 @@ fn explain_command<'a>(alloc: Global) -> Result<Command<'a>, AllocError>
         "FILE",
         "File of the input text, lines such as `A: 1 2 3`: an input channel and its values",
     );
+    let report = text_arg(
+        alloc,
+        "report",
+        "FILE",
+        "File of the report of a run of the program, to be explained in place of a run of its own",
+    );
     let bound = number_arg(
         alloc,
         "bound",
@@ -118,6 +132,7 @@ fn explain_command<'a>(alloc: Global) -> Result<Command<'a>, AllocError>
     bare(alloc, "kahn_explain", ABOUT, MORE)?
         .arg(program)?
         .arg(input)?
+        .arg(report)?
         .arg(workers_arg(alloc, "4"))?
         .arg(quantum_arg(alloc))?
         .arg(bound)?
@@ -137,6 +152,7 @@ pub fn read_explain_line<'a, S: AsStr>(
     Ok(ExplainOptions {
         program: copied(alloc, matches.get_str("PROGRAM"))?,
         input: copied(alloc, matches.get_str("input"))?,
+        report: copied(alloc, matches.get_str("report"))?,
         config: config_of(alloc, &matches, 4, "bound")?,
         strict: matches.get_count("strict") != 0,
         trace: matches.get_count("trace") != 0,

@@ -44,6 +44,9 @@ A run on an input text, whose report shows a channel X between two processes too
 
   kahn program.kahn --input data.txt --watch X
 
+Of the same program kahn_explain says what is wrong with the text and why its run stopped, kahn_draw draws the network,
+and kahn_live runs it on lines of input as they come. Each has a help of its own.
+
 Exit status:
   0  report written: the run finished
   1  program or input refused

@@ -7,7 +7,7 @@ ghost use Rattle.kahn_line.specs.Parts.{found_texts, set_line};
 ghost use Rattle.kahn_line.specs.Live.{at_end_rule, keep_going_rule, live_app, IsLiveRead};
 
 use crate::line::{
-    LineFault, bare, config_of, copied, number_arg, quantum_arg, text_arg, watch_arg, workers_arg,
+    LineFault, bare, config_of, copied, number_arg, quantum_arg, text_arg, watch_arg,
 };
 use crate::parts::{Plain, plain_of, set_lines};
 use clap::{Arg, ArgAction, ArgMatches, Command};
@@ -34,12 +34,12 @@ channel that has new values, with these alone. With a program that doubles what 
 A part of the run is the events that come after a line. A blank line feeds nothing and runs a part. Before the first
 line a part is run too. The last lines, how each process stands and how the run ended, come at the end of the input.
 
-A line that can't be taken is told on standard error with its number, and changes nothing. Where memory or a thread is
-refused after a line was taken, that is told too; the next line, which may be blank, goes on. The lines of `--at-end` have
-the numbers behind the last one's.
+A line that can't be taken is told on standard error with its number, and changes nothing. Where memory is refused after a
+line was taken, that is told too; the next line, which may be blank, goes on. The lines of `--at-end` have the numbers
+behind the last one's. The run takes one thread. What went out, and input that was taken, it doesn't keep.
 
 With `--plain` a line has the values alone, with blanks between, and what is new on one stream is written alone, one value
-a line. The last lines go to standard error then, and only where the status isn't 0:
+a line. The last lines go to standard error then, and only where the status isn't 0 or a process has a fault:
 
   printf '1\\n2 3\\n' | kahn_live double.kahn --plain A,B
 
@@ -54,14 +54,14 @@ Exit status:
   3  the end was reached: a part used its step up
   4  no memory
   5  a file or standard input can't be read, the program isn't UTF-8, or the lines can't be written
-  6  run refused: a channel that is named isn't there, or no thread could be started";
+  6  run refused: a channel that is named isn't there";
 
 /// What the command line asks for.
 #[derive(Debug, Drop)]
 pub struct LiveOptions {
     /// The path of the program text. The words always name one.
     pub program: Option<String>,
-    /// How the run is set up. Its bound is how many events a part may take.
+    /// How the run is set up, by one worker. Its bound is how many events a part may take.
     pub config: Config,
     /// Whether lines that are refused leave the status as it is.
     pub keep_going: bool,
@@ -130,7 +130,6 @@ fn live_command<'a>(alloc: Global) -> Result<Command<'a>, AllocError>
     );
     bare(alloc, "kahn_live", ABOUT, MORE)?
         .arg(program)?
-        .arg(workers_arg(alloc, "1"))?
         .arg(quantum_arg(alloc))?
         .arg(step)?
         .arg(watch)?
@@ -158,7 +157,10 @@ pub fn read_live_line<'a, S: AsStr>(alloc: Global, words: &'a [S]) -> Result<Liv
     let matches = live_command(alloc)?.try_get_matches_from(words)?;
     Ok(LiveOptions {
         program: copied(alloc, matches.get_str("PROGRAM"))?,
-        config: config_of(alloc, &matches, 1, "step")?,
+        config: Config {
+            workers: 1,
+            ..config_of(alloc, &matches, 1, "step")?
+        },
         keep_going: matches.get_count("keep-going") != 0,
         at_end: lines_at_end(alloc, &matches)?,
         plain: plain_of(alloc, matches.get_str("plain"))?,

@@ -21,8 +21,6 @@ use std::alloc::AllocError;
 use std::io::{BufReader, BufWriter, Write};
 use std::process::ExitCode;
 use std::rt::Runtime;
-use std::sync::Wait;
-use std::thread::Threads;
 use std::{env, io};
 use taking::{Fed, last_fault, take_all, wants_memory};
 use telling::Teller;
@@ -77,18 +75,14 @@ fn started<'n, R: AllocGlobal>(
 }
 
 /// Runs one more part where the last one waits.
-fn settle<R: Threads + Wait + Sync, W: Write>(
-    rt: &R,
-    session: &mut Session<'_>,
-    writer: &mut W,
-) -> Result<(), Fault>
+fn settle<W: Write>(session: &mut Session<'_>, writer: &mut W) -> Result<(), Fault>
     requires { session.old.broken ≡ false }
     ensures { IfOk result (λ _. HasVerdict session.new) }
 {
     if session.settled() {
         return Ok(());
     }
-    match session.take(rt, b"", &Open, writer) {
+    match session.take(b"", &Open, writer) {
         Ok(_) => Ok(()),
         Err(fault) => Err(last_fault(fault)),
     }
@@ -104,21 +98,21 @@ fn close<W: Write>(session: &Session<'_>, writer: &mut W) -> Result<Verdict, Fau
     }
 }
 
-/// Tells how the run ended, where the status isn't 0.
+/// Tells how the run ended, where the status isn't 0 or a process has a fault.
 fn close_plain<E: Write>(session: &Session<'_>, teller: &mut Teller<'_, E>) -> Verdict
     requires { HasVerdict session.now }
 {
     let Some(verdict) = session.verdict() else {
         unreachable!()
     };
-    if live_status(&Ok(verdict), teller.refused) != 0 {
+    if live_status(&Ok(verdict), teller.refused) != 0 || session.has_fault() {
         let _ = session.close(teller.errors);
     }
     verdict
 }
 
 /// Takes the lines of standard input, and writes what is new to the writer.
-fn work<R: Runtime + AllocGlobal + Threads + Wait + Sync, W: Write, E: Write>(
+fn work<R: Runtime + AllocGlobal, W: Write, E: Write>(
     rt: &R,
     session: &mut Session<'_>,
     fed: Fed<'_>,
@@ -130,10 +124,10 @@ fn work<R: Runtime + AllocGlobal + Threads + Wait + Sync, W: Write, E: Write>(
     let Ok(mut reader) = BufReader::new(rt.alloc(), rt.reader()) else {
         return Err(wants_memory());
     };
-    if !take_all(rt, session, &mut reader, fed, outlet, teller)? {
+    if !take_all(rt.alloc(), session, &mut reader, fed, outlet, teller)? {
         return Ok(Ending::NoInput);
     }
-    settle(rt, session, outlet)?;
+    settle(session, outlet)?;
     if fed.input.is_some() {
         outlet.send()?;
         return Ok(Ending::Reached(close_plain(session, teller)));
@@ -142,7 +136,7 @@ fn work<R: Runtime + AllocGlobal + Threads + Wait + Sync, W: Write, E: Write>(
 }
 
 /// Runs the program on standard input, and writes what is new to standard output.
-fn run<R: Runtime + AllocGlobal + Threads + Wait + Sync, E: Write>(
+fn run<R: Runtime + AllocGlobal, E: Write>(
     rt: &R,
     texts: &Texts,
     config: Config,
@@ -212,7 +206,7 @@ fn told<W: Write>(
 }
 
 /// Runs the program of the texts, and gives how it ended and whether a line was refused.
-fn ran<R: Runtime + AllocGlobal + Threads + Wait + Sync, W: Write>(
+fn ran<R: Runtime + AllocGlobal, W: Write>(
     rt: &R,
     texts: &Texts,
     config: Config,
@@ -230,7 +224,7 @@ fn ran<R: Runtime + AllocGlobal + Threads + Wait + Sync, W: Write>(
 }
 
 /// Does what the command line asks for, and gives the status. Faults are told to the writer.
-fn answered<R: Runtime + AllocGlobal + Threads + Wait + Sync, W: Write>(
+fn answered<R: Runtime + AllocGlobal, W: Write>(
     rt: &R,
     options: LiveOptions,
     writer: &mut W,

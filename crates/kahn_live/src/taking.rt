@@ -4,15 +4,14 @@ ghost use Rattle.std.specs.Prelude.{◌≡◌, false, IfOk};
 
 use crate::lines::{Next, fed_line, has_line, next_line, without_mark};
 use crate::outlet::Outlet;
-use crate::telling::{Teller, waits};
+use crate::telling::Teller;
 use kahn_fault::Fault;
 use kahn_pool::{Open, RunFault, Verdict};
 use kahn_report::{ReadFault, WorkFault};
 use kahn_session::{Session, TakeFault};
 use kahn_streams::FeedFault;
+use std::alloc::Global;
 use std::io::{BufReader, Read, Write};
-use std::sync::Wait;
-use std::thread::Threads;
 
 /// Which lines are fed.
 #[derive(Clone, Copy)]
@@ -32,7 +31,6 @@ pub(crate) fn wants_memory() -> Fault {
 pub(crate) fn last_fault(fault: TakeFault) -> Fault {
     match fault {
         TakeFault::Write(fault) => Fault::Work(WorkFault::Write(fault)),
-        TakeFault::WaitsForThread => Fault::Work(WorkFault::Run(RunFault::NoThread)),
         _ => wants_memory(),
     }
 }
@@ -49,10 +47,9 @@ fn tell_behind<W: Write, E: Write>(
     Ok(())
 }
 
-/// Takes a line of that number, and tells where it is refused, and gives why, or where its part waits. It fails where nothing
-/// can be written.
-fn take_line<R: Threads + Wait + Sync, W: Write, E: Write>(
-    rt: &R,
+/// Takes a line of that number, and tells where it is refused, and gives why, or where its part wants memory. It fails where
+/// nothing can be written.
+fn take_line<W: Write, E: Write>(
     session: &mut Session<'_>,
     line: &[u8],
     number: u64,
@@ -62,25 +59,25 @@ fn take_line<R: Threads + Wait + Sync, W: Write, E: Write>(
     requires { session.old.broken ≡ false }
     ensures { IfOk result (λ _. session.new.broken ≡ false) }
 {
-    match session.take(rt, line, &Open, outlet) {
-        Ok(Verdict::Memory) => tell_behind(TakeFault::WaitsForMemory, number, outlet, teller)?,
-        Ok(_) => {}
+    match session.take(line, &Open, outlet) {
+        Ok(Verdict::Memory) => {
+            outlet.send()?;
+            teller.tell_waiting(number);
+            Ok(None)
+        }
+        Ok(_) => Ok(None),
         Err(fault) => {
             if fault.breaks() {
                 return Err(last_fault(fault));
             }
             tell_behind(fault, number, outlet, teller)?;
-            if !waits(fault) {
-                return Ok(Some(fault));
-            }
+            Ok(Some(fault))
         }
     }
-    Ok(None)
 }
 
 /// Takes a line of the input. Where memory is refused for it, that is told.
-fn take_read<R: Threads + Wait + Sync, W: Write, E: Write>(
-    rt: &R,
+fn take_read<W: Write, E: Write>(
     session: &mut Session<'_>,
     input: Option<&str>,
     line: &[u8],
@@ -95,14 +92,19 @@ fn take_read<R: Threads + Wait + Sync, W: Write, E: Write>(
     let Ok(fed) = fed_line(input, without_mark(line, number), room) else {
         return tell_behind(TakeFault::NoMemory, number, outlet, teller);
     };
-    let _ = take_line(rt, session, fed, number, outlet, teller)?;
+    let _ = take_line(session, fed, number, outlet, teller)?;
     Ok(())
 }
 
-/// Takes the lines of the reader, and gives the number behind the last one's. What is new goes out before each read that may
-/// wait.
-fn take_lines<R: AllocGlobal + Threads + Wait + Sync, I: Read, W: Write, E: Write>(
-    rt: &R,
+/// Whether no line can change the run any more.
+fn is_over(session: &Session<'_>) -> bool {
+    session.settled() && session.is_deaf()
+}
+
+/// Takes the lines of the reader as long as one can change the run, and gives the number behind the last one's. What is new
+/// goes out before each read that may wait.
+fn take_lines<I: Read, W: Write, E: Write>(
+    alloc: Global,
     session: &mut Session<'_>,
     reader: &mut BufReader<I>,
     fed: Fed<'_>,
@@ -112,16 +114,17 @@ fn take_lines<R: AllocGlobal + Threads + Wait + Sync, I: Read, W: Write, E: Writ
     requires { session.old.broken ≡ false }
     ensures { IfOk result (λ _. session.new.broken ≡ false) }
 {
-    let mut line = Vec::new(rt.alloc());
-    let mut room = Vec::new(rt.alloc());
+    let mut line = Vec::new(alloc);
+    let mut room = Vec::new(alloc);
     for number in 1..u64::MAX {
+        if is_over(session) {
+            return Ok(number);
+        }
         if !has_line(reader) {
             outlet.send()?;
         }
         match next_line(reader, &mut line) {
-            Next::Line => take_read(
-                rt, session, fed.input, &line, number, &mut room, outlet, teller,
-            )?,
+            Next::Line => take_read(session, fed.input, &line, number, &mut room, outlet, teller)?,
             Next::End => return Ok(number),
             Next::Failed => return Err(Fault::Program(None, ReadFault::Failed)),
             Next::NoMemory => tell_behind(TakeFault::NoMemory, number, outlet, teller)?,
@@ -131,8 +134,7 @@ fn take_lines<R: AllocGlobal + Threads + Wait + Sync, I: Read, W: Write, E: Writ
 }
 
 /// Takes the lines that are fed at the end, whose numbers begin with that one.
-fn take_last<R: Threads + Wait + Sync, W: Write, E: Write>(
-    rt: &R,
+fn take_last<W: Write, E: Write>(
     session: &mut Session<'_>,
     lines: &[String],
     first: u64,
@@ -144,15 +146,15 @@ fn take_last<R: Threads + Wait + Sync, W: Write, E: Write>(
 {
     let mut number = first;
     for line in lines {
-        let _ = take_line(rt, session, line.as_bytes(), number, outlet, teller)?;
+        let _ = take_line(session, line.as_bytes(), number, outlet, teller)?;
         number = number.saturating_add(1);
     }
     Ok(())
 }
 
 /// Runs the part before the first line, and tells whether there is an input channel of the name whose values stand alone.
-fn begin<R: AllocGlobal + Threads + Wait + Sync, W: Write, E: Write>(
-    rt: &R,
+fn begin<W: Write, E: Write>(
+    alloc: Global,
     session: &mut Session<'_>,
     input: Option<&str>,
     outlet: &mut Outlet<W>,
@@ -161,11 +163,11 @@ fn begin<R: AllocGlobal + Threads + Wait + Sync, W: Write, E: Write>(
     requires { session.old.broken ≡ false }
     ensures { IfOk result (λ _. session.new.broken ≡ false) }
 {
-    let mut room = Vec::new(rt.alloc());
+    let mut room = Vec::new(alloc);
     let Ok(line) = fed_line(input, b"", &mut room) else {
         return Err(wants_memory());
     };
-    match take_line(rt, session, line, 0, outlet, teller)? {
+    match take_line(session, line, 0, outlet, teller)? {
         None => Ok(true),
         Some(TakeFault::NoMemory | TakeFault::Feed(FeedFault::NoMemory)) => Err(wants_memory()),
         Some(_) => Ok(false),
@@ -174,8 +176,8 @@ fn begin<R: AllocGlobal + Threads + Wait + Sync, W: Write, E: Write>(
 
 /// Takes all lines, after a part before the first, and tells whether there is an input channel of the name whose values stand
 /// alone; else no line is taken.
-pub(crate) fn take_all<R: AllocGlobal + Threads + Wait + Sync, I: Read, W: Write, E: Write>(
-    rt: &R,
+pub(crate) fn take_all<I: Read, W: Write, E: Write>(
+    alloc: Global,
     session: &mut Session<'_>,
     reader: &mut BufReader<I>,
     fed: Fed<'_>,
@@ -185,10 +187,10 @@ pub(crate) fn take_all<R: AllocGlobal + Threads + Wait + Sync, I: Read, W: Write
     requires { session.old.broken ≡ false }
     ensures { IfOk result (λ _. session.new.broken ≡ false) }
 {
-    if !begin(rt, session, fed.input, outlet, teller)? {
+    if !begin(alloc, session, fed.input, outlet, teller)? {
         return Ok(false);
     }
-    let number = take_lines(rt, session, reader, fed, outlet, teller)?;
-    take_last(rt, session, fed.at_end, number, outlet, teller)?;
+    let number = take_lines(alloc, session, reader, fed, outlet, teller)?;
+    take_last(session, fed.at_end, number, outlet, teller)?;
     Ok(true)
 }

@@ -1,6 +1,6 @@
 //! What is told of lines that aren't taken.
 
-use kahn_session::{TakeFault, write_refusal};
+use kahn_session::{TakeFault, write_refusal, write_waiting};
 use std::io::Write;
 
 /// A writer of faults, and whether a line was refused.
@@ -22,16 +22,16 @@ impl<'a, E: Write> Teller<'a, E> {
         }
     }
 
-    /// Tells why the line of that number isn't taken, or that its part waits. Only the first is a refused line.
+    /// Tells why the line of that number isn't taken.
     pub(crate) fn tell(&mut self, number: u64, fault: TakeFault) {
         let _ = write_refusal(self.errors, number, fault);
-        if !self.keep_going && !waits(fault) {
+        if !self.keep_going {
             self.refused = true;
         }
     }
-}
 
-/// Whether the line was taken and its part waits.
-pub(crate) fn waits(fault: TakeFault) -> bool {
-    matches!(fault, TakeFault::WaitsForMemory | TakeFault::WaitsForThread)
+    /// Tells that the part of the line of that number wants memory. The line isn't refused.
+    pub(crate) fn tell_waiting(&mut self, number: u64) {
+        let _ = write_waiting(self.errors, number);
+    }
 }

@@ -2,7 +2,7 @@
 use Rattle.std.proofs.Common.{◌≡◌, ◌∙◌, inl, inr, ℕ, zero, suc, ◌+◌, ◌≤◌, ◌<◌, List, [], ◌∷◌, ◌++◌, length, take, drop, All, arith, ap, sym, subst, add-one, append_assoc, append-nil, take-append-drop, drop_of_length-le, length-take-le}
 use Rattle.std.proofs.lemmas.List.Elements.{All-append}
 use Rattle.kahn_streams.specs.Entries.{Entry}
-use Rattle.kahn_report.specs.Entries.{AreEntries, IsEntry, IsBlank, IsGood, content}
+use Rattle.kahn_report.specs.Entries.{AreEntries, IsEntry, AreBlanks, IsGood, content}
 
 take_more : (xs : List (List ℕ)) (k : ℕ) (x : List ℕ) (rest : List (List ℕ)) → drop k xs ≡ x ∷ rest → take (suc k) xs ≡ take k xs ++ (x ∷ [])
 take_more [] zero x rest e = absurd cc
@@ -14,13 +14,13 @@ all_one : (P : List ℕ → Type 0) (x : List ℕ) → P x → All P (x ∷ [])
 all_one P x p zero d below = p
 all_one P x p (suc k) d below = absurd (omega (arith, below))
 
-pub with_blank : (line : List ℕ) (lines : List (List ℕ)) (more : List Entry) → IsBlank (content line) → AreEntries lines more → AreEntries (line ∷ lines) more
+pub with_blank : (line : List ℕ) (lines : List (List ℕ)) (more : List Entry) → AreBlanks (content line) → AreEntries lines more → AreEntries (line ∷ lines) more
 with_blank line lines [] blank h = (blank, h)
 with_blank line lines (x ∷ xs) blank h = inl (blank, h)
 
 -- the step of a reader over the lines, of which those before k are read: at m, one line on
 module _ (lines : List (List ℕ)) (k m : ℕ) (line : List ℕ) (e : m ≡ k + 1) (here : drop k lines ≡ line ∷ drop (k + 1) lines) where
-  pub all_blank : (done : List Entry) → IsBlank (content line) → ((more : List Entry) → AreEntries (drop k lines) more → AreEntries lines (done ++ more))
+  pub all_blank : (done : List Entry) → AreBlanks (content line) → ((more : List Entry) → AreEntries (drop k lines) more → AreEntries lines (done ++ more))
       → (more : List Entry) → AreEntries (drop m lines) more → AreEntries lines (done ++ more)
   all_blank done blank all more h =
       all more (subst (λ l. AreEntries l more) (sym here) (with_blank line (drop (k + 1) lines) more blank (subst (λ n. AreEntries (drop n lines) more) e h)))

@@ -15,7 +15,7 @@ use Rattle.kahn_streams.specs.declared.value.Value.{Value}
 use Rattle.kahn_streams.specs.declared.value.Value.TheVariants.{Integer, Logical}
 use Rattle.kahn_streams.specs.Entries.{Entry, IsMadeOf, list_for}
 use Rattle.kahn_streams.specs.Tokens.{Lists, inputs_of}
-use Rattle.kahn_report.specs.Entries.{IsName, IsBlank, IsValue, Spells, AreValues, IsEntry, AreEntries, is_blank, content}
+use Rattle.kahn_report.specs.Entries.{IsName, AreBlanks, IsValue, SpellsValues, AreValues, IsEntry, AreEntries, is_blank, content}
 use Rattle.kahn_report.proofs.Scanned.{scanned, same_tail}
 use Rattle.kahn_report.proofs.Words.{letter_dark}
 
@@ -64,7 +64,7 @@ one_value b bs (Logical false) (Logical false) h g = refl
 one_value b bs (Logical true) (Logical false) h g = no_both b bs h g
 one_value b bs (Logical false) (Logical true) h g = no_both b bs g h
 
-one_spelling : (parts : List (List ℕ)) (vs ws : List Value) → Spells parts vs → Spells parts ws → vs ≡ ws
+one_spelling : (parts : List (List ℕ)) (vs ws : List Value) → SpellsValues parts vs → SpellsValues parts ws → vs ≡ ws
 one_spelling [] [] [] h g = refl
 one_spelling [] [] (w ∷ ws) h g = absurd g
 one_spelling [] (v ∷ vs) ws h g = absurd h
@@ -76,11 +76,11 @@ one_spelling ((b ∷ bs) ∷ parts) (v ∷ vs) (w ∷ ws) h g =
 
 -- ---- a line is blank or one entry
 
-blank_behind : (xs ys : List ℕ) → IsBlank (xs ++ ys) → IsBlank ys
+blank_behind : (xs ys : List ℕ) → AreBlanks (xs ++ ys) → AreBlanks ys
 blank_behind [] ys h = h
 blank_behind (x ∷ xs) ys h = blank_behind xs ys (λ k d below. h (suc k) d (omega (arith, below)))
 
-no_name : (name more : List ℕ) → IsBlank (name ++ more) → IsName name → ⊥
+no_name : (name more : List ℕ) → AreBlanks (name ++ more) → IsName name → ⊥
 no_name [] more blank named = never named.0
   where
     never : false ≡ true → ⊥
@@ -90,9 +90,9 @@ no_name (a ∷ others) more blank named = never (sym (letter_dark a named.0) ∙
     never : false ≡ true → ⊥
     never e = cc
 
-no_entry : {X : Type 0} (line : List ℕ) (e : Entry) → IsBlank line → IsEntry line e → X
+no_entry : {X : Type 0} (line : List ℕ) (e : Entry) → AreBlanks line → IsEntry line e → X
 no_entry line e blank (rest, (before, between, whole, blanks, named, more), values) =
-    absurd (no_name e.0 (between ++ (58 ∷ rest)) (blank_behind before (e.0 ++ (between ++ (58 ∷ rest))) (subst IsBlank whole blank)) named)
+    absurd (no_name e.0 (between ++ (58 ∷ rest)) (blank_behind before (e.0 ++ (between ++ (58 ∷ rest))) (subst AreBlanks whole blank)) named)
 
 one_entry : (line : List ℕ) (e f : Entry) → IsEntry line e → IsEntry line f → e ≡ f
 one_entry line e f (r, head, values) (q, other, more) =

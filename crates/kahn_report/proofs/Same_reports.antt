@@ -37,7 +37,7 @@ use Rattle.kahn_pool.specs.Right.{AreOne, IsRight, line_of, values_of}
 use Rattle.kahn_pool.specs.Runs.{IsWatched}
 use Rattle.kahn_pool.proofs.Unique.{finished_is_one}
 use Rattle.kahn_report.specs.Names as name
-use Rattle.kahn_report.specs.Entries.{lines_of}
+use Rattle.kahn_report.specs.Entries.{text_lines}
 use Rattle.kahn_report.specs.News.{spaced_text}
 use Rattle.kahn_report.specs.Report.{line_head, line_feed, stream_text, outcome_word, waited_name, end_words, end_text, ends_text, verdict_text, last_text, report_text}
 use Rattle.kahn_report.specs.Work.{IsOneReport, watched_name}
@@ -143,7 +143,7 @@ pub one_report : (program input : List ℕ) (config other : Config) → IsOneRep
 one_report program input config other old new newer watched (t, i, a, (checked, stands, run), verdict, gone) (u, j, b, (rechecked, restands, rerun), reverdict, regone) =
     let tree : program_of t ≡ program_of u = one_program program t u checked.0.0 rechecked.0.0 in
     let channels : channel_names t ≡ channel_names u = one_channels t u tree in
-    let entries = one_list (lines_of input) stands.0 restands.0 stands.1.1 restands.1.1 in
+    let entries = one_list (text_lines input) stands.0 restands.0 stands.1.1 restands.1.1 in
     let lists : inputs_of i ≡ inputs_of j = one_input t u stands.0 restands.0 i j channels entries stands.2 restands.2 in
     let place : run.1.0 ≡ rerun.1.0 =
     watch_is t checked.1 config.watch run.1.0 run.1.1 ∙ ap (λ (c : Scope). place_in c (watched_name config.watch)) channels ∙ ap (place_in (channel_names u)) watched

@@ -6,7 +6,7 @@ use Rattle.std.proofs.lemmas.Bool.Decides.{leb_tells}
 use Rattle.std.proofs.lemmas.Bool.{lt-ltb}
 use Rattle.std.proofs.lemmas.List.Sums.{prefix_len-le-length}
 use Rattle.std.proofs.Math.Seq.{take-append_seam, drop-append_seam}
-use Rattle.kahn_report.specs.Entries.{HasHead, IsName, IsBlank, is_blank, is_word_byte}
+use Rattle.kahn_report.specs.Entries.{HasHead, IsName, AreBlanks, is_blank, is_word_byte}
 use Rattle.kahn_report.proofs.Words.{letter_dark, blank_apart}
 
 -- the place of the first byte that fails a test
@@ -67,13 +67,13 @@ found line text word after tail rest is_text is_word is_after is_tail colon name
     (take n line, take k after, whole, all_passed is_blank line, name, all_passed is_blank after)
 
 -- the word stops at what follows it
-word_stopped : (text name between rest : List ℕ) → text ≡ name ++ (between ++ (58 ∷ rest)) → All (λ b. is_word_byte b ≡ true) name → IsBlank between
+word_stopped : (text name between rest : List ℕ) → text ≡ name ++ (between ++ (58 ∷ rest)) → All (λ b. is_word_byte b ≡ true) name → AreBlanks between
     → (take (stop is_word_byte text) text ≡ name) × (drop (stop is_word_byte text) text ≡ between ++ (58 ∷ rest))
 word_stopped text name [] rest e word blank = stopped is_word_byte text name 58 rest e word refl
 word_stopped text name (w ∷ ws) rest e word blank = stopped is_word_byte text name w (ws ++ (58 ∷ rest)) e word (blank_apart w (blank 0 w (omega arith)))
 
 -- the blanks before a name stop at it
-name_stopped : (line before name more : List ℕ) → line ≡ before ++ (name ++ more) → IsBlank before → IsName name → drop (stop is_blank line) line ≡ name ++ more
+name_stopped : (line before name more : List ℕ) → line ≡ before ++ (name ++ more) → AreBlanks before → IsName name → drop (stop is_blank line) line ≡ name ++ more
 name_stopped line before [] more e blank (letter, word, short) = absurd (false_is letter)
   where
     false_is : false ≡ true → ⊥

@@ -7,9 +7,9 @@ use Rattle.kahn_streams.specs.Entries.{Entry, IsFirstRefused}
 use Rattle.kahn_report.specs.declared.input.TextFault.{TextFault}
 use Rattle.kahn_report.specs.declared.input.TextFault.TheVariants as text_fault
 use Rattle.kahn_report.specs.Entries.{IsInputText, IsEntriesFault}
-use Rattle.kahn_report.specs.Inputs.{IsTextFault, told_of_input}
+use Rattle.kahn_report.specs.Inputs.{IsInputTextFault, told_of_input}
 
-pub entries_told : (t : Program) (text : List ℕ) (fault : TextFault) → IsEntriesFault text fault → IsTextFault t text fault
+pub entries_told : (t : Program) (text : List ℕ) (fault : TextFault) → IsEntriesFault text fault → IsInputTextFault t text fault
 entries_told t text (text_fault.BadLine n) h = h
 entries_told t text (text_fault.BadValue n) h = h
 entries_told t text (text_fault.Input f) h = absurd h
@@ -21,7 +21,7 @@ refused t entries fault other (inl e) = absurd (other e)
 refused t entries fault other (inr h) = h
 
 pub input_told : (t : Program) (text : List ℕ) (entries : List Entry) (fault : InputFault) → IsInputText text entries
-    → (fault ≡ NoMemory) ⊎ IsFirstRefused t entries fault → IsTextFault t text (told_of_input fault)
+    → (fault ≡ NoMemory) ⊎ IsFirstRefused t entries fault → IsInputTextFault t text (told_of_input fault)
 input_told t text entries (UnknownName n) is h = (entries, is, refused t entries (UnknownName n) (λ e. cc) h)
 input_told t text entries (NotAnInput n) is h = (entries, is, refused t entries (NotAnInput n) (λ e. cc) h)
 input_told t text entries (GivenTwice n) is h = (entries, is, refused t entries (GivenTwice n) (λ e. cc) h)

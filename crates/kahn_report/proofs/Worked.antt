@@ -1,5 +1,5 @@
 -- What each part of the work says of the whole.
-use Rattle.std.proofs.Common.{ℕ, List, Option, Err, refl}
+use Rattle.std.proofs.Common.{ℕ, List, Option, Err, inl, inr, refl}
 use Rattle.kahn_tree.specs.declared.tree.Program.{Program}
 use Rattle.kahn_config.specs.declared.Config.{Config}
 use Rattle.kahn_report.specs.declared.working.WorkFault.{WorkFault}
@@ -8,8 +8,8 @@ use Rattle.kahn_report.specs.Work.{IsChecked, IsUnchecked, IsUnanswered, IsWorke
 
 pub unchecked : (program input : List ℕ) (config : Config) (written : Option (List ℕ)) (fault : WorkFault) → IsUnchecked program fault →
     IsWorked program input config written written (Err fault)
-unchecked program input config written (Syntax f) h = (h, refl)
-unchecked program input config written (Check f) h = (h, refl)
+unchecked program input config written (Syntax f) h = (inl h, refl)
+unchecked program input config written (Check f) h = (inl h, refl)
 unchecked program input config written (Text f) h = absurd h
 unchecked program input config written (Run f) h = absurd h
 unchecked program input config written (Write f) h = absurd h
@@ -18,6 +18,6 @@ pub unanswered : (program input : List ℕ) (config : Config) (written : Option 
     IsUnanswered t input config fault → IsWorked program input config written written (Err fault)
 unanswered program input config written t (Syntax f) is h = absurd h
 unanswered program input config written t (Check f) is h = absurd h
-unanswered program input config written t (Text f) is h = ((t, is, h), refl)
-unanswered program input config written t (Run f) is h = ((t, h.0, is, h.1, h.2), refl)
+unanswered program input config written t (Text f) is h = (inr (t, is, h), refl)
+unanswered program input config written t (Run f) is h = (inr (t, is, h), refl)
 unanswered program input config written t (Write f) is h = absurd h

@@ -6,7 +6,7 @@ use Rattle.kahn_streams.specs.declared.entries.InputFault.TheVariants as input_f
 use Rattle.kahn_streams.specs.Entries.{Entry, IsFirstRefused, IsMadeOf}
 use Rattle.kahn_streams.specs.Tokens.{Lists}
 use Rattle.kahn_report.specs.declared.input.TextFault.{TextFault}
-use Rattle.kahn_report.specs.declared.input.TextFault.TheVariants.{BadLine, BadValue, Input, TooLong, NoMemory}
+use Rattle.kahn_report.specs.declared.input.TextFault.TheVariants.{Input, NoMemory}
 use Rattle.kahn_report.specs.Entries.{IsInputText, IsEntriesFault}
 
 -- the text spells entries with which nothing is wrong, and which give the channels these lists
@@ -14,18 +14,11 @@ abbrev pub StandsFor : Program → List ℕ → Lists → Type 0
 StandsFor t text lists = (entries : List Entry) × IsInputText text entries × IsMadeOf t entries lists
 
 -- why a text stands for no input: it spells no entries, or else one of its entries is refused
-abbrev pub IsTextFault : Program → List ℕ → TextFault → Type 0
-IsTextFault t text (BadLine n) = IsEntriesFault text (BadLine n)
-IsTextFault t text (BadValue n) = IsEntriesFault text (BadValue n)
-IsTextFault t text (Input fault) = (entries : List Entry) × IsInputText text entries × IsFirstRefused t entries fault
-IsTextFault t text TooLong = IsEntriesFault text TooLong
-IsTextFault t text NoMemory = IsEntriesFault text NoMemory
+abbrev pub IsInputTextFault : Program → List ℕ → TextFault → Type 0
+IsInputTextFault t text (Input fault) = (entries : List Entry) × IsInputText text entries × IsFirstRefused t entries fault
+IsInputTextFault t text fault = IsEntriesFault text fault
 
 -- a fault of the input as a fault of the text: want of memory is the text's own
 abbrev pub told_of_input : InputFault → TextFault
-told_of_input (input_fault.UnknownName n) = Input (input_fault.UnknownName n)
-told_of_input (input_fault.NotAnInput n) = Input (input_fault.NotAnInput n)
-told_of_input (input_fault.GivenTwice n) = Input (input_fault.GivenTwice n)
-told_of_input (input_fault.WrongKind n) = Input (input_fault.WrongKind n)
-told_of_input (input_fault.TooMany n) = Input (input_fault.TooMany n)
 told_of_input input_fault.NoMemory = NoMemory
+told_of_input fault = Input fault

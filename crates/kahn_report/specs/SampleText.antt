@@ -39,8 +39,8 @@ abbrev pub turn_words : List Terminal → List Terminal
 turn_words r = name (codes "B") ∷ sign mark.Becomes ∷ word keyword.Not ∷ name (codes "B") ∷ semicolon ∷ r
 
 -- end; end;
-abbrev pub end_words : List Terminal → List Terminal
-end_words r = word keyword.End ∷ semicolon ∷ word keyword.End ∷ semicolon ∷ r
+abbrev pub closing_words : List Terminal → List Terminal
+closing_words r = word keyword.End ∷ semicolon ∷ word keyword.End ∷ semicolon ∷ r
 
 abbrev pub f_words : List Terminal → List Terminal
 f_words r =
@@ -48,7 +48,7 @@ f_words r =
     ∷ word keyword.Integer ∷ word keyword.Out ∷ name (codes "W") ∷ variable_words (loop_words
     (word keyword.If ∷ name (codes "B") ∷ word keyword.Then ∷ wait_words (codes "U") (word keyword.Else ∷ wait_words (codes "V") (semicolon
     ∷ word keyword.Print ∷ sign mark.Open ∷ name (codes "I") ∷ sign mark.Close ∷ semicolon
-    ∷ send_words (codes "I") (codes "W") (semicolon ∷ turn_words (end_words r)))))))
+    ∷ send_words (codes "I") (codes "W") (semicolon ∷ turn_words (closing_words r)))))))
 
 abbrev pub g_words : List Terminal → List Terminal
 g_words r =
@@ -56,14 +56,14 @@ g_words r =
     ∷ word keyword.Integer ∷ word keyword.Out ∷ name (codes "V") ∷ comma ∷ name (codes "W") ∷ variable_words (loop_words
     (wait_words (codes "U") (semicolon
     ∷ word keyword.If ∷ name (codes "B") ∷ word keyword.Then ∷ send_words (codes "I") (codes "V") (word keyword.Else
-    ∷ send_words (codes "I") (codes "W") (semicolon ∷ turn_words (end_words r)))))))
+    ∷ send_words (codes "I") (codes "W") (semicolon ∷ turn_words (closing_words r)))))))
 
 abbrev pub h_words : List Terminal → List Terminal
 h_words r =
     process_words (codes "h") (word keyword.Integer ∷ word keyword.In ∷ name (codes "U") ∷ semicolon
     ∷ word keyword.Integer ∷ word keyword.Out ∷ name (codes "V") ∷ semicolon ∷ word keyword.Integer ∷ name (codes "INIT") ∷ variable_words
     (send_words (codes "INIT") (codes "V") (semicolon ∷ word keyword.Repeat ∷ word keyword.Begin ∷ name (codes "I") ∷ sign mark.Becomes
-    ∷ wait_words (codes "U") (semicolon ∷ send_words (codes "I") (codes "V") (semicolon ∷ end_words r)))))
+    ∷ wait_words (codes "U") (semicolon ∷ send_words (codes "I") (codes "V") (semicolon ∷ closing_words r)))))
 
 -- f(Y, Z, X) par g(X, T1, T2) par h(T1, Y, 0) par h(T2, Z, 1)
 abbrev pub main_words : List Terminal → List Terminal

@@ -1,5 +1,5 @@
 -- Believed. What the whole work does, from the bytes of the texts to the bytes of the report.
-use Rattle.std.specs.Prelude.{◌≡◌, ℕ, ◌≤◌, List, Option, Some, None, Result, Ok, Err, string_bytes}
+use Rattle.std.specs.Prelude.{◌≡◌, ℕ, ◌≤◌, ◌⊎◌, List, Option, Some, None, Result, Ok, Err, string_bytes}
 use Rattle.std.specs.declared.string.String.{String}
 use Rattle.std.specs.declared.alloc.Global.{Global}
 use Rattle.std.specs.Io.KnownBytes.{Appends}
@@ -17,10 +17,10 @@ use Rattle.kahn_pool.specs.declared.answer.Verdict.{Verdict}
 use Rattle.kahn_pool.specs.declared.answer.Verdict.TheVariants.{Finished}
 use Rattle.kahn_config.specs.declared.Config.{Config}
 use Rattle.kahn_pool.specs.Exact.{Settles}
-use Rattle.kahn_pool.specs.Runs.{IsRun, IsUnrun}
+use Rattle.kahn_pool.specs.Runs.{IsRightRun, IsUnrun}
 use Rattle.kahn_report.specs.declared.working.WorkFault.{WorkFault}
 use Rattle.kahn_report.specs.declared.working.WorkFault.TheVariants.{Syntax, Check, Text, Run, Write}
-use Rattle.kahn_report.specs.Inputs.{StandsFor, IsTextFault}
+use Rattle.kahn_report.specs.Inputs.{StandsFor, IsInputTextFault}
 use Rattle.kahn_report.specs.Report.{report_text}
 use Rattle.kahn_report.specs.Written.{AppendsFront}
 
@@ -32,43 +32,40 @@ IsParsed text t = IsProgram text t × (nesting (program_of t) ≤ 64)
 abbrev pub IsChecked : List ℕ → Program → Type 0
 IsChecked text t = IsParsed text t × IsWellWired t
 
+-- the right answer of a network for what an input text stands for
+abbrev pub IsTextAnswer : Program → List ℕ → Config → Answer → Type 0
+IsTextAnswer t input config a = (lists : Lists) × StandsFor t input lists × IsRightRun t lists config a
+
 -- the right answer for what the two texts stand for
 abbrev pub IsAnswered : List ℕ → List ℕ → Config → Program → Lists → Answer → Type 0
-IsAnswered program input config t lists a = IsChecked program t × StandsFor t input lists × IsRun t lists config a
+IsAnswered program input config t lists a = IsChecked program t × StandsFor t input lists × IsRightRun t lists config a
 
 -- want of memory apart, the run of what the two texts stand for finished exactly where its solution is within the bound
-abbrev pub IsSettled : List ℕ → List ℕ → Config → Verdict → Type 0
-IsSettled program input config verdict =
+abbrev pub FinishesWithin : List ℕ → List ℕ → Config → Verdict → Type 0
+FinishesWithin program input config verdict =
     (t : Program) × (lists : Lists) × IsChecked program t × StandsFor t input lists × Settles (network_of t) (inputs_of lists) config.bound verdict
 
 -- why a text is no well wired program
 abbrev pub IsUnchecked : List ℕ → WorkFault → Type 0
 IsUnchecked program (Syntax f) = IsSyntaxFault program f
 IsUnchecked program (Check f) = (t : Program) × IsParsed program t × IsMet (faults t) f
-IsUnchecked program (Text f) = ⊥
-IsUnchecked program (Run f) = ⊥
-IsUnchecked program (Write f) = ⊥
+IsUnchecked program f = ⊥
 
 -- why there is no answer for a network and an input text
 abbrev pub IsUnanswered : Program → List ℕ → Config → WorkFault → Type 0
-IsUnanswered t input config (Syntax f) = ⊥
-IsUnanswered t input config (Check f) = ⊥
-IsUnanswered t input config (Text f) = IsTextFault t input f
+IsUnanswered t input config (Text f) = IsInputTextFault t input f
 IsUnanswered t input config (Run f) = (lists : Lists) × StandsFor t input lists × IsUnrun t config f
-IsUnanswered t input config (Write f) = ⊥
+IsUnanswered t input config f = ⊥
 
--- the report of a right answer went out, or why not: the first of the faults in this order, after which nothing was
--- written, or the writer's, after which a prefix of such a report was
+-- the report of a right answer went out, or why not: the writer's fault, after which a prefix of such a report was, or the first
+-- of the others in this order, after which nothing was written
 abbrev pub IsWorked : List ℕ → List ℕ → Config → Option (List ℕ) → Option (List ℕ) → Result Verdict WorkFault → Type 0
 IsWorked program input config old new (Ok verdict) =
     (t : Program) × (lists : Lists) × (a : Answer) × IsAnswered program input config t lists a × (a.verdict ≡ verdict) × Appends old new (report_text t a)
-IsWorked program input config old new (Err (Syntax f)) = IsSyntaxFault program f × (new ≡ old)
-IsWorked program input config old new (Err (Check f)) = ((t : Program) × IsParsed program t × IsMet (faults t) f) × (new ≡ old)
-IsWorked program input config old new (Err (Text f)) = ((t : Program) × IsChecked program t × IsTextFault t input f) × (new ≡ old)
-IsWorked program input config old new (Err (Run f)) =
-    ((t : Program) × (lists : Lists) × IsChecked program t × StandsFor t input lists × IsUnrun t config f) × (new ≡ old)
 IsWorked program input config old new (Err (Write f)) =
     (t : Program) × (lists : Lists) × (a : Answer) × IsAnswered program input config t lists a × AppendsFront old new (report_text t a)
+IsWorked program input config old new (Err f) =
+    (IsUnchecked program f ⊎ ((t : Program) × IsChecked program t × IsUnanswered t input config f)) × (new ≡ old)
 
 -- the name of the channel that is to be watched
 abbrev pub watched_name : Option (String Global) → Option (List ℕ)

@@ -1,7 +1,7 @@
 //! The entries of an input text, line by line.
 
 ghost use Rattle.std.specs.Prelude.{◌≡◌, ◌↔◌, IsTrue, List, MatchResult, MatchOption, map};
-ghost use Rattle.kahn_report.specs.Entries.{IsBlank, IsEntry, IsLineFault, IsEntriesFault, IsInputText, content as content_of};
+ghost use Rattle.kahn_report.specs.Entries.{AreBlanks, IsEntry, IsLineFault, IsEntriesFault, IsInputText, IsReadLine, content as content_of};
 ghost use Rattle.kahn_streams.specs.Entries.{entry_of};
 
 use crate::heads::{head_of, is_blank};
@@ -40,14 +40,14 @@ fn content(line: &[u8]) -> &[u8]
 
 /// Whether a line has blanks alone, or nothing.
 fn is_blank_line(line: &[u8]) -> bool
-    ensures { IsTrue result ↔ IsBlank line.now }
+    ensures { IsTrue result ↔ AreBlanks line.now }
 {
     line.iter().all(|byte| is_blank(*byte))
 }
 
 /// Reads a line that isn't blank.
 fn read_entry(alloc: Global, line: &[u8]) -> Result<(String, Vec<Value>), LineFault>
-    requires { ¬ IsBlank line.now }
+    requires { ¬ AreBlanks line.now }
     ensures { MatchResult result (λ entry. IsEntry line.now (entry_of entry)) (IsLineFault line.now) }
 {
     let Some(head) = head_of(line) else {
@@ -67,8 +67,7 @@ fn read_entry(alloc: Global, line: &[u8]) -> Result<(String, Vec<Value>), LineFa
 /// Reads a line of an input text, without its line feed: an entry, or nothing where it is blank. One carriage return before
 /// its end is dropped.
 pub fn read_line(alloc: Global, line: &[u8]) -> Result<Option<(String, Vec<Value>)>, LineFault>
-    ensures { MatchResult result (λ read. MatchOption read (IsBlank (content_of line.now)) (λ entry. IsEntry (content_of line.now) (entry_of entry)))
-        (IsLineFault (content_of line.now)) }
+    ensures { MatchResult result (IsReadLine (content_of line.now)) (IsLineFault (content_of line.now)) }
 {
     let line = content(line);
     if is_blank_line(line) {

@@ -3,7 +3,7 @@
 ghost use Rattle.std.specs.Prelude.{◌≡◌, ◌≤◌, length, ◌≢◌, ◌∷◌, ℕ, List, MatchOption, take, drop, not, IsTrue, ◌↔◌, All, true};
 ghost use Rattle.std.specs.List.{position, position_or_len};
 ghost use Rattle.std.specs.Str.{IsUtf8};
-ghost use Rattle.kahn_report.specs.Entries.{HasHead, IsName, is_blank as blank, is_word_byte as word_byte};
+ghost use Rattle.kahn_report.specs.Entries.{IsHead, IsHeadless, IsName, is_blank as blank, is_word_byte as word_byte};
 
 use std::str;
 
@@ -111,8 +111,7 @@ fn name_of(word: &[u8]) -> Option<&str>
 
 /// The name of a line and what stands after its colon.
 pub(crate) fn head_of(line: &[u8]) -> Option<Head<'_>>
-    ensures { MatchOption result ((name rest : List ℕ) → HasHead line.now name rest → ⊥)
-        (λ head. HasHead line.now head.name.now head.rest.now × ((name rest : List ℕ) → HasHead line.now name rest → rest ≡ head.rest.now)) }
+    ensures { MatchOption result (IsHeadless line.now) (λ head. IsHead line.now head.name.now head.rest.now) }
 {
     let (word, after) = split_word(without_blanks(line));
     let Some(rest) = after_colon(without_blanks(after)) else {

@@ -3,7 +3,7 @@
 ghost use Rattle.std.specs.Prelude.{IfOk, MatchResult};
 ghost use Rattle.kahn_network.specs.Network.{network_of};
 ghost use Rattle.kahn_streams.specs.Kinded.{IsInputFor};
-ghost use Rattle.kahn_report.specs.Inputs.{IsTextFault, StandsFor};
+ghost use Rattle.kahn_report.specs.Inputs.{IsInputTextFault, StandsFor};
 
 use crate::entries::read_entries;
 use kahn_network::Network;
@@ -51,7 +51,7 @@ impl From<InputFault> for TextFault {
 /// memory was refused.
 #[tactic(auto, using(crate::proofs::Told::entries_told, crate::proofs::Told::input_told))]
 pub fn read_input(alloc: Global, text: &str, network: &Network) -> Result<Input, TextFault>
-    ensures read { MatchResult result (StandsFor network.now text.now) (IsTextFault network.now text.now) }
+    ensures read { MatchResult result (StandsFor network.now text.now) (IsInputTextFault network.now text.now) }
     ensures fits { IfOk result (IsInputFor (network_of network.now)) }
 {
     let entries = match read_entries(alloc, text) {

@@ -1,8 +1,8 @@
 //! A text, read to its end within a limit.
 
-ghost use Rattle.std.specs.Prelude.{◌≡◌, ℕ, ◌+◌, ◌<◌, ◌≤◌, length, MatchResult, string_bytes};
+ghost use Rattle.std.specs.Prelude.{◌≡◌, ◌+◌, ◌<◌, ◌≤◌, MatchResult, string_bytes};
 ghost use Rattle.std.specs.Str.{IsUtf8};
-ghost use Rattle.kahn_report.specs.Reading.{GivesAll, Stands};
+ghost use Rattle.kahn_report.specs.Reading.{IsTextRead};
 
 use kahn_tree::Steps;
 use std::alloc::Global;
@@ -36,8 +36,7 @@ pub fn read_counted<R: Read, L: Ledger>(
     reads: &mut Steps<L>,
 ) -> Result<String, ReadFault>
     requires { limit < usize.MAX }
-    ensures text { MatchResult result (λ text. GivesAll (R.remaining reader.old) (R.remaining reader.new) limit (string_bytes text))
-        (Stands (R.remaining reader.old) (R.remaining reader.new) limit) }
+    ensures text { IsTextRead (R.remaining reader.old) (R.remaining reader.new) limit result }
     ensures few { reads.new ≤ reads.old + limit + 2 }
 {
     let mut bytes = Vec::new(alloc);
@@ -79,8 +78,7 @@ fn read_opened<R: Read, L: Ledger>(
     requires parts { blank.parts ≡ L.parts }
     requires some { 0 < blank.parts }
     requires limit { limit < usize.MAX }
-    ensures { MatchResult result (λ text. GivesAll (R.remaining reader.old) (R.remaining reader.new) limit (string_bytes text))
-        (Stands (R.remaining reader.old) (R.remaining reader.new) limit) }
+    ensures { IsTextRead (R.remaining reader.old) (R.remaining reader.new) limit result }
 {
     let mut reads = Steps::<L>::open(blank);
     read_counted(alloc, reader, limit, &mut reads)
@@ -89,8 +87,7 @@ fn read_opened<R: Read, L: Ledger>(
 /// Reads a text to the end of input, or until one byte more than the limit came. What was read is gone from the reader.
 pub fn read_text<R: Read>(alloc: Global, reader: &mut R, limit: usize) -> Result<String, ReadFault>
     requires { limit < usize.MAX }
-    ensures { MatchResult result (λ text. GivesAll (R.remaining reader.old) (R.remaining reader.new) limit (string_bytes text))
-        (Stands (R.remaining reader.old) (R.remaining reader.new) limit) }
+    ensures { IsTextRead (R.remaining reader.old) (R.remaining reader.new) limit result }
 {
     read_opened::<R, Brand>(alloc, reader, Blank::new(1), limit)
 }

@@ -1,7 +1,7 @@
 //! The values of an entry, after its colon.
 
-ghost use Rattle.std.specs.Prelude.{◌≡◌, ℤ, List, MatchOption, MatchResult};
-ghost use Rattle.kahn_report.specs.Entries.{IsValue, AreValues};
+ghost use Rattle.std.specs.Prelude.{◌≡◌, ℤ, MatchOption, MatchResult};
+ghost use Rattle.kahn_report.specs.Entries.{AreNoValues, AreValues, IsValue};
 ghost use Rattle.kahn_streams.specs.declared.value.Value.{Value};
 ghost use Rattle.kahn_streams.specs.declared.value.Value.TheVariants.{Integer};
 
@@ -53,7 +53,7 @@ fn value_of(word: &[u8]) -> Option<Value>
 
 /// Reads the values between blanks.
 pub(crate) fn read_values(alloc: Global, text: &[u8]) -> Result<Vec<Value>, ValuesFault>
-    ensures { MatchResult result (λ values. AreValues text.now values.items) (λ fault. fault ≡ ValuesFault.NoValue → (values : List Value) → AreValues text.now values → ⊥) }
+    ensures { MatchResult result (λ values. AreValues text.now values.items) (λ fault. fault ≡ ValuesFault.NoValue → AreNoValues text.now) }
 {
     let mut values = Vec::new(alloc);
     for word in text.split(|byte| *byte == b' ' || *byte == b'\t') {

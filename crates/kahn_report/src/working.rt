@@ -1,9 +1,6 @@
 //! The whole work: from a program text and an input text to a report.
 
-ghost use Rattle.kahn_report.specs.Work.{IsChecked, IsSettled, IsUnanswered, IsUnchecked, IsWorked};
-ghost use Rattle.kahn_report.specs.Inputs.{StandsFor};
-ghost use Rattle.kahn_pool.specs.Runs.{IsRun};
-ghost use Rattle.kahn_streams.specs.Tokens.{Lists};
+ghost use Rattle.kahn_report.specs.Work.{IsChecked, FinishesWithin, IsTextAnswer, IsUnanswered, IsUnchecked, IsWorked};
 ghost use Rattle.std.specs.Prelude.{IfOk, MatchResult};
 
 use crate::input::{TextFault, read_input};
@@ -81,7 +78,7 @@ fn answered<R: Threads + Wait + Sync, G: Gate + Sync>(
     config: Config,
     gate: &G,
 ) -> Result<Answer, WorkFault>
-    ensures { MatchResult result (λ a. (lists : Lists) × StandsFor network.now text.now lists × IsRun network.now lists config a) (IsUnanswered network.now text.now config) }
+    ensures { MatchResult result (IsTextAnswer network.now text.now config) (IsUnanswered network.now text.now config) }
 {
     let input = read_input(alloc, text, network)?;
     match run(rt, alloc, network, input, config, gate) {
@@ -107,7 +104,7 @@ pub fn work<R: Threads + Wait + Sync, G: Gate + Sync, W: Write>(
     writer: &mut W,
 ) -> Result<Verdict, WorkFault>
     ensures told { IsWorked program.now input.now config (W.contents writer.old) (W.contents writer.new) result }
-    ensures exact { IfOk result (IsSettled program.now input.now config) }
+    ensures exact { IfOk result (FinishesWithin program.now input.now config) }
 {
     let network = match checked(alloc, program) {
         Ok(network) => network,

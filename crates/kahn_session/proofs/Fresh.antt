@@ -2,19 +2,17 @@
 use Rattle.std.proofs.Common.{arith, ◌≡◌, ◌∙◌, ℕ, zero, suc, ◌+◌, ◌<◌, ◌≤◌, List, [], ◌∷◌, ◌++◌, length, map, drop, get_or, add-one, append_assoc, refl, sym, ap, subst, Some}
 use Rattle.std.specs.Prelude.{slice_get, slice_index_or}
 use Rattle.std.specs.List.{AllByRecursion}
-use Rattle.std.proofs.lemmas.List.{drop-map}
 use Rattle.kahn_tree.specs.declared.tree.Program.{Program}
-use Rattle.kahn_network.specs.Wiring.{IsWellWired}
 use Rattle.kahn_streams.specs.declared.token.Token.{Token}
 use Rattle.kahn_streams.specs.declared.value.Line.{Line}
 use Rattle.kahn_code.specs.Cells.{token_value}
-use Rattle.kahn_pool.specs.HeldRuns.{HasSoFar, HeldRun, so_far}
-use Rattle.kahn_pool.proofs.Held_streams.{so_far_is}
+use Rattle.kahn_pool.specs.HeldRuns.{HeldRun, so_far}
+use Rattle.kahn_pool.specs.Flows.{AreNew, Flowing, flow_lines}
+use Rattle.kahn_streams.specs.declared.value.Value.{Value}
 use Rattle.kahn_report.specs.News.{more_text, news_text}
 use Rattle.kahn_report.specs.Report.{IsLine}
 use Rattle.kahn_report.proofs.Right_lines.{streamed_lines}
-use Rattle.kahn_session.specs.Live.{run_lines}
-use Rattle.kahn_session.specs.inner.Shown.{news_of}
+use Rattle.kahn_session.specs.inner.Shown.{values_behind}
 
 -- what is new on one stream
 abbrev pub news_line : Program → HeldRun → List ℕ → ℕ → Line → List ℕ
@@ -22,7 +20,7 @@ news_line program h counts i c = more_text program c (drop (slice_index_or count
 
 -- and on those from one on
 abbrev pub rest_text : Program → HeldRun → List Line → List ℕ → ℕ → List ℕ
-rest_text program h lines counts i = news_text program (drop i lines) (news_of h (drop i lines) (drop i counts))
+rest_text program h lines counts i = news_text program (drop i lines) (values_behind h (drop i lines) (drop i counts))
 
 drop_none : (n : ℕ) → drop {A = ℕ} n [] ≡ []
 drop_none zero = refl
@@ -34,7 +32,7 @@ split program h [] counts i d below = absurd (omega (arith, below))
 split program h (c ∷ lines) [] zero d below = refl
 split program h (c ∷ lines) (n ∷ counts) zero d below = refl
 split program h (c ∷ lines) [] (suc i) d below =
-    ap (λ l. news_text program (drop i lines) (news_of h (drop i lines) l)) (sym (drop_none i)) ∙ split program h lines [] i d (omega (arith, below))
+    ap (λ l. news_text program (drop i lines) (values_behind h (drop i lines) l)) (sym (drop_none i)) ∙ split program h lines [] i d (omega (arith, below))
 split program h (c ∷ lines) (n ∷ counts) (suc i) d below = split program h lines counts i d (omega (arith, below))
 
 -- the line of the stream at i, and those that follow
@@ -51,26 +49,36 @@ news_moved program h lines counts i d all done below e =
     e ∙ ap (λ l. done ++ l) (news_split program h lines counts i d below)
     ∙ sym (append_assoc done (news_line program h counts i (get_or lines i d)) (rest_text program h lines counts (i + 1)))
 
--- the tokens behind so many are what is new
-pub values_new : (h : HeldRun) (c : Line) (ts us : List Token) (n : ℕ) → IsWellWired h.network → HasSoFar h c (map token_value ts) → us ≡ drop n ts →
-    map token_value us ≡ drop n (so_far h c)
-values_new h c ts us n wired so e =
-    ap (map token_value) e ∙ sym (drop-map token_value n ts) ∙ ap (drop n) (so_far_is h wired c (map token_value ts) so)
+-- of tokens that are new of a stream the values are those behind what was let go of it
+pub values_new : (f : Flowing) (i : ℕ) (c : Line) (ts : List Token) → slice_get (flow_lines f.run) i ≡ Some c → AreNew f c ts →
+    map token_value ts ≡ drop (slice_index_or (map length f.out) i 0) (so_far f.run c)
+values_new f i c ts at new =
+    sym (ap (λ vs. drop (slice_index_or (map length f.out) i 0) vs) (new i at) ∙ ap (λ n. drop n (slice_index_or f.out i [] ++ map token_value ts)) (counted f.out i)
+    ∙ behind (slice_index_or f.out i []) (map token_value ts))
+  where
+    counted : (outs : List (List Value)) (i : ℕ) → slice_index_or (map length outs) i 0 ≡ length (slice_index_or outs i [])
+    counted [] i = refl
+    counted (vs ∷ outs) zero = refl
+    counted (vs ∷ outs) (suc i) = counted outs i
 
-pub tokens_new : (program : Program) (h : HeldRun) (c : Line) (ts us : List Token) (n : ℕ) → IsWellWired h.network → HasSoFar h c (map token_value ts) → us ≡ drop n ts →
-    more_text program c (map token_value us) ≡ more_text program c (drop n (so_far h c))
-tokens_new program h c ts us n wired so e = ap (more_text program c) (values_new h c ts us n wired so e)
+    behind : (vs zs : List Value) → drop (length vs) (vs ++ zs) ≡ zs
+    behind [] zs = refl
+    behind (v ∷ vs) zs = behind vs zs
+
+pub tokens_new : (program : Program) (f : Flowing) (i : ℕ) (c : Line) (ts : List Token) → slice_get (flow_lines f.run) i ≡ Some c → AreNew f c ts →
+    more_text program c (map token_value ts) ≡ news_line program f.run (map length f.out) i c
+tokens_new program f i c ts at new = ap (more_text program c) (values_new f i c ts at new)
 
 -- the news of the stream of a number, and of no stream
 pub news_at : (h : HeldRun) (lines : List Line) (counts : List ℕ) (i : ℕ) (d : Line) → i < length lines →
-    slice_index_or (news_of h lines counts) i [] ≡ drop (slice_index_or counts i 0) (so_far h (slice_index_or lines i d))
+    slice_index_or (values_behind h lines counts) i [] ≡ drop (slice_index_or counts i 0) (so_far h (slice_index_or lines i d))
 news_at h [] counts i d below = absurd (omega (arith, below))
 news_at h (c ∷ lines) [] zero d below = refl
 news_at h (c ∷ lines) (n ∷ counts) zero d below = refl
 news_at h (c ∷ lines) [] (suc i) d below = news_at h lines [] i d (omega (arith, below))
 news_at h (c ∷ lines) (n ∷ counts) (suc i) d below = news_at h lines counts i d (omega (arith, below))
 
-pub news_past : (h : HeldRun) (lines : List Line) (counts : List ℕ) (i : ℕ) → length lines ≤ i → slice_index_or (news_of h lines counts) i [] ≡ []
+pub news_past : (h : HeldRun) (lines : List Line) (counts : List ℕ) (i : ℕ) → length lines ≤ i → slice_index_or (values_behind h lines counts) i [] ≡ []
 news_past h [] counts i past = refl
 news_past h (c ∷ lines) counts zero past = absurd (omega (arith, past))
 news_past h (c ∷ lines) [] (suc i) past = news_past h lines [] i (omega (arith, past))
@@ -85,5 +93,5 @@ all_at P (y ∷ xs) zero x h e = subst P (same e) h.0
 all_at P (y ∷ xs) (suc i) x h e = all_at P xs i x h.1 e
 
 -- a line of a stream is one of the network
-pub is_line : (t : Program) (h : HeldRun) (i : ℕ) (c : Line) → h.network ≡ t → slice_get (run_lines h) i ≡ Some c → IsLine t c
-is_line t h i c e at = subst (λ u. IsLine u c) e (all_at (IsLine h.network) (run_lines h) i c (streamed_lines h.network h.watch) at)
+pub is_line : (t : Program) (h : HeldRun) (i : ℕ) (c : Line) → h.network ≡ t → slice_get (flow_lines h) i ≡ Some c → IsLine t c
+is_line t h i c e at = subst (λ u. IsLine u c) e (all_at (IsLine h.network) (flow_lines h) i c (streamed_lines h.network h.watch) at)

@@ -3,6 +3,10 @@ use Rattle.std.proofs.Common.{arith, ◌≡◌, ◌∙◌, ℕ, zero, suc, ◌+�
 use Rattle.std.proofs.lemmas.List.Sums.{sum_by-cons}
 use Rattle.std.proofs.Math.Nat.{min-le_left, min-le_right}
 use Rattle.kahn_pool.specs.HeldRuns.{HasResumed, HeldRun, Seen, seen_at, seen_events}
+use Rattle.kahn_pool.specs.Flows.{Flowing, IsUnpoured}
+use Rattle.kahn_streams.specs.Entries.{Entry}
+use Rattle.kahn_streams.specs.declared.feeds.FeedFault.{FeedFault}
+use Rattle.kahn_streams.specs.declared.feeds.FeedFault.TheVariants.{NoMemory, NotAnInput, TooMany, UnknownName, WrongKind}
 use Rattle.kahn_session.specs.Pace.{Pace, events_of, most_bound, part_bound}
 
 -- where no process has fewer events, neither have all together
@@ -34,6 +38,14 @@ after_part h k step allowed more is part resumed =
     let few : k.bound ≤ events_of h + step = subst (λ n. n ≤ events_of h + step) (sym whole) (min-le_left (events_of h + step) most_bound) in
     (ap (λ n. n + more) is ∙ sym resumed.bound, most, omega (arith, few, events))
 
--- two with the same run and the same step
-pub one_pace : (p q : Pace) → p.run ≡ q.run → p.step ≡ q.step → p ≡ q
-one_pace p q run step = ap (λ (h : HeldRun). record { run = h; step = p.step }) run ∙ ap (λ (n : ℕ). record { run = q.run; step = n }) step
+-- two with the same flow and the same step
+pub one_pace : (p q : Pace) → p.flow ≡ q.flow → p.step ≡ q.step → p ≡ q
+one_pace p q flow step = ap (λ (f : Flowing). record { flow = f; step = p.step }) flow ∙ ap (λ (n : ℕ). record { flow = q.flow; step = n }) step
+
+-- a refusal changes nothing, and is one of what stands
+pub unpoured : (entry : Entry) (a b : Flowing) (f : FeedFault) → IsUnpoured entry a b f → (b ≡ a) × IsUnpoured entry a a f
+unpoured entry a b TooMany (same, meant, why) = (same, (refl, meant, why))
+unpoured entry a b NoMemory (same, meant) = (same, (refl, meant))
+unpoured entry a b UnknownName (same, why) = (same, (refl, why))
+unpoured entry a b NotAnInput (same, why) = (same, (refl, why))
+unpoured entry a b WrongKind (same, why) = (same, (refl, why))

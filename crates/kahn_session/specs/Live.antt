@@ -1,58 +1,57 @@
 -- Believed. A session: a run that is fed line by line, and what it has shown of its streams (this project's profile).
-use Rattle.std.specs.Prelude.{◌≡◌, ◌⊎◌, ℕ, ◌<◌, ◌≤◌, Bool, true, false, List, [], map, length, replicate, slice_get, slice_index_or, Option, None, Some, Result, Ok, Err}
+use Rattle.std.specs.Prelude.{◌≡◌, ◌⊎◌, ℕ, ◌<◌, ◌≤◌, Bool, true, false, List, [], map, length, replicate, slice_get, slice_index_or, Option, None, Some, Result, Ok, Err, ◌&&◌, not, nat_lt}
 use Rattle.std.specs.Io.KnownBytes.{Appends}
+use Rattle.std.specs.List.{list_any}
 use Rattle.std.specs.Str.{IsUtf8}
 use Rattle.kahn_config.specs.declared.Config.{Config}
 use Rattle.kahn_tree.specs.declared.tree.Program.{Program}
-use Rattle.kahn_network.specs.Network.{network_of}
+use Rattle.kahn_tree.specs.declared.tree.Role.{Role}
+use Rattle.kahn_tree.specs.declared.tree.Role.TheVariants as role
+use Rattle.kahn_network.specs.Network.{Network, network_of, role_at}
 use Rattle.kahn_streams.specs.declared.value.Value.{Value}
 use Rattle.kahn_streams.specs.declared.value.Line.{Line}
 use Rattle.kahn_streams.specs.declared.value.Line.TheVariants.{Channel}
 use Rattle.kahn_streams.specs.Entries.{Entry}
-use Rattle.kahn_streams.specs.Feeds.{IsUnwelcome}
 use Rattle.kahn_streams.specs.Tokens.{inputs_of}
 use Rattle.kahn_pool.specs.Exact.{Settles}
-use Rattle.kahn_pool.specs.HeldRuns.{GoesOn, HasFed, HasStarted, HeldRun, IsRightSoFar, IsUnstarted, so_far}
-use Rattle.kahn_pool.specs.Right.{stream_lines}
+use Rattle.kahn_pool.specs.HeldRuns.{GoesOn, HeldRun, IsRightSoFar, IsUnstarted, so_far}
+use Rattle.kahn_pool.specs.Flows.{Flowing, HasFlowed, HasPouredIn, IsUnpoured, flow_lines}
 use Rattle.kahn_pool.specs.declared.answer.End.{End}
+use Rattle.kahn_pool.specs.declared.answer.Outcome.{Outcome}
+use Rattle.kahn_pool.specs.declared.answer.Outcome.TheVariants.{Faulted, Waits}
 use Rattle.kahn_pool.specs.declared.answer.Verdict.{Verdict}
+use Rattle.kahn_pool.specs.declared.answer.Verdict.TheVariants.{Finished}
 use Rattle.kahn_pool.specs.declared.config.RunFault.{RunFault}
 use Rattle.kahn_pool.specs.declared.config.RunFault.TheVariants as fault
-use Rattle.kahn_report.specs.Entries.{IsBlank, IsEntry, HasNoHead, HasNoValues, content, most_bytes}
+use Rattle.kahn_report.specs.Entries.{AreBlanks, IsEntry, HasNoHead, HasNoValues, content, most_bytes}
 use Rattle.kahn_report.specs.Names.{channel_name}
 use Rattle.kahn_report.specs.News.{closing_text, joined, news_text, plain_text}
 use Rattle.kahn_report.specs.Written.{AppendsFront}
 use Rattle.kahn_report.specs.declared.write.WriteFault.{WriteFault}
 use Rattle.kahn_session.specs.Pace.{events_of, part_bound}
 use Rattle.kahn_session.specs.declared.fault.TakeFault.{TakeFault}
-use Rattle.kahn_session.specs.declared.fault.TakeFault.TheVariants.{TooLong, NotUtf8, BadLine, BadValue, Feed, NoMemory, WaitsForMemory, WaitsForThread, Write}
+use Rattle.kahn_session.specs.declared.fault.TakeFault.TheVariants.{TooLong, NotUtf8, BadLine, BadValue, Feed, NoMemory, Write}
 
 pub record Live : Type 0 where
-  pub run : HeldRun
+  -- the run, and what was let go of each stream: all of it went out
+  pub flow : Flowing
   -- the events that a part may take
   pub step : ℕ
-  -- the values of each stream that went out so far, in the order of the streams; none before the first part
-  pub shown : List (List Value)
-  -- whether a write failed: then `shown` doesn't tell what went out
+  -- whether a write failed: then more may have gone out
   pub broken : Bool
   -- the number of the stream whose values alone are shown, one a line; else all streams are
   pub plain : Option ℕ
 
--- the lines of the streams of a run
-abbrev pub run_lines : HeldRun → List Line
-run_lines h = stream_lines (network_of h.network) h.watch
-
 -- the run has a verdict for its input so far and its bound so far, and no write failed
 abbrev pub HasVerdict : Live → Type 0
-HasVerdict s = (s.broken ≡ false) × ((v : Verdict) × (s.run.verdict ≡ Some v))
+HasVerdict s = (s.broken ≡ false) × ((v : Verdict) × (s.flow.run.verdict ≡ Some v))
 
 -- ---- the start
 
--- a held run over no input, whose parts may take as many events as the configuration's bound; nothing is shown
+-- a run over no input, whose parts may take as many events as the configuration's bound; nothing went out
 pub record HasOpened (t : Program) (config : Config) (s : Live) : Type 0 where
-  pub run : HasStarted t (replicate (length (network_of t).channels) []) config s.run
+  pub flow : HasFlowed t (replicate (length (network_of t).channels) []) config s.flow
   pub step : s.step ≡ config.bound
-  pub shown : s.shown ≡ []
   pub broken : s.broken ≡ false
   pub plain : s.plain ≡ None
 
@@ -73,7 +72,7 @@ IsNamedAt t lines number name = (line : Line) × (slice_get lines number ≡ Som
 
 -- the stream of this number is that of a channel of this name
 abbrev pub IsStreamOf : HeldRun → ℕ → List ℕ → Type 0
-IsStreamOf h number name = IsNamedAt h.network (run_lines h) number name
+IsStreamOf h number name = IsNamedAt h.network (flow_lines h) number name
 
 -- ---- a line of input
 
@@ -82,38 +81,36 @@ abbrev pub IsText : List ℕ → Type 0
 IsText line = (length line ≤ most_bytes) × IsUtf8 line
 
 -- what the line makes of the run before its part: nothing where it is blank, and else its values are fed
-abbrev pub IsFedBy : List ℕ → HeldRun → HeldRun → Type 0
+abbrev pub IsFedBy : List ℕ → Flowing → Flowing → Type 0
 IsFedBy line old new =
-    IsText line × ((IsBlank (content line) × (new ≡ old)) ⊎ ((entry : Entry) × IsEntry (content line) entry × HasFed entry old new))
+    IsText line × ((AreBlanks (content line) × (new ≡ old)) ⊎ ((entry : Entry) × IsEntry (content line) entry × HasPouredIn entry old new))
 
 -- why the line feeds nothing
-abbrev pub IsUnfedBy : List ℕ → HeldRun → TakeFault → Type 0
+abbrev pub IsUnfedBy : List ℕ → Flowing → TakeFault → Type 0
 IsUnfedBy line h TooLong = most_bytes < length line
 IsUnfedBy line h NotUtf8 = (length line ≤ most_bytes) × ¬ IsUtf8 line
 IsUnfedBy line h BadLine = IsText line × HasNoHead (content line)
 IsUnfedBy line h BadValue = IsText line × HasNoValues (content line)
-IsUnfedBy line h (Feed f) = IsText line × ((entry : Entry) × IsEntry (content line) entry × IsUnwelcome h.network h.input entry f)
+IsUnfedBy line h (Feed f) = IsText line × ((entry : Entry) × IsEntry (content line) entry × IsUnpoured entry h h f)
 IsUnfedBy line h NoMemory = IsText line
-IsUnfedBy line h WaitsForMemory = ⊥
-IsUnfedBy line h WaitsForThread = ⊥
 IsUnfedBy line h (Write f) = ⊥
 
 -- the line's values were fed, and the run goes on
 pub record HasGoneOn (line : List ℕ) (old new : Live) : Type 0 where
-  pub fed : (h : HeldRun) × IsFedBy line old.run h × (new.run.input ≡ h.input)
-  pub goes_on : GoesOn old.run new.run
+  pub fed : (h : Flowing) × IsFedBy line old.flow h × (new.flow.run.input ≡ h.run.input)
+  pub goes_on : GoesOn old.flow.run new.flow.run
   pub step : new.step ≡ old.step
   pub plain : new.plain ≡ old.plain
 
 -- the part has this verdict, and the ends that are right for the input so far and the bound so far; and what is new on each
--- stream, behind what was shown of it, is its stream so far
+-- stream, behind what went out of it, is its stream so far
 pub record HasAnswered (line : List ℕ) (old new : Live) (v : Verdict) (news : List (List Value)) : Type 0 where
   pub gone_on : HasGoneOn line old new
-  pub bound : new.run.bound ≡ part_bound old.step old.run
-  pub verdict : new.run.verdict ≡ Some v
-  pub ends : (ends : List End) × IsRightSoFar new.run v ends
-  pub exact : Settles (network_of new.run.network) (inputs_of new.run.input) new.run.bound v
-  pub joined : joined old.shown news ≡ map (so_far new.run) (run_lines new.run)
+  pub bound : new.flow.run.bound ≡ part_bound old.step old.flow.run
+  pub verdict : new.flow.run.verdict ≡ Some v
+  pub ends : (ends : List End) × IsRightSoFar new.flow.run v ends
+  pub exact : Settles (network_of new.flow.run.network) (inputs_of new.flow.run.input) new.flow.run.bound v
+  pub joined : joined old.flow.out news ≡ map (so_far new.flow.run) (flow_lines new.flow.run)
 
 -- the text of the news of streams: a line for each that has some, or the values alone of one of them
 abbrev pub form_text : Option ℕ → Program → List Line → List (List Value) → List ℕ
@@ -122,13 +119,13 @@ form_text (Some number) program lines news = plain_text (slice_index_or news num
 
 -- the text of the news
 abbrev pub news_written : Live → List (List Value) → List ℕ
-news_written s news = form_text s.plain s.run.network (run_lines s.run) news
+news_written s news = form_text s.plain s.flow.run.network (flow_lines s.flow.run) news
 
 -- the news went out
 pub record HasTaken (line : List ℕ) (old new : Live) (before after : Option (List ℕ)) (v : Verdict) : Type 0 where
   pub news : List (List Value)
   pub answered : HasAnswered line old new v news
-  pub shown : new.shown ≡ map (so_far new.run) (run_lines new.run)
+  pub out : new.flow.out ≡ map (so_far new.flow.run) (flow_lines new.flow.run)
   pub text : Appends before after (news_written new news)
 
 -- a fault of the writer: a prefix of the news went out
@@ -138,12 +135,6 @@ pub record HasBroken (line : List ℕ) (old new : Live) (before after : Option (
   pub answered : HasAnswered line old new verdict news
   pub text : AppendsFront before after (news_written new news)
 
--- the line's values are fed and its part waits: nothing went out
-pub record IsWaiting (line : List ℕ) (old new : Live) (before after : Option (List ℕ)) : Type 0 where
-  pub gone_on : HasGoneOn line old new
-  pub shown : new.shown ≡ old.shown
-  pub text : after ≡ before
-
 -- whether the session is broken by a fault
 abbrev pub breaks : TakeFault → Bool
 breaks TooLong = false
@@ -152,30 +143,60 @@ breaks BadLine = false
 breaks BadValue = false
 breaks (Feed f) = false
 breaks NoMemory = false
-breaks WaitsForMemory = false
-breaks WaitsForThread = false
 breaks (Write f) = true
 
 -- nothing changed, and why
-pub record IsRefused (line : List ℕ) (old new : Live) (before after : Option (List ℕ)) (f : TakeFault) : Type 0 where
+pub record IsRefusedLine (line : List ℕ) (old new : Live) (before after : Option (List ℕ)) (f : TakeFault) : Type 0 where
   pub same : new ≡ old
   pub text : after ≡ before
-  pub why : IsUnfedBy line old.run f
+  pub why : IsUnfedBy line old.flow f
 
 -- what a line of input made of a session and of the bytes that were written
-abbrev pub IsTaken : List ℕ → Live → Live → Option (List ℕ) → Option (List ℕ) → Result Verdict TakeFault → Type 0
-IsTaken line old new before after (Ok v) = HasTaken line old new before after v
-IsTaken line old new before after (Err TooLong) = IsRefused line old new before after TooLong
-IsTaken line old new before after (Err NotUtf8) = IsRefused line old new before after NotUtf8
-IsTaken line old new before after (Err BadLine) = IsRefused line old new before after BadLine
-IsTaken line old new before after (Err BadValue) = IsRefused line old new before after BadValue
-IsTaken line old new before after (Err (Feed f)) = IsRefused line old new before after (Feed f)
-IsTaken line old new before after (Err NoMemory) = IsRefused line old new before after NoMemory
-IsTaken line old new before after (Err WaitsForMemory) = IsWaiting line old new before after × IsFedBy line old.run new.run
-IsTaken line old new before after (Err WaitsForThread) = IsWaiting line old new before after × (new.run.verdict ≡ None) × (1 < old.run.workers)
-IsTaken line old new before after (Err (Write f)) = HasBroken line old new before after
+abbrev pub IsTakenLine : List ℕ → Live → Live → Option (List ℕ) → Option (List ℕ) → Result Verdict TakeFault → Type 0
+IsTakenLine line old new before after (Ok v) = HasTaken line old new before after v
+IsTakenLine line old new before after (Err TooLong) = IsRefusedLine line old new before after TooLong
+IsTakenLine line old new before after (Err NotUtf8) = IsRefusedLine line old new before after NotUtf8
+IsTakenLine line old new before after (Err BadLine) = IsRefusedLine line old new before after BadLine
+IsTakenLine line old new before after (Err BadValue) = IsRefusedLine line old new before after BadValue
+IsTakenLine line old new before after (Err (Feed f)) = IsRefusedLine line old new before after (Feed f)
+IsTakenLine line old new before after (Err NoMemory) = IsRefusedLine line old new before after NoMemory
+IsTakenLine line old new before after (Err (Write f)) = HasBroken line old new before after
 
 -- ---- the end
+
+abbrev pub is_fault : Outcome → Bool
+is_fault (Faulted k) = true
+is_fault _ = false
+
+abbrev pub is_faulted : End → Bool
+is_faulted x = is_fault x.outcome
+
+-- whether a process has a fault, of the ends that are right for the input so far and the bound so far
+abbrev pub IsFaulty : HeldRun → Bool → Type 0
+IsFaulty h faulty =
+    (v : Verdict) × (h.verdict ≡ Some v) × ((ends : List End) × IsRightSoFar h v ends × (faulty ≡ list_any is_faulted ends))
+
+-- it waits on an input channel
+abbrev pub is_input : Role → Bool
+is_input role.Input = true
+is_input _ = false
+
+abbrev pub wants_input : Network → Outcome → Bool
+wants_input N (Waits c) = nat_lt c (length N.channels) && is_input (role_at N c)
+wants_input N _ = false
+
+abbrev pub waits_on_input : Network → End → Bool
+waits_on_input N x = wants_input N x.outcome
+
+abbrev pub is_finished : Verdict → Bool
+is_finished Finished = true
+is_finished _ = false
+
+-- whether no input can change the run any more: it has finished, and no process waits on an input channel
+abbrev pub IsDeaf : HeldRun → Bool → Type 0
+IsDeaf h deaf =
+    (v : Verdict) × (h.verdict ≡ Some v)
+    × ((ends : List End) × IsRightSoFar h v ends × (deaf ≡ (is_finished v && not (list_any (waits_on_input (network_of h.network)) ends))))
 
 -- the text of how the run ended: its verdict, with the ends that are right for the input so far and the bound so far
 abbrev pub IsLastText : HeldRun → Verdict → List ℕ → Type 0

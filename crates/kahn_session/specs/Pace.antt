@@ -1,15 +1,14 @@
--- Believed. A held run, each part of which may take so many events (this project's profile).
-use Rattle.std.specs.Prelude.{◌≡◌, ℕ, ◌+◌, ◌<◌, min, sum_by, None, Some}
+-- Believed. A run that is fed as it goes, each part of which may take so many events (this project's profile).
+use Rattle.std.specs.Prelude.{◌≡◌, ℕ, ◌+◌, min, sum_by, Some}
 use Rattle.kahn_network.specs.Network.{network_of}
 use Rattle.kahn_streams.specs.Tokens.{inputs_of}
 use Rattle.kahn_pool.specs.Exact.{Settles}
 use Rattle.kahn_pool.specs.HeldRuns.{GoesOn, HeldRun, seen_events}
+use Rattle.kahn_pool.specs.Flows.{Flowing}
 use Rattle.kahn_pool.specs.declared.answer.Verdict.{Verdict}
-use Rattle.kahn_session.specs.declared.fault.PartFault.{PartFault}
-use Rattle.kahn_session.specs.declared.fault.PartFault.TheVariants.{NoMemory, NoThread}
 
 pub record Pace : Type 0 where
-  pub run : HeldRun
+  pub flow : Flowing
   -- the events that a part may take
   pub step : ℕ
 
@@ -27,18 +26,14 @@ part_bound step h = min (events_of h + step) most_bound
 
 -- a part was run
 pub record HasRun (old new : Pace) : Type 0 where
-  pub goes_on : GoesOn old.run new.run
-  pub input : new.run.input ≡ old.run.input
-  pub bound : new.run.bound ≡ part_bound old.step old.run
+  pub goes_on : GoesOn old.flow.run new.flow.run
+  pub input : new.flow.run.input ≡ old.flow.run.input
+  pub bound : new.flow.run.bound ≡ part_bound old.step old.flow.run
+  pub out : new.flow.out ≡ old.flow.out
   pub step : new.step ≡ old.step
 
 -- and it has this verdict
 pub record IsPart (old new : Pace) (v : Verdict) : Type 0 where
   pub run : HasRun old new
-  pub settled : new.run.verdict ≡ Some v
-  pub exact : Settles (network_of new.run.network) (inputs_of new.run.input) new.run.bound v
-
--- why it has none: want of memory leaves all as it was
-abbrev pub IsNoPart : Pace → Pace → PartFault → Type 0
-IsNoPart old new NoMemory = new ≡ old
-IsNoPart old new NoThread = HasRun old new × (new.run.verdict ≡ None) × (1 < old.run.workers)
+  pub settled : new.flow.run.verdict ≡ Some v
+  pub exact : Settles (network_of new.flow.run.network) (inputs_of new.flow.run.input) new.flow.run.bound v

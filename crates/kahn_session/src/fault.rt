@@ -7,18 +7,7 @@ use kahn_report::WriteFault;
 use kahn_streams::FeedFault;
 use thiserror::Error;
 
-/// Why a part of a run gives no verdict.
-#[derive(Clone, Copy, Debug, PartialEq, Eq, Drop, Error)]
-pub(crate) enum PartFault {
-    /// Memory was refused before the first event.
-    #[error("no memory")]
-    NoMemory,
-    /// A thread couldn't be started.
-    #[error("no thread")]
-    NoThread,
-}
-
-/// Why a line of input isn't taken, or its part waits. After each but `Write` the session goes on with the next line.
+/// Why a line of input isn't taken. After each but `Write` the session goes on with the next line.
 #[derive(Clone, Copy, Debug, PartialEq, Eq, Drop, Error)]
 pub enum TakeFault {
     /// The line has more than 16,777,216 bytes. Nothing changed.
@@ -39,12 +28,6 @@ pub enum TakeFault {
     /// Memory was refused while the line was read. Nothing changed.
     #[error("no memory")]
     NoMemory,
-    /// The values are fed, and memory was refused for the part or for its answer. A blank line tries again.
-    #[error("waits for memory")]
-    WaitsForMemory,
-    /// The values are fed, and a thread couldn't be started. A blank line tries again.
-    #[error("waits for a thread")]
-    WaitsForThread,
     /// The part was run, and what is new couldn't be written whole. A prefix of it was, and the session is broken.
     #[error("news could not be written")]
     Write(WriteFault),

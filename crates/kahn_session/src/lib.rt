@@ -7,5 +7,5 @@ mod refusal;
 mod session;
 
 pub use fault::TakeFault;
-pub use refusal::write_refusal;
+pub use refusal::{write_refusal, write_waiting};
 pub use session::Session;

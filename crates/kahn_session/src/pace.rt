@@ -1,26 +1,21 @@
-//! A held run, each part of which may take so many events.
+//! A run that is fed as it goes, each part of which may take so many events.
 
-ghost use Rattle.std.specs.Prelude.{◌≡◌, ℕ, ◌+◌, Some, length, map, replicate, [], IfOk, MatchResult};
-ghost use Rattle.kahn_network.specs.Network.{network_of};
-ghost use Rattle.kahn_code.specs.Cells.{token_value};
-ghost use Rattle.kahn_pool.specs.HeldRuns.{HasFed, HasSoFar, HasStarted, IsLineOf, IsRightSoFar, IsUnfed, IsUnstarted};
-ghost use Rattle.kahn_pool.specs.Right.{stream_lines};
+ghost use Rattle.std.specs.Prelude.{◌≡◌, ℕ, ◌+◌, Some, IfOk, MatchResult};
+ghost use Rattle.kahn_pool.specs.HeldRuns.{IsLineOf, IsRightSoFar, IsUnstarted};
 ghost use Rattle.kahn_pool.specs.declared.answer.Verdict.{Verdict as VerdictOf};
-ghost use Rattle.kahn_session.specs.Pace.{IsNoPart, IsPart, events_of, part_bound};
+ghost use Rattle.kahn_pool.specs.Flows.{AreNew, HasFlowed, HasLetGo, HasPouredIn, IsUnpoured, flow_lines};
+ghost use Rattle.kahn_session.specs.Pace.{IsPart, events_of, part_bound};
 
-use crate::fault::PartFault;
 use kahn_network::Network;
-use kahn_pool::{Config, End, Gate, Held, HeldFault, MOST_BOUND, RunFault, Verdict};
+use kahn_pool::{Config, End, Flow, Gate, MOST_BOUND, RunFault, Verdict};
 use kahn_streams::{Carried, FeedFault, Input, Line, NoMemory, Value};
 use std::alloc::Global;
 use std::marker::Model;
-use std::sync::Wait;
-use std::thread::Threads;
 
-/// A held run, each part of which may take so many events.
+/// A run that is fed as it goes, each part of which may take so many events.
 #[derive(Drop)]
 pub(crate) struct Paced<'n> {
-    held: Held<'n>,
+    flow: Flow<'n>,
     step: u64,
     // The sum of all bounds so far.
     allowed: u64,
@@ -37,26 +32,25 @@ impl<'n> Model for Paced<'n> {
 
     ghost coded = { Prim.hlevel (codes, action.the_row.coded, form.the_row.coded) };
 
-    ghost view = { λ p. record { run = p.held; step = p.step } };
+    ghost view = { λ p. record { flow = p.flow; step = p.step } };
 
-    ghost invariant = { λ p. (p.allowed ≡ p.held.bound) × (p.held.bound ≤ most_bound) × (p.held.bound ≤ events_of p.held + p.step) };
+    ghost invariant = { λ p. (p.allowed ≡ p.flow.run.bound) × (p.flow.run.bound ≤ most_bound) × (p.flow.run.bound ≤ events_of p.flow.run + p.step) };
 }
 
 impl<'n> Paced<'n> {
-    /// A held run, whose parts may take as many events as the configuration's bound.
+    /// A run whose parts may take as many events as the configuration's bound.
     pub(crate) fn start(
         alloc: Global,
         network: &'n Network,
         input: Input,
         config: Config,
     ) -> Result<Paced<'n>, RunFault>
-        requires fits { length input ≡ length (network_of network.now).channels }
-        ensures { MatchResult result (λ p. HasStarted network.now input config p.run × (p.step ≡ config.bound)) (IsUnstarted network.now config) }
+        ensures { MatchResult result (λ p. HasFlowed network.now input config p.flow × (p.step ≡ config.bound)) (IsUnstarted network.now config) }
     {
         let step = config.bound;
-        let held = Held::start(alloc, network, input, config)?;
+        let flow = Flow::start(alloc, network, input, config)?;
         Ok(Paced {
-            held,
+            flow,
             step,
             allowed: step,
         })
@@ -64,77 +58,73 @@ impl<'n> Paced<'n> {
 
     /// How many events more the next part is allowed.
     fn more(&self) -> u64
-        ensures { self.now.run.bound + result ≡ part_bound self.now.step self.now.run }
+        ensures { self.now.flow.run.bound + result ≡ part_bound self.now.step self.now.flow.run }
     {
-        (self.step - self.held.budget()).min(MOST_BOUND - self.allowed)
+        (self.step - self.flow.budget()).min(MOST_BOUND - self.allowed)
     }
 
     /// Runs a part.
-    pub(crate) fn part<R: Threads + Wait + Sync, G: Gate + Sync>(
-        &mut self,
-        rt: &R,
-        gate: &G,
-    ) -> Result<Verdict, PartFault>
-        ensures { MatchResult result (IsPart self.old self.new) (IsNoPart self.old self.new) }
+    pub(crate) fn part<G: Gate>(&mut self, gate: &G) -> Verdict
+        ensures { IsPart self.old self.new result }
     {
         let more = self.more();
-        match self.held.resume(rt, more, gate) {
-            Ok(verdict) => {
-                self.allowed += more;
-                Ok(verdict)
-            }
-            Err(HeldFault::NoThread) => {
-                self.allowed += more;
-                Err(PartFault::NoThread)
-            }
-            Err(HeldFault::NoMemory) => Err(PartFault::NoMemory),
-            Err(HeldFault::BadMore | HeldFault::Stalled) => unreachable!(),
-        }
+        let Ok(verdict) = self.flow.resume(more, gate) else {
+            unreachable!()
+        };
+        self.allowed += more;
+        verdict
     }
 
-    /// Appends values to the list of an input channel.
-    pub(crate) fn feed(&mut self, channel: &str, values: Vec<Value>) -> Result<(), FeedFault>
-        ensures fed { MatchResult result (λ _. HasFed (channel.now, values.items) self.old.run self.new.run) (IsUnfed (channel.now, values.items) self.old.run self.new.run) }
+    /// Puts values behind those of an input channel.
+    pub(crate) fn feed(&mut self, channel: &str, values: &[Value]) -> Result<(), FeedFault>
+        ensures fed { MatchResult result (λ _. HasPouredIn (channel.now, values.now) self.old.flow self.new.flow) (IsUnpoured (channel.now, values.now) self.old.flow self.new.flow) }
         ensures step { self.new.step ≡ self.old.step }
     {
-        self.held.feed(channel, values)
+        self.flow.feed(channel, values)
     }
 
     /// The lines of its streams, in order.
     pub(crate) fn lines(&self) -> Result<Vec<Line>, NoMemory>
-        ensures { IfOk result (λ lines. lines.items ≡ stream_lines (network_of self.now.run.network) self.now.run.watch) }
+        ensures { IfOk result (λ lines. lines.items ≡ flow_lines self.now.flow.run) }
     {
-        self.held.lines()
+        self.flow.lines()
     }
 
-    /// What the stream of a line has so far.
-    pub(crate) fn stream(&self, line: Line) -> &[Carried]
-        requires settled { (v : VerdictOf) × (self.now.run.verdict ≡ Some v) }
-        requires line { IsLineOf self.now.run line }
-        ensures { HasSoFar self.now.run line (map token_value result.now) }
+    /// What is new on the stream of a line since it was last let go of.
+    pub(crate) fn fresh(&self, line: Line) -> &[Carried]
+        requires { IsLineOf self.now.flow.run line }
+        ensures { AreNew self.now.flow line result.now }
     {
-        self.held.stream(line)
+        self.flow.fresh(line)
+    }
+
+    /// Lets go of what there is of each stream.
+    pub(crate) fn forget(&mut self)
+        ensures gone { HasLetGo self.old.flow self.new.flow }
+        ensures step { self.new.step ≡ self.old.step }
+    {
+        self.flow.forget();
     }
 
     /// The verdict of the last part, where nothing changed since.
     pub(crate) fn verdict(&self) -> Option<Verdict>
-        ensures { result ≡ self.now.run.verdict }
+        ensures { result ≡ self.now.flow.run.verdict }
     {
-        self.held.verdict()
+        self.flow.verdict()
     }
 
     /// How each instance stands.
     pub(crate) fn ends(&self) -> &[End]
-        requires { (v : VerdictOf) × (self.now.run.verdict ≡ Some v) }
-        ensures { (v : VerdictOf) → self.now.run.verdict ≡ Some v → IsRightSoFar self.now.run v result.now }
+        requires { (v : VerdictOf) × (self.now.flow.run.verdict ≡ Some v) }
+        ensures { (v : VerdictOf) → self.now.flow.run.verdict ≡ Some v → IsRightSoFar self.now.flow.run v result.now }
     {
-        self.held.ends()
+        self.flow.ends()
     }
 
     /// The events of all parts so far.
     pub(crate) fn events(&self) -> u64
-        ensures { result ≡ events_of self.now.run }
+        ensures { result ≡ events_of self.now.flow.run }
     {
-        self.held.events()
+        self.flow.events()
     }
 }

@@ -2,7 +2,7 @@
 
 ghost use Rattle.std.specs.Prelude.{◌≡◌};
 ghost use Rattle.kahn_report.specs.Written.{Writes};
-ghost use Rattle.kahn_session.specs.Refusals.{feed_words, refusal_line, refusal_text, take_words};
+ghost use Rattle.kahn_session.specs.Refusals.{feed_words, refusal_line, refusal_text, take_words, waiting_text, waiting_words};
 
 use crate::fault::TakeFault;
 use itoa::Buffer;
@@ -23,7 +23,7 @@ fn feed_words(fault: FeedFault) -> &'static str
     }
 }
 
-/// Why a line isn't taken, or for what its part waits.
+/// Why a line isn't taken.
 fn take_words(fault: TakeFault) -> &'static str
     ensures { result.now ≡ take_words fault }
 {
@@ -34,8 +34,6 @@ fn take_words(fault: TakeFault) -> &'static str
         TakeFault::BadValue => "not a value",
         TakeFault::Feed(fault) => feed_words(fault),
         TakeFault::NoMemory => "no memory",
-        TakeFault::WaitsForMemory => "waits for memory",
-        TakeFault::WaitsForThread => "waits for a thread",
         TakeFault::Write(_) => "news could not be written",
     }
 }
@@ -63,5 +61,22 @@ pub fn write_refusal<W: Write>(
     let mut buffer = Buffer::new();
     let number = buffer.format(number).as_bytes();
     let words = take_words(fault).as_bytes();
+    put_line(writer, number, words)
+}
+
+/// For what a part waits.
+fn waiting_words() -> &'static str
+    ensures { result.now ≡ waiting_words }
+{
+    "waits for memory"
+}
+
+/// Writes that the part of the line of input of that number wants memory, and a line feed, and flushes; as `write_refusal` does.
+pub fn write_waiting<W: Write>(writer: &mut W, number: u64) -> Result<(), WriteFault>
+    ensures { Writes (W.contents writer.old) (W.contents writer.new) result (waiting_text number) }
+{
+    let mut buffer = Buffer::new();
+    let number = buffer.format(number).as_bytes();
+    let words = waiting_words().as_bytes();
     put_line(writer, number, words)
 }

@@ -1,41 +1,39 @@
 //! Sessions: what a line of input makes of a run, and what goes out after it.
 
-ghost use Rattle.std.specs.Prelude.{◌≡◌, ◌↔◌, ◌≤◌, ℕ, List, Some, false, true, drop, length, slice_index_or, vec_capacity, [], IfOk, IsTrue, MatchOption, MatchResult};
+ghost use Rattle.std.specs.Prelude.{◌≡◌, ◌↔◌, ◌&&◌, not, ℕ, List, Some, false, slice_index_or, true, [], IsTrue, MatchOption, MatchResult};
+ghost use Rattle.std.specs.List.{list_any};
+ghost use Rattle.kahn_network.specs.Network.{network_of};
 ghost use Rattle.kahn_streams.specs.Entries.{entry_of};
-ghost use Rattle.kahn_pool.specs.HeldRuns.{HeldRun};
-ghost use Rattle.kahn_pool.specs.declared.answer.Verdict.{Verdict as VerdictOf};
-ghost use Rattle.kahn_report.specs.Entries.{IsBlank, IsEntry, content};
+ghost use Rattle.kahn_pool.specs.Flows.{Flowing, flow_lines};
+ghost use Rattle.kahn_report.specs.Entries.{AreBlanks, IsEntry, content};
 ghost use Rattle.kahn_report.specs.Names.{channel_name};
 ghost use Rattle.kahn_report.specs.News.{news_text, plain_text};
 ghost use Rattle.kahn_report.specs.Written.{Writes};
-ghost use Rattle.kahn_session.specs.Live.{HasOpened, IsClosed, IsFedBy, HasVerdict, IsNamedAt, IsNamedLine, IsStreamOf, IsTaken, IsText, IsUnfedBy, IsUnopened, breaks, form_text, run_lines};
-ghost use Rattle.kahn_session.specs.inner.Shown.{AreAllShown, news_of};
+ghost use Rattle.kahn_session.specs.Live.{HasOpened, IsClosed, IsDeaf, IsFaulty, IsFedBy, HasVerdict, IsNamedAt, IsNamedLine, IsStreamOf, IsTakenLine, IsText, IsUnfedBy, IsUnopened, breaks, form_text, is_faulted, is_finished, waits_on_input, wants_input};
+ghost use Rattle.kahn_session.specs.inner.Shown.{OutBegins, news_of};
 
-use crate::fault::{PartFault, TakeFault};
+use crate::fault::TakeFault;
 use crate::pace::Paced;
 use kahn_network::Network;
-use kahn_pool::{Config, Gate, RunFault, Verdict};
+use kahn_pool::{Config, End, Gate, Outcome, RunFault, Verdict};
 use kahn_report::{
     LineFault, MOST_BYTES, WriteFault, channel_name, read_line, write_closing, write_news,
     write_plain,
 };
-use kahn_streams::{Carried, Input, Line, NoMemory, Value};
+use kahn_streams::{Input, Line, Value};
+use kahn_tree::Role;
 use std::alloc::Global;
 use std::io::Write;
 use std::marker::Model;
 use std::str;
-use std::sync::Wait;
-use std::thread::Threads;
 
-/// A run that is fed line by line, and how much of each of its streams was shown. It keeps no values of its own.
+/// A run that is fed line by line. What went out of its streams it lets go of.
 #[derive(Drop)]
 pub struct Session<'n> {
     alloc: Global,
     network: &'n Network,
     paced: Paced<'n>,
     lines: Vec<Line>,
-    // How many values of each stream went out; none before the first part.
-    shown: Vec<usize>,
     // Whether a write failed, after which nothing tells what went out.
     broken: bool,
     // The number of the stream whose values alone are shown.
@@ -46,24 +44,23 @@ impl<'n> Model for Session<'n> {
     ghost use Rattle.kahn_tree.specs.contracts.tree.Action as action;
     ghost use Rattle.kahn_tree.specs.contracts.tree.Form as form;
     ghost use Rattle.std.specs.Coded.{codes};
-    ghost use Rattle.std.specs.Prelude.{◌≡◌, ◌≤◌, length, vec_capacity};
-    ghost use Rattle.kahn_session.specs.Live.{Live, run_lines};
-    ghost use Rattle.kahn_session.specs.inner.Shown.{AreShown, live_of};
+    ghost use Rattle.std.specs.Prelude.{◌≡◌};
+    ghost use Rattle.kahn_pool.specs.Flows.{flow_lines};
+    ghost use Rattle.kahn_session.specs.Live.{Live};
 
     ghost Value = { Live };
 
     ghost coded = { Prim.hlevel (codes, action.the_row.coded, form.the_row.coded) };
 
-    ghost view = { λ s. live_of s.paced s.lines.items s.shown.items s.broken s.plain };
+    ghost view = { λ s. record { flow = s.paced.flow; step = s.paced.step; broken = s.broken; plain = s.plain } };
 
-    ghost invariant = { λ s. (s.paced.run.network ≡ s.network.now) × (s.lines.items ≡ run_lines s.paced.run) × AreShown s.paced.run s.shown.items
-        × (length s.lines.items ≤ vec_capacity s.shown) };
+    ghost invariant = { λ s. (s.paced.flow.run.network ≡ s.network.now) × (s.lines.items ≡ flow_lines s.paced.flow.run) };
 }
 
 /// The entry of a line, or nothing where the line is blank.
 fn entry_of_line(alloc: Global, line: &[u8]) -> Result<Option<(String, Vec<Value>)>, TakeFault>
-    ensures { MatchResult result (λ read. IsText line.now × MatchOption read (IsBlank (content line.now)) (λ entry. IsEntry (content line.now) (entry_of entry)))
-        (λ f. (h : HeldRun) → IsUnfedBy line.now h f) }
+    ensures { MatchResult result (λ read. IsText line.now × MatchOption read (AreBlanks (content line.now)) (λ entry. IsEntry (content line.now) (entry_of entry)))
+        (λ f. (h : Flowing) → IsUnfedBy line.now h f) }
 {
     if line.len() > MOST_BYTES {
         return Err(TakeFault::TooLong);
@@ -81,12 +78,12 @@ fn entry_of_line(alloc: Global, line: &[u8]) -> Result<Option<(String, Vec<Value
 
 /// Feeds the values of a line.
 fn feed_line(alloc: Global, paced: &mut Paced<'_>, line: &[u8]) -> Result<(), TakeFault>
-    ensures fed { MatchResult result (λ _. IsFedBy line.now paced.old.run paced.new.run) (λ f. (paced.new ≡ paced.old) × IsUnfedBy line.now paced.old.run f) }
+    ensures fed { MatchResult result (λ _. IsFedBy line.now paced.old.flow paced.new.flow) (λ f. (paced.new ≡ paced.old) × IsUnfedBy line.now paced.old.flow f) }
     ensures step { paced.new.step ≡ paced.old.step }
 {
     match entry_of_line(alloc, line) {
         Ok(None) => Ok(()),
-        Ok(Some((name, values))) => match paced.feed(name.as_str(), values) {
+        Ok(Some((name, values))) => match paced.feed(name.as_str(), &values) {
             Ok(()) => Ok(()),
             Err(fault) => Err(TakeFault::Feed(fault)),
         },
@@ -116,50 +113,20 @@ fn line_of(network: &Network, lines: &[Line], name: &str) -> Option<usize>
     None
 }
 
-/// Room for so many counts.
-fn room_for(alloc: Global, many: usize) -> Result<Vec<usize>, NoMemory>
-    ensures { IfOk result (λ counts. (counts.items ≡ []) × (many ≤ vec_capacity counts)) }
-{
-    Ok(Vec::with_capacity(alloc, many)?)
-}
-
-/// How many values of a stream were shown.
-fn shown_count(shown: &[usize], number: usize) -> usize
-    ensures { result ≡ slice_index_or shown.now number 0 }
-{
-    match shown.get(number) {
-        Some(count) => *count,
-        None => 0,
-    }
-}
-
-/// The tokens behind so many.
-fn tokens_after(tokens: &[Carried], count: usize) -> &[Carried]
-    ensures { result.now ≡ drop count tokens.now }
-{
-    match tokens.get(count..) {
-        Some(rest) => rest,
-        None => &[],
-    }
-}
-
-/// Writes what is new on each stream behind what was shown of it.
+/// Writes what is new on each stream.
 fn put_news<W: Write>(
     writer: &mut W,
     network: &Network,
     run: &Paced<'_>,
     lines: &[Line],
-    shown: &[usize],
 ) -> Result<(), WriteFault>
-    requires network { run.now.run.network ≡ network.now }
-    requires lines { lines.now ≡ run_lines run.now.run }
-    requires settled { (v : VerdictOf) × (run.now.run.verdict ≡ Some v) }
-    ensures { Writes (W.contents writer.old) (W.contents writer.new) result (news_text network.now lines.now (news_of run.now.run lines.now shown.now)) }
+    requires network { run.now.flow.run.network ≡ network.now }
+    requires lines { lines.now ≡ flow_lines run.now.flow.run }
+    ensures { Writes (W.contents writer.old) (W.contents writer.new) result (news_text network.now lines.now (news_of run.now.flow lines.now)) }
 {
     let _program = network.program();
-    for (number, line) in lines.iter().enumerate() {
-        let tokens = tokens_after(run.stream(*line), shown_count(shown, number));
-        write_news(writer, network, *line, tokens)?;
+    for line in lines {
+        write_news(writer, network, *line, run.fresh(*line))?;
     }
     Ok(())
 }
@@ -170,20 +137,17 @@ fn put_plain<W: Write>(
     network: &Network,
     run: &Paced<'_>,
     lines: &[Line],
-    shown: &[usize],
     number: usize,
 ) -> Result<(), WriteFault>
-    requires network { run.now.run.network ≡ network.now }
-    requires lines { lines.now ≡ run_lines run.now.run }
-    requires settled { (v : VerdictOf) × (run.now.run.verdict ≡ Some v) }
-    ensures { Writes (W.contents writer.old) (W.contents writer.new) result (plain_text (slice_index_or (news_of run.now.run lines.now shown.now) number [])) }
+    requires network { run.now.flow.run.network ≡ network.now }
+    requires lines { lines.now ≡ flow_lines run.now.flow.run }
+    ensures { Writes (W.contents writer.old) (W.contents writer.new) result (plain_text (slice_index_or (news_of run.now.flow lines.now) number [])) }
 {
     let _program = network.program();
     if number >= lines.len() {
         return Ok(());
     }
-    let tokens = tokens_after(run.stream(lines[number]), shown_count(shown, number));
-    write_plain(writer, tokens)
+    write_plain(writer, run.fresh(lines[number]))
 }
 
 /// Writes what is new, in the form of the session.
@@ -192,17 +156,15 @@ fn put_form<W: Write>(
     network: &Network,
     run: &Paced<'_>,
     lines: &[Line],
-    shown: &[usize],
     plain: Option<usize>,
 ) -> Result<(), WriteFault>
-    requires network { run.now.run.network ≡ network.now }
-    requires lines { lines.now ≡ run_lines run.now.run }
-    requires settled { (v : VerdictOf) × (run.now.run.verdict ≡ Some v) }
-    ensures { Writes (W.contents writer.old) (W.contents writer.new) result (form_text plain network.now lines.now (news_of run.now.run lines.now shown.now)) }
+    requires network { run.now.flow.run.network ≡ network.now }
+    requires lines { lines.now ≡ flow_lines run.now.flow.run }
+    ensures { Writes (W.contents writer.old) (W.contents writer.new) result (form_text plain network.now lines.now (news_of run.now.flow lines.now)) }
 {
     match plain {
-        None => put_news(writer, network, run, lines, shown),
-        Some(number) => put_plain(writer, network, run, lines, shown, number),
+        None => put_news(writer, network, run, lines),
+        Some(number) => put_plain(writer, network, run, lines, number),
     }
 }
 
@@ -212,29 +174,72 @@ fn show<W: Write>(
     network: &Network,
     run: &Paced<'_>,
     lines: &[Line],
-    shown: &[usize],
     plain: Option<usize>,
 ) -> Result<(), WriteFault>
-    requires network { run.now.run.network ≡ network.now }
-    requires lines { lines.now ≡ run_lines run.now.run }
-    requires settled { (v : VerdictOf) × (run.now.run.verdict ≡ Some v) }
-    ensures { Writes (W.contents writer.old) (W.contents writer.new) result (form_text plain network.now lines.now (news_of run.now.run lines.now shown.now)) }
+    requires network { run.now.flow.run.network ≡ network.now }
+    requires lines { lines.now ≡ flow_lines run.now.flow.run }
+    ensures { Writes (W.contents writer.old) (W.contents writer.new) result (form_text plain network.now lines.now (news_of run.now.flow lines.now)) }
 {
-    put_form(writer, network, run, lines, shown, plain)?;
+    put_form(writer, network, run, lines, plain)?;
     writer.flush().map_err(|_| WriteFault::Failed)
 }
 
-/// Counts the values of each stream, all of which were shown. It takes no memory.
-fn count_shown(run: &Paced<'_>, lines: &[Line], shown: &mut Vec<usize>)
-    requires lines { lines.now ≡ run_lines run.now.run }
-    requires settled { (v : VerdictOf) × (run.now.run.verdict ≡ Some v) }
-    requires room { length lines.now ≤ vec_capacity shown.old }
-    ensures counts { AreAllShown run.now.run shown.new.items }
-    ensures room { length lines.now ≤ vec_capacity shown.new }
+/// What went out of each stream begins what there is of it, as each stream says. It changes nothing.
+fn begun(run: &Paced<'_>, lines: &[Line])
+    requires { lines.now ≡ flow_lines run.now.flow.run }
+    ensures { OutBegins run.now.flow }
 {
-    shown.clear();
-    for number in 0..lines.len() {
-        shown.push_reserved(run.stream(lines[number]).len());
+    for line in lines {
+        let _fresh = run.fresh(*line);
+    }
+}
+
+/// Whether one of the ends is a fault.
+fn has_faulted(ends: &[End]) -> bool
+    ensures { result ≡ list_any is_faulted ends.now }
+{
+    for end in ends {
+        if let Outcome::Faulted(_) = end.outcome {
+            return true;
+        }
+    }
+    false
+}
+
+/// Whether an instance that ended so waits on an input channel.
+fn wants_input(network: &Network, outcome: Outcome) -> bool
+    ensures { result ≡ wants_input (network_of network.now) outcome }
+{
+    match outcome {
+        Outcome::Waits(channel) => {
+            channel < network.channels() && matches!(network.channel(channel).role, Role::Input)
+        }
+        Outcome::Ended => false,
+        Outcome::Faulted(_) => false,
+        Outcome::More => false,
+    }
+}
+
+/// Whether one of the ends is a wait on an input channel.
+fn has_input_wait(network: &Network, ends: &[End]) -> bool
+    ensures { result ≡ list_any (waits_on_input (network_of network.now)) ends.now }
+{
+    for end in ends {
+        if wants_input(network, end.outcome) {
+            return true;
+        }
+    }
+    false
+}
+
+/// Whether a run with this verdict is over, where one of its processes waits on an input channel or none does.
+fn is_over(verdict: Verdict, waits: bool) -> bool
+    ensures { result ≡ (is_finished verdict && not waits) }
+{
+    match verdict {
+        Verdict::Finished => !waits,
+        Verdict::Bound => false,
+        Verdict::Memory => false,
     }
 }
 
@@ -254,13 +259,11 @@ impl<'n> Session<'n> {
         let input = Input::none(alloc, network)?;
         let paced = Paced::start(alloc, network, input, config)?;
         let lines = paced.lines()?;
-        let shown = room_for(alloc, lines.len())?;
         Ok(Session {
             alloc,
             network,
             paced,
             lines,
-            shown,
             broken: false,
             plain: None,
         })
@@ -268,7 +271,7 @@ impl<'n> Session<'n> {
 
     /// The number of the stream of a channel of that name, or nothing where it has none.
     pub fn stream_of(&self, channel: &str) -> Option<usize>
-        ensures { MatchOption result ((n : ℕ) → ¬ IsStreamOf self.now.run n channel.now) (λ number. IsStreamOf self.now.run number channel.now) }
+        ensures { MatchOption result ((n : ℕ) → ¬ IsStreamOf self.now.flow.run n channel.now) (λ number. IsStreamOf self.now.flow.run number channel.now) }
     {
         line_of(self.network, self.lines.as_slice(), channel)
     }
@@ -282,47 +285,35 @@ impl<'n> Session<'n> {
     }
 
     /// Feeds the values of a line of input, which stands without its line feed, runs a part, and writes what is new: a line
-    /// for each stream that has grown, its heading as in a report and then the values behind those that were shown, or after
-    /// `show_plain` the values alone of its stream; and flushes. A blank line feeds nothing. The part goes on until nothing can, or until it took as many events as each part
-    /// may, or memory was refused.
+    /// for each stream that has grown, its heading as in a report and then the values behind those that went out, or after
+    /// `show_plain` the values alone of its stream; and flushes. A blank line feeds nothing. The part goes on until nothing
+    /// can, or until it took as many events as each part may, or memory was refused.
     ///
     /// The line is refused with `TooLong`, `NotUtf8`, `BadLine`, `BadValue`, `Feed` and `NoMemory`, in this order: then
-    /// nothing changed and nothing was written. With `WaitsForMemory` and `WaitsForThread` the values are fed and the part
-    /// waits for the next line: nothing was written. With `Write` the part was run, and a prefix of what is new was written:
-    /// the session is broken, and takes no further line.
-    pub fn take<R: Threads + Wait + Sync, G: Gate + Sync, W: Write>(
+    /// nothing changed and nothing was written. With `Write` the part was run, and a prefix of what is new was written: the
+    /// session is broken, and takes no further line.
+    pub fn take<G: Gate, W: Write>(
         &mut self,
-        rt: &R,
         line: &[u8],
         gate: &G,
         writer: &mut W,
     ) -> Result<Verdict, TakeFault>
         requires { self.old.broken ≡ false }
-        ensures taken { IsTaken line.now self.old self.new (W.contents writer.old) (W.contents writer.new) result }
+        ensures taken { IsTakenLine line.now self.old self.new (W.contents writer.old) (W.contents writer.new) result }
         ensures broken { MatchResult result (λ _. self.new.broken ≡ false) (λ f. self.new.broken ≡ breaks f) }
     {
         let _program = self.network.program();
         if let Err(fault) = feed_line(self.alloc, &mut self.paced, line) {
             return Err(fault);
         }
-        let verdict = match self.paced.part(rt, gate) {
-            Ok(verdict) => verdict,
-            Err(PartFault::NoMemory) => return Err(TakeFault::WaitsForMemory),
-            Err(PartFault::NoThread) => return Err(TakeFault::WaitsForThread),
-        };
+        let verdict = self.paced.part(gate);
         let _ends = self.paced.ends();
-        if let Err(fault) = show(
-            writer,
-            self.network,
-            &self.paced,
-            &self.lines,
-            &self.shown,
-            self.plain,
-        ) {
+        begun(&self.paced, &self.lines);
+        if let Err(fault) = show(writer, self.network, &self.paced, &self.lines, self.plain) {
             self.broken = true;
             return Err(TakeFault::Write(fault));
         }
-        count_shown(&self.paced, &self.lines, &mut self.shown);
+        self.paced.forget();
         Ok(verdict)
     }
 
@@ -335,9 +326,30 @@ impl<'n> Session<'n> {
 
     /// The verdict of the last part, where nothing changed since.
     pub fn verdict(&self) -> Option<Verdict>
-        ensures { result ≡ self.now.run.verdict }
+        ensures { result ≡ self.now.flow.run.verdict }
     {
         self.paced.verdict()
+    }
+
+    /// Whether a process has a fault of arithmetic. It is asked only where the session is settled.
+    pub fn has_fault(&self) -> bool
+        requires { HasVerdict self.now }
+        ensures { IsFaulty self.now.flow.run result }
+    {
+        has_faulted(self.paced.ends())
+    }
+
+    /// Whether no line can change the run any more: it has finished, and no process waits on an input channel. It is asked only
+    /// where the session is settled.
+    pub fn is_deaf(&self) -> bool
+        requires { HasVerdict self.now }
+        ensures { IsDeaf self.now.flow.run result }
+    {
+        let Some(verdict) = self.paced.verdict() else {
+            unreachable!()
+        };
+        let waits = has_input_wait(self.network, self.paced.ends());
+        is_over(verdict, waits)
     }
 
     /// Whether a write failed. Then the session takes no further line, and it is never settled.
@@ -351,7 +363,7 @@ impl<'n> Session<'n> {
     /// where the session is settled. It takes no memory. After a fault of the writer a prefix of the lines went out.
     pub fn close<W: Write>(&self, writer: &mut W) -> Result<Verdict, WriteFault>
         requires { HasVerdict self.now }
-        ensures { IsClosed self.now.run (W.contents writer.old) (W.contents writer.new) result }
+        ensures { IsClosed self.now.flow.run (W.contents writer.old) (W.contents writer.new) result }
     {
         let Some(verdict) = self.paced.verdict() else {
             unreachable!()

@@ -2,7 +2,7 @@
 use Rattle.std.specs.Prelude.{◌≡◌, ◌≤◌, ◌⊎◌, ℕ, List, [], Option, Some, None, length, string_bytes}
 use Rattle.std.specs.declared.alloc.Global.{Global}
 use Rattle.std.specs.declared.string.String.{String}
-use Rattle.kahn_report.specs.Reading.{Stands}
+use Rattle.kahn_report.specs.Reading.{IsReadFault}
 use Rattle.kahn_fault.specs.declared.fault.Fault.{Fault}
 use Rattle.kahn_fault.specs.declared.fault.Fault.TheVariants.{Open, Program, InputText, Work}
 use Rattle.kahn_texts.specs.declared.texts.Texts.{Texts}
@@ -16,14 +16,14 @@ most_input_bytes = 16777216
 
 -- why a program text wasn't read, by what came from the reader, and the path that was given
 abbrev pub StandsForProgram : Option (String Global) → Option (List ℕ) → Option (List ℕ) → Fault → Type 0
-StandsForProgram given old new (Program path fault) = (given ≡ path) × Stands old new most_program_bytes fault
+StandsForProgram given old new (Program path fault) = (given ≡ path) × IsReadFault old new most_program_bytes fault
 StandsForProgram given old new (Open path) = ⊥
 StandsForProgram given old new (InputText path fault) = ⊥
 StandsForProgram given old new (Work fault) = ⊥
 
 -- the same of an input text
 abbrev pub StandsForInput : String Global → Option (List ℕ) → Option (List ℕ) → Fault → Type 0
-StandsForInput given old new (InputText path fault) = (given ≡ path) × Stands old new most_input_bytes fault
+StandsForInput given old new (InputText path fault) = (given ≡ path) × IsReadFault old new most_input_bytes fault
 StandsForInput given old new (Open path) = ⊥
 StandsForInput given old new (Program path fault) = ⊥
 StandsForInput given old new (Work fault) = ⊥

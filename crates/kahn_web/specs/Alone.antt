@@ -3,7 +3,7 @@ use Rattle.std.specs.Prelude.{ℕ, List, None}
 use Rattle.kahn_tree.specs.declared.tree.Program.{Program}
 use Rattle.kahn_config.specs.declared.Config.{Config}
 use Rattle.kahn_pool.specs.declared.answer.Answer.{Answer}
-use Rattle.kahn_pool.specs.Runs.{IsRun}
+use Rattle.kahn_pool.specs.Runs.{IsRightRun}
 use Rattle.kahn_report.specs.Inputs.{StandsFor}
 use Rattle.kahn_streams.specs.Tokens.{Lists}
 
@@ -13,4 +13,4 @@ alone bound = record { workers = 1; quantum = 1000; bound = bound; watch = None 
 
 -- the answer of the run of a program on what an input text stands for
 abbrev pub IsRunAlone : Program → List ℕ → ℕ → Answer → Type 0
-IsRunAlone t text bound a = (lists : Lists) × StandsFor t text lists × IsRun t lists (alone bound) a
+IsRunAlone t text bound a = (lists : Lists) × StandsFor t text lists × IsRightRun t lists (alone bound) a

@@ -1,37 +1,20 @@
--- Inner. What was shown of the streams of a held run.
-use Rattle.std.specs.Prelude.{◌≡◌, ℕ, ◌≤◌, List, [], ◌∷◌, drop, length, take, Bool, Option, Some, slice_get}
-use Rattle.kahn_network.specs.Network.{network_of}
+-- Inner. What is new on the streams of a run.
+use Rattle.std.specs.Prelude.{◌≡◌, ℕ, List, [], ◌∷◌, ◌++◌, drop, length, map, Some, slice_get, slice_index_or}
 use Rattle.kahn_streams.specs.declared.value.Value.{Value}
 use Rattle.kahn_streams.specs.declared.value.Line.{Line}
-use Rattle.kahn_pool.specs.HeldRuns.{HasSoFar, HeldRun, so_far}
-use Rattle.kahn_pool.specs.Right.{stream_lines}
-use Rattle.kahn_session.specs.Live.{Live}
-use Rattle.kahn_session.specs.Pace.{Pace}
+use Rattle.kahn_pool.specs.HeldRuns.{HeldRun, so_far}
+use Rattle.kahn_pool.specs.Flows.{Flowing, flow_lines}
 
--- of these lines the first values of each stream, so many
-abbrev pub shown_of : HeldRun → List Line → List ℕ → List (List Value)
-shown_of h [] counts = []
-shown_of h (c ∷ lines) [] = []
-shown_of h (c ∷ lines) (n ∷ counts) = take n (so_far h c) ∷ shown_of h lines counts
+-- of these lines the values of each stream behind so many; where nothing is said of a stream all of them
+abbrev pub values_behind : HeldRun → List Line → List ℕ → List (List Value)
+values_behind h [] counts = []
+values_behind h (c ∷ lines) [] = so_far h c ∷ values_behind h lines []
+values_behind h (c ∷ lines) (n ∷ counts) = drop n (so_far h c) ∷ values_behind h lines counts
 
--- a session, of its parts
-abbrev pub live_of : Pace → List Line → List ℕ → Bool → Option ℕ → Live
-live_of p lines counts broken plain = record { run = p.run; step = p.step; shown = shown_of p.run lines counts; broken = broken; plain = plain }
+-- and those behind what was let go of
+abbrev pub news_of : Flowing → List Line → List (List Value)
+news_of f lines = values_behind f.run lines (map length f.out)
 
--- and those behind them; where nothing is said of a stream all of its values
-abbrev pub news_of : HeldRun → List Line → List ℕ → List (List Value)
-news_of h [] counts = []
-news_of h (c ∷ lines) [] = so_far h c ∷ news_of h lines []
-news_of h (c ∷ lines) (n ∷ counts) = drop n (so_far h c) ∷ news_of h lines counts
-
--- each stream of which so many values were shown has as many
-abbrev pub AreShown : HeldRun → List ℕ → Type 0
-AreShown h counts =
-    (j : ℕ) (c : Line) (n : ℕ) → slice_get (stream_lines (network_of h.network) h.watch) j ≡ Some c → slice_get counts j ≡ Some n →
-    (vs : List Value) × HasSoFar h c vs × (n ≤ length vs)
-
--- of each stream all its values were shown
-pub record AreAllShown (h : HeldRun) (counts : List ℕ) : Type 0 where
-  pub many : length counts ≡ length (stream_lines (network_of h.network) h.watch)
-  pub each : (j : ℕ) (c : Line) (n : ℕ) → slice_get (stream_lines (network_of h.network) h.watch) j ≡ Some c → slice_get counts j ≡ Some n →
-      (vs : List Value) × HasSoFar h c vs × (n ≡ length vs)
+-- what went out of each stream begins what there is of it
+abbrev pub OutBegins : Flowing → Type 0
+OutBegins f = (j : ℕ) (c : Line) → slice_get (flow_lines f.run) j ≡ Some c → (news : List Value) × (so_far f.run c ≡ slice_index_or f.out j [] ++ news)

@@ -3,7 +3,7 @@
 ghost use Rattle.std.specs.Prelude.{◌≡◌, ◌<◌, Some, IfErr, IfOk, length};
 ghost use Rattle.kahn_network.specs.Network.{network_of};
 ghost use Rattle.kahn_lane.specs.Places.{lane_name};
-ghost use Rattle.kahn_lane.specs.LaneEnds.{sender_lane, receiver_lane, sender_name, sent, HasRoom, SameSender, SameReceiver};
+ghost use Rattle.kahn_lane.specs.LaneEnds.{sender_lane, receiver_lane, sender_name, sent, CanPut, SameSender, SameReceiver};
 
 use crate::rationed::Rationed;
 use kahn_check::{Network, check};
@@ -36,7 +36,7 @@ fn make_room<A: Allocator + Clone + Drop>(
     sender: &mut Sender<A>,
 ) -> Result<bool, NoMemory>
     ensures same { SameSender sender.old sender.new × (sent sender.new ≡ sent sender.old) }
-    ensures room { IfOk result (λ _. HasRoom sender.new) }
+    ensures room { IfOk result (λ _. CanPut sender.new) }
 {
     let count = sender.sent();
     if sender.room().is_ok() {

@@ -19,7 +19,8 @@ returns g c =
     let is = c.in_ok-explain_command.ensures in
     let faults = c.in_ok-matches.ensures.kinds (ap is_simple_and_free is) in (
       asked_explain c.in_ok-explain_command.field-0 c.in_ok-matches.matches words c.in_ok-matches.ensures.parsed c.in_ok-matches.ensures.matches is _
-          (c.in_ok-copied.ensures ∙ c.get_str.ensures) (c.in_ok-copied-2.ensures ∙ c.get_str-2.ensures) c.in_ok-config_of.ensures
+          (c.in_ok-copied.ensures ∙ c.get_str.ensures) (c.in_ok-copied-2.ensures ∙ c.get_str-2.ensures) (c.in_ok-copied-3.ensures ∙ c.get_str-3.ensures)
+          c.in_ok-config_of.ensures
           (ap (λ n. not (n == 0)) c.get_count.ensures.value) (ap (λ n. not (n == 0)) c.get_count-2.ensures.value),
       ap (λ (a : App). fault_of a words) (sym is) ∙ faults,
     )

@@ -3,14 +3,14 @@ use Rattle.std.proofs.lemmas.List.{length_push, map-append}
 use Rattle.std.proofs.lemmas.Iterator.Splits.{YieldsList-from_slice_split}
 use Rattle.std.proofs.lemmas.Iterator.Consumers.{YieldsList-turn, YieldsList-end}
 use Rattle.kahn_streams.specs.Entries.{entry_of}
-use Rattle.kahn_report.specs.Entries.{lines_of, content, IsEntry, IsBlank, HasNoHead, HasNoValues, most_bytes}
+use Rattle.kahn_report.specs.Entries.{text_lines, content, IsEntry, AreBlanks, HasNoHead, HasNoValues, most_bytes}
 use Rattle.kahn_report.proofs.Parts.{from_part}
 use Rattle.kahn_report.proofs.Lines.{all_blank, all_entry, good_more, first_such, all_read}
 use Rattle.kahn_report.proofs.entries.read_entries.Goals as goal
 
 pub loop-line-preserved-in-Ok-None : goal.loop-line-preserved-in-Ok-None
 loop-line-preserved-in-Ok-None c =
-    let lines = lines_of c.args.text.now in
+    let lines = text_lines c.args.text.now in
     let k = length c.loop-line.yielded in
     let line = c.in-Some.line.now in
     let t = YieldsList-turn (YieldsList-from_slice_split {s = c.into_iter-line-iterator.result} _ (λ b. b == 10) {f = c.split-line-items.result.pred} c.args.text.now (search rules) (search rules) (search rules) (λ x b q k. search (rules, tests)))
@@ -18,7 +18,7 @@ loop-line-preserved-in-Ok-None c =
     let here = from_part lines k line t in
     let m = length (c.loop-line.yielded ++ c.in-Some.line ∷ []) in
     let e = length_push c.loop-line.yielded c.in-Some.line in
-    let blank : IsBlank (content line) = rw c.in-Ok-None.field-0-is at c.in-Ok-None.ensures in
+    let blank : AreBlanks (content line) = rw c.in-Ok-None.field-0-is at c.in-Ok-None.ensures in
     record {
       next = search rules;
       ends = search rules;
@@ -29,7 +29,7 @@ loop-line-preserved-in-Ok-None c =
 
 pub loop-line-preserved : goal.loop-line-preserved
 loop-line-preserved c =
-    let lines = lines_of c.args.text.now in
+    let lines = text_lines c.args.text.now in
     let k = length c.loop-line.yielded in
     let line = c.in-Some.line.now in
     let t = YieldsList-turn (YieldsList-from_slice_split {s = c.into_iter-line-iterator.result} _ (λ b. b == 10) {f = c.split-line-items.result.pred} c.args.text.now (search rules) (search rules) (search rules) (λ x b q k. search (rules, tests)))
@@ -51,7 +51,7 @@ loop-line-preserved c =
 
 pub returns-in-Err-NoHead : goal.returns-in-Err-NoHead
 returns-in-Err-NoHead c =
-    let lines = lines_of c.args.text.now in
+    let lines = text_lines c.args.text.now in
     let k = length c.loop-line.yielded in
     let line = c.in-Some.line.now in
     let t = YieldsList-turn (YieldsList-from_slice_split {s = c.into_iter-line-iterator.result} _ (λ b. b == 10) {f = c.split-line-items.result.pred} c.args.text.now (search rules) (search rules) (search rules) (λ x b q k. search (rules, tests)))
@@ -63,7 +63,7 @@ returns-in-Err-NoHead c =
 
 pub returns-in-Err-NoValues : goal.returns-in-Err-NoValues
 returns-in-Err-NoValues c =
-    let lines = lines_of c.args.text.now in
+    let lines = text_lines c.args.text.now in
     let k = length c.loop-line.yielded in
     let line = c.in-Some.line.now in
     let t = YieldsList-turn (YieldsList-from_slice_split {s = c.into_iter-line-iterator.result} _ (λ b. b == 10) {f = c.split-line-items.result.pred} c.args.text.now (search rules) (search rules) (search rules) (λ x b q k. search (rules, tests)))
@@ -78,4 +78,4 @@ returns c =
     let t = YieldsList-end (YieldsList-from_slice_split {s = c.into_iter-line-iterator.result} _ (λ b. b == 10) {f = c.split-line-items.result.pred} c.args.text.now (search rules) (search rules) (search rules) (λ x b q k. search (rules, tests)))
     c.loop-line.yielded _ c.loop-line.yielded_by _ _ c.in-None.is c.next.ensures.steps in
     let within : length c.args.text.now ≤ most_bytes = search rules in
-    (within, all_read (lines_of c.args.text.now) (length c.loop-line.yielded) (map entry_of c.loop-line.entries.items) (omega (arith, t.1)) c.loop-line.invariant.all)
+    (within, all_read (text_lines c.args.text.now) (length c.loop-line.yielded) (map entry_of c.loop-line.entries.items) (omega (arith, t.1)) c.loop-line.invariant.all)

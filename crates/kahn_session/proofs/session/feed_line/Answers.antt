@@ -2,11 +2,12 @@ use Rattle.std.proofs.Common.{string_bytes}
 use Rattle.kahn_streams.specs.Entries.{Entry}
 use Rattle.kahn_report.specs.Entries.{IsEntry, content}
 use Rattle.kahn_session.specs.Live.{IsText}
-use Rattle.kahn_session.proofs.Steps.{one_pace}
+use Rattle.kahn_session.proofs.Steps.{one_pace, unpoured}
 use Rattle.kahn_session.proofs.session.feed_line.Goals as goal
 
 pub returns-in-Ok-Some-clause-fed : goal.returns-in-Ok-Some-clause-fed
 returns-in-Ok-Some-clause-fed c =
     let entry : Entry = (string_bytes c.in-Ok-Some.name, c.in-Ok-Some.values.items) in
     let is : IsText c.args.line.now × IsEntry (content c.args.line.now) entry = rw c.in-Ok-Some.field-0-is at c.in-Ok-Some.ensures in
-    (one_pace _ _ c.in-Err-feed.ensures.fed.0 c.in-Err-feed.ensures.step, (is.0, (entry, is.1, rw c.as_str.ensures.value at c.in-Err-feed.ensures.fed.1)))
+    let (same, why) = unpoured entry _ _ _ (rw c.deref.ensures.value at (rw c.as_str.ensures.value at c.in-Err-feed.ensures.fed)) in
+    (one_pace _ _ same c.in-Err-feed.ensures.step, (is.0, (entry, is.1, why)))

@@ -1,0 +1,112 @@
+//! A run that is held between its parts: what memory or a thread was refused for goes on by a further call.
+
+ghost use Rattle.std.specs.Prelude.{IsTrue};
+ghost use Rattle.kahn_report.specs.Report.{HasItsLines, IsLine};
+
+use kahn_network::Network;
+use kahn_pool::{Answer, Config, Gate, Held, HeldFault, RunFault, Verdict};
+use kahn_report::{WorkFault, checked, read_input, write_report};
+use kahn_streams::{Line, NoMemory};
+use std::io::Write;
+use std::rt::Runtime;
+use std::sync::Wait;
+use std::thread::Threads;
+
+/// Says that something was refused, and is tried again.
+fn tell_again<E: Write>(errors: &mut E) {
+    let _ = errors.write_all(b"again\n");
+}
+
+/// Runs a part, and where memory or a thread was refused for it one more.
+fn resumed<R: Threads + Wait + Sync, G: Gate + Sync, E: Write>(
+    rt: &R,
+    held: &mut Held<'_>,
+    gate: &G,
+    errors: &mut E,
+) -> Result<Verdict, HeldFault> {
+    match held.resume(rt, 0, gate) {
+        Ok(Verdict::Memory) | Err(HeldFault::NoMemory | HeldFault::NoThread) => {
+            tell_again(errors);
+            held.resume(rt, 0, gate)
+        }
+        answer => answer,
+    }
+}
+
+/// The answer of a run that is settled.
+fn answered<E: Write>(held: &Held<'_>, errors: &mut E) -> Result<Answer, NoMemory> {
+    if !held.settled() {
+        return Err(NoMemory);
+    }
+    match held.answer() {
+        Ok(answer) => Ok(answer),
+        Err(_) => {
+            tell_again(errors);
+            held.answer()
+        }
+    }
+}
+
+/// Whether a line is one of the network's.
+fn is_line(network: &Network, line: Line) -> bool
+    ensures { IsTrue result → IsLine network.now line }
+{
+    match line {
+        Line::Channel(channel) => channel < network.channels(),
+        Line::Print(instance) => instance < network.instances(),
+    }
+}
+
+/// Whether each stream of an answer is of a line of the network.
+fn has_its_lines(network: &Network, answer: &Answer) -> bool
+    ensures { IsTrue result → HasItsLines network.now answer.now }
+{
+    answer
+        .streams
+        .iter()
+        .all(|stream| is_line(network, stream.line))
+}
+
+/// Want of memory, as a fault of the run.
+fn wants_memory() -> WorkFault {
+    WorkFault::Run(RunFault::NoMemory)
+}
+
+/// Runs the program on the input in such parts, and writes the report.
+pub(crate) fn work_in_parts<
+    R: Runtime + AllocGlobal + Threads + Wait + Sync,
+    G: Gate + Sync,
+    W: Write,
+    E: Write,
+>(
+    rt: &R,
+    program: &str,
+    input: &str,
+    config: Config,
+    gate: &G,
+    writer: &mut W,
+    errors: &mut E,
+) -> Result<Verdict, WorkFault> {
+    let network = checked(rt.alloc(), program)?;
+    let input = match read_input(rt.alloc(), input, &network) {
+        Ok(input) => input,
+        Err(fault) => return Err(WorkFault::Text(fault)),
+    };
+    let mut held = match Held::start(rt.alloc(), &network, input, config) {
+        Ok(held) => held,
+        Err(fault) => return Err(WorkFault::Run(fault)),
+    };
+    let Ok(verdict) = resumed(rt, &mut held, gate, errors) else {
+        return Err(wants_memory());
+    };
+    let Ok(answer) = answered(&held, errors) else {
+        return Err(wants_memory());
+    };
+    if !has_its_lines(&network, &answer) {
+        return Err(wants_memory());
+    }
+    match write_report(writer, &network, &answer) {
+        Ok(()) => Ok(verdict),
+        Err(fault) => Err(WorkFault::Write(fault)),
+    }
+}

@@ -1,0 +1,12 @@
+-- The streams so far have.
+use Rattle.std.proofs.Common.{◌≡◌, ◌<◌, ◌++◌, ℕ, List, [], Some}
+use Rattle.std.specs.Prelude.{slice_get, slice_index_or}
+use Rattle.kahn_streams.specs.declared.value.Line.{Line}
+use Rattle.kahn_streams.specs.declared.value.Value.{Value}
+use Rattle.kahn_pool.specs.HeldRuns.{so_far}
+use Rattle.kahn_session.proofs.session.begun.Given as goal
+
+abbrev pub invariant-loop-line : goal.invariant-loop-line
+invariant-loop-line l = record {
+  each : (j : ℕ) (c : Line) → j < l.line-index → slice_get l.lines j ≡ Some c → (news : List Value) × (so_far l.run.flow.run c ≡ slice_index_or l.run.flow.out j [] ++ news);
+}

@@ -1,0 +1,9 @@
+-- None of the ends so far is one.
+use Rattle.std.proofs.Common.{◌≡◌, drop}
+use Rattle.std.specs.List.{list_any}
+use Rattle.kahn_network.specs.Network.{network_of}
+use Rattle.kahn_session.specs.Live.{waits_on_input}
+use Rattle.kahn_session.proofs.session.has_input_wait.Given as goal
+
+abbrev pub invariant-loop-end : goal.invariant-loop-end
+invariant-loop-end l = list_any (waits_on_input (network_of l.network)) (drop l.end-index l.ends) ≡ list_any (waits_on_input (network_of l.network)) l.ends
