@@ -1,4 +1,4 @@
-"""Random texts with a fault of the grammar: the changes of one lexeme that kahn_explain tells against those that reference.py finds.
+"""Random texts with a fault of the grammar: what kahn_explain tells of changes of one lexeme and of blocks against what reference.py finds.
 
     mends.py KAHN_EXPLAIN [COUNT] [SEED]     the same seed makes the same texts; where none is given it is chosen at random
 
@@ -19,15 +19,9 @@ import reference as ref
 SIGNS = (":=", "(", ")", ",", ";", "+", "-", "*", "=", "<>", "<", "<=", ">", ">=")
 CLASSES = [("name", "x"), ("number", 0)] + [("word", word) for word in sorted(ref.KEYWORDS)] + [("sign", sign) for sign in SIGNS]
 GRAMMAR = ("this cannot stand here", "text ends too early", "text goes on after the program")
-LEADS = {
-    1: "the one change here that makes the text a program: ",
-    2: "the two changes here that make the text a program: ",
-    3: "the three changes here that make the text a program: ",
-    4: "three of the four changes here that make the text a program: ",
-    5: "three of the five changes here that make the text a program: ",
-    6: "three of the six changes here that make the text a program: ",
-    7: "three of the seven changes here that make the text a program: ",
-}
+NUMBERS = ("", "one", "two", "three", "four", "five", "six", "seven")
+OPERATORS = [("word", word) for word in ("and", "div", "mod", "or")] + [("sign", sign) for sign in SIGNS[5:]]
+LEADERS = [("word", word) for word in ("do", "then", "else", "repeat")]
 
 
 def fault_of(lexemes, size):
@@ -74,32 +68,95 @@ def same(text, a, b):
 
 
 def mends(text, lexemes, at):
-    """All changes of one lexeme there with which the text is a program, in words."""
+    """All changes of one lexeme there with which the text is a program: where, what is put there, and in words."""
     def makes(first, rest, put):
         return fault_of(lexemes[:first] + put + lexemes[rest:], len(text)) is None
 
-    def puts(first, rest, words):
-        return [any_of(*one) + words for one in CLASSES if makes(first, rest, [(*one, 0, 0)])]
+    def puts(spot, first, rest, words):
+        return [(spot, one, any_of(*one) + words) for one in CLASSES if makes(first, rest, [(*one, 0, 0)])]
 
-    out = puts(at, at, " before it")
+    out = puts("between", at, at, " before it")
     here, before = at < len(lexemes), at > 0
     if here and makes(at, at + 1, []):
-        out.append("leaving it out")
+        out.append(("here", None, "leaving it out"))
     if before and not (here and same(text, lexemes[at - 1], lexemes[at])) and makes(at - 1, at, []):
-        out.append("leaving out the one before it")
+        out.append(("before", None, f"leaving out {named(text, lexemes[at - 1])} before it"))
     if here:
-        out += puts(at, at + 1, " in its place")
+        out += puts("here", at, at + 1, " in its place")
     if before:
-        out += puts(at - 1, at, f" in place of {named(text, lexemes[at - 1])} before it")
+        out += puts("before", at - 1, at, f" in place of {named(text, lexemes[at - 1])} before it")
     return out
 
 
-def line_of(changes):
-    """What is said of them; nothing where there is none, or more than seven."""
-    if len(changes) not in LEADS:
+def told(changes, lexemes, at):
+    """The first three that are told: leaving out the `;` before an `else` first, and no operator in the place of a name."""
+    last = lexemes[at - 1][:2] if at > 0 else None
+    found = lexemes[at][:2] if at < len(lexemes) else None
+    name = {"before": last, "here": found}
+
+    def is_first(change):
+        return change[:2] == ("before", None) and last == ("sign", ";") and found == ("word", "else")
+
+    def is_never(change):
+        return change[1] in OPERATORS and (name.get(change[0]) or ("",))[0] == "name"
+
+    left = [change for change in changes if not is_never(change)]
+    return [change[2] for change in sorted(left, key=lambda change: not is_first(change))[:3]]
+
+
+def listed(parts):
+    return parts[0] if len(parts) == 1 else ", ".join(parts[:-1]) + " or " + parts[-1]
+
+
+def line_of(changes, words):
+    """What is said of them; nothing where none is told, or there are more than seven."""
+    if not words or len(changes) > 7:
         return None
-    told = changes[:3]
-    return LEADS[len(changes)] + (told[0] if len(told) == 1 else ", ".join(told[:-1]) + " or " + told[-1])
+    some = "" if len(words) == len(changes) else f"{NUMBERS[len(words)]} of "
+    what = "change here that makes" if len(changes) == 1 else "changes here that make"
+    return f"{some}the {NUMBERS[len(changes)]} {what} the text a program: {listed(words)}"
+
+
+def place(text, byte):
+    line = text[:byte].rfind(b"\n") + 1
+    return f"{text[:byte].count(10) + 1}:{byte - line + 1}"
+
+
+def unclosed(text, lexemes):
+    """The blocks that are open behind lexemes, in words."""
+    open_ones = []
+    for number, (what, value, begin, _) in enumerate(lexemes):
+        if (what, value) == ("word", "begin"):
+            lead = lexemes[number - 1][:2] if number else None
+            open_ones.append(f"`{lead[1]} begin` at {place(text, begin)}" if lead in LEADERS else f"`begin` at {place(text, begin)}")
+        elif (what, value) == ("word", "end"):
+            open_ones = open_ones[:-1]
+    return open_ones
+
+
+def bare(text, lexemes):
+    """What leads to a statement on a later line without a block, behind the last `process`, in words."""
+    out = []
+    for last, x in zip([None] + lexemes, lexemes):
+        if x[:2] == ("word", "process"):
+            out = []
+        elif last and last[:2] in LEADERS and x[:2] != ("word", "begin") and b"\n" in text[last[3]:x[2]]:
+            out.append(f"`{last[1]}` at {place(text, last[2])}")
+    return out
+
+
+def blocks(text, lexemes, at, is_mended):
+    """What is said of blocks: of statements without one at an `end`, of open ones where a declaration, an instance or the end stands."""
+    behind = lexemes[:at]
+    if at == len(lexemes):
+        items, lead = unclosed(text, behind), "no `end` so far for "
+    elif lexemes[at][:2] == ("word", "end"):
+        items, lead = bare(text, behind), "no `begin` stands behind "
+    else:
+        starts = lexemes[at][:2] in (("word", "process"), ("word", "integer"), ("word", "logical"))
+        handed = lexemes[at][:2] == ("sign", "(") and at > 0 and lexemes[at - 1][0] == "name"
+        items, lead = unclosed(text, behind)[1:] if not is_mended and (starts or handed) else [], "no `end` so far for "
+    return lead + listed(items[-3:]) if items else None
 
 
 def advice(lexemes, at):
@@ -122,7 +179,8 @@ def one(program, room, seed):
     """(None, how many changes there are), or (what differs, the text's path)."""
     text, lexemes, at = broken(random.Random(seed))
     changes = mends(text, lexemes, at)
-    wanted = [line for line in (line_of(changes), advice(lexemes, at)) if line]
+    mended = line_of(changes, told(changes, lexemes, at))
+    wanted = [line for line in (mended, advice(lexemes, at), blocks(text, lexemes, at, mended is not None)) if line]
     path = f"{room}/{seed}.kahn"
     with open(path, "wb") as it:
         it.write(text)

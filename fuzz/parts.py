@@ -17,6 +17,7 @@ sys.path.insert(0, os.path.join(TOP, "fuzz"))
 import reference as ref
 
 HEADING = re.compile(r"(?m)^<stdin>:(\d+):(\d+): error: ([a-z ]*)")
+AS_PROCESS = " as a process"  # of a channel that is started, said beside
 MORE = re.compile(r"\nand (\d+) faults? more\n\Z")
 WORD = re.compile(rb"[A-Za-z_][A-Za-z_0-9]*|\d+")
 MOST = 20
@@ -36,7 +37,7 @@ def difference(ran, wanted):
     if wanted is None or not wanted:
         return None
     out = ran.stdout.decode()
-    got = [(int(line), int(column), words.strip()) for line, column, words in HEADING.findall(out)]
+    got = [(int(line), int(column), words.strip().removesuffix(AS_PROCESS)) for line, column, words in HEADING.findall(out)]
     more = MORE.search(out)
     if ran.returncode != 1 or ran.stderr:
         return f"status {ran.returncode}, {ran.stderr[:200]!r}"

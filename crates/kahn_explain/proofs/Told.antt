@@ -4,7 +4,7 @@ use Rattle.std.specs.Io.KnownBytes.{Appends}
 use Rattle.kahn_config.specs.declared.Config.{Config}
 use Rattle.kahn_tree.specs.declared.tree.Program.{Program}
 use Rattle.kahn_streams.specs.Tokens.{Lists, inputs_of}
-use Rattle.kahn_pool.specs.Runs.{IsRun}
+use Rattle.kahn_pool.specs.Runs.{IsRightRun}
 use Rattle.kahn_pool.specs.declared.answer.Answer.{Answer}
 use Rattle.kahn_report.specs.Inputs.{StandsFor}
 use Rattle.kahn_pool.specs.declared.config.RunFault.TheVariants.{NoMemory}
@@ -20,11 +20,11 @@ use Rattle.kahn_explain.specs.declared.explaining.Came.{Came}
 use Rattle.kahn_explain.specs.declared.explaining.Came.TheVariants.{Stopped, Refused}
 
 -- the answer of a run of a checked program
-pub run_answer : (program : List ℕ) (t : Program) (config : Config) (lists : Lists) (a : Answer) → IsChecked program t → IsRun t lists config a → IsAnswer t a
+pub run_answer : (program : List ℕ) (t : Program) (config : Config) (lists : Lists) (a : Answer) → IsChecked program t → IsRightRun t lists config a → IsAnswer t a
 run_answer program t config lists a checked ran = (checked.1, inputs_of lists, config.bound, ran.1.0, ran.1.2)
 
 pub explains : (program input : List ℕ) (config : Config) (t : Program) (a : Answer) (e : Explanation) → IsChecked program t
-    → (lists : Lists) × StandsFor t input lists × IsRun t lists config a → IsExplained t a e → IsExplanationOf program input config e
+    → (lists : Lists) × StandsFor t input lists × IsRightRun t lists config a → IsExplained t a e → IsExplanationOf program input config e
 explains program input config t a e checked ran is = (t, ran.0, a, (checked, ran.1, ran.2), is)
 
 pub went_out : (old new : Option (List ℕ)) (text : List ℕ) → Appends old new (text ++ []) → Appends old new text

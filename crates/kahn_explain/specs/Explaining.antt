@@ -4,11 +4,11 @@ use Rattle.std.specs.Io.KnownBytes.{Appends}
 use Rattle.kahn_config.specs.declared.Config.{Config}
 use Rattle.kahn_tree.specs.declared.tree.Program.{Program}
 use Rattle.kahn_streams.specs.Tokens.{Lists}
-use Rattle.kahn_pool.specs.Runs.{IsRun, IsUnrun}
+use Rattle.kahn_pool.specs.Runs.{IsRightRun, IsUnrun}
 use Rattle.kahn_pool.specs.declared.answer.Answer.{Answer}
 use Rattle.kahn_pool.specs.declared.answer.Verdict.TheVariants.{Finished, Bound, Memory}
 use Rattle.kahn_pool.specs.declared.config.RunFault.TheVariants.{NoMemory}
-use Rattle.kahn_report.specs.Inputs.{StandsFor, IsTextFault}
+use Rattle.kahn_report.specs.Inputs.{StandsFor, IsInputTextFault}
 use Rattle.kahn_report.specs.Work.{IsAnswered, IsChecked, IsUnchecked}
 use Rattle.kahn_report.specs.Written.{AppendsFront}
 use Rattle.kahn_report.specs.declared.working.WorkFault.{WorkFault}
@@ -26,7 +26,7 @@ use Rattle.kahn_why.specs.declared.told.Told.TheVariants as told
 
 -- a right answer of the run of a network on an input text
 abbrev pub IsAnswerFor : Program → List ℕ → Config → Answer → Type 0
-IsAnswerFor t text config a = (lists : Lists) × StandsFor t text lists × IsRun t lists config a
+IsAnswerFor t text config a = (lists : Lists) × StandsFor t text lists × IsRightRun t lists config a
 
 -- why a right answer of the run of these texts stopped
 abbrev pub IsExplanationOf : List ℕ → List ℕ → Config → Explanation → Type 0
@@ -65,7 +65,7 @@ HasExplained path program input config strict old new (Err (Syntax f)) =
     IsUnchecked program (Syntax f) × IsRefusal path program (Syntax f) None × (new ≡ old)
 HasExplained path program input config strict old new (Err (Check f)) = IsUnchecked program (Check f) × IsRefusal path program (Check f) None × (new ≡ old)
 HasExplained path program input config strict old new (Err (Text f)) =
-    ((t : Program) × IsChecked program t × IsTextFault t input f) × ((notes : List ℕ) × AreAllowed path program strict notes) × (new ≡ old)
+    ((t : Program) × IsChecked program t × IsInputTextFault t input f) × ((notes : List ℕ) × AreAllowed path program strict notes) × (new ≡ old)
 HasExplained path program input config strict old new (Err (Run f)) =
     ((f ≡ NoMemory)
     ⊎ (((t : Program) × (lists : Lists) × IsChecked program t × StandsFor t input lists × IsUnrun t config f) × ((notes : List ℕ) × AreAllowed path program strict notes)))

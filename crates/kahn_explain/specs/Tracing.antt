@@ -7,7 +7,7 @@ use Rattle.kahn_streams.specs.Tokens.{Lists}
 use Rattle.kahn_pool.specs.Runs.{IsUnrun}
 use Rattle.kahn_pool.specs.declared.answer.Verdict.TheVariants.{Finished, Bound, Memory}
 use Rattle.kahn_pool.specs.declared.config.RunFault.TheVariants.{NoMemory}
-use Rattle.kahn_report.specs.Inputs.{StandsFor, IsTextFault}
+use Rattle.kahn_report.specs.Inputs.{StandsFor, IsInputTextFault}
 use Rattle.kahn_report.specs.Work.{IsChecked, IsUnchecked}
 use Rattle.kahn_report.specs.Written.{AppendsFront}
 use Rattle.kahn_report.specs.declared.working.WorkFault.{WorkFault}
@@ -55,7 +55,7 @@ HasTraced path program input config strict table made old new (Err (Syntax f)) =
 HasTraced path program input config strict table made old new (Err (Check f)) =
     IsUnchecked program (Check f) × IsRefusal path program (Check f) None × (made ≡ table) × (new ≡ old)
 HasTraced path program input config strict table made old new (Err (Text f)) =
-    ((t : Program) × IsChecked program t × IsTextFault t input f) × ((notes : List ℕ) × AreAllowed path program strict notes) × (made ≡ table) × (new ≡ old)
+    ((t : Program) × IsChecked program t × IsInputTextFault t input f) × ((notes : List ℕ) × AreAllowed path program strict notes) × (made ≡ table) × (new ≡ old)
 HasTraced path program input config strict table made old new (Err (Run f)) =
     ((f ≡ NoMemory)
     ⊎ (((t : Program) × (lists : Lists) × IsChecked program t × StandsFor t input lists × IsUnrun t (unwatched config) f)

@@ -1,8 +1,9 @@
-//! From a program text and an input text to why the run stopped, or to a table of all histories.
+//! From a program text and an input text to why the run stopped, or to a table of all histories; or from a report to why its run stopped.
 
 ghost use Rattle.std.specs.Prelude.{◌≡◌, [], IsFalse, IsTrue, MatchResult, true};
 ghost use Rattle.kahn_report.specs.Work.{IsUnanswered, IsUnchecked};
 ghost use Rattle.kahn_explain.specs.Explaining.{HasExplained, IsAnswerFor, came_status, told_status};
+ghost use Rattle.kahn_explain.specs.Reporting.{HasReported, came_of};
 ghost use Rattle.kahn_explain.specs.Tracing.{HasTraced, beside};
 ghost use Rattle.kahn_explain.specs.inner.Told.{HasRefused, HasWarned};
 
@@ -13,7 +14,7 @@ use kahn_report::{WorkFault, checked, read_input, write_line};
 use kahn_trace::{histories_of, trace_text};
 use kahn_tree::NoMemory;
 use kahn_warnings::warning_notes;
-use kahn_why::{Told, explained};
+use kahn_why::{Told, explained, explained_report};
 use std::alloc::Global;
 use std::io::Write;
 use std::sync::Wait;
@@ -119,6 +120,49 @@ pub(crate) fn explain<R: Threads + Wait + Sync, W: Write>(
     };
     match write_line(writer, &[notes.as_bytes(), explanation.text.as_bytes()]) {
         Ok(()) => Ok(Came::Stopped(explanation.told)),
+        Err(fault) => Err(WorkFault::Write(fault)),
+    }
+}
+
+/// What explaining a report came to.
+fn came_of(told: Option<Told>) -> Came
+    ensures { result ≡ came_of told }
+{
+    match told {
+        Some(told) => Came::Stopped(told),
+        None => Came::Refused,
+    }
+}
+
+/// Writes what is warned of in a program and why the run of a report of it stopped, or why the text is no such report; or why the
+/// program text is refused, where that has a place, and for a warning too where it is asked to be strict. Nothing is run, and
+/// nothing is written before all that is to be written stands. Faults are found in this order: of the program text, of the
+/// network, warnings, of the report, want of memory, of the writer.
+pub(crate) fn explain_report<W: Write>(
+    alloc: Global,
+    path: &str,
+    program: &str,
+    report: &str,
+    strict: bool,
+    writer: &mut W,
+) -> Result<Came, WorkFault>
+    ensures { HasReported path.now program.now report.now strict (W.contents writer.old) (W.contents writer.new) result }
+{
+    let network = match checked(alloc, program) {
+        Ok(network) => network,
+        Err(fault) => return refuse(alloc, path, program, fault, writer),
+    };
+    let Ok(notes) = warning_notes(alloc, path, program, network.program()) else {
+        return Err(WorkFault::Run(RunFault::NoMemory));
+    };
+    if is_refused(strict, notes.as_str()) {
+        return refuse_warned(notes.as_str(), writer);
+    }
+    let Ok(reported) = explained_report(alloc, &network, report) else {
+        return Err(WorkFault::Run(RunFault::NoMemory));
+    };
+    match write_line(writer, &[notes.as_bytes(), reported.text.as_bytes()]) {
+        Ok(()) => Ok(came_of(reported.told)),
         Err(fault) => Err(WorkFault::Write(fault)),
     }
 }

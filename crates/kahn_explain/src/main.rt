@@ -7,7 +7,7 @@ mod helping;
 mod noting;
 mod refusing;
 
-use explaining::{Came, explain, status, trace};
+use explaining::{Came, explain, explain_report, status, trace};
 use kahn_fault::Fault;
 use kahn_line::{ExplainOptions, read_explain_line, tell_line, tell_no_memory, tell_words};
 use kahn_pool::Config;
@@ -32,6 +32,28 @@ fn explain_texts<R: Runtime + AllocGlobal + Threads + Wait + Sync>(
     let input = texts.input.as_str();
     let writer = &mut io::writer(rt);
     match explain(rt, rt.alloc(), path, program, input, config, strict, writer) {
+        Ok(came) => Ok(came),
+        Err(fault) => Err(Fault::Work(fault)),
+    }
+}
+
+/// Explains the run of a report, which stands in the place of the input, on standard output.
+fn report_texts<R: Runtime + AllocGlobal>(
+    rt: &R,
+    path: &str,
+    texts: &Texts,
+    strict: bool,
+) -> Result<Came, Fault> {
+    let program = texts.program.as_str();
+    let report = texts.input.as_str();
+    match explain_report(
+        rt.alloc(),
+        path,
+        program,
+        report,
+        strict,
+        &mut io::writer(rt),
+    ) {
         Ok(came) => Ok(came),
         Err(fault) => Err(Fault::Work(fault)),
     }
@@ -73,9 +95,12 @@ fn answered<R: Runtime + AllocGlobal + Threads + Wait + Sync, W: Write>(
     path: &str,
     writer: &mut W,
 ) -> u8 {
-    match read_texts(rt, options.program, options.input) {
+    let reported = options.report.is_some();
+    match read_texts(rt, options.program, options.report.or(options.input)) {
         Ok(texts) => {
-            let came = if options.trace {
+            let came = if reported {
+                report_texts(rt, path, &texts, options.strict)
+            } else if options.trace {
                 trace_texts(rt, path, &texts, options.config, options.strict, writer)
             } else {
                 explain_texts(rt, path, &texts, options.config, options.strict)

@@ -1,5 +1,5 @@
 -- Believed. What more is told of a fault of a network.
-use Rattle.std.specs.Prelude.{ℕ, List, [], ◌∷◌, ◌++◌, Option, Some, None, codes, decimal, if◌then◌else◌, length}
+use Rattle.std.specs.Prelude.{ℕ, Bool, List, [], ◌∷◌, ◌++◌, Option, Some, None, codes, decimal, if◌then◌else◌, is_some, length}
 use Rattle.std.specs.List.{concat, find}
 use Rattle.kahn_tree.specs.View.{bytes_of}
 use Rattle.kahn_tree.specs.declared.span.Span.{Span}
@@ -8,6 +8,8 @@ use Rattle.kahn_tree.specs.declared.tree.Kind.{Kind}
 use Rattle.kahn_tree.specs.declared.tree.Kind.TheVariants as K
 use Rattle.kahn_tree.specs.declared.tree.Direction.{Direction}
 use Rattle.kahn_tree.specs.declared.tree.Direction.TheVariants.{In, Out}
+use Rattle.kahn_tree.specs.declared.tree.Role.{Role}
+use Rattle.kahn_tree.specs.declared.tree.Role.TheVariants.{Inner}
 use Rattle.kahn_tree.specs.declared.tree.Process.{Process}
 use Rattle.kahn_tree.specs.declared.tree.Instance.{Instance}
 use Rattle.kahn_tree.specs.declared.tree.Program.{Program}
@@ -21,7 +23,7 @@ use Rattle.kahn_hints.specs.declared.names.Sort.TheVariants as sort
 use Rattle.kahn_hints.specs.declared.uses.Use.{Use}
 use Rattle.kahn_hints.specs.declared.uses.Use.TheVariants as use_as
 use Rattle.kahn_hints.specs.Names.{program_names}
-use Rattle.kahn_hints.specs.Places.{called_first, channel_kind, names_seen, passed, process_called, process_declaring, process_using, word_at}
+use Rattle.kahn_hints.specs.Places.{called_first, channel_kind, names_seen, passed, process_called, process_declaring, process_using, role_called, word_at}
 use Rattle.kahn_hints.specs.Sight.{unknown_words}
 use Rattle.kahn_hints.specs.Uses.{body_use, instances_use, same_span}
 
@@ -29,7 +31,7 @@ use Rattle.kahn_hints.specs.Uses.{body_use, instances_use, same_span}
 abbrev pub reason_words : Reason → List ℕ
 reason_words reason.DeclaredFirst = codes "declared here first"
 reason_words reason.Declared = codes "declared here"
-reason_words reason.NoProcess = codes "declared here, and not as a process"
+reason_words reason.NoProcess = codes "declared here as a channel, and not as a process"
 reason_words reason.Outside = codes "declared here, outside of the process, which sees its own names alone"
 reason_words reason.WrittenFirst = codes "handed over here first, to be written"
 reason_words reason.ReadFirst = codes "handed over here first, to be read"
@@ -49,8 +51,8 @@ abbrev pub asked_sort : Option Use → Option Sort
 asked_sort None = None
 asked_sort (Some (use_as.Expression k)) = Some sort.Value
 asked_sort (Some use_as.Assigned) = Some sort.Value
-asked_sort (Some use_as.Waited) = Some sort.Channel
-asked_sort (Some use_as.Sent) = Some sort.Channel
+asked_sort (Some use_as.Waited) = Some sort.Source
+asked_sort (Some use_as.Sent) = Some sort.Target
 asked_sort (Some use_as.Handed) = Some sort.Channel
 asked_sort (Some use_as.Process) = Some sort.Process
 
@@ -65,13 +67,18 @@ place_as r (Some n) = Some (n.span, r)
 abbrev pub declared_here : List ℕ → Program → Span → Option (Span × Reason)
 declared_here text t at = place_as reason.Declared (called_first (word_at text at) (names_seen None t (process_using t at)))
 
--- the first of the names of the program with those letters, where it may not stand: in a body, or in the instances
+-- the first of the names of the program with those letters, where it may not stand: any in a body, a channel's where a process is meant
+abbrev pub outside_sort : Option Process → Option Sort
+outside_sort (Some p) = None
+outside_sort None = Some sort.Channel
+
 abbrev pub outside_reason : Option Process → Reason
 outside_reason (Some p) = reason.Outside
 outside_reason None = reason.NoProcess
 
 abbrev pub declared_outside : List ℕ → Program → Span → Option (Span × Reason)
-declared_outside text t at = place_as (outside_reason (process_using t at)) (called_first (word_at text at) (program_names None t))
+declared_outside text t at =
+    place_as (outside_reason (process_using t at)) (called_first (word_at text at) (program_names (outside_sort (process_using t at)) t))
 
 -- the first of the names that are declared beside the one at a place, with the same letters
 abbrev pub declared_first : List ℕ → Program → Span → Option (Span × Reason)
@@ -115,9 +122,17 @@ second_place text t checked.NoMemory = None
 
 -- ---- behind the words of a fault
 
--- a name that isn't declared, by those in sight that may stand there
+-- the name that was perhaps meant, of those in sight that may stand there
+abbrev pub meant_at : List ℕ → Program → Span → List ℕ
+meant_at text t at = unknown_words (word_at text at) (names_seen (asked_sort (use_at t at)) t (process_using t at))
+
+-- as what a name is declared that should be that of a process
+abbrev pub other_words : Option Use → Option Kind → List ℕ
+other_words (Some use_as.Process) (Some k) = codes " as a process, but as a channel"
+other_words _ _ = []
+
 abbrev pub unknown_at : List ℕ → Program → Span → List ℕ
-unknown_at text t at = unknown_words (word_at text at) (names_seen (asked_sort (use_at t at)) t (process_using t at))
+unknown_at text t at = other_words (use_at t at) (channel_kind t (word_at text at)) ++ meant_at text t at
 
 -- the instance whose process is named at a place, and how many arguments are wanted and found there
 abbrev pub named_instance : Program → Span → Option Instance
@@ -162,24 +177,43 @@ channel_words (Some use_as.Sent) = codes ", found a value"
 channel_words (Some (use_as.Expression k)) = codes ", found a value"
 channel_words _ = []
 
-abbrev pub value_words : Option Use → List ℕ
-value_words (Some (use_as.Expression k)) = codes ", found a channel"
-value_words (Some use_as.Assigned) = codes ", found a channel"
-value_words (Some use_as.Handed) = codes ", found a name"
-value_words _ = []
+abbrev pub handed_words : Bool → Bool → List ℕ
+handed_words channel process = if channel then codes ", found a channel" else if process then codes ", found a process" else codes ", found a name"
+
+abbrev pub value_words : Option Use → List ℕ → List ℕ
+value_words (Some (use_as.Expression k)) handed = codes ", found a channel"
+value_words (Some use_as.Assigned) handed = codes ", found a channel"
+value_words (Some use_as.Handed) handed = handed
+value_words _ handed = []
+
+abbrev pub valued_at : List ℕ → Program → Span → List ℕ
+valued_at text t at = value_words (use_at t at) (handed_words (is_some (channel_kind t (word_at text at))) (is_some (process_called t (word_at text at))))
+
+-- the direction, and a name that has it
+abbrev pub direction_at : List ℕ → Program → Span → List ℕ
+direction_at text t at = direction_words (use_at t at) ++ meant_at text t at
+
+-- what to do about a channel of that role without a writer, or without a reader: an input has its writer outside, an output its reader
+abbrev pub unwritten_words : Option Role → List ℕ
+unwritten_words (Some Inner) = codes "; hand it to an `out` parameter, or declare it `input` where its values come from outside"
+unwritten_words _ = codes "; hand it to an `out` parameter"
+
+abbrev pub unread_words : Option Role → List ℕ
+unread_words (Some Inner) = codes "; hand it to an `in` parameter, or declare it `output` where its values are to be reported"
+unread_words _ = codes "; hand it to an `in` parameter"
 
 abbrev pub tail_of : List ℕ → Program → CheckFault → List ℕ
 tail_of text t (checked.Unknown at) = unknown_at text t at
 tail_of text t (checked.WrongCount at) = count_words t (named_instance t at)
 tail_of text t (checked.WrongKind at) = kind_words (found_kind text t at)
-tail_of text t (checked.WrongDirection at) = direction_words (use_at t at)
+tail_of text t (checked.WrongDirection at) = direction_at text t at
 tail_of text t (checked.ChannelExpected at) = channel_words (use_at t at)
-tail_of text t (checked.ValueExpected at) = value_words (use_at t at)
+tail_of text t (checked.ValueExpected at) = valued_at text t at
 tail_of text t (checked.DeclaredTwice at) = []
 tail_of text t (checked.TwoWriters at) = []
 tail_of text t (checked.TwoReaders at) = []
-tail_of text t (checked.NoWriter at) = []
-tail_of text t (checked.NoReader at) = []
+tail_of text t (checked.NoWriter at) = unwritten_words (role_called t (word_at text at))
+tail_of text t (checked.NoReader at) = unread_words (role_called t (word_at text at))
 tail_of text t (checked.TooMany at) = []
 tail_of text t checked.NoMemory = []
 

@@ -1,6 +1,7 @@
 -- Believed. The names of a process and of a program, by what they stand for.
 use Rattle.std.specs.Prelude.{Bool, true, false, List, [], ◌∷◌, ◌++◌, Option, Some, None, flat_map, if◌then◌else◌}
 use Rattle.kahn_tree.specs.declared.tree.Name.{Name}
+use Rattle.kahn_tree.specs.declared.tree.Direction.TheVariants.{In, Out}
 use Rattle.kahn_tree.specs.declared.tree.Taking.{Taking}
 use Rattle.kahn_tree.specs.declared.tree.Taking.TheVariants as T
 use Rattle.kahn_tree.specs.declared.tree.Parameter.{Parameter}
@@ -14,21 +15,19 @@ use Rattle.kahn_hints.specs.declared.names.Sort.TheVariants as sort
 
 -- what a parameter's name stands for
 abbrev pub taking_sort : Taking → Sort
-taking_sort (T.Channel d k) = sort.Channel
+taking_sort (T.Channel In k) = sort.Source
+taking_sort (T.Channel Out k) = sort.Target
 taking_sort (T.Value k) = sort.Value
 
 -- whether a sort is the one that is asked for; each is where none is
 abbrev pub is_sort : Option Sort → Sort → Bool
 is_sort None s = true
 is_sort (Some sort.Value) sort.Value = true
-is_sort (Some sort.Value) sort.Channel = false
-is_sort (Some sort.Value) sort.Process = false
-is_sort (Some sort.Channel) sort.Value = false
 is_sort (Some sort.Channel) sort.Channel = true
-is_sort (Some sort.Channel) sort.Process = false
-is_sort (Some sort.Process) sort.Value = false
-is_sort (Some sort.Process) sort.Channel = false
+is_sort (Some sort.Source) sort.Source = true
+is_sort (Some sort.Target) sort.Target = true
 is_sort (Some sort.Process) sort.Process = true
+is_sort (Some _) _ = false
 
 -- a name of a sort, where it is the one that is asked for
 abbrev pub kept : Option Sort → Sort → Name → List Name

@@ -7,6 +7,7 @@ use Rattle.kahn_tree.specs.View.{bytes_of}
 use Rattle.kahn_tree.specs.declared.span.Span.{Span}
 use Rattle.kahn_tree.specs.declared.tree.Name.{Name}
 use Rattle.kahn_tree.specs.declared.tree.Kind.{Kind}
+use Rattle.kahn_tree.specs.declared.tree.Role.{Role}
 use Rattle.kahn_tree.specs.declared.tree.Declaration.{Declaration}
 use Rattle.kahn_tree.specs.declared.tree.Declaration.TheVariants as D
 use Rattle.kahn_tree.specs.declared.tree.Direction.{Direction}
@@ -65,6 +66,15 @@ declared_kind word (D.Process p ∷ rest) = declared_kind word rest
 
 abbrev pub channel_kind : Program → List ℕ → Option Kind
 channel_kind t word = declared_kind word t.declarations.items
+
+-- what the outside has to do with it
+abbrev pub role_in : List ℕ → List Declaration → Option Role
+role_in word [] = None
+role_in word (D.Channels kind role names ∷ rest) = if list_any (is_called word) names.items then Some role else role_in word rest
+role_in word (D.Process p ∷ rest) = role_in word rest
+
+abbrev pub role_called : Program → List ℕ → Option Role
+role_called t word = role_in word t.declarations.items
 
 -- the name of an argument, where it hands the channel of these letters over in a direction
 abbrev pub passed_if : Direction → List ℕ → Taking → Argument → Option Name

@@ -2,19 +2,19 @@
 
 ghost use Rattle.std.specs.Prelude.{◌≡◌, ◌++◌, IfOk, option_map, string_bytes};
 ghost use Rattle.std.specs.List.{find};
-ghost use Rattle.kahn_hints.specs.Hints.{asked_sort, channel_words, check_note, closed_reason, count_words, counted_words, declared_first, declared_here, declared_outside, declared_role, direction_words, first_reason, found_kind, kind_words, named_instance, outside_reason, second_place, second_text, reason_words, taken_before, tail_of, unknown_at, use_at, value_words};
+ghost use Rattle.kahn_hints.specs.Hints.{asked_sort, channel_words, check_note, closed_reason, count_words, counted_words, declared_first, declared_here, declared_outside, declared_role, direction_at, direction_words, first_reason, found_kind, handed_words, kind_words, meant_at, named_instance, other_words, outside_reason, outside_sort, second_place, second_text, reason_words, taken_before, tail_of, unknown_at, unread_words, unwritten_words, use_at, valued_at, value_words};
 
 use crate::names::{Sort, program_names};
 use crate::places::{
     called_first, channel_kind, names_seen, passed, process_called, process_declaring,
-    process_using, word_at,
+    process_using, role_called, word_at,
 };
 use crate::sight::add_unknown;
 use crate::uses::{Use, body_use, instances_use, same_span};
 use itoa::Buffer;
 use kahn_check::CheckFault;
 use kahn_marks::{add, marked, marked_too};
-use kahn_tree::{Direction, Instance, Kind, NoMemory, Process, Program, Span};
+use kahn_tree::{Direction, Instance, Kind, NoMemory, Process, Program, Role, Span};
 use std::alloc::{AllocError, Global};
 
 /// Why another place is told beside that of a fault.
@@ -45,7 +45,7 @@ fn reason_words(reason: Reason) -> &'static str
     match reason {
         Reason::DeclaredFirst => "declared here first",
         Reason::Declared => "declared here",
-        Reason::NoProcess => "declared here, and not as a process",
+        Reason::NoProcess => "declared here as a channel, and not as a process",
         Reason::Outside => "declared here, outside of the process, which sees its own names alone",
         Reason::WrittenFirst => "handed over here first, to be written",
         Reason::ReadFirst => "handed over here first, to be read",
@@ -72,8 +72,8 @@ fn asked_sort(found: Option<Use>) -> Option<Sort>
         None => None,
         Some(Use::Expression(_)) => Some(Sort::Value),
         Some(Use::Assigned) => Some(Sort::Value),
-        Some(Use::Waited) => Some(Sort::Channel),
-        Some(Use::Sent) => Some(Sort::Channel),
+        Some(Use::Waited) => Some(Sort::Source),
+        Some(Use::Sent) => Some(Sort::Target),
         Some(Use::Handed) => Some(Sort::Channel),
         Some(Use::Process) => Some(Sort::Process),
     }
@@ -96,6 +96,16 @@ fn declared_here(
     Ok(place)
 }
 
+/// The sort of the names of the program that may not stand in a body, or before the arguments of an instance.
+fn outside_sort(process: Option<&Process>) -> Option<Sort>
+    ensures { result ≡ outside_sort (option_map (λ p. p.now) process.entry) }
+{
+    match process {
+        Some(_) => None,
+        None => Some(Sort::Channel),
+    }
+}
+
 /// Why the place is told where a name is declared that may not stand at another one: in a body, or in the instances.
 fn outside_reason(process: Option<&Process>) -> Reason
     ensures { result ≡ outside_reason (option_map (λ p. p.now) process.entry) }
@@ -115,9 +125,10 @@ fn declared_outside(
 ) -> Result<Option<(Span, Reason)>, AllocError>
     ensures { IfOk result (λ place. place ≡ declared_outside text.now program.now at) }
 {
-    let names = program_names(alloc, program, None)?;
+    let process = process_using(program, at);
+    let names = program_names(alloc, program, outside_sort(process))?;
     let place = match called_first(word_at(text, at), &names) {
-        Some(name) => Some((name.span, outside_reason(process_using(program, at)))),
+        Some(name) => Some((name.span, outside_reason(process))),
         None => None,
     };
     Ok(place)
@@ -223,6 +234,31 @@ fn second_place(
     }
 }
 
+/// Adds which name was perhaps meant at a place: the nearest of those that may stand there, or else the first of them.
+fn add_meant(
+    words: &mut String,
+    alloc: Global,
+    text: &str,
+    program: &Program,
+    at: Span,
+) -> Result<(), AllocError>
+    ensures { IfOk result (λ _. string_bytes words.new ≡ string_bytes words.old ++ meant_at text.now program.now at) }
+{
+    let asked = asked_sort(use_at(program, at));
+    let names = names_seen(alloc, program, process_using(program, at), asked)?;
+    add_unknown(words, word_at(text, at), &names)
+}
+
+/// As what a name is declared that should be that of a process.
+fn other_words(found: Option<Use>, kind: Option<Kind>) -> &'static str
+    ensures { result.now ≡ other_words found kind }
+{
+    match (found, kind) {
+        (Some(Use::Process), Some(_)) => " as a process, but as a channel",
+        _ => "",
+    }
+}
+
 /// Adds what is said of a name at a place that isn't declared.
 fn add_unknown_at(
     words: &mut String,
@@ -233,9 +269,9 @@ fn add_unknown_at(
 ) -> Result<(), AllocError>
     ensures { IfOk result (λ _. string_bytes words.new ≡ string_bytes words.old ++ unknown_at text.now program.now at) }
 {
-    let asked = asked_sort(use_at(program, at));
-    let names = names_seen(alloc, program, process_using(program, at), asked)?;
-    add_unknown(words, word_at(text, at), &names)
+    let found = use_at(program, at);
+    words.push_str(other_words(found, channel_kind(program, word_at(text, at))))?;
+    add_meant(words, alloc, text, program, at)
 }
 
 /// The instance whose process is named at a place.
@@ -321,18 +357,79 @@ fn channel_words(found: Option<Use>) -> &'static str
 }
 
 /// What is found where a value is wanted.
-fn value_words(found: Option<Use>) -> &'static str
-    ensures { result.now ≡ value_words found }
+fn value_words(found: Option<Use>, handed: &'static str) -> &'static str
+    ensures { result.now ≡ value_words found handed.now }
 {
     match found {
         Some(Use::Expression(_)) => ", found a channel",
         Some(Use::Assigned) => ", found a channel",
-        Some(Use::Handed) => ", found a name",
+        Some(Use::Handed) => handed,
         _ => "",
     }
 }
 
-/// Adds what is told behind the words of a fault: the nearest name, or what is wanted and what is found.
+/// What is found where a value is wanted, where a name is handed over: a channel, a process, or neither.
+fn handed_words(channel: bool, process: bool) -> &'static str
+    ensures { result.now ≡ handed_words channel process }
+{
+    if channel {
+        ", found a channel"
+    } else if process {
+        ", found a process"
+    } else {
+        ", found a name"
+    }
+}
+
+/// What is found at a place where a value is wanted.
+fn valued_at(text: &str, program: &Program, at: Span) -> &'static str
+    ensures { result.now ≡ valued_at text.now program.now at }
+{
+    let word = word_at(text, at);
+    let handed = handed_words(
+        channel_kind(program, word).is_some(),
+        process_called(program, word).is_some(),
+    );
+    value_words(use_at(program, at), handed)
+}
+
+/// Adds which direction is wanted, which is found, and which name was perhaps meant.
+fn add_direction(
+    words: &mut String,
+    alloc: Global,
+    text: &str,
+    program: &Program,
+    at: Span,
+) -> Result<(), AllocError>
+    ensures { IfOk result (λ _. string_bytes words.new ≡ string_bytes words.old ++ direction_at text.now program.now at) }
+{
+    words.push_str(direction_words(use_at(program, at)))?;
+    add_meant(words, alloc, text, program, at)
+}
+
+/// What to do about a channel without a writer.
+fn unwritten_words(role: Option<Role>) -> &'static str
+    ensures { result.now ≡ unwritten_words role }
+{
+    match role {
+        Some(Role::Inner) =>
+            "; hand it to an `out` parameter, or declare it `input` where its values come from outside",
+        _ => "; hand it to an `out` parameter",
+    }
+}
+
+/// What to do about a channel without a reader.
+fn unread_words(role: Option<Role>) -> &'static str
+    ensures { result.now ≡ unread_words role }
+{
+    match role {
+        Some(Role::Inner) =>
+            "; hand it to an `in` parameter, or declare it `output` where its values are to be reported",
+        _ => "; hand it to an `in` parameter",
+    }
+}
+
+/// Adds what is told behind the words of a fault: the nearest name, what is wanted and what is found, or what to do.
 fn add_tail(
     words: &mut String,
     alloc: Global,
@@ -346,14 +443,18 @@ fn add_tail(
         CheckFault::Unknown(at) => add_unknown_at(words, alloc, text, program, at),
         CheckFault::WrongCount(at) => add_count(words, program, at),
         CheckFault::WrongKind(at) => words.push_str(kind_words(found_kind(text, program, at))),
-        CheckFault::WrongDirection(at) => words.push_str(direction_words(use_at(program, at))),
+        CheckFault::WrongDirection(at) => add_direction(words, alloc, text, program, at),
         CheckFault::ChannelExpected(at) => words.push_str(channel_words(use_at(program, at))),
-        CheckFault::ValueExpected(at) => words.push_str(value_words(use_at(program, at))),
+        CheckFault::ValueExpected(at) => words.push_str(valued_at(text, program, at)),
         CheckFault::DeclaredTwice(_) => Ok(()),
         CheckFault::TwoWriters(_) => Ok(()),
         CheckFault::TwoReaders(_) => Ok(()),
-        CheckFault::NoWriter(_) => Ok(()),
-        CheckFault::NoReader(_) => Ok(()),
+        CheckFault::NoWriter(at) => {
+            words.push_str(unwritten_words(role_called(program, word_at(text, at))))
+        }
+        CheckFault::NoReader(at) => {
+            words.push_str(unread_words(role_called(program, word_at(text, at))))
+        }
         CheckFault::TooMany(_) => Ok(()),
         CheckFault::NoMemory => Ok(()),
     }

@@ -3,7 +3,7 @@
 ghost use Rattle.std.specs.Prelude.{◌≡◌, ◌++◌, ◌==◌, IfOk, map};
 ghost use Rattle.kahn_hints.specs.Names.{globals_of, is_sort, kept, kept_parameter, kept_variable, program_names, process_names, taking_sort};
 
-use kahn_tree::{Declaration, Name, Parameter, Process, Program, Taking, Variable};
+use kahn_tree::{Declaration, Direction, Name, Parameter, Process, Program, Taking, Variable};
 use std::alloc::{AllocError, Global};
 
 /// What a name stands for.
@@ -11,8 +11,12 @@ use std::alloc::{AllocError, Global};
 pub(crate) enum Sort {
     /// A variable, or a parameter that takes a value.
     Value,
-    /// A channel, or a parameter that takes one.
+    /// A channel of the program.
     Channel,
+    /// A parameter that takes a channel to be read.
+    Source,
+    /// A parameter that takes a channel to be written.
+    Target,
     /// A process.
     Process,
 }
@@ -25,6 +29,8 @@ fn is_sort(asked: Option<Sort>, sort: Sort) -> bool
         (None, _) => true,
         (Some(Sort::Value), Sort::Value) => true,
         (Some(Sort::Channel), Sort::Channel) => true,
+        (Some(Sort::Source), Sort::Source) => true,
+        (Some(Sort::Target), Sort::Target) => true,
         (Some(Sort::Process), Sort::Process) => true,
         _ => false,
     }
@@ -35,7 +41,8 @@ fn taking_sort(taking: Taking) -> Sort
     ensures { result ≡ taking_sort taking }
 {
     match taking {
-        Taking::Channel(_, _) => Sort::Channel,
+        Taking::Channel(Direction::In, _) => Sort::Source,
+        Taking::Channel(Direction::Out, _) => Sort::Target,
         Taking::Value(_) => Sort::Value,
     }
 }

@@ -3,14 +3,14 @@
 ghost use Rattle.std.specs.Prelude.{◌≡◌, IfOk, map, option_map};
 ghost use Rattle.std.specs.List.{find, list_any};
 ghost use Rattle.kahn_network.specs.Wiring.{processes_of, same_direction};
-ghost use Rattle.kahn_hints.specs.Places.{called_first, channel_kind, declares, is_called, names_seen, passed, passed_by, passed_if, passed_in, process_called, process_declaring, process_using, has_use, word_at};
+ghost use Rattle.kahn_hints.specs.Places.{called_first, channel_kind, declares, is_called, names_seen, passed, passed_by, passed_if, passed_in, process_called, process_declaring, process_using, has_use, role_called, word_at};
 
 use crate::kinds::same_bytes;
 use crate::names::{Sort, process_names, program_names};
 use crate::uses::{body_use, same_span};
 use kahn_tree::{
-    Argument, Declaration, Direction, Instance, Kind, Name, Parameter, Process, Program, Span,
-    Taking,
+    Argument, Declaration, Direction, Instance, Kind, Name, Parameter, Process, Program, Role,
+    Span, Taking,
 };
 use std::alloc::{AllocError, Global};
 
@@ -144,6 +144,20 @@ pub(crate) fn channel_kind(program: &Program, word: &[u8]) -> Option<Kind>
         if let Declaration::Channels(kind, _, names) = declaration {
             if is_among(word, names) {
                 return Some(*kind);
+            }
+        }
+    }
+    None
+}
+
+/// What the outside has to do with the channel that a program declares under these letters.
+pub(crate) fn role_called(program: &Program, word: &[u8]) -> Option<Role>
+    ensures { result ≡ role_called program.now word.now }
+{
+    for declaration in &program.declarations {
+        if let Declaration::Channels(_, role, names) = declaration {
+            if is_among(word, names) {
+                return Some(*role);
             }
         }
     }

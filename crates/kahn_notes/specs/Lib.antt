@@ -1,1 +1,4 @@
+pub mod Blocked
 pub mod Notes
+pub mod Order
+pub mod Words

@@ -1,5 +1,5 @@
 -- Believed. What is said of a place where a text goes wrong: what stands there, what may stand there, and what mends it.
-use Rattle.std.specs.Prelude.{◌≡◌, ◌==◌, ℕ, Bool, true, false, List, [], ◌∷◌, ◌++◌, Option, Some, None, codes, decimal, if◌then◌else◌, length, map, min, option_map, slice_range, string_bytes, take}
+use Rattle.std.specs.Prelude.{◌≡◌, ◌==◌, ◌&&◌, ℕ, Bool, true, false, List, [], ◌∷◌, ◌++◌, Option, Some, None, codes, decimal, if◌then◌else◌, is_some, length, map, min, nat_le, nat_lt, slice_range, string_bytes, take}
 use Rattle.std.specs.Fmt.{signed_decimal}
 use Rattle.std.specs.List.{concat}
 use Rattle.std.specs.declared.alloc.Global.{Global}
@@ -10,11 +10,8 @@ use Rattle.kahn_syntax.specs.declared.fault.What.{What}
 use Rattle.kahn_syntax.specs.declared.fault.What.TheVariants.{More, Nothing, Other}
 use Rattle.kahn_syntax.specs.declared.lexeme.Class.{Class}
 use Rattle.kahn_syntax.specs.declared.lexeme.Class.TheVariants as class
-use Rattle.kahn_syntax.specs.declared.lexeme.Keyword.{Keyword}
 use Rattle.kahn_syntax.specs.declared.lexeme.Keyword.TheVariants as word
-use Rattle.kahn_syntax.specs.declared.lexeme.Sign.{Sign}
 use Rattle.kahn_syntax.specs.declared.lexeme.Lexeme.{Lexeme}
-use Rattle.kahn_syntax.specs.Lexemes.{bytes_of_sign, letters_of}
 use Rattle.kahn_syntax.specs.Terminals.{IsProper}
 use Rattle.kahn_wanted.specs.declared.groups.Group.{Group}
 use Rattle.kahn_wanted.specs.declared.groups.Group.TheVariants as group
@@ -24,16 +21,14 @@ use Rattle.kahn_wanted.specs.declared.changes.Spot.{Spot}
 use Rattle.kahn_wanted.specs.declared.changes.Spot.TheVariants.{Between, Here, Before}
 use Rattle.kahn_wanted.specs.declared.changes.Change.{Change}
 use Rattle.kahn_wanted.specs.declared.mended.Mends.{Mends}
+use Rattle.kahn_wanted.specs.declared.blocks.Blocks.{Blocks}
+use Rattle.kahn_wanted.specs.Blocks.{AreBlocksOf}
 use Rattle.kahn_wanted.specs.Mends.{AreMendsOf}
 use Rattle.kahn_wanted.specs.Wanted.{IsUnexpected}
 use Rattle.kahn_marks.specs.Marks.{marked, times_over}
-
--- the words for lexemes, with quotes round their letters
-abbrev pub keyword_words : Keyword → List ℕ
-keyword_words k = concat (codes "`" ∷ letters_of k ∷ codes "`" ∷ [])
-
-abbrev pub sign_words : Sign → List ℕ
-sign_words s = concat (codes "`" ∷ bytes_of_sign s ∷ codes "`" ∷ [])
+use Rattle.kahn_notes.specs.Blocked.{blocks_words}
+use Rattle.kahn_notes.specs.Order.{ranked}
+use Rattle.kahn_notes.specs.Words.{any_words, keyword_words, separator, sign_words}
 
 abbrev pub lexeme_words : List ℕ → Class → Span → List ℕ
 lexeme_words text (class.Word k) at = concat (codes "the keyword " ∷ keyword_words k ∷ [])
@@ -51,13 +46,7 @@ abbrev pub MayFind : List ℕ → Option Lexeme → Type 0
 MayFind text (Some x) = IsProper text x.what x.span
 MayFind text None = Unit {0}
 
--- any lexeme of a class, and any of a group
-abbrev pub any_words : Class → List ℕ
-any_words (class.Word k) = keyword_words k
-any_words class.Name = codes "a name"
-any_words (class.Number n) = codes "a number"
-any_words (class.Sign s) = sign_words s
-
+-- any lexeme of a group
 abbrev pub wanted_words : Group → List ℕ
 wanted_words group.Expression = codes "an expression"
 wanted_words group.Operand = codes "an operand"
@@ -77,10 +66,6 @@ text_end_words Other = []
 -- what may stand at a place
 abbrev pub pieces_of : Wanted → What → List (List ℕ)
 pieces_of w what = map wanted_words w.groups.items ++ map any_words w.others.items ++ text_end_words what
-
--- what stands behind a piece where so many are left
-abbrev pub separator : ℕ → List ℕ
-separator n = if n == 0 then [] else if n == 1 then codes " or " else codes ", "
 
 -- with commas between, and `or` before the last
 abbrev pub listed : List (List ℕ) → List ℕ
@@ -106,26 +91,36 @@ put_words text last Between (Some c) = concat (any_words c ∷ codes " before it
 put_words text last Here (Some c) = concat (any_words c ∷ codes " in its place" ∷ [])
 put_words text last Before (Some c) = concat (any_words c ∷ codes " in place of " ∷ last_words text last ∷ codes " before it" ∷ [])
 put_words text last Here None = codes "leaving it out"
-put_words text last Before None = codes "leaving out the one before it"
+put_words text last Before None = concat (codes "leaving out " ∷ last_words text last ∷ codes " before it" ∷ [])
 put_words text last Between None = []
 
 abbrev pub change_words : List ℕ → Option Lexeme → Change → List ℕ
 change_words text last c = put_words text last c.spot c.put
 
--- One change is told, and of two to seven the first three; of more, none.
-abbrev pub lead_words : ℕ → Option (List ℕ)
-lead_words n =
-    if n == 1 then Some (codes "the one change here that makes the text a program: ")
-    else if n == 2 then Some (codes "the two changes here that make the text a program: ")
-    else if n == 3 then Some (codes "the three changes here that make the text a program: ")
-    else if n == 4 then Some (codes "three of the four changes here that make the text a program: ")
-    else if n == 5 then Some (codes "three of the five changes here that make the text a program: ")
-    else if n == 6 then Some (codes "three of the six changes here that make the text a program: ")
-    else if n == 7 then Some (codes "three of the seven changes here that make the text a program: ")
-    else None
+-- how many of so many changes are told; of more than seven none
+abbrev pub number_words : ℕ → List ℕ
+number_words n =
+    if n == 1 then codes "one" else if n == 2 then codes "two" else if n == 3 then codes "three" else if n == 4 then codes "four"
+    else if n == 5 then codes "five" else if n == 6 then codes "six" else codes "seven"
 
-abbrev pub mends_words : List ℕ → Mends → Option (List ℕ)
-mends_words text m = option_map (λ lead. lead ++ listed (map (change_words text m.before) (take 3 m.changes.items))) (lead_words (length m.changes.items))
+abbrev pub some_words : ℕ → ℕ → List ℕ
+some_words told n = if told == n then [] else concat (number_words told ∷ codes " of " ∷ [])
+
+abbrev pub change_lead : ℕ → List ℕ
+change_lead n = if n == 1 then codes " change here that makes the text a program: " else codes " changes here that make the text a program: "
+
+abbrev pub lead_words : ℕ → ℕ → List ℕ
+lead_words told n = some_words told n ++ concat (codes "the " ∷ number_words n ∷ change_lead n ∷ [])
+
+-- the first three of those that may be told
+abbrev pub told_changes : Option Lexeme → Mends → List Change
+told_changes found m = take 3 (ranked m.before found m.changes.items)
+
+abbrev pub mends_words : List ℕ → Option Lexeme → Mends → Option (List ℕ)
+mends_words text found m =
+    if nat_le (length m.changes.items) 7 && nat_lt 0 (length (told_changes found m))
+    then Some (lead_words (length (told_changes found m)) (length m.changes.items) ++ listed (map (change_words text m.before) (told_changes found m)))
+    else None
 
 -- a line below the carets; as many columns as the number of the source line takes are left free
 abbrev pub remark : List ℕ → Span → List ℕ → List ℕ
@@ -153,11 +148,14 @@ advice (Some before) None = None
 advice None found = None
 
 -- what stands below a note on what was found
-abbrev pub mended_text : List ℕ → Span → Option Lexeme → Option Mends → List ℕ
-mended_text text span found (Some m) = remark_or_none text span (mends_words text m) ++ remark_or_none text span (advice m.before found)
-mended_text text span found None = []
+abbrev pub mended_text : List ℕ → Span → Option Lexeme → Option Mends → Blocks → List ℕ
+mended_text text span found None b = remark_or_none text span (blocks_words text found false b)
+mended_text text span found (Some m) b =
+    remark_or_none text span (mends_words text found m) ++ (remark_or_none text span (advice m.before found)
+    ++ remark_or_none text span (blocks_words text found (is_some (mends_words text found m)) b))
 
 -- the note on that place of the text of a file
 abbrev pub IsNote : List ℕ → List ℕ → Span → What → String Global → Type 0
 IsNote path text span what note = (u : Unexpected) × IsUnexpected text span what u × (m : Option Mends) × AreMendsOf text span what m
-    × (string_bytes note ≡ marked path text span (unexpected_words text what u) ++ mended_text text span u.found m)
+    × (b : Blocks) × AreBlocksOf text span what b
+    × (string_bytes note ≡ marked path text span (unexpected_words text what u) ++ mended_text text span u.found m b)

@@ -1,10 +1,12 @@
-//! What is said of a place where a text goes wrong: what stands there, what may stand there, and
-//! the changes that mend it.
+//! What is said of a place where a text goes wrong: what stands there, what may stand there, the
+//! changes that mend it, and the blocks that are open.
 #![tactic(auto)]
 
 mod advice;
+mod blocked;
 mod listing;
 mod mended;
+mod order;
 mod unexpected;
 mod words;
 

@@ -1,7 +1,8 @@
 //! Lists of what may stand at a place.
 
 ghost use Rattle.std.specs.Prelude.{◌≡◌, ◌++◌, IfOk, map, string_bytes};
-ghost use Rattle.kahn_notes.specs.Notes.{listed, pieces_of, separator};
+ghost use Rattle.kahn_notes.specs.Notes.{listed, pieces_of};
+ghost use Rattle.kahn_notes.specs.Words.{separator};
 
 use crate::words::{class_words, group_words};
 use kahn_syntax::What;

@@ -1,21 +1,27 @@
-//! What is said of the changes of one lexeme with which a text is a program, and advice.
+//! What is said below a place where a text goes wrong: of the changes of one lexeme with which it is a program, and of blocks.
 
-ghost use Rattle.std.specs.Prelude.{◌≡◌, ◌++◌, IfOk, Some, map, option_map, string_bytes, take};
+ghost use Rattle.std.specs.Prelude.{◌≡◌, ◌++◌, IfOk, IfSome, None, Some, is_some, length, map, option_map, string_bytes, take};
 ghost use Rattle.kahn_wanted.specs.declared.changes.Spot.TheVariants.{Before};
-ghost use Rattle.kahn_notes.specs.Notes.{MayFind, article, change_words, last_words, lead_words, listed, mended_text, mends_words, put_words, remark, remark_or_none};
+ghost use Rattle.kahn_notes.specs.Blocked.{blocks_words};
+ghost use Rattle.kahn_notes.specs.Notes.{MayFind, article, change_lead, change_words, last_words, lead_words, listed, mended_text, mends_words, number_words, put_words, remark, remark_or_none, some_words};
 
 use crate::advice::advice;
+use crate::blocked::blocks_words;
 use crate::listing::separator;
+use crate::order::ranked;
 use crate::unexpected::add_lexeme;
 use crate::words::class_words;
 use itoa::Buffer;
 use kahn_marks::{add, add_repeated};
 use kahn_syntax::{Class, Lexeme, Span};
-use kahn_wanted::{Change, Mends, Spot};
+use kahn_wanted::{Blocks, Change, Mends, Spot};
 use std::alloc::{AllocError, Global};
 
 /// How many changes are told.
 const TOLD: usize = 3;
+
+/// Of how many changes some are told; of more none.
+const MOST: usize = 7;
 
 /// What stands before the words for a lexeme, where they have no article.
 fn article(class: Class) -> &'static str
@@ -58,6 +64,16 @@ fn add_in_place(
     add(words, &[" before it"])
 }
 
+/// Adds that the lexeme before is left out.
+fn add_left_out(words: &mut String, text: &str, last: Option<Lexeme>) -> Result<(), AllocError>
+    requires { MayFind text.now last }
+    ensures { IfOk result (λ _. string_bytes words.new ≡ string_bytes words.old ++ put_words text.now last Before None) }
+{
+    add(words, &["leaving out "])?;
+    add_last(words, text, last)?;
+    add(words, &[" before it"])
+}
+
 /// Adds a change of a place.
 fn add_change(
     words: &mut String,
@@ -73,7 +89,7 @@ fn add_change(
         (Spot::Here, Some(class)) => add(words, &[class_words(class), " in its place"]),
         (Spot::Before, Some(class)) => add_in_place(words, text, last, class),
         (Spot::Here, None) => add(words, &["leaving it out"]),
-        (Spot::Before, None) => add(words, &["leaving out the one before it"]),
+        (Spot::Before, None) => add_left_out(words, text, last),
         (Spot::Between, None) => Ok(()),
     }
 }
@@ -95,20 +111,47 @@ fn add_changes(
     Ok(())
 }
 
-/// What stands before changes, where there are so many; nothing is said where there are more than seven.
-fn lead(count: usize) -> Option<&'static str>
-    ensures { option_map (λ words. words.now) result ≡ lead_words count }
+/// How many, up to seven, in a word.
+fn number_words(count: usize) -> &'static str
+    ensures { result.now ≡ number_words count }
 {
     match count {
-        1 => Some("the one change here that makes the text a program: "),
-        2 => Some("the two changes here that make the text a program: "),
-        3 => Some("the three changes here that make the text a program: "),
-        4 => Some("three of the four changes here that make the text a program: "),
-        5 => Some("three of the five changes here that make the text a program: "),
-        6 => Some("three of the six changes here that make the text a program: "),
-        7 => Some("three of the seven changes here that make the text a program: "),
-        _ => None,
+        1 => "one",
+        2 => "two",
+        3 => "three",
+        4 => "four",
+        5 => "five",
+        6 => "six",
+        _ => "seven",
     }
+}
+
+/// What stands behind how many changes there are.
+fn change_lead(count: usize) -> &'static str
+    ensures { result.now ≡ change_lead count }
+{
+    match count {
+        1 => " change here that makes the text a program: ",
+        _ => " changes here that make the text a program: ",
+    }
+}
+
+/// Adds how many are told, where that isn't all of them.
+fn add_some(words: &mut String, told: usize, count: usize) -> Result<(), AllocError>
+    ensures { IfOk result (λ _. string_bytes words.new ≡ string_bytes words.old ++ some_words told count) }
+{
+    if told == count {
+        return Ok(());
+    }
+    add(words, &[number_words(told), " of "])
+}
+
+/// Adds how many of so many changes are told.
+fn add_lead(words: &mut String, told: usize, count: usize) -> Result<(), AllocError>
+    ensures { IfOk result (λ _. string_bytes words.new ≡ string_bytes words.old ++ lead_words told count) }
+{
+    add_some(words, told, count)?;
+    add(words, &["the ", number_words(count), change_lead(count)])
 }
 
 /// The first three changes, or all where there are fewer.
@@ -123,22 +166,41 @@ fn first_changes(changes: &[Change]) -> &[Change]
     }
 }
 
-/// What is said of the changes beside a place.
-fn mends_words(alloc: Global, text: &str, mends: &Mends) -> Result<Option<String>, AllocError>
-    requires { MayFind text.now mends.now.before }
-    ensures { IfOk result (λ words. option_map string_bytes words ≡ mends_words text.now mends.now) }
+/// What is said of changes, of which the first ones are told.
+fn said_words(
+    alloc: Global,
+    text: &str,
+    last: Option<Lexeme>,
+    told: &[Change],
+    count: usize,
+) -> Result<String, AllocError>
+    requires { MayFind text.now last }
+    ensures { IfOk result (λ words. string_bytes words ≡ lead_words (length told.now) count ++ listed (map (change_words text.now last) told.now)) }
 {
-    let Some(lead) = lead(mends.changes.len()) else {
-        return Ok(None);
-    };
-    let mut words = String::from_str(alloc, lead)?;
-    add_changes(
-        &mut words,
-        text,
-        mends.before,
-        first_changes(&mends.changes),
-    )?;
-    Ok(Some(words))
+    let mut words = String::new(alloc);
+    add_lead(&mut words, told.len(), count)?;
+    add_changes(&mut words, text, last, told)?;
+    Ok(words)
+}
+
+/// What is said of the changes beside a place where something was found.
+fn mends_words(
+    alloc: Global,
+    text: &str,
+    found: Option<Lexeme>,
+    mends: &Mends,
+) -> Result<Option<String>, AllocError>
+    requires { MayFind text.now mends.now.before }
+    ensures { IfOk result (λ words. option_map string_bytes words ≡ mends_words text.now found mends.now) }
+{
+    let ranked = ranked(alloc, mends.before, found, &mends.changes)?;
+    let told = first_changes(&ranked);
+    let count = mends.changes.len();
+    if count <= MOST && !told.is_empty() {
+        let words = said_words(alloc, text, mends.before, told, count)?;
+        return Ok(Some(words));
+    }
+    Ok(None)
 }
 
 /// Adds a line below the carets under a part.
@@ -154,29 +216,8 @@ fn add_remark(note: &mut String, text: &str, span: Span, words: &str) -> Result<
     add(note, &[" = ", words, "\n"])
 }
 
-/// A note with what is said of the changes, where something is.
-fn with_mends(
-    alloc: Global,
-    note: String,
-    text: &str,
-    span: Span,
-    mends: &Mends,
-) -> Result<String, AllocError>
-    requires { MayFind text.now mends.now.before }
-    ensures { IfOk result (λ all. string_bytes all ≡ string_bytes note ++ remark_or_none text.now span (mends_words text.now mends.now)) }
-{
-    match mends_words(alloc, text, mends)? {
-        Some(words) => {
-            let mut note = note;
-            add_remark(&mut note, text, span, words.as_str())?;
-            Ok(note)
-        }
-        None => Ok(note),
-    }
-}
-
-/// Adds advice below the carets under a part, where there is some.
-fn add_advice(
+/// Adds a line below the carets under a part, where there is one.
+fn add_remark_or_none(
     note: &mut String,
     text: &str,
     span: Span,
@@ -190,19 +231,65 @@ fn add_advice(
     }
 }
 
-/// A note with what is said of the changes, and with advice on what was found, where something is.
-pub(crate) fn with_help(
+/// Adds what is said of blocks.
+fn add_blocks_remark(
+    note: &mut String,
     alloc: Global,
-    note: String,
+    text: &str,
+    span: Span,
+    found: Option<Lexeme>,
+    mended: bool,
+    blocks: &Blocks,
+) -> Result<(), AllocError>
+    ensures { IfOk result (λ _. string_bytes note.new ≡ string_bytes note.old ++ remark_or_none text.now span (blocks_words text.now found mended blocks.now)) }
+{
+    match blocks_words(alloc, text, found, mended, blocks)? {
+        Some(words) => add_remark(note, text, span, words.as_str()),
+        None => Ok(()),
+    }
+}
+
+/// Adds what is said of the changes, where something is, and tells whether it is.
+fn add_mends(
+    note: &mut String,
+    alloc: Global,
     text: &str,
     span: Span,
     found: Option<Lexeme>,
     mends: &Mends,
-) -> Result<String, AllocError>
+) -> Result<bool, AllocError>
     requires { MayFind text.now mends.now.before }
-    ensures { IfOk result (λ all. string_bytes all ≡ string_bytes note ++ mended_text text.now span found (Some mends.now)) }
+    ensures told { IfOk result (λ told. told ≡ is_some (mends_words text.now found mends.now)) }
+    ensures text { IfOk result (λ _. string_bytes note.new ≡ string_bytes note.old ++ remark_or_none text.now span (mends_words text.now found mends.now)) }
 {
-    let mut note = with_mends(alloc, note, text, span, mends)?;
-    add_advice(&mut note, text, span, advice(mends.before, found))?;
-    Ok(note)
+    match mends_words(alloc, text, found, mends)? {
+        Some(words) => {
+            add_remark(note, text, span, words.as_str())?;
+            Ok(true)
+        }
+        None => Ok(false),
+    }
+}
+
+/// Adds what is said of the changes and of the blocks, and advice on what was found, where something is.
+pub(crate) fn add_help(
+    note: &mut String,
+    alloc: Global,
+    text: &str,
+    span: Span,
+    found: Option<Lexeme>,
+    mends: &Option<Mends>,
+    blocks: &Blocks,
+) -> Result<(), AllocError>
+    requires { IfSome mends.now (λ m. MayFind text.now m.before) }
+    ensures { IfOk result (λ _. string_bytes note.new ≡ string_bytes note.old ++ mended_text text.now span found mends.now blocks.now) }
+{
+    match mends {
+        Some(mends) => {
+            let mended = add_mends(note, alloc, text, span, found, mends)?;
+            add_remark_or_none(note, text, span, advice(mends.before, found))?;
+            add_blocks_remark(note, alloc, text, span, found, mended, blocks)
+        }
+        None => add_blocks_remark(note, alloc, text, span, found, false, blocks),
+    }
 }

@@ -1,19 +1,19 @@
 //! What is said of a lexeme that can't stand where it stands, or of a text that ends too early.
 
-ghost use Rattle.std.specs.Prelude.{◌≡◌, ◌++◌, IfOk, IfSome, string_bytes};
+ghost use Rattle.std.specs.Prelude.{◌≡◌, ◌++◌, IfOk, string_bytes};
 ghost use Rattle.kahn_syntax.specs.declared.fault.SyntaxFault.TheVariants.{Expected};
 ghost use Rattle.kahn_syntax.specs.Terminals.{IsProper};
 ghost use Rattle.kahn_syntax.specs.Texts.{IsTextFault};
-ghost use Rattle.kahn_notes.specs.Notes.{IsNote, MayFind, found_words, lexeme_words, mended_text, unexpected_words};
+ghost use Rattle.kahn_notes.specs.Notes.{IsNote, MayFind, found_words, lexeme_words, unexpected_words};
 
 use crate::listing::{add_listed, pieces_of};
-use crate::mended::with_help;
+use crate::mended::add_help;
 use crate::words::{keyword_words, sign_words};
 use itoa::Buffer;
 use kahn_marks::{add, marked};
 use kahn_syntax::{Class, Lexeme, Span, What};
 use kahn_tree::NoMemory;
-use kahn_wanted::{Mends, Unexpected, mends_at, wanted_at};
+use kahn_wanted::{Unexpected, blocks_at, mends_at, wanted_at};
 use std::alloc::{AllocError, Global};
 
 /// Adds what a lexeme is.
@@ -66,28 +66,10 @@ fn words_of(
     Ok(words)
 }
 
-/// A note on a place where that was found, with what is said of the changes there, where they were looked for.
-fn noted(
-    alloc: Global,
-    note: String,
-    text: &str,
-    span: Span,
-    found: Option<Lexeme>,
-    mends: Option<Mends>,
-) -> Result<String, AllocError>
-    requires { IfSome mends (λ m. MayFind text.now m.before) }
-    ensures { IfOk result (λ all. string_bytes all ≡ string_bytes note ++ mended_text text.now span found mends) }
-{
-    match mends {
-        Some(mends) => with_help(alloc, note, text, span, found, &mends),
-        None => Ok(note),
-    }
-}
-
 /// A note on a place where a text goes wrong: what stands there, what may stand there, and the changes of one lexeme there with
-/// which the text is a program, where there are one to seven and the text has at most 8,192 lexemes; of more than three the
-/// first three; and that an `if`, a `while` or a `repeat` behind `then` stands in a block. It refuses only where memory was
-/// refused.
+/// which the text is a program, where there are one to seven and the text has at most 8,192 lexemes: three at most, the one first
+/// that is most likely meant, and none that puts an operator in the place of a name; that an `if`, a `while` or a `repeat` behind
+/// `then` stands in a block; and which blocks are open, or which statements have none. It refuses only where memory was refused.
 pub fn unexpected_note(
     alloc: Global,
     path: &str,
@@ -100,7 +82,17 @@ pub fn unexpected_note(
 {
     let unexpected = wanted_at(alloc, text, span, what)?;
     let mends = mends_at(alloc, text, span, what)?;
+    let blocks = blocks_at(alloc, text, span, what)?;
     let words = words_of(alloc, text, what, &unexpected)?;
-    let note = marked(alloc, path, text, span, words.as_str())?;
-    Ok(noted(alloc, note, text, span, unexpected.found, mends)?)
+    let mut note = marked(alloc, path, text, span, words.as_str())?;
+    add_help(
+        &mut note,
+        alloc,
+        text,
+        span,
+        unexpected.found,
+        &mends,
+        &blocks,
+    )?;
+    Ok(note)
 }

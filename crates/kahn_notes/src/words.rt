@@ -1,7 +1,8 @@
 //! The words for lexemes and for groups of them.
 
 ghost use Rattle.std.specs.Prelude.{◌≡◌};
-ghost use Rattle.kahn_notes.specs.Notes.{any_words, wanted_words, keyword_words, sign_words};
+ghost use Rattle.kahn_notes.specs.Notes.{wanted_words};
+ghost use Rattle.kahn_notes.specs.Words.{any_words, keyword_words, sign_words};
 
 use kahn_syntax::{Class, Keyword, Sign};
 use kahn_wanted::Group;

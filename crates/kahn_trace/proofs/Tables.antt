@@ -16,7 +16,7 @@ use Rattle.kahn_streams.specs.Tokens.{Lists, inputs_of}
 use Rattle.kahn_streams.specs.declared.value.Line.{Line}
 use Rattle.kahn_streams.specs.declared.value.Line.TheVariants.{Channel}
 use Rattle.kahn_pool.specs.Right.{channel_lines, print_lines}
-use Rattle.kahn_pool.specs.Runs.{IsRun}
+use Rattle.kahn_pool.specs.Runs.{IsRightRun}
 use Rattle.kahn_pool.specs.declared.answer.Answer.{Answer}
 use Rattle.kahn_pool.specs.declared.answer.Verdict.{Verdict}
 use Rattle.kahn_report.specs.Inputs.{StandsFor}
@@ -45,7 +45,7 @@ all_well (Ok x) P e h = h
 all_well (Err f) P e h = absurd cc
 
 -- and the prints
-pub are_histories : (t : Program) (text : List ℕ) (config : Config) (lists : Lists) (a : Answer) (old new : List Column) → StandsFor t text lists → IsRun t lists config a
+pub are_histories : (t : Program) (text : List ℕ) (config : Config) (lists : Lists) (a : Answer) (old new : List Column) → StandsFor t text lists → IsRightRun t lists config a
     → AreColumns t text a.verdict (all_channels (length (network_of t).channels)) old → AddsPrints a a.streams.items old new
     → AreHistories (network_of t) (inputs_of lists) a.verdict new
 are_histories t text config lists a old new stands (allowed, (w, watched, right)) before prints = record {

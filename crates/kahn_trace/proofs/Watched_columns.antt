@@ -15,13 +15,13 @@ use Rattle.kahn_streams.specs.Tokens.{Lists, inputs_of}
 use Rattle.kahn_code.specs.Cells.{is_streamed}
 use Rattle.kahn_streams.specs.declared.value.Line.{Line}
 use Rattle.kahn_streams.specs.declared.value.Line.TheVariants.{Channel}
-use Rattle.kahn_pool.specs.Runs.{IsRun, IsUnrun, IsWatched}
+use Rattle.kahn_pool.specs.Runs.{IsRightRun, IsUnrun, IsWatched}
 use Rattle.kahn_pool.specs.declared.answer.Answer.{Answer}
 use Rattle.kahn_pool.specs.declared.answer.Verdict.{Verdict}
 use Rattle.kahn_pool.specs.declared.answer.Verdict.TheVariants.{Finished}
 use Rattle.kahn_pool.specs.declared.config.RunFault.{RunFault}
 use Rattle.kahn_pool.specs.declared.config.RunFault.TheVariants as fault
-use Rattle.kahn_report.specs.Entries.{lines_of}
+use Rattle.kahn_report.specs.Entries.{text_lines}
 use Rattle.kahn_report.specs.Inputs.{StandsFor}
 use Rattle.kahn_report.specs.Work.{IsUnanswered}
 use Rattle.kahn_report.specs.declared.working.WorkFault.{WorkFault}
@@ -36,7 +36,7 @@ use Rattle.kahn_trace.proofs.Lines.{has_line, output_streamed, place_is, watched
 -- a text stands for one input
 one_inputs : (t : Program) (text : List ℕ) (i j : Lists) → StandsFor t text i → StandsFor t text j → inputs_of i ≡ inputs_of j
 one_inputs t text i j stands restands =
-    one_input t t stands.0 restands.0 i j refl (one_list (lines_of text) stands.0 restands.0 stands.1.1 restands.1.1) stands.2 restands.2
+    one_input t t stands.0 restands.0 i j refl (one_list (text_lines text) stands.0 restands.0 stands.1.1 restands.1.1) stands.2 restands.2
 
 -- the watched channel is that of the name
 watched_at : (t : Program) (word : String Global) (c : ℕ) (watch : Option ℕ) → IsWellWired t → slice_get (channel_names t) c ≡ Some (string_bytes word) → IsWatched t (Some word) watch
@@ -52,17 +52,17 @@ named_word : (t : Program) (c : ℕ) (name : List ℕ) (word : String Global) �
 named_word t c name word at spelt = at ∙ ap Some (sym spelt)
 
 pub watched_line : (t : Program) (config new : Config) (name : List ℕ) (c : ℕ) (lists : Lists) (a : Answer) → IsWellWired t → slice_get (channel_names t) c ≡ Some name
-    → c < length (network_of t).channels → IsWatching config name new → IsRun t lists new a → HasLine a (Channel c)
+    → c < length (network_of t).channels → IsWatching config name new → IsRightRun t lists new a → HasLine a (Channel c)
 watched_line t config new name c lists a wired at below (word, spelt, is) ran =
-    let (allowed, (w, watched, right)) = subst (λ k. IsRun t lists k a) is ran in
+    let (allowed, (w, watched, right)) = subst (λ k. IsRightRun t lists k a) is ran in
     has_line (network_of t) w a c right.named below (watched_at t word c w wired (named_word t c name word at spelt) watched)
 
 pub output_line : (t : Program) (config : Config) (c : ℕ) (lists : Lists) (a : Answer) → c < length (network_of t).channels → role_at (network_of t) c ≡ Output
-    → IsRun t lists config a → HasLine a (Channel c)
+    → IsRightRun t lists config a → HasLine a (Channel c)
 output_line t config c lists a below role (allowed, (w, watched, right)) = has_line (network_of t) w a c right.named below (output_streamed (network_of t) w c role)
 
 -- a column of such a run is a history, whatever lists the text stands for
-is_for : (t : Program) (text : List ℕ) (config : Config) (v : Verdict) (line : Line) (lists : Lists) (a : Answer) (x : Column) → StandsFor t text lists → IsRun t lists config a
+is_for : (t : Program) (text : List ℕ) (config : Config) (v : Verdict) (line : Line) (lists : Lists) (a : Answer) (x : Column) → StandsFor t text lists → IsRightRun t lists config a
     → (v ≡ Finished → a.verdict ≡ Finished) → IsColumnOf a line x → IsHistoryOf t text v line x
 is_for t text config v line lists a x stands (allowed, (w, watched, right)) done (s, has, at, is) = (
   is.line ∙ at,
@@ -71,7 +71,7 @@ is_for t text config v line lists a x stands (allowed, (w, watched, right)) done
 )
 
 pub told_for : (t : Program) (text : List ℕ) (config new : Config) (v : Verdict) (line : Line) (a : Answer) (r : Result Column WorkFault)
-    → (lists : Lists) × StandsFor t text lists × IsRun t lists new a → (v ≡ Finished → a.verdict ≡ Finished)
+    → (lists : Lists) × StandsFor t text lists × IsRightRun t lists new a → (v ≡ Finished → a.verdict ≡ Finished)
     → MatchResult r (IsColumnOf a line) (λ f. f ≡ Run fault.NoMemory) → MatchResult r (IsHistoryOf t text v line) (IsUntraced t text config)
 told_for t text config new v line a (Ok x) (lists, stands, ran) done h = is_for t text new v line lists a x stands ran done h
 told_for t text config new v line a (Err f) ran done h = inl h

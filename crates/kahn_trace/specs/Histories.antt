@@ -8,7 +8,7 @@ use Rattle.kahn_streams.specs.declared.value.Line.TheVariants.{Channel}
 use Rattle.kahn_streams.specs.Solution.{Inputs, IsPrefix, IsWhole, iterate}
 use Rattle.kahn_streams.specs.Tokens.{Lists, inputs_of}
 use Rattle.kahn_pool.specs.Right.{print_lines}
-use Rattle.kahn_pool.specs.Runs.{IsRun}
+use Rattle.kahn_pool.specs.Runs.{IsRightRun}
 use Rattle.kahn_pool.specs.declared.answer.Verdict.{Verdict}
 use Rattle.kahn_pool.specs.declared.answer.Verdict.TheVariants.{Finished}
 use Rattle.kahn_pool.specs.declared.config.RunFault.TheVariants.{NoMemory}
@@ -47,7 +47,7 @@ unwatched config = record config { watch = None }
 -- the right answer, and the histories of all lines
 abbrev pub IsTraced : Program → List ℕ → Config → Traced → Type 0
 IsTraced t text config x =
-    (lists : Lists) × StandsFor t text lists × IsRun t lists (unwatched config) x.answer × AreHistories (network_of t) (inputs_of lists) x.answer.verdict x.columns.items
+    (lists : Lists) × StandsFor t text lists × IsRightRun t lists (unwatched config) x.answer × AreHistories (network_of t) (inputs_of lists) x.answer.verdict x.columns.items
 
 -- why there is no table: memory was wanted, or there is no answer
 abbrev pub IsUntraced : Program → List ℕ → Config → WorkFault → Type 0

@@ -2,4 +2,5 @@ mod Lists
 mod Gaps
 mod Folding
 mod Holding
+mod Unchanged
 mod Unseen

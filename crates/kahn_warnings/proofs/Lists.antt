@@ -5,11 +5,11 @@ use Rattle.kahn_tree.specs.View.{Scope, body_of, expr_of, expression_of, level_o
 use Rattle.kahn_tree.specs.declared.tree.Form.{Row_of-Operand, end_of-Operand, more_of-Operand}
 use Rattle.kahn_tree.specs.declared.tree.Form.TheBlock.{items-the_row-Operand}
 use Rattle.kahn_tree.specs.declared.tree.Operand.{Operand}
-use Rattle.kahn_tree.specs.declared.tree.Action.{Row_of-Statement, end_of-Statement, more_of-Statement}
+use Rattle.kahn_tree.specs.declared.tree.Action.{Action, Row_of-Statement, end_of-Statement, more_of-Statement}
 use Rattle.kahn_tree.specs.declared.tree.Action.TheBlock.{items-the_row-Statement}
 use Rattle.kahn_tree.specs.declared.tree.Statement.{Statement}
-use Rattle.kahn_warnings.specs.Loops.{is_seen, never_ends, waits_in}
-use Rattle.kahn_warnings.specs.Uses.{is_assigned_in, is_named, is_used_in}
+use Rattle.kahn_warnings.specs.Loops.{is_seen, never_ends}
+use Rattle.kahn_warnings.specs.Uses.{any_varies_by, is_assigned_in, is_named, is_used_in, varies_by, waits_in}
 use Rattle.kahn_warnings.specs.Warned.{warned_where}
 use Rattle.kahn_warnings.specs.Warnings.{block_items, first_unreached, row_warnings, statement_warnings}
 use Rattle.kahn_warnings.specs.declared.warning.Warning.{Warning}
@@ -46,6 +46,14 @@ level_waits names first end_of-Operand = or_false (waits_in first)
     or_false true = refl
     or_false false = refl
 level_waits names first (more_of-Operand o at e rest) = level_waits names _ rest ∙ or_assoc (waits_in first) (waits_in (expr_of names e)) _
+
+abbrev pub any_vary : Action → List Operand → Bool
+any_vary a [] = false
+any_vary a (o ∷ rest) = varies_by a o.expression.form || any_vary a rest
+
+pub row_varies : {m : _} (a : Action) (row : Row_of-Operand m) → any_varies_by a row ≡ any_vary a (items-the_row-Operand m row)
+row_varies a end_of-Operand = refl
+row_varies a (more_of-Operand o at e rest) = ap (λ b. varies_by a e || b) (row_varies a rest)
 
 -- statements
 

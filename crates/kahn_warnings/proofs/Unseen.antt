@@ -1,6 +1,6 @@
 -- What a statement does that never ends, and what one does that isn't seen.
 use mathlib.Core.Path.{fun_ext}
-use Rattle.std.proofs.Common.{◌≡◌, ℕ, zero, suc, ◌&&◌, ◌||◌, Bool, true, false, [], Result, Ok, Err, neg_ℤ, not, ap, refl, slice_set}
+use Rattle.std.proofs.Common.{◌≡◌, ◌∙◌, ℕ, zero, suc, Option, Some, None, sym, ◌&&◌, ◌||◌, Bool, true, false, [], Result, Ok, Err, neg_ℤ, not, ap, refl, slice_set}
 use Rattle.kahn_tree.specs.Syntax.{Expr, Literal, Variable, Wait, Negate, Not, Binary, Conditional, Stmt, Skip, Assign, Send, Print, Seq, If, While, Repeat}
 use Rattle.kahn_streams.specs.declared.value.Value.{Value}
 use Rattle.kahn_streams.specs.declared.value.Value.TheVariants.{Logical}
@@ -8,7 +8,11 @@ use Rattle.kahn_streams.specs.declared.value.Failure.{Failure}
 use Rattle.kahn_streams.specs.Arithmetic.{apply, number, ranged, truth}
 use Rattle.kahn_streams.specs.Meaning.{Store, script_of, settle, turns_of, value_of}
 use Rattle.kahn_streams.specs.Script.{Fail, Give, Rest, Script, Sends, Tapes, Turns, Waits, play}
-use Rattle.kahn_warnings.specs.Loops.{LoopsHold, is_seen, never_ends, waits_in}
+use Rattle.kahn_warnings.specs.Constants.{constant_of, is_true}
+use Rattle.kahn_warnings.proofs.Holding.{holds}
+use Rattle.kahn_warnings.proofs.Unchanged.{never_left}
+use Rattle.kahn_warnings.specs.Loops.{LoopsHold, is_seen, never_ends}
+use Rattle.kahn_warnings.specs.Uses.{waits_in}
 
 either : {P : Type 0} (x y : Bool) → (x || y) ≡ true → (x ≡ true → P) → (y ≡ true → P) → P
 either true y h p q = p refl
@@ -34,6 +38,20 @@ repeated : {A : Type 0} (j k : ℕ) (a : Stmt) (s : Store) (f g : Store → Scri
 repeated zero k a s f g = refl
 repeated (suc j) k a s f g = ap (λ (x : Store → Script _). Turns (script_of k a s x)) (fun_ext (λ r. repeated j k a r f g))
 
+endless : {A : Type 0} (j k : ℕ) (t : Expr) (a : Stmt) (v : Value) (s : Store) (f g : Store → Script A) → constant_of t ≡ Some v → truth v ≡ true →
+    turns_of j (λ r go. value_of t r go) (λ r go. script_of k a r go) s f ≡ turns_of j (λ r go. value_of t r go) (λ r go. script_of k a r go) s g
+endless zero k t a v s f g h is = refl
+endless {A = A} (suc j) k t a v s f g h is =
+    ap Turns (turned f ∙ (ap (script_of k a s) (fun_ext (λ r. endless j k t a v r f g h is)) ∙ sym (turned g)))
+  where
+    entered : (c : Bool) (x y : Script A) → c ≡ true → (elim c [ true ↦ x | false ↦ y ]) ≡ x
+    entered true x y e = refl
+    entered false x y e = absurd cc
+
+    turned : (e : Store → Script A) → value_of t s (λ w. elim (truth w) [ true ↦ script_of k a s (λ r. turns_of j (λ r go. value_of t r go) (λ r go. script_of k a r go) r e) | false ↦ e s ])
+        ≡ script_of k a s (λ r. turns_of j (λ r go. value_of t r go) (λ r go. script_of k a r go) r e)
+    turned e = holds t v s _ h ∙ entered (truth v) _ _ is
+
 unmoved : {A : Type 0} (k : ℕ) (b : Stmt) (s : Store) (f g : Store → Script A) → never_ends b ≡ true → script_of k b s f ≡ script_of k b s g
 unmoved k Skip s f g h = absurd cc
 unmoved k (Assign x e) s f g h = absurd cc
@@ -45,7 +63,11 @@ unmoved k (Seq a b) s f g h =
 unmoved k (If t a b) s f g h =
     let is = both (never_ends a) (never_ends b) h in
     ap (value_of t s) (fun_ext (λ v. same_branch (truth v) _ _ _ _ (unmoved k a s f g is.0) (unmoved k b s f g is.1)))
-unmoved k (While t a) s f g h = absurd cc
+unmoved k (While t a) s f g h = by (constant_of t) refl h
+  where
+    by : (o : Option Value) → constant_of t ≡ o → is_true o ≡ true → script_of k (While t a) s f ≡ script_of k (While t a) s g
+    by None is e = absurd cc
+    by (Some v) is e = endless k k t a v s f g is e
 unmoved k (Repeat a) s f g h = repeated k k a s f g
 
 -- ---- scripts that take nothing and send nothing
@@ -118,5 +140,6 @@ play_quiet n Rest T q = (refl, refl)
 pub loops_hold : LoopsHold
 loops_hold = record {
   unreached = λ a b h n s T. ap (λ c. play n c T) (unmoved n a s (λ r. script_of n b r Give) Give h);
+  unchanged = never_left;
   unseen = λ a h n s T. play_quiet n (script_of n a s Give) T (quiet_script n a s Give h (λ r. tt));
 }

@@ -1,10 +1,14 @@
 -- Believed. Statements that never end, and loops that nobody sees.
 use Rattle.std.specs.Prelude.{◌≡◌, ℕ, Bool, true, false, ◌||◌, ◌&&◌, []}
-use Rattle.kahn_tree.specs.Syntax.{Expr, Literal, Variable, Wait, Negate, Not, Binary, Conditional, Stmt, Skip, Assign, Send, Print, Seq, If, While, Repeat}
-use Rattle.kahn_streams.specs.Meaning.{Store, exec}
-use Rattle.kahn_streams.specs.Script.{Tapes}
+use Rattle.kahn_tree.specs.Syntax.{Expr, Stmt, Skip, Assign, Send, Print, Seq, If, While, Repeat}
+use Rattle.kahn_streams.specs.declared.value.Value.{Value}
+use Rattle.kahn_streams.specs.Arithmetic.{truth}
+use Rattle.kahn_streams.specs.Meaning.{Store, eval, exec}
+use Rattle.kahn_streams.specs.Script.{Got, Tapes, at_once}
+use Rattle.kahn_warnings.specs.Constants.{constant_of, is_true}
+use Rattle.kahn_warnings.specs.Uses.{is_assigned_in, is_named, waits_in}
 
--- by its form a statement never ends: whatever is behind it isn't reached
+-- by its form a statement never ends, a loop with a test that is always true too: whatever is behind it isn't reached
 abbrev pub never_ends : Stmt → Bool
 never_ends Skip = false
 never_ends (Assign x e) = false
@@ -12,18 +16,8 @@ never_ends (Send e q) = false
 never_ends (Print e) = false
 never_ends (Seq a b) = never_ends a || never_ends b
 never_ends (If t a b) = never_ends a && never_ends b
-never_ends (While t a) = false
+never_ends (While t a) = is_true (constant_of t)
 never_ends (Repeat a) = true
-
--- an expression waits, reached or not
-abbrev pub waits_in : Expr → Bool
-waits_in (Literal c) = false
-waits_in (Variable x) = false
-waits_in (Wait q) = true
-waits_in (Negate e) = waits_in e
-waits_in (Not e) = waits_in e
-waits_in (Binary o a b) = waits_in a || waits_in b
-waits_in (Conditional t a b) = waits_in t || waits_in a || waits_in b
 
 -- a statement waits, sends or prints, reached or not
 abbrev pub is_seen : Stmt → Bool
@@ -36,10 +30,16 @@ is_seen (If t a b) = waits_in t || is_seen a || is_seen b
 is_seen (While t a) = waits_in t || is_seen a
 is_seen (Repeat a) = is_seen a
 
+-- a test doesn't wait, and the body gives no value to a name of it
+abbrev pub IsUnchanged : Expr → Stmt → Type 0
+IsUnchanged t a = (waits_in t ≡ false) × ((x : ℕ) → is_named x t ≡ true → is_assigned_in x a ≡ false)
+
 -- ---- the law
 
 -- Whatever the values of the names and whatever the tapes hold: what stands behind a statement that never ends by its form isn't done, and
--- one that isn't seen takes nothing and sends nothing.
+-- one that isn't seen takes nothing and sends nothing; a loop whose test is unchanged never ends once that came true.
 pub record LoopsHold : Type 0 where
   pub unreached : (a b : Stmt) → never_ends a ≡ true → (n : ℕ) (s : Store) (T : Tapes) → exec n (Seq a b) s T ≡ exec n a s T
+  pub unchanged : (t : Expr) (a b : Stmt) → IsUnchanged t a → (n : ℕ) (s : Store) (T : Tapes) (v : Value) → eval n t s T ≡ at_once (Got v) T → truth v ≡ true →
+      exec n (Seq (While t a) b) s T ≡ exec n (While t a) s T
   pub unseen : (a : Stmt) → is_seen a ≡ false → (n : ℕ) (s : Store) (T : Tapes) → ((exec n a s T).left ≡ T) × ((exec n a s T).sent ≡ [])

@@ -6,7 +6,7 @@ use Rattle.kahn_marks.specs.Marks.{marked_too, marked_warning}
 use Rattle.kahn_warnings.specs.Warnings.{AreWarnings}
 use Rattle.kahn_warnings.specs.declared.warning.Warning.{Warning}
 use Rattle.kahn_warnings.specs.declared.warning.WarningKind.{WarningKind}
-use Rattle.kahn_warnings.specs.declared.warning.WarningKind.TheVariants.{LongComment, NoInstance, Unused, Unread, Idle, Unreached, Divides, Overflows, AlwaysTrue, AlwaysFalse}
+use Rattle.kahn_warnings.specs.declared.warning.WarningKind.TheVariants.{LongComment, NoInstance, Unused, Unread, Idle, Unreached, Divides, Overflows, AlwaysTrue, AlwaysFalse, Unchanged}
 
 abbrev pub warning_words : WarningKind → List ℕ
 warning_words LongComment = codes "comment goes on to a later line, over `:=`, `wait` or `send`"
@@ -14,11 +14,12 @@ warning_words NoInstance = codes "process has no instance"
 warning_words Unused = codes "name is never used"
 warning_words Unread = codes "name is assigned, and never read"
 warning_words Idle = codes "loop never ends, and doesn't wait, send or print"
-warning_words Unreached = codes "statement is never reached: one before it never ends"
+warning_words Unreached = codes "statement is never reached: one before it never ends; `begin` and `end` make one statement of several"
 warning_words Divides = codes "divisor is always 0"
 warning_words Overflows = codes "result is always out of range: overflow"
 warning_words AlwaysTrue = codes "test is always true"
 warning_words AlwaysFalse = codes "test is always false"
+warning_words Unchanged = codes "nothing in the loop changes this test; `begin` and `end` make one statement of several"
 
 -- of a comment its last byte is told too
 abbrev pub last_byte : Span → Span

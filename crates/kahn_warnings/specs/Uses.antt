@@ -1,9 +1,21 @@
 -- Believed. Which names the body of a process uses, and which it assigns.
-use Rattle.std.specs.Prelude.{ℕ, Bool, false, ◌||◌, ◌&&◌, List, [], ◌∷◌, nat_eq}
+use Rattle.std.specs.Prelude.{ℕ, Bool, true, false, ◌||◌, ◌&&◌, List, [], ◌∷◌, nat_eq}
 use Rattle.kahn_tree.specs.declared.tree.Process.{Process}
+use Rattle.kahn_tree.specs.declared.tree.Action.{Action}
+use Rattle.kahn_tree.specs.declared.tree.Form as form
+use Rattle.kahn_tree.specs.declared.tree.Form.{Form, Number, Logical, Negate', Not', Bracket', Level', Conditional', Row_of-Operand, end_of-Operand, more_of-Operand}
 use Rattle.kahn_tree.specs.Syntax.{Expr, Literal, Variable, Wait, Negate, Not, Binary, Conditional, Stmt, Skip, Assign, Send, Print, Seq, If, While, Repeat}
-use Rattle.kahn_tree.specs.View.{body_of}
-use Rattle.kahn_warnings.specs.Loops.{waits_in}
+use Rattle.kahn_tree.specs.View.{body_of, bytes_of, stmt_of}
+
+-- an expression waits, reached or not
+abbrev pub waits_in : Expr → Bool
+waits_in (Literal c) = false
+waits_in (Variable x) = false
+waits_in (Wait q) = true
+waits_in (Negate e) = waits_in e
+waits_in (Not e) = waits_in e
+waits_in (Binary o a b) = waits_in a || waits_in b
+waits_in (Conditional t a b) = waits_in t || waits_in a || waits_in b
 
 -- the name of number x stands in an expression, as a value or as a channel
 abbrev pub is_named : ℕ → Expr → Bool
@@ -36,6 +48,23 @@ is_assigned_in x (Seq a b) = is_assigned_in x a || is_assigned_in x b
 is_assigned_in x (If t a b) = is_assigned_in x a || is_assigned_in x b
 is_assigned_in x (While t a) = is_assigned_in x a
 is_assigned_in x (Repeat a) = is_assigned_in x a
+
+-- an expression waits, or has a name to which an action gives a value: in sight of the name alone its number is 0
+abbrev mutual
+  pub varies_by : Action → Form → Bool
+  varies_by a (Number z) = false
+  varies_by a (Logical b) = false
+  varies_by a (form.Variable x) = is_assigned_in 0 (stmt_of (bytes_of x ∷ []) a)
+  varies_by a (form.Wait q) = true
+  varies_by a (Negate' p at e) = varies_by a e
+  varies_by a (Not' p at e) = varies_by a e
+  varies_by a (Bracket' p at e) = varies_by a e
+  varies_by a (Level' p at e shape row) = varies_by a e || any_varies_by a row
+  varies_by a (Conditional' p at t q at' e r at'' f) = varies_by a t || varies_by a e || varies_by a f
+
+  pub any_varies_by : {m : _} → Action → Row_of-Operand m → Bool
+  any_varies_by a end_of-Operand = false
+  any_varies_by a (more_of-Operand o at e rest) = varies_by a e || any_varies_by a rest
 
 -- the body of a process does so with a name: in sight of this one alone its number is 0, and no other name has that
 abbrev pub uses_name : Process → List ℕ → Bool

@@ -4,8 +4,9 @@ use Rattle.std.specs.Prelude.{◌≡◌, ℕ, Bool, List, [], ◌∷◌, ◌++�
 use Rattle.std.specs.List.{list_any}
 use Rattle.std.specs.Option.{option_or}
 use Rattle.std.proofs.Common.{bytes_eq}
-use Rattle.kahn_tree.specs.View.{bytes_of, stmt_of, statement_of}
+use Rattle.kahn_tree.specs.View.{bytes_of, expression_of, stmt_of, statement_of}
 use Rattle.kahn_tree.specs.declared.span.Span.{Span}
+use Rattle.kahn_tree.specs.declared.tree.Expression.{Expression}
 use Rattle.kahn_tree.specs.declared.tree.Name.{Name}
 use Rattle.kahn_tree.specs.declared.tree.Action.{Action, Empty, Assign, Send, Print, Block', If', While', Repeat', Row_of-Statement, end_of-Statement, more_of-Statement, Held-Action-If-2, None', Some'}
 use Rattle.kahn_tree.specs.declared.tree.Statement.{Statement}
@@ -15,7 +16,7 @@ use Rattle.kahn_tree.specs.declared.tree.Declaration.{Declaration}
 use Rattle.kahn_tree.specs.declared.tree.Declaration.TheVariants as D
 use Rattle.kahn_tree.specs.declared.tree.Program.{Program}
 use Rattle.kahn_warnings.specs.Comments.{CommentWarnings}
-use Rattle.kahn_warnings.specs.Constants.{constant_warnings}
+use Rattle.kahn_warnings.specs.Constants.{constant_of, constant_warnings, is_true}
 use Rattle.kahn_warnings.specs.Loops.{is_seen, never_ends}
 use Rattle.kahn_warnings.specs.Uses.{assigns, uses_name}
 use Rattle.kahn_warnings.specs.Warned.{warned, warned_where}
@@ -54,6 +55,10 @@ names_warnings p = parameter_warnings p ++ variable_warnings p
 abbrev pub idle_warnings : Option Span → Action → List Warning
 idle_warnings at a = if is_seen (stmt_of [] a) then [] else warned_where Idle at
 
+-- a loop of this body with this test, where that is always true
+abbrev pub endless_warnings : Option Span → Expression → Action → List Warning
+endless_warnings at t a = if is_true (constant_of (expression_of [] t)) then idle_warnings at a else []
+
 -- the first of these statements that isn't empty
 abbrev pub first_standing : List Statement → Option Span
 first_standing [] = None
@@ -78,7 +83,7 @@ abbrev mutual
   statement_warnings at (Print e) = []
   statement_warnings at (Block' shape row) = row_warnings row ++ warned_where Unreached (first_unreached (block_items row))
   statement_warnings at (If' t p span a b) = statement_warnings span a ++ else_warnings b
-  statement_warnings at (While' t p span a) = statement_warnings span a
+  statement_warnings at (While' t p span a) = endless_warnings at t a ++ statement_warnings span a
   statement_warnings at (Repeat' p span a) = idle_warnings at a ++ statement_warnings span a
 
   pub row_warnings : {m : _} → Row_of-Statement m → List Warning

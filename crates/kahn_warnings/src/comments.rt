@@ -2,7 +2,7 @@
 
 ghost use Rattle.std.specs.Prelude.{◌≡◌, ◌↔◌, ℕ, ◌+◌, ◌≤◌, ◌<◌, IfNone, IfOk, IfSome, IsTrue, length, slice_index};
 ghost use Rattle.kahn_syntax.specs.Lexemes.{Gap, IsBlank, IsComment};
-ghost use Rattle.kahn_warnings.specs.Comments.{CommentWarnings, Swallows, has_bytes, has_word, is_of_word, is_statement_at};
+ghost use Rattle.kahn_warnings.specs.Comments.{CommentWarnings, Swallows, begins_line, has_bytes, has_call, has_word, is_of_word, is_space, is_statement_at, opens};
 ghost use Rattle.kahn_warnings.specs.inner.Passing.{Passed};
 
 use crate::warning::{Warning, WarningKind};
@@ -12,7 +12,8 @@ use std::alloc::{AllocError, Global};
 
 /// Whether it is a space, a tab, a CR or an LF.
 fn is_blank(b: u8) -> bool
-    ensures { IsTrue result ↔ IsBlank b }
+    ensures blank { IsTrue result ↔ IsBlank b }
+    ensures space { result ≡ is_space b }
 {
     b == b' ' || b == b'\t' || b == b'\r' || b == b'\n'
 }
@@ -38,6 +39,52 @@ fn has_word(word: &[u8], text: &[u8]) -> bool
     }
 }
 
+/// Whether a text begins with an opening bracket, or with blanks and one.
+fn opens(text: &[u8]) -> bool
+    ensures { result ≡ opens text.now }
+{
+    for byte in text {
+        if *byte == b'(' {
+            return true;
+        }
+        if !is_blank(*byte) {
+            return false;
+        }
+    }
+    false
+}
+
+/// Whether a text begins with a word, in any letter case, and an opening bracket behind that.
+fn has_call(word: &[u8], text: &[u8]) -> bool
+    ensures { result ≡ has_call word.now text.now }
+{
+    match (word.split_first(), text.split_first()) {
+        (None, _) => opens(text),
+        (Some(_), None) => false,
+        (Some((letter, letters)), Some((byte, rest))) => {
+            letter.eq_ignore_ascii_case(byte) && has_call(letters, rest)
+        }
+    }
+}
+
+/// Whether the end of a line stands before a byte, or that and blanks.
+fn begins_line(text: &[u8], place: usize) -> bool
+    requires { place ≤ length text.now }
+    ensures { result ≡ begins_line text.now place }
+{
+    let mut at = place;
+    'blanks: while 0 < at {
+        at -= 1;
+        if text[at] == b'\n' {
+            return true;
+        }
+        if !is_blank(text[at]) {
+            return false;
+        }
+    }
+    false
+}
+
 /// Whether a text begins with these bytes.
 fn has_bytes(bytes: &[u8], text: &[u8]) -> bool
     ensures { result ≡ has_bytes bytes.now text.now }
@@ -51,7 +98,7 @@ fn has_bytes(bytes: &[u8], text: &[u8]) -> bool
     }
 }
 
-/// Whether `:=`, or a whole word `wait` or `send`, begins at a byte that isn't the first of the text.
+/// Whether `:=`, a whole word `wait` with a bracket behind it, or a line with `send` begins at a byte that isn't the first of the text.
 fn is_statement_at(text: &[u8], at: usize) -> bool
     requires low { 0 < at }
     requires high { at < length text.now }
@@ -59,7 +106,8 @@ fn is_statement_at(text: &[u8], at: usize) -> bool
 {
     let rest = &text[at..];
     has_bytes(b":=", rest)
-        || (!is_of_word(text[at - 1]) && (has_word(b"wait", rest) || has_word(b"send", rest)))
+        || (!is_of_word(text[at - 1]) && has_call(b"wait", rest))
+        || (begins_line(text, at) && has_word(b"send", rest))
 }
 
 /// Whether one begins between two bytes.

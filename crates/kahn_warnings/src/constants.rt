@@ -2,7 +2,7 @@
 
 ghost use Rattle.std.specs.Prelude.{◌≡◌};
 ghost use Rattle.kahn_tree.specs.View.{Scope, expression_of};
-ghost use Rattle.kahn_warnings.specs.Constants.{bad, chosen, constant_of, divides, combined, good, inverted, negate_fault, negated, sure_fault};
+ghost use Rattle.kahn_warnings.specs.Constants.{bad, chosen, constant_of, divides, combined, good, inverted, is_true, negate_fault, negated, sure_fault};
 
 use crate::arithmetic::{apply, is_zero, negate, truth};
 use kahn_streams::{Failure, Value};
@@ -95,6 +95,16 @@ pub(crate) fn constant_of(expression: &Expression) -> Option<Value>
         Form::Conditional(test, yes, no) => {
             chosen(constant_of(test), constant_of(yes), constant_of(no))
         }
+    }
+}
+
+/// Whether a value is known, and true.
+pub(crate) fn is_true(value: Option<Value>) -> bool
+    ensures { result ≡ is_true value }
+{
+    match value {
+        None => false,
+        Some(value) => truth(value),
     }
 }
 

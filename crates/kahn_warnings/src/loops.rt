@@ -2,8 +2,10 @@
 
 ghost use Rattle.std.specs.Prelude.{◌≡◌};
 ghost use Rattle.kahn_tree.specs.View.{Scope, expression_of, statement_of};
-ghost use Rattle.kahn_warnings.specs.Loops.{is_seen, never_ends, waits_in};
+ghost use Rattle.kahn_warnings.specs.Loops.{is_seen, never_ends};
+ghost use Rattle.kahn_warnings.specs.Uses.{waits_in};
 
+use crate::constants::{constant_of, is_true};
 use kahn_tree::{Action, Expression, Form, Statement};
 
 /// Whether a statement never ends, by its form.
@@ -30,7 +32,7 @@ pub(crate) fn never_ends(statement: &Statement) -> bool
                     None => false,
                 }
         }
-        Action::While(_, _) => false,
+        Action::While(test, _) => is_true(constant_of(test)),
         Action::Repeat(_) => true,
     }
 }

@@ -19,11 +19,14 @@ fn warning_words(kind: WarningKind) -> &'static str
         WarningKind::Unused => "name is never used",
         WarningKind::Unread => "name is assigned, and never read",
         WarningKind::Idle => "loop never ends, and doesn't wait, send or print",
-        WarningKind::Unreached => "statement is never reached: one before it never ends",
+        WarningKind::Unreached =>
+            "statement is never reached: one before it never ends; `begin` and `end` make one statement of several",
         WarningKind::Divides => "divisor is always 0",
         WarningKind::Overflows => "result is always out of range: overflow",
         WarningKind::AlwaysTrue => "test is always true",
         WarningKind::AlwaysFalse => "test is always false",
+        WarningKind::Unchanged =>
+            "nothing in the loop changes this test; `begin` and `end` make one statement of several",
     }
 }
 

@@ -2,15 +2,16 @@
 
 ghost use Rattle.std.specs.Prelude.{◌≡◌, ◌++◌, IfOk};
 ghost use Rattle.kahn_tree.specs.View.{stmt_of};
-ghost use Rattle.kahn_warnings.specs.Warnings.{AreWarnings, body_constants, body_warnings, declaration_warnings, first_standing, first_unreached, idle_warnings, statement_warnings};
+ghost use Rattle.kahn_warnings.specs.Warnings.{AreWarnings, body_constants, body_warnings, declaration_warnings, endless_warnings, first_standing, first_unreached, idle_warnings, statement_warnings};
 ghost use Rattle.kahn_warnings.specs.Warned.{warned_where};
 
 use crate::comments::comment_warnings;
+use crate::constants::{constant_of, is_true};
 use crate::loops::{is_seen, never_ends};
 use crate::names::{add_names, add_process, warned};
 use crate::surely::add_constants;
 use crate::warning::{Warning, WarningKind};
-use kahn_tree::{Action, Declaration, Instance, NoMemory, Program, Span, Statement};
+use kahn_tree::{Action, Declaration, Expression, Instance, NoMemory, Program, Span, Statement};
 use std::alloc::{AllocError, Global};
 
 /// Adds a warning of a part, where that stands anywhere.
@@ -39,6 +40,22 @@ fn add_idle(
         return Ok(());
     }
     add_where(warnings, WarningKind::Idle, place)
+}
+
+/// Adds that of a loop whose test is always true.
+fn add_endless(
+    warnings: &mut Vec<Warning>,
+    place: Option<Span>,
+    test: &Expression,
+    body: &Statement,
+) -> Result<(), AllocError>
+    ensures { IfOk result (λ _. warnings.new.items ≡ warnings.old.items ++ endless_warnings place test.now body.now.action) }
+{
+    if is_true(constant_of(test)) {
+        add_idle(warnings, place, body)
+    } else {
+        Ok(())
+    }
 }
 
 /// Where the first of these statements stands that isn't empty.
@@ -95,7 +112,10 @@ fn add_statement(warnings: &mut Vec<Warning>, statement: &Statement) -> Result<(
                 None => Ok(()),
             }
         }
-        Action::While(_, body) => add_statement(warnings, body),
+        Action::While(test, body) => {
+            add_endless(warnings, statement.span, test, body)?;
+            add_statement(warnings, body)
+        }
         Action::Repeat(body) => {
             add_idle(warnings, statement.span, body)?;
             add_statement(warnings, body)

@@ -25,6 +25,8 @@ pub enum WarningKind {
     AlwaysTrue,
     /// A test of an `if` or of a `while` that is false wherever it is reached.
     AlwaysFalse,
+    /// A test of a `while` that nothing in the loop changes.
+    Unchanged,
 }
 
 /// A warning, and the part of the text that it is about.

@@ -1,3 +1,5 @@
 mod Good
 mod Lined
+mod Numbers
+mod Read
 mod Stands

@@ -85,10 +85,10 @@ answered t a (wired, I, bound, watch, right) = record {
         reads_listed t wired p read.0 c read.1
 
 -- the causes that were found for the answer's standings are those of its ends
-pub all_of : (t : Program) (a : Answer) (ss : List Standing) (ys zs : List Cause) (xs : List End) → IsAnswer t a → ss ≡ standings_of a → xs ≡ a.ends.items → zs ≡ ys
+pub all_of : (t : Program) (a : Answer) (ss : List Standing) (ys zs : List Cause) (xs : List End) → AreStandings (network_of t) (standings_of a) → ss ≡ standings_of a → xs ≡ a.ends.items → zs ≡ ys
     → AreCauses (network_of t) ss ys → AreOfNetwork t xs zs
 all_of t a ss ys zs xs is stand ends same h = record {
-  standings = subst (λ l. AreStandings (network_of t) (map stands l)) (sym ends) (answered t a is);
+  standings = subst (λ l. AreStandings (network_of t) (map stands l)) (sym ends) is;
   causes =
       subst (λ l. AreCauses (network_of t) (map stands l) zs) (sym ends)
       (subst (AreCauses (network_of t) (standings_of a)) (sym same) (subst (λ l. AreCauses (network_of t) l ys) stand h));

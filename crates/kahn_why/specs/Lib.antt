@@ -1,3 +1,5 @@
+pub mod Reading
+pub mod Reported
 pub mod Why
 pub mod Words
 pub mod inner

@@ -1,11 +1,16 @@
-//! Why the run of an answer stopped.
+//! Why the run of an answer, or of a report, stopped.
 #![tactic(auto)]
 
 mod laws;
 mod lines;
 mod pieces;
+mod reading;
+mod reported;
 mod telling;
 mod told;
+
+pub use reading::ReportFault;
+pub use reported::{Reported, explained_report};
 
 // For the crates above.
 pub use laws::for_good;

@@ -2,7 +2,9 @@
 
 ghost use Rattle.std.specs.Prelude.{◌≡◌, ◌++◌, IfOk, map, string_bytes};
 ghost use Rattle.kahn_report.specs.Report.{last_text};
-ghost use Rattle.kahn_why.specs.Why.{standing_of, stands};
+ghost use Rattle.kahn_network.specs.Network.{network_of};
+ghost use Rattle.kahn_chain.specs.Chain.{AreStandings};
+ghost use Rattle.kahn_why.specs.Why.{standing_of, standings_of, stands};
 ghost use Rattle.kahn_why.specs.Words.{IsAnswer, IsExplained};
 
 use crate::lines::add_lines;
@@ -51,14 +53,13 @@ fn add_last(text: &mut String, answer: &Answer) -> Result<(), AllocError>
     add(text, &[word, events, "\n"])
 }
 
-/// Why the run of an answer of a network stopped: a line for each instance that waits or has a fault, and how the run ended. It
-/// refuses only where memory was refused.
-pub fn explained(
+/// Why instances stopped that stand as an answer of a network says.
+pub(crate) fn explained_ends(
     alloc: Global,
     network: &Network,
     answer: &Answer,
 ) -> Result<Explanation, AllocError>
-    requires { IsAnswer network.now answer.now }
+    requires { AreStandings (network_of network.now) (standings_of answer.now) }
     ensures { IfOk result (IsExplained network.now answer.now) }
 {
     let standings = standings(alloc, &answer.ends)?;
@@ -70,4 +71,17 @@ pub fn explained(
         text,
         told: came_to(answer, &causes),
     })
+}
+
+/// Why the run of an answer of a network stopped: a line for each instance that waits or has a fault, and how the run ended. It
+/// refuses only where memory was refused.
+pub fn explained(
+    alloc: Global,
+    network: &Network,
+    answer: &Answer,
+) -> Result<Explanation, AllocError>
+    requires { IsAnswer network.now answer.now }
+    ensures { IfOk result (IsExplained network.now answer.now) }
+{
+    explained_ends(alloc, network, answer)
 }

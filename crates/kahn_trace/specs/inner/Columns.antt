@@ -9,7 +9,7 @@ use Rattle.kahn_streams.specs.declared.value.Line.{Line}
 use Rattle.kahn_streams.specs.declared.value.Line.TheVariants.{Channel, Print}
 use Rattle.kahn_streams.specs.Tokens.{Lists, inputs_of}
 use Rattle.kahn_pool.specs.Right.{HasStream, values_of}
-use Rattle.kahn_pool.specs.Runs.{IsRun}
+use Rattle.kahn_pool.specs.Runs.{IsRightRun}
 use Rattle.kahn_pool.specs.declared.answer.Answer.{Answer}
 use Rattle.kahn_pool.specs.declared.answer.Stream.{Stream}
 use Rattle.kahn_pool.specs.declared.answer.Verdict.{Verdict}
@@ -33,7 +33,7 @@ IsColumnOf a c x = (s : Stream) × HasStream a s × (s.line ≡ c) × HasValuesO
 
 -- the right answer for what the text stands for
 abbrev pub IsTextRun : Program → List ℕ → Config → Answer → Type 0
-IsTextRun t text config a = (lists : Lists) × StandsFor t text lists × IsRun t lists config a
+IsTextRun t text config a = (lists : Lists) × StandsFor t text lists × IsRightRun t lists config a
 
 -- the channel of that name is watched, and else the configuration is the same
 abbrev pub IsWatching : Config → List ℕ → Config → Type 0

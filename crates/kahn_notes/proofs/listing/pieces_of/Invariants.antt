@@ -1,6 +1,7 @@
 -- The groups so far, and then the classes so far.
 use Rattle.std.proofs.Common.{◌≡◌, ◌++◌, map, take}
-use Rattle.kahn_notes.specs.Notes.{any_words, wanted_words}
+use Rattle.kahn_notes.specs.Notes.{wanted_words}
+use Rattle.kahn_notes.specs.Words.{any_words}
 use Rattle.kahn_notes.proofs.listing.pieces_of.Given as goal
 
 abbrev pub invariant-loop-group : goal.invariant-loop-group

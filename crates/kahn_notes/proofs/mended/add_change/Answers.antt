@@ -24,7 +24,7 @@ returns-in-Before-Some c =
 pub returns-in-Before-None : goal.returns-in-Before-None
 returns-in-Before-None c =
     let old = string_bytes c.args.words.now in
-    let new = string_bytes c.add-in-Before-None.new.text in
-    let r = c.add-in-Before-None.result in
+    let new = string_bytes c.add_left_out.new.words in
+    let r = c.add_left_out.result in
     subst (λ s. IfOk r (λ _. new ≡ old ++ put_words c.args.text.now c.args.last s c.args.change.put)) (sym c.in-Before-None.is-0)
-    (subst (λ p. IfOk r (λ _. new ≡ old ++ put_words c.args.text.now c.args.last Before p)) (sym c.in-Before-None.is-1) c.add-in-Before-None.ensures)
+    (subst (λ p. IfOk r (λ _. new ≡ old ++ put_words c.args.text.now c.args.last Before p)) (sym c.in-Before-None.is-1) c.add_left_out.ensures)

@@ -1,6 +1,7 @@
 use Rattle.std.proofs.Common.{◌≡◌, ◌++◌, codes, string_bytes, subst}
 use Rattle.std.proofs.lemmas.Result.{IfOk-weaker}
-use Rattle.kahn_notes.specs.Notes.{any_words, last_words}
+use Rattle.kahn_notes.specs.Notes.{last_words}
+use Rattle.kahn_notes.specs.Words.{any_words}
 use Rattle.kahn_notes.proofs.Firsts.{joined}
 use Rattle.kahn_notes.proofs.mended.add_in_place.Goals as goal
 

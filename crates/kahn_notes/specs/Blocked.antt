@@ -1,0 +1,109 @@
+-- Believed. What is said of blocks where a text goes wrong.
+use Rattle.std.specs.Prelude.{ℕ, Bool, true, false, not, ◌&&◌, ◌-◌, List, [], ◌∷◌, ◌++◌, Option, Some, None, codes, decimal, drop, if◌then◌else◌, length, min}
+use Rattle.std.specs.List.{concat}
+use Rattle.kahn_tree.specs.Place.{line_of, column_of}
+use Rattle.kahn_tree.specs.declared.span.Span.{Span}
+use Rattle.kahn_syntax.specs.declared.lexeme.Class.{Class}
+use Rattle.kahn_syntax.specs.declared.lexeme.Class.TheVariants as class
+use Rattle.kahn_syntax.specs.declared.lexeme.Keyword.TheVariants as word
+use Rattle.kahn_syntax.specs.declared.lexeme.Sign.TheVariants as sign
+use Rattle.kahn_syntax.specs.declared.lexeme.Lexeme.{Lexeme}
+use Rattle.kahn_wanted.specs.declared.blocks.Block.{Block}
+use Rattle.kahn_wanted.specs.declared.blocks.Blocks.{Blocks}
+use Rattle.kahn_notes.specs.Order.{is_name}
+use Rattle.kahn_notes.specs.Words.{any_words, separator}
+
+-- ---- places
+
+-- the line and the column of a byte, or of the end of the text
+abbrev pub line_there : List ℕ → ℕ → ℕ
+line_there text from = line_of text (min from (length text))
+
+abbrev pub column_there : List ℕ → ℕ → ℕ
+column_there text from = column_of text (min from (length text))
+
+abbrev pub at_words : List ℕ → Span → List ℕ
+at_words text at = concat (codes " at " ∷ decimal (line_there text at.from) ∷ codes ":" ∷ decimal (column_there text at.from) ∷ [])
+
+-- ---- lists of them
+
+-- a `begin`, with what stands before it
+abbrev pub begin_class_words : Class → List ℕ
+begin_class_words (class.Word word.Do) = codes "`do begin`"
+begin_class_words (class.Word word.Then) = codes "`then begin`"
+begin_class_words (class.Word word.Else) = codes "`else begin`"
+begin_class_words (class.Word word.Repeat) = codes "`repeat begin`"
+begin_class_words _ = codes "`begin`"
+
+abbrev pub begin_words : Option Lexeme → List ℕ
+begin_words (Some x) = begin_class_words x.what
+begin_words None = codes "`begin`"
+
+abbrev pub block_item : List ℕ → Block → List ℕ
+block_item text b = begin_words b.before ++ at_words text b.begin.span
+
+-- what leads to a statement without a block
+abbrev pub bare_item : List ℕ → Lexeme → List ℕ
+bare_item text x = any_words x.what ++ at_words text x.span
+
+-- with commas between, and `or` before the last
+abbrev pub listed_blocks : List ℕ → List Block → List ℕ
+listed_blocks text [] = []
+listed_blocks text (b ∷ bs) = block_item text b ++ (separator (length bs) ++ listed_blocks text bs)
+
+abbrev pub listed_bare : List ℕ → List Lexeme → List ℕ
+listed_bare text [] = []
+listed_bare text (x ∷ xs) = bare_item text x ++ (separator (length xs) ++ listed_bare text xs)
+
+-- the last three, or all where there are fewer
+abbrev pub last_few : {A : Type 0} → List A → List A
+last_few xs = drop (length xs - 3) xs
+
+abbrev pub open_words : List ℕ → List Block → Option (List ℕ)
+open_words text [] = None
+open_words text (b ∷ bs) = Some (codes "no `end` so far for " ++ listed_blocks text (last_few (b ∷ bs)))
+
+abbrev pub bare_words : List ℕ → List Lexeme → Option (List ℕ)
+bare_words text [] = None
+bare_words text (x ∷ xs) = Some (codes "no `begin` stands behind " ++ listed_bare text (last_few (x ∷ xs)))
+
+-- ---- when they are told
+
+abbrev pub is_end_class : Class → Bool
+is_end_class (class.Word word.End) = true
+is_end_class _ = false
+
+-- at an `end` that may not stand there: of statements without a block
+abbrev pub is_closing : Option Lexeme → Bool
+is_closing (Some x) = is_end_class x.what
+is_closing None = false
+
+-- what stands outside of bodies alone: a declaration, and a `(` behind the name of a process
+abbrev pub is_outer_class : Option Lexeme → Class → Bool
+is_outer_class before (class.Word word.Process) = true
+is_outer_class before (class.Word word.Integer) = true
+is_outer_class before (class.Word word.Logical) = true
+is_outer_class before (class.Sign sign.Open) = is_name before
+is_outer_class before _ = false
+
+-- at these and at the end of the text: of open blocks
+abbrev pub is_outside : Option Lexeme → Option Lexeme → Bool
+is_outside before (Some x) = is_outer_class before x.what
+is_outside before None = true
+
+-- at the end of the text always, else where no change is told that mends the text
+abbrev pub is_told : Option Lexeme → Bool → Bool
+is_told (Some x) mended = not mended
+is_told None mended = true
+
+-- the block of the program is open at whatever stands in it
+abbrev pub open_told : Option Lexeme → List Block → List Block
+open_told (Some x) bs = drop 1 bs
+open_told None bs = bs
+
+-- what is said of blocks where something was found
+abbrev pub blocks_words : List ℕ → Option Lexeme → Bool → Blocks → Option (List ℕ)
+blocks_words text found mended b =
+    if is_closing found then bare_words text b.bare.items
+    else if is_told found mended && is_outside b.before found then open_words text (open_told found b.unclosed.items)
+    else None

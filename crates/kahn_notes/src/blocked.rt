@@ -1,0 +1,198 @@
+//! What is said of blocks where a text goes wrong: of those that no `end` has closed, and of statements without one.
+
+ghost use Rattle.std.specs.Prelude.{◌≡◌, ◌++◌, IfOk, map, option_map, string_bytes};
+ghost use Rattle.kahn_tree.specs.Place.{line_of, column_of};
+ghost use Rattle.kahn_notes.specs.Blocked.{at_words, bare_item, bare_words, begin_words, block_item, blocks_words, column_there, is_closing, is_outside, is_told, last_few, line_there, listed_bare, listed_blocks, open_told, open_words};
+
+use crate::listing::separator;
+use crate::order::is_name;
+use crate::words::class_words;
+use itoa::Buffer;
+use kahn_marks::add;
+use kahn_syntax::{Class, Keyword, Lexeme, Sign, Span};
+use kahn_wanted::{Block, Blocks};
+use std::alloc::{AllocError, Global};
+
+/// How many are told: the last ones.
+const FEW: usize = 3;
+
+/// The line and the column of a byte of a text, or of its end where the text has no such byte.
+fn place(text: &str, from: usize) -> (usize, usize)
+    ensures line { result.0 ≡ line_there text.now from }
+    ensures column { result.1 ≡ column_there text.now from }
+{
+    let from = from.min(text.len());
+    let span = Span { from, to: from };
+    span.place(text)
+}
+
+/// Adds where a lexeme stands.
+fn add_at(words: &mut String, text: &str, at: Span) -> Result<(), AllocError>
+    ensures { IfOk result (λ _. string_bytes words.new ≡ string_bytes words.old ++ at_words text.now at) }
+{
+    let (line, column) = place(text, at.from);
+    let mut first = Buffer::new();
+    let mut second = Buffer::new();
+    let line = first.format(line);
+    let column = second.format(column);
+    add(words, &[" at ", line, ":", column])
+}
+
+/// What a `begin` is called behind a lexeme.
+fn begin_words(before: Option<Lexeme>) -> &'static str
+    ensures { result.now ≡ begin_words before }
+{
+    match before {
+        Some(lexeme) => match lexeme.what {
+            Class::Word(Keyword::Do) => "`do begin`",
+            Class::Word(Keyword::Then) => "`then begin`",
+            Class::Word(Keyword::Else) => "`else begin`",
+            Class::Word(Keyword::Repeat) => "`repeat begin`",
+            _ => "`begin`",
+        },
+        None => "`begin`",
+    }
+}
+
+/// Adds a block.
+fn add_block(words: &mut String, text: &str, block: Block) -> Result<(), AllocError>
+    ensures { IfOk result (λ _. string_bytes words.new ≡ string_bytes words.old ++ block_item text.now block) }
+{
+    words.push_str(begin_words(block.before))?;
+    add_at(words, text, block.begin.span)
+}
+
+/// Adds what leads to a statement.
+fn add_head(words: &mut String, text: &str, head: Lexeme) -> Result<(), AllocError>
+    ensures { IfOk result (λ _. string_bytes words.new ≡ string_bytes words.old ++ bare_item text.now head) }
+{
+    words.push_str(class_words(head.what))?;
+    add_at(words, text, head.span)
+}
+
+/// Adds blocks with commas between, and `or` before the last.
+fn add_blocks(words: &mut String, text: &str, blocks: &[Block]) -> Result<(), AllocError>
+    ensures { IfOk result (λ _. string_bytes words.new ≡ string_bytes words.old ++ listed_blocks text.now blocks.now) }
+{
+    for (number, block) in blocks.iter().enumerate() {
+        add_block(words, text, *block)?;
+        words.push_str(separator(blocks.len() - number - 1))?;
+    }
+    Ok(())
+}
+
+/// Adds what leads to statements, in the same way.
+fn add_heads(words: &mut String, text: &str, heads: &[Lexeme]) -> Result<(), AllocError>
+    ensures { IfOk result (λ _. string_bytes words.new ≡ string_bytes words.old ++ listed_bare text.now heads.now) }
+{
+    for (number, head) in heads.iter().enumerate() {
+        add_head(words, text, *head)?;
+        words.push_str(separator(heads.len() - number - 1))?;
+    }
+    Ok(())
+}
+
+/// The last ones of blocks.
+fn last_blocks(blocks: &[Block]) -> &[Block]
+    ensures { result.now ≡ last_few blocks.now }
+{
+    &blocks[blocks.len().saturating_sub(FEW)..]
+}
+
+/// The last ones of lexemes.
+fn last_heads(heads: &[Lexeme]) -> &[Lexeme]
+    ensures { result.now ≡ last_few heads.now }
+{
+    &heads[heads.len().saturating_sub(FEW)..]
+}
+
+/// What is said of blocks that no `end` has closed, where there are some.
+fn open_words(alloc: Global, text: &str, blocks: &[Block]) -> Result<Option<String>, AllocError>
+    ensures { IfOk result (λ words. option_map string_bytes words ≡ open_words text.now blocks.now) }
+{
+    if blocks.is_empty() {
+        return Ok(None);
+    }
+    let mut words = String::from_str(alloc, "no `end` so far for ")?;
+    add_blocks(&mut words, text, last_blocks(blocks))?;
+    Ok(Some(words))
+}
+
+/// What is said of statements without a block, where there are some.
+fn bare_words(alloc: Global, text: &str, heads: &[Lexeme]) -> Result<Option<String>, AllocError>
+    ensures { IfOk result (λ words. option_map string_bytes words ≡ bare_words text.now heads.now) }
+{
+    if heads.is_empty() {
+        return Ok(None);
+    }
+    let mut words = String::from_str(alloc, "no `begin` stands behind ")?;
+    add_heads(&mut words, text, last_heads(heads))?;
+    Ok(Some(words))
+}
+
+/// Whether it is the keyword `end`.
+fn is_closing(found: Option<Lexeme>) -> bool
+    ensures { result ≡ is_closing found }
+{
+    match found {
+        Some(lexeme) => matches!(lexeme.what, Class::Word(Keyword::End)),
+        None => false,
+    }
+}
+
+/// Whether what was found behind a lexeme stands outside of bodies alone: the end of the text, a declaration, or the arguments of
+/// an instance.
+fn is_outside(before: Option<Lexeme>, found: Option<Lexeme>) -> bool
+    ensures { result ≡ is_outside before found }
+{
+    match found {
+        Some(lexeme) => match lexeme.what {
+            Class::Word(Keyword::Process) => true,
+            Class::Word(Keyword::Integer) => true,
+            Class::Word(Keyword::Logical) => true,
+            Class::Sign(Sign::Open) => is_name(before),
+            _ => false,
+        },
+        None => true,
+    }
+}
+
+/// The blocks of which one lacks its `end`: that of the program is open at whatever stands in it.
+fn open_told(found: Option<Lexeme>, blocks: &[Block]) -> &[Block]
+    ensures { result.now ≡ open_told found blocks.now }
+{
+    match found {
+        Some(_) => &blocks[blocks.len().min(1)..],
+        None => blocks,
+    }
+}
+
+/// Whether open blocks may be told: at the end of the text always, else where no change is told that mends the text.
+fn is_told(found: Option<Lexeme>, mended: bool) -> bool
+    ensures { result ≡ is_told found mended }
+{
+    match found {
+        Some(_) => !mended,
+        None => true,
+    }
+}
+
+/// What is said of blocks where something was found: at an `end` that may not stand there, of statements without a block; and of
+/// open blocks, at what stands outside of bodies alone.
+pub(crate) fn blocks_words(
+    alloc: Global,
+    text: &str,
+    found: Option<Lexeme>,
+    mended: bool,
+    blocks: &Blocks,
+) -> Result<Option<String>, AllocError>
+    ensures { IfOk result (λ words. option_map string_bytes words ≡ blocks_words text.now found mended blocks.now) }
+{
+    if is_closing(found) {
+        return bare_words(alloc, text, &blocks.bare);
+    }
+    if is_told(found, mended) && is_outside(blocks.before, found) {
+        return open_words(alloc, text, open_told(found, &blocks.unclosed));
+    }
+    Ok(None)
+}

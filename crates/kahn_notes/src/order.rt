@@ -1,0 +1,128 @@
+//! Which changes are told, and in which order.
+
+ghost use Rattle.std.specs.Prelude.{◌≡◌, ◌++◌, IfOk, take};
+ghost use Rattle.kahn_notes.specs.Order.{is_else, is_name, is_operator_class, is_semicolon, of_rank, change_rank, ranked, same_rank};
+
+use kahn_syntax::{Class, Keyword, Lexeme, Sign};
+use kahn_wanted::{Change, Spot};
+use std::alloc::{AllocError, Global};
+
+/// How likely a change is meant.
+#[derive(Clone, Copy)]
+pub(crate) enum Rank {
+    /// It is told first.
+    First,
+    /// It is told then.
+    Then,
+    /// It isn't told.
+    Never,
+}
+
+/// Whether both are the same rank.
+fn same_rank(one: Rank, other: Rank) -> bool
+    ensures { result ≡ same_rank one other }
+{
+    match (one, other) {
+        (Rank::First, Rank::First) => true,
+        (Rank::Then, Rank::Then) => true,
+        (Rank::Never, Rank::Never) => true,
+        _ => false,
+    }
+}
+
+/// Whether it is a `;`.
+fn is_semicolon(lexeme: Option<Lexeme>) -> bool
+    ensures { result ≡ is_semicolon lexeme }
+{
+    match lexeme {
+        Some(lexeme) => matches!(lexeme.what, Class::Sign(Sign::Semicolon)),
+        None => false,
+    }
+}
+
+/// Whether it is the keyword `else`.
+fn is_else(lexeme: Option<Lexeme>) -> bool
+    ensures { result ≡ is_else lexeme }
+{
+    match lexeme {
+        Some(lexeme) => matches!(lexeme.what, Class::Word(Keyword::Else)),
+        None => false,
+    }
+}
+
+/// Whether it is a name.
+pub(crate) fn is_name(lexeme: Option<Lexeme>) -> bool
+    ensures { result ≡ is_name lexeme }
+{
+    match lexeme {
+        Some(lexeme) => matches!(lexeme.what, Class::Name),
+        None => false,
+    }
+}
+
+/// Whether it is an operator.
+fn is_operator_class(class: Class) -> bool
+    ensures { result ≡ is_operator_class class }
+{
+    match class {
+        Class::Word(Keyword::And) => true,
+        Class::Word(Keyword::Div) => true,
+        Class::Word(Keyword::Mod) => true,
+        Class::Word(Keyword::Or) => true,
+        Class::Sign(Sign::Plus) => true,
+        Class::Sign(Sign::Minus) => true,
+        Class::Sign(Sign::Times) => true,
+        Class::Sign(Sign::Equal) => true,
+        Class::Sign(Sign::Unequal) => true,
+        Class::Sign(Sign::Less) => true,
+        Class::Sign(Sign::AtMost) => true,
+        Class::Sign(Sign::Greater) => true,
+        Class::Sign(Sign::AtLeast) => true,
+        _ => false,
+    }
+}
+
+/// How likely a change beside a lexeme that was found is meant, where one stands before it.
+fn change_rank(before: Option<Lexeme>, found: Option<Lexeme>, change: Change) -> Rank
+    ensures { result ≡ change_rank before found change.spot change.put }
+{
+    match (change.spot, change.put) {
+        (Spot::Before, None) if is_semicolon(before) && is_else(found) => Rank::First,
+        (Spot::Before, Some(class)) if is_operator_class(class) && is_name(before) => Rank::Never,
+        (Spot::Here, Some(class)) if is_operator_class(class) && is_name(found) => Rank::Never,
+        _ => Rank::Then,
+    }
+}
+
+/// Adds those of the changes that have a rank.
+fn add_ranked(
+    list: &mut Vec<Change>,
+    rank: Rank,
+    before: Option<Lexeme>,
+    found: Option<Lexeme>,
+    changes: &[Change],
+) -> Result<(), AllocError>
+    ensures { IfOk result (λ _. list.new.items ≡ list.old.items ++ of_rank rank before found changes.now) }
+{
+    for change in changes {
+        if same_rank(rank, change_rank(before, found, *change)) {
+            list.push(*change)?;
+        }
+    }
+    Ok(())
+}
+
+/// The changes that may be told beside a lexeme that was found, those first that are most likely meant.
+pub(crate) fn ranked(
+    alloc: Global,
+    before: Option<Lexeme>,
+    found: Option<Lexeme>,
+    changes: &[Change],
+) -> Result<Vec<Change>, AllocError>
+    ensures { IfOk result (λ list. list.items ≡ ranked before found changes.now) }
+{
+    let mut list = Vec::new(alloc);
+    add_ranked(&mut list, Rank::First, before, found, changes)?;
+    add_ranked(&mut list, Rank::Then, before, found, changes)?;
+    Ok(list)
+}

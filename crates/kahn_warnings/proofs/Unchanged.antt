@@ -1,0 +1,183 @@
+-- A loop that gives no value to a name of its test, which doesn't wait, never ends once that came true.
+use mathlib.Core.Path.{fun_ext}
+use Rattle.std.proofs.Common.{arith, ◌≡◌, ◌∙◌, ℕ, zero, suc, ◌||◌, Bool, true, false, true≢false, Option, Some, None, Result, Ok, Err, neg_ℤ, pos, not, ap, sym, refl, nat_eq, slice_set}
+use Rattle.std.proofs.lemmas.List.{get_or-set_other}
+use Rattle.std.proofs.lemmas.Option.{none-some, same_Some}
+use Rattle.kahn_tree.specs.Syntax.{Expr, Literal, Variable, Wait, Negate, Not, Binary, Conditional, Stmt, Skip, Assign, Send, Print, Seq, If, While, Repeat}
+use Rattle.kahn_streams.specs.declared.value.Value.{Value}
+use Rattle.kahn_streams.specs.declared.value.Value.TheVariants.{Integer, Logical}
+use Rattle.kahn_streams.specs.declared.value.Failure.{Failure}
+use Rattle.kahn_streams.specs.Arithmetic.{apply, number, ranged, truth}
+use Rattle.kahn_streams.specs.Meaning.{Store, constant, eval, exec, read, script_of, settle, turns_of, value_of}
+use Rattle.kahn_streams.specs.Script.{Cut, Dry, Fail, Fault, Give, Got, Outcome, Parameter, Printer, Reached, Script, Sends, Tapes, Turns, Waits, at_once, play}
+use Rattle.kahn_warnings.specs.Loops.{IsUnchanged}
+use Rattle.kahn_warnings.specs.Uses.{is_assigned_in, is_named, waits_in}
+
+left : (x y : Bool) → x ≡ true → (x || y) ≡ true
+left true y h = refl
+left false y h = absurd cc
+
+right : (x y : Bool) → y ≡ true → (x || y) ≡ true
+right true y h = refl
+right false y h = h
+
+neither : (x y : Bool) → (x || y) ≡ false → (x ≡ false) × (y ≡ false)
+neither true y h = absurd cc
+neither false y h = (refl, h)
+
+itself : (x : ℕ) → nat_eq x x ≡ true
+itself x = by (nat_eq x x) refl
+  where
+    by : (b : Bool) → nat_eq x x ≡ b → b ≡ true
+    by true h = refl
+    by false h = absurd (grind (arith, h))
+
+apart : (y x : ℕ) → nat_eq y x ≡ false → y ≡ x → ⊥
+apart y x h e = true≢false (sym (itself y) ∙ (ap (nat_eq y) e ∙ h))
+
+-- ---- an expression that doesn't wait has its value, or its fault, at once
+
+abbrev then : Result Value Failure → (Value → Result Value Failure) → Result Value Failure
+then (Ok v) f = f v
+then (Err k) f = Err k
+
+abbrev result_of : Expr → Store → Result Value Failure
+result_of (Literal c) s = Ok (constant c)
+result_of (Variable x) s = Ok (read s x)
+result_of (Wait q) s = Ok (Integer (pos 0))
+result_of (Negate e) s = then (result_of e s) (λ v. ranged (neg_ℤ (number v)))
+result_of (Not e) s = then (result_of e s) (λ v. Ok (Logical (not (truth v))))
+result_of (Binary o a b) s = then (result_of a s) (λ v. then (result_of b s) (λ w. apply o v w))
+result_of (Conditional t a b) s = then (result_of t s) (λ v. elim (truth v) [ true ↦ result_of a s | false ↦ result_of b s ])
+
+settle_then : {A : Type 0} (r : Result Value Failure) (f : Value → Result Value Failure) (next : Value → Script A) →
+    settle r (λ v. settle (f v) next) ≡ settle (then r f) next
+settle_then (Ok v) f next = refl
+settle_then (Err k) f next = refl
+
+comes_to : {A : Type 0} (e : Expr) (s : Store) (next : Value → Script A) → waits_in e ≡ false → value_of e s next ≡ settle (result_of e s) next
+comes_to (Literal c) s next h = refl
+comes_to (Variable x) s next h = refl
+comes_to (Wait q) s next h = absurd cc
+comes_to (Negate e) s next h =
+    comes_to e s (λ v. settle (ranged (neg_ℤ (number v))) next) h ∙ settle_then (result_of e s) (λ v. ranged (neg_ℤ (number v))) next
+comes_to (Not e) s next h = comes_to e s (λ v. next (Logical (not (truth v)))) h ∙ settle_then (result_of e s) (λ v. Ok (Logical (not (truth v)))) next
+comes_to (Binary o a b) s next h =
+    let is = neither (waits_in a) (waits_in b) h in
+    comes_to a s (λ v. value_of b s (λ w. settle (apply o v w) next)) is.0
+    ∙ (ap (settle (result_of a s)) (fun_ext (λ v. comes_to b s (λ w. settle (apply o v w) next) is.1 ∙ settle_then (result_of b s) (λ w. apply o v w) next))
+    ∙ settle_then (result_of a s) (λ v. then (result_of b s) (λ w. apply o v w)) next)
+comes_to {A = A} (Conditional t a b) s next h =
+    let is = neither (waits_in t || waits_in a) (waits_in b) h in
+    let are = neither (waits_in t) (waits_in a) is.0 in
+    comes_to t s (λ v. elim (truth v) [ true ↦ value_of a s next | false ↦ value_of b s next ]) are.0
+    ∙ (ap (settle (result_of t s)) (fun_ext (λ v. branch (truth v) (comes_to a s next are.1) (comes_to b s next is.1)))
+    ∙ settle_then (result_of t s) (λ v. elim (truth v) [ true ↦ result_of a s | false ↦ result_of b s ]) next)
+  where
+    branch : (c : Bool) → value_of a s next ≡ settle (result_of a s) next → value_of b s next ≡ settle (result_of b s) next →
+        ◌≡◌ {A = Script A} (elim c [ true ↦ value_of a s next | false ↦ value_of b s next ]) (settle (elim c [ true ↦ result_of a s | false ↦ result_of b s ]) next)
+    branch true p q = p
+    branch false p q = q
+
+abbrev got_of : Outcome Value → Option Value
+got_of (Got v) = Some v
+got_of (Dry q) = None
+got_of (Fault k) = None
+got_of Cut = None
+
+is_ok : (r : Result Value Failure) (n : ℕ) (T : Tapes) (v : Value) → play n (settle r Give) T ≡ at_once (Got v) T → r ≡ Ok v
+is_ok (Ok w) n T v h = ap Ok (same_Some w v (ap (λ r. got_of r.outcome) h))
+is_ok (Err k) n T v h = absurd (none-some v (ap (λ r. got_of r.outcome) h))
+
+-- ---- by the values of its names
+
+-- these values agree on the names of an expression
+abbrev Agree : Expr → Store → Store → Type 0
+Agree t s r = (x : ℕ) → is_named x t ≡ true → read r x ≡ read s x
+
+same_result : (t : Expr) (s r : Store) → waits_in t ≡ false → Agree t s r → result_of t r ≡ result_of t s
+same_result (Literal c) s r h is = refl
+same_result (Variable x) s r h is = ap Ok (is x (itself x))
+same_result (Wait q) s r h is = absurd cc
+same_result (Negate e) s r h is = ap (λ x. then x (λ v. ranged (neg_ℤ (number v)))) (same_result e s r h is)
+same_result (Not e) s r h is = ap (λ x. then x (λ v. Ok (Logical (not (truth v))))) (same_result e s r h is)
+same_result (Binary o a b) s r h is =
+    let clear = neither (waits_in a) (waits_in b) h in
+    ap (λ x. then x (λ v. then (result_of b r) (λ w. apply o v w))) (same_result a s r clear.0 (λ x n. is x (left (is_named x a) (is_named x b) n)))
+    ∙ ap (λ y. then (result_of a s) (λ v. then y (λ w. apply o v w))) (same_result b s r clear.1 (λ x n. is x (right (is_named x a) (is_named x b) n)))
+same_result (Conditional t a b) s r h is =
+    let clear = neither (waits_in t || waits_in a) (waits_in b) h in
+    let nor = neither (waits_in t) (waits_in a) clear.0 in
+    ap (λ x. then x (λ v. elim (truth v) [ true ↦ result_of a r | false ↦ result_of b r ]))
+    (same_result t s r nor.0 (λ x n. is x (left (is_named x t || is_named x a) (is_named x b) (left (is_named x t) (is_named x a) n))))
+    ∙ (ap (λ y. then (result_of t s) (λ v. elim (truth v) [ true ↦ y | false ↦ result_of b r ]))
+    (same_result a s r nor.1 (λ x n. is x (left (is_named x t || is_named x a) (is_named x b) (right (is_named x t) (is_named x a) n))))
+    ∙ ap (λ y. then (result_of t s) (λ v. elim (truth v) [ true ↦ result_of a s | false ↦ y ]))
+    (same_result b s r clear.1 (λ x n. is x (right (is_named x t || is_named x a) (is_named x b) n))))
+
+-- ---- a statement that gives these names no value goes on alike where what is behind it does for all values that agree
+
+same_branch : {A : Type 0} (c : Bool) (x y x' y' : Script A) → x ≡ x' → y ≡ y' →
+    ◌≡◌ {A = Script A} (elim c [ true ↦ x | false ↦ y ]) (elim c [ true ↦ x' | false ↦ y' ])
+same_branch true x y x' y' h g = h
+same_branch false x y x' y' h g = g
+
+module _ (t : Expr) (s : Store) where
+  abbrev Spares : Stmt → Type 0
+  Spares a = (x : ℕ) → is_named x t ≡ true → is_assigned_in x a ≡ false
+
+  -- both go on alike
+  abbrev Alike : {A : Type 0} → (Store → Script A) → (Store → Script A) → Type 0
+  Alike f g = (r : Store) → Agree t s r → f r ≡ g r
+
+  assigned : (x : ℕ) (r : Store) (v : Value) → ((y : ℕ) → is_named y t ≡ true → nat_eq y x ≡ false) → Agree t s r → Agree t s (slice_set r x v)
+  assigned x r v other is y named = get_or-set_other r x y v (Integer (pos 0)) (apart y x (other y named)) ∙ is y named
+
+  turned : {A : Type 0} (j : ℕ) (test : Store → (Value → Script A) → Script A) (body : Store → (Store → Script A) → Script A)
+      → ((r : Store) (f g : Store → Script A) → Agree t s r → Alike f g → body r f ≡ body r g)
+      → (r : Store) (f g : Store → Script A) → Agree t s r → Alike f g → turns_of j test body r f ≡ turns_of j test body r g
+  turned zero test body kept r f g is h = refl
+  turned {A = A} (suc j) test body kept r f g is h =
+      ap (λ (x : Value → Script A). Turns (test r x))
+      (fun_ext (λ v. same_branch (truth v) _ _ _ _ (kept r _ _ is (λ q its. turned j test body kept q f g its h)) (h r is)))
+
+  kept : {A : Type 0} (k : ℕ) (a : Stmt) (r : Store) (f g : Store → Script A) → Spares a → Agree t s r → Alike f g → script_of k a r f ≡ script_of k a r g
+  kept k Skip r f g spared is h = h r is
+  kept k (Assign x e) r f g spared is h = ap (value_of e r) (fun_ext (λ v. h (slice_set r x v) (assigned x r v spared is)))
+  kept k (Send e q) r f g spared is h = ap (value_of e r) (fun_ext (λ v. ap (Sends (Parameter q) v) (h r is)))
+  kept k (Print e) r f g spared is h = ap (value_of e r) (fun_ext (λ v. ap (Sends Printer v) (h r is)))
+  kept k (Seq a b) r f g spared is h =
+      kept k a r (λ q. script_of k b q f) (λ q. script_of k b q g) (λ x n. (neither (is_assigned_in x a) (is_assigned_in x b) (spared x n)).0) is
+      (λ q its. kept k b q f g (λ x n. (neither (is_assigned_in x a) (is_assigned_in x b) (spared x n)).1) its h)
+  kept k (If c a b) r f g spared is h =
+      ap (value_of c r) (fun_ext (λ v. same_branch (truth v) _ _ _ _
+      (kept k a r f g (λ x n. (neither (is_assigned_in x a) (is_assigned_in x b) (spared x n)).0) is h)
+      (kept k b r f g (λ x n. (neither (is_assigned_in x a) (is_assigned_in x b) (spared x n)).1) is h)))
+  kept k (While c a) r f g spared is h =
+      turned k (λ q go. value_of c q go) (λ q go. script_of k a q go) (λ q d e its m. kept k a q d e spared its m) r f g is h
+  kept k (Repeat a) r f g spared is h =
+      turned k (λ q go. go (Logical true)) (λ q go. script_of k a q go) (λ q d e its m. kept k a q d e spared its m) r f g is h
+
+  -- where the test came true
+  endless : {A : Type 0} (a : Stmt) → waits_in t ≡ false → Spares a → (v : Value) → result_of t s ≡ Ok v → truth v ≡ true
+      → (j k : ℕ) (r : Store) (f g : Store → Script A) → Agree t s r →
+      turns_of j (λ q go. value_of t q go) (λ q go. script_of k a q go) r f ≡ turns_of j (λ q go. value_of t q go) (λ q go. script_of k a q go) r g
+  endless a quiet spared v came is zero k r f g its = refl
+  endless {A = A} a quiet spared v came is (suc j) k r f g its =
+      ap Turns (entered f ∙ (kept k a r _ _ spared its (λ q ours. endless a quiet spared v came is j k q f g ours) ∙ sym (entered g)))
+    where
+      taken : (c : Bool) (x y : Script A) → c ≡ true → (elim c [ true ↦ x | false ↦ y ]) ≡ x
+      taken true x y e = refl
+      taken false x y e = absurd cc
+
+      entered : (e : Store → Script A) → value_of t r (λ w. elim (truth w) [ true ↦ script_of k a r (λ q. turns_of j (λ q go. value_of t q go) (λ q go. script_of k a q go) q e) | false ↦ e r ]) ≡ script_of k a r (λ q. turns_of j (λ q go. value_of t q go) (λ q go. script_of k a q go) q e)
+      entered e =
+          let next : Value → Script A = λ w. elim (truth w) [ true ↦ script_of k a r (λ q. turns_of j (λ q go. value_of t q go) (λ q go. script_of k a q go) q e) | false ↦ e r ] in
+          comes_to t r next quiet ∙ (ap (λ x. settle x next) (same_result t s r quiet its ∙ came) ∙ taken (truth v) (script_of k a r (λ q. turns_of j (λ q go. value_of t q go) (λ q go. script_of k a q go) q e)) (e r) is)
+
+pub never_left : (t : Expr) (a b : Stmt) → IsUnchanged t a → (n : ℕ) (s : Store) (T : Tapes) (v : Value) → eval n t s T ≡ at_once (Got v) T → truth v ≡ true →
+    exec n (Seq (While t a) b) s T ≡ exec n (While t a) s T
+never_left t a b is n s T v came true' =
+    ap (λ c. play n c T)
+    (endless t s a is.0 is.1 v (is_ok (result_of t s) n T v (ap (λ c. play n c T) (sym (comes_to t s Give is.0)) ∙ came)) true' n n s
+    (λ r. script_of n b r Give) Give (λ x named. refl))

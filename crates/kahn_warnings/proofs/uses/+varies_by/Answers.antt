@@ -1,0 +1,10 @@
+use Rattle.std.proofs.Common.{rules}
+use Rattle.kahn_tree.specs.declared.tree.Form.TheViews.{the_lemmas}
+use Rattle.kahn_warnings.proofs.Lists.{row_varies}
+use Rattle.kahn_warnings.proofs.uses.+varies_by.Goals as goal
+
+pub loop-operand-init : goal.loop-operand-init
+loop-operand-init t c = search (rules, the_lemmas, row_varies)
+
+pub returns-then-varies_by : goal.returns-then-varies_by
+returns-then-varies_by t c = search (rules, the_lemmas, row_varies)
