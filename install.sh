@@ -1,6 +1,6 @@
 #!/usr/bin/env bash
 # Puts the programs on the path, or takes them off it: those that were built here, or those of release/, where they are of these
-# sources. It builds nothing.
+# sources; and beside them, in PREFIX/share, manual pages and the completions of bash, zsh and fish. It builds nothing.
 #
 #   install.sh [--uninstall] [PREFIX]      into PREFIX/bin, or from there
 #
@@ -26,16 +26,19 @@ for word in "$@"; do
   esac
 done
 [ ${#given[@]} -le 1 ] || { echo "install.sh: one prefix is wanted" >&2; exit 2; }
-target="${DESTDIR:-}${given[0]:-${PREFIX:-/usr/local}}/bin"
+target="${DESTDIR:-}${given[0]:-${PREFIX:-/usr/local}}"
 if $uninstall; then
-  for name in "${programs[@]}"; do
-    [ ! -e "$target/$name" ] || { rm "$target/$name" && echo "$target/$name"; }
+  for file in "${programs[@]/#/bin/}" $(pages | cut -d ' ' -f 2); do
+    [ ! -e "$target/$file" ] || { rm "$target/$file" && echo "$target/$file"; }
   done
   exit
 fi
-mkdir -p "$target"
 for name in "${programs[@]}"; do
   find_built "$name" || exit $?
-  install -m 755 "$program" "$target/$name"
-  echo "$target/$name"
+  install -D -m 755 "$program" "$target/bin/$name"
+  echo "$target/bin/$name"
+done
+pages | while read -r page file; do
+  install -D -m 644 "$top/$page" "$target/$file"
+  echo "$target/$file"
 done

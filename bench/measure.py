@@ -90,6 +90,9 @@ def measure(name, program, kahn, by_hand, runs, room):
 def main(kahn, *words):
     runs = int(words[1]) if words[:1] == ("--runs",) else 9
     wanted = words[2:] if words[:1] == ("--runs",) else words
+    unknown = [name for name in wanted if name not in WORKLOADS]
+    if unknown:
+        sys.exit(f"no workload {unknown[0]}: there are {', '.join(WORKLOADS)}")
     with tempfile.TemporaryDirectory() as room:
         by_hand = f"{room}/by_hand" if shutil.which("rustc") else None
         if by_hand:

@@ -46,7 +46,8 @@ ln -s "$work/copy/kahn_draw" "$work/home/draw"
 same "another program through a link of another name" "$(given "$work/home/draw" examples/count.kahn | head -n 1)" "digraph network {"
 
 same "an installation" "$(given bash install.sh "$work/prefix" > /dev/null && "$work/prefix/bin/kahn" examples/count.kahn)" "$report"
-same "what is installed" "$(cd "$work/prefix" && find . -type f | sort | tr '\n' ' ')" "./bin/kahn ./bin/kahn_draw ./bin/kahn_explain ./bin/kahn_live "
+same "what is installed" "$(cd "$work/prefix" && find . -type f | sort)" \
+  "$({ printf './bin/%s\n' "${programs[@]}"; pages | sed 's/.* /.\//'; } | sort)"
 given bash install.sh --uninstall "$work/prefix" > /dev/null
 same "what is left" "$(find "$work/prefix" -type f)" ""
 given DESTDIR="$work/root" PREFIX=/opt/kahn bash install.sh > /dev/null
@@ -76,6 +77,7 @@ chmod -R u+w "$work/copy"
 
 echo "# changed" >> crates.txt
 same "other sources" "$(given ./kahn examples/count.kahn)" \
-  "kahn: these sources have no release: bash release/build.sh proves and builds the programs"
+  "kahn: these sources have no release: bash release/build.sh proves and builds the programs,\
+ and the newest commit of \`git log release/sources.sha256\` has one"
 same "nothing is built without the toolchain" "$(given bash release/build.sh)" "build.sh: the Rattle toolchain (rt) is not on the path"
 finish

@@ -1,11 +1,12 @@
 #!/usr/bin/env bash
-# Makes the Debian package of the programs: those that were built here, or those of release/, with the page, manual pages, completions,
-# editors, examples and docs. Two calls make the same bytes. It builds nothing.
+# Makes the Debian package of what install.sh installs, with the page, editors, examples and docs. Two calls make the same bytes. It
+# builds nothing.
 #
 #   deb.sh [FOLDER]      into FOLDER, or release/out: kahn_VERSION_amd64.deb
 set -eu
 umask 022
 top=$(cd "$(dirname "${BASH_SOURCE[0]}")/.." && pwd)
+case ${1:-} in -*) sed -n '2,/^set/s/^# \{0,1\}//p' "${BASH_SOURCE[0]}" >&2; exit 2 ;; esac
 source "$top/release/program.sh"
 source "$top/web/page.sh"
 is_page_released || { echo "release/kahn.html isn't of these sources: \`bash web/build.sh\` makes it" >&2; exit 1; }
@@ -25,19 +26,9 @@ put() {
   install -m 644 "$@" "$folder"
 }
 
-mkdir -p "$root/usr/bin"
-for name in "${programs[@]}"; do
-  find_built "$name" || exit $?
-  install -m 755 "$program" "$root/usr/bin/$name"
-done
-for name in "${programs[@]}"; do
-  mkdir -p "$root/usr/share/man/man1"
-  gzip -9n < "$top/docs/man/$name.1" > "$root/usr/share/man/man1/$name.1.gz"
-  put share/fish/vendor_completions.d "$top/editors/completions/$name.fish"
-  mkdir -p "$root/usr/share/bash-completion/completions"
-  install -m 644 "$top/editors/completions/kahn.bash" "$root/usr/share/bash-completion/completions/$name"
-done
-put share/zsh/vendor-completions "$top/editors/completions/_kahn"
+DESTDIR="$root" bash "$top/install.sh" /usr > /dev/null || exit $?
+gzip -9n "$root"/usr/share/man/man1/*
+mv "$root/usr/share/zsh/site-functions" "$root/usr/share/zsh/vendor-completions"
 for name in vim vscode; do
   (cd "$top/editors" && find "$name" -type f) | while read -r file; do put "share/kahn/editors/$(dirname "$file")" "$top/editors/$file"; done
 done

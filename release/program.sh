@@ -11,6 +11,17 @@ is_program() {
   return 1
 }
 
+# pages: the manual pages and completions, one a line: its file here, and where it stands below a prefix.
+pages() {
+  local name
+  for name in "${programs[@]}"; do
+    echo "docs/man/$name.1 share/man/man1/$name.1"
+    echo "editors/completions/kahn.bash share/bash-completion/completions/$name"
+    echo "editors/completions/$name.fish share/fish/vendor_completions.d/$name.fish"
+  done
+  echo "editors/completions/_kahn share/zsh/site-functions/_kahn"
+}
+
 # sources: every source that the programs are built from, with its hash, one a line.
 sources() {
   (cd "$top" && find HANDLES crates.txt crates/*/src crates/*/specs crates/*/proofs -type f | LC_ALL=C sort | xargs sha256sum)
@@ -83,6 +94,7 @@ find_built() {
   program="$top/crates/$1/out/$1"
   is_newer "$program" && return
   find_released "$1" || status=$?
-  [ "$status" != 1 ] || echo "$1: these sources have no release: bash release/build.sh proves and builds the programs" >&2
+  [ "$status" != 1 ] || echo "$1: these sources have no release: bash release/build.sh proves and builds the programs," \
+    "and the newest commit of \`git log release/sources.sha256\` has one" >&2
   [ "$status" = 0 ] || return 5
 }

@@ -1,6 +1,5 @@
 # Completion of the words of kahn_live in fish.
 
-complete -c kahn_live -l workers -x -d 'number of threads'
 complete -c kahn_live -l quantum -x -d 'events that a process does at a time'
 complete -c kahn_live -l step -x -d 'events that a part may take'
 complete -c kahn_live -l watch -x -d 'a channel that is shown too'
