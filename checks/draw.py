@@ -9,7 +9,6 @@ import re
 import subprocess
 import sys
 import tempfile
-import time
 
 sys.dont_write_bytecode = True
 TOP = os.path.dirname(os.path.dirname(os.path.abspath(__file__)))
@@ -205,6 +204,12 @@ def ring_reports():
         yield f"rings: {name}", RINGS, "".join(f"{line}\n" for line in ends).encode()
 
 
+def processor_time():
+    """The seconds that the programs which ended have worked."""
+    times = os.times()
+    return times.children_user + times.children_system
+
+
 def main(draw):
     cases = [(name, program, None) for name, program, _ in runs()]
     cases += [(f"{name} with its report", program, report) for name, program, report in runs() if report is not None]
@@ -217,9 +222,9 @@ def main(draw):
                 words = ["--report", f"{folder}/report"]
                 with open(words[1], "wb") as it:
                     it.write(report)
-            start = time.monotonic()
+            before = processor_time()
             ran = subprocess.run([draw, *words], input=program, capture_output=True, timeout=60)
-            seconds = time.monotonic() - start
+            seconds = processor_time() - before
             status, out, err = wanted_of(program, report)
             if (ran.returncode, ran.stdout, ran.stderr) == (status, out, err) and seconds < 1:
                 passed += 1

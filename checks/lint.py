@@ -4,12 +4,14 @@
 lint.py           the counts; a part with more than its limit fails, and so does one with less, until the limit is lowered
 lint.py --all     each place that is counted, too
 
-It reads src/, specs/ and proofs/ of each crate, and proves nothing.
+It reads src/, specs/ and proofs/ of each crate, and proves nothing. Where the toolchain is there, it asks that for the layout.
 """
 import collections
 import glob
 import os
 import re
+import shutil
+import subprocess
 import sys
 
 TOP = os.path.dirname(os.path.dirname(os.path.abspath(__file__)))
@@ -140,6 +142,16 @@ def unfit_edits():
                 yield f"{name}: {line}"
 
 
+def not_laid_out():
+    """Files that `rt fmt` would change: rt ci takes the crate of such a file for one that isn't proved."""
+    rt = shutil.which("rt")
+    if rt:
+        rattle = f"{os.path.dirname(os.path.realpath(rt))}/rattle"
+        all_files = [f"{TOP}/{path}" for path, _ in files("src/**/*.rt", "specs/**/*.antt", "proofs/**/*.antt")]
+        said = subprocess.run([rattle, "fmt", "--check", *all_files], stderr=subprocess.PIPE, text=True, check=False).stderr
+        yield from (line.replace(f"{TOP}/", "") for line in said.splitlines() if line.endswith(" is not in the layout"))
+
+
 PARTS = {
     "clauses over 160 characters": long_clauses,
     "names of specs that are defined more than once": names_twice,
@@ -148,6 +160,7 @@ PARTS = {
     "sources and definitions without a head": without_head,
     "public items without words": without_words,
     "must-fail edits that can't be applied": unfit_edits,
+    "files in another layout than rt fmt's": not_laid_out,
 }
 
 
