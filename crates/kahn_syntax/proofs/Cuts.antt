@@ -63,22 +63,13 @@ not_cut text a utf8 cut inside first second =
 -- behind a sign
 sign_cut : (text : List ℕ) (s : Sign) (a b : ℕ) → IsUtf8 text → IsCharBoundary text a → b ≤ length text → IsSign text s a b → IsCharBoundary text b
 sign_cut text Becomes a b utf8 cut inside h = cut_after text (a + 1) b utf8 (omega arith) (omega arith) (omega arith)
-sign_cut text Open a b utf8 cut inside h = cut_after text a b utf8 (omega arith) (omega arith) (omega arith)
-sign_cut text Close a b utf8 cut inside h = cut_after text a b utf8 (omega arith) (omega arith) (omega arith)
-sign_cut text Comma a b utf8 cut inside h = cut_after text a b utf8 (omega arith) (omega arith) (omega arith)
-sign_cut text Semicolon a b utf8 cut inside h = cut_after text a b utf8 (omega arith) (omega arith) (omega arith)
-sign_cut text Plus a b utf8 cut inside h = cut_after text a b utf8 (omega arith) (omega arith) (omega arith)
-sign_cut text Minus a b utf8 cut inside h = cut_after text a b utf8 (omega arith) (omega arith) (omega arith)
-sign_cut text Times a b utf8 cut inside h = cut_after text a b utf8 (omega arith) (omega arith) (omega arith)
-sign_cut text Equal a b utf8 cut inside h = cut_after text a b utf8 (omega arith) (omega arith) (omega arith)
 sign_cut text Unequal a b utf8 cut inside h = cut_after text (a + 1) b utf8 (omega arith) (omega arith) (omega arith)
-sign_cut text Less a b utf8 cut inside h = cut_after text a b utf8 (omega arith) (omega arith) (omega arith)
 sign_cut text AtMost a b utf8 cut inside h = cut_after text (a + 1) b utf8 (omega arith) (omega arith) (omega arith)
-sign_cut text Greater a b utf8 cut inside h = cut_after text a b utf8 (omega arith) (omega arith) (omega arith)
 sign_cut text AtLeast a b utf8 cut inside h = cut_after text (a + 1) b utf8 (omega arith) (omega arith) (omega arith)
 sign_cut text Not a b utf8 cut inside h =
     let e : a + 2 ≡ b = omega arith in
     subst (IsCharBoundary text) e (not_cut text a utf8 cut (omega arith) h.0 h.1.0)
+sign_cut text _ a b utf8 cut inside h = cut_after text a b utf8 (omega arith) (omega arith) (omega arith)
 
 class_cut : (text : List ℕ) (u : Class) (a b : ℕ) → IsUtf8 text → IsCharBoundary text a → b ≤ length text → IsOfClass text u a b → IsCharBoundary text b
 class_cut text (class.Word k) a b utf8 cut inside h = word_cut text a b utf8 inside h.0

@@ -47,33 +47,7 @@ placed While = record { place = 27; below = lit< tt; is = refl }
 -- the letters are in lower case
 pub lower_letters : (k : Keyword) → map to_ascii_lowercase (letters_of k) ≡ letters_of k
 lower_letters And = refl
-lower_letters Begin = refl
-lower_letters Channel = refl
-lower_letters Div = refl
-lower_letters Do = refl
-lower_letters Else = refl
-lower_letters End = refl
-lower_letters False = refl
-lower_letters If = refl
-lower_letters In = refl
-lower_letters Input = refl
-lower_letters Integer = refl
-lower_letters Logical = refl
-lower_letters Mod = refl
-lower_letters Not = refl
-lower_letters On = refl
-lower_letters Or = refl
-lower_letters Out = refl
-lower_letters Output = refl
-lower_letters Par = refl
-lower_letters Print = refl
-lower_letters Process = refl
-lower_letters Repeat = refl
-lower_letters Send = refl
-lower_letters Then = refl
-lower_letters True = refl
-lower_letters Wait = refl
-lower_letters While = refl
+lower_letters _ = refl
 
 -- no two keywords have the same letters, and none has those of `comment`
 abbrev keyword_named : List ℕ → Option Keyword
@@ -81,33 +55,7 @@ keyword_named letters = find (λ k. bytes_eq (letters_of k) letters) all_keyword
 
 named_keyword : (k : Keyword) → keyword_named (letters_of k) ≡ Some k
 named_keyword And = refl
-named_keyword Begin = refl
-named_keyword Channel = refl
-named_keyword Div = refl
-named_keyword Do = refl
-named_keyword Else = refl
-named_keyword End = refl
-named_keyword False = refl
-named_keyword If = refl
-named_keyword In = refl
-named_keyword Input = refl
-named_keyword Integer = refl
-named_keyword Logical = refl
-named_keyword Mod = refl
-named_keyword Not = refl
-named_keyword On = refl
-named_keyword Or = refl
-named_keyword Out = refl
-named_keyword Output = refl
-named_keyword Par = refl
-named_keyword Print = refl
-named_keyword Process = refl
-named_keyword Repeat = refl
-named_keyword Send = refl
-named_keyword Then = refl
-named_keyword True = refl
-named_keyword Wait = refl
-named_keyword While = refl
+named_keyword _ = refl
 
 pub same_keyword : (k l : Keyword) → letters_of k ≡ letters_of l → k ≡ l
 same_keyword k l e =
@@ -122,30 +70,4 @@ not_comment k e =
 -- no keyword is longer than a name may be
 pub keyword_short : (k : Keyword) → length (letters_of k) ≤ 64
 keyword_short And = lit≤ tt
-keyword_short Begin = lit≤ tt
-keyword_short Channel = lit≤ tt
-keyword_short Div = lit≤ tt
-keyword_short Do = lit≤ tt
-keyword_short Else = lit≤ tt
-keyword_short End = lit≤ tt
-keyword_short False = lit≤ tt
-keyword_short If = lit≤ tt
-keyword_short In = lit≤ tt
-keyword_short Input = lit≤ tt
-keyword_short Integer = lit≤ tt
-keyword_short Logical = lit≤ tt
-keyword_short Mod = lit≤ tt
-keyword_short Not = lit≤ tt
-keyword_short On = lit≤ tt
-keyword_short Or = lit≤ tt
-keyword_short Out = lit≤ tt
-keyword_short Output = lit≤ tt
-keyword_short Par = lit≤ tt
-keyword_short Print = lit≤ tt
-keyword_short Process = lit≤ tt
-keyword_short Repeat = lit≤ tt
-keyword_short Send = lit≤ tt
-keyword_short Then = lit≤ tt
-keyword_short True = lit≤ tt
-keyword_short Wait = lit≤ tt
-keyword_short While = lit≤ tt
+keyword_short _ = lit≤ tt

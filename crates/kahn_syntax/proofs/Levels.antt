@@ -37,9 +37,7 @@ formed_more n (u ∷ os) o h r f = (h.0, h.1, h.2, formed_more n os o h.3 r f)
 
 tight : (v : Level) (e : ExpressionTree) → Fits (at (tighter (rung_of v))) e → Fits (rank_of v + 1) e
 tight Or e f = f
-tight And e f = f
-tight Sum e f = f
-tight Term e f = f
+tight _ e f = f
 
 pub formed_next : (v : Level) (os os' : List Operand) (o : Operand) → os' ≡ os ++ o ∷ [] → FormedOperands (rank_of v) (operands_of os) → rank o.operator ≡ rank_of v →
     Fits (at (tighter (rung_of v))) (expression_of o.expression) → FormedOperands (rank_of v) (operands_of os')

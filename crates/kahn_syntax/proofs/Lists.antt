@@ -30,10 +30,8 @@ next_passed [] h = absurd (omega (arith, h))
 next_passed (x ∷ xs) h = (x, next_list (x ∷ xs) x h)
 
 is_unsigned : (text : List ℕ) (c : Class) (at : Span) → IsProper text c at → IsUnsigned c
-is_unsigned text (class.Word w) at h = tt
-is_unsigned text class.Name at h = tt
 is_unsigned text (class.Number n) at h = h
-is_unsigned text (class.Sign s) at h = tt
+is_unsigned text _ at h = tt
 
 next_both : (text : List ℕ) (xs : List Lexeme) (d : Lexeme) → 1 ≤ length xs → AreProper text xs →
     IsUnsigned (get_or xs 0 d).what × AreProper text (take (length xs - 1) (drop 1 xs))

@@ -83,21 +83,11 @@ token text d t qs k i j b h e = λ s l. ap (fate 64 (TokenPart t ∷ qs ++ s)) e
 
 goes_append : (t : Tail) (qs s : List Part) → goes_on t (qs ++ s) ≡ goes_on t qs ++ s
 goes_append NamesTail qs s = refl
-goes_append StatementsTail qs s = refl
-goes_append GroupsTail qs s = refl
-goes_append ArgumentsTail qs s = refl
-goes_append InstancesTail qs s = refl
-goes_append ElseTail qs s = refl
-goes_append LastTail qs s = refl
+goes_append _ qs s = refl
 
 levels_goes : (t : Tail) (s : List Part) → levels (goes_on t s) ≡ levels s
 levels_goes NamesTail s = refl
-levels_goes StatementsTail s = refl
-levels_goes GroupsTail s = refl
-levels_goes ArgumentsTail s = refl
-levels_goes InstancesTail s = refl
-levels_goes ElseTail s = refl
-levels_goes LastTail s = refl
+levels_goes _ s = refl
 
 some_is : (c e : Class) → Some c ≡ Some e → c ≡ e
 some_is c e p = cc
@@ -187,21 +177,15 @@ comparison text d o qs i j b h e = λ s l. ap (fate 64 (OperatorsPart relations 
 
 level_at : (v : Level) → at (rung_of v) ≡ rank_of v
 level_at Or = refl
-level_at And = refl
-level_at Sum = refl
-level_at Term = refl
+level_at _ = refl
 
 pub level_chain : (v : Level) → IsChain (rung_of v)
 level_chain Or = tt
-level_chain And = tt
-level_chain Sum = tt
-level_chain Term = tt
+level_chain _ = tt
 
 level_again : (v : Level) (s : List Part) → again (rung_of v) s ≡ OperatorsPart (rung_of v) ∷ s
 level_again Or s = refl
-level_again And s = refl
-level_again Sum s = refl
-level_again Term s = refl
+level_again _ s = refl
 
 -- an operator of the level, of which more may follow
 pub operator_more : (text : List ℕ) (d : ℕ) (v : Level) (o : Operator) (qs : List Part) (i j : List Lexeme) → Bound d qs → rank o ≡ rank_of v →

@@ -94,7 +94,6 @@ long_class text a b (Sign s) inside word long p = sign_letter _ (sign_begins tex
 
 -- a fault stands within its text
 pub fault_inside : (text : List ℕ) (a : ℕ) (e : SyntaxFault) → IsFaultAt text a e → a < length text
-fault_inside text a TooLong h = absurd h
 fault_inside text a (BadCharacter at) (f, bad) = omega (arith, f, bad.0.0, bad.0.2.0)
 fault_inside text a (NumberTooLarge at) (f, large) =
     let g : at.from < at.to = form_grows text at.from at.to large.0.form in
@@ -105,9 +104,7 @@ fault_inside text a (CommentOpen at) (f, opens) =
 fault_inside text a (NameTooLong at) (f, long) =
     let g : at.from < at.to = form_grows text at.from at.to long.0.form in
     omega (arith, f, long.0.inside)
-fault_inside text a (Expected at what) h = absurd h
-fault_inside text a (TooDeep at) h = absurd h
-fault_inside text a NoMemory h = absurd h
+fault_inside text a _ h = absurd h
 
 fault_stops : (text : List ℕ) (n a : ℕ) (e : SyntaxFault) (zs : List Lexeme) → a < n → IsFaultAt text a e → Walk text n a zs → ⊥
 fault_stops text n a TooLong zs more h w = h

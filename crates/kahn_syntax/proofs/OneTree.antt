@@ -46,23 +46,14 @@ same_role : (a b : Role) (r q : List Terminal) → role_words a (word keyword.Ch
 same_role role.Inner role.Inner r q e = (refl, cc)
 same_role role.Input role.Input r q e = (refl, cc)
 same_role role.Output role.Output r q e = (refl, cc)
-same_role role.Inner role.Input r q e = absurd cc
-same_role role.Inner role.Output r q e = absurd cc
-same_role role.Input role.Inner r q e = absurd cc
-same_role role.Input role.Output r q e = absurd cc
-same_role role.Output role.Inner r q e = absurd cc
-same_role role.Output role.Input r q e = absurd cc
+same_role _ _ r q e = absurd cc
 
 same_taking : (t u : Taking) (n m : List ℕ) (r q : List Terminal) → taking_words t (name n ∷ r) ≡ taking_words u (name m ∷ q) → (t ≡ u) × (name n ∷ r ≡ name m ∷ q)
 same_taking (taking.Channel direction.In k) (taking.Channel direction.In l) n m r q e = (ap (taking.Channel direction.In) (same_kind k l _ _ e), tail_is _ _ _ _ (tail_is _ _ _ _ e))
 same_taking (taking.Channel direction.Out k) (taking.Channel direction.Out l) n m r q e = (ap (taking.Channel direction.Out) (same_kind k l _ _ e), tail_is _ _ _ _ (tail_is _ _ _ _ e))
 same_taking (taking.Value k) (taking.Value l) n m r q e = (ap taking.Value (same_kind k l _ _ e), tail_is _ _ _ _ e)
-same_taking (taking.Channel direction.In k) (taking.Channel direction.Out l) n m r q e = let z = tail_is _ _ _ _ e in absurd cc
-same_taking (taking.Channel direction.In k) (taking.Value l) n m r q e = let z = tail_is _ _ _ _ e in absurd cc
-same_taking (taking.Channel direction.Out k) (taking.Channel direction.In l) n m r q e = let z = tail_is _ _ _ _ e in absurd cc
-same_taking (taking.Channel direction.Out k) (taking.Value l) n m r q e = let z = tail_is _ _ _ _ e in absurd cc
 same_taking (taking.Value k) (taking.Channel direction.In l) n m r q e = let z = tail_is _ _ _ _ e in absurd cc
-same_taking (taking.Value k) (taking.Channel direction.Out l) n m r q e = let z = tail_is _ _ _ _ e in absurd cc
+same_taking _ _ n m r q e = let z = tail_is _ _ _ _ e in absurd cc
 
 kind_close : (k : Kind) (x y : List Terminal) → sign mark.Close ∷ x ≡ kind_terminal k ∷ y → ⊥
 kind_close kind.Integer x y e = cc
@@ -120,14 +111,7 @@ pub statements_start : (ss : StatementTrees) (r : List Terminal) → AreSome ss 
 statements_start no_statement r h = absurd h
 statements_start (statement empty no_statement) r h = tt
 statements_start (statement empty (statement s ss)) r h = tt
-statements_start (statement (assign n e) ss) r h = tt
-statements_start (statement (send e n) ss) r h = tt
-statements_start (statement (print e) ss) r h = tt
-statements_start (statement (block ts) ss) r h = tt
-statements_start (statement (if_then t a) ss) r h = tt
-statements_start (statement (if_else t a b) ss) r h = tt
-statements_start (statement (while_do t a) ss) r h = tt
-statements_start (statement (repeat a) ss) r h = tt
+statements_start _ r h = tt
 
 same_togethers : (ts us : List TogetherTree) (r q : List Terminal) → AreTogether ts → AreTogether us → NoKind r → NoKind q → togethers_words ts r ≡ togethers_words us q →
     (ts ≡ us) × (r ≡ q)
@@ -187,20 +171,15 @@ same_argues : (a b : ArgumentTree) (ks r q : List Terminal) → Argues a ks r �
 same_argues (channel n) (channel m) ks r q e f = (cc, cc)
 same_argues (truth true) (truth true) ks r q e f = (refl, cc)
 same_argues (truth false) (truth false) ks r q e f = (refl, cc)
-same_argues (truth true) (truth false) ks r q e f = absurd cc
-same_argues (truth false) (truth true) ks r q e f = absurd cc
-same_argues (channel n) (truth true) ks r q e f = absurd cc
-same_argues (channel n) (truth false) ks r q e f = absurd cc
-same_argues (truth true) (channel n) ks r q e f = absurd cc
-same_argues (truth false) (channel n) ks r q e f = absurd cc
-same_argues (channel n) (number z) ks r q e f = ⊎_elim (λ g. absurd cc) (λ (i, p, g). absurd cc) f
-same_argues (number z) (channel n) ks r q e f = ⊎_elim (λ g. absurd cc) (λ (i, p, g). absurd cc) e
-same_argues (number z) (truth true) ks r q e f = ⊎_elim (λ g. absurd cc) (λ (i, p, g). absurd cc) e
-same_argues (number z) (truth false) ks r q e f = ⊎_elim (λ g. absurd cc) (λ (i, p, g). absurd cc) e
-same_argues (truth true) (number z) ks r q e f = ⊎_elim (λ g. absurd cc) (λ (i, p, g). absurd cc) f
-same_argues (truth false) (number z) ks r q e f = ⊎_elim (λ g. absurd cc) (λ (i, p, g). absurd cc) f
 same_argues (number z) (number w) ks r q e f =
     ⊎_elim (λ g. ⊎_elim (λ h. (cc, cc)) (λ (j, p, h). absurd cc) f) (λ (i, o, g). ⊎_elim (λ h. absurd cc) (λ (j, p, h). (cc, cc)) f) e
+same_argues (number z) (truth true) ks r q e f = ⊎_elim (λ g. absurd cc) (λ (i, p, g). absurd cc) e
+same_argues (number z) _ ks r q e f = ⊎_elim (λ g. absurd cc) (λ (i, p, g). absurd cc) e
+same_argues (truth true) (number z) ks r q e f = ⊎_elim (λ g. absurd cc) (λ (i, p, g). absurd cc) f
+same_argues _ (number z) ks r q e f = ⊎_elim (λ g. absurd cc) (λ (i, p, g). absurd cc) f
+same_argues _ (truth true) ks r q e f = absurd cc
+same_argues (truth true) _ ks r q e f = absurd cc
+same_argues _ _ ks r q e f = absurd cc
 
 same_further_arguments : (xs ys : List ArgumentTree) (ks r q : List Terminal) → NoComma r → NoComma q → FurtherArguments xs ks r → FurtherArguments ys ks q → (xs ≡ ys) × (r ≡ q)
 same_further_arguments [] [] ks r q x y e f = (refl, sym e ∙ f)

@@ -66,16 +66,8 @@ pub open_chain : (l : Rung) (m : ℕ) (s : List Part) (ks : List Terminal) → I
 open_chain whole m s ks h = absurd h
 open_chain denials m s ks h = absurd h
 open_chain factors m s ks h = absurd h
-open_chain ors m s [] h = refl
-open_chain ors m s (k ∷ r) h = refl
-open_chain ands m s [] h = refl
-open_chain ands m s (k ∷ r) h = refl
-open_chain relations m s [] h = refl
-open_chain relations m s (k ∷ r) h = refl
-open_chain sums m s [] h = refl
-open_chain sums m s (k ∷ r) h = refl
-open_chain terms m s [] h = refl
-open_chain terms m s (k ∷ r) h = refl
+open_chain _ m s [] h = refl
+open_chain _ m s (k ∷ r) h = refl
 
 -- what doesn't begin with `if`
 pub open_whole : (m : ℕ) (s : List Part) (ks : List Terminal) → ((x : List Terminal) → ks ≡ word keyword.If ∷ x → ⊥) →
@@ -105,13 +97,7 @@ ends_lacks n (k ∷ r) h = λ e. omega (arith, h, e)
 
 levels_again : (l : Rung) (s : List Part) → levels (again l s) ≡ levels s
 levels_again whole s = refl
-levels_again ors s = refl
-levels_again ands s = refl
-levels_again denials s = refl
-levels_again relations s = refl
-levels_again sums s = refl
-levels_again terms s = refl
-levels_again factors s = refl
+levels_again _ s = refl
 
 takes_operator : (l : Rung) (s : List Part) (other : Option (List Part)) (o : Operator) (p : Option Operator) → p ≡ Some o → rank o ≡ at l →
     step_operator l s other p ≡ Some (ExpressionPart (tighter l) ∷ again l s)

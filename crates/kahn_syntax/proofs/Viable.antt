@@ -147,15 +147,7 @@ skip (TailPart InstancesTail) m s ks n b h = ([], ks, refl, h)
 skip (TailPart ElseTail) m s ks n b h = inl h
 skip (TailPart LastTail) m s ks n b h = (ks, inr refl, h)
 skip LevelPart m s ks n b h = h
-skip ProgramPart m s ks n b h = absurd n
-skip DeclarationPart m s ks n b h = absurd n
-skip ProcessPart m s ks n b h = absurd n
-skip GroupPart m s ks n b h = absurd n
-skip (ExpressionPart l) m s ks n b h = absurd n
-skip InstancePart m s ks n b h = absurd n
-skip ArgumentsPart m s ks n b h = absurd n
-skip ArgumentPart m s ks n b h = absurd n
-skip (TokenPart t) m s ks n b h = absurd n
+skip _ m s ks n b h = absurd n
 
 -- what falls through the part
 falls : (p : Part) (m : ℕ) (s : List Part) (o : Option (List Part)) (k : Terminal) → Nullable p → levels s ≤ m → Leads m (λ ks. Fits m s (k ∷ ks)) o →
@@ -234,11 +226,7 @@ chain_at : (l : Rung) → IsChain l → (at (tighter l) ≡ at l + 1) × (0 < at
 chain_at whole h = absurd h
 chain_at denials h = absurd h
 chain_at factors h = absurd h
-chain_at ors h = (refl, omega arith)
-chain_at ands h = (refl, omega arith)
-chain_at relations h = (refl, omega arith)
-chain_at sums h = (refl, omega arith)
-chain_at terms h = (refl, omega arith)
+chain_at _ h = (refl, omega arith)
 
 -- an operand and what follows it at its level
 made_level : (l : Rung) (m : ℕ) (s : List Part) (ks : List Terminal) → IsChain l → Fits m (ExpressionPart (tighter l) ∷ OperatorsPart l ∷ s) ks → Fits m (ExpressionPart l ∷ s) ks
@@ -524,33 +512,11 @@ some_token t m s (r, h) = (token_terminal t ∷ r, takes_one t (token_terminal t
   where
     it : (t : Token) → takes t (token_terminal t) ≡ true
     it BecomesToken = refl
-    it BeginToken = refl
-    it ChannelToken = refl
-    it CloseToken = refl
-    it CommaToken = refl
-    it DoToken = refl
-    it ElseToken = refl
-    it EndToken = refl
-    it IfToken = refl
-    it NameToken = refl
-    it NotToken = refl
-    it NumberToken = refl
-    it OnToken = refl
-    it OpenToken = refl
-    it ParToken = refl
-    it ProcessToken = refl
-    it SemicolonToken = refl
-    it ThenToken = refl
+    it _ = refl
 
 at_most : (l : Rung) → at l ≤ 7
 at_most whole = omega arith
-at_most ors = omega arith
-at_most ands = omega arith
-at_most denials = omega arith
-at_most relations = omega arith
-at_most sums = omega arith
-at_most terms = omega arith
-at_most factors = omega arith
+at_most _ = omega arith
 
 some_skip : (p : Part) (m : ℕ) (s : List Part) → Nullable p → levels s ≤ m → ((ks : List Terminal) × Fits m s ks) → (ks : List Terminal) × Fits m (p ∷ s) ks
 some_skip p m s n b (ks, h) = (ks, skip p m s ks n b h)

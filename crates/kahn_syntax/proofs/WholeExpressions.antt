@@ -27,10 +27,7 @@ again_other whole s h = absurd h
 again_other denials s h = absurd h
 again_other factors s h = absurd h
 again_other relations s h = absurd h
-again_other ors s h = refl
-again_other ands s h = refl
-again_other sums s h = refl
-again_other terms s h = refl
+again_other _ s h = refl
 
 record Facts (l : Rung) : Type 0 where
   stops : stop l ≡ at l
@@ -46,21 +43,14 @@ facts : (l : Rung) → IsChain l → Facts l
 facts whole h = absurd h
 facts denials h = absurd h
 facts factors h = absurd h
-facts ors h = record { stops = refl; next = refl; next_stops = refl; next_above = refl; low = omega arith; some = omega arith; no_three = λ e. omega arith; most = omega arith }
-facts ands h = record { stops = refl; next = refl; next_stops = refl; next_above = refl; low = omega arith; some = omega arith; no_three = λ e. omega arith; most = omega arith }
-facts relations h = record { stops = refl; next = refl; next_stops = refl; next_above = refl; low = omega arith; some = omega arith; no_three = λ e. omega arith; most = omega arith }
-facts sums h = record { stops = refl; next = refl; next_stops = refl; next_above = refl; low = omega arith; some = omega arith; no_three = λ e. omega arith; most = omega arith }
-facts terms h = record { stops = refl; next = refl; next_stops = refl; next_above = refl; low = omega arith; some = omega arith; no_three = λ e. omega arith; most = omega arith }
+facts _ h = record { stops = refl; next = refl; next_stops = refl; next_above = refl; low = omega arith; some = omega arith; no_three = λ e. omega arith; most = omega arith }
 
 is_chain : (l : Rung) → IsOther l → IsChain l
 is_chain whole h = absurd h
 is_chain denials h = absurd h
 is_chain factors h = absurd h
 is_chain relations h = absurd h
-is_chain ors h = tt
-is_chain ands h = tt
-is_chain sums h = tt
-is_chain terms h = tt
+is_chain _ h = tt
 
 whole_operands : (k : ℕ) (l : Rung) → Known k → IsOther l → (os : OperandTrees) (m : ℕ) (s : List Part) (r : List Terminal) → 8 * sizes os ≤ k →
     FormedOperands (at l) os → Ends (at l) r → levels s + operands_nesting os ≤ m → fate m (OperatorsPart l ∷ s) (operands_words os r) ≡ fate m s r

@@ -72,10 +72,7 @@ mutual
   whole_simple (print v) m s r i f e n = whole_print v m s r f e n
   whole_simple (block ss) m s r i f e n =
       whole_block ss m s r (omega (arith, n)) (whole_statements ss m (TokenPart EndToken ∷ LevelPart ∷ s) (word keyword.End ∷ r) f.0 f.1 tt (omega (arith, n)))
-  whole_simple (if_then c a) m s r i f e n = absurd i
-  whole_simple (if_else c a b) m s r i f e n = absurd i
-  whole_simple (while_do c a) m s r i f e n = absurd i
-  whole_simple (repeat a) m s r i f e n = absurd i
+  whole_simple _ m s r i f e n = absurd i
 
   whole_statement : (t : StatementTree) (m : ℕ) (s : List Part) (r : List Terminal) → FormedStatement t → EndsAfter t r →
       levels s + statement_nesting t ≤ m → fate m (StatementPart ∷ s) (statement_words t r) ≡ fate m s r

@@ -11,7 +11,7 @@ use Rattle.kahn_syntax.specs.declared.lexeme.Keyword.TheVariants as word
 use Rattle.kahn_syntax.specs.declared.lexeme.Sign.{Sign}
 use Rattle.kahn_syntax.specs.declared.lexeme.Sign.TheVariants as sign
 use Rattle.kahn_syntax.specs.declared.fault.SyntaxFault.{SyntaxFault}
-use Rattle.kahn_syntax.specs.declared.fault.SyntaxFault.TheVariants.{TooLong, BadCharacter, NumberTooLarge, CommentOpen, NameTooLong, Expected, TooDeep, NoMemory}
+use Rattle.kahn_syntax.specs.declared.fault.SyntaxFault.TheVariants.{TooLong, BadCharacter, NumberTooLarge, CommentOpen, NameTooLong, NoMemory}
 
 -- space, tab, CR and LF
 abbrev pub IsBlank : ℕ → Type 0
@@ -195,6 +195,5 @@ IsLexFault text (BadCharacter at) = IsReached text at.from × IsBadCharacter tex
 IsLexFault text (NumberTooLarge at) = IsReached text at.from × IsLargeNumber text at
 IsLexFault text (CommentOpen at) = IsReached text at.from × IsOpenComment text at
 IsLexFault text (NameTooLong at) = IsReached text at.from × IsLongName text at
-IsLexFault text (Expected at what) = ⊥
-IsLexFault text (TooDeep at) = ⊥
 IsLexFault text NoMemory = length text ≤ most_bytes
+IsLexFault text _ = ⊥
