@@ -1,9 +1,7 @@
 -- No two trees spell one list: statements.
-use Rattle.std.proofs.Common.{◌≡◌, List, [], ◌∷◌, refl, sym, ap, subst, arith}
+use Rattle.kahn_syntax.proofs.Common.{◌≡◌, List, [], ◌∷◌, refl, sym, ap, subst, arith, Terminal, word, sign, name, StatementTree, empty, assign, send, print, block, if_then, if_else, while_do, repeat, StatementTrees, no_statement, statement, statement_words, statements_words, further_words, FormedStatement, FormedStatements, IsSimple, AreSome}
 use Rattle.kahn_syntax.specs.declared.lexeme.Keyword.TheVariants as keyword
 use Rattle.kahn_syntax.specs.declared.lexeme.Sign.TheVariants as mark
-use Rattle.kahn_syntax.specs.Terminals.{Terminal, word, sign, name}
-use Rattle.kahn_syntax.specs.Trees.{StatementTree, empty, assign, send, print, block, if_then, if_else, while_do, repeat, StatementTrees, no_statement, statement, statement_words, statements_words, further_words, FormedStatement, FormedStatements, IsSimple, AreSome}
 use Rattle.kahn_syntax.proofs.Unique.{Ends, same_expression, tail_is}
 
 -- what may follow a statement that `else` may follow

@@ -1,19 +1,8 @@
 -- Where a text may be cut: behind blanks, comments and lexemes.
-use Rattle.std.proofs.Common.{◌≡◌, ℕ, suc, ◌+◌, ◌-◌, ◌≤◌, ◌<◌, ◌⊎◌, ◌++◌, List, [], ◌∷◌, length, get_or, drop, refl, sym, ap, subst, ◌∙◌, arith, inl, inr, add-one}
-use Rattle.std.specs.Prelude.{IsUtf8, IsCharBoundary, All}
-use Rattle.std.proofs.Math.Seq.{drop-cons}
+use Rattle.kahn_syntax.proofs.Common.{◌≡◌, ℕ, suc, ◌+◌, ◌-◌, ◌≤◌, ◌<◌, ◌⊎◌, ◌++◌, List, [], ◌∷◌, length, get_or, drop, refl, sym, ap, subst, ◌∙◌, arith, inl, inr, add-one, IsUtf8, IsCharBoundary, All, drop-cons, get_or_past, IsUtf8-drop, IsCharBoundary-after_ascii, IsCharBoundary-past_char, nat_tests, All-nil, All-cons, Lexeme, Class, Sign, Becomes, Open, Close, Comma, Semicolon, Plus, Minus, Times, Equal, Unequal, Less, AtMost, Greater, AtLeast, Not, IsBlank, IsLetter, IsWordByte, IsWord, IsRun, IsSign, IsOfClass, IsSlice, Stands, Gap, no_gap, then_blank, then_comment, Lexed}
 use Rattle.std.proofs.Math.Utf8.{encode}
-use Rattle.std.proofs.lemmas.List.{get_or_past}
-use Rattle.std.proofs.lemmas.Str.{IsUtf8-drop, IsCharBoundary-after_ascii, IsCharBoundary-past_char}
-use Rattle.std.proofs.lemmas.Bool.Decides.{nat_tests}
-use Rattle.std.proofs.lemmas.List.Elements.{All-nil, All-cons}
 use Rattle.kahn_syntax.proofs.OneList.{form_grows}
-use Rattle.kahn_syntax.specs.declared.lexeme.Lexeme.{Lexeme}
-use Rattle.kahn_syntax.specs.declared.lexeme.Class.{Class}
 use Rattle.kahn_syntax.specs.declared.lexeme.Class.TheVariants as class
-use Rattle.kahn_syntax.specs.declared.lexeme.Sign.{Sign}
-use Rattle.kahn_syntax.specs.declared.lexeme.Sign.TheVariants.{Becomes, Open, Close, Comma, Semicolon, Plus, Minus, Times, Equal, Unequal, Less, AtMost, Greater, AtLeast, Not}
-use Rattle.kahn_syntax.specs.Lexemes.{IsBlank, IsLetter, IsWordByte, IsWord, IsRun, IsSign, IsOfClass, IsSlice, Stands, Gap, no_gap, then_blank, then_comment, Lexed}
 
 -- behind an ASCII byte
 pub cut_after : (text : List ℕ) (i b : ℕ) → IsUtf8 text → i + 1 ≡ b → i < length text → get_or text i 0 < 128 → IsCharBoundary text b

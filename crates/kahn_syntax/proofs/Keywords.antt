@@ -1,10 +1,6 @@
 -- The keywords, each at a place of its own.
-use Rattle.std.proofs.Common.{◌≡◌, ℕ, ◌<◌, List, [], ◌∷◌, map, get_or, refl, lit<, lit≤, length, ◌≤◌, ap, ◌∙◌, sym, Option, Some, None, find, bytes_eq}
-use Rattle.std.specs.Prelude.{codes}
-use Rattle.std.specs.Char.{to_ascii_lowercase}
-use Rattle.kahn_syntax.specs.declared.lexeme.Keyword.{Keyword}
-use Rattle.kahn_syntax.specs.declared.lexeme.Keyword.TheVariants.{And, Begin, Channel, Div, Do, Else, End, False, If, In, Input, Integer, Logical, Mod, Not, On, Or, Out, Output, Par, Print, Process, Repeat, Send, Then, True, Wait, While}
-use Rattle.kahn_syntax.specs.Lexemes.{letters_of}
+use Rattle.kahn_syntax.proofs.Common.{◌≡◌, ℕ, ◌<◌, List, [], ◌∷◌, get_or, refl, lit<, lit≤, length, ◌≤◌, ap, ◌∙◌, sym, Option, Some, None, find, bytes_eq, codes, Keyword, And, Begin, Channel, Div, Do, Else, End, False, If, In, Input, Integer, Logical, Mod, On, Out, Output, Par, Print, Process, Repeat, Send, Then, True, Wait, While, letters_of}
+use Rattle.kahn_syntax.specs.declared.lexeme.Keyword.TheVariants.{Not, Or}
 
 abbrev pub all_keywords : List Keyword
 all_keywords = And ∷ Begin ∷ Channel ∷ Div ∷ Do ∷ Else ∷ End ∷ False ∷ If ∷ In ∷ Input ∷ Integer ∷ Logical ∷ Mod ∷ Not ∷ On ∷ Or ∷ Out ∷ Output ∷ Par ∷ Print ∷ Process ∷ Repeat ∷ Send ∷ Then ∷ True ∷ Wait ∷ While ∷ []
@@ -43,11 +39,6 @@ placed Then = record { place = 24; below = lit< tt; is = refl }
 placed True = record { place = 25; below = lit< tt; is = refl }
 placed Wait = record { place = 26; below = lit< tt; is = refl }
 placed While = record { place = 27; below = lit< tt; is = refl }
-
--- the letters are in lower case
-pub lower_letters : (k : Keyword) → map to_ascii_lowercase (letters_of k) ≡ letters_of k
-lower_letters And = refl
-lower_letters _ = refl
 
 -- no two keywords have the same letters, and none has those of `comment`
 abbrev keyword_named : List ℕ → Option Keyword

@@ -1,30 +1,11 @@
 -- How the parts that are open go on, over what the parser reads.
-use Rattle.std.proofs.Common.{◌≡◌, ◌≢◌, ℕ, ◌+◌, ◌≤◌, ◌<◌, List, [], ◌∷◌, ◌++◌, ◌⊎◌, ⊎_elim, length, Bool, true, false, Some, Result, Ok, Err, true≢false, refl, sym, ap, ◌∙◌, subst, arith}
-use Rattle.kahn_tree.specs.declared.span.Span.{Span}
+use Rattle.kahn_syntax.proofs.Common.{◌≡◌, ◌≢◌, ℕ, ◌+◌, ◌≤◌, ◌<◌, List, [], ◌∷◌, ◌++◌, ◌⊎◌, ⊎_elim, length, Bool, true, false, Some, Result, Ok, Err, true≢false, refl, sym, ap, ◌∙◌, subst, arith, Span, Class, Lexeme, MatchResult, Expression, Form, Covers, Statement, Stop, Refused, TooDeep, NoMemory, Terminal, word, sign, name, terminal, terminals, First, Token, BecomesToken, BeginToken, ChannelToken, CloseToken, CommaToken, DoToken, ElseToken, EndToken, IfToken, NameToken, NotToken, NumberToken, OnToken, OpenToken, ParToken, ProcessToken, SemicolonToken, ThenToken, takes, leads, class_of, Tail, NamesTail, StatementsTail, GroupsTail, ArgumentsTail, InstancesTail, ElseTail, LastTail, lead, goes_on, again, leads_kind, leads_declaration, Part, ProgramPart, DeclarationsPart, DeclarationPart, ProcessPart, GroupsPart, GroupPart, VariablesPart, InstancePart, ArgumentsPart, ArgumentPart, ExpressionPart, OperatorsPart, StatementPart, SimplePart, TailPart, TokenPart, LevelPart, levels, step, Refuses, TooFar, fate, Operator, Level, Or, Sum, Term, operator_terminal, rank, Rung, whole, ors, denials, relations, sums, factors, at, tighter, rung_of, Lacks, Kind, kind_terminal, IsAbsent, Reads, Moves, Stops, Halts, rank_of, ExpressionRead, StatementRead}
 use Rattle.kahn_syntax.specs.declared.lexeme.Keyword.TheVariants as keyword
 use Rattle.kahn_syntax.specs.declared.lexeme.Sign.TheVariants as mark
-use Rattle.kahn_syntax.specs.declared.lexeme.Class.{Class}
 use Rattle.kahn_syntax.specs.declared.lexeme.Class.TheVariants as class
-use Rattle.kahn_syntax.specs.declared.lexeme.Lexeme.{Lexeme}
-use Rattle.std.specs.Prelude.{MatchResult}
-use Rattle.kahn_tree.specs.declared.tree.Expression.{Expression}
-use Rattle.kahn_tree.specs.declared.tree.Form.{Form}
-use Rattle.kahn_syntax.specs.Spans.{Covers}
-use Rattle.kahn_tree.specs.declared.tree.Statement.{Statement}
-use Rattle.kahn_syntax.specs.declared.parser.cursor.Stop.{Stop}
-use Rattle.kahn_syntax.specs.declared.parser.cursor.Stop.TheVariants.{Refused, TooDeep, NoMemory}
-use Rattle.kahn_syntax.specs.Terminals.{Terminal, word, sign, name, terminal, terminals, First}
 use Rattle.kahn_syntax.specs.Terminals as terminals_are
-use Rattle.kahn_syntax.specs.inner.Machine.{Token, BecomesToken, BeginToken, ChannelToken, CloseToken, CommaToken, DoToken, ElseToken, EndToken, IfToken, NameToken, NotToken, NumberToken, OnToken, OpenToken, ParToken, ProcessToken, SemicolonToken, ThenToken, takes, leads, class_of, Tail, NamesTail, StatementsTail, GroupsTail, ArgumentsTail, InstancesTail, ElseTail, LastTail, lead, goes_on, again, leads_kind, leads_declaration, Part, ProgramPart, DeclarationsPart, DeclarationPart, ProcessPart, GroupsPart, GroupPart, VariablesPart, InstancePart, ArgumentsPart, ArgumentPart, ExpressionPart, OperatorsPart, StatementPart, SimplePart, TailPart, TokenPart, LevelPart, levels, step, Refuses, TooFar, fate}
-use Rattle.kahn_tree.specs.declared.tree.Operator.{Operator}
-use Rattle.kahn_syntax.specs.declared.parser.operator.Level.{Level}
-use Rattle.kahn_syntax.specs.declared.parser.operator.Level.TheVariants.{Or, And, Sum, Term}
-use Rattle.kahn_syntax.specs.Trees.{operator_terminal, rank}
-use Rattle.kahn_syntax.specs.inner.Rungs.{Rung, whole, ors, denials, relations, sums, factors, at, tighter, rung_of, Lacks}
-use Rattle.kahn_tree.specs.declared.tree.Kind.{Kind}
-use Rattle.kahn_syntax.specs.Programs.{kind_terminal}
-use Rattle.kahn_syntax.specs.inner.Reads.{IsAbsent, Reads, Moves, Stops, Halts, rank_of, ExpressionRead, StatementRead}
-use Rattle.kahn_syntax.proofs.WholePrograms.{take_kind}
+use Rattle.kahn_syntax.specs.declared.parser.operator.Level.TheVariants.{And}
+use Rattle.kahn_syntax.proofs.WholePrograms.{take_kind, skip_variables}
 use Rattle.kahn_syntax.proofs.Steps.{go, skip_level, skip_tail, take_tail, take_token, no_token, IsChain, open_chain, open_whole, open_denial, skip_operators, take_operator}
 use Rattle.kahn_syntax.proofs.Reached.{go_far}
 use Rattle.kahn_syntax.proofs.Meaning.{terminals_length}
@@ -129,6 +110,21 @@ goes text d t qs c i j b h f = λ s l.
 -- a tail that ends
 pub ends : (text : List ℕ) (d : ℕ) (t : Tail) (qs : List Part) (c : Class) (i : List Lexeme) → class_of (lead t) ≡ Some c → IsAbsent c i → Moves text d (TailPart t ∷ qs) qs i i
 ends text d t qs c i h a = λ s l. skip_tail t 64 (qs ++ s) (terminals text i) (a (lead t) h text)
+
+-- a member of a list, and the lexeme that leads to the next
+pub next_member : (text : List ℕ) (d : ℕ) (ps : List Part) (t : Tail) (p : Part) (qs : List Part) (c : Class) (i o a j : List Lexeme) → Bound d qs → Depth d (TailPart t ∷ qs) d →
+    goes_on t qs ≡ p ∷ TailPart t ∷ qs → class_of (lead t) ≡ Some c → Moves text d ps (p ∷ TailPart t ∷ qs) i o → Reads text d (p ∷ []) o a → First c a j → Moves text d ps (p ∷ TailPart t ∷ qs) i j
+next_member text d ps t p qs c i o a j b l g k m r f =
+    then text d ps (p ∷ TailPart t ∷ qs) (p ∷ TailPart t ∷ qs) i o j m
+    (then text d (p ∷ TailPart t ∷ qs) (TailPart t ∷ qs) (p ∷ TailPart t ∷ qs) o a j (call text d d p (TailPart t ∷ qs) o a l r)
+    (subst (λ x. Moves text d (TailPart t ∷ qs) x a j) g (goes text d t qs c a j b k f)))
+
+-- the last one
+pub last_member : (text : List ℕ) (d : ℕ) (ps : List Part) (t : Tail) (p : Part) (qs : List Part) (c : Class) (i o a : List Lexeme) → Depth d (TailPart t ∷ qs) d →
+    class_of (lead t) ≡ Some c → Moves text d ps (p ∷ TailPart t ∷ qs) i o → Reads text d (p ∷ []) o a → IsAbsent c a → Moves text d ps qs i a
+last_member text d ps t p qs c i o a l k m r f =
+    then text d ps (p ∷ TailPart t ∷ qs) qs i o a m
+    (then text d (p ∷ TailPart t ∷ qs) (TailPart t ∷ qs) qs o a a (call text d d p (TailPart t ∷ qs) o a l r) (ends text d t qs c a k f))
 
 pub level_ends : (text : List ℕ) (d : ℕ) (qs : List Part) (i : List Lexeme) → Moves text d (LevelPart ∷ qs) qs i i
 level_ends text d qs i = λ s l. skip_level 64 (qs ++ s) (terminals text i)
@@ -337,12 +333,6 @@ skip_groups s (word keyword.Integer ∷ r) h = absurd (true≢false h)
 skip_groups s (word keyword.Logical ∷ r) h = absurd (true≢false h)
 skip_groups s (k ∷ r) h = refl
 
-skip_variables : (s : List Part) (ks : List Terminal) → leads_kind ks ≡ false → fate 64 (VariablesPart ∷ s) ks ≡ fate 64 s ks
-skip_variables s [] h = refl
-skip_variables s (word keyword.Integer ∷ r) h = absurd (true≢false h)
-skip_variables s (word keyword.Logical ∷ r) h = absurd (true≢false h)
-skip_variables s (k ∷ r) h = refl
-
 refuses_group : (s : List Part) (ks : List Terminal) → leads_kind ks ≡ false → fate 64 (GroupPart ∷ s) ks ≡ Refuses false (length ks)
 refuses_group s [] h = refl
 refuses_group s (word keyword.Integer ∷ r) h = absurd (true≢false h)
@@ -414,7 +404,7 @@ pub groups_end : (text : List ℕ) (qs : List Part) (i : List Lexeme) → leads_
 groups_end text qs i h = λ s l. skip_groups (qs ++ s) (terminals text i) h
 
 pub variables_end : (text : List ℕ) (qs : List Part) (i : List Lexeme) → leads_kind (terminals text i) ≡ false → Moves text 0 (VariablesPart ∷ qs) qs i i
-variables_end text qs i h = λ s l. skip_variables (qs ++ s) (terminals text i) h
+variables_end text qs i h = λ s l. skip_variables 64 (qs ++ s) (terminals text i) h
 
 pub opens_process : (text : List ℕ) (qs : List Part) (i : List Lexeme) → leads_kind (terminals text i) ≡ false → Moves text 0 (DeclarationPart ∷ qs) (ProcessPart ∷ qs) i i
 opens_process text qs i h = λ s l. open_process (qs ++ s) (terminals text i) h

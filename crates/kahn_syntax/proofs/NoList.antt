@@ -1,16 +1,7 @@
 -- A text with a fault has no list of lexemes.
-use Rattle.std.proofs.Common.{◌≡◌, ℕ, ◌+◌, ◌-◌, ◌≤◌, ◌<◌, List, length, get_or, sym, ap, subst, ◌∙◌, arith}
-use Rattle.std.proofs.lemmas.List.{length-map}
-use Rattle.std.specs.Prelude.{codes, slice_range}
-use Rattle.std.specs.Char.{to_ascii_lowercase}
-use Rattle.std.specs.Str.Parse.{digits_value}
-use Rattle.kahn_syntax.specs.declared.fault.SyntaxFault.{SyntaxFault}
-use Rattle.kahn_syntax.specs.declared.fault.SyntaxFault.TheVariants.{TooLong, BadCharacter, NumberTooLarge, CommentOpen, NameTooLong, Expected, TooDeep, NoMemory}
-use Rattle.kahn_syntax.specs.declared.lexeme.Lexeme.{Lexeme}
-use Rattle.kahn_syntax.specs.declared.lexeme.Class.{Class}
-use Rattle.kahn_syntax.specs.declared.lexeme.Class.TheVariants.{Word, Name, Number, Sign}
-use Rattle.kahn_syntax.specs.Lexemes.{IsBlank, IsWord, IsRun, HasForm, IsLongest, IsSpelled, IsCommentWord, IsOfClass, Stands, Closes, IsComment, Lexed, largest_number, letters_of}
-use Rattle.kahn_syntax.specs.inner.Items.{IsFaultAt}
+use Rattle.kahn_syntax.proofs.Common.{◌≡◌, ℕ, ◌+◌, ◌-◌, ◌≤◌, ◌<◌, List, length, get_or, sym, ap, subst, ◌∙◌, arith, length-map, codes, slice_range, to_ascii_lowercase, digits_value, SyntaxFault, TooLong, BadCharacter, NumberTooLarge, CommentOpen, NameTooLong, Expected, Lexeme, Class, Word, Number, IsBlank, IsWord, IsRun, HasForm, IsLongest, IsSpelled, IsCommentWord, IsOfClass, Stands, Closes, IsComment, Lexed, largest_number, letters_of, IsFaultAt}
+use Rattle.kahn_syntax.specs.declared.fault.SyntaxFault.TheVariants.{TooDeep, NoMemory}
+use Rattle.kahn_syntax.specs.declared.lexeme.Class.TheVariants.{Name, Sign}
 use Rattle.kahn_syntax.proofs.Keywords.{keyword_short}
 use Rattle.kahn_syntax.proofs.OneList.{Walk, ends, blank, comment, lexeme, walk, walk_le, run_first, form_grows, form_dark, same_end, no_comment, comment_grows, comment_dark, same_comment, same_lexeme, lexeme_dark, lexeme_comment}
 use Rattle.kahn_syntax.proofs.Runs.{length_slice}

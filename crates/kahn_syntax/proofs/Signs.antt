@@ -1,8 +1,5 @@
 -- Signs: how they begin, and that no two have the same bytes.
-use Rattle.std.proofs.Common.{◌≡◌, ℕ, ◌+◌, ◌≤◌, ◌<◌, ◌⊎◌, List, [], ◌∷◌, Option, Some, get_or, find, bytes_eq, refl, sym, ap, ◌∙◌, arith, inl, inr}
-use Rattle.kahn_syntax.specs.declared.lexeme.Sign.{Sign}
-use Rattle.kahn_syntax.specs.declared.lexeme.Sign.TheVariants.{Becomes, Open, Close, Comma, Semicolon, Plus, Minus, Times, Equal, Unequal, Less, AtMost, Greater, AtLeast, Not}
-use Rattle.kahn_syntax.specs.Lexemes.{IsBlank, IsDigit, IsLetter, bytes_of_sign, HasBytes, IsSign}
+use Rattle.kahn_syntax.proofs.Common.{◌≡◌, ℕ, ◌+◌, ◌≤◌, ◌<◌, ◌⊎◌, List, [], ◌∷◌, Option, Some, get_or, find, bytes_eq, refl, sym, ap, ◌∙◌, arith, inl, inr, Sign, Becomes, Open, Close, Comma, Semicolon, Plus, Minus, Times, Equal, Unequal, Less, AtMost, Greater, AtLeast, Not, IsBlank, IsDigit, IsLetter, bytes_of_sign, HasBytes, IsSign}
 
 -- the bytes with which signs begin are among these
 abbrev pub IsSignByte : ℕ → Type 0

@@ -1,15 +1,8 @@
 -- The parts that are open inside of a conditional, a loop and a send, over what the parser reads.
-use Rattle.std.proofs.Common.{◌≡◌, ℕ, ◌+◌, ◌≤◌, List, [], ◌∷◌, ◌++◌, refl, arith}
+use Rattle.kahn_syntax.proofs.Common.{◌≡◌, ℕ, ◌+◌, ◌≤◌, List, [], ◌∷◌, ◌++◌, refl, arith, Lexeme, terminals, word, name, First, whole, BeginToken, CloseToken, DoToken, ElseToken, EndToken, NameToken, OnToken, OpenToken, SemicolonToken, ThenToken, ElseTail, StatementsTail, Part, ProcessPart, GroupsPart, VariablesPart, StatementPart, SimplePart, ExpressionPart, TailPart, TokenPart, LevelPart, Moves, Reads, Stops, head_parts, Stop, Refused, TooDeep, NoMemory}
 use Rattle.kahn_syntax.specs.declared.lexeme.Keyword.TheVariants as keyword
 use Rattle.kahn_syntax.specs.declared.lexeme.Sign.TheVariants as mark
 use Rattle.kahn_syntax.specs.declared.lexeme.Class.TheVariants as class
-use Rattle.kahn_syntax.specs.declared.lexeme.Lexeme.{Lexeme}
-use Rattle.kahn_syntax.specs.Terminals.{terminals, word, name, First}
-use Rattle.kahn_syntax.specs.inner.Rungs.{whole}
-use Rattle.kahn_syntax.specs.inner.Machine.{BeginToken, CloseToken, DoToken, ElseToken, EndToken, NameToken, OnToken, OpenToken, SemicolonToken, ThenToken, ElseTail, StatementsTail, Part, ProcessPart, GroupsPart, VariablesPart, StatementPart, SimplePart, ExpressionPart, TailPart, TokenPart, LevelPart}
-use Rattle.kahn_syntax.specs.inner.Reads.{Moves, Reads, Stops, head_parts}
-use Rattle.kahn_syntax.specs.declared.parser.cursor.Stop.{Stop}
-use Rattle.kahn_syntax.specs.declared.parser.cursor.Stop.TheVariants.{Refused, TooDeep, NoMemory}
 use Rattle.kahn_syntax.proofs.Moves.{then, call, call_two, one, token, expected, goes}
 
 -- a conditional expression

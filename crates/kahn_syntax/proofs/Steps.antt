@@ -1,13 +1,6 @@
 -- What single terminals do to what is open.
-use Rattle.std.proofs.Common.{◌≡◌, ◌≢◌, ℕ, ◌+◌, ◌≤◌, ◌==◌, List, [], ◌∷◌, length, true, false, cond, Option, Some, None, refl, ap, ◌∙◌, arith}
-use Rattle.std.specs.Prelude.{nat_le}
-use Rattle.std.proofs.lemmas.Bool.Decides.{nat_tests}
+use Rattle.kahn_syntax.proofs.Common.{◌≡◌, ◌≢◌, ℕ, ◌+◌, ◌≤◌, ◌==◌, List, [], ◌∷◌, length, true, false, cond, Option, Some, None, refl, ap, ◌∙◌, arith, nat_le, nat_tests, Operator, Terminal, word, rank, operator_terminal, Rung, whole, ors, ands, denials, relations, sums, terms, factors, at, tighter, operator_of, rank_or, Lacks, Token, takes, leads, Tail, lead, goes_on, Part, ExpressionPart, OperatorsPart, TailPart, TokenPart, LevelPart, levels, may_end, step, step_operator, again, Refuses, TooFar, onward, fate}
 use Rattle.kahn_syntax.specs.declared.lexeme.Keyword.TheVariants as keyword
-use Rattle.kahn_tree.specs.declared.tree.Operator.{Operator}
-use Rattle.kahn_syntax.specs.Terminals.{Terminal, word}
-use Rattle.kahn_syntax.specs.Trees.{rank, operator_terminal}
-use Rattle.kahn_syntax.specs.inner.Rungs.{Rung, whole, ors, ands, denials, relations, sums, terms, factors, at, tighter, operator_of, rank_or, Lacks}
-use Rattle.kahn_syntax.specs.inner.Machine.{Token, takes, leads, Tail, lead, goes_on, Part, ExpressionPart, OperatorsPart, TailPart, TokenPart, LevelPart, levels, may_end, step, step_operator, again, Refuses, TooFar, onward, fate}
 use Rattle.kahn_syntax.proofs.Unique.{Ends, is_operator}
 
 le_test : (a b : ℕ) → a ≤ b → nat_le a b ≡ true

@@ -1,14 +1,8 @@
 -- No two trees spell one list: expressions.
-use Rattle.std.proofs.Common.{◌≡◌, ℕ, zero, suc, ◌+◌, ◌*◌, ◌≤◌, ◌<◌, ◌≢◌, List, [], ◌∷◌, true, false, Some, ◌⊎◌, ⊎_elim, refl, sym, ap, ◌∙◌, subst, arith}
-use Rattle.std.proofs.lemmas.Bool.Decides.{nat_tests}
+use Rattle.kahn_syntax.proofs.Common.{◌≡◌, ℕ, zero, suc, ◌+◌, ◌*◌, ◌≤◌, ◌<◌, ◌≢◌, List, [], ◌∷◌, true, false, Some, ◌⊎◌, ⊎_elim, refl, sym, ap, ◌∙◌, subst, arith, nat_tests, Operator, Terminal, word, sign, ExpressionTree, number, truth, variable, wait, negation, denial, bracket, level, conditional, OperandTrees, no_operand, operand, operator_terminal, expression_words, operands_words, expression_nesting, operands_nesting, rank, IsOne, Formed, FormedOperands, Fits, joined, operator_of, rank_or, Rung, whole, ors, ands, denials, relations, sums, terms, factors, at}
 use Rattle.kahn_syntax.specs.declared.lexeme.Keyword.TheVariants as keyword
 use Rattle.kahn_syntax.specs.declared.lexeme.Sign.TheVariants as mark
-use Rattle.kahn_tree.specs.declared.tree.Operator.{Operator}
 use Rattle.kahn_tree.specs.declared.tree.Operator.TheVariants as operator
-use Rattle.kahn_syntax.specs.Terminals.{Terminal, word, sign}
-use Rattle.kahn_syntax.specs.Trees.{ExpressionTree, number, truth, variable, wait, negation, denial, bracket, level, conditional, OperandTrees, no_operand, operand, operator_terminal, expression_words, operands_words, expression_nesting, operands_nesting, rank, IsOne, Formed, FormedOperands}
-use Rattle.kahn_syntax.specs.inner.Reads.{Fits, joined}
-use Rattle.kahn_syntax.specs.inner.Rungs.{operator_of, rank_or, Rung, whole, ors, ands, denials, relations, sums, terms, factors, at}
 use Rattle.kahn_syntax.proofs.Levels.{joined_words}
 
 -- the list doesn't go on with an operator of this level or of a tighter one

@@ -1,27 +1,16 @@
 -- What is open can be completed, and what is read is the beginning of trees for it.
-use Rattle.std.proofs.Common.{◌≡◌, ℕ, ◌+◌, ◌≤◌, ◌<◌, ◌==◌, ℤ, pos, List, [], ◌∷◌, Bool, true, false, cond, Option, Some, None, refl, sym, ap, ◌∙◌, subst, arith, ⊎_elim, ◌⊎◌, inl, inr, true≢false}
+use Rattle.kahn_syntax.proofs.Common.{◌≡◌, ℕ, ◌+◌, ◌≤◌, ◌<◌, ◌==◌, ℤ, pos, List, [], ◌∷◌, Bool, true, false, cond, Option, Some, None, refl, sym, ap, ◌∙◌, subst, arith, ⊎_elim, ◌⊎◌, inl, inr, true≢false, Further, Grouped, group, all_members, IsGroup, AreGroups, nat_tests, Kind, Role, Taking, Operator, Terminal, word, sign, name, ExpressionTree, number, truth, variable, wait, negation, denial, bracket, conditional, OperandTrees, no_operand, operand, StatementTree, empty, assign, send, print, block, if_then, if_else, while_do, repeat, StatementTrees, no_statement, statement, operator_terminal, rank, expression_words, operands_words, statement_words, further_words, expression_nesting, operands_nesting, statement_nesting, statements_nesting, FormedOperands, FormedStatement, FormedStatements, IsSimple, DeclarationTree, channels, process, ArgumentTree, channel, InstanceTree, instance, kind_terminal, role_words, taking_words, further_names_words, group_words, groups_words, further_groups_words, togethers_words, Declares, Declarations, Argues, Arguments, Instantiates, Instances, MaybeSemicolon, declaration_nesting, declarations_nesting, StandsFirst, joined, Rung, whole, ors, ands, denials, relations, sums, terms, factors, at, tighter, operator_of, Token, BecomesToken, BeginToken, ChannelToken, CloseToken, CommaToken, DoToken, ElseToken, EndToken, IfToken, NameToken, NotToken, NumberToken, OnToken, OpenToken, ParToken, ProcessToken, SemicolonToken, ThenToken, takes, Tail, NamesTail, StatementsTail, GroupsTail, ArgumentsTail, InstancesTail, ElseTail, LastTail, lead, goes_on, Part, ProgramPart, DeclarationsPart, DeclarationPart, ProcessPart, RolePart, GroupsPart, GroupPart, TakingPart, VariablesPart, StatementPart, SimplePart, ExpressionPart, OperatorsPart, InstancePart, ArgumentsPart, ArgumentPart, TailPart, TokenPart, LevelPart, levels, may_end, names_then, channels_then, step, step_factor, step_relation, step_denial, step_or, step_whole, step_expression, again, step_operator, step_simple, step_statement, step_process, step_declaration, step_declarations, step_role, step_taking, step_kind, step_instance, step_argument, step_arguments, step_program}
 use Rattle.std.specs.Prelude.{neg_ℤ}
-use Rattle.std.proofs.lemmas.Bool.Decides.{nat_tests}
 use Rattle.kahn_syntax.specs.declared.lexeme.Keyword.TheVariants as keyword
 use Rattle.kahn_syntax.specs.declared.lexeme.Sign.TheVariants as mark
-use Rattle.kahn_tree.specs.declared.tree.Kind.{Kind}
 use Rattle.kahn_tree.specs.declared.tree.Kind.TheVariants as kind
-use Rattle.kahn_tree.specs.declared.tree.Role.{Role}
 use Rattle.kahn_tree.specs.declared.tree.Role.TheVariants as role
 use Rattle.kahn_tree.specs.declared.tree.Direction.TheVariants as direction
-use Rattle.kahn_tree.specs.declared.tree.Taking.{Taking}
 use Rattle.kahn_tree.specs.declared.tree.Taking.TheVariants as taking
-use Rattle.kahn_tree.specs.declared.tree.Operator.{Operator}
 use Rattle.kahn_tree.specs.declared.tree.Operator.TheVariants as operator
-use Rattle.kahn_syntax.specs.Terminals.{Terminal, word, sign, name}
 use Rattle.kahn_syntax.specs.Terminals as terminal
-use Rattle.kahn_syntax.specs.Trees.{ExpressionTree, number, truth, variable, wait, negation, denial, bracket, conditional, OperandTrees, no_operand, operand, StatementTree, empty, assign, send, print, block, if_then, if_else, while_do, repeat, StatementTrees, no_statement, statement, operator_terminal, rank, expression_words, operands_words, statement_words, further_words, expression_nesting, operands_nesting, statement_nesting, statements_nesting, FormedOperands, FormedStatement, FormedStatements, IsSimple}
-use Rattle.kahn_syntax.specs.Programs.{GroupTree, group, TogetherTree, together, DeclarationTree, channels, process, ArgumentTree, channel, InstanceTree, instance, kind_terminal, role_words, taking_words, further_names_words, group_words, groups_words, further_groups_words, groups_parameters, IsGroup, AreGroups, togethers_words, togethers_variables, AreTogether, Declares, Declarations, Argues, Arguments, FurtherArguments, Instantiates, Instances, FurtherInstances, MaybeSemicolon, declaration_nesting, declarations_nesting}
 use Rattle.kahn_syntax.specs.Programs as tree
 use Rattle.kahn_syntax.specs.inner.Reads as reads
-use Rattle.kahn_syntax.specs.inner.Reads.{joined}
-use Rattle.kahn_syntax.specs.inner.Rungs.{Rung, whole, ors, ands, denials, relations, sums, terms, factors, at, tighter, operator_of}
-use Rattle.kahn_syntax.specs.inner.Machine.{Token, BecomesToken, BeginToken, ChannelToken, CloseToken, CommaToken, DoToken, ElseToken, EndToken, IfToken, NameToken, NotToken, NumberToken, OnToken, OpenToken, ParToken, ProcessToken, SemicolonToken, ThenToken, takes, Tail, NamesTail, StatementsTail, GroupsTail, ArgumentsTail, InstancesTail, ElseTail, LastTail, lead, goes_on, Part, ProgramPart, DeclarationsPart, DeclarationPart, ProcessPart, RolePart, GroupsPart, GroupPart, TakingPart, VariablesPart, StatementPart, SimplePart, ExpressionPart, OperatorsPart, InstancePart, ArgumentsPart, ArgumentPart, TailPart, TokenPart, LevelPart, levels, may_end, names_then, channels_then, step, step_factor, step_relation, step_denial, step_or, step_whole, step_expression, again, step_operator, step_simple, step_statement, step_process, step_declaration, step_declarations, step_role, step_taking, step_kind, step_instance, step_argument, step_arguments, step_program}
 use Rattle.kahn_syntax.proofs.Levels.{joined_words, joined_nesting}
 use Rattle.kahn_syntax.proofs.Unique.{IsNoneOrOne, rank_within}
 use Rattle.kahn_syntax.proofs.Steps.{IsChain}
@@ -67,8 +56,8 @@ Statement l m t ks r = (ks ≡ statement_words t r) × FormedStatement t × (l +
 abbrev Simple : ℕ → ℕ → StatementTree → List Terminal → List Terminal → Type 0
 Simple l m t ks r = (ks ≡ statement_words t r) × IsSimple t × FormedStatement t × (l + statement_nesting t ≤ m)
 
-abbrev Further : ℕ → ℕ → StatementTrees → List Terminal → List Terminal → Type 0
-Further l m ss ks r = (ks ≡ further_words ss r) × FormedStatements ss × (l + statements_nesting ss ≤ m)
+abbrev FurtherStatements : ℕ → ℕ → StatementTrees → List Terminal → List Terminal → Type 0
+FurtherStatements l m ss ks r = (ks ≡ further_words ss r) × FormedStatements ss × (l + statements_nesting ss ≤ m)
 
 abbrev Expression : Rung → ℕ → ℕ → ExpressionTree → List Terminal → List Terminal → Type 0
 Expression g l m t ks r = (ks ≡ expression_words t r) × reads.Fits (at g) t × (l + expression_nesting t ≤ m)
@@ -86,10 +75,10 @@ Fits m (DeclarationsPart ∷ s) ks = Via (List DeclarationTree) (λ ds x r. Decl
 Fits m (DeclarationPart ∷ s) ks = Via DeclarationTree (λ d x r. Declares d x r × (levels s + declaration_nesting d ≤ m)) (Fits m s) ks
 Fits m (ProcessPart ∷ s) ks = Via DeclarationTree (λ d x r. Declares d x r × (levels s + declaration_nesting d ≤ m)) (Fits m s) ks
 Fits m (RolePart ∷ s) ks = Via Role (λ o x r. x ≡ role_words o r) (Fits m s) ks
-Fits m (GroupsPart ∷ s) ks = Via (List GroupTree) (λ gs x r. AreGroups gs × (x ≡ groups_words gs r)) (Fits m s) ks
-Fits m (GroupPart ∷ s) ks = Via GroupTree (λ g x r. IsGroup g × (x ≡ group_words g r)) (Fits m s) ks
+Fits m (GroupsPart ∷ s) ks = Via (List (Grouped Taking (List ℕ))) (λ gs x r. AreGroups gs × (x ≡ groups_words gs r)) (Fits m s) ks
+Fits m (GroupPart ∷ s) ks = Via (Grouped Taking (List ℕ)) (λ g x r. IsGroup g × (x ≡ group_words g r)) (Fits m s) ks
 Fits m (TakingPart ∷ s) ks = Via (Kind → Taking) (λ f x r. (k : Kind) → kind_terminal k ∷ x ≡ taking_words (f k) r) (Fits m s) ks
-Fits m (VariablesPart ∷ s) ks = Via (List TogetherTree) (λ ts x r. AreTogether ts × (x ≡ togethers_words ts r)) (Fits m s) ks
+Fits m (VariablesPart ∷ s) ks = Via (List (Grouped Kind (List ℕ))) (λ ts x r. AreGroups ts × (x ≡ togethers_words ts r)) (Fits m s) ks
 Fits m (StatementPart ∷ s) ks = Via StatementTree (Statement (levels s) m) (Fits m s) ks
 Fits m (SimplePart ∷ s) ks = Via StatementTree (Simple (levels s) m) (Fits m s) ks
 Fits m (ExpressionPart l ∷ s) ks = Via ExpressionTree (Expression l (levels s) m) (Fits m s) ks
@@ -98,10 +87,10 @@ Fits m (InstancePart ∷ s) ks = Via InstanceTree Instantiates (Fits m s) ks
 Fits m (ArgumentsPart ∷ s) ks = Via (List ArgumentTree) (λ xs x r. Arguments xs x (sign mark.Close ∷ r)) (Fits m s) ks
 Fits m (ArgumentPart ∷ s) ks = Via ArgumentTree Argues (Fits m s) ks
 Fits m (TailPart NamesTail ∷ s) ks = Via (List (List ℕ)) (λ ns x r. x ≡ further_names_words ns r) (Fits m s) ks
-Fits m (TailPart StatementsTail ∷ s) ks = Via StatementTrees (Further (levels s) m) (Fits m s) ks
-Fits m (TailPart GroupsTail ∷ s) ks = Via (List GroupTree) (λ gs x r. AreGroups gs × (x ≡ further_groups_words gs r)) (Fits m s) ks
-Fits m (TailPart ArgumentsTail ∷ s) ks = Via (List ArgumentTree) FurtherArguments (Fits m s) ks
-Fits m (TailPart InstancesTail ∷ s) ks = Via (List InstanceTree) FurtherInstances (Fits m s) ks
+Fits m (TailPart StatementsTail ∷ s) ks = Via StatementTrees (FurtherStatements (levels s) m) (Fits m s) ks
+Fits m (TailPart GroupsTail ∷ s) ks = Via (List (Grouped Taking (List ℕ))) (λ gs x r. AreGroups gs × (x ≡ further_groups_words gs r)) (Fits m s) ks
+Fits m (TailPart ArgumentsTail ∷ s) ks = Via (List ArgumentTree) (Further (StandsFirst (sign mark.Comma)) Argues) (Fits m s) ks
+Fits m (TailPart InstancesTail ∷ s) ks = Via (List InstanceTree) (Further (StandsFirst (word keyword.Par)) Instantiates) (Fits m s) ks
 Fits m (TailPart ElseTail ∷ s) ks = Fits m s ks ⊎ Via StatementTree (λ t x r. (x ≡ word keyword.Else ∷ statement_words t r) × FormedStatement t × (levels s + statement_nesting t ≤ m)) (Fits m s) ks
 Fits m (TailPart LastTail ∷ s) ks = (r : List Terminal) × MaybeSemicolon ks r × Fits m s r
 Fits m (TokenPart t ∷ s) ks = One t (Fits m s) ks
@@ -369,7 +358,7 @@ back_statement m s o k b other = leads_map m _ _ (step_simple s o k) (λ ks h. a
 
 made_process : (m : ℕ) (s : List Part) (ks : List Terminal) → Fits m (process_then s) ks → Fits m (ProcessPart ∷ s) (word keyword.Process ∷ ks)
 made_process m s ks (n, r, p, (r1, p1, (gs, r2, (ag, p2), (r3, p3, (r4, p4, (r5, p5, (ts, r6, (tg, p6), (t, r7, (p7, f, c), (ss, r8, (p8, g, d), (r9, p9, h)))))))))) = (
-  process n (groups_parameters gs) (togethers_variables ts) (statement t ss),
+  process n (all_members tree.parameter gs) (all_members tree.variable ts) (statement t ss),
   r9,
   (
     (
@@ -447,7 +436,7 @@ back_groups m s o k b other = falls GroupsPart m s o k tt b other
 
 made_variables : (k : Kind) (m : ℕ) (s : List Part) (ks : List Terminal) → Fits m (names_then (TokenPart SemicolonToken ∷ VariablesPart ∷ s)) ks → Fits m (VariablesPart ∷ s) (kind_terminal k ∷ ks)
 made_variables k m s ks (n, r, p, (ns, r1, p1, (r2, p2, (ts, r3, (a, p3), h)))) = (
-  together k (n ∷ ns) ∷ ts,
+  group k (n ∷ ns) ∷ ts,
   r3,
   ((tt, a), ap (λ x. kind_terminal k ∷ x) (p ∙ ap (λ x. name n ∷ x) (p1 ∙ ap (further_names_words ns) (p2 ∙ ap (λ x. sign mark.Semicolon ∷ x) p3)))),
   h,
@@ -472,7 +461,7 @@ back_argument m s (sign mark.Minus) = λ ks (z, r, p, h). (tree.number (neg_ℤ 
 back_argument m s _ = tt
 
 made_arguments : (m : ℕ) (s : List Part) (ks : List Terminal) → Fits m (arguments_then s) ks → Fits m (ArgumentsPart ∷ s) ks
-made_arguments m s ks (a, r, p, (xs, r1, q, (r2, p2, h))) = (a ∷ xs, r2, (r, p, subst (FurtherArguments xs r) p2 q), h)
+made_arguments m s ks (a, r, p, (xs, r1, q, (r2, p2, h))) = (a ∷ xs, r2, (r, p, subst (Further (StandsFirst (sign mark.Comma)) Argues xs r) p2 q), h)
 
 back_arguments : (m : ℕ) (s : List Part) (k : Terminal) → Leads m (λ ks. Fits m (ArgumentsPart ∷ s) (k ∷ ks)) (step_arguments s k)
 back_arguments m s (sign mark.Close) = λ ks h. ([], ks, refl, h)

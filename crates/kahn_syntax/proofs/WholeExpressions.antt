@@ -1,13 +1,8 @@
 -- A list that a tree spells is read whole: expressions.
-use Rattle.std.proofs.Common.{◌≡◌, ◌≢◌, ℕ, zero, suc, ◌+◌, ◌*◌, ◌≤◌, ◌<◌, List, ◌∷◌, true, false, refl, sym, ap, ◌∙◌, subst, arith}
+use Rattle.kahn_syntax.proofs.Common.{◌≡◌, ◌≢◌, ℕ, zero, suc, ◌+◌, ◌*◌, ◌≤◌, ◌<◌, List, ◌∷◌, true, false, refl, sym, ap, ◌∙◌, subst, arith, Terminal, word, sign, name, ExpressionTree, number, truth, variable, wait, negation, denial, bracket, level, conditional, OperandTrees, no_operand, operand, expression_words, operands_words, expression_nesting, operands_nesting, Formed, FormedOperands, Fits, Rung, whole, ors, ands, denials, relations, sums, terms, factors, at, tighter, OpenToken, NameToken, CloseToken, ThenToken, ElseToken, Part, ExpressionPart, OperatorsPart, TokenPart, LevelPart, levels, again, fate}
 use Rattle.kahn_syntax.specs.declared.lexeme.Keyword.TheVariants as keyword
 use Rattle.kahn_syntax.specs.declared.lexeme.Sign.TheVariants as mark
-use Rattle.kahn_syntax.specs.Terminals.{Terminal, word, sign, name}
 use Rattle.kahn_syntax.specs.Terminals as terminal
-use Rattle.kahn_syntax.specs.Trees.{ExpressionTree, number, truth, variable, wait, negation, denial, bracket, level, conditional, OperandTrees, no_operand, operand, expression_words, operands_words, expression_nesting, operands_nesting, Formed, FormedOperands}
-use Rattle.kahn_syntax.specs.inner.Reads.{Fits}
-use Rattle.kahn_syntax.specs.inner.Rungs.{Rung, whole, ors, ands, denials, relations, sums, terms, factors, at, tighter}
-use Rattle.kahn_syntax.specs.inner.Machine.{OpenToken, NameToken, CloseToken, ThenToken, ElseToken, Part, ExpressionPart, OperatorsPart, TokenPart, LevelPart, levels, again, fate}
 use Rattle.kahn_syntax.proofs.Levels.{joined_words}
 use Rattle.kahn_syntax.proofs.Unique.{Ends, ends_more, ends_operand, size, sizes, above, stop, split, IsNoneOrOne, Whole, is_if, is_tighter, Denial, is_not, is_relation, level_low, no_if, no_not}
 use Rattle.kahn_syntax.proofs.Unique as unique

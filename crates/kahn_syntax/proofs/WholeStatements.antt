@@ -1,11 +1,7 @@
 -- A list that a tree spells is read whole: statements.
-use Rattle.std.proofs.Common.{◌≡◌, ℕ, ◌+◌, ◌≤◌, List, [], ◌∷◌, false, refl, ◌∙◌, arith}
+use Rattle.kahn_syntax.proofs.Common.{◌≡◌, ℕ, ◌+◌, ◌≤◌, List, [], ◌∷◌, false, refl, ◌∙◌, arith, Terminal, word, sign, name, ExpressionTree, Formed, expression_nesting, StatementTree, empty, assign, send, print, block, if_then, if_else, while_do, repeat, StatementTrees, no_statement, statement, expression_words, statement_words, statements_words, further_words, statement_nesting, statements_nesting, FormedStatement, FormedStatements, IsSimple, AreSome, whole, BecomesToken, OnToken, NameToken, EndToken, ThenToken, DoToken, SemicolonToken, ElseToken, leads, StatementsTail, ElseTail, Part, StatementPart, SimplePart, ExpressionPart, TailPart, TokenPart, LevelPart, levels, fate}
 use Rattle.kahn_syntax.specs.declared.lexeme.Keyword.TheVariants as keyword
 use Rattle.kahn_syntax.specs.declared.lexeme.Sign.TheVariants as mark
-use Rattle.kahn_syntax.specs.Terminals.{Terminal, word, sign, name}
-use Rattle.kahn_syntax.specs.Trees.{ExpressionTree, Formed, expression_nesting, StatementTree, empty, assign, send, print, block, if_then, if_else, while_do, repeat, StatementTrees, no_statement, statement, expression_words, statement_words, statements_words, further_words, statement_nesting, statements_nesting, FormedStatement, FormedStatements, IsSimple, AreSome}
-use Rattle.kahn_syntax.specs.inner.Rungs.{whole}
-use Rattle.kahn_syntax.specs.inner.Machine.{BecomesToken, OnToken, NameToken, EndToken, ThenToken, DoToken, SemicolonToken, ElseToken, leads, StatementsTail, ElseTail, Part, StatementPart, SimplePart, ExpressionPart, TailPart, TokenPart, LevelPart, levels, fate}
 use Rattle.kahn_syntax.proofs.Blocks.{EndsSimple, EndsStatement, EndsAfter, EndsBlock, simple_expression, statement_simple, statement_after, no_more, block_statement}
 use Rattle.kahn_syntax.proofs.Steps.{go, skip_level, take_token, take_tail, skip_tail}
 use Rattle.kahn_syntax.proofs.WholeExpressions.{whole_expression}

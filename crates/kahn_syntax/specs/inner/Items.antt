@@ -1,11 +1,9 @@
 -- Inner. What the lexer meets at one place of a text.
 use Rattle.std.specs.Prelude.{◌≡◌, ℕ, List}
-use Rattle.kahn_syntax.specs.declared.lexer.Item.{Item}
+use Rattle.kahn_syntax.specs.Names.{Item, SyntaxFault, BadCharacter, NumberTooLarge, CommentOpen, NameTooLong}
 use Rattle.kahn_syntax.specs.declared.lexer.Item.TheVariants as item
 use Rattle.kahn_syntax.specs.declared.lexer.forms.Form.{Form}
 use Rattle.kahn_syntax.specs.declared.lexer.forms.Form.TheVariants as form
-use Rattle.kahn_syntax.specs.declared.fault.SyntaxFault.{SyntaxFault}
-use Rattle.kahn_syntax.specs.declared.fault.SyntaxFault.TheVariants.{BadCharacter, NumberTooLarge, CommentOpen, NameTooLong}
 use Rattle.kahn_syntax.specs.Lexemes.{IsWord, IsRun, IsSign, Stands, IsComment, IsBadCharacter, IsLargeNumber, IsOpenComment, IsLongName}
 
 -- the place after a form

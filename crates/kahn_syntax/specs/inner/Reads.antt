@@ -1,19 +1,9 @@
 -- Inner. What each function of the parser reads, and where it stops.
 use Rattle.std.specs.Prelude.{◌≡◌, ℕ, List, [], ◌∷◌, ◌++◌, ◌+◌, ◌≤◌, ◌<◌, false, length, map, Some, Result, MatchResult}
-use Rattle.kahn_tree.specs.declared.tree.Expression.{Expression}
-use Rattle.kahn_tree.specs.declared.tree.Statement.{Statement}
-use Rattle.kahn_syntax.specs.declared.parser.cursor.Stop.{Stop}
-use Rattle.kahn_syntax.specs.declared.parser.cursor.Stop.TheVariants.{Refused, TooDeep, NoMemory}
-use Rattle.kahn_syntax.specs.declared.parser.operator.Level.{Level}
-use Rattle.kahn_syntax.specs.declared.parser.operator.Level.TheVariants.{Or, And, Sum, Term}
-use Rattle.kahn_syntax.specs.declared.lexeme.Class.{Class}
-use Rattle.kahn_syntax.specs.declared.lexeme.Lexeme.{Lexeme}
-use Rattle.kahn_syntax.specs.declared.lexeme.Keyword.{Keyword}
+use Rattle.kahn_syntax.specs.Names.{Expression, Statement, Stop, Refused, TooDeep, Level, Or, And, Sum, Term, Class, Lexeme, Keyword, Parameter, Argument, Declaration}
+use Rattle.kahn_syntax.specs.declared.parser.cursor.Stop.TheVariants.{NoMemory}
 use Rattle.kahn_syntax.specs.declared.lexeme.Keyword.TheVariants as keyword
 use Rattle.kahn_syntax.specs.declared.lexeme.Sign.TheVariants as mark
-use Rattle.kahn_tree.specs.declared.tree.Parameter.{Parameter}
-use Rattle.kahn_tree.specs.declared.tree.Argument.{Argument}
-use Rattle.kahn_tree.specs.declared.tree.Declaration.{Declaration}
 use Rattle.kahn_syntax.specs.Programs.{DeclarationTree, channels, process}
 use Rattle.kahn_syntax.specs.Terminals.{Terminal, word, sign, terminals, AreProper}
 use Rattle.kahn_syntax.specs.inner.Machine.{Token, class_of, token_of, leads, Part, ProgramPart, ExpressionPart, StatementPart, SimplePart, TailPart, StatementsTail, TokenPart, GroupsPart, OpenToken, CloseToken, SemicolonToken, BeginToken, levels, Refuses, TooFar, fate}

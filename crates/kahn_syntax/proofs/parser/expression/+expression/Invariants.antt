@@ -1,12 +1,4 @@
-use Rattle.std.proofs.Common.{◌≤◌, ◌<◌, ◌+◌, ◌*◌, List, [], ◌∷◌, length, max}
-use Rattle.kahn_syntax.specs.declared.lexeme.Lexeme.{Lexeme}
-use Rattle.kahn_syntax.specs.Spans.{ExpressionSpans, OperandsSpan}
-use Rattle.kahn_syntax.specs.Terminals.{AreProper}
-use Rattle.kahn_syntax.specs.Trees.{expression_nesting, operands_nesting, FormedOperands}
-use Rattle.kahn_syntax.specs.Drawn.{expression_of, operands_of}
-use Rattle.kahn_syntax.specs.inner.Reads.{rank_of, Moves}
-use Rattle.kahn_syntax.specs.inner.Rungs.{rung_of}
-use Rattle.kahn_syntax.specs.inner.Machine.{ExpressionPart, OperatorsPart}
+use Rattle.kahn_syntax.proofs.Common.{◌≤◌, ◌<◌, ◌+◌, ◌*◌, List, [], ◌∷◌, length, max, Lexeme, ExpressionSpans, OperandsSpan, AreProper, expression_nesting, operands_nesting, FormedOperands, expression_of, operands_of, rank_of, Moves, rung_of, ExpressionPart, OperatorsPart}
 use Rattle.kahn_syntax.proofs.Levels.{height}
 use Rattle.kahn_syntax.proofs.parser.expression.+expression.Given as goal
 

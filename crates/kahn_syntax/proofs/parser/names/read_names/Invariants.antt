@@ -1,10 +1,4 @@
-use Rattle.std.proofs.Common.{◌≤◌, List, [], ◌∷◌, ◌++◌, length}
-use Rattle.kahn_tree.specs.declared.tree.Name.{Name}
-use Rattle.kahn_syntax.specs.declared.lexeme.Lexeme.{Lexeme}
-use Rattle.kahn_syntax.specs.Terminals.{AreProper}
-use Rattle.kahn_syntax.specs.inner.Machine.{names_then}
-use Rattle.kahn_syntax.specs.inner.Reads.{Moves}
-use Rattle.kahn_syntax.specs.Spans.{NameSpans, NamesSpan}
+use Rattle.kahn_syntax.proofs.Common.{◌≤◌, List, [], ◌∷◌, ◌++◌, length, Name, Lexeme, AreProper, names_then, Moves, NameSpans, NamesSpan}
 use Rattle.kahn_syntax.proofs.parser.names.read_names.Given as goal
 
 abbrev pub invariant-names : goal.invariant-names
