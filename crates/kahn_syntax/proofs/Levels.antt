@@ -57,9 +57,7 @@ joined_fits n e (operand o g os) a b f h =
 
 pub level_fits : (v : Level) (e : ExpressionTree) (os : OperandTrees) → Fits (at (tighter (rung_of v))) e → FormedOperands (rank_of v) os → Fits (at (rung_of v)) (joined e os)
 level_fits Or e os f h = joined_fits 1 e os (λ x. cc) (omega arith) f h
-level_fits And e os f h = joined_fits 2 e os (λ x. cc) (omega arith) f h
-level_fits Sum e os f h = joined_fits 5 e os (λ x. cc) (omega arith) f h
-level_fits Term e os f h = joined_fits 6 e os (λ x. cc) (omega arith) f h
+level_fits v e os f h = joined_fits (rank_of v) e os (λ x. cc) (omega arith) f h
 
 pub compared_fits : (o : Operator) (e f : ExpressionTree) → rank o ≡ 4 → Fits 5 e → Fits 5 f → Fits 4 (level e (operand o f no_operand))
 compared_fits o e f r g h =

@@ -1,5 +1,5 @@
 -- Lists that are read one member after another.
-use Rattle.kahn_syntax.proofs.Common.{◌≡◌, ℕ, ◌+◌, ◌-◌, ◌≤◌, List, [], ◌∷◌, length, get_or, take, drop, sym, ap, ◌∙◌, arith, ◌<◌, length-drop, subst, take_all, drop_more, Class, Span, Lexeme, Name, terminals, First, IsUnsigned, IsProper, AreProper, IsPast}
+use Rattle.kahn_syntax.proofs.Common.{◌≡◌, ℕ, ◌+◌, ◌-◌, ◌≤◌, List, [], ◌∷◌, length, get_or, take, drop, sym, ap, ◌∙◌, arith, ◌<◌, length-drop, subst, take_all, drop_more, Class, Span, Lexeme, terminals, First, IsUnsigned, IsProper, AreProper, IsPast}
 use Rattle.kahn_syntax.specs.declared.lexeme.Class.TheVariants as class
 
 pub first_of : (c d : Class) (xs rest : List Lexeme) → c ≡ d → First c xs rest → First d xs rest

@@ -1,10 +1,9 @@
 -- How the parts that are open go on, over what the parser reads.
-use Rattle.kahn_syntax.proofs.Common.{◌≡◌, ◌≢◌, ℕ, ◌+◌, ◌≤◌, ◌<◌, List, [], ◌∷◌, ◌++◌, ◌⊎◌, ⊎_elim, length, Bool, true, false, Some, Result, Ok, Err, true≢false, refl, sym, ap, ◌∙◌, subst, arith, Span, Class, Lexeme, MatchResult, Expression, Form, Covers, Statement, Stop, Refused, TooDeep, NoMemory, Terminal, word, sign, name, terminal, terminals, First, Token, BecomesToken, BeginToken, ChannelToken, CloseToken, CommaToken, DoToken, ElseToken, EndToken, IfToken, NameToken, NotToken, NumberToken, OnToken, OpenToken, ParToken, ProcessToken, SemicolonToken, ThenToken, takes, leads, class_of, Tail, NamesTail, StatementsTail, GroupsTail, ArgumentsTail, InstancesTail, ElseTail, LastTail, lead, goes_on, again, leads_kind, leads_declaration, Part, ProgramPart, DeclarationsPart, DeclarationPart, ProcessPart, GroupsPart, GroupPart, VariablesPart, InstancePart, ArgumentsPart, ArgumentPart, ExpressionPart, OperatorsPart, StatementPart, SimplePart, TailPart, TokenPart, LevelPart, levels, step, Refuses, TooFar, fate, Operator, Level, Or, Sum, Term, operator_terminal, rank, Rung, whole, ors, denials, relations, sums, factors, at, tighter, rung_of, Lacks, Kind, kind_terminal, IsAbsent, Reads, Moves, Stops, Halts, rank_of, ExpressionRead, StatementRead}
+use Rattle.kahn_syntax.proofs.Common.{◌≡◌, ◌≢◌, ℕ, ◌+◌, ◌≤◌, ◌<◌, List, [], ◌∷◌, ◌++◌, ◌⊎◌, ⊎_elim, length, Bool, true, false, Some, Result, Ok, Err, true≢false, refl, sym, ap, ◌∙◌, subst, arith, Span, Class, Lexeme, MatchResult, Expression, Form, Covers, Statement, Stop, Refused, TooDeep, NoMemory, Terminal, word, sign, name, terminal, terminals, First, Token, BeginToken, CloseToken, IfToken, NameToken, NotToken, NumberToken, ProcessToken, SemicolonToken, takes, leads, class_of, Tail, NamesTail, GroupsTail, ArgumentsTail, lead, goes_on, again, leads_kind, leads_declaration, Part, ProgramPart, DeclarationsPart, DeclarationPart, ProcessPart, GroupsPart, GroupPart, VariablesPart, InstancePart, ArgumentsPart, ArgumentPart, ExpressionPart, OperatorsPart, StatementPart, SimplePart, TailPart, TokenPart, LevelPart, levels, step, Refuses, TooFar, fate, Operator, Level, Or, operator_terminal, rank, Rung, whole, ors, denials, relations, sums, factors, at, tighter, rung_of, Lacks, Kind, kind_terminal, IsAbsent, Reads, Moves, Stops, Halts, rank_of, ExpressionRead, StatementRead}
 use Rattle.kahn_syntax.specs.declared.lexeme.Keyword.TheVariants as keyword
 use Rattle.kahn_syntax.specs.declared.lexeme.Sign.TheVariants as mark
 use Rattle.kahn_syntax.specs.declared.lexeme.Class.TheVariants as class
 use Rattle.kahn_syntax.specs.Terminals as terminals_are
-use Rattle.kahn_syntax.specs.declared.parser.operator.Level.TheVariants.{And}
 use Rattle.kahn_syntax.proofs.WholePrograms.{take_kind, skip_variables}
 use Rattle.kahn_syntax.proofs.Steps.{go, skip_level, skip_tail, take_tail, take_token, no_token, IsChain, open_chain, open_whole, open_denial, skip_operators, take_operator}
 use Rattle.kahn_syntax.proofs.Reached.{go_far}
@@ -22,18 +21,16 @@ pub then : (text : List ℕ) (d : ℕ) (p q r : List Part) (i j k : List Lexeme)
 then text d p q r i j k f g = λ s l. f s l ∙ g s l
 
 pub then_stops : (text : List ℕ) (d : ℕ) (p q : List Part) (i j : List Lexeme) (e : Stop) → Moves text d p q i j → Stops text d q j e → Stops text d p i e
-then_stops text d p q i j (Refused w n) f g = λ s l. f s l ∙ g s l
-then_stops text d p q i j (TooDeep n) f g = λ s l. f s l ∙ g s l
 then_stops text d p q i j NoMemory f g = tt
+then_stops text d p q i j _ f g = λ s l. f s l ∙ g s l
 
 -- a part above others
 pub call : (text : List ℕ) (d e : ℕ) (p : Part) (qs : List Part) (i j : List Lexeme) → Depth d qs e → Reads text e (p ∷ []) i j → Moves text d (p ∷ qs) qs i j
 call text d e p qs i j b f = λ s l. f (qs ++ s) (b s l)
 
 pub call_stops : (text : List ℕ) (d e : ℕ) (p : Part) (qs : List Part) (i : List Lexeme) (x : Stop) → Depth d qs e → Stops text e (p ∷ []) i x → Stops text d (p ∷ qs) i x
-call_stops text d e p qs i (Refused w n) b f = λ s l. f (qs ++ s) (b s l)
-call_stops text d e p qs i (TooDeep n) b f = λ s l. f (qs ++ s) (b s l)
 call_stops text d e p qs i NoMemory b f = tt
+call_stops text d e p qs i _ b f = λ s l. f (qs ++ s) (b s l)
 
 -- two parts above others
 pub call_two : (text : List ℕ) (d e : ℕ) (p q : Part) (qs : List Part) (i j : List Lexeme) → Depth d qs e → Reads text e (p ∷ q ∷ []) i j → Moves text d (p ∷ q ∷ qs) qs i j
@@ -41,9 +38,8 @@ call_two text d e p q qs i j b f = λ s l. f (qs ++ s) (b s l)
 
 pub call_two_stops : (text : List ℕ) (d e : ℕ) (p q : Part) (qs : List Part) (i : List Lexeme) (x : Stop) → Depth d qs e → Stops text e (p ∷ q ∷ []) i x →
     Stops text d (p ∷ q ∷ qs) i x
-call_two_stops text d e p q qs i (Refused w n) b f = λ s l. f (qs ++ s) (b s l)
-call_two_stops text d e p q qs i (TooDeep n) b f = λ s l. f (qs ++ s) (b s l)
 call_two_stops text d e p q qs i NoMemory b f = tt
+call_two_stops text d e p q qs i _ b f = λ s l. f (qs ++ s) (b s l)
 
 -- one terminal
 pub one : (text : List ℕ) (d : ℕ) (p : Part) (qs rs : List Part) (k : Terminal) (i j : List Lexeme) → Bound d rs → ((s : List Part) → step (p ∷ qs ++ s) k ≡ Some (rs ++ s)) →
@@ -75,24 +71,9 @@ some_is c e p = cc
 
 -- a lexeme of the token's class is the token
 class_takes : (t : Token) (c : Class) (text : List ℕ) (at : Span) → class_of t ≡ Some c → takes t (terminal text c at) ≡ true
-class_takes BecomesToken c text at e = subst (λ x. takes BecomesToken (terminal text x at) ≡ true) (some_is (class.Sign mark.Becomes) c e) refl
-class_takes BeginToken c text at e = subst (λ x. takes BeginToken (terminal text x at) ≡ true) (some_is (class.Word keyword.Begin) c e) refl
-class_takes ChannelToken c text at e = subst (λ x. takes ChannelToken (terminal text x at) ≡ true) (some_is (class.Word keyword.Channel) c e) refl
-class_takes CloseToken c text at e = subst (λ x. takes CloseToken (terminal text x at) ≡ true) (some_is (class.Sign mark.Close) c e) refl
-class_takes CommaToken c text at e = subst (λ x. takes CommaToken (terminal text x at) ≡ true) (some_is (class.Sign mark.Comma) c e) refl
-class_takes DoToken c text at e = subst (λ x. takes DoToken (terminal text x at) ≡ true) (some_is (class.Word keyword.Do) c e) refl
-class_takes ElseToken c text at e = subst (λ x. takes ElseToken (terminal text x at) ≡ true) (some_is (class.Word keyword.Else) c e) refl
-class_takes EndToken c text at e = subst (λ x. takes EndToken (terminal text x at) ≡ true) (some_is (class.Word keyword.End) c e) refl
-class_takes IfToken c text at e = subst (λ x. takes IfToken (terminal text x at) ≡ true) (some_is (class.Word keyword.If) c e) refl
-class_takes NameToken c text at e = subst (λ x. takes NameToken (terminal text x at) ≡ true) (some_is class.Name c e) refl
-class_takes OnToken c text at e = subst (λ x. takes OnToken (terminal text x at) ≡ true) (some_is (class.Word keyword.On) c e) refl
-class_takes OpenToken c text at e = subst (λ x. takes OpenToken (terminal text x at) ≡ true) (some_is (class.Sign mark.Open) c e) refl
-class_takes ParToken c text at e = subst (λ x. takes ParToken (terminal text x at) ≡ true) (some_is (class.Word keyword.Par) c e) refl
-class_takes ProcessToken c text at e = subst (λ x. takes ProcessToken (terminal text x at) ≡ true) (some_is (class.Word keyword.Process) c e) refl
-class_takes SemicolonToken c text at e = subst (λ x. takes SemicolonToken (terminal text x at) ≡ true) (some_is (class.Sign mark.Semicolon) c e) refl
-class_takes ThenToken c text at e = subst (λ x. takes ThenToken (terminal text x at) ≡ true) (some_is (class.Word keyword.Then) c e) refl
 class_takes NotToken c text at e = absurd cc
 class_takes NumberToken c text at e = absurd cc
+class_takes t c text at e = subst (λ x. takes t (terminal text x at) ≡ true) (some_is _ c e) refl
 
 -- an awaited lexeme
 pub expected : (text : List ℕ) (d : ℕ) (t : Token) (qs : List Part) (c : Class) (i j : List Lexeme) → Bound d qs → class_of t ≡ Some c → First c i j →
@@ -288,10 +269,8 @@ leads_statement _ = false
 
 open_simple : (s : List Part) (ks : List Terminal) → leads_statement ks ≡ false → fate 64 (StatementPart ∷ s) ks ≡ fate 64 (SimplePart ∷ s) ks
 open_simple s [] h = refl
-open_simple s (word keyword.If ∷ r) h = absurd (true≢false h)
-open_simple s (word keyword.While ∷ r) h = absurd (true≢false h)
-open_simple s (word keyword.Repeat ∷ r) h = absurd (true≢false h)
-open_simple s (k ∷ r) h = refl
+open_simple s (word keyword.If ∷ r) h = cc
+open_simple s (_ ∷ r) h = cc
 
 pub opens_simple : (text : List ℕ) (d : ℕ) (qs : List Part) (i : List Lexeme) → leads_statement (terminals text i) ≡ false → Moves text d (StatementPart ∷ qs) (SimplePart ∷ qs) i i
 opens_simple text d qs i h = λ s l. open_simple (qs ++ s) (terminals text i) h
@@ -306,11 +285,9 @@ leads_simple _ = false
 
 skip_simple : (s : List Part) (ks : List Terminal) → leads_simple ks ≡ false → fate 64 (SimplePart ∷ s) ks ≡ fate 64 s ks
 skip_simple s [] h = refl
-skip_simple s (name n ∷ r) h = absurd (true≢false h)
-skip_simple s (word keyword.Send ∷ r) h = absurd (true≢false h)
-skip_simple s (word keyword.Print ∷ r) h = absurd (true≢false h)
-skip_simple s (word keyword.Begin ∷ r) h = absurd (true≢false h)
-skip_simple s (k ∷ r) h = refl
+skip_simple s (name n ∷ r) h = cc
+skip_simple s (word keyword.Send ∷ r) h = cc
+skip_simple s (_ ∷ r) h = cc
 
 -- the empty statement
 pub simple_ends : (text : List ℕ) (d : ℕ) (qs : List Part) (i : List Lexeme) → leads_simple (terminals text i) ≡ false → Moves text d (SimplePart ∷ qs) qs i i
@@ -322,16 +299,14 @@ pub kind_moves : (text : List ℕ) (d : ℕ) (p : Part) (qs rs : List Part) (k :
 kind_moves text d p qs rs k i j b f g e = λ s l. ap (fate 64 (p ∷ qs ++ s)) e ∙ take_kind k 64 (p ∷ qs ++ s) (rs ++ s) (terminals text j) (f s) (g s) (b s l)
 
 open_groups : (s : List Part) (ks : List Terminal) → leads_kind ks ≡ true → fate 64 (GroupsPart ∷ s) ks ≡ fate 64 (GroupPart ∷ TailPart GroupsTail ∷ s) ks
-open_groups s [] h = absurd (true≢false (sym h))
-open_groups s (word keyword.Integer ∷ r) h = refl
-open_groups s (word keyword.Logical ∷ r) h = refl
-open_groups s (k ∷ r) h = absurd (true≢false (sym h))
+open_groups s [] h = cc
+open_groups s (word keyword.Integer ∷ r) h = cc
+open_groups s (_ ∷ r) h = cc
 
 skip_groups : (s : List Part) (ks : List Terminal) → leads_kind ks ≡ false → fate 64 (GroupsPart ∷ s) ks ≡ fate 64 s ks
 skip_groups s [] h = refl
-skip_groups s (word keyword.Integer ∷ r) h = absurd (true≢false h)
-skip_groups s (word keyword.Logical ∷ r) h = absurd (true≢false h)
-skip_groups s (k ∷ r) h = refl
+skip_groups s (word keyword.Integer ∷ r) h = cc
+skip_groups s (_ ∷ r) h = cc
 
 refuses_group : (s : List Part) (ks : List Terminal) → leads_kind ks ≡ false → fate 64 (GroupPart ∷ s) ks ≡ Refuses false (length ks)
 refuses_group s [] h = refl
@@ -341,9 +316,8 @@ refuses_group s (k ∷ r) h = ap (Refuses false) (omega arith)
 
 open_process : (s : List Part) (ks : List Terminal) → leads_kind ks ≡ false → fate 64 (DeclarationPart ∷ s) ks ≡ fate 64 (ProcessPart ∷ s) ks
 open_process s [] h = refl
-open_process s (word keyword.Integer ∷ r) h = absurd (true≢false h)
-open_process s (word keyword.Logical ∷ r) h = absurd (true≢false h)
-open_process s (k ∷ r) h = refl
+open_process s (word keyword.Integer ∷ r) h = cc
+open_process s (_ ∷ r) h = cc
 
 refuses_process : (s : List Part) (ks : List Terminal) → leads ProcessToken ks ≡ false → fate 64 (ProcessPart ∷ s) ks ≡ Refuses false (length ks)
 refuses_process s [] h = refl
@@ -366,18 +340,14 @@ open_arguments s (sign mark.Close ∷ r) h = absurd (true≢false h)
 open_arguments s (k ∷ r) h = refl
 
 open_declarations : (s : List Part) (ks : List Terminal) → leads_declaration ks ≡ true → fate 64 (DeclarationsPart ∷ s) ks ≡ fate 64 (DeclarationPart ∷ TokenPart SemicolonToken ∷ DeclarationsPart ∷ s) ks
-open_declarations s [] h = absurd (true≢false (sym h))
-open_declarations s (word keyword.Integer ∷ r) h = refl
-open_declarations s (word keyword.Logical ∷ r) h = refl
-open_declarations s (word keyword.Process ∷ r) h = refl
-open_declarations s (k ∷ r) h = absurd (true≢false (sym h))
+open_declarations s [] h = cc
+open_declarations s (word keyword.Integer ∷ r) h = cc
+open_declarations s (_ ∷ r) h = cc
 
 skip_declarations : (s : List Part) (ks : List Terminal) → leads_declaration ks ≡ false → fate 64 (DeclarationsPart ∷ s) ks ≡ fate 64 s ks
 skip_declarations s [] h = refl
-skip_declarations s (word keyword.Integer ∷ r) h = absurd (true≢false h)
-skip_declarations s (word keyword.Logical ∷ r) h = absurd (true≢false h)
-skip_declarations s (word keyword.Process ∷ r) h = absurd (true≢false h)
-skip_declarations s (k ∷ r) h = refl
+skip_declarations s (word keyword.Integer ∷ r) h = cc
+skip_declarations s (_ ∷ r) h = cc
 
 -- an argument begins here
 abbrev pub leads_argument : List Terminal → Bool
@@ -444,9 +414,8 @@ no_argument text qs i h = refused_by text ArgumentPart qs i (Refused false (leng
 
 -- the whole of a program that isn't one
 pub halts : (text : List ℕ) (i : List Lexeme) (x : Stop) → Stops text 0 (ProgramPart ∷ []) i x → Halts (terminals text i) x
-halts text i (Refused w n) f = f [] refl
-halts text i (TooDeep n) f = f [] refl
 halts text i NoMemory f = tt
+halts text i _ f = f [] refl
 
 -- after a whole program nothing may stand
 pub whole_end : (text : List ℕ) (i : List Lexeme) → i ≢ [] → fate 64 [] (terminals text i) ≡ Refuses true (length i)

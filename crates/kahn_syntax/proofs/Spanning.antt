@@ -1,6 +1,6 @@
 -- Parts of a tree that are read one after another, and the lexemes that they take.
 use Rattle.std.proofs.Common.{append-nil}
-use Rattle.kahn_syntax.proofs.Common.{◌≡◌, ℕ, List, [], ◌∷◌, ◌++◌, length, refl, sym, ap, ◌∙◌, subst, append_assoc, arith, get_or, take, drop, ◌-◌, ◌≤◌, Further, Between, SomeBetween, Grouped, group, members_of, all_members, Lexeme, Name, Operand, Statement, Kind, Taking, Parameter, Variable, Declaration, Argument, Instance, Terminal, terminal, terminals, word, sign, name, operator_terminal, kind_terminal, name_of, IsPast, Takes, Covers, NameSpans, ExpressionSpans, OperandsSpan, StatementSpans, GroupSpans, GroupsSpan, ParametersSpan, kind_of, DirectionSpans, TogetherSpans, TogethersSpan, VariablesSpan, DeclarationSpans, DeclarationsSpan, ArgumentSpans, parameter_of, variable_of, NamesSpan}
+use Rattle.kahn_syntax.proofs.Common.{◌≡◌, ℕ, List, [], ◌∷◌, ◌++◌, length, refl, sym, ap, ◌∙◌, subst, append_assoc, arith, get_or, take, drop, ◌-◌, ◌≤◌, Further, Between, SomeBetween, Grouped, group, members_of, all_members, Lexeme, Name, Operand, Statement, Kind, Taking, Parameter, Variable, Declaration, Argument, Terminal, terminal, terminals, sign, name, operator_terminal, kind_terminal, name_of, IsPast, Takes, Covers, NameSpans, ExpressionSpans, OperandsSpan, StatementSpans, GroupSpans, GroupsSpan, ParametersSpan, kind_of, DirectionSpans, TogetherSpans, TogethersSpan, VariablesSpan, DeclarationSpans, DeclarationsSpan, ArgumentSpans, parameter_of, variable_of, NamesSpan}
 use Rattle.kahn_syntax.specs.declared.lexeme.Keyword.TheVariants as keyword
 use Rattle.kahn_syntax.specs.declared.lexeme.Sign.TheVariants as mark
 use Rattle.kahn_syntax.proofs.Lists.{next_list}

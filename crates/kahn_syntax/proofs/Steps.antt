@@ -1,5 +1,5 @@
 -- What single terminals do to what is open.
-use Rattle.kahn_syntax.proofs.Common.{◌≡◌, ◌≢◌, ℕ, ◌+◌, ◌≤◌, ◌==◌, List, [], ◌∷◌, length, true, false, cond, Option, Some, None, refl, ap, ◌∙◌, arith, nat_le, nat_tests, Operator, Terminal, word, rank, operator_terminal, Rung, whole, ors, ands, denials, relations, sums, terms, factors, at, tighter, operator_of, rank_or, Lacks, Token, takes, leads, Tail, lead, goes_on, Part, ExpressionPart, OperatorsPart, TailPart, TokenPart, LevelPart, levels, may_end, step, step_operator, again, Refuses, TooFar, onward, fate}
+use Rattle.kahn_syntax.proofs.Common.{◌≡◌, ◌≢◌, ℕ, ◌+◌, ◌≤◌, ◌==◌, List, [], ◌∷◌, length, true, false, cond, Option, Some, None, refl, ap, ◌∙◌, arith, nat_le, nat_tests, Operator, Terminal, word, rank, operator_terminal, Rung, whole, ors, denials, relations, factors, at, tighter, operator_of, rank_or, Lacks, Token, takes, leads, Tail, lead, goes_on, Part, ExpressionPart, OperatorsPart, TailPart, TokenPart, LevelPart, levels, may_end, step, step_operator, again, Refuses, TooFar, onward, fate}
 use Rattle.kahn_syntax.specs.declared.lexeme.Keyword.TheVariants as keyword
 use Rattle.kahn_syntax.proofs.Unique.{Ends, is_operator}
 

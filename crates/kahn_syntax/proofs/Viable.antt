@@ -1,8 +1,9 @@
 -- What is open can be completed, and what is read is the beginning of trees for it.
-use Rattle.kahn_syntax.proofs.Common.{◌≡◌, ℕ, ◌+◌, ◌≤◌, ◌<◌, ◌==◌, ℤ, pos, List, [], ◌∷◌, Bool, true, false, cond, Option, Some, None, refl, sym, ap, ◌∙◌, subst, arith, ⊎_elim, ◌⊎◌, inl, inr, true≢false, Further, Grouped, group, all_members, IsGroup, AreGroups, nat_tests, Kind, Role, Taking, Operator, Terminal, word, sign, name, ExpressionTree, number, truth, variable, wait, negation, denial, bracket, conditional, OperandTrees, no_operand, operand, StatementTree, empty, assign, send, print, block, if_then, if_else, while_do, repeat, StatementTrees, no_statement, statement, operator_terminal, rank, expression_words, operands_words, statement_words, further_words, expression_nesting, operands_nesting, statement_nesting, statements_nesting, FormedOperands, FormedStatement, FormedStatements, IsSimple, DeclarationTree, channels, process, ArgumentTree, channel, InstanceTree, instance, kind_terminal, role_words, taking_words, further_names_words, group_words, groups_words, further_groups_words, togethers_words, Declares, Declarations, Argues, Arguments, Instantiates, Instances, MaybeSemicolon, declaration_nesting, declarations_nesting, StandsFirst, joined, Rung, whole, ors, ands, denials, relations, sums, terms, factors, at, tighter, operator_of, Token, BecomesToken, BeginToken, ChannelToken, CloseToken, CommaToken, DoToken, ElseToken, EndToken, IfToken, NameToken, NotToken, NumberToken, OnToken, OpenToken, ParToken, ProcessToken, SemicolonToken, ThenToken, takes, Tail, NamesTail, StatementsTail, GroupsTail, ArgumentsTail, InstancesTail, ElseTail, LastTail, lead, goes_on, Part, ProgramPart, DeclarationsPart, DeclarationPart, ProcessPart, RolePart, GroupsPart, GroupPart, TakingPart, VariablesPart, StatementPart, SimplePart, ExpressionPart, OperatorsPart, InstancePart, ArgumentsPart, ArgumentPart, TailPart, TokenPart, LevelPart, levels, may_end, names_then, channels_then, step, step_factor, step_relation, step_denial, step_or, step_whole, step_expression, again, step_operator, step_simple, step_statement, step_process, step_declaration, step_declarations, step_role, step_taking, step_kind, step_instance, step_argument, step_arguments, step_program}
+use Rattle.kahn_syntax.proofs.Common.{◌≡◌, ℕ, ◌+◌, ◌≤◌, ◌<◌, ◌==◌, ℤ, pos, List, [], ◌∷◌, Bool, true, false, cond, Option, Some, None, refl, sym, ap, ◌∙◌, subst, arith, ⊎_elim, ◌⊎◌, inl, inr, true≢false, Further, Grouped, group, all_members, IsGroup, AreGroups, nat_tests, Kind, Role, Taking, Operator, Terminal, word, sign, name, ExpressionTree, number, truth, variable, wait, negation, denial, bracket, conditional, OperandTrees, no_operand, operand, StatementTree, empty, assign, send, print, block, if_then, if_else, while_do, repeat, StatementTrees, no_statement, statement, operator_terminal, rank, expression_words, operands_words, statement_words, further_words, expression_nesting, operands_nesting, statement_nesting, statements_nesting, FormedOperands, FormedStatement, FormedStatements, IsSimple, DeclarationTree, channels, process, ArgumentTree, channel, InstanceTree, instance, kind_terminal, role_words, taking_words, further_names_words, group_words, groups_words, further_groups_words, togethers_words, Declares, Declarations, Argues, Arguments, Instantiates, Instances, MaybeSemicolon, declaration_nesting, declarations_nesting, StandsFirst, joined, Rung, whole, ors, ands, denials, relations, sums, terms, factors, at, tighter, operator_of, Token, BecomesToken, BeginToken, ChannelToken, CloseToken, CommaToken, DoToken, ElseToken, EndToken, IfToken, NameToken, NotToken, NumberToken, OnToken, OpenToken, ParToken, ProcessToken, SemicolonToken, ThenToken, takes, Tail, NamesTail, StatementsTail, GroupsTail, ArgumentsTail, InstancesTail, ElseTail, LastTail, lead, goes_on, Part, ProgramPart, DeclarationsPart, DeclarationPart, ProcessPart, RolePart, GroupsPart, GroupPart, TakingPart, VariablesPart, StatementPart, SimplePart, ExpressionPart, OperatorsPart, InstancePart, ArgumentsPart, ArgumentPart, TailPart, TokenPart, LevelPart, levels, may_end, names_then, channels_then, step, step_factor, step_relation, step_denial, step_or, step_whole, step_expression, again, step_operator, step_simple, step_statement, step_process, step_declaration, step_declarations, step_role, step_taking, step_kind, step_instance, step_argument, step_arguments, step_program, class_of, Class}
 use Rattle.std.specs.Prelude.{neg_ℤ}
 use Rattle.kahn_syntax.specs.declared.lexeme.Keyword.TheVariants as keyword
 use Rattle.kahn_syntax.specs.declared.lexeme.Sign.TheVariants as mark
+use Rattle.kahn_syntax.specs.declared.lexeme.Class.TheVariants as class
 use Rattle.kahn_tree.specs.declared.tree.Kind.TheVariants as kind
 use Rattle.kahn_tree.specs.declared.tree.Role.TheVariants as role
 use Rattle.kahn_tree.specs.declared.tree.Direction.TheVariants as direction
@@ -19,25 +20,15 @@ use Rattle.kahn_syntax.proofs.WholePrograms.{process_then, arguments_then}
 abbrev pub Lists : Type 1
 Lists = List Terminal → Type 0
 
+abbrev of_class : Option Class → Terminal
+of_class (Some (class.Word w)) = word w
+of_class (Some (class.Sign s)) = sign s
+of_class _ = name []
+
 abbrev token_terminal : Token → Terminal
-token_terminal BecomesToken = sign mark.Becomes
-token_terminal BeginToken = word keyword.Begin
-token_terminal ChannelToken = word keyword.Channel
-token_terminal CloseToken = sign mark.Close
-token_terminal CommaToken = sign mark.Comma
-token_terminal DoToken = word keyword.Do
-token_terminal ElseToken = word keyword.Else
-token_terminal EndToken = word keyword.End
-token_terminal IfToken = word keyword.If
-token_terminal NameToken = name []
 token_terminal NotToken = word keyword.Not
 token_terminal NumberToken = terminal.number (pos 0)
-token_terminal OnToken = word keyword.On
-token_terminal OpenToken = sign mark.Open
-token_terminal ParToken = word keyword.Par
-token_terminal ProcessToken = word keyword.Process
-token_terminal SemicolonToken = sign mark.Semicolon
-token_terminal ThenToken = word keyword.Then
+token_terminal t = of_class (class_of t)
 
 -- the token, then what comes after
 abbrev pub One : Token → Lists → Lists
@@ -181,12 +172,7 @@ made_tail LastTail m s ks h = (ks, inl refl, h)
 
 lead_one : (t : Tail) (k : Terminal) (ks : List Terminal) → One (lead t) (λ r. r ≡ ks) (k ∷ ks) → token_terminal (lead t) ∷ ks ≡ k ∷ ks
 lead_one NamesTail k ks (r, p, q) = sym (p ∙ ap (λ x. sign mark.Comma ∷ x) q)
-lead_one StatementsTail k ks (r, p, q) = sym (p ∙ ap (λ x. sign mark.Semicolon ∷ x) q)
-lead_one GroupsTail k ks (r, p, q) = sym (p ∙ ap (λ x. sign mark.Semicolon ∷ x) q)
-lead_one ArgumentsTail k ks (r, p, q) = sym (p ∙ ap (λ x. sign mark.Comma ∷ x) q)
-lead_one InstancesTail k ks (r, p, q) = sym (p ∙ ap (λ x. word keyword.Par ∷ x) q)
-lead_one ElseTail k ks (r, p, q) = sym (p ∙ ap (λ x. word keyword.Else ∷ x) q)
-lead_one LastTail k ks (r, p, q) = sym (p ∙ ap (λ x. sign mark.Semicolon ∷ x) q)
+lead_one t k ks (r, p, q) = sym (p ∙ ap (λ x. token_terminal (lead t) ∷ x) q)
 
 back_tail : (t : Tail) (m : ℕ) (s : List Part) (o : Option (List Part)) (k : Terminal) (b : Bool) → takes (lead t) k ≡ b → levels s ≤ m →
     Leads m (λ ks. Fits m s (k ∷ ks)) o → Leads m (λ ks. Fits m (TailPart t ∷ s) (k ∷ ks)) (cond b (Some (goes_on t s)) o)
@@ -521,24 +507,16 @@ pub fits_some : (m : ℕ) (s : List Part) → levels s ≤ m → (ks : List Term
 fits_some m [] b = ([], refl)
 fits_some m (ProgramPart ∷ s) b =
     let h = fits_some m s b in (_, ([], instance [] [] ∷ [], _, _, _, _, _, h.0, refl, refl, (_, (_, refl, refl), refl), inr refl, refl, inr refl, omega (arith, b), h.1))
-fits_some m (DeclarationsPart ∷ s) b = some_skip DeclarationsPart m s tt b (fits_some m s b)
 fits_some m (DeclarationPart ∷ s) b = let h = fits_some m s b in (_, (channels kind.Integer role.Inner ([] ∷ []), h.0, ((tt, refl), omega (arith, b)), h.1))
 fits_some m (ProcessPart ∷ s) b = let h = fits_some m s b in let d = least_declares h.0 in (d.0, (least_process, h.0, (d.1, omega (arith, b)), h.1))
-fits_some m (RolePart ∷ s) b = some_skip RolePart m s tt b (fits_some m s b)
-fits_some m (GroupsPart ∷ s) b = some_skip GroupsPart m s tt b (fits_some m s b)
 fits_some m (GroupPart ∷ s) b = let h = fits_some m s b in (_, (group (taking.Value kind.Integer) ([] ∷ []), h.0, (tt, refl), h.1))
-fits_some m (TakingPart ∷ s) b = some_skip TakingPart m s tt b (fits_some m s b)
-fits_some m (VariablesPart ∷ s) b = some_skip VariablesPart m s tt b (fits_some m s b)
-fits_some m (StatementPart ∷ s) b = some_skip StatementPart m s tt b (fits_some m s b)
-fits_some m (SimplePart ∷ s) b = some_skip SimplePart m s tt b (fits_some m s b)
 fits_some m (ExpressionPart l ∷ s) b = let h = fits_some m s b in (_, (number (pos 0), h.0, (refl, (at_most l, tt), omega (arith, b)), h.1))
-fits_some m (OperatorsPart l ∷ s) b = some_skip (OperatorsPart l) m s tt b (fits_some m s b)
 fits_some m (InstancePart ∷ s) b = let h = fits_some m s b in (_, (instance [] [], h.0, (_, refl, refl), h.1))
 fits_some m (ArgumentsPart ∷ s) b = let h = fits_some m s b in (_, ([], h.0, refl, h.1))
 fits_some m (ArgumentPart ∷ s) b = let h = fits_some m s b in (_, (channel [], h.0, refl, h.1))
-fits_some m (TailPart t ∷ s) b = some_skip (TailPart t) m s tt b (fits_some m s b)
 fits_some m (TokenPart t ∷ s) b = some_token t m s (fits_some m s b)
 fits_some m (LevelPart ∷ s) b = fits_some m s (omega (arith, b))
+fits_some m (p ∷ s) b = some_skip p m s tt b (fits_some m s b)
 
 -- where it may end, nothing more is needed
 pub fits_nothing : (m : ℕ) (s : List Part) → levels s ≤ m → may_end s ≡ true → Fits m s []

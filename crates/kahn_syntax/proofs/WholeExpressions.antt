@@ -18,9 +18,6 @@ IsOther relations = ⊥
 IsOther l = IsChain l
 
 again_other : (l : Rung) (s : List Part) → IsOther l → again l s ≡ OperatorsPart l ∷ s
-again_other whole s h = absurd h
-again_other denials s h = absurd h
-again_other factors s h = absurd h
 again_other relations s h = absurd h
 again_other _ s h = refl
 
@@ -41,11 +38,8 @@ facts factors h = absurd h
 facts _ h = record { stops = refl; next = refl; next_stops = refl; next_above = refl; low = omega arith; some = omega arith; no_three = λ e. omega arith; most = omega arith }
 
 is_chain : (l : Rung) → IsOther l → IsChain l
-is_chain whole h = absurd h
-is_chain denials h = absurd h
-is_chain factors h = absurd h
 is_chain relations h = absurd h
-is_chain _ h = tt
+is_chain _ h = h
 
 whole_operands : (k : ℕ) (l : Rung) → Known k → IsOther l → (os : OperandTrees) (m : ℕ) (s : List Part) (r : List Terminal) → 8 * sizes os ≤ k →
     FormedOperands (at l) os → Ends (at l) r → levels s + operands_nesting os ≤ m → fate m (OperatorsPart l ∷ s) (operands_words os r) ≡ fate m s r

@@ -1,5 +1,5 @@
 -- A list that a tree spells is read whole: declarations, instances and programs.
-use Rattle.kahn_syntax.proofs.Common.{◌≡◌, ℕ, ◌+◌, ◌≤◌, List, [], ◌∷◌, true, false, Some, ⊎_elim, refl, ap, ◌∙◌, arith, true≢false, AreAny, Further, Grouped, group, IsGroup, AreGroups, Kind, Role, Taking, Terminal, word, sign, name, statements_words, ParameterTree, VariableTree, DeclarationTree, channels, process, ArgumentTree, channel, InstanceTree, instance, ProgramTree, program, kind_terminal, role_words, taking_words, names_words, further_names_words, group_words, groups_words, further_groups_words, Parameters, togethers_words, Variables, Declares, Declarations, Argues, Arguments, Instantiates, Instances, MaybeSemicolon, Spells, declaration_nesting, declarations_nesting, nesting, StandsFirst, BeginToken, ChannelToken, CloseToken, CommaToken, EndToken, NameToken, NumberToken, OpenToken, ParToken, SemicolonToken, leads, NamesTail, StatementsTail, GroupsTail, ArgumentsTail, InstancesTail, LastTail, Part, ProgramPart, DeclarationsPart, DeclarationPart, RolePart, GroupsPart, GroupPart, TakingPart, VariablesPart, StatementPart, InstancePart, ArgumentsPart, ArgumentPart, TailPart, TokenPart, names_then, channels_then, levels, step, Whole, fate, leads_kind}
+use Rattle.kahn_syntax.proofs.Common.{◌≡◌, ℕ, ◌+◌, ◌≤◌, List, [], ◌∷◌, true, false, Some, ⊎_elim, refl, ap, ◌∙◌, arith, AreAny, Further, Grouped, group, IsGroup, AreGroups, Kind, Role, Taking, Terminal, word, sign, name, statements_words, ParameterTree, VariableTree, DeclarationTree, channels, process, ArgumentTree, channel, InstanceTree, instance, ProgramTree, program, kind_terminal, role_words, taking_words, names_words, further_names_words, group_words, groups_words, further_groups_words, Parameters, togethers_words, Variables, Declares, Declarations, Argues, Arguments, Instantiates, Instances, MaybeSemicolon, Spells, declaration_nesting, declarations_nesting, nesting, StandsFirst, BeginToken, ChannelToken, CloseToken, CommaToken, EndToken, NameToken, NumberToken, OpenToken, ParToken, SemicolonToken, leads, NamesTail, StatementsTail, GroupsTail, ArgumentsTail, InstancesTail, LastTail, Part, ProgramPart, DeclarationsPart, DeclarationPart, RolePart, GroupsPart, GroupPart, TakingPart, VariablesPart, StatementPart, InstancePart, ArgumentsPart, ArgumentPart, TailPart, TokenPart, names_then, channels_then, levels, step, Whole, fate, leads_kind}
 use Rattle.kahn_syntax.specs.declared.lexeme.Keyword.TheVariants as keyword
 use Rattle.kahn_syntax.specs.declared.lexeme.Sign.TheVariants as mark
 use Rattle.kahn_tree.specs.declared.tree.Kind.TheVariants as kind
@@ -64,9 +64,8 @@ whole_parameters ps m s ks x (gs, a, e, p) b = ap (fate m (GroupsPart ∷ s)) p 
 
 pub skip_variables : (m : ℕ) (s : List Part) (r : List Terminal) → leads_kind r ≡ false → fate m (VariablesPart ∷ s) r ≡ fate m s r
 skip_variables m s [] h = refl
-skip_variables m s (word keyword.Integer ∷ r) h = absurd (true≢false h)
-skip_variables m s (word keyword.Logical ∷ r) h = absurd (true≢false h)
-skip_variables m s (k ∷ r) h = refl
+skip_variables m s (word keyword.Integer ∷ r) h = cc
+skip_variables m s (_ ∷ r) h = cc
 
 whole_togethers : (ts : List (Grouped Kind (List ℕ))) (m : ℕ) (s : List Part) (r : List Terminal) → AreGroups ts → leads_kind r ≡ false → levels s ≤ m →
     fate m (VariablesPart ∷ s) (togethers_words ts r) ≡ fate m s r
