@@ -1,5 +1,5 @@
 -- How the parts that are open go on, over what the parser reads.
-use Rattle.kahn_syntax.proofs.Common.{◌≡◌, ◌≢◌, ℕ, ◌+◌, ◌≤◌, ◌<◌, List, [], ◌∷◌, ◌++◌, ◌⊎◌, ⊎_elim, length, Bool, true, false, Some, Result, Ok, Err, true≢false, refl, sym, ap, ◌∙◌, subst, arith, Span, Class, Lexeme, MatchResult, Expression, Form, Covers, Statement, Stop, Refused, TooDeep, NoMemory, Terminal, word, sign, name, terminal, terminals, First, Token, BeginToken, CloseToken, IfToken, NameToken, NotToken, NumberToken, ProcessToken, SemicolonToken, takes, leads, class_of, Tail, NamesTail, GroupsTail, ArgumentsTail, lead, goes_on, again, leads_kind, leads_declaration, Part, ProgramPart, DeclarationsPart, DeclarationPart, ProcessPart, GroupsPart, GroupPart, VariablesPart, InstancePart, ArgumentsPart, ArgumentPart, ExpressionPart, OperatorsPart, StatementPart, SimplePart, TailPart, TokenPart, LevelPart, levels, step, Refuses, TooFar, fate, Operator, Level, Or, operator_terminal, rank, Rung, whole, ors, denials, relations, sums, factors, at, tighter, rung_of, Lacks, Kind, kind_terminal, IsAbsent, Reads, Moves, Stops, Halts, rank_of, ExpressionRead, StatementRead}
+use Rattle.kahn_syntax.proofs.Common.{◌≡◌, ◌≢◌, ℕ, ◌+◌, ◌≤◌, ◌<◌, List, [], ◌∷◌, ◌++◌, ◌⊎◌, ⊎_elim, length, Bool, true, false, Some, Result, Ok, Err, true≢false, refl, sym, ap, ◌∙◌, subst, arith, Span, Class, Lexeme, MatchResult, Expression, Form, Covers, Statement, Stop, Refused, TooDeep, NoMemory, Terminal, word, sign, name, terminal, terminals, First, Token, BeginToken, CloseToken, IfToken, NameToken, NotToken, NumberToken, ProcessToken, SemicolonToken, takes, leads, class_of, Tail, NamesTail, GroupsTail, ArgumentsTail, lead, goes_on, again, leads_kind, leads_declaration, Part, ProgramPart, DeclarationsPart, DeclarationPart, ProcessPart, GroupsPart, GroupPart, VariablesPart, InstancePart, ArgumentsPart, ArgumentPart, ExpressionPart, OperatorsPart, StatementPart, SimplePart, TailPart, TokenPart, LevelPart, levels, step, Refuses, TooFar, fate, Operator, Level, Or, operator_terminal, rank, Rung, whole, ors, denials, relations, sums, factors, at, tighter, rung_of, Lacks, Kind, kind_terminal, IsAbsent, Reads, Moves, Stops, Halts, ExpressionRead, StatementRead, suc}
 use Rattle.kahn_syntax.specs.declared.lexeme.Keyword.TheVariants as keyword
 use Rattle.kahn_syntax.specs.declared.lexeme.Sign.TheVariants as mark
 use Rattle.kahn_syntax.specs.declared.lexeme.Class.TheVariants as class
@@ -152,10 +152,6 @@ pub comparison : (text : List ℕ) (d : ℕ) (o : Operator) (qs : List Part) (i 
     Moves text d (OperatorsPart relations ∷ qs) (ExpressionPart sums ∷ qs) i j
 comparison text d o qs i j b h e = λ s l. ap (fate 64 (OperatorsPart relations ∷ qs ++ s)) e ∙ take_operator relations 64 (qs ++ s) o (terminals text j) h (b s l)
 
-level_at : (v : Level) → at (rung_of v) ≡ rank_of v
-level_at Or = refl
-level_at _ = refl
-
 pub level_chain : (v : Level) → IsChain (rung_of v)
 level_chain Or = tt
 level_chain _ = tt
@@ -165,18 +161,13 @@ level_again Or s = refl
 level_again _ s = refl
 
 -- an operator of the level, of which more may follow
-pub operator_more : (text : List ℕ) (d : ℕ) (v : Level) (o : Operator) (qs : List Part) (i j : List Lexeme) → Bound d qs → rank o ≡ rank_of v →
+pub operator_more : (text : List ℕ) (d : ℕ) (v : Level) (o : Operator) (qs : List Part) (i j : List Lexeme) → Bound d qs → rank o ≡ at (rung_of v) →
     terminals text i ≡ operator_terminal o ∷ terminals text j →
     Moves text d (OperatorsPart (rung_of v) ∷ qs) (ExpressionPart (tighter (rung_of v)) ∷ OperatorsPart (rung_of v) ∷ qs) i j
 operator_more text d v o qs i j b h e = λ s l.
     ap (fate 64 (OperatorsPart (rung_of v) ∷ qs ++ s)) e
-    ∙ (take_operator (rung_of v) 64 (qs ++ s) o (terminals text j) (h ∙ sym (level_at v)) (b s l)
+    ∙ (take_operator (rung_of v) 64 (qs ++ s) o (terminals text j) h (b s l)
     ∙ ap (λ x. fate 64 (ExpressionPart (tighter (rung_of v)) ∷ x) (terminals text j)) (level_again v (qs ++ s)))
-
--- no operator of the level follows
-pub level_end : (text : List ℕ) (d : ℕ) (v : Level) (qs : List Part) (i : List Lexeme) → Lacks (rank_of v) (terminals text i) →
-    Moves text d (OperatorsPart (rung_of v) ∷ qs) qs i i
-level_end text d v qs i h = operators_end text d (rung_of v) qs i (subst (λ n. Lacks n (terminals text i)) (sym (level_at v)) h)
 
 -- what a call answers for a tighter level, where no more than it stands here
 pub opened : (text : List ℕ) (d : ℕ) (g f : Rung) (i : List Lexeme) → at g ≤ at f → Moves text d (ExpressionPart g ∷ []) (ExpressionPart f ∷ []) i i →
@@ -243,14 +234,9 @@ leads_factor _ = false
 
 refuses_factor : (s : List Part) (ks : List Terminal) → leads_factor ks ≡ false → fate 64 (ExpressionPart factors ∷ s) ks ≡ Refuses false (length ks)
 refuses_factor s [] h = refl
-refuses_factor s (terminals_are.number z ∷ r) h = absurd (true≢false h)
-refuses_factor s (name n ∷ r) h = absurd (true≢false h)
-refuses_factor s (word keyword.True ∷ r) h = absurd (true≢false h)
-refuses_factor s (word keyword.False ∷ r) h = absurd (true≢false h)
-refuses_factor s (word keyword.Wait ∷ r) h = absurd (true≢false h)
-refuses_factor s (sign mark.Minus ∷ r) h = absurd (true≢false h)
-refuses_factor s (sign mark.Open ∷ r) h = absurd (true≢false h)
-refuses_factor s (k ∷ r) h = ap (Refuses false) (omega arith)
+refuses_factor s (word keyword.True ∷ r) h = cc
+refuses_factor s (sign mark.Minus ∷ r) h = cc
+refuses_factor s (_ ∷ r) h = let q : length r + 1 ≡ suc (length r) = omega arith in cc
 
 pub no_factor : (text : List ℕ) (d : ℕ) (i : List Lexeme) → leads_factor (terminals text i) ≡ false → Stops text d (ExpressionPart factors ∷ []) i (Refused false (length i))
 no_factor text d i h = λ s l. refuses_factor s (terminals text i) h ∙ ap (Refuses false) (terminals_length text i)
@@ -310,9 +296,8 @@ skip_groups s (_ ∷ r) h = cc
 
 refuses_group : (s : List Part) (ks : List Terminal) → leads_kind ks ≡ false → fate 64 (GroupPart ∷ s) ks ≡ Refuses false (length ks)
 refuses_group s [] h = refl
-refuses_group s (word keyword.Integer ∷ r) h = absurd (true≢false h)
-refuses_group s (word keyword.Logical ∷ r) h = absurd (true≢false h)
-refuses_group s (k ∷ r) h = ap (Refuses false) (omega arith)
+refuses_group s (word keyword.Integer ∷ r) h = cc
+refuses_group s (_ ∷ r) h = let q : length r + 1 ≡ suc (length r) = omega arith in cc
 
 open_process : (s : List Part) (ks : List Terminal) → leads_kind ks ≡ false → fate 64 (DeclarationPart ∷ s) ks ≡ fate 64 (ProcessPart ∷ s) ks
 open_process s [] h = refl
@@ -360,12 +345,9 @@ leads_argument _ = false
 
 refuses_argument : (s : List Part) (ks : List Terminal) → leads_argument ks ≡ false → fate 64 (ArgumentPart ∷ s) ks ≡ Refuses false (length ks)
 refuses_argument s [] h = refl
-refuses_argument s (name n ∷ r) h = absurd (true≢false h)
-refuses_argument s (terminals_are.number z ∷ r) h = absurd (true≢false h)
-refuses_argument s (word keyword.True ∷ r) h = absurd (true≢false h)
-refuses_argument s (word keyword.False ∷ r) h = absurd (true≢false h)
-refuses_argument s (sign mark.Minus ∷ r) h = absurd (true≢false h)
-refuses_argument s (k ∷ r) h = ap (Refuses false) (omega arith)
+refuses_argument s (word keyword.True ∷ r) h = cc
+refuses_argument s (sign mark.Minus ∷ r) h = cc
+refuses_argument s (_ ∷ r) h = let q : length r + 1 ≡ suc (length r) = omega arith in cc
 
 pub opens_groups : (text : List ℕ) (qs : List Part) (i : List Lexeme) → leads_kind (terminals text i) ≡ true → Moves text 0 (GroupsPart ∷ qs) (GroupPart ∷ TailPart GroupsTail ∷ qs) i i
 opens_groups text qs i h = λ s l. open_groups (qs ++ s) (terminals text i) h

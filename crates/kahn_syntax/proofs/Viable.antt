@@ -1,5 +1,5 @@
 -- What is open can be completed, and what is read is the beginning of trees for it.
-use Rattle.kahn_syntax.proofs.Common.{◌≡◌, ℕ, ◌+◌, ◌≤◌, ◌<◌, ◌==◌, ℤ, pos, List, [], ◌∷◌, Bool, true, false, cond, Option, Some, None, refl, sym, ap, ◌∙◌, subst, arith, ⊎_elim, ◌⊎◌, inl, inr, true≢false, Further, Grouped, group, all_members, IsGroup, AreGroups, nat_tests, Kind, Role, Taking, Operator, Terminal, word, sign, name, ExpressionTree, number, truth, variable, wait, negation, denial, bracket, conditional, OperandTrees, no_operand, operand, StatementTree, empty, assign, send, print, block, if_then, if_else, while_do, repeat, StatementTrees, no_statement, statement, operator_terminal, rank, expression_words, operands_words, statement_words, further_words, expression_nesting, operands_nesting, statement_nesting, statements_nesting, FormedOperands, FormedStatement, FormedStatements, IsSimple, DeclarationTree, channels, process, ArgumentTree, channel, InstanceTree, instance, kind_terminal, role_words, taking_words, further_names_words, group_words, groups_words, further_groups_words, togethers_words, Declares, Declarations, Argues, Arguments, Instantiates, Instances, MaybeSemicolon, declaration_nesting, declarations_nesting, StandsFirst, joined, Rung, whole, ors, ands, denials, relations, sums, terms, factors, at, tighter, operator_of, Token, BecomesToken, BeginToken, ChannelToken, CloseToken, CommaToken, DoToken, ElseToken, EndToken, IfToken, NameToken, NotToken, NumberToken, OnToken, OpenToken, ParToken, ProcessToken, SemicolonToken, ThenToken, takes, Tail, NamesTail, StatementsTail, GroupsTail, ArgumentsTail, InstancesTail, ElseTail, LastTail, lead, goes_on, Part, ProgramPart, DeclarationsPart, DeclarationPart, ProcessPart, RolePart, GroupsPart, GroupPart, TakingPart, VariablesPart, StatementPart, SimplePart, ExpressionPart, OperatorsPart, InstancePart, ArgumentsPart, ArgumentPart, TailPart, TokenPart, LevelPart, levels, may_end, names_then, channels_then, step, step_factor, step_relation, step_denial, step_or, step_whole, step_expression, again, step_operator, step_simple, step_statement, step_process, step_declaration, step_declarations, step_role, step_taking, step_kind, step_instance, step_argument, step_arguments, step_program, class_of, Class}
+use Rattle.kahn_syntax.proofs.Common.{◌≡◌, ℕ, ◌+◌, ◌≤◌, ◌<◌, ◌==◌, ℤ, pos, List, [], ◌∷◌, Bool, true, false, cond, Option, Some, None, refl, sym, ap, ◌∙◌, subst, arith, ⊎_elim, ◌⊎◌, inl, inr, true≢false, Further, Grouped, group, all_members, IsGroup, AreGroups, nat_tests, Kind, Role, Taking, Operator, Terminal, word, sign, name, ExpressionTree, number, truth, variable, wait, negation, denial, bracket, conditional, OperandTrees, no_operand, operand, StatementTree, empty, assign, send, print, block, if_then, if_else, while_do, repeat, StatementTrees, no_statement, statement, operator_terminal, rank, expression_words, operands_words, statement_words, further_words, expression_nesting, operands_nesting, statement_nesting, statements_nesting, FormedOperands, FormedStatement, FormedStatements, IsSimple, DeclarationTree, channels, process, ArgumentTree, channel, InstanceTree, instance, kind_terminal, role_words, taking_words, further_names_words, group_words, groups_words, further_groups_words, togethers_words, Declares, Declarations, Argues, Arguments, Instantiates, Instances, MaybeSemicolon, declaration_nesting, declarations_nesting, StandsFirst, joined, Rung, whole, ors, ands, denials, relations, sums, terms, factors, at, tighter, operator_of, Token, BecomesToken, BeginToken, ChannelToken, CloseToken, CommaToken, DoToken, ElseToken, EndToken, IfToken, NameToken, NotToken, NumberToken, OnToken, OpenToken, ParToken, ProcessToken, SemicolonToken, ThenToken, takes, Tail, NamesTail, StatementsTail, GroupsTail, ArgumentsTail, InstancesTail, ElseTail, LastTail, lead, goes_on, Part, ProgramPart, DeclarationsPart, DeclarationPart, ProcessPart, RolePart, GroupsPart, GroupPart, TakingPart, VariablesPart, StatementPart, SimplePart, ExpressionPart, OperatorsPart, InstancePart, ArgumentsPart, ArgumentPart, TailPart, TokenPart, LevelPart, levels, may_end, channels_then, step, step_factor, step_relation, step_denial, step_or, step_whole, step_expression, again, step_operator, step_simple, step_statement, step_process, step_declaration, step_declarations, step_role, step_taking, step_kind, step_instance, step_argument, step_arguments, step_program, class_of, Class}
 use Rattle.std.specs.Prelude.{neg_ℤ}
 use Rattle.kahn_syntax.specs.declared.lexeme.Keyword.TheVariants as keyword
 use Rattle.kahn_syntax.specs.declared.lexeme.Sign.TheVariants as mark
@@ -402,25 +402,25 @@ back_taking m s o (word keyword.In) b other = λ ks h. (taking.Channel direction
 back_taking m s o (word keyword.Out) b other = λ ks h. (taking.Channel direction.Out, ks, (λ j. refl), h)
 back_taking m s o k b other = falls TakingPart m s o k tt b other
 
-made_group : (k : Kind) (m : ℕ) (s : List Part) (ks : List Terminal) → Fits m (TakingPart ∷ names_then s) ks → Fits m (GroupPart ∷ s) (kind_terminal k ∷ ks)
+made_group : (k : Kind) (m : ℕ) (s : List Part) (ks : List Terminal) → Fits m (TakingPart ∷ goes_on NamesTail s) ks → Fits m (GroupPart ∷ s) (kind_terminal k ∷ ks)
 made_group k m s ks (f, r, e, (n, r1, p1, (ns, r2, p2, h))) =
     (group (f k) (n ∷ ns), r2, (tt, e k ∙ ap (taking_words (f k)) (p1 ∙ ap (λ x. name n ∷ x) p2)), h)
 
 made_groups : (m : ℕ) (s : List Part) (ks : List Terminal) → Fits m (GroupPart ∷ TailPart GroupsTail ∷ s) ks → Fits m (GroupsPart ∷ s) ks
 made_groups m s ks (g, r, (a, p), (gs, r1, (b, p1), h)) = (g ∷ gs, r1, ((a, b), p ∙ ap (group_words g) p1), h)
 
-back_group : (m : ℕ) (s : List Part) (k : Terminal) → Leads m (λ ks. Fits m (GroupPart ∷ s) (k ∷ ks)) (step_kind (TakingPart ∷ names_then s) None k)
+back_group : (m : ℕ) (s : List Part) (k : Terminal) → Leads m (λ ks. Fits m (GroupPart ∷ s) (k ∷ ks)) (step_kind (TakingPart ∷ goes_on NamesTail s) None k)
 back_group m s (word keyword.Integer) = λ ks h. made_group kind.Integer m s ks h
 back_group m s (word keyword.Logical) = λ ks h. made_group kind.Logical m s ks h
 back_group m s _ = tt
 
 back_groups : (m : ℕ) (s : List Part) (o : Option (List Part)) (k : Terminal) → levels s ≤ m → Leads m (λ ks. Fits m s (k ∷ ks)) o →
-    Leads m (λ ks. Fits m (GroupsPart ∷ s) (k ∷ ks)) (step_kind (TakingPart ∷ names_then (TailPart GroupsTail ∷ s)) o k)
+    Leads m (λ ks. Fits m (GroupsPart ∷ s) (k ∷ ks)) (step_kind (TakingPart ∷ goes_on NamesTail (TailPart GroupsTail ∷ s)) o k)
 back_groups m s o (word keyword.Integer) b other = λ ks h. made_groups m s _ (made_group kind.Integer m (TailPart GroupsTail ∷ s) ks h)
 back_groups m s o (word keyword.Logical) b other = λ ks h. made_groups m s _ (made_group kind.Logical m (TailPart GroupsTail ∷ s) ks h)
 back_groups m s o k b other = falls GroupsPart m s o k tt b other
 
-made_variables : (k : Kind) (m : ℕ) (s : List Part) (ks : List Terminal) → Fits m (names_then (TokenPart SemicolonToken ∷ VariablesPart ∷ s)) ks → Fits m (VariablesPart ∷ s) (kind_terminal k ∷ ks)
+made_variables : (k : Kind) (m : ℕ) (s : List Part) (ks : List Terminal) → Fits m (goes_on NamesTail (TokenPart SemicolonToken ∷ VariablesPart ∷ s)) ks → Fits m (VariablesPart ∷ s) (kind_terminal k ∷ ks)
 made_variables k m s ks (n, r, p, (ns, r1, p1, (r2, p2, (ts, r3, (a, p3), h)))) = (
   group k (n ∷ ns) ∷ ts,
   r3,
@@ -429,7 +429,7 @@ made_variables k m s ks (n, r, p, (ns, r1, p1, (r2, p2, (ts, r3, (a, p3), h)))) 
 )
 
 back_variables : (m : ℕ) (s : List Part) (o : Option (List Part)) (k : Terminal) → levels s ≤ m → Leads m (λ ks. Fits m s (k ∷ ks)) o →
-    Leads m (λ ks. Fits m (VariablesPart ∷ s) (k ∷ ks)) (step_kind (names_then (TokenPart SemicolonToken ∷ VariablesPart ∷ s)) o k)
+    Leads m (λ ks. Fits m (VariablesPart ∷ s) (k ∷ ks)) (step_kind (goes_on NamesTail (TokenPart SemicolonToken ∷ VariablesPart ∷ s)) o k)
 back_variables m s o (word keyword.Integer) b other = λ ks h. made_variables kind.Integer m s ks h
 back_variables m s o (word keyword.Logical) b other = λ ks h. made_variables kind.Logical m s ks h
 back_variables m s o k b other = falls VariablesPart m s o k tt b other

@@ -1,5 +1,5 @@
 -- A list that a tree spells is read whole: declarations, instances and programs.
-use Rattle.kahn_syntax.proofs.Common.{◌≡◌, ℕ, ◌+◌, ◌≤◌, List, [], ◌∷◌, true, false, Some, ⊎_elim, refl, ap, ◌∙◌, arith, AreAny, Further, Grouped, group, IsGroup, AreGroups, Kind, Role, Taking, Terminal, word, sign, name, statements_words, ParameterTree, VariableTree, DeclarationTree, channels, process, ArgumentTree, channel, InstanceTree, instance, ProgramTree, program, kind_terminal, role_words, taking_words, names_words, further_names_words, group_words, groups_words, further_groups_words, Parameters, togethers_words, Variables, Declares, Declarations, Argues, Arguments, Instantiates, Instances, MaybeSemicolon, Spells, declaration_nesting, declarations_nesting, nesting, StandsFirst, BeginToken, ChannelToken, CloseToken, CommaToken, EndToken, NameToken, NumberToken, OpenToken, ParToken, SemicolonToken, leads, NamesTail, StatementsTail, GroupsTail, ArgumentsTail, InstancesTail, LastTail, Part, ProgramPart, DeclarationsPart, DeclarationPart, RolePart, GroupsPart, GroupPart, TakingPart, VariablesPart, StatementPart, InstancePart, ArgumentsPart, ArgumentPart, TailPart, TokenPart, names_then, channels_then, levels, step, Whole, fate, leads_kind}
+use Rattle.kahn_syntax.proofs.Common.{◌≡◌, ℕ, ◌+◌, ◌≤◌, List, [], ◌∷◌, true, false, Some, ⊎_elim, refl, ap, ◌∙◌, arith, AreAny, Further, Grouped, group, IsGroup, AreGroups, Kind, Role, Taking, Terminal, word, sign, name, statements_words, ParameterTree, VariableTree, DeclarationTree, channels, process, ArgumentTree, channel, InstanceTree, instance, ProgramTree, program, kind_terminal, role_words, taking_words, names_words, further_names_words, group_words, groups_words, further_groups_words, Parameters, togethers_words, Variables, Declares, Declarations, Argues, Arguments, Instantiates, Instances, MaybeSemicolon, Spells, declaration_nesting, declarations_nesting, nesting, StandsFirst, BeginToken, ChannelToken, CloseToken, CommaToken, EndToken, NameToken, NumberToken, OpenToken, ParToken, SemicolonToken, leads, NamesTail, StatementsTail, GroupsTail, ArgumentsTail, InstancesTail, LastTail, Part, ProgramPart, DeclarationsPart, DeclarationPart, RolePart, GroupsPart, GroupPart, TakingPart, VariablesPart, StatementPart, InstancePart, ArgumentsPart, ArgumentPart, TailPart, TokenPart, channels_then, levels, step, Whole, fate, leads_kind, goes_on}
 use Rattle.kahn_syntax.specs.declared.lexeme.Keyword.TheVariants as keyword
 use Rattle.kahn_syntax.specs.declared.lexeme.Sign.TheVariants as mark
 use Rattle.kahn_tree.specs.declared.tree.Kind.TheVariants as kind
@@ -20,7 +20,7 @@ whole_further_names (n ∷ ns) m s r h b =
     ∙ (take_token NameToken m (TailPart NamesTail ∷ s) (name n) (further_names_words ns r) refl b ∙ whole_further_names ns m s r h b)
 
 pub whole_names : (ns : List (List ℕ)) (m : ℕ) (s : List Part) (r : List Terminal) → AreAny ns → leads CommaToken r ≡ false → levels s ≤ m →
-    fate m (names_then s) (names_words ns r) ≡ fate m s r
+    fate m (goes_on NamesTail s) (names_words ns r) ≡ fate m s r
 whole_names [] m s r a h b = absurd a
 whole_names (n ∷ ns) m s r a h b = take_token NameToken m (TailPart NamesTail ∷ s) (name n) (further_names_words ns r) refl b ∙ whole_further_names ns m s r h b
 
@@ -37,11 +37,11 @@ whole_taking (taking.Channel direction.Out k) m p u x r e f b =
     take_kind k m p (TakingPart ∷ u) (word keyword.Out ∷ name x ∷ r) e f b ∙ go m (TakingPart ∷ u) u (word keyword.Out) (name x ∷ r) refl b
 whole_taking (taking.Value k) m p u x r e f b = take_kind k m p (TakingPart ∷ u) (name x ∷ r) e f b ∙ refl
 
-whole_group : (g : Grouped Taking (List ℕ)) (m : ℕ) (p s : List Part) (r : List Terminal) → step p (word keyword.Integer) ≡ Some (TakingPart ∷ names_then s) →
-    step p (word keyword.Logical) ≡ Some (TakingPart ∷ names_then s) → IsGroup g → leads CommaToken r ≡ false → levels s ≤ m → fate m p (group_words g r) ≡ fate m s r
+whole_group : (g : Grouped Taking (List ℕ)) (m : ℕ) (p s : List Part) (r : List Terminal) → step p (word keyword.Integer) ≡ Some (TakingPart ∷ goes_on NamesTail s) →
+    step p (word keyword.Logical) ≡ Some (TakingPart ∷ goes_on NamesTail s) → IsGroup g → leads CommaToken r ≡ false → levels s ≤ m → fate m p (group_words g r) ≡ fate m s r
 whole_group (group t []) m p s r e f a h b = absurd a
 whole_group (group t (n ∷ ns)) m p s r e f a h b =
-    whole_taking t m p (names_then s) n (further_names_words ns r) e f b ∙ whole_names (n ∷ ns) m s r tt h b
+    whole_taking t m p (goes_on NamesTail s) n (further_names_words ns r) e f b ∙ whole_names (n ∷ ns) m s r tt h b
 
 whole_further_groups : (gs : List (Grouped Taking (List ℕ))) (m : ℕ) (s : List Part) (x : List Terminal) → AreGroups gs → levels s ≤ m →
     fate m (TailPart GroupsTail ∷ s) (further_groups_words gs (sign mark.Close ∷ x)) ≡ fate m s (sign mark.Close ∷ x)
@@ -71,7 +71,7 @@ whole_togethers : (ts : List (Grouped Kind (List ℕ))) (m : ℕ) (s : List Part
     fate m (VariablesPart ∷ s) (togethers_words ts r) ≡ fate m s r
 whole_togethers [] m s r a h b = skip_variables m s r h
 whole_togethers (group k ns ∷ ts) m s r a h b =
-    take_kind k m (VariablesPart ∷ s) (names_then (TokenPart SemicolonToken ∷ VariablesPart ∷ s)) (names_words ns (sign mark.Semicolon ∷ togethers_words ts r)) refl refl b
+    take_kind k m (VariablesPart ∷ s) (goes_on NamesTail (TokenPart SemicolonToken ∷ VariablesPart ∷ s)) (names_words ns (sign mark.Semicolon ∷ togethers_words ts r)) refl refl b
     ∙ (whole_names ns m (TokenPart SemicolonToken ∷ VariablesPart ∷ s) (sign mark.Semicolon ∷ togethers_words ts r) a.0 refl b
     ∙ (take_token SemicolonToken m (VariablesPart ∷ s) (sign mark.Semicolon) (togethers_words ts r) refl b ∙ whole_togethers ts m s r a.1 h b))
 
@@ -96,8 +96,8 @@ whole_declares (channels k o ns) m s ks x (a, e) b =
     let c : levels s ≤ m = omega (arith, b) in
     ap (fate m (DeclarationPart ∷ s)) e
     ∙ (take_kind k m (DeclarationPart ∷ s) (channels_then s) (role_words o (word keyword.Channel ∷ names_words ns (sign mark.Semicolon ∷ x))) refl refl c
-    ∙ (whole_role o m (TokenPart ChannelToken ∷ names_then s) (names_words ns (sign mark.Semicolon ∷ x)) c
-    ∙ (take_token ChannelToken m (names_then s) (word keyword.Channel) (names_words ns (sign mark.Semicolon ∷ x)) refl c
+    ∙ (whole_role o m (TokenPart ChannelToken ∷ goes_on NamesTail s) (names_words ns (sign mark.Semicolon ∷ x)) c
+    ∙ (take_token ChannelToken m (goes_on NamesTail s) (word keyword.Channel) (names_words ns (sign mark.Semicolon ∷ x)) refl c
     ∙ whole_names ns m s (sign mark.Semicolon ∷ x) a refl c)))
 whole_declares (process n ps vs body) m s ks x (a, b, e, p, v, some, f) bound =
     let c : levels s ≤ m = omega (arith, bound) in

@@ -171,10 +171,6 @@ goes_on InstancesTail s = InstancePart ∷ TailPart InstancesTail ∷ s
 goes_on ElseTail s = StatementPart ∷ s
 goes_on LastTail s = s
 
--- names with commas between
-abbrev pub names_then : List Part → List Part
-names_then s = TokenPart NameToken ∷ TailPart NamesTail ∷ s
-
 abbrev pub step_factor : List Part → Terminal → Option (List Part)
 step_factor s (number z) = Some s
 step_factor s (word keyword.True) = Some s

@@ -1,4 +1,4 @@
-use Rattle.kahn_syntax.proofs.Common.{◌≤◌, ◌<◌, ◌+◌, ◌*◌, List, [], ◌∷◌, length, max, Lexeme, ExpressionSpans, OperandsSpan, AreProper, expression_nesting, operands_nesting, FormedOperands, expression_of, operands_of, rank_of, Moves, rung_of, ExpressionPart, OperatorsPart}
+use Rattle.kahn_syntax.proofs.Common.{◌≤◌, ◌<◌, ◌+◌, ◌*◌, List, [], ◌∷◌, length, max, Lexeme, ExpressionSpans, OperandsSpan, AreProper, expression_nesting, operands_nesting, FormedOperands, expression_of, operands_of, Moves, rung_of, ExpressionPart, OperatorsPart, at}
 use Rattle.kahn_syntax.proofs.Levels.{height}
 use Rattle.kahn_syntax.proofs.parser.expression.+expression.Given as goal
 
@@ -26,7 +26,7 @@ decreases-read_relation l = 12 * length l.input.now + 5
 abbrev pub invariant-read_level-operands : goal.invariant-read_level-operands
 invariant-read_level-operands l = record {
   spans : (a : List Lexeme) × ExpressionSpans l.text l.first.value l.input a × OperandsSpan l.text l.further.items a l.rest;
-  formed : FormedOperands (rank_of l.level) (operands_of l.further.items);
+  formed : FormedOperands (at (rung_of l.level)) (operands_of l.further.items);
   nesting : l.depth + max (expression_nesting (expression_of l.first.value)) (operands_nesting (operands_of l.further.items)) ≤ 64;
   shorter : length l.rest < length l.input;
   proper : AreProper l.text l.rest;

@@ -2,12 +2,11 @@ use Rattle.kahn_syntax.proofs.Common.{rules, ◌≡◌, false, refl, sym, subst,
 use Rattle.kahn_syntax.specs.declared.lexeme.Keyword.TheVariants as keyword
 use Rattle.kahn_syntax.specs.declared.lexeme.Sign.TheVariants as mark
 use Rattle.kahn_syntax.specs.declared.lexeme.Class.TheVariants as class
-use Rattle.kahn_syntax.proofs.Moves.{leads_statement, opens_simple, leads_simple, simple_ends, opened_simple, then, then_stops, call, call_stops, call_two, call_two_stops, one, deep, expected, goes, level_ends, unexpected, ends, next_member, last_member}
+use Rattle.kahn_syntax.proofs.Moves.{leads_statement, opens_simple, leads_simple, simple_ends, opened_simple, then, then_stops, call, call_stops, call_two, call_two_stops, one, deep, expected, level_ends, unexpected, ends, next_member, last_member}
 use Rattle.kahn_syntax.proofs.Lists.{first_of}
 use Rattle.kahn_syntax.proofs.Spanning as S
 use Rattle.kahn_syntax.proofs.Spanning.{SomeStatements}
 use Rattle.kahn_syntax.proofs.Stacks as K
-use Rattle.kahn_syntax.proofs.Spelled.{statements_spelled}
 use Rattle.kahn_syntax.proofs.Statements.{formed_next, some_next, nesting_next}
 use Rattle.kahn_syntax.proofs.parser.statement.+statement.Goals as goal
 
@@ -317,7 +316,6 @@ read_statements-returns-in_default t c =
     let a = c.in_ok-statement.after.now in
     let s = S.some_between (Takes T (sign mark.Semicolon)) (StatementSpans T) _ i a (subst (λ ss. SomeStatements T ss i a) (sym c.in_ok-push.ensures.items) (c.statements.invariant.spans c.in_ok-statement.statement a c.in_ok-statement.ensures.spans)) in
     record {
-      words = statements_spelled T _ i a s;
       spans = s;
       formed = formed_next _ _ _ c.in_ok-push.ensures.items c.statements.invariant.formed c.in_ok-statement.ensures.formed;
       some = some_next _ _ _ c.in_ok-push.ensures.items;
