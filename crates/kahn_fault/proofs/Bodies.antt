@@ -21,8 +21,11 @@ use Rattle.kahn_syntax.specs.declared.lexeme.Lexeme.{Lexeme}
 use Rattle.kahn_syntax.specs.Lexemes.{HasBytes, HasForm, Lexed, bytes_of_sign}
 use Rattle.kahn_syntax.specs.declared.fault.SyntaxFault.{SyntaxFault}
 use Rattle.kahn_syntax.specs.Terminals.{Terminal}
+use Rattle.kahn_syntax.specs.Terminals as terminal
+use Rattle.kahn_syntax.specs.declared.lexeme.Sign.TheVariants as mark
 use Rattle.kahn_syntax.specs.Faults.{Placed}
-use Rattle.kahn_syntax.specs.Spans.{Takes, Covers, NameSpans, FormSpans, OperandRowSpans, ExpressionSpans, ActionSpans, OtherSpans, StatementRowSpans, FurtherRowSpans, StatementsSpan, FurtherStatementsSpan}
+use Rattle.kahn_syntax.specs.Spans.{Takes, Covers, NameSpans, FormSpans, OperandRowSpans, ExpressionSpans, ActionSpans, OtherSpans, StatementRowSpans, FurtherRowSpans, StatementsSpan, StatementSpans}
+use Rattle.kahn_syntax.specs.Lists.{Further}
 use Rattle.kahn_check.specs.declared.fault.CheckFault.{CheckFault}
 use Rattle.kahn_check.specs.Faults.{find, wrong, misread, misused, kind_in, kind_of, wrong_first, wrong_second, spanning, faults_in, level_faults, faults_as, faults_of, row_faults, else_faults, body_faults}
 use Rattle.kahn_fault.specs.Message.{check_span, syntax_span}
@@ -232,7 +235,7 @@ mutual
       let j = further_in text rest b r k i.0 in
       (j.0, λ s. both text (faults_of s x) _ (i.1 s) (j.1 s))
 
-pub more_in : (text : List ℕ) (ss : List Statement) (xs r : List Lexeme) → FurtherStatementsSpan text ss xs r → AllIn text xs →
+pub more_in : (text : List ℕ) (ss : List Statement) (xs r : List Lexeme) → Further (Takes text (terminal.sign mark.Semicolon)) (StatementSpans text) ss xs r → AllIn text xs →
     AllIn text r × ((s : Scope) → ArePlaces text (body_faults s ss))
 more_in text [] xs r e all = (subst (AllIn text) e all, λ s. tt)
 more_in text (t ∷ ss) xs r (a, b, semicolon, (m, h), k) all =

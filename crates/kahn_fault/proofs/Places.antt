@@ -30,8 +30,12 @@ use Rattle.kahn_syntax.specs.declared.fault.SyntaxFault.{SyntaxFault}
 use Rattle.kahn_syntax.specs.declared.fault.SyntaxFault.TheVariants as syntax
 use Rattle.kahn_syntax.specs.declared.fault.What.TheVariants as what
 use Rattle.kahn_syntax.specs.Terminals.{Terminal}
+use Rattle.kahn_syntax.specs.Terminals as terminal
+use Rattle.kahn_syntax.specs.declared.lexeme.Keyword.TheVariants as keyword
+use Rattle.kahn_syntax.specs.declared.lexeme.Sign.TheVariants as mark
 use Rattle.kahn_syntax.specs.Faults.{IsFault, IsNothing, IsOther, IsTooDeep, StandsAt}
-use Rattle.kahn_syntax.specs.Spans.{NamesSpan, FurtherNamesSpan, NamedGroup, group, NamedTogether, together, FurtherGroupsSpan, GroupsSpan, TogethersSpan, parameter_of, all_parameters, variable_of, all_variables, RoleSpans, DirectionSpans, DeclarationsSpan, ArgumentSpans, ArgumentsSpan, FurtherArgumentsSpan, InstanceSpans, InstancesSpan, FurtherInstancesSpan, ProcessSpans}
+use Rattle.kahn_syntax.specs.Spans.{NamesSpan, GroupsSpan, TogethersSpan, parameter_of, variable_of, RoleSpans, DirectionSpans, DeclarationsSpan, ArgumentSpans, ArgumentsSpan, InstanceSpans, InstancesSpan, ProcessSpans, Takes, NameSpans, GroupSpans}
+use Rattle.kahn_syntax.specs.Lists.{Further, Grouped, group, all_members}
 use Rattle.kahn_syntax.specs.Texts.{IsProgram, IsTextFault}
 use Rattle.kahn_check.specs.declared.fault.CheckFault.{CheckFault}
 use Rattle.kahn_check.specs.declared.fault.CheckFault.TheVariants as checked
@@ -58,7 +62,7 @@ named_both : {A : Type 0} (text : List ℕ) (es gs : List (Name × A)) → AreNa
 named_both text [] gs h k = k
 named_both text (e ∷ es) gs (l, h) k = (l, named_both text es gs h k)
 
-further_names : (text : List ℕ) (ns : List Name) (xs r : List Lexeme) → FurtherNamesSpan text ns xs r → AllIn text xs → AllIn text r × AreNames text ns
+further_names : (text : List ℕ) (ns : List Name) (xs r : List Lexeme) → Further (Takes text (terminal.sign mark.Comma)) (NameSpans text) ns xs r → AllIn text xs → AllIn text r × AreNames text ns
 further_names text [] xs r e all = (subst (AllIn text) e all, tt)
 further_names text (n ∷ ns) xs r (a, b, comma, name, k) all =
     let i = named text n a b name (past text _ xs a comma all) in
@@ -105,29 +109,29 @@ direction_past text (T.Channel In k) xs r h all = past text _ xs r h all
 direction_past text (T.Channel Out k) xs r h all = past text _ xs r h all
 direction_past text (T.Value k) xs r e all = subst (AllIn text) e all
 
-further_groups : (text : List ℕ) (gs : List NamedGroup) (xs r : List Lexeme) → FurtherGroupsSpan text gs xs r → AllIn text xs →
-    AllIn text r × AreNamed text (map as_local (all_parameters gs))
+further_groups : (text : List ℕ) (gs : List (Grouped Taking Name)) (xs r : List Lexeme) → Further (Takes text (terminal.sign mark.Semicolon)) (GroupSpans text) gs xs r → AllIn text xs →
+    AllIn text r × AreNamed text (map as_local (all_members parameter_of gs))
 further_groups text [] xs r e all = (subst (AllIn text) e all, tt)
 further_groups text (group t ns ∷ gs) xs r (a, b, semicolon, (c, d, kind, direction, names), k) all =
     let i = names_in text ns d b names (direction_past text t c d direction (past text _ a c kind (past text _ xs a semicolon all))) in
     let j = further_groups text gs b r k i.0 in
-    (j.0, group_named text t ns (all_parameters gs) i.1 j.1)
+    (j.0, group_named text t ns (all_members parameter_of gs) i.1 j.1)
 
-groups_in : (text : List ℕ) (gs : List NamedGroup) (xs r : List Lexeme) → GroupsSpan text gs xs r → AllIn text xs →
-    AllIn text r × AreNamed text (map as_local (all_parameters gs))
+groups_in : (text : List ℕ) (gs : List (Grouped Taking Name)) (xs r : List Lexeme) → GroupsSpan text gs xs r → AllIn text xs →
+    AllIn text r × AreNamed text (map as_local (all_members parameter_of gs))
 groups_in text [] xs r e all = (subst (AllIn text) e all, tt)
 groups_in text (group t ns ∷ gs) xs r (a, (c, d, kind, direction, names), k) all =
     let i = names_in text ns d a names (direction_past text t c d direction (past text _ xs c kind all)) in
     let j = further_groups text gs a r k i.0 in
-    (j.0, group_named text t ns (all_parameters gs) i.1 j.1)
+    (j.0, group_named text t ns (all_members parameter_of gs) i.1 j.1)
 
-togethers_in : (text : List ℕ) (ts : List NamedTogether) (xs r : List Lexeme) → TogethersSpan text ts xs r → AllIn text xs →
-    AllIn text r × AreNamed text (map as_value (all_variables ts))
+togethers_in : (text : List ℕ) (ts : List (Grouped Kind Name)) (xs r : List Lexeme) → TogethersSpan text ts xs r → AllIn text xs →
+    AllIn text r × AreNamed text (map as_value (all_members variable_of ts))
 togethers_in text [] xs r e all = (subst (AllIn text) e all, tt)
-togethers_in text (together t ns ∷ ts) xs r (a, (c, d, kind, names, semicolon), k) all =
+togethers_in text (group t ns ∷ ts) xs r (a, (c, d, kind, names, semicolon), k) all =
     let i = names_in text ns c d names (past text _ xs c kind all) in
     let j = togethers_in text ts a r k (past text _ d a semicolon i.0) in
-    (j.0, together_named text t ns (all_variables ts) i.1 j.1)
+    (j.0, together_named text t ns (all_members variable_of ts) i.1 j.1)
 
 process_in : (text : List ℕ) (p : Process) (xs r : List Lexeme) → ProcessSpans text p xs r → AllIn text xs →
     AllIn text r × LiesIn text p.name.span × ArePlaces text (process_faults p)
@@ -201,7 +205,7 @@ argument_in text (A.Number z at) xs r (c, inl h) all = (past text _ xs r h all, 
 argument_in text (A.Number z at) xs r (c, inr (n, a, e, minus, h)) all = (past text _ a r h (past text _ xs a minus all), covers text at xs r c all)
 argument_in text (A.Logical b at) xs r (c, h) all = (past text _ xs r h all, covers text at xs r c all)
 
-further_arguments : (text : List ℕ) (ys : List Argument) (xs r : List Lexeme) → FurtherArgumentsSpan text ys xs r → AllIn text xs → AllIn text r × AreArguments text ys
+further_arguments : (text : List ℕ) (ys : List Argument) (xs r : List Lexeme) → Further (Takes text (terminal.sign mark.Comma)) (ArgumentSpans text) ys xs r → AllIn text xs → AllIn text r × AreArguments text ys
 further_arguments text [] xs r e all = (subst (AllIn text) e all, tt)
 further_arguments text (y ∷ ys) xs r (a, b, comma, h, k) all =
     let i = argument_in text y a b h (past text _ xs a comma all) in
@@ -266,7 +270,7 @@ instance_in text x xs r (a, b, c, name, open', h, close) all =
     let j = arguments_in text x.arguments.items b c h (past text _ a b open' i.1) in
     (past text _ c r close j.0, (i.0, j.1))
 
-further_instances : (text : List ℕ) (ys : List Instance) (xs r : List Lexeme) → FurtherInstancesSpan text ys xs r → AllIn text xs → AllIn text r × AreInstances text ys
+further_instances : (text : List ℕ) (ys : List Instance) (xs r : List Lexeme) → Further (Takes text (terminal.word keyword.Par)) (InstanceSpans text) ys xs r → AllIn text xs → AllIn text r × AreInstances text ys
 further_instances text [] xs r e all = (subst (AllIn text) e all, tt)
 further_instances text (y ∷ ys) xs r (a, b, par, h, k) all =
     let i = instance_in text y a b h (past text _ xs a par all) in

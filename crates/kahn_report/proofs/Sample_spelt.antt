@@ -4,6 +4,8 @@ use Rattle.kahn_tree.specs.declared.tree.Kind.TheVariants as kind
 use Rattle.kahn_tree.specs.declared.tree.Role.TheVariants as role
 use Rattle.kahn_tree.specs.declared.tree.Direction.TheVariants as direction
 use Rattle.kahn_tree.specs.declared.tree.Taking.TheVariants as taking
+use Rattle.kahn_tree.specs.declared.tree.Kind.{Kind}
+use Rattle.kahn_tree.specs.declared.tree.Taking.{Taking}
 use Rattle.kahn_tree.specs.declared.tree.Program.{Program}
 use Rattle.kahn_network.specs.Network.{network_of}
 use Rattle.kahn_syntax.specs.Drawn.{program_of}
@@ -13,7 +15,8 @@ use Rattle.kahn_syntax.specs.Terminals.{Terminal, word, sign, name, number, term
 use Rattle.kahn_syntax.specs.Texts.{IsProgram}
 use Rattle.kahn_syntax.specs.Trees.{truth, variable, wait, denial, bracket, conditional, empty, assign, send, print, block, if_else, repeat, StatementTrees, no_statement, statement, statements_words, AreSome, FormedStatements}
 use Rattle.kahn_syntax.specs.Programs as whole
-use Rattle.kahn_syntax.specs.Programs.{ParameterTree, VariableTree, DeclarationTree, InstanceTree, ProgramTree, ArgumentTree, GroupTree, TogetherTree, group, together, groups_parameters, groups_words, togethers_variables, togethers_words, AreGroups, AreTogether, Spells, Declares, Argues, Instantiates, Instances, names_words}
+use Rattle.kahn_syntax.specs.Programs.{ParameterTree, VariableTree, DeclarationTree, InstanceTree, ProgramTree, ArgumentTree, groups_words, togethers_words, Spells, Declares, Argues, Instantiates, Instances, names_words}
+use Rattle.kahn_syntax.specs.Lists.{Grouped, group, all_members, AreGroups}
 use Rattle.kahn_syntax.proofs.OneTree.{one_tree}
 use Rattle.kahn_syntax.proofs.OneList.{same_lexemes}
 use Rattle.kahn_streams.specs.Sample.{sample_network}
@@ -74,8 +77,8 @@ sample_is = refl
 
 -- ---- the tree spells the words
 
-process_spelled : (n : List ℕ) (gs : List GroupTree) (ts : List TogetherTree) (body : StatementTrees) (r : List Terminal) → AreGroups gs → AreTogether ts → AreSome body → FormedStatements body →
-    Declares (whole.process n (groups_parameters gs) (togethers_variables ts) body)
+process_spelled : (n : List ℕ) (gs : List (Grouped Taking (List ℕ))) (ts : List (Grouped Kind (List ℕ))) (body : StatementTrees) (r : List Terminal) → AreGroups gs → AreGroups ts → AreSome body → FormedStatements body →
+    Declares (whole.process n (all_members whole.parameter gs) (all_members whole.variable ts) body)
     (word keyword.Process ∷ name n ∷ sign mark.Open ∷ groups_words gs (sign mark.Close ∷ sign mark.Semicolon ∷ word keyword.Begin ∷ togethers_words ts (statements_words body (word keyword.End ∷ r)))) r
 process_spelled n gs ts body r groups togethers some formed = (
   groups_words gs (sign mark.Close ∷ sign mark.Semicolon ∷ word keyword.Begin ∷ togethers_words ts (statements_words body (word keyword.End ∷ r))),
@@ -91,7 +94,7 @@ f_spelled : (r : List Terminal) → Declares f_tree (f_words r) (sign mark.Semic
 f_spelled r =
     process_spelled (codes "f")
     (group (taking.Channel direction.In kind.Integer) (codes "U" ∷ codes "V" ∷ []) ∷ group (taking.Channel direction.Out kind.Integer) (codes "W" ∷ []) ∷ [])
-    (together kind.Integer (codes "I" ∷ []) ∷ together kind.Logical (codes "B" ∷ []) ∷ [])
+    (group kind.Integer (codes "I" ∷ []) ∷ group kind.Logical (codes "B" ∷ []) ∷ [])
     (begun (statement (assign (codes "I") (conditional (variable (codes "B")) (wait (codes "U")) (wait (codes "V"))))
     (statement (print (bracket (variable (codes "I")))) (statement (send (variable (codes "I")) (codes "W")) last_turn))))
     (sign mark.Semicolon ∷ r) (tt, (tt, tt)) (tt, (tt, tt)) tt
@@ -101,7 +104,7 @@ g_spelled : (r : List Terminal) → Declares g_tree (g_words r) (sign mark.Semic
 g_spelled r =
     process_spelled (codes "g")
     (group (taking.Channel direction.In kind.Integer) (codes "U" ∷ []) ∷ group (taking.Channel direction.Out kind.Integer) (codes "V" ∷ codes "W" ∷ []) ∷ [])
-    (together kind.Integer (codes "I" ∷ []) ∷ together kind.Logical (codes "B" ∷ []) ∷ [])
+    (group kind.Integer (codes "I" ∷ []) ∷ group kind.Logical (codes "B" ∷ []) ∷ [])
     (begun (statement (assign (codes "I") (wait (codes "U")))
     (statement (if_else (variable (codes "B")) (send (variable (codes "I")) (codes "V")) (send (variable (codes "I")) (codes "W"))) last_turn)))
     (sign mark.Semicolon ∷ r) (tt, (tt, tt)) (tt, (tt, tt)) tt
@@ -111,7 +114,7 @@ h_spelled : (r : List Terminal) → Declares h_tree (h_words r) (sign mark.Semic
 h_spelled r =
     process_spelled (codes "h")
     (group (taking.Channel direction.In kind.Integer) (codes "U" ∷ []) ∷ group (taking.Channel direction.Out kind.Integer) (codes "V" ∷ []) ∷ group (taking.Value kind.Integer) (codes "INIT" ∷ []) ∷ [])
-    (together kind.Integer (codes "I" ∷ []) ∷ [])
+    (group kind.Integer (codes "I" ∷ []) ∷ [])
     (statement (send (variable (codes "INIT")) (codes "V"))
     (statement (repeat (block (statement (assign (codes "I") (wait (codes "U"))) (statement (send (variable (codes "I")) (codes "V")) (statement empty no_statement)))))
     (statement empty no_statement)))

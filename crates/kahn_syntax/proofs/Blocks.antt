@@ -1,9 +1,7 @@
 -- No two trees spell one list: statements.
-use Rattle.std.proofs.Common.{◌≡◌, List, [], ◌∷◌, refl, sym, ap, subst, arith}
+use Rattle.kahn_syntax.proofs.Common.{◌≡◌, List, [], ◌∷◌, refl, sym, ap, subst, arith, Terminal, word, sign, name, StatementTree, empty, assign, send, print, block, if_then, if_else, while_do, repeat, StatementTrees, no_statement, statement, statement_words, statements_words, further_words, FormedStatement, FormedStatements, IsSimple, AreSome}
 use Rattle.kahn_syntax.specs.declared.lexeme.Keyword.TheVariants as keyword
 use Rattle.kahn_syntax.specs.declared.lexeme.Sign.TheVariants as mark
-use Rattle.kahn_syntax.specs.Terminals.{Terminal, word, sign, name}
-use Rattle.kahn_syntax.specs.Trees.{StatementTree, empty, assign, send, print, block, if_then, if_else, while_do, repeat, StatementTrees, no_statement, statement, statement_words, statements_words, further_words, FormedStatement, FormedStatements, IsSimple, AreSome}
 use Rattle.kahn_syntax.proofs.Unique.{Ends, same_expression, tail_is}
 
 -- what may follow a statement that `else` may follow
@@ -41,26 +39,18 @@ statement_simple (word keyword.End ∷ r) h = tt
 statement_simple (_ ∷ r) h = absurd h
 
 pub statement_after : (t : StatementTree) (r : List Terminal) → EndsStatement r → EndsAfter t r
-statement_after empty r h = statement_simple r h
-statement_after (assign n e) r h = statement_simple r h
-statement_after (send e n) r h = statement_simple r h
-statement_after (print e) r h = statement_simple r h
-statement_after (block ss) r h = statement_simple r h
 statement_after (if_then t a) r h = h
 statement_after (if_else t a b) r h = h
 statement_after (while_do t a) r h = h
 statement_after (repeat a) r h = h
+statement_after _ r h = statement_simple r h
 
 pub simple_after : (t : StatementTree) (r : List Terminal) → IsSimple t → EndsSimple r → EndsAfter t r
-simple_after empty r s h = h
-simple_after (assign n e) r s h = h
-simple_after (send e n) r s h = h
-simple_after (print e) r s h = h
-simple_after (block ss) r s h = h
 simple_after (if_then t a) r s h = absurd s
 simple_after (if_else t a b) r s h = absurd s
 simple_after (while_do t a) r s h = absurd s
 simple_after (repeat a) r s h = absurd s
+simple_after _ r s h = h
 
 pub no_more : (ss : StatementTrees) (r : List Terminal) → EndsStatement r → EndsStatement (further_words ss r)
 no_more no_statement r h = h
@@ -93,22 +83,8 @@ mutual
   same_statement : (t u : StatementTree) (r q : List Terminal) → FormedStatement t → FormedStatement u → EndsAfter t r → EndsAfter u q →
       statement_words t r ≡ statement_words u q → SameStatement t u r q
   same_statement empty empty r q f g x y e = (refl, e)
-  same_statement empty (assign n v) r q f g x y e = absurd (starts _ _ r x e)
-  same_statement empty (send v n) r q f g x y e = absurd (starts _ _ r x e)
-  same_statement empty (print v) r q f g x y e = absurd (starts _ _ r x e)
-  same_statement empty (block ss) r q f g x y e = absurd (starts _ _ r x e)
-  same_statement empty (if_then c a) r q f g x y e = absurd (starts _ _ r x e)
-  same_statement empty (if_else c a b) r q f g x y e = absurd (starts _ _ r x e)
-  same_statement empty (while_do c a) r q f g x y e = absurd (starts _ _ r x e)
-  same_statement empty (repeat a) r q f g x y e = absurd (starts _ _ r x e)
-  same_statement (assign n v) empty r q f g x y e = absurd (starts _ _ q y (sym e))
-  same_statement (send v n) empty r q f g x y e = absurd (starts _ _ q y (sym e))
-  same_statement (print v) empty r q f g x y e = absurd (starts _ _ q y (sym e))
-  same_statement (block ss) empty r q f g x y e = absurd (starts _ _ q y (sym e))
-  same_statement (if_then c a) empty r q f g x y e = absurd (starts _ _ q y (sym e))
-  same_statement (if_else c a b) empty r q f g x y e = absurd (starts _ _ q y (sym e))
-  same_statement (while_do c a) empty r q f g x y e = absurd (starts _ _ q y (sym e))
-  same_statement (repeat a) empty r q f g x y e = absurd (starts _ _ q y (sym e))
+  same_statement empty _ r q f g x y e = absurd (starts _ _ r x e)
+  same_statement _ empty r q f g x y e = absurd (starts _ _ q y (sym e))
   same_statement (assign n v) (assign m w) r q f g x y e =
       let z = same_expression v w r q f g (simple_expression r x) (simple_expression q y) (tail_is _ _ _ _ (tail_is _ _ _ _ e)) in (cc, z.1)
   same_statement (send v n) (send w m) r q f g x y e =

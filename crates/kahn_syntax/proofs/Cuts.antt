@@ -1,19 +1,8 @@
 -- Where a text may be cut: behind blanks, comments and lexemes.
-use Rattle.std.proofs.Common.{◌≡◌, ℕ, suc, ◌+◌, ◌-◌, ◌≤◌, ◌<◌, ◌⊎◌, ◌++◌, List, [], ◌∷◌, length, get_or, drop, refl, sym, ap, subst, ◌∙◌, arith, inl, inr, add-one}
-use Rattle.std.specs.Prelude.{IsUtf8, IsCharBoundary, All}
-use Rattle.std.proofs.Math.Seq.{drop-cons}
+use Rattle.kahn_syntax.proofs.Common.{◌≡◌, ℕ, suc, ◌+◌, ◌-◌, ◌≤◌, ◌<◌, ◌⊎◌, ◌++◌, List, [], ◌∷◌, length, get_or, drop, refl, sym, ap, subst, ◌∙◌, arith, inl, inr, add-one, IsUtf8, IsCharBoundary, All, drop-cons, get_or_past, IsUtf8-drop, IsCharBoundary-after_ascii, IsCharBoundary-past_char, nat_tests, All-nil, All-cons, Lexeme, Class, Sign, Becomes, Unequal, AtMost, AtLeast, Not, IsBlank, IsLetter, IsWordByte, IsWord, IsRun, IsSign, IsOfClass, IsSlice, Stands, Gap, no_gap, then_blank, then_comment, Lexed}
 use Rattle.std.proofs.Math.Utf8.{encode}
-use Rattle.std.proofs.lemmas.List.{get_or_past}
-use Rattle.std.proofs.lemmas.Str.{IsUtf8-drop, IsCharBoundary-after_ascii, IsCharBoundary-past_char}
-use Rattle.std.proofs.lemmas.Bool.Decides.{nat_tests}
-use Rattle.std.proofs.lemmas.List.Elements.{All-nil, All-cons}
 use Rattle.kahn_syntax.proofs.OneList.{form_grows}
-use Rattle.kahn_syntax.specs.declared.lexeme.Lexeme.{Lexeme}
-use Rattle.kahn_syntax.specs.declared.lexeme.Class.{Class}
 use Rattle.kahn_syntax.specs.declared.lexeme.Class.TheVariants as class
-use Rattle.kahn_syntax.specs.declared.lexeme.Sign.{Sign}
-use Rattle.kahn_syntax.specs.declared.lexeme.Sign.TheVariants.{Becomes, Open, Close, Comma, Semicolon, Plus, Minus, Times, Equal, Unequal, Less, AtMost, Greater, AtLeast, Not}
-use Rattle.kahn_syntax.specs.Lexemes.{IsBlank, IsLetter, IsWordByte, IsWord, IsRun, IsSign, IsOfClass, IsSlice, Stands, Gap, no_gap, then_blank, then_comment, Lexed}
 
 -- behind an ASCII byte
 pub cut_after : (text : List ℕ) (i b : ℕ) → IsUtf8 text → i + 1 ≡ b → i < length text → get_or text i 0 < 128 → IsCharBoundary text b
@@ -63,28 +52,18 @@ not_cut text a utf8 cut inside first second =
 -- behind a sign
 sign_cut : (text : List ℕ) (s : Sign) (a b : ℕ) → IsUtf8 text → IsCharBoundary text a → b ≤ length text → IsSign text s a b → IsCharBoundary text b
 sign_cut text Becomes a b utf8 cut inside h = cut_after text (a + 1) b utf8 (omega arith) (omega arith) (omega arith)
-sign_cut text Open a b utf8 cut inside h = cut_after text a b utf8 (omega arith) (omega arith) (omega arith)
-sign_cut text Close a b utf8 cut inside h = cut_after text a b utf8 (omega arith) (omega arith) (omega arith)
-sign_cut text Comma a b utf8 cut inside h = cut_after text a b utf8 (omega arith) (omega arith) (omega arith)
-sign_cut text Semicolon a b utf8 cut inside h = cut_after text a b utf8 (omega arith) (omega arith) (omega arith)
-sign_cut text Plus a b utf8 cut inside h = cut_after text a b utf8 (omega arith) (omega arith) (omega arith)
-sign_cut text Minus a b utf8 cut inside h = cut_after text a b utf8 (omega arith) (omega arith) (omega arith)
-sign_cut text Times a b utf8 cut inside h = cut_after text a b utf8 (omega arith) (omega arith) (omega arith)
-sign_cut text Equal a b utf8 cut inside h = cut_after text a b utf8 (omega arith) (omega arith) (omega arith)
 sign_cut text Unequal a b utf8 cut inside h = cut_after text (a + 1) b utf8 (omega arith) (omega arith) (omega arith)
-sign_cut text Less a b utf8 cut inside h = cut_after text a b utf8 (omega arith) (omega arith) (omega arith)
 sign_cut text AtMost a b utf8 cut inside h = cut_after text (a + 1) b utf8 (omega arith) (omega arith) (omega arith)
-sign_cut text Greater a b utf8 cut inside h = cut_after text a b utf8 (omega arith) (omega arith) (omega arith)
 sign_cut text AtLeast a b utf8 cut inside h = cut_after text (a + 1) b utf8 (omega arith) (omega arith) (omega arith)
 sign_cut text Not a b utf8 cut inside h =
     let e : a + 2 ≡ b = omega arith in
     subst (IsCharBoundary text) e (not_cut text a utf8 cut (omega arith) h.0 h.1.0)
+sign_cut text _ a b utf8 cut inside h = cut_after text a b utf8 (omega arith) (omega arith) (omega arith)
 
 class_cut : (text : List ℕ) (u : Class) (a b : ℕ) → IsUtf8 text → IsCharBoundary text a → b ≤ length text → IsOfClass text u a b → IsCharBoundary text b
-class_cut text (class.Word k) a b utf8 cut inside h = word_cut text a b utf8 inside h.0
-class_cut text class.Name a b utf8 cut inside h = word_cut text a b utf8 inside h.0
 class_cut text (class.Number n) a b utf8 cut inside h = run_cut text a b utf8 inside h.0
 class_cut text (class.Sign s) a b utf8 cut inside h = sign_cut text s a b utf8 cut inside h
+class_cut text _ a b utf8 cut inside h = word_cut text a b utf8 inside h.0
 
 -- behind a lexeme
 pub lexeme_cut : (text : List ℕ) (x : Lexeme) → IsUtf8 text → IsCharBoundary text x.span.from → Stands text x → IsCharBoundary text x.span.to

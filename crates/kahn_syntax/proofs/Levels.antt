@@ -1,14 +1,6 @@
 -- Operators of one level with their operands, read one after another.
-use Rattle.std.proofs.Common.{◌≡◌, ℕ, ◌+◌, ◌≤◌, ◌<◌, ◌≢◌, max, List, [], ◌∷◌, ◌++◌, refl, sym, ap, ◌∙◌, subst, arith}
-use Rattle.kahn_tree.specs.declared.tree.Operand.{Operand}
-use Rattle.kahn_syntax.specs.declared.parser.operator.Level.{Level}
-use Rattle.kahn_syntax.specs.declared.parser.operator.Level.TheVariants.{Or, And, Sum, Term}
-use Rattle.kahn_tree.specs.declared.tree.Operator.{Operator}
-use Rattle.kahn_syntax.specs.Terminals.{Terminal}
-use Rattle.kahn_syntax.specs.inner.Rungs.{at, tighter, rung_of}
-use Rattle.kahn_syntax.specs.Trees.{ExpressionTree, level, OperandTrees, no_operand, operand, expression_words, operands_words, expression_nesting, operands_nesting, rank, FormedOperands}
-use Rattle.kahn_syntax.specs.Drawn.{expression_of, operands_of}
-use Rattle.kahn_syntax.specs.inner.Reads.{Fits, joined, rank_of}
+use Rattle.kahn_syntax.proofs.Common.{◌≡◌, ℕ, ◌+◌, ◌≤◌, ◌<◌, ◌≢◌, max, List, [], ◌∷◌, ◌++◌, refl, sym, ap, ◌∙◌, subst, arith, Operand, Level, Or, Sum, Term, Operator, Terminal, at, tighter, rung_of, ExpressionTree, level, OperandTrees, no_operand, operand, expression_words, operands_words, expression_nesting, operands_nesting, rank, FormedOperands, expression_of, operands_of, Fits, joined}
+use Rattle.kahn_syntax.specs.declared.parser.operator.Level.TheVariants.{And}
 
 -- how many functions are called below an operand of this level before a lexeme is read
 abbrev pub height : Level → ℕ
@@ -35,15 +27,13 @@ formed_more : (n : ℕ) (os : List Operand) (o : Operand) → FormedOperands n (
 formed_more n [] o h r f = (r, omega (arith, f.0), f.1, tt)
 formed_more n (u ∷ os) o h r f = (h.0, h.1, h.2, formed_more n os o h.3 r f)
 
-tight : (v : Level) (e : ExpressionTree) → Fits (at (tighter (rung_of v))) e → Fits (rank_of v + 1) e
+tight : (v : Level) (e : ExpressionTree) → Fits (at (tighter (rung_of v))) e → Fits (at (rung_of v) + 1) e
 tight Or e f = f
-tight And e f = f
-tight Sum e f = f
-tight Term e f = f
+tight _ e f = f
 
-pub formed_next : (v : Level) (os os' : List Operand) (o : Operand) → os' ≡ os ++ o ∷ [] → FormedOperands (rank_of v) (operands_of os) → rank o.operator ≡ rank_of v →
-    Fits (at (tighter (rung_of v))) (expression_of o.expression) → FormedOperands (rank_of v) (operands_of os')
-formed_next v os os' o e h r f = rw e (formed_more (rank_of v) os o h r (tight v _ f))
+pub formed_next : (v : Level) (os os' : List Operand) (o : Operand) → os' ≡ os ++ o ∷ [] → FormedOperands (at (rung_of v)) (operands_of os) → rank o.operator ≡ at (rung_of v) →
+    Fits (at (tighter (rung_of v))) (expression_of o.expression) → FormedOperands (at (rung_of v)) (operands_of os')
+formed_next v os os' o e h r f = rw e (formed_more (at (rung_of v)) os o h r (tight v _ f))
 
 joined_some : (e : ExpressionTree) (os : List Operand) → os ≢ [] → level e (operands_of os) ≡ joined e (operands_of os)
 joined_some e [] h = absurd (h refl)
@@ -65,11 +55,9 @@ joined_fits n e no_operand a b f h = (omega (arith, f.0), f.1)
 joined_fits n e (operand o g os) a b f h =
     (omega (arith, h.0), (omega (arith, h.0, f.0), f.1, omega (arith, h.0), subst (λ k. FormedOperands k (operand o g os)) (sym h.0) h, λ four. absurd (a (sym h.0 ∙ four))))
 
-pub level_fits : (v : Level) (e : ExpressionTree) (os : OperandTrees) → Fits (at (tighter (rung_of v))) e → FormedOperands (rank_of v) os → Fits (at (rung_of v)) (joined e os)
+pub level_fits : (v : Level) (e : ExpressionTree) (os : OperandTrees) → Fits (at (tighter (rung_of v))) e → FormedOperands (at (rung_of v)) os → Fits (at (rung_of v)) (joined e os)
 level_fits Or e os f h = joined_fits 1 e os (λ x. cc) (omega arith) f h
-level_fits And e os f h = joined_fits 2 e os (λ x. cc) (omega arith) f h
-level_fits Sum e os f h = joined_fits 5 e os (λ x. cc) (omega arith) f h
-level_fits Term e os f h = joined_fits 6 e os (λ x. cc) (omega arith) f h
+level_fits v e os f h = joined_fits (at (rung_of v)) e os (λ x. cc) (omega arith) f h
 
 pub compared_fits : (o : Operator) (e f : ExpressionTree) → rank o ≡ 4 → Fits 5 e → Fits 5 f → Fits 4 (level e (operand o f no_operand))
 compared_fits o e f r g h =

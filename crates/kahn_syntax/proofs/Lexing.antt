@@ -1,7 +1,5 @@
 -- One blank, one comment or one lexeme further.
-use Rattle.std.proofs.Common.{◌≡◌, ℕ, ◌+◌, ◌++◌, List, [], ◌∷◌, get_or, sym, subst}
-use Rattle.kahn_syntax.specs.declared.lexeme.Lexeme.{Lexeme}
-use Rattle.kahn_syntax.specs.Lexemes.{IsBlank, Gap, no_gap, then_blank, then_comment, IsComment, Stands, Lexed}
+use Rattle.kahn_syntax.proofs.Common.{◌≡◌, ℕ, ◌+◌, ◌++◌, List, [], ◌∷◌, get_or, sym, subst, Lexeme, IsBlank, Gap, no_gap, then_blank, then_comment, IsComment, Stands, Lexed}
 
 pub blank_next : (text : List ℕ) (a b : ℕ) (xs : List Lexeme) → Lexed text a b xs → IsBlank (get_or text b 0) → Lexed text a (b + 1) xs
 blank_next text a b [] gap blank = then_blank gap blank

@@ -1,13 +1,6 @@
 -- Lists that are read one member after another.
-use Rattle.std.proofs.Common.{◌≡◌, ℕ, ◌+◌, ◌-◌, ◌≤◌, List, [], ◌∷◌, length, get_or, take, drop, sym, ap, ◌∙◌, arith, ◌<◌, length-drop, subst}
-use Rattle.std.proofs.lemmas.List.{take_all, drop_more}
-use Rattle.kahn_syntax.specs.declared.lexeme.Class.{Class}
+use Rattle.kahn_syntax.proofs.Common.{◌≡◌, ℕ, ◌+◌, ◌-◌, ◌≤◌, List, [], ◌∷◌, length, get_or, take, drop, sym, ap, ◌∙◌, arith, ◌<◌, length-drop, subst, take_all, drop_more, Class, Span, Lexeme, terminals, First, IsUnsigned, IsProper, AreProper, IsPast}
 use Rattle.kahn_syntax.specs.declared.lexeme.Class.TheVariants as class
-use Rattle.kahn_tree.specs.declared.span.Span.{Span}
-use Rattle.kahn_syntax.specs.declared.lexeme.Lexeme.{Lexeme}
-use Rattle.kahn_tree.specs.declared.tree.Name.{Name}
-use Rattle.kahn_syntax.specs.Terminals.{terminals, First, IsUnsigned, IsProper, AreProper}
-use Rattle.kahn_syntax.specs.Spans.{IsPast}
 
 pub first_of : (c d : Class) (xs rest : List Lexeme) → c ≡ d → First c xs rest → First d xs rest
 first_of c d xs rest e f = subst (λ k. First k xs rest) e f
@@ -30,10 +23,8 @@ next_passed [] h = absurd (omega (arith, h))
 next_passed (x ∷ xs) h = (x, next_list (x ∷ xs) x h)
 
 is_unsigned : (text : List ℕ) (c : Class) (at : Span) → IsProper text c at → IsUnsigned c
-is_unsigned text (class.Word w) at h = tt
-is_unsigned text class.Name at h = tt
 is_unsigned text (class.Number n) at h = h
-is_unsigned text (class.Sign s) at h = tt
+is_unsigned text _ at h = tt
 
 next_both : (text : List ℕ) (xs : List Lexeme) (d : Lexeme) → 1 ≤ length xs → AreProper text xs →
     IsUnsigned (get_or xs 0 d).what × AreProper text (take (length xs - 1) (drop 1 xs))

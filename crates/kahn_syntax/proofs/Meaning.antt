@@ -1,14 +1,5 @@
 -- What the fate of a list says of trees.
-use Rattle.std.proofs.Common.{◌≡◌, ℕ, ◌+◌, ◌≤◌, ◌<◌, List, [], ◌∷◌, ◌++◌, length, Bool, true, false, refl, sym, ap, ◌∙◌, subst, arith, ⊎_elim, append_assoc}
-use Rattle.kahn_syntax.specs.declared.lexeme.Lexeme.{Lexeme}
-use Rattle.kahn_tree.specs.declared.span.Span.{Span}
-use Rattle.kahn_syntax.specs.declared.parser.cursor.Stop.{Stop}
-use Rattle.kahn_syntax.specs.declared.parser.cursor.Stop.TheVariants.{Refused, TooDeep, NoMemory}
-use Rattle.kahn_syntax.specs.Terminals.{Terminal, terminal, terminals}
-use Rattle.kahn_syntax.specs.Programs.{ProgramTree, program, Spells, MaybeSemicolon, nesting}
-use Rattle.kahn_syntax.specs.Faults.{IsWhole, Begins, BeginsWithin, IsNothing, IsOther, IsTooDeep, StandsAt, Placed}
-use Rattle.kahn_syntax.specs.inner.Machine.{ProgramPart, Fate, Refuses, TooFar, fate}
-use Rattle.kahn_syntax.specs.inner.Reads.{Halts}
+use Rattle.kahn_syntax.proofs.Common.{◌≡◌, ℕ, ◌+◌, ◌≤◌, ◌<◌, List, [], ◌∷◌, ◌++◌, length, Bool, true, false, refl, sym, ap, ◌∙◌, subst, arith, ⊎_elim, append_assoc, Lexeme, Span, Stop, Refused, TooDeep, NoMemory, Terminal, terminal, terminals, ProgramTree, program, Spells, MaybeSemicolon, nesting, IsWhole, Begins, BeginsWithin, IsNothing, IsOther, IsTooDeep, StandsAt, Placed, ProgramPart, Fate, Refuses, TooFar, fate, Halts}
 use Rattle.kahn_syntax.proofs.WholePrograms.{whole_program}
 use Rattle.kahn_syntax.proofs.Viable.{Fits}
 use Rattle.kahn_syntax.proofs.Reached.{Stuck, stuck_at, short_at, Deep, deep_at, refuses_left, far_left, whole_refuses, whole_far, le_or}

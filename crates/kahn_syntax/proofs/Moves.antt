@@ -1,30 +1,10 @@
 -- How the parts that are open go on, over what the parser reads.
-use Rattle.std.proofs.Common.{◌≡◌, ◌≢◌, ℕ, ◌+◌, ◌≤◌, ◌<◌, List, [], ◌∷◌, ◌++◌, ◌⊎◌, ⊎_elim, length, Bool, true, false, Some, Result, Ok, Err, true≢false, refl, sym, ap, ◌∙◌, subst, arith}
-use Rattle.kahn_tree.specs.declared.span.Span.{Span}
+use Rattle.kahn_syntax.proofs.Common.{◌≡◌, ◌≢◌, ℕ, ◌+◌, ◌≤◌, ◌<◌, List, [], ◌∷◌, ◌++◌, ◌⊎◌, ⊎_elim, length, Bool, true, false, Some, Result, Ok, Err, true≢false, refl, sym, ap, ◌∙◌, subst, arith, Span, Class, Lexeme, MatchResult, Expression, Form, Covers, Statement, Stop, Refused, TooDeep, NoMemory, Terminal, word, sign, name, terminal, terminals, First, Token, BeginToken, CloseToken, IfToken, NameToken, NotToken, NumberToken, ProcessToken, SemicolonToken, takes, leads, class_of, Tail, NamesTail, GroupsTail, ArgumentsTail, lead, goes_on, again, leads_kind, leads_declaration, Part, ProgramPart, DeclarationsPart, DeclarationPart, ProcessPart, GroupsPart, GroupPart, VariablesPart, InstancePart, ArgumentsPart, ArgumentPart, ExpressionPart, OperatorsPart, StatementPart, SimplePart, TailPart, TokenPart, LevelPart, levels, step, Refuses, TooFar, fate, Operator, Level, Or, operator_terminal, rank, Rung, whole, ors, denials, relations, sums, factors, at, tighter, rung_of, Lacks, Kind, kind_terminal, IsAbsent, Reads, Moves, Stops, Halts, ExpressionRead, StatementRead, suc}
 use Rattle.kahn_syntax.specs.declared.lexeme.Keyword.TheVariants as keyword
 use Rattle.kahn_syntax.specs.declared.lexeme.Sign.TheVariants as mark
-use Rattle.kahn_syntax.specs.declared.lexeme.Class.{Class}
 use Rattle.kahn_syntax.specs.declared.lexeme.Class.TheVariants as class
-use Rattle.kahn_syntax.specs.declared.lexeme.Lexeme.{Lexeme}
-use Rattle.std.specs.Prelude.{MatchResult}
-use Rattle.kahn_tree.specs.declared.tree.Expression.{Expression}
-use Rattle.kahn_tree.specs.declared.tree.Form.{Form}
-use Rattle.kahn_syntax.specs.Spans.{Covers}
-use Rattle.kahn_tree.specs.declared.tree.Statement.{Statement}
-use Rattle.kahn_syntax.specs.declared.parser.cursor.Stop.{Stop}
-use Rattle.kahn_syntax.specs.declared.parser.cursor.Stop.TheVariants.{Refused, TooDeep, NoMemory}
-use Rattle.kahn_syntax.specs.Terminals.{Terminal, word, sign, name, terminal, terminals, First}
 use Rattle.kahn_syntax.specs.Terminals as terminals_are
-use Rattle.kahn_syntax.specs.inner.Machine.{Token, BecomesToken, BeginToken, ChannelToken, CloseToken, CommaToken, DoToken, ElseToken, EndToken, IfToken, NameToken, NotToken, NumberToken, OnToken, OpenToken, ParToken, ProcessToken, SemicolonToken, ThenToken, takes, leads, class_of, Tail, NamesTail, StatementsTail, GroupsTail, ArgumentsTail, InstancesTail, ElseTail, LastTail, lead, goes_on, again, leads_kind, leads_declaration, Part, ProgramPart, DeclarationsPart, DeclarationPart, ProcessPart, GroupsPart, GroupPart, VariablesPart, InstancePart, ArgumentsPart, ArgumentPart, ExpressionPart, OperatorsPart, StatementPart, SimplePart, TailPart, TokenPart, LevelPart, levels, step, Refuses, TooFar, fate}
-use Rattle.kahn_tree.specs.declared.tree.Operator.{Operator}
-use Rattle.kahn_syntax.specs.declared.parser.operator.Level.{Level}
-use Rattle.kahn_syntax.specs.declared.parser.operator.Level.TheVariants.{Or, And, Sum, Term}
-use Rattle.kahn_syntax.specs.Trees.{operator_terminal, rank}
-use Rattle.kahn_syntax.specs.inner.Rungs.{Rung, whole, ors, denials, relations, sums, factors, at, tighter, rung_of, Lacks}
-use Rattle.kahn_tree.specs.declared.tree.Kind.{Kind}
-use Rattle.kahn_syntax.specs.Programs.{kind_terminal}
-use Rattle.kahn_syntax.specs.inner.Reads.{IsAbsent, Reads, Moves, Stops, Halts, rank_of, ExpressionRead, StatementRead}
-use Rattle.kahn_syntax.proofs.WholePrograms.{take_kind}
+use Rattle.kahn_syntax.proofs.WholePrograms.{take_kind, skip_variables}
 use Rattle.kahn_syntax.proofs.Steps.{go, skip_level, skip_tail, take_tail, take_token, no_token, IsChain, open_chain, open_whole, open_denial, skip_operators, take_operator}
 use Rattle.kahn_syntax.proofs.Reached.{go_far}
 use Rattle.kahn_syntax.proofs.Meaning.{terminals_length}
@@ -41,18 +21,16 @@ pub then : (text : List ℕ) (d : ℕ) (p q r : List Part) (i j k : List Lexeme)
 then text d p q r i j k f g = λ s l. f s l ∙ g s l
 
 pub then_stops : (text : List ℕ) (d : ℕ) (p q : List Part) (i j : List Lexeme) (e : Stop) → Moves text d p q i j → Stops text d q j e → Stops text d p i e
-then_stops text d p q i j (Refused w n) f g = λ s l. f s l ∙ g s l
-then_stops text d p q i j (TooDeep n) f g = λ s l. f s l ∙ g s l
 then_stops text d p q i j NoMemory f g = tt
+then_stops text d p q i j _ f g = λ s l. f s l ∙ g s l
 
 -- a part above others
 pub call : (text : List ℕ) (d e : ℕ) (p : Part) (qs : List Part) (i j : List Lexeme) → Depth d qs e → Reads text e (p ∷ []) i j → Moves text d (p ∷ qs) qs i j
 call text d e p qs i j b f = λ s l. f (qs ++ s) (b s l)
 
 pub call_stops : (text : List ℕ) (d e : ℕ) (p : Part) (qs : List Part) (i : List Lexeme) (x : Stop) → Depth d qs e → Stops text e (p ∷ []) i x → Stops text d (p ∷ qs) i x
-call_stops text d e p qs i (Refused w n) b f = λ s l. f (qs ++ s) (b s l)
-call_stops text d e p qs i (TooDeep n) b f = λ s l. f (qs ++ s) (b s l)
 call_stops text d e p qs i NoMemory b f = tt
+call_stops text d e p qs i _ b f = λ s l. f (qs ++ s) (b s l)
 
 -- two parts above others
 pub call_two : (text : List ℕ) (d e : ℕ) (p q : Part) (qs : List Part) (i j : List Lexeme) → Depth d qs e → Reads text e (p ∷ q ∷ []) i j → Moves text d (p ∷ q ∷ qs) qs i j
@@ -60,9 +38,8 @@ call_two text d e p q qs i j b f = λ s l. f (qs ++ s) (b s l)
 
 pub call_two_stops : (text : List ℕ) (d e : ℕ) (p q : Part) (qs : List Part) (i : List Lexeme) (x : Stop) → Depth d qs e → Stops text e (p ∷ q ∷ []) i x →
     Stops text d (p ∷ q ∷ qs) i x
-call_two_stops text d e p q qs i (Refused w n) b f = λ s l. f (qs ++ s) (b s l)
-call_two_stops text d e p q qs i (TooDeep n) b f = λ s l. f (qs ++ s) (b s l)
 call_two_stops text d e p q qs i NoMemory b f = tt
+call_two_stops text d e p q qs i _ b f = λ s l. f (qs ++ s) (b s l)
 
 -- one terminal
 pub one : (text : List ℕ) (d : ℕ) (p : Part) (qs rs : List Part) (k : Terminal) (i j : List Lexeme) → Bound d rs → ((s : List Part) → step (p ∷ qs ++ s) k ≡ Some (rs ++ s)) →
@@ -83,45 +60,20 @@ token text d t qs k i j b h e = λ s l. ap (fate 64 (TokenPart t ∷ qs ++ s)) e
 
 goes_append : (t : Tail) (qs s : List Part) → goes_on t (qs ++ s) ≡ goes_on t qs ++ s
 goes_append NamesTail qs s = refl
-goes_append StatementsTail qs s = refl
-goes_append GroupsTail qs s = refl
-goes_append ArgumentsTail qs s = refl
-goes_append InstancesTail qs s = refl
-goes_append ElseTail qs s = refl
-goes_append LastTail qs s = refl
+goes_append _ qs s = refl
 
 levels_goes : (t : Tail) (s : List Part) → levels (goes_on t s) ≡ levels s
 levels_goes NamesTail s = refl
-levels_goes StatementsTail s = refl
-levels_goes GroupsTail s = refl
-levels_goes ArgumentsTail s = refl
-levels_goes InstancesTail s = refl
-levels_goes ElseTail s = refl
-levels_goes LastTail s = refl
+levels_goes _ s = refl
 
 some_is : (c e : Class) → Some c ≡ Some e → c ≡ e
 some_is c e p = cc
 
 -- a lexeme of the token's class is the token
 class_takes : (t : Token) (c : Class) (text : List ℕ) (at : Span) → class_of t ≡ Some c → takes t (terminal text c at) ≡ true
-class_takes BecomesToken c text at e = subst (λ x. takes BecomesToken (terminal text x at) ≡ true) (some_is (class.Sign mark.Becomes) c e) refl
-class_takes BeginToken c text at e = subst (λ x. takes BeginToken (terminal text x at) ≡ true) (some_is (class.Word keyword.Begin) c e) refl
-class_takes ChannelToken c text at e = subst (λ x. takes ChannelToken (terminal text x at) ≡ true) (some_is (class.Word keyword.Channel) c e) refl
-class_takes CloseToken c text at e = subst (λ x. takes CloseToken (terminal text x at) ≡ true) (some_is (class.Sign mark.Close) c e) refl
-class_takes CommaToken c text at e = subst (λ x. takes CommaToken (terminal text x at) ≡ true) (some_is (class.Sign mark.Comma) c e) refl
-class_takes DoToken c text at e = subst (λ x. takes DoToken (terminal text x at) ≡ true) (some_is (class.Word keyword.Do) c e) refl
-class_takes ElseToken c text at e = subst (λ x. takes ElseToken (terminal text x at) ≡ true) (some_is (class.Word keyword.Else) c e) refl
-class_takes EndToken c text at e = subst (λ x. takes EndToken (terminal text x at) ≡ true) (some_is (class.Word keyword.End) c e) refl
-class_takes IfToken c text at e = subst (λ x. takes IfToken (terminal text x at) ≡ true) (some_is (class.Word keyword.If) c e) refl
-class_takes NameToken c text at e = subst (λ x. takes NameToken (terminal text x at) ≡ true) (some_is class.Name c e) refl
-class_takes OnToken c text at e = subst (λ x. takes OnToken (terminal text x at) ≡ true) (some_is (class.Word keyword.On) c e) refl
-class_takes OpenToken c text at e = subst (λ x. takes OpenToken (terminal text x at) ≡ true) (some_is (class.Sign mark.Open) c e) refl
-class_takes ParToken c text at e = subst (λ x. takes ParToken (terminal text x at) ≡ true) (some_is (class.Word keyword.Par) c e) refl
-class_takes ProcessToken c text at e = subst (λ x. takes ProcessToken (terminal text x at) ≡ true) (some_is (class.Word keyword.Process) c e) refl
-class_takes SemicolonToken c text at e = subst (λ x. takes SemicolonToken (terminal text x at) ≡ true) (some_is (class.Sign mark.Semicolon) c e) refl
-class_takes ThenToken c text at e = subst (λ x. takes ThenToken (terminal text x at) ≡ true) (some_is (class.Word keyword.Then) c e) refl
 class_takes NotToken c text at e = absurd cc
 class_takes NumberToken c text at e = absurd cc
+class_takes t c text at e = subst (λ x. takes t (terminal text x at) ≡ true) (some_is _ c e) refl
 
 -- an awaited lexeme
 pub expected : (text : List ℕ) (d : ℕ) (t : Token) (qs : List Part) (c : Class) (i j : List Lexeme) → Bound d qs → class_of t ≡ Some c → First c i j →
@@ -139,6 +91,21 @@ goes text d t qs c i j b h f = λ s l.
 -- a tail that ends
 pub ends : (text : List ℕ) (d : ℕ) (t : Tail) (qs : List Part) (c : Class) (i : List Lexeme) → class_of (lead t) ≡ Some c → IsAbsent c i → Moves text d (TailPart t ∷ qs) qs i i
 ends text d t qs c i h a = λ s l. skip_tail t 64 (qs ++ s) (terminals text i) (a (lead t) h text)
+
+-- a member of a list, and the lexeme that leads to the next
+pub next_member : (text : List ℕ) (d : ℕ) (ps : List Part) (t : Tail) (p : Part) (qs : List Part) (c : Class) (i o a j : List Lexeme) → Bound d qs → Depth d (TailPart t ∷ qs) d →
+    goes_on t qs ≡ p ∷ TailPart t ∷ qs → class_of (lead t) ≡ Some c → Moves text d ps (p ∷ TailPart t ∷ qs) i o → Reads text d (p ∷ []) o a → First c a j → Moves text d ps (p ∷ TailPart t ∷ qs) i j
+next_member text d ps t p qs c i o a j b l g k m r f =
+    then text d ps (p ∷ TailPart t ∷ qs) (p ∷ TailPart t ∷ qs) i o j m
+    (then text d (p ∷ TailPart t ∷ qs) (TailPart t ∷ qs) (p ∷ TailPart t ∷ qs) o a j (call text d d p (TailPart t ∷ qs) o a l r)
+    (subst (λ x. Moves text d (TailPart t ∷ qs) x a j) g (goes text d t qs c a j b k f)))
+
+-- the last one
+pub last_member : (text : List ℕ) (d : ℕ) (ps : List Part) (t : Tail) (p : Part) (qs : List Part) (c : Class) (i o a : List Lexeme) → Depth d (TailPart t ∷ qs) d →
+    class_of (lead t) ≡ Some c → Moves text d ps (p ∷ TailPart t ∷ qs) i o → Reads text d (p ∷ []) o a → IsAbsent c a → Moves text d ps qs i a
+last_member text d ps t p qs c i o a l k m r f =
+    then text d ps (p ∷ TailPart t ∷ qs) qs i o a m
+    (then text d (p ∷ TailPart t ∷ qs) (TailPart t ∷ qs) qs o a a (call text d d p (TailPart t ∷ qs) o a l r) (ends text d t qs c a k f))
 
 pub level_ends : (text : List ℕ) (d : ℕ) (qs : List Part) (i : List Lexeme) → Moves text d (LevelPart ∷ qs) qs i i
 level_ends text d qs i = λ s l. skip_level 64 (qs ++ s) (terminals text i)
@@ -185,37 +152,22 @@ pub comparison : (text : List ℕ) (d : ℕ) (o : Operator) (qs : List Part) (i 
     Moves text d (OperatorsPart relations ∷ qs) (ExpressionPart sums ∷ qs) i j
 comparison text d o qs i j b h e = λ s l. ap (fate 64 (OperatorsPart relations ∷ qs ++ s)) e ∙ take_operator relations 64 (qs ++ s) o (terminals text j) h (b s l)
 
-level_at : (v : Level) → at (rung_of v) ≡ rank_of v
-level_at Or = refl
-level_at And = refl
-level_at Sum = refl
-level_at Term = refl
-
 pub level_chain : (v : Level) → IsChain (rung_of v)
 level_chain Or = tt
-level_chain And = tt
-level_chain Sum = tt
-level_chain Term = tt
+level_chain _ = tt
 
 level_again : (v : Level) (s : List Part) → again (rung_of v) s ≡ OperatorsPart (rung_of v) ∷ s
 level_again Or s = refl
-level_again And s = refl
-level_again Sum s = refl
-level_again Term s = refl
+level_again _ s = refl
 
 -- an operator of the level, of which more may follow
-pub operator_more : (text : List ℕ) (d : ℕ) (v : Level) (o : Operator) (qs : List Part) (i j : List Lexeme) → Bound d qs → rank o ≡ rank_of v →
+pub operator_more : (text : List ℕ) (d : ℕ) (v : Level) (o : Operator) (qs : List Part) (i j : List Lexeme) → Bound d qs → rank o ≡ at (rung_of v) →
     terminals text i ≡ operator_terminal o ∷ terminals text j →
     Moves text d (OperatorsPart (rung_of v) ∷ qs) (ExpressionPart (tighter (rung_of v)) ∷ OperatorsPart (rung_of v) ∷ qs) i j
 operator_more text d v o qs i j b h e = λ s l.
     ap (fate 64 (OperatorsPart (rung_of v) ∷ qs ++ s)) e
-    ∙ (take_operator (rung_of v) 64 (qs ++ s) o (terminals text j) (h ∙ sym (level_at v)) (b s l)
+    ∙ (take_operator (rung_of v) 64 (qs ++ s) o (terminals text j) h (b s l)
     ∙ ap (λ x. fate 64 (ExpressionPart (tighter (rung_of v)) ∷ x) (terminals text j)) (level_again v (qs ++ s)))
-
--- no operator of the level follows
-pub level_end : (text : List ℕ) (d : ℕ) (v : Level) (qs : List Part) (i : List Lexeme) → Lacks (rank_of v) (terminals text i) →
-    Moves text d (OperatorsPart (rung_of v) ∷ qs) qs i i
-level_end text d v qs i h = operators_end text d (rung_of v) qs i (subst (λ n. Lacks n (terminals text i)) (sym (level_at v)) h)
 
 -- what a call answers for a tighter level, where no more than it stands here
 pub opened : (text : List ℕ) (d : ℕ) (g f : Rung) (i : List Lexeme) → at g ≤ at f → Moves text d (ExpressionPart g ∷ []) (ExpressionPart f ∷ []) i i →
@@ -282,14 +234,9 @@ leads_factor _ = false
 
 refuses_factor : (s : List Part) (ks : List Terminal) → leads_factor ks ≡ false → fate 64 (ExpressionPart factors ∷ s) ks ≡ Refuses false (length ks)
 refuses_factor s [] h = refl
-refuses_factor s (terminals_are.number z ∷ r) h = absurd (true≢false h)
-refuses_factor s (name n ∷ r) h = absurd (true≢false h)
-refuses_factor s (word keyword.True ∷ r) h = absurd (true≢false h)
-refuses_factor s (word keyword.False ∷ r) h = absurd (true≢false h)
-refuses_factor s (word keyword.Wait ∷ r) h = absurd (true≢false h)
-refuses_factor s (sign mark.Minus ∷ r) h = absurd (true≢false h)
-refuses_factor s (sign mark.Open ∷ r) h = absurd (true≢false h)
-refuses_factor s (k ∷ r) h = ap (Refuses false) (omega arith)
+refuses_factor s (word keyword.True ∷ r) h = cc
+refuses_factor s (sign mark.Minus ∷ r) h = cc
+refuses_factor s (_ ∷ r) h = let q : length r + 1 ≡ suc (length r) = omega arith in cc
 
 pub no_factor : (text : List ℕ) (d : ℕ) (i : List Lexeme) → leads_factor (terminals text i) ≡ false → Stops text d (ExpressionPart factors ∷ []) i (Refused false (length i))
 no_factor text d i h = λ s l. refuses_factor s (terminals text i) h ∙ ap (Refuses false) (terminals_length text i)
@@ -308,10 +255,8 @@ leads_statement _ = false
 
 open_simple : (s : List Part) (ks : List Terminal) → leads_statement ks ≡ false → fate 64 (StatementPart ∷ s) ks ≡ fate 64 (SimplePart ∷ s) ks
 open_simple s [] h = refl
-open_simple s (word keyword.If ∷ r) h = absurd (true≢false h)
-open_simple s (word keyword.While ∷ r) h = absurd (true≢false h)
-open_simple s (word keyword.Repeat ∷ r) h = absurd (true≢false h)
-open_simple s (k ∷ r) h = refl
+open_simple s (word keyword.If ∷ r) h = cc
+open_simple s (_ ∷ r) h = cc
 
 pub opens_simple : (text : List ℕ) (d : ℕ) (qs : List Part) (i : List Lexeme) → leads_statement (terminals text i) ≡ false → Moves text d (StatementPart ∷ qs) (SimplePart ∷ qs) i i
 opens_simple text d qs i h = λ s l. open_simple (qs ++ s) (terminals text i) h
@@ -326,11 +271,9 @@ leads_simple _ = false
 
 skip_simple : (s : List Part) (ks : List Terminal) → leads_simple ks ≡ false → fate 64 (SimplePart ∷ s) ks ≡ fate 64 s ks
 skip_simple s [] h = refl
-skip_simple s (name n ∷ r) h = absurd (true≢false h)
-skip_simple s (word keyword.Send ∷ r) h = absurd (true≢false h)
-skip_simple s (word keyword.Print ∷ r) h = absurd (true≢false h)
-skip_simple s (word keyword.Begin ∷ r) h = absurd (true≢false h)
-skip_simple s (k ∷ r) h = refl
+skip_simple s (name n ∷ r) h = cc
+skip_simple s (word keyword.Send ∷ r) h = cc
+skip_simple s (_ ∷ r) h = cc
 
 -- the empty statement
 pub simple_ends : (text : List ℕ) (d : ℕ) (qs : List Part) (i : List Lexeme) → leads_simple (terminals text i) ≡ false → Moves text d (SimplePart ∷ qs) qs i i
@@ -342,34 +285,24 @@ pub kind_moves : (text : List ℕ) (d : ℕ) (p : Part) (qs rs : List Part) (k :
 kind_moves text d p qs rs k i j b f g e = λ s l. ap (fate 64 (p ∷ qs ++ s)) e ∙ take_kind k 64 (p ∷ qs ++ s) (rs ++ s) (terminals text j) (f s) (g s) (b s l)
 
 open_groups : (s : List Part) (ks : List Terminal) → leads_kind ks ≡ true → fate 64 (GroupsPart ∷ s) ks ≡ fate 64 (GroupPart ∷ TailPart GroupsTail ∷ s) ks
-open_groups s [] h = absurd (true≢false (sym h))
-open_groups s (word keyword.Integer ∷ r) h = refl
-open_groups s (word keyword.Logical ∷ r) h = refl
-open_groups s (k ∷ r) h = absurd (true≢false (sym h))
+open_groups s [] h = cc
+open_groups s (word keyword.Integer ∷ r) h = cc
+open_groups s (_ ∷ r) h = cc
 
 skip_groups : (s : List Part) (ks : List Terminal) → leads_kind ks ≡ false → fate 64 (GroupsPart ∷ s) ks ≡ fate 64 s ks
 skip_groups s [] h = refl
-skip_groups s (word keyword.Integer ∷ r) h = absurd (true≢false h)
-skip_groups s (word keyword.Logical ∷ r) h = absurd (true≢false h)
-skip_groups s (k ∷ r) h = refl
-
-skip_variables : (s : List Part) (ks : List Terminal) → leads_kind ks ≡ false → fate 64 (VariablesPart ∷ s) ks ≡ fate 64 s ks
-skip_variables s [] h = refl
-skip_variables s (word keyword.Integer ∷ r) h = absurd (true≢false h)
-skip_variables s (word keyword.Logical ∷ r) h = absurd (true≢false h)
-skip_variables s (k ∷ r) h = refl
+skip_groups s (word keyword.Integer ∷ r) h = cc
+skip_groups s (_ ∷ r) h = cc
 
 refuses_group : (s : List Part) (ks : List Terminal) → leads_kind ks ≡ false → fate 64 (GroupPart ∷ s) ks ≡ Refuses false (length ks)
 refuses_group s [] h = refl
-refuses_group s (word keyword.Integer ∷ r) h = absurd (true≢false h)
-refuses_group s (word keyword.Logical ∷ r) h = absurd (true≢false h)
-refuses_group s (k ∷ r) h = ap (Refuses false) (omega arith)
+refuses_group s (word keyword.Integer ∷ r) h = cc
+refuses_group s (_ ∷ r) h = let q : length r + 1 ≡ suc (length r) = omega arith in cc
 
 open_process : (s : List Part) (ks : List Terminal) → leads_kind ks ≡ false → fate 64 (DeclarationPart ∷ s) ks ≡ fate 64 (ProcessPart ∷ s) ks
 open_process s [] h = refl
-open_process s (word keyword.Integer ∷ r) h = absurd (true≢false h)
-open_process s (word keyword.Logical ∷ r) h = absurd (true≢false h)
-open_process s (k ∷ r) h = refl
+open_process s (word keyword.Integer ∷ r) h = cc
+open_process s (_ ∷ r) h = cc
 
 refuses_process : (s : List Part) (ks : List Terminal) → leads ProcessToken ks ≡ false → fate 64 (ProcessPart ∷ s) ks ≡ Refuses false (length ks)
 refuses_process s [] h = refl
@@ -392,18 +325,14 @@ open_arguments s (sign mark.Close ∷ r) h = absurd (true≢false h)
 open_arguments s (k ∷ r) h = refl
 
 open_declarations : (s : List Part) (ks : List Terminal) → leads_declaration ks ≡ true → fate 64 (DeclarationsPart ∷ s) ks ≡ fate 64 (DeclarationPart ∷ TokenPart SemicolonToken ∷ DeclarationsPart ∷ s) ks
-open_declarations s [] h = absurd (true≢false (sym h))
-open_declarations s (word keyword.Integer ∷ r) h = refl
-open_declarations s (word keyword.Logical ∷ r) h = refl
-open_declarations s (word keyword.Process ∷ r) h = refl
-open_declarations s (k ∷ r) h = absurd (true≢false (sym h))
+open_declarations s [] h = cc
+open_declarations s (word keyword.Integer ∷ r) h = cc
+open_declarations s (_ ∷ r) h = cc
 
 skip_declarations : (s : List Part) (ks : List Terminal) → leads_declaration ks ≡ false → fate 64 (DeclarationsPart ∷ s) ks ≡ fate 64 s ks
 skip_declarations s [] h = refl
-skip_declarations s (word keyword.Integer ∷ r) h = absurd (true≢false h)
-skip_declarations s (word keyword.Logical ∷ r) h = absurd (true≢false h)
-skip_declarations s (word keyword.Process ∷ r) h = absurd (true≢false h)
-skip_declarations s (k ∷ r) h = refl
+skip_declarations s (word keyword.Integer ∷ r) h = cc
+skip_declarations s (_ ∷ r) h = cc
 
 -- an argument begins here
 abbrev pub leads_argument : List Terminal → Bool
@@ -416,12 +345,9 @@ leads_argument _ = false
 
 refuses_argument : (s : List Part) (ks : List Terminal) → leads_argument ks ≡ false → fate 64 (ArgumentPart ∷ s) ks ≡ Refuses false (length ks)
 refuses_argument s [] h = refl
-refuses_argument s (name n ∷ r) h = absurd (true≢false h)
-refuses_argument s (terminals_are.number z ∷ r) h = absurd (true≢false h)
-refuses_argument s (word keyword.True ∷ r) h = absurd (true≢false h)
-refuses_argument s (word keyword.False ∷ r) h = absurd (true≢false h)
-refuses_argument s (sign mark.Minus ∷ r) h = absurd (true≢false h)
-refuses_argument s (k ∷ r) h = ap (Refuses false) (omega arith)
+refuses_argument s (word keyword.True ∷ r) h = cc
+refuses_argument s (sign mark.Minus ∷ r) h = cc
+refuses_argument s (_ ∷ r) h = let q : length r + 1 ≡ suc (length r) = omega arith in cc
 
 pub opens_groups : (text : List ℕ) (qs : List Part) (i : List Lexeme) → leads_kind (terminals text i) ≡ true → Moves text 0 (GroupsPart ∷ qs) (GroupPart ∷ TailPart GroupsTail ∷ qs) i i
 opens_groups text qs i h = λ s l. open_groups (qs ++ s) (terminals text i) h
@@ -430,7 +356,7 @@ pub groups_end : (text : List ℕ) (qs : List Part) (i : List Lexeme) → leads_
 groups_end text qs i h = λ s l. skip_groups (qs ++ s) (terminals text i) h
 
 pub variables_end : (text : List ℕ) (qs : List Part) (i : List Lexeme) → leads_kind (terminals text i) ≡ false → Moves text 0 (VariablesPart ∷ qs) qs i i
-variables_end text qs i h = λ s l. skip_variables (qs ++ s) (terminals text i) h
+variables_end text qs i h = λ s l. skip_variables 64 (qs ++ s) (terminals text i) h
 
 pub opens_process : (text : List ℕ) (qs : List Part) (i : List Lexeme) → leads_kind (terminals text i) ≡ false → Moves text 0 (DeclarationPart ∷ qs) (ProcessPart ∷ qs) i i
 opens_process text qs i h = λ s l. open_process (qs ++ s) (terminals text i) h
@@ -470,9 +396,8 @@ no_argument text qs i h = refused_by text ArgumentPart qs i (Refused false (leng
 
 -- the whole of a program that isn't one
 pub halts : (text : List ℕ) (i : List Lexeme) (x : Stop) → Stops text 0 (ProgramPart ∷ []) i x → Halts (terminals text i) x
-halts text i (Refused w n) f = f [] refl
-halts text i (TooDeep n) f = f [] refl
 halts text i NoMemory f = tt
+halts text i _ f = f [] refl
 
 -- after a whole program nothing may stand
 pub whole_end : (text : List ℕ) (i : List Lexeme) → i ≢ [] → fate 64 [] (terminals text i) ≡ Refuses true (length i)

@@ -1,7 +1,5 @@
 -- The negative of a number of 64 bits has 64 bits.
-use Rattle.std.proofs.Common.{◌≡◌, ℕ, zero, suc, ◌≤◌, ℤ, pos, neg_ℤ, w64, sym, subst, arith}
-use Rattle.std.specs.Prelude.{FitsSigned}
-use Rattle.kahn_syntax.specs.Lexemes.{largest_number}
+use Rattle.kahn_syntax.proofs.Common.{◌≡◌, ℕ, zero, suc, ◌≤◌, ℤ, pos, neg_ℤ, w64, sym, subst, arith, FitsSigned, largest_number}
 
 at_pos : (m : ℕ) → m ≤ largest_number → FitsSigned w64 (neg_ℤ (pos m))
 at_pos zero h = omega arith

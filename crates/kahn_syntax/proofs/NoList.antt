@@ -1,16 +1,7 @@
 -- A text with a fault has no list of lexemes.
-use Rattle.std.proofs.Common.{◌≡◌, ℕ, ◌+◌, ◌-◌, ◌≤◌, ◌<◌, List, length, get_or, sym, ap, subst, ◌∙◌, arith}
-use Rattle.std.proofs.lemmas.List.{length-map}
-use Rattle.std.specs.Prelude.{codes, slice_range}
-use Rattle.std.specs.Char.{to_ascii_lowercase}
-use Rattle.std.specs.Str.Parse.{digits_value}
-use Rattle.kahn_syntax.specs.declared.fault.SyntaxFault.{SyntaxFault}
-use Rattle.kahn_syntax.specs.declared.fault.SyntaxFault.TheVariants.{TooLong, BadCharacter, NumberTooLarge, CommentOpen, NameTooLong, Expected, TooDeep, NoMemory}
-use Rattle.kahn_syntax.specs.declared.lexeme.Lexeme.{Lexeme}
-use Rattle.kahn_syntax.specs.declared.lexeme.Class.{Class}
-use Rattle.kahn_syntax.specs.declared.lexeme.Class.TheVariants.{Word, Name, Number, Sign}
-use Rattle.kahn_syntax.specs.Lexemes.{IsBlank, IsWord, IsRun, HasForm, IsLongest, IsSpelled, IsCommentWord, IsOfClass, Stands, Closes, IsComment, Lexed, largest_number, letters_of}
-use Rattle.kahn_syntax.specs.inner.Items.{IsFaultAt}
+use Rattle.kahn_syntax.proofs.Common.{◌≡◌, ℕ, ◌+◌, ◌-◌, ◌≤◌, ◌<◌, List, length, get_or, sym, ap, subst, ◌∙◌, arith, length-map, codes, slice_range, to_ascii_lowercase, digits_value, SyntaxFault, TooLong, BadCharacter, NumberTooLarge, CommentOpen, NameTooLong, Expected, Lexeme, Class, Word, Number, IsBlank, IsWord, IsRun, HasForm, IsLongest, IsSpelled, IsCommentWord, IsOfClass, Stands, Closes, IsComment, Lexed, largest_number, letters_of, IsFaultAt}
+use Rattle.kahn_syntax.specs.declared.fault.SyntaxFault.TheVariants.{TooDeep, NoMemory}
+use Rattle.kahn_syntax.specs.declared.lexeme.Class.TheVariants.{Name, Sign}
 use Rattle.kahn_syntax.proofs.Keywords.{keyword_short}
 use Rattle.kahn_syntax.proofs.OneList.{Walk, ends, blank, comment, lexeme, walk, walk_le, run_first, form_grows, form_dark, same_end, no_comment, comment_grows, comment_dark, same_comment, same_lexeme, lexeme_dark, lexeme_comment}
 use Rattle.kahn_syntax.proofs.Runs.{length_slice}
@@ -94,7 +85,6 @@ long_class text a b (Sign s) inside word long p = sign_letter _ (sign_begins tex
 
 -- a fault stands within its text
 pub fault_inside : (text : List ℕ) (a : ℕ) (e : SyntaxFault) → IsFaultAt text a e → a < length text
-fault_inside text a TooLong h = absurd h
 fault_inside text a (BadCharacter at) (f, bad) = omega (arith, f, bad.0.0, bad.0.2.0)
 fault_inside text a (NumberTooLarge at) (f, large) =
     let g : at.from < at.to = form_grows text at.from at.to large.0.form in
@@ -105,9 +95,7 @@ fault_inside text a (CommentOpen at) (f, opens) =
 fault_inside text a (NameTooLong at) (f, long) =
     let g : at.from < at.to = form_grows text at.from at.to long.0.form in
     omega (arith, f, long.0.inside)
-fault_inside text a (Expected at what) h = absurd h
-fault_inside text a (TooDeep at) h = absurd h
-fault_inside text a NoMemory h = absurd h
+fault_inside text a _ h = absurd h
 
 fault_stops : (text : List ℕ) (n a : ℕ) (e : SyntaxFault) (zs : List Lexeme) → a < n → IsFaultAt text a e → Walk text n a zs → ⊥
 fault_stops text n a TooLong zs more h w = h

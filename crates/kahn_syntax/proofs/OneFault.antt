@@ -1,17 +1,6 @@
 -- A text has one fault, want of memory aside.
-use Rattle.std.proofs.Common.{◌≡◌, ℕ, ◌<◌, ◌⊎◌, List, [], ◌∷◌, ◌++◌, length, inl, inr, refl, sym, ap, subst, ◌∙◌, arith, append_assoc}
-use Rattle.std.proofs.lemmas.List.{append-nil}
-use Rattle.kahn_tree.specs.declared.span.Span.{Span}
-use Rattle.kahn_syntax.specs.declared.lexeme.Lexeme.{Lexeme}
-use Rattle.kahn_syntax.specs.declared.fault.SyntaxFault.{SyntaxFault}
-use Rattle.kahn_syntax.specs.declared.fault.SyntaxFault.TheVariants.{TooLong, BadCharacter, NumberTooLarge, CommentOpen, NameTooLong, Expected, TooDeep, NoMemory}
-use Rattle.kahn_syntax.specs.declared.fault.What.TheVariants.{More, Nothing, Other}
-use Rattle.kahn_syntax.specs.Lexemes.{IsLongest, IsBadCharacter, IsLargeNumber, IsOpenComment, IsLongName, IsReached, IsLexFault, most_bytes}
-use Rattle.kahn_syntax.specs.inner.Items.{IsFaultAt}
-use Rattle.kahn_syntax.specs.Terminals.{Terminal, terminal, terminals}
-use Rattle.kahn_syntax.specs.Programs.{Spells}
-use Rattle.kahn_syntax.specs.Faults.{Begins, BeginsWithin, IsNothing, IsOther, IsTooDeep, IsFault}
-use Rattle.kahn_syntax.specs.Texts.{AreLexemes, IsTextFault}
+use Rattle.kahn_syntax.proofs.Common.{◌≡◌, ℕ, ◌<◌, ◌⊎◌, List, [], ◌∷◌, ◌++◌, length, inl, inr, refl, sym, ap, subst, ◌∙◌, arith, append_assoc, append-nil, Span, Lexeme, SyntaxFault, TooLong, BadCharacter, NumberTooLarge, CommentOpen, NameTooLong, Expected, More, Nothing, Other, IsLongest, IsBadCharacter, IsLargeNumber, IsOpenComment, IsLongName, IsReached, IsLexFault, most_bytes, IsFaultAt, Terminal, terminal, terminals, Spells, Begins, BeginsWithin, IsNothing, IsOther, IsTooDeep, IsFault, AreLexemes, IsTextFault}
+use Rattle.kahn_syntax.specs.declared.fault.SyntaxFault.TheVariants.{TooDeep, NoMemory}
 use Rattle.kahn_syntax.proofs.Meaning.{terminals_append}
 use Rattle.kahn_syntax.proofs.NoList.{no_list, fault_inside, long_comment}
 use Rattle.kahn_syntax.proofs.OneList.{order, run_first, same_end, same_lexemes}
@@ -50,14 +39,11 @@ data FaultAt (text : List ℕ) (a : ℕ) : SyntaxFault → Type 0 where
   long : (at : Span) → at.from ≡ a → IsLongName text at → FaultAt text a (NameTooLong at)
 
 fault_at : (text : List ℕ) (a : ℕ) (e : SyntaxFault) → IsFaultAt text a e → FaultAt text a e
-fault_at text a TooLong h = absurd h
 fault_at text a (BadCharacter at) (e, h) = bad at e h
 fault_at text a (NumberTooLarge at) (e, h) = large at e h
 fault_at text a (CommentOpen at) (e, h) = opens at e h
 fault_at text a (NameTooLong at) (e, h) = long at e h
-fault_at text a (Expected at what) h = absurd h
-fault_at text a (TooDeep at) h = absurd h
-fault_at text a NoMemory h = absurd h
+fault_at text a _ h = absurd h
 
 -- a run is no word, and `comment` isn't too long
 large_opens : (text : List ℕ) (a : Span) (b : Span) → a.from ≡ b.from → IsLargeNumber text a → IsOpenComment text b → ⊥
@@ -101,9 +87,8 @@ lex_fault text (BadCharacter at) (r, h) = reached at.from r (refl, h)
 lex_fault text (NumberTooLarge at) (r, h) = reached at.from r (refl, h)
 lex_fault text (CommentOpen at) (r, h) = reached at.from r (refl, h)
 lex_fault text (NameTooLong at) (r, h) = reached at.from r (refl, h)
-lex_fault text (Expected at what) h = absurd h
-lex_fault text (TooDeep at) h = absurd h
 lex_fault text NoMemory h = no_memory refl
+lex_fault text _ h = absurd h
 
 same_reached : (text : List ℕ) (a b : ℕ) (e f : SyntaxFault) → IsReached text a → IsFaultAt text a e → IsReached text b → IsFaultAt text b f → e ≡ f
 same_reached text a b e f r h s k = go (order a b)
@@ -184,11 +169,7 @@ grammar_fault text xs (Expected span Other) (before, x, after, p, s, h) =
 grammar_fault text xs (TooDeep span) (before, x, after, p, s, h) =
     stands before x after p (subst (λ (t : Span). AtFault (terminals text before) (terminal text x.what x.span) x.span (TooDeep t)) (sym s) (deep h))
 grammar_fault text xs NoMemory h = no_memory refl
-grammar_fault text xs TooLong h = absurd h
-grammar_fault text xs (BadCharacter at) h = absurd h
-grammar_fault text xs (NumberTooLarge at) h = absurd h
-grammar_fault text xs (CommentOpen at) h = absurd h
-grammar_fault text xs (NameTooLong at) h = absurd h
+grammar_fault text xs _ h = absurd h
 
 -- two places of one list: the same, or one before the other
 data Places (before : List Lexeme) (x : Lexeme) (others : List Lexeme) (y : Lexeme) : Type 0 where

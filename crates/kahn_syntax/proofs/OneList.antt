@@ -1,10 +1,6 @@
 -- A text has one list of lexemes.
-use Rattle.std.proofs.Common.{◌≡◌, ℕ, ◌+◌, ◌≤◌, ◌<◌, ◌⊎◌, List, [], ◌∷◌, get_or, refl, sym, ap, subst, ◌∙◌, arith, inl, inr}
-use Rattle.std.proofs.lemmas.Bool.Decides.{nat_tests}
-use Rattle.kahn_syntax.specs.declared.lexeme.Lexeme.{Lexeme}
-use Rattle.kahn_syntax.specs.declared.lexeme.Class.{Class}
-use Rattle.kahn_syntax.specs.declared.lexeme.Class.TheVariants.{Word, Name, Number, Sign}
-use Rattle.kahn_syntax.specs.Lexemes.{IsBlank, IsRun, HasForm, IsLongest, IsCommentWord, IsOfClass, Stands, Closes, IsComment, Gap, no_gap, then_blank, then_comment, Lexed}
+use Rattle.kahn_syntax.proofs.Common.{◌≡◌, ℕ, ◌+◌, ◌≤◌, ◌<◌, ◌⊎◌, List, [], ◌∷◌, get_or, refl, sym, ap, subst, ◌∙◌, arith, inl, inr, nat_tests, Lexeme, Class, Word, Number, IsBlank, IsRun, HasForm, IsLongest, IsCommentWord, IsOfClass, Stands, Closes, IsComment, Gap, no_gap, then_blank, then_comment, Lexed}
+use Rattle.kahn_syntax.specs.declared.lexeme.Class.TheVariants.{Name, Sign}
 use Rattle.kahn_syntax.proofs.Keywords.{same_keyword, not_comment}
 use Rattle.kahn_syntax.proofs.Signs.{sign_begins, same_sign, sign_letter, sign_digit, sign_blank, letter_digit, letter_blank, digit_blank}
 

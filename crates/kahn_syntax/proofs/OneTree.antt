@@ -1,37 +1,26 @@
 -- No two trees spell one list: declarations, instances and programs.
-use Rattle.std.proofs.Common.{◌≡◌, ℕ, List, [], ◌∷◌, true, false, ⊎_elim, refl, sym, ap, ◌∙◌, subst}
+use Rattle.kahn_syntax.proofs.Common.{◌≡◌, ℕ, List, [], ◌∷◌, true, false, ⊎_elim, refl, sym, ap, ◌∙◌, subst, true≢false, Token, CommaToken, ParToken, takes, leads, leads_kind, AreAny, Further, Grouped, group, all_members, AreGroups, Kind, Role, Taking, Terminal, word, sign, name, empty, StatementTrees, no_statement, statement, statements_words, AreSome, ParameterTree, VariableTree, DeclarationTree, channels, process, ArgumentTree, channel, InstanceTree, instance, ProgramTree, program, kind_terminal, role_words, taking_words, names_words, further_names_words, group_words, groups_words, further_groups_words, Parameters, togethers_words, Variables, Declares, Declarations, Argues, Arguments, Instantiates, Instances, MaybeSemicolon, Spells, StandsFirst, parameter}
 use Rattle.kahn_syntax.specs.declared.lexeme.Keyword.TheVariants as keyword
 use Rattle.kahn_syntax.specs.declared.lexeme.Sign.TheVariants as mark
-use Rattle.kahn_tree.specs.declared.tree.Kind.{Kind}
 use Rattle.kahn_tree.specs.declared.tree.Kind.TheVariants as kind
-use Rattle.kahn_tree.specs.declared.tree.Role.{Role}
 use Rattle.kahn_tree.specs.declared.tree.Role.TheVariants as role
 use Rattle.kahn_tree.specs.declared.tree.Direction.TheVariants as direction
-use Rattle.kahn_tree.specs.declared.tree.Taking.{Taking}
 use Rattle.kahn_tree.specs.declared.tree.Taking.TheVariants as taking
-use Rattle.kahn_syntax.specs.Terminals.{Terminal, word, sign, name}
-use Rattle.kahn_syntax.specs.Trees.{empty, assign, send, print, block, if_then, if_else, while_do, repeat, StatementTrees, no_statement, statement, statements_words, AreSome}
-use Rattle.kahn_syntax.specs.Programs.{GroupTree, group, TogetherTree, together, ParameterTree, VariableTree, DeclarationTree, channels, process, ArgumentTree, channel, number, truth, InstanceTree, instance, ProgramTree, program, kind_terminal, role_words, taking_words, names_words, further_names_words, AreNames, group_words, groups_words, further_groups_words, groups_parameters, AreGroups, Parameters, togethers_words, togethers_variables, AreTogether, Variables, Declares, Declarations, Argues, Arguments, FurtherArguments, Instantiates, Instances, FurtherInstances, MaybeSemicolon, Spells}
+use Rattle.kahn_syntax.specs.Programs.{number, truth, variable}
 use Rattle.kahn_syntax.proofs.Unique.{tail_is}
 use Rattle.kahn_syntax.proofs.Blocks.{same_statements}
 
-head_is : (k l : Terminal) (r q : List Terminal) → k ∷ r ≡ l ∷ q → k ≡ l
-head_is k l r q e = cc
+-- what leads on stands there
+no_lead : (t : Token) (k : Terminal) (r x : List Terminal) → takes t k ≡ true → leads t r ≡ false → r ≡ k ∷ x → ⊥
+no_lead t k r x u h e = true≢false (sym u ∙ (ap (leads t) (sym e) ∙ h))
 
-abbrev NoComma : List Terminal → Type 0
-NoComma (sign mark.Comma ∷ r) = ⊥
-NoComma _ = Unit {0}
-
-no_comma : (r x : List Terminal) → NoComma r → r ≡ sign mark.Comma ∷ x → ⊥
-no_comma r x h e = let f : NoComma (sign mark.Comma ∷ x) = subst NoComma e h in f
-
-same_further_names : (ns ms : List (List ℕ)) (r q : List Terminal) → NoComma r → NoComma q → further_names_words ns r ≡ further_names_words ms q → (ns ≡ ms) × (r ≡ q)
+same_further_names : (ns ms : List (List ℕ)) (r q : List Terminal) → leads CommaToken r ≡ false → leads CommaToken q ≡ false → further_names_words ns r ≡ further_names_words ms q → (ns ≡ ms) × (r ≡ q)
 same_further_names [] [] r q x y e = (refl, e)
-same_further_names [] (m ∷ ms) r q x y e = absurd (no_comma r _ x e)
-same_further_names (n ∷ ns) [] r q x y e = absurd (no_comma q _ y (sym e))
+same_further_names [] (m ∷ ms) r q x y e = absurd (no_lead CommaToken (sign mark.Comma) r _ refl x e)
+same_further_names (n ∷ ns) [] r q x y e = absurd (no_lead CommaToken (sign mark.Comma) q _ refl y (sym e))
 same_further_names (n ∷ ns) (m ∷ ms) r q x y e = let z = same_further_names ns ms r q x y (tail_is _ _ _ _ (tail_is _ _ _ _ e)) in (cc, z.1)
 
-same_names : (ns ms : List (List ℕ)) (r q : List Terminal) → AreNames ns → AreNames ms → NoComma r → NoComma q → names_words ns r ≡ names_words ms q → (ns ≡ ms) × (r ≡ q)
+same_names : (ns ms : List (List ℕ)) (r q : List Terminal) → AreAny ns → AreAny ms → leads CommaToken r ≡ false → leads CommaToken q ≡ false → names_words ns r ≡ names_words ms q → (ns ≡ ms) × (r ≡ q)
 same_names [] ms r q a b x y e = absurd a
 same_names ns [] r q a b x y e = absurd b
 same_names (n ∷ ns) (m ∷ ms) r q a b x y e = let z = same_further_names ns ms r q x y (tail_is _ _ _ _ e) in (cc, z.1)
@@ -46,23 +35,14 @@ same_role : (a b : Role) (r q : List Terminal) → role_words a (word keyword.Ch
 same_role role.Inner role.Inner r q e = (refl, cc)
 same_role role.Input role.Input r q e = (refl, cc)
 same_role role.Output role.Output r q e = (refl, cc)
-same_role role.Inner role.Input r q e = absurd cc
-same_role role.Inner role.Output r q e = absurd cc
-same_role role.Input role.Inner r q e = absurd cc
-same_role role.Input role.Output r q e = absurd cc
-same_role role.Output role.Inner r q e = absurd cc
-same_role role.Output role.Input r q e = absurd cc
+same_role _ _ r q e = absurd cc
 
 same_taking : (t u : Taking) (n m : List ℕ) (r q : List Terminal) → taking_words t (name n ∷ r) ≡ taking_words u (name m ∷ q) → (t ≡ u) × (name n ∷ r ≡ name m ∷ q)
 same_taking (taking.Channel direction.In k) (taking.Channel direction.In l) n m r q e = (ap (taking.Channel direction.In) (same_kind k l _ _ e), tail_is _ _ _ _ (tail_is _ _ _ _ e))
 same_taking (taking.Channel direction.Out k) (taking.Channel direction.Out l) n m r q e = (ap (taking.Channel direction.Out) (same_kind k l _ _ e), tail_is _ _ _ _ (tail_is _ _ _ _ e))
 same_taking (taking.Value k) (taking.Value l) n m r q e = (ap taking.Value (same_kind k l _ _ e), tail_is _ _ _ _ e)
-same_taking (taking.Channel direction.In k) (taking.Channel direction.Out l) n m r q e = let z = tail_is _ _ _ _ e in absurd cc
-same_taking (taking.Channel direction.In k) (taking.Value l) n m r q e = let z = tail_is _ _ _ _ e in absurd cc
-same_taking (taking.Channel direction.Out k) (taking.Channel direction.In l) n m r q e = let z = tail_is _ _ _ _ e in absurd cc
-same_taking (taking.Channel direction.Out k) (taking.Value l) n m r q e = let z = tail_is _ _ _ _ e in absurd cc
 same_taking (taking.Value k) (taking.Channel direction.In l) n m r q e = let z = tail_is _ _ _ _ e in absurd cc
-same_taking (taking.Value k) (taking.Channel direction.Out l) n m r q e = let z = tail_is _ _ _ _ e in absurd cc
+same_taking _ _ n m r q e = let z = tail_is _ _ _ _ e in absurd cc
 
 kind_close : (k : Kind) (x y : List Terminal) → sign mark.Close ∷ x ≡ kind_terminal k ∷ y → ⊥
 kind_close kind.Integer x y e = cc
@@ -73,11 +53,11 @@ taking_close (taking.Channel direction.In k) x y e = kind_close k _ _ e
 taking_close (taking.Channel direction.Out k) x y e = kind_close k _ _ e
 taking_close (taking.Value k) x y e = kind_close k _ _ e
 
-no_comma_groups : (gs : List GroupTree) (x : List Terminal) → NoComma (further_groups_words gs (sign mark.Close ∷ x))
-no_comma_groups [] x = tt
-no_comma_groups (g ∷ gs) x = tt
+pub no_comma : (gs : List (Grouped Taking (List ℕ))) (x : List Terminal) → leads CommaToken (further_groups_words gs (sign mark.Close ∷ x)) ≡ false
+no_comma [] x = refl
+no_comma (g ∷ gs) x = refl
 
-same_group : (g h : GroupTree) (gs hs : List GroupTree) (r q : List Terminal) → AreGroups (g ∷ gs) → AreGroups (h ∷ hs) → NoComma r → NoComma q →
+same_group : (g h : Grouped Taking (List ℕ)) (gs hs : List (Grouped Taking (List ℕ))) (r q : List Terminal) → AreGroups (g ∷ gs) → AreGroups (h ∷ hs) → leads CommaToken r ≡ false → leads CommaToken q ≡ false →
     group_words g r ≡ group_words h q → (g ≡ h) × (r ≡ q)
 same_group (group t []) h gs hs r q a b x y e = absurd a.0
 same_group g (group u []) gs hs r q a b x y e = absurd b.0
@@ -85,68 +65,56 @@ same_group (group t (n ∷ ns)) (group u (m ∷ ms)) gs hs r q a b x y e =
     let z = same_taking t u n m _ _ e in
     let w = same_names (n ∷ ns) (m ∷ ms) r q tt tt x y z.1 in (cc, w.1)
 
-same_further_groups : (gs hs : List GroupTree) (x y : List Terminal) → AreGroups gs → AreGroups hs →
+same_further_groups : (gs hs : List (Grouped Taking (List ℕ))) (x y : List Terminal) → AreGroups gs → AreGroups hs →
     further_groups_words gs (sign mark.Close ∷ x) ≡ further_groups_words hs (sign mark.Close ∷ y) → (gs ≡ hs) × (x ≡ y)
 same_further_groups [] [] x y a b e = (refl, tail_is _ _ _ _ e)
 same_further_groups [] (h ∷ hs) x y a b e = absurd cc
 same_further_groups (g ∷ gs) [] x y a b e = absurd cc
 same_further_groups (g ∷ gs) (h ∷ hs) x y a b e =
-    let z = same_group g h gs hs (further_groups_words gs (sign mark.Close ∷ x)) (further_groups_words hs (sign mark.Close ∷ y)) a b (no_comma_groups gs x) (no_comma_groups hs y)
+    let z = same_group g h gs hs (further_groups_words gs (sign mark.Close ∷ x)) (further_groups_words hs (sign mark.Close ∷ y)) a b (no_comma gs x) (no_comma hs y)
     (tail_is _ _ _ _ e) in
     let w = same_further_groups gs hs x y a.1 b.1 z.1 in (cc, w.1)
 
-same_groups : (gs hs : List GroupTree) (x y : List Terminal) → AreGroups gs → AreGroups hs → groups_words gs (sign mark.Close ∷ x) ≡ groups_words hs (sign mark.Close ∷ y) →
+same_groups : (gs hs : List (Grouped Taking (List ℕ))) (x y : List Terminal) → AreGroups gs → AreGroups hs → groups_words gs (sign mark.Close ∷ x) ≡ groups_words hs (sign mark.Close ∷ y) →
     (gs ≡ hs) × (x ≡ y)
 same_groups [] [] x y a b e = (refl, tail_is _ _ _ _ e)
 same_groups [] (group t ns ∷ hs) x y a b e = absurd (taking_close t _ _ e)
 same_groups (group t ns ∷ gs) [] x y a b e = absurd (taking_close t _ _ (sym e))
 same_groups (g ∷ gs) (h ∷ hs) x y a b e =
-    let z = same_group g h gs hs (further_groups_words gs (sign mark.Close ∷ x)) (further_groups_words hs (sign mark.Close ∷ y)) a b (no_comma_groups gs x) (no_comma_groups hs y) e in
+    let z = same_group g h gs hs (further_groups_words gs (sign mark.Close ∷ x)) (further_groups_words hs (sign mark.Close ∷ y)) a b (no_comma gs x) (no_comma hs y) e in
     let w = same_further_groups gs hs x y a.1 b.1 z.1 in (cc, w.1)
 
 same_parameters : (ps qs : List ParameterTree) (ks x y : List Terminal) → Parameters ps ks (sign mark.Close ∷ x) → Parameters qs ks (sign mark.Close ∷ y) → (ps ≡ qs) × (x ≡ y)
-same_parameters ps qs ks x y (gs, a, e, p) (hs, b, f, q) = let z = same_groups gs hs x y a b (sym p ∙ q) in (e ∙ ap groups_parameters z.0 ∙ sym f, z.1)
+same_parameters ps qs ks x y (gs, a, e, p) (hs, b, f, q) = let z = same_groups gs hs x y a b (sym p ∙ q) in (e ∙ ap (all_members parameter) z.0 ∙ sym f, z.1)
 
-abbrev pub NoKind : List Terminal → Type 0
-NoKind (word keyword.Integer ∷ r) = ⊥
-NoKind (word keyword.Logical ∷ r) = ⊥
-NoKind _ = Unit {0}
+no_kind : (k : Kind) (r x : List Terminal) → leads_kind r ≡ false → r ≡ kind_terminal k ∷ x → ⊥
+no_kind kind.Integer r x h e = true≢false (ap leads_kind (sym e) ∙ h)
+no_kind kind.Logical r x h e = true≢false (ap leads_kind (sym e) ∙ h)
 
-no_kind : (k : Kind) (r x : List Terminal) → NoKind r → r ≡ kind_terminal k ∷ x → ⊥
-no_kind kind.Integer r x h e = let f : NoKind (word keyword.Integer ∷ x) = subst NoKind e h in f
-no_kind kind.Logical r x h e = let f : NoKind (word keyword.Logical ∷ x) = subst NoKind e h in f
-
-pub statements_start : (ss : StatementTrees) (r : List Terminal) → AreSome ss → NoKind (statements_words ss (word keyword.End ∷ r))
+pub statements_start : (ss : StatementTrees) (r : List Terminal) → AreSome ss → leads_kind (statements_words ss (word keyword.End ∷ r)) ≡ false
 statements_start no_statement r h = absurd h
-statements_start (statement empty no_statement) r h = tt
-statements_start (statement empty (statement s ss)) r h = tt
-statements_start (statement (assign n e) ss) r h = tt
-statements_start (statement (send e n) ss) r h = tt
-statements_start (statement (print e) ss) r h = tt
-statements_start (statement (block ts) ss) r h = tt
-statements_start (statement (if_then t a) ss) r h = tt
-statements_start (statement (if_else t a b) ss) r h = tt
-statements_start (statement (while_do t a) ss) r h = tt
-statements_start (statement (repeat a) ss) r h = tt
+statements_start (statement empty no_statement) r h = refl
+statements_start (statement empty (statement s ss)) r h = refl
+statements_start _ r h = refl
 
-same_togethers : (ts us : List TogetherTree) (r q : List Terminal) → AreTogether ts → AreTogether us → NoKind r → NoKind q → togethers_words ts r ≡ togethers_words us q →
+same_togethers : (ts us : List (Grouped Kind (List ℕ))) (r q : List Terminal) → AreGroups ts → AreGroups us → leads_kind r ≡ false → leads_kind q ≡ false → togethers_words ts r ≡ togethers_words us q →
     (ts ≡ us) × (r ≡ q)
 same_togethers [] [] r q a b x y e = (refl, e)
-same_togethers [] (together k ns ∷ us) r q a b x y e = absurd (no_kind k r _ x e)
-same_togethers (together k ns ∷ ts) [] r q a b x y e = absurd (no_kind k q _ y (sym e))
-same_togethers (together k ns ∷ ts) (together l ms ∷ us) r q a b x y e =
+same_togethers [] (group k ns ∷ us) r q a b x y e = absurd (no_kind k r _ x e)
+same_togethers (group k ns ∷ ts) [] r q a b x y e = absurd (no_kind k q _ y (sym e))
+same_togethers (group k ns ∷ ts) (group l ms ∷ us) r q a b x y e =
     let s = same_kind k l _ _ e in
-    let z = same_names ns ms (sign mark.Semicolon ∷ togethers_words ts r) (sign mark.Semicolon ∷ togethers_words us q) a.0 b.0 tt tt (tail_is _ _ _ _ e) in
+    let z = same_names ns ms (sign mark.Semicolon ∷ togethers_words ts r) (sign mark.Semicolon ∷ togethers_words us q) a.0 b.0 refl refl (tail_is _ _ _ _ e) in
     let w = same_togethers ts us r q a.1 b.1 x y (tail_is _ _ _ _ z.1) in (cc, w.1)
 
-same_variables : (vs ws : List VariableTree) (ks r q : List Terminal) → NoKind r → NoKind q → Variables vs ks r → Variables ws ks q → (vs ≡ ws) × (r ≡ q)
-same_variables vs ws ks r q x y (ts, a, e, p) (us, b, f, g) = let z = same_togethers ts us r q a b x y (sym p ∙ g) in (e ∙ ap togethers_variables z.0 ∙ sym f, z.1)
+same_variables : (vs ws : List VariableTree) (ks r q : List Terminal) → leads_kind r ≡ false → leads_kind q ≡ false → Variables vs ks r → Variables ws ks q → (vs ≡ ws) × (r ≡ q)
+same_variables vs ws ks r q x y (ts, a, e, p) (us, b, f, g) = let z = same_togethers ts us r q a b x y (sym p ∙ g) in (e ∙ ap (all_members variable) z.0 ∙ sym f, z.1)
 
 kind_process : (k : Kind) (x y : List Terminal) → word keyword.Process ∷ x ≡ kind_terminal k ∷ y → ⊥
 kind_process kind.Integer x y e = cc
 kind_process kind.Logical x y e = cc
 
-same_declares : (d c : DeclarationTree) (ks r q : List Terminal) → NoComma r → NoComma q → Declares d ks r → Declares c ks q → (d ≡ c) × (r ≡ q)
+same_declares : (d c : DeclarationTree) (ks r q : List Terminal) → leads CommaToken r ≡ false → leads CommaToken q ≡ false → Declares d ks r → Declares c ks q → (d ≡ c) × (r ≡ q)
 same_declares (channels k o ns) (channels l p ms) ks r q x y (a, e) (b, f) =
     let both = sym e ∙ f in
     let s = same_kind k l _ _ both in
@@ -179,7 +147,7 @@ same_declarations [] [] ks r q x y e f = (refl, sym e ∙ f)
 same_declarations [] (c ∷ cs) ks r q x y e (m, p, f) = absurd (named_declares c ks _ (subst Named (sym e) x) p)
 same_declarations (d ∷ ds) [] ks r q x y (m, p, f) e = absurd (named_declares d ks _ (subst Named (sym e) y) p)
 same_declarations (d ∷ ds) (c ∷ cs) ks r q x y (m, p, e) (m', p', e') =
-    let z = same_declares d c ks _ _ tt tt p p' in
+    let z = same_declares d c ks _ _ refl refl p p' in
     let next : m' ≡ m = sym (tail_is _ _ _ _ z.1) in
     let w = same_declarations ds cs m r q x y e (subst (λ k. Declarations cs k q) next e') in (cc, w.1)
 
@@ -187,29 +155,26 @@ same_argues : (a b : ArgumentTree) (ks r q : List Terminal) → Argues a ks r �
 same_argues (channel n) (channel m) ks r q e f = (cc, cc)
 same_argues (truth true) (truth true) ks r q e f = (refl, cc)
 same_argues (truth false) (truth false) ks r q e f = (refl, cc)
-same_argues (truth true) (truth false) ks r q e f = absurd cc
-same_argues (truth false) (truth true) ks r q e f = absurd cc
-same_argues (channel n) (truth true) ks r q e f = absurd cc
-same_argues (channel n) (truth false) ks r q e f = absurd cc
-same_argues (truth true) (channel n) ks r q e f = absurd cc
-same_argues (truth false) (channel n) ks r q e f = absurd cc
-same_argues (channel n) (number z) ks r q e f = ⊎_elim (λ g. absurd cc) (λ (i, p, g). absurd cc) f
-same_argues (number z) (channel n) ks r q e f = ⊎_elim (λ g. absurd cc) (λ (i, p, g). absurd cc) e
-same_argues (number z) (truth true) ks r q e f = ⊎_elim (λ g. absurd cc) (λ (i, p, g). absurd cc) e
-same_argues (number z) (truth false) ks r q e f = ⊎_elim (λ g. absurd cc) (λ (i, p, g). absurd cc) e
-same_argues (truth true) (number z) ks r q e f = ⊎_elim (λ g. absurd cc) (λ (i, p, g). absurd cc) f
-same_argues (truth false) (number z) ks r q e f = ⊎_elim (λ g. absurd cc) (λ (i, p, g). absurd cc) f
 same_argues (number z) (number w) ks r q e f =
     ⊎_elim (λ g. ⊎_elim (λ h. (cc, cc)) (λ (j, p, h). absurd cc) f) (λ (i, o, g). ⊎_elim (λ h. absurd cc) (λ (j, p, h). (cc, cc)) f) e
+same_argues (number z) (truth true) ks r q e f = ⊎_elim (λ g. absurd cc) (λ (i, p, g). absurd cc) e
+same_argues (number z) _ ks r q e f = ⊎_elim (λ g. absurd cc) (λ (i, p, g). absurd cc) e
+same_argues (truth true) (number z) ks r q e f = ⊎_elim (λ g. absurd cc) (λ (i, p, g). absurd cc) f
+same_argues _ (number z) ks r q e f = ⊎_elim (λ g. absurd cc) (λ (i, p, g). absurd cc) f
+same_argues _ (truth true) ks r q e f = absurd cc
+same_argues (truth true) _ ks r q e f = absurd cc
+same_argues _ _ ks r q e f = absurd cc
 
-same_further_arguments : (xs ys : List ArgumentTree) (ks r q : List Terminal) → NoComma r → NoComma q → FurtherArguments xs ks r → FurtherArguments ys ks q → (xs ≡ ys) × (r ≡ q)
-same_further_arguments [] [] ks r q x y e f = (refl, sym e ∙ f)
-same_further_arguments [] (b ∷ ys) ks r q x y e (m, n, f, p, g) = absurd (no_comma r m x (sym e ∙ f))
-same_further_arguments (a ∷ xs) [] ks r q x y (m, n, f, p, g) e = absurd (no_comma q m y (sym e ∙ f))
-same_further_arguments (a ∷ xs) (b ∷ ys) ks r q x y (m, n, e, p, h) (m', n', e', p', h') =
-    let first : m' ≡ m = cc in
-    let z = same_argues a b m n n' p (subst (λ k. Argues b k n') first p') in
-    let w = same_further_arguments xs ys n r q x y h (subst (λ k. FurtherArguments ys k q) (sym z.1) h') in (cc, w.1)
+same_further : {X : Type 0} (t : Token) (k : Terminal) (P : X → List Terminal → List Terminal → Type 0) → takes t k ≡ true
+    → ((x y : X) (ks r q : List Terminal) → P x ks r → P y ks q → (x ≡ y) × (r ≡ q)) → (xs ys : List X) (ks r q : List Terminal) → leads t r ≡ false → leads t q ≡ false
+    → Further (StandsFirst k) P xs ks r → Further (StandsFirst k) P ys ks q → (xs ≡ ys) × (r ≡ q)
+same_further t k P u one [] [] ks r q x y e f = (refl, sym e ∙ f)
+same_further t k P u one [] (b ∷ ys) ks r q x y e (m, n, f, p, g) = absurd (no_lead t k r m u x (sym e ∙ f))
+same_further t k P u one (a ∷ xs) [] ks r q x y (m, n, f, p, g) e = absurd (no_lead t k q m u y (sym e ∙ f))
+same_further t k P u one (a ∷ xs) (b ∷ ys) ks r q x y (m, n, e, p, h) (m', n', e', p', h') =
+    let first : m' ≡ m = tail_is _ _ _ _ (sym e' ∙ e) in
+    let z = one a b m n n' p (subst (λ j. P b j n') first p') in
+    let w = same_further t k P u one xs ys n r q x y h (subst (λ j. Further (StandsFirst k) P ys j q) (sym z.1) h') in (cc, w.1)
 
 not_close : (a : ArgumentTree) (ks r x : List Terminal) → Argues a ks r → ks ≡ sign mark.Close ∷ x → ⊥
 not_close (channel n) ks r x e p = cc
@@ -223,7 +188,7 @@ same_arguments [] (b ∷ ys) ks r q e (m, p, h) = absurd (not_close b ks m r p e
 same_arguments (a ∷ xs) [] ks r q (m, p, h) e = absurd (not_close a ks m q p e)
 same_arguments (a ∷ xs) (b ∷ ys) ks r q (m, p, h) (m', p', h') =
     let z = same_argues a b ks m m' p p' in
-    let w = same_further_arguments xs ys m _ _ tt tt h (subst (λ k. FurtherArguments ys k (sign mark.Close ∷ q)) (sym z.1) h') in (cc, tail_is _ _ _ _ w.1)
+    let w = same_further CommaToken (sign mark.Comma) Argues refl same_argues xs ys m _ _ refl refl h (subst (λ k. Further (StandsFirst (sign mark.Comma)) Argues ys k (sign mark.Close ∷ q)) (sym z.1) h') in (cc, tail_is _ _ _ _ w.1)
 
 same_instantiates : (i j : InstanceTree) (ks r q : List Terminal) → Instantiates i ks r → Instantiates j ks q → (i ≡ j) × (r ≡ q)
 same_instantiates (instance n xs) (instance m ys) ks r q (a, e, h) (b, f, g) =
@@ -231,28 +196,12 @@ same_instantiates (instance n xs) (instance m ys) ks r q (a, e, h) (b, f, g) =
     let named : n ≡ m = cc in
     let z = same_arguments xs ys a r q h (subst (λ k. Arguments ys k (sign mark.Close ∷ q)) first g) in (cc, z.1)
 
-abbrev pub NoPar : List Terminal → Type 0
-NoPar (word keyword.Par ∷ r) = ⊥
-NoPar _ = Unit {0}
-
-no_par : (r x : List Terminal) → NoPar r → r ≡ word keyword.Par ∷ x → ⊥
-no_par r x h e = let f : NoPar (word keyword.Par ∷ x) = subst NoPar e h in f
-
-same_further_instances : (is js : List InstanceTree) (ks r q : List Terminal) → NoPar r → NoPar q → FurtherInstances is ks r → FurtherInstances js ks q → (is ≡ js) × (r ≡ q)
-same_further_instances [] [] ks r q x y e f = (refl, sym e ∙ f)
-same_further_instances [] (j ∷ js) ks r q x y e (m, n, f, p, g) = absurd (no_par r m x (sym e ∙ f))
-same_further_instances (i ∷ is) [] ks r q x y (m, n, f, p, g) e = absurd (no_par q m y (sym e ∙ f))
-same_further_instances (i ∷ is) (j ∷ js) ks r q x y (m, n, e, p, h) (m', n', e', p', h') =
-    let first : m' ≡ m = cc in
-    let z = same_instantiates i j m n n' p (subst (λ k. Instantiates j k n') first p') in
-    let w = same_further_instances is js n r q x y h (subst (λ k. FurtherInstances js k q) (sym z.1) h') in (cc, w.1)
-
-same_instances : (is js : List InstanceTree) (ks r q : List Terminal) → NoPar r → NoPar q → Instances is ks r → Instances js ks q → (is ≡ js) × (r ≡ q)
+same_instances : (is js : List InstanceTree) (ks r q : List Terminal) → leads ParToken r ≡ false → leads ParToken q ≡ false → Instances is ks r → Instances js ks q → (is ≡ js) × (r ≡ q)
 same_instances [] js ks r q x y h g = absurd h
 same_instances is [] ks r q x y h g = absurd g
 same_instances (i ∷ is) (j ∷ js) ks r q x y (m, p, h) (m', p', h') =
     let z = same_instantiates i j ks m m' p p' in
-    let w = same_further_instances is js m r q x y h (subst (λ k. FurtherInstances js k q) (sym z.1) h') in (cc, w.1)
+    let w = same_further ParToken (word keyword.Par) Instantiates refl same_instantiates is js m r q x y h (subst (λ k. Further (StandsFirst (word keyword.Par)) Instantiates js k q) (sym z.1) h') in (cc, w.1)
 
 named_instantiates : (i : InstanceTree) (ks r : List Terminal) → Instantiates i ks r → Named ks
 named_instantiates (instance n xs) ks r (m, e, h) = let f : Named (name n ∷ sign mark.Open ∷ m) = tt in subst Named (sym e) f
@@ -261,11 +210,8 @@ pub named_instances : (is : List InstanceTree) (ks r : List Terminal) → Instan
 named_instances [] ks r h = absurd h
 named_instances (i ∷ is) ks r (m, p, h) = named_instantiates i ks m p
 
-pub no_par_end : (c d e : List Terminal) → MaybeSemicolon c d → d ≡ word keyword.End ∷ e → NoPar c
-no_par_end c d e h p =
-    let one : NoPar (sign mark.Semicolon ∷ d) = tt in
-    let two : NoPar (word keyword.End ∷ e) = tt in
-    ⊎_elim (λ x. subst NoPar (sym x) one) (λ x. subst NoPar (sym (x ∙ p)) two) h
+pub no_par_end : (c d e : List Terminal) → MaybeSemicolon c d → d ≡ word keyword.End ∷ e → leads ParToken c ≡ false
+no_par_end c d e h p = ⊎_elim (λ x. ap (leads ParToken) x) (λ x. ap (leads ParToken) (x ∙ p)) h
 
 -- No two trees spell one list.
 pub one_tree : (t u : ProgramTree) (ks : List Terminal) → Spells t ks → Spells u ks → t ≡ u

@@ -1,13 +1,6 @@
 -- The lexemes of a text are as the lexer makes them.
-use Rattle.std.proofs.Common.{ℕ, List, [], ◌∷◌, arith}
-use Rattle.std.specs.Prelude.{All}
-use Rattle.std.proofs.lemmas.List.Elements.{All-head, All-tail}
-use Rattle.kahn_tree.specs.declared.span.Span.{Span}
-use Rattle.kahn_syntax.specs.declared.lexeme.Lexeme.{Lexeme}
-use Rattle.kahn_syntax.specs.declared.lexeme.Class.{Class}
+use Rattle.kahn_syntax.proofs.Common.{ℕ, List, [], ◌∷◌, arith, All, All-head, All-tail, Span, Lexeme, Class, IsOfClass, IsSlice, Lexed, IsProper, AreProper}
 use Rattle.kahn_syntax.specs.declared.lexeme.Class.TheVariants as class
-use Rattle.kahn_syntax.specs.Lexemes.{IsOfClass, IsSlice, Lexed}
-use Rattle.kahn_syntax.specs.Terminals.{IsProper, AreProper}
 
 proper : (text : List ℕ) (c : Class) (at : Span) → IsOfClass text c at.from at.to → IsSlice text (record { span = at; what = c }) → IsProper text c at
 proper text (class.Word w) at h s = tt

@@ -1,15 +1,6 @@
 -- Rows inside of trees, and the lists that they are.
-use Rattle.std.proofs.Common.{◌≡◌, ℕ, List, refl, sym, subst, ap, ◌∙◌, Vec, Global}
-use Rattle.kahn_tree.specs.declared.tree.Form.{Row_of-Operand, end_of-Operand, more_of-Operand, items-the_row-Operand, items_hidden-the_row-Operand-0}
-use Rattle.kahn_tree.specs.declared.tree.Form.TheBlock.{hidden-the_row-Operand-0}
-use Rattle.kahn_tree.specs.declared.tree.Operand.{Operand}
-use Rattle.kahn_tree.specs.declared.tree.Action.{Row_of-Statement, end_of-Statement, more_of-Statement, items-the_row-Statement, items_hidden-the_row-Statement-0}
-use Rattle.kahn_tree.specs.declared.tree.Action.TheBlock.{hidden-the_row-Statement-0}
-use Rattle.kahn_tree.specs.declared.tree.Statement.{Statement}
-use Rattle.kahn_syntax.specs.Trees.{operand, statement}
-use Rattle.kahn_syntax.specs.declared.lexeme.Lexeme.{Lexeme}
-use Rattle.kahn_syntax.specs.Spans.{OperandRowSpans, OperandsSpan, StatementRowSpans, FurtherRowSpans, StatementsSpan, FurtherStatementsSpan}
-use Rattle.kahn_syntax.specs.Drawn.{form_of, operands_row, operands_of, action_of, statements_row, statements_of}
+use Rattle.kahn_syntax.proofs.Common.{◌≡◌, ℕ, List, refl, sym, subst, ap, ◌∙◌, Vec, Global, Row_of-Operand, end_of-Operand, more_of-Operand, items-the_row-Operand, items_hidden-the_row-Operand-0, hidden-the_row-Operand-0, Operand, Row_of-Statement, end_of-Statement, more_of-Statement, items-the_row-Statement, items_hidden-the_row-Statement-0, hidden-the_row-Statement-0, Statement, operand, statement, Lexeme, OperandRowSpans, OperandsSpan, StatementRowSpans, FurtherRowSpans, StatementsSpan, Takes, StatementSpans, Further, sign, form_of, operands_row, operands_of, action_of, statements_row, statements_of}
+use Rattle.kahn_syntax.specs.declared.lexeme.Sign.TheVariants as mark
 
 operands_shown : (n : _) (row : Row_of-Operand n) → operands_row row ≡ operands_of (items-the_row-Operand n row)
 operands_shown n end_of-Operand = refl
@@ -34,7 +25,7 @@ operands_row_spans text rest xs r h =
     operands_spans_shown text _ (hidden-the_row-Operand-0 rest) xs r (subst (λ os. OperandsSpan text os xs r) (sym (items_hidden-the_row-Operand-0 rest)) h)
 
 further_spans_shown : (text : List ℕ) (n : _) (row : Row_of-Statement n) (xs r : List Lexeme) →
-    FurtherStatementsSpan text (items-the_row-Statement n row) xs r → FurtherRowSpans text row xs r
+    Further (Takes text (sign mark.Semicolon)) (StatementSpans text) (items-the_row-Statement n row) xs r → FurtherRowSpans text row xs r
 further_spans_shown text n end_of-Statement xs r h = h
 further_spans_shown text n (more_of-Statement at s rest) xs r (a, b, t, p, h) = (a, b, t, p, further_spans_shown text _ rest b r h)
 

@@ -1,12 +1,5 @@
 -- The value of a run of digits.
-use Rattle.std.proofs.Common.{◌≡◌, ℕ, ◌+◌, ◌-◌, ◌≤◌, ◌<◌, ◌⊎◌, List, length, get_or, drop, arith, ⊎_elim, Ok, Err, ℤ, pos, length-drop, length-take, w64}
-use Rattle.std.specs.Prelude.{slice_range}
-use Rattle.std.specs.Int.{IsInRange}
-use Rattle.std.specs.Str.Parse.{digits_value, ParsesSigned}
-use Rattle.std.proofs.lemmas.List.{get_or-take, get_or-drop}
-use Rattle.std.proofs.lemmas.Str.Parse.{parse_signed_digits, numerals_by_value, tells_by_index, IsNumeralModel}
-use Rattle.std.proofs.lemmas.Bool.Decides.{nat_tests}
-use Rattle.kahn_syntax.specs.Lexemes.{IsRun, largest_number}
+use Rattle.kahn_syntax.proofs.Common.{◌≡◌, ℕ, ◌+◌, ◌-◌, ◌≤◌, ◌<◌, ◌⊎◌, List, length, get_or, drop, arith, ⊎_elim, Ok, Err, ℤ, pos, length-drop, length-take, w64, slice_range, IsInRange, digits_value, ParsesSigned, get_or-take, get_or-drop, parse_signed_digits, numerals_by_value, tells_by_index, IsNumeralModel, nat_tests, IsRun, largest_number}
 
 abbrev pub AreDigits : List ℕ → Type 0
 AreDigits ds = (i : ℕ) → i < length ds → IsInRange 48 57 (get_or ds i 0)

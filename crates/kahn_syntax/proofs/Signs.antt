@@ -1,8 +1,5 @@
 -- Signs: how they begin, and that no two have the same bytes.
-use Rattle.std.proofs.Common.{◌≡◌, ℕ, ◌+◌, ◌≤◌, ◌<◌, ◌⊎◌, List, [], ◌∷◌, Option, Some, get_or, find, bytes_eq, refl, sym, ap, ◌∙◌, arith, inl, inr}
-use Rattle.kahn_syntax.specs.declared.lexeme.Sign.{Sign}
-use Rattle.kahn_syntax.specs.declared.lexeme.Sign.TheVariants.{Becomes, Open, Close, Comma, Semicolon, Plus, Minus, Times, Equal, Unequal, Less, AtMost, Greater, AtLeast, Not}
-use Rattle.kahn_syntax.specs.Lexemes.{IsBlank, IsDigit, IsLetter, bytes_of_sign, HasBytes, IsSign}
+use Rattle.kahn_syntax.proofs.Common.{◌≡◌, ℕ, ◌+◌, ◌≤◌, ◌<◌, ◌⊎◌, List, [], ◌∷◌, Option, Some, get_or, find, bytes_eq, refl, sym, ap, ◌∙◌, arith, inl, inr, Sign, Becomes, Open, Close, Comma, Semicolon, Plus, Minus, Times, Equal, Unequal, Less, AtMost, Greater, AtLeast, Not, IsBlank, IsDigit, IsLetter, bytes_of_sign, HasBytes, IsSign}
 
 -- the bytes with which signs begin are among these
 abbrev pub IsSignByte : ℕ → Type 0
@@ -48,21 +45,14 @@ pub record Begins (text : List ℕ) (a b : ℕ) : Type 0 where
   pub byte : IsSignByte (get_or text a 0)
 
 pub sign_begins : (text : List ℕ) (s : Sign) (a b : ℕ) → IsSign text s a b → Begins text a b
-sign_begins text Becomes a b h = record { grows = omega arith; byte = inr (inl (omega arith, omega arith)) }
 sign_begins text Open a b h = record { grows = omega arith; byte = inl (omega arith, omega arith) }
 sign_begins text Close a b h = record { grows = omega arith; byte = inl (omega arith, omega arith) }
 sign_begins text Comma a b h = record { grows = omega arith; byte = inl (omega arith, omega arith) }
-sign_begins text Semicolon a b h = record { grows = omega arith; byte = inr (inl (omega arith, omega arith)) }
 sign_begins text Plus a b h = record { grows = omega arith; byte = inl (omega arith, omega arith) }
 sign_begins text Minus a b h = record { grows = omega arith; byte = inl (omega arith, omega arith) }
 sign_begins text Times a b h = record { grows = omega arith; byte = inl (omega arith, omega arith) }
-sign_begins text Equal a b h = record { grows = omega arith; byte = inr (inl (omega arith, omega arith)) }
-sign_begins text Unequal a b h = record { grows = omega arith; byte = inr (inl (omega arith, omega arith)) }
-sign_begins text Less a b h = record { grows = omega arith; byte = inr (inl (omega arith, omega arith)) }
-sign_begins text AtMost a b h = record { grows = omega arith; byte = inr (inl (omega arith, omega arith)) }
-sign_begins text Greater a b h = record { grows = omega arith; byte = inr (inl (omega arith, omega arith)) }
-sign_begins text AtLeast a b h = record { grows = omega arith; byte = inr (inl (omega arith, omega arith)) }
 sign_begins text Not a b h = record { grows = omega arith; byte = inr (inr (omega arith)) }
+sign_begins text _ a b h = record { grows = omega arith; byte = inr (inl (omega arith, omega arith)) }
 
 -- the bytes between two places are one list
 ends_later : (text : List ℕ) (a b : ℕ) (cs : List ℕ) → HasBytes text a b cs → a ≤ b
@@ -83,20 +73,7 @@ sign_named bytes = find (λ s. bytes_eq (bytes_of_sign s) bytes) (Becomes ∷ Op
 
 named_sign : (s : Sign) → sign_named (bytes_of_sign s) ≡ Some s
 named_sign Becomes = refl
-named_sign Open = refl
-named_sign Close = refl
-named_sign Comma = refl
-named_sign Semicolon = refl
-named_sign Plus = refl
-named_sign Minus = refl
-named_sign Times = refl
-named_sign Equal = refl
-named_sign Unequal = refl
-named_sign Less = refl
-named_sign AtMost = refl
-named_sign Greater = refl
-named_sign AtLeast = refl
-named_sign Not = refl
+named_sign _ = refl
 
 pub same_sign : (text : List ℕ) (s t : Sign) (a b : ℕ) → IsSign text s a b → IsSign text t a b → s ≡ t
 same_sign text s t a b h k =

@@ -1,24 +1,9 @@
 -- Parts of a tree that are read one after another, and the lexemes that they take.
-use Rattle.std.proofs.Common.{◌≡◌, ℕ, List, [], ◌∷◌, ◌++◌, length, refl, sym, ap, ◌∙◌, subst, append_assoc, append-nil, arith, get_or, take, drop, ◌-◌, ◌≤◌}
+use Rattle.std.proofs.Common.{append-nil}
+use Rattle.kahn_syntax.proofs.Common.{◌≡◌, ℕ, List, [], ◌∷◌, ◌++◌, length, refl, sym, ap, ◌∙◌, subst, append_assoc, arith, get_or, take, drop, ◌-◌, ◌≤◌, Further, Between, SomeBetween, Grouped, group, members_of, all_members, Lexeme, Name, Operand, Statement, Kind, Taking, Parameter, Variable, Declaration, Argument, Terminal, terminal, terminals, sign, name, operator_terminal, kind_terminal, name_of, IsPast, Takes, Covers, NameSpans, ExpressionSpans, OperandsSpan, StatementSpans, GroupSpans, GroupsSpan, ParametersSpan, kind_of, DirectionSpans, TogetherSpans, TogethersSpan, VariablesSpan, DeclarationSpans, DeclarationsSpan, ArgumentSpans, parameter_of, variable_of, NamesSpan}
 use Rattle.kahn_syntax.specs.declared.lexeme.Keyword.TheVariants as keyword
 use Rattle.kahn_syntax.specs.declared.lexeme.Sign.TheVariants as mark
-use Rattle.kahn_syntax.specs.declared.lexeme.Lexeme.{Lexeme}
-use Rattle.kahn_tree.specs.declared.tree.Name.{Name}
-use Rattle.kahn_tree.specs.declared.tree.Operand.{Operand}
-use Rattle.kahn_tree.specs.declared.tree.Statement.{Statement}
-use Rattle.kahn_tree.specs.declared.tree.Kind.{Kind}
-use Rattle.kahn_tree.specs.declared.tree.Taking.{Taking}
-use Rattle.kahn_tree.specs.declared.tree.Parameter.{Parameter}
-use Rattle.kahn_tree.specs.declared.tree.Variable.{Variable}
-use Rattle.kahn_tree.specs.declared.tree.Declaration.{Declaration}
-use Rattle.kahn_tree.specs.declared.tree.Argument.{Argument}
-use Rattle.kahn_tree.specs.declared.tree.Instance.{Instance}
-use Rattle.kahn_syntax.specs.Terminals.{Terminal, terminal, terminals, word, sign, name}
-use Rattle.kahn_syntax.specs.Trees.{operator_terminal}
-use Rattle.kahn_syntax.specs.Programs.{kind_terminal}
-use Rattle.kahn_syntax.specs.Drawn.{name_of}
 use Rattle.kahn_syntax.proofs.Lists.{next_list}
-use Rattle.kahn_syntax.specs.Spans.{IsPast, Takes, Covers, NameSpans, FurtherNamesSpan, NamesSpan, ExpressionSpans, OperandsSpan, StatementSpans, FurtherStatementsSpan, StatementsSpan, NamedGroup, group, NamedTogether, together, GroupSpans, FurtherGroupsSpan, GroupsSpan, parameters_of, all_parameters, ParametersSpan, kind_of, DirectionSpans, TogetherSpans, TogethersSpan, variables_of, all_variables, VariablesSpan, DeclarationSpans, DeclarationsSpan, ArgumentSpans, FurtherArgumentsSpan, ArgumentsSpan, InstanceSpans, FurtherInstancesSpan, InstancesSpan}
 
 -- one lexeme has its own span
 pub covers_one : (xs r : List Lexeme) (x : Lexeme) → xs ≡ x ∷ r → Covers x.span xs r
@@ -54,85 +39,68 @@ pub no_operands : (text : List ℕ) (os : List Operand) (xs r : List Lexeme) →
 no_operands text [] xs r e h = h
 no_operands text (o ∷ os) xs r e h = absurd (omega (arith, e))
 
-further_statements_more : (text : List ℕ) (ss : List Statement) (s : Statement) (xs m k r : List Lexeme) → FurtherStatementsSpan text ss xs m →
-    Takes text (sign mark.Semicolon) m k → StatementSpans text s k r → FurtherStatementsSpan text (ss ++ s ∷ []) xs r
-further_statements_more text [] s xs m k r h t p = (k, r, subst (λ y. Takes text (sign mark.Semicolon) y k) (sym h) t, p, refl)
-further_statements_more text (u ∷ ss) s xs m k r (a, b, t', p', h) t p = (a, b, t', p', further_statements_more text ss s b m k r h t p)
+further_more : {K X : Type 0} (T : List K → List K → Type 0) (P : X → List K → List K → Type 0) (us : List X) (x : X) (xs m k r : List K) → Further T P us xs m →
+    T m k → P x k r → Further T P (us ++ x ∷ []) xs r
+further_more T P [] x xs m k r h t p = (k, r, subst (λ y. T y k) (sym h) t, p, refl)
+further_more T P (u ∷ us) x xs m k r (a, b, t', p', h) t p = (a, b, t', p', further_more T P us x b m k r h t p)
+
+pub some_more : {K X : Type 0} (T : List K → List K → Type 0) (P : X → List K → List K → Type 0) (us : List X) (x : X) (xs m k r : List K) → SomeBetween T P us xs m →
+    T m k → P x k r → SomeBetween T P (us ++ x ∷ []) xs r
+some_more T P [] x xs m k r h t p = absurd h
+some_more T P (u ∷ us) x xs m k r (a, p', h) t p = (a, p', further_more T P us x a m k r h t p)
+
+pub some_between : {K X : Type 0} (T : List K → List K → Type 0) (P : X → List K → List K → Type 0) (us : List X) (xs r : List K) → SomeBetween T P us xs r → Between T P us xs r
+some_between T P [] xs r h = absurd h
+some_between T P (u ∷ us) xs r h = h
 
 -- one statement or more
 abbrev pub SomeStatements : List ℕ → List Statement → List Lexeme → List Lexeme → Type 0
-SomeStatements text [] xs r = ⊥
-SomeStatements text (s ∷ ss) xs r = StatementsSpan text (s ∷ ss) xs r
+SomeStatements text ss xs r = SomeBetween (Takes text (sign mark.Semicolon)) (StatementSpans text) ss xs r
 
-pub some_are_statements : (text : List ℕ) (ss : List Statement) (xs r : List Lexeme) → SomeStatements text ss xs r → StatementsSpan text ss xs r
-some_are_statements text [] xs r h = absurd h
-some_are_statements text (s ∷ ss) xs r h = h
-
-pub statements_more : (text : List ℕ) (ss : List Statement) (s : Statement) (xs m k r : List Lexeme) → SomeStatements text ss xs m →
-    Takes text (sign mark.Semicolon) m k → StatementSpans text s k r → SomeStatements text (ss ++ s ∷ []) xs r
-statements_more text [] s xs m k r h t p = absurd h
-statements_more text (u ∷ ss) s xs m k r (a, p', h) t p = (a, p', further_statements_more text ss s a m k r h t p)
-
-further_names_more : (text : List ℕ) (ns : List Name) (n : Name) (xs m k r : List Lexeme) → FurtherNamesSpan text ns xs m →
-    Takes text (sign mark.Comma) m k → NameSpans text n k r → FurtherNamesSpan text (ns ++ n ∷ []) xs r
-further_names_more text [] n xs m k r h t p = (k, r, subst (λ y. Takes text (sign mark.Comma) y k) (sym h) t, p, refl)
-further_names_more text (u ∷ ns) n xs m k r (a, b, t', p', h) t p = (a, b, t', p', further_names_more text ns n b m k r h t p)
-
-pub names_more : (text : List ℕ) (ns : List Name) (n : Name) (xs m k r : List Lexeme) → NamesSpan text ns xs m →
-    Takes text (sign mark.Comma) m k → NameSpans text n k r → NamesSpan text (ns ++ n ∷ []) xs r
-names_more text [] n xs m k r h t p = absurd h
-names_more text (u ∷ ns) n xs m k r (a, p', h) t p = (a, p', further_names_more text ns n a m k r h t p)
+-- one argument or more
+abbrev pub SomeArgumentsSpan : List ℕ → List Argument → List Lexeme → List Lexeme → Type 0
+SomeArgumentsSpan text us xs r = SomeBetween (Takes text (sign mark.Comma)) (ArgumentSpans text) us xs r
 
 pub group_spans : (text : List ℕ) (t : Taking) (k : Kind) (ns : List Name) (xs a b r : List Lexeme) → kind_of t ≡ k → Takes text (kind_terminal k) xs a →
     DirectionSpans text t a b → NamesSpan text ns b r → GroupSpans text (group t ns) xs r
 group_spans text t k ns xs a b r e p d n = (a, b, subst (λ y. Takes text (kind_terminal y) xs a) (sym e) p, d, n)
 
-further_groups_more : (text : List ℕ) (gs : List NamedGroup) (g : NamedGroup) (xs m k r : List Lexeme) → FurtherGroupsSpan text gs xs m →
-    Takes text (sign mark.Semicolon) m k → GroupSpans text g k r → FurtherGroupsSpan text (gs ++ g ∷ []) xs r
-further_groups_more text [] g xs m k r h t p = (k, r, subst (λ y. Takes text (sign mark.Semicolon) y k) (sym h) t, p, refl)
-further_groups_more text (u ∷ gs) g xs m k r (a, b, t', p', h) t p = (a, b, t', p', further_groups_more text gs g b m k r h t p)
-
-all_parameters_more : (gs : List NamedGroup) (g : NamedGroup) → all_parameters (gs ++ g ∷ []) ≡ all_parameters gs ++ parameters_of g
-all_parameters_more [] g = append-nil (parameters_of g)
-all_parameters_more (u ∷ gs) g =
-    ap (λ x. parameters_of u ++ x) (all_parameters_more gs g) ∙ sym (append_assoc (parameters_of u) (all_parameters gs) (parameters_of g))
+all_members_more : {A N M : Type 0} (make : A → N → M) (gs : List (Grouped A N)) (g : Grouped A N) → all_members make (gs ++ g ∷ []) ≡ all_members make gs ++ members_of make g
+all_members_more make [] g = append-nil (members_of make g)
+all_members_more make (u ∷ gs) g =
+    ap (λ x. members_of make u ++ x) (all_members_more make gs g) ∙ sym (append_assoc (members_of make u) (all_members make gs) (members_of make g))
 
 -- one group or more
 abbrev pub SomeParametersSpan : List ℕ → List Parameter → List Lexeme → List Lexeme → Type 0
-SomeParametersSpan text ps xs r = (g : NamedGroup) × (gs : List NamedGroup) × (ps ≡ all_parameters (g ∷ gs)) × GroupsSpan text (g ∷ gs) xs r
+SomeParametersSpan text ps xs r = (g : Grouped Taking Name) × (gs : List (Grouped Taking Name)) × (ps ≡ all_members parameter_of (g ∷ gs)) × GroupsSpan text (g ∷ gs) xs r
 
 pub some_are_parameters : (text : List ℕ) (ps : List Parameter) (xs r : List Lexeme) → SomeParametersSpan text ps xs r → ParametersSpan text ps xs r
 some_are_parameters text ps xs r (g, gs, e, p) = (g ∷ gs, e, p)
 
-pub parameters_first : (text : List ℕ) (ps : List Parameter) (g : NamedGroup) (xs r : List Lexeme) → ps ≡ parameters_of g → GroupSpans text g xs r → SomeParametersSpan text ps xs r
-parameters_first text ps g xs r e p = (g, [], e ∙ sym (append-nil (parameters_of g)), (r, p, refl))
+pub parameters_first : (text : List ℕ) (ps : List Parameter) (g : Grouped Taking Name) (xs r : List Lexeme) → ps ≡ members_of parameter_of g → GroupSpans text g xs r → SomeParametersSpan text ps xs r
+parameters_first text ps g xs r e p = (g, [], e ∙ sym (append-nil (members_of parameter_of g)), (r, p, refl))
 
-pub parameters_next : (text : List ℕ) (ps qs : List Parameter) (g : NamedGroup) (xs m k r : List Lexeme) → qs ≡ ps ++ parameters_of g → SomeParametersSpan text ps xs m →
+pub parameters_next : (text : List ℕ) (ps qs : List Parameter) (g : Grouped Taking Name) (xs m k r : List Lexeme) → qs ≡ ps ++ members_of parameter_of g → SomeParametersSpan text ps xs m →
     Takes text (sign mark.Semicolon) m k → GroupSpans text g k r → SomeParametersSpan text qs xs r
 parameters_next text ps qs g xs m k r q (f, gs, e, (a, p', h)) t p = (
   f,
   gs ++ g ∷ [],
-  q ∙ ap (λ x. x ++ parameters_of g) e ∙ append_assoc (parameters_of f) (all_parameters gs) (parameters_of g)
-      ∙ ap (λ x. parameters_of f ++ x) (sym (all_parameters_more gs g)),
-  (a, p', further_groups_more text gs g a m k r h t p),
+  q ∙ ap (λ x. x ++ members_of parameter_of g) e ∙ append_assoc (members_of parameter_of f) (all_members parameter_of gs) (members_of parameter_of g)
+      ∙ ap (λ x. members_of parameter_of f ++ x) (sym (all_members_more parameter_of gs g)),
+  (a, p', further_more (Takes text (sign mark.Semicolon)) (GroupSpans text) gs g a m k r h t p),
 )
 
-togethers_more : (text : List ℕ) (ts : List NamedTogether) (t : NamedTogether) (xs m r : List Lexeme) → TogethersSpan text ts xs m → TogetherSpans text t m r →
+togethers_more : (text : List ℕ) (ts : List (Grouped Kind Name)) (t : Grouped Kind Name) (xs m r : List Lexeme) → TogethersSpan text ts xs m → TogetherSpans text t m r →
     TogethersSpan text (ts ++ t ∷ []) xs r
 togethers_more text [] t xs m r h p = (r, subst (λ y. TogetherSpans text t y r) (sym h) p, refl)
 togethers_more text (u ∷ ts) t xs m r (a, p', h) p = (a, p', togethers_more text ts t a m r h p)
 
-all_variables_more : (ts : List NamedTogether) (t : NamedTogether) → all_variables (ts ++ t ∷ []) ≡ all_variables ts ++ variables_of t
-all_variables_more [] t = append-nil (variables_of t)
-all_variables_more (u ∷ ts) t =
-    ap (λ x. variables_of u ++ x) (all_variables_more ts t) ∙ sym (append_assoc (variables_of u) (all_variables ts) (variables_of t))
-
-pub variables_next : (text : List ℕ) (vs ws : List Variable) (k : Kind) (ns : List Name) (xs m a b r : List Lexeme) → ws ≡ vs ++ variables_of (together k ns) →
+pub variables_next : (text : List ℕ) (vs ws : List Variable) (k : Kind) (ns : List Name) (xs m a b r : List Lexeme) → ws ≡ vs ++ members_of variable_of (group k ns) →
     VariablesSpan text vs xs m → Takes text (kind_terminal k) m a → NamesSpan text ns a b → Takes text (sign mark.Semicolon) b r → VariablesSpan text ws xs r
 variables_next text vs ws k ns xs m a b r q (ts, e, h) p n t = (
-  ts ++ together k ns ∷ [],
-  q ∙ ap (λ x. x ++ variables_of (together k ns)) e ∙ sym (all_variables_more ts (together k ns)),
-  togethers_more text ts (together k ns) xs m r h (a, b, p, n, t),
+  ts ++ group k ns ∷ [],
+  q ∙ ap (λ x. x ++ members_of variable_of (group k ns)) e ∙ sym (all_members_more variable_of ts (group k ns)),
+  togethers_more text ts (group k ns) xs m r h (a, b, p, n, t),
 )
 
 declarations_more : (text : List ℕ) (ds : List Declaration) (d : Declaration) (xs m k r : List Lexeme) → DeclarationsSpan text ds xs m →
@@ -143,32 +111,3 @@ declarations_more text (u ∷ ds) d xs m k r (a, b, p', t', h) p t = (a, b, p', 
 pub declarations_next : (text : List ℕ) (ds ds' : List Declaration) (d : Declaration) (xs m k r : List Lexeme) → ds' ≡ ds ++ d ∷ [] → DeclarationsSpan text ds xs m →
     DeclarationSpans text d m k → Takes text (sign mark.Semicolon) k r → DeclarationsSpan text ds' xs r
 declarations_next text ds ds' d xs m k r e h p t = subst (λ ys. DeclarationsSpan text ys xs r) (sym e) (declarations_more text ds d xs m k r h p t)
-
-further_arguments_more : (text : List ℕ) (us : List Argument) (x : Argument) (xs m k r : List Lexeme) → FurtherArgumentsSpan text us xs m →
-    Takes text (sign mark.Comma) m k → ArgumentSpans text x k r → FurtherArgumentsSpan text (us ++ x ∷ []) xs r
-further_arguments_more text [] x xs m k r h t p = (k, r, subst (λ y. Takes text (sign mark.Comma) y k) (sym h) t, p, refl)
-further_arguments_more text (u ∷ us) x xs m k r (a, b, t', p', h) t p = (a, b, t', p', further_arguments_more text us x b m k r h t p)
-
--- one argument or more
-abbrev pub SomeArgumentsSpan : List ℕ → List Argument → List Lexeme → List Lexeme → Type 0
-SomeArgumentsSpan text [] xs r = ⊥
-SomeArgumentsSpan text (x ∷ us) xs r = ArgumentsSpan text (x ∷ us) xs r
-
-pub some_are_arguments : (text : List ℕ) (us : List Argument) (xs r : List Lexeme) → SomeArgumentsSpan text us xs r → ArgumentsSpan text us xs r
-some_are_arguments text [] xs r h = absurd h
-some_are_arguments text (x ∷ us) xs r h = h
-
-pub arguments_more : (text : List ℕ) (us : List Argument) (x : Argument) (xs m k r : List Lexeme) → SomeArgumentsSpan text us xs m →
-    Takes text (sign mark.Comma) m k → ArgumentSpans text x k r → SomeArgumentsSpan text (us ++ x ∷ []) xs r
-arguments_more text [] x xs m k r h t p = absurd h
-arguments_more text (u ∷ us) x xs m k r (a, p', h) t p = (a, p', further_arguments_more text us x a m k r h t p)
-
-further_instances_more : (text : List ℕ) (is : List Instance) (i : Instance) (xs m k r : List Lexeme) → FurtherInstancesSpan text is xs m →
-    Takes text (word keyword.Par) m k → InstanceSpans text i k r → FurtherInstancesSpan text (is ++ i ∷ []) xs r
-further_instances_more text [] i xs m k r h t p = (k, r, subst (λ y. Takes text (word keyword.Par) y k) (sym h) t, p, refl)
-further_instances_more text (u ∷ is) i xs m k r (a, b, t', p', h) t p = (a, b, t', p', further_instances_more text is i b m k r h t p)
-
-pub instances_more : (text : List ℕ) (is : List Instance) (i : Instance) (xs m k r : List Lexeme) → InstancesSpan text is xs m →
-    Takes text (word keyword.Par) m k → InstanceSpans text i k r → InstancesSpan text (is ++ i ∷ []) xs r
-instances_more text [] i xs m k r h t p = absurd h
-instances_more text (u ∷ is) i xs m k r (a, p', h) t p = (a, p', further_instances_more text is i a m k r h t p)

@@ -1,35 +1,18 @@
 -- What a tree spells follows from what its parts take.
-use Rattle.std.proofs.Common.{◌≡◌, ℕ, ◌≤◌, List, [], ◌∷◌, ◌++◌, map, inl, inr, refl, sym, ap, subst, ◌∙◌, arith}
-use Rattle.std.proofs.lemmas.List.{map-append}
-use Rattle.kahn_tree.specs.declared.tree.Form.{Form, Number, Logical, Variable, Wait, Negate', Not', Bracket', Level', Conditional', Row_of-Operand, end_of-Operand, more_of-Operand}
-use Rattle.kahn_tree.specs.declared.tree.Action.{Action, Empty, Assign, Send, Print, Block', If', While', Repeat', Row_of-Statement, end_of-Statement, more_of-Statement, Held-Action-If-2, None', Some'}
-use Rattle.kahn_tree.specs.declared.tree.Statement.{Statement}
-use Rattle.kahn_tree.specs.declared.tree.Name.{Name}
-use Rattle.kahn_tree.specs.declared.tree.Kind.{Kind}
-use Rattle.kahn_tree.specs.declared.tree.Role.{Role}
+use Rattle.kahn_syntax.proofs.Common.{◌≡◌, ℕ, ◌≤◌, List, [], ◌∷◌, ◌++◌, map, inl, inr, refl, ap, subst, ◌∙◌, arith, AreAny, Further, Grouped, group, all_members, IsGroup, AreGroups, map-append, Form, Negate', Not', Bracket', Level', Conditional', Row_of-Operand, end_of-Operand, more_of-Operand, Action, Empty, Assign, Block', If', While', Repeat', Row_of-Statement, end_of-Statement, more_of-Statement, Held-Action-If-2, None', Some', Statement, Name, Kind, Role, Taking, Parameter, OneVariable, Declaration, Argument, Instance, Program, names_words, further_names_words, parameter, channels, process, DeclarationTree, kind_terminal, role_words, taking_words, group_words, further_groups_words, groups_words, Parameters, togethers_words, Variables, Declares, Declarations, Argues, Arguments, Instantiates, Instances, MaybeSemicolon, Spells, declarations_nesting, StandsFirst, IsSound, AreSound, RoleSpans, DirectionSpans, kind_of, GroupSpans, GroupsSpan, ParametersSpan, TogethersSpan, VariablesSpan, DeclarationSpans, DeclarationsSpan, ArgumentSpans, ArgumentsSpan, InstanceSpans, InstancesSpan, MayPart, ProgramSpans, Takes, NamesSpan, FormSpans, OperandRowSpans, ActionSpans, OtherSpans, StatementRowSpans, FurtherRowSpans, StatementsSpan, NameSpans, StatementSpans, Lexeme, Terminal, terminals, word, sign, name, StatementTree, truth_terminal, operator_terminal, expression_words, operands_words, statement_words, statements_words, further_words, name_of, form_of, operands_row, expression_of, action_of, statements_row, chosen_of, statement_of, statements_of, declaration_of, argument_of, instance_of, program_of}
+use Rattle.kahn_tree.specs.declared.tree.Form.{Number, Logical, Variable, Wait}
+use Rattle.kahn_tree.specs.declared.tree.Action.{Send, Print}
 use Rattle.kahn_tree.specs.declared.tree.Role.TheVariants as role
-use Rattle.kahn_tree.specs.declared.tree.Taking.{Taking}
 use Rattle.kahn_tree.specs.declared.tree.Taking.TheVariants as taking
 use Rattle.kahn_tree.specs.declared.tree.Direction.TheVariants as direction
-use Rattle.kahn_tree.specs.declared.tree.Parameter.{Parameter}
-use Rattle.kahn_tree.specs.declared.tree.Variable.{Variable as OneVariable}
-use Rattle.kahn_tree.specs.declared.tree.Declaration.{Declaration}
 use Rattle.kahn_tree.specs.declared.tree.Declaration.TheVariants as declared
-use Rattle.kahn_tree.specs.declared.tree.Argument.{Argument}
 use Rattle.kahn_tree.specs.declared.tree.Argument.TheVariants as argued
-use Rattle.kahn_tree.specs.declared.tree.Instance.{Instance}
-use Rattle.kahn_tree.specs.declared.tree.Program.{Program}
-use Rattle.kahn_syntax.specs.Programs.{AreNames, names_words, further_names_words, parameter, variable, channels, process, DeclarationTree, kind_terminal, role_words, taking_words, GroupTree, group, TogetherTree, together, group_words, further_groups_words, groups_words, groups_parameters, IsGroup, AreGroups, Parameters, togethers_words, togethers_variables, AreTogether, Variables, Declares, Declarations, Argues, FurtherArguments, Arguments, Instantiates, FurtherInstances, Instances, MaybeSemicolon, Spells, declarations_nesting}
-use Rattle.kahn_syntax.specs.inner.Reads.{IsSound, AreSound}
+use Rattle.kahn_syntax.specs.Programs.{variable}
 use Rattle.kahn_syntax.specs.Spans as named
-use Rattle.kahn_syntax.specs.Spans.{NamedGroup, NamedTogether, RoleSpans, DirectionSpans, kind_of, GroupSpans, FurtherGroupsSpan, GroupsSpan, all_parameters, ParametersSpan, TogethersSpan, all_variables, VariablesSpan, DeclarationSpans, DeclarationsSpan, ArgumentSpans, FurtherArgumentsSpan, ArgumentsSpan, InstanceSpans, FurtherInstancesSpan, InstancesSpan, MayPart, ProgramSpans, Takes, NamesSpan, FurtherNamesSpan, FormSpans, OperandRowSpans, ActionSpans, OtherSpans, StatementRowSpans, FurtherRowSpans, FurtherStatementsSpan, StatementsSpan}
 use Rattle.kahn_syntax.specs.declared.lexeme.Keyword.TheVariants as keyword
 use Rattle.kahn_syntax.specs.declared.lexeme.Sign.TheVariants as mark
-use Rattle.kahn_syntax.specs.declared.lexeme.Lexeme.{Lexeme}
 use Rattle.kahn_syntax.specs.Terminals as terminal
-use Rattle.kahn_syntax.specs.Terminals.{Terminal, terminals, word, sign, name}
-use Rattle.kahn_syntax.specs.Trees.{StatementTree, truth_terminal, operator_terminal, expression_words, operands_words, statement_words, statements_words, further_words}
-use Rattle.kahn_syntax.specs.Drawn.{name_of, form_of, operands_row, expression_of, action_of, statements_row, chosen_of, statement_of, statements_of, parameter_of, variable_of, declaration_of, argument_of, instance_of, program_of}
+use Rattle.kahn_syntax.specs.Drawn.{parameter_of, variable_of}
 
 -- one terminal, and what follows it
 pub taken : (text : List ℕ) (k : Terminal) (xs a : List Lexeme) (r : List Terminal) → Takes text k xs a → terminals text a ≡ r → terminals text xs ≡ k ∷ r
@@ -101,7 +84,7 @@ mutual
   further_spelled text (more_of-Statement at s rest) xs r (a, b, t, h, g) =
       taken text (sign mark.Semicolon) xs a _ t (action_spelled text s a b h.1 ∙ ap (statement_words (action_of s)) (further_spelled text rest b r g))
 
-further_statements_spelled : (text : List ℕ) (ss : List Statement) (xs r : List Lexeme) → FurtherStatementsSpan text ss xs r →
+further_statements_spelled : (text : List ℕ) (ss : List Statement) (xs r : List Lexeme) → Further (Takes text (sign mark.Semicolon)) (StatementSpans text) ss xs r →
     terminals text xs ≡ further_words (statements_of ss) (terminals text r)
 further_statements_spelled text [] xs r h = ap (terminals text) h
 further_statements_spelled text (s ∷ ss) xs r (a, b, t, h, g) =
@@ -113,12 +96,12 @@ statements_spelled text [] xs r h = ap (terminals text) h
 statements_spelled text (s ∷ ss) xs r (a, h, g) =
     action_spelled text s.action xs a h.1 ∙ ap (statement_words (statement_of s)) (further_statements_spelled text ss a r g)
 
-further_names_spelled : (text : List ℕ) (ns : List Name) (xs r : List Lexeme) → FurtherNamesSpan text ns xs r → terminals text xs ≡ further_names_words (map name_of ns) (terminals text r)
+further_names_spelled : (text : List ℕ) (ns : List Name) (xs r : List Lexeme) → Further (Takes text (sign mark.Comma)) (NameSpans text) ns xs r → terminals text xs ≡ further_names_words (map name_of ns) (terminals text r)
 further_names_spelled text [] xs r h = ap (terminals text) h
 further_names_spelled text (n ∷ ns) xs r (a, b, t, p, h) = taken text (sign mark.Comma) xs a _ t (taken text (name (name_of n)) a b _ p.0 (further_names_spelled text ns b r h))
 
 pub names_spelled : (text : List ℕ) (ns : List Name) (xs r : List Lexeme) → NamesSpan text ns xs r →
-    AreNames (map name_of ns) × (terminals text xs ≡ names_words (map name_of ns) (terminals text r))
+    AreAny (map name_of ns) × (terminals text xs ≡ names_words (map name_of ns) (terminals text r))
 names_spelled text [] xs r h = absurd h
 names_spelled text (n ∷ ns) xs r (a, p, h) = (tt, taken text (name (name_of n)) xs a _ p.0 (further_names_spelled text ns a r h))
 
@@ -128,14 +111,14 @@ direction_spelled text (taking.Channel direction.In k) xs a r t d = taken text (
 direction_spelled text (taking.Channel direction.Out k) xs a r t d = taken text (kind_terminal k) xs a _ t (taken text (word keyword.Out) a r _ d refl)
 direction_spelled text (taking.Value k) xs a r t d = taken text (kind_terminal k) xs a _ t (ap (terminals text) d)
 
-abbrev group_of : NamedGroup → GroupTree
-group_of (named.group t ns) = group t (map name_of ns)
+abbrev group_of : {A : Type 0} → Grouped A Name → Grouped A (List ℕ)
+group_of (group a ns) = group a (map name_of ns)
 
-group_spelled : (text : List ℕ) (g : NamedGroup) (xs r : List Lexeme) → GroupSpans text g xs r → IsGroup (group_of g) × (terminals text xs ≡ group_words (group_of g) (terminals text r))
-group_spelled text (named.group t ns) xs r (a, b, k, d, n) =
+group_spelled : (text : List ℕ) (g : Grouped Taking Name) (xs r : List Lexeme) → GroupSpans text g xs r → IsGroup (group_of g) × (terminals text xs ≡ group_words (group_of g) (terminals text r))
+group_spelled text (group t ns) xs r (a, b, k, d, n) =
     let h = names_spelled text ns b r n in (h.0, direction_spelled text t xs a b k d ∙ ap (taking_words t) h.1)
 
-further_groups_spelled : (text : List ℕ) (gs : List NamedGroup) (xs r : List Lexeme) → FurtherGroupsSpan text gs xs r →
+further_groups_spelled : (text : List ℕ) (gs : List (Grouped Taking Name)) (xs r : List Lexeme) → Further (Takes text (sign mark.Semicolon)) (GroupSpans text) gs xs r →
     AreGroups (map group_of gs) × (terminals text xs ≡ further_groups_words (map group_of gs) (terminals text r))
 further_groups_spelled text [] xs r h = (tt, ap (terminals text) h)
 further_groups_spelled text (g ∷ gs) xs r (a, b, t, p, h) =
@@ -143,7 +126,7 @@ further_groups_spelled text (g ∷ gs) xs r (a, b, t, p, h) =
     let f = further_groups_spelled text gs b r h in
     ((q.0, f.0), taken text (sign mark.Semicolon) xs a _ t (q.1 ∙ ap (group_words (group_of g)) f.1))
 
-groups_spelled : (text : List ℕ) (gs : List NamedGroup) (xs r : List Lexeme) → GroupsSpan text gs xs r →
+groups_spelled : (text : List ℕ) (gs : List (Grouped Taking Name)) (xs r : List Lexeme) → GroupsSpan text gs xs r →
     AreGroups (map group_of gs) × (terminals text xs ≡ groups_words (map group_of gs) (terminals text r))
 groups_spelled text [] xs r h = (tt, ap (terminals text) h)
 groups_spelled text (g ∷ gs) xs r (a, p, h) =
@@ -151,44 +134,32 @@ groups_spelled text (g ∷ gs) xs r (a, p, h) =
     let f = further_groups_spelled text gs a r h in
     ((q.0, f.0), q.1 ∙ ap (group_words (group_of g)) f.1)
 
-taken_parameters : (t : Taking) (ns : List Name) → map parameter_of (map (named.parameter_of t) ns) ≡ map (parameter t) (map name_of ns)
-taken_parameters t [] = refl
-taken_parameters t (n ∷ ns) = ap (λ x. parameter t (name_of n) ∷ x) (taken_parameters t ns)
+members_taken : {A M N : Type 0} (make : A → Name → M) (made : A → List ℕ → N) (f : M → N) → ((a : A) (n : Name) → f (make a n) ≡ made a (name_of n)) →
+    (a : A) (ns : List Name) → map f (map (make a) ns) ≡ map (made a) (map name_of ns)
+members_taken make made f e a [] = refl
+members_taken make made f e a (n ∷ ns) = λ i. e a n i ∷ members_taken make made f e a ns i
 
-all_parameters_of : (gs : List NamedGroup) → map parameter_of (all_parameters gs) ≡ groups_parameters (map group_of gs)
-all_parameters_of [] = refl
-all_parameters_of (named.group t ns ∷ gs) =
-    map-append parameter_of (map (named.parameter_of t) ns) (all_parameters gs)
-    ∙ (ap (λ x. x ++ map parameter_of (all_parameters gs)) (taken_parameters t ns) ∙ ap (λ x. map (parameter t) (map name_of ns) ++ x) (all_parameters_of gs))
+all_taken : {A M N : Type 0} (make : A → Name → M) (made : A → List ℕ → N) (f : M → N) → ((a : A) (n : Name) → f (make a n) ≡ made a (name_of n)) →
+    (gs : List (Grouped A Name)) → map f (all_members make gs) ≡ all_members made (map group_of gs)
+all_taken make made f e [] = refl
+all_taken make made f e (group a ns ∷ gs) =
+    map-append f (map (make a) ns) (all_members make gs) ∙ (λ i. members_taken make made f e a ns i ++ all_taken make made f e gs i)
 
 parameters_spelled : (text : List ℕ) (ps : List Parameter) (xs r : List Lexeme) → ParametersSpan text ps xs r → Parameters (map parameter_of ps) (terminals text xs) (terminals text r)
 parameters_spelled text ps xs r (gs, e, h) =
-    let q = groups_spelled text gs xs r h in (map group_of gs, q.0, ap (map parameter_of) e ∙ all_parameters_of gs, q.1)
+    let q = groups_spelled text gs xs r h in (map group_of gs, q.0, ap (map parameter_of) e ∙ all_taken named.parameter_of parameter parameter_of (λ t n. refl) gs, q.1)
 
-abbrev together_of : NamedTogether → TogetherTree
-together_of (named.together k ns) = together k (map name_of ns)
-
-togethers_spelled : (text : List ℕ) (ts : List NamedTogether) (xs r : List Lexeme) → TogethersSpan text ts xs r →
-    AreTogether (map together_of ts) × (terminals text xs ≡ togethers_words (map together_of ts) (terminals text r))
+togethers_spelled : (text : List ℕ) (ts : List (Grouped Kind Name)) (xs r : List Lexeme) → TogethersSpan text ts xs r →
+    AreGroups (map group_of ts) × (terminals text xs ≡ togethers_words (map group_of ts) (terminals text r))
 togethers_spelled text [] xs r h = (tt, ap (terminals text) h)
-togethers_spelled text (named.together k ns ∷ ts) xs r (m, (a, b, t, n, u), h) =
+togethers_spelled text (group k ns ∷ ts) xs r (m, (a, b, t, n, u), h) =
     let q = names_spelled text ns a b n in
     let f = togethers_spelled text ts m r h in
     ((q.0, f.0), taken text (kind_terminal k) xs a _ t (q.1 ∙ ap (names_words (map name_of ns)) (taken text (sign mark.Semicolon) b m _ u f.1)))
 
-taken_variables : (k : Kind) (ns : List Name) → map variable_of (map (named.variable_of k) ns) ≡ map (variable k) (map name_of ns)
-taken_variables k [] = refl
-taken_variables k (n ∷ ns) = ap (λ x. variable k (name_of n) ∷ x) (taken_variables k ns)
-
-all_variables_of : (ts : List NamedTogether) → map variable_of (all_variables ts) ≡ togethers_variables (map together_of ts)
-all_variables_of [] = refl
-all_variables_of (named.together k ns ∷ ts) =
-    map-append variable_of (map (named.variable_of k) ns) (all_variables ts)
-    ∙ (ap (λ x. x ++ map variable_of (all_variables ts)) (taken_variables k ns) ∙ ap (λ x. map (variable k) (map name_of ns) ++ x) (all_variables_of ts))
-
 variables_spelled : (text : List ℕ) (vs : List OneVariable) (xs r : List Lexeme) → VariablesSpan text vs xs r → Variables (map variable_of vs) (terminals text xs) (terminals text r)
 variables_spelled text vs xs r (ts, e, h) =
-    let q = togethers_spelled text ts xs r h in (map together_of ts, q.0, ap (map variable_of) e ∙ all_variables_of ts, q.1)
+    let q = togethers_spelled text ts xs r h in (map group_of ts, q.0, ap (map variable_of) e ∙ all_taken named.variable_of variable variable_of (λ k n. refl) ts, q.1)
 
 role_spelled : (text : List ℕ) (o : Role) (xs r : List Lexeme) → RoleSpans text o xs r → terminals text xs ≡ role_words o (terminals text r)
 role_spelled text role.Inner xs r h = ap (terminals text) h
@@ -230,8 +201,8 @@ argument_spelled text (argued.Number z at) xs r (c, inr (n, a, e, t, u)) =
     inr (n, e, taken text (sign mark.Minus) xs a _ t (taken text (terminal.number n) a r _ u refl))
 argument_spelled text (argued.Logical b at) xs r h = taken text (truth_terminal b) xs r _ h.1 refl
 
-further_arguments_spelled : (text : List ℕ) (us : List Argument) (xs r : List Lexeme) → FurtherArgumentsSpan text us xs r →
-    FurtherArguments (map argument_of us) (terminals text xs) (terminals text r)
+further_arguments_spelled : (text : List ℕ) (us : List Argument) (xs r : List Lexeme) → Further (Takes text (sign mark.Comma)) (ArgumentSpans text) us xs r →
+    Further (StandsFirst (sign mark.Comma)) Argues (map argument_of us) (terminals text xs) (terminals text r)
 further_arguments_spelled text [] xs r h = ap (terminals text) h
 further_arguments_spelled text (u ∷ us) xs r (a, b, t, p, h) =
     (terminals text a, terminals text b, taken text (sign mark.Comma) xs a _ t refl, argument_spelled text u a b p, further_arguments_spelled text us b r h)
@@ -247,8 +218,8 @@ instance_spelled text i xs r (a, b, c, n, o, p, q) = (
   subst (Arguments (map argument_of i.arguments.items) (terminals text b)) (taken text (sign mark.Close) c r _ q refl) (arguments_spelled text i.arguments.items b c p),
 )
 
-further_instances_spelled : (text : List ℕ) (is : List Instance) (xs r : List Lexeme) → FurtherInstancesSpan text is xs r →
-    FurtherInstances (map instance_of is) (terminals text xs) (terminals text r)
+further_instances_spelled : (text : List ℕ) (is : List Instance) (xs r : List Lexeme) → Further (Takes text (word keyword.Par)) (InstanceSpans text) is xs r →
+    Further (StandsFirst (word keyword.Par)) Instantiates (map instance_of is) (terminals text xs) (terminals text r)
 further_instances_spelled text [] xs r h = ap (terminals text) h
 further_instances_spelled text (i ∷ is) xs r (a, b, t, p, h) =
     (terminals text a, terminals text b, taken text (word keyword.Par) xs a _ t refl, instance_spelled text i a b p, further_instances_spelled text is b r h)

@@ -1,15 +1,8 @@
 -- The parts that are open inside of a conditional, a loop and a send, over what the parser reads.
-use Rattle.std.proofs.Common.{◌≡◌, ℕ, ◌+◌, ◌≤◌, List, [], ◌∷◌, ◌++◌, refl, arith}
+use Rattle.kahn_syntax.proofs.Common.{◌≡◌, ℕ, ◌+◌, ◌≤◌, List, [], ◌∷◌, ◌++◌, refl, arith, Lexeme, terminals, word, name, First, whole, BeginToken, CloseToken, DoToken, ElseToken, EndToken, NameToken, OnToken, OpenToken, SemicolonToken, ThenToken, ElseTail, StatementsTail, Part, ProcessPart, GroupsPart, VariablesPart, StatementPart, SimplePart, ExpressionPart, TailPart, TokenPart, LevelPart, Moves, Reads, Stops, head_parts, Stop, NoMemory}
 use Rattle.kahn_syntax.specs.declared.lexeme.Keyword.TheVariants as keyword
 use Rattle.kahn_syntax.specs.declared.lexeme.Sign.TheVariants as mark
 use Rattle.kahn_syntax.specs.declared.lexeme.Class.TheVariants as class
-use Rattle.kahn_syntax.specs.declared.lexeme.Lexeme.{Lexeme}
-use Rattle.kahn_syntax.specs.Terminals.{terminals, word, name, First}
-use Rattle.kahn_syntax.specs.inner.Rungs.{whole}
-use Rattle.kahn_syntax.specs.inner.Machine.{BeginToken, CloseToken, DoToken, ElseToken, EndToken, NameToken, OnToken, OpenToken, SemicolonToken, ThenToken, ElseTail, StatementsTail, Part, ProcessPart, GroupsPart, VariablesPart, StatementPart, SimplePart, ExpressionPart, TailPart, TokenPart, LevelPart}
-use Rattle.kahn_syntax.specs.inner.Reads.{Moves, Reads, Stops, head_parts}
-use Rattle.kahn_syntax.specs.declared.parser.cursor.Stop.{Stop}
-use Rattle.kahn_syntax.specs.declared.parser.cursor.Stop.TheVariants.{Refused, TooDeep, NoMemory}
 use Rattle.kahn_syntax.proofs.Moves.{then, call, call_two, one, token, expected, goes}
 
 -- a conditional expression
@@ -135,9 +128,8 @@ pub to_process_open : (text : List ℕ) (i a b : List Lexeme) (n : List ℕ) →
 to_process_open text i a b n m f = then text 0 some_process process_name process_open i a b m (token text 0 NameToken process_open (name n) a b (λ s l. omega (arith, l)) refl f)
 
 pub head_stops : (text : List ℕ) (i : List Lexeme) (x : Stop) → Stops text 0 head_parts i x → Stops text 0 process_open i x
-head_stops text i (Refused w n) f = λ s l. f (process_variables ++ s) l
-head_stops text i (TooDeep n) f = λ s l. f (process_variables ++ s) l
 head_stops text i NoMemory f = tt
+head_stops text i _ f = λ s l. f (process_variables ++ s) l
 
 pub to_process_variables : (text : List ℕ) (i b v : List Lexeme) → Moves text 0 some_process process_open i b → Reads text 0 head_parts b v → Moves text 0 some_process process_variables i v
 to_process_variables text i b v m f = then text 0 some_process process_open process_variables i b v m (λ s l. f (process_variables ++ s) l)

@@ -1,8 +1,5 @@
 -- Statements that are read one after another.
-use Rattle.std.proofs.Common.{◌≡◌, ℕ, ◌+◌, ◌≤◌, max, List, [], ◌∷◌, ◌++◌, ap, arith}
-use Rattle.kahn_tree.specs.declared.tree.Statement.{Statement}
-use Rattle.kahn_syntax.specs.Trees.{statement_nesting, statements_nesting, FormedStatement, FormedStatements, AreSome}
-use Rattle.kahn_syntax.specs.Drawn.{statement_of, statements_of}
+use Rattle.kahn_syntax.proofs.Common.{◌≡◌, ℕ, ◌+◌, ◌≤◌, max, List, [], ◌∷◌, ◌++◌, ap, arith, Statement, statement_nesting, statements_nesting, FormedStatement, FormedStatements, AreSome, statement_of, statements_of}
 
 formed_more : (ss : List Statement) (s : Statement) → FormedStatements (statements_of ss) → FormedStatement (statement_of s) → FormedStatements (statements_of (ss ++ s ∷ []))
 formed_more [] s h f = (f, tt)

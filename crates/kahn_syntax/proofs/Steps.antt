@@ -1,13 +1,6 @@
 -- What single terminals do to what is open.
-use Rattle.std.proofs.Common.{◌≡◌, ◌≢◌, ℕ, ◌+◌, ◌≤◌, ◌==◌, List, [], ◌∷◌, length, true, false, cond, Option, Some, None, refl, ap, ◌∙◌, arith}
-use Rattle.std.specs.Prelude.{nat_le}
-use Rattle.std.proofs.lemmas.Bool.Decides.{nat_tests}
+use Rattle.kahn_syntax.proofs.Common.{◌≡◌, ◌≢◌, ℕ, ◌+◌, ◌≤◌, ◌==◌, List, [], ◌∷◌, length, true, false, cond, Option, Some, None, refl, ap, ◌∙◌, arith, nat_le, nat_tests, Operator, Terminal, word, rank, operator_terminal, Rung, whole, ors, denials, relations, factors, at, tighter, operator_of, rank_or, Lacks, Token, takes, leads, Tail, lead, goes_on, Part, ExpressionPart, OperatorsPart, TailPart, TokenPart, LevelPart, levels, may_end, step, step_operator, again, Refuses, TooFar, onward, fate}
 use Rattle.kahn_syntax.specs.declared.lexeme.Keyword.TheVariants as keyword
-use Rattle.kahn_tree.specs.declared.tree.Operator.{Operator}
-use Rattle.kahn_syntax.specs.Terminals.{Terminal, word}
-use Rattle.kahn_syntax.specs.Trees.{rank, operator_terminal}
-use Rattle.kahn_syntax.specs.inner.Rungs.{Rung, whole, ors, ands, denials, relations, sums, terms, factors, at, tighter, operator_of, rank_or, Lacks}
-use Rattle.kahn_syntax.specs.inner.Machine.{Token, takes, leads, Tail, lead, goes_on, Part, ExpressionPart, OperatorsPart, TailPart, TokenPart, LevelPart, levels, may_end, step, step_operator, again, Refuses, TooFar, onward, fate}
 use Rattle.kahn_syntax.proofs.Unique.{Ends, is_operator}
 
 le_test : (a b : ℕ) → a ≤ b → nat_le a b ≡ true
@@ -66,16 +59,8 @@ pub open_chain : (l : Rung) (m : ℕ) (s : List Part) (ks : List Terminal) → I
 open_chain whole m s ks h = absurd h
 open_chain denials m s ks h = absurd h
 open_chain factors m s ks h = absurd h
-open_chain ors m s [] h = refl
-open_chain ors m s (k ∷ r) h = refl
-open_chain ands m s [] h = refl
-open_chain ands m s (k ∷ r) h = refl
-open_chain relations m s [] h = refl
-open_chain relations m s (k ∷ r) h = refl
-open_chain sums m s [] h = refl
-open_chain sums m s (k ∷ r) h = refl
-open_chain terms m s [] h = refl
-open_chain terms m s (k ∷ r) h = refl
+open_chain _ m s [] h = refl
+open_chain _ m s (k ∷ r) h = refl
 
 -- what doesn't begin with `if`
 pub open_whole : (m : ℕ) (s : List Part) (ks : List Terminal) → ((x : List Terminal) → ks ≡ word keyword.If ∷ x → ⊥) →
@@ -105,13 +90,7 @@ ends_lacks n (k ∷ r) h = λ e. omega (arith, h, e)
 
 levels_again : (l : Rung) (s : List Part) → levels (again l s) ≡ levels s
 levels_again whole s = refl
-levels_again ors s = refl
-levels_again ands s = refl
-levels_again denials s = refl
-levels_again relations s = refl
-levels_again sums s = refl
-levels_again terms s = refl
-levels_again factors s = refl
+levels_again _ s = refl
 
 takes_operator : (l : Rung) (s : List Part) (other : Option (List Part)) (o : Operator) (p : Option Operator) → p ≡ Some o → rank o ≡ at l →
     step_operator l s other p ≡ Some (ExpressionPart (tighter l) ∷ again l s)

@@ -1,14 +1,8 @@
 -- No two trees spell one list: expressions.
-use Rattle.std.proofs.Common.{◌≡◌, ℕ, zero, suc, ◌+◌, ◌*◌, ◌≤◌, ◌<◌, ◌≢◌, List, [], ◌∷◌, true, false, Some, ◌⊎◌, ⊎_elim, refl, sym, ap, ◌∙◌, subst, arith}
-use Rattle.std.proofs.lemmas.Bool.Decides.{nat_tests}
+use Rattle.kahn_syntax.proofs.Common.{◌≡◌, ℕ, zero, suc, ◌+◌, ◌*◌, ◌≤◌, ◌<◌, ◌≢◌, List, [], ◌∷◌, true, false, Some, ◌⊎◌, ⊎_elim, refl, sym, ap, ◌∙◌, subst, arith, nat_tests, Operator, Terminal, word, sign, ExpressionTree, number, truth, variable, wait, negation, denial, bracket, level, conditional, OperandTrees, no_operand, operand, operator_terminal, expression_words, operands_words, expression_nesting, operands_nesting, rank, IsOne, Formed, FormedOperands, Fits, joined, operator_of, rank_or, Rung, whole, ors, ands, denials, relations, sums, terms, factors, at}
 use Rattle.kahn_syntax.specs.declared.lexeme.Keyword.TheVariants as keyword
 use Rattle.kahn_syntax.specs.declared.lexeme.Sign.TheVariants as mark
-use Rattle.kahn_tree.specs.declared.tree.Operator.{Operator}
 use Rattle.kahn_tree.specs.declared.tree.Operator.TheVariants as operator
-use Rattle.kahn_syntax.specs.Terminals.{Terminal, word, sign}
-use Rattle.kahn_syntax.specs.Trees.{ExpressionTree, number, truth, variable, wait, negation, denial, bracket, level, conditional, OperandTrees, no_operand, operand, operator_terminal, expression_words, operands_words, expression_nesting, operands_nesting, rank, IsOne, Formed, FormedOperands}
-use Rattle.kahn_syntax.specs.inner.Reads.{Fits, joined}
-use Rattle.kahn_syntax.specs.inner.Rungs.{operator_of, rank_or, Rung, whole, ors, ands, denials, relations, sums, terms, factors, at}
 use Rattle.kahn_syntax.proofs.Levels.{joined_words}
 
 -- the list doesn't go on with an operator of this level or of a tighter one
@@ -18,33 +12,11 @@ Ends n (k ∷ r) = rank_or (operator_of k) < n
 
 pub is_operator : (o : Operator) → operator_of (operator_terminal o) ≡ Some o
 is_operator operator.Or = refl
-is_operator operator.And = refl
-is_operator operator.Equal = refl
-is_operator operator.Unequal = refl
-is_operator operator.Less = refl
-is_operator operator.AtMost = refl
-is_operator operator.Greater = refl
-is_operator operator.AtLeast = refl
-is_operator operator.Add = refl
-is_operator operator.Subtract = refl
-is_operator operator.Multiply = refl
-is_operator operator.Divide = refl
-is_operator operator.Remainder = refl
+is_operator _ = refl
 
 pub rank_within : (o : Operator) → (rank o ≤ 6) × (0 < rank o) × (rank o ≢ 3)
 rank_within operator.Or = (omega arith, omega arith, λ e. omega arith)
-rank_within operator.And = (omega arith, omega arith, λ e. omega arith)
-rank_within operator.Equal = (omega arith, omega arith, λ e. omega arith)
-rank_within operator.Unequal = (omega arith, omega arith, λ e. omega arith)
-rank_within operator.Less = (omega arith, omega arith, λ e. omega arith)
-rank_within operator.AtMost = (omega arith, omega arith, λ e. omega arith)
-rank_within operator.Greater = (omega arith, omega arith, λ e. omega arith)
-rank_within operator.AtLeast = (omega arith, omega arith, λ e. omega arith)
-rank_within operator.Add = (omega arith, omega arith, λ e. omega arith)
-rank_within operator.Subtract = (omega arith, omega arith, λ e. omega arith)
-rank_within operator.Multiply = (omega arith, omega arith, λ e. omega arith)
-rank_within operator.Divide = (omega arith, omega arith, λ e. omega arith)
-rank_within operator.Remainder = (omega arith, omega arith, λ e. omega arith)
+rank_within _ = (omega arith, omega arith, λ e. omega arith)
 
 some_same : (o p : Operator) → Some o ≡ Some p → o ≡ p
 some_same o p e = cc
@@ -71,15 +43,12 @@ no_operator n o x r h e p = let f : Ends n (operator_terminal o ∷ x) = subst (
 
 abbrev mutual
   pub size : ExpressionTree → ℕ
-  size (number n) = 1
-  size (truth b) = 1
-  size (variable n) = 1
-  size (wait n) = 1
   size (negation e) = size e + 1
   size (denial e) = size e + 1
   size (bracket e) = size e + 1
   size (level e os) = size e + sizes os + 1
   size (conditional t a b) = size t + size a + size b + 1
+  size _ = 1
 
   pub sizes : OperandTrees → ℕ
   sizes no_operand = 0
@@ -188,29 +157,18 @@ chain k n l known a s v c d b t u r q small f g x y e =
 
 -- nothing but a conditional expression begins with `if`
 pub no_if : (t : ExpressionTree) (r x : List Terminal) → Fits 1 t → expression_words t r ≡ word keyword.If ∷ x → ⊥
-no_if (number z) r x f e = absurd cc
-no_if (truth true) r x f e = absurd cc
-no_if (truth false) r x f e = absurd cc
-no_if (variable z) r x f e = absurd cc
-no_if (wait z) r x f e = absurd cc
-no_if (negation t) r x f e = absurd cc
-no_if (bracket t) r x f e = absurd cc
-no_if (denial t) r x f e = absurd cc
 no_if (conditional a b c) r x f e = absurd (omega (arith, f.0))
 no_if (level t os) r x f e = no_if t (operands_words os r) x (omega (arith, f.0, f.1.0), f.1.1) e
+no_if (truth true) r x f e = absurd cc
+no_if _ r x f e = absurd cc
 
 -- nothing tighter than a denial begins with `not`
 pub no_not : (t : ExpressionTree) (r x : List Terminal) → Fits 4 t → expression_words t r ≡ word keyword.Not ∷ x → ⊥
-no_not (number z) r x f e = absurd cc
-no_not (truth true) r x f e = absurd cc
-no_not (truth false) r x f e = absurd cc
-no_not (variable z) r x f e = absurd cc
-no_not (wait z) r x f e = absurd cc
-no_not (negation t) r x f e = absurd cc
-no_not (bracket t) r x f e = absurd cc
 no_not (denial t) r x f e = absurd (omega (arith, f.0))
 no_not (conditional a b c) r x f e = absurd (omega (arith, f.0))
 no_not (level t os) r x f e = no_not t (operands_words os r) x (omega (arith, f.0, f.1.0), f.1.1) e
+no_not (truth true) r x f e = absurd cc
+no_not _ r x f e = absurd cc
 
 -- a conditional expression, or one of a tighter level
 pub data Whole (t : ExpressionTree) : Type 0 where
@@ -218,15 +176,12 @@ pub data Whole (t : ExpressionTree) : Type 0 where
   is_tighter : Fits 1 t → Whole t
 
 pub open_whole : (t : ExpressionTree) → Fits 0 t → Whole t
-open_whole (number z) f = is_tighter (omega arith, tt)
-open_whole (truth z) f = is_tighter (omega arith, tt)
-open_whole (variable z) f = is_tighter (omega arith, tt)
-open_whole (wait z) f = is_tighter (omega arith, tt)
 open_whole (negation t) f = is_tighter (omega arith, f.1)
 open_whole (bracket t) f = is_tighter (omega arith, f.1)
 open_whole (denial t) f = is_tighter (omega arith, f.1)
 open_whole (level t os) f = is_tighter (omega (arith, f.1.2), f.1)
 open_whole (conditional a b c) f = is_if a b c refl f.1.0 f.1.1 f.1.2 (omega arith)
+open_whole _ f = is_tighter (omega arith, tt)
 
 pub data Denial (t : ExpressionTree) : Type 0 where
   is_not : (a : ExpressionTree) → t ≡ denial a → Fits 3 a → size a + 1 ≤ size t → Denial t
@@ -240,15 +195,12 @@ open_level t (operand o e os) f = is_relation (strict (rank o) f.0 (rank_within 
     strict n a b = omega (arith, a, b)
 
 pub open_denial : (t : ExpressionTree) → Fits 3 t → Denial t
-open_denial (number z) f = is_relation (omega arith, tt)
-open_denial (truth z) f = is_relation (omega arith, tt)
-open_denial (variable z) f = is_relation (omega arith, tt)
-open_denial (wait z) f = is_relation (omega arith, tt)
 open_denial (negation t) f = is_relation (omega arith, f.1)
 open_denial (bracket t) f = is_relation (omega arith, f.1)
 open_denial (conditional a b c) f = absurd (omega (arith, f.0))
 open_denial (denial a) f = is_not a refl f.1 (omega arith)
 open_denial (level t os) f = open_level t os f
+open_denial _ f = is_relation (omega arith, tt)
 
 pub level_low : (t : ExpressionTree) (os : OperandTrees) → Fits 7 (level t os) → ⊥
 level_low t no_operand f = absurd (omega (arith, f.0))
@@ -271,26 +223,8 @@ same_factor k known (negation t) (negation u) r q s f g x y e = let z = known fa
 same_factor k known (bracket t) (bracket u) r q s f g x y e =
     let z = known whole t u (sign mark.Close ∷ r) (sign mark.Close ∷ q) (omega arith) (omega arith, f.1) (omega arith, g.1) (omega arith) (omega arith) (tail_is _ _ _ _ e) in
     (ap bracket z.0, tail_is _ _ _ _ z.1)
-same_factor k known (number n) (truth true) r q s f g x y e = absurd cc
-same_factor k known (number n) (truth false) r q s f g x y e = absurd cc
-same_factor k known (variable n) (truth true) r q s f g x y e = absurd cc
-same_factor k known (variable n) (truth false) r q s f g x y e = absurd cc
-same_factor k known (wait n) (truth true) r q s f g x y e = absurd cc
-same_factor k known (wait n) (truth false) r q s f g x y e = absurd cc
-same_factor k known (negation t) (truth true) r q s f g x y e = absurd cc
-same_factor k known (negation t) (truth false) r q s f g x y e = absurd cc
-same_factor k known (bracket t) (truth true) r q s f g x y e = absurd cc
-same_factor k known (bracket t) (truth false) r q s f g x y e = absurd cc
-same_factor k known (truth true) (number n) r q s f g x y e = absurd cc
-same_factor k known (truth false) (number n) r q s f g x y e = absurd cc
-same_factor k known (truth true) (variable n) r q s f g x y e = absurd cc
-same_factor k known (truth false) (variable n) r q s f g x y e = absurd cc
-same_factor k known (truth true) (wait n) r q s f g x y e = absurd cc
-same_factor k known (truth false) (wait n) r q s f g x y e = absurd cc
-same_factor k known (truth true) (negation u) r q s f g x y e = absurd cc
-same_factor k known (truth false) (negation u) r q s f g x y e = absurd cc
-same_factor k known (truth true) (bracket u) r q s f g x y e = absurd cc
-same_factor k known (truth false) (bracket u) r q s f g x y e = absurd cc
+same_factor k known _ (truth true) r q s f g x y e = absurd cc
+same_factor k known (truth true) _ r q s f g x y e = absurd cc
 same_factor k known _ _ r q s f g x y e = absurd cc
 
 same_whole : (k : ℕ) → Known k → (t u : ExpressionTree) (r q : List Terminal) → 8 * size t + 7 < k + 1 → Fits 0 t → Fits 0 u → Ends 1 r → Ends 1 q →

@@ -1,27 +1,17 @@
 -- What is open can be completed, and what is read is the beginning of trees for it.
-use Rattle.std.proofs.Common.{◌≡◌, ℕ, ◌+◌, ◌≤◌, ◌<◌, ◌==◌, ℤ, pos, List, [], ◌∷◌, Bool, true, false, cond, Option, Some, None, refl, sym, ap, ◌∙◌, subst, arith, ⊎_elim, ◌⊎◌, inl, inr, true≢false}
+use Rattle.kahn_syntax.proofs.Common.{◌≡◌, ℕ, ◌+◌, ◌≤◌, ◌<◌, ◌==◌, ℤ, pos, List, [], ◌∷◌, Bool, true, false, cond, Option, Some, None, refl, sym, ap, ◌∙◌, subst, arith, ⊎_elim, ◌⊎◌, inl, inr, true≢false, Further, Grouped, group, all_members, IsGroup, AreGroups, nat_tests, Kind, Role, Taking, Operator, Terminal, word, sign, name, ExpressionTree, number, truth, variable, wait, negation, denial, bracket, conditional, OperandTrees, no_operand, operand, StatementTree, empty, assign, send, print, block, if_then, if_else, while_do, repeat, StatementTrees, no_statement, statement, operator_terminal, rank, expression_words, operands_words, statement_words, further_words, expression_nesting, operands_nesting, statement_nesting, statements_nesting, FormedOperands, FormedStatement, FormedStatements, IsSimple, DeclarationTree, channels, process, ArgumentTree, channel, InstanceTree, instance, kind_terminal, role_words, taking_words, further_names_words, group_words, groups_words, further_groups_words, togethers_words, Declares, Declarations, Argues, Arguments, Instantiates, Instances, MaybeSemicolon, declaration_nesting, declarations_nesting, StandsFirst, joined, Rung, whole, ors, ands, denials, relations, sums, terms, factors, at, tighter, operator_of, Token, BecomesToken, BeginToken, ChannelToken, CloseToken, CommaToken, DoToken, ElseToken, EndToken, IfToken, NameToken, NotToken, NumberToken, OnToken, OpenToken, ParToken, ProcessToken, SemicolonToken, ThenToken, takes, Tail, NamesTail, StatementsTail, GroupsTail, ArgumentsTail, InstancesTail, ElseTail, LastTail, lead, goes_on, Part, ProgramPart, DeclarationsPart, DeclarationPart, ProcessPart, RolePart, GroupsPart, GroupPart, TakingPart, VariablesPart, StatementPart, SimplePart, ExpressionPart, OperatorsPart, InstancePart, ArgumentsPart, ArgumentPart, TailPart, TokenPart, LevelPart, levels, may_end, channels_then, step, step_factor, step_relation, step_denial, step_or, step_whole, step_expression, again, step_operator, step_simple, step_statement, step_process, step_declaration, step_declarations, step_role, step_taking, step_kind, step_instance, step_argument, step_arguments, step_program, class_of, Class}
 use Rattle.std.specs.Prelude.{neg_ℤ}
-use Rattle.std.proofs.lemmas.Bool.Decides.{nat_tests}
 use Rattle.kahn_syntax.specs.declared.lexeme.Keyword.TheVariants as keyword
 use Rattle.kahn_syntax.specs.declared.lexeme.Sign.TheVariants as mark
-use Rattle.kahn_tree.specs.declared.tree.Kind.{Kind}
+use Rattle.kahn_syntax.specs.declared.lexeme.Class.TheVariants as class
 use Rattle.kahn_tree.specs.declared.tree.Kind.TheVariants as kind
-use Rattle.kahn_tree.specs.declared.tree.Role.{Role}
 use Rattle.kahn_tree.specs.declared.tree.Role.TheVariants as role
 use Rattle.kahn_tree.specs.declared.tree.Direction.TheVariants as direction
-use Rattle.kahn_tree.specs.declared.tree.Taking.{Taking}
 use Rattle.kahn_tree.specs.declared.tree.Taking.TheVariants as taking
-use Rattle.kahn_tree.specs.declared.tree.Operator.{Operator}
 use Rattle.kahn_tree.specs.declared.tree.Operator.TheVariants as operator
-use Rattle.kahn_syntax.specs.Terminals.{Terminal, word, sign, name}
 use Rattle.kahn_syntax.specs.Terminals as terminal
-use Rattle.kahn_syntax.specs.Trees.{ExpressionTree, number, truth, variable, wait, negation, denial, bracket, conditional, OperandTrees, no_operand, operand, StatementTree, empty, assign, send, print, block, if_then, if_else, while_do, repeat, StatementTrees, no_statement, statement, operator_terminal, rank, expression_words, operands_words, statement_words, further_words, expression_nesting, operands_nesting, statement_nesting, statements_nesting, FormedOperands, FormedStatement, FormedStatements, IsSimple}
-use Rattle.kahn_syntax.specs.Programs.{GroupTree, group, TogetherTree, together, DeclarationTree, channels, process, ArgumentTree, channel, InstanceTree, instance, kind_terminal, role_words, taking_words, further_names_words, group_words, groups_words, further_groups_words, groups_parameters, IsGroup, AreGroups, togethers_words, togethers_variables, AreTogether, Declares, Declarations, Argues, Arguments, FurtherArguments, Instantiates, Instances, FurtherInstances, MaybeSemicolon, declaration_nesting, declarations_nesting}
 use Rattle.kahn_syntax.specs.Programs as tree
 use Rattle.kahn_syntax.specs.inner.Reads as reads
-use Rattle.kahn_syntax.specs.inner.Reads.{joined}
-use Rattle.kahn_syntax.specs.inner.Rungs.{Rung, whole, ors, ands, denials, relations, sums, terms, factors, at, tighter, operator_of}
-use Rattle.kahn_syntax.specs.inner.Machine.{Token, BecomesToken, BeginToken, ChannelToken, CloseToken, CommaToken, DoToken, ElseToken, EndToken, IfToken, NameToken, NotToken, NumberToken, OnToken, OpenToken, ParToken, ProcessToken, SemicolonToken, ThenToken, takes, Tail, NamesTail, StatementsTail, GroupsTail, ArgumentsTail, InstancesTail, ElseTail, LastTail, lead, goes_on, Part, ProgramPart, DeclarationsPart, DeclarationPart, ProcessPart, RolePart, GroupsPart, GroupPart, TakingPart, VariablesPart, StatementPart, SimplePart, ExpressionPart, OperatorsPart, InstancePart, ArgumentsPart, ArgumentPart, TailPart, TokenPart, LevelPart, levels, may_end, names_then, channels_then, step, step_factor, step_relation, step_denial, step_or, step_whole, step_expression, again, step_operator, step_simple, step_statement, step_process, step_declaration, step_declarations, step_role, step_taking, step_kind, step_instance, step_argument, step_arguments, step_program}
 use Rattle.kahn_syntax.proofs.Levels.{joined_words, joined_nesting}
 use Rattle.kahn_syntax.proofs.Unique.{IsNoneOrOne, rank_within}
 use Rattle.kahn_syntax.proofs.Steps.{IsChain}
@@ -30,25 +20,15 @@ use Rattle.kahn_syntax.proofs.WholePrograms.{process_then, arguments_then}
 abbrev pub Lists : Type 1
 Lists = List Terminal → Type 0
 
+abbrev of_class : Option Class → Terminal
+of_class (Some (class.Word w)) = word w
+of_class (Some (class.Sign s)) = sign s
+of_class _ = name []
+
 abbrev token_terminal : Token → Terminal
-token_terminal BecomesToken = sign mark.Becomes
-token_terminal BeginToken = word keyword.Begin
-token_terminal ChannelToken = word keyword.Channel
-token_terminal CloseToken = sign mark.Close
-token_terminal CommaToken = sign mark.Comma
-token_terminal DoToken = word keyword.Do
-token_terminal ElseToken = word keyword.Else
-token_terminal EndToken = word keyword.End
-token_terminal IfToken = word keyword.If
-token_terminal NameToken = name []
 token_terminal NotToken = word keyword.Not
 token_terminal NumberToken = terminal.number (pos 0)
-token_terminal OnToken = word keyword.On
-token_terminal OpenToken = sign mark.Open
-token_terminal ParToken = word keyword.Par
-token_terminal ProcessToken = word keyword.Process
-token_terminal SemicolonToken = sign mark.Semicolon
-token_terminal ThenToken = word keyword.Then
+token_terminal t = of_class (class_of t)
 
 -- the token, then what comes after
 abbrev pub One : Token → Lists → Lists
@@ -67,8 +47,8 @@ Statement l m t ks r = (ks ≡ statement_words t r) × FormedStatement t × (l +
 abbrev Simple : ℕ → ℕ → StatementTree → List Terminal → List Terminal → Type 0
 Simple l m t ks r = (ks ≡ statement_words t r) × IsSimple t × FormedStatement t × (l + statement_nesting t ≤ m)
 
-abbrev Further : ℕ → ℕ → StatementTrees → List Terminal → List Terminal → Type 0
-Further l m ss ks r = (ks ≡ further_words ss r) × FormedStatements ss × (l + statements_nesting ss ≤ m)
+abbrev FurtherStatements : ℕ → ℕ → StatementTrees → List Terminal → List Terminal → Type 0
+FurtherStatements l m ss ks r = (ks ≡ further_words ss r) × FormedStatements ss × (l + statements_nesting ss ≤ m)
 
 abbrev Expression : Rung → ℕ → ℕ → ExpressionTree → List Terminal → List Terminal → Type 0
 Expression g l m t ks r = (ks ≡ expression_words t r) × reads.Fits (at g) t × (l + expression_nesting t ≤ m)
@@ -86,10 +66,10 @@ Fits m (DeclarationsPart ∷ s) ks = Via (List DeclarationTree) (λ ds x r. Decl
 Fits m (DeclarationPart ∷ s) ks = Via DeclarationTree (λ d x r. Declares d x r × (levels s + declaration_nesting d ≤ m)) (Fits m s) ks
 Fits m (ProcessPart ∷ s) ks = Via DeclarationTree (λ d x r. Declares d x r × (levels s + declaration_nesting d ≤ m)) (Fits m s) ks
 Fits m (RolePart ∷ s) ks = Via Role (λ o x r. x ≡ role_words o r) (Fits m s) ks
-Fits m (GroupsPart ∷ s) ks = Via (List GroupTree) (λ gs x r. AreGroups gs × (x ≡ groups_words gs r)) (Fits m s) ks
-Fits m (GroupPart ∷ s) ks = Via GroupTree (λ g x r. IsGroup g × (x ≡ group_words g r)) (Fits m s) ks
+Fits m (GroupsPart ∷ s) ks = Via (List (Grouped Taking (List ℕ))) (λ gs x r. AreGroups gs × (x ≡ groups_words gs r)) (Fits m s) ks
+Fits m (GroupPart ∷ s) ks = Via (Grouped Taking (List ℕ)) (λ g x r. IsGroup g × (x ≡ group_words g r)) (Fits m s) ks
 Fits m (TakingPart ∷ s) ks = Via (Kind → Taking) (λ f x r. (k : Kind) → kind_terminal k ∷ x ≡ taking_words (f k) r) (Fits m s) ks
-Fits m (VariablesPart ∷ s) ks = Via (List TogetherTree) (λ ts x r. AreTogether ts × (x ≡ togethers_words ts r)) (Fits m s) ks
+Fits m (VariablesPart ∷ s) ks = Via (List (Grouped Kind (List ℕ))) (λ ts x r. AreGroups ts × (x ≡ togethers_words ts r)) (Fits m s) ks
 Fits m (StatementPart ∷ s) ks = Via StatementTree (Statement (levels s) m) (Fits m s) ks
 Fits m (SimplePart ∷ s) ks = Via StatementTree (Simple (levels s) m) (Fits m s) ks
 Fits m (ExpressionPart l ∷ s) ks = Via ExpressionTree (Expression l (levels s) m) (Fits m s) ks
@@ -98,10 +78,10 @@ Fits m (InstancePart ∷ s) ks = Via InstanceTree Instantiates (Fits m s) ks
 Fits m (ArgumentsPart ∷ s) ks = Via (List ArgumentTree) (λ xs x r. Arguments xs x (sign mark.Close ∷ r)) (Fits m s) ks
 Fits m (ArgumentPart ∷ s) ks = Via ArgumentTree Argues (Fits m s) ks
 Fits m (TailPart NamesTail ∷ s) ks = Via (List (List ℕ)) (λ ns x r. x ≡ further_names_words ns r) (Fits m s) ks
-Fits m (TailPart StatementsTail ∷ s) ks = Via StatementTrees (Further (levels s) m) (Fits m s) ks
-Fits m (TailPart GroupsTail ∷ s) ks = Via (List GroupTree) (λ gs x r. AreGroups gs × (x ≡ further_groups_words gs r)) (Fits m s) ks
-Fits m (TailPart ArgumentsTail ∷ s) ks = Via (List ArgumentTree) FurtherArguments (Fits m s) ks
-Fits m (TailPart InstancesTail ∷ s) ks = Via (List InstanceTree) FurtherInstances (Fits m s) ks
+Fits m (TailPart StatementsTail ∷ s) ks = Via StatementTrees (FurtherStatements (levels s) m) (Fits m s) ks
+Fits m (TailPart GroupsTail ∷ s) ks = Via (List (Grouped Taking (List ℕ))) (λ gs x r. AreGroups gs × (x ≡ further_groups_words gs r)) (Fits m s) ks
+Fits m (TailPart ArgumentsTail ∷ s) ks = Via (List ArgumentTree) (Further (StandsFirst (sign mark.Comma)) Argues) (Fits m s) ks
+Fits m (TailPart InstancesTail ∷ s) ks = Via (List InstanceTree) (Further (StandsFirst (word keyword.Par)) Instantiates) (Fits m s) ks
 Fits m (TailPart ElseTail ∷ s) ks = Fits m s ks ⊎ Via StatementTree (λ t x r. (x ≡ word keyword.Else ∷ statement_words t r) × FormedStatement t × (levels s + statement_nesting t ≤ m)) (Fits m s) ks
 Fits m (TailPart LastTail ∷ s) ks = (r : List Terminal) × MaybeSemicolon ks r × Fits m s r
 Fits m (TokenPart t ∷ s) ks = One t (Fits m s) ks
@@ -147,15 +127,7 @@ skip (TailPart InstancesTail) m s ks n b h = ([], ks, refl, h)
 skip (TailPart ElseTail) m s ks n b h = inl h
 skip (TailPart LastTail) m s ks n b h = (ks, inr refl, h)
 skip LevelPart m s ks n b h = h
-skip ProgramPart m s ks n b h = absurd n
-skip DeclarationPart m s ks n b h = absurd n
-skip ProcessPart m s ks n b h = absurd n
-skip GroupPart m s ks n b h = absurd n
-skip (ExpressionPart l) m s ks n b h = absurd n
-skip InstancePart m s ks n b h = absurd n
-skip ArgumentsPart m s ks n b h = absurd n
-skip ArgumentPart m s ks n b h = absurd n
-skip (TokenPart t) m s ks n b h = absurd n
+skip _ m s ks n b h = absurd n
 
 -- what falls through the part
 falls : (p : Part) (m : ℕ) (s : List Part) (o : Option (List Part)) (k : Terminal) → Nullable p → levels s ≤ m → Leads m (λ ks. Fits m s (k ∷ ks)) o →
@@ -200,12 +172,7 @@ made_tail LastTail m s ks h = (ks, inl refl, h)
 
 lead_one : (t : Tail) (k : Terminal) (ks : List Terminal) → One (lead t) (λ r. r ≡ ks) (k ∷ ks) → token_terminal (lead t) ∷ ks ≡ k ∷ ks
 lead_one NamesTail k ks (r, p, q) = sym (p ∙ ap (λ x. sign mark.Comma ∷ x) q)
-lead_one StatementsTail k ks (r, p, q) = sym (p ∙ ap (λ x. sign mark.Semicolon ∷ x) q)
-lead_one GroupsTail k ks (r, p, q) = sym (p ∙ ap (λ x. sign mark.Semicolon ∷ x) q)
-lead_one ArgumentsTail k ks (r, p, q) = sym (p ∙ ap (λ x. sign mark.Comma ∷ x) q)
-lead_one InstancesTail k ks (r, p, q) = sym (p ∙ ap (λ x. word keyword.Par ∷ x) q)
-lead_one ElseTail k ks (r, p, q) = sym (p ∙ ap (λ x. word keyword.Else ∷ x) q)
-lead_one LastTail k ks (r, p, q) = sym (p ∙ ap (λ x. sign mark.Semicolon ∷ x) q)
+lead_one t k ks (r, p, q) = sym (p ∙ ap (λ x. token_terminal (lead t) ∷ x) q)
 
 back_tail : (t : Tail) (m : ℕ) (s : List Part) (o : Option (List Part)) (k : Terminal) (b : Bool) → takes (lead t) k ≡ b → levels s ≤ m →
     Leads m (λ ks. Fits m s (k ∷ ks)) o → Leads m (λ ks. Fits m (TailPart t ∷ s) (k ∷ ks)) (cond b (Some (goes_on t s)) o)
@@ -234,11 +201,7 @@ chain_at : (l : Rung) → IsChain l → (at (tighter l) ≡ at l + 1) × (0 < at
 chain_at whole h = absurd h
 chain_at denials h = absurd h
 chain_at factors h = absurd h
-chain_at ors h = (refl, omega arith)
-chain_at ands h = (refl, omega arith)
-chain_at relations h = (refl, omega arith)
-chain_at sums h = (refl, omega arith)
-chain_at terms h = (refl, omega arith)
+chain_at _ h = (refl, omega arith)
 
 -- an operand and what follows it at its level
 made_level : (l : Rung) (m : ℕ) (s : List Part) (ks : List Terminal) → IsChain l → Fits m (ExpressionPart (tighter l) ∷ OperatorsPart l ∷ s) ks → Fits m (ExpressionPart l ∷ s) ks
@@ -381,7 +344,7 @@ back_statement m s o k b other = leads_map m _ _ (step_simple s o k) (λ ks h. a
 
 made_process : (m : ℕ) (s : List Part) (ks : List Terminal) → Fits m (process_then s) ks → Fits m (ProcessPart ∷ s) (word keyword.Process ∷ ks)
 made_process m s ks (n, r, p, (r1, p1, (gs, r2, (ag, p2), (r3, p3, (r4, p4, (r5, p5, (ts, r6, (tg, p6), (t, r7, (p7, f, c), (ss, r8, (p8, g, d), (r9, p9, h)))))))))) = (
-  process n (groups_parameters gs) (togethers_variables ts) (statement t ss),
+  process n (all_members tree.parameter gs) (all_members tree.variable ts) (statement t ss),
   r9,
   (
     (
@@ -439,34 +402,34 @@ back_taking m s o (word keyword.In) b other = λ ks h. (taking.Channel direction
 back_taking m s o (word keyword.Out) b other = λ ks h. (taking.Channel direction.Out, ks, (λ j. refl), h)
 back_taking m s o k b other = falls TakingPart m s o k tt b other
 
-made_group : (k : Kind) (m : ℕ) (s : List Part) (ks : List Terminal) → Fits m (TakingPart ∷ names_then s) ks → Fits m (GroupPart ∷ s) (kind_terminal k ∷ ks)
+made_group : (k : Kind) (m : ℕ) (s : List Part) (ks : List Terminal) → Fits m (TakingPart ∷ goes_on NamesTail s) ks → Fits m (GroupPart ∷ s) (kind_terminal k ∷ ks)
 made_group k m s ks (f, r, e, (n, r1, p1, (ns, r2, p2, h))) =
     (group (f k) (n ∷ ns), r2, (tt, e k ∙ ap (taking_words (f k)) (p1 ∙ ap (λ x. name n ∷ x) p2)), h)
 
 made_groups : (m : ℕ) (s : List Part) (ks : List Terminal) → Fits m (GroupPart ∷ TailPart GroupsTail ∷ s) ks → Fits m (GroupsPart ∷ s) ks
 made_groups m s ks (g, r, (a, p), (gs, r1, (b, p1), h)) = (g ∷ gs, r1, ((a, b), p ∙ ap (group_words g) p1), h)
 
-back_group : (m : ℕ) (s : List Part) (k : Terminal) → Leads m (λ ks. Fits m (GroupPart ∷ s) (k ∷ ks)) (step_kind (TakingPart ∷ names_then s) None k)
+back_group : (m : ℕ) (s : List Part) (k : Terminal) → Leads m (λ ks. Fits m (GroupPart ∷ s) (k ∷ ks)) (step_kind (TakingPart ∷ goes_on NamesTail s) None k)
 back_group m s (word keyword.Integer) = λ ks h. made_group kind.Integer m s ks h
 back_group m s (word keyword.Logical) = λ ks h. made_group kind.Logical m s ks h
 back_group m s _ = tt
 
 back_groups : (m : ℕ) (s : List Part) (o : Option (List Part)) (k : Terminal) → levels s ≤ m → Leads m (λ ks. Fits m s (k ∷ ks)) o →
-    Leads m (λ ks. Fits m (GroupsPart ∷ s) (k ∷ ks)) (step_kind (TakingPart ∷ names_then (TailPart GroupsTail ∷ s)) o k)
+    Leads m (λ ks. Fits m (GroupsPart ∷ s) (k ∷ ks)) (step_kind (TakingPart ∷ goes_on NamesTail (TailPart GroupsTail ∷ s)) o k)
 back_groups m s o (word keyword.Integer) b other = λ ks h. made_groups m s _ (made_group kind.Integer m (TailPart GroupsTail ∷ s) ks h)
 back_groups m s o (word keyword.Logical) b other = λ ks h. made_groups m s _ (made_group kind.Logical m (TailPart GroupsTail ∷ s) ks h)
 back_groups m s o k b other = falls GroupsPart m s o k tt b other
 
-made_variables : (k : Kind) (m : ℕ) (s : List Part) (ks : List Terminal) → Fits m (names_then (TokenPart SemicolonToken ∷ VariablesPart ∷ s)) ks → Fits m (VariablesPart ∷ s) (kind_terminal k ∷ ks)
+made_variables : (k : Kind) (m : ℕ) (s : List Part) (ks : List Terminal) → Fits m (goes_on NamesTail (TokenPart SemicolonToken ∷ VariablesPart ∷ s)) ks → Fits m (VariablesPart ∷ s) (kind_terminal k ∷ ks)
 made_variables k m s ks (n, r, p, (ns, r1, p1, (r2, p2, (ts, r3, (a, p3), h)))) = (
-  together k (n ∷ ns) ∷ ts,
+  group k (n ∷ ns) ∷ ts,
   r3,
   ((tt, a), ap (λ x. kind_terminal k ∷ x) (p ∙ ap (λ x. name n ∷ x) (p1 ∙ ap (further_names_words ns) (p2 ∙ ap (λ x. sign mark.Semicolon ∷ x) p3)))),
   h,
 )
 
 back_variables : (m : ℕ) (s : List Part) (o : Option (List Part)) (k : Terminal) → levels s ≤ m → Leads m (λ ks. Fits m s (k ∷ ks)) o →
-    Leads m (λ ks. Fits m (VariablesPart ∷ s) (k ∷ ks)) (step_kind (names_then (TokenPart SemicolonToken ∷ VariablesPart ∷ s)) o k)
+    Leads m (λ ks. Fits m (VariablesPart ∷ s) (k ∷ ks)) (step_kind (goes_on NamesTail (TokenPart SemicolonToken ∷ VariablesPart ∷ s)) o k)
 back_variables m s o (word keyword.Integer) b other = λ ks h. made_variables kind.Integer m s ks h
 back_variables m s o (word keyword.Logical) b other = λ ks h. made_variables kind.Logical m s ks h
 back_variables m s o k b other = falls VariablesPart m s o k tt b other
@@ -484,7 +447,7 @@ back_argument m s (sign mark.Minus) = λ ks (z, r, p, h). (tree.number (neg_ℤ 
 back_argument m s _ = tt
 
 made_arguments : (m : ℕ) (s : List Part) (ks : List Terminal) → Fits m (arguments_then s) ks → Fits m (ArgumentsPart ∷ s) ks
-made_arguments m s ks (a, r, p, (xs, r1, q, (r2, p2, h))) = (a ∷ xs, r2, (r, p, subst (FurtherArguments xs r) p2 q), h)
+made_arguments m s ks (a, r, p, (xs, r1, q, (r2, p2, h))) = (a ∷ xs, r2, (r, p, subst (Further (StandsFirst (sign mark.Comma)) Argues xs r) p2 q), h)
 
 back_arguments : (m : ℕ) (s : List Part) (k : Terminal) → Leads m (λ ks. Fits m (ArgumentsPart ∷ s) (k ∷ ks)) (step_arguments s k)
 back_arguments m s (sign mark.Close) = λ ks h. ([], ks, refl, h)
@@ -524,33 +487,11 @@ some_token t m s (r, h) = (token_terminal t ∷ r, takes_one t (token_terminal t
   where
     it : (t : Token) → takes t (token_terminal t) ≡ true
     it BecomesToken = refl
-    it BeginToken = refl
-    it ChannelToken = refl
-    it CloseToken = refl
-    it CommaToken = refl
-    it DoToken = refl
-    it ElseToken = refl
-    it EndToken = refl
-    it IfToken = refl
-    it NameToken = refl
-    it NotToken = refl
-    it NumberToken = refl
-    it OnToken = refl
-    it OpenToken = refl
-    it ParToken = refl
-    it ProcessToken = refl
-    it SemicolonToken = refl
-    it ThenToken = refl
+    it _ = refl
 
 at_most : (l : Rung) → at l ≤ 7
 at_most whole = omega arith
-at_most ors = omega arith
-at_most ands = omega arith
-at_most denials = omega arith
-at_most relations = omega arith
-at_most sums = omega arith
-at_most terms = omega arith
-at_most factors = omega arith
+at_most _ = omega arith
 
 some_skip : (p : Part) (m : ℕ) (s : List Part) → Nullable p → levels s ≤ m → ((ks : List Terminal) × Fits m s ks) → (ks : List Terminal) × Fits m (p ∷ s) ks
 some_skip p m s n b (ks, h) = (ks, skip p m s ks n b h)
@@ -566,24 +507,16 @@ pub fits_some : (m : ℕ) (s : List Part) → levels s ≤ m → (ks : List Term
 fits_some m [] b = ([], refl)
 fits_some m (ProgramPart ∷ s) b =
     let h = fits_some m s b in (_, ([], instance [] [] ∷ [], _, _, _, _, _, h.0, refl, refl, (_, (_, refl, refl), refl), inr refl, refl, inr refl, omega (arith, b), h.1))
-fits_some m (DeclarationsPart ∷ s) b = some_skip DeclarationsPart m s tt b (fits_some m s b)
 fits_some m (DeclarationPart ∷ s) b = let h = fits_some m s b in (_, (channels kind.Integer role.Inner ([] ∷ []), h.0, ((tt, refl), omega (arith, b)), h.1))
 fits_some m (ProcessPart ∷ s) b = let h = fits_some m s b in let d = least_declares h.0 in (d.0, (least_process, h.0, (d.1, omega (arith, b)), h.1))
-fits_some m (RolePart ∷ s) b = some_skip RolePart m s tt b (fits_some m s b)
-fits_some m (GroupsPart ∷ s) b = some_skip GroupsPart m s tt b (fits_some m s b)
 fits_some m (GroupPart ∷ s) b = let h = fits_some m s b in (_, (group (taking.Value kind.Integer) ([] ∷ []), h.0, (tt, refl), h.1))
-fits_some m (TakingPart ∷ s) b = some_skip TakingPart m s tt b (fits_some m s b)
-fits_some m (VariablesPart ∷ s) b = some_skip VariablesPart m s tt b (fits_some m s b)
-fits_some m (StatementPart ∷ s) b = some_skip StatementPart m s tt b (fits_some m s b)
-fits_some m (SimplePart ∷ s) b = some_skip SimplePart m s tt b (fits_some m s b)
 fits_some m (ExpressionPart l ∷ s) b = let h = fits_some m s b in (_, (number (pos 0), h.0, (refl, (at_most l, tt), omega (arith, b)), h.1))
-fits_some m (OperatorsPart l ∷ s) b = some_skip (OperatorsPart l) m s tt b (fits_some m s b)
 fits_some m (InstancePart ∷ s) b = let h = fits_some m s b in (_, (instance [] [], h.0, (_, refl, refl), h.1))
 fits_some m (ArgumentsPart ∷ s) b = let h = fits_some m s b in (_, ([], h.0, refl, h.1))
 fits_some m (ArgumentPart ∷ s) b = let h = fits_some m s b in (_, (channel [], h.0, refl, h.1))
-fits_some m (TailPart t ∷ s) b = some_skip (TailPart t) m s tt b (fits_some m s b)
 fits_some m (TokenPart t ∷ s) b = some_token t m s (fits_some m s b)
 fits_some m (LevelPart ∷ s) b = fits_some m s (omega (arith, b))
+fits_some m (p ∷ s) b = some_skip p m s tt b (fits_some m s b)
 
 -- where it may end, nothing more is needed
 pub fits_nothing : (m : ℕ) (s : List Part) → levels s ≤ m → may_end s ≡ true → Fits m s []

@@ -1,13 +1,8 @@
 -- A list that a tree spells is read whole: expressions.
-use Rattle.std.proofs.Common.{◌≡◌, ◌≢◌, ℕ, zero, suc, ◌+◌, ◌*◌, ◌≤◌, ◌<◌, List, ◌∷◌, true, false, refl, sym, ap, ◌∙◌, subst, arith}
+use Rattle.kahn_syntax.proofs.Common.{◌≡◌, ◌≢◌, ℕ, zero, suc, ◌+◌, ◌*◌, ◌≤◌, ◌<◌, List, ◌∷◌, true, false, refl, sym, ap, ◌∙◌, subst, arith, Terminal, word, sign, name, ExpressionTree, number, truth, variable, wait, negation, denial, bracket, level, conditional, OperandTrees, no_operand, operand, expression_words, operands_words, expression_nesting, operands_nesting, Formed, FormedOperands, Fits, Rung, whole, ors, ands, denials, relations, sums, terms, factors, at, tighter, OpenToken, NameToken, CloseToken, ThenToken, ElseToken, Part, ExpressionPart, OperatorsPart, TokenPart, LevelPart, levels, again, fate}
 use Rattle.kahn_syntax.specs.declared.lexeme.Keyword.TheVariants as keyword
 use Rattle.kahn_syntax.specs.declared.lexeme.Sign.TheVariants as mark
-use Rattle.kahn_syntax.specs.Terminals.{Terminal, word, sign, name}
 use Rattle.kahn_syntax.specs.Terminals as terminal
-use Rattle.kahn_syntax.specs.Trees.{ExpressionTree, number, truth, variable, wait, negation, denial, bracket, level, conditional, OperandTrees, no_operand, operand, expression_words, operands_words, expression_nesting, operands_nesting, Formed, FormedOperands}
-use Rattle.kahn_syntax.specs.inner.Reads.{Fits}
-use Rattle.kahn_syntax.specs.inner.Rungs.{Rung, whole, ors, ands, denials, relations, sums, terms, factors, at, tighter}
-use Rattle.kahn_syntax.specs.inner.Machine.{OpenToken, NameToken, CloseToken, ThenToken, ElseToken, Part, ExpressionPart, OperatorsPart, TokenPart, LevelPart, levels, again, fate}
 use Rattle.kahn_syntax.proofs.Levels.{joined_words}
 use Rattle.kahn_syntax.proofs.Unique.{Ends, ends_more, ends_operand, size, sizes, above, stop, split, IsNoneOrOne, Whole, is_if, is_tighter, Denial, is_not, is_relation, level_low, no_if, no_not}
 use Rattle.kahn_syntax.proofs.Unique as unique
@@ -23,14 +18,8 @@ IsOther relations = ⊥
 IsOther l = IsChain l
 
 again_other : (l : Rung) (s : List Part) → IsOther l → again l s ≡ OperatorsPart l ∷ s
-again_other whole s h = absurd h
-again_other denials s h = absurd h
-again_other factors s h = absurd h
 again_other relations s h = absurd h
-again_other ors s h = refl
-again_other ands s h = refl
-again_other sums s h = refl
-again_other terms s h = refl
+again_other _ s h = refl
 
 record Facts (l : Rung) : Type 0 where
   stops : stop l ≡ at l
@@ -46,21 +35,11 @@ facts : (l : Rung) → IsChain l → Facts l
 facts whole h = absurd h
 facts denials h = absurd h
 facts factors h = absurd h
-facts ors h = record { stops = refl; next = refl; next_stops = refl; next_above = refl; low = omega arith; some = omega arith; no_three = λ e. omega arith; most = omega arith }
-facts ands h = record { stops = refl; next = refl; next_stops = refl; next_above = refl; low = omega arith; some = omega arith; no_three = λ e. omega arith; most = omega arith }
-facts relations h = record { stops = refl; next = refl; next_stops = refl; next_above = refl; low = omega arith; some = omega arith; no_three = λ e. omega arith; most = omega arith }
-facts sums h = record { stops = refl; next = refl; next_stops = refl; next_above = refl; low = omega arith; some = omega arith; no_three = λ e. omega arith; most = omega arith }
-facts terms h = record { stops = refl; next = refl; next_stops = refl; next_above = refl; low = omega arith; some = omega arith; no_three = λ e. omega arith; most = omega arith }
+facts _ h = record { stops = refl; next = refl; next_stops = refl; next_above = refl; low = omega arith; some = omega arith; no_three = λ e. omega arith; most = omega arith }
 
 is_chain : (l : Rung) → IsOther l → IsChain l
-is_chain whole h = absurd h
-is_chain denials h = absurd h
-is_chain factors h = absurd h
 is_chain relations h = absurd h
-is_chain ors h = tt
-is_chain ands h = tt
-is_chain sums h = tt
-is_chain terms h = tt
+is_chain _ h = h
 
 whole_operands : (k : ℕ) (l : Rung) → Known k → IsOther l → (os : OperandTrees) (m : ℕ) (s : List Part) (r : List Terminal) → 8 * sizes os ≤ k →
     FormedOperands (at l) os → Ends (at l) r → levels s + operands_nesting os ≤ m → fate m (OperatorsPart l ∷ s) (operands_words os r) ≡ fate m s r

@@ -1,20 +1,14 @@
 -- A list that a tree spells is read whole: declarations, instances and programs.
-use Rattle.std.proofs.Common.{◌≡◌, ℕ, ◌+◌, ◌≤◌, List, [], ◌∷◌, true, false, Some, ⊎_elim, refl, ap, ◌∙◌, arith}
+use Rattle.kahn_syntax.proofs.Common.{◌≡◌, ℕ, ◌+◌, ◌≤◌, List, [], ◌∷◌, true, false, Some, ⊎_elim, refl, ap, ◌∙◌, arith, AreAny, Further, Grouped, group, IsGroup, AreGroups, Kind, Role, Taking, Terminal, word, sign, name, statements_words, ParameterTree, VariableTree, DeclarationTree, channels, process, ArgumentTree, channel, InstanceTree, instance, ProgramTree, program, kind_terminal, role_words, taking_words, names_words, further_names_words, group_words, groups_words, further_groups_words, Parameters, togethers_words, Variables, Declares, Declarations, Argues, Arguments, Instantiates, Instances, MaybeSemicolon, Spells, declaration_nesting, declarations_nesting, nesting, StandsFirst, BeginToken, ChannelToken, CloseToken, CommaToken, EndToken, NameToken, NumberToken, OpenToken, ParToken, SemicolonToken, leads, NamesTail, StatementsTail, GroupsTail, ArgumentsTail, InstancesTail, LastTail, Part, ProgramPart, DeclarationsPart, DeclarationPart, RolePart, GroupsPart, GroupPart, TakingPart, VariablesPart, StatementPart, InstancePart, ArgumentsPart, ArgumentPart, TailPart, TokenPart, channels_then, levels, step, Whole, fate, leads_kind, goes_on}
 use Rattle.kahn_syntax.specs.declared.lexeme.Keyword.TheVariants as keyword
 use Rattle.kahn_syntax.specs.declared.lexeme.Sign.TheVariants as mark
-use Rattle.kahn_tree.specs.declared.tree.Kind.{Kind}
 use Rattle.kahn_tree.specs.declared.tree.Kind.TheVariants as kind
-use Rattle.kahn_tree.specs.declared.tree.Role.{Role}
 use Rattle.kahn_tree.specs.declared.tree.Role.TheVariants as role
 use Rattle.kahn_tree.specs.declared.tree.Direction.TheVariants as direction
-use Rattle.kahn_tree.specs.declared.tree.Taking.{Taking}
 use Rattle.kahn_tree.specs.declared.tree.Taking.TheVariants as taking
-use Rattle.kahn_syntax.specs.Terminals.{Terminal, word, sign, name}
 use Rattle.kahn_syntax.specs.Terminals as terminal
-use Rattle.kahn_syntax.specs.Trees.{statements_words}
-use Rattle.kahn_syntax.specs.Programs.{GroupTree, group, TogetherTree, together, ParameterTree, VariableTree, DeclarationTree, channels, process, ArgumentTree, channel, number, truth, InstanceTree, instance, ProgramTree, program, kind_terminal, role_words, taking_words, names_words, further_names_words, AreNames, group_words, groups_words, further_groups_words, IsGroup, AreGroups, Parameters, togethers_words, AreTogether, Variables, Declares, Declarations, Argues, Arguments, FurtherArguments, Instantiates, Instances, FurtherInstances, MaybeSemicolon, Spells, declaration_nesting, declarations_nesting, nesting}
-use Rattle.kahn_syntax.specs.inner.Machine.{BeginToken, ChannelToken, CloseToken, CommaToken, EndToken, NameToken, NumberToken, OpenToken, ParToken, SemicolonToken, leads, NamesTail, StatementsTail, GroupsTail, ArgumentsTail, InstancesTail, LastTail, Part, ProgramPart, DeclarationsPart, DeclarationPart, RolePart, GroupsPart, GroupPart, TakingPart, VariablesPart, StatementPart, InstancePart, ArgumentsPart, ArgumentPart, TailPart, TokenPart, names_then, channels_then, levels, step, Whole, fate}
-use Rattle.kahn_syntax.proofs.OneTree.{NoKind, statements_start, Named, named_instances, NoPar, no_par_end}
+use Rattle.kahn_syntax.specs.Programs.{number, truth}
+use Rattle.kahn_syntax.proofs.OneTree.{statements_start, Named, named_instances, no_par_end, no_comma}
 use Rattle.kahn_syntax.proofs.Steps.{go, take_token, take_tail, skip_tail}
 use Rattle.kahn_syntax.proofs.WholeStatements.{whole_statements}
 
@@ -25,8 +19,8 @@ whole_further_names (n ∷ ns) m s r h b =
     take_tail NamesTail m s (sign mark.Comma) (name n ∷ further_names_words ns r) refl b
     ∙ (take_token NameToken m (TailPart NamesTail ∷ s) (name n) (further_names_words ns r) refl b ∙ whole_further_names ns m s r h b)
 
-pub whole_names : (ns : List (List ℕ)) (m : ℕ) (s : List Part) (r : List Terminal) → AreNames ns → leads CommaToken r ≡ false → levels s ≤ m →
-    fate m (names_then s) (names_words ns r) ≡ fate m s r
+pub whole_names : (ns : List (List ℕ)) (m : ℕ) (s : List Part) (r : List Terminal) → AreAny ns → leads CommaToken r ≡ false → levels s ≤ m →
+    fate m (goes_on NamesTail s) (names_words ns r) ≡ fate m s r
 whole_names [] m s r a h b = absurd a
 whole_names (n ∷ ns) m s r a h b = take_token NameToken m (TailPart NamesTail ∷ s) (name n) (further_names_words ns r) refl b ∙ whole_further_names ns m s r h b
 
@@ -43,17 +37,13 @@ whole_taking (taking.Channel direction.Out k) m p u x r e f b =
     take_kind k m p (TakingPart ∷ u) (word keyword.Out ∷ name x ∷ r) e f b ∙ go m (TakingPart ∷ u) u (word keyword.Out) (name x ∷ r) refl b
 whole_taking (taking.Value k) m p u x r e f b = take_kind k m p (TakingPart ∷ u) (name x ∷ r) e f b ∙ refl
 
-whole_group : (g : GroupTree) (m : ℕ) (p s : List Part) (r : List Terminal) → step p (word keyword.Integer) ≡ Some (TakingPart ∷ names_then s) →
-    step p (word keyword.Logical) ≡ Some (TakingPart ∷ names_then s) → IsGroup g → leads CommaToken r ≡ false → levels s ≤ m → fate m p (group_words g r) ≡ fate m s r
+whole_group : (g : Grouped Taking (List ℕ)) (m : ℕ) (p s : List Part) (r : List Terminal) → step p (word keyword.Integer) ≡ Some (TakingPart ∷ goes_on NamesTail s) →
+    step p (word keyword.Logical) ≡ Some (TakingPart ∷ goes_on NamesTail s) → IsGroup g → leads CommaToken r ≡ false → levels s ≤ m → fate m p (group_words g r) ≡ fate m s r
 whole_group (group t []) m p s r e f a h b = absurd a
 whole_group (group t (n ∷ ns)) m p s r e f a h b =
-    whole_taking t m p (names_then s) n (further_names_words ns r) e f b ∙ whole_names (n ∷ ns) m s r tt h b
+    whole_taking t m p (goes_on NamesTail s) n (further_names_words ns r) e f b ∙ whole_names (n ∷ ns) m s r tt h b
 
-no_comma : (gs : List GroupTree) (x : List Terminal) → leads CommaToken (further_groups_words gs (sign mark.Close ∷ x)) ≡ false
-no_comma [] x = refl
-no_comma (g ∷ gs) x = refl
-
-whole_further_groups : (gs : List GroupTree) (m : ℕ) (s : List Part) (x : List Terminal) → AreGroups gs → levels s ≤ m →
+whole_further_groups : (gs : List (Grouped Taking (List ℕ))) (m : ℕ) (s : List Part) (x : List Terminal) → AreGroups gs → levels s ≤ m →
     fate m (TailPart GroupsTail ∷ s) (further_groups_words gs (sign mark.Close ∷ x)) ≡ fate m s (sign mark.Close ∷ x)
 whole_further_groups [] m s x a b = skip_tail GroupsTail m s (sign mark.Close ∷ x) refl
 whole_further_groups (g ∷ gs) m s x a b =
@@ -61,7 +51,7 @@ whole_further_groups (g ∷ gs) m s x a b =
     ∙ (whole_group g m (GroupPart ∷ TailPart GroupsTail ∷ s) (TailPart GroupsTail ∷ s) (further_groups_words gs (sign mark.Close ∷ x)) refl refl a.0 (no_comma gs x) b
     ∙ whole_further_groups gs m s x a.1 b)
 
-whole_groups : (gs : List GroupTree) (m : ℕ) (s : List Part) (x : List Terminal) → AreGroups gs → levels s ≤ m →
+whole_groups : (gs : List (Grouped Taking (List ℕ))) (m : ℕ) (s : List Part) (x : List Terminal) → AreGroups gs → levels s ≤ m →
     fate m (GroupsPart ∷ s) (groups_words gs (sign mark.Close ∷ x)) ≡ fate m s (sign mark.Close ∷ x)
 whole_groups [] m s x a b = refl
 whole_groups (g ∷ gs) m s x a b =
@@ -72,21 +62,20 @@ whole_parameters : (ps : List ParameterTree) (m : ℕ) (s : List Part) (ks x : L
     fate m (GroupsPart ∷ s) ks ≡ fate m s (sign mark.Close ∷ x)
 whole_parameters ps m s ks x (gs, a, e, p) b = ap (fate m (GroupsPart ∷ s)) p ∙ whole_groups gs m s x a b
 
-skip_variables : (m : ℕ) (s : List Part) (r : List Terminal) → NoKind r → fate m (VariablesPart ∷ s) r ≡ fate m s r
+pub skip_variables : (m : ℕ) (s : List Part) (r : List Terminal) → leads_kind r ≡ false → fate m (VariablesPart ∷ s) r ≡ fate m s r
 skip_variables m s [] h = refl
-skip_variables m s (word keyword.Integer ∷ r) h = absurd h
-skip_variables m s (word keyword.Logical ∷ r) h = absurd h
-skip_variables m s (k ∷ r) h = refl
+skip_variables m s (word keyword.Integer ∷ r) h = cc
+skip_variables m s (_ ∷ r) h = cc
 
-whole_togethers : (ts : List TogetherTree) (m : ℕ) (s : List Part) (r : List Terminal) → AreTogether ts → NoKind r → levels s ≤ m →
+whole_togethers : (ts : List (Grouped Kind (List ℕ))) (m : ℕ) (s : List Part) (r : List Terminal) → AreGroups ts → leads_kind r ≡ false → levels s ≤ m →
     fate m (VariablesPart ∷ s) (togethers_words ts r) ≡ fate m s r
 whole_togethers [] m s r a h b = skip_variables m s r h
-whole_togethers (together k ns ∷ ts) m s r a h b =
-    take_kind k m (VariablesPart ∷ s) (names_then (TokenPart SemicolonToken ∷ VariablesPart ∷ s)) (names_words ns (sign mark.Semicolon ∷ togethers_words ts r)) refl refl b
+whole_togethers (group k ns ∷ ts) m s r a h b =
+    take_kind k m (VariablesPart ∷ s) (goes_on NamesTail (TokenPart SemicolonToken ∷ VariablesPart ∷ s)) (names_words ns (sign mark.Semicolon ∷ togethers_words ts r)) refl refl b
     ∙ (whole_names ns m (TokenPart SemicolonToken ∷ VariablesPart ∷ s) (sign mark.Semicolon ∷ togethers_words ts r) a.0 refl b
     ∙ (take_token SemicolonToken m (VariablesPart ∷ s) (sign mark.Semicolon) (togethers_words ts r) refl b ∙ whole_togethers ts m s r a.1 h b))
 
-whole_variables : (vs : List VariableTree) (m : ℕ) (s : List Part) (ks r : List Terminal) → Variables vs ks r → NoKind r → levels s ≤ m →
+whole_variables : (vs : List VariableTree) (m : ℕ) (s : List Part) (ks r : List Terminal) → Variables vs ks r → leads_kind r ≡ false → levels s ≤ m →
     fate m (VariablesPart ∷ s) ks ≡ fate m s r
 whole_variables vs m s ks r (ts, a, e, p) h b = ap (fate m (VariablesPart ∷ s)) p ∙ whole_togethers ts m s r a h b
 
@@ -107,8 +96,8 @@ whole_declares (channels k o ns) m s ks x (a, e) b =
     let c : levels s ≤ m = omega (arith, b) in
     ap (fate m (DeclarationPart ∷ s)) e
     ∙ (take_kind k m (DeclarationPart ∷ s) (channels_then s) (role_words o (word keyword.Channel ∷ names_words ns (sign mark.Semicolon ∷ x))) refl refl c
-    ∙ (whole_role o m (TokenPart ChannelToken ∷ names_then s) (names_words ns (sign mark.Semicolon ∷ x)) c
-    ∙ (take_token ChannelToken m (names_then s) (word keyword.Channel) (names_words ns (sign mark.Semicolon ∷ x)) refl c
+    ∙ (whole_role o m (TokenPart ChannelToken ∷ goes_on NamesTail s) (names_words ns (sign mark.Semicolon ∷ x)) c
+    ∙ (take_token ChannelToken m (goes_on NamesTail s) (word keyword.Channel) (names_words ns (sign mark.Semicolon ∷ x)) refl c
     ∙ whole_names ns m s (sign mark.Semicolon ∷ x) a refl c)))
 whole_declares (process n ps vs body) m s ks x (a, b, e, p, v, some, f) bound =
     let c : levels s ≤ m = omega (arith, bound) in
@@ -166,7 +155,7 @@ open_arguments (truth true) m s ks r e = rw e refl
 open_arguments (truth false) m s ks r e = rw e refl
 open_arguments (number z) m s ks r e = ⊎_elim (λ p. rw p refl) (λ (n, q, p). rw p refl) e
 
-whole_further_arguments : (xs : List ArgumentTree) (m : ℕ) (s : List Part) (ks r : List Terminal) → leads CommaToken r ≡ false → FurtherArguments xs ks r → levels s ≤ m →
+whole_further_arguments : (xs : List ArgumentTree) (m : ℕ) (s : List Part) (ks r : List Terminal) → leads CommaToken r ≡ false → Further (StandsFirst (sign mark.Comma)) Argues xs ks r → levels s ≤ m →
     fate m (TailPart ArgumentsTail ∷ s) ks ≡ fate m s r
 whole_further_arguments [] m s ks r h e b = ap (fate m (TailPart ArgumentsTail ∷ s)) e ∙ skip_tail ArgumentsTail m s r h
 whole_further_arguments (a ∷ xs) m s ks r h (x, y, e, p, q) b =
@@ -187,7 +176,7 @@ whole_instantiates (instance n xs) m s ks r (x, e, p) b =
     ∙ (go m (InstancePart ∷ s) (TokenPart OpenToken ∷ ArgumentsPart ∷ s) (name n) (sign mark.Open ∷ x) refl b
     ∙ (take_token OpenToken m (ArgumentsPart ∷ s) (sign mark.Open) x refl b ∙ whole_arguments xs m s x r p b))
 
-whole_further_instances : (is : List InstanceTree) (m : ℕ) (s : List Part) (ks r : List Terminal) → leads ParToken r ≡ false → FurtherInstances is ks r → levels s ≤ m →
+whole_further_instances : (is : List InstanceTree) (m : ℕ) (s : List Part) (ks r : List Terminal) → leads ParToken r ≡ false → Further (StandsFirst (word keyword.Par)) Instantiates is ks r → levels s ≤ m →
     fate m (TailPart InstancesTail ∷ s) ks ≡ fate m s r
 whole_further_instances [] m s ks r h e b = ap (fate m (TailPart InstancesTail ∷ s)) e ∙ skip_tail InstancesTail m s r h
 whole_further_instances (i ∷ is) m s ks r h (x, y, e, p, q) b =
@@ -204,11 +193,6 @@ whole_maybe m s ks r h e b =
     ⊎_elim (λ p. ap (fate m (TailPart LastTail ∷ s)) p ∙ take_tail LastTail m s (sign mark.Semicolon) r refl b)
     (λ p. ap (fate m (TailPart LastTail ∷ s)) p ∙ skip_tail LastTail m s r h) e
 
-no_par_leads : (r : List Terminal) → NoPar r → leads ParToken r ≡ false
-no_par_leads [] h = refl
-no_par_leads (word keyword.Par ∷ r) h = absurd h
-no_par_leads (k ∷ r) h = refl
-
 -- A program of at most this nesting is read whole.
 pub whole_program : (m : ℕ) (t : ProgramTree) (ks : List Terminal) → nesting t ≤ m → Spells t ks → fate m (ProgramPart ∷ []) ks ≡ Whole
 whole_program m (program ds is) ks n (a, b, c, d, e, p, h, i, maybe, v, last) =
@@ -217,7 +201,7 @@ whole_program m (program ds is) ks n (a, b, c, d, e, p, h, i, maybe, v, last) =
     ap (fate m (ProgramPart ∷ [])) p
     ∙ (go m (ProgramPart ∷ []) (DeclarationsPart ∷ InstancePart ∷ TailPart InstancesTail ∷ TailPart LastTail ∷ ends) (word keyword.Begin) a refl some
     ∙ (whole_declarations ds m (InstancePart ∷ TailPart InstancesTail ∷ TailPart LastTail ∷ ends) a b (named_instances is b c i) h (omega (arith, n))
-    ∙ (whole_instances is m (TailPart LastTail ∷ ends) b c (no_par_leads c (no_par_end c d e maybe v)) i some
+    ∙ (whole_instances is m (TailPart LastTail ∷ ends) b c (no_par_end c d e maybe v) i some
     ∙ (whole_maybe m ends c d (ap (leads SemicolonToken) v) maybe some
     ∙ (ap (fate m ends) v
     ∙ (take_token EndToken m (TailPart LastTail ∷ []) (word keyword.End) e refl some

@@ -1,11 +1,7 @@
 -- A list that a tree spells is read whole: statements.
-use Rattle.std.proofs.Common.{◌≡◌, ℕ, ◌+◌, ◌≤◌, List, [], ◌∷◌, false, refl, ◌∙◌, arith}
+use Rattle.kahn_syntax.proofs.Common.{◌≡◌, ℕ, ◌+◌, ◌≤◌, List, [], ◌∷◌, false, refl, ◌∙◌, arith, Terminal, word, sign, name, ExpressionTree, Formed, expression_nesting, StatementTree, empty, assign, send, print, block, if_then, if_else, while_do, repeat, StatementTrees, no_statement, statement, expression_words, statement_words, statements_words, further_words, statement_nesting, statements_nesting, FormedStatement, FormedStatements, IsSimple, AreSome, whole, BecomesToken, OnToken, NameToken, EndToken, ThenToken, DoToken, SemicolonToken, ElseToken, leads, StatementsTail, ElseTail, Part, StatementPart, SimplePart, ExpressionPart, TailPart, TokenPart, LevelPart, levels, fate}
 use Rattle.kahn_syntax.specs.declared.lexeme.Keyword.TheVariants as keyword
 use Rattle.kahn_syntax.specs.declared.lexeme.Sign.TheVariants as mark
-use Rattle.kahn_syntax.specs.Terminals.{Terminal, word, sign, name}
-use Rattle.kahn_syntax.specs.Trees.{ExpressionTree, Formed, expression_nesting, StatementTree, empty, assign, send, print, block, if_then, if_else, while_do, repeat, StatementTrees, no_statement, statement, expression_words, statement_words, statements_words, further_words, statement_nesting, statements_nesting, FormedStatement, FormedStatements, IsSimple, AreSome}
-use Rattle.kahn_syntax.specs.inner.Rungs.{whole}
-use Rattle.kahn_syntax.specs.inner.Machine.{BecomesToken, OnToken, NameToken, EndToken, ThenToken, DoToken, SemicolonToken, ElseToken, leads, StatementsTail, ElseTail, Part, StatementPart, SimplePart, ExpressionPart, TailPart, TokenPart, LevelPart, levels, fate}
 use Rattle.kahn_syntax.proofs.Blocks.{EndsSimple, EndsStatement, EndsAfter, EndsBlock, simple_expression, statement_simple, statement_after, no_more, block_statement}
 use Rattle.kahn_syntax.proofs.Steps.{go, skip_level, take_token, take_tail, skip_tail}
 use Rattle.kahn_syntax.proofs.WholeExpressions.{whole_expression}
@@ -72,10 +68,7 @@ mutual
   whole_simple (print v) m s r i f e n = whole_print v m s r f e n
   whole_simple (block ss) m s r i f e n =
       whole_block ss m s r (omega (arith, n)) (whole_statements ss m (TokenPart EndToken ∷ LevelPart ∷ s) (word keyword.End ∷ r) f.0 f.1 tt (omega (arith, n)))
-  whole_simple (if_then c a) m s r i f e n = absurd i
-  whole_simple (if_else c a b) m s r i f e n = absurd i
-  whole_simple (while_do c a) m s r i f e n = absurd i
-  whole_simple (repeat a) m s r i f e n = absurd i
+  whole_simple _ m s r i f e n = absurd i
 
   whole_statement : (t : StatementTree) (m : ℕ) (s : List Part) (r : List Terminal) → FormedStatement t → EndsAfter t r →
       levels s + statement_nesting t ≤ m → fate m (StatementPart ∷ s) (statement_words t r) ≡ fate m s r

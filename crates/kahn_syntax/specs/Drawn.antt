@@ -1,20 +1,8 @@
 -- Believed. The tree that a value of the program's types stands for, without its spans.
 use Rattle.std.specs.Prelude.{ℕ, List, [], ◌∷◌, map, string_bytes}
-use Rattle.kahn_tree.specs.declared.tree.Name.{Name}
-use Rattle.kahn_tree.specs.declared.tree.Form.{Form, Number, Logical, Variable, Wait, Negate', Not', Bracket', Level', Conditional', Row_of-Operand, end_of-Operand, more_of-Operand}
-use Rattle.kahn_tree.specs.declared.tree.Expression.{Expression}
-use Rattle.kahn_tree.specs.declared.tree.Operand.{Operand}
-use Rattle.kahn_tree.specs.declared.tree.Action.{Action, Empty, Assign, Send, Print, Block', If', While', Repeat', Row_of-Statement, end_of-Statement, more_of-Statement, Held-Action-If-2, None', Some'}
-use Rattle.kahn_tree.specs.declared.tree.Statement.{Statement}
-use Rattle.kahn_tree.specs.declared.tree.Parameter.{Parameter}
-use Rattle.kahn_tree.specs.declared.tree.Variable.{Variable as OneVariable}
-use Rattle.kahn_tree.specs.declared.tree.Process.{Process}
-use Rattle.kahn_tree.specs.declared.tree.Declaration.{Declaration}
+use Rattle.kahn_syntax.specs.Names.{Name, Form, Number, Logical, Variable, Wait, Negate', Not', Bracket', Level', Conditional', Row_of-Operand, end_of-Operand, more_of-Operand, Expression, Operand, Action, Empty, Assign, Send, Print, Block', If', While', Repeat', Row_of-Statement, end_of-Statement, more_of-Statement, Held-Action-If-2, None', Some', Statement, Parameter, OneVariable, Process, Declaration, Argument, Instance, Program}
 use Rattle.kahn_tree.specs.declared.tree.Declaration.TheVariants as declared
-use Rattle.kahn_tree.specs.declared.tree.Argument.{Argument}
 use Rattle.kahn_tree.specs.declared.tree.Argument.TheVariants as argued
-use Rattle.kahn_tree.specs.declared.tree.Instance.{Instance}
-use Rattle.kahn_tree.specs.declared.tree.Program.{Program}
 use Rattle.kahn_syntax.specs.Programs as whole
 use Rattle.kahn_syntax.specs.Programs.{ParameterTree, VariableTree, DeclarationTree, ArgumentTree, InstanceTree, ProgramTree}
 use Rattle.kahn_syntax.specs.Trees.{ExpressionTree, number, truth, variable, wait, negation, denial, bracket, level, conditional, OperandTrees, no_operand, operand, StatementTree, empty, assign, send, print, block, if_then, if_else, while_do, repeat, StatementTrees, no_statement, statement}

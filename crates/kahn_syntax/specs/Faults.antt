@@ -1,11 +1,7 @@
 -- Believed. Why a list of lexemes is refused.
 use Rattle.std.specs.Prelude.{◌≡◌, ℕ, List, [], ◌∷◌, ◌++◌, ◌+◌, ◌≤◌, ◌<◌, length}
-use Rattle.kahn_syntax.specs.declared.lexeme.Lexeme.{Lexeme}
-use Rattle.kahn_tree.specs.declared.span.Span.{Span}
-use Rattle.kahn_syntax.specs.declared.fault.SyntaxFault.{SyntaxFault}
+use Rattle.kahn_syntax.specs.Names.{Lexeme, Span, SyntaxFault, Expected, More, Nothing, Other}
 use Rattle.kahn_syntax.specs.declared.fault.SyntaxFault.TheVariants as fault
-use Rattle.kahn_syntax.specs.declared.fault.SyntaxFault.TheVariants.{Expected}
-use Rattle.kahn_syntax.specs.declared.fault.What.TheVariants.{More, Nothing, Other}
 use Rattle.kahn_syntax.specs.Terminals.{Terminal, terminal, terminals}
 use Rattle.kahn_syntax.specs.Programs.{ProgramTree, Spells, nesting}
 

@@ -2,16 +2,10 @@
 use Rattle.std.specs.Prelude.{◌≡◌, ℕ, ◌+◌, ◌≤◌, ◌<◌, ◌⊎◌, List, [], ◌∷◌, pos, length, slice_index, slice_range, codes, IsCharBoundary}
 use Rattle.std.specs.Str.{str_to_ascii_lowercase}
 use Rattle.std.specs.Str.Parse.{digits_value}
-use Rattle.kahn_tree.specs.declared.span.Span.{Span}
-use Rattle.kahn_syntax.specs.declared.lexeme.Lexeme.{Lexeme}
-use Rattle.kahn_syntax.specs.declared.lexeme.Class.{Class}
+use Rattle.kahn_syntax.specs.Names.{Span, Lexeme, Class, Keyword, Sign, SyntaxFault, TooLong, BadCharacter, NumberTooLarge, CommentOpen, NameTooLong, NoMemory}
 use Rattle.kahn_syntax.specs.declared.lexeme.Class.TheVariants as class
-use Rattle.kahn_syntax.specs.declared.lexeme.Keyword.{Keyword}
 use Rattle.kahn_syntax.specs.declared.lexeme.Keyword.TheVariants as word
-use Rattle.kahn_syntax.specs.declared.lexeme.Sign.{Sign}
 use Rattle.kahn_syntax.specs.declared.lexeme.Sign.TheVariants as sign
-use Rattle.kahn_syntax.specs.declared.fault.SyntaxFault.{SyntaxFault}
-use Rattle.kahn_syntax.specs.declared.fault.SyntaxFault.TheVariants.{TooLong, BadCharacter, NumberTooLarge, CommentOpen, NameTooLong, Expected, TooDeep, NoMemory}
 
 -- space, tab, CR and LF
 abbrev pub IsBlank : ℕ → Type 0
@@ -195,6 +189,5 @@ IsLexFault text (BadCharacter at) = IsReached text at.from × IsBadCharacter tex
 IsLexFault text (NumberTooLarge at) = IsReached text at.from × IsLargeNumber text at
 IsLexFault text (CommentOpen at) = IsReached text at.from × IsOpenComment text at
 IsLexFault text (NameTooLong at) = IsReached text at.from × IsLongName text at
-IsLexFault text (Expected at what) = ⊥
-IsLexFault text (TooDeep at) = ⊥
 IsLexFault text NoMemory = length text ≤ most_bytes
+IsLexFault text _ = ⊥

@@ -1,36 +1,20 @@
 -- Believed. The spans of a tree over the lexemes of its text, by cases like those of its spelling: each part takes the lexemes from a
 -- place of the list up to the rest, and a name, a statement and an expression has the span from the first of them to the last.
-use Rattle.std.specs.Prelude.{◌≡◌, ℕ, ℤ, ◌+◌, List, [], ◌∷◌, ◌++◌, ◌⊎◌, Option, Some, None, length, map, neg_ℤ}
+use Rattle.std.specs.Prelude.{◌≡◌, ℕ, ℤ, ◌+◌, List, [], ◌∷◌, ◌⊎◌, Option, Some, None, length, neg_ℤ}
 use Rattle.kahn_syntax.specs.declared.lexeme.Keyword.TheVariants as keyword
 use Rattle.kahn_syntax.specs.declared.lexeme.Sign.TheVariants as mark
-use Rattle.kahn_syntax.specs.declared.lexeme.Lexeme.{Lexeme}
-use Rattle.kahn_tree.specs.declared.span.Span.{Span}
-use Rattle.kahn_tree.specs.declared.tree.Name.{Name}
-use Rattle.kahn_tree.specs.declared.tree.Kind.{Kind}
-use Rattle.kahn_tree.specs.declared.tree.Taking.{Taking}
+use Rattle.kahn_syntax.specs.Names.{Lexeme, Span, Name, Kind, Taking, Role, Form, Number, Logical, Variable, Wait, Negate', Not', Bracket', Level', Conditional', Row_of-Operand, end_of-Operand, more_of-Operand, Expression, Operand, Action, Empty, Assign, Send, Print, Block', If', While', Repeat', Row_of-Statement, end_of-Statement, more_of-Statement, Held-Action-If-2, None', Some', Statement, Parameter, OneVariable, Process, Declaration, Argument, Instance, Program}
 use Rattle.kahn_tree.specs.declared.tree.Taking.TheVariants as taking
 use Rattle.kahn_tree.specs.declared.tree.Direction.TheVariants as direction
-use Rattle.kahn_tree.specs.declared.tree.Role.{Role}
 use Rattle.kahn_tree.specs.declared.tree.Role.TheVariants as role
-use Rattle.kahn_tree.specs.declared.tree.Form.{Form, Number, Logical, Variable, Wait, Negate', Not', Bracket', Level', Conditional', Row_of-Operand, end_of-Operand, more_of-Operand}
-use Rattle.kahn_tree.specs.declared.tree.Expression.{Expression}
-use Rattle.kahn_tree.specs.declared.tree.Operand.{Operand}
-use Rattle.kahn_tree.specs.declared.tree.Action.{Action, Empty, Assign, Send, Print, Block', If', While', Repeat', Row_of-Statement, end_of-Statement, more_of-Statement, Held-Action-If-2, None', Some'}
-use Rattle.kahn_tree.specs.declared.tree.Statement.{Statement}
-use Rattle.kahn_tree.specs.declared.tree.Parameter.{Parameter}
-use Rattle.kahn_tree.specs.declared.tree.Variable.{Variable as OneVariable}
-use Rattle.kahn_tree.specs.declared.tree.Process.{Process}
-use Rattle.kahn_tree.specs.declared.tree.Declaration.{Declaration}
 use Rattle.kahn_tree.specs.declared.tree.Declaration.TheVariants as declared
-use Rattle.kahn_tree.specs.declared.tree.Argument.{Argument}
 use Rattle.kahn_tree.specs.declared.tree.Argument.TheVariants as argued
-use Rattle.kahn_tree.specs.declared.tree.Instance.{Instance}
-use Rattle.kahn_tree.specs.declared.tree.Program.{Program}
 use Rattle.kahn_syntax.specs.Terminals as terminal
 use Rattle.kahn_syntax.specs.Terminals.{Terminal, word, sign, name}
 use Rattle.kahn_syntax.specs.Trees.{operator_terminal, truth_terminal}
 use Rattle.kahn_syntax.specs.Programs.{kind_terminal}
 use Rattle.kahn_syntax.specs.Faults.{Placed}
+use Rattle.kahn_syntax.specs.Lists.{Between, SomeBetween, Grouped, group, all_members}
 use Rattle.kahn_syntax.specs.Drawn.{name_of}
 
 -- one lexeme stands before the rest
@@ -117,24 +101,12 @@ abbrev mutual
 abbrev pub StatementSpans : List ℕ → Statement → List Lexeme → List Lexeme → Type 0
 StatementSpans text s xs r = MayCover s.span xs r × ActionSpans text s.action xs r
 
-abbrev pub FurtherStatementsSpan : List ℕ → List Statement → List Lexeme → List Lexeme → Type 0
-FurtherStatementsSpan text [] xs r = xs ≡ r
-FurtherStatementsSpan text (s ∷ ss) xs r = (a : List Lexeme) × (b : List Lexeme)
-    × Takes text (sign mark.Semicolon) xs a × StatementSpans text s a b × FurtherStatementsSpan text ss b r
-
 abbrev pub StatementsSpan : List ℕ → List Statement → List Lexeme → List Lexeme → Type 0
-StatementsSpan text [] xs r = xs ≡ r
-StatementsSpan text (s ∷ ss) xs r = (a : List Lexeme) × StatementSpans text s xs a × FurtherStatementsSpan text ss a r
-
-abbrev pub FurtherNamesSpan : List ℕ → List Name → List Lexeme → List Lexeme → Type 0
-FurtherNamesSpan text [] xs r = xs ≡ r
-FurtherNamesSpan text (n ∷ ns) xs r = (a : List Lexeme) × (b : List Lexeme)
-    × Takes text (sign mark.Comma) xs a × NameSpans text n a b × FurtherNamesSpan text ns b r
+StatementsSpan text ss xs r = Between (Takes text (sign mark.Semicolon)) (StatementSpans text) ss xs r
 
 -- one name or more, with commas between
 abbrev pub NamesSpan : List ℕ → List Name → List Lexeme → List Lexeme → Type 0
-NamesSpan text [] xs r = ⊥
-NamesSpan text (n ∷ ns) xs r = (a : List Lexeme) × NameSpans text n xs a × FurtherNamesSpan text ns a r
+NamesSpan text ns xs r = SomeBetween (Takes text (sign mark.Comma)) (NameSpans text) ns xs r
 
 abbrev pub RoleSpans : List ℕ → Role → List Lexeme → List Lexeme → Type 0
 RoleSpans text role.Inner xs r = xs ≡ r
@@ -151,59 +123,34 @@ abbrev pub kind_of : Taking → Kind
 kind_of (taking.Channel d k) = k
 kind_of (taking.Value k) = k
 
--- names of parameters that take the same, and of variables of one kind
-pub data NamedGroup : Type 0 where
-  group : Taking → List Name → NamedGroup
-
-pub data NamedTogether : Type 0 where
-  together : Kind → List Name → NamedTogether
-
-abbrev pub GroupSpans : List ℕ → NamedGroup → List Lexeme → List Lexeme → Type 0
+-- names of parameters that take the same
+abbrev pub GroupSpans : List ℕ → Grouped Taking Name → List Lexeme → List Lexeme → Type 0
 GroupSpans text (group t ns) xs r = (a : List Lexeme) × (b : List Lexeme)
     × Takes text (kind_terminal (kind_of t)) xs a × DirectionSpans text t a b × NamesSpan text ns b r
 
-abbrev pub FurtherGroupsSpan : List ℕ → List NamedGroup → List Lexeme → List Lexeme → Type 0
-FurtherGroupsSpan text [] xs r = xs ≡ r
-FurtherGroupsSpan text (g ∷ gs) xs r = (a : List Lexeme) × (b : List Lexeme)
-    × Takes text (sign mark.Semicolon) xs a × GroupSpans text g a b × FurtherGroupsSpan text gs b r
-
-abbrev pub GroupsSpan : List ℕ → List NamedGroup → List Lexeme → List Lexeme → Type 0
-GroupsSpan text [] xs r = xs ≡ r
-GroupsSpan text (g ∷ gs) xs r = (a : List Lexeme) × GroupSpans text g xs a × FurtherGroupsSpan text gs a r
+abbrev pub GroupsSpan : List ℕ → List (Grouped Taking Name) → List Lexeme → List Lexeme → Type 0
+GroupsSpan text gs xs r = Between (Takes text (sign mark.Semicolon)) (GroupSpans text) gs xs r
 
 abbrev pub parameter_of : Taking → Name → Parameter
 parameter_of t n = record { taking = t; name = n }
 
-abbrev pub parameters_of : NamedGroup → List Parameter
-parameters_of (group t ns) = map (parameter_of t) ns
-
-abbrev pub all_parameters : List NamedGroup → List Parameter
-all_parameters [] = []
-all_parameters (g ∷ gs) = parameters_of g ++ all_parameters gs
-
 abbrev pub ParametersSpan : List ℕ → List Parameter → List Lexeme → List Lexeme → Type 0
-ParametersSpan text ps xs r = (gs : List NamedGroup) × (ps ≡ all_parameters gs) × GroupsSpan text gs xs r
+ParametersSpan text ps xs r = (gs : List (Grouped Taking Name)) × (ps ≡ all_members parameter_of gs) × GroupsSpan text gs xs r
 
-abbrev pub TogetherSpans : List ℕ → NamedTogether → List Lexeme → List Lexeme → Type 0
-TogetherSpans text (together k ns) xs r = (a : List Lexeme) × (b : List Lexeme)
+-- variables of one kind
+abbrev pub TogetherSpans : List ℕ → Grouped Kind Name → List Lexeme → List Lexeme → Type 0
+TogetherSpans text (group k ns) xs r = (a : List Lexeme) × (b : List Lexeme)
     × Takes text (kind_terminal k) xs a × NamesSpan text ns a b × Takes text (sign mark.Semicolon) b r
 
-abbrev pub TogethersSpan : List ℕ → List NamedTogether → List Lexeme → List Lexeme → Type 0
+abbrev pub TogethersSpan : List ℕ → List (Grouped Kind Name) → List Lexeme → List Lexeme → Type 0
 TogethersSpan text [] xs r = xs ≡ r
 TogethersSpan text (t ∷ ts) xs r = (a : List Lexeme) × TogetherSpans text t xs a × TogethersSpan text ts a r
 
 abbrev pub variable_of : Kind → Name → OneVariable
 variable_of k n = record { kind = k; name = n }
 
-abbrev pub variables_of : NamedTogether → List OneVariable
-variables_of (together k ns) = map (variable_of k) ns
-
-abbrev pub all_variables : List NamedTogether → List OneVariable
-all_variables [] = []
-all_variables (t ∷ ts) = variables_of t ++ all_variables ts
-
 abbrev pub VariablesSpan : List ℕ → List OneVariable → List Lexeme → List Lexeme → Type 0
-VariablesSpan text vs xs r = (ts : List NamedTogether) × (vs ≡ all_variables ts) × TogethersSpan text ts xs r
+VariablesSpan text vs xs r = (ts : List (Grouped Kind Name)) × (vs ≡ all_members variable_of ts) × TogethersSpan text ts xs r
 
 pub record ProcessSpans (text : List ℕ) (p : Process) (xs r : List Lexeme) : Type 0 where
   pub a : List Lexeme
@@ -244,28 +191,16 @@ ArgumentSpans text (argued.Number z at) xs r = Covers at xs r × (Takes text (te
     ⊎ ((n : ℤ) × (a : List Lexeme) × (z ≡ neg_ℤ n) × Takes text (sign mark.Minus) xs a × Takes text (terminal.number n) a r))
 ArgumentSpans text (argued.Logical b at) xs r = Covers at xs r × Takes text (truth_terminal b) xs r
 
-abbrev pub FurtherArgumentsSpan : List ℕ → List Argument → List Lexeme → List Lexeme → Type 0
-FurtherArgumentsSpan text [] xs r = xs ≡ r
-FurtherArgumentsSpan text (x ∷ ys) xs r = (a : List Lexeme) × (b : List Lexeme)
-    × Takes text (sign mark.Comma) xs a × ArgumentSpans text x a b × FurtherArgumentsSpan text ys b r
-
 abbrev pub ArgumentsSpan : List ℕ → List Argument → List Lexeme → List Lexeme → Type 0
-ArgumentsSpan text [] xs r = xs ≡ r
-ArgumentsSpan text (x ∷ ys) xs r = (a : List Lexeme) × ArgumentSpans text x xs a × FurtherArgumentsSpan text ys a r
+ArgumentsSpan text ys xs r = Between (Takes text (sign mark.Comma)) (ArgumentSpans text) ys xs r
 
 abbrev pub InstanceSpans : List ℕ → Instance → List Lexeme → List Lexeme → Type 0
 InstanceSpans text i xs r = (a : List Lexeme) × (b : List Lexeme) × (c : List Lexeme)
     × NameSpans text i.process xs a × Takes text (sign mark.Open) a b × ArgumentsSpan text i.arguments.items b c × Takes text (sign mark.Close) c r
 
-abbrev pub FurtherInstancesSpan : List ℕ → List Instance → List Lexeme → List Lexeme → Type 0
-FurtherInstancesSpan text [] xs r = xs ≡ r
-FurtherInstancesSpan text (i ∷ is) xs r = (a : List Lexeme) × (b : List Lexeme)
-    × Takes text (word keyword.Par) xs a × InstanceSpans text i a b × FurtherInstancesSpan text is b r
-
 -- one or more, with `par` between
 abbrev pub InstancesSpan : List ℕ → List Instance → List Lexeme → List Lexeme → Type 0
-InstancesSpan text [] xs r = ⊥
-InstancesSpan text (i ∷ is) xs r = (a : List Lexeme) × InstanceSpans text i xs a × FurtherInstancesSpan text is a r
+InstancesSpan text is xs r = SomeBetween (Takes text (word keyword.Par)) (InstanceSpans text) is xs r
 
 -- a semicolon stands between, or nothing
 abbrev pub MayPart : List ℕ → List Lexeme → List Lexeme → Type 0

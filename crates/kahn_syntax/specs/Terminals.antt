@@ -1,13 +1,9 @@
 -- Believed. The alphabet of the grammar, and the terminals that lexemes are.
 use Rattle.std.specs.Prelude.{◌≡◌, ◌≤◌, ℕ, ℤ, pos, List, [], ◌∷◌, length, slice_range, IsCharBoundary}
-use Rattle.kahn_tree.specs.declared.span.Span.{Span}
-use Rattle.kahn_syntax.specs.declared.lexeme.Keyword.{Keyword}
+use Rattle.kahn_syntax.specs.Names.{Span, Keyword, Sign, Class, Lexeme}
 use Rattle.kahn_syntax.specs.declared.lexeme.Keyword.TheVariants as keyword
-use Rattle.kahn_syntax.specs.declared.lexeme.Sign.{Sign}
 use Rattle.kahn_syntax.specs.declared.lexeme.Sign.TheVariants as mark
-use Rattle.kahn_syntax.specs.declared.lexeme.Class.{Class}
 use Rattle.kahn_syntax.specs.declared.lexeme.Class.TheVariants as class
-use Rattle.kahn_syntax.specs.declared.lexeme.Lexeme.{Lexeme}
 use Rattle.kahn_syntax.specs.Lexemes.{largest_number}
 
 -- a keyword, a sign, a number with its value, or a name with its bytes

@@ -1,8 +1,6 @@
 -- Believed. What a whole text is: its lexemes, the program that they spell, and where a fault stands.
 use Rattle.std.specs.Prelude.{ℕ, List, ◌≤◌, ◌⊎◌, length}
-use Rattle.kahn_tree.specs.declared.tree.Program.{Program}
-use Rattle.kahn_syntax.specs.declared.fault.SyntaxFault.{SyntaxFault}
-use Rattle.kahn_syntax.specs.declared.lexeme.Lexeme.{Lexeme}
+use Rattle.kahn_syntax.specs.Names.{Program, SyntaxFault, Lexeme}
 use Rattle.kahn_syntax.specs.Lexemes.{Lexed, most_bytes, IsLexFault}
 use Rattle.kahn_syntax.specs.Terminals.{terminals}
 use Rattle.kahn_syntax.specs.Programs.{Spells}

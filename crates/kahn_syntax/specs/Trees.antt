@@ -105,17 +105,12 @@ abbrev mutual
 abbrev pub rank : Operator → ℕ
 rank operator.Or = 1
 rank operator.And = 2
-rank operator.Equal = 4
-rank operator.Unequal = 4
-rank operator.Less = 4
-rank operator.AtMost = 4
-rank operator.Greater = 4
-rank operator.AtLeast = 4
 rank operator.Add = 5
 rank operator.Subtract = 5
 rank operator.Multiply = 6
 rank operator.Divide = 6
 rank operator.Remainder = 6
+rank _ = 4
 
 abbrev pub first_rank : OperandTrees → ℕ
 first_rank no_operand = 0
@@ -123,15 +118,10 @@ first_rank (operand o e os) = rank o
 
 -- the level of an expression, from 0 for a conditional one to 7 for a factor
 abbrev pub binds : ExpressionTree → ℕ
-binds (number n) = 7
-binds (truth b) = 7
-binds (variable n) = 7
-binds (wait n) = 7
-binds (negation e) = 7
 binds (denial e) = 3
-binds (bracket e) = 7
 binds (level e os) = first_rank os
 binds (conditional t a b) = 0
+binds _ = 7
 
 abbrev pub IsOne : OperandTrees → Type 0
 IsOne (operand o e no_operand) = Unit {0}
@@ -141,15 +131,12 @@ IsOne _ = ⊥
 -- operators are of it, and comparisons don't follow one another.
 abbrev mutual
   pub Formed : ExpressionTree → Type 0
-  Formed (number n) = Unit {0}
-  Formed (truth b) = Unit {0}
-  Formed (variable n) = Unit {0}
-  Formed (wait n) = Unit {0}
   Formed (negation e) = (7 ≤ binds e) × Formed e
   Formed (denial e) = (3 ≤ binds e) × Formed e
   Formed (bracket e) = Formed e
   Formed (level e os) = (first_rank os < binds e) × Formed e × (0 < first_rank os) × FormedOperands (first_rank os) os × (first_rank os ≡ 4 → IsOne os)
   Formed (conditional t a b) = Formed t × Formed a × Formed b
+  Formed _ = Unit {0}
 
   pub FormedOperands : ℕ → OperandTrees → Type 0
   FormedOperands n no_operand = Unit {0}
@@ -188,15 +175,12 @@ abbrev mutual
 -- and a bracket round an expression each open one.
 abbrev mutual
   pub expression_nesting : ExpressionTree → ℕ
-  expression_nesting (number n) = 0
-  expression_nesting (truth b) = 0
-  expression_nesting (variable n) = 0
-  expression_nesting (wait n) = 0
   expression_nesting (negation e) = expression_nesting e + 1
   expression_nesting (denial e) = expression_nesting e + 1
   expression_nesting (bracket e) = expression_nesting e + 1
   expression_nesting (level e os) = max (expression_nesting e) (operands_nesting os)
   expression_nesting (conditional t a b) = max (expression_nesting t) (max (expression_nesting a) (expression_nesting b)) + 1
+  expression_nesting _ = 0
 
   pub operands_nesting : OperandTrees → ℕ
   operands_nesting no_operand = 0

@@ -132,6 +132,7 @@ pub fn lex(alloc: Global, text: &str) -> Result<Vec<Lexeme>, SyntaxFault>
 }
 
 /// The law that a text has one list of lexemes.
+#[tactic(auto, using(crate::proofs::OneList::same_lexemes))]
 pub fn one_list()
     ensures { (text : List ℕ) (xs ys : List Lexeme) → Lexed text 0 (length text) xs → Lexed text 0 (length text) ys → xs ≡ ys }
 {}

@@ -1,12 +1,7 @@
 -- Inner. A node that is made of its parts has its spans over the lexemes of these.
 use Rattle.std.specs.Prelude.{ℕ, List}
-use Rattle.kahn_tree.specs.declared.span.Span.{Span}
-use Rattle.kahn_tree.specs.declared.tree.Expression.{Expression}
-use Rattle.kahn_tree.specs.declared.tree.Form.{Form}
-use Rattle.kahn_tree.specs.declared.tree.Operator.{Operator}
-use Rattle.kahn_tree.specs.declared.tree.Statement.{Statement}
+use Rattle.kahn_syntax.specs.Names.{Span, Expression, Form, Operator, Statement, Lexeme}
 use Rattle.kahn_syntax.specs.declared.lexeme.Keyword.TheVariants as keyword
-use Rattle.kahn_syntax.specs.declared.lexeme.Lexeme.{Lexeme}
 use Rattle.kahn_syntax.specs.Terminals.{word}
 use Rattle.kahn_syntax.specs.Trees.{operator_terminal}
 use Rattle.kahn_syntax.specs.Spans.{Covers, ExpressionSpans, FormSpans, StatementSpans, StatementsSpan, Takes}

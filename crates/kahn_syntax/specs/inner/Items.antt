@@ -1,11 +1,9 @@
 -- Inner. What the lexer meets at one place of a text.
 use Rattle.std.specs.Prelude.{◌≡◌, ℕ, List}
-use Rattle.kahn_syntax.specs.declared.lexer.Item.{Item}
+use Rattle.kahn_syntax.specs.Names.{Item, SyntaxFault, BadCharacter, NumberTooLarge, CommentOpen, NameTooLong}
 use Rattle.kahn_syntax.specs.declared.lexer.Item.TheVariants as item
 use Rattle.kahn_syntax.specs.declared.lexer.forms.Form.{Form}
 use Rattle.kahn_syntax.specs.declared.lexer.forms.Form.TheVariants as form
-use Rattle.kahn_syntax.specs.declared.fault.SyntaxFault.{SyntaxFault}
-use Rattle.kahn_syntax.specs.declared.fault.SyntaxFault.TheVariants.{TooLong, BadCharacter, NumberTooLarge, CommentOpen, NameTooLong, Expected, TooDeep, NoMemory}
 use Rattle.kahn_syntax.specs.Lexemes.{IsWord, IsRun, IsSign, Stands, IsComment, IsBadCharacter, IsLargeNumber, IsOpenComment, IsLongName}
 
 -- the place after a form
@@ -31,7 +29,4 @@ IsFaultAt text a (BadCharacter at) = (at.from ≡ a) × IsBadCharacter text at
 IsFaultAt text a (NumberTooLarge at) = (at.from ≡ a) × IsLargeNumber text at
 IsFaultAt text a (CommentOpen at) = (at.from ≡ a) × IsOpenComment text at
 IsFaultAt text a (NameTooLong at) = (at.from ≡ a) × IsLongName text at
-IsFaultAt text a TooLong = ⊥
-IsFaultAt text a (Expected at what) = ⊥
-IsFaultAt text a (TooDeep at) = ⊥
-IsFaultAt text a NoMemory = ⊥
+IsFaultAt text a _ = ⊥

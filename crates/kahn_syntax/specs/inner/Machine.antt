@@ -1,11 +1,9 @@
 -- Inner. What may still come, as a stack of the parts that are open, and what one terminal does to it.
 use Rattle.std.specs.Prelude.{ℕ, List, [], ◌∷◌, ◌+◌, ◌==◌, length, Bool, true, false, cond, nat_le, Option, Some, None}
-use Rattle.kahn_syntax.specs.declared.lexeme.Keyword.{Keyword}
+use Rattle.kahn_syntax.specs.Names.{Keyword, Class, Operator}
 use Rattle.kahn_syntax.specs.declared.lexeme.Keyword.TheVariants as keyword
 use Rattle.kahn_syntax.specs.declared.lexeme.Sign.TheVariants as mark
-use Rattle.kahn_syntax.specs.declared.lexeme.Class.{Class}
 use Rattle.kahn_syntax.specs.declared.lexeme.Class.TheVariants as class
-use Rattle.kahn_tree.specs.declared.tree.Operator.{Operator}
 use Rattle.kahn_syntax.specs.Terminals.{Terminal, word, sign, name, number}
 use Rattle.kahn_syntax.specs.Trees.{rank}
 use Rattle.kahn_syntax.specs.inner.Rungs.{Rung, whole, ors, ands, denials, relations, sums, terms, factors, at, tighter, operator_of}
@@ -172,13 +170,6 @@ goes_on ArgumentsTail s = ArgumentPart ∷ TailPart ArgumentsTail ∷ s
 goes_on InstancesTail s = InstancePart ∷ TailPart InstancesTail ∷ s
 goes_on ElseTail s = StatementPart ∷ s
 goes_on LastTail s = s
-
--- names with commas between
-abbrev pub names_then : List Part → List Part
-names_then s = TokenPart NameToken ∷ TailPart NamesTail ∷ s
-
-abbrev pub statements_then : List Part → List Part
-statements_then s = StatementPart ∷ TailPart StatementsTail ∷ s
 
 abbrev pub step_factor : List Part → Terminal → Option (List Part)
 step_factor s (number z) = Some s

@@ -1,36 +1,20 @@
 -- Inner. What each function of the parser reads, and where it stops.
 use Rattle.std.specs.Prelude.{◌≡◌, ℕ, List, [], ◌∷◌, ◌++◌, ◌+◌, ◌≤◌, ◌<◌, false, length, map, Some, Result, MatchResult}
-use Rattle.kahn_tree.specs.declared.tree.Expression.{Expression}
-use Rattle.kahn_tree.specs.declared.tree.Statement.{Statement}
-use Rattle.kahn_syntax.specs.declared.parser.cursor.Stop.{Stop}
-use Rattle.kahn_syntax.specs.declared.parser.cursor.Stop.TheVariants.{Refused, TooDeep, NoMemory}
-use Rattle.kahn_syntax.specs.declared.parser.operator.Level.{Level}
-use Rattle.kahn_syntax.specs.declared.parser.operator.Level.TheVariants.{Or, And, Sum, Term}
-use Rattle.kahn_syntax.specs.declared.lexeme.Class.{Class}
-use Rattle.kahn_syntax.specs.declared.lexeme.Lexeme.{Lexeme}
-use Rattle.kahn_syntax.specs.declared.lexeme.Keyword.{Keyword}
+use Rattle.kahn_syntax.specs.Names.{Expression, Statement, Stop, Refused, TooDeep, Class, Lexeme, Keyword, Parameter, Argument, Declaration}
+use Rattle.kahn_syntax.specs.declared.parser.cursor.Stop.TheVariants.{NoMemory}
 use Rattle.kahn_syntax.specs.declared.lexeme.Keyword.TheVariants as keyword
 use Rattle.kahn_syntax.specs.declared.lexeme.Sign.TheVariants as mark
-use Rattle.kahn_tree.specs.declared.tree.Parameter.{Parameter}
-use Rattle.kahn_tree.specs.declared.tree.Argument.{Argument}
-use Rattle.kahn_tree.specs.declared.tree.Declaration.{Declaration}
 use Rattle.kahn_syntax.specs.Programs.{DeclarationTree, channels, process}
 use Rattle.kahn_syntax.specs.Terminals.{Terminal, word, sign, terminals, AreProper}
 use Rattle.kahn_syntax.specs.inner.Machine.{Token, class_of, token_of, leads, Part, ProgramPart, ExpressionPart, StatementPart, SimplePart, TailPart, StatementsTail, TokenPart, GroupsPart, OpenToken, CloseToken, SemicolonToken, BeginToken, levels, Refuses, TooFar, fate}
 use Rattle.kahn_syntax.specs.inner.Rungs.{Rung, whole, at}
 use Rattle.kahn_syntax.specs.Drawn.{declaration_of, expression_of, statement_of, statements_of}
 use Rattle.kahn_syntax.specs.Spans.{Takes, ArgumentsSpan, DeclarationsSpan, ParametersSpan, ExpressionSpans, StatementSpans, StatementsSpan}
-use Rattle.kahn_syntax.specs.Trees.{ExpressionTree, OperandTrees, no_operand, operand, level, binds, Formed, expression_nesting, StatementTree, statements_words, FormedStatement, FormedStatements, IsSimple, AreSome, statement_nesting, statements_nesting}
+use Rattle.kahn_syntax.specs.Trees.{ExpressionTree, OperandTrees, no_operand, operand, level, binds, Formed, expression_nesting, StatementTree, FormedStatement, FormedStatements, IsSimple, AreSome, statement_nesting, statements_nesting}
 
 -- an expression that may stand at this level
 abbrev pub Fits : ℕ → ExpressionTree → Type 0
 Fits n e = (n ≤ binds e) × Formed e
-
-abbrev pub rank_of : Level → ℕ
-rank_of Or = 1
-rank_of And = 2
-rank_of Sum = 5
-rank_of Term = 6
 
 -- the node of a level, or the first operand alone where there is no other
 abbrev pub joined : ExpressionTree → OperandTrees → ExpressionTree
@@ -99,7 +83,6 @@ pub record StatementRead (text : List ℕ) (depth : ℕ) (p : Part) (s : Stateme
 
 -- one statement or more, with semicolons between
 pub record StatementsRead (text : List ℕ) (depth : ℕ) (ss : List Statement) (input rest : List Lexeme) : Type 0 where
-  pub words : terminals text input ≡ statements_words (statements_of ss) (terminals text rest)
   pub spans : StatementsSpan text ss input rest
   pub formed : FormedStatements (statements_of ss)
   pub some : AreSome (statements_of ss)

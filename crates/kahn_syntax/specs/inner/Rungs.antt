@@ -2,10 +2,8 @@
 use Rattle.std.specs.Prelude.{◌≢◌, ℕ, List, [], ◌∷◌, Option, Some, None}
 use Rattle.kahn_syntax.specs.declared.lexeme.Keyword.TheVariants as keyword
 use Rattle.kahn_syntax.specs.declared.lexeme.Sign.TheVariants as mark
-use Rattle.kahn_tree.specs.declared.tree.Operator.{Operator}
+use Rattle.kahn_syntax.specs.Names.{Operator, Level, Or, And, Sum, Term}
 use Rattle.kahn_tree.specs.declared.tree.Operator.TheVariants as operator
-use Rattle.kahn_syntax.specs.declared.parser.operator.Level.{Level}
-use Rattle.kahn_syntax.specs.declared.parser.operator.Level.TheVariants.{Or, And, Sum, Term}
 use Rattle.kahn_syntax.specs.Terminals.{Terminal, word, sign}
 use Rattle.kahn_syntax.specs.Trees.{rank}
 

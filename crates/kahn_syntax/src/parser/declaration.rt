@@ -1,6 +1,6 @@
 //! Declarations of channels and processes.
 
-ghost use Rattle.std.specs.Prelude.{◌≡◌, ◌≤◌, ◌<◌, ◌+◌, ◌++◌, ◌∷◌, ℕ, List, [], length, is_some, IfOk, IfErr, IfSome};
+ghost use Rattle.std.specs.Prelude.{◌≡◌, ◌≤◌, ◌<◌, ◌+◌, ◌++◌, ◌∷◌, ℕ, List, [], length, map, is_some, IfOk, IfErr, IfSome};
 ghost use Rattle.kahn_syntax.specs.declared.lexeme.Keyword.TheVariants as keyword;
 ghost use Rattle.kahn_syntax.specs.declared.lexeme.Sign.TheVariants as mark;
 ghost use Rattle.kahn_syntax.specs.declared.parser.cursor.Stop.TheVariants.{NoMemory};
@@ -9,7 +9,8 @@ ghost use Rattle.kahn_syntax.specs.Programs.{kind_terminal, Parameters, Variable
 ghost use Rattle.kahn_syntax.specs.Drawn.{process_of, declaration_of};
 ghost use Rattle.kahn_syntax.specs.inner.Machine.{DeclarationsPart, DeclarationPart, ProcessPart, RolePart, GroupsPart, GroupPart, TakingPart, VariablesPart, leads_kind, leads_declaration};
 ghost use Rattle.kahn_syntax.specs.inner.Reads.{Reads, IsSound, head_parts, HeadSpans, ParsesPart, SoundDeclarationsSpan};
-ghost use Rattle.kahn_syntax.specs.Spans.{IsPast, DeclarationSpans, RoleSpans, ProcessSpans, ParametersSpan, GroupSpans, DirectionSpans, VariablesSpan, group, together, kind_of, parameters_of, variables_of};
+ghost use Rattle.kahn_syntax.specs.Spans.{IsPast, DeclarationSpans, RoleSpans, ProcessSpans, ParametersSpan, GroupSpans, DirectionSpans, VariablesSpan, kind_of, parameter_of, variable_of};
+ghost use Rattle.kahn_syntax.specs.Lists.{group};
 
 use crate::lexeme::{Class, Keyword, Lexeme, Sign};
 use crate::parser::cursor::{Read, Stop, expect, next, past};
@@ -193,7 +194,7 @@ fn add_parameters(
     taking: Taking,
     names: Vec<Name>,
 ) -> Result<(), Stop>
-    ensures items { IfOk result (λ _. parameters.new.items ≡ parameters.old.items ++ parameters_of (group taking names.items)) }
+    ensures items { IfOk result (λ _. parameters.new.items ≡ parameters.old.items ++ map (parameter_of taking) names.items) }
     ensures stop { IfErr result (λ e. e ≡ NoMemory) }
 {
     for name in names {
@@ -220,7 +221,7 @@ fn read_variables<'t>(alloc: Global, text: &str, input: &'t [Lexeme]) -> Read<'t
 
 // Variables of these names.
 fn add_variables(variables: &mut Vec<Variable>, kind: Kind, names: Vec<Name>) -> Result<(), Stop>
-    ensures items { IfOk result (λ _. variables.new.items ≡ variables.old.items ++ variables_of (together kind names.items)) }
+    ensures items { IfOk result (λ _. variables.new.items ≡ variables.old.items ++ map (variable_of kind) names.items) }
     ensures stop { IfErr result (λ e. e ≡ NoMemory) }
 {
     for name in names {

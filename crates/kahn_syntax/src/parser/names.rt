@@ -3,7 +3,7 @@
 ghost use Rattle.std.specs.Prelude.{◌≡◌, ◌+◌, ◌<◌, [], ◌∷◌, ◌⊎◌, false, length, IfOk, IfErr};
 ghost use Rattle.kahn_syntax.specs.declared.parser.cursor.Stop.TheVariants.{Refused, NoMemory};
 ghost use Rattle.kahn_syntax.specs.Terminals.{name, terminals, AreProper};
-ghost use Rattle.kahn_syntax.specs.inner.Machine.{NameToken, leads, names_then};
+ghost use Rattle.kahn_syntax.specs.inner.Machine.{NameToken, leads, goes_on, NamesTail};
 ghost use Rattle.kahn_syntax.specs.Drawn.{name_of};
 ghost use Rattle.kahn_syntax.specs.inner.Reads.{ParsesPart};
 ghost use Rattle.kahn_syntax.specs.Spans.{NameSpans, NamesSpan};
@@ -46,7 +46,7 @@ pub fn read_name<'t>(alloc: Global, text: &str, input: &'t [Lexeme]) -> Read<'t,
 /// One name or more, with commas between.
 pub fn read_names<'t>(alloc: Global, text: &str, input: &'t [Lexeme]) -> Read<'t, Vec<Name>>
     requires proper { AreProper text.now input.now }
-    ensures { ParsesPart result text.now (names_then []) (λ r. NamesSpan text.now r.0.items) input.now (λ r. r.1.now) }
+    ensures { ParsesPart result text.now (goes_on NamesTail []) (λ r. NamesSpan text.now r.0.items) input.now (λ r. r.1.now) }
 {
     let mut names = Vec::new(alloc);
     let mut rest = input;

@@ -3,10 +3,9 @@
 ghost use Rattle.std.specs.Prelude.{◌≡◌, ◌+◌, List, ℕ, ◌∷◌, false, length, IfSome, IfNone};
 ghost use Rattle.kahn_syntax.specs.declared.lexeme.Keyword.TheVariants as keyword;
 ghost use Rattle.kahn_syntax.specs.Terminals.{word, terminals, AreProper};
-ghost use Rattle.kahn_syntax.specs.inner.Rungs.{Lacks};
+ghost use Rattle.kahn_syntax.specs.inner.Rungs.{Lacks, at, rung_of};
 ghost use Rattle.kahn_syntax.specs.inner.Machine.{NotToken, leads};
 ghost use Rattle.kahn_syntax.specs.Trees.{operator_terminal, rank};
-ghost use Rattle.kahn_syntax.specs.inner.Reads.{rank_of};
 ghost use Rattle.kahn_syntax.specs.Spans.{IsPast};
 
 use crate::lexeme::{Class, Keyword, Lexeme, Sign};
@@ -48,9 +47,9 @@ pub fn next_comparison(input: &[Lexeme]) -> Option<(Operator, &[Lexeme])>
 pub fn next_operator(input: &[Lexeme], level: Level) -> Option<(Operator, &[Lexeme])>
     ensures first { IfSome result (λ r. (text : List ℕ) → terminals text input.now ≡ operator_terminal r.0 ∷ terminals text r.1.now) }
     ensures passed { IfSome result (λ r. IsPast input.now r.1.now) }
-    ensures ranked { IfSome result (λ r. rank r.0 ≡ rank_of level) }
+    ensures ranked { IfSome result (λ r. rank r.0 ≡ at (rung_of level)) }
     ensures proper { IfSome result (λ r. (text : List ℕ) → AreProper text input.now → AreProper text r.1.now) }
-    ensures lacks { IfNone result ((text : List ℕ) → Lacks (rank_of level) (terminals text input.now)) }
+    ensures lacks { IfNone result ((text : List ℕ) → Lacks (at (rung_of level)) (terminals text input.now)) }
     ensures shorter { IfSome result (λ r. length input.now ≡ length r.1.now + 1) }
 {
     let (class, rest) = next(input)?;

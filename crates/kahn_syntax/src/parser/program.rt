@@ -42,6 +42,7 @@ pub fn parse_lexemes(alloc: Global, text: &str, lexemes: &[Lexeme]) -> Result<Pr
 }
 
 /// No two trees spell one list of lexemes.
+#[tactic(auto, using(crate::proofs::OneTree::one_tree))]
 pub fn one_tree()
     ensures { (t u : ProgramTree) (ks : List Terminal) → Spells t ks → Spells u ks → t ≡ u }
 {}

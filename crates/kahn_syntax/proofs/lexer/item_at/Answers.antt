@@ -1,5 +1,4 @@
-use Rattle.std.proofs.Common.{ℕ, ◌≤◌, length, refl, arith}
-use Rattle.kahn_syntax.specs.Lexemes.{HasForm}
+use Rattle.kahn_syntax.proofs.Common.{ℕ, ◌≤◌, length, refl, arith, HasForm}
 use Rattle.kahn_syntax.proofs.lexer.item_at.Goals as goal
 
 pub returns-in-None-clause-fault : goal.returns-in-None-clause-fault

@@ -1,9 +1,5 @@
-use Rattle.std.proofs.Common.{List, arith, length, refl, sym, subst}
-use Rattle.kahn_syntax.specs.declared.lexeme.Lexeme.{Lexeme}
-use Rattle.kahn_syntax.specs.Lexemes.{Lexed, no_gap}
-use Rattle.std.proofs.lemmas.Str.{IsCharBoundary-start}
+use Rattle.kahn_syntax.proofs.Common.{List, arith, length, refl, sym, subst, Lexeme, Lexed, no_gap, IsCharBoundary-start, err_from_is_err_and}
 use Rattle.kahn_syntax.proofs.Cuts.{lexed_cut, lexed_slices}
-use Rattle.std.proofs.lemmas.Result.{err_from_is_err_and}
 use Rattle.kahn_syntax.proofs.Lexing.{blank_next, comment_next, lexeme_next}
 use Rattle.kahn_syntax.proofs.NoList.{no_list, fault_inside}
 use Rattle.kahn_syntax.proofs.lexer.lex.Goals as goal

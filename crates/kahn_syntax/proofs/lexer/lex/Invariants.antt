@@ -1,5 +1,4 @@
-use Rattle.std.proofs.Common.{◌≤◌, ◌-◌, length}
-use Rattle.kahn_syntax.specs.Lexemes.{Lexed}
+use Rattle.kahn_syntax.proofs.Common.{◌≤◌, ◌-◌, length, Lexed}
 use Rattle.kahn_syntax.proofs.lexer.lex.Given as goal
 
 abbrev pub invariant-text : goal.invariant-text

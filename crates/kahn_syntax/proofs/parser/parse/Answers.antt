@@ -1,18 +1,7 @@
-use Rattle.std.proofs.Common.{◌≡◌, ◌≤◌, ℕ, List, length, Result, Ok, Err, inr, sym, subst}
-use Rattle.std.specs.Prelude.{IfOk}
-use Rattle.std.proofs.lemmas.Result.{IfErr-weaker}
-use Rattle.kahn_syntax.specs.declared.lexeme.Lexeme.{Lexeme}
-use Rattle.kahn_syntax.specs.declared.fault.SyntaxFault.{SyntaxFault}
+use Rattle.kahn_syntax.proofs.Common.{◌≡◌, ◌≤◌, ℕ, List, length, Result, Ok, Err, inr, sym, subst, IfOk, IfErr-weaker, Lexeme, SyntaxFault, terminals, AreProper, ProgramTree, Spells, nesting, IsFault, AreLexemes, IsProgram, IsTextFault, Program, ProgramSpans, program_of}
 use Rattle.kahn_syntax.specs.declared.fault.SyntaxFault.TheVariants.{NoMemory}
-use Rattle.kahn_syntax.specs.Terminals.{terminals, AreProper}
-use Rattle.kahn_syntax.specs.Programs.{ProgramTree, Spells, nesting}
-use Rattle.kahn_syntax.specs.Faults.{IsFault}
-use Rattle.kahn_syntax.specs.Texts.{AreLexemes, IsProgram, IsTextFault}
 use Rattle.kahn_syntax.proofs.OneList.{same_lexemes}
 use Rattle.kahn_syntax.proofs.Proper.{lexed_proper}
-use Rattle.kahn_tree.specs.declared.tree.Program.{Program}
-use Rattle.kahn_syntax.specs.Spans.{ProgramSpans}
-use Rattle.kahn_syntax.specs.Drawn.{program_of}
 use Rattle.kahn_syntax.proofs.parser.parse.Goals as goal
 
 pub parse_lexemes-requires : goal.parse_lexemes-requires

@@ -1,6 +1,4 @@
-use Rattle.std.proofs.Common.{subst, sym, arith}
-use Rattle.kahn_syntax.specs.declared.lexeme.Keyword.{Keyword}
-use Rattle.kahn_syntax.specs.Lexemes.{letters_of, IsSpelled}
+use Rattle.kahn_syntax.proofs.Common.{subst, sym, arith, Keyword, letters_of, IsSpelled}
 use Rattle.kahn_syntax.proofs.Keywords.{placed}
 use Rattle.kahn_syntax.proofs.lexeme.Keyword.named.Goals as goal
 

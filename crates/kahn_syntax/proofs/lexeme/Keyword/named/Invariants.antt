@@ -1,6 +1,4 @@
-use Rattle.std.proofs.Common.{◌≡◌, ℕ, ◌<◌, get_or}
-use Rattle.kahn_syntax.specs.declared.lexeme.Keyword.TheVariants.{And}
-use Rattle.kahn_syntax.specs.Lexemes.{letters_of, IsSpelled}
+use Rattle.kahn_syntax.proofs.Common.{◌≡◌, ℕ, ◌<◌, get_or, And, letters_of, IsSpelled}
 use Rattle.kahn_syntax.proofs.Keywords.{all_keywords}
 use Rattle.kahn_syntax.proofs.lexeme.Keyword.named.Given as goal
 

@@ -1,5 +1,4 @@
-use Rattle.std.proofs.Common.{◌≤◌, ◌<◌, ◌-◌, ℕ, length, get_or}
-use Rattle.kahn_syntax.specs.Lexemes.{IsDigit}
+use Rattle.kahn_syntax.proofs.Common.{◌≤◌, ◌<◌, ◌-◌, ℕ, length, get_or, IsDigit}
 use Rattle.kahn_syntax.proofs.lexer.forms.run_end.Given as goal
 
 abbrev pub invariant-digits : goal.invariant-digits

@@ -1,5 +1,4 @@
-use Rattle.std.proofs.Common.{◌≤◌, ◌<◌, ◌-◌, ℕ, length, get_or}
-use Rattle.kahn_syntax.specs.Lexemes.{IsWordByte}
+use Rattle.kahn_syntax.proofs.Common.{◌≤◌, ◌<◌, ◌-◌, ℕ, length, get_or, IsWordByte}
 use Rattle.kahn_syntax.proofs.lexer.forms.word_end.Given as goal
 
 abbrev pub invariant-bytes : goal.invariant-bytes

@@ -1,7 +1,4 @@
-use Rattle.std.proofs.Common.{refl, sym, subst, ap, ◌∙◌, ◌++◌, ◌∷◌, []}
-use Rattle.kahn_syntax.specs.Trees.{level}
-use Rattle.kahn_syntax.specs.Drawn.{expression_of, operands_of}
-use Rattle.kahn_syntax.specs.Spans.{OperandsSpan}
+use Rattle.kahn_syntax.proofs.Common.{refl, sym, subst, ap, ◌∙◌, ◌++◌, ◌∷◌, [], level, expression_of, operands_of, OperandsSpan}
 use Rattle.kahn_syntax.proofs.Rows.{operands_made, operands_row_spans}
 use Rattle.kahn_syntax.proofs.parser.build.compared.Goals as goal
 

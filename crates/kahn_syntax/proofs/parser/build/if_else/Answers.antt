@@ -1,5 +1,4 @@
-use Rattle.std.proofs.Common.{sym, subst}
-use Rattle.kahn_syntax.specs.Spans.{ExpressionSpans}
+use Rattle.kahn_syntax.proofs.Common.{sym, subst, ExpressionSpans}
 use Rattle.kahn_syntax.proofs.parser.build.if_else.Goals as goal
 
 pub returns-clause-spans : goal.returns-clause-spans

@@ -1,5 +1,4 @@
-use Rattle.std.proofs.Common.{refl, sym, subst, ap}
-use Rattle.kahn_syntax.specs.Spans.{Covers}
+use Rattle.kahn_syntax.proofs.Common.{refl, sym, subst, ap, Covers}
 use Rattle.kahn_syntax.proofs.parser.build.made.Goals as goal
 
 pub returns : goal.returns

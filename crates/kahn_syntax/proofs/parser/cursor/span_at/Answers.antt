@@ -1,5 +1,4 @@
-use Rattle.std.proofs.Common.{◌+◌, ◌-◌, ◌<◌, ◌++◌, length, take, drop, get_or, refl, sym, ap, ◌∙◌, arith, length-drop}
-use Rattle.std.proofs.lemmas.List.{take-append-drop, drop_more}
+use Rattle.kahn_syntax.proofs.Common.{◌+◌, ◌-◌, ◌<◌, ◌++◌, length, take, drop, get_or, refl, sym, ap, ◌∙◌, arith, length-drop, take-append-drop, drop_more}
 use Rattle.kahn_syntax.proofs.parser.cursor.span_at.Goals as goal
 
 pub returns : goal.returns

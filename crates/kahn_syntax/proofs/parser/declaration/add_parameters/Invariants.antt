@@ -1,8 +1,7 @@
-use Rattle.std.proofs.Common.{◌≡◌, ◌++◌}
-use Rattle.kahn_syntax.specs.Spans.{parameters_of, group}
+use Rattle.kahn_syntax.proofs.Common.{◌≡◌, ◌++◌, map, parameter_of}
 use Rattle.kahn_syntax.proofs.parser.declaration.add_parameters.Given as goal
 
 abbrev pub invariant-loop-name : goal.invariant-loop-name
 invariant-loop-name l = record {
-  items : l.parameters.items ≡ l.initial.parameters.items ++ parameters_of (group l.taking l.yielded);
+  items : l.parameters.items ≡ l.initial.parameters.items ++ map (parameter_of l.taking) l.yielded;
 }

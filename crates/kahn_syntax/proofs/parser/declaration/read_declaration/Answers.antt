@@ -1,12 +1,8 @@
-use Rattle.std.proofs.Common.{refl, [], ◌∷◌, arith}
-use Rattle.std.proofs.lemmas.Result.{err_from_is_err_and}
+use Rattle.kahn_syntax.proofs.Common.{refl, [], ◌∷◌, arith, err_from_is_err_and, word, ChannelToken, NameToken, NamesTail, DeclarationPart, ProcessPart, RolePart, TailPart, TokenPart, kind_terminal}
 use Rattle.kahn_syntax.specs.declared.lexeme.Keyword.TheVariants as keyword
 use Rattle.kahn_syntax.specs.declared.lexeme.Class.TheVariants as class
-use Rattle.kahn_syntax.specs.Terminals.{word}
-use Rattle.kahn_syntax.specs.inner.Machine.{ChannelToken, NameToken, NamesTail, DeclarationPart, ProcessPart, RolePart, TailPart, TokenPart}
 use Rattle.kahn_syntax.proofs.Moves.{kind_moves, opens_process, then, then_stops, call, call_stops, call_two, call_two_stops, expected, unexpected}
 use Rattle.kahn_syntax.proofs.Spanning as S
-use Rattle.kahn_syntax.specs.Programs.{kind_terminal}
 use Rattle.kahn_syntax.proofs.parser.declaration.read_declaration.Goals as goal
 
 pub returns-in_err-rest-in-Some : goal.returns-in_err-rest-in-Some

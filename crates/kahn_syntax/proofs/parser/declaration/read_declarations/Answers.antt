@@ -1,13 +1,8 @@
-use Rattle.std.proofs.Common.{rules, true, ◌≡◌, false, refl, [], ◌∷◌, arith, map, sym, subst}
-use Rattle.std.proofs.lemmas.Result.{err_from_is_err_and}
+use Rattle.kahn_syntax.proofs.Common.{rules, true, ◌≡◌, false, refl, [], ◌∷◌, arith, map, sym, subst, err_from_is_err_and, sign, terminals, leads_declaration, SemicolonToken, DeclarationsPart, DeclarationPart, TokenPart, AreSound, declaration_of}
 use Rattle.kahn_syntax.specs.declared.lexeme.Sign.TheVariants as mark
 use Rattle.kahn_syntax.specs.declared.lexeme.Class.TheVariants as class
-use Rattle.kahn_syntax.specs.Terminals.{sign, terminals}
-use Rattle.kahn_syntax.specs.inner.Machine.{leads_declaration, SemicolonToken, DeclarationsPart, DeclarationPart, TokenPart}
 use Rattle.kahn_syntax.proofs.Moves.{opens_declarations, declarations_end, then, then_stops, call, call_stops, expected, unexpected}
 use Rattle.kahn_syntax.proofs.Spelled.{sound_more}
-use Rattle.kahn_syntax.specs.inner.Reads.{AreSound}
-use Rattle.kahn_syntax.specs.Drawn.{declaration_of}
 use Rattle.kahn_syntax.proofs.Spanning as S
 use Rattle.kahn_syntax.proofs.parser.declaration.read_declarations.Goals as goal
 

@@ -1,9 +1,4 @@
-use Rattle.std.proofs.Common.{◌≤◌, [], ◌∷◌, length, map}
-use Rattle.kahn_syntax.specs.Terminals.{AreProper}
-use Rattle.kahn_syntax.specs.inner.Machine.{DeclarationsPart}
-use Rattle.kahn_syntax.specs.inner.Reads.{Moves, AreSound}
-use Rattle.kahn_syntax.specs.Drawn.{declaration_of}
-use Rattle.kahn_syntax.specs.Spans.{DeclarationsSpan}
+use Rattle.kahn_syntax.proofs.Common.{◌≤◌, [], ◌∷◌, length, map, AreProper, DeclarationsPart, Moves, AreSound, declaration_of, DeclarationsSpan}
 use Rattle.kahn_syntax.proofs.parser.declaration.read_declarations.Given as goal
 
 abbrev pub invariant-declarations : goal.invariant-declarations

@@ -1,9 +1,6 @@
-use Rattle.std.proofs.Common.{refl, [], ◌∷◌, arith}
-use Rattle.std.proofs.lemmas.Result.{err_from_is_err_and}
-use Rattle.kahn_syntax.specs.inner.Machine.{NameToken, NamesTail, GroupPart, TakingPart, TailPart, TokenPart}
+use Rattle.kahn_syntax.proofs.Common.{refl, [], ◌∷◌, arith, err_from_is_err_and, NameToken, NamesTail, GroupPart, TakingPart, TailPart, TokenPart, kind_terminal}
 use Rattle.kahn_syntax.proofs.Moves.{kind_moves, no_group, then, then_stops, call, call_two, call_two_stops}
 use Rattle.kahn_syntax.proofs.Spanning as S
-use Rattle.kahn_syntax.specs.Programs.{kind_terminal}
 use Rattle.kahn_syntax.proofs.parser.declaration.read_group.Goals as goal
 
 pub returns-in_default : goal.returns-in_default

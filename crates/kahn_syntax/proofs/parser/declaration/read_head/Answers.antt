@@ -1,11 +1,7 @@
-use Rattle.std.proofs.Common.{refl, [], arith}
-use Rattle.std.proofs.lemmas.Result.{err_from_is_err_and}
+use Rattle.kahn_syntax.proofs.Common.{refl, [], arith, err_from_is_err_and, word, sign, BeginToken, CloseToken, OpenToken, SemicolonToken, GroupsPart, head_parts}
 use Rattle.kahn_syntax.specs.declared.lexeme.Keyword.TheVariants as keyword
 use Rattle.kahn_syntax.specs.declared.lexeme.Sign.TheVariants as mark
 use Rattle.kahn_syntax.specs.declared.lexeme.Class.TheVariants as class
-use Rattle.kahn_syntax.specs.Terminals.{word, sign}
-use Rattle.kahn_syntax.specs.inner.Machine.{BeginToken, CloseToken, OpenToken, SemicolonToken, GroupsPart}
-use Rattle.kahn_syntax.specs.inner.Reads.{head_parts}
 use Rattle.kahn_syntax.proofs.Moves.{then, then_stops, call_stops, expected, unexpected}
 use Rattle.kahn_syntax.proofs.Spanning as S
 use Rattle.kahn_syntax.proofs.Stacks as K

@@ -1,11 +1,7 @@
-use Rattle.std.proofs.Common.{rules, true, ◌++◌, ◌≡◌, false, refl, [], ◌∷◌, arith, subst, sym}
-use Rattle.std.proofs.lemmas.Result.{err_from_is_err_and}
+use Rattle.kahn_syntax.proofs.Common.{rules, true, ◌++◌, ◌≡◌, false, refl, [], ◌∷◌, arith, subst, sym, group, members_of, err_from_is_err_and, sign, terminals, leads_kind, GroupsTail, GroupsPart, GroupPart, TailPart, parameter_of}
 use Rattle.kahn_syntax.specs.declared.lexeme.Sign.TheVariants as mark
 use Rattle.kahn_syntax.specs.declared.lexeme.Class.TheVariants as class
-use Rattle.kahn_syntax.specs.Terminals.{sign, terminals}
-use Rattle.kahn_syntax.specs.inner.Machine.{leads_kind, GroupsTail, GroupsPart, GroupPart, TailPart}
-use Rattle.kahn_syntax.specs.Spans.{group, parameters_of}
-use Rattle.kahn_syntax.proofs.Moves.{opens_groups, groups_end, then, then_stops, call, call_stops, goes, ends}
+use Rattle.kahn_syntax.proofs.Moves.{opens_groups, groups_end, then_stops, call_stops, next_member, last_member}
 use Rattle.kahn_syntax.proofs.Spanning as S
 use Rattle.kahn_syntax.proofs.Spanning.{SomeParametersSpan}
 use Rattle.kahn_syntax.proofs.parser.declaration.read_parameters.Goals as goal
@@ -21,7 +17,7 @@ groups-init c =
     let a : leads_kind (terminals c.args.text.now c.args.input.now) ≡ true = search rules in
     let e = c.new-parameters.ensures.items in
     record {
-      spans = λ g r p. subst (λ ps. SomeParametersSpan c.args.text.now (ps ++ parameters_of g) c.args.input.now r) (sym e) (S.parameters_first c.args.text.now _ g c.args.input.now r refl p);
+      spans = λ g r p. subst (λ ps. SomeParametersSpan c.args.text.now (ps ++ members_of parameter_of g) c.args.input.now r) (sym e) (S.parameters_first c.args.text.now _ g c.args.input.now r refl p);
       shorter = omega arith;
       proper = c.requires.proper;
       reads = opens_groups c.args.text.now [] c.args.input.now a;
@@ -39,9 +35,7 @@ groups-preserved c =
       spans = λ h r p. S.parameters_next T _ _ h i a j r refl s (S.takes T (sign mark.Semicolon) a j c.in-Some.ensures.passed (c.in-Some.ensures.first.1 T)) p;
       shorter = omega (arith, c.in-Some.ensures.shorter, c.in_ok-group.ensures.shorter, c.groups.invariant.shorter);
       proper = c.in-Some.ensures.proper T c.in_ok-group.ensures.proper;
-      reads = then T 0 (GroupsPart ∷ []) (GroupPart ∷ TailPart GroupsTail ∷ []) (GroupPart ∷ TailPart GroupsTail ∷ []) i o j c.groups.invariant.reads
-          (then T 0 (GroupPart ∷ TailPart GroupsTail ∷ []) (TailPart GroupsTail ∷ []) (GroupPart ∷ TailPart GroupsTail ∷ []) o a j (call T 0 0 GroupPart (TailPart GroupsTail ∷ []) o a (λ s l. omega (arith, l)) c.in_ok-group.ensures.reads)
-          (goes T 0 GroupsTail [] (class.Sign mark.Semicolon) a j (λ s l. omega (arith, l)) refl c.in-Some.ensures.first));
+      reads = next_member T 0 (GroupsPart ∷ []) GroupsTail GroupPart [] (class.Sign mark.Semicolon) i o a j (λ s l. omega (arith, l)) (λ s l. l) refl refl c.groups.invariant.reads c.in_ok-group.ensures.reads c.in-Some.ensures.first;
     }
 
 pub returns-then-is_none : goal.returns-then-is_none
@@ -64,7 +58,5 @@ returns-in_default c =
       spans = S.some_are_parameters T _ i a s;
       shorter = omega (arith, c.in_ok-group.ensures.shorter, c.groups.invariant.shorter);
       proper = c.in_ok-group.ensures.proper;
-      reads = then T 0 (GroupsPart ∷ []) (GroupPart ∷ TailPart GroupsTail ∷ []) [] i o a c.groups.invariant.reads
-          (then T 0 (GroupPart ∷ TailPart GroupsTail ∷ []) (TailPart GroupsTail ∷ []) [] o a a (call T 0 0 GroupPart (TailPart GroupsTail ∷ []) o a (λ s l. omega (arith, l)) c.in_ok-group.ensures.reads)
-          (ends T 0 GroupsTail [] (class.Sign mark.Semicolon) a refl c.in_default.ensures.absent));
+      reads = last_member T 0 (GroupsPart ∷ []) GroupsTail GroupPart [] (class.Sign mark.Semicolon) i o a (λ s l. l) refl c.groups.invariant.reads c.in_ok-group.ensures.reads c.in_default.ensures.absent;
     }

@@ -1,9 +1,6 @@
-use Rattle.std.proofs.Common.{refl, [], arith}
-use Rattle.std.proofs.lemmas.Result.{err_from_is_err_and}
+use Rattle.kahn_syntax.proofs.Common.{refl, [], arith, err_from_is_err_and, word, EndToken, StatementsTail, VariablesPart, StatementPart, TailPart}
 use Rattle.kahn_syntax.specs.declared.lexeme.Keyword.TheVariants as keyword
 use Rattle.kahn_syntax.specs.declared.lexeme.Class.TheVariants as class
-use Rattle.kahn_syntax.specs.Terminals.{word}
-use Rattle.kahn_syntax.specs.inner.Machine.{EndToken, StatementsTail, VariablesPart, StatementPart, TailPart}
 use Rattle.kahn_syntax.proofs.Moves.{no_process, then, then_stops, call_stops, call_two_stops, expected, unexpected, no_name}
 use Rattle.kahn_syntax.proofs.Spanning as S
 use Rattle.kahn_syntax.proofs.Stacks as K

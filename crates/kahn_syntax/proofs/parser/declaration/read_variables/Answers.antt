@@ -1,12 +1,8 @@
-use Rattle.std.proofs.Common.{refl, [], ◌∷◌, arith}
-use Rattle.std.proofs.lemmas.Result.{err_from_is_err_and}
+use Rattle.kahn_syntax.proofs.Common.{refl, [], ◌∷◌, arith, err_from_is_err_and, sign, terminals, NameToken, SemicolonToken, NamesTail, VariablesPart, TailPart, TokenPart, kind_terminal}
 use Rattle.kahn_syntax.specs.declared.lexeme.Sign.TheVariants as mark
 use Rattle.kahn_syntax.specs.declared.lexeme.Class.TheVariants as class
-use Rattle.kahn_syntax.specs.Terminals.{sign, terminals}
-use Rattle.kahn_syntax.specs.inner.Machine.{NameToken, SemicolonToken, NamesTail, VariablesPart, TailPart, TokenPart}
 use Rattle.kahn_syntax.proofs.Moves.{kind_moves, variables_end, then, then_stops, call_two, call_two_stops, expected, unexpected}
 use Rattle.kahn_syntax.proofs.Spanning as S
-use Rattle.kahn_syntax.specs.Programs.{kind_terminal}
 use Rattle.kahn_syntax.proofs.parser.declaration.read_variables.Goals as goal
 
 pub read_names-requires : goal.read_names-requires

@@ -1,8 +1,4 @@
-use Rattle.std.proofs.Common.{◌≤◌, [], ◌∷◌, length}
-use Rattle.kahn_syntax.specs.Terminals.{AreProper}
-use Rattle.kahn_syntax.specs.inner.Machine.{VariablesPart}
-use Rattle.kahn_syntax.specs.inner.Reads.{Moves}
-use Rattle.kahn_syntax.specs.Spans.{VariablesSpan}
+use Rattle.kahn_syntax.proofs.Common.{◌≤◌, [], ◌∷◌, length, AreProper, VariablesPart, Moves, VariablesSpan}
 use Rattle.kahn_syntax.proofs.parser.declaration.read_variables.Given as goal
 
 abbrev pub invariant-variables : goal.invariant-variables

@@ -1,24 +1,15 @@
-use Rattle.std.proofs.Common.{rules, ◌≡◌, false, refl, [], ◌∷◌, arith, sym, ap, ◌∙◌, subst, w64, vec_len}
-use Rattle.std.proofs.lemmas.Result.{err_from_is_err_and}
+use Rattle.kahn_syntax.proofs.Common.{rules, ◌≡◌, false, refl, [], ◌∷◌, arith, sym, ap, ◌∙◌, subst, w64, vec_len, err_from_is_err_and, word, sign, name, terminals, IsUnsigned, whole, ors, denials, relations, sums, factors, rung_of, tighter, at, CloseToken, ElseToken, ThenToken, ExpressionPart, OperatorsPart, TokenPart, LevelPart, token_of, expression_of, name_of, operands_of, form_of, operands_row, to_z-of_z, Takes, ExpressionSpans, OperandsSpan, operator_terminal, expression_nesting, operands_nesting, FormedOperands, no_operand, Fits, ExpressionRead, hidden-the_row-Operand-0}
 use Rattle.kahn_syntax.specs.declared.lexeme.Keyword.TheVariants as keyword
 use Rattle.kahn_syntax.specs.declared.lexeme.Sign.TheVariants as mark
 use Rattle.kahn_syntax.specs.declared.lexeme.Class.TheVariants as class
-use Rattle.kahn_syntax.specs.Terminals.{word, sign, number, name, terminals, IsUnsigned}
-use Rattle.kahn_syntax.specs.inner.Rungs.{whole, ors, denials, relations, sums, factors, rung_of, tighter, at}
-use Rattle.kahn_syntax.specs.inner.Machine.{CloseToken, ElseToken, ThenToken, ExpressionPart, OperatorsPart, TokenPart, LevelPart, token_of}
-use Rattle.kahn_syntax.specs.Drawn.{expression_of, name_of, operands_of, form_of, operands_row}
-use Rattle.kahn_syntax.proofs.Moves.{made, opens_whole, opens_chain, operators_end, comparison, level_chain, operator_more, only_memory, leads_factor, no_factor, opens_denial, level_end, opened, then, then_stops, call, call_stops, call_two_stops, one, deep, expected, level_ends, unexpected}
-use Rattle.std.proofs.lemmas.Int.{to_z-of_z}
+use Rattle.kahn_syntax.specs.Terminals.{number}
+use Rattle.kahn_syntax.proofs.Moves.{made, opens_whole, opens_chain, operators_end, comparison, level_chain, operator_more, only_memory, leads_factor, no_factor, opens_denial, opened, then, then_stops, call, call_stops, call_two_stops, one, deep, expected, level_ends, unexpected}
 use Rattle.kahn_syntax.proofs.Negative.{number_fits}
-use Rattle.kahn_syntax.specs.Spans.{Takes, ExpressionSpans, OperandsSpan}
 use Rattle.kahn_syntax.proofs.Spanning as S
 use Rattle.kahn_syntax.proofs.Stacks as K
-use Rattle.kahn_syntax.specs.Trees.{operator_terminal, expression_nesting, operands_nesting, FormedOperands, no_operand}
-use Rattle.kahn_syntax.specs.inner.Reads.{rank_of, Fits, ExpressionRead}
 use Rattle.kahn_syntax.proofs.Lists.{first_of}
 use Rattle.kahn_syntax.proofs.Levels.{operands_nesting_next, formed_next, level_fits, joined_made, joined_nesting, compared_fits}
 use Rattle.kahn_syntax.proofs.Rows.{operands_made, operands_row_spans}
-use Rattle.kahn_tree.specs.declared.tree.Form.TheBlock.{hidden-the_row-Operand-0}
 use Rattle.std.specs.Prelude.{◌==◌, length, true}
 use Rattle.kahn_syntax.proofs.parser.expression.+expression.Goals as goal
 
@@ -37,7 +28,7 @@ pub read_level-operands-init : goal.read_level-operands-init
 read_level-operands-init t c =
     record {
       spans = (c.in_ok-first.rest.now, c.in_ok-first.ensures.spans, subst (λ os. OperandsSpan c.args.text.now os c.in_ok-first.rest.now c.in_ok-first.rest.now) (sym c.new-further.ensures.items) refl);
-      formed = subst (λ os. FormedOperands (rank_of c.args.level) (operands_of os)) (sym c.new-further.ensures.items) tt;
+      formed = subst (λ os. FormedOperands (at (rung_of c.args.level)) (operands_of os)) (sym c.new-further.ensures.items) tt;
       nesting = omega (arith, ap (λ os. operands_nesting (operands_of os)) c.new-further.ensures.items, c.in_ok-first.ensures.nesting);
       shorter = c.in_ok-first.ensures.shorter;
       proper = c.in_ok-first.ensures.proper;
@@ -307,7 +298,7 @@ read_level-returns-then-is_empty t c =
       nesting = c.in_ok-first.ensures.nesting;
       shorter = i.shorter;
       proper = i.proper;
-      reads = then T c.args.depth (ExpressionPart (rung_of c.args.level) ∷ []) (OperatorsPart (rung_of c.args.level) ∷ []) [] c.args.input.now c.operands.rest.now c.operands.rest.now i.reads (level_end T c.args.depth c.args.level [] c.operands.rest.now (c.in_default.ensures.lacks T));
+      reads = then T c.args.depth (ExpressionPart (rung_of c.args.level) ∷ []) (OperatorsPart (rung_of c.args.level) ∷ []) [] c.args.input.now c.operands.rest.now c.operands.rest.now i.reads (operators_end T c.args.depth (rung_of c.args.level) [] c.operands.rest.now (c.in_default.ensures.lacks T));
     }
 
 pub read_level-returns : goal.read_level-returns
@@ -325,7 +316,7 @@ read_level-returns t c =
       nesting = omega (arith, ap expression_nesting m, joined_nesting (expression_of first) (operands_of further.items), i.nesting);
       shorter = i.shorter;
       proper = i.proper;
-      reads = then T c.args.depth (ExpressionPart (rung_of c.args.level) ∷ []) (OperatorsPart (rung_of c.args.level) ∷ []) [] c.args.input.now c.operands.rest.now c.operands.rest.now i.reads (level_end T c.args.depth c.args.level [] c.operands.rest.now (c.in_default.ensures.lacks T));
+      reads = then T c.args.depth (ExpressionPart (rung_of c.args.level) ∷ []) (OperatorsPart (rung_of c.args.level) ∷ []) [] c.args.input.now c.operands.rest.now c.operands.rest.now i.reads (operators_end T c.args.depth (rung_of c.args.level) [] c.operands.rest.now (c.in_default.ensures.lacks T));
     })
     c.made.result (λ x. x.0.value) (λ x. x.1.now) c.made.ensures
 

@@ -1,12 +1,4 @@
-use Rattle.std.proofs.Common.{◌≤◌, ◌<◌, ◌+◌, ◌*◌, List, [], ◌∷◌, length, max}
-use Rattle.kahn_syntax.specs.declared.lexeme.Lexeme.{Lexeme}
-use Rattle.kahn_syntax.specs.Spans.{ExpressionSpans, OperandsSpan}
-use Rattle.kahn_syntax.specs.Terminals.{AreProper}
-use Rattle.kahn_syntax.specs.Trees.{expression_nesting, operands_nesting, FormedOperands}
-use Rattle.kahn_syntax.specs.Drawn.{expression_of, operands_of}
-use Rattle.kahn_syntax.specs.inner.Reads.{rank_of, Moves}
-use Rattle.kahn_syntax.specs.inner.Rungs.{rung_of}
-use Rattle.kahn_syntax.specs.inner.Machine.{ExpressionPart, OperatorsPart}
+use Rattle.kahn_syntax.proofs.Common.{◌≤◌, ◌<◌, ◌+◌, ◌*◌, List, [], ◌∷◌, length, max, Lexeme, ExpressionSpans, OperandsSpan, AreProper, expression_nesting, operands_nesting, FormedOperands, expression_of, operands_of, Moves, rung_of, ExpressionPart, OperatorsPart, at}
 use Rattle.kahn_syntax.proofs.Levels.{height}
 use Rattle.kahn_syntax.proofs.parser.expression.+expression.Given as goal
 
@@ -34,7 +26,7 @@ decreases-read_relation l = 12 * length l.input.now + 5
 abbrev pub invariant-read_level-operands : goal.invariant-read_level-operands
 invariant-read_level-operands l = record {
   spans : (a : List Lexeme) × ExpressionSpans l.text l.first.value l.input a × OperandsSpan l.text l.further.items a l.rest;
-  formed : FormedOperands (rank_of l.level) (operands_of l.further.items);
+  formed : FormedOperands (at (rung_of l.level)) (operands_of l.further.items);
   nesting : l.depth + max (expression_nesting (expression_of l.first.value)) (operands_nesting (operands_of l.further.items)) ≤ 64;
   shorter : length l.rest < length l.input;
   proper : AreProper l.text l.rest;

@@ -1,12 +1,7 @@
-use Rattle.std.proofs.Common.{refl, [], ◌∷◌, arith}
-use Rattle.std.proofs.lemmas.Result.{err_from_is_err_and}
+use Rattle.kahn_syntax.proofs.Common.{refl, [], ◌∷◌, arith, err_from_is_err_and, word, name, sign, factors, CloseToken, NameToken, OpenToken, ExpressionPart, TokenPart, name_of}
 use Rattle.kahn_syntax.specs.declared.lexeme.Keyword.TheVariants as keyword
 use Rattle.kahn_syntax.specs.declared.lexeme.Sign.TheVariants as mark
 use Rattle.kahn_syntax.specs.declared.lexeme.Class.TheVariants as class
-use Rattle.kahn_syntax.specs.Terminals.{word, name, sign}
-use Rattle.kahn_syntax.specs.inner.Rungs.{factors}
-use Rattle.kahn_syntax.specs.inner.Machine.{CloseToken, NameToken, OpenToken, ExpressionPart, TokenPart}
-use Rattle.kahn_syntax.specs.Drawn.{name_of}
 use Rattle.kahn_syntax.proofs.Moves.{made, then, then_stops, one, token, expected, unexpected, no_name}
 use Rattle.kahn_syntax.proofs.Spanning as S
 use Rattle.kahn_syntax.proofs.parser.expression.read_wait.Goals as goal

@@ -1,5 +1,4 @@
-use Rattle.std.proofs.Common.{refl, get_or, arith}
-use Rattle.std.proofs.lemmas.Grind.{common_steps}
+use Rattle.kahn_syntax.proofs.Common.{refl, get_or, arith, common_steps}
 use Rattle.kahn_syntax.proofs.Spanning.{name_first}
 use Rattle.kahn_syntax.proofs.parser.names.read_name.Goals as goal
 

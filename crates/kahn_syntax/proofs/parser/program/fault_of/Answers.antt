@@ -1,7 +1,4 @@
-use Rattle.std.proofs.Common.{ap, ◌∙◌, refl, subst}
-use Rattle.kahn_syntax.specs.declared.parser.cursor.Stop.TheVariants.{Refused}
-use Rattle.kahn_syntax.specs.Terminals.{terminals}
-use Rattle.kahn_syntax.specs.inner.Reads.{Halts}
+use Rattle.kahn_syntax.proofs.Common.{ap, ◌∙◌, refl, subst, Refused, terminals, Halts}
 use Rattle.kahn_syntax.proofs.Meaning.{is_nothing, is_other, is_too_deep, is_more, halts_memory, refused_left, deep_left, deep_memory, refused_memory}
 use Rattle.kahn_syntax.proofs.parser.program.fault_of.Goals as goal
 

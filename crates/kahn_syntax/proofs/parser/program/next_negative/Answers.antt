@@ -1,8 +1,4 @@
-use Rattle.std.proofs.Common.{◌≡◌, ℕ, List, false, Option, Some, None, IfNone, subst, sym, neg_ℤ, w64}
-use Rattle.std.specs.Prelude.{FitsSigned}
-use Rattle.std.proofs.lemmas.Int.{to_z-of_z}
-use Rattle.kahn_syntax.specs.Terminals.{IsUnsigned, AreProper, terminals}
-use Rattle.kahn_syntax.specs.inner.Machine.{NumberToken, leads}
+use Rattle.kahn_syntax.proofs.Common.{◌≡◌, ℕ, List, false, Option, Some, None, IfNone, subst, sym, neg_ℤ, w64, FitsSigned, to_z-of_z, IsUnsigned, AreProper, terminals, NumberToken, leads}
 use Rattle.kahn_syntax.proofs.Negative.{number_fits, negative_fits}
 use Rattle.kahn_syntax.proofs.parser.program.next_negative.Goals as goal
 

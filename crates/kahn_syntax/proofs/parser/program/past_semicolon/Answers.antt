@@ -1,8 +1,6 @@
-use Rattle.std.proofs.Common.{refl, [], arith, inl}
+use Rattle.kahn_syntax.proofs.Common.{refl, [], arith, inl, sign, LastTail}
 use Rattle.kahn_syntax.specs.declared.lexeme.Sign.TheVariants as mark
 use Rattle.kahn_syntax.specs.declared.lexeme.Class.TheVariants as class
-use Rattle.kahn_syntax.specs.Terminals.{sign}
-use Rattle.kahn_syntax.specs.inner.Machine.{LastTail}
 use Rattle.kahn_syntax.proofs.Moves.{goes, ends}
 use Rattle.kahn_syntax.proofs.Spanning as S
 use Rattle.kahn_syntax.proofs.parser.program.past_semicolon.Goals as goal

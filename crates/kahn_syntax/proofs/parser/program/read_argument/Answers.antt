@@ -1,18 +1,12 @@
-use Rattle.std.proofs.Common.{rules, ◌≡◌, false, refl, [], ◌∷◌, arith, sym, ap, ◌∙◌, subst, length, inl, inr, w64}
-use Rattle.std.proofs.lemmas.Result.{err_from_is_err_and}
+use Rattle.kahn_syntax.proofs.Common.{rules, ◌≡◌, false, refl, [], ◌∷◌, arith, sym, ap, ◌∙◌, subst, length, inl, inr, w64, err_from_is_err_and, word, sign, terminals, IsUnsigned, name, NumberToken, ArgumentPart, TokenPart, Refused, to_z-of_z, Takes, name_of}
 use Rattle.kahn_syntax.specs.declared.lexeme.Keyword.TheVariants as keyword
 use Rattle.kahn_syntax.specs.declared.lexeme.Sign.TheVariants as mark
 use Rattle.kahn_syntax.specs.declared.lexeme.Class.TheVariants as class
-use Rattle.kahn_syntax.specs.Terminals.{word, sign, terminals, IsUnsigned, number, name}
-use Rattle.kahn_syntax.specs.inner.Machine.{NumberToken, ArgumentPart, TokenPart}
+use Rattle.kahn_syntax.specs.Terminals.{number}
 use Rattle.kahn_syntax.proofs.Moves.{leads_argument, no_argument, only_memory, then_stops, one, absent, token, then}
-use Rattle.kahn_syntax.specs.declared.parser.cursor.Stop.TheVariants.{Refused}
 use Rattle.kahn_syntax.proofs.Lists.{first_of}
 use Rattle.kahn_syntax.proofs.Spanning as S
-use Rattle.std.proofs.lemmas.Int.{to_z-of_z}
 use Rattle.kahn_syntax.proofs.Negative.{number_fits}
-use Rattle.kahn_syntax.specs.Spans.{Takes}
-use Rattle.kahn_syntax.specs.Drawn.{name_of}
 use Rattle.kahn_syntax.proofs.parser.program.read_argument.Goals as goal
 
 pub returns-in_err-name-in-Some-Name-default : goal.returns-in_err-name-in-Some-Name-default

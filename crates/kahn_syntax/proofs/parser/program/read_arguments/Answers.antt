@@ -1,11 +1,7 @@
-use Rattle.std.proofs.Common.{refl, [], ◌∷◌, ◌++◌, arith, sym, subst}
-use Rattle.std.proofs.lemmas.Result.{err_from_is_err_and}
+use Rattle.kahn_syntax.proofs.Common.{refl, [], ◌∷◌, ◌++◌, arith, sym, subst, err_from_is_err_and, sign, CloseToken, ArgumentsTail, ArgumentsPart, ArgumentPart, TailPart, TokenPart, ArgumentsSpan, Takes, ArgumentSpans}
 use Rattle.kahn_syntax.specs.declared.lexeme.Sign.TheVariants as mark
 use Rattle.kahn_syntax.specs.declared.lexeme.Class.TheVariants as class
-use Rattle.kahn_syntax.specs.Terminals.{sign}
-use Rattle.kahn_syntax.specs.inner.Machine.{CloseToken, ArgumentsTail, ArgumentsPart, ArgumentPart, TailPart, TokenPart}
-use Rattle.kahn_syntax.specs.Spans.{ArgumentsSpan}
-use Rattle.kahn_syntax.proofs.Moves.{opens_arguments, then, then_stops, call, call_stops, one, expected, goes, ends, unexpected}
+use Rattle.kahn_syntax.proofs.Moves.{opens_arguments, then, then_stops, call_stops, one, expected, unexpected, next_member, last_member}
 use Rattle.kahn_syntax.proofs.Spanning as S
 use Rattle.kahn_syntax.proofs.Spanning.{SomeArgumentsSpan}
 use Rattle.kahn_syntax.proofs.parser.program.read_arguments.Goals as goal
@@ -34,13 +30,11 @@ arguments-preserved c =
     let j = c.in-Some-past.further.now in
     let e = c.in_ok-push.ensures.items in
     record {
-      spans = λ n r p. S.arguments_more T _ n i a j r (subst (λ us. SomeArgumentsSpan T us i a) (sym e) (c.arguments.invariant.spans c.in_ok-argument.argument a c.in_ok-argument.ensures.spans))
+      spans = λ n r p. S.some_more (Takes T (sign mark.Comma)) (ArgumentSpans T) _ n i a j r (subst (λ us. SomeArgumentsSpan T us i a) (sym e) (c.arguments.invariant.spans c.in_ok-argument.argument a c.in_ok-argument.ensures.spans))
           (S.takes T (sign mark.Comma) a j c.in-Some-past.ensures.passed (c.in-Some-past.ensures.first.1 T)) p;
       shorter = omega (arith, c.in-Some-past.ensures.shorter, c.in_ok-argument.ensures.shorter, c.arguments.invariant.shorter);
       proper = c.in-Some-past.ensures.proper T c.in_ok-argument.ensures.proper;
-      reads = then T 0 (ArgumentsPart ∷ []) (ArgumentPart ∷ TailPart ArgumentsTail ∷ TokenPart CloseToken ∷ []) (ArgumentPart ∷ TailPart ArgumentsTail ∷ TokenPart CloseToken ∷ []) i o j c.arguments.invariant.reads
-          (then T 0 (ArgumentPart ∷ TailPart ArgumentsTail ∷ TokenPart CloseToken ∷ []) (TailPart ArgumentsTail ∷ TokenPart CloseToken ∷ []) (ArgumentPart ∷ TailPart ArgumentsTail ∷ TokenPart CloseToken ∷ []) o a j (call T 0 0 ArgumentPart (TailPart ArgumentsTail ∷ TokenPart CloseToken ∷ []) o a (λ s l. omega (arith, l)) c.in_ok-argument.ensures.reads)
-          (goes T 0 ArgumentsTail (TokenPart CloseToken ∷ []) (class.Sign mark.Comma) a j (λ s l. omega (arith, l)) refl c.in-Some-past.ensures.first));
+      reads = next_member T 0 (ArgumentsPart ∷ []) ArgumentsTail ArgumentPart (TokenPart CloseToken ∷ []) (class.Sign mark.Comma) i o a j (λ s l. omega (arith, l)) (λ s l. l) refl refl c.arguments.invariant.reads c.in_ok-argument.ensures.reads c.in-Some-past.ensures.first;
     }
 
 pub returns-in_err-left : goal.returns-in_err-left
@@ -49,9 +43,8 @@ returns-in_err-left c =
     let T = c.args.text.now in let i = c.args.input.now in
     let a = c.in_ok-argument.after.now in
     let o = c.arguments.rest.now in
-    let m = then T 0 (ArgumentPart ∷ TailPart ArgumentsTail ∷ TokenPart CloseToken ∷ []) (TailPart ArgumentsTail ∷ TokenPart CloseToken ∷ []) (TokenPart CloseToken ∷ []) o a a (call T 0 0 ArgumentPart (TailPart ArgumentsTail ∷ TokenPart CloseToken ∷ []) o a (λ s l. omega (arith, l)) c.in_ok-argument.ensures.reads)
-    (ends T 0 ArgumentsTail (TokenPart CloseToken ∷ []) (class.Sign mark.Comma) a refl c.in_default-past.ensures.absent) in
-    rw (p.1, p.2) (then_stops T 0 (ArgumentsPart ∷ []) (TokenPart CloseToken ∷ []) i a _ (then T 0 (ArgumentsPart ∷ []) (ArgumentPart ∷ TailPart ArgumentsTail ∷ TokenPart CloseToken ∷ []) (TokenPart CloseToken ∷ []) i o a c.arguments.invariant.reads m)
+    let m = last_member T 0 (ArgumentsPart ∷ []) ArgumentsTail ArgumentPart (TokenPart CloseToken ∷ []) (class.Sign mark.Comma) i o a (λ s l. l) refl c.arguments.invariant.reads c.in_ok-argument.ensures.reads c.in_default-past.ensures.absent in
+    rw (p.1, p.2) (then_stops T 0 (ArgumentsPart ∷ []) (TokenPart CloseToken ∷ []) i a _ m
     (unexpected T 0 CloseToken [] (class.Sign mark.Close) a _ refl c.in_err-left.ensures.stop))
 
 pub returns-in-Some : goal.returns-in-Some
@@ -71,12 +64,11 @@ returns-in_default-past c =
     let o = c.arguments.rest.now in
     let l = c.in_ok-left.left.now in
     let e = c.in_ok-push.ensures.items in
-    let m = then T 0 (ArgumentPart ∷ TailPart ArgumentsTail ∷ TokenPart CloseToken ∷ []) (TailPart ArgumentsTail ∷ TokenPart CloseToken ∷ []) (TokenPart CloseToken ∷ []) o a a (call T 0 0 ArgumentPart (TailPart ArgumentsTail ∷ TokenPart CloseToken ∷ []) o a (λ s k. omega (arith, k)) c.in_ok-argument.ensures.reads)
-    (ends T 0 ArgumentsTail (TokenPart CloseToken ∷ []) (class.Sign mark.Comma) a refl c.in_default-past.ensures.absent) in
+    let m = last_member T 0 (ArgumentsPart ∷ []) ArgumentsTail ArgumentPart (TokenPart CloseToken ∷ []) (class.Sign mark.Comma) i o a (λ s l. l) refl c.arguments.invariant.reads c.in_ok-argument.ensures.reads c.in_default-past.ensures.absent in
     record {
-      spans = (a, S.some_are_arguments T _ i a (subst (λ us. SomeArgumentsSpan T us i a) (sym e) (c.arguments.invariant.spans c.in_ok-argument.argument a c.in_ok-argument.ensures.spans)), S.takes T (sign mark.Close) a l c.in_ok-left.ensures.passed (c.in_ok-left.ensures.first.1 T));
+      spans = (a, S.some_between (Takes T (sign mark.Comma)) (ArgumentSpans T) _ i a (subst (λ us. SomeArgumentsSpan T us i a) (sym e) (c.arguments.invariant.spans c.in_ok-argument.argument a c.in_ok-argument.ensures.spans)), S.takes T (sign mark.Close) a l c.in_ok-left.ensures.passed (c.in_ok-left.ensures.first.1 T));
       shorter = omega (arith, c.in_ok-argument.ensures.shorter, c.arguments.invariant.shorter, c.in_ok-left.ensures.shorter);
       proper = c.in_ok-left.ensures.proper T c.in_ok-argument.ensures.proper;
-      reads = then T 0 (ArgumentsPart ∷ []) (TokenPart CloseToken ∷ []) [] i a l (then T 0 (ArgumentsPart ∷ []) (ArgumentPart ∷ TailPart ArgumentsTail ∷ TokenPart CloseToken ∷ []) (TokenPart CloseToken ∷ []) i o a c.arguments.invariant.reads m)
+      reads = then T 0 (ArgumentsPart ∷ []) (TokenPart CloseToken ∷ []) [] i a l m
           (expected T 0 CloseToken [] (class.Sign mark.Close) a l (λ s k. omega (arith, k)) refl c.in_ok-left.ensures.first);
     }

@@ -1,10 +1,4 @@
-use Rattle.std.proofs.Common.{◌≤◌, List, [], ◌∷◌, ◌++◌, length}
-use Rattle.kahn_tree.specs.declared.tree.Argument.{Argument}
-use Rattle.kahn_syntax.specs.declared.lexeme.Lexeme.{Lexeme}
-use Rattle.kahn_syntax.specs.Spans.{ArgumentSpans}
-use Rattle.kahn_syntax.specs.Terminals.{AreProper}
-use Rattle.kahn_syntax.specs.inner.Machine.{ArgumentsPart, ArgumentPart, TailPart, TokenPart, CloseToken, ArgumentsTail}
-use Rattle.kahn_syntax.specs.inner.Reads.{Moves}
+use Rattle.kahn_syntax.proofs.Common.{◌≤◌, List, [], ◌∷◌, ◌++◌, length, Argument, Lexeme, ArgumentSpans, AreProper, ArgumentsPart, ArgumentPart, TailPart, TokenPart, CloseToken, ArgumentsTail, Moves}
 use Rattle.kahn_syntax.proofs.Spanning.{SomeArgumentsSpan}
 use Rattle.kahn_syntax.proofs.parser.program.read_arguments.Given as goal
 

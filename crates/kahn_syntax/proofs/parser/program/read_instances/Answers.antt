@@ -1,11 +1,7 @@
-use Rattle.std.proofs.Common.{refl, [], ◌∷◌, ◌++◌, arith, sym, subst}
-use Rattle.std.proofs.lemmas.Result.{err_from_is_err_and}
+use Rattle.kahn_syntax.proofs.Common.{refl, [], ◌∷◌, ◌++◌, arith, sym, subst, err_from_is_err_and, word, InstancesTail, InstancePart, TailPart, InstancesSpan, Takes, InstanceSpans}
 use Rattle.kahn_syntax.specs.declared.lexeme.Keyword.TheVariants as keyword
 use Rattle.kahn_syntax.specs.declared.lexeme.Class.TheVariants as class
-use Rattle.kahn_syntax.specs.Terminals.{word}
-use Rattle.kahn_syntax.specs.inner.Machine.{InstancesTail, InstancePart, TailPart}
-use Rattle.kahn_syntax.specs.Spans.{InstancesSpan}
-use Rattle.kahn_syntax.proofs.Moves.{then, then_stops, call, call_stops, goes, ends}
+use Rattle.kahn_syntax.proofs.Moves.{then_stops, call_stops, next_member, last_member}
 use Rattle.kahn_syntax.proofs.Spanning as S
 use Rattle.kahn_syntax.proofs.parser.program.read_instances.Goals as goal
 
@@ -32,14 +28,11 @@ instances-preserved c =
     let j = c.in-Some.further.now in
     let e = c.in_ok-push.ensures.items in
     record {
-      spans = λ n r p. S.instances_more T _ n i a j r (subst (λ is. InstancesSpan T is i a) (sym e) (c.instances.invariant.spans c.in_ok-instance.instance a c.in_ok-instance.ensures.spans))
+      spans = λ n r p. S.some_more (Takes T (word keyword.Par)) (InstanceSpans T) _ n i a j r (subst (λ is. InstancesSpan T is i a) (sym e) (c.instances.invariant.spans c.in_ok-instance.instance a c.in_ok-instance.ensures.spans))
           (S.takes T (word keyword.Par) a j c.in-Some.ensures.passed (c.in-Some.ensures.first.1 T)) p;
       shorter = omega (arith, c.in-Some.ensures.shorter, c.in_ok-instance.ensures.shorter, c.instances.invariant.shorter);
       proper = c.in-Some.ensures.proper T c.in_ok-instance.ensures.proper;
-      reads = then T 0 (InstancePart ∷ TailPart InstancesTail ∷ []) (InstancePart ∷ TailPart InstancesTail ∷ []) (InstancePart ∷ TailPart InstancesTail ∷ []) i c.instances.rest.now j c.instances.invariant.reads
-          (then T 0 (InstancePart ∷ TailPart InstancesTail ∷ []) (TailPart InstancesTail ∷ []) (InstancePart ∷ TailPart InstancesTail ∷ []) c.instances.rest.now a j
-          (call T 0 0 InstancePart (TailPart InstancesTail ∷ []) c.instances.rest.now a (λ s l. omega (arith, l)) c.in_ok-instance.ensures.reads)
-          (goes T 0 InstancesTail [] (class.Word keyword.Par) a j (λ s l. omega (arith, l)) refl c.in-Some.ensures.first));
+      reads = next_member T 0 (InstancePart ∷ TailPart InstancesTail ∷ []) InstancesTail InstancePart [] (class.Word keyword.Par) i c.instances.rest.now a j (λ s l. omega (arith, l)) (λ s l. l) refl refl c.instances.invariant.reads c.in_ok-instance.ensures.reads c.in-Some.ensures.first;
     }
 
 pub returns-in_default : goal.returns-in_default
@@ -51,8 +44,5 @@ returns-in_default c =
       spans = subst (λ is. InstancesSpan T is i a) (sym e) (c.instances.invariant.spans c.in_ok-instance.instance a c.in_ok-instance.ensures.spans);
       shorter = omega (arith, c.in_ok-instance.ensures.shorter, c.instances.invariant.shorter);
       proper = c.in_ok-instance.ensures.proper;
-      reads = then T 0 (InstancePart ∷ TailPart InstancesTail ∷ []) (InstancePart ∷ TailPart InstancesTail ∷ []) [] i c.instances.rest.now a c.instances.invariant.reads
-          (then T 0 (InstancePart ∷ TailPart InstancesTail ∷ []) (TailPart InstancesTail ∷ []) [] c.instances.rest.now a a
-          (call T 0 0 InstancePart (TailPart InstancesTail ∷ []) c.instances.rest.now a (λ s l. omega (arith, l)) c.in_ok-instance.ensures.reads)
-          (ends T 0 InstancesTail [] (class.Word keyword.Par) a refl c.in_default.ensures.absent));
+      reads = last_member T 0 (InstancePart ∷ TailPart InstancesTail ∷ []) InstancesTail InstancePart [] (class.Word keyword.Par) i c.instances.rest.now a (λ s l. l) refl c.instances.invariant.reads c.in_ok-instance.ensures.reads c.in_default.ensures.absent;
     }

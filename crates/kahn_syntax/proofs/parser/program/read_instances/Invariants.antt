@@ -1,10 +1,4 @@
-use Rattle.std.proofs.Common.{◌≤◌, List, [], ◌∷◌, ◌++◌, length}
-use Rattle.kahn_tree.specs.declared.tree.Instance.{Instance}
-use Rattle.kahn_syntax.specs.declared.lexeme.Lexeme.{Lexeme}
-use Rattle.kahn_syntax.specs.Terminals.{AreProper}
-use Rattle.kahn_syntax.specs.inner.Machine.{InstancePart, TailPart, InstancesTail}
-use Rattle.kahn_syntax.specs.inner.Reads.{Moves}
-use Rattle.kahn_syntax.specs.Spans.{InstancesSpan, InstanceSpans}
+use Rattle.kahn_syntax.proofs.Common.{◌≤◌, List, [], ◌∷◌, ◌++◌, length, Instance, Lexeme, AreProper, InstancePart, TailPart, InstancesTail, Moves, InstancesSpan, InstanceSpans}
 use Rattle.kahn_syntax.proofs.parser.program.read_instances.Given as goal
 
 abbrev pub invariant-instances : goal.invariant-instances

@@ -1,12 +1,8 @@
-use Rattle.std.proofs.Common.{rules, ◌≢◌, ◌≡◌, refl, [], ◌∷◌, arith, ◌∙◌, subst, length}
-use Rattle.std.proofs.lemmas.Result.{err_from_is_err_and}
+use Rattle.kahn_syntax.proofs.Common.{rules, ◌≢◌, ◌≡◌, refl, [], ◌∷◌, arith, ◌∙◌, subst, length, err_from_is_err_and, word, EndToken, InstancesTail, LastTail, ProgramPart, DeclarationsPart, InstancePart, TailPart, TokenPart, MayPart}
 use Rattle.kahn_syntax.specs.declared.lexeme.Keyword.TheVariants as keyword
 use Rattle.kahn_syntax.specs.declared.lexeme.Class.TheVariants as class
-use Rattle.kahn_syntax.specs.Terminals.{word}
-use Rattle.kahn_syntax.specs.inner.Machine.{EndToken, InstancesTail, LastTail, ProgramPart, DeclarationsPart, InstancePart, TailPart, TokenPart}
 use Rattle.kahn_syntax.proofs.Moves.{no_program, whole_end, halts, then, then_stops, call, call_stops, call_two, call_two_stops, one, expected, unexpected}
 use Rattle.kahn_syntax.proofs.Spanning as S
-use Rattle.kahn_syntax.specs.Spans.{MayPart}
 use Rattle.kahn_syntax.proofs.parser.program.read_program.Goals as goal
 
 pub returns-in_err-rest-clause-halts : goal.returns-in_err-rest-clause-halts

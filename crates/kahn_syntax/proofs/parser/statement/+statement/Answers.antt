@@ -1,21 +1,12 @@
-use Rattle.std.proofs.Common.{rules, ◌≡◌, false, refl, sym, subst, [], ◌∷◌, arith, ap, ◌∙◌, ◌++◌}
-use Rattle.std.proofs.lemmas.Result.{err_from_is_err_and}
+use Rattle.kahn_syntax.proofs.Common.{rules, ◌≡◌, false, refl, sym, subst, [], ◌∷◌, arith, ap, ◌∙◌, ◌++◌, err_from_is_err_and, word, sign, terminals, whole, leads, DoToken, EndToken, NameToken, ThenToken, StatementsTail, ElseTail, StatementPart, SimplePart, ExpressionPart, TailPart, TokenPart, LevelPart, FormedStatement, FormedStatements, statements_nesting, IsSimple, statement_nesting, statement_of, statements_of, StatementSpans, Takes, ExpressionRead, StatementRead}
 use Rattle.kahn_syntax.specs.declared.lexeme.Keyword.TheVariants as keyword
 use Rattle.kahn_syntax.specs.declared.lexeme.Sign.TheVariants as mark
 use Rattle.kahn_syntax.specs.declared.lexeme.Class.TheVariants as class
-use Rattle.kahn_syntax.specs.Terminals.{word, sign, terminals}
-use Rattle.kahn_syntax.specs.inner.Rungs.{whole}
-use Rattle.kahn_syntax.specs.inner.Machine.{leads, DoToken, EndToken, NameToken, ThenToken, StatementsTail, ElseTail, StatementPart, SimplePart, ExpressionPart, TailPart, TokenPart, LevelPart}
-use Rattle.kahn_syntax.proofs.Moves.{leads_statement, opens_simple, leads_simple, simple_ends, opened_simple, then, then_stops, call, call_stops, call_two, call_two_stops, one, deep, expected, goes, ends, level_ends, unexpected}
-use Rattle.kahn_syntax.specs.Trees.{FormedStatement, FormedStatements, statements_nesting, IsSimple, statement_nesting}
-use Rattle.kahn_syntax.specs.Drawn.{statement_of, statements_of}
-use Rattle.kahn_syntax.specs.Spans.{StatementSpans}
-use Rattle.kahn_syntax.specs.inner.Reads.{ExpressionRead, StatementRead}
+use Rattle.kahn_syntax.proofs.Moves.{leads_statement, opens_simple, leads_simple, simple_ends, opened_simple, then, then_stops, call, call_stops, call_two, call_two_stops, one, deep, expected, level_ends, unexpected, ends, next_member, last_member}
 use Rattle.kahn_syntax.proofs.Lists.{first_of}
 use Rattle.kahn_syntax.proofs.Spanning as S
 use Rattle.kahn_syntax.proofs.Spanning.{SomeStatements}
 use Rattle.kahn_syntax.proofs.Stacks as K
-use Rattle.kahn_syntax.proofs.Spelled.{statements_spelled}
 use Rattle.kahn_syntax.proofs.Statements.{formed_next, some_next, nesting_next}
 use Rattle.kahn_syntax.proofs.parser.statement.+statement.Goals as goal
 
@@ -310,33 +301,26 @@ read_statements-statements-preserved t c =
     let a = c.in_ok-statement.after.now in
     let j = c.in-Some.further.now in
     record {
-      spans = λ s r p. S.statements_more T _ s i a j r (subst (λ ss. SomeStatements T ss i a) (sym c.in_ok-push.ensures.items) (c.statements.invariant.spans c.in_ok-statement.statement a c.in_ok-statement.ensures.spans))
+      spans = λ s r p. S.some_more (Takes T (sign mark.Semicolon)) (StatementSpans T) _ s i a j r (subst (λ ss. SomeStatements T ss i a) (sym c.in_ok-push.ensures.items) (c.statements.invariant.spans c.in_ok-statement.statement a c.in_ok-statement.ensures.spans))
           (S.takes T (sign mark.Semicolon) a j c.in-Some.ensures.passed (c.in-Some.ensures.first.1 T)) p;
       formed = formed_next _ _ _ c.in_ok-push.ensures.items c.statements.invariant.formed c.in_ok-statement.ensures.formed;
       nesting = nesting_next _ _ _ _ c.in_ok-push.ensures.items c.statements.invariant.nesting c.in_ok-statement.ensures.nesting;
       shorter = omega (arith, c.in-Some.ensures.shorter, c.in_ok-statement.ensures.shorter, c.statements.invariant.shorter);
       proper = c.in-Some.ensures.proper T c.in_ok-statement.ensures.proper;
-      reads = then T c.args.depth (StatementPart ∷ TailPart StatementsTail ∷ []) (StatementPart ∷ TailPart StatementsTail ∷ []) (StatementPart ∷ TailPart StatementsTail ∷ []) i c.statements.rest.now j c.statements.invariant.reads
-          (then T c.args.depth (StatementPart ∷ TailPart StatementsTail ∷ []) (TailPart StatementsTail ∷ []) (StatementPart ∷ TailPart StatementsTail ∷ []) c.statements.rest.now a j
-          (call T c.args.depth c.args.depth StatementPart (TailPart StatementsTail ∷ []) c.statements.rest.now a (λ s l. omega (arith, l, c.requires.1.1.0)) c.in_ok-statement.ensures.reads)
-          (goes T c.args.depth StatementsTail [] (class.Sign mark.Semicolon) a j (λ s l. omega (arith, l, c.requires.1.1.0)) refl c.in-Some.ensures.first));
+      reads = next_member T c.args.depth (StatementPart ∷ TailPart StatementsTail ∷ []) StatementsTail StatementPart [] (class.Sign mark.Semicolon) i c.statements.rest.now a j (λ s l. omega (arith, l, c.requires.1.1.0)) (λ s l. l) refl refl c.statements.invariant.reads c.in_ok-statement.ensures.reads c.in-Some.ensures.first;
     }
 
 pub read_statements-returns-in_default : goal.read_statements-returns-in_default
 read_statements-returns-in_default t c =
     let T = c.args.text.now in let i = c.args.input.now in
     let a = c.in_ok-statement.after.now in
-    let s = S.some_are_statements T _ i a (subst (λ ss. SomeStatements T ss i a) (sym c.in_ok-push.ensures.items) (c.statements.invariant.spans c.in_ok-statement.statement a c.in_ok-statement.ensures.spans)) in
+    let s = S.some_between (Takes T (sign mark.Semicolon)) (StatementSpans T) _ i a (subst (λ ss. SomeStatements T ss i a) (sym c.in_ok-push.ensures.items) (c.statements.invariant.spans c.in_ok-statement.statement a c.in_ok-statement.ensures.spans)) in
     record {
-      words = statements_spelled T _ i a s;
       spans = s;
       formed = formed_next _ _ _ c.in_ok-push.ensures.items c.statements.invariant.formed c.in_ok-statement.ensures.formed;
       some = some_next _ _ _ c.in_ok-push.ensures.items;
       nesting = nesting_next _ _ _ _ c.in_ok-push.ensures.items c.statements.invariant.nesting c.in_ok-statement.ensures.nesting;
       shorter = omega (arith, c.in_ok-statement.ensures.shorter, c.statements.invariant.shorter);
       proper = c.in_ok-statement.ensures.proper;
-      reads = then T c.args.depth (StatementPart ∷ TailPart StatementsTail ∷ []) (StatementPart ∷ TailPart StatementsTail ∷ []) [] i c.statements.rest.now a c.statements.invariant.reads
-          (then T c.args.depth (StatementPart ∷ TailPart StatementsTail ∷ []) (TailPart StatementsTail ∷ []) [] c.statements.rest.now a a
-          (call T c.args.depth c.args.depth StatementPart (TailPart StatementsTail ∷ []) c.statements.rest.now a (λ s l. omega (arith, l, c.requires.1.1.0)) c.in_ok-statement.ensures.reads)
-          (ends T c.args.depth StatementsTail [] (class.Sign mark.Semicolon) a refl c.in_default.ensures.absent));
+      reads = last_member T c.args.depth (StatementPart ∷ TailPart StatementsTail ∷ []) StatementsTail StatementPart [] (class.Sign mark.Semicolon) i c.statements.rest.now a (λ s l. l) refl c.statements.invariant.reads c.in_ok-statement.ensures.reads c.in_default.ensures.absent;
     }

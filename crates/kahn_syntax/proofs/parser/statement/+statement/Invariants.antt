@@ -1,12 +1,4 @@
-use Rattle.std.proofs.Common.{◌≤◌, ◌+◌, ◌*◌, List, [], ◌∷◌, ◌++◌, length}
-use Rattle.kahn_tree.specs.declared.tree.Statement.{Statement}
-use Rattle.kahn_syntax.specs.declared.lexeme.Lexeme.{Lexeme}
-use Rattle.kahn_syntax.specs.Spans.{StatementSpans}
-use Rattle.kahn_syntax.specs.Terminals.{AreProper}
-use Rattle.kahn_syntax.specs.inner.Machine.{StatementsTail, StatementPart, TailPart}
-use Rattle.kahn_syntax.specs.inner.Reads.{Moves}
-use Rattle.kahn_syntax.specs.Trees.{statements_nesting, FormedStatements}
-use Rattle.kahn_syntax.specs.Drawn.{statements_of}
+use Rattle.kahn_syntax.proofs.Common.{◌≤◌, ◌+◌, ◌*◌, List, [], ◌∷◌, ◌++◌, length, Statement, Lexeme, StatementSpans, AreProper, StatementsTail, StatementPart, TailPart, Moves, statements_nesting, FormedStatements, statements_of}
 use Rattle.kahn_syntax.proofs.Spanning.{SomeStatements}
 use Rattle.kahn_syntax.proofs.parser.statement.+statement.Given as goal
 

@@ -1,12 +1,6 @@
-use Rattle.std.proofs.Common.{refl, sym, subst, [], ◌∷◌, arith}
-use Rattle.std.proofs.lemmas.Result.{err_from_is_err_and}
+use Rattle.kahn_syntax.proofs.Common.{refl, sym, subst, [], ◌∷◌, arith, err_from_is_err_and, sign, name, whole, BecomesToken, SimplePart, ExpressionPart, TokenPart, name_of, ExpressionRead}
 use Rattle.kahn_syntax.specs.declared.lexeme.Sign.TheVariants as mark
 use Rattle.kahn_syntax.specs.declared.lexeme.Class.TheVariants as class
-use Rattle.kahn_syntax.specs.Terminals.{sign, name}
-use Rattle.kahn_syntax.specs.inner.Rungs.{whole}
-use Rattle.kahn_syntax.specs.inner.Machine.{BecomesToken, SimplePart, ExpressionPart, TokenPart}
-use Rattle.kahn_syntax.specs.Drawn.{name_of}
-use Rattle.kahn_syntax.specs.inner.Reads.{ExpressionRead}
 use Rattle.kahn_syntax.proofs.Spanning as S
 use Rattle.kahn_syntax.proofs.Moves.{memory_alone, then, then_stops, call, call_stops, one, expected, unexpected}
 use Rattle.kahn_syntax.proofs.parser.statement.read_assign.Goals as goal

@@ -1,11 +1,5 @@
-use Rattle.std.proofs.Common.{refl, sym, subst, [], ◌∷◌, arith}
-use Rattle.std.proofs.lemmas.Result.{err_from_is_err_and}
+use Rattle.kahn_syntax.proofs.Common.{refl, sym, subst, [], ◌∷◌, arith, err_from_is_err_and, word, name, whole, NameToken, OnToken, SimplePart, ExpressionPart, TokenPart, name_of, ExpressionBefore}
 use Rattle.kahn_syntax.specs.declared.lexeme.Keyword.TheVariants as keyword
-use Rattle.kahn_syntax.specs.Terminals.{word, name}
-use Rattle.kahn_syntax.specs.inner.Rungs.{whole}
-use Rattle.kahn_syntax.specs.inner.Machine.{NameToken, OnToken, SimplePart, ExpressionPart, TokenPart}
-use Rattle.kahn_syntax.specs.Drawn.{name_of}
-use Rattle.kahn_syntax.specs.inner.Reads.{ExpressionBefore}
 use Rattle.kahn_syntax.proofs.Spanning as S
 use Rattle.kahn_syntax.proofs.Stacks as K
 use Rattle.kahn_syntax.proofs.Moves.{then, then_stops, call_two_stops, token, no_name}

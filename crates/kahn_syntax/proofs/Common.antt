@@ -1,0 +1,38 @@
+-- What most proofs cite of the crates below and of specs/, passed on from one place.
+pub use Rattle.kahn_syntax.specs.Drawn.{action_of, argument_of, chosen_of, declaration_of, expression_of, form_of, instance_of, name_of, operands_of, operands_row, program_of, statement_of, statements_of, statements_row}
+pub use Rattle.kahn_syntax.specs.Faults.{Begins, BeginsWithin, IsFault, IsNothing, IsOther, IsTooDeep, IsWhole, Placed, StandsAt}
+pub use Rattle.kahn_syntax.specs.Lexemes.{Closes, Gap, HasBytes, HasForm, IsBadCharacter, IsBlank, IsComment, IsCommentWord, IsDigit, IsLargeNumber, IsLetter, IsLexFault, IsLongName, IsLongest, IsOfClass, IsOpenComment, IsReached, IsRun, IsSign, IsSlice, IsSpelled, IsWord, IsWordByte, Lexed, Stands, bytes_of_sign, largest_number, letters_of, most_bytes, no_gap, then_blank, then_comment}
+pub use Rattle.kahn_syntax.specs.Lists.{AreAny, AreGroups, Between, Further, Grouped, IsGroup, SomeBetween, all_members, group, members_of}
+pub use Rattle.kahn_syntax.specs.Names.{Action, Argument, Assign, BadCharacter, Block', Bracket', Class, CommentOpen, Conditional', Declaration, Empty, Expected, Expression, Form, Held-Action-If-2, If', Instance, Keyword, Kind, Level, Level', Lexeme, More, Name, NameTooLong, Negate', None', Not', Nothing, NumberTooLarge, OneVariable, Operand, Operator, Or, Other, Parameter, Program, Refused, Repeat', Role, Row_of-Operand, Row_of-Statement, Sign, Some', Span, Statement, Stop, Sum, SyntaxFault, Taking, Term, TooDeep, TooLong, While', end_of-Operand, end_of-Statement, more_of-Operand, more_of-Statement}
+pub use Rattle.kahn_syntax.specs.Programs.{Argues, ArgumentTree, Arguments, DeclarationTree, Declarations, Declares, InstanceTree, Instances, Instantiates, MaybeSemicolon, ParameterTree, Parameters, ProgramTree, Spells, StandsFirst, VariableTree, Variables, channel, channels, declaration_nesting, declarations_nesting, further_groups_words, further_names_words, group_words, groups_words, instance, kind_terminal, names_words, nesting, parameter, process, program, role_words, taking_words, togethers_words}
+pub use Rattle.kahn_syntax.specs.Spans.{ActionSpans, ArgumentSpans, ArgumentsSpan, Covers, DeclarationSpans, DeclarationsSpan, DirectionSpans, ExpressionSpans, FormSpans, FurtherRowSpans, GroupSpans, GroupsSpan, InstanceSpans, InstancesSpan, IsPast, MayPart, NameSpans, NamesSpan, OperandRowSpans, OperandsSpan, OtherSpans, ParametersSpan, ProgramSpans, RoleSpans, StatementRowSpans, StatementSpans, StatementsSpan, Takes, TogetherSpans, TogethersSpan, VariablesSpan, kind_of, parameter_of, variable_of}
+pub use Rattle.kahn_syntax.specs.Terminals.{AreProper, First, IsProper, IsUnsigned, Terminal, name, sign, terminal, terminals, word}
+pub use Rattle.kahn_syntax.specs.Texts.{AreLexemes, IsProgram, IsTextFault}
+pub use Rattle.kahn_syntax.specs.Trees.{AreSome, ExpressionTree, Formed, FormedOperands, FormedStatement, FormedStatements, IsOne, IsSimple, OperandTrees, StatementTree, StatementTrees, assign, block, bracket, conditional, denial, empty, expression_nesting, expression_words, further_words, if_else, if_then, level, negation, no_operand, no_statement, number, operand, operands_nesting, operands_words, operator_terminal, print, rank, repeat, send, statement, statement_nesting, statement_words, statements_nesting, statements_words, truth, truth_terminal, variable, wait, while_do}
+pub use Rattle.kahn_syntax.specs.declared.lexeme.Class.TheVariants.{Number, Word}
+pub use Rattle.kahn_syntax.specs.declared.lexeme.Keyword.TheVariants.{And, Begin, Channel, Div, Do, Else, End, False, If, In, Input, Integer, Logical, Mod, On, Out, Output, Par, Print, Process, Repeat, Send, Then, True, Wait, While}
+pub use Rattle.kahn_syntax.specs.declared.lexeme.Sign.TheVariants.{AtLeast, AtMost, Becomes, Close, Comma, Equal, Greater, Less, Minus, Not, Open, Plus, Semicolon, Times, Unequal}
+pub use Rattle.kahn_syntax.specs.declared.parser.cursor.Stop.TheVariants.{NoMemory}
+pub use Rattle.kahn_syntax.specs.inner.Items.{IsFaultAt}
+pub use Rattle.kahn_syntax.specs.inner.Machine.{ArgumentPart, ArgumentsPart, ArgumentsTail, BecomesToken, BeginToken, ChannelToken, CloseToken, CommaToken, DeclarationPart, DeclarationsPart, DoToken, ElseTail, ElseToken, EndToken, ExpressionPart, Fate, GroupPart, GroupsPart, GroupsTail, IfToken, InstancePart, InstancesTail, LastTail, LevelPart, NameToken, NamesTail, NotToken, NumberToken, OnToken, OpenToken, OperatorsPart, ParToken, Part, ProcessPart, ProcessToken, ProgramPart, Refuses, RolePart, SemicolonToken, SimplePart, StatementPart, StatementsTail, Tail, TailPart, TakingPart, ThenToken, Token, TokenPart, TooFar, VariablesPart, Whole, again, channels_then, class_of, fate, goes_on, lead, leads, leads_declaration, leads_kind, levels, may_end, onward, step, step_argument, step_arguments, step_declaration, step_declarations, step_denial, step_expression, step_factor, step_instance, step_kind, step_operator, step_or, step_process, step_program, step_relation, step_role, step_simple, step_statement, step_taking, step_whole, takes, token_of}
+pub use Rattle.kahn_syntax.specs.inner.Reads.{AreSound, ExpressionBefore, ExpressionRead, Fits, Halts, IsAbsent, IsSound, Moves, Reads, StatementRead, Stops, head_parts, joined}
+pub use Rattle.kahn_syntax.specs.inner.Rungs.{Lacks, Rung, ands, at, denials, factors, operator_of, ors, rank_or, relations, rung_of, sums, terms, tighter, whole}
+pub use Rattle.kahn_tree.specs.declared.tree.Action.{items-the_row-Statement, items_hidden-the_row-Statement-0}
+pub use Rattle.kahn_tree.specs.declared.tree.Action.TheBlock.{hidden-the_row-Statement-0}
+pub use Rattle.kahn_tree.specs.declared.tree.Form.{items-the_row-Operand, items_hidden-the_row-Operand-0}
+pub use Rattle.kahn_tree.specs.declared.tree.Form.TheBlock.{hidden-the_row-Operand-0}
+pub use Rattle.kahn_tree.specs.declared.tree.Variable.{Variable}
+pub use Rattle.std.proofs.Common.{Bool, Err, Global, IfNone, List, None, Ok, Option, Result, Some, Vec, [], add-one, ap, append_assoc, arith, bytes_eq, cond, drop, false, find, get_or, inl, inr, length, length-append, length-drop, length-take, lit<, lit≤, map, max, neg_ℤ, pos, refl, rules, subst, suc, sym, take, true, true≢false, vec_len, w64, zero, ℕ, ℤ, ⊎_elim, ◌*◌, ◌++◌, ◌+◌, ◌-◌, ◌<◌, ◌==◌, ◌∙◌, ◌∷◌, ◌≡◌, ◌≢◌, ◌≤◌, ◌⊎◌}
+pub use Rattle.std.proofs.Math.Seq.{drop-cons}
+pub use Rattle.std.proofs.lemmas.Bool.Decides.{nat_tests}
+pub use Rattle.std.proofs.lemmas.Grind.{common_steps}
+pub use Rattle.std.proofs.lemmas.Int.{to_z-of_z}
+pub use Rattle.std.proofs.lemmas.List.{append-nil, drop_more, get_or-drop, get_or-take, get_or_past, length-map, map-append, take-append-drop, take_all}
+pub use Rattle.std.proofs.lemmas.List.Elements.{All-cons, All-head, All-nil, All-tail}
+pub use Rattle.std.proofs.lemmas.Result.{IfErr-weaker, err_from_is_err_and}
+pub use Rattle.std.proofs.lemmas.Str.{IsCharBoundary-after_ascii, IsCharBoundary-past_char, IsCharBoundary-start, IsUtf8-drop}
+pub use Rattle.std.proofs.lemmas.Str.Parse.{IsNumeralModel, numerals_by_value, parse_signed_digits, tells_by_index}
+pub use Rattle.std.specs.Char.{to_ascii_lowercase}
+pub use Rattle.std.specs.Int.{IsInRange}
+pub use Rattle.std.specs.Prelude.{All, FitsSigned, IfOk, IsCharBoundary, IsUtf8, MatchResult, codes, nat_le, slice_range}
+pub use Rattle.std.specs.Str.Parse.{ParsesSigned, digits_value}
