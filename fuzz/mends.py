@@ -1,4 +1,4 @@
-"""Random texts with a fault of the grammar: what kahn_explain tells of changes of one lexeme and of blocks against what reference.py finds.
+"""Random texts with a fault of the grammar: what kahn_explain tells of changes of one lexeme, habits, blocks and comments against what reference.py finds.
 
     mends.py KAHN_EXPLAIN [COUNT] [SEED]     the same seed makes the same texts; where none is given it is chosen at random
 
@@ -6,6 +6,7 @@ Each change beside the fault is tried, with each class of lexemes. A difference 
 """
 import os
 import random
+import re
 import subprocess
 import sys
 import tempfile
@@ -89,7 +90,7 @@ def mends(text, lexemes, at):
 
 
 def told(changes, lexemes, at):
-    """The first three that are told: leaving out the `;` before an `else` first, and no operator in the place of a name."""
+    """The first three: leaving out the `;` before an `else` first, no operator in the place of a name, and no `print` for a `wait`."""
     last = lexemes[at - 1][:2] if at > 0 else None
     found = lexemes[at][:2] if at < len(lexemes) else None
     name = {"before": last, "here": found}
@@ -98,6 +99,8 @@ def told(changes, lexemes, at):
         return change[:2] == ("before", None) and last == ("sign", ";") and found == ("word", "else")
 
     def is_never(change):
+        if change[1] == ("word", "print") and change[0] != "before" and found == ("word", "wait"):
+            return True
         return change[1] in OPERATORS and (name.get(change[0]) or ("",))[0] == "name"
 
     left = [change for change in changes if not is_never(change)]
@@ -159,11 +162,61 @@ def blocks(text, lexemes, at, is_mended):
     return lead + listed(items[-3:]) if items else None
 
 
+def may_stand(lexemes, at, one):
+    """Whether the lexemes before begin a program with this one behind them."""
+    fault = fault_of(lexemes[:at] + [(*one, 0, 0)], 0)
+    return fault is None or fault.text not in (GRAMMAR[0], GRAMMAR[2])
+
+
 def advice(lexemes, at):
-    """What is said of a statement behind `then` that isn't a simple one."""
-    if 0 < at < len(lexemes) and lexemes[at - 1][:2] == ("word", "then") and lexemes[at][:2] in (("word", "if"), ("word", "while"), ("word", "repeat")):
-        return f"{'an' if lexemes[at][1] == 'if' else 'a'} `{lexemes[at][1]}` behind `then` stands between `begin` and `end`"
+    """What is said of habits of other languages, by what stands before and what may stand there."""
+    if at == len(lexemes):
+        return None
+    lead, (what, found) = lexemes[at - 1][1] if at and lexemes[at - 1][0] in ("word", "sign") else None, lexemes[at][:2]
+    begins = lead in ("begin", "do", "else", "repeat", ";")
+    if what not in ("word", "sign"):
+        return None
+    if lead == "then" and found in ("if", "while", "repeat"):
+        return f"{'an' if found == 'if' else 'a'} `{found}` behind `then` stands between `begin` and `end`"
+    if found == "wait" and (begins or lead == "then"):
+        return "`wait(C)` is a value: a statement takes one by `X := wait(C)`"
+    if (begins and found == "(") or (lead == "(" and found == "*"):
+        return "a comment goes from `comment` to `;`"
+    if lead == found == "=":
+        return "equal is one `=`"
+    if (lead, found) == (":=", "<"):
+        return "a value is taken by `wait(C)`"
+    if found in (":=", "=") and may_stand(lexemes, at, ("sign", ",")):
+        return "a variable begins as 0 or `false`; a statement assigns to it, `X := E`"
+    if found == ":=":
+        return "equal is `=`; `:=` assigns to a name, in a statement of its own"
+    if found in (";", "end", "else") and may_stand(lexemes, at, ("word", "on")):
+        return "`on` and a channel stand behind the value: `send E on C`"
+    if found in (";", "end", "else", "<", "*", "+", "-") and may_stand(lexemes, at, ("sign", ":=")):
+        return "a statement that begins with a name assigns to it, `X := E`; `send E on C` sends a value"
     return None
+
+
+CODE = re.compile(rb":=|(?<![A-Za-z0-9_])wait[ \t\r\n]*\(|^[ \t\r]*(?:send|begin|end)(?![A-Za-z0-9_])", re.I | re.M)
+
+
+def comment(text, lexemes, at):
+    """What is said of the last comment that ends beside the place, or goes on over what reads like a part of a program."""
+    ends = [0] + [x[3] for x in lexemes[:at]]
+    begins = [x[2] for x in lexemes[:at]] + [lexemes[at][2] if at < len(lexemes) else len(text)]
+    told = None
+    for start, stop in zip(ends, begins):
+        while start < stop:
+            if text[start] in b" \t\r\n":
+                start += 1
+                continue
+            end = text.index(b";", start) + 1
+            rest, inner = text[end:begins[-1]], text[start:end].partition(b"\n")[2]
+            if b"\n" not in rest or not rest.strip(b" \t\r\n") or CODE.search(inner):
+                verb = "goes on to" if inner else "ends with"
+                told = f"the comment at {place(text, start)} {verb} the `;` at {place(text, end - 1)}"
+            start = end
+    return told
 
 
 def broken(rng):
@@ -180,7 +233,8 @@ def one(program, room, seed):
     text, lexemes, at = broken(random.Random(seed))
     changes = mends(text, lexemes, at)
     mended = line_of(changes, told(changes, lexemes, at))
-    wanted = [line for line in (mended, advice(lexemes, at), blocks(text, lexemes, at, mended is not None)) if line]
+    lines = (mended, advice(lexemes, at), blocks(text, lexemes, at, mended is not None), comment(text, lexemes, at))
+    wanted = [line for line in lines if line]
     path = f"{room}/{seed}.kahn"
     with open(path, "wb") as it:
         it.write(text)

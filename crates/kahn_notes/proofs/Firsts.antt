@@ -1,5 +1,5 @@
 -- The changes that are told, and their words.
-use Rattle.std.proofs.Common.{◌≡◌, ◌<◌, ℕ, List, ◌++◌, length, take, sym, ap, ◌∙◌, append_assoc, arith}
+use Rattle.std.proofs.Common.{◌≡◌, ◌<◌, ℕ, List, [], ◌++◌, append-nil, length, take, sym, ap, ◌∙◌, append_assoc, arith}
 use Rattle.std.proofs.lemmas.List.{take_all}
 use Rattle.kahn_wanted.specs.declared.changes.Change.{Change}
 
@@ -11,3 +11,11 @@ all_of_few xs few = sym (take_all 3 xs (omega (arith, few)))
 pub joined : (old a b l e one two new : List ℕ) → one ≡ old ++ (a ++ b) → two ≡ one ++ l → new ≡ two ++ e → new ≡ old ++ (a ++ (b ++ (l ++ e)))
 joined old a b l e one two new p q r =
     r ∙ ap (λ t. t ++ e) (q ∙ ap (λ t. t ++ l) p) ∙ append_assoc (old ++ (a ++ b)) l e ∙ append_assoc old (a ++ b) (l ++ e) ∙ ap (λ t. old ++ t) (append_assoc a b (l ++ e))
+
+-- words that come in five
+pub in_five : (s a v t b one two three four five : List ℕ) → one ≡ s → two ≡ one ++ a → three ≡ two ++ v → four ≡ three ++ t → five ≡ four ++ b →
+    five ≡ s ++ (a ++ (v ++ (t ++ (b ++ []))))
+in_five s a v t b one two three four five p q r u w =
+    w ∙ ap (λ l. l ++ b) (u ∙ ap (λ l. l ++ t) (r ∙ ap (λ l. l ++ v) (q ∙ ap (λ l. l ++ a) p)))
+    ∙ append_assoc ((s ++ a) ++ v) t b ∙ append_assoc (s ++ a) v (t ++ b) ∙ append_assoc s a (v ++ (t ++ b))
+    ∙ ap (λ l. s ++ (a ++ (v ++ (t ++ l)))) (sym (append-nil b))

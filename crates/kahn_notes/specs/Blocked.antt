@@ -2,7 +2,6 @@
 use Rattle.std.specs.Prelude.{ℕ, Bool, true, false, not, ◌&&◌, ◌-◌, List, [], ◌∷◌, ◌++◌, Option, Some, None, codes, decimal, drop, if◌then◌else◌, length, min}
 use Rattle.std.specs.List.{concat}
 use Rattle.kahn_tree.specs.Place.{line_of, column_of}
-use Rattle.kahn_tree.specs.declared.span.Span.{Span}
 use Rattle.kahn_syntax.specs.declared.lexeme.Class.{Class}
 use Rattle.kahn_syntax.specs.declared.lexeme.Class.TheVariants as class
 use Rattle.kahn_syntax.specs.declared.lexeme.Keyword.TheVariants as word
@@ -22,8 +21,8 @@ line_there text from = line_of text (min from (length text))
 abbrev pub column_there : List ℕ → ℕ → ℕ
 column_there text from = column_of text (min from (length text))
 
-abbrev pub at_words : List ℕ → Span → List ℕ
-at_words text at = concat (codes " at " ∷ decimal (line_there text at.from) ∷ codes ":" ∷ decimal (column_there text at.from) ∷ [])
+abbrev pub at_words : List ℕ → ℕ → List ℕ
+at_words text from = concat (codes " at " ∷ decimal (line_there text from) ∷ codes ":" ∷ decimal (column_there text from) ∷ [])
 
 -- ---- lists of them
 
@@ -40,11 +39,11 @@ begin_words (Some x) = begin_class_words x.what
 begin_words None = codes "`begin`"
 
 abbrev pub block_item : List ℕ → Block → List ℕ
-block_item text b = begin_words b.before ++ at_words text b.begin.span
+block_item text b = begin_words b.before ++ at_words text b.begin.span.from
 
 -- what leads to a statement without a block
 abbrev pub bare_item : List ℕ → Lexeme → List ℕ
-bare_item text x = any_words x.what ++ at_words text x.span
+bare_item text x = any_words x.what ++ at_words text x.span.from
 
 -- with commas between, and `or` before the last
 abbrev pub listed_blocks : List ℕ → List Block → List ℕ

@@ -1,3 +1,4 @@
+pub mod Advice
 pub mod Blocked
 pub mod Notes
 pub mod Order

@@ -1,5 +1,5 @@
 -- Believed. What is said of a place where a text goes wrong: what stands there, what may stand there, and what mends it.
-use Rattle.std.specs.Prelude.{◌≡◌, ◌==◌, ◌&&◌, ℕ, Bool, true, false, List, [], ◌∷◌, ◌++◌, Option, Some, None, codes, decimal, if◌then◌else◌, is_some, length, map, min, nat_le, nat_lt, slice_range, string_bytes, take}
+use Rattle.std.specs.Prelude.{◌≡◌, ◌==◌, ◌&&◌, ℕ, List, [], ◌∷◌, ◌++◌, ◌-◌, Option, Some, None, codes, decimal, if◌then◌else◌, is_some, length, map, min, nat_le, nat_lt, option_map, slice_range, string_bytes, take}
 use Rattle.std.specs.Fmt.{signed_decimal}
 use Rattle.std.specs.List.{concat}
 use Rattle.std.specs.declared.alloc.Global.{Global}
@@ -10,7 +10,6 @@ use Rattle.kahn_syntax.specs.declared.fault.What.{What}
 use Rattle.kahn_syntax.specs.declared.fault.What.TheVariants.{More, Nothing, Other}
 use Rattle.kahn_syntax.specs.declared.lexeme.Class.{Class}
 use Rattle.kahn_syntax.specs.declared.lexeme.Class.TheVariants as class
-use Rattle.kahn_syntax.specs.declared.lexeme.Keyword.TheVariants as word
 use Rattle.kahn_syntax.specs.declared.lexeme.Lexeme.{Lexeme}
 use Rattle.kahn_syntax.specs.Terminals.{IsProper}
 use Rattle.kahn_wanted.specs.declared.groups.Group.{Group}
@@ -23,10 +22,12 @@ use Rattle.kahn_wanted.specs.declared.changes.Change.{Change}
 use Rattle.kahn_wanted.specs.declared.mended.Mends.{Mends}
 use Rattle.kahn_wanted.specs.declared.blocks.Blocks.{Blocks}
 use Rattle.kahn_wanted.specs.Blocks.{AreBlocksOf}
+use Rattle.kahn_wanted.specs.Comments.{IsCommentBefore}
 use Rattle.kahn_wanted.specs.Mends.{AreMendsOf}
 use Rattle.kahn_wanted.specs.Wanted.{IsUnexpected}
 use Rattle.kahn_marks.specs.Marks.{marked, times_over}
-use Rattle.kahn_notes.specs.Blocked.{blocks_words}
+use Rattle.kahn_notes.specs.Advice.{advice}
+use Rattle.kahn_notes.specs.Blocked.{at_words, blocks_words, line_there}
 use Rattle.kahn_notes.specs.Order.{ranked}
 use Rattle.kahn_notes.specs.Words.{any_words, keyword_words, separator, sign_words}
 
@@ -131,31 +132,33 @@ abbrev pub remark_or_none : List ℕ → Span → Option (List ℕ) → List ℕ
 remark_or_none text span (Some words) = remark text span words
 remark_or_none text span None = []
 
--- what is said where a statement stands behind `then` that isn't a simple one
-abbrev pub nested_words : Class → Option (List ℕ)
-nested_words (class.Word word.If) = Some (codes "an `if` behind `then` stands between `begin` and `end`")
-nested_words (class.Word word.While) = Some (codes "a `while` behind `then` stands between `begin` and `end`")
-nested_words (class.Word word.Repeat) = Some (codes "a `repeat` behind `then` stands between `begin` and `end`")
-nested_words _ = None
-
-abbrev pub is_then : Class → Bool
-is_then (class.Word word.Then) = true
-is_then _ = false
-
-abbrev pub advice : Option Lexeme → Option Lexeme → Option (List ℕ)
-advice (Some before) (Some found) = if is_then before.what then nested_words found.what else None
-advice (Some before) None = None
-advice None found = None
+-- what is said of the changes, where they were looked for
+abbrev pub changes_words : List ℕ → Option Lexeme → Option Mends → Option (List ℕ)
+changes_words text found (Some m) = mends_words text found m
+changes_words text found None = None
 
 -- what stands below a note on what was found
-abbrev pub mended_text : List ℕ → Span → Option Lexeme → Option Mends → Blocks → List ℕ
-mended_text text span found None b = remark_or_none text span (blocks_words text found false b)
-mended_text text span found (Some m) b =
-    remark_or_none text span (mends_words text found m) ++ (remark_or_none text span (advice m.before found)
-    ++ remark_or_none text span (blocks_words text found (is_some (mends_words text found m)) b))
+abbrev pub help_text : List ℕ → Span → Unexpected → Option Mends → Blocks → List ℕ
+help_text text span u m b =
+    remark_or_none text span (changes_words text u.found m) ++ (remark_or_none text span (advice b.before u.found u.wanted)
+    ++ remark_or_none text span (blocks_words text u.found (is_some (changes_words text u.found m)) b))
+
+-- what is said of a comment before it
+abbrev pub comment_verb : List ℕ → Span → List ℕ
+comment_verb text c = if line_there text c.from == line_there text (c.to - 1) then codes " ends with" else codes " goes on to"
+
+abbrev pub comment_words : List ℕ → Span → List ℕ
+comment_words text c = concat (codes "the comment" ∷ at_words text c.from ∷ comment_verb text c ∷ codes " the `;`" ∷ at_words text (c.to - 1) ∷ [])
+
+abbrev pub comment_text : List ℕ → Span → Option Span → List ℕ
+comment_text text span c = remark_or_none text span (option_map (comment_words text) c)
+
+-- the note on what stands there, and below it the comment before it that has to do with it
+abbrev pub IsCommented : List ℕ → List ℕ → Span → List ℕ → List ℕ → Type 0
+IsCommented path text span words note = (c : Option Span) × IsCommentBefore text span.from c × (note ≡ marked path text span words ++ comment_text text span c)
 
 -- the note on that place of the text of a file
 abbrev pub IsNote : List ℕ → List ℕ → Span → What → String Global → Type 0
 IsNote path text span what note = (u : Unexpected) × IsUnexpected text span what u × (m : Option Mends) × AreMendsOf text span what m
-    × (b : Blocks) × AreBlocksOf text span what b
-    × (string_bytes note ≡ marked path text span (unexpected_words text what u) ++ mended_text text span u.found m b)
+    × (b : Blocks) × AreBlocksOf text span what b × (c : Option Span) × IsCommentBefore text span.from c
+    × (string_bytes note ≡ marked path text span (unexpected_words text what u) ++ (help_text text span u m b ++ comment_text text span c))

@@ -1,5 +1,5 @@
 -- Believed. Which changes that mend a text are told, and in which order: leaving out the `;` before an `else` first, and an operator in
--- the place of a name never, since that is seldom meant.
+-- the place of a name and `print` for a `wait` never, since they are seldom meant.
 use Rattle.std.specs.Prelude.{Bool, true, false, ◌&&◌, List, ◌++◌, Option, Some, None, if◌then◌else◌}
 use Rattle.std.specs.List.{filter}
 use Rattle.kahn_syntax.specs.declared.lexeme.Class.{Class}
@@ -8,7 +8,7 @@ use Rattle.kahn_syntax.specs.declared.lexeme.Keyword.TheVariants as word
 use Rattle.kahn_syntax.specs.declared.lexeme.Sign.TheVariants as sign
 use Rattle.kahn_syntax.specs.declared.lexeme.Lexeme.{Lexeme}
 use Rattle.kahn_wanted.specs.declared.changes.Spot.{Spot}
-use Rattle.kahn_wanted.specs.declared.changes.Spot.TheVariants.{Here, Before}
+use Rattle.kahn_wanted.specs.declared.changes.Spot.TheVariants.{Between, Here, Before}
 use Rattle.kahn_wanted.specs.declared.changes.Change.{Change}
 use Rattle.kahn_notes.specs.declared.order.Rank.{Rank}
 use Rattle.kahn_notes.specs.declared.order.Rank.TheVariants.{First, Then, Never}
@@ -59,11 +59,28 @@ is_operator_class (class.Sign sign.Greater) = true
 is_operator_class (class.Sign sign.AtLeast) = true
 is_operator_class _ = false
 
+abbrev pub is_wait_class : Class → Bool
+is_wait_class (class.Word word.Wait) = true
+is_wait_class _ = false
+
+abbrev pub finds_wait : Option Lexeme → Bool
+finds_wait (Some x) = is_wait_class x.what
+finds_wait None = false
+
+abbrev pub is_print : Class → Bool
+is_print (class.Word word.Print) = true
+is_print _ = false
+
+-- of one put before a `wait` or in its place
+abbrev pub wait_rank : Class → Option Lexeme → Rank
+wait_rank c found = if is_print c && finds_wait found then Never else Then
+
 -- of a change beside what was found, behind what stands before it
 abbrev pub change_rank : Option Lexeme → Option Lexeme → Spot → Option Class → Rank
 change_rank before found Before None = if is_semicolon before && is_else found then First else Then
 change_rank before found Before (Some c) = if is_operator_class c && is_name before then Never else Then
-change_rank before found Here (Some c) = if is_operator_class c && is_name found then Never else Then
+change_rank before found Here (Some c) = if is_operator_class c && is_name found then Never else wait_rank c found
+change_rank before found Between (Some c) = wait_rank c found
 change_rank before found _ _ = Then
 
 abbrev pub of_rank : Rank → Option Lexeme → Option Lexeme → List Change → List Change

@@ -17,7 +17,7 @@ use std::alloc::{AllocError, Global};
 const FEW: usize = 3;
 
 /// The line and the column of a byte of a text, or of its end where the text has no such byte.
-fn place(text: &str, from: usize) -> (usize, usize)
+pub(crate) fn place(text: &str, from: usize) -> (usize, usize)
     ensures line { result.0 ≡ line_there text.now from }
     ensures column { result.1 ≡ column_there text.now from }
 {
@@ -26,11 +26,11 @@ fn place(text: &str, from: usize) -> (usize, usize)
     span.place(text)
 }
 
-/// Adds where a lexeme stands.
-fn add_at(words: &mut String, text: &str, at: Span) -> Result<(), AllocError>
-    ensures { IfOk result (λ _. string_bytes words.new ≡ string_bytes words.old ++ at_words text.now at) }
+/// Adds where a byte stands.
+pub(crate) fn add_at(words: &mut String, text: &str, from: usize) -> Result<(), AllocError>
+    ensures { IfOk result (λ _. string_bytes words.new ≡ string_bytes words.old ++ at_words text.now from) }
 {
-    let (line, column) = place(text, at.from);
+    let (line, column) = place(text, from);
     let mut first = Buffer::new();
     let mut second = Buffer::new();
     let line = first.format(line);
@@ -59,7 +59,7 @@ fn add_block(words: &mut String, text: &str, block: Block) -> Result<(), AllocEr
     ensures { IfOk result (λ _. string_bytes words.new ≡ string_bytes words.old ++ block_item text.now block) }
 {
     words.push_str(begin_words(block.before))?;
-    add_at(words, text, block.begin.span)
+    add_at(words, text, block.begin.span.from)
 }
 
 /// Adds what leads to a statement.
@@ -67,7 +67,7 @@ fn add_head(words: &mut String, text: &str, head: Lexeme) -> Result<(), AllocErr
     ensures { IfOk result (λ _. string_bytes words.new ≡ string_bytes words.old ++ bare_item text.now head) }
 {
     words.push_str(class_words(head.what))?;
-    add_at(words, text, head.span)
+    add_at(words, text, head.span.from)
 }
 
 /// Adds blocks with commas between, and `or` before the last.

@@ -4,6 +4,7 @@
 
 mod advice;
 mod blocked;
+mod commented;
 mod listing;
 mod mended;
 mod order;
@@ -11,4 +12,5 @@ mod unexpected;
 mod words;
 
 // For the crates above.
+pub use commented::commented_note;
 pub use unexpected::unexpected_note;

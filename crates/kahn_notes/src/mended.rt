@@ -3,7 +3,7 @@
 ghost use Rattle.std.specs.Prelude.{◌≡◌, ◌++◌, IfOk, IfSome, None, Some, is_some, length, map, option_map, string_bytes, take};
 ghost use Rattle.kahn_wanted.specs.declared.changes.Spot.TheVariants.{Before};
 ghost use Rattle.kahn_notes.specs.Blocked.{blocks_words};
-ghost use Rattle.kahn_notes.specs.Notes.{MayFind, article, change_lead, change_words, last_words, lead_words, listed, mended_text, mends_words, number_words, put_words, remark, remark_or_none, some_words};
+ghost use Rattle.kahn_notes.specs.Notes.{MayFind, article, change_lead, change_words, changes_words, help_text, last_words, lead_words, listed, mends_words, number_words, put_words, remark, remark_or_none, some_words};
 
 use crate::advice::advice;
 use crate::blocked::blocks_words;
@@ -14,7 +14,7 @@ use crate::words::class_words;
 use itoa::Buffer;
 use kahn_marks::{add, add_repeated};
 use kahn_syntax::{Class, Lexeme, Span};
-use kahn_wanted::{Blocks, Change, Mends, Spot};
+use kahn_wanted::{Blocks, Change, Mends, Spot, Unexpected};
 use std::alloc::{AllocError, Global};
 
 /// How many changes are told.
@@ -204,7 +204,12 @@ fn mends_words(
 }
 
 /// Adds a line below the carets under a part.
-fn add_remark(note: &mut String, text: &str, span: Span, words: &str) -> Result<(), AllocError>
+pub(crate) fn add_remark(
+    note: &mut String,
+    text: &str,
+    span: Span,
+    words: &str,
+) -> Result<(), AllocError>
     ensures { IfOk result (λ _. string_bytes note.new ≡ string_bytes note.old ++ remark text.now span words.now) }
 {
     let from = span.from.min(text.len());
@@ -271,25 +276,41 @@ fn add_mends(
     }
 }
 
-/// Adds what is said of the changes and of the blocks, and advice on what was found, where something is.
-pub(crate) fn add_help(
+/// Adds what is said of the changes, where they were looked for, and tells whether something is.
+fn add_mends_or_none(
     note: &mut String,
     alloc: Global,
     text: &str,
     span: Span,
     found: Option<Lexeme>,
     mends: &Option<Mends>,
+) -> Result<bool, AllocError>
+    requires { IfSome mends.now (λ m. MayFind text.now m.before) }
+    ensures told { IfOk result (λ told. told ≡ is_some (changes_words text.now found mends.now)) }
+    ensures text { IfOk result (λ _. string_bytes note.new ≡ string_bytes note.old ++ remark_or_none text.now span (changes_words text.now found mends.now)) }
+{
+    match mends {
+        Some(mends) => add_mends(note, alloc, text, span, found, mends),
+        None => Ok(false),
+    }
+}
+
+/// Adds what is said of the changes and of the blocks, and advice on what was found, where something is.
+pub(crate) fn add_help(
+    note: &mut String,
+    alloc: Global,
+    text: &str,
+    span: Span,
+    unexpected: &Unexpected,
+    mends: &Option<Mends>,
     blocks: &Blocks,
 ) -> Result<(), AllocError>
     requires { IfSome mends.now (λ m. MayFind text.now m.before) }
-    ensures { IfOk result (λ _. string_bytes note.new ≡ string_bytes note.old ++ mended_text text.now span found mends.now blocks.now) }
+    ensures { IfOk result (λ _. string_bytes note.new ≡ string_bytes note.old ++ help_text text.now span unexpected.now mends.now blocks.now) }
 {
-    match mends {
-        Some(mends) => {
-            let mended = add_mends(note, alloc, text, span, found, mends)?;
-            add_remark_or_none(note, text, span, advice(mends.before, found))?;
-            add_blocks_remark(note, alloc, text, span, found, mended, blocks)
-        }
-        None => add_blocks_remark(note, alloc, text, span, found, false, blocks),
-    }
+    let found = unexpected.found;
+    let mended = add_mends_or_none(note, alloc, text, span, found, mends)?;
+    let words = advice(blocks.before, found, &unexpected.wanted);
+    add_remark_or_none(note, text, span, words)?;
+    add_blocks_remark(note, alloc, text, span, found, mended, blocks)
 }

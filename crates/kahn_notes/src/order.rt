@@ -1,7 +1,7 @@
 //! Which changes are told, and in which order.
 
 ghost use Rattle.std.specs.Prelude.{◌≡◌, ◌++◌, IfOk, take};
-ghost use Rattle.kahn_notes.specs.Order.{is_else, is_name, is_operator_class, is_semicolon, of_rank, change_rank, ranked, same_rank};
+ghost use Rattle.kahn_notes.specs.Order.{is_else, is_name, is_operator_class, is_print, is_semicolon, finds_wait, of_rank, change_rank, ranked, same_rank};
 
 use kahn_syntax::{Class, Keyword, Lexeme, Sign};
 use kahn_wanted::{Change, Spot};
@@ -60,6 +60,23 @@ pub(crate) fn is_name(lexeme: Option<Lexeme>) -> bool
     }
 }
 
+/// Whether it is the keyword `wait`.
+fn finds_wait(lexeme: Option<Lexeme>) -> bool
+    ensures { result ≡ finds_wait lexeme }
+{
+    match lexeme {
+        Some(lexeme) => matches!(lexeme.what, Class::Word(Keyword::Wait)),
+        None => false,
+    }
+}
+
+/// Whether it is the keyword `print`.
+fn is_print(class: Class) -> bool
+    ensures { result ≡ is_print class }
+{
+    matches!(class, Class::Word(Keyword::Print))
+}
+
 /// Whether it is an operator.
 fn is_operator_class(class: Class) -> bool
     ensures { result ≡ is_operator_class class }
@@ -90,6 +107,8 @@ fn change_rank(before: Option<Lexeme>, found: Option<Lexeme>, change: Change) ->
         (Spot::Before, None) if is_semicolon(before) && is_else(found) => Rank::First,
         (Spot::Before, Some(class)) if is_operator_class(class) && is_name(before) => Rank::Never,
         (Spot::Here, Some(class)) if is_operator_class(class) && is_name(found) => Rank::Never,
+        (Spot::Here, Some(class)) if is_print(class) && finds_wait(found) => Rank::Never,
+        (Spot::Between, Some(class)) if is_print(class) && finds_wait(found) => Rank::Never,
         _ => Rank::Then,
     }
 }

@@ -6,6 +6,7 @@ ghost use Rattle.kahn_syntax.specs.Terminals.{IsProper};
 ghost use Rattle.kahn_syntax.specs.Texts.{IsTextFault};
 ghost use Rattle.kahn_notes.specs.Notes.{IsNote, MayFind, found_words, lexeme_words, unexpected_words};
 
+use crate::commented::add_comment;
 use crate::listing::{add_listed, pieces_of};
 use crate::mended::add_help;
 use crate::words::{keyword_words, sign_words};
@@ -13,7 +14,7 @@ use itoa::Buffer;
 use kahn_marks::{add, marked};
 use kahn_syntax::{Class, Lexeme, Span, What};
 use kahn_tree::NoMemory;
-use kahn_wanted::{Unexpected, blocks_at, mends_at, wanted_at};
+use kahn_wanted::{Unexpected, blocks_at, comment_before, mends_at, wanted_at};
 use std::alloc::{AllocError, Global};
 
 /// Adds what a lexeme is.
@@ -68,8 +69,9 @@ fn words_of(
 
 /// A note on a place where a text goes wrong: what stands there, what may stand there, and the changes of one lexeme there with
 /// which the text is a program, where there are one to seven and the text has at most 8,192 lexemes: three at most, the one first
-/// that is most likely meant, and none that puts an operator in the place of a name; that an `if`, a `while` or a `repeat` behind
-/// `then` stands in a block; and which blocks are open, or which statements have none. It refuses only where memory was refused.
+/// that is most likely meant, and none that puts an operator in the place of a name, or `print` before a `wait`; what the language has
+/// where a habit of others is found; which blocks are open, or which statements have none; and which comment before the place ends
+/// there or swallowed something. It refuses only where memory was refused.
 pub fn unexpected_note(
     alloc: Global,
     path: &str,
@@ -85,14 +87,8 @@ pub fn unexpected_note(
     let blocks = blocks_at(alloc, text, span, what)?;
     let words = words_of(alloc, text, what, &unexpected)?;
     let mut note = marked(alloc, path, text, span, words.as_str())?;
-    add_help(
-        &mut note,
-        alloc,
-        text,
-        span,
-        unexpected.found,
-        &mends,
-        &blocks,
-    )?;
+    add_help(&mut note, alloc, text, span, &unexpected, &mends, &blocks)?;
+    let comment = comment_before(alloc, text, span.from)?;
+    add_comment(&mut note, alloc, text, span, comment)?;
     Ok(note)
 }

@@ -2,5 +2,7 @@ mod Alike
 mod Answering
 mod Classes
 mod Front
+mod Gaps
 mod Splices
+pub mod Suspects
 mod Whole

@@ -1,4 +1,6 @@
 pub mod Blocks
+pub mod Comments
 pub mod Mends
+pub mod Swallowing
 pub mod Wanted
 pub mod inner

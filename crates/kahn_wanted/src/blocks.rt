@@ -119,7 +119,7 @@ fn bytes_between(text: &str, from: usize, to: usize) -> &[u8]
 }
 
 /// Whether a line ends among bytes.
-fn is_broken(bytes: &[u8]) -> bool
+pub(crate) fn is_broken(bytes: &[u8]) -> bool
     ensures { result ≡ list_any (λ b. b == 10) bytes.now }
 {
     bytes.iter().any(|byte| *byte == b'\n')

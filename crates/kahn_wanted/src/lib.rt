@@ -4,12 +4,16 @@
 mod asked;
 mod blocks;
 mod changes;
+mod comments;
 mod found;
 mod groups;
 mod mended;
+mod swallowing;
 
 pub use blocks::{Block, Blocks, blocks_at};
 pub use changes::{Change, Spot};
+pub use comments::{comment_before, comments_of};
 pub use found::{Unexpected, wanted_at};
 pub use groups::{Group, Wanted};
 pub use mended::{Mends, mends_at};
+pub use swallowing::swallows;

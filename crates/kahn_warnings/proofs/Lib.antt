@@ -1,6 +1,6 @@
 mod Lists
-mod Gaps
 mod Folding
 mod Holding
 mod Unchanged
 mod Unseen
+mod Reading

@@ -1,66 +1,21 @@
 -- Believed. Comments that go on over a line's end, and have the beginning of a statement behind that.
-use Rattle.std.specs.Prelude.{◌≡◌, ℕ, zero, suc, ◌+◌, ◌-◌, ◌≤◌, ◌<◌, Bool, true, false, ◌||◌, ◌&&◌, ◌==◌, not, IsTrue, List, [], ◌∷◌, codes, drop, length, slice_index}
-use Rattle.std.specs.Char.{eq_ignore_ascii_case, is_ascii_alphanumeric}
-use Rattle.kahn_syntax.specs.Lexemes.{IsBlank, IsComment, Stands}
-use Rattle.kahn_syntax.specs.declared.lexeme.Lexeme.{Lexeme}
+use Rattle.std.specs.Prelude.{ℕ, false, List, [], ◌∷◌}
+use Rattle.kahn_tree.specs.declared.span.Span.{Span}
+use Rattle.kahn_wanted.specs.Comments.{AreComments}
+use Rattle.kahn_wanted.specs.Swallowing.{Swallows}
 use Rattle.kahn_warnings.specs.declared.warning.Warning.{Warning}
 use Rattle.kahn_warnings.specs.declared.warning.WarningKind.TheVariants.{LongComment}
 
--- letters, digits and `_`
-abbrev pub is_of_word : ℕ → Bool
-is_of_word b = is_ascii_alphanumeric b || b == 95
+abbrev pub comment_warning : Span → Warning
+comment_warning c = record { kind = LongComment; span = c }
 
--- a text begins with this word, in any letter case, and no letter, digit or `_` goes on behind it
-abbrev pub has_word : List ℕ → List ℕ → Bool
-has_word [] [] = true
-has_word [] (b ∷ rest) = not (is_of_word b)
-has_word (c ∷ letters) [] = false
-has_word (c ∷ letters) (b ∷ rest) = eq_ignore_ascii_case c b && has_word letters rest
+-- these are the warnings of comments of a text, in order
+pub data CommentWarnings (text : List ℕ) : List Span → List Warning → Type 0 where
+  no_comment : CommentWarnings text [] []
+  passed_over : {c : Span} {cs : List Span} {ws : List Warning} → ¬ (Swallows false text c.from c.to) → CommentWarnings text cs ws → CommentWarnings text (c ∷ cs) ws
+  warned_of : {c : Span} {cs : List Span} {ws : List Warning} → Swallows false text c.from c.to → CommentWarnings text cs ws →
+      CommentWarnings text (c ∷ cs) (comment_warning c ∷ ws)
 
--- a space, a tab, a CR or an LF
-abbrev pub is_space : ℕ → Bool
-is_space b = b == 32 || b == 9 || b == 13 || b == 10
-
--- it begins with an opening bracket, or with blanks and one
-abbrev pub opens : List ℕ → Bool
-opens [] = false
-opens (b ∷ rest) = b == 40 || (is_space b && opens rest)
-
--- it begins with this word, in any letter case, and an opening bracket behind that
-abbrev pub has_call : List ℕ → List ℕ → Bool
-has_call [] rest = opens rest
-has_call (c ∷ letters) [] = false
-has_call (c ∷ letters) (b ∷ rest) = eq_ignore_ascii_case c b && has_call letters rest
-
--- before byte i stands the end of a line, or that and blanks
-abbrev pub begins_line : List ℕ → ℕ → Bool
-begins_line text zero = false
-begins_line text (suc i) = slice_index text i == 10 || (is_space (slice_index text i) && begins_line text i)
-
--- it begins with these bytes
-abbrev pub has_bytes : List ℕ → List ℕ → Bool
-has_bytes [] rest = true
-has_bytes (c ∷ bytes) [] = false
-has_bytes (c ∷ bytes) (b ∷ rest) = c == b && has_bytes bytes rest
-
--- `:=` begins at byte i, or a whole word `wait` with a bracket behind it, which the byte before isn't a part of, or a line with `send`
-abbrev pub is_statement_at : List ℕ → ℕ → Bool
-is_statement_at text i =
-    has_bytes (codes ":=") (drop i text)
-    || (not (is_of_word (slice_index text (i - 1))) && has_call (codes "wait") (drop i text))
-    || (begins_line text i && has_word (codes "send") (drop i text))
-
--- between bytes a and b a line ends, and one of them begins behind that
-abbrev pub Swallows : List ℕ → ℕ → ℕ → Type 0
-Swallows text a b = (e : ℕ) × (i : ℕ) × (a ≤ e) × (e < i) × (i < b) × (slice_index text e ≡ 10) × IsTrue (is_statement_at text i)
-
-abbrev pub comment_warning : ℕ → ℕ → Warning
-comment_warning a b = record { kind = LongComment; span = record { from = a; to = b } }
-
--- from byte a on the text is blanks, comments and lexemes, and these are the warnings of its comments, in order
-pub data CommentWarnings (text : List ℕ) : ℕ → List Warning → Type 0 where
-  at_the_end : CommentWarnings text (length text) []
-  behind_a_blank : {a : ℕ} {ws : List Warning} → IsBlank (slice_index text a) → CommentWarnings text (a + 1) ws → CommentWarnings text a ws
-  behind_a_lexeme : {ws : List Warning} (x : Lexeme) → Stands text x → CommentWarnings text x.span.to ws → CommentWarnings text x.span.from ws
-  behind_a_comment : {a b : ℕ} {ws : List Warning} → IsComment text a b → ¬ (Swallows text a b) → CommentWarnings text b ws → CommentWarnings text a ws
-  warned_of : {a b : ℕ} {ws : List Warning} → IsComment text a b → Swallows text a b → CommentWarnings text b ws → CommentWarnings text a (comment_warning a b ∷ ws)
+-- of all its comments
+abbrev pub AreCommentWarnings : List ℕ → List Warning → Type 0
+AreCommentWarnings text ws = (cs : List Span) × AreComments text 0 cs × CommentWarnings text cs ws

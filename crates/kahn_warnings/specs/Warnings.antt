@@ -15,7 +15,7 @@ use Rattle.kahn_tree.specs.declared.tree.Instance.{Instance}
 use Rattle.kahn_tree.specs.declared.tree.Declaration.{Declaration}
 use Rattle.kahn_tree.specs.declared.tree.Declaration.TheVariants as D
 use Rattle.kahn_tree.specs.declared.tree.Program.{Program}
-use Rattle.kahn_warnings.specs.Comments.{CommentWarnings}
+use Rattle.kahn_warnings.specs.Comments.{AreCommentWarnings}
 use Rattle.kahn_warnings.specs.Constants.{constant_of, constant_warnings, is_true}
 use Rattle.kahn_warnings.specs.Loops.{is_seen, never_ends}
 use Rattle.kahn_warnings.specs.Uses.{assigns, uses_name}
@@ -113,4 +113,4 @@ program_warnings t = flat_map (declaration_warnings t.instances.items) t.declara
 
 -- all that is warned of in a program of this text
 abbrev pub AreWarnings : List ℕ → Program → List Warning → Type 0
-AreWarnings text t ws = (comments : List Warning) × CommentWarnings text 0 comments × (ws ≡ comments ++ program_warnings t)
+AreWarnings text t ws = (comments : List Warning) × AreCommentWarnings text comments × (ws ≡ comments ++ program_warnings t)

@@ -1,230 +1,46 @@
 //! Comments that go on over a line's end, and have the beginning of a statement behind that.
 
-ghost use Rattle.std.specs.Prelude.{◌≡◌, ◌↔◌, ℕ, ◌+◌, ◌≤◌, ◌<◌, IfNone, IfOk, IfSome, IsTrue, length, slice_index};
-ghost use Rattle.kahn_syntax.specs.Lexemes.{Gap, IsBlank, IsComment};
-ghost use Rattle.kahn_warnings.specs.Comments.{CommentWarnings, Swallows, begins_line, has_bytes, has_call, has_word, is_of_word, is_space, is_statement_at, opens};
-ghost use Rattle.kahn_warnings.specs.inner.Passing.{Passed};
+ghost use Rattle.std.specs.Prelude.{◌≤◌, List, ◌∷◌, IfOk, length};
+ghost use Rattle.kahn_tree.specs.declared.span.Span.{Span};
+ghost use Rattle.kahn_wanted.specs.inner.Passing.{EndWithin};
+ghost use Rattle.kahn_warnings.specs.Comments.{AreCommentWarnings, CommentWarnings};
+ghost use Rattle.kahn_warnings.specs.inner.Reading.{WarnsOn};
 
 use crate::warning::{Warning, WarningKind};
-use kahn_syntax::lex;
 use kahn_tree::{NoMemory, Span};
+use kahn_wanted::{comments_of, swallows};
 use std::alloc::{AllocError, Global};
 
-/// Whether it is a space, a tab, a CR or an LF.
-fn is_blank(b: u8) -> bool
-    ensures blank { IsTrue result ↔ IsBlank b }
-    ensures space { result ≡ is_space b }
-{
-    b == b' ' || b == b'\t' || b == b'\r' || b == b'\n'
-}
-
-/// Whether it is a letter, a digit or `_`.
-fn is_of_word(b: u8) -> bool
-    ensures { result ≡ is_of_word b }
-{
-    b.is_ascii_alphanumeric() || b == b'_'
-}
-
-/// Whether a text begins with a word, in any letter case, and no letter, digit or `_` goes on behind it.
-fn has_word(word: &[u8], text: &[u8]) -> bool
-    ensures { result ≡ has_word word.now text.now }
-{
-    match (word.split_first(), text.split_first()) {
-        (None, None) => true,
-        (None, Some((byte, _))) => !is_of_word(*byte),
-        (Some(_), None) => false,
-        (Some((letter, letters)), Some((byte, rest))) => {
-            letter.eq_ignore_ascii_case(byte) && has_word(letters, rest)
-        }
-    }
-}
-
-/// Whether a text begins with an opening bracket, or with blanks and one.
-fn opens(text: &[u8]) -> bool
-    ensures { result ≡ opens text.now }
-{
-    for byte in text {
-        if *byte == b'(' {
-            return true;
-        }
-        if !is_blank(*byte) {
-            return false;
-        }
-    }
-    false
-}
-
-/// Whether a text begins with a word, in any letter case, and an opening bracket behind that.
-fn has_call(word: &[u8], text: &[u8]) -> bool
-    ensures { result ≡ has_call word.now text.now }
-{
-    match (word.split_first(), text.split_first()) {
-        (None, _) => opens(text),
-        (Some(_), None) => false,
-        (Some((letter, letters)), Some((byte, rest))) => {
-            letter.eq_ignore_ascii_case(byte) && has_call(letters, rest)
-        }
-    }
-}
-
-/// Whether the end of a line stands before a byte, or that and blanks.
-fn begins_line(text: &[u8], place: usize) -> bool
-    requires { place ≤ length text.now }
-    ensures { result ≡ begins_line text.now place }
-{
-    let mut at = place;
-    'blanks: while 0 < at {
-        at -= 1;
-        if text[at] == b'\n' {
-            return true;
-        }
-        if !is_blank(text[at]) {
-            return false;
-        }
-    }
-    false
-}
-
-/// Whether a text begins with these bytes.
-fn has_bytes(bytes: &[u8], text: &[u8]) -> bool
-    ensures { result ≡ has_bytes bytes.now text.now }
-{
-    match (bytes.split_first(), text.split_first()) {
-        (None, _) => true,
-        (Some(_), None) => false,
-        (Some((wanted, others)), Some((byte, rest))) => {
-            *wanted == *byte && has_bytes(others, rest)
-        }
-    }
-}
-
-/// Whether `:=`, a whole word `wait` with a bracket behind it, or a line with `send` begins at a byte that isn't the first of the text.
-fn is_statement_at(text: &[u8], at: usize) -> bool
-    requires low { 0 < at }
-    requires high { at < length text.now }
-    ensures { result ≡ is_statement_at text.now at }
-{
-    let rest = &text[at..];
-    has_bytes(b":=", rest)
-        || (!is_of_word(text[at - 1]) && has_call(b"wait", rest))
-        || (begins_line(text, at) && has_word(b"send", rest))
-}
-
-/// Whether one begins between two bytes.
-fn has_statement(text: &[u8], from: usize, to: usize) -> bool
-    requires low { 0 < from }
-    requires high { to ≤ length text.now }
-    ensures { IsTrue result ↔ ((i : ℕ) × (from ≤ i) × (i < to) × IsTrue (is_statement_at text.now i)) }
-{
-    let mut at = from;
-    'places: while at < to {
-        if is_statement_at(text, at) {
-            return true;
-        }
-        at += 1;
-    }
-    false
-}
-
-/// The first line feed between two bytes.
-fn line_feed(text: &[u8], from: usize, to: usize) -> Option<usize>
-    requires { to ≤ length text.now }
-    ensures found { IfSome result (λ e. (from ≤ e) × (e < to) × (slice_index text.now e ≡ 10)) }
-    ensures first { IfSome result (λ e. (i : ℕ) → from ≤ i → i < e → ¬ (slice_index text.now i ≡ 10)) }
-    ensures none { IfNone result ((i : ℕ) → from ≤ i → i < to → ¬ (slice_index text.now i ≡ 10)) }
-{
-    let mut at = from;
-    'bytes: while at < to {
-        if text[at] == b'\n' {
-            return Some(at);
-        }
-        at += 1;
-    }
-    None
-}
-
-/// Whether a line ends between two bytes, and a statement begins behind that.
-fn swallows(text: &[u8], from: usize, to: usize) -> bool
-    requires { to ≤ length text.now }
-    ensures { IsTrue result ↔ Swallows text.now from to }
-{
-    match line_feed(text, from, to) {
-        Some(end) => has_statement(text, end + 1, to),
-        None => false,
-    }
-}
-
-/// Where a comment ends that begins here.
-fn comment_end(text: &[u8], from: usize) -> usize
-    requires { (b : ℕ) × IsComment text.now from b }
-    ensures { IsComment text.now from result }
-{
-    let mut at = from;
-    'bytes: while text[at] != b';' {
-        at += 1;
-    }
-    at + 1
-}
-
 /// Adds the warning of a comment, where there is one.
-fn add_comment(
-    warnings: &mut Vec<Warning>,
-    text: &[u8],
-    from: usize,
-    to: usize,
-) -> Result<(), AllocError>
-    requires comment { IsComment text.now from to }
-    requires inside { to ≤ length text.now }
-    ensures { IfOk result (λ _. (a : ℕ) → Passed text.now a warnings.old.items from → Passed text.now a warnings.new.items to) }
+fn add_comment(warnings: &mut Vec<Warning>, text: &[u8], comment: Span) -> Result<(), AllocError>
+    requires { comment.to ≤ length text.now }
+    ensures { IfOk result (λ _. (all rest : List Span) → WarnsOn text.now all warnings.old.items (comment ∷ rest) → WarnsOn text.now all warnings.new.items rest) }
 {
-    if swallows(text, from, to) {
+    if swallows(text, comment.from, comment.to, false) {
         warnings.push(Warning {
             kind: WarningKind::LongComment,
-            span: Span { from, to },
+            span: comment,
         })?;
     }
     Ok(())
 }
 
-/// Adds the warnings of the comments between two lexemes.
-fn add_gap(
-    warnings: &mut Vec<Warning>,
-    text: &[u8],
-    from: usize,
-    to: usize,
-) -> Result<(), AllocError>
-    requires gap { Gap text.now from to }
-    requires inside { to ≤ length text.now }
-    ensures { IfOk result (λ _. (a : ℕ) → Passed text.now a warnings.old.items from → Passed text.now a warnings.new.items to) }
+/// The warnings of comments of a text.
+fn warnings_of(alloc: Global, text: &[u8], comments: &[Span]) -> Result<Vec<Warning>, AllocError>
+    requires { EndWithin text.now comments.now }
+    ensures { IfOk result (λ ws. CommentWarnings text.now comments.now ws.items) }
 {
-    let mut at = from;
-    'gap: while at < to {
-        if is_blank(text[at]) {
-            at += 1;
-        } else {
-            let end = comment_end(text, at);
-            add_comment(warnings, text, at, end)?;
-            at = end;
-        }
+    let mut warnings = Vec::new(alloc);
+    for comment in comments {
+        add_comment(&mut warnings, text, *comment)?;
     }
-    Ok(())
+    Ok(warnings)
 }
 
 /// The warnings of the comments of a text that has lexemes, in order. It refuses only where memory was refused.
 pub(crate) fn comment_warnings(alloc: Global, text: &str) -> Result<Vec<Warning>, NoMemory>
-    ensures { IfOk result (λ ws. CommentWarnings text.now 0 ws.items) }
+    ensures { IfOk result (λ ws. AreCommentWarnings text.now ws.items) }
 {
-    // A text that has lexemes is refused for want of memory alone.
-    let Ok(lexemes) = lex(alloc, text) else {
-        return Err(NoMemory);
-    };
-    let bytes = text.as_bytes();
-    let mut warnings = Vec::new(alloc);
-    let mut at = 0;
-    for lexeme in &lexemes {
-        add_gap(&mut warnings, bytes, at, lexeme.span.from)?;
-        at = lexeme.span.to;
-    }
-    add_gap(&mut warnings, bytes, at, bytes.len())?;
-    Ok(warnings)
+    let comments = comments_of(alloc, text)?;
+    Ok(warnings_of(alloc, text.as_bytes(), &comments)?)
 }

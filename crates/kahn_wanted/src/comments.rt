@@ -1,0 +1,136 @@
+//! The comments of a text, and which of them has to do with what stands at a place behind it.
+
+ghost use Rattle.std.specs.Prelude.{◌≡◌, ◌↔◌, ℕ, ◌≤◌, IfOk, IsTrue, length, take};
+ghost use Rattle.std.specs.List.{list_all};
+ghost use Rattle.std.specs.Str.{IsCharBoundary};
+ghost use Rattle.kahn_syntax.specs.Lexemes.{Gap, IsComment};
+ghost use Rattle.kahn_wanted.specs.Comments.{AreComments, IsCommentBefore, IsLastSuspect, IsSuspect, is_beside};
+ghost use Rattle.kahn_wanted.specs.Swallowing.{is_space};
+ghost use Rattle.kahn_wanted.specs.inner.Passing.{EndWithin, Passed};
+
+use crate::blocks::is_broken;
+use crate::swallowing::{is_blank, swallows};
+use kahn_syntax::{Span, lex};
+use kahn_tree::NoMemory;
+use std::alloc::{AllocError, Global};
+
+/// Where a comment ends that begins here.
+fn comment_end(text: &[u8], from: usize) -> usize
+    requires { (b : ℕ) × IsComment text.now from b }
+    ensures { IsComment text.now from result }
+{
+    let mut at = from;
+    'bytes: while text[at] != b';' {
+        at += 1;
+    }
+    at + 1
+}
+
+/// Adds the comments between two lexemes.
+fn add_gap(comments: &mut Vec<Span>, text: &[u8], from: usize, to: usize) -> Result<(), AllocError>
+    requires gap { Gap text.now from to }
+    requires inside { to ≤ length text.now }
+    ensures { IfOk result (λ _. (a : ℕ) → Passed text.now a comments.old.items from → Passed text.now a comments.new.items to) }
+{
+    let mut at = from;
+    'gap: while at < to {
+        if is_blank(text[at]) {
+            at += 1;
+        } else {
+            let end = comment_end(text, at);
+            comments.push(Span { from: at, to: end })?;
+            at = end;
+        }
+    }
+    Ok(())
+}
+
+/// The comments of a text that has lexemes, in order. It refuses only where memory was refused.
+pub fn comments_of(alloc: Global, text: &str) -> Result<Vec<Span>, NoMemory>
+    ensures { IfOk result (λ cs. AreComments text.now 0 cs.items) }
+{
+    // A text that has lexemes is refused for want of memory alone.
+    let Ok(lexemes) = lex(alloc, text) else {
+        return Err(NoMemory);
+    };
+    let bytes = text.as_bytes();
+    let mut comments = Vec::new(alloc);
+    let mut at = 0;
+    for lexeme in &lexemes {
+        add_gap(&mut comments, bytes, at, lexeme.span.from)?;
+        at = lexeme.span.to;
+    }
+    add_gap(&mut comments, bytes, at, bytes.len())?;
+    Ok(comments)
+}
+
+/// Whether these are blanks alone.
+fn are_blank(bytes: &[u8]) -> bool
+    ensures { result ≡ list_all is_space bytes.now }
+{
+    for byte in bytes {
+        if !is_blank(*byte) {
+            return false;
+        }
+    }
+    true
+}
+
+/// Whether no line ends behind a byte of a text, or blanks alone stand there.
+fn is_beside(text: &[u8], at: usize) -> bool
+    requires { at ≤ length text.now }
+    ensures { result ≡ is_beside text.now at }
+{
+    let rest = &text[at..];
+    let broken = is_broken(rest);
+    !broken || are_blank(rest)
+}
+
+/// Whether a comment of a text has to do with what stands behind the text.
+fn is_suspect(text: &[u8], comment: Span) -> bool
+    requires { comment.to ≤ length text.now }
+    ensures { IsTrue result ↔ IsSuspect text.now comment }
+{
+    if is_beside(text, comment.to) {
+        return true;
+    }
+    swallows(text, comment.from, comment.to, true)
+}
+
+/// The last of the comments that has.
+fn last_suspect(text: &[u8], comments: &[Span]) -> Option<Span>
+    requires { EndWithin text.now comments.now }
+    ensures { IsLastSuspect text.now comments.now result }
+{
+    let mut at = comments.len();
+    'comments: while 0 < at {
+        at -= 1;
+        let comment = comments[at];
+        if is_suspect(text, comment) {
+            return Some(comment);
+        }
+    }
+    None
+}
+
+/// The text before a byte, where a character begins there.
+fn text_before(text: &str, at: usize) -> &str
+    ensures { IsCharBoundary text.now at → result.now ≡ take at text.now }
+{
+    match text.split_at_checked(at) {
+        Some((before, _)) => before,
+        None => text,
+    }
+}
+
+/// The last comment in the text before a byte that has to do with what stands there: it ends on the same line or right before it,
+/// or it goes on over a line's end and what reads like a statement, or like the beginning or the end of a block. It refuses only
+/// where memory was refused.
+#[tactic(auto, using(crate::proofs::Suspects::within))]
+pub fn comment_before(alloc: Global, text: &str, at: usize) -> Result<Option<Span>, NoMemory>
+    ensures { IfOk result (IsCommentBefore text.now at) }
+{
+    let before = text_before(text, at);
+    let comments = comments_of(alloc, before)?;
+    Ok(last_suspect(before.as_bytes(), &comments))
+}

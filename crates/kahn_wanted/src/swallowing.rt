@@ -1,0 +1,168 @@
+//! What a comment has behind its first line that reads like the beginning or the end of a statement.
+
+ghost use Rattle.std.specs.Prelude.{◌≡◌, ◌↔◌, ℕ, ◌≤◌, ◌<◌, IfNone, IfSome, IsTrue, length, slice_index};
+ghost use Rattle.kahn_syntax.specs.Lexemes.{IsBlank};
+ghost use Rattle.kahn_wanted.specs.Swallowing.{Swallows, begins_line, has_bytes, has_call, has_word, is_block_word_at, is_of_word, is_part_at, is_space, is_statement_at, opens};
+
+/// Whether it is a space, a tab, a CR or an LF.
+pub(crate) fn is_blank(b: u8) -> bool
+    ensures blank { IsTrue result ↔ IsBlank b }
+    ensures space { result ≡ is_space b }
+{
+    b == b' ' || b == b'\t' || b == b'\r' || b == b'\n'
+}
+
+/// Whether it is a letter, a digit or `_`.
+fn is_of_word(b: u8) -> bool
+    ensures { result ≡ is_of_word b }
+{
+    b.is_ascii_alphanumeric() || b == b'_'
+}
+
+/// Whether a text begins with a word, in any letter case, and no letter, digit or `_` goes on behind it.
+fn has_word(word: &[u8], text: &[u8]) -> bool
+    ensures { result ≡ has_word word.now text.now }
+{
+    match (word.split_first(), text.split_first()) {
+        (None, None) => true,
+        (None, Some((byte, _))) => !is_of_word(*byte),
+        (Some(_), None) => false,
+        (Some((letter, letters)), Some((byte, rest))) => {
+            letter.eq_ignore_ascii_case(byte) && has_word(letters, rest)
+        }
+    }
+}
+
+/// Whether a text begins with an opening bracket, or with blanks and one.
+fn opens(text: &[u8]) -> bool
+    ensures { result ≡ opens text.now }
+{
+    for byte in text {
+        if *byte == b'(' {
+            return true;
+        }
+        if !is_blank(*byte) {
+            return false;
+        }
+    }
+    false
+}
+
+/// Whether a text begins with a word, in any letter case, and an opening bracket behind that.
+fn has_call(word: &[u8], text: &[u8]) -> bool
+    ensures { result ≡ has_call word.now text.now }
+{
+    match (word.split_first(), text.split_first()) {
+        (None, _) => opens(text),
+        (Some(_), None) => false,
+        (Some((letter, letters)), Some((byte, rest))) => {
+            letter.eq_ignore_ascii_case(byte) && has_call(letters, rest)
+        }
+    }
+}
+
+/// Whether the end of a line stands before a byte, or that and blanks.
+fn begins_line(text: &[u8], place: usize) -> bool
+    requires { place ≤ length text.now }
+    ensures { result ≡ begins_line text.now place }
+{
+    let mut at = place;
+    'blanks: while 0 < at {
+        at -= 1;
+        if text[at] == b'\n' {
+            return true;
+        }
+        if !is_blank(text[at]) {
+            return false;
+        }
+    }
+    false
+}
+
+/// Whether a text begins with these bytes.
+fn has_bytes(bytes: &[u8], text: &[u8]) -> bool
+    ensures { result ≡ has_bytes bytes.now text.now }
+{
+    match (bytes.split_first(), text.split_first()) {
+        (None, _) => true,
+        (Some(_), None) => false,
+        (Some((wanted, others)), Some((byte, rest))) => {
+            *wanted == *byte && has_bytes(others, rest)
+        }
+    }
+}
+
+/// Whether `:=`, a whole word `wait` with a bracket behind it, or a line with `send` begins at a byte that isn't the first of the text.
+fn is_statement_at(text: &[u8], at: usize) -> bool
+    requires low { 0 < at }
+    requires high { at < length text.now }
+    ensures { result ≡ is_statement_at text.now at }
+{
+    let rest = &text[at..];
+    has_bytes(b":=", rest)
+        || (!is_of_word(text[at - 1]) && has_call(b"wait", rest))
+        || (begins_line(text, at) && has_word(b"send", rest))
+}
+
+/// Whether a line with `begin` or `end` begins at a byte.
+fn is_block_word_at(text: &[u8], at: usize) -> bool
+    requires { at < length text.now }
+    ensures { result ≡ is_block_word_at text.now at }
+{
+    let rest = &text[at..];
+    begins_line(text, at) && (has_word(b"begin", rest) || has_word(b"end", rest))
+}
+
+/// Whether one of the former begins at such a byte, or of both where these are looked for too.
+fn is_part_at(blocks: bool, text: &[u8], at: usize) -> bool
+    requires low { 0 < at }
+    requires high { at < length text.now }
+    ensures { result ≡ is_part_at blocks text.now at }
+{
+    is_statement_at(text, at) || (blocks && is_block_word_at(text, at))
+}
+
+/// Whether one begins between two bytes.
+fn has_part(blocks: bool, text: &[u8], from: usize, to: usize) -> bool
+    requires low { 0 < from }
+    requires high { to ≤ length text.now }
+    ensures { IsTrue result ↔ ((i : ℕ) × (from ≤ i) × (i < to) × IsTrue (is_part_at blocks text.now i)) }
+{
+    let mut at = from;
+    'places: while at < to {
+        if is_part_at(blocks, text, at) {
+            return true;
+        }
+        at += 1;
+    }
+    false
+}
+
+/// The first line feed between two bytes.
+fn line_feed(text: &[u8], from: usize, to: usize) -> Option<usize>
+    requires { to ≤ length text.now }
+    ensures found { IfSome result (λ e. (from ≤ e) × (e < to) × (slice_index text.now e ≡ 10)) }
+    ensures first { IfSome result (λ e. (i : ℕ) → from ≤ i → i < e → ¬ (slice_index text.now i ≡ 10)) }
+    ensures none { IfNone result ((i : ℕ) → from ≤ i → i < to → ¬ (slice_index text.now i ≡ 10)) }
+{
+    let mut at = from;
+    'bytes: while at < to {
+        if text[at] == b'\n' {
+            return Some(at);
+        }
+        at += 1;
+    }
+    None
+}
+
+/// Whether a line ends between two bytes of a text, and behind that `:=` begins, a whole word `wait` with a bracket behind it, or a
+/// line with `send`; or a line with `begin` or `end`, where these are looked for too.
+pub fn swallows(text: &[u8], from: usize, to: usize, blocks: bool) -> bool
+    requires { to ≤ length text.now }
+    ensures { IsTrue result ↔ Swallows blocks text.now from to }
+{
+    match line_feed(text, from, to) {
+        Some(end) => has_part(blocks, text, end + 1, to),
+        None => false,
+    }
+}

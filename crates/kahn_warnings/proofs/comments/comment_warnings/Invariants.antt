@@ -1,8 +1,0 @@
--- The lexemes so far are passed, with what stands before them.
-use Rattle.std.proofs.Common.{drop, length}
-use Rattle.kahn_syntax.specs.Lexemes.{Lexed}
-use Rattle.kahn_warnings.specs.inner.Passing.{Passed}
-use Rattle.kahn_warnings.proofs.comments.comment_warnings.Given as goal
-
-abbrev pub invariant-loop-lexeme : goal.invariant-loop-lexeme
-invariant-loop-lexeme l = Lexed l.text l.at (length l.text) (drop l.lexeme-index l.lexeme-items) × Passed l.text 0 l.warnings.items l.at
