@@ -1,15 +1,25 @@
 //! The lines of standard input, one at a time.
 
-ghost use Rattle.std.specs.Prelude.{◌≡◌, ◌∷◌, ◌++◌, IfOk};
-ghost use Rattle.std.specs.Option.{option_map_or};
+ghost use Rattle.std.specs.Prelude.{◌≡◌, ◌≢◌, ◌==◌, ◌<◌, ◌≤◌, ◌++◌, All, IfOk, length, slice_index, take, vec_len};
+ghost use Rattle.std.specs.List.{list_any};
+ghost use Rattle.std.specs.Io.Buffered.{reader_buffer, reader_remaining};
+ghost use Rattle.kahn_live.specs.Lines.{IsNextLine, IsReadyToRead, fed_text, most_kept, unmarked};
+ghost use Rattle.kahn_live.specs.inner.Parts.{IsLastRead, IsLinePart, IsPassed};
 
+use crate::outlet::Outlet;
 use kahn_report::MOST_BYTES;
 use std::alloc::AllocError;
-use std::io::{BufRead, BufReader, Error, ErrorKind, Read};
+use std::io::{BufRead, BufReader, ErrorKind, Read, Write};
+
+/// A byte order mark, which the first line may begin with.
+const MARK: &[u8] = b"\xEF\xBB\xBF";
+
+/// How many bytes of a line are kept: more than its limit, behind a byte order mark too.
+const MOST_KEPT: usize = MOST_BYTES + 4;
 
 /// What came.
 pub(crate) enum Next {
-    /// A line, which may be too long: then it is cut after one byte more than its limit.
+    /// A line, which may be too long: then it is cut behind its limit.
     Line,
     /// The end of the input.
     End,
@@ -19,64 +29,156 @@ pub(crate) enum Next {
     NoMemory,
 }
 
+/// What was read of a line.
+enum Part {
+    /// Bytes of it, or none.
+    More,
+    /// The rest of it, and its line feed.
+    Whole,
+    /// Nothing: the input ends here.
+    End,
+    /// A read failed.
+    Failed,
+    /// Memory was refused for it. It is still to be read.
+    NoMemory,
+}
+
 /// Whether the next line can be read without a wait: its line feed has come.
-pub(crate) fn has_line<R: Read>(reader: &BufReader<R>) -> bool {
+pub(crate) fn has_line<R: Read>(reader: &BufReader<R>) -> bool
+    ensures { result ≡ list_any (λ b. b == 10) (reader_buffer reader.now) }
+{
     reader.buffer().contains(&b'\n')
 }
 
-/// Reads the next line without its line feed. The last line needs none.
-pub(crate) fn next_line<B: BufRead>(reader: &mut B, line: &mut Vec<u8>) -> Next {
+/// Reads the next line without its line feed. The last line needs none. What is new went out before, or the read doesn't wait.
+pub(crate) fn next_line<R: Read, W: Write>(
+    reader: &mut BufReader<R>,
+    line: &mut Vec<u8>,
+    _outlet: &Outlet<W>,
+) -> Next
+    requires { IsReadyToRead (reader_buffer reader.old) _outlet.now }
+    ensures { IsNextLine (reader_remaining R.remaining reader.old) (reader_remaining R.remaining reader.new) line.new.items result }
+{
     line.clear();
-    let read = reader
-        .by_ref()
-        .take(MOST_BYTES as u64 + 1)
-        .read_until(b'\n', line);
-    match read {
-        Ok(0) => Next::End,
-        Ok(_) => ended_line(reader, line),
-        Err(error) => failed_line(reader, &error),
-    }
+    read_line(reader, line)
 }
 
-/// A line without its line feed; where it is too long, what follows is passed over up to the next.
-fn ended_line<B: BufRead>(reader: &mut B, line: &mut Vec<u8>) -> Next {
-    if line.last() == Some(&b'\n') {
-        let _ = line.pop();
-        return Next::Line;
+/// Reads a line into an empty list.
+fn read_line<B: BufRead>(reader: &mut B, line: &mut Vec<u8>) -> Next
+    requires { vec_len line.old ≡ 0 }
+    ensures { IsNextLine (B.remaining reader.old) (B.remaining reader.new) line.new.items result }
+{
+    for _ in 0..u64::MAX {
+        match read_part(reader, line) {
+            Part::More => {}
+            Part::Whole => return Next::Line,
+            Part::End => return last_line(line),
+            Part::Failed => return Next::Failed,
+            Part::NoMemory => return pass_line(reader),
+        }
     }
-    if line.len() > MOST_BYTES && reader.skip_until(b'\n').is_err() {
-        return Next::Failed;
+    Next::Failed
+}
+
+/// What was read where the input ends.
+fn last_line(line: &[u8]) -> Next
+    ensures { IsLastRead line.now result }
+{
+    if line.is_empty() {
+        return Next::End;
     }
     Next::Line
 }
 
 /// Passes over the rest of a line for which memory was refused.
-fn failed_line<B: BufRead>(reader: &mut B, error: &Error) -> Next {
-    if error.kind() != ErrorKind::OutOfMemory || reader.skip_until(b'\n').is_err() {
-        return Next::Failed;
+fn pass_line<B: BufRead>(reader: &mut B) -> Next
+    ensures { IsPassed (B.remaining reader.old) (B.remaining reader.new) result }
+{
+    match reader.skip_until(b'\n') {
+        Ok(_) => Next::NoMemory,
+        Err(_) => Next::Failed,
     }
-    Next::NoMemory
+}
+
+/// Reads what has come of a line, or waits for it, and keeps it.
+fn read_part<B: BufRead>(reader: &mut B, line: &mut Vec<u8>) -> Part
+    requires { vec_len line.old ≤ most_kept }
+    ensures { IsLinePart (B.remaining reader.old) (B.remaining reader.new) line.old.items line.new.items result }
+{
+    let shown = match reader.fill_buf() {
+        Ok(shown) => shown,
+        Err(error) => {
+            return if error.kind() == ErrorKind::Interrupted {
+                Part::More
+            } else {
+                Part::Failed
+            };
+        }
+    };
+    let length = shown.len();
+    let end = length_before(shown, b'\n');
+    if length == 0 {
+        return Part::End;
+    }
+    if keep(line, &shown[..end]).is_err() {
+        return Part::NoMemory;
+    }
+    reader.consume((end + 1).min(length));
+    if end == length {
+        return Part::More;
+    }
+    Part::Whole
+}
+
+/// The length of the bytes before the first such byte, or of all.
+fn length_before(bytes: &[u8], byte: u8) -> usize
+    ensures bound { result ≤ length bytes.now }
+    ensures before { All (λ b. b ≢ byte) (take result bytes.now) }
+    ensures at { result < length bytes.now → slice_index bytes.now result ≡ byte }
+{
+    let mut place = 0;
+    while place < bytes.len() {
+        if bytes[place] == byte {
+            return place;
+        }
+        place += 1;
+    }
+    place
+}
+
+/// Adds the bytes to those that were kept, up to the most that are.
+fn keep(line: &mut Vec<u8>, bytes: &[u8]) -> Result<(), AllocError>
+    requires { vec_len line.old ≤ most_kept }
+    ensures { IfOk result (λ _. line.new.items ≡ take most_kept (line.old.items ++ bytes.now)) }
+{
+    let room = MOST_KEPT - line.len();
+    line.extend_from_slice(&bytes[..room.min(bytes.len())])
 }
 
 /// A line without a byte order mark, which only the first line may begin with.
-pub(crate) fn without_mark(line: &[u8], number: u64) -> &[u8] {
+fn without_mark(line: &[u8], number: u64) -> &[u8]
+    ensures { result.now ≡ unmarked number line.now }
+{
     if number != 1 {
         return line;
     }
-    match line.strip_prefix(b"\xEF\xBB\xBF") {
+    match line.strip_prefix(MARK) {
         Some(rest) => rest,
         None => line,
     }
 }
 
-/// The line as it is fed: as it stands, or behind the name of the input channel and a colon, where values stand alone.
+/// The line of that number as it is fed: without a byte order mark, and behind the name of the input channel and a colon, where
+/// values stand alone.
 pub(crate) fn fed_line<'a>(
     input: Option<&str>,
     line: &'a [u8],
+    number: u64,
     room: &'a mut Vec<u8>,
 ) -> Result<&'a [u8], AllocError>
-    ensures { IfOk result (λ fed. fed.now ≡ option_map_or (λ name. name.now ++ (58 ∷ line.entry.now)) input.entry line.entry.now) }
+    ensures { IfOk result (λ fed. fed.now ≡ fed_text input.entry (unmarked number line.entry.now)) }
 {
+    let line = without_mark(line, number);
     let Some(input) = input else {
         return Ok(line);
     };

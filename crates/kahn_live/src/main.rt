@@ -3,6 +3,7 @@
 
 mod lines;
 mod outlet;
+mod stage;
 mod taking;
 mod telling;
 
@@ -17,6 +18,7 @@ use kahn_report::{WorkFault, checked};
 use kahn_session::Session;
 use kahn_texts::{Texts, read_texts, tell};
 use outlet::Outlet;
+use stage::Stage;
 use std::alloc::AllocError;
 use std::io::{BufReader, BufWriter, Write};
 use std::process::ExitCode;
@@ -75,14 +77,14 @@ fn started<'n, R: AllocGlobal>(
 }
 
 /// Runs one more part where the last one waits.
-fn settle<W: Write>(session: &mut Session<'_>, writer: &mut W) -> Result<(), Fault>
-    requires { session.old.broken ≡ false }
-    ensures { IfOk result (λ _. HasVerdict session.new) }
+fn settle<W: Write, E: Write>(stage: &mut Stage<'_, W, E>) -> Result<(), Fault>
+    requires { stage.old.session.broken ≡ false }
+    ensures { IfOk result (λ _. HasVerdict stage.new.session) }
 {
-    if session.settled() {
+    if stage.session.settled() {
         return Ok(());
     }
-    match session.take(b"", &Open, writer) {
+    match stage.session.take(b"", &Open, &mut stage.outlet) {
         Ok(_) => Ok(()),
         Err(fault) => Err(last_fault(fault)),
     }
@@ -99,68 +101,42 @@ fn close<W: Write>(session: &Session<'_>, writer: &mut W) -> Result<Verdict, Fau
 }
 
 /// Tells how the run ended, where the status isn't 0 or a process has a fault.
-fn close_plain<E: Write>(session: &Session<'_>, teller: &mut Teller<'_, E>) -> Verdict
+fn close_plain<E: Write>(session: &Session<'_>, teller: &mut Teller<E>) -> Verdict
     requires { HasVerdict session.now }
 {
     let Some(verdict) = session.verdict() else {
         unreachable!()
     };
     if live_status(&Ok(verdict), teller.refused) != 0 || session.has_fault() {
-        let _ = session.close(teller.errors);
+        let _ = session.close(&mut teller.errors);
     }
     verdict
 }
 
-/// Takes the lines of standard input, and writes what is new to the writer.
+/// Takes the lines of standard input, and writes what is new.
 fn work<R: Runtime + AllocGlobal, W: Write, E: Write>(
     rt: &R,
-    session: &mut Session<'_>,
+    stage: &mut Stage<'_, W, E>,
     fed: Fed<'_>,
-    outlet: &mut Outlet<W>,
-    teller: &mut Teller<'_, E>,
 ) -> Result<Ending, Fault>
-    requires { session.old.broken ≡ false }
+    requires { stage.old.session.broken ≡ false }
 {
     let Ok(mut reader) = BufReader::new(rt.alloc(), rt.reader()) else {
         return Err(wants_memory());
     };
-    if !take_all(rt.alloc(), session, &mut reader, fed, outlet, teller)? {
+    if !take_all(rt.alloc(), stage, &mut reader, fed)? {
         return Ok(Ending::NoInput);
     }
-    settle(session, outlet)?;
+    settle(stage)?;
     if fed.input.is_some() {
-        outlet.send()?;
-        return Ok(Ending::Reached(close_plain(session, teller)));
+        stage.outlet.send()?;
+        return Ok(Ending::Reached(close_plain(&stage.session, &mut stage.teller)));
     }
-    Ok(Ending::Reached(close(session, outlet)?))
+    Ok(Ending::Reached(close(&stage.session, &mut stage.outlet)?))
 }
 
-/// Runs the program on standard input, and writes what is new to standard output.
-fn run<R: Runtime + AllocGlobal, E: Write>(
-    rt: &R,
-    texts: &Texts,
-    config: Config,
-    plain: Option<&Plain>,
-    at_end: &[String],
-    teller: &mut Teller<'_, E>,
-) -> Result<Ending, Fault> {
-    let network = match checked(rt.alloc(), texts.program.as_str()) {
-        Ok(network) => network,
-        Err(fault) => return Err(Fault::Work(fault)),
-    };
-    let mut session = match started(rt, &network, config, plain) {
-        Ok(session) => session,
-        Err(fault) => return Err(Fault::Work(WorkFault::Run(fault))),
-    };
-    let Ok(writer) = BufWriter::new(rt.alloc(), io::writer(rt)) else {
-        return Err(wants_memory());
-    };
-    let mut outlet = Outlet::new(writer);
-    let fed = Fed {
-        input: plain.map(|plain| plain.input.as_str()),
-        at_end,
-    };
-    let ending = work(rt, &mut session, fed, &mut outlet, teller);
+/// Sends what is new in the end. Nobody may read it any more.
+fn sent<W: Write>(outlet: &mut Outlet<W>, ending: Result<Ending, Fault>) -> Result<Ending, Fault> {
     let sent = outlet.send();
     if outlet.gone() {
         return Ok(Ending::Gone);
@@ -168,6 +144,40 @@ fn run<R: Runtime + AllocGlobal, E: Write>(
     let ending = ending?;
     sent?;
     Ok(ending)
+}
+
+/// Runs the program on standard input, and writes what is new to standard output. It gives too whether a line was refused.
+fn run<R: Runtime + AllocGlobal, E: Write + Drop>(
+    rt: &R,
+    texts: &Texts,
+    config: Config,
+    plain: Option<&Plain>,
+    at_end: &[String],
+    teller: Teller<E>,
+) -> (Result<Ending, Fault>, bool) {
+    let network = match checked(rt.alloc(), texts.program.as_str()) {
+        Ok(network) => network,
+        Err(fault) => return (Err(Fault::Work(fault)), false),
+    };
+    let session = match started(rt, &network, config, plain) {
+        Ok(session) => session,
+        Err(fault) => return (Err(Fault::Work(WorkFault::Run(fault))), false),
+    };
+    let Ok(writer) = BufWriter::new(rt.alloc(), io::writer(rt)) else {
+        return (Err(wants_memory()), false);
+    };
+    let outlet = Outlet::new(writer);
+    let mut stage = Stage {
+        session,
+        outlet,
+        teller,
+    };
+    let fed = Fed {
+        input: plain.map(|plain| plain.input.as_str()),
+        at_end,
+    };
+    let ending = work(rt, &mut stage, fed);
+    (sent(&mut stage.outlet, ending), stage.teller.refused)
 }
 
 /// How the run is set up: the channel whose values alone are shown is watched, so that it has a stream.
@@ -215,12 +225,11 @@ fn ran<R: Runtime + AllocGlobal, W: Write>(
     keep_going: bool,
     writer: &mut W,
 ) -> (Result<Ending, Fault>, bool) {
-    let mut teller = Teller::new(writer, keep_going);
-    let ending = match watching(rt, config, plain) {
-        Ok(config) => run(rt, texts, config, plain, at_end, &mut teller),
-        Err(_) => Err(wants_memory()),
-    };
-    (ending, teller.refused)
+    let teller = Teller::new(writer, keep_going);
+    match watching(rt, config, plain) {
+        Ok(config) => run(rt, texts, config, plain, at_end, teller),
+        Err(_) => (Err(wants_memory()), false),
+    }
 }
 
 /// Does what the command line asks for, and gives the status. Faults are told to the writer.

@@ -1,5 +1,10 @@
 //! The writer of what is new: what is flushed goes out before the next wait, and not line by line.
 
+ghost use Rattle.std.specs.Prelude.{◌≡◌, ◌⊎◌, ◌↔◌, false, true, IfErr, IsErr, IsTrue};
+ghost use Rattle.std.specs.Io.{WritesAtMost};
+ghost use Rattle.std.specs.Io.KnownBytes.{Keeps, WriteAppends};
+ghost use Rattle.kahn_live.specs.Course.{IsGone, IsWriteFault};
+
 use kahn_fault::Fault;
 use kahn_report::{WorkFault, WriteFault};
 use std::io;
@@ -8,15 +13,17 @@ use std::io::{ErrorKind, Write};
 /// A writer that puts flushes off until `send`, and remembers whether its reader is gone.
 #[derive(Drop)]
 pub(crate) struct Outlet<W: Write> {
-    writer: W,
+    pub(crate) writer: W,
     // Whether a flush was put off.
-    due: bool,
-    gone: bool,
+    pub(crate) due: bool,
+    pub(crate) gone: bool,
 }
 
 impl<W: Write> Outlet<W> {
     /// Before the first write.
-    pub(crate) fn new(writer: W) -> Outlet<W> {
+    pub(crate) fn new(writer: W) -> Outlet<W>
+        ensures { result ≡ record { writer = writer; due = false; gone = false } }
+    {
         Outlet {
             writer,
             due: false,
@@ -25,12 +32,20 @@ impl<W: Write> Outlet<W> {
     }
 
     /// Whether a write failed since nobody reads any more.
-    pub(crate) fn gone(&self) -> bool {
+    pub(crate) fn gone(&self) -> bool
+        ensures { result ≡ self.now.gone }
+    {
         self.gone
     }
 
     /// Sends what was flushed, where that was put off.
-    pub(crate) fn send(&mut self) -> Result<(), Fault> {
+    pub(crate) fn send(&mut self) -> Result<(), Fault>
+        ensures kept { Keeps (W.contents self.old.writer) (W.contents self.new.writer) }
+        ensures sent { self.new.due ≡ false }
+        ensures gone { IsTrue self.old.gone → IsTrue self.new.gone }
+        ensures none { IsTrue self.new.gone → IsTrue self.old.gone ⊎ IsErr result }
+        ensures fault { IfErr result IsWriteFault }
+    {
         if !self.due {
             return Ok(());
         }
@@ -42,7 +57,9 @@ impl<W: Write> Outlet<W> {
 }
 
 /// Whether a call failed since nobody reads any more.
-fn is_gone<T>(done: &io::Result<T>) -> bool {
+fn is_gone<T>(done: &io::Result<T>) -> bool
+    ensures { IsTrue result ↔ IsGone done.now }
+{
     match done {
         Ok(_) => false,
         Err(error) => error.kind() == ErrorKind::BrokenPipe,
@@ -52,13 +69,20 @@ fn is_gone<T>(done: &io::Result<T>) -> bool {
 impl<W: Write> Write for Outlet<W> {
     ghost contents = { λ o. W.contents o.writer };
 
-    fn write(&mut self, buf: &[u8]) -> io::Result<usize> {
+    fn write(&mut self, buf: &[u8]) -> io::Result<usize>
+        ensures bound { WritesAtMost result buf.now }
+        ensures bytes { WriteAppends (W.contents self.old.writer) (W.contents self.new.writer) result buf.now }
+        ensures gone { IsTrue self.new.gone ↔ IsTrue self.old.gone ⊎ IsGone result }
+    {
         let done = self.writer.write(buf);
         self.gone |= is_gone(&done);
         done
     }
 
-    fn flush(&mut self) -> io::Result<()> {
+    fn flush(&mut self) -> io::Result<()>
+        ensures bytes { Keeps (W.contents self.old.writer) (W.contents self.new.writer) }
+        ensures due { self.new.due ≡ true }
+    {
         self.due = true;
         Ok(())
     }

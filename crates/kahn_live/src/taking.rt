@@ -1,10 +1,13 @@
 //! The lines of a run: those of the input, and those that are fed at its end.
 
-ghost use Rattle.std.specs.Prelude.{◌≡◌, false, IfOk};
+ghost use Rattle.std.specs.Prelude.{◌≡◌, IfErr, IfOk, false, true};
+ghost use Rattle.std.specs.Io.Buffered.{reader_buffer};
+ghost use Rattle.kahn_session.specs.Live.{breaks};
+ghost use Rattle.kahn_live.specs.Course.{HasSent, IsAnswerTold, IsLineMet, IsDeafNow, IsRefusalTold, IsWriteFault, point_of};
+ghost use Rattle.kahn_live.specs.Lines.{IsReadyToRead};
 
-use crate::lines::{Next, fed_line, has_line, next_line, without_mark};
-use crate::outlet::Outlet;
-use crate::telling::Teller;
+use crate::lines::{Next, fed_line, has_line, next_line};
+use crate::stage::Stage;
 use kahn_fault::Fault;
 use kahn_pool::{Open, RunFault, Verdict};
 use kahn_report::{ReadFault, WorkFault};
@@ -28,106 +31,137 @@ pub(crate) fn wants_memory() -> Fault {
 }
 
 /// A fault of a line, where the run ends with it.
-pub(crate) fn last_fault(fault: TakeFault) -> Fault {
+pub(crate) fn last_fault(fault: TakeFault) -> Fault
+    ensures { breaks fault ≡ true → IsWriteFault result }
+{
     match fault {
         TakeFault::Write(fault) => Fault::Work(WorkFault::Write(fault)),
         _ => wants_memory(),
     }
 }
 
+/// Sends what is new, unless the next line can be read without a wait.
+fn send_before<I: Read, W: Write, E: Write>(
+    stage: &mut Stage<'_, W, E>,
+    reader: &BufReader<I>,
+) -> Result<(), Fault>
+    ensures sent { HasSent (point_of W.contents E.contents stage.old) (point_of W.contents E.contents stage.new) }
+    ensures ready { IfOk result (λ _. IsReadyToRead (reader_buffer reader.now) stage.new.outlet) }
+    ensures fault { IfErr result IsWriteFault }
+{
+    if has_line(reader) {
+        return Ok(());
+    }
+    stage.outlet.send()
+}
+
 /// Tells a fault of the line of that number, behind what is new so far. It fails where that can't be written.
 fn tell_behind<W: Write, E: Write>(
+    stage: &mut Stage<'_, W, E>,
     fault: TakeFault,
     number: u64,
-    outlet: &mut Outlet<W>,
-    teller: &mut Teller<'_, E>,
-) -> Result<(), Fault> {
-    outlet.send()?;
-    teller.tell(number, fault);
+) -> Result<(), Fault>
+    ensures session { stage.new.session ≡ stage.old.session }
+    ensures told { IsRefusalTold number fault (point_of W.contents E.contents stage.old) (point_of W.contents E.contents stage.new) result }
+{
+    stage.outlet.send()?;
+    stage.teller.tell(number, fault);
     Ok(())
 }
 
-/// Takes a line of that number, and tells where it is refused, and gives why, or where its part wants memory. It fails where
-/// nothing can be written.
-fn take_line<W: Write, E: Write>(
-    session: &mut Session<'_>,
-    line: &[u8],
+/// Tells what there is to tell of the line of that number by its answer, and gives why it was refused. It fails where nothing
+/// can be written.
+fn tell_answer<W: Write, E: Write>(
+    stage: &mut Stage<'_, W, E>,
+    answer: Result<Verdict, TakeFault>,
     number: u64,
-    outlet: &mut Outlet<W>,
-    teller: &mut Teller<'_, E>,
 ) -> Result<Option<TakeFault>, Fault>
-    requires { session.old.broken ≡ false }
-    ensures { IfOk result (λ _. session.new.broken ≡ false) }
+    ensures { IsAnswerTold number answer (point_of W.contents E.contents stage.old) (point_of W.contents E.contents stage.new) result }
 {
-    match session.take(line, &Open, outlet) {
+    match answer {
         Ok(Verdict::Memory) => {
-            outlet.send()?;
-            teller.tell_waiting(number);
+            stage.outlet.send()?;
+            stage.teller.tell_waiting(number);
             Ok(None)
         }
-        Ok(_) => Ok(None),
+        Ok(Verdict::Finished) => Ok(None),
+        Ok(Verdict::Bound) => Ok(None),
         Err(fault) => {
             if fault.breaks() {
                 return Err(last_fault(fault));
             }
-            tell_behind(fault, number, outlet, teller)?;
+            tell_behind(stage, fault, number)?;
             Ok(Some(fault))
         }
     }
 }
 
+/// Takes a line of that number, and tells where it is refused, and gives why, or where its part wants memory. It fails where
+/// nothing can be written.
+fn take_line<W: Write, E: Write>(
+    stage: &mut Stage<'_, W, E>,
+    line: &[u8],
+    number: u64,
+) -> Result<Option<TakeFault>, Fault>
+    requires { stage.old.session.broken ≡ false }
+    ensures broken { IfOk result (λ _. stage.new.session.broken ≡ false) }
+    ensures met { IsLineMet number line.now (point_of W.contents E.contents stage.old) (point_of W.contents E.contents stage.new) result }
+{
+    let answer = stage.session.take(line, &Open, &mut stage.outlet);
+    tell_answer(stage, answer, number)
+}
+
 /// Takes a line of the input. Where memory is refused for it, that is told.
 fn take_read<W: Write, E: Write>(
-    session: &mut Session<'_>,
+    stage: &mut Stage<'_, W, E>,
     input: Option<&str>,
     line: &[u8],
     number: u64,
     room: &mut Vec<u8>,
-    outlet: &mut Outlet<W>,
-    teller: &mut Teller<'_, E>,
 ) -> Result<(), Fault>
-    requires { session.old.broken ≡ false }
-    ensures { IfOk result (λ _. session.new.broken ≡ false) }
+    requires { stage.old.session.broken ≡ false }
+    ensures { IfOk result (λ _. stage.new.session.broken ≡ false) }
 {
-    let Ok(fed) = fed_line(input, without_mark(line, number), room) else {
-        return tell_behind(TakeFault::NoMemory, number, outlet, teller);
+    let Ok(fed) = fed_line(input, line, number, room) else {
+        return tell_behind(stage, TakeFault::NoMemory, number);
     };
-    let _ = take_line(session, fed, number, outlet, teller)?;
+    let _ = take_line(stage, fed, number)?;
     Ok(())
 }
 
 /// Whether no line can change the run any more.
-fn is_over(session: &Session<'_>) -> bool {
-    session.settled() && session.is_deaf()
+fn is_over(session: &Session<'_>) -> bool
+    ensures { IsDeafNow session.now result }
+{
+    if !session.settled() {
+        return false;
+    }
+    session.is_deaf()
 }
 
 /// Takes the lines of the reader as long as one can change the run, and gives the number behind the last one's. What is new
 /// goes out before each read that may wait.
 fn take_lines<I: Read, W: Write, E: Write>(
     alloc: Global,
-    session: &mut Session<'_>,
+    stage: &mut Stage<'_, W, E>,
     reader: &mut BufReader<I>,
-    fed: Fed<'_>,
-    outlet: &mut Outlet<W>,
-    teller: &mut Teller<'_, E>,
+    input: Option<&str>,
 ) -> Result<u64, Fault>
-    requires { session.old.broken ≡ false }
-    ensures { IfOk result (λ _. session.new.broken ≡ false) }
+    requires { stage.old.session.broken ≡ false }
+    ensures { IfOk result (λ _. stage.new.session.broken ≡ false) }
 {
     let mut line = Vec::new(alloc);
     let mut room = Vec::new(alloc);
     for number in 1..u64::MAX {
-        if is_over(session) {
+        if is_over(&stage.session) {
             return Ok(number);
         }
-        if !has_line(reader) {
-            outlet.send()?;
-        }
-        match next_line(reader, &mut line) {
-            Next::Line => take_read(session, fed.input, &line, number, &mut room, outlet, teller)?,
+        send_before(stage, reader)?;
+        match next_line(reader, &mut line, &stage.outlet) {
+            Next::Line => take_read(stage, input, &line, number, &mut room)?,
             Next::End => return Ok(number),
             Next::Failed => return Err(Fault::Program(None, ReadFault::Failed)),
-            Next::NoMemory => tell_behind(TakeFault::NoMemory, number, outlet, teller)?,
+            Next::NoMemory => tell_behind(stage, TakeFault::NoMemory, number)?,
         }
     }
     Ok(u64::MAX)
@@ -135,18 +169,16 @@ fn take_lines<I: Read, W: Write, E: Write>(
 
 /// Takes the lines that are fed at the end, whose numbers begin with that one.
 fn take_last<W: Write, E: Write>(
-    session: &mut Session<'_>,
+    stage: &mut Stage<'_, W, E>,
     lines: &[String],
     first: u64,
-    outlet: &mut Outlet<W>,
-    teller: &mut Teller<'_, E>,
 ) -> Result<(), Fault>
-    requires { session.old.broken ≡ false }
-    ensures { IfOk result (λ _. session.new.broken ≡ false) }
+    requires { stage.old.session.broken ≡ false }
+    ensures { IfOk result (λ _. stage.new.session.broken ≡ false) }
 {
     let mut number = first;
     for line in lines {
-        let _ = take_line(session, line.as_bytes(), number, outlet, teller)?;
+        let _ = take_line(stage, line.as_bytes(), number)?;
         number = number.saturating_add(1);
     }
     Ok(())
@@ -155,19 +187,17 @@ fn take_last<W: Write, E: Write>(
 /// Runs the part before the first line, and tells whether there is an input channel of the name whose values stand alone.
 fn begin<W: Write, E: Write>(
     alloc: Global,
-    session: &mut Session<'_>,
+    stage: &mut Stage<'_, W, E>,
     input: Option<&str>,
-    outlet: &mut Outlet<W>,
-    teller: &mut Teller<'_, E>,
 ) -> Result<bool, Fault>
-    requires { session.old.broken ≡ false }
-    ensures { IfOk result (λ _. session.new.broken ≡ false) }
+    requires { stage.old.session.broken ≡ false }
+    ensures { IfOk result (λ _. stage.new.session.broken ≡ false) }
 {
     let mut room = Vec::new(alloc);
-    let Ok(line) = fed_line(input, b"", &mut room) else {
+    let Ok(line) = fed_line(input, b"", 0, &mut room) else {
         return Err(wants_memory());
     };
-    match take_line(session, line, 0, outlet, teller)? {
+    match take_line(stage, line, 0)? {
         None => Ok(true),
         Some(TakeFault::NoMemory | TakeFault::Feed(FeedFault::NoMemory)) => Err(wants_memory()),
         Some(_) => Ok(false),
@@ -178,19 +208,17 @@ fn begin<W: Write, E: Write>(
 /// alone; else no line is taken.
 pub(crate) fn take_all<I: Read, W: Write, E: Write>(
     alloc: Global,
-    session: &mut Session<'_>,
+    stage: &mut Stage<'_, W, E>,
     reader: &mut BufReader<I>,
     fed: Fed<'_>,
-    outlet: &mut Outlet<W>,
-    teller: &mut Teller<'_, E>,
 ) -> Result<bool, Fault>
-    requires { session.old.broken ≡ false }
-    ensures { IfOk result (λ _. session.new.broken ≡ false) }
+    requires { stage.old.session.broken ≡ false }
+    ensures { IfOk result (λ _. stage.new.session.broken ≡ false) }
 {
-    if !begin(alloc, session, fed.input, outlet, teller)? {
+    if !begin(alloc, stage, fed.input)? {
         return Ok(false);
     }
-    let number = take_lines(alloc, session, reader, fed, outlet, teller)?;
-    take_last(session, fed.at_end, number, outlet, teller)?;
+    let number = take_lines(alloc, stage, reader, fed.input)?;
+    take_last(stage, fed.at_end, number)?;
     Ok(true)
 }

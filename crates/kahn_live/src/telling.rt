@@ -1,37 +1,50 @@
 //! What is told of lines that aren't taken.
 
+ghost use Rattle.std.specs.Prelude.{◌≡◌, false, not};
+ghost use Rattle.kahn_session.specs.Refusals.{refusal_text, waiting_text};
+ghost use Rattle.kahn_live.specs.Course.{WasTold, telling_of};
+
 use kahn_session::{TakeFault, write_refusal, write_waiting};
 use std::io::Write;
 
 /// A writer of faults, and whether a line was refused.
 #[derive(Drop)]
-pub(crate) struct Teller<'a, E: Write> {
-    pub(crate) errors: &'a mut E,
+pub(crate) struct Teller<E: Write> {
+    pub(crate) errors: E,
+    // Whether a write failed.
+    pub(crate) failed: bool,
     // Whether refused lines leave the status as it is.
-    keep_going: bool,
+    pub(crate) keep_going: bool,
     pub(crate) refused: bool,
 }
 
-impl<'a, E: Write> Teller<'a, E> {
+impl<E: Write> Teller<E> {
     /// Before the first line. With `keep_going` no line counts as refused.
-    pub(crate) fn new(errors: &'a mut E, keep_going: bool) -> Teller<'a, E> {
+    pub(crate) fn new(errors: E, keep_going: bool) -> Teller<E>
+        ensures { result ≡ record { errors = errors; failed = false; keep_going = keep_going; refused = false } }
+    {
         Teller {
             errors,
+            failed: false,
             keep_going,
             refused: false,
         }
     }
 
     /// Tells why the line of that number isn't taken.
-    pub(crate) fn tell(&mut self, number: u64, fault: TakeFault) {
-        let _ = write_refusal(self.errors, number, fault);
-        if !self.keep_going {
-            self.refused = true;
-        }
+    pub(crate) fn tell(&mut self, number: u64, fault: TakeFault)
+        ensures { WasTold (refusal_text number fault) (not self.old.keep_going) (telling_of E.contents self.old) (telling_of E.contents self.new) }
+    {
+        let told = write_refusal(&mut self.errors, number, fault);
+        self.failed |= told.is_err();
+        self.refused |= !self.keep_going;
     }
 
     /// Tells that the part of the line of that number wants memory. The line isn't refused.
-    pub(crate) fn tell_waiting(&mut self, number: u64) {
-        let _ = write_waiting(self.errors, number);
+    pub(crate) fn tell_waiting(&mut self, number: u64)
+        ensures { WasTold (waiting_text number) false (telling_of E.contents self.old) (telling_of E.contents self.new) }
+    {
+        let told = write_waiting(&mut self.errors, number);
+        self.failed |= told.is_err();
     }
 }

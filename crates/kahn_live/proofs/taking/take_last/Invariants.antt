@@ -2,4 +2,4 @@ use Rattle.std.proofs.Common.{◌≡◌, false}
 use Rattle.kahn_live.proofs.taking.take_last.Given as goal
 
 abbrev pub invariant-loop-line : goal.invariant-loop-line
-invariant-loop-line g l = l.session.broken ≡ false
+invariant-loop-line g l = l.stage.session.broken ≡ false

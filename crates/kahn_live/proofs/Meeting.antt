@@ -1,0 +1,40 @@
+-- What lines make, one after the other.
+use Rattle.std.proofs.Common.{◌≡◌, ◌∙◌, inr, ℕ, false, List, None, Some, Option, Result, Ok, Err, IfOk, MatchResult, sym, ap, subst}
+use Rattle.kahn_pool.specs.declared.answer.Verdict.{Verdict}
+use Rattle.kahn_fault.specs.declared.fault.Fault.{Fault}
+use Rattle.kahn_session.specs.Live.{IsTakenLine, Live, breaks}
+use Rattle.kahn_session.specs.declared.fault.TakeFault.{TakeFault}
+use Rattle.kahn_live.specs.Course.{WasFed, HasWaited, IsAnswerTold, IsLineMet, IsToldBy, Point, Telling}
+
+-- what the session made of a line, where no byte more went out since
+fed_since : (line : List ℕ) (answer : Result Verdict TakeFault) (old mid new : Point) → IsTakenLine line old.session mid.session old.out mid.out answer → HasWaited mid new
+    → WasFed line answer old new
+fed_since line answer old mid new taken (same, kept) = (mid.out, subst (λ (s : Live). IsTakenLine line old.session s old.out mid.out answer) (sym same) taken, kept)
+
+-- a line that was fed, and what is told of it
+pub line_met : (number : ℕ) (line : List ℕ) (answer : Result Verdict TakeFault) (old mid new : Point) (r : Result (Option TakeFault) Fault) → mid.told ≡ old.told
+    → IsTakenLine line old.session mid.session old.out mid.out answer → IsAnswerTold number answer mid new r → IsLineMet number line old new r
+line_met number line answer old mid new (Ok None) quiet taken ((v, is), told, waited) = (
+  v,
+  (
+    subst (λ (a : Result Verdict TakeFault). IsToldBy number a old.told new.told) is (subst (λ (t : Telling). IsToldBy number answer t new.told) quiet told),
+    subst (λ (a : Result Verdict TakeFault). WasFed line a old new) is (fed_since line answer old mid new taken waited),
+  ),
+)
+line_met number line answer old mid new (Ok (Some f)) quiet taken (is, told, waited) = (
+  subst (λ (a : Result Verdict TakeFault). IsToldBy number a old.told new.told) is (subst (λ (t : Telling). IsToldBy number answer t new.told) quiet told),
+  subst (λ (a : Result Verdict TakeFault). WasFed line a old new) is (fed_since line answer old mid new taken waited),
+)
+line_met number line answer old mid new (Err fault) quiet taken (why, (still, waited)) =
+    (why, still ∙ quiet, inr (answer, fed_since line answer old mid new taken waited))
+
+-- a session is whole after a line that was told of
+pub still_whole : (number : ℕ) (answer : Result Verdict TakeFault) (mid new : Point) (r : Result (Option TakeFault) Fault)
+    → MatchResult answer (λ _. mid.session.broken ≡ false) (λ f. mid.session.broken ≡ breaks f) → IsAnswerTold number answer mid new r → IfOk r (λ _. new.session.broken ≡ false)
+still_whole number answer mid new (Ok None) whole ((v, is), told, (same, kept)) =
+    ap (λ (s : Live). s.broken) same ∙ subst (λ (a : Result Verdict TakeFault). MatchResult a (λ _. mid.session.broken ≡ false) (λ f. mid.session.broken ≡ breaks f)) is whole
+still_whole number answer mid new (Ok (Some f)) whole (is, told, (same, kept)) =
+    let named = subst (λ (a : Result Verdict TakeFault). MatchResult a (λ _. mid.session.broken ≡ false) (λ f. mid.session.broken ≡ breaks f)) is whole in
+    let kind = subst (λ (a : Result Verdict TakeFault). IsToldBy number a mid.told new.told) is told in
+    ap (λ (s : Live). s.broken) same ∙ named ∙ kind.1
+still_whole number answer mid new (Err fault) whole told = tt

@@ -1,0 +1,114 @@
+-- Believed. What lines make, one after the other, of a session, of what goes out and of what is told (this project's profile).
+use Rattle.std.specs.Prelude.{◌≡◌, ◌⊎◌, ℕ, ◌-◌, Bool, true, false, not, ◌||◌, List, Option, None, Some, Result, Ok, Err}
+use Rattle.std.specs.Io.KnownBytes.{Appends, Keeps}
+use Rattle.kahn_pool.specs.declared.answer.Verdict.{Verdict}
+use Rattle.kahn_pool.specs.declared.answer.Verdict.TheVariants.{Finished, Bound, Memory}
+use Rattle.kahn_report.specs.Written.{AppendsFront}
+use Rattle.kahn_report.specs.declared.write.WriteFault.{WriteFault}
+use Rattle.kahn_report.specs.declared.working.WorkFault.TheVariants.{Write as WriteWork}
+use Rattle.kahn_fault.specs.declared.fault.Fault.{Fault}
+use Rattle.kahn_fault.specs.declared.fault.Fault.TheVariants.{Work}
+use Rattle.kahn_session.specs.Live.{HasVerdict, IsDeaf, IsTakenLine, Live, breaks}
+use Rattle.kahn_session.specs.Refusals.{refusal_text, waiting_text}
+use Rattle.kahn_session.specs.declared.fault.TakeFault.{TakeFault}
+use Rattle.kahn_live.specs.declared.stage.Stage.{Stage}
+use Rattle.kahn_live.specs.declared.telling.Teller.{Teller}
+use Rattle.std.specs.IoError.{error_kind}
+use Rattle.std.specs.declared.io.Error.{Error}
+use Rattle.std.specs.declared.io.ErrorKind.TheVariants.{BrokenPipe}
+
+-- what is told on standard error
+pub record Telling : Type 0 where
+  pub bytes : Option (List ℕ)
+  -- whether a write failed: then not all that is told stands there
+  pub failed : Bool
+  -- whether a refused line leaves the status as it is, and whether one counts
+  pub keep_going : Bool
+  pub refused : Bool
+
+abbrev pub telling_of : {E : Type 0} → (E → Option (List ℕ)) → Teller E → Telling
+telling_of contents t = record { bytes = contents t.errors; failed = t.failed; keep_going = t.keep_going; refused = t.refused }
+
+-- a session, the bytes that were written for it, and what is told
+pub record Point : Type 0 where
+  pub session : Live
+  pub out : Option (List ℕ)
+  pub told : Telling
+
+abbrev pub point_of : {W E : Type 0} → (W → Option (List ℕ)) → (E → Option (List ℕ)) → Stage W E → Point
+point_of written said s = record { session = s.session; out = written s.outlet.writer; told = telling_of said s.teller }
+
+-- the text was told, or after a fault of the writer a prefix of it; and a line counts as refused from here on, or none does
+pub record WasTold (text : List ℕ) (counts : Bool) (old new : Telling) : Type 0 where
+  pub front : AppendsFront old.bytes new.bytes text
+  pub whole : new.failed ≡ false → (old.failed ≡ false) × Appends old.bytes new.bytes text
+  pub keep_going : new.keep_going ≡ old.keep_going
+  pub refused : new.refused ≡ (counts || old.refused)
+
+-- what was put off may have been sent: no byte more was written
+abbrev pub HasWaited : Point → Point → Type 0
+HasWaited old new = (new.session ≡ old.session) × Keeps old.out new.out
+
+-- and nothing was told
+abbrev pub HasSent : Point → Point → Type 0
+HasSent old new = (new.told ≡ old.told) × HasWaited old new
+
+-- what is told of a line with this answer
+abbrev pub IsToldBy : ℕ → Result Verdict TakeFault → Telling → Telling → Type 0
+IsToldBy number (Ok Finished) old new = new ≡ old
+IsToldBy number (Ok Bound) old new = new ≡ old
+IsToldBy number (Ok Memory) old new = WasTold (waiting_text number) false old new
+IsToldBy number (Err f) old new = WasTold (refusal_text number f) (not old.keep_going) old new × (breaks f ≡ false)
+
+-- what the session made of the line; what is new may have been sent
+abbrev pub WasFed : List ℕ → Result Verdict TakeFault → Point → Point → Type 0
+WasFed line answer old new = (sent : Option (List ℕ)) × IsTakenLine line old.session new.session old.out sent answer × Keeps sent new.out
+
+-- the line was taken or refused, and what is to be told of it was
+abbrev pub WasMet : ℕ → List ℕ → Result Verdict TakeFault → Point → Point → Type 0
+WasMet number line answer old new =
+    IsToldBy number answer old.told new.told × WasFed line answer old new
+
+-- ---- why a run breaks off
+
+abbrev pub IsGone : {X : Type 0} → Result X Error → Type 0
+IsGone (Ok x) = ⊥
+IsGone (Err e) = error_kind e ≡ BrokenPipe
+
+abbrev pub IsWriteFault : Fault → Type 0
+IsWriteFault fault = (f : WriteFault) × (fault ≡ Work (WriteWork f))
+
+-- what is new after the line, or what was put off, couldn't be written: nothing is told of the line
+abbrev pub IsBrokenOff : List ℕ → Point → Point → Fault → Type 0
+IsBrokenOff line old new fault = IsWriteFault fault × (new.told ≡ old.told)
+    × (HasWaited old new ⊎ ((answer : Result Verdict TakeFault) × WasFed line answer old new))
+
+-- ---- one line
+
+-- a fault of the line is told behind what is new
+abbrev pub IsRefusalTold : {X : Type 0} → ℕ → TakeFault → Point → Point → Result X Fault → Type 0
+IsRefusalTold number f old new (Ok x) = WasTold (refusal_text number f) (not old.told.keep_going) old.told new.told × HasWaited old new
+IsRefusalTold number f old new (Err fault) = IsWriteFault fault × HasSent old new
+
+-- what is told of a line by its answer
+abbrev pub IsAnswerTold : ℕ → Result Verdict TakeFault → Point → Point → Result (Option TakeFault) Fault → Type 0
+IsAnswerTold number answer old new (Ok None) = ((v : Verdict) × (answer ≡ Ok v)) × IsToldBy number answer old.told new.told × HasWaited old new
+IsAnswerTold number answer old new (Ok (Some f)) = (answer ≡ Err f) × IsToldBy number answer old.told new.told × HasWaited old new
+IsAnswerTold number answer old new (Err fault) = IsWriteFault fault × HasSent old new
+
+-- a line is told of by its refusal, where it was refused
+abbrev pub IsLineMet : ℕ → List ℕ → Point → Point → Result (Option TakeFault) Fault → Type 0
+IsLineMet number line old new (Ok None) = (v : Verdict) × WasMet number line (Ok v) old new
+IsLineMet number line old new (Ok (Some f)) = WasMet number line (Err f) old new
+IsLineMet number line old new (Err fault) = IsBrokenOff line old new fault
+
+-- ---- what may still come
+
+-- a line may still change the run
+abbrev pub IsHearing : Live → Type 0
+IsHearing s = HasVerdict s → IsDeaf s.flow.run false
+
+-- whether none can
+abbrev pub IsDeafNow : Live → Bool → Type 0
+IsDeafNow s true = HasVerdict s × IsDeaf s.flow.run true
+IsDeafNow s false = IsHearing s

@@ -1,0 +1,36 @@
+-- Inner. What is read of a line at a time.
+use Rattle.std.specs.Prelude.{◌≡◌, ◌≢◌, ℕ, ◌<◌, ⊤, List, [], ◌∷◌, ◌++◌, length, take, All, Option, IfSome}
+use Rattle.std.specs.Io.KnownBytes.{Consumes, IsAtEnd, Keeps}
+use Rattle.std.specs.Io.BufRead.{DropsThrough}
+use Rattle.kahn_live.specs.Lines.{most_kept}
+use Rattle.kahn_live.specs.declared.lines.Next.{Next}
+use Rattle.kahn_live.specs.declared.lines.Next.TheVariants as next
+use Rattle.kahn_live.specs.declared.lines.Part.{Part}
+use Rattle.kahn_live.specs.declared.lines.Part.TheVariants.{More, Whole, End, Failed, NoMemory}
+
+-- bytes without a line feed were read, and kept within the limit
+abbrev pub WasKept : Option (List ℕ) → Option (List ℕ) → List ℕ → List ℕ → List ℕ → Type 0
+WasKept old new before after behind =
+    (bytes : List ℕ) × All (λ b. b ≢ 10) bytes × Consumes old new (bytes ++ behind) × (after ≡ take most_kept (before ++ bytes))
+
+-- what a read made of the bytes that are left, and of those that were kept
+abbrev pub IsLinePart : Option (List ℕ) → Option (List ℕ) → List ℕ → List ℕ → Part → Type 0
+IsLinePart old new before after More = WasKept old new before after []
+IsLinePart old new before after Whole = WasKept old new before after (10 ∷ [])
+IsLinePart old new before after End = IsAtEnd old × Keeps old new × (after ≡ before)
+IsLinePart old new before after Failed = ⊤
+IsLinePart old new before after NoMemory = IfSome old (λ text. 0 < length text) × Keeps old new
+
+-- what is read where the input ends
+abbrev pub IsLastRead : List ℕ → Next → Type 0
+IsLastRead kept next.Line = 0 < length kept
+IsLastRead kept next.End = length kept ≡ 0
+IsLastRead kept next.Failed = ⊥
+IsLastRead kept next.NoMemory = ⊥
+
+-- the rest of a line was passed over
+abbrev pub IsPassed : Option (List ℕ) → Option (List ℕ) → Next → Type 0
+IsPassed old new next.Line = ⊥
+IsPassed old new next.End = ⊥
+IsPassed old new next.Failed = ⊤
+IsPassed old new next.NoMemory = DropsThrough old new 10
