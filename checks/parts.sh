@@ -2,9 +2,11 @@
 # Sourced by gate and try, at the top of the repository: runs parts, each of which ends with a line "N passed, M failed", and adds
 # these lines up. A part that fails doesn't stop the others.
 said=$(mktemp)
-trap 'rm -f "$said"' EXIT
+begun=$(mktemp -d)
+trap 'rm -rf "$said" "$begun"' EXIT
 passed=0
 failed=0
+beside=()
 
 # stop WORD..: says what is missing, before anything is tried.
 stop() {
@@ -30,6 +32,29 @@ part() {
   echo "FAILED $name: status $status, and not 0 with a last line that counts what passed"
 }
 
+# beside NAME WORD..: begins a part once fewer of them run than there are processors. What it says comes by tell_beside.
+beside() {
+  local number=${#beside[@]}
+  while [ "$(jobs -rp | wc -l)" -ge "$(nproc)" ]; do wait -n; done
+  beside+=("$1")
+  shift
+  { "$@" > "$begun/$number" 2>&1; echo $? > "$begun/$number.status"; } &
+}
+
+# begun NUMBER: what such a part said, and its status.
+begun() {
+  cat "$begun/$1"
+  return "$(cat "$begun/$1.status")"
+}
+
+# tell_beside: waits for what was begun, and tells it in that order.
+tell_beside() {
+  local number
+  wait
+  for number in "${!beside[@]}"; do part "${beside[number]}" begun "$number"; done
+  beside=()
+}
+
 # The sum of all parts, and the status.
 finish_parts() {
   echo "$passed passed, $failed failed"
@@ -52,25 +77,26 @@ try_texts() {
 
 # The parts that try the programs which KAHN, KAHN_LIVE, KAHN_DRAW and KAHN_EXPLAIN name, and KAHN_CROWD, which isn't released.
 try_programs() {
-  part "files, streams and words that go wrong" timeout 600 bash checks/program.sh
-  part "lines that come through pipes" timeout 600 bash checks/live.sh
-  part "rows" bash checks/rows.sh
-  part "pictures" bash checks/draw.sh
-  part "why runs stopped" timeout 600 bash checks/explain.sh
-  part "commands of the pages" timeout 600 bash checks/transcripts.sh
-  part "the release" timeout 600 bash checks/release.sh
-  part "the first ten minutes" timeout 300 bash checks/newcomer.sh
-  part "the page in a browser" timeout 700 bash checks/web.sh
-  part "the Debian package" timeout 300 bash checks/package.sh
-  part "threads that are refused" bash checks/threads.sh
-  part "growths of memory that are refused" bash checks/memory.sh
-  part "machine instructions of the workloads" timeout 300 python3 bench/counts.py "$KAHN"
-  part "random programs" python3 fuzz/fuzz.py "$KAHN" 300
-  part "changes that mend random texts" timeout 300 python3 fuzz/mends.py "$KAHN_EXPLAIN" 200
-  part "what may stand in random texts" timeout 300 python3 fuzz/sets.py "$KAHN_EXPLAIN" 150
-  part "why random networks stop" timeout 300 python3 fuzz/causes.py "$KAHN_EXPLAIN" "$KAHN" 150
+  beside "files, streams and words that go wrong" timeout 600 bash checks/program.sh
+  beside "lines that come through pipes" timeout 600 bash checks/live.sh
+  beside "rows" bash checks/rows.sh
+  beside "pictures" bash checks/draw.sh
+  beside "why runs stopped" timeout 600 bash checks/explain.sh
+  beside "commands of the pages" timeout 600 bash checks/transcripts.sh
+  beside "the release" timeout 600 bash checks/release.sh
+  beside "the first ten minutes" timeout 300 bash checks/newcomer.sh
+  beside "the page in a browser" timeout 700 bash checks/web.sh
+  beside "the Debian package" timeout 300 bash checks/package.sh
+  beside "threads that are refused" bash checks/threads.sh
+  beside "growths of memory that are refused" bash checks/memory.sh
+  beside "machine instructions of the workloads" timeout 300 python3 bench/counts.py "$KAHN"
+  beside "random programs" python3 fuzz/fuzz.py "$KAHN" 300
+  beside "changes that mend random texts" timeout 300 python3 fuzz/mends.py "$KAHN_EXPLAIN" 200
+  beside "what may stand in random texts" timeout 300 python3 fuzz/sets.py "$KAHN_EXPLAIN" 150
+  beside "why random networks stop" timeout 300 python3 fuzz/causes.py "$KAHN_EXPLAIN" "$KAHN" 150
   if [ -x "${KAHN_CROWD:-}" ]; then
-    part "rows, by workers that begin at once" bash checks/rows.sh "$KAHN_CROWD"
-    part "random programs, by workers that begin at once" python3 fuzz/fuzz.py "$KAHN_CROWD" 300
+    beside "rows, by workers that begin at once" bash checks/rows.sh "$KAHN_CROWD"
+    beside "random programs, by workers that begin at once" python3 fuzz/fuzz.py "$KAHN_CROWD" 300
   fi
+  tell_beside
 }
