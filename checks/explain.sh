@@ -1,6 +1,6 @@
 #!/usr/bin/env bash
 # Explains why runs stopped: rings, tails into a ring, ends of streams, faults, the bound; the examples; what is wrong with the texts of
-# checks/mistakes; what is warned of in those of checks/warnings; tables of histories; and files and words that go wrong.
+# checks/mistakes and with the inputs there; what is warned of in those of checks/warnings; tables of histories; and files and words that go wrong.
 source "$(dirname "${BASH_SOURCE[0]}")/common.sh"
 find_explain
 cd "$work" || exit 2
@@ -127,7 +127,9 @@ gives "a table without a column" 0 'place' '' none --trace
 cp "$top/checks/mistakes/a-sign-for-becomes.kahn" .
 gives "a table of a text that is refused" 1 '' "$(cat "$top/checks/mistakes/a-sign-for-becomes.note")" a-sign-for-becomes.kahn --trace
 echo 'W: 1' > values
-gives "a table with an input that is refused" 1 '' 'kahn: input entry 1: not an input channel' "$top/examples/count.kahn" --input values --trace
+gives "a table with an input that is refused" 1 '' 'values:1:1: error: not an input channel; there is no input channel
+ 1 | W: 1
+   | ^' "$top/examples/count.kahn" --input values --trace
 
 # from a report: the same words and status; a report that was cut off or changed, or is of another program, is refused
 "$explain" "$ring" > wanted
@@ -195,6 +197,19 @@ for program in *.kahn; do
   fi
 done
 
+# each input that is refused, with what is said of it
+cd "$top/checks/mistakes/inputs" || exit 2
+for input in *.input; do
+  name=${input%.input}
+  "$explain" program.kahn --input "$input" > "$work/output" 2> "$work/error" < /dev/null
+  status=$?
+  if [ "$status" = 1 ] && cmp -s "$work/output" "$name.note" && [ ! -s "$work/error" ]; then
+    pass
+  else
+    fail "mistakes/inputs/$name: status $status, $(head -c 600 "$work/output"), $(head -c 300 "$work/error")"
+  fi
+done
+
 # each program with what is warned of: told before the explanation, and alone with --strict, which refuses it
 cd "$top/checks/warnings" || exit 2
 for program in *.kahn; do
@@ -244,7 +259,11 @@ gives "an empty text" 1 '<stdin>:1:1: error: found the end of the text, where `b
  1 | 
    | ^' ''
 echo 'NONE: 1' > values
-gives "an input of no channel" 1 '' 'kahn: input entry 1: no such channel' "$ring" --input values
+gives "an input of no channel" 1 'values:1:1: error: no such channel; there is no input channel
+ 1 | NONE: 1
+   | ^^^^' '' "$ring" --input values
+head -c 16777217 /dev/zero | tr '\0' ' ' > long
+gives "an input that is too long" 1 '' 'kahn: input text is too long' "$ring" --input long
 for words in "a b" "--workers 0" "--watch A" "--report"; do
   # shellcheck disable=SC2086
   "$explain" $words > output 2> error < /dev/null

@@ -13,12 +13,13 @@ use Rattle.kahn_syntax.specs.declared.fault.What.{What}
 use Rattle.kahn_syntax.specs.declared.fault.SyntaxFault.{SyntaxFault}
 use Rattle.kahn_syntax.specs.declared.fault.SyntaxFault.TheVariants.{Expected}
 use Rattle.kahn_syntax.specs.Texts.{IsTextFault}
-use Rattle.kahn_notes.specs.Notes.{IsNote}
+use Rattle.kahn_fault.specs.Message.{syntax_span}
+use Rattle.kahn_notes.specs.Notes.{IsCommented, IsNote}
 use Rattle.kahn_report.specs.Work.{IsParsed}
 use Rattle.kahn_report.specs.declared.working.WorkFault.TheVariants.{Check, Syntax}
 use Rattle.kahn_explain.specs.Explaining.{IsNoteOn}
 use Rattle.kahn_explain.specs.Noting.{faults_text}
-use Rattle.kahn_explain.specs.Refusing.{IsPlacedNote, IsRefusal, IsSyntaxRefusal, expected_of}
+use Rattle.kahn_explain.specs.Refusing.{IsPlacedNote, IsRefusal, IsSyntaxRefusal, expected_of, refused_words}
 
 abbrev unwrapped : Span × What → Option (Span × What) → Span × What
 unwrapped d None = d
@@ -36,6 +37,13 @@ pub told_expected : (path program : List ℕ) (f : SyntaxFault) (span : Span) (w
 told_expected path program f span what words e h =
     subst (λ o. MatchOption o (IsPlacedNote path program f (Some words))
     (λ p. (w : String Global) × (Some words ≡ Some w) × IsNote path program p.0 p.1 w)) (sym e) (words, refl, h)
+
+-- of a fault that has a place
+pub told_placed : (path program : List ℕ) (f : SyntaxFault) (span : Span) (words : List ℕ) (note : String Global) → syntax_span f ≡ Some span
+    → words ≡ refused_words program f → IsCommented path program span words (string_bytes note) → IsPlacedNote path program f (Some note)
+told_placed path program f span words note e is h =
+    subst (λ o. MatchOption o (Some note ≡ None) (λ at. (w : String Global) × (Some note ≡ Some w) × IsCommented path program at (refused_words program f) (string_bytes w))) (sym e)
+    (note, refl, subst (λ l. IsCommented path program span l (string_bytes note)) is h)
 
 -- and of the others
 pub told_other : (path program : List ℕ) (f : SyntaxFault) (note : Option (String Global)) → expected_of f ≡ None

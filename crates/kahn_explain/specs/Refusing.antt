@@ -1,5 +1,5 @@
 -- Believed. The note on why a program text is refused.
-use Rattle.std.specs.Prelude.{◌≡◌, ◌==◌, ◌++◌, ℕ, List, [], Option, Some, None, Err, MatchOption, codes, if◌then◌else◌, option_map, slice_get, string_bytes}
+use Rattle.std.specs.Prelude.{◌≡◌, ◌++◌, ℕ, List, Option, Some, None, Err, MatchOption, codes, string_bytes}
 use Rattle.std.specs.declared.alloc.Global.{Global}
 use Rattle.std.specs.declared.string.String.{String}
 use Rattle.kahn_tree.specs.declared.span.Span.{Span}
@@ -10,13 +10,13 @@ use Rattle.kahn_check.specs.Order.{faults}
 use Rattle.kahn_check.specs.Parts.{faults_by_part}
 use Rattle.kahn_syntax.specs.declared.fault.What.{What}
 use Rattle.kahn_syntax.specs.declared.fault.SyntaxFault.{SyntaxFault}
-use Rattle.kahn_syntax.specs.declared.fault.SyntaxFault.TheVariants.{BadCharacter, Expected}
+use Rattle.kahn_syntax.specs.declared.fault.SyntaxFault.TheVariants.{Expected}
 use Rattle.kahn_report.specs.declared.working.WorkFault.{WorkFault}
 use Rattle.kahn_report.specs.declared.working.WorkFault.TheVariants.{Syntax, Check, Text, Run, Write}
 use Rattle.kahn_fault.specs.Message.{check_span, syntax_span, syntax_words}
-use Rattle.kahn_marks.specs.Marks.{marked}
-use Rattle.kahn_notes.specs.Notes.{IsNote}
+use Rattle.kahn_notes.specs.Notes.{IsCommented, IsNote}
 use Rattle.kahn_report.specs.Work.{IsParsed}
+use Rattle.kahn_explain.specs.Characters.{character_help}
 use Rattle.kahn_explain.specs.Noting.{faults_text}
 
 -- the place and the reason, where a lexeme can't stand or the text ends too early
@@ -24,37 +24,14 @@ abbrev pub expected_of : SyntaxFault → Option (Span × What)
 expected_of (Expected span what) = Some (span, what)
 expected_of _ = None
 
--- what the language has in the place of a character, by its first byte
-abbrev pub byte_help : ℕ → List ℕ
-byte_help b =
-    if b == 33 then codes "; unequal is `<>`"
-    else if b == 37 then codes "; a remainder is `mod`"
-    else if b == 47 then codes "; a quotient is `div`, and a comment goes from `comment` to `;`"
-    else if b == 35 then codes "; a comment goes from `comment` to `;`"
-    else if b == 46 then codes "; numbers are whole"
-    else if b == 34 then codes "; there are no texts"
-    else if b == 91 then codes "; there are no arrays"
-    else if b == 123 then codes "; a block goes from `begin` to `end`"
-    else if b == 38 then codes "; it is the word `and`"
-    else if b == 124 then codes "; it is the word `or`"
-    else if b == 58 then codes "; `:` stands before `=` alone"
-    else []
-
-abbrev pub byte_or_none : Option ℕ → List ℕ
-byte_or_none (Some b) = byte_help b
-byte_or_none None = []
-
-abbrev pub character_help : List ℕ → SyntaxFault → List ℕ
-character_help program (BadCharacter span) = byte_or_none (slice_get program span.from)
-character_help program _ = []
-
 -- the words of a fault, with what the language has in the place of a character that it hasn't
 abbrev pub refused_words : List ℕ → SyntaxFault → List ℕ
 refused_words program f = syntax_words f ++ character_help program f
 
--- at its place, where it has one
+-- at its place, where it has one, with a comment before it that has to do with it
 abbrev pub IsPlacedNote : List ℕ → List ℕ → SyntaxFault → Option (String Global) → Type 0
-IsPlacedNote path program f note = option_map string_bytes note ≡ option_map (λ span. marked path program span (refused_words program f)) (syntax_span f)
+IsPlacedNote path program f note = MatchOption (syntax_span f) (note ≡ None)
+    (λ span. (words : String Global) × (note ≡ Some words) × IsCommented path program span (refused_words program f) (string_bytes words))
 
 -- of such a lexeme it says what may stand there; else it has the words of the fault, where that has a place
 abbrev pub IsSyntaxRefusal : List ℕ → List ℕ → SyntaxFault → Option (String Global) → Type 0

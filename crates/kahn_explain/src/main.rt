@@ -3,27 +3,70 @@
 #![tactic(auto)]
 
 mod explaining;
+mod feeding;
+mod fitting;
 mod helping;
 mod noting;
 mod refusing;
+mod seeking;
+mod strange;
+mod telling;
 
 use explaining::{Came, explain, explain_report, status, trace};
 use kahn_fault::Fault;
 use kahn_line::{ExplainOptions, read_explain_line, tell_line, tell_no_memory, tell_words};
 use kahn_pool::Config;
+use kahn_report::WorkFault;
 use kahn_texts::{Texts, read_texts, tell};
 use refusing::path_name;
+use std::alloc::{AllocError, Global};
 use std::io::Write;
 use std::process::ExitCode;
 use std::rt::Runtime;
 use std::sync::Wait;
 use std::thread::Threads;
 use std::{env, io};
+use telling::refuse_input;
+
+/// What the texts are called in notes.
+#[derive(Drop)]
+struct Paths {
+    program: String,
+    input: String,
+}
+
+/// What the texts that the command line names are called.
+fn paths_of(alloc: Global, options: &ExplainOptions) -> Result<Paths, AllocError> {
+    let program = path_name(alloc, &options.program)?;
+    let input = path_name(alloc, &options.input)?;
+    Ok(Paths { program, input })
+}
+
+/// What running and explaining came to; why the input text is refused is told to the writer, where that has a place.
+fn or_refused<W: Write>(
+    alloc: Global,
+    path: &str,
+    texts: &Texts,
+    came: Result<Came, WorkFault>,
+    writer: &mut W,
+) -> Result<Came, Fault> {
+    let came = match came {
+        Err(WorkFault::Text(fault)) => {
+            let program = texts.program.as_str();
+            refuse_input(alloc, path, program, texts.input.as_str(), fault, writer)
+        }
+        came => came,
+    };
+    match came {
+        Ok(came) => Ok(came),
+        Err(fault) => Err(Fault::Work(fault)),
+    }
+}
 
 /// Runs the program on the input, and explains on standard output.
 fn explain_texts<R: Runtime + AllocGlobal + Threads + Wait + Sync>(
     rt: &R,
-    path: &str,
+    paths: &Paths,
     texts: &Texts,
     config: Config,
     strict: bool,
@@ -31,10 +74,17 @@ fn explain_texts<R: Runtime + AllocGlobal + Threads + Wait + Sync>(
     let program = texts.program.as_str();
     let input = texts.input.as_str();
     let writer = &mut io::writer(rt);
-    match explain(rt, rt.alloc(), path, program, input, config, strict, writer) {
-        Ok(came) => Ok(came),
-        Err(fault) => Err(Fault::Work(fault)),
-    }
+    let came = explain(
+        rt,
+        rt.alloc(),
+        paths.program.as_str(),
+        program,
+        input,
+        config,
+        strict,
+        writer,
+    );
+    or_refused(rt.alloc(), paths.input.as_str(), texts, came, writer)
 }
 
 /// Explains the run of a report, which stands in the place of the input, on standard output.
@@ -63,7 +113,7 @@ fn report_texts<R: Runtime + AllocGlobal>(
 /// it and why the run stopped, or why there is none.
 fn trace_texts<R: Runtime + AllocGlobal + Threads + Wait + Sync, W: Write>(
     rt: &R,
-    path: &str,
+    paths: &Paths,
     texts: &Texts,
     config: Config,
     strict: bool,
@@ -72,38 +122,36 @@ fn trace_texts<R: Runtime + AllocGlobal + Threads + Wait + Sync, W: Write>(
     let program = texts.program.as_str();
     let input = texts.input.as_str();
     let table = &mut io::writer(rt);
-    match trace(
+    let came = trace(
         rt,
         rt.alloc(),
-        path,
+        paths.program.as_str(),
         program,
         input,
         config,
         strict,
         table,
         writer,
-    ) {
-        Ok(came) => Ok(came),
-        Err(fault) => Err(Fault::Work(fault)),
-    }
+    );
+    or_refused(rt.alloc(), paths.input.as_str(), texts, came, writer)
 }
 
 /// Does what the command line asks for, and gives the status. Faults are told to the writer.
 fn answered<R: Runtime + AllocGlobal + Threads + Wait + Sync, W: Write>(
     rt: &R,
     options: ExplainOptions,
-    path: &str,
+    paths: &Paths,
     writer: &mut W,
 ) -> u8 {
     let reported = options.report.is_some();
     match read_texts(rt, options.program, options.report.or(options.input)) {
         Ok(texts) => {
             let came = if reported {
-                report_texts(rt, path, &texts, options.strict)
+                report_texts(rt, paths.program.as_str(), &texts, options.strict)
             } else if options.trace {
-                trace_texts(rt, path, &texts, options.config, options.strict, writer)
+                trace_texts(rt, paths, &texts, options.config, options.strict, writer)
             } else {
-                explain_texts(rt, path, &texts, options.config, options.strict)
+                explain_texts(rt, paths, &texts, options.config, options.strict)
             };
             match came {
                 Ok(came) => status(came),
@@ -123,8 +171,8 @@ fn main(rt: HostRuntime) -> ExitCode {
         return ExitCode::from(tell_no_memory(&rt));
     };
     let status = match read_explain_line(rt.alloc(), words.as_slice()) {
-        Ok(options) => match path_name(rt.alloc(), &options.program) {
-            Ok(path) => answered(&rt, options, path.as_str(), &mut rt.stderr()),
+        Ok(options) => match paths_of(rt.alloc(), &options) {
+            Ok(paths) => answered(&rt, options, &paths, &mut rt.stderr()),
             Err(_) => tell_no_memory(&rt),
         },
         Err(fault) => tell_line(&rt, &fault),

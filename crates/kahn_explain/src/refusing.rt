@@ -11,8 +11,7 @@ use crate::helping::refused_words;
 use crate::noting::faults_note;
 use kahn_check::{CheckFault, every, part_by_part};
 use kahn_fault::{check_span, syntax_span};
-use kahn_marks::marked;
-use kahn_notes::unexpected_note;
+use kahn_notes::{commented_note, unexpected_note};
 use kahn_report::WorkFault;
 use kahn_syntax::{SyntaxFault, What, parse};
 use kahn_tree::{NoMemory, Span};
@@ -40,7 +39,7 @@ fn placed_note(
     match syntax_span(fault) {
         Some(span) => {
             let words = refused_words(alloc, program, fault)?;
-            let note = marked(alloc, path, program, span, words.as_str())?;
+            let note = commented_note(alloc, path, program, span, words.as_str())?;
             Ok(Some(note))
         }
         None => Ok(None),
