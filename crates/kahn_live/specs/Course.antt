@@ -1,21 +1,27 @@
 -- Believed. What lines make, one after the other, of a session, of what goes out and of what is told (this project's profile).
-use Rattle.std.specs.Prelude.{◌≡◌, ◌⊎◌, ℕ, ◌-◌, Bool, true, false, not, ◌||◌, List, Option, None, Some, Result, Ok, Err}
-use Rattle.std.specs.Io.KnownBytes.{Appends, Keeps}
+use Rattle.std.specs.Prelude.{◌≡◌, ◌⊎◌, ℕ, zero, suc, ◌-◌, ◌^◌, Bool, true, false, not, ◌||◌, List, take, Option, None, Some, Result, Ok, Err}
+use Rattle.std.specs.Io.KnownBytes.{Appends, IsAtEnd, Keeps}
 use Rattle.kahn_pool.specs.declared.answer.Verdict.{Verdict}
 use Rattle.kahn_pool.specs.declared.answer.Verdict.TheVariants.{Finished, Bound, Memory}
 use Rattle.kahn_report.specs.Written.{AppendsFront}
 use Rattle.kahn_report.specs.declared.write.WriteFault.{WriteFault}
+use Rattle.kahn_report.specs.declared.read.ReadFault.TheVariants.{Failed as FailedRead}
 use Rattle.kahn_report.specs.declared.working.WorkFault.TheVariants.{Write as WriteWork}
 use Rattle.kahn_fault.specs.declared.fault.Fault.{Fault}
-use Rattle.kahn_fault.specs.declared.fault.Fault.TheVariants.{Work}
+use Rattle.kahn_fault.specs.declared.fault.Fault.TheVariants.{Program, Work}
 use Rattle.kahn_session.specs.Live.{HasVerdict, IsDeaf, IsTakenLine, Live, breaks}
 use Rattle.kahn_session.specs.Refusals.{refusal_text, waiting_text}
 use Rattle.kahn_session.specs.declared.fault.TakeFault.{TakeFault}
+use Rattle.kahn_session.specs.declared.fault.TakeFault.TheVariants.{NoMemory}
+use Rattle.kahn_live.specs.Lines.{CutsLine, fed_text, most_kept, unmarked}
 use Rattle.kahn_live.specs.declared.stage.Stage.{Stage}
 use Rattle.kahn_live.specs.declared.telling.Teller.{Teller}
 use Rattle.std.specs.IoError.{error_kind}
 use Rattle.std.specs.declared.io.Error.{Error}
 use Rattle.std.specs.declared.io.ErrorKind.TheVariants.{BrokenPipe}
+use Rattle.std.specs.Io.Buffered.{reader_remaining}
+use Rattle.std.specs.declared.io.buffered.BufReader.{BufReader}
+use denote.Ref.{Bor}
 
 -- what is told on standard error
 pub record Telling : Type 0 where
@@ -37,6 +43,12 @@ pub record Point : Type 0 where
 
 abbrev pub point_of : {W E : Type 0} → (W → Option (List ℕ)) → (E → Option (List ℕ)) → Stage W E → Point
 point_of written said s = record { session = s.session; out = written s.outlet.writer; told = telling_of said s.teller }
+
+-- this holds of what a reader has left, and of the points, before and after
+abbrev pub Between : {I A W E : Type 0} → (I → Option (List ℕ)) → (W → Option (List ℕ)) → (E → Option (List ℕ)) → BufReader I A → BufReader I A
+    → Stage W E → Stage W E → (Option (List ℕ) → Option (List ℕ) → Point → Point → Type 0) → Type 0
+Between left written said before after old new holds =
+    holds (reader_remaining left before) (reader_remaining left after) (point_of written said old) (point_of written said new)
 
 -- the text was told, or after a fault of the writer a prefix of it; and a line counts as refused from here on, or none does
 pub record WasTold (text : List ℕ) (counts : Bool) (old new : Telling) : Type 0 where
@@ -69,6 +81,14 @@ abbrev pub WasMet : ℕ → List ℕ → Result Verdict TakeFault → Point → 
 WasMet number line answer old new =
     IsToldBy number answer old.told new.told × WasFed line answer old new
 
+-- memory was refused for the line, and that was told
+abbrev pub HasMissed : ℕ → Point → Point → Type 0
+HasMissed number old new = WasTold (refusal_text number NoMemory) (not old.told.keep_going) old.told new.told × HasWaited old new
+
+-- the line was taken, or refused, for want of memory too
+abbrev pub IsAnyMet : ℕ → List ℕ → Point → Point → Type 0
+IsAnyMet number line old new = ((answer : Result Verdict TakeFault) × WasMet number line answer old new) ⊎ HasMissed number old new
+
 -- ---- why a run breaks off
 
 abbrev pub IsGone : {X : Type 0} → Result X Error → Type 0
@@ -77,6 +97,9 @@ IsGone (Err e) = error_kind e ≡ BrokenPipe
 
 abbrev pub IsWriteFault : Fault → Type 0
 IsWriteFault fault = (f : WriteFault) × (fault ≡ Work (WriteWork f))
+
+abbrev pub IsReadFailed : Fault → Type 0
+IsReadFailed fault = fault ≡ Program None FailedRead
 
 -- what is new after the line, or what was put off, couldn't be written: nothing is told of the line
 abbrev pub IsBrokenOff : List ℕ → Point → Point → Fault → Type 0
@@ -102,6 +125,11 @@ IsLineMet number line old new (Ok None) = (v : Verdict) × WasMet number line (O
 IsLineMet number line old new (Ok (Some f)) = WasMet number line (Err f) old new
 IsLineMet number line old new (Err fault) = IsBrokenOff line old new fault
 
+-- the same of a line of the input, of which this was kept
+abbrev pub IsReadMet : {X : Type 0} → Option (Bor (List ℕ)) → ℕ → List ℕ → Point → Point → Result X Fault → Type 0
+IsReadMet input number kept old new (Ok x) = IsAnyMet number (fed_text input (unmarked number kept)) old new
+IsReadMet input number kept old new (Err fault) = IsBrokenOff (fed_text input (unmarked number kept)) old new fault
+
 -- ---- what may still come
 
 -- a line may still change the run
@@ -112,3 +140,44 @@ IsHearing s = HasVerdict s → IsDeaf s.flow.run false
 abbrev pub IsDeafNow : Live → Bool → Type 0
 IsDeafNow s true = HasVerdict s × IsDeaf s.flow.run true
 IsDeafNow s false = IsHearing s
+
+-- ---- the lines of the input
+
+-- a line of the input as it is fed: of a long one no more is kept than decides that it is too long
+abbrev pub fed_line : Option (Bor (List ℕ)) → ℕ → List ℕ → List ℕ
+fed_line input number line = fed_text input (unmarked number (take most_kept line))
+
+-- the line of this number was read, behind which this is left, and met
+abbrev pub IsStep : Option (Bor (List ℕ)) → ℕ → Option (List ℕ) → Option (List ℕ) → Point → Point → Type 0
+IsStep input number text rest old new =
+    (line : List ℕ) × (ready : Point) × CutsLine line text rest × HasSent old ready × IsAnyMet number (fed_line input number line) ready new
+
+-- it wasn't read, or it is the last, since nothing can be written
+abbrev pub IsStoppedAt : Option (Bor (List ℕ)) → ℕ → Option (List ℕ) → Point → Point → Fault → Type 0
+IsStoppedAt input number text old new fault =
+    (HasSent old new × (IsWriteFault fault ⊎ IsReadFailed fault))
+    ⊎ ((line : List ℕ) × (rest : Option (List ℕ)) × (ready : Point) × CutsLine line text rest × HasSent old ready
+    × IsBrokenOff (fed_line input number line) ready new fault)
+
+-- whether there was a line
+abbrev pub IsNextMet : Option (Bor (List ℕ)) → ℕ → Option (List ℕ) → Option (List ℕ) → Point → Point → Result Bool Fault → Type 0
+IsNextMet input number text rest old new (Ok true) = IsStep input number text rest old new
+IsNextMet input number text rest old new (Ok false) = IsAtEnd text × HasSent old new
+IsNextMet input number text rest old new (Err fault) = IsStoppedAt input number text old new fault
+
+-- the first lines, as many as these, were read and met in their order, each while it could change the run
+abbrev pub AreRead : Option (Bor (List ℕ)) → ℕ → Option (List ℕ) → Option (List ℕ) → Point → Point → Type 0
+AreRead input zero text rest old new = (rest ≡ text) × (new ≡ old)
+AreRead input (suc n) text rest old new =
+    (left : Option (List ℕ)) × (last : Point) × AreRead input n text left old last × IsHearing last.session × IsStep input (suc n) left rest last new
+
+-- no further line is read: there is none, or none can change the run, or there were as many as have numbers
+abbrev pub IsReadOut : Option (List ℕ) → Live → ℕ → Type 0
+IsReadOut rest s number = IsAtEnd rest ⊎ (IsDeafNow s true ⊎ (number ≡ 2 ^ 64 - 1))
+
+-- the lines of the input were met, and the number is that behind the last one's; or the one behind these stopped the run
+abbrev pub IsInputMet : Option (Bor (List ℕ)) → Option (List ℕ) → Point → Point → Result ℕ Fault → Type 0
+IsInputMet input text old new (Ok number) =
+    (n : ℕ) × (rest : Option (List ℕ)) × (last : Point) × AreRead input n text rest old last × (number ≡ suc n) × HasSent last new × IsReadOut rest last.session number
+IsInputMet input text old new (Err fault) =
+    (n : ℕ) × (rest : Option (List ℕ)) × (last : Point) × AreRead input n text rest old last × IsHearing last.session × IsStoppedAt input (suc n) rest last new fault

@@ -3,7 +3,7 @@
 ghost use Rattle.std.specs.Prelude.{◌≡◌, IfErr, IfOk, false, true};
 ghost use Rattle.std.specs.Io.Buffered.{reader_buffer};
 ghost use Rattle.kahn_session.specs.Live.{breaks};
-ghost use Rattle.kahn_live.specs.Course.{HasSent, IsAnswerTold, IsLineMet, IsDeafNow, IsRefusalTold, IsWriteFault, point_of};
+ghost use Rattle.kahn_live.specs.Course.{Between, HasSent, IsAnswerTold, IsDeafNow, IsInputMet, IsLineMet, IsNextMet, IsReadMet, IsRefusalTold, IsWriteFault, point_of};
 ghost use Rattle.kahn_live.specs.Lines.{IsReadyToRead};
 
 use crate::lines::{Next, fed_line, has_line, next_line};
@@ -120,7 +120,8 @@ fn take_read<W: Write, E: Write>(
     room: &mut Vec<u8>,
 ) -> Result<(), Fault>
     requires { stage.old.session.broken ≡ false }
-    ensures { IfOk result (λ _. stage.new.session.broken ≡ false) }
+    ensures broken { IfOk result (λ _. stage.new.session.broken ≡ false) }
+    ensures met { IsReadMet input.entry number line.now (point_of W.contents E.contents stage.old) (point_of W.contents E.contents stage.new) result }
 {
     let Ok(fed) = fed_line(input, line, number, room) else {
         return tell_behind(stage, TakeFault::NoMemory, number);
@@ -139,8 +140,36 @@ fn is_over(session: &Session<'_>) -> bool
     session.is_deaf()
 }
 
-/// Takes the lines of the reader as long as one can change the run, and gives the number behind the last one's. What is new
-/// goes out before each read that may wait.
+/// Reads the next line, of that number, and takes it, and tells whether there was one. What is new goes out before, unless the
+/// read doesn't wait.
+fn take_next<I: Read, W: Write, E: Write>(
+    stage: &mut Stage<'_, W, E>,
+    reader: &mut BufReader<I>,
+    input: Option<&str>,
+    number: u64,
+    line: &mut Vec<u8>,
+    room: &mut Vec<u8>,
+) -> Result<bool, Fault>
+    requires { stage.old.session.broken ≡ false }
+    ensures broken { IfOk result (λ _. stage.new.session.broken ≡ false) }
+    ensures met { Between I.remaining W.contents E.contents reader.old reader.new stage.old stage.new (λ s t p q. IsNextMet input.entry number s t p q result) }
+{
+    send_before(stage, reader)?;
+    match next_line(reader, line, &stage.outlet) {
+        Next::Line => {
+            take_read(stage, input, line, number, room)?;
+            Ok(true)
+        }
+        Next::End => Ok(false),
+        Next::Failed => Err(Fault::Program(None, ReadFault::Failed)),
+        Next::NoMemory => {
+            tell_behind(stage, TakeFault::NoMemory, number)?;
+            Ok(true)
+        }
+    }
+}
+
+/// Takes the lines of the reader as long as one can change the run, and gives the number behind the last one's.
 fn take_lines<I: Read, W: Write, E: Write>(
     alloc: Global,
     stage: &mut Stage<'_, W, E>,
@@ -148,7 +177,8 @@ fn take_lines<I: Read, W: Write, E: Write>(
     input: Option<&str>,
 ) -> Result<u64, Fault>
     requires { stage.old.session.broken ≡ false }
-    ensures { IfOk result (λ _. stage.new.session.broken ≡ false) }
+    ensures broken { IfOk result (λ _. stage.new.session.broken ≡ false) }
+    ensures met { Between I.remaining W.contents E.contents reader.old reader.new stage.old stage.new (λ s t p q. IsInputMet input.entry s p q result) }
 {
     let mut line = Vec::new(alloc);
     let mut room = Vec::new(alloc);
@@ -156,12 +186,8 @@ fn take_lines<I: Read, W: Write, E: Write>(
         if is_over(&stage.session) {
             return Ok(number);
         }
-        send_before(stage, reader)?;
-        match next_line(reader, &mut line, &stage.outlet) {
-            Next::Line => take_read(stage, input, &line, number, &mut room)?,
-            Next::End => return Ok(number),
-            Next::Failed => return Err(Fault::Program(None, ReadFault::Failed)),
-            Next::NoMemory => tell_behind(stage, TakeFault::NoMemory, number)?,
+        if !take_next(stage, reader, input, number, &mut line, &mut room)? {
+            return Ok(number);
         }
     }
     Ok(u64::MAX)

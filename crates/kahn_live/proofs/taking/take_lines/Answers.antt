@@ -1,0 +1,60 @@
+use Rattle.std.proofs.Common.{◌≡◌, inl, inr, false, true, ℕ, suc, arith, refl, rules, subst}
+use Rattle.std.proofs.lemmas.Result.{err_from_is_err_and}
+use Rattle.std.specs.Io.Buffered.{reader_remaining}
+use Rattle.kahn_live.specs.Course.{IsStoppedAt, point_of}
+use Rattle.kahn_live.proofs.Meeting.{next_none, next_read, unmoved}
+use Rattle.kahn_live.proofs.taking.take_lines.Goals as goal
+
+pub returns-in_err-take_next-clause-met : goal.returns-in_err-take_next-clause-met
+returns-in_err-take_next-clause-met g c =
+    let known = c.loop-number.invariant.1 in
+    let left = reader_remaining g.I.Read.remaining c.loop-number.reader in
+    let last = point_of g.W.Write.contents g.E.Write.contents c.loop-number.stage in
+    let new = point_of g.W.Write.contents g.E.Write.contents c.take_next.new.stage in
+    let p = err_from_is_err_and c.from_residual.result c.from_residual.ensures.1 in
+    let stopped = subst (λ (k : ℕ). IsStoppedAt c.args.input k left last new c.in_err-take_next.field-0.0) known.1 c.in_err-take_next.ensures.met in
+    rw (p.1, p.2) (known.0, left, last, known.2, c.if-is_over.ensures, stopped)
+
+pub loop-number-preserved : goal.loop-number-preserved
+loop-number-preserved g c =
+    let known = c.loop-number.invariant.1 in
+    let text = reader_remaining g.I.Read.remaining c.args.reader.now in
+    let left = reader_remaining g.I.Read.remaining c.loop-number.reader in
+    let rest = reader_remaining g.I.Read.remaining c.take_next.new.reader in
+    let old = point_of g.W.Write.contents g.E.Write.contents c.args.stage.now in
+    let last = point_of g.W.Write.contents g.E.Write.contents c.loop-number.stage in
+    let new = point_of g.W.Write.contents g.E.Write.contents c.take_next.new.stage in
+    let more : c.in_ok-take_next.field-0 ≡ true = search rules in (
+      c.in_ok-take_next.ensures.broken,
+      (
+        suc known.0,
+        omega (arith, known.1),
+        next_read c.args.input known.0 c.loop-number.number text left rest old last new c.in_ok-take_next.field-0 more known.1 known.2 c.if-is_over.ensures c.in_ok-take_next.ensures.met,
+      ),
+    )
+
+pub returns-clause-met : goal.returns-clause-met
+returns-clause-met g c =
+    let known = c.loop-number.invariant.1 in
+    let left = reader_remaining g.I.Read.remaining c.loop-number.reader in
+    let last = point_of g.W.Write.contents g.E.Write.contents c.loop-number.stage in
+    let end : 18446744073709551615 ≡ suc known.0 = omega (arith, known.1, c.loop-number-test.false, c.loop-number.auto.number, c.loop-number.auto.number-end) in
+    (known.0, left, last, known.2, end, unmoved last, inr (inr refl))
+
+pub returns-then-is_over-clause-met : goal.returns-then-is_over-clause-met
+returns-then-is_over-clause-met g c =
+    let known = c.loop-number.invariant.1 in
+    let left = reader_remaining g.I.Read.remaining c.loop-number.reader in
+    let last = point_of g.W.Write.contents g.E.Write.contents c.loop-number.stage in
+    (known.0, left, last, known.2, known.1, unmoved last, inr (inl c.if-is_over.ensures))
+
+pub returns-then-not-branch-clause-met : goal.returns-then-not-branch-clause-met
+returns-then-not-branch-clause-met g c =
+    let known = c.loop-number.invariant.1 in
+    let left = reader_remaining g.I.Read.remaining c.loop-number.reader in
+    let rest = reader_remaining g.I.Read.remaining c.take_next.new.reader in
+    let last = point_of g.W.Write.contents g.E.Write.contents c.loop-number.stage in
+    let new = point_of g.W.Write.contents g.E.Write.contents c.take_next.new.stage in
+    let none : c.in_ok-take_next.field-0 ≡ false = search rules in
+    let (ended, sent) = next_none c.args.input c.loop-number.number left rest last new c.in_ok-take_next.field-0 none c.in_ok-take_next.ensures.met in
+    (known.0, left, last, known.2, known.1, sent, inl ended)

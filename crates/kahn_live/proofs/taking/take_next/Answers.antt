@@ -1,0 +1,41 @@
+use Rattle.std.proofs.Common.{◌≡◌, ◌∙◌, inr, List, ℕ, subst, take}
+use Rattle.std.proofs.lemmas.Result.{err_from_is_err_and}
+use Rattle.std.specs.Io.Buffered.{reader_remaining}
+use Rattle.kahn_live.specs.Course.{IsBrokenOff, IsAnyMet, point_of}
+use Rattle.kahn_live.specs.Lines.{fed_text, most_kept, unmarked}
+use Rattle.kahn_live.proofs.taking.take_next.Goals as goal
+
+pub returns-in_err-take_read-in-Line-clause-met : goal.returns-in_err-take_read-in-Line-clause-met
+returns-in_err-take_read-in-Line-clause-met g c =
+    let (line, cuts, kept) = c.in-Line.ensures in
+    let is : c.deref.result.now ≡ take most_kept line = c.deref.ensures.value ∙ kept in
+    let ready = point_of g.W.Write.contents g.E.Write.contents c.send_before.new.stage in
+    let new = point_of g.W.Write.contents g.E.Write.contents c.take_read.new.stage in
+    let p = err_from_is_err_and c.from_residual-in_err-take_read-in-Line.result c.from_residual-in_err-take_read-in-Line.ensures.1 in
+    rw (p.1, p.2) (inr (
+      line,
+      reader_remaining g.I.Read.remaining c.next_line.new.reader,
+      ready,
+      cuts,
+      c.in_ok-send_before.ensures.sent,
+      subst (λ (l : List ℕ). IsBrokenOff (fed_text c.args.input (unmarked c.args.number l)) ready new c.in_err-take_read-in-Line.field-0.0) is c.in_err-take_read-in-Line.ensures.met,
+    ))
+
+pub returns-in_ok-take_read-in-Line-clause-met : goal.returns-in_ok-take_read-in-Line-clause-met
+returns-in_ok-take_read-in-Line-clause-met g c =
+    let (line, cuts, kept) = c.in-Line.ensures in
+    let is : c.deref.result.now ≡ take most_kept line = c.deref.ensures.value ∙ kept in
+    let ready = point_of g.W.Write.contents g.E.Write.contents c.send_before.new.stage in
+    let new = point_of g.W.Write.contents g.E.Write.contents c.take_read.new.stage in (
+      line,
+      ready,
+      cuts,
+      c.in_ok-send_before.ensures.sent,
+      subst (λ (l : List ℕ). IsAnyMet c.args.number (fed_text c.args.input (unmarked c.args.number l)) ready new) is c.in_ok-take_read-in-Line.ensures.met,
+    )
+
+pub returns-in_ok-tell_behind-in-NoMemory-clause-met : goal.returns-in_ok-tell_behind-in-NoMemory-clause-met
+returns-in_ok-tell_behind-in-NoMemory-clause-met g c =
+    let (line, cuts) = c.in-NoMemory.ensures in
+    let ready = point_of g.W.Write.contents g.E.Write.contents c.send_before.new.stage in
+    (line, ready, cuts, c.in_ok-send_before.ensures.sent, inr c.in_ok-tell_behind-in-NoMemory.ensures.told)
