@@ -45,9 +45,9 @@ abbrev pub point_of : {W E : Type 0} → (W → Option (List ℕ)) → (E → Op
 point_of written said s = record { session = s.session; out = written s.outlet.writer; told = telling_of said s.teller }
 
 -- this holds of what a reader has left, and of the points, before and after
-abbrev pub Between : {I A W E : Type 0} → (I → Option (List ℕ)) → (W → Option (List ℕ)) → (E → Option (List ℕ)) → BufReader I A → BufReader I A
+abbrev pub Across : {I A W E : Type 0} → (I → Option (List ℕ)) → (W → Option (List ℕ)) → (E → Option (List ℕ)) → BufReader I A → BufReader I A
     → Stage W E → Stage W E → (Option (List ℕ) → Option (List ℕ) → Point → Point → Type 0) → Type 0
-Between left written said before after old new holds =
+Across left written said before after old new holds =
     holds (reader_remaining left before) (reader_remaining left after) (point_of written said old) (point_of written said new)
 
 -- the text was told, or after a fault of the writer a prefix of it; and a line counts as refused from here on, or none does

@@ -3,7 +3,7 @@
 ghost use Rattle.std.specs.Prelude.{◌≡◌, IfErr, IfOk, false, true};
 ghost use Rattle.std.specs.Io.Buffered.{reader_buffer};
 ghost use Rattle.kahn_session.specs.Live.{breaks};
-ghost use Rattle.kahn_live.specs.Course.{Between, HasSent, IsAnswerTold, IsDeafNow, IsInputMet, IsLineMet, IsNextMet, IsReadMet, IsRefusalTold, IsWriteFault, point_of};
+ghost use Rattle.kahn_live.specs.Course.{Across, HasSent, IsAnswerTold, IsDeafNow, IsInputMet, IsLineMet, IsNextMet, IsReadMet, IsRefusalTold, IsWriteFault, point_of};
 ghost use Rattle.kahn_live.specs.Lines.{IsReadyToRead};
 
 use crate::lines::{Next, fed_line, has_line, next_line};
@@ -152,7 +152,7 @@ fn take_next<I: Read, W: Write, E: Write>(
 ) -> Result<bool, Fault>
     requires { stage.old.session.broken ≡ false }
     ensures broken { IfOk result (λ _. stage.new.session.broken ≡ false) }
-    ensures met { Between I.remaining W.contents E.contents reader.old reader.new stage.old stage.new (λ s t p q. IsNextMet input.entry number s t p q result) }
+    ensures met { Across I.remaining W.contents E.contents reader.old reader.new stage.old stage.new (λ s t p q. IsNextMet input.entry number s t p q result) }
 {
     send_before(stage, reader)?;
     match next_line(reader, line, &stage.outlet) {
@@ -178,7 +178,7 @@ fn take_lines<I: Read, W: Write, E: Write>(
 ) -> Result<u64, Fault>
     requires { stage.old.session.broken ≡ false }
     ensures broken { IfOk result (λ _. stage.new.session.broken ≡ false) }
-    ensures met { Between I.remaining W.contents E.contents reader.old reader.new stage.old stage.new (λ s t p q. IsInputMet input.entry s p q result) }
+    ensures met { Across I.remaining W.contents E.contents reader.old reader.new stage.old stage.new (λ s t p q. IsInputMet input.entry s p q result) }
 {
     let mut line = Vec::new(alloc);
     let mut room = Vec::new(alloc);
