@@ -154,7 +154,8 @@ def run(tasks, lanes):
                 if idle <= 0:
                     break
                 is_first = all(behind[it] < behind[name] for it, _, _ in running.values())
-                jobs = max(1, idle // (len(ready) - at), min(idle, 3) if is_first else 1) if tasks[name].takes_jobs else 1
+                # (a program and tests spend most of their time on loading, by one job)
+                jobs = max(1, idle // (len(ready) - at), min(idle, 3) if is_first else 1) if tasks[name].words[1] == "lib" else 1
                 left.remove(name)
                 room = f"{rooms}/{len(left)}"
                 running[pool.submit(tasks[name].run, room, jobs)] = name, jobs, time.time()
