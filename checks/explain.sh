@@ -184,31 +184,24 @@ for report in "$top"/examples/*.report; do
   fi
 done
 
-# each mistake with what is said of it
-cd "$top/checks/mistakes" || exit 2
-for program in *.kahn; do
-  name=${program%.kahn}
-  "$explain" "$program" > "$work/output" 2> "$work/error" < /dev/null
+# noted NAME WORD..: kahn_explain with these words refuses with what NAME.note has, and tells nothing else.
+noted() {
+  local name=$1 status
+  shift
+  "$explain" "$@" > "$work/output" 2> "$work/error" < /dev/null
   status=$?
   if [ "$status" = 1 ] && cmp -s "$work/output" "$name.note" && [ ! -s "$work/error" ]; then
     pass
   else
-    fail "mistakes/$name: status $status, $(head -c 600 "$work/output"), $(head -c 300 "$work/error")"
+    fail "$name: status $status, $(head -c 600 "$work/output"), $(head -c 300 "$work/error")"
   fi
-done
+}
 
-# each input that is refused, with what is said of it
-cd "$top/checks/mistakes/inputs" || exit 2
-for input in *.input; do
-  name=${input%.input}
-  "$explain" program.kahn --input "$input" > "$work/output" 2> "$work/error" < /dev/null
-  status=$?
-  if [ "$status" = 1 ] && cmp -s "$work/output" "$name.note" && [ ! -s "$work/error" ]; then
-    pass
-  else
-    fail "mistakes/inputs/$name: status $status, $(head -c 600 "$work/output"), $(head -c 300 "$work/error")"
-  fi
-done
+# each mistake, and each input that is refused, with what is said of it
+cd "$top/checks/mistakes" || exit 2
+for program in *.kahn; do noted "${program%.kahn}" "$program"; done
+cd inputs || exit 2
+for input in *.input; do noted "${input%.input}" program.kahn --input "$input"; done
 
 # each program with what is warned of: told before the explanation, and alone with --strict, which refuses it
 cd "$top/checks/warnings" || exit 2
