@@ -4,8 +4,8 @@ ghost use Rattle.std.specs.Prelude.{◌≡◌, IfOk, map};
 ghost use Rattle.clap.specs.Words.{app_of};
 ghost use Rattle.kahn_line.specs.Draw.{draw_app, IsDrawRead};
 
-use crate::line::{LineFault, bare, copied, text_arg};
-use clap::{Arg, Command};
+use crate::line::{LineFault, bare, copied, program_arg, text_arg};
+use clap::Command;
 use std::alloc::{AllocError, Global};
 use std::convert::AsStr;
 
@@ -45,18 +45,14 @@ pub struct DrawOptions {
 fn draw_command<'a>(alloc: Global) -> Result<Command<'a>, AllocError>
     ensures { IfOk result (λ c. app_of c ≡ draw_app) }
 {
-    let program = Arg::new(alloc, "PROGRAM").help(
-        "File of the program text; standard input where it is left out",
-    );
-    let report = text_arg(
-        alloc,
-        "report",
-        "FILE",
-        "File of the report of a run of the program, to be shown in the picture",
-    );
     bare(alloc, "kahn_draw", ABOUT, MORE)?
-        .arg(program)?
-        .arg(report)
+        .arg(program_arg(alloc))?
+        .arg(text_arg(
+            alloc,
+            "report",
+            "FILE",
+            "File of the report of a run of the program, to be shown in the picture",
+        ))
 }
 
 /// Reads the words of a command line, the first of which is the name of the program. It refuses with `Refused` where

@@ -5,7 +5,8 @@ ghost use Rattle.clap.specs.Words.{app_of, rule_of};
 ghost use Rattle.kahn_line.specs.Explain.{explain_app, strict_rule, trace_rule, IsExplainRead};
 
 use crate::line::{
-    LineFault, bare, config_of, copied, number_arg, quantum_arg, text_arg, workers_arg,
+    LineFault, bare, bound_arg, config_of, copied, input_arg, program_arg, quantum_arg, text_arg,
+    workers_arg,
 };
 use clap::{Arg, ArgAction, Command};
 use kahn_config::Config;
@@ -106,36 +107,18 @@ fn trace_arg<'a>(alloc: Global) -> Arg<'a>
 fn explain_command<'a>(alloc: Global) -> Result<Command<'a>, AllocError>
     ensures { IfOk result (λ c. app_of c ≡ explain_app) }
 {
-    let program = Arg::new(alloc, "PROGRAM").help(
-        "File of the program text; standard input where it is left out",
-    );
-    let input = text_arg(
-        alloc,
-        "input",
-        "FILE",
-        "File of the input text, lines such as `A: 1 2 3`: an input channel and its values",
-    );
-    let report = text_arg(
-        alloc,
-        "report",
-        "FILE",
-        "File of the report of a run of the program, to be explained in place of a run of its own",
-    );
-    let bound = number_arg(
-        alloc,
-        "bound",
-        0,
-        281_474_976_710_655,
-        "1000000",
-        "Events after which the run is stopped, 0 to 281474976710655",
-    );
     bare(alloc, "kahn_explain", ABOUT, MORE)?
-        .arg(program)?
-        .arg(input)?
-        .arg(report)?
+        .arg(program_arg(alloc))?
+        .arg(input_arg(alloc))?
+        .arg(text_arg(
+            alloc,
+            "report",
+            "FILE",
+            "File of the report of a run of the program, to be explained in place of a run of its own",
+        ))?
         .arg(workers_arg(alloc, "4"))?
         .arg(quantum_arg(alloc))?
-        .arg(bound)?
+        .arg(bound_arg(alloc))?
         .arg(strict_arg(alloc))?
         .arg(trace_arg(alloc))
 }

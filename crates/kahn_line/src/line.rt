@@ -1,7 +1,7 @@
 //! The command line.
 
 ghost use Rattle.std.specs.Prelude.{◌≡◌, IfOk, codes, false, map, option_map, string_bytes};
-ghost use Rattle.clap.specs.Words.{app_of, first_value, found_of, one_text, rule_of};
+ghost use Rattle.clap.specs.Words.{app_of, first_value, found_of, new_rule, one_text, rule_of};
 ghost use Rattle.kahn_line.specs.Line.{bare_app, kahn_app, number_rule, text_rule, IsRead, IsSet, IsTold, ReadsOr};
 ghost use Rattle.kahn_line.specs.declared.line.LineFault.TheVariants.{NoMemory};
 
@@ -125,6 +125,42 @@ pub(crate) fn number_arg<'a>(
         .default_value(given)
 }
 
+/// The place of the program text's path, which may be left out.
+pub(crate) fn program_arg<'a>(alloc: Global) -> Arg<'a>
+    ensures rule { rule_of result ≡ new_rule (codes "PROGRAM") }
+    ensures local { result.global ≡ false }
+{
+    Arg::new(alloc, "PROGRAM").help("File of the program text; standard input where it is left out")
+}
+
+/// The option of the input text's path.
+pub(crate) fn input_arg<'a>(alloc: Global) -> Arg<'a>
+    ensures rule { rule_of result ≡ text_rule (codes "input") }
+    ensures local { result.global ≡ false }
+{
+    text_arg(
+        alloc,
+        "input",
+        "FILE",
+        "File of the input text, lines such as `A: 1 2 3`: an input channel and its values",
+    )
+}
+
+/// The option of the bound on events.
+pub(crate) fn bound_arg<'a>(alloc: Global) -> Arg<'a>
+    ensures rule { rule_of result ≡ number_rule (codes "bound") 0 281474976710655 (codes "1000000") }
+    ensures local { result.global ≡ false }
+{
+    number_arg(
+        alloc,
+        "bound",
+        0,
+        281_474_976_710_655,
+        "1000000",
+        "Events after which the run is stopped, 0 to 281474976710655",
+    )
+}
+
 /// The option of the number of workers, and how many there are where the words don't say.
 pub(crate) fn workers_arg<'a>(alloc: Global, given: &'a str) -> Arg<'a>
     ensures rule { rule_of result ≡ number_rule (codes "workers") 1 16 given.entry.now }
@@ -178,34 +214,16 @@ pub(crate) fn bare<'a>(
 fn command<'a>(alloc: Global) -> Result<Command<'a>, AllocError>
     ensures { IfOk result (λ c. app_of c ≡ kahn_app) }
 {
-    let program = Arg::new(alloc, "PROGRAM").help(
-        "File of the program text; standard input where it is left out",
-    );
-    let input = text_arg(
-        alloc,
-        "input",
-        "FILE",
-        "File of the input text, lines such as `A: 1 2 3`: an input channel and its values",
-    );
-    let bound = number_arg(
-        alloc,
-        "bound",
-        0,
-        281_474_976_710_655,
-        "1000000",
-        "Events after which the run is stopped, 0 to 281474976710655",
-    );
-    let watch = watch_arg(
-        alloc,
-        "A channel that is reported too, besides the output channels",
-    );
     bare(alloc, "kahn", ABOUT, MORE)?
-        .arg(program)?
-        .arg(input)?
+        .arg(program_arg(alloc))?
+        .arg(input_arg(alloc))?
         .arg(workers_arg(alloc, "4"))?
         .arg(quantum_arg(alloc))?
-        .arg(bound)?
-        .arg(watch)
+        .arg(bound_arg(alloc))?
+        .arg(watch_arg(
+            alloc,
+            "A channel that is reported too, besides the output channels",
+        ))
 }
 
 /// A copy of a text, where there is one.

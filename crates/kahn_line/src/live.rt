@@ -113,26 +113,25 @@ fn plain_arg<'a>(alloc: Global) -> Arg<'a>
 fn live_command<'a>(alloc: Global) -> Result<Command<'a>, AllocError>
     ensures { IfOk result (λ c. app_of c ≡ live_app) }
 {
-    let program = Arg::new(alloc, "PROGRAM")
-        .required(true)
-        .help("File of the program text");
-    let step = number_arg(
-        alloc,
-        "step",
-        1,
-        281_474_976_710_655,
-        "1000000",
-        "Events that a part may take, 1 to 281474976710655",
-    );
-    let watch = watch_arg(
-        alloc,
-        "A channel that is shown too, besides the output channels",
-    );
     bare(alloc, "kahn_live", ABOUT, MORE)?
-        .arg(program)?
+        .arg(
+            Arg::new(alloc, "PROGRAM")
+                .required(true)
+                .help("File of the program text"),
+        )?
         .arg(quantum_arg(alloc))?
-        .arg(step)?
-        .arg(watch)?
+        .arg(number_arg(
+            alloc,
+            "step",
+            1,
+            281_474_976_710_655,
+            "1000000",
+            "Events that a part may take, 1 to 281474976710655",
+        ))?
+        .arg(watch_arg(
+            alloc,
+            "A channel that is shown too, besides the output channels",
+        ))?
         .arg(keep_going_arg(alloc))?
         .arg(at_end_arg(alloc))?
         .arg(plain_arg(alloc))

@@ -1,16 +1,13 @@
-use Rattle.std.proofs.Common.{ap, ap₂, ◌∙◌, ◌≡◌, false, codes}
+use Rattle.std.proofs.Common.{ap₂, ◌∙◌}
 use Rattle.std.proofs.lemmas.Result.{IfOk-weaker}
-use Rattle.clap.specs.Words.{new_rule, rule_of, with_rule}
-use Rattle.clap.specs.declared.builder.arg.Arg.{Arg}
+use Rattle.clap.specs.Words.{with_rule}
 use Rattle.kahn_line.proofs.line.command.Goals as goal
 
 pub returns : goal.returns
 returns c =
-    let local : c.help-program.result.global ≡ false = ap (λ (a : Arg). a.global) c.help-program.ensures ∙ c.new.ensures.optional.1 in
-    let rule : rule_of c.help-program.result ≡ new_rule (codes "PROGRAM") = ap rule_of c.help-program.ensures ∙ c.new.ensures.rule in
-    let one = c.in_ok-arg.ensures.shape local ∙ ap₂ with_rule c.in_ok-bare.ensures rule in
-    let two = c.in_ok-arg-2.ensures.shape c.text_arg-input.ensures.local ∙ ap₂ with_rule one c.text_arg-input.ensures.rule in
+    let one = c.in_ok-arg.ensures.shape c.program_arg.ensures.local ∙ ap₂ with_rule c.in_ok-bare.ensures c.program_arg.ensures.rule in
+    let two = c.in_ok-arg-2.ensures.shape c.input_arg.ensures.local ∙ ap₂ with_rule one c.input_arg.ensures.rule in
     let three = c.in_ok-arg-3.ensures.shape c.workers_arg.ensures.local ∙ ap₂ with_rule two c.workers_arg.ensures.rule in
     let four = c.in_ok-arg-4.ensures.shape c.quantum_arg.ensures.local ∙ ap₂ with_rule three c.quantum_arg.ensures.rule in
-    let five = c.in_ok-arg-5.ensures.shape c.number_arg-bound.ensures.local ∙ ap₂ with_rule four c.number_arg-bound.ensures.rule in
-    IfOk-weaker c.arg-6.result _ _ (λ r h. h.shape c.watch_arg-watch.ensures.local ∙ ap₂ with_rule five c.watch_arg-watch.ensures.rule) c.arg-6.ensures
+    let five = c.in_ok-arg-5.ensures.shape c.bound_arg.ensures.local ∙ ap₂ with_rule four c.bound_arg.ensures.rule in
+    IfOk-weaker c.arg-6.result _ _ (λ r h. h.shape c.watch_arg.ensures.local ∙ ap₂ with_rule five c.watch_arg.ensures.rule) c.arg-6.ensures

@@ -6,14 +6,14 @@ use Rattle.kahn_line.proofs.live.live_command.Goals as goal
 
 pub returns : goal.returns
 returns c =
-    let local : c.help-program.result.global ≡ false =
-    ap (λ (a : Arg). a.global) c.help-program.ensures ∙ ap (λ (a : Arg). a.global) c.required.ensures ∙ c.new.ensures.optional.1 in
-    let rule : rule_of c.help-program.result ≡ record (new_rule (codes "PROGRAM")) { required = true } =
-    ap rule_of c.help-program.ensures ∙ ap rule_of c.required.ensures ∙ ap (λ (r : Rule). record r { required = true }) c.new.ensures.rule in
+    let local : c.help.result.global ≡ false =
+    ap (λ (a : Arg). a.global) c.help.ensures ∙ ap (λ (a : Arg). a.global) c.required.ensures ∙ c.new.ensures.optional.1 in
+    let rule : rule_of c.help.result ≡ record (new_rule (codes "PROGRAM")) { required = true } =
+    ap rule_of c.help.ensures ∙ ap rule_of c.required.ensures ∙ ap (λ (r : Rule). record r { required = true }) c.new.ensures.rule in
     let one = c.in_ok-arg.ensures.shape local ∙ ap₂ with_rule c.in_ok-bare.ensures rule in
     let two = c.in_ok-arg-2.ensures.shape c.quantum_arg.ensures.local ∙ ap₂ with_rule one c.quantum_arg.ensures.rule in
-    let three = c.in_ok-arg-3.ensures.shape c.number_arg-step.ensures.local ∙ ap₂ with_rule two c.number_arg-step.ensures.rule in
-    let four = c.in_ok-arg-4.ensures.shape c.watch_arg-watch.ensures.local ∙ ap₂ with_rule three c.watch_arg-watch.ensures.rule in
+    let three = c.in_ok-arg-3.ensures.shape c.number_arg.ensures.local ∙ ap₂ with_rule two c.number_arg.ensures.rule in
+    let four = c.in_ok-arg-4.ensures.shape c.watch_arg.ensures.local ∙ ap₂ with_rule three c.watch_arg.ensures.rule in
     let five = c.in_ok-arg-5.ensures.shape c.keep_going_arg.ensures.local ∙ ap₂ with_rule four c.keep_going_arg.ensures.rule in
     let six = c.in_ok-arg-6.ensures.shape c.at_end_arg.ensures.local ∙ ap₂ with_rule five c.at_end_arg.ensures.rule in
     IfOk-weaker c.arg-7.result _ _ (λ r h. h.shape c.plain_arg.ensures.local ∙ ap₂ with_rule six c.plain_arg.ensures.rule) c.arg-7.ensures
