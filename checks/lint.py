@@ -14,6 +14,9 @@ import shutil
 import subprocess
 import sys
 
+import edits
+from mine import read
+
 TOP = os.path.dirname(os.path.dirname(os.path.abspath(__file__)))
 LIMITS = f"{TOP}/checks/limits.txt"
 LONG_CLAUSE, LONG_BODY, LONG_FILE = 160, 40, 500
@@ -22,11 +25,6 @@ CLAUSE = re.compile(r"^ *(?:requires|ensures|(?:pub )?ghost \w+(?: =|:))[^{\n]*\
 FUNCTION = re.compile(r"^( *)(?:pub(?:\([a-z]+\))? )?(?:unsafe )?fn (\w+)")
 PUBLIC = re.compile(r"^ *pub (?:unsafe )?(fn|struct|enum|trait|type|const|static) (\w+)")
 DEFINED = re.compile(r"^(?: *abbrev pub |(?:abbrev )?(?:pub )?(?:record |data )?)([^\s:(={]+)(?: [^=]*)?:")
-
-
-def read(path):
-    with open(path, encoding="utf-8") as it:
-        return it.read()
 
 
 def files(*patterns):
@@ -122,24 +120,13 @@ def names_twice():
 
 
 def unfit_edits():
-    """Must-fail edits that can't be applied: each text is one line, and what is old stands in its file exactly once."""
+    """Must-fail edits that can't be applied."""
     for path in sorted(glob.glob(f"{TOP}/crates/*/must-fail/*.edit") + glob.glob(f"{TOP}/checks/edits/*/*.edit")):
         name = os.path.relpath(path, TOP)
-        crate = f"{TOP}/crates/{name.split('/')[1 if name.startswith('crates/') else 2]}"
-        file, old, texts = "", "", {}
-        for line in read(path).splitlines():
-            word, _, rest = line.partition(":")
-            rest = rest.removeprefix(" ")
-            if word == "file":
-                file = rest
-                texts.setdefault(file, read(f"{crate}/{file}"))
-            elif word == "old" and texts[file].count(rest) == 1:
-                old = rest
-            elif word == "new" and old:
-                texts[file] = texts[file].replace(old, rest)
-                old = ""
-            else:
-                yield f"{name}: {line}"
+        try:
+            edits.edited(path, f"{TOP}/crates/{name.split('/')[1 if name.startswith('crates/') else 2]}")
+        except edits.Unfit as line:
+            yield f"{name}: {line}"
 
 
 def not_laid_out():

@@ -22,26 +22,29 @@ TESTS = ("kahn_units", "kahn_rows")
 COUNTED = re.compile(r"(\d+) passed, (\d+) failed")
 
 
+def read(path):
+    with open(path, encoding="utf-8") as it:
+        return it.read()
+
+
 def crates():
     """Each crate and those of the repository that it stands on, from the bottom up, as crates.txt has them."""
     below = {}
-    with open(f"{TOP}/crates.txt", encoding="utf-8") as lines:
-        for line in lines:
-            head, _, names = line.split("#")[0].partition(":")
-            if head.strip():
-                below[head.split()[0]] = [name for name in names.split() if name in below]
+    for line in read(f"{TOP}/crates.txt").splitlines():
+        head, _, names = line.split("#")[0].partition(":")
+        if head.strip():
+            below[head.split()[0]] = [name for name in names.split() if name in below]
     return below
 
 
 def seconds():
     """How long the proof of each crate takes by one job from nothing, as docs/gate.md has it."""
     found = {}
-    with open(f"{TOP}/docs/gate.md", encoding="utf-8") as lines:
-        for line in lines:
-            if line.startswith("| kahn"):
-                names, times = (column.split(",") for column in line.split("|")[1:3])
-                numbers = [int(re.sub(r"\D", "", it) or 0) for it in times]
-                found.update((name.strip(), numbers[min(at, len(numbers) - 1)]) for at, name in enumerate(names))
+    for line in read(f"{TOP}/docs/gate.md").splitlines():
+        if line.startswith("| kahn"):
+            names, times = (column.split(",") for column in line.split("|")[1:3])
+            numbers = [int(re.sub(r"\D", "", it) or 0) for it in times]
+            found.update((name.strip(), numbers[min(at, len(numbers) - 1)]) for at, name in enumerate(names))
     return found
 
 
@@ -54,21 +57,16 @@ class Task:
 
     def __init__(self, words, waits, crate=None, below=(), weight=1):
         self.words, self.waits, self.crate, self.below, self.weight = words, waits, crate, below, weight
-        self.takes_jobs = words[0] == "rt" and words[1] != "must-fail"
 
     def run(self, room, jobs):
         """The status and what was printed."""
-        folder = TOP if self.crate is None else copied(room, self.crate, self.below)
-        words, here = self.words, f"{TOP}/crates/{self.crate}/out"
-        if self.takes_jobs:
-            folder = f"{room}/crates/{self.crate}"
+        folder, words, here = TOP, self.words, f"{TOP}/crates/{self.crate}/out"
+        if self.crate:
+            folder = copied(room, self.crate, self.below)
             words = [*words[:2], "--jobs", str(jobs), *words[2:]]
-            shutil.rmtree(f"{folder}/out", ignore_errors=True)
-            if os.path.isdir(here):
-                shutil.copytree(here, f"{folder}/out", symlinks=True)
         done = subprocess.run(words, cwd=folder, stdin=subprocess.DEVNULL, stdout=subprocess.PIPE, stderr=subprocess.STDOUT,
                               text=True, errors="replace", check=False)
-        if self.takes_jobs and os.path.isdir(f"{folder}/out"):
+        if self.crate and os.path.isdir(f"{folder}/out"):
             shutil.rmtree(here, ignore_errors=True)
             shutil.move(f"{folder}/out", here)
         shutil.rmtree(room, ignore_errors=True)
@@ -84,14 +82,19 @@ def linked(file, to):
 
 
 def copied(room, crate, below):
-    """A tree of this crate and those below, with what these have built and nothing that they keep for themselves."""
+    """The folder of the crate in a tree of it, with what it keeps, and of those below, with what these have built alone."""
     for name in [*below, crate]:
         shutil.copytree(f"{TOP}/crates/{name}", f"{room}/crates/{name}", copy_function=linked, symlinks=True,
                         ignore=lambda folder, names: [it for it in names if it != "rlib"] if folder.endswith("/out") else [])
+    folder = f"{room}/crates/{crate}"
+    shutil.rmtree(f"{folder}/out", ignore_errors=True)
+    if os.path.isdir(f"{TOP}/crates/{crate}/out"):
+        shutil.copytree(f"{TOP}/crates/{crate}/out", f"{folder}/out", symlinks=True)
     shutil.copy(f"{TOP}/HANDLES", room)
-    with open(f"{TOP}/crates.txt", encoding="utf-8") as lines, open(f"{room}/crates.txt", "w", encoding="utf-8") as kept:
-        kept.writelines(line for line in lines if line.partition(":")[0].split()[:1] in [[it] for it in [*below, crate]])
-    return room
+    with open(f"{room}/crates.txt", "w", encoding="utf-8") as kept:
+        wanted = [[it] for it in [*below, crate]]
+        kept.writelines(line for line in read(f"{TOP}/crates.txt").splitlines(True) if line.partition(":")[0].split()[:1] in wanted)
+    return folder
 
 
 def words_for(crate):
@@ -100,8 +103,7 @@ def words_for(crate):
         return ["rt", "test"]
     if is_program(crate):
         return ["rt", "run", "--", "--help"]
-    with open(f"{TOP}/crates.txt", encoding="utf-8") as lines:
-        return ["rt", "check" if f"\n{crate} staticlib" in lines.read() else "lib"]
+    return ["rt", "check" if f"\n{crate} staticlib" in read(f"{TOP}/crates.txt") else "lib"]
 
 
 def closure(crate, below):
@@ -122,7 +124,7 @@ def tasks_of(changed, above, below, weights):
         tasks[crate] = Task(words_for(crate), waits, crate, closure(crate, below), weights.get(crate, 60))
     for crate in changed:
         if os.path.isdir(f"{TOP}/crates/{crate}/must-fail"):
-            tasks[f"must-fail edits of {crate}"] = Task(["rt", "must-fail", crate], [crate], crate, closure(crate, below))
+            tasks[f"must-fail edits of {crate}"] = Task([sys.executable, "checks/edits.py", "gate", crate], [crate])
     tasks["what is tried on the programs"] = Task(["bash", "try", "programs"], [it for it in above if is_program(it)], weight=120)
     return tasks
 
