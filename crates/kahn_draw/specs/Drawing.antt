@@ -7,7 +7,7 @@ use Rattle.kahn_graph.specs.Graph.{IsPicture}
 use Rattle.kahn_report.specs.declared.working.WorkFault.{WorkFault}
 use Rattle.kahn_report.specs.declared.working.WorkFault.TheVariants.{Syntax, Check, Text, Run, Write}
 use Rattle.kahn_report.specs.Work.{IsChecked, IsUnchecked}
-use Rattle.kahn_report.specs.Written.{AppendsFront}
+use Rattle.kahn_write.specs.Written.{AppendsFront}
 
 -- a picture of the network of the text, with what the report says of it
 abbrev pub IsPictureOf : List ℕ → List ℕ → List ℕ → Type 0

@@ -11,7 +11,7 @@ use Rattle.kahn_pool.specs.declared.config.RunFault.TheVariants.{NoMemory}
 use Rattle.kahn_report.specs.Work.{IsChecked, IsUnanswered}
 use Rattle.kahn_report.specs.declared.working.WorkFault.{WorkFault}
 use Rattle.kahn_report.specs.declared.working.WorkFault.TheVariants.{Syntax, Check, Text, Run, Write}
-use Rattle.kahn_report.specs.Written.{AppendsFront}
+use Rattle.kahn_write.specs.Written.{AppendsFront}
 use Rattle.kahn_why.specs.Words.{IsAnswer, IsExplained}
 use Rattle.kahn_why.specs.declared.told.Explanation.{Explanation}
 use Rattle.kahn_explain.specs.Explaining.{AreAllowed, AreNotesOn, IsExplanationOf, HasExplained}

@@ -10,7 +10,7 @@ use Rattle.kahn_pool.specs.declared.answer.Verdict.TheVariants.{Finished, Bound,
 use Rattle.kahn_pool.specs.declared.config.RunFault.TheVariants.{NoMemory}
 use Rattle.kahn_report.specs.Inputs.{StandsFor, IsInputTextFault}
 use Rattle.kahn_report.specs.Work.{IsAnswered, IsChecked, IsUnchecked}
-use Rattle.kahn_report.specs.Written.{AppendsFront}
+use Rattle.kahn_write.specs.Written.{AppendsFront}
 use Rattle.kahn_report.specs.declared.working.WorkFault.{WorkFault}
 use Rattle.kahn_report.specs.declared.working.WorkFault.TheVariants.{Syntax, Check, Text, Run, Write}
 use Rattle.std.specs.declared.alloc.Global.{Global}

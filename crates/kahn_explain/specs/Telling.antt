@@ -6,7 +6,7 @@ use Rattle.std.specs.Io.KnownBytes.{Appends}
 use Rattle.kahn_tree.specs.declared.tree.Program.{Program}
 use Rattle.kahn_pool.specs.declared.config.RunFault.TheVariants.{NoMemory}
 use Rattle.kahn_report.specs.Work.{IsChecked, IsUnchecked}
-use Rattle.kahn_report.specs.Written.{AppendsFront}
+use Rattle.kahn_write.specs.Written.{AppendsFront}
 use Rattle.kahn_report.specs.declared.input.TextFault.{TextFault}
 use Rattle.kahn_report.specs.declared.working.WorkFault.{WorkFault}
 use Rattle.kahn_report.specs.declared.working.WorkFault.TheVariants.{Syntax, Check, Text, Run, Write}

@@ -1,7 +1,7 @@
 -- What was written is known by another name.
 use Rattle.std.proofs.Common.{◌≡◌, ◌+◌, ◌≤◌, List, ℕ, length, subst, sym}
 use Rattle.std.specs.Prelude.{Option, Result}
-use Rattle.kahn_report.specs.Written.{Writes}
+use Rattle.kahn_write.specs.Written.{Writes}
 
 -- a text that equals what was written was written
 pub told : {X E : Type 0} (old new : Option (List ℕ)) (r : Result X E) (a b : List ℕ) → Writes old new r a → b ≡ a → Writes old new r b

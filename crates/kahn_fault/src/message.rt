@@ -2,7 +2,7 @@
 
 ghost use Rattle.std.specs.Prelude.{◌≡◌, ◌+◌, ◌<◌, ◌≤◌, [], ◌∷◌, length, decimal, codes};
 ghost use Rattle.std.specs.List.{concat};
-ghost use Rattle.kahn_report.specs.Written.{Writes};
+ghost use Rattle.kahn_write.specs.Written.{Writes};
 ghost use Rattle.kahn_fault.specs.Message.{words_line, two_line, between_line, place_line, placed_line, memory_line, what_words, syntax_span, syntax_words, check_span, check_words, entry_line, text_line, run_line, work_line, read_line, path_words, fault_text};
 
 use crate::fault::Fault;

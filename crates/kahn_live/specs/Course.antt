@@ -3,8 +3,8 @@ use Rattle.std.specs.Prelude.{◌≡◌, ◌⊎◌, ℕ, zero, suc, ◌-◌, ◌
 use Rattle.std.specs.Io.KnownBytes.{Appends, IsAtEnd, Keeps}
 use Rattle.kahn_pool.specs.declared.answer.Verdict.{Verdict}
 use Rattle.kahn_pool.specs.declared.answer.Verdict.TheVariants.{Finished, Bound, Memory}
-use Rattle.kahn_report.specs.Written.{AppendsFront}
-use Rattle.kahn_report.specs.declared.write.WriteFault.{WriteFault}
+use Rattle.kahn_write.specs.Written.{AppendsFront}
+use Rattle.kahn_write.specs.declared.bytes.WriteFault.{WriteFault}
 use Rattle.kahn_report.specs.declared.read.ReadFault.TheVariants.{Failed as FailedRead}
 use Rattle.kahn_report.specs.declared.working.WorkFault.TheVariants.{Write as WriteWork}
 use Rattle.kahn_fault.specs.declared.fault.Fault.{Fault}

@@ -1,5 +1,5 @@
 -- The lines of the ends, one after another.
-use Rattle.std.proofs.Common.{◌≡◌, ℕ, ◌+◌, ◌≤◌, ◌<◌, List, ◌∷◌, ◌++◌, length, drop, get_or, ap, sym, ◌∙◌, append_assoc, add-one, arith, length-append, drop-cons}
+use Rattle.std.proofs.Common.{◌≡◌, ℕ, ◌+◌, ◌<◌, List, ◌∷◌, ◌++◌, length, drop, get_or, ap, sym, ◌∙◌, append_assoc, add-one, drop-cons}
 use Rattle.kahn_report.specs.Report.{end_text, ends_text}
 use Rattle.kahn_pool.specs.declared.answer.End.{End}
 use Rattle.kahn_tree.specs.declared.tree.Program.{Program}
@@ -17,7 +17,3 @@ pub ends_moved : (program : Program) (ends : List End) (i : ℕ) (d : End) (all 
 ends_moved program ends i d all done below split =
     split ∙ ap (λ l. done ++ l) (ends_split program ends i d below)
     ∙ sym (append_assoc done (end_text program i (get_or ends i d)) (ends_text program (i + 1) (drop (i + 1) ends)))
-
--- a piece of text is paid for by its bytes
-pub few_on : (first before after : ℕ) (done line : List ℕ) → before ≤ first + length done → after ≤ before + length line → after ≤ first + length (done ++ line)
-few_on first before after done line few more = omega (arith, length-append done line)

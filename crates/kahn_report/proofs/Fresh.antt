@@ -5,8 +5,9 @@ use Rattle.kahn_tree.specs.declared.tree.Program.{Program}
 use Rattle.kahn_streams.specs.declared.token.Token.{Token}
 use Rattle.kahn_streams.specs.declared.value.Line.{Line}
 use Rattle.kahn_code.specs.Cells.{token_value}
-use Rattle.kahn_report.specs.Report.{line_head, line_feed, tokens_text}
-use Rattle.kahn_report.specs.News.{spaced_text, more_text, plain_line, plain_text, token_line}
+use Rattle.kahn_write.specs.Values.{line_feed, plain_line, spaced_text}
+use Rattle.kahn_report.specs.Report.{line_head, tokens_text}
+use Rattle.kahn_report.specs.News.{more_text, plain_text}
 
 -- the line of tokens is that of their values
 pub tokens_more : (program : Program) (line : Line) (tokens : List Token) → (tokens ≡ [] → ⊥) → tokens_text program line tokens ≡ more_text program line (map token_value tokens)
@@ -14,5 +15,5 @@ tokens_more program line [] some = absurd (some refl)
 tokens_more program line (t ∷ ts) some = ap (λ l. line_head program line ++ (l ++ line_feed)) (sym (flat_map-map spaced_text token_value (t ∷ ts)))
 
 -- the lines of tokens are those of their values
-pub tokens_plain : (tokens : List Token) → flat_map token_line tokens ≡ plain_text (map token_value tokens)
+pub tokens_plain : (tokens : List Token) → flat_map (λ (t : Token). plain_line t.value) tokens ≡ plain_text (map token_value tokens)
 tokens_plain tokens = sym (flat_map-map plain_line token_value tokens)

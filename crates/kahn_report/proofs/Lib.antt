@@ -1,4 +1,3 @@
-pub mod Pieces
 pub mod Ends
 pub mod Fresh
 pub mod Declared

@@ -38,8 +38,8 @@ use Rattle.kahn_pool.specs.Runs.{IsWatched}
 use Rattle.kahn_pool.proofs.Unique.{finished_is_one}
 use Rattle.kahn_report.specs.Names as name
 use Rattle.kahn_report.specs.Entries.{text_lines}
-use Rattle.kahn_report.specs.News.{spaced_text}
-use Rattle.kahn_report.specs.Report.{line_head, line_feed, stream_text, outcome_word, waited_name, end_words, end_text, ends_text, verdict_text, last_text, report_text}
+use Rattle.kahn_write.specs.Values.{line_feed, spaced_text}
+use Rattle.kahn_report.specs.Report.{line_head, stream_text, outcome_word, waited_name, end_words, end_text, ends_text, verdict_text, last_text, report_text}
 use Rattle.kahn_report.specs.Work.{IsOneReport, watched_name}
 use Rattle.kahn_report.proofs.Same_programs.{one_network, one_channels, one_processes}
 use Rattle.kahn_report.proofs.Same_inputs.{one_list, one_input}

@@ -1,7 +1,6 @@
 pub mod Names
 pub mod Report
 pub mod News
-pub mod Written
 pub mod Reading
 pub mod Entries
 pub mod Inputs

@@ -1,17 +1,12 @@
 -- Believed. The text of what is new on streams, and of how a run ended (this project's profile).
-use Rattle.std.specs.Prelude.{ℕ, List, [], ◌∷◌, ◌++◌, codes, flat_map}
-use Rattle.std.specs.List.{concat}
+use Rattle.std.specs.Prelude.{ℕ, List, [], ◌∷◌, ◌++◌, flat_map}
 use Rattle.kahn_tree.specs.declared.tree.Program.{Program}
-use Rattle.kahn_streams.specs.declared.token.Token.{Token}
 use Rattle.kahn_streams.specs.declared.value.Value.{Value}
 use Rattle.kahn_streams.specs.declared.value.Line.{Line}
 use Rattle.kahn_pool.specs.declared.answer.End.{End}
 use Rattle.kahn_pool.specs.declared.answer.Verdict.{Verdict}
-use Rattle.kahn_report.specs.Report.{value_text, line_head, line_feed, ends_text, last_line}
-
--- a space and the value
-abbrev pub spaced_text : Value → List ℕ
-spaced_text value = concat (codes " " ∷ value_text value ∷ [])
+use Rattle.kahn_write.specs.Values.{line_feed, plain_line, spaced_text}
+use Rattle.kahn_report.specs.Report.{line_head, ends_text, last_line}
 
 -- the line of a stream that has these values more, and nothing where there are none
 abbrev pub more_text : Program → Line → List Value → List ℕ
@@ -23,13 +18,6 @@ abbrev pub news_text : Program → List Line → List (List Value) → List ℕ
 news_text program [] news = []
 news_text program (line ∷ lines) [] = []
 news_text program (line ∷ lines) (values ∷ news) = more_text program line values ++ news_text program lines news
-
--- a value alone, and a line feed
-abbrev pub plain_line : Value → List ℕ
-plain_line value = value_text value ++ line_feed
-
-abbrev pub token_line : Token → List ℕ
-token_line token = plain_line token.value
 
 -- values alone, each on a line of its own
 abbrev pub plain_text : List Value → List ℕ

@@ -1,12 +1,10 @@
 -- Believed. The report text of an answer of a network: a function of the program and the answer, line by line. Each line ends
 -- with a line feed and has no blank at its end.
-use Rattle.std.specs.Prelude.{ℕ, ◌+◌, ◌<◌, List, [], ◌∷◌, ◌++◌, codes, decimal, flat_map, All, true, false}
-use Rattle.std.specs.Fmt.{signed_decimal}
+use Rattle.std.specs.Prelude.{ℕ, ◌+◌, ◌<◌, List, [], ◌∷◌, ◌++◌, codes, decimal, flat_map, All}
 use Rattle.std.specs.List.{concat}
+use Rattle.kahn_write.specs.Values.{line_feed, spaced_text}
 use Rattle.kahn_report.specs.Names.{channel_name, process_name, channel_count, instance_count}
 use Rattle.kahn_tree.specs.declared.tree.Program.{Program}
-use Rattle.kahn_streams.specs.declared.value.Value.{Value}
-use Rattle.kahn_streams.specs.declared.value.Value.TheVariants.{Integer, Logical}
 use Rattle.kahn_streams.specs.declared.value.Line.{Line}
 use Rattle.kahn_streams.specs.declared.value.Line.TheVariants.{Channel, Print}
 use Rattle.kahn_streams.specs.declared.value.Failure.TheVariants.{Overflow, Division}
@@ -19,19 +17,9 @@ use Rattle.kahn_pool.specs.declared.answer.Verdict.{Verdict}
 use Rattle.kahn_pool.specs.declared.answer.Verdict.TheVariants.{Finished, Bound, Memory}
 use Rattle.kahn_pool.specs.declared.answer.Answer.{Answer}
 
--- what ends a line
-abbrev pub line_feed : List ℕ
-line_feed = 10 ∷ []
-
--- a value as it is printed: decimal, with a minus where it is negative, or true or false
-abbrev pub value_text : Value → List ℕ
-value_text (Integer n) = signed_decimal n
-value_text (Logical true) = codes "true"
-value_text (Logical false) = codes "false"
-
 -- a space and the value
 abbrev pub token_text : Token → List ℕ
-token_text token = concat (codes " " ∷ value_text token.value ∷ [])
+token_text token = spaced_text token.value
 
 -- what a stream's line begins with: the name of its channel, or the number from 1 and the name of its process
 abbrev pub line_head : Program → Line → List ℕ

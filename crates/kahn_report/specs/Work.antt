@@ -22,7 +22,7 @@ use Rattle.kahn_report.specs.declared.working.WorkFault.{WorkFault}
 use Rattle.kahn_report.specs.declared.working.WorkFault.TheVariants.{Syntax, Check, Text, Run, Write}
 use Rattle.kahn_report.specs.Inputs.{StandsFor, IsInputTextFault}
 use Rattle.kahn_report.specs.Report.{report_text}
-use Rattle.kahn_report.specs.Written.{AppendsFront}
+use Rattle.kahn_write.specs.Written.{AppendsFront}
 
 -- the text spells this program, whose nesting is within its limit
 abbrev pub IsParsed : List ℕ → Program → Type 0

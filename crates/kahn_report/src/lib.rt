@@ -14,15 +14,16 @@ mod working;
 mod write;
 
 pub use input::{TextFault, read_input};
+pub use kahn_write::WriteFault;
 pub use laws::{one_report, sample_text};
 pub use read::{ReadFault, read_text};
 pub use working::{WorkFault, work};
-pub use write::{WriteFault, write_report};
+pub use write::write_report;
 
 // For the crates above.
 pub use entries::{LineFault, MOST_BYTES, read_entries, read_line};
+pub use kahn_write::{write_line, write_line_counted};
 pub use names::{channel_name, process_name};
 pub use news::{write_closing, write_news};
 pub use plain::write_plain;
 pub use working::checked;
-pub use write::{write_line, write_line_counted};

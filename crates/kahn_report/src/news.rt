@@ -4,13 +4,14 @@ ghost use Rattle.std.specs.Prelude.{◌≡◌, ◌+◌, ◌<◌, ◌≤◌, leng
 ghost use Rattle.kahn_code.specs.Cells.{token_value};
 ghost use Rattle.kahn_report.specs.Report.{IsLine};
 ghost use Rattle.kahn_report.specs.News.{more_text, closing_text};
-ghost use Rattle.kahn_report.specs.Written.{Writes};
+ghost use Rattle.kahn_write.specs.Written.{Writes};
 
-use crate::write::{WriteFault, flush, put_ends, put_last, put_tokens};
+use crate::write::{put_ends, put_last, put_tokens};
 use kahn_network::Network;
 use kahn_pool::{End, Verdict};
 use kahn_streams::{Carried, Line};
 use kahn_tree::Steps;
+use kahn_write::{WriteFault, flush};
 use std::io::Write;
 use std::marker::Brand;
 use std::sync::ledger::{Blank, Ledger};

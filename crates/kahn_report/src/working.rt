@@ -4,11 +4,12 @@ ghost use Rattle.kahn_report.specs.Work.{IsChecked, FinishesWithin, IsTextAnswer
 ghost use Rattle.std.specs.Prelude.{IfOk, MatchResult};
 
 use crate::input::{TextFault, read_input};
-use crate::write::{WriteFault, write_report};
+use crate::write::write_report;
 use kahn_check::{CheckFault, check};
 use kahn_network::Network;
 use kahn_pool::{Answer, Config, Gate, RunFault, Verdict, run};
 use kahn_syntax::{SyntaxFault, parse};
+use kahn_write::WriteFault;
 use std::alloc::Global;
 use std::io::Write;
 use std::sync::Wait;

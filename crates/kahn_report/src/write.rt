@@ -1,156 +1,19 @@
 //! The report text, written piece by piece.
 
-ghost use Rattle.std.specs.Prelude.{◌≡◌, ℕ, ◌+◌, ◌*◌, ◌<◌, ◌≤◌, length, drop, decimal, ◌++◌, [], ◌∷◌, codes, flat_map, All};
-ghost use Rattle.std.specs.Fmt.{signed_decimal};
-ghost use Rattle.std.specs.List.{concat};
-ghost use Rattle.std.specs.Io.KnownBytes.{Keeps};
-ghost use Rattle.kahn_report.specs.Written.{Writes};
-ghost use Rattle.kahn_report.specs.Report.{report_text, value_text, token_text, line_head, tokens_text, stream_text, outcome_word, waited_name, end_words, end_text, ends_text, last_line, IsLine, HasItsLines};
+ghost use Rattle.std.specs.Prelude.{◌≡◌, ◌+◌, ◌<◌, ◌≤◌, length, flat_map, All};
+ghost use Rattle.kahn_write.specs.Written.{Writes};
+ghost use Rattle.kahn_report.specs.Report.{report_text, line_head, tokens_text, stream_text, outcome_word, waited_name, end_words, end_text, ends_text, last_line, IsLine, HasItsLines};
 
 use crate::names::{channel_name, process_name};
-use itoa::{Buffer, write_digits};
+use itoa::Buffer;
 use kahn_network::Network;
 use kahn_pool::{Answer, End, Outcome, Stream, Verdict};
-use kahn_streams::{Carried, Failure, Line, Value};
+use kahn_streams::{Carried, Failure, Line};
 use kahn_tree::Steps;
+use kahn_write::{Spaced, WriteFault, flush, put, put_all, put_values};
 use std::io::Write;
 use std::marker::Brand;
 use std::sync::ledger::{Blank, Ledger};
-use thiserror::Error;
-
-/// How many values are put together for one write.
-pub(crate) const TOGETHER: usize = 32;
-
-/// Room for so many, each of 20 bytes at most and a space.
-pub(crate) const ROOM: usize = 21 * TOGETHER;
-
-/// Why a text wasn't written whole.
-#[derive(Clone, Copy, Debug, PartialEq, Eq, Drop, Error)]
-pub enum WriteFault {
-    #[error("a write failed")]
-    Failed,
-    #[error("a write took no byte")]
-    Zero,
-}
-
-/// Writes bytes, by as many writes as it takes.
-#[inline(always)]
-pub(crate) fn put<W: Write, L: Ledger>(
-    writer: &mut W,
-    bytes: &[u8],
-    writes: &mut Steps<L>,
-) -> Result<(), WriteFault>
-    ensures text { Writes (W.contents writer.old) (W.contents writer.new) result bytes.now }
-    ensures few { writes.new ≤ writes.old + length bytes.now }
-{
-    let mut rest = bytes;
-    while !rest.is_empty() {
-        writes.tick();
-        match writer.write(rest) {
-            Ok(0) => return Err(WriteFault::Zero),
-            Ok(count) => rest = &rest[count..],
-            Err(_) => return Err(WriteFault::Failed),
-        }
-    }
-    Ok(())
-}
-
-/// Writes pieces one after another.
-#[inline(always)]
-fn put_all<W: Write, L: Ledger>(
-    writer: &mut W,
-    pieces: &[&[u8]],
-    writes: &mut Steps<L>,
-) -> Result<(), WriteFault>
-    ensures text { Writes (W.contents writer.old) (W.contents writer.new) result (flat_map (λ piece. piece.now) pieces.now) }
-    ensures few { writes.new ≤ writes.old + length (flat_map (λ piece. piece.now) pieces.now) }
-{
-    for piece in pieces {
-        put(writer, piece, writes)?;
-    }
-    Ok(())
-}
-
-/// Places a text so that it ends at `end`, and gives where it begins.
-#[inline(always)]
-pub(crate) fn place(text: &[u8], room: &mut [u8], end: usize) -> usize
-    requires { (length text.now ≤ end) × (end ≤ length room.old) }
-    ensures begins { result + length text.now ≡ end }
-    ensures placed { drop result room.new ≡ text.now ++ drop end room.old }
-{
-    let start = end - text.len();
-    room[start..end].copy_from_slice(text);
-    start
-}
-
-/// Places a number so that it ends at `end`, and gives where it begins.
-#[inline(always)]
-#[tactic(auto, using(crate::proofs::Pieces::digits_within))]
-fn place_number(number: i64, room: &mut [u8], end: usize) -> usize
-    requires { (20 ≤ end) × (end ≤ length room.old) }
-    ensures near { (result ≤ end) × (end ≤ result + 20) }
-    ensures placed { drop result room.new ≡ signed_decimal number ++ drop end room.old }
-{
-    let start = write_digits(number.unsigned_abs(), room, end);
-    if number < 0 {
-        place(b"-", room, start)
-    } else {
-        start
-    }
-}
-
-/// Places a value so that it ends at `end`, and gives where it begins.
-#[inline(always)]
-pub(crate) fn place_value(value: Value, room: &mut [u8], end: usize) -> usize
-    requires { (20 ≤ end) × (end ≤ length room.old) }
-    ensures near { (result ≤ end) × (end ≤ result + 20) }
-    ensures placed { drop result room.new ≡ value_text value ++ drop end room.old }
-{
-    match value {
-        Value::Integer(number) => place_number(number, room, end),
-        Value::Logical(true) => place(b"true", room, end),
-        Value::Logical(false) => place(b"false", room, end),
-    }
-}
-
-/// Places a space and a value so that they end at `end`, and gives where they begin.
-#[inline(always)]
-fn place_spaced(value: Value, room: &mut [u8], end: usize) -> usize
-    requires { (21 ≤ end) × (end ≤ length room.old) }
-    ensures near { (result ≤ end) × (end ≤ result + 21) }
-    ensures placed { drop result room.new ≡ concat (codes " " ∷ value_text value ∷ []) ++ drop end room.old }
-{
-    let start = place_value(value, room, end);
-    place(b" ", room, start)
-}
-
-/// Places the values of tokens at the end of the room, the last one first since digits come so, and gives their text.
-fn place_tokens<'a>(tokens: &[Carried], room: &'a mut [u8]) -> &'a [u8]
-    requires { 21 * length tokens.now ≤ length room.old }
-    ensures { result.now ≡ flat_map token_text tokens.now }
-{
-    let mut start = room.len();
-    for token in tokens.iter().rev() {
-        start = place_spaced(token.value(), room, start);
-    }
-    &room[start..]
-}
-
-/// Writes the values of tokens, so many by one write.
-fn put_values<W: Write, L: Ledger>(
-    writer: &mut W,
-    tokens: &[Carried],
-    writes: &mut Steps<L>,
-) -> Result<(), WriteFault>
-    ensures text { Writes (W.contents writer.old) (W.contents writer.new) result (flat_map token_text tokens.now) }
-    ensures few { writes.new ≤ writes.old + length (flat_map token_text tokens.now) }
-{
-    let mut room = [0; ROOM];
-    for chunk in tokens.chunks(TOGETHER) {
-        put(writer, place_tokens(chunk, &mut room), writes)?;
-    }
-    Ok(())
-}
 
 /// Writes what a stream's line begins with.
 fn put_head<W: Write, L: Ledger>(
@@ -190,7 +53,7 @@ pub(crate) fn put_tokens<W: Write, L: Ledger>(
     ensures few { writes.new ≤ writes.old + length (tokens_text network.now line tokens.now) }
 {
     put_head(writer, network, line, writes)?;
-    put_values(writer, tokens, writes)?;
+    put_values::<Spaced, _, _>(writer, tokens, writes)?;
     put(writer, b"\n", writes)
 }
 
@@ -328,18 +191,6 @@ pub(crate) fn put_ends<W: Write, L: Ledger>(
     Ok(())
 }
 
-/// Flushes a writer, which leaves what it holds, and counts that too.
-pub(crate) fn flush<W: Write, L: Ledger>(
-    writer: &mut W,
-    writes: &mut Steps<L>,
-) -> Result<(), WriteFault>
-    ensures kept { Keeps (W.contents writer.old) (W.contents writer.new) }
-    ensures once { writes.new ≡ writes.old + 1 }
-{
-    writes.tick();
-    writer.flush().map_err(|_| WriteFault::Failed)
-}
-
 /// Writes the report text and flushes, and counts both: at most one write for each byte, and one flush.
 pub fn write_counted<W: Write, L: Ledger>(
     writer: &mut W,
@@ -384,39 +235,4 @@ pub fn write_report<W: Write>(
     ensures { Writes (W.contents writer.old) (W.contents writer.new) result (report_text network.now answer.now) }
 {
     write_opened::<W, Brand>(writer, Blank::new(1), network, answer)
-}
-
-/// Writes pieces one after another and flushes, and counts both.
-pub fn write_line_counted<W: Write, L: Ledger>(
-    writer: &mut W,
-    pieces: &[&[u8]],
-    writes: &mut Steps<L>,
-) -> Result<(), WriteFault>
-    ensures text { Writes (W.contents writer.old) (W.contents writer.new) result (flat_map (λ piece. piece.now) pieces.now) }
-    ensures few { writes.new ≤ writes.old + length (flat_map (λ piece. piece.now) pieces.now) + 1 }
-{
-    put_all(writer, pieces, writes)?;
-    flush(writer, writes)
-}
-
-/// Opens a count, and writes a line.
-fn write_line_opened<W: Write, L: Ledger>(
-    writer: &mut W,
-    blank: Blank,
-    pieces: &[&[u8]],
-) -> Result<(), WriteFault>
-    requires name { blank.name ≡ L.name }
-    requires parts { blank.parts ≡ L.parts }
-    requires some { 0 < blank.parts }
-    ensures { Writes (W.contents writer.old) (W.contents writer.new) result (flat_map (λ piece. piece.now) pieces.now) }
-{
-    let mut writes = Steps::<L>::open(blank);
-    write_line_counted(writer, pieces, &mut writes)
-}
-
-/// Writes pieces one after another, and flushes. After a fault a prefix of them went out.
-pub fn write_line<W: Write>(writer: &mut W, pieces: &[&[u8]]) -> Result<(), WriteFault>
-    ensures { Writes (W.contents writer.old) (W.contents writer.new) result (flat_map (λ piece. piece.now) pieces.now) }
-{
-    write_line_opened::<W, Brand>(writer, Blank::new(1), pieces)
 }

@@ -26,8 +26,8 @@ use Rattle.kahn_pool.specs.declared.config.RunFault.TheVariants as fault
 use Rattle.kahn_report.specs.Entries.{AreBlanks, IsEntry, HasNoHead, HasNoValues, content, most_bytes}
 use Rattle.kahn_report.specs.Names.{channel_name}
 use Rattle.kahn_report.specs.News.{closing_text, joined, news_text, plain_text}
-use Rattle.kahn_report.specs.Written.{AppendsFront}
-use Rattle.kahn_report.specs.declared.write.WriteFault.{WriteFault}
+use Rattle.kahn_write.specs.Written.{AppendsFront}
+use Rattle.kahn_write.specs.declared.bytes.WriteFault.{WriteFault}
 use Rattle.kahn_session.specs.Pace.{events_of, part_bound}
 use Rattle.kahn_session.specs.declared.fault.TakeFault.{TakeFault}
 use Rattle.kahn_session.specs.declared.fault.TakeFault.TheVariants.{TooLong, NotUtf8, BadLine, BadValue, Feed, NoMemory, Write}

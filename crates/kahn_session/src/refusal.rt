@@ -1,7 +1,7 @@
 //! What is said of a line of input that isn't taken.
 
 ghost use Rattle.std.specs.Prelude.{◌≡◌};
-ghost use Rattle.kahn_report.specs.Written.{Writes};
+ghost use Rattle.kahn_write.specs.Written.{Writes};
 ghost use Rattle.kahn_session.specs.Refusals.{feed_words, refusal_line, refusal_text, take_words, waiting_text, waiting_words};
 
 use crate::fault::TakeFault;

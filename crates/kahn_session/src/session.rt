@@ -8,7 +8,7 @@ ghost use Rattle.kahn_pool.specs.Flows.{Flowing, flow_lines};
 ghost use Rattle.kahn_report.specs.Entries.{AreBlanks, IsEntry, content};
 ghost use Rattle.kahn_report.specs.Names.{channel_name};
 ghost use Rattle.kahn_report.specs.News.{news_text, plain_text};
-ghost use Rattle.kahn_report.specs.Written.{Writes};
+ghost use Rattle.kahn_write.specs.Written.{Writes};
 ghost use Rattle.kahn_session.specs.Live.{HasOpened, IsClosed, IsDeaf, IsFaulty, IsFedBy, HasVerdict, IsNamedAt, IsNamedLine, IsStreamOf, IsTakenLine, IsText, IsUnfedBy, IsUnopened, breaks, form_text, is_faulted, is_finished, waits_on_input, wants_input};
 ghost use Rattle.kahn_session.specs.inner.Shown.{OutBegins, news_of};
 

@@ -2,7 +2,7 @@
 
 ghost use Rattle.std.specs.Prelude.{◌≡◌};
 ghost use Rattle.kahn_fault.specs.Status.{status_of};
-ghost use Rattle.kahn_report.specs.Written.{Writes};
+ghost use Rattle.kahn_write.specs.Written.{Writes};
 ghost use Rattle.kahn_texts.specs.Telling.{told_text};
 
 use kahn_fault::{Fault, fault_line, status};

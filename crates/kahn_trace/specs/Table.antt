@@ -6,7 +6,7 @@ use Rattle.kahn_streams.specs.declared.value.Line.{Line}
 use Rattle.kahn_streams.specs.declared.value.Line.TheVariants.{Channel, Print}
 use Rattle.kahn_streams.specs.declared.value.Value.{Value}
 use Rattle.kahn_report.specs.Names.{channel_name, process_name}
-use Rattle.kahn_report.specs.Report.{line_feed, value_text}
+use Rattle.kahn_write.specs.Values.{line_feed, value_text}
 use Rattle.kahn_trace.specs.declared.column.Column.{Column}
 
 -- what heads a column, behind a comma: the name of its channel, or `print`, the number from 1 and the name of its process

@@ -1,7 +1,7 @@
 //! Texts that grow by pieces.
 
 ghost use Rattle.std.specs.Prelude.{◌≡◌, ◌++◌, IfOk, flat_map, string_bytes};
-ghost use Rattle.kahn_report.specs.Report.{value_text};
+ghost use Rattle.kahn_write.specs.Values.{value_text};
 
 use itoa::Buffer;
 use kahn_streams::Value;

@@ -1,6 +1,6 @@
 use Rattle.kahn_report.specs.Report.{ends_text}
 use Rattle.std.proofs.KnownBytes.{Appends-trans}
-use Rattle.kahn_report.proofs.Pieces.{fails, stops, goes_on_front, flushed}
+use Rattle.kahn_write.proofs.Pieces.{fails, stops, goes_on_front, flushed}
 use Rattle.kahn_report.proofs.news.closing_counted.Goals as goal
 
 pub returns-in_err-put_ends-clause-text : goal.returns-in_err-put_ends-clause-text

@@ -1,6 +1,6 @@
 use Rattle.std.proofs.Common.{flat_map}
 use Rattle.kahn_report.specs.Report.{token_text, line_head}
-use Rattle.kahn_report.proofs.Pieces.{fails, stops, goes_on, goes_on_front}
+use Rattle.kahn_write.proofs.Pieces.{fails, stops, goes_on, goes_on_front}
 use Rattle.kahn_report.proofs.write.put_tokens.Goals as goal
 
 pub returns-in_err-put_head-clause-text : goal.returns-in_err-put_head-clause-text

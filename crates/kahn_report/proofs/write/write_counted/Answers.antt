@@ -1,7 +1,7 @@
 use Rattle.std.proofs.Common.{flat_map}
 use Rattle.kahn_report.specs.Report.{stream_text, ends_text}
 use Rattle.std.proofs.KnownBytes.{Appends-trans}
-use Rattle.kahn_report.proofs.Pieces.{fails, stops, goes_on_front, flushed}
+use Rattle.kahn_write.proofs.Pieces.{fails, stops, goes_on_front, flushed}
 use Rattle.kahn_report.proofs.write.write_counted.Goals as goal
 
 pub returns-in_err-put_streams-clause-text : goal.returns-in_err-put_streams-clause-text

@@ -4,7 +4,7 @@ use Rattle.kahn_network.specs.Wiring.{IsWellWired}
 use Rattle.kahn_pool.specs.HeldRuns.{so_far}
 use Rattle.kahn_pool.specs.Flows.{Flowing, flow_lines}
 use Rattle.std.proofs.Common.{refl}
-use Rattle.kahn_report.specs.Written.{AppendsFront}
+use Rattle.kahn_write.specs.Written.{AppendsFront}
 use Rattle.kahn_session.specs.inner.Shown.{news_of}
 use Rattle.kahn_session.specs.Live.{HasBroken, HasTaken, Live}
 use Rattle.kahn_session.proofs.Showing.{kept_lines, news_texts}

@@ -3,14 +3,13 @@ use Rattle.std.proofs.Common.{◌≡◌, ◌*◌, ◌≤◌, List, length, drop,
 use Rattle.std.specs.Slice.Iter.{iter_rest}
 use Rattle.std.specs.Iterator.Adapters.{rev_source}
 use Rattle.kahn_streams.specs.declared.token.Token.{Token}
-use Rattle.kahn_report.specs.News.{token_line}
-use Rattle.kahn_report.proofs.plain.place_lines.Given as goal
+use Rattle.kahn_write.proofs.values.place_values.Given as goal
 
 abbrev pub invariant-loop-token : goal.invariant-loop-token
-invariant-loop-token l =
+invariant-loop-token g l =
     let left = iter_rest (rev_source l.token-iterator) in
-    (goal.iterator-loop-token).can_next l.token-iterator
-    × (goal.iterator-loop-token).is_finite l.token-iterator
+    (goal.iterator-loop-token g).can_next l.token-iterator
+    × (goal.iterator-loop-token g).is_finite l.token-iterator
     × (21 * length left ≤ l.start)
     × (l.start ≤ length l.room)
-    × ((placed : List Token) × (l.tokens ≡ left ++ placed) × (drop l.start l.room ≡ flat_map token_line placed))
+    × ((placed : List Token) × (l.tokens ≡ left ++ placed) × (drop l.start l.room ≡ flat_map (λ (t : Token). g.F.Layout.text t.value) placed))

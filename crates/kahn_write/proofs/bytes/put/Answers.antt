@@ -1,7 +1,7 @@
 use Rattle.std.proofs.Common.{◌++◌, take, rules}
 use Rattle.std.proofs.KnownBytes.{Appends-trans}
-use Rattle.kahn_report.proofs.Pieces.{moves_front, one_more}
-use Rattle.kahn_report.proofs.write.put.Goals as goal
+use Rattle.kahn_write.proofs.Pieces.{moves_front, one_more}
+use Rattle.kahn_write.proofs.bytes.put.Goals as goal
 
 pub loop-rest-preserved : goal.loop-rest-preserved
 loop-rest-preserved g c =

@@ -1,5 +1,5 @@
-use Rattle.kahn_report.proofs.Pieces.{fails, flushed}
-use Rattle.kahn_report.proofs.write.write_line_counted.Goals as goal
+use Rattle.kahn_write.proofs.Pieces.{fails, flushed}
+use Rattle.kahn_write.proofs.bytes.write_line_counted.Goals as goal
 
 pub returns-in_err-put_all-clause-text : goal.returns-in_err-put_all-clause-text
 returns-in_err-put_all-clause-text g c = fails _ _ _ _ c.from_residual.ensures.0 c.in_err-put_all.ensures.text

@@ -1,7 +1,7 @@
 -- The pieces so far went out, by at most as many writes.
 use Rattle.std.proofs.Common.{◌+◌, ◌≤◌, length, take, flat_map}
 use Rattle.std.specs.Io.KnownBytes.{Appends}
-use Rattle.kahn_report.proofs.write.put_all.Given as goal
+use Rattle.kahn_write.proofs.bytes.put_all.Given as goal
 
 abbrev pub invariant-loop-piece : goal.invariant-loop-piece
 invariant-loop-piece g l = record {

@@ -6,7 +6,7 @@ use Rattle.std.proofs.lemmas.List.Folds.{length-flat_map-take}
 use Rattle.std.proofs.lemmas.List.{take_rest}
 use Rattle.std.specs.Io.KnownBytes.{Appends, Keeps}
 use Rattle.std.proofs.KnownBytes.{Appends-nil, Appends-trans, Appends-kept}
-use Rattle.kahn_report.specs.Written.{AppendsFront, Writes}
+use Rattle.kahn_write.specs.Written.{AppendsFront, Writes}
 
 -- a fault in the text's first piece
 pub stops : (a b : Option (List ℕ)) (t u : List ℕ) → AppendsFront a b t → AppendsFront a b (t ++ u)
@@ -69,3 +69,7 @@ flushed a b c (Err e) t gone kept = (t, [], sym (append-nil t), Appends-kept a b
 -- how many digits the magnitude of a signed number has
 pub digits_within : (n : ℕ) → n ≤ 2 ^ 63 → length (decimal n) ≤ 19
 digits_within n fits = length-decimal-le 19 n (omega arith) (omega arith) (omega arith)
+
+-- a piece of text is paid for by its bytes
+pub few_on : (first before after : ℕ) (done line : List ℕ) → before ≤ first + length done → after ≤ before + length line → after ≤ first + length (done ++ line)
+few_on first before after done line few more = omega (arith, length-append done line)

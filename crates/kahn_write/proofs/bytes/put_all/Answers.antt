@@ -1,6 +1,6 @@
 use Rattle.std.proofs.Common.{rules}
-use Rattle.kahn_report.proofs.Pieces.{fails, loop_fails, loop_few}
-use Rattle.kahn_report.proofs.write.put_all.Goals as goal
+use Rattle.kahn_write.proofs.Pieces.{fails, loop_fails, loop_few}
+use Rattle.kahn_write.proofs.bytes.put_all.Goals as goal
 
 pub returns-in_err-put-clause-text : goal.returns-in_err-put-clause-text
 returns-in_err-put-clause-text g c =

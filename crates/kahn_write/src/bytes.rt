@@ -1,0 +1,102 @@
+//! Bytes that go out.
+
+ghost use Rattle.std.specs.Prelude.{◌≡◌, ◌+◌, ◌<◌, ◌≤◌, length, flat_map};
+ghost use Rattle.std.specs.Io.KnownBytes.{Keeps};
+ghost use Rattle.kahn_write.specs.Written.{Writes};
+
+use kahn_tree::Steps;
+use std::io::Write;
+use std::marker::Brand;
+use std::sync::ledger::{Blank, Ledger};
+use thiserror::Error;
+
+/// Why a text wasn't written whole.
+#[derive(Clone, Copy, Debug, PartialEq, Eq, Drop, Error)]
+pub enum WriteFault {
+    #[error("a write failed")]
+    Failed,
+    #[error("a write took no byte")]
+    Zero,
+}
+
+/// Writes bytes, by as many writes as it takes.
+#[inline(always)]
+pub fn put<W: Write, L: Ledger>(
+    writer: &mut W,
+    bytes: &[u8],
+    writes: &mut Steps<L>,
+) -> Result<(), WriteFault>
+    ensures text { Writes (W.contents writer.old) (W.contents writer.new) result bytes.now }
+    ensures few { writes.new ≤ writes.old + length bytes.now }
+{
+    let mut rest = bytes;
+    while !rest.is_empty() {
+        writes.tick();
+        match writer.write(rest) {
+            Ok(0) => return Err(WriteFault::Zero),
+            Ok(count) => rest = &rest[count..],
+            Err(_) => return Err(WriteFault::Failed),
+        }
+    }
+    Ok(())
+}
+
+/// Writes pieces one after another.
+#[inline(always)]
+pub fn put_all<W: Write, L: Ledger>(
+    writer: &mut W,
+    pieces: &[&[u8]],
+    writes: &mut Steps<L>,
+) -> Result<(), WriteFault>
+    ensures text { Writes (W.contents writer.old) (W.contents writer.new) result (flat_map (λ piece. piece.now) pieces.now) }
+    ensures few { writes.new ≤ writes.old + length (flat_map (λ piece. piece.now) pieces.now) }
+{
+    for piece in pieces {
+        put(writer, piece, writes)?;
+    }
+    Ok(())
+}
+
+/// Flushes a writer, which leaves what it holds, and counts that too.
+pub fn flush<W: Write, L: Ledger>(writer: &mut W, writes: &mut Steps<L>) -> Result<(), WriteFault>
+    ensures kept { Keeps (W.contents writer.old) (W.contents writer.new) }
+    ensures once { writes.new ≡ writes.old + 1 }
+{
+    writes.tick();
+    writer.flush().map_err(|_| WriteFault::Failed)
+}
+
+/// Writes pieces one after another and flushes, and counts both.
+pub fn write_line_counted<W: Write, L: Ledger>(
+    writer: &mut W,
+    pieces: &[&[u8]],
+    writes: &mut Steps<L>,
+) -> Result<(), WriteFault>
+    ensures text { Writes (W.contents writer.old) (W.contents writer.new) result (flat_map (λ piece. piece.now) pieces.now) }
+    ensures few { writes.new ≤ writes.old + length (flat_map (λ piece. piece.now) pieces.now) + 1 }
+{
+    put_all(writer, pieces, writes)?;
+    flush(writer, writes)
+}
+
+/// Opens a count, and writes a line.
+fn write_line_opened<W: Write, L: Ledger>(
+    writer: &mut W,
+    blank: Blank,
+    pieces: &[&[u8]],
+) -> Result<(), WriteFault>
+    requires name { blank.name ≡ L.name }
+    requires parts { blank.parts ≡ L.parts }
+    requires some { 0 < blank.parts }
+    ensures { Writes (W.contents writer.old) (W.contents writer.new) result (flat_map (λ piece. piece.now) pieces.now) }
+{
+    let mut writes = Steps::<L>::open(blank);
+    write_line_counted(writer, pieces, &mut writes)
+}
+
+/// Writes pieces one after another, and flushes. After a fault a prefix of them went out.
+pub fn write_line<W: Write>(writer: &mut W, pieces: &[&[u8]]) -> Result<(), WriteFault>
+    ensures { Writes (W.contents writer.old) (W.contents writer.new) result (flat_map (λ piece. piece.now) pieces.now) }
+{
+    write_line_opened::<W, Brand>(writer, Blank::new(1), pieces)
+}

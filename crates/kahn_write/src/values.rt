@@ -1,0 +1,132 @@
+//! The digits of values.
+
+ghost use Rattle.std.specs.Prelude.{◌≡◌, ℕ, List, ◌+◌, ◌*◌, ◌≤◌, length, drop, ◌++◌, flat_map};
+ghost use Rattle.std.specs.Fmt.{signed_decimal};
+ghost use Rattle.kahn_streams.specs.declared.value.Value.{Value as ValueView};
+ghost use Rattle.kahn_write.specs.Values.{value_text};
+ghost use Rattle.kahn_write.specs.Written.{Writes};
+
+use crate::bytes::{WriteFault, put};
+use itoa::write_digits;
+use kahn_streams::{Carried, Value};
+use kahn_tree::Steps;
+use std::io::Write;
+use std::sync::ledger::Ledger;
+
+/// How many values are put together for one write.
+const TOGETHER: usize = 32;
+
+/// Room for so many, each of 20 bytes at most and a space.
+const ROOM: usize = 21 * TOGETHER;
+
+/// Places a text so that it ends at `end`, and gives where it begins.
+#[inline(always)]
+fn place(text: &[u8], room: &mut [u8], end: usize) -> usize
+    requires { (length text.now ≤ end) × (end ≤ length room.old) }
+    ensures begins { result + length text.now ≡ end }
+    ensures placed { drop result room.new ≡ text.now ++ drop end room.old }
+{
+    let start = end - text.len();
+    room[start..end].copy_from_slice(text);
+    start
+}
+
+/// Places a number so that it ends at `end`, and gives where it begins.
+#[inline(always)]
+#[tactic(auto, using(crate::proofs::Pieces::digits_within))]
+fn place_number(number: i64, room: &mut [u8], end: usize) -> usize
+    requires { (20 ≤ end) × (end ≤ length room.old) }
+    ensures near { (result ≤ end) × (end ≤ result + 20) }
+    ensures placed { drop result room.new ≡ signed_decimal number ++ drop end room.old }
+{
+    let start = write_digits(number.unsigned_abs(), room, end);
+    if number < 0 {
+        place(b"-", room, start)
+    } else {
+        start
+    }
+}
+
+/// Places a value so that it ends at `end`, and gives where it begins.
+#[inline(always)]
+fn place_value(value: Value, room: &mut [u8], end: usize) -> usize
+    requires { (20 ≤ end) × (end ≤ length room.old) }
+    ensures near { (result ≤ end) × (end ≤ result + 20) }
+    ensures placed { drop result room.new ≡ value_text value ++ drop end room.old }
+{
+    match value {
+        Value::Integer(number) => place_number(number, room, end),
+        Value::Logical(true) => place(b"true", room, end),
+        Value::Logical(false) => place(b"false", room, end),
+    }
+}
+
+/// How values stand one after another.
+pub trait Layout {
+    // the bytes of one
+    ghost text: { ValueView → List ℕ };
+
+    /// Places a value and what parts it from others so that they end at `end`, and gives where they begin.
+    fn place(value: Value, room: &mut [u8], end: usize) -> usize
+        requires { (21 ≤ end) × (end ≤ length room.old) }
+        ensures near { (result ≤ end) × (end ≤ result + 21) }
+        ensures placed { drop result room.new ≡ text value ++ drop end room.old };
+}
+
+/// A space before each.
+pub struct Spaced;
+
+impl Layout for Spaced {
+    ghost use Rattle.kahn_write.specs.Values.{spaced_text};
+
+    ghost text = { spaced_text };
+
+    #[inline(always)]
+    fn place(value: Value, room: &mut [u8], end: usize) -> usize {
+        let start = place_value(value, room, end);
+        place(b" ", room, start)
+    }
+}
+
+/// Each on a line of its own.
+pub struct Lined;
+
+impl Layout for Lined {
+    ghost use Rattle.kahn_write.specs.Values.{plain_line};
+
+    ghost text = { plain_line };
+
+    #[inline(always)]
+    fn place(value: Value, room: &mut [u8], end: usize) -> usize {
+        let start = place(b"\n", room, end);
+        place_value(value, room, start)
+    }
+}
+
+/// Places the values of tokens at the end of the room, the last one first since digits come so, and gives their text.
+fn place_values<'a, F: Layout>(tokens: &[Carried], room: &'a mut [u8]) -> &'a [u8]
+    requires { 21 * length tokens.now ≤ length room.old }
+    ensures { result.now ≡ flat_map (λ token. F.text token.value) tokens.now }
+{
+    let mut start = room.len();
+    for token in tokens.iter().rev() {
+        start = F::place(token.value(), room, start);
+    }
+    &room[start..]
+}
+
+/// Writes the values of tokens, so many by one write.
+pub fn put_values<F: Layout, W: Write, L: Ledger>(
+    writer: &mut W,
+    tokens: &[Carried],
+    writes: &mut Steps<L>,
+) -> Result<(), WriteFault>
+    ensures text { Writes (W.contents writer.old) (W.contents writer.new) result (flat_map (λ token. F.text token.value) tokens.now) }
+    ensures few { writes.new ≤ writes.old + length (flat_map (λ token. F.text token.value) tokens.now) }
+{
+    let mut room = [0; ROOM];
+    for chunk in tokens.chunks(TOGETHER) {
+        put(writer, place_values::<F>(chunk, &mut room), writes)?;
+    }
+    Ok(())
+}
