@@ -141,19 +141,6 @@ zeros zero i = refl
 zeros (suc n) zero = refl
 zeros (suc n) (suc i) = zeros n i
 
--- a seat with empty hands
-pub facts_empty : {T : Type 0} (m : Sat T) (z : TableId) (parts n k room : ℕ) → m ≡ (blank n k parts, []) → 0 < parts → z.slots ≡ n → z.words ≡ 8 * (n + k) + 24 → n ≤ room → Facts m z [] room
-facts_empty m z parts n k room is some_left slots words fits = subst (λ (q : Sat _). Facts q z [] room) (sym is) (
-  some_left,
-  length-replicate n 0 ∙ sym slots,
-  omega (arith, length-replicate {A = ℕ} k 0, slots, words),
-  refl,
-  (λ p. sym (zeros n p)),
-  (λ p. omega (arith, zeros n p)),
-  omega arith,
-  length-replicate n 0 ∙ sym slots,
-)
-
 no_slots : {T : Type 0} (c : Slots T) → ((p : ℕ) → total (only p) (numbers c) ≡ 0) → c ≡ []
 no_slots [] h = refl
 no_slots (x ∷ xs) h = absurd (omega (arith, h x.0, only_yes x.0))

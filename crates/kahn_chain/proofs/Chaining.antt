@@ -120,16 +120,3 @@ last P (z ∷ ys) x y k (suc p) h e =
       | inl a ↦ inl a
       | inr b ↦ inr (subst (λ n. P n y) (omega arith) b)
     ]
-
-pub one_mark_more : (N : Network) (ss : List Standing) (n : ℕ) (marks : List Bool) (x : Bool) → AreFirstMarks N ss n marks → IsRingMark N ss n x
-    → AreFirstMarks N ss (n + 1) (marks ++ (x ∷ []))
-one_mark_more N ss n marks x h is = record {
-  count = length-append marks (x ∷ []) ∙ ap (λ k. k + 1) h.count;
-  rings = λ p y e. elim (last (IsRingMark N ss) marks x y 0 p (subst (λ k. IsRingMark N ss k x) (omega (arith, h.count)) is) e) [
-    | inl a ↦ h.rings p y a
-    | inr b ↦ subst (λ k. IsRingMark N ss k y) (omega arith) b
-  ];
-}
-
-pub no_marks_yet : (N : Network) (ss : List Standing) → AreFirstMarks N ss 0 []
-no_marks_yet N ss = record { count = refl; rings = λ p y e. absurd cc }

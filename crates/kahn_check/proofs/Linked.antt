@@ -129,9 +129,6 @@ link_sides t (c ∷ cs) = λ j. link_side t c.0 c.1.1 j ++ link_sides t cs j
 
 -- ---- what `check` puts together
 
-pub met_declarations : (t : Program) (f : CheckFault) → IsMet (declaration_faults [] 0 t.declarations.items) f → IsMet (faults t) f
-met_declarations t f h = met_first (declaration_faults [] 0 t.declarations.items) _ f h
-
 pub met_instances : (t : Program) (f : CheckFault) → declaration_faults [] 0 t.declarations.items ≡ [] → IsMet (seats_faults (table t) [] [] 0 t.instances.items) f → IsMet (faults t) f
 met_instances t f none h =
     met_after (declaration_faults [] 0 t.declarations.items) _ f none

@@ -68,14 +68,6 @@ pub row_listed : {m : _} (s : Scope) (row : Row_of-Statement m) → row_faults s
 row_listed s end_of-Statement = refl
 row_listed s (more_of-Statement at a rest) = ap (λ r. faults_of s a ++ r) (row_listed s rest)
 
--- a level, once its first operand has been looked at
-pub level_start : {m : _} (s : Scope) (fs : List CheckFault) (k0 k : Kind) (at : Span) (row : Row_of-Operand m) → Ok k ≡ verdict fs k0 →
-    verdict (list_faults s k at (items-the_row-Operand m row)) (list_kind k (items-the_row-Operand m row)) ≡ verdict (fs ++ level_faults s k0 at row) (level_kind k0 row)
-level_start {m} s fs k0 k at row h =
-    let e : k ≡ k0 = sym (verdict_value fs k0 k (sym h)) in
-    rw e
-    (sym (verdict_ok fs (level_faults s k0 at row) k0 k (level_kind k0 row) (sym h) ∙ (λ i. verdict (level_listed s k0 at row i) (level_kinds k0 row i))))
-
 pub list_start : (s : Scope) (fs : List CheckFault) (k0 k : Kind) (at : Span) (xs : List Operand) → Ok k ≡ verdict fs k0 →
     verdict (list_faults s k at xs) (list_kind k xs) ≡ verdict (fs ++ list_faults s k0 at xs) (list_kind k0 xs)
 list_start s fs k0 k at xs h =

@@ -17,8 +17,3 @@ heeds_then a b c s t u f g = (g.0 ∙ f.0, g.1 ∙ f.1, g.2 ∙ f.2, raises_then
 -- a seat that didn't halt the run
 pub heeds_still : (a b : Bool) (s t : Seat Tasked) → b ≡ a → IsSeatOf s t → Heeds a s b t
 heeds_still a b s t same f = (f.0, f.1, f.2, inl (f.3, same))
-
--- no step at all
-pub heeds_none : (a b : Bool) (s t : Seat Tasked) → b ≡ a → t ≡ s → Heeds a s b t
-heeds_none a b s t same is =
-    (ap (λ (k : Seat Tasked). k.seat.table_id) is, ap (λ (k : Seat Tasked). k.seat.id) is, ap (λ (k : Seat Tasked). k.seat.me.0.parts) is, inl (ap (λ (k : Seat Tasked). k.seat.me.0.raised) is, same))

@@ -70,35 +70,6 @@ continues_still x y z a b = record {
       b.still second ∙ a.still first;
 }
 
--- a task that was run
-pub ran_on : (x y : Tasked) →
-    (y.work.cell.network ≡ x.work.cell.network) × (y.work.cell.input ≡ x.work.cell.input) × (y.work.cell.instance ≡ x.work.cell.instance) × (y.work.cell.watch ≡ x.work.cell.watch) →
-    HaveAdvanced x.work.ends y.work.ends → x.work.cell.events ≤ y.work.cell.events → (y.work.cell.events ≡ x.work.cell.events → IsStill x.work.cell y.work.cell) →
-    Continues x y
-ran_on x y names ends events still = record {
-  network = names.0;
-  input = names.1;
-  instance = names.2;
-  watch = names.3;
-  ends = ends;
-  events = events;
-  still = λ e.
-      let s = still e in
-      λ i. record {
-        network = names.0 i;
-        input = names.1 i;
-        instance = names.2 i;
-        watch = names.3 i;
-        events = e i;
-        taken = s.0 i;
-        sent = s.1 i;
-        kept = s.2 i;
-        printed = s.3 i;
-        spare = s.4 i;
-        print_spare = s.5 i;
-      };
-}
-
 found_at : {A : Type 0} (xs : List A) (p : ℕ) → p < length xs → (x : A) × (get_elem? xs p ≡ some x)
 found_at [] p h = absurd (omega (arith, h))
 found_at (x ∷ xs) zero h = (x, refl)

@@ -18,9 +18,6 @@ use Rattle.kahn_crew.specs.inner.Turns.{HasTask, IsAtWork, IsTaskIn, StandsStill
 use Rattle.kahn_crew.proofs.Publishing.{agrees_told}
 use Rattle.kahn_crew.proofs.Resting.{agrees_known, agrees_later, agrees_with, continues_here, continues_still, fits_after, fits_still, instances_of, is_published, sees_two, task_of}
 
-pub still_self : (s : Seat Tasked) → StandsStill s s
-still_self s = record { holds = λ p n l x t. t; rests = λ n r. r; got = refl; flushed = refl; seen = inl refl }
-
 module _ (run : Run) where
   abbrev key : Terms Tasked
   key = terms_of run

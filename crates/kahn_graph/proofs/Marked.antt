@@ -117,8 +117,5 @@ no_wait_more N ss c n before here p le =
     the_nth : n ≤ p → p ≡ n
     the_nth ge = omega (arith, ge, le)
 
-pub no_waits : (N : Network) (ss : List Standing) (c n : ℕ) → length ss ≤ n → ((p : ℕ) → p < n → IsWaitAt N ss c p false) → IsWaitMark N ss c false
-no_waits N ss c n all before = λ p e r. before p (omega (arith, all, slice_get_within ss p (Waits c) e)) e r
-
 pub some_wait : (N : Network) (ss : List Standing) (c p : ℕ) → IsWaitAt N ss c p true → IsWaitMark N ss c true
 some_wait N ss c p is = (p, is.0, is.1)

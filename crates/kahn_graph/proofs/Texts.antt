@@ -24,12 +24,6 @@ one_more P n text x (texts, count, are, whole) p = (
   ap (λ l. l ++ x) whole ∙ sym (concat_more texts x),
 )
 
--- an item's text was added
-pub some_text : {X E : Type 0} (r : Result X E) (P : List ℕ → Type 0) (old new x : List ℕ) → P x → IfOk r (λ _. new ≡ old ++ x)
-    → IfOk r (λ _. (y : List ℕ) × P y × (new ≡ old ++ y))
-some_text (Ok v) P old new x p e = (x, p, e)
-some_text (Err f) P old new x p e = tt
-
 -- two pieces after what stands there
 pub grown : (old now new x y : List ℕ) → now ≡ old ++ x → new ≡ now ++ y → new ≡ old ++ (x ++ y)
 grown old now new x y e f = f ∙ ap (λ l. l ++ y) e ∙ append_assoc old x y

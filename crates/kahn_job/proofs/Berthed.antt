@@ -80,10 +80,6 @@ identities_set [] q e l s = refl
 identities_set (x ∷ es) zero e l s = ap (λ i. i ∷ identities es) (same_identity x e s)
 identities_set (x ∷ es) (suc q) e l s = ap (λ l. identity_of x ∷ l) (identities_set es q e (le_of_suc-le-suc l) s)
 
-pub grows_set : (es : List End) (q : ℕ) (e : End) → q < length es → Advances (end_at es q) e →
-    Grows (λ r. (end_at es r).flushed) (λ r. (end_at (slice_set es q e) r).flushed)
-grows_set es q e l further = at_set (λ r x. (end_at es r).flushed ≤ x.flushed) es q e l further.0 (λ r n. omega arith)
-
 identity_same : (old new : End) → identity_of new ≡ identity_of old → IsSame old new
 identity_same old new e = record {
   reads = ap (λ (i : Identity). i.reads) e;
@@ -109,21 +105,6 @@ advanced old new e g = record {
   flushed = g;
 }
 
--- no next place changes where the end's stays
-pub stays_set : (es : List End) (q : ℕ) (e : End) → q < length es → e.next ≡ (end_at es q).next →
-    Stays (λ r. (end_at es r).next) (λ r. (end_at (slice_set es q e) r).next)
-stays_set es q e l same = at_set (λ r x. x.next ≡ (end_at es r).next) es q e l same (λ r n. refl)
-
-pub moved_set : (es : List End) (q : ℕ) (e : End) → q < length es → e.next ≡ (end_at es q).next + 1 →
-    Moved (λ r. (end_at es r).next) (λ r. (end_at (slice_set es q e) r).next) q
-moved_set es q e l more = (
-  ap (λ (x : End). x.next) (set_here es q e l) ∙ more ∙ step,
-  λ r other. ap (λ (x : End). x.next) (set_else es q r e other),
-)
-  where
-    step : (end_at es q).next + 1 ≡ suc (end_at es q).next
-    step = omega arith
-
 pub is_read : (t : Program) (lists : Lists) (p : ℕ) (es : List End) → AreServed t lists p es → (q d : ℕ) →
     actual_at (instance_at (network_of t) p) q ≡ Reads d → (k : Token) → (end_at es q).name ≡ Some (token_name k) → k.place ≡ (end_at es q).next →
     IsNext (record { network = t; input = lists; instance = p }) d ((end_at es q).next) k
@@ -143,45 +124,6 @@ pub is_written : (t : Program) (lists : Lists) (p : ℕ) (es : List End) → Are
 is_written t lists p es h q d writes inner k w =
     let s = serves_written t lists p es h q d writes inner in
     (s.1 ∙ ap Some (sym (token_name-is_of t lists d k w.names w.line)), w.place)
-
-pub none_flushed : (es : List End) → HaveFlushed es es
-none_flushed es = record {
-  count = refl;
-  each = λ q. record { same = same_self (end_at es q); next = refl; flushed = inl refl; grows = omega arith };
-}
-
--- one end more was flushed, or refused
-pub flushed_set : (old es : List End) (q : ℕ) (e : End) → HaveFlushed old es → q < length es → IsSame (end_at es q) e →
-    e.next ≡ (end_at es q).next → (e.flushed ≡ (end_at es q).flushed) ⊎ (e.flushed ≡ e.next) → Advances (end_at es q) e → HaveFlushed old (slice_set es q e)
-flushed_set old es q e h l same next how advances = record {
-  count = length-set es q e ∙ h.count;
-  each = at_set (λ r x. HasFlushed (end_at old r) x) es q e l (further (end_at old q) (end_at es q) (h.each q) same next how advances) (λ r n. h.each r);
-}
-  where
-    further : (a b : End) → HasFlushed a b → IsSame b e → e.next ≡ b.next → (e.flushed ≡ b.flushed) ⊎ (e.flushed ≡ e.next) → Advances b e → HasFlushed a e
-    further a b g s n f m = record {
-      same = same_then a b e g.same s;
-      next = n ∙ g.next;
-      flushed = how_flushed f g.flushed;
-      grows = let one = g.grows in let two = m.0 in omega (arith, one, two);
-    }
-      where
-        how_flushed : (e.flushed ≡ b.flushed) ⊎ (e.flushed ≡ e.next) → (b.flushed ≡ a.flushed) ⊎ (b.flushed ≡ b.next) →
-            (e.flushed ≡ a.flushed) ⊎ (e.flushed ≡ e.next)
-        how_flushed (inr x) y = inr x
-        how_flushed (inl x) (inl y) = inl (x ∙ y)
-        how_flushed (inl x) (inr y) = inr (x ∙ y ∙ sym n)
-
-pub served_flushed : (t : Program) (lists : Lists) (p : ℕ) (old new : List End) → AreServed t lists p old → HaveFlushed old new → AreServed t lists p new
-served_flushed t lists p old new h f = record {
-  count = f.count ∙ h.count;
-  each = λ q. still_serves t lists (actual_at (instance_at (network_of t) p) q) (end_at old q) (end_at new q) (f.each q).same (h.each q);
-  behind = λ q. by (end_at old q) (end_at new q) (h.behind q) (f.each q).next (f.each q).flushed;
-}
-  where
-    by : (a b : End) → a.flushed ≤ a.next → b.next ≡ a.next → (b.flushed ≡ a.flushed) ⊎ (b.flushed ≡ b.next) → b.flushed ≤ b.next
-    by a b l n (inl e) = omega (arith, l, n, e)
-    by a b l n (inr e) = omega (arith, e)
 
 -- one end that these ports take from or put on has changed
 module _ (seen : Berth) (t : Program) (lists : Lists) (p : ℕ) (es : List End) (is : record { network = t; input = lists; instance = p; ends = es } ≡ seen)
@@ -205,21 +147,8 @@ module _ (seen : Berth) (t : Program) (lists : Lists) (p : ℕ) (es : List End) 
 abbrev pub UpTo : ℕ → List End → Type 0
 UpTo n es = (r : ℕ) → r < n → IsFlushed (end_at es r)
 
-pub up_to_more : (es : List End) (n : ℕ) (e : End) → UpTo n es → n < length es → IsFlushed e → UpTo (n + 1) (slice_set es n e)
-up_to_more es n e h l is = at_set (λ r x. r < n + 1 → IsFlushed x) es n e l (λ less. is) (λ r other less. h r (omega arith))
-
 pub past_none : (es : List End) (q : ℕ) → (q < length es) ⊎ (end_at es q ≡ nothing)
 past_none es q = ⊎_elim inl (λ l. inr (get_or_past es q nothing l)) (cases_lt q (length es))
-
-nothing_flushed : IsFlushed nothing
-nothing_flushed e = let h : false ≡ true = e in absurd cc
-
-pub all_up : (es : List End) (n : ℕ) → UpTo n es → n ≡ length es → AreFlushed es
-all_up es n h is q = by (past_none es q)
-  where
-    by : (q < length es) ⊎ (end_at es q ≡ nothing) → IsFlushed (end_at es q)
-    by (inl l) = h q (omega (arith, l, is))
-    by (inr e) = subst IsFlushed (sym e) nothing_flushed
 
 none_true : false ≡ true → ⊥
 none_true e = cc
@@ -241,10 +170,6 @@ within_reads es q r = by (past_none es q)
 pub stayed_self : (e : End) → HasStayed e e
 stayed_self e = record { same = same_self e; next = refl; flushed = refl; ready = λ r. r }
 
--- one end stays so
-pub stayed_set : (es : List End) (q : ℕ) (e : End) → q < length es → HasStayed (end_at es q) e → HaveStayed es (slice_set es q e)
-stayed_set es q e l s = record { count = length-set es q e; each = at_set (λ r x. HasStayed (end_at es r) x) es q e l s (λ r n. stayed_self (end_at es r)) }
-
 -- two ends stay so, of which one was away meanwhile
 pub stayed_two : (es : List End) (o q : ℕ) (none w r : End) → (o ≡ q → ⊥) → o < length es → q < length es → HasStayed (end_at es o) w →
     HasStayed (end_at es q) r → HaveStayed es (slice_set (slice_set (slice_set es q none) o w) q r)
@@ -265,13 +190,6 @@ stayed_two es o q none w r apart lo lq sw sr = record {
     others : (k : ℕ) → (k ≡ q → ⊥) → HasStayed (end_at es k) (end_at (slice_set away o w) k)
     others k n = at_set (λ k x. (k ≡ q → ⊥) → HasStayed (end_at es k) x) away o w here (λ n. sw)
         (λ k m n. subst (λ x. HasStayed (end_at es k) x) (sym (set_else es q k none n)) (stayed_self (end_at es k))) k n
-
-pub served_stayed : (t : Program) (lists : Lists) (p : ℕ) (old new : List End) → AreServed t lists p old → HaveStayed old new → AreServed t lists p new
-served_stayed t lists p old new h f = record {
-  count = f.count ∙ h.count;
-  each = λ q. still_serves t lists (actual_at (instance_at (network_of t) p) q) (end_at old q) (end_at new q) (f.each q).same (h.each q);
-  behind = λ q. let was = h.behind q in let one = (f.each q).next in let two = (f.each q).flushed in omega (arith, was, one, two);
-}
 
 -- an end that is away meets another one, and comes back
 module _ (es : List End) (o q : ℕ) (apart : o ≡ q → ⊥) (writes : (end_at es o).writes ≡ true) (reads : (end_at es q).reads ≡ true) (none d a : End)

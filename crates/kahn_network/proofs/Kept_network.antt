@@ -24,12 +24,6 @@ use Rattle.kahn_network.specs.declared.wires.Wire.{Wire}
 use Rattle.kahn_network.proofs.Numbered.{there, within, mapped, the_process, all_at}
 use Rattle.kahn_network.proofs.Sided.{declared_there, channel_count, named_at, line_kind, line_role, one_writer, one_reader, sourced}
 
--- each instance's process is declared
-pub all_declared : (t : Program) (xs : List Instance) → AllByRecursion (IsMade t) xs → AllByRecursion (λ i. IsSome (process_of t.declarations.items (bytes_of i.process))) xs
-all_declared t [] h = tt
-all_declared t (x ∷ xs) h =
-    (subst IsSome (sym (the_process (bytes_of x.process) h.0.0 t.declarations.items h.0.1)) refl, all_declared t xs h.1)
-
 -- the number of wires
 pub wire_count : (t : Program) (ws : List Wire) → map shown ws ≡ lines_of t → length ws ≡ length (network_of t).channels
 wire_count t ws h =

@@ -28,9 +28,6 @@ pub record ForgottenTo (old new : List Tapped) (n : ℕ) : Type 0 where
   pub done : (p : ℕ) (x y : Tapped) → p < n → slice_get old p ≡ Some x → slice_get new p ≡ Some y → HasForgotten x y
   pub rest : (p : ℕ) → n ≤ p → slice_get new p ≡ slice_get old p
 
-pub none_forgotten : (old : List Tapped) → ForgottenTo old old 0
-none_forgotten old = record { count = refl; done = λ p x y l e f. absurd (omega (arith, l)); rest = λ p l. refl }
-
 module _ (old new : List Tapped) (n : ℕ) (h : ForgottenTo old new n) where
   pub one_forgotten : (x y : Tapped) → slice_get new n ≡ Some x → HasForgotten x y → ForgottenTo old (slice_set new n y) (suc n)
   one_forgotten x y at s = record {

@@ -73,13 +73,6 @@ pub is_reader : (t : Program) (c p q : ℕ) (s : Side) → IsOnly (IsReader (net
 is_reader t c p q s only i k =
     ap (λ n. actual_at (instance_at (network_of t) n) q) (sym i) ∙ ap (actual_at (instance_at (network_of t) s.instance)) (sym k) ∙ only.0.1
 
--- channel c is not the one
-pub other_reader : (t : Program) (c p q : ℕ) (s : Side) → IsOnly (IsReader (network_of t) c) (Some s) → (s.instance ≡ p → s.parameter ≡ q → ⊥) →
-    actual_at (instance_at (network_of t) p) q ≡ Reads c → ⊥
-other_reader t c p q s only n e =
-    let h = only.1 (side_at p q) (reader_side t p q c e) in
-    n (sym (ap (λ (u : Side). u.instance) h)) (sym (ap (λ (u : Side). u.parameter) h))
-
 pub no_reader : (t : Program) (c p q : ℕ) → IsOnly (IsReader (network_of t) c) None → actual_at (instance_at (network_of t) p) q ≡ Reads c → ⊥
 no_reader t c p q none e = none (side_at p q) (reader_side t p q c e)
 
@@ -98,12 +91,6 @@ dry_told t lists tasks p q c n k wired h r all x at is s = (
 )
 
 -- ---- all ends
-
-pub no_ends : (t : Program) (lists : Lists) (tasks : List Tasked) (ends : List End) → ends ≡ [] → AreEndsOfTasks t lists tasks ends 0
-no_ends t lists tasks ends e = record { count = ap length e; each = λ p x y a b. absurd (none p y (ap (λ l. slice_get l p) (sym e) ∙ b)) }
-  where
-    none : (p : ℕ) (y : End) → slice_get [] p ≡ Some y → ⊥
-    none p y b = cc
 
 pub more_ends : (t : Program) (lists : Lists) (tasks : List Tasked) (ends : List End) (n : ℕ) (y : End) → AreEndsOfTasks t lists tasks ends n →
     ((x : Tasked) → slice_get tasks n ≡ Some x → IsEndOf t lists tasks x y) → AreEndsOfTasks t lists tasks (ends ++ y ∷ []) (suc n)

@@ -129,16 +129,6 @@ pub record Filling {A : Type 0} (N : Network) (ls : List (Kept A)) (old : List S
   pub held : (j : ℕ) (x : Stream) → n ≤ j → slice_get old j ≡ Some x → (ts us : List Token) →
       IsFilled N ks (source N x.line) x.line ts us → IsFilled N ls (source N x.line) x.line ts us
 
-pub filling_starts : {A : Type 0} (N : Network) (ls : List (Kept A)) (old : List Stream) → AreNamed N old → AreLists N ls → Filling N ls old ls old 0
-filling_starts N ls old named lists = record {
-  named = named;
-  lines = refl;
-  lists = lists;
-  done = λ j x y l e f. absurd (omega (arith, l));
-  rest = λ j l. refl;
-  held = λ j x l e ts us h. h;
-}
-
 module _ {A : Type 0} (N : Network) (ls : List (Kept A)) (old : List Stream) (ks : List (Kept A)) (now : List Stream) (n : ℕ) (f : Filling N ls old ks now n) where
   pub next_declared : (x : Stream) → slice_get now n ≡ Some x → IsDeclared N x.line
   next_declared x e = declared N old n x f.named (sym (f.rest n (omega arith)) ∙ e)

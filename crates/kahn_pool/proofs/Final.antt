@@ -93,17 +93,3 @@ take_more (l ∷ ls) (suc i) x e = ap (λ r. l ∷ r) (take_more ls i x e)
 map_push : (ss : List Stream) (x : Stream) → map line_of (ss ++ x ∷ []) ≡ map line_of ss ++ x.line ∷ []
 map_push [] x = refl
 map_push (y ∷ ss) x = ap (λ r. y.line ∷ r) (map_push ss x)
-
-pub streams_push : (s : RunState) (ss : List Stream) (ls : List Line) (i : ℕ) (x : Stream) → slice_get ls i ≡ Some x.line →
-    IsFrom s.network s.input s.watch s.cells (source s.network x.line) x.line x.tokens.items →
-    AreStreams s ss (take i ls) → AreStreams s (ss ++ x ∷ []) (take (suc i) ls)
-streams_push s ss ls i x e from h =
-    record {
-      named = map_push ss x ∙ (ap (λ l. l ++ x.line ∷ []) h.named ∙ sym (take_more ls i x.line e));
-      each = λ j y f. by j y (at_last ss x j y f);
-    }
-  where
-    by : (j : ℕ) (y : Stream) → (slice_get ss j ≡ Some y) ⊎ ((j ≡ length ss) × (x ≡ y)) →
-        IsFrom s.network s.input s.watch s.cells (source s.network y.line) y.line y.tokens.items
-    by j y (inl f) = h.each j y f
-    by j y (inr f) = subst (λ u. IsFrom s.network s.input s.watch s.cells (source s.network u.line) u.line u.tokens.items) f.1 from

@@ -57,35 +57,6 @@ begun_more N I c vs ts us t n b u e line place v mine = subst (IsBegun N I c vs)
     owned k w (inl f) = b.own k w f
     owned k w (inr (f, g)) = subst (IsOwn N I) g mine
 
-pub begun_within : (N : Network) (I : Inputs) (c : ℕ) (vs : List Value) (ts : List Token) → IsBegun N I c vs ts → length ts ≤ length vs
-begun_within N I c vs ts b = by b.values
-  where
-    by : IsPrefix (map token_value ts) vs → length ts ≤ length vs
-    by (zs, e) =
-        let l : length vs ≡ length (map token_value ts ++ zs) = ap length e in
-        let m : length (map token_value ts) ≡ length ts = length-map ts token_value in
-        let k : length (map token_value ts) ≤ length (map token_value ts ++ zs) = longer (map token_value ts) zs in
-        omega (arith, l, m, k)
-      where
-        longer : (xs ys : List Value) → length xs ≤ length (xs ++ ys)
-        longer [] ys = omega arith
-        longer (x ∷ xs) ys = let r : length xs ≤ length (xs ++ ys) = longer xs ys in omega (arith, r)
-
-pub begun_all : (N : Network) (I : Inputs) (c : ℕ) (vs : List Value) (ts : List Token) → IsBegun N I c vs ts → length vs ≤ length ts → AreKeptTokens N I (Channel c) vs ts
-begun_all N I c vs ts b le = record { values = by b.values; places = b.places; own = b.own }
-  where
-    by : IsPrefix (map token_value ts) vs → map token_value ts ≡ vs
-    by ([], e) = sym (append-nil (map token_value ts)) ∙ sym e
-    by (z ∷ zs, e) =
-        let l : length vs ≡ length (map token_value ts ++ z ∷ zs) = ap length e in
-        let m : length (map token_value ts) ≡ length ts = length-map ts token_value in
-        let k : length (map token_value ts ++ z ∷ zs) ≡ length (map token_value ts) + suc (length zs) = lengths (map token_value ts) in
-        absurd (omega (arith, l, m, k, le))
-      where
-        lengths : (xs : List Value) → length (xs ++ z ∷ zs) ≡ length xs + suc (length zs)
-        lengths [] = omega arith
-        lengths (x ∷ xs) = let r : length (xs ++ z ∷ zs) ≡ length xs + suc (length zs) = lengths xs in omega (arith, r)
-
 pub falls : (a n m : ℕ) → n < a → m ≡ suc n → a - m < a - n
 falls a n m l e = omega (arith, l, e)
 
@@ -128,15 +99,6 @@ pub record Giving (N : Network) (I : Inputs) (old now : List Stream) (n : ℕ) :
   pub lines : map line_of now ≡ map line_of old
   pub done : (j : ℕ) (x y : Stream) → j < n → slice_get old j ≡ Some x → slice_get now j ≡ Some y → HasInput N I (source N y.line) y.line x.tokens.items y.tokens.items
   pub rest : (j : ℕ) → n ≤ j → slice_get now j ≡ slice_get old j
-
-pub giving_starts : (N : Network) (I : Inputs) (old : List Stream) → AreNamed N old → All IsBare old → Giving N I old old 0
-giving_starts N I old named bare = record {
-  named = named;
-  bare = bare;
-  lines = refl;
-  done = λ j x y l e f. absurd (omega (arith, l));
-  rest = λ j l. refl;
-}
 
 module _ (N : Network) (I : Inputs) (old now : List Stream) (n : ℕ) (f : Giving N I old now n) where
   at_first : (x : Stream) → slice_get now n ≡ Some x → slice_get old n ≡ Some x

@@ -46,13 +46,6 @@ module _ (w : Work) (j : IsJob w) where
   pub next_taken : (q : ℕ) → ReadsOne w q → (end_at w.ends q).next ≡ count w.cell.taken q
   next_taken q h = j.at.reads q h.0 h.1
 
-pub may_meet : (x y : Tasked) (o q : ℕ) → IsJob x.work → IsJob y.work → CanMeet x o y q → MayMeet (end_at x.work.ends o) (end_at y.work.ends q)
-may_meet x y o q jx jy can = record {
-  writes = end_writes x.work jx o can.writes;
-  reads = end_reads y.work jy q can.reads;
-  lane = can.lane;
-}
-
 pub behind : (x y : Tasked) (o q n : ℕ) (now : End) → IsJob x.work → IsJob y.work → CanMeet x o y q →
     Meets (end_at x.work.ends o) (end_at y.work.ends q) now n → IsBehind x o y q
 behind x y o q n now jx jy can met =
@@ -132,12 +125,6 @@ pub get_low : (low high : List Tasked) (i : ℕ) → i < length low → slice_ge
 get_low [] high i l = absurd (omega (arith, l))
 get_low (x ∷ low) high zero l = refl
 get_low (x ∷ low) high (suc i) l = get_low low high i (le_of_suc-le-suc l)
-
-pub get_high : (low high : List Tasked) (n : ℕ) → length low ≡ n → slice_get (low ++ high) n ≡ slice_get high 0
-get_high [] high zero e = refl
-get_high [] high (suc n) e = absurd (omega (arith, e))
-get_high (x ∷ low) high zero e = absurd (omega (arith, e))
-get_high (x ∷ low) high (suc n) e = get_high low high n (omega (arith, e))
 
 -- ---- tasks that are joined
 

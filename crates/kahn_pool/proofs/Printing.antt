@@ -53,11 +53,6 @@ channel_more N watch c before after whole l e f g =
     one_line (is_streamed N watch c) (Channel c) (channel_lines watch (drop (suc c) N.channels) (suc c)) before after whole
     (ap (λ rows. before ++ channel_lines watch rows c) (sym (drop_one N.channels c (Integer, Inner) l)) ∙ e) f g
 
-pub channels_end : (N : Network) (watch : Option ℕ) (c : ℕ) (now whole : List Line) → c ≡ length N.channels →
-    now ++ channel_lines watch (drop c N.channels) c ≡ whole → now ≡ whole
-channels_end N watch c now whole l e =
-    sym (append-nil now) ∙ (ap (λ rows. now ++ channel_lines watch rows c) (sym (drop_all N.channels c l)) ∙ e)
-
 pub print_more : (N : Network) (p : ℕ) (before after whole : List Line) → p < length N.instances →
     before ++ print_lines (drop p N.instances) p ≡ whole →
     (prints_in (instance_at N p).body ≡ true → after ≡ before ++ Print p ∷ []) → (prints_in (instance_at N p).body ≡ false → after ≡ before) →
@@ -65,8 +60,3 @@ pub print_more : (N : Network) (p : ℕ) (before after whole : List Line) → p 
 print_more N p before after whole l e f g =
     one_line (prints_in (instance_at N p).body) (Print p) (print_lines (drop (suc p) N.instances) (suc p)) before after whole
     (ap (λ is. before ++ print_lines is p) (sym (drop_one N.instances p idle l)) ∙ e) f g
-
-pub prints_end : (N : Network) (p : ℕ) (now whole : List Line) → p ≡ length N.instances →
-    now ++ print_lines (drop p N.instances) p ≡ whole → now ≡ whole
-prints_end N p now whole l e =
-    sym (append-nil now) ∙ (ap (λ is. now ++ print_lines is p) (sym (drop_all N.instances p l)) ∙ e)

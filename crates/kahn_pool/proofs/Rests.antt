@@ -55,9 +55,6 @@ role_apart a b = let e : Inner ≡ Input = sym a ∙ b in absurd cc
 written_one : {p r : ℕ} → Written p ≡ Written r → p ≡ r
 written_one e = cc
 
-reads_one : {c d : ℕ} → Reads c ≡ Reads d → c ≡ d
-reads_one e = cc
-
 module _ (t : Program) (wired : IsWellWired t) (lists : Lists) (watch : Option ℕ) (tasks : List Tasked) (of : AreTasks t lists watch tasks)
     (settled : (p : ℕ) (x : Tasked) → slice_get tasks p ≡ Some x → IsSettledTask x) where
   abbrev N : Network

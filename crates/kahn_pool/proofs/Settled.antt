@@ -57,9 +57,6 @@ says_ran w s z dry spent e h = subst (Says w) (sym e) (record { stood = h.stood;
 
 -- ---- tasks
 
-pub settles_still : (x : Tasked) → IsSettledTask x → SettlesTo x x
-settles_still x h = record { later = continues_here x; events = refl; still = λ n. refl; settled = h }
-
 pub settles_ran : (x y : Tasked) → x.standing ≡ standing.Going → Continues x y → (x.work.cell.events ≤ y.work.cell.events) × (y.work.cell.events ≤ x.work.cell.events + 0) →
     IsSettledTask y → SettlesTo x y
 settles_ran x y going later events h = record {

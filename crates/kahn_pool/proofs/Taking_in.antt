@@ -27,11 +27,6 @@ views_of : {X : Type 0} (f : Told → X) (taps : List Tapped) → map f (map tol
 views_of f [] = refl
 views_of f (x ∷ taps) = ap (λ ys. f x.told ∷ ys) (views_of f taps)
 
-told_from : (taps : List Tapped) (p : ℕ) (c : Told) → slice_get (map told_in taps) p ≡ Some c → (x : Tapped) × (slice_get taps p ≡ Some x) × (c ≡ x.told)
-told_from [] p c e = absurd cc
-told_from (x ∷ taps) zero c e = (x, refl, cc)
-told_from (x ∷ taps) (suc p) c e = told_from taps p c e
-
 regrown_from : (input : Lists) (taps : List Tapped) (p : ℕ) (c : Told) → slice_get (map told_in (map (regrown_tap input) taps)) p ≡ Some c →
     (d : Told) × (slice_get (map told_in taps) p ≡ Some d) × (c ≡ record d { input = input })
 regrown_from input [] p c e = absurd cc

@@ -23,9 +23,6 @@ use Rattle.kahn_pool.proofs.Benched.{get_map, ran, viewed}
 
 -- ---- later states of a bench
 
-pub worked_none : {a b : Table} → b ≡ a → HasWorked a b
-worked_none {a} e = subst (HasWorked a) (sym e) (record { network = refl; input = refl; watch = refl; gone = refl; events = λ p. omega arith })
-
 pub worked_on : {a b c : Table} → HasWorked a b → HasWorked b c → HasWorked a c
 worked_on h k = record {
   network = k.network ∙ h.network;
@@ -114,13 +111,3 @@ left_whole (x ∷ taps) (k ∷ kept) (suc n) h e =
 pub all_left : {A : Type 0} (taps : List Tapped) (kept : List (Kept A)) (b : Table) → map told_in taps ≡ b.cells → map gone_in taps ≡ b.gone → AreLeft taps kept → (n : ℕ) → AreWhole n b.gone →
     AreKeptOf b.cells kept
 all_left taps kept b told gone h n whole = subst (λ cs. AreKeptOf cs kept) told (left_whole taps kept n h (gone ∙ whole))
-
--- there is still room for the answer of the same bench
-pub still_ready : {A : Type 0} {streams : List Stream} {kept : List A} {room : ℕ} (t : Program) (old new : Table) → HasWorked old new →
-    (old.network ≡ t) × AreWhole (length (network_of t).instances) old.gone × AreStreamsReady t old.input old.watch streams kept room →
-    (new.network ≡ t) × AreWhole (length (network_of t).instances) new.gone × AreStreamsReady t new.input new.watch streams kept room
-still_ready {streams = streams} {kept = kept} {room = room} t old new same h = (
-  same.network ∙ h.0,
-  same.gone ∙ h.1,
-  subst (λ w. AreStreamsReady t new.input w streams kept room) (sym same.watch) (subst (λ i. AreStreamsReady t i old.watch streams kept room) (sym same.input) h.2),
-)

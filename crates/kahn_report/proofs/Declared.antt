@@ -21,17 +21,6 @@ first_name [] k r rest n d below = absurd (omega (arith, below))
 first_name (x ∷ ns) k r rest zero d below = refl
 first_name (x ∷ ns) k r rest (suc n) d below = first_name ns k r rest n d (omega (arith, below))
 
--- a name past them
-pub later_name : (ns : List Name) (k : Kind) (r : Role) (rest : List Row) (n : ℕ) → length ns ≤ n
-    → slice_index_or (map (λ c. c.0) (map (λ x. (bytes_of x, (k, r))) ns ++ rest)) n [] ≡ slice_index_or (map (λ c. c.0) rest) (n - length ns) []
-later_name [] k r rest n past =
-    let e : n ≡ n - 0 = omega arith in
-    ap (λ i. slice_index_or (map (λ c. c.0) rest) i []) e
-later_name (x ∷ ns) k r rest zero past = absurd (omega (arith, past))
-later_name (x ∷ ns) k r rest (suc n) past =
-    let e : n - length ns ≡ suc n - suc (length ns) = omega arith in
-    later_name ns k r rest n (omega (arith, past)) ∙ ap (λ i. slice_index_or (map (λ c. c.0) rest) i []) e
-
 -- the declaration at i, and those that follow
 pub at_declaration : (ds : List Declaration) (i : ℕ) (d x : Declaration) → i < length ds → x ≡ get_or ds i d → drop i ds ≡ x ∷ drop (suc i) ds
 at_declaration ds i d x below is = drop-cons ds i d below ∙ ap (λ y. y ∷ drop (suc i) ds) (sym is)

@@ -24,24 +24,6 @@ use Rattle.kahn_why.specs.Why.{standing_of, standings_of, stands}
 use Rattle.kahn_why.specs.Words.{AreOfNetwork, IsAnswer, IsOfNetwork, cause_at, line_text, lines_text, ends_at}
 use Rattle.kahn_why.proofs.Stands.{end_of, waiting}
 
--- the line of the end at i, and those that follow
-lines_split : (t : Program) (v : Verdict) (ys : List Cause) (xs : List End) (i : ℕ) (d : End) → i < length xs
-    → lines_text t v ys i (drop i xs) ≡ line_text t v i (get_or xs i d).outcome (cause_at ys i) ++ lines_text t v ys (i + 1) (drop (i + 1) xs)
-lines_split t v ys xs i d below =
-    let e : drop i xs ≡ get_or xs i d ∷ drop (i + 1) xs = rw add-one (drop-cons xs i d below) in
-    ap (lines_text t v ys i) e
-
--- one line more
-pub lines_moved : (t : Program) (v : Verdict) (ys : List Cause) (xs : List End) (i : ℕ) (d : End) (all old new line : List ℕ) → i < length xs
-    → line ≡ line_text t v i (get_or xs i d).outcome (cause_at ys i) → new ≡ old ++ line
-    → old ++ lines_text t v ys i (drop i xs) ≡ all → new ++ lines_text t v ys (i + 1) (drop (i + 1) xs) ≡ all
-lines_moved t v ys xs i d all old new line below is added before =
-    ap (λ l. l ++ lines_text t v ys (i + 1) (drop (i + 1) xs)) added
-    ∙ append_assoc old line (lines_text t v ys (i + 1) (drop (i + 1) xs))
-    ∙ ap (λ l. old ++ (l ++ lines_text t v ys (i + 1) (drop (i + 1) xs))) is
-    ∙ ap (λ l. old ++ l) (sym (lines_split t v ys xs i d below))
-    ∙ before
-
 place_within : (N : Network) (ss : List Standing) (p : ℕ) (y : Cause) → IsCause N ss p y → ends_at y < length ss
 place_within N ss p (Input z c) is = slice_get_within ss z (S.Waits c) is.1
 place_within N ss p (Stopped z s) is = slice_get_within ss z s is.1
