@@ -8,9 +8,7 @@ use Rattle.kahn_board.specs.Hands.{ListsHands, Facts, Carries}
 use Rattle.kahn_board.specs.Place.{total, only}
 use Rattle.kahn_board.proofs.Moved.{only_yes}
 use Rattle.kahn_board.specs.Plays.{Sat, noted, took, gave, waking, Got, GaveUp}
-use Rattle.kahn_board.specs.Rule.{blank}
 use Rattle.kahn_board.specs.Cuts.{HoldsNothing}
-use Rattle.std.proofs.lemmas.List.{length-replicate}
 use Rattle.kahn_board.proofs.Steps.{Fit}
 use Rattle.kahn_board.proofs.Counting.{inside_of, has_room, took_one, put_once, gave_one, turned_one}
 

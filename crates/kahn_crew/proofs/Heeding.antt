@@ -1,5 +1,5 @@
 -- A worker that halts the run where memory is wanted, and nowhere else.
-use Rattle.std.proofs.Common.{arith, ◌≡◌, inl, inr, ℕ, Bool, ap, ◌∙◌}
+use Rattle.std.proofs.Common.{arith, ◌≡◌, inl, inr, ℕ, Bool, ◌∙◌}
 use Rattle.kahn_board.specs.declared.board.Seat.{Seat}
 use Rattle.kahn_desk.specs.inner.Turn.{IsSeatOf}
 use Rattle.kahn_crew.specs.inner.Turns.{Heeds, RaisesAsWanted}

@@ -8,7 +8,7 @@ use Rattle.kahn_network.specs.Wiring.{IsWellWired}
 use Rattle.kahn_code.specs.Cells.{is_output}
 use Rattle.kahn_code.specs.Lines.{route_of}
 use Rattle.kahn_code.specs.Standing.{count}
-use Rattle.kahn_code.specs.Told.{AreCounts, IsStill}
+use Rattle.kahn_code.specs.Told.{AreCounts}
 use Rattle.kahn_streams.proofs.Dry.{dry_reads}
 use Rattle.kahn_board.specs.Dealt.{belongs, wired}
 use Rattle.kahn_board.specs.Wires.{wires}
@@ -17,7 +17,7 @@ use Rattle.kahn_board.specs.Tale.{FlushedAll, flushed_of, second_of}
 use Rattle.kahn_board.specs.declared.rule.Terms.{Terms}
 use Rattle.kahn_board.specs.declared.view.View.{View}
 use Rattle.kahn_desk.specs.inner.Turn.{Fits, Knows}
-use Rattle.kahn_job.specs.inner.Berths.{HaveAdvanced, end_at}
+use Rattle.kahn_job.specs.inner.Berths.{end_at}
 use Rattle.kahn_job.specs.inner.Works.{Work, IsDelivered}
 use Rattle.kahn_crew.specs.declared.standing.Standing.TheVariants as standing
 use Rattle.kahn_crew.specs.declared.turn.Due.TheVariants as due

@@ -9,12 +9,12 @@ use Rattle.kahn_streams.specs.declared.token.Token.{Token}
 use Rattle.kahn_streams.specs.Tokens.{Lists}
 use Rattle.kahn_code.specs.Cells.{is_output}
 use Rattle.kahn_code.specs.Lines.{Joins}
-use Rattle.kahn_code.specs.Seats.{DoesRead, DoesWrite, Grows, IsNext, Stays, Moved}
+use Rattle.kahn_code.specs.Seats.{DoesRead, DoesWrite, Grows, IsNext}
 use Rattle.kahn_lane.specs.Places.{lane_name, token_name}
 use Rattle.kahn_lane.proofs.Places.{token_name-is_of, is_of-token_name}
 use Rattle.kahn_job.specs.inner.Ends.{Advances, End, Identity, IsSame, IsFlushed, Meets, identity_of}
 use Rattle.kahn_job.specs.inner.Ways.{nothing}
-use Rattle.kahn_job.specs.inner.Berths.{Berth, AreServed, Serves, end_at, identities, seat_at, HasFlushed, HaveAdvanced, HaveFlushed, HasStayed, HaveStayed, AreFlushed}
+use Rattle.kahn_job.specs.inner.Berths.{Berth, AreServed, Serves, end_at, identities, seat_at, HaveAdvanced, HasStayed, HaveStayed}
 
 pub set_here : (es : List End) (q : ℕ) (e : End) → q < length es → end_at (slice_set es q e) q ≡ e
 set_here es q e l = get_or-set_same es q e nothing l

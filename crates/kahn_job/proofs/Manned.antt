@@ -3,8 +3,8 @@ use Rattle.std.proofs.Common.{◌≡◌, List, ◌∙◌, subst}
 use Rattle.kahn_code.specs.Seats.{Seat}
 use Rattle.kahn_code.specs.Told.{Told}
 use Rattle.kahn_job.specs.inner.Ends.{End}
-use Rattle.kahn_job.specs.inner.Berths.{Berth, AreServed, AreFlushed, HaveFlushed, HaveStayed, seat_at}
-use Rattle.kahn_job.specs.inner.Works.{IsManned, IsJob, IsDelivered}
+use Rattle.kahn_job.specs.inner.Berths.{Berth, AreServed, AreFlushed}
+use Rattle.kahn_job.specs.inner.Works.{IsManned, IsDelivered}
 use Rattle.kahn_job.proofs.Berthed.{serves_written}
 
 abbrev seat_served : Seat → List End → Type 0

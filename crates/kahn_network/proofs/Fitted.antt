@@ -1,8 +1,7 @@
 -- What an instance's names stand for, by what is handed to it.
-use Rattle.std.proofs.Common.{◌≡◌, ℕ, List, [], ◌∷◌, ◌++◌, map, length, Option, None, Some, refl, ap, sym, ◌∙◌, subst, bytes_eq}
+use Rattle.std.proofs.Common.{◌≡◌, List, [], ◌∷◌, ◌++◌, map, Some, refl, ap, sym, ◌∙◌, subst}
 use Rattle.std.specs.Prelude.{slice_get}
 use Rattle.std.specs.List.{AllByRecursion}
-use Rattle.std.specs.Map.{lookup}
 use Rattle.std.proofs.lemmas.Option.{get_or_from_slice_get}
 use Rattle.kahn_tree.specs.declared.tree.Name.{Name}
 use Rattle.kahn_tree.specs.declared.tree.Kind.{Kind}
@@ -21,10 +20,10 @@ use Rattle.kahn_tree.specs.declared.tree.Instance.{Instance}
 use Rattle.kahn_tree.specs.declared.tree.Program.{Program}
 use Rattle.kahn_tree.specs.View.{bytes_of, names_of, body_of, number_of}
 use Rattle.kahn_network.specs.Kinds.{Agrees}
-use Rattle.kahn_network.specs.Network.{Network, actual_of, actuals_of, process_of, instance_from, network_of, kind_at}
+use Rattle.kahn_network.specs.Network.{actual_of, actuals_of, process_of, instance_from, network_of, kind_at}
 use Rattle.kahn_network.specs.Network as N
-use Rattle.kahn_network.specs.Sides.{channel_names, taking_of, takings_of, IsListed, IsFit}
-use Rattle.kahn_network.specs.Wiring.{locals_of, scope_of, entries, IsChannel, IsProcess, declared_of, global, Fits, AllFit, IsMade, IsSound, IsWellWired}
+use Rattle.kahn_network.specs.Sides.{channel_names, taking_of, IsListed, IsFit}
+use Rattle.kahn_network.specs.Wiring.{scope_of, entries, IsChannel, global, Fits, AllFit, IsMade, IsSound, IsWellWired}
 use Rattle.kahn_network.proofs.Numbered.{declared_at, within, the_process, of_process}
 
 -- a channel that is handed over is one of the network's and has its kind

@@ -1,5 +1,5 @@
 -- The channels and processes of a program by name and by number.
-use Rattle.std.proofs.Common.{◌≡◌, ℕ, zero, suc, ◌+◌, ◌<◌, Bool, true, false, cond, List, [], ◌∷◌, ◌++◌, map, length, Option, None, Some, refl, ap, sym, ◌∙◌, subst, arith, bytes_eq}
+use Rattle.std.proofs.Common.{◌≡◌, ℕ, zero, suc, ◌+◌, ◌<◌, Bool, true, false, cond, List, [], ◌∷◌, ◌++◌, map, length, Option, Some, refl, ap, sym, ◌∙◌, subst, arith, bytes_eq}
 use Rattle.std.specs.Prelude.{slice_get, slice_index_or, ◌==◌}
 use Rattle.std.specs.Map.{lookup}
 use Rattle.std.proofs.Math.Dec.{eqb-suc-zero, eqb-suc-suc, eqb-zero-suc}
@@ -13,7 +13,7 @@ use Rattle.kahn_tree.specs.declared.tree.Declaration.{Declaration}
 use Rattle.kahn_tree.specs.declared.tree.Declaration.TheVariants as D
 use Rattle.kahn_tree.specs.View.{Scope, place_of, bytes_of}
 use Rattle.kahn_network.specs.Network.{channels_of, process_of}
-use Rattle.kahn_network.specs.Wiring.{entries, Global, IsChannel, IsProcess, declared_of, declared_channels, processes_of, IsSound}
+use Rattle.kahn_network.specs.Wiring.{entries, Global, IsChannel, IsProcess, declared_of, declared_channels, processes_of}
 use Rattle.kahn_network.proofs.Handed.{Table, keys, as_channels, bytes_true, bytes_turned, bytes_self}
 
 -- ---- members of a list by number

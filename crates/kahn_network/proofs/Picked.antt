@@ -2,7 +2,7 @@
 use Rattle.std.proofs.Common.{◌≡◌, ℕ, zero, suc, ◌+◌, ◌<◌, Bool, true, false, cond, ◌⊎◌, inl, inr, List, [], ◌∷◌, ◌++◌, length, Option, None, Some, refl, ap, sym, ◌∙◌, subst, arith}
 use Rattle.std.specs.Prelude.{slice_index_or, pos}
 use Rattle.kahn_tree.specs.Syntax as S
-use Rattle.kahn_network.specs.Network.{Network, Instance, Actual, Hands, Source, Written, Nobody, idle, actual_at, instance_at, first_writer, any_written, is_written}
+use Rattle.kahn_network.specs.Network.{Network, Instance, Actual, Hands, Source, Written, Nobody, idle, actual_at, first_writer, any_written, is_written}
 use Rattle.kahn_network.specs.Sides.{IsWithin, handed_at, IsOnly}
 use Rattle.kahn_network.specs.Wires.{first}
 use Rattle.kahn_network.specs.Wiring.{side_at}

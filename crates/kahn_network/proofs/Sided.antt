@@ -1,8 +1,7 @@
 -- The sides of a channel by names and by numbers.
-use Rattle.std.proofs.Common.{◌≡◌, ℕ, zero, suc, ◌+◌, ◌<◌, Bool, true, false, cond, ◌&&◌, List, [], ◌∷◌, ◌++◌, map, length, Option, None, Some, refl, ap, sym, ◌∙◌, subst, arith, bytes_eq, length-append}
-use Rattle.std.specs.Prelude.{slice_get, slice_index_or, ◌==◌}
-use Rattle.std.specs.Map.{lookup}
-use Rattle.std.specs.List.{IsDistinct, AllByRecursion}
+use Rattle.std.proofs.Common.{◌≡◌, ℕ, suc, ◌+◌, ◌<◌, Bool, true, false, cond, ◌&&◌, List, [], ◌∷◌, ◌++◌, map, length, None, Some, refl, ap, sym, ◌∙◌, subst, arith, bytes_eq}
+use Rattle.std.specs.Prelude.{slice_get, ◌==◌}
+use Rattle.std.specs.List.{AllByRecursion}
 use Rattle.std.proofs.lemmas.Bool.{eq-eqb}
 use Rattle.std.proofs.lemmas.List.{length-map}
 use Rattle.std.proofs.lemmas.Option.{get_or_from_slice_get}
@@ -16,22 +15,21 @@ use Rattle.kahn_tree.specs.declared.tree.Direction.TheVariants.{In, Out}
 use Rattle.kahn_tree.specs.declared.tree.Taking.{Taking}
 use Rattle.kahn_tree.specs.declared.tree.Taking.TheVariants as T
 use Rattle.kahn_tree.specs.declared.tree.Parameter.{Parameter}
-use Rattle.kahn_tree.specs.declared.tree.Process.{Process}
 use Rattle.kahn_tree.specs.declared.tree.Argument.{Argument}
 use Rattle.kahn_tree.specs.declared.tree.Argument.TheVariants as A
 use Rattle.kahn_tree.specs.declared.tree.Instance.{Instance}
 use Rattle.kahn_tree.specs.declared.tree.Program.{Program}
-use Rattle.kahn_tree.specs.View.{Scope, place_of, number_of, bytes_of}
-use Rattle.kahn_network.specs.Network.{Network, Actual, Reads, Writes, Hands, is_written, actual_of, actuals_of, channels_of, process_of, instance_from, network_of, channel_source, source_by, role_at, kind_at, first_writer}
+use Rattle.kahn_tree.specs.View.{Scope, place_of, bytes_of}
+use Rattle.kahn_network.specs.Network.{Actual, Reads, Writes, Hands, is_written, actual_of, actuals_of, channels_of, process_of, instance_from, network_of, channel_source, source_by, role_at, kind_at, first_writer}
 use Rattle.kahn_network.specs.Network as N
 use Rattle.kahn_network.specs.Sides.{IsWriter, IsReader, IsOnly, HasOne, HasNone, IsServed, source_of, channel_names}
 use Rattle.kahn_network.specs.Wires.{first}
-use Rattle.kahn_network.specs.Wiring.{Handover, entries, Global, IsChannel, IsProcess, declared_of, declared_channels, global, handed, handed_in, handed_by, handed_from, parameters_of, same_direction, ends, writers, readers, IsOne, IsWired, AllFit, IsMade, IsWellWired, side_at}
+use Rattle.kahn_network.specs.Wiring.{Handover, declared_channels, handed, handed_in, handed_by, handed_from, parameters_of, ends, writers, readers, IsOne, IsWired, IsMade, IsWellWired, side_at}
 use Rattle.kahn_network.specs.declared.sides.Side.{Side}
-use Rattle.kahn_network.proofs.Handed.{AtMostOne, ends_append}
+use Rattle.kahn_network.proofs.Handed.{ends_append}
 use Rattle.kahn_network.proofs.Handed as Handed
 use Rattle.kahn_network.proofs.Picked.{picks, picked, Passes, only, only_as, first_source, first_picked}
-use Rattle.kahn_network.proofs.Numbered.{all_at, there, mapped, within, the_process, channels_same, distinct_channels, number_test}
+use Rattle.kahn_network.proofs.Numbered.{all_at, there, mapped, the_process, channels_same, distinct_channels, number_test}
 
 -- ---- a test for each direction
 

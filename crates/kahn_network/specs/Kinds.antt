@@ -1,5 +1,5 @@
 -- Believed. Which bodies agree in kind and direction: a relation by cases on the abstract syntax.
-use Rattle.std.specs.Prelude.{◌≡◌, ℕ, List, Option, None, Some, slice_get}
+use Rattle.std.specs.Prelude.{◌≡◌, List, Option, None, Some, slice_get}
 use Rattle.kahn_tree.specs.declared.tree.Kind.{Kind}
 use Rattle.kahn_tree.specs.declared.tree.Kind.TheVariants.{Integer, Logical}
 use Rattle.kahn_tree.specs.declared.tree.Operator.{Operator}

@@ -1,9 +1,7 @@
 -- Believed. Who writes and who reads a channel of a network, by numbers.
-use Rattle.std.specs.Prelude.{◌≡◌, ℕ, ◌<◌, Bool, false, ◌==◌, length, List, [], ◌∷◌, ◌++◌, map, Option, None, Some, slice_get}
-use Rattle.kahn_tree.specs.declared.tree.Kind.{Kind}
+use Rattle.std.specs.Prelude.{◌≡◌, ℕ, ◌<◌, ◌==◌, length, List, ◌∷◌, ◌++◌, map, Option, None, Some}
 use Rattle.kahn_tree.specs.declared.tree.Role.{Role}
 use Rattle.kahn_tree.specs.declared.tree.Direction.TheVariants.{In, Out}
-use Rattle.kahn_tree.specs.declared.tree.Declaration.{Declaration}
 use Rattle.kahn_tree.specs.declared.tree.Taking.{Taking}
 use Rattle.kahn_tree.specs.declared.tree.Taking.TheVariants as T
 use Rattle.kahn_tree.specs.declared.tree.Program.{Program}

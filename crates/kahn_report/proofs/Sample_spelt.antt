@@ -15,7 +15,7 @@ use Rattle.kahn_syntax.specs.Terminals.{Terminal, word, sign, name, number, term
 use Rattle.kahn_syntax.specs.Texts.{IsProgram}
 use Rattle.kahn_syntax.specs.Trees.{truth, variable, wait, denial, bracket, conditional, empty, assign, send, print, block, if_else, repeat, StatementTrees, no_statement, statement, statements_words, AreSome, FormedStatements}
 use Rattle.kahn_syntax.specs.Programs as whole
-use Rattle.kahn_syntax.specs.Programs.{ParameterTree, VariableTree, DeclarationTree, InstanceTree, ProgramTree, ArgumentTree, groups_words, togethers_words, Spells, Declares, Argues, Instantiates, Instances, names_words}
+use Rattle.kahn_syntax.specs.Programs.{DeclarationTree, InstanceTree, ProgramTree, ArgumentTree, groups_words, togethers_words, Spells, Declares, Argues, Instantiates, Instances, names_words}
 use Rattle.kahn_syntax.specs.Lists.{Grouped, group, all_members, AreGroups}
 use Rattle.kahn_syntax.proofs.OneTree.{one_tree}
 use Rattle.kahn_syntax.proofs.OneList.{same_lexemes}

@@ -1,5 +1,5 @@
 -- The lines of an explanation, one after another, and what they name.
-use Rattle.std.proofs.Common.{Result, Ok, Err, IfOk, ◌≡◌, ℕ, ◌+◌, ◌<◌, List, [], ◌∷◌, ◌++◌, length, map, drop, get_or, Some, refl, sym, ap, subst, ◌∙◌, append_assoc, append-nil, add-one, arith, drop-cons}
+use Rattle.std.proofs.Common.{Result, Ok, Err, IfOk, ◌≡◌, ℕ, ◌+◌, ◌<◌, List, ◌∷◌, ◌++◌, length, map, get_or, Some, refl, sym, ap, subst, ◌∙◌, append_assoc, arith}
 use Rattle.std.proofs.lemmas.List.{length-map}
 use Rattle.std.specs.List.{slice_get}
 use Rattle.std.specs.Prelude.{option_map}
@@ -17,11 +17,11 @@ use Rattle.kahn_pool.specs.Right.{IsOutcome, IsWaiting}
 use Rattle.kahn_pool.specs.declared.answer.Answer.{Answer}
 use Rattle.kahn_pool.specs.declared.answer.End.{End}
 use Rattle.kahn_pool.specs.declared.answer.Outcome.{Outcome}
-use Rattle.kahn_pool.specs.declared.answer.Outcome.TheVariants.{Ended, Waits, Faulted, More}
+use Rattle.kahn_pool.specs.declared.answer.Outcome.TheVariants.{Waits}
 use Rattle.kahn_pool.specs.declared.answer.Verdict.{Verdict}
 use Rattle.kahn_pool.specs.declared.answer.Verdict.TheVariants.{Finished, Bound, Memory}
 use Rattle.kahn_why.specs.Why.{standing_of, standings_of, stands}
-use Rattle.kahn_why.specs.Words.{AreOfNetwork, IsAnswer, IsOfNetwork, cause_at, line_text, lines_text, ends_at}
+use Rattle.kahn_why.specs.Words.{AreOfNetwork, IsAnswer, IsOfNetwork, ends_at}
 use Rattle.kahn_why.proofs.Stands.{end_of, waiting}
 
 place_within : (N : Network) (ss : List Standing) (p : ℕ) (y : Cause) → IsCause N ss p y → ends_at y < length ss

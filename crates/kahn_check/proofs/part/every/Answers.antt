@@ -1,8 +1,6 @@
-use Rattle.std.proofs.Common.{rules, ◌≡◌, [], false, true, length}
-use Rattle.kahn_check.specs.Parts.{firsts, parts, side_parts}
-use Rattle.kahn_check.specs.inner.Firsts.{sides_parts}
+use Rattle.std.proofs.Common.{rules, ◌≡◌, false, true}
+use Rattle.kahn_check.specs.Parts.{firsts, parts}
 use Rattle.kahn_check.specs.inner.Globals.{known}
-use Rattle.kahn_network.specs.Wiring.{declared_channels}
 use Rattle.kahn_check.proofs.Told.{none_left, some_left, told_before, sides_as_walked, told_some, told_sides}
 use Rattle.kahn_check.proofs.part.every.Goals as goal
 

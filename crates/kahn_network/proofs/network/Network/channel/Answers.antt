@@ -1,4 +1,4 @@
-use Rattle.std.proofs.Common.{rules, arith, ◌≡◌, ◌∙◌, sym, ap, subst, ◌<◌, length, Some}
+use Rattle.std.proofs.Common.{rules, ◌≡◌, ◌∙◌, sym, subst, ◌<◌, length}
 use Rattle.kahn_network.specs.Network.{network_of}
 use Rattle.kahn_network.proofs.Numbered.{at_index}
 use Rattle.kahn_network.proofs.Kept_network.{IsWire, wire_count, wire_at}

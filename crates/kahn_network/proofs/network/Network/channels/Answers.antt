@@ -1,4 +1,4 @@
-use Rattle.std.proofs.Common.{rules, ◌≡◌, ◌∙◌, sym, ap, length}
+use Rattle.std.proofs.Common.{rules, ◌≡◌, ◌∙◌, ap, length}
 use Rattle.kahn_network.specs.Network.{network_of}
 use Rattle.kahn_network.proofs.Kept_network.{wire_count}
 use Rattle.kahn_network.proofs.network.Network.channels.Goals as goal

@@ -1,4 +1,4 @@
-use Rattle.std.proofs.Common.{◌≡◌, ◌∙◌, ℕ, List, map, true, ap, sym, subst}
+use Rattle.std.proofs.Common.{◌≡◌, ◌∙◌, ℕ, map, true, ap, sym, subst}
 use Rattle.std.specs.Io.KnownBytes.{Appends}
 use Rattle.kahn_network.specs.Wiring.{IsWellWired}
 use Rattle.kahn_pool.specs.HeldRuns.{so_far}
