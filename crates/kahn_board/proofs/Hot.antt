@@ -13,7 +13,7 @@ use Rattle.kahn_board.specs.Wires.{Wires}
 use Rattle.kahn_board.specs.Counts.{Owes, is_up}
 use Rattle.kahn_board.specs.Place.{Place, ready, held, parked, over}
 use Rattle.kahn_board.specs.Rule.{St, Deal, Whole, budget, count, halted}
-use Rattle.kahn_board.specs.Plays.{Sat, noted, saw, leaves_as, with_draw, used, undrawn, paid_up, paid_down, halting, looked, drew, uses, gave_back, counted_up, counted_down, halts, sees_halted, sees_count, sees_budget}
+use Rattle.kahn_board.specs.Plays.{Sat, noted_view, saw, leaves_as, with_draw, used, undrawn, paid_up, paid_down, halting, looked, drew, uses, gave_back, counted_up, counted_down, halts, sees_halted, sees_count, sees_budget}
 use Rattle.kahn_board.specs.declared.view.View.{View}
 use Rattle.kahn_board.proofs.Sums.{term_le}
 use Rattle.kahn_board.proofs.Counting.{below-le, below-term}
@@ -70,7 +70,7 @@ module _ {T : Type 0} (told : T → Option Tale) (belongs : ℕ → T → Type 0
   pub looks_halted : (n id : ℕ) (m : Sat T) (i : ℕ) → Fit told w m → i ≡ 8 * (w.instances + w.channels) + 16 → Allows (Whole told belongs w d) n id m i (λ y. y) (sees_halted (step n i 0 0 none) m)
   looks_halted n id m i fit at s a wide me _ = let r : ℕ = get_or s.words i 0 in let is : r ≡ halted w s.words = ap (λ (k : ℕ). get_or s.words k 0) at in
       dite (ℕ_discrete r 0)
-      (λ z. (noted m.0 r, keeps, tt, unchanged told belongs w d s a i id m r me fit, ((λ ne. absurd (ne z)), λ _. ((λ two. a.reckoned.lasting.saw_halted id m.0 me two (sym is ∙ z)), refl))))
+      (λ z. (noted_view m.0 r, keeps, tt, unchanged told belongs w d s a i id m r me fit, ((λ ne. absurd (ne z)), λ _. ((λ two. a.reckoned.lasting.saw_halted id m.0 me two (sym is ∙ z)), refl))))
       (λ ne. let yes : halted w s.words ≢ 0 = (λ z. ne (is ∙ z)) in
       (saw m.0 2 (leaves_as m.0) r, keeps, tt, sights s a i id m 2 r me fit (λ e. absurd (omega (arith, e))) (λ _. yes) (λ _. refl) (omega arith) (inl yes), ((λ _. refl), λ z. absurd (ne z))))
 
@@ -79,16 +79,16 @@ module _ {T : Type 0} (told : T → Option Tale) (belongs : ℕ → T → Type 0
       dite (ℕ_discrete r 0)
       (λ z. let yes : count w s.words ≡ 0 = sym is ∙ z in
       (saw m.0 1 (leaves_as m.0) r, keeps, tt, sights s a i id m 1 r me fit (λ _. yes) (λ e. absurd (omega (arith, e))) (λ two. absurd (alive two)) (omega arith) (inr (inl yes)), ((λ _. refl), λ ne. absurd (ne z))))
-      (λ ne. (noted m.0 r, keeps, tt, unchanged told belongs w d s a i id m r me fit, ((λ z. absurd (ne z)), λ _. ((λ one. ne (is ∙ a.reckoned.lasting.saw_quiet id m.0 me one)), refl))))
+      (λ ne. (noted_view m.0 r, keeps, tt, unchanged told belongs w d s a i id m r me fit, ((λ z. absurd (ne z)), λ _. ((λ one. ne (is ∙ a.reckoned.lasting.saw_quiet id m.0 me one)), refl))))
 
   pub looks_budget : (n id : ℕ) (m : Sat T) (i : ℕ) → Fit told w m → i ≡ 8 * (w.instances + w.channels) → Allows (Whole told belongs w d) n id m i (λ y. y) (sees_budget (step n i 0 0 none) m)
   looks_budget n id m i fit at s a wide me _ = let r : ℕ = get_or s.words i 0 in let is : r ≡ budget w s.words = ap (λ (k : ℕ). get_or s.words k 0) at in
       dite (ℕ_discrete r 0)
       (λ z. (saw m.0 m.0.seen (leaves_as m.0) r, keeps, tt, sights s a i id m m.0.seen r me fit (a.reckoned.lasting.saw_quiet id m.0 me) (a.reckoned.lasting.saw_halted id m.0 me) (λ e. e) (a.reckoned.lasting.sights id m.0 me).0 (inr (inr (sym is ∙ z))), ((λ _. refl), λ ne. absurd (ne z))))
-      (λ ne. (noted m.0 r, keeps, tt, unchanged told belongs w d s a i id m r me fit, ((λ z. absurd (ne z)), λ _. refl)))
+      (λ ne. (noted_view m.0 r, keeps, tt, unchanged told belongs w d s a i id m r me fit, ((λ z. absurd (ne z)), λ _. refl)))
 
   pub notes : (n id : ℕ) (m : Sat T) (i : ℕ) → Fit told w m → Allows (Whole told belongs w d) n id m i (λ y. y) (looked (step n i 0 0 none) m)
-  notes n id m i fit s a wide me _ = (noted m.0 (get_or s.words i 0), keeps, tt, unchanged told belongs w d s a i id m (get_or s.words i 0) me fit, refl)
+  notes n id m i fit s a wide me _ = (noted_view m.0 (get_or s.words i 0), keeps, tt, unchanged told belongs w d s a i id m (get_or s.words i 0) me fit, refl)
 
   -- a step that moves events between the budget, the draw and those done
   budgets : (s : St T) (a : Whole told belongs w d s) (i k id : ℕ) (m : Sat T) (drawn done loose r : ℕ) → get_elem? s.views id ≡ some m.0 → Fit told w m → i ≡ 8 * (w.instances + w.channels) → k + drawn + done ≡ get_or s.words i 0 + m.0.drawn + m.0.done → loose + m.0.done ≡ m.0.loose + done
@@ -137,7 +137,7 @@ module _ {T : Type 0} (told : T → Option Tale) (belongs : ℕ → T → Type 0
           (λ miss. absurd (miss hit)),
         ),
       ))
-      (λ miss. (noted m.0 r, keeps, tt, unchanged told belongs w d s a i id m r me fit, ((λ hit. absurd (miss hit)), λ _. refl)))
+      (λ miss. (noted_view m.0 r, keeps, tt, unchanged told belongs w d s a i id m r me fit, ((λ hit. absurd (miss hit)), λ _. refl)))
 
   pub uses_some : (n id : ℕ) (m : Sat T) (i k : ℕ) → Fit told w m → i ≡ 8 * (w.instances + w.channels) → k ≤ m.0.drawn → Allows (Whole told belongs w d) n id m i (λ y. y) (uses k (step n i 0 0 none) m)
   uses_some n id m i k fit at less s a wide me _ = let r : ℕ = get_or s.words i 0 in
@@ -226,7 +226,7 @@ module _ {T : Type 0} (told : T → Option Tale) (belongs : ℕ → T → Type 0
         refl,
       )
 
-  pub not_two : (m m' : Sat T) (r : ℕ) → m' ≡ (noted m.0 r, m.1) → m.0.seen ≢ 2 → m'.0.seen ≢ 2
+  pub not_two : (m m' : Sat T) (r : ℕ) → m' ≡ (noted_view m.0 r, m.1) → m.0.seen ≢ 2 → m'.0.seen ≢ 2
   not_two m m' r is ne two = ne (sym (ap (λ (k : Sat T). k.0.seen) is) ∙ two)
 
   -- after steps that leave what a seat keeps of its own view

@@ -9,7 +9,7 @@ use Rattle.kahn_board.specs.Tale.{Tale, TellsEvents, events_past}
 use Rattle.kahn_board.specs.Wires.{Wires}
 use Rattle.kahn_board.specs.Place.{ready, mark_of}
 use Rattle.kahn_board.specs.Rule.{St, opening_view, published, Ruled, Whole}
-use Rattle.kahn_board.specs.Dealt.{events_of}
+use Rattle.kahn_board.specs.Dealt.{events_told}
 use Rattle.kahn_board.specs.Counts.{Owes, below}
 use Rattle.kahn_board.proofs.Changes.{tells_past}
 use Rattle.kahn_board.specs.Opening.{Opens}
@@ -64,7 +64,7 @@ module _ {T : Type 0} (told : T → Option Tale) where
   tally_of (y ∷ ys) zero = events_past (told y) 0
   tally_of (y ∷ ys) (suc p) = tally_of ys p
 
-  all_events : (cells : List T) → below (tally_of cells) (length cells) ≡ events_of told cells
+  all_events : (cells : List T) → below (tally_of cells) (length cells) ≡ events_told told cells
   all_events [] = refl
   all_events (x ∷ xs) = omega (arith, below_first (tally_of (x ∷ xs)) (length xs), all_events xs)
 
@@ -133,7 +133,7 @@ module _ {T : Type 0} (told : T → Option Tale) (after : T → T → Type 0) (w
   }
 
   pub opens : (bound : ℕ) (words numbers : List ℕ) (cells : List T) → Opens told after w bound numbers cells → Starts bound words numbers
-      → Whole told (given after cells) w record { bound = bound; events = events_of told cells; published = published w words } (start words cells)
+      → Whole told (given after cells) w record { bound = bound; events = events_told told cells; published = published w words } (start words cells)
   opens bound words numbers cells o b = let at : (k : ℕ) → get_or words (8 * (w.instances + length numbers) + k) 0 ≡ get_or words (8 * (w.instances + w.channels) + k) 0 = λ k. ap (λ (j : ℕ). get_or words (8 * (w.instances + j) + k) 0) o.numbers_are in (whole told (given after cells) w _ _ (λ _. ready)
       (opens_first bound words numbers cells o b.long b.zeros b.twice)
       (record {

@@ -7,7 +7,7 @@ use Rattle.kahn_board.specs.Wires.{Wires}
 use Rattle.kahn_board.specs.Hands.{ListsHands, Facts, Carries}
 use Rattle.kahn_board.specs.Place.{total, only}
 use Rattle.kahn_board.proofs.Moved.{only_yes}
-use Rattle.kahn_board.specs.Plays.{Sat, noted, took, gave, waking, Got, GaveUp}
+use Rattle.kahn_board.specs.Plays.{Sat, noted_view, took, gave, waking, Got, GaveUp}
 use Rattle.kahn_board.specs.Cuts.{HoldsNothing}
 use Rattle.kahn_board.proofs.Steps.{Fit}
 use Rattle.kahn_board.proofs.Counting.{inside_of, has_room, took_one, put_once, gave_one, turned_one}
@@ -90,7 +90,7 @@ module _ {T : Type 0} (told : T → Option Tale) (w : Wires) where
   fit m z z' items room n k f same sized wired = let a = ap (λ (k : TableId). k.words) same in let b = ap (λ (k : TableId). k.slots) same in
       record { alive = f.0; hands_long = f.1 ∙ (b ∙ (sized.1 ∙ sym wired.0)); flushed_long = omega (arith, f.2, sized.0, sized.1, wired.1); got_long = f.7 ∙ (b ∙ (sized.1 ∙ sym wired.0)) }
 
-  pub facts_noted : (m m' : Sat T) (z z' : TableId) (items : List ℕ) (room r : ℕ) → Facts m z items room → z' ≡ z → m' ≡ (noted m.0 r, m.1) → Facts m' z' items room
+  pub facts_noted : (m m' : Sat T) (z z' : TableId) (items : List ℕ) (room r : ℕ) → Facts m z items room → z' ≡ z → m' ≡ (noted_view m.0 r, m.1) → Facts m' z' items room
   facts_noted m m' z z' items room r f same is = subst (λ (k : TableId × Sat T). Facts k.1 k.0 items room) (λ i. (sym same i, sym is i)) f
 
   -- a seat that woke a reader

@@ -8,7 +8,7 @@ use lib.ListN.{get_elem?}
 use lib.Seq.{set-get_or}
 use Rattle.kahn_board.specs.Counts.{is_up}
 use Rattle.kahn_board.specs.Calls.{Leaves}
-use Rattle.kahn_board.specs.Plays.{SeesMore, took, gave, told_of, waking}
+use Rattle.kahn_board.specs.Plays.{SeesMore, took, gave, flushed_view, waking}
 use Rattle.kahn_board.specs.Rule.{Deal, Whole, halted, count}
 use Rattle.kahn_board.proofs.Turns.{whole}
 use Rattle.kahn_board.proofs.Seconds.{hot, idles, takes_second, gives_second, replaced}
@@ -20,7 +20,7 @@ use Rattle.kahn_board.specs.Tale.{Tale, TellsWait, TellsEnd, FlushedAll, flushed
 use Rattle.kahn_board.specs.Wires.{Wires}
 use Rattle.kahn_board.specs.Place.{Place, ready, held, parked, over, word_code, held_by, parked_on, mark_of, moved}
 use Rattle.kahn_board.specs.Rule.{St, published, IsHome, HasSlot, Ruled}
-use Rattle.kahn_board.specs.Plays.{Sat, noted, IsIn, claimed, set_down, parked_or_not, publishes}
+use Rattle.kahn_board.specs.Plays.{Sat, noted_view, IsIn, claimed, set_down, parked_or_not, publishes}
 use Rattle.kahn_board.specs.declared.view.View.{View}
 use Rattle.kahn_board.proofs.Moved.{moved_here, at_moved, held_yes, held_no, is_held, held_apart, parked_yes, parked_no, is_parked, parked_apart, code_ready}
 use Rattle.kahn_board.proofs.Sums.{total-set, term_le}
@@ -180,10 +180,10 @@ module _ {T : Type 0} (told : T → Option Tale) (belongs : ℕ → T → Type 0
   Goes s i id m then k = (v : View) × (a : Act (Option T)) × Valid s.homes m.1 a × Whole told belongs w d (stepped s i k id m.1 v a) × then (get_or s.words i 0) (v, carried_after m.1 a)
 
   -- a step that changes nothing
-  pub unchanged : (s : St T) (a : Whole told belongs w d s) (i id : ℕ) (m : Sat T) (r : ℕ) → get_elem? s.views id ≡ some m.0 → Fit told w m → Whole told belongs w d (stepped s i (get_or s.words i 0) id m.1 (noted m.0 r) keeps)
-  unchanged s a i id m r me fit = subst (λ (l : List ℕ). Whole told belongs w d (state told w l s.homes (set s.views id (noted m.0 r)))) (sym (set-get_or s.words i 0)) (whole told belongs w d _ a.place
-      (stays told w s a.place a.ruled s.words id m (noted m.0 r) me fit refl refl refl refl (λ q h. refl))
-      (idles told belongs w d s a.place a.reckoned id m.0 (noted m.0 r) s.words me record {
+  pub unchanged : (s : St T) (a : Whole told belongs w d s) (i id : ℕ) (m : Sat T) (r : ℕ) → get_elem? s.views id ≡ some m.0 → Fit told w m → Whole told belongs w d (stepped s i (get_or s.words i 0) id m.1 (noted_view m.0 r) keeps)
+  unchanged s a i id m r me fit = subst (λ (l : List ℕ). Whole told belongs w d (state told w l s.homes (set s.views id (noted_view m.0 r)))) (sym (set-get_or s.words i 0)) (whole told belongs w d _ a.place
+      (stays told w s a.place a.ruled s.words id m (noted_view m.0 r) me fit refl refl refl refl (λ q h. refl))
+      (idles told belongs w d s a.place a.reckoned id m.0 (noted_view m.0 r) s.words me record {
         hands_same = refl;
         got_same = refl;
         drawing = refl;
@@ -258,7 +258,7 @@ module _ {T : Type 0} (told : T → Option Tale) (belongs : ℕ → T → Type 0
           (λ miss. absurd (miss hit)),
         ),
       ))
-      (λ miss. (noted m.0 x, keeps, tt, unchanged s a (8 * p) id m x me fit, ((λ hit. absurd (miss hit)), λ _. refl)))
+      (λ miss. (noted_view m.0 x, keeps, tt, unchanged s a (8 * p) id m x me fit, ((λ hit. absurd (miss hit)), λ _. refl)))
 
   -- the instance read off the word
   pub claims_at : (n id : ℕ) (m : Sat T) (p p' : ℕ) (said : maybe.Option (Option T)) → Fit told w m → p < w.instances → p' ≡ p → Allows (Whole told belongs w d) n id m (8 * p) (λ y. either (eqb y 0) 1 y) (claimed told belongs w p' (step n (8 * p) 0 1 said) m)
@@ -319,7 +319,7 @@ module _ {T : Type 0} (told : T → Option Tale) (belongs : ℕ → T → Type 0
       ))
       (λ miss. let is = mine_is told w s place r id (v, []) p me inside is_in in
       let even : x % 2 ≡ 0 = ap (λ (k : ℕ). get_or s.words k 0 % 2) at ∙ (r.parking.marks c near ∙ (ap (λ (o : Option ℕ). mark_of place o c) reads ∙ ap (parked_on c) is)) in
-      (noted v x, keeps, tt, unchanged s a i id m x me fit, ((λ hit. absurd (miss hit)), λ _. (even, refl))))
+      (noted_view v x, keeps, tt, unchanged s a i id m x me fit, ((λ hit. absurd (miss hit)), λ _. (even, refl))))
 
   marked : (place : ℕ → Place) (reader : Option ℕ) (c : ℕ) → mark_of place reader c ≡ 1 → (p : ℕ) × (reader ≡ Some p) × (place p ≡ parked c)
   marked place None c e = absurd (omega arith)
@@ -341,7 +341,7 @@ module _ {T : Type 0} (told : T → Option Tale) (belongs : ℕ → T → Type 0
       (λ e. subst (λ (k : ℕ). get_or (set m.0.flushed c (new / 2)) k 0 ≡ published w ws k) (sym e) (get_or-set_same m.0.flushed c (new / 2) 0 (omega (arith, fit.flushed_long)) ∙ ap half (sym now)))
       (λ ne. get_or-set_other m.0.flushed c d (new / 2) 0 ne ∙ (r.known id m.0 me q d h one near_d wr ∙ sym (elsewhere_same d ne))) in
       dite (ℕ_discrete (x % 2) 0)
-      (λ even. let cell = subst (λ (z : Place). HasSlot z (get_elem? s.homes q₀)) is (r.one_pair.cell_is q₀ writer_in) in let v' : View = noted (told_of m.0 c (new / 2)) x in
+      (λ even. let cell = subst (λ (z : Place). HasSlot z (get_elem? s.homes q₀)) is (r.one_pair.cell_is q₀ writer_in) in let v' : View = noted_view (flushed_view m.0 c (new / 2)) x in
       let stay : (q : ℕ) → moved place q₀ (held id) q ≡ place q = λ q. at_moved (λ k z. z ≡ place k) place q₀ (held id) q (sym is) (λ _. refl) in
       let unmarked : (d : ℕ) → mark_of (moved place q₀ (held id)) (w.reader d) d ≡ mark_of place (w.reader d) d = λ d. mark_same place q₀ (held id) (w.reader d) d (sym (ap (parked_on d) is)) in
       let hots = hot told belongs w d s.words i new (omega arith) in (

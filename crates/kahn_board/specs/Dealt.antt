@@ -19,12 +19,12 @@ module _ {T : Type 0} where
 
 module _ {T : Type 0} (told : T → Option Tale) where
   -- the events that the cells tell when the board is made
-  abbrev pub events_of : List T → ℕ
-  events_of cells = total (λ y. events_past (told y) 0) cells
+  abbrev pub events_told : List T → ℕ
+  events_told cells = total (λ y. events_past (told y) 0) cells
 
   -- the numbers published at the start are those of the first words
   abbrev pub dealt : Terms T → Deal
-  dealt key = record { bound = key.bound; events = events_of key.cells.value.items; published = published (wired key) key.words.value.items }
+  dealt key = record { bound = key.bound; events = events_told key.cells.value.items; published = published (wired key) key.words.value.items }
 
   -- the rule of its table
   abbrev pub holds : (T → T → Type 0) → Terms T → St T → Type 0

@@ -3,7 +3,7 @@ use Rattle.std.specs.Prelude.{◌≡◌, ℕ, ◌+◌, ◌*◌, ◌^◌, ◌<◌
 use mathlib.Core.Option.{some}
 use lib.ListN.{get_elem?}
 use Rattle.kahn_board.specs.Tale.{Tale, FlushedAll, flushed_of}
-use Rattle.kahn_board.specs.Dealt.{events_of}
+use Rattle.kahn_board.specs.Dealt.{events_told}
 use Rattle.kahn_board.specs.Wires.{Wires}
 
 -- the last words among n instances and m channels: the bound, the number of instances, and not halted
@@ -24,4 +24,4 @@ module _ {T : Type 0} where
     -- each cell counts as a later state of itself
     pub selves : (p : ℕ) (y : T) → get_elem? cells p ≡ some y → after y y
     -- the bound and the events so far
-    pub few : bound + events_of told cells < 2 ^ 48
+    pub few : bound + events_told told cells < 2 ^ 48

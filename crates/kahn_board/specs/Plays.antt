@@ -17,8 +17,8 @@ abbrev pub Play : Type 0 → Type 1
 Play T = Step (Option T) → Sat T → ℕ → Sat T → Type 0
 
 -- the view after a step that found r and told the seat nothing else
-abbrev pub noted : View → ℕ → View
-noted v r = view v.parts v.hands v.flushed v.got v.drawn v.done v.loose v.owed v.down v.seen 2 (v.steps + 1) r v.raised
+abbrev pub noted_view : View → ℕ → View
+noted_view v r = view v.parts v.hands v.flushed v.got v.drawn v.done v.loose v.owed v.down v.seen 2 (v.steps + 1) r v.raised
 
 abbrev pub IsIn : View → ℕ → Type 0
 IsIn v p = slice_index v.hands p ≡ 1
@@ -32,8 +32,8 @@ abbrev pub gave : View → ℕ → Option Tale → ℕ → ℕ → View
 gave v p t more r = view v.parts (slice_set v.hands p 0) v.flushed v.got v.drawn v.done (v.loose - (events_past t (slice_index v.got p) - slice_index v.got p)) v.owed (v.down + more) v.seen 2 (v.steps + 1) r v.raised
 
 -- `count` tokens of the channel c are published
-abbrev pub told_of : View → ℕ → ℕ → View
-told_of v c count = view v.parts v.hands (slice_set v.flushed c count) v.got v.drawn v.done v.loose v.owed v.down v.seen v.stage v.steps v.found v.raised
+abbrev pub flushed_view : View → ℕ → ℕ → View
+flushed_view v c count = view v.parts v.hands (slice_set v.flushed c count) v.got v.drawn v.done v.loose v.owed v.down v.seen v.stage v.steps v.found v.raised
 
 -- the same, and q woke p
 abbrev pub waking : View → ℕ → ℕ → ℕ → ℕ → View
@@ -92,7 +92,7 @@ module _ {T : Type 0} (told : T → Option Tale) (w : Wires) where
   set_down p st m r n = (y : T) × TheFirst m p y × GaveUp m p (r / 2) r n y
 
   abbrev pub parked_or_not : ℕ → Play T
-  parked_or_not p st m r n = (r ≡ st.first → (y : T) × TheFirst m p y × GaveUp m p 1 r n y) × (r ≢ st.first → (r % 2 ≡ 0) × (n ≡ (noted m.0 r, m.1)))
+  parked_or_not p st m r n = (r ≡ st.first → (y : T) × TheFirst m p y × GaveUp m p 1 r n y) × (r ≢ st.first → (r % 2 ≡ 0) × (n ≡ (noted_view m.0 r, m.1)))
 
 module _ {T : Type 0} (told : T → Option Tale) (belongs : ℕ → T → Type 0) (w : Wires) where
   -- the seat took the cell y of the instance p: what y tells as flushed is published; it has flushed all that it sent, or the run is halted; it belongs to p;
@@ -104,11 +104,11 @@ module _ {T : Type 0} (told : T → Option Tale) (belongs : ℕ → T → Type 0
       × (slice_index (slice_set m.0.got p e) p + m.0.drawn < 2 ^ 48)
 
   abbrev pub claimed : ℕ → Play T
-  claimed p st m r n = (r ≡ 0 → (y : T) × Got m p 0 n y) × (r ≢ 0 → n ≡ (noted m.0 r, m.1))
+  claimed p st m r n = (r ≡ 0 → (y : T) × Got m p 0 n y) × (r ≢ 0 → n ≡ (noted_view m.0 r, m.1))
 
   -- where the number found was odd, the seat took the reader's cell, which waits on the channel c and took all that was published
   abbrev pub publishes : ℕ → Play T
-  publishes c st m r n = (r % 2 ≡ 0 → n ≡ (noted (told_of m.0 c (st.first / 2)) r, m.1))
+  publishes c st m r n = (r % 2 ≡ 0 → n ≡ (noted_view (flushed_view m.0 c (st.first / 2)) r, m.1))
       × (r % 2 ≡ 1 → (p : ℕ) × (q : ℕ) × (y : T) × (w.reader c ≡ Some p) × (w.writer c ≡ Some q) × TellsWait (told y) c (r / 2) × Got (waking m.0 c (st.first / 2) p q, m.1) p r n y)
 
 module _ {T : Type 0} where
@@ -126,11 +126,11 @@ module _ {T : Type 0} where
       (t.table_id ≡ s.table_id) × (t.id ≡ s.id) × at_moment holds s.id play (step z.slots word old new none) s.me r t.me
 
   abbrev pub looked : Play T
-  looked st m r n = n ≡ (noted m.0 r, m.1)
+  looked st m r n = n ≡ (noted_view m.0 r, m.1)
 
   -- it drew the difference where the budget was still what it had found
   abbrev pub drew : Play T
-  drew st m r n = (r ≡ st.first → (n ≡ (with_draw m.0 (st.first - st.second) r, m.1)) × ((p : ℕ) → IsIn m.0 p → slice_index m.0.got p + (st.first - st.second) < 2 ^ 48)) × (r ≢ st.first → n ≡ (noted m.0 r, m.1))
+  drew st m r n = (r ≡ st.first → (n ≡ (with_draw m.0 (st.first - st.second) r, m.1)) × ((p : ℕ) → IsIn m.0 p → slice_index m.0.got p + (st.first - st.second) < 2 ^ 48)) × (r ≢ st.first → n ≡ (noted_view m.0 r, m.1))
 
   abbrev pub uses : ℕ → Play T
   uses k st m r n = n ≡ (used m.0 k r, m.1)
@@ -148,13 +148,13 @@ module _ {T : Type 0} where
   halts st m r n = n ≡ (halting m.0 r, m.1)
 
   abbrev pub sees_halted : Play T
-  sees_halted st m r n = (r ≢ 0 → n ≡ (saw m.0 2 (leaves_as m.0) r, m.1)) × (r ≡ 0 → (m.0.seen ≢ 2) × (n ≡ (noted m.0 r, m.1)))
+  sees_halted st m r n = (r ≢ 0 → n ≡ (saw m.0 2 (leaves_as m.0) r, m.1)) × (r ≡ 0 → (m.0.seen ≢ 2) × (n ≡ (noted_view m.0 r, m.1)))
 
   abbrev pub sees_count : Play T
-  sees_count st m r n = (r ≡ 0 → n ≡ (saw m.0 1 (leaves_as m.0) r, m.1)) × (r ≢ 0 → (m.0.seen ≢ 1) × (n ≡ (noted m.0 r, m.1)))
+  sees_count st m r n = (r ≡ 0 → n ≡ (saw m.0 1 (leaves_as m.0) r, m.1)) × (r ≢ 0 → (m.0.seen ≢ 1) × (n ≡ (noted_view m.0 r, m.1)))
 
   abbrev pub sees_budget : Play T
-  sees_budget st m r n = (r ≡ 0 → n ≡ (saw m.0 m.0.seen (leaves_as m.0) r, m.1)) × (r ≢ 0 → n ≡ (noted m.0 r, m.1))
+  sees_budget st m r n = (r ≡ 0 → n ≡ (saw m.0 m.0.seen (leaves_as m.0) r, m.1)) × (r ≢ 0 → n ≡ (noted_view m.0 r, m.1))
 
 -- the slot that a seat took last
 abbrev pub first_of : {T : Type 0} → List (ℕ × Option T) → ℕ

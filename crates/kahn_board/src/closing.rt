@@ -5,7 +5,7 @@ ghost use mathlib.Core.Option.{some};
 ghost use lib.ListN.{get_elem?};
 ghost use Rattle.kahn_board.specs.Dealt.{belongs, dealt, wired};
 ghost use Rattle.kahn_board.specs.Closing.{Closes};
-ghost use Rattle.kahn_board.specs.Cuts.{AreCut, IsFree, joined};
+ghost use Rattle.kahn_board.specs.Cuts.{AreCut, IsFree, joined_view};
 ghost use Rattle.kahn_board.specs.Rule.{all_parts};
 
 use crate::board::{Board, Seat};
@@ -31,10 +31,10 @@ impl Split<View> for Cut {
 pub struct Both;
 
 impl Join<View> for Both {
-    ghost use Rattle.kahn_board.specs.Cuts.{joined};
+    ghost use Rattle.kahn_board.specs.Cuts.{joined_view};
     ghost use Rattle.kahn_board.specs.Rule.{spent};
 
-    ghost both = { joined };
+    ghost both = { joined_view };
 
     ghost spent = { spent };
 }
@@ -71,7 +71,7 @@ impl<T: Told> Board<T> {
     /// One seat of the two.
     pub fn join(&self, seat: Seat<T>, other: Seat<T>) -> Seat<T>
         requires { (seat.seat.table_id ≡ self.now.table.shared.table_id) × (other.seat.table_id ≡ self.now.table.shared.table_id) × IsFree other.seat.me.0 }
-        ensures { (result.seat.table_id ≡ seat.seat.table_id) × (result.seat.id ≡ seat.seat.id) × (result.seat.me ≡ (joined seat.seat.me.0 other.seat.me.0, seat.seat.me.1)) }
+        ensures { (result.seat.table_id ≡ seat.seat.table_id) × (result.seat.id ≡ seat.seat.id) × (result.seat.me ≡ (joined_view seat.seat.me.0 other.seat.me.0, seat.seat.me.1)) }
     {
         let Seat { mut seat, held } = seat;
         let Seat {

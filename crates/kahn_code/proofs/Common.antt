@@ -10,7 +10,7 @@ pub use Rattle.kahn_streams.specs.Laws.{AreInputsExtended}
 pub use Rattle.kahn_streams.specs.Meaning.{Store, constant, exec, read, script_of, settle, turns_of, value_of}
 pub use Rattle.kahn_streams.specs.Script.{Cut, Dry, Fault, Give, Got, Outcome, Port, Printer, Reached, Script, Sends, Tapes, Turns, Waits, play}
 pub use Rattle.kahn_streams.specs.Solution.{Inputs, IsPrefix, Stands, default_of, ending, exec_at, goes_to, iterate, opening, opening_of, out, source, tapes_of, values_at}
-pub use Rattle.kahn_streams.specs.Steps.{Follows, Sent, Step, Took, Turned, empty, halted, here, sends_of, sent, taken, took, turned}
+pub use Rattle.kahn_streams.specs.Steps.{Follows, Sent, Step, Took, Turned, empty, halted, here, sends_of, sent, values_taken, took, turned}
 pub use Rattle.kahn_streams.specs.Streams.{IsOf}
 pub use Rattle.kahn_streams.specs.Tokens.{Holds, Lists, inputs_of}
 pub use Rattle.kahn_streams.specs.declared.token.Token.{Token}

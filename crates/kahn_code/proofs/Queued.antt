@@ -7,7 +7,7 @@ use Rattle.kahn_tree.specs.declared.tree.Role.{Role}
 use Rattle.kahn_tree.specs.declared.tree.Role.TheVariants.{Inner, Output}
 use Rattle.kahn_code.specs.Cells.{is_output}
 use Rattle.kahn_code.specs.Queues.{Waiting}
-use Rattle.kahn_code.specs.Lines.{Lines, AreFirst, AreQueued, IsFirst, IsQueue, Joins, actual_of, at_first, next_at, place_at, queue_of, taken_of, given_of, waiting_of, spare_of}
+use Rattle.kahn_code.specs.Lines.{Lines, AreFirst, AreQueued, IsFirst, IsQueue, Joins, actual_here, at_first, next_at, place_at, queue_of, taken_of, given_of, waiting_of, spare_of}
 use Rattle.kahn_code.specs.Seats.{Seat, IsNext, Stays, StayReady, KeepsRoom, Moved, LeavesOthers}
 use Rattle.kahn_code.proofs.Lists as First
 use Rattle.kahn_code.proofs.Readers.{reads_once, writes_once}
@@ -112,10 +112,10 @@ abbrev pub changed : Lines → ℕ → Waiting → Lines
 changed s c w = record s { queues = slice_set s.queues c w }
 
 abbrev ready_at : Lines → ℕ → Type 0
-ready_at s q = 0 < waiting_of (queue_of s.queues (actual_of s q))
+ready_at s q = 0 < waiting_of (queue_of s.queues (actual_here s q))
 
 abbrev roomy_at : Lines → ℕ → Type 0
-roomy_at s q = 0 < spare_of (queue_of s.queues (actual_of s q))
+roomy_at s q = 0 < spare_of (queue_of s.queues (actual_here s q))
 
 abbrev pub seat_of : Lines → Seat
 seat_of s = record { network = s.network; input = s.input; instance = s.instance }
@@ -146,10 +146,10 @@ module _ (s : Lines) (h : AreQueued s) (c : ℕ) (w w' : Waiting) (inside : c < 
   all_stay same p r = let a = same.0 in let b = same.1 in place_stays p r (λ e. a) (λ e. omega (arith, a, b))
 
   more_stay : w.waiting ≤ w'.waiting → StayReady (ready_at s) (ready_at (changed s c w'))
-  more_stay more q = ready_set s.queues c w w' (actual_of s q) queue_at (λ e. more)
+  more_stay more q = ready_set s.queues c w w' (actual_here s q) queue_at (λ e. more)
 
   rooms_stay : (0 < w.spare → 0 < w'.spare) → KeepsRoom (roomy_at s) (roomy_at (changed s c w'))
-  rooms_stay more q = room_set s.queues c w w' (actual_of s q) queue_at (λ e. more)
+  rooms_stay more q = room_set s.queues c w w' (actual_here s q) queue_at (λ e. more)
 
 -- a take leaves the room that there was
 room_taken : (w w' : Waiting) (o : Option Token) → IfSome o (λ _. w'.spare ≡ w.spare + 1) → IfNone o ((w' ≡ w) × (w.waiting ≡ 0)) → 0 < w.spare → 0 < w'.spare
@@ -163,14 +163,14 @@ pub record Took (n new : Lines) (q c : ℕ) (o : Option Token) : Type 0 where
   pub token : IfSome o (IsNext (seat_of n) c (place_at n n.instance q))
   pub moved : IfSome o (λ _. Moved (place_at n n.instance) (place_at new new.instance) q)
   pub stays : IfNone o (Stays (place_at n n.instance) (place_at new new.instance))
-  pub dry : IfNone o (waiting_of (queue_of new.queues (actual_of new q)) ≡ 0)
+  pub dry : IfNone o (waiting_of (queue_of new.queues (actual_here new q)) ≡ 0)
   pub some : ready_at n q → IsSome o
-  pub keeps : (r d : ℕ) → r ≢ q → actual_of n r ≡ Reads d → ready_at n r → ready_at new r
+  pub keeps : (r d : ℕ) → r ≢ q → actual_here n r ≡ Reads d → ready_at n r → ready_at new r
 
 -- queues s, seen as n, of which parameter q reads channel c
-module _ {s n : Lines} (is : s ≡ n) (h : AreQueued s) (q c : ℕ) (reads : actual_of n q ≡ Reads c) where
-  read_here : actual_of s q ≡ Reads c
-  read_here = ap (λ (x : Lines). actual_of x q) is ∙ reads
+module _ {s n : Lines} (is : s ≡ n) (h : AreQueued s) (q c : ℕ) (reads : actual_here n q ≡ Reads c) where
+  read_here : actual_here s q ≡ Reads c
+  read_here = ap (λ (x : Lines). actual_here x q) is ∙ reads
 
   pub read_inside : c < length s.queues
   read_inside = subst (λ k. c < k) (sym h.count) (reads_listed s.network h.wired s.instance q c read_here)
@@ -180,7 +180,7 @@ module _ {s n : Lines} (is : s ≡ n) (h : AreQueued s) (q c : ℕ) (reads : act
   read_once p r other e = let o = reads_once s.network h.wired p r s.instance q c e read_here in other o.0 o.1
 
   module _ {w : Waiting} (value : w ≡ slice_index_or s.queues c w) where
-    pub queue_read : queue_of n.queues (actual_of n q) ≡ Some w
+    pub queue_read : queue_of n.queues (actual_here n q) ≡ Some w
     queue_read = rw (← is) (ap (queue_of s.queues) read_here ∙ queue_at s h c w w read_inside value)
 
     pub next_read : place_at n n.instance q ≡ w.taken
@@ -213,7 +213,7 @@ module _ {s n : Lines} (is : s ≡ n) (h : AreQueued s) (q c : ℕ) (reads : act
           stays = tt;
           dry = tt;
           some = λ ready. refl;
-          keeps = rw (← is) (λ r d other read. ready_set s.queues c w w' (actual_of s r) (queue_at s h c w w read_inside value)
+          keeps = rw (← is) (λ r d other read. ready_set s.queues c w w' (actual_here s r) (queue_at s h c w w read_inside value)
               (λ joins. absurd (read_once s.instance r (λ e f. other f) (read ∙ ap Reads (subst (λ a. Joins a c) read joins)))));
         }
     took w' None same told counts none =
@@ -233,9 +233,9 @@ module _ {s n : Lines} (is : s ≡ n) (h : AreQueued s) (q c : ℕ) (reads : act
     took_rooms w' o more none = rw (← is) (rooms_stay s h c w w' read_inside value (room_taken w w' o more none))
 
 -- of which it writes channel c
-module _ {s n : Lines} (is : s ≡ n) (h : AreQueued s) (q c : ℕ) (writes_it : actual_of n q ≡ Writes c) where
-  write_here : actual_of s q ≡ Writes c
-  write_here = ap (λ (x : Lines). actual_of x q) is ∙ writes_it
+module _ {s n : Lines} (is : s ≡ n) (h : AreQueued s) (q c : ℕ) (writes_it : actual_here n q ≡ Writes c) where
+  write_here : actual_here s q ≡ Writes c
+  write_here = ap (λ (x : Lines). actual_here x q) is ∙ writes_it
 
   pub write_inside : c < length s.queues
   write_inside = subst (λ k. c < k) (sym h.count) (writes_listed s.network h.wired s.instance q c write_here)
@@ -259,13 +259,13 @@ module _ {s n : Lines} (is : s ≡ n) (h : AreQueued s) (q c : ℕ) (writes_it :
       pub room_keeps : StayReady (ready_at n) (ready_at (changed s c w'))
       room_keeps = rw (← is) (more_stay s h c w w' write_inside value (let e = counts.1 in omega (arith, e)))
 
-      pub room_there : 0 < w'.spare → 0 < spare_of (queue_of (slice_set s.queues c w') (actual_of s q))
+      pub room_there : 0 < w'.spare → 0 < spare_of (queue_of (slice_set s.queues c w') (actual_here s q))
       room_there room = subst (λ k. 0 < k) (sym (ap (λ a. spare_of (queue_of (slice_set s.queues c w') a)) write_here ∙ ap spare_of (set_here s.queues c w' write_inside))) room
 
-    queue_written : queue_of n.queues (actual_of n q) ≡ Some w
+    queue_written : queue_of n.queues (actual_here n q) ≡ Some w
     queue_written = rw (← is) (ap (queue_of s.queues) write_here ∙ queue_at s h c w w' write_inside value)
 
-    queue_made : queue_of (slice_set s.queues c w') (actual_of s q) ≡ Some w'
+    queue_made : queue_of (slice_set s.queues c w') (actual_here s q) ≡ Some w'
     queue_made = ap (queue_of (slice_set s.queues c w')) write_here ∙ set_here s.queues c w' write_inside
 
     pub room_here : roomy_at n q → 0 < w.spare
@@ -277,8 +277,8 @@ module _ {s n : Lines} (is : s ≡ n) (h : AreQueued s) (q c : ℕ) (writes_it :
     pub room_rooms : (0 < w.spare → 0 < w'.spare) → KeepsRoom (roomy_at n) (roomy_at (changed s c w'))
     room_rooms more = rw (← is) (rooms_stay s h c w w' write_inside value more)
 
-    pub put_rooms : (r d : ℕ) → r ≢ q → (actual_of n r ≡ Writes d) × (is_output (role_at (network_of n.network) d) ≡ false) → roomy_at n r → roomy_at (changed s c w') r
-    put_rooms = rw (← is) (λ r d other written. room_set s.queues c w w' (actual_of s r) (queue_at s h c w w' write_inside value)
+    pub put_rooms : (r d : ℕ) → r ≢ q → (actual_here n r ≡ Writes d) × (is_output (role_at (network_of n.network) d) ≡ false) → roomy_at n r → roomy_at (changed s c w') r
+    put_rooms = rw (← is) (λ r d other written. room_set s.queues c w w' (actual_here s r) (queue_at s h c w w' write_inside value)
         (λ joins. absurd (write_once s.instance r (λ e f. other f) (written.0 ∙ ap Writes (subst (λ a. Joins a c) written.0 joins)))))
 
     -- where a token was put

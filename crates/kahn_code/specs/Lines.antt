@@ -38,8 +38,8 @@ next_at queues (Reads c) = taken_of (slice_get queues c)
 next_at queues (Writes c) = given_of (slice_get queues c)
 next_at queues (Hands v) = 0
 
-abbrev pub actual_of : Lines → ℕ → Actual
-actual_of s q = actual_at (instance_at (network_of s.network) s.instance) q
+abbrev pub actual_here : Lines → ℕ → Actual
+actual_here s q = actual_at (instance_at (network_of s.network) s.instance) q
 
 -- the actual is this channel
 abbrev pub Joins : Actual → ℕ → Type 0

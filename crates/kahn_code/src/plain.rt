@@ -127,11 +127,11 @@ impl<A: Allocator> Plain<A> {
 
 impl<A: Allocator> Ports for Plain<A> {
     ghost use Rattle.std.specs.Prelude.{◌≡◌, ◌<◌};
-    ghost use Rattle.kahn_code.specs.Lines.{actual_of, next_at, place_at, queue_of, waiting_of, spare_of};
+    ghost use Rattle.kahn_code.specs.Lines.{actual_here, next_at, place_at, queue_of, waiting_of, spare_of};
 
     ghost seat = { λ s. record { network = s.network; input = s.input; instance = s.instance } };
 
-    ghost next = { λ s q. next_at s.queues (actual_of s q) };
+    ghost next = { λ s q. next_at s.queues (actual_here s q) };
 
     ghost others = { λ s p q. place_at s p q };
 
@@ -141,11 +141,11 @@ impl<A: Allocator> Ports for Plain<A> {
 
     ghost delivered = { λ s q. 0 };
 
-    ghost is_ready = { λ s q. 0 < waiting_of (queue_of s.queues (actual_of s q)) };
+    ghost is_ready = { λ s q. 0 < waiting_of (queue_of s.queues (actual_here s q)) };
 
-    ghost is_dry = { λ s q. waiting_of (queue_of s.queues (actual_of s q)) ≡ 0 };
+    ghost is_dry = { λ s q. waiting_of (queue_of s.queues (actual_here s q)) ≡ 0 };
 
-    ghost has_room = { λ s q. 0 < spare_of (queue_of s.queues (actual_of s q)) };
+    ghost has_room = { λ s q. 0 < spare_of (queue_of s.queues (actual_here s q)) };
 
     fn ready(&mut self, _parameter: usize, channel: usize) -> bool {
         self.queues[channel].len() > 0

@@ -20,14 +20,14 @@ use Rattle.kahn_job.specs.inner.Works.{Work}
 use Rattle.kahn_board.specs.Closing as closed
 use Rattle.kahn_board.specs.Closing.{Closes}
 use Rattle.kahn_board.specs.Counts.{below}
-use Rattle.kahn_board.specs.Dealt.{belongs, dealt, wired, events_of}
+use Rattle.kahn_board.specs.Dealt.{belongs, dealt, wired, events_told}
 use Rattle.kahn_board.specs.Wires.{wires, any_is, first_with}
 use Rattle.kahn_board.specs.declared.rule.Terms.{Terms}
 use Rattle.kahn_board.specs.declared.view.View.{View}
-use Rattle.kahn_crew.specs.inner.Begins.{AreReadyTasks, HasBegun, all_events}
+use Rattle.kahn_crew.specs.inner.Begins.{AreReadyTasks, HasBegun, most_events}
 use Rattle.kahn_crew.specs.inner.Lent.{IsTaskOf}
 use Rattle.kahn_crew.specs.inner.Left.{AreAll, AreUntouched, HaveGone, IsQuietTask, IsOver, task_events}
-use Rattle.kahn_crew.specs.inner.Tasks.{Tasked, Continues, IsLater, count_on, handed, read_by, reads_at, told_of, waits_on, writes_at, wrote_by}
+use Rattle.kahn_crew.specs.inner.Tasks.{Tasked, Continues, IsLater, count_on, handed_to_task, read_by, reads_at, told_tale, waits_on, writes_at, wrote_by}
 use Rattle.kahn_crew.specs.declared.standing.Standing.{Standing}
 use Rattle.kahn_crew.specs.declared.standing.Standing.TheVariants as standing
 use Rattle.kahn_crew.proofs.Found
@@ -62,7 +62,7 @@ below_sum f (x ∷ xs) tally h =
 
 -- ---- what a task waits on
 
-waits_so : (w : Work) (s : Standing) (c : ℕ) → waits_on w s ≡ Some c → (q : ℕ) × (s ≡ standing.Dry q) × (read_by (handed w q) ≡ Some c)
+waits_so : (w : Work) (s : Standing) (c : ℕ) → waits_on w s ≡ Some c → (q : ℕ) × (s ≡ standing.Dry q) × (read_by (handed_to_task w q) ≡ Some c)
 waits_so w standing.Going c e = absurd (none_some e)
 waits_so w standing.Ended c e = absurd (none_some e)
 waits_so w (standing.Faulted k) c e = absurd (none_some e)
@@ -117,7 +117,7 @@ module _ (t : Program) (is_wired : IsWellWired t) where
 -- ---- a run of a program
 
 module _ (lists : Lists) (watch : Option ℕ) (key : Terms Tasked) (is_wired : IsWellWired key.network.value) (begun : HasBegun key.network.value lists watch key)
-    (tasks : List Tasked) (v : View) (budget : ℕ) (halted : Bool) (closes : Closes told_of (belongs IsLater key) (wired key) (dealt told_of key) (map Some tasks) v budget halted) where
+    (tasks : List Tasked) (v : View) (budget : ℕ) (halted : Bool) (closes : Closes told_tale (belongs IsLater key) (wired key) (dealt told_tale key) (map Some tasks) v budget halted) where
   abbrev t : Program
   t = key.network.value
 
@@ -148,11 +148,11 @@ module _ (lists : Lists) (watch : Option ℕ) (key : Terms Tasked) (is_wired : I
   later : (p : ℕ) (y x : Tasked) → slice_get key.cells.value.items p ≡ Some y → slice_get tasks p ≡ Some x → Continues y x
   later p y x e f = (belong p x f y (both_at key.cells.value.items p y e)).continues
 
-  spent : v.loose ≡ 0 → budget + sum_by task_events tasks ≡ all_events key
+  spent : v.loose ≡ 0 → budget + sum_by task_events tasks ≡ most_events key
   spent none =
       let tally = closes.events.0 in
       let tells = closes.events.1 in
-      let adds : events_of told_of key.cells.value.items + v.done ≡ below tally n + v.loose = closes.events.2 in
+      let adds : events_told told_tale key.cells.value.items + v.done ≡ below tally n + v.loose = closes.events.2 in
       let all : budget + v.done ≡ key.bound = closes.budget_is in
       let sum : below tally (length tasks) ≡ sum_by task_events tasks = below_sum task_events tasks tally (λ p x e. tells p x (within p x e) (cell_at p x e)) in
       let same : below tally n ≡ below tally (length tasks) = ap (below tally) (sym many) in
@@ -160,7 +160,7 @@ module _ (lists : Lists) (watch : Option ℕ) (key : Terms Tasked) (is_wired : I
 
   -- all that was sent on a channel that an instance reads
   all_sent : (p q c k : ℕ) → actual_at (instance_at (network_of t) p) q ≡ Reads c →
-      closed.IsAllSent told_of (belongs IsLater key) (wired key) (dealt told_of key) (map Some tasks) c k → AreAll t lists tasks c k
+      closed.IsAllSent told_tale (belongs IsLater key) (wired key) (dealt told_tale key) (map Some tasks) c k → AreAll t lists tasks c k
   all_sent p q c k at all = record {
     given = λ r.
         let lt : c < length (network_of t).channels = Sourced.reads_listed t is_wired p q c at in
@@ -174,20 +174,20 @@ module _ (lists : Lists) (watch : Option ℕ) (key : Terms Tasked) (is_wired : I
         all.1 r (count w.cell.sent o) (end_at w.ends o).flushed z (within r z e) (writer_is t is_wired r o c there) (cell_at r z e) (ap (wrote_by w) first);
   }
 
-  at_rest : (p : ℕ) (x : Tasked) → slice_get tasks p ≡ Some x → closed.IsQuietCell told_of (belongs IsLater key) (wired key) (dealt told_of key) (map Some tasks) p x → IsQuietTask t lists tasks x
+  at_rest : (p : ℕ) (x : Tasked) → slice_get tasks p ≡ Some x → closed.IsQuietCell told_tale (belongs IsLater key) (wired key) (dealt told_tale key) (map Some tasks) p x → IsQuietTask t lists tasks x
   at_rest p x e (inl over) = inl over
   at_rest p x e (inr (c, k, lt, reads, tells, all)) =
       let is = of_instance p x e in
       let w = x.work in
       let s = waits_so w x.standing c tells.0 in
       let q = s.0 in
-      let here : handed w q ≡ Reads c = reads_so (handed w q) c s.2 in
+      let here : handed_to_task w q ≡ Reads c = reads_so (handed_to_task w q) c s.2 in
       let at : actual_at (instance_at (network_of t) p) q ≡ Reads c = sym (handed_is t is_wired w p q is.0 is.1) ∙ here in
       let first : reads_at w c ≡ Some q = reads_first w.cell.network (subst IsWellWired (sym is.0) is_wired) w.cell.instance q c here in
       let took : count w.cell.taken q ≡ k = sym (ap (count_on w.cell.taken) first) ∙ tells.1 in
       inr (q, c, s.1, here, subst (AreAll t lists tasks c) (sym took) (all_sent p q c k at all))
 
-  gone_here : v.loose ≡ 0 → HaveGone t lists watch (all_events key) key.cells.value.items tasks budget
+  gone_here : v.loose ≡ 0 → HaveGone t lists watch (most_events key) key.cells.value.items tasks budget
   gone_here none = record {
     ready = begun.ready;
     count = many ∙ instances_are t is_wired;
@@ -198,7 +198,7 @@ module _ (lists : Lists) (watch : Option ℕ) (key : Terms Tasked) (is_wired : I
   over_here : v.stage ≡ 1 → IsOver t lists tasks budget halted
   over_here gone = by (closes.by_done gone)
     where
-      by : (halted ≡ true) ⊎ ((budget ≡ 0) ⊎ ((p : ℕ) (y : Tasked) → p < n → get_elem? (map Some tasks) p ≡ some (Some y) → closed.IsQuietCell told_of (belongs IsLater key) (wired key) (dealt told_of key) (map Some tasks) p y)) →
+      by : (halted ≡ true) ⊎ ((budget ≡ 0) ⊎ ((p : ℕ) (y : Tasked) → p < n → get_elem? (map Some tasks) p ≡ some (Some y) → closed.IsQuietCell told_tale (belongs IsLater key) (wired key) (dealt told_tale key) (map Some tasks) p y)) →
           IsOver t lists tasks budget halted
       by (inl h) = inl h
       by (inr (inl z)) = inr (inl z)
@@ -210,9 +210,9 @@ instances_of k t e is_wired = ap (λ (x : Program). (wires x).instances) e ∙ i
 
 -- ---- sums of events
 
-pub all_told : (xs : List Tasked) → sum_by task_events xs ≡ events_of told_of xs
+pub all_told : (xs : List Tasked) → sum_by task_events xs ≡ events_told told_tale xs
 all_told [] = refl
-all_told (x ∷ xs) = let a = sum_by-cons task_events x xs in let b : sum_by task_events xs ≡ events_of told_of xs = all_told xs in omega (arith, a, b)
+all_told (x ∷ xs) = let a = sum_by-cons task_events x xs in let b : sum_by task_events xs ≡ events_told told_tale xs = all_told xs in omega (arith, a, b)
 
 -- later tasks have done no less
 abbrev Rise : List Tasked → List Tasked → Type 0
@@ -253,19 +253,19 @@ none_rose (z ∷ xs) (u ∷ ys) l h s (suc p) x y e f =
 -- a run on whose board nobody works
 module _ (t : Program) (lists : Lists) (watch : Option ℕ) (key : Terms Tasked) (is_wired : IsWellWired t) (begun : HasBegun t lists watch key)
     (cells : List (Option Tasked)) (tasks : List Tasked) (v : View) (budget : ℕ) (halted : Bool)
-    (closes : Closes told_of (belongs IsLater key) (wired key) (dealt told_of key) cells v budget halted) (are : cells ≡ map Some tasks) where
+    (closes : Closes told_tale (belongs IsLater key) (wired key) (dealt told_tale key) cells v budget halted) (are : cells ≡ map Some tasks) where
   wired_key : IsWellWired key.network.value
   wired_key = subst IsWellWired (sym begun.network) is_wired
 
   begun_key : HasBegun key.network.value lists watch key
   begun_key = subst (λ (k : Program). HasBegun k lists watch key) (sym begun.network) begun
 
-  closes_key : Closes told_of (belongs IsLater key) (wired key) (dealt told_of key) (map Some tasks) v budget halted
-  closes_key = subst (λ (l : List (Option Tasked)). Closes told_of (belongs IsLater key) (wired key) (dealt told_of key) l v budget halted) are closes
+  closes_key : Closes told_tale (belongs IsLater key) (wired key) (dealt told_tale key) (map Some tasks) v budget halted
+  closes_key = subst (λ (l : List (Option Tasked)). Closes told_tale (belongs IsLater key) (wired key) (dealt told_tale key) l v budget halted) are closes
 
-  pub have_gone : v.loose ≡ 0 → HaveGone t lists watch (all_events key) key.cells.value.items tasks budget
+  pub have_gone : v.loose ≡ 0 → HaveGone t lists watch (most_events key) key.cells.value.items tasks budget
   have_gone none =
-      subst (λ (k : Program). HaveGone k lists watch (all_events key) key.cells.value.items tasks budget) begun.network
+      subst (λ (k : Program). HaveGone k lists watch (most_events key) key.cells.value.items tasks budget) begun.network
       (gone_here lists watch key wired_key begun_key tasks v budget halted closes_key none)
 
   pub untouched : v.loose ≡ 0 → v.done ≡ 0 → AreUntouched key.bound key.cells.value.items tasks budget
@@ -273,8 +273,8 @@ module _ (t : Program) (lists : Lists) (watch : Option ℕ) (key : Terms Tasked)
       let gone = have_gone none in
       let spent : budget + v.done ≡ key.bound = closes.budget_is in
       let all : budget ≡ key.bound = omega (arith, spent, unused) in
-      let sum : budget + sum_by task_events tasks ≡ key.bound + events_of told_of key.cells.value.items = gone.events in
-      let first : sum_by task_events key.cells.value.items ≡ events_of told_of key.cells.value.items = all_told key.cells.value.items in
+      let sum : budget + sum_by task_events tasks ≡ key.bound + events_told told_tale key.cells.value.items = gone.events in
+      let first : sum_by task_events key.cells.value.items ≡ events_told told_tale key.cells.value.items = all_told key.cells.value.items in
       let same : sum_by task_events tasks ≡ sum_by task_events key.cells.value.items = omega (arith, all, sum, first) in
       record {
         unused = all;
@@ -291,13 +291,13 @@ module _ (t : Program) (lists : Lists) (watch : Option ℕ) (key : Terms Tasked)
 -- ---- tasks on which nobody worked
 
 pub untouched_gone : (t : Program) (lists : Lists) (watch : Option ℕ) (bound : ℕ) (first tasks : List Tasked) (budget : ℕ) → AreReadyTasks t lists watch first →
-    tasks ≡ first → budget ≡ bound → HaveGone t lists watch (bound + events_of told_of first) first tasks budget
+    tasks ≡ first → budget ≡ bound → HaveGone t lists watch (bound + events_told told_tale first) first tasks budget
 untouched_gone t lists watch bound first tasks budget ready same left =
-    subst (λ (l : List Tasked). HaveGone t lists watch (bound + events_of told_of first) first l budget) (sym same) (record {
+    subst (λ (l : List Tasked). HaveGone t lists watch (bound + events_told told_tale first) first l budget) (sym same) (record {
       ready = ready;
       count = ready.count;
       later = λ p x y e f. subst (Continues x) (some_same (sym e ∙ f)) (continues_here x);
-      events = let a : sum_by task_events first ≡ events_of told_of first = all_told first in omega (arith, a, left);
+      events = let a : sum_by task_events first ≡ events_told told_tale first = all_told first in omega (arith, a, left);
     })
 
 pub untouched_here : (bound : ℕ) (first tasks : List Tasked) (budget : ℕ) → tasks ≡ first → budget ≡ bound → AreUntouched bound first tasks budget

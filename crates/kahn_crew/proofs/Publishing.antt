@@ -19,7 +19,7 @@ use Rattle.kahn_board.specs.Plays.{SeesMore}
 use Rattle.kahn_job.specs.inner.Works.{IsJob}
 use Rattle.kahn_code.specs.Told.{AreCounts}
 use Rattle.kahn_crew.specs.inner.Lent.{IsTaskOf}
-use Rattle.kahn_crew.specs.inner.Tasks.{Tasked, AgreesWith, IsPublished, handed, written_by}
+use Rattle.kahn_crew.specs.inner.Tasks.{Tasked, AgreesWith, IsPublished, handed_to_task, written_by}
 use Rattle.kahn_crew.proofs.Wirings.{target, writer_is, written_inside}
 use Rattle.kahn_crew.proofs.Found.{none_some, some_same}
 
@@ -41,7 +41,7 @@ module _ (t : Program) (wired : IsWellWired t) where
   abbrev At : ℕ → ℕ → Actual
   At p o = actual_at (instance_at (network_of t) p) o
 
-  pub handed_is : (w : Work) (p o : ℕ) → w.cell.network ≡ t → w.cell.instance ≡ p → handed w o ≡ At p o
+  pub handed_is : (w : Work) (p o : ℕ) → w.cell.network ≡ t → w.cell.instance ≡ p → handed_to_task w o ≡ At p o
   handed_is w p o n i = ap (λ k. actual_at (instance_at (network_of k) w.cell.instance) o) n ∙ ap (λ k. actual_at (instance_at (network_of t) k) o) i
 
   pub inner_is : (w : Work) (c : ℕ) → w.cell.network ≡ t → is_output (role_at (network_of w.cell.network) c) ≡ is_output (role_at (network_of t) c)
@@ -77,7 +77,7 @@ module _ (t : Program) (wired : IsWellWired t) where
       x.work.cell.events < 2 ^ 48 → (end_at x.work.ends o).flushed < 2 ^ 48
   flushed_few x p o c is e job counts few =
       let here = written_so (network_of t) (At p o) c e in
-      let h : handed x.work o ≡ Writes c = handed_is x.work p o is.0 is.1 ∙ here.0 in
+      let h : handed_to_task x.work o ≡ Writes c = handed_is x.work p o is.0 is.1 ∙ here.0 in
       let inner = inner_is x.work c is.0 ∙ here.1 in
       let a = job.served.behind o in
       let b = job.at.writes o c h inner in
@@ -95,7 +95,7 @@ sees_still a b c (inr e) (inr f) = inr f
 -- what was published stays so where the numbers stay
 carried : (x y : Tasked) (r : ℕ) → y.work ≡ x.work → count y.published r ≡ count x.published r → IsPublished x r → IsPublished y r
 carried x y r same e h c f inner =
-    e ∙ (h c (subst (λ (w : Work). handed w r ≡ Writes c) same f) (subst (λ (w : Work). is_output (role_at (network_of w.cell.network) c) ≡ false) same inner)
+    e ∙ (h c (subst (λ (w : Work). handed_to_task w r ≡ Writes c) same f) (subst (λ (w : Work). is_output (role_at (network_of w.cell.network) c) ≡ false) same inner)
     ∙ ap (λ (w : Work). (end_at w.ends r).flushed) (sym same))
 
 -- one parameter more

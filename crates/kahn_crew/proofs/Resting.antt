@@ -23,7 +23,7 @@ use Rattle.kahn_crew.specs.declared.standing.Standing.TheVariants as standing
 use Rattle.kahn_crew.specs.declared.turn.Due.TheVariants as due
 use Rattle.kahn_crew.specs.inner.Lent.{FitTogether, IsTaskOf}
 use Rattle.kahn_crew.specs.inner.Rests.{IsDue}
-use Rattle.kahn_crew.specs.inner.Tasks.{Tasked, AgreesWith, Continues, HasStanding, IsLater, IsPublished, count_on, handed, read_by, reads_at, told_of, waits_on, writes_at, wrote_by}
+use Rattle.kahn_crew.specs.inner.Tasks.{Tasked, AgreesWith, Continues, HasStanding, IsLater, IsPublished, count_on, handed_to_task, read_by, reads_at, told_tale, waits_on, writes_at, wrote_by}
 use Rattle.kahn_crew.proofs.Wirings.{reads_first, writes_first, first_writes, reader_is, writer_is, read_inside, written_inside}
 use Rattle.kahn_crew.proofs.Publishing.{handed_is}
 use Rattle.kahn_crew.proofs.Found.{none_some, some_same}
@@ -116,14 +116,14 @@ module _ (t : Program) (wired : IsWellWired t) where
 
   -- what a task counts as published is known
   pub agrees_with : (key : Terms Tasked) (p : ℕ) (y : Tasked) (v : View) → IsTaskOf t p y → ((o : ℕ) → IsPublished y o) →
-      Fits told_of (belongs IsLater key) (wires t) p y v → AgreesWith y.work y.published v.flushed
+      Fits told_tale (belongs IsLater key) (wires t) p y v → AgreesWith y.work y.published v.flushed
   agrees_with key p y v is published fits o c h inner =
       let w = y.work in
       let at : writes_at w c ≡ Some o = writes_first w.cell.network (own w is.0) w.cell.instance o c h inner in
       published o c h inner ∙ (fits.published c (end_at w.ends o).flushed (ap (λ m. second_of (wrote_by w m)) at)).2
 
   pub published_is : (p : ℕ) (x : Tasked) (v : View) → IsTaskOf t p x → AgreesWith x.work x.published v.flushed → ((o : ℕ) → IsPublished x o) →
-      (c l : ℕ) → flushed_of (told_of x) c ≡ Some l → (c < (wires t).channels) × ((wires t).writer c ≡ Some p) × (l ≡ slice_index v.flushed c)
+      (c l : ℕ) → flushed_of (told_tale x) c ≡ Some l → (c < (wires t).channels) × ((wires t).writer c ≡ Some p) × (l ≡ slice_index v.flushed c)
   published_is p x v is agrees published c l e =
       let w = x.work in
       let f = flushed_some w (writes_at w c) l e in
@@ -131,7 +131,7 @@ module _ (t : Program) (wired : IsWellWired t) where
       let at : actual_at (instance_at (network_of t) p) f.0 ≡ Writes c = sym (handed_is t wired w p f.0 is.0 is.1) ∙ h.0 in
       (written_inside t wired p f.0 c at, writer_is t wired p f.0 c at, sym f.2 ∙ (sym (published f.0 c h.0 h.1) ∙ agrees f.0 c h.0 h.1))
 
-  pub flushed_all : (x : Tasked) → x.work.cell.network ≡ t → IsDelivered x.work → FlushedAll (told_of x)
+  pub flushed_all : (x : Tasked) → x.work.cell.network ≡ t → IsDelivered x.work → FlushedAll (told_tale x)
   flushed_all x n delivered c k l e =
       let w = x.work in
       let f = wrote_some w (writes_at w c) k l e in
@@ -141,7 +141,7 @@ module _ (t : Program) (wired : IsWellWired t) where
   -- a task that was run, flushed and published may be left
   pub fits_after : (key : Terms Tasked) (p : ℕ) (x : Tasked) (v : View) → IsTaskOf t p x → belongs Continues key p x →
       AgreesWith x.work x.published v.flushed → ((o : ℕ) → IsPublished x o) → (v.seen ≡ 2) ⊎ IsDelivered x.work →
-      x.work.cell.events ≡ slice_index v.got p + v.loose → Fits told_of (belongs IsLater key) (wires t) p x v
+      x.work.cell.events ≡ slice_index v.got p + v.loose → Fits told_tale (belongs IsLater key) (wires t) p x v
   fits_after key p x v is first agrees published delivered events = record {
     published = published_is p x v is agrees published;
     events = events;
@@ -151,7 +151,7 @@ module _ (t : Program) (wired : IsWellWired t) where
 
   -- a seat that knows as much of p finds the task as fit
   pub fits_still : (key : Terms Tasked) (p : ℕ) (y : Tasked) (old new : View) → IsTaskOf t p y → Knows (wires t) p old new → new.loose ≡ old.loose →
-      Fits told_of (belongs IsLater key) (wires t) p y old → Fits told_of (belongs IsLater key) (wires t) p y new
+      Fits told_tale (belongs IsLater key) (wires t) p y old → Fits told_tale (belongs IsLater key) (wires t) p y new
   fits_still key p y old new is knows loose fits = record {
     published = λ c l e. let f = fits.published c l e in (f.0, f.1, f.2 ∙ sym (knows.flushed c f.0 f.1));
     events = let f : y.work.cell.events ≡ slice_index old.got p + old.loose = fits.events in let g = knows.got in omega (arith, f, g, loose);
@@ -168,7 +168,7 @@ module _ (t : Program) (wired : IsWellWired t) where
       let r = dry_reads w.cell.network (own w is.0) w.cell.events w.cell.instance q paused.stood.tapes paused.is in
       let at : actual_at (instance_at (network_of t) p) q ≡ Reads r.0 = sym (handed_is t wired w p q is.0 is.1) ∙ r.1 in
       let same : r.0 ≡ c = some_same (sym (ap route_of at) ∙ route) in
-      let here : handed w q ≡ Reads c = r.1 ∙ ap Reads same in
+      let here : handed_to_task w q ≡ Reads c = r.1 ∙ ap Reads same in
       let reads : reads_at w c ≡ Some q = reads_first w.cell.network (own w is.0) w.cell.instance q c here in
       let there : actual_at (instance_at (network_of t) p) q ≡ Reads c = at ∙ ap Reads same in (
         read_inside t wired p q c there,
@@ -186,7 +186,7 @@ module _ (t : Program) (wired : IsWellWired t) where
 
 -- ---- after a turn
 
-handed_same : (v w : Work) (o : ℕ) → w.cell.network ≡ v.cell.network → w.cell.instance ≡ v.cell.instance → handed w o ≡ handed v o
+handed_same : (v w : Work) (o : ℕ) → w.cell.network ≡ v.cell.network → w.cell.instance ≡ v.cell.instance → handed_to_task w o ≡ handed_to_task v o
 handed_same v w o n i =
     ap (λ k. actual_at (instance_at (network_of k) w.cell.instance) o) n ∙ ap (λ k. actual_at (instance_at (network_of v.cell.network) k) o) i
 

@@ -8,7 +8,7 @@ use Rattle.kahn_board.specs.declared.board.Seat.{Seat}
 use Rattle.kahn_board.proofs.Turns.{was_at}
 use Rattle.kahn_crew.specs.declared.run.Run.{Run}
 use Rattle.kahn_crew.specs.inner.Turns.{WasNotReady, terms_of}
-use Rattle.kahn_crew.specs.inner.Tasks.{Tasked, IsLater, told_of}
+use Rattle.kahn_crew.specs.inner.Tasks.{Tasked, IsLater, told_tale}
 
 -- each is met once
 met : (n a p : ℕ) → a < n → p < n → (k : ℕ) × (k < n) × ((a + k) % n ≡ p)
@@ -21,7 +21,7 @@ met n a p la lp = by (p - a) refl (a - p) refl
 
 -- the same seat tells it
 pub not_ready_of : (run : Run) (s t : Seat Tasked) (p : ℕ) → t.seat.id ≡ s.seat.id → WasNotReady run t p → WasNotReady run s p
-not_ready_of run s t p same w = (w.0, w.1, w.2, was_at (holds told_of IsLater (terms_of run)) t.seat.id s.seat.id w.0 w.0 (8 * p) (8 * p) w.1 w.1 same refl refl refl w.3)
+not_ready_of run s t p same w = (w.0, w.1, w.2, was_at (holds told_tale IsLater (terms_of run)) t.seat.id s.seat.id w.0 w.0 (8 * p) (8 * p) w.1 w.1 same refl refl refl w.3)
 
 -- once it has gone round, each wasn't ready at a moment
 pub none_ready : (run : Run) (s : Seat Tasked) (n start : ℕ) → ((k : ℕ) → k < n → WasNotReady run s ((start % n + k) % n)) → (p : ℕ) → p < n → WasNotReady run s p

@@ -20,7 +20,7 @@ use Rattle.kahn_job.specs.inner.Berths.{end_at}
 use Rattle.kahn_job.specs.inner.Ends.{ShareLane}
 use Rattle.kahn_job.specs.inner.Openings.{AreOpening, IsOpening}
 use Rattle.kahn_job.specs.inner.Works.{Work}
-use Rattle.kahn_board.specs.Dealt.{events_of}
+use Rattle.kahn_board.specs.Dealt.{events_told}
 use Rattle.kahn_board.specs.Opening.{Opens}
 use Rattle.kahn_board.specs.Rule.{view}
 use Rattle.kahn_board.specs.Wires.{wires}
@@ -28,7 +28,7 @@ use Rattle.kahn_board.specs.declared.rule.Terms.{Terms}
 use Rattle.kahn_board.specs.declared.view.View.{View}
 use Rattle.kahn_crew.specs.inner.Begins.{AreReadyTasks, HasBegun, IsNumber, IsReadyTask, ready_task}
 use Rattle.kahn_crew.specs.inner.Lent.{FitTogether}
-use Rattle.kahn_crew.specs.inner.Tasks.{AgreesWith, IsLater, IsPublished, Tasked, told_of}
+use Rattle.kahn_crew.specs.inner.Tasks.{AgreesWith, IsLater, IsPublished, Tasked, told_tale}
 use Rattle.kahn_crew.proofs.Found.{none_some, some_same}
 use Rattle.kahn_crew.proofs.Publishing.{handed_is}
 use Rattle.kahn_crew.proofs.Resting.{flushed_all, instances_of, continues_here, published_is}
@@ -114,17 +114,17 @@ zero_at zero o = refl
 zero_at (suc n) zero = refl
 zero_at (suc n) (suc o) = zero_at n o
 
-pub no_events : (ws : List Work) → ((p : ℕ) (w : Work) → slice_get ws p ≡ Some w → w.cell.events ≡ 0) → events_of told_of (map ready_task ws) ≡ 0
+pub no_events : (ws : List Work) → ((p : ℕ) (w : Work) → slice_get ws p ≡ Some w → w.cell.events ≡ 0) → events_told told_tale (map ready_task ws) ≡ 0
 no_events [] h = refl
 no_events (w ∷ ws) h = let a : w.cell.events ≡ 0 = h 0 w refl in let b = no_events ws (λ p. h (suc p)) in omega (arith, a, b)
 
 -- one did no more than all
-pub at_most_all : (xs : List Tasked) (p : ℕ) (x : Tasked) → slice_get xs p ≡ Some x → x.work.cell.events ≤ events_of told_of xs
+pub at_most_all : (xs : List Tasked) (p : ℕ) (x : Tasked) → slice_get xs p ≡ Some x → x.work.cell.events ≤ events_told told_tale xs
 at_most_all [] p x e = absurd (none_some e)
 at_most_all (y ∷ xs) zero x e =
     let s : y.work.cell.events ≡ x.work.cell.events = ap (λ (z : Tasked). z.work.cell.events) (some_same e) in
     omega (arith, s)
-at_most_all (y ∷ xs) (suc p) x e = let r : x.work.cell.events ≤ events_of told_of xs = at_most_all xs p x e in omega (arith, r)
+at_most_all (y ∷ xs) (suc p) x e = let r : x.work.cell.events ≤ events_told told_tale xs = at_most_all xs p x e in omega (arith, r)
 
 module _ (t : Program) (lists : Lists) (watch : Option ℕ) (jobs : List Work) (tasks : List Tasked) (opened : AreOpening t lists watch jobs) (are : tasks ≡ map ready_task jobs) where
   job_at : (p : ℕ) (y : Tasked) → slice_get tasks p ≡ Some y → (w : Work) × (slice_get jobs p ≡ Some w) × (y ≡ ready_task w)
@@ -157,8 +157,8 @@ module _ (t : Program) (lists : Lists) (watch : Option ℕ) (jobs : List Work) (
         (subst (λ (z : Tasked). ShareLane (end_at a.0.ends o) (end_at z.work.ends q)) (sym b.2) (opened.joined p r o q d a.0 b.0 a.1 b.1 i k));
   }
 
-  pub first_silent : events_of told_of tasks ≡ 0
-  first_silent = ap (events_of told_of) are ∙ no_events jobs (λ p w e. ((opened.each p w e).0).events)
+  pub first_silent : events_told told_tale tasks ≡ 0
+  first_silent = ap (events_told told_tale) are ∙ no_events jobs (λ p w e. ((opened.each p w e).0).events)
 
 -- ---- how many tokens are published
 
@@ -184,7 +184,7 @@ module _ (t : Program) (wired : IsWellWired t) (lists : Lists) (watch : Option �
 
   -- it is no more than all events
   pub number_few : (s : Side) → IsOnly (IsWriter (network_of t) c) (Some s) → (y : Tasked) → slice_get tasks s.instance ≡ Some y → AreCounts y.work.cell →
-      (n : ℕ) → n ≡ count y.work.cell.sent s.parameter → events_of told_of tasks < 2 ^ 48 → n < 2 ^ 48
+      (n : ℕ) → n ≡ count y.work.cell.sent s.parameter → events_told told_tale tasks < 2 ^ 48 → n < 2 ^ 48
   number_few s only y here counts n e few =
       let o = f.each s.instance y here in
       let at = handed_is t wired y.work s.instance s.parameter o.network o.instance ∙ only.0.1 in
@@ -231,7 +231,7 @@ module _ (t : Program) (wired : IsWellWired t) (lists : Lists) (watch : Option �
   published_too p y r o c h inner = ap (λ (xs : List ℕ). count xs o) r.published ∙ sym (r.delivered o c h inner)
 
   -- the board may be made of them
-  pub opens : (bound : ℕ) → bound + events_of told_of tasks < 2 ^ 48 → Opens told_of IsLater (wires t) bound numbers tasks
+  pub opens : (bound : ℕ) → bound + events_told told_tale tasks < 2 ^ 48 → Opens told_tale IsLater (wires t) bound numbers tasks
   opens bound few = record {
     cells_are = f.count ∙ sym (instances_are t wired);
     numbers_are = long ∙ sym (channels_are t wired);

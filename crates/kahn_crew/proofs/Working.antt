@@ -13,7 +13,7 @@ use Rattle.kahn_crew.specs.declared.run.Run.{Run}
 use Rattle.kahn_crew.specs.declared.turn.Due.{Due}
 use Rattle.kahn_crew.specs.inner.Lent.{IsTaskOf}
 use Rattle.kahn_crew.specs.inner.Rests.{CanRest, IsDue}
-use Rattle.kahn_crew.specs.inner.Tasks.{Tasked, AgreesWith, Continues, IsLater, IsPublished, told_of, written_by}
+use Rattle.kahn_crew.specs.inner.Tasks.{Tasked, AgreesWith, Continues, IsLater, IsPublished, told_tale, written_by}
 use Rattle.kahn_crew.specs.inner.Turns.{HasTask, IsAtWork, IsTaskIn, StandsStill, terms_of}
 use Rattle.kahn_crew.proofs.Publishing.{agrees_told}
 use Rattle.kahn_crew.proofs.Resting.{agrees_known, agrees_later, agrees_with, continues_here, continues_still, fits_after, fits_still, instances_of, is_published, sees_two, task_of}
@@ -83,7 +83,7 @@ module _ (run : Run) (well : IsWellWired (terms_of run).network.value) where
       u.seat.me.0 ≡ s.seat.me.0 → IsAtWork run p n 0 x u
   taken p n x s u h same turn table view =
       let v = s.seat.me.0 in
-      let fits : Fits told_of (belongs IsLater (key run)) (wired (key run)) p x v = subst (λ (k : Tasked). Fits told_of (belongs IsLater (key run)) (wired (key run)) p k v) same h.3.2 in
+      let fits : Fits told_tale (belongs IsLater (key run)) (wired (key run)) p x v = subst (λ (k : Tasked). Fits told_tale (belongs IsLater (key run)) (wired (key run)) p k v) same h.3.2 in
       let first : belongs Continues (key run) p x = λ z e. (fits.belonging z e).continues in
       let published = is_published (key run) run.network.now run.code.now.network.value p x run.fits h.1 fits.belonging in
       let events : x.work.cell.events ≡ slice_index v.got p + v.loose = fits.events in

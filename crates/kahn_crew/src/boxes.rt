@@ -29,9 +29,9 @@ impl<'n> Model for Boxed<'n> {
 }
 
 impl<'n> Told for Boxed<'n> {
-    ghost use Rattle.kahn_crew.specs.inner.Tasks.{IsLater, told_of};
+    ghost use Rattle.kahn_crew.specs.inner.Tasks.{IsLater, told_tale};
 
-    ghost told = { told_of };
+    ghost told = { told_tale };
 
     ghost after = { IsLater };
 }

@@ -3,12 +3,12 @@
 ghost use Rattle.std.specs.Prelude.{◌≡◌, ◌+◌, ◌<◌, ◌≤◌, ◌^◌, [], true, false, length, All, IfOk, IfErr, MatchResult};
 ghost use Rattle.std.specs.Vec.{vec_capacity};
 ghost use Rattle.kahn_network.specs.Network.{network_of};
-ghost use Rattle.kahn_board.specs.Dealt.{events_of};
+ghost use Rattle.kahn_board.specs.Dealt.{events_told};
 ghost use Rattle.kahn_desk.specs.inner.Crew.{IsDoneAt, IsLoneSeat, SitsAt, parts_of, raised_of};
 ghost use Rattle.kahn_crew.specs.inner.Crews.{HasCause, HasGone, HasSeat, crew_parts, crew_raised};
 ghost use Rattle.kahn_crew.specs.inner.Begins.{AreReadyTasks};
 ghost use Rattle.kahn_crew.specs.inner.Left.{AreUntouched, IsLeftBy, HaveLeft, IsOver};
-ghost use Rattle.kahn_crew.specs.inner.Tasks.{told_of};
+ghost use Rattle.kahn_crew.specs.inner.Tasks.{told_tale};
 ghost use Rattle.kahn_crew.specs.inner.Wants.{IsLack};
 ghost use Rattle.kahn_crew.specs.declared.fault.CrewFault.TheVariants.{NoMemory as NoMemoryFault, NoThread as NoThreadFault};
 
@@ -218,7 +218,7 @@ pub fn run_tasks<'n, R: Threads + Wait + Sync, G: Gate + Sync>(
     requires few { (1 ≤ plan.workers) × (plan.workers ≤ 16) }
     requires quantum { 0 < plan.quantum }
     requires ready { AreReadyTasks network.now input.now plan.watch tasks.items }
-    requires bound { plan.bound + events_of told_of tasks.items < 2 ^ 48 }
+    requires bound { plan.bound + events_told told_tale tasks.items < 2 ^ 48 }
     ensures gone { IfOk result (λ left. IsLeftBy network.now input.now plan tasks.entry.items left) }
     ensures over { IfOk result (λ left. IsOver network.now input.now left.tasks.items left.budget left.halted) }
     ensures cause { IfOk result (λ left. left.halted ≡ true → left.wanted ≡ true) }

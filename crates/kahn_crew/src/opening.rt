@@ -2,11 +2,11 @@
 
 ghost use Rattle.std.specs.Prelude.{◌≡◌, ℕ, ◌+◌, ◌<◌, ◌^◌, [], length, map, slice_index, IfOk, IfErr};
 ghost use Rattle.kahn_network.specs.Network.{network_of};
-ghost use Rattle.kahn_board.specs.Dealt.{events_of};
+ghost use Rattle.kahn_board.specs.Dealt.{events_told};
 ghost use Rattle.kahn_board.specs.Rule.{opening_view};
 ghost use Rattle.kahn_board.specs.Wires.{wires};
 ghost use Rattle.kahn_crew.specs.inner.Begins.{AreNumbersOf, AreReadyTasks, HasBegun, IsNumber, ready_task};
-ghost use Rattle.kahn_crew.specs.inner.Tasks.{told_of};
+ghost use Rattle.kahn_crew.specs.inner.Tasks.{told_tale};
 
 use crate::boxes::{Boxed, box_all, unbox_all};
 use crate::task::Task;
@@ -40,7 +40,7 @@ pub fn first_tasks<'n>(
 ) -> Result<Vec<Task<'n>>, NoMemory>
     requires { code.now.network.value ≡ network.now }
     ensures ready { IfOk result (λ tasks. AreReadyTasks network.now input.now watch tasks.items) }
-    ensures none { IfOk result (λ tasks. events_of told_of tasks.items ≡ 0) }
+    ensures none { IfOk result (λ tasks. events_told told_tale tasks.items ≡ 0) }
 {
     let Ok(jobs) = jobs(alloc, network, input, code, watch) else {
         return Err(NoMemory);
@@ -59,7 +59,7 @@ fn number(
 ) -> u64
     requires here { channel < length (network_of network.now).channels }
     requires ready { AreReadyTasks network.now input.now _watch tasks.now }
-    requires few { events_of told_of tasks.now < 2 ^ 48 }
+    requires few { events_told told_tale tasks.now < 2 ^ 48 }
     ensures number { IsNumber network.now input.now tasks.now channel result }
     ensures few { result < 2 ^ 48 }
 {
@@ -87,7 +87,7 @@ fn numbers_of(
     tasks: &[Task],
 ) -> Result<Vec<u64>, NoMemory>
     requires ready { AreReadyTasks network.now input.now _watch tasks.now }
-    requires few { events_of told_of tasks.now < 2 ^ 48 }
+    requires few { events_told told_tale tasks.now < 2 ^ 48 }
     ensures count { IfOk result (λ v. length v.items ≡ length (network_of network.now).channels) }
     ensures each { IfOk result (λ v. AreNumbersOf network.now input.now tasks.now v.items) }
 {
@@ -109,7 +109,7 @@ pub(crate) fn open_board<'n>(
     tasks: Vec<Task<'n>>,
 ) -> Result<(Board<Boxed<'n>>, Seat<Boxed<'n>>), (NoMemory, Vec<Task<'n>>)>
     requires ready { AreReadyTasks network.now input.now watch tasks.items }
-    requires few { bound + events_of told_of tasks.items < 2 ^ 48 }
+    requires few { bound + events_told told_tale tasks.items < 2 ^ 48 }
     ensures seat { IfOk result (λ r. (r.1.seat.table_id ≡ r.0.table.shared.table_id) × (r.1.seat.me ≡ (opening_view (wires network.now), []))) }
     ensures begun { IfOk result (λ r. HasBegun network.now input.now watch r.0.table.shared.key) }
     ensures key { IfOk result (λ r. (r.0.table.shared.key.bound ≡ bound) × (r.0.table.shared.key.cells.value.items ≡ tasks.entry.items)) }

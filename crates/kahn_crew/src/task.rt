@@ -6,7 +6,7 @@ ghost use Rattle.kahn_code.specs.Flat.{stmt_code};
 ghost use Rattle.kahn_code.specs.Standing.{count};
 ghost use Rattle.kahn_code.specs.Told.{AreCounts};
 ghost use Rattle.kahn_job.specs.inner.Ends.{MayMeet, Meets};
-ghost use Rattle.kahn_job.specs.inner.Berths.{HaveFlushed, IsFed, end_at};
+ghost use Rattle.kahn_job.specs.inner.Berths.{HaveFlushed, IsWithinInput, end_at};
 ghost use Rattle.kahn_job.specs.inner.Idles.{CanGoOn};
 ghost use Rattle.kahn_job.specs.inner.Works.{HasPaused, IsDelivered, IsJob, width_of};
 ghost use Rattle.kahn_crew.specs.inner.Begins.{ready_task, woken_task};
@@ -231,7 +231,7 @@ impl<'n> Task<'n> {
     /// Says that of an input channel no more is ready on a parameter than its list has: its contract is what it does.
     pub fn fed(&self, parameter: usize)
         requires { parameter < length self.now.work.ends }
-        ensures { IsFed (end_at self.now.work.ends parameter) }
+        ensures { IsWithinInput (end_at self.now.work.ends parameter) }
     {
         self.job.fed(parameter);
     }

@@ -4,7 +4,7 @@ use Rattle.std.proofs.lemmas.List.Sums.{sum_by_push}
 use Rattle.std.proofs.lemmas.List.{get_or_append_left, length-append, get_or_push}
 use Rattle.atomic_table.specs.Seated.{TableId}
 use Rattle.std.proofs.lemmas.List.Elements.{All-push}
-use Rattle.kahn_board.specs.Cuts.{kept_part, cut_part, joined}
+use Rattle.kahn_board.specs.Cuts.{kept_part, cut_part, joined_view}
 use Rattle.kahn_board.specs.Plays.{Sat}
 use Rattle.kahn_board.specs.declared.board.Seat.{Seat}
 use Rattle.kahn_board.proofs.Seats.{zeros}
@@ -31,7 +31,7 @@ module _ {T : Type 0} where
     pub stage : All IsDone others → first.seat.me.0.stage ≡ 1 → All IsDone left × (now.seat.me.0.stage ≡ 1)
 
   pub join_one : (z : TableId) (first : Seat T) (others : List (Seat T)) (now : Seat T) (left : List (Seat T)) (next other : Seat T) (rest : List (Seat T))
-      → Joining z first others now left → left ≡ rest ++ other ∷ [] → next.seat.table_id ≡ now.seat.table_id → next.seat.me ≡ (joined now.seat.me.0 other.seat.me.0, now.seat.me.1) → Joining z first others next rest
+      → Joining z first others now left → left ≡ rest ++ other ∷ [] → next.seat.table_id ≡ now.seat.table_id → next.seat.me ≡ (joined_view now.seat.me.0 other.seat.me.0, now.seat.me.1) → Joining z first others next rest
   join_one z first others now left next other rest j split same is = let t = all_but_last (SitsAt z) rest other (subst (All (SitsAt z)) split j.each) in let v = now.seat.me.0 in let u = other.seat.me.0 in record {
     sits = (same ∙ j.sits.0, subst (λ (m : Sat T). Rests m.0) (sym is) (j.sits.1.0, omega (arith, j.sits.1.1, t.1.1.1)));
     each = t.0;

@@ -3,7 +3,7 @@ use Rattle.std.proofs.Common.{◌≡◌, ◌≢◌, ℕ, ◌*◌, Option, Some, 
 use Rattle.kahn_board.specs.Tale.{Tale}
 use Rattle.kahn_board.specs.Wires.{Wires}
 use Rattle.kahn_board.specs.Hands.{Carries}
-use Rattle.kahn_board.specs.Plays.{Sat, noted}
+use Rattle.kahn_board.specs.Plays.{Sat, noted_view}
 use Rattle.kahn_board.specs.Calls.{Was, Claims}
 use Rattle.kahn_board.specs.declared.rule.Terms.{Terms}
 use Rattle.kahn_board.specs.declared.board.Seat.{Seat}
@@ -11,7 +11,7 @@ use Rattle.kahn_desk.specs.inner.Turn.{InTurn, Fits, IsBetween, RestsWith}
 
 module _ {T : Type 0} where
   -- it has what it had
-  pub kept_turn : (p k l r : ℕ) (x : Option T) (m n : Sat T) → n.0 ≡ noted m.0 r → ((q : ℕ) (z : Option T) → Carries m.1 q z → Carries n.1 q z) → InTurn p k l x m → InTurn p k l x n
+  pub kept_turn : (p k l r : ℕ) (x : Option T) (m n : Sat T) → n.0 ≡ noted_view m.0 r → ((q : ℕ) (z : Option T) → Carries m.1 q z → Carries n.1 q z) → InTurn p k l x m → InTurn p k l x n
   kept_turn p k l r x m n is keeps t = record {
     mine = ap (λ v. get_or v.hands p 0) is ∙ t.mine;
     alone = λ q ne. ap (λ v. get_or v.hands q 0) is ∙ t.alone q ne;
@@ -22,7 +22,7 @@ module _ {T : Type 0} where
     loose = ap (λ v. v.loose) is ∙ t.loose;
   }
 
-  pub kept_fits : (told : T → Option Tale) (belongs : ℕ → T → Type 0) (w : Wires) (p r : ℕ) (y : T) (m n : Sat T) → n.0 ≡ noted m.0 r → Fits told belongs w p y m.0 → Fits told belongs w p y n.0
+  pub kept_fits : (told : T → Option Tale) (belongs : ℕ → T → Type 0) (w : Wires) (p r : ℕ) (y : T) (m n : Sat T) → n.0 ≡ noted_view m.0 r → Fits told belongs w p y m.0 → Fits told belongs w p y n.0
   kept_fits told belongs w p r y m n is f = subst (Fits told belongs w p y) (sym is) record { published = f.published; events = f.events; flushed = f.flushed; belonging = f.belonging }
 
   pub missed : (told : T → Option Tale) (after : T → T → Type 0) (key : Terms T) (s t : Seat T) (p : ℕ) (o : Option (Unit {0})) → Claims told after key s t p o → is_some o ≡ false

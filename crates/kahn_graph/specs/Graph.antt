@@ -147,8 +147,8 @@ IsAll P count text = (texts : List (List ℕ)) × (length texts ≡ count) × Ar
 abbrev pub opening_text : List ℕ
 opening_text = codes "digraph network {\n  rankdir=LR;\n  node [shape=box];\n  edge [labelfontsize=9, labeldistance=1.5, labelangle=45];\n"
 
-abbrev pub closing_text : List ℕ
-closing_text = codes "}\n"
+abbrev pub picture_end : List ℕ
+picture_end = codes "}\n"
 
 abbrev pub AreNodes : Program → List ℕ → List (List ℕ) → List ℕ → Type 0
 AreNodes t source report = IsAll (IsNode t source report) (length (network_of t).instances)
@@ -160,4 +160,4 @@ AreEdges t report = IsAll (IsEdge t report) (length (network_of t).channels)
 -- edges of all channels
 abbrev pub IsPicture : Program → List ℕ → List (List ℕ) → List ℕ → Type 0
 IsPicture t source report text =
-    (nodes : List ℕ) × (edges : List ℕ) × AreNodes t source report nodes × AreEdges t report edges × (text ≡ opening_text ++ (nodes ++ (edges ++ closing_text)))
+    (nodes : List ℕ) × (edges : List ℕ) × AreNodes t source report nodes × AreEdges t report edges × (text ≡ opening_text ++ (nodes ++ (edges ++ picture_end)))

@@ -9,14 +9,14 @@ use Rattle.kahn_network.specs.Network.{Network, actuals_of, network_of, instance
 use Rattle.kahn_streams.specs.Tokens.{Lists}
 use Rattle.kahn_code.proofs.Lists.{split_at}
 use Rattle.kahn_job.specs.inner.Ends.{End}
-use Rattle.kahn_job.specs.inner.Ways.{nothing}
+use Rattle.kahn_job.specs.inner.Ways.{no_end}
 use Rattle.kahn_job.specs.inner.Berths.{end_at}
 use Rattle.kahn_job.specs.inner.Openings.{AreHanded, IsFresh, end_in}
 
 -- the rows of the first instances
 pub record AreBare (N : Network) (rows : List (List End)) (n : ℕ) : Type 0 where
   pub count : length rows ≡ n
-  pub each : (p : ℕ) → p < n → slice_index_or rows p [] ≡ replicate (length (instance_at N p).actuals) nothing
+  pub each : (p : ℕ) → p < n → slice_index_or rows p [] ≡ replicate (length (instance_at N p).actuals) no_end
 
 row_before : (rows : List (List End)) (row : List End) (p : ℕ) → p < length rows → slice_index_or (rows ++ row ∷ []) p [] ≡ slice_index_or rows p []
 row_before [] row p l = absurd (omega (arith, l))
@@ -31,24 +31,24 @@ pub no_rows : (N : Network) (rows : List (List End)) → rows ≡ [] → AreBare
 no_rows N rows e = record { count = ap (λ (r : List (List End)). length r) e; each = λ p l. absurd (omega (arith, l)) }
 
 pub one_row : (N : Network) (rows more : List (List End)) (row : List End) (n : ℕ) → AreBare N rows n → more ≡ rows ++ row ∷ [] →
-    row ≡ replicate (length (instance_at N n).actuals) nothing → AreBare N more (n + 1)
+    row ≡ replicate (length (instance_at N n).actuals) no_end → AreBare N more (n + 1)
 one_row N rows more row n h e i = record {
   count = let l = ap (λ (r : List (List End)). length r) e ∙ length-append rows (row ∷ []) in omega (arith, l, h.count);
   each = λ p l. ap (λ x. slice_index_or x p []) e ∙ by p l (split_at p n);
 }
   where
-    by : (p : ℕ) → p < n + 1 → (p < n) ⊎ (n ≤ p) → slice_index_or (rows ++ row ∷ []) p [] ≡ replicate (length (instance_at N p).actuals) nothing
+    by : (p : ℕ) → p < n + 1 → (p < n) ⊎ (n ≤ p) → slice_index_or (rows ++ row ∷ []) p [] ≡ replicate (length (instance_at N p).actuals) no_end
     by p l (inl lt) = row_before rows row p (omega (arith, lt, h.count)) ∙ h.each p lt
     by p l (inr le) =
         let is : p ≡ n = omega (arith, l, le) in
         let at : p ≡ length rows = omega (arith, is, h.count) in
-        ap (λ k. slice_index_or (rows ++ row ∷ []) k []) at ∙ row_last rows row ∙ i ∙ ap (λ k. replicate (length (instance_at N k).actuals) nothing) (sym is)
+        ap (λ k. slice_index_or (rows ++ row ∷ []) k []) at ∙ row_last rows row ∙ i ∙ ap (λ k. replicate (length (instance_at N k).actuals) no_end) (sym is)
 
-replicate_size : (n : ℕ) → length (replicate n nothing) ≡ n
+replicate_size : (n : ℕ) → length (replicate n no_end) ≡ n
 replicate_size zero = refl
 replicate_size (suc n) = ap suc (replicate_size n)
 
-bare_end : (n q : ℕ) → end_at (replicate n nothing) q ≡ nothing
+bare_end : (n q : ℕ) → end_at (replicate n no_end) q ≡ no_end
 bare_end zero q = refl
 bare_end (suc n) zero = refl
 bare_end (suc n) (suc q) = bare_end n q
@@ -69,7 +69,7 @@ all_bare t lists rows n h e = record {
         ap (λ (r : List End). length r) (get_or_past rows p [] (let c = h.count in omega (arith, c, le))) ∙
         sym (ap (λ i. length i.actuals) (get_or_past (network_of t).instances p idle (omega (arith, e, le))))
 
-    bare : (p q : ℕ) → (p < n) ⊎ (n ≤ p) → end_in rows p q ≡ nothing
+    bare : (p q : ℕ) → (p < n) ⊎ (n ≤ p) → end_in rows p q ≡ no_end
     bare p q (inl l) = ap (λ r. end_at r q) (h.each p l) ∙ bare_end (length (instance_at (network_of t) p).actuals) q
     bare p q (inr le) = ap (λ r. end_at r q) (get_or_past rows p [] (let c = h.count in omega (arith, c, le)))
 

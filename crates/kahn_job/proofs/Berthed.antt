@@ -13,14 +13,14 @@ use Rattle.kahn_code.specs.Seats.{DoesRead, DoesWrite, Grows, IsNext}
 use Rattle.kahn_lane.specs.Places.{lane_name, token_name}
 use Rattle.kahn_lane.proofs.Places.{token_name-is_of, is_of-token_name}
 use Rattle.kahn_job.specs.inner.Ends.{Advances, End, Identity, IsSame, IsFlushed, Meets, identity_of}
-use Rattle.kahn_job.specs.inner.Ways.{nothing}
+use Rattle.kahn_job.specs.inner.Ways.{no_end}
 use Rattle.kahn_job.specs.inner.Berths.{Berth, AreServed, Serves, end_at, identities, seat_at, HaveAdvanced, HasStayed, HaveStayed}
 
 pub set_here : (es : List End) (q : ℕ) (e : End) → q < length es → end_at (slice_set es q e) q ≡ e
-set_here es q e l = get_or-set_same es q e nothing l
+set_here es q e l = get_or-set_same es q e no_end l
 
 pub set_else : (es : List End) (q r : ℕ) (e : End) → (r ≡ q → ⊥) → end_at (slice_set es q e) r ≡ end_at es r
-set_else es q r e n = get_or-set_other es q r e nothing n
+set_else es q r e n = get_or-set_other es q r e no_end n
 
 -- what holds of the end that is set, and of each other one, holds of each
 at_set : (P : ℕ → End → Type 0) (es : List End) (q : ℕ) (e : End) → q < length es → P q e → ((r : ℕ) → (r ≡ q → ⊥) → P r (end_at es r)) →
@@ -33,7 +33,7 @@ at_set P es q e l here further r = by (cases_eq r q)
 
 -- the end that was found in a list
 any_end : (es : List End) (q : ℕ) (d : End) → q < length es → slice_index_or es q d ≡ end_at es q
-any_end es q d l = get_or_default es q d nothing l
+any_end es q d l = get_or_default es q d no_end l
 
 pub found : (es : List End) (q : ℕ) (e d : End) → q < length es → e ≡ slice_index_or es q d → end_at es q ≡ e
 found es q e d l is = sym (is ∙ any_end es q d l)
@@ -92,7 +92,7 @@ identities_size : (es : List End) → length (identities es) ≡ length es
 identities_size [] = refl
 identities_size (x ∷ es) = ap suc (identities_size es)
 
-identity_at : (es : List End) (q : ℕ) → slice_index_or (identities es) q (identity_of nothing) ≡ identity_of (end_at es q)
+identity_at : (es : List End) (q : ℕ) → slice_index_or (identities es) q (identity_of no_end) ≡ identity_of (end_at es q)
 identity_at [] q = refl
 identity_at (x ∷ es) zero = refl
 identity_at (x ∷ es) (suc q) = identity_at es q
@@ -101,7 +101,7 @@ pub advanced : (old new : List End) → identities new ≡ identities old → Gr
 advanced old new e g = record {
   count = sym (identities_size new) ∙ ap (λ (l : List Identity). length l) e ∙ identities_size old;
   same = λ q. identity_same (end_at old q) (end_at new q)
-      (sym (identity_at new q) ∙ ap (λ l. slice_index_or l q (identity_of nothing)) e ∙ identity_at old q);
+      (sym (identity_at new q) ∙ ap (λ l. slice_index_or l q (identity_of no_end)) e ∙ identity_at old q);
   flushed = g;
 }
 
@@ -147,8 +147,8 @@ module _ (seen : Berth) (t : Program) (lists : Lists) (p : ℕ) (es : List End) 
 abbrev pub UpTo : ℕ → List End → Type 0
 UpTo n es = (r : ℕ) → r < n → IsFlushed (end_at es r)
 
-pub past_none : (es : List End) (q : ℕ) → (q < length es) ⊎ (end_at es q ≡ nothing)
-past_none es q = ⊎_elim inl (λ l. inr (get_or_past es q nothing l)) (cases_lt q (length es))
+pub past_none : (es : List End) (q : ℕ) → (q < length es) ⊎ (end_at es q ≡ no_end)
+past_none es q = ⊎_elim inl (λ l. inr (get_or_past es q no_end l)) (cases_lt q (length es))
 
 none_true : false ≡ true → ⊥
 none_true e = cc
@@ -156,14 +156,14 @@ none_true e = cc
 pub within_writes : (es : List End) (q : ℕ) → (end_at es q).writes ≡ true → q < length es
 within_writes es q w = by (past_none es q)
   where
-    by : (q < length es) ⊎ (end_at es q ≡ nothing) → q < length es
+    by : (q < length es) ⊎ (end_at es q ≡ no_end) → q < length es
     by (inl l) = l
     by (inr e) = absurd (none_true (sym (ap (λ (x : End). x.writes) e) ∙ w))
 
 pub within_reads : (es : List End) (q : ℕ) → (end_at es q).reads ≡ true → q < length es
 within_reads es q r = by (past_none es q)
   where
-    by : (q < length es) ⊎ (end_at es q ≡ nothing) → q < length es
+    by : (q < length es) ⊎ (end_at es q ≡ no_end) → q < length es
     by (inl l) = l
     by (inr e) = absurd (none_true (sym (ap (λ (x : End). x.reads) e) ∙ r))
 

@@ -5,7 +5,7 @@ use Rattle.kahn_streams.specs.Tokens.{inputs_of}
 use Rattle.kahn_lane.specs.declared.name.LaneName.{LaneName}
 use Rattle.kahn_lane.specs.Places.{lane_name}
 use Rattle.kahn_job.specs.inner.Ends.{Lane}
-use Rattle.kahn_job.specs.inner.Berths.{IsFed}
+use Rattle.kahn_job.specs.inner.Berths.{IsWithinInput}
 use Rattle.kahn_job.specs.inner.Ways.{end_of}
 use Rattle.kahn_job.specs.declared.port.Way.{Way}
 use Rattle.kahn_job.specs.declared.port.Way.TheVariants as way
@@ -19,7 +19,7 @@ same_name e = cc
 same_channel : {c d : ℕ} → Channel c ≡ Channel d → c ≡ d
 same_channel e = cc
 
-pub fed : (w : Way) → IsFed (end_of w)
+pub fed : (w : Way) → IsWithinInput (end_of w)
 fed (way.Takes r asked) t lists d none name ready = absurd (some_none none)
 fed (way.Puts s) t lists d none name ready = absurd (some_none none)
 fed way.Nothing t lists d none name ready = absurd (omega (arith, ready))

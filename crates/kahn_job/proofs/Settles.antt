@@ -19,7 +19,7 @@ use Rattle.kahn_code.specs.Lines.{Joins}
 use Rattle.kahn_lane.specs.declared.name.LaneName.{LaneName}
 use Rattle.kahn_lane.specs.Places.{lane_name, moved_to}
 use Rattle.kahn_job.specs.inner.Ends.{End, ShareLane}
-use Rattle.kahn_job.specs.inner.Ways.{nothing}
+use Rattle.kahn_job.specs.inner.Ways.{no_end}
 use Rattle.kahn_job.specs.inner.Openings.{end_in, placed}
 use Rattle.kahn_job.specs.inner.Settling.{AreAlike, AreElsewhere, AreResting, AreSettled, CanFeed, CanSettle, HasExchanged, HasPlace, HasSettled, HaveExchanged, HasStood, HaveStood, IsCarried, IsOfBefore, ServedBefore, end_of_side}
 use Rattle.kahn_job.proofs.Handed as handed
@@ -53,19 +53,19 @@ else_at rows s e h p q n = by (found rows (Some s) e (option_place rows s h) p q
 
 -- either it is this one or it isn't
 side_or : (rows : List (List End)) (s : Side) → HasPlace rows s → (p q : ℕ) → (side_at p q ≡ s) ⊎ (side_at p q ≡ s → ⊥)
-side_or rows s h p q = by (found rows (Some s) nothing (option_place rows s h) p q)
+side_or rows s h p q = by (found rows (Some s) no_end (option_place rows s h) p q)
   where
-    by : handed.Found rows (Some s) nothing p q → (side_at p q ≡ s) ⊎ (side_at p q ≡ s → ⊥)
+    by : handed.Found rows (Some s) no_end p q → (side_at p q ≡ s) ⊎ (side_at p q ≡ s → ⊥)
     by (inl a) = inl (sym (same_Some _ _ a.0))
     by (inr b) = inr (λ e. b.0 (ap Some (sym e)))
 
 -- two ends were taken out, and two came back
 module _ (rows : List (List End)) (w r : Side) (pw : HasPlace rows w) (pr : HasPlace rows r) (apart : w ≡ r → ⊥) (x y : End) where
   abbrev one : List (List End)
-  one = placed rows (Some w) nothing
+  one = placed rows (Some w) no_end
 
   abbrev two : List (List End)
-  two = placed one (Some r) nothing
+  two = placed one (Some r) no_end
 
   abbrev three : List (List End)
   three = placed two (Some w) x
@@ -74,22 +74,22 @@ module _ (rows : List (List End)) (w r : Side) (pw : HasPlace rows w) (pr : HasP
   four = placed three (Some r) y
 
   pub one_r : HasPlace one r
-  one_r = kept_place rows w r nothing pw pr
+  one_r = kept_place rows w r no_end pw pr
 
   one_w : HasPlace one w
-  one_w = kept_place rows w w nothing pw pw
+  one_w = kept_place rows w w no_end pw pw
 
   pub two_w : HasPlace two w
-  two_w = kept_place one r w nothing one_r one_w
+  two_w = kept_place one r w no_end one_r one_w
 
   pub two_r : HasPlace two r
-  two_r = kept_place one r r nothing one_r one_r
+  two_r = kept_place one r r no_end one_r one_r
 
   three_r : HasPlace three r
   three_r = kept_place two w r x two_w two_r
 
   pub reader_kept : end_of_side one r ≡ end_of_side rows r
-  reader_kept = else_at rows w nothing pw r.instance r.parameter (λ e. apart (sym e))
+  reader_kept = else_at rows w no_end pw r.instance r.parameter (λ e. apart (sym e))
 
   pub at_reader : end_of_side four r ≡ y
   at_reader = here_at three r y three_r
@@ -99,11 +99,11 @@ module _ (rows : List (List End)) (w r : Side) (pw : HasPlace rows w) (pr : HasP
 
   pub elsewhere : AreElsewhere (λ s. (s ≡ w) ⊎ (s ≡ r)) rows four
   elsewhere = record {
-    count = placed_count three (Some r) y ∙ placed_count two (Some w) x ∙ placed_count one (Some r) nothing ∙ placed_count rows (Some w) nothing;
+    count = placed_count three (Some r) y ∙ placed_count two (Some w) x ∙ placed_count one (Some r) no_end ∙ placed_count rows (Some w) no_end;
     sizes = λ p. placed_sizes three (Some r) y (option_place three r three_r) p ∙ placed_sizes two (Some w) x (option_place two w two_w) p ∙
-        placed_sizes one (Some r) nothing (option_place one r one_r) p ∙ placed_sizes rows (Some w) nothing (option_place rows w pw) p;
+        placed_sizes one (Some r) no_end (option_place one r one_r) p ∙ placed_sizes rows (Some w) no_end (option_place rows w pw) p;
     others = λ p q n. else_at three r y three_r p q (λ e. n (inr e)) ∙ else_at two w x two_w p q (λ e. n (inl e)) ∙
-        else_at one r nothing one_r p q (λ e. n (inr e)) ∙ else_at rows w nothing pw p q (λ e. n (inl e));
+        else_at one r no_end one_r p q (λ e. n (inr e)) ∙ else_at rows w no_end pw p q (λ e. n (inl e));
   }
 
   -- the same two came back
@@ -135,19 +135,19 @@ module _ (rows : List (List End)) (w r : Side) (pw : HasPlace rows w) (pr : HasP
 
 -- one end was taken out, and one came back
 module _ (rows : List (List End)) (r : Side) (pr : HasPlace rows r) (y : End) where
-  pub gone_r : HasPlace (placed rows (Some r) nothing) r
-  gone_r = kept_place rows r r nothing pr pr
+  pub gone_r : HasPlace (placed rows (Some r) no_end) r
+  gone_r = kept_place rows r r no_end pr pr
 
   pub fed_on : (lists : Lists) → ((n : LaneName) → (end_of_side rows r).name ≡ Some n → HasSettled (moved_to lists n) (end_of_side rows r) y) →
-      HasExchanged lists r rows (placed (placed rows (Some r) nothing) (Some r) y)
+      HasExchanged lists r rows (placed (placed rows (Some r) no_end) (Some r) y)
   fed_on lists settled = record {
     elsewhere = record {
-      count = placed_count (placed rows (Some r) nothing) (Some r) y ∙ placed_count rows (Some r) nothing;
-      sizes = λ p. placed_sizes (placed rows (Some r) nothing) (Some r) y (option_place (placed rows (Some r) nothing) r gone_r) p ∙
-          placed_sizes rows (Some r) nothing (option_place rows r pr) p;
-      others = λ p q n. else_at (placed rows (Some r) nothing) r y gone_r p q n ∙ else_at rows r nothing pr p q n;
+      count = placed_count (placed rows (Some r) no_end) (Some r) y ∙ placed_count rows (Some r) no_end;
+      sizes = λ p. placed_sizes (placed rows (Some r) no_end) (Some r) y (option_place (placed rows (Some r) no_end) r gone_r) p ∙
+          placed_sizes rows (Some r) no_end (option_place rows r pr) p;
+      others = λ p q n. else_at (placed rows (Some r) no_end) r y gone_r p q n ∙ else_at rows r no_end pr p q n;
     };
-    reads = λ n e. subst (HasSettled (moved_to lists n) (end_of_side rows r)) (sym (here_at (placed rows (Some r) nothing) r y gone_r)) (settled n e);
+    reads = λ n e. subst (HasSettled (moved_to lists n) (end_of_side rows r)) (sym (here_at (placed rows (Some r) no_end) r y gone_r)) (settled n e);
   }
 
 -- ---- one channel

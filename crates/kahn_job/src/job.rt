@@ -6,7 +6,7 @@ ghost use Rattle.kahn_code.specs.Flat.{stmt_code};
 ghost use Rattle.kahn_code.specs.Told.{AreCounts, IsStill};
 ghost use Rattle.kahn_code.specs.inner.Tapped.{IsSameProcess};
 ghost use Rattle.kahn_job.specs.inner.Ends.{MayMeet, Meets};
-ghost use Rattle.kahn_job.specs.inner.Berths.{HaveAdvanced, HaveFlushed, HaveStayed, IsFed, end_at};
+ghost use Rattle.kahn_job.specs.inner.Berths.{HaveAdvanced, HaveFlushed, HaveStayed, IsWithinInput, end_at};
 ghost use Rattle.kahn_job.specs.inner.Works.{HasPaused, IsDelivered, IsJob, IsManned, width_of};
 
 use crate::idle::Idle;
@@ -111,7 +111,7 @@ impl<'n> Job<'n> {
     /// Says that of an input channel no more is ready on a parameter than its list has: its contract is what it does.
     pub fn fed(&self, parameter: usize)
         requires { parameter < length self.now.ends }
-        ensures { IsFed (end_at self.now.ends parameter) }
+        ensures { IsWithinInput (end_at self.now.ends parameter) }
     {
         self.ends.fed(parameter);
     }

@@ -7,9 +7,9 @@ ghost use Rattle.kahn_lane.specs.Places.{moved_to, token_name};
 ghost use Rattle.kahn_lane.specs.declared.name.LaneName.{LaneName};
 ghost use Rattle.kahn_tree.specs.declared.tree.Role.TheVariants.{Input as InputRole};
 ghost use Rattle.kahn_job.specs.inner.Ends.{Advances, FlushesFull, MayMeet, Meets, HasRoom, IsDry, IsFlushed, IsReady, IsSame, ShareLane};
-ghost use Rattle.kahn_job.specs.inner.Berths.{HasStayed, IsFed, IsFor};
+ghost use Rattle.kahn_job.specs.inner.Berths.{HasStayed, IsWithinInput, IsFor};
 ghost use Rattle.kahn_job.specs.inner.Settling.{BothSettle, CanFeed, CanSettle, HasSettled};
-ghost use Rattle.kahn_job.specs.inner.Ways.{taking, feeding, putting, nothing};
+ghost use Rattle.kahn_job.specs.inner.Ways.{taking, feeding, putting, no_end};
 
 use crate::feed::Feed;
 use kahn_lane::{Receiver, Sender, meet, settle};
@@ -97,7 +97,7 @@ impl Port {
 
     /// No end.
     pub(crate) fn nothing() -> Port
-        ensures { result ≡ nothing }
+        ensures { result ≡ no_end }
     {
         Port { way: Way::Nothing }
     }
@@ -309,7 +309,7 @@ impl Port {
     /// Says that of an input channel no more is ready than its list has: its contract is what it does.
     #[tactic(auto, using(crate::proofs::Fed::fed))]
     pub(crate) fn fed(&self)
-        ensures { IsFed self.now }
+        ensures { IsWithinInput self.now }
     {
         let _way = &self.way;
     }

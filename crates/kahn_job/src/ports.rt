@@ -1,7 +1,7 @@
 //! The ends of the channels of an instance.
 
 ghost use Rattle.std.specs.Prelude.{◌≡◌, ◌<◌, ◌≤◌, ◌+◌, true, length, OnOk};
-ghost use Rattle.kahn_job.specs.inner.Berths.{AreFlushed, AreServed, HaveFlushed, HaveStayed, IsFed, end_at, seat_at};
+ghost use Rattle.kahn_job.specs.inner.Berths.{AreFlushed, AreServed, HaveFlushed, HaveStayed, IsWithinInput, end_at, seat_at};
 ghost use Rattle.kahn_job.specs.inner.Ends.{MayMeet, Meets};
 
 use crate::port::Port;
@@ -145,7 +145,7 @@ impl<'n> Ends<'n> {
     /// Says that of an input channel no more is ready on a parameter than its list has: its contract is what it does.
     pub fn fed(&self, parameter: usize)
         requires { parameter < length self.now.ends }
-        ensures { IsFed (end_at self.now.ends parameter) }
+        ensures { IsWithinInput (end_at self.now.ends parameter) }
     {
         self.ports[parameter].fed();
     }

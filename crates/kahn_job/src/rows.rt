@@ -4,7 +4,7 @@ ghost use Rattle.std.specs.Prelude.{◌≡◌, ◌+◌, ◌<◌, [], length, rep
 ghost use Rattle.kahn_network.specs.Network.{network_of, instance_at};
 ghost use Rattle.kahn_network.specs.declared.sides.Side.{Side as SideOf};
 ghost use Rattle.kahn_job.specs.inner.Openings.{AreEndsOf, AreHanded, placed};
-ghost use Rattle.kahn_job.specs.inner.Ways.{nothing};
+ghost use Rattle.kahn_job.specs.inner.Ways.{no_end};
 
 use crate::fault::JobFault;
 use crate::port::Port;
@@ -40,7 +40,7 @@ impl Row {
     // So many parameters without an end.
     #[tactic(auto, using(crate::proofs::Handed::replicate_more))]
     fn bare(alloc: Global, count: usize) -> Result<Row, JobFault>
-        ensures { IfOk result (λ r. r ≡ replicate count nothing) }
+        ensures { IfOk result (λ r. r ≡ replicate count no_end) }
     {
         let mut ports = Vec::new(alloc);
         for _ in 0..count {

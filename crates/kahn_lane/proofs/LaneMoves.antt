@@ -8,12 +8,12 @@ use Rattle.kahn_lane.specs.declared.segments.Mark.{Mark}
 use Rattle.kahn_lane.specs.declared.segments.Segment.{Segment}
 use Rattle.kahn_lane.specs.declared.segments.Stage.{Stage}
 use Rattle.kahn_lane.specs.declared.segments.Stage.TheVariants.{Opening, Telling, Running}
-use Rattle.kahn_lane.specs.Places.{Named, told, first_place, mark, opening, telling, both, owner, writing, reading, spent}
+use Rattle.kahn_lane.specs.Places.{Named, told, first_place, mark, opening_mark, telling, both, owner, writing_mark, reading, spent_mark}
 use Rattle.kahn_lane.specs.inner.LaneRule.{size, Filled, Chain, WritesLane, ReadsLane, FitsLane, IsRunning, IsNewLane, IsTelling, Laned, TellsName, Flushes, Steals, Empties}
 use Rattle.kahn_lane.proofs.Views.{at_end, All, all_set, all_one, one, all_more}
 
 -- a pass without rights fits any rule
-no_rights : (writer reader : ℕ) (name : Named) (flushed stolen port : ℕ) → FitsLane writer reader name flushed stolen port spent
+no_rights : (writer reader : ℕ) (name : Named) (flushed stolen port : ℕ) → FitsLane writer reader name flushed stolen port spent_mark
 no_rights writer reader name flushed stolen port = (refl, (λ p. absurd (true≢false (sym p))), λ p. absurd (true≢false (sym p)))
 
 -- the pass that may flush is no other than this one
@@ -52,7 +52,7 @@ module _ (A : Type 0) where
 
   -- a lane that is opening has no pass of another stage, nor one that is telling
   not_opening : (items : List (Segment A)) (views : List Mark) (port : ℕ) (v : Mark) (s : Stage) → IsNewLane items views → get_elem? views port ≡ some v → v.stage ≡ s → stage_number Opening ≢ stage_number s → ⊥
-  not_opening items views port v s o at stage other = apart Opening s (stage_of opening views port v o.1 at ∙ stage) other
+  not_opening items views port v s o at stage other = apart Opening s (stage_of opening_mark views port v o.1 at ∙ stage) other
 
   not_telling : (items : List (Segment A)) (views : List Mark) (port : ℕ) (v : Mark) (s : Stage) → IsTelling items views → get_elem? views port ≡ some v → v.stage ≡ s → stage_number Telling ≢ stage_number s → ⊥
   not_telling items views port v s t at stage other = apart Telling s (stage_of (telling (told t.0.tag) (first_place t.0.tag)) views port v t.3 at ∙ stage) other
@@ -64,15 +64,15 @@ module _ (A : Type 0) where
   running items views port v h at stage = ⊎_elim (λ o. absurd (not_opening items views port v Running o at stage zero_two))
       (λ r. ⊎_elim (λ t. absurd (not_telling items views port v Running t at stage one_two)) (λ x. x) r) h
 
-  pub opens : Laned {A = A} [] (opening ∷ [])
+  pub opens : Laned {A = A} [] (opening_mark ∷ [])
   opens = inl (refl, refl)
 
   pub tells : (port : ℕ) (v : Mark) (s : Segment A) → v.stage ≡ Opening → first_place s.tag ≤ 2 ^ 48 → Pushes Laned port v (s ∷ []) (TellsName (s ∷ []))
   tells port v s stage fits items views h at =
       let w : Mark = telling (told s.tag) (first_place s.tag) in ⊎_elim
       (λ (o : IsNewLane items views).
-      let first : port ≡ 0 = (one opening v port (subst (λ l. get_elem? l port ≡ some v) o.1 at)).0 in
-      let alone : set views port w ≡ w ∷ [] = ap (λ l. set l port w) o.1 ∙ ap (λ j. set (opening ∷ []) j w) first in
+      let first : port ≡ 0 = (one opening_mark v port (subst (λ l. get_elem? l port ≡ some v) o.1 at)).0 in
+      let alone : set views port w ≡ w ∷ [] = ap (λ l. set l port w) o.1 ∙ ap (λ j. set (opening_mark ∷ []) j w) first in
       (w, inr (inl (s, ap (λ l. l ++ s ∷ []) o.0, fits, alone)), refl))
       (λ r. ⊎_elim (λ (t : IsTelling items views). absurd (not_telling items views port v Opening t at stage (λ e. zero_one (sym e))))
       (λ (r : IsRunning items views). absurd (not_running items views port v Opening r at stage zero_two)) r)
@@ -216,13 +216,13 @@ module _ (A : Type 0) where
       let met : h.stolen ≡ h.flushed = subst (Chain h.name h.stolen h.flushed) none h.chain in
       omega (arith, my.2, my.3, met)
 
-  pub forks : (port : ℕ) (v : Mark) → v.stage ≡ Running → v.writes ≡ true → v.reads ≡ true → Forks (Laned {A = A}) port v (writing v.writes_on v.flushed) (reading v.reads_on v.stolen v.flushed)
+  pub forks : (port : ℕ) (v : Mark) → v.stage ≡ Running → v.writes ≡ true → v.reads ≡ true → Forks (Laned {A = A}) port v (writing_mark v.writes_on v.flushed) (reading v.reads_on v.stolen v.flushed)
   forks port v stage a b items views laned at =
       let h = running items views port v laned at stage in
       let mine = h.fits port v at in
       let wr = mine.1 a in
       let rd = mine.2 b in
-      let l : Mark = writing v.writes_on v.flushed in
+      let l : Mark = writing_mark v.writes_on v.flushed in
       let r : Mark = reading v.reads_on v.stolen v.flushed in
       let vs : List Mark = set views port l in
       let reader : ℕ = length vs in
@@ -245,7 +245,7 @@ module _ (A : Type 0) where
             (at_snoc vs r u j e);
       }))
 
-  pub merges : (port : ℕ) (v : Mark) (other : ℕ) (u : Mark) → v.stage ≡ Running → v.writes ≡ true → u.reads ≡ true → Merges (Laned {A = A}) port v other u (both v.writes_on u.reads_on v.flushed u.stolen u.known) spent
+  pub merges : (port : ℕ) (v : Mark) (other : ℕ) (u : Mark) → v.stage ≡ Running → v.writes ≡ true → u.reads ≡ true → Merges (Laned {A = A}) port v other u (both v.writes_on u.reads_on v.flushed u.stolen u.known) spent_mark
   merges port v other u stage a b items views laned at two at' =
       let h = running items views port v laned at stage in
       let wr = (h.fits port v at).1 a in
@@ -265,11 +265,11 @@ module _ (A : Type 0) where
         stolen = h.stolen;
         limited = h.limited;
         chain = h.chain;
-        fits = all_set F vs other spent (no_rights h.writer port h.name h.flushed h.stolen other) (λ j y differs e. now j y e differs);
+        fits = all_set F vs other spent_mark (no_rights h.writer port h.name h.flushed h.stolen other) (λ j y differs e. now j y e differs);
       }))
 
   -- a pass without rights comes
-  pub forks_bare : (port : ℕ) (v : Mark) → v.stage ≡ Running → Forks (Laned {A = A}) port v v spent
+  pub forks_bare : (port : ℕ) (v : Mark) → v.stage ≡ Running → Forks (Laned {A = A}) port v v spent_mark
   forks_bare port v stage items views laned at =
       let h = running items views port v laned at stage in
       let F : ℕ → Mark → Type 0 = FitsLane h.writer h.reader h.name h.flushed h.stolen in
@@ -282,11 +282,11 @@ module _ (A : Type 0) where
         stolen = h.stolen;
         limited = h.limited;
         chain = h.chain;
-        fits = all_more F (set views port v) spent old (no_rights h.writer h.reader h.name h.flushed h.stolen);
+        fits = all_more F (set views port v) spent_mark old (no_rights h.writer h.reader h.name h.flushed h.stolen);
       }))
 
   -- a pass goes, and its rights with it
-  pub merges_bare : (port : ℕ) (v : Mark) (other : ℕ) (u : Mark) → v.stage ≡ Running → Merges (Laned {A = A}) port v other u v spent
+  pub merges_bare : (port : ℕ) (v : Mark) (other : ℕ) (u : Mark) → v.stage ≡ Running → Merges (Laned {A = A}) port v other u v spent_mark
   merges_bare port v other u stage items views laned at two at' =
       let h = running items views port v laned at stage in
       let F : ℕ → Mark → Type 0 = FitsLane h.writer h.reader h.name h.flushed h.stolen in
@@ -299,7 +299,7 @@ module _ (A : Type 0) where
         stolen = h.stolen;
         limited = h.limited;
         chain = h.chain;
-        fits = all_set F (set views port v) other spent (no_rights h.writer h.reader h.name h.flushed h.stolen other) (λ j y _ e. old j y e);
+        fits = all_set F (set views port v) other spent_mark (no_rights h.writer h.reader h.name h.flushed h.stolen other) (λ j y _ e. old j y e);
       }))
 
   -- a pass with both rights sees that no more was stolen than was flushed, of the same name

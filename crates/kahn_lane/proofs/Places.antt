@@ -8,13 +8,13 @@ use Rattle.kahn_streams.specs.declared.value.Line.TheVariants.{Channel}
 use Rattle.kahn_lane.specs.declared.name.LaneName.{LaneName}
 use Rattle.kahn_lane.specs.declared.segments.Segment.{Segment}
 use Rattle.kahn_lane.specs.inner.LaneRule.{tokens_of}
-use Rattle.kahn_lane.specs.Places.{Named, Placed, token_name, lane_name, moved_to}
+use Rattle.kahn_lane.specs.Places.{Named, StandFrom, token_name, lane_name, moved_to}
 
-pub placed_more : (c : Named) (n : ℕ) (xs : List Token) (x t : Token) → Placed c n xs → x ≡ t → c ≡ Some (token_name t) → t.place ≡ n + length xs → Placed c n (xs ++ x ∷ [])
+pub placed_more : (c : Named) (n : ℕ) (xs : List Token) (x t : Token) → StandFrom c n xs → x ≡ t → c ≡ Some (token_name t) → t.place ≡ n + length xs → StandFrom c n (xs ++ x ∷ [])
 placed_more c n [] x t h is on at = ((on ∙ ap (λ u. Some (token_name u)) (sym is), omega (arith, at, ap (λ (u : Token). u.place) is)), tt)
 placed_more c n (y ∷ ys) x t h is on at = (h.0, placed_more c (n + 1) ys x t h.1 is on (omega (arith, at)))
 
-pub placed_at : (c : Named) (n : ℕ) (xs : List Token) (k : ℕ) (x : Token) → Placed c n xs → k < length xs → x ≡ slice_index_or xs k x → (c ≡ Some (token_name x)) × (x.place ≡ n + k)
+pub placed_at : (c : Named) (n : ℕ) (xs : List Token) (k : ℕ) (x : Token) → StandFrom c n xs → k < length xs → x ≡ slice_index_or xs k x → (c ≡ Some (token_name x)) × (x.place ≡ n + k)
 placed_at c n [] k x h lt is = absurd (omega (arith, lt))
 placed_at c n (y ∷ ys) zero x h lt is =
     (h.0.0 ∙ ap (λ (z : Token). Some (token_name z)) (sym is), omega (arith, ap (λ (z : Token). z.place) is, h.0.1))

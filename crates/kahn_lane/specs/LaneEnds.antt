@@ -41,8 +41,8 @@ module _ {A : Type 0} where
   CanPut s = (filled s < 64) × (filled s < capacity s)
 
   -- how many tokens were taken
-  abbrev pub taken : Receiver A → ℕ
-  taken r = r.from + r.used
+  abbrev pub received : Receiver A → ℕ
+  received r = r.from + r.used
 
   -- how many tokens are at hand
   abbrev pub waiting : Receiver A → ℕ
@@ -53,8 +53,8 @@ module _ {A : Type 0} where
   CanTake r = 0 < waiting r
 
   -- how many tokens this end knows to have been flushed, from the last meeting
-  abbrev pub known : Receiver A → ℕ
-  known r = (view r.pass).known
+  abbrev pub heard : Receiver A → ℕ
+  heard r = (view r.pass).known
 
   -- how many segments this end knows to have left the deque
   abbrev pub left : Receiver A → ℕ
@@ -66,16 +66,16 @@ module _ {A : Type 0} where
 
   -- so many tokens were put and flushed, and as many were taken
   abbrev pub HavePassed : ℕ → Sender A → Receiver A → Type 0
-  HavePassed n s r = (sent s ≡ n) × (flushed s ≡ n) × (taken r ≡ n) × (known r ≡ n)
+  HavePassed n s r = (sent s ≡ n) × (flushed s ≡ n) × (received r ≡ n) × (heard r ≡ n)
 
   -- the deque was empty, so that all that is known to have been flushed was taken; or 64 segments have left it that this end didn't
   -- know to have left it
   abbrev pub WasDry : Receiver A → Receiver A → Type 0
-  WasDry old new = (known old ≤ taken old) ⊎ (left old + 64 ≤ left new)
+  WasDry old new = (heard old ≤ received old) ⊎ (left old + 64 ≤ left new)
 
   -- the token stands at the next place
   abbrev pub TakesNext : Receiver A → Receiver A → Token → Type 0
-  TakesNext old new t = (receiver_name old ≡ Some (token_name t)) × (t.place ≡ taken old) × (taken new ≡ taken old + 1)
+  TakesNext old new t = (receiver_name old ≡ Some (token_name t)) × (t.place ≡ received old) × (received new ≡ received old + 1)
 
   -- it is an end of the same lane, for the same tokens
   abbrev pub SameSender : Sender A → Sender A → Type 0

@@ -45,9 +45,9 @@ first_place None = 0
 first_place (Some t) = t.from
 
 -- the tokens are of this name, and stand at the places from n on
-abbrev pub Placed : Named → ℕ → List Token → Type 0
-Placed c n [] = ⊤
-Placed c n (x ∷ xs) = ((c ≡ Some (token_name x)) × (x.place ≡ n)) × Placed c (n + 1) xs
+abbrev pub StandFrom : Named → ℕ → List Token → Type 0
+StandFrom c n [] = ⊤
+StandFrom c n (x ∷ xs) = ((c ≡ Some (token_name x)) × (x.place ≡ n)) × StandFrom c (n + 1) xs
 
 -- what the tokens of a lane are of is known, and they are on this line
 abbrev pub IsOn : Line → Named → Type 0
@@ -60,7 +60,7 @@ lane_name-prop a b = Coded-set lane_name_type.the_row.coded a b
 pub name-prop : (a b : Named) → IsProp (a ≡ b)
 name-prop a b = Coded-set (coded_option lane_name_type.the_row.coded) a b
 
-pub Placed-prop : (c : Named) (n : ℕ) (xs : List Token) → IsProp (Placed c n xs)
+pub Placed-prop : (c : Named) (n : ℕ) (xs : List Token) → IsProp (StandFrom c n xs)
 Placed-prop c n [] = Unit-prop
 Placed-prop c n (x ∷ xs) =
     ×_prop (×_prop (name-prop c (Some (token_name x))) (Coded-set coded_ℕ x.place n)) (Placed-prop c (n + 1) xs)
@@ -77,8 +77,8 @@ mark s a b c d f t k =
     record { stage = s; writes = a; reads = b; writes_on = c; reads_on = d; flushed = f; stolen = t; known = k }
 
 -- the first pass, before the lane has a name
-abbrev pub opening : Mark
-opening = mark Opening true true None None 0 0 0
+abbrev pub opening_mark : Mark
+opening_mark = mark Opening true true None None 0 0 0
 
 -- the first pass, while the deque holds the name and the first place
 abbrev pub telling : Named → ℕ → Mark
@@ -93,13 +93,13 @@ abbrev pub owner : Named → ℕ → Mark
 owner c n = both c c n n n
 
 -- a pass that may flush
-abbrev pub writing : Named → ℕ → Mark
-writing c f = mark Running true false c None f 0 0
+abbrev pub writing_mark : Named → ℕ → Mark
+writing_mark c f = mark Running true false c None f 0 0
 
 -- a pass that may steal
 abbrev pub reading : Named → ℕ → ℕ → Mark
 reading d t k = mark Running false true None d 0 t k
 
 -- a pass without rights
-abbrev pub spent : Mark
-spent = mark Running false false None None 0 0 0
+abbrev pub spent_mark : Mark
+spent_mark = mark Running false false None None 0 0 0

@@ -4,7 +4,7 @@
 //! A taker that finds nothing says so at once. It never holds its thread.
 
 ghost use Rattle.std.specs.Prelude.{◌≡◌, ◌+◌, ◌<◌, List, [], ◌∷◌, ◌++◌, length, IfOk, MatchResult, MatchOption};
-ghost use Rattle.kahn_lane.specs.RelayEnds.{giver_relay, taker_relay, given, got, known, ComesBack, SameRelay, WasEmpty};
+ghost use Rattle.kahn_lane.specs.RelayEnds.{giver_relay, taker_relay, given, got, known_given, ComesBack, SameRelay, WasEmpty};
 
 use crate::ends::{Blank, Giver, Got, InOrder, Log, Roles, Sent, Taker, Total};
 use crate::fault::LaneFault;
@@ -21,7 +21,7 @@ pub fn relay<T: Drop, A: Allocator + Clone + Drop>(
     alloc: A,
 ) -> Result<(Giver<T, A>, Taker<T, A>), LaneFault>
     ensures one { IfOk result (λ r. giver_relay r.0 ≡ taker_relay r.1) }
-    ensures start { IfOk result (λ r. (given r.0 ≡ []) × (got r.1 ≡ []) × (known r.1 ≡ 0)) }
+    ensures start { IfOk result (λ r. (given r.0 ≡ []) × (got r.1 ≡ []) × (known_given r.1 ≡ 0)) }
 {
     let mut worker = Worker::<T, A, Log<T>, InOrder>::fifo_as(alloc, 1)?;
     let stealer = worker.stealer()?;
@@ -48,7 +48,7 @@ impl<T, A: Allocator> Taker<T, A> {
     /// known to have been given was taken, or after 64 steals that each met another one: then 64 items have left the
     /// deque that this end didn't know to have left it. It takes no memory.
     pub fn take(&mut self) -> Option<T>
-        ensures same { (taker_relay self.new ≡ taker_relay self.old) × (known self.new ≡ known self.old) }
+        ensures same { (taker_relay self.new ≡ taker_relay self.old) × (known_given self.new ≡ known_given self.old) }
         ensures rule { MatchOption result ((got self.new ≡ got self.old) × WasEmpty self.old self.new) (λ x. got self.new ≡ got self.old ++ x ∷ []) }
     {
         for _ in 0..TRIES {
@@ -67,7 +67,7 @@ impl<T, A: Allocator> Taker<T, A> {
         requires { giver_relay giver.old ≡ taker_relay self.old }
         ensures same { SameRelay giver.old giver.new self.old self.new }
         ensures rule { (items : List T) × (given giver.old ≡ got self.old ++ items) × (length items ≡ result) }
-        ensures known { known self.new ≡ length (given giver.old) }
+        ensures known { known_given self.new ≡ length (given giver.old) }
     {
         let blank = giver.worker.another::<Blank>();
         let pass = mem::replace(&mut self.pass, blank);

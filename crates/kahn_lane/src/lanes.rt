@@ -8,7 +8,7 @@ ghost use Rattle.std.specs.Prelude.{◌≡◌, ◌+◌, ◌≤◌, ◌<◌, ◌^
 ghost use Rattle.crossbeam_deque.specs.Handles.{worker_view, worker_deque, worker_flavor, stealer_deque, stealer_flavor};
 ghost use Rattle.kahn_lane.specs.Places.{lane_name, token_name, tag_name, owner};
 ghost use Rattle.kahn_lane.specs.inner.LaneRule.{size, tokens_of};
-ghost use Rattle.kahn_lane.specs.LaneEnds.{sender_lane, receiver_lane, sender_name, receiver_name, filled, flushed, sent, CanPut, taken, waiting, CanTake, known, left, SameSender, SameReceiver, AreEndsNamed, HavePassed, TakesNext, WasDry};
+ghost use Rattle.kahn_lane.specs.LaneEnds.{sender_lane, receiver_lane, sender_name, receiver_name, filled, flushed, sent, CanPut, received, waiting, CanTake, heard, left, SameSender, SameReceiver, AreEndsNamed, HavePassed, TakesNext, WasDry};
 
 use crate::fault::LaneFault;
 use crate::name::{Tag, make_tag};
@@ -61,7 +61,7 @@ pub(crate) fn lane_from<A: Allocator + Clone + Drop>(
     requires { (tag_name head ≡ tag_name tag) × (head.from ≡ tag.from) }
     ensures lane { IfOk result (λ r. sender_lane r.0 ≡ receiver_lane r.1) }
     ensures name { IfOk result (λ r. AreEndsNamed (Some (tag_name tag)) r.0 r.1) }
-    ensures start { IfOk result (λ r. (sent r.0 ≡ tag.from) × (flushed r.0 ≡ tag.from) × (taken r.1 ≡ tag.from) × (known r.1 ≡ tag.from)) }
+    ensures start { IfOk result (λ r. (sent r.0 ≡ tag.from) × (flushed r.0 ≡ tag.from) × (received r.1 ≡ tag.from) × (heard r.1 ≡ tag.from)) }
     ensures dry { IfOk result (λ r. vec_len r.1.current ≡ 0) }
 {
     let left = Vec::new(alloc.clone()?);
@@ -251,7 +251,7 @@ fn fill<A: Allocator + Drop>(current: &mut Vec<Carried, A>, segment: Segment<A>)
 impl<A: Allocator + Drop> Receiver<A> {
     /// Whether there is a token for the next `take`. `false` comes only as `None` does there. It takes no memory.
     pub fn ready(&mut self) -> bool
-        ensures same { SameReceiver self.old self.new × (taken self.new ≡ taken self.old) × (known self.new ≡ known self.old) }
+        ensures same { SameReceiver self.old self.new × (received self.new ≡ received self.old) × (heard self.new ≡ heard self.old) }
         ensures ready { result ≡ true → CanTake self.new }
         ensures still { CanTake self.old → result ≡ true }
         ensures dry { result ≡ false → WasDry self.old self.new }
@@ -264,9 +264,9 @@ impl<A: Allocator + Drop> Receiver<A> {
     /// steals that each met another step: then 64 segments have left the deque that this end didn't know to have left
     /// it. It takes no memory.
     pub fn take(&mut self) -> Option<Token>
-        ensures same { SameReceiver self.old self.new × (known self.new ≡ known self.old) }
+        ensures same { SameReceiver self.old self.new × (heard self.new ≡ heard self.old) }
         ensures ready { CanTake self.old → IsSome result }
-        ensures rule { MatchOption result ((taken self.new ≡ taken self.old) × WasDry self.old self.new) (TakesNext self.old self.new) }
+        ensures rule { MatchOption result ((received self.new ≡ received self.old) × WasDry self.old self.new) (TakesNext self.old self.new) }
     {
         if !self.ready() {
             return None;
@@ -279,7 +279,7 @@ impl<A: Allocator + Drop> Receiver<A> {
 
     /// How many tokens were taken so far: the place of the next one.
     pub fn taken(&self) -> u64
-        ensures { result ≡ taken self.now }
+        ensures { result ≡ received self.now }
     {
         self.from + self.used as u64
     }
@@ -287,7 +287,7 @@ impl<A: Allocator + Drop> Receiver<A> {
     // Steals the next segment, where the open one is used up.
     fn refill(&mut self) -> bool
         requires { waiting self.old ≡ 0 }
-        ensures same { SameReceiver self.old self.new × (taken self.new ≡ taken self.old) × (known self.new ≡ known self.old) }
+        ensures same { SameReceiver self.old self.new × (received self.new ≡ received self.old) × (heard self.new ≡ heard self.old) }
         ensures ready { result ≡ true → CanTake self.new }
         ensures dry { result ≡ false → WasDry self.old self.new }
     {
@@ -312,12 +312,12 @@ impl<A: Allocator + Drop> Receiver<A> {
 pub fn meet<A: Allocator>(sender: &mut Sender<A>, receiver: &mut Receiver<A>) -> u64
     requires { sender_lane sender.old ≡ receiver_lane receiver.old }
     ensures sender { SameSender sender.old sender.new × (sent sender.new ≡ sent sender.old) × (flushed sender.new ≡ flushed sender.old) }
-    ensures receiver { SameReceiver receiver.old receiver.new × (taken receiver.new ≡ taken receiver.old) }
+    ensures receiver { SameReceiver receiver.old receiver.new × (received receiver.new ≡ received receiver.old) }
     ensures ready { CanTake receiver.old → CanTake receiver.new }
-    ensures rule { taken receiver.old + result ≡ flushed sender.old }
+    ensures rule { received receiver.old + result ≡ flushed sender.old }
     // What waits at hand is of these.
     ensures held { waiting receiver.old ≤ result }
-    ensures known { known receiver.new ≡ flushed sender.old }
+    ensures known { heard receiver.new ≡ flushed sender.old }
 {
     let bare = sender.worker.another::<Bare>();
     let pass = mem::replace(&mut receiver.pass, bare);

@@ -1,7 +1,7 @@
 //! Tokens on their way to a lane for an input that has grown.
 
 ghost use Rattle.std.specs.Prelude.{◌≡◌, Some};
-ghost use Rattle.kahn_lane.specs.Places.{Placed, Placed-prop, lane_name-prop, moved_to, tag_name};
+ghost use Rattle.kahn_lane.specs.Places.{StandFrom, Placed-prop, lane_name-prop, moved_to, tag_name};
 
 use crate::name::Tag;
 use kahn_streams::Carried;
@@ -17,5 +17,5 @@ pub(crate) struct Lifted<A: Allocator = Global> {
     pub(crate) first: u64,
     pub(crate) tokens: Vec<Carried, A>,
     ghost moved: { tag_name to ≡ moved_to to.input.value (tag_name from) } by { lane_name-prop (tag_name to) (moved_to to.input.value (tag_name from)) },
-    ghost placed: { Placed (Some (tag_name to)) first tokens.items } by { Placed-prop (Some (tag_name to)) first tokens.items },
+    ghost placed: { StandFrom (Some (tag_name to)) first tokens.items } by { Placed-prop (Some (tag_name to)) first tokens.items },
 }

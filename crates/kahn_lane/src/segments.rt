@@ -12,7 +12,7 @@
 
 ghost use Rattle.std.specs.Prelude.{◌≡◌, ◌+◌, ◌≤◌, ◌^◌, is_some, true, false, Some, vec_len, vec_capacity};
 ghost use Rattle.crossbeam_deque.specs.Handles.{view, worker_view, worker_flavor, stealer_deque, stealer_flavor};
-ghost use Rattle.kahn_lane.specs.Places.{IsOn, IsOn-prop, Placed, Placed-prop, tag_name, name-prop, stage-prop};
+ghost use Rattle.kahn_lane.specs.Places.{IsOn, IsOn-prop, StandFrom, Placed-prop, tag_name, name-prop, stage-prop};
 ghost use Rattle.kahn_lane.specs.declared.segments.Stage.TheVariants.{Running};
 
 use crate::name::{LaneName, Tag};
@@ -56,14 +56,14 @@ pub struct Mark {
 pub struct InPlaces;
 
 impl<A: Allocator> Protocol<Segment<A>, Mark> for InPlaces {
-    ghost use Rattle.kahn_lane.specs.Places.{opening, spent};
+    ghost use Rattle.kahn_lane.specs.Places.{opening_mark, spent_mark};
     ghost use Rattle.kahn_lane.specs.inner.LaneRule.{Laned};
 
     ghost holds = { Laned };
 
-    ghost first = { opening };
+    ghost first = { opening_mark };
 
-    ghost guest = { spent };
+    ghost guest = { spent_mark };
 }
 
 /// The first segment tells what the tokens are of.
@@ -91,38 +91,38 @@ impl<A: Allocator> Outcome<Segment<A>, Mark> for Starting {
 pub struct Sides;
 
 impl Split<Mark> for Sides {
-    ghost use Rattle.kahn_lane.specs.Places.{writing, reading};
+    ghost use Rattle.kahn_lane.specs.Places.{writing_mark, reading};
 
-    ghost left = { λ v. writing v.writes_on v.flushed };
+    ghost left = { λ v. writing_mark v.writes_on v.flushed };
 
     ghost right = { λ v. reading v.reads_on v.stolen v.flushed };
 }
 
 impl Join<Mark> for Sides {
-    ghost use Rattle.kahn_lane.specs.Places.{both, spent};
+    ghost use Rattle.kahn_lane.specs.Places.{both, spent_mark};
 
     ghost both = { λ v w. both v.writes_on w.reads_on v.flushed w.stolen w.known };
 
-    ghost spent = { spent };
+    ghost spent = { spent_mark };
 }
 
 /// A pass without rights comes, or goes.
 pub struct Bare;
 
 impl Split<Mark> for Bare {
-    ghost use Rattle.kahn_lane.specs.Places.{spent};
+    ghost use Rattle.kahn_lane.specs.Places.{spent_mark};
 
     ghost left = { λ v. v };
 
-    ghost right = { λ _. spent };
+    ghost right = { λ _. spent_mark };
 }
 
 impl Join<Mark> for Bare {
-    ghost use Rattle.kahn_lane.specs.Places.{spent};
+    ghost use Rattle.kahn_lane.specs.Places.{spent_mark};
 
     ghost both = { λ v _. v };
 
-    ghost spent = { spent };
+    ghost spent = { spent_mark };
 }
 
 /// A segment is flushed.
@@ -185,7 +185,7 @@ pub struct Sender<A: Allocator = Global> {
     ghost writes: { (worker_view worker).writes ≡ true },
     ghost named: { (worker_view worker).writes_on ≡ Some (tag_name tag) } by { name-prop (worker_view worker).writes_on (Some (tag_name tag)) },
     ghost counted: { (worker_view worker).flushed ≡ flushed },
-    ghost placed: { Placed (worker_view worker).writes_on flushed current.items } by { Placed-prop (worker_view worker).writes_on flushed current.items },
+    ghost placed: { StandFrom (worker_view worker).writes_on flushed current.items } by { Placed-prop (worker_view worker).writes_on flushed current.items },
     ghost short: { vec_len current ≤ 64 },
     ghost limited: { flushed + vec_len current ≤ 2 ^ 48 },
 }
@@ -209,7 +209,7 @@ pub struct Receiver<A: Allocator = Global> {
     ghost reads: { (view pass).reads ≡ true },
     ghost on: { IsOn line (view pass).reads_on } by { IsOn-prop line (view pass).reads_on },
     ghost counted: { (view pass).stolen ≡ from + vec_len current },
-    ghost placed: { Placed (view pass).reads_on from current.items } by { Placed-prop (view pass).reads_on from current.items },
+    ghost placed: { StandFrom (view pass).reads_on from current.items } by { Placed-prop (view pass).reads_on from current.items },
     ghost within: { used ≤ vec_len current },
     ghost roomy: { 1 ≤ vec_capacity current },
     ghost limited: { from + vec_len current ≤ 2 ^ 48 },

@@ -6,8 +6,8 @@
 
 ghost use Rattle.std.specs.Prelude.{◌≡◌, ◌+◌, ◌-◌, ◌≤◌, ◌<◌, [], Some, IfOk, IfErr, ℕ, length, vec_len, vec_capacity};
 ghost use Rattle.crossbeam_deque.specs.Handles.{worker_view, worker_flavor};
-ghost use Rattle.kahn_lane.specs.Places.{Placed, moved_to, tag_name, token_name};
-ghost use Rattle.kahn_lane.specs.LaneEnds.{sender_lane, receiver_lane, sender_name, receiver_name, flushed, sent, taken, waiting, CanTake, known, AreEndsNamed, HavePassed};
+ghost use Rattle.kahn_lane.specs.Places.{StandFrom, moved_to, tag_name, token_name};
+ghost use Rattle.kahn_lane.specs.LaneEnds.{sender_lane, receiver_lane, sender_name, receiver_name, flushed, sent, received, waiting, CanTake, heard, AreEndsNamed, HavePassed};
 ghost use Rattle.kahn_lane.specs.inner.LaneRule.{size, tokens_of};
 ghost use Rattle.kahn_lane.specs.inner.Settles.{HasBothRights, HasStolen, IsGrown, LiftsTo, SameLifted};
 ghost use Rattle.kahn_lane.specs.declared.name.LaneName.{LaneName};
@@ -38,7 +38,7 @@ impl<A: Allocator + Drop> Lifted<A> {
     // Lifts the next tokens, all but the first of these, which were taken.
     fn put_all(&mut self, input: &Input, tokens: &[Carried], used: usize)
         requires room { vec_len self.old.tokens + (length tokens.now - used) ≤ vec_capacity self.old.tokens }
-        requires next { (n : ℕ) × Placed (Some (tag_name self.old.from)) n tokens.now × (n + used ≡ self.old.first + vec_len self.old.tokens) }
+        requires next { (n : ℕ) × StandFrom (Some (tag_name self.old.from)) n tokens.now × (n + used ≡ self.old.first + vec_len self.old.tokens) }
         requires used { used ≤ length tokens.now }
         requires input { LiftsTo self.old input.now }
         ensures same { SameLifted self.old self.new }
@@ -66,7 +66,7 @@ impl<A: Allocator + Drop> Lifted<A> {
     // Lifts the tokens of a segment.
     fn put_segment(&mut self, input: &Input, segment: &Segment<A>)
         requires room { vec_len self.old.tokens + size segment.now ≤ vec_capacity self.old.tokens }
-        requires next { Placed (Some (tag_name self.old.from)) (self.old.first + vec_len self.old.tokens) (tokens_of segment.now) }
+        requires next { StandFrom (Some (tag_name self.old.from)) (self.old.first + vec_len self.old.tokens) (tokens_of segment.now) }
         requires input { LiftsTo self.old input.now }
         ensures same { SameLifted self.old self.new }
         ensures more { vec_len self.new.tokens ≡ vec_len self.old.tokens + size segment.now }
@@ -97,7 +97,7 @@ fn prepare<A: Allocator + Clone + Drop>(
     ensures name { IfOk result (λ p. AreEndsNamed (Some (moved_to input.now (tag_name sender.now.tag))) p.sender p.receiver) }
     ensures start { IfOk result (λ p. HavePassed (sent sender.now) p.sender p.receiver) }
     ensures dry { IfOk result (λ p. vec_len p.receiver.current ≡ 0) }
-    ensures room { IfOk result (λ p. (p.tokens.items ≡ []) × (1 ≤ vec_capacity p.tokens) × (sent sender.now ≤ taken receiver.now + vec_capacity p.tokens)) }
+    ensures room { IfOk result (λ p. (p.tokens.items ≡ []) × (1 ≤ vec_capacity p.tokens) × (sent sender.now ≤ received receiver.now + vec_capacity p.tokens)) }
 {
     let end = sender.sent();
     let count = end.saturating_sub(receiver.taken()) as usize;
@@ -121,9 +121,9 @@ fn gather<A: Allocator + Clone + Drop>(
 ) -> Vec<Carried, A>
     requires lane { sender_lane sender ≡ receiver_lane receiver }
     requires grown { IsGrown (tag_name sender.tag) input.now }
-    requires room { (tokens.items ≡ []) × (sent sender ≤ taken receiver + vec_capacity tokens) }
-    ensures placed { Placed (Some (moved_to input.now (tag_name sender.tag))) (taken receiver) result.items }
-    ensures all { taken receiver + vec_len result ≡ sent sender }
+    requires room { (tokens.items ≡ []) × (sent sender ≤ received receiver + vec_capacity tokens) }
+    ensures placed { StandFrom (Some (moved_to input.now (tag_name sender.tag))) (received receiver) result.items }
+    ensures all { received receiver + vec_len result ≡ sent sender }
     ensures room { vec_capacity result ≡ vec_capacity tokens }
 {
     let Sender {
@@ -162,11 +162,11 @@ fn with_tokens<A: Allocator + Drop>(
     from: u64,
 ) -> Receiver<A>
     requires dry { vec_len receiver.current ≡ 0 }
-    requires all { from + vec_len tokens ≡ taken receiver }
-    requires placed { Placed (receiver_name receiver) from tokens.items }
+    requires all { from + vec_len tokens ≡ received receiver }
+    requires placed { StandFrom (receiver_name receiver) from tokens.items }
     requires room { 1 ≤ vec_capacity tokens }
-    ensures same { (receiver_lane result ≡ receiver_lane receiver) × (receiver_name result ≡ receiver_name receiver) × (known result ≡ known receiver) }
-    ensures tokens { (taken result ≡ from) × (waiting result ≡ vec_len tokens) }
+    ensures same { (receiver_lane result ≡ receiver_lane receiver) × (receiver_name result ≡ receiver_name receiver) × (heard result ≡ heard receiver) }
+    ensures tokens { (received result ≡ from) × (waiting result ≡ vec_len tokens) }
 {
     let Receiver {
         stealer,
@@ -198,8 +198,8 @@ pub fn settle<A: Allocator + Clone + Drop>(
     requires grown { (n : LaneName) × (sender_name sender ≡ Some n) × IsGrown n input.now }
     ensures lane { IfOk result (λ r. sender_lane r.0 ≡ receiver_lane r.1) }
     ensures name { IfOk result (λ r. (n : LaneName) → sender_name sender ≡ Some n → AreEndsNamed (Some (moved_to input.now n)) r.0 r.1) }
-    ensures counts { IfOk result (λ r. (sent r.0 ≡ sent sender) × (flushed r.0 ≡ sent sender) × (taken r.1 ≡ taken receiver) × (known r.1 ≡ sent sender)) }
-    ensures ready { IfOk result (λ r. taken receiver < sent sender → CanTake r.1) }
+    ensures counts { IfOk result (λ r. (sent r.0 ≡ sent sender) × (flushed r.0 ≡ sent sender) × (received r.1 ≡ received receiver) × (heard r.1 ≡ sent sender)) }
+    ensures ready { IfOk result (λ r. received receiver < sent sender → CanTake r.1) }
     ensures refused { IfErr result (λ e. (e.1 ≡ sender) × (e.2 ≡ receiver)) }
 {
     let Ok(

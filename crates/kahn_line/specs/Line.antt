@@ -47,17 +47,17 @@ number_or other None = other
 number_or other (Some text) = digits_value 10 (without_leading_plus text)
 
 -- the number that the words give for a name
-abbrev pub number_of : List Text → Text → ℕ → ℕ
-number_of words name other = number_or other (one_of name (matches_of kahn_app words))
+abbrev pub number_for : List Text → Text → ℕ → ℕ
+number_for words name other = number_or other (one_of name (matches_of kahn_app words))
 
 -- the options are those that the words name, and its numbers are within their limits
 pub record IsAsked (words : List Text) (o : Options) : Type 0 where
   pub program : option_map string_bytes o.program ≡ text_of words (codes "PROGRAM")
   pub input : option_map string_bytes o.input ≡ text_of words (codes "input")
   pub watch : option_map string_bytes o.config.watch ≡ text_of words (codes "watch")
-  pub workers : o.config.workers ≡ number_of words (codes "workers") 4
-  pub quantum : o.config.quantum ≡ number_of words (codes "quantum") 1000
-  pub bound : o.config.bound ≡ number_of words (codes "bound") 1000000
+  pub workers : o.config.workers ≡ number_for words (codes "workers") 4
+  pub quantum : o.config.quantum ≡ number_for words (codes "quantum") 1000
+  pub bound : o.config.bound ≡ number_for words (codes "bound") 1000000
   pub in_range : IsInRange o.config.workers o.config.quantum o.config.bound
 
 -- the number that a text is read as, where it is one of 64 bits; `other` where there is no text

@@ -2,7 +2,7 @@
 use Rattle.std.specs.Prelude.{◌≡◌, ◌≢◌, ◌⊎◌, ◌==◌, ◌&&◌, ℕ, Bool, true, false, ◌+◌, ◌<◌, ⊤, List, [], ◌∷◌, ◌++◌, length, take, drop, All, Option, None, Some, if◌then◌else◌}
 use Rattle.std.specs.Io.KnownBytes.{IsAtEnd}
 use Rattle.std.specs.Cmp.Lexicographic.{pointwise}
-use Rattle.kahn_report.specs.Entries.{most_bytes}
+use Rattle.kahn_report.specs.Entries.{most_input_bytes}
 use Rattle.kahn_live.specs.declared.lines.Next.{Next}
 use Rattle.kahn_live.specs.declared.lines.Next.TheVariants.{Line, End, Failed, NoMemory}
 use Rattle.kahn_live.specs.declared.outlet.Outlet.{Outlet}
@@ -37,7 +37,7 @@ fed_text (Some name) line = name.now ++ (58 ∷ line)
 
 -- how many bytes of a line are kept: more than are within its limit, behind a byte order mark too
 abbrev pub most_kept : ℕ
-most_kept = 4 + most_bytes
+most_kept = 4 + most_input_bytes
 
 -- what the reading of a line gives: the line, of which no more is kept than decides whether it is too long
 abbrev pub IsNextLine : Option (List ℕ) → Option (List ℕ) → List ℕ → Next → Type 0

@@ -24,7 +24,7 @@ use Rattle.kahn_pool.specs.declared.answer.Verdict.TheVariants.{Finished, Bound,
 use Rattle.kahn_pool.specs.declared.answer.Outcome.{Outcome}
 use Rattle.kahn_pool.specs.declared.answer.Outcome.TheVariants.{Ended, Waits, Faulted, More}
 use Rattle.kahn_pool.specs.Right.{AreRight, IsRight, IsOutcome, IsWaiting, IsDryOn, IsEnd, HasStream, values_of}
-use Rattle.kahn_pool.specs.inner.Gathered.{IsGathered, IsStopped, Stood, nothing, view_at, EndsWith, IsFrom, IsGiven, IsOutcomeOf, tapes_from}
+use Rattle.kahn_pool.specs.inner.Gathered.{IsGathered, IsStopped, Stood, no_view, view_at, EndsWith, IsFrom, IsGiven, IsOutcomeOf, tapes_from}
 use Rattle.kahn_code.proofs.Lists.{stand_in}
 use Rattle.kahn_pool.proofs.Lists.{prefix_stands, both_stand, all_of_it, more_of_it, map_get}
 use Rattle.kahn_pool.proofs.Events.{same_sends, same_outcome, next_event, Moves}
@@ -43,7 +43,7 @@ module _ (N : Network) (I : Inputs) (bound : ℕ) (watch : Option ℕ) (said : V
   idle_at (i ∷ is) zero le = absurd (not-suc-le-zero le)
   idle_at (i ∷ is) (suc p) le = idle_at is p (omega (arith, le))
 
-  nothing_at : (cs : List View) (p : ℕ) → length cs ≤ p → slice_index_or cs p nothing ≡ nothing
+  nothing_at : (cs : List View) (p : ℕ) → length cs ≤ p → slice_index_or cs p no_view ≡ no_view
   nothing_at [] p le = refl
   nothing_at (c ∷ cs) zero le = absurd (not-suc-le-zero le)
   nothing_at (c ∷ cs) (suc p) le = nothing_at cs p (omega (arith, le))
@@ -59,7 +59,7 @@ module _ (N : Network) (I : Inputs) (bound : ℕ) (watch : Option ℕ) (said : V
   abbrev Rests : ℕ → Type 0
   Rests p = (x : End) × EndsWith N I watch g.cells p x
 
-  idle_stood : (p : ℕ) (c : View) → c ≡ nothing → instance_at N p ≡ idle → Stood N I watch p c
+  idle_stood : (p : ℕ) (c : View) → c ≡ no_view → instance_at N p ≡ idle → Stood N I watch p c
   idle_stood p c v i =
       record {
         tapes = λ c. [];
@@ -89,7 +89,7 @@ module _ (N : Network) (I : Inputs) (bound : ℕ) (watch : Option ℕ) (said : V
       let n : length ends ≡ length N.instances = g.instances in
       let m : length g.cells ≡ length N.instances = g.known in
       let i : instance_at N p ≡ idle = idle_at N.instances p (omega (arith, l, n)) in
-      let v : view_at g.cells p ≡ nothing = nothing_at g.cells p (omega (arith, l, n, m)) in (
+      let v : view_at g.cells p ≡ no_view = nothing_at g.cells p (omega (arith, l, n, m)) in (
         record { outcome = Ended; events = 0 },
         record {
           stood = idle_stood p (view_at g.cells p) v i;

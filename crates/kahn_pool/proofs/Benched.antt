@@ -11,17 +11,17 @@ use Rattle.kahn_streams.specs.declared.value.Line.TheVariants.{Channel}
 use Rattle.kahn_streams.specs.Solution.{Inputs, source}
 use Rattle.kahn_streams.specs.Tokens.{inputs_of}
 use Rattle.kahn_code.specs.Cells.{View, exec_on, is_output}
-use Rattle.kahn_code.specs.Lines.{Lines as Queues, AreQueued, Joins, queue_of, route_of, actual_of, place_at, next_at, taken_of, given_of, waiting_of}
+use Rattle.kahn_code.specs.Lines.{Lines as Queues, AreQueued, Joins, queue_of, route_of, actual_here, place_at, next_at, taken_of, given_of, waiting_of}
 use Rattle.kahn_code.specs.Queues.{Waiting}
 use Rattle.kahn_code.specs.Seats.{Seat, LeavesOthers}
 use Rattle.kahn_code.specs.Standing.{count}
 use Rattle.kahn_code.specs.Told.{Told, told_view, seat_of, IsAt, IsStill}
 use Rattle.kahn_code.proofs.Queued.{set_each, set_here}
 use Rattle.kahn_code.proofs.Readers.{joins_within, reads_once}
-use Rattle.kahn_pool.specs.inner.Gathered.{IsGiven, TookNoMore, TookAll, view_at, nothing}
+use Rattle.kahn_pool.specs.inner.Gathered.{IsGiven, TookNoMore, TookAll, view_at, no_view}
 use Rattle.kahn_pool.specs.inner.Bench.{RunState}
 use Rattle.kahn_streams.specs.declared.value.Value.{Value}
-use Rattle.kahn_pool.specs.inner.Workbench.{Table, IsLaid, IsSeated, state_of}
+use Rattle.kahn_pool.specs.inner.Workbench.{Table, IsLaid, IsSeated, sight_of}
 use Rattle.kahn_pool.specs.inner.Bench.{PausedAt, events_at}
 use Rattle.kahn_code.specs.declared.progress.Pause.{Pause}
 use Rattle.kahn_code.specs.declared.progress.Pause.TheVariants as pause
@@ -56,7 +56,7 @@ module _ (b : Table) (laid : IsLaid b) where
       (g.0, g.1, laid.each p g.0 g.1)
 
   pub viewed : (p : ℕ) (c : Told) → slice_get b.cells p ≡ Some c → view_at views p ≡ told_view c
-  viewed p c e = mapped told_view b.cells p c nothing e
+  viewed p c e = mapped told_view b.cells p c no_view e
 
   actual_same : (p q : ℕ) (c : Told) → IsSeated b p c → actual_at (instance_at (network_of c.network) c.instance) q ≡ actual_at (instance_at N p) q
   actual_same p q c s =
@@ -194,18 +194,18 @@ view_same : (c c' : Told) → c'.events ≡ c.events → IsStill c c' → told_v
 view_same c c' e s = cc
 
 pub views_after : (b : Table) (p : ℕ) (c c' : Told) (q : Queues) → slice_get b.cells p ≡ Some c →
-    (state_of (ran b p c' q)).cells ≡ slice_set (state_of b).cells p (view_at (state_of (ran b p c' q)).cells p)
+    (sight_of (ran b p c' q)).cells ≡ slice_set (sight_of b).cells p (view_at (sight_of (ran b p c' q)).cells p)
 views_after b p c c' q at =
     map-set told_view b.cells p c' ∙
     ap (slice_set (map told_view b.cells) p)
-    (sym (mapped told_view (slice_set b.cells p c') p c' nothing (set_here b.cells p c' (within_get b.cells p c at))))
+    (sym (mapped told_view (slice_set b.cells p c') p c' no_view (set_here b.cells p c' (within_get b.cells p c at))))
 
 pub view_after : (b : Table) (p : ℕ) (c c' : Told) (q : Queues) → slice_get b.cells p ≡ Some c →
-    view_at (state_of (ran b p c' q)).cells p ≡ told_view c'
-view_after b p c c' q at = mapped told_view (slice_set b.cells p c') p c' nothing (set_here b.cells p c' (within_get b.cells p c at))
+    view_at (sight_of (ran b p c' q)).cells p ≡ told_view c'
+view_after b p c c' q at = mapped told_view (slice_set b.cells p c') p c' no_view (set_here b.cells p c' (within_get b.cells p c at))
 
 pub still_after : (b : Table) (p : ℕ) (c c' : Told) (q : Queues) → slice_get b.cells p ≡ Some c → c'.events ≡ c.events → IsStill c c' →
-    state_of (ran b p c' q) ≡ state_of b
+    sight_of (ran b p c' q) ≡ sight_of b
 still_after b p c c' q at e s =
     ap (λ l. let r : RunState = record { network = network_of b.network; input = inputs_of b.input; watch = b.watch; cells = l } in r)
     (map-set_same told_view b.cells p c' c (view_same c c' e s ∙ ap told_view (sym (get_or_from_slice_get b.cells p c c at))))
@@ -245,18 +245,18 @@ module _ {b : Table} (laid : IsLaid b) (p : ℕ) {c : Told} (at : slice_get b.ce
       ap (λ t. let s : Seat = record { network = c.network; input = t; instance = p } in s) (laid.input ∙ sym seated.input) ∙
       ap (λ t. let s : Seat = record { network = c.network; input = c.input; instance = t } in s) (sym seated.instance)
 
-  pub at_is : (q : Queues) → q ≡ lent → IsAt c (λ r. next_at q.queues (actual_of q r))
-  at_is q is = subst (λ (x : Queues). IsAt c (λ r. next_at x.queues (actual_of x r))) (sym is) seated.at
+  pub at_is : (q : Queues) → q ≡ lent → IsAt c (λ r. next_at q.queues (actual_here q r))
+  at_is q is = subst (λ (x : Queues). IsAt c (λ r. next_at x.queues (actual_here x r))) (sym is) seated.at
 
   module _ (c' : Told) (q q' : Queues) (is : q ≡ lent) (same : IsSame c c') (seat : ports_of q' ≡ seat_of c')
-      (stands : IsAt c' (λ r. next_at q'.queues (actual_of q' r))) (leaves : LeavesOthers (ports_of q) (place_at q) (place_at q')) where
+      (stands : IsAt c' (λ r. next_at q'.queues (actual_here q' r))) (leaves : LeavesOthers (ports_of q) (place_at q) (place_at q')) where
     pub laid_now : IsLaid (ran b p c' q')
     laid_now = laid_after b laid p c c' q' at same seat stands (subst (λ (x : Queues). LeavesOthers (ports_of x) (place_at x) (place_at q')) is leaves)
 
     mine : IsSeated (ran b p c' q') p c'
     mine = laid_now.each p c' (set_here b.cells p c' (within_get b.cells p c at))
 
-    own_actual : (r : ℕ) → actual_of q' r ≡ actual_at (instance_at (network_of b.network) p) r
+    own_actual : (r : ℕ) → actual_here q' r ≡ actual_at (instance_at (network_of b.network) p) r
     own_actual r =
         ap (λ (s : Seat). actual_at (instance_at (network_of s.network) s.instance) r) seat ∙
         ap (λ t. actual_at (instance_at (network_of t) c'.instance) r) mine.network ∙
@@ -265,17 +265,17 @@ module _ {b : Table} (laid : IsLaid b) (p : ℕ) {c : Told} (at : slice_get b.ce
     module _ (counted : AreQueued q') (quantum : ℕ) (z : Pause)
         (paused : code.Paused (network_of c'.network) (inputs_of c'.input) c'.watch c'.instance (told_view c')
         (IsPause (network_of c'.network) c'.instance
-        (λ r. waiting_of (queue_of q'.queues (actual_of q' r)) ≡ 0)
-        (λ r. 0 < waiting_of (queue_of q'.queues (actual_of q' r)))
+        (λ r. waiting_of (queue_of q'.queues (actual_here q' r)) ≡ 0)
+        (λ r. 0 < waiting_of (queue_of q'.queues (actual_here q' r)))
         (c'.events ≡ c.events + quantum) z)) where
       abbrev now : RunState
-      now = state_of (ran b p c' q')
+      now = sight_of (ran b p c' q')
 
       abbrev dry : ℕ → Type 0
-      dry r = waiting_of (queue_of q'.queues (actual_of q' r)) ≡ 0
+      dry r = waiting_of (queue_of q'.queues (actual_here q' r)) ≡ 0
 
       abbrev ready : ℕ → Type 0
-      ready r = 0 < waiting_of (queue_of q'.queues (actual_of q' r))
+      ready r = 0 < waiting_of (queue_of q'.queues (actual_here q' r))
 
       paused_here : code.Paused (network_of b.network) (inputs_of b.input) b.watch p (told_view c')
           (IsPause (network_of b.network) p dry ready (c'.events ≡ c.events + quantum) z)
@@ -294,14 +294,14 @@ module _ {b : Table} (laid : IsLaid b) (p : ℕ) {c : Told} (at : slice_get b.ce
           (told_view c') z (view_after b p c c' q' at)
           (λ r s d e f. (reads_once b.network laid.wired p r p s d e f).1) paused_here
 
-    before : (view_at (state_of b).cells p).events ≡ c.events
+    before : (view_at (sight_of b).cells p).events ≡ c.events
     before = ap (λ v. v.events) (viewed b laid p c at)
 
-    after : (view_at (state_of (ran b p c' q')).cells p).events ≡ c'.events
+    after : (view_at (sight_of (ran b p c' q')).cells p).events ≡ c'.events
     after = ap (λ v. v.events) (view_after b p c c' q' at)
 
     pub events_now : (quantum : ℕ) → (c.events ≤ c'.events) × (c'.events ≤ c.events + quantum) →
-        (events_at (state_of b) p ≤ events_at (state_of (ran b p c' q')) p) × (events_at (state_of (ran b p c' q')) p ≤ events_at (state_of b) p + quantum)
+        (events_at (sight_of b) p ≤ events_at (sight_of (ran b p c' q')) p) × (events_at (sight_of (ran b p c' q')) p ≤ events_at (sight_of b) p + quantum)
     events_now quantum h =
         let x = before in
         let y = after in
@@ -309,13 +309,13 @@ module _ {b : Table} (laid : IsLaid b) (p : ℕ) {c : Told} (at : slice_get b.ce
         let m = h.1 in
         (omega (arith, x, y, l), omega (arith, x, y, m))
 
-    pub still_now : (c'.events ≡ c.events → IsStill c c') → events_at (state_of (ran b p c' q')) p ≡ events_at (state_of b) p →
-        state_of (ran b p c' q') ≡ state_of b
+    pub still_now : (c'.events ≡ c.events → IsStill c c') → events_at (sight_of (ran b p c' q')) p ≡ events_at (sight_of b) p →
+        sight_of (ran b p c' q') ≡ sight_of b
     still_now h e = let s = sym after ∙ e ∙ before in still_after b p c c' q' at s (h s)
 
     pub spent_now : (quantum : ℕ) (dry ready : ℕ → Type 0) (z : Pause) →
         code.Paused (network_of c'.network) (inputs_of c'.input) c'.watch c'.instance (told_view c') (IsPause (network_of c'.network) c'.instance dry ready (c'.events ≡ c.events + quantum) z) →
-        z ≡ pause.Spent → events_at (state_of (ran b p c' q')) p ≡ events_at (state_of b) p + quantum
+        z ≡ pause.Spent → events_at (sight_of (ran b p c' q')) p ≡ events_at (sight_of b) p + quantum
     spent_now quantum dry ready z h e =
         let s = (subst (λ z. IsPause (network_of c'.network) c'.instance dry ready (c'.events ≡ c.events + quantum) z (exec_on (network_of c'.network) c'.events c'.instance h.stood.tapes).outcome) e h.is).0 in
         let x = before in
@@ -324,7 +324,7 @@ module _ {b : Table} (laid : IsLaid b) (p : ℕ) {c : Told} (at : slice_get b.ce
 
     pub wanted_now : (quantum : ℕ) (dry ready : ℕ → Type 0) (z : Pause) →
         code.Paused (network_of c'.network) (inputs_of c'.input) c'.watch c'.instance (told_view c') (IsPause (network_of c'.network) c'.instance dry ready (c'.events ≡ c.events + quantum) z) →
-        c'.events ≤ c.events + quantum → z ≡ pause.NoMemory → events_at (state_of (ran b p c' q')) p < events_at (state_of b) p + quantum
+        c'.events ≤ c.events + quantum → z ≡ pause.NoMemory → events_at (sight_of (ran b p c' q')) p < events_at (sight_of b) p + quantum
     wanted_now quantum dry ready z h most e =
         let s = (subst (λ z. IsPause (network_of c'.network) c'.instance dry ready (c'.events ≡ c.events + quantum) z (exec_on (network_of c'.network) c'.events c'.instance h.stood.tapes).outcome) e h.is).1 in
         let x = before in

@@ -13,7 +13,7 @@ use Rattle.kahn_code.proofs.Lists.{at_last}
 use Rattle.kahn_code.proofs.Readers.{joins_parameter}
 use Rattle.kahn_code.specs.Standing.{count}
 use Rattle.kahn_crew.specs.declared.standing.Standing.TheVariants as standing
-use Rattle.kahn_crew.specs.inner.Tasks.{Tasked, handed}
+use Rattle.kahn_crew.specs.inner.Tasks.{Tasked, handed_to_task}
 use Rattle.kahn_crew.specs.inner.Left.{AreAll}
 use Rattle.kahn_pool.specs.inner.Rested.{AreEndsOfTasks, AreTold, IsEndOf, IsToldAs}
 use Rattle.kahn_pool.specs.declared.answer.End.{End}
@@ -27,12 +27,12 @@ pub reader_side : (t : Program) (p q c : ℕ) → actual_at (instance_at (networ
 reader_side t p q c e = (handed_within (network_of t) p q c (subst (λ a. Joins a c) (sym e) refl), e)
 
 -- what is handed to a task of instance p
-pub handed_to : (t : Program) (p q : ℕ) (x : Tasked) → x.work.cell.network ≡ t → x.work.cell.instance ≡ p → handed x.work q ≡ actual_at (instance_at (network_of t) p) q
+pub handed_to : (t : Program) (p q : ℕ) (x : Tasked) → x.work.cell.network ≡ t → x.work.cell.instance ≡ p → handed_to_task x.work q ≡ actual_at (instance_at (network_of t) p) q
 handed_to t p q x n i =
     ap (λ k. actual_at (instance_at (network_of k) x.work.cell.instance) q) n ∙ ap (λ k. actual_at (instance_at (network_of t) k) q) i
 
 module _ (t : Program) (tasks : List Tasked) (h : AreTold t tasks) where
-  pub handed_as : (p q : ℕ) (x : Tasked) → slice_get tasks p ≡ Some x → handed x.work q ≡ actual_at (instance_at (network_of t) p) q
+  pub handed_as : (p q : ℕ) (x : Tasked) → slice_get tasks p ≡ Some x → handed_to_task x.work q ≡ actual_at (instance_at (network_of t) p) q
   handed_as p q x e = handed_to t p q x (h.network p x e) (h.instance p x e)
 
   pub sent_all : (lists : Lists) (c : ℕ) (w : Side) (x : Tasked) (n : ℕ) → IsWellWired t → IsOnly (IsWriter (network_of t) c) (Some w) → slice_get tasks w.instance ≡ Some x →

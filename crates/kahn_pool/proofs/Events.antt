@@ -3,7 +3,7 @@ use mathlib.Core.Path.{fun_ext}
 use Rattle.std.proofs.Common.{arith, ◌≡◌, ◌⊎◌, inl, inr, ℕ, suc, ◌+◌, List, [], ◌∷◌, ◌++◌, length, refl, sym, ap, ◌∙◌, subst, append-nil, le_refl}
 use Rattle.kahn_streams.specs.declared.value.Value.{Value}
 use Rattle.kahn_streams.specs.Script.{Tapes, Script, Give, Fail, Waits, Sends, Turns, Rest, Outcome, Got, Dry, Fault, Cut, Reached, wait_at, play}
-use Rattle.kahn_streams.specs.Steps.{Step, empty, taken, since, and_then, halted, RanBy}
+use Rattle.kahn_streams.specs.Steps.{Step, empty, values_taken, since, and_then, halted, RanBy}
 use Rattle.kahn_streams.specs.Meaning.{Store}
 use Rattle.kahn_network.specs.Network.{Network, Instance, instance_at}
 use Rattle.kahn_streams.specs.Solution.{Histories, opening, tapes_of, exec_at}
@@ -122,23 +122,23 @@ module _ (N : Network) (p e : ℕ) (T A : Histories) (x : IsExtended T A) (does 
   long : length ran_at.steps ≡ e
   long = sym ran_at.events ∙ (ap (λ r. r.events) same_play ∙ does)
 
-  same_tapes : tapes_of (instance_at N p) T ≡ taken ran_at.steps
+  same_tapes : tapes_of (instance_at N p) T ≡ values_taken ran_at.steps
   same_tapes =
       fun_ext (λ q.
       ran_at.tapes q ∙
-      (ap (λ l. taken ran_at.steps q ++ l) (ap (λ r. r.left q) same_play ∙ ap (λ t. t q) all) ∙
-      append-nil (taken ran_at.steps q)))
+      (ap (λ l. values_taken ran_at.steps q ++ l) (ap (λ r. r.left q) same_play ∙ ap (λ t. t q) all) ∙
+      append-nil (values_taken ran_at.steps q)))
 
   abbrev more : Tapes
   more q = (feeds (instance_at N p) T A x q).0
 
-  longer_tapes : tapes_of (instance_at N p) A ≡ and_more (taken ran_at.steps) more
+  longer_tapes : tapes_of (instance_at N p) A ≡ and_more (values_taken ran_at.steps) more
   longer_tapes = fun_ext (λ q. (feeds (instance_at N p) T A x q).1) ∙ ap (λ t. and_more t more) same_tapes
 
   one_more : exec_at N (suc e) p A ≡ since ran_at.steps (play 1 ran_at.to more)
   one_more =
       ap (play (suc e) s) longer_tapes ∙
-      (ap (λ n. play n s (and_more (taken ran_at.steps) more)) count ∙ play_on ran_at.follows 1 more)
+      (ap (λ n. play n s (and_more (values_taken ran_at.steps) more)) count ∙ play_on ran_at.follows 1 more)
     where
       count : suc e ≡ and_then ran_at.steps 1
       count = let a = and_then_suc ran_at.steps 1 in omega (arith, a, long)
@@ -146,7 +146,7 @@ module _ (N : Network) (p e : ℕ) (T A : Histories) (x : IsExtended T A) (does 
   halts : halted ran_at.to ≡ (exec_at N e p T).outcome
   halts =
       ap (λ r. r.outcome) (sym (play_taken ran_at.follows)) ∙
-      (ap (λ n. (play n s (taken ran_at.steps)).outcome) long ∙
+      (ap (λ n. (play n s (values_taken ran_at.steps)).outcome) long ∙
       (ap (λ t. (play e s t).outcome) (sym same_tapes) ∙ ap (λ r. r.outcome) same_play))
 
   counted : (play 1 ran_at.to more).events ≡ 1 → (exec_at N (suc e) p A).events ≡ suc e

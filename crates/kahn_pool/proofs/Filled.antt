@@ -13,16 +13,16 @@ use Rattle.kahn_code.specs.Cells.{AreKeptTokens}
 use Rattle.kahn_pool.specs.declared.answer.Stream.{Stream}
 use Rattle.kahn_pool.specs.inner.Bench.{RunState, AreStreams}
 use Rattle.kahn_pool.specs.inner.Gathered.{view_at, IsFrom}
-use Rattle.kahn_pool.specs.Right.{line_of, stream_lines}
+use Rattle.kahn_pool.specs.Right.{stream_line, stream_lines}
 use Rattle.kahn_pool.specs.inner.Streams.{AreNamed, IsDeclared, IsFilled, AreFilled, AreLists, KeepsOtherLines, HasInputs, kept_lists, kept_in, printed_list, printed_in}
 use Rattle.kahn_pool.proofs.Lists.{set_get, set_else}
 use Rattle.kahn_pool.proofs.Named.{HasLine, has_line, line_at, stream_before, declared, once}
 
 -- ---- lists of which one changed
 
-pub set_lines : (xs : List Stream) (n : ℕ) (x y : Stream) → slice_get xs n ≡ Some x → y.line ≡ x.line → map line_of (slice_set xs n y) ≡ map line_of xs
+pub set_lines : (xs : List Stream) (n : ℕ) (x y : Stream) → slice_get xs n ≡ Some x → y.line ≡ x.line → map stream_line (slice_set xs n y) ≡ map stream_line xs
 set_lines [] n x y e f = refl
-set_lines (z ∷ xs) zero x y e f = let g : x ≡ z = same e in ap (λ l. l ∷ map line_of xs) (f ∙ ap (λ s. s.line) g)
+set_lines (z ∷ xs) zero x y e f = let g : x ≡ z = same e in ap (λ l. l ∷ map stream_line xs) (f ∙ ap (λ s. s.line) g)
   where
     same : Some z ≡ Some x → x ≡ z
     same h = cc
@@ -121,7 +121,7 @@ module _ {A : Type 0} (N : Network) (ls : List (Kept A)) (p : ℕ) (l l' : Kept 
 
 pub record Filling {A : Type 0} (N : Network) (ls : List (Kept A)) (old : List Stream) (ks : List (Kept A)) (now : List Stream) (n : ℕ) : Type 0 where
   pub named : AreNamed N old
-  pub lines : map line_of now ≡ map line_of old
+  pub lines : map stream_line now ≡ map stream_line old
   pub lists : AreLists N ks
   pub done : (j : ℕ) (x y : Stream) → j < n → slice_get old j ≡ Some x → slice_get now j ≡ Some y → IsFilled N ls (source N y.line) y.line x.tokens.items y.tokens.items
   pub rest : (j : ℕ) → n ≤ j → slice_get now j ≡ slice_get old j
@@ -171,7 +171,7 @@ module _ {A : Type 0} (N : Network) (ls : List (Kept A)) (old : List Stream) (ks
 
 -- streams that are filled from the lists of these cells are those of the answer
 module _ {A : Type 0} (s : RunState) (ls : List (Kept A)) (old new : List Stream)
-    (named : map line_of old ≡ stream_lines s.network s.watch)
+    (named : map stream_line old ≡ stream_lines s.network s.watch)
     (filled : AreFilled s.network ls old new)
     (kept : (p q : ℕ) → kept_in ls p q ≡ (view_at s.cells p).kept q)
     (printed : (p : ℕ) → printed_in ls p ≡ (view_at s.cells p).printed)

@@ -10,19 +10,19 @@ use Rattle.kahn_pool.specs.declared.answer.Stream.{Stream}
 use Rattle.kahn_pool.specs.declared.answer.Outcome.TheVariants.{More}
 use Rattle.kahn_pool.specs.declared.answer.Verdict.{Verdict}
 use Rattle.kahn_pool.specs.declared.answer.Verdict.TheVariants.{Finished, Bound}
-use Rattle.kahn_pool.specs.Right.{events_of, line_of, stream_lines}
+use Rattle.kahn_pool.specs.Right.{end_events, stream_line, stream_lines}
 use Rattle.kahn_pool.specs.inner.Gathered.{view_at, TookNoMore, IsFrom, IsGathered, IsStopped}
 use Rattle.kahn_pool.specs.inner.Bench.{RunState, view_events, IsLast, IsVerdict, AreStreams}
 use Rattle.kahn_code.proofs.Lists.{at_last}
 
 same_sums : (cs : List View) (xs : List End) → length xs ≡ length cs →
-    ((p : ℕ) (x : End) → slice_get xs p ≡ Some x → x.events ≡ (view_at cs p).events) → sum_by events_of xs ≡ sum_by view_events cs
+    ((p : ℕ) (x : End) → slice_get xs p ≡ Some x → x.events ≡ (view_at cs p).events) → sum_by end_events xs ≡ sum_by view_events cs
 same_sums [] [] l h = refl
 same_sums [] (x ∷ xs) l h = absurd (omega (arith, l))
 same_sums (c ∷ cs) [] l h = absurd (omega (arith, l))
 same_sums (c ∷ cs) (x ∷ xs) l h =
-    let r : sum_by events_of xs ≡ sum_by view_events cs = same_sums cs xs (omega (arith, l)) (λ p. h (suc p)) in
-    let a : sum_by events_of (x ∷ xs) ≡ x.events + sum_by events_of xs = sum_by-cons events_of x xs in
+    let r : sum_by end_events xs ≡ sum_by view_events cs = same_sums cs xs (omega (arith, l)) (λ p. h (suc p)) in
+    let a : sum_by end_events (x ∷ xs) ≡ x.events + sum_by end_events xs = sum_by-cons end_events x xs in
     let b : sum_by view_events (c ∷ cs) ≡ c.events + sum_by view_events cs = sum_by-cons view_events c cs in
     let e : x.events ≡ c.events = h zero x refl in
     omega (arith, r, a, b, e)
@@ -55,11 +55,11 @@ stopped s bound left memory v ends done last rule within count =
         used (inl e) = omega (arith, e, count)
         used (inr e) = let f : true ≡ false = sym e ∙ h.0 in absurd cc
 
-    sums : done ≡ sum_by events_of ends
+    sums : done ≡ sum_by end_events ends
     sums =
         let t : sum_by view_events s.cells + left ≡ bound = last.total in
         let l : length ends ≡ length s.cells = last.size ∙ sym last.known in
-        let e : sum_by events_of ends ≡ sum_by view_events s.cells =
+        let e : sum_by end_events ends ≡ sum_by view_events s.cells =
         same_sums s.cells ends l (λ p x h. ((last.ends p x h).0).count)
         in
         omega (arith, t, e, count)
@@ -90,6 +90,6 @@ take_more (l ∷ ls) zero x e = ap (λ y. y ∷ []) (same e)
     same f = cc
 take_more (l ∷ ls) (suc i) x e = ap (λ r. l ∷ r) (take_more ls i x e)
 
-map_push : (ss : List Stream) (x : Stream) → map line_of (ss ++ x ∷ []) ≡ map line_of ss ++ x.line ∷ []
+map_push : (ss : List Stream) (x : Stream) → map stream_line (ss ++ x ∷ []) ≡ map stream_line ss ++ x.line ∷ []
 map_push [] x = refl
 map_push (y ∷ ss) x = ap (λ r. y.line ∷ r) (map_push ss x)

@@ -27,9 +27,9 @@ use Rattle.kahn_pool.specs.inner.Holding.{AreEnded}
 use Rattle.kahn_pool.specs.declared.answer.End.{End}
 use Rattle.kahn_pool.specs.Flows.{AreNew, HasLetGo, IsRunOn}
 use Rattle.kahn_pool.specs.inner.FlowBench.{AreLast, AreLent, IsFlowing, flow_of, let_go_by, let_go_of, run_of_bench, waits_of}
-use Rattle.kahn_pool.specs.inner.Gathered.{nothing}
+use Rattle.kahn_pool.specs.inner.Gathered.{no_view}
 use Rattle.kahn_pool.specs.inner.Streams.{AreAllGiven}
-use Rattle.kahn_pool.specs.inner.Workbench.{AllStandBy, AreWhole, HasEmptied, HasTakenIn, HasWorked, IsLaid, Table, all_of, state_of}
+use Rattle.kahn_pool.specs.inner.Workbench.{AllStandBy, AreWhole, HasEmptied, HasTakenIn, HasWorked, IsLaid, Table, all_of, sight_of}
 use Rattle.kahn_pool.proofs.Benched.{mapped, some_one}
 use Rattle.kahn_pool.proofs.Giving.{input_role}
 use Rattle.kahn_pool.proofs.Going_on as Going
@@ -64,8 +64,8 @@ worked_goes_on b d laid later old new h workers quantum bound total said next =
   where
     risen : (p : ℕ) (x y : Told) → slice_get b.cells p ≡ Some x → slice_get d.cells p ≡ Some y → HasRisenTo x y
     risen p x y e f =
-        let a = ap (λ (v : View). v.events) (mapped told_view b.cells p x nothing e) in
-        let z = ap (λ (v : View). v.events) (mapped told_view d.cells p y nothing f) in
+        let a = ap (λ (v : View). v.events) (mapped told_view b.cells p x no_view e) in
+        let z = ap (λ (v : View). v.events) (mapped told_view d.cells p y no_view f) in
         let l = h.events p in
         let same : y.input ≡ x.input = (later.each p y f).input ∙ h.input ∙ sym (laid.each p x e).input in
         (omega (arith, a, z, l), λ c. subst (λ k. AreInputsExtended (inputs_of x.input) (inputs_of k)) (sym same) (λ c. prefix_refl (inputs_of x.input c)) c)
@@ -245,7 +245,7 @@ lent_same b d n l w ts h c seen role =
 pub none_lent : (b : Table) (ts : List Token) → ts ≡ [] → AreLent b ts
 none_lent b ts e c w role = (inputs_of b.input c, sym (append-nil (inputs_of b.input c)) ∙ ap (λ (l : List Token). inputs_of b.input c ++ map token_value l) (sym e))
 
-pub flowing_same : (b d : Table) → d.network ≡ b.network → state_of d ≡ state_of b → {quantum bound budget room : ℕ} {ends : List End} {said : Option Verdict} →
+pub flowing_same : (b d : Table) → d.network ≡ b.network → sight_of d ≡ sight_of b → {quantum bound budget room : ℕ} {ends : List End} {said : Option Verdict} →
     IsFlowing b quantum bound budget room ends said → IsFlowing d quantum bound budget room ends said
 flowing_same b d n e {bound = bound} {budget = budget} {room = room} {ends = ends} {said = said} h = record {
   some = h.some;
@@ -255,7 +255,7 @@ flowing_same b d n e {bound = bound} {budget = budget} {room = room} {ends = end
   ended = subst (λ s. AreEnded s bound budget ends said) (sym e) h.ended;
 }
 
-pub emptied_state : (b d : Table) → HasEmptied b d → state_of d ≡ state_of b
+pub emptied_state : (b d : Table) → HasEmptied b d → sight_of d ≡ sight_of b
 emptied_state b d h = λ i. record { network = network_of (h.network i); input = inputs_of (h.input i); watch = h.watch i; cells = h.views i }
 
 pub emptied_flow : (b d : Table) → HasEmptied b d → (workers quantum bound : ℕ) (said : Option Verdict) (n : ℕ) (ts : List Token) → ts ≡ [] →
@@ -267,15 +267,15 @@ emptied_flow b d h workers quantum bound said n ts e =
 
 -- a part of it
 module _ (b d : Table) (laid : IsLaid b) (later : IsLaid d) (old : AllStandBy b.network b.watch b.cells) (new : AllStandBy d.network d.watch d.cells) (h : HasWorked b d)
-    (workers quantum bound budget more left : ℕ) (sum : budget + all_events (state_of b) ≡ bound) (few : bound + more < 2 ^ 48) (said : Option Verdict) (v : Verdict) (ends : List End)
-    (c : (halted : Bool) × IsConcluded (state_of d) (all_events (state_of b) + (budget + more)) left halted v ends) where
-  whole : all_events (state_of b) + (budget + more) ≡ bound + more
+    (workers quantum bound budget more left : ℕ) (sum : budget + all_events (sight_of b) ≡ bound) (few : bound + more < 2 ^ 48) (said : Option Verdict) (v : Verdict) (ends : List End)
+    (c : (halted : Bool) × IsConcluded (sight_of d) (all_events (sight_of b) + (budget + more)) left halted v ends) where
+  whole : all_events (sight_of b) + (budget + more) ≡ bound + more
   whole = omega (arith, sum)
 
-  pub part_ended : AreEnded (state_of d) (bound + more) left ends (Some v)
-  part_ended = (c.0, subst (λ n. IsConcluded (state_of d) n left c.0 v ends) whole c.1)
+  pub part_ended : AreEnded (sight_of d) (bound + more) left ends (Some v)
+  part_ended = (c.0, subst (λ n. IsConcluded (sight_of d) n left c.0 v ends) whole c.1)
 
-  pub part_left : left + all_events (state_of d) ≡ bound + more
+  pub part_left : left + all_events (sight_of d) ≡ bound + more
   part_left = let t = c.1.last.total in omega (arith, t, whole)
 
   pub flowed_on : (n : ℕ) → IsRunOn more (flow_of b workers quantum bound said n) (flow_of d workers quantum (bound + more) (Some v) n) v
@@ -288,7 +288,7 @@ module _ (b d : Table) (laid : IsLaid b) (later : IsLaid d) (old : AllStandBy b.
         few = few;
       },
       refl,
-      settled_by (state_of d) (bound + more) left part_left part_ended.0 v ends part_ended.1,
+      settled_by (sight_of d) (bound + more) left part_left part_ended.0 v ends part_ended.1,
     ),
     let_go_same b d h.network h.input h.watch b.gone h.gone n,
   )

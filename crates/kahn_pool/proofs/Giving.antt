@@ -13,7 +13,7 @@ use Rattle.kahn_streams.specs.Solution.{Inputs, source, IsPrefix}
 use Rattle.kahn_network.specs.Network.{Network, Instance, Source, Given, Written, Nobody, any_written, first_writer, source_by, channel_source, role_at}
 use Rattle.kahn_code.specs.Cells.{AreKeptTokens, IsOwn, token_value}
 use Rattle.kahn_pool.specs.declared.answer.Stream.{Stream}
-use Rattle.kahn_pool.specs.Right.{line_of}
+use Rattle.kahn_pool.specs.Right.{stream_line}
 use Rattle.kahn_pool.specs.inner.Streams.{AreNamed, IsBegun, IsDeclared, IsBare, HasInput, HaveInput, HasInputs}
 use Rattle.kahn_pool.proofs.Named.{declared, stream_before}
 use Rattle.kahn_code.proofs.Lists.{at_last}
@@ -96,7 +96,7 @@ channel_given N I c before after f g = by (source N (Channel c)) refl
 pub record Giving (N : Network) (I : Inputs) (old now : List Stream) (n : ℕ) : Type 0 where
   pub named : AreNamed N old
   pub bare : All IsBare old
-  pub lines : map line_of now ≡ map line_of old
+  pub lines : map stream_line now ≡ map stream_line old
   pub done : (j : ℕ) (x y : Stream) → j < n → slice_get old j ≡ Some x → slice_get now j ≡ Some y → HasInput N I (source N y.line) y.line x.tokens.items y.tokens.items
   pub rest : (j : ℕ) → n ≤ j → slice_get now j ≡ slice_get old j
 

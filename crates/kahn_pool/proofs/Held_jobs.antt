@@ -14,17 +14,17 @@ use Rattle.kahn_job.specs.inner.Idles.{AreIdle, AreJoinedJobs, CanGoOn, HaveSett
 use Rattle.kahn_job.specs.inner.Works.{IsDelivered, IsJob, Work}
 use Rattle.kahn_job.proofs.Idles.{all_idle, cell_there, idle_goes_on, idle_grown, row_there}
 use Rattle.kahn_job.proofs.Settles.{stood_same}
-use Rattle.kahn_board.specs.Dealt.{events_of}
+use Rattle.kahn_board.specs.Dealt.{events_told}
 use Rattle.kahn_crew.specs.inner.Begins.{AreReadyTasks, IsReadyTask, woken_task}
 use Rattle.kahn_crew.specs.inner.Left.{AreUntouched, HaveGone, task_events}
-use Rattle.kahn_crew.specs.inner.Tasks.{Tasked, told_of, work_of}
+use Rattle.kahn_crew.specs.inner.Tasks.{Tasked, told_tale, work_of}
 use Rattle.kahn_crew.proofs.Ended.{all_told}
 use Rattle.kahn_crew.proofs.Started.{at_mapped, at_most_all, mapped_at, read_there}
 use Rattle.kahn_pool.specs.inner.Concluded.{IsConcluded}
 use Rattle.kahn_pool.specs.HeldRuns.{seen_of}
 use Rattle.kahn_pool.specs.inner.Holding.{AreEnded, AreHeld, HasRisen, HasStopped, HaveRisen, cell_alone, held_state, work_events}
 use Rattle.kahn_pool.specs.inner.Meetings.{HaveMet}
-use Rattle.kahn_pool.specs.inner.Rested.{HaveSettledTasks, IsInstanceTask, cell_of, state_of}
+use Rattle.kahn_pool.specs.inner.Rested.{HaveSettledTasks, IsInstanceTask, cell_of, state_of_tasks}
 use Rattle.kahn_pool.specs.inner.Bench.{RunState}
 use Rattle.kahn_pool.specs.declared.answer.End.{End as RunEnd}
 use Rattle.kahn_pool.specs.declared.answer.Verdict.{Verdict}
@@ -50,7 +50,7 @@ woken_events lists (w ∷ ws) =
     let s : sum_by task_events (map (woken_task lists) (w ∷ ws)) ≡ sum_by work_events (w ∷ ws) = omega (arith, a, b, r) in
     s
 
-pub events_woken : (lists : Lists) (ws : List Work) → events_of told_of (map (woken_task lists) ws) ≡ sum_by work_events ws
+pub events_woken : (lists : Lists) (ws : List Work) → events_told told_tale (map (woken_task lists) ws) ≡ sum_by work_events ws
 events_woken lists ws = sym (all_told (map (woken_task lists) ws)) ∙ woken_events lists ws
 
 module _ (t : Program) (lists : Lists) (watch : Option ℕ) (bound : ℕ) (ws : List Work) (budget : ℕ) (h : AreHeld t lists watch bound ws budget)
@@ -201,14 +201,14 @@ module _ (t : Program) (lists : Lists) (watch : Option ℕ) (bound : ℕ) (first
     events = let a = gone.events in let b = sum_cells ws old cells_after in omega (arith, a, b);
   }
 
-  pub held_concluded : (halted : Bool) (v : Verdict) (ends : List RunEnd) → IsConcluded (state_of t lists watch new) bound budget halted v ends →
+  pub held_concluded : (halted : Bool) (v : Verdict) (ends : List RunEnd) → IsConcluded (state_of_tasks t lists watch new) bound budget halted v ends →
       IsConcluded (held_state t lists watch ws) bound budget halted v ends
   held_concluded halted v ends c =
       subst (λ cs. IsConcluded (let r : RunState = record { network = network_of t; input = inputs_of lists; watch = watch; cells = map told_view cs } in r) bound budget halted v ends)
       (sym cells_new) c
 
 -- before their first events
-pub none_done : (old new : List Tasked) → HaveSettledTasks old new → (ws : List Work) → ws ≡ map work_of new → events_of told_of old ≡ 0 →
+pub none_done : (old new : List Tasked) → HaveSettledTasks old new → (ws : List Work) → ws ≡ map work_of new → events_told told_tale old ≡ 0 →
     (p : ℕ) (w : Work) → slice_get ws p ≡ Some w → w.cell.events ≡ 0
 none_done old new asked ws same none p w e =
     let cells = ap cells_of same ∙ works_of new ∙ settled_cells old new asked in
@@ -221,9 +221,9 @@ none_done old new asked ws same none p w e =
 
 -- the bound of all events is that of the part and what was done before
 pub all_events : (lists : Lists) (ws : List Work) (tasks : List Tasked) (bound more : ℕ) → tasks ≡ map (woken_task lists) ws → more + sum_by work_events ws ≡ bound →
-    more + events_of told_of tasks ≡ bound
+    more + events_told told_tale tasks ≡ bound
 all_events lists ws tasks bound more same e =
-    let a : events_of told_of tasks ≡ sum_by work_events ws = ap (λ (l : List Tasked). events_of told_of l) same ∙ events_woken lists ws in
+    let a : events_told told_tale tasks ≡ sum_by work_events ws = ap (λ (l : List Tasked). events_told told_tale l) same ∙ events_woken lists ws in
     omega (arith, a, e)
 
 module _ (t : Program) (lists : Lists) (watch : Option ℕ) (bound : ℕ) (ws : List Work) (budget : ℕ) (h : AreHeld t lists watch bound ws budget)

@@ -26,7 +26,7 @@ use Rattle.kahn_job.specs.inner.Works.{Work}
 use Rattle.kahn_pool.specs.inner.Bench.{AreStreams}
 use Rattle.kahn_pool.specs.inner.Concluded.{IsConcluded}
 use Rattle.kahn_pool.specs.Exact.{Settles}
-use Rattle.kahn_pool.specs.inner.Gathered.{IsFrom, IsGathered, nothing, view_at}
+use Rattle.kahn_pool.specs.inner.Gathered.{IsFrom, IsGathered, no_view, view_at}
 use Rattle.kahn_pool.specs.HeldRuns.{GoesOn, HasResumed, HeldRun, IsAnswerOf, IsResumed, IsSoFar, Seen, seen_at, seen_events, seen_of, unseen}
 use Rattle.kahn_pool.specs.inner.Holding.{AreEnded, AreHeld, HasStopped, HaveRisen, IsHolding, cell_alone, cells_seen, held_state, work_events}
 use Rattle.kahn_pool.specs.Right.{IsRight, stream_lines}
@@ -153,14 +153,14 @@ module _ (t : Program) (lists : Lists) (watch : Option ℕ) (workers quantum bou
       × ((q : ℕ) → (view_at (cells_seen ws) p).kept q ≡ slice_index_or (seen_at held.cells p).kept q [])
       × ((view_at (cells_seen ws) p).printed ≡ (seen_at held.cells p).printed)
   view_there p (inl w) =
-      let v = mapped told_view (cells_of ws) p w.0.cell nothing (at_mapped (λ (z : Work). z.cell) ws p w.0 w.1) in
+      let v = mapped told_view (cells_of ws) p w.0.cell no_view (at_mapped (λ (z : Work). z.cell) ws p w.0 w.1) in
       let s = seen_there ws p w.0 w.1 in (
         ap (λ (z : View). z.events) v ∙ sym (ap (λ (z : Seen). z.events) s),
         λ q. ap (λ (z : View). z.kept q) v ∙ sym (ap (λ (z : Seen). slice_index_or z.kept q []) s),
         ap (λ (z : View). z.printed) v ∙ sym (ap (λ (z : Seen). z.printed) s),
       )
   view_there p (inr l) =
-      let v = past_map told_view (cells_of ws) p nothing (past_map_length ws p l) in
+      let v = past_map told_view (cells_of ws) p no_view (past_map_length ws p l) in
       let s = past_map seen_of (cells_of ws) p unseen (past_map_length ws p l) in (
         ap (λ (z : View). z.events) v ∙ sym (ap (λ (z : Seen). z.events) s),
         λ q. ap (λ (z : View). z.kept q) v ∙ sym (ap (λ (z : Seen). slice_index_or z.kept q []) s),

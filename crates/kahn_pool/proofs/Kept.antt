@@ -12,7 +12,7 @@ use Rattle.kahn_crew.specs.inner.Tasks.{Tasked}
 use Rattle.kahn_crew.proofs.Started.{mapped_at}
 use Rattle.kahn_pool.specs.inner.Rested.{AreTasks, cell_of}
 use Rattle.kahn_pool.specs.inner.Streams.{AreLists, kept_lists}
-use Rattle.kahn_pool.specs.inner.Workbench.{AreKeptOf, actuals_of, parameters_of}
+use Rattle.kahn_pool.specs.inner.Workbench.{AreKeptOf, actual_count, parameter_count}
 use Rattle.kahn_pool.proofs.Benched.{get_map, got, some_one, within_get}
 
 -- of cells that are those of the instances, in order
@@ -29,7 +29,7 @@ lists_of_cells {A = A} t cells count each kept h = record {
     sized : (p : ℕ) (l : Kept A) → slice_get kept p ≡ Some l → (c : Told) × (slice_get cells p ≡ Some c) → length l.kept.items ≡ length (instance_at (network_of t) p).actuals
     sized p l e c =
         let o = each p c.0 c.1 in
-        some_one (sym (get_map parameters_of kept p l e) ∙ ap (λ ns. slice_get ns p) h.parameters ∙ get_map actuals_of cells p c.0 c.1) ∙
+        some_one (sym (get_map parameter_count kept p l e) ∙ ap (λ ns. slice_get ns p) h.parameters ∙ get_map actual_count cells p c.0 c.1) ∙
         ap (λ k. length (instance_at (network_of k) c.0.instance).actuals) o.0 ∙ ap (λ i. length (instance_at (network_of t) i).actuals) o.1
 
 pub are_lists : {A : Type 0} (t : Program) (lists : Lists) (watch : Option ℕ) (tasks : List Tasked) → AreTasks t lists watch tasks → (kept : List (Kept A)) →

@@ -5,7 +5,7 @@ use Rattle.kahn_network.specs.Network.{network_of, instance_at}
 use Rattle.kahn_code.specs.declared.cell.Kept.{Kept}
 use Rattle.kahn_code.specs.Told.{Told}
 use Rattle.kahn_pool.specs.inner.Streams.{AreLists, kept_lists}
-use Rattle.kahn_pool.specs.inner.Workbench.{Table, IsLaid, AreKeptOf, parameters_of, actuals_of}
+use Rattle.kahn_pool.specs.inner.Workbench.{Table, IsLaid, AreKeptOf, parameter_count, actual_count}
 use Rattle.kahn_pool.proofs.Benched.{got, get_map, some_one, within_get}
 
 pub are_lists : {A : Type 0} (b : Table) → IsLaid b → (kept : List (Kept A)) → AreKeptOf b.cells kept → AreLists (network_of b.network) kept
@@ -22,5 +22,5 @@ are_lists {A = A} b laid kept h = record {
     sized : (p : ℕ) (l : Kept A) → slice_get kept p ≡ Some l → (c : Told) × (slice_get b.cells p ≡ Some c) → length l.kept.items ≡ length (instance_at (network_of b.network) p).actuals
     sized p l e c =
         let s = laid.each p c.0 c.1 in
-        some_one (sym (get_map parameters_of kept p l e) ∙ ap (λ ns. slice_get ns p) h.parameters ∙ get_map actuals_of b.cells p c.0 c.1) ∙
+        some_one (sym (get_map parameter_count kept p l e) ∙ ap (λ ns. slice_get ns p) h.parameters ∙ get_map actual_count b.cells p c.0 c.1) ∙
         ap (λ t. length (instance_at (network_of t) c.0.instance).actuals) s.network ∙ ap (λ i. length (instance_at (network_of b.network) i).actuals) s.instance

@@ -16,7 +16,7 @@ use Rattle.kahn_code.specs.Standing.{count}
 use Rattle.kahn_job.specs.inner.Ends.{End, IsSame, MayMeet, Meets, ShareLane}
 use Rattle.kahn_job.specs.inner.Berths.{HasStayed, Serves, end_at}
 use Rattle.kahn_job.specs.inner.Works.{Work, IsJob}
-use Rattle.kahn_crew.specs.inner.Tasks.{Tasked, HasMet, handed}
+use Rattle.kahn_crew.specs.inner.Tasks.{Tasked, HasMet, handed_to_task}
 use Rattle.kahn_job.proofs.Berthed.{same_then, stayed_self}
 use Rattle.kahn_pool.proofs.Benched.{got, some_one, within_get}
 use Rattle.kahn_pool.proofs.Ended.{handed_to, reader_side, writer_side}
@@ -57,7 +57,7 @@ behind x y o q n now jx jy can met =
 
 -- a parameter that reads does not write
 pub apart : (w : Work) (o q : ℕ) → WritesOne w o → ReadsOne w q → o ≡ q → ⊥
-apart w o q h k e = differ (sym h.1 ∙ ap (handed w) e ∙ k.1)
+apart w o q h k e = differ (sym h.1 ∙ ap (handed_to_task w) e ∙ k.1)
   where
     differ : {c d : ℕ} → Writes c ≡ Reads d → ⊥
     differ f = cc
@@ -167,7 +167,7 @@ behind_before t xs ys c m h p r o q x y e f w k =
         }
 
 module _ (t : Program) (wired : IsWellWired t) (tasks : List Tasked) (j : AreJoined t tasks) where
-  handed_as : (p q : ℕ) (x : Tasked) → slice_get tasks p ≡ Some x → handed x.work q ≡ actual_at (instance_at (network_of t) p) q
+  handed_as : (p q : ℕ) (x : Tasked) → slice_get tasks p ≡ Some x → handed_to_task x.work q ≡ actual_at (instance_at (network_of t) p) q
   handed_as p q x e = handed_to t p q x (j.network p x e) (j.instance p x e)
 
   inner_at : (p o r q c : ℕ) → actual_at (instance_at (network_of t) p) o ≡ Writes c → actual_at (instance_at (network_of t) r) q ≡ Reads c →

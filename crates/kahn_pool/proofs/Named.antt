@@ -10,7 +10,7 @@ use Rattle.kahn_streams.specs.declared.value.Line.TheVariants.{Channel, Print}
 use Rattle.kahn_network.specs.Network.{Network, Instance}
 use Rattle.kahn_code.specs.Cells.{is_output, is_watched, is_streamed}
 use Rattle.kahn_pool.specs.declared.answer.Stream.{Stream}
-use Rattle.kahn_pool.specs.Right.{line_of, channel_lines, print_lines, stream_lines}
+use Rattle.kahn_pool.specs.Right.{stream_line, channel_lines, print_lines, stream_lines}
 use Rattle.kahn_pool.specs.inner.Streams.{AreNamed, IsDeclared}
 
 -- ---- what the lines are
@@ -154,10 +154,10 @@ module _ (N : Network) (watch : Option ℕ) where
 
 -- ---- the streams that have these lines
 
-pub line_at : (streams : List Stream) (lines : List Line) (j : ℕ) (x : Stream) → map line_of streams ≡ lines → slice_get streams j ≡ Some x → slice_get lines j ≡ Some x.line
+pub line_at : (streams : List Stream) (lines : List Line) (j : ℕ) (x : Stream) → map stream_line streams ≡ lines → slice_get streams j ≡ Some x → slice_get lines j ≡ Some x.line
 line_at streams lines j x e f = subst (λ l. slice_get l j ≡ Some x.line) e (at streams j f)
   where
-    at : (xs : List Stream) (j : ℕ) → slice_get xs j ≡ Some x → slice_get (map line_of xs) j ≡ Some x.line
+    at : (xs : List Stream) (j : ℕ) → slice_get xs j ≡ Some x → slice_get (map stream_line xs) j ≡ Some x.line
     at [] j g = absurd cc
     at (y ∷ ys) zero g = let e : y ≡ x = same g in ap (λ z. Some z.line) e
       where
@@ -166,21 +166,21 @@ line_at streams lines j x e f = subst (λ l. slice_get l j ≡ Some x.line) e (a
     at (y ∷ ys) (suc j) g = at ys j g
 
 -- the stream of the same line in a list of the same lines
-pub stream_before : (old new : List Stream) (j : ℕ) (y : Stream) → map line_of new ≡ map line_of old → slice_get new j ≡ Some y →
+pub stream_before : (old new : List Stream) (j : ℕ) (y : Stream) → map stream_line new ≡ map stream_line old → slice_get new j ≡ Some y →
     (x : Stream) × (slice_get old j ≡ Some x) × (x.line ≡ y.line)
 stream_before old new j y lines e = by (slice_get old j) refl
   where
-    never : (xs : List Stream) (j : ℕ) → slice_get xs j ≡ None → slice_get (map line_of xs) j ≡ Some y.line → ⊥
+    never : (xs : List Stream) (j : ℕ) → slice_get xs j ≡ None → slice_get (map stream_line xs) j ≡ Some y.line → ⊥
     never [] j g h = cc
     never (x ∷ xs) zero g h = cc
     never (x ∷ xs) (suc j) g h = never xs j g h
 
     by : (o : Option Stream) → slice_get old j ≡ o → (x : Stream) × (slice_get old j ≡ Some x) × (x.line ≡ y.line)
-    by (Some x) f = (x, f, same (sym (line_at old (map line_of old) j x refl f) ∙ line_at new (map line_of old) j y lines e))
+    by (Some x) f = (x, f, same (sym (line_at old (map stream_line old) j x refl f) ∙ line_at new (map stream_line old) j y lines e))
       where
         same : Some x.line ≡ Some y.line → x.line ≡ y.line
         same g = cc
-    by None f = absurd (never old j f (line_at new (map line_of old) j y lines e))
+    by None f = absurd (never old j f (line_at new (map stream_line old) j y lines e))
 
 pub declared : (N : Network) (streams : List Stream) (j : ℕ) (x : Stream) → AreNamed N streams → slice_get streams j ≡ Some x → IsDeclared N x.line
 declared N streams j x (watch, e) f = by x.line (has_line N watch j x.line (line_at streams (stream_lines N watch) j x e f))

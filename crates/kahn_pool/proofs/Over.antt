@@ -10,10 +10,10 @@ use Rattle.kahn_code.specs.Standing.{count}
 use Rattle.kahn_code.specs.Told.{Told, told_view}
 use Rattle.kahn_job.specs.inner.Berths.{end_at}
 use Rattle.kahn_crew.specs.declared.standing.Standing.TheVariants as standing
-use Rattle.kahn_crew.specs.inner.Tasks.{Tasked, handed, is_over}
+use Rattle.kahn_crew.specs.inner.Tasks.{Tasked, handed_to_task, is_over}
 use Rattle.kahn_crew.specs.inner.Left.{AreAll, HaveGone, IsQuietTask, IsOver, task_events}
 use Rattle.kahn_pool.specs.inner.Meetings.{AreJoined, HaveMet, IsBehindOn}
-use Rattle.kahn_pool.specs.inner.Rested.{AreEndsOfTasks, AreTasks, HaveSettledTasks, IsInstanceTask, IsToldAs, SettlesTo, cell_of, state_of}
+use Rattle.kahn_pool.specs.inner.Rested.{AreEndsOfTasks, AreTasks, HaveSettledTasks, IsInstanceTask, IsToldAs, SettlesTo, cell_of, state_of_tasks}
 use Rattle.kahn_pool.specs.inner.Gathers.{HasEnded}
 use Rattle.kahn_pool.specs.declared.answer.End.{End}
 use Rattle.kahn_pool.specs.declared.answer.Outcome.TheVariants as outcome
@@ -141,7 +141,7 @@ module _ (t : Program) (lists : Lists) (watch : Option ℕ) (bound : ℕ) (first
           sent = λ r o z f w.
               let u = was r z f in
               let s = same r z f in
-              ap (λ (v : Tasked). count v.work.cell.sent o) s ∙ a.sent r o u.0 u.1 (ap (λ (v : Tasked). handed v.work o) (sym s) ∙ w);
+              ap (λ (v : Tasked). count v.work.cell.sent o) s ∙ a.sent r o u.0 u.1 (ap (λ (v : Tasked). handed_to_task v.work o) (sym s) ∙ w);
         }
 
         by : (x : Tasked) → IsQuietTask t lists old x → IsQuietTask t lists new x
@@ -189,7 +189,7 @@ module _ (t : Program) (wired : IsWellWired t) (lists : Lists) (watch : Option �
       differ f = cc
   no_more x (inr (q, d, s, r, a)) (inr (q', d', s', r', n)) =
       let e : q ≡ q' = same (sym s ∙ s') in
-      let f : d ≡ d' = channel (sym r ∙ ap (handed x.work) e ∙ r') in
+      let f : d ≡ d' = channel (sym r ∙ ap (handed_to_task x.work) e ∙ r') in
       n (subst (λ k. AreAll t lists tasks k (count x.work.cell.taken q')) f (subst (λ k. AreAll t lists tasks d (count x.work.cell.taken k)) e a))
     where
       same : {q p : ℕ} → standing.Dry q ≡ standing.Dry p → q ≡ p
@@ -198,7 +198,7 @@ module _ (t : Program) (wired : IsWellWired t) (lists : Lists) (watch : Option �
       channel : {c d : ℕ} → Reads c ≡ Reads d → c ≡ d
       channel f = cc
 
-  pub is_last : IsLast (state_of t lists watch tasks) bound budget halted ends
+  pub is_last : IsLast (state_of_tasks t lists watch tasks) bound budget halted ends
   is_last = record {
     known = length-map (map cell_of tasks) told_view ∙ length-map tasks cell_of ∙ h.tasks_of.count;
     total = let a = sum_views tasks in let b = h.events in omega (arith, a, b);
@@ -216,7 +216,7 @@ module _ (t : Program) (wired : IsWellWired t) (lists : Lists) (watch : Option �
       more x p e m (inr (inr c)) = absurd (no_more x (c p x e) m)
 
       one : (p : ℕ) (y : End) → slice_get ends p ≡ Some y → (x : Tasked) × (slice_get tasks p ≡ Some x) →
-          HasEndIn (state_of t lists watch tasks) p y × (y.outcome ≡ outcome.More → (budget ≡ 0) ⊎ (halted ≡ true))
+          HasEndIn (state_of_tasks t lists watch tasks) p y × (y.outcome ≡ outcome.More → (budget ≡ 0) ⊎ (halted ≡ true))
       one p y e x =
           let k = are.each p x.0 y x.1 e in
           (rests.rests t wired lists watch tasks h.tasks_of h.settled behind p x.0 y x.1 k, λ m. more x.0 p x.1 (subst (IsToldAs t lists tasks x.0) m k.told) h.over)

@@ -18,7 +18,7 @@ use Rattle.kahn_pool.specs.declared.answer.Verdict.{Verdict}
 use Rattle.kahn_pool.specs.inner.Bench.{view_events}
 use Rattle.kahn_pool.specs.Flows.{HasPouredIn}
 use Rattle.kahn_pool.specs.inner.FlowBench.{AreLent, IsFlowing, flow_of, let_go_by, let_go_of, waits_of}
-use Rattle.kahn_pool.specs.inner.Workbench.{AllStandBy, HasTakenIn, IsLaid, Table, state_of}
+use Rattle.kahn_pool.specs.inner.Workbench.{AllStandBy, HasTakenIn, IsLaid, Table, sight_of}
 use Rattle.kahn_pool.proofs.Flowed.{flowing_same, front_of, lent_same, let_go_same, map_on, poured_goes_on}
 use Rattle.kahn_pool.proofs.Giving.{input_role}
 use Rattle.kahn_pool.proofs.Named.{HasLine, has_line}
@@ -71,7 +71,7 @@ same_waits (x ∷ xs) (y ∷ ys) n h = let a = h 0 in let r = same_waits xs ys (
 -- ---- nothing was poured
 
 module _ (b d : Table) (c : ℕ) (h : HasTakenIn c 0 b.input b d) where
-  refused_state : state_of d ≡ state_of b
+  refused_state : sight_of d ≡ sight_of b
   refused_state = λ i. record { network = network_of (h.network i); input = inputs_of (h.lists i); watch = h.watch i; cells = h.views i }
 
   pub refused_flowing : {quantum bound budget room : ℕ} {ends : List End} {said : Option Verdict} → IsFlowing b quantum bound budget room ends said → IsFlowing d quantum bound budget room ends said

@@ -24,15 +24,15 @@ use Rattle.kahn_code.proofs.Readers.{joins_within, reads_once, driven}
 use Rattle.kahn_job.specs.inner.Ends.{IsReady}
 use Rattle.kahn_job.specs.inner.Berths.{Serves, end_at}
 use Rattle.kahn_crew.specs.declared.standing.Standing.TheVariants as standing
-use Rattle.kahn_crew.specs.inner.Tasks.{Tasked, handed}
+use Rattle.kahn_crew.specs.inner.Tasks.{Tasked, handed_to_task}
 use Rattle.kahn_crew.specs.inner.Left.{AreAll}
 use Rattle.kahn_pool.specs.inner.Meetings.{IsBehindOn}
-use Rattle.kahn_pool.specs.inner.Rested.{AreTasks, AreTold, IsDryOf, IsEndOf, IsSaid, IsSettledTask, IsInstanceTask, IsToldAs, cell_of, state_of}
+use Rattle.kahn_pool.specs.inner.Rested.{AreTasks, AreTold, IsDryOf, IsEndOf, IsSaid, IsSettledTask, IsInstanceTask, IsToldAs, cell_of, state_of_tasks}
 use Rattle.kahn_pool.specs.declared.answer.End.{End}
 use Rattle.kahn_pool.specs.declared.answer.Outcome.{Outcome}
 use Rattle.kahn_pool.specs.declared.answer.Outcome.TheVariants as outcome
 use Rattle.kahn_pool.specs.inner.Bench.{HasEndIn}
-use Rattle.kahn_pool.specs.inner.Gathered.{TookNoMore, IsGiven, IsOutcomeOf, Stood, nothing, view_at}
+use Rattle.kahn_pool.specs.inner.Gathered.{TookNoMore, IsGiven, IsOutcomeOf, Stood, no_view, view_at}
 use Rattle.kahn_pool.proofs.Benched.{get_map, got, mapped, some_one}
 use Rattle.kahn_pool.proofs.Channels.{told_by_channel}
 use Rattle.kahn_code.proofs.Lists.{stand_in}
@@ -67,9 +67,9 @@ module _ (t : Program) (wired : IsWellWired t) (lists : Lists) (watch : Option �
   cells = map told_view (map cell_of tasks)
 
   pub viewed : (p : ℕ) (x : Tasked) → slice_get tasks p ≡ Some x → view_at cells p ≡ told_view x.work.cell
-  viewed p x e = mapped told_view (map cell_of tasks) p x.work.cell nothing (get_map cell_of tasks p x e)
+  viewed p x e = mapped told_view (map cell_of tasks) p x.work.cell no_view (get_map cell_of tasks p x e)
 
-  handed_as : (p q : ℕ) (x : Tasked) → slice_get tasks p ≡ Some x → handed x.work q ≡ actual_at (instance_at N p) q
+  handed_as : (p q : ℕ) (x : Tasked) → slice_get tasks p ≡ Some x → handed_to_task x.work q ≡ actual_at (instance_at N p) q
   handed_as p q x e = let o = of.each p x e in handed_to t p q x o.network o.instance
 
   pub task_at : (p : ℕ) → p < length N.instances → (x : Tasked) × (slice_get tasks p ≡ Some x)
@@ -209,7 +209,7 @@ module _ (t : Program) (wired : IsWellWired t) (lists : Lists) (watch : Option �
         let m : count x.work.cell.taken q < h.0 = omega (arith, within, other) in
         inr (q, d, h.0, here, subst (λ s. IsSaid x.work s o) s k, h.1.given, omega (arith, w, m))
 
-    pub rests : (p : ℕ) (x : Tasked) (y : End) → slice_get tasks p ≡ Some x → IsEndOf t lists tasks x y → HasEndIn (state_of t lists watch tasks) p y
+    pub rests : (p : ℕ) (x : Tasked) (y : End) → slice_get tasks p ≡ Some x → IsEndOf t lists tasks x y → HasEndIn (state_of_tasks t lists watch tasks) p y
     rests p x y e h = record {
       stood = told.0;
       count = h.events ∙ sym (ap (λ u. u.events) (viewed p x e));

@@ -10,8 +10,8 @@ use Rattle.kahn_code.specs.declared.progress.Pause.TheVariants as pause
 use Rattle.kahn_code.specs.Progress.{Paused, IsPause}
 use Rattle.kahn_code.specs.Told.{told_view}
 use Rattle.kahn_job.specs.inner.Ends.{End, IsReady}
-use Rattle.kahn_job.specs.inner.Berths.{IsFed, end_at}
-use Rattle.kahn_job.specs.inner.Ways.{nothing}
+use Rattle.kahn_job.specs.inner.Berths.{IsWithinInput, end_at}
+use Rattle.kahn_job.specs.inner.Ways.{no_end}
 use Rattle.kahn_job.specs.inner.Works.{Work}
 use Rattle.kahn_crew.specs.declared.standing.Standing.{Standing}
 use Rattle.kahn_crew.specs.declared.standing.Standing.TheVariants as standing
@@ -24,15 +24,15 @@ use Rattle.kahn_pool.specs.inner.Rested.{HaveSettledTasks, IsSaid, IsSettledTask
 
 -- ---- input channels
 
-nothing_fed : IsFed nothing
+nothing_fed : IsWithinInput no_end
 nothing_fed t lists d none name ready = absurd (omega (arith, ready))
 
-pub fed_all : (es : List End) (n : ℕ) → length es ≡ n → ((q : ℕ) → q < n → IsFed (end_at es q)) → (q : ℕ) → IsFed (end_at es q)
+pub fed_all : (es : List End) (n : ℕ) → length es ≡ n → ((q : ℕ) → q < n → IsWithinInput (end_at es q)) → (q : ℕ) → IsWithinInput (end_at es q)
 fed_all es n is h q = by (past_none es q)
   where
-    by : (q < length es) ⊎ (end_at es q ≡ nothing) → IsFed (end_at es q)
+    by : (q < length es) ⊎ (end_at es q ≡ no_end) → IsWithinInput (end_at es q)
     by (inl l) = h q (omega (arith, l, is))
-    by (inr e) = subst IsFed (sym e) nothing_fed
+    by (inr e) = subst IsWithinInput (sym e) nothing_fed
 
 -- ---- what a standing says
 

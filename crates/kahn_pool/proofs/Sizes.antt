@@ -19,7 +19,7 @@ use Rattle.kahn_pool.specs.declared.answer.Verdict.{Verdict}
 use Rattle.kahn_pool.specs.declared.answer.Verdict.TheVariants.{Finished, Bound, Memory}
 use Rattle.kahn_pool.specs.declared.answer.Outcome.{Outcome}
 use Rattle.kahn_pool.specs.declared.answer.Outcome.TheVariants.{Ended, Waits, Faulted, More}
-use Rattle.kahn_pool.specs.Right.{AreRight, IsRight, IsOutcome, IsEnd, events_of}
+use Rattle.kahn_pool.specs.Right.{AreRight, IsRight, IsOutcome, IsEnd, end_events}
 use Rattle.kahn_pool.specs.Exact.{IsWithinBound, Settles, AreBegun}
 
 -- ---- on longer tapes and with more events allowed no fewer events are done
@@ -84,12 +84,12 @@ module _ (N : Network) (I : Inputs) where
   -- the instances from p on
   all_ends : (p : ℕ) (is : List Instance) (xs : List End) → length xs ≡ length is →
       ((k j : ℕ) (x : End) → j ≡ p + k → slice_get xs k ≡ Some x → (o : Ending) × HasEnd N I j o x.events) →
-      HasSizes N I p is (sum_by events_of xs)
+      HasSizes N I p is (sum_by end_events xs)
   all_ends p [] [] l each = none_left
   all_ends p [] (x ∷ xs) l each = absurd (omega (arith, l))
   all_ends p (i ∷ is) [] l each = absurd (omega (arith, l))
   all_ends p (i ∷ is) (x ∷ xs) l each =
-      rw (sum_by-cons events_of x xs)
+      rw (sum_by-cons end_events x xs)
       (one_more (each 0 p x (omega arith) refl).1
       (all_ends (suc p) is xs (omega (arith, l)) (λ k j y e g. each (suc k) j y (omega (arith, e)) g)))
 
@@ -99,14 +99,14 @@ module _ (N : Network) (I : Inputs) where
 
   no_more : (p : ℕ) (is : List Instance) (xs : List End) (total : ℕ) → length xs ≡ length is →
       ((k j : ℕ) (x : End) → j ≡ p + k → slice_get xs k ≡ Some x → Below j x.events) → HasSizes N I p is total →
-      sum_by events_of xs ≤ total
+      sum_by end_events xs ≤ total
   no_more p [] [] total l each h = omega arith
   no_more p [] (x ∷ xs) total l each h = absurd (omega (arith, l))
   no_more p (i ∷ is) [] total l each h = absurd (omega (arith, l))
   no_more p (i ∷ is) (x ∷ xs) _ l each (one_more {o = o} {e = e} {total = total} h rest) =
       omega (
         arith,
-        sum_by-cons events_of x xs,
+        sum_by-cons end_events x xs,
         each 0 p x (omega arith) refl e o h,
         no_more (suc p) is xs total (omega (arith, l)) (λ k j y e g. each (suc k) j y (omega (arith, e)) g) rest,
       )
@@ -114,14 +114,14 @@ module _ (N : Network) (I : Inputs) where
   -- where one of them does fewer
   fewer : (p : ℕ) (is : List Instance) (xs : List End) (total : ℕ) → length xs ≡ length is →
       ((k j : ℕ) (x : End) → j ≡ p + k → slice_get xs k ≡ Some x → Below j x.events) → HasSizes N I p is total →
-      (k j : ℕ) (x : End) → j ≡ p + k → slice_get xs k ≡ Some x → Below j (suc x.events) → suc (sum_by events_of xs) ≤ total
+      (k j : ℕ) (x : End) → j ≡ p + k → slice_get xs k ≡ Some x → Below j (suc x.events) → suc (sum_by end_events xs) ≤ total
   fewer p [] [] total l each h k j x e g less = absurd cc
   fewer p [] (y ∷ ys) total l each h k j x e g less = absurd (omega (arith, l))
   fewer p (i ∷ is) [] total l each h k j x e g less = absurd (omega (arith, l))
   fewer p (i ∷ is) (y ∷ ys) _ l each (one_more {o = o} {e = f} {total = total} h rest) zero j x e g less =
       omega (
         arith,
-        sum_by-cons events_of y ys,
+        sum_by-cons end_events y ys,
         first,
         no_more (suc p) is ys total (omega (arith, l)) (λ k j y e g. each (suc k) j y (omega (arith, e)) g) rest,
       )
@@ -137,7 +137,7 @@ module _ (N : Network) (I : Inputs) where
   fewer p (i ∷ is) (y ∷ ys) _ l each (one_more {o = o} {e = f} {total = total} h rest) (suc k) j x e g less =
       omega (
         arith,
-        sum_by-cons events_of y ys,
+        sum_by-cons end_events y ys,
         each 0 p y (omega arith) refl f o h,
         fewer (suc p) is ys total (omega (arith, l)) (λ k j y e g. each (suc k) j y (omega (arith, e)) g) rest k j x (omega (arith, e)) g less,
       )

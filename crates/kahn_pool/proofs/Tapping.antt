@@ -16,9 +16,9 @@ use Rattle.kahn_code.specs.declared.progress.Pause.{Pause}
 use Rattle.kahn_code.specs.declared.cell.Kept.{Kept}
 use Rattle.kahn_pool.specs.declared.answer.Stream.{Stream}
 use Rattle.kahn_pool.specs.inner.Bench.{HasRunCell, RunState, events_at}
-use Rattle.kahn_pool.specs.inner.Gathered.{nothing, view_at}
+use Rattle.kahn_pool.specs.inner.Gathered.{no_view, view_at}
 use Rattle.kahn_pool.specs.inner.Streams.{kept_lists, printed_list}
-use Rattle.kahn_pool.specs.inner.Workbench.{AreKeptOf, AreLeft, AreStreamsReady, AreWhole, IsLaid, IsLeft, HasWorked, Table, actuals_of, gone_in, parameters_of, state_of, table_of, told_in}
+use Rattle.kahn_pool.specs.inner.Workbench.{AreKeptOf, AreLeft, AreStreamsReady, AreWhole, IsLaid, IsLeft, HasWorked, Table, actual_count, gone_in, parameter_count, sight_of, table_of, told_in}
 use Rattle.kahn_pool.proofs.Benched.{get_map, ran, viewed}
 
 -- ---- later states of a bench
@@ -39,7 +39,7 @@ ran_events s t p quantum z h o = by (cases_eq o p)
     by : (o ≡ p) ⊎ (o ≡ p → ⊥) → events_at s o ≤ events_at t o
     by (inl e) = subst (λ o. events_at s o ≤ events_at t o) (sym e) h.events.0
     by (inr n) =
-        let same : view_at t.cells o ≡ view_at s.cells o = ap (λ l. view_at l o) h.only ∙ get_or-set_other s.cells p o (view_at t.cells p) nothing n in
+        let same : view_at t.cells o ≡ view_at s.cells o = ap (λ l. view_at l o) h.only ∙ get_or-set_other s.cells p o (view_at t.cells p) no_view n in
         let e = ap (λ (v : View). v.events) same in
         omega (arith, e)
 
@@ -58,8 +58,8 @@ module _ {t : Program} {lists : Lists} {watch : Option ℕ} {code : Program} (ta
   pub found : slice_get b.cells p ≡ Some x.told
   found = get_map told_in taps p x tap_at
 
-  pub events_here : events_at (state_of n) p ≡ x.told.events
-  events_here = ap (λ (y : Table). events_at (state_of y) p) (sym is) ∙ ap (λ (v : View). v.events) (viewed b laid p x.told found)
+  pub events_here : events_at (sight_of n) p ≡ x.told.events
+  events_here = ap (λ (y : Table). events_at (sight_of y) p) (sym is) ∙ ap (λ (v : View). v.events) (viewed b laid p x.told found)
 
   module _ (y : Tapped) (gone : y.gone ≡ x.gone) (q' : Queues) where
     gone_same : map gone_in (slice_set taps p y) ≡ map gone_in taps
@@ -73,13 +73,13 @@ module _ {t : Program} {lists : Lists} {watch : Option ℕ} {code : Program} (ta
     abbrev now : Table
     now = table_of t lists watch code (slice_set taps p y) q'
 
-    pub run_worked : (quantum : ℕ) (z : Pause) → HasRunCell (state_of n) (state_of now) p quantum z → HasWorked n now
+    pub run_worked : (quantum : ℕ) (z : Pause) → HasRunCell (sight_of n) (sight_of now) p quantum z → HasWorked n now
     run_worked quantum z h = record {
       network = ap (λ (x : Table). x.network) is;
       input = ap (λ (x : Table). x.input) is;
       watch = ap (λ (x : Table). x.watch) is;
       gone = gone_same ∙ ap (λ (x : Table). x.gone) is;
-      events = ran_events (state_of n) (state_of now) p quantum z h;
+      events = ran_events (sight_of n) (sight_of now) p quantum z h;
     }
 
 -- ---- what is there of what was kept
@@ -104,7 +104,7 @@ left_whole (x ∷ taps) (k ∷ kept) (suc n) h e =
     record {
       sent = ap (λ l. l ∷ map kept_lists kept) all.0 ∙ ap (λ l. x.told.kept ∷ l) r.sent;
       printed = ap (λ l. l ∷ map printed_list kept) all.1 ∙ ap (λ l. x.told.printed ∷ l) r.printed;
-      parameters = ap (λ l. l ∷ map parameters_of kept) h.0.2 ∙ ap (λ l. actuals_of x.told ∷ l) r.parameters;
+      parameters = ap (λ l. l ∷ map parameter_count kept) h.0.2 ∙ ap (λ l. actual_count x.told ∷ l) r.parameters;
     }
 
 -- the lists of a bench on which nothing was let go of

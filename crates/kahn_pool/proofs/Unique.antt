@@ -11,7 +11,7 @@ use Rattle.kahn_pool.specs.declared.answer.End.{End}
 use Rattle.kahn_pool.specs.declared.answer.Verdict.TheVariants.{Finished}
 use Rattle.kahn_pool.specs.declared.answer.Outcome.{Outcome}
 use Rattle.kahn_pool.specs.declared.answer.Outcome.TheVariants.{Ended, Waits, Faulted, More}
-use Rattle.kahn_pool.specs.Right.{IsRight, IsEnd, AreOne, line_of, values_of, events_of}
+use Rattle.kahn_pool.specs.Right.{IsRight, IsEnd, AreOne, stream_line, values_of, end_events}
 
 -- the channel of a parameter
 channel_of : Actual → ℕ
@@ -53,7 +53,7 @@ head_line e = cc
 tail_lines : {a b : Line} {xs ys : List Line} → a ∷ xs ≡ b ∷ ys → xs ≡ ys
 tail_lines e = cc
 
-same_streams : (N : Network) (I : Inputs) (ss ts : List Stream) → map line_of ss ≡ map line_of ts →
+same_streams : (N : Network) (I : Inputs) (ss ts : List Stream) → map stream_line ss ≡ map stream_line ts →
     ((j : ℕ) (s : Stream) → slice_get ss j ≡ Some s → IsWhole N I s.line (values_of s)) →
     ((j : ℕ) (t : Stream) → slice_get ts j ≡ Some t → IsWhole N I t.line (values_of t)) → map values_of ss ≡ map values_of ts
 same_streams N I [] [] e h g = refl
@@ -73,10 +73,10 @@ finished_is_one N I watch n m a b r s f g =
       lines = lines;
       values = same_streams N I a.streams.items b.streams.items lines (λ j x e. r.whole f x (j, e)) (λ j x e. s.whole g x (j, e));
       ends = ends;
-      events = r.run.total ∙ (ap (λ l. sum_by events_of l) ends ∙ sym s.run.total);
+      events = r.run.total ∙ (ap (λ l. sum_by end_events l) ends ∙ sym s.run.total);
     }
   where
-    lines : map line_of a.streams.items ≡ map line_of b.streams.items
+    lines : map stream_line a.streams.items ≡ map stream_line b.streams.items
     lines = r.named ∙ sym s.named
 
     ends : a.ends.items ≡ b.ends.items

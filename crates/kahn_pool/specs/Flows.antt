@@ -9,7 +9,7 @@ use Rattle.kahn_streams.specs.declared.value.Line.{Line}
 use Rattle.kahn_streams.specs.declared.token.Token.{Token}
 use Rattle.kahn_streams.specs.declared.value.Value.{Value}
 use Rattle.kahn_streams.specs.Entries.{Entry, channel_of, most_values}
-use Rattle.kahn_streams.specs.Feeds.{IsMeant, IsNotMeant, total}
+use Rattle.kahn_streams.specs.Feeds.{IsMeant, IsNotMeant, total_after}
 use Rattle.kahn_streams.specs.Tokens.{Lists}
 use Rattle.kahn_code.specs.Cells.{token_value}
 use Rattle.kahn_code.specs.Lines.{IsPoured}
@@ -70,7 +70,7 @@ pub record HasPouredIn (entry : Entry) (old new : Flowing) : Type 0 where
 -- channel are used up, or else memory was refused
 abbrev pub IsUnpoured : Entry → Flowing → Flowing → FeedFault → Type 0
 IsUnpoured entry old new TooMany =
-    (new ≡ old) × IsMeant old.run.network entry × ((most_values < would_wait old entry) ⊎ (2 ^ 48 ≤ total old.run.network old.run.input entry))
+    (new ≡ old) × IsMeant old.run.network entry × ((most_values < would_wait old entry) ⊎ (2 ^ 48 ≤ total_after old.run.network old.run.input entry))
 IsUnpoured entry old new NoMemory = (new ≡ old) × IsMeant old.run.network entry
 IsUnpoured entry old new UnknownName = (new ≡ old) × IsNotMeant old.run.network entry UnknownName
 IsUnpoured entry old new NotAnInput = (new ≡ old) × IsNotMeant old.run.network entry NotAnInput

@@ -8,7 +8,7 @@ use Rattle.kahn_streams.specs.declared.value.Line.{Line}
 use Rattle.kahn_streams.specs.declared.value.Line.TheVariants.{Channel, Print}
 use Rattle.kahn_streams.specs.declared.feeds.FeedFault.{FeedFault}
 use Rattle.kahn_streams.specs.Entries.{Entry}
-use Rattle.kahn_streams.specs.Feeds.{IsFed, IsUnwelcome}
+use Rattle.kahn_streams.specs.Feeds.{IsEntryFed, IsUnwelcome}
 use Rattle.kahn_streams.specs.Laws.{AreInputsExtended}
 use Rattle.kahn_streams.specs.Solution.{IsPrefix, IsWhole, source}
 use Rattle.kahn_streams.specs.Tokens.{Lists, inputs_of}
@@ -154,7 +154,7 @@ IsUnresumed more old new held.Stalled = ⊥
 
 -- the values stand behind those of their channel, and nothing else but the answer changes
 pub record HasFed (entry : Entry) (old new : HeldRun) : Type 0 where
-  pub fed : IsFed old.network old.input entry new.input
+  pub fed : IsEntryFed old.network old.input entry new.input
   pub rest : new ≡ record old { input = new.input; verdict = None }
   pub goes_on : GoesOn old new
 

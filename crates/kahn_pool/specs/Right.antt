@@ -40,14 +40,14 @@ stream_lines N watch = channel_lines watch N.channels 0 ++ print_lines N.instanc
 
 -- ---- parts of an answer
 
-abbrev pub line_of : Stream → Line
-line_of s = s.line
+abbrev pub stream_line : Stream → Line
+stream_line s = s.line
 
 abbrev pub values_of : Stream → List Value
 values_of s = map token_value s.tokens.items
 
-abbrev pub events_of : End → ℕ
-events_of x = x.events
+abbrev pub end_events : End → ℕ
+end_events x = x.events
 
 abbrev pub HasStream : Answer → Stream → Type 0
 HasStream a s = (j : ℕ) × (slice_get a.streams.items j ≡ Some s)
@@ -97,7 +97,7 @@ pub record AreRight (N : Network) (I : Inputs) (bound : ℕ) (v : Verdict) (ends
   -- each outcome is that of its instance on the tapes
   pub outcomes : (p : ℕ) (x : End) → slice_get ends p ≡ Some x → IsOutcome v N tapes p x.events x.outcome
   -- `events` is the sum, and at most the bound
-  pub total : events ≡ sum_by events_of ends
+  pub total : events ≡ sum_by end_events ends
   pub within : events ≤ bound
   -- where it has finished each end is that of its instance in the solution
   pub ended : v ≡ Finished → (p : ℕ) (x : End) → slice_get ends p ≡ Some x → IsEnd N I p x.outcome x.events
@@ -107,7 +107,7 @@ pub record AreRight (N : Network) (I : Inputs) (bound : ℕ) (v : Verdict) (ends
 pub record IsRight (N : Network) (I : Inputs) (bound : ℕ) (watch : Option ℕ) (a : Answer) : Type 0 where
   pub run : AreRight N I bound a.verdict a.ends.items a.events
   -- its streams are those that are named; the token at index k of the stream of line c has line c, place k, and a value that stands there
-  pub named : map line_of a.streams.items ≡ stream_lines N watch
+  pub named : map stream_line a.streams.items ≡ stream_lines N watch
   pub tokens : (s : Stream) (k : ℕ) (t : Token) → HasStream a s → slice_get s.tokens.items k ≡ Some t →
       (t.line ≡ s.line) × (t.place ≡ k) × Stands N I s.line k t.value
   -- each token is of this network, and of an input whose lists begin those of this one, so that `Input::lift` takes it
@@ -118,7 +118,7 @@ pub record IsRight (N : Network) (I : Inputs) (bound : ℕ) (watch : Option ℕ)
 
 -- two answers that say the same
 pub record AreOne (a b : Answer) : Type 0 where
-  pub lines : map line_of a.streams.items ≡ map line_of b.streams.items
+  pub lines : map stream_line a.streams.items ≡ map stream_line b.streams.items
   pub values : map values_of a.streams.items ≡ map values_of b.streams.items
   pub ends : a.ends.items ≡ b.ends.items
   pub events : a.events ≡ b.events

@@ -8,7 +8,7 @@ ghost use Rattle.kahn_code.specs.inner.Tapped.{Tapped};
 ghost use Rattle.kahn_tree.specs.declared.tree.Role.TheVariants.{Input as InputRole};
 ghost use Rattle.kahn_pool.specs.inner.Bench.{HasRunCell, all_events, events_at};
 ghost use Rattle.kahn_pool.specs.inner.Gathered.{TookNoMore};
-ghost use Rattle.kahn_pool.specs.inner.Workbench.{AllStandBy, AreOpeningCells, AreWhole, HasEmptied, HasFresh, HasFreshPrints, HasTakenIn, HasWorked, HaveForgotten, IsCrowded, IsLaid, IsNextPlace, StandsAsTold, gone_in, state_of, table_of, told_in};
+ghost use Rattle.kahn_pool.specs.inner.Workbench.{AllStandBy, AreOpeningCells, AreWhole, HasEmptied, HasFresh, HasFreshPrints, HasTakenIn, HasWorked, HaveForgotten, IsCrowded, IsLaid, IsNextPlace, StandsAsTold, gone_in, sight_of, table_of, told_in};
 ghost use Rattle.std.specs.Prelude.{◌≡◌, ◌<◌, ◌+◌, ◌++◌, ◌^◌, ℕ, Some, length, map, slice_get, IfOk, IfErr, IfSome, MatchOption, SomeIff};
 
 use crate::answer::{End, Outcome};
@@ -125,7 +125,7 @@ impl<'n> Bench<'n> {
         watch: Option<usize>,
     ) -> Result<Bench<'n>, CodeFault>
         ensures names { IfOk result (λ b. (b.network ≡ network.now) × (b.input ≡ input.now) × (b.watch ≡ watch)) }
-        ensures fresh { IfOk result (λ b. all_events (state_of b) ≡ 0) }
+        ensures fresh { IfOk result (λ b. all_events (sight_of b) ≡ 0) }
         ensures whole { IfOk result (λ b. AreWhole (length (network_of network.now).instances) b.gone) }
     {
         let code = compile(alloc, network)?;
@@ -164,8 +164,8 @@ impl<'n> Bench<'n> {
 
     /// How many instances the network has, each with a tap.
     pub(crate) fn instance_count(&self) -> usize
-        ensures count { result ≡ length (state_of self.now).network.instances }
-        ensures known { length (state_of self.now).cells ≡ length (state_of self.now).network.instances }
+        ensures count { result ≡ length (sight_of self.now).network.instances }
+        ensures known { length (sight_of self.now).cells ≡ length (sight_of self.now).network.instances }
     {
         self.network.instances()
     }
@@ -177,9 +177,9 @@ impl<'n> Bench<'n> {
         quantum: u64,
         steps: &mut Steps<L>,
     ) -> Pause
-        requires here { instance < length (state_of self.old).network.instances }
-        requires bound { events_at (state_of self.old) instance + quantum < 2 ^ 48 }
-        ensures { HasRunCell (state_of self.old) (state_of self.new) instance quantum result × HasWorked self.old self.new }
+        requires here { instance < length (sight_of self.old).network.instances }
+        requires bound { events_at (sight_of self.old) instance + quantum < 2 ^ 48 }
+        ensures { HasRunCell (sight_of self.old) (sight_of self.new) instance quantum result × HasWorked self.old self.new }
     {
         self.queues.at(instance);
         let pause = self.taps[instance].run(&self.code, quantum, &mut self.queues, steps);
@@ -189,16 +189,16 @@ impl<'n> Bench<'n> {
 
     /// How many events an instance has done.
     pub(crate) fn events(&self, instance: usize) -> u64
-        requires { instance < length (state_of self.now).network.instances }
-        ensures { result ≡ events_at (state_of self.now) instance }
+        requires { instance < length (sight_of self.now).network.instances }
+        ensures { result ≡ events_at (sight_of self.now) instance }
     {
         self.taps[instance].events()
     }
 
     /// The channel that a parameter reads.
     pub(crate) fn channel(&self, instance: usize, parameter: usize) -> usize
-        requires { (c : ℕ) × (actual_at (instance_at (state_of self.now).network instance) parameter ≡ Reads c) }
-        ensures { (c : ℕ) → actual_at (instance_at (state_of self.now).network instance) parameter ≡ Reads c → result ≡ c }
+        requires { (c : ℕ) × (actual_at (instance_at (sight_of self.now).network instance) parameter ≡ Reads c) }
+        ensures { (c : ℕ) → actual_at (instance_at (sight_of self.now).network instance) parameter ≡ Reads c → result ≡ c }
     {
         match self.code.channel(instance, parameter) {
             Some(channel) => channel,
@@ -231,7 +231,7 @@ impl<'n> Bench<'n> {
     /// An instance that may go on, as far as is known.
     pub(crate) fn next(&mut self) -> Option<usize>
         ensures same { self.new ≡ self.old }
-        ensures here { IfSome result (λ p. p < length (state_of self.new).network.instances) }
+        ensures here { IfSome result (λ p. p < length (sight_of self.new).network.instances) }
     {
         match self.awake.next() {
             Some(instance) if instance < self.network.instances() => Some(instance),
@@ -246,7 +246,7 @@ impl<'n> Bench<'n> {
 
     /// Says that no reader took more than was given: its contract is what it does.
     pub(crate) fn within(&self)
-        ensures { TookNoMore (state_of self.now).network (state_of self.now).input (state_of self.now).cells }
+        ensures { TookNoMore (sight_of self.now).network (sight_of self.now).input (sight_of self.now).cells }
     {
         self.queues.counted();
     }

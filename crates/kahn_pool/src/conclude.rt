@@ -5,7 +5,7 @@ ghost use Rattle.kahn_network.specs.Network.{network_of};
 ghost use Rattle.kahn_pool.specs.inner.Concluded.{IsConcluded};
 ghost use Rattle.kahn_pool.specs.inner.Gathers.{HasEnded};
 ghost use Rattle.kahn_pool.specs.inner.Meetings.{HaveMet};
-ghost use Rattle.kahn_pool.specs.inner.Rested.{state_of};
+ghost use Rattle.kahn_pool.specs.inner.Rested.{state_of_tasks};
 ghost use Rattle.kahn_pool.specs.declared.answer.Verdict.TheVariants as verdict;
 
 use crate::answer::{End, Verdict};
@@ -37,7 +37,7 @@ pub(crate) fn conclude<'n>(
     requires ended { HasEnded network.now input.now _watch _bound left.tasks.items left.budget left.halted }
     requires room { length (network_of network.now).instances ≤ vec_capacity ends }
     ensures met { HaveMet left.entry.tasks.items result.tasks.items }
-    ensures concluded { IsConcluded (state_of network.now input.now _watch left.entry.tasks.items) _bound left.entry.budget left.entry.halted result.verdict result.ends.items }
+    ensures concluded { IsConcluded (state_of_tasks network.now input.now _watch left.entry.tasks.items) _bound left.entry.budget left.entry.halted result.verdict result.ends.items }
     ensures verdict { result.verdict ≡ verdict.Memory ↔ left.entry.halted ≡ true }
 {
     let _program = network.program();

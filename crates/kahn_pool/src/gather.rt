@@ -9,7 +9,7 @@ ghost use Rattle.kahn_pool.specs.inner.Workbench.{AreKeptOf, AreStreamsReady};
 ghost use Rattle.kahn_pool.specs.declared.answer.Verdict.TheVariants as verdict;
 ghost use Rattle.kahn_pool.specs.inner.Gathers.{HasEnded, IsRoom};
 ghost use Rattle.kahn_crew.specs.inner.Left.{HaveLeft};
-ghost use Rattle.kahn_pool.specs.inner.Rested.{AreTasks, cell_of, state_of};
+ghost use Rattle.kahn_pool.specs.inner.Rested.{AreTasks, cell_of, state_of_tasks};
 
 use crate::answer::{Answer, End, Stream};
 use crate::conclude::{Conclusion, conclude};
@@ -77,7 +77,7 @@ fn streams_of(
 ) -> Vec<Stream>
     requires tasks { AreTasks network.now _input.now _watch tasks.items }
     requires ready { AreStreamsReady network.now _input.now _watch streams.items kept.items (vec_capacity kept) }
-    ensures { AreStreams (state_of network.now _input.now _watch tasks.entry.items) result.items (stream_lines (network_of network.now) _watch) }
+    ensures { AreStreams (state_of_tasks network.now _input.now _watch tasks.entry.items) result.items (stream_lines (network_of network.now) _watch) }
 {
     let mut kept = all_kept(tasks, kept);
     fill(network, &mut streams, &mut kept);

@@ -4,7 +4,7 @@ ghost use Rattle.std.specs.Prelude.{◌≡◌, ◌↔◌, ℕ, ◌+◌, Some, le
 ghost use Rattle.kahn_network.specs.Network.{network_of};
 ghost use Rattle.kahn_code.specs.Cells.{token_value};
 ghost use Rattle.kahn_pool.specs.HeldRuns.{HasFed, HasSoFar, HasStarted, IsAnswerOf, IsLineOf, IsResumed, IsRightSoFar, IsUnfed, IsUnresumed, IsUnstarted, seen_events};
-ghost use Rattle.kahn_pool.specs.Right.{line_of, stream_lines};
+ghost use Rattle.kahn_pool.specs.Right.{stream_line, stream_lines};
 ghost use Rattle.kahn_pool.specs.declared.answer.Verdict.{Verdict as VerdictOf};
 
 use crate::answer::{Answer, End, Stream, Verdict};
@@ -30,7 +30,7 @@ use std::thread::Threads;
 
 /// The lines of streams. It refuses only where memory was refused.
 pub(crate) fn lines_of(alloc: Global, streams: &[Stream]) -> Result<Vec<Line>, NoMemory>
-    ensures { IfOk result (λ lines. lines.items ≡ map line_of streams.now) }
+    ensures { IfOk result (λ lines. lines.items ≡ map stream_line streams.now) }
 {
     let mut lines = Vec::with_capacity(alloc, streams.len())?;
     for number in 0..streams.len() {

@@ -3,7 +3,7 @@
 ghost use Rattle.std.specs.Prelude.{◌≡◌, ◌<◌, ◌≤◌, ◌+◌, ◌^◌, length, vec_capacity};
 ghost use Rattle.kahn_pool.specs.inner.Bench.{all_events};
 ghost use Rattle.kahn_pool.specs.inner.FlowBench.{IsPartEnd};
-ghost use Rattle.kahn_pool.specs.inner.Workbench.{HasWorked, state_of};
+ghost use Rattle.kahn_pool.specs.inner.Workbench.{HasWorked, sight_of};
 
 use crate::answer::{End, Verdict};
 use crate::bench::Bench;
@@ -34,10 +34,10 @@ fn run_counted<G: Gate, L: Ledger>(
     requires parts { blank.parts ≡ L.parts }
     requires some { 0 < blank.parts }
     requires quantum { 0 < quantum }
-    requires bound { all_events (state_of bench.old) + bound < 2 ^ 48 }
-    requires room { length (state_of bench.old).network.instances ≤ vec_capacity ends }
-    ensures concluded { IsPartEnd bench.new (all_events (state_of bench.old) + bound) result }
-    ensures room { length (state_of bench.new).network.instances ≤ vec_capacity result.ends }
+    requires bound { all_events (sight_of bench.old) + bound < 2 ^ 48 }
+    requires room { length (sight_of bench.old).network.instances ≤ vec_capacity ends }
+    ensures concluded { IsPartEnd bench.new (all_events (sight_of bench.old) + bound) result }
+    ensures room { length (sight_of bench.new).network.instances ≤ vec_capacity result.ends }
     ensures worked { HasWorked bench.old bench.new }
 {
     let mut steps = Steps::<L>::open(blank);
@@ -64,10 +64,10 @@ pub(crate) fn run_part_alone<G: Gate>(
     bound: u64,
 ) -> PartEnd
     requires quantum { 0 < quantum }
-    requires bound { all_events (state_of bench.old) + bound < 2 ^ 48 }
-    requires room { length (state_of bench.old).network.instances ≤ vec_capacity ends }
-    ensures concluded { IsPartEnd bench.new (all_events (state_of bench.old) + bound) result }
-    ensures room { length (state_of bench.new).network.instances ≤ vec_capacity result.ends }
+    requires bound { all_events (sight_of bench.old) + bound < 2 ^ 48 }
+    requires room { length (sight_of bench.old).network.instances ≤ vec_capacity ends }
+    ensures concluded { IsPartEnd bench.new (all_events (sight_of bench.old) + bound) result }
+    ensures room { length (sight_of bench.new).network.instances ≤ vec_capacity result.ends }
     ensures worked { HasWorked bench.old bench.new }
 {
     run_counted::<G, Brand>(Blank::new(1), bench, gate, ends, quantum, bound)

@@ -5,8 +5,8 @@ ghost use Rattle.kahn_streams.specs.Solution.{source};
 ghost use Rattle.kahn_pool.specs.inner.Bench.{RunState, HasRunCell, PausedAt, HasEndIn, Goes, GoesIn, HasMoved, LacksMemory, HasVisited, IsSameRun, Marked, AreEnds, IsLast, IsVerdict, AreStreams, events_at, all_events, turn_of, weight};
 ghost use Rattle.kahn_pool.specs.inner.Gathered.{IsFrom};
 ghost use Rattle.kahn_pool.specs.Exact.{IsCutShort};
-ghost use Rattle.kahn_pool.specs.Right.{IsRight, line_of, stream_lines};
-ghost use Rattle.kahn_pool.specs.inner.Workbench.{HasWorked, state_of};
+ghost use Rattle.kahn_pool.specs.Right.{IsRight, stream_line, stream_lines};
+ghost use Rattle.kahn_pool.specs.inner.Workbench.{HasWorked, sight_of};
 ghost use Rattle.kahn_pool.specs.declared.answer.Outcome.TheVariants as outcome;
 ghost use Rattle.kahn_pool.specs.declared.answer.Stream.{Stream};
 ghost use Rattle.kahn_code.specs.declared.progress.Pause.TheVariants as pause;
@@ -38,9 +38,9 @@ pub(crate) struct Round {
 
 // The end of an instance that stands so.
 fn end_of(bench: &Bench<'_>, instance: usize, stopped: Pause) -> End
-    requires here { instance < length (state_of bench.now).network.instances }
-    requires paused { PausedAt (state_of bench.now) instance stopped }
-    ensures rests { HasEndIn (state_of bench.now) instance result }
+    requires here { instance < length (sight_of bench.now).network.instances }
+    requires paused { PausedAt (sight_of bench.now) instance stopped }
+    ensures rests { HasEndIn (sight_of bench.now) instance result }
     ensures more { result.outcome ≡ outcome.More → (stopped ≡ pause.Spent) ⊎ (stopped ≡ pause.NoMemory) }
 {
     let outcome = match stopped {
@@ -65,9 +65,9 @@ fn run_gated<L: Ledger, G: Gate>(
     instance: usize,
     quantum: u64,
 ) -> Pause
-    requires here { instance < length (state_of bench.old).network.instances }
-    requires bound { events_at (state_of bench.old) instance + quantum < 2 ^ 48 }
-    ensures ran { HasRunCell (state_of bench.old) (state_of bench.new) instance quantum result }
+    requires here { instance < length (sight_of bench.old).network.instances }
+    requires bound { events_at (sight_of bench.old) instance + quantum < 2 ^ 48 }
+    ensures ran { HasRunCell (sight_of bench.old) (sight_of bench.new) instance quantum result }
     ensures worked { HasWorked bench.old bench.new }
 {
     if quantum == 0 || gate.is_open() {
@@ -126,10 +126,10 @@ impl Round {
         gate: &G,
         instance: usize,
     ) -> End
-        requires here { instance < length (state_of bench.old).network.instances }
-        requires bound { all_events (state_of bench.old) + self.old.left < 2 ^ 48 }
+        requires here { instance < length (sight_of bench.old).network.instances }
+        requires bound { all_events (sight_of bench.old) + self.old.left < 2 ^ 48 }
         requires share { 0 < self.old.share }
-        ensures visited { HasVisited (state_of bench.old) (state_of bench.new) self.old self.new instance result }
+        ensures visited { HasVisited (sight_of bench.old) (sight_of bench.new) self.old self.new instance result }
         ensures ends { self.new.ends ≡ self.old.ends }
         ensures share { self.new.share ≡ self.old.share }
         ensures worked { HasWorked bench.old bench.new }
@@ -152,14 +152,14 @@ impl Round {
         gate: &G,
         instance: usize,
     )
-        requires here { instance < length (state_of bench.old).network.instances }
-        requires known { length (state_of bench.old).cells ≡ length (state_of bench.old).network.instances }
-        requires bound { all_events (state_of bench.old) + self.old.left < 2 ^ 48 }
+        requires here { instance < length (sight_of bench.old).network.instances }
+        requires known { length (sight_of bench.old).cells ≡ length (sight_of bench.old).network.instances }
+        requires bound { all_events (sight_of bench.old) + self.old.left < 2 ^ 48 }
         requires room { vec_len self.old.ends < vec_capacity self.old.ends }
         requires share { 0 < self.old.share }
         ensures share { self.new.share ≡ self.old.share }
-        ensures goes { (s0 : RunState) (w0 t0 : ℕ) → GoesIn s0 w0 t0 (state_of bench.old) self.old instance → GoesIn s0 w0 t0 (state_of bench.new) self.new (suc instance) }
-        ensures same { IsSameRun (state_of bench.old) (state_of bench.new) }
+        ensures goes { (s0 : RunState) (w0 t0 : ℕ) → GoesIn s0 w0 t0 (sight_of bench.old) self.old instance → GoesIn s0 w0 t0 (sight_of bench.new) self.new (suc instance) }
+        ensures same { IsSameRun (sight_of bench.old) (sight_of bench.new) }
         ensures size { vec_len self.new.ends ≡ vec_len self.old.ends + 1 }
         ensures room { vec_capacity self.new.ends ≡ vec_capacity self.old.ends }
         ensures worked { HasWorked bench.old bench.new }
@@ -191,9 +191,9 @@ fn run_awake<L: Ledger, G: Gate>(
     may_leave: bool,
 ) -> Round
     requires share { 0 < share }
-    requires bound { all_events (state_of bench.old) + left < 2 ^ 48 }
-    requires known { length (state_of bench.old).cells ≡ length (state_of bench.old).network.instances }
-    ensures moved { HasMoved (state_of bench.old) (state_of bench.new) left memory result.left result.memory }
+    requires bound { all_events (sight_of bench.old) + left < 2 ^ 48 }
+    requires known { length (sight_of bench.old).cells ≡ length (sight_of bench.old).network.instances }
+    ensures moved { HasMoved (sight_of bench.old) (sight_of bench.new) left memory result.left result.memory }
     ensures ends { result.ends ≡ ends }
     ensures share { result.share ≡ share }
     ensures worked { HasWorked bench.old bench.new }
@@ -231,12 +231,12 @@ fn one_round<L: Ledger, G: Gate>(
     memory: bool,
 ) -> Round
     requires share { 0 < share }
-    requires bound { all_events (state_of bench.old) + left < 2 ^ 48 }
-    requires known { length (state_of bench.old).cells ≡ length (state_of bench.old).network.instances }
-    requires room { length (state_of bench.old).network.instances ≤ vec_capacity ends }
-    requires lacks { LacksMemory (state_of bench.old) left memory }
-    ensures goes { Goes (state_of bench.old) (weight left memory) (all_events (state_of bench.old) + left) (state_of bench.new) result.left result.memory result.moved result.ends.items (length (state_of bench.new).network.instances) }
-    ensures same { IsSameRun (state_of bench.old) (state_of bench.new) }
+    requires bound { all_events (sight_of bench.old) + left < 2 ^ 48 }
+    requires known { length (sight_of bench.old).cells ≡ length (sight_of bench.old).network.instances }
+    requires room { length (sight_of bench.old).network.instances ≤ vec_capacity ends }
+    requires lacks { LacksMemory (sight_of bench.old) left memory }
+    ensures goes { Goes (sight_of bench.old) (weight left memory) (all_events (sight_of bench.old) + left) (sight_of bench.new) result.left result.memory result.moved result.ends.items (length (sight_of bench.new).network.instances) }
+    ensures same { IsSameRun (sight_of bench.old) (sight_of bench.new) }
     ensures share { result.share ≡ share }
     ensures room { vec_capacity result.ends ≡ vec_capacity ends }
     ensures worked { HasWorked bench.old bench.new }
@@ -267,9 +267,9 @@ fn run_between<L: Ledger, G: Gate>(
     may_leave: bool,
 ) -> Round
     requires share { 0 < last.share }
-    requires bound { all_events (state_of bench.old) + last.left < 2 ^ 48 }
-    requires known { length (state_of bench.old).cells ≡ length (state_of bench.old).network.instances }
-    ensures moved { HasMoved (state_of bench.old) (state_of bench.new) last.left last.memory result.left result.memory }
+    requires bound { all_events (sight_of bench.old) + last.left < 2 ^ 48 }
+    requires known { length (sight_of bench.old).cells ≡ length (sight_of bench.old).network.instances }
+    ensures moved { HasMoved (sight_of bench.old) (sight_of bench.new) last.left last.memory result.left result.memory }
     ensures ends { result.ends ≡ last.ends }
     ensures share { result.share ≡ last.share }
     ensures worked { HasWorked bench.old bench.new }
@@ -298,14 +298,14 @@ pub(crate) fn last_round<L: Ledger, G: Gate>(
     may_leave: bool,
 ) -> Option<Round>
     requires share { 0 < quantum }
-    requires bound { all_events (state_of bench.old) + bound < 2 ^ 48 }
-    requires known { length (state_of bench.old).cells ≡ length (state_of bench.old).network.instances }
-    requires room { length (state_of bench.old).network.instances ≤ vec_capacity ends }
-    ensures last { MatchOption result (may_leave ≡ true) (λ r. IsLast (state_of bench.new) (all_events (state_of bench.old) + bound) r.left r.memory r.ends.items) }
-    ensures lacks { IfSome result (λ r. LacksMemory (state_of bench.new) r.left r.memory) }
+    requires bound { all_events (sight_of bench.old) + bound < 2 ^ 48 }
+    requires known { length (sight_of bench.old).cells ≡ length (sight_of bench.old).network.instances }
+    requires room { length (sight_of bench.old).network.instances ≤ vec_capacity ends }
+    ensures last { MatchOption result (may_leave ≡ true) (λ r. IsLast (sight_of bench.new) (all_events (sight_of bench.old) + bound) r.left r.memory r.ends.items) }
+    ensures lacks { IfSome result (λ r. LacksMemory (sight_of bench.new) r.left r.memory) }
     ensures share { IfSome result (λ r. r.share ≡ quantum) }
-    ensures room { IfSome result (λ r. length (state_of bench.new).network.instances ≤ vec_capacity r.ends) }
-    ensures same { IsSameRun (state_of bench.old) (state_of bench.new) }
+    ensures room { IfSome result (λ r. length (sight_of bench.new).network.instances ≤ vec_capacity r.ends) }
+    ensures same { IsSameRun (sight_of bench.old) (sight_of bench.new) }
     ensures worked { HasWorked bench.old bench.new }
 {
     let mut ends = ends;
@@ -343,9 +343,9 @@ pub(crate) fn verdict_of(memory: bool, ends: &[End]) -> Verdict
 
 // The answer of a run of which this was the last round.
 fn answered(bench: Workbench<'_>, last: Round, bound: u64) -> Answer
-    requires last { IsLast (state_of bench) bound last.left last.memory last.ends.items }
-    requires lacks { LacksMemory (state_of bench) last.left last.memory }
-    ensures right { IsRight (state_of bench.entry).network (state_of bench.entry).input bound (state_of bench.entry).watch result }
+    requires last { IsLast (sight_of bench) bound last.left last.memory last.ends.items }
+    requires lacks { LacksMemory (sight_of bench) last.left last.memory }
+    ensures right { IsRight (sight_of bench.entry).network (sight_of bench.entry).input bound (sight_of bench.entry).watch result }
     ensures short { IsCutShort bound result }
 {
     bench.within();
@@ -373,10 +373,10 @@ pub fn run_bench<L: Ledger, G: Gate>(
 ) -> Option<Answer>
     requires quantum { 0 < quantum }
     requires bound { bound < 2 ^ 48 }
-    requires fresh { all_events (state_of bench) ≡ 0 }
-    requires known { length (state_of bench).cells ≡ length (state_of bench).network.instances }
-    requires room { length (state_of bench).network.instances ≤ vec_capacity ends }
-    ensures right { MatchOption result (may_leave ≡ true) (IsRight (state_of bench.entry).network (state_of bench.entry).input bound (state_of bench.entry).watch) }
+    requires fresh { all_events (sight_of bench) ≡ 0 }
+    requires known { length (sight_of bench).cells ≡ length (sight_of bench).network.instances }
+    requires room { length (sight_of bench).network.instances ≤ vec_capacity ends }
+    ensures right { MatchOption result (may_leave ≡ true) (IsRight (sight_of bench.entry).network (sight_of bench.entry).input bound (sight_of bench.entry).watch) }
     ensures short { IfSome result (IsCutShort bound) }
 {
     match last_round(

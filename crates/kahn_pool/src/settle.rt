@@ -1,7 +1,7 @@
 //! Each task that may go on is asked once more what comes next.
 
 ghost use Rattle.std.specs.Prelude.{◌≡◌, ℕ, ◌^◌, ◌<◌, length, Some, slice_get};
-ghost use Rattle.kahn_job.specs.inner.Berths.{IsFed, end_at};
+ghost use Rattle.kahn_job.specs.inner.Berths.{IsWithinInput, end_at};
 ghost use Rattle.kahn_crew.specs.inner.Tasks.{Tasked};
 ghost use Rattle.kahn_pool.specs.inner.Rested.{HaveSettledTasks, IsSettledTask, SettlesTo};
 ghost use Rattle.kahn_crew.specs.declared.standing.Standing.TheVariants as standing;
@@ -12,7 +12,7 @@ use std::sync::ledger::Ledger;
 
 // Says that of an input channel no more is ready than its list has: its contract is what it does.
 fn fed(task: &Task)
-    ensures { (q : ℕ) → IsFed (end_at task.now.work.ends q) }
+    ensures { (q : ℕ) → IsWithinInput (end_at task.now.work.ends q) }
 {
     for parameter in 0..task.parameters() {
         task.fed(parameter);

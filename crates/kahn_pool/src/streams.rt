@@ -10,7 +10,7 @@ ghost use Rattle.kahn_streams.specs.declared.value.Line.TheVariants.{Channel as 
 ghost use Rattle.kahn_streams.specs.Solution.{source};
 ghost use Rattle.kahn_streams.specs.Tokens.{inputs_of};
 ghost use Rattle.kahn_code.specs.Cells.{AreKeptTokens, is_streamed};
-ghost use Rattle.kahn_pool.specs.Right.{line_of, channel_lines, print_lines, stream_lines};
+ghost use Rattle.kahn_pool.specs.Right.{stream_line, channel_lines, print_lines, stream_lines};
 ghost use Rattle.kahn_pool.specs.inner.Streams.{AreAllGiven, AreGiven, AreNamed, IsBegun, IsDeclared, IsBare, kept_lists, AreLists, IsFilled, AreFilled, KeepsOtherLines, HasInput, HasInputs, HaveInput};
 
 use crate::answer::Stream;
@@ -55,7 +55,7 @@ fn has_stream(network: &Network, watch: Option<usize>, channel: usize) -> bool
 
 // One stream more, without tokens.
 fn add_stream(alloc: Global, streams: &mut Vec<Stream>, line: Line) -> Result<(), NoMemory>
-    ensures lines { OnOk result (map line_of streams.new.items ≡ map line_of streams.old.items ++ line ∷ []) }
+    ensures lines { OnOk result (map stream_line streams.new.items ≡ map stream_line streams.old.items ++ line ∷ []) }
     ensures bare { OnOk result (All IsBare streams.old.items → All IsBare streams.new.items) }
 {
     streams.push(Stream {
@@ -72,7 +72,7 @@ fn add_channels(
     network: &Network,
     watch: Option<usize>,
 ) -> Result<(), NoMemory>
-    ensures lines { OnOk result (map line_of streams.new.items ≡ map line_of streams.old.items ++ channel_lines watch (network_of network.now).channels 0) }
+    ensures lines { OnOk result (map stream_line streams.new.items ≡ map stream_line streams.old.items ++ channel_lines watch (network_of network.now).channels 0) }
     ensures bare { OnOk result (All IsBare streams.old.items → All IsBare streams.new.items) }
 {
     for channel in 0..network.channels() {
@@ -85,7 +85,7 @@ fn add_channels(
 
 // The print streams.
 fn add_prints(alloc: Global, streams: &mut Vec<Stream>, network: &Network) -> Result<(), NoMemory>
-    ensures lines { OnOk result (map line_of streams.new.items ≡ map line_of streams.old.items ++ print_lines (network_of network.now).instances 0) }
+    ensures lines { OnOk result (map stream_line streams.new.items ≡ map stream_line streams.old.items ++ print_lines (network_of network.now).instances 0) }
     ensures bare { OnOk result (All IsBare streams.old.items → All IsBare streams.new.items) }
 {
     let printing = printing(alloc, network)?;
@@ -104,7 +104,7 @@ pub fn empty_streams(
     network: &Network,
     watch: Option<usize>,
 ) -> Result<Vec<Stream>, NoMemory>
-    ensures lines { IfOk result (λ streams. map line_of streams.items ≡ stream_lines (network_of network.now) watch) }
+    ensures lines { IfOk result (λ streams. map stream_line streams.items ≡ stream_lines (network_of network.now) watch) }
     ensures bare { IfOk result (λ streams. All IsBare streams.items) }
 {
     let mut streams = Vec::new(alloc);

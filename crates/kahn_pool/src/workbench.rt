@@ -4,7 +4,7 @@ ghost use Rattle.kahn_network.specs.Network.{network_of};
 ghost use Rattle.kahn_pool.specs.inner.Bench.{AreStreams, all_events};
 ghost use Rattle.kahn_pool.specs.inner.Gathered.{TookNoMore};
 ghost use Rattle.kahn_pool.specs.Right.{stream_lines};
-ghost use Rattle.kahn_pool.specs.inner.Workbench.{AreLeft, AreOpen, state_of};
+ghost use Rattle.kahn_pool.specs.inner.Workbench.{AreLeft, AreOpen, sight_of};
 ghost use Rattle.std.specs.Prelude.{◌≡◌, ◌≤◌, [], length, IfOk, vec_capacity};
 
 use crate::answer::Stream;
@@ -78,7 +78,7 @@ impl<'n> Workbench<'n> {
         watch: Option<usize>,
     ) -> Result<Workbench<'n>, CodeFault>
         ensures names { IfOk result (λ b. (b.network ≡ network.now) × (b.input ≡ input.now) × (b.watch ≡ watch)) }
-        ensures fresh { IfOk result (λ b. all_events (state_of b) ≡ 0) }
+        ensures fresh { IfOk result (λ b. all_events (sight_of b) ≡ 0) }
     {
         let bench = Bench::new(alloc, network, input, watch)?;
         let streams = opening_streams(alloc, network, input, watch)?;
@@ -93,14 +93,14 @@ impl<'n> Workbench<'n> {
 
     /// Says that no reader took more than was given: its contract is what it does.
     pub(crate) fn within(&self)
-        ensures { TookNoMore (state_of self.now).network (state_of self.now).input (state_of self.now).cells }
+        ensures { TookNoMore (sight_of self.now).network (sight_of self.now).input (sight_of self.now).cells }
     {
         self.bench.within();
     }
 
     /// The streams of the answer: what the writers kept. It takes no memory.
     pub(crate) fn into_streams(self) -> Vec<Stream>
-        ensures { AreStreams (state_of self.entry) result.items (stream_lines (state_of self.entry).network (state_of self.entry).watch) }
+        ensures { AreStreams (sight_of self.entry) result.items (stream_lines (sight_of self.entry).network (sight_of self.entry).watch) }
     {
         let mut kept = all_kept(self.bench.into_taps(), self.kept);
         let mut streams = self.streams;

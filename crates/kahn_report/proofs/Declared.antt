@@ -9,7 +9,7 @@ use Rattle.std.specs.declared.vec.Vec.{Vec}
 use Rattle.std.specs.declared.alloc.Global.{Global}
 use Rattle.kahn_tree.specs.View.{bytes_of}
 use Rattle.kahn_network.specs.Network.{channels_of}
-use Rattle.kahn_report.specs.Names.{channel_names}
+use Rattle.kahn_report.specs.Names.{declared_names}
 
 abbrev pub Row : Type 0
 Row = List ℕ × (Kind × Role)
@@ -26,7 +26,7 @@ pub at_declaration : (ds : List Declaration) (i : ℕ) (d x : Declaration) → i
 at_declaration ds i d x below is = drop-cons ds i d below ∙ ap (λ y. y ∷ drop (suc i) ds) (sym is)
 
 pub name_at : (ds : List Declaration) (i n : ℕ) (d x : Declaration) (k : Kind) (r : Role) (ns : Vec Name Global) (w : Name) → i < length ds → x ≡ get_or ds i d → x ≡ D.Channels k r ns → n < length ns.items
-    → slice_index_or (channel_names (drop i ds)) n [] ≡ bytes_of (get_or ns.items n w)
+    → slice_index_or (declared_names (drop i ds)) n [] ≡ bytes_of (get_or ns.items n w)
 name_at ds i n d x k r ns w below is form here =
-    ap (λ l. slice_index_or (channel_names l) n []) (at_declaration ds i d x below is ∙ ap (λ y. y ∷ drop (suc i) ds) form)
+    ap (λ l. slice_index_or (declared_names l) n []) (at_declaration ds i d x below is ∙ ap (λ y. y ∷ drop (suc i) ds) form)
     ∙ first_name ns.items k r (channels_of (drop (suc i) ds)) n w here

@@ -12,7 +12,7 @@ use Rattle.kahn_streams.specs.declared.value.Line.TheVariants.{Channel, Print}
 use Rattle.kahn_pool.specs.declared.answer.Stream.{Stream}
 use Rattle.kahn_pool.specs.declared.answer.Answer.{Answer}
 use Rattle.kahn_code.specs.Cells.{is_output, is_watched}
-use Rattle.kahn_pool.specs.Right.{channel_lines, print_lines, stream_lines, line_of}
+use Rattle.kahn_pool.specs.Right.{channel_lines, print_lines, stream_lines, stream_line}
 use Rattle.kahn_report.specs.Names.{channel_count, instance_count}
 use Rattle.kahn_report.specs.Report.{IsLine, HasItsLines}
 
@@ -34,7 +34,7 @@ each_print t [] p below = tt
 each_print t (i ∷ rest) p below =
     each_if (IsLine t) (prints_in i.body) (Print p) (print_lines rest (suc p)) (omega (arith, below)) (each_print t rest (suc p) (omega (arith, below)))
 
-each_all : (P : Line → Type 0) (xs : List Stream) → AllByRecursion P (map line_of xs) → All (λ s. P s.line) xs
+each_all : (P : Line → Type 0) (xs : List Stream) → AllByRecursion P (map stream_line xs) → All (λ s. P s.line) xs
 each_all P [] h k d below = absurd (omega (arith, below))
 each_all P (x ∷ xs) h zero d below = h.0
 each_all P (x ∷ xs) h (suc k) d below = each_all P xs h.1 k d (omega (arith, below))
@@ -49,5 +49,5 @@ streamed_lines t watch =
     let instances : 0 + length N.instances ≤ instance_count t = omega (arith, all_instances) in
     each_append (IsLine t) (channel_lines watch N.channels 0) (print_lines N.instances 0) (each_channel t watch N.channels 0 channels) (each_print t N.instances 0 instances)
 
-pub right_lines : (t : Program) (watch : Option ℕ) (a : Answer) → map line_of a.streams.items ≡ stream_lines (network_of t) watch → HasItsLines t a
+pub right_lines : (t : Program) (watch : Option ℕ) (a : Answer) → map stream_line a.streams.items ≡ stream_lines (network_of t) watch → HasItsLines t a
 right_lines t watch a named = each_all (IsLine t) a.streams.items (subst (AllByRecursion (IsLine t)) (sym named) (streamed_lines t watch))

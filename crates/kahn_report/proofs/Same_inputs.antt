@@ -13,7 +13,7 @@ use Rattle.kahn_network.specs.Sides.{channel_names}
 use Rattle.kahn_network.proofs.Handed.{bytes_true}
 use Rattle.kahn_streams.specs.declared.value.Value.{Value}
 use Rattle.kahn_streams.specs.declared.value.Value.TheVariants.{Integer, Logical}
-use Rattle.kahn_streams.specs.Entries.{Entry, IsMadeOf, list_for}
+use Rattle.kahn_streams.specs.Entries.{Entry, IsInputOf, list_for}
 use Rattle.kahn_streams.specs.Tokens.{Lists, inputs_of}
 use Rattle.kahn_report.specs.Entries.{IsName, AreBlanks, IsValue, SpellsValues, AreValues, IsEntry, AreEntries, is_blank, content}
 use Rattle.kahn_report.proofs.Scanned.{scanned, same_tail}
@@ -125,6 +125,6 @@ one_for t u names (e ∷ es) c =
     ap (λ (n : Scope). if place_of n e.0 == c then e.1 else list_for t es c) names
     ∙ ap (λ (l : List Value). if place_of (channel_names u) e.0 == c then e.1 else l) (one_for t u names es c)
 
-pub one_input : (t u : Program) (es fs : List Entry) (i j : Lists) → channel_names t ≡ channel_names u → es ≡ fs → IsMadeOf t es i → IsMadeOf u fs j → inputs_of i ≡ inputs_of j
+pub one_input : (t u : Program) (es fs : List Entry) (i j : Lists) → channel_names t ≡ channel_names u → es ≡ fs → IsInputOf t es i → IsInputOf u fs j → inputs_of i ≡ inputs_of j
 one_input t u es fs i j names same h g =
     fun_ext (λ c. h.lists c ∙ one_for t u names es c ∙ ap (λ l. list_for u l c) same ∙ sym (g.lists c))

@@ -33,7 +33,7 @@ use Rattle.kahn_pool.specs.declared.answer.Outcome.{Outcome}
 use Rattle.kahn_pool.specs.declared.answer.Outcome.TheVariants.{Ended, Waits, Faulted, More}
 use Rattle.kahn_pool.specs.declared.answer.Stream.{Stream}
 use Rattle.kahn_pool.specs.declared.answer.Verdict.TheVariants.{Finished}
-use Rattle.kahn_pool.specs.Right.{AreOne, IsRight, line_of, values_of}
+use Rattle.kahn_pool.specs.Right.{AreOne, IsRight, stream_line, values_of}
 use Rattle.kahn_pool.specs.Runs.{IsWatched}
 use Rattle.kahn_pool.proofs.Unique.{finished_is_one}
 use Rattle.kahn_report.specs.Names as name
@@ -108,7 +108,7 @@ module _ (t u : Program) (channels : channel_names t ≡ channel_names u)
       stream_said t s ∙ ap (λ (h : List ℕ). h ++ (flat_map spaced_text (values_of s) ++ line_feed)) (same_head s.line)
       ∙ ap (λ (l : Line). said u l (values_of s)) line ∙ ap (λ (v : List Value). said u r.line v) values ∙ sym (stream_said u r)
 
-  same_streams : (ss rs : List Stream) → map line_of ss ≡ map line_of rs → map values_of ss ≡ map values_of rs → flat_map (stream_text t) ss ≡ flat_map (stream_text u) rs
+  same_streams : (ss rs : List Stream) → map stream_line ss ≡ map stream_line rs → map values_of ss ≡ map values_of rs → flat_map (stream_text t) ss ≡ flat_map (stream_text u) rs
   same_streams [] [] e f = refl
   same_streams [] (r ∷ rs) e f = absurd cc
   same_streams (s ∷ ss) [] e f = absurd cc

@@ -20,8 +20,8 @@ use mir.Val.{SFits as FitsSigned}
 use mir.Syntax.{w64}
 
 -- the most bytes of an input text
-abbrev pub most_bytes : ℕ
-most_bytes = 16777216
+abbrev pub most_input_bytes : ℕ
+most_input_bytes = 16777216
 
 -- the most bytes of a name
 abbrev pub most_name_bytes : ℕ
@@ -127,12 +127,12 @@ IsLineFault line line_fault.NoMemory = Unit {0}
 
 -- the text is within its limit and spells the entries
 abbrev pub IsInputText : List ℕ → List Entry → Type 0
-IsInputText text entries = (length text ≤ most_bytes) × AreEntries (text_lines text) entries
+IsInputText text entries = (length text ≤ most_input_bytes) × AreEntries (text_lines text) entries
 
 -- why an input text has no entries: it is too long, or else its first line that is neither blank nor an entry
 abbrev pub IsEntriesFault : List ℕ → TextFault → Type 0
-IsEntriesFault text (BadLine n) = (length text ≤ most_bytes) × IsFirstLine HasNoHead text n
-IsEntriesFault text (BadValue n) = (length text ≤ most_bytes) × IsFirstLine HasNoValues text n
-IsEntriesFault text TooLong = most_bytes < length text
-IsEntriesFault text text_fault.NoMemory = length text ≤ most_bytes
+IsEntriesFault text (BadLine n) = (length text ≤ most_input_bytes) × IsFirstLine HasNoHead text n
+IsEntriesFault text (BadValue n) = (length text ≤ most_input_bytes) × IsFirstLine HasNoValues text n
+IsEntriesFault text TooLong = most_input_bytes < length text
+IsEntriesFault text text_fault.NoMemory = length text ≤ most_input_bytes
 IsEntriesFault text (Input fault) = ⊥

@@ -14,12 +14,12 @@ abbrev pub instance_count : Program → ℕ
 instance_count program = length program.instances.items
 
 -- the names of the declared channels, in order of declaration
-abbrev pub channel_names : List Declaration → List (List ℕ)
-channel_names declarations = map (λ c. c.0) (channels_of declarations)
+abbrev pub declared_names : List Declaration → List (List ℕ)
+declared_names declarations = map (λ c. c.0) (channels_of declarations)
 
 -- the declared name of a channel, and nothing past the last
 abbrev pub channel_name : Program → ℕ → List ℕ
-channel_name program channel = slice_index_or (channel_names program.declarations.items) channel []
+channel_name program channel = slice_index_or (declared_names program.declarations.items) channel []
 
 -- the name of an instance's process, and nothing past the last
 abbrev pub process_name : Program → ℕ → List ℕ

@@ -23,7 +23,7 @@ use Rattle.kahn_pool.specs.declared.answer.Verdict.{Verdict}
 use Rattle.kahn_pool.specs.declared.answer.Verdict.TheVariants.{Finished}
 use Rattle.kahn_pool.specs.declared.config.RunFault.{RunFault}
 use Rattle.kahn_pool.specs.declared.config.RunFault.TheVariants as fault
-use Rattle.kahn_report.specs.Entries.{AreBlanks, IsEntry, HasNoHead, HasNoValues, content, most_bytes}
+use Rattle.kahn_report.specs.Entries.{AreBlanks, IsEntry, HasNoHead, HasNoValues, content, most_input_bytes}
 use Rattle.kahn_report.specs.Names.{channel_name}
 use Rattle.kahn_report.specs.News.{closing_text, joined, news_text, plain_text}
 use Rattle.kahn_write.specs.Written.{AppendsFront}
@@ -78,7 +78,7 @@ IsStreamOf h number name = IsNamedAt h.network (flow_lines h) number name
 
 -- the line is within its limit and a text
 abbrev pub IsText : List ℕ → Type 0
-IsText line = (length line ≤ most_bytes) × IsUtf8 line
+IsText line = (length line ≤ most_input_bytes) × IsUtf8 line
 
 -- what the line makes of the run before its part: nothing where it is blank, and else its values are fed
 abbrev pub IsFedBy : List ℕ → Flowing → Flowing → Type 0
@@ -87,8 +87,8 @@ IsFedBy line old new =
 
 -- why the line feeds nothing
 abbrev pub IsUnfedBy : List ℕ → Flowing → TakeFault → Type 0
-IsUnfedBy line h TooLong = most_bytes < length line
-IsUnfedBy line h NotUtf8 = (length line ≤ most_bytes) × ¬ IsUtf8 line
+IsUnfedBy line h TooLong = most_input_bytes < length line
+IsUnfedBy line h NotUtf8 = (length line ≤ most_input_bytes) × ¬ IsUtf8 line
 IsUnfedBy line h BadLine = IsText line × HasNoHead (content line)
 IsUnfedBy line h BadValue = IsText line × HasNoValues (content line)
 IsUnfedBy line h (Feed f) = IsText line × ((entry : Entry) × IsEntry (content line) entry × IsUnpoured entry h h f)
@@ -164,12 +164,12 @@ IsTakenLine line old new before after (Err (Write f)) = HasBroken line old new b
 
 -- ---- the end
 
-abbrev pub is_fault : Outcome → Bool
-is_fault (Faulted k) = true
-is_fault _ = false
+abbrev pub is_fault_outcome : Outcome → Bool
+is_fault_outcome (Faulted k) = true
+is_fault_outcome _ = false
 
 abbrev pub is_faulted : End → Bool
-is_faulted x = is_fault x.outcome
+is_faulted x = is_fault_outcome x.outcome
 
 -- whether a process has a fault, of the ends that are right for the input so far and the bound so far
 abbrev pub IsFaulty : HeldRun → Bool → Type 0

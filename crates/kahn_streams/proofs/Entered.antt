@@ -14,7 +14,7 @@ use Rattle.kahn_streams.specs.declared.entries.InputFault.{InputFault}
 use Rattle.kahn_streams.specs.declared.entries.InputFault.TheVariants.{NoMemory}
 use Rattle.kahn_streams.specs.Kinded.{AreOfKind, IsInputFor}
 use Rattle.kahn_streams.specs.Tokens.{Lists, inputs_of}
-use Rattle.kahn_streams.specs.Entries.{Entry, FailsFirst, asked_of_entry, channel_of, is_given, list_for, AreFit, IsFirstRefused, IsMadeOf}
+use Rattle.kahn_streams.specs.Entries.{Entry, FailsFirst, asked_of_entry, channel_of, is_given, list_for, AreFit, IsFirstRefused, IsInputOf}
 use Rattle.kahn_streams.specs.inner.Marked.{IsFitHere}
 
 -- ---- the number of a name
@@ -128,7 +128,7 @@ fit_more t es x all one k e at =
 -- ---- the flags and the lists, after the first entries
 
 pub record AreFilled (t : Program) (done : List Entry) (flags : List Bool) (lists : Lists) : Type 0 where
-  pub made : IsMadeOf t done lists
+  pub made : IsInputOf t done lists
   pub size : length flags ≡ length (network_of t).channels
   pub marks : (c : ℕ) → slice_index_or flags c false ≡ is_given t done c
 
@@ -213,7 +213,7 @@ list_bare t (x ∷ es) h c n =
     ∙ list_bare t es (λ k. h (suc k)) c n
 
 -- the lists of fit entries fit the network
-pub made_fits : (t : Program) (es : List Entry) (lists : Lists) → IsMadeOf t es lists → IsInputFor (network_of t) lists
+pub made_fits : (t : Program) (es : List Entry) (lists : Lists) → IsInputOf t es lists → IsInputFor (network_of t) lists
 made_fits t es lists made = record {
   count = made.count;
   lists_fit = λ c. record {

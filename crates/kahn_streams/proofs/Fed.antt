@@ -11,7 +11,7 @@ use Rattle.kahn_network.specs.Sides.{channel_names}
 use Rattle.kahn_streams.specs.declared.value.Value.{Value}
 use Rattle.kahn_streams.specs.declared.value.Line.{Line}
 use Rattle.kahn_streams.specs.Entries.{Entry, channel_of, most_values}
-use Rattle.kahn_streams.specs.Feeds.{IsMeant, IsNotMeant, IsUnwelcome, IsFed, fed_to, total}
+use Rattle.kahn_streams.specs.Feeds.{IsMeant, IsNotMeant, IsUnwelcome, IsEntryFed, fed_to, total_after}
 use Rattle.kahn_streams.specs.declared.feeds.FeedFault.{FeedFault}
 use Rattle.kahn_streams.specs.declared.feeds.FeedFault.TheVariants.{UnknownName, NotAnInput, WrongKind, TooMany, NoMemory}
 use Rattle.kahn_streams.specs.Kinded.{AreOfKind, IsListFor, IsInputFor}
@@ -76,8 +76,8 @@ module _ (t : Program) (before : Lists) (e : Entry) where
   ]
 
   -- one channel is fed
-  pub fed : (c : ℕ) (after : Lists) → length before ≡ length (network_of t).channels → c ≡ channel_of t e → IsMeant t e → total t before e ≤ most_values
-      → after ≡ set before c (inputs_of before c ++ e.1) → IsFed t before e after
+  pub fed : (c : ℕ) (after : Lists) → length before ≡ length (network_of t).channels → c ≡ channel_of t e → IsMeant t e → total_after t before e ≤ most_values
+      → after ≡ set before c (inputs_of before c ++ e.1) → IsEntryFed t before e after
   fed c after fits is meant within made =
       let here : after ≡ set before (channel_of t e) (inputs_of before (channel_of t e) ++ e.1) = made ∙ ap (λ d. set before d (inputs_of before d ++ e.1)) is in
       record {
@@ -88,7 +88,7 @@ module _ (t : Program) (before : Lists) (e : Entry) where
       }
 
 -- the lists before are prefixes of those after
-pub fed_grown : (t : Program) (before : Lists) (e : Entry) (after : Lists) → IsFed t before e after → AreInputsExtended (inputs_of before) (inputs_of after)
+pub fed_grown : (t : Program) (before : Lists) (e : Entry) (after : Lists) → IsEntryFed t before e after → AreInputsExtended (inputs_of before) (inputs_of after)
 fed_grown t before e after h c = (fed_to t e c, h.lists c)
 
 pub same_grown : (before after : Lists) → after ≡ before → AreInputsExtended (inputs_of before) (inputs_of after)
@@ -112,7 +112,7 @@ fed_bare : (t : Program) (e : Entry) → IsMeant t e → (c : ℕ) → role_at (
 fed_bare t e h c n = fed_other t e c (λ i. n (subst (λ d. role_at (network_of t) d ≡ Input) i (meant_input t e h)))
 
 -- lists that fit still fit
-pub fed_fits : (t : Program) (before : Lists) (e : Entry) (after : Lists) → IsFed t before e after → IsInputFor (network_of t) before → IsInputFor (network_of t) after
+pub fed_fits : (t : Program) (before : Lists) (e : Entry) (after : Lists) → IsEntryFed t before e after → IsInputFor (network_of t) before → IsInputFor (network_of t) after
 fed_fits t before e after h fits = record {
   count = h.count ∙ fits.count;
   lists_fit = λ c. record {

@@ -3,7 +3,7 @@ use mathlib.Core.Path.{fun_ext}
 use Rattle.std.proofs.Common.{◌≡◌, ℕ, zero, suc, ◌==◌, Bool, true, false, List, [], ◌∷◌, ◌++◌, length, refl, sym, ap, ◌∙◌, subst, eqb-true, if◌then◌else◌, append-nil, arith}
 use Rattle.kahn_streams.specs.declared.value.Value.{Value}
 use Rattle.kahn_streams.specs.Script.{Tapes, Script, Give, Fail, Waits, Sends, Turns, Rest, Outcome, Dry, Cut, Reached, at_once, after_event, after_send, put, wait_at, play}
-use Rattle.kahn_streams.specs.Steps.{Step, Took, Sent, Turned, Follows, here, took, sent, turned, empty, taken, sends_of, and_then, since, halted, RanBy}
+use Rattle.kahn_streams.specs.Steps.{Step, Took, Sent, Turned, Follows, here, took, sent, turned, empty, values_taken, sends_of, and_then, since, halted, RanBy}
 use Rattle.kahn_streams.proofs.Framed.{and_more}
 use Rattle.kahn_streams.proofs.Fuel.{Alike, gives, fails, waits_last, waits, sends_last, sends, turns_last, turns}
 
@@ -34,10 +34,10 @@ put_took q v V T = fun_ext (λ r. put_took_at (r == q) q r v V T refl)
 
 -- after these steps it goes on as the script that they led to
 pub play_on : {A : Type 0} {s s' : Script A} {steps : List Step} → Follows s steps s' → (n : ℕ) (T : Tapes) →
-    play (and_then steps n) s (and_more (taken steps) T) ≡ since steps (play n s' T)
+    play (and_then steps n) s (and_more (values_taken steps) T) ≡ since steps (play n s' T)
 play_on here n T = refl
 play_on (took {q = q} {v = v} {go = go} {steps = steps} h) n T =
-    rw (took_here q v (taken steps), put_took q v (taken steps) T) (ap after_event (play_on h n T))
+    rw (took_here q v (values_taken steps), put_took q v (values_taken steps) T) (ap after_event (play_on h n T))
 play_on (sent {p = p} {v = v} h) n T = ap (after_send p v) (play_on h n T)
 play_on (turned h) n T = ap after_event (play_on h n T)
 
@@ -60,10 +60,10 @@ and_more_empty V = fun_ext (λ q. append-nil (V q))
 
 -- just the values taken and just the events done: all values are taken, and the same is sent
 pub play_taken : {A : Type 0} {s s' : Script A} {steps : List Step} → Follows s steps s' →
-    play (length steps) s (taken steps) ≡ record { outcome = halted s'; left = empty; events = length steps; sent = sends_of steps }
+    play (length steps) s (values_taken steps) ≡ record { outcome = halted s'; left = empty; events = length steps; sent = sends_of steps }
 play_taken {A = A} {s = s} {s' = s'} {steps = steps} h =
-    ap (λ n. play n s (taken steps)) (sym (and_then_zero steps)) ∙
-    (ap (play (and_then steps 0) s) (sym (and_more_empty (taken steps))) ∙
+    ap (λ n. play n s (values_taken steps)) (sym (and_then_zero steps)) ∙
+    (ap (play (and_then steps 0) s) (sym (and_more_empty (values_taken steps))) ∙
     (play_on h 0 empty ∙
     (ap (since steps) (play_zero s') ∙ tidy steps (halted s'))))
   where
@@ -99,7 +99,7 @@ ran_wait (suc n) q T go (v ∷ vs) e step =
       steps = Took q v ∷ r.steps;
       to = r.to;
       follows = took r.follows;
-      tapes = split_put T q v vs (taken r.steps) (play n (go v) (put T q vs)).left e r.tapes;
+      tapes = split_put T q v vs (values_taken r.steps) (play n (go v) (put T q vs)).left e r.tapes;
       events = ap suc r.events;
       sent = r.sent;
       stopped = r.stopped;

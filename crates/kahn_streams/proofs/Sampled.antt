@@ -7,7 +7,7 @@ use Rattle.kahn_streams.specs.declared.value.Line.{Line}
 use Rattle.kahn_streams.specs.declared.value.Line.TheVariants.{Channel}
 use Rattle.kahn_streams.specs.Script.{Parameter, Printer, Tapes, Script, Give, play}
 use Rattle.kahn_streams.specs.Meaning.{Store, turns_of, script_of}
-use Rattle.kahn_streams.specs.Steps.{Step, Took, Sent, Turned, Follows, here, took, sent, turned, taken, sends_of, and_then}
+use Rattle.kahn_streams.specs.Steps.{Step, Took, Sent, Turned, Follows, here, took, sent, turned, values_taken, sends_of, and_then}
 use Rattle.kahn_network.specs.Network.{Network, instance_at}
 use Rattle.kahn_streams.specs.Solution.{Histories, tapes_of, out, values_at, goes_to, iterate, IsPrefix, Stands}
 use Rattle.kahn_tree.specs.Syntax as S
@@ -30,15 +30,15 @@ and_then_rest [] n = omega arith
 and_then_rest (x ∷ steps) n = omega (arith, and_then_rest steps n)
 
 sends_lower : (N : Network) (p m : ℕ) (H : Histories) (steps : List Step) (s' : Script Store) → Follows (script_at N m p) steps s' →
-    length steps ≤ m → ((q : ℕ) → IsPrefix (taken steps q) (tapes_of (instance_at N p) H q)) → (c : Line) →
+    length steps ≤ m → ((q : ℕ) → IsPrefix (values_taken steps q) (tapes_of (instance_at N p) H q)) → (c : Line) →
     IsPrefix (values_at (goes_to N p c) (sends_of steps)) (out N m p H c)
 sends_lower N p m H steps s' f le h c =
     let U : Tapes = λ q. (h q).0 in
     let e : and_then steps (m - length steps) ≡ m = omega (arith, and_then_rest steps (m - length steps)) in
-    let t : tapes_of (instance_at N p) H ≡ and_more (taken steps) U = fun_ext (λ q. (h q).1) in
+    let t : tapes_of (instance_at N p) H ≡ and_more (values_taken steps) U = fun_ext (λ q. (h q).1) in
     let r : (play m (script_at N m p) (tapes_of (instance_at N p) H)).sent ≡ sends_of steps ++ (play (m - length steps) s' U).sent =
     ap (λ T. (play m (script_at N m p) T).sent) t ∙
-    (ap (λ k. (play k (script_at N m p) (and_more (taken steps) U)).sent) (sym e) ∙
+    (ap (λ k. (play k (script_at N m p) (and_more (values_taken steps) U)).sent) (sym e) ∙
     ap (λ x. x.sent) (play_on f (m - length steps) U))
     in (
       values_at (goes_to N p c) (play (m - length steps) s' U).sent,
@@ -121,33 +121,33 @@ h_turns m (suc a) k c i =
 no_take : (q p : ℕ) (v : Value) (xs : List Value) → (q ≡ p → ⊥) → (if q == p then v ∷ xs else xs) ≡ xs
 no_take q p v xs h = rw (ne_eqb q p h) refl
 
-f_takes_u : (a : ℕ) → taken (repeated f_steps a) 0 ≡ all_of 0 a
+f_takes_u : (a : ℕ) → values_taken (repeated f_steps a) 0 ≡ all_of 0 a
 f_takes_u zero = refl
 f_takes_u (suc a) = ap (λ l. number 0 ∷ l) (f_takes_u a)
 
-f_takes_v : (a : ℕ) → taken (repeated f_steps a) 1 ≡ all_of 1 a
+f_takes_v : (a : ℕ) → values_taken (repeated f_steps a) 1 ≡ all_of 1 a
 f_takes_v zero = refl
 f_takes_v (suc a) = ap (λ l. number 1 ∷ l) (f_takes_v a)
 
-f_takes_no_more : (a q : ℕ) → taken (repeated f_steps a) (suc (suc q)) ≡ []
+f_takes_no_more : (a q : ℕ) → values_taken (repeated f_steps a) (suc (suc q)) ≡ []
 f_takes_no_more zero q = refl
 f_takes_no_more (suc a) q =
     no_take (suc (suc q)) 0 _ _ (omega arith) ∙ (no_take (suc (suc q)) 1 _ _ (omega arith) ∙ f_takes_no_more a q)
 
-g_takes : (a : ℕ) → taken (repeated g_steps a) 0 ≡ alternating a
+g_takes : (a : ℕ) → values_taken (repeated g_steps a) 0 ≡ alternating a
 g_takes zero = refl
 g_takes (suc a) = ap (λ l. number 0 ∷ number 1 ∷ l) (g_takes a)
 
-g_takes_no_more : (a q : ℕ) → taken (repeated g_steps a) (suc q) ≡ []
+g_takes_no_more : (a q : ℕ) → values_taken (repeated g_steps a) (suc q) ≡ []
 g_takes_no_more zero q = refl
 g_takes_no_more (suc a) q =
     no_take (suc q) 0 _ _ (omega arith) ∙ (no_take (suc q) 0 _ _ (omega arith) ∙ g_takes_no_more a q)
 
-h_takes : (a c : ℕ) → taken (repeated (h_steps c) a) 0 ≡ all_of c a
+h_takes : (a c : ℕ) → values_taken (repeated (h_steps c) a) 0 ≡ all_of c a
 h_takes zero c = refl
 h_takes (suc a) c = ap (λ l. number c ∷ l) (h_takes a c)
 
-h_takes_no_more : (a c q : ℕ) → taken (repeated (h_steps c) a) (suc q) ≡ []
+h_takes_no_more : (a c q : ℕ) → values_taken (repeated (h_steps c) a) (suc q) ≡ []
 h_takes_no_more zero c q = refl
 h_takes_no_more (suc a) c q = no_take (suc q) 0 _ _ (omega arith) ∙ h_takes_no_more a c q
 
@@ -177,7 +177,7 @@ abbrev Has : ℕ → List Value → Type 0
 Has c xs = (j : ℕ) × IsPrefix xs (iterate sample_network no_input j (Channel c))
 
 lower : (p m n : ℕ) (steps : List Step) (s' : Script Store) → Follows (script_at sample_network m p) steps s' → length steps ≤ m →
-    ((q : ℕ) → IsPrefix (taken steps q) (tapes_of (instance_at sample_network p) (iterate sample_network no_input n) q)) →
+    ((q : ℕ) → IsPrefix (values_taken steps q) (tapes_of (instance_at sample_network p) (iterate sample_network no_input n) q)) →
     (c : ℕ) → source sample_network (Channel c) ≡ Written p →
     Has c (values_at (goes_to sample_network p (Channel c)) (sends_of steps))
 lower p m n steps s' f le h c e = (
@@ -217,13 +217,13 @@ x_of a n y z =
     (lower 0 (twice a (8 * a)) n (repeated f_steps a) _ (f_pairs (twice a (8 * a)) a (8 * a) (number 0)).1
     (omega (arith, twice_is a (8 * a), f_length a)) feeds 0 refl)
   where
-    feeds : (q : ℕ) → IsPrefix (taken (repeated f_steps a) q) (tapes_of (instance_at sample_network 0) (iterate sample_network no_input n) q)
+    feeds : (q : ℕ) → IsPrefix (values_taken (repeated f_steps a) q) (tapes_of (instance_at sample_network 0) (iterate sample_network no_input n) q)
     feeds zero = rw (f_takes_u a) y
     feeds (suc zero) = rw (f_takes_v a) z
     feeds (suc (suc q)) = nothing _ _ (f_takes_no_more a q)
 
 g_feeds : (a n : ℕ) → IsPrefix (alternating a) (iterate sample_network no_input n (Channel 0)) →
-    (q : ℕ) → IsPrefix (taken (repeated g_steps a) q) (tapes_of (instance_at sample_network 1) (iterate sample_network no_input n) q)
+    (q : ℕ) → IsPrefix (values_taken (repeated g_steps a) q) (tapes_of (instance_at sample_network 1) (iterate sample_network no_input n) q)
 g_feeds a n x zero = rw (g_takes a) x
 g_feeds a n x (suc q) = nothing _ _ (g_takes_no_more a q)
 
@@ -246,7 +246,7 @@ y_of a t =
     (sent (h_turns (behind a (suc (3 * a))) a (suc (3 * a)) 0 (number 0)).1)
     (omega (arith, behind_is a (suc (3 * a)), h_length a 0)) feeds 1 refl)
   where
-    feeds : (q : ℕ) → IsPrefix (taken (repeated (h_steps 0) a) q) (tapes_of (instance_at sample_network 2) (iterate sample_network no_input t.0) q)
+    feeds : (q : ℕ) → IsPrefix (values_taken (repeated (h_steps 0) a) q) (tapes_of (instance_at sample_network 2) (iterate sample_network no_input t.0) q)
     feeds zero = rw (h_takes a 0) t.1
     feeds (suc q) = nothing _ _ (h_takes_no_more a 0 q)
 
@@ -257,7 +257,7 @@ z_of a t =
     (sent (h_turns (behind a (suc (3 * a))) a (suc (3 * a)) 1 (number 0)).1)
     (omega (arith, behind_is a (suc (3 * a)), h_length a 1)) feeds 2 refl)
   where
-    feeds : (q : ℕ) → IsPrefix (taken (repeated (h_steps 1) a) q) (tapes_of (instance_at sample_network 3) (iterate sample_network no_input t.0) q)
+    feeds : (q : ℕ) → IsPrefix (values_taken (repeated (h_steps 1) a) q) (tapes_of (instance_at sample_network 3) (iterate sample_network no_input t.0) q)
     feeds zero = rw (h_takes a 1) t.1
     feeds (suc q) = nothing _ _ (h_takes_no_more a 1 q)
 

@@ -89,7 +89,7 @@ abbrev pub IsNotMade : Program → List Entry → InputFault → Type 0
 IsNotMade t entries fault = (fault ≡ NoMemory) ⊎ IsFirstRefused t entries fault
 
 -- nothing is wrong with the entries, and these are the lists that they give the channels
-pub record IsMadeOf (t : Program) (entries : List Entry) (input : Lists) : Type 0 where
+pub record IsInputOf (t : Program) (entries : List Entry) (input : Lists) : Type 0 where
   pub fit : AreFit t entries
   pub count : length input ≡ length (network_of t).channels
   pub lists : (c : ℕ) → inputs_of input c ≡ list_for t entries c

@@ -11,15 +11,15 @@ use Rattle.kahn_streams.specs.Sample.{no_input, g_body, h_of}
 use Rattle.kahn_network.specs.Network.{Network, Reads, Writes, Hands}
 use Rattle.kahn_streams.specs.Solution.{Inputs, iterate, exec_at, ending, Ended, Waiting, Faulted}
 
-abbrev pub number : ℕ → S.Expr
-number n = S.Literal (S.Number (pos n))
+abbrev pub number_literal : ℕ → S.Expr
+number_literal n = S.Literal (S.Number (pos n))
 
 -- count(integer out W; integer N), with integer I
 abbrev pub count_body : S.Stmt
 count_body =
     S.While
     (S.Binary Op.Less (S.Variable 2) (S.Variable 1))
-    (S.Seq (S.Send (S.Variable 2) 0) (S.Assign 2 (S.Binary Op.Add (S.Variable 2) (number 1))))
+    (S.Seq (S.Send (S.Variable 2) 0) (S.Assign 2 (S.Binary Op.Add (S.Variable 2) (number_literal 1))))
 
 abbrev pub counting : Network
 counting = record {
@@ -35,7 +35,7 @@ doubling e = S.Repeat (S.Send e 1)
 abbrev pub doubling_network : Network
 doubling_network = record {
   channels = (KindOf.Integer, Input) ∷ ((KindOf.Integer, Output) ∷ []);
-  instances = record { actuals = Reads 0 ∷ (Writes 1 ∷ []); variables = []; body = doubling (S.Binary Op.Multiply (number 2) (S.Wait 0)) } ∷ [];
+  instances = record { actuals = Reads 0 ∷ (Writes 1 ∷ []); variables = []; body = doubling (S.Binary Op.Multiply (number_literal 2) (S.Wait 0)) } ∷ [];
 }
 
 abbrev pub one_two_three : Inputs
@@ -45,7 +45,7 @@ one_two_three c = Integer (pos 1) ∷ (Integer (pos 2) ∷ (Integer (pos 3) ∷ 
 abbrev pub overflowing : Network
 overflowing = record {
   channels = (KindOf.Integer, Input) ∷ ((KindOf.Integer, Output) ∷ []);
-  instances = record { actuals = Reads 0 ∷ (Writes 1 ∷ []); variables = []; body = doubling (S.Binary Op.Add (number 9223372036854775807) (S.Wait 0)) } ∷ [];
+  instances = record { actuals = Reads 0 ∷ (Writes 1 ∷ []); variables = []; body = doubling (S.Binary Op.Add (number_literal 9223372036854775807) (S.Wait 0)) } ∷ [];
 }
 
 abbrev pub zero_one : Inputs
@@ -69,7 +69,7 @@ own_channel = record {
   instances = record {
     actuals = Reads 0 ∷ (Writes 0 ∷ []);
     variables = KindOf.Integer ∷ [];
-    body = S.Seq (S.Send (number 1) 1) (S.Seq (S.Print (S.Wait 0)) (S.Assign 2 (S.Wait 0)));
+    body = S.Seq (S.Send (number_literal 1) 1) (S.Seq (S.Print (S.Wait 0)) (S.Assign 2 (S.Wait 0)));
   } ∷ [];
 }
 
@@ -98,14 +98,14 @@ f_limited =
     S.Seq
     (S.Assign 5 (S.Literal (S.Truth true)))
     (S.While
-    (S.Binary Op.Less (S.Variable 4) (number 4))
+    (S.Binary Op.Less (S.Variable 4) (number_literal 4))
     (S.Seq
     (S.Assign 3 (S.Conditional (S.Variable 5) (S.Wait 0) (S.Wait 1)))
     (S.Seq
     (S.Print (S.Variable 3))
     (S.Seq
     (S.Send (S.Variable 3) 2)
-    (S.Seq (S.Assign 5 (S.Not (S.Variable 5))) (S.Assign 4 (S.Binary Op.Add (S.Variable 4) (number 1))))))))
+    (S.Seq (S.Assign 5 (S.Not (S.Variable 5))) (S.Assign 4 (S.Binary Op.Add (S.Variable 4) (number_literal 1))))))))
 
 abbrev pub limited_sample : Network
 limited_sample = record {

@@ -30,13 +30,13 @@ abbrev pub IsMeantFor : Program → Entry → ℕ → Type 0
 IsMeantFor t entry c = (c ≡ channel_of t entry) × IsMeant t entry
 
 -- how many values the entry's channel would have
-abbrev pub total : Program → Lists → Entry → ℕ
-total t lists entry = length (inputs_of lists (channel_of t entry)) + length entry.1
+abbrev pub total_after : Program → Lists → Entry → ℕ
+total_after t lists entry = length (inputs_of lists (channel_of t entry)) + length entry.1
 
 -- why values aren't fed: they aren't meant for an input channel, or else they are too many, or else memory was refused
 abbrev pub IsUnwelcome : Program → Lists → Entry → FeedFault → Type 0
-IsUnwelcome t lists entry TooMany = IsMeant t entry × (most_values < total t lists entry)
-IsUnwelcome t lists entry NoMemory = IsMeant t entry × (total t lists entry ≤ most_values)
+IsUnwelcome t lists entry TooMany = IsMeant t entry × (most_values < total_after t lists entry)
+IsUnwelcome t lists entry NoMemory = IsMeant t entry × (total_after t lists entry ≤ most_values)
 IsUnwelcome t lists entry fault = IsNotMeant t entry fault
 
 -- what is fed to a channel
@@ -44,12 +44,12 @@ abbrev pub fed_to : Program → Entry → ℕ → List Value
 fed_to t entry c = if channel_of t entry == c then entry.1 else []
 
 -- the values are welcome, and stand behind those of their channel; all other lists are as before
-pub record IsFed (t : Program) (before : Lists) (entry : Entry) (after : Lists) : Type 0 where
+pub record IsEntryFed (t : Program) (before : Lists) (entry : Entry) (after : Lists) : Type 0 where
   pub meant : IsMeant t entry
-  pub within : total t before entry ≤ most_values
+  pub within : total_after t before entry ≤ most_values
   pub count : length after ≡ length before
   pub lists : (c : ℕ) → inputs_of after c ≡ inputs_of before c ++ fed_to t entry c
 
 -- what a call leaves that feeds an entry: the values are fed, or why not, and then the lists are as before
 abbrev pub LeavesFed : {X : Type 0} → Program → Entry → Lists → Lists → Result X FeedFault → Type 0
-LeavesFed t entry old new r = MatchResult r (λ _. IsFed t old entry new) (λ fault. (new ≡ old) × IsUnwelcome t old entry fault)
+LeavesFed t entry old new r = MatchResult r (λ _. IsEntryFed t old entry new) (λ fault. (new ≡ old) × IsUnwelcome t old entry fault)

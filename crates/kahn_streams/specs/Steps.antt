@@ -22,11 +22,11 @@ abbrev pub empty : Tapes
 empty r = []
 
 -- the values taken
-abbrev pub taken : List Step → Tapes
-taken [] r = []
-taken (Took q v ∷ steps) r = if r == q then v ∷ taken steps r else taken steps r
-taken (Sent p v ∷ steps) r = taken steps r
-taken (Turned ∷ steps) r = taken steps r
+abbrev pub values_taken : List Step → Tapes
+values_taken [] r = []
+values_taken (Took q v ∷ steps) r = if r == q then v ∷ values_taken steps r else values_taken steps r
+values_taken (Sent p v ∷ steps) r = values_taken steps r
+values_taken (Turned ∷ steps) r = values_taken steps r
 
 -- the values sent
 abbrev pub sends_of : List Step → List (Port × Value)
@@ -55,7 +55,7 @@ halted Script.Rest = Outcome.Cut
 
 -- with just the events done and the values taken, all is taken and the same is sent
 abbrev pub Replays : {A : Type 0} → Script A → List Step → Script A → Type 0
-Replays s steps to = play (length steps) s (taken steps) ≡ record { outcome = halted to; left = empty; events = length steps; sent = sends_of steps }
+Replays s steps to = play (length steps) s (values_taken steps) ≡ record { outcome = halted to; left = empty; events = length steps; sent = sends_of steps }
 
 -- where a run stopped: nothing more to do, a fault, an empty tape, or an event that isn't allowed any more
 abbrev pub StoppedAt : {A : Type 0} → Outcome A → Tapes → Script A → Type 0
@@ -69,7 +69,7 @@ pub record RanBy {A : Type 0} (s : Script A) (T : Tapes) (r : Reached A) : Type 
   pub steps : List Step
   pub to : Script A
   pub follows : Follows s steps to
-  pub tapes : (q : ℕ) → T q ≡ taken steps q ++ r.left q
+  pub tapes : (q : ℕ) → T q ≡ values_taken steps q ++ r.left q
   pub events : r.events ≡ length steps
   pub sent : r.sent ≡ sends_of steps
   pub stopped : StoppedAt r.outcome r.left to

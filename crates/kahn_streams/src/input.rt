@@ -1,7 +1,7 @@
 //! The lists that are fed to the input channels.
 
 ghost use Rattle.std.specs.Prelude.{◌≡◌, ◌+◌, ◌++◌, ◌<◌, ◌≤◌, ◌↔◌, if◌then◌else◌, is_ok, IsTrue, IfSome, IfNone, IfOk, IfErr, OnErr, MatchResult, false, length, map, slice_get, slice_index_or, slice_set, [], replicate, vec_capacity};
-ghost use Rattle.kahn_streams.specs.Entries.{entry_of, most_values, IsMadeOf, IsNotMade, IsFirstRefused};
+ghost use Rattle.kahn_streams.specs.Entries.{entry_of, most_values, IsInputOf, IsNotMade, IsFirstRefused};
 ghost use Rattle.kahn_streams.specs.Feeds.{LeavesFed};
 ghost use Rattle.kahn_streams.specs.Laws.{AreInputsExtended};
 ghost use Rattle.kahn_streams.specs.Kinded.{IsListFor, IsInputFor};
@@ -59,7 +59,7 @@ impl Input {
         network: &Network,
         entries: Vec<(String, Vec<Value>)>,
     ) -> Result<Input, InputFault>
-        ensures made { MatchResult result (IsMadeOf network.now (map entry_of entries.items)) (IsNotMade network.now (map entry_of entries.items)) }
+        ensures made { MatchResult result (IsInputOf network.now (map entry_of entries.items)) (IsNotMade network.now (map entry_of entries.items)) }
         ensures fits { IfOk result (IsInputFor (network_of network.now)) }
     {
         let input = Input::none(alloc, network)?;
@@ -195,7 +195,7 @@ fn filled(
 ) -> Result<Input, InputFault>
     requires empty { input ≡ replicate (length (network_of network.now).channels) [] }
     requires none { given.items ≡ replicate (length (network_of network.now).channels) false }
-    ensures made { MatchResult result (IsMadeOf network.now (map entry_of entries.items)) (IsFirstRefused network.now (map entry_of entries.items)) }
+    ensures made { MatchResult result (IsInputOf network.now (map entry_of entries.items)) (IsFirstRefused network.now (map entry_of entries.items)) }
     ensures fits { IfOk result (IsInputFor (network_of network.now)) }
 {
     let mut number = 0;

@@ -2,17 +2,15 @@
 use Rattle.std.specs.Prelude.{◌≡◌, ◌≤◌, ◌⊎◌, ℕ, List, [], Option, Some, None, length, string_bytes}
 use Rattle.std.specs.declared.alloc.Global.{Global}
 use Rattle.std.specs.declared.string.String.{String}
+use Rattle.kahn_report.specs.Entries.{most_input_bytes}
 use Rattle.kahn_report.specs.Reading.{IsReadFault}
 use Rattle.kahn_fault.specs.declared.fault.Fault.{Fault}
 use Rattle.kahn_fault.specs.declared.fault.Fault.TheVariants.{Open, Program, InputText, Work}
 use Rattle.kahn_texts.specs.declared.texts.Texts.{Texts}
 
--- the most bytes of a program text, and of an input text
+-- the most bytes of a program text
 abbrev pub most_program_bytes : ℕ
 most_program_bytes = 1048576
-
-abbrev pub most_input_bytes : ℕ
-most_input_bytes = 16777216
 
 -- why a program text wasn't read, by what came from the reader, and the path that was given
 abbrev pub StandsForProgram : Option (String Global) → Option (List ℕ) → Option (List ℕ) → Fault → Type 0

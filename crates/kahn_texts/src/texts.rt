@@ -2,7 +2,8 @@
 
 ghost use Rattle.std.specs.Prelude.{◌≡◌, ◌≤◌, IfOk, MatchResult, None, [], length, string_bytes};
 ghost use Rattle.kahn_report.specs.Reading.{GivesAll};
-ghost use Rattle.kahn_texts.specs.Texts.{most_program_bytes, most_input_bytes, AreWithin, IsOfProgram, IsOfInput, IsOfTexts, StandsForProgram, StandsForInput};
+ghost use Rattle.kahn_report.specs.Entries.{most_input_bytes};
+ghost use Rattle.kahn_texts.specs.Texts.{most_program_bytes, AreWithin, IsOfProgram, IsOfInput, IsOfTexts, StandsForProgram, StandsForInput};
 
 use kahn_fault::Fault;
 use kahn_report::read_text;

@@ -21,7 +21,7 @@ use Rattle.kahn_network.proofs.Numbered.{distinct_channels, number_test}
 use Rattle.kahn_streams.specs.declared.value.Line.{Line}
 use Rattle.kahn_streams.specs.declared.value.Line.TheVariants.{Channel, Print}
 use Rattle.kahn_code.specs.Cells.{is_output, is_streamed, is_watched}
-use Rattle.kahn_pool.specs.Right.{HasStream, channel_lines, line_of, print_lines, stream_lines}
+use Rattle.kahn_pool.specs.Right.{HasStream, channel_lines, stream_line, print_lines, stream_lines}
 use Rattle.kahn_pool.specs.declared.answer.Answer.{Answer}
 use Rattle.kahn_pool.specs.declared.answer.Stream.{Stream}
 use Rattle.kahn_trace.specs.Histories.{column_line}
@@ -55,12 +55,12 @@ in_front [] ys j x e = absurd cc
 in_front (y ∷ xs) ys zero x e = e
 in_front (y ∷ xs) ys (suc j) x e = in_front xs ys j x e
 
-stream_at : (ss : List Stream) (j : ℕ) (c : Line) → slice_get (map line_of ss) j ≡ Some c → (s : Stream) × (slice_get ss j ≡ Some s) × (s.line ≡ c)
+stream_at : (ss : List Stream) (j : ℕ) (c : Line) → slice_get (map stream_line ss) j ≡ Some c → (s : Stream) × (slice_get ss j ≡ Some s) × (s.line ≡ c)
 stream_at [] j c e = absurd cc
 stream_at (s ∷ ss) zero c e = let same : s.line ≡ c = cc in (s, refl, same)
 stream_at (s ∷ ss) (suc j) c e = stream_at ss j c e
 
-pub has_line : (N : Network) (watch : Option ℕ) (a : Answer) (c : ℕ) → map line_of a.streams.items ≡ stream_lines N watch → c < length N.channels
+pub has_line : (N : Network) (watch : Option ℕ) (a : Answer) (c : ℕ) → map stream_line a.streams.items ≡ stream_lines N watch → c < length N.channels
     → is_streamed N watch c ≡ true → HasLine a (Channel c)
 has_line N watch a c named below is =
     let row = slice_get-get_or N.channels c (Integer, Inner) below in
@@ -102,9 +102,9 @@ all_prints : (is : List Instance) (p : ℕ) → flat_map print_line (print_lines
 all_prints [] p = refl
 all_prints (i ∷ is) p = one_print (prints_in i.body) p (print_lines is (suc p)) (all_prints is (suc p))
 
-pub printed : (N : Network) (watch : Option ℕ) (ss : List Stream) → map line_of ss ≡ stream_lines N watch → flat_map print_part ss ≡ print_lines N.instances 0
+pub printed : (N : Network) (watch : Option ℕ) (ss : List Stream) → map stream_line ss ≡ stream_lines N watch → flat_map print_part ss ≡ print_lines N.instances 0
 printed N watch ss named =
-    sym (flat_map-map print_line line_of ss) ∙ ap (flat_map print_line) named ∙ flat_map-append print_line (channel_lines watch N.channels 0) (print_lines N.instances 0)
+    sym (flat_map-map print_line stream_line ss) ∙ ap (flat_map print_line) named ∙ flat_map-append print_line (channel_lines watch N.channels 0) (print_lines N.instances 0)
     ∙ ap (λ l. l ++ flat_map print_line (print_lines N.instances 0)) (no_prints watch N.channels 0) ∙ all_prints N.instances 0
 
 -- ---- the columns of prints, one after another

@@ -4,8 +4,8 @@ use Rattle.kahn_streams.specs.declared.value.Value.{Value}
 use Rattle.kahn_streams.specs.declared.value.Value.TheVariants.{Integer, Logical}
 use Rattle.kahn_code.specs.declared.word.Word.TheInside.{Inside}
 
-abbrev pub value_of : Inside → Value
-value_of w = if w.is_logical then Logical w.truth else Integer w.number
+abbrev pub word_value : Inside → Value
+word_value w = if w.is_logical then Logical w.truth else Integer w.number
 
 -- the number of a logical value is 0, the truth value of an integer false
 abbrev pub IsCanonical : Inside → Type 0
@@ -19,5 +19,5 @@ by_fields : (n : ℤ) (t b : Bool) → (b ≡ true → n ≡ pos 0) → (b ≡ f
 by_fields n t true zero plain = let e = zero refl in cc
 by_fields n t false zero plain = let e = plain refl in cc
 
-pub word_of-value_of : (w : Inside) → IsCanonical w → word_of (value_of w) ≡ w
+pub word_of-value_of : (w : Inside) → IsCanonical w → word_of (word_value w) ≡ w
 word_of-value_of w h = by_fields w.number w.truth w.is_logical h.0 h.1

@@ -9,10 +9,10 @@ use Rattle.kahn_code.specs.Standing.{count}
 use Rattle.kahn_job.specs.inner.Berths.{end_at}
 use Rattle.kahn_job.specs.inner.Ends.{ShareLane}
 use Rattle.kahn_job.specs.inner.Works.{Work, IsDelivered}
-use Rattle.kahn_board.specs.Dealt.{dealt, events_of}
+use Rattle.kahn_board.specs.Dealt.{dealt, events_told}
 use Rattle.kahn_board.specs.declared.rule.Terms.{Terms}
 use Rattle.kahn_crew.specs.declared.standing.Standing.TheVariants as standing
-use Rattle.kahn_crew.specs.inner.Tasks.{Tasked, told_of}
+use Rattle.kahn_crew.specs.inner.Tasks.{Tasked, told_tale}
 
 -- the task of a job that may go on, of which all that it sent is published
 abbrev pub ready_task : Work → Tasked
@@ -52,11 +52,11 @@ AreNumbersOf t lists tasks numbers =
     (c : ℕ) → c < length numbers → IsNumber t lists tasks c (slice_index numbers c) × (slice_index numbers c < 2 ^ 48)
 
 -- how many events may have been done in all: those of the tasks so far and the bound of the board
-abbrev pub all_events : Terms Tasked → ℕ
-all_events key = key.bound + events_of told_of key.cells.value.items
+abbrev pub most_events : Terms Tasked → ℕ
+most_events key = key.bound + events_told told_tale key.cells.value.items
 
 -- the board was made of such tasks, and that many tokens are published
 pub record HasBegun (t : Program) (lists : Lists) (watch : Option ℕ) (key : Terms Tasked) : Type 0 where
   pub network : key.network.value ≡ t
   pub ready : AreReadyTasks t lists watch key.cells.value.items
-  pub numbers : (c : ℕ) → c < length (network_of t).channels → IsNumber t lists key.cells.value.items c ((dealt told_of key).published c)
+  pub numbers : (c : ℕ) → c < length (network_of t).channels → IsNumber t lists key.cells.value.items c ((dealt told_tale key).published c)

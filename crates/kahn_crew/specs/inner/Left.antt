@@ -5,13 +5,13 @@ use Rattle.kahn_tree.specs.declared.tree.Role.TheVariants.{Input}
 use Rattle.kahn_network.specs.Network.{Reads, Writes, network_of, role_at}
 use Rattle.kahn_streams.specs.Tokens.{Lists, inputs_of}
 use Rattle.kahn_code.specs.Standing.{count}
-use Rattle.kahn_board.specs.Dealt.{events_of}
+use Rattle.kahn_board.specs.Dealt.{events_told}
 use Rattle.kahn_board.specs.declared.rule.Terms.{Terms}
-use Rattle.kahn_crew.specs.inner.Begins.{AreReadyTasks, all_events}
+use Rattle.kahn_crew.specs.inner.Begins.{AreReadyTasks, most_events}
 use Rattle.kahn_crew.specs.declared.left.Left.{Left}
 use Rattle.kahn_crew.specs.declared.plan.Plan.{Plan}
 use Rattle.kahn_crew.specs.declared.standing.Standing.TheVariants as standing
-use Rattle.kahn_crew.specs.inner.Tasks.{Tasked, Continues, handed, is_over, told_of}
+use Rattle.kahn_crew.specs.inner.Tasks.{Tasked, Continues, handed_to_task, is_over, told_tale}
 
 abbrev pub task_events : Tasked → ℕ
 task_events x = x.work.cell.events
@@ -19,13 +19,13 @@ task_events x = x.work.cell.events
 -- k tokens of the channel d are all that was sent there, or the whole list of an input channel
 pub record AreAll (t : Program) (lists : Lists) (tasks : List Tasked) (d k : ℕ) : Type 0 where
   pub given : role_at (network_of t) d ≡ Input → k ≡ length (inputs_of lists d)
-  pub sent : (r o : ℕ) (z : Tasked) → slice_get tasks r ≡ Some z → handed z.work o ≡ Writes d → count z.work.cell.sent o ≡ k
+  pub sent : (r o : ℕ) (z : Tasked) → slice_get tasks r ≡ Some z → handed_to_task z.work o ≡ Writes d → count z.work.cell.sent o ≡ k
 
 -- the task has ended, or waits on a channel of which it took all
 abbrev pub IsQuietTask : Program → Lists → List Tasked → Tasked → Type 0
 IsQuietTask t lists tasks x =
     (is_over x.standing ≡ true)
-    ⊎ ((q d : ℕ) × (x.standing ≡ standing.Dry q) × (handed x.work q ≡ Reads d) × AreAll t lists tasks d (count x.work.cell.taken q))
+    ⊎ ((q d : ℕ) × (x.standing ≡ standing.Dry q) × (handed_to_task x.work q ≡ Reads d) × AreAll t lists tasks d (count x.work.cell.taken q))
 
 -- the run was halted, or the bound is used up, or all are at rest
 abbrev pub IsOver : Program → Lists → List Tasked → ℕ → Bool → Type 0
@@ -54,11 +54,11 @@ pub record HaveLeft (t : Program) (lists : Lists) (watch : Option ℕ) (bound : 
 -- what is left of a run by such a plan of tasks that were ready
 abbrev pub IsLeftBy : Program → Lists → Plan → List Tasked → Left → Type 0
 IsLeftBy t lists plan first left =
-    HaveGone t lists plan.watch (plan.bound + events_of told_of first) first left.tasks.items left.budget
+    HaveGone t lists plan.watch (plan.bound + events_told told_tale first) first left.tasks.items left.budget
 
 -- what is left of a board that was made with these terms
 abbrev pub IsLeftOf : Program → Lists → Option ℕ → Terms Tasked → Left → Type 0
-IsLeftOf t lists watch key left = HaveGone t lists watch (all_events key) key.cells.value.items left.tasks.items left.budget
+IsLeftOf t lists watch key left = HaveGone t lists watch (most_events key) key.cells.value.items left.tasks.items left.budget
 
 -- and nothing was done on it
 abbrev pub IsUntouched : Terms Tasked → Left → Type 0

@@ -55,8 +55,8 @@ IsTrueOf w (standing.Dry q) = HasStanding w (standing.Dry q)
 -- ---- what a task tells the board
 
 -- what is handed to a parameter of the task's instance
-abbrev pub handed : Work → ℕ → Actual
-handed w q = actual_at (instance_at (network_of w.cell.network) w.cell.instance) q
+abbrev pub handed_to_task : Work → ℕ → Actual
+handed_to_task w q = actual_at (instance_at (network_of w.cell.network) w.cell.instance) q
 
 -- the channel that is read
 abbrev pub read_by : Actual → Option ℕ
@@ -79,15 +79,15 @@ abbrev pub first_that : (Actual → Bool) → List Actual → ℕ → Option ℕ
 first_that f [] q = None
 first_that f (a ∷ rest) q = if f a then Some q else first_that f rest (suc q)
 
-abbrev pub actuals_of : Work → List Actual
-actuals_of w = (instance_at (network_of w.cell.network) w.cell.instance).actuals
+abbrev pub actuals_here : Work → List Actual
+actuals_here w = (instance_at (network_of w.cell.network) w.cell.instance).actuals
 
 -- the parameter that reads the channel, and the one that writes it, where it is a channel between processes
 abbrev pub reads_at : Work → ℕ → Option ℕ
-reads_at w c = first_that (λ a. is_channel (read_by a) c) (actuals_of w) 0
+reads_at w c = first_that (λ a. is_channel (read_by a) c) (actuals_here w) 0
 
 abbrev pub writes_at : Work → ℕ → Option ℕ
-writes_at w c = first_that (λ a. is_channel (written_by (network_of w.cell.network) a) c) (actuals_of w) 0
+writes_at w c = first_that (λ a. is_channel (written_by (network_of w.cell.network) a) c) (actuals_here w) 0
 
 abbrev pub count_on : List ℕ → Option ℕ → ℕ
 count_on xs None = 0
@@ -108,7 +108,7 @@ abbrev pub waits_on : Work → Standing → Option ℕ
 waits_on w standing.Going = None
 waits_on w standing.Ended = None
 waits_on w (standing.Faulted k) = None
-waits_on w (standing.Dry q) = read_by (handed w q)
+waits_on w (standing.Dry q) = read_by (handed_to_task w q)
 
 abbrev pub tale_of : Tasked → Tale
 tale_of t = record {
@@ -119,8 +119,8 @@ tale_of t = record {
   wrote = λ c. wrote_by t.work (writes_at t.work c);
 }
 
-abbrev pub told_of : Tasked → Option Tale
-told_of t = Some (tale_of t)
+abbrev pub told_tale : Tasked → Option Tale
+told_tale t = Some (tale_of t)
 
 -- the second continues the first: of the same instance of the same network and input, with the same ends; and where it did
 -- no event, its cell is as it was
@@ -143,12 +143,12 @@ pub record HasMet (old new : Tasked) : Type 0 where
 -- the number of tokens published by each parameter that writes a channel between processes is the one that is known of the channel
 abbrev pub AgreesWith : Work → List ℕ → List ℕ → Type 0
 AgreesWith w published known =
-    (o c : ℕ) → handed w o ≡ Writes c → is_output (role_at (network_of w.cell.network) c) ≡ false → count published o ≡ count known c
+    (o c : ℕ) → handed_to_task w o ≡ Writes c → is_output (role_at (network_of w.cell.network) c) ≡ false → count published o ≡ count known c
 
 -- what was flushed by the parameter o is published
 abbrev pub IsPublished : Tasked → ℕ → Type 0
 IsPublished t o =
-    (c : ℕ) → handed t.work o ≡ Writes c → is_output (role_at (network_of t.work.cell.network) c) ≡ false → count t.published o ≡ (end_at t.work.ends o).flushed
+    (c : ℕ) → handed_to_task t.work o ≡ Writes c → is_output (role_at (network_of t.work.cell.network) c) ≡ false → count t.published o ≡ (end_at t.work.ends o).flushed
 
 -- the second is a later state of the first, between two turns
 pub record IsLater (old new : Tasked) : Type 0 where

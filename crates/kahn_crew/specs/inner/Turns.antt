@@ -9,7 +9,7 @@ use Rattle.kahn_board.specs.declared.view.View.{View}
 use Rattle.kahn_desk.specs.inner.Turn.{BeginsTurn, HoldsInTurn, IsBetween}
 use Rattle.kahn_crew.specs.declared.run.Run.{Run}
 use Rattle.kahn_crew.specs.inner.Lent.{IsTaskOf}
-use Rattle.kahn_crew.specs.inner.Tasks.{AgreesWith, Continues, IsLater, Tasked, told_of}
+use Rattle.kahn_crew.specs.inner.Tasks.{AgreesWith, Continues, IsLater, Tasked, told_tale}
 
 abbrev pub terms_of : Run → Terms Tasked
 terms_of run = run.board.now.table.shared.key
@@ -26,7 +26,7 @@ SitsWith run n s = SitsIn run s × IsBetween n s
 abbrev pub HasTask : Run → ℕ → ℕ → Seat Tasked → Type 0
 HasTask run p n s =
     SitsIn run s × (p < (wired (terms_of run)).instances) × (slice_index s.seat.me.0.got p + n < 2 ^ 48)
-    × BeginsTurn told_of IsLater (terms_of run) p n s
+    × BeginsTurn told_tale IsLater (terms_of run) p n s
 
 -- in a turn of p, with n events drawn: its task is x now, which did k of them, and is in the worker's hands; what it counts as
 -- published is published
@@ -65,4 +65,4 @@ Heeds wanted s wants t =
 
 -- the instance p wasn't ready at a moment at which the seat had such a view
 abbrev pub WasNotReady : Run → Seat Tasked → ℕ → Type 0
-WasNotReady run s p = (v : View) × (r : ℕ) × (r ≢ 0) × Was told_of IsLater (terms_of run) s v (8 * p) r
+WasNotReady run s p = (v : View) × (r : ℕ) × (r ≢ 0) × Was told_tale IsLater (terms_of run) s v (8 * p) r

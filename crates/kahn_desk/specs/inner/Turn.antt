@@ -8,7 +8,7 @@ use Rattle.kahn_board.specs.Tale.{Tale, FlushedAll, flushed_of, events_past}
 use Rattle.kahn_board.specs.Wires.{Wires}
 use Rattle.kahn_board.specs.Cuts.{HoldsNothing}
 use Rattle.kahn_board.specs.Hands.{Carries}
-use Rattle.kahn_board.specs.Plays.{Sat, IsIn, SeesMore, gave, noted, paid_down}
+use Rattle.kahn_board.specs.Plays.{Sat, IsIn, SeesMore, gave, noted_view, paid_down}
 use Rattle.kahn_board.specs.declared.view.View.{View}
 use Rattle.kahn_board.specs.declared.board.Seat.{Seat}
 
@@ -87,7 +87,7 @@ module _ {T : Type 0} (told : T → Option Tale) (after : T → T → Type 0) (k
   -- p was set down ready, since other than k tokens of the channel c were published at a moment of the call
   abbrev pub SetsLate : ℕ → ℕ → Seat T → Seat T → ℕ → Type 0
   SetsLate c k s t p =
-      (r : ℕ) × (r / 2 ≢ k) × Was told after key s s.seat.me.0 (channel_at (wired key) c) r × SetsReady told s (noted s.seat.me.0 r) t p
+      (r : ℕ) × (r / 2 ≢ k) × Was told after key s s.seat.me.0 (channel_at (wired key) c) r × SetsReady told s (noted_view s.seat.me.0 r) t p
 
   -- a turn of p begins: its cell is at home and may be left, n events are drawn, and none of them is told as done
   abbrev pub BeginsTurn : ℕ → ℕ → Seat T → Type 0

@@ -9,7 +9,7 @@ use Rattle.kahn_code.specs.Seats.{Seat}
 use Rattle.kahn_lane.specs.declared.name.LaneName.{LaneName}
 use Rattle.kahn_lane.specs.Places.{lane_name}
 use Rattle.kahn_job.specs.inner.Ends.{End, Identity, IsSame, IsReady, IsFlushed, identity_of}
-use Rattle.kahn_job.specs.inner.Ways.{nothing}
+use Rattle.kahn_job.specs.inner.Ways.{no_end}
 
 -- the network, the input and the instance, and the end that each parameter has
 pub record Berth : Type 0 where
@@ -22,7 +22,7 @@ abbrev pub seat_at : Berth → Seat
 seat_at b = record { network = b.network; input = b.input; instance = b.instance }
 
 abbrev pub end_at : List End → ℕ → End
-end_at ends q = slice_index_or ends q nothing
+end_at ends q = slice_index_or ends q no_end
 
 -- the end is that of the channel that is handed over; an input channel has no lane
 abbrev pub Serves : Program → Lists → Actual → End → Type 0
@@ -35,8 +35,8 @@ abbrev pub IsFor : Program → Lists → End → Type 0
 IsFor t lists e = (n : LaneName) → e.name ≡ Some n → (n.network ≡ t) × (n.input ≡ lists)
 
 -- what is ready at the end of an input channel is a value of its list
-abbrev pub IsFed : End → Type 0
-IsFed e = (t : Program) (lists : Lists) (d : ℕ) → e.lane ≡ None → e.name ≡ Some (lane_name t lists d) → IsReady e → e.next < length (inputs_of lists d)
+abbrev pub IsWithinInput : End → Type 0
+IsWithinInput e = (t : Program) (lists : Lists) (d : ℕ) → e.lane ≡ None → e.name ≡ Some (lane_name t lists d) → IsReady e → e.next < length (inputs_of lists d)
 
 -- which ends they are
 abbrev pub identities : List End → List Identity

@@ -4,7 +4,7 @@ use Rattle.std.specs.declared.alloc.Global.{Global}
 use Rattle.kahn_streams.specs.Tokens.{inputs_of}
 use Rattle.kahn_lane.specs.declared.segments.Sender.{Sender}
 use Rattle.kahn_lane.specs.declared.segments.Receiver.{Receiver}
-use Rattle.kahn_lane.specs.LaneEnds.{sender_lane, receiver_lane, sender_name, receiver_name, flushed, sent, filled, capacity, taken, waiting, known, left}
+use Rattle.kahn_lane.specs.LaneEnds.{sender_lane, receiver_lane, sender_name, receiver_name, flushed, sent, filled, capacity, received, waiting, heard, left}
 use Rattle.kahn_lane.specs.Places.{lane_name}
 use Rattle.kahn_job.specs.inner.Ends.{End}
 use Rattle.kahn_job.specs.inner.Feeding.{Feeding}
@@ -18,9 +18,9 @@ taking r asked = record {
   writes = false;
   lane = Some (receiver_lane r);
   name = receiver_name r;
-  next = taken r;
+  next = received r;
   waiting = waiting r;
-  known = known r;
+  known = heard r;
   left = left r;
   asked = asked;
   flushed = 0;
@@ -63,8 +63,8 @@ putting s = record {
 }
 
 -- no end
-abbrev pub nothing : End
-nothing = record {
+abbrev pub no_end : End
+no_end = record {
   reads = false;
   writes = false;
   lane = None;
@@ -83,4 +83,4 @@ abbrev pub end_of : Way → End
 end_of (way.Takes r asked) = taking r asked.value
 end_of (way.Feeds f) = feeding f
 end_of (way.Puts s) = putting s
-end_of way.Nothing = nothing
+end_of way.Nothing = no_end

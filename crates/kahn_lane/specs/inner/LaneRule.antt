@@ -7,7 +7,7 @@ use Rattle.kahn_streams.specs.declared.token.Token.{Token}
 use Rattle.kahn_lane.specs.declared.segments.Mark.{Mark}
 use Rattle.kahn_lane.specs.declared.segments.Segment.{Segment}
 use Rattle.kahn_lane.specs.declared.segments.Stage.TheVariants as stage
-use Rattle.kahn_lane.specs.Places.{Named, Placed, mark, opening, telling, told, first_place}
+use Rattle.kahn_lane.specs.Places.{Named, StandFrom, mark, opening_mark, telling, told, first_place}
 
 -- only the writer may flush; it knows what the tokens are of, and how many were flushed
 abbrev pub WritesLane : ℕ → Named → ℕ → ℕ → Mark → Type 0
@@ -38,7 +38,7 @@ module _ {A : Type 0} where
 
   -- a segment has some tokens, of this name, at the places from n on
   abbrev pub Filled : Named → ℕ → Segment A → Type 0
-  Filled name n s = (0 < size s) × Placed name n (tokens_of s)
+  Filled name n s = (0 < size s) × StandFrom name n (tokens_of s)
 
   -- the segments have the tokens of the places from one number up to another, in order, none left out and none twice
   abbrev pub Chain : Named → ℕ → ℕ → List (Segment A) → Type 0
@@ -47,7 +47,7 @@ module _ {A : Type 0} where
 
   -- the lane has no name yet, and nothing in it
   abbrev pub IsNewLane : List (Segment A) → List Mark → Type 0
-  IsNewLane items views = (items ≡ []) × (views ≡ opening ∷ [])
+  IsNewLane items views = (items ≡ []) × (views ≡ opening_mark ∷ [])
 
   -- the one segment has no tokens, and tells what the lane's tokens are of, and the place of the first
   abbrev pub IsTelling : List (Segment A) → List Mark → Type 0

@@ -13,7 +13,7 @@ use Rattle.kahn_pool.specs.declared.answer.End.{End}
 use Rattle.kahn_pool.specs.declared.answer.Outcome.TheVariants.{More}
 use Rattle.kahn_pool.specs.declared.answer.Verdict.{Verdict}
 use Rattle.kahn_pool.specs.inner.Gathered.{view_at, Stood, TookAll, HasUntaken, EndsWith, IsFrom}
-use Rattle.kahn_pool.specs.Right.{line_of}
+use Rattle.kahn_pool.specs.Right.{stream_line}
 use Rattle.kahn_pool.specs.declared.answer.Stream.{Stream}
 use Rattle.kahn_pool.specs.declared.rounds.Round.{Round}
 use Rattle.kahn_pool.specs.declared.answer.Verdict.TheVariants.{Finished, Bound, Memory}
@@ -146,5 +146,5 @@ IsVerdict memory ends Bound = (memory ≡ false) × ((p : ℕ) × (x : End) × (
 
 -- these are the streams of the answer
 pub record AreStreams (s : RunState) (streams : List Stream) (lines : List Line) : Type 0 where
-  pub named : map line_of streams ≡ lines
+  pub named : map stream_line streams ≡ lines
   pub each : (j : ℕ) (x : Stream) → slice_get streams j ≡ Some x → IsFrom s.network s.input s.watch s.cells (source s.network x.line) x.line x.tokens.items

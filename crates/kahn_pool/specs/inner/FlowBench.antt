@@ -22,7 +22,7 @@ use Rattle.kahn_crew.specs.declared.plan.Plan.{Plan}
 use Rattle.kahn_pool.specs.declared.part_alone.PartEnd.{PartEnd}
 use Rattle.kahn_pool.specs.inner.Concluded.{IsConcluded}
 use Rattle.kahn_pool.specs.inner.Holding.{AreEnded}
-use Rattle.kahn_pool.specs.inner.Workbench.{Table, state_of}
+use Rattle.kahn_pool.specs.inner.Workbench.{Table, sight_of}
 use Rattle.kahn_pool.specs.Flows.{Flowing}
 
 -- what contracts see of the run of a bench: all that its taps ever kept
@@ -72,10 +72,10 @@ AreLent b ts = (c : ℕ) → b.watch ≡ Some c → role_at (network_of b.networ
 -- are those of the last part. That each tap stands where it says is told by the tap
 pub record IsFlowing (b : Table) (quantum bound budget room : ℕ) (ends : List End) (verdict : Option Verdict) : Type 0 where
   pub some : 0 < quantum
-  pub left : budget + all_events (state_of b) ≡ bound
+  pub left : budget + all_events (sight_of b) ≡ bound
   pub few : bound < 2 ^ 48
   pub enough : length (network_of b.network).instances ≤ room
-  pub ended : AreEnded (state_of b) bound budget ends verdict
+  pub ended : AreEnded (sight_of b) bound budget ends verdict
 
 -- all that it keeps of this network by this plan
 abbrev pub IsFlowOf : Program → Plan → Table → ℕ → ℕ → List End → Option Verdict → List Token → Type 0
@@ -84,4 +84,4 @@ IsFlowOf t plan b budget room ends verdict ts =
 
 -- how a part of so many events in all ended
 abbrev pub IsPartEnd : Table → ℕ → PartEnd → Type 0
-IsPartEnd b bound r = (halted : Bool) × IsConcluded (state_of b) bound r.left halted r.verdict r.ends.items
+IsPartEnd b bound r = (halted : Bool) × IsConcluded (sight_of b) bound r.left halted r.verdict r.ends.items

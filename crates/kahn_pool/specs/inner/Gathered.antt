@@ -18,13 +18,13 @@ use Rattle.kahn_pool.specs.declared.answer.Verdict.TheVariants.{Finished, Bound}
 use Rattle.kahn_pool.specs.declared.answer.Outcome.{Outcome}
 use Rattle.kahn_pool.specs.declared.answer.Outcome.TheVariants.{Ended, Waits, Faulted, More}
 use Rattle.kahn_code.specs.Cells.{AllStand, View, AreKeptTokens, is_streamed}
-use Rattle.kahn_pool.specs.Right.{line_of, events_of, stream_lines, HasStream}
+use Rattle.kahn_pool.specs.Right.{stream_line, end_events, stream_lines, HasStream}
 
-abbrev pub nothing : View
-nothing = record { events = 0; taken = λ q. 0; sent = λ q. 0; kept = λ q. []; printed = [] }
+abbrev pub no_view : View
+no_view = record { events = 0; taken = λ q. 0; sent = λ q. 0; kept = λ q. []; printed = [] }
 
 abbrev pub view_at : List View → ℕ → View
-view_at cells p = slice_index_or cells p nothing
+view_at cells p = slice_index_or cells p no_view
 
 -- What the cell of instance p says: on the values that it took the process does its events and takes all of them; these
 -- values stand on the channels that it reads; it sent so many, and kept what it sent on streams.
@@ -99,11 +99,11 @@ pub record IsStopped (N : Network) (I : Inputs) (bound : ℕ) (watch : Option �
   pub finished : v ≡ Finished → (p : ℕ) (x : End) → slice_get ends p ≡ Some x → x.outcome ≡ More → ⊥
   pub bounded : v ≡ Bound → (events ≡ bound) × ((p : ℕ) × (x : End) × (slice_get ends p ≡ Some x) × (x.outcome ≡ More))
   -- the count of events
-  pub total : events ≡ sum_by events_of ends
+  pub total : events ≡ sum_by end_events ends
   pub within : events ≤ bound
 
 pub record IsGathered (N : Network) (I : Inputs) (bound : ℕ) (watch : Option ℕ) (a : Answer) : Type 0 where
   pub stopped : IsStopped N I bound watch a.verdict a.ends.items a.events
   -- the lists that the cells kept, and the list of a watched input channel
-  pub lines : map line_of a.streams.items ≡ stream_lines N watch
+  pub lines : map stream_line a.streams.items ≡ stream_lines N watch
   pub streams : (s : Stream) → HasStream a s → IsFrom N I watch stopped.cells (source N s.line) s.line s.tokens.items

@@ -8,7 +8,7 @@ use Rattle.kahn_code.specs.Standing.{count}
 use Rattle.kahn_job.specs.inner.Ends.{IsReady, ShareLane}
 use Rattle.kahn_job.specs.inner.Berths.{end_at}
 use Rattle.kahn_job.specs.inner.Works.{Work}
-use Rattle.kahn_crew.specs.inner.Tasks.{Tasked, HasMet, handed}
+use Rattle.kahn_crew.specs.inner.Tasks.{Tasked, HasMet, handed_to_task}
 
 -- the tasks of all instances, in order; a channel from one to another, or to itself, is one lane
 pub record AreJoined (t : Program) (tasks : List Tasked) : Type 0 where
@@ -21,11 +21,11 @@ pub record AreJoined (t : Program) (tasks : List Tasked) : Type 0 where
 
 -- the parameter reads a channel
 abbrev pub ReadsOne : Work → ℕ → Type 0
-ReadsOne w q = (d : ℕ) × (handed w q ≡ Reads d)
+ReadsOne w q = (d : ℕ) × (handed_to_task w q ≡ Reads d)
 
 -- the parameter writes a channel between processes
 abbrev pub WritesOne : Work → ℕ → Type 0
-WritesOne w o = (d : ℕ) × (handed w o ≡ Writes d) × (is_output (role_at (network_of w.cell.network) d) ≡ false)
+WritesOne w o = (d : ℕ) × (handed_to_task w o ≡ Writes d) × (is_output (role_at (network_of w.cell.network) d) ≡ false)
 
 -- they are the writer and the reader of one channel
 pub record CanMeet (x : Tasked) (o : ℕ) (y : Tasked) (q : ℕ) : Type 0 where

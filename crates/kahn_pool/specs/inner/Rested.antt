@@ -10,11 +10,11 @@ use Rattle.kahn_code.specs.Progress.{Paused}
 use Rattle.kahn_code.specs.Standing.{count}
 use Rattle.kahn_code.specs.Told.{Told, told_view}
 use Rattle.kahn_job.specs.inner.Ends.{IsReady}
-use Rattle.kahn_job.specs.inner.Berths.{IsFed, end_at}
+use Rattle.kahn_job.specs.inner.Berths.{IsWithinInput, end_at}
 use Rattle.kahn_job.specs.inner.Works.{Work, IsJob}
 use Rattle.kahn_crew.specs.declared.standing.Standing.{Standing}
 use Rattle.kahn_crew.specs.declared.standing.Standing.TheVariants as standing
-use Rattle.kahn_crew.specs.inner.Tasks.{Tasked, Continues, TellsOutcome, handed}
+use Rattle.kahn_crew.specs.inner.Tasks.{Tasked, Continues, TellsOutcome, handed_to_task}
 use Rattle.kahn_crew.specs.inner.Left.{AreAll}
 use Rattle.kahn_pool.specs.inner.Bench.{RunState}
 use Rattle.kahn_pool.specs.declared.answer.End.{End}
@@ -25,8 +25,8 @@ abbrev pub cell_of : Tasked → Told
 cell_of x = x.work.cell
 
 -- what rounds see of the tasks
-abbrev pub state_of : Program → Lists → Option ℕ → List Tasked → RunState
-state_of t lists watch tasks =
+abbrev pub state_of_tasks : Program → Lists → Option ℕ → List Tasked → RunState
+state_of_tasks t lists watch tasks =
     record { network = network_of t; input = inputs_of lists; watch = watch; cells = map told_view (map cell_of tasks) }
 
 -- the task is that of instance p
@@ -44,7 +44,7 @@ pub record AreTasks (t : Program) (lists : Lists) (watch : Option ℕ) (tasks : 
 -- what it says of the outcome of a process that no more is run: where it may go on it has a next event, or a token is
 -- ready on the channel that it reads
 abbrev pub IsSaid : Work → Standing → script.Outcome Store → Type 0
-IsSaid w standing.Going o = (o ≡ Cut) ⊎ ((q d : ℕ) × (handed w q ≡ Reads d) × (o ≡ Dry q) × IsReady (end_at w.ends q))
+IsSaid w standing.Going o = (o ≡ Cut) ⊎ ((q d : ℕ) × (handed_to_task w q ≡ Reads d) × (o ≡ Dry q) × IsReady (end_at w.ends q))
 IsSaid w standing.Ended o = TellsOutcome standing.Ended o
 IsSaid w (standing.Faulted k) o = TellsOutcome (standing.Faulted k) o
 IsSaid w (standing.Dry q) o = TellsOutcome (standing.Dry q) o
@@ -56,7 +56,7 @@ Says w s =
 pub record IsSettledTask (x : Tasked) : Type 0 where
   pub says : Says x.work x.standing
   pub job : IsJob x.work
-  pub fed : (q : ℕ) → IsFed (end_at x.work.ends q)
+  pub fed : (q : ℕ) → IsWithinInput (end_at x.work.ends q)
 
 -- the first task was settled: the second is a later state of it, after as many events; one that may not go on is the same
 pub record SettlesTo (old new : Tasked) : Type 0 where
@@ -87,10 +87,10 @@ abbrev pub IsToldAs : Program → Lists → List Tasked → Tasked → Outcome �
 IsToldAs t lists tasks x outcome.Ended = x.standing ≡ standing.Ended
 IsToldAs t lists tasks x (outcome.Faulted k) = x.standing ≡ standing.Faulted k
 IsToldAs t lists tasks x (outcome.Waits c) =
-    (q : ℕ) × (x.standing ≡ standing.Dry q) × (handed x.work q ≡ Reads c) × AreAll t lists tasks c (count x.work.cell.taken q)
+    (q : ℕ) × (x.standing ≡ standing.Dry q) × (handed_to_task x.work q ≡ Reads c) × AreAll t lists tasks c (count x.work.cell.taken q)
 IsToldAs t lists tasks x outcome.More =
     (x.standing ≡ standing.Going)
-    ⊎ ((q d : ℕ) × (x.standing ≡ standing.Dry q) × (handed x.work q ≡ Reads d) × (AreAll t lists tasks d (count x.work.cell.taken q) → ⊥))
+    ⊎ ((q d : ℕ) × (x.standing ≡ standing.Dry q) × (handed_to_task x.work q ≡ Reads d) × (AreAll t lists tasks d (count x.work.cell.taken q) → ⊥))
 
 -- the end of a task among these
 pub record IsEndOf (t : Program) (lists : Lists) (tasks : List Tasked) (x : Tasked) (e : End) : Type 0 where

@@ -10,11 +10,11 @@ use Rattle.kahn_network.specs.Network.{Network, Writes, Source, Given, Written, 
 use Rattle.kahn_code.specs.declared.cell.Kept.{Kept}
 use Rattle.kahn_code.specs.Cells.{AreKeptTokens, IsOwn, token_value}
 use Rattle.kahn_pool.specs.declared.answer.Stream.{Stream}
-use Rattle.kahn_pool.specs.Right.{line_of, stream_lines}
+use Rattle.kahn_pool.specs.Right.{stream_line, stream_lines}
 
 -- the lines of the streams, for some watched channel
 abbrev pub AreNamed : Network → List Stream → Type 0
-AreNamed N streams = (watch : Option ℕ) × (map line_of streams ≡ stream_lines N watch)
+AreNamed N streams = (watch : Option ℕ) × (map stream_line streams ≡ stream_lines N watch)
 
 -- the network has that channel, or that instance
 abbrev pub IsDeclared : Network → Line → Type 0
@@ -57,7 +57,7 @@ IsFilled N ls (Written p) (Print r) before after = after ≡ printed_in ls p
 IsFilled N ls Nobody c before after = ⊥
 
 pub record AreFilled {A : Type 0} (N : Network) (ls : List (Kept A)) (old new : List Stream) : Type 0 where
-  pub lines : map line_of new ≡ map line_of old
+  pub lines : map stream_line new ≡ map stream_line old
   pub each : (j : ℕ) (x y : Stream) → slice_get old j ≡ Some x → slice_get new j ≡ Some y →
       IsFilled N ls (source N y.line) y.line x.tokens.items y.tokens.items
 
@@ -95,6 +95,6 @@ HasInput N I (Written p) c before after = after ≡ before
 HasInput N I Nobody c before after = after ≡ before
 
 pub record HaveInput (N : Network) (I : Inputs) (old new : List Stream) : Type 0 where
-  pub lines : map line_of new ≡ map line_of old
+  pub lines : map stream_line new ≡ map stream_line old
   pub each : (j : ℕ) (x y : Stream) → slice_get old j ≡ Some x → slice_get new j ≡ Some y →
       HasInput N I (source N y.line) y.line x.tokens.items y.tokens.items

@@ -15,7 +15,7 @@ use Rattle.kahn_code.specs.inner.Gone.{Gone, kept_behind, nothing_gone}
 use Rattle.kahn_code.specs.inner.Tapped.{HasForgotten, Tapped}
 use Rattle.kahn_pool.specs.inner.Bench.{RunState, events_at}
 use Rattle.kahn_pool.specs.HeldRuns.{seen_at, seen_of}
-use Rattle.kahn_pool.specs.Right.{line_of, stream_lines}
+use Rattle.kahn_pool.specs.Right.{stream_line, stream_lines}
 use Rattle.kahn_pool.specs.inner.Streams.{HasInputs, kept_lists, printed_list}
 use Rattle.kahn_pool.specs.declared.answer.Stream.{Stream}
 
@@ -45,8 +45,8 @@ abbrev pub AreWhole : ℕ → List Gone → Type 0
 AreWhole n gone = gone ≡ replicate n nothing_gone
 
 -- what rounds see of it
-abbrev pub state_of : Table → RunState
-state_of b = record { network = network_of b.network; input = inputs_of b.input; watch = b.watch; cells = map told_view b.cells }
+abbrev pub sight_of : Table → RunState
+sight_of b = record { network = network_of b.network; input = inputs_of b.input; watch = b.watch; cells = map told_view b.cells }
 
 -- later, on the same network and input with the same channel watched: nothing more was let go of, and no instance has fewer events
 pub record HasWorked (old new : Table) : Type 0 where
@@ -54,7 +54,7 @@ pub record HasWorked (old new : Table) : Type 0 where
   pub input : new.input ≡ old.input
   pub watch : new.watch ≡ old.watch
   pub gone : new.gone ≡ old.gone
-  pub events : (p : ℕ) → events_at (state_of old) p ≤ events_at (state_of new) p
+  pub events : (p : ℕ) → events_at (sight_of old) p ≤ events_at (sight_of new) p
 
 -- it goes on for this input: so many values more wait on channel c, and nothing else changes
 pub record HasTakenIn (c n : ℕ) (input : Lists) (old new : Table) : Type 0 where
@@ -149,7 +149,7 @@ pub record AreOpeningCells (t : Program) (lists : Lists) (watch : Option ℕ) (c
 
 -- the streams of an answer before any cell's token was moved there: an input channel has its whole list
 pub record AreOpen (t : Program) (lists : Lists) (watch : Option ℕ) (streams : List Stream) : Type 0 where
-  pub lines : map line_of streams ≡ stream_lines (network_of t) watch
+  pub lines : map stream_line streams ≡ stream_lines (network_of t) watch
   pub given : HasInputs (network_of t) (inputs_of lists) streams
 
 -- there are streams, and room for what each cell kept
@@ -158,16 +158,16 @@ pub record AreStreamsReady {A : Type 0} (t : Program) (lists : Lists) (watch : O
   pub empty : kept ≡ []
   pub enough : length (network_of t).instances ≤ room
 
-abbrev pub parameters_of : {A : Type 0} → Kept A → ℕ
-parameters_of k = length k.kept.items
+abbrev pub parameter_count : {A : Type 0} → Kept A → ℕ
+parameter_count k = length k.kept.items
 
-abbrev pub actuals_of : Told → ℕ
-actuals_of c = length (instance_at (network_of c.network) c.instance).actuals
+abbrev pub actual_count : Told → ℕ
+actual_count c = length (instance_at (network_of c.network) c.instance).actuals
 
 -- these lists are there of what the tap kept, behind what it let go of
 abbrev pub IsLeft : {A : Type 0} → Tapped → Kept A → Type 0
 IsLeft x k =
-    (kept_behind x.gone.kept (kept_lists k) ≡ x.told.kept) × (x.gone.printed ++ printed_list k ≡ x.told.printed) × (parameters_of k ≡ actuals_of x.told)
+    (kept_behind x.gone.kept (kept_lists k) ≡ x.told.kept) × (x.gone.printed ++ printed_list k ≡ x.told.printed) × (parameter_count k ≡ actual_count x.told)
 
 abbrev pub AreLeft : {A : Type 0} → List Tapped → List (Kept A) → Type 0
 AreLeft [] [] = Unit {0}
@@ -179,4 +179,4 @@ AreLeft (x ∷ taps) (k ∷ kept) = IsLeft x k × AreLeft taps kept
 pub record AreKeptOf {A : Type 0} (cells : List Told) (kept : List (Kept A)) : Type 0 where
   pub sent : map kept_lists kept ≡ map (λ (c : Told). c.kept) cells
   pub printed : map printed_list kept ≡ map (λ (c : Told). c.printed) cells
-  pub parameters : map parameters_of kept ≡ map actuals_of cells
+  pub parameters : map parameter_count kept ≡ map actual_count cells

@@ -1,11 +1,11 @@
 -- Inner. A cell that stands where its plain queues stand.
 use Rattle.std.specs.Prelude.{◌≡◌, ◌<◌, length}
 use Rattle.kahn_network.specs.Network.{network_of}
-use Rattle.kahn_code.specs.Lines.{Lines, actual_of, next_at}
+use Rattle.kahn_code.specs.Lines.{Lines, actual_here, next_at}
 use Rattle.kahn_code.specs.Seats.{Seat}
 use Rattle.kahn_code.specs.Told.{Told, seat_of, IsAt}
 
-pub record Stands (c : Told) (q : Lines) : Type 0 where
+pub record IsOfSeat (c : Told) (q : Lines) : Type 0 where
   pub here : c.instance < length (network_of c.network).instances
   pub seat : seat_of c ≡ record { network = q.network; input = q.input; instance = q.instance }
-  pub at : IsAt c (λ r. next_at q.queues (actual_of q r))
+  pub at : IsAt c (λ r. next_at q.queues (actual_here q r))

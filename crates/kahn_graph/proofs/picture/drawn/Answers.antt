@@ -1,4 +1,4 @@
-use Rattle.kahn_graph.specs.Graph.{opening_text, closing_text}
+use Rattle.kahn_graph.specs.Graph.{opening_text, picture_end}
 use Rattle.kahn_graph.proofs.Texts.{all_grown}
 use Rattle.kahn_graph.proofs.picture.drawn.Goals as goal
 
@@ -10,5 +10,5 @@ returns c =
       edges,
       all_nodes,
       all_edges,
-      all_grown opening_text nodes edges closing_text _ _ _ _ _ c.new-text.ensures.bytes c.in_ok-add.ensures after_nodes after_edges c.in_ok-add-2.ensures,
+      all_grown opening_text nodes edges picture_end _ _ _ _ _ c.new-text.ensures.bytes c.in_ok-add.ensures after_nodes after_edges c.in_ok-add-2.ensures,
     )

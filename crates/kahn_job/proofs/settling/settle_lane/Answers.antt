@@ -3,7 +3,7 @@ use Rattle.kahn_lane.specs.Places.{moved_to}
 use Rattle.kahn_job.specs.inner.Idles.{rows_of}
 use Rattle.kahn_job.specs.inner.Openings.{placed}
 use Rattle.kahn_job.specs.inner.Settling.{AreAlike, CanSettle, HasSettled, HaveExchanged, end_of_side}
-use Rattle.kahn_job.specs.inner.Ways.{nothing}
+use Rattle.kahn_job.specs.inner.Ways.{no_end}
 use Rattle.kahn_job.proofs.Settles.{alike, exchanged, reader_kept}
 use Rattle.kahn_job.proofs.settling.settle_lane.Goals as goal
 
@@ -15,7 +15,7 @@ settle-requires c =
     subst (λ x. CanSettle c.args.input.now x c.exchange-receiver.result) (sym c.exchange-sender.ensures.port)
     (subst (λ y. CanSettle c.args.input.now (end_of_side rows c.args.writer) y)
     (sym (c.exchange-receiver.ensures.port ∙ ap (λ rows. end_of_side rows c.args.reader) first ∙
-    reader_kept rows c.args.writer c.args.reader c.requires.places.0 c.requires.places.1 c.requires.apart nothing nothing))
+    reader_kept rows c.args.writer c.args.reader c.requires.places.0 c.requires.places.1 c.requires.apart no_end no_end))
     c.requires.lane)
 
 pub returns-in-Ok-clause-ends : goal.returns-in-Ok-clause-ends
@@ -24,9 +24,9 @@ returns-in-Ok-clause-ends c =
     let w = c.args.writer in
     let r = c.args.reader in
     let first = c.exchange-sender.ensures.rows ∙ ap (placed rows (Some w)) c.nothing.ensures in
-    let second = c.exchange-receiver.ensures.rows ∙ ap (placed (rows_of c.exchange-sender.new.idles) (Some r)) c.nothing-2.ensures ∙ ap (λ rows. placed rows (Some r) nothing) first in
+    let second = c.exchange-receiver.ensures.rows ∙ ap (placed (rows_of c.exchange-sender.new.idles) (Some r)) c.nothing-2.ensures ∙ ap (λ rows. placed rows (Some r) no_end) first in
     let receiver = c.exchange-receiver.ensures.port ∙ ap (λ rows. end_of_side rows r) first ∙
-    reader_kept rows w r c.requires.places.0 c.requires.places.1 c.requires.apart nothing nothing in
+    reader_kept rows w r c.requires.places.0 c.requires.places.1 c.requires.apart no_end no_end in
     subst (HaveExchanged c.args.input.now w r rows)
     (sym (c.put_back.ensures.rows ∙ ap (λ rows. placed (placed rows (Some w) c.in-Ok.sender) (Some r) c.in-Ok.receiver) second))
     (exchanged rows w r c.requires.places.0 c.requires.places.1 c.requires.apart c.in-Ok.sender c.in-Ok.receiver c.args.input.now c.in-Ok.ensures.lane
@@ -41,9 +41,9 @@ returns-in-Err-clause-ends c =
     let w = c.args.writer in
     let r = c.args.reader in
     let first = c.exchange-sender.ensures.rows ∙ ap (placed rows (Some w)) c.nothing.ensures in
-    let second = c.exchange-receiver.ensures.rows ∙ ap (placed (rows_of c.exchange-sender.new.idles) (Some r)) c.nothing-2.ensures ∙ ap (λ rows. placed rows (Some r) nothing) first in
+    let second = c.exchange-receiver.ensures.rows ∙ ap (placed (rows_of c.exchange-sender.new.idles) (Some r)) c.nothing-2.ensures ∙ ap (λ rows. placed rows (Some r) no_end) first in
     let receiver = c.exchange-receiver.ensures.port ∙ ap (λ rows. end_of_side rows r) first ∙
-    reader_kept rows w r c.requires.places.0 c.requires.places.1 c.requires.apart nothing nothing in
+    reader_kept rows w r c.requires.places.0 c.requires.places.1 c.requires.apart no_end no_end in
     subst (AreAlike rows)
     (sym (c.put_back-in-Err.ensures.rows ∙ ap (λ rows. placed (placed rows (Some w) c.in-Err.sender) (Some r) c.in-Err.receiver) second))
     (alike rows w r c.requires.places.0 c.requires.places.1 c.requires.apart c.in-Err.sender c.in-Err.receiver

@@ -3,7 +3,7 @@ use Rattle.kahn_network.specs.Network.{network_of}
 use Rattle.kahn_streams.specs.Tokens.{inputs_of}
 use Rattle.kahn_code.specs.Told.{told_view}
 use Rattle.kahn_crew.specs.inner.Left.{task_events}
-use Rattle.kahn_pool.specs.inner.Rested.{state_of}
+use Rattle.kahn_pool.specs.inner.Rested.{state_of_tasks}
 use Rattle.kahn_pool.proofs.Over.{same_cells, tasks_met}
 use Rattle.kahn_pool.specs.inner.Bench.{AreStreams, RunState}
 use Rattle.kahn_pool.specs.Right.{stream_lines}
@@ -25,7 +25,7 @@ returns-clause-right c =
     let budget = c.args.left.budget in
     let bound = c.args.bound in
     let h = c.requires.ended in
-    let s = state_of t lists watch tasks in
+    let s = state_of_tasks t lists watch tasks in
     let done = c.conclude-tasks.ensures.concluded in
     let a : Answer = record { verdict = c.conclude-tasks.result.verdict; streams = c.streams_of-streams.result; ends = c.conclude-tasks.result.ends; events = bound - budget } in
     let streams : AreStreams s c.streams_of-streams.result.items (stream_lines (network_of t) watch) =

@@ -1,5 +1,5 @@
 use Rattle.std.proofs.Common.{map}
-use Rattle.kahn_pool.specs.inner.Rested.{cell_of, state_of}
+use Rattle.kahn_pool.specs.inner.Rested.{cell_of, state_of_tasks}
 use Rattle.kahn_pool.proofs.Kept.{are_lists}
 use Rattle.kahn_pool.proofs.Filled.{are_streams}
 use Rattle.kahn_pool.proofs.Seen.{kept_seen, printed_seen}
@@ -13,7 +13,7 @@ returns c =
     let tasks = c.args.tasks.items in
     let cells = map cell_of tasks in
     let ls = c.all_kept-kept.result.items in
-    are_streams (state_of t lists watch tasks) ls c.args.streams.items c.fill.new.streams.items c.requires.ready.begun.lines c.fill.ensures
+    are_streams (state_of_tasks t lists watch tasks) ls c.args.streams.items c.fill.new.streams.items c.requires.ready.begun.lines c.fill.ensures
     (kept_seen ls cells c.all_kept-kept.ensures.sent) (printed_seen ls cells c.all_kept-kept.ensures.printed) c.requires.ready.begun.given
 
 pub fill-requires-clause-named : goal.fill-requires-clause-named

@@ -1,8 +1,8 @@
 use Rattle.std.proofs.Common.{◌≡◌, ◌≤◌, length, map, take}
 use Rattle.std.specs.Vec.{vec_capacity}
-use Rattle.kahn_pool.specs.Right.{line_of}
+use Rattle.kahn_pool.specs.Right.{stream_line}
 use Rattle.kahn_pool.proofs.held.lines_of.Given as goal
 
 abbrev pub invariant-loop-number : goal.invariant-loop-number
 invariant-loop-number l =
-    (l.lines.items ≡ map line_of (take l.number l.streams)) × (length l.lines.items ≡ l.number) × (length l.streams ≤ vec_capacity l.lines)
+    (l.lines.items ≡ map stream_line (take l.number l.streams)) × (length l.lines.items ≡ l.number) × (length l.streams ≤ vec_capacity l.lines)

@@ -1,6 +1,6 @@
 use Rattle.std.proofs.Common.{arith, ◌≡◌, ◌+◌, sym, ◌∙◌, subst, refl}
-use Rattle.kahn_board.specs.Dealt.{events_of}
-use Rattle.kahn_crew.specs.inner.Tasks.{told_of}
+use Rattle.kahn_board.specs.Dealt.{events_told}
+use Rattle.kahn_crew.specs.inner.Tasks.{told_tale}
 use Rattle.kahn_crew.proofs.Ended.{untouched_gone}
 use Rattle.kahn_crew.proofs.Started.{at_most_all}
 use Rattle.kahn_pool.specs.inner.Holding.{AreHeld}
@@ -23,11 +23,11 @@ returns-clause-held g c bound =
     let lists = c.args.input.now in
     let tasks = c.in_ok-tasks.tasks.items in
     let none = c.in_ok-tasks.ensures.none in
-    let all : bound + events_of told_of tasks ≡ bound = omega (arith, none) in
+    let all : bound + events_told told_tale tasks ≡ bound = omega (arith, none) in
     let new = c.settle_all.new.tasks.items in
     let ws = c.rest_all.result.items in
     subst (λ b. AreHeld t lists c.args.watch b ws bound) all
-    (held_after t lists c.args.watch (bound + events_of told_of tasks) tasks tasks bound
+    (held_after t lists c.args.watch (bound + events_told told_tale tasks) tasks tasks bound
     (untouched_gone t lists c.args.watch bound tasks tasks bound c.in_ok-tasks.ensures.ready refl refl) new c.settle_all.ensures new (have_met_self new) ws c.rest_all.ensures.same
     c.rest_all.ensures.jobs)
 

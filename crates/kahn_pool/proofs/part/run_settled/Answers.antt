@@ -1,8 +1,8 @@
 use Rattle.std.proofs.Common.{arith, ◌+◌, sym, ◌∙◌, subst}
-use Rattle.kahn_board.specs.Dealt.{events_of}
+use Rattle.kahn_board.specs.Dealt.{events_told}
 use Rattle.kahn_crew.specs.inner.Begins.{AreReadyTasks}
 use Rattle.kahn_crew.specs.inner.Left.{HaveGone}
-use Rattle.kahn_crew.specs.inner.Tasks.{told_of}
+use Rattle.kahn_crew.specs.inner.Tasks.{told_tale}
 use Rattle.kahn_pool.proofs.Held_jobs.{all_events, alone_still, goes_on, have_risen, refused_so, stopped_so, woken_ready}
 use Rattle.kahn_pool.proofs.part.run_settled.Goals as goal
 
@@ -51,7 +51,7 @@ returns-in-Ok g c =
     let o = c.finish.ensures.outcome in
     stopped_so c.args.part.now.network.now c.args.part.now.input.now c.args.part.now.plan.watch c.args.part.now.plan.workers c.args.part.now.bound c.args.idles.items c.args.part.now.plan.bound c.finish.result c.finish.ensures.held
     (have_risen c.args.part.now.network.now c.args.part.now.input.now c.args.part.now.plan.watch c.args.part.now.bound c.args.idles.items c.args.part.now.plan.bound c.requires.part.held c.wake_all-tasks.result.items left.tasks.items
-    (c.args.part.now.plan.bound + events_of told_of c.wake_all-tasks.result.items) left.budget c.wake_all-tasks.ensures c.in-Ok.ensures.gone c.finish.result.idles.items c.finish.ensures.cells)
+    (c.args.part.now.plan.bound + events_told told_tale c.wake_all-tasks.result.items) left.budget c.wake_all-tasks.ensures c.in-Ok.ensures.gone c.finish.result.idles.items c.finish.ensures.cells)
     o.0 o.1 o.2 o.3
 
 pub returns : goal.returns
@@ -60,11 +60,11 @@ returns g c =
     let o = c.give_up.ensures.outcome in
     refused_so c.args.part.now.network.now c.args.part.now.input.now c.args.part.now.plan.watch c.args.part.now.plan.workers c.args.part.now.bound c.args.idles.items c.args.part.now.plan.bound c.give_up.result c.give_up.ensures.held
     (have_risen c.args.part.now.network.now c.args.part.now.input.now c.args.part.now.plan.watch c.args.part.now.bound c.args.idles.items c.args.part.now.plan.bound c.requires.part.held c.wake_all-tasks.result.items left.tasks.items
-    (c.args.part.now.plan.bound + events_of told_of c.wake_all-tasks.result.items) left.budget c.wake_all-tasks.ensures c.in-Err.ensures.refused c.give_up.result.idles.items c.give_up.ensures.cells)
+    (c.args.part.now.plan.bound + events_told told_tale c.wake_all-tasks.result.items) left.budget c.wake_all-tasks.ensures c.in-Err.ensures.refused c.give_up.result.idles.items c.give_up.ensures.cells)
     c.in-Err.fault c.in-Err.ensures.wants o.0 (λ e.
     let u = c.in-Err.ensures.untouched e in (
       o.1 ∙ u.unused,
       alone_still c.args.part.now.network.now c.args.part.now.input.now c.args.part.now.plan.watch c.args.part.now.bound c.args.idles.items c.args.part.now.plan.bound c.requires.part.held c.wake_all-tasks.result.items left.tasks.items
-          (c.args.part.now.plan.bound + events_of told_of c.wake_all-tasks.result.items) left.budget c.wake_all-tasks.ensures c.in-Err.ensures.refused c.give_up.result.idles.items
+          (c.args.part.now.plan.bound + events_told told_tale c.wake_all-tasks.result.items) left.budget c.wake_all-tasks.ensures c.in-Err.ensures.refused c.give_up.result.idles.items
           c.give_up.ensures.cells c.args.part.now.plan.bound u,
     ))

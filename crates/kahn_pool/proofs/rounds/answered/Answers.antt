@@ -1,14 +1,14 @@
 use Rattle.std.proofs.Common.{◌≡◌, ◌+◌, ◌-◌, subst, arith}
 use Rattle.kahn_pool.specs.inner.Bench.{all_events, IsVerdict}
 use Rattle.kahn_pool.specs.declared.answer.Answer.{Answer}
-use Rattle.kahn_pool.specs.inner.Workbench.{state_of}
+use Rattle.kahn_pool.specs.inner.Workbench.{sight_of}
 use Rattle.kahn_pool.proofs.Final.{gathered}
 use Rattle.kahn_pool.proofs.Lacking.{cut_short}
 use Rattle.kahn_pool.proofs.rounds.answered.Goals as goal
 
 pub returns-clause-right : goal.returns-clause-right
 returns-clause-right c =
-    let s = state_of c.args.bench in
+    let s = sight_of c.args.bench in
     let b = c.args.bound in
     let last = c.args.last in
     let a : Answer = record { verdict = c.verdict_of-verdict.result; streams = c.into_streams.result; ends = last.ends; events = b - last.left } in
@@ -21,7 +21,7 @@ returns-clause-right c =
 
 pub returns-clause-short : goal.returns-clause-short
 returns-clause-short c =
-    let s = state_of c.args.bench in
+    let s = sight_of c.args.bench in
     let b = c.args.bound in
     let last = c.args.last in
     let a : Answer = record { verdict = c.verdict_of-verdict.result; streams = c.into_streams.result; ends = last.ends; events = b - last.left } in

@@ -3,14 +3,14 @@ use Rattle.std.proofs.Common.{sym, ap, ◌∙◌, subst}
 use Rattle.kahn_network.specs.Network.{Reads}
 use Rattle.kahn_streams.specs.Solution.{exec_at}
 use Rattle.kahn_pool.specs.inner.Bench.{IsPaused, events_at}
-use Rattle.kahn_pool.specs.inner.Workbench.{state_of}
+use Rattle.kahn_pool.specs.inner.Workbench.{sight_of}
 use Rattle.kahn_pool.proofs.Turns.{told_as, told_dry}
 use Rattle.kahn_pool.proofs.rounds.end_of.Goals as goal
 use Rattle.kahn_pool.proofs.rounds.end_of.Goals.{in-Spent, in-NoMemory, in-Ended, in-Fault, in-Dry}
 
 pub returns-clause-rests : goal.returns-clause-rests
 returns-clause-rests c =
-    let s = state_of c.args.bench.now in
+    let s = sight_of c.args.bench.now in
     let p = c.args.instance in
     let h = c.requires.paused in
     let o = (exec_at s.network (events_at s p) p h.stood.tapes).outcome in
@@ -28,7 +28,7 @@ returns-clause-rests c =
 
 pub channel-requires : goal.channel-requires
 channel-requires c =
-    let s = state_of c.args.bench.now in
+    let s = sight_of c.args.bench.now in
     let p = c.args.instance in
     let h = c.requires.paused in
     let told = subst (λ z. IsPaused s p z (exec_at s.network (events_at s p) p h.stood.tapes).outcome) c.in-Dry.is h.told in

@@ -1,18 +1,18 @@
 use Rattle.std.proofs.Common.{◌≡◌, ◌≤◌, ◌+◌, length, vec_capacity}
 use Rattle.kahn_pool.specs.inner.Bench.{LacksMemory, all_events, weight}
-use Rattle.kahn_pool.specs.inner.Workbench.{HasWorked, state_of}
+use Rattle.kahn_pool.specs.inner.Workbench.{HasWorked, sight_of}
 use Rattle.kahn_pool.proofs.rounds.last_round.Given as goal
 
 abbrev pub invariant-rounds : goal.invariant-rounds
 invariant-rounds g l = record {
-  network : (state_of l.bench).network ≡ (state_of l.fn.bench).network;
-  input : (state_of l.bench).input ≡ (state_of l.fn.bench).input;
-  watch : (state_of l.bench).watch ≡ (state_of l.fn.bench).watch;
+  network : (sight_of l.bench).network ≡ (sight_of l.fn.bench).network;
+  input : (sight_of l.bench).input ≡ (sight_of l.fn.bench).input;
+  watch : (sight_of l.bench).watch ≡ (sight_of l.fn.bench).watch;
   worked : HasWorked l.fn.bench l.bench;
-  known : length (state_of l.bench).cells ≡ length (state_of l.bench).network.instances;
-  total : all_events (state_of l.bench) + l.left ≡ all_events (state_of l.fn.bench) + l.fn.bound;
-  lacks : LacksMemory (state_of l.bench) l.left l.memory;
-  room : length (state_of l.bench).network.instances ≤ vec_capacity l.ends;
+  known : length (sight_of l.bench).cells ≡ length (sight_of l.bench).network.instances;
+  total : all_events (sight_of l.bench) + l.left ≡ all_events (sight_of l.fn.bench) + l.fn.bound;
+  lacks : LacksMemory (sight_of l.bench) l.left l.memory;
+  room : length (sight_of l.bench).network.instances ≤ vec_capacity l.ends;
 }
 
 abbrev pub decreases-rounds : goal.decreases-rounds

@@ -1,25 +1,25 @@
 use Rattle.std.proofs.Common.{arith, rules, ◌<◌, length, sym, subst}
 use Rattle.kahn_pool.specs.inner.Bench.{HasMoved}
-use Rattle.kahn_pool.specs.inner.Workbench.{HasWorked, Table, state_of}
+use Rattle.kahn_pool.specs.inner.Workbench.{HasWorked, Table, sight_of}
 use Rattle.kahn_pool.proofs.Turns.{moves_on}
 use Rattle.kahn_pool.proofs.Tapping.{worked_on}
 use Rattle.kahn_pool.proofs.rounds.run_awake.Goals as goal
 
 pub loop-preserved : goal.loop-preserved
 loop-preserved g c =
-    let s0 = state_of c.args.bench.now in
-    let s = state_of c.next.new.self in
+    let s0 = sight_of c.args.bench.now in
+    let s = sight_of c.next.new.self in
     let p = c.in-Some.instance in
     let i = c.loop.invariant in
     let r = c.visit-end.new.self in
     let before : HasMoved s0 s c.args.left c.args.memory c.loop.round.left c.loop.round.memory =
-    subst (λ (b : Table). HasMoved s0 (state_of b) c.args.left c.args.memory c.loop.round.left c.loop.round.memory) (sym c.next.ensures.same) i.moved
+    subst (λ (b : Table). HasMoved s0 (sight_of b) c.args.left c.args.memory c.loop.round.left c.loop.round.memory) (sym c.next.ensures.same) i.moved
     in
     let here : p < length s.cells = let h = c.in-Some.ensures.here in let k = before.known in omega (arith, h, k) in
     record {
       moved =
-          subst (λ (b : Table). HasMoved s0 (state_of b) c.args.left c.args.memory r.left r.memory) (sym c.left.ensures)
-          (moves_on s (state_of c.visit-end.new.bench) c.loop.round r p c.visit-end.result here c.visit-end.ensures.visited s0 c.args.left c.args.memory before);
+          subst (λ (b : Table). HasMoved s0 (sight_of b) c.args.left c.args.memory r.left r.memory) (sym c.left.ensures)
+          (moves_on s (sight_of c.visit-end.new.bench) c.loop.round r p c.visit-end.result here c.visit-end.ensures.visited s0 c.args.left c.args.memory before);
       share = search rules;
       worked =
           subst (HasWorked c.args.bench.now) (sym c.left.ensures)

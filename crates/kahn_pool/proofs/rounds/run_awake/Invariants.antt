@@ -1,11 +1,11 @@
 use Rattle.std.proofs.Common.{◌≡◌}
 use Rattle.kahn_pool.specs.inner.Bench.{HasMoved}
-use Rattle.kahn_pool.specs.inner.Workbench.{HasWorked, state_of}
+use Rattle.kahn_pool.specs.inner.Workbench.{HasWorked, sight_of}
 use Rattle.kahn_pool.proofs.rounds.run_awake.Given as goal
 
 abbrev pub invariant-loop : goal.invariant-loop
 invariant-loop g l = record {
-  moved : HasMoved (state_of l.fn.bench) (state_of l.bench) l.fn.left l.fn.memory l.round.left l.round.memory;
+  moved : HasMoved (sight_of l.fn.bench) (sight_of l.bench) l.fn.left l.fn.memory l.round.left l.round.memory;
   share : l.round.share ≡ l.fn.share;
   worked : HasWorked l.fn.bench l.bench;
   ends : l.round.ends ≡ l.fn.ends;

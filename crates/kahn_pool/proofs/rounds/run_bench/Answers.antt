@@ -1,16 +1,16 @@
 use Rattle.std.proofs.Common.{◌≡◌, ◌+◌, ap, ◌∙◌, subst, arith}
 use Rattle.kahn_pool.specs.inner.Bench.{RunState, all_events, IsLast}
 use Rattle.kahn_pool.specs.Right.{IsRight}
-use Rattle.kahn_pool.specs.inner.Workbench.{Table, state_of}
+use Rattle.kahn_pool.specs.inner.Workbench.{Table, sight_of}
 use Rattle.kahn_pool.proofs.rounds.run_bench.Goals as goal
 
 pub answered-requires-clause-last : goal.answered-requires-clause-last
 answered-requires-clause-last g c =
-    let s = state_of c.last_round.new.bench in
+    let s = sight_of c.last_round.new.bench in
     let last = c.in-Some.last in
     let b = c.args.bound in
-    let fresh : all_events (state_of c.bench.inside.bench) ≡ 0 = ap (λ (x : Table). all_events (state_of x)) c.bench.view_is ∙ c.requires.fresh in
-    let zero : all_events (state_of c.bench.inside.bench) + b ≡ b = omega (arith, fresh) in
+    let fresh : all_events (sight_of c.bench.inside.bench) ≡ 0 = ap (λ (x : Table). all_events (sight_of x)) c.bench.view_is ∙ c.requires.fresh in
+    let zero : all_events (sight_of c.bench.inside.bench) + b ≡ b = omega (arith, fresh) in
     subst (λ t. IsLast s t last.left last.memory last.ends.items) zero (rw c.in-Some.is at c.last_round.ensures.last)
 
 pub answered-requires-clause-lacks : goal.answered-requires-clause-lacks
@@ -18,10 +18,10 @@ answered-requires-clause-lacks g c = rw c.in-Some.is at c.last_round.ensures.lac
 
 pub returns-in-Some : goal.returns-in-Some
 returns-in-Some g c =
-    let start = state_of c.args.bench in
-    let is = ap state_of c.bench.view_is in
+    let start = sight_of c.args.bench in
+    let is = ap sight_of c.bench.view_is in
     let same = c.last_round.ensures.same in
-    let s = state_of c.last_round.new.bench in
+    let s = sight_of c.last_round.new.bench in
     let b = c.args.bound in
     let a = c.answered.result in
     record {

@@ -1,6 +1,6 @@
 use Rattle.std.proofs.Common.{ℕ, ◌<◌}
-use Rattle.kahn_job.specs.inner.Berths.{IsFed, end_at}
+use Rattle.kahn_job.specs.inner.Berths.{IsWithinInput, end_at}
 use Rattle.kahn_pool.proofs.settle.fed.Given as goal
 
 abbrev pub invariant-loop-parameter : goal.invariant-loop-parameter
-invariant-loop-parameter l = (q : ℕ) → q < l.parameter → IsFed (end_at l.task.work.ends q)
+invariant-loop-parameter l = (q : ℕ) → q < l.parameter → IsWithinInput (end_at l.task.work.ends q)

@@ -3,7 +3,7 @@ use Rattle.std.proofs.lemmas.List.{length_push, map-append}
 use Rattle.std.proofs.lemmas.Iterator.Splits.{YieldsList-from_slice_split}
 use Rattle.std.proofs.lemmas.Iterator.Consumers.{YieldsList-turn, YieldsList-end}
 use Rattle.kahn_streams.specs.Entries.{entry_of}
-use Rattle.kahn_report.specs.Entries.{text_lines, content, IsEntry, AreBlanks, HasNoHead, HasNoValues, most_bytes}
+use Rattle.kahn_report.specs.Entries.{text_lines, content, IsEntry, AreBlanks, HasNoHead, HasNoValues, most_input_bytes}
 use Rattle.kahn_report.proofs.Parts.{from_part}
 use Rattle.kahn_report.proofs.Lines.{all_blank, all_entry, good_more, first_such, all_read}
 use Rattle.kahn_report.proofs.entries.read_entries.Goals as goal
@@ -58,7 +58,7 @@ returns-in-Err-NoHead c =
     c.loop-line.yielded _ c.loop-line.yielded_by _ _ c.in-Some.line c.in-Some.is c.next.ensures.steps in
     let here = from_part lines k line t in
     let bad : HasNoHead (content line) = rw c.in-Err-NoHead.field-0-is at c.in-Err-NoHead.ensures in
-    let within : length c.args.text.now ≤ most_bytes = search rules in
+    let within : length c.args.text.now ≤ most_input_bytes = search rules in
     (within, first_such lines k (k + 1) line refl here HasNoHead (c.loop-line.number + 1) t.0 (ap (λ n. n + 1) c.loop-line.invariant.number) c.loop-line.invariant.good bad)
 
 pub returns-in-Err-NoValues : goal.returns-in-Err-NoValues
@@ -70,12 +70,12 @@ returns-in-Err-NoValues c =
     c.loop-line.yielded _ c.loop-line.yielded_by _ _ c.in-Some.line c.in-Some.is c.next.ensures.steps in
     let here = from_part lines k line t in
     let bad : HasNoValues (content line) = rw c.in-Err-NoValues.field-0-is at c.in-Err-NoValues.ensures in
-    let within : length c.args.text.now ≤ most_bytes = search rules in
+    let within : length c.args.text.now ≤ most_input_bytes = search rules in
     (within, first_such lines k (k + 1) line refl here HasNoValues (c.loop-line.number + 1) t.0 (ap (λ n. n + 1) c.loop-line.invariant.number) c.loop-line.invariant.good bad)
 
 pub returns : goal.returns
 returns c =
     let t = YieldsList-end (YieldsList-from_slice_split {s = c.into_iter-line-iterator.result} _ (λ b. b == 10) {f = c.split-line-items.result.pred} c.args.text.now (search rules) (search rules) (search rules) (λ x b q k. search (rules, tests)))
     c.loop-line.yielded _ c.loop-line.yielded_by _ _ c.in-None.is c.next.ensures.steps in
-    let within : length c.args.text.now ≤ most_bytes = search rules in
+    let within : length c.args.text.now ≤ most_input_bytes = search rules in
     (within, all_read (text_lines c.args.text.now) (length c.loop-line.yielded) (map entry_of c.loop-line.entries.items) (omega (arith, t.1)) c.loop-line.invariant.all)

@@ -4,14 +4,14 @@ use Rattle.atomic_table.specs.Table.{opening}
 use Rattle.kahn_tree.specs.declared.tree.Program.{Program}
 use Rattle.kahn_board.specs.Wires.{wires}
 use Rattle.kahn_board.specs.Rule.{Whole, opening_view, published}
-use Rattle.kahn_board.specs.Dealt.{wired, events_of}
+use Rattle.kahn_board.specs.Dealt.{wired, events_told}
 use Rattle.kahn_board.proofs.Opens.{given, opens, start_by, map_some_once}
 use Rattle.kahn_board.proofs.board.Board.new.Goals as goal
 
 pub new-requires-2 : goal.new-requires-2
 new-requires-2 g c = let told = g.T.Told.told in let after = g.T.Told.after in let a = c.args in let w = wires a.network.now in let b = c.in-Ok.ensures in let words = c.in-Ok.grown.words.items in
     let begin = opens told after w a.bound words a.published.now a.cells.items c.requires (start_by told after w c.in-Ok.grown.wiring.instances a.bound words a.published.now b.counts.0 b.long b.ready b.hot b.numbers) in
-    subst (λ (k : Program × List ℕ × List ℕ × List _ × List (Option _)). Whole told (given after k.3) (wires k.0) record { bound = a.bound; events = events_of told k.3; published = published (wires k.0) k.1 } (opening k.2 k.4 (opening_view (wires k.0))))
+    subst (λ (k : Program × List ℕ × List ℕ × List _ × List (Option _)). Whole told (given after k.3) (wires k.0) record { bound = a.bound; events = events_told told k.3; published = published (wires k.0) k.1 } (opening k.2 k.4 (opening_view (wires k.0))))
     (λ i. (sym c.of.ensures i, ap (λ v. v.items) (sym c.of-2.ensures) i, sym c.as_slice.ensures.value i, ap (λ v. v.items) (sym c.of-3.ensures) i, sym c.into_slots-cells.ensures.2 i)) begin
 
 pub invariant_of-board : goal.invariant_of-board

@@ -3,7 +3,7 @@ use Rattle.kahn_code.proofs.Common.{IsWellWired, network_of, inputs_of}
 use Rattle.kahn_code.specs.Cells.{StoodBy}
 use Rattle.kahn_code.specs.inner.Tapped.{Tapped}
 use Rattle.kahn_code.specs.Progress.{core_of}
-use Rattle.kahn_code.specs.Standing.{view}
+use Rattle.kahn_code.specs.Standing.{core_view}
 use Rattle.kahn_code.specs.Told.{told_view}
 use Rattle.kahn_code.proofs.Readers.{driven}
 use Rattle.kahn_code.proofs.Stand.{stood_by}
@@ -17,5 +17,5 @@ returns g c =
     let same : t ≡ c.args.network.now = ap (λ (v : Tapped). v.told.network) c.self.view_is ∙ c.requires in
     let wired = subst IsWellWired (sym same) c.program-program.ensures.wired in
     subst (λ (v : Tapped). StoodBy (network_of c.args.network.now) (inputs_of v.told.input) v.told.watch v.told.instance (told_view v.told)) c.self.view_is
-    (subst (λ t. StoodBy (network_of t) (inputs_of i.input.value) i.progress.watch i.progress.instance (view (core_of i.progress))) same
+    (subst (λ t. StoodBy (network_of t) (inputs_of i.input.value) i.progress.watch i.progress.instance (core_view (core_of i.progress))) same
     (stood_by (network_of t) (inputs_of i.input.value) i.progress.watch i.progress.instance (driven t wired) (core_of i.progress) s.0 s.1))

@@ -1,5 +1,5 @@
 use Rattle.std.proofs.Common.{arith, ap, subst, sym, ◌∙◌, Some}
-use Rattle.kahn_lane.specs.Places.{Placed, tag_name, token_name, moved_to}
+use Rattle.kahn_lane.specs.Places.{StandFrom, tag_name, token_name, moved_to}
 use Rattle.kahn_lane.specs.inner.Settles.{IsGrown}
 use Rattle.kahn_streams.specs.declared.token.Token.{Token}
 use Rattle.kahn_lane.specs.declared.name.LaneName.{LaneName}
@@ -17,4 +17,4 @@ invariant_of-self-clause-placed g c =
     let is = c.requires.input.0 in
     let from = ap token_name c.token-token.ensures ∙ c.requires.next.0 in
     let named = s.moved ∙ ((λ i. moved_to (is i) (sym from i)) ∙ token_name-moved c.args.input.now c.token-token.result c.lift.result l.here.0 l.names.0 l.names.1) in
-    subst (Placed (Some (tag_name s.to)) s.first) (sym c.push_reserved.ensures.items) (placed_more _ _ _ _ _ s.placed c.of.ensures (ap Some named) (omega (arith, l.here.1, ap (λ (t : Token). t.place) c.token-token.ensures, c.requires.next.1, s.tokens.ok.0)))
+    subst (StandFrom (Some (tag_name s.to)) s.first) (sym c.push_reserved.ensures.items) (placed_more _ _ _ _ _ s.placed c.of.ensures (ap Some named) (omega (arith, l.here.1, ap (λ (t : Token). t.place) c.token-token.ensures, c.requires.next.1, s.tokens.ok.0)))

@@ -1,6 +1,6 @@
 use Rattle.std.proofs.Common.{arith, ap, subst, sym, ◌∙◌, Some}
 use Rattle.crossbeam_deque.specs.Handles.{worker_view}
-use Rattle.kahn_lane.specs.Places.{Placed, tag_name}
+use Rattle.kahn_lane.specs.Places.{StandFrom, tag_name}
 use Rattle.kahn_lane.specs.inner.LaneRule.{tokens_of}
 use Rattle.kahn_lane.specs.inner.Settles.{IsGrown}
 use Rattle.kahn_lane.specs.declared.name.Tag.{Tag}
@@ -31,4 +31,4 @@ put_segment-requires-clause-next g c =
     let e = c.in-Some.ensures.rule in
     let l = c.loop-segment in
     let s = c.in-Some.segment in
-    subst (λ n. Placed (Some (tag_name l.self.from)) n (tokens_of s)) i.4 (subst (λ m. Placed m (worker_view l.worker).stolen (tokens_of s)) i.3 e.0.1)
+    subst (λ n. StandFrom (Some (tag_name l.self.from)) n (tokens_of s)) i.4 (subst (λ m. StandFrom m (worker_view l.worker).stolen (tokens_of s)) i.3 e.0.1)

@@ -1,6 +1,6 @@
 use Rattle.std.proofs.Common.{arith, ◌≡◌, ap, length, subst, sym, None}
 use Rattle.crossbeam_deque.specs.Handles.{worker_view}
-use Rattle.kahn_lane.specs.Places.{Placed}
+use Rattle.kahn_lane.specs.Places.{StandFrom}
 use Rattle.kahn_lane.specs.inner.LaneRule.{tokens_of}
 use Rattle.kahn_lane.specs.declared.segments.Segment.{Segment}
 use Rattle.kahn_lane.proofs.LaneMoves.{flushes}
@@ -14,5 +14,5 @@ push_as-requires-clause-pushes g c =
     let is : tokens_of segment ≡ s.current.items = tokens_alone segment s.current.items _ c.requires (omega (arith, s.current.ok.0)) c.pop.ensures.value in
     let same = ap length is in
     flushes _ _ _ segment s.stage s.writes
-    (omega (arith, same, c.requires, s.current.ok.0), subst (Placed (worker_view s.worker).writes_on (worker_view s.worker).flushed) (sym is) (rw s.counted s.placed))
+    (omega (arith, same, c.requires, s.current.ok.0), subst (StandFrom (worker_view s.worker).writes_on (worker_view s.worker).flushed) (sym is) (rw s.counted s.placed))
     (omega (arith, same, s.limited, s.counted, s.current.ok.0))

@@ -1,5 +1,5 @@
 use Rattle.std.proofs.Common.{ap, ◌∙◌}
-use Rattle.kahn_pool.specs.inner.Workbench.{Table, state_of}
+use Rattle.kahn_pool.specs.inner.Workbench.{Table, sight_of}
 use Rattle.kahn_pool.specs.inner.Bench.{all_events}
 use Rattle.kahn_pool.proofs.Laid.{laid_first, no_events}
 use Rattle.kahn_pool.proofs.bench.Bench.new.Goals as goal
@@ -11,4 +11,4 @@ named-requires c =
 
 pub returns-clause-fresh : goal.returns-clause-fresh
 returns-clause-fresh c =
-    ap (λ (x : Table). all_events (state_of x)) c.named.ensures ∙ no_events _ (λ p x e. (c.in_ok-taps.ensures.opening.each p x e).events)
+    ap (λ (x : Table). all_events (sight_of x)) c.named.ensures ∙ no_events _ (λ p x e. (c.in_ok-taps.ensures.opening.each p x e).events)

@@ -1,6 +1,6 @@
 use Rattle.std.proofs.Common.{arith, refl, subst}
 use Rattle.kahn_pool.specs.inner.Bench.{HasRunCell}
-use Rattle.kahn_pool.specs.inner.Workbench.{IsLaid, Table, state_of, table_of}
+use Rattle.kahn_pool.specs.inner.Workbench.{IsLaid, Table, sight_of, table_of}
 use Rattle.kahn_pool.proofs.Benched
 use Rattle.kahn_pool.proofs.Tapping as Tapping
 use Rattle.kahn_pool.proofs.bench.Bench.run.Goals as goal
@@ -47,9 +47,9 @@ returns g c =
     let e = c.run-pause.ensures in
     let z = c.run-pause.result in
     let n = c.args.quantum in
-    let ran = subst (λ (y : Table). HasRunCell (state_of c.args.self.now) (state_of y) c.args.instance n z)
+    let ran = subst (λ (y : Table). HasRunCell (sight_of c.args.self.now) (sight_of y) c.args.instance n z)
     (Tapping.ran_is c.self.inside.taps.items c.self.view_is laid c.args.instance c.requires.here c.index_mut.ensures.value tap e.gone ports)
-    (subst (λ (x : Table). HasRunCell (state_of x) (state_of (Benched.ran b c.args.instance new ports)) c.args.instance n z) c.self.view_is
+    (subst (λ (x : Table). HasRunCell (sight_of x) (sight_of (Benched.ran b c.args.instance new ports)) c.args.instance n z) c.self.view_is
     (record {
       same = (refl, refl, refl);
       only = Benched.views_after b c.args.instance _ new ports at;

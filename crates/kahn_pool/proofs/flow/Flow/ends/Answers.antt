@@ -2,7 +2,7 @@ use Rattle.std.proofs.Common.{arith, ◌≡◌, List, Some, sym, subst}
 use Rattle.kahn_pool.specs.HeldRuns.{IsRightSoFar}
 use Rattle.kahn_pool.specs.Flows.{Flowing}
 use Rattle.kahn_pool.specs.inner.Holding.{AreEnded}
-use Rattle.kahn_pool.specs.inner.Workbench.{state_of}
+use Rattle.kahn_pool.specs.inner.Workbench.{sight_of}
 use Rattle.kahn_pool.specs.declared.answer.End.{End}
 use Rattle.kahn_pool.proofs.Righted.{events_seen, right_with}
 use Rattle.kahn_pool.proofs.flow.Flow.ends.Goals as goal
@@ -13,7 +13,7 @@ returns c v e =
     let b = i.bench in
     let h = c.self.invariant.2 in
     let is : i.verdict ≡ Some v = subst (λ (f : Flowing). f.run.verdict ≡ Some v) (sym c.self.view_is) e in
-    let ended = subst (AreEnded (state_of b) i.plan.bound i.budget i.ends.items) is h.ended in
+    let ended = subst (AreEnded (sight_of b) i.plan.bound i.budget i.ends.items) is h.ended in
     let s = events_seen b.cells in
     let l = h.left in
     subst (λ (xs : List End). IsRightSoFar c.args.self.now.run v xs) (sym c.deref.ensures.value)

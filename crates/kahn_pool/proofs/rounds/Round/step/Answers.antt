@@ -1,14 +1,14 @@
 use Rattle.std.proofs.Common.{◌≡◌, ◌<◌, arith, length}
-use Rattle.kahn_pool.specs.inner.Workbench.{state_of}
+use Rattle.kahn_pool.specs.inner.Workbench.{sight_of}
 use Rattle.kahn_pool.proofs.Turns.{goes_on}
 use Rattle.kahn_pool.proofs.rounds.Round.step.Goals as goal
 
 pub returns-clause-goes : goal.returns-clause-goes
 returns-clause-goes g c s0 w0 t0 go =
-    let s = state_of c.args.bench.now in
+    let s = sight_of c.args.bench.now in
     let p = c.args.instance in
     rw (c.push_reserved.ensures.items, c.visit-end.ensures.ends)
-    (goes_on s (state_of c.visit-end.new.bench) c.args.self.now c.visit-end.new.self p c.visit-end.result
+    (goes_on s (sight_of c.visit-end.new.bench) c.args.self.now c.visit-end.new.self p c.visit-end.result
     (let k : length s.cells ≡ length s.network.instances = c.requires.known in let h : p < length s.network.instances = c.requires.here in omega (arith, k, h))
     c.visit-end.ensures.visited s0 w0 t0 go)
 

@@ -1,17 +1,17 @@
 use Rattle.std.proofs.Common.{◌≡◌, ◌-◌, ◌≤◌, arith}
 use Rattle.kahn_pool.specs.inner.Bench.{events_at}
-use Rattle.kahn_pool.specs.inner.Workbench.{state_of}
+use Rattle.kahn_pool.specs.inner.Workbench.{sight_of}
 use Rattle.kahn_pool.proofs.Turns.{run_bound}
 use Rattle.kahn_pool.proofs.rounds.Round.visit.Goals as goal
 
 pub run_gated-stopped-requires-clause-bound : goal.run_gated-stopped-requires-clause-bound
 run_gated-stopped-requires-clause-bound g c =
-    run_bound (state_of c.args.bench.now).cells c.args.instance c.args.self.now.left c.quantum-quantum.result c.args.self.now.memory c.requires.bound c.quantum-quantum.ensures.most
+    run_bound (sight_of c.args.bench.now).cells c.args.instance c.args.self.now.left c.quantum-quantum.result c.args.self.now.memory c.requires.bound c.quantum-quantum.ensures.most
 
 pub returns-clause-visited : goal.returns-clause-visited
 returns-clause-visited g c =
-    let s = state_of c.args.bench.now in
-    let t = state_of c.run_gated-stopped.new.bench in
+    let s = sight_of c.args.bench.now in
+    let t = sight_of c.run_gated-stopped.new.bench in
     let p = c.args.instance in
     let ran = c.run_gated-stopped.ensures.ran in
     let a : c.events-before.result ≡ events_at s p = c.events-before.ensures in

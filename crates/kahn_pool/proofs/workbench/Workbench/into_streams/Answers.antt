@@ -3,7 +3,7 @@ use Rattle.std.proofs.lemmas.List.{length-map}
 use Rattle.kahn_network.specs.Network.{network_of}
 use Rattle.kahn_pool.specs.inner.Bench.{AreStreams}
 use Rattle.kahn_pool.specs.Right.{stream_lines}
-use Rattle.kahn_pool.specs.inner.Workbench.{IsLaid, Table, state_of, told_in}
+use Rattle.kahn_pool.specs.inner.Workbench.{IsLaid, Table, sight_of, told_in}
 use Rattle.kahn_pool.proofs.Filled.{are_streams}
 use Rattle.kahn_pool.proofs.Kept_sizes.{are_lists}
 use Rattle.kahn_pool.proofs.Seen.{kept_seen, printed_seen}
@@ -42,6 +42,6 @@ returns c =
     let same = ap (λ t. let z : Table = record i.bench { network = t } in z) c.self.invariant.0 in
     let ls = c.all_kept-kept.result.items in
     let left = all_left c.into_taps.result.items ls i.bench taps.told taps.gone c.all_kept-kept.ensures _ c.self.invariant.1 in
-    subst (λ (x : Table). AreStreams (state_of x) c.fill.new.streams.items (stream_lines (network_of x.network) x.watch)) (sym same ∙ c.self.view_is)
-    (are_streams (state_of b) ls i.streams.items c.fill.new.streams.items c.self.invariant.2.begun.lines c.fill.ensures
+    subst (λ (x : Table). AreStreams (sight_of x) c.fill.new.streams.items (stream_lines (network_of x.network) x.watch)) (sym same ∙ c.self.view_is)
+    (are_streams (sight_of b) ls i.streams.items c.fill.new.streams.items c.self.invariant.2.begun.lines c.fill.ensures
     (kept_seen ls i.bench.cells left.sent) (printed_seen ls i.bench.cells left.printed) c.self.invariant.2.begun.given)

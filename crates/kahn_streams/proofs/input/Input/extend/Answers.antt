@@ -1,6 +1,6 @@
 use Rattle.std.proofs.Common.{rules, ◌≡◌, ◌≤◌, ◌++◌, slice_set}
 use Rattle.kahn_streams.specs.Entries.{Entry, channel_of, most_values}
-use Rattle.kahn_streams.specs.Feeds.{IsMeant, total}
+use Rattle.kahn_streams.specs.Feeds.{IsMeant, total_after}
 use Rattle.kahn_streams.specs.Tokens.{inputs_of}
 use Rattle.kahn_streams.proofs.Fed.{fed, fed_grown}
 use Rattle.kahn_streams.proofs.input.Input.extend.Goals as goal
@@ -13,6 +13,6 @@ returns-clause-grown c =
     let entry : Entry = (c.args.channel.now, c.args.values.items) in
     let is : c.in_ok-number.number ≡ channel_of t entry = search rules in
     let meant : IsMeant t entry = search rules in
-    let within : total t before entry ≤ most_values = search rules in
+    let within : total_after t before entry ≤ most_values = search rules in
     let made : after ≡ slice_set before c.in_ok-number.number (inputs_of before c.in_ok-number.number ++ c.args.values.items) = search rules in
     fed_grown t before entry after (fed t before entry c.in_ok-number.number after c.requires is meant within made)
