@@ -9,8 +9,8 @@ pub use Rattle.kahn_syntax.specs.Spans.{ActionSpans, ArgumentSpans, ArgumentsSpa
 pub use Rattle.kahn_syntax.specs.Terminals.{AreProper, First, IsProper, IsUnsigned, Terminal, name, sign, terminal, terminals, word}
 pub use Rattle.kahn_syntax.specs.Texts.{AreLexemes, IsProgram, IsTextFault}
 pub use Rattle.kahn_syntax.specs.Trees.{AreSome, ExpressionTree, Formed, FormedOperands, FormedStatement, FormedStatements, IsOne, IsSimple, OperandTrees, StatementTree, StatementTrees, assign, block, bracket, conditional, denial, empty, expression_nesting, expression_words, further_words, if_else, if_then, level, negation, no_operand, no_statement, number, operand, operands_nesting, operands_words, operator_terminal, print, rank, repeat, send, statement, statement_nesting, statement_words, statements_nesting, statements_words, truth, truth_terminal, variable, wait, while_do}
-pub use Rattle.kahn_syntax.specs.declared.lexeme.Class.TheVariants.{Number, Word}
-pub use Rattle.kahn_syntax.specs.declared.lexeme.Keyword.TheVariants.{And, Begin, Channel, Div, Do, Else, End, False, If, In, Input, Integer, Logical, Mod, On, Out, Output, Par, Print, Process, Repeat, Send, Then, True, Wait, While}
+pub use Rattle.kahn_syntax.specs.declared.lexeme.Class.TheVariants.{Name as NameClass, Number, Sign as SignClass, Word}
+pub use Rattle.kahn_syntax.specs.declared.lexeme.Keyword.TheVariants.{And, Begin, Channel, Div, Do, Else, End, False, If, In, Input, Integer, Logical, Mod, On, Out, Output, Par, Print, Process, Repeat, Send, Then, True, Wait, While, Not as NotWord, Or as OrWord}
 pub use Rattle.kahn_syntax.specs.declared.lexeme.Sign.TheVariants.{AtLeast, AtMost, Becomes, Close, Comma, Equal, Greater, Less, Minus, Not, Open, Plus, Semicolon, Times, Unequal}
 pub use Rattle.kahn_syntax.specs.declared.parser.cursor.Stop.TheVariants.{NoMemory}
 pub use Rattle.kahn_syntax.specs.inner.Items.{IsFaultAt}

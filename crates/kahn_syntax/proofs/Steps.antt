@@ -1,7 +1,6 @@
 -- What single terminals do to what is open.
-use Rattle.kahn_syntax.proofs.Common.{◌≡◌, ◌≢◌, ℕ, ◌+◌, ◌≤◌, ◌==◌, ◌++◌, List, [], ◌∷◌, length, Bool, true, false, true≢false, cond, Option, Some, None, refl, sym, ap, ◌∙◌, append_assoc, arith, nat_le, nat_tests, Operator, Terminal, rank, operator_terminal, Rung, whole, ors, ands, denials, relations, sums, terms, factors, at, tighter, operator_of, rank_or, Lacks, Token, a_word, an_operator, has_rank, takes, leads, Part, ExpressionPart, OperatorsPart, TokenPart, LevelPart, Rule, rules_of, expression_rules, relation_rules, or_rules, operator_rules, enters, starts, followed, opening, levels, may_end, step, Refuses, Whole, TooFar, Fate, onward, fate}
+use Rattle.kahn_syntax.proofs.Common.{◌≡◌, ◌≢◌, ℕ, ◌+◌, ◌≤◌, ◌==◌, ◌++◌, List, [], ◌∷◌, length, Bool, true, false, true≢false, cond, Option, Some, None, refl, sym, ap, ◌∙◌, append_assoc, arith, nat_le, nat_tests, Operator, Terminal, rank, operator_terminal, Rung, whole, ors, ands, denials, relations, sums, terms, factors, at, tighter, operator_of, rank_or, Lacks, Token, a_word, an_operator, has_rank, takes, leads, Part, ExpressionPart, OperatorsPart, TokenPart, LevelPart, Rule, rules_of, expression_rules, relation_rules, or_rules, operator_rules, enters, starts, followed, opening, levels, may_end, step, Refuses, Whole, TooFar, Fate, onward, fate, If, NotWord}
 use Rattle.std.specs.Prelude.{is_some}
-use Rattle.kahn_syntax.specs.declared.lexeme.Keyword.TheVariants as keyword
 use Rattle.kahn_tree.specs.declared.tree.Operator.TheVariants as operator
 use Rattle.kahn_syntax.proofs.Unique.{Ends, is_operator}
 
@@ -134,13 +133,13 @@ open_chain l m s ks h =
     part (ExpressionPart l) m s ks ∙ (follows (expression_rules (tighter l)) (OperatorsPart l ∷ []) m s ks ∙ sym (part (ExpressionPart (tighter l)) m (OperatorsPart l ∷ s) ks))
 
 -- what doesn't begin with `if`
-pub open_whole : (m : ℕ) (s : List Part) (ks : List Terminal) → leads (a_word keyword.If) ks ≡ false → fate m (ExpressionPart whole ∷ s) ks ≡ fate m (ExpressionPart ors ∷ s) ks
-open_whole m s ks h = part (ExpressionPart whole) m s ks ∙ (passes_one (a_word keyword.If) _ or_rules m s ks h ∙ sym (part (ExpressionPart ors) m s ks))
+pub open_whole : (m : ℕ) (s : List Part) (ks : List Terminal) → leads (a_word If) ks ≡ false → fate m (ExpressionPart whole ∷ s) ks ≡ fate m (ExpressionPart ors ∷ s) ks
+open_whole m s ks h = part (ExpressionPart whole) m s ks ∙ (passes_one (a_word If) _ or_rules m s ks h ∙ sym (part (ExpressionPart ors) m s ks))
 
 -- what doesn't begin with `not`
-pub open_denial : (m : ℕ) (s : List Part) (ks : List Terminal) → leads (a_word keyword.Not) ks ≡ false → fate m (ExpressionPart denials ∷ s) ks ≡ fate m (ExpressionPart relations ∷ s) ks
+pub open_denial : (m : ℕ) (s : List Part) (ks : List Terminal) → leads (a_word NotWord) ks ≡ false → fate m (ExpressionPart denials ∷ s) ks ≡ fate m (ExpressionPart relations ∷ s) ks
 open_denial m s ks h =
-    part (ExpressionPart denials) m s ks ∙ (passes_one (a_word keyword.Not) _ relation_rules m s ks h ∙ sym (part (ExpressionPart relations) m s ks))
+    part (ExpressionPart denials) m s ks ∙ (passes_one (a_word NotWord) _ relation_rules m s ks h ∙ sym (part (ExpressionPart relations) m s ks))
 
 lacks_leads : (o : Operator) (r : List Terminal) → Lacks (rank o) r → leads (an_operator o) r ≡ false
 lacks_leads o [] h = refl
