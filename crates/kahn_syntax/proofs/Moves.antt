@@ -1,7 +1,7 @@
 -- How the parts that are open go on, over what the parser reads.
-use Rattle.kahn_syntax.proofs.Common.{head_parts, Then, Else, Do, On, End, ElseTail, StatementsTail, ◌≡◌, ◌≢◌, ℕ, ◌+◌, ◌≤◌, ◌<◌, List, [], ◌∷◌, ◌++◌, ◌⊎◌, ⊎_elim, length, Bool, true, false, cond, Some, None, Result, Ok, Err, true≢false, refl, sym, ap, ◌∙◌, subst, arith, append_assoc, Span, Class, Lexeme, MatchResult, Expression, Form, Covers, Statement, Stop, Refused, TooDeep, NoMemory, Terminal, word, sign, name, terminal, terminals, First, Token, takes, leads, class_of, a_kind, a_name, a_number, a_sign, a_word, an_operator, either, Rule, rules_of, starts, enters, followed, opening, argument_rules, declaration_rules, other_rules, process_rules, simple_rules, Part, ProgramPart, DeclarationsPart, DeclarationPart, ProcessPart, GroupsPart, GroupPart, VariablesPart, InstancePart, ArgumentsPart, ArgumentPart, ExpressionPart, OperatorsPart, StatementPart, SimplePart, GroupsTail, ArgumentsTail, TokenPart, LevelPart, levels, step, Refuses, TooFar, fate, Operator, Level, Or, operator_terminal, rank, Rung, whole, ors, denials, relations, sums, factors, at, tighter, rung_of, Lacks, Kind, kind_terminal, IsAbsent, Reads, Moves, Stops, Halts, ExpressionRead, StatementRead, Begin, Close, If, Integer, Logical, NameClass, Not, NotWord, Process, Semicolon, SignClass, Word}
+use Rattle.kahn_syntax.proofs.Common.{head_parts, Then, Else, Do, On, End, ElseTail, StatementsTail, ◌≡◌, ◌≢◌, ℕ, ◌+◌, ◌≤◌, ◌<◌, List, [], ◌∷◌, ◌++◌, ◌⊎◌, ⊎_elim, length, true, false, cond, Some, None, Result, Ok, Err, true≢false, refl, sym, ap, ◌∙◌, subst, arith, append_assoc, Span, Class, Lexeme, MatchResult, Expression, Form, Covers, Statement, Stop, Refused, TooDeep, NoMemory, Terminal, word, terminal, terminals, First, Token, takes, leads, class_of, a_kind, a_name, a_number, a_sign, a_word, an_operator, either, rules_of, starts, enters, followed, opening, argument_rules, declaration_rules, other_rules, process_rules, simple_rules, Part, ProgramPart, DeclarationsPart, DeclarationPart, ProcessPart, GroupsPart, GroupPart, VariablesPart, InstancePart, ArgumentsPart, ArgumentPart, ExpressionPart, OperatorsPart, StatementPart, SimplePart, GroupsTail, ArgumentsTail, TokenPart, LevelPart, levels, step, Refuses, TooFar, fate, Operator, Level, Or, operator_terminal, rank, Rung, whole, ors, denials, relations, sums, at, tighter, rung_of, Kind, kind_terminal, IsAbsent, Reads, Moves, Stops, Halts, ExpressionRead, StatementRead, Begin, Close, If, Integer, Logical, NameClass, Not, NotWord, Process, Semicolon, SignClass, Word}
 use Rattle.kahn_syntax.proofs.WholePrograms.{take_kind, skip_variables}
-use Rattle.kahn_syntax.proofs.Steps.{go, runs, part, skips, refuses, passes, passes_one, follows, follows_some, starts_one, starts_followed, skip_level, skip_tail, take_token, IsChain, IsOther, open_chain, open_whole, open_denial, skip_operators, take_comparison, take_operator}
+use Rattle.kahn_syntax.proofs.Steps.{go, runs, part, skips, refuses, passes, passes_one, follows, follows_some, starts_one, starts_followed, skip_level, skip_tail, take_token, IsChain, IsOther, open_chain, open_whole, open_denial, take_comparison, take_operator}
 use Rattle.kahn_syntax.proofs.Reached.{go_far}
 use Rattle.kahn_syntax.proofs.Meaning.{terminals_length}
 
@@ -148,9 +148,6 @@ opens_denial text d qs i a = record { fates = λ s l. open_denial 64 (qs ++ s) (
 pub opens_chain : (text : List ℕ) (d : ℕ) (g : Rung) (qs : List Part) (i : List Lexeme) → IsChain g → Moves text d (ExpressionPart g ∷ qs) (ExpressionPart (tighter g) ∷ OperatorsPart g ∷ qs) i i
 opens_chain text d g qs i h = record { fates = λ s l. open_chain g 64 (qs ++ s) (terminals text i) h }
 
-pub operators_end : (text : List ℕ) (d : ℕ) (g : Rung) (qs : List Part) (i : List Lexeme) → Lacks (at g) (terminals text i) → Moves text d (OperatorsPart g ∷ qs) qs i i
-operators_end text d g qs i h = record { fates = λ s l. skip_operators g 64 (qs ++ s) (terminals text i) h }
-
 pub comparison : (text : List ℕ) (d : ℕ) (o : Operator) (qs : List Part) (i j : List Lexeme) → Bound d qs → rank o ≡ 4 → terminals text i ≡ operator_terminal o ∷ terminals text j →
     Moves text d (OperatorsPart relations ∷ qs) (ExpressionPart sums ∷ qs) i j
 comparison text d o qs i j b h e = record { fates = λ s l. ap (fate 64 (OperatorsPart relations ∷ qs ++ s)) e ∙ take_comparison 64 (qs ++ s) o (terminals text j) h (b s l) }
@@ -227,8 +224,10 @@ pub memory_alone : (text : List ℕ) (d : ℕ) (qs : List Part) (i : List Lexeme
 memory_alone text d qs i x f h = ⊎_elim (λ e. no_memory text d qs i x e) (λ (a, e). absurd (true≢false (sym f ∙ a))) h
 
 pub opens_simple : (text : List ℕ) (d : ℕ) (qs : List Part) (i : List Lexeme) → starts other_rules (terminals text i) ≡ false → Moves text d (StatementPart ∷ qs) (SimplePart ∷ qs) i i
-opens_simple text d qs i h = record { fates = λ s l. part StatementPart 64 (qs ++ s) (terminals text i)
-    ∙ (passes other_rules simple_rules 64 true (qs ++ s) (terminals text i) h ∙ sym (part SimplePart 64 (qs ++ s) (terminals text i))) }
+opens_simple text d qs i h = record {
+  fates = λ s l. part StatementPart 64 (qs ++ s) (terminals text i)
+      ∙ (passes other_rules simple_rules 64 true (qs ++ s) (terminals text i) h ∙ sym (part SimplePart 64 (qs ++ s) (terminals text i)));
+}
 
 -- nothing of a part is there
 pub nothing : (text : List ℕ) (d : ℕ) (p : Part) (qs : List Part) (i : List Lexeme) → (rules_of p).0 ≡ true → starts (rules_of p).1 (terminals text i) ≡ false → Moves text d (p ∷ qs) qs i i
@@ -242,11 +241,13 @@ kind_moves text d p qs rs k i j b f g e = record { fates = λ s l. ap (fate 64 (
 -- a list of parts begins
 pub opens_some : (text : List ℕ) (p q : Part) (after qs : List Part) (i : List Lexeme) → (rules_of p).1 ≡ followed after (rules_of q).1 → (rules_of q).0 ≡ false →
     starts (rules_of q).1 (terminals text i) ≡ true → Moves text 0 (p ∷ qs) (q ∷ after ++ qs) i i
-opens_some text p q after qs i e n h = record { fates = λ s l. part p 64 (qs ++ s) (terminals text i)
-    ∙ (ap (λ rs. runs 64 (rules_of p).0 rs (qs ++ s) (terminals text i)) e
-    ∙ (follows_some (rules_of q).1 after 64 (rules_of p).0 (qs ++ s) (terminals text i) h
-    ∙ (ap (λ b. runs 64 b (rules_of q).1 (after ++ (qs ++ s)) (terminals text i)) (sym n)
-    ∙ (sym (part q 64 (after ++ (qs ++ s)) (terminals text i)) ∙ ap (λ u. fate 64 (q ∷ u) (terminals text i)) (sym (append_assoc after qs s)))))) }
+opens_some text p q after qs i e n h = record {
+  fates = λ s l. part p 64 (qs ++ s) (terminals text i)
+      ∙ (ap (λ rs. runs 64 (rules_of p).0 rs (qs ++ s) (terminals text i)) e
+      ∙ (follows_some (rules_of q).1 after 64 (rules_of p).0 (qs ++ s) (terminals text i) h
+      ∙ (ap (λ b. runs 64 b (rules_of q).1 (after ++ (qs ++ s)) (terminals text i)) (sym n)
+      ∙ (sym (part q 64 (after ++ (qs ++ s)) (terminals text i)) ∙ ap (λ u. fate 64 (q ∷ u) (terminals text i)) (sym (append_assoc after qs s))))));
+}
 
 pub opens_groups : (text : List ℕ) (qs : List Part) (i : List Lexeme) → leads a_kind (terminals text i) ≡ true → Moves text 0 (GroupsPart ∷ qs) (GroupPart ∷ GroupsTail ∷ qs) i i
 opens_groups text qs i h = opens_some text GroupsPart GroupPart (GroupsTail ∷ []) qs i refl refl (starts_one a_kind _ (terminals text i) true h)
@@ -258,15 +259,19 @@ pub variables_end : (text : List ℕ) (qs : List Part) (i : List Lexeme) → lea
 variables_end text qs i h = record { fates = λ s l. skip_variables 64 (qs ++ s) (terminals text i) h }
 
 pub opens_process : (text : List ℕ) (qs : List Part) (i : List Lexeme) → leads a_kind (terminals text i) ≡ false → Moves text 0 (DeclarationPart ∷ qs) (ProcessPart ∷ qs) i i
-opens_process text qs i h = record { fates = λ s l. part DeclarationPart 64 (qs ++ s) (terminals text i)
-    ∙ (passes_one a_kind _ process_rules 64 (qs ++ s) (terminals text i) h ∙ sym (part ProcessPart 64 (qs ++ s) (terminals text i))) }
+opens_process text qs i h = record {
+  fates = λ s l. part DeclarationPart 64 (qs ++ s) (terminals text i)
+      ∙ (passes_one a_kind _ process_rules 64 (qs ++ s) (terminals text i) h ∙ sym (part ProcessPart 64 (qs ++ s) (terminals text i)));
+}
 
 pub opens_arguments : (text : List ℕ) (qs : List Part) (i : List Lexeme) → IsAbsent (SignClass Close) i →
     Moves text 0 (ArgumentsPart ∷ qs) (ArgumentPart ∷ ArgumentsTail ∷ TokenPart (a_sign Close) ∷ qs) i i
-opens_arguments text qs i h = record { fates = λ s l. part ArgumentsPart 64 (qs ++ s) (terminals text i)
-    ∙ (passes_one (a_sign Close) [] (followed (ArgumentsTail ∷ TokenPart (a_sign Close) ∷ []) argument_rules) 64 (qs ++ s) (terminals text i) (h (a_sign Close) refl text)
-    ∙ (follows argument_rules (ArgumentsTail ∷ TokenPart (a_sign Close) ∷ []) 64 (qs ++ s) (terminals text i)
-    ∙ sym (part ArgumentPart 64 (ArgumentsTail ∷ TokenPart (a_sign Close) ∷ qs ++ s) (terminals text i)))) }
+opens_arguments text qs i h = record {
+  fates = λ s l. part ArgumentsPart 64 (qs ++ s) (terminals text i)
+      ∙ (passes_one (a_sign Close) [] (followed (ArgumentsTail ∷ TokenPart (a_sign Close) ∷ []) argument_rules) 64 (qs ++ s) (terminals text i) (h (a_sign Close) refl text)
+      ∙ (follows argument_rules (ArgumentsTail ∷ TokenPart (a_sign Close) ∷ []) 64 (qs ++ s) (terminals text i)
+      ∙ sym (part ArgumentPart 64 (ArgumentsTail ∷ TokenPart (a_sign Close) ∷ qs ++ s) (terminals text i))));
+}
 
 pub opens_declarations : (text : List ℕ) (qs : List Part) (i : List Lexeme) → starts declaration_rules (terminals text i) ≡ true →
     Moves text 0 (DeclarationsPart ∷ qs) (DeclarationPart ∷ TokenPart (a_sign Semicolon) ∷ DeclarationsPart ∷ qs) i i

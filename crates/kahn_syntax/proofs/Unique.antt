@@ -1,5 +1,5 @@
 -- No two trees spell one list: expressions.
-use Rattle.kahn_syntax.proofs.Common.{◌≡◌, ℕ, zero, suc, ◌+◌, ◌*◌, ◌≤◌, ◌<◌, ◌≢◌, List, [], ◌∷◌, true, false, Some, ◌⊎◌, ⊎_elim, refl, sym, ap, ◌∙◌, subst, arith, nat_tests, Operator, Terminal, word, sign, ExpressionTree, number, truth, variable, wait, negation, denial, bracket, level, conditional, OperandTrees, no_operand, operand, operator_terminal, expression_words, operands_words, expression_nesting, operands_nesting, rank, IsOne, Formed, FormedOperands, Fits, joined, operator_of, rank_or, leads, a_word, true≢false, Rung, whole, ors, ands, denials, relations, sums, terms, factors, at, Close, Else, If, NotWord, Then}
+use Rattle.kahn_syntax.proofs.Common.{◌-◌, tighter, ◌≡◌, ℕ, zero, suc, ◌+◌, ◌*◌, ◌≤◌, ◌<◌, ◌≢◌, List, [], ◌∷◌, true, false, Some, ◌⊎◌, ⊎_elim, refl, sym, ap, ◌∙◌, subst, arith, nat_tests, Operator, Terminal, word, sign, ExpressionTree, number, truth, variable, wait, negation, denial, bracket, level, conditional, OperandTrees, no_operand, operand, operator_terminal, expression_words, operands_words, expression_nesting, operands_nesting, rank, IsOne, Formed, FormedOperands, Fits, joined, operator_of, rank_or, leads, a_word, true≢false, Rung, whole, ors, denials, relations, factors, at, Close, Else, If, NotWord, Then}
 use Rattle.kahn_tree.specs.declared.tree.Operator.TheVariants as operator
 use Rattle.kahn_syntax.proofs.Levels.{joined_words}
 
@@ -53,25 +53,12 @@ abbrev mutual
   sizes (operand o e os) = size e + sizes os + 1
 
 abbrev pub above : Rung → ℕ
-above whole = 7
-above ors = 6
-above ands = 5
-above denials = 4
-above relations = 3
-above sums = 2
-above terms = 1
-above factors = 0
+above l = 7 - at l
 
 -- the tightest operator that ends what stands there
 abbrev pub stop : Rung → ℕ
 stop whole = 1
-stop ors = 1
-stop ands = 2
-stop denials = 3
-stop relations = 4
-stop sums = 5
-stop terms = 6
-stop factors = 7
+stop l = at l
 
 abbrev Same : ExpressionTree → ExpressionTree → List Terminal → List Terminal → Type 0
 Same t u r q = (t ≡ u) × (r ≡ q)
@@ -247,13 +234,10 @@ same_denial k known t u r q s f g x y e = cases (open_denial t f) (open_denial u
 
 step : (k : ℕ) → Known k → Known (k + 1)
 step k known whole t u r q s f g x y e = same_whole k known t u r q s f g x y e
-step k known ors t u r q s f g x y e = chain k 1 ands known refl refl (omega arith) (omega arith) (λ z. omega arith) (omega arith) t u r q (omega arith) f g x y e
-step k known ands t u r q s f g x y e = chain k 2 denials known refl refl (omega arith) (omega arith) (λ z. omega arith) (omega arith) t u r q (omega arith) f g x y e
 step k known denials t u r q s f g x y e = same_denial k known t u r q s f g x y e
-step k known relations t u r q s f g x y e = chain k 4 sums known refl refl (omega arith) (omega arith) (λ z. omega arith) (omega arith) t u r q (omega arith) f g x y e
-step k known sums t u r q s f g x y e = chain k 5 terms known refl refl (omega arith) (omega arith) (λ z. omega arith) (omega arith) t u r q (omega arith) f g x y e
-step k known terms t u r q s f g x y e = chain k 6 factors known refl refl (omega arith) (omega arith) (λ z. omega arith) (omega arith) t u r q (omega arith) f g x y e
 step k known factors t u r q s f g x y e = same_factor k known t u r q s f g x y e
+step k known l t u r q s f g x y e =
+    chain k (at l) (tighter l) known refl refl (omega arith) (omega arith) (λ z. omega arith) (omega arith) t u r q (omega arith) f g x y e
 
 known_all : (k : ℕ) → Known k
 known_all zero = λ l t u r q s f g x y e. absurd (omega (arith, s))

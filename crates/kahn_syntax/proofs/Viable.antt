@@ -1,5 +1,6 @@
 -- What is open can be completed, and what is read is the beginning of trees for it.
-use Rattle.kahn_syntax.proofs.Common.{◌<◌, ◌≡◌, ℕ, ◌+◌, ◌≤◌, ◌==◌, ℤ, pos, List, [], ◌∷◌, Bool, true, false, cond, Option, Some, None, refl, sym, ap, ◌∙◌, subst, arith, ⊎_elim, ◌⊎◌, inl, inr, true≢false, Further, Grouped, group, all_members, IsGroup, AreGroups, nat_tests, Kind, Role, Taking, Operator, Terminal, word, sign, name, ExpressionTree, number, truth, variable, wait, negation, denial, bracket, conditional, OperandTrees, no_operand, operand, StatementTree, empty, assign, send, print, block, if_then, if_else, while_do, repeat, StatementTrees, no_statement, statement, operator_terminal, rank, expression_words, operands_words, statement_words, further_words, expression_nesting, operands_nesting, statement_nesting, statements_nesting, FormedOperands, FormedStatement, FormedStatements, IsSimple, DeclarationTree, channels, process, ArgumentTree, channel, InstanceTree, instance, kind_terminal, role_words, taking_words, further_names_words, group_words, groups_words, further_groups_words, togethers_words, Declares, Declarations, Argues, Arguments, Instantiates, Instances, MaybeSemicolon, declaration_nesting, declarations_nesting, StandsFirst, joined, Rung, whole, ors, ands, denials, relations, sums, terms, factors, at, tighter, operator_of, Token, takes, NamesTail, StatementsTail, GroupsTail, ArgumentsTail, InstancesTail, ElseTail, LastTail, Part, ProgramPart, DeclarationsPart, DeclarationPart, ProcessPart, RolePart, GroupsPart, GroupPart, TakingPart, VariablesPart, StatementPart, SimplePart, ExpressionPart, OperatorsPart, InstancePart, ArgumentsPart, ArgumentPart, TokenPart, LevelPart, levels, may_end, step, opening, enters, followed, rules_of, Rule, process_rules, declaration_rules, group_rules, simple_rules, other_rules, argument_rules, factor_rules, operand_rules, relation_rules, denial_rules, or_rules, expression_rules, operator_rules, either, an_operator, has_letters_of, has_rank, letters_of, bytes_of_sign, bytes_eq, truth_terminal, append_assoc, Keyword, Sign, ◌++◌, a_sign, a_word, a_name, a_number, And, AtLeast, AtMost, Becomes, Begin, Channel, Close, Comma, Div, Do, Else, End, Equal, False, Greater, If, Integer, Less, Logical, Minus, Mod, NotWord, On, Open, OrWord, Par, Plus, Print, Process, Repeat, Semicolon, Send, Then, Times, True, Unequal, Wait, While}
+use Rattle.kahn_syntax.proofs.Common.{◌<◌, ◌≡◌, ℕ, ◌+◌, ◌≤◌, ◌==◌, ℤ, pos, List, [], ◌∷◌, Bool, true, false, cond, Option, Some, None, refl, sym, ap, ◌∙◌, subst, arith, ⊎_elim, ◌⊎◌, inl, inr, true≢false, Further, Grouped, group, all_members, IsGroup, AreGroups, nat_tests, Kind, Role, Taking, Operator, Terminal, word, sign, name, ExpressionTree, number, truth, variable, wait, negation, denial, bracket, conditional, OperandTrees, no_operand, operand, StatementTree, empty, assign, send, print, block, if_then, if_else, while_do, repeat, StatementTrees, no_statement, statement, operator_terminal, rank, expression_words, operands_words, statement_words, further_words, expression_nesting, operands_nesting, statement_nesting, statements_nesting, FormedOperands, FormedStatement, FormedStatements, IsSimple, DeclarationTree, channels, process, ArgumentTree, channel, InstanceTree, instance, kind_terminal, role_words, taking_words, further_names_words, group_words, groups_words, further_groups_words, togethers_words, Declares, Declarations, Argues, Arguments, Instantiates, Instances, MaybeSemicolon, declaration_nesting, declarations_nesting, StandsFirst, joined, Rung, whole, ors, ands, denials, relations, sums, terms, factors, at, tighter, operator_of, Token, takes, NamesTail, StatementsTail, GroupsTail, ArgumentsTail, InstancesTail, ElseTail, LastTail, Part, ProgramPart, DeclarationsPart, DeclarationPart, ProcessPart, RolePart, GroupsPart, GroupPart, TakingPart, VariablesPart, StatementPart, SimplePart, ExpressionPart, OperatorsPart, InstancePart, ArgumentsPart, ArgumentPart, TokenPart, LevelPart, levels, may_end, step, opening, enters, followed, rules_of, Rule, process_rules, declaration_rules, group_rules, simple_rules, other_rules, argument_rules, factor_rules, operand_rules, relation_rules, denial_rules, or_rules, expression_rules, operator_rules, either, an_operator, rank_or, letters_of, bytes_of_sign, bytes_eq, truth_terminal, append_assoc, Keyword, Sign, ◌++◌, a_sign, a_word, a_name, a_number, And, AtLeast, AtMost, Becomes, Begin, Channel, Close, Comma, Div, Do, Else, End, Equal, False, Greater, If, Integer, Less, Logical, Minus, Mod, NotWord, On, Open, OrWord, Par, Plus, Print, Process, Repeat, Semicolon, Send, Then, Times, True, Unequal, Wait, While}
+use Rattle.std.specs.Prelude.{◌||◌}
 use Rattle.std.specs.Prelude.{neg_ℤ}
 use Rattle.kahn_tree.specs.declared.tree.Kind.TheVariants as kind
 use Rattle.kahn_tree.specs.declared.tree.Role.TheVariants as role
@@ -10,7 +11,7 @@ use Rattle.kahn_syntax.specs.Terminals as terminal
 use Rattle.kahn_syntax.specs.Programs as tree
 use Rattle.kahn_syntax.specs.inner.Reads as reads
 use Rattle.kahn_syntax.proofs.Levels.{joined_words, joined_nesting}
-use Rattle.kahn_syntax.proofs.Unique.{IsNoneOrOne}
+use Rattle.kahn_syntax.proofs.Unique.{IsNoneOrOne, rank_within}
 use Rattle.kahn_syntax.proofs.Steps.{IsChain}
 use Rattle.kahn_syntax.proofs.Keywords.{same_keyword}
 use Rattle.kahn_syntax.proofs.Signs.{sign_by_bytes}
@@ -118,8 +119,8 @@ is_terminal (word Div) o e = ap operator_terminal (some_same operator.Divide o e
 is_terminal (word Mod) o e = ap operator_terminal (some_same operator.Remainder o e)
 is_terminal _ o e = absurd cc
 
-word_same : (v w : Keyword) (b : Bool) → has_letters_of v w ≡ b → b ≡ true → v ≡ w
-word_same v w b e h = same_keyword v w ((bytes_eq-Decides (letters_of v) (letters_of w)).0 (e ∙ h))
+word_same : (v w : Keyword) → bytes_eq (letters_of v) (letters_of w) ≡ true → v ≡ w
+word_same v w e = same_keyword v w ((bytes_eq-Decides (letters_of v) (letters_of w)).0 e)
 
 sign_same : (g u : Sign) → bytes_eq (bytes_of_sign g) (bytes_of_sign u) ≡ true → g ≡ u
 sign_same g u e = sign_by_bytes g u ((bytes_eq-Decides (bytes_of_sign g) (bytes_of_sign u)).0 e)
@@ -130,18 +131,18 @@ test_same a b e = grind (arith, nat_tests)
 takes_one : (t : Token) (k : Terminal) (Next : Lists) (ks : List Terminal) → takes t k ≡ true → Next ks → One t Next (k ∷ ks)
 takes_one a_name (name n) Next ks e h = (n, ks, refl, h)
 takes_one a_number (terminal.number z) Next ks e h = (z, ks, refl, h)
-takes_one (a_word v) (word w) Next ks e h = (ks, ap (λ x. word x ∷ ks) (sym (word_same v w _ refl e)), h)
-takes_one (either u v) (word w) Next ks e h = by (has_letters_of u w) refl e
+takes_one (a_word v) (word w) Next ks e h = (ks, ap (λ x. word x ∷ ks) (sym (word_same v w e)), h)
+takes_one (either u v) (word w) Next ks e h = by (bytes_eq (letters_of u) (letters_of w)) refl e
   where
-    by : (b : Bool) → has_letters_of u w ≡ b → cond b true (has_letters_of v w) ≡ true → One (either u v) Next (word w ∷ ks)
-    by true p q = (ks, inl (ap (λ x. word x ∷ ks) (sym (word_same u w true p refl))), h)
-    by false p q = (ks, inr (ap (λ x. word x ∷ ks) (sym (word_same v w _ refl q))), h)
+    by : (b : Bool) → bytes_eq (letters_of u) (letters_of w) ≡ b → (b || bytes_eq (letters_of v) (letters_of w)) ≡ true → One (either u v) Next (word w ∷ ks)
+    by true p q = (ks, inl (ap (λ x. word x ∷ ks) (sym (word_same u w p))), h)
+    by false p q = (ks, inr (ap (λ x. word x ∷ ks) (sym (word_same v w q))), h)
 takes_one (a_sign g) (sign u) Next ks e h = (ks, ap (λ x. sign x ∷ ks) (sym (sign_same g u e)), h)
-takes_one (an_operator o) k Next ks e h = by (operator_of k) refl e
+takes_one (an_operator o) k Next ks e h = by (operator_of k) refl (test_same (rank_or (operator_of k)) (rank o) e)
   where
-    by : (q : Option Operator) → operator_of k ≡ q → has_rank (rank o) q ≡ true → One (an_operator o) Next (k ∷ ks)
-    by None i f = absurd (true≢false (sym f))
-    by (Some p) i f = (p, ks, test_same (rank p) (rank o) f, ap (λ x. x ∷ ks) (is_terminal k p i), h)
+    by : (q : Option Operator) → operator_of k ≡ q → rank_or q ≡ rank o → One (an_operator o) Next (k ∷ ks)
+    by None i f = absurd (omega (arith, f, (rank_within o).1))
+    by (Some p) i f = (p, ks, f, ap (λ x. x ∷ ks) (is_terminal k p i), h)
 takes_one _ _ Next ks e h = absurd (true≢false (sym e))
 
 one_map : (t : Token) (P Q : Lists) → ((r : List Terminal) → P r → Q r) → (ks : List Terminal) → One t P ks → One t Q ks

@@ -1,10 +1,10 @@
 -- A list that a tree spells is read whole: expressions.
-use Rattle.kahn_syntax.proofs.Common.{◌≡◌, ◌≢◌, ℕ, zero, suc, ◌+◌, ◌*◌, ◌≤◌, ◌<◌, List, ◌∷◌, true, false, refl, sym, ap, ◌∙◌, subst, arith, Terminal, word, sign, name, ExpressionTree, number, truth, variable, wait, negation, denial, bracket, level, conditional, OperandTrees, no_operand, operand, expression_words, operands_words, expression_nesting, operands_nesting, Formed, FormedOperands, Fits, Rung, whole, ors, ands, denials, relations, sums, terms, factors, at, tighter, Part, ExpressionPart, OperatorsPart, TokenPart, LevelPart, levels, fate, a_sign, a_name, a_word, Close, Else, False, If, Minus, NotWord, Open, Then, True, Wait}
+use Rattle.kahn_syntax.proofs.Common.{◌≡◌, ◌≢◌, ℕ, zero, suc, ◌+◌, ◌*◌, ◌≤◌, ◌<◌, List, ◌∷◌, true, false, refl, sym, ap, ◌∙◌, subst, arith, Terminal, word, sign, name, ExpressionTree, number, truth, variable, wait, negation, denial, bracket, level, conditional, OperandTrees, no_operand, operand, expression_words, operands_words, expression_nesting, operands_nesting, Formed, FormedOperands, Fits, Rung, whole, ors, denials, relations, sums, factors, at, tighter, Part, ExpressionPart, OperatorsPart, TokenPart, LevelPart, levels, fate, a_sign, a_name, a_word, Close, Else, False, If, Minus, NotWord, Open, Then, True, Wait}
 use Rattle.kahn_syntax.specs.Terminals as terminal
 use Rattle.kahn_syntax.proofs.Levels.{joined_words}
 use Rattle.kahn_syntax.proofs.Unique.{Ends, ends_more, ends_operand, size, sizes, above, stop, split, IsNoneOrOne, Whole, is_if, is_tighter, Denial, is_not, is_relation, level_low, no_if, no_not}
 use Rattle.kahn_syntax.proofs.Unique as unique
-use Rattle.kahn_syntax.proofs.Steps.{go, skip_level, take_token, IsChain, IsOther, open_chain, open_whole, open_denial, skip_operators, ends_lacks, take_comparison, take_operator}
+use Rattle.kahn_syntax.proofs.Steps.{go, skip_level, take_token, IsChain, IsOther, open_chain, open_whole, open_denial, skip_operators, take_comparison, take_operator}
 
 -- smaller trees are read whole
 abbrev Known : ℕ → Type 0
@@ -33,7 +33,7 @@ is_chain _ h = h
 
 whole_operands : (k : ℕ) (l : Rung) → Known k → IsOther l → (os : OperandTrees) (m : ℕ) (s : List Part) (r : List Terminal) → 8 * sizes os ≤ k →
     FormedOperands (at l) os → Ends (at l) r → levels s + operands_nesting os ≤ m → fate m (OperatorsPart l ∷ s) (operands_words os r) ≡ fate m s r
-whole_operands k l known c no_operand m s r z f e n = skip_operators l m s r (ends_lacks (at l) r e)
+whole_operands k l known c no_operand m s r z f e n = skip_operators l m s r (is_chain l c) e
 whole_operands k l known c (operand o t os) m s r z f e n =
     let h = facts l (is_chain l c) in
     take_operator l m s o (expression_words t (operands_words os r)) c f.0 (omega (arith, n))
@@ -43,7 +43,7 @@ whole_operands k l known c (operand o t os) m s r z f e n =
 
 whole_comparison : (k : ℕ) → Known k → (os : OperandTrees) (m : ℕ) (s : List Part) (r : List Terminal) → 8 * sizes os ≤ k →
     FormedOperands 4 os → IsNoneOrOne os → Ends 4 r → levels s + operands_nesting os ≤ m → fate m (OperatorsPart relations ∷ s) (operands_words os r) ≡ fate m s r
-whole_comparison k known no_operand m s r z f c e n = skip_operators relations m s r (ends_lacks 4 r e)
+whole_comparison k known no_operand m s r z f c e n = skip_operators relations m s r tt e
 whole_comparison k known (operand o t (operand p u os)) m s r z f c e n = absurd c
 whole_comparison k known (operand o t no_operand) m s r z f c e n =
     take_comparison m s o (expression_words t r) f.0 (omega (arith, n))
@@ -55,10 +55,7 @@ whole_rest k whole known c os m s r z f d e n = absurd c
 whole_rest k denials known c os m s r z f d e n = absurd c
 whole_rest k factors known c os m s r z f d e n = absurd c
 whole_rest k relations known c os m s r z f d e n = whole_comparison k known os m s r z f (d refl) e n
-whole_rest k ors known c os m s r z f d e n = whole_operands k ors known tt os m s r z f e n
-whole_rest k ands known c os m s r z f d e n = whole_operands k ands known tt os m s r z f e n
-whole_rest k sums known c os m s r z f d e n = whole_operands k sums known tt os m s r z f e n
-whole_rest k terms known c os m s r z f d e n = whole_operands k terms known tt os m s r z f e n
+whole_rest k l known c os m s r z f d e n = whole_operands k l known tt os m s r z f e n
 
 whole_chain : (k : ℕ) (l : Rung) → Known k → IsChain l → (t : ExpressionTree) (m : ℕ) (s : List Part) (r : List Terminal) → 8 * size t + above l < k + 1 →
     Fits (at l) t → Ends (stop l) r → levels s + expression_nesting t ≤ m → fate m (ExpressionPart l ∷ s) (expression_words t r) ≡ fate m s r
@@ -129,13 +126,9 @@ whole_whole k known t m s r b f e n = cases (unique.open_whole t f)
 
 further : (k : ℕ) → Known k → Known (k + 1)
 further k known whole t m s r b f e n = whole_whole k known t m s r b f e n
-further k known ors t m s r b f e n = whole_chain k ors known tt t m s r b f e n
-further k known ands t m s r b f e n = whole_chain k ands known tt t m s r b f e n
 further k known denials t m s r b f e n = whole_denial k known t m s r b f e n
-further k known relations t m s r b f e n = whole_chain k relations known tt t m s r b f e n
-further k known sums t m s r b f e n = whole_chain k sums known tt t m s r b f e n
-further k known terms t m s r b f e n = whole_chain k terms known tt t m s r b f e n
 further k known factors t m s r b f e n = whole_factor k known t m s r b f e n
+further k known l t m s r b f e n = whole_chain k l known tt t m s r b f e n
 
 known_all : (k : ℕ) → Known k
 known_all zero = λ l t m s r b f e n. absurd (omega (arith, b))

@@ -1,4 +1,4 @@
-use Rattle.kahn_syntax.proofs.Parsing.{Close, Else, ExpressionPart, ExpressionRead, ExpressionSpans, False, Fits, FormedOperands, If, IsUnsigned, LevelPart, Minus, NameClass, NotWord, Number, Open, OperandsSpan, OperatorsPart, SignClass, Takes, Then, TokenPart, True, Word, a_sign, a_word, ap, arith, at, call, call_stops, choice_parts, compared_fits, comparison, deep, denials, drop, err_from_is_err_and, expected, expression_nesting, expression_of, factor_rules, factors, false, first_of, form_of, formed_next, hidden-the_row-Operand-0, joined_made, joined_nesting, level_chain, level_ends, level_fits, made, name, name_of, no_operand, no_operands, number_fits, one, one_lexeme, only_memory, opened, opens_chain, opens_denial, opens_whole, operands_made, operands_nesting, operands_nesting_next, operands_next, operands_of, operands_row, operands_row_spans, operator_more, operator_terminal, operators_end, ors, refl, refused, relations, rules, rung_of, sign, starts, subst, sums, sym, terminals, then, then_stops, tighter, to_z-of_z, unexpected, vec_len, w64, whole, word, [], ◌∙◌, ◌∷◌, ◌≡◌}
+use Rattle.kahn_syntax.proofs.Parsing.{nothing, Close, Else, ExpressionPart, ExpressionRead, ExpressionSpans, False, Fits, FormedOperands, If, IsUnsigned, LevelPart, Minus, NameClass, NotWord, Number, Open, OperandsSpan, OperatorsPart, SignClass, Takes, Then, TokenPart, True, Word, a_sign, a_word, ap, arith, at, call, call_stops, choice_parts, compared_fits, comparison, deep, denials, drop, err_from_is_err_and, expected, expression_nesting, expression_of, factor_rules, factors, false, first_of, form_of, formed_next, hidden-the_row-Operand-0, joined_made, joined_nesting, level_chain, level_ends, level_fits, made, name, name_of, no_operand, no_operands, number_fits, one, one_lexeme, only_memory, opened, opens_chain, opens_denial, opens_whole, operands_made, operands_nesting, operands_nesting_next, operands_next, operands_of, operands_row, operands_row_spans, operator_more, operator_terminal, ors, refl, refused, relations, rules, rung_of, sign, starts, subst, sums, sym, terminals, then, then_stops, tighter, to_z-of_z, unexpected, vec_len, w64, whole, word, [], ◌∙◌, ◌∷◌, ◌≡◌}
 use Rattle.kahn_syntax.specs.Terminals.{number}
 use Rattle.std.specs.Prelude.{◌==◌, length, true}
 use Rattle.kahn_syntax.proofs.parser.expression.+expression.Goals as goal
@@ -179,7 +179,7 @@ read_relation-returns-in_default t c =
       nesting = c.in_ok-left.ensures.nesting;
       shorter = c.in_ok-left.ensures.shorter;
       proper = c.in_ok-left.ensures.proper;
-      reads = (then (then (opens_chain c.args.text.now c.args.depth relations [] c.args.input.now tt) (call c.args.text.now c.args.depth c.args.depth (ExpressionPart sums ∷ []) (OperatorsPart relations ∷ []) c.args.input.now c.in_ok-left.rest.now (λ s l. omega (arith, l, c.requires.1.1.0)) c.in_ok-left.ensures.reads)) (operators_end c.args.text.now c.args.depth relations [] c.in_ok-left.rest.now (c.in_default.ensures.lacks c.args.text.now)));
+      reads = (then (then (opens_chain c.args.text.now c.args.depth relations [] c.args.input.now tt) (call c.args.text.now c.args.depth c.args.depth (ExpressionPart sums ∷ []) (OperatorsPart relations ∷ []) c.args.input.now c.in_ok-left.rest.now (λ s l. omega (arith, l, c.requires.1.1.0)) c.in_ok-left.ensures.reads)) (nothing c.args.text.now c.args.depth (OperatorsPart relations) [] c.in_ok-left.rest.now refl (c.in_default.ensures.lacks c.args.text.now)));
     }
 
 pub read_factor-returns-in-Some-Word-Wait-default : goal.read_factor-returns-in-Some-Word-Wait-default
@@ -288,7 +288,7 @@ read_level-returns-then-is_empty t c =
       nesting = c.in_ok-first.ensures.nesting;
       shorter = i.shorter;
       proper = i.proper;
-      reads = then i.reads (operators_end T c.args.depth (rung_of c.args.level) [] c.operands.rest.now (c.in_default.ensures.lacks T));
+      reads = then i.reads (nothing T c.args.depth (OperatorsPart (rung_of c.args.level)) [] c.operands.rest.now refl (c.in_default.ensures.lacks T));
     }
 
 pub read_level-returns : goal.read_level-returns
@@ -306,7 +306,7 @@ read_level-returns t c =
       nesting = omega (arith, ap expression_nesting m, joined_nesting (expression_of first) (operands_of further.items), i.nesting);
       shorter = i.shorter;
       proper = i.proper;
-      reads = then i.reads (operators_end T c.args.depth (rung_of c.args.level) [] c.operands.rest.now (c.in_default.ensures.lacks T));
+      reads = then i.reads (nothing T c.args.depth (OperatorsPart (rung_of c.args.level)) [] c.operands.rest.now refl (c.in_default.ensures.lacks T));
     })
     c.made.result (λ x. x.0.value) (λ x. x.1.now) c.made.ensures
 
