@@ -1,16 +1,15 @@
 -- Inner. What each function of the parser reads, and where it stops.
 use Rattle.std.specs.Prelude.{◌≡◌, ℕ, List, [], ◌∷◌, ◌++◌, ◌+◌, ◌≤◌, ◌<◌, false, length, map, Some, Result, MatchResult}
-use Rattle.kahn_syntax.specs.Names.{Expression, Statement, Stop, Refused, TooDeep, Class, Lexeme, Keyword, Parameter, Argument, Declaration}
+use Rattle.kahn_syntax.specs.Names.{Expression, Form, Operator, Statement, Stop, Refused, TooDeep, Class, Lexeme, Keyword, Parameter, Argument, Declaration}
 use Rattle.kahn_syntax.specs.declared.parser.cursor.Stop.TheVariants.{NoMemory}
 use Rattle.kahn_syntax.specs.declared.lexeme.Keyword.TheVariants as keyword
 use Rattle.kahn_syntax.specs.declared.lexeme.Sign.TheVariants as mark
 use Rattle.kahn_syntax.specs.Programs.{DeclarationTree, channels, process}
 use Rattle.kahn_syntax.specs.Terminals.{Terminal, word, sign, terminals, AreProper}
-use Rattle.kahn_syntax.specs.inner.Machine.{Token, class_of, token_of, leads, Part, ProgramPart, ExpressionPart, StatementPart, SimplePart, TailPart, StatementsTail, TokenPart, GroupsPart, OpenToken, CloseToken, SemicolonToken, BeginToken, levels, Refuses, TooFar, fate}
-use Rattle.kahn_syntax.specs.inner.Rungs.{Rung, whole, at}
+use Rattle.kahn_syntax.specs.inner.Machine.{Rung, whole, at, Token, class_of, leads, Part, ProgramPart, ExpressionPart, StatementPart, SimplePart, StatementsTail, TokenPart, GroupsPart, levels, Fate, Refuses, TooFar, fate, a_word, a_sign}
 use Rattle.kahn_syntax.specs.Drawn.{declaration_of, expression_of, statement_of, statements_of}
-use Rattle.kahn_syntax.specs.Spans.{Takes, ArgumentsSpan, DeclarationsSpan, ParametersSpan, ExpressionSpans, StatementSpans, StatementsSpan}
-use Rattle.kahn_syntax.specs.Trees.{ExpressionTree, OperandTrees, no_operand, operand, level, binds, Formed, expression_nesting, StatementTree, FormedStatement, FormedStatements, IsSimple, AreSome, statement_nesting, statements_nesting}
+use Rattle.kahn_syntax.specs.Spans.{FormSpans, Takes, ArgumentsSpan, DeclarationsSpan, ParametersSpan, ExpressionSpans, StatementSpans, StatementsSpan}
+use Rattle.kahn_syntax.specs.Trees.{operator_terminal, ExpressionTree, OperandTrees, no_operand, operand, level, binds, Formed, expression_nesting, StatementTree, FormedStatement, FormedStatements, IsSimple, AreSome, statement_nesting, statements_nesting}
 
 -- an expression that may stand at this level
 abbrev pub Fits : ℕ → ExpressionTree → Type 0
@@ -26,25 +25,26 @@ abbrev pub IsAbsent : Class → List Lexeme → Type 0
 IsAbsent wanted input = (t : Token) → class_of t ≡ Some wanted → (text : List ℕ) → leads t (terminals text input) ≡ false
 
 -- Whatever is open below these parts, with so many levels: over what was read of the input, to the rest, the parts become those.
-abbrev pub Moves : List ℕ → ℕ → List Part → List Part → List Lexeme → List Lexeme → Type 0
-Moves text depth parts those input rest =
-    (s : List Part) → levels s ≡ depth → fate 64 (parts ++ s) (terminals text input) ≡ fate 64 (those ++ s) (terminals text rest)
+pub record Moves (text : List ℕ) (depth : ℕ) (parts those : List Part) (input rest : List Lexeme) : Type 0 where
+  pub fates : (s : List Part) → levels s ≡ depth → fate 64 (parts ++ s) (terminals text input) ≡ fate 64 (those ++ s) (terminals text rest)
 
 -- the parts are read
 abbrev pub Reads : List ℕ → ℕ → List Part → List Lexeme → List Lexeme → Type 0
 Reads text depth parts input rest = Moves text depth parts [] input rest
 
+-- the fate is what stopped the reading
+abbrev pub IsStop : Stop → Fate → Type 0
+IsStop (Refused ended left) f = f ≡ Refuses ended left
+IsStop (TooDeep left) f = f ≡ TooFar left
+IsStop NoMemory f = Unit {0}
+
 -- The parts aren't read, and here is why.
 abbrev pub Stops : List ℕ → ℕ → List Part → List Lexeme → Stop → Type 0
-Stops text depth parts input (Refused ended left) = (s : List Part) → levels s ≡ depth → fate 64 (parts ++ s) (terminals text input) ≡ Refuses ended left
-Stops text depth parts input (TooDeep left) = (s : List Part) → levels s ≡ depth → fate 64 (parts ++ s) (terminals text input) ≡ TooFar left
-Stops text depth parts input NoMemory = Unit {0}
+Stops text depth parts input e = (s : List Part) → levels s ≡ depth → IsStop e (fate 64 (parts ++ s) (terminals text input))
 
 -- The list isn't a program, and here is why.
 abbrev pub Halts : List Terminal → Stop → Type 0
-Halts ks (Refused ended left) = fate 64 (ProgramPart ∷ []) ks ≡ Refuses ended left
-Halts ks (TooDeep left) = fate 64 (ProgramPart ∷ []) ks ≡ TooFar left
-Halts ks NoMemory = Unit {0}
+Halts ks e = IsStop e (fate 64 (ProgramPart ∷ []) ks)
 
 -- With so many levels open, an expression of this level of the grammar is read from the input to the rest.
 pub record ExpressionRead (text : List ℕ) (depth : ℕ) (g : Rung) (e : Expression) (input rest : List Lexeme) : Type 0 where
@@ -64,7 +64,7 @@ pub record ExpressionBefore (text : List ℕ) (depth : ℕ) (last : Keyword) (e 
   pub nesting : depth + expression_nesting (expression_of e) ≤ 64
   pub shorter : length rest < length input
   pub proper : AreProper text rest
-  pub reads : Reads text depth (ExpressionPart whole ∷ TokenPart (token_of last) ∷ []) input rest
+  pub reads : Reads text depth (ExpressionPart whole ∷ TokenPart (a_word last) ∷ []) input rest
 
 -- a statement that may stand for this part: `else` may follow a simple one
 abbrev pub MayStand : Part → StatementTree → Type 0
@@ -89,7 +89,7 @@ pub record StatementsRead (text : List ℕ) (depth : ℕ) (ss : List Statement) 
   pub nesting : depth + statements_nesting (statements_of ss) ≤ 64
   pub shorter : length rest ≤ length input
   pub proper : AreProper text rest
-  pub reads : Reads text depth (StatementPart ∷ TailPart StatementsTail ∷ []) input rest
+  pub reads : Reads text depth (StatementPart ∷ StatementsTail ∷ []) input rest
 
 -- Where no level is open, a part is read from the input to the rest, and its spans are over the lexemes between.
 pub record PartRead (text : List ℕ) (parts : List Part) (S : List Lexeme → List Lexeme → Type 0) (input rest : List Lexeme) : Type 0 where
@@ -109,7 +109,7 @@ AreSound (d ∷ ds) = IsSound d × AreSound ds
 
 -- the parameters of a process in their brackets, and what stands between them and its body
 abbrev pub head_parts : List Part
-head_parts = TokenPart OpenToken ∷ GroupsPart ∷ TokenPart CloseToken ∷ TokenPart SemicolonToken ∷ TokenPart BeginToken ∷ []
+head_parts = TokenPart (a_sign mark.Open) ∷ GroupsPart ∷ TokenPart (a_sign mark.Close) ∷ TokenPart (a_sign mark.Semicolon) ∷ TokenPart (a_word keyword.Begin) ∷ []
 
 abbrev pub HeadSpans : List ℕ → List Parameter → List Lexeme → List Lexeme → Type 0
 HeadSpans text ps xs r = (a : List Lexeme) × (b : List Lexeme) × (c : List Lexeme) × (d : List Lexeme) × Takes text (sign mark.Open) xs a
@@ -122,6 +122,11 @@ SoundDeclarationsSpan text ds xs r = AreSound (map declaration_of ds) × Declara
 -- arguments and the bracket behind them
 abbrev pub ClosedArgumentsSpan : List ℕ → List Argument → List Lexeme → List Lexeme → Type 0
 ClosedArgumentsSpan text arguments xs r = (a : List Lexeme) × ArgumentsSpan text arguments xs a × Takes text (sign mark.Close) a r
+
+-- an operator between two operands
+abbrev pub SpansOperation : Expression → Operator → Expression → Form → Type 0
+SpansOperation left operator right f = (text : List ℕ) (xs a b r : List Lexeme) →
+    ExpressionSpans text left xs a → Takes text (operator_terminal operator) a b → ExpressionSpans text right b r → FormSpans text f xs r
 
 -- ---- what a call answers: what was read, with the rest, or why it isn't
 
@@ -139,7 +144,7 @@ ParsesExpression result text depth g value input rest =
 abbrev pub ParsesBefore : {R : Type 0} → Result R Stop → List ℕ → ℕ → Keyword → (R → Expression) → List Lexeme → (R → List Lexeme) → Type 0
 ParsesBefore result text depth last value input rest =
     MatchResult result (λ r. ExpressionBefore text depth last (value r) input (rest r))
-    (λ e. Stops text depth (ExpressionPart whole ∷ TokenPart (token_of last) ∷ []) input e)
+    (λ e. Stops text depth (ExpressionPart whole ∷ TokenPart (a_word last) ∷ []) input e)
 
 -- a statement that may stand for this part
 abbrev pub ParsesStatement : {R : Type 0} → Result R Stop → List ℕ → ℕ → Part → (R → Statement) → List Lexeme → (R → List Lexeme) → Type 0
@@ -150,4 +155,4 @@ ParsesStatement result text depth p value input rest =
 abbrev pub ParsesStatements : {R : Type 0} → Result R Stop → List ℕ → ℕ → (R → List Statement) → List Lexeme → (R → List Lexeme) → Type 0
 ParsesStatements result text depth values input rest =
     MatchResult result (λ r. StatementsRead text depth (values r) input (rest r))
-    (λ e. Stops text depth (StatementPart ∷ TailPart StatementsTail ∷ []) input e)
+    (λ e. Stops text depth (StatementPart ∷ StatementsTail ∷ []) input e)
