@@ -154,7 +154,8 @@ changed 's/RES after 1/RES after one/' '5 sink stands'
 changed 's/finished 16/finished/' 'the run ended'
 changed 's/finished 16/stopped by hand 16/' 'the run ended'
 gives "a report of another program" 1 "report doesn't tell how 1 count stands" '' "$top/examples/count.kahn" --report report
-gives "a report that isn't there" 5 '' 'kahn: cannot read nothing' "$ring" --report nothing
+missing=$'kahn: cannot read nothing\nkahn_explain: there is no such file'
+gives "a report that isn't there" 5 '' "$missing" "$ring" --report nothing
 network behind 'integer channel A, B; integer output channel W;' 'copy(A, W) par copy(B, A) par clock(B)'
 printf 'end 1 copy: waits on A after 2\nend 2 copy: waits on B after 3\nend 3 clock: wants more after 2\nstopped by bound 7\n' > report
 gives "the report of a run that was stopped" 3 "1 copy waits on A from 2 copy, as 3 clock wants more events
@@ -244,10 +245,24 @@ echo "begin process p(); begin $statements; I = 1 end; p() end;" > more
 "$explain" more > output
 if [ "$(wc -l < output)" = 3 ] && grep -q 'found `=`, where' output; then pass; else fail "8,193 lexemes: $(tail -n 1 output)"; fi
 head -c 1048577 /dev/zero | tr '\0' ' ' > long
-gives "a text that is too long" 1 '' 'kahn: program text is too long' long
+gives "a text that is too long" 1 '' $'kahn: program text is too long\nkahn_explain: it may have at most 1048576 bytes' long
 
-gives "a file that isn't there" 5 '' 'kahn: cannot read nothing' nothing
-gives "an input that isn't there" 5 '' 'kahn: cannot read nothing' "$ring" --input nothing
+# why a file can't be read
+gives "a file that isn't there" 5 '' "$missing" nothing
+gives "an input that isn't there" 5 '' "$missing" "$ring" --input nothing
+mkdir folder && ln -s turned turned
+gives "a folder" 5 '' $'kahn: cannot read folder\nkahn_explain: it is a folder' folder
+gives "a folder as input" 5 '' $'kahn: cannot read folder\nkahn_explain: it is a folder' "$ring" --input folder
+gives "a path through a file" 5 '' $'kahn: cannot read two/a\nkahn_explain: its path leads through what is no folder' two/a
+gives "a link to itself" 5 '' $'kahn: cannot read turned\nkahn_explain: its path has too many symbolic links' turned
+name=$(printf 'a%.0s' $(seq 300))
+gives "a name that is too long" 5 '' "kahn: cannot read $name"$'\nkahn_explain: its name is too long' "$name"
+printf '\377' > bytes
+gives "a file that isn't UTF-8" 5 '' 'kahn: bytes is not UTF-8' bytes
+if [ "$(id -u)" != 0 ]; then
+  cp "$ring" closed && chmod 000 closed
+  gives "a file that may not be read" 5 '' $'kahn: cannot read closed\nkahn_explain: there is no permission to read it' closed
+fi
 gives "an empty text" 1 '<stdin>:1:1: error: found the end of the text, where `begin` may stand
  1 | 
    | ^' ''
@@ -256,7 +271,7 @@ gives "an input of no channel" 1 'values:1:1: error: no such channel; there is n
  1 | NONE: 1
    | ^^^^' '' "$ring" --input values
 head -c 16777217 /dev/zero | tr '\0' ' ' > long
-gives "an input that is too long" 1 '' 'kahn: input text is too long' "$ring" --input long
+gives "an input that is too long" 1 '' $'kahn: input text is too long\nkahn_explain: it may have at most 16777216 bytes' "$ring" --input long
 for words in "a b" "--workers 0" "--watch A" "--report"; do
   # shellcheck disable=SC2086
   "$explain" $words > output 2> error < /dev/null

@@ -168,8 +168,27 @@ def may_stand(lexemes, at, one):
     return fault is None or fault.text not in (GRAMMAR[0], GRAMMAR[2])
 
 
+FOREIGN = {
+    word: said for words, said in (
+        ("for until loop", "a loop is `while E do S`, or `repeat S`, which has no end"),
+        ("break exit", "a loop ends where the test of its `while` is false"),
+        ("return yield", "a process has no result: `send E on C` gives a value to another one"),
+        ("int bool boolean var real float", "the kinds are `integer` and `logical`; one stands before its names"),
+    ) for word in words.split()
+}
+
+
+def foreign(lexemes, at):
+    """What is said of a name before the place or at it that is a word of other languages."""
+    found = lexemes[at:at + 1]
+    before = lexemes[at - 1:at] if at and [x[:2] for x in found] != [("sign", "=")] else []
+    return next((FOREIGN[x[1].lower()] for x in before + found if x[0] == "name" and x[1].lower() in FOREIGN), None)
+
+
 def advice(lexemes, at):
     """What is said of habits of other languages, by what stands before and what may stand there."""
+    if foreign(lexemes, at):
+        return foreign(lexemes, at)
     if at == len(lexemes):
         return None
     lead, (what, found) = lexemes[at - 1][1] if at and lexemes[at - 1][0] in ("word", "sign") else None, lexemes[at][:2]
@@ -190,6 +209,8 @@ def advice(lexemes, at):
         return "a variable begins as 0 or `false`; a statement assigns to it, `X := E`"
     if found == ":=":
         return "equal is `=`; `:=` assigns to a name, in a statement of its own"
+    if found == "," and may_stand(lexemes, at, ("sign", ")")):
+        return "one value or one channel stands between these brackets; `send E on C` sends a value"
     if found in (";", "end", "else") and may_stand(lexemes, at, ("word", "on")):
         return "`on` and a channel stand behind the value: `send E on C`"
     if found in (";", "end", "else", "<", "*", "+", "-") and may_stand(lexemes, at, ("sign", ":=")):

@@ -1,5 +1,5 @@
 -- Believed. What explaining does, from the bytes of the program text and of the input text to the bytes of the explanation.
-use Rattle.std.specs.Prelude.{◌≡◌, ◌⊎◌, ◌++◌, ℕ, Bool, true, List, [], Option, Some, None, Result, Ok, Err, string_bytes}
+use Rattle.std.specs.Prelude.{◌≡◌, ◌⊎◌, ◌++◌, ℕ, Bool, true, List, [], Option, Some, None, Result, Ok, Err, codes, string_bytes}
 use Rattle.std.specs.Io.KnownBytes.{Appends}
 use Rattle.kahn_config.specs.declared.Config.{Config}
 use Rattle.kahn_tree.specs.declared.tree.Program.{Program}
@@ -15,7 +15,7 @@ use Rattle.kahn_report.specs.declared.working.WorkFault.{WorkFault}
 use Rattle.kahn_report.specs.declared.working.WorkFault.TheVariants.{Syntax, Check, Text, Run, Write}
 use Rattle.std.specs.declared.alloc.Global.{Global}
 use Rattle.std.specs.declared.string.String.{String}
-use Rattle.kahn_explain.specs.Refusing.{IsRefusal}
+use Rattle.kahn_refusals.specs.Refusing.{IsNoteOn, IsRefusal}
 use Rattle.kahn_explain.specs.declared.explaining.Came.{Came}
 use Rattle.kahn_explain.specs.declared.explaining.Came.TheVariants.{Stopped, Refused}
 use Rattle.kahn_warnings.specs.Telling.{AreWarningNotes}
@@ -32,10 +32,6 @@ IsAnswerFor t text config a = (lists : Lists) × StandsFor t text lists × IsRig
 abbrev pub IsExplanationOf : List ℕ → List ℕ → Config → Explanation → Type 0
 IsExplanationOf program input config e =
     (t : Program) × (lists : Lists) × (a : Answer) × IsAnswered program input config t lists a × IsExplained t a e
-
--- the note on a fault of the program text
-abbrev pub IsNoteOn : List ℕ → List ℕ → String Global → Type 0
-IsNoteOn path program note = (f : WorkFault) × IsUnchecked program f × IsRefusal path program f (Some note)
 
 -- the notes on what is warned of in the program of this text
 abbrev pub AreNotesOn : List ℕ → List ℕ → List ℕ → Type 0
@@ -85,3 +81,8 @@ told_status (told.Stop Memory) = 4
 abbrev pub came_status : Came → ℕ
 came_status (Stopped told) = told_status told
 came_status Refused = 1
+
+-- what the path of the program text is called in a note
+abbrev pub path_name : Option (String Global) → List ℕ
+path_name (Some path) = string_bytes path
+path_name None = codes "<stdin>"

@@ -1,12 +1,5 @@
-pub mod Characters
 pub mod Explaining
-pub mod Feeding
-pub mod Fitting
-pub mod Noting
-pub mod Refusing
 pub mod Reporting
-pub mod Seeking
-pub mod Strange
 pub mod Telling
 pub mod Tracing
 pub mod inner

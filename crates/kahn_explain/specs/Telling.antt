@@ -10,7 +10,7 @@ use Rattle.kahn_write.specs.Written.{AppendsFront}
 use Rattle.kahn_report.specs.declared.input.TextFault.{TextFault}
 use Rattle.kahn_report.specs.declared.working.WorkFault.{WorkFault}
 use Rattle.kahn_report.specs.declared.working.WorkFault.TheVariants.{Syntax, Check, Text, Run, Write}
-use Rattle.kahn_explain.specs.Feeding.{IsInputNote}
+use Rattle.kahn_inputs.specs.Feeding.{IsInputNote}
 use Rattle.kahn_explain.specs.declared.explaining.Came.{Came}
 use Rattle.kahn_explain.specs.declared.explaining.Came.TheVariants.{Stopped, Refused}
 

@@ -2,30 +2,26 @@
 //! all that its channels carried.
 #![tactic(auto)]
 
+ghost use Rattle.std.specs.Prelude.{◌≡◌, IfOk, string_bytes};
+ghost use Rattle.kahn_explain.specs.Explaining.{path_name};
+
 mod explaining;
-mod feeding;
-mod fitting;
-mod helping;
-mod noting;
-mod refusing;
-mod seeking;
-mod strange;
 mod telling;
 
 use explaining::{Came, explain, explain_report, status, trace};
 use kahn_fault::Fault;
+use kahn_inputs::{file_words, reading_words, tell_reason};
 use kahn_line::{ExplainOptions, read_explain_line, tell_line, tell_no_memory, tell_words};
 use kahn_pool::Config;
-use kahn_report::WorkFault;
+use kahn_report::{ReadFault, WorkFault};
 use kahn_texts::{Texts, read_texts, tell};
-use refusing::path_name;
 use std::alloc::{AllocError, Global};
 use std::io::Write;
 use std::process::ExitCode;
 use std::rt::Runtime;
 use std::sync::Wait;
 use std::thread::Threads;
-use std::{env, io};
+use std::{env, fs, io};
 use telling::refuse_input;
 
 /// What the texts are called in notes.
@@ -33,6 +29,16 @@ use telling::refuse_input;
 struct Paths {
     program: String,
     input: String,
+}
+
+/// What the path of the program text is called in a note.
+fn path_name(alloc: Global, program: &Option<String>) -> Result<String, AllocError>
+    ensures { IfOk result (λ path. string_bytes path ≡ path_name program.now) }
+{
+    match program {
+        Some(path) => String::from_str(alloc, path.as_str()),
+        None => String::from_str(alloc, "<stdin>"),
+    }
 }
 
 /// What the texts that the command line names are called.
@@ -136,6 +142,27 @@ fn trace_texts<R: Runtime + AllocGlobal + Threads + Wait + Sync, W: Write>(
     or_refused(rt.alloc(), paths.input.as_str(), texts, came, writer)
 }
 
+/// What is said of why the file of a path can't be read. It is tried once more, so nothing is said where it can be read by now.
+fn path_words<R: Runtime>(rt: &R, path: &str) -> &'static str {
+    match fs::open(rt, path) {
+        Ok(mut file) => reading_words(&mut file),
+        Err(error) => file_words(error.kind()),
+    }
+}
+
+/// What is said of why a text can't be read, behind the words of `kahn`.
+fn unread_words<R: Runtime>(rt: &R, fault: &Fault) -> &'static str {
+    match fault {
+        Fault::Open(path) => path_words(rt, path.as_str()),
+        Fault::Program(Some(path), ReadFault::Failed) => path_words(rt, path.as_str()),
+        Fault::InputText(path, ReadFault::Failed) => path_words(rt, path.as_str()),
+        Fault::Program(None, ReadFault::Failed) => reading_words(&mut rt.reader()),
+        Fault::Program(_, ReadFault::TooLong) => "it may have at most 1048576 bytes",
+        Fault::InputText(_, ReadFault::TooLong) => "it may have at most 16777216 bytes",
+        _ => "",
+    }
+}
+
 /// Does what the command line asks for, and gives the status. Faults are told to the writer.
 fn answered<R: Runtime + AllocGlobal + Threads + Wait + Sync, W: Write>(
     rt: &R,
@@ -158,7 +185,15 @@ fn answered<R: Runtime + AllocGlobal + Threads + Wait + Sync, W: Write>(
                 Err(fault) => tell(&Err(fault), texts.program.as_str(), writer).status,
             }
         }
-        Err(fault) => tell(&Err(fault), "", writer).status,
+        Err(fault) => {
+            let reason = unread_words(rt, &fault);
+            let status = tell(&Err(fault), "", writer).status;
+            if !reason.is_empty() {
+                // What can't be written here changes no status.
+                let _told = tell_reason(reason, writer);
+            }
+            status
+        }
     }
 }
 

@@ -3,7 +3,7 @@
 ghost use Rattle.kahn_explain.specs.Telling.{HasToldInput};
 
 use crate::explaining::Came;
-use crate::feeding::input_note;
+use kahn_inputs::input_note;
 use kahn_pool::RunFault;
 use kahn_report::{TextFault, WorkFault, checked, write_line};
 use kahn_tree::NoMemory;

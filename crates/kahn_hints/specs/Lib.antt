@@ -1,4 +1,5 @@
 pub mod Hints
+pub mod Inputs
 pub mod Names
 pub mod Near
 pub mod Places

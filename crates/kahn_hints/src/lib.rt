@@ -3,6 +3,7 @@
 #![tactic(auto)]
 
 mod hint;
+mod inputs;
 mod kinds;
 mod names;
 mod near;
@@ -14,3 +15,4 @@ pub use near::one_nearest;
 
 // For the crates above.
 pub use hint::check_note;
+pub use inputs::{add_inputs, add_unknown_input};

@@ -1,2 +1,3 @@
 mod Firsts
 mod Found
+pub mod Named

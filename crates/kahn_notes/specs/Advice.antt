@@ -47,6 +47,7 @@ habit_class (class.Sign sign.Less) = habit.Less
 habit_class (class.Sign sign.Times) = habit.Times
 habit_class (class.Sign sign.Plus) = habit.Adds
 habit_class (class.Sign sign.Minus) = habit.Adds
+habit_class (class.Sign sign.Comma) = habit.Comma
 habit_class _ = habit.Other
 
 abbrev pub sort_of : Option Lexeme → Habit
@@ -81,6 +82,10 @@ abbrev pub is_comma : Class → Bool
 is_comma (class.Sign sign.Comma) = true
 is_comma _ = false
 
+abbrev pub is_bracket : Class → Bool
+is_bracket (class.Sign sign.Close) = true
+is_bracket _ = false
+
 abbrev pub awaits_on : Wanted → Bool
 awaits_on w = list_any is_on w.others.items
 
@@ -89,6 +94,9 @@ awaits_becomes w = list_any is_becomes w.others.items
 
 abbrev pub awaits_comma : Wanted → Bool
 awaits_comma w = list_any is_comma w.others.items
+
+abbrev pub awaits_close : Wanted → Bool
+awaits_close w = list_any is_bracket w.others.items
 
 -- behind the name that begins a statement
 abbrev pub begun_words : Wanted → Option (List ℕ)
@@ -105,12 +113,17 @@ assigned_words w = if awaits_comma w then Some (codes "a variable begins as 0 or
 abbrev pub becomes_words : Wanted → Option (List ℕ)
 becomes_words w = if awaits_comma w then assigned_words w else Some (codes "equal is `=`; `:=` assigns to a name, in a statement of its own")
 
+-- of `,`
+abbrev pub comma_words : Wanted → Option (List ℕ)
+comma_words w = if awaits_close w then Some (codes "one value or one channel stands between these brackets; `send E on C` sends a value") else None
+
 abbrev pub awaited_words : Habit → Wanted → Option (List ℕ)
 awaited_words habit.Becomes w = becomes_words w
 awaited_words habit.Equal w = assigned_words w
 awaited_words habit.Less w = begun_words w
 awaited_words habit.Times w = begun_words w
 awaited_words habit.Adds w = begun_words w
+awaited_words habit.Comma w = comma_words w
 awaited_words habit.Stops w = stopped_words w
 awaited_words _ w = None
 

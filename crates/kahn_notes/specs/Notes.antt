@@ -26,7 +26,7 @@ use Rattle.kahn_wanted.specs.Comments.{IsCommentBefore}
 use Rattle.kahn_wanted.specs.Mends.{AreMendsOf}
 use Rattle.kahn_wanted.specs.Wanted.{IsUnexpected}
 use Rattle.kahn_marks.specs.Marks.{marked, times_over}
-use Rattle.kahn_notes.specs.Advice.{advice}
+use Rattle.kahn_notes.specs.Foreign.{advised}
 use Rattle.kahn_notes.specs.Blocked.{at_words, blocks_words, line_there}
 use Rattle.kahn_notes.specs.Order.{ranked}
 use Rattle.kahn_notes.specs.Words.{any_words, keyword_words, separator, sign_words}
@@ -140,7 +140,7 @@ changes_words text found None = None
 -- what stands below a note on what was found
 abbrev pub help_text : List ℕ → Span → Unexpected → Option Mends → Blocks → List ℕ
 help_text text span u m b =
-    remark_or_none text span (changes_words text u.found m) ++ (remark_or_none text span (advice b.before u.found u.wanted)
+    remark_or_none text span (changes_words text u.found m) ++ (remark_or_none text span (advised text b.before u.found u.wanted)
     ++ remark_or_none text span (blocks_words text u.found (is_some (changes_words text u.found m)) b))
 
 -- what is said of a comment before it

@@ -1,7 +1,7 @@
 //! What is said where something stands as in another language, or without what belongs to it.
 
 ghost use Rattle.std.specs.Prelude.{◌≡◌, option_map};
-ghost use Rattle.kahn_notes.specs.Advice.{advice, assigned_words, awaited_words, awaits_becomes, awaits_comma, awaits_on, becomes_words, begun_words, is_becomes, is_comma, is_on, lead_of, habit_words, sort_of, stopped_words};
+ghost use Rattle.kahn_notes.specs.Advice.{advice, assigned_words, awaited_words, awaits_becomes, awaits_close, awaits_comma, awaits_on, becomes_words, begun_words, comma_words, is_becomes, is_bracket, is_comma, is_on, lead_of, habit_words, sort_of, stopped_words};
 
 use kahn_syntax::{Class, Keyword, Lexeme, Sign};
 use kahn_wanted::Wanted;
@@ -46,6 +46,8 @@ pub(crate) enum Habit {
     Times,
     /// `+` or `-`.
     Adds,
+    /// `,`.
+    Comma,
     /// `;`, `end` or `else`, with which a statement ends.
     Stops,
     /// Anything else.
@@ -93,6 +95,7 @@ fn sort_of(found: Option<Lexeme>) -> Habit
             Class::Sign(Sign::Times) => Habit::Times,
             Class::Sign(Sign::Plus) => Habit::Adds,
             Class::Sign(Sign::Minus) => Habit::Adds,
+            Class::Sign(Sign::Comma) => Habit::Comma,
             _ => Habit::Other,
         },
         None => Habit::Other,
@@ -146,6 +149,13 @@ fn is_comma(class: Class) -> bool
     matches!(class, Class::Sign(Sign::Comma))
 }
 
+/// Whether it is `)`.
+fn is_bracket(class: Class) -> bool
+    ensures { result ≡ is_bracket class }
+{
+    matches!(class, Class::Sign(Sign::Close))
+}
+
 /// Whether `on` may stand.
 fn awaits_on(wanted: &Wanted) -> bool
     ensures { result ≡ awaits_on wanted.now }
@@ -165,6 +175,13 @@ fn awaits_comma(wanted: &Wanted) -> bool
     ensures { result ≡ awaits_comma wanted.now }
 {
     wanted.others.iter().any(|class| is_comma(*class))
+}
+
+/// Whether `)` may stand.
+fn awaits_close(wanted: &Wanted) -> bool
+    ensures { result ≡ awaits_close wanted.now }
+{
+    wanted.others.iter().any(|class| is_bracket(*class))
 }
 
 /// What is said of what stands behind the name that begins a statement.
@@ -209,6 +226,18 @@ fn becomes_words(wanted: &Wanted) -> Option<&'static str>
     Some("equal is `=`; `:=` assigns to a name, in a statement of its own")
 }
 
+/// What is said of `,`.
+fn comma_words(wanted: &Wanted) -> Option<&'static str>
+    ensures { option_map (λ words. words.now) result ≡ comma_words wanted.now }
+{
+    if awaits_close(wanted) {
+        return Some(
+            "one value or one channel stands between these brackets; `send E on C` sends a value",
+        );
+    }
+    None
+}
+
 /// What is said of one where these may stand.
 fn awaited_words(habit: Habit, wanted: &Wanted) -> Option<&'static str>
     ensures { option_map (λ words. words.now) result ≡ awaited_words habit wanted.now }
@@ -219,6 +248,7 @@ fn awaited_words(habit: Habit, wanted: &Wanted) -> Option<&'static str>
         Habit::Less => begun_words(wanted),
         Habit::Times => begun_words(wanted),
         Habit::Adds => begun_words(wanted),
+        Habit::Comma => comma_words(wanted),
         Habit::Stops => stopped_words(wanted),
         _ => None,
     }

@@ -4,7 +4,10 @@
 
 mod advice;
 mod blocked;
+mod characters;
 mod commented;
+mod foreign;
+mod held;
 mod listing;
 mod mended;
 mod order;
@@ -12,5 +15,7 @@ mod unexpected;
 mod words;
 
 // For the crates above.
+pub use characters::character_help;
 pub use commented::commented_note;
+pub use held::held_remark;
 pub use unexpected::unexpected_note;

@@ -5,8 +5,8 @@ ghost use Rattle.kahn_wanted.specs.declared.changes.Spot.TheVariants.{Before};
 ghost use Rattle.kahn_notes.specs.Blocked.{blocks_words};
 ghost use Rattle.kahn_notes.specs.Notes.{MayFind, article, change_lead, change_words, changes_words, help_text, last_words, lead_words, listed, mends_words, number_words, put_words, remark, remark_or_none, some_words};
 
-use crate::advice::advice;
 use crate::blocked::blocks_words;
+use crate::foreign::advised;
 use crate::listing::separator;
 use crate::order::ranked;
 use crate::unexpected::add_lexeme;
@@ -310,7 +310,7 @@ pub(crate) fn add_help(
 {
     let found = unexpected.found;
     let mended = add_mends_or_none(note, alloc, text, span, found, mends)?;
-    let words = advice(blocks.before, found, &unexpected.wanted);
+    let words = advised(text, blocks.before, found, &unexpected.wanted);
     add_remark_or_none(note, text, span, words)?;
     add_blocks_remark(note, alloc, text, span, found, mended, blocks)
 }

@@ -1,3 +1,4 @@
+mod Back
 mod Good
 mod Lined
 mod Numbers

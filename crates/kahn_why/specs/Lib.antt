@@ -1,3 +1,4 @@
+pub mod Back
 pub mod Reading
 pub mod Reported
 pub mod Why

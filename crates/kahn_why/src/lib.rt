@@ -9,6 +9,7 @@ mod reported;
 mod telling;
 mod told;
 
+pub use laws::reports_are_read_back;
 pub use reading::ReportFault;
 pub use reported::{Reported, explained_report};
 

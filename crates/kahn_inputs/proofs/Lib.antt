@@ -1,0 +1,5 @@
+mod Fed
+mod Fitted
+pub mod Held
+mod Placed
+mod Sought

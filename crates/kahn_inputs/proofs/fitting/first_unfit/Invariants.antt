@@ -1,0 +1,14 @@
+-- The parts so far are fit, and this is where they end.
+use Rattle.std.proofs.Common.{◌≡◌, All, length, take}
+use Rattle.std.specs.List.{slice_split}
+use Rattle.kahn_report.specs.Entries.{is_blank}
+use Rattle.kahn_inputs.specs.Fitting.{IsFitPart, parts_length}
+use Rattle.kahn_inputs.proofs.fitting.first_unfit.Given as goal
+
+abbrev pub invariant-loop-word : goal.invariant-loop-word
+invariant-loop-word l = record {
+  next : (goal.iterator-loop-word).can_next l.word-iterator;
+  ends : (goal.iterator-loop-word).is_finite l.word-iterator;
+  from : l.from ≡ parts_length (take (length l.yielded) (slice_split is_blank l.bytes));
+  fit : All (IsFitPart l.asked) (take (length l.yielded) (slice_split is_blank l.bytes));
+}

@@ -1,0 +1,93 @@
+-- Believed. Where the words of a line of an input text stand, and which of them is at fault.
+use Rattle.std.specs.Prelude.{◌≡◌, ◌⊎◌, ◌+◌, ◌-◌, ◌<◌, ℕ, Bool, false, List, [], ◌∷◌, ◌++◌, All, Option, Some, None, drop, if◌then◌else◌, length, nat_lt, not, slice_get, slice_range}
+use Rattle.std.specs.List.{position_or_len, slice_split}
+use Rattle.std.specs.Char.{is_ascii_alphabetic}
+use Rattle.kahn_tree.specs.declared.span.Span.{Span}
+use Rattle.kahn_tree.specs.declared.tree.Kind.{Kind}
+use Rattle.kahn_streams.specs.declared.value.Value.{Value}
+use Rattle.kahn_streams.specs.Kinded.{kind_of_value}
+use Rattle.kahn_report.specs.Entries.{IsValue, is_blank, is_word_byte, most_name_bytes}
+use Rattle.kahn_inputs.specs.declared.fitting.Class.{Class}
+use Rattle.kahn_inputs.specs.declared.fitting.Class.TheVariants.{Blank, Named, Dark}
+use Rattle.kahn_inputs.specs.declared.fitting.Lack.{Lack}
+use Rattle.kahn_inputs.specs.declared.fitting.Lack.TheVariants.{Name, ShortName, Colon}
+
+-- whether a byte is of a class, and how many at the front are
+abbrev pub is_in_class : Class → ℕ → Bool
+is_in_class Blank b = is_blank b
+is_in_class Named b = is_word_byte b
+is_in_class Dark b = not (is_blank b)
+
+abbrev pub class_bytes : Class → List ℕ → ℕ
+class_bytes class bytes = position_or_len (λ b. not (is_in_class class b)) bytes
+
+-- where the name of a line begins and ends, and where its colon stands
+abbrev pub name_from : List ℕ → ℕ
+name_from line = class_bytes Blank line
+
+abbrev pub name_to : List ℕ → ℕ
+name_to line = name_from line + class_bytes Named (drop (name_from line) line)
+
+abbrev pub colon_at : List ℕ → ℕ
+colon_at line = name_to line + class_bytes Blank (drop (name_to line) line)
+
+-- the name, and what stands from there on up to a blank
+abbrev pub name_span : List ℕ → Span
+name_span line = record { from = name_from line; to = name_to line }
+
+abbrev pub dark_span : List ℕ → ℕ → Span
+dark_span line at = record { from = at; to = at + class_bytes Dark (drop at line) }
+
+abbrev pub part_of : List ℕ → Span → List ℕ
+part_of line span = slice_range line span.from span.to
+
+abbrev pub line_name : List ℕ → List ℕ
+line_name line = part_of line (name_span line)
+
+-- the same part of a text, where the line begins at this byte
+abbrev pub moved_by : ℕ → Span → Span
+moved_by by span = record { from = by + span.from; to = by + span.to }
+
+abbrev pub is_letter : Option ℕ → Bool
+is_letter (Some b) = is_ascii_alphabetic b
+is_letter None = false
+
+-- what a line that doesn't begin with a name and a colon lacks first, and the part at fault
+abbrev pub lack_of : List ℕ → Lack
+lack_of line =
+    if not (is_letter (slice_get line (name_from line))) then Name else if nat_lt most_name_bytes (name_to line - name_from line) then ShortName else Colon
+
+abbrev pub lack_span : List ℕ → Lack → Span
+lack_span line Name = dark_span line (name_from line)
+lack_span line ShortName = name_span line
+lack_span line Colon = dark_span line (colon_at line)
+
+-- a value of the kind, or any where none is asked for
+abbrev pub IsOfAsked : Option Kind → Value → Type 0
+IsOfAsked (Some kind) v = kind_of_value v ≡ kind
+IsOfAsked None v = Unit {0}
+
+-- a word that is such a value, and one that is none, or another
+abbrev pub IsFitValue : Option Kind → List ℕ → Type 0
+IsFitValue asked word = (v : Value) × IsValue word v × IsOfAsked asked v
+
+abbrev pub IsUnfitWord : Option Kind → List ℕ → Type 0
+IsUnfitWord asked word = ((v : Value) → IsValue word v → ⊥) ⊎ ((v : Value) × IsValue word v × ¬ IsOfAsked asked v)
+
+-- a part between blanks that is such a value, or nothing
+abbrev pub IsFitPart : Option Kind → List ℕ → Type 0
+IsFitPart asked part = (length part ≡ 0) ⊎ IsFitValue asked part
+
+-- the bytes of parts, each with the one that stands behind it
+abbrev pub parts_length : List (List ℕ) → ℕ
+parts_length [] = 0
+parts_length (part ∷ parts) = length part + 1 + parts_length parts
+
+-- the first word that is no such value
+abbrev pub IsUnfit : Option Kind → List ℕ → Span → Type 0
+IsUnfit asked bytes span = (before : List (List ℕ)) × (word : List ℕ) × (after : List (List ℕ)) × (slice_split is_blank bytes ≡ before ++ (word ∷ after))
+    × All (IsFitPart asked) before × (0 < length word) × IsUnfitWord asked word × (span.from ≡ parts_length before) × (span.to ≡ span.from + length word)
+
+-- all words are
+abbrev pub AreAllFit : Option Kind → List ℕ → Type 0
+AreAllFit asked bytes = All (IsFitPart asked) (slice_split is_blank bytes)

@@ -1,0 +1,6 @@
+pub mod Feeding
+pub mod Fitting
+pub mod Placed
+pub mod Reasons
+pub mod Seeking
+pub mod Strange

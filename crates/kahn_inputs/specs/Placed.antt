@@ -1,0 +1,19 @@
+-- Believed. The law that there is a note on each fault of an input text that has a place.
+use Rattle.std.specs.Prelude.{ℕ, List, None}
+use Rattle.kahn_tree.specs.declared.tree.Program.{Program}
+use Rattle.kahn_report.specs.Inputs.{IsInputTextFault}
+use Rattle.kahn_report.specs.declared.input.TextFault.{TextFault}
+use Rattle.kahn_report.specs.declared.input.TextFault.TheVariants.{BadLine, BadValue, Input, TooLong, NoMemory}
+use Rattle.kahn_inputs.specs.Feeding.{IsInputNote}
+
+-- all do but a text that is too long, and want of memory
+abbrev pub HasItsPlace : TextFault → Type 0
+HasItsPlace (BadLine n) = Unit {0}
+HasItsPlace (BadValue n) = Unit {0}
+HasItsPlace (Input fault) = Unit {0}
+HasItsPlace TooLong = ⊥
+HasItsPlace NoMemory = ⊥
+
+-- a fault of this very text, for whatever programs
+abbrev pub AlwaysPlaced : Type 0
+AlwaysPlaced = (t u : Program) (path text : List ℕ) (fault : TextFault) → IsInputTextFault u text fault → HasItsPlace fault → IsInputNote t path text fault None → ⊥

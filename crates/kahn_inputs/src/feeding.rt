@@ -1,0 +1,315 @@
+//! Why an input text is refused, as a note on the place.
+
+ghost use Rattle.std.specs.Prelude.{◌≡◌, ◌+◌, ◌++◌, ◌≤◌, IfOk, length, string_bytes};
+ghost use Rattle.kahn_inputs.specs.Feeding.{IsEntryNote, IsEntrySpan, IsFirstGiven, IsGivenNote, IsInputNote, IsKindFor, IsLineNote, IsNumberedNote, IsUnfitSpan, IsValueNote, entry_tail, entry_words, kinds_words, lack_note, lack_words, refused_number, part_note, rest_from, no_value_words, word_note};
+
+use crate::fitting::{
+    Lack, behind, colon_at, first_unfit, lack_of, lack_span, line_name, moved_by, name_span,
+    part_of,
+};
+use crate::seeking::{Found, Sort, find_line, first_named};
+use crate::strange::strange_words;
+use kahn_hints::{add_inputs, add_unknown_input};
+use kahn_marks::{marked, marked_too};
+use kahn_network::Network;
+use kahn_report::TextFault;
+use kahn_streams::{InputFault, channel_named};
+use kahn_tree::{Kind, NoMemory, Span};
+use std::alloc::{AllocError, Global};
+use std::str;
+
+/// What is said of a line that doesn't begin with a name and a colon.
+fn lack_words(lack: Lack) -> &'static str
+    ensures { result.now ≡ lack_words lack }
+{
+    match lack {
+        Lack::Name => "not a name and a colon: wanted a name, which begins with a letter",
+        Lack::ShortName => "not a name and a colon: wanted a name of at most 64 characters",
+        Lack::Colon => "not a name and a colon: wanted `:` behind the name",
+    }
+}
+
+/// What is said of a word that is no value.
+fn no_value_words() -> &'static str
+    ensures { result.now ≡ no_value_words }
+{
+    "not a value: wanted a number of 64 bits, `true` or `false`"
+}
+
+/// What is said of an entry.
+fn entry_words(fault: InputFault) -> &'static str
+    ensures { result.now ≡ entry_words fault }
+{
+    match fault {
+        InputFault::UnknownName(_) => "no such channel",
+        InputFault::NotAnInput(_) => "not an input channel",
+        InputFault::GivenTwice(_) => "given twice",
+        InputFault::WrongKind(_) => "kind does not agree",
+        InputFault::TooMany(_) => "too many values; at most 1048576",
+        InputFault::NoMemory => "no memory",
+    }
+}
+
+/// What is said of a value of another kind than that of its channel.
+fn kinds_words(kind: Option<Kind>) -> &'static str
+    ensures { result.now ≡ kinds_words kind }
+{
+    match kind {
+        Some(Kind::Integer) => ": wanted integer, found logical",
+        Some(Kind::Logical) => ": wanted logical, found integer",
+        None => "",
+    }
+}
+
+/// A note on a part of a line.
+fn part_note(
+    alloc: Global,
+    path: &str,
+    text: &str,
+    found: Found<'_>,
+    span: Span,
+    words: &str,
+) -> Result<String, AllocError>
+    requires line { found.from + length found.line.now ≤ length text.now }
+    requires order { span.from ≤ span.to }
+    requires within { span.to ≤ length found.line.now }
+    ensures { IfOk result (λ note. string_bytes note ≡ part_note path.now text.now found.entry.from found.entry.line.now span words.now) }
+{
+    marked(alloc, path, text, moved_by(found.from, span), words)
+}
+
+/// The same, with what is said of a strange character in the part.
+fn word_note(
+    alloc: Global,
+    path: &str,
+    text: &str,
+    found: Found<'_>,
+    span: Span,
+    words: &str,
+) -> Result<String, AllocError>
+    requires line { found.from + length found.line.now ≤ length text.now }
+    requires order { span.from ≤ span.to }
+    requires within { span.to ≤ length found.line.now }
+    ensures { IfOk result (λ note. string_bytes note ≡ word_note path.now text.now found.entry.from found.entry.line.now span words.now) }
+{
+    let strange = strange_words(found.from + span.from, part_of(found.line, span));
+    let mut told = String::from_str(alloc, words)?;
+    told.push_str(strange)?;
+    part_note(alloc, path, text, found, span, told.as_str())
+}
+
+/// The note on a line that doesn't begin with a name and a colon.
+fn lack_note(alloc: Global, path: &str, text: &str, found: Found<'_>) -> Result<String, AllocError>
+    requires { found.from + length found.line.now ≤ length text.now }
+    ensures { IfOk result (λ note. string_bytes note ≡ lack_note path.now text.now found.entry.from found.entry.line.now) }
+{
+    let lack = lack_of(found.line);
+    let span = lack_span(found.line, lack);
+    word_note(alloc, path, text, found, span, lack_words(lack))
+}
+
+/// Where what stands behind the colon begins.
+fn rest_from(line: &[u8]) -> usize
+    ensures within { result ≤ length line.now }
+    ensures place { result ≡ rest_from line.now }
+{
+    (colon_at(line) + 1).min(line.len())
+}
+
+/// The first word behind the colon that is no such value, or the name where all are.
+fn unfit_span(asked: Option<Kind>, line: &[u8]) -> Span
+    ensures order { result.from ≤ result.to }
+    ensures within { result.to ≤ length line.now }
+    ensures span { IsUnfitSpan asked line.now result }
+{
+    let from = rest_from(line);
+    match first_unfit(asked, behind(line, from)) {
+        Some(span) => moved_by(from, span),
+        None => name_span(line),
+    }
+}
+
+/// The note on a line with what is no value.
+fn value_note(alloc: Global, path: &str, text: &str, found: Found<'_>) -> Result<String, AllocError>
+    requires { found.from + length found.line.now ≤ length text.now }
+    ensures { IfOk result (IsValueNote path.now text.now found.entry.from found.entry.line.now) }
+{
+    let span = unfit_span(None, found.line);
+    word_note(alloc, path, text, found, span, no_value_words())
+}
+
+/// The kind of the channel of that name, where a channel has it.
+fn kind_for(network: &Network, name: &[u8]) -> Option<Kind>
+    ensures { IsKindFor network.now name.now result }
+{
+    let Ok(name) = str::from_utf8(name) else {
+        return None;
+    };
+    match channel_named(network, name) {
+        Some(channel) => Some(network.channel(channel).kind),
+        None => None,
+    }
+}
+
+/// What is said of an entry with this name.
+fn entry_text(
+    alloc: Global,
+    network: &Network,
+    name: &[u8],
+    kind: Option<Kind>,
+    fault: InputFault,
+) -> Result<String, AllocError>
+    ensures { IfOk result (λ text. string_bytes text ≡ entry_words fault ++ entry_tail network.now name.now kind fault) }
+{
+    let program = network.program();
+    let mut words = String::from_str(alloc, entry_words(fault))?;
+    match fault {
+        InputFault::UnknownName(_) => add_unknown_input(&mut words, alloc, program, name)?,
+        InputFault::NotAnInput(_) => add_inputs(&mut words, alloc, program)?,
+        InputFault::WrongKind(_) => words.push_str(kinds_words(kind))?,
+        InputFault::GivenTwice(_) => {}
+        InputFault::TooMany(_) => {}
+        InputFault::NoMemory => {}
+    }
+    Ok(words)
+}
+
+/// The part of an entry that is at fault: its first value of another kind, or its name.
+fn entry_span(line: &[u8], kind: Option<Kind>, fault: InputFault) -> Span
+    ensures order { result.from ≤ result.to }
+    ensures within { result.to ≤ length line.now }
+    ensures span { IsEntrySpan line.now kind fault result }
+{
+    match fault {
+        InputFault::WrongKind(_) => unfit_span(kind, line),
+        InputFault::UnknownName(_) => name_span(line),
+        InputFault::NotAnInput(_) => name_span(line),
+        InputFault::GivenTwice(_) => name_span(line),
+        InputFault::TooMany(_) => name_span(line),
+        InputFault::NoMemory => name_span(line),
+    }
+}
+
+/// A note on the first entry of that name.
+fn first_note(alloc: Global, path: &str, text: &str, name: &[u8]) -> Result<String, AllocError>
+    ensures { IfOk result (IsFirstGiven path.now text.now name.now) }
+{
+    match first_named(text, name) {
+        Some(span) => marked_too(alloc, path, text, span, "given here first"),
+        None => Ok(String::new(alloc)),
+    }
+}
+
+/// The note on the entry that stands first, where two are for one channel.
+fn given_note(
+    alloc: Global,
+    path: &str,
+    text: &str,
+    name: &[u8],
+    fault: InputFault,
+) -> Result<String, AllocError>
+    ensures { IfOk result (IsGivenNote path.now text.now name.now fault) }
+{
+    match fault {
+        InputFault::GivenTwice(_) => first_note(alloc, path, text, name),
+        InputFault::UnknownName(_) => Ok(String::new(alloc)),
+        InputFault::NotAnInput(_) => Ok(String::new(alloc)),
+        InputFault::WrongKind(_) => Ok(String::new(alloc)),
+        InputFault::TooMany(_) => Ok(String::new(alloc)),
+        InputFault::NoMemory => Ok(String::new(alloc)),
+    }
+}
+
+/// The note on an entry.
+fn entry_note(
+    alloc: Global,
+    path: &str,
+    network: &Network,
+    text: &str,
+    found: Found<'_>,
+    fault: InputFault,
+) -> Result<String, AllocError>
+    requires { found.from + length found.line.now ≤ length text.now }
+    ensures { IfOk result (IsEntryNote network.now path.now text.now found.entry.from found.entry.line.now fault) }
+{
+    let name = line_name(found.line);
+    let kind = kind_for(network, name);
+    let words = entry_text(alloc, network, name, kind, fault)?;
+    let span = entry_span(found.line, kind, fault);
+    let mut note = part_note(alloc, path, text, found, span, words.as_str())?;
+    let given = given_note(alloc, path, text, name, fault)?;
+    note.push_str(given.as_str())?;
+    Ok(note)
+}
+
+/// The note on the first line that is neither blank nor an entry.
+fn line_note(alloc: Global, path: &str, text: &str) -> Result<Option<String>, NoMemory>
+    ensures { IfOk result (IsLineNote path.now text.now) }
+{
+    let Some(found) = find_line(alloc, text, text.len())? else {
+        return Ok(None);
+    };
+    match found.sort {
+        Sort::Blank => Ok(None),
+        Sort::Entry => Ok(None),
+        Sort::NoHead => Ok(Some(lack_note(alloc, path, text, found)?)),
+        Sort::NoValues => Ok(Some(value_note(alloc, path, text, found)?)),
+    }
+}
+
+/// The note on the entry with that number, counted from 0.
+fn numbered_note(
+    alloc: Global,
+    path: &str,
+    network: &Network,
+    text: &str,
+    fault: InputFault,
+    number: usize,
+) -> Result<Option<String>, NoMemory>
+    ensures { IfOk result (IsNumberedNote network.now path.now text.now fault number) }
+{
+    let Some(found) = find_line(alloc, text, number)? else {
+        return Ok(None);
+    };
+    match found.sort {
+        Sort::Entry => Ok(Some(entry_note(alloc, path, network, text, found, fault)?)),
+        Sort::Blank => Ok(None),
+        Sort::NoHead => Ok(None),
+        Sort::NoValues => Ok(None),
+    }
+}
+
+/// The number of the entry that is at fault, counted from 0.
+fn refused_number(fault: InputFault) -> Option<usize>
+    ensures { result ≡ refused_number fault }
+{
+    match fault {
+        InputFault::UnknownName(entry)
+        | InputFault::NotAnInput(entry)
+        | InputFault::GivenTwice(entry)
+        | InputFault::WrongKind(entry)
+        | InputFault::TooMany(entry) => Some(entry.saturating_sub(1)),
+        InputFault::NoMemory => None,
+    }
+}
+
+/// The note on why an input text is refused, where that has a place: the part of the line that is at fault, and what is wanted
+/// there. It refuses only where memory was refused.
+pub fn input_note(
+    alloc: Global,
+    path: &str,
+    network: &Network,
+    text: &str,
+    fault: TextFault,
+) -> Result<Option<String>, NoMemory>
+    ensures { IfOk result (IsInputNote network.now path.now text.now fault) }
+{
+    match fault {
+        TextFault::TooLong | TextFault::NoMemory => Ok(None),
+        TextFault::BadLine(_) | TextFault::BadValue(_) => line_note(alloc, path, text),
+        TextFault::Input(fault) => match refused_number(fault) {
+            Some(number) => numbered_note(alloc, path, network, text, fault, number),
+            None => Ok(None),
+        },
+    }
+}

@@ -1,0 +1,254 @@
+//! Where the words of a line of an input text stand, and which of them is at fault.
+
+ghost use Rattle.std.specs.Prelude.{◌≡◌, ◌↔◌, ◌+◌, ◌<◌, ◌≤◌, ℤ, IfSome, IsFalse, IsTrue, MatchOption, drop, length, not, slice_get};
+ghost use Rattle.std.specs.List.{position};
+ghost use Rattle.kahn_report.specs.Entries.{IsValue};
+ghost use Rattle.kahn_streams.specs.declared.value.Value.{Value};
+ghost use Rattle.kahn_streams.specs.declared.value.Value.TheVariants.{Integer};
+ghost use Rattle.kahn_inputs.specs.Fitting.{AreAllFit, IsOfAsked, IsFitValue, IsFitPart, IsUnfitWord, IsUnfit, colon_at, dark_span, is_letter, is_in_class, lack_of, lack_span, moved_by, line_name, name_span, part_of, class_bytes};
+
+use kahn_streams::Value;
+use kahn_tree::{Kind, Span};
+use std::str;
+
+/// The most bytes of a name.
+const MOST_NAME_BYTES: usize = 64;
+
+/// What a line lacks, to begin with a name and a colon.
+#[derive(Clone, Copy)]
+pub(crate) enum Lack {
+    /// A letter, with which a name begins.
+    Name,
+    /// A name that isn't too long.
+    ShortName,
+    /// The colon behind the name.
+    Colon,
+}
+
+/// A class of bytes.
+#[derive(Clone, Copy)]
+pub(crate) enum Class {
+    /// Spaces and tabs.
+    Blank,
+    /// Those of a name.
+    Named,
+    /// All that are no blanks.
+    Dark,
+}
+
+/// Whether a byte is of a class.
+fn is_in_class(class: Class, byte: u8) -> bool
+    ensures { result ≡ is_in_class class byte }
+{
+    match class {
+        Class::Blank => byte == b' ' || byte == b'\t',
+        Class::Named => byte.is_ascii_alphanumeric() || byte == b'_',
+        Class::Dark => !(byte == b' ' || byte == b'\t'),
+    }
+}
+
+/// The first byte that isn't of a class.
+fn first_past(class: Class, bytes: &[u8]) -> Option<usize>
+    ensures { result ≡ position (λ b. not (is_in_class class b)) bytes.now }
+{
+    bytes.iter().position(|byte| !is_in_class(class, *byte))
+}
+
+/// How many bytes at the front are of a class.
+fn class_bytes(class: Class, bytes: &[u8]) -> usize
+    ensures within { result ≤ length bytes.now }
+    ensures stop { result ≡ class_bytes class bytes.now }
+{
+    first_past(class, bytes).unwrap_or(bytes.len())
+}
+
+/// Where the name of a line stands.
+pub(crate) fn name_span(line: &[u8]) -> Span
+    ensures order { result.from ≤ result.to }
+    ensures within { result.to ≤ length line.now }
+    ensures span { result ≡ name_span line.now }
+{
+    let from = class_bytes(Class::Blank, line);
+    let to = from + class_bytes(Class::Named, &line[from..]);
+    Span { from, to }
+}
+
+/// A part of a line.
+pub(crate) fn part_of(line: &[u8], span: Span) -> &[u8]
+    requires order { span.from ≤ span.to }
+    requires within { span.to ≤ length line.now }
+    ensures { result.now ≡ part_of line.now span }
+{
+    &line[span.from..span.to]
+}
+
+/// What stands from a byte of a line on.
+pub(crate) fn behind(line: &[u8], at: usize) -> &[u8]
+    requires { at ≤ length line.now }
+    ensures rest { result.now ≡ drop at line.now }
+    ensures long { length result.now + at ≡ length line.now }
+{
+    &line[at..]
+}
+
+/// The name of a line.
+pub(crate) fn line_name(line: &[u8]) -> &[u8]
+    ensures { result.now ≡ line_name line.now }
+{
+    part_of(line, name_span(line))
+}
+
+/// The same part of a text, where the line begins at this byte.
+pub(crate) fn moved_by(by: usize, span: Span) -> Span
+    requires from { by + span.from ≤ usize.MAX }
+    requires to { by + span.to ≤ usize.MAX }
+    ensures from { result.from ≡ by + span.from }
+    ensures to { result.to ≡ by + span.to }
+    ensures span { result ≡ moved_by by span }
+{
+    Span {
+        from: by + span.from,
+        to: by + span.to,
+    }
+}
+
+/// Where the colon behind the name stands.
+pub(crate) fn colon_at(line: &[u8]) -> usize
+    ensures within { result ≤ length line.now }
+    ensures place { result ≡ colon_at line.now }
+{
+    let to = name_span(line).to;
+    to + class_bytes(Class::Blank, &line[to..])
+}
+
+/// What stands from there on, up to a blank.
+fn dark_span(line: &[u8], at: usize) -> Span
+    requires { at ≤ length line.now }
+    ensures order { result.from ≤ result.to }
+    ensures within { result.to ≤ length line.now }
+    ensures span { result ≡ dark_span line.now at }
+{
+    Span {
+        from: at,
+        to: at + class_bytes(Class::Dark, &line[at..]),
+    }
+}
+
+/// Whether a letter stands at a byte.
+fn has_letter(line: &[u8], at: usize) -> bool
+    ensures { result ≡ is_letter (slice_get line.now at) }
+{
+    match line.get(at) {
+        Some(byte) => byte.is_ascii_alphabetic(),
+        None => false,
+    }
+}
+
+/// What a line lacks first, to begin with a name and a colon.
+pub(crate) fn lack_of(line: &[u8]) -> Lack
+    ensures { result ≡ lack_of line.now }
+{
+    let name = name_span(line);
+    if !has_letter(line, name.from) {
+        Lack::Name
+    } else if name.to - name.from > MOST_NAME_BYTES {
+        Lack::ShortName
+    } else {
+        Lack::Colon
+    }
+}
+
+/// The part at fault.
+pub(crate) fn lack_span(line: &[u8], lack: Lack) -> Span
+    ensures order { result.from ≤ result.to }
+    ensures within { result.to ≤ length line.now }
+    ensures span { result ≡ lack_span line.now lack }
+{
+    match lack {
+        Lack::Name => dark_span(line, name_span(line).from),
+        Lack::ShortName => name_span(line),
+        Lack::Colon => dark_span(line, colon_at(line)),
+    }
+}
+
+/// The number that a text spells: an optional minus and digits, in the range of 64 bits.
+fn number_of(word: &str) -> Option<i64>
+    ensures { MatchOption result ((number : ℤ) → IsValue word.now (Integer number) → ⊥) (λ number. IsValue word.now (Integer number)) }
+{
+    if word.as_bytes().first() == Some(&b'+') {
+        return None;
+    }
+    word.parse::<i64>().ok()
+}
+
+/// The number that bytes spell.
+fn number_in(word: &[u8]) -> Option<i64>
+    ensures { MatchOption result ((number : ℤ) → IsValue word.now (Integer number) → ⊥) (λ number. IsValue word.now (Integer number)) }
+{
+    match str::from_utf8(word) {
+        Ok(text) => number_of(text),
+        Err(_) => None,
+    }
+}
+
+/// The value that a word spells.
+fn value_of(word: &[u8]) -> Option<Value>
+    ensures { MatchOption result ((value : Value) → IsValue word.now value → ⊥) (λ value. IsValue word.now value) }
+{
+    if word.eq_ignore_ascii_case(b"true") {
+        return Some(Value::Logical(true));
+    }
+    if word.eq_ignore_ascii_case(b"false") {
+        return Some(Value::Logical(false));
+    }
+    number_in(word).map(Value::Integer)
+}
+
+/// Whether a value is of the kind, or any where none is asked for.
+fn is_of_asked(asked: Option<Kind>, value: Value) -> bool
+    ensures { IsTrue result ↔ IsOfAsked asked value }
+{
+    match asked {
+        Some(kind) => value.kind() == kind,
+        None => true,
+    }
+}
+
+/// Whether a word is such a value.
+fn is_fit_value(asked: Option<Kind>, word: &[u8]) -> bool
+    ensures fit { IsTrue result → IsFitValue asked word.now }
+    ensures unfit { IsFalse result → IsUnfitWord asked word.now }
+{
+    match value_of(word) {
+        Some(value) => is_of_asked(asked, value),
+        None => false,
+    }
+}
+
+/// Whether a part between blanks is such a value, or nothing.
+fn is_fit_part(asked: Option<Kind>, part: &[u8]) -> bool
+    ensures fit { IsTrue result → IsFitPart asked part.now }
+    ensures unfit { IsFalse result → (0 < length part.now) × IsUnfitWord asked part.now }
+{
+    if part.is_empty() {
+        return true;
+    }
+    is_fit_value(asked, part)
+}
+
+/// The first word that is no such value.
+pub(crate) fn first_unfit(asked: Option<Kind>, bytes: &[u8]) -> Option<Span>
+    ensures order { IfSome result (λ span. span.from ≤ span.to) }
+    ensures within { IfSome result (λ span. span.to ≤ length bytes.now) }
+    ensures first { MatchOption result (AreAllFit asked bytes.now) (IsUnfit asked bytes.now) }
+{
+    let mut from = 0;
+    for word in bytes.split(|byte| *byte == b' ' || *byte == b'\t') {
+        let to = from + word.len();
+        if !is_fit_part(asked, word) {
+            return Some(Span { from, to });
+        }
+        from = to + 1;
+    }
+    None
+}

@@ -1,0 +1,174 @@
+//! What the language has in the place of characters that it hasn't.
+
+ghost use Rattle.std.specs.Prelude.{◌≡◌};
+ghost use Rattle.kahn_notes.specs.Characters.{byte_at, byte_help, character_help, order_help, other_help, place_help, point_help, rest_at, sign_help, space_help, blank_help, mark_help, minus_help, order_mark_help};
+
+use kahn_syntax::SyntaxFault;
+
+/// What the language has in the place of an ASCII character.
+fn byte_help(byte: u8) -> &'static str
+    ensures { result.now ≡ byte_help byte }
+{
+    match byte {
+        b'!' => "; unequal is `<>`",
+        b'%' => "; a remainder is `mod`",
+        b'/' => "; a quotient is `div`, and a comment goes from `comment` to `;`",
+        b'#' => "; a comment goes from `comment` to `;`",
+        b'"' => "; there are no texts",
+        b'\'' => "; there are no texts, and a name has letters, digits and `_`",
+        b'_' => "; a name begins with a letter",
+        b'[' => "; there are no arrays",
+        b'{' => "; a block goes from `begin` to `end`",
+        b'&' => "; it is the word `and`",
+        b'|' => "; it is the word `or`",
+        b'~' => "; it is the word `not`",
+        b'?' => "; a choice is `if .. then .. else ..`",
+        b':' => "; `:` stands before `=` alone, and a kind before its names",
+        _ => "",
+    }
+}
+
+/// The same of a `.`, by the byte before it.
+fn point_help(before: u8) -> &'static str
+    ensures { result.now ≡ point_help before }
+{
+    if before.is_ascii_digit() {
+        "; numbers are whole"
+    } else {
+        "; no `.` stands in a name or behind the last `end`"
+    }
+}
+
+/// Of U+0080 to U+00BF, by the last byte.
+fn blank_help(last: u8) -> &'static str
+    ensures { result.now ≡ blank_help last }
+{
+    match last {
+        0xA0 => "; a no-break space (U+00A0) isn't a blank here",
+        _ => "",
+    }
+}
+
+/// Of U+2000 to U+203F, by the last byte.
+fn space_help(last: u8) -> &'static str
+    ensures { result.now ≡ space_help last }
+{
+    match last {
+        0x83 => "; an em space (U+2003) isn't a blank here",
+        0x8B => "; a zero width space (U+200B) isn't a blank here",
+        0x93 => "; minus is `-`",
+        0x98 => "; there are no texts",
+        0x99 => "; there are no texts",
+        0x9C => "; there are no texts",
+        0x9D => "; there are no texts",
+        _ => "",
+    }
+}
+
+/// Of U+2240 to U+227F, by the last byte.
+fn order_help(last: u8) -> &'static str
+    ensures { result.now ≡ order_help last }
+{
+    match last {
+        0xA0 => "; unequal is `<>`",
+        0xA4 => "; at most is `<=`",
+        0xA5 => "; at least is `>=`",
+        _ => "",
+    }
+}
+
+/// Of U+2000 to U+2FFF, by the other bytes.
+fn sign_help(second: u8, last: u8) -> &'static str
+    ensures { result.now ≡ sign_help second last }
+{
+    match second {
+        0x80 => space_help(last),
+        0x88 => minus_help(last),
+        0x89 => order_help(last),
+        _ => "",
+    }
+}
+
+/// Of U+2200 to U+223F, by the last byte.
+fn minus_help(last: u8) -> &'static str
+    ensures { result.now ≡ minus_help last }
+{
+    match last {
+        0x92 => "; minus is `-`",
+        _ => "",
+    }
+}
+
+/// Of U+F000 to U+FFFF, by the other bytes.
+fn mark_help(second: u8, last: u8) -> &'static str
+    ensures { result.now ≡ mark_help second last }
+{
+    match second {
+        0xBB => order_mark_help(last),
+        _ => "",
+    }
+}
+
+/// Of U+FEC0 to U+FEFF, by the last byte.
+fn order_mark_help(last: u8) -> &'static str
+    ensures { result.now ≡ order_mark_help last }
+{
+    match last {
+        0xBF => "; a byte order mark (U+FEFF) isn't a blank here: save the text without one",
+        _ => "",
+    }
+}
+
+/// Of a character that isn't of ASCII, by the bytes.
+fn other_help(first: u8, second: u8, last: u8) -> &'static str
+    ensures { result.now ≡ other_help first second last }
+{
+    match first {
+        0xC2 => blank_help(second),
+        0xE2 => sign_help(second, last),
+        0xEF => mark_help(second, last),
+        _ => "; a name has ASCII letters, digits and `_`",
+    }
+}
+
+/// A byte of a text, or 0 behind its end.
+fn byte_at(bytes: &[u8], at: usize) -> u8
+    ensures { result ≡ byte_at bytes.now at }
+{
+    match bytes.get(at) {
+        Some(byte) => *byte,
+        None => 0,
+    }
+}
+
+/// What stands from a byte of a text on.
+pub(crate) fn rest_at(bytes: &[u8], at: usize) -> &[u8]
+    ensures { result.now ≡ rest_at bytes.now at }
+{
+    if at <= bytes.len() { &bytes[at..] } else { &[] }
+}
+
+/// What is said of a character that begins at a byte.
+fn place_help(bytes: &[u8], at: usize) -> &'static str
+    ensures { result.now ≡ place_help bytes.now at }
+{
+    let rest = rest_at(bytes, at);
+    let first = byte_at(rest, 0);
+    if first == b'.' {
+        return point_help(byte_at(bytes, at.saturating_sub(1)));
+    }
+    if first < 0x80 {
+        return byte_help(first);
+    }
+    other_help(first, byte_at(rest, 1), byte_at(rest, 2))
+}
+
+/// What is said of a character that isn't of the language, behind the words of the fault; nothing of other faults.
+pub fn character_help(program: &str, fault: SyntaxFault) -> &'static str
+    ensures { result.now ≡ character_help program.now fault }
+{
+    match fault {
+        SyntaxFault::BadCharacter(span) => place_help(program.as_bytes(), span.from),
+        _ => "",
+    }
+}
