@@ -76,7 +76,7 @@ fn run_gated<L: Ledger, G: Gate>(
     ensures ran { HasRunCell (state_of bench.old) (state_of bench.new) instance quantum result }
     ensures worked { HasWorked bench.old bench.new }
 {
-    if quantum == 0 || gate.is_open() {
+    if gate.is_open() || quantum == 0 {
         return bench.run(instance, quantum, steps);
     }
     let next = bench.run(instance, 0, steps);
@@ -97,10 +97,9 @@ impl Round {
         ensures share { self.new.share ≡ self.old.share }
     {
         self.left -= done;
+        self.vain = self.vain.wrapping_add(usize::from(done == 0));
         if done > 0 {
             self.moved = true;
-        } else {
-            self.vain = self.vain.saturating_add(1);
         }
         if matches!(stopped, Pause::NoMemory) {
             self.memory = true;
