@@ -14,7 +14,7 @@ use Rattle.kahn_pool.specs.declared.answer.Outcome.TheVariants.{More, Waits}
 use Rattle.kahn_network.specs.Network.{Reads, actual_at, instance_at}
 use Rattle.kahn_pool.specs.inner.Gathered.{view_at, IsOutcomeOf, TookAll}
 use Rattle.kahn_pool.specs.declared.rounds.Round.{Round}
-use Rattle.kahn_pool.specs.inner.Bench.{RunState, IsPaused, HasEndIn, events_at, view_events, all_events, weight, AreEnds, Goes, GoesIn, HasMoved, HasVisited, LacksMemory, Marked, PausedAt}
+use Rattle.kahn_pool.specs.inner.Bench.{RunState, IsPaused, HasEndIn, events_at, view_events, all_events, weight, AreEnds, Goes, GoesIn, HasMoved, HasTakenTurn, HasRunCell, LacksMemory, Marked, PausedAt}
 
 -- a pause and an outcome that say the same
 pub told_as : (s : RunState) (p : ℕ) (o : script.Outcome Store) (z z' : Pause) (x x' : Outcome) → z ≡ z' → x ≡ x' →
@@ -68,7 +68,7 @@ run_bound cs p left quantum false h most = let r = at_most_all cs p in omega (ar
 
 -- ---- one instance more
 
-module _ (s s' : RunState) (r r' : Round) (p : ℕ) (x : End) (here : p < length s.cells) (v : HasVisited s s' r r' p x) where
+module _ (s s' : RunState) (r r' : Round) (p : ℕ) (z : Pause) (here : p < length s.cells) (v : HasTakenTurn s s' r r' p z) where
   known_on : length s.cells ≡ length s.network.instances → length s'.cells ≡ length s'.network.instances
   known_on k = ap length v.ran.only ∙ (length-set s.cells p (view_at s'.cells p) ∙ (k ∙ ap (λ n. length n.instances) (sym v.ran.same.0)))
 
@@ -83,7 +83,7 @@ module _ (s s' : RunState) (r r' : Round) (p : ℕ) (x : End) (here : p < length
   lighter_on : weight r'.left r'.memory ≤ weight r.left r.memory
   lighter_on = by v.marked
     where
-      by : Marked v.stopped v.done r.memory r.moved r'.memory r'.moved → weight r'.left r'.memory ≤ weight r.left r.memory
+      by : Marked z v.done r.memory r.moved r'.memory r'.moved → weight r'.left r'.memory ≤ weight r.left r.memory
       by (inl h) = rw h.1 (let l = v.left in omega (arith, l))
       by (inr h) = rw h.1 (let l = v.left in omega (arith, l))
 
@@ -95,7 +95,7 @@ module _ (s s' : RunState) (r r' : Round) (p : ℕ) (x : End) (here : p < length
       within true h = omega (arith, h)
       within false h = h
 
-      by : Marked v.stopped v.done r.memory r.moved r'.memory r'.moved → (0 < r'.left) × ((k : ℕ) × (k < length s'.cells) × PausedAt s' k pause.NoMemory)
+      by : Marked z v.done r.memory r.moved r'.memory r'.moved → (0 < r'.left) × ((k : ℕ) × (k < length s'.cells) × PausedAt s' k pause.NoMemory)
       by (inl h) =
           let w = v.ran.wanted h.0 in
           let q = within r.memory v.most in
@@ -124,7 +124,7 @@ module _ (s s' : RunState) (r r' : Round) (p : ℕ) (x : End) (here : p < length
     lacks = λ f. lacks_on (h.lacks f);
   }
 
-  module _ (s0 : RunState) (w0 t0 : ℕ) (go : GoesIn s0 w0 t0 s r p) where
+  module _ (x : End) (rests : HasEndIn s' p x) (more : x.outcome ≡ More → (z ≡ pause.Spent) ⊎ (z ≡ pause.NoMemory)) (s0 : RunState) (w0 t0 : ℕ) (go : GoesIn s0 w0 t0 s r p) where
     size : length (r.ends.items ++ x ∷ []) ≡ suc p
     size = length-append r.ends.items (x ∷ []) ∙ (let a : length r.ends.items ≡ p = go.size in omega (arith, a))
 
@@ -145,7 +145,7 @@ module _ (s s' : RunState) (r r' : Round) (p : ℕ) (x : End) (here : p < length
         }
 
     -- not moved: all is as before, with one end more
-    goes_still : v.done ≡ 0 → (v.stopped ≡ pause.NoMemory → ⊥) → r'.memory ≡ r.memory → r'.moved ≡ r.moved →
+    goes_still : v.done ≡ 0 → (z ≡ pause.NoMemory → ⊥) → r'.memory ≡ r.memory → r'.moved ≡ r.moved →
         Goes s0 w0 t0 s' r'.left r'.memory r'.moved (r.ends.items ++ x ∷ []) (suc p)
     goes_still d never m u =
         record {
@@ -174,13 +174,13 @@ module _ (s s' : RunState) (r r' : Round) (p : ℕ) (x : End) (here : p < length
         out_of f = v.none (let c = v.counts in omega (arith, f, c, d))
 
         one : x.outcome ≡ More → (r'.left ≡ 0) ⊎ (r'.memory ≡ true)
-        one f = by (v.more f)
+        one f = by (more f)
           where
             turn : (r.left ≡ 0) ⊎ (r.memory ≡ true) → (r'.left ≡ 0) ⊎ (r'.memory ≡ true)
             turn (inl a) = inl (same_left ∙ a)
             turn (inr a) = inr (m ∙ a)
 
-            by : (v.stopped ≡ pause.Spent) ⊎ (v.stopped ≡ pause.NoMemory) → (r'.left ≡ 0) ⊎ (r'.memory ≡ true)
+            by : (z ≡ pause.Spent) ⊎ (z ≡ pause.NoMemory) → (r'.left ≡ 0) ⊎ (r'.memory ≡ true)
             by (inl a) = turn (out_of (v.ran.spent a))
             by (inr a) = absurd (never a)
 
@@ -195,7 +195,7 @@ module _ (s s' : RunState) (r r' : Round) (p : ℕ) (x : End) (here : p < length
                 )
             by (inr e) =
                 subst (λ u. HasEndIn s' k u × (u.outcome ≡ More → (r'.left ≡ 0) ⊎ (r'.memory ≡ true))) e.1
-                (subst (λ j. HasEndIn s' j x × (x.outcome ≡ More → (r'.left ≡ 0) ⊎ (r'.memory ≡ true))) (sym (e.0 ∙ go.size)) (v.rests, one))
+                (subst (λ j. HasEndIn s' j x × (x.outcome ≡ More → (r'.left ≡ 0) ⊎ (r'.memory ≡ true))) (sym (e.0 ∙ go.size)) (rests, one))
 
     pub goes_on : Goes s0 w0 t0 s' r'.left r'.memory r'.moved (r.ends.items ++ x ∷ []) (suc p)
     goes_on = by v.marked
@@ -207,7 +207,24 @@ module _ (s s' : RunState) (r r' : Round) (p : ℕ) (x : End) (here : p < length
             absurd (omega (arith, u, m, f))
         lighter false e h f = rw (h, e) (let l = v.left in omega (arith, l))
 
-        by : Marked v.stopped v.done r.memory r.moved r'.memory r'.moved → Goes s0 w0 t0 s' r'.left r'.memory r'.moved (r.ends.items ++ x ∷ []) (suc p)
+        by : Marked z v.done r.memory r.moved r'.memory r'.moved → Goes s0 w0 t0 s' r'.left r'.memory r'.moved (r.ends.items ++ x ∷ []) (suc p)
         by (inl h) = goes_moved h.2 (lighter r.memory refl h.1 (v.ran.wanted h.0))
         by (inr (never, m, inl h)) = goes_moved h.1 (rw m (let d = h.0 in let l = v.left in omega (arith, l, d)))
         by (inr (never, m, inr h)) = goes_still h.0 never m h.1
+
+-- those that were visited, and then more
+pub moved_on : (s0 s t : RunState) (l l' l'' : ℕ) (m m' m'' : Bool) → HasMoved s0 s l m l' m' → HasMoved s t l' m' l'' m'' → HasMoved s0 t l m l'' m''
+moved_on s0 s t l l' l'' m m' m'' a b = record {
+  same = (b.same.0 ∙ a.same.0, b.same.1 ∙ a.same.1, b.same.2 ∙ a.same.2);
+  known = b.known;
+  total = b.total ∙ a.total;
+  lighter = let f = a.lighter in let g = b.lighter in omega (arith, f, g);
+  lacks = λ h. b.lacks (a.lacks h);
+}
+
+pub moved_none : (s t : RunState) (l : ℕ) (m : Bool) → t ≡ s → length s.cells ≡ length s.network.instances → HasMoved s t l m l m
+moved_none s t l m e k = subst (λ u. HasMoved s u l m l m) (sym e) (record { same = (refl, refl, refl); known = k; total = refl; lighter = omega arith; lacks = λ h. h })
+
+-- an instance that was asked how it stands
+pub asked : (s t : RunState) (p : ℕ) (z : Pause) → HasRunCell s t p 0 z → t ≡ s
+asked s t p z h = h.still (let a = h.events.0 in let b = h.events.1 in omega (arith, a, b))

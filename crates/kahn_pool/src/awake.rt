@@ -1,6 +1,6 @@
 //! Who may go on in a run on one thread, and who waits for what.
 
-use crate::answer::{End, Outcome};
+use crate::answer::Outcome;
 use crate::run_queue::RunQueue;
 use kahn_code::Plain;
 use kahn_network::Network;
@@ -84,13 +84,6 @@ impl Awake {
             Outcome::Waits(channel) if queues.waiting(channel) > 0 => self.queue.wake(instance),
             Outcome::Waits(channel) => self.sleeps(instance, channel),
             Outcome::Ended | Outcome::Faulted(_) => self.queue.sleep(instance),
-        }
-    }
-
-    /// All stand as these ends say.
-    pub(crate) fn all_stand(&mut self, ends: &[End], queues: &Plain<Global>) {
-        for (instance, end) in ends.iter().enumerate() {
-            self.stands(instance, end.outcome, queues);
         }
     }
 

@@ -11,7 +11,7 @@ ghost use Rattle.kahn_pool.specs.inner.Gathered.{TookNoMore};
 ghost use Rattle.kahn_pool.specs.inner.Workbench.{AllStandBy, AreOpeningCells, AreWhole, HasEmptied, HasFresh, HasFreshPrints, HasTakenIn, HasWorked, HaveForgotten, IsCrowded, IsLaid, IsNextPlace, StandsAsTold, gone_in, sight_of, table_of, told_in};
 ghost use Rattle.std.specs.Prelude.{◌≡◌, ◌<◌, ◌+◌, ◌++◌, ◌^◌, ℕ, Some, length, map, slice_get, IfOk, IfErr, IfSome, MatchOption, SomeIff};
 
-use crate::answer::{End, Outcome};
+use crate::answer::Outcome;
 use crate::awake::Awake;
 use crate::looks::Looks;
 use kahn_code::{Code, CodeFault, Pause, Plain, Steps, Tap, compile, regrow_taps};
@@ -213,11 +213,11 @@ impl<'n> Bench<'n> {
         self.looks.saw(instance, done);
     }
 
-    /// Remembers how all instances stand, for `next`.
-    pub(crate) fn stand(&mut self, ends: &[End])
+    /// Remembers how an instance stands, for `next`.
+    pub(crate) fn stands(&mut self, instance: usize, outcome: Outcome)
         ensures { self.new ≡ self.old }
     {
-        self.awake.all_stand(ends, &self.queues);
+        self.awake.stands(instance, outcome, &self.queues);
     }
 
     /// Remembers how a visit left an instance, for `next`.

@@ -31,7 +31,7 @@ impl Looks {
 
     /// Notes a visit of so many events.
     pub(crate) fn saw(&mut self, instance: usize, done: u64) {
-        self.done = self.done.saturating_add(done);
+        self.done = self.done.wrapping_add(done);
         if done >= LONG {
             self.long = self.long.saturating_add(done);
             let is_other = match self.busy {

@@ -2,7 +2,7 @@
 //! most turns were in vain, those that may go on come one after another before the next round.
 
 ghost use Rattle.kahn_streams.specs.Solution.{source};
-ghost use Rattle.kahn_pool.specs.inner.Bench.{RunState, HasRunCell, PausedAt, HasEndIn, Goes, GoesIn, HasMoved, LacksMemory, HasVisited, IsSameRun, Marked, AreEnds, IsLast, IsVerdict, AreStreams, events_at, all_events, turn_of, weight};
+ghost use Rattle.kahn_pool.specs.inner.Bench.{RunState, HasRunCell, PausedAt, HasEndIn, Goes, GoesIn, HasMoved, LacksMemory, HasTakenTurn, HasVisited, IsSameRun, Marked, AreEnds, IsLast, IsVerdict, AreStreams, events_at, all_events, turn_of, weight};
 ghost use Rattle.kahn_pool.specs.inner.Gathered.{IsFrom};
 ghost use Rattle.kahn_pool.specs.Exact.{IsCutShort};
 ghost use Rattle.kahn_pool.specs.Right.{IsRight, stream_line, stream_lines};
@@ -23,6 +23,11 @@ use std::sync::ledger::Ledger;
 
 // How many visits of those that may go on come between two rounds of all at most, for each instance.
 const VISITS: usize = 64;
+
+// How many rounds note their ends before rounds come that don't, and how many of these come one after another at most.
+const FIRST: usize = 4;
+
+const BRIEF: usize = 1_000_000;
 
 /// A round in which each cell is run once.
 #[derive(Drop)]
@@ -58,6 +63,7 @@ fn end_of(bench: &Bench<'_>, instance: usize, stopped: Pause) -> End
 
 // Runs a cell for at most so many events, as the bench does. A gate that isn't open is entered just before, where the cell may
 // go on.
+#[inline(always)]
 fn run_gated<L: Ledger, G: Gate>(
     bench: &mut Bench<'_>,
     steps: &mut Steps<L>,
@@ -70,7 +76,7 @@ fn run_gated<L: Ledger, G: Gate>(
     ensures ran { HasRunCell (sight_of bench.old) (sight_of bench.new) instance quantum result }
     ensures worked { HasWorked bench.old bench.new }
 {
-    if quantum == 0 || gate.is_open() {
+    if gate.is_open() || quantum == 0 {
         return bench.run(instance, quantum, steps);
     }
     let next = bench.run(instance, 0, steps);
@@ -91,10 +97,9 @@ impl Round {
         ensures share { self.new.share ≡ self.old.share }
     {
         self.left -= done;
+        self.vain = self.vain.wrapping_add(usize::from(done == 0));
         if done > 0 {
             self.moved = true;
-        } else {
-            self.vain = self.vain.saturating_add(1);
         }
         if matches!(stopped, Pause::NoMemory) {
             self.memory = true;
@@ -118,7 +123,34 @@ impl Round {
         }
     }
 
-    // Runs one cell, and marks what was done. Answers how it stands then.
+    // Runs one cell, and marks what was done.
+    #[inline(always)]
+    fn go<L: Ledger, G: Gate>(
+        &mut self,
+        bench: &mut Bench<'_>,
+        steps: &mut Steps<L>,
+        gate: &G,
+        instance: usize,
+    ) -> Pause
+        requires here { instance < length (sight_of bench.old).network.instances }
+        requires bound { all_events (sight_of bench.old) + self.old.left < 2 ^ 48 }
+        requires share { 0 < self.old.share }
+        ensures gone { HasTakenTurn (sight_of bench.old) (sight_of bench.new) self.old self.new instance result }
+        ensures ends { self.new.ends ≡ self.old.ends }
+        ensures share { self.new.share ≡ self.old.share }
+        ensures worked { HasWorked bench.old bench.new }
+    {
+        let before = bench.events(instance);
+        let quantum = self.quantum();
+        let stopped = run_gated(bench, steps, gate, instance, quantum);
+        let done = bench.events(instance) - before;
+        self.mark(done, stopped);
+        bench.saw(instance, done);
+        stopped
+    }
+
+    // The same, which answers how it stands then.
+    #[inline(always)]
     fn visit<L: Ledger, G: Gate>(
         &mut self,
         bench: &mut Bench<'_>,
@@ -134,14 +166,8 @@ impl Round {
         ensures share { self.new.share ≡ self.old.share }
         ensures worked { HasWorked bench.old bench.new }
     {
-        let before = bench.events(instance);
-        let quantum = self.quantum();
-        let stopped = run_gated(bench, steps, gate, instance, quantum);
-        let done = bench.events(instance) - before;
-        self.mark(done, stopped);
-        let end = end_of(bench, instance, stopped);
-        bench.saw(instance, done);
-        end
+        let stopped = self.go(bench, steps, gate, instance);
+        end_of(bench, instance, stopped)
     }
 
     // Visits one cell and notes its end.
@@ -168,9 +194,37 @@ impl Round {
         self.ends.push_reserved(end);
     }
 
+    // Visits each cell once, and notes no ends.
+    fn visit_all<L: Ledger, G: Gate>(
+        &mut self,
+        bench: &mut Bench<'_>,
+        steps: &mut Steps<L>,
+        gate: &G,
+    )
+        requires bound { all_events (sight_of bench.old) + self.old.left < 2 ^ 48 }
+        requires known { length (sight_of bench.old).cells ≡ length (sight_of bench.old).network.instances }
+        requires share { 0 < self.old.share }
+        ensures moved { HasMoved (sight_of bench.old) (sight_of bench.new) self.old.left self.old.memory self.new.left self.new.memory }
+        ensures ends { self.new.ends ≡ self.old.ends }
+        ensures share { self.new.share ≡ self.old.share }
+        ensures worked { HasWorked bench.old bench.new }
+    {
+        let count = bench.instance_count();
+        self.moved = false;
+        self.vain = 0;
+        for instance in 0..count {
+            self.go(bench, steps, gate, instance);
+        }
+    }
+
     // Whether nothing more may be done.
     fn is_over(&self) -> bool {
         self.memory || self.left == 0
+    }
+
+    // Whether nothing was done, or most visits were in vain.
+    fn is_quiet(&self) -> bool {
+        !self.moved || self.is_sparse()
     }
 
     // Whether most visits were in vain.
@@ -179,34 +233,38 @@ impl Round {
     }
 }
 
-// Visits those that may go on as the ends of the last round say, one after another, so many before the next round of all.
+// Asks all how they stand, for `next`.
+fn ask_all<L: Ledger>(bench: &mut Bench<'_>, steps: &mut Steps<L>)
+    requires bound { all_events (sight_of bench.old) < 2 ^ 48 }
+    ensures same { sight_of bench.new ≡ sight_of bench.old }
+    ensures worked { HasWorked bench.old bench.new }
+{
+    let count = bench.instance_count();
+    for instance in 0..count {
+        let stopped = bench.run(instance, 0, steps);
+        let end = end_of(bench, instance, stopped);
+        bench.stands(instance, end.outcome);
+    }
+}
+
+// Visits those that may go on, one after another, so many before the next round of all.
 fn run_awake<L: Ledger, G: Gate>(
     bench: &mut Bench<'_>,
     steps: &mut Steps<L>,
     gate: &G,
-    ends: Vec<End>,
-    share: u64,
-    left: u64,
-    memory: bool,
+    last: Round,
     may_leave: bool,
 ) -> Round
-    requires share { 0 < share }
-    requires bound { all_events (sight_of bench.old) + left < 2 ^ 48 }
+    requires share { 0 < last.share }
+    requires bound { all_events (sight_of bench.old) + last.left < 2 ^ 48 }
     requires known { length (sight_of bench.old).cells ≡ length (sight_of bench.old).network.instances }
-    ensures moved { HasMoved (sight_of bench.old) (sight_of bench.new) left memory result.left result.memory }
-    ensures ends { result.ends ≡ ends }
-    ensures share { result.share ≡ share }
+    ensures moved { HasMoved (sight_of bench.old) (sight_of bench.new) last.left last.memory result.left result.memory }
+    ensures ends { result.ends ≡ last.ends }
+    ensures share { result.share ≡ last.share }
     ensures worked { HasWorked bench.old bench.new }
 {
-    let mut round = Round {
-        share,
-        left,
-        memory,
-        moved: false,
-        vain: 0,
-        ends,
-    };
-    bench.stand(&round.ends);
+    ask_all(bench, steps);
+    let mut round = last;
     for _ in 0..bench.instance_count().saturating_mul(VISITS) {
         if round.is_over() || may_leave && bench.is_wide() {
             return round;
@@ -216,6 +274,33 @@ fn run_awake<L: Ledger, G: Gate>(
         };
         let end = round.visit(bench, steps, gate, instance);
         bench.left(instance, end.outcome);
+    }
+    round
+}
+
+// Rounds that note no ends, behind the first ones, until one in which nothing was done or most visits were in vain.
+fn run_brief<L: Ledger, G: Gate>(
+    bench: &mut Bench<'_>,
+    steps: &mut Steps<L>,
+    gate: &G,
+    last: Round,
+    is_first: bool,
+    may_leave: bool,
+) -> Round
+    requires share { 0 < last.share }
+    requires bound { all_events (sight_of bench.old) + last.left < 2 ^ 48 }
+    requires known { length (sight_of bench.old).cells ≡ length (sight_of bench.old).network.instances }
+    ensures moved { HasMoved (sight_of bench.old) (sight_of bench.new) last.left last.memory result.left result.memory }
+    ensures ends { result.ends ≡ last.ends }
+    ensures share { result.share ≡ last.share }
+    ensures worked { HasWorked bench.old bench.new }
+{
+    let mut round = last;
+    for _ in 0..BRIEF {
+        if is_first || round.is_over() || round.is_quiet() || may_leave && bench.is_wide() {
+            return round;
+        }
+        round.visit_all(bench, steps, gate);
     }
     round
 }
@@ -257,13 +342,14 @@ fn one_round<L: Ledger, G: Gate>(
     round
 }
 
-// What comes before a round of all: where the gate is open and most visits of the last round were in vain, those that may go on are
-// visited. At other gates all take turns.
+// What comes between two rounds of all that note their ends, where the gate is open: after the first ones rounds that note none, and
+// where most visits of the last round were in vain visits of those that may go on. At other gates all take turns.
 fn run_between<L: Ledger, G: Gate>(
     bench: &mut Bench<'_>,
     steps: &mut Steps<L>,
     gate: &G,
     last: Round,
+    is_first: bool,
     may_leave: bool,
 ) -> Round
     requires share { 0 < last.share }
@@ -274,17 +360,14 @@ fn run_between<L: Ledger, G: Gate>(
     ensures share { result.share ≡ last.share }
     ensures worked { HasWorked bench.old bench.new }
 {
-    if gate.is_open() && last.is_sparse() {
-        let Round {
-            share,
-            left,
-            memory,
-            ends,
-            ..
-        } = last;
-        return run_awake(bench, steps, gate, ends, share, left, memory, may_leave);
+    if !gate.is_open() {
+        return last;
     }
-    last
+    let round = run_brief(bench, steps, gate, last, is_first, may_leave);
+    if round.moved && round.is_sparse() {
+        return run_awake(bench, steps, gate, round, may_leave);
+    }
+    round
 }
 
 /// Rounds, until one in which nothing was done, or there is work for several and the run may be left to them.
@@ -311,12 +394,14 @@ pub(crate) fn last_round<L: Ledger, G: Gate>(
     let mut ends = ends;
     let mut left = bound;
     let mut memory = false;
+    let mut rounds = 0_usize;
     'rounds: loop {
         let round = one_round(bench, steps, gate, ends, quantum, left, memory);
         if !round.moved {
             return Some(round);
         }
-        let between = run_between(bench, steps, gate, round, may_leave);
+        rounds = rounds.saturating_add(1);
+        let between = run_between(bench, steps, gate, round, rounds <= FIRST, may_leave);
         if may_leave && bench.is_wide() {
             return None;
         }

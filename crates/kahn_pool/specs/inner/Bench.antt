@@ -108,18 +108,22 @@ Marked z done memory moved memory' moved' =
 abbrev pub turn_of : ℕ → ℕ → Bool → ℕ
 turn_of share left memory = cond memory 0 (min share left)
 
--- an instance was visited: run for at most so many events, after which it stands so, and the round is marked
-pub record HasVisited (s t : RunState) (old new : Round) (p : ℕ) (x : End) : Type 0 where
+-- an instance was run for at most so many events until this pause, and the round is marked
+pub record HasTakenTurn (s t : RunState) (old new : Round) (p : ℕ) (z : Pause) : Type 0 where
   pub quantum : ℕ
   pub turn : quantum ≡ turn_of old.share old.left old.memory
   pub most : quantum ≤ cond old.memory 0 old.left
   pub none : quantum ≡ 0 → (old.left ≡ 0) ⊎ (old.memory ≡ true)
-  pub stopped : Pause
-  pub ran : HasRunCell s t p quantum stopped
+  pub ran : HasRunCell s t p quantum z
   pub done : ℕ
   pub counts : events_at s p + done ≡ events_at t p
   pub left : new.left + done ≡ old.left
-  pub marked : Marked stopped done old.memory old.moved new.memory new.moved
+  pub marked : Marked z done old.memory old.moved new.memory new.moved
+
+-- that is so, after which it stands so
+pub record HasVisited (s t : RunState) (old new : Round) (p : ℕ) (x : End) : Type 0 where
+  pub stopped : Pause
+  pub gone : HasTakenTurn s t old new p stopped
   pub rests : HasEndIn t p x
   pub more : x.outcome ≡ More → (stopped ≡ pause.Spent) ⊎ (stopped ≡ pause.NoMemory)
 

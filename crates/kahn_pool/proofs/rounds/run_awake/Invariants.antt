@@ -5,8 +5,8 @@ use Rattle.kahn_pool.proofs.rounds.run_awake.Given as goal
 
 abbrev pub invariant-loop : goal.invariant-loop
 invariant-loop g l = record {
-  moved : HasMoved (sight_of l.fn.bench) (sight_of l.bench) l.fn.left l.fn.memory l.round.left l.round.memory;
-  share : l.round.share ≡ l.fn.share;
+  moved : HasMoved (sight_of l.fn.bench) (sight_of l.bench) l.fn.last.left l.fn.last.memory l.round.left l.round.memory;
+  share : l.round.share ≡ l.fn.last.share;
   worked : HasWorked l.fn.bench l.bench;
-  ends : l.round.ends ≡ l.fn.ends;
+  ends : l.round.ends ≡ l.fn.last.ends;
 }

@@ -1,0 +1,27 @@
+use Rattle.std.proofs.Common.{◌≡◌, ◌<◌, ◌^◌, ◌∙◌, arith, ap, sym, subst, length}
+use Rattle.kahn_pool.specs.inner.Bench.{RunState, all_events}
+use Rattle.kahn_pool.specs.inner.Workbench.{HasWorked, sight_of}
+use Rattle.kahn_pool.proofs.Turns.{asked, at_most_all}
+use Rattle.kahn_pool.proofs.Tapping.{worked_on}
+use Rattle.kahn_pool.proofs.rounds.ask_all.Goals as goal
+
+pub run-stopped-requires-clause-bound : goal.run-stopped-requires-clause-bound
+run-stopped-requires-clause-bound g c =
+    let s = sight_of c.loop-instance.bench in
+    let a = at_most_all s.cells c.loop-instance.instance in
+    let b : all_events s < 2 ^ 48 = subst (λ (u : RunState). all_events u < 2 ^ 48) (sym c.loop-instance.invariant.same) c.requires.bound in
+    omega (arith, a, b)
+
+pub end_of-end-requires-clause-paused : goal.end_of-end-requires-clause-paused
+end_of-end-requires-clause-paused g c = c.run-stopped.ensures.0.paused
+
+pub loop-instance-preserved : goal.loop-instance-preserved
+loop-instance-preserved g c =
+    let i = c.loop-instance.invariant in
+    let ran = c.run-stopped.ensures.0 in
+    let same = ap sight_of c.stands.ensures ∙ asked _ _ c.loop-instance.instance c.run-stopped.result ran in
+    record {
+      same = same ∙ i.same;
+      count = i.count ∙ ap (λ (u : RunState). length u.network.instances) (sym same);
+      worked = subst (HasWorked c.args.bench.now) (sym c.stands.ensures) (worked_on i.worked c.run-stopped.ensures.1);
+    }
