@@ -1,4 +1,3 @@
-pub mod Words
 pub mod Gone
 pub mod Tapped
 pub mod Begins

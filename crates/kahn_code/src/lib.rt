@@ -31,4 +31,4 @@ pub use progress::Pause;
 
 // For the crates above.
 pub use tap::{Tap, regrow_taps};
-pub use word::{Operand, Word, apply, negated};
+pub use word::{Operand, apply, negated};

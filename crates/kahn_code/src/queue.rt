@@ -9,7 +9,7 @@ ghost use Rattle.kahn_streams.specs.Streams.{IsOf};
 ghost use Rattle.kahn_streams.specs.Tokens.{Holds, Lists, Names, inputs_of};
 
 use kahn_network::Network;
-use kahn_streams::{About, Carried, Input, Line, NoMemory, Token, Value};
+use kahn_streams::{About, Carried, Input, Line, NoMemory, Token, Value, Word};
 use std::alloc::Allocator;
 use std::collections::VecDeque;
 use std::marker::Model;
@@ -166,7 +166,7 @@ impl<A: Allocator> Queue<A> {
     {
         let line = Line::Channel(self.channel);
         let place = self.taken + self.tokens.len() as u64;
-        let token = named_token(&self.network, &self.input, line, place, value);
+        let token = named_token(&self.network, &self.input, line, place, Word::of(value));
         self.put(token);
     }
 }
@@ -184,7 +184,7 @@ fn lifted(
     ensures here { (result.line ≡ line) × (result.place ≡ place) }
     ensures names { IsOf network.now.value input.now.value result }
 {
-    let value = token.value();
+    let value = token.word();
     named_token(network, input, line, place, value)
 }
 
@@ -194,7 +194,7 @@ fn named_token(
     _input: &About<Input>,
     line: Line,
     place: u64,
-    value: Value,
+    value: Word,
 ) -> Token
     ghost names: { Names }
     requires { Holds names.network names.input line place value }

@@ -171,6 +171,7 @@ impl<'n> Bench<'n> {
     }
 
     /// Runs a process for at most so many events.
+    #[inline(always)]
     pub(crate) fn run<L: Ledger>(
         &mut self,
         instance: usize,

@@ -7,7 +7,7 @@ ghost use Rattle.kahn_streams.specs.Tokens.{Holds, Names, inputs_of};
 ghost use Rattle.kahn_code.specs.Cells.{is_watched, token_value};
 
 use crate::bench::Bench;
-use kahn_streams::{Carried, Line, NoMemory, Token, Value};
+use kahn_streams::{Carried, Line, NoMemory, Token, Value, Word};
 
 /// Whether the channel is watched.
 pub(crate) fn is_watched(watch: Option<usize>, channel: usize) -> bool
@@ -34,7 +34,7 @@ pub(crate) fn make_room(
 }
 
 // The token of a value that stands there, for the names of what is at hand.
-fn token_for(_bench: &Bench<'_>, channel: usize, place: u64, value: Value) -> Token
+fn token_for(_bench: &Bench<'_>, channel: usize, place: u64, value: Word) -> Token
     ghost names: { Names }
     requires { Holds names.network names.input (Line.Channel channel) place value }
     ensures { result.value ≡ value }
@@ -48,7 +48,7 @@ fn input_token(bench: &Bench<'_>, channel: usize, place: u64, value: Value) -> T
     requires here { slice_get (inputs_of bench.now.input channel) place ≡ Some value }
     ensures { result.value ≡ value }
 {
-    token_for(bench, channel, place, value)
+    token_for(bench, channel, place, Word::of(value))
 }
 
 // Adds the tokens of values that stand at the end of the list of an input channel, from this place on. There is room for them.

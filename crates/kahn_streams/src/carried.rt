@@ -10,12 +10,13 @@ ghost use Rattle.kahn_streams.specs.declared.token.Token.{Token};
 use crate::about::About;
 use crate::token::Token;
 use crate::value::{Line, Value};
+use crate::word::Word;
 use std::marker::Model;
 
 /// A token on its way: its value. Contracts see the token.
 #[derive(Drop)]
 pub struct Carried {
-    value: Value,
+    value: Word,
     token: About<Token>,
 }
 
@@ -36,7 +37,7 @@ impl Model for Carried {
 }
 
 // The value of the token that the caller names, which is that of something at hand.
-fn carried_of<X>(_named: &X, value: Value) -> Carried
+fn carried_of<X>(_named: &X, value: Word) -> Carried
     ghost token: { Token }
     requires { (token.value ≡ value) × (token.place < 2 ^ 64) }
     ensures { result ≡ token }
@@ -48,7 +49,7 @@ fn carried_of<X>(_named: &X, value: Value) -> Carried
 }
 
 // The token of a value that stands there, for the names of what is carried.
-fn token_of(_carried: &Carried, line: Line, place: u64, value: Value) -> Token
+fn token_of(_carried: &Carried, line: Line, place: u64, value: Word) -> Token
     ghost names: { Names }
     requires { Holds names.network names.input line place value }
     ensures here { (result.line ≡ line) × (result.place ≡ place) × (result.value ≡ value) }
@@ -62,7 +63,7 @@ impl Carried {
     pub fn of(token: Token) -> Carried
         ensures { result ≡ token }
     {
-        let value = token.value();
+        let value = token.word();
         carried_of(&token, value)
     }
 
@@ -92,6 +93,6 @@ impl Carried {
     pub fn value(&self) -> Value
         ensures { result ≡ self.now.value }
     {
-        self.value
+        self.value.value()
     }
 }

@@ -14,6 +14,7 @@ use crate::entries::{InputFault, MOST_VALUES, are_of_kind, channel_for};
 use crate::feeds::{FeedFault, channel_meant};
 use crate::token::Token;
 use crate::value::{Line, Value};
+use crate::word::Word;
 use kahn_network::Network;
 use kahn_tree::{NoMemory, Role};
 use std::alloc::Global;
@@ -162,7 +163,8 @@ impl Input {
             return None;
         }
         let value = value_at(self.list(channel), place)?;
-        Some(Token::first(network, self, Line::Channel(channel), place, value))
+        let word = Word::of(value);
+        Some(Token::first(network, self, Line::Channel(channel), place, word))
     }
 
     /// The number of values of a channel, at most 1,048,576. It takes no memory.

@@ -9,6 +9,7 @@ mod input;
 mod laws;
 mod token;
 mod value;
+mod word;
 
 pub use carried::Carried;
 pub use entries::InputFault;
@@ -26,3 +27,4 @@ pub use value::{Failure, Line, Value};
 pub use about::About;
 pub use entries::channel_named;
 pub use feeds::channel_meant;
+pub use word::Word;

@@ -10,6 +10,7 @@ ghost use Rattle.kahn_streams.specs.Tokens.{Holds, Names};
 use crate::about::About;
 use crate::input::Input;
 use crate::value::{Line, Value};
+use crate::word::Word;
 use kahn_network::Network;
 
 /// A value that stands at its place of its line, in the solution of its network for its input.
@@ -17,7 +18,7 @@ use kahn_network::Network;
 pub struct Token {
     line: Line,
     place: u64,
-    value: Value,
+    value: Word,
     network: About<Network>,
     input: About<Input>,
     pub ghost stands: { Holds network.value input.value line place value },
@@ -26,7 +27,7 @@ pub struct Token {
 impl Token {
     /// The token of a value that stands there, for the network and the input that the caller names for contracts
     /// alone. It takes no memory.
-    pub fn of(line: Line, place: u64, value: Value) -> Token
+    pub fn of(line: Line, place: u64, value: Word) -> Token
         ghost names: { Names }
         requires { Holds names.network names.input line place value }
         ensures here { (result.line ≡ line) × (result.place ≡ place) × (result.value ≡ value) }
@@ -42,7 +43,7 @@ impl Token {
     }
 
     // `of`, where the names are those of something at hand.
-    pub(crate) fn named_by_two<X, Y>(_x: &X, _y: &Y, line: Line, place: u64, value: Value) -> Token
+    pub(crate) fn named_by_two<X, Y>(_x: &X, _y: &Y, line: Line, place: u64, value: Word) -> Token
         ghost names: { Names }
         requires { Holds names.network names.input line place value }
         ensures here { (result.line ≡ line) × (result.place ≡ place) × (result.value ≡ value) }
@@ -57,7 +58,7 @@ impl Token {
         input: &Input,
         line: Line,
         place: u64,
-        value: Value,
+        value: Word,
     ) -> Token
         requires { Holds network.now input.now line place value }
         ensures here { (result.line ≡ line) × (result.place ≡ place) × (result.value ≡ value) }
@@ -100,6 +101,13 @@ impl Token {
 
     /// The value.
     pub fn value(&self) -> Value
+        ensures { result ≡ self.now.value }
+    {
+        self.value.value()
+    }
+
+    /// The value as a register holds it.
+    pub fn word(&self) -> Word
         ensures { result ≡ self.now.value }
     {
         self.value

@@ -1,7 +1,7 @@
 //! The operators on values at their limits.
 
-use kahn_code::{Operand, Word, apply, negated};
-use kahn_streams::{Failure, Value};
+use kahn_code::{Operand, apply, negated};
+use kahn_streams::{Failure, Value, Word};
 use kahn_syntax::Operator;
 use std::test::Fail;
 

@@ -2,7 +2,7 @@
 use Rattle.std.specs.Prelude.{◌≡◌, refl, ℤ, pos, Bool, true, false, if◌then◌else◌}
 use Rattle.kahn_streams.specs.declared.value.Value.{Value}
 use Rattle.kahn_streams.specs.declared.value.Value.TheVariants.{Integer, Logical}
-use Rattle.kahn_code.specs.declared.word.Word.TheInside.{Inside}
+use Rattle.kahn_streams.specs.declared.word.Word.TheInside.{Inside}
 
 abbrev pub word_value : Inside → Value
 word_value w = if w.is_logical then Logical w.truth else Integer w.number
