@@ -14,7 +14,7 @@ pub use Rattle.kahn_syntax.specs.declared.lexeme.Keyword.TheVariants.{And, Begin
 pub use Rattle.kahn_syntax.specs.declared.lexeme.Sign.TheVariants.{AtLeast, AtMost, Becomes, Close, Comma, Equal, Greater, Less, Minus, Not, Open, Plus, Semicolon, Times, Unequal}
 pub use Rattle.kahn_syntax.specs.declared.parser.cursor.Stop.TheVariants.{NoMemory}
 pub use Rattle.kahn_syntax.specs.inner.Items.{IsFaultAt}
-pub use Rattle.kahn_syntax.specs.inner.Machine.{ArgumentPart, ArgumentsPart, ArgumentsTail, BecomesToken, BeginToken, ChannelToken, CloseToken, CommaToken, DeclarationPart, DeclarationsPart, DoToken, ElseTail, ElseToken, EndToken, ExpressionPart, Fate, GroupPart, GroupsPart, GroupsTail, IfToken, InstancePart, InstancesTail, LastTail, LevelPart, NameToken, NamesTail, NotToken, NumberToken, OnToken, OpenToken, OperatorsPart, ParToken, Part, ProcessPart, ProcessToken, ProgramPart, Refuses, RolePart, SemicolonToken, SimplePart, StatementPart, StatementsTail, Tail, TailPart, TakingPart, ThenToken, Token, TokenPart, TooFar, VariablesPart, Whole, again, channels_then, class_of, fate, goes_on, lead, leads, leads_declaration, leads_kind, levels, may_end, onward, step, step_argument, step_arguments, step_declaration, step_declarations, step_denial, step_expression, step_factor, step_instance, step_kind, step_operator, step_or, step_process, step_program, step_relation, step_role, step_simple, step_statement, step_taking, step_whole, takes, token_of}
+pub use Rattle.kahn_syntax.specs.inner.Machine.{ArgumentPart, ArgumentsPart, ArgumentsTail, DeclarationPart, DeclarationsPart, ElseTail, ExpressionPart, Fate, GroupPart, GroupsPart, GroupsTail, InstancePart, InstancesTail, LastTail, LevelPart, NamesTail, OperatorsPart, Part, ProcessPart, ProgramPart, Refuses, RolePart, Rule, SimplePart, StatementPart, StatementsTail, TakingPart, Token, TokenPart, TooFar, VariablesPart, Whole, a_kind, a_name, a_number, a_sign, a_word, an_operator, argument_rules, class_of, declaration_rules, denial_rules, either, enters, expression_rules, factor_rules, fate, followed, group_rules, has_letters_of, has_rank, leads, levels, may_end, onward, opening, operand_rules, operator_rules, or_rules, other_rules, process_rules, relation_rules, rules_of, simple_rules, starts, step, takes}
 pub use Rattle.kahn_syntax.specs.inner.Reads.{AreSound, ExpressionBefore, ExpressionRead, Fits, Halts, IsAbsent, IsSound, Moves, Reads, StatementRead, Stops, head_parts, joined}
 pub use Rattle.kahn_syntax.specs.inner.Rungs.{Lacks, Rung, ands, at, denials, factors, operator_of, ors, rank_or, relations, rung_of, sums, terms, tighter, whole}
 pub use Rattle.kahn_tree.specs.declared.tree.Action.{items-the_row-Statement, items_hidden-the_row-Statement-0}

@@ -1,11 +1,10 @@
 -- How the parts that are open go on, over what the parser reads.
-use Rattle.kahn_syntax.proofs.Common.{◌≡◌, ◌≢◌, ℕ, ◌+◌, ◌≤◌, ◌<◌, List, [], ◌∷◌, ◌++◌, ◌⊎◌, ⊎_elim, length, Bool, true, false, Some, Result, Ok, Err, true≢false, refl, sym, ap, ◌∙◌, subst, arith, Span, Class, Lexeme, MatchResult, Expression, Form, Covers, Statement, Stop, Refused, TooDeep, NoMemory, Terminal, word, sign, name, terminal, terminals, First, Token, BeginToken, CloseToken, IfToken, NameToken, NotToken, NumberToken, ProcessToken, SemicolonToken, takes, leads, class_of, Tail, NamesTail, GroupsTail, ArgumentsTail, lead, goes_on, again, leads_kind, leads_declaration, Part, ProgramPart, DeclarationsPart, DeclarationPart, ProcessPart, GroupsPart, GroupPart, VariablesPart, InstancePart, ArgumentsPart, ArgumentPart, ExpressionPart, OperatorsPart, StatementPart, SimplePart, TailPart, TokenPart, LevelPart, levels, step, Refuses, TooFar, fate, Operator, Level, Or, operator_terminal, rank, Rung, whole, ors, denials, relations, sums, factors, at, tighter, rung_of, Lacks, Kind, kind_terminal, IsAbsent, Reads, Moves, Stops, Halts, ExpressionRead, StatementRead, suc}
+use Rattle.kahn_syntax.proofs.Common.{◌≡◌, ◌≢◌, ℕ, ◌+◌, ◌≤◌, ◌<◌, List, [], ◌∷◌, ◌++◌, ◌⊎◌, ⊎_elim, length, Bool, true, false, cond, Some, None, Result, Ok, Err, true≢false, refl, sym, ap, ◌∙◌, subst, arith, append_assoc, Span, Class, Lexeme, MatchResult, Expression, Form, Covers, Statement, Stop, Refused, TooDeep, NoMemory, Terminal, word, sign, name, terminal, terminals, First, Token, takes, leads, class_of, a_kind, a_name, a_number, a_sign, a_word, an_operator, either, Rule, rules_of, starts, enters, followed, opening, argument_rules, declaration_rules, other_rules, process_rules, simple_rules, Part, ProgramPart, DeclarationsPart, DeclarationPart, ProcessPart, GroupsPart, GroupPart, VariablesPart, InstancePart, ArgumentsPart, ArgumentPart, ExpressionPart, OperatorsPart, StatementPart, SimplePart, GroupsTail, ArgumentsTail, TokenPart, LevelPart, levels, step, Refuses, TooFar, fate, Operator, Level, Or, operator_terminal, rank, Rung, whole, ors, denials, relations, sums, factors, at, tighter, rung_of, Lacks, Kind, kind_terminal, IsAbsent, Reads, Moves, Stops, Halts, ExpressionRead, StatementRead}
 use Rattle.kahn_syntax.specs.declared.lexeme.Keyword.TheVariants as keyword
 use Rattle.kahn_syntax.specs.declared.lexeme.Sign.TheVariants as mark
 use Rattle.kahn_syntax.specs.declared.lexeme.Class.TheVariants as class
-use Rattle.kahn_syntax.specs.Terminals as terminals_are
 use Rattle.kahn_syntax.proofs.WholePrograms.{take_kind, skip_variables}
-use Rattle.kahn_syntax.proofs.Steps.{go, skip_level, skip_tail, take_tail, take_token, no_token, IsChain, open_chain, open_whole, open_denial, skip_operators, take_operator}
+use Rattle.kahn_syntax.proofs.Steps.{go, runs, part, skips, refuses, passes, passes_one, follows, follows_some, starts_one, starts_followed, skip_level, skip_tail, take_token, IsChain, IsOther, open_chain, open_whole, open_denial, skip_operators, take_comparison, take_operator}
 use Rattle.kahn_syntax.proofs.Reached.{go_far}
 use Rattle.kahn_syntax.proofs.Meaning.{terminals_length}
 
@@ -58,21 +57,16 @@ pub token : (text : List ℕ) (d : ℕ) (t : Token) (qs : List Part) (k : Termin
     terminals text i ≡ k ∷ terminals text j → Moves text d (TokenPart t ∷ qs) qs i j
 token text d t qs k i j b h e = λ s l. ap (fate 64 (TokenPart t ∷ qs ++ s)) e ∙ take_token t 64 (qs ++ s) k (terminals text j) h (b s l)
 
-goes_append : (t : Tail) (qs s : List Part) → goes_on t (qs ++ s) ≡ goes_on t qs ++ s
-goes_append NamesTail qs s = refl
-goes_append _ qs s = refl
-
-levels_goes : (t : Tail) (s : List Part) → levels (goes_on t s) ≡ levels s
-levels_goes NamesTail s = refl
-levels_goes _ s = refl
-
 some_is : (c e : Class) → Some c ≡ Some e → c ≡ e
 some_is c e p = cc
 
 -- a lexeme of the token's class is the token
 class_takes : (t : Token) (c : Class) (text : List ℕ) (at : Span) → class_of t ≡ Some c → takes t (terminal text c at) ≡ true
-class_takes NotToken c text at e = absurd cc
-class_takes NumberToken c text at e = absurd cc
+class_takes (a_word keyword.Not) c text at e = absurd cc
+class_takes (either v w) c text at e = absurd cc
+class_takes (a_sign mark.Not) c text at e = absurd cc
+class_takes a_number c text at e = absurd cc
+class_takes (an_operator o) c text at e = absurd cc
 class_takes t c text at e = subst (λ x. takes t (terminal text x at) ≡ true) (some_is _ c e) refl
 
 -- an awaited lexeme
@@ -80,40 +74,49 @@ pub expected : (text : List ℕ) (d : ℕ) (t : Token) (qs : List Part) (c : Cla
     Moves text d (TokenPart t ∷ qs) qs i j
 expected text d t qs c i j b h f = token text d t qs (terminal text c f.0) i j b (class_takes t c text f.0 h) (f.1 text)
 
+-- a part of one rule, of which nothing may be there
+abbrev pub IsTail : Part → Token → List Part → Type 0
+IsTail p t ps = rules_of p ≡ (true, (t, ps) ∷ [])
+
 -- a lexeme with which a tail goes on
-pub goes : (text : List ℕ) (d : ℕ) (t : Tail) (qs : List Part) (c : Class) (i j : List Lexeme) → Bound d qs → class_of (lead t) ≡ Some c → First c i j →
-    Moves text d (TailPart t ∷ qs) (goes_on t qs) i j
-goes text d t qs c i j b h f = λ s l.
-    ap (fate 64 (TailPart t ∷ qs ++ s)) (f.1 text)
-    ∙ (take_tail t 64 (qs ++ s) (terminal text c f.0) (terminals text j) (class_takes (lead t) c text f.0 h) (omega (arith, b s l, levels_goes t (qs ++ s)))
-    ∙ ap (λ x. fate 64 x (terminals text j)) (goes_append t qs s))
+pub goes : (text : List ℕ) (d : ℕ) (p : Part) (t : Token) (ps qs : List Part) (c : Class) (i j : List Lexeme) → Bound d (ps ++ qs) → IsTail p t ps → class_of t ≡ Some c → First c i j →
+    Moves text d (p ∷ qs) (ps ++ qs) i j
+goes text d p t ps qs c i j b e h f = one text d p qs (ps ++ qs) (terminal text c f.0) i j b
+    (λ s. ap (λ x. opening (qs ++ s) (cond x.0 (step (qs ++ s) (terminal text c f.0)) None) (enters x.1 (terminal text c f.0))) e
+    ∙ (ap (λ y. opening (qs ++ s) (step (qs ++ s) (terminal text c f.0)) (cond y (Some ps) None)) (class_takes t c text f.0 h) ∙ ap Some (sym (append_assoc ps qs s)))) (f.1 text)
 
 -- a tail that ends
-pub ends : (text : List ℕ) (d : ℕ) (t : Tail) (qs : List Part) (c : Class) (i : List Lexeme) → class_of (lead t) ≡ Some c → IsAbsent c i → Moves text d (TailPart t ∷ qs) qs i i
-ends text d t qs c i h a = λ s l. skip_tail t 64 (qs ++ s) (terminals text i) (a (lead t) h text)
+pub ends : (text : List ℕ) (d : ℕ) (p : Part) (t : Token) (ps qs : List Part) (c : Class) (i : List Lexeme) → IsTail p t ps → class_of t ≡ Some c → IsAbsent c i → Moves text d (p ∷ qs) qs i i
+ends text d p t ps qs c i e h a = λ s l. skip_tail p t ps 64 (qs ++ s) (terminals text i) e (a t h text)
 
 -- a member of a list, and the lexeme that leads to the next
-pub next_member : (text : List ℕ) (d : ℕ) (ps : List Part) (t : Tail) (p : Part) (qs : List Part) (c : Class) (i o a j : List Lexeme) → Bound d qs → Depth d (TailPart t ∷ qs) d →
-    goes_on t qs ≡ p ∷ TailPart t ∷ qs → class_of (lead t) ≡ Some c → Moves text d ps (p ∷ TailPart t ∷ qs) i o → Reads text d (p ∷ []) o a → First c a j → Moves text d ps (p ∷ TailPart t ∷ qs) i j
-next_member text d ps t p qs c i o a j b l g k m r f =
-    then text d ps (p ∷ TailPart t ∷ qs) (p ∷ TailPart t ∷ qs) i o j m
-    (then text d (p ∷ TailPart t ∷ qs) (TailPart t ∷ qs) (p ∷ TailPart t ∷ qs) o a j (call text d d p (TailPart t ∷ qs) o a l r)
-    (subst (λ x. Moves text d (TailPart t ∷ qs) x a j) g (goes text d t qs c a j b k f)))
+pub next_member : (text : List ℕ) (d : ℕ) (ps : List Part) (u : Part) (t : Token) (p : Part) (qs : List Part) (c : Class) (i o a j : List Lexeme) → Bound d (p ∷ u ∷ qs) → Depth d (u ∷ qs) d →
+    IsTail u t (p ∷ u ∷ []) → class_of t ≡ Some c → Moves text d ps (p ∷ u ∷ qs) i o → Reads text d (p ∷ []) o a → First c a j → Moves text d ps (p ∷ u ∷ qs) i j
+next_member text d ps u t p qs c i o a j b l g k m r f =
+    then text d ps (p ∷ u ∷ qs) (p ∷ u ∷ qs) i o j m
+    (then text d (p ∷ u ∷ qs) (u ∷ qs) (p ∷ u ∷ qs) o a j (call text d d p (u ∷ qs) o a l r) (goes text d u t (p ∷ u ∷ []) qs c a j b g k f))
 
 -- the last one
-pub last_member : (text : List ℕ) (d : ℕ) (ps : List Part) (t : Tail) (p : Part) (qs : List Part) (c : Class) (i o a : List Lexeme) → Depth d (TailPart t ∷ qs) d →
-    class_of (lead t) ≡ Some c → Moves text d ps (p ∷ TailPart t ∷ qs) i o → Reads text d (p ∷ []) o a → IsAbsent c a → Moves text d ps qs i a
-last_member text d ps t p qs c i o a l k m r f =
-    then text d ps (p ∷ TailPart t ∷ qs) qs i o a m
-    (then text d (p ∷ TailPart t ∷ qs) (TailPart t ∷ qs) qs o a a (call text d d p (TailPart t ∷ qs) o a l r) (ends text d t qs c a k f))
+pub last_member : (text : List ℕ) (d : ℕ) (ps : List Part) (u : Part) (t : Token) (p : Part) (qs : List Part) (c : Class) (i o a : List Lexeme) → Depth d (u ∷ qs) d →
+    IsTail u t (p ∷ u ∷ []) → class_of t ≡ Some c → Moves text d ps (p ∷ u ∷ qs) i o → Reads text d (p ∷ []) o a → IsAbsent c a → Moves text d ps qs i a
+last_member text d ps u t p qs c i o a l g k m r f =
+    then text d ps (p ∷ u ∷ qs) qs i o a m
+    (then text d (p ∷ u ∷ qs) (u ∷ qs) qs o a a (call text d d p (u ∷ qs) o a l r) (ends text d u t (p ∷ u ∷ []) qs c a g k f))
 
 pub level_ends : (text : List ℕ) (d : ℕ) (qs : List Part) (i : List Lexeme) → Moves text d (LevelPart ∷ qs) qs i i
 level_ends text d qs i = λ s l. skip_level 64 (qs ++ s) (terminals text i)
 
+-- a part that must be there, and isn't
+pub refused : (text : List ℕ) (d : ℕ) (p : Part) (qs : List Part) (i : List Lexeme) (x : Stop) → (rules_of p).0 ≡ false → starts (rules_of p).1 (terminals text i) ≡ false →
+    x ≡ Refused false (length i) → Stops text d (p ∷ qs) i x
+refused text d p qs i x n h e =
+    subst (Stops text d (p ∷ qs) i) (sym e)
+    (λ s l. part p 64 (qs ++ s) (terminals text i) ∙ (ap (λ b. runs 64 b (rules_of p).1 (qs ++ s) (terminals text i)) n ∙ (refuses (rules_of p).1 64 (qs ++ s) (terminals text i) h
+    ∙ ap (Refuses false) (terminals_length text i))))
+
 pub absent : (text : List ℕ) (d : ℕ) (t : Token) (qs : List Part) (i : List Lexeme) (x : Stop) → leads t (terminals text i) ≡ false → x ≡ Refused false (length i) →
     Stops text d (TokenPart t ∷ qs) i x
-absent text d t qs i x h e =
-    subst (Stops text d (TokenPart t ∷ qs) i) (sym e) (λ s l. no_token t 64 (qs ++ s) (terminals text i) h ∙ ap (Refuses false) (terminals_length text i))
+absent text d t qs i x h e = refused text d (TokenPart t) qs i x refl (starts_one t [] (terminals text i) false h) e
 
 -- an awaited lexeme that isn't there
 pub unexpected : (text : List ℕ) (d : ℕ) (t : Token) (qs : List Part) (c : Class) (i : List Lexeme) (x : Stop) → class_of t ≡ Some c →
@@ -121,26 +124,20 @@ pub unexpected : (text : List ℕ) (d : ℕ) (t : Token) (qs : List Part) (c : C
 unexpected text d t qs c i x h (a, e) = absent text d t qs i x (a t h text) e
 
 pub no_name : (text : List ℕ) (d : ℕ) (qs : List Part) (i : List Lexeme) (x : Stop) →
-    (x ≡ NoMemory) ⊎ ((leads NameToken (terminals text i) ≡ false) × (x ≡ Refused false (length i))) → Stops text d (TokenPart NameToken ∷ qs) i x
+    (x ≡ NoMemory) ⊎ ((leads a_name (terminals text i) ≡ false) × (x ≡ Refused false (length i))) → Stops text d (TokenPart a_name ∷ qs) i x
 no_name text d qs i x h =
-    ⊎_elim (λ e. subst (Stops text d (TokenPart NameToken ∷ qs) i) (sym e) tt) (λ (a, e). absent text d NameToken qs i x a e) h
+    ⊎_elim (λ e. subst (Stops text d (TokenPart a_name ∷ qs) i) (sym e) tt) (λ (a, e). absent text d a_name qs i x a e) h
 
 pub no_memory : (text : List ℕ) (d : ℕ) (qs : List Part) (i : List Lexeme) (x : Stop) → x ≡ NoMemory → Stops text d qs i x
 no_memory text d qs i x e = subst (Stops text d qs i) (sym e) tt
 
-if_leads : (r : List Terminal) → leads IfToken r ≡ false → (x : List Terminal) → r ≡ word keyword.If ∷ x → ⊥
-if_leads r h x e = true≢false (ap (leads IfToken) (sym e) ∙ h)
-
-not_leads : (r : List Terminal) → leads NotToken r ≡ false → (x : List Terminal) → r ≡ word keyword.Not ∷ x → ⊥
-not_leads r h x e = true≢false (ap (leads NotToken) (sym e) ∙ h)
-
 -- an expression of the next tighter level
 pub opens_whole : (text : List ℕ) (d : ℕ) (qs : List Part) (i : List Lexeme) → IsAbsent (class.Word keyword.If) i → Moves text d (ExpressionPart whole ∷ qs) (ExpressionPart ors ∷ qs) i i
-opens_whole text d qs i a = λ s l. open_whole 64 (qs ++ s) (terminals text i) (if_leads (terminals text i) (a IfToken refl text))
+opens_whole text d qs i a = λ s l. open_whole 64 (qs ++ s) (terminals text i) (a (a_word keyword.If) refl text)
 
-pub opens_denial : (text : List ℕ) (d : ℕ) (qs : List Part) (i : List Lexeme) → leads NotToken (terminals text i) ≡ false →
+pub opens_denial : (text : List ℕ) (d : ℕ) (qs : List Part) (i : List Lexeme) → leads (a_word keyword.Not) (terminals text i) ≡ false →
     Moves text d (ExpressionPart denials ∷ qs) (ExpressionPart relations ∷ qs) i i
-opens_denial text d qs i a = λ s l. open_denial 64 (qs ++ s) (terminals text i) (not_leads (terminals text i) a)
+opens_denial text d qs i a = λ s l. open_denial 64 (qs ++ s) (terminals text i) a
 
 pub opens_chain : (text : List ℕ) (d : ℕ) (g : Rung) (qs : List Part) (i : List Lexeme) → IsChain g → Moves text d (ExpressionPart g ∷ qs) (ExpressionPart (tighter g) ∷ OperatorsPart g ∷ qs) i i
 opens_chain text d g qs i h = λ s l. open_chain g 64 (qs ++ s) (terminals text i) h
@@ -150,24 +147,22 @@ operators_end text d g qs i h = λ s l. skip_operators g 64 (qs ++ s) (terminals
 
 pub comparison : (text : List ℕ) (d : ℕ) (o : Operator) (qs : List Part) (i j : List Lexeme) → Bound d qs → rank o ≡ 4 → terminals text i ≡ operator_terminal o ∷ terminals text j →
     Moves text d (OperatorsPart relations ∷ qs) (ExpressionPart sums ∷ qs) i j
-comparison text d o qs i j b h e = λ s l. ap (fate 64 (OperatorsPart relations ∷ qs ++ s)) e ∙ take_operator relations 64 (qs ++ s) o (terminals text j) h (b s l)
+comparison text d o qs i j b h e = λ s l. ap (fate 64 (OperatorsPart relations ∷ qs ++ s)) e ∙ take_comparison 64 (qs ++ s) o (terminals text j) h (b s l)
 
 pub level_chain : (v : Level) → IsChain (rung_of v)
 level_chain Or = tt
 level_chain _ = tt
 
-level_again : (v : Level) (s : List Part) → again (rung_of v) s ≡ OperatorsPart (rung_of v) ∷ s
-level_again Or s = refl
-level_again _ s = refl
+level_other : (v : Level) → IsOther (rung_of v)
+level_other Or = tt
+level_other _ = tt
 
 -- an operator of the level, of which more may follow
 pub operator_more : (text : List ℕ) (d : ℕ) (v : Level) (o : Operator) (qs : List Part) (i j : List Lexeme) → Bound d qs → rank o ≡ at (rung_of v) →
     terminals text i ≡ operator_terminal o ∷ terminals text j →
     Moves text d (OperatorsPart (rung_of v) ∷ qs) (ExpressionPart (tighter (rung_of v)) ∷ OperatorsPart (rung_of v) ∷ qs) i j
 operator_more text d v o qs i j b h e = λ s l.
-    ap (fate 64 (OperatorsPart (rung_of v) ∷ qs ++ s)) e
-    ∙ (take_operator (rung_of v) 64 (qs ++ s) o (terminals text j) h (b s l)
-    ∙ ap (λ x. fate 64 (ExpressionPart (tighter (rung_of v)) ∷ x) (terminals text j)) (level_again v (qs ++ s)))
+    ap (fate 64 (OperatorsPart (rung_of v) ∷ qs ++ s)) e ∙ take_operator (rung_of v) 64 (qs ++ s) o (terminals text j) (level_other v) h (b s l)
 
 -- what a call answers for a tighter level, where no more than it stands here
 pub opened : (text : List ℕ) (d : ℕ) (g f : Rung) (i : List Lexeme) → at g ≤ at f → Moves text d (ExpressionPart g ∷ []) (ExpressionPart f ∷ []) i i →
@@ -217,182 +212,88 @@ opened_simple text d i m (Err x) s rest h = then_stops text d (StatementPart ∷
 
 -- where a name stands first, memory alone is wanted
 pub only_memory : (text : List ℕ) (d : ℕ) (qs : List Part) (i j : List Lexeme) (x : Stop) → First class.Name i j →
-    (x ≡ NoMemory) ⊎ ((leads NameToken (terminals text i) ≡ false) × (x ≡ Refused false (length i))) → Stops text d qs i x
+    (x ≡ NoMemory) ⊎ ((leads a_name (terminals text i) ≡ false) × (x ≡ Refused false (length i))) → Stops text d qs i x
 only_memory text d qs i j x f h =
-    ⊎_elim (λ e. no_memory text d qs i x e) (λ (a, e). absurd (true≢false (sym (ap (leads NameToken) (f.1 text)) ∙ a))) h
-
--- a factor begins here
-abbrev pub leads_factor : List Terminal → Bool
-leads_factor (terminals_are.number z ∷ r) = true
-leads_factor (name n ∷ r) = true
-leads_factor (word keyword.True ∷ r) = true
-leads_factor (word keyword.False ∷ r) = true
-leads_factor (word keyword.Wait ∷ r) = true
-leads_factor (sign mark.Minus ∷ r) = true
-leads_factor (sign mark.Open ∷ r) = true
-leads_factor _ = false
-
-refuses_factor : (s : List Part) (ks : List Terminal) → leads_factor ks ≡ false → fate 64 (ExpressionPart factors ∷ s) ks ≡ Refuses false (length ks)
-refuses_factor s [] h = refl
-refuses_factor s (word keyword.True ∷ r) h = cc
-refuses_factor s (sign mark.Minus ∷ r) h = cc
-refuses_factor s (_ ∷ r) h = let q : length r + 1 ≡ suc (length r) = omega arith in cc
-
-pub no_factor : (text : List ℕ) (d : ℕ) (i : List Lexeme) → leads_factor (terminals text i) ≡ false → Stops text d (ExpressionPart factors ∷ []) i (Refused false (length i))
-no_factor text d i h = λ s l. refuses_factor s (terminals text i) h ∙ ap (Refuses false) (terminals_length text i)
+    ⊎_elim (λ e. no_memory text d qs i x e) (λ (a, e). absurd (true≢false (sym (ap (leads a_name) (f.1 text)) ∙ a))) h
 
 -- where a name stands first, memory alone is wanted
-pub memory_alone : (text : List ℕ) (d : ℕ) (qs : List Part) (i : List Lexeme) (x : Stop) → leads NameToken (terminals text i) ≡ true →
-    (x ≡ NoMemory) ⊎ ((leads NameToken (terminals text i) ≡ false) × (x ≡ Refused false (length i))) → Stops text d qs i x
+pub memory_alone : (text : List ℕ) (d : ℕ) (qs : List Part) (i : List Lexeme) (x : Stop) → leads a_name (terminals text i) ≡ true →
+    (x ≡ NoMemory) ⊎ ((leads a_name (terminals text i) ≡ false) × (x ≡ Refused false (length i))) → Stops text d qs i x
 memory_alone text d qs i x f h = ⊎_elim (λ e. no_memory text d qs i x e) (λ (a, e). absurd (true≢false (sym f ∙ a))) h
 
--- a statement begins here that no `else` may follow
-abbrev pub leads_statement : List Terminal → Bool
-leads_statement (word keyword.If ∷ r) = true
-leads_statement (word keyword.While ∷ r) = true
-leads_statement (word keyword.Repeat ∷ r) = true
-leads_statement _ = false
+pub opens_simple : (text : List ℕ) (d : ℕ) (qs : List Part) (i : List Lexeme) → starts other_rules (terminals text i) ≡ false → Moves text d (StatementPart ∷ qs) (SimplePart ∷ qs) i i
+opens_simple text d qs i h = λ s l.
+    part StatementPart 64 (qs ++ s) (terminals text i)
+    ∙ (passes other_rules simple_rules 64 true (qs ++ s) (terminals text i) h ∙ sym (part SimplePart 64 (qs ++ s) (terminals text i)))
 
-open_simple : (s : List Part) (ks : List Terminal) → leads_statement ks ≡ false → fate 64 (StatementPart ∷ s) ks ≡ fate 64 (SimplePart ∷ s) ks
-open_simple s [] h = refl
-open_simple s (word keyword.If ∷ r) h = cc
-open_simple s (_ ∷ r) h = cc
-
-pub opens_simple : (text : List ℕ) (d : ℕ) (qs : List Part) (i : List Lexeme) → leads_statement (terminals text i) ≡ false → Moves text d (StatementPart ∷ qs) (SimplePart ∷ qs) i i
-opens_simple text d qs i h = λ s l. open_simple (qs ++ s) (terminals text i) h
-
--- a statement that isn't empty begins here
-abbrev pub leads_simple : List Terminal → Bool
-leads_simple (name n ∷ r) = true
-leads_simple (word keyword.Send ∷ r) = true
-leads_simple (word keyword.Print ∷ r) = true
-leads_simple (word keyword.Begin ∷ r) = true
-leads_simple _ = false
-
-skip_simple : (s : List Part) (ks : List Terminal) → leads_simple ks ≡ false → fate 64 (SimplePart ∷ s) ks ≡ fate 64 s ks
-skip_simple s [] h = refl
-skip_simple s (name n ∷ r) h = cc
-skip_simple s (word keyword.Send ∷ r) h = cc
-skip_simple s (_ ∷ r) h = cc
-
--- the empty statement
-pub simple_ends : (text : List ℕ) (d : ℕ) (qs : List Part) (i : List Lexeme) → leads_simple (terminals text i) ≡ false → Moves text d (SimplePart ∷ qs) qs i i
-simple_ends text d qs i h = λ s l. skip_simple (qs ++ s) (terminals text i) h
+-- nothing of a part is there
+pub nothing : (text : List ℕ) (d : ℕ) (p : Part) (qs : List Part) (i : List Lexeme) → (rules_of p).0 ≡ true → starts (rules_of p).1 (terminals text i) ≡ false → Moves text d (p ∷ qs) qs i i
+nothing text d p qs i n h = λ s l.
+    part p 64 (qs ++ s) (terminals text i) ∙ (ap (λ b. runs 64 b (rules_of p).1 (qs ++ s) (terminals text i)) n ∙ skips (rules_of p).1 64 (qs ++ s) (terminals text i) h)
 
 -- a kind, where one stands first
 pub kind_moves : (text : List ℕ) (d : ℕ) (p : Part) (qs rs : List Part) (k : Kind) (i j : List Lexeme) → Bound d rs → ((s : List Part) → step (p ∷ qs ++ s) (word keyword.Integer) ≡ Some (rs ++ s)) →
     ((s : List Part) → step (p ∷ qs ++ s) (word keyword.Logical) ≡ Some (rs ++ s)) → terminals text i ≡ kind_terminal k ∷ terminals text j → Moves text d (p ∷ qs) rs i j
 kind_moves text d p qs rs k i j b f g e = λ s l. ap (fate 64 (p ∷ qs ++ s)) e ∙ take_kind k 64 (p ∷ qs ++ s) (rs ++ s) (terminals text j) (f s) (g s) (b s l)
 
-open_groups : (s : List Part) (ks : List Terminal) → leads_kind ks ≡ true → fate 64 (GroupsPart ∷ s) ks ≡ fate 64 (GroupPart ∷ TailPart GroupsTail ∷ s) ks
-open_groups s [] h = cc
-open_groups s (word keyword.Integer ∷ r) h = cc
-open_groups s (_ ∷ r) h = cc
+-- a list of parts begins
+pub opens_some : (text : List ℕ) (p q : Part) (after qs : List Part) (i : List Lexeme) → (rules_of p).1 ≡ followed after (rules_of q).1 → (rules_of q).0 ≡ false →
+    starts (rules_of q).1 (terminals text i) ≡ true → Moves text 0 (p ∷ qs) (q ∷ after ++ qs) i i
+opens_some text p q after qs i e n h = λ s l.
+    part p 64 (qs ++ s) (terminals text i)
+    ∙ (ap (λ rs. runs 64 (rules_of p).0 rs (qs ++ s) (terminals text i)) e
+    ∙ (follows_some (rules_of q).1 after 64 (rules_of p).0 (qs ++ s) (terminals text i) h
+    ∙ (ap (λ b. runs 64 b (rules_of q).1 (after ++ (qs ++ s)) (terminals text i)) (sym n)
+    ∙ (sym (part q 64 (after ++ (qs ++ s)) (terminals text i)) ∙ ap (λ u. fate 64 (q ∷ u) (terminals text i)) (sym (append_assoc after qs s))))))
 
-skip_groups : (s : List Part) (ks : List Terminal) → leads_kind ks ≡ false → fate 64 (GroupsPart ∷ s) ks ≡ fate 64 s ks
-skip_groups s [] h = refl
-skip_groups s (word keyword.Integer ∷ r) h = cc
-skip_groups s (_ ∷ r) h = cc
+pub opens_groups : (text : List ℕ) (qs : List Part) (i : List Lexeme) → leads a_kind (terminals text i) ≡ true → Moves text 0 (GroupsPart ∷ qs) (GroupPart ∷ GroupsTail ∷ qs) i i
+opens_groups text qs i h = opens_some text GroupsPart GroupPart (GroupsTail ∷ []) qs i refl refl (starts_one a_kind _ (terminals text i) true h)
 
-refuses_group : (s : List Part) (ks : List Terminal) → leads_kind ks ≡ false → fate 64 (GroupPart ∷ s) ks ≡ Refuses false (length ks)
-refuses_group s [] h = refl
-refuses_group s (word keyword.Integer ∷ r) h = cc
-refuses_group s (_ ∷ r) h = let q : length r + 1 ≡ suc (length r) = omega arith in cc
+pub groups_end : (text : List ℕ) (qs : List Part) (i : List Lexeme) → leads a_kind (terminals text i) ≡ false → Moves text 0 (GroupsPart ∷ qs) qs i i
+groups_end text qs i h = nothing text 0 GroupsPart qs i refl (starts_one a_kind _ (terminals text i) false h)
 
-open_process : (s : List Part) (ks : List Terminal) → leads_kind ks ≡ false → fate 64 (DeclarationPart ∷ s) ks ≡ fate 64 (ProcessPart ∷ s) ks
-open_process s [] h = refl
-open_process s (word keyword.Integer ∷ r) h = cc
-open_process s (_ ∷ r) h = cc
-
-refuses_process : (s : List Part) (ks : List Terminal) → leads ProcessToken ks ≡ false → fate 64 (ProcessPart ∷ s) ks ≡ Refuses false (length ks)
-refuses_process s [] h = refl
-refuses_process s (word keyword.Process ∷ r) h = absurd (true≢false h)
-refuses_process s (k ∷ r) h = ap (Refuses false) (omega arith)
-
-refuses_program : (s : List Part) (ks : List Terminal) → leads BeginToken ks ≡ false → fate 64 (ProgramPart ∷ s) ks ≡ Refuses false (length ks)
-refuses_program s [] h = refl
-refuses_program s (word keyword.Begin ∷ r) h = absurd (true≢false h)
-refuses_program s (k ∷ r) h = ap (Refuses false) (omega arith)
-
-refuses_instance : (s : List Part) (ks : List Terminal) → leads NameToken ks ≡ false → fate 64 (InstancePart ∷ s) ks ≡ Refuses false (length ks)
-refuses_instance s [] h = refl
-refuses_instance s (name n ∷ r) h = absurd (true≢false h)
-refuses_instance s (k ∷ r) h = ap (Refuses false) (omega arith)
-
-open_arguments : (s : List Part) (ks : List Terminal) → leads CloseToken ks ≡ false → fate 64 (ArgumentsPart ∷ s) ks ≡ fate 64 (ArgumentPart ∷ TailPart ArgumentsTail ∷ TokenPart CloseToken ∷ s) ks
-open_arguments s [] h = refl
-open_arguments s (sign mark.Close ∷ r) h = absurd (true≢false h)
-open_arguments s (k ∷ r) h = refl
-
-open_declarations : (s : List Part) (ks : List Terminal) → leads_declaration ks ≡ true → fate 64 (DeclarationsPart ∷ s) ks ≡ fate 64 (DeclarationPart ∷ TokenPart SemicolonToken ∷ DeclarationsPart ∷ s) ks
-open_declarations s [] h = cc
-open_declarations s (word keyword.Integer ∷ r) h = cc
-open_declarations s (_ ∷ r) h = cc
-
-skip_declarations : (s : List Part) (ks : List Terminal) → leads_declaration ks ≡ false → fate 64 (DeclarationsPart ∷ s) ks ≡ fate 64 s ks
-skip_declarations s [] h = refl
-skip_declarations s (word keyword.Integer ∷ r) h = cc
-skip_declarations s (_ ∷ r) h = cc
-
--- an argument begins here
-abbrev pub leads_argument : List Terminal → Bool
-leads_argument (name n ∷ r) = true
-leads_argument (terminals_are.number z ∷ r) = true
-leads_argument (word keyword.True ∷ r) = true
-leads_argument (word keyword.False ∷ r) = true
-leads_argument (sign mark.Minus ∷ r) = true
-leads_argument _ = false
-
-refuses_argument : (s : List Part) (ks : List Terminal) → leads_argument ks ≡ false → fate 64 (ArgumentPart ∷ s) ks ≡ Refuses false (length ks)
-refuses_argument s [] h = refl
-refuses_argument s (word keyword.True ∷ r) h = cc
-refuses_argument s (sign mark.Minus ∷ r) h = cc
-refuses_argument s (_ ∷ r) h = let q : length r + 1 ≡ suc (length r) = omega arith in cc
-
-pub opens_groups : (text : List ℕ) (qs : List Part) (i : List Lexeme) → leads_kind (terminals text i) ≡ true → Moves text 0 (GroupsPart ∷ qs) (GroupPart ∷ TailPart GroupsTail ∷ qs) i i
-opens_groups text qs i h = λ s l. open_groups (qs ++ s) (terminals text i) h
-
-pub groups_end : (text : List ℕ) (qs : List Part) (i : List Lexeme) → leads_kind (terminals text i) ≡ false → Moves text 0 (GroupsPart ∷ qs) qs i i
-groups_end text qs i h = λ s l. skip_groups (qs ++ s) (terminals text i) h
-
-pub variables_end : (text : List ℕ) (qs : List Part) (i : List Lexeme) → leads_kind (terminals text i) ≡ false → Moves text 0 (VariablesPart ∷ qs) qs i i
+pub variables_end : (text : List ℕ) (qs : List Part) (i : List Lexeme) → leads a_kind (terminals text i) ≡ false → Moves text 0 (VariablesPart ∷ qs) qs i i
 variables_end text qs i h = λ s l. skip_variables 64 (qs ++ s) (terminals text i) h
 
-pub opens_process : (text : List ℕ) (qs : List Part) (i : List Lexeme) → leads_kind (terminals text i) ≡ false → Moves text 0 (DeclarationPart ∷ qs) (ProcessPart ∷ qs) i i
-opens_process text qs i h = λ s l. open_process (qs ++ s) (terminals text i) h
+pub opens_process : (text : List ℕ) (qs : List Part) (i : List Lexeme) → leads a_kind (terminals text i) ≡ false → Moves text 0 (DeclarationPart ∷ qs) (ProcessPart ∷ qs) i i
+opens_process text qs i h = λ s l.
+    part DeclarationPart 64 (qs ++ s) (terminals text i)
+    ∙ (passes_one a_kind _ process_rules 64 (qs ++ s) (terminals text i) h ∙ sym (part ProcessPart 64 (qs ++ s) (terminals text i)))
 
 pub opens_arguments : (text : List ℕ) (qs : List Part) (i : List Lexeme) → IsAbsent (class.Sign mark.Close) i →
-    Moves text 0 (ArgumentsPart ∷ qs) (ArgumentPart ∷ TailPart ArgumentsTail ∷ TokenPart CloseToken ∷ qs) i i
-opens_arguments text qs i h = λ s l. open_arguments (qs ++ s) (terminals text i) (h CloseToken refl text)
+    Moves text 0 (ArgumentsPart ∷ qs) (ArgumentPart ∷ ArgumentsTail ∷ TokenPart (a_sign mark.Close) ∷ qs) i i
+opens_arguments text qs i h = λ s l.
+    part ArgumentsPart 64 (qs ++ s) (terminals text i)
+    ∙ (passes_one (a_sign mark.Close) [] (followed (ArgumentsTail ∷ TokenPart (a_sign mark.Close) ∷ []) argument_rules) 64 (qs ++ s) (terminals text i) (h (a_sign mark.Close) refl text)
+    ∙ (follows argument_rules (ArgumentsTail ∷ TokenPart (a_sign mark.Close) ∷ []) 64 (qs ++ s) (terminals text i)
+    ∙ sym (part ArgumentPart 64 (ArgumentsTail ∷ TokenPart (a_sign mark.Close) ∷ qs ++ s) (terminals text i))))
 
-pub opens_declarations : (text : List ℕ) (qs : List Part) (i : List Lexeme) → leads_declaration (terminals text i) ≡ true →
-    Moves text 0 (DeclarationsPart ∷ qs) (DeclarationPart ∷ TokenPart SemicolonToken ∷ DeclarationsPart ∷ qs) i i
-opens_declarations text qs i h = λ s l. open_declarations (qs ++ s) (terminals text i) h
+pub opens_declarations : (text : List ℕ) (qs : List Part) (i : List Lexeme) → starts declaration_rules (terminals text i) ≡ true →
+    Moves text 0 (DeclarationsPart ∷ qs) (DeclarationPart ∷ TokenPart (a_sign mark.Semicolon) ∷ DeclarationsPart ∷ qs) i i
+opens_declarations text qs i h = opens_some text DeclarationsPart DeclarationPart (TokenPart (a_sign mark.Semicolon) ∷ DeclarationsPart ∷ []) qs i refl refl h
 
-pub declarations_end : (text : List ℕ) (qs : List Part) (i : List Lexeme) → leads_declaration (terminals text i) ≡ false → Moves text 0 (DeclarationsPart ∷ qs) qs i i
-declarations_end text qs i h = λ s l. skip_declarations (qs ++ s) (terminals text i) h
+pub declarations_end : (text : List ℕ) (qs : List Part) (i : List Lexeme) → starts declaration_rules (terminals text i) ≡ false → Moves text 0 (DeclarationsPart ∷ qs) qs i i
+declarations_end text qs i h = nothing text 0 DeclarationsPart qs i refl (starts_followed declaration_rules (TokenPart (a_sign mark.Semicolon) ∷ DeclarationsPart ∷ []) (terminals text i) ∙ h)
 
--- a part that refuses what stands first
-refused_by : (text : List ℕ) (p : Part) (qs : List Part) (i : List Lexeme) (x : Stop) → ((s : List Part) → fate 64 (p ∷ s) (terminals text i) ≡ Refuses false (length (terminals text i))) →
-    x ≡ Refused false (length i) → Stops text 0 (p ∷ qs) i x
-refused_by text p qs i x f e = subst (Stops text 0 (p ∷ qs) i) (sym e) (λ s l. f (qs ++ s) ∙ ap (Refuses false) (terminals_length text i))
+-- a part of one rule that refuses what stands first
+pub no_part : (text : List ℕ) (p : Part) (t : Token) (ps qs : List Part) (i : List Lexeme) (x : Stop) → rules_of p ≡ (false, (t, ps) ∷ []) →
+    (leads t (terminals text i) ≡ false) × (x ≡ Refused false (length i)) → Stops text 0 (p ∷ qs) i x
+no_part text p t ps qs i x r (a, e) =
+    refused text 0 p qs i x (ap (λ y. y.0) r) (ap (λ y. starts y.1 (terminals text i)) r ∙ starts_one t ps (terminals text i) false a) e
 
-pub no_group : (text : List ℕ) (qs : List Part) (i : List Lexeme) (x : Stop) → leads_kind (terminals text i) ≡ false → x ≡ Refused false (length i) → Stops text 0 (GroupPart ∷ qs) i x
-no_group text qs i x h e = refused_by text GroupPart qs i x (λ s. refuses_group s (terminals text i) h) e
+pub no_group : (text : List ℕ) (qs : List Part) (i : List Lexeme) (x : Stop) → leads a_kind (terminals text i) ≡ false → x ≡ Refused false (length i) → Stops text 0 (GroupPart ∷ qs) i x
+no_group text qs i x h e = no_part text GroupPart a_kind _ qs i x refl (h, e)
 
 pub no_process : (text : List ℕ) (qs : List Part) (i : List Lexeme) (x : Stop) → IsAbsent (class.Word keyword.Process) i × (x ≡ Refused false (length i)) → Stops text 0 (ProcessPart ∷ qs) i x
-no_process text qs i x (a, e) = refused_by text ProcessPart qs i x (λ s. refuses_process s (terminals text i) (a ProcessToken refl text)) e
+no_process text qs i x (a, e) = no_part text ProcessPart (a_word keyword.Process) _ qs i x refl (a (a_word keyword.Process) refl text, e)
 
 pub no_program : (text : List ℕ) (qs : List Part) (i : List Lexeme) (x : Stop) → IsAbsent (class.Word keyword.Begin) i × (x ≡ Refused false (length i)) → Stops text 0 (ProgramPart ∷ qs) i x
-no_program text qs i x (a, e) = refused_by text ProgramPart qs i x (λ s. refuses_program s (terminals text i) (a BeginToken refl text)) e
+no_program text qs i x (a, e) = no_part text ProgramPart (a_word keyword.Begin) _ qs i x refl (a (a_word keyword.Begin) refl text, e)
 
-pub no_instance : (text : List ℕ) (qs : List Part) (i : List Lexeme) (x : Stop) → (x ≡ NoMemory) ⊎ ((leads NameToken (terminals text i) ≡ false) × (x ≡ Refused false (length i))) →
+pub no_instance : (text : List ℕ) (qs : List Part) (i : List Lexeme) (x : Stop) → (x ≡ NoMemory) ⊎ ((leads a_name (terminals text i) ≡ false) × (x ≡ Refused false (length i))) →
     Stops text 0 (InstancePart ∷ qs) i x
 no_instance text qs i x h =
-    ⊎_elim (λ e. no_memory text 0 (InstancePart ∷ qs) i x e) (λ (a, e). refused_by text InstancePart qs i x (λ s. refuses_instance s (terminals text i) a) e) h
-
-pub no_argument : (text : List ℕ) (qs : List Part) (i : List Lexeme) → leads_argument (terminals text i) ≡ false → Stops text 0 (ArgumentPart ∷ qs) i (Refused false (length i))
-no_argument text qs i h = refused_by text ArgumentPart qs i (Refused false (length i)) (λ s. refuses_argument s (terminals text i) h) refl
+    ⊎_elim (λ e. no_memory text 0 (InstancePart ∷ qs) i x e) (λ a. no_part text InstancePart a_name _ qs i x refl a) h
 
 -- the whole of a program that isn't one
 pub halts : (text : List ℕ) (i : List Lexeme) (x : Stop) → Stops text 0 (ProgramPart ∷ []) i x → Halts (terminals text i) x

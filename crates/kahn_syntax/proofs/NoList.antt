@@ -3,7 +3,7 @@ use Rattle.kahn_syntax.proofs.Common.{◌≡◌, ℕ, ◌+◌, ◌-◌, ◌≤�
 use Rattle.kahn_syntax.specs.declared.fault.SyntaxFault.TheVariants.{TooDeep, NoMemory}
 use Rattle.kahn_syntax.specs.declared.lexeme.Class.TheVariants.{Name, Sign}
 use Rattle.kahn_syntax.proofs.Keywords.{keyword_short}
-use Rattle.kahn_syntax.proofs.OneList.{Walk, ends, blank, comment, lexeme, walk, walk_le, run_first, form_grows, form_dark, same_end, no_comment, comment_grows, comment_dark, same_comment, same_lexeme, lexeme_dark, lexeme_comment}
+use Rattle.kahn_syntax.proofs.OneList.{Walk, Item, ends, then, blank, comment, lexeme, walk, walk_end, run_first, form_grows, form_dark, same_end, no_comment, same_item}
 use Rattle.kahn_syntax.proofs.Runs.{length_slice}
 use Rattle.kahn_syntax.proofs.Signs.{sign_begins, sign_letter, sign_digit, letter_digit}
 
@@ -13,35 +13,17 @@ Rest text n a = (zs : List Lexeme) × Walk text n a zs
 -- what is read from the left up to a is read on from there
 along : (text : List ℕ) (n a c : ℕ) (xs ys : List Lexeme) → a ≤ n → Walk text a c xs → Walk text n c ys → Rest text n a
 along text n a c _ ys h (ends e) w = (ys, subst (λ (k : ℕ). Walk text n k ys) e w)
-along text n a c xs _ h (blank b v) (ends f) = let le : c + 1 ≤ a = walk_le text a (c + 1) xs v in absurd (omega arith)
-along text n a c xs ys h (blank b v) (blank b' w) = along text n a (c + 1) xs ys h v w
-along text n a c xs ys h (blank b v) (comment m k w) = absurd (comment_dark text c m k b)
-along text n a c xs _ h (blank b v) (lexeme y f q w) = absurd (lexeme_dark text c y f q b)
-along text n a c xs _ h (comment m k v) (ends f) =
-    let le : m ≤ a = walk_le text a m xs v in
-    let g : c < m = comment_grows text c m k in
-    absurd (omega arith)
-along text n a c xs ys h (comment m k v) (blank b w) = absurd (comment_dark text c m k b)
-along text n a c xs ys h (comment m k v) (comment m' k' w) =
-    along text n a m xs ys h v (subst (λ (j : ℕ). Walk text n j ys) (sym (same_comment text c m m' k k')) w)
-along text n a c xs _ h (comment m k v) (lexeme y f q w) = absurd (lexeme_comment text c m y f q k)
-along text n a c _ _ h (lexeme x e p v) (ends f) =
-    let le : x.span.to ≤ a = walk_le text a x.span.to _ v in
-    let g : x.span.from < x.span.to = form_grows text x.span.from x.span.to p.longest.form in
-    absurd (omega arith)
-along text n a c _ ys h (lexeme x e p v) (blank b w) = absurd (lexeme_dark text c x e p b)
-along text n a c _ ys h (lexeme x e p v) (comment m k w) = absurd (lexeme_comment text c m x e p k)
-along text n a c _ _ h (lexeme {xs = xs} x e p v) (lexeme {xs = ys} y f q w) =
-    let same : x ≡ y = same_lexeme text c x y e f p q in
-    along text n a x.span.to xs ys h v (subst (λ (z : Lexeme). Walk text n z.span.to ys) (sym same) w)
+along text n a c _ _ h (then {b = b} {xs = xs} {ys = ys} i v) (ends e) = walk_end text a c b xs ys (omega arith) i v
+along text n a c _ _ h (then {b = b} {xs = xs} {ys = ys} i v) (then {b = d} {xs = us} {ys = ws} j w) =
+    along text n a b ys ws h v (subst (λ (k : ℕ). Walk text n k ws) (sym (same_item text c b d xs us i j).0) w)
 
 -- nothing is read on from a place where neither a blank nor a comment nor a lexeme stands
 stops : (text : List ℕ) (n a : ℕ) (zs : List Lexeme) → a < n → (IsBlank (get_or text a 0) → ⊥) → ((m : ℕ) → IsComment text a m → ⊥)
     → ((x : Lexeme) → x.span.from ≡ a → Stands text x → ⊥) → Walk text n a zs → ⊥
 stops text n a _ h b c l (ends e) = absurd (omega arith)
-stops text n a zs h b c l (blank dark w) = b dark
-stops text n a zs h b c l (comment m k w) = c m k
-stops text n a _ h b c l (lexeme x e p w) = l x e p
+stops text n a _ h b c l (then (blank dark) w) = b dark
+stops text n a _ h b c l (then (comment {m = m} k) w) = c m k
+stops text n a _ h b c l (then (lexeme x e p) w) = l x e p
 
 -- the same where a form stands that is no comment's word with its end and no lexeme
 stops_long : (text : List ℕ) (n a b : ℕ) (zs : List Lexeme) → a < n → IsLongest text a b → (IsCommentWord text a b → (m : ℕ) → Closes text b m → ⊥)

@@ -1,5 +1,5 @@
 -- A text has one list of lexemes.
-use Rattle.kahn_syntax.proofs.Common.{◌≡◌, ℕ, ◌+◌, ◌≤◌, ◌<◌, ◌⊎◌, List, [], ◌∷◌, get_or, refl, sym, ap, subst, ◌∙◌, arith, inl, inr, nat_tests, Lexeme, Class, Word, Number, IsBlank, IsRun, HasForm, IsLongest, IsCommentWord, IsOfClass, Stands, Closes, IsComment, Gap, no_gap, then_blank, then_comment, Lexed}
+use Rattle.kahn_syntax.proofs.Common.{◌≡◌, ℕ, ◌+◌, ◌≤◌, ◌<◌, ◌⊎◌, ◌++◌, List, [], ◌∷◌, get_or, refl, sym, ap, subst, ◌∙◌, arith, inl, inr, nat_tests, Lexeme, Class, Word, Number, IsBlank, IsRun, HasForm, IsLongest, IsCommentWord, IsOfClass, Stands, Closes, IsComment, Gap, no_gap, then_blank, then_comment, Lexed}
 use Rattle.kahn_syntax.specs.declared.lexeme.Class.TheVariants.{Name, Sign}
 use Rattle.kahn_syntax.proofs.Keywords.{same_keyword, not_comment}
 use Rattle.kahn_syntax.proofs.Signs.{sign_begins, same_sign, sign_letter, sign_digit, sign_blank, letter_digit, letter_blank, digit_blank}
@@ -77,35 +77,40 @@ comment_grows text a b c =
 pub comment_dark : (text : List ℕ) (a b : ℕ) → IsComment text a b → IsBlank (get_or text a 0) → ⊥
 comment_dark text a b c blank = form_dark text a c.0 c.1.form blank
 
+-- what stands from one place to another: a blank, a comment, or a lexeme
+pub data Item (text : List ℕ) (a : ℕ) : ℕ → List Lexeme → Type 0 where
+  blank : IsBlank (get_or text a 0) → Item text a (a + 1) []
+  comment : {m : ℕ} → IsComment text a m → Item text a m []
+  lexeme : (x : Lexeme) → x.span.from ≡ a → Stands text x → Item text a x.span.to (x ∷ [])
+
 -- what stands from a place to the end, read from the left
 pub data Walk (text : List ℕ) (n : ℕ) : ℕ → List Lexeme → Type 0 where
   ends : {a : ℕ} → a ≡ n → Walk text n a []
-  blank : {a : ℕ} {xs : List Lexeme} → IsBlank (get_or text a 0) → Walk text n (a + 1) xs → Walk text n a xs
-  comment : {a : ℕ} {xs : List Lexeme} (m : ℕ) → IsComment text a m → Walk text n m xs → Walk text n a xs
-  lexeme : {a : ℕ} {xs : List Lexeme} (x : Lexeme) → x.span.from ≡ a → Stands text x → Walk text n x.span.to xs → Walk text n a (x ∷ xs)
+  then : {a b : ℕ} {xs ys : List Lexeme} → Item text a b xs → Walk text n b ys → Walk text n a (xs ++ ys)
 
 walk_gap : (text : List ℕ) (n a b : ℕ) (xs : List Lexeme) → Gap text a b → Walk text n b xs → Walk text n a xs
 walk_gap text n a b xs no_gap w = w
-walk_gap text n a b xs (then_blank g dark) w = walk_gap text n a _ xs g (blank dark w)
-walk_gap text n a b xs (then_comment g c) w = walk_gap text n a _ xs g (comment b c w)
+walk_gap text n a b xs (then_blank g dark) w = walk_gap text n a _ xs g (then (blank dark) w)
+walk_gap text n a b xs (then_comment g c) w = walk_gap text n a _ xs g (then (comment c) w)
 
 pub walk : (text : List ℕ) (n a : ℕ) (xs : List Lexeme) → Lexed text a n xs → Walk text n a xs
 walk text n a [] gap = walk_gap text n a n [] gap (ends refl)
 walk text n a (x ∷ xs) (gap, stands, rest) =
-    walk_gap text n a x.span.from (x ∷ xs) gap (lexeme x refl stands (walk text n x.span.to xs rest))
+    walk_gap text n a x.span.from (x ∷ xs) gap (then (lexeme x refl stands) (walk text n x.span.to xs rest))
+
+item_grows : (text : List ℕ) (a b : ℕ) (xs : List Lexeme) → Item text a b xs → a < b
+item_grows text a _ _ (blank dark) = omega arith
+item_grows text a b _ (comment c) = comment_grows text a b c
+item_grows text a _ _ (lexeme x e stands) = let g : x.span.from < x.span.to = form_grows text x.span.from x.span.to stands.longest.form in omega arith
 
 -- the end isn't before the place
 pub walk_le : (text : List ℕ) (n a : ℕ) (xs : List Lexeme) → Walk text n a xs → a ≤ n
-walk_le text n a xs (ends e) = omega arith
-walk_le text n a xs (blank b w) = let h : a + 1 ≤ n = walk_le text n (a + 1) xs w in omega arith
-walk_le text n a xs (comment m c w) =
-    let h : m ≤ n = walk_le text n m xs w in
-    let g : a < m = comment_grows text a m c in
-    omega arith
-walk_le text n a xs (lexeme x e stands w) =
-    let h : x.span.to ≤ n = walk_le text n x.span.to _ w in
-    let g : x.span.from < x.span.to = form_grows text x.span.from x.span.to stands.longest.form in
-    omega arith
+walk_le text n a _ (ends e) = omega arith
+walk_le text n a _ (then {b = b} {xs = xs} {ys = ys} i w) = omega (arith, item_grows text a b xs i, walk_le text n b ys w)
+
+-- nor is there more at the end
+pub walk_end : {X : Type 0} (text : List ℕ) (n a b : ℕ) (xs ys : List Lexeme) → n ≤ a → Item text a b xs → Walk text n b ys → X
+walk_end text n a b xs ys e i w = absurd (omega (arith, item_grows text a b xs i, walk_le text n b ys w))
 
 pub same_lexeme : (text : List ℕ) (a : ℕ) (x y : Lexeme) → x.span.from ≡ a → y.span.from ≡ a → Stands text x → Stands text y → x ≡ y
 same_lexeme text a x y e f p q =
@@ -128,39 +133,27 @@ lexeme_comment text a m x e p c =
     subst (λ (k : ℕ). IsOfClass text x.what a k) to (subst (λ (k : ℕ). IsOfClass text x.what k x.span.to) e p.class) in
     no_comment text a c.0 x.what here c.2
 
+-- one item stands at a place
+pub same_item : (text : List ℕ) (a b c : ℕ) (xs ys : List Lexeme) → Item text a b xs → Item text a c ys → (b ≡ c) × (xs ≡ ys)
+same_item text a _ _ _ _ (blank p) (blank q) = (refl, refl)
+same_item text a _ c _ _ (blank p) (comment q) = absurd (comment_dark text a c q p)
+same_item text a _ _ _ _ (blank p) (lexeme y f q) = absurd (lexeme_dark text a y f q p)
+same_item text a b _ _ _ (comment p) (blank q) = absurd (comment_dark text a b p q)
+same_item text a b c _ _ (comment p) (comment q) = (same_comment text a b c p q, refl)
+same_item text a b _ _ _ (comment p) (lexeme y f q) = absurd (lexeme_comment text a b y f q p)
+same_item text a _ _ _ _ (lexeme x e p) (blank q) = absurd (lexeme_dark text a x e p q)
+same_item text a _ c _ _ (lexeme x e p) (comment q) = absurd (lexeme_comment text a c x e p q)
+same_item text a _ _ _ _ (lexeme x e p) (lexeme y f q) =
+    let same : x ≡ y = same_lexeme text a x y e f p q in (ap (λ (z : Lexeme). z.span.to) same, ap (λ z. z ∷ []) same)
+
 same_walk : (text : List ℕ) (n a : ℕ) (xs ys : List Lexeme) → Walk text n a xs → Walk text n a ys → xs ≡ ys
 same_walk text n a _ _ (ends e) (ends f) = refl
-same_walk text n a _ ys (ends e) (blank b w) = let h : a + 1 ≤ n = walk_le text n (a + 1) ys w in absurd (omega arith)
-same_walk text n a _ ys (ends e) (comment m c w) =
-    let h : m ≤ n = walk_le text n m ys w in
-    let g : a < m = comment_grows text a m c in
-    absurd (omega arith)
-same_walk text n a _ ys (ends e) (lexeme y f q w) =
-    let h : y.span.to ≤ n = walk_le text n y.span.to _ w in
-    let g : y.span.from < y.span.to = form_grows text y.span.from y.span.to q.longest.form in
-    absurd (omega arith)
-same_walk text n a xs _ (blank b w) (ends f) = let h : a + 1 ≤ n = walk_le text n (a + 1) xs w in absurd (omega arith)
-same_walk text n a xs ys (blank b v) (blank b' w) = same_walk text n (a + 1) xs ys v w
-same_walk text n a xs ys (blank b v) (comment m c w) = absurd (comment_dark text a m c b)
-same_walk text n a xs _ (blank b v) (lexeme y f q w) = absurd (lexeme_dark text a y f q b)
-same_walk text n a xs _ (comment m c v) (ends f) =
-    let h : m ≤ n = walk_le text n m xs v in
-    let g : a < m = comment_grows text a m c in
-    absurd (omega arith)
-same_walk text n a xs ys (comment m c v) (blank b w) = absurd (comment_dark text a m c b)
-same_walk text n a xs ys (comment m c v) (comment m' c' w) =
-    same_walk text n m xs ys v (subst (λ (k : ℕ). Walk text n k ys) (sym (same_comment text a m m' c c')) w)
-same_walk text n a xs _ (comment m c v) (lexeme y f q w) = absurd (lexeme_comment text a m y f q c)
-same_walk text n a _ _ (lexeme x e p v) (ends f) =
-    let h : x.span.to ≤ n = walk_le text n x.span.to _ v in
-    let g : x.span.from < x.span.to = form_grows text x.span.from x.span.to p.longest.form in
-    absurd (omega arith)
-same_walk text n a _ ys (lexeme x e p v) (blank b w) = absurd (lexeme_dark text a x e p b)
-same_walk text n a _ ys (lexeme x e p v) (comment m c w) = absurd (lexeme_comment text a m x e p c)
-same_walk text n a _ _ (lexeme {xs = xs} x e p v) (lexeme {xs = ys} y f q w) =
-    let same : x ≡ y = same_lexeme text a x y e f p q in
-    let rest : xs ≡ ys = same_walk text n x.span.to xs ys v (subst (λ (z : Lexeme). Walk text n z.span.to ys) (sym same) w) in
-    λ i. same i ∷ rest i
+same_walk text n a _ _ (ends e) (then {b = b} {xs = xs} {ys = ys} i w) = walk_end text n a b xs ys (omega arith) i w
+same_walk text n a _ _ (then {b = b} {xs = xs} {ys = ys} i w) (ends e) = walk_end text n a b xs ys (omega arith) i w
+same_walk text n a _ _ (then {b = b} {xs = xs} {ys = ys} i v) (then {b = c} {xs = us} {ys = ws} j w) =
+    let same = same_item text a b c xs us i j in
+    let rest : ys ≡ ws = same_walk text n b ys ws v (subst (λ (k : ℕ). Walk text n k ws) (sym same.0) w) in
+    λ k. same.1 k ++ rest k
 
 pub same_lexemes : (text : List ℕ) (a n : ℕ) (xs ys : List Lexeme) → Lexed text a n xs → Lexed text a n ys → xs ≡ ys
 same_lexemes text a n xs ys p q = same_walk text n a xs ys (walk text n a xs p) (walk text n a ys q)

@@ -1,5 +1,5 @@
 -- No two trees spell one list: declarations, instances and programs.
-use Rattle.kahn_syntax.proofs.Common.{◌≡◌, ℕ, List, [], ◌∷◌, true, false, ⊎_elim, refl, sym, ap, ◌∙◌, subst, true≢false, Token, CommaToken, ParToken, takes, leads, leads_kind, AreAny, Further, Grouped, group, all_members, AreGroups, Kind, Role, Taking, Terminal, word, sign, name, empty, StatementTrees, no_statement, statement, statements_words, AreSome, ParameterTree, VariableTree, DeclarationTree, channels, process, ArgumentTree, channel, InstanceTree, instance, ProgramTree, program, kind_terminal, role_words, taking_words, names_words, further_names_words, group_words, groups_words, further_groups_words, Parameters, togethers_words, Variables, Declares, Declarations, Argues, Arguments, Instantiates, Instances, MaybeSemicolon, Spells, StandsFirst, parameter}
+use Rattle.kahn_syntax.proofs.Common.{◌≡◌, ℕ, List, [], ◌∷◌, true, false, ⊎_elim, refl, sym, ap, ◌∙◌, subst, true≢false, Token, a_kind, takes, leads, AreAny, Further, Grouped, group, all_members, AreGroups, Kind, Role, Taking, Terminal, word, sign, name, empty, StatementTrees, no_statement, statement, statements_words, AreSome, ParameterTree, VariableTree, DeclarationTree, channels, process, ArgumentTree, channel, InstanceTree, instance, ProgramTree, program, kind_terminal, role_words, taking_words, names_words, further_names_words, group_words, groups_words, further_groups_words, Parameters, togethers_words, Variables, Declares, Declarations, Argues, Arguments, Instantiates, Instances, MaybeSemicolon, Spells, StandsFirst, parameter, a_sign, a_word}
 use Rattle.kahn_syntax.specs.declared.lexeme.Keyword.TheVariants as keyword
 use Rattle.kahn_syntax.specs.declared.lexeme.Sign.TheVariants as mark
 use Rattle.kahn_tree.specs.declared.tree.Kind.TheVariants as kind
@@ -14,13 +14,13 @@ use Rattle.kahn_syntax.proofs.Blocks.{same_statements}
 no_lead : (t : Token) (k : Terminal) (r x : List Terminal) → takes t k ≡ true → leads t r ≡ false → r ≡ k ∷ x → ⊥
 no_lead t k r x u h e = true≢false (sym u ∙ (ap (leads t) (sym e) ∙ h))
 
-same_further_names : (ns ms : List (List ℕ)) (r q : List Terminal) → leads CommaToken r ≡ false → leads CommaToken q ≡ false → further_names_words ns r ≡ further_names_words ms q → (ns ≡ ms) × (r ≡ q)
+same_further_names : (ns ms : List (List ℕ)) (r q : List Terminal) → leads (a_sign mark.Comma) r ≡ false → leads (a_sign mark.Comma) q ≡ false → further_names_words ns r ≡ further_names_words ms q → (ns ≡ ms) × (r ≡ q)
 same_further_names [] [] r q x y e = (refl, e)
-same_further_names [] (m ∷ ms) r q x y e = absurd (no_lead CommaToken (sign mark.Comma) r _ refl x e)
-same_further_names (n ∷ ns) [] r q x y e = absurd (no_lead CommaToken (sign mark.Comma) q _ refl y (sym e))
+same_further_names [] (m ∷ ms) r q x y e = absurd (no_lead (a_sign mark.Comma) (sign mark.Comma) r _ refl x e)
+same_further_names (n ∷ ns) [] r q x y e = absurd (no_lead (a_sign mark.Comma) (sign mark.Comma) q _ refl y (sym e))
 same_further_names (n ∷ ns) (m ∷ ms) r q x y e = let z = same_further_names ns ms r q x y (tail_is _ _ _ _ (tail_is _ _ _ _ e)) in (cc, z.1)
 
-same_names : (ns ms : List (List ℕ)) (r q : List Terminal) → AreAny ns → AreAny ms → leads CommaToken r ≡ false → leads CommaToken q ≡ false → names_words ns r ≡ names_words ms q → (ns ≡ ms) × (r ≡ q)
+same_names : (ns ms : List (List ℕ)) (r q : List Terminal) → AreAny ns → AreAny ms → leads (a_sign mark.Comma) r ≡ false → leads (a_sign mark.Comma) q ≡ false → names_words ns r ≡ names_words ms q → (ns ≡ ms) × (r ≡ q)
 same_names [] ms r q a b x y e = absurd a
 same_names ns [] r q a b x y e = absurd b
 same_names (n ∷ ns) (m ∷ ms) r q a b x y e = let z = same_further_names ns ms r q x y (tail_is _ _ _ _ e) in (cc, z.1)
@@ -53,11 +53,11 @@ taking_close (taking.Channel direction.In k) x y e = kind_close k _ _ e
 taking_close (taking.Channel direction.Out k) x y e = kind_close k _ _ e
 taking_close (taking.Value k) x y e = kind_close k _ _ e
 
-pub no_comma : (gs : List (Grouped Taking (List ℕ))) (x : List Terminal) → leads CommaToken (further_groups_words gs (sign mark.Close ∷ x)) ≡ false
+pub no_comma : (gs : List (Grouped Taking (List ℕ))) (x : List Terminal) → leads (a_sign mark.Comma) (further_groups_words gs (sign mark.Close ∷ x)) ≡ false
 no_comma [] x = refl
 no_comma (g ∷ gs) x = refl
 
-same_group : (g h : Grouped Taking (List ℕ)) (gs hs : List (Grouped Taking (List ℕ))) (r q : List Terminal) → AreGroups (g ∷ gs) → AreGroups (h ∷ hs) → leads CommaToken r ≡ false → leads CommaToken q ≡ false →
+same_group : (g h : Grouped Taking (List ℕ)) (gs hs : List (Grouped Taking (List ℕ))) (r q : List Terminal) → AreGroups (g ∷ gs) → AreGroups (h ∷ hs) → leads (a_sign mark.Comma) r ≡ false → leads (a_sign mark.Comma) q ≡ false →
     group_words g r ≡ group_words h q → (g ≡ h) × (r ≡ q)
 same_group (group t []) h gs hs r q a b x y e = absurd a.0
 same_group g (group u []) gs hs r q a b x y e = absurd b.0
@@ -87,17 +87,17 @@ same_groups (g ∷ gs) (h ∷ hs) x y a b e =
 same_parameters : (ps qs : List ParameterTree) (ks x y : List Terminal) → Parameters ps ks (sign mark.Close ∷ x) → Parameters qs ks (sign mark.Close ∷ y) → (ps ≡ qs) × (x ≡ y)
 same_parameters ps qs ks x y (gs, a, e, p) (hs, b, f, q) = let z = same_groups gs hs x y a b (sym p ∙ q) in (e ∙ ap (all_members parameter) z.0 ∙ sym f, z.1)
 
-no_kind : (k : Kind) (r x : List Terminal) → leads_kind r ≡ false → r ≡ kind_terminal k ∷ x → ⊥
-no_kind kind.Integer r x h e = true≢false (ap leads_kind (sym e) ∙ h)
-no_kind kind.Logical r x h e = true≢false (ap leads_kind (sym e) ∙ h)
+no_kind : (k : Kind) (r x : List Terminal) → leads a_kind r ≡ false → r ≡ kind_terminal k ∷ x → ⊥
+no_kind kind.Integer r x h e = true≢false (ap (leads a_kind) (sym e) ∙ h)
+no_kind kind.Logical r x h e = true≢false (ap (leads a_kind) (sym e) ∙ h)
 
-pub statements_start : (ss : StatementTrees) (r : List Terminal) → AreSome ss → leads_kind (statements_words ss (word keyword.End ∷ r)) ≡ false
+pub statements_start : (ss : StatementTrees) (r : List Terminal) → AreSome ss → leads a_kind (statements_words ss (word keyword.End ∷ r)) ≡ false
 statements_start no_statement r h = absurd h
 statements_start (statement empty no_statement) r h = refl
 statements_start (statement empty (statement s ss)) r h = refl
 statements_start _ r h = refl
 
-same_togethers : (ts us : List (Grouped Kind (List ℕ))) (r q : List Terminal) → AreGroups ts → AreGroups us → leads_kind r ≡ false → leads_kind q ≡ false → togethers_words ts r ≡ togethers_words us q →
+same_togethers : (ts us : List (Grouped Kind (List ℕ))) (r q : List Terminal) → AreGroups ts → AreGroups us → leads a_kind r ≡ false → leads a_kind q ≡ false → togethers_words ts r ≡ togethers_words us q →
     (ts ≡ us) × (r ≡ q)
 same_togethers [] [] r q a b x y e = (refl, e)
 same_togethers [] (group k ns ∷ us) r q a b x y e = absurd (no_kind k r _ x e)
@@ -107,14 +107,14 @@ same_togethers (group k ns ∷ ts) (group l ms ∷ us) r q a b x y e =
     let z = same_names ns ms (sign mark.Semicolon ∷ togethers_words ts r) (sign mark.Semicolon ∷ togethers_words us q) a.0 b.0 refl refl (tail_is _ _ _ _ e) in
     let w = same_togethers ts us r q a.1 b.1 x y (tail_is _ _ _ _ z.1) in (cc, w.1)
 
-same_variables : (vs ws : List VariableTree) (ks r q : List Terminal) → leads_kind r ≡ false → leads_kind q ≡ false → Variables vs ks r → Variables ws ks q → (vs ≡ ws) × (r ≡ q)
+same_variables : (vs ws : List VariableTree) (ks r q : List Terminal) → leads a_kind r ≡ false → leads a_kind q ≡ false → Variables vs ks r → Variables ws ks q → (vs ≡ ws) × (r ≡ q)
 same_variables vs ws ks r q x y (ts, a, e, p) (us, b, f, g) = let z = same_togethers ts us r q a b x y (sym p ∙ g) in (e ∙ ap (all_members variable) z.0 ∙ sym f, z.1)
 
 kind_process : (k : Kind) (x y : List Terminal) → word keyword.Process ∷ x ≡ kind_terminal k ∷ y → ⊥
 kind_process kind.Integer x y e = cc
 kind_process kind.Logical x y e = cc
 
-same_declares : (d c : DeclarationTree) (ks r q : List Terminal) → leads CommaToken r ≡ false → leads CommaToken q ≡ false → Declares d ks r → Declares c ks q → (d ≡ c) × (r ≡ q)
+same_declares : (d c : DeclarationTree) (ks r q : List Terminal) → leads (a_sign mark.Comma) r ≡ false → leads (a_sign mark.Comma) q ≡ false → Declares d ks r → Declares c ks q → (d ≡ c) × (r ≡ q)
 same_declares (channels k o ns) (channels l p ms) ks r q x y (a, e) (b, f) =
     let both = sym e ∙ f in
     let s = same_kind k l _ _ both in
@@ -188,7 +188,7 @@ same_arguments [] (b ∷ ys) ks r q e (m, p, h) = absurd (not_close b ks m r p e
 same_arguments (a ∷ xs) [] ks r q (m, p, h) e = absurd (not_close a ks m q p e)
 same_arguments (a ∷ xs) (b ∷ ys) ks r q (m, p, h) (m', p', h') =
     let z = same_argues a b ks m m' p p' in
-    let w = same_further CommaToken (sign mark.Comma) Argues refl same_argues xs ys m _ _ refl refl h (subst (λ k. Further (StandsFirst (sign mark.Comma)) Argues ys k (sign mark.Close ∷ q)) (sym z.1) h') in (cc, tail_is _ _ _ _ w.1)
+    let w = same_further (a_sign mark.Comma) (sign mark.Comma) Argues refl same_argues xs ys m _ _ refl refl h (subst (λ k. Further (StandsFirst (sign mark.Comma)) Argues ys k (sign mark.Close ∷ q)) (sym z.1) h') in (cc, tail_is _ _ _ _ w.1)
 
 same_instantiates : (i j : InstanceTree) (ks r q : List Terminal) → Instantiates i ks r → Instantiates j ks q → (i ≡ j) × (r ≡ q)
 same_instantiates (instance n xs) (instance m ys) ks r q (a, e, h) (b, f, g) =
@@ -196,12 +196,12 @@ same_instantiates (instance n xs) (instance m ys) ks r q (a, e, h) (b, f, g) =
     let named : n ≡ m = cc in
     let z = same_arguments xs ys a r q h (subst (λ k. Arguments ys k (sign mark.Close ∷ q)) first g) in (cc, z.1)
 
-same_instances : (is js : List InstanceTree) (ks r q : List Terminal) → leads ParToken r ≡ false → leads ParToken q ≡ false → Instances is ks r → Instances js ks q → (is ≡ js) × (r ≡ q)
+same_instances : (is js : List InstanceTree) (ks r q : List Terminal) → leads (a_word keyword.Par) r ≡ false → leads (a_word keyword.Par) q ≡ false → Instances is ks r → Instances js ks q → (is ≡ js) × (r ≡ q)
 same_instances [] js ks r q x y h g = absurd h
 same_instances is [] ks r q x y h g = absurd g
 same_instances (i ∷ is) (j ∷ js) ks r q x y (m, p, h) (m', p', h') =
     let z = same_instantiates i j ks m m' p p' in
-    let w = same_further ParToken (word keyword.Par) Instantiates refl same_instantiates is js m r q x y h (subst (λ k. Further (StandsFirst (word keyword.Par)) Instantiates js k q) (sym z.1) h') in (cc, w.1)
+    let w = same_further (a_word keyword.Par) (word keyword.Par) Instantiates refl same_instantiates is js m r q x y h (subst (λ k. Further (StandsFirst (word keyword.Par)) Instantiates js k q) (sym z.1) h') in (cc, w.1)
 
 named_instantiates : (i : InstanceTree) (ks r : List Terminal) → Instantiates i ks r → Named ks
 named_instantiates (instance n xs) ks r (m, e, h) = let f : Named (name n ∷ sign mark.Open ∷ m) = tt in subst Named (sym e) f
@@ -210,8 +210,8 @@ pub named_instances : (is : List InstanceTree) (ks r : List Terminal) → Instan
 named_instances [] ks r h = absurd h
 named_instances (i ∷ is) ks r (m, p, h) = named_instantiates i ks m p
 
-pub no_par_end : (c d e : List Terminal) → MaybeSemicolon c d → d ≡ word keyword.End ∷ e → leads ParToken c ≡ false
-no_par_end c d e h p = ⊎_elim (λ x. ap (leads ParToken) x) (λ x. ap (leads ParToken) (x ∙ p)) h
+pub no_par_end : (c d e : List Terminal) → MaybeSemicolon c d → d ≡ word keyword.End ∷ e → leads (a_word keyword.Par) c ≡ false
+no_par_end c d e h p = ⊎_elim (λ x. ap (leads (a_word keyword.Par)) x) (λ x. ap (leads (a_word keyword.Par)) (x ∙ p)) h
 
 -- No two trees spell one list.
 pub one_tree : (t u : ProgramTree) (ks : List Terminal) → Spells t ks → Spells u ks → t ≡ u

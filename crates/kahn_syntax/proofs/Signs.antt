@@ -6,39 +6,22 @@ abbrev pub IsSignByte : ℕ → Type 0
 IsSignByte b = ((40 ≤ b) × (b ≤ 45)) ⊎ ((58 ≤ b) × (b ≤ 62)) ⊎ (194 ≤ b)
 
 pub sign_letter : (b : ℕ) → IsSignByte b → IsLetter b → ⊥
-sign_letter b (inl p) (inl q) = omega arith
-sign_letter b (inl p) (inr q) = omega arith
-sign_letter b (inr (inl p)) (inl q) = omega arith
-sign_letter b (inr (inl p)) (inr q) = omega arith
-sign_letter b (inr (inr p)) (inl q) = omega arith
-sign_letter b (inr (inr p)) (inr q) = omega arith
+sign_letter b p q = grind arith
 
 pub sign_digit : (b : ℕ) → IsSignByte b → IsDigit b → ⊥
-sign_digit b (inl p) q = omega arith
-sign_digit b (inr (inl p)) q = omega arith
-sign_digit b (inr (inr p)) q = omega arith
-
-blank_below : (b : ℕ) → IsBlank b → b < 40
-blank_below b (inl e) = omega arith
-blank_below b (inr (inl e)) = omega arith
-blank_below b (inr (inr (inl e))) = omega arith
-blank_below b (inr (inr (inr e))) = omega arith
+sign_digit b p q = grind arith
 
 pub sign_blank : (b : ℕ) → IsSignByte b → IsBlank b → ⊥
-sign_blank b (inl p) q = let h : b < 40 = blank_below b q in omega arith
-sign_blank b (inr (inl p)) q = let h : b < 40 = blank_below b q in omega arith
-sign_blank b (inr (inr p)) q = let h : b < 40 = blank_below b q in omega arith
+sign_blank b p q = grind arith
 
 pub letter_blank : (b : ℕ) → IsLetter b → IsBlank b → ⊥
-letter_blank b (inl p) q = let h : b < 40 = blank_below b q in omega arith
-letter_blank b (inr p) q = let h : b < 40 = blank_below b q in omega arith
+letter_blank b p q = grind arith
 
 pub digit_blank : (b : ℕ) → IsDigit b → IsBlank b → ⊥
-digit_blank b p q = let h : b < 40 = blank_below b q in omega arith
+digit_blank b p q = grind arith
 
 pub letter_digit : (b : ℕ) → IsLetter b → IsDigit b → ⊥
-letter_digit b (inl p) q = omega arith
-letter_digit b (inr p) q = omega arith
+letter_digit b p q = grind arith
 
 pub record Begins (text : List ℕ) (a b : ℕ) : Type 0 where
   pub grows : a < b
@@ -75,8 +58,10 @@ named_sign : (s : Sign) → sign_named (bytes_of_sign s) ≡ Some s
 named_sign Becomes = refl
 named_sign _ = refl
 
-pub same_sign : (text : List ℕ) (s t : Sign) (a b : ℕ) → IsSign text s a b → IsSign text t a b → s ≡ t
-same_sign text s t a b h k =
-    let e : bytes_of_sign s ≡ bytes_of_sign t = same_bytes text a b _ _ h k in
+pub sign_by_bytes : (s t : Sign) → bytes_of_sign s ≡ bytes_of_sign t → s ≡ t
+sign_by_bytes s t e =
     let f : Some s ≡ Some t = sym (named_sign s) ∙ (ap sign_named e ∙ named_sign t) in
     cc
+
+pub same_sign : (text : List ℕ) (s t : Sign) (a b : ℕ) → IsSign text s a b → IsSign text t a b → s ≡ t
+same_sign text s t a b h k = sign_by_bytes s t (same_bytes text a b _ _ h k)

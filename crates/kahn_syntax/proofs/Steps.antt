@@ -1,6 +1,8 @@
 -- What single terminals do to what is open.
-use Rattle.kahn_syntax.proofs.Common.{◌≡◌, ◌≢◌, ℕ, ◌+◌, ◌≤◌, ◌==◌, List, [], ◌∷◌, length, true, false, cond, Option, Some, None, refl, ap, ◌∙◌, arith, nat_le, nat_tests, Operator, Terminal, word, rank, operator_terminal, Rung, whole, ors, denials, relations, factors, at, tighter, operator_of, rank_or, Lacks, Token, takes, leads, Tail, lead, goes_on, Part, ExpressionPart, OperatorsPart, TailPart, TokenPart, LevelPart, levels, may_end, step, step_operator, again, Refuses, TooFar, onward, fate}
+use Rattle.kahn_syntax.proofs.Common.{◌≡◌, ◌≢◌, ℕ, ◌+◌, ◌≤◌, ◌==◌, ◌++◌, List, [], ◌∷◌, length, Bool, true, false, true≢false, cond, Option, Some, None, refl, sym, ap, ◌∙◌, append_assoc, arith, nat_le, nat_tests, Operator, Terminal, rank, operator_terminal, Rung, whole, ors, ands, denials, relations, sums, terms, factors, at, tighter, operator_of, rank_or, Lacks, Token, a_word, an_operator, has_rank, takes, leads, Part, ExpressionPart, OperatorsPart, TokenPart, LevelPart, Rule, rules_of, expression_rules, relation_rules, or_rules, operator_rules, enters, starts, followed, opening, levels, may_end, step, Refuses, Whole, TooFar, Fate, onward, fate}
+use Rattle.std.specs.Prelude.{is_some}
 use Rattle.kahn_syntax.specs.declared.lexeme.Keyword.TheVariants as keyword
+use Rattle.kahn_tree.specs.declared.tree.Operator.TheVariants as operator
 use Rattle.kahn_syntax.proofs.Unique.{Ends, is_operator}
 
 le_test : (a b : ℕ) → a ≤ b → nat_le a b ≡ true
@@ -18,34 +20,103 @@ go m s t k ks e h =
     ap (onward m (may_end s) (length ks + 1) (λ (u : List Part). fate m u ks)) e
     ∙ ap (λ b. cond b (fate m t ks) (TooFar (length ks + 1))) (le_test (levels t) m h)
 
--- two stacks do the same with it
-pub alike : (m : ℕ) (s t : List Part) (k : Terminal) (ks : List Terminal) → may_end s ≡ may_end t → step s k ≡ step t k → fate m s (k ∷ ks) ≡ fate m t (k ∷ ks)
-alike m s t k ks e h =
-    ap (λ b. onward m b (length ks + 1) (λ (u : List Part). fate m u ks) (step s k)) e
-    ∙ ap (onward m (may_end t) (length ks + 1) (λ (u : List Part). fate m u ks)) h
-
 pub skip_level : (m : ℕ) (s : List Part) (r : List Terminal) → fate m (LevelPart ∷ s) r ≡ fate m s r
 skip_level m s [] = refl
 skip_level m s (k ∷ r) = refl
 
--- a tail that doesn't go on
-pub skip_tail : (t : Tail) (m : ℕ) (s : List Part) (r : List Terminal) → leads (lead t) r ≡ false → fate m (TailPart t ∷ s) r ≡ fate m s r
-skip_tail t m s [] h = refl
-skip_tail t m s (k ∷ r) h = alike m (TailPart t ∷ s) s k r refl (ap (λ b. cond b (Some (goes_on t s)) (step s k)) h)
+none_of : (rs : List Rule) (k : Terminal) → is_some (enters rs k) ≡ false → enters rs k ≡ None
+none_of rs k h = by (enters rs k) h
+  where
+    by : (o : Option (List Part)) → is_some o ≡ false → o ≡ None
+    by None e = refl
+    by (Some ps) e = absurd (true≢false e)
 
-pub take_tail : (t : Tail) (m : ℕ) (s : List Part) (k : Terminal) (r : List Terminal) → takes (lead t) k ≡ true → levels (goes_on t s) ≤ m →
-    fate m (TailPart t ∷ s) (k ∷ r) ≡ fate m (goes_on t s) r
-take_tail t m s k r h b = go m (TailPart t ∷ s) (goes_on t s) k r (ap (λ b. cond b (Some (goes_on t s)) (step s k)) h) b
+-- one rule alone
+pub starts_one : (t : Token) (ps : List Part) (r : List Terminal) (b : Bool) → leads t r ≡ b → starts ((t, ps) ∷ []) r ≡ b
+starts_one t ps [] b h = h
+starts_one t ps (k ∷ r) b h = by (takes t k) ∙ h
+  where
+    by : (c : Bool) → is_some (cond c (Some ps) None) ≡ c
+    by true = refl
+    by false = refl
+
+pub starts_followed : (rs : List Rule) (after : List Part) (r : List Terminal) → starts (followed after rs) r ≡ starts rs r
+starts_followed rs after [] = refl
+starts_followed [] after (k ∷ r) = refl
+starts_followed ((t, ps) ∷ rest) after (k ∷ r) = by (takes t k) (starts_followed rest after (k ∷ r))
+  where
+    by : (b : Bool) → is_some (enters (followed after rest) k) ≡ is_some (enters rest k) → is_some (cond b (Some (ps ++ after)) (enters (followed after rest) k)) ≡ is_some (cond b (Some ps) (enters rest k))
+    by true again = refl
+    by false again = again
+
+-- the fate where a part with these rules is open above others, of which nothing may be there or not
+abbrev pub runs : ℕ → Bool → List Rule → List Part → List Terminal → Fate
+runs m n rs s [] = cond (cond n (may_end s) false) Whole (Refuses false 0)
+runs m n rs s (k ∷ r) = onward m (cond n (may_end s) false) (length r + 1) (λ (u : List Part). fate m u r) (opening s (cond n (step s k) None) (enters rs k))
+
+pub part : (p : Part) (m : ℕ) (s : List Part) (r : List Terminal) → fate m (p ∷ s) r ≡ runs m (rules_of p).0 (rules_of p).1 s r
+part p m s [] = refl
+part p m s (k ∷ r) = refl
+
+-- nothing of it is there
+pub skips : (rs : List Rule) (m : ℕ) (s : List Part) (r : List Terminal) → starts rs r ≡ false → runs m true rs s r ≡ fate m s r
+skips rs m s [] h = refl
+skips rs m s (k ∷ r) h = ap (λ o. onward m (may_end s) (length r + 1) (λ (u : List Part). fate m u r) (opening s (step s k) o)) (none_of rs k h)
+
+-- it must be there, and isn't
+pub refuses : (rs : List Rule) (m : ℕ) (s : List Part) (r : List Terminal) → starts rs r ≡ false → runs m false rs s r ≡ Refuses false (length r)
+refuses rs m s [] h = refl
+refuses rs m s (k ∷ r) h =
+    ap (λ o. onward m false (length r + 1) (λ (u : List Part). fate m u r) (opening s None o)) (none_of rs k h) ∙ ap (Refuses false) (omega arith)
+
+-- the first rules aren't those that have the terminal
+pub passes : (front rs : List Rule) (m : ℕ) (n : Bool) (s : List Part) (r : List Terminal) → starts front r ≡ false → runs m n (front ++ rs) s r ≡ runs m n rs s r
+passes front rs m n s [] h = refl
+passes front rs m n s (k ∷ r) h =
+    ap (λ o. onward m (cond n (may_end s) false) (length r + 1) (λ (u : List Part). fate m u r) (opening s (cond n (step s k) None) o)) (later front h)
+  where
+    later : (f : List Rule) → is_some (enters f k) ≡ false → enters (f ++ rs) k ≡ enters rs k
+    later [] e = refl
+    later ((t, ps) ∷ f) e = by (takes t k) e (λ g. later f g)
+      where
+        by : (b : Bool) → is_some (cond b (Some ps) (enters f k)) ≡ false → (is_some (enters f k) ≡ false → enters (f ++ rs) k ≡ enters rs k) → cond b (Some ps) (enters (f ++ rs) k) ≡ enters rs k
+        by true g again = absurd (true≢false g)
+        by false g again = again g
+
+pub passes_one : (t : Token) (ps : List Part) (rs : List Rule) (m : ℕ) (s : List Part) (r : List Terminal) → leads t r ≡ false → runs m false ((t, ps) ∷ rs) s r ≡ runs m false rs s r
+passes_one t ps rs m s r h = passes ((t, ps) ∷ []) rs m false s r (starts_one t ps r false h)
+
+-- rules that are followed by parts do what they do above these
+followed_opens : (rs : List Rule) (after s : List Part) (k : Terminal) (o : Option (List Part)) → opening s o (enters (followed after rs) k) ≡ opening (after ++ s) o (enters rs k)
+followed_opens [] after s k o = refl
+followed_opens ((t, ps) ∷ rest) after s k o = by (takes t k) (followed_opens rest after s k o)
+  where
+    by : (b : Bool) → opening s o (enters (followed after rest) k) ≡ opening (after ++ s) o (enters rest k) →
+        opening s o (cond b (Some (ps ++ after)) (enters (followed after rest) k)) ≡ opening (after ++ s) o (cond b (Some ps) (enters rest k))
+    by true again = ap Some (append_assoc ps after s)
+    by false again = again
+
+pub follows : (rs : List Rule) (after : List Part) (m : ℕ) (s : List Part) (r : List Terminal) → runs m false (followed after rs) s r ≡ runs m false rs (after ++ s) r
+follows rs after m s [] = refl
+follows rs after m s (k ∷ r) = ap (onward m false (length r + 1) (λ (u : List Part). fate m u r)) (followed_opens rs after s k None)
+
+pub follows_some : (rs : List Rule) (after : List Part) (m : ℕ) (n : Bool) (s : List Part) (r : List Terminal) → starts rs r ≡ true → runs m n (followed after rs) s r ≡ runs m false rs (after ++ s) r
+follows_some rs after m n s [] h = absurd (true≢false (sym h))
+follows_some rs after m n s (k ∷ r) h =
+    ap (onward m (cond n (may_end s) false) (length r + 1) (λ (u : List Part). fate m u r)) (followed_opens rs after s k (cond n (step s k) None)) ∙ by (enters rs k) h
+  where
+    by : (o : Option (List Part)) → is_some o ≡ true → onward m (cond n (may_end s) false) (length r + 1) (λ (u : List Part). fate m u r) (opening (after ++ s) (cond n (step s k) None) o)
+        ≡ onward m false (length r + 1) (λ (u : List Part). fate m u r) (opening (after ++ s) None o)
+    by None e = absurd (true≢false (sym e))
+    by (Some ps) e = refl
+
+-- a tail that doesn't go on
+pub skip_tail : (p : Part) (t : Token) (ps : List Part) (m : ℕ) (s : List Part) (r : List Terminal) → rules_of p ≡ (true, (t, ps) ∷ []) → leads t r ≡ false → fate m (p ∷ s) r ≡ fate m s r
+skip_tail p t ps m s r e h = part p m s r ∙ (ap (λ x. runs m x.0 x.1 s r) e ∙ skips ((t, ps) ∷ []) m s r (starts_one t ps r false h))
 
 pub take_token : (t : Token) (m : ℕ) (s : List Part) (k : Terminal) (r : List Terminal) → takes t k ≡ true → levels s ≤ m →
     fate m (TokenPart t ∷ s) (k ∷ r) ≡ fate m s r
-take_token t m s k r h b = go m (TokenPart t ∷ s) s k r (ap (λ b. cond b (Some s) None) h) b
-
--- a token that isn't there
-pub no_token : (t : Token) (m : ℕ) (s : List Part) (ks : List Terminal) → leads t ks ≡ false → fate m (TokenPart t ∷ s) ks ≡ Refuses false (length ks)
-no_token t m s [] h = refl
-no_token t m s (k ∷ r) h =
-    ap (onward m false (length r + 1) (λ (u : List Part). fate m u r)) (ap (λ b. cond b (Some s) None) h) ∙ ap (Refuses false) (omega arith)
+take_token t m s k r h b = go m (TokenPart t ∷ s) s k r (ap (λ b. opening s None (cond b (Some []) None)) h) b
 
 -- Expressions of a level that has operators
 abbrev pub IsChain : Rung → Type 0
@@ -59,47 +130,63 @@ pub open_chain : (l : Rung) (m : ℕ) (s : List Part) (ks : List Terminal) → I
 open_chain whole m s ks h = absurd h
 open_chain denials m s ks h = absurd h
 open_chain factors m s ks h = absurd h
-open_chain _ m s [] h = refl
-open_chain _ m s (k ∷ r) h = refl
+open_chain l m s ks h =
+    part (ExpressionPart l) m s ks ∙ (follows (expression_rules (tighter l)) (OperatorsPart l ∷ []) m s ks ∙ sym (part (ExpressionPart (tighter l)) m (OperatorsPart l ∷ s) ks))
 
 -- what doesn't begin with `if`
-pub open_whole : (m : ℕ) (s : List Part) (ks : List Terminal) → ((x : List Terminal) → ks ≡ word keyword.If ∷ x → ⊥) →
-    fate m (ExpressionPart whole ∷ s) ks ≡ fate m (ExpressionPart ors ∷ s) ks
-open_whole m s [] h = refl
-open_whole m s (word keyword.If ∷ r) h = absurd (h r refl)
-open_whole m s (k ∷ r) h = refl
+pub open_whole : (m : ℕ) (s : List Part) (ks : List Terminal) → leads (a_word keyword.If) ks ≡ false → fate m (ExpressionPart whole ∷ s) ks ≡ fate m (ExpressionPart ors ∷ s) ks
+open_whole m s ks h = part (ExpressionPart whole) m s ks ∙ (passes_one (a_word keyword.If) _ or_rules m s ks h ∙ sym (part (ExpressionPart ors) m s ks))
 
 -- what doesn't begin with `not`
-pub open_denial : (m : ℕ) (s : List Part) (ks : List Terminal) → ((x : List Terminal) → ks ≡ word keyword.Not ∷ x → ⊥) →
-    fate m (ExpressionPart denials ∷ s) ks ≡ fate m (ExpressionPart relations ∷ s) ks
-open_denial m s [] h = refl
-open_denial m s (word keyword.Not ∷ r) h = absurd (h r refl)
-open_denial m s (k ∷ r) h = refl
+pub open_denial : (m : ℕ) (s : List Part) (ks : List Terminal) → leads (a_word keyword.Not) ks ≡ false → fate m (ExpressionPart denials ∷ s) ks ≡ fate m (ExpressionPart relations ∷ s) ks
+open_denial m s ks h =
+    part (ExpressionPart denials) m s ks ∙ (passes_one (a_word keyword.Not) _ relation_rules m s ks h ∙ sym (part (ExpressionPart relations) m s ks))
 
-skips : (l : Rung) (s : List Part) (other : Option (List Part)) (o : Option Operator) → rank_or o ≢ at l → step_operator l s other o ≡ other
-skips l s other None h = refl
-skips l s other (Some o) h = ap (λ b. cond b (Some (ExpressionPart (tighter l) ∷ again l s)) other) (other_test (rank o) (at l) h)
+lacks_leads : (o : Operator) (r : List Terminal) → Lacks (rank o) r → leads (an_operator o) r ≡ false
+lacks_leads o [] h = refl
+lacks_leads o (k ∷ r) h = by (operator_of k) h
+  where
+    by : (p : Option Operator) → rank_or p ≢ rank o → has_rank (rank o) p ≡ false
+    by None e = refl
+    by (Some p) e = other_test (rank p) (rank o) e
+
+no_starts : (r : List Terminal) → starts [] r ≡ false
+no_starts [] = refl
+no_starts (k ∷ r) = refl
 
 pub skip_operators : (l : Rung) (m : ℕ) (s : List Part) (r : List Terminal) → Lacks (at l) r → fate m (OperatorsPart l ∷ s) r ≡ fate m s r
-skip_operators l m s [] h = refl
-skip_operators l m s (k ∷ r) h = alike m (OperatorsPart l ∷ s) s k r refl (skips l s (step s k) (operator_of k) h)
+skip_operators ors m s r h = skip_tail (OperatorsPart ors) (an_operator operator.Or) _ m s r refl (lacks_leads operator.Or r h)
+skip_operators ands m s r h = skip_tail (OperatorsPart ands) (an_operator operator.And) _ m s r refl (lacks_leads operator.And r h)
+skip_operators relations m s r h = skip_tail (OperatorsPart relations) (an_operator operator.Equal) _ m s r refl (lacks_leads operator.Equal r h)
+skip_operators sums m s r h = skip_tail (OperatorsPart sums) (an_operator operator.Add) _ m s r refl (lacks_leads operator.Add r h)
+skip_operators terms m s r h = skip_tail (OperatorsPart terms) (an_operator operator.Multiply) _ m s r refl (lacks_leads operator.Multiply r h)
+skip_operators l m s r h = part (OperatorsPart l) m s r ∙ skips [] m s r (no_starts r)
 
 pub ends_lacks : (n : ℕ) (r : List Terminal) → Ends n r → Lacks n r
 ends_lacks n [] h = tt
 ends_lacks n (k ∷ r) h = λ e. omega (arith, h, e)
 
-levels_again : (l : Rung) (s : List Part) → levels (again l s) ≡ levels s
-levels_again whole s = refl
-levels_again _ s = refl
+-- an operator of a level
+take : (l : Rung) (n : Operator) (ps : List Part) (m : ℕ) (s : List Part) (o : Operator) (r : List Terminal) → operator_rules l ≡ (an_operator n, ps) ∷ [] → rank o ≡ rank n → levels (ps ++ s) ≤ m →
+    fate m (OperatorsPart l ∷ s) (operator_terminal o ∷ r) ≡ fate m (ps ++ s) r
+take l n ps m s o r e h b =
+    go m (OperatorsPart l ∷ s) (ps ++ s) (operator_terminal o) r
+    (ap (λ x. opening s (step s (operator_terminal o)) (enters x (operator_terminal o))) e
+    ∙ ap (λ b. opening s (step s (operator_terminal o)) (cond b (Some ps) None)) (ap (has_rank (rank n)) (is_operator o) ∙ same_test (rank o) (rank n) h)) b
 
-takes_operator : (l : Rung) (s : List Part) (other : Option (List Part)) (o : Operator) (p : Option Operator) → p ≡ Some o → rank o ≡ at l →
-    step_operator l s other p ≡ Some (ExpressionPart (tighter l) ∷ again l s)
-takes_operator l s other o p e h =
-    ap (step_operator l s other) e ∙ ap (λ b. cond b (Some (ExpressionPart (tighter l) ∷ again l s)) other) (same_test (rank o) (at l) h)
+pub take_comparison : (m : ℕ) (s : List Part) (o : Operator) (r : List Terminal) → rank o ≡ 4 → levels s ≤ m →
+    fate m (OperatorsPart relations ∷ s) (operator_terminal o ∷ r) ≡ fate m (ExpressionPart sums ∷ s) r
+take_comparison m s o r h b = take relations operator.Equal (ExpressionPart sums ∷ []) m s o r refl h b
 
--- an operator of this level
-pub take_operator : (l : Rung) (m : ℕ) (s : List Part) (o : Operator) (r : List Terminal) → rank o ≡ at l → levels s ≤ m →
-    fate m (OperatorsPart l ∷ s) (operator_terminal o ∷ r) ≡ fate m (ExpressionPart (tighter l) ∷ again l s) r
-take_operator l m s o r h b =
-    go m (OperatorsPart l ∷ s) (ExpressionPart (tighter l) ∷ again l s) (operator_terminal o) r
-    (takes_operator l s (step s (operator_terminal o)) o (operator_of (operator_terminal o)) (is_operator o) h) (omega (arith, levels_again l s, b))
+-- levels of which operators may follow one another
+abbrev pub IsOther : Rung → Type 0
+IsOther relations = ⊥
+IsOther l = IsChain l
+
+pub take_operator : (l : Rung) (m : ℕ) (s : List Part) (o : Operator) (r : List Terminal) → IsOther l → rank o ≡ at l → levels s ≤ m →
+    fate m (OperatorsPart l ∷ s) (operator_terminal o ∷ r) ≡ fate m (ExpressionPart (tighter l) ∷ OperatorsPart l ∷ s) r
+take_operator ors m s o r c h b = take ors operator.Or _ m s o r refl h b
+take_operator ands m s o r c h b = take ands operator.And _ m s o r refl h b
+take_operator sums m s o r c h b = take sums operator.Add _ m s o r refl h b
+take_operator terms m s o r c h b = take terms operator.Multiply _ m s o r refl h b
+take_operator _ m s o r c h b = absurd c

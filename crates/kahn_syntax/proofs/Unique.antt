@@ -1,5 +1,5 @@
 -- No two trees spell one list: expressions.
-use Rattle.kahn_syntax.proofs.Common.{◌≡◌, ℕ, zero, suc, ◌+◌, ◌*◌, ◌≤◌, ◌<◌, ◌≢◌, List, [], ◌∷◌, true, false, Some, ◌⊎◌, ⊎_elim, refl, sym, ap, ◌∙◌, subst, arith, nat_tests, Operator, Terminal, word, sign, ExpressionTree, number, truth, variable, wait, negation, denial, bracket, level, conditional, OperandTrees, no_operand, operand, operator_terminal, expression_words, operands_words, expression_nesting, operands_nesting, rank, IsOne, Formed, FormedOperands, Fits, joined, operator_of, rank_or, Rung, whole, ors, ands, denials, relations, sums, terms, factors, at}
+use Rattle.kahn_syntax.proofs.Common.{◌≡◌, ℕ, zero, suc, ◌+◌, ◌*◌, ◌≤◌, ◌<◌, ◌≢◌, List, [], ◌∷◌, true, false, Some, ◌⊎◌, ⊎_elim, refl, sym, ap, ◌∙◌, subst, arith, nat_tests, Operator, Terminal, word, sign, ExpressionTree, number, truth, variable, wait, negation, denial, bracket, level, conditional, OperandTrees, no_operand, operand, operator_terminal, expression_words, operands_words, expression_nesting, operands_nesting, rank, IsOne, Formed, FormedOperands, Fits, joined, operator_of, rank_or, leads, a_word, true≢false, Rung, whole, ors, ands, denials, relations, sums, terms, factors, at}
 use Rattle.kahn_syntax.specs.declared.lexeme.Keyword.TheVariants as keyword
 use Rattle.kahn_syntax.specs.declared.lexeme.Sign.TheVariants as mark
 use Rattle.kahn_tree.specs.declared.tree.Operator.TheVariants as operator
@@ -107,13 +107,6 @@ pub le_or : (a b : ℕ) → (a ≤ b) ⊎ (b < a)
 le_or a b = grind (arith, nat_tests)
 
 pub split : (n : ℕ) (t : ExpressionTree) → 0 < n → n ≢ 3 → n ≤ 6 → Fits n t → Split n t
-split n (number z) a b c f = alone n (number z) (omega arith, tt)
-split n (truth z) a b c f = alone n (truth z) (omega arith, tt)
-split n (variable z) a b c f = alone n (variable z) (omega arith, tt)
-split n (wait z) a b c f = alone n (wait z) (omega arith, tt)
-split n (negation e) a b c f = alone n (negation e) (omega arith, f.1)
-split n (bracket e) a b c f = alone n (bracket e) (omega arith, f.1)
-split n (denial e) a b c f = alone n (denial e) (omega (arith, f.0), f.1)
 split n (conditional x y z) a b c f = absurd (omega (arith, f.0))
 split n (level e no_operand) a b c f = absurd (omega (arith, f.0))
 split n (level e (operand o g os)) a b c f =
@@ -131,6 +124,7 @@ split n (level e (operand o g os)) a b c f =
       one = λ e. f.1.4 (same ∙ e);
     })
     (le_or (n + 1) (rank o))
+split n t a b c f = alone n t (omega (arith, f.0), f.1)
 
 same_operands : (k n : ℕ) (l : Rung) → Known k → at l ≡ n + 1 → stop l ≡ n + 1 → above l ≤ 7 → (os ps : OperandTrees) (r q : List Terminal) → 8 * sizes os ≤ k →
     FormedOperands n os → FormedOperands n ps → Ends n r → Ends n q → operands_words os r ≡ operands_words ps q → (os ≡ ps) × (r ≡ q)
@@ -156,19 +150,19 @@ chain k n l known a s v c d b t u r q small f g x y e =
     (i.is ∙ ap (λ m. joined m i.rest) z.0 ∙ ap (joined j.first) w.0 ∙ sym j.is, w.1)
 
 -- nothing but a conditional expression begins with `if`
-pub no_if : (t : ExpressionTree) (r x : List Terminal) → Fits 1 t → expression_words t r ≡ word keyword.If ∷ x → ⊥
-no_if (conditional a b c) r x f e = absurd (omega (arith, f.0))
-no_if (level t os) r x f e = no_if t (operands_words os r) x (omega (arith, f.0, f.1.0), f.1.1) e
-no_if (truth true) r x f e = absurd cc
-no_if _ r x f e = absurd cc
+pub no_if : (t : ExpressionTree) (r : List Terminal) → Fits 1 t → leads (a_word keyword.If) (expression_words t r) ≡ false
+no_if (conditional a b c) r f = absurd (omega (arith, f.0))
+no_if (level t os) r f = no_if t (operands_words os r) (omega (arith, f.0, f.1.0), f.1.1)
+no_if (truth true) r f = refl
+no_if _ r f = refl
 
 -- nothing tighter than a denial begins with `not`
-pub no_not : (t : ExpressionTree) (r x : List Terminal) → Fits 4 t → expression_words t r ≡ word keyword.Not ∷ x → ⊥
-no_not (denial t) r x f e = absurd (omega (arith, f.0))
-no_not (conditional a b c) r x f e = absurd (omega (arith, f.0))
-no_not (level t os) r x f e = no_not t (operands_words os r) x (omega (arith, f.0, f.1.0), f.1.1) e
-no_not (truth true) r x f e = absurd cc
-no_not _ r x f e = absurd cc
+pub no_not : (t : ExpressionTree) (r : List Terminal) → Fits 4 t → leads (a_word keyword.Not) (expression_words t r) ≡ false
+no_not (denial t) r f = absurd (omega (arith, f.0))
+no_not (conditional a b c) r f = absurd (omega (arith, f.0))
+no_not (level t os) r f = no_not t (operands_words os r) (omega (arith, f.0, f.1.0), f.1.1)
+no_not (truth true) r f = refl
+no_not _ r f = refl
 
 -- a conditional expression, or one of a tighter level
 pub data Whole (t : ExpressionTree) : Type 0 where
@@ -176,12 +170,9 @@ pub data Whole (t : ExpressionTree) : Type 0 where
   is_tighter : Fits 1 t → Whole t
 
 pub open_whole : (t : ExpressionTree) → Fits 0 t → Whole t
-open_whole (negation t) f = is_tighter (omega arith, f.1)
-open_whole (bracket t) f = is_tighter (omega arith, f.1)
-open_whole (denial t) f = is_tighter (omega arith, f.1)
 open_whole (level t os) f = is_tighter (omega (arith, f.1.2), f.1)
 open_whole (conditional a b c) f = is_if a b c refl f.1.0 f.1.1 f.1.2 (omega arith)
-open_whole _ f = is_tighter (omega arith, tt)
+open_whole _ f = is_tighter (omega arith, f.1)
 
 pub data Denial (t : ExpressionTree) : Type 0 where
   is_not : (a : ExpressionTree) → t ≡ denial a → Fits 3 a → size a + 1 ≤ size t → Denial t
@@ -195,12 +186,10 @@ open_level t (operand o e os) f = is_relation (strict (rank o) f.0 (rank_within 
     strict n a b = omega (arith, a, b)
 
 pub open_denial : (t : ExpressionTree) → Fits 3 t → Denial t
-open_denial (negation t) f = is_relation (omega arith, f.1)
-open_denial (bracket t) f = is_relation (omega arith, f.1)
 open_denial (conditional a b c) f = absurd (omega (arith, f.0))
 open_denial (denial a) f = is_not a refl f.1 (omega arith)
 open_denial (level t os) f = open_level t os f
-open_denial _ f = is_relation (omega arith, tt)
+open_denial _ f = is_relation (omega arith, f.1)
 
 pub level_low : (t : ExpressionTree) (os : OperandTrees) → Fits 7 (level t os) → ⊥
 level_low t no_operand f = absurd (omega (arith, f.0))
@@ -233,8 +222,8 @@ same_whole k known t u r q s f g x y e = cases (open_whole t f) (open_whole u g)
   where
     cases : Whole t → Whole u → Same t u r q
     cases (is_tighter i) (is_tighter j) = known ors t u r q (omega arith) i j x y e
-    cases (is_if a b c p fa fb fc n) (is_tighter j) = absurd (no_if u q _ j (sym e ∙ ap (λ z. expression_words z r) p))
-    cases (is_tighter i) (is_if a b c p fa fb fc n) = absurd (no_if t r _ i (e ∙ ap (λ z. expression_words z q) p))
+    cases (is_if a b c p fa fb fc n) (is_tighter j) = absurd (true≢false (ap (leads (a_word keyword.If)) (ap (λ z. expression_words z r) (sym p) ∙ e) ∙ no_if u q j))
+    cases (is_tighter i) (is_if a b c p fa fb fc n) = absurd (true≢false (ap (leads (a_word keyword.If)) (ap (λ z. expression_words z q) (sym p) ∙ sym e) ∙ no_if t r i))
     cases (is_if a b c p fa fb fc n) (is_if a' b' c' p' ga gb gc n') =
         let both : word keyword.If ∷ expression_words a (word keyword.Then ∷ expression_words b (word keyword.Else ∷ expression_words c r))
         ≡ word keyword.If ∷ expression_words a' (word keyword.Then ∷ expression_words b' (word keyword.Else ∷ expression_words c' q)) =
@@ -250,8 +239,8 @@ same_denial k known t u r q s f g x y e = cases (open_denial t f) (open_denial u
   where
     cases : Denial t → Denial u → Same t u r q
     cases (is_relation i) (is_relation j) = known relations t u r q (omega arith) i j (ends_more 3 4 r (omega arith) x) (ends_more 3 4 q (omega arith) y) e
-    cases (is_not a p fa n) (is_relation j) = absurd (no_not u q _ j (sym e ∙ ap (λ z. expression_words z r) p))
-    cases (is_relation i) (is_not a p fa n) = absurd (no_not t r _ i (e ∙ ap (λ z. expression_words z q) p))
+    cases (is_not a p fa n) (is_relation j) = absurd (true≢false (ap (leads (a_word keyword.Not)) (ap (λ z. expression_words z r) (sym p) ∙ e) ∙ no_not u q j))
+    cases (is_relation i) (is_not a p fa n) = absurd (true≢false (ap (leads (a_word keyword.Not)) (ap (λ z. expression_words z q) (sym p) ∙ sym e) ∙ no_not t r i))
     cases (is_not a p fa n) (is_not a' p' ga n') =
         let both : word keyword.Not ∷ expression_words a r ≡ word keyword.Not ∷ expression_words a' q =
         ap (λ z. expression_words z r) (sym p) ∙ e ∙ ap (λ z. expression_words z q) p' in

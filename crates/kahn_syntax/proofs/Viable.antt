@@ -1,9 +1,8 @@
 -- What is open can be completed, and what is read is the beginning of trees for it.
-use Rattle.kahn_syntax.proofs.Common.{◌≡◌, ℕ, ◌+◌, ◌≤◌, ◌<◌, ◌==◌, ℤ, pos, List, [], ◌∷◌, Bool, true, false, cond, Option, Some, None, refl, sym, ap, ◌∙◌, subst, arith, ⊎_elim, ◌⊎◌, inl, inr, true≢false, Further, Grouped, group, all_members, IsGroup, AreGroups, nat_tests, Kind, Role, Taking, Operator, Terminal, word, sign, name, ExpressionTree, number, truth, variable, wait, negation, denial, bracket, conditional, OperandTrees, no_operand, operand, StatementTree, empty, assign, send, print, block, if_then, if_else, while_do, repeat, StatementTrees, no_statement, statement, operator_terminal, rank, expression_words, operands_words, statement_words, further_words, expression_nesting, operands_nesting, statement_nesting, statements_nesting, FormedOperands, FormedStatement, FormedStatements, IsSimple, DeclarationTree, channels, process, ArgumentTree, channel, InstanceTree, instance, kind_terminal, role_words, taking_words, further_names_words, group_words, groups_words, further_groups_words, togethers_words, Declares, Declarations, Argues, Arguments, Instantiates, Instances, MaybeSemicolon, declaration_nesting, declarations_nesting, StandsFirst, joined, Rung, whole, ors, ands, denials, relations, sums, terms, factors, at, tighter, operator_of, Token, BecomesToken, BeginToken, ChannelToken, CloseToken, CommaToken, DoToken, ElseToken, EndToken, IfToken, NameToken, NotToken, NumberToken, OnToken, OpenToken, ParToken, ProcessToken, SemicolonToken, ThenToken, takes, Tail, NamesTail, StatementsTail, GroupsTail, ArgumentsTail, InstancesTail, ElseTail, LastTail, lead, goes_on, Part, ProgramPart, DeclarationsPart, DeclarationPart, ProcessPart, RolePart, GroupsPart, GroupPart, TakingPart, VariablesPart, StatementPart, SimplePart, ExpressionPart, OperatorsPart, InstancePart, ArgumentsPart, ArgumentPart, TailPart, TokenPart, LevelPart, levels, may_end, channels_then, step, step_factor, step_relation, step_denial, step_or, step_whole, step_expression, again, step_operator, step_simple, step_statement, step_process, step_declaration, step_declarations, step_role, step_taking, step_kind, step_instance, step_argument, step_arguments, step_program, class_of, Class}
+use Rattle.kahn_syntax.proofs.Common.{◌<◌, ◌≡◌, ℕ, ◌+◌, ◌≤◌, ◌==◌, ℤ, pos, List, [], ◌∷◌, Bool, true, false, cond, Option, Some, None, refl, sym, ap, ◌∙◌, subst, arith, ⊎_elim, ◌⊎◌, inl, inr, true≢false, Further, Grouped, group, all_members, IsGroup, AreGroups, nat_tests, Kind, Role, Taking, Operator, Terminal, word, sign, name, ExpressionTree, number, truth, variable, wait, negation, denial, bracket, conditional, OperandTrees, no_operand, operand, StatementTree, empty, assign, send, print, block, if_then, if_else, while_do, repeat, StatementTrees, no_statement, statement, operator_terminal, rank, expression_words, operands_words, statement_words, further_words, expression_nesting, operands_nesting, statement_nesting, statements_nesting, FormedOperands, FormedStatement, FormedStatements, IsSimple, DeclarationTree, channels, process, ArgumentTree, channel, InstanceTree, instance, kind_terminal, role_words, taking_words, further_names_words, group_words, groups_words, further_groups_words, togethers_words, Declares, Declarations, Argues, Arguments, Instantiates, Instances, MaybeSemicolon, declaration_nesting, declarations_nesting, StandsFirst, joined, Rung, whole, ors, ands, denials, relations, sums, terms, factors, at, tighter, operator_of, Token, takes, NamesTail, StatementsTail, GroupsTail, ArgumentsTail, InstancesTail, ElseTail, LastTail, Part, ProgramPart, DeclarationsPart, DeclarationPart, ProcessPart, RolePart, GroupsPart, GroupPart, TakingPart, VariablesPart, StatementPart, SimplePart, ExpressionPart, OperatorsPart, InstancePart, ArgumentsPart, ArgumentPart, TokenPart, LevelPart, levels, may_end, step, opening, enters, followed, rules_of, Rule, process_rules, declaration_rules, group_rules, simple_rules, other_rules, argument_rules, factor_rules, operand_rules, relation_rules, denial_rules, or_rules, expression_rules, operator_rules, either, an_operator, has_letters_of, has_rank, letters_of, bytes_of_sign, bytes_eq, truth_terminal, append_assoc, Keyword, Sign, ◌++◌, a_sign, a_word, a_name, a_number}
 use Rattle.std.specs.Prelude.{neg_ℤ}
 use Rattle.kahn_syntax.specs.declared.lexeme.Keyword.TheVariants as keyword
 use Rattle.kahn_syntax.specs.declared.lexeme.Sign.TheVariants as mark
-use Rattle.kahn_syntax.specs.declared.lexeme.Class.TheVariants as class
 use Rattle.kahn_tree.specs.declared.tree.Kind.TheVariants as kind
 use Rattle.kahn_tree.specs.declared.tree.Role.TheVariants as role
 use Rattle.kahn_tree.specs.declared.tree.Direction.TheVariants as direction
@@ -13,28 +12,23 @@ use Rattle.kahn_syntax.specs.Terminals as terminal
 use Rattle.kahn_syntax.specs.Programs as tree
 use Rattle.kahn_syntax.specs.inner.Reads as reads
 use Rattle.kahn_syntax.proofs.Levels.{joined_words, joined_nesting}
-use Rattle.kahn_syntax.proofs.Unique.{IsNoneOrOne, rank_within}
+use Rattle.kahn_syntax.proofs.Unique.{IsNoneOrOne}
 use Rattle.kahn_syntax.proofs.Steps.{IsChain}
-use Rattle.kahn_syntax.proofs.WholePrograms.{process_then, arguments_then}
+use Rattle.kahn_syntax.proofs.Keywords.{same_keyword}
+use Rattle.kahn_syntax.proofs.Signs.{sign_by_bytes}
+use Rattle.std.proofs.lemmas.Slice.Eq.{bytes_eq-Decides}
 
 abbrev pub Lists : Type 1
 Lists = List Terminal → Type 0
 
-abbrev of_class : Option Class → Terminal
-of_class (Some (class.Word w)) = word w
-of_class (Some (class.Sign s)) = sign s
-of_class _ = name []
-
-abbrev token_terminal : Token → Terminal
-token_terminal NotToken = word keyword.Not
-token_terminal NumberToken = terminal.number (pos 0)
-token_terminal t = of_class (class_of t)
-
 -- the token, then what comes after
 abbrev pub One : Token → Lists → Lists
-One NameToken Next ks = (n : List ℕ) × (r : List Terminal) × (ks ≡ name n ∷ r) × Next r
-One NumberToken Next ks = (z : ℤ) × (r : List Terminal) × (ks ≡ terminal.number z ∷ r) × Next r
-One t Next ks = (r : List Terminal) × (ks ≡ token_terminal t ∷ r) × Next r
+One a_name Next ks = (n : List ℕ) × (r : List Terminal) × (ks ≡ name n ∷ r) × Next r
+One a_number Next ks = (z : ℤ) × (r : List Terminal) × (ks ≡ terminal.number z ∷ r) × Next r
+One (a_word w) Next ks = (r : List Terminal) × (ks ≡ word w ∷ r) × Next r
+One (either v w) Next ks = (r : List Terminal) × ((ks ≡ word v ∷ r) ⊎ (ks ≡ word w ∷ r)) × Next r
+One (a_sign g) Next ks = (r : List Terminal) × (ks ≡ sign g ∷ r) × Next r
+One (an_operator o) Next ks = (p : Operator) × (r : List Terminal) × (rank p ≡ rank o) × (ks ≡ operator_terminal p ∷ r) × Next r
 
 -- a tree that is spelled from here to there, then what comes after
 abbrev pub Via : (T : Type 0) → (T → List Terminal → List Terminal → Type 0) → Lists → Lists
@@ -77,40 +71,18 @@ Fits m (OperatorsPart l ∷ s) ks = Via OperandTrees (Operands l (levels s) m) (
 Fits m (InstancePart ∷ s) ks = Via InstanceTree Instantiates (Fits m s) ks
 Fits m (ArgumentsPart ∷ s) ks = Via (List ArgumentTree) (λ xs x r. Arguments xs x (sign mark.Close ∷ r)) (Fits m s) ks
 Fits m (ArgumentPart ∷ s) ks = Via ArgumentTree Argues (Fits m s) ks
-Fits m (TailPart NamesTail ∷ s) ks = Via (List (List ℕ)) (λ ns x r. x ≡ further_names_words ns r) (Fits m s) ks
-Fits m (TailPart StatementsTail ∷ s) ks = Via StatementTrees (FurtherStatements (levels s) m) (Fits m s) ks
-Fits m (TailPart GroupsTail ∷ s) ks = Via (List (Grouped Taking (List ℕ))) (λ gs x r. AreGroups gs × (x ≡ further_groups_words gs r)) (Fits m s) ks
-Fits m (TailPart ArgumentsTail ∷ s) ks = Via (List ArgumentTree) (Further (StandsFirst (sign mark.Comma)) Argues) (Fits m s) ks
-Fits m (TailPart InstancesTail ∷ s) ks = Via (List InstanceTree) (Further (StandsFirst (word keyword.Par)) Instantiates) (Fits m s) ks
-Fits m (TailPart ElseTail ∷ s) ks = Fits m s ks ⊎ Via StatementTree (λ t x r. (x ≡ word keyword.Else ∷ statement_words t r) × FormedStatement t × (levels s + statement_nesting t ≤ m)) (Fits m s) ks
-Fits m (TailPart LastTail ∷ s) ks = (r : List Terminal) × MaybeSemicolon ks r × Fits m s r
+Fits m (NamesTail ∷ s) ks = Via (List (List ℕ)) (λ ns x r. x ≡ further_names_words ns r) (Fits m s) ks
+Fits m (StatementsTail ∷ s) ks = Via StatementTrees (FurtherStatements (levels s) m) (Fits m s) ks
+Fits m (GroupsTail ∷ s) ks = Via (List (Grouped Taking (List ℕ))) (λ gs x r. AreGroups gs × (x ≡ further_groups_words gs r)) (Fits m s) ks
+Fits m (ArgumentsTail ∷ s) ks = Via (List ArgumentTree) (Further (StandsFirst (sign mark.Comma)) Argues) (Fits m s) ks
+Fits m (InstancesTail ∷ s) ks = Via (List InstanceTree) (Further (StandsFirst (word keyword.Par)) Instantiates) (Fits m s) ks
+Fits m (ElseTail ∷ s) ks = Fits m s ks ⊎ Via StatementTree (λ t x r. (x ≡ word keyword.Else ∷ statement_words t r) × FormedStatement t × (levels s + statement_nesting t ≤ m)) (Fits m s) ks
+Fits m (LastTail ∷ s) ks = (r : List Terminal) × MaybeSemicolon ks r × Fits m s r
 Fits m (TokenPart t ∷ s) ks = One t (Fits m s) ks
 Fits m (LevelPart ∷ s) ks = Fits m s ks
 
--- what this may lead to goes back to the goal
-abbrev Leads : ℕ → Lists → Option (List Part) → Type 0
-Leads m Goal None = Unit {0}
-Leads m Goal (Some t) = (ks : List Terminal) → Fits m t ks → Goal ks
-
-leads_map : (m : ℕ) (P Q : Lists) (o : Option (List Part)) → ((ks : List Terminal) → P ks → Q ks) → Leads m P o → Leads m Q o
-leads_map m P Q None f h = tt
-leads_map m P Q (Some t) f h = λ ks x. f ks (h ks x)
-
 -- a part of which nothing is there
-abbrev Nullable : Part → Type 0
-Nullable DeclarationsPart = Unit {0}
-Nullable RolePart = Unit {0}
-Nullable GroupsPart = Unit {0}
-Nullable TakingPart = Unit {0}
-Nullable VariablesPart = Unit {0}
-Nullable StatementPart = Unit {0}
-Nullable SimplePart = Unit {0}
-Nullable (OperatorsPart l) = Unit {0}
-Nullable (TailPart t) = Unit {0}
-Nullable LevelPart = Unit {0}
-Nullable _ = ⊥
-
-skip : (p : Part) (m : ℕ) (s : List Part) (ks : List Terminal) → Nullable p → levels s ≤ m → Fits m s ks → Fits m (p ∷ s) ks
+skip : (p : Part) (m : ℕ) (s : List Part) (ks : List Terminal) → (rules_of p).0 ≡ true → levels s ≤ m → Fits m s ks → Fits m (p ∷ s) ks
 skip DeclarationsPart m s ks n b h = ([], ks, (refl, omega (arith, b)), h)
 skip RolePart m s ks n b h = (role.Inner, ks, refl, h)
 skip GroupsPart m s ks n b h = ([], ks, (tt, refl), h)
@@ -119,143 +91,15 @@ skip VariablesPart m s ks n b h = ([], ks, (tt, refl), h)
 skip StatementPart m s ks n b h = (empty, ks, (refl, tt, omega (arith, b)), h)
 skip SimplePart m s ks n b h = (empty, ks, (refl, tt, tt, omega (arith, b)), h)
 skip (OperatorsPart l) m s ks n b h = (no_operand, ks, (refl, tt, (λ e. tt), omega (arith, b)), h)
-skip (TailPart NamesTail) m s ks n b h = ([], ks, refl, h)
-skip (TailPart StatementsTail) m s ks n b h = (no_statement, ks, (refl, tt, omega (arith, b)), h)
-skip (TailPart GroupsTail) m s ks n b h = ([], ks, (tt, refl), h)
-skip (TailPart ArgumentsTail) m s ks n b h = ([], ks, refl, h)
-skip (TailPart InstancesTail) m s ks n b h = ([], ks, refl, h)
-skip (TailPart ElseTail) m s ks n b h = inl h
-skip (TailPart LastTail) m s ks n b h = (ks, inr refl, h)
+skip NamesTail m s ks n b h = ([], ks, refl, h)
+skip StatementsTail m s ks n b h = (no_statement, ks, (refl, tt, omega (arith, b)), h)
+skip GroupsTail m s ks n b h = ([], ks, (tt, refl), h)
+skip ArgumentsTail m s ks n b h = ([], ks, refl, h)
+skip InstancesTail m s ks n b h = ([], ks, refl, h)
+skip ElseTail m s ks n b h = inl h
+skip LastTail m s ks n b h = (ks, inr refl, h)
 skip LevelPart m s ks n b h = h
-skip _ m s ks n b h = absurd n
-
--- what falls through the part
-falls : (p : Part) (m : ℕ) (s : List Part) (o : Option (List Part)) (k : Terminal) → Nullable p → levels s ≤ m → Leads m (λ ks. Fits m s (k ∷ ks)) o →
-    Leads m (λ ks. Fits m (p ∷ s) (k ∷ ks)) o
-falls p m s o k n b other = leads_map m (λ ks. Fits m s (k ∷ ks)) (λ ks. Fits m (p ∷ s) (k ∷ ks)) o (λ ks h. skip p m s (k ∷ ks) n b h) other
-
-takes_one : (t : Token) (k : Terminal) (Next : Lists) (ks : List Terminal) → takes t k ≡ true → Next ks → One t Next (k ∷ ks)
-takes_one BecomesToken (sign mark.Becomes) Next ks e h = (ks, refl, h)
-takes_one BeginToken (word keyword.Begin) Next ks e h = (ks, refl, h)
-takes_one ChannelToken (word keyword.Channel) Next ks e h = (ks, refl, h)
-takes_one CloseToken (sign mark.Close) Next ks e h = (ks, refl, h)
-takes_one CommaToken (sign mark.Comma) Next ks e h = (ks, refl, h)
-takes_one DoToken (word keyword.Do) Next ks e h = (ks, refl, h)
-takes_one ElseToken (word keyword.Else) Next ks e h = (ks, refl, h)
-takes_one EndToken (word keyword.End) Next ks e h = (ks, refl, h)
-takes_one IfToken (word keyword.If) Next ks e h = (ks, refl, h)
-takes_one NotToken (word keyword.Not) Next ks e h = (ks, refl, h)
-takes_one NameToken (name n) Next ks e h = (n, ks, refl, h)
-takes_one NumberToken (terminal.number z) Next ks e h = (z, ks, refl, h)
-takes_one OnToken (word keyword.On) Next ks e h = (ks, refl, h)
-takes_one OpenToken (sign mark.Open) Next ks e h = (ks, refl, h)
-takes_one ParToken (word keyword.Par) Next ks e h = (ks, refl, h)
-takes_one ProcessToken (word keyword.Process) Next ks e h = (ks, refl, h)
-takes_one SemicolonToken (sign mark.Semicolon) Next ks e h = (ks, refl, h)
-takes_one ThenToken (word keyword.Then) Next ks e h = (ks, refl, h)
-takes_one _ _ Next ks e h = absurd (true≢false (sym e))
-
-back_token : (t : Token) (m : ℕ) (s : List Part) (k : Terminal) (b : Bool) → takes t k ≡ b → Leads m (λ ks. Fits m (TokenPart t ∷ s) (k ∷ ks)) (cond b (Some s) None)
-back_token t m s k true e = λ ks h. takes_one t k (Fits m s) ks e h
-back_token t m s k false e = tt
-
--- the further members of a list
-made_tail : (t : Tail) (m : ℕ) (s : List Part) (ks : List Terminal) → Fits m (goes_on t s) ks → Fits m (TailPart t ∷ s) (token_terminal (lead t) ∷ ks)
-made_tail NamesTail m s ks (n, r, p, (ns, r1, p1, h)) = (n ∷ ns, r1, ap (λ x. sign mark.Comma ∷ x) (p ∙ ap (λ x. name n ∷ x) p1), h)
-made_tail StatementsTail m s ks (t, r, (p, f, c), (ss, r1, (p1, g, d), h)) =
-    (statement t ss, r1, (ap (λ x. sign mark.Semicolon ∷ x) (p ∙ ap (statement_words t) p1), (f, g), omega (arith, c, d)), h)
-made_tail GroupsTail m s ks (g, r, (a, p), (gs, r1, (b, p1), h)) = (g ∷ gs, r1, ((a, b), ap (λ x. sign mark.Semicolon ∷ x) (p ∙ ap (group_words g) p1)), h)
-made_tail ArgumentsTail m s ks (a, r, p, (xs, r1, q, h)) = (a ∷ xs, r1, (ks, r, refl, p, q), h)
-made_tail InstancesTail m s ks (i, r, p, (is, r1, q, h)) = (i ∷ is, r1, (ks, r, refl, p, q), h)
-made_tail ElseTail m s ks (t, r, (p, f, c), h) = inr (t, r, (ap (λ x. word keyword.Else ∷ x) p, f, c), h)
-made_tail LastTail m s ks h = (ks, inl refl, h)
-
-lead_one : (t : Tail) (k : Terminal) (ks : List Terminal) → One (lead t) (λ r. r ≡ ks) (k ∷ ks) → token_terminal (lead t) ∷ ks ≡ k ∷ ks
-lead_one NamesTail k ks (r, p, q) = sym (p ∙ ap (λ x. sign mark.Comma ∷ x) q)
-lead_one t k ks (r, p, q) = sym (p ∙ ap (λ x. token_terminal (lead t) ∷ x) q)
-
-back_tail : (t : Tail) (m : ℕ) (s : List Part) (o : Option (List Part)) (k : Terminal) (b : Bool) → takes (lead t) k ≡ b → levels s ≤ m →
-    Leads m (λ ks. Fits m s (k ∷ ks)) o → Leads m (λ ks. Fits m (TailPart t ∷ s) (k ∷ ks)) (cond b (Some (goes_on t s)) o)
-back_tail t m s o k true e l other =
-    λ ks h. subst (Fits m (TailPart t ∷ s)) (lead_one t k ks (takes_one (lead t) k (λ r. r ≡ ks) ks e refl)) (made_tail t m s ks h)
-back_tail t m s o k false e l other = falls (TailPart t) m s o k tt l other
-
-back_factor : (m : ℕ) (s : List Part) (k : Terminal) → levels s ≤ m → Leads m (λ ks. Fits m (ExpressionPart factors ∷ s) (k ∷ ks)) (step_factor s k)
-back_factor m s (terminal.number z) b = λ ks h. (number z, ks, (refl, (omega arith, tt), omega (arith, b)), h)
-back_factor m s (word keyword.True) b = λ ks h. (truth true, ks, (refl, (omega arith, tt), omega (arith, b)), h)
-back_factor m s (word keyword.False) b = λ ks h. (truth false, ks, (refl, (omega arith, tt), omega (arith, b)), h)
-back_factor m s (name n) b = λ ks h. (variable n, ks, (refl, (omega arith, tt), omega (arith, b)), h)
-back_factor m s (word keyword.Wait) b = λ ks (r, p, (n, r1, p1, (r2, p2, h))).
-    (wait n, r2, (ap (λ x. word keyword.Wait ∷ x) (p ∙ ap (λ x. sign mark.Open ∷ x) (p1 ∙ ap (λ x. name n ∷ x) p2)), (omega arith, tt), omega (arith, b)), h)
-back_factor m s (sign mark.Minus) b = λ ks (t, r, (p, f, c), h). (negation t, r, (ap (λ x. sign mark.Minus ∷ x) p, (omega arith, f), omega (arith, c)), h)
-back_factor m s (sign mark.Open) b = λ ks (t, r, (p, f, c), (r1, p1, h)).
-    (bracket t, r1, (ap (λ x. sign mark.Open ∷ x) (p ∙ ap (expression_words t) p1), (omega arith, f.1), omega (arith, c)), h)
-back_factor m s _ b = tt
-
-joined_fits : (n : ℕ) (e : ExpressionTree) (os : OperandTrees) → (n ≡ 4 → IsNoneOrOne os) → 0 < n → reads.Fits (n + 1) e → FormedOperands n os → reads.Fits n (joined e os)
-joined_fits n e no_operand one b f h = (omega (arith, f.0), f.1)
-joined_fits n e (operand o g os) one b f h =
-    (omega (arith, h.0), (omega (arith, h.0, f.0), f.1, omega (arith, h.0), subst (λ k. FormedOperands k (operand o g os)) (sym h.0) h, λ four. one (sym h.0 ∙ four)))
-
-chain_at : (l : Rung) → IsChain l → (at (tighter l) ≡ at l + 1) × (0 < at l)
-chain_at whole h = absurd h
-chain_at denials h = absurd h
-chain_at factors h = absurd h
-chain_at _ h = (refl, omega arith)
-
--- an operand and what follows it at its level
-made_level : (l : Rung) (m : ℕ) (s : List Part) (ks : List Terminal) → IsChain l → Fits m (ExpressionPart (tighter l) ∷ OperatorsPart l ∷ s) ks → Fits m (ExpressionPart l ∷ s) ks
-made_level l m s ks c (t, r, (p, f, a), (os, r1, (p1, g, one, d), h)) =
-    let e = chain_at l c in
-    (joined t os, r1, (p ∙ ap (expression_words t) p1 ∙ sym (joined_words t os r1), joined_fits (at l) t os one e.1 (omega (arith, e.0, f.0), f.1) g, omega (arith, a, d, joined_nesting t os)), h)
-
-back_terms : (m : ℕ) (s : List Part) (k : Terminal) → levels s ≤ m → Leads m (λ ks. Fits m (ExpressionPart terms ∷ s) (k ∷ ks)) (step_expression terms s k)
-back_terms m s k b = leads_map m _ _ (step_expression terms s k) (λ ks h. made_level terms m s (k ∷ ks) tt h) (back_factor m (OperatorsPart terms ∷ s) k b)
-
-back_sums : (m : ℕ) (s : List Part) (k : Terminal) → levels s ≤ m → Leads m (λ ks. Fits m (ExpressionPart sums ∷ s) (k ∷ ks)) (step_expression sums s k)
-back_sums m s k b = leads_map m _ _ (step_expression sums s k) (λ ks h. made_level sums m s (k ∷ ks) tt h) (back_terms m (OperatorsPart sums ∷ s) k b)
-
-back_relations : (m : ℕ) (s : List Part) (k : Terminal) → levels s ≤ m → Leads m (λ ks. Fits m (ExpressionPart relations ∷ s) (k ∷ ks)) (step_relation s k)
-back_relations m s k b = leads_map m _ _ (step_relation s k) (λ ks h. made_level relations m s (k ∷ ks) tt h) (back_sums m (OperatorsPart relations ∷ s) k b)
-
-as_denial : (m : ℕ) (s : List Part) (ks : List Terminal) → Fits m (ExpressionPart relations ∷ s) ks → Fits m (ExpressionPart denials ∷ s) ks
-as_denial m s ks (t, r, (p, f, c), h) = (t, r, (p, (omega (arith, f.0), f.1), c), h)
-
-back_denials : (m : ℕ) (s : List Part) (k : Terminal) → levels s ≤ m → Leads m (λ ks. Fits m (ExpressionPart denials ∷ s) (k ∷ ks)) (step_denial s k)
-back_denials m s (word keyword.Not) b = λ ks (t, r, (p, f, c), h). (denial t, r, (ap (λ x. word keyword.Not ∷ x) p, (omega arith, f), omega (arith, c)), h)
-back_denials m s k b = leads_map m _ _ (step_relation s k) (λ ks h. as_denial m s (k ∷ ks) h) (back_relations m s k b)
-
-back_ands : (m : ℕ) (s : List Part) (k : Terminal) → levels s ≤ m → Leads m (λ ks. Fits m (ExpressionPart ands ∷ s) (k ∷ ks)) (step_expression ands s k)
-back_ands m s k b = leads_map m _ _ (step_expression ands s k) (λ ks h. made_level ands m s (k ∷ ks) tt h) (back_denials m (OperatorsPart ands ∷ s) k b)
-
-back_ors : (m : ℕ) (s : List Part) (k : Terminal) → levels s ≤ m → Leads m (λ ks. Fits m (ExpressionPart ors ∷ s) (k ∷ ks)) (step_or s k)
-back_ors m s k b = leads_map m _ _ (step_or s k) (λ ks h. made_level ors m s (k ∷ ks) tt h) (back_ands m (OperatorsPart ors ∷ s) k b)
-
-as_whole : (m : ℕ) (s : List Part) (ks : List Terminal) → Fits m (ExpressionPart ors ∷ s) ks → Fits m (ExpressionPart whole ∷ s) ks
-as_whole m s ks (t, r, (p, f, c), h) = (t, r, (p, (omega arith, f.1), c), h)
-
-back_whole : (m : ℕ) (s : List Part) (k : Terminal) → levels s ≤ m → Leads m (λ ks. Fits m (ExpressionPart whole ∷ s) (k ∷ ks)) (step_whole s k)
-back_whole m s (word keyword.If) b = λ ks (x, r, (p, f, c), (r1, p1, (y, r2, (p2, f2, c2), (r3, p3, (z, r4, (p4, f4, c4), h))))). (
-  conditional x y z,
-  r4,
-  (
-    ap (λ w. word keyword.If ∷ w) (p ∙ ap (expression_words x) (p1 ∙ ap (λ w. word keyword.Then ∷ w) (p2 ∙ ap (expression_words y) (p3 ∙ ap (λ w. word keyword.Else ∷ w) p4)))),
-    (omega arith, (f.1, f2.1, f4.1)),
-    omega (arith, c, c2, c4),
-  ),
-  h,
-)
-back_whole m s k b = leads_map m _ _ (step_or s k) (λ ks h. as_whole m s (k ∷ ks) h) (back_ors m s k b)
-
-back_expression : (l : Rung) (m : ℕ) (s : List Part) (k : Terminal) → levels s ≤ m → Leads m (λ ks. Fits m (ExpressionPart l ∷ s) (k ∷ ks)) (step_expression l s k)
-back_expression whole m s k b = back_whole m s k b
-back_expression ors m s k b = back_ors m s k b
-back_expression ands m s k b = back_ands m s k b
-back_expression denials m s k b = back_denials m s k b
-back_expression relations m s k b = back_relations m s k b
-back_expression sums m s k b = back_sums m s k b
-back_expression terms m s k b = back_terms m s k b
-back_expression factors m s k b = back_factor m s k b
+skip _ m s ks n b h = absurd (true≢false (sym n))
 
 some_same : (o p : Operator) → Some o ≡ Some p → o ≡ p
 some_same o p e = cc
@@ -276,6 +120,136 @@ is_terminal (word keyword.Div) o e = ap operator_terminal (some_same operator.Di
 is_terminal (word keyword.Mod) o e = ap operator_terminal (some_same operator.Remainder o e)
 is_terminal _ o e = absurd cc
 
+word_same : (v w : Keyword) (b : Bool) → has_letters_of v w ≡ b → b ≡ true → v ≡ w
+word_same v w b e h = same_keyword v w ((bytes_eq-Decides (letters_of v) (letters_of w)).0 (e ∙ h))
+
+sign_same : (g u : Sign) → bytes_eq (bytes_of_sign g) (bytes_of_sign u) ≡ true → g ≡ u
+sign_same g u e = sign_by_bytes g u ((bytes_eq-Decides (bytes_of_sign g) (bytes_of_sign u)).0 e)
+
+test_same : (a b : ℕ) → (a == b) ≡ true → a ≡ b
+test_same a b e = grind (arith, nat_tests)
+
+takes_one : (t : Token) (k : Terminal) (Next : Lists) (ks : List Terminal) → takes t k ≡ true → Next ks → One t Next (k ∷ ks)
+takes_one a_name (name n) Next ks e h = (n, ks, refl, h)
+takes_one a_number (terminal.number z) Next ks e h = (z, ks, refl, h)
+takes_one (a_word v) (word w) Next ks e h = (ks, ap (λ x. word x ∷ ks) (sym (word_same v w _ refl e)), h)
+takes_one (either u v) (word w) Next ks e h = by (has_letters_of u w) refl e
+  where
+    by : (b : Bool) → has_letters_of u w ≡ b → cond b true (has_letters_of v w) ≡ true → One (either u v) Next (word w ∷ ks)
+    by true p q = (ks, inl (ap (λ x. word x ∷ ks) (sym (word_same u w true p refl))), h)
+    by false p q = (ks, inr (ap (λ x. word x ∷ ks) (sym (word_same v w _ refl q))), h)
+takes_one (a_sign g) (sign u) Next ks e h = (ks, ap (λ x. sign x ∷ ks) (sym (sign_same g u e)), h)
+takes_one (an_operator o) k Next ks e h = by (operator_of k) refl e
+  where
+    by : (q : Option Operator) → operator_of k ≡ q → has_rank (rank o) q ≡ true → One (an_operator o) Next (k ∷ ks)
+    by None i f = absurd (true≢false (sym f))
+    by (Some p) i f = (p, ks, test_same (rank p) (rank o) f, ap (λ x. x ∷ ks) (is_terminal k p i), h)
+takes_one _ _ Next ks e h = absurd (true≢false (sym e))
+
+one_map : (t : Token) (P Q : Lists) → ((r : List Terminal) → P r → Q r) → (ks : List Terminal) → One t P ks → One t Q ks
+one_map a_name P Q f ks (n, r, p, h) = (n, r, p, f r h)
+one_map a_number P Q f ks (z, r, p, h) = (z, r, p, f r h)
+one_map (a_word w) P Q f ks (r, p, h) = (r, p, f r h)
+one_map (either v w) P Q f ks (r, p, h) = (r, p, f r h)
+one_map (a_sign g) P Q f ks (r, p, h) = (r, p, f r h)
+one_map (an_operator o) P Q f ks (q, r, e, p, h) = (q, r, e, p, f r h)
+
+-- where the token of a rule stands before what fits its parts, this fits the part
+abbrev Makes : ℕ → Part → List Part → List Rule → Type 0
+Makes m p s [] = Unit {0}
+Makes m p s ((t, ps) ∷ rest) = ((ks : List Terminal) → One t (Fits m (ps ++ s)) ks → Fits m (p ∷ s) ks) × Makes m p s rest
+
+made : {A B : Type 0} → A → B → A × B
+made a b = (a, b)
+
+made_as : (m : ℕ) (p q : Part) (s : List Part) (rs : List Rule) → ((ks : List Terminal) → Fits m (q ∷ s) ks → Fits m (p ∷ s) ks) → Makes m q s rs → Makes m p s rs
+made_as m p q s [] f h = tt
+made_as m p q s ((t, ps) ∷ rest) f h = ((λ ks x. f ks (h.0 ks x)), made_as m p q s rest f h.1)
+
+made_followed : (m : ℕ) (p q : Part) (after s : List Part) (rs : List Rule) → ((ks : List Terminal) → Fits m (q ∷ after ++ s) ks → Fits m (p ∷ s) ks)
+    → Makes m q (after ++ s) rs → Makes m p s (followed after rs)
+made_followed m p q after s [] f h = tt
+made_followed m p q after s ((t, ps) ∷ rest) f h = (
+  λ ks x. f ks (h.0 ks (one_map t (Fits m ((ps ++ after) ++ s)) (Fits m (ps ++ (after ++ s))) (λ r y. subst (λ u. Fits m u r) (append_assoc ps after s) y) ks x)),
+  made_followed m p q after s rest f h.1,
+)
+
+truth_one : (ks r : List Terminal) → (ks ≡ word keyword.True ∷ r) ⊎ (ks ≡ word keyword.False ∷ r) → (b : Bool) × (ks ≡ truth_terminal b ∷ r)
+truth_one ks r (inl p) = (true, p)
+truth_one ks r (inr p) = (false, p)
+
+kind_one : (ks r : List Terminal) → (ks ≡ word keyword.Integer ∷ r) ⊎ (ks ≡ word keyword.Logical ∷ r) → (k : Kind) × (ks ≡ kind_terminal k ∷ r)
+kind_one ks r (inl p) = (kind.Integer, p)
+kind_one ks r (inr p) = (kind.Logical, p)
+
+factor_makes : (m : ℕ) (s : List Part) → levels s ≤ m → Makes m (ExpressionPart factors) s factor_rules
+factor_makes m s b =
+    made (λ ks (z, r, p, h). (number z, r, (p, (omega arith, tt), omega (arith, b)), h))
+    (made (λ ks (r, e, h). let v = truth_one ks r e in (truth v.0, r, (v.1, (omega arith, tt), omega (arith, b)), h))
+    (made (λ ks (n, r, p, h). (variable n, r, (p, (omega arith, tt), omega (arith, b)), h))
+    (made (λ ks (r, p, (r1, p1, (n, r2, p2, (r3, p3, h)))).
+    (wait n, r3, (p ∙ ap (λ x. word keyword.Wait ∷ x) (p1 ∙ ap (λ x. sign mark.Open ∷ x) (p2 ∙ ap (λ x. name n ∷ x) p3)), (omega arith, tt), omega (arith, b)), h))
+    (made (λ ks (r, p, (t, r1, (p1, f, c), h)). (negation t, r1, (p ∙ ap (λ x. sign mark.Minus ∷ x) p1, (omega arith, f), omega (arith, c)), h))
+    (made (λ ks (r, p, (t, r1, (p1, f, c), (r2, p2, h))).
+    (bracket t, r2, (p ∙ ap (λ x. sign mark.Open ∷ x) (p1 ∙ ap (expression_words t) p2), (omega arith, f.1), omega (arith, c)), h)) tt)))))
+
+joined_fits : (n : ℕ) (e : ExpressionTree) (os : OperandTrees) → (n ≡ 4 → IsNoneOrOne os) → 0 < n → reads.Fits (n + 1) e → FormedOperands n os → reads.Fits n (joined e os)
+joined_fits n e no_operand one b f h = (omega (arith, f.0), f.1)
+joined_fits n e (operand o g os) one b f h =
+    (omega (arith, h.0), (omega (arith, h.0, f.0), f.1, omega (arith, h.0), subst (λ k. FormedOperands k (operand o g os)) (sym h.0) h, λ four. one (sym h.0 ∙ four)))
+
+chain_at : (l : Rung) → IsChain l → (at (tighter l) ≡ at l + 1) × (0 < at l)
+chain_at whole h = absurd h
+chain_at denials h = absurd h
+chain_at factors h = absurd h
+chain_at _ h = (refl, omega arith)
+
+-- an operand and what follows it at its level
+made_level : (l : Rung) (m : ℕ) (s : List Part) (ks : List Terminal) → IsChain l → Fits m (ExpressionPart (tighter l) ∷ OperatorsPart l ∷ s) ks → Fits m (ExpressionPart l ∷ s) ks
+made_level l m s ks c (t, r, (p, f, a), (os, r1, (p1, g, one, d), h)) =
+    let e = chain_at l c in
+    (joined t os, r1, (p ∙ ap (expression_words t) p1 ∙ sym (joined_words t os r1), joined_fits (at l) t os one e.1 (omega (arith, e.0, f.0), f.1) g, omega (arith, a, d, joined_nesting t os)), h)
+
+operand_makes : (l : Rung) (m : ℕ) (s : List Part) (rs : List Rule) → IsChain l → Makes m (ExpressionPart (tighter l)) (OperatorsPart l ∷ s) rs → Makes m (ExpressionPart l) s (operand_rules l rs)
+operand_makes l m s rs c h = made_followed m (ExpressionPart l) (ExpressionPart (tighter l)) (OperatorsPart l ∷ []) s rs (λ ks x. made_level l m s ks c x) h
+
+sum_makes : (m : ℕ) (s : List Part) → levels s ≤ m → Makes m (ExpressionPart sums) s (expression_rules sums)
+sum_makes m s b = operand_makes sums m s (operand_rules terms factor_rules) tt (operand_makes terms m (OperatorsPart sums ∷ s) factor_rules tt (factor_makes m (OperatorsPart terms ∷ OperatorsPart sums ∷ s) b))
+
+denial_makes : (m : ℕ) (s : List Part) → levels s ≤ m → Makes m (ExpressionPart denials) s denial_rules
+denial_makes m s b =
+    made (λ ks (r, p, (t, r1, (p1, f, c), h)). (denial t, r1, (p ∙ ap (λ x. word keyword.Not ∷ x) p1, (omega arith, f), omega (arith, c)), h))
+    (made_as m (ExpressionPart denials) (ExpressionPart relations) s relation_rules (λ ks (t, r, (p, f, c), h). (t, r, (p, (omega (arith, f.0), f.1), c), h))
+    (operand_makes relations m s (expression_rules sums) tt (sum_makes m (OperatorsPart relations ∷ s) b)))
+
+and_makes : (m : ℕ) (s : List Part) → levels s ≤ m → Makes m (ExpressionPart ands) s (expression_rules ands)
+and_makes m s b = operand_makes ands m s denial_rules tt (denial_makes m (OperatorsPart ands ∷ s) b)
+
+or_makes : (m : ℕ) (s : List Part) → levels s ≤ m → Makes m (ExpressionPart ors) s or_rules
+or_makes m s b = operand_makes ors m s (expression_rules ands) tt (and_makes m (OperatorsPart ors ∷ s) b)
+
+expression_makes : (l : Rung) (m : ℕ) (s : List Part) → levels s ≤ m → Makes m (ExpressionPart l) s (expression_rules l)
+expression_makes whole m s b = (
+  λ ks (r, p, (x, r1, (p1, f1, c1), (r2, p2, (y, r3, (p3, f3, c3), (r4, p4, (z, r5, (p5, f5, c5), h)))))). (
+    conditional x y z,
+    r5,
+    (
+      p ∙ ap (λ w. word keyword.If ∷ w) (p1 ∙ ap (expression_words x) (p2 ∙ ap (λ w. word keyword.Then ∷ w) (p3 ∙ ap (expression_words y) (p4 ∙ ap (λ w. word keyword.Else ∷ w) p5)))),
+      (omega arith, (f1.1, f3.1, f5.1)),
+      omega (arith, c1, c3, c5),
+    ),
+    h,
+  ),
+  made_as m (ExpressionPart whole) (ExpressionPart ors) s or_rules (λ ks (t, r, (p, f, c), h). (t, r, (p, (omega arith, f.1), c), h)) (or_makes m s b),
+)
+expression_makes ors m s b = or_makes m s b
+expression_makes ands m s b = and_makes m s b
+expression_makes denials m s b = denial_makes m s b
+expression_makes relations m s b = operand_makes relations m s (expression_rules sums) tt (sum_makes m (OperatorsPart relations ∷ s) b)
+expression_makes sums m s b = sum_makes m s b
+expression_makes terms m s b = operand_makes terms m s factor_rules tt (factor_makes m (OperatorsPart terms ∷ s) b)
+expression_makes factors m s b = factor_makes m s b
+
 -- operands of a level where more may follow
 made_more : (l : Rung) (m : ℕ) (s : List Part) (o : Operator) (ks : List Terminal) → IsChain l → (at l ≡ 4 → ⊥) → rank o ≡ at l →
     Fits m (ExpressionPart (tighter l) ∷ OperatorsPart l ∷ s) ks → Fits m (OperatorsPart l ∷ s) (operator_terminal o ∷ ks)
@@ -283,47 +257,25 @@ made_more l m s o ks c n e (t, r, (p, f, a), (os, r1, (p1, g, one, d), h)) =
     let i = chain_at l c in
     (operand o t os, r1, (ap (λ x. operator_terminal o ∷ x) (p ∙ ap (expression_words t) p1), (e, omega (arith, i.0, f.0), f.1, g), (λ four. absurd (n four)), omega (arith, a, d)), h)
 
-made_operator : (l : Rung) (m : ℕ) (s : List Part) (o : Operator) (ks : List Terminal) → rank o ≡ at l → Fits m (ExpressionPart (tighter l) ∷ again l s) ks →
-    Fits m (OperatorsPart l ∷ s) (operator_terminal o ∷ ks)
-made_operator whole m s o ks e h = absurd (omega (arith, e, (rank_within o).1))
-made_operator denials m s o ks e h = absurd ((rank_within o).2 e)
-made_operator factors m s o ks e h = absurd (omega (arith, e, (rank_within o).0))
-made_operator relations m s o ks e (t, r, (p, f, a), h) =
-    (operand o t no_operand, r, (ap (λ x. operator_terminal o ∷ x) p, (e, omega (arith, f.0), f.1, tt), (λ four. tt), omega (arith, a)), h)
-made_operator ors m s o ks e h = made_more ors m s o ks tt (λ n. omega (arith, n)) e h
-made_operator ands m s o ks e h = made_more ands m s o ks tt (λ n. omega (arith, n)) e h
-made_operator sums m s o ks e h = made_more sums m s o ks tt (λ n. omega (arith, n)) e h
-made_operator terms m s o ks e h = made_more terms m s o ks tt (λ n. omega (arith, n)) e h
+operators_make : (l : Rung) (m : ℕ) (s : List Part) → Makes m (OperatorsPart l) s (operator_rules l)
+operators_make ors m s = (λ ks (o, r, e, p, h). subst (Fits m (OperatorsPart ors ∷ s)) (sym p) (made_more ors m s o r tt (λ n. omega (arith, n)) e h), tt)
+operators_make ands m s = (λ ks (o, r, e, p, h). subst (Fits m (OperatorsPart ands ∷ s)) (sym p) (made_more ands m s o r tt (λ n. omega (arith, n)) e h), tt)
+operators_make relations m s =
+    (λ ks (o, r, e, p, (t, r1, (p1, f, a), h)). (operand o t no_operand, r1, (p ∙ ap (λ x. operator_terminal o ∷ x) p1, (e, omega (arith, f.0), f.1, tt), (λ four. tt), omega (arith, a)), h), tt)
+operators_make sums m s = (λ ks (o, r, e, p, h). subst (Fits m (OperatorsPart sums ∷ s)) (sym p) (made_more sums m s o r tt (λ n. omega (arith, n)) e h), tt)
+operators_make terms m s = (λ ks (o, r, e, p, h). subst (Fits m (OperatorsPart terms ∷ s)) (sym p) (made_more terms m s o r tt (λ n. omega (arith, n)) e h), tt)
+operators_make _ m s = tt
 
-test_same : (a b : ℕ) → (a == b) ≡ true → a ≡ b
-test_same a b e = grind (arith, nat_tests)
+simple_makes : (m : ℕ) (s : List Part) → Makes m SimplePart s simple_rules
+simple_makes m s =
+    made (λ ks (n, r, p, (r1, p1, (v, r2, (p2, f, c), h))). (assign n v, r2, (p ∙ ap (λ x. name n ∷ x) (p1 ∙ ap (λ x. sign mark.Becomes ∷ x) p2), tt, f.1, c), h))
+    (made (λ ks (r, p, (v, r1, (p1, f, c), (r2, p2, (n, r3, p3, h)))).
+    (send v n, r3, (p ∙ ap (λ x. word keyword.Send ∷ x) (p1 ∙ ap (expression_words v) (p2 ∙ ap (λ x. word keyword.On ∷ x) p3)), tt, f.1, c), h))
+    (made (λ ks (r, p, (v, r1, (p1, f, c), h)). (print v, r1, (p ∙ ap (λ x. word keyword.Print ∷ x) p1, tt, f.1, c), h))
+    (made (λ ks (r, p, (t, r1, (p1, f, c), (ss, r2, (p2, g, d), (r3, p3, h)))).
+    (block (statement t ss), r3, (p ∙ ap (λ x. word keyword.Begin ∷ x) (p1 ∙ ap (statement_words t) (p2 ∙ ap (further_words ss) p3)), tt, (tt, (f, g)), omega (arith, c, d)), h)) tt)))
 
-back_some : (l : Rung) (m : ℕ) (s : List Part) (o : Option (List Part)) (k : Terminal) (q : Operator) (b : Bool) → operator_of k ≡ Some q → (rank q == at l) ≡ b → levels s ≤ m →
-    Leads m (λ ks. Fits m s (k ∷ ks)) o → Leads m (λ ks. Fits m (OperatorsPart l ∷ s) (k ∷ ks)) (cond b (Some (ExpressionPart (tighter l) ∷ again l s)) o)
-back_some l m s o k q true e t c other =
-    λ ks h. subst (λ x. Fits m (OperatorsPart l ∷ s) (x ∷ ks)) (sym (is_terminal k q e)) (made_operator l m s q ks (test_same (rank q) (at l) t) h)
-back_some l m s o k q false e t c other = falls (OperatorsPart l) m s o k tt c other
-
-back_operators : (l : Rung) (m : ℕ) (s : List Part) (o : Option (List Part)) (k : Terminal) (p : Option Operator) → operator_of k ≡ p → levels s ≤ m →
-    Leads m (λ ks. Fits m s (k ∷ ks)) o → Leads m (λ ks. Fits m (OperatorsPart l ∷ s) (k ∷ ks)) (step_operator l s o p)
-back_operators l m s o k None e c other = falls (OperatorsPart l) m s o k tt c other
-back_operators l m s o k (Some q) e c other = back_some l m s o k q (rank q == at l) e refl c other
-
-back_simple : (m : ℕ) (s : List Part) (o : Option (List Part)) (k : Terminal) → levels s ≤ m → Leads m (λ ks. Fits m s (k ∷ ks)) o →
-    Leads m (λ ks. Fits m (SimplePart ∷ s) (k ∷ ks)) (step_simple s o k)
-back_simple m s o (name n) b other = λ ks (r, p, (v, r1, (p1, f, c), h)).
-    (assign n v, r1, (ap (λ x. name n ∷ x) (p ∙ ap (λ x. sign mark.Becomes ∷ x) p1), tt, f.1, c), h)
-back_simple m s o (word keyword.Send) b other = λ ks (v, r, (p, f, c), (r1, p1, (n, r2, p2, h))).
-    (send v n, r2, (ap (λ x. word keyword.Send ∷ x) (p ∙ ap (expression_words v) (p1 ∙ ap (λ x. word keyword.On ∷ x) p2)), tt, f.1, c), h)
-back_simple m s o (word keyword.Print) b other = λ ks (v, r, (p, f, c), h). (print v, r, (ap (λ x. word keyword.Print ∷ x) p, tt, f.1, c), h)
-back_simple m s o (word keyword.Begin) b other = λ ks (t, r, (p, f, c), (ss, r1, (p1, g, d), (r2, p2, h))).
-    (block (statement t ss), r2, (ap (λ x. word keyword.Begin ∷ x) (p ∙ ap (statement_words t) (p1 ∙ ap (further_words ss) p2)), tt, (tt, (f, g)), omega (arith, c, d)), h)
-back_simple m s o k b other = falls SimplePart m s o k tt b other
-
-as_statement : (m : ℕ) (s : List Part) (ks : List Terminal) → Fits m (SimplePart ∷ s) ks → Fits m (StatementPart ∷ s) ks
-as_statement m s ks (t, r, (p, i, f, c), h) = (t, r, (p, f, c), h)
-
-made_if : (m : ℕ) (s : List Part) (ks : List Terminal) → Fits m (ExpressionPart whole ∷ TokenPart ThenToken ∷ SimplePart ∷ TailPart ElseTail ∷ LevelPart ∷ s) ks →
+made_if : (m : ℕ) (s : List Part) (ks : List Terminal) → Fits m (ExpressionPart whole ∷ TokenPart (a_word keyword.Then) ∷ SimplePart ∷ ElseTail ∷ LevelPart ∷ s) ks →
     Fits m (StatementPart ∷ s) (word keyword.If ∷ ks)
 made_if m s ks (e, r, (p, f, c), (r1, p1, (t, r2, (p2, i, g, d), alt))) =
     let start : word keyword.If ∷ ks ≡ word keyword.If ∷ expression_words e (word keyword.Then ∷ statement_words t r2) =
@@ -334,167 +286,152 @@ made_if m s ks (e, r, (p, f, c), (r1, p1, (t, r2, (p2, i, g, d), alt))) =
     (if_else e t u, r3, (start ∙ ap (λ x. word keyword.If ∷ expression_words e (word keyword.Then ∷ statement_words t x)) p3, (f.1, i, g, f3), omega (arith, c, d, c3)), h))
     alt
 
-back_statement : (m : ℕ) (s : List Part) (o : Option (List Part)) (k : Terminal) → levels s ≤ m → Leads m (λ ks. Fits m s (k ∷ ks)) o →
-    Leads m (λ ks. Fits m (StatementPart ∷ s) (k ∷ ks)) (step_statement s o k)
-back_statement m s o (word keyword.If) b other = λ ks h. made_if m s ks h
-back_statement m s o (word keyword.While) b other = λ ks (e, r, (p, f, c), (r1, p1, (t, r2, (p2, g, d), h))).
-    (while_do e t, r2, (ap (λ x. word keyword.While ∷ x) (p ∙ ap (expression_words e) (p1 ∙ ap (λ x. word keyword.Do ∷ x) p2)), (f.1, g), omega (arith, c, d)), h)
-back_statement m s o (word keyword.Repeat) b other = λ ks (t, r, (p, f, c), h). (repeat t, r, (ap (λ x. word keyword.Repeat ∷ x) p, f, omega (arith, c)), h)
-back_statement m s o k b other = leads_map m _ _ (step_simple s o k) (λ ks h. as_statement m s (k ∷ ks) h) (back_simple m s o k b other)
+statement_makes : (m : ℕ) (s : List Part) → Makes m StatementPart s (other_rules ++ simple_rules)
+statement_makes m s =
+    made (λ ks (r, p, h). subst (Fits m (StatementPart ∷ s)) (sym p) (made_if m s r h))
+    (made (λ ks (r, p, (e, r1, (p1, f, c), (r2, p2, (t, r3, (p3, g, d), h)))).
+    (while_do e t, r3, (p ∙ ap (λ x. word keyword.While ∷ x) (p1 ∙ ap (expression_words e) (p2 ∙ ap (λ x. word keyword.Do ∷ x) p3)), (f.1, g), omega (arith, c, d)), h))
+    (made (λ ks (r, p, (t, r1, (p1, f, c), h)). (repeat t, r1, (p ∙ ap (λ x. word keyword.Repeat ∷ x) p1, f, omega (arith, c)), h))
+    (made_as m StatementPart SimplePart s simple_rules (λ ks (t, r, (p, i, f, c), h). (t, r, (p, f, c), h)) (simple_makes m s))))
 
-made_process : (m : ℕ) (s : List Part) (ks : List Terminal) → Fits m (process_then s) ks → Fits m (ProcessPart ∷ s) (word keyword.Process ∷ ks)
-made_process m s ks (n, r, p, (r1, p1, (gs, r2, (ag, p2), (r3, p3, (r4, p4, (r5, p5, (ts, r6, (tg, p6), (t, r7, (p7, f, c), (ss, r8, (p8, g, d), (r9, p9, h)))))))))) = (
-  process n (all_members tree.parameter gs) (all_members tree.variable ts) (statement t ss),
-  r9,
-  (
+process_makes : (m : ℕ) (s : List Part) → Makes m ProcessPart s process_rules
+process_makes m s = (
+  λ ks (r0, p0, (n, r, p, (r1, p1, (gs, r2, (ag, p2), (r3, p3, (r4, p4, (r5, p5, (ts, r6, (tg, p6), (t, r7, (p7, f, c), (ss, r8, (p8, g, d), (r9, p9, h))))))))))). (
+    process n (all_members tree.parameter gs) (all_members tree.variable ts) (statement t ss),
+    r9,
     (
-      r1,
-      r5,
-      ap (λ x. word keyword.Process ∷ x) (p ∙ ap (λ x. name n ∷ x) p1),
-      (gs, ag, refl, p2 ∙ ap (groups_words gs) (p3 ∙ ap (λ x. sign mark.Close ∷ x) (p4 ∙ ap (λ x. sign mark.Semicolon ∷ x) p5))),
-      (ts, tg, refl, p6 ∙ ap (togethers_words ts) (p7 ∙ ap (statement_words t) (p8 ∙ ap (further_words ss) p9))),
-      tt,
-      (f, g),
+      (
+        r1,
+        r5,
+        p0 ∙ ap (λ x. word keyword.Process ∷ x) (p ∙ ap (λ x. name n ∷ x) p1),
+        (gs, ag, refl, p2 ∙ ap (groups_words gs) (p3 ∙ ap (λ x. sign mark.Close ∷ x) (p4 ∙ ap (λ x. sign mark.Semicolon ∷ x) p5))),
+        (ts, tg, refl, p6 ∙ ap (togethers_words ts) (p7 ∙ ap (statement_words t) (p8 ∙ ap (further_words ss) p9))),
+        tt,
+        (f, g),
+      ),
+      omega (arith, c, d),
     ),
-    omega (arith, c, d),
+    h,
   ),
-  h,
+  tt,
 )
 
-back_process : (m : ℕ) (s : List Part) (k : Terminal) → Leads m (λ ks. Fits m (ProcessPart ∷ s) (k ∷ ks)) (step_process s k)
-back_process m s (word keyword.Process) = λ ks h. made_process m s ks h
-back_process m s _ = tt
-
-made_channels : (k : Kind) (m : ℕ) (s : List Part) (ks : List Terminal) → levels s ≤ m → Fits m (channels_then s) ks → Fits m (DeclarationPart ∷ s) (kind_terminal k ∷ ks)
-made_channels k m s ks b (o, r, p, (r1, p1, (n, r2, p2, (ns, r3, p3, h)))) = (
-  channels k o (n ∷ ns),
-  r3,
-  ((tt, ap (λ x. kind_terminal k ∷ x) (p ∙ ap (role_words o) (p1 ∙ ap (λ x. word keyword.Channel ∷ x) (p2 ∙ ap (λ x. name n ∷ x) p3)))), omega (arith, b)),
-  h,
+declaration_makes : (m : ℕ) (s : List Part) → levels s ≤ m → Makes m DeclarationPart s declaration_rules
+declaration_makes m s b = (
+  λ ks (r0, e, (o, r, p, (r1, p1, (n, r2, p2, (ns, r3, p3, h))))). let k = kind_one ks r0 e in (
+    channels k.0 o (n ∷ ns),
+    r3,
+    ((tt, k.1 ∙ ap (λ x. kind_terminal k.0 ∷ x) (p ∙ ap (role_words o) (p1 ∙ ap (λ x. word keyword.Channel ∷ x) (p2 ∙ ap (λ x. name n ∷ x) p3)))), omega (arith, b)),
+    h,
+  ),
+  process_makes m s,
 )
 
-back_declaration : (m : ℕ) (s : List Part) (k : Terminal) → levels s ≤ m → Leads m (λ ks. Fits m (DeclarationPart ∷ s) (k ∷ ks)) (step_declaration s k)
-back_declaration m s (word keyword.Integer) b = λ ks h. made_channels kind.Integer m s ks b h
-back_declaration m s (word keyword.Logical) b = λ ks h. made_channels kind.Logical m s ks b h
-back_declaration m s k b = leads_map m (λ ks. Fits m (ProcessPart ∷ s) (k ∷ ks)) (λ ks. Fits m (DeclarationPart ∷ s) (k ∷ ks)) (step_process s k) (λ ks h. h) (back_process m s k)
+group_makes : (m : ℕ) (s : List Part) → Makes m GroupPart s group_rules
+group_makes m s =
+    made (λ ks (r0, e, (f, r, g, (n, r1, p1, (ns, r2, p2, h)))). let k = kind_one ks r0 e in
+    (group (f k.0) (n ∷ ns), r2, (tt, k.1 ∙ (ap (λ x. kind_terminal k.0 ∷ x) refl ∙ g k.0) ∙ ap (taking_words (f k.0)) (p1 ∙ ap (λ x. name n ∷ x) p2)), h)) tt
 
-made_declarations : (m : ℕ) (s : List Part) (ks : List Terminal) → Fits m (DeclarationPart ∷ TokenPart SemicolonToken ∷ DeclarationsPart ∷ s) ks → Fits m (DeclarationsPart ∷ s) ks
-made_declarations m s ks (d, r, (p, c), (r1, p1, (ds, r2, (q, e), h))) = (d ∷ ds, r2, ((r1, subst (Declares d ks) p1 p, q), omega (arith, c, e)), h)
-
-back_declarations : (m : ℕ) (s : List Part) (o : Option (List Part)) (k : Terminal) → levels s ≤ m → Leads m (λ ks. Fits m s (k ∷ ks)) o →
-    Leads m (λ ks. Fits m (DeclarationsPart ∷ s) (k ∷ ks)) (step_declarations s o k)
-back_declarations m s o (word keyword.Integer) b other =
-    λ ks h. made_declarations m s _ (made_channels kind.Integer m (TokenPart SemicolonToken ∷ DeclarationsPart ∷ s) ks b h)
-back_declarations m s o (word keyword.Logical) b other =
-    λ ks h. made_declarations m s _ (made_channels kind.Logical m (TokenPart SemicolonToken ∷ DeclarationsPart ∷ s) ks b h)
-back_declarations m s o (word keyword.Process) b other = λ ks h. made_declarations m s _ (made_process m (TokenPart SemicolonToken ∷ DeclarationsPart ∷ s) ks h)
-back_declarations m s o k b other = falls DeclarationsPart m s o k tt b other
-
-back_role : (m : ℕ) (s : List Part) (o : Option (List Part)) (k : Terminal) → levels s ≤ m → Leads m (λ ks. Fits m s (k ∷ ks)) o →
-    Leads m (λ ks. Fits m (RolePart ∷ s) (k ∷ ks)) (step_role s o k)
-back_role m s o (word keyword.Input) b other = λ ks h. (role.Input, ks, refl, h)
-back_role m s o (word keyword.Output) b other = λ ks h. (role.Output, ks, refl, h)
-back_role m s o k b other = falls RolePart m s o k tt b other
-
-back_taking : (m : ℕ) (s : List Part) (o : Option (List Part)) (k : Terminal) → levels s ≤ m → Leads m (λ ks. Fits m s (k ∷ ks)) o →
-    Leads m (λ ks. Fits m (TakingPart ∷ s) (k ∷ ks)) (step_taking s o k)
-back_taking m s o (word keyword.In) b other = λ ks h. (taking.Channel direction.In, ks, (λ j. refl), h)
-back_taking m s o (word keyword.Out) b other = λ ks h. (taking.Channel direction.Out, ks, (λ j. refl), h)
-back_taking m s o k b other = falls TakingPart m s o k tt b other
-
-made_group : (k : Kind) (m : ℕ) (s : List Part) (ks : List Terminal) → Fits m (TakingPart ∷ goes_on NamesTail s) ks → Fits m (GroupPart ∷ s) (kind_terminal k ∷ ks)
-made_group k m s ks (f, r, e, (n, r1, p1, (ns, r2, p2, h))) =
-    (group (f k) (n ∷ ns), r2, (tt, e k ∙ ap (taking_words (f k)) (p1 ∙ ap (λ x. name n ∷ x) p2)), h)
-
-made_groups : (m : ℕ) (s : List Part) (ks : List Terminal) → Fits m (GroupPart ∷ TailPart GroupsTail ∷ s) ks → Fits m (GroupsPart ∷ s) ks
-made_groups m s ks (g, r, (a, p), (gs, r1, (b, p1), h)) = (g ∷ gs, r1, ((a, b), p ∙ ap (group_words g) p1), h)
-
-back_group : (m : ℕ) (s : List Part) (k : Terminal) → Leads m (λ ks. Fits m (GroupPart ∷ s) (k ∷ ks)) (step_kind (TakingPart ∷ goes_on NamesTail s) None k)
-back_group m s (word keyword.Integer) = λ ks h. made_group kind.Integer m s ks h
-back_group m s (word keyword.Logical) = λ ks h. made_group kind.Logical m s ks h
-back_group m s _ = tt
-
-back_groups : (m : ℕ) (s : List Part) (o : Option (List Part)) (k : Terminal) → levels s ≤ m → Leads m (λ ks. Fits m s (k ∷ ks)) o →
-    Leads m (λ ks. Fits m (GroupsPart ∷ s) (k ∷ ks)) (step_kind (TakingPart ∷ goes_on NamesTail (TailPart GroupsTail ∷ s)) o k)
-back_groups m s o (word keyword.Integer) b other = λ ks h. made_groups m s _ (made_group kind.Integer m (TailPart GroupsTail ∷ s) ks h)
-back_groups m s o (word keyword.Logical) b other = λ ks h. made_groups m s _ (made_group kind.Logical m (TailPart GroupsTail ∷ s) ks h)
-back_groups m s o k b other = falls GroupsPart m s o k tt b other
-
-made_variables : (k : Kind) (m : ℕ) (s : List Part) (ks : List Terminal) → Fits m (goes_on NamesTail (TokenPart SemicolonToken ∷ VariablesPart ∷ s)) ks → Fits m (VariablesPart ∷ s) (kind_terminal k ∷ ks)
-made_variables k m s ks (n, r, p, (ns, r1, p1, (r2, p2, (ts, r3, (a, p3), h)))) = (
-  group k (n ∷ ns) ∷ ts,
-  r3,
-  ((tt, a), ap (λ x. kind_terminal k ∷ x) (p ∙ ap (λ x. name n ∷ x) (p1 ∙ ap (further_names_words ns) (p2 ∙ ap (λ x. sign mark.Semicolon ∷ x) p3)))),
-  h,
+variables_make : (m : ℕ) (s : List Part) → Makes m VariablesPart s (rules_of VariablesPart).1
+variables_make m s = (
+  λ ks (r0, e, (n, r, p, (ns, r1, p1, (r2, p2, (ts, r3, (a, p3), h))))). let k = kind_one ks r0 e in (
+    group k.0 (n ∷ ns) ∷ ts,
+    r3,
+    ((tt, a), k.1 ∙ ap (λ x. kind_terminal k.0 ∷ x) (p ∙ ap (λ x. name n ∷ x) (p1 ∙ ap (further_names_words ns) (p2 ∙ ap (λ x. sign mark.Semicolon ∷ x) p3)))),
+    h,
+  ),
+  tt,
 )
 
-back_variables : (m : ℕ) (s : List Part) (o : Option (List Part)) (k : Terminal) → levels s ≤ m → Leads m (λ ks. Fits m s (k ∷ ks)) o →
-    Leads m (λ ks. Fits m (VariablesPart ∷ s) (k ∷ ks)) (step_kind (goes_on NamesTail (TokenPart SemicolonToken ∷ VariablesPart ∷ s)) o k)
-back_variables m s o (word keyword.Integer) b other = λ ks h. made_variables kind.Integer m s ks h
-back_variables m s o (word keyword.Logical) b other = λ ks h. made_variables kind.Logical m s ks h
-back_variables m s o k b other = falls VariablesPart m s o k tt b other
+argument_makes : (m : ℕ) (s : List Part) → Makes m ArgumentPart s argument_rules
+argument_makes m s =
+    made (λ ks (n, r, p, h). (channel n, r, p, h))
+    (made (λ ks (z, r, p, h). (tree.number z, r, inl p, h))
+    (made (λ ks (r, e, h). let v = truth_one ks r e in (tree.truth v.0, r, v.1, h))
+    ((λ ks (r, p, (z, r1, p1, h)). (tree.number (neg_ℤ z), r1, inr (z, refl, p ∙ ap (λ x. sign mark.Minus ∷ x) p1), h), tt))))
 
-back_instance : (m : ℕ) (s : List Part) (k : Terminal) → Leads m (λ ks. Fits m (InstancePart ∷ s) (k ∷ ks)) (step_instance s k)
-back_instance m s (name n) = λ ks (r, p, (xs, r1, q, h)). (instance n xs, r1, (r, ap (λ x. name n ∷ x) p, q), h)
-back_instance m s _ = tt
+makes : (p : Part) (m : ℕ) (s : List Part) → levels s ≤ m → Makes m p s (rules_of p).1
+makes ProgramPart m s b =
+    made (λ ks (r0, p0, (ds, r, (q, c), (i, r1, q1, (is, r2, q2, (r3, q3, (r4, p4, (r5, q5, h))))))). (ds, i ∷ is, r0, r, r2, r3, r4, r5, p0, q, (r1, q1, q2), q3, p4, q5, c, h)) tt
+makes DeclarationsPart m s b =
+    made_followed m DeclarationsPart DeclarationPart (TokenPart (a_sign mark.Semicolon) ∷ DeclarationsPart ∷ []) s declaration_rules
+    (λ ks (d, r, (p, c), (r1, p1, (ds, r2, (q, e), h))). (d ∷ ds, r2, ((r1, subst (Declares d ks) p1 p, q), omega (arith, c, e)), h))
+    (declaration_makes m (TokenPart (a_sign mark.Semicolon) ∷ DeclarationsPart ∷ s) b)
+makes DeclarationPart m s b = declaration_makes m s b
+makes ProcessPart m s b = process_makes m s
+makes RolePart m s b = (λ ks (r, e, h). ⊎_elim (λ p. (role.Input, r, p, h)) (λ p. (role.Output, r, p, h)) e, tt)
+makes GroupsPart m s b =
+    made_followed m GroupsPart GroupPart (GroupsTail ∷ []) s group_rules (λ ks (g, r, (a, p), (gs, r1, (c, p1), h)). (g ∷ gs, r1, ((a, c), p ∙ ap (group_words g) p1), h))
+    (group_makes m (GroupsTail ∷ s))
+makes GroupPart m s b = group_makes m s
+makes TakingPart m s b =
+    made (λ ks (r, e, h).
+    ⊎_elim (λ p. (taking.Channel direction.In, r, (λ k. ap (λ x. kind_terminal k ∷ x) p), h)) (λ p. (taking.Channel direction.Out, r, (λ k. ap (λ x. kind_terminal k ∷ x) p), h)) e) tt
+makes VariablesPart m s b = variables_make m s
+makes StatementPart m s b = statement_makes m s
+makes SimplePart m s b = simple_makes m s
+makes (ExpressionPart l) m s b = expression_makes l m s b
+makes (OperatorsPart l) m s b = operators_make l m s
+makes InstancePart m s b = (λ ks (n, r, p, (r1, p1, (xs, r2, q, h))). (instance n xs, r2, (r1, p ∙ ap (λ x. name n ∷ x) p1, q), h), tt)
+makes ArgumentsPart m s b =
+    made (λ ks (r, p, h). ([], r, p, h))
+    (made_followed m ArgumentsPart ArgumentPart (ArgumentsTail ∷ TokenPart (a_sign mark.Close) ∷ []) s argument_rules
+    (λ ks (a, r, p, (xs, r1, q, (r2, p2, h))). (a ∷ xs, r2, (r, p, subst (Further (StandsFirst (sign mark.Comma)) Argues xs r) p2 q), h))
+    (argument_makes m (ArgumentsTail ∷ TokenPart (a_sign mark.Close) ∷ s)))
+makes ArgumentPart m s b = argument_makes m s
+makes NamesTail m s b = (λ ks (r, p, (n, r1, p1, (ns, r2, p2, h))). (n ∷ ns, r2, p ∙ ap (λ x. sign mark.Comma ∷ x) (p1 ∙ ap (λ x. name n ∷ x) p2), h), tt)
+makes StatementsTail m s b =
+    made (λ ks (r, p, (t, r1, (p1, f, c), (ss, r2, (p2, g, d), h))).
+    (statement t ss, r2, (p ∙ ap (λ x. sign mark.Semicolon ∷ x) (p1 ∙ ap (statement_words t) p2), (f, g), omega (arith, c, d)), h)) tt
+makes GroupsTail m s b =
+    made (λ ks (r, p, (g, r1, (a, p1), (gs, r2, (c, p2), h))). (g ∷ gs, r2, ((a, c), p ∙ ap (λ x. sign mark.Semicolon ∷ x) (p1 ∙ ap (group_words g) p2)), h)) tt
+makes ArgumentsTail m s b = (λ ks (r, p, (a, r1, p1, (xs, r2, q, h))). (a ∷ xs, r2, (r, r1, p, p1, q), h), tt)
+makes InstancesTail m s b = (λ ks (r, p, (i, r1, p1, (is, r2, q, h))). (i ∷ is, r2, (r, r1, p, p1, q), h), tt)
+makes ElseTail m s b = (λ ks (r, p, (t, r1, (p1, f, c), h)). inr (t, r1, (p ∙ ap (λ x. word keyword.Else ∷ x) p1, f, c), h), tt)
+makes LastTail m s b = (λ ks (r, p, h). (r, inl p, h), tt)
+makes (TokenPart t) m s b = (λ ks h. h, tt)
+makes LevelPart m s b = tt
 
-back_argument : (m : ℕ) (s : List Part) (k : Terminal) → Leads m (λ ks. Fits m (ArgumentPart ∷ s) (k ∷ ks)) (step_argument s k)
-back_argument m s (name n) = λ ks h. (channel n, ks, refl, h)
-back_argument m s (terminal.number z) = λ ks h. (tree.number z, ks, inl refl, h)
-back_argument m s (word keyword.True) = λ ks h. (tree.truth true, ks, refl, h)
-back_argument m s (word keyword.False) = λ ks h. (tree.truth false, ks, refl, h)
-back_argument m s (sign mark.Minus) = λ ks (z, r, p, h). (tree.number (neg_ℤ z), r, inr (z, refl, ap (λ x. sign mark.Minus ∷ x) p), h)
-back_argument m s _ = tt
+found : (m : ℕ) (p : Part) (s : List Part) (k : Terminal) (ks : List Terminal) (rs : List Rule) (ps : List Part) → Makes m p s rs → enters rs k ≡ Some ps → Fits m (ps ++ s) ks → Fits m (p ∷ s) (k ∷ ks)
+found m p s k ks [] ps h e f = absurd cc
+found m p s k ks ((t, qs) ∷ rest) ps h e f = by (takes t k) refl e (λ g. found m p s k ks rest ps h.1 g f)
+  where
+    by : (b : Bool) → takes t k ≡ b → cond b (Some qs) (enters rest k) ≡ Some ps → (enters rest k ≡ Some ps → Fits m (p ∷ s) (k ∷ ks)) → Fits m (p ∷ s) (k ∷ ks)
+    by true i g again =
+        let same : qs ≡ ps = cc in
+        h.0 (k ∷ ks) (takes_one t k (Fits m (qs ++ s)) ks i (subst (λ x. Fits m (x ++ s) ks) (sym same) f))
+    by false i g again = again g
 
-made_arguments : (m : ℕ) (s : List Part) (ks : List Terminal) → Fits m (arguments_then s) ks → Fits m (ArgumentsPart ∷ s) ks
-made_arguments m s ks (a, r, p, (xs, r1, q, (r2, p2, h))) = (a ∷ xs, r2, (r, p, subst (Further (StandsFirst (sign mark.Comma)) Argues xs r) p2 q), h)
-
-back_arguments : (m : ℕ) (s : List Part) (k : Terminal) → Leads m (λ ks. Fits m (ArgumentsPart ∷ s) (k ∷ ks)) (step_arguments s k)
-back_arguments m s (sign mark.Close) = λ ks h. ([], ks, refl, h)
-back_arguments m s k = leads_map m _ _ (step_argument (TailPart ArgumentsTail ∷ TokenPart CloseToken ∷ s) k) (λ ks h. made_arguments m s (k ∷ ks) h)
-    (back_argument m (TailPart ArgumentsTail ∷ TokenPart CloseToken ∷ s) k)
-
-back_program : (m : ℕ) (s : List Part) (k : Terminal) → Leads m (λ ks. Fits m (ProgramPart ∷ s) (k ∷ ks)) (step_program s k)
-back_program m s (word keyword.Begin) = λ ks (ds, r, (q, c), (i, r1, q1, (is, r2, q2, (r3, q3, (r4, p4, (r5, q5, h)))))).
-    (ds, i ∷ is, ks, r, r2, r3, r4, r5, refl, q, (r1, q1, q2), q3, p4, q5, c, h)
-back_program m s _ = tt
+below : (p : Part) (s : List Part) → levels s ≤ levels (p ∷ s)
+below LevelPart s = omega arith
+below _ s = omega arith
 
 -- where a terminal leads on, it stands in front of what fits there
-back : (m : ℕ) (s : List Part) (k : Terminal) → levels s ≤ m → Leads m (λ ks. Fits m s (k ∷ ks)) (step s k)
-back m [] k b = tt
-back m (ProgramPart ∷ s) k b = back_program m s k
-back m (DeclarationsPart ∷ s) k b = back_declarations m s (step s k) k b (back m s k b)
-back m (DeclarationPart ∷ s) k b = back_declaration m s k b
-back m (ProcessPart ∷ s) k b = back_process m s k
-back m (RolePart ∷ s) k b = back_role m s (step s k) k b (back m s k b)
-back m (GroupsPart ∷ s) k b = back_groups m s (step s k) k b (back m s k b)
-back m (GroupPart ∷ s) k b = back_group m s k
-back m (TakingPart ∷ s) k b = back_taking m s (step s k) k b (back m s k b)
-back m (VariablesPart ∷ s) k b = back_variables m s (step s k) k b (back m s k b)
-back m (StatementPart ∷ s) k b = back_statement m s (step s k) k b (back m s k b)
-back m (SimplePart ∷ s) k b = back_simple m s (step s k) k b (back m s k b)
-back m (ExpressionPart l ∷ s) k b = back_expression l m s k b
-back m (OperatorsPart l ∷ s) k b = back_operators l m s (step s k) k (operator_of k) refl b (back m s k b)
-back m (InstancePart ∷ s) k b = back_instance m s k
-back m (ArgumentsPart ∷ s) k b = back_arguments m s k
-back m (ArgumentPart ∷ s) k b = back_argument m s k
-back m (TailPart t ∷ s) k b = back_tail t m s (step s k) k (takes (lead t) k) refl b (back m s k b)
-back m (TokenPart t ∷ s) k b = back_token t m s k (takes t k) refl
-back m (LevelPart ∷ s) k b = back m s k (omega (arith, b))
-
-some_token : (t : Token) (m : ℕ) (s : List Part) → ((ks : List Terminal) × Fits m s ks) → (ks : List Terminal) × Fits m (TokenPart t ∷ s) ks
-some_token t m s (r, h) = (token_terminal t ∷ r, takes_one t (token_terminal t) (Fits m s) r (it t) h)
+pub further : (m : ℕ) (s t : List Part) (k : Terminal) (ks : List Terminal) → levels s ≤ m → step s k ≡ Some t → Fits m t ks → Fits m s (k ∷ ks)
+further m [] t k ks b e h = absurd cc
+further m (p ∷ s) t k ks b e h = by (enters (rules_of p).1 k) refl e (λ f. further m s t k ks (omega (arith, b, below p s)) f h)
   where
-    it : (t : Token) → takes t (token_terminal t) ≡ true
-    it BecomesToken = refl
-    it _ = refl
+    skipped : (n : Bool) → (rules_of p).0 ≡ n → cond n (step s k) None ≡ Some t → (step s k ≡ Some t → Fits m s (k ∷ ks)) → Fits m (p ∷ s) (k ∷ ks)
+    skipped true i f rest = skip p m s (k ∷ ks) i (omega (arith, b, below p s)) (rest f)
+    skipped false i f rest = absurd cc
+
+    by : (o : Option (List Part)) → enters (rules_of p).1 k ≡ o → opening s (cond (rules_of p).0 (step s k) None) o ≡ Some t → (step s k ≡ Some t → Fits m s (k ∷ ks)) → Fits m (p ∷ s) (k ∷ ks)
+    by None i f rest = skipped (rules_of p).0 refl f rest
+    by (Some ps) i f rest =
+        let same : ps ++ s ≡ t = cc in
+        found m p s k ks (rules_of p).1 ps (makes p m s (omega (arith, b, below p s))) i (subst (λ x. Fits m x ks) (sym same) h)
+
+some_token : (t : Token) (Next : Lists) → ((ks : List Terminal) × Next ks) → (ks : List Terminal) × One t Next ks
+some_token a_name Next (r, h) = (_, ([], r, refl, h))
+some_token a_number Next (r, h) = (_, (pos 0, r, refl, h))
+some_token (a_word w) Next (r, h) = (_, (r, refl, h))
+some_token (either v w) Next (r, h) = (word v ∷ r, (r, inl refl, h))
+some_token (a_sign g) Next (r, h) = (_, (r, refl, h))
+some_token (an_operator o) Next (r, h) = (_, (o, r, refl, refl, h))
 
 at_most : (l : Rung) → at l ≤ 7
 at_most whole = omega arith
 at_most _ = omega arith
-
-some_skip : (p : Part) (m : ℕ) (s : List Part) → Nullable p → levels s ≤ m → ((ks : List Terminal) × Fits m s ks) → (ks : List Terminal) × Fits m (p ∷ s) ks
-some_skip p m s n b (ks, h) = (ks, skip p m s ks n b h)
 
 abbrev least_process : DeclarationTree
 least_process = process [] [] [] (statement empty no_statement)
@@ -514,25 +451,15 @@ fits_some m (ExpressionPart l ∷ s) b = let h = fits_some m s b in (_, (number 
 fits_some m (InstancePart ∷ s) b = let h = fits_some m s b in (_, (instance [] [], h.0, (_, refl, refl), h.1))
 fits_some m (ArgumentsPart ∷ s) b = let h = fits_some m s b in (_, ([], h.0, refl, h.1))
 fits_some m (ArgumentPart ∷ s) b = let h = fits_some m s b in (_, (channel [], h.0, refl, h.1))
-fits_some m (TokenPart t ∷ s) b = some_token t m s (fits_some m s b)
+fits_some m (TokenPart t ∷ s) b = some_token t (Fits m s) (fits_some m s b)
 fits_some m (LevelPart ∷ s) b = fits_some m s (omega (arith, b))
-fits_some m (p ∷ s) b = some_skip p m s tt b (fits_some m s b)
+fits_some m (p ∷ s) b = let h = fits_some m s b in (h.0, skip p m s h.0 refl b h.1)
 
 -- where it may end, nothing more is needed
 pub fits_nothing : (m : ℕ) (s : List Part) → levels s ≤ m → may_end s ≡ true → Fits m s []
 fits_nothing m [] b e = refl
-fits_nothing m (DeclarationsPart ∷ s) b e = skip DeclarationsPart m s [] tt b (fits_nothing m s b e)
-fits_nothing m (RolePart ∷ s) b e = skip RolePart m s [] tt b (fits_nothing m s b e)
-fits_nothing m (GroupsPart ∷ s) b e = skip GroupsPart m s [] tt b (fits_nothing m s b e)
-fits_nothing m (TakingPart ∷ s) b e = skip TakingPart m s [] tt b (fits_nothing m s b e)
-fits_nothing m (VariablesPart ∷ s) b e = skip VariablesPart m s [] tt b (fits_nothing m s b e)
-fits_nothing m (StatementPart ∷ s) b e = skip StatementPart m s [] tt b (fits_nothing m s b e)
-fits_nothing m (SimplePart ∷ s) b e = skip SimplePart m s [] tt b (fits_nothing m s b e)
-fits_nothing m (OperatorsPart l ∷ s) b e = skip (OperatorsPart l) m s [] tt b (fits_nothing m s b e)
-fits_nothing m (TailPart t ∷ s) b e = skip (TailPart t) m s [] tt b (fits_nothing m s b e)
-fits_nothing m (LevelPart ∷ s) b e = fits_nothing m s (omega (arith, b)) e
-fits_nothing m (_ ∷ s) b e = absurd (true≢false (sym e))
-
--- one step further from where the machine stands
-pub further : (m : ℕ) (s t : List Part) (k : Terminal) (ks : List Terminal) → levels s ≤ m → step s k ≡ Some t → Fits m t ks → Fits m s (k ∷ ks)
-further m s t k ks b e h = (subst (Leads m (λ (x : List Terminal). Fits m s (k ∷ x))) e (back m s k b)) ks h
+fits_nothing m (p ∷ s) b e = by (rules_of p).0 refl e (λ f. fits_nothing m s (omega (arith, b, below p s)) f)
+  where
+    by : (n : Bool) → (rules_of p).0 ≡ n → cond n (may_end s) false ≡ true → (may_end s ≡ true → Fits m s []) → Fits m (p ∷ s) []
+    by true i f rest = skip p m s [] i (omega (arith, b, below p s)) (rest f)
+    by false i f rest = absurd (true≢false (sym f))

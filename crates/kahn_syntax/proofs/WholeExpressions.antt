@@ -1,25 +1,17 @@
 -- A list that a tree spells is read whole: expressions.
-use Rattle.kahn_syntax.proofs.Common.{◌≡◌, ◌≢◌, ℕ, zero, suc, ◌+◌, ◌*◌, ◌≤◌, ◌<◌, List, ◌∷◌, true, false, refl, sym, ap, ◌∙◌, subst, arith, Terminal, word, sign, name, ExpressionTree, number, truth, variable, wait, negation, denial, bracket, level, conditional, OperandTrees, no_operand, operand, expression_words, operands_words, expression_nesting, operands_nesting, Formed, FormedOperands, Fits, Rung, whole, ors, ands, denials, relations, sums, terms, factors, at, tighter, OpenToken, NameToken, CloseToken, ThenToken, ElseToken, Part, ExpressionPart, OperatorsPart, TokenPart, LevelPart, levels, again, fate}
+use Rattle.kahn_syntax.proofs.Common.{◌≡◌, ◌≢◌, ℕ, zero, suc, ◌+◌, ◌*◌, ◌≤◌, ◌<◌, List, ◌∷◌, true, false, refl, sym, ap, ◌∙◌, subst, arith, Terminal, word, sign, name, ExpressionTree, number, truth, variable, wait, negation, denial, bracket, level, conditional, OperandTrees, no_operand, operand, expression_words, operands_words, expression_nesting, operands_nesting, Formed, FormedOperands, Fits, Rung, whole, ors, ands, denials, relations, sums, terms, factors, at, tighter, Part, ExpressionPart, OperatorsPart, TokenPart, LevelPart, levels, fate, a_sign, a_name, a_word}
 use Rattle.kahn_syntax.specs.declared.lexeme.Keyword.TheVariants as keyword
 use Rattle.kahn_syntax.specs.declared.lexeme.Sign.TheVariants as mark
 use Rattle.kahn_syntax.specs.Terminals as terminal
 use Rattle.kahn_syntax.proofs.Levels.{joined_words}
 use Rattle.kahn_syntax.proofs.Unique.{Ends, ends_more, ends_operand, size, sizes, above, stop, split, IsNoneOrOne, Whole, is_if, is_tighter, Denial, is_not, is_relation, level_low, no_if, no_not}
 use Rattle.kahn_syntax.proofs.Unique as unique
-use Rattle.kahn_syntax.proofs.Steps.{go, skip_level, take_token, IsChain, open_chain, open_whole, open_denial, skip_operators, ends_lacks, take_operator}
+use Rattle.kahn_syntax.proofs.Steps.{go, skip_level, take_token, IsChain, IsOther, open_chain, open_whole, open_denial, skip_operators, ends_lacks, take_comparison, take_operator}
 
 -- smaller trees are read whole
 abbrev Known : ℕ → Type 0
 Known k = (l : Rung) (t : ExpressionTree) (m : ℕ) (s : List Part) (r : List Terminal) → 8 * size t + above l < k → Fits (at l) t → Ends (stop l) r →
     levels s + expression_nesting t ≤ m → fate m (ExpressionPart l ∷ s) (expression_words t r) ≡ fate m s r
-
-abbrev IsOther : Rung → Type 0
-IsOther relations = ⊥
-IsOther l = IsChain l
-
-again_other : (l : Rung) (s : List Part) → IsOther l → again l s ≡ OperatorsPart l ∷ s
-again_other relations s h = absurd h
-again_other _ s h = refl
 
 record Facts (l : Rung) : Type 0 where
   stops : stop l ≡ at l
@@ -46,18 +38,17 @@ whole_operands : (k : ℕ) (l : Rung) → Known k → IsOther l → (os : Operan
 whole_operands k l known c no_operand m s r z f e n = skip_operators l m s r (ends_lacks (at l) r e)
 whole_operands k l known c (operand o t os) m s r z f e n =
     let h = facts l (is_chain l c) in
-    take_operator l m s o (expression_words t (operands_words os r)) f.0 (omega (arith, n))
-    ∙ (ap (λ x. fate m (ExpressionPart (tighter l) ∷ x) (expression_words t (operands_words os r))) (again_other l s c)
+    take_operator l m s o (expression_words t (operands_words os r)) c f.0 (omega (arith, n))
     ∙ (known (tighter l) t m (OperatorsPart l ∷ s) (operands_words os r) (omega (arith, z, h.next_above, h.low)) (omega (arith, h.next, f.1), f.2)
     (subst (λ j. Ends j (operands_words os r)) (sym h.next_stops) (ends_operand (at l) os r f.3 e)) (omega (arith, n))
-    ∙ whole_operands k l known c os m s r (omega (arith, z)) f.3 e (omega (arith, n))))
+    ∙ whole_operands k l known c os m s r (omega (arith, z)) f.3 e (omega (arith, n)))
 
 whole_comparison : (k : ℕ) → Known k → (os : OperandTrees) (m : ℕ) (s : List Part) (r : List Terminal) → 8 * sizes os ≤ k →
     FormedOperands 4 os → IsNoneOrOne os → Ends 4 r → levels s + operands_nesting os ≤ m → fate m (OperatorsPart relations ∷ s) (operands_words os r) ≡ fate m s r
 whole_comparison k known no_operand m s r z f c e n = skip_operators relations m s r (ends_lacks 4 r e)
 whole_comparison k known (operand o t (operand p u os)) m s r z f c e n = absurd c
 whole_comparison k known (operand o t no_operand) m s r z f c e n =
-    take_operator relations m s o (expression_words t r) f.0 (omega (arith, n))
+    take_comparison m s o (expression_words t r) f.0 (omega (arith, n))
     ∙ known sums t m s r (omega (arith, z)) (omega (arith, f.1), f.2) (ends_more 4 5 r (omega arith) e) (omega (arith, n))
 
 whole_rest : (k : ℕ) (l : Rung) → Known k → IsChain l → (os : OperandTrees) (m : ℕ) (s : List Part) (r : List Terminal) → 8 * sizes os ≤ k →
@@ -91,17 +82,17 @@ whole_factor k known (truth true) m s r b f e n = go m (ExpressionPart factors �
 whole_factor k known (truth false) m s r b f e n = go m (ExpressionPart factors ∷ s) s (word keyword.False) r refl (omega (arith, n))
 whole_factor k known (variable x) m s r b f e n = go m (ExpressionPart factors ∷ s) s (name x) r refl (omega (arith, n))
 whole_factor k known (wait x) m s r b f e n =
-    go m (ExpressionPart factors ∷ s) (TokenPart OpenToken ∷ TokenPart NameToken ∷ TokenPart CloseToken ∷ s) (word keyword.Wait) (sign mark.Open ∷ name x ∷ sign mark.Close ∷ r) refl (omega (arith, n))
-    ∙ (take_token OpenToken m (TokenPart NameToken ∷ TokenPart CloseToken ∷ s) (sign mark.Open) (name x ∷ sign mark.Close ∷ r) refl (omega (arith, n))
-    ∙ (take_token NameToken m (TokenPart CloseToken ∷ s) (name x) (sign mark.Close ∷ r) refl (omega (arith, n))
-    ∙ take_token CloseToken m s (sign mark.Close) r refl (omega (arith, n))))
+    go m (ExpressionPart factors ∷ s) (TokenPart (a_sign mark.Open) ∷ TokenPart a_name ∷ TokenPart (a_sign mark.Close) ∷ s) (word keyword.Wait) (sign mark.Open ∷ name x ∷ sign mark.Close ∷ r) refl (omega (arith, n))
+    ∙ (take_token (a_sign mark.Open) m (TokenPart a_name ∷ TokenPart (a_sign mark.Close) ∷ s) (sign mark.Open) (name x ∷ sign mark.Close ∷ r) refl (omega (arith, n))
+    ∙ (take_token a_name m (TokenPart (a_sign mark.Close) ∷ s) (name x) (sign mark.Close ∷ r) refl (omega (arith, n))
+    ∙ take_token (a_sign mark.Close) m s (sign mark.Close) r refl (omega (arith, n))))
 whole_factor k known (negation t) m s r b f e n =
     go m (ExpressionPart factors ∷ s) (ExpressionPart factors ∷ LevelPart ∷ s) (sign mark.Minus) (expression_words t r) refl (omega (arith, n))
     ∙ (known factors t m (LevelPart ∷ s) r (omega (arith, b)) f.1 e (omega (arith, n)) ∙ skip_level m s r)
 whole_factor k known (bracket t) m s r b f e n =
-    go m (ExpressionPart factors ∷ s) (ExpressionPart whole ∷ TokenPart CloseToken ∷ LevelPart ∷ s) (sign mark.Open) (expression_words t (sign mark.Close ∷ r)) refl (omega (arith, n))
-    ∙ (known whole t m (TokenPart CloseToken ∷ LevelPart ∷ s) (sign mark.Close ∷ r) (omega (arith, b)) (omega arith, f.1) (omega arith) (omega (arith, n))
-    ∙ (take_token CloseToken m (LevelPart ∷ s) (sign mark.Close) r refl (omega (arith, n)) ∙ skip_level m s r))
+    go m (ExpressionPart factors ∷ s) (ExpressionPart whole ∷ TokenPart (a_sign mark.Close) ∷ LevelPart ∷ s) (sign mark.Open) (expression_words t (sign mark.Close ∷ r)) refl (omega (arith, n))
+    ∙ (known whole t m (TokenPart (a_sign mark.Close) ∷ LevelPart ∷ s) (sign mark.Close ∷ r) (omega (arith, b)) (omega arith, f.1) (omega arith) (omega (arith, n))
+    ∙ (take_token (a_sign mark.Close) m (LevelPart ∷ s) (sign mark.Close) r refl (omega (arith, n)) ∙ skip_level m s r))
 whole_factor k known (denial t) m s r b f e n = absurd (omega (arith, f.0))
 whole_factor k known (level t os) m s r b f e n = absurd (level_low t os f)
 whole_factor k known (conditional a c d) m s r b f e n = absurd (omega (arith, f.0))
@@ -112,7 +103,7 @@ whole_denial k known t m s r b f e n = cases (unique.open_denial t f)
   where
     cases : Denial t → fate m (ExpressionPart denials ∷ s) (expression_words t r) ≡ fate m s r
     cases (is_relation i) =
-        open_denial m s (expression_words t r) (λ x. no_not t r x i) ∙ known relations t m s r (omega (arith, b)) i (ends_more 3 4 r (omega arith) e) n
+        open_denial m s (expression_words t r) (no_not t r i) ∙ known relations t m s r (omega (arith, b)) i (ends_more 3 4 r (omega arith) e) n
     cases (is_not a p fa z) =
         let small : expression_nesting a + 1 ≡ expression_nesting t = ap expression_nesting (sym p) in
         ap (λ x. fate m (ExpressionPart denials ∷ s) (expression_words x r)) p
@@ -124,18 +115,18 @@ whole_whole : (k : ℕ) → Known k → (t : ExpressionTree) (m : ℕ) (s : List
 whole_whole k known t m s r b f e n = cases (unique.open_whole t f)
   where
     cases : Whole t → fate m (ExpressionPart whole ∷ s) (expression_words t r) ≡ fate m s r
-    cases (is_tighter i) = open_whole m s (expression_words t r) (λ x. no_if t r x i) ∙ known ors t m s r (omega (arith, b)) i e n
+    cases (is_tighter i) = open_whole m s (expression_words t r) (no_if t r i) ∙ known ors t m s r (omega (arith, b)) i e n
     cases (is_if x y z p fx fy fz small) =
         let nests : expression_nesting (conditional x y z) ≡ expression_nesting t = ap expression_nesting (sym p) in
         ap (λ w. fate m (ExpressionPart whole ∷ s) (expression_words w r)) p
-        ∙ (go m (ExpressionPart whole ∷ s) (ExpressionPart whole ∷ TokenPart ThenToken ∷ ExpressionPart whole ∷ TokenPart ElseToken ∷ ExpressionPart whole ∷ LevelPart ∷ s)
+        ∙ (go m (ExpressionPart whole ∷ s) (ExpressionPart whole ∷ TokenPart (a_word keyword.Then) ∷ ExpressionPart whole ∷ TokenPart (a_word keyword.Else) ∷ ExpressionPart whole ∷ LevelPart ∷ s)
         (word keyword.If) (expression_words x (word keyword.Then ∷ expression_words y (word keyword.Else ∷ expression_words z r))) refl (omega (arith, n, nests))
-        ∙ (known whole x m (TokenPart ThenToken ∷ ExpressionPart whole ∷ TokenPart ElseToken ∷ ExpressionPart whole ∷ LevelPart ∷ s)
+        ∙ (known whole x m (TokenPart (a_word keyword.Then) ∷ ExpressionPart whole ∷ TokenPart (a_word keyword.Else) ∷ ExpressionPart whole ∷ LevelPart ∷ s)
         (word keyword.Then ∷ expression_words y (word keyword.Else ∷ expression_words z r)) (omega (arith, b, small)) (omega arith, fx) (omega arith) (omega (arith, n, nests))
-        ∙ (take_token ThenToken m (ExpressionPart whole ∷ TokenPart ElseToken ∷ ExpressionPart whole ∷ LevelPart ∷ s) (word keyword.Then)
+        ∙ (take_token (a_word keyword.Then) m (ExpressionPart whole ∷ TokenPart (a_word keyword.Else) ∷ ExpressionPart whole ∷ LevelPart ∷ s) (word keyword.Then)
         (expression_words y (word keyword.Else ∷ expression_words z r)) refl (omega (arith, n, nests))
-        ∙ (known whole y m (TokenPart ElseToken ∷ ExpressionPart whole ∷ LevelPart ∷ s) (word keyword.Else ∷ expression_words z r) (omega (arith, b, small)) (omega arith, fy) (omega arith) (omega (arith, n, nests))
-        ∙ (take_token ElseToken m (ExpressionPart whole ∷ LevelPart ∷ s) (word keyword.Else) (expression_words z r) refl (omega (arith, n, nests))
+        ∙ (known whole y m (TokenPart (a_word keyword.Else) ∷ ExpressionPart whole ∷ LevelPart ∷ s) (word keyword.Else ∷ expression_words z r) (omega (arith, b, small)) (omega arith, fy) (omega arith) (omega (arith, n, nests))
+        ∙ (take_token (a_word keyword.Else) m (ExpressionPart whole ∷ LevelPart ∷ s) (word keyword.Else) (expression_words z r) refl (omega (arith, n, nests))
         ∙ (known whole z m (LevelPart ∷ s) r (omega (arith, b, small)) (omega arith, fz) e (omega (arith, n, nests)) ∙ skip_level m s r))))))
 
 further : (k : ℕ) → Known k → Known (k + 1)

@@ -1,5 +1,5 @@
 -- A list that a tree spells is read whole: declarations, instances and programs.
-use Rattle.kahn_syntax.proofs.Common.{◌≡◌, ℕ, ◌+◌, ◌≤◌, List, [], ◌∷◌, true, false, Some, ⊎_elim, refl, ap, ◌∙◌, arith, AreAny, Further, Grouped, group, IsGroup, AreGroups, Kind, Role, Taking, Terminal, word, sign, name, statements_words, ParameterTree, VariableTree, DeclarationTree, channels, process, ArgumentTree, channel, InstanceTree, instance, ProgramTree, program, kind_terminal, role_words, taking_words, names_words, further_names_words, group_words, groups_words, further_groups_words, Parameters, togethers_words, Variables, Declares, Declarations, Argues, Arguments, Instantiates, Instances, MaybeSemicolon, Spells, declaration_nesting, declarations_nesting, nesting, StandsFirst, BeginToken, ChannelToken, CloseToken, CommaToken, EndToken, NameToken, NumberToken, OpenToken, ParToken, SemicolonToken, leads, NamesTail, StatementsTail, GroupsTail, ArgumentsTail, InstancesTail, LastTail, Part, ProgramPart, DeclarationsPart, DeclarationPart, RolePart, GroupsPart, GroupPart, TakingPart, VariablesPart, StatementPart, InstancePart, ArgumentsPart, ArgumentPart, TailPart, TokenPart, channels_then, levels, step, Whole, fate, leads_kind, goes_on}
+use Rattle.kahn_syntax.proofs.Common.{a_kind, ◌≡◌, ℕ, ◌+◌, ◌≤◌, List, [], ◌∷◌, true, false, Some, ⊎_elim, refl, ap, ◌∙◌, arith, AreAny, Further, Grouped, group, IsGroup, AreGroups, Kind, Role, Taking, Terminal, word, sign, name, statements_words, ParameterTree, VariableTree, DeclarationTree, channels, process, ArgumentTree, channel, InstanceTree, instance, ProgramTree, program, kind_terminal, role_words, taking_words, names_words, further_names_words, group_words, groups_words, further_groups_words, Parameters, togethers_words, Variables, Declares, Declarations, Argues, Arguments, Instantiates, Instances, MaybeSemicolon, Spells, declaration_nesting, declarations_nesting, nesting, StandsFirst, leads, NamesTail, StatementsTail, GroupsTail, ArgumentsTail, InstancesTail, LastTail, Part, ProgramPart, DeclarationsPart, DeclarationPart, RolePart, GroupsPart, GroupPart, TakingPart, VariablesPart, StatementPart, InstancePart, ArgumentsPart, ArgumentPart, TokenPart, levels, step, Whole, fate, a_word, a_sign, a_name, a_number}
 use Rattle.kahn_syntax.specs.declared.lexeme.Keyword.TheVariants as keyword
 use Rattle.kahn_syntax.specs.declared.lexeme.Sign.TheVariants as mark
 use Rattle.kahn_tree.specs.declared.tree.Kind.TheVariants as kind
@@ -9,20 +9,20 @@ use Rattle.kahn_tree.specs.declared.tree.Taking.TheVariants as taking
 use Rattle.kahn_syntax.specs.Terminals as terminal
 use Rattle.kahn_syntax.specs.Programs.{number, truth}
 use Rattle.kahn_syntax.proofs.OneTree.{statements_start, Named, named_instances, no_par_end, no_comma}
-use Rattle.kahn_syntax.proofs.Steps.{go, take_token, take_tail, skip_tail}
+use Rattle.kahn_syntax.proofs.Steps.{go, take_token, skip_tail}
 use Rattle.kahn_syntax.proofs.WholeStatements.{whole_statements}
 
-whole_further_names : (ns : List (List ℕ)) (m : ℕ) (s : List Part) (r : List Terminal) → leads CommaToken r ≡ false → levels s ≤ m →
-    fate m (TailPart NamesTail ∷ s) (further_names_words ns r) ≡ fate m s r
-whole_further_names [] m s r h b = skip_tail NamesTail m s r h
+whole_further_names : (ns : List (List ℕ)) (m : ℕ) (s : List Part) (r : List Terminal) → leads (a_sign mark.Comma) r ≡ false → levels s ≤ m →
+    fate m (NamesTail ∷ s) (further_names_words ns r) ≡ fate m s r
+whole_further_names [] m s r h b = skip_tail NamesTail (a_sign mark.Comma) _ m s r refl h
 whole_further_names (n ∷ ns) m s r h b =
-    take_tail NamesTail m s (sign mark.Comma) (name n ∷ further_names_words ns r) refl b
-    ∙ (take_token NameToken m (TailPart NamesTail ∷ s) (name n) (further_names_words ns r) refl b ∙ whole_further_names ns m s r h b)
+    go m (NamesTail ∷ s) (TokenPart a_name ∷ NamesTail ∷ s) (sign mark.Comma) (name n ∷ further_names_words ns r) refl b
+    ∙ (take_token a_name m (NamesTail ∷ s) (name n) (further_names_words ns r) refl b ∙ whole_further_names ns m s r h b)
 
-pub whole_names : (ns : List (List ℕ)) (m : ℕ) (s : List Part) (r : List Terminal) → AreAny ns → leads CommaToken r ≡ false → levels s ≤ m →
-    fate m (goes_on NamesTail s) (names_words ns r) ≡ fate m s r
+pub whole_names : (ns : List (List ℕ)) (m : ℕ) (s : List Part) (r : List Terminal) → AreAny ns → leads (a_sign mark.Comma) r ≡ false → levels s ≤ m →
+    fate m (TokenPart a_name ∷ NamesTail ∷ s) (names_words ns r) ≡ fate m s r
 whole_names [] m s r a h b = absurd a
-whole_names (n ∷ ns) m s r a h b = take_token NameToken m (TailPart NamesTail ∷ s) (name n) (further_names_words ns r) refl b ∙ whole_further_names ns m s r h b
+whole_names (n ∷ ns) m s r a h b = take_token a_name m (NamesTail ∷ s) (name n) (further_names_words ns r) refl b ∙ whole_further_names ns m s r h b
 
 pub take_kind : (k : Kind) (m : ℕ) (p u : List Part) (r : List Terminal) → step p (word keyword.Integer) ≡ Some u → step p (word keyword.Logical) ≡ Some u → levels u ≤ m →
     fate m p (kind_terminal k ∷ r) ≡ fate m u r
@@ -37,45 +37,43 @@ whole_taking (taking.Channel direction.Out k) m p u x r e f b =
     take_kind k m p (TakingPart ∷ u) (word keyword.Out ∷ name x ∷ r) e f b ∙ go m (TakingPart ∷ u) u (word keyword.Out) (name x ∷ r) refl b
 whole_taking (taking.Value k) m p u x r e f b = take_kind k m p (TakingPart ∷ u) (name x ∷ r) e f b ∙ refl
 
-whole_group : (g : Grouped Taking (List ℕ)) (m : ℕ) (p s : List Part) (r : List Terminal) → step p (word keyword.Integer) ≡ Some (TakingPart ∷ goes_on NamesTail s) →
-    step p (word keyword.Logical) ≡ Some (TakingPart ∷ goes_on NamesTail s) → IsGroup g → leads CommaToken r ≡ false → levels s ≤ m → fate m p (group_words g r) ≡ fate m s r
+whole_group : (g : Grouped Taking (List ℕ)) (m : ℕ) (p s : List Part) (r : List Terminal) → step p (word keyword.Integer) ≡ Some (TakingPart ∷ TokenPart a_name ∷ NamesTail ∷ s) →
+    step p (word keyword.Logical) ≡ Some (TakingPart ∷ TokenPart a_name ∷ NamesTail ∷ s) → IsGroup g → leads (a_sign mark.Comma) r ≡ false → levels s ≤ m → fate m p (group_words g r) ≡ fate m s r
 whole_group (group t []) m p s r e f a h b = absurd a
 whole_group (group t (n ∷ ns)) m p s r e f a h b =
-    whole_taking t m p (goes_on NamesTail s) n (further_names_words ns r) e f b ∙ whole_names (n ∷ ns) m s r tt h b
+    whole_taking t m p (TokenPart a_name ∷ NamesTail ∷ s) n (further_names_words ns r) e f b ∙ whole_names (n ∷ ns) m s r tt h b
 
 whole_further_groups : (gs : List (Grouped Taking (List ℕ))) (m : ℕ) (s : List Part) (x : List Terminal) → AreGroups gs → levels s ≤ m →
-    fate m (TailPart GroupsTail ∷ s) (further_groups_words gs (sign mark.Close ∷ x)) ≡ fate m s (sign mark.Close ∷ x)
-whole_further_groups [] m s x a b = skip_tail GroupsTail m s (sign mark.Close ∷ x) refl
+    fate m (GroupsTail ∷ s) (further_groups_words gs (sign mark.Close ∷ x)) ≡ fate m s (sign mark.Close ∷ x)
+whole_further_groups [] m s x a b = skip_tail GroupsTail (a_sign mark.Semicolon) _ m s (sign mark.Close ∷ x) refl refl
 whole_further_groups (g ∷ gs) m s x a b =
-    take_tail GroupsTail m s (sign mark.Semicolon) (group_words g (further_groups_words gs (sign mark.Close ∷ x))) refl b
-    ∙ (whole_group g m (GroupPart ∷ TailPart GroupsTail ∷ s) (TailPart GroupsTail ∷ s) (further_groups_words gs (sign mark.Close ∷ x)) refl refl a.0 (no_comma gs x) b
+    go m (GroupsTail ∷ s) (GroupPart ∷ GroupsTail ∷ s) (sign mark.Semicolon) (group_words g (further_groups_words gs (sign mark.Close ∷ x))) refl b
+    ∙ (whole_group g m (GroupPart ∷ GroupsTail ∷ s) (GroupsTail ∷ s) (further_groups_words gs (sign mark.Close ∷ x)) refl refl a.0 (no_comma gs x) b
     ∙ whole_further_groups gs m s x a.1 b)
 
 whole_groups : (gs : List (Grouped Taking (List ℕ))) (m : ℕ) (s : List Part) (x : List Terminal) → AreGroups gs → levels s ≤ m →
     fate m (GroupsPart ∷ s) (groups_words gs (sign mark.Close ∷ x)) ≡ fate m s (sign mark.Close ∷ x)
 whole_groups [] m s x a b = refl
 whole_groups (g ∷ gs) m s x a b =
-    whole_group g m (GroupsPart ∷ s) (TailPart GroupsTail ∷ s) (further_groups_words gs (sign mark.Close ∷ x)) refl refl a.0 (no_comma gs x) b
+    whole_group g m (GroupsPart ∷ s) (GroupsTail ∷ s) (further_groups_words gs (sign mark.Close ∷ x)) refl refl a.0 (no_comma gs x) b
     ∙ whole_further_groups gs m s x a.1 b
 
 whole_parameters : (ps : List ParameterTree) (m : ℕ) (s : List Part) (ks x : List Terminal) → Parameters ps ks (sign mark.Close ∷ x) → levels s ≤ m →
     fate m (GroupsPart ∷ s) ks ≡ fate m s (sign mark.Close ∷ x)
 whole_parameters ps m s ks x (gs, a, e, p) b = ap (fate m (GroupsPart ∷ s)) p ∙ whole_groups gs m s x a b
 
-pub skip_variables : (m : ℕ) (s : List Part) (r : List Terminal) → leads_kind r ≡ false → fate m (VariablesPart ∷ s) r ≡ fate m s r
-skip_variables m s [] h = refl
-skip_variables m s (word keyword.Integer ∷ r) h = cc
-skip_variables m s (_ ∷ r) h = cc
+pub skip_variables : (m : ℕ) (s : List Part) (r : List Terminal) → leads a_kind r ≡ false → fate m (VariablesPart ∷ s) r ≡ fate m s r
+skip_variables m s r h = skip_tail VariablesPart a_kind _ m s r refl h
 
-whole_togethers : (ts : List (Grouped Kind (List ℕ))) (m : ℕ) (s : List Part) (r : List Terminal) → AreGroups ts → leads_kind r ≡ false → levels s ≤ m →
+whole_togethers : (ts : List (Grouped Kind (List ℕ))) (m : ℕ) (s : List Part) (r : List Terminal) → AreGroups ts → leads a_kind r ≡ false → levels s ≤ m →
     fate m (VariablesPart ∷ s) (togethers_words ts r) ≡ fate m s r
 whole_togethers [] m s r a h b = skip_variables m s r h
 whole_togethers (group k ns ∷ ts) m s r a h b =
-    take_kind k m (VariablesPart ∷ s) (goes_on NamesTail (TokenPart SemicolonToken ∷ VariablesPart ∷ s)) (names_words ns (sign mark.Semicolon ∷ togethers_words ts r)) refl refl b
-    ∙ (whole_names ns m (TokenPart SemicolonToken ∷ VariablesPart ∷ s) (sign mark.Semicolon ∷ togethers_words ts r) a.0 refl b
-    ∙ (take_token SemicolonToken m (VariablesPart ∷ s) (sign mark.Semicolon) (togethers_words ts r) refl b ∙ whole_togethers ts m s r a.1 h b))
+    take_kind k m (VariablesPart ∷ s) (TokenPart a_name ∷ NamesTail ∷ (TokenPart (a_sign mark.Semicolon) ∷ VariablesPart ∷ s)) (names_words ns (sign mark.Semicolon ∷ togethers_words ts r)) refl refl b
+    ∙ (whole_names ns m (TokenPart (a_sign mark.Semicolon) ∷ VariablesPart ∷ s) (sign mark.Semicolon ∷ togethers_words ts r) a.0 refl b
+    ∙ (take_token (a_sign mark.Semicolon) m (VariablesPart ∷ s) (sign mark.Semicolon) (togethers_words ts r) refl b ∙ whole_togethers ts m s r a.1 h b))
 
-whole_variables : (vs : List VariableTree) (m : ℕ) (s : List Part) (ks r : List Terminal) → Variables vs ks r → leads_kind r ≡ false → levels s ≤ m →
+whole_variables : (vs : List VariableTree) (m : ℕ) (s : List Part) (ks r : List Terminal) → Variables vs ks r → leads a_kind r ≡ false → levels s ≤ m →
     fate m (VariablesPart ∷ s) ks ≡ fate m s r
 whole_variables vs m s ks r (ts, a, e, p) h b = ap (fate m (VariablesPart ∷ s)) p ∙ whole_togethers ts m s r a h b
 
@@ -87,36 +85,36 @@ whole_role role.Output m s r b = go m (RolePart ∷ s) s (word keyword.Output) (
 
 -- what follows the word `process`
 abbrev pub process_then : List Part → List Part
-process_then s = TokenPart NameToken ∷ TokenPart OpenToken ∷ GroupsPart ∷ TokenPart CloseToken ∷ TokenPart SemicolonToken ∷ TokenPart BeginToken
-    ∷ VariablesPart ∷ StatementPart ∷ TailPart StatementsTail ∷ TokenPart EndToken ∷ s
+process_then s = TokenPart a_name ∷ TokenPart (a_sign mark.Open) ∷ GroupsPart ∷ TokenPart (a_sign mark.Close) ∷ TokenPart (a_sign mark.Semicolon) ∷ TokenPart (a_word keyword.Begin)
+    ∷ VariablesPart ∷ StatementPart ∷ StatementsTail ∷ TokenPart (a_word keyword.End) ∷ s
 
 whole_declares : (d : DeclarationTree) (m : ℕ) (s : List Part) (ks x : List Terminal) → Declares d ks (sign mark.Semicolon ∷ x) → levels s + declaration_nesting d ≤ m →
     fate m (DeclarationPart ∷ s) ks ≡ fate m s (sign mark.Semicolon ∷ x)
 whole_declares (channels k o ns) m s ks x (a, e) b =
     let c : levels s ≤ m = omega (arith, b) in
     ap (fate m (DeclarationPart ∷ s)) e
-    ∙ (take_kind k m (DeclarationPart ∷ s) (channels_then s) (role_words o (word keyword.Channel ∷ names_words ns (sign mark.Semicolon ∷ x))) refl refl c
-    ∙ (whole_role o m (TokenPart ChannelToken ∷ goes_on NamesTail s) (names_words ns (sign mark.Semicolon ∷ x)) c
-    ∙ (take_token ChannelToken m (goes_on NamesTail s) (word keyword.Channel) (names_words ns (sign mark.Semicolon ∷ x)) refl c
+    ∙ (take_kind k m (DeclarationPart ∷ s) (RolePart ∷ TokenPart (a_word keyword.Channel) ∷ TokenPart a_name ∷ NamesTail ∷ s) (role_words o (word keyword.Channel ∷ names_words ns (sign mark.Semicolon ∷ x))) refl refl c
+    ∙ (whole_role o m (TokenPart (a_word keyword.Channel) ∷ TokenPart a_name ∷ NamesTail ∷ s) (names_words ns (sign mark.Semicolon ∷ x)) c
+    ∙ (take_token (a_word keyword.Channel) m (TokenPart a_name ∷ NamesTail ∷ s) (word keyword.Channel) (names_words ns (sign mark.Semicolon ∷ x)) refl c
     ∙ whole_names ns m s (sign mark.Semicolon ∷ x) a refl c)))
 whole_declares (process n ps vs body) m s ks x (a, b, e, p, v, some, f) bound =
     let c : levels s ≤ m = omega (arith, bound) in
-    let body_parts : List Part = VariablesPart ∷ StatementPart ∷ TailPart StatementsTail ∷ TokenPart EndToken ∷ s in
+    let body_parts : List Part = VariablesPart ∷ StatementPart ∷ StatementsTail ∷ TokenPart (a_word keyword.End) ∷ s in
     ap (fate m (DeclarationPart ∷ s)) e
     ∙ (go m (DeclarationPart ∷ s) (process_then s) (word keyword.Process) (name n ∷ sign mark.Open ∷ a) refl c
-    ∙ (take_token NameToken m (TokenPart OpenToken ∷ GroupsPart ∷ TokenPart CloseToken ∷ TokenPart SemicolonToken ∷ TokenPart BeginToken ∷ body_parts) (name n) (sign mark.Open ∷ a) refl c
-    ∙ (take_token OpenToken m (GroupsPart ∷ TokenPart CloseToken ∷ TokenPart SemicolonToken ∷ TokenPart BeginToken ∷ body_parts) (sign mark.Open) a refl c
-    ∙ (whole_parameters ps m (TokenPart CloseToken ∷ TokenPart SemicolonToken ∷ TokenPart BeginToken ∷ body_parts) a (sign mark.Semicolon ∷ word keyword.Begin ∷ b) p c
-    ∙ (take_token CloseToken m (TokenPart SemicolonToken ∷ TokenPart BeginToken ∷ body_parts) (sign mark.Close) (sign mark.Semicolon ∷ word keyword.Begin ∷ b) refl c
-    ∙ (take_token SemicolonToken m (TokenPart BeginToken ∷ body_parts) (sign mark.Semicolon) (word keyword.Begin ∷ b) refl c
-    ∙ (take_token BeginToken m body_parts (word keyword.Begin) b refl c
-    ∙ (whole_variables vs m (StatementPart ∷ TailPart StatementsTail ∷ TokenPart EndToken ∷ s) b (statements_words body (word keyword.End ∷ sign mark.Semicolon ∷ x)) v
+    ∙ (take_token a_name m (TokenPart (a_sign mark.Open) ∷ GroupsPart ∷ TokenPart (a_sign mark.Close) ∷ TokenPart (a_sign mark.Semicolon) ∷ TokenPart (a_word keyword.Begin) ∷ body_parts) (name n) (sign mark.Open ∷ a) refl c
+    ∙ (take_token (a_sign mark.Open) m (GroupsPart ∷ TokenPart (a_sign mark.Close) ∷ TokenPart (a_sign mark.Semicolon) ∷ TokenPart (a_word keyword.Begin) ∷ body_parts) (sign mark.Open) a refl c
+    ∙ (whole_parameters ps m (TokenPart (a_sign mark.Close) ∷ TokenPart (a_sign mark.Semicolon) ∷ TokenPart (a_word keyword.Begin) ∷ body_parts) a (sign mark.Semicolon ∷ word keyword.Begin ∷ b) p c
+    ∙ (take_token (a_sign mark.Close) m (TokenPart (a_sign mark.Semicolon) ∷ TokenPart (a_word keyword.Begin) ∷ body_parts) (sign mark.Close) (sign mark.Semicolon ∷ word keyword.Begin ∷ b) refl c
+    ∙ (take_token (a_sign mark.Semicolon) m (TokenPart (a_word keyword.Begin) ∷ body_parts) (sign mark.Semicolon) (word keyword.Begin ∷ b) refl c
+    ∙ (take_token (a_word keyword.Begin) m body_parts (word keyword.Begin) b refl c
+    ∙ (whole_variables vs m (StatementPart ∷ StatementsTail ∷ TokenPart (a_word keyword.End) ∷ s) b (statements_words body (word keyword.End ∷ sign mark.Semicolon ∷ x)) v
     (statements_start body (sign mark.Semicolon ∷ x) some) c
-    ∙ (whole_statements body m (TokenPart EndToken ∷ s) (word keyword.End ∷ sign mark.Semicolon ∷ x) some f tt bound
-    ∙ take_token EndToken m s (word keyword.End) (sign mark.Semicolon ∷ x) refl c)))))))))
+    ∙ (whole_statements body m (TokenPart (a_word keyword.End) ∷ s) (word keyword.End ∷ sign mark.Semicolon ∷ x) some f tt bound
+    ∙ take_token (a_word keyword.End) m s (word keyword.End) (sign mark.Semicolon ∷ x) refl c)))))))))
 
 open_declarations : (d : DeclarationTree) (m : ℕ) (s : List Part) (ks r : List Terminal) → Declares d ks r →
-    fate m (DeclarationsPart ∷ s) ks ≡ fate m (DeclarationPart ∷ TokenPart SemicolonToken ∷ DeclarationsPart ∷ s) ks
+    fate m (DeclarationsPart ∷ s) ks ≡ fate m (DeclarationPart ∷ TokenPart (a_sign mark.Semicolon) ∷ DeclarationsPart ∷ s) ks
 open_declarations (channels kind.Integer o ns) m s ks r (a, e) = rw e refl
 open_declarations (channels kind.Logical o ns) m s ks r (a, e) = rw e refl
 open_declarations (process n ps vs body) m s ks r (a, b, e, p, v, some, f) = rw e refl
@@ -131,8 +129,8 @@ whole_declarations : (ds : List DeclarationTree) (m : ℕ) (s : List Part) (ks r
 whole_declarations [] m s ks r h e b = ap (fate m (DeclarationsPart ∷ s)) e ∙ named_declarations m s r h
 whole_declarations (d ∷ ds) m s ks r h (x, p, q) b =
     open_declarations d m s ks (sign mark.Semicolon ∷ x) p
-    ∙ (whole_declares d m (TokenPart SemicolonToken ∷ DeclarationsPart ∷ s) ks x p (omega (arith, b))
-    ∙ (take_token SemicolonToken m (DeclarationsPart ∷ s) (sign mark.Semicolon) x refl (omega (arith, b)) ∙ whole_declarations ds m s x r h q (omega (arith, b))))
+    ∙ (whole_declares d m (TokenPart (a_sign mark.Semicolon) ∷ DeclarationsPart ∷ s) ks x p (omega (arith, b))
+    ∙ (take_token (a_sign mark.Semicolon) m (DeclarationsPart ∷ s) (sign mark.Semicolon) x refl (omega (arith, b)) ∙ whole_declarations ds m s x r h q (omega (arith, b))))
 
 pub whole_argues : (a : ArgumentTree) (m : ℕ) (s : List Part) (ks r : List Terminal) → Argues a ks r → levels s ≤ m → fate m (ArgumentPart ∷ s) ks ≡ fate m s r
 whole_argues (channel n) m s ks r e b = ap (fate m (ArgumentPart ∷ s)) e ∙ go m (ArgumentPart ∷ s) s (name n) r refl b
@@ -141,13 +139,13 @@ whole_argues (truth false) m s ks r e b = ap (fate m (ArgumentPart ∷ s)) e ∙
 whole_argues (number z) m s ks r e b =
     ⊎_elim
     (λ p. ap (fate m (ArgumentPart ∷ s)) p ∙ go m (ArgumentPart ∷ s) s (terminal.number z) r refl b)
-    (λ (n, q, p). ap (fate m (ArgumentPart ∷ s)) p ∙ (go m (ArgumentPart ∷ s) (TokenPart NumberToken ∷ s) (sign mark.Minus) (terminal.number n ∷ r) refl b
-    ∙ take_token NumberToken m s (terminal.number n) r refl b))
+    (λ (n, q, p). ap (fate m (ArgumentPart ∷ s)) p ∙ (go m (ArgumentPart ∷ s) (TokenPart a_number ∷ s) (sign mark.Minus) (terminal.number n ∷ r) refl b
+    ∙ take_token a_number m s (terminal.number n) r refl b))
     e
 
 -- the first argument, and the others
 abbrev pub arguments_then : List Part → List Part
-arguments_then s = ArgumentPart ∷ TailPart ArgumentsTail ∷ TokenPart CloseToken ∷ s
+arguments_then s = ArgumentPart ∷ ArgumentsTail ∷ TokenPart (a_sign mark.Close) ∷ s
 
 open_arguments : (a : ArgumentTree) (m : ℕ) (s : List Part) (ks r : List Terminal) → Argues a ks r → fate m (ArgumentsPart ∷ s) ks ≡ fate m (arguments_then s) ks
 open_arguments (channel n) m s ks r e = rw e refl
@@ -155,54 +153,54 @@ open_arguments (truth true) m s ks r e = rw e refl
 open_arguments (truth false) m s ks r e = rw e refl
 open_arguments (number z) m s ks r e = ⊎_elim (λ p. rw p refl) (λ (n, q, p). rw p refl) e
 
-whole_further_arguments : (xs : List ArgumentTree) (m : ℕ) (s : List Part) (ks r : List Terminal) → leads CommaToken r ≡ false → Further (StandsFirst (sign mark.Comma)) Argues xs ks r → levels s ≤ m →
-    fate m (TailPart ArgumentsTail ∷ s) ks ≡ fate m s r
-whole_further_arguments [] m s ks r h e b = ap (fate m (TailPart ArgumentsTail ∷ s)) e ∙ skip_tail ArgumentsTail m s r h
+whole_further_arguments : (xs : List ArgumentTree) (m : ℕ) (s : List Part) (ks r : List Terminal) → leads (a_sign mark.Comma) r ≡ false → Further (StandsFirst (sign mark.Comma)) Argues xs ks r → levels s ≤ m →
+    fate m (ArgumentsTail ∷ s) ks ≡ fate m s r
+whole_further_arguments [] m s ks r h e b = ap (fate m (ArgumentsTail ∷ s)) e ∙ skip_tail ArgumentsTail (a_sign mark.Comma) _ m s r refl h
 whole_further_arguments (a ∷ xs) m s ks r h (x, y, e, p, q) b =
-    ap (fate m (TailPart ArgumentsTail ∷ s)) e
-    ∙ (take_tail ArgumentsTail m s (sign mark.Comma) x refl b ∙ (whole_argues a m (TailPart ArgumentsTail ∷ s) x y p b ∙ whole_further_arguments xs m s y r h q b))
+    ap (fate m (ArgumentsTail ∷ s)) e
+    ∙ (go m (ArgumentsTail ∷ s) (ArgumentPart ∷ ArgumentsTail ∷ s) (sign mark.Comma) x refl b ∙ (whole_argues a m (ArgumentsTail ∷ s) x y p b ∙ whole_further_arguments xs m s y r h q b))
 
 whole_arguments : (xs : List ArgumentTree) (m : ℕ) (s : List Part) (ks r : List Terminal) → Arguments xs ks (sign mark.Close ∷ r) → levels s ≤ m →
     fate m (ArgumentsPart ∷ s) ks ≡ fate m s r
 whole_arguments [] m s ks r e b = ap (fate m (ArgumentsPart ∷ s)) e ∙ go m (ArgumentsPart ∷ s) s (sign mark.Close) r refl b
 whole_arguments (a ∷ xs) m s ks r (x, p, q) b =
     open_arguments a m s ks x p
-    ∙ (whole_argues a m (TailPart ArgumentsTail ∷ TokenPart CloseToken ∷ s) ks x p b
-    ∙ (whole_further_arguments xs m (TokenPart CloseToken ∷ s) x (sign mark.Close ∷ r) refl q b ∙ take_token CloseToken m s (sign mark.Close) r refl b))
+    ∙ (whole_argues a m (ArgumentsTail ∷ TokenPart (a_sign mark.Close) ∷ s) ks x p b
+    ∙ (whole_further_arguments xs m (TokenPart (a_sign mark.Close) ∷ s) x (sign mark.Close ∷ r) refl q b ∙ take_token (a_sign mark.Close) m s (sign mark.Close) r refl b))
 
 whole_instantiates : (i : InstanceTree) (m : ℕ) (s : List Part) (ks r : List Terminal) → Instantiates i ks r → levels s ≤ m → fate m (InstancePart ∷ s) ks ≡ fate m s r
 whole_instantiates (instance n xs) m s ks r (x, e, p) b =
     ap (fate m (InstancePart ∷ s)) e
-    ∙ (go m (InstancePart ∷ s) (TokenPart OpenToken ∷ ArgumentsPart ∷ s) (name n) (sign mark.Open ∷ x) refl b
-    ∙ (take_token OpenToken m (ArgumentsPart ∷ s) (sign mark.Open) x refl b ∙ whole_arguments xs m s x r p b))
+    ∙ (go m (InstancePart ∷ s) (TokenPart (a_sign mark.Open) ∷ ArgumentsPart ∷ s) (name n) (sign mark.Open ∷ x) refl b
+    ∙ (take_token (a_sign mark.Open) m (ArgumentsPart ∷ s) (sign mark.Open) x refl b ∙ whole_arguments xs m s x r p b))
 
-whole_further_instances : (is : List InstanceTree) (m : ℕ) (s : List Part) (ks r : List Terminal) → leads ParToken r ≡ false → Further (StandsFirst (word keyword.Par)) Instantiates is ks r → levels s ≤ m →
-    fate m (TailPart InstancesTail ∷ s) ks ≡ fate m s r
-whole_further_instances [] m s ks r h e b = ap (fate m (TailPart InstancesTail ∷ s)) e ∙ skip_tail InstancesTail m s r h
+whole_further_instances : (is : List InstanceTree) (m : ℕ) (s : List Part) (ks r : List Terminal) → leads (a_word keyword.Par) r ≡ false → Further (StandsFirst (word keyword.Par)) Instantiates is ks r → levels s ≤ m →
+    fate m (InstancesTail ∷ s) ks ≡ fate m s r
+whole_further_instances [] m s ks r h e b = ap (fate m (InstancesTail ∷ s)) e ∙ skip_tail InstancesTail (a_word keyword.Par) _ m s r refl h
 whole_further_instances (i ∷ is) m s ks r h (x, y, e, p, q) b =
-    ap (fate m (TailPart InstancesTail ∷ s)) e
-    ∙ (take_tail InstancesTail m s (word keyword.Par) x refl b ∙ (whole_instantiates i m (TailPart InstancesTail ∷ s) x y p b ∙ whole_further_instances is m s y r h q b))
+    ap (fate m (InstancesTail ∷ s)) e
+    ∙ (go m (InstancesTail ∷ s) (InstancePart ∷ InstancesTail ∷ s) (word keyword.Par) x refl b ∙ (whole_instantiates i m (InstancesTail ∷ s) x y p b ∙ whole_further_instances is m s y r h q b))
 
-whole_instances : (is : List InstanceTree) (m : ℕ) (s : List Part) (ks r : List Terminal) → leads ParToken r ≡ false → Instances is ks r → levels s ≤ m →
-    fate m (InstancePart ∷ TailPart InstancesTail ∷ s) ks ≡ fate m s r
+whole_instances : (is : List InstanceTree) (m : ℕ) (s : List Part) (ks r : List Terminal) → leads (a_word keyword.Par) r ≡ false → Instances is ks r → levels s ≤ m →
+    fate m (InstancePart ∷ InstancesTail ∷ s) ks ≡ fate m s r
 whole_instances [] m s ks r h p b = absurd p
-whole_instances (i ∷ is) m s ks r h (x, p, q) b = whole_instantiates i m (TailPart InstancesTail ∷ s) ks x p b ∙ whole_further_instances is m s x r h q b
+whole_instances (i ∷ is) m s ks r h (x, p, q) b = whole_instantiates i m (InstancesTail ∷ s) ks x p b ∙ whole_further_instances is m s x r h q b
 
-whole_maybe : (m : ℕ) (s : List Part) (ks r : List Terminal) → leads SemicolonToken r ≡ false → MaybeSemicolon ks r → levels s ≤ m → fate m (TailPart LastTail ∷ s) ks ≡ fate m s r
+whole_maybe : (m : ℕ) (s : List Part) (ks r : List Terminal) → leads (a_sign mark.Semicolon) r ≡ false → MaybeSemicolon ks r → levels s ≤ m → fate m (LastTail ∷ s) ks ≡ fate m s r
 whole_maybe m s ks r h e b =
-    ⊎_elim (λ p. ap (fate m (TailPart LastTail ∷ s)) p ∙ take_tail LastTail m s (sign mark.Semicolon) r refl b)
-    (λ p. ap (fate m (TailPart LastTail ∷ s)) p ∙ skip_tail LastTail m s r h) e
+    ⊎_elim (λ p. ap (fate m (LastTail ∷ s)) p ∙ go m (LastTail ∷ s) s (sign mark.Semicolon) r refl b)
+    (λ p. ap (fate m (LastTail ∷ s)) p ∙ skip_tail LastTail (a_sign mark.Semicolon) _ m s r refl h) e
 
 -- A program of at most this nesting is read whole.
 pub whole_program : (m : ℕ) (t : ProgramTree) (ks : List Terminal) → nesting t ≤ m → Spells t ks → fate m (ProgramPart ∷ []) ks ≡ Whole
 whole_program m (program ds is) ks n (a, b, c, d, e, p, h, i, maybe, v, last) =
-    let ends : List Part = TokenPart EndToken ∷ TailPart LastTail ∷ [] in
+    let ends : List Part = TokenPart (a_word keyword.End) ∷ LastTail ∷ [] in
     let some : 0 ≤ m = omega arith in
     ap (fate m (ProgramPart ∷ [])) p
-    ∙ (go m (ProgramPart ∷ []) (DeclarationsPart ∷ InstancePart ∷ TailPart InstancesTail ∷ TailPart LastTail ∷ ends) (word keyword.Begin) a refl some
-    ∙ (whole_declarations ds m (InstancePart ∷ TailPart InstancesTail ∷ TailPart LastTail ∷ ends) a b (named_instances is b c i) h (omega (arith, n))
-    ∙ (whole_instances is m (TailPart LastTail ∷ ends) b c (no_par_end c d e maybe v) i some
-    ∙ (whole_maybe m ends c d (ap (leads SemicolonToken) v) maybe some
+    ∙ (go m (ProgramPart ∷ []) (DeclarationsPart ∷ InstancePart ∷ InstancesTail ∷ LastTail ∷ ends) (word keyword.Begin) a refl some
+    ∙ (whole_declarations ds m (InstancePart ∷ InstancesTail ∷ LastTail ∷ ends) a b (named_instances is b c i) h (omega (arith, n))
+    ∙ (whole_instances is m (LastTail ∷ ends) b c (no_par_end c d e maybe v) i some
+    ∙ (whole_maybe m ends c d (ap (leads (a_sign mark.Semicolon)) v) maybe some
     ∙ (ap (fate m ends) v
-    ∙ (take_token EndToken m (TailPart LastTail ∷ []) (word keyword.End) e refl some
+    ∙ (take_token (a_word keyword.End) m (LastTail ∷ []) (word keyword.End) e refl some
     ∙ (whole_maybe m [] e [] refl last some ∙ refl)))))))

@@ -1,9 +1,9 @@
 -- A list that a tree spells is read whole: statements.
-use Rattle.kahn_syntax.proofs.Common.{◌≡◌, ℕ, ◌+◌, ◌≤◌, List, [], ◌∷◌, false, refl, ◌∙◌, arith, Terminal, word, sign, name, ExpressionTree, Formed, expression_nesting, StatementTree, empty, assign, send, print, block, if_then, if_else, while_do, repeat, StatementTrees, no_statement, statement, expression_words, statement_words, statements_words, further_words, statement_nesting, statements_nesting, FormedStatement, FormedStatements, IsSimple, AreSome, whole, BecomesToken, OnToken, NameToken, EndToken, ThenToken, DoToken, SemicolonToken, ElseToken, leads, StatementsTail, ElseTail, Part, StatementPart, SimplePart, ExpressionPart, TailPart, TokenPart, LevelPart, levels, fate}
+use Rattle.kahn_syntax.proofs.Common.{◌≡◌, ℕ, ◌+◌, ◌≤◌, List, [], ◌∷◌, false, refl, ◌∙◌, arith, Terminal, word, sign, name, ExpressionTree, Formed, expression_nesting, StatementTree, empty, assign, send, print, block, if_then, if_else, while_do, repeat, StatementTrees, no_statement, statement, expression_words, statement_words, statements_words, further_words, statement_nesting, statements_nesting, FormedStatement, FormedStatements, IsSimple, AreSome, whole, leads, StatementsTail, ElseTail, Part, StatementPart, SimplePart, ExpressionPart, TokenPart, LevelPart, levels, fate, a_sign, a_word, a_name}
 use Rattle.kahn_syntax.specs.declared.lexeme.Keyword.TheVariants as keyword
 use Rattle.kahn_syntax.specs.declared.lexeme.Sign.TheVariants as mark
 use Rattle.kahn_syntax.proofs.Blocks.{EndsSimple, EndsStatement, EndsAfter, EndsBlock, simple_expression, statement_simple, statement_after, no_more, block_statement}
-use Rattle.kahn_syntax.proofs.Steps.{go, skip_level, take_token, take_tail, skip_tail}
+use Rattle.kahn_syntax.proofs.Steps.{go, skip_level, take_token, skip_tail}
 use Rattle.kahn_syntax.proofs.WholeExpressions.{whole_expression}
 
 skip_simple : (m : ℕ) (s : List Part) (r : List Terminal) → EndsSimple r → fate m (SimplePart ∷ s) r ≡ fate m s r
@@ -20,13 +20,13 @@ skip_statement m s (word keyword.End ∷ r) h = refl
 skip_statement m s (word keyword.Else ∷ r) h = refl
 skip_statement m s (k ∷ r) h = absurd h
 
-no_else_leads : (r : List Terminal) → EndsStatement r → leads ElseToken r ≡ false
+no_else_leads : (r : List Terminal) → EndsStatement r → leads (a_word keyword.Else) r ≡ false
 no_else_leads [] h = absurd h
 no_else_leads (sign mark.Semicolon ∷ r) h = refl
 no_else_leads (word keyword.End ∷ r) h = refl
 no_else_leads (k ∷ r) h = absurd h
 
-no_semicolon_leads : (r : List Terminal) → EndsBlock r → leads SemicolonToken r ≡ false
+no_semicolon_leads : (r : List Terminal) → EndsBlock r → leads (a_sign mark.Semicolon) r ≡ false
 no_semicolon_leads [] h = absurd h
 no_semicolon_leads (word keyword.End ∷ r) h = refl
 no_semicolon_leads (k ∷ r) h = absurd h
@@ -34,17 +34,17 @@ no_semicolon_leads (k ∷ r) h = absurd h
 whole_assign : (x : List ℕ) (v : ExpressionTree) (m : ℕ) (s : List Part) (r : List Terminal) → Formed v → EndsSimple r → levels s + expression_nesting v ≤ m →
     fate m (SimplePart ∷ s) (statement_words (assign x v) r) ≡ fate m s r
 whole_assign x v m s r f e n =
-    go m (SimplePart ∷ s) (TokenPart BecomesToken ∷ ExpressionPart whole ∷ s) (name x) (sign mark.Becomes ∷ expression_words v r) refl (omega (arith, n))
-    ∙ (take_token BecomesToken m (ExpressionPart whole ∷ s) (sign mark.Becomes) (expression_words v r) refl (omega (arith, n))
+    go m (SimplePart ∷ s) (TokenPart (a_sign mark.Becomes) ∷ ExpressionPart whole ∷ s) (name x) (sign mark.Becomes ∷ expression_words v r) refl (omega (arith, n))
+    ∙ (take_token (a_sign mark.Becomes) m (ExpressionPart whole ∷ s) (sign mark.Becomes) (expression_words v r) refl (omega (arith, n))
     ∙ whole_expression v m s r f (simple_expression r e) n)
 
 whole_send : (v : ExpressionTree) (x : List ℕ) (m : ℕ) (s : List Part) (r : List Terminal) → Formed v → levels s + expression_nesting v ≤ m →
     fate m (SimplePart ∷ s) (statement_words (send v x) r) ≡ fate m s r
 whole_send v x m s r f n =
-    go m (SimplePart ∷ s) (ExpressionPart whole ∷ TokenPart OnToken ∷ TokenPart NameToken ∷ s) (word keyword.Send) (expression_words v (word keyword.On ∷ name x ∷ r)) refl (omega (arith, n))
-    ∙ (whole_expression v m (TokenPart OnToken ∷ TokenPart NameToken ∷ s) (word keyword.On ∷ name x ∷ r) f (omega arith) n
-    ∙ (take_token OnToken m (TokenPart NameToken ∷ s) (word keyword.On) (name x ∷ r) refl (omega (arith, n))
-    ∙ take_token NameToken m s (name x) r refl (omega (arith, n))))
+    go m (SimplePart ∷ s) (ExpressionPart whole ∷ TokenPart (a_word keyword.On) ∷ TokenPart a_name ∷ s) (word keyword.Send) (expression_words v (word keyword.On ∷ name x ∷ r)) refl (omega (arith, n))
+    ∙ (whole_expression v m (TokenPart (a_word keyword.On) ∷ TokenPart a_name ∷ s) (word keyword.On ∷ name x ∷ r) f (omega arith) n
+    ∙ (take_token (a_word keyword.On) m (TokenPart a_name ∷ s) (word keyword.On) (name x ∷ r) refl (omega (arith, n))
+    ∙ take_token a_name m s (name x) r refl (omega (arith, n))))
 
 whole_print : (v : ExpressionTree) (m : ℕ) (s : List Part) (r : List Terminal) → Formed v → EndsSimple r → levels s + expression_nesting v ≤ m →
     fate m (SimplePart ∷ s) (statement_words (print v) r) ≡ fate m s r
@@ -53,11 +53,11 @@ whole_print v m s r f e n =
     ∙ whole_expression v m s r f (simple_expression r e) n
 
 whole_block : (ss : StatementTrees) (m : ℕ) (s : List Part) (r : List Terminal) → levels s + 1 ≤ m →
-    fate m (StatementPart ∷ TailPart StatementsTail ∷ TokenPart EndToken ∷ LevelPart ∷ s) (statements_words ss (word keyword.End ∷ r)) ≡ fate m (TokenPart EndToken ∷ LevelPart ∷ s) (word keyword.End ∷ r) →
+    fate m (StatementPart ∷ StatementsTail ∷ TokenPart (a_word keyword.End) ∷ LevelPart ∷ s) (statements_words ss (word keyword.End ∷ r)) ≡ fate m (TokenPart (a_word keyword.End) ∷ LevelPart ∷ s) (word keyword.End ∷ r) →
     fate m (SimplePart ∷ s) (statement_words (block ss) r) ≡ fate m s r
 whole_block ss m s r n h =
-    go m (SimplePart ∷ s) (StatementPart ∷ TailPart StatementsTail ∷ TokenPart EndToken ∷ LevelPart ∷ s) (word keyword.Begin) (statements_words ss (word keyword.End ∷ r)) refl (omega (arith, n))
-    ∙ (h ∙ (take_token EndToken m (LevelPart ∷ s) (word keyword.End) r refl (omega (arith, n)) ∙ skip_level m s r))
+    go m (SimplePart ∷ s) (StatementPart ∷ StatementsTail ∷ TokenPart (a_word keyword.End) ∷ LevelPart ∷ s) (word keyword.Begin) (statements_words ss (word keyword.End ∷ r)) refl (omega (arith, n))
+    ∙ (h ∙ (take_token (a_word keyword.End) m (LevelPart ∷ s) (word keyword.End) r refl (omega (arith, n)) ∙ skip_level m s r))
 
 mutual
   whole_simple : (t : StatementTree) (m : ℕ) (s : List Part) (r : List Terminal) → IsSimple t → FormedStatement t → EndsSimple r →
@@ -67,7 +67,7 @@ mutual
   whole_simple (send v x) m s r i f e n = whole_send v x m s r f n
   whole_simple (print v) m s r i f e n = whole_print v m s r f e n
   whole_simple (block ss) m s r i f e n =
-      whole_block ss m s r (omega (arith, n)) (whole_statements ss m (TokenPart EndToken ∷ LevelPart ∷ s) (word keyword.End ∷ r) f.0 f.1 tt (omega (arith, n)))
+      whole_block ss m s r (omega (arith, n)) (whole_statements ss m (TokenPart (a_word keyword.End) ∷ LevelPart ∷ s) (word keyword.End ∷ r) f.0 f.1 tt (omega (arith, n)))
   whole_simple _ m s r i f e n = absurd i
 
   whole_statement : (t : StatementTree) (m : ℕ) (s : List Part) (r : List Terminal) → FormedStatement t → EndsAfter t r →
@@ -77,45 +77,45 @@ mutual
   whole_statement (send v x) m s r f e n = whole_send v x m s r f n
   whole_statement (print v) m s r f e n = whole_print v m s r f e n
   whole_statement (block ss) m s r f e n =
-      whole_block ss m s r (omega (arith, n)) (whole_statements ss m (TokenPart EndToken ∷ LevelPart ∷ s) (word keyword.End ∷ r) f.0 f.1 tt (omega (arith, n)))
+      whole_block ss m s r (omega (arith, n)) (whole_statements ss m (TokenPart (a_word keyword.End) ∷ LevelPart ∷ s) (word keyword.End ∷ r) f.0 f.1 tt (omega (arith, n)))
   whole_statement (if_then c a) m s r f e n =
-      go m (StatementPart ∷ s) (ExpressionPart whole ∷ TokenPart ThenToken ∷ SimplePart ∷ TailPart ElseTail ∷ LevelPart ∷ s) (word keyword.If)
+      go m (StatementPart ∷ s) (ExpressionPart whole ∷ TokenPart (a_word keyword.Then) ∷ SimplePart ∷ ElseTail ∷ LevelPart ∷ s) (word keyword.If)
       (expression_words c (word keyword.Then ∷ statement_words a r)) refl (omega (arith, n))
-      ∙ (whole_expression c m (TokenPart ThenToken ∷ SimplePart ∷ TailPart ElseTail ∷ LevelPart ∷ s) (word keyword.Then ∷ statement_words a r) f.0 (omega arith) (omega (arith, n))
-      ∙ (take_token ThenToken m (SimplePart ∷ TailPart ElseTail ∷ LevelPart ∷ s) (word keyword.Then) (statement_words a r) refl (omega (arith, n))
-      ∙ (whole_simple a m (TailPart ElseTail ∷ LevelPart ∷ s) r f.1 f.2 (statement_simple r e) (omega (arith, n))
-      ∙ (skip_tail ElseTail m (LevelPart ∷ s) r (no_else_leads r e) ∙ skip_level m s r))))
+      ∙ (whole_expression c m (TokenPart (a_word keyword.Then) ∷ SimplePart ∷ ElseTail ∷ LevelPart ∷ s) (word keyword.Then ∷ statement_words a r) f.0 (omega arith) (omega (arith, n))
+      ∙ (take_token (a_word keyword.Then) m (SimplePart ∷ ElseTail ∷ LevelPart ∷ s) (word keyword.Then) (statement_words a r) refl (omega (arith, n))
+      ∙ (whole_simple a m (ElseTail ∷ LevelPart ∷ s) r f.1 f.2 (statement_simple r e) (omega (arith, n))
+      ∙ (skip_tail ElseTail (a_word keyword.Else) _ m (LevelPart ∷ s) r refl (no_else_leads r e) ∙ skip_level m s r))))
   whole_statement (if_else c a b) m s r f e n =
-      go m (StatementPart ∷ s) (ExpressionPart whole ∷ TokenPart ThenToken ∷ SimplePart ∷ TailPart ElseTail ∷ LevelPart ∷ s) (word keyword.If)
+      go m (StatementPart ∷ s) (ExpressionPart whole ∷ TokenPart (a_word keyword.Then) ∷ SimplePart ∷ ElseTail ∷ LevelPart ∷ s) (word keyword.If)
       (expression_words c (word keyword.Then ∷ statement_words a (word keyword.Else ∷ statement_words b r))) refl (omega (arith, n))
-      ∙ (whole_expression c m (TokenPart ThenToken ∷ SimplePart ∷ TailPart ElseTail ∷ LevelPart ∷ s) (word keyword.Then ∷ statement_words a (word keyword.Else ∷ statement_words b r))
+      ∙ (whole_expression c m (TokenPart (a_word keyword.Then) ∷ SimplePart ∷ ElseTail ∷ LevelPart ∷ s) (word keyword.Then ∷ statement_words a (word keyword.Else ∷ statement_words b r))
       f.0 (omega arith) (omega (arith, n))
-      ∙ (take_token ThenToken m (SimplePart ∷ TailPart ElseTail ∷ LevelPart ∷ s) (word keyword.Then) (statement_words a (word keyword.Else ∷ statement_words b r)) refl (omega (arith, n))
-      ∙ (whole_simple a m (TailPart ElseTail ∷ LevelPart ∷ s) (word keyword.Else ∷ statement_words b r) f.1 f.2 tt (omega (arith, n))
-      ∙ (take_tail ElseTail m (LevelPart ∷ s) (word keyword.Else) (statement_words b r) refl (omega (arith, n))
+      ∙ (take_token (a_word keyword.Then) m (SimplePart ∷ ElseTail ∷ LevelPart ∷ s) (word keyword.Then) (statement_words a (word keyword.Else ∷ statement_words b r)) refl (omega (arith, n))
+      ∙ (whole_simple a m (ElseTail ∷ LevelPart ∷ s) (word keyword.Else ∷ statement_words b r) f.1 f.2 tt (omega (arith, n))
+      ∙ (go m (ElseTail ∷ LevelPart ∷ s) (StatementPart ∷ LevelPart ∷ s) (word keyword.Else) (statement_words b r) refl (omega (arith, n))
       ∙ (whole_statement b m (LevelPart ∷ s) r f.3 (statement_after b r e) (omega (arith, n)) ∙ skip_level m s r)))))
   whole_statement (while_do c a) m s r f e n =
-      go m (StatementPart ∷ s) (ExpressionPart whole ∷ TokenPart DoToken ∷ StatementPart ∷ LevelPart ∷ s) (word keyword.While)
+      go m (StatementPart ∷ s) (ExpressionPart whole ∷ TokenPart (a_word keyword.Do) ∷ StatementPart ∷ LevelPart ∷ s) (word keyword.While)
       (expression_words c (word keyword.Do ∷ statement_words a r)) refl (omega (arith, n))
-      ∙ (whole_expression c m (TokenPart DoToken ∷ StatementPart ∷ LevelPart ∷ s) (word keyword.Do ∷ statement_words a r) f.0 (omega arith) (omega (arith, n))
-      ∙ (take_token DoToken m (StatementPart ∷ LevelPart ∷ s) (word keyword.Do) (statement_words a r) refl (omega (arith, n))
+      ∙ (whole_expression c m (TokenPart (a_word keyword.Do) ∷ StatementPart ∷ LevelPart ∷ s) (word keyword.Do ∷ statement_words a r) f.0 (omega arith) (omega (arith, n))
+      ∙ (take_token (a_word keyword.Do) m (StatementPart ∷ LevelPart ∷ s) (word keyword.Do) (statement_words a r) refl (omega (arith, n))
       ∙ (whole_statement a m (LevelPart ∷ s) r f.1 (statement_after a r e) (omega (arith, n)) ∙ skip_level m s r)))
   whole_statement (repeat a) m s r f e n =
       go m (StatementPart ∷ s) (StatementPart ∷ LevelPart ∷ s) (word keyword.Repeat) (statement_words a r) refl (omega (arith, n))
       ∙ (whole_statement a m (LevelPart ∷ s) r f (statement_after a r e) (omega (arith, n)) ∙ skip_level m s r)
 
   whole_further : (ss : StatementTrees) (m : ℕ) (s : List Part) (r : List Terminal) → FormedStatements ss → EndsBlock r → levels s + statements_nesting ss ≤ m →
-      fate m (TailPart StatementsTail ∷ s) (further_words ss r) ≡ fate m s r
-  whole_further no_statement m s r f e n = skip_tail StatementsTail m s r (no_semicolon_leads r e)
+      fate m (StatementsTail ∷ s) (further_words ss r) ≡ fate m s r
+  whole_further no_statement m s r f e n = skip_tail StatementsTail (a_sign mark.Semicolon) _ m s r refl (no_semicolon_leads r e)
   whole_further (statement t ss) m s r f e n =
-      take_tail StatementsTail m s (sign mark.Semicolon) (statement_words t (further_words ss r)) refl (omega (arith, n))
-      ∙ (whole_statement t m (TailPart StatementsTail ∷ s) (further_words ss r) f.0 (statement_after t (further_words ss r) (no_more ss r (block_statement r e))) (omega (arith, n))
+      go m (StatementsTail ∷ s) (StatementPart ∷ StatementsTail ∷ s) (sign mark.Semicolon) (statement_words t (further_words ss r)) refl (omega (arith, n))
+      ∙ (whole_statement t m (StatementsTail ∷ s) (further_words ss r) f.0 (statement_after t (further_words ss r) (no_more ss r (block_statement r e))) (omega (arith, n))
       ∙ whole_further ss m s r f.1 e (omega (arith, n)))
 
   -- The statements of a block or body are read.
   pub whole_statements : (ss : StatementTrees) (m : ℕ) (s : List Part) (r : List Terminal) → AreSome ss → FormedStatements ss → EndsBlock r → levels s + statements_nesting ss ≤ m →
-      fate m (StatementPart ∷ TailPart StatementsTail ∷ s) (statements_words ss r) ≡ fate m s r
+      fate m (StatementPart ∷ StatementsTail ∷ s) (statements_words ss r) ≡ fate m s r
   whole_statements no_statement m s r a f e n = absurd a
   whole_statements (statement t ss) m s r a f e n =
-      whole_statement t m (TailPart StatementsTail ∷ s) (further_words ss r) f.0 (statement_after t (further_words ss r) (no_more ss r (block_statement r e))) (omega (arith, n))
+      whole_statement t m (StatementsTail ∷ s) (further_words ss r) f.0 (statement_after t (further_words ss r) (no_more ss r (block_statement r e))) (omega (arith, n))
       ∙ whole_further ss m s r f.1 e (omega (arith, n))

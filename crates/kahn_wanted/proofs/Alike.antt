@@ -9,8 +9,7 @@ use Rattle.kahn_tree.specs.declared.span.Span.{Span}
 use Rattle.kahn_syntax.specs.Terminals.{Terminal, number, name, terminal, sign_terminal}
 use Rattle.kahn_syntax.specs.Programs.{program, MaybeSemicolon, nesting}
 use Rattle.kahn_syntax.specs.Faults.{Begins}
-use Rattle.kahn_syntax.specs.inner.Rungs.{Rung, whole, ors, ands, denials, relations, sums, terms, factors}
-use Rattle.kahn_syntax.specs.inner.Machine.{Token, NameToken, NumberToken, takes, lead, Part, ProgramPart, DeclarationsPart, DeclarationPart, ProcessPart, RolePart, GroupsPart, GroupPart, TakingPart, VariablesPart, StatementPart, SimplePart, ExpressionPart, OperatorsPart, InstancePart, ArgumentsPart, ArgumentPart, TailPart, TokenPart, LevelPart, levels, may_end, step, step_expression, Whole, Refuses, TooFar, fate, onward, goes_on}
+use Rattle.kahn_syntax.specs.inner.Machine.{Token, a_name, takes, Part, ProgramPart, Rule, rules_of, enters, opening, levels, may_end, step, Whole, Refuses, TooFar, fate, onward}
 use Rattle.kahn_syntax.proofs.Viable.{Fits, fits_some, further}
 use Rattle.kahn_syntax.proofs.WholePrograms.{whole_program}
 use Rattle.kahn_wanted.specs.Wanted.{class_of_terminal}
@@ -22,69 +21,21 @@ pub data Alike : Terminal → Terminal → Type 0 where
   numbers : (y z : ℤ) → Alike (number y) (number z)
 
 takes_same : (t : Token) (k l : Terminal) → Alike k l → takes t k ≡ takes t l
-takes_same NameToken _ _ (names a b) = refl
-takes_same NumberToken _ _ (names a b) = refl
+takes_same a_name _ _ (names a b) = refl
 takes_same t _ _ (names a b) = refl
-takes_same NameToken _ _ (numbers y z) = refl
-takes_same NumberToken _ _ (numbers y z) = refl
+takes_same a_name _ _ (numbers y z) = refl
 takes_same t _ _ (numbers y z) = refl
 
-expression_same : (l : Rung) (s : List Part) (k n : Terminal) → Alike k n → step_expression l s k ≡ step_expression l s n
-expression_same whole s _ _ (names a b) = refl
-expression_same ors s _ _ (names a b) = refl
-expression_same ands s _ _ (names a b) = refl
-expression_same denials s _ _ (names a b) = refl
-expression_same relations s _ _ (names a b) = refl
-expression_same sums s _ _ (names a b) = refl
-expression_same terms s _ _ (names a b) = refl
-expression_same factors s _ _ (names a b) = refl
-expression_same whole s _ _ (numbers y z) = refl
-expression_same ors s _ _ (numbers y z) = refl
-expression_same ands s _ _ (numbers y z) = refl
-expression_same denials s _ _ (numbers y z) = refl
-expression_same relations s _ _ (numbers y z) = refl
-expression_same sums s _ _ (numbers y z) = refl
-expression_same terms s _ _ (numbers y z) = refl
-expression_same factors s _ _ (numbers y z) = refl
+enters_same : (rs : List Rule) (k l : Terminal) → Alike k l → enters rs k ≡ enters rs l
+enters_same [] k l h = refl
+enters_same ((t, ps) ∷ rest) k l h = ap (λ b. cond b (Some ps) (enters rest k)) (takes_same t k l h) ∙ ap (cond (takes t l) (Some ps)) (enters_same rest k l h)
 
 -- no part looks at a name's bytes, or at a number's value
 pub step_same : (s : List Part) (k l : Terminal) → Alike k l → step s k ≡ step s l
 step_same [] k l h = refl
-step_same (ProgramPart ∷ s) _ _ (names a b) = refl
-step_same (ProgramPart ∷ s) _ _ (numbers y z) = refl
-step_same (DeclarationsPart ∷ s) _ _ (names a b) = step_same s _ _ (names a b)
-step_same (DeclarationsPart ∷ s) _ _ (numbers y z) = step_same s _ _ (numbers y z)
-step_same (DeclarationPart ∷ s) _ _ (names a b) = refl
-step_same (DeclarationPart ∷ s) _ _ (numbers y z) = refl
-step_same (ProcessPart ∷ s) _ _ (names a b) = refl
-step_same (ProcessPart ∷ s) _ _ (numbers y z) = refl
-step_same (RolePart ∷ s) _ _ (names a b) = step_same s _ _ (names a b)
-step_same (RolePart ∷ s) _ _ (numbers y z) = step_same s _ _ (numbers y z)
-step_same (GroupsPart ∷ s) _ _ (names a b) = step_same s _ _ (names a b)
-step_same (GroupsPart ∷ s) _ _ (numbers y z) = step_same s _ _ (numbers y z)
-step_same (GroupPart ∷ s) _ _ (names a b) = refl
-step_same (GroupPart ∷ s) _ _ (numbers y z) = refl
-step_same (TakingPart ∷ s) _ _ (names a b) = step_same s _ _ (names a b)
-step_same (TakingPart ∷ s) _ _ (numbers y z) = step_same s _ _ (numbers y z)
-step_same (VariablesPart ∷ s) _ _ (names a b) = step_same s _ _ (names a b)
-step_same (VariablesPart ∷ s) _ _ (numbers y z) = step_same s _ _ (numbers y z)
-step_same (StatementPart ∷ s) _ _ (names a b) = refl
-step_same (StatementPart ∷ s) _ _ (numbers y z) = step_same s _ _ (numbers y z)
-step_same (SimplePart ∷ s) _ _ (names a b) = refl
-step_same (SimplePart ∷ s) _ _ (numbers y z) = step_same s _ _ (numbers y z)
-step_same (ExpressionPart l ∷ s) k n h = expression_same l s k n h
-step_same (OperatorsPart l ∷ s) _ _ (names a b) = step_same s _ _ (names a b)
-step_same (OperatorsPart l ∷ s) _ _ (numbers y z) = step_same s _ _ (numbers y z)
-step_same (InstancePart ∷ s) _ _ (names a b) = refl
-step_same (InstancePart ∷ s) _ _ (numbers y z) = refl
-step_same (ArgumentsPart ∷ s) _ _ (names a b) = refl
-step_same (ArgumentsPart ∷ s) _ _ (numbers y z) = refl
-step_same (ArgumentPart ∷ s) _ _ (names a b) = refl
-step_same (ArgumentPart ∷ s) _ _ (numbers y z) = refl
-step_same (TailPart t ∷ s) k l h =
-    ap (λ b. cond b (Some (goes_on t s)) (step s k)) (takes_same (lead t) k l h) ∙ ap (λ o. cond (takes (lead t) l) (Some (goes_on t s)) o) (step_same s k l h)
-step_same (TokenPart t ∷ s) k l h = ap (λ b. cond b (Some s) None) (takes_same t k l h)
-step_same (LevelPart ∷ s) k l h = step_same s k l h
+step_same (p ∷ s) k l h =
+    ap (λ o. opening s (cond (rules_of p).0 o None) (enters (rules_of p).1 k)) (step_same s k l h)
+    ∙ ap (opening s (cond (rules_of p).0 (step s l) None)) (enters_same (rules_of p).1 k l h)
 
 -- what is open after terminals, or None where they can't stand here
 abbrev chain : (List Part → Option (List Part)) → Option (List Part) → Option (List Part)

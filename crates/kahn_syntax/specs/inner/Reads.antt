@@ -6,7 +6,7 @@ use Rattle.kahn_syntax.specs.declared.lexeme.Keyword.TheVariants as keyword
 use Rattle.kahn_syntax.specs.declared.lexeme.Sign.TheVariants as mark
 use Rattle.kahn_syntax.specs.Programs.{DeclarationTree, channels, process}
 use Rattle.kahn_syntax.specs.Terminals.{Terminal, word, sign, terminals, AreProper}
-use Rattle.kahn_syntax.specs.inner.Machine.{Token, class_of, token_of, leads, Part, ProgramPart, ExpressionPart, StatementPart, SimplePart, TailPart, StatementsTail, TokenPart, GroupsPart, OpenToken, CloseToken, SemicolonToken, BeginToken, levels, Refuses, TooFar, fate}
+use Rattle.kahn_syntax.specs.inner.Machine.{Token, class_of, leads, Part, ProgramPart, ExpressionPart, StatementPart, SimplePart, StatementsTail, TokenPart, GroupsPart, levels, Refuses, TooFar, fate, a_word, a_sign}
 use Rattle.kahn_syntax.specs.inner.Rungs.{Rung, whole, at}
 use Rattle.kahn_syntax.specs.Drawn.{declaration_of, expression_of, statement_of, statements_of}
 use Rattle.kahn_syntax.specs.Spans.{Takes, ArgumentsSpan, DeclarationsSpan, ParametersSpan, ExpressionSpans, StatementSpans, StatementsSpan}
@@ -64,7 +64,7 @@ pub record ExpressionBefore (text : List ℕ) (depth : ℕ) (last : Keyword) (e 
   pub nesting : depth + expression_nesting (expression_of e) ≤ 64
   pub shorter : length rest < length input
   pub proper : AreProper text rest
-  pub reads : Reads text depth (ExpressionPart whole ∷ TokenPart (token_of last) ∷ []) input rest
+  pub reads : Reads text depth (ExpressionPart whole ∷ TokenPart (a_word last) ∷ []) input rest
 
 -- a statement that may stand for this part: `else` may follow a simple one
 abbrev pub MayStand : Part → StatementTree → Type 0
@@ -89,7 +89,7 @@ pub record StatementsRead (text : List ℕ) (depth : ℕ) (ss : List Statement) 
   pub nesting : depth + statements_nesting (statements_of ss) ≤ 64
   pub shorter : length rest ≤ length input
   pub proper : AreProper text rest
-  pub reads : Reads text depth (StatementPart ∷ TailPart StatementsTail ∷ []) input rest
+  pub reads : Reads text depth (StatementPart ∷ StatementsTail ∷ []) input rest
 
 -- Where no level is open, a part is read from the input to the rest, and its spans are over the lexemes between.
 pub record PartRead (text : List ℕ) (parts : List Part) (S : List Lexeme → List Lexeme → Type 0) (input rest : List Lexeme) : Type 0 where
@@ -109,7 +109,7 @@ AreSound (d ∷ ds) = IsSound d × AreSound ds
 
 -- the parameters of a process in their brackets, and what stands between them and its body
 abbrev pub head_parts : List Part
-head_parts = TokenPart OpenToken ∷ GroupsPart ∷ TokenPart CloseToken ∷ TokenPart SemicolonToken ∷ TokenPart BeginToken ∷ []
+head_parts = TokenPart (a_sign mark.Open) ∷ GroupsPart ∷ TokenPart (a_sign mark.Close) ∷ TokenPart (a_sign mark.Semicolon) ∷ TokenPart (a_word keyword.Begin) ∷ []
 
 abbrev pub HeadSpans : List ℕ → List Parameter → List Lexeme → List Lexeme → Type 0
 HeadSpans text ps xs r = (a : List Lexeme) × (b : List Lexeme) × (c : List Lexeme) × (d : List Lexeme) × Takes text (sign mark.Open) xs a
@@ -139,7 +139,7 @@ ParsesExpression result text depth g value input rest =
 abbrev pub ParsesBefore : {R : Type 0} → Result R Stop → List ℕ → ℕ → Keyword → (R → Expression) → List Lexeme → (R → List Lexeme) → Type 0
 ParsesBefore result text depth last value input rest =
     MatchResult result (λ r. ExpressionBefore text depth last (value r) input (rest r))
-    (λ e. Stops text depth (ExpressionPart whole ∷ TokenPart (token_of last) ∷ []) input e)
+    (λ e. Stops text depth (ExpressionPart whole ∷ TokenPart (a_word last) ∷ []) input e)
 
 -- a statement that may stand for this part
 abbrev pub ParsesStatement : {R : Type 0} → Result R Stop → List ℕ → ℕ → Part → (R → Statement) → List Lexeme → (R → List Lexeme) → Type 0
@@ -150,4 +150,4 @@ ParsesStatement result text depth p value input rest =
 abbrev pub ParsesStatements : {R : Type 0} → Result R Stop → List ℕ → ℕ → (R → List Statement) → List Lexeme → (R → List Lexeme) → Type 0
 ParsesStatements result text depth values input rest =
     MatchResult result (λ r. StatementsRead text depth (values r) input (rest r))
-    (λ e. Stops text depth (StatementPart ∷ TailPart StatementsTail ∷ []) input e)
+    (λ e. Stops text depth (StatementPart ∷ StatementsTail ∷ []) input e)

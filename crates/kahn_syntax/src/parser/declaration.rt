@@ -7,7 +7,7 @@ ghost use Rattle.kahn_syntax.specs.declared.parser.cursor.Stop.TheVariants.{NoMe
 ghost use Rattle.kahn_syntax.specs.Terminals.{terminals, AreProper};
 ghost use Rattle.kahn_syntax.specs.Programs.{kind_terminal, Parameters, Variables, Declarations};
 ghost use Rattle.kahn_syntax.specs.Drawn.{process_of, declaration_of};
-ghost use Rattle.kahn_syntax.specs.inner.Machine.{DeclarationsPart, DeclarationPart, ProcessPart, RolePart, GroupsPart, GroupPart, TakingPart, VariablesPart, leads_kind, leads_declaration};
+ghost use Rattle.kahn_syntax.specs.inner.Machine.{DeclarationsPart, DeclarationPart, ProcessPart, RolePart, GroupsPart, GroupPart, TakingPart, VariablesPart, a_kind, leads, starts, declaration_rules};
 ghost use Rattle.kahn_syntax.specs.inner.Reads.{Reads, IsSound, head_parts, HeadSpans, ParsesPart, SoundDeclarationsSpan};
 ghost use Rattle.kahn_syntax.specs.Spans.{IsPast, DeclarationSpans, RoleSpans, ProcessSpans, ParametersSpan, GroupSpans, DirectionSpans, VariablesSpan, kind_of, parameter_of, variable_of};
 ghost use Rattle.kahn_syntax.specs.Lists.{group};
@@ -25,7 +25,7 @@ fn next_kind(input: &[Lexeme]) -> Option<(Kind, &[Lexeme])>
     ensures passed { IfSome result (λ r. IsPast input.now r.1.now) }
     ensures shorter { IfSome result (λ r. length input.now ≡ length r.1.now + 1) }
     ensures proper { IfSome result (λ r. (text : List ℕ) → AreProper text input.now → AreProper text r.1.now) }
-    ensures leads { (text : List ℕ) → leads_kind (terminals text input.now) ≡ is_some result }
+    ensures leads { (text : List ℕ) → leads a_kind (terminals text input.now) ≡ is_some result }
 {
     match next(input)? {
         (Class::Word(Keyword::Integer), rest) => Some((Kind::Integer, rest)),
@@ -56,7 +56,7 @@ pub fn read_declarations<'t>(
 
 // Whether a declaration stands first: a name begins an instance.
 fn begins_declaration(input: &[Lexeme]) -> bool
-    ensures { (text : List ℕ) → leads_declaration (terminals text input.now) ≡ result }
+    ensures { (text : List ℕ) → starts declaration_rules (terminals text input.now) ≡ result }
 {
     matches!(
         next(input),

@@ -7,7 +7,7 @@ ghost use Rattle.kahn_syntax.specs.Terminals.{First, AreProper};
 ghost use Rattle.kahn_syntax.specs.Spans.{IsPast};
 ghost use Rattle.kahn_syntax.specs.inner.Reads.{ParsesBefore, ParsesExpression};
 ghost use Rattle.kahn_syntax.specs.inner.Rungs.{whole, denials, relations, factors, tighter, rung_of};
-ghost use Rattle.kahn_syntax.specs.inner.Machine.{class_of, token_of};
+ghost use Rattle.kahn_syntax.specs.inner.Machine.{class_of, a_word};
 
 use crate::lexeme::{Class, Keyword, Lexeme, Sign};
 use crate::parser::build::{compared, made};
@@ -50,7 +50,7 @@ pub fn read_before<'t>(
 ) -> Read<'t, Box<Expression>>
     requires depth { depth ≤ 64 }
     requires proper { AreProper text.now input.now }
-    requires last { class_of (token_of last) ≡ Some (class.Word last) }
+    requires last { class_of (a_word last) ≡ Some (class.Word last) }
     ensures { ParsesBefore result text.now depth last (λ r. r.0.value) input.now (λ r. r.1.now) }
 {
     let (expression, rest) = read_expression(alloc, text, input, depth)?;

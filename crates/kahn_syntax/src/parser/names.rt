@@ -3,7 +3,7 @@
 ghost use Rattle.std.specs.Prelude.{◌≡◌, ◌+◌, ◌<◌, [], ◌∷◌, ◌⊎◌, false, length, IfOk, IfErr};
 ghost use Rattle.kahn_syntax.specs.declared.parser.cursor.Stop.TheVariants.{Refused, NoMemory};
 ghost use Rattle.kahn_syntax.specs.Terminals.{name, terminals, AreProper};
-ghost use Rattle.kahn_syntax.specs.inner.Machine.{NameToken, leads, goes_on, NamesTail};
+ghost use Rattle.kahn_syntax.specs.inner.Machine.{leads, TokenPart, NamesTail, a_name};
 ghost use Rattle.kahn_syntax.specs.Drawn.{name_of};
 ghost use Rattle.kahn_syntax.specs.inner.Reads.{ParsesPart};
 ghost use Rattle.kahn_syntax.specs.Spans.{NameSpans, NamesSpan};
@@ -20,7 +20,7 @@ pub fn read_name<'t>(alloc: Global, text: &str, input: &'t [Lexeme]) -> Read<'t,
     ensures spans { IfOk result (λ r. NameSpans text.now r.0 input.now r.1.now) }
     ensures shorter { IfOk result (λ r. length input.now ≡ length r.1.now + 1) }
     ensures proper { IfOk result (λ r. AreProper text.now r.1.now) }
-    ensures stop { IfErr result (λ e. (e ≡ NoMemory) ⊎ ((leads NameToken (terminals text.now input.now) ≡ false) × (e ≡ Refused false (length input.now)))) }
+    ensures stop { IfErr result (λ e. (e ≡ NoMemory) ⊎ ((leads a_name (terminals text.now input.now) ≡ false) × (e ≡ Refused false (length input.now)))) }
 {
     match input {
         [
@@ -46,7 +46,7 @@ pub fn read_name<'t>(alloc: Global, text: &str, input: &'t [Lexeme]) -> Read<'t,
 /// One name or more, with commas between.
 pub fn read_names<'t>(alloc: Global, text: &str, input: &'t [Lexeme]) -> Read<'t, Vec<Name>>
     requires proper { AreProper text.now input.now }
-    ensures { ParsesPart result text.now (goes_on NamesTail []) (λ r. NamesSpan text.now r.0.items) input.now (λ r. r.1.now) }
+    ensures { ParsesPart result text.now (TokenPart a_name ∷ NamesTail ∷ []) (λ r. NamesSpan text.now r.0.items) input.now (λ r. r.1.now) }
 {
     let mut names = Vec::new(alloc);
     let mut rest = input;

@@ -4,7 +4,7 @@ ghost use Rattle.std.specs.Prelude.{◌≡◌, ◌+◌, List, ℕ, ◌∷◌, fa
 ghost use Rattle.kahn_syntax.specs.declared.lexeme.Keyword.TheVariants as keyword;
 ghost use Rattle.kahn_syntax.specs.Terminals.{word, terminals, AreProper};
 ghost use Rattle.kahn_syntax.specs.inner.Rungs.{Lacks, at, rung_of};
-ghost use Rattle.kahn_syntax.specs.inner.Machine.{NotToken, leads};
+ghost use Rattle.kahn_syntax.specs.inner.Machine.{leads, a_word};
 ghost use Rattle.kahn_syntax.specs.Trees.{operator_terminal, rank};
 ghost use Rattle.kahn_syntax.specs.Spans.{IsPast};
 
@@ -71,7 +71,7 @@ pub fn next_not(input: &[Lexeme]) -> Option<&[Lexeme]>
     ensures first { IfSome result (λ r. (text : List ℕ) → terminals text input.now ≡ word keyword.Not ∷ terminals text r.now) }
     ensures passed { IfSome result (λ r. IsPast input.now r.now) }
     ensures proper { IfSome result (λ r. (text : List ℕ) → AreProper text input.now → AreProper text r.now) }
-    ensures lacks { IfNone result ((text : List ℕ) → leads NotToken (terminals text input.now) ≡ false) }
+    ensures lacks { IfNone result ((text : List ℕ) → leads (a_word keyword.Not) (terminals text input.now) ≡ false) }
     ensures shorter { IfSome result (λ r. length input.now ≡ length r.now + 1) }
 {
     match next(input)? {

@@ -4,7 +4,7 @@ ghost use Rattle.std.specs.Prelude.{◌≡◌, ◌≤◌, ◌<◌, ◌+◌, [], 
 ghost use Rattle.kahn_syntax.specs.declared.lexeme.Keyword.TheVariants as keyword;
 ghost use Rattle.kahn_syntax.specs.declared.lexeme.Sign.TheVariants as mark;
 ghost use Rattle.kahn_syntax.specs.Terminals.{Terminal, terminals, AreProper, sign, number};
-ghost use Rattle.kahn_syntax.specs.inner.Machine.{NumberToken, leads, InstancePart, ArgumentsPart, ArgumentPart, TailPart, InstancesTail, LastTail};
+ghost use Rattle.kahn_syntax.specs.inner.Machine.{leads, InstancePart, ArgumentsPart, ArgumentPart, InstancesTail, LastTail, a_number};
 ghost use Rattle.kahn_syntax.specs.Faults.{IsFault};
 ghost use Rattle.kahn_syntax.specs.declared.fault.SyntaxFault.TheVariants as SyntaxFault;
 ghost use Rattle.kahn_syntax.specs.Programs.{ProgramTree, Spells, nesting, Instances};
@@ -95,7 +95,7 @@ fn past_semicolon(input: &[Lexeme]) -> &[Lexeme]
     ensures spans { (text : List ℕ) → MayPart text input.now result.now }
     ensures shorter { length result.now ≤ length input.now }
     ensures proper { (text : List ℕ) → AreProper text input.now → AreProper text result.now }
-    ensures reads { (text : List ℕ) → Reads text 0 (TailPart LastTail ∷ []) input.now result.now }
+    ensures reads { (text : List ℕ) → Reads text 0 (LastTail ∷ []) input.now result.now }
 {
     match past(input, Class::Sign(Sign::Semicolon)) {
         Some(rest) => rest,
@@ -106,7 +106,7 @@ fn past_semicolon(input: &[Lexeme]) -> &[Lexeme]
 // One instance or more, with `par` between.
 fn read_instances<'t>(alloc: Global, text: &str, input: &'t [Lexeme]) -> Read<'t, Vec<Instance>>
     requires proper { AreProper text.now input.now }
-    ensures { ParsesPart result text.now (InstancePart ∷ TailPart InstancesTail ∷ []) (λ r. InstancesSpan text.now r.0.items) input.now (λ r. r.1.now) }
+    ensures { ParsesPart result text.now (InstancePart ∷ InstancesTail ∷ []) (λ r. InstancesSpan text.now r.0.items) input.now (λ r. r.1.now) }
 {
     let mut instances = Vec::new(alloc);
     let mut rest = input;
@@ -191,7 +191,7 @@ fn next_negative(input: &[Lexeme]) -> Option<(i64, &[Lexeme])>
     ensures passed { IfSome result (λ r. IsPast input.now r.1.now) }
     ensures shorter { IfSome result (λ r. length input.now ≡ length r.1.now + 1) }
     ensures proper { IfSome result (λ r. (text : List ℕ) → AreProper text input.now → AreProper text r.1.now) }
-    ensures absent { IfNone result ((text : List ℕ) → AreProper text input.now → leads NumberToken (terminals text input.now) ≡ false) }
+    ensures absent { IfNone result ((text : List ℕ) → AreProper text input.now → leads a_number (terminals text input.now) ≡ false) }
 {
     match next(input)? {
         (Class::Number(number), rest) => Some((number.checked_neg()?, rest)),

@@ -6,7 +6,7 @@ ghost use Rattle.kahn_syntax.specs.declared.lexeme.Class.TheVariants as class;
 ghost use Rattle.kahn_syntax.specs.Terminals.{terminals, First, AreProper};
 ghost use Rattle.kahn_syntax.specs.Spans.{IsPast};
 ghost use Rattle.kahn_syntax.specs.inner.Reads.{ParsesStatement, ParsesStatements};
-ghost use Rattle.kahn_syntax.specs.inner.Machine.{NameToken, leads, StatementPart, SimplePart};
+ghost use Rattle.kahn_syntax.specs.inner.Machine.{leads, StatementPart, SimplePart, a_name};
 
 use crate::lexeme::{Class, Keyword, Lexeme, Sign};
 use crate::parser::build::{block, if_else, if_then, repeated, while_do};
@@ -163,7 +163,7 @@ fn read_assign<'t>(
 ) -> Read<'t, Statement>
     requires depth { depth ≤ 64 }
     requires proper { AreProper text.now input.now }
-    requires named { leads NameToken (terminals text.now input.now) ≡ true }
+    requires named { leads a_name (terminals text.now input.now) ≡ true }
     ensures { ParsesStatement result text.now depth SimplePart (λ r. r.0) input.now (λ r. r.1.now) }
 {
     let (name, rest) = read_name(alloc, text, input)?;

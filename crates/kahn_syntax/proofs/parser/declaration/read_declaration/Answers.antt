@@ -1,4 +1,4 @@
-use Rattle.kahn_syntax.proofs.Common.{refl, [], ◌∷◌, arith, err_from_is_err_and, word, ChannelToken, NameToken, NamesTail, DeclarationPart, ProcessPart, RolePart, TailPart, TokenPart, kind_terminal}
+use Rattle.kahn_syntax.proofs.Common.{refl, [], ◌∷◌, arith, err_from_is_err_and, word, NamesTail, DeclarationPart, ProcessPart, RolePart, TokenPart, kind_terminal, a_word, a_name}
 use Rattle.kahn_syntax.specs.declared.lexeme.Keyword.TheVariants as keyword
 use Rattle.kahn_syntax.specs.declared.lexeme.Class.TheVariants as class
 use Rattle.kahn_syntax.proofs.Moves.{kind_moves, opens_process, then, then_stops, call, call_stops, call_two, call_two_stops, expected, unexpected}
@@ -7,14 +7,14 @@ use Rattle.kahn_syntax.proofs.parser.declaration.read_declaration.Goals as goal
 
 pub returns-in_err-rest-in-Some : goal.returns-in_err-rest-in-Some
 returns-in_err-rest-in-Some c =
-    let p = err_from_is_err_and c.from_residual.result c.from_residual.ensures.1 in rw (p.1, p.2) (then_stops c.args.text.now 0 (DeclarationPart ∷ []) (TokenPart ChannelToken ∷ TokenPart NameToken ∷ TailPart NamesTail ∷ []) c.args.input.now c.read_role-role.result.1.now _ (then c.args.text.now 0 (DeclarationPart ∷ []) (RolePart ∷ TokenPart ChannelToken ∷ TokenPart NameToken ∷ TailPart NamesTail ∷ []) (TokenPart ChannelToken ∷ TokenPart NameToken ∷ TailPart NamesTail ∷ []) c.args.input.now c.in-Some.rest.now c.read_role-role.result.1.now (kind_moves c.args.text.now 0 DeclarationPart [] (RolePart ∷ TokenPart ChannelToken ∷ TokenPart NameToken ∷ TailPart NamesTail ∷ []) c.in-Some.kind c.args.input.now c.in-Some.rest.now (λ s l. omega (arith, l)) (λ s. refl) (λ s. refl) (c.in-Some.ensures.first c.args.text.now)) (call c.args.text.now 0 0 (RolePart) (TokenPart ChannelToken ∷ TokenPart NameToken ∷ TailPart NamesTail ∷ []) c.in-Some.rest.now c.read_role-role.result.1.now (λ s l. omega (arith, l)) (c.read_role-role.ensures.reads c.args.text.now))) (unexpected c.args.text.now 0 ChannelToken (TokenPart NameToken ∷ TailPart NamesTail ∷ []) (class.Word keyword.Channel) c.read_role-role.result.1.now _ refl c.in_err-rest-in-Some.ensures.stop))
+    let p = err_from_is_err_and c.from_residual.result c.from_residual.ensures.1 in rw (p.1, p.2) (then_stops c.args.text.now 0 (DeclarationPart ∷ []) (TokenPart (a_word keyword.Channel) ∷ TokenPart a_name ∷ NamesTail ∷ []) c.args.input.now c.read_role-role.result.1.now _ (then c.args.text.now 0 (DeclarationPart ∷ []) (RolePart ∷ TokenPart (a_word keyword.Channel) ∷ TokenPart a_name ∷ NamesTail ∷ []) (TokenPart (a_word keyword.Channel) ∷ TokenPart a_name ∷ NamesTail ∷ []) c.args.input.now c.in-Some.rest.now c.read_role-role.result.1.now (kind_moves c.args.text.now 0 DeclarationPart [] (RolePart ∷ TokenPart (a_word keyword.Channel) ∷ TokenPart a_name ∷ NamesTail ∷ []) c.in-Some.kind c.args.input.now c.in-Some.rest.now (λ s l. omega (arith, l)) (λ s. refl) (λ s. refl) (c.in-Some.ensures.first c.args.text.now)) (call c.args.text.now 0 0 (RolePart) (TokenPart (a_word keyword.Channel) ∷ TokenPart a_name ∷ NamesTail ∷ []) c.in-Some.rest.now c.read_role-role.result.1.now (λ s l. omega (arith, l)) (c.read_role-role.ensures.reads c.args.text.now))) (unexpected c.args.text.now 0 (a_word keyword.Channel) (TokenPart a_name ∷ NamesTail ∷ []) (class.Word keyword.Channel) c.read_role-role.result.1.now _ refl c.in_err-rest-in-Some.ensures.stop))
 
 pub read_names-requires : goal.read_names-requires
 read_names-requires c = record { proper = c.in_ok-rest-in-Some.ensures.proper c.args.text.now (c.read_role-role.ensures.proper c.args.text.now (c.in-Some.ensures.proper c.args.text.now c.requires.proper)) }
 
 pub returns-in_err-names-in-Some : goal.returns-in_err-names-in-Some
 returns-in_err-names-in-Some c =
-    let p = err_from_is_err_and c.from_residual-in_err-names-in-Some.result c.from_residual-in_err-names-in-Some.ensures.1 in rw (p.1, p.2) (then_stops c.args.text.now 0 (DeclarationPart ∷ []) (TokenPart NameToken ∷ TailPart NamesTail ∷ []) c.args.input.now c.in_ok-rest-in-Some.rest.now _ (then c.args.text.now 0 (DeclarationPart ∷ []) (TokenPart ChannelToken ∷ TokenPart NameToken ∷ TailPart NamesTail ∷ []) (TokenPart NameToken ∷ TailPart NamesTail ∷ []) c.args.input.now c.read_role-role.result.1.now c.in_ok-rest-in-Some.rest.now (then c.args.text.now 0 (DeclarationPart ∷ []) (RolePart ∷ TokenPart ChannelToken ∷ TokenPart NameToken ∷ TailPart NamesTail ∷ []) (TokenPart ChannelToken ∷ TokenPart NameToken ∷ TailPart NamesTail ∷ []) c.args.input.now c.in-Some.rest.now c.read_role-role.result.1.now (kind_moves c.args.text.now 0 DeclarationPart [] (RolePart ∷ TokenPart ChannelToken ∷ TokenPart NameToken ∷ TailPart NamesTail ∷ []) c.in-Some.kind c.args.input.now c.in-Some.rest.now (λ s l. omega (arith, l)) (λ s. refl) (λ s. refl) (c.in-Some.ensures.first c.args.text.now)) (call c.args.text.now 0 0 (RolePart) (TokenPart ChannelToken ∷ TokenPart NameToken ∷ TailPart NamesTail ∷ []) c.in-Some.rest.now c.read_role-role.result.1.now (λ s l. omega (arith, l)) (c.read_role-role.ensures.reads c.args.text.now))) (expected c.args.text.now 0 ChannelToken (TokenPart NameToken ∷ TailPart NamesTail ∷ []) (class.Word keyword.Channel) c.read_role-role.result.1.now c.in_ok-rest-in-Some.rest.now (λ s l. omega (arith, l)) refl c.in_ok-rest-in-Some.ensures.first)) (call_two_stops c.args.text.now 0 0 (TokenPart NameToken) (TailPart NamesTail) ([]) c.in_ok-rest-in-Some.rest.now _ (λ s l. omega (arith, l)) c.in_err-names-in-Some.ensures))
+    let p = err_from_is_err_and c.from_residual-in_err-names-in-Some.result c.from_residual-in_err-names-in-Some.ensures.1 in rw (p.1, p.2) (then_stops c.args.text.now 0 (DeclarationPart ∷ []) (TokenPart a_name ∷ NamesTail ∷ []) c.args.input.now c.in_ok-rest-in-Some.rest.now _ (then c.args.text.now 0 (DeclarationPart ∷ []) (TokenPart (a_word keyword.Channel) ∷ TokenPart a_name ∷ NamesTail ∷ []) (TokenPart a_name ∷ NamesTail ∷ []) c.args.input.now c.read_role-role.result.1.now c.in_ok-rest-in-Some.rest.now (then c.args.text.now 0 (DeclarationPart ∷ []) (RolePart ∷ TokenPart (a_word keyword.Channel) ∷ TokenPart a_name ∷ NamesTail ∷ []) (TokenPart (a_word keyword.Channel) ∷ TokenPart a_name ∷ NamesTail ∷ []) c.args.input.now c.in-Some.rest.now c.read_role-role.result.1.now (kind_moves c.args.text.now 0 DeclarationPart [] (RolePart ∷ TokenPart (a_word keyword.Channel) ∷ TokenPart a_name ∷ NamesTail ∷ []) c.in-Some.kind c.args.input.now c.in-Some.rest.now (λ s l. omega (arith, l)) (λ s. refl) (λ s. refl) (c.in-Some.ensures.first c.args.text.now)) (call c.args.text.now 0 0 (RolePart) (TokenPart (a_word keyword.Channel) ∷ TokenPart a_name ∷ NamesTail ∷ []) c.in-Some.rest.now c.read_role-role.result.1.now (λ s l. omega (arith, l)) (c.read_role-role.ensures.reads c.args.text.now))) (expected c.args.text.now 0 (a_word keyword.Channel) (TokenPart a_name ∷ NamesTail ∷ []) (class.Word keyword.Channel) c.read_role-role.result.1.now c.in_ok-rest-in-Some.rest.now (λ s l. omega (arith, l)) refl c.in_ok-rest-in-Some.ensures.first)) (call_two_stops c.args.text.now 0 0 (TokenPart a_name) NamesTail ([]) c.in_ok-rest-in-Some.rest.now _ (λ s l. omega (arith, l)) c.in_err-names-in-Some.ensures))
 
 pub returns-in_err-process-in-None : goal.returns-in_err-process-in-None
 returns-in_err-process-in-None c =
@@ -37,7 +37,7 @@ returns-in_ok-names-in-Some c =
       );
       shorter = omega (arith, c.in-Some.ensures.shorter, c.read_role-role.ensures.shorter, c.in_ok-rest-in-Some.ensures.shorter, c.in_ok-names-in-Some.ensures.shorter);
       proper = c.in_ok-names-in-Some.ensures.proper;
-      reads = (then c.args.text.now 0 (DeclarationPart ∷ []) (TokenPart NameToken ∷ TailPart NamesTail ∷ []) ([]) c.args.input.now c.in_ok-rest-in-Some.rest.now c.in_ok-names-in-Some.rest.now (then c.args.text.now 0 (DeclarationPart ∷ []) (TokenPart ChannelToken ∷ TokenPart NameToken ∷ TailPart NamesTail ∷ []) (TokenPart NameToken ∷ TailPart NamesTail ∷ []) c.args.input.now c.read_role-role.result.1.now c.in_ok-rest-in-Some.rest.now (then c.args.text.now 0 (DeclarationPart ∷ []) (RolePart ∷ TokenPart ChannelToken ∷ TokenPart NameToken ∷ TailPart NamesTail ∷ []) (TokenPart ChannelToken ∷ TokenPart NameToken ∷ TailPart NamesTail ∷ []) c.args.input.now c.in-Some.rest.now c.read_role-role.result.1.now (kind_moves c.args.text.now 0 DeclarationPart [] (RolePart ∷ TokenPart ChannelToken ∷ TokenPart NameToken ∷ TailPart NamesTail ∷ []) c.in-Some.kind c.args.input.now c.in-Some.rest.now (λ s l. omega (arith, l)) (λ s. refl) (λ s. refl) (c.in-Some.ensures.first c.args.text.now)) (call c.args.text.now 0 0 (RolePart) (TokenPart ChannelToken ∷ TokenPart NameToken ∷ TailPart NamesTail ∷ []) c.in-Some.rest.now c.read_role-role.result.1.now (λ s l. omega (arith, l)) (c.read_role-role.ensures.reads c.args.text.now))) (expected c.args.text.now 0 ChannelToken (TokenPart NameToken ∷ TailPart NamesTail ∷ []) (class.Word keyword.Channel) c.read_role-role.result.1.now c.in_ok-rest-in-Some.rest.now (λ s l. omega (arith, l)) refl c.in_ok-rest-in-Some.ensures.first)) (call_two c.args.text.now 0 0 (TokenPart NameToken) (TailPart NamesTail) ([]) c.in_ok-rest-in-Some.rest.now c.in_ok-names-in-Some.rest.now (λ s l. omega (arith, l)) c.in_ok-names-in-Some.ensures.reads));
+      reads = (then c.args.text.now 0 (DeclarationPart ∷ []) (TokenPart a_name ∷ NamesTail ∷ []) ([]) c.args.input.now c.in_ok-rest-in-Some.rest.now c.in_ok-names-in-Some.rest.now (then c.args.text.now 0 (DeclarationPart ∷ []) (TokenPart (a_word keyword.Channel) ∷ TokenPart a_name ∷ NamesTail ∷ []) (TokenPart a_name ∷ NamesTail ∷ []) c.args.input.now c.read_role-role.result.1.now c.in_ok-rest-in-Some.rest.now (then c.args.text.now 0 (DeclarationPart ∷ []) (RolePart ∷ TokenPart (a_word keyword.Channel) ∷ TokenPart a_name ∷ NamesTail ∷ []) (TokenPart (a_word keyword.Channel) ∷ TokenPart a_name ∷ NamesTail ∷ []) c.args.input.now c.in-Some.rest.now c.read_role-role.result.1.now (kind_moves c.args.text.now 0 DeclarationPart [] (RolePart ∷ TokenPart (a_word keyword.Channel) ∷ TokenPart a_name ∷ NamesTail ∷ []) c.in-Some.kind c.args.input.now c.in-Some.rest.now (λ s l. omega (arith, l)) (λ s. refl) (λ s. refl) (c.in-Some.ensures.first c.args.text.now)) (call c.args.text.now 0 0 (RolePart) (TokenPart (a_word keyword.Channel) ∷ TokenPart a_name ∷ NamesTail ∷ []) c.in-Some.rest.now c.read_role-role.result.1.now (λ s l. omega (arith, l)) (c.read_role-role.ensures.reads c.args.text.now))) (expected c.args.text.now 0 (a_word keyword.Channel) (TokenPart a_name ∷ NamesTail ∷ []) (class.Word keyword.Channel) c.read_role-role.result.1.now c.in_ok-rest-in-Some.rest.now (λ s l. omega (arith, l)) refl c.in_ok-rest-in-Some.ensures.first)) (call_two c.args.text.now 0 0 (TokenPart a_name) NamesTail ([]) c.in_ok-rest-in-Some.rest.now c.in_ok-names-in-Some.rest.now (λ s l. omega (arith, l)) c.in_ok-names-in-Some.ensures.reads));
     }
 
 pub returns-in_ok-process-in-None : goal.returns-in_ok-process-in-None

@@ -1,4 +1,4 @@
-use Rattle.kahn_syntax.proofs.Common.{refl, [], arith, err_from_is_err_and, word, EndToken, StatementsTail, VariablesPart, StatementPart, TailPart}
+use Rattle.kahn_syntax.proofs.Common.{refl, [], arith, err_from_is_err_and, word, StatementsTail, VariablesPart, StatementPart, a_word}
 use Rattle.kahn_syntax.specs.declared.lexeme.Keyword.TheVariants as keyword
 use Rattle.kahn_syntax.specs.declared.lexeme.Class.TheVariants as class
 use Rattle.kahn_syntax.proofs.Moves.{no_process, then, then_stops, call_stops, call_two_stops, expected, unexpected, no_name}
@@ -41,7 +41,7 @@ returns-in_err-statements c =
     let m = K.to_process_open T i c.in_ok-rest.rest.now c.in_ok-name.rest.now _ (K.to_process_name T i c.in_ok-rest.rest.now (c.in_ok-rest.ensures.first.1 T)) c.in_ok-name.ensures.words in
     let m2 = K.to_process_variables T i c.in_ok-name.rest.now c.in_ok-parameters.rest.now m c.in_ok-parameters.ensures.reads in
     let m3 = K.to_process_statements T i c.in_ok-parameters.rest.now c.in_ok-variables.rest.now m2 c.in_ok-variables.ensures.reads in
-    rw (p.1, p.2) (then_stops T 0 K.some_process K.process_statements i c.in_ok-variables.rest.now _ m3 (call_two_stops T 0 0 StatementPart (TailPart StatementsTail) K.process_end c.in_ok-variables.rest.now _ (λ s l. l) c.in_err-statements.ensures))
+    rw (p.1, p.2) (then_stops T 0 K.some_process K.process_statements i c.in_ok-variables.rest.now _ m3 (call_two_stops T 0 0 StatementPart StatementsTail K.process_end c.in_ok-variables.rest.now _ (λ s l. l) c.in_err-statements.ensures))
 
 pub returns-in_err-rest-2 : goal.returns-in_err-rest-2
 returns-in_err-rest-2 c =
@@ -51,7 +51,7 @@ returns-in_err-rest-2 c =
     let m2 = K.to_process_variables T i c.in_ok-name.rest.now c.in_ok-parameters.rest.now m c.in_ok-parameters.ensures.reads in
     let m3 = K.to_process_statements T i c.in_ok-parameters.rest.now c.in_ok-variables.rest.now m2 c.in_ok-variables.ensures.reads in
     let m4 = K.to_process_end T i c.in_ok-variables.rest.now c.in_ok-statements.rest.now m3 c.in_ok-statements.ensures.reads in
-    rw (p.1, p.2) (then_stops T 0 K.some_process K.process_end i c.in_ok-statements.rest.now _ m4 (unexpected T 0 EndToken [] (class.Word keyword.End) c.in_ok-statements.rest.now _ refl c.in_err-rest-2.ensures.stop))
+    rw (p.1, p.2) (then_stops T 0 K.some_process K.process_end i c.in_ok-statements.rest.now _ m4 (unexpected T 0 (a_word keyword.End) [] (class.Word keyword.End) c.in_ok-statements.rest.now _ refl c.in_err-rest-2.ensures.stop))
 
 pub returns : goal.returns
 returns c =
@@ -88,5 +88,5 @@ returns c =
       );
       shorter = omega (arith, c.in_ok-rest.ensures.shorter, c.in_ok-name.ensures.shorter, c.in_ok-parameters.ensures.shorter, c.in_ok-variables.ensures.shorter, c.in_ok-statements.ensures.shorter, c.in_ok-rest-2.ensures.shorter);
       proper = c.in_ok-rest-2.ensures.proper T c.in_ok-statements.ensures.proper;
-      reads = then T 0 K.some_process K.process_end [] i c.in_ok-statements.rest.now c.in_ok-rest-2.rest.now m4 (expected T 0 EndToken [] (class.Word keyword.End) c.in_ok-statements.rest.now c.in_ok-rest-2.rest.now (λ s l. omega (arith, l)) refl c.in_ok-rest-2.ensures.first);
+      reads = then T 0 K.some_process K.process_end [] i c.in_ok-statements.rest.now c.in_ok-rest-2.rest.now m4 (expected T 0 (a_word keyword.End) [] (class.Word keyword.End) c.in_ok-statements.rest.now c.in_ok-rest-2.rest.now (λ s l. omega (arith, l)) refl c.in_ok-rest-2.ensures.first);
     }

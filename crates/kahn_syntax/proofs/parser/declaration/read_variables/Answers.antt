@@ -1,4 +1,4 @@
-use Rattle.kahn_syntax.proofs.Common.{refl, [], ◌∷◌, arith, err_from_is_err_and, sign, terminals, NameToken, SemicolonToken, NamesTail, VariablesPart, TailPart, TokenPart, kind_terminal}
+use Rattle.kahn_syntax.proofs.Common.{refl, [], ◌∷◌, arith, err_from_is_err_and, sign, terminals, NamesTail, VariablesPart, TokenPart, kind_terminal, a_name, a_sign}
 use Rattle.kahn_syntax.specs.declared.lexeme.Sign.TheVariants as mark
 use Rattle.kahn_syntax.specs.declared.lexeme.Class.TheVariants as class
 use Rattle.kahn_syntax.proofs.Moves.{kind_moves, variables_end, then, then_stops, call_two, call_two_stops, expected, unexpected}
@@ -10,11 +10,11 @@ read_names-requires c = record { proper = c.in-Some.ensures.proper c.args.text.n
 
 pub returns-in_err-names : goal.returns-in_err-names
 returns-in_err-names c =
-    let p = err_from_is_err_and c.from_residual.result c.from_residual.ensures.1 in rw (p.1, p.2) (then_stops c.args.text.now 0 (VariablesPart ∷ []) (TokenPart NameToken ∷ TailPart NamesTail ∷ TokenPart SemicolonToken ∷ VariablesPart ∷ []) c.args.input.now c.in-Some.after.now _ (then c.args.text.now 0 (VariablesPart ∷ []) (VariablesPart ∷ []) (TokenPart NameToken ∷ TailPart NamesTail ∷ TokenPart SemicolonToken ∷ VariablesPart ∷ []) c.args.input.now c.variables.rest.now c.in-Some.after.now (c.variables.invariant.reads) (kind_moves c.args.text.now 0 VariablesPart [] (TokenPart NameToken ∷ TailPart NamesTail ∷ TokenPart SemicolonToken ∷ VariablesPart ∷ []) c.in-Some.kind c.variables.rest.now c.in-Some.after.now (λ s l. omega (arith, l)) (λ s. refl) (λ s. refl) (c.in-Some.ensures.first c.args.text.now))) (call_two_stops c.args.text.now 0 0 (TokenPart NameToken) (TailPart NamesTail) (TokenPart SemicolonToken ∷ VariablesPart ∷ []) c.in-Some.after.now _ (λ s l. omega (arith, l)) c.in_err-names.ensures))
+    let p = err_from_is_err_and c.from_residual.result c.from_residual.ensures.1 in rw (p.1, p.2) (then_stops c.args.text.now 0 (VariablesPart ∷ []) (TokenPart a_name ∷ NamesTail ∷ TokenPart (a_sign mark.Semicolon) ∷ VariablesPart ∷ []) c.args.input.now c.in-Some.after.now _ (then c.args.text.now 0 (VariablesPart ∷ []) (VariablesPart ∷ []) (TokenPart a_name ∷ NamesTail ∷ TokenPart (a_sign mark.Semicolon) ∷ VariablesPart ∷ []) c.args.input.now c.variables.rest.now c.in-Some.after.now (c.variables.invariant.reads) (kind_moves c.args.text.now 0 VariablesPart [] (TokenPart a_name ∷ NamesTail ∷ TokenPart (a_sign mark.Semicolon) ∷ VariablesPart ∷ []) c.in-Some.kind c.variables.rest.now c.in-Some.after.now (λ s l. omega (arith, l)) (λ s. refl) (λ s. refl) (c.in-Some.ensures.first c.args.text.now))) (call_two_stops c.args.text.now 0 0 (TokenPart a_name) NamesTail (TokenPart (a_sign mark.Semicolon) ∷ VariablesPart ∷ []) c.in-Some.after.now _ (λ s l. omega (arith, l)) c.in_err-names.ensures))
 
 pub returns-in_err-after : goal.returns-in_err-after
 returns-in_err-after c =
-    let p = err_from_is_err_and c.from_residual-in_err-after.result c.from_residual-in_err-after.ensures.1 in rw (p.1, p.2) (then_stops c.args.text.now 0 (VariablesPart ∷ []) (TokenPart SemicolonToken ∷ VariablesPart ∷ []) c.args.input.now c.in_ok-names.after.now _ (then c.args.text.now 0 (VariablesPart ∷ []) (TokenPart NameToken ∷ TailPart NamesTail ∷ TokenPart SemicolonToken ∷ VariablesPart ∷ []) (TokenPart SemicolonToken ∷ VariablesPart ∷ []) c.args.input.now c.in-Some.after.now c.in_ok-names.after.now (then c.args.text.now 0 (VariablesPart ∷ []) (VariablesPart ∷ []) (TokenPart NameToken ∷ TailPart NamesTail ∷ TokenPart SemicolonToken ∷ VariablesPart ∷ []) c.args.input.now c.variables.rest.now c.in-Some.after.now (c.variables.invariant.reads) (kind_moves c.args.text.now 0 VariablesPart [] (TokenPart NameToken ∷ TailPart NamesTail ∷ TokenPart SemicolonToken ∷ VariablesPart ∷ []) c.in-Some.kind c.variables.rest.now c.in-Some.after.now (λ s l. omega (arith, l)) (λ s. refl) (λ s. refl) (c.in-Some.ensures.first c.args.text.now))) (call_two c.args.text.now 0 0 (TokenPart NameToken) (TailPart NamesTail) (TokenPart SemicolonToken ∷ VariablesPart ∷ []) c.in-Some.after.now c.in_ok-names.after.now (λ s l. omega (arith, l)) c.in_ok-names.ensures.reads)) (unexpected c.args.text.now 0 SemicolonToken (VariablesPart ∷ []) (class.Sign mark.Semicolon) c.in_ok-names.after.now _ refl c.in_err-after.ensures.stop))
+    let p = err_from_is_err_and c.from_residual-in_err-after.result c.from_residual-in_err-after.ensures.1 in rw (p.1, p.2) (then_stops c.args.text.now 0 (VariablesPart ∷ []) (TokenPart (a_sign mark.Semicolon) ∷ VariablesPart ∷ []) c.args.input.now c.in_ok-names.after.now _ (then c.args.text.now 0 (VariablesPart ∷ []) (TokenPart a_name ∷ NamesTail ∷ TokenPart (a_sign mark.Semicolon) ∷ VariablesPart ∷ []) (TokenPart (a_sign mark.Semicolon) ∷ VariablesPart ∷ []) c.args.input.now c.in-Some.after.now c.in_ok-names.after.now (then c.args.text.now 0 (VariablesPart ∷ []) (VariablesPart ∷ []) (TokenPart a_name ∷ NamesTail ∷ TokenPart (a_sign mark.Semicolon) ∷ VariablesPart ∷ []) c.args.input.now c.variables.rest.now c.in-Some.after.now (c.variables.invariant.reads) (kind_moves c.args.text.now 0 VariablesPart [] (TokenPart a_name ∷ NamesTail ∷ TokenPart (a_sign mark.Semicolon) ∷ VariablesPart ∷ []) c.in-Some.kind c.variables.rest.now c.in-Some.after.now (λ s l. omega (arith, l)) (λ s. refl) (λ s. refl) (c.in-Some.ensures.first c.args.text.now))) (call_two c.args.text.now 0 0 (TokenPart a_name) NamesTail (TokenPart (a_sign mark.Semicolon) ∷ VariablesPart ∷ []) c.in-Some.after.now c.in_ok-names.after.now (λ s l. omega (arith, l)) c.in_ok-names.ensures.reads)) (unexpected c.args.text.now 0 (a_sign mark.Semicolon) (VariablesPart ∷ []) (class.Sign mark.Semicolon) c.in_ok-names.after.now _ refl c.in_err-after.ensures.stop))
 
 pub variables-preserved : goal.variables-preserved
 variables-preserved c =
@@ -23,7 +23,7 @@ variables-preserved c =
           (S.takes T (kind_terminal c.in-Some.kind) c.variables.rest.now c.in-Some.after.now c.in-Some.ensures.passed (c.in-Some.ensures.first T)) c.in_ok-names.ensures.spans (S.takes T (sign mark.Semicolon) c.in_ok-names.after.now c.in_ok-after.after.now c.in_ok-after.ensures.passed (c.in_ok-after.ensures.first.1 T)));
       shorter = omega (arith, c.in-Some.ensures.shorter, c.in_ok-names.ensures.shorter, c.in_ok-after.ensures.shorter, c.variables.invariant.shorter);
       proper = c.in_ok-after.ensures.proper c.args.text.now c.in_ok-names.ensures.proper;
-      reads = (then c.args.text.now 0 (VariablesPart ∷ []) (TokenPart SemicolonToken ∷ VariablesPart ∷ []) (VariablesPart ∷ []) c.args.input.now c.in_ok-names.after.now c.in_ok-after.after.now (then c.args.text.now 0 (VariablesPart ∷ []) (TokenPart NameToken ∷ TailPart NamesTail ∷ TokenPart SemicolonToken ∷ VariablesPart ∷ []) (TokenPart SemicolonToken ∷ VariablesPart ∷ []) c.args.input.now c.in-Some.after.now c.in_ok-names.after.now (then c.args.text.now 0 (VariablesPart ∷ []) (VariablesPart ∷ []) (TokenPart NameToken ∷ TailPart NamesTail ∷ TokenPart SemicolonToken ∷ VariablesPart ∷ []) c.args.input.now c.variables.rest.now c.in-Some.after.now (c.variables.invariant.reads) (kind_moves c.args.text.now 0 VariablesPart [] (TokenPart NameToken ∷ TailPart NamesTail ∷ TokenPart SemicolonToken ∷ VariablesPart ∷ []) c.in-Some.kind c.variables.rest.now c.in-Some.after.now (λ s l. omega (arith, l)) (λ s. refl) (λ s. refl) (c.in-Some.ensures.first c.args.text.now))) (call_two c.args.text.now 0 0 (TokenPart NameToken) (TailPart NamesTail) (TokenPart SemicolonToken ∷ VariablesPart ∷ []) c.in-Some.after.now c.in_ok-names.after.now (λ s l. omega (arith, l)) c.in_ok-names.ensures.reads)) (expected c.args.text.now 0 SemicolonToken (VariablesPart ∷ []) (class.Sign mark.Semicolon) c.in_ok-names.after.now c.in_ok-after.after.now (λ s l. omega (arith, l)) refl c.in_ok-after.ensures.first));
+      reads = (then c.args.text.now 0 (VariablesPart ∷ []) (TokenPart (a_sign mark.Semicolon) ∷ VariablesPart ∷ []) (VariablesPart ∷ []) c.args.input.now c.in_ok-names.after.now c.in_ok-after.after.now (then c.args.text.now 0 (VariablesPart ∷ []) (TokenPart a_name ∷ NamesTail ∷ TokenPart (a_sign mark.Semicolon) ∷ VariablesPart ∷ []) (TokenPart (a_sign mark.Semicolon) ∷ VariablesPart ∷ []) c.args.input.now c.in-Some.after.now c.in_ok-names.after.now (then c.args.text.now 0 (VariablesPart ∷ []) (VariablesPart ∷ []) (TokenPart a_name ∷ NamesTail ∷ TokenPart (a_sign mark.Semicolon) ∷ VariablesPart ∷ []) c.args.input.now c.variables.rest.now c.in-Some.after.now (c.variables.invariant.reads) (kind_moves c.args.text.now 0 VariablesPart [] (TokenPart a_name ∷ NamesTail ∷ TokenPart (a_sign mark.Semicolon) ∷ VariablesPart ∷ []) c.in-Some.kind c.variables.rest.now c.in-Some.after.now (λ s l. omega (arith, l)) (λ s. refl) (λ s. refl) (c.in-Some.ensures.first c.args.text.now))) (call_two c.args.text.now 0 0 (TokenPart a_name) NamesTail (TokenPart (a_sign mark.Semicolon) ∷ VariablesPart ∷ []) c.in-Some.after.now c.in_ok-names.after.now (λ s l. omega (arith, l)) c.in_ok-names.ensures.reads)) (expected c.args.text.now 0 (a_sign mark.Semicolon) (VariablesPart ∷ []) (class.Sign mark.Semicolon) c.in_ok-names.after.now c.in_ok-after.after.now (λ s l. omega (arith, l)) refl c.in_ok-after.ensures.first));
     }
 
 pub variables-init : goal.variables-init

@@ -1,9 +1,9 @@
-use Rattle.kahn_syntax.proofs.Common.{rules, ◌≡◌, false, refl, [], ◌∷◌, arith, sym, ap, ◌∙◌, subst, w64, vec_len, err_from_is_err_and, word, sign, name, terminals, IsUnsigned, whole, ors, denials, relations, sums, factors, rung_of, tighter, at, CloseToken, ElseToken, ThenToken, ExpressionPart, OperatorsPart, TokenPart, LevelPart, token_of, expression_of, name_of, operands_of, form_of, operands_row, to_z-of_z, Takes, ExpressionSpans, OperandsSpan, operator_terminal, expression_nesting, operands_nesting, FormedOperands, no_operand, Fits, ExpressionRead, hidden-the_row-Operand-0}
+use Rattle.kahn_syntax.proofs.Common.{factor_rules, takes, starts, rules, ◌≡◌, false, refl, [], ◌∷◌, arith, sym, ap, ◌∙◌, subst, w64, vec_len, err_from_is_err_and, word, sign, name, terminals, IsUnsigned, whole, ors, denials, relations, sums, factors, rung_of, tighter, at, ExpressionPart, OperatorsPart, TokenPart, LevelPart, expression_of, name_of, operands_of, form_of, operands_row, to_z-of_z, Takes, ExpressionSpans, OperandsSpan, operator_terminal, expression_nesting, operands_nesting, FormedOperands, no_operand, Fits, ExpressionRead, hidden-the_row-Operand-0, a_sign, a_word}
 use Rattle.kahn_syntax.specs.declared.lexeme.Keyword.TheVariants as keyword
 use Rattle.kahn_syntax.specs.declared.lexeme.Sign.TheVariants as mark
 use Rattle.kahn_syntax.specs.declared.lexeme.Class.TheVariants as class
 use Rattle.kahn_syntax.specs.Terminals.{number}
-use Rattle.kahn_syntax.proofs.Moves.{made, opens_whole, opens_chain, operators_end, comparison, level_chain, operator_more, only_memory, leads_factor, no_factor, opens_denial, opened, then, then_stops, call, call_stops, call_two_stops, one, deep, expected, level_ends, unexpected}
+use Rattle.kahn_syntax.proofs.Moves.{made, opens_whole, opens_chain, operators_end, comparison, level_chain, operator_more, only_memory, refused, opens_denial, opened, then, then_stops, call, call_stops, call_two_stops, one, deep, expected, level_ends, unexpected}
 use Rattle.kahn_syntax.proofs.Negative.{number_fits}
 use Rattle.kahn_syntax.proofs.Spanning as S
 use Rattle.kahn_syntax.proofs.Stacks as K
@@ -67,7 +67,7 @@ read_relation-returns-in_err-right t c =
 
 pub read_expression-returns-in_err-inner : goal.read_expression-returns-in_err-inner
 read_expression-returns-in_err-inner t c =
-    let p = err_from_is_err_and c.from_residual.result c.from_residual.ensures.1 in rw (p.1, p.2) (deep c.args.text.now c.args.depth (ExpressionPart whole) ([]) (ExpressionPart whole ∷ TokenPart ThenToken ∷ ExpressionPart whole ∷ TokenPart ElseToken ∷ ExpressionPart whole ∷ LevelPart ∷ []) (word keyword.If) c.args.input.now c.in-Some.rest.now _ (λ s l. omega (arith, l, c.in_err-inner.ensures.stop.0)) (λ s. refl) (c.in-Some.ensures.first.1 c.args.text.now) c.in_err-inner.ensures.stop.1)
+    let p = err_from_is_err_and c.from_residual.result c.from_residual.ensures.1 in rw (p.1, p.2) (deep c.args.text.now c.args.depth (ExpressionPart whole) ([]) (ExpressionPart whole ∷ TokenPart (a_word keyword.Then) ∷ ExpressionPart whole ∷ TokenPart (a_word keyword.Else) ∷ ExpressionPart whole ∷ LevelPart ∷ []) (word keyword.If) c.args.input.now c.in-Some.rest.now _ (λ s l. omega (arith, l, c.in_err-inner.ensures.stop.0)) (λ s. refl) (c.in-Some.ensures.first.1 c.args.text.now) c.in_err-inner.ensures.stop.1)
 
 pub read_factor-read_wait-requires-clause-proper : goal.read_factor-read_wait-requires-clause-proper
 read_factor-read_wait-requires-clause-proper t c = c.in-Some-Word-Wait-default.ensures.proper c.args.text.now c.requires.1.1.1
@@ -81,14 +81,14 @@ read_factor-read_factor-requires t c = (omega (arith, c.requires.1.0, c.in-Some-
 
 pub read_factor-returns-in_err-inner-in-Some-Sign-Open-default : goal.read_factor-returns-in_err-inner-in-Some-Sign-Open-default
 read_factor-returns-in_err-inner-in-Some-Sign-Open-default t c =
-    let p = err_from_is_err_and c.from_residual-in_err-inner-in-Some-Sign-Open-default.result c.from_residual-in_err-inner-in-Some-Sign-Open-default.ensures.1 in rw (p.1, p.2) (deep c.args.text.now c.args.depth (ExpressionPart factors) ([]) (ExpressionPart whole ∷ TokenPart CloseToken ∷ LevelPart ∷ []) (sign mark.Open) c.args.input.now c.in-Some-Sign-Open-default.rest.now _ (λ s l. omega (arith, l, c.in_err-inner-in-Some-Sign-Open-default.ensures.stop.0)) (λ s. refl) ((first_of _ (class.Sign mark.Open) c.args.input.now c.in-Some-Sign-Open-default.rest.now (c.in-Some-Sign-Open-default.field-0-0-is ∙ ap class.Sign c.in-Some-Sign-Open-default.field-0-0-0-is) c.in-Some-Sign-Open-default.ensures.first.0).1 c.args.text.now) c.in_err-inner-in-Some-Sign-Open-default.ensures.stop.1)
+    let p = err_from_is_err_and c.from_residual-in_err-inner-in-Some-Sign-Open-default.result c.from_residual-in_err-inner-in-Some-Sign-Open-default.ensures.1 in rw (p.1, p.2) (deep c.args.text.now c.args.depth (ExpressionPart factors) ([]) (ExpressionPart whole ∷ TokenPart (a_sign mark.Close) ∷ LevelPart ∷ []) (sign mark.Open) c.args.input.now c.in-Some-Sign-Open-default.rest.now _ (λ s l. omega (arith, l, c.in_err-inner-in-Some-Sign-Open-default.ensures.stop.0)) (λ s. refl) ((first_of _ (class.Sign mark.Open) c.args.input.now c.in-Some-Sign-Open-default.rest.now (c.in-Some-Sign-Open-default.field-0-0-is ∙ ap class.Sign c.in-Some-Sign-Open-default.field-0-0-0-is) c.in-Some-Sign-Open-default.ensures.first.0).1 c.args.text.now) c.in_err-inner-in-Some-Sign-Open-default.ensures.stop.1)
 
 pub read_factor-read_expression-requires : goal.read_factor-read_expression-requires
 read_factor-read_expression-requires t c = (omega (arith, c.requires.1.0, c.in-Some-Sign-Open-default.ensures.first.1), (c.in_ok-inner-in-Some-Sign-Open-default.ensures.deeper.1, c.in-Some-Sign-Open-default.ensures.proper c.args.text.now c.requires.1.1.1))
 
 pub read_factor-returns-in_err-rest-in-Some-Sign-Open-default : goal.read_factor-returns-in_err-rest-in-Some-Sign-Open-default
 read_factor-returns-in_err-rest-in-Some-Sign-Open-default t c =
-    let p = err_from_is_err_and c.from_residual-in_err-rest-in-Some-Sign-Open-default.result c.from_residual-in_err-rest-in-Some-Sign-Open-default.ensures.1 in rw (p.1, p.2) (then_stops c.args.text.now c.args.depth (ExpressionPart factors ∷ []) (TokenPart CloseToken ∷ LevelPart ∷ []) c.args.input.now c.in_ok-inside-in-Some-Sign-Open-default.rest.now _ (then c.args.text.now c.args.depth (ExpressionPart factors ∷ []) (ExpressionPart whole ∷ TokenPart CloseToken ∷ LevelPart ∷ []) (TokenPart CloseToken ∷ LevelPart ∷ []) c.args.input.now c.in-Some-Sign-Open-default.rest.now c.in_ok-inside-in-Some-Sign-Open-default.rest.now (one c.args.text.now c.args.depth (ExpressionPart factors) ([]) (ExpressionPart whole ∷ TokenPart CloseToken ∷ LevelPart ∷ []) (sign mark.Open) c.args.input.now c.in-Some-Sign-Open-default.rest.now (λ s l. omega (arith, l, c.requires.1.1.0, c.in_ok-inner-in-Some-Sign-Open-default.ensures.deeper.0, c.in_ok-inner-in-Some-Sign-Open-default.ensures.deeper.1)) (λ s. refl) ((first_of _ (class.Sign mark.Open) c.args.input.now c.in-Some-Sign-Open-default.rest.now (c.in-Some-Sign-Open-default.field-0-0-is ∙ ap class.Sign c.in-Some-Sign-Open-default.field-0-0-0-is) c.in-Some-Sign-Open-default.ensures.first.0).1 c.args.text.now)) (call c.args.text.now c.args.depth c.in_ok-inner-in-Some-Sign-Open-default.inner (ExpressionPart whole) (TokenPart CloseToken ∷ LevelPart ∷ []) c.in-Some-Sign-Open-default.rest.now c.in_ok-inside-in-Some-Sign-Open-default.rest.now (λ s l. omega (arith, l, c.requires.1.1.0, c.in_ok-inner-in-Some-Sign-Open-default.ensures.deeper.0, c.in_ok-inner-in-Some-Sign-Open-default.ensures.deeper.1)) c.in_ok-inside-in-Some-Sign-Open-default.ensures.reads)) (unexpected c.args.text.now c.args.depth CloseToken (LevelPart ∷ []) (class.Sign mark.Close) c.in_ok-inside-in-Some-Sign-Open-default.rest.now _ refl c.in_err-rest-in-Some-Sign-Open-default.ensures.stop))
+    let p = err_from_is_err_and c.from_residual-in_err-rest-in-Some-Sign-Open-default.result c.from_residual-in_err-rest-in-Some-Sign-Open-default.ensures.1 in rw (p.1, p.2) (then_stops c.args.text.now c.args.depth (ExpressionPart factors ∷ []) (TokenPart (a_sign mark.Close) ∷ LevelPart ∷ []) c.args.input.now c.in_ok-inside-in-Some-Sign-Open-default.rest.now _ (then c.args.text.now c.args.depth (ExpressionPart factors ∷ []) (ExpressionPart whole ∷ TokenPart (a_sign mark.Close) ∷ LevelPart ∷ []) (TokenPart (a_sign mark.Close) ∷ LevelPart ∷ []) c.args.input.now c.in-Some-Sign-Open-default.rest.now c.in_ok-inside-in-Some-Sign-Open-default.rest.now (one c.args.text.now c.args.depth (ExpressionPart factors) ([]) (ExpressionPart whole ∷ TokenPart (a_sign mark.Close) ∷ LevelPart ∷ []) (sign mark.Open) c.args.input.now c.in-Some-Sign-Open-default.rest.now (λ s l. omega (arith, l, c.requires.1.1.0, c.in_ok-inner-in-Some-Sign-Open-default.ensures.deeper.0, c.in_ok-inner-in-Some-Sign-Open-default.ensures.deeper.1)) (λ s. refl) ((first_of _ (class.Sign mark.Open) c.args.input.now c.in-Some-Sign-Open-default.rest.now (c.in-Some-Sign-Open-default.field-0-0-is ∙ ap class.Sign c.in-Some-Sign-Open-default.field-0-0-0-is) c.in-Some-Sign-Open-default.ensures.first.0).1 c.args.text.now)) (call c.args.text.now c.args.depth c.in_ok-inner-in-Some-Sign-Open-default.inner (ExpressionPart whole) (TokenPart (a_sign mark.Close) ∷ LevelPart ∷ []) c.in-Some-Sign-Open-default.rest.now c.in_ok-inside-in-Some-Sign-Open-default.rest.now (λ s l. omega (arith, l, c.requires.1.1.0, c.in_ok-inner-in-Some-Sign-Open-default.ensures.deeper.0, c.in_ok-inner-in-Some-Sign-Open-default.ensures.deeper.1)) c.in_ok-inside-in-Some-Sign-Open-default.ensures.reads)) (unexpected c.args.text.now c.args.depth (a_sign mark.Close) (LevelPart ∷ []) (class.Sign mark.Close) c.in_ok-inside-in-Some-Sign-Open-default.rest.now _ refl c.in_err-rest-in-Some-Sign-Open-default.ensures.stop))
 
 pub read_factor-returns-in_err-name-in-Some-Name-default : goal.read_factor-returns-in_err-name-in-Some-Name-default
 read_factor-returns-in_err-name-in-Some-Name-default t c =
@@ -114,7 +114,7 @@ read_expression-returns-in_err-test t c =
     let n = c.in_ok-inner.ensures.deeper.0 in
     let m = K.if_moves T c.args.depth e i c.in-Some.rest.now n c.in_ok-inner.ensures.deeper.1 (c.in-Some.ensures.first.1 T) in
     rw (p.1, p.2) (then_stops T c.args.depth K.choice K.after_if i c.in-Some.rest.now _ m
-    (call_two_stops T c.args.depth e (ExpressionPart whole) (TokenPart ThenToken) K.after_then c.in-Some.rest.now _ (λ s l. omega (arith, l, n)) c.in_err-test.ensures))
+    (call_two_stops T c.args.depth e (ExpressionPart whole) (TokenPart (a_word keyword.Then)) K.after_then c.in-Some.rest.now _ (λ s l. omega (arith, l, n)) c.in_err-test.ensures))
 
 pub read_expression-returns-in_err-yes : goal.read_expression-returns-in_err-yes
 read_expression-returns-in_err-yes t c =
@@ -124,7 +124,7 @@ read_expression-returns-in_err-yes t c =
     let n = c.in_ok-inner.ensures.deeper.0 in
     let m2 = K.then_moves T c.args.depth e i c.in-Some.rest.now c.in_ok-test.rest.now n c.in_ok-inner.ensures.deeper.1 (c.in-Some.ensures.first.1 T) c.in_ok-test.ensures.reads in
     rw (p.1, p.2) (then_stops T c.args.depth K.choice K.after_then i c.in_ok-test.rest.now _ m2
-    (call_two_stops T c.args.depth e (ExpressionPart whole) (TokenPart ElseToken) K.after_else c.in_ok-test.rest.now _ (λ s l. omega (arith, l, n)) c.in_err-yes.ensures))
+    (call_two_stops T c.args.depth e (ExpressionPart whole) (TokenPart (a_word keyword.Else)) K.after_else c.in_ok-test.rest.now _ (λ s l. omega (arith, l, n)) c.in_err-yes.ensures))
 
 pub read_expression-returns-in_err-no : goal.read_expression-returns-in_err-no
 read_expression-returns-in_err-no t c =
@@ -143,17 +143,17 @@ read_before-read_expression-requires t c =
 pub read_before-returns-in_err-expression : goal.read_before-returns-in_err-expression
 read_before-returns-in_err-expression t c =
     let p = err_from_is_err_and c.from_residual.result c.from_residual.ensures.1 in
-    rw (p.1, p.2) (call_stops c.args.text.now c.args.depth c.args.depth (ExpressionPart whole) (TokenPart (token_of c.args.last) ∷ []) c.args.input.now _ (λ s l. l)
+    rw (p.1, p.2) (call_stops c.args.text.now c.args.depth c.args.depth (ExpressionPart whole) (TokenPart (a_word c.args.last) ∷ []) c.args.input.now _ (λ s l. l)
     c.in_err-expression.ensures)
 
 pub read_before-returns-in_err-rest : goal.read_before-returns-in_err-rest
 read_before-returns-in_err-rest t c =
     let p = err_from_is_err_and c.from_residual-in_err-rest.result c.from_residual-in_err-rest.ensures.1 in
     let T = c.args.text.now in
-    let k = TokenPart (token_of c.args.last) ∷ [] in
+    let k = TokenPart (a_word c.args.last) ∷ [] in
     let m = call T c.args.depth c.args.depth (ExpressionPart whole) k c.args.input.now c.in_ok-expression.rest.now (λ s l. l) c.in_ok-expression.ensures.reads in
     rw (p.1, p.2) (then_stops T c.args.depth (ExpressionPart whole ∷ k) k c.args.input.now c.in_ok-expression.rest.now _ m
-    (unexpected T c.args.depth (token_of c.args.last) [] (class.Word c.args.last) c.in_ok-expression.rest.now _ c.requires.1.1.1.1 c.in_err-rest.ensures.stop))
+    (unexpected T c.args.depth (a_word c.args.last) [] (class.Word c.args.last) c.in_ok-expression.rest.now _ c.requires.1.1.1.1 c.in_err-rest.ensures.stop))
 
 pub read_expression-returns-in_default : goal.read_expression-returns-in_default
 read_expression-returns-in_default t c =
@@ -170,10 +170,10 @@ read_before-returns t c =
       shorter = omega (arith, c.in_ok-expression.ensures.shorter, c.in_ok-rest.ensures.shorter);
       proper = c.in_ok-rest.ensures.proper T c.in_ok-expression.ensures.proper;
       reads = let T = c.args.text.now in
-          let k = TokenPart (token_of c.args.last) ∷ [] in
+          let k = TokenPart (a_word c.args.last) ∷ [] in
           let m = call T c.args.depth c.args.depth (ExpressionPart whole) k c.args.input.now c.in_ok-expression.rest.now (λ s l. l) c.in_ok-expression.ensures.reads in
           then T c.args.depth (ExpressionPart whole ∷ k) k [] c.args.input.now c.in_ok-expression.rest.now c.in_ok-rest.rest.now m
-          (expected T c.args.depth (token_of c.args.last) [] (class.Word c.args.last) c.in_ok-expression.rest.now c.in_ok-rest.rest.now (λ s l. omega (arith, l, c.requires.1.1.0)) c.requires.1.1.1.1
+          (expected T c.args.depth (a_word c.args.last) [] (class.Word c.args.last) c.in_ok-expression.rest.now c.in_ok-rest.rest.now (λ s l. omega (arith, l, c.requires.1.1.0)) c.requires.1.1.1.1
           c.in_ok-rest.ensures.first);
     }
 
@@ -198,7 +198,7 @@ read_factor-returns-in-Some-Word-Wait-default t c =
 
 pub read_factor-returns-in_default : goal.read_factor-returns-in_default
 read_factor-returns-in_default t c =
-    let a : leads_factor (terminals c.args.text.now c.args.input.now) ≡ false = search rules in no_factor c.args.text.now c.args.depth c.args.input.now a
+    let a : starts factor_rules (terminals c.args.text.now c.args.input.now) ≡ false = search rules in refused c.args.text.now c.args.depth (ExpressionPart factors) [] c.args.input.now _ refl a refl
 
 pub read_denial-returns-in_err-operand : goal.read_denial-returns-in_err-operand
 read_denial-returns-in_err-operand t c =
@@ -217,9 +217,9 @@ read_factor-returns-in_err-operand-in-Some-Sign-Minus-default t c =
 pub read_factor-returns-in_err-inside-in-Some-Sign-Open-default : goal.read_factor-returns-in_err-inside-in-Some-Sign-Open-default
 read_factor-returns-in_err-inside-in-Some-Sign-Open-default t c =
     let p = err_from_is_err_and c.from_residual-in_err-inside-in-Some-Sign-Open-default.result c.from_residual-in_err-inside-in-Some-Sign-Open-default.ensures.1 in
-    rw (p.1, p.2) (then_stops c.args.text.now c.args.depth (ExpressionPart factors ∷ []) (ExpressionPart whole ∷ TokenPart CloseToken ∷ LevelPart ∷ []) c.args.input.now c.in-Some-Sign-Open-default.rest.now _
-    (one c.args.text.now c.args.depth (ExpressionPart factors) [] (ExpressionPart whole ∷ TokenPart CloseToken ∷ LevelPart ∷ []) (sign mark.Open) c.args.input.now c.in-Some-Sign-Open-default.rest.now (λ s l. omega (arith, l, c.in_ok-inner-in-Some-Sign-Open-default.ensures.deeper.0, c.in_ok-inner-in-Some-Sign-Open-default.ensures.deeper.1)) (λ s. refl) ((first_of _ (class.Sign mark.Open) c.args.input.now c.in-Some-Sign-Open-default.rest.now (c.in-Some-Sign-Open-default.field-0-0-is ∙ ap class.Sign c.in-Some-Sign-Open-default.field-0-0-0-is) c.in-Some-Sign-Open-default.ensures.first.0).1 c.args.text.now))
-    (call_stops c.args.text.now c.args.depth c.in_ok-inner-in-Some-Sign-Open-default.inner (ExpressionPart whole) (TokenPart CloseToken ∷ LevelPart ∷ []) c.in-Some-Sign-Open-default.rest.now _ (λ s l. omega (arith, l, c.in_ok-inner-in-Some-Sign-Open-default.ensures.deeper.0)) c.in_err-inside-in-Some-Sign-Open-default.ensures))
+    rw (p.1, p.2) (then_stops c.args.text.now c.args.depth (ExpressionPart factors ∷ []) (ExpressionPart whole ∷ TokenPart (a_sign mark.Close) ∷ LevelPart ∷ []) c.args.input.now c.in-Some-Sign-Open-default.rest.now _
+    (one c.args.text.now c.args.depth (ExpressionPart factors) [] (ExpressionPart whole ∷ TokenPart (a_sign mark.Close) ∷ LevelPart ∷ []) (sign mark.Open) c.args.input.now c.in-Some-Sign-Open-default.rest.now (λ s l. omega (arith, l, c.in_ok-inner-in-Some-Sign-Open-default.ensures.deeper.0, c.in_ok-inner-in-Some-Sign-Open-default.ensures.deeper.1)) (λ s. refl) ((first_of _ (class.Sign mark.Open) c.args.input.now c.in-Some-Sign-Open-default.rest.now (c.in-Some-Sign-Open-default.field-0-0-is ∙ ap class.Sign c.in-Some-Sign-Open-default.field-0-0-0-is) c.in-Some-Sign-Open-default.ensures.first.0).1 c.args.text.now))
+    (call_stops c.args.text.now c.args.depth c.in_ok-inner-in-Some-Sign-Open-default.inner (ExpressionPart whole) (TokenPart (a_sign mark.Close) ∷ LevelPart ∷ []) c.in-Some-Sign-Open-default.rest.now _ (λ s l. omega (arith, l, c.in_ok-inner-in-Some-Sign-Open-default.ensures.deeper.0)) c.in_err-inside-in-Some-Sign-Open-default.ensures))
 
 pub read_expression-returns : goal.read_expression-returns
 read_expression-returns t c =
@@ -385,7 +385,7 @@ read_factor-returns-in_ok-rest-in-Some-Sign-Open-default t c =
       nesting = omega (arith, c.in_ok-inner-in-Some-Sign-Open-default.ensures.deeper.0, c.in_ok-inside-in-Some-Sign-Open-default.ensures.nesting);
       shorter = omega (arith, c.in-Some-Sign-Open-default.ensures.first.1, c.in_ok-inside-in-Some-Sign-Open-default.ensures.shorter, c.in_ok-rest-in-Some-Sign-Open-default.ensures.shorter);
       proper = c.in_ok-rest-in-Some-Sign-Open-default.ensures.proper c.args.text.now c.in_ok-inside-in-Some-Sign-Open-default.ensures.proper;
-      reads = (then c.args.text.now c.args.depth (ExpressionPart factors ∷ []) (LevelPart ∷ []) ([]) c.args.input.now c.in_ok-rest-in-Some-Sign-Open-default.rest.now c.in_ok-rest-in-Some-Sign-Open-default.rest.now (then c.args.text.now c.args.depth (ExpressionPart factors ∷ []) (TokenPart CloseToken ∷ LevelPart ∷ []) (LevelPart ∷ []) c.args.input.now c.in_ok-inside-in-Some-Sign-Open-default.rest.now c.in_ok-rest-in-Some-Sign-Open-default.rest.now (then c.args.text.now c.args.depth (ExpressionPart factors ∷ []) (ExpressionPart whole ∷ TokenPart CloseToken ∷ LevelPart ∷ []) (TokenPart CloseToken ∷ LevelPart ∷ []) c.args.input.now c.in-Some-Sign-Open-default.rest.now c.in_ok-inside-in-Some-Sign-Open-default.rest.now (one c.args.text.now c.args.depth (ExpressionPart factors) ([]) (ExpressionPart whole ∷ TokenPart CloseToken ∷ LevelPart ∷ []) (sign mark.Open) c.args.input.now c.in-Some-Sign-Open-default.rest.now (λ s l. omega (arith, l, c.requires.1.1.0, c.in_ok-inner-in-Some-Sign-Open-default.ensures.deeper.0, c.in_ok-inner-in-Some-Sign-Open-default.ensures.deeper.1)) (λ s. refl) ((first_of _ (class.Sign mark.Open) c.args.input.now c.in-Some-Sign-Open-default.rest.now (c.in-Some-Sign-Open-default.field-0-0-is ∙ ap class.Sign c.in-Some-Sign-Open-default.field-0-0-0-is) c.in-Some-Sign-Open-default.ensures.first.0).1 c.args.text.now)) (call c.args.text.now c.args.depth c.in_ok-inner-in-Some-Sign-Open-default.inner (ExpressionPart whole) (TokenPart CloseToken ∷ LevelPart ∷ []) c.in-Some-Sign-Open-default.rest.now c.in_ok-inside-in-Some-Sign-Open-default.rest.now (λ s l. omega (arith, l, c.requires.1.1.0, c.in_ok-inner-in-Some-Sign-Open-default.ensures.deeper.0, c.in_ok-inner-in-Some-Sign-Open-default.ensures.deeper.1)) c.in_ok-inside-in-Some-Sign-Open-default.ensures.reads)) (expected c.args.text.now c.args.depth CloseToken (LevelPart ∷ []) (class.Sign mark.Close) c.in_ok-inside-in-Some-Sign-Open-default.rest.now c.in_ok-rest-in-Some-Sign-Open-default.rest.now (λ s l. omega (arith, l, c.requires.1.1.0, c.in_ok-inner-in-Some-Sign-Open-default.ensures.deeper.0, c.in_ok-inner-in-Some-Sign-Open-default.ensures.deeper.1)) refl c.in_ok-rest-in-Some-Sign-Open-default.ensures.first)) (level_ends c.args.text.now c.args.depth [] c.in_ok-rest-in-Some-Sign-Open-default.rest.now));
+      reads = (then c.args.text.now c.args.depth (ExpressionPart factors ∷ []) (LevelPart ∷ []) ([]) c.args.input.now c.in_ok-rest-in-Some-Sign-Open-default.rest.now c.in_ok-rest-in-Some-Sign-Open-default.rest.now (then c.args.text.now c.args.depth (ExpressionPart factors ∷ []) (TokenPart (a_sign mark.Close) ∷ LevelPart ∷ []) (LevelPart ∷ []) c.args.input.now c.in_ok-inside-in-Some-Sign-Open-default.rest.now c.in_ok-rest-in-Some-Sign-Open-default.rest.now (then c.args.text.now c.args.depth (ExpressionPart factors ∷ []) (ExpressionPart whole ∷ TokenPart (a_sign mark.Close) ∷ LevelPart ∷ []) (TokenPart (a_sign mark.Close) ∷ LevelPart ∷ []) c.args.input.now c.in-Some-Sign-Open-default.rest.now c.in_ok-inside-in-Some-Sign-Open-default.rest.now (one c.args.text.now c.args.depth (ExpressionPart factors) ([]) (ExpressionPart whole ∷ TokenPart (a_sign mark.Close) ∷ LevelPart ∷ []) (sign mark.Open) c.args.input.now c.in-Some-Sign-Open-default.rest.now (λ s l. omega (arith, l, c.requires.1.1.0, c.in_ok-inner-in-Some-Sign-Open-default.ensures.deeper.0, c.in_ok-inner-in-Some-Sign-Open-default.ensures.deeper.1)) (λ s. refl) ((first_of _ (class.Sign mark.Open) c.args.input.now c.in-Some-Sign-Open-default.rest.now (c.in-Some-Sign-Open-default.field-0-0-is ∙ ap class.Sign c.in-Some-Sign-Open-default.field-0-0-0-is) c.in-Some-Sign-Open-default.ensures.first.0).1 c.args.text.now)) (call c.args.text.now c.args.depth c.in_ok-inner-in-Some-Sign-Open-default.inner (ExpressionPart whole) (TokenPart (a_sign mark.Close) ∷ LevelPart ∷ []) c.in-Some-Sign-Open-default.rest.now c.in_ok-inside-in-Some-Sign-Open-default.rest.now (λ s l. omega (arith, l, c.requires.1.1.0, c.in_ok-inner-in-Some-Sign-Open-default.ensures.deeper.0, c.in_ok-inner-in-Some-Sign-Open-default.ensures.deeper.1)) c.in_ok-inside-in-Some-Sign-Open-default.ensures.reads)) (expected c.args.text.now c.args.depth (a_sign mark.Close) (LevelPart ∷ []) (class.Sign mark.Close) c.in_ok-inside-in-Some-Sign-Open-default.rest.now c.in_ok-rest-in-Some-Sign-Open-default.rest.now (λ s l. omega (arith, l, c.requires.1.1.0, c.in_ok-inner-in-Some-Sign-Open-default.ensures.deeper.0, c.in_ok-inner-in-Some-Sign-Open-default.ensures.deeper.1)) refl c.in_ok-rest-in-Some-Sign-Open-default.ensures.first)) (level_ends c.args.text.now c.args.depth [] c.in_ok-rest-in-Some-Sign-Open-default.rest.now));
     })
     c.made-in-Some-Sign-Open-default.result (λ x. x.0.value) (λ x. x.1.now) c.made-in-Some-Sign-Open-default.ensures
 

@@ -1,4 +1,4 @@
-use Rattle.kahn_syntax.proofs.Common.{refl, [], ◌∷◌, arith, err_from_is_err_and, word, name, sign, factors, CloseToken, NameToken, OpenToken, ExpressionPart, TokenPart, name_of}
+use Rattle.kahn_syntax.proofs.Common.{refl, [], ◌∷◌, arith, err_from_is_err_and, word, name, sign, factors, ExpressionPart, TokenPart, name_of, a_sign, a_name}
 use Rattle.kahn_syntax.specs.declared.lexeme.Keyword.TheVariants as keyword
 use Rattle.kahn_syntax.specs.declared.lexeme.Sign.TheVariants as mark
 use Rattle.kahn_syntax.specs.declared.lexeme.Class.TheVariants as class
@@ -8,18 +8,18 @@ use Rattle.kahn_syntax.proofs.parser.expression.read_wait.Goals as goal
 
 pub returns-in_err-rest : goal.returns-in_err-rest
 returns-in_err-rest c = λ d b.
-    let p = err_from_is_err_and c.from_residual.result c.from_residual.ensures.1 in rw (p.1, p.2) (then_stops c.args.text.now d (ExpressionPart factors ∷ []) (TokenPart OpenToken ∷ TokenPart NameToken ∷ TokenPart CloseToken ∷ []) c.args.input.now c.args.rest.now _ (one c.args.text.now d (ExpressionPart factors) ([]) (TokenPart OpenToken ∷ TokenPart NameToken ∷ TokenPart CloseToken ∷ []) (word keyword.Wait) c.args.input.now c.args.rest.now (λ s l. omega (arith, l, b)) (λ s. refl) (c.requires.first.1 c.args.text.now)) (unexpected c.args.text.now d OpenToken (TokenPart NameToken ∷ TokenPart CloseToken ∷ []) (class.Sign mark.Open) c.args.rest.now _ refl c.in_err-rest.ensures.stop))
+    let p = err_from_is_err_and c.from_residual.result c.from_residual.ensures.1 in rw (p.1, p.2) (then_stops c.args.text.now d (ExpressionPart factors ∷ []) (TokenPart (a_sign mark.Open) ∷ TokenPart a_name ∷ TokenPart (a_sign mark.Close) ∷ []) c.args.input.now c.args.rest.now _ (one c.args.text.now d (ExpressionPart factors) ([]) (TokenPart (a_sign mark.Open) ∷ TokenPart a_name ∷ TokenPart (a_sign mark.Close) ∷ []) (word keyword.Wait) c.args.input.now c.args.rest.now (λ s l. omega (arith, l, b)) (λ s. refl) (c.requires.first.1 c.args.text.now)) (unexpected c.args.text.now d (a_sign mark.Open) (TokenPart a_name ∷ TokenPart (a_sign mark.Close) ∷ []) (class.Sign mark.Open) c.args.rest.now _ refl c.in_err-rest.ensures.stop))
 
 pub read_name-requires : goal.read_name-requires
 read_name-requires c = record { proper = c.in_ok-rest.ensures.proper c.args.text.now c.requires.proper }
 
 pub returns-in_err-name : goal.returns-in_err-name
 returns-in_err-name c = λ d b.
-    let p = err_from_is_err_and c.from_residual-in_err-name.result c.from_residual-in_err-name.ensures.1 in rw (p.1, p.2) (then_stops c.args.text.now d (ExpressionPart factors ∷ []) (TokenPart NameToken ∷ TokenPart CloseToken ∷ []) c.args.input.now c.in_ok-rest.rest.now _ (then c.args.text.now d (ExpressionPart factors ∷ []) (TokenPart OpenToken ∷ TokenPart NameToken ∷ TokenPart CloseToken ∷ []) (TokenPart NameToken ∷ TokenPart CloseToken ∷ []) c.args.input.now c.args.rest.now c.in_ok-rest.rest.now (one c.args.text.now d (ExpressionPart factors) ([]) (TokenPart OpenToken ∷ TokenPart NameToken ∷ TokenPart CloseToken ∷ []) (word keyword.Wait) c.args.input.now c.args.rest.now (λ s l. omega (arith, l, b)) (λ s. refl) (c.requires.first.1 c.args.text.now)) (expected c.args.text.now d OpenToken (TokenPart NameToken ∷ TokenPart CloseToken ∷ []) (class.Sign mark.Open) c.args.rest.now c.in_ok-rest.rest.now (λ s l. omega (arith, l, b)) refl c.in_ok-rest.ensures.first)) (no_name c.args.text.now d (TokenPart CloseToken ∷ []) c.in_ok-rest.rest.now _ c.in_err-name.ensures.stop))
+    let p = err_from_is_err_and c.from_residual-in_err-name.result c.from_residual-in_err-name.ensures.1 in rw (p.1, p.2) (then_stops c.args.text.now d (ExpressionPart factors ∷ []) (TokenPart a_name ∷ TokenPart (a_sign mark.Close) ∷ []) c.args.input.now c.in_ok-rest.rest.now _ (then c.args.text.now d (ExpressionPart factors ∷ []) (TokenPart (a_sign mark.Open) ∷ TokenPart a_name ∷ TokenPart (a_sign mark.Close) ∷ []) (TokenPart a_name ∷ TokenPart (a_sign mark.Close) ∷ []) c.args.input.now c.args.rest.now c.in_ok-rest.rest.now (one c.args.text.now d (ExpressionPart factors) ([]) (TokenPart (a_sign mark.Open) ∷ TokenPart a_name ∷ TokenPart (a_sign mark.Close) ∷ []) (word keyword.Wait) c.args.input.now c.args.rest.now (λ s l. omega (arith, l, b)) (λ s. refl) (c.requires.first.1 c.args.text.now)) (expected c.args.text.now d (a_sign mark.Open) (TokenPart a_name ∷ TokenPart (a_sign mark.Close) ∷ []) (class.Sign mark.Open) c.args.rest.now c.in_ok-rest.rest.now (λ s l. omega (arith, l, b)) refl c.in_ok-rest.ensures.first)) (no_name c.args.text.now d (TokenPart (a_sign mark.Close) ∷ []) c.in_ok-rest.rest.now _ c.in_err-name.ensures.stop))
 
 pub returns-in_err-rest-2 : goal.returns-in_err-rest-2
 returns-in_err-rest-2 c = λ d b.
-    let p = err_from_is_err_and c.from_residual-in_err-rest-2.result c.from_residual-in_err-rest-2.ensures.1 in rw (p.1, p.2) (then_stops c.args.text.now d (ExpressionPart factors ∷ []) (TokenPart CloseToken ∷ []) c.args.input.now c.in_ok-name.rest.now _ (then c.args.text.now d (ExpressionPart factors ∷ []) (TokenPart NameToken ∷ TokenPart CloseToken ∷ []) (TokenPart CloseToken ∷ []) c.args.input.now c.in_ok-rest.rest.now c.in_ok-name.rest.now (then c.args.text.now d (ExpressionPart factors ∷ []) (TokenPart OpenToken ∷ TokenPart NameToken ∷ TokenPart CloseToken ∷ []) (TokenPart NameToken ∷ TokenPart CloseToken ∷ []) c.args.input.now c.args.rest.now c.in_ok-rest.rest.now (one c.args.text.now d (ExpressionPart factors) ([]) (TokenPart OpenToken ∷ TokenPart NameToken ∷ TokenPart CloseToken ∷ []) (word keyword.Wait) c.args.input.now c.args.rest.now (λ s l. omega (arith, l, b)) (λ s. refl) (c.requires.first.1 c.args.text.now)) (expected c.args.text.now d OpenToken (TokenPart NameToken ∷ TokenPart CloseToken ∷ []) (class.Sign mark.Open) c.args.rest.now c.in_ok-rest.rest.now (λ s l. omega (arith, l, b)) refl c.in_ok-rest.ensures.first)) (token c.args.text.now d NameToken (TokenPart CloseToken ∷ []) (name (name_of c.in_ok-name.name)) c.in_ok-rest.rest.now c.in_ok-name.rest.now (λ s l. omega (arith, l, b)) refl c.in_ok-name.ensures.words)) (unexpected c.args.text.now d CloseToken ([]) (class.Sign mark.Close) c.in_ok-name.rest.now _ refl c.in_err-rest-2.ensures.stop))
+    let p = err_from_is_err_and c.from_residual-in_err-rest-2.result c.from_residual-in_err-rest-2.ensures.1 in rw (p.1, p.2) (then_stops c.args.text.now d (ExpressionPart factors ∷ []) (TokenPart (a_sign mark.Close) ∷ []) c.args.input.now c.in_ok-name.rest.now _ (then c.args.text.now d (ExpressionPart factors ∷ []) (TokenPart a_name ∷ TokenPart (a_sign mark.Close) ∷ []) (TokenPart (a_sign mark.Close) ∷ []) c.args.input.now c.in_ok-rest.rest.now c.in_ok-name.rest.now (then c.args.text.now d (ExpressionPart factors ∷ []) (TokenPart (a_sign mark.Open) ∷ TokenPart a_name ∷ TokenPart (a_sign mark.Close) ∷ []) (TokenPart a_name ∷ TokenPart (a_sign mark.Close) ∷ []) c.args.input.now c.args.rest.now c.in_ok-rest.rest.now (one c.args.text.now d (ExpressionPart factors) ([]) (TokenPart (a_sign mark.Open) ∷ TokenPart a_name ∷ TokenPart (a_sign mark.Close) ∷ []) (word keyword.Wait) c.args.input.now c.args.rest.now (λ s l. omega (arith, l, b)) (λ s. refl) (c.requires.first.1 c.args.text.now)) (expected c.args.text.now d (a_sign mark.Open) (TokenPart a_name ∷ TokenPart (a_sign mark.Close) ∷ []) (class.Sign mark.Open) c.args.rest.now c.in_ok-rest.rest.now (λ s l. omega (arith, l, b)) refl c.in_ok-rest.ensures.first)) (token c.args.text.now d a_name (TokenPart (a_sign mark.Close) ∷ []) (name (name_of c.in_ok-name.name)) c.in_ok-rest.rest.now c.in_ok-name.rest.now (λ s l. omega (arith, l, b)) refl c.in_ok-name.ensures.words)) (unexpected c.args.text.now d (a_sign mark.Close) ([]) (class.Sign mark.Close) c.in_ok-name.rest.now _ refl c.in_err-rest-2.ensures.stop))
 
 pub returns : goal.returns
 returns c = λ d b.
@@ -43,15 +43,15 @@ returns c = λ d b.
       proper = c.in_ok-rest-2.ensures.proper c.args.text.now c.in_ok-name.ensures.proper;
       reads = let T = c.args.text.now in let i = c.args.input.now in
           let p = ExpressionPart factors ∷ [] in
-          let after_wait = TokenPart OpenToken ∷ TokenPart NameToken ∷ TokenPart CloseToken ∷ [] in
-          let after_open = TokenPart NameToken ∷ TokenPart CloseToken ∷ [] in
-          let after_name = TokenPart CloseToken ∷ [] in
+          let after_wait = TokenPart (a_sign mark.Open) ∷ TokenPart a_name ∷ TokenPart (a_sign mark.Close) ∷ [] in
+          let after_open = TokenPart a_name ∷ TokenPart (a_sign mark.Close) ∷ [] in
+          let after_name = TokenPart (a_sign mark.Close) ∷ [] in
           let m = one T d (ExpressionPart factors) [] after_wait (word keyword.Wait) i c.args.rest.now (λ s l. omega (arith, l, b)) (λ s. refl) (c.requires.first.1 T) in
           let m2 = then T d p after_wait after_open i c.args.rest.now c.in_ok-rest.rest.now m
-          (expected T d OpenToken after_open (class.Sign mark.Open) c.args.rest.now c.in_ok-rest.rest.now (λ s l. omega (arith, l, b)) refl c.in_ok-rest.ensures.first) in
+          (expected T d (a_sign mark.Open) after_open (class.Sign mark.Open) c.args.rest.now c.in_ok-rest.rest.now (λ s l. omega (arith, l, b)) refl c.in_ok-rest.ensures.first) in
           let m3 = then T d p after_open after_name i c.in_ok-rest.rest.now c.in_ok-name.rest.now m2
-          (token T d NameToken after_name (name (name_of c.in_ok-name.name)) c.in_ok-rest.rest.now c.in_ok-name.rest.now (λ s l. omega (arith, l, b)) refl c.in_ok-name.ensures.words) in
+          (token T d a_name after_name (name (name_of c.in_ok-name.name)) c.in_ok-rest.rest.now c.in_ok-name.rest.now (λ s l. omega (arith, l, b)) refl c.in_ok-name.ensures.words) in
           then T d p after_name [] i c.in_ok-name.rest.now c.in_ok-rest-2.rest.now m3
-          (expected T d CloseToken [] (class.Sign mark.Close) c.in_ok-name.rest.now c.in_ok-rest-2.rest.now (λ s l. omega (arith, l, b)) refl c.in_ok-rest-2.ensures.first);
+          (expected T d (a_sign mark.Close) [] (class.Sign mark.Close) c.in_ok-name.rest.now c.in_ok-rest-2.rest.now (λ s l. omega (arith, l, b)) refl c.in_ok-rest-2.ensures.first);
     })
     c.made.result (λ x. x.0.value) (λ x. x.1.now) c.made.ensures

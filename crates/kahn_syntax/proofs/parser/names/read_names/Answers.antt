@@ -1,4 +1,4 @@
-use Rattle.kahn_syntax.proofs.Common.{refl, sym, subst, [], ◌∷◌, ◌++◌, arith, err_from_is_err_and, name, sign, NameToken, NamesTail, TailPart, name_of, NamesSpan, Takes, NameSpans, TokenPart, goes_on}
+use Rattle.kahn_syntax.proofs.Common.{a_sign, refl, sym, subst, [], ◌∷◌, ◌++◌, arith, err_from_is_err_and, name, sign, NamesTail, name_of, NamesSpan, Takes, NameSpans, TokenPart, a_name}
 use Rattle.kahn_syntax.specs.declared.lexeme.Sign.TheVariants as mark
 use Rattle.kahn_syntax.specs.declared.lexeme.Class.TheVariants as class
 use Rattle.kahn_syntax.proofs.Spanning as S
@@ -9,8 +9,8 @@ pub returns-in_err-name : goal.returns-in_err-name
 returns-in_err-name c =
     let p = err_from_is_err_and c.from_residual.result c.from_residual.ensures.1 in
     rw (p.1, p.2)
-    (then_stops c.args.text.now 0 (goes_on NamesTail []) (goes_on NamesTail []) c.args.input.now c.names.rest.now _ c.names.invariant.reads
-    (no_name c.args.text.now 0 (TailPart NamesTail ∷ []) c.names.rest.now _ c.in_err-name.ensures.stop))
+    (then_stops c.args.text.now 0 (TokenPart a_name ∷ NamesTail ∷ []) (TokenPart a_name ∷ NamesTail ∷ []) c.args.input.now c.names.rest.now _ c.names.invariant.reads
+    (no_name c.args.text.now 0 (NamesTail ∷ []) c.names.rest.now _ c.in_err-name.ensures.stop))
 
 pub names-init : goal.names-init
 names-init c =
@@ -31,7 +31,7 @@ names-preserved c =
           (S.takes T (sign mark.Comma) a j c.in-Some.ensures.passed (c.in-Some.ensures.first.1 T)) p;
       shorter = omega (arith, c.in-Some.ensures.shorter, c.in_ok-name.ensures.shorter, c.names.invariant.shorter);
       proper = c.in-Some.ensures.proper T c.in_ok-name.ensures.proper;
-      reads = next_member T 0 (goes_on NamesTail []) NamesTail (TokenPart NameToken) [] (class.Sign mark.Comma) i c.names.rest.now a j (λ s l. omega (arith, l)) (λ s l. l) refl refl c.names.invariant.reads (token T 0 NameToken [] (name (name_of c.in_ok-name.name)) c.names.rest.now a (λ s l. omega (arith, l)) refl c.in_ok-name.ensures.words) c.in-Some.ensures.first;
+      reads = next_member T 0 (TokenPart a_name ∷ NamesTail ∷ []) NamesTail (a_sign mark.Comma) (TokenPart a_name) [] (class.Sign mark.Comma) i c.names.rest.now a j (λ s l. omega (arith, l)) (λ s l. l) refl refl c.names.invariant.reads (token T 0 a_name [] (name (name_of c.in_ok-name.name)) c.names.rest.now a (λ s l. omega (arith, l)) refl c.in_ok-name.ensures.words) c.in-Some.ensures.first;
     }
 
 pub returns-in_default : goal.returns-in_default
@@ -43,5 +43,5 @@ returns-in_default c =
       spans = s;
       shorter = omega (arith, c.in_ok-name.ensures.shorter, c.names.invariant.shorter);
       proper = c.in_ok-name.ensures.proper;
-      reads = last_member T 0 (goes_on NamesTail []) NamesTail (TokenPart NameToken) [] (class.Sign mark.Comma) i c.names.rest.now a (λ s l. l) refl c.names.invariant.reads (token T 0 NameToken [] (name (name_of c.in_ok-name.name)) c.names.rest.now a (λ s l. omega (arith, l)) refl c.in_ok-name.ensures.words) c.in_default.ensures.absent;
+      reads = last_member T 0 (TokenPart a_name ∷ NamesTail ∷ []) NamesTail (a_sign mark.Comma) (TokenPart a_name) [] (class.Sign mark.Comma) i c.names.rest.now a (λ s l. l) refl refl c.names.invariant.reads (token T 0 a_name [] (name (name_of c.in_ok-name.name)) c.names.rest.now a (λ s l. omega (arith, l)) refl c.in_ok-name.ensures.words) c.in_default.ensures.absent;
     }

@@ -1,4 +1,4 @@
-use Rattle.kahn_syntax.proofs.Common.{◌≤◌, List, [], ◌∷◌, ◌++◌, length, Name, Lexeme, AreProper, Moves, NameSpans, NamesSpan, goes_on, NamesTail}
+use Rattle.kahn_syntax.proofs.Common.{a_name, TokenPart, ◌≤◌, List, [], ◌∷◌, ◌++◌, length, Name, Lexeme, AreProper, Moves, NameSpans, NamesSpan, NamesTail}
 use Rattle.kahn_syntax.proofs.parser.names.read_names.Given as goal
 
 abbrev pub invariant-names : goal.invariant-names
@@ -6,7 +6,7 @@ invariant-names l = record {
   spans : (n : Name) (r : List Lexeme) → NameSpans l.text n l.rest r → NamesSpan l.text (l.names.items ++ n ∷ []) l.input r;
   shorter : length l.rest ≤ length l.input;
   proper : AreProper l.text l.rest;
-  reads : Moves l.text 0 (goes_on NamesTail []) (goes_on NamesTail []) l.input l.rest;
+  reads : Moves l.text 0 (TokenPart a_name ∷ NamesTail ∷ []) (TokenPart a_name ∷ NamesTail ∷ []) l.input l.rest;
 }
 
 abbrev pub decreases-names : goal.decreases-names

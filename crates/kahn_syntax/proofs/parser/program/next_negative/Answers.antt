@@ -1,4 +1,4 @@
-use Rattle.kahn_syntax.proofs.Common.{◌≡◌, ℕ, List, false, Option, Some, None, IfNone, subst, sym, neg_ℤ, w64, FitsSigned, to_z-of_z, IsUnsigned, AreProper, terminals, NumberToken, leads}
+use Rattle.kahn_syntax.proofs.Common.{◌≡◌, ℕ, List, false, Option, Some, None, IfNone, subst, sym, neg_ℤ, w64, FitsSigned, to_z-of_z, IsUnsigned, AreProper, terminals, leads, a_number}
 use Rattle.kahn_syntax.proofs.Negative.{number_fits, negative_fits}
 use Rattle.kahn_syntax.proofs.parser.program.next_negative.Goals as goal
 
@@ -8,9 +8,9 @@ none_if (Some x) P p = tt
 
 pub returns-in_err-checked_neg-in-Number-default-clause-absent : goal.returns-in_err-checked_neg-in-Number-default-clause-absent
 returns-in_err-checked_neg-in-Number-default-clause-absent c =
-    let no : (text : List ℕ) → AreProper text c.args.input.now → leads NumberToken (terminals text c.args.input.now) ≡ false = λ text h.
+    let no : (text : List ℕ) → AreProper text c.args.input.now → leads a_number (terminals text c.args.input.now) ≡ false = λ text h.
     (let u = subst IsUnsigned c.in-Number-default.is-0 (c.in_ok-number.ensures.unsigned text h) in
     absurd (c.in_err-checked_neg-in-Number-default.ensures
     (subst (λ k. FitsSigned w64 (neg_ℤ k)) (sym (to_z-of_z w64 c.in-Number-default.number (number_fits c.in-Number-default.number u.0 u.1 u.2)))
     (negative_fits c.in-Number-default.number u.0 u.1 u.2)))) in
-    none_if c.from_residual-in_err-checked_neg-in-Number-default.result ((text : List ℕ) → AreProper text c.args.input.now → leads NumberToken (terminals text c.args.input.now) ≡ false) no
+    none_if c.from_residual-in_err-checked_neg-in-Number-default.result ((text : List ℕ) → AreProper text c.args.input.now → leads a_number (terminals text c.args.input.now) ≡ false) no

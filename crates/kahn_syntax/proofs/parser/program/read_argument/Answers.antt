@@ -1,9 +1,9 @@
-use Rattle.kahn_syntax.proofs.Common.{rules, ◌≡◌, false, refl, [], ◌∷◌, arith, sym, ap, ◌∙◌, subst, length, inl, inr, w64, err_from_is_err_and, word, sign, terminals, IsUnsigned, name, NumberToken, ArgumentPart, TokenPart, Refused, to_z-of_z, Takes, name_of}
+use Rattle.kahn_syntax.proofs.Common.{argument_rules, starts, rules, ◌≡◌, false, refl, [], ◌∷◌, arith, sym, ap, ◌∙◌, subst, length, inl, inr, w64, err_from_is_err_and, word, sign, terminals, IsUnsigned, name, ArgumentPart, TokenPart, Refused, to_z-of_z, Takes, name_of, a_number}
 use Rattle.kahn_syntax.specs.declared.lexeme.Keyword.TheVariants as keyword
 use Rattle.kahn_syntax.specs.declared.lexeme.Sign.TheVariants as mark
 use Rattle.kahn_syntax.specs.declared.lexeme.Class.TheVariants as class
 use Rattle.kahn_syntax.specs.Terminals.{number}
-use Rattle.kahn_syntax.proofs.Moves.{leads_argument, no_argument, only_memory, then_stops, one, absent, token, then}
+use Rattle.kahn_syntax.proofs.Moves.{refused, only_memory, then_stops, one, absent, token, then}
 use Rattle.kahn_syntax.proofs.Lists.{first_of}
 use Rattle.kahn_syntax.proofs.Spanning as S
 use Rattle.kahn_syntax.proofs.Negative.{number_fits}
@@ -15,11 +15,11 @@ returns-in_err-name-in-Some-Name-default c =
 
 pub returns-in_default : goal.returns-in_default
 returns-in_default c =
-    let a : leads_argument (terminals c.args.text.now c.args.input.now) ≡ false = search rules in no_argument c.args.text.now [] c.args.input.now a
+    let a : starts argument_rules (terminals c.args.text.now c.args.input.now) ≡ false = search rules in refused c.args.text.now 0 ArgumentPart [] c.args.input.now _ refl a refl
 
 pub returns-in_default-next_negative : goal.returns-in_default-next_negative
 returns-in_default-next_negative c =
-    then_stops c.args.text.now 0 (ArgumentPart ∷ []) (TokenPart NumberToken ∷ []) c.args.input.now c.in-Some-Sign-Minus-default.rest.now (Refused false (length c.in-Some-Sign-Minus-default.rest.now)) (one c.args.text.now 0 (ArgumentPart) ([]) (TokenPart NumberToken ∷ []) (sign mark.Minus) c.args.input.now c.in-Some-Sign-Minus-default.rest.now (λ s l. omega (arith, l)) (λ s. refl) ((first_of _ (class.Sign mark.Minus) c.args.input.now c.in-Some-Sign-Minus-default.rest.now (c.in-Some-Sign-Minus-default.field-0-0-is ∙ ap class.Sign c.in-Some-Sign-Minus-default.field-0-0-0-is) c.in-Some-Sign-Minus-default.ensures.first.0).1 c.args.text.now)) (absent c.args.text.now 0 NumberToken [] c.in-Some-Sign-Minus-default.rest.now (Refused false (length c.in-Some-Sign-Minus-default.rest.now)) (c.in_default-next_negative.ensures.absent c.args.text.now (c.in-Some-Sign-Minus-default.ensures.proper c.args.text.now c.requires.proper)) refl)
+    then_stops c.args.text.now 0 (ArgumentPart ∷ []) (TokenPart a_number ∷ []) c.args.input.now c.in-Some-Sign-Minus-default.rest.now (Refused false (length c.in-Some-Sign-Minus-default.rest.now)) (one c.args.text.now 0 (ArgumentPart) ([]) (TokenPart a_number ∷ []) (sign mark.Minus) c.args.input.now c.in-Some-Sign-Minus-default.rest.now (λ s l. omega (arith, l)) (λ s. refl) ((first_of _ (class.Sign mark.Minus) c.args.input.now c.in-Some-Sign-Minus-default.rest.now (c.in-Some-Sign-Minus-default.field-0-0-is ∙ ap class.Sign c.in-Some-Sign-Minus-default.field-0-0-0-is) c.in-Some-Sign-Minus-default.ensures.first.0).1 c.args.text.now)) (absent c.args.text.now 0 a_number [] c.in-Some-Sign-Minus-default.rest.now (Refused false (length c.in-Some-Sign-Minus-default.rest.now)) (c.in_default-next_negative.ensures.absent c.args.text.now (c.in-Some-Sign-Minus-default.ensures.proper c.args.text.now c.requires.proper)) refl)
 
 pub returns-in-Some-Number-default : goal.returns-in-Some-Number-default
 returns-in-Some-Number-default c =
@@ -70,7 +70,7 @@ returns-in-Some c =
       );
       shorter = omega (arith, c.in-Some-Sign-Minus-default.ensures.first.1, c.in-Some.ensures.shorter);
       proper = c.in-Some.ensures.proper c.args.text.now (c.in-Some-Sign-Minus-default.ensures.proper c.args.text.now c.requires.proper);
-      reads = then c.args.text.now 0 (ArgumentPart ∷ []) (TokenPart NumberToken ∷ []) [] c.args.input.now c.in-Some-Sign-Minus-default.rest.now c.in-Some.after.now (one c.args.text.now 0 ArgumentPart [] (TokenPart NumberToken ∷ []) (sign mark.Minus) c.args.input.now c.in-Some-Sign-Minus-default.rest.now (λ s l. omega (arith, l)) (λ s. refl) ((first_of _ (class.Sign mark.Minus) c.args.input.now c.in-Some-Sign-Minus-default.rest.now (c.in-Some-Sign-Minus-default.field-0-0-is ∙ ap class.Sign c.in-Some-Sign-Minus-default.field-0-0-0-is) c.in-Some-Sign-Minus-default.ensures.first.0).1 c.args.text.now)) (token c.args.text.now 0 NumberToken [] (number c.in-Some.ensures.number.0) c.in-Some-Sign-Minus-default.rest.now c.in-Some.after.now (λ s l. omega (arith, l)) refl (c.in-Some.ensures.number.2 c.args.text.now));
+      reads = then c.args.text.now 0 (ArgumentPart ∷ []) (TokenPart a_number ∷ []) [] c.args.input.now c.in-Some-Sign-Minus-default.rest.now c.in-Some.after.now (one c.args.text.now 0 ArgumentPart [] (TokenPart a_number ∷ []) (sign mark.Minus) c.args.input.now c.in-Some-Sign-Minus-default.rest.now (λ s l. omega (arith, l)) (λ s. refl) ((first_of _ (class.Sign mark.Minus) c.args.input.now c.in-Some-Sign-Minus-default.rest.now (c.in-Some-Sign-Minus-default.field-0-0-is ∙ ap class.Sign c.in-Some-Sign-Minus-default.field-0-0-0-is) c.in-Some-Sign-Minus-default.ensures.first.0).1 c.args.text.now)) (token c.args.text.now 0 a_number [] (number c.in-Some.ensures.number.0) c.in-Some-Sign-Minus-default.rest.now c.in-Some.after.now (λ s l. omega (arith, l)) refl (c.in-Some.ensures.number.2 c.args.text.now));
     }
 
 pub returns-in_ok-name-in-Some-Name-default : goal.returns-in_ok-name-in-Some-Name-default

@@ -1,4 +1,5 @@
-use Rattle.kahn_syntax.proofs.Common.{◌≤◌, List, [], ◌∷◌, ◌++◌, length, Argument, Lexeme, ArgumentSpans, AreProper, ArgumentsPart, ArgumentPart, TailPart, TokenPart, CloseToken, ArgumentsTail, Moves}
+use Rattle.kahn_syntax.proofs.Common.{◌≤◌, List, [], ◌∷◌, ◌++◌, length, Argument, Lexeme, ArgumentSpans, AreProper, ArgumentsPart, ArgumentPart, TokenPart, ArgumentsTail, Moves, a_sign}
+use Rattle.kahn_syntax.specs.declared.lexeme.Sign.TheVariants as mark
 use Rattle.kahn_syntax.proofs.Spanning.{SomeArgumentsSpan}
 use Rattle.kahn_syntax.proofs.parser.program.read_arguments.Given as goal
 
@@ -7,7 +8,7 @@ invariant-arguments l = record {
   spans : (n : Argument) (r : List Lexeme) → ArgumentSpans l.text n l.rest r → SomeArgumentsSpan l.text (l.arguments.items ++ n ∷ []) l.input r;
   shorter : length l.rest ≤ length l.input;
   proper : AreProper l.text l.rest;
-  reads : Moves l.text 0 (ArgumentsPart ∷ []) (ArgumentPart ∷ TailPart ArgumentsTail ∷ TokenPart CloseToken ∷ []) l.input l.rest;
+  reads : Moves l.text 0 (ArgumentsPart ∷ []) (ArgumentPart ∷ ArgumentsTail ∷ TokenPart (a_sign mark.Close) ∷ []) l.input l.rest;
 }
 
 abbrev pub decreases-arguments : goal.decreases-arguments

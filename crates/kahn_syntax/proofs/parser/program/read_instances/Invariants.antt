@@ -1,4 +1,4 @@
-use Rattle.kahn_syntax.proofs.Common.{◌≤◌, List, [], ◌∷◌, ◌++◌, length, Instance, Lexeme, AreProper, InstancePart, TailPart, InstancesTail, Moves, InstancesSpan, InstanceSpans}
+use Rattle.kahn_syntax.proofs.Common.{◌≤◌, List, [], ◌∷◌, ◌++◌, length, Instance, Lexeme, AreProper, InstancePart, InstancesTail, Moves, InstancesSpan, InstanceSpans}
 use Rattle.kahn_syntax.proofs.parser.program.read_instances.Given as goal
 
 abbrev pub invariant-instances : goal.invariant-instances
@@ -6,7 +6,7 @@ invariant-instances l = record {
   spans : (n : Instance) (r : List Lexeme) → InstanceSpans l.text n l.rest r → InstancesSpan l.text (l.instances.items ++ n ∷ []) l.input r;
   shorter : length l.rest ≤ length l.input;
   proper : AreProper l.text l.rest;
-  reads : Moves l.text 0 (InstancePart ∷ TailPart InstancesTail ∷ []) (InstancePart ∷ TailPart InstancesTail ∷ []) l.input l.rest;
+  reads : Moves l.text 0 (InstancePart ∷ InstancesTail ∷ []) (InstancePart ∷ InstancesTail ∷ []) l.input l.rest;
 }
 
 abbrev pub decreases-instances : goal.decreases-instances

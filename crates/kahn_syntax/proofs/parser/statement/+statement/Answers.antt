@@ -1,8 +1,8 @@
-use Rattle.kahn_syntax.proofs.Common.{rules, ◌≡◌, false, refl, sym, subst, [], ◌∷◌, arith, ap, ◌∙◌, ◌++◌, err_from_is_err_and, word, sign, terminals, whole, leads, DoToken, EndToken, NameToken, ThenToken, StatementsTail, ElseTail, StatementPart, SimplePart, ExpressionPart, TailPart, TokenPart, LevelPart, FormedStatement, FormedStatements, statements_nesting, IsSimple, statement_nesting, statement_of, statements_of, StatementSpans, Takes, ExpressionRead, StatementRead}
+use Rattle.kahn_syntax.proofs.Common.{other_rules, simple_rules, starts, a_sign, rules, ◌≡◌, false, refl, sym, subst, [], ◌∷◌, arith, ap, ◌∙◌, ◌++◌, err_from_is_err_and, word, sign, terminals, whole, leads, StatementsTail, ElseTail, StatementPart, SimplePart, ExpressionPart, TokenPart, LevelPart, FormedStatement, FormedStatements, statements_nesting, IsSimple, statement_nesting, statement_of, statements_of, StatementSpans, Takes, ExpressionRead, StatementRead, a_word, a_name}
 use Rattle.kahn_syntax.specs.declared.lexeme.Keyword.TheVariants as keyword
 use Rattle.kahn_syntax.specs.declared.lexeme.Sign.TheVariants as mark
 use Rattle.kahn_syntax.specs.declared.lexeme.Class.TheVariants as class
-use Rattle.kahn_syntax.proofs.Moves.{leads_statement, opens_simple, leads_simple, simple_ends, opened_simple, then, then_stops, call, call_stops, call_two, call_two_stops, one, deep, expected, level_ends, unexpected, ends, next_member, last_member}
+use Rattle.kahn_syntax.proofs.Moves.{opens_simple, nothing, opened_simple, then, then_stops, call, call_stops, call_two, call_two_stops, one, deep, expected, level_ends, unexpected, ends, next_member, last_member}
 use Rattle.kahn_syntax.proofs.Lists.{first_of}
 use Rattle.kahn_syntax.proofs.Spanning as S
 use Rattle.kahn_syntax.proofs.Spanning.{SomeStatements}
@@ -15,7 +15,7 @@ read_statement-read_if-requires t c = (omega (arith, c.requires.1.0, c.in-Some-W
 
 pub read_statement-returns-in_err-inner-in-Some-Word-While-default : goal.read_statement-returns-in_err-inner-in-Some-Word-While-default
 read_statement-returns-in_err-inner-in-Some-Word-While-default t c =
-    let p = err_from_is_err_and c.from_residual.result c.from_residual.ensures.1 in rw (p.1, p.2) (deep c.args.text.now c.args.depth (StatementPart) ([]) (ExpressionPart whole ∷ TokenPart DoToken ∷ StatementPart ∷ LevelPart ∷ []) (word keyword.While) c.args.input.now c.in-Some-Word-While-default.rest.now _ (λ s l. omega (arith, l, c.in_err-inner-in-Some-Word-While-default.ensures.stop.0)) (λ s. refl) ((first_of _ (class.Word keyword.While) c.args.input.now c.in-Some-Word-While-default.rest.now (c.in-Some-Word-While-default.field-0-0-is ∙ ap class.Word c.in-Some-Word-While-default.field-0-0-0-is) c.in-Some-Word-While-default.ensures.first.0).1 c.args.text.now) c.in_err-inner-in-Some-Word-While-default.ensures.stop.1)
+    let p = err_from_is_err_and c.from_residual.result c.from_residual.ensures.1 in rw (p.1, p.2) (deep c.args.text.now c.args.depth (StatementPart) ([]) (ExpressionPart whole ∷ TokenPart (a_word keyword.Do) ∷ StatementPart ∷ LevelPart ∷ []) (word keyword.While) c.args.input.now c.in-Some-Word-While-default.rest.now _ (λ s l. omega (arith, l, c.in_err-inner-in-Some-Word-While-default.ensures.stop.0)) (λ s. refl) ((first_of _ (class.Word keyword.While) c.args.input.now c.in-Some-Word-While-default.rest.now (c.in-Some-Word-While-default.field-0-0-is ∙ ap class.Word c.in-Some-Word-While-default.field-0-0-0-is) c.in-Some-Word-While-default.ensures.first.0).1 c.args.text.now) c.in_err-inner-in-Some-Word-While-default.ensures.stop.1)
 
 pub read_statement-returns-in_err-inner-in-Some-Word-Repeat-default : goal.read_statement-returns-in_err-inner-in-Some-Word-Repeat-default
 read_statement-returns-in_err-inner-in-Some-Word-Repeat-default t c =
@@ -30,10 +30,10 @@ read_statement-returns-in_err-turn-in-Some-Word-Repeat-default t c =
 
 pub read_if-returns-in_err-inner : goal.read_if-returns-in_err-inner
 read_if-returns-in_err-inner t c =
-    let p = err_from_is_err_and c.from_residual.result c.from_residual.ensures.1 in rw (p.1, p.2) (deep c.args.text.now c.args.depth (StatementPart) ([]) (ExpressionPart whole ∷ TokenPart ThenToken ∷ SimplePart ∷ TailPart ElseTail ∷ LevelPart ∷ []) (word keyword.If) c.args.input.now c.args.rest.now _ (λ s l. omega (arith, l, c.in_err-inner.ensures.stop.0)) (λ s. refl) (c.requires.1.1.0.1 c.args.text.now) c.in_err-inner.ensures.stop.1)
+    let p = err_from_is_err_and c.from_residual.result c.from_residual.ensures.1 in rw (p.1, p.2) (deep c.args.text.now c.args.depth (StatementPart) ([]) (ExpressionPart whole ∷ TokenPart (a_word keyword.Then) ∷ SimplePart ∷ ElseTail ∷ LevelPart ∷ []) (word keyword.If) c.args.input.now c.args.rest.now _ (λ s l. omega (arith, l, c.in_err-inner.ensures.stop.0)) (λ s. refl) (c.requires.1.1.0.1 c.args.text.now) c.in_err-inner.ensures.stop.1)
 
 pub read_simple-read_assign-requires-clause-named : goal.read_simple-read_assign-requires-clause-named
-read_simple-read_assign-requires-clause-named t c = ap (leads NameToken) ((first_of _ class.Name c.args.input.now c.in-Some-Name-default.field-0-1.now c.in-Some-Name-default.field-0-0-is c.in-Some-Name-default.ensures.first.0).1 c.args.text.now)
+read_simple-read_assign-requires-clause-named t c = ap (leads a_name) ((first_of _ class.Name c.args.input.now c.in-Some-Name-default.field-0-1.now c.in-Some-Name-default.field-0-0-is c.in-Some-Name-default.ensures.first.0).1 c.args.text.now)
 
 pub read_simple-read_send-requires-clause-first : goal.read_simple-read_send-requires-clause-first
 read_simple-read_send-requires-clause-first t c = (first_of _ (class.Word keyword.Send) c.args.input.now c.in-Some-Word-Send-default.rest.now (c.in-Some-Word-Send-default.field-0-0-is ∙ ap class.Word c.in-Some-Word-Send-default.field-0-0-0-is) c.in-Some-Word-Send-default.ensures.first.0)
@@ -50,18 +50,18 @@ read_simple-returns-in_err-value-in-Some-Word-Print-default t c =
 
 pub read_simple-returns-in_err-inner-in-Some-Word-Begin-default : goal.read_simple-returns-in_err-inner-in-Some-Word-Begin-default
 read_simple-returns-in_err-inner-in-Some-Word-Begin-default t c =
-    let p = err_from_is_err_and c.from_residual-in_err-inner-in-Some-Word-Begin-default.result c.from_residual-in_err-inner-in-Some-Word-Begin-default.ensures.1 in rw (p.1, p.2) (deep c.args.text.now c.args.depth (SimplePart) ([]) (StatementPart ∷ TailPart StatementsTail ∷ TokenPart EndToken ∷ LevelPart ∷ []) (word keyword.Begin) c.args.input.now c.in-Some-Word-Begin-default.rest.now _ (λ s l. omega (arith, l, c.in_err-inner-in-Some-Word-Begin-default.ensures.stop.0)) (λ s. refl) ((first_of _ (class.Word keyword.Begin) c.args.input.now c.in-Some-Word-Begin-default.rest.now (c.in-Some-Word-Begin-default.field-0-0-is ∙ ap class.Word c.in-Some-Word-Begin-default.field-0-0-0-is) c.in-Some-Word-Begin-default.ensures.first.0).1 c.args.text.now) c.in_err-inner-in-Some-Word-Begin-default.ensures.stop.1)
+    let p = err_from_is_err_and c.from_residual-in_err-inner-in-Some-Word-Begin-default.result c.from_residual-in_err-inner-in-Some-Word-Begin-default.ensures.1 in rw (p.1, p.2) (deep c.args.text.now c.args.depth (SimplePart) ([]) (StatementPart ∷ StatementsTail ∷ TokenPart (a_word keyword.End) ∷ LevelPart ∷ []) (word keyword.Begin) c.args.input.now c.in-Some-Word-Begin-default.rest.now _ (λ s l. omega (arith, l, c.in_err-inner-in-Some-Word-Begin-default.ensures.stop.0)) (λ s. refl) ((first_of _ (class.Word keyword.Begin) c.args.input.now c.in-Some-Word-Begin-default.rest.now (c.in-Some-Word-Begin-default.field-0-0-is ∙ ap class.Word c.in-Some-Word-Begin-default.field-0-0-0-is) c.in-Some-Word-Begin-default.ensures.first.0).1 c.args.text.now) c.in_err-inner-in-Some-Word-Begin-default.ensures.stop.1)
 
 pub read_simple-read_statements-requires : goal.read_simple-read_statements-requires
 read_simple-read_statements-requires t c = (omega (arith, c.requires.1.0, c.in-Some-Word-Begin-default.ensures.first.1), (c.in_ok-inner-in-Some-Word-Begin-default.ensures.deeper.1, c.in-Some-Word-Begin-default.ensures.proper c.args.text.now c.requires.1.1.1))
 
 pub read_simple-returns-in_err-statements-in-Some-Word-Begin-default : goal.read_simple-returns-in_err-statements-in-Some-Word-Begin-default
 read_simple-returns-in_err-statements-in-Some-Word-Begin-default t c =
-    let p = err_from_is_err_and c.from_residual-in_err-statements-in-Some-Word-Begin-default.result c.from_residual-in_err-statements-in-Some-Word-Begin-default.ensures.1 in rw (p.1, p.2) (then_stops c.args.text.now c.args.depth (SimplePart ∷ []) (StatementPart ∷ TailPart StatementsTail ∷ TokenPart EndToken ∷ LevelPart ∷ []) c.args.input.now c.in-Some-Word-Begin-default.rest.now _ (one c.args.text.now c.args.depth (SimplePart) ([]) (StatementPart ∷ TailPart StatementsTail ∷ TokenPart EndToken ∷ LevelPart ∷ []) (word keyword.Begin) c.args.input.now c.in-Some-Word-Begin-default.rest.now (λ s l. omega (arith, l, c.requires.1.1.0, c.in_ok-inner-in-Some-Word-Begin-default.ensures.deeper.0, c.in_ok-inner-in-Some-Word-Begin-default.ensures.deeper.1)) (λ s. refl) ((first_of _ (class.Word keyword.Begin) c.args.input.now c.in-Some-Word-Begin-default.rest.now (c.in-Some-Word-Begin-default.field-0-0-is ∙ ap class.Word c.in-Some-Word-Begin-default.field-0-0-0-is) c.in-Some-Word-Begin-default.ensures.first.0).1 c.args.text.now)) (call_two_stops c.args.text.now c.args.depth c.in_ok-inner-in-Some-Word-Begin-default.inner (StatementPart) (TailPart StatementsTail) (TokenPart EndToken ∷ LevelPart ∷ []) c.in-Some-Word-Begin-default.rest.now _ (λ s l. omega (arith, l, c.requires.1.1.0, c.in_ok-inner-in-Some-Word-Begin-default.ensures.deeper.0, c.in_ok-inner-in-Some-Word-Begin-default.ensures.deeper.1)) c.in_err-statements-in-Some-Word-Begin-default.ensures))
+    let p = err_from_is_err_and c.from_residual-in_err-statements-in-Some-Word-Begin-default.result c.from_residual-in_err-statements-in-Some-Word-Begin-default.ensures.1 in rw (p.1, p.2) (then_stops c.args.text.now c.args.depth (SimplePart ∷ []) (StatementPart ∷ StatementsTail ∷ TokenPart (a_word keyword.End) ∷ LevelPart ∷ []) c.args.input.now c.in-Some-Word-Begin-default.rest.now _ (one c.args.text.now c.args.depth (SimplePart) ([]) (StatementPart ∷ StatementsTail ∷ TokenPart (a_word keyword.End) ∷ LevelPart ∷ []) (word keyword.Begin) c.args.input.now c.in-Some-Word-Begin-default.rest.now (λ s l. omega (arith, l, c.requires.1.1.0, c.in_ok-inner-in-Some-Word-Begin-default.ensures.deeper.0, c.in_ok-inner-in-Some-Word-Begin-default.ensures.deeper.1)) (λ s. refl) ((first_of _ (class.Word keyword.Begin) c.args.input.now c.in-Some-Word-Begin-default.rest.now (c.in-Some-Word-Begin-default.field-0-0-is ∙ ap class.Word c.in-Some-Word-Begin-default.field-0-0-0-is) c.in-Some-Word-Begin-default.ensures.first.0).1 c.args.text.now)) (call_two_stops c.args.text.now c.args.depth c.in_ok-inner-in-Some-Word-Begin-default.inner (StatementPart) StatementsTail (TokenPart (a_word keyword.End) ∷ LevelPart ∷ []) c.in-Some-Word-Begin-default.rest.now _ (λ s l. omega (arith, l, c.requires.1.1.0, c.in_ok-inner-in-Some-Word-Begin-default.ensures.deeper.0, c.in_ok-inner-in-Some-Word-Begin-default.ensures.deeper.1)) c.in_err-statements-in-Some-Word-Begin-default.ensures))
 
 pub read_simple-returns-in_err-rest-in-Some-Word-Begin-default : goal.read_simple-returns-in_err-rest-in-Some-Word-Begin-default
 read_simple-returns-in_err-rest-in-Some-Word-Begin-default t c =
-    let p = err_from_is_err_and c.from_residual-in_err-rest-in-Some-Word-Begin-default.result c.from_residual-in_err-rest-in-Some-Word-Begin-default.ensures.1 in rw (p.1, p.2) (then_stops c.args.text.now c.args.depth (SimplePart ∷ []) (TokenPart EndToken ∷ LevelPart ∷ []) c.args.input.now c.in_ok-statements-in-Some-Word-Begin-default.rest.now _ (then c.args.text.now c.args.depth (SimplePart ∷ []) (StatementPart ∷ TailPart StatementsTail ∷ TokenPart EndToken ∷ LevelPart ∷ []) (TokenPart EndToken ∷ LevelPart ∷ []) c.args.input.now c.in-Some-Word-Begin-default.rest.now c.in_ok-statements-in-Some-Word-Begin-default.rest.now (one c.args.text.now c.args.depth (SimplePart) ([]) (StatementPart ∷ TailPart StatementsTail ∷ TokenPart EndToken ∷ LevelPart ∷ []) (word keyword.Begin) c.args.input.now c.in-Some-Word-Begin-default.rest.now (λ s l. omega (arith, l, c.requires.1.1.0, c.in_ok-inner-in-Some-Word-Begin-default.ensures.deeper.0, c.in_ok-inner-in-Some-Word-Begin-default.ensures.deeper.1)) (λ s. refl) ((first_of _ (class.Word keyword.Begin) c.args.input.now c.in-Some-Word-Begin-default.rest.now (c.in-Some-Word-Begin-default.field-0-0-is ∙ ap class.Word c.in-Some-Word-Begin-default.field-0-0-0-is) c.in-Some-Word-Begin-default.ensures.first.0).1 c.args.text.now)) (call_two c.args.text.now c.args.depth c.in_ok-inner-in-Some-Word-Begin-default.inner (StatementPart) (TailPart StatementsTail) (TokenPart EndToken ∷ LevelPart ∷ []) c.in-Some-Word-Begin-default.rest.now c.in_ok-statements-in-Some-Word-Begin-default.rest.now (λ s l. omega (arith, l, c.requires.1.1.0, c.in_ok-inner-in-Some-Word-Begin-default.ensures.deeper.0, c.in_ok-inner-in-Some-Word-Begin-default.ensures.deeper.1)) c.in_ok-statements-in-Some-Word-Begin-default.ensures.reads)) (unexpected c.args.text.now c.args.depth EndToken (LevelPart ∷ []) (class.Word keyword.End) c.in_ok-statements-in-Some-Word-Begin-default.rest.now _ refl c.in_err-rest-in-Some-Word-Begin-default.ensures.stop))
+    let p = err_from_is_err_and c.from_residual-in_err-rest-in-Some-Word-Begin-default.result c.from_residual-in_err-rest-in-Some-Word-Begin-default.ensures.1 in rw (p.1, p.2) (then_stops c.args.text.now c.args.depth (SimplePart ∷ []) (TokenPart (a_word keyword.End) ∷ LevelPart ∷ []) c.args.input.now c.in_ok-statements-in-Some-Word-Begin-default.rest.now _ (then c.args.text.now c.args.depth (SimplePart ∷ []) (StatementPart ∷ StatementsTail ∷ TokenPart (a_word keyword.End) ∷ LevelPart ∷ []) (TokenPart (a_word keyword.End) ∷ LevelPart ∷ []) c.args.input.now c.in-Some-Word-Begin-default.rest.now c.in_ok-statements-in-Some-Word-Begin-default.rest.now (one c.args.text.now c.args.depth (SimplePart) ([]) (StatementPart ∷ StatementsTail ∷ TokenPart (a_word keyword.End) ∷ LevelPart ∷ []) (word keyword.Begin) c.args.input.now c.in-Some-Word-Begin-default.rest.now (λ s l. omega (arith, l, c.requires.1.1.0, c.in_ok-inner-in-Some-Word-Begin-default.ensures.deeper.0, c.in_ok-inner-in-Some-Word-Begin-default.ensures.deeper.1)) (λ s. refl) ((first_of _ (class.Word keyword.Begin) c.args.input.now c.in-Some-Word-Begin-default.rest.now (c.in-Some-Word-Begin-default.field-0-0-is ∙ ap class.Word c.in-Some-Word-Begin-default.field-0-0-0-is) c.in-Some-Word-Begin-default.ensures.first.0).1 c.args.text.now)) (call_two c.args.text.now c.args.depth c.in_ok-inner-in-Some-Word-Begin-default.inner (StatementPart) StatementsTail (TokenPart (a_word keyword.End) ∷ LevelPart ∷ []) c.in-Some-Word-Begin-default.rest.now c.in_ok-statements-in-Some-Word-Begin-default.rest.now (λ s l. omega (arith, l, c.requires.1.1.0, c.in_ok-inner-in-Some-Word-Begin-default.ensures.deeper.0, c.in_ok-inner-in-Some-Word-Begin-default.ensures.deeper.1)) c.in_ok-statements-in-Some-Word-Begin-default.ensures.reads)) (unexpected c.args.text.now c.args.depth (a_word keyword.End) (LevelPart ∷ []) (class.Word keyword.End) c.in_ok-statements-in-Some-Word-Begin-default.rest.now _ refl c.in_err-rest-in-Some-Word-Begin-default.ensures.stop))
 
 pub read_statement-read_before-requires : goal.read_statement-read_before-requires
 read_statement-read_before-requires t c =
@@ -79,7 +79,7 @@ read_statement-returns-in_err-test-in-Some-Word-While-default t c =
     let n = c.in_ok-inner-in-Some-Word-While-default.ensures.deeper.0 in
     let m = K.while_moves T c.args.depth e i c.in-Some-Word-While-default.rest.now n c.in_ok-inner-in-Some-Word-While-default.ensures.deeper.1 ((first_of _ (class.Word keyword.While) c.args.input.now c.in-Some-Word-While-default.rest.now (c.in-Some-Word-While-default.field-0-0-is ∙ ap class.Word c.in-Some-Word-While-default.field-0-0-0-is) c.in-Some-Word-While-default.ensures.first.0).1 T) in
     rw (p.1, p.2) (then_stops T c.args.depth K.some_statement K.after_while i c.in-Some-Word-While-default.rest.now _ m
-    (call_two_stops T c.args.depth e (ExpressionPart whole) (TokenPart DoToken) K.after_do c.in-Some-Word-While-default.rest.now _ (λ s l. omega (arith, l, n)) c.in_err-test-in-Some-Word-While-default.ensures))
+    (call_two_stops T c.args.depth e (ExpressionPart whole) (TokenPart (a_word keyword.Do)) K.after_do c.in-Some-Word-While-default.rest.now _ (λ s l. omega (arith, l, n)) c.in_err-test-in-Some-Word-While-default.ensures))
 
 pub read_statement-returns-in_err-turn-in-Some-Word-While-default : goal.read_statement-returns-in_err-turn-in-Some-Word-While-default
 read_statement-returns-in_err-turn-in-Some-Word-While-default t c =
@@ -111,7 +111,7 @@ read_if-returns-in_err-test t c =
     let n = c.in_ok-inner.ensures.deeper.0 in
     let m = K.conditional_moves T c.args.depth e i c.args.rest.now n c.in_ok-inner.ensures.deeper.1 (c.requires.1.1.0.1 T) in
     rw (p.1, p.2) (then_stops T c.args.depth K.some_statement K.before_test i c.args.rest.now _ m
-    (call_two_stops T c.args.depth e (ExpressionPart whole) (TokenPart ThenToken) K.after_test c.args.rest.now _ (λ s l. omega (arith, l, n)) c.in_err-test.ensures))
+    (call_two_stops T c.args.depth e (ExpressionPart whole) (TokenPart (a_word keyword.Then)) K.after_test c.args.rest.now _ (λ s l. omega (arith, l, n)) c.in_err-test.ensures))
 
 pub read_if-returns-in_err-yes : goal.read_if-returns-in_err-yes
 read_if-returns-in_err-yes t c =
@@ -172,7 +172,7 @@ read_statement-returns-in_ok-turn-in-Some-Word-Repeat-default t c =
 
 pub read_statement-returns-in_default : goal.read_statement-returns-in_default
 read_statement-returns-in_default t c =
-    let a : leads_statement (terminals c.args.text.now c.args.input.now) ≡ false = search rules in
+    let a : starts other_rules (terminals c.args.text.now c.args.input.now) ≡ false = search rules in
     opened_simple c.args.text.now c.args.depth c.args.input.now (opens_simple c.args.text.now c.args.depth [] c.args.input.now a) c.read_simple.result (λ x. x.0) (λ x. x.1.now) c.read_simple.ensures
 
 pub read_if-returns-in_default : goal.read_if-returns-in_default
@@ -193,7 +193,7 @@ read_if-returns-in_default t c =
           let m3 = K.branch_moves T c.args.depth e i c.args.rest.now c.in_ok-test.rest.now c.in_ok-yes.rest.now n c.in_ok-inner.ensures.deeper.1 (c.requires.1.1.0.1 T) c.in_ok-test.ensures.reads c.in_ok-yes.ensures.reads in
           let o = c.in_ok-yes.rest.now in
           then T c.args.depth K.some_statement (LevelPart ∷ []) [] i o o
-          (then T c.args.depth K.some_statement K.after_branch (LevelPart ∷ []) i o o m3 (ends T c.args.depth ElseTail (LevelPart ∷ []) (class.Word keyword.Else) o refl c.in_default.ensures.absent))
+          (then T c.args.depth K.some_statement K.after_branch (LevelPart ∷ []) i o o m3 (ends T c.args.depth ElseTail (a_word keyword.Else) _ (LevelPart ∷ []) (class.Word keyword.Else) o refl refl c.in_default.ensures.absent))
           (level_ends T c.args.depth [] o);
     }
 
@@ -259,7 +259,7 @@ read_simple-returns-in_ok-rest-in-Some-Word-Begin-default t c =
       nesting = omega (arith, ap statement_nesting c.block.ensures.built, c.in_ok-inner-in-Some-Word-Begin-default.ensures.deeper.0, c.in_ok-statements-in-Some-Word-Begin-default.ensures.nesting);
       shorter = omega (arith, c.in-Some-Word-Begin-default.ensures.first.1, c.in_ok-statements-in-Some-Word-Begin-default.ensures.shorter, c.in_ok-rest-in-Some-Word-Begin-default.ensures.shorter);
       proper = c.in_ok-rest-in-Some-Word-Begin-default.ensures.proper c.args.text.now c.in_ok-statements-in-Some-Word-Begin-default.ensures.proper;
-      reads = (then c.args.text.now c.args.depth (SimplePart ∷ []) (LevelPart ∷ []) ([]) c.args.input.now c.in_ok-rest-in-Some-Word-Begin-default.rest.now c.in_ok-rest-in-Some-Word-Begin-default.rest.now (then c.args.text.now c.args.depth (SimplePart ∷ []) (TokenPart EndToken ∷ LevelPart ∷ []) (LevelPart ∷ []) c.args.input.now c.in_ok-statements-in-Some-Word-Begin-default.rest.now c.in_ok-rest-in-Some-Word-Begin-default.rest.now (then c.args.text.now c.args.depth (SimplePart ∷ []) (StatementPart ∷ TailPart StatementsTail ∷ TokenPart EndToken ∷ LevelPart ∷ []) (TokenPart EndToken ∷ LevelPart ∷ []) c.args.input.now c.in-Some-Word-Begin-default.rest.now c.in_ok-statements-in-Some-Word-Begin-default.rest.now (one c.args.text.now c.args.depth (SimplePart) ([]) (StatementPart ∷ TailPart StatementsTail ∷ TokenPart EndToken ∷ LevelPart ∷ []) (word keyword.Begin) c.args.input.now c.in-Some-Word-Begin-default.rest.now (λ s l. omega (arith, l, c.requires.1.1.0, c.in_ok-inner-in-Some-Word-Begin-default.ensures.deeper.0, c.in_ok-inner-in-Some-Word-Begin-default.ensures.deeper.1)) (λ s. refl) ((first_of _ (class.Word keyword.Begin) c.args.input.now c.in-Some-Word-Begin-default.rest.now (c.in-Some-Word-Begin-default.field-0-0-is ∙ ap class.Word c.in-Some-Word-Begin-default.field-0-0-0-is) c.in-Some-Word-Begin-default.ensures.first.0).1 c.args.text.now)) (call_two c.args.text.now c.args.depth c.in_ok-inner-in-Some-Word-Begin-default.inner (StatementPart) (TailPart StatementsTail) (TokenPart EndToken ∷ LevelPart ∷ []) c.in-Some-Word-Begin-default.rest.now c.in_ok-statements-in-Some-Word-Begin-default.rest.now (λ s l. omega (arith, l, c.requires.1.1.0, c.in_ok-inner-in-Some-Word-Begin-default.ensures.deeper.0, c.in_ok-inner-in-Some-Word-Begin-default.ensures.deeper.1)) c.in_ok-statements-in-Some-Word-Begin-default.ensures.reads)) (expected c.args.text.now c.args.depth EndToken (LevelPart ∷ []) (class.Word keyword.End) c.in_ok-statements-in-Some-Word-Begin-default.rest.now c.in_ok-rest-in-Some-Word-Begin-default.rest.now (λ s l. omega (arith, l, c.requires.1.1.0, c.in_ok-inner-in-Some-Word-Begin-default.ensures.deeper.0, c.in_ok-inner-in-Some-Word-Begin-default.ensures.deeper.1)) refl c.in_ok-rest-in-Some-Word-Begin-default.ensures.first)) (level_ends c.args.text.now c.args.depth [] c.in_ok-rest-in-Some-Word-Begin-default.rest.now));
+      reads = (then c.args.text.now c.args.depth (SimplePart ∷ []) (LevelPart ∷ []) ([]) c.args.input.now c.in_ok-rest-in-Some-Word-Begin-default.rest.now c.in_ok-rest-in-Some-Word-Begin-default.rest.now (then c.args.text.now c.args.depth (SimplePart ∷ []) (TokenPart (a_word keyword.End) ∷ LevelPart ∷ []) (LevelPart ∷ []) c.args.input.now c.in_ok-statements-in-Some-Word-Begin-default.rest.now c.in_ok-rest-in-Some-Word-Begin-default.rest.now (then c.args.text.now c.args.depth (SimplePart ∷ []) (StatementPart ∷ StatementsTail ∷ TokenPart (a_word keyword.End) ∷ LevelPart ∷ []) (TokenPart (a_word keyword.End) ∷ LevelPart ∷ []) c.args.input.now c.in-Some-Word-Begin-default.rest.now c.in_ok-statements-in-Some-Word-Begin-default.rest.now (one c.args.text.now c.args.depth (SimplePart) ([]) (StatementPart ∷ StatementsTail ∷ TokenPart (a_word keyword.End) ∷ LevelPart ∷ []) (word keyword.Begin) c.args.input.now c.in-Some-Word-Begin-default.rest.now (λ s l. omega (arith, l, c.requires.1.1.0, c.in_ok-inner-in-Some-Word-Begin-default.ensures.deeper.0, c.in_ok-inner-in-Some-Word-Begin-default.ensures.deeper.1)) (λ s. refl) ((first_of _ (class.Word keyword.Begin) c.args.input.now c.in-Some-Word-Begin-default.rest.now (c.in-Some-Word-Begin-default.field-0-0-is ∙ ap class.Word c.in-Some-Word-Begin-default.field-0-0-0-is) c.in-Some-Word-Begin-default.ensures.first.0).1 c.args.text.now)) (call_two c.args.text.now c.args.depth c.in_ok-inner-in-Some-Word-Begin-default.inner (StatementPart) StatementsTail (TokenPart (a_word keyword.End) ∷ LevelPart ∷ []) c.in-Some-Word-Begin-default.rest.now c.in_ok-statements-in-Some-Word-Begin-default.rest.now (λ s l. omega (arith, l, c.requires.1.1.0, c.in_ok-inner-in-Some-Word-Begin-default.ensures.deeper.0, c.in_ok-inner-in-Some-Word-Begin-default.ensures.deeper.1)) c.in_ok-statements-in-Some-Word-Begin-default.ensures.reads)) (expected c.args.text.now c.args.depth (a_word keyword.End) (LevelPart ∷ []) (class.Word keyword.End) c.in_ok-statements-in-Some-Word-Begin-default.rest.now c.in_ok-rest-in-Some-Word-Begin-default.rest.now (λ s l. omega (arith, l, c.requires.1.1.0, c.in_ok-inner-in-Some-Word-Begin-default.ensures.deeper.0, c.in_ok-inner-in-Some-Word-Begin-default.ensures.deeper.1)) refl c.in_ok-rest-in-Some-Word-Begin-default.ensures.first)) (level_ends c.args.text.now c.args.depth [] c.in_ok-rest-in-Some-Word-Begin-default.rest.now));
     }
 
 pub read_simple-returns-in_default : goal.read_simple-returns-in_default
@@ -271,7 +271,7 @@ read_simple-returns-in_default t c =
       nesting = omega (arith, c.requires.1.1.0);
       shorter = omega arith;
       proper = c.requires.1.1.1;
-      reads = let a : leads_simple (terminals c.args.text.now c.args.input.now) ≡ false = search rules in simple_ends c.args.text.now c.args.depth [] c.args.input.now a;
+      reads = let a : starts simple_rules (terminals c.args.text.now c.args.input.now) ≡ false = search rules in nothing c.args.text.now c.args.depth SimplePart [] c.args.input.now refl a;
     }
 
 pub read_statements-read_statement-requires : goal.read_statements-read_statement-requires
@@ -280,8 +280,8 @@ read_statements-read_statement-requires t c = (omega (arith, c.requires.1.0, c.s
 pub read_statements-returns-in_err-statement : goal.read_statements-returns-in_err-statement
 read_statements-returns-in_err-statement t c =
     let p = err_from_is_err_and c.from_residual.result c.from_residual.ensures.1 in
-    rw (p.1, p.2) (then_stops c.args.text.now c.args.depth (StatementPart ∷ TailPart StatementsTail ∷ []) (StatementPart ∷ TailPart StatementsTail ∷ []) c.args.input.now c.statements.rest.now _ c.statements.invariant.reads
-    (call_stops c.args.text.now c.args.depth c.args.depth StatementPart (TailPart StatementsTail ∷ []) c.statements.rest.now _ (λ s l. omega (arith, l, c.requires.1.1.0)) c.in_err-statement.ensures))
+    rw (p.1, p.2) (then_stops c.args.text.now c.args.depth (StatementPart ∷ StatementsTail ∷ []) (StatementPart ∷ StatementsTail ∷ []) c.args.input.now c.statements.rest.now _ c.statements.invariant.reads
+    (call_stops c.args.text.now c.args.depth c.args.depth StatementPart (StatementsTail ∷ []) c.statements.rest.now _ (λ s l. omega (arith, l, c.requires.1.1.0)) c.in_err-statement.ensures))
 
 pub read_statements-statements-init : goal.read_statements-statements-init
 read_statements-statements-init t c =
@@ -307,7 +307,7 @@ read_statements-statements-preserved t c =
       nesting = nesting_next _ _ _ _ c.in_ok-push.ensures.items c.statements.invariant.nesting c.in_ok-statement.ensures.nesting;
       shorter = omega (arith, c.in-Some.ensures.shorter, c.in_ok-statement.ensures.shorter, c.statements.invariant.shorter);
       proper = c.in-Some.ensures.proper T c.in_ok-statement.ensures.proper;
-      reads = next_member T c.args.depth (StatementPart ∷ TailPart StatementsTail ∷ []) StatementsTail StatementPart [] (class.Sign mark.Semicolon) i c.statements.rest.now a j (λ s l. omega (arith, l, c.requires.1.1.0)) (λ s l. l) refl refl c.statements.invariant.reads c.in_ok-statement.ensures.reads c.in-Some.ensures.first;
+      reads = next_member T c.args.depth (StatementPart ∷ StatementsTail ∷ []) StatementsTail (a_sign mark.Semicolon) StatementPart [] (class.Sign mark.Semicolon) i c.statements.rest.now a j (λ s l. omega (arith, l, c.requires.1.1.0)) (λ s l. l) refl refl c.statements.invariant.reads c.in_ok-statement.ensures.reads c.in-Some.ensures.first;
     }
 
 pub read_statements-returns-in_default : goal.read_statements-returns-in_default
@@ -322,5 +322,5 @@ read_statements-returns-in_default t c =
       nesting = nesting_next _ _ _ _ c.in_ok-push.ensures.items c.statements.invariant.nesting c.in_ok-statement.ensures.nesting;
       shorter = omega (arith, c.in_ok-statement.ensures.shorter, c.statements.invariant.shorter);
       proper = c.in_ok-statement.ensures.proper;
-      reads = last_member T c.args.depth (StatementPart ∷ TailPart StatementsTail ∷ []) StatementsTail StatementPart [] (class.Sign mark.Semicolon) i c.statements.rest.now a (λ s l. l) refl c.statements.invariant.reads c.in_ok-statement.ensures.reads c.in_default.ensures.absent;
+      reads = last_member T c.args.depth (StatementPart ∷ StatementsTail ∷ []) StatementsTail (a_sign mark.Semicolon) StatementPart [] (class.Sign mark.Semicolon) i c.statements.rest.now a (λ s l. l) refl refl c.statements.invariant.reads c.in_ok-statement.ensures.reads c.in_default.ensures.absent;
     }

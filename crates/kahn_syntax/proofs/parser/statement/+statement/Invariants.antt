@@ -1,4 +1,4 @@
-use Rattle.kahn_syntax.proofs.Common.{◌≤◌, ◌+◌, ◌*◌, List, [], ◌∷◌, ◌++◌, length, Statement, Lexeme, StatementSpans, AreProper, StatementsTail, StatementPart, TailPart, Moves, statements_nesting, FormedStatements, statements_of}
+use Rattle.kahn_syntax.proofs.Common.{◌≤◌, ◌+◌, ◌*◌, List, [], ◌∷◌, ◌++◌, length, Statement, Lexeme, StatementSpans, AreProper, StatementsTail, StatementPart, Moves, statements_nesting, FormedStatements, statements_of}
 use Rattle.kahn_syntax.proofs.Spanning.{SomeStatements}
 use Rattle.kahn_syntax.proofs.parser.statement.+statement.Given as goal
 
@@ -24,7 +24,7 @@ invariant-read_statements-statements l = record {
   nesting : l.depth + statements_nesting (statements_of l.statements.items) ≤ 64;
   shorter : length l.rest ≤ length l.input;
   proper : AreProper l.text l.rest;
-  reads : Moves l.text l.depth (StatementPart ∷ TailPart StatementsTail ∷ []) (StatementPart ∷ TailPart StatementsTail ∷ []) l.input l.rest;
+  reads : Moves l.text l.depth (StatementPart ∷ StatementsTail ∷ []) (StatementPart ∷ StatementsTail ∷ []) l.input l.rest;
 }
 
 abbrev pub decreases-read_statements-statements : goal.decreases-read_statements-statements

@@ -1,4 +1,4 @@
-use Rattle.kahn_syntax.proofs.Common.{refl, sym, subst, [], ◌∷◌, arith, err_from_is_err_and, word, name, whole, NameToken, OnToken, SimplePart, ExpressionPart, TokenPart, name_of, ExpressionBefore}
+use Rattle.kahn_syntax.proofs.Common.{refl, sym, subst, [], ◌∷◌, arith, err_from_is_err_and, word, name, whole, SimplePart, ExpressionPart, TokenPart, name_of, ExpressionBefore, a_name, a_word}
 use Rattle.kahn_syntax.specs.declared.lexeme.Keyword.TheVariants as keyword
 use Rattle.kahn_syntax.proofs.Spanning as S
 use Rattle.kahn_syntax.proofs.Stacks as K
@@ -11,7 +11,7 @@ returns-in_err-value c =
     let T = c.args.text.now in let i = c.args.input.now in
     let m = K.send_moves T c.args.depth i c.args.rest.now c.requires.depth (c.requires.first.1 T) in
     rw (p.1, p.2) (then_stops T c.args.depth (SimplePart ∷ []) K.after_send i c.args.rest.now _ m
-    (call_two_stops T c.args.depth c.args.depth (ExpressionPart whole) (TokenPart OnToken) K.after_on c.args.rest.now _ (λ s l. l) c.in_err-value.ensures))
+    (call_two_stops T c.args.depth c.args.depth (ExpressionPart whole) (TokenPart (a_word keyword.On)) K.after_on c.args.rest.now _ (λ s l. l) c.in_err-value.ensures))
 
 pub returns-in_err-name : goal.returns-in_err-name
 returns-in_err-name c =
@@ -46,5 +46,5 @@ returns c =
           let m = K.send_moves T c.args.depth i c.args.rest.now c.requires.depth (c.requires.first.1 T) in
           let m2 = K.on_moves T c.args.depth i c.args.rest.now c.in_ok-value.rest.now m v.reads in
           then T c.args.depth (SimplePart ∷ []) K.after_on [] i c.in_ok-value.rest.now c.in_ok-name.rest.now m2
-          (token T c.args.depth NameToken [] (name (name_of c.in_ok-name.name)) c.in_ok-value.rest.now c.in_ok-name.rest.now (λ s l. omega (arith, l, c.requires.depth)) refl c.in_ok-name.ensures.words);
+          (token T c.args.depth a_name [] (name (name_of c.in_ok-name.name)) c.in_ok-value.rest.now c.in_ok-name.rest.now (λ s l. omega (arith, l, c.requires.depth)) refl c.in_ok-name.ensures.words);
     }
