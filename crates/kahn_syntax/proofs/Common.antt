@@ -9,14 +9,14 @@ pub use Rattle.kahn_syntax.specs.Spans.{ActionSpans, ArgumentSpans, ArgumentsSpa
 pub use Rattle.kahn_syntax.specs.Terminals.{AreProper, First, IsProper, IsUnsigned, Terminal, name, sign, terminal, terminals, word}
 pub use Rattle.kahn_syntax.specs.Texts.{AreLexemes, IsProgram, IsTextFault}
 pub use Rattle.kahn_syntax.specs.Trees.{AreSome, ExpressionTree, Formed, FormedOperands, FormedStatement, FormedStatements, IsOne, IsSimple, OperandTrees, StatementTree, StatementTrees, assign, block, bracket, conditional, denial, empty, expression_nesting, expression_words, further_words, if_else, if_then, level, negation, no_operand, no_statement, number, operand, operands_nesting, operands_words, operator_terminal, print, rank, repeat, send, statement, statement_nesting, statement_words, statements_nesting, statements_words, truth, truth_terminal, variable, wait, while_do}
-pub use Rattle.kahn_syntax.specs.declared.lexeme.Class.TheVariants.{Number, Word}
-pub use Rattle.kahn_syntax.specs.declared.lexeme.Keyword.TheVariants.{And, Begin, Channel, Div, Do, Else, End, False, If, In, Input, Integer, Logical, Mod, On, Out, Output, Par, Print, Process, Repeat, Send, Then, True, Wait, While}
+pub use Rattle.kahn_syntax.specs.declared.lexeme.Class.TheVariants.{Name as NameClass, Number, Sign as SignClass, Word}
+pub use Rattle.kahn_syntax.specs.declared.lexeme.Keyword.TheVariants.{And, Begin, Channel, Div, Do, Else, End, False, If, In, Input, Integer, Logical, Mod, On, Out, Output, Par, Print, Process, Repeat, Send, Then, True, Wait, While, Not as NotWord, Or as OrWord}
 pub use Rattle.kahn_syntax.specs.declared.lexeme.Sign.TheVariants.{AtLeast, AtMost, Becomes, Close, Comma, Equal, Greater, Less, Minus, Not, Open, Plus, Semicolon, Times, Unequal}
 pub use Rattle.kahn_syntax.specs.declared.parser.cursor.Stop.TheVariants.{NoMemory}
 pub use Rattle.kahn_syntax.specs.inner.Items.{IsFaultAt}
-pub use Rattle.kahn_syntax.specs.inner.Machine.{ArgumentPart, ArgumentsPart, ArgumentsTail, DeclarationPart, DeclarationsPart, ElseTail, ExpressionPart, Fate, GroupPart, GroupsPart, GroupsTail, InstancePart, InstancesTail, LastTail, LevelPart, NamesTail, OperatorsPart, Part, ProcessPart, ProgramPart, Refuses, RolePart, Rule, SimplePart, StatementPart, StatementsTail, TakingPart, Token, TokenPart, TooFar, VariablesPart, Whole, a_kind, a_name, a_number, a_sign, a_word, an_operator, argument_rules, class_of, declaration_rules, denial_rules, either, enters, expression_rules, factor_rules, fate, followed, group_rules, has_letters_of, has_rank, leads, levels, may_end, onward, opening, operand_rules, operator_rules, or_rules, other_rules, process_rules, relation_rules, rules_of, simple_rules, starts, step, takes}
+pub use Rattle.kahn_syntax.specs.inner.Machine.{ArgumentPart, ArgumentsPart, ArgumentsTail, DeclarationPart, DeclarationsPart, ElseTail, ExpressionPart, Fate, GroupPart, GroupsPart, GroupsTail, InstancePart, InstancesTail, LastTail, LevelPart, NamesTail, OperatorsPart, Part, ProcessPart, ProgramPart, Refuses, RolePart, Rule, SimplePart, StatementPart, StatementsTail, TakingPart, Token, TokenPart, TooFar, VariablesPart, Whole, a_kind, a_name, a_number, a_sign, a_word, an_operator, argument_rules, class_of, declaration_rules, denial_rules, either, enters, expression_rules, factor_rules, fate, followed, group_rules, leads, levels, may_end, onward, opening, operand_rules, operator_rules, or_rules, other_rules, process_rules, relation_rules, rules_of, simple_rules, starts, step, takes}
 pub use Rattle.kahn_syntax.specs.inner.Reads.{AreSound, ExpressionBefore, ExpressionRead, Fits, Halts, IsAbsent, IsSound, Moves, Reads, StatementRead, Stops, head_parts, joined}
-pub use Rattle.kahn_syntax.specs.inner.Rungs.{Lacks, Rung, ands, at, denials, factors, operator_of, ors, rank_or, relations, rung_of, sums, terms, tighter, whole}
+pub use Rattle.kahn_syntax.specs.inner.Rungs.{Rung, ands, at, denials, factors, operator_of, ors, rank_or, relations, rung_of, sums, terms, tighter, whole}
 pub use Rattle.kahn_tree.specs.declared.tree.Action.{items-the_row-Statement, items_hidden-the_row-Statement-0}
 pub use Rattle.kahn_tree.specs.declared.tree.Action.TheBlock.{hidden-the_row-Statement-0}
 pub use Rattle.kahn_tree.specs.declared.tree.Form.{items-the_row-Operand, items_hidden-the_row-Operand-0}

@@ -1,8 +1,7 @@
 -- Where a text may be cut: behind blanks, comments and lexemes.
-use Rattle.kahn_syntax.proofs.Common.{◌≡◌, ℕ, suc, ◌+◌, ◌-◌, ◌≤◌, ◌<◌, ◌⊎◌, ◌++◌, List, [], ◌∷◌, length, get_or, drop, refl, sym, ap, subst, ◌∙◌, arith, inl, inr, add-one, IsUtf8, IsCharBoundary, All, drop-cons, get_or_past, IsUtf8-drop, IsCharBoundary-after_ascii, IsCharBoundary-past_char, nat_tests, All-nil, All-cons, Lexeme, Class, Sign, Becomes, Unequal, AtMost, AtLeast, Not, IsBlank, IsLetter, IsWordByte, IsWord, IsRun, IsSign, IsOfClass, IsSlice, Stands, Gap, no_gap, then_blank, then_comment, Lexed}
+use Rattle.kahn_syntax.proofs.Common.{◌≡◌, ℕ, suc, ◌+◌, ◌-◌, ◌≤◌, ◌<◌, ◌⊎◌, ◌++◌, List, [], ◌∷◌, length, get_or, drop, refl, sym, ap, subst, ◌∙◌, arith, inl, inr, add-one, IsUtf8, IsCharBoundary, All, drop-cons, get_or_past, IsUtf8-drop, IsCharBoundary-after_ascii, IsCharBoundary-past_char, nat_tests, All-nil, All-cons, Lexeme, Class, Sign, Becomes, Unequal, AtMost, AtLeast, Not, IsBlank, IsLetter, IsWordByte, IsWord, IsRun, IsSign, IsOfClass, IsSlice, Stands, Gap, no_gap, then_blank, then_comment, Lexed, Number, SignClass}
 use Rattle.std.proofs.Math.Utf8.{encode}
 use Rattle.kahn_syntax.proofs.OneList.{form_grows}
-use Rattle.kahn_syntax.specs.declared.lexeme.Class.TheVariants as class
 
 -- behind an ASCII byte
 pub cut_after : (text : List ℕ) (i b : ℕ) → IsUtf8 text → i + 1 ≡ b → i < length text → get_or text i 0 < 128 → IsCharBoundary text b
@@ -61,8 +60,8 @@ sign_cut text Not a b utf8 cut inside h =
 sign_cut text _ a b utf8 cut inside h = cut_after text a b utf8 (omega arith) (omega arith) (omega arith)
 
 class_cut : (text : List ℕ) (u : Class) (a b : ℕ) → IsUtf8 text → IsCharBoundary text a → b ≤ length text → IsOfClass text u a b → IsCharBoundary text b
-class_cut text (class.Number n) a b utf8 cut inside h = run_cut text a b utf8 inside h.0
-class_cut text (class.Sign s) a b utf8 cut inside h = sign_cut text s a b utf8 cut inside h
+class_cut text (Number n) a b utf8 cut inside h = run_cut text a b utf8 inside h.0
+class_cut text (SignClass s) a b utf8 cut inside h = sign_cut text s a b utf8 cut inside h
 class_cut text _ a b utf8 cut inside h = word_cut text a b utf8 inside h.0
 
 -- behind a lexeme

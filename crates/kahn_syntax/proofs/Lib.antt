@@ -24,6 +24,6 @@ pub mod Viable
 pub mod Reached
 pub mod Meaning
 pub mod Moves
-pub mod Stacks
 pub mod Proper
 pub mod Negative
+pub mod Parsing

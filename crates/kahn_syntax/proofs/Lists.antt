@@ -1,6 +1,5 @@
 -- Lists that are read one member after another.
-use Rattle.kahn_syntax.proofs.Common.{◌≡◌, ℕ, ◌+◌, ◌-◌, ◌≤◌, List, [], ◌∷◌, length, get_or, take, drop, sym, ap, ◌∙◌, arith, ◌<◌, length-drop, subst, take_all, drop_more, Class, Span, Lexeme, terminals, First, IsUnsigned, IsProper, AreProper, IsPast}
-use Rattle.kahn_syntax.specs.declared.lexeme.Class.TheVariants as class
+use Rattle.kahn_syntax.proofs.Common.{◌≡◌, ℕ, ◌+◌, ◌-◌, ◌≤◌, List, [], ◌∷◌, length, get_or, take, drop, sym, ap, ◌∙◌, arith, ◌<◌, length-drop, subst, take_all, drop_more, Class, Span, Lexeme, terminals, First, IsUnsigned, IsProper, AreProper, IsPast, Number}
 
 pub first_of : (c d : Class) (xs rest : List Lexeme) → c ≡ d → First c xs rest → First d xs rest
 first_of c d xs rest e f = subst (λ k. First k xs rest) e f
@@ -23,7 +22,7 @@ next_passed [] h = absurd (omega (arith, h))
 next_passed (x ∷ xs) h = (x, next_list (x ∷ xs) x h)
 
 is_unsigned : (text : List ℕ) (c : Class) (at : Span) → IsProper text c at → IsUnsigned c
-is_unsigned text (class.Number n) at h = h
+is_unsigned text (Number n) at h = h
 is_unsigned text _ at h = tt
 
 next_both : (text : List ℕ) (xs : List Lexeme) (d : Lexeme) → 1 ≤ length xs → AreProper text xs →

@@ -1,10 +1,7 @@
 -- How the parts that are open go on, over what the parser reads.
-use Rattle.kahn_syntax.proofs.Common.{◌≡◌, ◌≢◌, ℕ, ◌+◌, ◌≤◌, ◌<◌, List, [], ◌∷◌, ◌++◌, ◌⊎◌, ⊎_elim, length, Bool, true, false, cond, Some, None, Result, Ok, Err, true≢false, refl, sym, ap, ◌∙◌, subst, arith, append_assoc, Span, Class, Lexeme, MatchResult, Expression, Form, Covers, Statement, Stop, Refused, TooDeep, NoMemory, Terminal, word, sign, name, terminal, terminals, First, Token, takes, leads, class_of, a_kind, a_name, a_number, a_sign, a_word, an_operator, either, Rule, rules_of, starts, enters, followed, opening, argument_rules, declaration_rules, other_rules, process_rules, simple_rules, Part, ProgramPart, DeclarationsPart, DeclarationPart, ProcessPart, GroupsPart, GroupPart, VariablesPart, InstancePart, ArgumentsPart, ArgumentPart, ExpressionPart, OperatorsPart, StatementPart, SimplePart, GroupsTail, ArgumentsTail, TokenPart, LevelPart, levels, step, Refuses, TooFar, fate, Operator, Level, Or, operator_terminal, rank, Rung, whole, ors, denials, relations, sums, factors, at, tighter, rung_of, Lacks, Kind, kind_terminal, IsAbsent, Reads, Moves, Stops, Halts, ExpressionRead, StatementRead}
-use Rattle.kahn_syntax.specs.declared.lexeme.Keyword.TheVariants as keyword
-use Rattle.kahn_syntax.specs.declared.lexeme.Sign.TheVariants as mark
-use Rattle.kahn_syntax.specs.declared.lexeme.Class.TheVariants as class
+use Rattle.kahn_syntax.proofs.Common.{head_parts, Then, Else, Do, On, End, ElseTail, StatementsTail, ◌≡◌, ◌≢◌, ℕ, ◌+◌, ◌≤◌, ◌<◌, List, [], ◌∷◌, ◌++◌, ◌⊎◌, ⊎_elim, length, true, false, cond, Some, None, Result, Ok, Err, true≢false, refl, sym, ap, ◌∙◌, subst, arith, append_assoc, Span, Class, Lexeme, MatchResult, Expression, Form, Covers, Statement, Stop, Refused, TooDeep, NoMemory, Terminal, word, terminal, terminals, First, Token, takes, leads, class_of, a_kind, a_name, a_number, a_sign, a_word, an_operator, either, rules_of, starts, enters, followed, opening, argument_rules, declaration_rules, other_rules, process_rules, simple_rules, Part, ProgramPart, DeclarationsPart, DeclarationPart, ProcessPart, GroupsPart, GroupPart, VariablesPart, InstancePart, ArgumentsPart, ArgumentPart, ExpressionPart, OperatorsPart, StatementPart, SimplePart, GroupsTail, ArgumentsTail, TokenPart, LevelPart, levels, step, Refuses, TooFar, fate, Operator, Level, Or, operator_terminal, rank, Rung, whole, ors, denials, relations, sums, at, tighter, rung_of, Kind, kind_terminal, IsAbsent, Reads, Moves, Stops, Halts, ExpressionRead, StatementRead, Begin, Close, If, Integer, Logical, NameClass, Not, NotWord, Process, Semicolon, SignClass, Word}
 use Rattle.kahn_syntax.proofs.WholePrograms.{take_kind, skip_variables}
-use Rattle.kahn_syntax.proofs.Steps.{go, runs, part, skips, refuses, passes, passes_one, follows, follows_some, starts_one, starts_followed, skip_level, skip_tail, take_token, IsChain, IsOther, open_chain, open_whole, open_denial, skip_operators, take_comparison, take_operator}
+use Rattle.kahn_syntax.proofs.Steps.{go, runs, part, skips, refuses, passes, passes_one, follows, follows_some, starts_one, starts_followed, skip_level, skip_tail, take_token, IsChain, IsOther, open_chain, open_whole, open_denial, take_comparison, take_operator}
 use Rattle.kahn_syntax.proofs.Reached.{go_far}
 use Rattle.kahn_syntax.proofs.Meaning.{terminals_length}
 
@@ -16,34 +13,43 @@ abbrev pub Depth : ℕ → List Part → ℕ → Type 0
 Depth d qs e = (s : List Part) → levels s ≡ d → levels (qs ++ s) ≡ e
 
 -- one after the other
-pub then : (text : List ℕ) (d : ℕ) (p q r : List Part) (i j k : List Lexeme) → Moves text d p q i j → Moves text d q r j k → Moves text d p r i k
-then text d p q r i j k f g = λ s l. f s l ∙ g s l
+pub then : {text : List ℕ} {d : ℕ} {p q r : List Part} {i j k : List Lexeme} → Moves text d p q i j → Moves text d q r j k → Moves text d p r i k
+then f g = record { fates = λ s l. f.fates s l ∙ g.fates s l }
 
-pub then_stops : (text : List ℕ) (d : ℕ) (p q : List Part) (i j : List Lexeme) (e : Stop) → Moves text d p q i j → Stops text d q j e → Stops text d p i e
-then_stops text d p q i j NoMemory f g = tt
-then_stops text d p q i j _ f g = λ s l. f s l ∙ g s l
+pub then_stops : {text : List ℕ} {d : ℕ} {p q : List Part} {i j : List Lexeme} (e : Stop) → Moves text d p q i j → Stops text d q j e → Stops text d p i e
+then_stops NoMemory f g = tt
+then_stops (Refused b n) f g = λ s l. f.fates s l ∙ g s l
+then_stops (TooDeep n) f g = λ s l. f.fates s l ∙ g s l
 
--- a part above others
-pub call : (text : List ℕ) (d e : ℕ) (p : Part) (qs : List Part) (i j : List Lexeme) → Depth d qs e → Reads text e (p ∷ []) i j → Moves text d (p ∷ qs) qs i j
-call text d e p qs i j b f = λ s l. f (qs ++ s) (b s l)
+-- parts above others
+pub call : (text : List ℕ) (d e : ℕ) (ps qs : List Part) (i j : List Lexeme) → Depth d qs e → Reads text e ps i j → Moves text d (ps ++ qs) qs i j
+call text d e ps qs i j b f = record { fates = λ s l. ap (λ u. fate 64 u (terminals text i)) (append_assoc ps qs s) ∙ f.fates (qs ++ s) (b s l) }
 
-pub call_stops : (text : List ℕ) (d e : ℕ) (p : Part) (qs : List Part) (i : List Lexeme) (x : Stop) → Depth d qs e → Stops text e (p ∷ []) i x → Stops text d (p ∷ qs) i x
-call_stops text d e p qs i NoMemory b f = tt
-call_stops text d e p qs i _ b f = λ s l. f (qs ++ s) (b s l)
+pub call_stops : (text : List ℕ) (d e : ℕ) (ps qs : List Part) (i : List Lexeme) (x : Stop) → Depth d qs e → Stops text e ps i x → Stops text d (ps ++ qs) i x
+call_stops text d e ps qs i NoMemory b f = tt
+call_stops text d e ps qs i (Refused y n) b f = λ s l. ap (λ u. fate 64 u (terminals text i)) (append_assoc ps qs s) ∙ f (qs ++ s) (b s l)
+call_stops text d e ps qs i (TooDeep n) b f = λ s l. ap (λ u. fate 64 u (terminals text i)) (append_assoc ps qs s) ∙ f (qs ++ s) (b s l)
 
--- two parts above others
-pub call_two : (text : List ℕ) (d e : ℕ) (p q : Part) (qs : List Part) (i j : List Lexeme) → Depth d qs e → Reads text e (p ∷ q ∷ []) i j → Moves text d (p ∷ q ∷ qs) qs i j
-call_two text d e p q qs i j b f = λ s l. f (qs ++ s) (b s l)
+-- what is open after the words that begin them
+abbrev pub choice_parts : List Part
+choice_parts = ExpressionPart whole ∷ TokenPart (a_word Then) ∷ ExpressionPart whole ∷ TokenPart (a_word Else) ∷ ExpressionPart whole ∷ LevelPart ∷ []
 
-pub call_two_stops : (text : List ℕ) (d e : ℕ) (p q : Part) (qs : List Part) (i : List Lexeme) (x : Stop) → Depth d qs e → Stops text e (p ∷ q ∷ []) i x →
-    Stops text d (p ∷ q ∷ qs) i x
-call_two_stops text d e p q qs i NoMemory b f = tt
-call_two_stops text d e p q qs i _ b f = λ s l. f (qs ++ s) (b s l)
+abbrev pub conditional_parts : List Part
+conditional_parts = ExpressionPart whole ∷ TokenPart (a_word Then) ∷ SimplePart ∷ ElseTail ∷ LevelPart ∷ []
+
+abbrev pub while_parts : List Part
+while_parts = ExpressionPart whole ∷ TokenPart (a_word Do) ∷ StatementPart ∷ LevelPart ∷ []
+
+abbrev pub send_parts : List Part
+send_parts = ExpressionPart whole ∷ TokenPart (a_word On) ∷ TokenPart a_name ∷ []
+
+abbrev pub process_parts : List Part
+process_parts = TokenPart a_name ∷ head_parts ++ (VariablesPart ∷ StatementPart ∷ StatementsTail ∷ TokenPart (a_word End) ∷ [])
 
 -- one terminal
 pub one : (text : List ℕ) (d : ℕ) (p : Part) (qs rs : List Part) (k : Terminal) (i j : List Lexeme) → Bound d rs → ((s : List Part) → step (p ∷ qs ++ s) k ≡ Some (rs ++ s)) →
     terminals text i ≡ k ∷ terminals text j → Moves text d (p ∷ qs) rs i j
-one text d p qs rs k i j b f e = λ s l. ap (fate 64 (p ∷ qs ++ s)) e ∙ go 64 (p ∷ qs ++ s) (rs ++ s) k (terminals text j) (f s) (b s l)
+one text d p qs rs k i j b f e = record { fates = λ s l. ap (fate 64 (p ∷ qs ++ s)) e ∙ go 64 (p ∷ qs ++ s) (rs ++ s) k (terminals text j) (f s) (b s l) }
 
 -- one that opens a level too many
 pub deep : (text : List ℕ) (d : ℕ) (p : Part) (qs rs : List Part) (k : Terminal) (i j : List Lexeme) (x : Stop) → ((s : List Part) → levels s ≡ d → 64 < levels (rs ++ s)) →
@@ -55,16 +61,16 @@ deep text d p qs rs k i j x b f e q =
 
 pub token : (text : List ℕ) (d : ℕ) (t : Token) (qs : List Part) (k : Terminal) (i j : List Lexeme) → Bound d qs → takes t k ≡ true →
     terminals text i ≡ k ∷ terminals text j → Moves text d (TokenPart t ∷ qs) qs i j
-token text d t qs k i j b h e = λ s l. ap (fate 64 (TokenPart t ∷ qs ++ s)) e ∙ take_token t 64 (qs ++ s) k (terminals text j) h (b s l)
+token text d t qs k i j b h e = record { fates = λ s l. ap (fate 64 (TokenPart t ∷ qs ++ s)) e ∙ take_token t 64 (qs ++ s) k (terminals text j) h (b s l) }
 
 some_is : (c e : Class) → Some c ≡ Some e → c ≡ e
 some_is c e p = cc
 
 -- a lexeme of the token's class is the token
 class_takes : (t : Token) (c : Class) (text : List ℕ) (at : Span) → class_of t ≡ Some c → takes t (terminal text c at) ≡ true
-class_takes (a_word keyword.Not) c text at e = absurd cc
+class_takes (a_word NotWord) c text at e = absurd cc
 class_takes (either v w) c text at e = absurd cc
-class_takes (a_sign mark.Not) c text at e = absurd cc
+class_takes (a_sign Not) c text at e = absurd cc
 class_takes a_number c text at e = absurd cc
 class_takes (an_operator o) c text at e = absurd cc
 class_takes t c text at e = subst (λ x. takes t (terminal text x at) ≡ true) (some_is _ c e) refl
@@ -87,24 +93,24 @@ goes text d p t ps qs c i j b e h f = one text d p qs (ps ++ qs) (terminal text 
 
 -- a tail that ends
 pub ends : (text : List ℕ) (d : ℕ) (p : Part) (t : Token) (ps qs : List Part) (c : Class) (i : List Lexeme) → IsTail p t ps → class_of t ≡ Some c → IsAbsent c i → Moves text d (p ∷ qs) qs i i
-ends text d p t ps qs c i e h a = λ s l. skip_tail p t ps 64 (qs ++ s) (terminals text i) e (a t h text)
+ends text d p t ps qs c i e h a = record { fates = λ s l. skip_tail p t ps 64 (qs ++ s) (terminals text i) e (a t h text) }
 
 -- a member of a list, and the lexeme that leads to the next
 pub next_member : (text : List ℕ) (d : ℕ) (ps : List Part) (u : Part) (t : Token) (p : Part) (qs : List Part) (c : Class) (i o a j : List Lexeme) → Bound d (p ∷ u ∷ qs) → Depth d (u ∷ qs) d →
     IsTail u t (p ∷ u ∷ []) → class_of t ≡ Some c → Moves text d ps (p ∷ u ∷ qs) i o → Reads text d (p ∷ []) o a → First c a j → Moves text d ps (p ∷ u ∷ qs) i j
 next_member text d ps u t p qs c i o a j b l g k m r f =
-    then text d ps (p ∷ u ∷ qs) (p ∷ u ∷ qs) i o j m
-    (then text d (p ∷ u ∷ qs) (u ∷ qs) (p ∷ u ∷ qs) o a j (call text d d p (u ∷ qs) o a l r) (goes text d u t (p ∷ u ∷ []) qs c a j b g k f))
+    then m
+    (then (call text d d (p ∷ []) (u ∷ qs) o a l r) (goes text d u t (p ∷ u ∷ []) qs c a j b g k f))
 
 -- the last one
 pub last_member : (text : List ℕ) (d : ℕ) (ps : List Part) (u : Part) (t : Token) (p : Part) (qs : List Part) (c : Class) (i o a : List Lexeme) → Depth d (u ∷ qs) d →
     IsTail u t (p ∷ u ∷ []) → class_of t ≡ Some c → Moves text d ps (p ∷ u ∷ qs) i o → Reads text d (p ∷ []) o a → IsAbsent c a → Moves text d ps qs i a
 last_member text d ps u t p qs c i o a l g k m r f =
-    then text d ps (p ∷ u ∷ qs) qs i o a m
-    (then text d (p ∷ u ∷ qs) (u ∷ qs) qs o a a (call text d d p (u ∷ qs) o a l r) (ends text d u t (p ∷ u ∷ []) qs c a g k f))
+    then m
+    (then (call text d d (p ∷ []) (u ∷ qs) o a l r) (ends text d u t (p ∷ u ∷ []) qs c a g k f))
 
 pub level_ends : (text : List ℕ) (d : ℕ) (qs : List Part) (i : List Lexeme) → Moves text d (LevelPart ∷ qs) qs i i
-level_ends text d qs i = λ s l. skip_level 64 (qs ++ s) (terminals text i)
+level_ends text d qs i = record { fates = λ s l. skip_level 64 (qs ++ s) (terminals text i) }
 
 -- a part that must be there, and isn't
 pub refused : (text : List ℕ) (d : ℕ) (p : Part) (qs : List Part) (i : List Lexeme) (x : Stop) → (rules_of p).0 ≡ false → starts (rules_of p).1 (terminals text i) ≡ false →
@@ -132,22 +138,19 @@ pub no_memory : (text : List ℕ) (d : ℕ) (qs : List Part) (i : List Lexeme) (
 no_memory text d qs i x e = subst (Stops text d qs i) (sym e) tt
 
 -- an expression of the next tighter level
-pub opens_whole : (text : List ℕ) (d : ℕ) (qs : List Part) (i : List Lexeme) → IsAbsent (class.Word keyword.If) i → Moves text d (ExpressionPart whole ∷ qs) (ExpressionPart ors ∷ qs) i i
-opens_whole text d qs i a = λ s l. open_whole 64 (qs ++ s) (terminals text i) (a (a_word keyword.If) refl text)
+pub opens_whole : (text : List ℕ) (d : ℕ) (qs : List Part) (i : List Lexeme) → IsAbsent (Word If) i → Moves text d (ExpressionPart whole ∷ qs) (ExpressionPart ors ∷ qs) i i
+opens_whole text d qs i a = record { fates = λ s l. open_whole 64 (qs ++ s) (terminals text i) (a (a_word If) refl text) }
 
-pub opens_denial : (text : List ℕ) (d : ℕ) (qs : List Part) (i : List Lexeme) → leads (a_word keyword.Not) (terminals text i) ≡ false →
+pub opens_denial : (text : List ℕ) (d : ℕ) (qs : List Part) (i : List Lexeme) → leads (a_word NotWord) (terminals text i) ≡ false →
     Moves text d (ExpressionPart denials ∷ qs) (ExpressionPart relations ∷ qs) i i
-opens_denial text d qs i a = λ s l. open_denial 64 (qs ++ s) (terminals text i) a
+opens_denial text d qs i a = record { fates = λ s l. open_denial 64 (qs ++ s) (terminals text i) a }
 
 pub opens_chain : (text : List ℕ) (d : ℕ) (g : Rung) (qs : List Part) (i : List Lexeme) → IsChain g → Moves text d (ExpressionPart g ∷ qs) (ExpressionPart (tighter g) ∷ OperatorsPart g ∷ qs) i i
-opens_chain text d g qs i h = λ s l. open_chain g 64 (qs ++ s) (terminals text i) h
-
-pub operators_end : (text : List ℕ) (d : ℕ) (g : Rung) (qs : List Part) (i : List Lexeme) → Lacks (at g) (terminals text i) → Moves text d (OperatorsPart g ∷ qs) qs i i
-operators_end text d g qs i h = λ s l. skip_operators g 64 (qs ++ s) (terminals text i) h
+opens_chain text d g qs i h = record { fates = λ s l. open_chain g 64 (qs ++ s) (terminals text i) h }
 
 pub comparison : (text : List ℕ) (d : ℕ) (o : Operator) (qs : List Part) (i j : List Lexeme) → Bound d qs → rank o ≡ 4 → terminals text i ≡ operator_terminal o ∷ terminals text j →
     Moves text d (OperatorsPart relations ∷ qs) (ExpressionPart sums ∷ qs) i j
-comparison text d o qs i j b h e = λ s l. ap (fate 64 (OperatorsPart relations ∷ qs ++ s)) e ∙ take_comparison 64 (qs ++ s) o (terminals text j) h (b s l)
+comparison text d o qs i j b h e = record { fates = λ s l. ap (fate 64 (OperatorsPart relations ∷ qs ++ s)) e ∙ take_comparison 64 (qs ++ s) o (terminals text j) h (b s l) }
 
 pub level_chain : (v : Level) → IsChain (rung_of v)
 level_chain Or = tt
@@ -161,10 +164,9 @@ level_other _ = tt
 pub operator_more : (text : List ℕ) (d : ℕ) (v : Level) (o : Operator) (qs : List Part) (i j : List Lexeme) → Bound d qs → rank o ≡ at (rung_of v) →
     terminals text i ≡ operator_terminal o ∷ terminals text j →
     Moves text d (OperatorsPart (rung_of v) ∷ qs) (ExpressionPart (tighter (rung_of v)) ∷ OperatorsPart (rung_of v) ∷ qs) i j
-operator_more text d v o qs i j b h e = λ s l.
-    ap (fate 64 (OperatorsPart (rung_of v) ∷ qs ++ s)) e ∙ take_operator (rung_of v) 64 (qs ++ s) o (terminals text j) (level_other v) h (b s l)
+operator_more text d v o qs i j b h e = record { fates = λ s l. ap (fate 64 (OperatorsPart (rung_of v) ∷ qs ++ s)) e ∙ take_operator (rung_of v) 64 (qs ++ s) o (terminals text j) (level_other v) h (b s l) }
 
--- what a call answers for a tighter level, where no more than it stands here
+-- what a call answers for a (tighter ∷ []) level, where no more than it stands here
 pub opened : (text : List ℕ) (d : ℕ) (g f : Rung) (i : List Lexeme) → at g ≤ at f → Moves text d (ExpressionPart g ∷ []) (ExpressionPart f ∷ []) i i →
     {X : Type 0} (r : Result X Stop) (e : X → Expression) (rest : X → List Lexeme) →
     MatchResult r (λ x. ExpressionRead text d f (e x) i (rest x)) (Stops text d (ExpressionPart f ∷ []) i) →
@@ -176,9 +178,9 @@ opened text d g f i b m (Ok x) e rest h =
       nesting = h.nesting;
       shorter = h.shorter;
       proper = h.proper;
-      reads = then text d (ExpressionPart g ∷ []) (ExpressionPart f ∷ []) [] i i (rest x) m h.reads;
+      reads = then m h.reads;
     }
-opened text d g f i b m (Err x) e rest h = then_stops text d (ExpressionPart g ∷ []) (ExpressionPart f ∷ []) i i x m h
+opened text d g f i b m (Err x) e rest h = then_stops x m h
 
 -- what is known of a result, where it may be for want of memory alone that there is none
 pub unless_memory : (text : List ℕ) (d : ℕ) (qs : List Part) (i : List Lexeme) → {X : Type 0} (r : Result X Stop) (P Q : X → Type 0) → ((x : X) → P x → Q x) →
@@ -206,12 +208,12 @@ opened_simple text d i m (Ok x) s rest h =
       nesting = h.nesting;
       shorter = h.shorter;
       proper = h.proper;
-      reads = then text d (StatementPart ∷ []) (SimplePart ∷ []) [] i i (rest x) m h.reads;
+      reads = then m h.reads;
     }
-opened_simple text d i m (Err x) s rest h = then_stops text d (StatementPart ∷ []) (SimplePart ∷ []) i i x m h
+opened_simple text d i m (Err x) s rest h = then_stops x m h
 
 -- where a name stands first, memory alone is wanted
-pub only_memory : (text : List ℕ) (d : ℕ) (qs : List Part) (i j : List Lexeme) (x : Stop) → First class.Name i j →
+pub only_memory : (text : List ℕ) (d : ℕ) (qs : List Part) (i j : List Lexeme) (x : Stop) → First NameClass i j →
     (x ≡ NoMemory) ⊎ ((leads a_name (terminals text i) ≡ false) × (x ≡ Refused false (length i))) → Stops text d qs i x
 only_memory text d qs i j x f h =
     ⊎_elim (λ e. no_memory text d qs i x e) (λ (a, e). absurd (true≢false (sym (ap (leads a_name) (f.1 text)) ∙ a))) h
@@ -222,29 +224,30 @@ pub memory_alone : (text : List ℕ) (d : ℕ) (qs : List Part) (i : List Lexeme
 memory_alone text d qs i x f h = ⊎_elim (λ e. no_memory text d qs i x e) (λ (a, e). absurd (true≢false (sym f ∙ a))) h
 
 pub opens_simple : (text : List ℕ) (d : ℕ) (qs : List Part) (i : List Lexeme) → starts other_rules (terminals text i) ≡ false → Moves text d (StatementPart ∷ qs) (SimplePart ∷ qs) i i
-opens_simple text d qs i h = λ s l.
-    part StatementPart 64 (qs ++ s) (terminals text i)
-    ∙ (passes other_rules simple_rules 64 true (qs ++ s) (terminals text i) h ∙ sym (part SimplePart 64 (qs ++ s) (terminals text i)))
+opens_simple text d qs i h = record {
+  fates = λ s l. part StatementPart 64 (qs ++ s) (terminals text i)
+      ∙ (passes other_rules simple_rules 64 true (qs ++ s) (terminals text i) h ∙ sym (part SimplePart 64 (qs ++ s) (terminals text i)));
+}
 
 -- nothing of a part is there
 pub nothing : (text : List ℕ) (d : ℕ) (p : Part) (qs : List Part) (i : List Lexeme) → (rules_of p).0 ≡ true → starts (rules_of p).1 (terminals text i) ≡ false → Moves text d (p ∷ qs) qs i i
-nothing text d p qs i n h = λ s l.
-    part p 64 (qs ++ s) (terminals text i) ∙ (ap (λ b. runs 64 b (rules_of p).1 (qs ++ s) (terminals text i)) n ∙ skips (rules_of p).1 64 (qs ++ s) (terminals text i) h)
+nothing text d p qs i n h = record { fates = λ s l. part p 64 (qs ++ s) (terminals text i) ∙ (ap (λ b. runs 64 b (rules_of p).1 (qs ++ s) (terminals text i)) n ∙ skips (rules_of p).1 64 (qs ++ s) (terminals text i) h) }
 
 -- a kind, where one stands first
-pub kind_moves : (text : List ℕ) (d : ℕ) (p : Part) (qs rs : List Part) (k : Kind) (i j : List Lexeme) → Bound d rs → ((s : List Part) → step (p ∷ qs ++ s) (word keyword.Integer) ≡ Some (rs ++ s)) →
-    ((s : List Part) → step (p ∷ qs ++ s) (word keyword.Logical) ≡ Some (rs ++ s)) → terminals text i ≡ kind_terminal k ∷ terminals text j → Moves text d (p ∷ qs) rs i j
-kind_moves text d p qs rs k i j b f g e = λ s l. ap (fate 64 (p ∷ qs ++ s)) e ∙ take_kind k 64 (p ∷ qs ++ s) (rs ++ s) (terminals text j) (f s) (g s) (b s l)
+pub kind_moves : (text : List ℕ) (d : ℕ) (p : Part) (qs rs : List Part) (k : Kind) (i j : List Lexeme) → Bound d rs → ((s : List Part) → step (p ∷ qs ++ s) (word Integer) ≡ Some (rs ++ s)) →
+    ((s : List Part) → step (p ∷ qs ++ s) (word Logical) ≡ Some (rs ++ s)) → terminals text i ≡ kind_terminal k ∷ terminals text j → Moves text d (p ∷ qs) rs i j
+kind_moves text d p qs rs k i j b f g e = record { fates = λ s l. ap (fate 64 (p ∷ qs ++ s)) e ∙ take_kind k 64 (p ∷ qs ++ s) (rs ++ s) (terminals text j) (f s) (g s) (b s l) }
 
 -- a list of parts begins
 pub opens_some : (text : List ℕ) (p q : Part) (after qs : List Part) (i : List Lexeme) → (rules_of p).1 ≡ followed after (rules_of q).1 → (rules_of q).0 ≡ false →
     starts (rules_of q).1 (terminals text i) ≡ true → Moves text 0 (p ∷ qs) (q ∷ after ++ qs) i i
-opens_some text p q after qs i e n h = λ s l.
-    part p 64 (qs ++ s) (terminals text i)
-    ∙ (ap (λ rs. runs 64 (rules_of p).0 rs (qs ++ s) (terminals text i)) e
-    ∙ (follows_some (rules_of q).1 after 64 (rules_of p).0 (qs ++ s) (terminals text i) h
-    ∙ (ap (λ b. runs 64 b (rules_of q).1 (after ++ (qs ++ s)) (terminals text i)) (sym n)
-    ∙ (sym (part q 64 (after ++ (qs ++ s)) (terminals text i)) ∙ ap (λ u. fate 64 (q ∷ u) (terminals text i)) (sym (append_assoc after qs s))))))
+opens_some text p q after qs i e n h = record {
+  fates = λ s l. part p 64 (qs ++ s) (terminals text i)
+      ∙ (ap (λ rs. runs 64 (rules_of p).0 rs (qs ++ s) (terminals text i)) e
+      ∙ (follows_some (rules_of q).1 after 64 (rules_of p).0 (qs ++ s) (terminals text i) h
+      ∙ (ap (λ b. runs 64 b (rules_of q).1 (after ++ (qs ++ s)) (terminals text i)) (sym n)
+      ∙ (sym (part q 64 (after ++ (qs ++ s)) (terminals text i)) ∙ ap (λ u. fate 64 (q ∷ u) (terminals text i)) (sym (append_assoc after qs s))))));
+}
 
 pub opens_groups : (text : List ℕ) (qs : List Part) (i : List Lexeme) → leads a_kind (terminals text i) ≡ true → Moves text 0 (GroupsPart ∷ qs) (GroupPart ∷ GroupsTail ∷ qs) i i
 opens_groups text qs i h = opens_some text GroupsPart GroupPart (GroupsTail ∷ []) qs i refl refl (starts_one a_kind _ (terminals text i) true h)
@@ -253,27 +256,29 @@ pub groups_end : (text : List ℕ) (qs : List Part) (i : List Lexeme) → leads 
 groups_end text qs i h = nothing text 0 GroupsPart qs i refl (starts_one a_kind _ (terminals text i) false h)
 
 pub variables_end : (text : List ℕ) (qs : List Part) (i : List Lexeme) → leads a_kind (terminals text i) ≡ false → Moves text 0 (VariablesPart ∷ qs) qs i i
-variables_end text qs i h = λ s l. skip_variables 64 (qs ++ s) (terminals text i) h
+variables_end text qs i h = record { fates = λ s l. skip_variables 64 (qs ++ s) (terminals text i) h }
 
 pub opens_process : (text : List ℕ) (qs : List Part) (i : List Lexeme) → leads a_kind (terminals text i) ≡ false → Moves text 0 (DeclarationPart ∷ qs) (ProcessPart ∷ qs) i i
-opens_process text qs i h = λ s l.
-    part DeclarationPart 64 (qs ++ s) (terminals text i)
-    ∙ (passes_one a_kind _ process_rules 64 (qs ++ s) (terminals text i) h ∙ sym (part ProcessPart 64 (qs ++ s) (terminals text i)))
+opens_process text qs i h = record {
+  fates = λ s l. part DeclarationPart 64 (qs ++ s) (terminals text i)
+      ∙ (passes_one a_kind _ process_rules 64 (qs ++ s) (terminals text i) h ∙ sym (part ProcessPart 64 (qs ++ s) (terminals text i)));
+}
 
-pub opens_arguments : (text : List ℕ) (qs : List Part) (i : List Lexeme) → IsAbsent (class.Sign mark.Close) i →
-    Moves text 0 (ArgumentsPart ∷ qs) (ArgumentPart ∷ ArgumentsTail ∷ TokenPart (a_sign mark.Close) ∷ qs) i i
-opens_arguments text qs i h = λ s l.
-    part ArgumentsPart 64 (qs ++ s) (terminals text i)
-    ∙ (passes_one (a_sign mark.Close) [] (followed (ArgumentsTail ∷ TokenPart (a_sign mark.Close) ∷ []) argument_rules) 64 (qs ++ s) (terminals text i) (h (a_sign mark.Close) refl text)
-    ∙ (follows argument_rules (ArgumentsTail ∷ TokenPart (a_sign mark.Close) ∷ []) 64 (qs ++ s) (terminals text i)
-    ∙ sym (part ArgumentPart 64 (ArgumentsTail ∷ TokenPart (a_sign mark.Close) ∷ qs ++ s) (terminals text i))))
+pub opens_arguments : (text : List ℕ) (qs : List Part) (i : List Lexeme) → IsAbsent (SignClass Close) i →
+    Moves text 0 (ArgumentsPart ∷ qs) (ArgumentPart ∷ ArgumentsTail ∷ TokenPart (a_sign Close) ∷ qs) i i
+opens_arguments text qs i h = record {
+  fates = λ s l. part ArgumentsPart 64 (qs ++ s) (terminals text i)
+      ∙ (passes_one (a_sign Close) [] (followed (ArgumentsTail ∷ TokenPart (a_sign Close) ∷ []) argument_rules) 64 (qs ++ s) (terminals text i) (h (a_sign Close) refl text)
+      ∙ (follows argument_rules (ArgumentsTail ∷ TokenPart (a_sign Close) ∷ []) 64 (qs ++ s) (terminals text i)
+      ∙ sym (part ArgumentPart 64 (ArgumentsTail ∷ TokenPart (a_sign Close) ∷ qs ++ s) (terminals text i))));
+}
 
 pub opens_declarations : (text : List ℕ) (qs : List Part) (i : List Lexeme) → starts declaration_rules (terminals text i) ≡ true →
-    Moves text 0 (DeclarationsPart ∷ qs) (DeclarationPart ∷ TokenPart (a_sign mark.Semicolon) ∷ DeclarationsPart ∷ qs) i i
-opens_declarations text qs i h = opens_some text DeclarationsPart DeclarationPart (TokenPart (a_sign mark.Semicolon) ∷ DeclarationsPart ∷ []) qs i refl refl h
+    Moves text 0 (DeclarationsPart ∷ qs) (DeclarationPart ∷ TokenPart (a_sign Semicolon) ∷ DeclarationsPart ∷ qs) i i
+opens_declarations text qs i h = opens_some text DeclarationsPart DeclarationPart (TokenPart (a_sign Semicolon) ∷ DeclarationsPart ∷ []) qs i refl refl h
 
 pub declarations_end : (text : List ℕ) (qs : List Part) (i : List Lexeme) → starts declaration_rules (terminals text i) ≡ false → Moves text 0 (DeclarationsPart ∷ qs) qs i i
-declarations_end text qs i h = nothing text 0 DeclarationsPart qs i refl (starts_followed declaration_rules (TokenPart (a_sign mark.Semicolon) ∷ DeclarationsPart ∷ []) (terminals text i) ∙ h)
+declarations_end text qs i h = nothing text 0 DeclarationsPart qs i refl (starts_followed declaration_rules (TokenPart (a_sign Semicolon) ∷ DeclarationsPart ∷ []) (terminals text i) ∙ h)
 
 -- a part of one rule that refuses what stands first
 pub no_part : (text : List ℕ) (p : Part) (t : Token) (ps qs : List Part) (i : List Lexeme) (x : Stop) → rules_of p ≡ (false, (t, ps) ∷ []) →
@@ -284,11 +289,11 @@ no_part text p t ps qs i x r (a, e) =
 pub no_group : (text : List ℕ) (qs : List Part) (i : List Lexeme) (x : Stop) → leads a_kind (terminals text i) ≡ false → x ≡ Refused false (length i) → Stops text 0 (GroupPart ∷ qs) i x
 no_group text qs i x h e = no_part text GroupPart a_kind _ qs i x refl (h, e)
 
-pub no_process : (text : List ℕ) (qs : List Part) (i : List Lexeme) (x : Stop) → IsAbsent (class.Word keyword.Process) i × (x ≡ Refused false (length i)) → Stops text 0 (ProcessPart ∷ qs) i x
-no_process text qs i x (a, e) = no_part text ProcessPart (a_word keyword.Process) _ qs i x refl (a (a_word keyword.Process) refl text, e)
+pub no_process : (text : List ℕ) (qs : List Part) (i : List Lexeme) (x : Stop) → IsAbsent (Word Process) i × (x ≡ Refused false (length i)) → Stops text 0 (ProcessPart ∷ qs) i x
+no_process text qs i x (a, e) = no_part text ProcessPart (a_word Process) _ qs i x refl (a (a_word Process) refl text, e)
 
-pub no_program : (text : List ℕ) (qs : List Part) (i : List Lexeme) (x : Stop) → IsAbsent (class.Word keyword.Begin) i × (x ≡ Refused false (length i)) → Stops text 0 (ProgramPart ∷ qs) i x
-no_program text qs i x (a, e) = no_part text ProgramPart (a_word keyword.Begin) _ qs i x refl (a (a_word keyword.Begin) refl text, e)
+pub no_program : (text : List ℕ) (qs : List Part) (i : List Lexeme) (x : Stop) → IsAbsent (Word Begin) i × (x ≡ Refused false (length i)) → Stops text 0 (ProgramPart ∷ qs) i x
+no_program text qs i x (a, e) = no_part text ProgramPart (a_word Begin) _ qs i x refl (a (a_word Begin) refl text, e)
 
 pub no_instance : (text : List ℕ) (qs : List Part) (i : List Lexeme) (x : Stop) → (x ≡ NoMemory) ⊎ ((leads a_name (terminals text i) ≡ false) × (x ≡ Refused false (length i))) →
     Stops text 0 (InstancePart ∷ qs) i x

@@ -3,7 +3,7 @@ use Rattle.kahn_syntax.proofs.Common.{◌≡◌, ℕ, ◌+◌, ◌-◌, ◌≤�
 use Rattle.kahn_syntax.specs.declared.fault.SyntaxFault.TheVariants.{TooDeep, NoMemory}
 use Rattle.kahn_syntax.specs.declared.lexeme.Class.TheVariants.{Name, Sign}
 use Rattle.kahn_syntax.proofs.Keywords.{keyword_short}
-use Rattle.kahn_syntax.proofs.OneList.{Walk, Item, ends, then, blank, comment, lexeme, walk, walk_end, run_first, form_grows, form_dark, same_end, no_comment, same_item}
+use Rattle.kahn_syntax.proofs.OneList.{Walk, ends, then, blank, comment, lexeme, walk, walk_end, run_first, form_grows, form_dark, same_end, no_comment, same_item}
 use Rattle.kahn_syntax.proofs.Runs.{length_slice}
 use Rattle.kahn_syntax.proofs.Signs.{sign_begins, sign_letter, sign_digit, letter_digit}
 

@@ -127,17 +127,13 @@ begins before k span _ (other h) = h.0
 begins before k span _ (deep h) = h.0
 
 -- and no such program goes on with it
+one_more : (before later : List Terminal) (k : Terminal) → BeginsWithin (before ++ k ∷ later) → Begins (before ++ k ∷ [])
+one_more before later k (t, after, s, n) =
+    (t, later ++ after, subst (Spells t) (append_assoc before (k ∷ later) after ∙ sym (append_assoc before (k ∷ []) (later ++ after))) s)
+
 ends : (before later : List Terminal) (k : Terminal) (span : Span) (e : SyntaxFault) → AtFault before k span e → BeginsWithin (before ++ k ∷ later) → ⊥
-ends before later k span _ (nothing h) b = h.1 (on before later k b)
-  where
-    on : (before later : List Terminal) (k : Terminal) → BeginsWithin (before ++ k ∷ later) → Begins (before ++ k ∷ [])
-    on before later k (t, after, s, n) =
-        (t, later ++ after, subst (Spells t) (append_assoc before (k ∷ later) after ∙ sym (append_assoc before (k ∷ []) (later ++ after))) s)
-ends before later k span _ (other h) b = h.2 (on before later k b)
-  where
-    on : (before later : List Terminal) (k : Terminal) → BeginsWithin (before ++ k ∷ later) → Begins (before ++ k ∷ [])
-    on before later k (t, after, s, n) =
-        (t, later ++ after, subst (Spells t) (append_assoc before (k ∷ later) after ∙ sym (append_assoc before (k ∷ []) (later ++ after))) s)
+ends before later k span _ (nothing h) b = h.1 (one_more before later k b)
+ends before later k span _ (other h) b = h.2 (one_more before later k b)
 ends before later k span _ (deep h) (t, after, s, n) =
     let far = h.2 t (later ++ after) (subst (Spells t) (append_assoc before (k ∷ later) after) s) in
     omega (arith, far, n)

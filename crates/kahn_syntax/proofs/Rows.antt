@@ -1,6 +1,5 @@
 -- Rows inside of trees, and the lists that they are.
-use Rattle.kahn_syntax.proofs.Common.{◌≡◌, ℕ, List, refl, sym, subst, ap, ◌∙◌, Vec, Global, Row_of-Operand, end_of-Operand, more_of-Operand, items-the_row-Operand, items_hidden-the_row-Operand-0, hidden-the_row-Operand-0, Operand, Row_of-Statement, end_of-Statement, more_of-Statement, items-the_row-Statement, items_hidden-the_row-Statement-0, hidden-the_row-Statement-0, Statement, operand, statement, Lexeme, OperandRowSpans, OperandsSpan, StatementRowSpans, FurtherRowSpans, StatementsSpan, Takes, StatementSpans, Further, sign, form_of, operands_row, operands_of, action_of, statements_row, statements_of}
-use Rattle.kahn_syntax.specs.declared.lexeme.Sign.TheVariants as mark
+use Rattle.kahn_syntax.proofs.Common.{◌≡◌, ℕ, List, refl, sym, subst, ap, ◌∙◌, Vec, Global, Row_of-Operand, end_of-Operand, more_of-Operand, items-the_row-Operand, items_hidden-the_row-Operand-0, hidden-the_row-Operand-0, Operand, Row_of-Statement, end_of-Statement, more_of-Statement, items-the_row-Statement, items_hidden-the_row-Statement-0, hidden-the_row-Statement-0, Statement, operand, statement, Lexeme, OperandRowSpans, OperandsSpan, StatementRowSpans, FurtherRowSpans, StatementsSpan, Takes, StatementSpans, Further, sign, form_of, operands_row, operands_of, action_of, statements_row, statements_of, Semicolon}
 
 operands_shown : (n : _) (row : Row_of-Operand n) → operands_row row ≡ operands_of (items-the_row-Operand n row)
 operands_shown n end_of-Operand = refl
@@ -25,7 +24,7 @@ operands_row_spans text rest xs r h =
     operands_spans_shown text _ (hidden-the_row-Operand-0 rest) xs r (subst (λ os. OperandsSpan text os xs r) (sym (items_hidden-the_row-Operand-0 rest)) h)
 
 further_spans_shown : (text : List ℕ) (n : _) (row : Row_of-Statement n) (xs r : List Lexeme) →
-    Further (Takes text (sign mark.Semicolon)) (StatementSpans text) (items-the_row-Statement n row) xs r → FurtherRowSpans text row xs r
+    Further (Takes text (sign Semicolon)) (StatementSpans text) (items-the_row-Statement n row) xs r → FurtherRowSpans text row xs r
 further_spans_shown text n end_of-Statement xs r h = h
 further_spans_shown text n (more_of-Statement at s rest) xs r (a, b, t, p, h) = (a, b, t, p, further_spans_shown text _ rest b r h)
 

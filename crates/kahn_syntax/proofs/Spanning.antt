@@ -1,8 +1,6 @@
 -- Parts of a tree that are read one after another, and the lexemes that they take.
 use Rattle.std.proofs.Common.{append-nil}
-use Rattle.kahn_syntax.proofs.Common.{◌≡◌, ℕ, List, [], ◌∷◌, ◌++◌, length, refl, sym, ap, ◌∙◌, subst, append_assoc, arith, get_or, take, drop, ◌-◌, ◌≤◌, Further, Between, SomeBetween, Grouped, group, members_of, all_members, Lexeme, Name, Operand, Statement, Kind, Taking, Parameter, Variable, Declaration, Argument, Terminal, terminal, terminals, sign, name, operator_terminal, kind_terminal, name_of, IsPast, Takes, Covers, NameSpans, ExpressionSpans, OperandsSpan, StatementSpans, GroupSpans, GroupsSpan, ParametersSpan, kind_of, DirectionSpans, TogetherSpans, TogethersSpan, VariablesSpan, DeclarationSpans, DeclarationsSpan, ArgumentSpans, parameter_of, variable_of, NamesSpan}
-use Rattle.kahn_syntax.specs.declared.lexeme.Keyword.TheVariants as keyword
-use Rattle.kahn_syntax.specs.declared.lexeme.Sign.TheVariants as mark
+use Rattle.kahn_syntax.proofs.Common.{◌≡◌, ℕ, List, [], ◌∷◌, ◌++◌, length, refl, sym, ap, ◌∙◌, subst, append_assoc, arith, get_or, take, drop, ◌-◌, ◌≤◌, Further, Between, SomeBetween, Grouped, group, members_of, all_members, Lexeme, Name, Operand, Statement, Kind, Taking, Parameter, Variable, Declaration, Argument, Terminal, terminal, terminals, sign, name, operator_terminal, kind_terminal, name_of, IsPast, Takes, Covers, NameSpans, ExpressionSpans, OperandsSpan, StatementSpans, GroupSpans, GroupsSpan, ParametersSpan, kind_of, DirectionSpans, TogetherSpans, TogethersSpan, VariablesSpan, DeclarationSpans, DeclarationsSpan, ArgumentSpans, parameter_of, variable_of, NamesSpan, Comma, Semicolon}
 use Rattle.kahn_syntax.proofs.Lists.{next_list}
 
 -- one lexeme has its own span
@@ -55,11 +53,11 @@ some_between T P (u ∷ us) xs r h = h
 
 -- one statement or more
 abbrev pub SomeStatements : List ℕ → List Statement → List Lexeme → List Lexeme → Type 0
-SomeStatements text ss xs r = SomeBetween (Takes text (sign mark.Semicolon)) (StatementSpans text) ss xs r
+SomeStatements text ss xs r = SomeBetween (Takes text (sign Semicolon)) (StatementSpans text) ss xs r
 
 -- one argument or more
 abbrev pub SomeArgumentsSpan : List ℕ → List Argument → List Lexeme → List Lexeme → Type 0
-SomeArgumentsSpan text us xs r = SomeBetween (Takes text (sign mark.Comma)) (ArgumentSpans text) us xs r
+SomeArgumentsSpan text us xs r = SomeBetween (Takes text (sign Comma)) (ArgumentSpans text) us xs r
 
 pub group_spans : (text : List ℕ) (t : Taking) (k : Kind) (ns : List Name) (xs a b r : List Lexeme) → kind_of t ≡ k → Takes text (kind_terminal k) xs a →
     DirectionSpans text t a b → NamesSpan text ns b r → GroupSpans text (group t ns) xs r
@@ -81,13 +79,13 @@ pub parameters_first : (text : List ℕ) (ps : List Parameter) (g : Grouped Taki
 parameters_first text ps g xs r e p = (g, [], e ∙ sym (append-nil (members_of parameter_of g)), (r, p, refl))
 
 pub parameters_next : (text : List ℕ) (ps qs : List Parameter) (g : Grouped Taking Name) (xs m k r : List Lexeme) → qs ≡ ps ++ members_of parameter_of g → SomeParametersSpan text ps xs m →
-    Takes text (sign mark.Semicolon) m k → GroupSpans text g k r → SomeParametersSpan text qs xs r
+    Takes text (sign Semicolon) m k → GroupSpans text g k r → SomeParametersSpan text qs xs r
 parameters_next text ps qs g xs m k r q (f, gs, e, (a, p', h)) t p = (
   f,
   gs ++ g ∷ [],
   q ∙ ap (λ x. x ++ members_of parameter_of g) e ∙ append_assoc (members_of parameter_of f) (all_members parameter_of gs) (members_of parameter_of g)
       ∙ ap (λ x. members_of parameter_of f ++ x) (sym (all_members_more parameter_of gs g)),
-  (a, p', further_more (Takes text (sign mark.Semicolon)) (GroupSpans text) gs g a m k r h t p),
+  (a, p', further_more (Takes text (sign Semicolon)) (GroupSpans text) gs g a m k r h t p),
 )
 
 togethers_more : (text : List ℕ) (ts : List (Grouped Kind Name)) (t : Grouped Kind Name) (xs m r : List Lexeme) → TogethersSpan text ts xs m → TogetherSpans text t m r →
@@ -96,7 +94,7 @@ togethers_more text [] t xs m r h p = (r, subst (λ y. TogetherSpans text t y r)
 togethers_more text (u ∷ ts) t xs m r (a, p', h) p = (a, p', togethers_more text ts t a m r h p)
 
 pub variables_next : (text : List ℕ) (vs ws : List Variable) (k : Kind) (ns : List Name) (xs m a b r : List Lexeme) → ws ≡ vs ++ members_of variable_of (group k ns) →
-    VariablesSpan text vs xs m → Takes text (kind_terminal k) m a → NamesSpan text ns a b → Takes text (sign mark.Semicolon) b r → VariablesSpan text ws xs r
+    VariablesSpan text vs xs m → Takes text (kind_terminal k) m a → NamesSpan text ns a b → Takes text (sign Semicolon) b r → VariablesSpan text ws xs r
 variables_next text vs ws k ns xs m a b r q (ts, e, h) p n t = (
   ts ++ group k ns ∷ [],
   q ∙ ap (λ x. x ++ members_of variable_of (group k ns)) e ∙ sym (all_members_more variable_of ts (group k ns)),
@@ -104,10 +102,10 @@ variables_next text vs ws k ns xs m a b r q (ts, e, h) p n t = (
 )
 
 declarations_more : (text : List ℕ) (ds : List Declaration) (d : Declaration) (xs m k r : List Lexeme) → DeclarationsSpan text ds xs m →
-    DeclarationSpans text d m k → Takes text (sign mark.Semicolon) k r → DeclarationsSpan text (ds ++ d ∷ []) xs r
+    DeclarationSpans text d m k → Takes text (sign Semicolon) k r → DeclarationsSpan text (ds ++ d ∷ []) xs r
 declarations_more text [] d xs m k r h p t = (k, r, subst (λ y. DeclarationSpans text d y k) (sym h) p, t, refl)
 declarations_more text (u ∷ ds) d xs m k r (a, b, p', t', h) p t = (a, b, p', t', declarations_more text ds d b m k r h p t)
 
 pub declarations_next : (text : List ℕ) (ds ds' : List Declaration) (d : Declaration) (xs m k r : List Lexeme) → ds' ≡ ds ++ d ∷ [] → DeclarationsSpan text ds xs m →
-    DeclarationSpans text d m k → Takes text (sign mark.Semicolon) k r → DeclarationsSpan text ds' xs r
+    DeclarationSpans text d m k → Takes text (sign Semicolon) k r → DeclarationsSpan text ds' xs r
 declarations_next text ds ds' d xs m k r e h p t = subst (λ ys. DeclarationsSpan text ys xs r) (sym e) (declarations_more text ds d xs m k r h p t)

@@ -1,7 +1,6 @@
 -- What single terminals do to what is open.
-use Rattle.kahn_syntax.proofs.Common.{◌≡◌, ◌≢◌, ℕ, ◌+◌, ◌≤◌, ◌==◌, ◌++◌, List, [], ◌∷◌, length, Bool, true, false, true≢false, cond, Option, Some, None, refl, sym, ap, ◌∙◌, append_assoc, arith, nat_le, nat_tests, Operator, Terminal, rank, operator_terminal, Rung, whole, ors, ands, denials, relations, sums, terms, factors, at, tighter, operator_of, rank_or, Lacks, Token, a_word, an_operator, has_rank, takes, leads, Part, ExpressionPart, OperatorsPart, TokenPart, LevelPart, Rule, rules_of, expression_rules, relation_rules, or_rules, operator_rules, enters, starts, followed, opening, levels, may_end, step, Refuses, Whole, TooFar, Fate, onward, fate}
+use Rattle.kahn_syntax.proofs.Common.{◌≡◌, ◌≢◌, ℕ, ◌+◌, ◌≤◌, ◌==◌, ◌++◌, List, [], ◌∷◌, length, Bool, true, false, true≢false, cond, Option, Some, None, refl, sym, ap, ◌∙◌, append_assoc, arith, nat_le, nat_tests, Operator, Terminal, rank, operator_terminal, Rung, whole, ors, ands, denials, relations, sums, terms, factors, at, tighter, operator_of, rank_or, Token, a_word, an_operator, takes, leads, Part, ExpressionPart, OperatorsPart, TokenPart, LevelPart, Rule, rules_of, expression_rules, relation_rules, or_rules, operator_rules, enters, starts, followed, opening, levels, may_end, step, Refuses, Whole, TooFar, Fate, onward, fate, If, NotWord}
 use Rattle.std.specs.Prelude.{is_some}
-use Rattle.kahn_syntax.specs.declared.lexeme.Keyword.TheVariants as keyword
 use Rattle.kahn_tree.specs.declared.tree.Operator.TheVariants as operator
 use Rattle.kahn_syntax.proofs.Unique.{Ends, is_operator}
 
@@ -134,37 +133,25 @@ open_chain l m s ks h =
     part (ExpressionPart l) m s ks ∙ (follows (expression_rules (tighter l)) (OperatorsPart l ∷ []) m s ks ∙ sym (part (ExpressionPart (tighter l)) m (OperatorsPart l ∷ s) ks))
 
 -- what doesn't begin with `if`
-pub open_whole : (m : ℕ) (s : List Part) (ks : List Terminal) → leads (a_word keyword.If) ks ≡ false → fate m (ExpressionPart whole ∷ s) ks ≡ fate m (ExpressionPart ors ∷ s) ks
-open_whole m s ks h = part (ExpressionPart whole) m s ks ∙ (passes_one (a_word keyword.If) _ or_rules m s ks h ∙ sym (part (ExpressionPart ors) m s ks))
+pub open_whole : (m : ℕ) (s : List Part) (ks : List Terminal) → leads (a_word If) ks ≡ false → fate m (ExpressionPart whole ∷ s) ks ≡ fate m (ExpressionPart ors ∷ s) ks
+open_whole m s ks h = part (ExpressionPart whole) m s ks ∙ (passes_one (a_word If) _ or_rules m s ks h ∙ sym (part (ExpressionPart ors) m s ks))
 
 -- what doesn't begin with `not`
-pub open_denial : (m : ℕ) (s : List Part) (ks : List Terminal) → leads (a_word keyword.Not) ks ≡ false → fate m (ExpressionPart denials ∷ s) ks ≡ fate m (ExpressionPart relations ∷ s) ks
+pub open_denial : (m : ℕ) (s : List Part) (ks : List Terminal) → leads (a_word NotWord) ks ≡ false → fate m (ExpressionPart denials ∷ s) ks ≡ fate m (ExpressionPart relations ∷ s) ks
 open_denial m s ks h =
-    part (ExpressionPart denials) m s ks ∙ (passes_one (a_word keyword.Not) _ relation_rules m s ks h ∙ sym (part (ExpressionPart relations) m s ks))
+    part (ExpressionPart denials) m s ks ∙ (passes_one (a_word NotWord) _ relation_rules m s ks h ∙ sym (part (ExpressionPart relations) m s ks))
 
-lacks_leads : (o : Operator) (r : List Terminal) → Lacks (rank o) r → leads (an_operator o) r ≡ false
-lacks_leads o [] h = refl
-lacks_leads o (k ∷ r) h = by (operator_of k) h
-  where
-    by : (p : Option Operator) → rank_or p ≢ rank o → has_rank (rank o) p ≡ false
-    by None e = refl
-    by (Some p) e = other_test (rank p) (rank o) e
+ends_leads : (o : Operator) (r : List Terminal) → Ends (rank o) r → leads (an_operator o) r ≡ false
+ends_leads o [] h = refl
+ends_leads o (k ∷ r) h = other_test (rank_or (operator_of k)) (rank o) (λ i. omega (arith, h, i))
 
-no_starts : (r : List Terminal) → starts [] r ≡ false
-no_starts [] = refl
-no_starts (k ∷ r) = refl
-
-pub skip_operators : (l : Rung) (m : ℕ) (s : List Part) (r : List Terminal) → Lacks (at l) r → fate m (OperatorsPart l ∷ s) r ≡ fate m s r
-skip_operators ors m s r h = skip_tail (OperatorsPart ors) (an_operator operator.Or) _ m s r refl (lacks_leads operator.Or r h)
-skip_operators ands m s r h = skip_tail (OperatorsPart ands) (an_operator operator.And) _ m s r refl (lacks_leads operator.And r h)
-skip_operators relations m s r h = skip_tail (OperatorsPart relations) (an_operator operator.Equal) _ m s r refl (lacks_leads operator.Equal r h)
-skip_operators sums m s r h = skip_tail (OperatorsPart sums) (an_operator operator.Add) _ m s r refl (lacks_leads operator.Add r h)
-skip_operators terms m s r h = skip_tail (OperatorsPart terms) (an_operator operator.Multiply) _ m s r refl (lacks_leads operator.Multiply r h)
-skip_operators l m s r h = part (OperatorsPart l) m s r ∙ skips [] m s r (no_starts r)
-
-pub ends_lacks : (n : ℕ) (r : List Terminal) → Ends n r → Lacks n r
-ends_lacks n [] h = tt
-ends_lacks n (k ∷ r) h = λ e. omega (arith, h, e)
+pub skip_operators : (l : Rung) (m : ℕ) (s : List Part) (r : List Terminal) → IsChain l → Ends (at l) r → fate m (OperatorsPart l ∷ s) r ≡ fate m s r
+skip_operators ors m s r c h = skip_tail (OperatorsPart ors) (an_operator operator.Or) _ m s r refl (ends_leads operator.Or r h)
+skip_operators ands m s r c h = skip_tail (OperatorsPart ands) (an_operator operator.And) _ m s r refl (ends_leads operator.And r h)
+skip_operators relations m s r c h = skip_tail (OperatorsPart relations) (an_operator operator.Equal) _ m s r refl (ends_leads operator.Equal r h)
+skip_operators sums m s r c h = skip_tail (OperatorsPart sums) (an_operator operator.Add) _ m s r refl (ends_leads operator.Add r h)
+skip_operators terms m s r c h = skip_tail (OperatorsPart terms) (an_operator operator.Multiply) _ m s r refl (ends_leads operator.Multiply r h)
+skip_operators _ m s r c h = absurd c
 
 -- an operator of a level
 take : (l : Rung) (n : Operator) (ps : List Part) (m : ℕ) (s : List Part) (o : Operator) (r : List Terminal) → operator_rules l ≡ (an_operator n, ps) ∷ [] → rank o ≡ rank n → levels (ps ++ s) ≤ m →
@@ -172,7 +159,7 @@ take : (l : Rung) (n : Operator) (ps : List Part) (m : ℕ) (s : List Part) (o :
 take l n ps m s o r e h b =
     go m (OperatorsPart l ∷ s) (ps ++ s) (operator_terminal o) r
     (ap (λ x. opening s (step s (operator_terminal o)) (enters x (operator_terminal o))) e
-    ∙ ap (λ b. opening s (step s (operator_terminal o)) (cond b (Some ps) None)) (ap (has_rank (rank n)) (is_operator o) ∙ same_test (rank o) (rank n) h)) b
+    ∙ ap (λ b. opening s (step s (operator_terminal o)) (cond b (Some ps) None)) (ap (λ p. rank_or p == rank n) (is_operator o) ∙ same_test (rank o) (rank n) h)) b
 
 pub take_comparison : (m : ℕ) (s : List Part) (o : Operator) (r : List Terminal) → rank o ≡ 4 → levels s ≤ m →
     fate m (OperatorsPart relations ∷ s) (operator_terminal o ∷ r) ≡ fate m (ExpressionPart sums ∷ s) r

@@ -1,7 +1,5 @@
 -- No two trees spell one list: expressions.
-use Rattle.kahn_syntax.proofs.Common.{◌≡◌, ℕ, zero, suc, ◌+◌, ◌*◌, ◌≤◌, ◌<◌, ◌≢◌, List, [], ◌∷◌, true, false, Some, ◌⊎◌, ⊎_elim, refl, sym, ap, ◌∙◌, subst, arith, nat_tests, Operator, Terminal, word, sign, ExpressionTree, number, truth, variable, wait, negation, denial, bracket, level, conditional, OperandTrees, no_operand, operand, operator_terminal, expression_words, operands_words, expression_nesting, operands_nesting, rank, IsOne, Formed, FormedOperands, Fits, joined, operator_of, rank_or, leads, a_word, true≢false, Rung, whole, ors, ands, denials, relations, sums, terms, factors, at}
-use Rattle.kahn_syntax.specs.declared.lexeme.Keyword.TheVariants as keyword
-use Rattle.kahn_syntax.specs.declared.lexeme.Sign.TheVariants as mark
+use Rattle.kahn_syntax.proofs.Common.{◌-◌, tighter, ◌≡◌, ℕ, zero, suc, ◌+◌, ◌*◌, ◌≤◌, ◌<◌, ◌≢◌, List, [], ◌∷◌, true, false, Some, ◌⊎◌, ⊎_elim, refl, sym, ap, ◌∙◌, subst, arith, nat_tests, Operator, Terminal, word, sign, ExpressionTree, number, truth, variable, wait, negation, denial, bracket, level, conditional, OperandTrees, no_operand, operand, operator_terminal, expression_words, operands_words, expression_nesting, operands_nesting, rank, IsOne, Formed, FormedOperands, Fits, joined, operator_of, rank_or, leads, a_word, true≢false, Rung, whole, ors, denials, relations, factors, at, Close, Else, If, NotWord, Then}
 use Rattle.kahn_tree.specs.declared.tree.Operator.TheVariants as operator
 use Rattle.kahn_syntax.proofs.Levels.{joined_words}
 
@@ -55,25 +53,12 @@ abbrev mutual
   sizes (operand o e os) = size e + sizes os + 1
 
 abbrev pub above : Rung → ℕ
-above whole = 7
-above ors = 6
-above ands = 5
-above denials = 4
-above relations = 3
-above sums = 2
-above terms = 1
-above factors = 0
+above l = 7 - at l
 
 -- the tightest operator that ends what stands there
 abbrev pub stop : Rung → ℕ
 stop whole = 1
-stop ors = 1
-stop ands = 2
-stop denials = 3
-stop relations = 4
-stop sums = 5
-stop terms = 6
-stop factors = 7
+stop l = at l
 
 abbrev Same : ExpressionTree → ExpressionTree → List Terminal → List Terminal → Type 0
 Same t u r q = (t ≡ u) × (r ≡ q)
@@ -150,14 +135,14 @@ chain k n l known a s v c d b t u r q small f g x y e =
     (i.is ∙ ap (λ m. joined m i.rest) z.0 ∙ ap (joined j.first) w.0 ∙ sym j.is, w.1)
 
 -- nothing but a conditional expression begins with `if`
-pub no_if : (t : ExpressionTree) (r : List Terminal) → Fits 1 t → leads (a_word keyword.If) (expression_words t r) ≡ false
+pub no_if : (t : ExpressionTree) (r : List Terminal) → Fits 1 t → leads (a_word If) (expression_words t r) ≡ false
 no_if (conditional a b c) r f = absurd (omega (arith, f.0))
 no_if (level t os) r f = no_if t (operands_words os r) (omega (arith, f.0, f.1.0), f.1.1)
 no_if (truth true) r f = refl
 no_if _ r f = refl
 
 -- nothing tighter than a denial begins with `not`
-pub no_not : (t : ExpressionTree) (r : List Terminal) → Fits 4 t → leads (a_word keyword.Not) (expression_words t r) ≡ false
+pub no_not : (t : ExpressionTree) (r : List Terminal) → Fits 4 t → leads (a_word NotWord) (expression_words t r) ≡ false
 no_not (denial t) r f = absurd (omega (arith, f.0))
 no_not (conditional a b c) r f = absurd (omega (arith, f.0))
 no_not (level t os) r f = no_not t (operands_words os r) (omega (arith, f.0, f.1.0), f.1.1)
@@ -210,7 +195,7 @@ same_factor k known (variable n) (variable m) r q s f g x y e = (cc, cc)
 same_factor k known (wait n) (wait m) r q s f g x y e = (cc, cc)
 same_factor k known (negation t) (negation u) r q s f g x y e = let z = known factors t u r q (omega arith) f.1 g.1 x y (tail_is _ _ _ _ e) in (ap negation z.0, z.1)
 same_factor k known (bracket t) (bracket u) r q s f g x y e =
-    let z = known whole t u (sign mark.Close ∷ r) (sign mark.Close ∷ q) (omega arith) (omega arith, f.1) (omega arith, g.1) (omega arith) (omega arith) (tail_is _ _ _ _ e) in
+    let z = known whole t u (sign Close ∷ r) (sign Close ∷ q) (omega arith) (omega arith, f.1) (omega arith, g.1) (omega arith) (omega arith) (tail_is _ _ _ _ e) in
     (ap bracket z.0, tail_is _ _ _ _ z.1)
 same_factor k known _ (truth true) r q s f g x y e = absurd cc
 same_factor k known (truth true) _ r q s f g x y e = absurd cc
@@ -222,11 +207,11 @@ same_whole k known t u r q s f g x y e = cases (open_whole t f) (open_whole u g)
   where
     cases : Whole t → Whole u → Same t u r q
     cases (is_tighter i) (is_tighter j) = known ors t u r q (omega arith) i j x y e
-    cases (is_if a b c p fa fb fc n) (is_tighter j) = absurd (true≢false (ap (leads (a_word keyword.If)) (ap (λ z. expression_words z r) (sym p) ∙ e) ∙ no_if u q j))
-    cases (is_tighter i) (is_if a b c p fa fb fc n) = absurd (true≢false (ap (leads (a_word keyword.If)) (ap (λ z. expression_words z q) (sym p) ∙ sym e) ∙ no_if t r i))
+    cases (is_if a b c p fa fb fc n) (is_tighter j) = absurd (true≢false (ap (leads (a_word If)) (ap (λ z. expression_words z r) (sym p) ∙ e) ∙ no_if u q j))
+    cases (is_tighter i) (is_if a b c p fa fb fc n) = absurd (true≢false (ap (leads (a_word If)) (ap (λ z. expression_words z q) (sym p) ∙ sym e) ∙ no_if t r i))
     cases (is_if a b c p fa fb fc n) (is_if a' b' c' p' ga gb gc n') =
-        let both : word keyword.If ∷ expression_words a (word keyword.Then ∷ expression_words b (word keyword.Else ∷ expression_words c r))
-        ≡ word keyword.If ∷ expression_words a' (word keyword.Then ∷ expression_words b' (word keyword.Else ∷ expression_words c' q)) =
+        let both : word If ∷ expression_words a (word Then ∷ expression_words b (word Else ∷ expression_words c r))
+        ≡ word If ∷ expression_words a' (word Then ∷ expression_words b' (word Else ∷ expression_words c' q)) =
         ap (λ z. expression_words z r) (sym p) ∙ e ∙ ap (λ z. expression_words z q) p' in
         let z = known whole a a' _ _ (omega (arith, n)) (omega arith, fa) (omega arith, ga) (omega arith) (omega arith) (tail_is _ _ _ _ both) in
         let w = known whole b b' _ _ (omega (arith, n)) (omega arith, fb) (omega arith, gb) (omega arith) (omega arith) (tail_is _ _ _ _ z.1) in
@@ -239,23 +224,20 @@ same_denial k known t u r q s f g x y e = cases (open_denial t f) (open_denial u
   where
     cases : Denial t → Denial u → Same t u r q
     cases (is_relation i) (is_relation j) = known relations t u r q (omega arith) i j (ends_more 3 4 r (omega arith) x) (ends_more 3 4 q (omega arith) y) e
-    cases (is_not a p fa n) (is_relation j) = absurd (true≢false (ap (leads (a_word keyword.Not)) (ap (λ z. expression_words z r) (sym p) ∙ e) ∙ no_not u q j))
-    cases (is_relation i) (is_not a p fa n) = absurd (true≢false (ap (leads (a_word keyword.Not)) (ap (λ z. expression_words z q) (sym p) ∙ sym e) ∙ no_not t r i))
+    cases (is_not a p fa n) (is_relation j) = absurd (true≢false (ap (leads (a_word NotWord)) (ap (λ z. expression_words z r) (sym p) ∙ e) ∙ no_not u q j))
+    cases (is_relation i) (is_not a p fa n) = absurd (true≢false (ap (leads (a_word NotWord)) (ap (λ z. expression_words z q) (sym p) ∙ sym e) ∙ no_not t r i))
     cases (is_not a p fa n) (is_not a' p' ga n') =
-        let both : word keyword.Not ∷ expression_words a r ≡ word keyword.Not ∷ expression_words a' q =
+        let both : word NotWord ∷ expression_words a r ≡ word NotWord ∷ expression_words a' q =
         ap (λ z. expression_words z r) (sym p) ∙ e ∙ ap (λ z. expression_words z q) p' in
         let z = known denials a a' r q (omega (arith, n)) fa ga x y (tail_is _ _ _ _ both) in
         (cc, z.1)
 
 step : (k : ℕ) → Known k → Known (k + 1)
 step k known whole t u r q s f g x y e = same_whole k known t u r q s f g x y e
-step k known ors t u r q s f g x y e = chain k 1 ands known refl refl (omega arith) (omega arith) (λ z. omega arith) (omega arith) t u r q (omega arith) f g x y e
-step k known ands t u r q s f g x y e = chain k 2 denials known refl refl (omega arith) (omega arith) (λ z. omega arith) (omega arith) t u r q (omega arith) f g x y e
 step k known denials t u r q s f g x y e = same_denial k known t u r q s f g x y e
-step k known relations t u r q s f g x y e = chain k 4 sums known refl refl (omega arith) (omega arith) (λ z. omega arith) (omega arith) t u r q (omega arith) f g x y e
-step k known sums t u r q s f g x y e = chain k 5 terms known refl refl (omega arith) (omega arith) (λ z. omega arith) (omega arith) t u r q (omega arith) f g x y e
-step k known terms t u r q s f g x y e = chain k 6 factors known refl refl (omega arith) (omega arith) (λ z. omega arith) (omega arith) t u r q (omega arith) f g x y e
 step k known factors t u r q s f g x y e = same_factor k known t u r q s f g x y e
+step k known l t u r q s f g x y e =
+    chain k (at l) (tighter l) known refl refl (omega arith) (omega arith) (λ z. omega arith) (omega arith) t u r q (omega arith) f g x y e
 
 known_all : (k : ℕ) → Known k
 known_all zero = λ l t u r q s f g x y e. absurd (omega (arith, s))

@@ -1,8 +1,7 @@
 -- What is open can be completed, and what is read is the beginning of trees for it.
-use Rattle.kahn_syntax.proofs.Common.{◌<◌, ◌≡◌, ℕ, ◌+◌, ◌≤◌, ◌==◌, ℤ, pos, List, [], ◌∷◌, Bool, true, false, cond, Option, Some, None, refl, sym, ap, ◌∙◌, subst, arith, ⊎_elim, ◌⊎◌, inl, inr, true≢false, Further, Grouped, group, all_members, IsGroup, AreGroups, nat_tests, Kind, Role, Taking, Operator, Terminal, word, sign, name, ExpressionTree, number, truth, variable, wait, negation, denial, bracket, conditional, OperandTrees, no_operand, operand, StatementTree, empty, assign, send, print, block, if_then, if_else, while_do, repeat, StatementTrees, no_statement, statement, operator_terminal, rank, expression_words, operands_words, statement_words, further_words, expression_nesting, operands_nesting, statement_nesting, statements_nesting, FormedOperands, FormedStatement, FormedStatements, IsSimple, DeclarationTree, channels, process, ArgumentTree, channel, InstanceTree, instance, kind_terminal, role_words, taking_words, further_names_words, group_words, groups_words, further_groups_words, togethers_words, Declares, Declarations, Argues, Arguments, Instantiates, Instances, MaybeSemicolon, declaration_nesting, declarations_nesting, StandsFirst, joined, Rung, whole, ors, ands, denials, relations, sums, terms, factors, at, tighter, operator_of, Token, takes, NamesTail, StatementsTail, GroupsTail, ArgumentsTail, InstancesTail, ElseTail, LastTail, Part, ProgramPart, DeclarationsPart, DeclarationPart, ProcessPart, RolePart, GroupsPart, GroupPart, TakingPart, VariablesPart, StatementPart, SimplePart, ExpressionPart, OperatorsPart, InstancePart, ArgumentsPart, ArgumentPart, TokenPart, LevelPart, levels, may_end, step, opening, enters, followed, rules_of, Rule, process_rules, declaration_rules, group_rules, simple_rules, other_rules, argument_rules, factor_rules, operand_rules, relation_rules, denial_rules, or_rules, expression_rules, operator_rules, either, an_operator, has_letters_of, has_rank, letters_of, bytes_of_sign, bytes_eq, truth_terminal, append_assoc, Keyword, Sign, ◌++◌, a_sign, a_word, a_name, a_number}
+use Rattle.kahn_syntax.proofs.Common.{◌<◌, ◌≡◌, ℕ, ◌+◌, ◌≤◌, ◌==◌, ℤ, pos, List, [], ◌∷◌, Bool, true, false, cond, Option, Some, None, refl, sym, ap, ◌∙◌, subst, arith, ⊎_elim, ◌⊎◌, inl, inr, true≢false, Further, Grouped, group, all_members, IsGroup, AreGroups, nat_tests, Kind, Role, Taking, Operator, Terminal, word, sign, name, ExpressionTree, number, truth, variable, wait, negation, denial, bracket, conditional, OperandTrees, no_operand, operand, StatementTree, empty, assign, send, print, block, if_then, if_else, while_do, repeat, StatementTrees, no_statement, statement, operator_terminal, rank, expression_words, operands_words, statement_words, further_words, expression_nesting, operands_nesting, statement_nesting, statements_nesting, FormedOperands, FormedStatement, FormedStatements, IsSimple, DeclarationTree, channels, process, ArgumentTree, channel, InstanceTree, instance, kind_terminal, role_words, taking_words, further_names_words, group_words, groups_words, further_groups_words, togethers_words, Declares, Declarations, Argues, Arguments, Instantiates, Instances, MaybeSemicolon, declaration_nesting, declarations_nesting, StandsFirst, joined, Rung, whole, ors, ands, denials, relations, sums, terms, factors, at, tighter, operator_of, Token, takes, NamesTail, StatementsTail, GroupsTail, ArgumentsTail, InstancesTail, ElseTail, LastTail, Part, ProgramPart, DeclarationsPart, DeclarationPart, ProcessPart, RolePart, GroupsPart, GroupPart, TakingPart, VariablesPart, StatementPart, SimplePart, ExpressionPart, OperatorsPart, InstancePart, ArgumentsPart, ArgumentPart, TokenPart, LevelPart, levels, may_end, step, opening, enters, followed, rules_of, Rule, process_rules, declaration_rules, group_rules, simple_rules, other_rules, argument_rules, factor_rules, operand_rules, relation_rules, denial_rules, or_rules, expression_rules, operator_rules, either, an_operator, rank_or, letters_of, bytes_of_sign, bytes_eq, truth_terminal, append_assoc, Keyword, Sign, ◌++◌, a_sign, a_word, a_name, a_number, And, AtLeast, AtMost, Becomes, Begin, Channel, Close, Comma, Div, Do, Else, End, Equal, False, Greater, If, Integer, Less, Logical, Minus, Mod, NotWord, On, Open, OrWord, Par, Plus, Print, Process, Repeat, Semicolon, Send, Then, Times, True, Unequal, Wait, While}
+use Rattle.std.specs.Prelude.{◌||◌}
 use Rattle.std.specs.Prelude.{neg_ℤ}
-use Rattle.kahn_syntax.specs.declared.lexeme.Keyword.TheVariants as keyword
-use Rattle.kahn_syntax.specs.declared.lexeme.Sign.TheVariants as mark
 use Rattle.kahn_tree.specs.declared.tree.Kind.TheVariants as kind
 use Rattle.kahn_tree.specs.declared.tree.Role.TheVariants as role
 use Rattle.kahn_tree.specs.declared.tree.Direction.TheVariants as direction
@@ -12,7 +11,7 @@ use Rattle.kahn_syntax.specs.Terminals as terminal
 use Rattle.kahn_syntax.specs.Programs as tree
 use Rattle.kahn_syntax.specs.inner.Reads as reads
 use Rattle.kahn_syntax.proofs.Levels.{joined_words, joined_nesting}
-use Rattle.kahn_syntax.proofs.Unique.{IsNoneOrOne}
+use Rattle.kahn_syntax.proofs.Unique.{IsNoneOrOne, rank_within}
 use Rattle.kahn_syntax.proofs.Steps.{IsChain}
 use Rattle.kahn_syntax.proofs.Keywords.{same_keyword}
 use Rattle.kahn_syntax.proofs.Signs.{sign_by_bytes}
@@ -54,7 +53,7 @@ Operands g l m os ks r = (ks ≡ operands_words os r) × FormedOperands (at g) o
 abbrev pub Fits : ℕ → List Part → Lists
 Fits m [] ks = ks ≡ []
 Fits m (ProgramPart ∷ s) ks = (ds : List DeclarationTree) × (is : List InstanceTree) × (a : List Terminal) × (b : List Terminal) × (c : List Terminal) × (d : List Terminal) × (e : List Terminal)
-    × (r : List Terminal) × (ks ≡ word keyword.Begin ∷ a) × Declarations ds a b × Instances is b c × MaybeSemicolon c d × (d ≡ word keyword.End ∷ e) × MaybeSemicolon e r
+    × (r : List Terminal) × (ks ≡ word Begin ∷ a) × Declarations ds a b × Instances is b c × MaybeSemicolon c d × (d ≡ word End ∷ e) × MaybeSemicolon e r
     × (levels s + declarations_nesting ds ≤ m) × Fits m s r
 Fits m (DeclarationsPart ∷ s) ks = Via (List DeclarationTree) (λ ds x r. Declarations ds x r × (levels s + declarations_nesting ds ≤ m)) (Fits m s) ks
 Fits m (DeclarationPart ∷ s) ks = Via DeclarationTree (λ d x r. Declares d x r × (levels s + declaration_nesting d ≤ m)) (Fits m s) ks
@@ -69,14 +68,14 @@ Fits m (SimplePart ∷ s) ks = Via StatementTree (Simple (levels s) m) (Fits m s
 Fits m (ExpressionPart l ∷ s) ks = Via ExpressionTree (Expression l (levels s) m) (Fits m s) ks
 Fits m (OperatorsPart l ∷ s) ks = Via OperandTrees (Operands l (levels s) m) (Fits m s) ks
 Fits m (InstancePart ∷ s) ks = Via InstanceTree Instantiates (Fits m s) ks
-Fits m (ArgumentsPart ∷ s) ks = Via (List ArgumentTree) (λ xs x r. Arguments xs x (sign mark.Close ∷ r)) (Fits m s) ks
+Fits m (ArgumentsPart ∷ s) ks = Via (List ArgumentTree) (λ xs x r. Arguments xs x (sign Close ∷ r)) (Fits m s) ks
 Fits m (ArgumentPart ∷ s) ks = Via ArgumentTree Argues (Fits m s) ks
 Fits m (NamesTail ∷ s) ks = Via (List (List ℕ)) (λ ns x r. x ≡ further_names_words ns r) (Fits m s) ks
 Fits m (StatementsTail ∷ s) ks = Via StatementTrees (FurtherStatements (levels s) m) (Fits m s) ks
 Fits m (GroupsTail ∷ s) ks = Via (List (Grouped Taking (List ℕ))) (λ gs x r. AreGroups gs × (x ≡ further_groups_words gs r)) (Fits m s) ks
-Fits m (ArgumentsTail ∷ s) ks = Via (List ArgumentTree) (Further (StandsFirst (sign mark.Comma)) Argues) (Fits m s) ks
-Fits m (InstancesTail ∷ s) ks = Via (List InstanceTree) (Further (StandsFirst (word keyword.Par)) Instantiates) (Fits m s) ks
-Fits m (ElseTail ∷ s) ks = Fits m s ks ⊎ Via StatementTree (λ t x r. (x ≡ word keyword.Else ∷ statement_words t r) × FormedStatement t × (levels s + statement_nesting t ≤ m)) (Fits m s) ks
+Fits m (ArgumentsTail ∷ s) ks = Via (List ArgumentTree) (Further (StandsFirst (sign Comma)) Argues) (Fits m s) ks
+Fits m (InstancesTail ∷ s) ks = Via (List InstanceTree) (Further (StandsFirst (word Par)) Instantiates) (Fits m s) ks
+Fits m (ElseTail ∷ s) ks = Fits m s ks ⊎ Via StatementTree (λ t x r. (x ≡ word Else ∷ statement_words t r) × FormedStatement t × (levels s + statement_nesting t ≤ m)) (Fits m s) ks
 Fits m (LastTail ∷ s) ks = (r : List Terminal) × MaybeSemicolon ks r × Fits m s r
 Fits m (TokenPart t ∷ s) ks = One t (Fits m s) ks
 Fits m (LevelPart ∷ s) ks = Fits m s ks
@@ -105,23 +104,23 @@ some_same : (o p : Operator) → Some o ≡ Some p → o ≡ p
 some_same o p e = cc
 
 is_terminal : (k : Terminal) (o : Operator) → operator_of k ≡ Some o → k ≡ operator_terminal o
-is_terminal (word keyword.Or) o e = ap operator_terminal (some_same operator.Or o e)
-is_terminal (word keyword.And) o e = ap operator_terminal (some_same operator.And o e)
-is_terminal (sign mark.Equal) o e = ap operator_terminal (some_same operator.Equal o e)
-is_terminal (sign mark.Unequal) o e = ap operator_terminal (some_same operator.Unequal o e)
-is_terminal (sign mark.Less) o e = ap operator_terminal (some_same operator.Less o e)
-is_terminal (sign mark.AtMost) o e = ap operator_terminal (some_same operator.AtMost o e)
-is_terminal (sign mark.Greater) o e = ap operator_terminal (some_same operator.Greater o e)
-is_terminal (sign mark.AtLeast) o e = ap operator_terminal (some_same operator.AtLeast o e)
-is_terminal (sign mark.Plus) o e = ap operator_terminal (some_same operator.Add o e)
-is_terminal (sign mark.Minus) o e = ap operator_terminal (some_same operator.Subtract o e)
-is_terminal (sign mark.Times) o e = ap operator_terminal (some_same operator.Multiply o e)
-is_terminal (word keyword.Div) o e = ap operator_terminal (some_same operator.Divide o e)
-is_terminal (word keyword.Mod) o e = ap operator_terminal (some_same operator.Remainder o e)
+is_terminal (word OrWord) o e = ap operator_terminal (some_same operator.Or o e)
+is_terminal (word And) o e = ap operator_terminal (some_same operator.And o e)
+is_terminal (sign Equal) o e = ap operator_terminal (some_same operator.Equal o e)
+is_terminal (sign Unequal) o e = ap operator_terminal (some_same operator.Unequal o e)
+is_terminal (sign Less) o e = ap operator_terminal (some_same operator.Less o e)
+is_terminal (sign AtMost) o e = ap operator_terminal (some_same operator.AtMost o e)
+is_terminal (sign Greater) o e = ap operator_terminal (some_same operator.Greater o e)
+is_terminal (sign AtLeast) o e = ap operator_terminal (some_same operator.AtLeast o e)
+is_terminal (sign Plus) o e = ap operator_terminal (some_same operator.Add o e)
+is_terminal (sign Minus) o e = ap operator_terminal (some_same operator.Subtract o e)
+is_terminal (sign Times) o e = ap operator_terminal (some_same operator.Multiply o e)
+is_terminal (word Div) o e = ap operator_terminal (some_same operator.Divide o e)
+is_terminal (word Mod) o e = ap operator_terminal (some_same operator.Remainder o e)
 is_terminal _ o e = absurd cc
 
-word_same : (v w : Keyword) (b : Bool) → has_letters_of v w ≡ b → b ≡ true → v ≡ w
-word_same v w b e h = same_keyword v w ((bytes_eq-Decides (letters_of v) (letters_of w)).0 (e ∙ h))
+word_same : (v w : Keyword) → bytes_eq (letters_of v) (letters_of w) ≡ true → v ≡ w
+word_same v w e = same_keyword v w ((bytes_eq-Decides (letters_of v) (letters_of w)).0 e)
 
 sign_same : (g u : Sign) → bytes_eq (bytes_of_sign g) (bytes_of_sign u) ≡ true → g ≡ u
 sign_same g u e = sign_by_bytes g u ((bytes_eq-Decides (bytes_of_sign g) (bytes_of_sign u)).0 e)
@@ -132,18 +131,18 @@ test_same a b e = grind (arith, nat_tests)
 takes_one : (t : Token) (k : Terminal) (Next : Lists) (ks : List Terminal) → takes t k ≡ true → Next ks → One t Next (k ∷ ks)
 takes_one a_name (name n) Next ks e h = (n, ks, refl, h)
 takes_one a_number (terminal.number z) Next ks e h = (z, ks, refl, h)
-takes_one (a_word v) (word w) Next ks e h = (ks, ap (λ x. word x ∷ ks) (sym (word_same v w _ refl e)), h)
-takes_one (either u v) (word w) Next ks e h = by (has_letters_of u w) refl e
+takes_one (a_word v) (word w) Next ks e h = (ks, ap (λ x. word x ∷ ks) (sym (word_same v w e)), h)
+takes_one (either u v) (word w) Next ks e h = by (bytes_eq (letters_of u) (letters_of w)) refl e
   where
-    by : (b : Bool) → has_letters_of u w ≡ b → cond b true (has_letters_of v w) ≡ true → One (either u v) Next (word w ∷ ks)
-    by true p q = (ks, inl (ap (λ x. word x ∷ ks) (sym (word_same u w true p refl))), h)
-    by false p q = (ks, inr (ap (λ x. word x ∷ ks) (sym (word_same v w _ refl q))), h)
+    by : (b : Bool) → bytes_eq (letters_of u) (letters_of w) ≡ b → (b || bytes_eq (letters_of v) (letters_of w)) ≡ true → One (either u v) Next (word w ∷ ks)
+    by true p q = (ks, inl (ap (λ x. word x ∷ ks) (sym (word_same u w p))), h)
+    by false p q = (ks, inr (ap (λ x. word x ∷ ks) (sym (word_same v w q))), h)
 takes_one (a_sign g) (sign u) Next ks e h = (ks, ap (λ x. sign x ∷ ks) (sym (sign_same g u e)), h)
-takes_one (an_operator o) k Next ks e h = by (operator_of k) refl e
+takes_one (an_operator o) k Next ks e h = by (operator_of k) refl (test_same (rank_or (operator_of k)) (rank o) e)
   where
-    by : (q : Option Operator) → operator_of k ≡ q → has_rank (rank o) q ≡ true → One (an_operator o) Next (k ∷ ks)
-    by None i f = absurd (true≢false (sym f))
-    by (Some p) i f = (p, ks, test_same (rank p) (rank o) f, ap (λ x. x ∷ ks) (is_terminal k p i), h)
+    by : (q : Option Operator) → operator_of k ≡ q → rank_or q ≡ rank o → One (an_operator o) Next (k ∷ ks)
+    by None i f = absurd (omega (arith, f, (rank_within o).1))
+    by (Some p) i f = (p, ks, f, ap (λ x. x ∷ ks) (is_terminal k p i), h)
 takes_one _ _ Next ks e h = absurd (true≢false (sym e))
 
 one_map : (t : Token) (P Q : Lists) → ((r : List Terminal) → P r → Q r) → (ks : List Terminal) → One t P ks → One t Q ks
@@ -174,11 +173,11 @@ made_followed m p q after s ((t, ps) ∷ rest) f h = (
   made_followed m p q after s rest f h.1,
 )
 
-truth_one : (ks r : List Terminal) → (ks ≡ word keyword.True ∷ r) ⊎ (ks ≡ word keyword.False ∷ r) → (b : Bool) × (ks ≡ truth_terminal b ∷ r)
+truth_one : (ks r : List Terminal) → (ks ≡ word True ∷ r) ⊎ (ks ≡ word False ∷ r) → (b : Bool) × (ks ≡ truth_terminal b ∷ r)
 truth_one ks r (inl p) = (true, p)
 truth_one ks r (inr p) = (false, p)
 
-kind_one : (ks r : List Terminal) → (ks ≡ word keyword.Integer ∷ r) ⊎ (ks ≡ word keyword.Logical ∷ r) → (k : Kind) × (ks ≡ kind_terminal k ∷ r)
+kind_one : (ks r : List Terminal) → (ks ≡ word Integer ∷ r) ⊎ (ks ≡ word Logical ∷ r) → (k : Kind) × (ks ≡ kind_terminal k ∷ r)
 kind_one ks r (inl p) = (kind.Integer, p)
 kind_one ks r (inr p) = (kind.Logical, p)
 
@@ -188,10 +187,10 @@ factor_makes m s b =
     (made (λ ks (r, e, h). let v = truth_one ks r e in (truth v.0, r, (v.1, (omega arith, tt), omega (arith, b)), h))
     (made (λ ks (n, r, p, h). (variable n, r, (p, (omega arith, tt), omega (arith, b)), h))
     (made (λ ks (r, p, (r1, p1, (n, r2, p2, (r3, p3, h)))).
-    (wait n, r3, (p ∙ ap (λ x. word keyword.Wait ∷ x) (p1 ∙ ap (λ x. sign mark.Open ∷ x) (p2 ∙ ap (λ x. name n ∷ x) p3)), (omega arith, tt), omega (arith, b)), h))
-    (made (λ ks (r, p, (t, r1, (p1, f, c), h)). (negation t, r1, (p ∙ ap (λ x. sign mark.Minus ∷ x) p1, (omega arith, f), omega (arith, c)), h))
+    (wait n, r3, (p ∙ ap (λ x. word Wait ∷ x) (p1 ∙ ap (λ x. sign Open ∷ x) (p2 ∙ ap (λ x. name n ∷ x) p3)), (omega arith, tt), omega (arith, b)), h))
+    (made (λ ks (r, p, (t, r1, (p1, f, c), h)). (negation t, r1, (p ∙ ap (λ x. sign Minus ∷ x) p1, (omega arith, f), omega (arith, c)), h))
     (made (λ ks (r, p, (t, r1, (p1, f, c), (r2, p2, h))).
-    (bracket t, r2, (p ∙ ap (λ x. sign mark.Open ∷ x) (p1 ∙ ap (expression_words t) p2), (omega arith, f.1), omega (arith, c)), h)) tt)))))
+    (bracket t, r2, (p ∙ ap (λ x. sign Open ∷ x) (p1 ∙ ap (expression_words t) p2), (omega arith, f.1), omega (arith, c)), h)) tt)))))
 
 joined_fits : (n : ℕ) (e : ExpressionTree) (os : OperandTrees) → (n ≡ 4 → IsNoneOrOne os) → 0 < n → reads.Fits (n + 1) e → FormedOperands n os → reads.Fits n (joined e os)
 joined_fits n e no_operand one b f h = (omega (arith, f.0), f.1)
@@ -218,7 +217,7 @@ sum_makes m s b = operand_makes sums m s (operand_rules terms factor_rules) tt (
 
 denial_makes : (m : ℕ) (s : List Part) → levels s ≤ m → Makes m (ExpressionPart denials) s denial_rules
 denial_makes m s b =
-    made (λ ks (r, p, (t, r1, (p1, f, c), h)). (denial t, r1, (p ∙ ap (λ x. word keyword.Not ∷ x) p1, (omega arith, f), omega (arith, c)), h))
+    made (λ ks (r, p, (t, r1, (p1, f, c), h)). (denial t, r1, (p ∙ ap (λ x. word NotWord ∷ x) p1, (omega arith, f), omega (arith, c)), h))
     (made_as m (ExpressionPart denials) (ExpressionPart relations) s relation_rules (λ ks (t, r, (p, f, c), h). (t, r, (p, (omega (arith, f.0), f.1), c), h))
     (operand_makes relations m s (expression_rules sums) tt (sum_makes m (OperatorsPart relations ∷ s) b)))
 
@@ -234,7 +233,7 @@ expression_makes whole m s b = (
     conditional x y z,
     r5,
     (
-      p ∙ ap (λ w. word keyword.If ∷ w) (p1 ∙ ap (expression_words x) (p2 ∙ ap (λ w. word keyword.Then ∷ w) (p3 ∙ ap (expression_words y) (p4 ∙ ap (λ w. word keyword.Else ∷ w) p5)))),
+      p ∙ ap (λ w. word If ∷ w) (p1 ∙ ap (expression_words x) (p2 ∙ ap (λ w. word Then ∷ w) (p3 ∙ ap (expression_words y) (p4 ∙ ap (λ w. word Else ∷ w) p5)))),
       (omega arith, (f1.1, f3.1, f5.1)),
       omega (arith, c1, c3, c5),
     ),
@@ -268,30 +267,30 @@ operators_make _ m s = tt
 
 simple_makes : (m : ℕ) (s : List Part) → Makes m SimplePart s simple_rules
 simple_makes m s =
-    made (λ ks (n, r, p, (r1, p1, (v, r2, (p2, f, c), h))). (assign n v, r2, (p ∙ ap (λ x. name n ∷ x) (p1 ∙ ap (λ x. sign mark.Becomes ∷ x) p2), tt, f.1, c), h))
+    made (λ ks (n, r, p, (r1, p1, (v, r2, (p2, f, c), h))). (assign n v, r2, (p ∙ ap (λ x. name n ∷ x) (p1 ∙ ap (λ x. sign Becomes ∷ x) p2), tt, f.1, c), h))
     (made (λ ks (r, p, (v, r1, (p1, f, c), (r2, p2, (n, r3, p3, h)))).
-    (send v n, r3, (p ∙ ap (λ x. word keyword.Send ∷ x) (p1 ∙ ap (expression_words v) (p2 ∙ ap (λ x. word keyword.On ∷ x) p3)), tt, f.1, c), h))
-    (made (λ ks (r, p, (v, r1, (p1, f, c), h)). (print v, r1, (p ∙ ap (λ x. word keyword.Print ∷ x) p1, tt, f.1, c), h))
+    (send v n, r3, (p ∙ ap (λ x. word Send ∷ x) (p1 ∙ ap (expression_words v) (p2 ∙ ap (λ x. word On ∷ x) p3)), tt, f.1, c), h))
+    (made (λ ks (r, p, (v, r1, (p1, f, c), h)). (print v, r1, (p ∙ ap (λ x. word Print ∷ x) p1, tt, f.1, c), h))
     (made (λ ks (r, p, (t, r1, (p1, f, c), (ss, r2, (p2, g, d), (r3, p3, h)))).
-    (block (statement t ss), r3, (p ∙ ap (λ x. word keyword.Begin ∷ x) (p1 ∙ ap (statement_words t) (p2 ∙ ap (further_words ss) p3)), tt, (tt, (f, g)), omega (arith, c, d)), h)) tt)))
+    (block (statement t ss), r3, (p ∙ ap (λ x. word Begin ∷ x) (p1 ∙ ap (statement_words t) (p2 ∙ ap (further_words ss) p3)), tt, (tt, (f, g)), omega (arith, c, d)), h)) tt)))
 
-made_if : (m : ℕ) (s : List Part) (ks : List Terminal) → Fits m (ExpressionPart whole ∷ TokenPart (a_word keyword.Then) ∷ SimplePart ∷ ElseTail ∷ LevelPart ∷ s) ks →
-    Fits m (StatementPart ∷ s) (word keyword.If ∷ ks)
+made_if : (m : ℕ) (s : List Part) (ks : List Terminal) → Fits m (ExpressionPart whole ∷ TokenPart (a_word Then) ∷ SimplePart ∷ ElseTail ∷ LevelPart ∷ s) ks →
+    Fits m (StatementPart ∷ s) (word If ∷ ks)
 made_if m s ks (e, r, (p, f, c), (r1, p1, (t, r2, (p2, i, g, d), alt))) =
-    let start : word keyword.If ∷ ks ≡ word keyword.If ∷ expression_words e (word keyword.Then ∷ statement_words t r2) =
-    ap (λ x. word keyword.If ∷ x) (p ∙ ap (expression_words e) (p1 ∙ ap (λ x. word keyword.Then ∷ x) p2)) in
+    let start : word If ∷ ks ≡ word If ∷ expression_words e (word Then ∷ statement_words t r2) =
+    ap (λ x. word If ∷ x) (p ∙ ap (expression_words e) (p1 ∙ ap (λ x. word Then ∷ x) p2)) in
     ⊎_elim
     (λ h. (if_then e t, r2, (start, (f.1, i, g), omega (arith, c, d)), h))
     (λ (u, r3, (p3, f3, c3), h).
-    (if_else e t u, r3, (start ∙ ap (λ x. word keyword.If ∷ expression_words e (word keyword.Then ∷ statement_words t x)) p3, (f.1, i, g, f3), omega (arith, c, d, c3)), h))
+    (if_else e t u, r3, (start ∙ ap (λ x. word If ∷ expression_words e (word Then ∷ statement_words t x)) p3, (f.1, i, g, f3), omega (arith, c, d, c3)), h))
     alt
 
 statement_makes : (m : ℕ) (s : List Part) → Makes m StatementPart s (other_rules ++ simple_rules)
 statement_makes m s =
     made (λ ks (r, p, h). subst (Fits m (StatementPart ∷ s)) (sym p) (made_if m s r h))
     (made (λ ks (r, p, (e, r1, (p1, f, c), (r2, p2, (t, r3, (p3, g, d), h)))).
-    (while_do e t, r3, (p ∙ ap (λ x. word keyword.While ∷ x) (p1 ∙ ap (expression_words e) (p2 ∙ ap (λ x. word keyword.Do ∷ x) p3)), (f.1, g), omega (arith, c, d)), h))
-    (made (λ ks (r, p, (t, r1, (p1, f, c), h)). (repeat t, r1, (p ∙ ap (λ x. word keyword.Repeat ∷ x) p1, f, omega (arith, c)), h))
+    (while_do e t, r3, (p ∙ ap (λ x. word While ∷ x) (p1 ∙ ap (expression_words e) (p2 ∙ ap (λ x. word Do ∷ x) p3)), (f.1, g), omega (arith, c, d)), h))
+    (made (λ ks (r, p, (t, r1, (p1, f, c), h)). (repeat t, r1, (p ∙ ap (λ x. word Repeat ∷ x) p1, f, omega (arith, c)), h))
     (made_as m StatementPart SimplePart s simple_rules (λ ks (t, r, (p, i, f, c), h). (t, r, (p, f, c), h)) (simple_makes m s))))
 
 process_makes : (m : ℕ) (s : List Part) → Makes m ProcessPart s process_rules
@@ -303,8 +302,8 @@ process_makes m s = (
       (
         r1,
         r5,
-        p0 ∙ ap (λ x. word keyword.Process ∷ x) (p ∙ ap (λ x. name n ∷ x) p1),
-        (gs, ag, refl, p2 ∙ ap (groups_words gs) (p3 ∙ ap (λ x. sign mark.Close ∷ x) (p4 ∙ ap (λ x. sign mark.Semicolon ∷ x) p5))),
+        p0 ∙ ap (λ x. word Process ∷ x) (p ∙ ap (λ x. name n ∷ x) p1),
+        (gs, ag, refl, p2 ∙ ap (groups_words gs) (p3 ∙ ap (λ x. sign Close ∷ x) (p4 ∙ ap (λ x. sign Semicolon ∷ x) p5))),
         (ts, tg, refl, p6 ∙ ap (togethers_words ts) (p7 ∙ ap (statement_words t) (p8 ∙ ap (further_words ss) p9))),
         tt,
         (f, g),
@@ -321,7 +320,7 @@ declaration_makes m s b = (
   λ ks (r0, e, (o, r, p, (r1, p1, (n, r2, p2, (ns, r3, p3, h))))). let k = kind_one ks r0 e in (
     channels k.0 o (n ∷ ns),
     r3,
-    ((tt, k.1 ∙ ap (λ x. kind_terminal k.0 ∷ x) (p ∙ ap (role_words o) (p1 ∙ ap (λ x. word keyword.Channel ∷ x) (p2 ∙ ap (λ x. name n ∷ x) p3)))), omega (arith, b)),
+    ((tt, k.1 ∙ ap (λ x. kind_terminal k.0 ∷ x) (p ∙ ap (role_words o) (p1 ∙ ap (λ x. word Channel ∷ x) (p2 ∙ ap (λ x. name n ∷ x) p3)))), omega (arith, b)),
     h,
   ),
   process_makes m s,
@@ -337,7 +336,7 @@ variables_make m s = (
   λ ks (r0, e, (n, r, p, (ns, r1, p1, (r2, p2, (ts, r3, (a, p3), h))))). let k = kind_one ks r0 e in (
     group k.0 (n ∷ ns) ∷ ts,
     r3,
-    ((tt, a), k.1 ∙ ap (λ x. kind_terminal k.0 ∷ x) (p ∙ ap (λ x. name n ∷ x) (p1 ∙ ap (further_names_words ns) (p2 ∙ ap (λ x. sign mark.Semicolon ∷ x) p3)))),
+    ((tt, a), k.1 ∙ ap (λ x. kind_terminal k.0 ∷ x) (p ∙ ap (λ x. name n ∷ x) (p1 ∙ ap (further_names_words ns) (p2 ∙ ap (λ x. sign Semicolon ∷ x) p3)))),
     h,
   ),
   tt,
@@ -348,15 +347,15 @@ argument_makes m s =
     made (λ ks (n, r, p, h). (channel n, r, p, h))
     (made (λ ks (z, r, p, h). (tree.number z, r, inl p, h))
     (made (λ ks (r, e, h). let v = truth_one ks r e in (tree.truth v.0, r, v.1, h))
-    ((λ ks (r, p, (z, r1, p1, h)). (tree.number (neg_ℤ z), r1, inr (z, refl, p ∙ ap (λ x. sign mark.Minus ∷ x) p1), h), tt))))
+    ((λ ks (r, p, (z, r1, p1, h)). (tree.number (neg_ℤ z), r1, inr (z, refl, p ∙ ap (λ x. sign Minus ∷ x) p1), h), tt))))
 
 makes : (p : Part) (m : ℕ) (s : List Part) → levels s ≤ m → Makes m p s (rules_of p).1
 makes ProgramPart m s b =
     made (λ ks (r0, p0, (ds, r, (q, c), (i, r1, q1, (is, r2, q2, (r3, q3, (r4, p4, (r5, q5, h))))))). (ds, i ∷ is, r0, r, r2, r3, r4, r5, p0, q, (r1, q1, q2), q3, p4, q5, c, h)) tt
 makes DeclarationsPart m s b =
-    made_followed m DeclarationsPart DeclarationPart (TokenPart (a_sign mark.Semicolon) ∷ DeclarationsPart ∷ []) s declaration_rules
+    made_followed m DeclarationsPart DeclarationPart (TokenPart (a_sign Semicolon) ∷ DeclarationsPart ∷ []) s declaration_rules
     (λ ks (d, r, (p, c), (r1, p1, (ds, r2, (q, e), h))). (d ∷ ds, r2, ((r1, subst (Declares d ks) p1 p, q), omega (arith, c, e)), h))
-    (declaration_makes m (TokenPart (a_sign mark.Semicolon) ∷ DeclarationsPart ∷ s) b)
+    (declaration_makes m (TokenPart (a_sign Semicolon) ∷ DeclarationsPart ∷ s) b)
 makes DeclarationPart m s b = declaration_makes m s b
 makes ProcessPart m s b = process_makes m s
 makes RolePart m s b = (λ ks (r, e, h). ⊎_elim (λ p. (role.Input, r, p, h)) (λ p. (role.Output, r, p, h)) e, tt)
@@ -375,19 +374,19 @@ makes (OperatorsPart l) m s b = operators_make l m s
 makes InstancePart m s b = (λ ks (n, r, p, (r1, p1, (xs, r2, q, h))). (instance n xs, r2, (r1, p ∙ ap (λ x. name n ∷ x) p1, q), h), tt)
 makes ArgumentsPart m s b =
     made (λ ks (r, p, h). ([], r, p, h))
-    (made_followed m ArgumentsPart ArgumentPart (ArgumentsTail ∷ TokenPart (a_sign mark.Close) ∷ []) s argument_rules
-    (λ ks (a, r, p, (xs, r1, q, (r2, p2, h))). (a ∷ xs, r2, (r, p, subst (Further (StandsFirst (sign mark.Comma)) Argues xs r) p2 q), h))
-    (argument_makes m (ArgumentsTail ∷ TokenPart (a_sign mark.Close) ∷ s)))
+    (made_followed m ArgumentsPart ArgumentPart (ArgumentsTail ∷ TokenPart (a_sign Close) ∷ []) s argument_rules
+    (λ ks (a, r, p, (xs, r1, q, (r2, p2, h))). (a ∷ xs, r2, (r, p, subst (Further (StandsFirst (sign Comma)) Argues xs r) p2 q), h))
+    (argument_makes m (ArgumentsTail ∷ TokenPart (a_sign Close) ∷ s)))
 makes ArgumentPart m s b = argument_makes m s
-makes NamesTail m s b = (λ ks (r, p, (n, r1, p1, (ns, r2, p2, h))). (n ∷ ns, r2, p ∙ ap (λ x. sign mark.Comma ∷ x) (p1 ∙ ap (λ x. name n ∷ x) p2), h), tt)
+makes NamesTail m s b = (λ ks (r, p, (n, r1, p1, (ns, r2, p2, h))). (n ∷ ns, r2, p ∙ ap (λ x. sign Comma ∷ x) (p1 ∙ ap (λ x. name n ∷ x) p2), h), tt)
 makes StatementsTail m s b =
     made (λ ks (r, p, (t, r1, (p1, f, c), (ss, r2, (p2, g, d), h))).
-    (statement t ss, r2, (p ∙ ap (λ x. sign mark.Semicolon ∷ x) (p1 ∙ ap (statement_words t) p2), (f, g), omega (arith, c, d)), h)) tt
+    (statement t ss, r2, (p ∙ ap (λ x. sign Semicolon ∷ x) (p1 ∙ ap (statement_words t) p2), (f, g), omega (arith, c, d)), h)) tt
 makes GroupsTail m s b =
-    made (λ ks (r, p, (g, r1, (a, p1), (gs, r2, (c, p2), h))). (g ∷ gs, r2, ((a, c), p ∙ ap (λ x. sign mark.Semicolon ∷ x) (p1 ∙ ap (group_words g) p2)), h)) tt
+    made (λ ks (r, p, (g, r1, (a, p1), (gs, r2, (c, p2), h))). (g ∷ gs, r2, ((a, c), p ∙ ap (λ x. sign Semicolon ∷ x) (p1 ∙ ap (group_words g) p2)), h)) tt
 makes ArgumentsTail m s b = (λ ks (r, p, (a, r1, p1, (xs, r2, q, h))). (a ∷ xs, r2, (r, r1, p, p1, q), h), tt)
 makes InstancesTail m s b = (λ ks (r, p, (i, r1, p1, (is, r2, q, h))). (i ∷ is, r2, (r, r1, p, p1, q), h), tt)
-makes ElseTail m s b = (λ ks (r, p, (t, r1, (p1, f, c), h)). inr (t, r1, (p ∙ ap (λ x. word keyword.Else ∷ x) p1, f, c), h), tt)
+makes ElseTail m s b = (λ ks (r, p, (t, r1, (p1, f, c), h)). inr (t, r1, (p ∙ ap (λ x. word Else ∷ x) p1, f, c), h), tt)
 makes LastTail m s b = (λ ks (r, p, h). (r, inl p, h), tt)
 makes (TokenPart t) m s b = (λ ks h. h, tt)
 makes LevelPart m s b = tt

@@ -1,12 +1,10 @@
 -- A list that a tree spells is read whole: expressions.
-use Rattle.kahn_syntax.proofs.Common.{◌≡◌, ◌≢◌, ℕ, zero, suc, ◌+◌, ◌*◌, ◌≤◌, ◌<◌, List, ◌∷◌, true, false, refl, sym, ap, ◌∙◌, subst, arith, Terminal, word, sign, name, ExpressionTree, number, truth, variable, wait, negation, denial, bracket, level, conditional, OperandTrees, no_operand, operand, expression_words, operands_words, expression_nesting, operands_nesting, Formed, FormedOperands, Fits, Rung, whole, ors, ands, denials, relations, sums, terms, factors, at, tighter, Part, ExpressionPart, OperatorsPart, TokenPart, LevelPart, levels, fate, a_sign, a_name, a_word}
-use Rattle.kahn_syntax.specs.declared.lexeme.Keyword.TheVariants as keyword
-use Rattle.kahn_syntax.specs.declared.lexeme.Sign.TheVariants as mark
+use Rattle.kahn_syntax.proofs.Common.{◌≡◌, ◌≢◌, ℕ, zero, suc, ◌+◌, ◌*◌, ◌≤◌, ◌<◌, List, ◌∷◌, true, false, refl, sym, ap, ◌∙◌, subst, arith, Terminal, word, sign, name, ExpressionTree, number, truth, variable, wait, negation, denial, bracket, level, conditional, OperandTrees, no_operand, operand, expression_words, operands_words, expression_nesting, operands_nesting, Formed, FormedOperands, Fits, Rung, whole, ors, denials, relations, sums, factors, at, tighter, Part, ExpressionPart, OperatorsPart, TokenPart, LevelPart, levels, fate, a_sign, a_name, a_word, Close, Else, False, If, Minus, NotWord, Open, Then, True, Wait}
 use Rattle.kahn_syntax.specs.Terminals as terminal
 use Rattle.kahn_syntax.proofs.Levels.{joined_words}
 use Rattle.kahn_syntax.proofs.Unique.{Ends, ends_more, ends_operand, size, sizes, above, stop, split, IsNoneOrOne, Whole, is_if, is_tighter, Denial, is_not, is_relation, level_low, no_if, no_not}
 use Rattle.kahn_syntax.proofs.Unique as unique
-use Rattle.kahn_syntax.proofs.Steps.{go, skip_level, take_token, IsChain, IsOther, open_chain, open_whole, open_denial, skip_operators, ends_lacks, take_comparison, take_operator}
+use Rattle.kahn_syntax.proofs.Steps.{go, skip_level, take_token, IsChain, IsOther, open_chain, open_whole, open_denial, skip_operators, take_comparison, take_operator}
 
 -- smaller trees are read whole
 abbrev Known : ℕ → Type 0
@@ -35,7 +33,7 @@ is_chain _ h = h
 
 whole_operands : (k : ℕ) (l : Rung) → Known k → IsOther l → (os : OperandTrees) (m : ℕ) (s : List Part) (r : List Terminal) → 8 * sizes os ≤ k →
     FormedOperands (at l) os → Ends (at l) r → levels s + operands_nesting os ≤ m → fate m (OperatorsPart l ∷ s) (operands_words os r) ≡ fate m s r
-whole_operands k l known c no_operand m s r z f e n = skip_operators l m s r (ends_lacks (at l) r e)
+whole_operands k l known c no_operand m s r z f e n = skip_operators l m s r (is_chain l c) e
 whole_operands k l known c (operand o t os) m s r z f e n =
     let h = facts l (is_chain l c) in
     take_operator l m s o (expression_words t (operands_words os r)) c f.0 (omega (arith, n))
@@ -45,7 +43,7 @@ whole_operands k l known c (operand o t os) m s r z f e n =
 
 whole_comparison : (k : ℕ) → Known k → (os : OperandTrees) (m : ℕ) (s : List Part) (r : List Terminal) → 8 * sizes os ≤ k →
     FormedOperands 4 os → IsNoneOrOne os → Ends 4 r → levels s + operands_nesting os ≤ m → fate m (OperatorsPart relations ∷ s) (operands_words os r) ≡ fate m s r
-whole_comparison k known no_operand m s r z f c e n = skip_operators relations m s r (ends_lacks 4 r e)
+whole_comparison k known no_operand m s r z f c e n = skip_operators relations m s r tt e
 whole_comparison k known (operand o t (operand p u os)) m s r z f c e n = absurd c
 whole_comparison k known (operand o t no_operand) m s r z f c e n =
     take_comparison m s o (expression_words t r) f.0 (omega (arith, n))
@@ -57,10 +55,7 @@ whole_rest k whole known c os m s r z f d e n = absurd c
 whole_rest k denials known c os m s r z f d e n = absurd c
 whole_rest k factors known c os m s r z f d e n = absurd c
 whole_rest k relations known c os m s r z f d e n = whole_comparison k known os m s r z f (d refl) e n
-whole_rest k ors known c os m s r z f d e n = whole_operands k ors known tt os m s r z f e n
-whole_rest k ands known c os m s r z f d e n = whole_operands k ands known tt os m s r z f e n
-whole_rest k sums known c os m s r z f d e n = whole_operands k sums known tt os m s r z f e n
-whole_rest k terms known c os m s r z f d e n = whole_operands k terms known tt os m s r z f e n
+whole_rest k l known c os m s r z f d e n = whole_operands k l known tt os m s r z f e n
 
 whole_chain : (k : ℕ) (l : Rung) → Known k → IsChain l → (t : ExpressionTree) (m : ℕ) (s : List Part) (r : List Terminal) → 8 * size t + above l < k + 1 →
     Fits (at l) t → Ends (stop l) r → levels s + expression_nesting t ≤ m → fate m (ExpressionPart l ∷ s) (expression_words t r) ≡ fate m s r
@@ -78,21 +73,21 @@ whole_chain k l known c t m s r z f e n =
 whole_factor : (k : ℕ) → Known k → (t : ExpressionTree) (m : ℕ) (s : List Part) (r : List Terminal) → 8 * size t + 0 < k + 1 → Fits 7 t → Ends 7 r →
     levels s + expression_nesting t ≤ m → fate m (ExpressionPart factors ∷ s) (expression_words t r) ≡ fate m s r
 whole_factor k known (number z) m s r b f e n = go m (ExpressionPart factors ∷ s) s (terminal.number z) r refl (omega (arith, n))
-whole_factor k known (truth true) m s r b f e n = go m (ExpressionPart factors ∷ s) s (word keyword.True) r refl (omega (arith, n))
-whole_factor k known (truth false) m s r b f e n = go m (ExpressionPart factors ∷ s) s (word keyword.False) r refl (omega (arith, n))
+whole_factor k known (truth true) m s r b f e n = go m (ExpressionPart factors ∷ s) s (word True) r refl (omega (arith, n))
+whole_factor k known (truth false) m s r b f e n = go m (ExpressionPart factors ∷ s) s (word False) r refl (omega (arith, n))
 whole_factor k known (variable x) m s r b f e n = go m (ExpressionPart factors ∷ s) s (name x) r refl (omega (arith, n))
 whole_factor k known (wait x) m s r b f e n =
-    go m (ExpressionPart factors ∷ s) (TokenPart (a_sign mark.Open) ∷ TokenPart a_name ∷ TokenPart (a_sign mark.Close) ∷ s) (word keyword.Wait) (sign mark.Open ∷ name x ∷ sign mark.Close ∷ r) refl (omega (arith, n))
-    ∙ (take_token (a_sign mark.Open) m (TokenPart a_name ∷ TokenPart (a_sign mark.Close) ∷ s) (sign mark.Open) (name x ∷ sign mark.Close ∷ r) refl (omega (arith, n))
-    ∙ (take_token a_name m (TokenPart (a_sign mark.Close) ∷ s) (name x) (sign mark.Close ∷ r) refl (omega (arith, n))
-    ∙ take_token (a_sign mark.Close) m s (sign mark.Close) r refl (omega (arith, n))))
+    go m (ExpressionPart factors ∷ s) (TokenPart (a_sign Open) ∷ TokenPart a_name ∷ TokenPart (a_sign Close) ∷ s) (word Wait) (sign Open ∷ name x ∷ sign Close ∷ r) refl (omega (arith, n))
+    ∙ (take_token (a_sign Open) m (TokenPart a_name ∷ TokenPart (a_sign Close) ∷ s) (sign Open) (name x ∷ sign Close ∷ r) refl (omega (arith, n))
+    ∙ (take_token a_name m (TokenPart (a_sign Close) ∷ s) (name x) (sign Close ∷ r) refl (omega (arith, n))
+    ∙ take_token (a_sign Close) m s (sign Close) r refl (omega (arith, n))))
 whole_factor k known (negation t) m s r b f e n =
-    go m (ExpressionPart factors ∷ s) (ExpressionPart factors ∷ LevelPart ∷ s) (sign mark.Minus) (expression_words t r) refl (omega (arith, n))
+    go m (ExpressionPart factors ∷ s) (ExpressionPart factors ∷ LevelPart ∷ s) (sign Minus) (expression_words t r) refl (omega (arith, n))
     ∙ (known factors t m (LevelPart ∷ s) r (omega (arith, b)) f.1 e (omega (arith, n)) ∙ skip_level m s r)
 whole_factor k known (bracket t) m s r b f e n =
-    go m (ExpressionPart factors ∷ s) (ExpressionPart whole ∷ TokenPart (a_sign mark.Close) ∷ LevelPart ∷ s) (sign mark.Open) (expression_words t (sign mark.Close ∷ r)) refl (omega (arith, n))
-    ∙ (known whole t m (TokenPart (a_sign mark.Close) ∷ LevelPart ∷ s) (sign mark.Close ∷ r) (omega (arith, b)) (omega arith, f.1) (omega arith) (omega (arith, n))
-    ∙ (take_token (a_sign mark.Close) m (LevelPart ∷ s) (sign mark.Close) r refl (omega (arith, n)) ∙ skip_level m s r))
+    go m (ExpressionPart factors ∷ s) (ExpressionPart whole ∷ TokenPart (a_sign Close) ∷ LevelPart ∷ s) (sign Open) (expression_words t (sign Close ∷ r)) refl (omega (arith, n))
+    ∙ (known whole t m (TokenPart (a_sign Close) ∷ LevelPart ∷ s) (sign Close ∷ r) (omega (arith, b)) (omega arith, f.1) (omega arith) (omega (arith, n))
+    ∙ (take_token (a_sign Close) m (LevelPart ∷ s) (sign Close) r refl (omega (arith, n)) ∙ skip_level m s r))
 whole_factor k known (denial t) m s r b f e n = absurd (omega (arith, f.0))
 whole_factor k known (level t os) m s r b f e n = absurd (level_low t os f)
 whole_factor k known (conditional a c d) m s r b f e n = absurd (omega (arith, f.0))
@@ -107,7 +102,7 @@ whole_denial k known t m s r b f e n = cases (unique.open_denial t f)
     cases (is_not a p fa z) =
         let small : expression_nesting a + 1 ≡ expression_nesting t = ap expression_nesting (sym p) in
         ap (λ x. fate m (ExpressionPart denials ∷ s) (expression_words x r)) p
-        ∙ (go m (ExpressionPart denials ∷ s) (ExpressionPart denials ∷ LevelPart ∷ s) (word keyword.Not) (expression_words a r) refl (omega (arith, n, small))
+        ∙ (go m (ExpressionPart denials ∷ s) (ExpressionPart denials ∷ LevelPart ∷ s) (word NotWord) (expression_words a r) refl (omega (arith, n, small))
         ∙ (known denials a m (LevelPart ∷ s) r (omega (arith, b, z)) fa e (omega (arith, n, small)) ∙ skip_level m s r))
 
 whole_whole : (k : ℕ) → Known k → (t : ExpressionTree) (m : ℕ) (s : List Part) (r : List Terminal) → 8 * size t + 7 < k + 1 → Fits 0 t → Ends 1 r →
@@ -119,25 +114,21 @@ whole_whole k known t m s r b f e n = cases (unique.open_whole t f)
     cases (is_if x y z p fx fy fz small) =
         let nests : expression_nesting (conditional x y z) ≡ expression_nesting t = ap expression_nesting (sym p) in
         ap (λ w. fate m (ExpressionPart whole ∷ s) (expression_words w r)) p
-        ∙ (go m (ExpressionPart whole ∷ s) (ExpressionPart whole ∷ TokenPart (a_word keyword.Then) ∷ ExpressionPart whole ∷ TokenPart (a_word keyword.Else) ∷ ExpressionPart whole ∷ LevelPart ∷ s)
-        (word keyword.If) (expression_words x (word keyword.Then ∷ expression_words y (word keyword.Else ∷ expression_words z r))) refl (omega (arith, n, nests))
-        ∙ (known whole x m (TokenPart (a_word keyword.Then) ∷ ExpressionPart whole ∷ TokenPart (a_word keyword.Else) ∷ ExpressionPart whole ∷ LevelPart ∷ s)
-        (word keyword.Then ∷ expression_words y (word keyword.Else ∷ expression_words z r)) (omega (arith, b, small)) (omega arith, fx) (omega arith) (omega (arith, n, nests))
-        ∙ (take_token (a_word keyword.Then) m (ExpressionPart whole ∷ TokenPart (a_word keyword.Else) ∷ ExpressionPart whole ∷ LevelPart ∷ s) (word keyword.Then)
-        (expression_words y (word keyword.Else ∷ expression_words z r)) refl (omega (arith, n, nests))
-        ∙ (known whole y m (TokenPart (a_word keyword.Else) ∷ ExpressionPart whole ∷ LevelPart ∷ s) (word keyword.Else ∷ expression_words z r) (omega (arith, b, small)) (omega arith, fy) (omega arith) (omega (arith, n, nests))
-        ∙ (take_token (a_word keyword.Else) m (ExpressionPart whole ∷ LevelPart ∷ s) (word keyword.Else) (expression_words z r) refl (omega (arith, n, nests))
+        ∙ (go m (ExpressionPart whole ∷ s) (ExpressionPart whole ∷ TokenPart (a_word Then) ∷ ExpressionPart whole ∷ TokenPart (a_word Else) ∷ ExpressionPart whole ∷ LevelPart ∷ s)
+        (word If) (expression_words x (word Then ∷ expression_words y (word Else ∷ expression_words z r))) refl (omega (arith, n, nests))
+        ∙ (known whole x m (TokenPart (a_word Then) ∷ ExpressionPart whole ∷ TokenPart (a_word Else) ∷ ExpressionPart whole ∷ LevelPart ∷ s)
+        (word Then ∷ expression_words y (word Else ∷ expression_words z r)) (omega (arith, b, small)) (omega arith, fx) (omega arith) (omega (arith, n, nests))
+        ∙ (take_token (a_word Then) m (ExpressionPart whole ∷ TokenPart (a_word Else) ∷ ExpressionPart whole ∷ LevelPart ∷ s) (word Then)
+        (expression_words y (word Else ∷ expression_words z r)) refl (omega (arith, n, nests))
+        ∙ (known whole y m (TokenPart (a_word Else) ∷ ExpressionPart whole ∷ LevelPart ∷ s) (word Else ∷ expression_words z r) (omega (arith, b, small)) (omega arith, fy) (omega arith) (omega (arith, n, nests))
+        ∙ (take_token (a_word Else) m (ExpressionPart whole ∷ LevelPart ∷ s) (word Else) (expression_words z r) refl (omega (arith, n, nests))
         ∙ (known whole z m (LevelPart ∷ s) r (omega (arith, b, small)) (omega arith, fz) e (omega (arith, n, nests)) ∙ skip_level m s r))))))
 
 further : (k : ℕ) → Known k → Known (k + 1)
 further k known whole t m s r b f e n = whole_whole k known t m s r b f e n
-further k known ors t m s r b f e n = whole_chain k ors known tt t m s r b f e n
-further k known ands t m s r b f e n = whole_chain k ands known tt t m s r b f e n
 further k known denials t m s r b f e n = whole_denial k known t m s r b f e n
-further k known relations t m s r b f e n = whole_chain k relations known tt t m s r b f e n
-further k known sums t m s r b f e n = whole_chain k sums known tt t m s r b f e n
-further k known terms t m s r b f e n = whole_chain k terms known tt t m s r b f e n
 further k known factors t m s r b f e n = whole_factor k known t m s r b f e n
+further k known l t m s r b f e n = whole_chain k l known tt t m s r b f e n
 
 known_all : (k : ℕ) → Known k
 known_all zero = λ l t m s r b f e n. absurd (omega (arith, b))

@@ -1,5 +1,5 @@
 -- Inner. What may still come, as a stack of the parts that are open, and what one terminal does to it.
-use Rattle.std.specs.Prelude.{ℕ, List, [], ◌∷◌, ◌++◌, ◌+◌, ◌==◌, length, map, Bool, true, false, cond, nat_le, Option, Some, None, is_some}
+use Rattle.std.specs.Prelude.{ℕ, List, [], ◌∷◌, ◌++◌, ◌+◌, ◌==◌, ◌||◌, length, Bool, true, false, cond, nat_le, Option, Some, None, is_some}
 use Rattle.std.specs.Str.{bytes_eq}
 use Rattle.kahn_syntax.specs.Names.{Keyword, Sign, Class, Operator}
 use Rattle.kahn_syntax.specs.declared.lexeme.Keyword.TheVariants as keyword
@@ -9,7 +9,7 @@ use Rattle.kahn_tree.specs.declared.tree.Operator.TheVariants as operator
 use Rattle.kahn_syntax.specs.Lexemes.{letters_of, bytes_of_sign}
 use Rattle.kahn_syntax.specs.Terminals.{Terminal, word, sign, name, number}
 use Rattle.kahn_syntax.specs.Trees.{rank}
-use Rattle.kahn_syntax.specs.inner.Rungs.{Rung, whole, ors, ands, denials, relations, sums, terms, factors, operator_of}
+use Rattle.kahn_syntax.specs.inner.Rungs.{Rung, whole, ors, ands, denials, relations, sums, terms, factors, operator_of, rank_or}
 
 -- terminals of one use: this keyword, one of these two, this sign, any number, any name, an operator of the level of this one
 pub data Token : Type 0 where
@@ -20,20 +20,13 @@ pub data Token : Type 0 where
   a_name : Token
   an_operator : Operator → Token
 
-abbrev pub has_letters_of : Keyword → Keyword → Bool
-has_letters_of v w = bytes_eq (letters_of v) (letters_of w)
-
-abbrev pub has_rank : ℕ → Option Operator → Bool
-has_rank n None = false
-has_rank n (Some o) = rank o == n
-
 abbrev pub takes : Token → Terminal → Bool
-takes (a_word v) (word w) = has_letters_of v w
-takes (either u v) (word w) = cond (has_letters_of u w) true (has_letters_of v w)
+takes (a_word v) (word w) = bytes_eq (letters_of v) (letters_of w)
+takes (either u v) (word w) = bytes_eq (letters_of u) (letters_of w) || bytes_eq (letters_of v) (letters_of w)
 takes (a_sign s) (sign t) = bytes_eq (bytes_of_sign s) (bytes_of_sign t)
 takes a_number (number z) = true
 takes a_name (name n) = true
-takes (an_operator o) k = has_rank (rank o) (operator_of k)
+takes (an_operator o) k = rank_or (operator_of k) == rank o
 takes _ _ = false
 
 -- the token stands first

@@ -26,9 +26,8 @@ abbrev pub IsAbsent : Class → List Lexeme → Type 0
 IsAbsent wanted input = (t : Token) → class_of t ≡ Some wanted → (text : List ℕ) → leads t (terminals text input) ≡ false
 
 -- Whatever is open below these parts, with so many levels: over what was read of the input, to the rest, the parts become those.
-abbrev pub Moves : List ℕ → ℕ → List Part → List Part → List Lexeme → List Lexeme → Type 0
-Moves text depth parts those input rest =
-    (s : List Part) → levels s ≡ depth → fate 64 (parts ++ s) (terminals text input) ≡ fate 64 (those ++ s) (terminals text rest)
+pub record Moves (text : List ℕ) (depth : ℕ) (parts those : List Part) (input rest : List Lexeme) : Type 0 where
+  pub fates : (s : List Part) → levels s ≡ depth → fate 64 (parts ++ s) (terminals text input) ≡ fate 64 (those ++ s) (terminals text rest)
 
 -- the parts are read
 abbrev pub Reads : List ℕ → ℕ → List Part → List Lexeme → List Lexeme → Type 0

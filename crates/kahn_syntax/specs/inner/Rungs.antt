@@ -1,5 +1,5 @@
 -- Inner. The levels of expressions, and the operators that terminals are.
-use Rattle.std.specs.Prelude.{◌≢◌, ℕ, List, [], ◌∷◌, Option, Some, None}
+use Rattle.std.specs.Prelude.{ℕ, Option, Some, None}
 use Rattle.kahn_syntax.specs.declared.lexeme.Keyword.TheVariants as keyword
 use Rattle.kahn_syntax.specs.declared.lexeme.Sign.TheVariants as mark
 use Rattle.kahn_syntax.specs.Names.{Operator, Level, Or, And, Sum, Term}
@@ -66,8 +66,3 @@ rung_of Or = ors
 rung_of And = ands
 rung_of Sum = sums
 rung_of Term = terms
-
--- the list doesn't go on with an operator of this level
-abbrev pub Lacks : ℕ → List Terminal → Type 0
-Lacks n [] = Unit {0}
-Lacks n (k ∷ r) = rank_or (operator_of k) ≢ n

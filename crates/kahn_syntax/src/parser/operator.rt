@@ -3,8 +3,8 @@
 ghost use Rattle.std.specs.Prelude.{◌≡◌, ◌+◌, List, ℕ, ◌∷◌, false, length, IfSome, IfNone};
 ghost use Rattle.kahn_syntax.specs.declared.lexeme.Keyword.TheVariants as keyword;
 ghost use Rattle.kahn_syntax.specs.Terminals.{word, terminals, AreProper};
-ghost use Rattle.kahn_syntax.specs.inner.Rungs.{Lacks, at, rung_of};
-ghost use Rattle.kahn_syntax.specs.inner.Machine.{leads, a_word};
+ghost use Rattle.kahn_syntax.specs.inner.Rungs.{at, relations, rung_of};
+ghost use Rattle.kahn_syntax.specs.inner.Machine.{leads, a_word, operator_rules, starts};
 ghost use Rattle.kahn_syntax.specs.Trees.{operator_terminal, rank};
 ghost use Rattle.kahn_syntax.specs.Spans.{IsPast};
 
@@ -27,7 +27,7 @@ pub fn next_comparison(input: &[Lexeme]) -> Option<(Operator, &[Lexeme])>
     ensures passed { IfSome result (λ r. IsPast input.now r.1.now) }
     ensures ranked { IfSome result (λ r. rank r.0 ≡ 4) }
     ensures proper { IfSome result (λ r. (text : List ℕ) → AreProper text input.now → AreProper text r.1.now) }
-    ensures lacks { IfNone result ((text : List ℕ) → Lacks 4 (terminals text input.now)) }
+    ensures lacks { IfNone result ((text : List ℕ) → starts (operator_rules relations) (terminals text input.now) ≡ false) }
     ensures shorter { IfSome result (λ r. length input.now ≡ length r.1.now + 1) }
 {
     let (class, rest) = next(input)?;
@@ -49,7 +49,7 @@ pub fn next_operator(input: &[Lexeme], level: Level) -> Option<(Operator, &[Lexe
     ensures passed { IfSome result (λ r. IsPast input.now r.1.now) }
     ensures ranked { IfSome result (λ r. rank r.0 ≡ at (rung_of level)) }
     ensures proper { IfSome result (λ r. (text : List ℕ) → AreProper text input.now → AreProper text r.1.now) }
-    ensures lacks { IfNone result ((text : List ℕ) → Lacks (at (rung_of level)) (terminals text input.now)) }
+    ensures lacks { IfNone result ((text : List ℕ) → starts (operator_rules (rung_of level)) (terminals text input.now) ≡ false) }
     ensures shorter { IfSome result (λ r. length input.now ≡ length r.1.now + 1) }
 {
     let (class, rest) = next(input)?;

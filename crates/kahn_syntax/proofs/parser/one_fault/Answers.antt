@@ -1,4 +1,4 @@
-use Rattle.kahn_syntax.proofs.OneFault.{one_fault}
+use Rattle.kahn_syntax.proofs.Parsing.{one_fault}
 use Rattle.kahn_syntax.proofs.parser.one_fault.Goals as goal
 
 pub returns : goal.returns

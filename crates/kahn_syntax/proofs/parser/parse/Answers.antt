@@ -1,7 +1,5 @@
-use Rattle.kahn_syntax.proofs.Common.{◌≡◌, ◌≤◌, ℕ, List, length, Result, Ok, Err, inr, sym, subst, IfOk, IfErr-weaker, Lexeme, SyntaxFault, terminals, AreProper, ProgramTree, Spells, nesting, IsFault, AreLexemes, IsProgram, IsTextFault, Program, ProgramSpans, program_of}
+use Rattle.kahn_syntax.proofs.Parsing.{AreLexemes, AreProper, Err, IfErr-weaker, IfOk, IsFault, IsProgram, IsTextFault, Lexeme, List, Ok, Program, ProgramSpans, ProgramTree, Result, Spells, SyntaxFault, inr, length, lexed_proper, nesting, program_of, same_lexemes, subst, sym, terminals, ℕ, ◌≡◌, ◌≤◌}
 use Rattle.kahn_syntax.specs.declared.fault.SyntaxFault.TheVariants.{NoMemory}
-use Rattle.kahn_syntax.proofs.OneList.{same_lexemes}
-use Rattle.kahn_syntax.proofs.Proper.{lexed_proper}
 use Rattle.kahn_syntax.proofs.parser.parse.Goals as goal
 
 pub parse_lexemes-requires : goal.parse_lexemes-requires

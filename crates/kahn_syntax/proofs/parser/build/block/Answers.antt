@@ -1,6 +1,6 @@
+use Rattle.kahn_syntax.proofs.Parsing.{statements_made, statements_row_spans}
 use Rattle.std.proofs.Common.{ap}
 use Rattle.kahn_syntax.specs.Trees as tree
-use Rattle.kahn_syntax.proofs.Rows.{statements_made, statements_row_spans}
 use Rattle.kahn_syntax.proofs.parser.build.block.Goals as goal
 
 pub returns-clause-built : goal.returns-clause-built

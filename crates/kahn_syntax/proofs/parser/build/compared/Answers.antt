@@ -1,5 +1,4 @@
-use Rattle.kahn_syntax.proofs.Common.{refl, sym, subst, ap, ◌∙◌, ◌++◌, ◌∷◌, [], level, expression_of, operands_of, OperandsSpan}
-use Rattle.kahn_syntax.proofs.Rows.{operands_made, operands_row_spans}
+use Rattle.kahn_syntax.proofs.Parsing.{OperandsSpan, ap, expression_of, level, operands_made, operands_of, operands_row_spans, refl, subst, sym, [], ◌++◌, ◌∙◌, ◌∷◌}
 use Rattle.kahn_syntax.proofs.parser.build.compared.Goals as goal
 
 pub returns-clause-built : goal.returns-clause-built

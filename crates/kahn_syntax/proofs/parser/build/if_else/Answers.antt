@@ -1,4 +1,4 @@
-use Rattle.kahn_syntax.proofs.Common.{sym, subst, ExpressionSpans}
+use Rattle.kahn_syntax.proofs.Parsing.{ExpressionSpans, subst, sym}
 use Rattle.kahn_syntax.proofs.parser.build.if_else.Goals as goal
 
 pub returns-clause-spans : goal.returns-clause-spans

@@ -1,4 +1,4 @@
-use Rattle.kahn_syntax.proofs.Common.{refl, sym, subst, ExpressionSpans}
+use Rattle.kahn_syntax.proofs.Parsing.{ExpressionSpans, refl, subst, sym}
 use Rattle.kahn_syntax.proofs.parser.build.if_then.Goals as goal
 
 pub returns-clause-spans : goal.returns-clause-spans

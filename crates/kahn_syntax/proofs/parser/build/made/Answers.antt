@@ -1,4 +1,4 @@
-use Rattle.kahn_syntax.proofs.Common.{refl, sym, subst, ap, Covers}
+use Rattle.kahn_syntax.proofs.Parsing.{Covers, ap, refl, subst, sym}
 use Rattle.kahn_syntax.proofs.parser.build.made.Goals as goal
 
 pub returns : goal.returns

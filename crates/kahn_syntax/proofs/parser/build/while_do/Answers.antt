@@ -1,4 +1,4 @@
-use Rattle.kahn_syntax.proofs.Common.{sym, subst, ExpressionSpans}
+use Rattle.kahn_syntax.proofs.Parsing.{ExpressionSpans, subst, sym}
 use Rattle.kahn_syntax.proofs.parser.build.while_do.Goals as goal
 
 pub returns-clause-spans : goal.returns-clause-spans

@@ -1,4 +1,4 @@
-use Rattle.kahn_syntax.proofs.Lists.{next_made, next_passed, next_unsigned, next_proper}
+use Rattle.kahn_syntax.proofs.Parsing.{next_made, next_passed, next_proper, next_unsigned}
 use Rattle.kahn_syntax.proofs.parser.cursor.next.Goals as goal
 
 pub returns-in-len1-up-clause-first : goal.returns-in-len1-up-clause-first

@@ -1,5 +1,5 @@
+use Rattle.kahn_syntax.proofs.Parsing.{first_of}
 use Rattle.std.proofs.Common.{rules, ◌≡◌}
-use Rattle.kahn_syntax.proofs.Lists.{first_of}
 use Rattle.kahn_syntax.proofs.parser.cursor.past.Goals as goal
 
 pub returns-in-Some-clause-first : goal.returns-in-Some-clause-first

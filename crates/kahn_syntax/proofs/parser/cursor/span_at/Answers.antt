@@ -1,4 +1,4 @@
-use Rattle.kahn_syntax.proofs.Common.{◌+◌, ◌-◌, ◌<◌, ◌++◌, length, take, drop, get_or, refl, sym, ap, ◌∙◌, arith, length-drop, take-append-drop, drop_more}
+use Rattle.kahn_syntax.proofs.Parsing.{ap, arith, drop, drop_more, get_or, length, length-drop, refl, sym, take, take-append-drop, ◌++◌, ◌+◌, ◌-◌, ◌<◌, ◌∙◌}
 use Rattle.kahn_syntax.proofs.parser.cursor.span_at.Goals as goal
 
 pub returns : goal.returns

@@ -1,4 +1,4 @@
-use Rattle.kahn_syntax.proofs.Common.{◌≡◌, ◌++◌, map, parameter_of}
+use Rattle.kahn_syntax.proofs.Parsing.{map, parameter_of, ◌++◌, ◌≡◌}
 use Rattle.kahn_syntax.proofs.parser.declaration.add_parameters.Given as goal
 
 abbrev pub invariant-loop-name : goal.invariant-loop-name

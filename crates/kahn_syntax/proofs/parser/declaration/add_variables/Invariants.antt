@@ -1,4 +1,4 @@
-use Rattle.kahn_syntax.proofs.Common.{◌≡◌, ◌++◌, map, variable_of}
+use Rattle.kahn_syntax.proofs.Parsing.{map, variable_of, ◌++◌, ◌≡◌}
 use Rattle.kahn_syntax.proofs.parser.declaration.add_variables.Given as goal
 
 abbrev pub invariant-loop-name : goal.invariant-loop-name

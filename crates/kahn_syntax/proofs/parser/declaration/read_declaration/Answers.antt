@@ -1,24 +1,20 @@
-use Rattle.kahn_syntax.proofs.Common.{refl, [], ◌∷◌, arith, err_from_is_err_and, word, NamesTail, DeclarationPart, ProcessPart, RolePart, TokenPart, kind_terminal, a_word, a_name}
-use Rattle.kahn_syntax.specs.declared.lexeme.Keyword.TheVariants as keyword
-use Rattle.kahn_syntax.specs.declared.lexeme.Class.TheVariants as class
-use Rattle.kahn_syntax.proofs.Moves.{kind_moves, opens_process, then, then_stops, call, call_stops, call_two, call_two_stops, expected, unexpected}
-use Rattle.kahn_syntax.proofs.Spanning as S
+use Rattle.kahn_syntax.proofs.Parsing.{Channel, DeclarationPart, NamesTail, ProcessPart, RolePart, TokenPart, Word, a_name, a_word, arith, call, call_stops, err_from_is_err_and, expected, kind_moves, kind_terminal, one_lexeme, opens_process, refl, then, then_stops, unexpected, word, [], ◌∷◌}
 use Rattle.kahn_syntax.proofs.parser.declaration.read_declaration.Goals as goal
 
 pub returns-in_err-rest-in-Some : goal.returns-in_err-rest-in-Some
 returns-in_err-rest-in-Some c =
-    let p = err_from_is_err_and c.from_residual.result c.from_residual.ensures.1 in rw (p.1, p.2) (then_stops c.args.text.now 0 (DeclarationPart ∷ []) (TokenPart (a_word keyword.Channel) ∷ TokenPart a_name ∷ NamesTail ∷ []) c.args.input.now c.read_role-role.result.1.now _ (then c.args.text.now 0 (DeclarationPart ∷ []) (RolePart ∷ TokenPart (a_word keyword.Channel) ∷ TokenPart a_name ∷ NamesTail ∷ []) (TokenPart (a_word keyword.Channel) ∷ TokenPart a_name ∷ NamesTail ∷ []) c.args.input.now c.in-Some.rest.now c.read_role-role.result.1.now (kind_moves c.args.text.now 0 DeclarationPart [] (RolePart ∷ TokenPart (a_word keyword.Channel) ∷ TokenPart a_name ∷ NamesTail ∷ []) c.in-Some.kind c.args.input.now c.in-Some.rest.now (λ s l. omega (arith, l)) (λ s. refl) (λ s. refl) (c.in-Some.ensures.first c.args.text.now)) (call c.args.text.now 0 0 (RolePart) (TokenPart (a_word keyword.Channel) ∷ TokenPart a_name ∷ NamesTail ∷ []) c.in-Some.rest.now c.read_role-role.result.1.now (λ s l. omega (arith, l)) (c.read_role-role.ensures.reads c.args.text.now))) (unexpected c.args.text.now 0 (a_word keyword.Channel) (TokenPart a_name ∷ NamesTail ∷ []) (class.Word keyword.Channel) c.read_role-role.result.1.now _ refl c.in_err-rest-in-Some.ensures.stop))
+    let p = err_from_is_err_and c.from_residual.result c.from_residual.ensures.1 in rw (p.1, p.2) (then_stops _ (then (kind_moves c.args.text.now 0 DeclarationPart [] (RolePart ∷ TokenPart (a_word Channel) ∷ TokenPart a_name ∷ NamesTail ∷ []) c.in-Some.kind c.args.input.now c.in-Some.rest.now (λ s l. omega (arith, l)) (λ s. refl) (λ s. refl) (c.in-Some.ensures.first c.args.text.now)) (call c.args.text.now 0 0 (RolePart ∷ []) (TokenPart (a_word Channel) ∷ TokenPart a_name ∷ NamesTail ∷ []) c.in-Some.rest.now c.read_role-role.result.1.now (λ s l. omega (arith, l)) (c.read_role-role.ensures.reads c.args.text.now))) (unexpected c.args.text.now 0 (a_word Channel) (TokenPart a_name ∷ NamesTail ∷ []) (Word Channel) c.read_role-role.result.1.now _ refl c.in_err-rest-in-Some.ensures.stop))
 
 pub read_names-requires : goal.read_names-requires
 read_names-requires c = record { proper = c.in_ok-rest-in-Some.ensures.proper c.args.text.now (c.read_role-role.ensures.proper c.args.text.now (c.in-Some.ensures.proper c.args.text.now c.requires.proper)) }
 
 pub returns-in_err-names-in-Some : goal.returns-in_err-names-in-Some
 returns-in_err-names-in-Some c =
-    let p = err_from_is_err_and c.from_residual-in_err-names-in-Some.result c.from_residual-in_err-names-in-Some.ensures.1 in rw (p.1, p.2) (then_stops c.args.text.now 0 (DeclarationPart ∷ []) (TokenPart a_name ∷ NamesTail ∷ []) c.args.input.now c.in_ok-rest-in-Some.rest.now _ (then c.args.text.now 0 (DeclarationPart ∷ []) (TokenPart (a_word keyword.Channel) ∷ TokenPart a_name ∷ NamesTail ∷ []) (TokenPart a_name ∷ NamesTail ∷ []) c.args.input.now c.read_role-role.result.1.now c.in_ok-rest-in-Some.rest.now (then c.args.text.now 0 (DeclarationPart ∷ []) (RolePart ∷ TokenPart (a_word keyword.Channel) ∷ TokenPart a_name ∷ NamesTail ∷ []) (TokenPart (a_word keyword.Channel) ∷ TokenPart a_name ∷ NamesTail ∷ []) c.args.input.now c.in-Some.rest.now c.read_role-role.result.1.now (kind_moves c.args.text.now 0 DeclarationPart [] (RolePart ∷ TokenPart (a_word keyword.Channel) ∷ TokenPart a_name ∷ NamesTail ∷ []) c.in-Some.kind c.args.input.now c.in-Some.rest.now (λ s l. omega (arith, l)) (λ s. refl) (λ s. refl) (c.in-Some.ensures.first c.args.text.now)) (call c.args.text.now 0 0 (RolePart) (TokenPart (a_word keyword.Channel) ∷ TokenPart a_name ∷ NamesTail ∷ []) c.in-Some.rest.now c.read_role-role.result.1.now (λ s l. omega (arith, l)) (c.read_role-role.ensures.reads c.args.text.now))) (expected c.args.text.now 0 (a_word keyword.Channel) (TokenPart a_name ∷ NamesTail ∷ []) (class.Word keyword.Channel) c.read_role-role.result.1.now c.in_ok-rest-in-Some.rest.now (λ s l. omega (arith, l)) refl c.in_ok-rest-in-Some.ensures.first)) (call_two_stops c.args.text.now 0 0 (TokenPart a_name) NamesTail ([]) c.in_ok-rest-in-Some.rest.now _ (λ s l. omega (arith, l)) c.in_err-names-in-Some.ensures))
+    let p = err_from_is_err_and c.from_residual-in_err-names-in-Some.result c.from_residual-in_err-names-in-Some.ensures.1 in rw (p.1, p.2) (then_stops _ (then (then (kind_moves c.args.text.now 0 DeclarationPart [] (RolePart ∷ TokenPart (a_word Channel) ∷ TokenPart a_name ∷ NamesTail ∷ []) c.in-Some.kind c.args.input.now c.in-Some.rest.now (λ s l. omega (arith, l)) (λ s. refl) (λ s. refl) (c.in-Some.ensures.first c.args.text.now)) (call c.args.text.now 0 0 (RolePart ∷ []) (TokenPart (a_word Channel) ∷ TokenPart a_name ∷ NamesTail ∷ []) c.in-Some.rest.now c.read_role-role.result.1.now (λ s l. omega (arith, l)) (c.read_role-role.ensures.reads c.args.text.now))) (expected c.args.text.now 0 (a_word Channel) (TokenPart a_name ∷ NamesTail ∷ []) (Word Channel) c.read_role-role.result.1.now c.in_ok-rest-in-Some.rest.now (λ s l. omega (arith, l)) refl c.in_ok-rest-in-Some.ensures.first)) (call_stops c.args.text.now 0 0 (TokenPart a_name ∷ NamesTail ∷ []) ([]) c.in_ok-rest-in-Some.rest.now _ (λ s l. omega (arith, l)) c.in_err-names-in-Some.ensures))
 
 pub returns-in_err-process-in-None : goal.returns-in_err-process-in-None
 returns-in_err-process-in-None c =
-    let p = err_from_is_err_and c.from_residual-in_err-process-in-None.result c.from_residual-in_err-process-in-None.ensures.1 in rw (p.1, p.2) (then_stops c.args.text.now 0 (DeclarationPart ∷ []) (ProcessPart ∷ []) c.args.input.now c.args.input.now _ (opens_process c.args.text.now [] c.args.input.now (c.in-None.ensures.leads c.args.text.now)) (call_stops c.args.text.now 0 0 (ProcessPart) ([]) c.args.input.now _ (λ s l. omega (arith, l)) c.in_err-process-in-None.ensures))
+    let p = err_from_is_err_and c.from_residual-in_err-process-in-None.result c.from_residual-in_err-process-in-None.ensures.1 in rw (p.1, p.2) (then_stops _ (opens_process c.args.text.now [] c.args.input.now (c.in-None.ensures.leads c.args.text.now)) (call_stops c.args.text.now 0 0 (ProcessPart ∷ []) ([]) c.args.input.now _ (λ s l. omega (arith, l)) c.in_err-process-in-None.ensures))
 
 pub returns-in_ok-names-in-Some : goal.returns-in_ok-names-in-Some
 returns-in_ok-names-in-Some c =
@@ -29,15 +25,15 @@ returns-in_ok-names-in-Some c =
           c.in-Some.rest.now,
           c.read_role-role.result.1.now,
           c.in_ok-rest-in-Some.rest.now,
-          (S.takes T (kind_terminal c.in-Some.kind) c.args.input.now c.in-Some.rest.now c.in-Some.ensures.passed (c.in-Some.ensures.first T)),
+          (one_lexeme T (kind_terminal c.in-Some.kind) c.args.input.now c.in-Some.rest.now c.in-Some.ensures.passed (c.in-Some.ensures.first T)),
           c.read_role-role.ensures.spans T,
-          (S.takes T (word keyword.Channel) c.read_role-role.result.1.now c.in_ok-rest-in-Some.rest.now c.in_ok-rest-in-Some.ensures.passed (c.in_ok-rest-in-Some.ensures.first.1 T)),
+          (one_lexeme T (word Channel) c.read_role-role.result.1.now c.in_ok-rest-in-Some.rest.now c.in_ok-rest-in-Some.ensures.passed (c.in_ok-rest-in-Some.ensures.first.1 T)),
           c.in_ok-names-in-Some.ensures.spans,
         ),
       );
       shorter = omega (arith, c.in-Some.ensures.shorter, c.read_role-role.ensures.shorter, c.in_ok-rest-in-Some.ensures.shorter, c.in_ok-names-in-Some.ensures.shorter);
       proper = c.in_ok-names-in-Some.ensures.proper;
-      reads = (then c.args.text.now 0 (DeclarationPart ∷ []) (TokenPart a_name ∷ NamesTail ∷ []) ([]) c.args.input.now c.in_ok-rest-in-Some.rest.now c.in_ok-names-in-Some.rest.now (then c.args.text.now 0 (DeclarationPart ∷ []) (TokenPart (a_word keyword.Channel) ∷ TokenPart a_name ∷ NamesTail ∷ []) (TokenPart a_name ∷ NamesTail ∷ []) c.args.input.now c.read_role-role.result.1.now c.in_ok-rest-in-Some.rest.now (then c.args.text.now 0 (DeclarationPart ∷ []) (RolePart ∷ TokenPart (a_word keyword.Channel) ∷ TokenPart a_name ∷ NamesTail ∷ []) (TokenPart (a_word keyword.Channel) ∷ TokenPart a_name ∷ NamesTail ∷ []) c.args.input.now c.in-Some.rest.now c.read_role-role.result.1.now (kind_moves c.args.text.now 0 DeclarationPart [] (RolePart ∷ TokenPart (a_word keyword.Channel) ∷ TokenPart a_name ∷ NamesTail ∷ []) c.in-Some.kind c.args.input.now c.in-Some.rest.now (λ s l. omega (arith, l)) (λ s. refl) (λ s. refl) (c.in-Some.ensures.first c.args.text.now)) (call c.args.text.now 0 0 (RolePart) (TokenPart (a_word keyword.Channel) ∷ TokenPart a_name ∷ NamesTail ∷ []) c.in-Some.rest.now c.read_role-role.result.1.now (λ s l. omega (arith, l)) (c.read_role-role.ensures.reads c.args.text.now))) (expected c.args.text.now 0 (a_word keyword.Channel) (TokenPart a_name ∷ NamesTail ∷ []) (class.Word keyword.Channel) c.read_role-role.result.1.now c.in_ok-rest-in-Some.rest.now (λ s l. omega (arith, l)) refl c.in_ok-rest-in-Some.ensures.first)) (call_two c.args.text.now 0 0 (TokenPart a_name) NamesTail ([]) c.in_ok-rest-in-Some.rest.now c.in_ok-names-in-Some.rest.now (λ s l. omega (arith, l)) c.in_ok-names-in-Some.ensures.reads));
+      reads = (then (then (then (kind_moves c.args.text.now 0 DeclarationPart [] (RolePart ∷ TokenPart (a_word Channel) ∷ TokenPart a_name ∷ NamesTail ∷ []) c.in-Some.kind c.args.input.now c.in-Some.rest.now (λ s l. omega (arith, l)) (λ s. refl) (λ s. refl) (c.in-Some.ensures.first c.args.text.now)) (call c.args.text.now 0 0 (RolePart ∷ []) (TokenPart (a_word Channel) ∷ TokenPart a_name ∷ NamesTail ∷ []) c.in-Some.rest.now c.read_role-role.result.1.now (λ s l. omega (arith, l)) (c.read_role-role.ensures.reads c.args.text.now))) (expected c.args.text.now 0 (a_word Channel) (TokenPart a_name ∷ NamesTail ∷ []) (Word Channel) c.read_role-role.result.1.now c.in_ok-rest-in-Some.rest.now (λ s l. omega (arith, l)) refl c.in_ok-rest-in-Some.ensures.first)) (call c.args.text.now 0 0 (TokenPart a_name ∷ NamesTail ∷ []) ([]) c.in_ok-rest-in-Some.rest.now c.in_ok-names-in-Some.rest.now (λ s l. omega (arith, l)) c.in_ok-names-in-Some.ensures.reads));
     }
 
 pub returns-in_ok-process-in-None : goal.returns-in_ok-process-in-None
@@ -46,5 +42,5 @@ returns-in_ok-process-in-None c =
       spans = c.in_ok-process-in-None.ensures.spans;
       shorter = c.in_ok-process-in-None.ensures.shorter;
       proper = c.in_ok-process-in-None.ensures.proper;
-      reads = (then c.args.text.now 0 (DeclarationPart ∷ []) (ProcessPart ∷ []) ([]) c.args.input.now c.args.input.now c.in_ok-process-in-None.rest.now (opens_process c.args.text.now [] c.args.input.now (c.in-None.ensures.leads c.args.text.now)) (call c.args.text.now 0 0 (ProcessPart) ([]) c.args.input.now c.in_ok-process-in-None.rest.now (λ s l. omega (arith, l)) c.in_ok-process-in-None.ensures.reads));
+      reads = (then (opens_process c.args.text.now [] c.args.input.now (c.in-None.ensures.leads c.args.text.now)) (call c.args.text.now 0 0 (ProcessPart ∷ []) ([]) c.args.input.now c.in_ok-process-in-None.rest.now (λ s l. omega (arith, l)) c.in_ok-process-in-None.ensures.reads));
     }

@@ -1,29 +1,24 @@
-use Rattle.kahn_syntax.proofs.Common.{declaration_rules, starts, rules, true, ◌≡◌, false, refl, [], ◌∷◌, arith, map, sym, subst, err_from_is_err_and, sign, terminals, DeclarationsPart, DeclarationPart, TokenPart, AreSound, declaration_of, a_sign}
-use Rattle.kahn_syntax.specs.declared.lexeme.Sign.TheVariants as mark
-use Rattle.kahn_syntax.specs.declared.lexeme.Class.TheVariants as class
-use Rattle.kahn_syntax.proofs.Moves.{opens_declarations, declarations_end, then, then_stops, call, call_stops, expected, unexpected}
-use Rattle.kahn_syntax.proofs.Spelled.{sound_more}
-use Rattle.kahn_syntax.proofs.Spanning as S
+use Rattle.kahn_syntax.proofs.Parsing.{DeclarationsSpan, AreSound, DeclarationPart, DeclarationsPart, Semicolon, SignClass, TokenPart, a_sign, arith, call, call_stops, declaration_of, declaration_rules, declarations_end, declarations_next, err_from_is_err_and, expected, false, map, one_lexeme, opens_declarations, refl, rules, sign, sound_more, starts, subst, sym, terminals, then, then_stops, true, unexpected, [], ◌∷◌, ◌≡◌}
 use Rattle.kahn_syntax.proofs.parser.declaration.read_declarations.Goals as goal
 
 pub returns-in_err-declaration : goal.returns-in_err-declaration
 returns-in_err-declaration c =
-    let a : starts declaration_rules (terminals c.args.text.now c.declarations.rest.now) ≡ true = search rules in let p = err_from_is_err_and c.from_residual.result c.from_residual.ensures.1 in rw (p.1, p.2) (then_stops c.args.text.now 0 (DeclarationsPart ∷ []) (DeclarationPart ∷ TokenPart (a_sign mark.Semicolon) ∷ DeclarationsPart ∷ []) c.args.input.now c.declarations.rest.now _ (then c.args.text.now 0 (DeclarationsPart ∷ []) (DeclarationsPart ∷ []) (DeclarationPart ∷ TokenPart (a_sign mark.Semicolon) ∷ DeclarationsPart ∷ []) c.args.input.now c.declarations.rest.now c.declarations.rest.now (c.declarations.invariant.reads) (opens_declarations c.args.text.now [] c.declarations.rest.now a)) (call_stops c.args.text.now 0 0 (DeclarationPart) (TokenPart (a_sign mark.Semicolon) ∷ DeclarationsPart ∷ []) c.declarations.rest.now _ (λ s l. omega (arith, l)) c.in_err-declaration.ensures))
+    let a : starts declaration_rules (terminals c.args.text.now c.declarations.rest.now) ≡ true = search rules in let p = err_from_is_err_and c.from_residual.result c.from_residual.ensures.1 in rw (p.1, p.2) (then_stops _ (then (c.declarations.invariant.reads) (opens_declarations c.args.text.now [] c.declarations.rest.now a)) (call_stops c.args.text.now 0 0 (DeclarationPart ∷ []) (TokenPart (a_sign Semicolon) ∷ DeclarationsPart ∷ []) c.declarations.rest.now _ (λ s l. omega (arith, l)) c.in_err-declaration.ensures))
 
 pub returns-in_err-left : goal.returns-in_err-left
 returns-in_err-left c =
-    let a : starts declaration_rules (terminals c.args.text.now c.declarations.rest.now) ≡ true = search rules in let p = err_from_is_err_and c.from_residual-in_err-left.result c.from_residual-in_err-left.ensures.1 in rw (p.1, p.2) (then_stops c.args.text.now 0 (DeclarationsPart ∷ []) (TokenPart (a_sign mark.Semicolon) ∷ DeclarationsPart ∷ []) c.args.input.now c.in_ok-declaration.after.now _ (then c.args.text.now 0 (DeclarationsPart ∷ []) (DeclarationPart ∷ TokenPart (a_sign mark.Semicolon) ∷ DeclarationsPart ∷ []) (TokenPart (a_sign mark.Semicolon) ∷ DeclarationsPart ∷ []) c.args.input.now c.declarations.rest.now c.in_ok-declaration.after.now (then c.args.text.now 0 (DeclarationsPart ∷ []) (DeclarationsPart ∷ []) (DeclarationPart ∷ TokenPart (a_sign mark.Semicolon) ∷ DeclarationsPart ∷ []) c.args.input.now c.declarations.rest.now c.declarations.rest.now (c.declarations.invariant.reads) (opens_declarations c.args.text.now [] c.declarations.rest.now a)) (call c.args.text.now 0 0 (DeclarationPart) (TokenPart (a_sign mark.Semicolon) ∷ DeclarationsPart ∷ []) c.declarations.rest.now c.in_ok-declaration.after.now (λ s l. omega (arith, l)) c.in_ok-declaration.ensures.reads)) (unexpected c.args.text.now 0 (a_sign mark.Semicolon) (DeclarationsPart ∷ []) (class.Sign mark.Semicolon) c.in_ok-declaration.after.now _ refl c.in_err-left.ensures.stop))
+    let a : starts declaration_rules (terminals c.args.text.now c.declarations.rest.now) ≡ true = search rules in let p = err_from_is_err_and c.from_residual-in_err-left.result c.from_residual-in_err-left.ensures.1 in rw (p.1, p.2) (then_stops _ (then (then (c.declarations.invariant.reads) (opens_declarations c.args.text.now [] c.declarations.rest.now a)) (call c.args.text.now 0 0 (DeclarationPart ∷ []) (TokenPart (a_sign Semicolon) ∷ DeclarationsPart ∷ []) c.declarations.rest.now c.in_ok-declaration.after.now (λ s l. omega (arith, l)) c.in_ok-declaration.ensures.reads)) (unexpected c.args.text.now 0 (a_sign Semicolon) (DeclarationsPart ∷ []) (SignClass Semicolon) c.in_ok-declaration.after.now _ refl c.in_err-left.ensures.stop))
 
 pub declarations-preserved : goal.declarations-preserved
 declarations-preserved c =
     let a : starts declaration_rules (terminals c.args.text.now c.declarations.rest.now) ≡ true = search rules in
     record {
-      spans = (let T = c.args.text.now in S.declarations_next T _ _ _ c.args.input.now c.declarations.rest.now c.in_ok-declaration.after.now c.in_ok-left.left.now c.in_ok-push.ensures.items c.declarations.invariant.spans c.in_ok-declaration.ensures.spans.1
-          (S.takes T (sign mark.Semicolon) c.in_ok-declaration.after.now c.in_ok-left.left.now c.in_ok-left.ensures.passed (c.in_ok-left.ensures.first.1 T)));
+      spans = (let T = c.args.text.now in declarations_next T _ _ _ c.args.input.now c.declarations.rest.now c.in_ok-declaration.after.now c.in_ok-left.left.now c.in_ok-push.ensures.items c.declarations.invariant.spans c.in_ok-declaration.ensures.spans.1
+          (one_lexeme T (sign Semicolon) c.in_ok-declaration.after.now c.in_ok-left.left.now c.in_ok-left.ensures.passed (c.in_ok-left.ensures.first.1 T)));
       sound = subst (λ ds. AreSound (map declaration_of ds)) (sym c.in_ok-push.ensures.items) (sound_more _ c.in_ok-declaration.declaration c.declarations.invariant.sound c.in_ok-declaration.ensures.spans.0);
       shorter = omega (arith, c.in_ok-left.ensures.shorter, c.in_ok-declaration.ensures.shorter, c.declarations.invariant.shorter);
       proper = c.in_ok-left.ensures.proper c.args.text.now c.in_ok-declaration.ensures.proper;
-      reads = (then c.args.text.now 0 (DeclarationsPart ∷ []) (TokenPart (a_sign mark.Semicolon) ∷ DeclarationsPart ∷ []) (DeclarationsPart ∷ []) c.args.input.now c.in_ok-declaration.after.now c.in_ok-left.left.now (then c.args.text.now 0 (DeclarationsPart ∷ []) (DeclarationPart ∷ TokenPart (a_sign mark.Semicolon) ∷ DeclarationsPart ∷ []) (TokenPart (a_sign mark.Semicolon) ∷ DeclarationsPart ∷ []) c.args.input.now c.declarations.rest.now c.in_ok-declaration.after.now (then c.args.text.now 0 (DeclarationsPart ∷ []) (DeclarationsPart ∷ []) (DeclarationPart ∷ TokenPart (a_sign mark.Semicolon) ∷ DeclarationsPart ∷ []) c.args.input.now c.declarations.rest.now c.declarations.rest.now (c.declarations.invariant.reads) (opens_declarations c.args.text.now [] c.declarations.rest.now a)) (call c.args.text.now 0 0 (DeclarationPart) (TokenPart (a_sign mark.Semicolon) ∷ DeclarationsPart ∷ []) c.declarations.rest.now c.in_ok-declaration.after.now (λ s l. omega (arith, l)) c.in_ok-declaration.ensures.reads)) (expected c.args.text.now 0 (a_sign mark.Semicolon) (DeclarationsPart ∷ []) (class.Sign mark.Semicolon) c.in_ok-declaration.after.now c.in_ok-left.left.now (λ s l. omega (arith, l)) refl c.in_ok-left.ensures.first));
+      reads = (then (then (then (c.declarations.invariant.reads) (opens_declarations c.args.text.now [] c.declarations.rest.now a)) (call c.args.text.now 0 0 (DeclarationPart ∷ []) (TokenPart (a_sign Semicolon) ∷ DeclarationsPart ∷ []) c.declarations.rest.now c.in_ok-declaration.after.now (λ s l. omega (arith, l)) c.in_ok-declaration.ensures.reads)) (expected c.args.text.now 0 (a_sign Semicolon) (DeclarationsPart ∷ []) (SignClass Semicolon) c.in_ok-declaration.after.now c.in_ok-left.left.now (λ s l. omega (arith, l)) refl c.in_ok-left.ensures.first));
     }
 
 pub returns : goal.returns
@@ -32,5 +27,15 @@ returns c =
       spans = (c.declarations.invariant.sound, c.declarations.invariant.spans);
       shorter = c.declarations.invariant.shorter;
       proper = c.declarations.invariant.proper;
-      reads = let a : starts declaration_rules (terminals c.args.text.now c.declarations.rest.now) ≡ false = search rules in (then c.args.text.now 0 (DeclarationsPart ∷ []) (DeclarationsPart ∷ []) ([]) c.args.input.now c.declarations.rest.now c.declarations.rest.now (c.declarations.invariant.reads) (declarations_end c.args.text.now [] c.declarations.rest.now a));
+      reads = let a : starts declaration_rules (terminals c.args.text.now c.declarations.rest.now) ≡ false = search rules in (then (c.declarations.invariant.reads) (declarations_end c.args.text.now [] c.declarations.rest.now a));
+    }
+
+pub declarations-init : goal.declarations-init
+declarations-init c =
+    record {
+      sound = subst (λ ds. AreSound (map declaration_of ds)) (sym c.new-declarations.ensures.items) tt;
+      spans = subst (λ ds. DeclarationsSpan c.args.text.now ds c.args.input.now c.args.input.now) (sym c.new-declarations.ensures.items) refl;
+      shorter = omega arith;
+      proper = c.requires.proper;
+      reads = record { fates = λ s l. refl };
     }

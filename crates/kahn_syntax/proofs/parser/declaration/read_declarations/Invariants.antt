@@ -1,4 +1,4 @@
-use Rattle.kahn_syntax.proofs.Common.{◌≤◌, [], ◌∷◌, length, map, AreProper, DeclarationsPart, Moves, AreSound, declaration_of, DeclarationsSpan}
+use Rattle.kahn_syntax.proofs.Parsing.{AreProper, AreSound, DeclarationsPart, DeclarationsSpan, Moves, declaration_of, length, map, [], ◌∷◌, ◌≤◌}
 use Rattle.kahn_syntax.proofs.parser.declaration.read_declarations.Given as goal
 
 abbrev pub invariant-declarations : goal.invariant-declarations

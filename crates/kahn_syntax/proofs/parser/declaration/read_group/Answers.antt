@@ -1,6 +1,4 @@
-use Rattle.kahn_syntax.proofs.Common.{refl, [], ◌∷◌, arith, err_from_is_err_and, NamesTail, GroupPart, TakingPart, TokenPart, kind_terminal, a_name}
-use Rattle.kahn_syntax.proofs.Moves.{kind_moves, no_group, then, then_stops, call, call_two, call_two_stops}
-use Rattle.kahn_syntax.proofs.Spanning as S
+use Rattle.kahn_syntax.proofs.Parsing.{GroupPart, NamesTail, TakingPart, TokenPart, a_name, arith, call, call_stops, err_from_is_err_and, group_spans, kind_moves, kind_terminal, no_group, one_lexeme, refl, then, then_stops, [], ◌∷◌}
 use Rattle.kahn_syntax.proofs.parser.declaration.read_group.Goals as goal
 
 pub returns-in_default : goal.returns-in_default
@@ -12,15 +10,15 @@ read_names-requires c = record { proper = c.read_taking-taking.ensures.proper c.
 
 pub returns-in_err-names : goal.returns-in_err-names
 returns-in_err-names c =
-    let p = err_from_is_err_and c.from_residual.result c.from_residual.ensures.1 in rw (p.1, p.2) (then_stops c.args.text.now 0 (GroupPart ∷ []) (TokenPart a_name ∷ NamesTail ∷ []) c.args.input.now c.read_taking-taking.result.1.now _ (then c.args.text.now 0 (GroupPart ∷ []) (TakingPart ∷ TokenPart a_name ∷ NamesTail ∷ []) (TokenPart a_name ∷ NamesTail ∷ []) c.args.input.now c.in-Some.rest.now c.read_taking-taking.result.1.now (kind_moves c.args.text.now 0 GroupPart [] ((TakingPart ∷ TokenPart a_name ∷ NamesTail ∷ [])) c.in-Some.kind c.args.input.now c.in-Some.rest.now (λ s l. omega (arith, l)) (λ s. refl) (λ s. refl) (c.in-Some.ensures.first c.args.text.now)) (call c.args.text.now 0 0 (TakingPart) (TokenPart a_name ∷ NamesTail ∷ []) c.in-Some.rest.now c.read_taking-taking.result.1.now (λ s l. omega (arith, l)) (c.read_taking-taking.ensures.reads c.args.text.now))) (call_two_stops c.args.text.now 0 0 (TokenPart a_name) NamesTail ([]) c.read_taking-taking.result.1.now _ (λ s l. omega (arith, l)) c.in_err-names.ensures))
+    let p = err_from_is_err_and c.from_residual.result c.from_residual.ensures.1 in rw (p.1, p.2) (then_stops _ (then (kind_moves c.args.text.now 0 GroupPart [] ((TakingPart ∷ TokenPart a_name ∷ NamesTail ∷ [])) c.in-Some.kind c.args.input.now c.in-Some.rest.now (λ s l. omega (arith, l)) (λ s. refl) (λ s. refl) (c.in-Some.ensures.first c.args.text.now)) (call c.args.text.now 0 0 (TakingPart ∷ []) (TokenPart a_name ∷ NamesTail ∷ []) c.in-Some.rest.now c.read_taking-taking.result.1.now (λ s l. omega (arith, l)) (c.read_taking-taking.ensures.reads c.args.text.now))) (call_stops c.args.text.now 0 0 (TokenPart a_name ∷ NamesTail ∷ []) ([]) c.read_taking-taking.result.1.now _ (λ s l. omega (arith, l)) c.in_err-names.ensures))
 
 pub returns : goal.returns
 returns c =
     record {
       spans = let T = c.args.text.now in
-          S.group_spans T _ c.in-Some.kind _ c.args.input.now c.in-Some.rest.now c.read_taking-taking.result.1.now c.in_ok-names.rest.now c.read_taking-taking.ensures.kind
-          (S.takes T (kind_terminal c.in-Some.kind) c.args.input.now c.in-Some.rest.now c.in-Some.ensures.passed (c.in-Some.ensures.first T)) (c.read_taking-taking.ensures.spans T) c.in_ok-names.ensures.spans;
+          group_spans T _ c.in-Some.kind _ c.args.input.now c.in-Some.rest.now c.read_taking-taking.result.1.now c.in_ok-names.rest.now c.read_taking-taking.ensures.kind
+          (one_lexeme T (kind_terminal c.in-Some.kind) c.args.input.now c.in-Some.rest.now c.in-Some.ensures.passed (c.in-Some.ensures.first T)) (c.read_taking-taking.ensures.spans T) c.in_ok-names.ensures.spans;
       shorter = omega (arith, c.in-Some.ensures.shorter, c.read_taking-taking.ensures.shorter, c.in_ok-names.ensures.shorter);
       proper = c.in_ok-names.ensures.proper;
-      reads = (then c.args.text.now 0 (GroupPart ∷ []) (TokenPart a_name ∷ NamesTail ∷ []) ([]) c.args.input.now c.read_taking-taking.result.1.now c.in_ok-names.rest.now (then c.args.text.now 0 (GroupPart ∷ []) (TakingPart ∷ TokenPart a_name ∷ NamesTail ∷ []) (TokenPart a_name ∷ NamesTail ∷ []) c.args.input.now c.in-Some.rest.now c.read_taking-taking.result.1.now (kind_moves c.args.text.now 0 GroupPart [] ((TakingPart ∷ TokenPart a_name ∷ NamesTail ∷ [])) c.in-Some.kind c.args.input.now c.in-Some.rest.now (λ s l. omega (arith, l)) (λ s. refl) (λ s. refl) (c.in-Some.ensures.first c.args.text.now)) (call c.args.text.now 0 0 (TakingPart) (TokenPart a_name ∷ NamesTail ∷ []) c.in-Some.rest.now c.read_taking-taking.result.1.now (λ s l. omega (arith, l)) (c.read_taking-taking.ensures.reads c.args.text.now))) (call_two c.args.text.now 0 0 (TokenPart a_name) NamesTail ([]) c.read_taking-taking.result.1.now c.in_ok-names.rest.now (λ s l. omega (arith, l)) c.in_ok-names.ensures.reads));
+      reads = (then (then (kind_moves c.args.text.now 0 GroupPart [] ((TakingPart ∷ TokenPart a_name ∷ NamesTail ∷ [])) c.in-Some.kind c.args.input.now c.in-Some.rest.now (λ s l. omega (arith, l)) (λ s. refl) (λ s. refl) (c.in-Some.ensures.first c.args.text.now)) (call c.args.text.now 0 0 (TakingPart ∷ []) (TokenPart a_name ∷ NamesTail ∷ []) c.in-Some.rest.now c.read_taking-taking.result.1.now (λ s l. omega (arith, l)) (c.read_taking-taking.ensures.reads c.args.text.now))) (call c.args.text.now 0 0 (TokenPart a_name ∷ NamesTail ∷ []) ([]) c.read_taking-taking.result.1.now c.in_ok-names.rest.now (λ s l. omega (arith, l)) c.in_ok-names.ensures.reads));
     }

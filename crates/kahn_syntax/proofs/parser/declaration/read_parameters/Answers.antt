@@ -1,23 +1,18 @@
-use Rattle.kahn_syntax.proofs.Common.{a_kind, leads, a_sign, rules, true, ◌++◌, ◌≡◌, false, refl, [], ◌∷◌, arith, subst, sym, group, members_of, err_from_is_err_and, sign, terminals, GroupsTail, GroupsPart, GroupPart, parameter_of}
-use Rattle.kahn_syntax.specs.declared.lexeme.Sign.TheVariants as mark
-use Rattle.kahn_syntax.specs.declared.lexeme.Class.TheVariants as class
-use Rattle.kahn_syntax.proofs.Moves.{opens_groups, groups_end, then_stops, call_stops, next_member, last_member}
-use Rattle.kahn_syntax.proofs.Spanning as S
-use Rattle.kahn_syntax.proofs.Spanning.{SomeParametersSpan}
+use Rattle.kahn_syntax.proofs.Parsing.{GroupPart, GroupsPart, GroupsTail, Semicolon, SignClass, SomeParametersSpan, a_kind, a_sign, arith, call_stops, err_from_is_err_and, false, group, groups_end, last_member, leads, members_of, next_member, one_lexeme, opens_groups, parameter_of, parameters_first, parameters_next, refl, rules, sign, some_are_parameters, subst, sym, terminals, then_stops, true, [], ◌++◌, ◌∷◌, ◌≡◌}
 use Rattle.kahn_syntax.proofs.parser.declaration.read_parameters.Goals as goal
 
 pub returns-in_err-group : goal.returns-in_err-group
 returns-in_err-group c =
     let p = err_from_is_err_and c.from_residual.result c.from_residual.ensures.1 in
-    rw (p.1, p.2) (then_stops c.args.text.now 0 (GroupsPart ∷ []) (GroupPart ∷ GroupsTail ∷ []) c.args.input.now c.groups.rest.now _ c.groups.invariant.reads
-    (call_stops c.args.text.now 0 0 GroupPart (GroupsTail ∷ []) c.groups.rest.now _ (λ s l. omega (arith, l)) c.in_err-group.ensures))
+    rw (p.1, p.2) (then_stops _ c.groups.invariant.reads
+    (call_stops c.args.text.now 0 0 (GroupPart ∷ []) (GroupsTail ∷ []) c.groups.rest.now _ (λ s l. omega (arith, l)) c.in_err-group.ensures))
 
 pub groups-init : goal.groups-init
 groups-init c =
     let a : leads a_kind (terminals c.args.text.now c.args.input.now) ≡ true = search rules in
     let e = c.new-parameters.ensures.items in
     record {
-      spans = λ g r p. subst (λ ps. SomeParametersSpan c.args.text.now (ps ++ members_of parameter_of g) c.args.input.now r) (sym e) (S.parameters_first c.args.text.now _ g c.args.input.now r refl p);
+      spans = λ g r p. subst (λ ps. SomeParametersSpan c.args.text.now (ps ++ members_of parameter_of g) c.args.input.now r) (sym e) (parameters_first c.args.text.now _ g c.args.input.now r refl p);
       shorter = omega arith;
       proper = c.requires.proper;
       reads = opens_groups c.args.text.now [] c.args.input.now a;
@@ -32,10 +27,10 @@ groups-preserved c =
     let s = subst (λ ps. SomeParametersSpan T ps i a) (sym c.in_ok-add_parameters.ensures.items) (c.groups.invariant.spans (group g.taking g.names.items) a c.in_ok-group.ensures.spans) in
     let j = c.in-Some.further.now in
     record {
-      spans = λ h r p. S.parameters_next T _ _ h i a j r refl s (S.takes T (sign mark.Semicolon) a j c.in-Some.ensures.passed (c.in-Some.ensures.first.1 T)) p;
+      spans = λ h r p. parameters_next T _ _ h i a j r refl s (one_lexeme T (sign Semicolon) a j c.in-Some.ensures.passed (c.in-Some.ensures.first.1 T)) p;
       shorter = omega (arith, c.in-Some.ensures.shorter, c.in_ok-group.ensures.shorter, c.groups.invariant.shorter);
       proper = c.in-Some.ensures.proper T c.in_ok-group.ensures.proper;
-      reads = next_member T 0 (GroupsPart ∷ []) GroupsTail (a_sign mark.Semicolon) GroupPart [] (class.Sign mark.Semicolon) i o a j (λ s l. omega (arith, l)) (λ s l. l) refl refl c.groups.invariant.reads c.in_ok-group.ensures.reads c.in-Some.ensures.first;
+      reads = next_member T 0 (GroupsPart ∷ []) GroupsTail (a_sign Semicolon) GroupPart [] (SignClass Semicolon) i o a j (λ s l. omega (arith, l)) (λ s l. l) refl refl c.groups.invariant.reads c.in_ok-group.ensures.reads c.in-Some.ensures.first;
     }
 
 pub returns-then-is_none : goal.returns-then-is_none
@@ -55,8 +50,8 @@ returns-in_default c =
     let g = c.in_ok-group.group in
     let s = subst (λ ps. SomeParametersSpan T ps i a) (sym c.in_ok-add_parameters.ensures.items) (c.groups.invariant.spans (group g.taking g.names.items) a c.in_ok-group.ensures.spans) in
     record {
-      spans = S.some_are_parameters T _ i a s;
+      spans = some_are_parameters T _ i a s;
       shorter = omega (arith, c.in_ok-group.ensures.shorter, c.groups.invariant.shorter);
       proper = c.in_ok-group.ensures.proper;
-      reads = last_member T 0 (GroupsPart ∷ []) GroupsTail (a_sign mark.Semicolon) GroupPart [] (class.Sign mark.Semicolon) i o a (λ s l. l) refl refl c.groups.invariant.reads c.in_ok-group.ensures.reads c.in_default.ensures.absent;
+      reads = last_member T 0 (GroupsPart ∷ []) GroupsTail (a_sign Semicolon) GroupPart [] (SignClass Semicolon) i o a (λ s l. l) refl refl c.groups.invariant.reads c.in_ok-group.ensures.reads c.in_default.ensures.absent;
     }

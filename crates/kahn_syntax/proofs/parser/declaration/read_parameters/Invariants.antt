@@ -1,5 +1,4 @@
-use Rattle.kahn_syntax.proofs.Common.{◌≤◌, List, [], ◌∷◌, ◌++◌, length, Name, Taking, Grouped, members_of, Lexeme, GroupSpans, parameter_of, AreProper, GroupsPart, GroupPart, GroupsTail, Moves}
-use Rattle.kahn_syntax.proofs.Spanning.{SomeParametersSpan}
+use Rattle.kahn_syntax.proofs.Parsing.{AreProper, GroupPart, GroupSpans, Grouped, GroupsPart, GroupsTail, Lexeme, List, Moves, Name, SomeParametersSpan, Taking, length, members_of, parameter_of, [], ◌++◌, ◌∷◌, ◌≤◌}
 use Rattle.kahn_syntax.proofs.parser.declaration.read_parameters.Given as goal
 
 abbrev pub invariant-groups : goal.invariant-groups

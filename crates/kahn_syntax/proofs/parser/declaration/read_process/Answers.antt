@@ -1,9 +1,4 @@
-use Rattle.kahn_syntax.proofs.Common.{refl, [], arith, err_from_is_err_and, word, StatementsTail, VariablesPart, StatementPart, a_word}
-use Rattle.kahn_syntax.specs.declared.lexeme.Keyword.TheVariants as keyword
-use Rattle.kahn_syntax.specs.declared.lexeme.Class.TheVariants as class
-use Rattle.kahn_syntax.proofs.Moves.{no_process, then, then_stops, call_stops, call_two_stops, expected, unexpected, no_name}
-use Rattle.kahn_syntax.proofs.Spanning as S
-use Rattle.kahn_syntax.proofs.Stacks as K
+use Rattle.kahn_syntax.proofs.Parsing.{◌∷◌, End, Process, ProcessPart, StatementPart, StatementsTail, VariablesPart, Word, a_name, a_word, arith, call, call_stops, drop, err_from_is_err_and, expected, head_parts, name, no_name, no_process, one, one_lexeme, process_parts, refl, then, then_stops, token, unexpected, word, []}
 use Rattle.kahn_syntax.proofs.parser.declaration.read_process.Goals as goal
 
 pub returns-in_err-rest : goal.returns-in_err-rest
@@ -17,50 +12,50 @@ pub returns-in_err-name : goal.returns-in_err-name
 returns-in_err-name c =
     let p = err_from_is_err_and c.from_residual-in_err-name.result c.from_residual-in_err-name.ensures.1 in
     let T = c.args.text.now in let i = c.args.input.now in
-    rw (p.1, p.2) (then_stops T 0 K.some_process K.process_name i c.in_ok-rest.rest.now _ (K.to_process_name T i c.in_ok-rest.rest.now (c.in_ok-rest.ensures.first.1 T)) (no_name T 0 K.process_open c.in_ok-rest.rest.now _ c.in_err-name.ensures.stop))
+    rw (p.1, p.2) (then_stops _ ((one T 0 ProcessPart [] process_parts (word Process) i c.in_ok-rest.rest.now (λ s l. omega (arith, l)) (λ s. refl) (c.in_ok-rest.ensures.first.1 T))) (no_name T 0 (drop 1 process_parts) c.in_ok-rest.rest.now _ c.in_err-name.ensures.stop))
 
 pub returns-in_err-parameters : goal.returns-in_err-parameters
 returns-in_err-parameters c =
     let p = err_from_is_err_and c.from_residual-in_err-parameters.result c.from_residual-in_err-parameters.ensures.1 in
     let T = c.args.text.now in let i = c.args.input.now in
-    let m = K.to_process_open T i c.in_ok-rest.rest.now c.in_ok-name.rest.now _ (K.to_process_name T i c.in_ok-rest.rest.now (c.in_ok-rest.ensures.first.1 T)) c.in_ok-name.ensures.words in
-    rw (p.1, p.2) (then_stops T 0 K.some_process K.process_open i c.in_ok-name.rest.now _ m (K.head_stops T c.in_ok-name.rest.now _ c.in_err-parameters.ensures))
+    let m = then ((one T 0 ProcessPart [] process_parts (word Process) i c.in_ok-rest.rest.now (λ s l. omega (arith, l)) (λ s. refl) (c.in_ok-rest.ensures.first.1 T))) (token T 0 a_name (drop 1 process_parts) (name _) c.in_ok-rest.rest.now c.in_ok-name.rest.now (λ s l. omega (arith, l)) refl c.in_ok-name.ensures.words) in
+    rw (p.1, p.2) (then_stops _ m ((call_stops T 0 0 head_parts (drop 6 process_parts) c.in_ok-name.rest.now _ (λ s l. l) c.in_err-parameters.ensures)))
 
 pub returns-in_err-variables : goal.returns-in_err-variables
 returns-in_err-variables c =
     let p = err_from_is_err_and c.from_residual-in_err-variables.result c.from_residual-in_err-variables.ensures.1 in
     let T = c.args.text.now in let i = c.args.input.now in
-    let m = K.to_process_open T i c.in_ok-rest.rest.now c.in_ok-name.rest.now _ (K.to_process_name T i c.in_ok-rest.rest.now (c.in_ok-rest.ensures.first.1 T)) c.in_ok-name.ensures.words in
-    let m2 = K.to_process_variables T i c.in_ok-name.rest.now c.in_ok-parameters.rest.now m c.in_ok-parameters.ensures.reads in
-    rw (p.1, p.2) (then_stops T 0 K.some_process K.process_variables i c.in_ok-parameters.rest.now _ m2 (call_stops T 0 0 VariablesPart K.process_statements c.in_ok-parameters.rest.now _ (λ s l. l) c.in_err-variables.ensures))
+    let m = then ((one T 0 ProcessPart [] process_parts (word Process) i c.in_ok-rest.rest.now (λ s l. omega (arith, l)) (λ s. refl) (c.in_ok-rest.ensures.first.1 T))) (token T 0 a_name (drop 1 process_parts) (name _) c.in_ok-rest.rest.now c.in_ok-name.rest.now (λ s l. omega (arith, l)) refl c.in_ok-name.ensures.words) in
+    let m2 = then m (call T 0 0 head_parts (drop 6 process_parts) c.in_ok-name.rest.now c.in_ok-parameters.rest.now (λ s l. l) c.in_ok-parameters.ensures.reads) in
+    rw (p.1, p.2) (then_stops _ m2 (call_stops T 0 0 (VariablesPart ∷ []) (drop 7 process_parts) c.in_ok-parameters.rest.now _ (λ s l. l) c.in_err-variables.ensures))
 
 pub returns-in_err-statements : goal.returns-in_err-statements
 returns-in_err-statements c =
     let p = err_from_is_err_and c.from_residual-in_err-statements.result c.from_residual-in_err-statements.ensures.1 in
     let T = c.args.text.now in let i = c.args.input.now in
-    let m = K.to_process_open T i c.in_ok-rest.rest.now c.in_ok-name.rest.now _ (K.to_process_name T i c.in_ok-rest.rest.now (c.in_ok-rest.ensures.first.1 T)) c.in_ok-name.ensures.words in
-    let m2 = K.to_process_variables T i c.in_ok-name.rest.now c.in_ok-parameters.rest.now m c.in_ok-parameters.ensures.reads in
-    let m3 = K.to_process_statements T i c.in_ok-parameters.rest.now c.in_ok-variables.rest.now m2 c.in_ok-variables.ensures.reads in
-    rw (p.1, p.2) (then_stops T 0 K.some_process K.process_statements i c.in_ok-variables.rest.now _ m3 (call_two_stops T 0 0 StatementPart StatementsTail K.process_end c.in_ok-variables.rest.now _ (λ s l. l) c.in_err-statements.ensures))
+    let m = then ((one T 0 ProcessPart [] process_parts (word Process) i c.in_ok-rest.rest.now (λ s l. omega (arith, l)) (λ s. refl) (c.in_ok-rest.ensures.first.1 T))) (token T 0 a_name (drop 1 process_parts) (name _) c.in_ok-rest.rest.now c.in_ok-name.rest.now (λ s l. omega (arith, l)) refl c.in_ok-name.ensures.words) in
+    let m2 = then m (call T 0 0 head_parts (drop 6 process_parts) c.in_ok-name.rest.now c.in_ok-parameters.rest.now (λ s l. l) c.in_ok-parameters.ensures.reads) in
+    let m3 = then m2 (call T 0 0 (VariablesPart ∷ []) (drop 7 process_parts) c.in_ok-parameters.rest.now c.in_ok-variables.rest.now (λ s l. l) c.in_ok-variables.ensures.reads) in
+    rw (p.1, p.2) (then_stops _ m3 (call_stops T 0 0 (StatementPart ∷ StatementsTail ∷ []) (drop 9 process_parts) c.in_ok-variables.rest.now _ (λ s l. l) c.in_err-statements.ensures))
 
 pub returns-in_err-rest-2 : goal.returns-in_err-rest-2
 returns-in_err-rest-2 c =
     let p = err_from_is_err_and c.from_residual-in_err-rest-2.result c.from_residual-in_err-rest-2.ensures.1 in
     let T = c.args.text.now in let i = c.args.input.now in
-    let m = K.to_process_open T i c.in_ok-rest.rest.now c.in_ok-name.rest.now _ (K.to_process_name T i c.in_ok-rest.rest.now (c.in_ok-rest.ensures.first.1 T)) c.in_ok-name.ensures.words in
-    let m2 = K.to_process_variables T i c.in_ok-name.rest.now c.in_ok-parameters.rest.now m c.in_ok-parameters.ensures.reads in
-    let m3 = K.to_process_statements T i c.in_ok-parameters.rest.now c.in_ok-variables.rest.now m2 c.in_ok-variables.ensures.reads in
-    let m4 = K.to_process_end T i c.in_ok-variables.rest.now c.in_ok-statements.rest.now m3 c.in_ok-statements.ensures.reads in
-    rw (p.1, p.2) (then_stops T 0 K.some_process K.process_end i c.in_ok-statements.rest.now _ m4 (unexpected T 0 (a_word keyword.End) [] (class.Word keyword.End) c.in_ok-statements.rest.now _ refl c.in_err-rest-2.ensures.stop))
+    let m = then ((one T 0 ProcessPart [] process_parts (word Process) i c.in_ok-rest.rest.now (λ s l. omega (arith, l)) (λ s. refl) (c.in_ok-rest.ensures.first.1 T))) (token T 0 a_name (drop 1 process_parts) (name _) c.in_ok-rest.rest.now c.in_ok-name.rest.now (λ s l. omega (arith, l)) refl c.in_ok-name.ensures.words) in
+    let m2 = then m (call T 0 0 head_parts (drop 6 process_parts) c.in_ok-name.rest.now c.in_ok-parameters.rest.now (λ s l. l) c.in_ok-parameters.ensures.reads) in
+    let m3 = then m2 (call T 0 0 (VariablesPart ∷ []) (drop 7 process_parts) c.in_ok-parameters.rest.now c.in_ok-variables.rest.now (λ s l. l) c.in_ok-variables.ensures.reads) in
+    let m4 = then m3 (call T 0 0 (StatementPart ∷ StatementsTail ∷ []) (drop 9 process_parts) c.in_ok-variables.rest.now c.in_ok-statements.rest.now (λ s l. l) c.in_ok-statements.ensures.reads) in
+    rw (p.1, p.2) (then_stops _ m4 (unexpected T 0 (a_word End) [] (Word End) c.in_ok-statements.rest.now _ refl c.in_err-rest-2.ensures.stop))
 
 pub returns : goal.returns
 returns c =
     let T = c.args.text.now in let i = c.args.input.now in
     let (h0, h1, h2, h3, s0, s1, s2, s3, s4) = c.in_ok-parameters.ensures.spans in
-    let m = K.to_process_open T i c.in_ok-rest.rest.now c.in_ok-name.rest.now _ (K.to_process_name T i c.in_ok-rest.rest.now (c.in_ok-rest.ensures.first.1 T)) c.in_ok-name.ensures.words in
-    let m2 = K.to_process_variables T i c.in_ok-name.rest.now c.in_ok-parameters.rest.now m c.in_ok-parameters.ensures.reads in
-    let m3 = K.to_process_statements T i c.in_ok-parameters.rest.now c.in_ok-variables.rest.now m2 c.in_ok-variables.ensures.reads in
-    let m4 = K.to_process_end T i c.in_ok-variables.rest.now c.in_ok-statements.rest.now m3 c.in_ok-statements.ensures.reads in
+    let m = then ((one T 0 ProcessPart [] process_parts (word Process) i c.in_ok-rest.rest.now (λ s l. omega (arith, l)) (λ s. refl) (c.in_ok-rest.ensures.first.1 T))) (token T 0 a_name (drop 1 process_parts) (name _) c.in_ok-rest.rest.now c.in_ok-name.rest.now (λ s l. omega (arith, l)) refl c.in_ok-name.ensures.words) in
+    let m2 = then m (call T 0 0 head_parts (drop 6 process_parts) c.in_ok-name.rest.now c.in_ok-parameters.rest.now (λ s l. l) c.in_ok-parameters.ensures.reads) in
+    let m3 = then m2 (call T 0 0 (VariablesPart ∷ []) (drop 7 process_parts) c.in_ok-parameters.rest.now c.in_ok-variables.rest.now (λ s l. l) c.in_ok-variables.ensures.reads) in
+    let m4 = then m3 (call T 0 0 (StatementPart ∷ StatementsTail ∷ []) (drop 9 process_parts) c.in_ok-variables.rest.now c.in_ok-statements.rest.now (λ s l. l) c.in_ok-statements.ensures.reads) in
     record {
       spans = (
         (c.in_ok-statements.ensures.some, c.in_ok-statements.ensures.formed, omega (arith, c.in_ok-statements.ensures.nesting)),
@@ -74,7 +69,7 @@ returns c =
           g = c.in_ok-parameters.rest.now;
           h = c.in_ok-variables.rest.now;
           i = c.in_ok-statements.rest.now;
-          begins = S.takes T (word keyword.Process) i c.in_ok-rest.rest.now c.in_ok-rest.ensures.passed (c.in_ok-rest.ensures.first.1 T);
+          begins = one_lexeme T (word Process) i c.in_ok-rest.rest.now c.in_ok-rest.ensures.passed (c.in_ok-rest.ensures.first.1 T);
           named = c.in_ok-name.ensures.spans;
           opened = s0;
           parameters = s1;
@@ -83,10 +78,10 @@ returns c =
           begun = s4;
           variables = c.in_ok-variables.ensures.spans;
           statements = c.in_ok-statements.ensures.spans;
-          ended = S.takes T (word keyword.End) c.in_ok-statements.rest.now c.in_ok-rest-2.rest.now c.in_ok-rest-2.ensures.passed (c.in_ok-rest-2.ensures.first.1 T);
+          ended = one_lexeme T (word End) c.in_ok-statements.rest.now c.in_ok-rest-2.rest.now c.in_ok-rest-2.ensures.passed (c.in_ok-rest-2.ensures.first.1 T);
         },
       );
       shorter = omega (arith, c.in_ok-rest.ensures.shorter, c.in_ok-name.ensures.shorter, c.in_ok-parameters.ensures.shorter, c.in_ok-variables.ensures.shorter, c.in_ok-statements.ensures.shorter, c.in_ok-rest-2.ensures.shorter);
       proper = c.in_ok-rest-2.ensures.proper T c.in_ok-statements.ensures.proper;
-      reads = then T 0 K.some_process K.process_end [] i c.in_ok-statements.rest.now c.in_ok-rest-2.rest.now m4 (expected T 0 (a_word keyword.End) [] (class.Word keyword.End) c.in_ok-statements.rest.now c.in_ok-rest-2.rest.now (λ s l. omega (arith, l)) refl c.in_ok-rest-2.ensures.first);
+      reads = then m4 (expected T 0 (a_word End) [] (Word End) c.in_ok-statements.rest.now c.in_ok-rest-2.rest.now (λ s l. omega (arith, l)) refl c.in_ok-rest-2.ensures.first);
     }

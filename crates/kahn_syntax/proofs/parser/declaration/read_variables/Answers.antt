@@ -1,8 +1,4 @@
-use Rattle.kahn_syntax.proofs.Common.{refl, [], ◌∷◌, arith, err_from_is_err_and, sign, terminals, NamesTail, VariablesPart, TokenPart, kind_terminal, a_name, a_sign}
-use Rattle.kahn_syntax.specs.declared.lexeme.Sign.TheVariants as mark
-use Rattle.kahn_syntax.specs.declared.lexeme.Class.TheVariants as class
-use Rattle.kahn_syntax.proofs.Moves.{kind_moves, variables_end, then, then_stops, call_two, call_two_stops, expected, unexpected}
-use Rattle.kahn_syntax.proofs.Spanning as S
+use Rattle.kahn_syntax.proofs.Parsing.{NamesTail, Semicolon, SignClass, TokenPart, VariablesPart, a_name, a_sign, arith, call, call_stops, err_from_is_err_and, expected, kind_moves, kind_terminal, one_lexeme, refl, sign, terminals, then, then_stops, unexpected, variables_end, variables_next, [], ◌∷◌}
 use Rattle.kahn_syntax.proofs.parser.declaration.read_variables.Goals as goal
 
 pub read_names-requires : goal.read_names-requires
@@ -10,20 +6,20 @@ read_names-requires c = record { proper = c.in-Some.ensures.proper c.args.text.n
 
 pub returns-in_err-names : goal.returns-in_err-names
 returns-in_err-names c =
-    let p = err_from_is_err_and c.from_residual.result c.from_residual.ensures.1 in rw (p.1, p.2) (then_stops c.args.text.now 0 (VariablesPart ∷ []) (TokenPart a_name ∷ NamesTail ∷ TokenPart (a_sign mark.Semicolon) ∷ VariablesPart ∷ []) c.args.input.now c.in-Some.after.now _ (then c.args.text.now 0 (VariablesPart ∷ []) (VariablesPart ∷ []) (TokenPart a_name ∷ NamesTail ∷ TokenPart (a_sign mark.Semicolon) ∷ VariablesPart ∷ []) c.args.input.now c.variables.rest.now c.in-Some.after.now (c.variables.invariant.reads) (kind_moves c.args.text.now 0 VariablesPart [] (TokenPart a_name ∷ NamesTail ∷ TokenPart (a_sign mark.Semicolon) ∷ VariablesPart ∷ []) c.in-Some.kind c.variables.rest.now c.in-Some.after.now (λ s l. omega (arith, l)) (λ s. refl) (λ s. refl) (c.in-Some.ensures.first c.args.text.now))) (call_two_stops c.args.text.now 0 0 (TokenPart a_name) NamesTail (TokenPart (a_sign mark.Semicolon) ∷ VariablesPart ∷ []) c.in-Some.after.now _ (λ s l. omega (arith, l)) c.in_err-names.ensures))
+    let p = err_from_is_err_and c.from_residual.result c.from_residual.ensures.1 in rw (p.1, p.2) (then_stops _ (then (c.variables.invariant.reads) (kind_moves c.args.text.now 0 VariablesPart [] (TokenPart a_name ∷ NamesTail ∷ TokenPart (a_sign Semicolon) ∷ VariablesPart ∷ []) c.in-Some.kind c.variables.rest.now c.in-Some.after.now (λ s l. omega (arith, l)) (λ s. refl) (λ s. refl) (c.in-Some.ensures.first c.args.text.now))) (call_stops c.args.text.now 0 0 (TokenPart a_name ∷ NamesTail ∷ []) (TokenPart (a_sign Semicolon) ∷ VariablesPart ∷ []) c.in-Some.after.now _ (λ s l. omega (arith, l)) c.in_err-names.ensures))
 
 pub returns-in_err-after : goal.returns-in_err-after
 returns-in_err-after c =
-    let p = err_from_is_err_and c.from_residual-in_err-after.result c.from_residual-in_err-after.ensures.1 in rw (p.1, p.2) (then_stops c.args.text.now 0 (VariablesPart ∷ []) (TokenPart (a_sign mark.Semicolon) ∷ VariablesPart ∷ []) c.args.input.now c.in_ok-names.after.now _ (then c.args.text.now 0 (VariablesPart ∷ []) (TokenPart a_name ∷ NamesTail ∷ TokenPart (a_sign mark.Semicolon) ∷ VariablesPart ∷ []) (TokenPart (a_sign mark.Semicolon) ∷ VariablesPart ∷ []) c.args.input.now c.in-Some.after.now c.in_ok-names.after.now (then c.args.text.now 0 (VariablesPart ∷ []) (VariablesPart ∷ []) (TokenPart a_name ∷ NamesTail ∷ TokenPart (a_sign mark.Semicolon) ∷ VariablesPart ∷ []) c.args.input.now c.variables.rest.now c.in-Some.after.now (c.variables.invariant.reads) (kind_moves c.args.text.now 0 VariablesPart [] (TokenPart a_name ∷ NamesTail ∷ TokenPart (a_sign mark.Semicolon) ∷ VariablesPart ∷ []) c.in-Some.kind c.variables.rest.now c.in-Some.after.now (λ s l. omega (arith, l)) (λ s. refl) (λ s. refl) (c.in-Some.ensures.first c.args.text.now))) (call_two c.args.text.now 0 0 (TokenPart a_name) NamesTail (TokenPart (a_sign mark.Semicolon) ∷ VariablesPart ∷ []) c.in-Some.after.now c.in_ok-names.after.now (λ s l. omega (arith, l)) c.in_ok-names.ensures.reads)) (unexpected c.args.text.now 0 (a_sign mark.Semicolon) (VariablesPart ∷ []) (class.Sign mark.Semicolon) c.in_ok-names.after.now _ refl c.in_err-after.ensures.stop))
+    let p = err_from_is_err_and c.from_residual-in_err-after.result c.from_residual-in_err-after.ensures.1 in rw (p.1, p.2) (then_stops _ (then (then (c.variables.invariant.reads) (kind_moves c.args.text.now 0 VariablesPart [] (TokenPart a_name ∷ NamesTail ∷ TokenPart (a_sign Semicolon) ∷ VariablesPart ∷ []) c.in-Some.kind c.variables.rest.now c.in-Some.after.now (λ s l. omega (arith, l)) (λ s. refl) (λ s. refl) (c.in-Some.ensures.first c.args.text.now))) (call c.args.text.now 0 0 (TokenPart a_name ∷ NamesTail ∷ []) (TokenPart (a_sign Semicolon) ∷ VariablesPart ∷ []) c.in-Some.after.now c.in_ok-names.after.now (λ s l. omega (arith, l)) c.in_ok-names.ensures.reads)) (unexpected c.args.text.now 0 (a_sign Semicolon) (VariablesPart ∷ []) (SignClass Semicolon) c.in_ok-names.after.now _ refl c.in_err-after.ensures.stop))
 
 pub variables-preserved : goal.variables-preserved
 variables-preserved c =
     record {
-      spans = (let T = c.args.text.now in S.variables_next T _ _ c.in-Some.kind c.in_ok-names.names.items c.args.input.now c.variables.rest.now c.in-Some.after.now c.in_ok-names.after.now c.in_ok-after.after.now c.in_ok-add_variables.ensures.items c.variables.invariant.spans
-          (S.takes T (kind_terminal c.in-Some.kind) c.variables.rest.now c.in-Some.after.now c.in-Some.ensures.passed (c.in-Some.ensures.first T)) c.in_ok-names.ensures.spans (S.takes T (sign mark.Semicolon) c.in_ok-names.after.now c.in_ok-after.after.now c.in_ok-after.ensures.passed (c.in_ok-after.ensures.first.1 T)));
+      spans = (let T = c.args.text.now in variables_next T _ _ c.in-Some.kind c.in_ok-names.names.items c.args.input.now c.variables.rest.now c.in-Some.after.now c.in_ok-names.after.now c.in_ok-after.after.now c.in_ok-add_variables.ensures.items c.variables.invariant.spans
+          (one_lexeme T (kind_terminal c.in-Some.kind) c.variables.rest.now c.in-Some.after.now c.in-Some.ensures.passed (c.in-Some.ensures.first T)) c.in_ok-names.ensures.spans (one_lexeme T (sign Semicolon) c.in_ok-names.after.now c.in_ok-after.after.now c.in_ok-after.ensures.passed (c.in_ok-after.ensures.first.1 T)));
       shorter = omega (arith, c.in-Some.ensures.shorter, c.in_ok-names.ensures.shorter, c.in_ok-after.ensures.shorter, c.variables.invariant.shorter);
       proper = c.in_ok-after.ensures.proper c.args.text.now c.in_ok-names.ensures.proper;
-      reads = (then c.args.text.now 0 (VariablesPart ∷ []) (TokenPart (a_sign mark.Semicolon) ∷ VariablesPart ∷ []) (VariablesPart ∷ []) c.args.input.now c.in_ok-names.after.now c.in_ok-after.after.now (then c.args.text.now 0 (VariablesPart ∷ []) (TokenPart a_name ∷ NamesTail ∷ TokenPart (a_sign mark.Semicolon) ∷ VariablesPart ∷ []) (TokenPart (a_sign mark.Semicolon) ∷ VariablesPart ∷ []) c.args.input.now c.in-Some.after.now c.in_ok-names.after.now (then c.args.text.now 0 (VariablesPart ∷ []) (VariablesPart ∷ []) (TokenPart a_name ∷ NamesTail ∷ TokenPart (a_sign mark.Semicolon) ∷ VariablesPart ∷ []) c.args.input.now c.variables.rest.now c.in-Some.after.now (c.variables.invariant.reads) (kind_moves c.args.text.now 0 VariablesPart [] (TokenPart a_name ∷ NamesTail ∷ TokenPart (a_sign mark.Semicolon) ∷ VariablesPart ∷ []) c.in-Some.kind c.variables.rest.now c.in-Some.after.now (λ s l. omega (arith, l)) (λ s. refl) (λ s. refl) (c.in-Some.ensures.first c.args.text.now))) (call_two c.args.text.now 0 0 (TokenPart a_name) NamesTail (TokenPart (a_sign mark.Semicolon) ∷ VariablesPart ∷ []) c.in-Some.after.now c.in_ok-names.after.now (λ s l. omega (arith, l)) c.in_ok-names.ensures.reads)) (expected c.args.text.now 0 (a_sign mark.Semicolon) (VariablesPart ∷ []) (class.Sign mark.Semicolon) c.in_ok-names.after.now c.in_ok-after.after.now (λ s l. omega (arith, l)) refl c.in_ok-after.ensures.first));
+      reads = (then (then (then (c.variables.invariant.reads) (kind_moves c.args.text.now 0 VariablesPart [] (TokenPart a_name ∷ NamesTail ∷ TokenPart (a_sign Semicolon) ∷ VariablesPart ∷ []) c.in-Some.kind c.variables.rest.now c.in-Some.after.now (λ s l. omega (arith, l)) (λ s. refl) (λ s. refl) (c.in-Some.ensures.first c.args.text.now))) (call c.args.text.now 0 0 (TokenPart a_name ∷ NamesTail ∷ []) (TokenPart (a_sign Semicolon) ∷ VariablesPart ∷ []) c.in-Some.after.now c.in_ok-names.after.now (λ s l. omega (arith, l)) c.in_ok-names.ensures.reads)) (expected c.args.text.now 0 (a_sign Semicolon) (VariablesPart ∷ []) (SignClass Semicolon) c.in_ok-names.after.now c.in_ok-after.after.now (λ s l. omega (arith, l)) refl c.in_ok-after.ensures.first));
     }
 
 pub variables-init : goal.variables-init
@@ -33,7 +29,7 @@ variables-init c =
       spans = ([], c.new-variables.ensures.items, refl);
       shorter = omega arith;
       proper = c.requires.proper;
-      reads = λ s l. refl;
+      reads = record { fates = λ s l. refl };
     }
 
 pub returns : goal.returns
@@ -42,5 +38,5 @@ returns c =
       spans = c.variables.invariant.spans;
       shorter = c.variables.invariant.shorter;
       proper = c.variables.invariant.proper;
-      reads = (then c.args.text.now 0 (VariablesPart ∷ []) (VariablesPart ∷ []) ([]) c.args.input.now c.variables.rest.now c.variables.rest.now (c.variables.invariant.reads) (variables_end c.args.text.now [] c.variables.rest.now (c.in_default.ensures.leads c.args.text.now)));
+      reads = (then (c.variables.invariant.reads) (variables_end c.args.text.now [] c.variables.rest.now (c.in_default.ensures.leads c.args.text.now)));
     }

@@ -1,4 +1,4 @@
-use Rattle.kahn_syntax.proofs.Common.{◌≤◌, [], ◌∷◌, length, AreProper, VariablesPart, Moves, VariablesSpan}
+use Rattle.kahn_syntax.proofs.Parsing.{AreProper, Moves, VariablesPart, VariablesSpan, length, [], ◌∷◌, ◌≤◌}
 use Rattle.kahn_syntax.proofs.parser.declaration.read_variables.Given as goal
 
 abbrev pub invariant-variables : goal.invariant-variables

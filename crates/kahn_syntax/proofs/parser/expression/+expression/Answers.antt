@@ -1,28 +1,18 @@
-use Rattle.kahn_syntax.proofs.Common.{factor_rules, takes, starts, rules, ◌≡◌, false, refl, [], ◌∷◌, arith, sym, ap, ◌∙◌, subst, w64, vec_len, err_from_is_err_and, word, sign, name, terminals, IsUnsigned, whole, ors, denials, relations, sums, factors, rung_of, tighter, at, ExpressionPart, OperatorsPart, TokenPart, LevelPart, expression_of, name_of, operands_of, form_of, operands_row, to_z-of_z, Takes, ExpressionSpans, OperandsSpan, operator_terminal, expression_nesting, operands_nesting, FormedOperands, no_operand, Fits, ExpressionRead, hidden-the_row-Operand-0, a_sign, a_word}
-use Rattle.kahn_syntax.specs.declared.lexeme.Keyword.TheVariants as keyword
-use Rattle.kahn_syntax.specs.declared.lexeme.Sign.TheVariants as mark
-use Rattle.kahn_syntax.specs.declared.lexeme.Class.TheVariants as class
+use Rattle.kahn_syntax.proofs.Parsing.{nothing, Close, Else, ExpressionPart, ExpressionRead, ExpressionSpans, False, Fits, FormedOperands, If, IsUnsigned, LevelPart, Minus, NameClass, NotWord, Number, Open, OperandsSpan, OperatorsPart, SignClass, Takes, Then, TokenPart, True, Word, a_sign, a_word, ap, arith, at, call, call_stops, choice_parts, compared_fits, comparison, deep, denials, drop, err_from_is_err_and, expected, expression_nesting, expression_of, factor_rules, factors, false, first_of, form_of, formed_next, hidden-the_row-Operand-0, joined_made, joined_nesting, level_chain, level_ends, level_fits, made, name, name_of, no_operand, no_operands, number_fits, one, one_lexeme, only_memory, opened, opens_chain, opens_denial, opens_whole, operands_made, operands_nesting, operands_nesting_next, operands_next, operands_of, operands_row, operands_row_spans, operator_more, operator_terminal, ors, refl, refused, relations, rules, rung_of, sign, starts, subst, sums, sym, terminals, then, then_stops, tighter, to_z-of_z, unexpected, vec_len, w64, whole, word, [], ◌∙◌, ◌∷◌, ◌≡◌}
 use Rattle.kahn_syntax.specs.Terminals.{number}
-use Rattle.kahn_syntax.proofs.Moves.{made, opens_whole, opens_chain, operators_end, comparison, level_chain, operator_more, only_memory, refused, opens_denial, opened, then, then_stops, call, call_stops, call_two_stops, one, deep, expected, level_ends, unexpected}
-use Rattle.kahn_syntax.proofs.Negative.{number_fits}
-use Rattle.kahn_syntax.proofs.Spanning as S
-use Rattle.kahn_syntax.proofs.Stacks as K
-use Rattle.kahn_syntax.proofs.Lists.{first_of}
-use Rattle.kahn_syntax.proofs.Levels.{operands_nesting_next, formed_next, level_fits, joined_made, joined_nesting, compared_fits}
-use Rattle.kahn_syntax.proofs.Rows.{operands_made, operands_row_spans}
 use Rattle.std.specs.Prelude.{◌==◌, length, true}
 use Rattle.kahn_syntax.proofs.parser.expression.+expression.Goals as goal
 
 pub read_level-returns-in_err-first : goal.read_level-returns-in_err-first
 read_level-returns-in_err-first t c =
-    let p = err_from_is_err_and c.from_residual.result c.from_residual.ensures.1 in rw (p.1, p.2) (then_stops c.args.text.now c.args.depth (ExpressionPart (rung_of c.args.level) ∷ []) (ExpressionPart (tighter (rung_of c.args.level)) ∷ OperatorsPart (rung_of c.args.level) ∷ []) c.args.input.now c.args.input.now _ (opens_chain c.args.text.now c.args.depth (rung_of c.args.level) [] c.args.input.now (level_chain c.args.level)) (call_stops c.args.text.now c.args.depth c.args.depth (ExpressionPart (tighter (rung_of c.args.level))) (OperatorsPart (rung_of c.args.level) ∷ []) c.args.input.now _ (λ s l. omega (arith, l, c.requires.1.1.0)) c.in_err-first.ensures))
+    let p = err_from_is_err_and c.from_residual.result c.from_residual.ensures.1 in rw (p.1, p.2) (then_stops _ (opens_chain c.args.text.now c.args.depth (rung_of c.args.level) [] c.args.input.now (level_chain c.args.level)) (call_stops c.args.text.now c.args.depth c.args.depth (ExpressionPart (tighter (rung_of c.args.level)) ∷ []) (OperatorsPart (rung_of c.args.level) ∷ []) c.args.input.now _ (λ s l. omega (arith, l, c.requires.1.1.0)) c.in_err-first.ensures))
 
 pub read_level-read_operand-requires-in-Some : goal.read_level-read_operand-requires-in-Some
 read_level-read_operand-requires-in-Some t c = (omega (arith, c.requires.1.0, c.in-Some.ensures.shorter, c.operands.invariant.shorter), (c.requires.1.1.0, c.in-Some.ensures.proper c.args.text.now c.operands.invariant.proper))
 
 pub read_level-returns-in_err-expression : goal.read_level-returns-in_err-expression
 read_level-returns-in_err-expression t c =
-    let p = err_from_is_err_and c.from_residual-in_err-expression.result c.from_residual-in_err-expression.ensures.1 in rw (p.1, p.2) (then_stops c.args.text.now c.args.depth (ExpressionPart (rung_of c.args.level) ∷ []) (ExpressionPart (tighter (rung_of c.args.level)) ∷ OperatorsPart (rung_of c.args.level) ∷ []) c.args.input.now c.in-Some.after.now _ (then c.args.text.now c.args.depth (ExpressionPart (rung_of c.args.level) ∷ []) (OperatorsPart (rung_of c.args.level) ∷ []) (ExpressionPart (tighter (rung_of c.args.level)) ∷ OperatorsPart (rung_of c.args.level) ∷ []) c.args.input.now c.operands.rest.now c.in-Some.after.now (c.operands.invariant.reads) (operator_more c.args.text.now c.args.depth c.args.level c.in-Some.operator [] c.operands.rest.now c.in-Some.after.now (λ s l. omega (arith, l, c.requires.1.1.0)) c.in-Some.ensures.ranked (c.in-Some.ensures.first c.args.text.now))) (call_stops c.args.text.now c.args.depth c.args.depth (ExpressionPart (tighter (rung_of c.args.level))) (OperatorsPart (rung_of c.args.level) ∷ []) c.in-Some.after.now _ (λ s l. omega (arith, l, c.requires.1.1.0)) c.in_err-expression.ensures))
+    let p = err_from_is_err_and c.from_residual-in_err-expression.result c.from_residual-in_err-expression.ensures.1 in rw (p.1, p.2) (then_stops _ (then (c.operands.invariant.reads) (operator_more c.args.text.now c.args.depth c.args.level c.in-Some.operator [] c.operands.rest.now c.in-Some.after.now (λ s l. omega (arith, l, c.requires.1.1.0)) c.in-Some.ensures.ranked (c.in-Some.ensures.first c.args.text.now))) (call_stops c.args.text.now c.args.depth c.args.depth (ExpressionPart (tighter (rung_of c.args.level)) ∷ []) (OperatorsPart (rung_of c.args.level) ∷ []) c.in-Some.after.now _ (λ s l. omega (arith, l, c.requires.1.1.0)) c.in_err-expression.ensures))
 
 pub read_level-operands-init : goal.read_level-operands-init
 read_level-operands-init t c =
@@ -32,67 +22,67 @@ read_level-operands-init t c =
       nesting = omega (arith, ap (λ os. operands_nesting (operands_of os)) c.new-further.ensures.items, c.in_ok-first.ensures.nesting);
       shorter = c.in_ok-first.ensures.shorter;
       proper = c.in_ok-first.ensures.proper;
-      reads = (then c.args.text.now c.args.depth (ExpressionPart (rung_of c.args.level) ∷ []) (ExpressionPart (tighter (rung_of c.args.level)) ∷ OperatorsPart (rung_of c.args.level) ∷ []) (OperatorsPart (rung_of c.args.level) ∷ []) c.args.input.now c.args.input.now c.in_ok-first.rest.now (opens_chain c.args.text.now c.args.depth (rung_of c.args.level) [] c.args.input.now (level_chain c.args.level)) (call c.args.text.now c.args.depth c.args.depth (ExpressionPart (tighter (rung_of c.args.level))) (OperatorsPart (rung_of c.args.level) ∷ []) c.args.input.now c.in_ok-first.rest.now (λ s l. omega (arith, l, c.requires.1.1.0)) c.in_ok-first.ensures.reads));
+      reads = (then (opens_chain c.args.text.now c.args.depth (rung_of c.args.level) [] c.args.input.now (level_chain c.args.level)) (call c.args.text.now c.args.depth c.args.depth (ExpressionPart (tighter (rung_of c.args.level)) ∷ []) (OperatorsPart (rung_of c.args.level) ∷ []) c.args.input.now c.in_ok-first.rest.now (λ s l. omega (arith, l, c.requires.1.1.0)) c.in_ok-first.ensures.reads));
     }
 
 pub read_level-operands-preserved : goal.read_level-operands-preserved
 read_level-operands-preserved t c =
     let v = subst (λ e. ExpressionRead c.args.text.now c.args.depth (tighter (rung_of c.args.level)) e c.in-Some.after.now c.in_ok-expression.left.now) (sym c.into_inner.ensures) c.in_ok-expression.ensures in
     record {
-      spans = (c.operands.invariant.spans.0, c.operands.invariant.spans.1, S.operands_next c.args.text.now _ _ _ _ c.operands.rest.now c.in-Some.after.now c.in_ok-expression.left.now c.in_ok-push.ensures.items c.operands.invariant.spans.2 (S.takes c.args.text.now (operator_terminal c.in-Some.operator) c.operands.rest.now c.in-Some.after.now c.in-Some.ensures.passed (c.in-Some.ensures.first c.args.text.now)) v.spans);
+      spans = (c.operands.invariant.spans.0, c.operands.invariant.spans.1, operands_next c.args.text.now _ _ _ _ c.operands.rest.now c.in-Some.after.now c.in_ok-expression.left.now c.in_ok-push.ensures.items c.operands.invariant.spans.2 (one_lexeme c.args.text.now (operator_terminal c.in-Some.operator) c.operands.rest.now c.in-Some.after.now c.in-Some.ensures.passed (c.in-Some.ensures.first c.args.text.now)) v.spans);
       formed = formed_next c.args.level _ _ _ c.in_ok-push.ensures.items c.operands.invariant.formed c.in-Some.ensures.ranked v.fits;
       nesting = operands_nesting_next _ (expression_of c.in_ok-first.first.value) _ _ _ c.in_ok-push.ensures.items c.operands.invariant.nesting v.nesting;
       shorter = omega (arith, c.in-Some.ensures.shorter, v.shorter, c.operands.invariant.shorter);
       proper = v.proper;
-      reads = (then c.args.text.now c.args.depth (ExpressionPart (rung_of c.args.level) ∷ []) (ExpressionPart (tighter (rung_of c.args.level)) ∷ OperatorsPart (rung_of c.args.level) ∷ []) (OperatorsPart (rung_of c.args.level) ∷ []) c.args.input.now c.in-Some.after.now c.in_ok-expression.left.now (then c.args.text.now c.args.depth (ExpressionPart (rung_of c.args.level) ∷ []) (OperatorsPart (rung_of c.args.level) ∷ []) (ExpressionPart (tighter (rung_of c.args.level)) ∷ OperatorsPart (rung_of c.args.level) ∷ []) c.args.input.now c.operands.rest.now c.in-Some.after.now (c.operands.invariant.reads) (operator_more c.args.text.now c.args.depth c.args.level c.in-Some.operator [] c.operands.rest.now c.in-Some.after.now (λ s l. omega (arith, l, c.requires.1.1.0)) c.in-Some.ensures.ranked (c.in-Some.ensures.first c.args.text.now))) (call c.args.text.now c.args.depth c.args.depth (ExpressionPart (tighter (rung_of c.args.level))) (OperatorsPart (rung_of c.args.level) ∷ []) c.in-Some.after.now c.in_ok-expression.left.now (λ s l. omega (arith, l, c.requires.1.1.0)) v.reads));
+      reads = (then (then (c.operands.invariant.reads) (operator_more c.args.text.now c.args.depth c.args.level c.in-Some.operator [] c.operands.rest.now c.in-Some.after.now (λ s l. omega (arith, l, c.requires.1.1.0)) c.in-Some.ensures.ranked (c.in-Some.ensures.first c.args.text.now))) (call c.args.text.now c.args.depth c.args.depth (ExpressionPart (tighter (rung_of c.args.level)) ∷ []) (OperatorsPart (rung_of c.args.level) ∷ []) c.in-Some.after.now c.in_ok-expression.left.now (λ s l. omega (arith, l, c.requires.1.1.0)) v.reads));
     }
 
 pub read_denial-returns-in_err-inner : goal.read_denial-returns-in_err-inner
 read_denial-returns-in_err-inner t c =
-    let p = err_from_is_err_and c.from_residual.result c.from_residual.ensures.1 in rw (p.1, p.2) (deep c.args.text.now c.args.depth (ExpressionPart denials) ([]) (ExpressionPart denials ∷ LevelPart ∷ []) (word keyword.Not) c.args.input.now c.in-Some.rest.now _ (λ s l. omega (arith, l, c.in_err-inner.ensures.stop.0)) (λ s. refl) (c.in-Some.ensures.first c.args.text.now) c.in_err-inner.ensures.stop.1)
+    let p = err_from_is_err_and c.from_residual.result c.from_residual.ensures.1 in rw (p.1, p.2) (deep c.args.text.now c.args.depth (ExpressionPart denials) ([]) (ExpressionPart denials ∷ LevelPart ∷ []) (word NotWord) c.args.input.now c.in-Some.rest.now _ (λ s l. omega (arith, l, c.in_err-inner.ensures.stop.0)) (λ s. refl) (c.in-Some.ensures.first c.args.text.now) c.in_err-inner.ensures.stop.1)
 
 pub read_denial-read_denial-requires : goal.read_denial-read_denial-requires
 read_denial-read_denial-requires t c = (omega (arith, c.requires.1.0, c.in-Some.ensures.shorter), (c.in_ok-inner.ensures.deeper.1, c.in-Some.ensures.proper c.args.text.now c.requires.1.1.1))
 
 pub read_relation-returns-in_err-left : goal.read_relation-returns-in_err-left
 read_relation-returns-in_err-left t c =
-    let p = err_from_is_err_and c.from_residual.result c.from_residual.ensures.1 in rw (p.1, p.2) (then_stops c.args.text.now c.args.depth (ExpressionPart relations ∷ []) (ExpressionPart sums ∷ OperatorsPart relations ∷ []) c.args.input.now c.args.input.now _ (opens_chain c.args.text.now c.args.depth relations [] c.args.input.now tt) (call_stops c.args.text.now c.args.depth c.args.depth (ExpressionPart sums) (OperatorsPart relations ∷ []) c.args.input.now _ (λ s l. omega (arith, l, c.requires.1.1.0)) c.in_err-left.ensures))
+    let p = err_from_is_err_and c.from_residual.result c.from_residual.ensures.1 in rw (p.1, p.2) (then_stops _ (opens_chain c.args.text.now c.args.depth relations [] c.args.input.now tt) (call_stops c.args.text.now c.args.depth c.args.depth (ExpressionPart sums ∷ []) (OperatorsPart relations ∷ []) c.args.input.now _ (λ s l. omega (arith, l, c.requires.1.1.0)) c.in_err-left.ensures))
 
 pub read_relation-read_level-requires-2 : goal.read_relation-read_level-requires-2
 read_relation-read_level-requires-2 t c = (omega (arith, c.requires.1.0, c.in-Some.ensures.shorter, c.in_ok-left.ensures.shorter), (c.requires.1.1.0, c.in-Some.ensures.proper c.args.text.now c.in_ok-left.ensures.proper))
 
 pub read_relation-returns-in_err-right : goal.read_relation-returns-in_err-right
 read_relation-returns-in_err-right t c =
-    let p = err_from_is_err_and c.from_residual-in_err-right.result c.from_residual-in_err-right.ensures.1 in rw (p.1, p.2) (then_stops c.args.text.now c.args.depth (ExpressionPart relations ∷ []) (ExpressionPart sums ∷ []) c.args.input.now c.in-Some.after.now _ (then c.args.text.now c.args.depth (ExpressionPart relations ∷ []) (OperatorsPart relations ∷ []) (ExpressionPart sums ∷ []) c.args.input.now c.in_ok-left.rest.now c.in-Some.after.now (then c.args.text.now c.args.depth (ExpressionPart relations ∷ []) (ExpressionPart sums ∷ OperatorsPart relations ∷ []) (OperatorsPart relations ∷ []) c.args.input.now c.args.input.now c.in_ok-left.rest.now (opens_chain c.args.text.now c.args.depth relations [] c.args.input.now tt) (call c.args.text.now c.args.depth c.args.depth (ExpressionPart sums) (OperatorsPart relations ∷ []) c.args.input.now c.in_ok-left.rest.now (λ s l. omega (arith, l, c.requires.1.1.0)) c.in_ok-left.ensures.reads)) (comparison c.args.text.now c.args.depth c.in-Some.operator [] c.in_ok-left.rest.now c.in-Some.after.now (λ s l. omega (arith, l, c.requires.1.1.0)) c.in-Some.ensures.ranked (c.in-Some.ensures.first c.args.text.now))) (call_stops c.args.text.now c.args.depth c.args.depth (ExpressionPart sums) ([]) c.in-Some.after.now _ (λ s l. omega (arith, l, c.requires.1.1.0)) c.in_err-right.ensures))
+    let p = err_from_is_err_and c.from_residual-in_err-right.result c.from_residual-in_err-right.ensures.1 in rw (p.1, p.2) (then_stops _ (then (then (opens_chain c.args.text.now c.args.depth relations [] c.args.input.now tt) (call c.args.text.now c.args.depth c.args.depth (ExpressionPart sums ∷ []) (OperatorsPart relations ∷ []) c.args.input.now c.in_ok-left.rest.now (λ s l. omega (arith, l, c.requires.1.1.0)) c.in_ok-left.ensures.reads)) (comparison c.args.text.now c.args.depth c.in-Some.operator [] c.in_ok-left.rest.now c.in-Some.after.now (λ s l. omega (arith, l, c.requires.1.1.0)) c.in-Some.ensures.ranked (c.in-Some.ensures.first c.args.text.now))) (call_stops c.args.text.now c.args.depth c.args.depth (ExpressionPart sums ∷ []) ([]) c.in-Some.after.now _ (λ s l. omega (arith, l, c.requires.1.1.0)) c.in_err-right.ensures))
 
 pub read_expression-returns-in_err-inner : goal.read_expression-returns-in_err-inner
 read_expression-returns-in_err-inner t c =
-    let p = err_from_is_err_and c.from_residual.result c.from_residual.ensures.1 in rw (p.1, p.2) (deep c.args.text.now c.args.depth (ExpressionPart whole) ([]) (ExpressionPart whole ∷ TokenPart (a_word keyword.Then) ∷ ExpressionPart whole ∷ TokenPart (a_word keyword.Else) ∷ ExpressionPart whole ∷ LevelPart ∷ []) (word keyword.If) c.args.input.now c.in-Some.rest.now _ (λ s l. omega (arith, l, c.in_err-inner.ensures.stop.0)) (λ s. refl) (c.in-Some.ensures.first.1 c.args.text.now) c.in_err-inner.ensures.stop.1)
+    let p = err_from_is_err_and c.from_residual.result c.from_residual.ensures.1 in rw (p.1, p.2) (deep c.args.text.now c.args.depth (ExpressionPart whole) ([]) (ExpressionPart whole ∷ TokenPart (a_word Then) ∷ ExpressionPart whole ∷ TokenPart (a_word Else) ∷ ExpressionPart whole ∷ LevelPart ∷ []) (word If) c.args.input.now c.in-Some.rest.now _ (λ s l. omega (arith, l, c.in_err-inner.ensures.stop.0)) (λ s. refl) (c.in-Some.ensures.first.1 c.args.text.now) c.in_err-inner.ensures.stop.1)
 
 pub read_factor-read_wait-requires-clause-proper : goal.read_factor-read_wait-requires-clause-proper
 read_factor-read_wait-requires-clause-proper t c = c.in-Some-Word-Wait-default.ensures.proper c.args.text.now c.requires.1.1.1
 
 pub read_factor-returns-in_err-inner-in-Some-Sign-Minus-default : goal.read_factor-returns-in_err-inner-in-Some-Sign-Minus-default
 read_factor-returns-in_err-inner-in-Some-Sign-Minus-default t c =
-    let p = err_from_is_err_and c.from_residual.result c.from_residual.ensures.1 in rw (p.1, p.2) (deep c.args.text.now c.args.depth (ExpressionPart factors) ([]) (ExpressionPart factors ∷ LevelPart ∷ []) (sign mark.Minus) c.args.input.now c.in-Some-Sign-Minus-default.rest.now _ (λ s l. omega (arith, l, c.in_err-inner-in-Some-Sign-Minus-default.ensures.stop.0)) (λ s. refl) ((first_of _ (class.Sign mark.Minus) c.args.input.now c.in-Some-Sign-Minus-default.rest.now (c.in-Some-Sign-Minus-default.field-0-0-is ∙ ap class.Sign c.in-Some-Sign-Minus-default.field-0-0-0-is) c.in-Some-Sign-Minus-default.ensures.first.0).1 c.args.text.now) c.in_err-inner-in-Some-Sign-Minus-default.ensures.stop.1)
+    let p = err_from_is_err_and c.from_residual.result c.from_residual.ensures.1 in rw (p.1, p.2) (deep c.args.text.now c.args.depth (ExpressionPart factors) ([]) (ExpressionPart factors ∷ LevelPart ∷ []) (sign Minus) c.args.input.now c.in-Some-Sign-Minus-default.rest.now _ (λ s l. omega (arith, l, c.in_err-inner-in-Some-Sign-Minus-default.ensures.stop.0)) (λ s. refl) ((first_of _ (SignClass Minus) c.args.input.now c.in-Some-Sign-Minus-default.rest.now (c.in-Some-Sign-Minus-default.field-0-0-is ∙ ap SignClass c.in-Some-Sign-Minus-default.field-0-0-0-is) c.in-Some-Sign-Minus-default.ensures.first.0).1 c.args.text.now) c.in_err-inner-in-Some-Sign-Minus-default.ensures.stop.1)
 
 pub read_factor-read_factor-requires : goal.read_factor-read_factor-requires
 read_factor-read_factor-requires t c = (omega (arith, c.requires.1.0, c.in-Some-Sign-Minus-default.ensures.first.1), (c.in_ok-inner-in-Some-Sign-Minus-default.ensures.deeper.1, c.in-Some-Sign-Minus-default.ensures.proper c.args.text.now c.requires.1.1.1))
 
 pub read_factor-returns-in_err-inner-in-Some-Sign-Open-default : goal.read_factor-returns-in_err-inner-in-Some-Sign-Open-default
 read_factor-returns-in_err-inner-in-Some-Sign-Open-default t c =
-    let p = err_from_is_err_and c.from_residual-in_err-inner-in-Some-Sign-Open-default.result c.from_residual-in_err-inner-in-Some-Sign-Open-default.ensures.1 in rw (p.1, p.2) (deep c.args.text.now c.args.depth (ExpressionPart factors) ([]) (ExpressionPart whole ∷ TokenPart (a_sign mark.Close) ∷ LevelPart ∷ []) (sign mark.Open) c.args.input.now c.in-Some-Sign-Open-default.rest.now _ (λ s l. omega (arith, l, c.in_err-inner-in-Some-Sign-Open-default.ensures.stop.0)) (λ s. refl) ((first_of _ (class.Sign mark.Open) c.args.input.now c.in-Some-Sign-Open-default.rest.now (c.in-Some-Sign-Open-default.field-0-0-is ∙ ap class.Sign c.in-Some-Sign-Open-default.field-0-0-0-is) c.in-Some-Sign-Open-default.ensures.first.0).1 c.args.text.now) c.in_err-inner-in-Some-Sign-Open-default.ensures.stop.1)
+    let p = err_from_is_err_and c.from_residual-in_err-inner-in-Some-Sign-Open-default.result c.from_residual-in_err-inner-in-Some-Sign-Open-default.ensures.1 in rw (p.1, p.2) (deep c.args.text.now c.args.depth (ExpressionPart factors) ([]) (ExpressionPart whole ∷ TokenPart (a_sign Close) ∷ LevelPart ∷ []) (sign Open) c.args.input.now c.in-Some-Sign-Open-default.rest.now _ (λ s l. omega (arith, l, c.in_err-inner-in-Some-Sign-Open-default.ensures.stop.0)) (λ s. refl) ((first_of _ (SignClass Open) c.args.input.now c.in-Some-Sign-Open-default.rest.now (c.in-Some-Sign-Open-default.field-0-0-is ∙ ap SignClass c.in-Some-Sign-Open-default.field-0-0-0-is) c.in-Some-Sign-Open-default.ensures.first.0).1 c.args.text.now) c.in_err-inner-in-Some-Sign-Open-default.ensures.stop.1)
 
 pub read_factor-read_expression-requires : goal.read_factor-read_expression-requires
 read_factor-read_expression-requires t c = (omega (arith, c.requires.1.0, c.in-Some-Sign-Open-default.ensures.first.1), (c.in_ok-inner-in-Some-Sign-Open-default.ensures.deeper.1, c.in-Some-Sign-Open-default.ensures.proper c.args.text.now c.requires.1.1.1))
 
 pub read_factor-returns-in_err-rest-in-Some-Sign-Open-default : goal.read_factor-returns-in_err-rest-in-Some-Sign-Open-default
 read_factor-returns-in_err-rest-in-Some-Sign-Open-default t c =
-    let p = err_from_is_err_and c.from_residual-in_err-rest-in-Some-Sign-Open-default.result c.from_residual-in_err-rest-in-Some-Sign-Open-default.ensures.1 in rw (p.1, p.2) (then_stops c.args.text.now c.args.depth (ExpressionPart factors ∷ []) (TokenPart (a_sign mark.Close) ∷ LevelPart ∷ []) c.args.input.now c.in_ok-inside-in-Some-Sign-Open-default.rest.now _ (then c.args.text.now c.args.depth (ExpressionPart factors ∷ []) (ExpressionPart whole ∷ TokenPart (a_sign mark.Close) ∷ LevelPart ∷ []) (TokenPart (a_sign mark.Close) ∷ LevelPart ∷ []) c.args.input.now c.in-Some-Sign-Open-default.rest.now c.in_ok-inside-in-Some-Sign-Open-default.rest.now (one c.args.text.now c.args.depth (ExpressionPart factors) ([]) (ExpressionPart whole ∷ TokenPart (a_sign mark.Close) ∷ LevelPart ∷ []) (sign mark.Open) c.args.input.now c.in-Some-Sign-Open-default.rest.now (λ s l. omega (arith, l, c.requires.1.1.0, c.in_ok-inner-in-Some-Sign-Open-default.ensures.deeper.0, c.in_ok-inner-in-Some-Sign-Open-default.ensures.deeper.1)) (λ s. refl) ((first_of _ (class.Sign mark.Open) c.args.input.now c.in-Some-Sign-Open-default.rest.now (c.in-Some-Sign-Open-default.field-0-0-is ∙ ap class.Sign c.in-Some-Sign-Open-default.field-0-0-0-is) c.in-Some-Sign-Open-default.ensures.first.0).1 c.args.text.now)) (call c.args.text.now c.args.depth c.in_ok-inner-in-Some-Sign-Open-default.inner (ExpressionPart whole) (TokenPart (a_sign mark.Close) ∷ LevelPart ∷ []) c.in-Some-Sign-Open-default.rest.now c.in_ok-inside-in-Some-Sign-Open-default.rest.now (λ s l. omega (arith, l, c.requires.1.1.0, c.in_ok-inner-in-Some-Sign-Open-default.ensures.deeper.0, c.in_ok-inner-in-Some-Sign-Open-default.ensures.deeper.1)) c.in_ok-inside-in-Some-Sign-Open-default.ensures.reads)) (unexpected c.args.text.now c.args.depth (a_sign mark.Close) (LevelPart ∷ []) (class.Sign mark.Close) c.in_ok-inside-in-Some-Sign-Open-default.rest.now _ refl c.in_err-rest-in-Some-Sign-Open-default.ensures.stop))
+    let p = err_from_is_err_and c.from_residual-in_err-rest-in-Some-Sign-Open-default.result c.from_residual-in_err-rest-in-Some-Sign-Open-default.ensures.1 in rw (p.1, p.2) (then_stops _ (then (one c.args.text.now c.args.depth (ExpressionPart factors) ([]) (ExpressionPart whole ∷ TokenPart (a_sign Close) ∷ LevelPart ∷ []) (sign Open) c.args.input.now c.in-Some-Sign-Open-default.rest.now (λ s l. omega (arith, l, c.requires.1.1.0, c.in_ok-inner-in-Some-Sign-Open-default.ensures.deeper.0, c.in_ok-inner-in-Some-Sign-Open-default.ensures.deeper.1)) (λ s. refl) ((first_of _ (SignClass Open) c.args.input.now c.in-Some-Sign-Open-default.rest.now (c.in-Some-Sign-Open-default.field-0-0-is ∙ ap SignClass c.in-Some-Sign-Open-default.field-0-0-0-is) c.in-Some-Sign-Open-default.ensures.first.0).1 c.args.text.now)) (call c.args.text.now c.args.depth c.in_ok-inner-in-Some-Sign-Open-default.inner (ExpressionPart whole ∷ []) (TokenPart (a_sign Close) ∷ LevelPart ∷ []) c.in-Some-Sign-Open-default.rest.now c.in_ok-inside-in-Some-Sign-Open-default.rest.now (λ s l. omega (arith, l, c.requires.1.1.0, c.in_ok-inner-in-Some-Sign-Open-default.ensures.deeper.0, c.in_ok-inner-in-Some-Sign-Open-default.ensures.deeper.1)) c.in_ok-inside-in-Some-Sign-Open-default.ensures.reads)) (unexpected c.args.text.now c.args.depth (a_sign Close) (LevelPart ∷ []) (SignClass Close) c.in_ok-inside-in-Some-Sign-Open-default.rest.now _ refl c.in_err-rest-in-Some-Sign-Open-default.ensures.stop))
 
 pub read_factor-returns-in_err-name-in-Some-Name-default : goal.read_factor-returns-in_err-name-in-Some-Name-default
 read_factor-returns-in_err-name-in-Some-Name-default t c =
-    let p = err_from_is_err_and c.from_residual-in_err-name-in-Some-Name-default.result c.from_residual-in_err-name-in-Some-Name-default.ensures.1 in rw (p.1, p.2) (only_memory c.args.text.now c.args.depth (ExpressionPart factors ∷ []) c.args.input.now _ _ (first_of _ class.Name c.args.input.now c.in-Some-Name-default.field-0-1.now c.in-Some-Name-default.field-0-0-is c.in-Some-Name-default.ensures.first.0) c.in_err-name-in-Some-Name-default.ensures.stop)
+    let p = err_from_is_err_and c.from_residual-in_err-name-in-Some-Name-default.result c.from_residual-in_err-name-in-Some-Name-default.ensures.1 in rw (p.1, p.2) (only_memory c.args.text.now c.args.depth (ExpressionPart factors ∷ []) c.args.input.now _ _ (first_of _ NameClass c.args.input.now c.in-Some-Name-default.field-0-1.now c.in-Some-Name-default.field-0-0-is c.in-Some-Name-default.ensures.first.0) c.in_err-name-in-Some-Name-default.ensures.stop)
 
 pub read_expression-read_before-requires : goal.read_expression-read_before-requires
 read_expression-read_before-requires t c =
@@ -112,9 +102,9 @@ read_expression-returns-in_err-test t c =
     let T = c.args.text.now in let i = c.args.input.now in
     let e = c.in_ok-inner.inner in
     let n = c.in_ok-inner.ensures.deeper.0 in
-    let m = K.if_moves T c.args.depth e i c.in-Some.rest.now n c.in_ok-inner.ensures.deeper.1 (c.in-Some.ensures.first.1 T) in
-    rw (p.1, p.2) (then_stops T c.args.depth K.choice K.after_if i c.in-Some.rest.now _ m
-    (call_two_stops T c.args.depth e (ExpressionPart whole) (TokenPart (a_word keyword.Then)) K.after_then c.in-Some.rest.now _ (λ s l. omega (arith, l, n)) c.in_err-test.ensures))
+    let m = one T c.args.depth (ExpressionPart whole) [] choice_parts (word If) i c.in-Some.rest.now (λ s l. omega (arith, l, n, c.in_ok-inner.ensures.deeper.1)) (λ s. refl) (c.in-Some.ensures.first.1 T) in
+    rw (p.1, p.2) (then_stops _ m
+    (call_stops T c.args.depth e (ExpressionPart whole ∷ TokenPart (a_word Then) ∷ []) (drop 2 choice_parts) c.in-Some.rest.now _ (λ s l. omega (arith, l, n)) c.in_err-test.ensures))
 
 pub read_expression-returns-in_err-yes : goal.read_expression-returns-in_err-yes
 read_expression-returns-in_err-yes t c =
@@ -122,9 +112,9 @@ read_expression-returns-in_err-yes t c =
     let T = c.args.text.now in let i = c.args.input.now in
     let e = c.in_ok-inner.inner in
     let n = c.in_ok-inner.ensures.deeper.0 in
-    let m2 = K.then_moves T c.args.depth e i c.in-Some.rest.now c.in_ok-test.rest.now n c.in_ok-inner.ensures.deeper.1 (c.in-Some.ensures.first.1 T) c.in_ok-test.ensures.reads in
-    rw (p.1, p.2) (then_stops T c.args.depth K.choice K.after_then i c.in_ok-test.rest.now _ m2
-    (call_two_stops T c.args.depth e (ExpressionPart whole) (TokenPart (a_word keyword.Else)) K.after_else c.in_ok-test.rest.now _ (λ s l. omega (arith, l, n)) c.in_err-yes.ensures))
+    let m2 = then (one T c.args.depth (ExpressionPart whole) [] choice_parts (word If) i c.in-Some.rest.now (λ s l. omega (arith, l, n, c.in_ok-inner.ensures.deeper.1)) (λ s. refl) (c.in-Some.ensures.first.1 T)) (call T c.args.depth e (ExpressionPart whole ∷ TokenPart (a_word Then) ∷ []) (drop 2 choice_parts) c.in-Some.rest.now c.in_ok-test.rest.now (λ s l. omega (arith, l, n)) c.in_ok-test.ensures.reads) in
+    rw (p.1, p.2) (then_stops _ m2
+    (call_stops T c.args.depth e (ExpressionPart whole ∷ TokenPart (a_word Else) ∷ []) (drop 4 choice_parts) c.in_ok-test.rest.now _ (λ s l. omega (arith, l, n)) c.in_err-yes.ensures))
 
 pub read_expression-returns-in_err-no : goal.read_expression-returns-in_err-no
 read_expression-returns-in_err-no t c =
@@ -132,9 +122,9 @@ read_expression-returns-in_err-no t c =
     let T = c.args.text.now in let i = c.args.input.now in
     let e = c.in_ok-inner.inner in
     let n = c.in_ok-inner.ensures.deeper.0 in
-    let m3 = K.else_moves T c.args.depth e i c.in-Some.rest.now c.in_ok-test.rest.now c.in_ok-yes.rest.now n c.in_ok-inner.ensures.deeper.1 (c.in-Some.ensures.first.1 T) c.in_ok-test.ensures.reads c.in_ok-yes.ensures.reads in
-    rw (p.1, p.2) (then_stops T c.args.depth K.choice K.after_else i c.in_ok-yes.rest.now _ m3
-    (call_stops T c.args.depth e (ExpressionPart whole) (LevelPart ∷ []) c.in_ok-yes.rest.now _ (λ s l. omega (arith, l, n)) c.in_err-no.ensures))
+    let m3 = then (then (one T c.args.depth (ExpressionPart whole) [] choice_parts (word If) i c.in-Some.rest.now (λ s l. omega (arith, l, n, c.in_ok-inner.ensures.deeper.1)) (λ s. refl) (c.in-Some.ensures.first.1 T)) (call T c.args.depth e (ExpressionPart whole ∷ TokenPart (a_word Then) ∷ []) (drop 2 choice_parts) c.in-Some.rest.now c.in_ok-test.rest.now (λ s l. omega (arith, l, n)) c.in_ok-test.ensures.reads)) (call T c.args.depth e (ExpressionPart whole ∷ TokenPart (a_word Else) ∷ []) (drop 4 choice_parts) c.in_ok-test.rest.now c.in_ok-yes.rest.now (λ s l. omega (arith, l, n)) c.in_ok-yes.ensures.reads) in
+    rw (p.1, p.2) (then_stops _ m3
+    (call_stops T c.args.depth e (ExpressionPart whole ∷ []) (LevelPart ∷ []) c.in_ok-yes.rest.now _ (λ s l. omega (arith, l, n)) c.in_err-no.ensures))
 
 pub read_before-read_expression-requires : goal.read_before-read_expression-requires
 read_before-read_expression-requires t c =
@@ -143,7 +133,7 @@ read_before-read_expression-requires t c =
 pub read_before-returns-in_err-expression : goal.read_before-returns-in_err-expression
 read_before-returns-in_err-expression t c =
     let p = err_from_is_err_and c.from_residual.result c.from_residual.ensures.1 in
-    rw (p.1, p.2) (call_stops c.args.text.now c.args.depth c.args.depth (ExpressionPart whole) (TokenPart (a_word c.args.last) ∷ []) c.args.input.now _ (λ s l. l)
+    rw (p.1, p.2) (call_stops c.args.text.now c.args.depth c.args.depth (ExpressionPart whole ∷ []) (TokenPart (a_word c.args.last) ∷ []) c.args.input.now _ (λ s l. l)
     c.in_err-expression.ensures)
 
 pub read_before-returns-in_err-rest : goal.read_before-returns-in_err-rest
@@ -151,9 +141,9 @@ read_before-returns-in_err-rest t c =
     let p = err_from_is_err_and c.from_residual-in_err-rest.result c.from_residual-in_err-rest.ensures.1 in
     let T = c.args.text.now in
     let k = TokenPart (a_word c.args.last) ∷ [] in
-    let m = call T c.args.depth c.args.depth (ExpressionPart whole) k c.args.input.now c.in_ok-expression.rest.now (λ s l. l) c.in_ok-expression.ensures.reads in
-    rw (p.1, p.2) (then_stops T c.args.depth (ExpressionPart whole ∷ k) k c.args.input.now c.in_ok-expression.rest.now _ m
-    (unexpected T c.args.depth (a_word c.args.last) [] (class.Word c.args.last) c.in_ok-expression.rest.now _ c.requires.1.1.1.1 c.in_err-rest.ensures.stop))
+    let m = call T c.args.depth c.args.depth (ExpressionPart whole ∷ []) k c.args.input.now c.in_ok-expression.rest.now (λ s l. l) c.in_ok-expression.ensures.reads in
+    rw (p.1, p.2) (then_stops _ m
+    (unexpected T c.args.depth (a_word c.args.last) [] (Word c.args.last) c.in_ok-expression.rest.now _ c.requires.1.1.1.1 c.in_err-rest.ensures.stop))
 
 pub read_expression-returns-in_default : goal.read_expression-returns-in_default
 read_expression-returns-in_default t c =
@@ -164,16 +154,16 @@ read_before-returns t c =
     let T = c.args.text.now in record {
       between = c.in_ok-expression.rest.now;
       spans = c.in_ok-expression.ensures.spans;
-      takes = S.takes T (word c.args.last) c.in_ok-expression.rest.now c.in_ok-rest.rest.now c.in_ok-rest.ensures.passed (c.in_ok-rest.ensures.first.1 T);
+      takes = one_lexeme T (word c.args.last) c.in_ok-expression.rest.now c.in_ok-rest.rest.now c.in_ok-rest.ensures.passed (c.in_ok-rest.ensures.first.1 T);
       fits = c.in_ok-expression.ensures.fits;
       nesting = c.in_ok-expression.ensures.nesting;
       shorter = omega (arith, c.in_ok-expression.ensures.shorter, c.in_ok-rest.ensures.shorter);
       proper = c.in_ok-rest.ensures.proper T c.in_ok-expression.ensures.proper;
       reads = let T = c.args.text.now in
           let k = TokenPart (a_word c.args.last) ∷ [] in
-          let m = call T c.args.depth c.args.depth (ExpressionPart whole) k c.args.input.now c.in_ok-expression.rest.now (λ s l. l) c.in_ok-expression.ensures.reads in
-          then T c.args.depth (ExpressionPart whole ∷ k) k [] c.args.input.now c.in_ok-expression.rest.now c.in_ok-rest.rest.now m
-          (expected T c.args.depth (a_word c.args.last) [] (class.Word c.args.last) c.in_ok-expression.rest.now c.in_ok-rest.rest.now (λ s l. omega (arith, l, c.requires.1.1.0)) c.requires.1.1.1.1
+          let m = call T c.args.depth c.args.depth (ExpressionPart whole ∷ []) k c.args.input.now c.in_ok-expression.rest.now (λ s l. l) c.in_ok-expression.ensures.reads in
+          then m
+          (expected T c.args.depth (a_word c.args.last) [] (Word c.args.last) c.in_ok-expression.rest.now c.in_ok-rest.rest.now (λ s l. omega (arith, l, c.requires.1.1.0)) c.requires.1.1.1.1
           c.in_ok-rest.ensures.first);
     }
 
@@ -189,7 +179,7 @@ read_relation-returns-in_default t c =
       nesting = c.in_ok-left.ensures.nesting;
       shorter = c.in_ok-left.ensures.shorter;
       proper = c.in_ok-left.ensures.proper;
-      reads = (then c.args.text.now c.args.depth (ExpressionPart relations ∷ []) (OperatorsPart relations ∷ []) ([]) c.args.input.now c.in_ok-left.rest.now c.in_ok-left.rest.now (then c.args.text.now c.args.depth (ExpressionPart relations ∷ []) (ExpressionPart sums ∷ OperatorsPart relations ∷ []) (OperatorsPart relations ∷ []) c.args.input.now c.args.input.now c.in_ok-left.rest.now (opens_chain c.args.text.now c.args.depth relations [] c.args.input.now tt) (call c.args.text.now c.args.depth c.args.depth (ExpressionPart sums) (OperatorsPart relations ∷ []) c.args.input.now c.in_ok-left.rest.now (λ s l. omega (arith, l, c.requires.1.1.0)) c.in_ok-left.ensures.reads)) (operators_end c.args.text.now c.args.depth relations [] c.in_ok-left.rest.now (c.in_default.ensures.lacks c.args.text.now)));
+      reads = (then (then (opens_chain c.args.text.now c.args.depth relations [] c.args.input.now tt) (call c.args.text.now c.args.depth c.args.depth (ExpressionPart sums ∷ []) (OperatorsPart relations ∷ []) c.args.input.now c.in_ok-left.rest.now (λ s l. omega (arith, l, c.requires.1.1.0)) c.in_ok-left.ensures.reads)) (nothing c.args.text.now c.args.depth (OperatorsPart relations) [] c.in_ok-left.rest.now refl (c.in_default.ensures.lacks c.args.text.now)));
     }
 
 pub read_factor-returns-in-Some-Word-Wait-default : goal.read_factor-returns-in-Some-Word-Wait-default
@@ -203,23 +193,23 @@ read_factor-returns-in_default t c =
 pub read_denial-returns-in_err-operand : goal.read_denial-returns-in_err-operand
 read_denial-returns-in_err-operand t c =
     let p = err_from_is_err_and c.from_residual-in_err-operand.result c.from_residual-in_err-operand.ensures.1 in
-    rw (p.1, p.2) (then_stops c.args.text.now c.args.depth (ExpressionPart denials ∷ []) (ExpressionPart denials ∷ LevelPart ∷ []) c.args.input.now c.in-Some.rest.now _
-    (one c.args.text.now c.args.depth (ExpressionPart denials) [] (ExpressionPart denials ∷ LevelPart ∷ []) (word keyword.Not) c.args.input.now c.in-Some.rest.now (λ s l. omega (arith, l, c.in_ok-inner.ensures.deeper.0, c.in_ok-inner.ensures.deeper.1)) (λ s. refl) (c.in-Some.ensures.first c.args.text.now))
-    (call_stops c.args.text.now c.args.depth c.in_ok-inner.inner (ExpressionPart denials) (LevelPart ∷ []) c.in-Some.rest.now _ (λ s l. omega (arith, l, c.in_ok-inner.ensures.deeper.0)) c.in_err-operand.ensures))
+    rw (p.1, p.2) (then_stops _
+    (one c.args.text.now c.args.depth (ExpressionPart denials) [] (ExpressionPart denials ∷ LevelPart ∷ []) (word NotWord) c.args.input.now c.in-Some.rest.now (λ s l. omega (arith, l, c.in_ok-inner.ensures.deeper.0, c.in_ok-inner.ensures.deeper.1)) (λ s. refl) (c.in-Some.ensures.first c.args.text.now))
+    (call_stops c.args.text.now c.args.depth c.in_ok-inner.inner (ExpressionPart denials ∷ []) (LevelPart ∷ []) c.in-Some.rest.now _ (λ s l. omega (arith, l, c.in_ok-inner.ensures.deeper.0)) c.in_err-operand.ensures))
 
 pub read_factor-returns-in_err-operand-in-Some-Sign-Minus-default : goal.read_factor-returns-in_err-operand-in-Some-Sign-Minus-default
 read_factor-returns-in_err-operand-in-Some-Sign-Minus-default t c =
     let p = err_from_is_err_and c.from_residual-in_err-operand-in-Some-Sign-Minus-default.result c.from_residual-in_err-operand-in-Some-Sign-Minus-default.ensures.1 in
-    rw (p.1, p.2) (then_stops c.args.text.now c.args.depth (ExpressionPart factors ∷ []) (ExpressionPart factors ∷ LevelPart ∷ []) c.args.input.now c.in-Some-Sign-Minus-default.rest.now _
-    (one c.args.text.now c.args.depth (ExpressionPart factors) [] (ExpressionPart factors ∷ LevelPart ∷ []) (sign mark.Minus) c.args.input.now c.in-Some-Sign-Minus-default.rest.now (λ s l. omega (arith, l, c.in_ok-inner-in-Some-Sign-Minus-default.ensures.deeper.0, c.in_ok-inner-in-Some-Sign-Minus-default.ensures.deeper.1)) (λ s. refl) ((first_of _ (class.Sign mark.Minus) c.args.input.now c.in-Some-Sign-Minus-default.rest.now (c.in-Some-Sign-Minus-default.field-0-0-is ∙ ap class.Sign c.in-Some-Sign-Minus-default.field-0-0-0-is) c.in-Some-Sign-Minus-default.ensures.first.0).1 c.args.text.now))
-    (call_stops c.args.text.now c.args.depth c.in_ok-inner-in-Some-Sign-Minus-default.inner (ExpressionPart factors) (LevelPart ∷ []) c.in-Some-Sign-Minus-default.rest.now _ (λ s l. omega (arith, l, c.in_ok-inner-in-Some-Sign-Minus-default.ensures.deeper.0)) c.in_err-operand-in-Some-Sign-Minus-default.ensures))
+    rw (p.1, p.2) (then_stops _
+    (one c.args.text.now c.args.depth (ExpressionPart factors) [] (ExpressionPart factors ∷ LevelPart ∷ []) (sign Minus) c.args.input.now c.in-Some-Sign-Minus-default.rest.now (λ s l. omega (arith, l, c.in_ok-inner-in-Some-Sign-Minus-default.ensures.deeper.0, c.in_ok-inner-in-Some-Sign-Minus-default.ensures.deeper.1)) (λ s. refl) ((first_of _ (SignClass Minus) c.args.input.now c.in-Some-Sign-Minus-default.rest.now (c.in-Some-Sign-Minus-default.field-0-0-is ∙ ap SignClass c.in-Some-Sign-Minus-default.field-0-0-0-is) c.in-Some-Sign-Minus-default.ensures.first.0).1 c.args.text.now))
+    (call_stops c.args.text.now c.args.depth c.in_ok-inner-in-Some-Sign-Minus-default.inner (ExpressionPart factors ∷ []) (LevelPart ∷ []) c.in-Some-Sign-Minus-default.rest.now _ (λ s l. omega (arith, l, c.in_ok-inner-in-Some-Sign-Minus-default.ensures.deeper.0)) c.in_err-operand-in-Some-Sign-Minus-default.ensures))
 
 pub read_factor-returns-in_err-inside-in-Some-Sign-Open-default : goal.read_factor-returns-in_err-inside-in-Some-Sign-Open-default
 read_factor-returns-in_err-inside-in-Some-Sign-Open-default t c =
     let p = err_from_is_err_and c.from_residual-in_err-inside-in-Some-Sign-Open-default.result c.from_residual-in_err-inside-in-Some-Sign-Open-default.ensures.1 in
-    rw (p.1, p.2) (then_stops c.args.text.now c.args.depth (ExpressionPart factors ∷ []) (ExpressionPart whole ∷ TokenPart (a_sign mark.Close) ∷ LevelPart ∷ []) c.args.input.now c.in-Some-Sign-Open-default.rest.now _
-    (one c.args.text.now c.args.depth (ExpressionPart factors) [] (ExpressionPart whole ∷ TokenPart (a_sign mark.Close) ∷ LevelPart ∷ []) (sign mark.Open) c.args.input.now c.in-Some-Sign-Open-default.rest.now (λ s l. omega (arith, l, c.in_ok-inner-in-Some-Sign-Open-default.ensures.deeper.0, c.in_ok-inner-in-Some-Sign-Open-default.ensures.deeper.1)) (λ s. refl) ((first_of _ (class.Sign mark.Open) c.args.input.now c.in-Some-Sign-Open-default.rest.now (c.in-Some-Sign-Open-default.field-0-0-is ∙ ap class.Sign c.in-Some-Sign-Open-default.field-0-0-0-is) c.in-Some-Sign-Open-default.ensures.first.0).1 c.args.text.now))
-    (call_stops c.args.text.now c.args.depth c.in_ok-inner-in-Some-Sign-Open-default.inner (ExpressionPart whole) (TokenPart (a_sign mark.Close) ∷ LevelPart ∷ []) c.in-Some-Sign-Open-default.rest.now _ (λ s l. omega (arith, l, c.in_ok-inner-in-Some-Sign-Open-default.ensures.deeper.0)) c.in_err-inside-in-Some-Sign-Open-default.ensures))
+    rw (p.1, p.2) (then_stops _
+    (one c.args.text.now c.args.depth (ExpressionPart factors) [] (ExpressionPart whole ∷ TokenPart (a_sign Close) ∷ LevelPart ∷ []) (sign Open) c.args.input.now c.in-Some-Sign-Open-default.rest.now (λ s l. omega (arith, l, c.in_ok-inner-in-Some-Sign-Open-default.ensures.deeper.0, c.in_ok-inner-in-Some-Sign-Open-default.ensures.deeper.1)) (λ s. refl) ((first_of _ (SignClass Open) c.args.input.now c.in-Some-Sign-Open-default.rest.now (c.in-Some-Sign-Open-default.field-0-0-is ∙ ap SignClass c.in-Some-Sign-Open-default.field-0-0-0-is) c.in-Some-Sign-Open-default.ensures.first.0).1 c.args.text.now))
+    (call_stops c.args.text.now c.args.depth c.in_ok-inner-in-Some-Sign-Open-default.inner (ExpressionPart whole ∷ []) (TokenPart (a_sign Close) ∷ LevelPart ∷ []) c.in-Some-Sign-Open-default.rest.now _ (λ s l. omega (arith, l, c.in_ok-inner-in-Some-Sign-Open-default.ensures.deeper.0)) c.in_err-inside-in-Some-Sign-Open-default.ensures))
 
 pub read_expression-returns : goal.read_expression-returns
 read_expression-returns t c =
@@ -233,7 +223,7 @@ read_expression-returns t c =
           c.in_ok-test.rest.now,
           c.in_ok-yes.ensures.between,
           c.in_ok-yes.rest.now,
-          S.takes T (word keyword.If) c.args.input.now c.in-Some.rest.now c.in-Some.ensures.passed (c.in-Some.ensures.first.1 T),
+          one_lexeme T (word If) c.args.input.now c.in-Some.rest.now c.in-Some.ensures.passed (c.in-Some.ensures.first.1 T),
           c.in_ok-test.ensures.spans,
           c.in_ok-test.ensures.takes,
           c.in_ok-yes.ensures.spans,
@@ -248,11 +238,11 @@ read_expression-returns t c =
       reads = let T = c.args.text.now in let i = c.args.input.now in
           let e = c.in_ok-inner.inner in
           let n = c.in_ok-inner.ensures.deeper.0 in
-          let m3 = K.else_moves T c.args.depth e i c.in-Some.rest.now c.in_ok-test.rest.now c.in_ok-yes.rest.now n c.in_ok-inner.ensures.deeper.1 (c.in-Some.ensures.first.1 T) c.in_ok-test.ensures.reads c.in_ok-yes.ensures.reads in
+          let m3 = then (then (one T c.args.depth (ExpressionPart whole) [] choice_parts (word If) i c.in-Some.rest.now (λ s l. omega (arith, l, n, c.in_ok-inner.ensures.deeper.1)) (λ s. refl) (c.in-Some.ensures.first.1 T)) (call T c.args.depth e (ExpressionPart whole ∷ TokenPart (a_word Then) ∷ []) (drop 2 choice_parts) c.in-Some.rest.now c.in_ok-test.rest.now (λ s l. omega (arith, l, n)) c.in_ok-test.ensures.reads)) (call T c.args.depth e (ExpressionPart whole ∷ TokenPart (a_word Else) ∷ []) (drop 4 choice_parts) c.in_ok-test.rest.now c.in_ok-yes.rest.now (λ s l. omega (arith, l, n)) c.in_ok-yes.ensures.reads) in
           let o = c.in_ok-no.rest.now in
-          then T c.args.depth K.choice (LevelPart ∷ []) [] i o o
-          (then T c.args.depth K.choice K.after_else (LevelPart ∷ []) i c.in_ok-yes.rest.now o m3
-          (call T c.args.depth e (ExpressionPart whole) (LevelPart ∷ []) c.in_ok-yes.rest.now o (λ s l. omega (arith, l, n)) c.in_ok-no.ensures.reads))
+          then
+          (then m3
+          (call T c.args.depth e (ExpressionPart whole ∷ []) (LevelPart ∷ []) c.in_ok-yes.rest.now o (λ s l. omega (arith, l, n)) c.in_ok-no.ensures.reads))
           (level_ends T c.args.depth [] o);
     })
     c.made.result (λ x. x.0.value) (λ x. x.1.now) c.made.ensures
@@ -261,12 +251,12 @@ pub read_denial-returns : goal.read_denial-returns
 read_denial-returns t c =
     let T = c.args.text.now in
     made T c.args.depth denials _ c.args.input.now c.in_ok-operand.rest.now (λ at h. record {
-      spans = (h, (c.in-Some.rest.now, S.takes T (word keyword.Not) c.args.input.now c.in-Some.rest.now c.in-Some.ensures.passed (c.in-Some.ensures.first T), c.in_ok-operand.ensures.spans));
+      spans = (h, (c.in-Some.rest.now, one_lexeme T (word NotWord) c.args.input.now c.in-Some.rest.now c.in-Some.ensures.passed (c.in-Some.ensures.first T), c.in_ok-operand.ensures.spans));
       fits = (omega arith, c.in_ok-operand.ensures.fits);
       nesting = omega (arith, c.in_ok-inner.ensures.deeper.0, c.in_ok-operand.ensures.nesting);
       shorter = omega (arith, c.in-Some.ensures.shorter, c.in_ok-operand.ensures.shorter);
       proper = c.in_ok-operand.ensures.proper;
-      reads = (then c.args.text.now c.args.depth (ExpressionPart denials ∷ []) (LevelPart ∷ []) ([]) c.args.input.now c.in_ok-operand.rest.now c.in_ok-operand.rest.now (then c.args.text.now c.args.depth (ExpressionPart denials ∷ []) (ExpressionPart denials ∷ LevelPart ∷ []) (LevelPart ∷ []) c.args.input.now c.in-Some.rest.now c.in_ok-operand.rest.now (one c.args.text.now c.args.depth (ExpressionPart denials) ([]) (ExpressionPart denials ∷ LevelPart ∷ []) (word keyword.Not) c.args.input.now c.in-Some.rest.now (λ s l. omega (arith, l, c.requires.1.1.0, c.in_ok-inner.ensures.deeper.0, c.in_ok-inner.ensures.deeper.1)) (λ s. refl) (c.in-Some.ensures.first c.args.text.now)) (call c.args.text.now c.args.depth c.in_ok-inner.inner (ExpressionPart denials) (LevelPart ∷ []) c.in-Some.rest.now c.in_ok-operand.rest.now (λ s l. omega (arith, l, c.requires.1.1.0, c.in_ok-inner.ensures.deeper.0, c.in_ok-inner.ensures.deeper.1)) c.in_ok-operand.ensures.reads)) (level_ends c.args.text.now c.args.depth [] c.in_ok-operand.rest.now));
+      reads = (then (then (one c.args.text.now c.args.depth (ExpressionPart denials) ([]) (ExpressionPart denials ∷ LevelPart ∷ []) (word NotWord) c.args.input.now c.in-Some.rest.now (λ s l. omega (arith, l, c.requires.1.1.0, c.in_ok-inner.ensures.deeper.0, c.in_ok-inner.ensures.deeper.1)) (λ s. refl) (c.in-Some.ensures.first c.args.text.now)) (call c.args.text.now c.args.depth c.in_ok-inner.inner (ExpressionPart denials ∷ []) (LevelPart ∷ []) c.in-Some.rest.now c.in_ok-operand.rest.now (λ s l. omega (arith, l, c.requires.1.1.0, c.in_ok-inner.ensures.deeper.0, c.in_ok-inner.ensures.deeper.1)) c.in_ok-operand.ensures.reads)) (level_ends c.args.text.now c.args.depth [] c.in_ok-operand.rest.now));
     })
     c.made.result (λ x. x.0.value) (λ x. x.1.now) c.made.ensures
 
@@ -277,13 +267,13 @@ read_relation-returns t c =
       spans = (
         h,
         c.in_ok-form.ensures.spans T c.args.input.now c.in_ok-left.rest.now c.in-Some.after.now c.in_ok-right.rest.now c.in_ok-left.ensures.spans
-            (S.takes T (operator_terminal c.in-Some.operator) c.in_ok-left.rest.now c.in-Some.after.now c.in-Some.ensures.passed (c.in-Some.ensures.first T)) c.in_ok-right.ensures.spans,
+            (one_lexeme T (operator_terminal c.in-Some.operator) c.in_ok-left.rest.now c.in-Some.after.now c.in-Some.ensures.passed (c.in-Some.ensures.first T)) c.in_ok-right.ensures.spans,
       );
       fits = subst (Fits 4) (sym c.in_ok-form.ensures.built) (compared_fits c.in-Some.operator _ _ c.in-Some.ensures.ranked c.in_ok-left.ensures.fits c.in_ok-right.ensures.fits);
       nesting = omega (arith, ap expression_nesting c.in_ok-form.ensures.built, c.in_ok-left.ensures.nesting, c.in_ok-right.ensures.nesting);
       shorter = omega (arith, c.in-Some.ensures.shorter, c.in_ok-left.ensures.shorter, c.in_ok-right.ensures.shorter);
       proper = c.in_ok-right.ensures.proper;
-      reads = (then c.args.text.now c.args.depth (ExpressionPart relations ∷ []) (ExpressionPart sums ∷ []) ([]) c.args.input.now c.in-Some.after.now c.in_ok-right.rest.now (then c.args.text.now c.args.depth (ExpressionPart relations ∷ []) (OperatorsPart relations ∷ []) (ExpressionPart sums ∷ []) c.args.input.now c.in_ok-left.rest.now c.in-Some.after.now (then c.args.text.now c.args.depth (ExpressionPart relations ∷ []) (ExpressionPart sums ∷ OperatorsPart relations ∷ []) (OperatorsPart relations ∷ []) c.args.input.now c.args.input.now c.in_ok-left.rest.now (opens_chain c.args.text.now c.args.depth relations [] c.args.input.now tt) (call c.args.text.now c.args.depth c.args.depth (ExpressionPart sums) (OperatorsPart relations ∷ []) c.args.input.now c.in_ok-left.rest.now (λ s l. omega (arith, l, c.requires.1.1.0)) c.in_ok-left.ensures.reads)) (comparison c.args.text.now c.args.depth c.in-Some.operator [] c.in_ok-left.rest.now c.in-Some.after.now (λ s l. omega (arith, l, c.requires.1.1.0)) c.in-Some.ensures.ranked (c.in-Some.ensures.first c.args.text.now))) (call c.args.text.now c.args.depth c.args.depth (ExpressionPart sums) ([]) c.in-Some.after.now c.in_ok-right.rest.now (λ s l. omega (arith, l, c.requires.1.1.0)) c.in_ok-right.ensures.reads));
+      reads = (then (then (then (opens_chain c.args.text.now c.args.depth relations [] c.args.input.now tt) (call c.args.text.now c.args.depth c.args.depth (ExpressionPart sums ∷ []) (OperatorsPart relations ∷ []) c.args.input.now c.in_ok-left.rest.now (λ s l. omega (arith, l, c.requires.1.1.0)) c.in_ok-left.ensures.reads)) (comparison c.args.text.now c.args.depth c.in-Some.operator [] c.in_ok-left.rest.now c.in-Some.after.now (λ s l. omega (arith, l, c.requires.1.1.0)) c.in-Some.ensures.ranked (c.in-Some.ensures.first c.args.text.now))) (call c.args.text.now c.args.depth c.args.depth (ExpressionPart sums ∷ []) ([]) c.in-Some.after.now c.in_ok-right.rest.now (λ s l. omega (arith, l, c.requires.1.1.0)) c.in_ok-right.ensures.reads));
     })
     c.made.result (λ x. x.0.value) (λ x. x.1.now) c.made.ensures
 
@@ -293,12 +283,12 @@ read_level-returns-then-is_empty t c =
     let T = c.args.text.now in
     let i = c.operands.invariant in
     record {
-      spans = subst (ExpressionSpans T c.in_ok-first.first.value c.args.input.now) (S.no_operands T c.operands.further.items i.spans.0 c.operands.rest.now none i.spans.2) i.spans.1;
+      spans = subst (ExpressionSpans T c.in_ok-first.first.value c.args.input.now) (no_operands T c.operands.further.items i.spans.0 c.operands.rest.now none i.spans.2) i.spans.1;
       fits = level_fits c.args.level _ no_operand c.in_ok-first.ensures.fits tt;
       nesting = c.in_ok-first.ensures.nesting;
       shorter = i.shorter;
       proper = i.proper;
-      reads = then T c.args.depth (ExpressionPart (rung_of c.args.level) ∷ []) (OperatorsPart (rung_of c.args.level) ∷ []) [] c.args.input.now c.operands.rest.now c.operands.rest.now i.reads (operators_end T c.args.depth (rung_of c.args.level) [] c.operands.rest.now (c.in_default.ensures.lacks T));
+      reads = then i.reads (nothing T c.args.depth (OperatorsPart (rung_of c.args.level)) [] c.operands.rest.now refl (c.in_default.ensures.lacks T));
     }
 
 pub read_level-returns : goal.read_level-returns
@@ -316,7 +306,7 @@ read_level-returns t c =
       nesting = omega (arith, ap expression_nesting m, joined_nesting (expression_of first) (operands_of further.items), i.nesting);
       shorter = i.shorter;
       proper = i.proper;
-      reads = then T c.args.depth (ExpressionPart (rung_of c.args.level) ∷ []) (OperatorsPart (rung_of c.args.level) ∷ []) [] c.args.input.now c.operands.rest.now c.operands.rest.now i.reads (operators_end T c.args.depth (rung_of c.args.level) [] c.operands.rest.now (c.in_default.ensures.lacks T));
+      reads = then i.reads (nothing T c.args.depth (OperatorsPart (rung_of c.args.level)) [] c.operands.rest.now refl (c.in_default.ensures.lacks T));
     })
     c.made.result (λ x. x.0.value) (λ x. x.1.now) c.made.ensures
 
@@ -327,13 +317,13 @@ read_factor-returns-in-Some-Number-default t c =
       spans = let u = subst IsUnsigned c.in-Some-Number-default.field-0-0-is (c.in-Some-Number-default.ensures.unsigned T c.requires.1.1.1) in (
         h,
         subst (λ z. Takes T (number z) c.args.input.now c.in-Some-Number-default.rest.now) (sym (to_z-of_z w64 c.in-Some-Number-default.number (number_fits c.in-Some-Number-default.number u.0 u.1 u.2)))
-            (S.takes T (number c.in-Some-Number-default.number) c.args.input.now c.in-Some-Number-default.rest.now c.in-Some-Number-default.ensures.passed ((first_of _ (class.Number c.in-Some-Number-default.number) c.args.input.now c.in-Some-Number-default.rest.now c.in-Some-Number-default.field-0-0-is c.in-Some-Number-default.ensures.first.0).1 T)),
+            (one_lexeme T (number c.in-Some-Number-default.number) c.args.input.now c.in-Some-Number-default.rest.now c.in-Some-Number-default.ensures.passed ((first_of _ (Number c.in-Some-Number-default.number) c.args.input.now c.in-Some-Number-default.rest.now c.in-Some-Number-default.field-0-0-is c.in-Some-Number-default.ensures.first.0).1 T)),
       );
       fits = (omega arith, tt);
       nesting = omega (arith, c.requires.1.1.0);
       shorter = omega (arith, c.in-Some-Number-default.ensures.first.1);
       proper = c.in-Some-Number-default.ensures.proper T c.requires.1.1.1;
-      reads = one T c.args.depth (ExpressionPart factors) [] [] (number c.in-Some-Number-default.number) c.args.input.now c.in-Some-Number-default.rest.now (λ s l. omega (arith, l, c.requires.1.1.0)) (λ s. refl) ((first_of _ (class.Number c.in-Some-Number-default.number) c.args.input.now c.in-Some-Number-default.rest.now (c.in-Some-Number-default.field-0-0-is) c.in-Some-Number-default.ensures.first.0).1 T);
+      reads = one T c.args.depth (ExpressionPart factors) [] [] (number c.in-Some-Number-default.number) c.args.input.now c.in-Some-Number-default.rest.now (λ s l. omega (arith, l, c.requires.1.1.0)) (λ s. refl) ((first_of _ (Number c.in-Some-Number-default.number) c.args.input.now c.in-Some-Number-default.rest.now (c.in-Some-Number-default.field-0-0-is) c.in-Some-Number-default.ensures.first.0).1 T);
     })
     c.made.result (λ x. x.0.value) (λ x. x.1.now) c.made.ensures
 
@@ -341,12 +331,12 @@ pub read_factor-returns-in-Some-Word-True-default : goal.read_factor-returns-in-
 read_factor-returns-in-Some-Word-True-default t c =
     let T = c.args.text.now in
     made T c.args.depth factors _ c.args.input.now c.in-Some-Word-True-default.rest.now (λ at h. record {
-      spans = (h, (S.takes T (word keyword.True) c.args.input.now c.in-Some-Word-True-default.rest.now c.in-Some-Word-True-default.ensures.passed ((first_of _ (class.Word keyword.True) c.args.input.now c.in-Some-Word-True-default.rest.now (c.in-Some-Word-True-default.field-0-0-is ∙ ap class.Word c.in-Some-Word-True-default.field-0-0-0-is) c.in-Some-Word-True-default.ensures.first.0).1 T)));
+      spans = (h, (one_lexeme T (word True) c.args.input.now c.in-Some-Word-True-default.rest.now c.in-Some-Word-True-default.ensures.passed ((first_of _ (Word True) c.args.input.now c.in-Some-Word-True-default.rest.now (c.in-Some-Word-True-default.field-0-0-is ∙ ap Word c.in-Some-Word-True-default.field-0-0-0-is) c.in-Some-Word-True-default.ensures.first.0).1 T)));
       fits = (omega arith, tt);
       nesting = omega (arith, c.requires.1.1.0);
       shorter = omega (arith, c.in-Some-Word-True-default.ensures.first.1);
       proper = c.in-Some-Word-True-default.ensures.proper T c.requires.1.1.1;
-      reads = one T c.args.depth (ExpressionPart factors) [] [] (word keyword.True) c.args.input.now c.in-Some-Word-True-default.rest.now (λ s l. omega (arith, l, c.requires.1.1.0)) (λ s. refl) ((first_of _ (class.Word keyword.True) c.args.input.now c.in-Some-Word-True-default.rest.now (c.in-Some-Word-True-default.field-0-0-is ∙ ap class.Word c.in-Some-Word-True-default.field-0-0-0-is) c.in-Some-Word-True-default.ensures.first.0).1 T);
+      reads = one T c.args.depth (ExpressionPart factors) [] [] (word True) c.args.input.now c.in-Some-Word-True-default.rest.now (λ s l. omega (arith, l, c.requires.1.1.0)) (λ s. refl) ((first_of _ (Word True) c.args.input.now c.in-Some-Word-True-default.rest.now (c.in-Some-Word-True-default.field-0-0-is ∙ ap Word c.in-Some-Word-True-default.field-0-0-0-is) c.in-Some-Word-True-default.ensures.first.0).1 T);
     })
     c.made-in-Some-Word-True-default.result (λ x. x.0.value) (λ x. x.1.now) c.made-in-Some-Word-True-default.ensures
 
@@ -354,12 +344,12 @@ pub read_factor-returns-in-Some-Word-False-default : goal.read_factor-returns-in
 read_factor-returns-in-Some-Word-False-default t c =
     let T = c.args.text.now in
     made T c.args.depth factors _ c.args.input.now c.in-Some-Word-False-default.rest.now (λ at h. record {
-      spans = (h, (S.takes T (word keyword.False) c.args.input.now c.in-Some-Word-False-default.rest.now c.in-Some-Word-False-default.ensures.passed ((first_of _ (class.Word keyword.False) c.args.input.now c.in-Some-Word-False-default.rest.now (c.in-Some-Word-False-default.field-0-0-is ∙ ap class.Word c.in-Some-Word-False-default.field-0-0-0-is) c.in-Some-Word-False-default.ensures.first.0).1 T)));
+      spans = (h, (one_lexeme T (word False) c.args.input.now c.in-Some-Word-False-default.rest.now c.in-Some-Word-False-default.ensures.passed ((first_of _ (Word False) c.args.input.now c.in-Some-Word-False-default.rest.now (c.in-Some-Word-False-default.field-0-0-is ∙ ap Word c.in-Some-Word-False-default.field-0-0-0-is) c.in-Some-Word-False-default.ensures.first.0).1 T)));
       fits = (omega arith, tt);
       nesting = omega (arith, c.requires.1.1.0);
       shorter = omega (arith, c.in-Some-Word-False-default.ensures.first.1);
       proper = c.in-Some-Word-False-default.ensures.proper T c.requires.1.1.1;
-      reads = one T c.args.depth (ExpressionPart factors) [] [] (word keyword.False) c.args.input.now c.in-Some-Word-False-default.rest.now (λ s l. omega (arith, l, c.requires.1.1.0)) (λ s. refl) ((first_of _ (class.Word keyword.False) c.args.input.now c.in-Some-Word-False-default.rest.now (c.in-Some-Word-False-default.field-0-0-is ∙ ap class.Word c.in-Some-Word-False-default.field-0-0-0-is) c.in-Some-Word-False-default.ensures.first.0).1 T);
+      reads = one T c.args.depth (ExpressionPart factors) [] [] (word False) c.args.input.now c.in-Some-Word-False-default.rest.now (λ s l. omega (arith, l, c.requires.1.1.0)) (λ s. refl) ((first_of _ (Word False) c.args.input.now c.in-Some-Word-False-default.rest.now (c.in-Some-Word-False-default.field-0-0-is ∙ ap Word c.in-Some-Word-False-default.field-0-0-0-is) c.in-Some-Word-False-default.ensures.first.0).1 T);
     })
     c.made-in-Some-Word-False-default.result (λ x. x.0.value) (λ x. x.1.now) c.made-in-Some-Word-False-default.ensures
 
@@ -367,12 +357,12 @@ pub read_factor-returns-in_ok-operand-in-Some-Sign-Minus-default : goal.read_fac
 read_factor-returns-in_ok-operand-in-Some-Sign-Minus-default t c =
     let T = c.args.text.now in
     made T c.args.depth factors _ c.args.input.now c.in_ok-operand-in-Some-Sign-Minus-default.rest.now (λ at h. record {
-      spans = (h, (c.in-Some-Sign-Minus-default.rest.now, (S.takes T (sign mark.Minus) c.args.input.now c.in-Some-Sign-Minus-default.rest.now c.in-Some-Sign-Minus-default.ensures.passed ((first_of _ (class.Sign mark.Minus) c.args.input.now c.in-Some-Sign-Minus-default.rest.now (c.in-Some-Sign-Minus-default.field-0-0-is ∙ ap class.Sign c.in-Some-Sign-Minus-default.field-0-0-0-is) c.in-Some-Sign-Minus-default.ensures.first.0).1 T)), c.in_ok-operand-in-Some-Sign-Minus-default.ensures.spans));
+      spans = (h, (c.in-Some-Sign-Minus-default.rest.now, (one_lexeme T (sign Minus) c.args.input.now c.in-Some-Sign-Minus-default.rest.now c.in-Some-Sign-Minus-default.ensures.passed ((first_of _ (SignClass Minus) c.args.input.now c.in-Some-Sign-Minus-default.rest.now (c.in-Some-Sign-Minus-default.field-0-0-is ∙ ap SignClass c.in-Some-Sign-Minus-default.field-0-0-0-is) c.in-Some-Sign-Minus-default.ensures.first.0).1 T)), c.in_ok-operand-in-Some-Sign-Minus-default.ensures.spans));
       fits = (omega arith, c.in_ok-operand-in-Some-Sign-Minus-default.ensures.fits);
       nesting = omega (arith, c.in_ok-inner-in-Some-Sign-Minus-default.ensures.deeper.0, c.in_ok-operand-in-Some-Sign-Minus-default.ensures.nesting);
       shorter = omega (arith, c.in-Some-Sign-Minus-default.ensures.first.1, c.in_ok-operand-in-Some-Sign-Minus-default.ensures.shorter);
       proper = c.in_ok-operand-in-Some-Sign-Minus-default.ensures.proper;
-      reads = (then c.args.text.now c.args.depth (ExpressionPart factors ∷ []) (LevelPart ∷ []) ([]) c.args.input.now c.in_ok-operand-in-Some-Sign-Minus-default.rest.now c.in_ok-operand-in-Some-Sign-Minus-default.rest.now (then c.args.text.now c.args.depth (ExpressionPart factors ∷ []) (ExpressionPart factors ∷ LevelPart ∷ []) (LevelPart ∷ []) c.args.input.now c.in-Some-Sign-Minus-default.rest.now c.in_ok-operand-in-Some-Sign-Minus-default.rest.now (one c.args.text.now c.args.depth (ExpressionPart factors) ([]) (ExpressionPart factors ∷ LevelPart ∷ []) (sign mark.Minus) c.args.input.now c.in-Some-Sign-Minus-default.rest.now (λ s l. omega (arith, l, c.requires.1.1.0, c.in_ok-inner-in-Some-Sign-Minus-default.ensures.deeper.0, c.in_ok-inner-in-Some-Sign-Minus-default.ensures.deeper.1)) (λ s. refl) ((first_of _ (class.Sign mark.Minus) c.args.input.now c.in-Some-Sign-Minus-default.rest.now (c.in-Some-Sign-Minus-default.field-0-0-is ∙ ap class.Sign c.in-Some-Sign-Minus-default.field-0-0-0-is) c.in-Some-Sign-Minus-default.ensures.first.0).1 c.args.text.now)) (call c.args.text.now c.args.depth c.in_ok-inner-in-Some-Sign-Minus-default.inner (ExpressionPart factors) (LevelPart ∷ []) c.in-Some-Sign-Minus-default.rest.now c.in_ok-operand-in-Some-Sign-Minus-default.rest.now (λ s l. omega (arith, l, c.requires.1.1.0, c.in_ok-inner-in-Some-Sign-Minus-default.ensures.deeper.0, c.in_ok-inner-in-Some-Sign-Minus-default.ensures.deeper.1)) c.in_ok-operand-in-Some-Sign-Minus-default.ensures.reads)) (level_ends c.args.text.now c.args.depth [] c.in_ok-operand-in-Some-Sign-Minus-default.rest.now));
+      reads = (then (then (one c.args.text.now c.args.depth (ExpressionPart factors) ([]) (ExpressionPart factors ∷ LevelPart ∷ []) (sign Minus) c.args.input.now c.in-Some-Sign-Minus-default.rest.now (λ s l. omega (arith, l, c.requires.1.1.0, c.in_ok-inner-in-Some-Sign-Minus-default.ensures.deeper.0, c.in_ok-inner-in-Some-Sign-Minus-default.ensures.deeper.1)) (λ s. refl) ((first_of _ (SignClass Minus) c.args.input.now c.in-Some-Sign-Minus-default.rest.now (c.in-Some-Sign-Minus-default.field-0-0-is ∙ ap SignClass c.in-Some-Sign-Minus-default.field-0-0-0-is) c.in-Some-Sign-Minus-default.ensures.first.0).1 c.args.text.now)) (call c.args.text.now c.args.depth c.in_ok-inner-in-Some-Sign-Minus-default.inner (ExpressionPart factors ∷ []) (LevelPart ∷ []) c.in-Some-Sign-Minus-default.rest.now c.in_ok-operand-in-Some-Sign-Minus-default.rest.now (λ s l. omega (arith, l, c.requires.1.1.0, c.in_ok-inner-in-Some-Sign-Minus-default.ensures.deeper.0, c.in_ok-inner-in-Some-Sign-Minus-default.ensures.deeper.1)) c.in_ok-operand-in-Some-Sign-Minus-default.ensures.reads)) (level_ends c.args.text.now c.args.depth [] c.in_ok-operand-in-Some-Sign-Minus-default.rest.now));
     })
     c.made-in-Some-Sign-Minus-default.result (λ x. x.0.value) (λ x. x.1.now) c.made-in-Some-Sign-Minus-default.ensures
 
@@ -380,12 +370,12 @@ pub read_factor-returns-in_ok-rest-in-Some-Sign-Open-default : goal.read_factor-
 read_factor-returns-in_ok-rest-in-Some-Sign-Open-default t c =
     let T = c.args.text.now in
     made T c.args.depth factors _ c.args.input.now c.in_ok-rest-in-Some-Sign-Open-default.rest.now (λ at h. record {
-      spans = (h, (c.in-Some-Sign-Open-default.rest.now, c.in_ok-inside-in-Some-Sign-Open-default.rest.now, (S.takes T (sign mark.Open) c.args.input.now c.in-Some-Sign-Open-default.rest.now c.in-Some-Sign-Open-default.ensures.passed ((first_of _ (class.Sign mark.Open) c.args.input.now c.in-Some-Sign-Open-default.rest.now (c.in-Some-Sign-Open-default.field-0-0-is ∙ ap class.Sign c.in-Some-Sign-Open-default.field-0-0-0-is) c.in-Some-Sign-Open-default.ensures.first.0).1 T)), c.in_ok-inside-in-Some-Sign-Open-default.ensures.spans, (S.takes T (sign mark.Close) c.in_ok-inside-in-Some-Sign-Open-default.rest.now c.in_ok-rest-in-Some-Sign-Open-default.rest.now c.in_ok-rest-in-Some-Sign-Open-default.ensures.passed (c.in_ok-rest-in-Some-Sign-Open-default.ensures.first.1 T))));
+      spans = (h, (c.in-Some-Sign-Open-default.rest.now, c.in_ok-inside-in-Some-Sign-Open-default.rest.now, (one_lexeme T (sign Open) c.args.input.now c.in-Some-Sign-Open-default.rest.now c.in-Some-Sign-Open-default.ensures.passed ((first_of _ (SignClass Open) c.args.input.now c.in-Some-Sign-Open-default.rest.now (c.in-Some-Sign-Open-default.field-0-0-is ∙ ap SignClass c.in-Some-Sign-Open-default.field-0-0-0-is) c.in-Some-Sign-Open-default.ensures.first.0).1 T)), c.in_ok-inside-in-Some-Sign-Open-default.ensures.spans, (one_lexeme T (sign Close) c.in_ok-inside-in-Some-Sign-Open-default.rest.now c.in_ok-rest-in-Some-Sign-Open-default.rest.now c.in_ok-rest-in-Some-Sign-Open-default.ensures.passed (c.in_ok-rest-in-Some-Sign-Open-default.ensures.first.1 T))));
       fits = (omega arith, c.in_ok-inside-in-Some-Sign-Open-default.ensures.fits.1);
       nesting = omega (arith, c.in_ok-inner-in-Some-Sign-Open-default.ensures.deeper.0, c.in_ok-inside-in-Some-Sign-Open-default.ensures.nesting);
       shorter = omega (arith, c.in-Some-Sign-Open-default.ensures.first.1, c.in_ok-inside-in-Some-Sign-Open-default.ensures.shorter, c.in_ok-rest-in-Some-Sign-Open-default.ensures.shorter);
       proper = c.in_ok-rest-in-Some-Sign-Open-default.ensures.proper c.args.text.now c.in_ok-inside-in-Some-Sign-Open-default.ensures.proper;
-      reads = (then c.args.text.now c.args.depth (ExpressionPart factors ∷ []) (LevelPart ∷ []) ([]) c.args.input.now c.in_ok-rest-in-Some-Sign-Open-default.rest.now c.in_ok-rest-in-Some-Sign-Open-default.rest.now (then c.args.text.now c.args.depth (ExpressionPart factors ∷ []) (TokenPart (a_sign mark.Close) ∷ LevelPart ∷ []) (LevelPart ∷ []) c.args.input.now c.in_ok-inside-in-Some-Sign-Open-default.rest.now c.in_ok-rest-in-Some-Sign-Open-default.rest.now (then c.args.text.now c.args.depth (ExpressionPart factors ∷ []) (ExpressionPart whole ∷ TokenPart (a_sign mark.Close) ∷ LevelPart ∷ []) (TokenPart (a_sign mark.Close) ∷ LevelPart ∷ []) c.args.input.now c.in-Some-Sign-Open-default.rest.now c.in_ok-inside-in-Some-Sign-Open-default.rest.now (one c.args.text.now c.args.depth (ExpressionPart factors) ([]) (ExpressionPart whole ∷ TokenPart (a_sign mark.Close) ∷ LevelPart ∷ []) (sign mark.Open) c.args.input.now c.in-Some-Sign-Open-default.rest.now (λ s l. omega (arith, l, c.requires.1.1.0, c.in_ok-inner-in-Some-Sign-Open-default.ensures.deeper.0, c.in_ok-inner-in-Some-Sign-Open-default.ensures.deeper.1)) (λ s. refl) ((first_of _ (class.Sign mark.Open) c.args.input.now c.in-Some-Sign-Open-default.rest.now (c.in-Some-Sign-Open-default.field-0-0-is ∙ ap class.Sign c.in-Some-Sign-Open-default.field-0-0-0-is) c.in-Some-Sign-Open-default.ensures.first.0).1 c.args.text.now)) (call c.args.text.now c.args.depth c.in_ok-inner-in-Some-Sign-Open-default.inner (ExpressionPart whole) (TokenPart (a_sign mark.Close) ∷ LevelPart ∷ []) c.in-Some-Sign-Open-default.rest.now c.in_ok-inside-in-Some-Sign-Open-default.rest.now (λ s l. omega (arith, l, c.requires.1.1.0, c.in_ok-inner-in-Some-Sign-Open-default.ensures.deeper.0, c.in_ok-inner-in-Some-Sign-Open-default.ensures.deeper.1)) c.in_ok-inside-in-Some-Sign-Open-default.ensures.reads)) (expected c.args.text.now c.args.depth (a_sign mark.Close) (LevelPart ∷ []) (class.Sign mark.Close) c.in_ok-inside-in-Some-Sign-Open-default.rest.now c.in_ok-rest-in-Some-Sign-Open-default.rest.now (λ s l. omega (arith, l, c.requires.1.1.0, c.in_ok-inner-in-Some-Sign-Open-default.ensures.deeper.0, c.in_ok-inner-in-Some-Sign-Open-default.ensures.deeper.1)) refl c.in_ok-rest-in-Some-Sign-Open-default.ensures.first)) (level_ends c.args.text.now c.args.depth [] c.in_ok-rest-in-Some-Sign-Open-default.rest.now));
+      reads = (then (then (then (one c.args.text.now c.args.depth (ExpressionPart factors) ([]) (ExpressionPart whole ∷ TokenPart (a_sign Close) ∷ LevelPart ∷ []) (sign Open) c.args.input.now c.in-Some-Sign-Open-default.rest.now (λ s l. omega (arith, l, c.requires.1.1.0, c.in_ok-inner-in-Some-Sign-Open-default.ensures.deeper.0, c.in_ok-inner-in-Some-Sign-Open-default.ensures.deeper.1)) (λ s. refl) ((first_of _ (SignClass Open) c.args.input.now c.in-Some-Sign-Open-default.rest.now (c.in-Some-Sign-Open-default.field-0-0-is ∙ ap SignClass c.in-Some-Sign-Open-default.field-0-0-0-is) c.in-Some-Sign-Open-default.ensures.first.0).1 c.args.text.now)) (call c.args.text.now c.args.depth c.in_ok-inner-in-Some-Sign-Open-default.inner (ExpressionPart whole ∷ []) (TokenPart (a_sign Close) ∷ LevelPart ∷ []) c.in-Some-Sign-Open-default.rest.now c.in_ok-inside-in-Some-Sign-Open-default.rest.now (λ s l. omega (arith, l, c.requires.1.1.0, c.in_ok-inner-in-Some-Sign-Open-default.ensures.deeper.0, c.in_ok-inner-in-Some-Sign-Open-default.ensures.deeper.1)) c.in_ok-inside-in-Some-Sign-Open-default.ensures.reads)) (expected c.args.text.now c.args.depth (a_sign Close) (LevelPart ∷ []) (SignClass Close) c.in_ok-inside-in-Some-Sign-Open-default.rest.now c.in_ok-rest-in-Some-Sign-Open-default.rest.now (λ s l. omega (arith, l, c.requires.1.1.0, c.in_ok-inner-in-Some-Sign-Open-default.ensures.deeper.0, c.in_ok-inner-in-Some-Sign-Open-default.ensures.deeper.1)) refl c.in_ok-rest-in-Some-Sign-Open-default.ensures.first)) (level_ends c.args.text.now c.args.depth [] c.in_ok-rest-in-Some-Sign-Open-default.rest.now));
     })
     c.made-in-Some-Sign-Open-default.result (λ x. x.0.value) (λ x. x.1.now) c.made-in-Some-Sign-Open-default.ensures
 

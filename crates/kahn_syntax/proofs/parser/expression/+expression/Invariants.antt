@@ -1,5 +1,4 @@
-use Rattle.kahn_syntax.proofs.Common.{◌≤◌, ◌<◌, ◌+◌, ◌*◌, List, [], ◌∷◌, length, max, Lexeme, ExpressionSpans, OperandsSpan, AreProper, expression_nesting, operands_nesting, FormedOperands, expression_of, operands_of, Moves, rung_of, ExpressionPart, OperatorsPart, at}
-use Rattle.kahn_syntax.proofs.Levels.{height}
+use Rattle.kahn_syntax.proofs.Parsing.{AreProper, ExpressionPart, ExpressionSpans, FormedOperands, Lexeme, List, Moves, OperandsSpan, OperatorsPart, at, expression_nesting, expression_of, height, length, max, operands_nesting, operands_of, rung_of, [], ◌*◌, ◌+◌, ◌<◌, ◌∷◌, ◌≤◌}
 use Rattle.kahn_syntax.proofs.parser.expression.+expression.Given as goal
 
 abbrev pub decreases-read_before : goal.decreases-read_before

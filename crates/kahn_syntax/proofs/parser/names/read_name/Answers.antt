@@ -1,5 +1,4 @@
-use Rattle.kahn_syntax.proofs.Common.{refl, get_or, arith, common_steps}
-use Rattle.kahn_syntax.proofs.Spanning.{name_first}
+use Rattle.kahn_syntax.proofs.Parsing.{arith, common_steps, get_or, name_first, refl}
 use Rattle.kahn_syntax.proofs.parser.names.read_name.Goals as goal
 
 pub returns-in_ok-copy-in-Name-clause-spans : goal.returns-in_ok-copy-in-Name-clause-spans

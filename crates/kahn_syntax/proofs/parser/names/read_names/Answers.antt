@@ -1,15 +1,11 @@
-use Rattle.kahn_syntax.proofs.Common.{a_sign, refl, sym, subst, [], ◌∷◌, ◌++◌, arith, err_from_is_err_and, name, sign, NamesTail, name_of, NamesSpan, Takes, NameSpans, TokenPart, a_name}
-use Rattle.kahn_syntax.specs.declared.lexeme.Sign.TheVariants as mark
-use Rattle.kahn_syntax.specs.declared.lexeme.Class.TheVariants as class
-use Rattle.kahn_syntax.proofs.Spanning as S
-use Rattle.kahn_syntax.proofs.Moves.{then_stops, token, no_name, next_member, last_member}
+use Rattle.kahn_syntax.proofs.Parsing.{Comma, NameSpans, NamesSpan, NamesTail, SignClass, Takes, TokenPart, a_name, a_sign, arith, err_from_is_err_and, last_member, name, name_of, next_member, no_name, one_lexeme, refl, sign, some_more, subst, sym, then_stops, token, [], ◌++◌, ◌∷◌}
 use Rattle.kahn_syntax.proofs.parser.names.read_names.Goals as goal
 
 pub returns-in_err-name : goal.returns-in_err-name
 returns-in_err-name c =
     let p = err_from_is_err_and c.from_residual.result c.from_residual.ensures.1 in
     rw (p.1, p.2)
-    (then_stops c.args.text.now 0 (TokenPart a_name ∷ NamesTail ∷ []) (TokenPart a_name ∷ NamesTail ∷ []) c.args.input.now c.names.rest.now _ c.names.invariant.reads
+    (then_stops _ c.names.invariant.reads
     (no_name c.args.text.now 0 (NamesTail ∷ []) c.names.rest.now _ c.in_err-name.ensures.stop))
 
 pub names-init : goal.names-init
@@ -18,7 +14,7 @@ names-init c =
       spans = λ n r p. subst (λ ns. NamesSpan c.args.text.now (ns ++ n ∷ []) c.args.input.now r) (sym c.new-names.ensures.items) (r, p, refl);
       shorter = omega arith;
       proper = c.requires.proper;
-      reads = λ s l. refl;
+      reads = record { fates = λ s l. refl };
     }
 
 pub names-preserved : goal.names-preserved
@@ -27,11 +23,11 @@ names-preserved c =
     let a = c.in_ok-name.after.now in
     let j = c.in-Some.further.now in
     record {
-      spans = λ n r p. S.some_more (Takes T (sign mark.Comma)) (NameSpans T) _ n i a j r (subst (λ ns. NamesSpan T ns i a) (sym c.in_ok-push.ensures.items) (c.names.invariant.spans c.in_ok-name.name a c.in_ok-name.ensures.spans))
-          (S.takes T (sign mark.Comma) a j c.in-Some.ensures.passed (c.in-Some.ensures.first.1 T)) p;
+      spans = λ n r p. some_more (Takes T (sign Comma)) (NameSpans T) _ n i a j r (subst (λ ns. NamesSpan T ns i a) (sym c.in_ok-push.ensures.items) (c.names.invariant.spans c.in_ok-name.name a c.in_ok-name.ensures.spans))
+          (one_lexeme T (sign Comma) a j c.in-Some.ensures.passed (c.in-Some.ensures.first.1 T)) p;
       shorter = omega (arith, c.in-Some.ensures.shorter, c.in_ok-name.ensures.shorter, c.names.invariant.shorter);
       proper = c.in-Some.ensures.proper T c.in_ok-name.ensures.proper;
-      reads = next_member T 0 (TokenPart a_name ∷ NamesTail ∷ []) NamesTail (a_sign mark.Comma) (TokenPart a_name) [] (class.Sign mark.Comma) i c.names.rest.now a j (λ s l. omega (arith, l)) (λ s l. l) refl refl c.names.invariant.reads (token T 0 a_name [] (name (name_of c.in_ok-name.name)) c.names.rest.now a (λ s l. omega (arith, l)) refl c.in_ok-name.ensures.words) c.in-Some.ensures.first;
+      reads = next_member T 0 (TokenPart a_name ∷ NamesTail ∷ []) NamesTail (a_sign Comma) (TokenPart a_name) [] (SignClass Comma) i c.names.rest.now a j (λ s l. omega (arith, l)) (λ s l. l) refl refl c.names.invariant.reads (token T 0 a_name [] (name (name_of c.in_ok-name.name)) c.names.rest.now a (λ s l. omega (arith, l)) refl c.in_ok-name.ensures.words) c.in-Some.ensures.first;
     }
 
 pub returns-in_default : goal.returns-in_default
@@ -43,5 +39,5 @@ returns-in_default c =
       spans = s;
       shorter = omega (arith, c.in_ok-name.ensures.shorter, c.names.invariant.shorter);
       proper = c.in_ok-name.ensures.proper;
-      reads = last_member T 0 (TokenPart a_name ∷ NamesTail ∷ []) NamesTail (a_sign mark.Comma) (TokenPart a_name) [] (class.Sign mark.Comma) i c.names.rest.now a (λ s l. l) refl refl c.names.invariant.reads (token T 0 a_name [] (name (name_of c.in_ok-name.name)) c.names.rest.now a (λ s l. omega (arith, l)) refl c.in_ok-name.ensures.words) c.in_default.ensures.absent;
+      reads = last_member T 0 (TokenPart a_name ∷ NamesTail ∷ []) NamesTail (a_sign Comma) (TokenPart a_name) [] (SignClass Comma) i c.names.rest.now a (λ s l. l) refl refl c.names.invariant.reads (token T 0 a_name [] (name (name_of c.in_ok-name.name)) c.names.rest.now a (λ s l. omega (arith, l)) refl c.in_ok-name.ensures.words) c.in_default.ensures.absent;
     }

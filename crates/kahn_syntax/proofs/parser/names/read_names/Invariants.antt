@@ -1,4 +1,4 @@
-use Rattle.kahn_syntax.proofs.Common.{a_name, TokenPart, ◌≤◌, List, [], ◌∷◌, ◌++◌, length, Name, Lexeme, AreProper, Moves, NameSpans, NamesSpan, NamesTail}
+use Rattle.kahn_syntax.proofs.Parsing.{AreProper, Lexeme, List, Moves, Name, NameSpans, NamesSpan, NamesTail, TokenPart, a_name, length, [], ◌++◌, ◌∷◌, ◌≤◌}
 use Rattle.kahn_syntax.proofs.parser.names.read_names.Given as goal
 
 abbrev pub invariant-names : goal.invariant-names

@@ -1,5 +1,4 @@
-use Rattle.kahn_syntax.proofs.Common.{ap, ◌∙◌, refl, subst, Refused, terminals, Halts}
-use Rattle.kahn_syntax.proofs.Meaning.{is_nothing, is_other, is_too_deep, is_more, halts_memory, refused_left, deep_left, deep_memory, refused_memory}
+use Rattle.kahn_syntax.proofs.Parsing.{Halts, Refused, ap, deep_left, deep_memory, halts_memory, is_more, is_nothing, is_other, is_too_deep, refl, refused_left, refused_memory, subst, terminals, ◌∙◌}
 use Rattle.kahn_syntax.proofs.parser.program.fault_of.Goals as goal
 
 pub span_at-requires-clause-some : goal.span_at-requires-clause-some

@@ -1,5 +1,4 @@
-use Rattle.kahn_syntax.proofs.Common.{◌≡◌, ℕ, List, false, Option, Some, None, IfNone, subst, sym, neg_ℤ, w64, FitsSigned, to_z-of_z, IsUnsigned, AreProper, terminals, leads, a_number}
-use Rattle.kahn_syntax.proofs.Negative.{number_fits, negative_fits}
+use Rattle.kahn_syntax.proofs.Parsing.{AreProper, FitsSigned, IfNone, IsUnsigned, List, None, Option, Some, a_number, false, leads, neg_ℤ, negative_fits, number_fits, subst, sym, terminals, to_z-of_z, w64, ℕ, ◌≡◌}
 use Rattle.kahn_syntax.proofs.parser.program.next_negative.Goals as goal
 
 none_if : {X : Type 0} (r : Option X) (P : Type 0) → P → IfNone r P

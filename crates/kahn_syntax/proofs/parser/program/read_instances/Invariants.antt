@@ -1,4 +1,4 @@
-use Rattle.kahn_syntax.proofs.Common.{◌≤◌, List, [], ◌∷◌, ◌++◌, length, Instance, Lexeme, AreProper, InstancePart, InstancesTail, Moves, InstancesSpan, InstanceSpans}
+use Rattle.kahn_syntax.proofs.Parsing.{AreProper, Instance, InstancePart, InstanceSpans, InstancesSpan, InstancesTail, Lexeme, List, Moves, length, [], ◌++◌, ◌∷◌, ◌≤◌}
 use Rattle.kahn_syntax.proofs.parser.program.read_instances.Given as goal
 
 abbrev pub invariant-instances : goal.invariant-instances

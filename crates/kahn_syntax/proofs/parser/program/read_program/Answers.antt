@@ -1,8 +1,4 @@
-use Rattle.kahn_syntax.proofs.Common.{rules, ◌≢◌, ◌≡◌, refl, [], ◌∷◌, arith, ◌∙◌, subst, length, err_from_is_err_and, word, InstancesTail, LastTail, ProgramPart, DeclarationsPart, InstancePart, TokenPart, MayPart, a_word}
-use Rattle.kahn_syntax.specs.declared.lexeme.Keyword.TheVariants as keyword
-use Rattle.kahn_syntax.specs.declared.lexeme.Class.TheVariants as class
-use Rattle.kahn_syntax.proofs.Moves.{no_program, whole_end, halts, then, then_stops, call, call_stops, call_two, call_two_stops, one, expected, unexpected}
-use Rattle.kahn_syntax.proofs.Spanning as S
+use Rattle.kahn_syntax.proofs.Parsing.{Begin, DeclarationsPart, End, InstancePart, InstancesTail, LastTail, MayPart, ProgramPart, TokenPart, Word, a_word, arith, call, call_stops, err_from_is_err_and, expected, halts, length, no_program, none_left, one, one_lexeme, refl, rules, subst, then, then_stops, unexpected, whole_end, word, [], ◌∙◌, ◌∷◌, ◌≡◌, ◌≢◌}
 use Rattle.kahn_syntax.proofs.parser.program.read_program.Goals as goal
 
 pub returns-in_err-rest-clause-halts : goal.returns-in_err-rest-clause-halts
@@ -14,18 +10,18 @@ read_declarations-requires c = record { proper = c.in_ok-rest.ensures.proper c.a
 
 pub returns-in_err-declarations-clause-halts : goal.returns-in_err-declarations-clause-halts
 returns-in_err-declarations-clause-halts c =
-    let p = err_from_is_err_and c.from_residual-in_err-declarations.result c.from_residual-in_err-declarations.ensures.1 in rw (p.1, p.2) (halts c.args.text.now c.args.lexemes.now _ (then_stops c.args.text.now 0 (ProgramPart ∷ []) (DeclarationsPart ∷ InstancePart ∷ InstancesTail ∷ LastTail ∷ TokenPart (a_word keyword.End) ∷ LastTail ∷ []) c.args.lexemes.now c.in_ok-rest.rest.now _ (one c.args.text.now 0 (ProgramPart) ([]) (DeclarationsPart ∷ InstancePart ∷ InstancesTail ∷ LastTail ∷ TokenPart (a_word keyword.End) ∷ LastTail ∷ []) (word keyword.Begin) c.args.lexemes.now c.in_ok-rest.rest.now (λ s l. omega (arith, l)) (λ s. refl) (c.in_ok-rest.ensures.first.1 c.args.text.now)) (call_stops c.args.text.now 0 0 (DeclarationsPart) (InstancePart ∷ InstancesTail ∷ LastTail ∷ TokenPart (a_word keyword.End) ∷ LastTail ∷ []) c.in_ok-rest.rest.now _ (λ s l. omega (arith, l)) c.in_err-declarations.ensures)))
+    let p = err_from_is_err_and c.from_residual-in_err-declarations.result c.from_residual-in_err-declarations.ensures.1 in rw (p.1, p.2) (halts c.args.text.now c.args.lexemes.now _ (then_stops _ (one c.args.text.now 0 (ProgramPart) ([]) (DeclarationsPart ∷ InstancePart ∷ InstancesTail ∷ LastTail ∷ TokenPart (a_word End) ∷ LastTail ∷ []) (word Begin) c.args.lexemes.now c.in_ok-rest.rest.now (λ s l. omega (arith, l)) (λ s. refl) (c.in_ok-rest.ensures.first.1 c.args.text.now)) (call_stops c.args.text.now 0 0 (DeclarationsPart ∷ []) (InstancePart ∷ InstancesTail ∷ LastTail ∷ TokenPart (a_word End) ∷ LastTail ∷ []) c.in_ok-rest.rest.now _ (λ s l. omega (arith, l)) c.in_err-declarations.ensures)))
 
 pub returns-in_err-instances-clause-halts : goal.returns-in_err-instances-clause-halts
 returns-in_err-instances-clause-halts c =
-    let p = err_from_is_err_and c.from_residual-in_err-instances.result c.from_residual-in_err-instances.ensures.1 in rw (p.1, p.2) (halts c.args.text.now c.args.lexemes.now _ (then_stops c.args.text.now 0 (ProgramPart ∷ []) (InstancePart ∷ InstancesTail ∷ LastTail ∷ TokenPart (a_word keyword.End) ∷ LastTail ∷ []) c.args.lexemes.now c.in_ok-declarations.rest.now _ (then c.args.text.now 0 (ProgramPart ∷ []) (DeclarationsPart ∷ InstancePart ∷ InstancesTail ∷ LastTail ∷ TokenPart (a_word keyword.End) ∷ LastTail ∷ []) (InstancePart ∷ InstancesTail ∷ LastTail ∷ TokenPart (a_word keyword.End) ∷ LastTail ∷ []) c.args.lexemes.now c.in_ok-rest.rest.now c.in_ok-declarations.rest.now (one c.args.text.now 0 (ProgramPart) ([]) (DeclarationsPart ∷ InstancePart ∷ InstancesTail ∷ LastTail ∷ TokenPart (a_word keyword.End) ∷ LastTail ∷ []) (word keyword.Begin) c.args.lexemes.now c.in_ok-rest.rest.now (λ s l. omega (arith, l)) (λ s. refl) (c.in_ok-rest.ensures.first.1 c.args.text.now)) (call c.args.text.now 0 0 (DeclarationsPart) (InstancePart ∷ InstancesTail ∷ LastTail ∷ TokenPart (a_word keyword.End) ∷ LastTail ∷ []) c.in_ok-rest.rest.now c.in_ok-declarations.rest.now (λ s l. omega (arith, l)) c.in_ok-declarations.ensures.reads)) (call_two_stops c.args.text.now 0 0 (InstancePart) InstancesTail (LastTail ∷ TokenPart (a_word keyword.End) ∷ LastTail ∷ []) c.in_ok-declarations.rest.now _ (λ s l. omega (arith, l)) c.in_err-instances.ensures)))
+    let p = err_from_is_err_and c.from_residual-in_err-instances.result c.from_residual-in_err-instances.ensures.1 in rw (p.1, p.2) (halts c.args.text.now c.args.lexemes.now _ (then_stops _ (then (one c.args.text.now 0 (ProgramPart) ([]) (DeclarationsPart ∷ InstancePart ∷ InstancesTail ∷ LastTail ∷ TokenPart (a_word End) ∷ LastTail ∷ []) (word Begin) c.args.lexemes.now c.in_ok-rest.rest.now (λ s l. omega (arith, l)) (λ s. refl) (c.in_ok-rest.ensures.first.1 c.args.text.now)) (call c.args.text.now 0 0 (DeclarationsPart ∷ []) (InstancePart ∷ InstancesTail ∷ LastTail ∷ TokenPart (a_word End) ∷ LastTail ∷ []) c.in_ok-rest.rest.now c.in_ok-declarations.rest.now (λ s l. omega (arith, l)) c.in_ok-declarations.ensures.reads)) (call_stops c.args.text.now 0 0 (InstancePart ∷ InstancesTail ∷ []) (LastTail ∷ TokenPart (a_word End) ∷ LastTail ∷ []) c.in_ok-declarations.rest.now _ (λ s l. omega (arith, l)) c.in_err-instances.ensures)))
 
 pub returns-in_err-rest-2-clause-halts : goal.returns-in_err-rest-2-clause-halts
 returns-in_err-rest-2-clause-halts c =
-    let p = err_from_is_err_and c.from_residual-in_err-rest-2.result c.from_residual-in_err-rest-2.ensures.1 in rw (p.1, p.2) (halts c.args.text.now c.args.lexemes.now _ (then_stops c.args.text.now 0 (ProgramPart ∷ []) (TokenPart (a_word keyword.End) ∷ LastTail ∷ []) c.args.lexemes.now c.past_semicolon.result.now _ (then c.args.text.now 0 (ProgramPart ∷ []) (LastTail ∷ TokenPart (a_word keyword.End) ∷ LastTail ∷ []) (TokenPart (a_word keyword.End) ∷ LastTail ∷ []) c.args.lexemes.now c.in_ok-instances.rest.now c.past_semicolon.result.now (then c.args.text.now 0 (ProgramPart ∷ []) (InstancePart ∷ InstancesTail ∷ LastTail ∷ TokenPart (a_word keyword.End) ∷ LastTail ∷ []) (LastTail ∷ TokenPart (a_word keyword.End) ∷ LastTail ∷ []) c.args.lexemes.now c.in_ok-declarations.rest.now c.in_ok-instances.rest.now (then c.args.text.now 0 (ProgramPart ∷ []) (DeclarationsPart ∷ InstancePart ∷ InstancesTail ∷ LastTail ∷ TokenPart (a_word keyword.End) ∷ LastTail ∷ []) (InstancePart ∷ InstancesTail ∷ LastTail ∷ TokenPart (a_word keyword.End) ∷ LastTail ∷ []) c.args.lexemes.now c.in_ok-rest.rest.now c.in_ok-declarations.rest.now (one c.args.text.now 0 (ProgramPart) ([]) (DeclarationsPart ∷ InstancePart ∷ InstancesTail ∷ LastTail ∷ TokenPart (a_word keyword.End) ∷ LastTail ∷ []) (word keyword.Begin) c.args.lexemes.now c.in_ok-rest.rest.now (λ s l. omega (arith, l)) (λ s. refl) (c.in_ok-rest.ensures.first.1 c.args.text.now)) (call c.args.text.now 0 0 (DeclarationsPart) (InstancePart ∷ InstancesTail ∷ LastTail ∷ TokenPart (a_word keyword.End) ∷ LastTail ∷ []) c.in_ok-rest.rest.now c.in_ok-declarations.rest.now (λ s l. omega (arith, l)) c.in_ok-declarations.ensures.reads)) (call_two c.args.text.now 0 0 (InstancePart) InstancesTail (LastTail ∷ TokenPart (a_word keyword.End) ∷ LastTail ∷ []) c.in_ok-declarations.rest.now c.in_ok-instances.rest.now (λ s l. omega (arith, l)) c.in_ok-instances.ensures.reads)) (call c.args.text.now 0 0 LastTail (TokenPart (a_word keyword.End) ∷ LastTail ∷ []) c.in_ok-instances.rest.now c.past_semicolon.result.now (λ s l. omega (arith, l)) (c.past_semicolon.ensures.reads c.args.text.now))) (unexpected c.args.text.now 0 (a_word keyword.End) (LastTail ∷ []) (class.Word keyword.End) c.past_semicolon.result.now _ refl c.in_err-rest-2.ensures.stop)))
+    let p = err_from_is_err_and c.from_residual-in_err-rest-2.result c.from_residual-in_err-rest-2.ensures.1 in rw (p.1, p.2) (halts c.args.text.now c.args.lexemes.now _ (then_stops _ (then (then (then (one c.args.text.now 0 (ProgramPart) ([]) (DeclarationsPart ∷ InstancePart ∷ InstancesTail ∷ LastTail ∷ TokenPart (a_word End) ∷ LastTail ∷ []) (word Begin) c.args.lexemes.now c.in_ok-rest.rest.now (λ s l. omega (arith, l)) (λ s. refl) (c.in_ok-rest.ensures.first.1 c.args.text.now)) (call c.args.text.now 0 0 (DeclarationsPart ∷ []) (InstancePart ∷ InstancesTail ∷ LastTail ∷ TokenPart (a_word End) ∷ LastTail ∷ []) c.in_ok-rest.rest.now c.in_ok-declarations.rest.now (λ s l. omega (arith, l)) c.in_ok-declarations.ensures.reads)) (call c.args.text.now 0 0 (InstancePart ∷ InstancesTail ∷ []) (LastTail ∷ TokenPart (a_word End) ∷ LastTail ∷ []) c.in_ok-declarations.rest.now c.in_ok-instances.rest.now (λ s l. omega (arith, l)) c.in_ok-instances.ensures.reads)) (call c.args.text.now 0 0 (LastTail ∷ []) (TokenPart (a_word End) ∷ LastTail ∷ []) c.in_ok-instances.rest.now c.past_semicolon.result.now (λ s l. omega (arith, l)) (c.past_semicolon.ensures.reads c.args.text.now))) (unexpected c.args.text.now 0 (a_word End) (LastTail ∷ []) (Word End) c.past_semicolon.result.now _ refl c.in_err-rest-2.ensures.stop)))
 
 pub returns-else-is_empty-clause-halts : goal.returns-else-is_empty-clause-halts
-returns-else-is_empty-clause-halts c = let a : c.past_semicolon-rest.result.now ≢ [] = search rules in (then c.args.text.now 0 (ProgramPart ∷ []) (LastTail ∷ []) ([]) c.args.lexemes.now c.in_ok-rest-2.rest.now c.past_semicolon-rest.result.now (then c.args.text.now 0 (ProgramPart ∷ []) (TokenPart (a_word keyword.End) ∷ LastTail ∷ []) (LastTail ∷ []) c.args.lexemes.now c.past_semicolon.result.now c.in_ok-rest-2.rest.now (then c.args.text.now 0 (ProgramPart ∷ []) (LastTail ∷ TokenPart (a_word keyword.End) ∷ LastTail ∷ []) (TokenPart (a_word keyword.End) ∷ LastTail ∷ []) c.args.lexemes.now c.in_ok-instances.rest.now c.past_semicolon.result.now (then c.args.text.now 0 (ProgramPart ∷ []) (InstancePart ∷ InstancesTail ∷ LastTail ∷ TokenPart (a_word keyword.End) ∷ LastTail ∷ []) (LastTail ∷ TokenPart (a_word keyword.End) ∷ LastTail ∷ []) c.args.lexemes.now c.in_ok-declarations.rest.now c.in_ok-instances.rest.now (then c.args.text.now 0 (ProgramPart ∷ []) (DeclarationsPart ∷ InstancePart ∷ InstancesTail ∷ LastTail ∷ TokenPart (a_word keyword.End) ∷ LastTail ∷ []) (InstancePart ∷ InstancesTail ∷ LastTail ∷ TokenPart (a_word keyword.End) ∷ LastTail ∷ []) c.args.lexemes.now c.in_ok-rest.rest.now c.in_ok-declarations.rest.now (one c.args.text.now 0 (ProgramPart) ([]) (DeclarationsPart ∷ InstancePart ∷ InstancesTail ∷ LastTail ∷ TokenPart (a_word keyword.End) ∷ LastTail ∷ []) (word keyword.Begin) c.args.lexemes.now c.in_ok-rest.rest.now (λ s l. omega (arith, l)) (λ s. refl) (c.in_ok-rest.ensures.first.1 c.args.text.now)) (call c.args.text.now 0 0 (DeclarationsPart) (InstancePart ∷ InstancesTail ∷ LastTail ∷ TokenPart (a_word keyword.End) ∷ LastTail ∷ []) c.in_ok-rest.rest.now c.in_ok-declarations.rest.now (λ s l. omega (arith, l)) c.in_ok-declarations.ensures.reads)) (call_two c.args.text.now 0 0 (InstancePart) InstancesTail (LastTail ∷ TokenPart (a_word keyword.End) ∷ LastTail ∷ []) c.in_ok-declarations.rest.now c.in_ok-instances.rest.now (λ s l. omega (arith, l)) c.in_ok-instances.ensures.reads)) (call c.args.text.now 0 0 LastTail (TokenPart (a_word keyword.End) ∷ LastTail ∷ []) c.in_ok-instances.rest.now c.past_semicolon.result.now (λ s l. omega (arith, l)) (c.past_semicolon.ensures.reads c.args.text.now))) (expected c.args.text.now 0 (a_word keyword.End) (LastTail ∷ []) (class.Word keyword.End) c.past_semicolon.result.now c.in_ok-rest-2.rest.now (λ s l. omega (arith, l)) refl c.in_ok-rest-2.ensures.first)) (call c.args.text.now 0 0 LastTail ([]) c.in_ok-rest-2.rest.now c.past_semicolon-rest.result.now (λ s l. omega (arith, l)) (c.past_semicolon-rest.ensures.reads c.args.text.now))) [] refl ∙ whole_end c.args.text.now c.past_semicolon-rest.result.now a
+returns-else-is_empty-clause-halts c = let a : c.past_semicolon-rest.result.now ≢ [] = search rules in (then (then (then (then (then (one c.args.text.now 0 (ProgramPart) ([]) (DeclarationsPart ∷ InstancePart ∷ InstancesTail ∷ LastTail ∷ TokenPart (a_word End) ∷ LastTail ∷ []) (word Begin) c.args.lexemes.now c.in_ok-rest.rest.now (λ s l. omega (arith, l)) (λ s. refl) (c.in_ok-rest.ensures.first.1 c.args.text.now)) (call c.args.text.now 0 0 (DeclarationsPart ∷ []) (InstancePart ∷ InstancesTail ∷ LastTail ∷ TokenPart (a_word End) ∷ LastTail ∷ []) c.in_ok-rest.rest.now c.in_ok-declarations.rest.now (λ s l. omega (arith, l)) c.in_ok-declarations.ensures.reads)) (call c.args.text.now 0 0 (InstancePart ∷ InstancesTail ∷ []) (LastTail ∷ TokenPart (a_word End) ∷ LastTail ∷ []) c.in_ok-declarations.rest.now c.in_ok-instances.rest.now (λ s l. omega (arith, l)) c.in_ok-instances.ensures.reads)) (call c.args.text.now 0 0 (LastTail ∷ []) (TokenPart (a_word End) ∷ LastTail ∷ []) c.in_ok-instances.rest.now c.past_semicolon.result.now (λ s l. omega (arith, l)) (c.past_semicolon.ensures.reads c.args.text.now))) (expected c.args.text.now 0 (a_word End) (LastTail ∷ []) (Word End) c.past_semicolon.result.now c.in_ok-rest-2.rest.now (λ s l. omega (arith, l)) refl c.in_ok-rest-2.ensures.first)) (call c.args.text.now 0 0 (LastTail ∷ []) ([]) c.in_ok-rest-2.rest.now c.past_semicolon-rest.result.now (λ s l. omega (arith, l)) (c.past_semicolon-rest.ensures.reads c.args.text.now))).fates [] refl ∙ whole_end c.args.text.now c.past_semicolon-rest.result.now a
 
 pub returns-then-is_empty-clause-read : goal.returns-then-is_empty-clause-read
 returns-then-is_empty-clause-read c = (
@@ -38,12 +34,12 @@ returns-then-is_empty-clause-read c = (
         c.in_ok-instances.rest.now,
         c.past_semicolon.result.now,
         c.in_ok-rest-2.rest.now,
-        (S.takes T (word keyword.Begin) c.args.lexemes.now c.in_ok-rest.rest.now c.in_ok-rest.ensures.passed (c.in_ok-rest.ensures.first.1 T)),
+        (one_lexeme T (word Begin) c.args.lexemes.now c.in_ok-rest.rest.now c.in_ok-rest.ensures.passed (c.in_ok-rest.ensures.first.1 T)),
         c.in_ok-declarations.ensures.spans.1,
         c.in_ok-instances.ensures.spans,
         c.past_semicolon.ensures.spans T,
-        (S.takes T (word keyword.End) c.past_semicolon.result.now c.in_ok-rest-2.rest.now c.in_ok-rest-2.ensures.passed (c.in_ok-rest-2.ensures.first.1 T)),
-        subst (MayPart T c.in_ok-rest-2.rest.now) (S.none_left c.past_semicolon-rest.result.now a) (c.past_semicolon-rest.ensures.spans T),
+        (one_lexeme T (word End) c.past_semicolon.result.now c.in_ok-rest-2.rest.now c.in_ok-rest-2.ensures.passed (c.in_ok-rest-2.ensures.first.1 T)),
+        subst (MayPart T c.in_ok-rest-2.rest.now) (none_left c.past_semicolon-rest.result.now a) (c.past_semicolon-rest.ensures.spans T),
       )
       ),
 )

@@ -1,42 +1,33 @@
-use Rattle.kahn_syntax.proofs.Common.{other_rules, simple_rules, starts, a_sign, rules, ◌≡◌, false, refl, sym, subst, [], ◌∷◌, arith, ap, ◌∙◌, ◌++◌, err_from_is_err_and, word, sign, terminals, whole, leads, StatementsTail, ElseTail, StatementPart, SimplePart, ExpressionPart, TokenPart, LevelPart, FormedStatement, FormedStatements, statements_nesting, IsSimple, statement_nesting, statement_of, statements_of, StatementSpans, Takes, ExpressionRead, StatementRead, a_word, a_name}
-use Rattle.kahn_syntax.specs.declared.lexeme.Keyword.TheVariants as keyword
-use Rattle.kahn_syntax.specs.declared.lexeme.Sign.TheVariants as mark
-use Rattle.kahn_syntax.specs.declared.lexeme.Class.TheVariants as class
-use Rattle.kahn_syntax.proofs.Moves.{opens_simple, nothing, opened_simple, then, then_stops, call, call_stops, call_two, call_two_stops, one, deep, expected, level_ends, unexpected, ends, next_member, last_member}
-use Rattle.kahn_syntax.proofs.Lists.{first_of}
-use Rattle.kahn_syntax.proofs.Spanning as S
-use Rattle.kahn_syntax.proofs.Spanning.{SomeStatements}
-use Rattle.kahn_syntax.proofs.Stacks as K
-use Rattle.kahn_syntax.proofs.Statements.{formed_next, some_next, nesting_next}
+use Rattle.kahn_syntax.proofs.Parsing.{Begin, Do, Else, ElseTail, End, ExpressionPart, ExpressionRead, FormedStatement, FormedStatements, If, IsSimple, LevelPart, NameClass, Print, Repeat, Semicolon, Send, SignClass, SimplePart, SomeStatements, StatementPart, StatementRead, StatementSpans, StatementsTail, Takes, Then, TokenPart, While, Word, a_name, a_sign, a_word, ap, arith, call, call_stops, conditional_parts, deep, drop, ends, err_from_is_err_and, expected, false, first_of, formed_statements_next, goes, last_member, leads, level_ends, nesting_next, next_member, nothing, one, one_lexeme, opened_simple, opens_simple, other_rules, refl, rules, sign, simple_rules, some_between, some_more, some_next, starts, statement_nesting, statement_of, statements_nesting, statements_of, subst, sym, terminals, then, then_stops, unexpected, while_parts, whole, word, [], ◌++◌, ◌∙◌, ◌∷◌, ◌≡◌}
 use Rattle.kahn_syntax.proofs.parser.statement.+statement.Goals as goal
 
 pub read_statement-read_if-requires : goal.read_statement-read_if-requires
-read_statement-read_if-requires t c = (omega (arith, c.requires.1.0, c.in-Some-Word-If-default.ensures.first.1), ((first_of _ (class.Word keyword.If) c.args.input.now c.in-Some-Word-If-default.rest.now (c.in-Some-Word-If-default.field-0-0-is ∙ ap class.Word c.in-Some-Word-If-default.field-0-0-0-is) c.in-Some-Word-If-default.ensures.first.0), (c.in-Some-Word-If-default.ensures.first.1, (c.requires.1.1.0, (c.in-Some-Word-If-default.ensures.proper c.args.text.now c.requires.1.1.1, c.in-Some-Word-If-default.ensures.passed)))))
+read_statement-read_if-requires t c = (omega (arith, c.requires.1.0, c.in-Some-Word-If-default.ensures.first.1), ((first_of _ (Word If) c.args.input.now c.in-Some-Word-If-default.rest.now (c.in-Some-Word-If-default.field-0-0-is ∙ ap Word c.in-Some-Word-If-default.field-0-0-0-is) c.in-Some-Word-If-default.ensures.first.0), (c.in-Some-Word-If-default.ensures.first.1, (c.requires.1.1.0, (c.in-Some-Word-If-default.ensures.proper c.args.text.now c.requires.1.1.1, c.in-Some-Word-If-default.ensures.passed)))))
 
 pub read_statement-returns-in_err-inner-in-Some-Word-While-default : goal.read_statement-returns-in_err-inner-in-Some-Word-While-default
 read_statement-returns-in_err-inner-in-Some-Word-While-default t c =
-    let p = err_from_is_err_and c.from_residual.result c.from_residual.ensures.1 in rw (p.1, p.2) (deep c.args.text.now c.args.depth (StatementPart) ([]) (ExpressionPart whole ∷ TokenPart (a_word keyword.Do) ∷ StatementPart ∷ LevelPart ∷ []) (word keyword.While) c.args.input.now c.in-Some-Word-While-default.rest.now _ (λ s l. omega (arith, l, c.in_err-inner-in-Some-Word-While-default.ensures.stop.0)) (λ s. refl) ((first_of _ (class.Word keyword.While) c.args.input.now c.in-Some-Word-While-default.rest.now (c.in-Some-Word-While-default.field-0-0-is ∙ ap class.Word c.in-Some-Word-While-default.field-0-0-0-is) c.in-Some-Word-While-default.ensures.first.0).1 c.args.text.now) c.in_err-inner-in-Some-Word-While-default.ensures.stop.1)
+    let p = err_from_is_err_and c.from_residual.result c.from_residual.ensures.1 in rw (p.1, p.2) (deep c.args.text.now c.args.depth (StatementPart) ([]) (ExpressionPart whole ∷ TokenPart (a_word Do) ∷ StatementPart ∷ LevelPart ∷ []) (word While) c.args.input.now c.in-Some-Word-While-default.rest.now _ (λ s l. omega (arith, l, c.in_err-inner-in-Some-Word-While-default.ensures.stop.0)) (λ s. refl) ((first_of _ (Word While) c.args.input.now c.in-Some-Word-While-default.rest.now (c.in-Some-Word-While-default.field-0-0-is ∙ ap Word c.in-Some-Word-While-default.field-0-0-0-is) c.in-Some-Word-While-default.ensures.first.0).1 c.args.text.now) c.in_err-inner-in-Some-Word-While-default.ensures.stop.1)
 
 pub read_statement-returns-in_err-inner-in-Some-Word-Repeat-default : goal.read_statement-returns-in_err-inner-in-Some-Word-Repeat-default
 read_statement-returns-in_err-inner-in-Some-Word-Repeat-default t c =
-    let p = err_from_is_err_and c.from_residual-in_err-inner-in-Some-Word-Repeat-default.result c.from_residual-in_err-inner-in-Some-Word-Repeat-default.ensures.1 in rw (p.1, p.2) (deep c.args.text.now c.args.depth (StatementPart) ([]) (StatementPart ∷ LevelPart ∷ []) (word keyword.Repeat) c.args.input.now c.in-Some-Word-Repeat-default.rest.now _ (λ s l. omega (arith, l, c.in_err-inner-in-Some-Word-Repeat-default.ensures.stop.0)) (λ s. refl) ((first_of _ (class.Word keyword.Repeat) c.args.input.now c.in-Some-Word-Repeat-default.rest.now (c.in-Some-Word-Repeat-default.field-0-0-is ∙ ap class.Word c.in-Some-Word-Repeat-default.field-0-0-0-is) c.in-Some-Word-Repeat-default.ensures.first.0).1 c.args.text.now) c.in_err-inner-in-Some-Word-Repeat-default.ensures.stop.1)
+    let p = err_from_is_err_and c.from_residual-in_err-inner-in-Some-Word-Repeat-default.result c.from_residual-in_err-inner-in-Some-Word-Repeat-default.ensures.1 in rw (p.1, p.2) (deep c.args.text.now c.args.depth (StatementPart) ([]) (StatementPart ∷ LevelPart ∷ []) (word Repeat) c.args.input.now c.in-Some-Word-Repeat-default.rest.now _ (λ s l. omega (arith, l, c.in_err-inner-in-Some-Word-Repeat-default.ensures.stop.0)) (λ s. refl) ((first_of _ (Word Repeat) c.args.input.now c.in-Some-Word-Repeat-default.rest.now (c.in-Some-Word-Repeat-default.field-0-0-is ∙ ap Word c.in-Some-Word-Repeat-default.field-0-0-0-is) c.in-Some-Word-Repeat-default.ensures.first.0).1 c.args.text.now) c.in_err-inner-in-Some-Word-Repeat-default.ensures.stop.1)
 
 pub read_statement-read_inner-requires-in-Some-Word-Repeat-default : goal.read_statement-read_inner-requires-in-Some-Word-Repeat-default
 read_statement-read_inner-requires-in-Some-Word-Repeat-default t c = (omega (arith, c.requires.1.0, c.in-Some-Word-Repeat-default.ensures.first.1), (c.in_ok-inner-in-Some-Word-Repeat-default.ensures.deeper.1, c.in-Some-Word-Repeat-default.ensures.proper c.args.text.now c.requires.1.1.1))
 
 pub read_statement-returns-in_err-turn-in-Some-Word-Repeat-default : goal.read_statement-returns-in_err-turn-in-Some-Word-Repeat-default
 read_statement-returns-in_err-turn-in-Some-Word-Repeat-default t c =
-    let p = err_from_is_err_and c.from_residual-in_err-turn-in-Some-Word-Repeat-default.result c.from_residual-in_err-turn-in-Some-Word-Repeat-default.ensures.1 in rw (p.1, p.2) (then_stops c.args.text.now c.args.depth (StatementPart ∷ []) (StatementPart ∷ LevelPart ∷ []) c.args.input.now c.in-Some-Word-Repeat-default.rest.now _ (one c.args.text.now c.args.depth (StatementPart) ([]) (StatementPart ∷ LevelPart ∷ []) (word keyword.Repeat) c.args.input.now c.in-Some-Word-Repeat-default.rest.now (λ s l. omega (arith, l, c.requires.1.1.0, c.in_ok-inner-in-Some-Word-Repeat-default.ensures.deeper.0, c.in_ok-inner-in-Some-Word-Repeat-default.ensures.deeper.1)) (λ s. refl) ((first_of _ (class.Word keyword.Repeat) c.args.input.now c.in-Some-Word-Repeat-default.rest.now (c.in-Some-Word-Repeat-default.field-0-0-is ∙ ap class.Word c.in-Some-Word-Repeat-default.field-0-0-0-is) c.in-Some-Word-Repeat-default.ensures.first.0).1 c.args.text.now)) (call_stops c.args.text.now c.args.depth c.in_ok-inner-in-Some-Word-Repeat-default.inner (StatementPart) (LevelPart ∷ []) c.in-Some-Word-Repeat-default.rest.now _ (λ s l. omega (arith, l, c.requires.1.1.0, c.in_ok-inner-in-Some-Word-Repeat-default.ensures.deeper.0, c.in_ok-inner-in-Some-Word-Repeat-default.ensures.deeper.1)) c.in_err-turn-in-Some-Word-Repeat-default.ensures))
+    let p = err_from_is_err_and c.from_residual-in_err-turn-in-Some-Word-Repeat-default.result c.from_residual-in_err-turn-in-Some-Word-Repeat-default.ensures.1 in rw (p.1, p.2) (then_stops _ (one c.args.text.now c.args.depth (StatementPart) ([]) (StatementPart ∷ LevelPart ∷ []) (word Repeat) c.args.input.now c.in-Some-Word-Repeat-default.rest.now (λ s l. omega (arith, l, c.requires.1.1.0, c.in_ok-inner-in-Some-Word-Repeat-default.ensures.deeper.0, c.in_ok-inner-in-Some-Word-Repeat-default.ensures.deeper.1)) (λ s. refl) ((first_of _ (Word Repeat) c.args.input.now c.in-Some-Word-Repeat-default.rest.now (c.in-Some-Word-Repeat-default.field-0-0-is ∙ ap Word c.in-Some-Word-Repeat-default.field-0-0-0-is) c.in-Some-Word-Repeat-default.ensures.first.0).1 c.args.text.now)) (call_stops c.args.text.now c.args.depth c.in_ok-inner-in-Some-Word-Repeat-default.inner (StatementPart ∷ []) (LevelPart ∷ []) c.in-Some-Word-Repeat-default.rest.now _ (λ s l. omega (arith, l, c.requires.1.1.0, c.in_ok-inner-in-Some-Word-Repeat-default.ensures.deeper.0, c.in_ok-inner-in-Some-Word-Repeat-default.ensures.deeper.1)) c.in_err-turn-in-Some-Word-Repeat-default.ensures))
 
 pub read_if-returns-in_err-inner : goal.read_if-returns-in_err-inner
 read_if-returns-in_err-inner t c =
-    let p = err_from_is_err_and c.from_residual.result c.from_residual.ensures.1 in rw (p.1, p.2) (deep c.args.text.now c.args.depth (StatementPart) ([]) (ExpressionPart whole ∷ TokenPart (a_word keyword.Then) ∷ SimplePart ∷ ElseTail ∷ LevelPart ∷ []) (word keyword.If) c.args.input.now c.args.rest.now _ (λ s l. omega (arith, l, c.in_err-inner.ensures.stop.0)) (λ s. refl) (c.requires.1.1.0.1 c.args.text.now) c.in_err-inner.ensures.stop.1)
+    let p = err_from_is_err_and c.from_residual.result c.from_residual.ensures.1 in rw (p.1, p.2) (deep c.args.text.now c.args.depth (StatementPart) ([]) (ExpressionPart whole ∷ TokenPart (a_word Then) ∷ SimplePart ∷ ElseTail ∷ LevelPart ∷ []) (word If) c.args.input.now c.args.rest.now _ (λ s l. omega (arith, l, c.in_err-inner.ensures.stop.0)) (λ s. refl) (c.requires.1.1.0.1 c.args.text.now) c.in_err-inner.ensures.stop.1)
 
 pub read_simple-read_assign-requires-clause-named : goal.read_simple-read_assign-requires-clause-named
-read_simple-read_assign-requires-clause-named t c = ap (leads a_name) ((first_of _ class.Name c.args.input.now c.in-Some-Name-default.field-0-1.now c.in-Some-Name-default.field-0-0-is c.in-Some-Name-default.ensures.first.0).1 c.args.text.now)
+read_simple-read_assign-requires-clause-named t c = ap (leads a_name) ((first_of _ NameClass c.args.input.now c.in-Some-Name-default.field-0-1.now c.in-Some-Name-default.field-0-0-is c.in-Some-Name-default.ensures.first.0).1 c.args.text.now)
 
 pub read_simple-read_send-requires-clause-first : goal.read_simple-read_send-requires-clause-first
-read_simple-read_send-requires-clause-first t c = (first_of _ (class.Word keyword.Send) c.args.input.now c.in-Some-Word-Send-default.rest.now (c.in-Some-Word-Send-default.field-0-0-is ∙ ap class.Word c.in-Some-Word-Send-default.field-0-0-0-is) c.in-Some-Word-Send-default.ensures.first.0)
+read_simple-read_send-requires-clause-first t c = (first_of _ (Word Send) c.args.input.now c.in-Some-Word-Send-default.rest.now (c.in-Some-Word-Send-default.field-0-0-is ∙ ap Word c.in-Some-Word-Send-default.field-0-0-0-is) c.in-Some-Word-Send-default.ensures.first.0)
 
 pub read_simple-read_send-requires-clause-proper : goal.read_simple-read_send-requires-clause-proper
 read_simple-read_send-requires-clause-proper t c = c.in-Some-Word-Send-default.ensures.proper c.args.text.now c.requires.1.1.1
@@ -46,22 +37,22 @@ read_simple-read_expression-requires-clause-proper t c = c.in-Some-Word-Print-de
 
 pub read_simple-returns-in_err-value-in-Some-Word-Print-default : goal.read_simple-returns-in_err-value-in-Some-Word-Print-default
 read_simple-returns-in_err-value-in-Some-Word-Print-default t c =
-    let p = err_from_is_err_and c.from_residual.result c.from_residual.ensures.1 in rw (p.1, p.2) (then_stops c.args.text.now c.args.depth (SimplePart ∷ []) (ExpressionPart whole ∷ []) c.args.input.now c.in-Some-Word-Print-default.rest.now _ (one c.args.text.now c.args.depth (SimplePart) ([]) (ExpressionPart whole ∷ []) (word keyword.Print) c.args.input.now c.in-Some-Word-Print-default.rest.now (λ s l. omega (arith, l, c.requires.1.1.0)) (λ s. refl) ((first_of _ (class.Word keyword.Print) c.args.input.now c.in-Some-Word-Print-default.rest.now (c.in-Some-Word-Print-default.field-0-0-is ∙ ap class.Word c.in-Some-Word-Print-default.field-0-0-0-is) c.in-Some-Word-Print-default.ensures.first.0).1 c.args.text.now)) (call_stops c.args.text.now c.args.depth c.args.depth (ExpressionPart whole) ([]) c.in-Some-Word-Print-default.rest.now _ (λ s l. omega (arith, l, c.requires.1.1.0)) c.in_err-value-in-Some-Word-Print-default.ensures))
+    let p = err_from_is_err_and c.from_residual.result c.from_residual.ensures.1 in rw (p.1, p.2) (then_stops _ (one c.args.text.now c.args.depth (SimplePart) ([]) (ExpressionPart whole ∷ []) (word Print) c.args.input.now c.in-Some-Word-Print-default.rest.now (λ s l. omega (arith, l, c.requires.1.1.0)) (λ s. refl) ((first_of _ (Word Print) c.args.input.now c.in-Some-Word-Print-default.rest.now (c.in-Some-Word-Print-default.field-0-0-is ∙ ap Word c.in-Some-Word-Print-default.field-0-0-0-is) c.in-Some-Word-Print-default.ensures.first.0).1 c.args.text.now)) (call_stops c.args.text.now c.args.depth c.args.depth (ExpressionPart whole ∷ []) ([]) c.in-Some-Word-Print-default.rest.now _ (λ s l. omega (arith, l, c.requires.1.1.0)) c.in_err-value-in-Some-Word-Print-default.ensures))
 
 pub read_simple-returns-in_err-inner-in-Some-Word-Begin-default : goal.read_simple-returns-in_err-inner-in-Some-Word-Begin-default
 read_simple-returns-in_err-inner-in-Some-Word-Begin-default t c =
-    let p = err_from_is_err_and c.from_residual-in_err-inner-in-Some-Word-Begin-default.result c.from_residual-in_err-inner-in-Some-Word-Begin-default.ensures.1 in rw (p.1, p.2) (deep c.args.text.now c.args.depth (SimplePart) ([]) (StatementPart ∷ StatementsTail ∷ TokenPart (a_word keyword.End) ∷ LevelPart ∷ []) (word keyword.Begin) c.args.input.now c.in-Some-Word-Begin-default.rest.now _ (λ s l. omega (arith, l, c.in_err-inner-in-Some-Word-Begin-default.ensures.stop.0)) (λ s. refl) ((first_of _ (class.Word keyword.Begin) c.args.input.now c.in-Some-Word-Begin-default.rest.now (c.in-Some-Word-Begin-default.field-0-0-is ∙ ap class.Word c.in-Some-Word-Begin-default.field-0-0-0-is) c.in-Some-Word-Begin-default.ensures.first.0).1 c.args.text.now) c.in_err-inner-in-Some-Word-Begin-default.ensures.stop.1)
+    let p = err_from_is_err_and c.from_residual-in_err-inner-in-Some-Word-Begin-default.result c.from_residual-in_err-inner-in-Some-Word-Begin-default.ensures.1 in rw (p.1, p.2) (deep c.args.text.now c.args.depth (SimplePart) ([]) (StatementPart ∷ StatementsTail ∷ TokenPart (a_word End) ∷ LevelPart ∷ []) (word Begin) c.args.input.now c.in-Some-Word-Begin-default.rest.now _ (λ s l. omega (arith, l, c.in_err-inner-in-Some-Word-Begin-default.ensures.stop.0)) (λ s. refl) ((first_of _ (Word Begin) c.args.input.now c.in-Some-Word-Begin-default.rest.now (c.in-Some-Word-Begin-default.field-0-0-is ∙ ap Word c.in-Some-Word-Begin-default.field-0-0-0-is) c.in-Some-Word-Begin-default.ensures.first.0).1 c.args.text.now) c.in_err-inner-in-Some-Word-Begin-default.ensures.stop.1)
 
 pub read_simple-read_statements-requires : goal.read_simple-read_statements-requires
 read_simple-read_statements-requires t c = (omega (arith, c.requires.1.0, c.in-Some-Word-Begin-default.ensures.first.1), (c.in_ok-inner-in-Some-Word-Begin-default.ensures.deeper.1, c.in-Some-Word-Begin-default.ensures.proper c.args.text.now c.requires.1.1.1))
 
 pub read_simple-returns-in_err-statements-in-Some-Word-Begin-default : goal.read_simple-returns-in_err-statements-in-Some-Word-Begin-default
 read_simple-returns-in_err-statements-in-Some-Word-Begin-default t c =
-    let p = err_from_is_err_and c.from_residual-in_err-statements-in-Some-Word-Begin-default.result c.from_residual-in_err-statements-in-Some-Word-Begin-default.ensures.1 in rw (p.1, p.2) (then_stops c.args.text.now c.args.depth (SimplePart ∷ []) (StatementPart ∷ StatementsTail ∷ TokenPart (a_word keyword.End) ∷ LevelPart ∷ []) c.args.input.now c.in-Some-Word-Begin-default.rest.now _ (one c.args.text.now c.args.depth (SimplePart) ([]) (StatementPart ∷ StatementsTail ∷ TokenPart (a_word keyword.End) ∷ LevelPart ∷ []) (word keyword.Begin) c.args.input.now c.in-Some-Word-Begin-default.rest.now (λ s l. omega (arith, l, c.requires.1.1.0, c.in_ok-inner-in-Some-Word-Begin-default.ensures.deeper.0, c.in_ok-inner-in-Some-Word-Begin-default.ensures.deeper.1)) (λ s. refl) ((first_of _ (class.Word keyword.Begin) c.args.input.now c.in-Some-Word-Begin-default.rest.now (c.in-Some-Word-Begin-default.field-0-0-is ∙ ap class.Word c.in-Some-Word-Begin-default.field-0-0-0-is) c.in-Some-Word-Begin-default.ensures.first.0).1 c.args.text.now)) (call_two_stops c.args.text.now c.args.depth c.in_ok-inner-in-Some-Word-Begin-default.inner (StatementPart) StatementsTail (TokenPart (a_word keyword.End) ∷ LevelPart ∷ []) c.in-Some-Word-Begin-default.rest.now _ (λ s l. omega (arith, l, c.requires.1.1.0, c.in_ok-inner-in-Some-Word-Begin-default.ensures.deeper.0, c.in_ok-inner-in-Some-Word-Begin-default.ensures.deeper.1)) c.in_err-statements-in-Some-Word-Begin-default.ensures))
+    let p = err_from_is_err_and c.from_residual-in_err-statements-in-Some-Word-Begin-default.result c.from_residual-in_err-statements-in-Some-Word-Begin-default.ensures.1 in rw (p.1, p.2) (then_stops _ (one c.args.text.now c.args.depth (SimplePart) ([]) (StatementPart ∷ StatementsTail ∷ TokenPart (a_word End) ∷ LevelPart ∷ []) (word Begin) c.args.input.now c.in-Some-Word-Begin-default.rest.now (λ s l. omega (arith, l, c.requires.1.1.0, c.in_ok-inner-in-Some-Word-Begin-default.ensures.deeper.0, c.in_ok-inner-in-Some-Word-Begin-default.ensures.deeper.1)) (λ s. refl) ((first_of _ (Word Begin) c.args.input.now c.in-Some-Word-Begin-default.rest.now (c.in-Some-Word-Begin-default.field-0-0-is ∙ ap Word c.in-Some-Word-Begin-default.field-0-0-0-is) c.in-Some-Word-Begin-default.ensures.first.0).1 c.args.text.now)) (call_stops c.args.text.now c.args.depth c.in_ok-inner-in-Some-Word-Begin-default.inner (StatementPart ∷ StatementsTail ∷ []) (TokenPart (a_word End) ∷ LevelPart ∷ []) c.in-Some-Word-Begin-default.rest.now _ (λ s l. omega (arith, l, c.requires.1.1.0, c.in_ok-inner-in-Some-Word-Begin-default.ensures.deeper.0, c.in_ok-inner-in-Some-Word-Begin-default.ensures.deeper.1)) c.in_err-statements-in-Some-Word-Begin-default.ensures))
 
 pub read_simple-returns-in_err-rest-in-Some-Word-Begin-default : goal.read_simple-returns-in_err-rest-in-Some-Word-Begin-default
 read_simple-returns-in_err-rest-in-Some-Word-Begin-default t c =
-    let p = err_from_is_err_and c.from_residual-in_err-rest-in-Some-Word-Begin-default.result c.from_residual-in_err-rest-in-Some-Word-Begin-default.ensures.1 in rw (p.1, p.2) (then_stops c.args.text.now c.args.depth (SimplePart ∷ []) (TokenPart (a_word keyword.End) ∷ LevelPart ∷ []) c.args.input.now c.in_ok-statements-in-Some-Word-Begin-default.rest.now _ (then c.args.text.now c.args.depth (SimplePart ∷ []) (StatementPart ∷ StatementsTail ∷ TokenPart (a_word keyword.End) ∷ LevelPart ∷ []) (TokenPart (a_word keyword.End) ∷ LevelPart ∷ []) c.args.input.now c.in-Some-Word-Begin-default.rest.now c.in_ok-statements-in-Some-Word-Begin-default.rest.now (one c.args.text.now c.args.depth (SimplePart) ([]) (StatementPart ∷ StatementsTail ∷ TokenPart (a_word keyword.End) ∷ LevelPart ∷ []) (word keyword.Begin) c.args.input.now c.in-Some-Word-Begin-default.rest.now (λ s l. omega (arith, l, c.requires.1.1.0, c.in_ok-inner-in-Some-Word-Begin-default.ensures.deeper.0, c.in_ok-inner-in-Some-Word-Begin-default.ensures.deeper.1)) (λ s. refl) ((first_of _ (class.Word keyword.Begin) c.args.input.now c.in-Some-Word-Begin-default.rest.now (c.in-Some-Word-Begin-default.field-0-0-is ∙ ap class.Word c.in-Some-Word-Begin-default.field-0-0-0-is) c.in-Some-Word-Begin-default.ensures.first.0).1 c.args.text.now)) (call_two c.args.text.now c.args.depth c.in_ok-inner-in-Some-Word-Begin-default.inner (StatementPart) StatementsTail (TokenPart (a_word keyword.End) ∷ LevelPart ∷ []) c.in-Some-Word-Begin-default.rest.now c.in_ok-statements-in-Some-Word-Begin-default.rest.now (λ s l. omega (arith, l, c.requires.1.1.0, c.in_ok-inner-in-Some-Word-Begin-default.ensures.deeper.0, c.in_ok-inner-in-Some-Word-Begin-default.ensures.deeper.1)) c.in_ok-statements-in-Some-Word-Begin-default.ensures.reads)) (unexpected c.args.text.now c.args.depth (a_word keyword.End) (LevelPart ∷ []) (class.Word keyword.End) c.in_ok-statements-in-Some-Word-Begin-default.rest.now _ refl c.in_err-rest-in-Some-Word-Begin-default.ensures.stop))
+    let p = err_from_is_err_and c.from_residual-in_err-rest-in-Some-Word-Begin-default.result c.from_residual-in_err-rest-in-Some-Word-Begin-default.ensures.1 in rw (p.1, p.2) (then_stops _ (then (one c.args.text.now c.args.depth (SimplePart) ([]) (StatementPart ∷ StatementsTail ∷ TokenPart (a_word End) ∷ LevelPart ∷ []) (word Begin) c.args.input.now c.in-Some-Word-Begin-default.rest.now (λ s l. omega (arith, l, c.requires.1.1.0, c.in_ok-inner-in-Some-Word-Begin-default.ensures.deeper.0, c.in_ok-inner-in-Some-Word-Begin-default.ensures.deeper.1)) (λ s. refl) ((first_of _ (Word Begin) c.args.input.now c.in-Some-Word-Begin-default.rest.now (c.in-Some-Word-Begin-default.field-0-0-is ∙ ap Word c.in-Some-Word-Begin-default.field-0-0-0-is) c.in-Some-Word-Begin-default.ensures.first.0).1 c.args.text.now)) (call c.args.text.now c.args.depth c.in_ok-inner-in-Some-Word-Begin-default.inner (StatementPart ∷ StatementsTail ∷ []) (TokenPart (a_word End) ∷ LevelPart ∷ []) c.in-Some-Word-Begin-default.rest.now c.in_ok-statements-in-Some-Word-Begin-default.rest.now (λ s l. omega (arith, l, c.requires.1.1.0, c.in_ok-inner-in-Some-Word-Begin-default.ensures.deeper.0, c.in_ok-inner-in-Some-Word-Begin-default.ensures.deeper.1)) c.in_ok-statements-in-Some-Word-Begin-default.ensures.reads)) (unexpected c.args.text.now c.args.depth (a_word End) (LevelPart ∷ []) (Word End) c.in_ok-statements-in-Some-Word-Begin-default.rest.now _ refl c.in_err-rest-in-Some-Word-Begin-default.ensures.stop))
 
 pub read_statement-read_before-requires : goal.read_statement-read_before-requires
 read_statement-read_before-requires t c =
@@ -77,9 +68,9 @@ read_statement-returns-in_err-test-in-Some-Word-While-default t c =
     let T = c.args.text.now in let i = c.args.input.now in
     let e = c.in_ok-inner-in-Some-Word-While-default.inner in
     let n = c.in_ok-inner-in-Some-Word-While-default.ensures.deeper.0 in
-    let m = K.while_moves T c.args.depth e i c.in-Some-Word-While-default.rest.now n c.in_ok-inner-in-Some-Word-While-default.ensures.deeper.1 ((first_of _ (class.Word keyword.While) c.args.input.now c.in-Some-Word-While-default.rest.now (c.in-Some-Word-While-default.field-0-0-is ∙ ap class.Word c.in-Some-Word-While-default.field-0-0-0-is) c.in-Some-Word-While-default.ensures.first.0).1 T) in
-    rw (p.1, p.2) (then_stops T c.args.depth K.some_statement K.after_while i c.in-Some-Word-While-default.rest.now _ m
-    (call_two_stops T c.args.depth e (ExpressionPart whole) (TokenPart (a_word keyword.Do)) K.after_do c.in-Some-Word-While-default.rest.now _ (λ s l. omega (arith, l, n)) c.in_err-test-in-Some-Word-While-default.ensures))
+    let m = one T c.args.depth StatementPart [] while_parts (word While) i c.in-Some-Word-While-default.rest.now (λ s l. omega (arith, l, n, c.in_ok-inner-in-Some-Word-While-default.ensures.deeper.1)) (λ s. refl) ((first_of _ (Word While) c.args.input.now c.in-Some-Word-While-default.rest.now (c.in-Some-Word-While-default.field-0-0-is ∙ ap Word c.in-Some-Word-While-default.field-0-0-0-is) c.in-Some-Word-While-default.ensures.first.0).1 T) in
+    rw (p.1, p.2) (then_stops _ m
+    (call_stops T c.args.depth e (ExpressionPart whole ∷ TokenPart (a_word Do) ∷ []) (drop 2 while_parts) c.in-Some-Word-While-default.rest.now _ (λ s l. omega (arith, l, n)) c.in_err-test-in-Some-Word-While-default.ensures))
 
 pub read_statement-returns-in_err-turn-in-Some-Word-While-default : goal.read_statement-returns-in_err-turn-in-Some-Word-While-default
 read_statement-returns-in_err-turn-in-Some-Word-While-default t c =
@@ -87,9 +78,9 @@ read_statement-returns-in_err-turn-in-Some-Word-While-default t c =
     let T = c.args.text.now in let i = c.args.input.now in
     let e = c.in_ok-inner-in-Some-Word-While-default.inner in
     let n = c.in_ok-inner-in-Some-Word-While-default.ensures.deeper.0 in
-    let m2 = K.do_moves T c.args.depth e i c.in-Some-Word-While-default.rest.now c.in_ok-test-in-Some-Word-While-default.rest.now n c.in_ok-inner-in-Some-Word-While-default.ensures.deeper.1 ((first_of _ (class.Word keyword.While) c.args.input.now c.in-Some-Word-While-default.rest.now (c.in-Some-Word-While-default.field-0-0-is ∙ ap class.Word c.in-Some-Word-While-default.field-0-0-0-is) c.in-Some-Word-While-default.ensures.first.0).1 T) c.in_ok-test-in-Some-Word-While-default.ensures.reads in
-    rw (p.1, p.2) (then_stops T c.args.depth K.some_statement K.after_do i c.in_ok-test-in-Some-Word-While-default.rest.now _ m2
-    (call_stops T c.args.depth e StatementPart (LevelPart ∷ []) c.in_ok-test-in-Some-Word-While-default.rest.now _ (λ s l. omega (arith, l, n)) c.in_err-turn-in-Some-Word-While-default.ensures))
+    let m2 = then (one T c.args.depth StatementPart [] while_parts (word While) i c.in-Some-Word-While-default.rest.now (λ s l. omega (arith, l, n, c.in_ok-inner-in-Some-Word-While-default.ensures.deeper.1)) (λ s. refl) ((first_of _ (Word While) c.args.input.now c.in-Some-Word-While-default.rest.now (c.in-Some-Word-While-default.field-0-0-is ∙ ap Word c.in-Some-Word-While-default.field-0-0-0-is) c.in-Some-Word-While-default.ensures.first.0).1 T)) (call T c.args.depth e (ExpressionPart whole ∷ TokenPart (a_word Do) ∷ []) (drop 2 while_parts) c.in-Some-Word-While-default.rest.now c.in_ok-test-in-Some-Word-While-default.rest.now (λ s l. omega (arith, l, n)) c.in_ok-test-in-Some-Word-While-default.ensures.reads) in
+    rw (p.1, p.2) (then_stops _ m2
+    (call_stops T c.args.depth e (StatementPart ∷ []) (LevelPart ∷ []) c.in_ok-test-in-Some-Word-While-default.rest.now _ (λ s l. omega (arith, l, n)) c.in_err-turn-in-Some-Word-While-default.ensures))
 
 pub read_if-read_before-requires : goal.read_if-read_before-requires
 read_if-read_before-requires t c =
@@ -109,9 +100,9 @@ read_if-returns-in_err-test t c =
     let T = c.args.text.now in let i = c.args.input.now in
     let e = c.in_ok-inner.inner in
     let n = c.in_ok-inner.ensures.deeper.0 in
-    let m = K.conditional_moves T c.args.depth e i c.args.rest.now n c.in_ok-inner.ensures.deeper.1 (c.requires.1.1.0.1 T) in
-    rw (p.1, p.2) (then_stops T c.args.depth K.some_statement K.before_test i c.args.rest.now _ m
-    (call_two_stops T c.args.depth e (ExpressionPart whole) (TokenPart (a_word keyword.Then)) K.after_test c.args.rest.now _ (λ s l. omega (arith, l, n)) c.in_err-test.ensures))
+    let m = one T c.args.depth StatementPart [] conditional_parts (word If) i c.args.rest.now (λ s l. omega (arith, l, n, c.in_ok-inner.ensures.deeper.1)) (λ s. refl) (c.requires.1.1.0.1 T) in
+    rw (p.1, p.2) (then_stops _ m
+    (call_stops T c.args.depth e (ExpressionPart whole ∷ TokenPart (a_word Then) ∷ []) (drop 2 conditional_parts) c.args.rest.now _ (λ s l. omega (arith, l, n)) c.in_err-test.ensures))
 
 pub read_if-returns-in_err-yes : goal.read_if-returns-in_err-yes
 read_if-returns-in_err-yes t c =
@@ -119,9 +110,9 @@ read_if-returns-in_err-yes t c =
     let T = c.args.text.now in let i = c.args.input.now in
     let e = c.in_ok-inner.inner in
     let n = c.in_ok-inner.ensures.deeper.0 in
-    let m2 = K.test_moves T c.args.depth e i c.args.rest.now c.in_ok-test.rest.now n c.in_ok-inner.ensures.deeper.1 (c.requires.1.1.0.1 T) c.in_ok-test.ensures.reads in
-    rw (p.1, p.2) (then_stops T c.args.depth K.some_statement K.after_test i c.in_ok-test.rest.now _ m2
-    (call_stops T c.args.depth e SimplePart K.after_branch c.in_ok-test.rest.now _ (λ s l. omega (arith, l, n)) c.in_err-yes.ensures))
+    let m2 = then (one T c.args.depth StatementPart [] conditional_parts (word If) i c.args.rest.now (λ s l. omega (arith, l, n, c.in_ok-inner.ensures.deeper.1)) (λ s. refl) (c.requires.1.1.0.1 T)) (call T c.args.depth e (ExpressionPart whole ∷ TokenPart (a_word Then) ∷ []) (drop 2 conditional_parts) c.args.rest.now c.in_ok-test.rest.now (λ s l. omega (arith, l, n)) c.in_ok-test.ensures.reads) in
+    rw (p.1, p.2) (then_stops _ m2
+    (call_stops T c.args.depth e (SimplePart ∷ []) (drop 3 conditional_parts) c.in_ok-test.rest.now _ (λ s l. omega (arith, l, n)) c.in_err-yes.ensures))
 
 pub read_if-returns-in_err-no : goal.read_if-returns-in_err-no
 read_if-returns-in_err-no t c =
@@ -129,16 +120,16 @@ read_if-returns-in_err-no t c =
     let T = c.args.text.now in let i = c.args.input.now in
     let e = c.in_ok-inner.inner in
     let n = c.in_ok-inner.ensures.deeper.0 in
-    let m4 = K.other_moves T c.args.depth e i c.args.rest.now c.in_ok-test.rest.now c.in_ok-yes.rest.now c.in-Some.after.now n c.in_ok-inner.ensures.deeper.1 (c.requires.1.1.0.1 T) c.in_ok-test.ensures.reads c.in_ok-yes.ensures.reads c.in-Some.ensures.first in
-    rw (p.1, p.2) (then_stops T c.args.depth K.some_statement K.after_other i c.in-Some.after.now _ m4
-    (call_stops T c.args.depth e StatementPart (LevelPart ∷ []) c.in-Some.after.now _ (λ s l. omega (arith, l, n)) c.in_err-no.ensures))
+    let m4 = then (then (then (one T c.args.depth StatementPart [] conditional_parts (word If) i c.args.rest.now (λ s l. omega (arith, l, n, c.in_ok-inner.ensures.deeper.1)) (λ s. refl) (c.requires.1.1.0.1 T)) (call T c.args.depth e (ExpressionPart whole ∷ TokenPart (a_word Then) ∷ []) (drop 2 conditional_parts) c.args.rest.now c.in_ok-test.rest.now (λ s l. omega (arith, l, n)) c.in_ok-test.ensures.reads)) (call T c.args.depth e (SimplePart ∷ []) (drop 3 conditional_parts) c.in_ok-test.rest.now c.in_ok-yes.rest.now (λ s l. omega (arith, l, n)) c.in_ok-yes.ensures.reads)) (goes T c.args.depth ElseTail (a_word Else) _ (LevelPart ∷ []) (Word Else) c.in_ok-yes.rest.now c.in-Some.after.now (λ s l. omega (arith, l, n, c.in_ok-inner.ensures.deeper.1)) refl refl c.in-Some.ensures.first) in
+    rw (p.1, p.2) (then_stops _ m4
+    (call_stops T c.args.depth e (StatementPart ∷ []) (LevelPart ∷ []) c.in-Some.after.now _ (λ s l. omega (arith, l, n)) c.in_err-no.ensures))
 
 pub read_statement-returns-in_ok-turn-in-Some-Word-While-default : goal.read_statement-returns-in_ok-turn-in-Some-Word-While-default
 read_statement-returns-in_ok-turn-in-Some-Word-While-default t c =
     record {
       spans = let T = c.args.text.now in
           c.while_do.ensures.spans T c.args.input.now c.in-Some-Word-While-default.rest.now c.in_ok-test-in-Some-Word-While-default.ensures.between c.in_ok-test-in-Some-Word-While-default.rest.now c.in_ok-turn-in-Some-Word-While-default.rest.now c.reach.ensures
-          (S.takes T (word keyword.While) c.args.input.now c.in-Some-Word-While-default.rest.now c.in-Some-Word-While-default.ensures.passed ((first_of _ (class.Word keyword.While) c.args.input.now c.in-Some-Word-While-default.rest.now (c.in-Some-Word-While-default.field-0-0-is ∙ ap class.Word c.in-Some-Word-While-default.field-0-0-0-is) c.in-Some-Word-While-default.ensures.first.0).1 T))
+          (one_lexeme T (word While) c.args.input.now c.in-Some-Word-While-default.rest.now c.in-Some-Word-While-default.ensures.passed ((first_of _ (Word While) c.args.input.now c.in-Some-Word-While-default.rest.now (c.in-Some-Word-While-default.field-0-0-is ∙ ap Word c.in-Some-Word-While-default.field-0-0-0-is) c.in-Some-Word-While-default.ensures.first.0).1 T))
           c.in_ok-test-in-Some-Word-While-default.ensures.spans c.in_ok-test-in-Some-Word-While-default.ensures.takes c.in_ok-turn-in-Some-Word-While-default.ensures.spans;
       formed = subst FormedStatement (sym c.while_do.ensures.built) (c.in_ok-test-in-Some-Word-While-default.ensures.fits.1, c.in_ok-turn-in-Some-Word-While-default.ensures.formed);
       simple = tt;
@@ -148,11 +139,11 @@ read_statement-returns-in_ok-turn-in-Some-Word-While-default t c =
       reads = let T = c.args.text.now in let i = c.args.input.now in
           let e = c.in_ok-inner-in-Some-Word-While-default.inner in
           let n = c.in_ok-inner-in-Some-Word-While-default.ensures.deeper.0 in
-          let m2 = K.do_moves T c.args.depth e i c.in-Some-Word-While-default.rest.now c.in_ok-test-in-Some-Word-While-default.rest.now n c.in_ok-inner-in-Some-Word-While-default.ensures.deeper.1 ((first_of _ (class.Word keyword.While) c.args.input.now c.in-Some-Word-While-default.rest.now (c.in-Some-Word-While-default.field-0-0-is ∙ ap class.Word c.in-Some-Word-While-default.field-0-0-0-is) c.in-Some-Word-While-default.ensures.first.0).1 T) c.in_ok-test-in-Some-Word-While-default.ensures.reads in
+          let m2 = then (one T c.args.depth StatementPart [] while_parts (word While) i c.in-Some-Word-While-default.rest.now (λ s l. omega (arith, l, n, c.in_ok-inner-in-Some-Word-While-default.ensures.deeper.1)) (λ s. refl) ((first_of _ (Word While) c.args.input.now c.in-Some-Word-While-default.rest.now (c.in-Some-Word-While-default.field-0-0-is ∙ ap Word c.in-Some-Word-While-default.field-0-0-0-is) c.in-Some-Word-While-default.ensures.first.0).1 T)) (call T c.args.depth e (ExpressionPart whole ∷ TokenPart (a_word Do) ∷ []) (drop 2 while_parts) c.in-Some-Word-While-default.rest.now c.in_ok-test-in-Some-Word-While-default.rest.now (λ s l. omega (arith, l, n)) c.in_ok-test-in-Some-Word-While-default.ensures.reads) in
           let o = c.in_ok-turn-in-Some-Word-While-default.rest.now in
-          then T c.args.depth K.some_statement (LevelPart ∷ []) [] i o o
-          (then T c.args.depth K.some_statement K.after_do (LevelPart ∷ []) i c.in_ok-test-in-Some-Word-While-default.rest.now o m2
-          (call T c.args.depth e StatementPart (LevelPart ∷ []) c.in_ok-test-in-Some-Word-While-default.rest.now o (λ s l. omega (arith, l, n)) c.in_ok-turn-in-Some-Word-While-default.ensures.reads))
+          then
+          (then m2
+          (call T c.args.depth e (StatementPart ∷ []) (LevelPart ∷ []) c.in_ok-test-in-Some-Word-While-default.rest.now o (λ s l. omega (arith, l, n)) c.in_ok-turn-in-Some-Word-While-default.ensures.reads))
           (level_ends T c.args.depth [] o);
     }
 
@@ -161,13 +152,13 @@ read_statement-returns-in_ok-turn-in-Some-Word-Repeat-default t c =
     record {
       spans = let T = c.args.text.now in
           c.repeated.ensures.spans T c.args.input.now c.in-Some-Word-Repeat-default.rest.now c.in_ok-turn-in-Some-Word-Repeat-default.rest.now c.reach-in-Some-Word-Repeat-default.ensures
-          (S.takes T (word keyword.Repeat) c.args.input.now c.in-Some-Word-Repeat-default.rest.now c.in-Some-Word-Repeat-default.ensures.passed ((first_of _ (class.Word keyword.Repeat) c.args.input.now c.in-Some-Word-Repeat-default.rest.now (c.in-Some-Word-Repeat-default.field-0-0-is ∙ ap class.Word c.in-Some-Word-Repeat-default.field-0-0-0-is) c.in-Some-Word-Repeat-default.ensures.first.0).1 T)) c.in_ok-turn-in-Some-Word-Repeat-default.ensures.spans;
+          (one_lexeme T (word Repeat) c.args.input.now c.in-Some-Word-Repeat-default.rest.now c.in-Some-Word-Repeat-default.ensures.passed ((first_of _ (Word Repeat) c.args.input.now c.in-Some-Word-Repeat-default.rest.now (c.in-Some-Word-Repeat-default.field-0-0-is ∙ ap Word c.in-Some-Word-Repeat-default.field-0-0-0-is) c.in-Some-Word-Repeat-default.ensures.first.0).1 T)) c.in_ok-turn-in-Some-Word-Repeat-default.ensures.spans;
       formed = subst FormedStatement (sym c.repeated.ensures.built) c.in_ok-turn-in-Some-Word-Repeat-default.ensures.formed;
       simple = tt;
       nesting = omega (arith, ap statement_nesting c.repeated.ensures.built, c.in_ok-inner-in-Some-Word-Repeat-default.ensures.deeper.0, c.in_ok-turn-in-Some-Word-Repeat-default.ensures.nesting);
       shorter = omega (arith, c.in-Some-Word-Repeat-default.ensures.first.1, c.in_ok-turn-in-Some-Word-Repeat-default.ensures.shorter);
       proper = c.in_ok-turn-in-Some-Word-Repeat-default.ensures.proper;
-      reads = (then c.args.text.now c.args.depth (StatementPart ∷ []) (LevelPart ∷ []) ([]) c.args.input.now c.in_ok-turn-in-Some-Word-Repeat-default.rest.now c.in_ok-turn-in-Some-Word-Repeat-default.rest.now (then c.args.text.now c.args.depth (StatementPart ∷ []) (StatementPart ∷ LevelPart ∷ []) (LevelPart ∷ []) c.args.input.now c.in-Some-Word-Repeat-default.rest.now c.in_ok-turn-in-Some-Word-Repeat-default.rest.now (one c.args.text.now c.args.depth (StatementPart) ([]) (StatementPart ∷ LevelPart ∷ []) (word keyword.Repeat) c.args.input.now c.in-Some-Word-Repeat-default.rest.now (λ s l. omega (arith, l, c.requires.1.1.0, c.in_ok-inner-in-Some-Word-Repeat-default.ensures.deeper.0, c.in_ok-inner-in-Some-Word-Repeat-default.ensures.deeper.1)) (λ s. refl) ((first_of _ (class.Word keyword.Repeat) c.args.input.now c.in-Some-Word-Repeat-default.rest.now (c.in-Some-Word-Repeat-default.field-0-0-is ∙ ap class.Word c.in-Some-Word-Repeat-default.field-0-0-0-is) c.in-Some-Word-Repeat-default.ensures.first.0).1 c.args.text.now)) (call c.args.text.now c.args.depth c.in_ok-inner-in-Some-Word-Repeat-default.inner (StatementPart) (LevelPart ∷ []) c.in-Some-Word-Repeat-default.rest.now c.in_ok-turn-in-Some-Word-Repeat-default.rest.now (λ s l. omega (arith, l, c.requires.1.1.0, c.in_ok-inner-in-Some-Word-Repeat-default.ensures.deeper.0, c.in_ok-inner-in-Some-Word-Repeat-default.ensures.deeper.1)) c.in_ok-turn-in-Some-Word-Repeat-default.ensures.reads)) (level_ends c.args.text.now c.args.depth [] c.in_ok-turn-in-Some-Word-Repeat-default.rest.now));
+      reads = (then (then (one c.args.text.now c.args.depth (StatementPart) ([]) (StatementPart ∷ LevelPart ∷ []) (word Repeat) c.args.input.now c.in-Some-Word-Repeat-default.rest.now (λ s l. omega (arith, l, c.requires.1.1.0, c.in_ok-inner-in-Some-Word-Repeat-default.ensures.deeper.0, c.in_ok-inner-in-Some-Word-Repeat-default.ensures.deeper.1)) (λ s. refl) ((first_of _ (Word Repeat) c.args.input.now c.in-Some-Word-Repeat-default.rest.now (c.in-Some-Word-Repeat-default.field-0-0-is ∙ ap Word c.in-Some-Word-Repeat-default.field-0-0-0-is) c.in-Some-Word-Repeat-default.ensures.first.0).1 c.args.text.now)) (call c.args.text.now c.args.depth c.in_ok-inner-in-Some-Word-Repeat-default.inner (StatementPart ∷ []) (LevelPart ∷ []) c.in-Some-Word-Repeat-default.rest.now c.in_ok-turn-in-Some-Word-Repeat-default.rest.now (λ s l. omega (arith, l, c.requires.1.1.0, c.in_ok-inner-in-Some-Word-Repeat-default.ensures.deeper.0, c.in_ok-inner-in-Some-Word-Repeat-default.ensures.deeper.1)) c.in_ok-turn-in-Some-Word-Repeat-default.ensures.reads)) (level_ends c.args.text.now c.args.depth [] c.in_ok-turn-in-Some-Word-Repeat-default.rest.now));
     }
 
 pub read_statement-returns-in_default : goal.read_statement-returns-in_default
@@ -180,7 +171,7 @@ read_if-returns-in_default t c =
     record {
       spans = let T = c.args.text.now in
           c.if_then.ensures.spans T c.args.input.now c.args.rest.now c.in_ok-test.ensures.between c.in_ok-test.rest.now c.in_ok-yes.rest.now c.reach.ensures
-          (S.takes T (word keyword.If) c.args.input.now c.args.rest.now c.requires.1.1.1.1.1.1 (c.requires.1.1.0.1 T))
+          (one_lexeme T (word If) c.args.input.now c.args.rest.now c.requires.1.1.1.1.1.1 (c.requires.1.1.0.1 T))
           c.in_ok-test.ensures.spans c.in_ok-test.ensures.takes (subst (λ y. StatementSpans T y c.in_ok-test.rest.now c.in_ok-yes.rest.now) (sym c.in_ok-branch.ensures.ok) c.in_ok-yes.ensures.spans);
       formed = let y = subst (λ y. IsSimple (statement_of y) × FormedStatement (statement_of y)) (sym c.in_ok-branch.ensures.ok) (c.in_ok-yes.ensures.simple, c.in_ok-yes.ensures.formed) in subst FormedStatement (sym c.if_then.ensures.built) (c.in_ok-test.ensures.fits.1, y.0, y.1);
       simple = tt;
@@ -190,10 +181,10 @@ read_if-returns-in_default t c =
       reads = let T = c.args.text.now in let i = c.args.input.now in
           let e = c.in_ok-inner.inner in
           let n = c.in_ok-inner.ensures.deeper.0 in
-          let m3 = K.branch_moves T c.args.depth e i c.args.rest.now c.in_ok-test.rest.now c.in_ok-yes.rest.now n c.in_ok-inner.ensures.deeper.1 (c.requires.1.1.0.1 T) c.in_ok-test.ensures.reads c.in_ok-yes.ensures.reads in
+          let m3 = then (then (one T c.args.depth StatementPart [] conditional_parts (word If) i c.args.rest.now (λ s l. omega (arith, l, n, c.in_ok-inner.ensures.deeper.1)) (λ s. refl) (c.requires.1.1.0.1 T)) (call T c.args.depth e (ExpressionPart whole ∷ TokenPart (a_word Then) ∷ []) (drop 2 conditional_parts) c.args.rest.now c.in_ok-test.rest.now (λ s l. omega (arith, l, n)) c.in_ok-test.ensures.reads)) (call T c.args.depth e (SimplePart ∷ []) (drop 3 conditional_parts) c.in_ok-test.rest.now c.in_ok-yes.rest.now (λ s l. omega (arith, l, n)) c.in_ok-yes.ensures.reads) in
           let o = c.in_ok-yes.rest.now in
-          then T c.args.depth K.some_statement (LevelPart ∷ []) [] i o o
-          (then T c.args.depth K.some_statement K.after_branch (LevelPart ∷ []) i o o m3 (ends T c.args.depth ElseTail (a_word keyword.Else) _ (LevelPart ∷ []) (class.Word keyword.Else) o refl refl c.in_default.ensures.absent))
+          then
+          (then m3 (ends T c.args.depth ElseTail (a_word Else) _ (LevelPart ∷ []) (Word Else) o refl refl c.in_default.ensures.absent))
           (level_ends T c.args.depth [] o);
     }
 
@@ -203,9 +194,9 @@ read_if-returns t c =
       spans = let T = c.args.text.now in
           c.if_else.ensures.spans T c.args.input.now c.args.rest.now c.in_ok-test.ensures.between c.in_ok-test.rest.now c.in_ok-yes.rest.now c.in-Some.after.now c.in_ok-no.rest.now
           c.reach-2.ensures
-          (S.takes T (word keyword.If) c.args.input.now c.args.rest.now c.requires.1.1.1.1.1.1 (c.requires.1.1.0.1 T))
+          (one_lexeme T (word If) c.args.input.now c.args.rest.now c.requires.1.1.1.1.1.1 (c.requires.1.1.0.1 T))
           c.in_ok-test.ensures.spans c.in_ok-test.ensures.takes (subst (λ y. StatementSpans T y c.in_ok-test.rest.now c.in_ok-yes.rest.now) (sym c.in_ok-branch.ensures.ok) c.in_ok-yes.ensures.spans)
-          (S.takes T (word keyword.Else) c.in_ok-yes.rest.now c.in-Some.after.now c.in-Some.ensures.passed (c.in-Some.ensures.first.1 T)) c.in_ok-no.ensures.spans;
+          (one_lexeme T (word Else) c.in_ok-yes.rest.now c.in-Some.after.now c.in-Some.ensures.passed (c.in-Some.ensures.first.1 T)) c.in_ok-no.ensures.spans;
       formed = let y = subst (λ y. IsSimple (statement_of y) × FormedStatement (statement_of y)) (sym c.in_ok-branch.ensures.ok) (c.in_ok-yes.ensures.simple, c.in_ok-yes.ensures.formed) in subst FormedStatement (sym c.if_else.ensures.built) (c.in_ok-test.ensures.fits.1, y.0, y.1, c.in_ok-no.ensures.formed);
       simple = tt;
       nesting = omega (arith, ap statement_nesting c.if_else.ensures.built, ap (λ y. statement_nesting (statement_of y)) c.in_ok-branch.ensures.ok, c.in_ok-inner.ensures.deeper.0, c.in_ok-test.ensures.nesting, c.in_ok-yes.ensures.nesting, c.in_ok-no.ensures.nesting);
@@ -214,11 +205,11 @@ read_if-returns t c =
       reads = let T = c.args.text.now in let i = c.args.input.now in
           let e = c.in_ok-inner.inner in
           let n = c.in_ok-inner.ensures.deeper.0 in
-          let m4 = K.other_moves T c.args.depth e i c.args.rest.now c.in_ok-test.rest.now c.in_ok-yes.rest.now c.in-Some.after.now n c.in_ok-inner.ensures.deeper.1 (c.requires.1.1.0.1 T) c.in_ok-test.ensures.reads c.in_ok-yes.ensures.reads c.in-Some.ensures.first in
+          let m4 = then (then (then (one T c.args.depth StatementPart [] conditional_parts (word If) i c.args.rest.now (λ s l. omega (arith, l, n, c.in_ok-inner.ensures.deeper.1)) (λ s. refl) (c.requires.1.1.0.1 T)) (call T c.args.depth e (ExpressionPart whole ∷ TokenPart (a_word Then) ∷ []) (drop 2 conditional_parts) c.args.rest.now c.in_ok-test.rest.now (λ s l. omega (arith, l, n)) c.in_ok-test.ensures.reads)) (call T c.args.depth e (SimplePart ∷ []) (drop 3 conditional_parts) c.in_ok-test.rest.now c.in_ok-yes.rest.now (λ s l. omega (arith, l, n)) c.in_ok-yes.ensures.reads)) (goes T c.args.depth ElseTail (a_word Else) _ (LevelPart ∷ []) (Word Else) c.in_ok-yes.rest.now c.in-Some.after.now (λ s l. omega (arith, l, n, c.in_ok-inner.ensures.deeper.1)) refl refl c.in-Some.ensures.first) in
           let o = c.in_ok-no.rest.now in
-          then T c.args.depth K.some_statement (LevelPart ∷ []) [] i o o
-          (then T c.args.depth K.some_statement K.after_other (LevelPart ∷ []) i c.in-Some.after.now o m4
-          (call T c.args.depth e StatementPart (LevelPart ∷ []) c.in-Some.after.now o (λ s l. omega (arith, l, n)) c.in_ok-no.ensures.reads))
+          then
+          (then m4
+          (call T c.args.depth e (StatementPart ∷ []) (LevelPart ∷ []) c.in-Some.after.now o (λ s l. omega (arith, l, n)) c.in_ok-no.ensures.reads))
           (level_ends T c.args.depth [] o);
     }
 
@@ -238,13 +229,13 @@ read_simple-returns-in_ok-value-in-Some-Word-Print-default t c =
     let v = subst (λ e. ExpressionRead c.args.text.now c.args.depth whole e c.in-Some-Word-Print-default.rest.now c.in_ok-value-in-Some-Word-Print-default.rest.now) (sym c.into_inner.ensures) c.in_ok-value-in-Some-Word-Print-default.ensures in
     record {
       spans = let T = c.args.text.now in
-          (c.reach.ensures, (c.in-Some-Word-Print-default.rest.now, (S.takes T (word keyword.Print) c.args.input.now c.in-Some-Word-Print-default.rest.now c.in-Some-Word-Print-default.ensures.passed ((first_of _ (class.Word keyword.Print) c.args.input.now c.in-Some-Word-Print-default.rest.now (c.in-Some-Word-Print-default.field-0-0-is ∙ ap class.Word c.in-Some-Word-Print-default.field-0-0-0-is) c.in-Some-Word-Print-default.ensures.first.0).1 T)), v.spans));
+          (c.reach.ensures, (c.in-Some-Word-Print-default.rest.now, (one_lexeme T (word Print) c.args.input.now c.in-Some-Word-Print-default.rest.now c.in-Some-Word-Print-default.ensures.passed ((first_of _ (Word Print) c.args.input.now c.in-Some-Word-Print-default.rest.now (c.in-Some-Word-Print-default.field-0-0-is ∙ ap Word c.in-Some-Word-Print-default.field-0-0-0-is) c.in-Some-Word-Print-default.ensures.first.0).1 T)), v.spans));
       formed = v.fits.1;
       simple = tt;
       nesting = v.nesting;
       shorter = omega (arith, c.in-Some-Word-Print-default.ensures.first.1, v.shorter);
       proper = v.proper;
-      reads = (then c.args.text.now c.args.depth (SimplePart ∷ []) (ExpressionPart whole ∷ []) ([]) c.args.input.now c.in-Some-Word-Print-default.rest.now c.in_ok-value-in-Some-Word-Print-default.rest.now (one c.args.text.now c.args.depth (SimplePart) ([]) (ExpressionPart whole ∷ []) (word keyword.Print) c.args.input.now c.in-Some-Word-Print-default.rest.now (λ s l. omega (arith, l, c.requires.1.1.0)) (λ s. refl) ((first_of _ (class.Word keyword.Print) c.args.input.now c.in-Some-Word-Print-default.rest.now (c.in-Some-Word-Print-default.field-0-0-is ∙ ap class.Word c.in-Some-Word-Print-default.field-0-0-0-is) c.in-Some-Word-Print-default.ensures.first.0).1 c.args.text.now)) (call c.args.text.now c.args.depth c.args.depth (ExpressionPart whole) ([]) c.in-Some-Word-Print-default.rest.now c.in_ok-value-in-Some-Word-Print-default.rest.now (λ s l. omega (arith, l, c.requires.1.1.0)) v.reads));
+      reads = (then (one c.args.text.now c.args.depth (SimplePart) ([]) (ExpressionPart whole ∷ []) (word Print) c.args.input.now c.in-Some-Word-Print-default.rest.now (λ s l. omega (arith, l, c.requires.1.1.0)) (λ s. refl) ((first_of _ (Word Print) c.args.input.now c.in-Some-Word-Print-default.rest.now (c.in-Some-Word-Print-default.field-0-0-is ∙ ap Word c.in-Some-Word-Print-default.field-0-0-0-is) c.in-Some-Word-Print-default.ensures.first.0).1 c.args.text.now)) (call c.args.text.now c.args.depth c.args.depth (ExpressionPart whole ∷ []) ([]) c.in-Some-Word-Print-default.rest.now c.in_ok-value-in-Some-Word-Print-default.rest.now (λ s l. omega (arith, l, c.requires.1.1.0)) v.reads));
     }
 
 pub read_simple-returns-in_ok-rest-in-Some-Word-Begin-default : goal.read_simple-returns-in_ok-rest-in-Some-Word-Begin-default
@@ -252,14 +243,14 @@ read_simple-returns-in_ok-rest-in-Some-Word-Begin-default t c =
     record {
       spans = let T = c.args.text.now in
           c.block.ensures.spans T c.args.input.now c.in-Some-Word-Begin-default.rest.now c.in_ok-statements-in-Some-Word-Begin-default.rest.now c.in_ok-rest-in-Some-Word-Begin-default.rest.now c.reach-in-Some-Word-Begin-default.ensures
-          (S.takes T (word keyword.Begin) c.args.input.now c.in-Some-Word-Begin-default.rest.now c.in-Some-Word-Begin-default.ensures.passed ((first_of _ (class.Word keyword.Begin) c.args.input.now c.in-Some-Word-Begin-default.rest.now (c.in-Some-Word-Begin-default.field-0-0-is ∙ ap class.Word c.in-Some-Word-Begin-default.field-0-0-0-is) c.in-Some-Word-Begin-default.ensures.first.0).1 T)) c.in_ok-statements-in-Some-Word-Begin-default.ensures.spans
-          (S.takes T (word keyword.End) c.in_ok-statements-in-Some-Word-Begin-default.rest.now c.in_ok-rest-in-Some-Word-Begin-default.rest.now c.in_ok-rest-in-Some-Word-Begin-default.ensures.passed (c.in_ok-rest-in-Some-Word-Begin-default.ensures.first.1 T));
+          (one_lexeme T (word Begin) c.args.input.now c.in-Some-Word-Begin-default.rest.now c.in-Some-Word-Begin-default.ensures.passed ((first_of _ (Word Begin) c.args.input.now c.in-Some-Word-Begin-default.rest.now (c.in-Some-Word-Begin-default.field-0-0-is ∙ ap Word c.in-Some-Word-Begin-default.field-0-0-0-is) c.in-Some-Word-Begin-default.ensures.first.0).1 T)) c.in_ok-statements-in-Some-Word-Begin-default.ensures.spans
+          (one_lexeme T (word End) c.in_ok-statements-in-Some-Word-Begin-default.rest.now c.in_ok-rest-in-Some-Word-Begin-default.rest.now c.in_ok-rest-in-Some-Word-Begin-default.ensures.passed (c.in_ok-rest-in-Some-Word-Begin-default.ensures.first.1 T));
       formed = subst FormedStatement (sym c.block.ensures.built) (c.in_ok-statements-in-Some-Word-Begin-default.ensures.some, c.in_ok-statements-in-Some-Word-Begin-default.ensures.formed);
       simple = subst IsSimple (sym c.block.ensures.built) tt;
       nesting = omega (arith, ap statement_nesting c.block.ensures.built, c.in_ok-inner-in-Some-Word-Begin-default.ensures.deeper.0, c.in_ok-statements-in-Some-Word-Begin-default.ensures.nesting);
       shorter = omega (arith, c.in-Some-Word-Begin-default.ensures.first.1, c.in_ok-statements-in-Some-Word-Begin-default.ensures.shorter, c.in_ok-rest-in-Some-Word-Begin-default.ensures.shorter);
       proper = c.in_ok-rest-in-Some-Word-Begin-default.ensures.proper c.args.text.now c.in_ok-statements-in-Some-Word-Begin-default.ensures.proper;
-      reads = (then c.args.text.now c.args.depth (SimplePart ∷ []) (LevelPart ∷ []) ([]) c.args.input.now c.in_ok-rest-in-Some-Word-Begin-default.rest.now c.in_ok-rest-in-Some-Word-Begin-default.rest.now (then c.args.text.now c.args.depth (SimplePart ∷ []) (TokenPart (a_word keyword.End) ∷ LevelPart ∷ []) (LevelPart ∷ []) c.args.input.now c.in_ok-statements-in-Some-Word-Begin-default.rest.now c.in_ok-rest-in-Some-Word-Begin-default.rest.now (then c.args.text.now c.args.depth (SimplePart ∷ []) (StatementPart ∷ StatementsTail ∷ TokenPart (a_word keyword.End) ∷ LevelPart ∷ []) (TokenPart (a_word keyword.End) ∷ LevelPart ∷ []) c.args.input.now c.in-Some-Word-Begin-default.rest.now c.in_ok-statements-in-Some-Word-Begin-default.rest.now (one c.args.text.now c.args.depth (SimplePart) ([]) (StatementPart ∷ StatementsTail ∷ TokenPart (a_word keyword.End) ∷ LevelPart ∷ []) (word keyword.Begin) c.args.input.now c.in-Some-Word-Begin-default.rest.now (λ s l. omega (arith, l, c.requires.1.1.0, c.in_ok-inner-in-Some-Word-Begin-default.ensures.deeper.0, c.in_ok-inner-in-Some-Word-Begin-default.ensures.deeper.1)) (λ s. refl) ((first_of _ (class.Word keyword.Begin) c.args.input.now c.in-Some-Word-Begin-default.rest.now (c.in-Some-Word-Begin-default.field-0-0-is ∙ ap class.Word c.in-Some-Word-Begin-default.field-0-0-0-is) c.in-Some-Word-Begin-default.ensures.first.0).1 c.args.text.now)) (call_two c.args.text.now c.args.depth c.in_ok-inner-in-Some-Word-Begin-default.inner (StatementPart) StatementsTail (TokenPart (a_word keyword.End) ∷ LevelPart ∷ []) c.in-Some-Word-Begin-default.rest.now c.in_ok-statements-in-Some-Word-Begin-default.rest.now (λ s l. omega (arith, l, c.requires.1.1.0, c.in_ok-inner-in-Some-Word-Begin-default.ensures.deeper.0, c.in_ok-inner-in-Some-Word-Begin-default.ensures.deeper.1)) c.in_ok-statements-in-Some-Word-Begin-default.ensures.reads)) (expected c.args.text.now c.args.depth (a_word keyword.End) (LevelPart ∷ []) (class.Word keyword.End) c.in_ok-statements-in-Some-Word-Begin-default.rest.now c.in_ok-rest-in-Some-Word-Begin-default.rest.now (λ s l. omega (arith, l, c.requires.1.1.0, c.in_ok-inner-in-Some-Word-Begin-default.ensures.deeper.0, c.in_ok-inner-in-Some-Word-Begin-default.ensures.deeper.1)) refl c.in_ok-rest-in-Some-Word-Begin-default.ensures.first)) (level_ends c.args.text.now c.args.depth [] c.in_ok-rest-in-Some-Word-Begin-default.rest.now));
+      reads = (then (then (then (one c.args.text.now c.args.depth (SimplePart) ([]) (StatementPart ∷ StatementsTail ∷ TokenPart (a_word End) ∷ LevelPart ∷ []) (word Begin) c.args.input.now c.in-Some-Word-Begin-default.rest.now (λ s l. omega (arith, l, c.requires.1.1.0, c.in_ok-inner-in-Some-Word-Begin-default.ensures.deeper.0, c.in_ok-inner-in-Some-Word-Begin-default.ensures.deeper.1)) (λ s. refl) ((first_of _ (Word Begin) c.args.input.now c.in-Some-Word-Begin-default.rest.now (c.in-Some-Word-Begin-default.field-0-0-is ∙ ap Word c.in-Some-Word-Begin-default.field-0-0-0-is) c.in-Some-Word-Begin-default.ensures.first.0).1 c.args.text.now)) (call c.args.text.now c.args.depth c.in_ok-inner-in-Some-Word-Begin-default.inner (StatementPart ∷ StatementsTail ∷ []) (TokenPart (a_word End) ∷ LevelPart ∷ []) c.in-Some-Word-Begin-default.rest.now c.in_ok-statements-in-Some-Word-Begin-default.rest.now (λ s l. omega (arith, l, c.requires.1.1.0, c.in_ok-inner-in-Some-Word-Begin-default.ensures.deeper.0, c.in_ok-inner-in-Some-Word-Begin-default.ensures.deeper.1)) c.in_ok-statements-in-Some-Word-Begin-default.ensures.reads)) (expected c.args.text.now c.args.depth (a_word End) (LevelPart ∷ []) (Word End) c.in_ok-statements-in-Some-Word-Begin-default.rest.now c.in_ok-rest-in-Some-Word-Begin-default.rest.now (λ s l. omega (arith, l, c.requires.1.1.0, c.in_ok-inner-in-Some-Word-Begin-default.ensures.deeper.0, c.in_ok-inner-in-Some-Word-Begin-default.ensures.deeper.1)) refl c.in_ok-rest-in-Some-Word-Begin-default.ensures.first)) (level_ends c.args.text.now c.args.depth [] c.in_ok-rest-in-Some-Word-Begin-default.rest.now));
     }
 
 pub read_simple-returns-in_default : goal.read_simple-returns-in_default
@@ -280,8 +271,8 @@ read_statements-read_statement-requires t c = (omega (arith, c.requires.1.0, c.s
 pub read_statements-returns-in_err-statement : goal.read_statements-returns-in_err-statement
 read_statements-returns-in_err-statement t c =
     let p = err_from_is_err_and c.from_residual.result c.from_residual.ensures.1 in
-    rw (p.1, p.2) (then_stops c.args.text.now c.args.depth (StatementPart ∷ StatementsTail ∷ []) (StatementPart ∷ StatementsTail ∷ []) c.args.input.now c.statements.rest.now _ c.statements.invariant.reads
-    (call_stops c.args.text.now c.args.depth c.args.depth StatementPart (StatementsTail ∷ []) c.statements.rest.now _ (λ s l. omega (arith, l, c.requires.1.1.0)) c.in_err-statement.ensures))
+    rw (p.1, p.2) (then_stops _ c.statements.invariant.reads
+    (call_stops c.args.text.now c.args.depth c.args.depth (StatementPart ∷ []) (StatementsTail ∷ []) c.statements.rest.now _ (λ s l. omega (arith, l, c.requires.1.1.0)) c.in_err-statement.ensures))
 
 pub read_statements-statements-init : goal.read_statements-statements-init
 read_statements-statements-init t c =
@@ -292,7 +283,7 @@ read_statements-statements-init t c =
       nesting = omega (arith, ap (λ ss. statements_nesting (statements_of ss)) e, c.requires.1.1.0);
       shorter = omega arith;
       proper = c.requires.1.1.1;
-      reads = λ s l. refl;
+      reads = record { fates = λ s l. refl };
     }
 
 pub read_statements-statements-preserved : goal.read_statements-statements-preserved
@@ -301,26 +292,26 @@ read_statements-statements-preserved t c =
     let a = c.in_ok-statement.after.now in
     let j = c.in-Some.further.now in
     record {
-      spans = λ s r p. S.some_more (Takes T (sign mark.Semicolon)) (StatementSpans T) _ s i a j r (subst (λ ss. SomeStatements T ss i a) (sym c.in_ok-push.ensures.items) (c.statements.invariant.spans c.in_ok-statement.statement a c.in_ok-statement.ensures.spans))
-          (S.takes T (sign mark.Semicolon) a j c.in-Some.ensures.passed (c.in-Some.ensures.first.1 T)) p;
-      formed = formed_next _ _ _ c.in_ok-push.ensures.items c.statements.invariant.formed c.in_ok-statement.ensures.formed;
+      spans = λ s r p. some_more (Takes T (sign Semicolon)) (StatementSpans T) _ s i a j r (subst (λ ss. SomeStatements T ss i a) (sym c.in_ok-push.ensures.items) (c.statements.invariant.spans c.in_ok-statement.statement a c.in_ok-statement.ensures.spans))
+          (one_lexeme T (sign Semicolon) a j c.in-Some.ensures.passed (c.in-Some.ensures.first.1 T)) p;
+      formed = formed_statements_next _ _ _ c.in_ok-push.ensures.items c.statements.invariant.formed c.in_ok-statement.ensures.formed;
       nesting = nesting_next _ _ _ _ c.in_ok-push.ensures.items c.statements.invariant.nesting c.in_ok-statement.ensures.nesting;
       shorter = omega (arith, c.in-Some.ensures.shorter, c.in_ok-statement.ensures.shorter, c.statements.invariant.shorter);
       proper = c.in-Some.ensures.proper T c.in_ok-statement.ensures.proper;
-      reads = next_member T c.args.depth (StatementPart ∷ StatementsTail ∷ []) StatementsTail (a_sign mark.Semicolon) StatementPart [] (class.Sign mark.Semicolon) i c.statements.rest.now a j (λ s l. omega (arith, l, c.requires.1.1.0)) (λ s l. l) refl refl c.statements.invariant.reads c.in_ok-statement.ensures.reads c.in-Some.ensures.first;
+      reads = next_member T c.args.depth (StatementPart ∷ StatementsTail ∷ []) StatementsTail (a_sign Semicolon) StatementPart [] (SignClass Semicolon) i c.statements.rest.now a j (λ s l. omega (arith, l, c.requires.1.1.0)) (λ s l. l) refl refl c.statements.invariant.reads c.in_ok-statement.ensures.reads c.in-Some.ensures.first;
     }
 
 pub read_statements-returns-in_default : goal.read_statements-returns-in_default
 read_statements-returns-in_default t c =
     let T = c.args.text.now in let i = c.args.input.now in
     let a = c.in_ok-statement.after.now in
-    let s = S.some_between (Takes T (sign mark.Semicolon)) (StatementSpans T) _ i a (subst (λ ss. SomeStatements T ss i a) (sym c.in_ok-push.ensures.items) (c.statements.invariant.spans c.in_ok-statement.statement a c.in_ok-statement.ensures.spans)) in
+    let s = some_between (Takes T (sign Semicolon)) (StatementSpans T) _ i a (subst (λ ss. SomeStatements T ss i a) (sym c.in_ok-push.ensures.items) (c.statements.invariant.spans c.in_ok-statement.statement a c.in_ok-statement.ensures.spans)) in
     record {
       spans = s;
-      formed = formed_next _ _ _ c.in_ok-push.ensures.items c.statements.invariant.formed c.in_ok-statement.ensures.formed;
+      formed = formed_statements_next _ _ _ c.in_ok-push.ensures.items c.statements.invariant.formed c.in_ok-statement.ensures.formed;
       some = some_next _ _ _ c.in_ok-push.ensures.items;
       nesting = nesting_next _ _ _ _ c.in_ok-push.ensures.items c.statements.invariant.nesting c.in_ok-statement.ensures.nesting;
       shorter = omega (arith, c.in_ok-statement.ensures.shorter, c.statements.invariant.shorter);
       proper = c.in_ok-statement.ensures.proper;
-      reads = last_member T c.args.depth (StatementPart ∷ StatementsTail ∷ []) StatementsTail (a_sign mark.Semicolon) StatementPart [] (class.Sign mark.Semicolon) i c.statements.rest.now a (λ s l. l) refl refl c.statements.invariant.reads c.in_ok-statement.ensures.reads c.in_default.ensures.absent;
+      reads = last_member T c.args.depth (StatementPart ∷ StatementsTail ∷ []) StatementsTail (a_sign Semicolon) StatementPart [] (SignClass Semicolon) i c.statements.rest.now a (λ s l. l) refl refl c.statements.invariant.reads c.in_ok-statement.ensures.reads c.in_default.ensures.absent;
     }

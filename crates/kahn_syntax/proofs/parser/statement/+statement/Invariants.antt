@@ -1,5 +1,4 @@
-use Rattle.kahn_syntax.proofs.Common.{◌≤◌, ◌+◌, ◌*◌, List, [], ◌∷◌, ◌++◌, length, Statement, Lexeme, StatementSpans, AreProper, StatementsTail, StatementPart, Moves, statements_nesting, FormedStatements, statements_of}
-use Rattle.kahn_syntax.proofs.Spanning.{SomeStatements}
+use Rattle.kahn_syntax.proofs.Parsing.{AreProper, FormedStatements, Lexeme, List, Moves, SomeStatements, Statement, StatementPart, StatementSpans, StatementsTail, length, statements_nesting, statements_of, [], ◌*◌, ◌++◌, ◌+◌, ◌∷◌, ◌≤◌}
 use Rattle.kahn_syntax.proofs.parser.statement.+statement.Given as goal
 
 abbrev pub decreases-read_if : goal.decreases-read_if

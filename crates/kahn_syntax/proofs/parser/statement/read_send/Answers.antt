@@ -1,29 +1,25 @@
-use Rattle.kahn_syntax.proofs.Common.{refl, sym, subst, [], ◌∷◌, arith, err_from_is_err_and, word, name, whole, SimplePart, ExpressionPart, TokenPart, name_of, ExpressionBefore, a_name, a_word}
-use Rattle.kahn_syntax.specs.declared.lexeme.Keyword.TheVariants as keyword
-use Rattle.kahn_syntax.proofs.Spanning as S
-use Rattle.kahn_syntax.proofs.Stacks as K
-use Rattle.kahn_syntax.proofs.Moves.{then, then_stops, call_two_stops, token, no_name}
+use Rattle.kahn_syntax.proofs.Parsing.{ExpressionBefore, ExpressionPart, On, Send, SimplePart, TokenPart, a_name, a_word, arith, call, call_stops, drop, err_from_is_err_and, name, name_of, no_name, one, one_lexeme, refl, send_parts, subst, sym, then, then_stops, token, whole, word, [], ◌∷◌}
 use Rattle.kahn_syntax.proofs.parser.statement.read_send.Goals as goal
 
 pub returns-in_err-value : goal.returns-in_err-value
 returns-in_err-value c =
     let p = err_from_is_err_and c.from_residual.result c.from_residual.ensures.1 in
     let T = c.args.text.now in let i = c.args.input.now in
-    let m = K.send_moves T c.args.depth i c.args.rest.now c.requires.depth (c.requires.first.1 T) in
-    rw (p.1, p.2) (then_stops T c.args.depth (SimplePart ∷ []) K.after_send i c.args.rest.now _ m
-    (call_two_stops T c.args.depth c.args.depth (ExpressionPart whole) (TokenPart (a_word keyword.On)) K.after_on c.args.rest.now _ (λ s l. l) c.in_err-value.ensures))
+    let m = one T c.args.depth SimplePart [] send_parts (word Send) i c.args.rest.now (λ s l. omega (arith, l, c.requires.depth)) (λ s. refl) (c.requires.first.1 T) in
+    rw (p.1, p.2) (then_stops _ m
+    (call_stops T c.args.depth c.args.depth (ExpressionPart whole ∷ TokenPart (a_word On) ∷ []) (drop 2 send_parts) c.args.rest.now _ (λ s l. l) c.in_err-value.ensures))
 
 pub returns-in_err-name : goal.returns-in_err-name
 returns-in_err-name c =
     let p = err_from_is_err_and c.from_residual-in_err-name.result c.from_residual-in_err-name.ensures.1 in
     let T = c.args.text.now in let i = c.args.input.now in
-    let m = K.send_moves T c.args.depth i c.args.rest.now c.requires.depth (c.requires.first.1 T) in
-    let m2 = K.on_moves T c.args.depth i c.args.rest.now c.in_ok-value.rest.now m c.in_ok-value.ensures.reads in
-    rw (p.1, p.2) (then_stops T c.args.depth (SimplePart ∷ []) K.after_on i c.in_ok-value.rest.now _ m2 (no_name T c.args.depth [] c.in_ok-value.rest.now _ c.in_err-name.ensures.stop))
+    let m = one T c.args.depth SimplePart [] send_parts (word Send) i c.args.rest.now (λ s l. omega (arith, l, c.requires.depth)) (λ s. refl) (c.requires.first.1 T) in
+    let m2 = then m (call T c.args.depth c.args.depth (ExpressionPart whole ∷ TokenPart (a_word On) ∷ []) (drop 2 send_parts) c.args.rest.now c.in_ok-value.rest.now (λ s l. l) c.in_ok-value.ensures.reads) in
+    rw (p.1, p.2) (then_stops _ m2 (no_name T c.args.depth [] c.in_ok-value.rest.now _ c.in_err-name.ensures.stop))
 
 pub returns : goal.returns
 returns c =
-    let v = subst (λ e. ExpressionBefore c.args.text.now c.args.depth keyword.On e c.args.rest.now c.in_ok-value.rest.now) (sym c.into_inner.ensures) c.in_ok-value.ensures in
+    let v = subst (λ e. ExpressionBefore c.args.text.now c.args.depth On e c.args.rest.now c.in_ok-value.rest.now) (sym c.into_inner.ensures) c.in_ok-value.ensures in
     record {
       spans = let T = c.args.text.now in (
         c.reach.ensures,
@@ -31,7 +27,7 @@ returns c =
           c.args.rest.now,
           v.between,
           c.in_ok-value.rest.now,
-          S.takes T (word keyword.Send) c.args.input.now c.args.rest.now c.requires.passed (c.requires.first.1 T),
+          one_lexeme T (word Send) c.args.input.now c.args.rest.now c.requires.passed (c.requires.first.1 T),
           v.spans,
           v.takes,
           c.in_ok-name.ensures.spans,
@@ -43,8 +39,8 @@ returns c =
       shorter = omega (arith, c.requires.follows, v.shorter, c.in_ok-name.ensures.shorter);
       proper = c.in_ok-name.ensures.proper;
       reads = let T = c.args.text.now in let i = c.args.input.now in
-          let m = K.send_moves T c.args.depth i c.args.rest.now c.requires.depth (c.requires.first.1 T) in
-          let m2 = K.on_moves T c.args.depth i c.args.rest.now c.in_ok-value.rest.now m v.reads in
-          then T c.args.depth (SimplePart ∷ []) K.after_on [] i c.in_ok-value.rest.now c.in_ok-name.rest.now m2
+          let m = one T c.args.depth SimplePart [] send_parts (word Send) i c.args.rest.now (λ s l. omega (arith, l, c.requires.depth)) (λ s. refl) (c.requires.first.1 T) in
+          let m2 = then m (call T c.args.depth c.args.depth (ExpressionPart whole ∷ TokenPart (a_word On) ∷ []) (drop 2 send_parts) c.args.rest.now c.in_ok-value.rest.now (λ s l. l) v.reads) in
+          then m2
           (token T c.args.depth a_name [] (name (name_of c.in_ok-name.name)) c.in_ok-value.rest.now c.in_ok-name.rest.now (λ s l. omega (arith, l, c.requires.depth)) refl c.in_ok-name.ensures.words);
     }
