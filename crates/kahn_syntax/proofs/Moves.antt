@@ -1,5 +1,5 @@
 -- How the parts that are open go on, over what the parser reads.
-use Rattle.kahn_syntax.proofs.Common.{head_parts, Then, Else, Do, On, End, ElseTail, StatementsTail, ◌≡◌, ◌≢◌, ℕ, ◌+◌, ◌≤◌, ◌<◌, List, [], ◌∷◌, ◌++◌, ◌⊎◌, ⊎_elim, length, true, false, cond, Some, None, Result, Ok, Err, true≢false, refl, sym, ap, ◌∙◌, subst, arith, append_assoc, Span, Class, Lexeme, MatchResult, Expression, Form, Covers, Statement, Stop, Refused, TooDeep, NoMemory, Terminal, word, terminal, terminals, First, Token, takes, leads, class_of, a_kind, a_name, a_number, a_sign, a_word, an_operator, either, rules_of, starts, enters, followed, opening, argument_rules, declaration_rules, other_rules, process_rules, simple_rules, Part, ProgramPart, DeclarationsPart, DeclarationPart, ProcessPart, GroupsPart, GroupPart, VariablesPart, InstancePart, ArgumentsPart, ArgumentPart, ExpressionPart, OperatorsPart, StatementPart, SimplePart, GroupsTail, ArgumentsTail, TokenPart, LevelPart, levels, step, Refuses, TooFar, fate, Operator, Level, Or, operator_terminal, rank, Rung, whole, ors, denials, relations, sums, at, tighter, rung_of, Kind, kind_terminal, IsAbsent, Reads, Moves, Stops, Halts, ExpressionRead, StatementRead, Begin, Close, If, Integer, Logical, NameClass, Not, NotWord, Process, Semicolon, SignClass, Word}
+use Rattle.kahn_syntax.proofs.Common.{StopsAs, head_parts, Then, Else, Do, On, End, ElseTail, StatementsTail, ◌≡◌, ◌≢◌, ℕ, ◌+◌, ◌≤◌, ◌<◌, List, [], ◌∷◌, ◌++◌, ◌⊎◌, ⊎_elim, length, true, false, cond, Some, None, Result, Ok, Err, true≢false, refl, sym, ap, ◌∙◌, subst, arith, append_assoc, Span, Class, Lexeme, MatchResult, Expression, Form, Covers, Statement, Stop, Refused, TooDeep, NoMemory, Terminal, word, terminal, terminals, First, Token, takes, leads, class_of, a_kind, a_name, a_number, a_sign, a_word, an_operator, either, rules_of, starts, enters, followed, opening, argument_rules, declaration_rules, other_rules, process_rules, simple_rules, Part, ProgramPart, DeclarationsPart, DeclarationPart, ProcessPart, GroupsPart, GroupPart, VariablesPart, InstancePart, ArgumentsPart, ArgumentPart, ExpressionPart, OperatorsPart, StatementPart, SimplePart, GroupsTail, ArgumentsTail, TokenPart, LevelPart, levels, step, Refuses, TooFar, fate, Operator, Level, Or, operator_terminal, rank, Rung, whole, ors, denials, relations, sums, at, tighter, rung_of, Kind, kind_terminal, IsAbsent, Reads, Moves, Stops, Halts, ExpressionRead, StatementRead, Begin, Close, If, Integer, Logical, NameClass, Not, NotWord, Process, Semicolon, SignClass, Word}
 use Rattle.kahn_syntax.proofs.WholePrograms.{take_kind, skip_variables}
 use Rattle.kahn_syntax.proofs.Steps.{go, runs, part, skips, refuses, passes, passes_one, follows, follows_some, starts_one, starts_followed, skip_level, skip_tail, take_token, IsChain, IsOther, open_chain, open_whole, open_denial, take_comparison, take_operator}
 use Rattle.kahn_syntax.proofs.Reached.{go_far}
@@ -17,18 +17,14 @@ pub then : {text : List ℕ} {d : ℕ} {p q r : List Part} {i j k : List Lexeme}
 then f g = record { fates = λ s l. f.fates s l ∙ g.fates s l }
 
 pub then_stops : {text : List ℕ} {d : ℕ} {p q : List Part} {i j : List Lexeme} (e : Stop) → Moves text d p q i j → Stops text d q j e → Stops text d p i e
-then_stops NoMemory f g = tt
-then_stops (Refused b n) f g = λ s l. f.fates s l ∙ g s l
-then_stops (TooDeep n) f g = λ s l. f.fates s l ∙ g s l
+then_stops e f g = λ s l. subst (StopsAs e) (sym (f.fates s l)) (g s l)
 
 -- parts above others
 pub call : (text : List ℕ) (d e : ℕ) (ps qs : List Part) (i j : List Lexeme) → Depth d qs e → Reads text e ps i j → Moves text d (ps ++ qs) qs i j
 call text d e ps qs i j b f = record { fates = λ s l. ap (λ u. fate 64 u (terminals text i)) (append_assoc ps qs s) ∙ f.fates (qs ++ s) (b s l) }
 
 pub call_stops : (text : List ℕ) (d e : ℕ) (ps qs : List Part) (i : List Lexeme) (x : Stop) → Depth d qs e → Stops text e ps i x → Stops text d (ps ++ qs) i x
-call_stops text d e ps qs i NoMemory b f = tt
-call_stops text d e ps qs i (Refused y n) b f = λ s l. ap (λ u. fate 64 u (terminals text i)) (append_assoc ps qs s) ∙ f (qs ++ s) (b s l)
-call_stops text d e ps qs i (TooDeep n) b f = λ s l. ap (λ u. fate 64 u (terminals text i)) (append_assoc ps qs s) ∙ f (qs ++ s) (b s l)
+call_stops text d e ps qs i x b f = λ s l. subst (λ u. StopsAs x (fate 64 u (terminals text i))) (sym (append_assoc ps qs s)) (f (qs ++ s) (b s l))
 
 -- what is open after the words that begin them
 abbrev pub choice_parts : List Part
@@ -132,10 +128,10 @@ unexpected text d t qs c i x h (a, e) = absent text d t qs i x (a t h text) e
 pub no_name : (text : List ℕ) (d : ℕ) (qs : List Part) (i : List Lexeme) (x : Stop) →
     (x ≡ NoMemory) ⊎ ((leads a_name (terminals text i) ≡ false) × (x ≡ Refused false (length i))) → Stops text d (TokenPart a_name ∷ qs) i x
 no_name text d qs i x h =
-    ⊎_elim (λ e. subst (Stops text d (TokenPart a_name ∷ qs) i) (sym e) tt) (λ (a, e). absent text d a_name qs i x a e) h
+    ⊎_elim (λ e. subst (Stops text d (TokenPart a_name ∷ qs) i) (sym e) (λ s l. tt)) (λ (a, e). absent text d a_name qs i x a e) h
 
 pub no_memory : (text : List ℕ) (d : ℕ) (qs : List Part) (i : List Lexeme) (x : Stop) → x ≡ NoMemory → Stops text d qs i x
-no_memory text d qs i x e = subst (Stops text d qs i) (sym e) tt
+no_memory text d qs i x e = subst (Stops text d qs i) (sym e) (λ s l. tt)
 
 -- an expression of the next tighter level
 pub opens_whole : (text : List ℕ) (d : ℕ) (qs : List Part) (i : List Lexeme) → IsAbsent (Word If) i → Moves text d (ExpressionPart whole ∷ qs) (ExpressionPart ors ∷ qs) i i
@@ -302,8 +298,7 @@ no_instance text qs i x h =
 
 -- the whole of a program that isn't one
 pub halts : (text : List ℕ) (i : List Lexeme) (x : Stop) → Stops text 0 (ProgramPart ∷ []) i x → Halts (terminals text i) x
-halts text i NoMemory f = tt
-halts text i _ f = f [] refl
+halts text i x f = f [] refl
 
 -- after a whole program nothing may stand
 pub whole_end : (text : List ℕ) (i : List Lexeme) → i ≢ [] → fate 64 [] (terminals text i) ≡ Refuses true (length i)

@@ -1,16 +1,15 @@
 -- Inner. What each function of the parser reads, and where it stops.
 use Rattle.std.specs.Prelude.{◌≡◌, ℕ, List, [], ◌∷◌, ◌++◌, ◌+◌, ◌≤◌, ◌<◌, false, length, map, Some, Result, MatchResult}
-use Rattle.kahn_syntax.specs.Names.{Expression, Statement, Stop, Refused, TooDeep, Class, Lexeme, Keyword, Parameter, Argument, Declaration}
+use Rattle.kahn_syntax.specs.Names.{Expression, Form, Operator, Statement, Stop, Refused, TooDeep, Class, Lexeme, Keyword, Parameter, Argument, Declaration}
 use Rattle.kahn_syntax.specs.declared.parser.cursor.Stop.TheVariants.{NoMemory}
 use Rattle.kahn_syntax.specs.declared.lexeme.Keyword.TheVariants as keyword
 use Rattle.kahn_syntax.specs.declared.lexeme.Sign.TheVariants as mark
 use Rattle.kahn_syntax.specs.Programs.{DeclarationTree, channels, process}
 use Rattle.kahn_syntax.specs.Terminals.{Terminal, word, sign, terminals, AreProper}
-use Rattle.kahn_syntax.specs.inner.Machine.{Token, class_of, leads, Part, ProgramPart, ExpressionPart, StatementPart, SimplePart, StatementsTail, TokenPart, GroupsPart, levels, Refuses, TooFar, fate, a_word, a_sign}
-use Rattle.kahn_syntax.specs.inner.Rungs.{Rung, whole, at}
+use Rattle.kahn_syntax.specs.inner.Machine.{Rung, whole, at, Token, class_of, leads, Part, ProgramPart, ExpressionPart, StatementPart, SimplePart, StatementsTail, TokenPart, GroupsPart, levels, Fate, Refuses, TooFar, fate, a_word, a_sign}
 use Rattle.kahn_syntax.specs.Drawn.{declaration_of, expression_of, statement_of, statements_of}
-use Rattle.kahn_syntax.specs.Spans.{Takes, ArgumentsSpan, DeclarationsSpan, ParametersSpan, ExpressionSpans, StatementSpans, StatementsSpan}
-use Rattle.kahn_syntax.specs.Trees.{ExpressionTree, OperandTrees, no_operand, operand, level, binds, Formed, expression_nesting, StatementTree, FormedStatement, FormedStatements, IsSimple, AreSome, statement_nesting, statements_nesting}
+use Rattle.kahn_syntax.specs.Spans.{FormSpans, Takes, ArgumentsSpan, DeclarationsSpan, ParametersSpan, ExpressionSpans, StatementSpans, StatementsSpan}
+use Rattle.kahn_syntax.specs.Trees.{operator_terminal, ExpressionTree, OperandTrees, no_operand, operand, level, binds, Formed, expression_nesting, StatementTree, FormedStatement, FormedStatements, IsSimple, AreSome, statement_nesting, statements_nesting}
 
 -- an expression that may stand at this level
 abbrev pub Fits : ℕ → ExpressionTree → Type 0
@@ -33,17 +32,19 @@ pub record Moves (text : List ℕ) (depth : ℕ) (parts those : List Part) (inpu
 abbrev pub Reads : List ℕ → ℕ → List Part → List Lexeme → List Lexeme → Type 0
 Reads text depth parts input rest = Moves text depth parts [] input rest
 
+-- the fate is what stopped the reading
+abbrev pub StopsAs : Stop → Fate → Type 0
+StopsAs (Refused ended left) f = f ≡ Refuses ended left
+StopsAs (TooDeep left) f = f ≡ TooFar left
+StopsAs NoMemory f = Unit {0}
+
 -- The parts aren't read, and here is why.
 abbrev pub Stops : List ℕ → ℕ → List Part → List Lexeme → Stop → Type 0
-Stops text depth parts input (Refused ended left) = (s : List Part) → levels s ≡ depth → fate 64 (parts ++ s) (terminals text input) ≡ Refuses ended left
-Stops text depth parts input (TooDeep left) = (s : List Part) → levels s ≡ depth → fate 64 (parts ++ s) (terminals text input) ≡ TooFar left
-Stops text depth parts input NoMemory = Unit {0}
+Stops text depth parts input e = (s : List Part) → levels s ≡ depth → StopsAs e (fate 64 (parts ++ s) (terminals text input))
 
 -- The list isn't a program, and here is why.
 abbrev pub Halts : List Terminal → Stop → Type 0
-Halts ks (Refused ended left) = fate 64 (ProgramPart ∷ []) ks ≡ Refuses ended left
-Halts ks (TooDeep left) = fate 64 (ProgramPart ∷ []) ks ≡ TooFar left
-Halts ks NoMemory = Unit {0}
+Halts ks e = StopsAs e (fate 64 (ProgramPart ∷ []) ks)
 
 -- With so many levels open, an expression of this level of the grammar is read from the input to the rest.
 pub record ExpressionRead (text : List ℕ) (depth : ℕ) (g : Rung) (e : Expression) (input rest : List Lexeme) : Type 0 where
@@ -121,6 +122,11 @@ SoundDeclarationsSpan text ds xs r = AreSound (map declaration_of ds) × Declara
 -- arguments and the bracket behind them
 abbrev pub ClosedArgumentsSpan : List ℕ → List Argument → List Lexeme → List Lexeme → Type 0
 ClosedArgumentsSpan text arguments xs r = (a : List Lexeme) × ArgumentsSpan text arguments xs a × Takes text (sign mark.Close) a r
+
+-- an operator between two operands
+abbrev pub SpansOperation : Expression → Operator → Expression → Form → Type 0
+SpansOperation left operator right f = (text : List ℕ) (xs a b r : List Lexeme) →
+    ExpressionSpans text left xs a → Takes text (operator_terminal operator) a b → ExpressionSpans text right b r → FormSpans text f xs r
 
 -- ---- what a call answers: what was read, with the rest, or why it isn't
 

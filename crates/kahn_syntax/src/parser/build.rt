@@ -2,14 +2,14 @@
 
 ghost use Rattle.std.specs.Prelude.{◌≡◌, ◌<◌, length, IfOk, IfErr, MatchResult};
 ghost use Rattle.kahn_syntax.specs.declared.parser.cursor.Stop.TheVariants.{NoMemory};
-ghost use Rattle.kahn_syntax.specs.Drawn.{expression_of, form_of, statement_of, statements_of};
+ghost use Rattle.kahn_syntax.specs.Drawn.{expression_of, form_of};
 ghost use Rattle.kahn_syntax.specs.Spans.{Covers};
 ghost use Rattle.kahn_syntax.specs.Trees as tree;
-ghost use Rattle.kahn_syntax.specs.inner.Building.{SpansBlock, SpansIfElse, SpansIfThen, SpansOperation, SpansRepeat, SpansWhile};
+ghost use Rattle.kahn_syntax.specs.inner.Reads.{SpansOperation};
 
 use crate::lexeme::Lexeme;
 use crate::parser::cursor::{Read, Stop, reach};
-use kahn_tree::{Action, Expression, Form, Operand, Operator, Span, Statement};
+use kahn_tree::{Expression, Form, Operand, Operator};
 use std::alloc::Global;
 
 /// An expression of this form, from the first lexeme of the input to the last one before the rest.
@@ -44,64 +44,4 @@ pub fn compared(
         expression: Box::into_inner(right),
     })?;
     Ok(Form::Level(left, further))
-}
-
-/// A conditional statement without `else`.
-pub fn if_then(span: Span, test: Box<Expression>, yes: Box<Statement>) -> Statement
-    ensures built { statement_of result ≡ tree.if_then (expression_of test.value) (statement_of yes.value) }
-    ensures spans { SpansIfThen span test.value yes.value result }
-{
-    Statement {
-        span: Some(span),
-        action: Action::If(Box::into_inner(test), yes, None),
-    }
-}
-
-/// A conditional statement with `else`.
-pub fn if_else(
-    span: Span,
-    test: Box<Expression>,
-    yes: Box<Statement>,
-    no: Box<Statement>,
-) -> Statement
-    ensures built { statement_of result ≡ tree.if_else (expression_of test.value) (statement_of yes.value) (statement_of no.value) }
-    ensures spans { SpansIfElse span test.value yes.value no.value result }
-{
-    Statement {
-        span: Some(span),
-        action: Action::If(Box::into_inner(test), yes, Some(no)),
-    }
-}
-
-/// A loop with a test.
-pub fn while_do(span: Span, test: Box<Expression>, turn: Box<Statement>) -> Statement
-    ensures built { statement_of result ≡ tree.while_do (expression_of test.value) (statement_of turn.value) }
-    ensures spans { SpansWhile span test.value turn.value result }
-{
-    Statement {
-        span: Some(span),
-        action: Action::While(Box::into_inner(test), turn),
-    }
-}
-
-/// A loop without an end.
-pub fn repeated(span: Span, turn: Box<Statement>) -> Statement
-    ensures built { statement_of result ≡ tree.repeat (statement_of turn.value) }
-    ensures spans { SpansRepeat span turn.value result }
-{
-    Statement {
-        span: Some(span),
-        action: Action::Repeat(turn),
-    }
-}
-
-/// A block of statements.
-pub fn block(span: Span, statements: Vec<Statement>) -> Statement
-    ensures built { statement_of result ≡ tree.block (statements_of statements.items) }
-    ensures spans { SpansBlock span statements.items result }
-{
-    Statement {
-        span: Some(span),
-        action: Action::Block(statements),
-    }
 }

@@ -6,8 +6,7 @@ ghost use Rattle.kahn_syntax.specs.declared.lexeme.Class.TheVariants as class;
 ghost use Rattle.kahn_syntax.specs.Terminals.{First, AreProper};
 ghost use Rattle.kahn_syntax.specs.Spans.{IsPast};
 ghost use Rattle.kahn_syntax.specs.inner.Reads.{ParsesBefore, ParsesExpression};
-ghost use Rattle.kahn_syntax.specs.inner.Rungs.{whole, denials, relations, factors, tighter, rung_of};
-ghost use Rattle.kahn_syntax.specs.inner.Machine.{class_of, a_word};
+ghost use Rattle.kahn_syntax.specs.inner.Machine.{a_word, class_of, denials, factors, relations, rung_of, tighter, whole};
 
 use crate::lexeme::{Class, Keyword, Lexeme, Sign};
 use crate::parser::build::{compared, made};

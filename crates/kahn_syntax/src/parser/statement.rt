@@ -9,7 +9,6 @@ ghost use Rattle.kahn_syntax.specs.inner.Reads.{ParsesStatement, ParsesStatement
 ghost use Rattle.kahn_syntax.specs.inner.Machine.{leads, StatementPart, SimplePart, a_name};
 
 use crate::lexeme::{Class, Keyword, Lexeme, Sign};
-use crate::parser::build::{block, if_else, if_then, repeated, while_do};
 use crate::parser::cursor::{Read, deeper, expect, next, past, reach};
 use crate::parser::expression::{read_before, read_expression};
 use crate::parser::names::read_name;
@@ -58,12 +57,24 @@ fn read_statement<'t>(
             let inner = deeper(input, depth)?;
             let (test, rest) = read_before(alloc, text, rest, inner, Keyword::Do)?;
             let (turn, rest) = read_inner(alloc, text, rest, inner)?;
-            Ok((while_do(reach(input, rest), test, turn), rest))
+            Ok((
+                Statement {
+                    span: Some(reach(input, rest)),
+                    action: Action::While(Box::into_inner(test), turn),
+                },
+                rest,
+            ))
         }
         Some((Class::Word(Keyword::Repeat), rest)) => {
             let inner = deeper(input, depth)?;
             let (turn, rest) = read_inner(alloc, text, rest, inner)?;
-            Ok((repeated(reach(input, rest), turn), rest))
+            Ok((
+                Statement {
+                    span: Some(reach(input, rest)),
+                    action: Action::Repeat(turn),
+                },
+                rest,
+            ))
         }
         _ => read_simple(alloc, text, input, depth),
     }
@@ -90,10 +101,22 @@ fn read_if<'t>(
     let (yes, rest) = read_simple(alloc, text, rest, inner)?;
     let branch = Box::new(alloc, yes)?;
     let Some(after) = past(rest, Class::Word(Keyword::Else)) else {
-        return Ok((if_then(reach(input, rest), test, branch), rest));
+        return Ok((
+            Statement {
+                span: Some(reach(input, rest)),
+                action: Action::If(Box::into_inner(test), branch, None),
+            },
+            rest,
+        ));
     };
     let (no, rest) = read_inner(alloc, text, after, inner)?;
-    Ok((if_else(reach(input, rest), test, branch, no), rest))
+    Ok((
+        Statement {
+            span: Some(reach(input, rest)),
+            action: Action::If(Box::into_inner(test), branch, Some(no)),
+        },
+        rest,
+    ))
 }
 
 // A statement inside of another one.
@@ -142,7 +165,13 @@ fn read_simple<'t>(
             let inner = deeper(input, depth)?;
             let (statements, rest) = read_statements(alloc, text, rest, inner)?;
             let rest = expect(rest, Class::Word(Keyword::End))?;
-            Ok((block(reach(input, rest), statements), rest))
+            Ok((
+                Statement {
+                    span: Some(reach(input, rest)),
+                    action: Action::Block(statements),
+                },
+                rest,
+            ))
         }
         _ => Ok((
             Statement {

@@ -1,4 +1,4 @@
-use Rattle.kahn_syntax.proofs.Parsing.{Begin, Do, Else, ElseTail, End, ExpressionPart, ExpressionRead, FormedStatement, FormedStatements, If, IsSimple, LevelPart, NameClass, Print, Repeat, Semicolon, Send, SignClass, SimplePart, SomeStatements, StatementPart, StatementRead, StatementSpans, StatementsTail, Takes, Then, TokenPart, While, Word, a_name, a_sign, a_word, ap, arith, call, call_stops, conditional_parts, deep, drop, ends, err_from_is_err_and, expected, false, first_of, formed_statements_next, goes, last_member, leads, level_ends, nesting_next, next_member, nothing, one, one_lexeme, opened_simple, opens_simple, other_rules, refl, rules, sign, simple_rules, some_between, some_more, some_next, starts, statement_nesting, statement_of, statements_nesting, statements_of, subst, sym, terminals, then, then_stops, unexpected, while_parts, whole, word, [], ◌++◌, ◌∙◌, ◌∷◌, ◌≡◌}
+use Rattle.kahn_syntax.proofs.Parsing.{block, statements_made, statements_row_spans, expression_nesting, expression_of, Formed, ExpressionSpans, Begin, Do, Else, ElseTail, End, ExpressionPart, ExpressionRead, FormedStatement, FormedStatements, If, IsSimple, LevelPart, NameClass, Print, Repeat, Semicolon, Send, SignClass, SimplePart, SomeStatements, StatementPart, StatementRead, StatementSpans, StatementsTail, Takes, Then, TokenPart, While, Word, a_name, a_sign, a_word, ap, arith, call, call_stops, conditional_parts, deep, drop, ends, err_from_is_err_and, expected, false, first_of, formed_statements_next, goes, last_member, leads, level_ends, nesting_next, next_member, nothing, one, one_lexeme, opened_simple, opens_simple, other_rules, refl, rules, sign, simple_rules, some_between, some_more, some_next, starts, statement_nesting, statement_of, statements_nesting, statements_of, subst, sym, terminals, then, then_stops, unexpected, while_parts, whole, word, [], ◌++◌, ◌∙◌, ◌∷◌, ◌≡◌}
 use Rattle.kahn_syntax.proofs.parser.statement.+statement.Goals as goal
 
 pub read_statement-read_if-requires : goal.read_statement-read_if-requires
@@ -127,13 +127,21 @@ read_if-returns-in_err-no t c =
 pub read_statement-returns-in_ok-turn-in-Some-Word-While-default : goal.read_statement-returns-in_ok-turn-in-Some-Word-While-default
 read_statement-returns-in_ok-turn-in-Some-Word-While-default t c =
     record {
-      spans = let T = c.args.text.now in
-          c.while_do.ensures.spans T c.args.input.now c.in-Some-Word-While-default.rest.now c.in_ok-test-in-Some-Word-While-default.ensures.between c.in_ok-test-in-Some-Word-While-default.rest.now c.in_ok-turn-in-Some-Word-While-default.rest.now c.reach.ensures
-          (one_lexeme T (word While) c.args.input.now c.in-Some-Word-While-default.rest.now c.in-Some-Word-While-default.ensures.passed ((first_of _ (Word While) c.args.input.now c.in-Some-Word-While-default.rest.now (c.in-Some-Word-While-default.field-0-0-is ∙ ap Word c.in-Some-Word-While-default.field-0-0-0-is) c.in-Some-Word-While-default.ensures.first.0).1 T))
-          c.in_ok-test-in-Some-Word-While-default.ensures.spans c.in_ok-test-in-Some-Word-While-default.ensures.takes c.in_ok-turn-in-Some-Word-While-default.ensures.spans;
-      formed = subst FormedStatement (sym c.while_do.ensures.built) (c.in_ok-test-in-Some-Word-While-default.ensures.fits.1, c.in_ok-turn-in-Some-Word-While-default.ensures.formed);
+      spans = let T = c.args.text.now in (
+        c.reach.ensures,
+        (
+          c.in-Some-Word-While-default.rest.now,
+          c.in_ok-test-in-Some-Word-While-default.ensures.between,
+          c.in_ok-test-in-Some-Word-While-default.rest.now,
+          (one_lexeme T (word While) c.args.input.now c.in-Some-Word-While-default.rest.now c.in-Some-Word-While-default.ensures.passed ((first_of _ (Word While) c.args.input.now c.in-Some-Word-While-default.rest.now (c.in-Some-Word-While-default.field-0-0-is ∙ ap Word c.in-Some-Word-While-default.field-0-0-0-is) c.in-Some-Word-While-default.ensures.first.0).1 T)),
+          subst (λ y. ExpressionSpans T y c.in-Some-Word-While-default.rest.now c.in_ok-test-in-Some-Word-While-default.ensures.between) (sym c.into_inner.ensures) c.in_ok-test-in-Some-Word-While-default.ensures.spans,
+          c.in_ok-test-in-Some-Word-While-default.ensures.takes,
+          c.in_ok-turn-in-Some-Word-While-default.ensures.spans,
+        ),
+      );
+      formed = (subst (λ y. Formed (expression_of y)) (sym c.into_inner.ensures) c.in_ok-test-in-Some-Word-While-default.ensures.fits.1, c.in_ok-turn-in-Some-Word-While-default.ensures.formed);
       simple = tt;
-      nesting = omega (arith, ap statement_nesting c.while_do.ensures.built, c.in_ok-inner-in-Some-Word-While-default.ensures.deeper.0, c.in_ok-test-in-Some-Word-While-default.ensures.nesting, c.in_ok-turn-in-Some-Word-While-default.ensures.nesting);
+      nesting = omega (arith, ap (λ y. expression_nesting (expression_of y)) c.into_inner.ensures, c.in_ok-inner-in-Some-Word-While-default.ensures.deeper.0, c.in_ok-test-in-Some-Word-While-default.ensures.nesting, c.in_ok-turn-in-Some-Word-While-default.ensures.nesting);
       shorter = omega (arith, c.in-Some-Word-While-default.ensures.first.1, c.in_ok-test-in-Some-Word-While-default.ensures.shorter, c.in_ok-turn-in-Some-Word-While-default.ensures.shorter);
       proper = c.in_ok-turn-in-Some-Word-While-default.ensures.proper;
       reads = let T = c.args.text.now in let i = c.args.input.now in
@@ -151,11 +159,10 @@ pub read_statement-returns-in_ok-turn-in-Some-Word-Repeat-default : goal.read_st
 read_statement-returns-in_ok-turn-in-Some-Word-Repeat-default t c =
     record {
       spans = let T = c.args.text.now in
-          c.repeated.ensures.spans T c.args.input.now c.in-Some-Word-Repeat-default.rest.now c.in_ok-turn-in-Some-Word-Repeat-default.rest.now c.reach-in-Some-Word-Repeat-default.ensures
-          (one_lexeme T (word Repeat) c.args.input.now c.in-Some-Word-Repeat-default.rest.now c.in-Some-Word-Repeat-default.ensures.passed ((first_of _ (Word Repeat) c.args.input.now c.in-Some-Word-Repeat-default.rest.now (c.in-Some-Word-Repeat-default.field-0-0-is ∙ ap Word c.in-Some-Word-Repeat-default.field-0-0-0-is) c.in-Some-Word-Repeat-default.ensures.first.0).1 T)) c.in_ok-turn-in-Some-Word-Repeat-default.ensures.spans;
-      formed = subst FormedStatement (sym c.repeated.ensures.built) c.in_ok-turn-in-Some-Word-Repeat-default.ensures.formed;
+          (c.reach-in-Some-Word-Repeat-default.ensures, (c.in-Some-Word-Repeat-default.rest.now, (one_lexeme T (word Repeat) c.args.input.now c.in-Some-Word-Repeat-default.rest.now c.in-Some-Word-Repeat-default.ensures.passed ((first_of _ (Word Repeat) c.args.input.now c.in-Some-Word-Repeat-default.rest.now (c.in-Some-Word-Repeat-default.field-0-0-is ∙ ap Word c.in-Some-Word-Repeat-default.field-0-0-0-is) c.in-Some-Word-Repeat-default.ensures.first.0).1 T)), c.in_ok-turn-in-Some-Word-Repeat-default.ensures.spans));
+      formed = c.in_ok-turn-in-Some-Word-Repeat-default.ensures.formed;
       simple = tt;
-      nesting = omega (arith, ap statement_nesting c.repeated.ensures.built, c.in_ok-inner-in-Some-Word-Repeat-default.ensures.deeper.0, c.in_ok-turn-in-Some-Word-Repeat-default.ensures.nesting);
+      nesting = omega (arith, c.in_ok-inner-in-Some-Word-Repeat-default.ensures.deeper.0, c.in_ok-turn-in-Some-Word-Repeat-default.ensures.nesting);
       shorter = omega (arith, c.in-Some-Word-Repeat-default.ensures.first.1, c.in_ok-turn-in-Some-Word-Repeat-default.ensures.shorter);
       proper = c.in_ok-turn-in-Some-Word-Repeat-default.ensures.proper;
       reads = (then (then (one c.args.text.now c.args.depth (StatementPart) ([]) (StatementPart ∷ LevelPart ∷ []) (word Repeat) c.args.input.now c.in-Some-Word-Repeat-default.rest.now (λ s l. omega (arith, l, c.requires.1.1.0, c.in_ok-inner-in-Some-Word-Repeat-default.ensures.deeper.0, c.in_ok-inner-in-Some-Word-Repeat-default.ensures.deeper.1)) (λ s. refl) ((first_of _ (Word Repeat) c.args.input.now c.in-Some-Word-Repeat-default.rest.now (c.in-Some-Word-Repeat-default.field-0-0-is ∙ ap Word c.in-Some-Word-Repeat-default.field-0-0-0-is) c.in-Some-Word-Repeat-default.ensures.first.0).1 c.args.text.now)) (call c.args.text.now c.args.depth c.in_ok-inner-in-Some-Word-Repeat-default.inner (StatementPart ∷ []) (LevelPart ∷ []) c.in-Some-Word-Repeat-default.rest.now c.in_ok-turn-in-Some-Word-Repeat-default.rest.now (λ s l. omega (arith, l, c.requires.1.1.0, c.in_ok-inner-in-Some-Word-Repeat-default.ensures.deeper.0, c.in_ok-inner-in-Some-Word-Repeat-default.ensures.deeper.1)) c.in_ok-turn-in-Some-Word-Repeat-default.ensures.reads)) (level_ends c.args.text.now c.args.depth [] c.in_ok-turn-in-Some-Word-Repeat-default.rest.now));
@@ -169,13 +176,24 @@ read_statement-returns-in_default t c =
 pub read_if-returns-in_default : goal.read_if-returns-in_default
 read_if-returns-in_default t c =
     record {
-      spans = let T = c.args.text.now in
-          c.if_then.ensures.spans T c.args.input.now c.args.rest.now c.in_ok-test.ensures.between c.in_ok-test.rest.now c.in_ok-yes.rest.now c.reach.ensures
-          (one_lexeme T (word If) c.args.input.now c.args.rest.now c.requires.1.1.1.1.1.1 (c.requires.1.1.0.1 T))
-          c.in_ok-test.ensures.spans c.in_ok-test.ensures.takes (subst (λ y. StatementSpans T y c.in_ok-test.rest.now c.in_ok-yes.rest.now) (sym c.in_ok-branch.ensures.ok) c.in_ok-yes.ensures.spans);
-      formed = let y = subst (λ y. IsSimple (statement_of y) × FormedStatement (statement_of y)) (sym c.in_ok-branch.ensures.ok) (c.in_ok-yes.ensures.simple, c.in_ok-yes.ensures.formed) in subst FormedStatement (sym c.if_then.ensures.built) (c.in_ok-test.ensures.fits.1, y.0, y.1);
+      spans = let T = c.args.text.now in (
+        c.reach.ensures,
+        (
+          c.args.rest.now,
+          c.in_ok-test.ensures.between,
+          c.in_ok-test.rest.now,
+          c.in_ok-yes.rest.now,
+          one_lexeme T (word If) c.args.input.now c.args.rest.now c.requires.1.1.1.1.1.1 (c.requires.1.1.0.1 T),
+          subst (λ y. ExpressionSpans T y c.args.rest.now c.in_ok-test.ensures.between) (sym c.into_inner.ensures) c.in_ok-test.ensures.spans,
+          c.in_ok-test.ensures.takes,
+          (subst (λ y. StatementSpans T y c.in_ok-test.rest.now c.in_ok-yes.rest.now) (sym c.in_ok-branch.ensures.ok) c.in_ok-yes.ensures.spans),
+          refl,
+        ),
+      );
+      formed = let y = subst (λ y. IsSimple (statement_of y) × FormedStatement (statement_of y)) (sym c.in_ok-branch.ensures.ok) (c.in_ok-yes.ensures.simple, c.in_ok-yes.ensures.formed) in
+          (subst (λ e. Formed (expression_of e)) (sym c.into_inner.ensures) c.in_ok-test.ensures.fits.1, y.0, y.1);
       simple = tt;
-      nesting = omega (arith, ap statement_nesting c.if_then.ensures.built, ap (λ y. statement_nesting (statement_of y)) c.in_ok-branch.ensures.ok, c.in_ok-inner.ensures.deeper.0, c.in_ok-test.ensures.nesting, c.in_ok-yes.ensures.nesting);
+      nesting = omega (arith, ap (λ y. expression_nesting (expression_of y)) c.into_inner.ensures, ap (λ y. statement_nesting (statement_of y)) c.in_ok-branch.ensures.ok, c.in_ok-inner.ensures.deeper.0, c.in_ok-test.ensures.nesting, c.in_ok-yes.ensures.nesting);
       shorter = omega (arith, c.requires.1.1.1.0, c.in_ok-test.ensures.shorter, c.in_ok-yes.ensures.shorter);
       proper = c.in_ok-yes.ensures.proper;
       reads = let T = c.args.text.now in let i = c.args.input.now in
@@ -191,15 +209,24 @@ read_if-returns-in_default t c =
 pub read_if-returns : goal.read_if-returns
 read_if-returns t c =
     record {
-      spans = let T = c.args.text.now in
-          c.if_else.ensures.spans T c.args.input.now c.args.rest.now c.in_ok-test.ensures.between c.in_ok-test.rest.now c.in_ok-yes.rest.now c.in-Some.after.now c.in_ok-no.rest.now
-          c.reach-2.ensures
-          (one_lexeme T (word If) c.args.input.now c.args.rest.now c.requires.1.1.1.1.1.1 (c.requires.1.1.0.1 T))
-          c.in_ok-test.ensures.spans c.in_ok-test.ensures.takes (subst (λ y. StatementSpans T y c.in_ok-test.rest.now c.in_ok-yes.rest.now) (sym c.in_ok-branch.ensures.ok) c.in_ok-yes.ensures.spans)
-          (one_lexeme T (word Else) c.in_ok-yes.rest.now c.in-Some.after.now c.in-Some.ensures.passed (c.in-Some.ensures.first.1 T)) c.in_ok-no.ensures.spans;
-      formed = let y = subst (λ y. IsSimple (statement_of y) × FormedStatement (statement_of y)) (sym c.in_ok-branch.ensures.ok) (c.in_ok-yes.ensures.simple, c.in_ok-yes.ensures.formed) in subst FormedStatement (sym c.if_else.ensures.built) (c.in_ok-test.ensures.fits.1, y.0, y.1, c.in_ok-no.ensures.formed);
+      spans = let T = c.args.text.now in (
+        c.reach-2.ensures,
+        (
+          c.args.rest.now,
+          c.in_ok-test.ensures.between,
+          c.in_ok-test.rest.now,
+          c.in_ok-yes.rest.now,
+          one_lexeme T (word If) c.args.input.now c.args.rest.now c.requires.1.1.1.1.1.1 (c.requires.1.1.0.1 T),
+          subst (λ y. ExpressionSpans T y c.args.rest.now c.in_ok-test.ensures.between) (sym c.into_inner-2.ensures) c.in_ok-test.ensures.spans,
+          c.in_ok-test.ensures.takes,
+          (subst (λ y. StatementSpans T y c.in_ok-test.rest.now c.in_ok-yes.rest.now) (sym c.in_ok-branch.ensures.ok) c.in_ok-yes.ensures.spans),
+          (c.in-Some.after.now, one_lexeme T (word Else) c.in_ok-yes.rest.now c.in-Some.after.now c.in-Some.ensures.passed (c.in-Some.ensures.first.1 T), c.in_ok-no.ensures.spans),
+        ),
+      );
+      formed = let y = subst (λ y. IsSimple (statement_of y) × FormedStatement (statement_of y)) (sym c.in_ok-branch.ensures.ok) (c.in_ok-yes.ensures.simple, c.in_ok-yes.ensures.formed) in
+          (subst (λ e. Formed (expression_of e)) (sym c.into_inner-2.ensures) c.in_ok-test.ensures.fits.1, y.0, y.1, c.in_ok-no.ensures.formed);
       simple = tt;
-      nesting = omega (arith, ap statement_nesting c.if_else.ensures.built, ap (λ y. statement_nesting (statement_of y)) c.in_ok-branch.ensures.ok, c.in_ok-inner.ensures.deeper.0, c.in_ok-test.ensures.nesting, c.in_ok-yes.ensures.nesting, c.in_ok-no.ensures.nesting);
+      nesting = omega (arith, ap (λ y. expression_nesting (expression_of y)) c.into_inner-2.ensures, ap (λ y. statement_nesting (statement_of y)) c.in_ok-branch.ensures.ok, c.in_ok-inner.ensures.deeper.0, c.in_ok-test.ensures.nesting, c.in_ok-yes.ensures.nesting, c.in_ok-no.ensures.nesting);
       shorter = omega (arith, c.requires.1.1.1.0, c.in_ok-test.ensures.shorter, c.in_ok-yes.ensures.shorter, c.in-Some.ensures.shorter, c.in_ok-no.ensures.shorter);
       proper = c.in_ok-no.ensures.proper;
       reads = let T = c.args.text.now in let i = c.args.input.now in
@@ -241,13 +268,19 @@ read_simple-returns-in_ok-value-in-Some-Word-Print-default t c =
 pub read_simple-returns-in_ok-rest-in-Some-Word-Begin-default : goal.read_simple-returns-in_ok-rest-in-Some-Word-Begin-default
 read_simple-returns-in_ok-rest-in-Some-Word-Begin-default t c =
     record {
-      spans = let T = c.args.text.now in
-          c.block.ensures.spans T c.args.input.now c.in-Some-Word-Begin-default.rest.now c.in_ok-statements-in-Some-Word-Begin-default.rest.now c.in_ok-rest-in-Some-Word-Begin-default.rest.now c.reach-in-Some-Word-Begin-default.ensures
-          (one_lexeme T (word Begin) c.args.input.now c.in-Some-Word-Begin-default.rest.now c.in-Some-Word-Begin-default.ensures.passed ((first_of _ (Word Begin) c.args.input.now c.in-Some-Word-Begin-default.rest.now (c.in-Some-Word-Begin-default.field-0-0-is ∙ ap Word c.in-Some-Word-Begin-default.field-0-0-0-is) c.in-Some-Word-Begin-default.ensures.first.0).1 T)) c.in_ok-statements-in-Some-Word-Begin-default.ensures.spans
-          (one_lexeme T (word End) c.in_ok-statements-in-Some-Word-Begin-default.rest.now c.in_ok-rest-in-Some-Word-Begin-default.rest.now c.in_ok-rest-in-Some-Word-Begin-default.ensures.passed (c.in_ok-rest-in-Some-Word-Begin-default.ensures.first.1 T));
-      formed = subst FormedStatement (sym c.block.ensures.built) (c.in_ok-statements-in-Some-Word-Begin-default.ensures.some, c.in_ok-statements-in-Some-Word-Begin-default.ensures.formed);
-      simple = subst IsSimple (sym c.block.ensures.built) tt;
-      nesting = omega (arith, ap statement_nesting c.block.ensures.built, c.in_ok-inner-in-Some-Word-Begin-default.ensures.deeper.0, c.in_ok-statements-in-Some-Word-Begin-default.ensures.nesting);
+      spans = let T = c.args.text.now in (
+        c.reach-in-Some-Word-Begin-default.ensures,
+        (
+          c.in-Some-Word-Begin-default.rest.now,
+          c.in_ok-statements-in-Some-Word-Begin-default.rest.now,
+          (one_lexeme T (word Begin) c.args.input.now c.in-Some-Word-Begin-default.rest.now c.in-Some-Word-Begin-default.ensures.passed ((first_of _ (Word Begin) c.args.input.now c.in-Some-Word-Begin-default.rest.now (c.in-Some-Word-Begin-default.field-0-0-is ∙ ap Word c.in-Some-Word-Begin-default.field-0-0-0-is) c.in-Some-Word-Begin-default.ensures.first.0).1 T)),
+          statements_row_spans T c.in_ok-statements-in-Some-Word-Begin-default.statements c.in-Some-Word-Begin-default.rest.now c.in_ok-statements-in-Some-Word-Begin-default.rest.now c.in_ok-statements-in-Some-Word-Begin-default.ensures.spans,
+          (one_lexeme T (word End) c.in_ok-statements-in-Some-Word-Begin-default.rest.now c.in_ok-rest-in-Some-Word-Begin-default.rest.now c.in_ok-rest-in-Some-Word-Begin-default.ensures.passed (c.in_ok-rest-in-Some-Word-Begin-default.ensures.first.1 T)),
+        ),
+      );
+      formed = subst FormedStatement (sym (ap block (statements_made c.in_ok-statements-in-Some-Word-Begin-default.statements))) (c.in_ok-statements-in-Some-Word-Begin-default.ensures.some, c.in_ok-statements-in-Some-Word-Begin-default.ensures.formed);
+      simple = subst IsSimple (sym (ap block (statements_made c.in_ok-statements-in-Some-Word-Begin-default.statements))) tt;
+      nesting = omega (arith, ap statement_nesting (ap block (statements_made c.in_ok-statements-in-Some-Word-Begin-default.statements)), c.in_ok-inner-in-Some-Word-Begin-default.ensures.deeper.0, c.in_ok-statements-in-Some-Word-Begin-default.ensures.nesting);
       shorter = omega (arith, c.in-Some-Word-Begin-default.ensures.first.1, c.in_ok-statements-in-Some-Word-Begin-default.ensures.shorter, c.in_ok-rest-in-Some-Word-Begin-default.ensures.shorter);
       proper = c.in_ok-rest-in-Some-Word-Begin-default.ensures.proper c.args.text.now c.in_ok-statements-in-Some-Word-Begin-default.ensures.proper;
       reads = (then (then (then (one c.args.text.now c.args.depth (SimplePart) ([]) (StatementPart ∷ StatementsTail ∷ TokenPart (a_word End) ∷ LevelPart ∷ []) (word Begin) c.args.input.now c.in-Some-Word-Begin-default.rest.now (λ s l. omega (arith, l, c.requires.1.1.0, c.in_ok-inner-in-Some-Word-Begin-default.ensures.deeper.0, c.in_ok-inner-in-Some-Word-Begin-default.ensures.deeper.1)) (λ s. refl) ((first_of _ (Word Begin) c.args.input.now c.in-Some-Word-Begin-default.rest.now (c.in-Some-Word-Begin-default.field-0-0-is ∙ ap Word c.in-Some-Word-Begin-default.field-0-0-0-is) c.in-Some-Word-Begin-default.ensures.first.0).1 c.args.text.now)) (call c.args.text.now c.args.depth c.in_ok-inner-in-Some-Word-Begin-default.inner (StatementPart ∷ StatementsTail ∷ []) (TokenPart (a_word End) ∷ LevelPart ∷ []) c.in-Some-Word-Begin-default.rest.now c.in_ok-statements-in-Some-Word-Begin-default.rest.now (λ s l. omega (arith, l, c.requires.1.1.0, c.in_ok-inner-in-Some-Word-Begin-default.ensures.deeper.0, c.in_ok-inner-in-Some-Word-Begin-default.ensures.deeper.1)) c.in_ok-statements-in-Some-Word-Begin-default.ensures.reads)) (expected c.args.text.now c.args.depth (a_word End) (LevelPart ∷ []) (Word End) c.in_ok-statements-in-Some-Word-Begin-default.rest.now c.in_ok-rest-in-Some-Word-Begin-default.rest.now (λ s l. omega (arith, l, c.requires.1.1.0, c.in_ok-inner-in-Some-Word-Begin-default.ensures.deeper.0, c.in_ok-inner-in-Some-Word-Begin-default.ensures.deeper.1)) refl c.in_ok-rest-in-Some-Word-Begin-default.ensures.first)) (level_ends c.args.text.now c.args.depth [] c.in_ok-rest-in-Some-Word-Begin-default.rest.now));
