@@ -1,5 +1,5 @@
 -- How the parts that are open go on, over what the parser reads.
-use Rattle.kahn_syntax.proofs.Common.{IsStop, head_parts, Then, Else, Do, On, End, ElseTail, StatementsTail, ◌≡◌, ◌≢◌, ℕ, ◌+◌, ◌≤◌, ◌<◌, List, [], ◌∷◌, ◌++◌, ◌⊎◌, ⊎_elim, length, true, false, cond, Some, None, Result, Ok, Err, true≢false, refl, sym, ap, ◌∙◌, subst, arith, append_assoc, Span, Class, Lexeme, MatchResult, Expression, Form, Covers, Statement, Stop, Refused, TooDeep, NoMemory, Terminal, word, terminal, terminals, First, Token, takes, leads, class_of, a_kind, a_name, a_number, a_sign, a_word, an_operator, either, rules_of, starts, enters, followed, opening, argument_rules, declaration_rules, other_rules, process_rules, simple_rules, Part, ProgramPart, DeclarationsPart, DeclarationPart, ProcessPart, GroupsPart, GroupPart, VariablesPart, InstancePart, ArgumentsPart, ArgumentPart, ExpressionPart, OperatorsPart, StatementPart, SimplePart, GroupsTail, ArgumentsTail, TokenPart, LevelPart, levels, step, Refuses, TooFar, fate, Operator, Level, Or, operator_terminal, rank, Rung, whole, ors, denials, relations, sums, at, tighter, rung_of, Kind, kind_terminal, IsAbsent, Reads, Moves, Stops, Halts, ExpressionRead, StatementRead, Begin, Close, If, Integer, Logical, NameClass, Not, NotWord, Process, Semicolon, SignClass, Word}
+use Rattle.kahn_syntax.proofs.Common.{StopsAs, head_parts, Then, Else, Do, On, End, ElseTail, StatementsTail, ◌≡◌, ◌≢◌, ℕ, ◌+◌, ◌≤◌, ◌<◌, List, [], ◌∷◌, ◌++◌, ◌⊎◌, ⊎_elim, length, true, false, cond, Some, None, Result, Ok, Err, true≢false, refl, sym, ap, ◌∙◌, subst, arith, append_assoc, Span, Class, Lexeme, MatchResult, Expression, Form, Covers, Statement, Stop, Refused, TooDeep, NoMemory, Terminal, word, terminal, terminals, First, Token, takes, leads, class_of, a_kind, a_name, a_number, a_sign, a_word, an_operator, either, rules_of, starts, enters, followed, opening, argument_rules, declaration_rules, other_rules, process_rules, simple_rules, Part, ProgramPart, DeclarationsPart, DeclarationPart, ProcessPart, GroupsPart, GroupPart, VariablesPart, InstancePart, ArgumentsPart, ArgumentPart, ExpressionPart, OperatorsPart, StatementPart, SimplePart, GroupsTail, ArgumentsTail, TokenPart, LevelPart, levels, step, Refuses, TooFar, fate, Operator, Level, Or, operator_terminal, rank, Rung, whole, ors, denials, relations, sums, at, tighter, rung_of, Kind, kind_terminal, IsAbsent, Reads, Moves, Stops, Halts, ExpressionRead, StatementRead, Begin, Close, If, Integer, Logical, NameClass, Not, NotWord, Process, Semicolon, SignClass, Word}
 use Rattle.kahn_syntax.proofs.WholePrograms.{take_kind, skip_variables}
 use Rattle.kahn_syntax.proofs.Steps.{go, runs, part, skips, refuses, passes, passes_one, follows, follows_some, starts_one, starts_followed, skip_level, skip_tail, take_token, IsChain, IsOther, open_chain, open_whole, open_denial, take_comparison, take_operator}
 use Rattle.kahn_syntax.proofs.Reached.{go_far}
@@ -17,14 +17,14 @@ pub then : {text : List ℕ} {d : ℕ} {p q r : List Part} {i j k : List Lexeme}
 then f g = record { fates = λ s l. f.fates s l ∙ g.fates s l }
 
 pub then_stops : {text : List ℕ} {d : ℕ} {p q : List Part} {i j : List Lexeme} (e : Stop) → Moves text d p q i j → Stops text d q j e → Stops text d p i e
-then_stops e f g = λ s l. subst (IsStop e) (sym (f.fates s l)) (g s l)
+then_stops e f g = λ s l. subst (StopsAs e) (sym (f.fates s l)) (g s l)
 
 -- parts above others
 pub call : (text : List ℕ) (d e : ℕ) (ps qs : List Part) (i j : List Lexeme) → Depth d qs e → Reads text e ps i j → Moves text d (ps ++ qs) qs i j
 call text d e ps qs i j b f = record { fates = λ s l. ap (λ u. fate 64 u (terminals text i)) (append_assoc ps qs s) ∙ f.fates (qs ++ s) (b s l) }
 
 pub call_stops : (text : List ℕ) (d e : ℕ) (ps qs : List Part) (i : List Lexeme) (x : Stop) → Depth d qs e → Stops text e ps i x → Stops text d (ps ++ qs) i x
-call_stops text d e ps qs i x b f = λ s l. subst (λ u. IsStop x (fate 64 u (terminals text i))) (sym (append_assoc ps qs s)) (f (qs ++ s) (b s l))
+call_stops text d e ps qs i x b f = λ s l. subst (λ u. StopsAs x (fate 64 u (terminals text i))) (sym (append_assoc ps qs s)) (f (qs ++ s) (b s l))
 
 -- what is open after the words that begin them
 abbrev pub choice_parts : List Part

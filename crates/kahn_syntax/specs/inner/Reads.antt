@@ -33,18 +33,18 @@ abbrev pub Reads : List ℕ → ℕ → List Part → List Lexeme → List Lexem
 Reads text depth parts input rest = Moves text depth parts [] input rest
 
 -- the fate is what stopped the reading
-abbrev pub IsStop : Stop → Fate → Type 0
-IsStop (Refused ended left) f = f ≡ Refuses ended left
-IsStop (TooDeep left) f = f ≡ TooFar left
-IsStop NoMemory f = Unit {0}
+abbrev pub StopsAs : Stop → Fate → Type 0
+StopsAs (Refused ended left) f = f ≡ Refuses ended left
+StopsAs (TooDeep left) f = f ≡ TooFar left
+StopsAs NoMemory f = Unit {0}
 
 -- The parts aren't read, and here is why.
 abbrev pub Stops : List ℕ → ℕ → List Part → List Lexeme → Stop → Type 0
-Stops text depth parts input e = (s : List Part) → levels s ≡ depth → IsStop e (fate 64 (parts ++ s) (terminals text input))
+Stops text depth parts input e = (s : List Part) → levels s ≡ depth → StopsAs e (fate 64 (parts ++ s) (terminals text input))
 
 -- The list isn't a program, and here is why.
 abbrev pub Halts : List Terminal → Stop → Type 0
-Halts ks e = IsStop e (fate 64 (ProgramPart ∷ []) ks)
+Halts ks e = StopsAs e (fate 64 (ProgramPart ∷ []) ks)
 
 -- With so many levels open, an expression of this level of the grammar is read from the input to the rest.
 pub record ExpressionRead (text : List ℕ) (depth : ℕ) (g : Rung) (e : Expression) (input rest : List Lexeme) : Type 0 where
