@@ -1,2 +1,4 @@
 pub mod Cutting
+pub mod Feeding
 pub mod Meeting
+pub mod Whole

@@ -1,3 +1,4 @@
 pub mod Lines
 pub mod Course
+pub mod Running
 pub mod inner
