@@ -5,6 +5,7 @@ ghost use Rattle.std.specs.Io.Buffered.{reader_buffer};
 ghost use Rattle.kahn_session.specs.Live.{HasVerdict, breaks};
 ghost use Rattle.kahn_live.specs.Course.{Across, AreAllMet, AreLastMet, AcrossStage, HasSent, IsAnswerTold, IsDeafNow, IsFirstPart, IsInputMet, IsLineMet};
 ghost use Rattle.kahn_live.specs.Course.{IsNextMet, IsReadMet, IsRefusalTold, IsWriteFault, lines_given, is_want, no_memory, point_of};
+ghost use Rattle.kahn_live.specs.Histories.{HasHistories};
 ghost use Rattle.kahn_live.specs.Lines.{IsReadyToRead};
 
 use crate::lines::{Next, fed_line, has_line, next_line};
@@ -260,6 +261,7 @@ pub(crate) fn take_all<I: Read, W: Write, E: Write>(
 ) -> Result<bool, Fault>
     requires { stage.old.session.broken ≡ false }
     ensures settled { IfOk result (λ there. there ≡ true → HasVerdict stage.new.session) }
+    ensures histories { IfOk result (λ there. there ≡ true → HasHistories stage.new.session) }
     ensures met { Across I.remaining W.contents E.contents reader.old reader.new stage.old stage.new (λ s t. AreAllMet (lines_given fed.entry) result s) }
 {
     if !begin(alloc, stage, fed.input)? {
