@@ -1,2 +1,5 @@
+pub mod Begun
 pub mod Cutting
+pub mod Feeding
 pub mod Meeting
+pub mod Whole

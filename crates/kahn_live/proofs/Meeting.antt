@@ -6,8 +6,7 @@ use Rattle.kahn_pool.specs.declared.answer.Verdict.{Verdict}
 use Rattle.kahn_fault.specs.declared.fault.Fault.{Fault}
 use Rattle.kahn_session.specs.Live.{IsTakenLine, Live, breaks}
 use Rattle.kahn_session.specs.declared.fault.TakeFault.{TakeFault}
-use Rattle.kahn_live.specs.Course.{AreRead, WasFed, HasSent, HasWaited, IsAnswerTold, IsHearing, IsLineMet, IsAnyMet, IsNextMet, IsStep, IsToldBy, Point, Telling}
-use denote.Ref.{Bor}
+use Rattle.kahn_live.specs.Course.{AreRead, WasAnswered, WasFed, HasSent, HasWaited, IsAnswerTold, IsHearing, IsLineMet, IsAnyMet, IsNextMet, IsStep, IsToldBy, Point, Telling}
 
 -- what the session made of a line, where no byte more went out since
 fed_since : (line : List ℕ) (answer : Result Verdict TakeFault) (old mid new : Point) → IsTakenLine line old.session mid.session old.out mid.out answer → HasWaited mid new
@@ -42,19 +41,23 @@ still_whole number answer mid new (Ok (Some f)) whole (is, told, (same, kept)) =
     ap (λ (s : Live). s.broken) same ∙ named ∙ kind.1
 still_whole number answer mid new (Err fault) whole told = tt
 
--- a line that was met, as one of the input or of those behind
+-- a line that was met, as one behind those of the input
+pub answered_of : (number : ℕ) (line : List ℕ) (old new : Point) (r : Option TakeFault) → IsLineMet number line old new (Ok r) → WasAnswered number line old new
+answered_of number line old new None (v, met) = (Ok v, met)
+answered_of number line old new (Some f) met = (Err f, met)
+
+-- and as one of the input
 pub met_of : (number : ℕ) (line : List ℕ) (old new : Point) (r : Option TakeFault) → IsLineMet number line old new (Ok r) → IsAnyMet number line old new
-met_of number line old new None (v, met) = inl (Ok v, met)
-met_of number line old new (Some f) met = inl (Err f, met)
+met_of number line old new r met = inl (answered_of number line old new r met)
 
 -- one line more
-pub next_read : (input : Option (Bor (List ℕ))) (n number : ℕ) (text left rest : Option (List ℕ)) (old last new : Point) (b : Bool) → b ≡ true → number ≡ suc n
-    → AreRead input n text left old last → IsHearing last.session → IsNextMet input number left rest last new (Ok b) → AreRead input (suc n) text rest old new
+pub next_read : (input : Option (List ℕ)) (n number : ℕ) (text left rest : Option (List ℕ)) (old last new : Point) (b : Bool) → b ≡ true → number ≡ suc n
+    → AreRead input n text left old last → IsHearing last.session → IsNextMet input number (Ok b) left rest last new → AreRead input (suc n) text rest old new
 next_read input n number text left rest old last new true more is are hearing step = (left, last, are, hearing, subst (λ (k : ℕ). IsStep input k left rest last new) is step)
 next_read input n number text left rest old last new false more is are hearing step = absurd (true≢false (sym more))
 
 -- no line more
-pub next_none : (input : Option (Bor (List ℕ))) (number : ℕ) (text rest : Option (List ℕ)) (old new : Point) (b : Bool) → b ≡ false → IsNextMet input number text rest old new (Ok b)
+pub next_none : (input : Option (List ℕ)) (number : ℕ) (text rest : Option (List ℕ)) (old new : Point) (b : Bool) → b ≡ false → IsNextMet input number (Ok b) text rest old new
     → IsAtEnd text × HasSent old new
 next_none input number text rest old new false none met = met
 next_none input number text rest old new true none met = absurd (true≢false none)

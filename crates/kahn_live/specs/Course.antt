@@ -1,27 +1,29 @@
 -- Believed. What lines make, one after the other, of a session, of what goes out and of what is told (this project's profile).
-use Rattle.std.specs.Prelude.{◌≡◌, ◌⊎◌, ℕ, zero, suc, ◌-◌, ◌^◌, Bool, true, false, not, ◌||◌, List, take, Option, None, Some, Result, Ok, Err}
+use Rattle.std.specs.Prelude.{◌≡◌, ◌⊎◌, ℕ, zero, suc, ◌-◌, ◌^◌, min, Bool, true, false, not, ◌||◌, List, [], ◌∷◌, map, take, Option, None, Some, option_copied, string_bytes, Result, Ok, Err}
 use Rattle.std.specs.Io.KnownBytes.{Appends, IsAtEnd, Keeps}
 use Rattle.kahn_pool.specs.declared.answer.Verdict.{Verdict}
 use Rattle.kahn_pool.specs.declared.answer.Verdict.TheVariants.{Finished, Bound, Memory}
+use Rattle.kahn_pool.specs.declared.config.RunFault.TheVariants.{NoMemory as NoMemoryRun}
+use Rattle.kahn_streams.specs.declared.feeds.FeedFault.TheVariants.{NoMemory as NoMemoryFeed}
 use Rattle.kahn_write.specs.Written.{AppendsFront}
 use Rattle.kahn_write.specs.declared.bytes.WriteFault.{WriteFault}
 use Rattle.kahn_report.specs.declared.read.ReadFault.TheVariants.{Failed as FailedRead}
-use Rattle.kahn_report.specs.declared.working.WorkFault.TheVariants.{Write as WriteWork}
+use Rattle.kahn_report.specs.declared.working.WorkFault.TheVariants.{Run as RunWork, Write as WriteWork}
 use Rattle.kahn_fault.specs.declared.fault.Fault.{Fault}
 use Rattle.kahn_fault.specs.declared.fault.Fault.TheVariants.{Program, Work}
 use Rattle.kahn_session.specs.Live.{HasVerdict, IsDeaf, IsTakenLine, Live, breaks}
 use Rattle.kahn_session.specs.Refusals.{refusal_text, waiting_text}
 use Rattle.kahn_session.specs.declared.fault.TakeFault.{TakeFault}
-use Rattle.kahn_session.specs.declared.fault.TakeFault.TheVariants.{NoMemory}
+use Rattle.kahn_session.specs.declared.fault.TakeFault.TheVariants.{Feed, NoMemory}
 use Rattle.kahn_live.specs.Lines.{CutsLine, fed_text, most_kept, unmarked}
 use Rattle.kahn_live.specs.declared.stage.Stage.{Stage}
+use Rattle.kahn_live.specs.declared.taking.Fed.{Fed}
 use Rattle.kahn_live.specs.declared.telling.Teller.{Teller}
 use Rattle.std.specs.IoError.{error_kind}
 use Rattle.std.specs.declared.io.Error.{Error}
 use Rattle.std.specs.declared.io.ErrorKind.TheVariants.{BrokenPipe}
 use Rattle.std.specs.Io.Buffered.{reader_remaining}
 use Rattle.std.specs.declared.io.buffered.BufReader.{BufReader}
-use denote.Ref.{Bor}
 
 -- what is told on standard error
 pub record Telling : Type 0 where
@@ -49,6 +51,10 @@ abbrev pub Across : {I A W E : Type 0} → (I → Option (List ℕ)) → (W → 
     → Stage W E → Stage W E → (Option (List ℕ) → Option (List ℕ) → Point → Point → Type 0) → Type 0
 Across left written said before after old new holds =
     holds (reader_remaining left before) (reader_remaining left after) (point_of written said old) (point_of written said new)
+
+-- this holds of the points
+abbrev pub AcrossStage : {W E : Type 0} → (W → Option (List ℕ)) → (E → Option (List ℕ)) → Stage W E → Stage W E → (Point → Point → Type 0) → Type 0
+AcrossStage written said old new holds = holds (point_of written said old) (point_of written said new)
 
 -- the text was told, or after a fault of the writer a prefix of it; and a line counts as refused from here on, or none does
 pub record WasTold (text : List ℕ) (counts : Bool) (old new : Telling) : Type 0 where
@@ -85,9 +91,13 @@ WasMet number line answer old new =
 abbrev pub HasMissed : ℕ → Point → Point → Type 0
 HasMissed number old new = WasTold (refusal_text number NoMemory) (not old.told.keep_going) old.told new.told × HasWaited old new
 
+-- the line was taken or refused
+abbrev pub WasAnswered : ℕ → List ℕ → Point → Point → Type 0
+WasAnswered number line old new = (answer : Result Verdict TakeFault) × WasMet number line answer old new
+
 -- the line was taken, or refused, for want of memory too
 abbrev pub IsAnyMet : ℕ → List ℕ → Point → Point → Type 0
-IsAnyMet number line old new = ((answer : Result Verdict TakeFault) × WasMet number line answer old new) ⊎ HasMissed number old new
+IsAnyMet number line old new = WasAnswered number line old new ⊎ HasMissed number old new
 
 -- ---- why a run breaks off
 
@@ -100,6 +110,10 @@ IsWriteFault fault = (f : WriteFault) × (fault ≡ Work (WriteWork f))
 
 abbrev pub IsReadFailed : Fault → Type 0
 IsReadFailed fault = fault ≡ Program None FailedRead
+
+-- memory was refused
+abbrev pub no_memory : Fault
+no_memory = Work (RunWork NoMemoryRun)
 
 -- what is new after the line, or what was put off, couldn't be written: nothing is told of the line
 abbrev pub IsBrokenOff : List ℕ → Point → Point → Fault → Type 0
@@ -126,7 +140,7 @@ IsLineMet number line old new (Ok (Some f)) = WasMet number line (Err f) old new
 IsLineMet number line old new (Err fault) = IsBrokenOff line old new fault
 
 -- the same of a line of the input, of which this was kept
-abbrev pub IsReadMet : {X : Type 0} → Option (Bor (List ℕ)) → ℕ → List ℕ → Point → Point → Result X Fault → Type 0
+abbrev pub IsReadMet : {X : Type 0} → Option (List ℕ) → ℕ → List ℕ → Point → Point → Result X Fault → Type 0
 IsReadMet input number kept old new (Ok x) = IsAnyMet number (fed_text input (unmarked number kept)) old new
 IsReadMet input number kept old new (Err fault) = IsBrokenOff (fed_text input (unmarked number kept)) old new fault
 
@@ -144,29 +158,29 @@ IsDeafNow s false = IsHearing s
 -- ---- the lines of the input
 
 -- a line of the input as it is fed: of a long one no more is kept than decides that it is too long
-abbrev pub fed_line : Option (Bor (List ℕ)) → ℕ → List ℕ → List ℕ
+abbrev pub fed_line : Option (List ℕ) → ℕ → List ℕ → List ℕ
 fed_line input number line = fed_text input (unmarked number (take most_kept line))
 
 -- the line of this number was read, behind which this is left, and met
-abbrev pub IsStep : Option (Bor (List ℕ)) → ℕ → Option (List ℕ) → Option (List ℕ) → Point → Point → Type 0
+abbrev pub IsStep : Option (List ℕ) → ℕ → Option (List ℕ) → Option (List ℕ) → Point → Point → Type 0
 IsStep input number text rest old new =
     (line : List ℕ) × (ready : Point) × CutsLine line text rest × HasSent old ready × IsAnyMet number (fed_line input number line) ready new
 
 -- it wasn't read, or it is the last, since nothing can be written
-abbrev pub IsStoppedAt : Option (Bor (List ℕ)) → ℕ → Option (List ℕ) → Point → Point → Fault → Type 0
+abbrev pub IsStoppedAt : Option (List ℕ) → ℕ → Option (List ℕ) → Point → Point → Fault → Type 0
 IsStoppedAt input number text old new fault =
     (HasSent old new × (IsWriteFault fault ⊎ IsReadFailed fault))
     ⊎ ((line : List ℕ) × (rest : Option (List ℕ)) × (ready : Point) × CutsLine line text rest × HasSent old ready
     × IsBrokenOff (fed_line input number line) ready new fault)
 
 -- whether there was a line
-abbrev pub IsNextMet : Option (Bor (List ℕ)) → ℕ → Option (List ℕ) → Option (List ℕ) → Point → Point → Result Bool Fault → Type 0
-IsNextMet input number text rest old new (Ok true) = IsStep input number text rest old new
-IsNextMet input number text rest old new (Ok false) = IsAtEnd text × HasSent old new
-IsNextMet input number text rest old new (Err fault) = IsStoppedAt input number text old new fault
+abbrev pub IsNextMet : Option (List ℕ) → ℕ → Result Bool Fault → Option (List ℕ) → Option (List ℕ) → Point → Point → Type 0
+IsNextMet input number (Ok true) text rest old new = IsStep input number text rest old new
+IsNextMet input number (Ok false) text rest old new = IsAtEnd text × HasSent old new
+IsNextMet input number (Err fault) text rest old new = IsStoppedAt input number text old new fault
 
 -- the first lines, as many as these, were read and met in their order, each while it could change the run
-abbrev pub AreRead : Option (Bor (List ℕ)) → ℕ → Option (List ℕ) → Option (List ℕ) → Point → Point → Type 0
+abbrev pub AreRead : Option (List ℕ) → ℕ → Option (List ℕ) → Option (List ℕ) → Point → Point → Type 0
 AreRead input zero text rest old new = (rest ≡ text) × (new ≡ old)
 AreRead input (suc n) text rest old new =
     (left : Option (List ℕ)) × (last : Point) × AreRead input n text left old last × IsHearing last.session × IsStep input (suc n) left rest last new
@@ -176,8 +190,69 @@ abbrev pub IsReadOut : Option (List ℕ) → Live → ℕ → Type 0
 IsReadOut rest s number = IsAtEnd rest ⊎ (IsDeafNow s true ⊎ (number ≡ 2 ^ 64 - 1))
 
 -- the lines of the input were met, and the number is that behind the last one's; or the one behind these stopped the run
-abbrev pub IsInputMet : Option (Bor (List ℕ)) → Option (List ℕ) → Point → Point → Result ℕ Fault → Type 0
-IsInputMet input text old new (Ok number) =
+abbrev pub IsInputMet : Option (List ℕ) → Result ℕ Fault → Option (List ℕ) → Point → Point → Type 0
+IsInputMet input (Ok number) text old new =
     (n : ℕ) × (rest : Option (List ℕ)) × (last : Point) × AreRead input n text rest old last × (number ≡ suc n) × HasSent last new × IsReadOut rest last.session number
-IsInputMet input text old new (Err fault) =
+IsInputMet input (Err fault) text old new =
     (n : ℕ) × (rest : Option (List ℕ)) × (last : Point) × AreRead input n text rest old last × IsHearing last.session × IsStoppedAt input (suc n) rest last new fault
+
+-- ---- the part before the first line
+
+-- whether memory was refused for a line
+abbrev pub is_want : TakeFault → Bool
+is_want NoMemory = true
+is_want (Feed NoMemoryFeed) = true
+is_want f = false
+
+-- a line of number 0 without values was taken; or it was refused, since there is no input channel of the name; or memory was
+-- refused for it
+abbrev pub IsFirstPart : Option (List ℕ) → Point → Point → Result Bool Fault → Type 0
+IsFirstPart input old new (Ok true) = (v : Verdict) × WasMet 0 (fed_text input []) (Ok v) old new
+IsFirstPart input old new (Ok false) = (f : TakeFault) × WasMet 0 (fed_text input []) (Err f) old new × (is_want f ≡ false)
+IsFirstPart input old new (Err fault) = IsBrokenOff (fed_text input []) old new fault
+    ⊎ ((fault ≡ no_memory) × ((new ≡ old) ⊎ ((f : TakeFault) × WasMet 0 (fed_text input []) (Err f) old new × (is_want f ≡ true))))
+
+-- ---- the lines behind those of the input
+
+-- the number behind this one, but no number lies behind the last
+abbrev pub next_number : ℕ → ℕ
+next_number number = min (suc number) (2 ^ 64 - 1)
+
+-- each was taken or refused, in their order, the first by this number
+abbrev pub AreFed : ℕ → List (List ℕ) → Point → Point → Type 0
+AreFed number [] old new = new ≡ old
+AreFed number (line ∷ lines) old new = (next : Point) × WasAnswered number line old next × AreFed (next_number number) lines next new
+
+-- one of them stopped the run, behind those before it
+abbrev pub IsCutOff : ℕ → List (List ℕ) → Point → Point → Fault → Type 0
+IsCutOff number [] old new fault = ⊥
+IsCutOff number (line ∷ lines) old new fault =
+    IsBrokenOff line old new fault ⊎ ((next : Point) × WasAnswered number line old next × IsCutOff (next_number number) lines next new fault)
+
+abbrev pub AreLastMet : {X : Type 0} → ℕ → List (List ℕ) → Point → Point → Result X Fault → Type 0
+AreLastMet number lines old new (Ok x) = AreFed number lines old new
+AreLastMet number lines old new (Err fault) = IsCutOff number lines old new fault
+
+-- ---- all lines
+
+-- what is fed: the lines of the input, behind the name of a channel where values stand alone, and the lines behind them
+pub record LinesGiven : Type 0 where
+  pub input : Option (List ℕ)
+  pub at_end : List (List ℕ)
+
+abbrev pub lines_given : Fed → LinesGiven
+lines_given f = record { input = option_copied f.input; at_end = map string_bytes f.at_end.now }
+
+-- behind the part before the first line: the lines of the input stopped the run, or those behind them
+abbrev pub AreStopped : LinesGiven → Fault → Option (List ℕ) → Point → Point → Type 0
+AreStopped f fault text old new = IsInputMet f.input (Err fault) text old new
+    ⊎ ((number : ℕ) × (last : Point) × IsInputMet f.input (Ok number) text old last × IsCutOff number f.at_end last new fault)
+
+-- the part before the first line, the lines of the input, and the lines behind these, as far as the run came; where there is no
+-- input channel of the name no line is read
+abbrev pub AreAllMet : LinesGiven → Result Bool Fault → Option (List ℕ) → Point → Point → Type 0
+AreAllMet f (Ok true) text old new = (begun : Point) × IsFirstPart f.input old begun (Ok true)
+    × ((number : ℕ) × (last : Point) × IsInputMet f.input (Ok number) text begun last × AreFed number f.at_end last new)
+AreAllMet f (Ok false) text old new = IsFirstPart f.input old new (Ok false)
+AreAllMet f (Err fault) text old new = IsFirstPart f.input old new (Err fault)
+    ⊎ ((begun : Point) × IsFirstPart f.input old begun (Ok true) × AreStopped f fault text begun new)

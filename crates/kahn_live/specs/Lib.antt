@@ -1,3 +1,5 @@
 pub mod Lines
 pub mod Course
+pub mod Histories
+pub mod Running
 pub mod inner

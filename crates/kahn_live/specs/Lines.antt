@@ -7,7 +7,6 @@ use Rattle.kahn_live.specs.declared.lines.Next.{Next}
 use Rattle.kahn_live.specs.declared.lines.Next.TheVariants.{Line, End, Failed, NoMemory}
 use Rattle.kahn_live.specs.declared.outlet.Outlet.{Outlet}
 use Rattle.std.specs.List.{list_any}
-use denote.Ref.{Bor}
 
 -- the line stands before the first line feed of the text; or it is the whole text, which has none and isn't empty
 abbrev pub IsCutLine : List ℕ → List ℕ → List ℕ → Type 0
@@ -31,9 +30,9 @@ abbrev pub unmarked : ℕ → List ℕ → List ℕ
 unmarked number line = if number == 1 && has_mark line then drop 3 line else line
 
 -- the line as it is fed: as it stands, or behind the name of the input channel and a colon, where values stand alone
-abbrev pub fed_text : Option (Bor (List ℕ)) → List ℕ → List ℕ
+abbrev pub fed_text : Option (List ℕ) → List ℕ → List ℕ
 fed_text None line = line
-fed_text (Some name) line = name.now ++ (58 ∷ line)
+fed_text (Some name) line = name ++ (58 ∷ line)
 
 -- how many bytes of a line are kept: more than are within its limit, behind a byte order mark too
 abbrev pub most_kept : ℕ

@@ -1,6 +1,6 @@
 //! The lines of standard input, one at a time.
 
-ghost use Rattle.std.specs.Prelude.{◌≡◌, ◌≢◌, ◌==◌, ◌<◌, ◌≤◌, ◌++◌, All, IfOk, length, slice_index, take, vec_len};
+ghost use Rattle.std.specs.Prelude.{◌≡◌, ◌≢◌, ◌==◌, ◌<◌, ◌≤◌, ◌++◌, All, IfOk, length, option_copied, slice_index, take, vec_len};
 ghost use Rattle.std.specs.List.{list_any};
 ghost use Rattle.std.specs.Io.Buffered.{reader_buffer, reader_remaining};
 ghost use Rattle.kahn_live.specs.Lines.{IsNextLine, IsReadyToRead, fed_text, most_kept, unmarked};
@@ -176,7 +176,7 @@ pub(crate) fn fed_line<'a>(
     number: u64,
     room: &'a mut Vec<u8>,
 ) -> Result<&'a [u8], AllocError>
-    ensures { IfOk result (λ fed. fed.now ≡ fed_text input.entry (unmarked number line.entry.now)) }
+    ensures { IfOk result (λ fed. fed.now ≡ fed_text (option_copied input.entry) (unmarked number line.entry.now)) }
 {
     let line = without_mark(line, number);
     let Some(input) = input else {

@@ -1,9 +1,11 @@
 //! The lines of a run: those of the input, and those that are fed at its end.
 
-ghost use Rattle.std.specs.Prelude.{◌≡◌, IfErr, IfOk, false, true};
+ghost use Rattle.std.specs.Prelude.{◌≡◌, IfErr, IfOk, false, map, option_copied, string_bytes, true};
 ghost use Rattle.std.specs.Io.Buffered.{reader_buffer};
-ghost use Rattle.kahn_session.specs.Live.{breaks};
-ghost use Rattle.kahn_live.specs.Course.{Across, HasSent, IsAnswerTold, IsDeafNow, IsInputMet, IsLineMet, IsNextMet, IsReadMet, IsRefusalTold, IsWriteFault, point_of};
+ghost use Rattle.kahn_session.specs.Live.{HasVerdict, breaks};
+ghost use Rattle.kahn_live.specs.Course.{Across, AreAllMet, AreLastMet, AcrossStage, HasSent, IsAnswerTold, IsDeafNow, IsFirstPart, IsInputMet, IsLineMet};
+ghost use Rattle.kahn_live.specs.Course.{IsNextMet, IsReadMet, IsRefusalTold, IsWriteFault, lines_given, is_want, no_memory, point_of};
+ghost use Rattle.kahn_live.specs.Histories.{HasHistories};
 ghost use Rattle.kahn_live.specs.Lines.{IsReadyToRead};
 
 use crate::lines::{Next, fed_line, has_line, next_line};
@@ -26,7 +28,9 @@ pub(crate) struct Fed<'a> {
 }
 
 /// Want of memory, as a fault of the run.
-pub(crate) fn wants_memory() -> Fault {
+pub(crate) fn wants_memory() -> Fault
+    ensures { result ≡ no_memory }
+{
     Fault::Work(WorkFault::Run(RunFault::NoMemory))
 }
 
@@ -121,7 +125,7 @@ fn take_read<W: Write, E: Write>(
 ) -> Result<(), Fault>
     requires { stage.old.session.broken ≡ false }
     ensures broken { IfOk result (λ _. stage.new.session.broken ≡ false) }
-    ensures met { IsReadMet input.entry number line.now (point_of W.contents E.contents stage.old) (point_of W.contents E.contents stage.new) result }
+    ensures met { AcrossStage W.contents E.contents stage.old stage.new (λ p q. IsReadMet (option_copied input.entry) number line.now p q result) }
 {
     let Ok(fed) = fed_line(input, line, number, room) else {
         return tell_behind(stage, TakeFault::NoMemory, number);
@@ -152,7 +156,7 @@ fn take_next<I: Read, W: Write, E: Write>(
 ) -> Result<bool, Fault>
     requires { stage.old.session.broken ≡ false }
     ensures broken { IfOk result (λ _. stage.new.session.broken ≡ false) }
-    ensures met { Across I.remaining W.contents E.contents reader.old reader.new stage.old stage.new (λ s t p q. IsNextMet input.entry number s t p q result) }
+    ensures met { Across I.remaining W.contents E.contents reader.old reader.new stage.old stage.new (IsNextMet (option_copied input.entry) number result) }
 {
     send_before(stage, reader)?;
     match next_line(reader, line, &stage.outlet) {
@@ -178,7 +182,7 @@ fn take_lines<I: Read, W: Write, E: Write>(
 ) -> Result<u64, Fault>
     requires { stage.old.session.broken ≡ false }
     ensures broken { IfOk result (λ _. stage.new.session.broken ≡ false) }
-    ensures met { Across I.remaining W.contents E.contents reader.old reader.new stage.old stage.new (λ s t p q. IsInputMet input.entry s p q result) }
+    ensures met { Across I.remaining W.contents E.contents reader.old reader.new stage.old stage.new (λ s t. IsInputMet (option_copied input.entry) result s) }
 {
     let mut line = Vec::new(alloc);
     let mut room = Vec::new(alloc);
@@ -200,7 +204,8 @@ fn take_last<W: Write, E: Write>(
     first: u64,
 ) -> Result<(), Fault>
     requires { stage.old.session.broken ≡ false }
-    ensures { IfOk result (λ _. stage.new.session.broken ≡ false) }
+    ensures broken { IfOk result (λ _. stage.new.session.broken ≡ false) }
+    ensures met { AcrossStage W.contents E.contents stage.old stage.new (λ p q. AreLastMet first (map string_bytes lines.now) p q result) }
 {
     let mut number = first;
     for line in lines {
@@ -210,6 +215,16 @@ fn take_last<W: Write, E: Write>(
     Ok(())
 }
 
+/// Whether memory was refused for a line.
+fn is_want(fault: TakeFault) -> bool
+    ensures { result ≡ is_want fault }
+{
+    matches!(
+        fault,
+        TakeFault::NoMemory | TakeFault::Feed(FeedFault::NoMemory)
+    )
+}
+
 /// Runs the part before the first line, and tells whether there is an input channel of the name whose values stand alone.
 fn begin<W: Write, E: Write>(
     alloc: Global,
@@ -217,16 +232,22 @@ fn begin<W: Write, E: Write>(
     input: Option<&str>,
 ) -> Result<bool, Fault>
     requires { stage.old.session.broken ≡ false }
-    ensures { IfOk result (λ _. stage.new.session.broken ≡ false) }
+    ensures broken { IfOk result (λ _. stage.new.session.broken ≡ false) }
+    ensures begun { AcrossStage W.contents E.contents stage.old stage.new (λ p q. IsFirstPart (option_copied input.entry) p q result) }
 {
     let mut room = Vec::new(alloc);
     let Ok(line) = fed_line(input, b"", 0, &mut room) else {
         return Err(wants_memory());
     };
-    match take_line(stage, line, 0)? {
-        None => Ok(true),
-        Some(TakeFault::NoMemory | TakeFault::Feed(FeedFault::NoMemory)) => Err(wants_memory()),
-        Some(_) => Ok(false),
+    match take_line(stage, line, 0) {
+        Ok(None) => Ok(true),
+        Ok(Some(fault)) => {
+            if is_want(fault) {
+                return Err(wants_memory());
+            }
+            Ok(false)
+        }
+        Err(fault) => Err(fault),
     }
 }
 
@@ -239,7 +260,9 @@ pub(crate) fn take_all<I: Read, W: Write, E: Write>(
     fed: Fed<'_>,
 ) -> Result<bool, Fault>
     requires { stage.old.session.broken ≡ false }
-    ensures { IfOk result (λ _. stage.new.session.broken ≡ false) }
+    ensures settled { IfOk result (λ there. there ≡ true → HasVerdict stage.new.session) }
+    ensures histories { IfOk result (λ there. there ≡ true → HasHistories stage.new.session) }
+    ensures met { Across I.remaining W.contents E.contents reader.old reader.new stage.old stage.new (λ s t. AreAllMet (lines_given fed.entry) result s) }
 {
     if !begin(alloc, stage, fed.input)? {
         return Ok(false);

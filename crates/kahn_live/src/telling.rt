@@ -1,10 +1,16 @@
 //! What is told of lines that aren't taken.
 
-ghost use Rattle.std.specs.Prelude.{◌≡◌, false, not};
+ghost use Rattle.std.specs.Prelude.{◌≡◌, false, not, true};
 ghost use Rattle.kahn_session.specs.Refusals.{refusal_text, waiting_text};
+ghost use Rattle.kahn_session.specs.Live.{HasVerdict};
+ghost use Rattle.kahn_texts.specs.Telling.{told_text};
 ghost use Rattle.kahn_live.specs.Course.{WasTold, telling_of};
+ghost use Rattle.kahn_live.specs.Running.{IsEndTold, untold};
 
-use kahn_session::{TakeFault, write_refusal, write_waiting};
+use kahn_fault::Fault;
+use kahn_pool::Verdict;
+use kahn_session::{Session, TakeFault, write_refusal, write_waiting};
+use kahn_texts::tell;
 use std::io::Write;
 
 /// A writer of faults, and whether a line was refused.
@@ -46,5 +52,22 @@ impl<E: Write> Teller<E> {
     {
         let told = write_waiting(&mut self.errors, number);
         self.failed |= told.is_err();
+    }
+
+    /// Tells how the run of a session ended.
+    pub(crate) fn tell_end(&mut self, session: &Session<'_>)
+        requires { HasVerdict session.now }
+        ensures { IsEndTold session.now.flow.run (telling_of E.contents self.old) (telling_of E.contents self.new) true }
+    {
+        let told = session.close(&mut self.errors);
+        self.failed |= told.is_err();
+    }
+
+    /// Tells why a run has no answer, where it has none. The fault's place is one of the program text.
+    pub(crate) fn tell_fault(&mut self, answer: &Result<Verdict, Fault>, program: &str)
+        ensures { WasTold (told_text program.now answer.now) false (telling_of E.contents self.old) (telling_of E.contents self.new) }
+    {
+        let told = tell(answer, program, &mut self.errors);
+        self.failed |= told.line.is_err();
     }
 }

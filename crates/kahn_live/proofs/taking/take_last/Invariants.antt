@@ -1,5 +1,16 @@
-use Rattle.std.proofs.Common.{◌≡◌, false}
+-- Whatever is made of the lines that are left is made of all.
+use Rattle.std.proofs.Common.{◌≡◌, false, drop, map}
+use Rattle.std.specs.Prelude.{string_bytes}
+use Rattle.kahn_fault.specs.declared.fault.Fault.{Fault}
+use Rattle.kahn_live.specs.Course.{AreFed, IsCutOff, Point, point_of}
 use Rattle.kahn_live.proofs.taking.take_last.Given as goal
 
 abbrev pub invariant-loop-line : goal.invariant-loop-line
-invariant-loop-line g l = l.stage.session.broken ≡ false
+invariant-loop-line g l =
+    let old = point_of g.W.Write.contents g.E.Write.contents l.initial.stage in
+    let new = point_of g.W.Write.contents g.E.Write.contents l.stage in
+    let all = map string_bytes l.lines in
+    let rest = map string_bytes (drop l.line-index l.lines) in
+    (l.stage.session.broken ≡ false)
+    × ((p : Point) → AreFed l.number rest new p → AreFed l.first all old p)
+    × ((p : Point) (fault : Fault) → IsCutOff l.number rest new p fault → IsCutOff l.first all old p fault)

@@ -1,3 +1,4 @@
+use Rattle.std.specs.Prelude.{option_copied}
 use Rattle.std.proofs.Common.{◌≡◌, inl, inr, false, true, ℕ, suc, arith, refl, rules, subst}
 use Rattle.std.proofs.lemmas.Result.{err_from_is_err_and}
 use Rattle.std.specs.Io.Buffered.{reader_remaining}
@@ -12,7 +13,7 @@ returns-in_err-take_next-clause-met g c =
     let last = point_of g.W.Write.contents g.E.Write.contents c.loop-number.stage in
     let new = point_of g.W.Write.contents g.E.Write.contents c.take_next.new.stage in
     let p = err_from_is_err_and c.from_residual.result c.from_residual.ensures.1 in
-    let stopped = subst (λ (k : ℕ). IsStoppedAt c.args.input k left last new c.in_err-take_next.field-0.0) known.1 c.in_err-take_next.ensures.met in
+    let stopped = subst (λ (k : ℕ). IsStoppedAt (option_copied c.args.input) k left last new c.in_err-take_next.field-0.0) known.1 c.in_err-take_next.ensures.met in
     rw (p.1, p.2) (known.0, left, last, known.2, c.if-is_over.ensures, stopped)
 
 pub loop-number-preserved : goal.loop-number-preserved
@@ -29,7 +30,7 @@ loop-number-preserved g c =
       (
         suc known.0,
         omega (arith, known.1),
-        next_read c.args.input known.0 c.loop-number.number text left rest old last new c.in_ok-take_next.field-0 more known.1 known.2 c.if-is_over.ensures c.in_ok-take_next.ensures.met,
+        next_read (option_copied c.args.input) known.0 c.loop-number.number text left rest old last new c.in_ok-take_next.field-0 more known.1 known.2 c.if-is_over.ensures c.in_ok-take_next.ensures.met,
       ),
     )
 
@@ -56,5 +57,5 @@ returns-then-not-branch-clause-met g c =
     let last = point_of g.W.Write.contents g.E.Write.contents c.loop-number.stage in
     let new = point_of g.W.Write.contents g.E.Write.contents c.take_next.new.stage in
     let none : c.in_ok-take_next.field-0 ≡ false = search rules in
-    let (ended, sent) = next_none c.args.input c.loop-number.number left rest last new c.in_ok-take_next.field-0 none c.in_ok-take_next.ensures.met in
+    let (ended, sent) = next_none (option_copied c.args.input) c.loop-number.number left rest last new c.in_ok-take_next.field-0 none c.in_ok-take_next.ensures.met in
     (known.0, left, last, known.2, known.1, sent, inl ended)

@@ -1,3 +1,4 @@
+use Rattle.std.specs.Prelude.{option_copied}
 use Rattle.std.proofs.Common.{◌≡◌, ◌∙◌, inr, List, ℕ, subst, take}
 use Rattle.std.proofs.lemmas.Result.{err_from_is_err_and}
 use Rattle.std.specs.Io.Buffered.{reader_remaining}
@@ -18,7 +19,7 @@ returns-in_err-take_read-in-Line-clause-met g c =
       ready,
       cuts,
       c.in_ok-send_before.ensures.sent,
-      subst (λ (l : List ℕ). IsBrokenOff (fed_text c.args.input (unmarked c.args.number l)) ready new c.in_err-take_read-in-Line.field-0.0) is c.in_err-take_read-in-Line.ensures.met,
+      subst (λ (l : List ℕ). IsBrokenOff (fed_text (option_copied c.args.input) (unmarked c.args.number l)) ready new c.in_err-take_read-in-Line.field-0.0) is c.in_err-take_read-in-Line.ensures.met,
     ))
 
 pub returns-in_ok-take_read-in-Line-clause-met : goal.returns-in_ok-take_read-in-Line-clause-met
@@ -31,7 +32,7 @@ returns-in_ok-take_read-in-Line-clause-met g c =
       ready,
       cuts,
       c.in_ok-send_before.ensures.sent,
-      subst (λ (l : List ℕ). IsAnyMet c.args.number (fed_text c.args.input (unmarked c.args.number l)) ready new) is c.in_ok-take_read-in-Line.ensures.met,
+      subst (λ (l : List ℕ). IsAnyMet c.args.number (fed_text (option_copied c.args.input) (unmarked c.args.number l)) ready new) is c.in_ok-take_read-in-Line.ensures.met,
     )
 
 pub returns-in_ok-tell_behind-in-NoMemory-clause-met : goal.returns-in_ok-tell_behind-in-NoMemory-clause-met

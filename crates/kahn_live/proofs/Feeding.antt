@@ -1,0 +1,69 @@
+-- Lines that are fed behind those of the input, and that what went out stays right.
+use Rattle.std.proofs.Common.{◌≡◌, inl, inr, ℕ, zero, suc, Bool, true, false, true≢false, List, [], ◌∷◌, Option, Result, Ok, Err, sym, ap, subst}
+use Rattle.kahn_pool.specs.declared.answer.Verdict.{Verdict}
+use Rattle.kahn_fault.specs.declared.fault.Fault.{Fault}
+use Rattle.kahn_session.specs.Live.{IsTakenLine, Live}
+use Rattle.kahn_session.specs.declared.fault.TakeFault.{TakeFault}
+use Rattle.kahn_session.specs.declared.fault.TakeFault.TheVariants.{TooLong, NotUtf8, BadLine, BadValue, Feed, NoMemory, Write}
+use Rattle.kahn_live.specs.Course.{AreAllMet, AreFed, AreRead, LinesGiven, IsFirstPart, IsAnyMet, IsBrokenOff, IsCutOff, IsToldBy, Point, Telling, WasAnswered, next_number}
+use Rattle.kahn_live.specs.Histories.{IsShown}
+
+-- one line more was fed
+pub fed_more : (number behind : ℕ) (line : List ℕ) (lines rest : List (List ℕ)) (old new : Point) → behind ≡ next_number number → rest ≡ line ∷ lines → WasAnswered number line old new
+    → (p : Point) → AreFed behind lines new p → AreFed number rest old p
+fed_more number behind line lines rest old new is split met p fed =
+    subst (λ (ls : List (List ℕ)). AreFed number ls old p) (sym split) (new, met, subst (λ (k : ℕ). AreFed k lines new p) is fed)
+
+-- a line behind stopped the run
+pub cut_more : (number behind : ℕ) (line : List ℕ) (lines rest : List (List ℕ)) (old new : Point) → behind ≡ next_number number → rest ≡ line ∷ lines → WasAnswered number line old new
+    → (p : Point) (fault : Fault) → IsCutOff behind lines new p fault → IsCutOff number rest old p fault
+cut_more number behind line lines rest old new is split met p fault cut =
+    subst (λ (ls : List (List ℕ)). IsCutOff number ls old p fault) (sym split) (inr (new, met, subst (λ (k : ℕ). IsCutOff k lines new p fault) is cut))
+
+-- this one did
+pub cut_here : (number : ℕ) (line : List ℕ) (lines rest : List (List ℕ)) (old new : Point) (fault : Fault) → rest ≡ line ∷ lines → IsBrokenOff line old new fault
+    → IsCutOff number rest old new fault
+cut_here number line lines rest old new fault split broken = subst (λ (ls : List (List ℕ)). IsCutOff number ls old new fault) (sym split) (inl broken)
+
+-- there is an input channel of the name
+pub begun_there : (input : Option (List ℕ)) (old new : Point) (b : Bool) → b ≡ true → IsFirstPart input old new (Ok b) → IsFirstPart input old new (Ok true)
+begun_there input old new true there begun = begun
+begun_there input old new false there begun = absurd (true≢false (sym there))
+
+-- ---- what went out is right after each line
+
+stays : (old new : Live) → new ≡ old → IsShown old → IsShown new
+stays old new same was = subst (λ (s : Live). IsShown s) (sym same) was
+
+taken : (number : ℕ) (line : List ℕ) (p q : Telling) (old new : Live) (before after : Option (List ℕ)) (answer : Result Verdict TakeFault) → IsToldBy number answer p q
+    → IsTakenLine line old new before after answer → IsShown old → IsShown new
+taken number line p q old new before after (Ok v) told t was = (v, t.answered.verdict, t.answered.ends, t.out)
+taken number line p q old new before after (Err TooLong) told t was = stays old new t.same was
+taken number line p q old new before after (Err NotUtf8) told t was = stays old new t.same was
+taken number line p q old new before after (Err BadLine) told t was = stays old new t.same was
+taken number line p q old new before after (Err BadValue) told t was = stays old new t.same was
+taken number line p q old new before after (Err (Feed f)) told t was = stays old new t.same was
+taken number line p q old new before after (Err NoMemory) told t was = stays old new t.same was
+taken number line p q old new before after (Err (Write f)) told t was = absurd (true≢false told.1)
+
+answered : (number : ℕ) (line : List ℕ) (old new : Point) → WasAnswered number line old new → IsShown old.session → IsShown new.session
+answered number line old new (answer, (told, (sent, t, kept))) was = taken number line old.told new.told old.session new.session old.out sent answer told t was
+
+met : (number : ℕ) (line : List ℕ) (old new : Point) → IsAnyMet number line old new → IsShown old.session → IsShown new.session
+met number line old new (inl a) was = answered number line old new a was
+met number line old new (inr (told, (same, kept))) was = stays old.session new.session same was
+
+read : (input : Option (List ℕ)) (n : ℕ) (text rest : Option (List ℕ)) (old new : Point) → AreRead input n text rest old new → IsShown old.session → IsShown new.session
+read input zero text rest old new (left, same) was = stays old.session new.session (ap (λ (p : Point). p.session) same) was
+read input (suc n) text rest old new (left, last, are, hearing, (line, ready, cuts, (quiet, (same, kept)), any)) was =
+    met (suc n) _ ready new any (stays last.session ready.session same (read input n text left old last are was))
+
+fed : (number : ℕ) (lines : List (List ℕ)) (old new : Point) → AreFed number lines old new → IsShown old.session → IsShown new.session
+fed number [] old new same was = stays old.session new.session (ap (λ (p : Point). p.session) same) was
+fed number (line ∷ lines) old new (next, a, rest) was = fed (next_number number) lines next new rest (answered number line old next a was)
+
+-- where all lines were met
+pub all_shown : (f : LinesGiven) (text : Option (List ℕ)) (old new : Point) → AreAllMet f (Ok true) text old new → IsShown new.session
+all_shown f text old new (begun, (v, (told, (sent, t, kept))), (number, last, (n, rest, ready, are, is, (quiet, (same, still)), out), behind)) =
+    fed number f.at_end last new behind
+    (stays ready.session last.session same (read f.input n text rest begun ready are (v, t.answered.verdict, t.answered.ends, t.out)))

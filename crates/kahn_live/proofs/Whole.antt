@@ -1,0 +1,69 @@
+-- What a whole run is made of.
+use Rattle.std.proofs.Common.{◌≡◌, ◌∙◌, inr, ℕ, Bool, true, false, true≢false, eqb, List, [], None, Some, Option, MatchOption, Result, Ok, Err, if◌then◌else◌, refl, sym, ap, append-nil, subst}
+use Rattle.std.specs.Prelude.{is_some, option_copied, string_bytes}
+use Rattle.std.specs.Io.Buffered.{reader_buffer, reader_capacity, reader_inner, reader_remaining, writer_buffer, writer_contents, writer_inner}
+use Rattle.std.specs.Io.KnownBytes.{append_known, prepend_known}
+use Rattle.std.specs.declared.io.buffered.BufReader.{BufReader}
+use Rattle.std.specs.declared.io.buffered.BufWriter.{BufWriter}
+use Rattle.std.specs.declared.alloc.Global.{Global}
+use Rattle.std.specs.declared.string.String.{String}
+use Rattle.kahn_config.specs.declared.Config.{Config}
+use Rattle.kahn_tree.specs.declared.tree.Program.{Program}
+use Rattle.kahn_pool.specs.HeldRuns.{HeldRun}
+use Rattle.kahn_pool.specs.declared.config.RunFault.{RunFault}
+use Rattle.kahn_fault.specs.declared.fault.Fault.{Fault}
+use Rattle.kahn_line.specs.declared.parts.Plain.{Plain}
+use Rattle.kahn_session.specs.Live.{HasOpened, IsStreamOf, Live}
+use Rattle.kahn_live.specs.Course.{AreAllMet, LinesGiven, Point, Telling}
+use Rattle.kahn_live.specs.Running.{HasServed, IsFormed, IsPlainStream, IsSetUp}
+use Rattle.kahn_live.specs.declared.serving.Ending.{Ending}
+use denote.Ref.{Bor}
+
+-- there is an input channel of the name
+pub all_there : (f : LinesGiven) (text : Option (List ℕ)) (old new : Point) (b : Bool) → b ≡ true → AreAllMet f (Ok b) text old new → AreAllMet f (Ok true) text old new
+all_there f text old new true there met = met
+all_there f text old new false there met = absurd (true≢false (sym there))
+
+pub copied_some : (x : Option (Bor (List ℕ))) → is_some x ≡ is_some (option_copied x)
+copied_some None = refl
+copied_some (Some t) = refl
+
+prepend_none : (m : Option (List ℕ)) → prepend_known [] m ≡ m
+prepend_none None = refl
+prepend_none (Some x) = refl
+
+-- a reader whose buffer is empty
+pub fresh : {I A : Type 0} (left : I → Option (List ℕ)) (r : BufReader I A) (input : I) → reader_inner r ≡ input → reader_buffer r ≡ [] → reader_capacity r ≡ 8192
+    → reader_remaining left r ≡ left input
+fresh left r input inner empty room =
+    ap (λ (k : ℕ). if eqb k 0 then None else prepend_known (reader_buffer r) (left (reader_inner r))) room
+    ∙ ap (λ (b : List ℕ). prepend_known b (left (reader_inner r))) empty ∙ prepend_none (left (reader_inner r)) ∙ ap left inner
+
+append_none : (m : Option (List ℕ)) → append_known m [] ≡ m
+append_none None = refl
+append_none (Some x) = ap Some (append-nil x)
+
+-- a writer whose buffer is empty
+pub unwritten : {T A : Type 0} (written : T → Option (List ℕ)) (w : BufWriter T A) (output : T) → writer_inner w ≡ output → writer_buffer w ≡ []
+    → writer_contents written w ≡ written output
+unwritten written w output inner empty =
+    ap (λ (b : List ℕ). append_known (written (writer_inner w)) b) empty ∙ append_none (written (writer_inner w)) ∙ ap written inner
+
+-- the stream that is named
+pub named_stream : (h : HeldRun) (name : String Global) (bytes : List ℕ) (r : Option ℕ) → bytes ≡ string_bytes name
+    → MatchOption r ((n : ℕ) → ¬ IsStreamOf h n bytes) (λ number. IsStreamOf h number bytes) → IsPlainStream h (Some name) r
+named_stream h name bytes None is none = subst (λ (l : List ℕ). (n : ℕ) → ¬ IsStreamOf h n l) is none
+named_stream h name bytes (Some number) is some = subst (λ (l : List ℕ). IsStreamOf h number l) is some
+
+-- a session that was opened, in a form
+pub set_up : (plain : Option Plain) (t : Program) (config : Config) (first : Live) (r : Result Live RunFault) → HasOpened t config first → IsFormed plain first r → IsSetUp plain t config r
+set_up plain t config first (Ok s) opened formed = (first, opened, formed)
+set_up plain t config first (Err f) opened formed = inr (first, opened, formed)
+
+-- the same lines, behind the same bytes
+pub served_as : (named input : Option (List ℕ)) (at_end : List (List ℕ)) (s : Live) (text before out : Option (List ℕ)) (old : Telling) (last : Point) (r : Result Ending Fault)
+    → named ≡ input → before ≡ out → HasServed (record { input = named; at_end = at_end }) r text (record { session = s; out = before; told = old }) last
+    → HasServed (record { input = input; at_end = at_end }) r text (record { session = s; out = out; told = old }) last
+served_as named input at_end s text before out old last r is same served =
+    subst (λ (n : Option (List ℕ)). HasServed (record { input = n; at_end = at_end }) r text (record { session = s; out = out; told = old }) last) is
+    (subst (λ (o : Option (List ℕ)). HasServed (record { input = named; at_end = at_end }) r text (record { session = s; out = o; told = old }) last) same served)

@@ -1,0 +1,13 @@
+use Rattle.std.proofs.Common.{inl, List, ℕ, Option, subst}
+use Rattle.kahn_live.specs.Course.{lines_given, point_of}
+use Rattle.kahn_live.specs.Running.{HasServedAll}
+use Rattle.kahn_live.proofs.Whole.{fresh}
+use Rattle.kahn_live.proofs.serving.work.Goals as goal
+
+pub returns : goal.returns
+returns g c =
+    let old = point_of g.W.Write.contents g.E.Write.contents c.args.stage.now in
+    let new = point_of g.W.Write.contents g.E.Write.contents c.serve.new.stage in
+    let made = c.in-Ok.ensures in
+    let same = fresh g.I.Read.remaining c.in-Ok.reader c.args.input made.inner made.empty made.capacity in
+    inl (subst (λ (t : Option (List ℕ)). HasServedAll (lines_given c.args.fed) c.serve.result t old new) same c.serve.ensures)

@@ -1,0 +1,25 @@
+-- Believed. That what goes out of a session is right (this project's profile, over the solution of Kahn's paper).
+use Rattle.std.specs.Prelude.{◌≡◌, ℕ, List, [], map, Some, slice_get, slice_index_or}
+use Rattle.kahn_network.specs.Network.{network_of}
+use Rattle.kahn_streams.specs.declared.value.Line.{Line}
+use Rattle.kahn_streams.specs.Solution.{IsPrefix, IsWhole, iterate}
+use Rattle.kahn_streams.specs.Tokens.{inputs_of}
+use Rattle.kahn_pool.specs.Flows.{flow_lines}
+use Rattle.kahn_pool.specs.HeldRuns.{IsRightSoFar, so_far}
+use Rattle.kahn_pool.specs.declared.answer.End.{End}
+use Rattle.kahn_pool.specs.declared.answer.Verdict.{Verdict}
+use Rattle.kahn_pool.specs.declared.answer.Verdict.TheVariants.{Finished}
+use Rattle.kahn_session.specs.Live.{Live}
+
+-- the run has a verdict with ends that are right, and all that there is of its streams went out
+abbrev pub IsShown : Live → Type 0
+IsShown s = (v : Verdict) × (s.flow.run.verdict ≡ Some v) × ((ends : List End) × IsRightSoFar s.flow.run v ends)
+    × (s.flow.out ≡ map (so_far s.flow.run) (flow_lines s.flow.run))
+
+-- what went out of each stream begins the history of its line in the solution for the input so far, and is the whole of it where the
+-- run has finished
+pub record HasHistories (s : Live) : Type 0 where
+  pub begin : (j : ℕ) (c : Line) → slice_get (flow_lines s.flow.run) j ≡ Some c
+      → (n : ℕ) × IsPrefix (slice_index_or s.flow.out j []) (iterate (network_of s.flow.run.network) (inputs_of s.flow.run.input) n c)
+  pub whole : s.flow.run.verdict ≡ Some Finished → (j : ℕ) (c : Line) → slice_get (flow_lines s.flow.run) j ≡ Some c
+      → IsWhole (network_of s.flow.run.network) (inputs_of s.flow.run.input) c (slice_index_or s.flow.out j [])

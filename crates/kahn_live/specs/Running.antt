@@ -1,0 +1,163 @@
+-- Believed. A run on lines, from the program text to the status (this project's profile).
+use Rattle.std.specs.Prelude.{◌≡◌, ◌⊎◌, ℕ, Bool, true, false, List, [], map, Option, None, Some, Result, Ok, Err, option_map, option_copied, is_some, string_bytes}
+use Rattle.std.specs.declared.alloc.Global.{Global}
+use Rattle.std.specs.declared.string.String.{String}
+use Rattle.kahn_config.specs.declared.Config.{Config}
+use Rattle.kahn_tree.specs.declared.tree.Program.{Program}
+use Rattle.kahn_pool.specs.HeldRuns.{HeldRun}
+use Rattle.kahn_pool.specs.declared.answer.Verdict.{Verdict}
+use Rattle.kahn_pool.specs.declared.answer.Verdict.TheVariants.{Finished}
+use Rattle.kahn_pool.specs.declared.config.RunFault.{RunFault}
+use Rattle.kahn_pool.specs.declared.config.RunFault.TheVariants.{UnknownWatch}
+use Rattle.kahn_report.specs.Work.{IsChecked, IsUnchecked}
+use Rattle.kahn_report.specs.declared.working.WorkFault.{WorkFault}
+use Rattle.kahn_report.specs.declared.working.WorkFault.TheVariants.{Run as RunWork, Write as WriteWork}
+use Rattle.kahn_write.specs.declared.bytes.WriteFault.{WriteFault}
+use Rattle.kahn_fault.specs.Message.{fault_text}
+use Rattle.kahn_fault.specs.Status.{live_status_of}
+use Rattle.kahn_fault.specs.declared.fault.Fault.{Fault}
+use Rattle.kahn_fault.specs.declared.fault.Fault.TheVariants.{Work}
+use Rattle.kahn_line.specs.declared.live.LiveOptions.{LiveOptions}
+use Rattle.kahn_line.specs.declared.parts.Plain.{Plain}
+use Rattle.kahn_session.specs.Live.{HasOpened, IsClosed, IsFaulty, IsLastText, IsStreamOf, IsUnopened, Live}
+use Rattle.kahn_live.specs.Course.{AreAllMet, LinesGiven, HasSent, HasWaited, IsWriteFault, Point, Telling, WasTold, no_memory, telling_of}
+use Rattle.kahn_live.specs.declared.running.Asked.{Asked}
+use Rattle.kahn_live.specs.declared.serving.Ending.{Ending}
+use Rattle.kahn_live.specs.declared.serving.Ending.TheVariants.{Reached, Gone, NoInput}
+use Rattle.kahn_live.specs.declared.telling.Teller.{Teller}
+
+-- ---- the start
+
+-- the channel whose values alone are shown is watched, where it is named
+abbrev pub WatchesOutput : Option (String Global) → Config → Config → Type 0
+WatchesOutput None old new = new ≡ old
+WatchesOutput (Some name) old new = (word : String Global) × (string_bytes word ≡ string_bytes name) × (new ≡ record old { watch = Some word })
+
+abbrev pub WatchesPlain : Option Plain → Config → Config → Type 0
+WatchesPlain None old new = new ≡ old
+WatchesPlain (Some p) old new = WatchesOutput p.output old new
+
+-- the number of the stream whose values alone are shown: that of the channel that is named, or else the first
+abbrev pub IsPlainStream : HeldRun → Option (String Global) → Option ℕ → Type 0
+IsPlainStream h None number = number ≡ Some 0
+IsPlainStream h (Some name) None = (n : ℕ) → ¬ IsStreamOf h n (string_bytes name)
+IsPlainStream h (Some name) (Some number) = IsStreamOf h number (string_bytes name)
+
+-- the session in the form that is asked for; or there is no stream of the channel that is named
+abbrev pub IsFormed : Option Plain → Live → Result Live RunFault → Type 0
+IsFormed None s r = r ≡ Ok s
+IsFormed (Some p) s (Ok shown) = (number : ℕ) × IsPlainStream s.flow.run p.output (Some number) × (shown ≡ record s { plain = Some number })
+IsFormed (Some p) s (Err f) = (f ≡ UnknownWatch) × IsPlainStream s.flow.run p.output None
+
+-- a session of the network before its first part, in that form, or why there is none
+abbrev pub IsSetUp : Option Plain → Program → Config → Result Live RunFault → Type 0
+IsSetUp plain t config (Ok s) = (first : Live) × HasOpened t config first × IsFormed plain first (Ok s)
+IsSetUp plain t config (Err f) = IsUnopened t config f ⊎ ((first : Live) × HasOpened t config first × IsFormed plain first (Err f))
+
+-- ---- the end
+
+-- whether it is told how the run ended, where values stand alone: where the status isn't 0 or a process has a fault
+abbrev pub IsEndWanted : HeldRun → Bool → Verdict → Bool → Type 0
+IsEndWanted h refused v true = (live_status_of refused (Ok v) ≡ 0 → ⊥) ⊎ IsFaulty h true
+IsEndWanted h refused v false = (live_status_of refused (Ok v) ≡ 0) × IsFaulty h false
+
+abbrev pub IsEndTold : HeldRun → Telling → Telling → Bool → Type 0
+IsEndTold h old new true = (v : Verdict) × (text : List ℕ) × IsLastText h v text × WasTold text false old new
+IsEndTold h old new false = new ≡ old
+
+abbrev pub IsPlainEnd : HeldRun → Telling → Telling → Verdict → Type 0
+IsPlainEnd h old new v = (h.verdict ≡ Some v) × ((told : Bool) × IsEndWanted h old.refused v told × IsEndTold h old new told)
+
+-- how the run ended went out; or, where values stand alone, what is new went out, and it is told
+abbrev pub IsEnded : Bool → Point → Point → Result Verdict Fault → Type 0
+IsEnded false old new (Ok v) = (new.session ≡ old.session) × (new.told ≡ old.told) × IsClosed old.session.flow.run old.out new.out (Ok v)
+IsEnded false old new (Err fault) = (new.session ≡ old.session) × (new.told ≡ old.told)
+    × ((f : WriteFault) × (fault ≡ Work (WriteWork f)) × IsClosed old.session.flow.run old.out new.out (Err f))
+IsEnded true old new (Ok v) = HasWaited old new × IsPlainEnd old.session.flow.run old.told new.told v
+IsEnded true old new (Err fault) = IsWriteFault fault × HasSent old new
+
+-- ---- the lines and the end
+
+-- all lines were met and then the end, or one of these stopped the run
+abbrev pub HasServedAll : LinesGiven → Result Ending Fault → Option (List ℕ) → Point → Point → Type 0
+HasServedAll f (Ok (Reached v)) text old new = (last : Point) × AreAllMet f (Ok true) text old last × IsEnded (is_some f.input) last new (Ok v)
+HasServedAll f (Ok NoInput) text old new = AreAllMet f (Ok false) text old new
+HasServedAll f (Ok Gone) text old new = ⊥
+HasServedAll f (Err fault) text old new = AreAllMet f (Err fault) text old new
+    ⊎ ((last : Point) × AreAllMet f (Ok true) text old last × IsEnded (is_some f.input) last new (Err fault))
+
+-- nothing was done, since memory was refused
+abbrev pub IsLacking : {X P : Type 0} → Result X Fault → P → P → Type 0
+IsLacking r old new = (r ≡ Err no_memory) × (new ≡ old)
+
+abbrev pub HasServed : LinesGiven → Result Ending Fault → Option (List ℕ) → Point → Point → Type 0
+HasServed f r text old new = HasServedAll f r text old new ⊎ IsLacking r old new
+
+-- what is new couldn't be sent in the end
+abbrev pub IsUnsent : Result Ending Fault → Result Ending Fault → Type 0
+IsUnsent (Ok x) (Ok y) = ⊥
+IsUnsent (Ok x) (Err fault) = IsWriteFault fault
+IsUnsent (Err f) r = ⊥
+
+-- how a run ended is how its lines ended, unless nobody reads what is new any more, or it couldn't be sent
+abbrev pub IsSent : Bool → Result Ending Fault → Result Ending Fault → Type 0
+IsSent true ending r = r ≡ Ok Gone
+IsSent false ending r = (r ≡ ending) ⊎ IsUnsent ending r
+
+-- ---- the whole run
+
+-- this holds of what is told, before and after, and of the answer
+abbrev pub Tells : {X E : Type 0} → (E → Option (List ℕ)) → Teller E → X × Teller E → (Telling → Telling → X → Type 0) → Type 0
+Tells said old done holds = holds (telling_of said old) (telling_of said done.1) done.0
+
+-- the lines were served from a session on, and this was told
+abbrev pub HasRunSession : LinesGiven → Live → Option (List ℕ) → Option (List ℕ) → Telling → Telling → Result Ending Fault → Type 0
+HasRunSession f s text out old new r = (last : Point) × (ending : Result Ending Fault) × (gone : Bool)
+    × HasServed f ending text (record { session = s; out = out; told = old }) last × (new ≡ last.told) × IsSent gone ending r
+
+-- what is asked for: the channels whose values stand alone, and the lines behind those of the input
+pub record Request : Type 0 where
+  pub plain : Option Plain
+  pub at_end : List (List ℕ)
+
+abbrev pub request_of : Asked → Request
+request_of a = record { plain = option_copied a.plain; at_end = map string_bytes a.at_end.now }
+
+abbrev pub input_of : Option Plain → Option (List ℕ)
+input_of plain = option_map (λ p. string_bytes p.input) plain
+
+-- a session of the network was set up and run, or why not: memory was refused, or the run is
+abbrev pub HasRunNetwork : Request → Program → Config → Option (List ℕ) → Option (List ℕ) → Telling → Telling → Result Ending Fault → Type 0
+HasRunNetwork a t config text out old new r = IsLacking r old new
+    ⊎ (((f : RunFault) × IsSetUp a.plain t config (Err f) × (r ≡ Err (Work (RunWork f))) × (new ≡ old))
+    ⊎ ((s : Live) × IsSetUp a.plain t config (Ok s) × HasRunSession (record { input = input_of a.plain; at_end = a.at_end }) s text out old new r))
+
+-- the network of the program text was run on this text of input, or why not: memory was refused, or the program text is
+abbrev pub HasRunText : List ℕ → LiveOptions → Option (List ℕ) → Option (List ℕ) → Telling → Telling → Result Ending Fault → Type 0
+HasRunText program o text out old new r = IsLacking r old new
+    ⊎ (((f : WorkFault) × IsUnchecked program f × (r ≡ Err (Work f)) × (new ≡ old))
+    ⊎ ((t : Program) × (config : Config) × IsChecked program t × WatchesPlain o.plain o.config config
+    × HasRunNetwork (record { plain = o.plain; at_end = map string_bytes o.at_end.items }) t config text out old new r))
+
+-- ---- the status
+
+abbrev pub ending_status : Bool → Result Ending Fault → ℕ
+ending_status refused (Ok (Reached v)) = live_status_of refused (Ok v)
+ending_status refused (Ok Gone) = live_status_of refused (Ok Finished)
+ending_status refused (Ok NoInput) = 6
+ending_status refused (Err fault) = live_status_of refused (Err fault)
+
+-- what is told of how a run ended
+abbrev pub fault_told : List ℕ → Result Ending Fault → List ℕ
+fault_told program (Ok ending) = []
+fault_told program (Err fault) = fault_text program fault
+
+-- before the first line
+abbrev pub untold : Option (List ℕ) → Bool → Telling
+untold bytes keep_going = record { bytes = bytes; failed = false; keep_going = keep_going; refused = false }
+
+-- a program text was run as the options say, on this text of input, behind what was written and what was told before; how that
+-- ended was told, and the status is this
+abbrev pub HasRunAs : List ℕ → LiveOptions → Option (List ℕ) → Option (List ℕ) → Option (List ℕ) → Telling → ℕ → Type 0
+HasRunAs program o text out bytes new status = (r : Result Ending Fault) × (last : Telling) × HasRunText program o text out (untold bytes o.keep_going) last r
+    × WasTold (fault_told program r) false last new × (status ≡ ending_status last.refused r)

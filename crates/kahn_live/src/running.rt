@@ -1,0 +1,190 @@
+//! A run on lines, from the program text to the status.
+
+ghost use Rattle.std.specs.Prelude.{◌≡◌, IfOk, false, option_copied};
+ghost use Rattle.kahn_live.specs.Course.{WasTold, telling_of};
+ghost use Rattle.kahn_live.specs.Running.{HasRunAs, HasRunNetwork, HasRunText, IsFormed, IsPlainStream, IsSetUp, Tells, WatchesPlain};
+ghost use Rattle.kahn_live.specs.Running.{ending_status, input_of, fault_told, request_of};
+
+use crate::outlet::Outlet;
+use crate::serving::{Ending, sent, work};
+use crate::stage::Stage;
+use crate::taking::{Fed, wants_memory};
+use crate::telling::Teller;
+use kahn_fault::{Fault, live_status};
+use kahn_line::{LiveOptions, Plain};
+use kahn_network::Network;
+use kahn_pool::{Config, RunFault, Verdict};
+use kahn_report::{WorkFault, checked};
+use kahn_session::Session;
+use std::alloc::{AllocError, Global};
+use std::io::{BufWriter, Read, Write};
+
+/// The status where there is no input channel of the name whose values stand alone.
+const NO_INPUT: u8 = 6;
+
+/// How the run is set up: the channel whose values alone are shown is watched, so that it has a stream.
+fn watching(alloc: Global, config: Config, plain: Option<&Plain>) -> Result<Config, AllocError>
+    ensures { IfOk result (WatchesPlain (option_copied plain.entry) config) }
+{
+    let Some(plain) = plain else {
+        return Ok(config);
+    };
+    let Some(output) = &plain.output else {
+        return Ok(config);
+    };
+    Ok(Config {
+        watch: Some(String::from_str(alloc, output.as_str())?),
+        ..config
+    })
+}
+
+/// The number of the stream of which the values alone are shown.
+fn plain_stream(session: &Session<'_>, plain: &Plain) -> Option<usize>
+    ensures { IsPlainStream session.now.flow.run plain.now.output result }
+{
+    match &plain.output {
+        Some(output) => session.stream_of(output.as_str()),
+        None => Some(0),
+    }
+}
+
+/// The session, which shows the values of one stream alone where these channels are named.
+fn in_form<'n>(mut session: Session<'n>, plain: Option<&Plain>) -> Result<Session<'n>, RunFault>
+    ensures { IsFormed (option_copied plain.entry) session.entry result }
+{
+    let Some(plain) = plain else {
+        return Ok(session);
+    };
+    let Some(number) = plain_stream(&session, plain) else {
+        return Err(RunFault::UnknownWatch);
+    };
+    session.show_plain(number);
+    Ok(session)
+}
+
+/// A session of the network before its first part.
+fn started<'n>(
+    alloc: Global,
+    network: &'n Network,
+    config: Config,
+    plain: Option<&Plain>,
+) -> Result<Session<'n>, RunFault>
+    ensures { IsSetUp (option_copied plain.entry) network.now config result }
+{
+    in_form(Session::start(alloc, network, config)?, plain)
+}
+
+/// What the command line asks for of a run that is set up.
+#[derive(Clone, Copy)]
+struct Asked<'a> {
+    /// The channels whose values stand alone in the lines of input and output, where they do.
+    plain: Option<&'a Plain>,
+    /// The lines behind those of the input.
+    at_end: &'a [String],
+}
+
+/// Runs a network on the input, and writes what is new to the output.
+fn run_network<I: Read + Drop, W: Write + Drop, E: Write + Drop>(
+    alloc: Global,
+    network: &Network,
+    config: Config,
+    asked: Asked<'_>,
+    input: I,
+    output: W,
+    teller: Teller<E>,
+) -> (Result<Ending, Fault>, Teller<E>)
+    ensures { Tells E.contents teller result (HasRunNetwork (request_of asked.entry) network.now config (I.remaining input) (W.contents output)) }
+{
+    let session = match started(alloc, network, config, asked.plain) {
+        Ok(session) => session,
+        Err(fault) => return (Err(Fault::Work(WorkFault::Run(fault))), teller),
+    };
+    let Ok(writer) = BufWriter::new(alloc, output) else {
+        return (Err(wants_memory()), teller);
+    };
+    let mut stage = Stage {
+        session,
+        outlet: Outlet::new(writer),
+        teller,
+    };
+    let fed = Fed {
+        input: input_of(asked.plain),
+        at_end: asked.at_end,
+    };
+    let ending = work(alloc, &mut stage, input, fed);
+    let ending = sent(&mut stage.outlet, ending);
+    (ending, stage.teller)
+}
+
+/// The name of the channel whose values stand alone in the lines of input, where they do.
+fn input_of(plain: Option<&Plain>) -> Option<&str>
+    ensures { option_copied result ≡ input_of (option_copied plain.entry) }
+{
+    match plain {
+        Some(plain) => Some(plain.input.as_str()),
+        None => None,
+    }
+}
+
+/// Runs a program text on the input, and writes what is new to the output.
+fn run<I: Read + Drop, W: Write + Drop, E: Write + Drop>(
+    alloc: Global,
+    program: &str,
+    options: LiveOptions,
+    input: I,
+    output: W,
+    teller: Teller<E>,
+) -> (Result<Ending, Fault>, Teller<E>)
+    ensures { Tells E.contents teller result (HasRunText program.now options (I.remaining input) (W.contents output)) }
+{
+    let LiveOptions {
+        config,
+        at_end,
+        plain,
+        ..
+    } = options;
+    let asked = Asked {
+        plain: plain.as_ref(),
+        at_end: &at_end,
+    };
+    let Ok(config) = watching(alloc, config, asked.plain) else {
+        return (Err(wants_memory()), teller);
+    };
+    match checked(alloc, program) {
+        Ok(network) => run_network(alloc, &network, config, asked, input, output, teller),
+        Err(fault) => (Err(Fault::Work(fault)), teller),
+    }
+}
+
+/// Tells a fault of the run, and gives the status.
+fn told<E: Write>(ending: Result<Ending, Fault>, program: &str, teller: &mut Teller<E>) -> u8
+    ensures status { result ≡ ending_status teller.old.refused ending }
+    ensures told { WasTold (fault_told program.now ending) false (telling_of E.contents teller.old) (telling_of E.contents teller.new) }
+{
+    let answer = match ending {
+        Ok(Ending::Reached(verdict)) => Ok(verdict),
+        Ok(Ending::Gone) => Ok(Verdict::Finished),
+        Ok(Ending::NoInput) => return NO_INPUT,
+        Err(fault) => Err(fault),
+    };
+    teller.tell_fault(&answer, program);
+    live_status(&answer, teller.refused)
+}
+
+/// Runs a program text on the input as the options say, writes what is new to the output, and tells what isn't taken and a fault
+/// of the run to the writer of faults. It gives the status.
+pub(crate) fn ran<I: Read + Drop, W: Write + Drop, E: Write + Drop>(
+    alloc: Global,
+    program: &str,
+    options: LiveOptions,
+    input: I,
+    output: W,
+    errors: E,
+) -> (u8, Teller<E>)
+    ensures { HasRunAs program.now options (I.remaining input) (W.contents output) (E.contents errors) (telling_of E.contents result.1) result.0 }
+{
+    let teller = Teller::new(errors, options.keep_going);
+    let (ending, mut teller) = run(alloc, program, options, input, output, teller);
+    let status = told(ending, program, &mut teller);
+    (status, teller)
+}

@@ -1,0 +1,119 @@
+//! A session on lines, to the end of its run.
+
+ghost use Rattle.std.specs.Prelude.{◌≡◌, false};
+ghost use Rattle.std.specs.Io.KnownBytes.{Keeps};
+ghost use Rattle.kahn_session.specs.Live.{HasVerdict};
+ghost use Rattle.kahn_live.specs.Course.{Across, AcrossStage, lines_given, point_of, telling_of};
+ghost use Rattle.kahn_live.specs.Running.{HasServed, HasServedAll, IsEndWanted, IsEnded, IsPlainEnd, IsSent};
+
+use crate::outlet::Outlet;
+use crate::stage::Stage;
+use crate::taking::{Fed, take_all, wants_memory};
+use crate::telling::Teller;
+use kahn_fault::{Fault, live_status};
+use kahn_pool::Verdict;
+use kahn_report::WorkFault;
+use kahn_session::Session;
+use std::alloc::Global;
+use std::io::{BufReader, Read, Write};
+
+/// How a run ended.
+#[derive(Drop)]
+pub(crate) enum Ending {
+    /// The end of the input was reached.
+    Reached(Verdict),
+    /// Nobody reads what is new any more.
+    Gone,
+    /// There is no input channel of the name whose values stand alone.
+    NoInput,
+}
+
+/// Whether it is told how a run with this verdict ended: the status isn't 0, or a process has a fault.
+fn is_end_wanted(session: &Session<'_>, refused: bool, verdict: Verdict) -> bool
+    requires { HasVerdict session.now }
+    ensures { IsEndWanted session.now.flow.run refused verdict result }
+{
+    if live_status(&Ok(verdict), refused) != 0 {
+        return true;
+    }
+    session.has_fault()
+}
+
+/// Tells how the run ended, where the status isn't 0 or a process has a fault.
+fn close_plain<E: Write>(session: &Session<'_>, teller: &mut Teller<E>) -> Verdict
+    requires { HasVerdict session.now }
+    ensures { IsPlainEnd session.now.flow.run (telling_of E.contents teller.old) (telling_of E.contents teller.new) result }
+{
+    let Some(verdict) = session.verdict() else {
+        unreachable!()
+    };
+    if is_end_wanted(session, teller.refused, verdict) {
+        teller.tell_end(session);
+    }
+    verdict
+}
+
+/// Writes how the run ended; or where values stand alone sends what is new, and tells it where it isn't as it should be.
+fn close<W: Write, E: Write>(stage: &mut Stage<'_, W, E>, plain: bool) -> Result<Verdict, Fault>
+    requires { HasVerdict stage.old.session }
+    ensures { IsEnded plain (point_of W.contents E.contents stage.old) (point_of W.contents E.contents stage.new) result }
+{
+    if plain {
+        stage.outlet.send()?;
+        return Ok(close_plain(&stage.session, &mut stage.teller));
+    }
+    match stage.session.close(&mut stage.outlet) {
+        Ok(verdict) => Ok(verdict),
+        Err(fault) => Err(Fault::Work(WorkFault::Write(fault))),
+    }
+}
+
+/// Takes the lines of the reader, and then those behind them, and closes the session.
+fn serve<I: Read, W: Write, E: Write>(
+    alloc: Global,
+    stage: &mut Stage<'_, W, E>,
+    reader: &mut BufReader<I>,
+    fed: Fed<'_>,
+) -> Result<Ending, Fault>
+    requires { stage.old.session.broken ≡ false }
+    ensures { Across I.remaining W.contents E.contents reader.old reader.new stage.old stage.new (λ s t. HasServedAll (lines_given fed.entry) result s) }
+{
+    if !take_all(alloc, stage, reader, fed)? {
+        return Ok(Ending::NoInput);
+    }
+    let verdict = close(stage, fed.input.is_some())?;
+    Ok(Ending::Reached(verdict))
+}
+
+/// Takes the lines of the input, and writes what is new.
+pub(crate) fn work<I: Read + Drop, W: Write, E: Write>(
+    alloc: Global,
+    stage: &mut Stage<'_, W, E>,
+    input: I,
+    fed: Fed<'_>,
+) -> Result<Ending, Fault>
+    requires { stage.old.session.broken ≡ false }
+    ensures { AcrossStage W.contents E.contents stage.old stage.new (HasServed (lines_given fed.entry) result (I.remaining input)) }
+{
+    let Ok(mut reader) = BufReader::new(alloc, input) else {
+        return Err(wants_memory());
+    };
+    serve(alloc, stage, &mut reader, fed)
+}
+
+/// Sends what is new in the end. Nobody may read it any more.
+pub(crate) fn sent<W: Write>(
+    outlet: &mut Outlet<W>,
+    ending: Result<Ending, Fault>,
+) -> Result<Ending, Fault>
+    ensures kept { Keeps (W.contents outlet.old.writer) (W.contents outlet.new.writer) }
+    ensures sent { IsSent outlet.new.gone ending result }
+{
+    let sent = outlet.send();
+    if outlet.gone() {
+        return Ok(Ending::Gone);
+    }
+    let ending = ending?;
+    sent?;
+    Ok(ending)
+}
