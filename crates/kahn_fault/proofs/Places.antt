@@ -34,7 +34,7 @@ use Rattle.kahn_syntax.specs.Terminals as terminal
 use Rattle.kahn_syntax.specs.declared.lexeme.Keyword.TheVariants as keyword
 use Rattle.kahn_syntax.specs.declared.lexeme.Sign.TheVariants as mark
 use Rattle.kahn_syntax.specs.Faults.{IsFault, IsNothing, IsOther, IsTooDeep, StandsAt}
-use Rattle.kahn_syntax.specs.Spans.{NamesSpan, GroupsSpan, TogethersSpan, parameter_of, variable_of, RoleSpans, DirectionSpans, DeclarationsSpan, ArgumentSpans, ArgumentsSpan, InstanceSpans, InstancesSpan, ProcessSpans, Takes, NameSpans, GroupSpans}
+use Rattle.kahn_syntax.specs.Spans.{NamesSpan, GroupsSpan, TogethersSpan, parameter_with, variable_with, RoleSpans, DirectionSpans, DeclarationsSpan, ArgumentSpans, ArgumentsSpan, InstanceSpans, InstancesSpan, ProcessSpans, Takes, NameSpans, GroupSpans}
 use Rattle.kahn_syntax.specs.Lists.{Further, Grouped, group, all_members}
 use Rattle.kahn_syntax.specs.Texts.{IsProgram, IsTextFault}
 use Rattle.kahn_check.specs.declared.fault.CheckFault.{CheckFault}
@@ -95,12 +95,12 @@ abbrev as_value : OneVariable → Name × Taking
 as_value v = (v.name, T.Value v.kind)
 
 group_named : (text : List ℕ) (t : Taking) (ns : List Name) (gs : List Parameter) → AreNames text ns → AreNamed text (map as_local gs) →
-    AreNamed text (map as_local (map (parameter_of t) ns ++ gs))
+    AreNamed text (map as_local (map (parameter_with t) ns ++ gs))
 group_named text t [] gs h k = k
 group_named text t (n ∷ ns) gs (l, h) k = (l, group_named text t ns gs h k)
 
 together_named : (text : List ℕ) (t : Kind) (ns : List Name) (gs : List OneVariable) → AreNames text ns → AreNamed text (map as_value gs) →
-    AreNamed text (map as_value (map (variable_of t) ns ++ gs))
+    AreNamed text (map as_value (map (variable_with t) ns ++ gs))
 together_named text t [] gs h k = k
 together_named text t (n ∷ ns) gs (l, h) k = (l, together_named text t ns gs h k)
 
@@ -110,28 +110,28 @@ direction_past text (T.Channel Out k) xs r h all = past text _ xs r h all
 direction_past text (T.Value k) xs r e all = subst (AllIn text) e all
 
 further_groups : (text : List ℕ) (gs : List (Grouped Taking Name)) (xs r : List Lexeme) → Further (Takes text (terminal.sign mark.Semicolon)) (GroupSpans text) gs xs r → AllIn text xs →
-    AllIn text r × AreNamed text (map as_local (all_members parameter_of gs))
+    AllIn text r × AreNamed text (map as_local (all_members parameter_with gs))
 further_groups text [] xs r e all = (subst (AllIn text) e all, tt)
 further_groups text (group t ns ∷ gs) xs r (a, b, semicolon, (c, d, kind, direction, names), k) all =
     let i = names_in text ns d b names (direction_past text t c d direction (past text _ a c kind (past text _ xs a semicolon all))) in
     let j = further_groups text gs b r k i.0 in
-    (j.0, group_named text t ns (all_members parameter_of gs) i.1 j.1)
+    (j.0, group_named text t ns (all_members parameter_with gs) i.1 j.1)
 
 groups_in : (text : List ℕ) (gs : List (Grouped Taking Name)) (xs r : List Lexeme) → GroupsSpan text gs xs r → AllIn text xs →
-    AllIn text r × AreNamed text (map as_local (all_members parameter_of gs))
+    AllIn text r × AreNamed text (map as_local (all_members parameter_with gs))
 groups_in text [] xs r e all = (subst (AllIn text) e all, tt)
 groups_in text (group t ns ∷ gs) xs r (a, (c, d, kind, direction, names), k) all =
     let i = names_in text ns d a names (direction_past text t c d direction (past text _ xs c kind all)) in
     let j = further_groups text gs a r k i.0 in
-    (j.0, group_named text t ns (all_members parameter_of gs) i.1 j.1)
+    (j.0, group_named text t ns (all_members parameter_with gs) i.1 j.1)
 
 togethers_in : (text : List ℕ) (ts : List (Grouped Kind Name)) (xs r : List Lexeme) → TogethersSpan text ts xs r → AllIn text xs →
-    AllIn text r × AreNamed text (map as_value (all_members variable_of ts))
+    AllIn text r × AreNamed text (map as_value (all_members variable_with ts))
 togethers_in text [] xs r e all = (subst (AllIn text) e all, tt)
 togethers_in text (group t ns ∷ ts) xs r (a, (c, d, kind, names, semicolon), k) all =
     let i = names_in text ns c d names (past text _ xs c kind all) in
     let j = togethers_in text ts a r k (past text _ d a semicolon i.0) in
-    (j.0, together_named text t ns (all_members variable_of ts) i.1 j.1)
+    (j.0, together_named text t ns (all_members variable_with ts) i.1 j.1)
 
 process_in : (text : List ℕ) (p : Process) (xs r : List Lexeme) → ProcessSpans text p xs r → AllIn text xs →
     AllIn text r × LiesIn text p.name.span × ArePlaces text (process_faults p)

@@ -15,7 +15,7 @@ use Rattle.kahn_fault.specs.declared.fault.Fault.{Fault}
 use Rattle.kahn_line.specs.declared.parts.Plain.{Plain}
 use Rattle.kahn_session.specs.Live.{HasOpened, IsStreamOf, Live}
 use Rattle.kahn_live.specs.Course.{AreAllMet, LinesGiven, Point, Telling}
-use Rattle.kahn_live.specs.Running.{HasServed, IsFormed, IsPlainStream, IsSetUp}
+use Rattle.kahn_live.specs.Running.{HasServed, IsInForm, IsPlainStream, IsSetUp}
 use Rattle.kahn_live.specs.declared.serving.Ending.{Ending}
 use denote.Ref.{Bor}
 
@@ -56,7 +56,7 @@ named_stream h name bytes None is none = subst (λ (l : List ℕ). (n : ℕ) →
 named_stream h name bytes (Some number) is some = subst (λ (l : List ℕ). IsStreamOf h number l) is some
 
 -- a session that was opened, in a form
-pub set_up : (plain : Option Plain) (t : Program) (config : Config) (first : Live) (r : Result Live RunFault) → HasOpened t config first → IsFormed plain first r → IsSetUp plain t config r
+pub set_up : (plain : Option Plain) (t : Program) (config : Config) (first : Live) (r : Result Live RunFault) → HasOpened t config first → IsInForm plain first r → IsSetUp plain t config r
 set_up plain t config first (Ok s) opened formed = (first, opened, formed)
 set_up plain t config first (Err f) opened formed = inr (first, opened, formed)
 

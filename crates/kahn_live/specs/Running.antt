@@ -44,15 +44,15 @@ IsPlainStream h (Some name) None = (n : ℕ) → ¬ IsStreamOf h n (string_bytes
 IsPlainStream h (Some name) (Some number) = IsStreamOf h number (string_bytes name)
 
 -- the session in the form that is asked for; or there is no stream of the channel that is named
-abbrev pub IsFormed : Option Plain → Live → Result Live RunFault → Type 0
-IsFormed None s r = r ≡ Ok s
-IsFormed (Some p) s (Ok shown) = (number : ℕ) × IsPlainStream s.flow.run p.output (Some number) × (shown ≡ record s { plain = Some number })
-IsFormed (Some p) s (Err f) = (f ≡ UnknownWatch) × IsPlainStream s.flow.run p.output None
+abbrev pub IsInForm : Option Plain → Live → Result Live RunFault → Type 0
+IsInForm None s r = r ≡ Ok s
+IsInForm (Some p) s (Ok shown) = (number : ℕ) × IsPlainStream s.flow.run p.output (Some number) × (shown ≡ record s { plain = Some number })
+IsInForm (Some p) s (Err f) = (f ≡ UnknownWatch) × IsPlainStream s.flow.run p.output None
 
 -- a session of the network before its first part, in that form, or why there is none
 abbrev pub IsSetUp : Option Plain → Program → Config → Result Live RunFault → Type 0
-IsSetUp plain t config (Ok s) = (first : Live) × HasOpened t config first × IsFormed plain first (Ok s)
-IsSetUp plain t config (Err f) = IsUnopened t config f ⊎ ((first : Live) × HasOpened t config first × IsFormed plain first (Err f))
+IsSetUp plain t config (Ok s) = (first : Live) × HasOpened t config first × IsInForm plain first (Ok s)
+IsSetUp plain t config (Err f) = IsUnopened t config f ⊎ ((first : Live) × HasOpened t config first × IsInForm plain first (Err f))
 
 -- ---- the end
 

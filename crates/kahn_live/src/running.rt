@@ -2,7 +2,7 @@
 
 ghost use Rattle.std.specs.Prelude.{◌≡◌, IfOk, false, option_copied};
 ghost use Rattle.kahn_live.specs.Course.{WasTold, telling_of};
-ghost use Rattle.kahn_live.specs.Running.{HasRunAs, HasRunNetwork, HasRunText, IsFormed, IsPlainStream, IsSetUp, Tells, WatchesPlain};
+ghost use Rattle.kahn_live.specs.Running.{HasRunAs, HasRunNetwork, HasRunText, IsInForm, IsPlainStream, IsSetUp, Tells, WatchesPlain};
 ghost use Rattle.kahn_live.specs.Running.{ending_status, input_of, fault_told, request_of};
 
 use crate::outlet::Outlet;
@@ -50,7 +50,7 @@ fn plain_stream(session: &Session<'_>, plain: &Plain) -> Option<usize>
 
 /// The session, which shows the values of one stream alone where these channels are named.
 fn in_form<'n>(mut session: Session<'n>, plain: Option<&Plain>) -> Result<Session<'n>, RunFault>
-    ensures { IsFormed (option_copied plain.entry) session.entry result }
+    ensures { IsInForm (option_copied plain.entry) session.entry result }
 {
     let Some(plain) = plain else {
         return Ok(session);

@@ -15,7 +15,7 @@ use Rattle.kahn_syntax.specs.Terminals.{Terminal, word, sign, name, number, term
 use Rattle.kahn_syntax.specs.Texts.{IsProgram}
 use Rattle.kahn_syntax.specs.Trees.{truth, variable, wait, denial, bracket, conditional, empty, assign, send, print, block, if_else, repeat, StatementTrees, no_statement, statement, statements_words, AreSome, FormedStatements}
 use Rattle.kahn_syntax.specs.Programs as whole
-use Rattle.kahn_syntax.specs.Programs.{DeclarationTree, InstanceTree, ProgramTree, ArgumentTree, groups_words, togethers_words, Spells, Declares, Argues, Instantiates, Instances, names_words}
+use Rattle.kahn_syntax.specs.Programs.{DeclarationTree, InstanceTree, ProgramTree, ArgumentTree, groups_words, togethers_words, Spells, SpellsDeclaration, Argues, Instantiates, Instances, names_words}
 use Rattle.kahn_syntax.specs.Lists.{Grouped, group, all_members, AreGroups}
 use Rattle.kahn_syntax.proofs.OneTree.{one_tree}
 use Rattle.kahn_syntax.proofs.OneList.{same_lexemes}
@@ -78,7 +78,7 @@ sample_is = refl
 -- ---- the tree spells the words
 
 process_spelled : (n : List ℕ) (gs : List (Grouped Taking (List ℕ))) (ts : List (Grouped Kind (List ℕ))) (body : StatementTrees) (r : List Terminal) → AreGroups gs → AreGroups ts → AreSome body → FormedStatements body →
-    Declares (whole.process n (all_members whole.parameter gs) (all_members whole.variable ts) body)
+    SpellsDeclaration (whole.process n (all_members whole.parameter gs) (all_members whole.variable ts) body)
     (word keyword.Process ∷ name n ∷ sign mark.Open ∷ groups_words gs (sign mark.Close ∷ sign mark.Semicolon ∷ word keyword.Begin ∷ togethers_words ts (statements_words body (word keyword.End ∷ r)))) r
 process_spelled n gs ts body r groups togethers some formed = (
   groups_words gs (sign mark.Close ∷ sign mark.Semicolon ∷ word keyword.Begin ∷ togethers_words ts (statements_words body (word keyword.End ∷ r))),
@@ -90,7 +90,7 @@ process_spelled n gs ts body r groups togethers some formed = (
   formed,
 )
 
-f_spelled : (r : List Terminal) → Declares f_tree (f_words r) (sign mark.Semicolon ∷ r)
+f_spelled : (r : List Terminal) → SpellsDeclaration f_tree (f_words r) (sign mark.Semicolon ∷ r)
 f_spelled r =
     process_spelled (codes "f")
     (group (taking.Channel direction.In kind.Integer) (codes "U" ∷ codes "V" ∷ []) ∷ group (taking.Channel direction.Out kind.Integer) (codes "W" ∷ []) ∷ [])
@@ -100,7 +100,7 @@ f_spelled r =
     (sign mark.Semicolon ∷ r) (tt, (tt, tt)) (tt, (tt, tt)) tt
     (tt, ((tt, ((tt, tt, tt), (tt, (tt, ((omega arith, tt), (tt, tt)))))), (tt, tt)))
 
-g_spelled : (r : List Terminal) → Declares g_tree (g_words r) (sign mark.Semicolon ∷ r)
+g_spelled : (r : List Terminal) → SpellsDeclaration g_tree (g_words r) (sign mark.Semicolon ∷ r)
 g_spelled r =
     process_spelled (codes "g")
     (group (taking.Channel direction.In kind.Integer) (codes "U" ∷ []) ∷ group (taking.Channel direction.Out kind.Integer) (codes "V" ∷ codes "W" ∷ []) ∷ [])
@@ -110,7 +110,7 @@ g_spelled r =
     (sign mark.Semicolon ∷ r) (tt, (tt, tt)) (tt, (tt, tt)) tt
     (tt, ((tt, (tt, ((tt, tt, tt, tt), ((omega arith, tt), (tt, tt))))), (tt, tt)))
 
-h_spelled : (r : List Terminal) → Declares h_tree (h_words r) (sign mark.Semicolon ∷ r)
+h_spelled : (r : List Terminal) → SpellsDeclaration h_tree (h_words r) (sign mark.Semicolon ∷ r)
 h_spelled r =
     process_spelled (codes "h")
     (group (taking.Channel direction.In kind.Integer) (codes "U" ∷ []) ∷ group (taking.Channel direction.Out kind.Integer) (codes "V" ∷ []) ∷ group (taking.Value kind.Integer) (codes "INIT" ∷ []) ∷ [])

@@ -1,5 +1,5 @@
 -- Where a text may be cut: behind blanks, comments and lexemes.
-use Rattle.kahn_syntax.proofs.Common.{◌≡◌, ℕ, suc, ◌+◌, ◌-◌, ◌≤◌, ◌<◌, ◌⊎◌, ◌++◌, List, [], ◌∷◌, length, get_or, drop, refl, sym, ap, subst, ◌∙◌, arith, inl, inr, add-one, IsUtf8, IsCharBoundary, All, drop-cons, get_or_past, IsUtf8-drop, IsCharBoundary-after_ascii, IsCharBoundary-past_char, nat_tests, All-nil, All-cons, Lexeme, Class, Sign, Becomes, Unequal, AtMost, AtLeast, Not, IsBlank, IsLetter, IsWordByte, IsWord, IsRun, IsSign, IsOfClass, IsSlice, Stands, Gap, no_gap, then_blank, then_comment, Lexed, Number, SignClass}
+use Rattle.kahn_syntax.proofs.Common.{◌≡◌, ℕ, suc, ◌+◌, ◌-◌, ◌≤◌, ◌<◌, ◌⊎◌, ◌++◌, List, [], ◌∷◌, length, get_or, drop, refl, sym, ap, subst, ◌∙◌, arith, inl, inr, add-one, IsUtf8, IsCharBoundary, All, drop-cons, get_or_past, IsUtf8-drop, IsCharBoundary-after_ascii, IsCharBoundary-past_char, nat_tests, All-nil, All-cons, Lexeme, Class, Sign, Becomes, Unequal, AtMost, AtLeast, Not, IsBlank, IsLetter, IsWordByte, IsWord, IsRun, IsSign, IsOfClass, IsSlice, IsLexemeAt, Gap, no_gap, then_blank, then_comment, Lexed, Number, SignClass}
 use Rattle.std.proofs.Math.Utf8.{encode}
 use Rattle.kahn_syntax.proofs.OneList.{form_grows}
 
@@ -65,7 +65,7 @@ class_cut text (SignClass s) a b utf8 cut inside h = sign_cut text s a b utf8 cu
 class_cut text _ a b utf8 cut inside h = word_cut text a b utf8 inside h.0
 
 -- behind a lexeme
-pub lexeme_cut : (text : List ℕ) (x : Lexeme) → IsUtf8 text → IsCharBoundary text x.span.from → Stands text x → IsCharBoundary text x.span.to
+pub lexeme_cut : (text : List ℕ) (x : Lexeme) → IsUtf8 text → IsCharBoundary text x.span.from → IsLexemeAt text x → IsCharBoundary text x.span.to
 lexeme_cut text x utf8 cut stands = class_cut text x.what x.span.from x.span.to utf8 cut stands.longest.inside stands.class
 
 blank_ascii : (b : ℕ) → IsBlank b → (0 < b) × (b < 128)

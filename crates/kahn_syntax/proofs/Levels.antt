@@ -1,5 +1,5 @@
 -- Operators of one level with their operands, read one after another.
-use Rattle.kahn_syntax.proofs.Common.{◌≡◌, ℕ, ◌+◌, ◌≤◌, ◌<◌, ◌≢◌, max, List, [], ◌∷◌, ◌++◌, refl, sym, ap, ◌∙◌, subst, arith, Operand, Level, Or, Sum, Term, Operator, Terminal, at, tighter, rung_of, ExpressionTree, level, OperandTrees, no_operand, operand, expression_words, operands_words, expression_nesting, operands_nesting, rank, FormedOperands, expression_of, operands_of, Fits, joined}
+use Rattle.kahn_syntax.proofs.Common.{◌≡◌, ℕ, ◌+◌, ◌≤◌, ◌<◌, ◌≢◌, max, List, [], ◌∷◌, ◌++◌, refl, sym, ap, ◌∙◌, subst, arith, Operand, Level, Or, Sum, Term, Operator, Terminal, at, tighter, rung_of, ExpressionTree, level, OperandTrees, no_operand, operand, expression_words, operands_words, expression_nesting, operands_nesting, rank, FormedOperands, expression_of, operands_of, FitsLevel, level_or_first}
 use Rattle.kahn_syntax.specs.declared.parser.operator.Level.TheVariants.{And}
 
 -- how many functions are called below an operand of this level before a lexeme is read
@@ -22,43 +22,43 @@ operands_nesting_next d first os os' o e a b =
     let c = operands_nesting_more os o m (omega arith) (omega arith) in
     omega (arith, c, ap (λ x. operands_nesting (operands_of x)) e)
 
-formed_more : (n : ℕ) (os : List Operand) (o : Operand) → FormedOperands n (operands_of os) → rank o.operator ≡ n → Fits (n + 1) (expression_of o.expression) →
+formed_more : (n : ℕ) (os : List Operand) (o : Operand) → FormedOperands n (operands_of os) → rank o.operator ≡ n → FitsLevel (n + 1) (expression_of o.expression) →
     FormedOperands n (operands_of (os ++ o ∷ []))
 formed_more n [] o h r f = (r, omega (arith, f.0), f.1, tt)
 formed_more n (u ∷ os) o h r f = (h.0, h.1, h.2, formed_more n os o h.3 r f)
 
-tight : (v : Level) (e : ExpressionTree) → Fits (at (tighter (rung_of v))) e → Fits (at (rung_of v) + 1) e
+tight : (v : Level) (e : ExpressionTree) → FitsLevel (at (tighter (rung_of v))) e → FitsLevel (at (rung_of v) + 1) e
 tight Or e f = f
 tight _ e f = f
 
 pub formed_next : (v : Level) (os os' : List Operand) (o : Operand) → os' ≡ os ++ o ∷ [] → FormedOperands (at (rung_of v)) (operands_of os) → rank o.operator ≡ at (rung_of v) →
-    Fits (at (tighter (rung_of v))) (expression_of o.expression) → FormedOperands (at (rung_of v)) (operands_of os')
+    FitsLevel (at (tighter (rung_of v))) (expression_of o.expression) → FormedOperands (at (rung_of v)) (operands_of os')
 formed_next v os os' o e h r f = rw e (formed_more (at (rung_of v)) os o h r (tight v _ f))
 
-joined_some : (e : ExpressionTree) (os : List Operand) → os ≢ [] → level e (operands_of os) ≡ joined e (operands_of os)
+joined_some : (e : ExpressionTree) (os : List Operand) → os ≢ [] → level e (operands_of os) ≡ level_or_first e (operands_of os)
 joined_some e [] h = absurd (h refl)
 joined_some e (o ∷ os) h = refl
 
-pub joined_made : (e : ExpressionTree) (os : List Operand) (row : OperandTrees) → row ≡ operands_of os → os ≢ [] → level e row ≡ joined e (operands_of os)
+pub joined_made : (e : ExpressionTree) (os : List Operand) (row : OperandTrees) → row ≡ operands_of os → os ≢ [] → level e row ≡ level_or_first e (operands_of os)
 joined_made e os row p h = ap (level e) p ∙ joined_some e os h
 
-pub joined_words : (e : ExpressionTree) (os : OperandTrees) (r : List Terminal) → expression_words (joined e os) r ≡ expression_words e (operands_words os r)
+pub joined_words : (e : ExpressionTree) (os : OperandTrees) (r : List Terminal) → expression_words (level_or_first e os) r ≡ expression_words e (operands_words os r)
 joined_words e no_operand r = refl
 joined_words e (operand o f os) r = refl
 
-pub joined_nesting : (e : ExpressionTree) (os : OperandTrees) → expression_nesting (joined e os) ≤ max (expression_nesting e) (operands_nesting os)
+pub joined_nesting : (e : ExpressionTree) (os : OperandTrees) → expression_nesting (level_or_first e os) ≤ max (expression_nesting e) (operands_nesting os)
 joined_nesting e no_operand = omega arith
 joined_nesting e (operand o f os) = omega arith
 
-joined_fits : (n : ℕ) (e : ExpressionTree) (os : OperandTrees) → n ≢ 4 → 0 < n → Fits (n + 1) e → FormedOperands n os → Fits n (joined e os)
+joined_fits : (n : ℕ) (e : ExpressionTree) (os : OperandTrees) → n ≢ 4 → 0 < n → FitsLevel (n + 1) e → FormedOperands n os → FitsLevel n (level_or_first e os)
 joined_fits n e no_operand a b f h = (omega (arith, f.0), f.1)
 joined_fits n e (operand o g os) a b f h =
     (omega (arith, h.0), (omega (arith, h.0, f.0), f.1, omega (arith, h.0), subst (λ k. FormedOperands k (operand o g os)) (sym h.0) h, λ four. absurd (a (sym h.0 ∙ four))))
 
-pub level_fits : (v : Level) (e : ExpressionTree) (os : OperandTrees) → Fits (at (tighter (rung_of v))) e → FormedOperands (at (rung_of v)) os → Fits (at (rung_of v)) (joined e os)
+pub level_fits : (v : Level) (e : ExpressionTree) (os : OperandTrees) → FitsLevel (at (tighter (rung_of v))) e → FormedOperands (at (rung_of v)) os → FitsLevel (at (rung_of v)) (level_or_first e os)
 level_fits Or e os f h = joined_fits 1 e os (λ x. cc) (omega arith) f h
 level_fits v e os f h = joined_fits (at (rung_of v)) e os (λ x. cc) (omega arith) f h
 
-pub compared_fits : (o : Operator) (e f : ExpressionTree) → rank o ≡ 4 → Fits 5 e → Fits 5 f → Fits 4 (level e (operand o f no_operand))
+pub compared_fits : (o : Operator) (e f : ExpressionTree) → rank o ≡ 4 → FitsLevel 5 e → FitsLevel 5 f → FitsLevel 4 (level e (operand o f no_operand))
 compared_fits o e f r g h =
     (omega (arith, r), (omega (arith, r, g.0), g.1, omega (arith, r), (refl, omega (arith, r, h.0), h.1, tt), λ four. tt))

@@ -1,5 +1,5 @@
 -- What the fate of a list says of trees.
-use Rattle.kahn_syntax.proofs.Common.{◌≡◌, ℕ, ◌+◌, ◌≤◌, ◌<◌, List, [], ◌∷◌, ◌++◌, length, Bool, true, false, refl, sym, ap, ◌∙◌, subst, arith, ⊎_elim, append_assoc, Lexeme, Span, Stop, Refused, TooDeep, NoMemory, Terminal, terminal, terminals, ProgramTree, program, Spells, MaybeSemicolon, nesting, IsWhole, Begins, BeginsWithin, IsNothing, IsOther, IsTooDeep, StandsAt, Placed, ProgramPart, Fate, Refuses, TooFar, fate, Halts}
+use Rattle.kahn_syntax.proofs.Common.{◌≡◌, ℕ, ◌+◌, ◌≤◌, ◌<◌, List, [], ◌∷◌, ◌++◌, length, Bool, true, false, refl, sym, ap, ◌∙◌, subst, arith, ⊎_elim, append_assoc, Lexeme, Span, Stop, Refused, TooDeep, NoMemory, Terminal, terminal, terminals, ProgramTree, program, Spells, MaybeSemicolon, nesting, IsSentence, Begins, BeginsWithin, IsNothing, IsOther, IsTooDeep, StandsAt, Placed, ProgramPart, Fate, Refuses, TooFar, fate, Halts}
 use Rattle.kahn_syntax.proofs.WholePrograms.{whole_program}
 use Rattle.kahn_syntax.proofs.Viable.{Fits}
 use Rattle.kahn_syntax.proofs.Reached.{Stuck, stuck_at, short_at, Deep, deep_at, refuses_left, far_left, whole_refuses, whole_far, le_or}
@@ -89,7 +89,7 @@ is_too_deep text lexemes span left (before, x, after, e, s, l) h = (
       (split_fate text lexemes before after x (TooFar left) e h ∙ ap TooFar (sym l ∙ ap (λ n. n + 1) (sym (terminals_length text after))))),
 )
 
-pub is_more : (ks : List Terminal) (b : Bool) → Halts ks (Refused b 0) → BeginsWithin ks × ¬ (IsWhole ks)
+pub is_more : (ks : List Terminal) (b : Bool) → Halts ks (Refused b 0) → BeginsWithin ks × ¬ (IsSentence ks)
 is_more ks b h =
     let r = short_at 64 ks (ProgramPart ∷ []) b (omega arith) h in (
       within_of ks r.begins,

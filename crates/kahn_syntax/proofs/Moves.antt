@@ -1,5 +1,5 @@
 -- How the parts that are open go on, over what the parser reads.
-use Rattle.kahn_syntax.proofs.Common.{StopsAs, head_parts, Then, Else, Do, On, End, ElseTail, StatementsTail, ◌≡◌, ◌≢◌, ℕ, ◌+◌, ◌≤◌, ◌<◌, List, [], ◌∷◌, ◌++◌, ◌⊎◌, ⊎_elim, length, true, false, cond, Some, None, Result, Ok, Err, true≢false, refl, sym, ap, ◌∙◌, subst, arith, append_assoc, Span, Class, Lexeme, MatchResult, Expression, Form, Covers, Statement, Stop, Refused, TooDeep, NoMemory, Terminal, word, terminal, terminals, First, Token, takes, leads, class_of, a_kind, a_name, a_number, a_sign, a_word, an_operator, either, rules_of, starts, enters, followed, opening, argument_rules, declaration_rules, other_rules, process_rules, simple_rules, Part, ProgramPart, DeclarationsPart, DeclarationPart, ProcessPart, GroupsPart, GroupPart, VariablesPart, InstancePart, ArgumentsPart, ArgumentPart, ExpressionPart, OperatorsPart, StatementPart, SimplePart, GroupsTail, ArgumentsTail, TokenPart, LevelPart, levels, step, Refuses, TooFar, fate, Operator, Level, Or, operator_terminal, rank, Rung, whole, ors, denials, relations, sums, at, tighter, rung_of, Kind, kind_terminal, IsAbsent, Reads, Moves, Stops, Halts, ExpressionRead, StatementRead, Begin, Close, If, Integer, Logical, NameClass, Not, NotWord, Process, Semicolon, SignClass, Word}
+use Rattle.kahn_syntax.proofs.Common.{StopsAs, head_parts, Then, Else, Do, On, End, ElseTail, StatementsTail, ◌≡◌, ◌≢◌, ℕ, ◌+◌, ◌≤◌, ◌<◌, List, [], ◌∷◌, ◌++◌, ◌⊎◌, ⊎_elim, length, true, false, cond, Some, None, Result, Ok, Err, true≢false, refl, sym, ap, ◌∙◌, subst, arith, append_assoc, Span, Class, Lexeme, MatchResult, Expression, Form, Covers, Statement, Stop, Refused, TooDeep, NoMemory, Terminal, word, terminal, terminals, First, Token, accepts, leads, class_of, a_kind, a_name, a_number, a_sign, a_word, an_operator, either, rules_of, starts, enters, followed, opened_by, argument_rules, declaration_rules, other_rules, process_rules, simple_rules, Part, ProgramPart, DeclarationsPart, DeclarationPart, ProcessPart, GroupsPart, GroupPart, VariablesPart, InstancePart, ArgumentsPart, ArgumentPart, ExpressionPart, OperatorsPart, StatementPart, SimplePart, GroupsTail, ArgumentsTail, TokenPart, LevelPart, levels, step, Refuses, TooFar, fate, Operator, Level, Or, operator_terminal, rank, Rung, whole, ors, denials, relations, sums, at, tighter, rung_of, Kind, kind_terminal, IsAbsent, Reads, Moves, Stops, Halts, ExpressionRead, StatementRead, Begin, Close, If, Integer, Logical, NameClass, Not, NotWord, Process, Semicolon, SignClass, Word}
 use Rattle.kahn_syntax.proofs.WholePrograms.{take_kind, skip_variables}
 use Rattle.kahn_syntax.proofs.Steps.{go, runs, part, skips, refuses, passes, passes_one, follows, follows_some, starts_one, starts_followed, skip_level, skip_tail, take_token, IsChain, IsOther, open_chain, open_whole, open_denial, take_comparison, take_operator}
 use Rattle.kahn_syntax.proofs.Reached.{go_far}
@@ -55,7 +55,7 @@ deep text d p qs rs k i j x b f e q =
     subst (Stops text d (p ∷ qs) i) (sym q)
     (λ s l. ap (fate 64 (p ∷ qs ++ s)) e ∙ (go_far 64 (p ∷ qs ++ s) (rs ++ s) k (terminals text j) (f s) (b s l) ∙ ap TooFar n))
 
-pub token : (text : List ℕ) (d : ℕ) (t : Token) (qs : List Part) (k : Terminal) (i j : List Lexeme) → Bound d qs → takes t k ≡ true →
+pub token : (text : List ℕ) (d : ℕ) (t : Token) (qs : List Part) (k : Terminal) (i j : List Lexeme) → Bound d qs → accepts t k ≡ true →
     terminals text i ≡ k ∷ terminals text j → Moves text d (TokenPart t ∷ qs) qs i j
 token text d t qs k i j b h e = record { fates = λ s l. ap (fate 64 (TokenPart t ∷ qs ++ s)) e ∙ take_token t 64 (qs ++ s) k (terminals text j) h (b s l) }
 
@@ -63,13 +63,13 @@ some_is : (c e : Class) → Some c ≡ Some e → c ≡ e
 some_is c e p = cc
 
 -- a lexeme of the token's class is the token
-class_takes : (t : Token) (c : Class) (text : List ℕ) (at : Span) → class_of t ≡ Some c → takes t (terminal text c at) ≡ true
+class_takes : (t : Token) (c : Class) (text : List ℕ) (at : Span) → class_of t ≡ Some c → accepts t (terminal text c at) ≡ true
 class_takes (a_word NotWord) c text at e = absurd cc
 class_takes (either v w) c text at e = absurd cc
 class_takes (a_sign Not) c text at e = absurd cc
 class_takes a_number c text at e = absurd cc
 class_takes (an_operator o) c text at e = absurd cc
-class_takes t c text at e = subst (λ x. takes t (terminal text x at) ≡ true) (some_is _ c e) refl
+class_takes t c text at e = subst (λ x. accepts t (terminal text x at) ≡ true) (some_is _ c e) refl
 
 -- an awaited lexeme
 pub expected : (text : List ℕ) (d : ℕ) (t : Token) (qs : List Part) (c : Class) (i j : List Lexeme) → Bound d qs → class_of t ≡ Some c → First c i j →
@@ -84,8 +84,8 @@ IsTail p t ps = rules_of p ≡ (true, (t, ps) ∷ [])
 pub goes : (text : List ℕ) (d : ℕ) (p : Part) (t : Token) (ps qs : List Part) (c : Class) (i j : List Lexeme) → Bound d (ps ++ qs) → IsTail p t ps → class_of t ≡ Some c → First c i j →
     Moves text d (p ∷ qs) (ps ++ qs) i j
 goes text d p t ps qs c i j b e h f = one text d p qs (ps ++ qs) (terminal text c f.0) i j b
-    (λ s. ap (λ x. opening (qs ++ s) (cond x.0 (step (qs ++ s) (terminal text c f.0)) None) (enters x.1 (terminal text c f.0))) e
-    ∙ (ap (λ y. opening (qs ++ s) (step (qs ++ s) (terminal text c f.0)) (cond y (Some ps) None)) (class_takes t c text f.0 h) ∙ ap Some (sym (append_assoc ps qs s)))) (f.1 text)
+    (λ s. ap (λ x. opened_by (qs ++ s) (cond x.0 (step (qs ++ s) (terminal text c f.0)) None) (enters x.1 (terminal text c f.0))) e
+    ∙ (ap (λ y. opened_by (qs ++ s) (step (qs ++ s) (terminal text c f.0)) (cond y (Some ps) None)) (class_takes t c text f.0 h) ∙ ap Some (sym (append_assoc ps qs s)))) (f.1 text)
 
 -- a tail that ends
 pub ends : (text : List ℕ) (d : ℕ) (p : Part) (t : Token) (ps qs : List Part) (c : Class) (i : List Lexeme) → IsTail p t ps → class_of t ≡ Some c → IsAbsent c i → Moves text d (p ∷ qs) qs i i

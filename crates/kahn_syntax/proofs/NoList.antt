@@ -1,5 +1,5 @@
 -- A text with a fault has no list of lexemes.
-use Rattle.kahn_syntax.proofs.Common.{◌≡◌, ℕ, ◌+◌, ◌-◌, ◌≤◌, ◌<◌, List, length, get_or, sym, ap, subst, ◌∙◌, arith, length-map, codes, slice_range, to_ascii_lowercase, digits_value, SyntaxFault, TooLong, BadCharacter, NumberTooLarge, CommentOpen, NameTooLong, Expected, Lexeme, Class, Word, Number, IsBlank, IsWord, IsRun, HasForm, IsLongest, IsSpelled, IsCommentWord, IsOfClass, Stands, Closes, IsComment, Lexed, largest_number, letters_of, IsFaultAt}
+use Rattle.kahn_syntax.proofs.Common.{◌≡◌, ℕ, ◌+◌, ◌-◌, ◌≤◌, ◌<◌, List, length, get_or, sym, ap, subst, ◌∙◌, arith, length-map, codes, slice_range, to_ascii_lowercase, digits_value, SyntaxFault, TooLong, BadCharacter, NumberTooLarge, CommentOpen, NameTooLong, Expected, Lexeme, Class, Word, Number, IsBlank, IsWord, IsRun, HasForm, IsLongest, IsSpelled, IsCommentWord, IsOfClass, IsLexemeAt, Closes, IsComment, Lexed, largest_number, letters_of, IsFaultAt}
 use Rattle.kahn_syntax.specs.declared.fault.SyntaxFault.TheVariants.{TooDeep, NoMemory}
 use Rattle.kahn_syntax.specs.declared.lexeme.Class.TheVariants.{Name, Sign}
 use Rattle.kahn_syntax.proofs.Keywords.{keyword_short}
@@ -19,7 +19,7 @@ along text n a c _ _ h (then {b = b} {xs = xs} {ys = ys} i v) (then {b = d} {xs 
 
 -- nothing is read on from a place where neither a blank nor a comment nor a lexeme stands
 stops : (text : List ℕ) (n a : ℕ) (zs : List Lexeme) → a < n → (IsBlank (get_or text a 0) → ⊥) → ((m : ℕ) → IsComment text a m → ⊥)
-    → ((x : Lexeme) → x.span.from ≡ a → Stands text x → ⊥) → Walk text n a zs → ⊥
+    → ((x : Lexeme) → x.span.from ≡ a → IsLexemeAt text x → ⊥) → Walk text n a zs → ⊥
 stops text n a _ h b c l (ends e) = absurd (omega arith)
 stops text n a _ h b c l (then (blank dark) w) = b dark
 stops text n a _ h b c l (then (comment {m = m} k) w) = c m k

@@ -1,5 +1,5 @@
 -- A text has one list of lexemes.
-use Rattle.kahn_syntax.proofs.Common.{◌≡◌, ℕ, ◌+◌, ◌≤◌, ◌<◌, ◌⊎◌, ◌++◌, List, [], ◌∷◌, get_or, refl, sym, ap, subst, ◌∙◌, arith, inl, inr, nat_tests, Lexeme, Class, Word, Number, IsBlank, IsRun, HasForm, IsLongest, IsCommentWord, IsOfClass, Stands, Closes, IsComment, Gap, no_gap, then_blank, then_comment, Lexed}
+use Rattle.kahn_syntax.proofs.Common.{◌≡◌, ℕ, ◌+◌, ◌≤◌, ◌<◌, ◌⊎◌, ◌++◌, List, [], ◌∷◌, get_or, refl, sym, ap, subst, ◌∙◌, arith, inl, inr, nat_tests, Lexeme, Class, Word, Number, IsBlank, IsRun, HasForm, IsLongest, IsCommentWord, IsOfClass, IsLexemeAt, Closes, IsComment, Gap, no_gap, then_blank, then_comment, Lexed}
 use Rattle.kahn_syntax.specs.declared.lexeme.Class.TheVariants.{Name, Sign}
 use Rattle.kahn_syntax.proofs.Keywords.{same_keyword, not_comment}
 use Rattle.kahn_syntax.proofs.Signs.{sign_begins, same_sign, sign_letter, sign_digit, sign_blank, letter_digit, letter_blank, digit_blank}
@@ -81,7 +81,7 @@ comment_dark text a b c blank = form_dark text a c.0 c.1.form blank
 pub data Item (text : List ℕ) (a : ℕ) : ℕ → List Lexeme → Type 0 where
   blank : IsBlank (get_or text a 0) → Item text a (a + 1) []
   comment : {m : ℕ} → IsComment text a m → Item text a m []
-  lexeme : (x : Lexeme) → x.span.from ≡ a → Stands text x → Item text a x.span.to (x ∷ [])
+  lexeme : (x : Lexeme) → x.span.from ≡ a → IsLexemeAt text x → Item text a x.span.to (x ∷ [])
 
 -- what stands from a place to the end, read from the left
 pub data Walk (text : List ℕ) (n : ℕ) : ℕ → List Lexeme → Type 0 where
@@ -112,7 +112,7 @@ walk_le text n a _ (then {b = b} {xs = xs} {ys = ys} i w) = omega (arith, item_g
 pub walk_end : {X : Type 0} (text : List ℕ) (n a b : ℕ) (xs ys : List Lexeme) → n ≤ a → Item text a b xs → Walk text n b ys → X
 walk_end text n a b xs ys e i w = absurd (omega (arith, item_grows text a b xs i, walk_le text n b ys w))
 
-pub same_lexeme : (text : List ℕ) (a : ℕ) (x y : Lexeme) → x.span.from ≡ a → y.span.from ≡ a → Stands text x → Stands text y → x ≡ y
+pub same_lexeme : (text : List ℕ) (a : ℕ) (x y : Lexeme) → x.span.from ≡ a → y.span.from ≡ a → IsLexemeAt text x → IsLexemeAt text y → x ≡ y
 same_lexeme text a x y e f p q =
     let from : x.span.from ≡ y.span.from = e ∙ sym f in
     let to : x.span.to ≡ y.span.to =
@@ -122,10 +122,10 @@ same_lexeme text a x y e f p q =
     let what : x.what ≡ y.what = same_class text y.span.from y.span.to _ _ here q.class in
     λ i. record { span = record { from = from i; to = to i }; what = what i }
 
-pub lexeme_dark : (text : List ℕ) (a : ℕ) (x : Lexeme) → x.span.from ≡ a → Stands text x → IsBlank (get_or text a 0) → ⊥
+pub lexeme_dark : (text : List ℕ) (a : ℕ) (x : Lexeme) → x.span.from ≡ a → IsLexemeAt text x → IsBlank (get_or text a 0) → ⊥
 lexeme_dark text a x e p dark = form_dark text x.span.from x.span.to p.longest.form (subst (λ (m : ℕ). IsBlank (get_or text m 0)) (sym e) dark)
 
-pub lexeme_comment : (text : List ℕ) (a m : ℕ) (x : Lexeme) → x.span.from ≡ a → Stands text x → IsComment text a m → ⊥
+pub lexeme_comment : (text : List ℕ) (a m : ℕ) (x : Lexeme) → x.span.from ≡ a → IsLexemeAt text x → IsComment text a m → ⊥
 lexeme_comment text a m x e p c =
     let long : IsLongest text a x.span.to = subst (λ (k : ℕ). IsLongest text k x.span.to) e p.longest in
     let to : x.span.to ≡ c.0 = same_end text a x.span.to c.0 long c.1 in

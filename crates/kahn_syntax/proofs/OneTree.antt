@@ -1,5 +1,5 @@
 -- No two trees spell one list: declarations, instances and programs.
-use Rattle.kahn_syntax.proofs.Common.{◌≡◌, ℕ, List, [], ◌∷◌, true, false, ⊎_elim, refl, sym, ap, ◌∙◌, subst, true≢false, Token, a_kind, takes, leads, AreAny, Further, Grouped, group, all_members, AreGroups, Kind, Role, Taking, Terminal, word, sign, name, empty, StatementTrees, no_statement, statement, statements_words, AreSome, ParameterTree, VariableTree, DeclarationTree, channels, process, ArgumentTree, channel, InstanceTree, instance, ProgramTree, program, kind_terminal, role_words, taking_words, names_words, further_names_words, group_words, groups_words, further_groups_words, Parameters, togethers_words, Variables, Declares, Declarations, Argues, Arguments, Instantiates, Instances, MaybeSemicolon, Spells, StandsFirst, parameter, a_sign, a_word, Begin, Channel, Close, Comma, End, Integer, Logical, Open, Par, Process, Semicolon}
+use Rattle.kahn_syntax.proofs.Common.{◌≡◌, ℕ, List, [], ◌∷◌, true, false, ⊎_elim, refl, sym, ap, ◌∙◌, subst, true≢false, Token, a_kind, accepts, leads, AreAny, Further, Grouped, group, all_members, AreGroups, Kind, Role, Taking, Terminal, word, sign, name, empty, StatementTrees, no_statement, statement, statements_words, AreSome, ParameterTree, VariableTree, DeclarationTree, channels, process, ArgumentTree, channel, InstanceTree, instance, ProgramTree, program, kind_terminal, role_words, taking_words, names_words, further_names_words, group_words, groups_words, further_groups_words, Parameters, togethers_words, Variables, SpellsDeclaration, Declarations, Argues, Arguments, Instantiates, Instances, MaybeSemicolon, Spells, StandsFirst, parameter, a_sign, a_word, Begin, Channel, Close, Comma, End, Integer, Logical, Open, Par, Process, Semicolon}
 use Rattle.kahn_tree.specs.declared.tree.Kind.TheVariants as kind
 use Rattle.kahn_tree.specs.declared.tree.Role.TheVariants as role
 use Rattle.kahn_tree.specs.declared.tree.Direction.TheVariants as direction
@@ -9,7 +9,7 @@ use Rattle.kahn_syntax.proofs.Unique.{tail_is}
 use Rattle.kahn_syntax.proofs.Blocks.{same_statements}
 
 -- what leads on stands there
-no_lead : (t : Token) (k : Terminal) (r x : List Terminal) → takes t k ≡ true → leads t r ≡ false → r ≡ k ∷ x → ⊥
+no_lead : (t : Token) (k : Terminal) (r x : List Terminal) → accepts t k ≡ true → leads t r ≡ false → r ≡ k ∷ x → ⊥
 no_lead t k r x u h e = true≢false (sym u ∙ (ap (leads t) (sym e) ∙ h))
 
 same_further_names : (ns ms : List (List ℕ)) (r q : List Terminal) → leads (a_sign Comma) r ≡ false → leads (a_sign Comma) q ≡ false → further_names_words ns r ≡ further_names_words ms q → (ns ≡ ms) × (r ≡ q)
@@ -112,7 +112,7 @@ kind_process : (k : Kind) (x y : List Terminal) → word Process ∷ x ≡ kind_
 kind_process kind.Integer x y e = cc
 kind_process kind.Logical x y e = cc
 
-same_declares : (d c : DeclarationTree) (ks r q : List Terminal) → leads (a_sign Comma) r ≡ false → leads (a_sign Comma) q ≡ false → Declares d ks r → Declares c ks q → (d ≡ c) × (r ≡ q)
+same_declares : (d c : DeclarationTree) (ks r q : List Terminal) → leads (a_sign Comma) r ≡ false → leads (a_sign Comma) q ≡ false → SpellsDeclaration d ks r → SpellsDeclaration c ks q → (d ≡ c) × (r ≡ q)
 same_declares (channels k o ns) (channels l p ms) ks r q x y (a, e) (b, f) =
     let both = sym e ∙ f in
     let s = same_kind k l _ _ both in
@@ -135,7 +135,7 @@ abbrev pub Named : List Terminal → Type 0
 Named (name n ∷ r) = Unit {0}
 Named _ = ⊥
 
-named_declares : (d : DeclarationTree) (ks r : List Terminal) → Named ks → Declares d ks r → ⊥
+named_declares : (d : DeclarationTree) (ks r : List Terminal) → Named ks → SpellsDeclaration d ks r → ⊥
 named_declares (channels kind.Integer o ns) ks r h (a, e) = let f : Named (word Integer ∷ role_words o (word Channel ∷ names_words ns r)) = subst Named e h in f
 named_declares (channels kind.Logical o ns) ks r h (a, e) = let f : Named (word Logical ∷ role_words o (word Channel ∷ names_words ns r)) = subst Named e h in f
 named_declares (process n ps vs body) ks r h (a, b, e, p, v, s, g) = let f : Named (word Process ∷ name n ∷ sign Open ∷ a) = subst Named e h in f
@@ -163,7 +163,7 @@ same_argues _ (truth true) ks r q e f = absurd cc
 same_argues (truth true) _ ks r q e f = absurd cc
 same_argues _ _ ks r q e f = absurd cc
 
-same_further : {X : Type 0} (t : Token) (k : Terminal) (P : X → List Terminal → List Terminal → Type 0) → takes t k ≡ true
+same_further : {X : Type 0} (t : Token) (k : Terminal) (P : X → List Terminal → List Terminal → Type 0) → accepts t k ≡ true
     → ((x y : X) (ks r q : List Terminal) → P x ks r → P y ks q → (x ≡ y) × (r ≡ q)) → (xs ys : List X) (ks r q : List Terminal) → leads t r ≡ false → leads t q ≡ false
     → Further (StandsFirst k) P xs ks r → Further (StandsFirst k) P ys ks q → (xs ≡ ys) × (r ≡ q)
 same_further t k P u one [] [] ks r q x y e f = (refl, sym e ∙ f)

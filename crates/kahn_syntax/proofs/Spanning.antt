@@ -1,6 +1,6 @@
 -- Parts of a tree that are read one after another, and the lexemes that they take.
 use Rattle.std.proofs.Common.{append-nil}
-use Rattle.kahn_syntax.proofs.Common.{◌≡◌, ℕ, List, [], ◌∷◌, ◌++◌, length, refl, sym, ap, ◌∙◌, subst, append_assoc, arith, get_or, take, drop, ◌-◌, ◌≤◌, Further, Between, SomeBetween, Grouped, group, members_of, all_members, Lexeme, Name, Operand, Statement, Kind, Taking, Parameter, Variable, Declaration, Argument, Terminal, terminal, terminals, sign, name, operator_terminal, kind_terminal, name_of, IsPast, Takes, Covers, NameSpans, ExpressionSpans, OperandsSpan, StatementSpans, GroupSpans, GroupsSpan, ParametersSpan, kind_of, DirectionSpans, TogetherSpans, TogethersSpan, VariablesSpan, DeclarationSpans, DeclarationsSpan, ArgumentSpans, parameter_of, variable_of, NamesSpan, Comma, Semicolon}
+use Rattle.kahn_syntax.proofs.Common.{◌≡◌, ℕ, List, [], ◌∷◌, ◌++◌, length, refl, sym, ap, ◌∙◌, subst, append_assoc, arith, get_or, take, drop, ◌-◌, ◌≤◌, Further, Between, SomeBetween, Grouped, group, members_of, all_members, Lexeme, Name, Operand, Statement, Kind, Taking, Parameter, Variable, Declaration, Argument, Terminal, terminal, terminals, sign, name, operator_terminal, kind_terminal, name_of, IsPast, Takes, Covers, NameSpans, ExpressionSpans, OperandsSpan, StatementSpans, GroupSpans, GroupsSpan, ParametersSpan, taking_kind, DirectionSpans, TogetherSpans, TogethersSpan, VariablesSpan, DeclarationSpans, DeclarationsSpan, ArgumentSpans, parameter_with, variable_with, NamesSpan, Comma, Semicolon}
 use Rattle.kahn_syntax.proofs.Lists.{next_list}
 
 -- one lexeme has its own span
@@ -59,7 +59,7 @@ SomeStatements text ss xs r = SomeBetween (Takes text (sign Semicolon)) (Stateme
 abbrev pub SomeArgumentsSpan : List ℕ → List Argument → List Lexeme → List Lexeme → Type 0
 SomeArgumentsSpan text us xs r = SomeBetween (Takes text (sign Comma)) (ArgumentSpans text) us xs r
 
-pub group_spans : (text : List ℕ) (t : Taking) (k : Kind) (ns : List Name) (xs a b r : List Lexeme) → kind_of t ≡ k → Takes text (kind_terminal k) xs a →
+pub group_spans : (text : List ℕ) (t : Taking) (k : Kind) (ns : List Name) (xs a b r : List Lexeme) → taking_kind t ≡ k → Takes text (kind_terminal k) xs a →
     DirectionSpans text t a b → NamesSpan text ns b r → GroupSpans text (group t ns) xs r
 group_spans text t k ns xs a b r e p d n = (a, b, subst (λ y. Takes text (kind_terminal y) xs a) (sym e) p, d, n)
 
@@ -70,21 +70,21 @@ all_members_more make (u ∷ gs) g =
 
 -- one group or more
 abbrev pub SomeParametersSpan : List ℕ → List Parameter → List Lexeme → List Lexeme → Type 0
-SomeParametersSpan text ps xs r = (g : Grouped Taking Name) × (gs : List (Grouped Taking Name)) × (ps ≡ all_members parameter_of (g ∷ gs)) × GroupsSpan text (g ∷ gs) xs r
+SomeParametersSpan text ps xs r = (g : Grouped Taking Name) × (gs : List (Grouped Taking Name)) × (ps ≡ all_members parameter_with (g ∷ gs)) × GroupsSpan text (g ∷ gs) xs r
 
 pub some_are_parameters : (text : List ℕ) (ps : List Parameter) (xs r : List Lexeme) → SomeParametersSpan text ps xs r → ParametersSpan text ps xs r
 some_are_parameters text ps xs r (g, gs, e, p) = (g ∷ gs, e, p)
 
-pub parameters_first : (text : List ℕ) (ps : List Parameter) (g : Grouped Taking Name) (xs r : List Lexeme) → ps ≡ members_of parameter_of g → GroupSpans text g xs r → SomeParametersSpan text ps xs r
-parameters_first text ps g xs r e p = (g, [], e ∙ sym (append-nil (members_of parameter_of g)), (r, p, refl))
+pub parameters_first : (text : List ℕ) (ps : List Parameter) (g : Grouped Taking Name) (xs r : List Lexeme) → ps ≡ members_of parameter_with g → GroupSpans text g xs r → SomeParametersSpan text ps xs r
+parameters_first text ps g xs r e p = (g, [], e ∙ sym (append-nil (members_of parameter_with g)), (r, p, refl))
 
-pub parameters_next : (text : List ℕ) (ps qs : List Parameter) (g : Grouped Taking Name) (xs m k r : List Lexeme) → qs ≡ ps ++ members_of parameter_of g → SomeParametersSpan text ps xs m →
+pub parameters_next : (text : List ℕ) (ps qs : List Parameter) (g : Grouped Taking Name) (xs m k r : List Lexeme) → qs ≡ ps ++ members_of parameter_with g → SomeParametersSpan text ps xs m →
     Takes text (sign Semicolon) m k → GroupSpans text g k r → SomeParametersSpan text qs xs r
 parameters_next text ps qs g xs m k r q (f, gs, e, (a, p', h)) t p = (
   f,
   gs ++ g ∷ [],
-  q ∙ ap (λ x. x ++ members_of parameter_of g) e ∙ append_assoc (members_of parameter_of f) (all_members parameter_of gs) (members_of parameter_of g)
-      ∙ ap (λ x. members_of parameter_of f ++ x) (sym (all_members_more parameter_of gs g)),
+  q ∙ ap (λ x. x ++ members_of parameter_with g) e ∙ append_assoc (members_of parameter_with f) (all_members parameter_with gs) (members_of parameter_with g)
+      ∙ ap (λ x. members_of parameter_with f ++ x) (sym (all_members_more parameter_with gs g)),
   (a, p', further_more (Takes text (sign Semicolon)) (GroupSpans text) gs g a m k r h t p),
 )
 
@@ -93,11 +93,11 @@ togethers_more : (text : List ℕ) (ts : List (Grouped Kind Name)) (t : Grouped 
 togethers_more text [] t xs m r h p = (r, subst (λ y. TogetherSpans text t y r) (sym h) p, refl)
 togethers_more text (u ∷ ts) t xs m r (a, p', h) p = (a, p', togethers_more text ts t a m r h p)
 
-pub variables_next : (text : List ℕ) (vs ws : List Variable) (k : Kind) (ns : List Name) (xs m a b r : List Lexeme) → ws ≡ vs ++ members_of variable_of (group k ns) →
+pub variables_next : (text : List ℕ) (vs ws : List Variable) (k : Kind) (ns : List Name) (xs m a b r : List Lexeme) → ws ≡ vs ++ members_of variable_with (group k ns) →
     VariablesSpan text vs xs m → Takes text (kind_terminal k) m a → NamesSpan text ns a b → Takes text (sign Semicolon) b r → VariablesSpan text ws xs r
 variables_next text vs ws k ns xs m a b r q (ts, e, h) p n t = (
   ts ++ group k ns ∷ [],
-  q ∙ ap (λ x. x ++ members_of variable_of (group k ns)) e ∙ sym (all_members_more variable_of ts (group k ns)),
+  q ∙ ap (λ x. x ++ members_of variable_with (group k ns)) e ∙ sym (all_members_more variable_with ts (group k ns)),
   togethers_more text ts (group k ns) xs m r h (a, b, p, n, t),
 )
 

@@ -1,5 +1,5 @@
 -- What a tree spells follows from what its parts take.
-use Rattle.kahn_syntax.proofs.Common.{◌≡◌, ℕ, ◌≤◌, List, [], ◌∷◌, ◌++◌, map, inl, inr, refl, ap, subst, ◌∙◌, arith, AreAny, Further, Grouped, group, all_members, IsGroup, AreGroups, map-append, Form, Negate', Not', Bracket', Level', Conditional', Row_of-Operand, end_of-Operand, more_of-Operand, Action, Empty, Assign, Block', If', While', Repeat', Row_of-Statement, end_of-Statement, more_of-Statement, Held-Action-If-2, None', Some', Statement, Name, Kind, Role, Taking, Parameter, OneVariable, Declaration, Argument, Instance, Program, names_words, further_names_words, parameter, channels, process, DeclarationTree, kind_terminal, role_words, taking_words, group_words, further_groups_words, groups_words, Parameters, togethers_words, Variables, Declares, Declarations, Argues, Arguments, Instantiates, Instances, MaybeSemicolon, Spells, declarations_nesting, StandsFirst, IsSound, AreSound, RoleSpans, DirectionSpans, kind_of, GroupSpans, GroupsSpan, ParametersSpan, TogethersSpan, VariablesSpan, DeclarationSpans, DeclarationsSpan, ArgumentSpans, ArgumentsSpan, InstanceSpans, InstancesSpan, MayPart, ProgramSpans, Takes, NamesSpan, FormSpans, OperandRowSpans, ActionSpans, OtherSpans, StatementRowSpans, FurtherRowSpans, StatementsSpan, NameSpans, StatementSpans, Lexeme, Terminal, terminals, word, sign, name, StatementTree, truth_terminal, operator_terminal, expression_words, operands_words, statement_words, statements_words, further_words, name_of, form_of, operands_row, expression_of, action_of, statements_row, chosen_of, statement_of, statements_of, declaration_of, argument_of, instance_of, program_of, Becomes, Begin, Channel, Close, Comma, Do, Else, End, If, In, Input, Minus, NotWord, On, Open, Out, Output, Par, Print, Process, Repeat, Semicolon, Send, Then, Wait, While}
+use Rattle.kahn_syntax.proofs.Common.{◌≡◌, ℕ, ◌≤◌, List, [], ◌∷◌, ◌++◌, map, inl, inr, refl, ap, subst, ◌∙◌, arith, AreAny, Further, Grouped, group, all_members, IsGroup, AreGroups, map-append, Form, Negate', Not', Bracket', Level', Conditional', Row_of-Operand, end_of-Operand, more_of-Operand, Action, Empty, Assign, Block', If', While', Repeat', Row_of-Statement, end_of-Statement, more_of-Statement, Held-Action-If-2, None', Some', Statement, Name, Kind, Role, Taking, Parameter, OneVariable, Declaration, Argument, Instance, Program, names_words, further_names_words, parameter, channels, process, DeclarationTree, kind_terminal, role_words, taking_words, group_words, further_groups_words, groups_words, Parameters, togethers_words, Variables, SpellsDeclaration, Declarations, Argues, Arguments, Instantiates, Instances, MaybeSemicolon, Spells, declarations_nesting, StandsFirst, IsFormed, AreSound, RoleSpans, DirectionSpans, taking_kind, GroupSpans, GroupsSpan, ParametersSpan, TogethersSpan, VariablesSpan, DeclarationSpans, DeclarationsSpan, ArgumentSpans, ArgumentsSpan, InstanceSpans, InstancesSpan, MayPart, ProgramSpans, Takes, NamesSpan, FormSpans, OperandRowSpans, ActionSpans, OtherSpans, StatementRowSpans, FurtherRowSpans, StatementsSpan, NameSpans, StatementSpans, Lexeme, Terminal, terminals, word, sign, name, StatementTree, truth_terminal, operator_terminal, expression_words, operands_words, statement_words, statements_words, further_words, name_of, form_of, operands_row, expression_of, action_of, statements_row, chosen_of, statement_of, statements_of, declaration_of, argument_of, instance_of, program_of, Becomes, Begin, Channel, Close, Comma, Do, Else, End, If, In, Input, Minus, NotWord, On, Open, Out, Output, Par, Print, Process, Repeat, Semicolon, Send, Then, Wait, While}
 use Rattle.kahn_tree.specs.declared.tree.Form.{Number, Logical, Variable, Wait}
 use Rattle.kahn_tree.specs.declared.tree.Action.{Send, Print}
 use Rattle.kahn_tree.specs.declared.tree.Role.TheVariants as role
@@ -103,7 +103,7 @@ pub names_spelled : (text : List ℕ) (ns : List Name) (xs r : List Lexeme) → 
 names_spelled text [] xs r h = absurd h
 names_spelled text (n ∷ ns) xs r (a, p, h) = (tt, taken text (name (name_of n)) xs a _ p.0 (further_names_spelled text ns a r h))
 
-direction_spelled : (text : List ℕ) (t : Taking) (xs a r : List Lexeme) → Takes text (kind_terminal (kind_of t)) xs a → DirectionSpans text t a r →
+direction_spelled : (text : List ℕ) (t : Taking) (xs a r : List Lexeme) → Takes text (kind_terminal (taking_kind t)) xs a → DirectionSpans text t a r →
     terminals text xs ≡ taking_words t (terminals text r)
 direction_spelled text (taking.Channel direction.In k) xs a r t d = taken text (kind_terminal k) xs a _ t (taken text (word In) a r _ d refl)
 direction_spelled text (taking.Channel direction.Out k) xs a r t d = taken text (kind_terminal k) xs a _ t (taken text (word Out) a r _ d refl)
@@ -145,7 +145,7 @@ all_taken make made f e (group a ns ∷ gs) =
 
 parameters_spelled : (text : List ℕ) (ps : List Parameter) (xs r : List Lexeme) → ParametersSpan text ps xs r → Parameters (map parameter_of ps) (terminals text xs) (terminals text r)
 parameters_spelled text ps xs r (gs, e, h) =
-    let q = groups_spelled text gs xs r h in (map group_of gs, q.0, ap (map parameter_of) e ∙ all_taken named.parameter_of parameter parameter_of (λ t n. refl) gs, q.1)
+    let q = groups_spelled text gs xs r h in (map group_of gs, q.0, ap (map parameter_of) e ∙ all_taken named.parameter_with parameter parameter_of (λ t n. refl) gs, q.1)
 
 togethers_spelled : (text : List ℕ) (ts : List (Grouped Kind Name)) (xs r : List Lexeme) → TogethersSpan text ts xs r →
     AreGroups (map group_of ts) × (terminals text xs ≡ togethers_words (map group_of ts) (terminals text r))
@@ -157,15 +157,15 @@ togethers_spelled text (group k ns ∷ ts) xs r (m, (a, b, t, n, u), h) =
 
 variables_spelled : (text : List ℕ) (vs : List OneVariable) (xs r : List Lexeme) → VariablesSpan text vs xs r → Variables (map variable_of vs) (terminals text xs) (terminals text r)
 variables_spelled text vs xs r (ts, e, h) =
-    let q = togethers_spelled text ts xs r h in (map group_of ts, q.0, ap (map variable_of) e ∙ all_taken named.variable_of variable variable_of (λ k n. refl) ts, q.1)
+    let q = togethers_spelled text ts xs r h in (map group_of ts, q.0, ap (map variable_of) e ∙ all_taken named.variable_with variable variable_of (λ k n. refl) ts, q.1)
 
 role_spelled : (text : List ℕ) (o : Role) (xs r : List Lexeme) → RoleSpans text o xs r → terminals text xs ≡ role_words o (terminals text r)
 role_spelled text role.Inner xs r h = ap (terminals text) h
 role_spelled text role.Input xs r h = taken text (word Input) xs r _ h refl
 role_spelled text role.Output xs r h = taken text (word Output) xs r _ h refl
 
-declaration_spelled : (text : List ℕ) (d : Declaration) (xs r : List Lexeme) → IsSound (declaration_of d) → DeclarationSpans text d xs r →
-    Declares (declaration_of d) (terminals text xs) (terminals text r)
+declaration_spelled : (text : List ℕ) (d : Declaration) (xs r : List Lexeme) → IsFormed (declaration_of d) → DeclarationSpans text d xs r →
+    SpellsDeclaration (declaration_of d) (terminals text xs) (terminals text r)
 declaration_spelled text (declared.Channels k o ns) xs r s (a, b, c, t, p, u, n) =
     let h = names_spelled text ns.items c r n in
     (h.0, taken text (kind_terminal k) xs a _ t (role_spelled text o a b p ∙ ap (role_words o) (taken text (word Channel) b c _ u h.1)))
@@ -188,7 +188,7 @@ declarations_spelled : (text : List ℕ) (ds : List Declaration) (xs r : List Le
 declarations_spelled text [] xs r s h = ap (terminals text) h
 declarations_spelled text (d ∷ ds) xs r s (a, b, p, t, h) = (
   terminals text b,
-  subst (Declares (declaration_of d) (terminals text xs)) (taken text (sign Semicolon) a b _ t refl) (declaration_spelled text d xs a s.0 p),
+  subst (SpellsDeclaration (declaration_of d) (terminals text xs)) (taken text (sign Semicolon) a b _ t refl) (declaration_spelled text d xs a s.0 p),
   declarations_spelled text ds b r s.1 h,
 )
 
@@ -251,6 +251,6 @@ sound_nesting [] s = omega arith
 sound_nesting (channels k o ns ∷ ds) s = omega (arith, sound_nesting ds s.1)
 sound_nesting (process n ps vs body ∷ ds) s = omega (arith, s.0.2, sound_nesting ds s.1)
 
-pub sound_more : (ds : List Declaration) (d : Declaration) → AreSound (map declaration_of ds) → IsSound (declaration_of d) → AreSound (map declaration_of (ds ++ d ∷ []))
+pub sound_more : (ds : List Declaration) (d : Declaration) → AreSound (map declaration_of ds) → IsFormed (declaration_of d) → AreSound (map declaration_of (ds ++ d ∷ []))
 sound_more [] d s t = (t, tt)
 sound_more (e ∷ ds) d s t = (s.0, sound_more ds d s.1 t)

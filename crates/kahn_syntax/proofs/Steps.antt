@@ -1,5 +1,5 @@
 -- What single terminals do to what is open.
-use Rattle.kahn_syntax.proofs.Common.{◌≡◌, ◌≢◌, ℕ, ◌+◌, ◌≤◌, ◌==◌, ◌++◌, List, [], ◌∷◌, length, Bool, true, false, true≢false, cond, Option, Some, None, refl, sym, ap, ◌∙◌, append_assoc, arith, nat_le, nat_tests, Operator, Terminal, rank, operator_terminal, Rung, whole, ors, ands, denials, relations, sums, terms, factors, at, tighter, operator_of, rank_or, Token, a_word, an_operator, takes, leads, Part, ExpressionPart, OperatorsPart, TokenPart, LevelPart, Rule, rules_of, expression_rules, relation_rules, or_rules, operator_rules, enters, starts, followed, opening, levels, may_end, step, Refuses, Whole, TooFar, Fate, onward, fate, If, NotWord}
+use Rattle.kahn_syntax.proofs.Common.{◌≡◌, ◌≢◌, ℕ, ◌+◌, ◌≤◌, ◌==◌, ◌++◌, List, [], ◌∷◌, length, Bool, true, false, true≢false, cond, Option, Some, None, refl, sym, ap, ◌∙◌, append_assoc, arith, nat_le, nat_tests, Operator, Terminal, rank, operator_terminal, Rung, whole, ors, ands, denials, relations, sums, terms, factors, at, tighter, operator_of, rank_or, Token, a_word, an_operator, accepts, leads, Part, ExpressionPart, OperatorsPart, TokenPart, LevelPart, Rule, rules_of, expression_rules, relation_rules, or_rules, operator_rules, enters, starts, followed, opened_by, levels, may_end, step, Refuses, Whole, TooFar, Fate, onward, fate, If, NotWord}
 use Rattle.std.specs.Prelude.{is_some}
 use Rattle.kahn_tree.specs.declared.tree.Operator.TheVariants as operator
 use Rattle.kahn_syntax.proofs.Unique.{Ends, is_operator}
@@ -33,7 +33,7 @@ none_of rs k h = by (enters rs k) h
 -- one rule alone
 pub starts_one : (t : Token) (ps : List Part) (r : List Terminal) (b : Bool) → leads t r ≡ b → starts ((t, ps) ∷ []) r ≡ b
 starts_one t ps [] b h = h
-starts_one t ps (k ∷ r) b h = by (takes t k) ∙ h
+starts_one t ps (k ∷ r) b h = by (accepts t k) ∙ h
   where
     by : (c : Bool) → is_some (cond c (Some ps) None) ≡ c
     by true = refl
@@ -42,7 +42,7 @@ starts_one t ps (k ∷ r) b h = by (takes t k) ∙ h
 pub starts_followed : (rs : List Rule) (after : List Part) (r : List Terminal) → starts (followed after rs) r ≡ starts rs r
 starts_followed rs after [] = refl
 starts_followed [] after (k ∷ r) = refl
-starts_followed ((t, ps) ∷ rest) after (k ∷ r) = by (takes t k) (starts_followed rest after (k ∷ r))
+starts_followed ((t, ps) ∷ rest) after (k ∷ r) = by (accepts t k) (starts_followed rest after (k ∷ r))
   where
     by : (b : Bool) → is_some (enters (followed after rest) k) ≡ is_some (enters rest k) → is_some (cond b (Some (ps ++ after)) (enters (followed after rest) k)) ≡ is_some (cond b (Some ps) (enters rest k))
     by true again = refl
@@ -51,7 +51,7 @@ starts_followed ((t, ps) ∷ rest) after (k ∷ r) = by (takes t k) (starts_foll
 -- the fate where a part with these rules is open above others, of which nothing may be there or not
 abbrev pub runs : ℕ → Bool → List Rule → List Part → List Terminal → Fate
 runs m n rs s [] = cond (cond n (may_end s) false) Whole (Refuses false 0)
-runs m n rs s (k ∷ r) = onward m (cond n (may_end s) false) (length r + 1) (λ (u : List Part). fate m u r) (opening s (cond n (step s k) None) (enters rs k))
+runs m n rs s (k ∷ r) = onward m (cond n (may_end s) false) (length r + 1) (λ (u : List Part). fate m u r) (opened_by s (cond n (step s k) None) (enters rs k))
 
 pub part : (p : Part) (m : ℕ) (s : List Part) (r : List Terminal) → fate m (p ∷ s) r ≡ runs m (rules_of p).0 (rules_of p).1 s r
 part p m s [] = refl
@@ -60,23 +60,23 @@ part p m s (k ∷ r) = refl
 -- nothing of it is there
 pub skips : (rs : List Rule) (m : ℕ) (s : List Part) (r : List Terminal) → starts rs r ≡ false → runs m true rs s r ≡ fate m s r
 skips rs m s [] h = refl
-skips rs m s (k ∷ r) h = ap (λ o. onward m (may_end s) (length r + 1) (λ (u : List Part). fate m u r) (opening s (step s k) o)) (none_of rs k h)
+skips rs m s (k ∷ r) h = ap (λ o. onward m (may_end s) (length r + 1) (λ (u : List Part). fate m u r) (opened_by s (step s k) o)) (none_of rs k h)
 
 -- it must be there, and isn't
 pub refuses : (rs : List Rule) (m : ℕ) (s : List Part) (r : List Terminal) → starts rs r ≡ false → runs m false rs s r ≡ Refuses false (length r)
 refuses rs m s [] h = refl
 refuses rs m s (k ∷ r) h =
-    ap (λ o. onward m false (length r + 1) (λ (u : List Part). fate m u r) (opening s None o)) (none_of rs k h) ∙ ap (Refuses false) (omega arith)
+    ap (λ o. onward m false (length r + 1) (λ (u : List Part). fate m u r) (opened_by s None o)) (none_of rs k h) ∙ ap (Refuses false) (omega arith)
 
 -- the first rules aren't those that have the terminal
 pub passes : (front rs : List Rule) (m : ℕ) (n : Bool) (s : List Part) (r : List Terminal) → starts front r ≡ false → runs m n (front ++ rs) s r ≡ runs m n rs s r
 passes front rs m n s [] h = refl
 passes front rs m n s (k ∷ r) h =
-    ap (λ o. onward m (cond n (may_end s) false) (length r + 1) (λ (u : List Part). fate m u r) (opening s (cond n (step s k) None) o)) (later front h)
+    ap (λ o. onward m (cond n (may_end s) false) (length r + 1) (λ (u : List Part). fate m u r) (opened_by s (cond n (step s k) None) o)) (later front h)
   where
     later : (f : List Rule) → is_some (enters f k) ≡ false → enters (f ++ rs) k ≡ enters rs k
     later [] e = refl
-    later ((t, ps) ∷ f) e = by (takes t k) e (λ g. later f g)
+    later ((t, ps) ∷ f) e = by (accepts t k) e (λ g. later f g)
       where
         by : (b : Bool) → is_some (cond b (Some ps) (enters f k)) ≡ false → (is_some (enters f k) ≡ false → enters (f ++ rs) k ≡ enters rs k) → cond b (Some ps) (enters (f ++ rs) k) ≡ enters rs k
         by true g again = absurd (true≢false g)
@@ -86,12 +86,12 @@ pub passes_one : (t : Token) (ps : List Part) (rs : List Rule) (m : ℕ) (s : Li
 passes_one t ps rs m s r h = passes ((t, ps) ∷ []) rs m false s r (starts_one t ps r false h)
 
 -- rules that are followed by parts do what they do above these
-followed_opens : (rs : List Rule) (after s : List Part) (k : Terminal) (o : Option (List Part)) → opening s o (enters (followed after rs) k) ≡ opening (after ++ s) o (enters rs k)
+followed_opens : (rs : List Rule) (after s : List Part) (k : Terminal) (o : Option (List Part)) → opened_by s o (enters (followed after rs) k) ≡ opened_by (after ++ s) o (enters rs k)
 followed_opens [] after s k o = refl
-followed_opens ((t, ps) ∷ rest) after s k o = by (takes t k) (followed_opens rest after s k o)
+followed_opens ((t, ps) ∷ rest) after s k o = by (accepts t k) (followed_opens rest after s k o)
   where
-    by : (b : Bool) → opening s o (enters (followed after rest) k) ≡ opening (after ++ s) o (enters rest k) →
-        opening s o (cond b (Some (ps ++ after)) (enters (followed after rest) k)) ≡ opening (after ++ s) o (cond b (Some ps) (enters rest k))
+    by : (b : Bool) → opened_by s o (enters (followed after rest) k) ≡ opened_by (after ++ s) o (enters rest k) →
+        opened_by s o (cond b (Some (ps ++ after)) (enters (followed after rest) k)) ≡ opened_by (after ++ s) o (cond b (Some ps) (enters rest k))
     by true again = ap Some (append_assoc ps after s)
     by false again = again
 
@@ -104,8 +104,8 @@ follows_some rs after m n s [] h = absurd (true≢false (sym h))
 follows_some rs after m n s (k ∷ r) h =
     ap (onward m (cond n (may_end s) false) (length r + 1) (λ (u : List Part). fate m u r)) (followed_opens rs after s k (cond n (step s k) None)) ∙ by (enters rs k) h
   where
-    by : (o : Option (List Part)) → is_some o ≡ true → onward m (cond n (may_end s) false) (length r + 1) (λ (u : List Part). fate m u r) (opening (after ++ s) (cond n (step s k) None) o)
-        ≡ onward m false (length r + 1) (λ (u : List Part). fate m u r) (opening (after ++ s) None o)
+    by : (o : Option (List Part)) → is_some o ≡ true → onward m (cond n (may_end s) false) (length r + 1) (λ (u : List Part). fate m u r) (opened_by (after ++ s) (cond n (step s k) None) o)
+        ≡ onward m false (length r + 1) (λ (u : List Part). fate m u r) (opened_by (after ++ s) None o)
     by None e = absurd (true≢false (sym e))
     by (Some ps) e = refl
 
@@ -113,9 +113,9 @@ follows_some rs after m n s (k ∷ r) h =
 pub skip_tail : (p : Part) (t : Token) (ps : List Part) (m : ℕ) (s : List Part) (r : List Terminal) → rules_of p ≡ (true, (t, ps) ∷ []) → leads t r ≡ false → fate m (p ∷ s) r ≡ fate m s r
 skip_tail p t ps m s r e h = part p m s r ∙ (ap (λ x. runs m x.0 x.1 s r) e ∙ skips ((t, ps) ∷ []) m s r (starts_one t ps r false h))
 
-pub take_token : (t : Token) (m : ℕ) (s : List Part) (k : Terminal) (r : List Terminal) → takes t k ≡ true → levels s ≤ m →
+pub take_token : (t : Token) (m : ℕ) (s : List Part) (k : Terminal) (r : List Terminal) → accepts t k ≡ true → levels s ≤ m →
     fate m (TokenPart t ∷ s) (k ∷ r) ≡ fate m s r
-take_token t m s k r h b = go m (TokenPart t ∷ s) s k r (ap (λ b. opening s None (cond b (Some []) None)) h) b
+take_token t m s k r h b = go m (TokenPart t ∷ s) s k r (ap (λ b. opened_by s None (cond b (Some []) None)) h) b
 
 -- Expressions of a level that has operators
 abbrev pub IsChain : Rung → Type 0
@@ -158,8 +158,8 @@ take : (l : Rung) (n : Operator) (ps : List Part) (m : ℕ) (s : List Part) (o :
     fate m (OperatorsPart l ∷ s) (operator_terminal o ∷ r) ≡ fate m (ps ++ s) r
 take l n ps m s o r e h b =
     go m (OperatorsPart l ∷ s) (ps ++ s) (operator_terminal o) r
-    (ap (λ x. opening s (step s (operator_terminal o)) (enters x (operator_terminal o))) e
-    ∙ ap (λ b. opening s (step s (operator_terminal o)) (cond b (Some ps) None)) (ap (λ p. rank_or p == rank n) (is_operator o) ∙ same_test (rank o) (rank n) h)) b
+    (ap (λ x. opened_by s (step s (operator_terminal o)) (enters x (operator_terminal o))) e
+    ∙ ap (λ b. opened_by s (step s (operator_terminal o)) (cond b (Some ps) None)) (ap (λ p. rank_or p == rank n) (is_operator o) ∙ same_test (rank o) (rank n) h)) b
 
 pub take_comparison : (m : ℕ) (s : List Part) (o : Operator) (r : List Terminal) → rank o ≡ 4 → levels s ≤ m →
     fate m (OperatorsPart relations ∷ s) (operator_terminal o ∷ r) ≡ fate m (ExpressionPart sums ∷ s) r

@@ -1,5 +1,5 @@
 -- No two trees spell one list: expressions.
-use Rattle.kahn_syntax.proofs.Common.{◌-◌, tighter, ◌≡◌, ℕ, zero, suc, ◌+◌, ◌*◌, ◌≤◌, ◌<◌, ◌≢◌, List, [], ◌∷◌, true, false, Some, ◌⊎◌, ⊎_elim, refl, sym, ap, ◌∙◌, subst, arith, nat_tests, Operator, Terminal, word, sign, ExpressionTree, number, truth, variable, wait, negation, denial, bracket, level, conditional, OperandTrees, no_operand, operand, operator_terminal, expression_words, operands_words, expression_nesting, operands_nesting, rank, IsOne, Formed, FormedOperands, Fits, joined, operator_of, rank_or, leads, a_word, true≢false, Rung, whole, ors, denials, relations, factors, at, Close, Else, If, NotWord, Then}
+use Rattle.kahn_syntax.proofs.Common.{◌-◌, tighter, ◌≡◌, ℕ, zero, suc, ◌+◌, ◌*◌, ◌≤◌, ◌<◌, ◌≢◌, List, [], ◌∷◌, true, false, Some, ◌⊎◌, ⊎_elim, refl, sym, ap, ◌∙◌, subst, arith, nat_tests, Operator, Terminal, word, sign, ExpressionTree, number, truth, variable, wait, negation, denial, bracket, level, conditional, OperandTrees, no_operand, operand, operator_terminal, expression_words, operands_words, expression_nesting, operands_nesting, rank, IsOneOperand, Formed, FormedOperands, FitsLevel, level_or_first, operator_of, rank_or, leads, a_word, true≢false, Rung, whole, ors, denials, relations, factors, at, Close, Else, If, NotWord, Then}
 use Rattle.kahn_tree.specs.declared.tree.Operator.TheVariants as operator
 use Rattle.kahn_syntax.proofs.Levels.{joined_words}
 
@@ -65,19 +65,19 @@ Same t u r q = (t ≡ u) × (r ≡ q)
 
 -- smaller trees that spell one list are one
 abbrev Known : ℕ → Type 0
-Known k = (l : Rung) (t u : ExpressionTree) (r q : List Terminal) → 8 * size t + above l < k → Fits (at l) t → Fits (at l) u → Ends (stop l) r → Ends (stop l) q →
+Known k = (l : Rung) (t u : ExpressionTree) (r q : List Terminal) → 8 * size t + above l < k → FitsLevel (at l) t → FitsLevel (at l) u → Ends (stop l) r → Ends (stop l) q →
     expression_words t r ≡ expression_words u q → Same t u r q
 
 abbrev pub IsNoneOrOne : OperandTrees → Type 0
 IsNoneOrOne no_operand = Unit {0}
-IsNoneOrOne (operand o e os) = IsOne (operand o e os)
+IsNoneOrOne (operand o e os) = IsOneOperand (operand o e os)
 
 -- a tree of a level as its first operand and the others
 pub record Split (n : ℕ) (t : ExpressionTree) : Type 0 where
   pub first : ExpressionTree
   pub rest : OperandTrees
-  pub is : t ≡ joined first rest
-  pub fits : Fits (n + 1) first
+  pub is : t ≡ level_or_first first rest
+  pub fits : FitsLevel (n + 1) first
   pub formed : FormedOperands n rest
   pub small : size first + sizes rest ≤ size t
   pub nests : expression_nesting first ≤ expression_nesting t
@@ -85,13 +85,13 @@ pub record Split (n : ℕ) (t : ExpressionTree) : Type 0 where
   -- comparisons don't follow one another
   pub one : n ≡ 4 → IsNoneOrOne rest
 
-alone : (n : ℕ) (t : ExpressionTree) → Fits (n + 1) t → Split n t
+alone : (n : ℕ) (t : ExpressionTree) → FitsLevel (n + 1) t → Split n t
 alone n t f = record { first = t; rest = no_operand; is = refl; fits = f; formed = tt; small = omega arith; nests = omega arith; nest = omega arith; one = λ e. tt }
 
 pub le_or : (a b : ℕ) → (a ≤ b) ⊎ (b < a)
 le_or a b = grind (arith, nat_tests)
 
-pub split : (n : ℕ) (t : ExpressionTree) → 0 < n → n ≢ 3 → n ≤ 6 → Fits n t → Split n t
+pub split : (n : ℕ) (t : ExpressionTree) → 0 < n → n ≢ 3 → n ≤ 6 → FitsLevel n t → Split n t
 split n (conditional x y z) a b c f = absurd (omega (arith, f.0))
 split n (level e no_operand) a b c f = absurd (omega (arith, f.0))
 split n (level e (operand o g os)) a b c f =
@@ -123,7 +123,7 @@ same_operands k n l known a s v (operand o t os) (operand p u ps) r q b f g x y 
     let more = same_operands k n l known a s v os ps r q (omega arith) f.3 g.3 x y z.1 in (cc, more.1)
 
 chain : (k n : ℕ) (l : Rung) → Known k → at l ≡ n + 1 → stop l ≡ n + 1 → above l ≤ 7 → 0 < n → n ≢ 3 → n ≤ 6 → (t u : ExpressionTree) (r q : List Terminal) →
-    8 * size t + above l < k → Fits n t → Fits n u → Ends n r → Ends n q → expression_words t r ≡ expression_words u q → Same t u r q
+    8 * size t + above l < k → FitsLevel n t → FitsLevel n u → Ends n r → Ends n q → expression_words t r ≡ expression_words u q → Same t u r q
 chain k n l known a s v c d b t u r q small f g x y e =
     let i = split n t c d b f in
     let j = split n u c d b g in
@@ -132,17 +132,17 @@ chain k n l known a s v c d b t u r q small f g x y e =
     let z = known l i.first j.first (operands_words i.rest r) (operands_words j.rest q) (omega (arith, i.small)) (omega (arith, a, i.fits.0), i.fits.1) (omega (arith, a, j.fits.0), j.fits.1)
     (subst (λ m. Ends m (operands_words i.rest r)) (sym s) (ends_operand n i.rest r i.formed x)) (subst (λ m. Ends m (operands_words j.rest q)) (sym s) (ends_operand n j.rest q j.formed y)) both in
     let w = same_operands k n l known a s v i.rest j.rest r q (omega (arith, i.small)) i.formed j.formed x y z.1 in
-    (i.is ∙ ap (λ m. joined m i.rest) z.0 ∙ ap (joined j.first) w.0 ∙ sym j.is, w.1)
+    (i.is ∙ ap (λ m. level_or_first m i.rest) z.0 ∙ ap (level_or_first j.first) w.0 ∙ sym j.is, w.1)
 
 -- nothing but a conditional expression begins with `if`
-pub no_if : (t : ExpressionTree) (r : List Terminal) → Fits 1 t → leads (a_word If) (expression_words t r) ≡ false
+pub no_if : (t : ExpressionTree) (r : List Terminal) → FitsLevel 1 t → leads (a_word If) (expression_words t r) ≡ false
 no_if (conditional a b c) r f = absurd (omega (arith, f.0))
 no_if (level t os) r f = no_if t (operands_words os r) (omega (arith, f.0, f.1.0), f.1.1)
 no_if (truth true) r f = refl
 no_if _ r f = refl
 
 -- nothing tighter than a denial begins with `not`
-pub no_not : (t : ExpressionTree) (r : List Terminal) → Fits 4 t → leads (a_word NotWord) (expression_words t r) ≡ false
+pub no_not : (t : ExpressionTree) (r : List Terminal) → FitsLevel 4 t → leads (a_word NotWord) (expression_words t r) ≡ false
 no_not (denial t) r f = absurd (omega (arith, f.0))
 no_not (conditional a b c) r f = absurd (omega (arith, f.0))
 no_not (level t os) r f = no_not t (operands_words os r) (omega (arith, f.0, f.1.0), f.1.1)
@@ -152,35 +152,35 @@ no_not _ r f = refl
 -- a conditional expression, or one of a tighter level
 pub data Whole (t : ExpressionTree) : Type 0 where
   is_if : (a b c : ExpressionTree) → t ≡ conditional a b c → Formed a → Formed b → Formed c → size a + size b + size c + 1 ≤ size t → Whole t
-  is_tighter : Fits 1 t → Whole t
+  is_tighter : FitsLevel 1 t → Whole t
 
-pub open_whole : (t : ExpressionTree) → Fits 0 t → Whole t
+pub open_whole : (t : ExpressionTree) → FitsLevel 0 t → Whole t
 open_whole (level t os) f = is_tighter (omega (arith, f.1.2), f.1)
 open_whole (conditional a b c) f = is_if a b c refl f.1.0 f.1.1 f.1.2 (omega arith)
 open_whole _ f = is_tighter (omega arith, f.1)
 
 pub data Denial (t : ExpressionTree) : Type 0 where
-  is_not : (a : ExpressionTree) → t ≡ denial a → Fits 3 a → size a + 1 ≤ size t → Denial t
-  is_relation : Fits 4 t → Denial t
+  is_not : (a : ExpressionTree) → t ≡ denial a → FitsLevel 3 a → size a + 1 ≤ size t → Denial t
+  is_relation : FitsLevel 4 t → Denial t
 
-open_level : (t : ExpressionTree) (os : OperandTrees) → Fits 3 (level t os) → Denial (level t os)
+open_level : (t : ExpressionTree) (os : OperandTrees) → FitsLevel 3 (level t os) → Denial (level t os)
 open_level t no_operand f = absurd (omega (arith, f.0))
 open_level t (operand o e os) f = is_relation (strict (rank o) f.0 (rank_within o).2, f.1)
   where
     strict : (n : ℕ) → 3 ≤ n → n ≢ 3 → 4 ≤ n
     strict n a b = omega (arith, a, b)
 
-pub open_denial : (t : ExpressionTree) → Fits 3 t → Denial t
+pub open_denial : (t : ExpressionTree) → FitsLevel 3 t → Denial t
 open_denial (conditional a b c) f = absurd (omega (arith, f.0))
 open_denial (denial a) f = is_not a refl f.1 (omega arith)
 open_denial (level t os) f = open_level t os f
 open_denial _ f = is_relation (omega arith, f.1)
 
-pub level_low : (t : ExpressionTree) (os : OperandTrees) → Fits 7 (level t os) → ⊥
+pub level_low : (t : ExpressionTree) (os : OperandTrees) → FitsLevel 7 (level t os) → ⊥
 level_low t no_operand f = absurd (omega (arith, f.0))
 level_low t (operand o e os) f = absurd (omega (arith, f.0, (rank_within o).0))
 
-same_factor : (k : ℕ) → Known k → (t u : ExpressionTree) (r q : List Terminal) → 8 * size t + above factors < k + 1 → Fits 7 t → Fits 7 u → Ends 7 r → Ends 7 q →
+same_factor : (k : ℕ) → Known k → (t u : ExpressionTree) (r q : List Terminal) → 8 * size t + above factors < k + 1 → FitsLevel 7 t → FitsLevel 7 u → Ends 7 r → Ends 7 q →
     expression_words t r ≡ expression_words u q → Same t u r q
 same_factor k known (denial t) u r q s f g x y e = absurd (omega (arith, f.0))
 same_factor k known (level t os) u r q s f g x y e = absurd (level_low t os f)
@@ -201,7 +201,7 @@ same_factor k known _ (truth true) r q s f g x y e = absurd cc
 same_factor k known (truth true) _ r q s f g x y e = absurd cc
 same_factor k known _ _ r q s f g x y e = absurd cc
 
-same_whole : (k : ℕ) → Known k → (t u : ExpressionTree) (r q : List Terminal) → 8 * size t + 7 < k + 1 → Fits 0 t → Fits 0 u → Ends 1 r → Ends 1 q →
+same_whole : (k : ℕ) → Known k → (t u : ExpressionTree) (r q : List Terminal) → 8 * size t + 7 < k + 1 → FitsLevel 0 t → FitsLevel 0 u → Ends 1 r → Ends 1 q →
     expression_words t r ≡ expression_words u q → Same t u r q
 same_whole k known t u r q s f g x y e = cases (open_whole t f) (open_whole u g)
   where
@@ -218,7 +218,7 @@ same_whole k known t u r q s f g x y e = cases (open_whole t f) (open_whole u g)
         let v = known whole c c' r q (omega (arith, n)) (omega arith, fc) (omega arith, gc) x y (tail_is _ _ _ _ w.1) in
         (cc, v.1)
 
-same_denial : (k : ℕ) → Known k → (t u : ExpressionTree) (r q : List Terminal) → 8 * size t + 4 < k + 1 → Fits 3 t → Fits 3 u → Ends 3 r → Ends 3 q →
+same_denial : (k : ℕ) → Known k → (t u : ExpressionTree) (r q : List Terminal) → 8 * size t + 4 < k + 1 → FitsLevel 3 t → FitsLevel 3 u → Ends 3 r → Ends 3 q →
     expression_words t r ≡ expression_words u q → Same t u r q
 same_denial k known t u r q s f g x y e = cases (open_denial t f) (open_denial u g)
   where

@@ -1,5 +1,5 @@
 -- What is open can be completed, and what is read is the beginning of trees for it.
-use Rattle.kahn_syntax.proofs.Common.{◌<◌, ◌≡◌, ℕ, ◌+◌, ◌≤◌, ◌==◌, ℤ, pos, List, [], ◌∷◌, Bool, true, false, cond, Option, Some, None, refl, sym, ap, ◌∙◌, subst, arith, ⊎_elim, ◌⊎◌, inl, inr, true≢false, Further, Grouped, group, all_members, IsGroup, AreGroups, nat_tests, Kind, Role, Taking, Operator, Terminal, word, sign, name, ExpressionTree, number, truth, variable, wait, negation, denial, bracket, conditional, OperandTrees, no_operand, operand, StatementTree, empty, assign, send, print, block, if_then, if_else, while_do, repeat, StatementTrees, no_statement, statement, operator_terminal, rank, expression_words, operands_words, statement_words, further_words, expression_nesting, operands_nesting, statement_nesting, statements_nesting, FormedOperands, FormedStatement, FormedStatements, IsSimple, DeclarationTree, channels, process, ArgumentTree, channel, InstanceTree, instance, kind_terminal, role_words, taking_words, further_names_words, group_words, groups_words, further_groups_words, togethers_words, Declares, Declarations, Argues, Arguments, Instantiates, Instances, MaybeSemicolon, declaration_nesting, declarations_nesting, StandsFirst, joined, Rung, whole, ors, ands, denials, relations, sums, terms, factors, at, tighter, operator_of, Token, takes, NamesTail, StatementsTail, GroupsTail, ArgumentsTail, InstancesTail, ElseTail, LastTail, Part, ProgramPart, DeclarationsPart, DeclarationPart, ProcessPart, RolePart, GroupsPart, GroupPart, TakingPart, VariablesPart, StatementPart, SimplePart, ExpressionPart, OperatorsPart, InstancePart, ArgumentsPart, ArgumentPart, TokenPart, LevelPart, levels, may_end, step, opening, enters, followed, rules_of, Rule, process_rules, declaration_rules, group_rules, simple_rules, other_rules, argument_rules, factor_rules, operand_rules, relation_rules, denial_rules, or_rules, expression_rules, operator_rules, either, an_operator, rank_or, letters_of, bytes_of_sign, bytes_eq, truth_terminal, append_assoc, Keyword, Sign, ◌++◌, a_sign, a_word, a_name, a_number, And, AtLeast, AtMost, Becomes, Begin, Channel, Close, Comma, Div, Do, Else, End, Equal, False, Greater, If, Integer, Less, Logical, Minus, Mod, NotWord, On, Open, OrWord, Par, Plus, Print, Process, Repeat, Semicolon, Send, Then, Times, True, Unequal, Wait, While}
+use Rattle.kahn_syntax.proofs.Common.{◌<◌, ◌≡◌, ℕ, ◌+◌, ◌≤◌, ◌==◌, ℤ, pos, List, [], ◌∷◌, Bool, true, false, cond, Option, Some, None, refl, sym, ap, ◌∙◌, subst, arith, ⊎_elim, ◌⊎◌, inl, inr, true≢false, Further, Grouped, group, all_members, IsGroup, AreGroups, nat_tests, Kind, Role, Taking, Operator, Terminal, word, sign, name, ExpressionTree, number, truth, variable, wait, negation, denial, bracket, conditional, OperandTrees, no_operand, operand, StatementTree, empty, assign, send, print, block, if_then, if_else, while_do, repeat, StatementTrees, no_statement, statement, operator_terminal, rank, expression_words, operands_words, statement_words, further_words, expression_nesting, operands_nesting, statement_nesting, statements_nesting, FormedOperands, FormedStatement, FormedStatements, IsSimple, DeclarationTree, channels, process, ArgumentTree, channel, InstanceTree, instance, kind_terminal, role_words, taking_words, further_names_words, group_words, groups_words, further_groups_words, togethers_words, SpellsDeclaration, Declarations, Argues, Arguments, Instantiates, Instances, MaybeSemicolon, declaration_nesting, declarations_nesting, StandsFirst, level_or_first, Rung, whole, ors, ands, denials, relations, sums, terms, factors, at, tighter, operator_of, Token, accepts, NamesTail, StatementsTail, GroupsTail, ArgumentsTail, InstancesTail, ElseTail, LastTail, Part, ProgramPart, DeclarationsPart, DeclarationPart, ProcessPart, RolePart, GroupsPart, GroupPart, TakingPart, VariablesPart, StatementPart, SimplePart, ExpressionPart, OperatorsPart, InstancePart, ArgumentsPart, ArgumentPart, TokenPart, LevelPart, levels, may_end, step, opened_by, enters, followed, rules_of, Rule, process_rules, declaration_rules, group_rules, simple_rules, other_rules, argument_rules, factor_rules, operand_rules, relation_rules, denial_rules, or_rules, expression_rules, operator_rules, either, an_operator, rank_or, letters_of, bytes_of_sign, bytes_eq, truth_terminal, append_assoc, Keyword, Sign, ◌++◌, a_sign, a_word, a_name, a_number, And, AtLeast, AtMost, Becomes, Begin, Channel, Close, Comma, Div, Do, Else, End, Equal, False, Greater, If, Integer, Less, Logical, Minus, Mod, NotWord, On, Open, OrWord, Par, Plus, Print, Process, Repeat, Semicolon, Send, Then, Times, True, Unequal, Wait, While}
 use Rattle.std.specs.Prelude.{◌||◌}
 use Rattle.std.specs.Prelude.{neg_ℤ}
 use Rattle.kahn_tree.specs.declared.tree.Kind.TheVariants as kind
@@ -44,7 +44,7 @@ abbrev FurtherStatements : ℕ → ℕ → StatementTrees → List Terminal → 
 FurtherStatements l m ss ks r = (ks ≡ further_words ss r) × FormedStatements ss × (l + statements_nesting ss ≤ m)
 
 abbrev Expression : Rung → ℕ → ℕ → ExpressionTree → List Terminal → List Terminal → Type 0
-Expression g l m t ks r = (ks ≡ expression_words t r) × reads.Fits (at g) t × (l + expression_nesting t ≤ m)
+Expression g l m t ks r = (ks ≡ expression_words t r) × reads.FitsLevel (at g) t × (l + expression_nesting t ≤ m)
 
 abbrev Operands : Rung → ℕ → ℕ → OperandTrees → List Terminal → List Terminal → Type 0
 Operands g l m os ks r = (ks ≡ operands_words os r) × FormedOperands (at g) os × (at g ≡ 4 → IsNoneOrOne os) × (l + operands_nesting os ≤ m)
@@ -56,8 +56,8 @@ Fits m (ProgramPart ∷ s) ks = (ds : List DeclarationTree) × (is : List Instan
     × (r : List Terminal) × (ks ≡ word Begin ∷ a) × Declarations ds a b × Instances is b c × MaybeSemicolon c d × (d ≡ word End ∷ e) × MaybeSemicolon e r
     × (levels s + declarations_nesting ds ≤ m) × Fits m s r
 Fits m (DeclarationsPart ∷ s) ks = Via (List DeclarationTree) (λ ds x r. Declarations ds x r × (levels s + declarations_nesting ds ≤ m)) (Fits m s) ks
-Fits m (DeclarationPart ∷ s) ks = Via DeclarationTree (λ d x r. Declares d x r × (levels s + declaration_nesting d ≤ m)) (Fits m s) ks
-Fits m (ProcessPart ∷ s) ks = Via DeclarationTree (λ d x r. Declares d x r × (levels s + declaration_nesting d ≤ m)) (Fits m s) ks
+Fits m (DeclarationPart ∷ s) ks = Via DeclarationTree (λ d x r. SpellsDeclaration d x r × (levels s + declaration_nesting d ≤ m)) (Fits m s) ks
+Fits m (ProcessPart ∷ s) ks = Via DeclarationTree (λ d x r. SpellsDeclaration d x r × (levels s + declaration_nesting d ≤ m)) (Fits m s) ks
 Fits m (RolePart ∷ s) ks = Via Role (λ o x r. x ≡ role_words o r) (Fits m s) ks
 Fits m (GroupsPart ∷ s) ks = Via (List (Grouped Taking (List ℕ))) (λ gs x r. AreGroups gs × (x ≡ groups_words gs r)) (Fits m s) ks
 Fits m (GroupPart ∷ s) ks = Via (Grouped Taking (List ℕ)) (λ g x r. IsGroup g × (x ≡ group_words g r)) (Fits m s) ks
@@ -128,7 +128,7 @@ sign_same g u e = sign_by_bytes g u ((bytes_eq-Decides (bytes_of_sign g) (bytes_
 test_same : (a b : ℕ) → (a == b) ≡ true → a ≡ b
 test_same a b e = grind (arith, nat_tests)
 
-takes_one : (t : Token) (k : Terminal) (Next : Lists) (ks : List Terminal) → takes t k ≡ true → Next ks → One t Next (k ∷ ks)
+takes_one : (t : Token) (k : Terminal) (Next : Lists) (ks : List Terminal) → accepts t k ≡ true → Next ks → One t Next (k ∷ ks)
 takes_one a_name (name n) Next ks e h = (n, ks, refl, h)
 takes_one a_number (terminal.number z) Next ks e h = (z, ks, refl, h)
 takes_one (a_word v) (word w) Next ks e h = (ks, ap (λ x. word x ∷ ks) (sym (word_same v w e)), h)
@@ -192,7 +192,7 @@ factor_makes m s b =
     (made (λ ks (r, p, (t, r1, (p1, f, c), (r2, p2, h))).
     (bracket t, r2, (p ∙ ap (λ x. sign Open ∷ x) (p1 ∙ ap (expression_words t) p2), (omega arith, f.1), omega (arith, c)), h)) tt)))))
 
-joined_fits : (n : ℕ) (e : ExpressionTree) (os : OperandTrees) → (n ≡ 4 → IsNoneOrOne os) → 0 < n → reads.Fits (n + 1) e → FormedOperands n os → reads.Fits n (joined e os)
+joined_fits : (n : ℕ) (e : ExpressionTree) (os : OperandTrees) → (n ≡ 4 → IsNoneOrOne os) → 0 < n → reads.FitsLevel (n + 1) e → FormedOperands n os → reads.FitsLevel n (level_or_first e os)
 joined_fits n e no_operand one b f h = (omega (arith, f.0), f.1)
 joined_fits n e (operand o g os) one b f h =
     (omega (arith, h.0), (omega (arith, h.0, f.0), f.1, omega (arith, h.0), subst (λ k. FormedOperands k (operand o g os)) (sym h.0) h, λ four. one (sym h.0 ∙ four)))
@@ -207,7 +207,7 @@ chain_at _ h = (refl, omega arith)
 made_level : (l : Rung) (m : ℕ) (s : List Part) (ks : List Terminal) → IsChain l → Fits m (ExpressionPart (tighter l) ∷ OperatorsPart l ∷ s) ks → Fits m (ExpressionPart l ∷ s) ks
 made_level l m s ks c (t, r, (p, f, a), (os, r1, (p1, g, one, d), h)) =
     let e = chain_at l c in
-    (joined t os, r1, (p ∙ ap (expression_words t) p1 ∙ sym (joined_words t os r1), joined_fits (at l) t os one e.1 (omega (arith, e.0, f.0), f.1) g, omega (arith, a, d, joined_nesting t os)), h)
+    (level_or_first t os, r1, (p ∙ ap (expression_words t) p1 ∙ sym (joined_words t os r1), joined_fits (at l) t os one e.1 (omega (arith, e.0, f.0), f.1) g, omega (arith, a, d, joined_nesting t os)), h)
 
 operand_makes : (l : Rung) (m : ℕ) (s : List Part) (rs : List Rule) → IsChain l → Makes m (ExpressionPart (tighter l)) (OperatorsPart l ∷ s) rs → Makes m (ExpressionPart l) s (operand_rules l rs)
 operand_makes l m s rs c h = made_followed m (ExpressionPart l) (ExpressionPart (tighter l)) (OperatorsPart l ∷ []) s rs (λ ks x. made_level l m s ks c x) h
@@ -354,7 +354,7 @@ makes ProgramPart m s b =
     made (λ ks (r0, p0, (ds, r, (q, c), (i, r1, q1, (is, r2, q2, (r3, q3, (r4, p4, (r5, q5, h))))))). (ds, i ∷ is, r0, r, r2, r3, r4, r5, p0, q, (r1, q1, q2), q3, p4, q5, c, h)) tt
 makes DeclarationsPart m s b =
     made_followed m DeclarationsPart DeclarationPart (TokenPart (a_sign Semicolon) ∷ DeclarationsPart ∷ []) s declaration_rules
-    (λ ks (d, r, (p, c), (r1, p1, (ds, r2, (q, e), h))). (d ∷ ds, r2, ((r1, subst (Declares d ks) p1 p, q), omega (arith, c, e)), h))
+    (λ ks (d, r, (p, c), (r1, p1, (ds, r2, (q, e), h))). (d ∷ ds, r2, ((r1, subst (SpellsDeclaration d ks) p1 p, q), omega (arith, c, e)), h))
     (declaration_makes m (TokenPart (a_sign Semicolon) ∷ DeclarationsPart ∷ s) b)
 makes DeclarationPart m s b = declaration_makes m s b
 makes ProcessPart m s b = process_makes m s
@@ -393,9 +393,9 @@ makes LevelPart m s b = tt
 
 found : (m : ℕ) (p : Part) (s : List Part) (k : Terminal) (ks : List Terminal) (rs : List Rule) (ps : List Part) → Makes m p s rs → enters rs k ≡ Some ps → Fits m (ps ++ s) ks → Fits m (p ∷ s) (k ∷ ks)
 found m p s k ks [] ps h e f = absurd cc
-found m p s k ks ((t, qs) ∷ rest) ps h e f = by (takes t k) refl e (λ g. found m p s k ks rest ps h.1 g f)
+found m p s k ks ((t, qs) ∷ rest) ps h e f = by (accepts t k) refl e (λ g. found m p s k ks rest ps h.1 g f)
   where
-    by : (b : Bool) → takes t k ≡ b → cond b (Some qs) (enters rest k) ≡ Some ps → (enters rest k ≡ Some ps → Fits m (p ∷ s) (k ∷ ks)) → Fits m (p ∷ s) (k ∷ ks)
+    by : (b : Bool) → accepts t k ≡ b → cond b (Some qs) (enters rest k) ≡ Some ps → (enters rest k ≡ Some ps → Fits m (p ∷ s) (k ∷ ks)) → Fits m (p ∷ s) (k ∷ ks)
     by true i g again =
         let same : qs ≡ ps = cc in
         h.0 (k ∷ ks) (takes_one t k (Fits m (qs ++ s)) ks i (subst (λ x. Fits m (x ++ s) ks) (sym same) f))
@@ -414,7 +414,7 @@ further m (p ∷ s) t k ks b e h = by (enters (rules_of p).1 k) refl e (λ f. fu
     skipped true i f rest = skip p m s (k ∷ ks) i (omega (arith, b, below p s)) (rest f)
     skipped false i f rest = absurd cc
 
-    by : (o : Option (List Part)) → enters (rules_of p).1 k ≡ o → opening s (cond (rules_of p).0 (step s k) None) o ≡ Some t → (step s k ≡ Some t → Fits m s (k ∷ ks)) → Fits m (p ∷ s) (k ∷ ks)
+    by : (o : Option (List Part)) → enters (rules_of p).1 k ≡ o → opened_by s (cond (rules_of p).0 (step s k) None) o ≡ Some t → (step s k ≡ Some t → Fits m s (k ∷ ks)) → Fits m (p ∷ s) (k ∷ ks)
     by None i f rest = skipped (rules_of p).0 refl f rest
     by (Some ps) i f rest =
         let same : ps ++ s ≡ t = cc in
@@ -435,7 +435,7 @@ at_most _ = omega arith
 abbrev least_process : DeclarationTree
 least_process = process [] [] [] (statement empty no_statement)
 
-least_declares : (r : List Terminal) → (ks : List Terminal) × Declares least_process ks r
+least_declares : (r : List Terminal) → (ks : List Terminal) × SpellsDeclaration least_process ks r
 least_declares r = (_, (_, _, refl, ([], tt, refl, refl), ([], tt, refl, refl), tt, (tt, tt)))
 
 -- what is open can always be completed

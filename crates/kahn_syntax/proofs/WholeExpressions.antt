@@ -1,5 +1,5 @@
 -- A list that a tree spells is read whole: expressions.
-use Rattle.kahn_syntax.proofs.Common.{◌≡◌, ◌≢◌, ℕ, zero, suc, ◌+◌, ◌*◌, ◌≤◌, ◌<◌, List, ◌∷◌, true, false, refl, sym, ap, ◌∙◌, subst, arith, Terminal, word, sign, name, ExpressionTree, number, truth, variable, wait, negation, denial, bracket, level, conditional, OperandTrees, no_operand, operand, expression_words, operands_words, expression_nesting, operands_nesting, Formed, FormedOperands, Fits, Rung, whole, ors, denials, relations, sums, factors, at, tighter, Part, ExpressionPart, OperatorsPart, TokenPart, LevelPart, levels, fate, a_sign, a_name, a_word, Close, Else, False, If, Minus, NotWord, Open, Then, True, Wait}
+use Rattle.kahn_syntax.proofs.Common.{◌≡◌, ◌≢◌, ℕ, zero, suc, ◌+◌, ◌*◌, ◌≤◌, ◌<◌, List, ◌∷◌, true, false, refl, sym, ap, ◌∙◌, subst, arith, Terminal, word, sign, name, ExpressionTree, number, truth, variable, wait, negation, denial, bracket, level, conditional, OperandTrees, no_operand, operand, expression_words, operands_words, expression_nesting, operands_nesting, Formed, FormedOperands, FitsLevel, Rung, whole, ors, denials, relations, sums, factors, at, tighter, Part, ExpressionPart, OperatorsPart, TokenPart, LevelPart, levels, fate, a_sign, a_name, a_word, Close, Else, False, If, Minus, NotWord, Open, Then, True, Wait}
 use Rattle.kahn_syntax.specs.Terminals as terminal
 use Rattle.kahn_syntax.proofs.Levels.{joined_words}
 use Rattle.kahn_syntax.proofs.Unique.{Ends, ends_more, ends_operand, size, sizes, above, stop, split, IsNoneOrOne, Whole, is_if, is_tighter, Denial, is_not, is_relation, level_low, no_if, no_not}
@@ -8,7 +8,7 @@ use Rattle.kahn_syntax.proofs.Steps.{go, skip_level, take_token, IsChain, IsOthe
 
 -- smaller trees are read whole
 abbrev Known : ℕ → Type 0
-Known k = (l : Rung) (t : ExpressionTree) (m : ℕ) (s : List Part) (r : List Terminal) → 8 * size t + above l < k → Fits (at l) t → Ends (stop l) r →
+Known k = (l : Rung) (t : ExpressionTree) (m : ℕ) (s : List Part) (r : List Terminal) → 8 * size t + above l < k → FitsLevel (at l) t → Ends (stop l) r →
     levels s + expression_nesting t ≤ m → fate m (ExpressionPart l ∷ s) (expression_words t r) ≡ fate m s r
 
 record Facts (l : Rung) : Type 0 where
@@ -58,7 +58,7 @@ whole_rest k relations known c os m s r z f d e n = whole_comparison k known os 
 whole_rest k l known c os m s r z f d e n = whole_operands k l known tt os m s r z f e n
 
 whole_chain : (k : ℕ) (l : Rung) → Known k → IsChain l → (t : ExpressionTree) (m : ℕ) (s : List Part) (r : List Terminal) → 8 * size t + above l < k + 1 →
-    Fits (at l) t → Ends (stop l) r → levels s + expression_nesting t ≤ m → fate m (ExpressionPart l ∷ s) (expression_words t r) ≡ fate m s r
+    FitsLevel (at l) t → Ends (stop l) r → levels s + expression_nesting t ≤ m → fate m (ExpressionPart l ∷ s) (expression_words t r) ≡ fate m s r
 whole_chain k l known c t m s r z f e n =
     let h = facts l c in
     let x : Ends (at l) r = subst (λ j. Ends j r) h.stops e in
@@ -70,7 +70,7 @@ whole_chain k l known c t m s r z f e n =
     (subst (λ j. Ends j (operands_words i.rest r)) (sym h.next_stops) (ends_operand (at l) i.rest r i.formed x)) (omega (arith, n, i.nests))
     ∙ whole_rest k l known c i.rest m s r (omega (arith, z, i.small)) i.formed i.one x (omega (arith, n, i.nest)))))
 
-whole_factor : (k : ℕ) → Known k → (t : ExpressionTree) (m : ℕ) (s : List Part) (r : List Terminal) → 8 * size t + 0 < k + 1 → Fits 7 t → Ends 7 r →
+whole_factor : (k : ℕ) → Known k → (t : ExpressionTree) (m : ℕ) (s : List Part) (r : List Terminal) → 8 * size t + 0 < k + 1 → FitsLevel 7 t → Ends 7 r →
     levels s + expression_nesting t ≤ m → fate m (ExpressionPart factors ∷ s) (expression_words t r) ≡ fate m s r
 whole_factor k known (number z) m s r b f e n = go m (ExpressionPart factors ∷ s) s (terminal.number z) r refl (omega (arith, n))
 whole_factor k known (truth true) m s r b f e n = go m (ExpressionPart factors ∷ s) s (word True) r refl (omega (arith, n))
@@ -92,7 +92,7 @@ whole_factor k known (denial t) m s r b f e n = absurd (omega (arith, f.0))
 whole_factor k known (level t os) m s r b f e n = absurd (level_low t os f)
 whole_factor k known (conditional a c d) m s r b f e n = absurd (omega (arith, f.0))
 
-whole_denial : (k : ℕ) → Known k → (t : ExpressionTree) (m : ℕ) (s : List Part) (r : List Terminal) → 8 * size t + 4 < k + 1 → Fits 3 t → Ends 3 r →
+whole_denial : (k : ℕ) → Known k → (t : ExpressionTree) (m : ℕ) (s : List Part) (r : List Terminal) → 8 * size t + 4 < k + 1 → FitsLevel 3 t → Ends 3 r →
     levels s + expression_nesting t ≤ m → fate m (ExpressionPart denials ∷ s) (expression_words t r) ≡ fate m s r
 whole_denial k known t m s r b f e n = cases (unique.open_denial t f)
   where
@@ -105,7 +105,7 @@ whole_denial k known t m s r b f e n = cases (unique.open_denial t f)
         ∙ (go m (ExpressionPart denials ∷ s) (ExpressionPart denials ∷ LevelPart ∷ s) (word NotWord) (expression_words a r) refl (omega (arith, n, small))
         ∙ (known denials a m (LevelPart ∷ s) r (omega (arith, b, z)) fa e (omega (arith, n, small)) ∙ skip_level m s r))
 
-whole_whole : (k : ℕ) → Known k → (t : ExpressionTree) (m : ℕ) (s : List Part) (r : List Terminal) → 8 * size t + 7 < k + 1 → Fits 0 t → Ends 1 r →
+whole_whole : (k : ℕ) → Known k → (t : ExpressionTree) (m : ℕ) (s : List Part) (r : List Terminal) → 8 * size t + 7 < k + 1 → FitsLevel 0 t → Ends 1 r →
     levels s + expression_nesting t ≤ m → fate m (ExpressionPart whole ∷ s) (expression_words t r) ≡ fate m s r
 whole_whole k known t m s r b f e n = cases (unique.open_whole t f)
   where

@@ -1,5 +1,5 @@
 -- A list that a tree spells is read whole: declarations, instances and programs.
-use Rattle.kahn_syntax.proofs.Common.{a_kind, ◌≡◌, ℕ, ◌+◌, ◌≤◌, List, [], ◌∷◌, true, false, Some, ⊎_elim, refl, ap, ◌∙◌, arith, AreAny, Further, Grouped, group, IsGroup, AreGroups, Kind, Role, Taking, Terminal, word, sign, name, statements_words, ParameterTree, VariableTree, DeclarationTree, channels, process, ArgumentTree, channel, InstanceTree, instance, ProgramTree, program, kind_terminal, role_words, taking_words, names_words, further_names_words, group_words, groups_words, further_groups_words, Parameters, togethers_words, Variables, Declares, Declarations, Argues, Arguments, Instantiates, Instances, MaybeSemicolon, Spells, declaration_nesting, declarations_nesting, nesting, StandsFirst, leads, NamesTail, StatementsTail, GroupsTail, ArgumentsTail, InstancesTail, LastTail, Part, ProgramPart, DeclarationsPart, DeclarationPart, RolePart, GroupsPart, GroupPart, TakingPart, VariablesPart, StatementPart, InstancePart, ArgumentsPart, ArgumentPart, TokenPart, levels, step, Whole, fate, a_word, a_sign, a_name, a_number, Begin, Channel, Close, Comma, End, False, In, Input, Integer, Logical, Minus, Open, Out, Output, Par, Process, Semicolon, True}
+use Rattle.kahn_syntax.proofs.Common.{a_kind, ◌≡◌, ℕ, ◌+◌, ◌≤◌, List, [], ◌∷◌, true, false, Some, ⊎_elim, refl, ap, ◌∙◌, arith, AreAny, Further, Grouped, group, IsGroup, AreGroups, Kind, Role, Taking, Terminal, word, sign, name, statements_words, ParameterTree, VariableTree, DeclarationTree, channels, process, ArgumentTree, channel, InstanceTree, instance, ProgramTree, program, kind_terminal, role_words, taking_words, names_words, further_names_words, group_words, groups_words, further_groups_words, Parameters, togethers_words, Variables, SpellsDeclaration, Declarations, Argues, Arguments, Instantiates, Instances, MaybeSemicolon, Spells, declaration_nesting, declarations_nesting, nesting, StandsFirst, leads, NamesTail, StatementsTail, GroupsTail, ArgumentsTail, InstancesTail, LastTail, Part, ProgramPart, DeclarationsPart, DeclarationPart, RolePart, GroupsPart, GroupPart, TakingPart, VariablesPart, StatementPart, InstancePart, ArgumentsPart, ArgumentPart, TokenPart, levels, step, Whole, fate, a_word, a_sign, a_name, a_number, Begin, Channel, Close, Comma, End, False, In, Input, Integer, Logical, Minus, Open, Out, Output, Par, Process, Semicolon, True}
 use Rattle.kahn_tree.specs.declared.tree.Kind.TheVariants as kind
 use Rattle.kahn_tree.specs.declared.tree.Role.TheVariants as role
 use Rattle.kahn_tree.specs.declared.tree.Direction.TheVariants as direction
@@ -86,7 +86,7 @@ abbrev pub process_then : List Part → List Part
 process_then s = TokenPart a_name ∷ TokenPart (a_sign Open) ∷ GroupsPart ∷ TokenPart (a_sign Close) ∷ TokenPart (a_sign Semicolon) ∷ TokenPart (a_word Begin)
     ∷ VariablesPart ∷ StatementPart ∷ StatementsTail ∷ TokenPart (a_word End) ∷ s
 
-whole_declares : (d : DeclarationTree) (m : ℕ) (s : List Part) (ks x : List Terminal) → Declares d ks (sign Semicolon ∷ x) → levels s + declaration_nesting d ≤ m →
+whole_declares : (d : DeclarationTree) (m : ℕ) (s : List Part) (ks x : List Terminal) → SpellsDeclaration d ks (sign Semicolon ∷ x) → levels s + declaration_nesting d ≤ m →
     fate m (DeclarationPart ∷ s) ks ≡ fate m s (sign Semicolon ∷ x)
 whole_declares (channels k o ns) m s ks x (a, e) b =
     let c : levels s ≤ m = omega (arith, b) in
@@ -111,7 +111,7 @@ whole_declares (process n ps vs body) m s ks x (a, b, e, p, v, some, f) bound =
     ∙ (whole_statements body m (TokenPart (a_word End) ∷ s) (word End ∷ sign Semicolon ∷ x) some f tt bound
     ∙ take_token (a_word End) m s (word End) (sign Semicolon ∷ x) refl c)))))))))
 
-open_declarations : (d : DeclarationTree) (m : ℕ) (s : List Part) (ks r : List Terminal) → Declares d ks r →
+open_declarations : (d : DeclarationTree) (m : ℕ) (s : List Part) (ks r : List Terminal) → SpellsDeclaration d ks r →
     fate m (DeclarationsPart ∷ s) ks ≡ fate m (DeclarationPart ∷ TokenPart (a_sign Semicolon) ∷ DeclarationsPart ∷ s) ks
 open_declarations (channels kind.Integer o ns) m s ks r (a, e) = rw e refl
 open_declarations (channels kind.Logical o ns) m s ks r (a, e) = rw e refl

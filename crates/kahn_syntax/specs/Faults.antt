@@ -6,8 +6,8 @@ use Rattle.kahn_syntax.specs.Terminals.{Terminal, terminal, terminals}
 use Rattle.kahn_syntax.specs.Programs.{ProgramTree, Spells, nesting}
 
 -- some tree spells it
-abbrev pub IsWhole : List Terminal → Type 0
-IsWhole ks = (t : ProgramTree) × Spells t ks
+abbrev pub IsSentence : List Terminal → Type 0
+IsSentence ks = (t : ProgramTree) × Spells t ks
 
 -- It begins a program: some tree spells it with more terminals after it.
 abbrev pub Begins : List Terminal → Type 0
@@ -26,7 +26,7 @@ IsNothing before k = IsWholeWithin before × ¬ (Begins (before ++ k ∷ []))
 
 -- the terminals before begin a program and are none, and with this one they begin none
 abbrev pub IsOther : List Terminal → Terminal → Type 0
-IsOther before k = BeginsWithin before × ¬ (IsWhole before) × ¬ (Begins (before ++ k ∷ []))
+IsOther before k = BeginsWithin before × ¬ (IsSentence before) × ¬ (Begins (before ++ k ∷ []))
 
 -- This one may stand here, and each program that begins so has more than 64 levels; one that begins without it has not.
 abbrev pub IsTooDeep : List Terminal → Terminal → Type 0
@@ -42,7 +42,7 @@ StandsAt text lexemes span P = (before : List Lexeme) × (x : Lexeme) × (after 
 -- Memory may be wanted at any place.
 abbrev pub IsFault : List ℕ → List Lexeme → SyntaxFault → Type 0
 IsFault text lexemes (Expected span More) = (span.from ≡ length text) × (span.to ≡ length text)
-    × BeginsWithin (terminals text lexemes) × ¬ (IsWhole (terminals text lexemes))
+    × BeginsWithin (terminals text lexemes) × ¬ (IsSentence (terminals text lexemes))
 IsFault text lexemes (Expected span Nothing) = StandsAt text lexemes span IsNothing
 IsFault text lexemes (Expected span Other) = StandsAt text lexemes span IsOther
 IsFault text lexemes (fault.TooDeep span) = StandsAt text lexemes span IsTooDeep

@@ -122,7 +122,7 @@ IsOfClass text (class.Number n) a b = IsRun text a b × (n ≡ pos (digits_value
 IsOfClass text (class.Sign s) a b = IsSign text s a b
 
 -- a lexeme of the text, where it stands
-pub record Stands (text : List ℕ) (x : Lexeme) : Type 0 where
+pub record IsLexemeAt (text : List ℕ) (x : Lexeme) : Type 0 where
   pub longest : IsLongest text x.span.from x.span.to
   pub class : IsOfClass text x.what x.span.from x.span.to
 
@@ -149,7 +149,7 @@ pub data Gap (text : List ℕ) (a : ℕ) : ℕ → Type 0 where
 -- these are the lexemes of the text from a to b: each stands there, and only blanks and comments stand between
 abbrev pub Lexed : List ℕ → ℕ → ℕ → List Lexeme → Type 0
 Lexed text a b [] = Gap text a b
-Lexed text a b (x ∷ xs) = Gap text a x.span.from × Stands text x × Lexed text x.span.to b xs
+Lexed text a b (x ∷ xs) = Gap text a x.span.from × IsLexemeAt text x × Lexed text x.span.to b xs
 
 -- the most bytes that a text may have
 abbrev pub most_bytes : ℕ

@@ -87,16 +87,16 @@ abbrev pub Variables : List VariableTree → List Terminal → List Terminal →
 Variables vs ks r = (ts : List (Grouped Kind (List ℕ))) × AreGroups ts × (vs ≡ all_members variable ts) × (ks ≡ togethers_words ts r)
 
 -- This declaration is spelled from here to there.
-abbrev pub Declares : DeclarationTree → List Terminal → List Terminal → Type 0
-Declares (channels k role ns) ks r = AreAny ns × (ks ≡ kind_terminal k ∷ role_words role (word keyword.Channel ∷ names_words ns r))
-Declares (process n ps vs body) ks r = (a : List Terminal) × (b : List Terminal) × (ks ≡ word keyword.Process ∷ name n ∷ sign mark.Open ∷ a)
+abbrev pub SpellsDeclaration : DeclarationTree → List Terminal → List Terminal → Type 0
+SpellsDeclaration (channels k role ns) ks r = AreAny ns × (ks ≡ kind_terminal k ∷ role_words role (word keyword.Channel ∷ names_words ns r))
+SpellsDeclaration (process n ps vs body) ks r = (a : List Terminal) × (b : List Terminal) × (ks ≡ word keyword.Process ∷ name n ∷ sign mark.Open ∷ a)
     × Parameters ps a (sign mark.Close ∷ sign mark.Semicolon ∷ word keyword.Begin ∷ b)
     × Variables vs b (statements_words body (word keyword.End ∷ r)) × AreSome body × FormedStatements body
 
 -- with a semicolon after each
 abbrev pub Declarations : List DeclarationTree → List Terminal → List Terminal → Type 0
 Declarations [] ks r = ks ≡ r
-Declarations (d ∷ ds) ks r = (m : List Terminal) × Declares d ks (sign mark.Semicolon ∷ m) × Declarations ds m r
+Declarations (d ∷ ds) ks r = (m : List Terminal) × SpellsDeclaration d ks (sign mark.Semicolon ∷ m) × Declarations ds m r
 
 -- A number may have a sign.
 abbrev pub Argues : ArgumentTree → List Terminal → List Terminal → Type 0

@@ -119,23 +119,23 @@ DirectionSpans text (taking.Channel direction.In k) xs r = Takes text (word keyw
 DirectionSpans text (taking.Channel direction.Out k) xs r = Takes text (word keyword.Out) xs r
 DirectionSpans text (taking.Value k) xs r = xs ≡ r
 
-abbrev pub kind_of : Taking → Kind
-kind_of (taking.Channel d k) = k
-kind_of (taking.Value k) = k
+abbrev pub taking_kind : Taking → Kind
+taking_kind (taking.Channel d k) = k
+taking_kind (taking.Value k) = k
 
 -- names of parameters that take the same
 abbrev pub GroupSpans : List ℕ → Grouped Taking Name → List Lexeme → List Lexeme → Type 0
 GroupSpans text (group t ns) xs r = (a : List Lexeme) × (b : List Lexeme)
-    × Takes text (kind_terminal (kind_of t)) xs a × DirectionSpans text t a b × NamesSpan text ns b r
+    × Takes text (kind_terminal (taking_kind t)) xs a × DirectionSpans text t a b × NamesSpan text ns b r
 
 abbrev pub GroupsSpan : List ℕ → List (Grouped Taking Name) → List Lexeme → List Lexeme → Type 0
 GroupsSpan text gs xs r = Between (Takes text (sign mark.Semicolon)) (GroupSpans text) gs xs r
 
-abbrev pub parameter_of : Taking → Name → Parameter
-parameter_of t n = record { taking = t; name = n }
+abbrev pub parameter_with : Taking → Name → Parameter
+parameter_with t n = record { taking = t; name = n }
 
 abbrev pub ParametersSpan : List ℕ → List Parameter → List Lexeme → List Lexeme → Type 0
-ParametersSpan text ps xs r = (gs : List (Grouped Taking Name)) × (ps ≡ all_members parameter_of gs) × GroupsSpan text gs xs r
+ParametersSpan text ps xs r = (gs : List (Grouped Taking Name)) × (ps ≡ all_members parameter_with gs) × GroupsSpan text gs xs r
 
 -- variables of one kind
 abbrev pub TogetherSpans : List ℕ → Grouped Kind Name → List Lexeme → List Lexeme → Type 0
@@ -146,11 +146,11 @@ abbrev pub TogethersSpan : List ℕ → List (Grouped Kind Name) → List Lexeme
 TogethersSpan text [] xs r = xs ≡ r
 TogethersSpan text (t ∷ ts) xs r = (a : List Lexeme) × TogetherSpans text t xs a × TogethersSpan text ts a r
 
-abbrev pub variable_of : Kind → Name → OneVariable
-variable_of k n = record { kind = k; name = n }
+abbrev pub variable_with : Kind → Name → OneVariable
+variable_with k n = record { kind = k; name = n }
 
 abbrev pub VariablesSpan : List ℕ → List OneVariable → List Lexeme → List Lexeme → Type 0
-VariablesSpan text vs xs r = (ts : List (Grouped Kind Name)) × (vs ≡ all_members variable_of ts) × TogethersSpan text ts xs r
+VariablesSpan text vs xs r = (ts : List (Grouped Kind Name)) × (vs ≡ all_members variable_with ts) × TogethersSpan text ts xs r
 
 pub record ProcessSpans (text : List ℕ) (p : Process) (xs r : List Lexeme) : Type 0 where
   pub a : List Lexeme

@@ -123,9 +123,9 @@ binds (level e os) = first_rank os
 binds (conditional t a b) = 0
 binds _ = 7
 
-abbrev pub IsOne : OperandTrees → Type 0
-IsOne (operand o e no_operand) = Unit {0}
-IsOne _ = ⊥
+abbrev pub IsOneOperand : OperandTrees → Type 0
+IsOneOperand (operand o e no_operand) = Unit {0}
+IsOneOperand _ = ⊥
 
 -- The tree is one of the grammar: operands bind tighter than their operators, a level has an operator and all its
 -- operators are of it, and comparisons don't follow one another.
@@ -134,7 +134,7 @@ abbrev mutual
   Formed (negation e) = (7 ≤ binds e) × Formed e
   Formed (denial e) = (3 ≤ binds e) × Formed e
   Formed (bracket e) = Formed e
-  Formed (level e os) = (first_rank os < binds e) × Formed e × (0 < first_rank os) × FormedOperands (first_rank os) os × (first_rank os ≡ 4 → IsOne os)
+  Formed (level e os) = (first_rank os < binds e) × Formed e × (0 < first_rank os) × FormedOperands (first_rank os) os × (first_rank os ≡ 4 → IsOneOperand os)
   Formed (conditional t a b) = Formed t × Formed a × Formed b
   Formed _ = Unit {0}
 

@@ -9,7 +9,7 @@ use Rattle.kahn_tree.specs.declared.span.Span.{Span}
 use Rattle.kahn_syntax.specs.Terminals.{Terminal, number, name, terminal, sign_terminal}
 use Rattle.kahn_syntax.specs.Programs.{program, MaybeSemicolon, nesting}
 use Rattle.kahn_syntax.specs.Faults.{Begins}
-use Rattle.kahn_syntax.specs.inner.Machine.{Token, a_name, takes, Part, ProgramPart, Rule, rules_of, enters, opening, levels, may_end, step, Whole, Refuses, TooFar, fate, onward}
+use Rattle.kahn_syntax.specs.inner.Machine.{Token, a_name, accepts, Part, ProgramPart, Rule, rules_of, enters, opened_by, levels, may_end, step, Whole, Refuses, TooFar, fate, onward}
 use Rattle.kahn_syntax.proofs.Viable.{Fits, fits_some, further}
 use Rattle.kahn_syntax.proofs.WholePrograms.{whole_program}
 use Rattle.kahn_wanted.specs.Wanted.{class_of_terminal}
@@ -20,7 +20,7 @@ pub data Alike : Terminal → Terminal → Type 0 where
   names : (a b : List ℕ) → Alike (name a) (name b)
   numbers : (y z : ℤ) → Alike (number y) (number z)
 
-takes_same : (t : Token) (k l : Terminal) → Alike k l → takes t k ≡ takes t l
+takes_same : (t : Token) (k l : Terminal) → Alike k l → accepts t k ≡ accepts t l
 takes_same a_name _ _ (names a b) = refl
 takes_same t _ _ (names a b) = refl
 takes_same a_name _ _ (numbers y z) = refl
@@ -28,14 +28,14 @@ takes_same t _ _ (numbers y z) = refl
 
 enters_same : (rs : List Rule) (k l : Terminal) → Alike k l → enters rs k ≡ enters rs l
 enters_same [] k l h = refl
-enters_same ((t, ps) ∷ rest) k l h = ap (λ b. cond b (Some ps) (enters rest k)) (takes_same t k l h) ∙ ap (cond (takes t l) (Some ps)) (enters_same rest k l h)
+enters_same ((t, ps) ∷ rest) k l h = ap (λ b. cond b (Some ps) (enters rest k)) (takes_same t k l h) ∙ ap (cond (accepts t l) (Some ps)) (enters_same rest k l h)
 
 -- no part looks at a name's bytes, or at a number's value
 pub step_same : (s : List Part) (k l : Terminal) → Alike k l → step s k ≡ step s l
 step_same [] k l h = refl
 step_same (p ∷ s) k l h =
-    ap (λ o. opening s (cond (rules_of p).0 o None) (enters (rules_of p).1 k)) (step_same s k l h)
-    ∙ ap (opening s (cond (rules_of p).0 (step s l) None)) (enters_same (rules_of p).1 k l h)
+    ap (λ o. opened_by s (cond (rules_of p).0 o None) (enters (rules_of p).1 k)) (step_same s k l h)
+    ∙ ap (opened_by s (cond (rules_of p).0 (step s l) None)) (enters_same (rules_of p).1 k l h)
 
 -- what is open after terminals, or None where they can't stand here
 abbrev chain : (List Part → Option (List Part)) → Option (List Part) → Option (List Part)

@@ -1,7 +1,7 @@
 -- What stands between two lexemes, read from the left.
 use Rattle.std.proofs.Common.{◌≡◌, ℕ, ◌+◌, ◌≤◌, ◌<◌, ◌⊎◌, List, [], ◌∷◌, ◌++◌, Bool, true, false, append-nil, length, drop, get_or, refl, sym, ap, subst, ◌∙◌, arith, inl, inr, append_assoc}
 use Rattle.std.proofs.lemmas.List.{drop_more}
-use Rattle.kahn_syntax.specs.Lexemes.{IsBlank, IsComment, Gap, no_gap, then_blank, then_comment, Lexed, Stands}
+use Rattle.kahn_syntax.specs.Lexemes.{IsBlank, IsComment, Gap, no_gap, then_blank, then_comment, Lexed, IsLexemeAt}
 use Rattle.kahn_syntax.specs.declared.lexeme.Lexeme.{Lexeme}
 use Rattle.kahn_syntax.proofs.OneList.{comment_dark, comment_grows, same_comment}
 use Rattle.kahn_tree.specs.declared.span.Span.{Span}
@@ -57,7 +57,7 @@ behind_comment text a c gap some light = by (front text a c gap)
 pub passed_blank : (text : List ℕ) (a b : ℕ) (ws : List Span) → Passed text a ws b → IsBlank (get_or text b 0) → Passed text a ws (b + 1)
 passed_blank text a b ws p dark = λ more h. p more (behind_a_blank dark h)
 
-pub passed_lexeme : (text : List ℕ) (a : ℕ) (ws : List Span) (x : Lexeme) → Passed text a ws x.span.from → Stands text x → Passed text a ws x.span.to
+pub passed_lexeme : (text : List ℕ) (a : ℕ) (ws : List Span) (x : Lexeme) → Passed text a ws x.span.from → IsLexemeAt text x → Passed text a ws x.span.to
 passed_lexeme text a ws x p stands = λ more h. p more (behind_a_lexeme x stands h)
 
 pub passed_comment : (text : List ℕ) (a b c : ℕ) (ws new : List Span) → Passed text a ws b → IsComment text b c → new ≡ ws ++ span_of b c ∷ [] → Passed text a new c
@@ -86,7 +86,7 @@ pub lexeme_passed : (bytes text : List ℕ) (items : List Lexeme) (i : ℕ) (d :
 lexeme_passed bytes text items i d at old new e low lexed p step =
     let x : Lexeme = get_or items i d in
     let next : drop i items ≡ x ∷ drop (i + 1) items = drop_more items i d low in
-    let h : Gap text at x.span.from × Stands text x × Lexed text x.span.to (length text) (drop (i + 1) items) =
+    let h : Gap text at x.span.from × IsLexemeAt text x × Lexed text x.span.to (length text) (drop (i + 1) items) =
     subst (Lexed text at (length text)) next lexed in
     let all : (a : ℕ) → Passed text a old at → Passed text a new x.span.from =
     subst (λ (b : List ℕ). (a : ℕ) → Passed b a old at → Passed b a new x.span.from) e step in

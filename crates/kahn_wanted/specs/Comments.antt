@@ -2,7 +2,7 @@
 use Rattle.std.specs.Prelude.{◌≡◌, ℕ, ◌+◌, ◌<◌, ◌⊎◌, Bool, ◌||◌, ◌==◌, not, IsTrue, true, List, [], ◌∷◌, Option, Some, None, drop, length, slice_get, slice_index, take}
 use Rattle.std.specs.List.{list_all, list_any}
 use Rattle.std.specs.Str.{IsCharBoundary}
-use Rattle.kahn_syntax.specs.Lexemes.{IsBlank, IsComment, Stands}
+use Rattle.kahn_syntax.specs.Lexemes.{IsBlank, IsComment, IsLexemeAt}
 use Rattle.kahn_syntax.specs.declared.lexeme.Lexeme.{Lexeme}
 use Rattle.kahn_tree.specs.declared.span.Span.{Span}
 use Rattle.kahn_wanted.specs.Swallowing.{Swallows, is_space}
@@ -14,7 +14,7 @@ span_of a b = record { from = a; to = b }
 pub data AreComments (text : List ℕ) : ℕ → List Span → Type 0 where
   at_the_end : AreComments text (length text) []
   behind_a_blank : {a : ℕ} {cs : List Span} → IsBlank (slice_index text a) → AreComments text (a + 1) cs → AreComments text a cs
-  behind_a_lexeme : {cs : List Span} (x : Lexeme) → Stands text x → AreComments text x.span.to cs → AreComments text x.span.from cs
+  behind_a_lexeme : {cs : List Span} (x : Lexeme) → IsLexemeAt text x → AreComments text x.span.to cs → AreComments text x.span.from cs
   behind_a_comment : {a b : ℕ} {cs : List Span} → IsComment text a b → AreComments text b cs → AreComments text a (span_of a b ∷ cs)
 
 -- behind byte i no line ends, or blanks alone stand there

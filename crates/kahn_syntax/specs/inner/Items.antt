@@ -4,7 +4,7 @@ use Rattle.kahn_syntax.specs.Names.{Item, SyntaxFault, BadCharacter, NumberTooLa
 use Rattle.kahn_syntax.specs.declared.lexer.Item.TheVariants as item
 use Rattle.kahn_syntax.specs.declared.lexer.forms.Form.{Form}
 use Rattle.kahn_syntax.specs.declared.lexer.forms.Form.TheVariants as form
-use Rattle.kahn_syntax.specs.Lexemes.{IsWord, IsRun, IsSign, Stands, IsComment, IsBadCharacter, IsLargeNumber, IsOpenComment, IsLongName}
+use Rattle.kahn_syntax.specs.Lexemes.{IsWord, IsRun, IsSign, IsLexemeAt, IsComment, IsBadCharacter, IsLargeNumber, IsOpenComment, IsLongName}
 
 -- the place after a form
 abbrev pub form_end : Form → ℕ
@@ -20,7 +20,7 @@ IsOfForm text (form.Sign s to) a = IsSign text s a to
 
 -- the item stands at a
 abbrev pub IsItem : List ℕ → ℕ → Item → Type 0
-IsItem text a (item.Lexeme x) = (x.span.from ≡ a) × Stands text x
+IsItem text a (item.Lexeme x) = (x.span.from ≡ a) × IsLexemeAt text x
 IsItem text a (item.Comment b) = IsComment text a b
 
 -- the fault stands at a, whatever stands before

@@ -79,19 +79,19 @@ pub data Token : Type 0 where
   a_name : Token
   an_operator : Operator → Token
 
-abbrev pub takes : Token → Terminal → Bool
-takes (a_word v) (word w) = bytes_eq (letters_of v) (letters_of w)
-takes (either u v) (word w) = bytes_eq (letters_of u) (letters_of w) || bytes_eq (letters_of v) (letters_of w)
-takes (a_sign s) (sign t) = bytes_eq (bytes_of_sign s) (bytes_of_sign t)
-takes a_number (number z) = true
-takes a_name (name n) = true
-takes (an_operator o) k = rank_or (operator_of k) == rank o
-takes _ _ = false
+abbrev pub accepts : Token → Terminal → Bool
+accepts (a_word v) (word w) = bytes_eq (letters_of v) (letters_of w)
+accepts (either u v) (word w) = bytes_eq (letters_of u) (letters_of w) || bytes_eq (letters_of v) (letters_of w)
+accepts (a_sign s) (sign t) = bytes_eq (bytes_of_sign s) (bytes_of_sign t)
+accepts a_number (number z) = true
+accepts a_name (name n) = true
+accepts (an_operator o) k = rank_or (operator_of k) == rank o
+accepts _ _ = false
 
 -- the token stands first
 abbrev pub leads : Token → List Terminal → Bool
 leads t [] = false
-leads t (k ∷ r) = takes t k
+leads t (k ∷ r) = accepts t k
 
 -- the class of the lexemes that it is, where one class alone has its terminals
 abbrev pub class_of : Token → Option Class
@@ -253,7 +253,7 @@ rules_of LevelPart = (true, [])
 -- what the terminal opens, by the first rule that has it
 abbrev pub enters : List Rule → Terminal → Option (List Part)
 enters [] k = None
-enters ((t, ps) ∷ rest) k = cond (takes t k) (Some ps) (enters rest k)
+enters ((t, ps) ∷ rest) k = cond (accepts t k) (Some ps) (enters rest k)
 
 -- one of the rules has the terminal that stands first
 abbrev pub starts : List Rule → List Terminal → Bool
@@ -261,14 +261,14 @@ starts rs [] = false
 starts rs (k ∷ r) = is_some (enters rs k)
 
 -- what is open where these parts were opened, or other where none were
-abbrev pub opening : List Part → Option (List Part) → Option (List Part) → Option (List Part)
-opening s other None = other
-opening s other (Some ps) = Some (ps ++ s)
+abbrev pub opened_by : List Part → Option (List Part) → Option (List Part) → Option (List Part)
+opened_by s other None = other
+opened_by s other (Some ps) = Some (ps ++ s)
 
 -- what is open after the terminal, or None where it can't stand here
 abbrev pub step : List Part → Terminal → Option (List Part)
 step [] k = None
-step (p ∷ s) k = opening s (cond (rules_of p).0 (step s k) None) (enters (rules_of p).1 k)
+step (p ∷ s) k = opened_by s (cond (rules_of p).0 (step s k) None) (enters (rules_of p).1 k)
 
 -- how many levels are open
 abbrev pub levels : List Part → ℕ

@@ -12,13 +12,13 @@ use Rattle.kahn_syntax.specs.Spans.{FormSpans, Takes, ArgumentsSpan, Declaration
 use Rattle.kahn_syntax.specs.Trees.{operator_terminal, ExpressionTree, OperandTrees, no_operand, operand, level, binds, Formed, expression_nesting, StatementTree, FormedStatement, FormedStatements, IsSimple, AreSome, statement_nesting, statements_nesting}
 
 -- an expression that may stand at this level
-abbrev pub Fits : ℕ → ExpressionTree → Type 0
-Fits n e = (n ≤ binds e) × Formed e
+abbrev pub FitsLevel : ℕ → ExpressionTree → Type 0
+FitsLevel n e = (n ≤ binds e) × Formed e
 
 -- the node of a level, or the first operand alone where there is no other
-abbrev pub joined : ExpressionTree → OperandTrees → ExpressionTree
-joined e no_operand = e
-joined e (operand o f os) = level e (operand o f os)
+abbrev pub level_or_first : ExpressionTree → OperandTrees → ExpressionTree
+level_or_first e no_operand = e
+level_or_first e (operand o f os) = level e (operand o f os)
 
 -- no token of this class stands first
 abbrev pub IsAbsent : Class → List Lexeme → Type 0
@@ -49,7 +49,7 @@ Halts ks e = StopsAs e (fate 64 (ProgramPart ∷ []) ks)
 -- With so many levels open, an expression of this level of the grammar is read from the input to the rest.
 pub record ExpressionRead (text : List ℕ) (depth : ℕ) (g : Rung) (e : Expression) (input rest : List Lexeme) : Type 0 where
   pub spans : ExpressionSpans text e input rest
-  pub fits : Fits (at g) (expression_of e)
+  pub fits : FitsLevel (at g) (expression_of e)
   pub nesting : depth + expression_nesting (expression_of e) ≤ 64
   pub shorter : length rest < length input
   pub proper : AreProper text rest
@@ -60,7 +60,7 @@ pub record ExpressionBefore (text : List ℕ) (depth : ℕ) (last : Keyword) (e 
   pub between : List Lexeme
   pub spans : ExpressionSpans text e input between
   pub takes : Takes text (word last) between rest
-  pub fits : Fits 0 (expression_of e)
+  pub fits : FitsLevel 0 (expression_of e)
   pub nesting : depth + expression_nesting (expression_of e) ≤ 64
   pub shorter : length rest < length input
   pub proper : AreProper text rest
@@ -99,13 +99,13 @@ pub record PartRead (text : List ℕ) (parts : List Part) (S : List Lexeme → L
   pub reads : Reads text 0 parts input rest
 
 -- a body is one of the grammar, within the limit of nesting
-abbrev pub IsSound : DeclarationTree → Type 0
-IsSound (channels k role ns) = Unit {0}
-IsSound (process n ps vs body) = AreSome body × FormedStatements body × (statements_nesting body ≤ 64)
+abbrev pub IsFormed : DeclarationTree → Type 0
+IsFormed (channels k role ns) = Unit {0}
+IsFormed (process n ps vs body) = AreSome body × FormedStatements body × (statements_nesting body ≤ 64)
 
 abbrev pub AreSound : List DeclarationTree → Type 0
 AreSound [] = Unit {0}
-AreSound (d ∷ ds) = IsSound d × AreSound ds
+AreSound (d ∷ ds) = IsFormed d × AreSound ds
 
 -- the parameters of a process in their brackets, and what stands between them and its body
 abbrev pub head_parts : List Part

@@ -8,8 +8,8 @@ ghost use Rattle.kahn_syntax.specs.Terminals.{terminals, AreProper};
 ghost use Rattle.kahn_syntax.specs.Programs.{kind_terminal, Parameters, Variables, Declarations};
 ghost use Rattle.kahn_syntax.specs.Drawn.{process_of, declaration_of};
 ghost use Rattle.kahn_syntax.specs.inner.Machine.{DeclarationsPart, DeclarationPart, ProcessPart, RolePart, GroupsPart, GroupPart, TakingPart, VariablesPart, a_kind, leads, starts, declaration_rules};
-ghost use Rattle.kahn_syntax.specs.inner.Reads.{Reads, IsSound, head_parts, HeadSpans, ParsesPart, SoundDeclarationsSpan};
-ghost use Rattle.kahn_syntax.specs.Spans.{IsPast, DeclarationSpans, RoleSpans, ProcessSpans, ParametersSpan, GroupSpans, DirectionSpans, VariablesSpan, kind_of, parameter_of, variable_of};
+ghost use Rattle.kahn_syntax.specs.inner.Reads.{Reads, IsFormed, head_parts, HeadSpans, ParsesPart, SoundDeclarationsSpan};
+ghost use Rattle.kahn_syntax.specs.Spans.{IsPast, DeclarationSpans, RoleSpans, ProcessSpans, ParametersSpan, GroupSpans, DirectionSpans, VariablesSpan, taking_kind, parameter_with, variable_with};
 ghost use Rattle.kahn_syntax.specs.Lists.{group};
 
 use crate::lexeme::{Class, Keyword, Lexeme, Sign};
@@ -70,7 +70,7 @@ fn begins_declaration(input: &[Lexeme]) -> bool
 // A declaration.
 fn read_declaration<'t>(alloc: Global, text: &str, input: &'t [Lexeme]) -> Read<'t, Declaration>
     requires proper { AreProper text.now input.now }
-    ensures { ParsesPart result text.now (DeclarationPart ∷ []) (λ r xs l. IsSound (declaration_of r.0) × DeclarationSpans text.now r.0 xs l) input.now (λ r. r.1.now) }
+    ensures { ParsesPart result text.now (DeclarationPart ∷ []) (λ r xs l. IsFormed (declaration_of r.0) × DeclarationSpans text.now r.0 xs l) input.now (λ r. r.1.now) }
 {
     match next_kind(input) {
         Some((kind, rest)) => {
@@ -103,7 +103,7 @@ fn read_role(input: &[Lexeme]) -> (Role, &[Lexeme])
 // A process with its body.
 fn read_process<'t>(alloc: Global, text: &str, input: &'t [Lexeme]) -> Read<'t, Process>
     requires proper { AreProper text.now input.now }
-    ensures { ParsesPart result text.now (ProcessPart ∷ []) (λ r xs l. IsSound (process_of r.0) × ProcessSpans text.now r.0 xs l) input.now (λ r. r.1.now) }
+    ensures { ParsesPart result text.now (ProcessPart ∷ []) (λ r xs l. IsFormed (process_of r.0) × ProcessSpans text.now r.0 xs l) input.now (λ r. r.1.now) }
 {
     let rest = expect(input, Class::Word(Keyword::Process))?;
     let (name, rest) = read_name(alloc, text, rest)?;
@@ -176,7 +176,7 @@ fn read_group<'t>(alloc: Global, text: &str, input: &'t [Lexeme]) -> Read<'t, Gr
 // What the parameters of a group of this kind take.
 fn read_taking(kind: Kind, input: &[Lexeme]) -> (Taking, &[Lexeme])
     ensures spans { (text : List ℕ) → DirectionSpans text result.0 input.now result.1.now }
-    ensures kind { kind_of result.0 ≡ kind }
+    ensures kind { taking_kind result.0 ≡ kind }
     ensures proper { (text : List ℕ) → AreProper text input.now → AreProper text result.1.now }
     ensures reads { (text : List ℕ) → Reads text 0 (TakingPart ∷ []) input.now result.1.now }
     ensures shorter { length result.1.now ≤ length input.now }
@@ -194,7 +194,7 @@ fn add_parameters(
     taking: Taking,
     names: Vec<Name>,
 ) -> Result<(), Stop>
-    ensures items { IfOk result (λ _. parameters.new.items ≡ parameters.old.items ++ map (parameter_of taking) names.items) }
+    ensures items { IfOk result (λ _. parameters.new.items ≡ parameters.old.items ++ map (parameter_with taking) names.items) }
     ensures stop { IfErr result (λ e. e ≡ NoMemory) }
 {
     for name in names {
@@ -221,7 +221,7 @@ fn read_variables<'t>(alloc: Global, text: &str, input: &'t [Lexeme]) -> Read<'t
 
 // Variables of these names.
 fn add_variables(variables: &mut Vec<Variable>, kind: Kind, names: Vec<Name>) -> Result<(), Stop>
-    ensures items { IfOk result (λ _. variables.new.items ≡ variables.old.items ++ map (variable_of kind) names.items) }
+    ensures items { IfOk result (λ _. variables.new.items ≡ variables.old.items ++ map (variable_with kind) names.items) }
     ensures stop { IfErr result (λ e. e ≡ NoMemory) }
 {
     for name in names {

@@ -1,4 +1,4 @@
-use Rattle.kahn_syntax.proofs.Parsing.{GroupPart, GroupsPart, GroupsTail, Semicolon, SignClass, SomeParametersSpan, a_kind, a_sign, arith, call_stops, err_from_is_err_and, false, group, groups_end, last_member, leads, members_of, next_member, one_lexeme, opens_groups, parameter_of, parameters_first, parameters_next, refl, rules, sign, some_are_parameters, subst, sym, terminals, then_stops, true, [], ◌++◌, ◌∷◌, ◌≡◌}
+use Rattle.kahn_syntax.proofs.Parsing.{GroupPart, GroupsPart, GroupsTail, Semicolon, SignClass, SomeParametersSpan, a_kind, a_sign, arith, call_stops, err_from_is_err_and, false, group, groups_end, last_member, leads, members_of, next_member, one_lexeme, opens_groups, parameter_with, parameters_first, parameters_next, refl, rules, sign, some_are_parameters, subst, sym, terminals, then_stops, true, [], ◌++◌, ◌∷◌, ◌≡◌}
 use Rattle.kahn_syntax.proofs.parser.declaration.read_parameters.Goals as goal
 
 pub returns-in_err-group : goal.returns-in_err-group
@@ -12,7 +12,7 @@ groups-init c =
     let a : leads a_kind (terminals c.args.text.now c.args.input.now) ≡ true = search rules in
     let e = c.new-parameters.ensures.items in
     record {
-      spans = λ g r p. subst (λ ps. SomeParametersSpan c.args.text.now (ps ++ members_of parameter_of g) c.args.input.now r) (sym e) (parameters_first c.args.text.now _ g c.args.input.now r refl p);
+      spans = λ g r p. subst (λ ps. SomeParametersSpan c.args.text.now (ps ++ members_of parameter_with g) c.args.input.now r) (sym e) (parameters_first c.args.text.now _ g c.args.input.now r refl p);
       shorter = omega arith;
       proper = c.requires.proper;
       reads = opens_groups c.args.text.now [] c.args.input.now a;

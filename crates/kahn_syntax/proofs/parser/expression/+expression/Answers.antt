@@ -1,4 +1,4 @@
-use Rattle.kahn_syntax.proofs.Parsing.{nothing, Close, Else, ExpressionPart, ExpressionRead, ExpressionSpans, False, Fits, FormedOperands, If, IsUnsigned, LevelPart, Minus, NameClass, NotWord, Number, Open, OperandsSpan, OperatorsPart, SignClass, Takes, Then, TokenPart, True, Word, a_sign, a_word, ap, arith, at, call, call_stops, choice_parts, compared_fits, comparison, deep, denials, drop, err_from_is_err_and, expected, expression_nesting, expression_of, factor_rules, factors, false, first_of, form_of, formed_next, hidden-the_row-Operand-0, joined_made, joined_nesting, level_chain, level_ends, level_fits, made, name, name_of, no_operand, no_operands, number_fits, one, one_lexeme, only_memory, opened, opens_chain, opens_denial, opens_whole, operands_made, operands_nesting, operands_nesting_next, operands_next, operands_of, operands_row, operands_row_spans, operator_more, operator_terminal, ors, refl, refused, relations, rules, rung_of, sign, starts, subst, sums, sym, terminals, then, then_stops, tighter, to_z-of_z, unexpected, vec_len, w64, whole, word, [], ◌∙◌, ◌∷◌, ◌≡◌}
+use Rattle.kahn_syntax.proofs.Parsing.{nothing, Close, Else, ExpressionPart, ExpressionRead, ExpressionSpans, False, FitsLevel, FormedOperands, If, IsUnsigned, LevelPart, Minus, NameClass, NotWord, Number, Open, OperandsSpan, OperatorsPart, SignClass, Takes, Then, TokenPart, True, Word, a_sign, a_word, ap, arith, at, call, call_stops, choice_parts, compared_fits, comparison, deep, denials, drop, err_from_is_err_and, expected, expression_nesting, expression_of, factor_rules, factors, false, first_of, form_of, formed_next, hidden-the_row-Operand-0, joined_made, joined_nesting, level_chain, level_ends, level_fits, made, name, name_of, no_operand, no_operands, number_fits, one, one_lexeme, only_memory, opened, opens_chain, opens_denial, opens_whole, operands_made, operands_nesting, operands_nesting_next, operands_next, operands_of, operands_row, operands_row_spans, operator_more, operator_terminal, ors, refl, refused, relations, rules, rung_of, sign, starts, subst, sums, sym, terminals, then, then_stops, tighter, to_z-of_z, unexpected, vec_len, w64, whole, word, [], ◌∙◌, ◌∷◌, ◌≡◌}
 use Rattle.kahn_syntax.specs.Terminals.{number}
 use Rattle.std.specs.Prelude.{◌==◌, length, true}
 use Rattle.kahn_syntax.proofs.parser.expression.+expression.Goals as goal
@@ -269,7 +269,7 @@ read_relation-returns t c =
         c.in_ok-form.ensures.spans T c.args.input.now c.in_ok-left.rest.now c.in-Some.after.now c.in_ok-right.rest.now c.in_ok-left.ensures.spans
             (one_lexeme T (operator_terminal c.in-Some.operator) c.in_ok-left.rest.now c.in-Some.after.now c.in-Some.ensures.passed (c.in-Some.ensures.first T)) c.in_ok-right.ensures.spans,
       );
-      fits = subst (Fits 4) (sym c.in_ok-form.ensures.built) (compared_fits c.in-Some.operator _ _ c.in-Some.ensures.ranked c.in_ok-left.ensures.fits c.in_ok-right.ensures.fits);
+      fits = subst (FitsLevel 4) (sym c.in_ok-form.ensures.built) (compared_fits c.in-Some.operator _ _ c.in-Some.ensures.ranked c.in_ok-left.ensures.fits c.in_ok-right.ensures.fits);
       nesting = omega (arith, ap expression_nesting c.in_ok-form.ensures.built, c.in_ok-left.ensures.nesting, c.in_ok-right.ensures.nesting);
       shorter = omega (arith, c.in-Some.ensures.shorter, c.in_ok-left.ensures.shorter, c.in_ok-right.ensures.shorter);
       proper = c.in_ok-right.ensures.proper;
@@ -302,7 +302,7 @@ read_level-returns t c =
     (λ e. let t : c.is_empty.result ≡ true = c.is_empty.ensures ∙ ap (λ n. n == 0) (l ∙ ap length e) in cc (t, c.if-is_empty.false)) in
     made T c.args.depth (rung_of c.args.level) _ c.args.input.now c.operands.rest.now (λ span h. record {
       spans = (h, (i.spans.0, i.spans.1, operands_row_spans T further i.spans.0 c.operands.rest.now i.spans.2));
-      fits = subst (Fits (at (rung_of c.args.level))) (sym m) (level_fits c.args.level _ _ c.in_ok-first.ensures.fits i.formed);
+      fits = subst (FitsLevel (at (rung_of c.args.level))) (sym m) (level_fits c.args.level _ _ c.in_ok-first.ensures.fits i.formed);
       nesting = omega (arith, ap expression_nesting m, joined_nesting (expression_of first) (operands_of further.items), i.nesting);
       shorter = i.shorter;
       proper = i.proper;
