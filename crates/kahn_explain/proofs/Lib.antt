@@ -1,3 +1,5 @@
+pub mod Noted
+pub mod Refused
 mod Reports
 mod Told
 mod Traced_texts

@@ -15,7 +15,7 @@ use Rattle.kahn_report.specs.declared.working.WorkFault.{WorkFault}
 use Rattle.kahn_report.specs.declared.working.WorkFault.TheVariants.{Syntax, Check, Text, Run, Write}
 use Rattle.std.specs.declared.alloc.Global.{Global}
 use Rattle.std.specs.declared.string.String.{String}
-use Rattle.kahn_refusals.specs.Refusing.{IsNoteOn, IsRefusal}
+use Rattle.kahn_explain.specs.Refusing.{IsNoteOn, IsRefusal}
 use Rattle.kahn_explain.specs.declared.explaining.Came.{Came}
 use Rattle.kahn_explain.specs.declared.explaining.Came.TheVariants.{Stopped, Refused}
 use Rattle.kahn_warnings.specs.Telling.{AreWarningNotes}

@@ -11,7 +11,7 @@ use Rattle.kahn_why.specs.Reported.{IsReported}
 use Rattle.kahn_why.specs.declared.reported.Reported.{Reported}
 use Rattle.kahn_why.specs.declared.told.Told.{Told}
 use Rattle.kahn_explain.specs.Explaining.{AreAllowed, IsRefusedFor}
-use Rattle.kahn_refusals.specs.Refusing.{IsRefusal}
+use Rattle.kahn_explain.specs.Refusing.{IsRefusal}
 use Rattle.kahn_explain.specs.declared.explaining.Came.{Came}
 use Rattle.kahn_explain.specs.declared.explaining.Came.TheVariants.{Stopped, Refused}
 

@@ -20,7 +20,7 @@ use Rattle.kahn_why.specs.declared.told.Explanation.{Explanation}
 use Rattle.kahn_why.specs.declared.told.Told.{Told}
 use Rattle.kahn_why.specs.declared.told.Told.TheVariants as told
 use Rattle.kahn_explain.specs.Explaining.{AreAllowed, IsRefusedFor}
-use Rattle.kahn_refusals.specs.Refusing.{IsRefusal}
+use Rattle.kahn_explain.specs.Refusing.{IsRefusal}
 use Rattle.kahn_explain.specs.declared.explaining.Came.{Came}
 use Rattle.kahn_explain.specs.declared.explaining.Came.TheVariants.{Stopped, Refused}
 

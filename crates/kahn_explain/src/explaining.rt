@@ -7,9 +7,9 @@ ghost use Rattle.kahn_explain.specs.Reporting.{HasReported, came_of};
 ghost use Rattle.kahn_explain.specs.Tracing.{HasTraced, beside};
 ghost use Rattle.kahn_explain.specs.inner.Told.{HasRefused, HasWarned};
 
+use crate::refusing::refusal_note;
 use kahn_network::Network;
 use kahn_pool::{Answer, Config, Open, RunFault, Verdict, run};
-use kahn_refusals::refusal_note;
 use kahn_report::{WorkFault, checked, read_input, write_line};
 use kahn_trace::{histories_of, trace_text};
 use kahn_tree::NoMemory;

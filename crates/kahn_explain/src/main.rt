@@ -6,6 +6,8 @@ ghost use Rattle.std.specs.Prelude.{◌≡◌, IfOk, string_bytes};
 ghost use Rattle.kahn_explain.specs.Explaining.{path_name};
 
 mod explaining;
+mod noting;
+mod refusing;
 mod telling;
 
 use explaining::{Came, explain, explain_report, status, trace};

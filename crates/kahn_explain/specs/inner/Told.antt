@@ -8,7 +8,7 @@ use Rattle.kahn_report.specs.Work.{IsUnchecked}
 use Rattle.kahn_write.specs.Written.{AppendsFront}
 use Rattle.kahn_report.specs.declared.working.WorkFault.{WorkFault}
 use Rattle.kahn_report.specs.declared.working.WorkFault.TheVariants.{Syntax, Check, Text, Run, Write}
-use Rattle.kahn_refusals.specs.Refusing.{IsNoteOn, IsRefusal}
+use Rattle.kahn_explain.specs.Refusing.{IsNoteOn, IsRefusal}
 use Rattle.kahn_explain.specs.declared.explaining.Came.{Came}
 use Rattle.kahn_explain.specs.declared.explaining.Came.TheVariants.{Stopped, Refused}
 

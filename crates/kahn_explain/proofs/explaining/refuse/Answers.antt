@@ -1,6 +1,6 @@
 use Rattle.std.proofs.Common.{None, string_bytes, subst}
 use Rattle.std.specs.Prelude.{MatchOption}
-use Rattle.kahn_refusals.specs.Refusing.{IsNoteOn, IsRefusal}
+use Rattle.kahn_explain.specs.Refusing.{IsNoteOn, IsRefusal}
 use Rattle.kahn_explain.proofs.Told.{broke_off, went_out}
 use Rattle.kahn_explain.proofs.explaining.refuse.Goals as goal
 

@@ -1,8 +1,8 @@
 use Rattle.std.proofs.Common.{sym}
 use Rattle.std.proofs.lemmas.Result.{IfOk-weaker}
-use Rattle.kahn_refusals.specs.Refusing.{IsPlacedNote, IsSyntaxRefusal}
-use Rattle.kahn_refusals.proofs.Refused.{expected, told_expected, told_other}
-use Rattle.kahn_refusals.proofs.refusing.syntax_note.Goals as goal
+use Rattle.kahn_explain.specs.Refusing.{IsPlacedNote, IsSyntaxRefusal}
+use Rattle.kahn_explain.proofs.Refused.{expected, told_expected, told_other}
+use Rattle.kahn_explain.proofs.refusing.syntax_note.Goals as goal
 
 pub unexpected_note-requires : goal.unexpected_note-requires
 unexpected_note-requires c = expected c.args.program.now c.args.fault c.in-Some.span c.in-Some.what (sym c.in-Some.ensures) c.requires

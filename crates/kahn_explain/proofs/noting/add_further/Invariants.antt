@@ -1,6 +1,6 @@
 use Rattle.std.proofs.Common.{◌≡◌, ◌++◌, drop, string_bytes}
-use Rattle.kahn_refusals.specs.Noting.{further_text}
-use Rattle.kahn_refusals.proofs.noting.add_further.Given as goal
+use Rattle.kahn_explain.specs.Noting.{further_text}
+use Rattle.kahn_explain.proofs.noting.add_further.Given as goal
 
 abbrev pub invariant-loop-fault : goal.invariant-loop-fault
 invariant-loop-fault l =

@@ -3,7 +3,7 @@ use Rattle.std.proofs.Common.{◌≡◌, ℕ, zero, suc, List, ◌∷◌, ◌++�
 use Rattle.std.specs.Prelude.{codes, take, min}
 use Rattle.std.proofs.lemmas.List.{take_min, drop_min}
 use Rattle.kahn_check.specs.declared.fault.CheckFault.{CheckFault}
-use Rattle.kahn_refusals.specs.Noting.{after_blank_lines, counted_text, most_notes, unsaid_text}
+use Rattle.kahn_explain.specs.Noting.{after_blank_lines, counted_text, most_notes, unsaid_text}
 
 -- one note more, behind a blank line
 pub one_further : (old note : List ℕ) (texts : List (List ℕ)) → ((old ++ codes "\n") ++ note) ++ after_blank_lines texts ≡ old ++ after_blank_lines (note ∷ texts)

@@ -18,9 +18,9 @@ use Rattle.kahn_notes.specs.Notes.{IsCommented, IsNote}
 use Rattle.kahn_wanted.specs.Comments.{AreComments}
 use Rattle.kahn_report.specs.Work.{IsParsed}
 use Rattle.kahn_report.specs.declared.working.WorkFault.TheVariants.{Check, Syntax}
-use Rattle.kahn_refusals.specs.Refusing.{IsNoteOn}
-use Rattle.kahn_refusals.specs.Noting.{faults_text}
-use Rattle.kahn_refusals.specs.Refusing.{IsPlacedNote, IsRefusal, IsSyntaxRefusal, expected_of, refused_words}
+use Rattle.kahn_explain.specs.Refusing.{IsNoteOn}
+use Rattle.kahn_explain.specs.Noting.{faults_text}
+use Rattle.kahn_explain.specs.Refusing.{IsPlacedNote, IsRefusal, IsSyntaxRefusal, expected_of, refused_words}
 
 abbrev unwrapped : Span × What → Option (Span × What) → Span × What
 unwrapped d None = d

@@ -4,7 +4,7 @@ ghost use Rattle.std.specs.Prelude.{◌≡◌, IfOk, MatchOption, None, string_b
 ghost use Rattle.kahn_report.specs.Work.{IsUnchecked};
 ghost use Rattle.kahn_syntax.specs.Texts.{IsTextFault as IsSyntaxFault};
 ghost use Rattle.kahn_fault.specs.Message.{check_span};
-ghost use Rattle.kahn_refusals.specs.Refusing.{IsNoteOn, IsPlacedNote, IsRefusal, IsSyntaxRefusal, expected_of, refused_words};
+ghost use Rattle.kahn_explain.specs.Refusing.{IsNoteOn, IsPlacedNote, IsRefusal, IsSyntaxRefusal, expected_of, refused_words};
 
 use crate::noting::faults_note;
 use kahn_check::{CheckFault, every, part_by_part};
@@ -103,7 +103,7 @@ fn network_note(
 /// the fault with what is wanted and what is found, the nearest name, and another place that has to do with it. Of a network each
 /// part that has a fault is told. It refuses only where memory was refused.
 #[tactic(auto, using(crate::proofs::Refused::told_syntax))]
-pub fn refusal_note(
+pub(crate) fn refusal_note(
     alloc: Global,
     path: &str,
     program: &str,

@@ -18,7 +18,7 @@ use Rattle.kahn_notes.specs.Characters.{character_help}
 use Rattle.kahn_notes.specs.Notes.{IsCommented, IsNote}
 use Rattle.kahn_wanted.specs.Comments.{AreComments}
 use Rattle.kahn_report.specs.Work.{IsParsed, IsUnchecked}
-use Rattle.kahn_refusals.specs.Noting.{faults_text}
+use Rattle.kahn_explain.specs.Noting.{faults_text}
 
 -- the place and the reason, where a lexeme can't stand or the text ends too early
 abbrev pub expected_of : SyntaxFault → Option (Span × What)

@@ -1,6 +1,6 @@
 use Rattle.std.proofs.Common.{◌∙◌, sym}
-use Rattle.kahn_refusals.proofs.Refused.{told_placed}
-use Rattle.kahn_refusals.proofs.refusing.placed_note.Goals as goal
+use Rattle.kahn_explain.proofs.Refused.{told_placed}
+use Rattle.kahn_explain.proofs.refusing.placed_note.Goals as goal
 
 pub returns-in_ok-note-in-Some : goal.returns-in_ok-note-in-Some
 returns-in_ok-note-in-Some c =

@@ -1,6 +1,6 @@
 use Rattle.std.proofs.Common.{◌≡◌, ◌==◌, ◌∙◌, [], ap, length, true}
-use Rattle.kahn_refusals.proofs.Refused.{told_faults}
-use Rattle.kahn_refusals.proofs.refusing.network_note.Goals as goal
+use Rattle.kahn_explain.proofs.Refused.{told_faults}
+use Rattle.kahn_explain.proofs.refusing.network_note.Goals as goal
 
 pub returns : goal.returns
 returns c =

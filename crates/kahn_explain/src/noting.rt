@@ -1,7 +1,7 @@
 //! The notes on what is wrong with the network that a program text spells.
 
 ghost use Rattle.std.specs.Prelude.{◌≡◌, ◌++◌, IfOk, string_bytes};
-ghost use Rattle.kahn_refusals.specs.Noting.{counted_text, faults_text, further_text, held_words, note_text, notes_text, unsaid_text};
+ghost use Rattle.kahn_explain.specs.Noting.{counted_text, faults_text, further_text, held_words, note_text, notes_text, unsaid_text};
 
 use itoa::Buffer;
 use kahn_check::CheckFault;
