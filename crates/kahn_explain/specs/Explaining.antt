@@ -4,7 +4,7 @@ use Rattle.std.specs.Io.KnownBytes.{Appends}
 use Rattle.kahn_config.specs.declared.Config.{Config}
 use Rattle.kahn_tree.specs.declared.tree.Program.{Program}
 use Rattle.kahn_streams.specs.Tokens.{Lists}
-use Rattle.kahn_pool.specs.Runs.{IsRightRun, IsUnrun}
+use Rattle.kahn_pool.specs.Runs.{IsUnrun}
 use Rattle.kahn_pool.specs.declared.answer.Answer.{Answer}
 use Rattle.kahn_pool.specs.declared.answer.Verdict.TheVariants.{Finished, Bound, Memory}
 use Rattle.kahn_pool.specs.declared.config.RunFault.TheVariants.{NoMemory}
@@ -23,10 +23,6 @@ use Rattle.kahn_why.specs.Words.{IsExplained}
 use Rattle.kahn_why.specs.declared.told.Explanation.{Explanation}
 use Rattle.kahn_why.specs.declared.told.Told.{Told}
 use Rattle.kahn_why.specs.declared.told.Told.TheVariants as told
-
--- a right answer of the run of a network on an input text
-abbrev pub IsAnswerFor : Program → List ℕ → Config → Answer → Type 0
-IsAnswerFor t text config a = (lists : Lists) × StandsFor t text lists × IsRightRun t lists config a
 
 -- why a right answer of the run of these texts stopped
 abbrev pub IsExplanationOf : List ℕ → List ℕ → Config → Explanation → Type 0

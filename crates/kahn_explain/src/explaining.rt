@@ -1,17 +1,16 @@
 //! From a program text and an input text to why the run stopped, or to a table of all histories; or from a report to why its run stopped.
 
 ghost use Rattle.std.specs.Prelude.{◌≡◌, [], IsFalse, IsTrue, MatchResult, true};
-ghost use Rattle.kahn_report.specs.Work.{IsUnanswered, IsUnchecked};
-ghost use Rattle.kahn_explain.specs.Explaining.{HasExplained, IsAnswerFor, came_status, told_status};
+ghost use Rattle.kahn_report.specs.Work.{IsUnchecked};
+ghost use Rattle.kahn_explain.specs.Explaining.{HasExplained, came_status, told_status};
 ghost use Rattle.kahn_explain.specs.Reporting.{HasReported, came_of};
 ghost use Rattle.kahn_explain.specs.Tracing.{HasTraced, beside};
 ghost use Rattle.kahn_explain.specs.inner.Told.{HasRefused, HasWarned};
 
 use crate::refusing::refusal_note;
-use kahn_network::Network;
-use kahn_pool::{Answer, Config, Open, RunFault, Verdict, run};
-use kahn_report::{WorkFault, checked, read_input, write_line};
-use kahn_trace::{histories_of, trace_text};
+use kahn_pool::{Config, RunFault, Verdict};
+use kahn_report::{WorkFault, checked, write_line};
+use kahn_trace::{answered, histories_of, trace_text};
 use kahn_tree::NoMemory;
 use kahn_warnings::warning_notes;
 use kahn_why::{Told, explained, explained_report};
@@ -19,23 +18,6 @@ use std::alloc::Global;
 use std::io::Write;
 use std::sync::Wait;
 use std::thread::Threads;
-
-/// The answer of a network for an input text.
-fn answered<R: Threads + Wait + Sync>(
-    rt: &R,
-    alloc: Global,
-    network: &Network,
-    text: &str,
-    config: Config,
-) -> Result<Answer, WorkFault>
-    ensures { MatchResult result (IsAnswerFor network.now text.now config) (IsUnanswered network.now text.now config) }
-{
-    let input = read_input(alloc, text, network)?;
-    match run(rt, alloc, network, input, config, &Open) {
-        Ok(answer) => Ok(answer),
-        Err(fault) => Err(WorkFault::Run(fault)),
-    }
-}
 
 /// What the explaining came to.
 #[derive(Clone, Copy)]

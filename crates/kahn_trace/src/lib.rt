@@ -11,3 +11,6 @@ mod watched;
 pub use column::Column;
 pub use histories::{Traced, histories_of};
 pub use table::trace_text;
+
+// For the crates above.
+pub use watched::answered;
