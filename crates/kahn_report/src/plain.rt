@@ -13,7 +13,6 @@ use std::marker::Brand;
 use std::sync::ledger::{Blank, Ledger};
 
 /// Opens a count, and writes the values.
-#[tactic(auto, using(crate::proofs::Fresh::tokens_plain))]
 fn plain_opened<W: Write, L: Ledger>(
     writer: &mut W,
     blank: Blank,
