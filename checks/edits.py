@@ -18,7 +18,7 @@ import tempfile
 import mine
 
 UNREAD = re.compile(r"(\./)?(src|specs)/\S+:\d+:\d+: error: (?!`)")
-TOLD = re.compile(r"(note: )?\S+:\d+:\d+: ")
+TOLD = re.compile(r"note: \S+:\d+:\d+: |\S+:\d+:\d+: error")
 
 
 class Unfit(Exception):

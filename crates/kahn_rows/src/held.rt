@@ -323,6 +323,36 @@ fn turned(alloc: Global, input: &str) -> Result<Vec<(String, Vec<Value>)>, Fail>
 // A program, its input, and the channel that is watched.
 type Whole<'a> = (&'a str, &'a str, Option<&'a str>);
 
+// Feeds a piece of each list and runs a part, both as large as this number picks: whether the streams begin those of the whole report.
+fn begins_whole<R: Threads + Wait + Sync>(
+    rt: &R,
+    alloc: Global,
+    network: &Network,
+    held: &mut Held,
+    entries: &mut Vec<(String, Vec<Value>)>,
+    number: u64,
+    whole: &str,
+) -> Result<bool, Fail> {
+    feed_pieces(alloc, held, entries, below(30, number))?;
+    held.resume(rt, below(90, shuffled(number)), &Through)?;
+    Ok(streams_begin(whole, report_of(alloc, network, held)?.as_str()))
+}
+
+// Feeds what is left and runs to the end: whether the report is the whole one.
+fn ends_whole<R: Threads + Wait + Sync>(
+    rt: &R,
+    alloc: Global,
+    network: &Network,
+    held: &mut Held,
+    entries: &mut Vec<(String, Vec<Value>)>,
+    whole: &str,
+) -> Result<bool, Fail> {
+    feed_pieces(alloc, held, entries, AMPLE)?;
+    let verdict = held.resume(rt, AMPLE, &Through)?;
+    let report = report_of(alloc, network, held)?;
+    Ok(verdict == Verdict::Finished && report.as_str() == whole)
+}
+
 // Runs a program in parts, and feeds its input in pieces: this number picks where it is cut. Whether each answer has streams
 // that begin those of the whole report, and the last answer has that report.
 fn agrees_in_parts<R: Threads + Wait + Sync>(
@@ -341,16 +371,11 @@ fn agrees_in_parts<R: Threads + Wait + Sync>(
     let mut held = begun(alloc, &network, "", config)?;
     for _ in 0..below(12, shuffled(number)) {
         number = shuffled(number);
-        feed_pieces(alloc, &mut held, &mut entries, below(30, number))?;
-        held.resume(rt, below(90, shuffled(number)), &Through)?;
-        if !streams_begin(whole, report_of(alloc, &network, &held)?.as_str()) {
+        if !begins_whole(rt, alloc, &network, &mut held, &mut entries, number, whole)? {
             return Ok(false);
         }
     }
-    feed_pieces(alloc, &mut held, &mut entries, AMPLE)?;
-    let verdict = held.resume(rt, AMPLE, &Through)?;
-    let report = report_of(alloc, &network, &held)?;
-    Ok(verdict == Verdict::Finished && report.as_str() == whole)
+    ends_whole(rt, alloc, &network, &mut held, &mut entries, whole)
 }
 
 // An input text with the numbers below this one on a channel.
