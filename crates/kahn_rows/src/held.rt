@@ -3,9 +3,10 @@
 ghost use Rattle.std.specs.Prelude.{IsTrue};
 ghost use Rattle.kahn_report.specs.Report.{HasItsLines, IsLine};
 
+use crate::chance::{below, shuffled};
 use crate::gates::Through;
 use crate::programs::{ADD, ALTERNATE, COPIES, COUNT, DIVISION, DOUBLE, FOUR_TURNS, INVERT, TOP};
-use crate::rows::{AMPLE, below, config, reported, shuffled, streams_begin};
+use crate::rows::{AMPLE, config, reported, streams_begin};
 use kahn_check::{Network, check};
 use kahn_pool::{Answer, Config, Held, HeldFault, Open, Verdict};
 use kahn_report::{read_entries, read_input, write_report};

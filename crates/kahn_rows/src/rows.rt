@@ -49,8 +49,8 @@ pub fn reported<R: Threads + Wait + Sync, G: Gate + Sync>(
     Ok((verdict, String::from_utf8(written)?))
 }
 
-// What the row shows, its program, its input, the channel that is watched, the bound, and the verdict and the report.
-type Row = (
+/// What the row shows, its program, its input, the channel that is watched, the bound, and the verdict and the report.
+pub type Row = (
     &'static str,
     &'static str,
     &'static str,
@@ -69,7 +69,8 @@ end 4 h: waits on T2 after 8
 finished 46
 ";
 
-static ROWS: [Row; 30] = [
+/// The rows.
+pub static ROWS: [Row; 30] = [
     (
         "the counting process",
         COUNT,
@@ -386,8 +387,8 @@ fn last_number(line: &str) -> u64 {
     }
 }
 
-// The events of all instances.
-fn events_of(report: &str) -> u64 {
+/// The events of all instances.
+pub fn events_of(report: &str) -> u64 {
     let mut sum = 0u64;
     for line in report.lines() {
         if line.starts_with("end ") {
@@ -411,8 +412,8 @@ pub fn streams_begin(whole: &str, report: &str) -> bool {
     false
 }
 
-// Whether a report is of a run that did just as many events as its bound, and whose streams begin those of the whole.
-fn is_stopped(whole: &str, bound: u64, verdict: Verdict, report: &str) -> bool {
+/// Whether a report is of a run that did just as many events as its bound, and whose streams begin those of the whole.
+pub fn is_stopped(whole: &str, bound: u64, verdict: Verdict, report: &str) -> bool {
     let last = report.lines().last().unwrap_or("");
     verdict == Verdict::Bound
         && last.starts_with("stopped by bound ")
@@ -448,78 +449,6 @@ fn the_sample_is_stopped_by_its_bound(rt: HostRuntime) -> Result<(), Fail> {
                     "{workers} {quantum}"
                 );
             }
-        }
-    }
-    Ok(())
-}
-
-// Whether a report is the whole one where the bound suffices for its events, and else one of a run that was stopped.
-fn agrees(whole: &str, bound: u64, verdict: Verdict, report: &str) -> bool {
-    if events_of(whole) <= bound {
-        verdict == Verdict::Finished && report == whole
-    } else {
-        is_stopped(whole, bound, verdict, report)
-    }
-}
-
-/// The next of numbers that look like chance, and are the same whenever the test is run.
-pub fn shuffled(number: u64) -> u64 {
-    number
-        .wrapping_mul(6364136223846793005)
-        .wrapping_add(1442695040888963407)
-}
-
-/// A number below this one, or 0.
-pub fn below(limit: u64, number: u64) -> u64 {
-    (number >> 33).checked_rem(limit).unwrap_or(0)
-}
-
-// Runs a row by workers, a quantum and a bound that this number picks: whether its report is the whole one, or is stopped.
-fn agrees_at<R: Threads + Wait + Sync>(
-    rt: &R,
-    alloc: Global,
-    row: Row,
-    number: u64,
-) -> Result<bool, Fail> {
-    let (_, program, input, watch, _, _, whole) = row;
-    let second = shuffled(number);
-    let workers = below(16, number).saturating_add(1);
-    let most = if number % 4 == 0 { 1_000_000 } else { 8 };
-    let quantum = below(most, second).saturating_add(1);
-    let bound = below(60, shuffled(second));
-    let config = config(alloc, workers, quantum, bound, watch)?;
-    let (verdict, report) = reported(rt, alloc, program, input, config, &Through)?;
-    Ok(agrees(whole, bound, verdict, report.as_str()))
-}
-
-// Whether a row agrees at 40 numbers, from the one behind this one on.
-fn agrees_at_random<R: Threads + Wait + Sync>(
-    rt: &R,
-    alloc: Global,
-    row: Row,
-    number: u64,
-) -> Result<bool, Fail> {
-    let mut number = number;
-    for _ in 0..40u64 {
-        number = shuffled(number);
-        if !agrees_at(rt, alloc, row, number)? {
-            return Ok(false);
-        }
-    }
-    Ok(true)
-}
-
-#[test]
-fn numbers_at_random(rt: HostRuntime) -> Result<(), Fail> {
-    let mut number = 20;
-    for row in ROWS {
-        number = shuffled(number);
-        if row.5 == Verdict::Finished {
-            assert!(rt;
-                agrees_at_random(&rt, rt.alloc(), row, number)?,
-                "{} {number}",
-                row.0
-            );
         }
     }
     Ok(())
