@@ -201,5 +201,5 @@ fn named_token(
     ensures here { (result.line ≡ line) × (result.place ≡ place) × (result.value ≡ value) }
     ensures names { IsOf names.network names.input result }
 {
-    Token::of(line, place, value)
+    Token::of_word(line, place, value)
 }

@@ -39,7 +39,7 @@ fn token_for(_bench: &Bench<'_>, channel: usize, place: u64, value: Word) -> Tok
     requires { Holds names.network names.input (Line.Channel channel) place value }
     ensures { result.value ≡ value }
 {
-    Token::of(Line::Channel(channel), place, value)
+    Token::of_word(Line::Channel(channel), place, value)
 }
 
 // The token of a value of an input channel.

@@ -55,7 +55,7 @@ fn token_of(_carried: &Carried, line: Line, place: u64, value: Word) -> Token
     ensures here { (result.line ≡ line) × (result.place ≡ place) × (result.value ≡ value) }
     ensures names { (result.network.value ≡ names.network) × (result.input.value ≡ names.input) }
 {
-    Token::of(line, place, value)
+    Token::of_word(line, place, value)
 }
 
 impl Carried {

@@ -27,7 +27,17 @@ pub struct Token {
 impl Token {
     /// The token of a value that stands there, for the network and the input that the caller names for contracts
     /// alone. It takes no memory.
-    pub fn of(line: Line, place: u64, value: Word) -> Token
+    pub fn of(line: Line, place: u64, value: Value) -> Token
+        ghost names: { Names }
+        requires { Holds names.network names.input line place value }
+        ensures here { (result.line ≡ line) × (result.place ≡ place) × (result.value ≡ value) }
+        ensures names { (result.network.value ≡ names.network) × (result.input.value ≡ names.input) }
+    {
+        Token::of_word(line, place, Word::of(value))
+    }
+
+    /// The token of a value as a register holds it.
+    pub fn of_word(line: Line, place: u64, value: Word) -> Token
         ghost names: { Names }
         requires { Holds names.network names.input line place value }
         ensures here { (result.line ≡ line) × (result.place ≡ place) × (result.value ≡ value) }
@@ -49,7 +59,7 @@ impl Token {
         ensures here { (result.line ≡ line) × (result.place ≡ place) × (result.value ≡ value) }
         ensures names { (result.network.value ≡ names.network) × (result.input.value ≡ names.input) }
     {
-        Token::of(line, place, value)
+        Token::of_word(line, place, value)
     }
 
     // The token of a value that stands there in the solution of this network for this input.

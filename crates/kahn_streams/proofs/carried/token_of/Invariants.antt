@@ -1,4 +1,4 @@
 use Rattle.kahn_streams.proofs.carried.token_of.Given as goal
 
-abbrev pub ghost-of : goal.ghost-of
-ghost-of g a = g.names
+abbrev pub ghost-of_word : goal.ghost-of_word
+ghost-of_word g a = g.names
