@@ -3,4 +3,7 @@ mod Folding
 mod Holding
 mod Unchanged
 mod Unseen
+mod Innocent
+mod Nowhere
+mod Placing
 mod Reading

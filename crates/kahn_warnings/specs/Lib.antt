@@ -1,5 +1,6 @@
 pub mod Comments
 pub mod Constants
+pub mod Faults
 pub mod Loops
 pub mod Uses
 pub mod Telling

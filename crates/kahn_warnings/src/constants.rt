@@ -19,7 +19,7 @@ fn good(outcome: Result<Value, Failure>) -> Option<Value>
 }
 
 /// The fault, where there is one.
-fn bad(outcome: Result<Value, Failure>) -> Option<Failure>
+pub(crate) fn bad(outcome: Result<Value, Failure>) -> Option<Failure>
     ensures { result ≡ bad outcome }
 {
     match outcome {
@@ -119,7 +119,7 @@ pub(crate) fn negate_fault(value: Option<Value>) -> Option<Failure>
 }
 
 /// Whether an operator divides.
-fn divides(operator: Operator) -> bool
+pub(crate) fn divides(operator: Operator) -> bool
     ensures { result ≡ divides operator }
 {
     matches!(operator, Operator::Divide | Operator::Remainder)

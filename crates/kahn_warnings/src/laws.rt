@@ -1,6 +1,7 @@
-//! The laws of what is warned of.
+//! The laws of what is warned of, and of where faults come from.
 
 ghost use Rattle.kahn_warnings.specs.Constants.{ConstantsHold};
+ghost use Rattle.kahn_warnings.specs.Faults.{FaultsLie};
 ghost use Rattle.kahn_warnings.specs.Loops.{LoopsHold};
 
 /// The law of constants: what is warned of happens wherever it is reached, whatever the values of the names and whatever comes on the
@@ -13,4 +14,10 @@ pub fn constants_hold()
 /// nothing and sends nothing. Its contract is what it does.
 pub fn loops_hold()
     ensures { LoopsHold }
+{}
+
+/// The law of faults: an operator that isn't told has no such fault, whatever its operands are; a body in which none is told never ends
+/// with that fault, so an instance that has it in the solution has a place. Its contract is what it does.
+pub fn faults_lie()
+    ensures { FaultsLie }
 {}

@@ -1,9 +1,10 @@
-//! Warnings: what a program may have, and seldom means.
+//! Warnings: what a program may have, and seldom means; and where its faults of arithmetic come from.
 #![tactic(auto)]
 
 mod arithmetic;
 mod comments;
 mod constants;
+mod faults;
 mod laws;
 mod loops;
 mod names;
@@ -13,7 +14,8 @@ mod surely;
 mod uses;
 mod warning;
 
-pub use laws::{constants_hold, loops_hold};
+pub use faults::fault_places;
+pub use laws::{constants_hold, faults_lie, loops_hold};
 pub use program::warnings;
 pub use warning::{Warning, WarningKind};
 

@@ -1,0 +1,181 @@
+-- Operators that aren't told have no such fault.
+use Rattle.std.proofs.Common.{arith, ◌≡◌, ◌∙◌, ℕ, zero, suc, ℤ, pos, negsuc, neg_ℤ, ◌+ℤ◌, ◌-ℤ◌, ◌*ℤ◌, ◌<◌, ◌≤◌, ◌^◌, ◌/◌, ◌&&◌, Bool, true, false, Option, Some, None, Result, Ok, Err, refl, sym, ap, subst, nat_lt, int_div, int_rem, if◌then◌else◌}
+use Rattle.std.proofs.lemmas.Int.{ints, rem_below}
+use Rattle.std.proofs.Common.{Less as Before, Equal as Same, Greater as Behind}
+use Rattle.std.specs.Ordering.{is_eq}
+use Rattle.std.proofs.Math.Nat.{div-le_self, div-lt_self}
+use Rattle.std.specs.Prelude.{cond, int_lt, unsigned_abs}
+use Rattle.kahn_tree.specs.declared.tree.Operator.{Operator}
+use Rattle.kahn_tree.specs.declared.tree.Operator.TheVariants.{Or, And, Equal, Unequal, Less, AtMost, Greater, AtLeast, Add, Subtract, Multiply, Divide, Remainder}
+use Rattle.kahn_streams.specs.declared.value.Value.{Value}
+use Rattle.kahn_streams.specs.declared.value.Value.TheVariants.{Integer, Logical}
+use Rattle.kahn_streams.specs.declared.value.Failure.{Failure}
+use Rattle.kahn_streams.specs.declared.value.Failure.TheVariants.{Overflow, Division}
+use Rattle.kahn_streams.specs.Arithmetic.{apply, arithmetic, fits_64, is_zero, number, ranged}
+use Rattle.kahn_warnings.specs.Constants.{bad, divides}
+use Rattle.kahn_warnings.specs.Faults.{IsOperand, IsOf64Bits, can_divide, can_fail, is_failure, operator_can, sign_can}
+
+true_not : (b : Bool) → b ≡ true → b ≡ false → ⊥
+true_not true e f = cc
+true_not false e f = cc
+
+-- ---- quotients and remainders
+
+short_less : (n : ℕ) → nat_lt n (2 ^ 63) ≡ true → n < 2 ^ 63
+short_less n e = grind (arith, e)
+
+less_short : (n : ℕ) → n < 2 ^ 63 → nat_lt n (2 ^ 63) ≡ true
+less_short n h = by (nat_lt n (2 ^ 63)) refl
+  where
+    by : (b : Bool) → nat_lt n (2 ^ 63) ≡ b → b ≡ true
+    by true e = refl
+    by false e = absurd (grind (arith, e, h))
+
+within : (z : ℤ) → unsigned_abs z < 2 ^ 63 → fits_64 z ≡ true
+within (pos n) h = less_short n h
+within (negsuc n) h = less_short n (omega (arith, h))
+
+within_neg : (n : ℕ) → n ≤ 2 ^ 63 → fits_64 (neg_ℤ (pos n)) ≡ true
+within_neg zero h = refl
+within_neg (suc n) h = less_short n (omega (arith, h))
+
+rem_fits : (x d : ℤ) → fits_64 d ≡ true → is_zero d ≡ false → fits_64 (int_rem x d) ≡ true
+rem_fits x (pos zero) f z = absurd cc
+rem_fits x (pos (suc b)) f z = within (int_rem x (pos (suc b))) (omega (arith, rem_below x (pos (suc b)), short_less (suc b) f))
+rem_fits x (negsuc b) f z = within (int_rem x (negsuc b)) (omega (arith, rem_below x (negsuc b), short_less b f))
+
+halved : (a b : ℕ) → suc a / suc (suc b) < suc a
+halved a b = div-lt_self (omega arith) (omega arith)
+
+div_fits : (x d : ℤ) → fits_64 x ≡ true → is_zero d ≡ false → can_divide Overflow d ≡ false → fits_64 (int_div x d) ≡ true
+div_fits x (pos zero) f z m = absurd cc
+div_fits (pos a) (pos (suc b)) f z m = less_short (a / suc b) (omega (arith, div-le_self a (suc b), short_less a f))
+div_fits (negsuc a) (pos (suc b)) f z m = within_neg (suc a / suc b) (omega (arith, div-le_self (suc a) (suc b), short_less a f))
+div_fits x (negsuc zero) f z m = absurd cc
+div_fits (pos a) (negsuc (suc b)) f z m = within_neg (a / suc (suc b)) (omega (arith, div-le_self a (suc (suc b)), short_less a f))
+div_fits (negsuc a) (negsuc (suc b)) f z m = less_short (suc a / suc (suc b)) (omega (arith, halved a b, short_less a f))
+
+-- ---- what an outcome is
+
+pub ranged_fits : (z : ℤ) (k : Failure) → fits_64 z ≡ true → ranged z ≡ Err k → ⊥
+ranged_fits z k f = by (fits_64 z) f
+  where
+    by : (b : Bool) → b ≡ true → (if b then Ok (Integer z) else Err Overflow) ≡ Err k → ⊥
+    by true g e = cc
+    by false g e = cc
+
+pub ranged_whole : (z : ℤ) → ranged z ≡ Err Division → ⊥
+ranged_whole z = by (fits_64 z)
+  where
+    by : (b : Bool) → (if b then Ok (Integer z) else Err Overflow) ≡ Err Division → ⊥
+    by true e = cc
+    by false e = cc
+
+pub ranged_short : (z : ℤ) (u : Value) → ranged z ≡ Ok u → IsOf64Bits u
+ranged_short z u = by (fits_64 z) refl
+  where
+    by : (b : Bool) → fits_64 z ≡ b → (if b then Ok (Integer z) else Err Overflow) ≡ Ok u → IsOf64Bits u
+    by true f e =
+        let is : Integer z ≡ u = cc in
+        subst IsOf64Bits is f
+    by false f e = absurd cc
+
+divided : (b : Bool) (z : ℤ) (k : Failure) → (if b then Err Division else ranged z) ≡ Err k → (b ≡ true → k ≡ Division → ⊥) → (b ≡ false → ranged z ≡ Err k → ⊥) → ⊥
+divided true z k e p q = p refl cc
+divided false z k e p q = q refl e
+
+divided_short : (b : Bool) (z : ℤ) (u : Value) → (if b then Err Division else ranged z) ≡ Ok u → IsOf64Bits u
+divided_short true z u e = absurd cc
+divided_short false z u e = ranged_short z u e
+
+truth_short : (b : Bool) (u : Value) → ◌≡◌ {A = Result Value Failure} (Ok (Logical b)) (Ok u) → IsOf64Bits u
+truth_short b u e =
+    let is : Logical b ≡ u = cc in
+    subst IsOf64Bits is refl
+
+pub apply_short : (o : Operator) (v w u : Value) → apply o v w ≡ Ok u → IsOf64Bits u
+apply_short Or v w u e = truth_short _ u e
+apply_short And v w u e = truth_short _ u e
+apply_short Equal v w u e = truth_short _ u e
+apply_short Unequal v w u e = truth_short _ u e
+apply_short Less v w u e = truth_short _ u e
+apply_short AtMost v w u e = truth_short _ u e
+apply_short Greater v w u e = truth_short _ u e
+apply_short AtLeast v w u e = truth_short _ u e
+apply_short Add v w u e = ranged_short (number v +ℤ number w) u e
+apply_short Subtract v w u e = ranged_short (number v -ℤ number w) u e
+apply_short Multiply v w u e = ranged_short (number v *ℤ number w) u e
+apply_short Divide v w u e = divided_short (is_zero (number w)) (int_div (number v) (number w)) u e
+apply_short Remainder v w u e = divided_short (is_zero (number w)) (int_rem (number v) (number w)) u e
+
+-- ---- operators
+
+never : (k : Failure) (o : Operator) (v w : Value) → can_fail k o ≡ false → IsOf64Bits w → apply o v w ≡ Err k → ⊥
+never Division Add v w h s e = ranged_whole (number v +ℤ number w) e
+never Division Subtract v w h s e = ranged_whole (number v -ℤ number w) e
+never Division Multiply v w h s e = ranged_whole (number v *ℤ number w) e
+never Overflow Remainder v w h s e =
+    divided (is_zero (number w)) (int_rem (number v) (number w)) Overflow e (λ z is. cc) (λ z. ranged_fits (int_rem (number v) (number w)) Overflow (rem_fits (number v) (number w) s z))
+never k o v w h s e = absurd cc
+
+by_divisor : (k : Failure) (o : Operator) (v w : Value) → divides o ≡ true → can_divide k (number w) ≡ false → IsOf64Bits v → IsOf64Bits w → apply o v w ≡ Err k → ⊥
+by_divisor Division Divide v w d h p q e =
+    divided (is_zero (number w)) (int_div (number v) (number w)) Division e (λ z is. true_not (is_zero (number w)) z h) (λ z. ranged_whole (int_div (number v) (number w)))
+by_divisor Division Remainder v w d h p q e =
+    divided (is_zero (number w)) (int_rem (number v) (number w)) Division e (λ z is. true_not (is_zero (number w)) z h) (λ z. ranged_whole (int_rem (number v) (number w)))
+by_divisor Overflow Divide v w d h p q e =
+    divided (is_zero (number w)) (int_div (number v) (number w)) Overflow e (λ z is. cc) (λ z. ranged_fits (int_div (number v) (number w)) Overflow (div_fits (number v) (number w) p z h))
+by_divisor Overflow Remainder v w d h p q e = never Overflow Remainder v w refl q e
+by_divisor k o v w d h p q e = absurd cc
+
+same_failure : (k : Failure) → is_failure k (Some k) ≡ true
+same_failure Overflow = refl
+same_failure Division = refl
+
+known : (k : Failure) (r : Result Value Failure) → is_failure k (bad r) ≡ false → r ≡ Err k → ⊥
+known k r h e = true_not (is_failure k (bad r)) (ap (λ x. is_failure k (bad x)) e ∙ same_failure k) h
+
+pub operator : (k : Failure) (o : Operator) (l r : Option Value) → operator_can k o l r ≡ false → (v w : Value) → IsOperand l v → IsOperand r w → apply o v w ≡ Err k → ⊥
+operator k o None None h v w p q e = never k o v w h q e
+operator k o (Some a) None h v w p q e = never k o v w h q e
+operator k o (Some a) (Some b) h v w p q e = known k (apply o a b) h ((λ i. apply o (sym p.1 i) (sym q.1 i)) ∙ e)
+operator k o None (Some b) h v w p q e = by (can_fail k o) (divides o) refl refl h
+  where
+    by : (c d : Bool) → can_fail k o ≡ c → divides o ≡ d → (c && (if d then can_divide k (number b) else true)) ≡ false → ⊥
+    by false d is his g = never k o v w is q.0 e
+    by true true is his g = by_divisor k o v w his (ap (λ x. can_divide k (number x)) q.1 ∙ g) p q.0 e
+    by true false is his g = cc
+
+pub sign : (k : Failure) (o : Option Value) → sign_can k o ≡ false → (v : Value) → IsOperand o v → ranged (neg_ℤ (number v)) ≡ Err k → ⊥
+sign Overflow None h v p e = cc
+sign Division None h v p e = ranged_whole (neg_ℤ (number v)) e
+sign k (Some u) h v p e = known k (ranged (neg_ℤ (number u))) h (ap (λ x. ranged (neg_ℤ (number x))) (sym p.1) ∙ e)
+
+pub some : (k : Failure) (o : Operator) → operator_can k o None None ≡ true → (v : Value) × (w : Value) × IsOf64Bits v × IsOf64Bits w × (apply o v w ≡ Err k)
+some Overflow Add h = (Integer (pos 9223372036854775807), Integer (pos 1), refl, refl, refl)
+some Overflow Subtract h = (Integer (negsuc 9223372036854775807), Integer (pos 1), refl, refl, refl)
+some Overflow Multiply h = (Integer (pos 9223372036854775807), Integer (pos 2), refl, refl, refl)
+some Overflow Divide h = (Integer (negsuc 9223372036854775807), Integer (negsuc 0), refl, refl, refl)
+some Division Divide h = (Integer (pos 1), Integer (pos 0), refl, refl, refl)
+some Division Remainder h = (Integer (pos 1), Integer (pos 0), refl, refl, refl)
+some k o h = absurd cc
+
+by_zero : (b : Bool) (r : Result Value Failure) → b ≡ true → (if b then Err Division else r) ≡ Err Division
+by_zero true r e = refl
+by_zero false r e = absurd cc
+
+least : (d : ℤ) → can_divide Overflow d ≡ true → arithmetic Divide (negsuc 9223372036854775807) d ≡ Err Overflow
+least (pos n) h = absurd cc
+least (negsuc zero) h = refl
+least (negsuc (suc n)) h = by (int_lt (negsuc (suc n)) (negsuc 0)) refl h
+  where
+    by : (c : Bool) → int_lt (negsuc (suc n)) (negsuc 0) ≡ c → is_eq (cond c Before (cond (int_lt (negsuc 0) (negsuc (suc n))) Behind Same)) ≡ true
+        → arithmetic Divide (negsuc 9223372036854775807) (negsuc (suc n)) ≡ Err Overflow
+    by true e g = absurd cc
+    by false e g = absurd (omega (arith, ints))
+
+pub divisor : (k : Failure) (o : Operator) (w : Value) → divides o ≡ true → operator_can k o None (Some w) ≡ true → (v : Value) × IsOf64Bits v × (apply o v w ≡ Err k)
+divisor Division Divide w d h = (Integer (pos 1), refl, by_zero (is_zero (number w)) _ h)
+divisor Division Remainder w d h = (Integer (pos 1), refl, by_zero (is_zero (number w)) _ h)
+divisor Overflow Divide w d h = (Integer (negsuc 9223372036854775807), refl, least (number w) h)
+divisor k o w d h = absurd cc

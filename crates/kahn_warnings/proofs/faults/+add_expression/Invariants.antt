@@ -1,0 +1,9 @@
+-- The places in the operands that are left come behind those so far.
+use Rattle.std.proofs.Common.{◌≡◌, ◌++◌, drop}
+use Rattle.kahn_warnings.specs.Faults.{form_places}
+use Rattle.kahn_warnings.proofs.Placing.{operands_placed}
+use Rattle.kahn_warnings.proofs.faults.+add_expression.Given as goal
+
+abbrev pub invariant-loop-operand : goal.invariant-loop-operand
+invariant-loop-operand l =
+    l.places.items ++ operands_placed l.fn.failure l.left (drop l.operand-index l.operand-items) ≡ l.fn.places.items ++ form_places l.fn.failure l.fn.expression.form

@@ -1,0 +1,165 @@
+-- Believed. Where in the body of a process a fault of arithmetic can come from.
+use Rattle.std.specs.Prelude.{◌≡◌, ℕ, ℤ, negsuc, Bool, true, false, ◌&&◌, neg_ℤ, List, [], ◌∷◌, ◌++◌, Option, Some, None, Err, if◌then◌else◌, flat_map}
+use Rattle.std.specs.List.{AllByRecursion}
+use Rattle.std.proofs.Common.{int_eq}
+use Rattle.kahn_tree.specs.declared.span.Span.{Span}
+use Rattle.kahn_tree.specs.declared.tree.Operator.{Operator}
+use Rattle.kahn_tree.specs.declared.tree.Operator.TheVariants.{Add, Subtract, Multiply, Divide, Remainder}
+use Rattle.kahn_tree.specs.declared.tree.Form.{Form, Number, Logical, Variable, Wait, Negate', Not', Bracket', Level', Conditional', Row_of-Operand, end_of-Operand, more_of-Operand}
+use Rattle.kahn_tree.specs.declared.tree.Action.{Action, Empty, Assign, Send, Print, Block', If', While', Repeat', Row_of-Statement, end_of-Statement, more_of-Statement, Held-Action-If-2, None', Some'}
+use Rattle.kahn_tree.specs.declared.tree.Statement.{Statement}
+use Rattle.kahn_tree.specs.Syntax as S
+use Rattle.kahn_tree.specs.View.{Scope, body_of, expr_of}
+use Rattle.kahn_streams.specs.declared.value.Value.{Value}
+use Rattle.kahn_streams.specs.declared.value.Failure.{Failure}
+use Rattle.kahn_streams.specs.declared.value.Failure.TheVariants.{Overflow, Division}
+use Rattle.kahn_streams.specs.Arithmetic.{apply, fits_64, is_zero, number, ranged}
+use Rattle.kahn_network.specs.Network.{Network, instance_at}
+use Rattle.kahn_streams.specs.Meaning.{Store, constant, exec}
+use Rattle.kahn_streams.specs.Script.{Fault, Tapes}
+use Rattle.kahn_streams.specs.Solution.{Faulted, HasEnd, Inputs, opening}
+use Rattle.kahn_warnings.specs.Constants.{bad, combined, constant_of, divides, negate_fault}
+
+-- ---- which operators can have a fault
+
+-- whatever the values of its operands are
+abbrev pub can_fail : Failure → Operator → Bool
+can_fail Overflow Add = true
+can_fail Overflow Subtract = true
+can_fail Overflow Multiply = true
+can_fail Overflow Divide = true
+can_fail Division Divide = true
+can_fail Division Remainder = true
+can_fail k o = false
+
+-- by a divisor: 0, or -1, which the least number overflows by
+abbrev pub can_divide : Failure → ℤ → Bool
+can_divide Division d = is_zero d
+can_divide Overflow d = int_eq d (negsuc 0)
+
+abbrev pub is_failure : Failure → Option Failure → Bool
+is_failure k None = false
+is_failure Overflow (Some Overflow) = true
+is_failure Division (Some Division) = true
+is_failure k (Some j) = false
+
+-- by the values of its operands, as far as the constants in them tell
+abbrev pub operator_can : Failure → Operator → Option Value → Option Value → Bool
+operator_can k o (Some v) (Some w) = is_failure k (bad (apply o v w))
+operator_can k o None (Some w) = can_fail k o && (if divides o then can_divide k (number w) else true)
+operator_can k o v None = can_fail k o
+
+-- so can a sign
+abbrev pub sign_can : Failure → Option Value → Bool
+sign_can Overflow None = true
+sign_can Division None = false
+sign_can k (Some v) = is_failure k (negate_fault (Some v))
+
+-- ---- where they stand in an expression: of an operator its right operand is told, or its only one
+
+abbrev pub place_where : Bool → Span → List Span
+place_where true at = at ∷ []
+place_where false at = []
+
+abbrev mutual
+  pub form_places : Failure → Form → List Span
+  form_places k (Number z) = []
+  form_places k (Logical b) = []
+  form_places k (Variable x) = []
+  form_places k (Wait q) = []
+  form_places k (Negate' p at e) = form_places k e ++ place_where (sign_can k (constant_of (expr_of [] e))) at
+  form_places k (Not' p at e) = form_places k e
+  form_places k (Bracket' p at e) = form_places k e
+  form_places k (Level' p at e shape rest) = form_places k e ++ level_places k (constant_of (expr_of [] e)) rest
+  form_places k (Conditional' p at t q at' a r at'' b) = form_places k t ++ (form_places k a ++ form_places k b)
+
+  -- behind operands with this value
+  pub level_places : {m : _} → Failure → Option Value → Row_of-Operand m → List Span
+  level_places k left end_of-Operand = []
+  level_places k left (more_of-Operand o at e rest) =
+      form_places k e
+      ++ (place_where (operator_can k o left (constant_of (expr_of [] e))) at ++ level_places k (combined o left (constant_of (expr_of [] e))) rest)
+
+-- ---- and in a statement
+
+abbrev mutual
+  pub action_places : Failure → Action → List Span
+  action_places k Empty = []
+  action_places k (Assign x e) = form_places k e.form
+  action_places k (Send e q) = form_places k e.form
+  action_places k (Print e) = form_places k e.form
+  action_places k (Block' shape row) = row_places k row
+  action_places k (If' t p at a b) = form_places k t.form ++ (action_places k a ++ else_places k b)
+  action_places k (While' t p at a) = form_places k t.form ++ action_places k a
+  action_places k (Repeat' p at a) = action_places k a
+
+  pub row_places : {m : _} → Failure → Row_of-Statement m → List Span
+  row_places k end_of-Statement = []
+  row_places k (more_of-Statement at a rest) = action_places k a ++ row_places k rest
+
+  pub else_places : Failure → Held-Action-If-2 → List Span
+  else_places k None' = []
+  else_places k (Some' p at a) = action_places k a
+
+-- the operands in a body by which this fault can come, in the order of the text
+abbrev pub fault_places : Failure → List Statement → List Span
+fault_places k ss = flat_map (λ s. action_places k s.action) ss
+
+-- ---- values of 64 bits, as all are in a run
+
+abbrev pub IsOf64Bits : Value → Type 0
+IsOf64Bits v = fits_64 (number v) ≡ true
+
+abbrev pub IsWrittenIn64 : S.Expr → Type 0
+IsWrittenIn64 (S.Literal c) = IsOf64Bits (constant c)
+IsWrittenIn64 (S.Variable x) = Unit {0}
+IsWrittenIn64 (S.Wait q) = Unit {0}
+IsWrittenIn64 (S.Negate e) = IsWrittenIn64 e
+IsWrittenIn64 (S.Not e) = IsWrittenIn64 e
+IsWrittenIn64 (S.Binary o a b) = IsWrittenIn64 a × IsWrittenIn64 b
+IsWrittenIn64 (S.Conditional t a b) = IsWrittenIn64 t × IsWrittenIn64 a × IsWrittenIn64 b
+
+abbrev pub AreWrittenIn64 : S.Stmt → Type 0
+AreWrittenIn64 S.Skip = Unit {0}
+AreWrittenIn64 (S.Assign x e) = IsWrittenIn64 e
+AreWrittenIn64 (S.Send e q) = IsWrittenIn64 e
+AreWrittenIn64 (S.Print e) = IsWrittenIn64 e
+AreWrittenIn64 (S.Seq a b) = AreWrittenIn64 a × AreWrittenIn64 b
+AreWrittenIn64 (S.If t a b) = IsWrittenIn64 t × AreWrittenIn64 a × AreWrittenIn64 b
+AreWrittenIn64 (S.While t a) = IsWrittenIn64 t × AreWrittenIn64 a
+AreWrittenIn64 (S.Repeat a) = AreWrittenIn64 a
+
+-- the numbers in a body, the values of its names, and those on its tapes
+pub record AreOf64Bits (b : S.Stmt) (s : Store) (T : Tapes) : Type 0 where
+  pub written : AreWrittenIn64 b
+  pub stored : AllByRecursion IsOf64Bits s
+  pub taken : (q : ℕ) → AllByRecursion IsOf64Bits (T q)
+
+-- those in the bodies of a network, those that its instances begin with, and those of its input
+pub record AreNumbersOf64 (N : Network) (I : Inputs) : Type 0 where
+  pub written : (p : ℕ) → AreWrittenIn64 (instance_at N p).body
+  pub opened : (p : ℕ) → AllByRecursion IsOf64Bits (opening (instance_at N p))
+  pub given : (c : ℕ) → AllByRecursion IsOf64Bits (I c)
+
+-- ---- the law
+
+-- a value that an operand can have of which the constants tell this
+abbrev pub IsOperand : Option Value → Value → Type 0
+IsOperand None v = IsOf64Bits v
+IsOperand (Some u) v = IsOf64Bits v × (v ≡ u)
+
+-- An operator or a sign that isn't told has no such fault, whatever its operands are. One that is told on operands of which nothing is
+-- known, or by its divisor, has it on some. And a body without such a place never ends with that fault,
+-- so an instance that has it in the solution has a place.
+pub record FaultsLie : Type 0 where
+  pub operator : (k : Failure) (o : Operator) (l r : Option Value) → operator_can k o l r ≡ false →
+      (v w : Value) → IsOperand l v → IsOperand r w → apply o v w ≡ Err k → ⊥
+  pub sign : (k : Failure) (o : Option Value) → sign_can k o ≡ false → (v : Value) → IsOperand o v → ranged (neg_ℤ (number v)) ≡ Err k → ⊥
+  pub some : (k : Failure) (o : Operator) → operator_can k o None None ≡ true →
+      (v : Value) × (w : Value) × IsOf64Bits v × IsOf64Bits w × (apply o v w ≡ Err k)
+  pub divisor : (k : Failure) (o : Operator) (w : Value) → divides o ≡ true → operator_can k o None (Some w) ≡ true →
+      (v : Value) × IsOf64Bits v × (apply o v w ≡ Err k)
+  pub nowhere : (k : Failure) (names : Scope) (ss : List Statement) → fault_places k ss ≡ [] →
+      (n : ℕ) (s : Store) (T : Tapes) → AreOf64Bits (body_of names ss) s T → (exec n (body_of names ss) s T).outcome ≡ Fault k → ⊥
+  pub placed : (N : Network) (I : Inputs) → AreNumbersOf64 N I → (p e : ℕ) (k : Failure) → HasEnd N I p (Faulted k) e →
+      (names : Scope) (ss : List Statement) → (instance_at N p).body ≡ body_of names ss → fault_places k ss ≡ [] → ⊥
