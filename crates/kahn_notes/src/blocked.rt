@@ -26,8 +26,8 @@ pub(crate) fn place(text: &str, from: usize) -> (usize, usize)
     span.place(text)
 }
 
-/// Adds where a byte stands.
-pub(crate) fn add_at(words: &mut String, text: &str, from: usize) -> Result<(), AllocError>
+/// Adds where a byte of a text stands, or its end where the text has no such byte: ` at LINE:COLUMN`.
+pub fn add_at(words: &mut String, text: &str, from: usize) -> Result<(), AllocError>
     ensures { IfOk result (λ _. string_bytes words.new ≡ string_bytes words.old ++ at_words text.now from) }
 {
     let (line, column) = place(text, from);
