@@ -18,14 +18,12 @@ use Rattle.kahn_tree.specs.View.{bytes_of}
 use Rattle.kahn_network.specs.Kinds.{takes, gives}
 use Rattle.kahn_network.specs.Wiring.{Scope, ends}
 use Rattle.kahn_syntax.specs.declared.lexeme.Lexeme.{Lexeme}
-use Rattle.kahn_syntax.specs.Lexemes.{HasBytes, HasForm, Lexed, bytes_of_sign}
+use Rattle.kahn_syntax.specs.Lexemes.{HasBytes, HasForm, Lexed, bytes_of_sign, Terminal}
 use Rattle.kahn_syntax.specs.declared.fault.SyntaxFault.{SyntaxFault}
-use Rattle.kahn_syntax.specs.Terminals.{Terminal}
-use Rattle.kahn_syntax.specs.Terminals as terminal
+use Rattle.kahn_syntax.specs.Lexemes as terminal
 use Rattle.kahn_syntax.specs.declared.lexeme.Sign.TheVariants as mark
-use Rattle.kahn_syntax.specs.Faults.{Placed}
-use Rattle.kahn_syntax.specs.Spans.{Takes, Covers, NameSpans, FormSpans, OperandRowSpans, ExpressionSpans, ActionSpans, OtherSpans, StatementRowSpans, FurtherRowSpans, StatementsSpan, StatementSpans}
-use Rattle.kahn_syntax.specs.Lists.{Further}
+use Rattle.kahn_syntax.specs.Spans.{Placed, Takes, Covers, NameSpans, FormSpans, OperandRowSpans, ExpressionSpans, ActionSpans, OtherSpans, StatementRowSpans, FurtherRowSpans, StatementsSpan, StatementSpans}
+use Rattle.kahn_syntax.specs.Programs.{Further}
 use Rattle.kahn_check.specs.declared.fault.CheckFault.{CheckFault}
 use Rattle.kahn_check.specs.Faults.{find, wrong, misread, misused, kind_in, kind_of, wrong_first, wrong_second, spanning, faults_in, level_faults, faults_as, faults_of, row_faults, else_faults, body_faults}
 use Rattle.kahn_fault.specs.Message.{check_span, syntax_span}

@@ -25,18 +25,16 @@ use Rattle.kahn_tree.specs.View.{bytes_of}
 use Rattle.kahn_network.specs.declared.sides.Side.{Side}
 use Rattle.kahn_network.specs.Wiring.{Global, IsChannel, IsProcess, Handover, locals_of, scope_of, entries, declared_channels, global, handed, handed_by, ends, writers, readers, side_at, is_closed}
 use Rattle.kahn_syntax.specs.declared.lexeme.Lexeme.{Lexeme}
-use Rattle.kahn_syntax.specs.Lexemes.{IsLexFault, IsLongest}
+use Rattle.kahn_syntax.specs.Lexemes.{IsLexFault, IsLongest, Terminal}
 use Rattle.kahn_syntax.specs.declared.fault.SyntaxFault.{SyntaxFault}
 use Rattle.kahn_syntax.specs.declared.fault.SyntaxFault.TheVariants as syntax
 use Rattle.kahn_syntax.specs.declared.fault.What.TheVariants as what
-use Rattle.kahn_syntax.specs.Terminals.{Terminal}
-use Rattle.kahn_syntax.specs.Terminals as terminal
+use Rattle.kahn_syntax.specs.Lexemes as terminal
 use Rattle.kahn_syntax.specs.declared.lexeme.Keyword.TheVariants as keyword
 use Rattle.kahn_syntax.specs.declared.lexeme.Sign.TheVariants as mark
-use Rattle.kahn_syntax.specs.Faults.{IsFault, IsNothing, IsOther, IsTooDeep, StandsAt}
+use Rattle.kahn_syntax.specs.Texts.{IsFault, IsNothing, IsOther, IsTooDeep, StandsAt, IsProgram, IsTextFault}
 use Rattle.kahn_syntax.specs.Spans.{NamesSpan, GroupsSpan, TogethersSpan, parameter_with, variable_with, RoleSpans, DirectionSpans, DeclarationsSpan, ArgumentSpans, ArgumentsSpan, InstanceSpans, InstancesSpan, ProcessSpans, Takes, NameSpans, GroupSpans}
-use Rattle.kahn_syntax.specs.Lists.{Further, Grouped, group, all_members}
-use Rattle.kahn_syntax.specs.Texts.{IsProgram, IsTextFault}
+use Rattle.kahn_syntax.specs.Programs.{Further, Grouped, group, all_members}
 use Rattle.kahn_check.specs.declared.fault.CheckFault.{CheckFault}
 use Rattle.kahn_check.specs.declared.fault.CheckFault.TheVariants as checked
 use Rattle.kahn_check.specs.Faults.{wrong}
@@ -135,15 +133,14 @@ togethers_in text (group t ns ∷ ts) xs r (a, (c, d, kind, names, semicolon), k
 
 process_in : (text : List ℕ) (p : Process) (xs r : List Lexeme) → ProcessSpans text p xs r → AllIn text xs →
     AllIn text r × LiesIn text p.name.span × ArePlaces text (process_faults p)
-process_in text p xs r h all =
-    let i = named text p.name h.a h.b h.named (past text _ xs h.a h.begins all) in
-    let j = groups_in text h.parameters.0 h.c h.d h.parameters.2 (past text _ h.b h.c h.opened i.1) in
-    let k = togethers_in text h.variables.0 h.g h.h h.variables.2
-    (past text _ h.f h.g h.begun (past text _ h.e h.f h.parted (past text _ h.d h.e h.closed j.0))) in
-    let l = body_in text p.statements.items h.h h.i h.statements k.0 in
+process_in text p xs r (a, b, c, d, e, begins, name, (f, g, h, o, opened, parameters, closed, parted, begun), variables, statements, ended) all =
+    let i = named text p.name a b name (past text _ xs a begins all) in
+    let j = groups_in text parameters.0 f g parameters.2 (past text _ b f opened i.1) in
+    let k = togethers_in text variables.0 c d variables.2 (past text _ o c begun (past text _ h o parted (past text _ g h closed j.0))) in
+    let l = body_in text p.statements.items d e statements k.0 in
     let locals = named_both text (map as_local p.parameters.items) (map as_value p.variables.items)
-    (subst (λ ps. AreNamed text (map as_local ps)) (sym h.parameters.1) j.1) (subst (λ vs. AreNamed text (map as_value vs)) (sym h.variables.1) k.1) in
-    (past text _ h.i r h.ended l.0, i.0, both text (twice [] (locals_of p)) _ (twice_in text [] (locals_of p) locals) (l.1 (scope_of p)))
+    (subst (λ ps. AreNamed text (map as_local ps)) (sym parameters.1) j.1) (subst (λ vs. AreNamed text (map as_value vs)) (sym variables.1) k.1) in
+    (past text _ e r ended l.0, i.0, both text (twice [] (locals_of p)) _ (twice_in text [] (locals_of p) locals) (l.1 (scope_of p)))
 
 -- ---- declarations
 

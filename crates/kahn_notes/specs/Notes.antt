@@ -11,7 +11,7 @@ use Rattle.kahn_syntax.specs.declared.fault.What.TheVariants.{More, Nothing, Oth
 use Rattle.kahn_syntax.specs.declared.lexeme.Class.{Class}
 use Rattle.kahn_syntax.specs.declared.lexeme.Class.TheVariants as class
 use Rattle.kahn_syntax.specs.declared.lexeme.Lexeme.{Lexeme}
-use Rattle.kahn_syntax.specs.Terminals.{IsProper}
+use Rattle.kahn_syntax.specs.Lexemes.{IsProper}
 use Rattle.kahn_wanted.specs.declared.groups.Group.{Group}
 use Rattle.kahn_wanted.specs.declared.groups.Group.TheVariants as group
 use Rattle.kahn_wanted.specs.declared.groups.Wanted.{Wanted}

@@ -2,7 +2,7 @@
 
 ghost use Rattle.std.specs.Prelude.{◌≡◌, ◌++◌, IfOk, string_bytes};
 ghost use Rattle.kahn_syntax.specs.declared.fault.SyntaxFault.TheVariants.{Expected};
-ghost use Rattle.kahn_syntax.specs.Terminals.{IsProper};
+ghost use Rattle.kahn_syntax.specs.Lexemes.{IsProper};
 ghost use Rattle.kahn_syntax.specs.Texts.{IsTextFault};
 ghost use Rattle.kahn_notes.specs.Notes.{IsNote, MayFind, found_words, lexeme_words, unexpected_words};
 

@@ -22,7 +22,7 @@ use Rattle.kahn_network.specs.Network.{Actual, Reads, Writes, Hands, Instance, N
 use Rattle.kahn_syntax.specs.Trees.{ExpressionTree, number, truth, variable, wait, negation, denial, bracket, level, conditional, OperandTrees, no_operand, operand, StatementTree, empty, assign, send, print, block, if_then, if_else, while_do, repeat, StatementTrees, no_statement, statement}
 use Rattle.kahn_syntax.specs.Programs as whole
 use Rattle.kahn_syntax.specs.Programs.{ParameterTree, VariableTree, DeclarationTree, ArgumentTree, InstanceTree, ProgramTree}
-use Rattle.kahn_syntax.specs.Drawn.{name_of, form_of, operands_row, action_of, statements_row, statements_of, parameter_of, variable_of, declaration_of, argument_of, instance_of, program_of}
+use Rattle.kahn_syntax.specs.Spans.{name_of, form_of, operands_row, action_of, statements_row, statements_of, parameter_of, variable_of, declaration_of, argument_of, instance_of, program_of}
 
 -- ---- expressions and statements of a tree
 

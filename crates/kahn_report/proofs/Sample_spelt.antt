@@ -8,15 +8,14 @@ use Rattle.kahn_tree.specs.declared.tree.Kind.{Kind}
 use Rattle.kahn_tree.specs.declared.tree.Taking.{Taking}
 use Rattle.kahn_tree.specs.declared.tree.Program.{Program}
 use Rattle.kahn_network.specs.Network.{network_of}
-use Rattle.kahn_syntax.specs.Drawn.{program_of}
+use Rattle.kahn_syntax.specs.Spans.{program_of}
 use Rattle.kahn_syntax.specs.declared.lexeme.Keyword.TheVariants as keyword
 use Rattle.kahn_syntax.specs.declared.lexeme.Sign.TheVariants as mark
-use Rattle.kahn_syntax.specs.Terminals.{Terminal, word, sign, name, number, terminals}
+use Rattle.kahn_syntax.specs.Lexemes.{Terminal, word, sign, name, number, terminals}
 use Rattle.kahn_syntax.specs.Texts.{IsProgram}
 use Rattle.kahn_syntax.specs.Trees.{truth, variable, wait, denial, bracket, conditional, empty, assign, send, print, block, if_else, repeat, StatementTrees, no_statement, statement, statements_words, AreSome, FormedStatements}
 use Rattle.kahn_syntax.specs.Programs as whole
-use Rattle.kahn_syntax.specs.Programs.{DeclarationTree, InstanceTree, ProgramTree, ArgumentTree, groups_words, togethers_words, Spells, SpellsDeclaration, Argues, Instantiates, Instances, names_words}
-use Rattle.kahn_syntax.specs.Lists.{Grouped, group, all_members, AreGroups}
+use Rattle.kahn_syntax.specs.Programs.{DeclarationTree, InstanceTree, ProgramTree, ArgumentTree, groups_words, togethers_words, Spells, SpellsDeclaration, Argues, Instantiates, Instances, names_words, Grouped, group, all_members, AreGroups}
 use Rattle.kahn_syntax.proofs.OneTree.{one_tree}
 use Rattle.kahn_syntax.proofs.OneList.{same_lexemes}
 use Rattle.kahn_streams.specs.Sample.{sample_network}

@@ -3,8 +3,7 @@ use Rattle.std.specs.Prelude.{◌≡◌, ℕ, List, [], ◌∷◌, codes, pos}
 use Rattle.kahn_syntax.specs.declared.lexeme.Keyword.TheVariants as keyword
 use Rattle.kahn_syntax.specs.declared.lexeme.Sign.TheVariants as mark
 use Rattle.kahn_syntax.specs.declared.lexeme.Lexeme.{Lexeme}
-use Rattle.kahn_syntax.specs.Terminals.{Terminal, word, sign, number, name, terminals}
-use Rattle.kahn_syntax.specs.Texts.{AreLexemes}
+use Rattle.kahn_syntax.specs.Lexemes.{Terminal, word, sign, number, name, terminals, AreLexemes}
 
 abbrev pub comma : Terminal
 comma = sign mark.Comma

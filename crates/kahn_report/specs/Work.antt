@@ -4,7 +4,7 @@ use Rattle.std.specs.declared.string.String.{String}
 use Rattle.std.specs.declared.alloc.Global.{Global}
 use Rattle.std.specs.Io.KnownBytes.{Appends}
 use Rattle.kahn_tree.specs.declared.tree.Program.{Program}
-use Rattle.kahn_syntax.specs.Drawn.{program_of}
+use Rattle.kahn_syntax.specs.Spans.{program_of}
 use Rattle.kahn_syntax.specs.Programs.{nesting}
 use Rattle.kahn_syntax.specs.Texts.{IsProgram, IsTextFault as IsSyntaxFault}
 use Rattle.kahn_network.specs.Network.{network_of}

@@ -9,8 +9,8 @@ use Rattle.kahn_tree.specs.declared.tree.Declaration.TheVariants as declared
 use Rattle.kahn_tree.specs.declared.tree.Argument.TheVariants as argued
 use Rattle.kahn_syntax.specs.Programs.{variable}
 use Rattle.kahn_syntax.specs.Spans as named
-use Rattle.kahn_syntax.specs.Terminals as terminal
-use Rattle.kahn_syntax.specs.Drawn.{parameter_of, variable_of}
+use Rattle.kahn_syntax.specs.Lexemes as terminal
+use Rattle.kahn_syntax.specs.Spans.{parameter_of, variable_of}
 
 -- one terminal, and what follows it
 pub taken : (text : List ℕ) (k : Terminal) (xs a : List Lexeme) (r : List Terminal) → Takes text k xs a → terminals text a ≡ r → terminals text xs ≡ k ∷ r
@@ -169,16 +169,16 @@ declaration_spelled : (text : List ℕ) (d : Declaration) (xs r : List Lexeme) �
 declaration_spelled text (declared.Channels k o ns) xs r s (a, b, c, t, p, u, n) =
     let h = names_spelled text ns.items c r n in
     (h.0, taken text (kind_terminal k) xs a _ t (role_spelled text o a b p ∙ ap (role_words o) (taken text (word Channel) b c _ u h.1)))
-declaration_spelled text (declared.Process p) xs r (some, formed, n) h = (
-  terminals text h.c,
-  terminals text h.g,
-  taken text (word Process) xs h.a _ h.begins (taken text (name (name_of p.name)) h.a h.b _ h.named.0 (taken text (sign Open) h.b h.c _ h.opened refl)),
-  subst (Parameters (map parameter_of p.parameters.items) (terminals text h.c))
-      (taken text (sign Close) h.d h.e _ h.closed (taken text (sign Semicolon) h.e h.f _ h.parted (taken text (word Begin) h.f h.g _ h.begun refl)))
-      (parameters_spelled text p.parameters.items h.c h.d h.parameters),
-  subst (Variables (map variable_of p.variables.items) (terminals text h.g))
-      (statements_spelled text p.statements.items h.h h.i h.statements ∙ ap (statements_words (statements_of p.statements.items)) (taken text (word End) h.i r _ h.ended refl))
-      (variables_spelled text p.variables.items h.g h.h h.variables),
+declaration_spelled text (declared.Process p) xs r (some, formed, n) (a, b, c, d, e, begins, called, (f, g, h, i, opened, parameters, closed, parted, begun), variables, statements, ended) = (
+  terminals text f,
+  terminals text c,
+  taken text (word Process) xs a _ begins (taken text (name (name_of p.name)) a b _ called.0 (taken text (sign Open) b f _ opened refl)),
+  subst (Parameters (map parameter_of p.parameters.items) (terminals text f))
+      (taken text (sign Close) g h _ closed (taken text (sign Semicolon) h i _ parted (taken text (word Begin) i c _ begun refl)))
+      (parameters_spelled text p.parameters.items f g parameters),
+  subst (Variables (map variable_of p.variables.items) (terminals text c))
+      (statements_spelled text p.statements.items d e statements ∙ ap (statements_words (statements_of p.statements.items)) (taken text (word End) e r _ ended refl))
+      (variables_spelled text p.variables.items c d variables),
   some,
   formed,
 )

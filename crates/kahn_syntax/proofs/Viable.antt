@@ -7,7 +7,7 @@ use Rattle.kahn_tree.specs.declared.tree.Role.TheVariants as role
 use Rattle.kahn_tree.specs.declared.tree.Direction.TheVariants as direction
 use Rattle.kahn_tree.specs.declared.tree.Taking.TheVariants as taking
 use Rattle.kahn_tree.specs.declared.tree.Operator.TheVariants as operator
-use Rattle.kahn_syntax.specs.Terminals as terminal
+use Rattle.kahn_syntax.specs.Lexemes as terminal
 use Rattle.kahn_syntax.specs.Programs as tree
 use Rattle.kahn_syntax.specs.inner.Reads as reads
 use Rattle.kahn_syntax.proofs.Levels.{joined_words, joined_nesting}

@@ -4,7 +4,7 @@ use Rattle.kahn_tree.specs.declared.tree.Kind.TheVariants as kind
 use Rattle.kahn_tree.specs.declared.tree.Role.TheVariants as role
 use Rattle.kahn_tree.specs.declared.tree.Direction.TheVariants as direction
 use Rattle.kahn_tree.specs.declared.tree.Taking.TheVariants as taking
-use Rattle.kahn_syntax.specs.Terminals as terminal
+use Rattle.kahn_syntax.specs.Lexemes as terminal
 use Rattle.kahn_syntax.specs.Programs.{number, truth}
 use Rattle.kahn_syntax.proofs.OneTree.{statements_start, Named, named_instances, no_par_end, no_comma}
 use Rattle.kahn_syntax.proofs.Steps.{go, take_token, skip_tail}

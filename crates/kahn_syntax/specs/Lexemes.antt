@@ -1,11 +1,11 @@
--- Believed. The lexemes of a text: forms, classes, and the list that a text has.
-use Rattle.std.specs.Prelude.{◌≡◌, ℕ, ◌+◌, ◌≤◌, ◌<◌, ◌⊎◌, List, [], ◌∷◌, pos, length, slice_index, slice_range, codes, IsCharBoundary}
+-- Believed. The lexemes of a text: forms, classes, the list that a text has, and the terminals of the grammar that they are.
+use Rattle.std.specs.Prelude.{◌≡◌, ℕ, ◌+◌, ◌≤◌, ◌<◌, ◌⊎◌, List, [], ◌∷◌, pos, length, slice_index, slice_range, codes, IsCharBoundary, ℤ}
 use Rattle.std.specs.Str.{str_to_ascii_lowercase}
 use Rattle.std.specs.Str.Parse.{digits_value}
 use Rattle.kahn_syntax.specs.Names.{Span, Lexeme, Class, Keyword, Sign, SyntaxFault, TooLong, BadCharacter, NumberTooLarge, CommentOpen, NameTooLong, NoMemory}
 use Rattle.kahn_syntax.specs.declared.lexeme.Class.TheVariants as class
-use Rattle.kahn_syntax.specs.declared.lexeme.Keyword.TheVariants as word
-use Rattle.kahn_syntax.specs.declared.lexeme.Sign.TheVariants as sign
+use Rattle.kahn_syntax.specs.declared.lexeme.Keyword.TheVariants as keyword
+use Rattle.kahn_syntax.specs.declared.lexeme.Sign.TheVariants as mark
 
 -- space, tab, CR and LF
 abbrev pub IsBlank : ℕ → Type 0
@@ -33,21 +33,21 @@ IsRun text a b = (a < b) × ((i : ℕ) → a ≤ i → i < b → IsDigit (slice_
 
 -- the bytes of a sign; U+00AC takes two
 abbrev pub bytes_of_sign : Sign → List ℕ
-bytes_of_sign sign.Becomes = codes ":="
-bytes_of_sign sign.Open = codes "("
-bytes_of_sign sign.Close = codes ")"
-bytes_of_sign sign.Comma = codes ","
-bytes_of_sign sign.Semicolon = codes ";"
-bytes_of_sign sign.Plus = codes "+"
-bytes_of_sign sign.Minus = codes "-"
-bytes_of_sign sign.Times = codes "*"
-bytes_of_sign sign.Equal = codes "="
-bytes_of_sign sign.Unequal = codes "<>"
-bytes_of_sign sign.Less = codes "<"
-bytes_of_sign sign.AtMost = codes "<="
-bytes_of_sign sign.Greater = codes ">"
-bytes_of_sign sign.AtLeast = codes ">="
-bytes_of_sign sign.Not = 0xC2 ∷ 0xAC ∷ []
+bytes_of_sign mark.Becomes = codes ":="
+bytes_of_sign mark.Open = codes "("
+bytes_of_sign mark.Close = codes ")"
+bytes_of_sign mark.Comma = codes ","
+bytes_of_sign mark.Semicolon = codes ";"
+bytes_of_sign mark.Plus = codes "+"
+bytes_of_sign mark.Minus = codes "-"
+bytes_of_sign mark.Times = codes "*"
+bytes_of_sign mark.Equal = codes "="
+bytes_of_sign mark.Unequal = codes "<>"
+bytes_of_sign mark.Less = codes "<"
+bytes_of_sign mark.AtMost = codes "<="
+bytes_of_sign mark.Greater = codes ">"
+bytes_of_sign mark.AtLeast = codes ">="
+bytes_of_sign mark.Not = 0xC2 ∷ 0xAC ∷ []
 
 -- the bytes from a to b are these
 abbrev pub HasBytes : List ℕ → ℕ → ℕ → List ℕ → Type 0
@@ -70,34 +70,34 @@ pub record IsLongest (text : List ℕ) (a b : ℕ) : Type 0 where
 
 -- the letters of a keyword, in lower case
 abbrev pub letters_of : Keyword → List ℕ
-letters_of word.And = codes "and"
-letters_of word.Begin = codes "begin"
-letters_of word.Channel = codes "channel"
-letters_of word.Div = codes "div"
-letters_of word.Do = codes "do"
-letters_of word.Else = codes "else"
-letters_of word.End = codes "end"
-letters_of word.False = codes "false"
-letters_of word.If = codes "if"
-letters_of word.In = codes "in"
-letters_of word.Input = codes "input"
-letters_of word.Integer = codes "integer"
-letters_of word.Logical = codes "logical"
-letters_of word.Mod = codes "mod"
-letters_of word.Not = codes "not"
-letters_of word.On = codes "on"
-letters_of word.Or = codes "or"
-letters_of word.Out = codes "out"
-letters_of word.Output = codes "output"
-letters_of word.Par = codes "par"
-letters_of word.Print = codes "print"
-letters_of word.Process = codes "process"
-letters_of word.Repeat = codes "repeat"
-letters_of word.Send = codes "send"
-letters_of word.Then = codes "then"
-letters_of word.True = codes "true"
-letters_of word.Wait = codes "wait"
-letters_of word.While = codes "while"
+letters_of keyword.And = codes "and"
+letters_of keyword.Begin = codes "begin"
+letters_of keyword.Channel = codes "channel"
+letters_of keyword.Div = codes "div"
+letters_of keyword.Do = codes "do"
+letters_of keyword.Else = codes "else"
+letters_of keyword.End = codes "end"
+letters_of keyword.False = codes "false"
+letters_of keyword.If = codes "if"
+letters_of keyword.In = codes "in"
+letters_of keyword.Input = codes "input"
+letters_of keyword.Integer = codes "integer"
+letters_of keyword.Logical = codes "logical"
+letters_of keyword.Mod = codes "mod"
+letters_of keyword.Not = codes "not"
+letters_of keyword.On = codes "on"
+letters_of keyword.Or = codes "or"
+letters_of keyword.Out = codes "out"
+letters_of keyword.Output = codes "output"
+letters_of keyword.Par = codes "par"
+letters_of keyword.Print = codes "print"
+letters_of keyword.Process = codes "process"
+letters_of keyword.Repeat = codes "repeat"
+letters_of keyword.Send = codes "send"
+letters_of keyword.Then = codes "then"
+letters_of keyword.True = codes "true"
+letters_of keyword.Wait = codes "wait"
+letters_of keyword.While = codes "while"
 
 -- these bytes are that word, in any letter case
 abbrev pub IsSpelled : List ℕ → List ℕ → Type 0
@@ -191,3 +191,48 @@ IsLexFault text (CommentOpen at) = IsReached text at.from × IsOpenComment text 
 IsLexFault text (NameTooLong at) = IsReached text at.from × IsLongName text at
 IsLexFault text NoMemory = length text ≤ most_bytes
 IsLexFault text _ = ⊥
+
+-- these are the lexemes of the text, which is within its limit
+abbrev pub AreLexemes : List ℕ → List Lexeme → Type 0
+AreLexemes text xs = (length text ≤ most_bytes) × Lexed text 0 (length text) xs
+
+-- a keyword, a sign, a number with its value, or a name with its bytes
+pub data Terminal : Type 0 where
+  word : Keyword → Terminal
+  sign : Sign → Terminal
+  number : ℤ → Terminal
+  name : List ℕ → Terminal
+
+-- both forms of `not` are one terminal
+abbrev pub sign_terminal : Sign → Terminal
+sign_terminal mark.Not = word keyword.Not
+sign_terminal s = sign s
+
+-- the terminal that a lexeme of this class is, where it takes these bytes of the text
+abbrev pub terminal : List ℕ → Class → Span → Terminal
+terminal text (class.Word w) at = word w
+terminal text class.Name at = name (slice_range text at.from at.to)
+terminal text (class.Number n) at = number n
+terminal text (class.Sign s) at = sign_terminal s
+
+abbrev pub terminals : List ℕ → List Lexeme → List Terminal
+terminals text [] = []
+terminals text (x ∷ xs) = terminal text x.what x.span ∷ terminals text xs
+
+-- a number has no sign, and is one of 64 bits
+abbrev pub IsUnsigned : Class → Type 0
+IsUnsigned (class.Number n) = (m : ℕ) × (n ≡ pos m) × (m ≤ largest_number)
+IsUnsigned _ = Unit {0}
+
+-- as the lexer makes it, where a name's bytes may be cut out of the text
+abbrev pub IsProper : List ℕ → Class → Span → Type 0
+IsProper text class.Name at = (at.from ≤ at.to) × (at.to ≤ length text) × IsCharBoundary text at.from × IsCharBoundary text at.to
+IsProper text c at = IsUnsigned c
+
+abbrev pub AreProper : List ℕ → List Lexeme → Type 0
+AreProper text [] = Unit {0}
+AreProper text (x ∷ xs) = IsProper text x.what x.span × AreProper text xs
+
+-- the input begins with a lexeme of this class, and the rest follows it
+abbrev pub First : Class → List Lexeme → List Lexeme → Type 0
+First c input rest = (at : Span) × ((text : List ℕ) → terminals text input ≡ terminal text c at ∷ terminals text rest)

@@ -1,5 +1,5 @@
 -- Believed. What declarations, instances and whole programs spell.
-use Rattle.std.specs.Prelude.{◌≡◌, ℕ, ℤ, Bool, List, [], ◌∷◌, ◌⊎◌, max, neg_ℤ}
+use Rattle.std.specs.Prelude.{◌≡◌, List, [], ◌∷◌, ◌++◌, map, ℕ, ℤ, Bool, ◌⊎◌, max, neg_ℤ}
 use Rattle.kahn_syntax.specs.declared.lexeme.Keyword.TheVariants as keyword
 use Rattle.kahn_syntax.specs.declared.lexeme.Sign.TheVariants as mark
 use Rattle.kahn_syntax.specs.Names.{Kind, Role, Taking}
@@ -7,10 +7,47 @@ use Rattle.kahn_tree.specs.declared.tree.Kind.TheVariants as kind
 use Rattle.kahn_tree.specs.declared.tree.Role.TheVariants as role
 use Rattle.kahn_tree.specs.declared.tree.Direction.TheVariants as direction
 use Rattle.kahn_tree.specs.declared.tree.Taking.TheVariants as taking
-use Rattle.kahn_syntax.specs.Terminals.{Terminal, word, sign, name}
-use Rattle.kahn_syntax.specs.Terminals as terminal
-use Rattle.kahn_syntax.specs.Lists.{Grouped, group, all_members, AreGroups, Between, SomeBetween, AreAny}
+use Rattle.kahn_syntax.specs.Lexemes.{Terminal, word, sign, name}
+use Rattle.kahn_syntax.specs.Lexemes as terminal
 use Rattle.kahn_syntax.specs.Trees.{StatementTrees, statements_words, statements_nesting, FormedStatements, AreSome, truth_terminal}
+
+-- none or more of these parts, each behind what T takes
+abbrev pub Further : {K X : Type 0} → (List K → List K → Type 0) → (X → List K → List K → Type 0) → List X → List K → List K → Type 0
+Further T P [] ks r = ks ≡ r
+Further {K = K} T P (x ∷ xs) ks r = (a : List K) × (b : List K) × T ks a × P x a b × Further T P xs b r
+
+-- none or more, with what T takes between
+abbrev pub Between : {K X : Type 0} → (List K → List K → Type 0) → (X → List K → List K → Type 0) → List X → List K → List K → Type 0
+Between T P [] ks r = ks ≡ r
+Between {K = K} T P (x ∷ xs) ks r = (a : List K) × P x ks a × Further T P xs a r
+
+-- one or more
+abbrev pub SomeBetween : {K X : Type 0} → (List K → List K → Type 0) → (X → List K → List K → Type 0) → List X → List K → List K → Type 0
+SomeBetween T P [] ks r = ⊥
+SomeBetween T P (x ∷ xs) ks r = Between T P (x ∷ xs) ks r
+
+-- names with what they share: what parameters take, the kind of variables
+pub data Grouped (A N : Type 0) : Type 0 where
+  group : A → List N → Grouped A N
+
+abbrev pub members_of : {A N M : Type 0} → (A → N → M) → Grouped A N → List M
+members_of make (group a ns) = map (make a) ns
+
+abbrev pub all_members : {A N M : Type 0} → (A → N → M) → List (Grouped A N) → List M
+all_members make [] = []
+all_members make (g ∷ gs) = members_of make g ++ all_members make gs
+
+abbrev pub AreAny : {X : Type 0} → List X → Type 0
+AreAny [] = ⊥
+AreAny (x ∷ xs) = Unit {0}
+
+-- a group has a name
+abbrev pub IsGroup : {A N : Type 0} → Grouped A N → Type 0
+IsGroup (group a ns) = AreAny ns
+
+abbrev pub AreGroups : {A N : Type 0} → List (Grouped A N) → Type 0
+AreGroups [] = Unit {0}
+AreGroups (g ∷ gs) = IsGroup g × AreGroups gs
 
 abbrev pub further_names_words : List (List ℕ) → List Terminal → List Terminal
 further_names_words [] r = r
@@ -89,7 +126,7 @@ Variables vs ks r = (ts : List (Grouped Kind (List ℕ))) × AreGroups ts × (vs
 -- This declaration is spelled from here to there.
 abbrev pub SpellsDeclaration : DeclarationTree → List Terminal → List Terminal → Type 0
 SpellsDeclaration (channels k role ns) ks r = AreAny ns × (ks ≡ kind_terminal k ∷ role_words role (word keyword.Channel ∷ names_words ns r))
-SpellsDeclaration (process n ps vs body) ks r = (a : List Terminal) × (b : List Terminal) × (ks ≡ word keyword.Process ∷ name n ∷ sign mark.Open ∷ a)
+SpellsDeclaration (process n ps vs body) ks r = (a b : List Terminal) × (ks ≡ word keyword.Process ∷ name n ∷ sign mark.Open ∷ a)
     × Parameters ps a (sign mark.Close ∷ sign mark.Semicolon ∷ word keyword.Begin ∷ b)
     × Variables vs b (statements_words body (word keyword.End ∷ r)) × AreSome body × FormedStatements body
 
@@ -125,8 +162,8 @@ MaybeSemicolon ks r = (ks ≡ sign mark.Semicolon ∷ r) ⊎ (ks ≡ r)
 
 -- The program is spelled by this list.
 abbrev pub Spells : ProgramTree → List Terminal → Type 0
-Spells (program ds is) ks = (a : List Terminal) × (b : List Terminal) × (c : List Terminal) × (d : List Terminal) × (e : List Terminal)
-    × (ks ≡ word keyword.Begin ∷ a) × Declarations ds a b × Instances is b c × MaybeSemicolon c d × (d ≡ word keyword.End ∷ e) × MaybeSemicolon e []
+Spells (program ds is) ks = (a b c d e : List Terminal) × (ks ≡ word keyword.Begin ∷ a) × Declarations ds a b × Instances is b c × MaybeSemicolon c d
+    × (d ≡ word keyword.End ∷ e) × MaybeSemicolon e []
 
 abbrev pub declaration_nesting : DeclarationTree → ℕ
 declaration_nesting (channels k role ns) = 0

@@ -4,8 +4,8 @@ use Rattle.kahn_syntax.specs.declared.lexeme.Keyword.TheVariants as keyword
 use Rattle.kahn_syntax.specs.declared.lexeme.Sign.TheVariants as mark
 use Rattle.kahn_tree.specs.declared.tree.Operator.{Operator}
 use Rattle.kahn_tree.specs.declared.tree.Operator.TheVariants as operator
-use Rattle.kahn_syntax.specs.Terminals as terminal
-use Rattle.kahn_syntax.specs.Terminals.{Terminal, word, sign}
+use Rattle.kahn_syntax.specs.Lexemes as terminal
+use Rattle.kahn_syntax.specs.Lexemes.{Terminal, word, sign}
 
 mutual
   pub data ExpressionTree : Type 0 where

@@ -6,10 +6,10 @@ ghost use Rattle.std.specs.Prelude.{◌≡◌, ◌≤◌, ◌⊎◌, ℕ, List, 
 ghost use Rattle.kahn_syntax.specs.declared.fault.SyntaxFault.{SyntaxFault};
 ghost use Rattle.kahn_syntax.specs.declared.fault.SyntaxFault.TheVariants.{NoMemory};
 ghost use Rattle.kahn_syntax.specs.declared.lexeme.Lexeme.{Lexeme};
-ghost use Rattle.kahn_syntax.specs.Terminals.{terminals};
-ghost use Rattle.kahn_syntax.specs.Drawn.{program_of};
+ghost use Rattle.kahn_syntax.specs.Lexemes.{terminals, AreLexemes};
+ghost use Rattle.kahn_syntax.specs.Spans.{program_of};
 ghost use Rattle.kahn_syntax.specs.Programs.{ProgramTree, Spells, nesting};
-ghost use Rattle.kahn_syntax.specs.Texts.{AreLexemes, IsProgram, IsTextFault};
+ghost use Rattle.kahn_syntax.specs.Texts.{IsProgram, IsTextFault};
 
 mod build;
 mod cursor;

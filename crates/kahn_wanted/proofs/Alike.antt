@@ -6,9 +6,9 @@ use Rattle.kahn_syntax.specs.declared.lexeme.Sign.TheVariants as mark
 use Rattle.kahn_syntax.specs.declared.lexeme.Class.{Class}
 use Rattle.kahn_syntax.specs.declared.lexeme.Class.TheVariants as class
 use Rattle.kahn_tree.specs.declared.span.Span.{Span}
-use Rattle.kahn_syntax.specs.Terminals.{Terminal, number, name, terminal, sign_terminal}
+use Rattle.kahn_syntax.specs.Lexemes.{Terminal, number, name, terminal, sign_terminal}
 use Rattle.kahn_syntax.specs.Programs.{program, MaybeSemicolon, nesting}
-use Rattle.kahn_syntax.specs.Faults.{Begins}
+use Rattle.kahn_syntax.specs.Texts.{Begins}
 use Rattle.kahn_syntax.specs.inner.Machine.{Token, a_name, accepts, Part, ProgramPart, Rule, rules_of, enters, opened_by, levels, may_end, step, Whole, Refuses, TooFar, fate, onward}
 use Rattle.kahn_syntax.proofs.Viable.{Fits, fits_some, further}
 use Rattle.kahn_syntax.proofs.WholePrograms.{whole_program}

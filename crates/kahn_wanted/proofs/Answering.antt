@@ -6,9 +6,9 @@ use Rattle.kahn_syntax.specs.declared.lexeme.Lexeme.{Lexeme}
 use Rattle.kahn_syntax.specs.declared.fault.SyntaxFault.TheVariants.{Expected, TooDeep}
 use Rattle.kahn_syntax.specs.declared.fault.What.{What}
 use Rattle.kahn_syntax.specs.declared.fault.What.TheVariants.{More, Nothing, Other}
-use Rattle.kahn_syntax.specs.Terminals.{Terminal, terminal, terminals}
+use Rattle.kahn_syntax.specs.Lexemes.{Terminal, terminal, terminals}
 use Rattle.kahn_syntax.specs.Programs.{ProgramTree, Spells}
-use Rattle.kahn_syntax.specs.Faults.{Begins, BeginsWithin, IsTooDeep, IsFault}
+use Rattle.kahn_syntax.specs.Texts.{Begins, BeginsWithin, IsTooDeep, IsFault}
 use Rattle.kahn_syntax.proofs.Meaning.{terminals_append}
 use Rattle.kahn_wanted.specs.inner.Asked.{AreLed, AnswersBegin, is_more}
 

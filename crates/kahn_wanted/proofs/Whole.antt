@@ -4,10 +4,10 @@ use Rattle.std.specs.Prelude.{nat_le}
 use Rattle.kahn_tree.specs.declared.tree.Program.{Program}
 use Rattle.kahn_syntax.specs.declared.fault.SyntaxFault.{SyntaxFault}
 use Rattle.kahn_syntax.specs.declared.fault.SyntaxFault.TheVariants as fault
-use Rattle.kahn_syntax.specs.Drawn.{program_of}
-use Rattle.kahn_syntax.specs.Terminals.{Terminal}
+use Rattle.kahn_syntax.specs.Spans.{program_of}
+use Rattle.kahn_syntax.specs.Lexemes.{Terminal}
 use Rattle.kahn_syntax.specs.Programs.{ProgramTree, program, MaybeSemicolon, Spells, nesting}
-use Rattle.kahn_syntax.specs.Faults.{IsWholeWithin}
+use Rattle.kahn_syntax.specs.Texts.{IsWholeWithin}
 use Rattle.kahn_syntax.specs.inner.Machine.{Part, ProgramPart, levels, may_end, step, Whole, Refuses, TooFar, fate, onward}
 use Rattle.kahn_syntax.proofs.Reached.{go_far, go_none, le_or, whole_far, whole_refuses}
 use Rattle.kahn_syntax.proofs.Steps.{go}

@@ -10,10 +10,9 @@ use Rattle.kahn_syntax.specs.declared.lexeme.Sign.TheVariants as sign
 use Rattle.kahn_syntax.specs.declared.lexeme.Lexeme.{Lexeme}
 use Rattle.kahn_syntax.specs.declared.fault.What.{What}
 use Rattle.kahn_syntax.specs.declared.fault.What.TheVariants.{More}
-use Rattle.kahn_syntax.specs.Terminals as terminal
-use Rattle.kahn_syntax.specs.Terminals.{Terminal, terminals}
-use Rattle.kahn_syntax.specs.Faults.{Begins}
-use Rattle.kahn_syntax.specs.Texts.{AreLexemes}
+use Rattle.kahn_syntax.specs.Lexemes as terminal
+use Rattle.kahn_syntax.specs.Lexemes.{Terminal, terminals, AreLexemes}
+use Rattle.kahn_syntax.specs.Texts.{Begins}
 use Rattle.kahn_wanted.specs.declared.groups.Group.{Group}
 use Rattle.kahn_wanted.specs.declared.groups.Group.TheVariants as group
 use Rattle.kahn_wanted.specs.declared.groups.Wanted.{Wanted}

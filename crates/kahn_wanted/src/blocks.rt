@@ -3,8 +3,7 @@
 ghost use Rattle.std.specs.Prelude.{◌≡◌, ◌≤◌, ◌==◌, IfOk, None, [], length, take};
 ghost use Rattle.std.specs.List.{list_any};
 ghost use Rattle.kahn_syntax.specs.declared.fault.SyntaxFault.TheVariants.{Expected};
-ghost use Rattle.kahn_syntax.specs.Faults.{IsFault};
-ghost use Rattle.kahn_syntax.specs.Texts.{IsTextFault};
+ghost use Rattle.kahn_syntax.specs.Texts.{IsFault, IsTextFault};
 ghost use Rattle.kahn_wanted.specs.Blocks.{AreBlocks, AreBlocksAt, AreBlocksOf, bare_behind, bare_next, bytes_between, is_bare, is_begin, is_process, leads_on, open_behind, blocks_after, without_last};
 
 use crate::changes::lexeme_before;

@@ -1,14 +1,13 @@
 -- Inner. What each function of the parser reads, and where it stops.
 use Rattle.std.specs.Prelude.{◌≡◌, ℕ, List, [], ◌∷◌, ◌++◌, ◌+◌, ◌≤◌, ◌<◌, false, length, map, Some, Result, MatchResult}
-use Rattle.kahn_syntax.specs.Names.{Expression, Form, Operator, Statement, Stop, Refused, TooDeep, Class, Lexeme, Keyword, Parameter, Argument, Declaration}
+use Rattle.kahn_syntax.specs.Names.{Expression, Form, Operator, Statement, Stop, Refused, TooDeep, Class, Lexeme, Keyword, Argument, Declaration}
 use Rattle.kahn_syntax.specs.declared.parser.cursor.Stop.TheVariants.{NoMemory}
 use Rattle.kahn_syntax.specs.declared.lexeme.Keyword.TheVariants as keyword
 use Rattle.kahn_syntax.specs.declared.lexeme.Sign.TheVariants as mark
 use Rattle.kahn_syntax.specs.Programs.{DeclarationTree, channels, process}
-use Rattle.kahn_syntax.specs.Terminals.{Terminal, word, sign, terminals, AreProper}
+use Rattle.kahn_syntax.specs.Lexemes.{Terminal, word, sign, terminals, AreProper}
 use Rattle.kahn_syntax.specs.inner.Machine.{Rung, whole, at, Token, class_of, leads, Part, ProgramPart, ExpressionPart, StatementPart, SimplePart, StatementsTail, TokenPart, GroupsPart, levels, Fate, Refuses, TooFar, fate, a_word, a_sign}
-use Rattle.kahn_syntax.specs.Drawn.{declaration_of, expression_of, statement_of, statements_of}
-use Rattle.kahn_syntax.specs.Spans.{FormSpans, Takes, ArgumentsSpan, DeclarationsSpan, ParametersSpan, ExpressionSpans, StatementSpans, StatementsSpan}
+use Rattle.kahn_syntax.specs.Spans.{declaration_of, expression_of, statement_of, statements_of, FormSpans, Takes, ArgumentsSpan, DeclarationsSpan, ExpressionSpans, StatementSpans, StatementsSpan}
 use Rattle.kahn_syntax.specs.Trees.{operator_terminal, ExpressionTree, OperandTrees, no_operand, operand, level, binds, Formed, expression_nesting, StatementTree, FormedStatement, FormedStatements, IsSimple, AreSome, statement_nesting, statements_nesting}
 
 -- an expression that may stand at this level
@@ -107,13 +106,9 @@ abbrev pub AreSound : List DeclarationTree → Type 0
 AreSound [] = Unit {0}
 AreSound (d ∷ ds) = IsFormed d × AreSound ds
 
--- the parameters of a process in their brackets, and what stands between them and its body
+-- the head of a process behind its name
 abbrev pub head_parts : List Part
 head_parts = TokenPart (a_sign mark.Open) ∷ GroupsPart ∷ TokenPart (a_sign mark.Close) ∷ TokenPart (a_sign mark.Semicolon) ∷ TokenPart (a_word keyword.Begin) ∷ []
-
-abbrev pub HeadSpans : List ℕ → List Parameter → List Lexeme → List Lexeme → Type 0
-HeadSpans text ps xs r = (a : List Lexeme) × (b : List Lexeme) × (c : List Lexeme) × (d : List Lexeme) × Takes text (sign mark.Open) xs a
-    × ParametersSpan text ps a b × Takes text (sign mark.Close) b c × Takes text (sign mark.Semicolon) c d × Takes text (word keyword.Begin) d r
 
 -- declarations whose bodies are of the grammar
 abbrev pub SoundDeclarationsSpan : List ℕ → List Declaration → List Lexeme → List Lexeme → Type 0

@@ -2,8 +2,7 @@
 
 ghost use Rattle.std.specs.Prelude.{◌≡◌, ◌<◌, length, IfOk, IfErr, MatchResult};
 ghost use Rattle.kahn_syntax.specs.declared.parser.cursor.Stop.TheVariants.{NoMemory};
-ghost use Rattle.kahn_syntax.specs.Drawn.{expression_of, form_of};
-ghost use Rattle.kahn_syntax.specs.Spans.{Covers};
+ghost use Rattle.kahn_syntax.specs.Spans.{expression_of, form_of, Covers};
 ghost use Rattle.kahn_syntax.specs.Trees as tree;
 ghost use Rattle.kahn_syntax.specs.inner.Reads.{SpansOperation};
 

@@ -1,10 +1,9 @@
 //! The lexemes that are still to be read, and why reading stops.
 
 ghost use Rattle.std.specs.Prelude.{◌≡◌, ℕ, ◌≤◌, ◌<◌, ◌+◌, List, [], false, length, IfOk, IfErr, IfSome, IfNone, MatchOption};
-ghost use Rattle.kahn_syntax.specs.Terminals.{First, AreProper, IsUnsigned};
-ghost use Rattle.kahn_syntax.specs.Faults.{Placed};
+ghost use Rattle.kahn_syntax.specs.Lexemes.{First, AreProper, IsUnsigned};
+ghost use Rattle.kahn_syntax.specs.Spans.{Placed, IsPast, Covers};
 ghost use Rattle.kahn_syntax.specs.inner.Reads.{IsAbsent};
-ghost use Rattle.kahn_syntax.specs.Spans.{IsPast, Covers};
 ghost use Rattle.kahn_syntax.specs.declared.parser.cursor.Stop.TheVariants.{Refused, TooDeep, NoMemory};
 
 use crate::lexeme::{Class, Lexeme};

@@ -4,13 +4,11 @@ ghost use Rattle.std.specs.Prelude.{◌≡◌, ◌≤◌, ◌<◌, ◌+◌, ◌+
 ghost use Rattle.kahn_syntax.specs.declared.lexeme.Keyword.TheVariants as keyword;
 ghost use Rattle.kahn_syntax.specs.declared.lexeme.Sign.TheVariants as mark;
 ghost use Rattle.kahn_syntax.specs.declared.parser.cursor.Stop.TheVariants.{NoMemory};
-ghost use Rattle.kahn_syntax.specs.Terminals.{terminals, AreProper};
-ghost use Rattle.kahn_syntax.specs.Programs.{kind_terminal, Parameters, Variables, Declarations};
-ghost use Rattle.kahn_syntax.specs.Drawn.{process_of, declaration_of};
+ghost use Rattle.kahn_syntax.specs.Lexemes.{terminals, AreProper};
+ghost use Rattle.kahn_syntax.specs.Programs.{kind_terminal, Parameters, Variables, Declarations, group};
+ghost use Rattle.kahn_syntax.specs.Spans.{process_of, declaration_of, IsPast, DeclarationSpans, RoleSpans, ProcessSpans, HeadSpans, ParametersSpan, GroupSpans, DirectionSpans, VariablesSpan, taking_kind, parameter_with, variable_with};
 ghost use Rattle.kahn_syntax.specs.inner.Machine.{DeclarationsPart, DeclarationPart, ProcessPart, RolePart, GroupsPart, GroupPart, TakingPart, VariablesPart, a_kind, leads, starts, declaration_rules};
-ghost use Rattle.kahn_syntax.specs.inner.Reads.{Reads, IsFormed, head_parts, HeadSpans, ParsesPart, SoundDeclarationsSpan};
-ghost use Rattle.kahn_syntax.specs.Spans.{IsPast, DeclarationSpans, RoleSpans, ProcessSpans, ParametersSpan, GroupSpans, DirectionSpans, VariablesSpan, taking_kind, parameter_with, variable_with};
-ghost use Rattle.kahn_syntax.specs.Lists.{group};
+ghost use Rattle.kahn_syntax.specs.inner.Reads.{Reads, IsFormed, head_parts, ParsesPart, SoundDeclarationsSpan};
 
 use crate::lexeme::{Class, Keyword, Lexeme, Sign};
 use crate::parser::cursor::{Read, Stop, expect, next, past};

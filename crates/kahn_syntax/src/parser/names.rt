@@ -2,11 +2,10 @@
 
 ghost use Rattle.std.specs.Prelude.{◌≡◌, ◌+◌, ◌<◌, [], ◌∷◌, ◌⊎◌, false, length, IfOk, IfErr};
 ghost use Rattle.kahn_syntax.specs.declared.parser.cursor.Stop.TheVariants.{Refused, NoMemory};
-ghost use Rattle.kahn_syntax.specs.Terminals.{name, terminals, AreProper};
+ghost use Rattle.kahn_syntax.specs.Lexemes.{name, terminals, AreProper};
 ghost use Rattle.kahn_syntax.specs.inner.Machine.{leads, TokenPart, NamesTail, a_name};
-ghost use Rattle.kahn_syntax.specs.Drawn.{name_of};
+ghost use Rattle.kahn_syntax.specs.Spans.{name_of, NameSpans, NamesSpan};
 ghost use Rattle.kahn_syntax.specs.inner.Reads.{ParsesPart};
-ghost use Rattle.kahn_syntax.specs.Spans.{NameSpans, NamesSpan};
 
 use crate::lexeme::{Class, Lexeme, Sign};
 use crate::parser::cursor::{Read, Stop, past};

@@ -2,7 +2,7 @@
 
 ghost use Rattle.std.specs.Prelude.{◌≡◌, ◌+◌, List, ℕ, ◌∷◌, false, length, IfSome, IfNone};
 ghost use Rattle.kahn_syntax.specs.declared.lexeme.Keyword.TheVariants as keyword;
-ghost use Rattle.kahn_syntax.specs.Terminals.{word, terminals, AreProper};
+ghost use Rattle.kahn_syntax.specs.Lexemes.{word, terminals, AreProper};
 ghost use Rattle.kahn_syntax.specs.inner.Machine.{a_word, at, leads, operator_rules, relations, rung_of, starts};
 ghost use Rattle.kahn_syntax.specs.Trees.{operator_terminal, rank};
 ghost use Rattle.kahn_syntax.specs.Spans.{IsPast};

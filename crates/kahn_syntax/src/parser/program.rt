@@ -3,14 +3,13 @@
 ghost use Rattle.std.specs.Prelude.{◌≡◌, ◌≤◌, ◌<◌, ◌+◌, [], ◌∷◌, ℕ, ℤ, neg_ℤ, List, false, length, map, IfOk, IfErr, IfSome, IfNone};
 ghost use Rattle.kahn_syntax.specs.declared.lexeme.Keyword.TheVariants as keyword;
 ghost use Rattle.kahn_syntax.specs.declared.lexeme.Sign.TheVariants as mark;
-ghost use Rattle.kahn_syntax.specs.Terminals.{Terminal, terminals, AreProper, sign, number};
+ghost use Rattle.kahn_syntax.specs.Lexemes.{Terminal, terminals, AreProper, sign, number};
 ghost use Rattle.kahn_syntax.specs.inner.Machine.{leads, InstancePart, ArgumentsPart, ArgumentPart, InstancesTail, LastTail, a_number};
-ghost use Rattle.kahn_syntax.specs.Faults.{IsFault};
+ghost use Rattle.kahn_syntax.specs.Texts.{IsFault};
 ghost use Rattle.kahn_syntax.specs.declared.fault.SyntaxFault.TheVariants as SyntaxFault;
 ghost use Rattle.kahn_syntax.specs.Programs.{ProgramTree, Spells, nesting, Instances};
-ghost use Rattle.kahn_syntax.specs.Drawn.{declaration_of, program_of};
+ghost use Rattle.kahn_syntax.specs.Spans.{declaration_of, program_of, IsPast, MayPart, ArgumentSpans, InstanceSpans, InstancesSpan, ProgramSpans};
 ghost use Rattle.kahn_syntax.specs.declared.lexeme.Lexeme.{Lexeme};
-ghost use Rattle.kahn_syntax.specs.Spans.{IsPast, MayPart, ArgumentSpans, InstanceSpans, InstancesSpan, ProgramSpans};
 ghost use Rattle.kahn_syntax.specs.inner.Reads.{Reads, Halts, AreSound, ClosedArgumentsSpan, ParsesPart};
 
 use crate::fault::{SyntaxFault, What};

@@ -3,7 +3,7 @@
 ghost use Rattle.std.specs.Prelude.{◌≡◌, ◌≤◌, ◌+◌, true, length};
 ghost use Rattle.kahn_syntax.specs.declared.lexeme.Keyword.TheVariants as keyword;
 ghost use Rattle.kahn_syntax.specs.declared.lexeme.Class.TheVariants as class;
-ghost use Rattle.kahn_syntax.specs.Terminals.{terminals, First, AreProper};
+ghost use Rattle.kahn_syntax.specs.Lexemes.{terminals, First, AreProper};
 ghost use Rattle.kahn_syntax.specs.Spans.{IsPast};
 ghost use Rattle.kahn_syntax.specs.inner.Reads.{ParsesStatement, ParsesStatements};
 ghost use Rattle.kahn_syntax.specs.inner.Machine.{leads, StatementPart, SimplePart, a_name};

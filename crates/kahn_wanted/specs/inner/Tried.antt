@@ -2,8 +2,8 @@
 use Rattle.std.specs.Prelude.{ℕ, List, [], ◌∷◌, Option, Some, None}
 use Rattle.kahn_syntax.specs.declared.lexeme.Class.{Class}
 use Rattle.kahn_syntax.specs.declared.lexeme.Lexeme.{Lexeme}
-use Rattle.kahn_syntax.specs.Terminals.{terminals, IsUnsigned}
-use Rattle.kahn_syntax.specs.Faults.{IsWholeWithin}
+use Rattle.kahn_syntax.specs.Lexemes.{terminals, IsUnsigned}
+use Rattle.kahn_syntax.specs.Texts.{IsWholeWithin}
 use Rattle.kahn_wanted.specs.declared.changes.Change.{Change}
 use Rattle.kahn_wanted.specs.Mends.{HasSpot, Picked, changed}
 use Rattle.kahn_wanted.specs.inner.Asked.{nowhere}

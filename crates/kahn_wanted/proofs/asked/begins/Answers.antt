@@ -2,9 +2,9 @@ use Rattle.std.proofs.Common.{List, Result, Ok, subst, sym, true, ◌≡◌}
 use Rattle.std.specs.Prelude.{IfOk}
 use Rattle.kahn_tree.specs.declared.tree.Program.{Program}
 use Rattle.kahn_syntax.specs.declared.fault.SyntaxFault.{SyntaxFault}
-use Rattle.kahn_syntax.specs.Drawn.{program_of}
+use Rattle.kahn_syntax.specs.Spans.{program_of}
 use Rattle.kahn_syntax.specs.Programs.{Spells}
-use Rattle.kahn_syntax.specs.Terminals.{Terminal, terminals}
+use Rattle.kahn_syntax.specs.Lexemes.{Terminal, terminals}
 use Rattle.kahn_wanted.specs.inner.Asked.{AnswersBegin}
 use Rattle.kahn_wanted.proofs.Answering.{whole}
 use Rattle.kahn_wanted.proofs.asked.begins.Goals as goal

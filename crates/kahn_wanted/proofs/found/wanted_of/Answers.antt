@@ -1,6 +1,6 @@
 use Rattle.std.proofs.Common.{IfOk, subst, sym}
 use Rattle.kahn_syntax.specs.declared.fault.SyntaxFault.TheVariants.{Expected}
-use Rattle.kahn_syntax.specs.Faults.{IsFault}
+use Rattle.kahn_syntax.specs.Texts.{IsFault}
 use Rattle.kahn_wanted.specs.Wanted.{IsAtFault}
 use Rattle.kahn_wanted.proofs.Front.{at_end, at_nothing, at_other}
 use Rattle.kahn_wanted.proofs.found.wanted_of.Goals as goal

@@ -51,7 +51,6 @@ returns-in_err-rest-2 c =
 pub returns : goal.returns
 returns c =
     let T = c.args.text.now in let i = c.args.input.now in
-    let (h0, h1, h2, h3, s0, s1, s2, s3, s4) = c.in_ok-parameters.ensures.spans in
     let m = then ((one T 0 ProcessPart [] process_parts (word Process) i c.in_ok-rest.rest.now (λ s l. omega (arith, l)) (λ s. refl) (c.in_ok-rest.ensures.first.1 T))) (token T 0 a_name (drop 1 process_parts) (name _) c.in_ok-rest.rest.now c.in_ok-name.rest.now (λ s l. omega (arith, l)) refl c.in_ok-name.ensures.words) in
     let m2 = then m (call T 0 0 head_parts (drop 6 process_parts) c.in_ok-name.rest.now c.in_ok-parameters.rest.now (λ s l. l) c.in_ok-parameters.ensures.reads) in
     let m3 = then m2 (call T 0 0 (VariablesPart ∷ []) (drop 7 process_parts) c.in_ok-parameters.rest.now c.in_ok-variables.rest.now (λ s l. l) c.in_ok-variables.ensures.reads) in
@@ -59,27 +58,19 @@ returns c =
     record {
       spans = (
         (c.in_ok-statements.ensures.some, c.in_ok-statements.ensures.formed, omega (arith, c.in_ok-statements.ensures.nesting)),
-        record {
-          a = c.in_ok-rest.rest.now;
-          b = c.in_ok-name.rest.now;
-          c = h0;
-          d = h1;
-          e = h2;
-          f = h3;
-          g = c.in_ok-parameters.rest.now;
-          h = c.in_ok-variables.rest.now;
-          i = c.in_ok-statements.rest.now;
-          begins = one_lexeme T (word Process) i c.in_ok-rest.rest.now c.in_ok-rest.ensures.passed (c.in_ok-rest.ensures.first.1 T);
-          named = c.in_ok-name.ensures.spans;
-          opened = s0;
-          parameters = s1;
-          closed = s2;
-          parted = s3;
-          begun = s4;
-          variables = c.in_ok-variables.ensures.spans;
-          statements = c.in_ok-statements.ensures.spans;
-          ended = one_lexeme T (word End) c.in_ok-statements.rest.now c.in_ok-rest-2.rest.now c.in_ok-rest-2.ensures.passed (c.in_ok-rest-2.ensures.first.1 T);
-        },
+        (
+          c.in_ok-rest.rest.now,
+          c.in_ok-name.rest.now,
+          c.in_ok-parameters.rest.now,
+          c.in_ok-variables.rest.now,
+          c.in_ok-statements.rest.now,
+          one_lexeme T (word Process) i c.in_ok-rest.rest.now c.in_ok-rest.ensures.passed (c.in_ok-rest.ensures.first.1 T),
+          c.in_ok-name.ensures.spans,
+          c.in_ok-parameters.ensures.spans,
+          c.in_ok-variables.ensures.spans,
+          c.in_ok-statements.ensures.spans,
+          one_lexeme T (word End) c.in_ok-statements.rest.now c.in_ok-rest-2.rest.now c.in_ok-rest-2.ensures.passed (c.in_ok-rest-2.ensures.first.1 T),
+        ),
       );
       shorter = omega (arith, c.in_ok-rest.ensures.shorter, c.in_ok-name.ensures.shorter, c.in_ok-parameters.ensures.shorter, c.in_ok-variables.ensures.shorter, c.in_ok-statements.ensures.shorter, c.in_ok-rest-2.ensures.shorter);
       proper = c.in_ok-rest-2.ensures.proper T c.in_ok-statements.ensures.proper;

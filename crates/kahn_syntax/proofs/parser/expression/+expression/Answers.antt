@@ -1,5 +1,5 @@
 use Rattle.kahn_syntax.proofs.Parsing.{nothing, Close, Else, ExpressionPart, ExpressionRead, ExpressionSpans, False, FitsLevel, FormedOperands, If, IsUnsigned, LevelPart, Minus, NameClass, NotWord, Number, Open, OperandsSpan, OperatorsPart, SignClass, Takes, Then, TokenPart, True, Word, a_sign, a_word, ap, arith, at, call, call_stops, choice_parts, compared_fits, comparison, deep, denials, drop, err_from_is_err_and, expected, expression_nesting, expression_of, factor_rules, factors, false, first_of, form_of, formed_next, hidden-the_row-Operand-0, joined_made, joined_nesting, level_chain, level_ends, level_fits, made, name, name_of, no_operand, no_operands, number_fits, one, one_lexeme, only_memory, opened, opens_chain, opens_denial, opens_whole, operands_made, operands_nesting, operands_nesting_next, operands_next, operands_of, operands_row, operands_row_spans, operator_more, operator_terminal, ors, refl, refused, relations, rules, rung_of, sign, starts, subst, sums, sym, terminals, then, then_stops, tighter, to_z-of_z, unexpected, vec_len, w64, whole, word, [], ◌∙◌, ◌∷◌, ◌≡◌}
-use Rattle.kahn_syntax.specs.Terminals.{number}
+use Rattle.kahn_syntax.specs.Lexemes.{number}
 use Rattle.std.specs.Prelude.{◌==◌, length, true}
 use Rattle.kahn_syntax.proofs.parser.expression.+expression.Goals as goal
 

@@ -1,5 +1,5 @@
 use Rattle.kahn_syntax.proofs.Parsing.{ArgumentPart, False, IsUnsigned, Minus, NameClass, Number, Refused, SignClass, Takes, TokenPart, True, Word, a_number, absent, ap, argument_rules, arith, err_from_is_err_and, false, first_of, inl, inr, length, name, name_of, number_fits, one, one_lexeme, only_memory, refl, refused, rules, sign, starts, subst, sym, terminals, then, then_stops, to_z-of_z, token, w64, word, [], ◌∙◌, ◌∷◌, ◌≡◌}
-use Rattle.kahn_syntax.specs.Terminals.{number}
+use Rattle.kahn_syntax.specs.Lexemes.{number}
 use Rattle.kahn_syntax.proofs.parser.program.read_argument.Goals as goal
 
 pub returns-in_err-name-in-Some-Name-default : goal.returns-in_err-name-in-Some-Name-default
