@@ -23,11 +23,11 @@ module _ {T : Type 0} where
   pub same_self : (m : Sat T) → Same m m
   same_self m = record { slots = refl; parts = refl; raised = refl; hands = refl; flushed = refl; got = refl; drawn = refl; loose = refl; owed = refl; down = refl; seen = refl }
 
-  pub same_noted : (m n k : Sat T) (r : ℕ) → Same m n → k ≡ (noted_view n.0 r, n.1) → Same m k
-  same_noted m n k r s is = subst (Same m) (sym is) record { slots = s.slots; parts = s.parts; raised = s.raised; hands = s.hands; flushed = s.flushed; got = s.got; drawn = s.drawn; loose = s.loose; owed = s.owed; down = s.down; seen = s.seen }
+  pub same_noted : (m n k : Sat T) → Same m n → k ≡ (noted_view n.0, n.1) → Same m k
+  same_noted m n k s is = subst (Same m) (sym is) record { slots = s.slots; parts = s.parts; raised = s.raised; hands = s.hands; flushed = s.flushed; got = s.got; drawn = s.drawn; loose = s.loose; owed = s.owed; down = s.down; seen = s.seen }
 
-  pub same_noted_twice : (m n k : Sat T) (a b : ℕ) → Same m n → k ≡ (noted_view (noted_view n.0 a) b, n.1) → Same m k
-  same_noted_twice m n k a b s is = subst (Same m) (sym is) record { slots = s.slots; parts = s.parts; raised = s.raised; hands = s.hands; flushed = s.flushed; got = s.got; drawn = s.drawn; loose = s.loose; owed = s.owed; down = s.down; seen = s.seen }
+  pub same_noted_twice : (m n k : Sat T) → Same m n → k ≡ (noted_view (noted_view n.0), n.1) → Same m k
+  same_noted_twice m n k s is = subst (Same m) (sym is) record { slots = s.slots; parts = s.parts; raised = s.raised; hands = s.hands; flushed = s.flushed; got = s.got; drawn = s.drawn; loose = s.loose; owed = s.owed; down = s.down; seen = s.seen }
 
   pub same_knows : (w : Wires) (p : ℕ) (m n : Sat T) → Same m n → Knows w p m.0 n.0
   same_knows w p m n s = record { flushed = λ c _ _. ap (λ l. get_or l c 0) s.flushed; got = ap (λ l. get_or l p 0) s.got; seen = inl s.seen }
@@ -44,9 +44,9 @@ module _ {T : Type 0} where
   }
 
   -- n events are drawn
-  pub drawn_turn : (p j a l : ℕ) (x : Option T) (m n k : Sat T) → Same m n → k ≡ (with_draw (noted_view n.0 a) j a, n.1) → InTurn p 0 l x m → InTurn p j l x k
-  drawn_turn p j a l x m n k s is t = let u = same_turn p 0 l x m n s t in
+  pub drawn_turn : (p j l : ℕ) (x : Option T) (m n k : Sat T) → Same m n → k ≡ (with_draw (noted_view n.0) j, n.1) → InTurn p 0 l x m → InTurn p j l x k
+  drawn_turn p j l x m n k s is t = let u = same_turn p 0 l x m n s t in
       subst (InTurn p j l x) (sym is) record { mine = u.mine; alone = u.alone; slot = u.slot; owed = u.owed; down = u.down; drawn = refl; loose = u.loose }
 
-  pub drawn_knows : (w : Wires) (p j a : ℕ) (m n k : Sat T) → Same m n → k ≡ (with_draw (noted_view n.0 a) j a, n.1) → Knows w p m.0 k.0
-  drawn_knows w p j a m n k s is = let u = same_knows w p m n s in subst (λ (q : Sat T). Knows w p m.0 q.0) (sym is) record { flushed = u.flushed; got = u.got; seen = u.seen }
+  pub drawn_knows : (w : Wires) (p j : ℕ) (m n k : Sat T) → Same m n → k ≡ (with_draw (noted_view n.0) j, n.1) → Knows w p m.0 k.0
+  drawn_knows w p j m n k s is = let u = same_knows w p m n s in subst (λ (q : Sat T). Knows w p m.0 q.0) (sym is) record { flushed = u.flushed; got = u.got; seen = u.seen }

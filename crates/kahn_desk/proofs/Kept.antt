@@ -11,8 +11,8 @@ use Rattle.kahn_desk.specs.inner.Turn.{InTurn, Fits, IsBetween, RestsWith}
 
 module _ {T : Type 0} where
   -- it has what it had
-  pub kept_turn : (p k l r : ℕ) (x : Option T) (m n : Sat T) → n.0 ≡ noted_view m.0 r → ((q : ℕ) (z : Option T) → Carries m.1 q z → Carries n.1 q z) → InTurn p k l x m → InTurn p k l x n
-  kept_turn p k l r x m n is keeps t = record {
+  pub kept_turn : (p k l : ℕ) (x : Option T) (m n : Sat T) → n.0 ≡ noted_view m.0 → ((q : ℕ) (z : Option T) → Carries m.1 q z → Carries n.1 q z) → InTurn p k l x m → InTurn p k l x n
+  kept_turn p k l x m n is keeps t = record {
     mine = ap (λ v. get_or v.hands p 0) is ∙ t.mine;
     alone = λ q ne. ap (λ v. get_or v.hands q 0) is ∙ t.alone q ne;
     slot = keeps p x t.slot;
@@ -22,8 +22,8 @@ module _ {T : Type 0} where
     loose = ap (λ v. v.loose) is ∙ t.loose;
   }
 
-  pub kept_fits : (told : T → Option Tale) (belongs : ℕ → T → Type 0) (w : Wires) (p r : ℕ) (y : T) (m n : Sat T) → n.0 ≡ noted_view m.0 r → Fits told belongs w p y m.0 → Fits told belongs w p y n.0
-  kept_fits told belongs w p r y m n is f = subst (Fits told belongs w p y) (sym is) record { published = f.published; events = f.events; flushed = f.flushed; belonging = f.belonging }
+  pub kept_fits : (told : T → Option Tale) (belongs : ℕ → T → Type 0) (w : Wires) (p : ℕ) (y : T) (m n : Sat T) → n.0 ≡ noted_view m.0 → Fits told belongs w p y m.0 → Fits told belongs w p y n.0
+  kept_fits told belongs w p y m n is f = subst (Fits told belongs w p y) (sym is) record { published = f.published; events = f.events; flushed = f.flushed; belonging = f.belonging }
 
   pub missed : (told : T → Option Tale) (after : T → T → Type 0) (key : Terms T) (s t : Seat T) (p : ℕ) (o : Option (Unit {0})) → Claims told after key s t p o → is_some o ≡ false
       → ((k : ℕ) → IsBetween k s → IsBetween k t) × ((r : ℕ) × (r ≢ 0) × Was told after key s s.seat.me.0 (8 * p) r)

@@ -1,5 +1,5 @@
 -- Inner. What a worker's seat has and knows between two turns and in a turn.
-use Rattle.std.specs.Prelude.{◌≡◌, ◌≢◌, ◌⊎◌, ℕ, ◌+◌, ◌*◌, ◌/◌, ◌<◌, [], slice_index, Option, Some}
+use Rattle.std.specs.Prelude.{◌≡◌, ◌≢◌, ◌⊎◌, ℕ, ◌+◌, ◌/◌, ◌<◌, [], slice_index, Option, Some}
 use Rattle.kahn_board.specs.Calls.{Was}
 use Rattle.kahn_board.specs.Dealt.{belongs, wired}
 use Rattle.kahn_board.specs.Rule.{channel_at, count_at}
@@ -67,7 +67,7 @@ module _ {T : Type 0} where
 
   -- p with its cell was set down ready, where the view was v
   abbrev pub SetsReady : (T → Option Tale) → Seat T → View → Seat T → ℕ → Type 0
-  SetsReady told s v t p = (y : T) → Carries s.seat.me.1 p (Some y) → (r : ℕ) × (t.seat.me.0 ≡ gave v p (told y) 0 r)
+  SetsReady told s v t p = (y : T) → Carries s.seat.me.1 p (Some y) → t.seat.me.0 ≡ gave v p (told y) 0
 
 module _ {T : Type 0} (told : T → Option Tale) (owns : ℕ → T → Type 0) (w : Wires) where
   -- the cell y of p may be left: what it tells as flushed is published, its events are those told as done, it flushed all that it sent unless the run is halted, it belongs to p
@@ -80,14 +80,14 @@ module _ {T : Type 0} (told : T → Option Tale) (owns : ℕ → T → Type 0) (
 module _ {T : Type 0} (told : T → Option Tale) (after : T → T → Type 0) (key : Terms T) where
   -- p with its cell was parked, or is over: the seat owed a count down for it at a moment of the call, and paid it
   abbrev pub SetsStill : Seat T → Seat T → ℕ → Type 0
-  SetsStill s t p = (y : T) → Carries s.seat.me.1 p (Some y) → (r : ℕ) × (q : ℕ)
-      × Was told after key s (gave s.seat.me.0 p (told y) 1 r) (count_at (wired key)) q
-      × (t.seat.me.0 ≡ paid_down (gave s.seat.me.0 p (told y) 1 r) q)
+  SetsStill s t p = (y : T) → Carries s.seat.me.1 p (Some y) → (q : ℕ)
+      × Was told after key s (gave s.seat.me.0 p (told y) 1) (count_at (wired key)) q
+      × (t.seat.me.0 ≡ paid_down (gave s.seat.me.0 p (told y) 1))
 
   -- p was set down ready, since other than k tokens of the channel c were published at a moment of the call
   abbrev pub SetsLate : ℕ → ℕ → Seat T → Seat T → ℕ → Type 0
   SetsLate c k s t p =
-      (r : ℕ) × (r / 2 ≢ k) × Was told after key s s.seat.me.0 (channel_at (wired key) c) r × SetsReady told s (noted_view s.seat.me.0 r) t p
+      (r : ℕ) × (r / 2 ≢ k) × Was told after key s s.seat.me.0 (channel_at (wired key) c) r × SetsReady told s (noted_view s.seat.me.0) t p
 
   -- a turn of p begins: its cell is at home and may be left, n events are drawn, and none of them is told as done
   abbrev pub BeginsTurn : ℕ → ℕ → Seat T → Type 0

@@ -10,8 +10,8 @@ rest_ready-requires-clause-holds g c = let k = c.args.board.now.table.shared.key
   h.0,
   h.1,
   h.2,
-  kept_turn _ _ _ e.1.0 _ m n e.1.3 e.2 h.3,
-  kept_fits g.T.Told.told (belongs g.T.Told.after k) (wired k) _ e.1.0 _ m n e.1.3 h.4,
+  kept_turn _ _ _ _ m n e.1.3 e.2 h.3,
+  kept_fits g.T.Told.told (belongs g.T.Told.after k) (wired k) _ _ m n e.1.3 h.4,
   tt,
 )
 
@@ -19,11 +19,11 @@ pub returns-then-not-park-clause-late : goal.returns-then-not-park-clause-late
 returns-then-not-park-clause-late g c = λ _.
     let e = c.if-not-park.ensures.1 refl in
     let k = e.1 in
-    (k.0, k.1, k.2, λ y had. let u = c.rest_ready.ensures.ready y (e.2 c.args.p _ had) in (u.0, u.1 ∙ ap (λ v. gave v c.args.p (g.T.Told.told y) 0 u.0) k.3))
+    (k.0, k.1, k.2, λ y had. c.rest_ready.ensures.ready y (e.2 c.args.p _ had) ∙ ap (λ v. gave v c.args.p (g.T.Told.told y) 0) k.3)
 
 pub returns-clause-parked : goal.returns-clause-parked
 returns-clause-parked g c = λ _ y had.
     let up = c.if-not-park.ensures.0 refl in
     let e = up.1 y had in
     let d = c.count_down.ensures.1 in
-    (e.0, d.0, was_at (holds g.T.Told.told g.T.Told.after c.args.board.now.table.shared.key) _ _ _ _ _ _ _ _ up.0.1 e.1 refl refl d.1, ap (λ m. m.0) d.2 ∙ ap (λ v. paid_down v d.0) e.1)
+    (d.0, was_at (holds g.T.Told.told g.T.Told.after c.args.board.now.table.shared.key) _ _ _ _ _ _ _ _ up.0.1 e refl refl d.1, ap (λ m. m.0) d.2 ∙ ap paid_down e)

@@ -8,4 +8,4 @@ pub returns-clause-over : goal.returns-clause-over
 returns-clause-over g c y had =
     let e = c.set_down.ensures.1 y had in
     let d = c.count_down.ensures.1 in
-    (e.0, d.0, was_at (holds g.T.Told.told g.T.Told.after c.args.board.now.table.shared.key) _ _ _ _ _ _ _ _ c.set_down.ensures.0.1 e.1 refl refl d.1, ap (λ m. m.0) d.2 ∙ ap (λ v. paid_down v d.0) e.1)
+    (d.0, was_at (holds g.T.Told.told g.T.Told.after c.args.board.now.table.shared.key) _ _ _ _ _ _ _ _ c.set_down.ensures.0.1 e refl refl d.1, ap (λ m. m.0) d.2 ∙ ap paid_down e)

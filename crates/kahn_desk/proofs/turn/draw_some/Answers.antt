@@ -14,7 +14,7 @@ loop-preserved g c = let e = c.in-Lost.ensures in let i = c.loop.invariant in le
     let again : suc (c.loop.counter - 1) ≡ c.loop.counter + 1 - 1 = omega (arith, c.loop.auto.counter) in (
       e.0.0 ∙ i.0,
       e.0.1 ∙ i.1,
-      same_noted_twice _ _ _ a.0 a.1 i.2 a.5,
+      same_noted_twice _ _ _ i.2 a.5,
       subst (λ (k : ℕ). AreLost g.T.Told.told g.T.Told.after c.args.board.now.table.shared.key c.args.quantum k c.args.seat.now c.draw.new.self) again (c.loop.seat, i.3, e),
     )
 

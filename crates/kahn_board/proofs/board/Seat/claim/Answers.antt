@@ -19,7 +19,7 @@ push_front_reserved-requires g c = let got = (claimed_here g.T.Told.told (belong
 
 pub invariant_of-self : goal.invariant_of-self
 invariant_of-self g c = let me = c.args.self.now in record {
-  facts = facts_noted g.T.Told.told (wired c.args.board.now.table.shared.key) me.seat.me _ _ _ _ _ _ me.facts c.compare_exchange-found.ensures.0 ((claimed_here g.T.Told.told (belongs g.T.Told.after c.args.board.now.table.shared.key) (wired c.args.board.now.table.shared.key) c.args.self.now.seat.me c.compare_exchange-found.new.seat.me c.args.p _ c.compare_exchange-found.result (omega arith) c.compare_exchange-found.ensures.2.0).1 c.if-found-ne0.true);
+  facts = facts_noted g.T.Told.told (wired c.args.board.now.table.shared.key) me.seat.me _ _ _ _ _ me.facts c.compare_exchange-found.ensures.0 ((claimed_here g.T.Told.told (belongs g.T.Told.after c.args.board.now.table.shared.key) (wired c.args.board.now.table.shared.key) c.args.self.now.seat.me c.compare_exchange-found.new.seat.me c.args.p _ c.compare_exchange-found.result (omega arith) c.compare_exchange-found.ensures.2.0).1 c.if-found-ne0.true);
 }
 
 pub returns-then-found-ne0 : goal.returns-then-found-ne0
@@ -27,7 +27,7 @@ returns-then-found-ne0 g c = ((c.compare_exchange-found.ensures.0, c.compare_exc
 
 pub invariant_of-self-2 : goal.invariant_of-self-2
 invariant_of-self-2 g c = let got = (claimed_here g.T.Told.told (belongs g.T.Told.after c.args.board.now.table.shared.key) (wired c.args.board.now.table.shared.key) c.args.self.now.seat.me c.compare_exchange-found.new.seat.me c.args.p _ c.compare_exchange-found.result (omega arith) c.compare_exchange-found.ensures.2.0).0 c.if-found-ne0.false in let me = c.args.self.now in record {
-  facts = facts_took g.T.Told.told (belongs g.T.Told.after c.args.board.now.table.shared.key) (wired c.args.board.now.table.shared.key) me.seat.me _ _ _ _ _ _ _ _ _ got.0 me.facts c.compare_exchange-found.ensures.0 got.1 c.push_front_reserved.ensures.items c.push_front_reserved.ensures.capacity (search rules);
+  facts = facts_took g.T.Told.told (belongs g.T.Told.after c.args.board.now.table.shared.key) (wired c.args.board.now.table.shared.key) me.seat.me _ _ _ _ _ _ _ _ got.0 me.facts c.compare_exchange-found.ensures.0 got.1 c.push_front_reserved.ensures.items c.push_front_reserved.ensures.capacity (search rules);
 }
 
 pub returns : goal.returns

@@ -21,5 +21,5 @@ compare_exchange-found-requires g c = let b = c.args.board.now in let told = g.T
 pub returns : goal.returns
 returns g c = let b = c.args.board.now in let told = g.T.Told.told in let w = wired b.table.shared.key in let s = c.bring.new.self in let same = c.bring.ensures.same in let f = c.compare_exchange-found.ensures in let n = c.compare_exchange-found.new.seat.me in
     let first : first_of s.seat.me.1 ≡ c.args.p = ap first_of c.bring.ensures.first.1 in
-    let t = gave_up told w s.seat.me n s.seat.table_id s.held.items _ c.args.p 1 _ s.facts (subst (λ k. (y : _) × TheFirst told w s.seat.me k y × GaveUp told w s.seat.me k 1 c.compare_exchange-found.result n y) first (f.2.0.0 c.if-found-taken.false)) c.args.self.now.seat.me.0 same.1 c.args.self.now.seat.me.1 c.bring.ensures.kept in
+    let t = gave_up told w s.seat.me n s.seat.table_id s.held.items _ c.args.p 1 s.facts (subst (λ k. (y : _) × TheFirst told w s.seat.me k y × GaveUp told w s.seat.me k 1 n y) first (f.2.0.0 c.if-found-taken.false)) c.args.self.now.seat.me.0 same.1 c.args.self.now.seat.me.1 c.bring.ensures.kept in
     ((λ _. ((f.0 ∙ same.0.0, f.1 ∙ same.0.1), t.0, t.1)), λ e. absurd (true≢false e))

@@ -32,7 +32,7 @@ invariant_of-self-2 g c = let b = c.args.board.now in let k = b.table.shared.key
     let reads : w.reader c.args.channel ≡ Some c.reader-reader.result = c.reader-reader.ensures in
     let t = woke told own w _ me.seat.me c.swap-found.new.seat.me _ c.args.channel c.swap-found.result c.reader-reader.result c.args.count (omega (arith, b.counts.0)) f.2 odd refl reads in
     let inside = reader_in k.network.value c.args.channel c.reader-reader.result reads in record {
-      facts = facts_took told own w (waking me.seat.me.0 c.args.channel c.args.count c.reader-reader.result t.0, me.seat.me.1) c.swap-found.new.seat.me me.seat.table_id _ me.held.items _ _ _ _ _ t.1
+      facts = facts_took told own w (waking me.seat.me.0 c.args.channel c.args.count c.reader-reader.result t.0, me.seat.me.1) c.swap-found.new.seat.me me.seat.table_id _ me.held.items _ _ _ _ t.1
           (facts_waking told w me.seat.me me.seat.table_id me.held.items _ c.args.channel c.args.count c.reader-reader.result t.0 me.facts) f.0 t.4 c.push_front_reserved.ensures.items c.push_front_reserved.ensures.capacity
           (omega (arith, inside, b.counts.0, b.sized.1, ap (λ (z : TableId). z.slots) c.requires.board));
     }

@@ -23,5 +23,5 @@ pub returns : goal.returns
 returns g c = let b = c.args.board.now in let told = g.T.Told.told in let w = wired b.table.shared.key in let s = c.bring.new.self in let same = c.bring.ensures.same in let f = c.store.ensures in
     let more : c.match-rest.new / 2 ≡ downs_of c.args.rest = elim c.match-rest.branch [ in-Ready k ↦ omega (arith, k.new-is, ap downs_of k.in-Ready.is) | in-Over k ↦ omega (arith, k.new-is, ap downs_of k.in-Over.is) ] in
     let here : 8 * c.args.p / 8 ≡ c.args.p = omega arith in
-    let t = gave_up told w s.seat.me c.store.new.seat.me s.seat.table_id s.held.items _ c.args.p (downs_of c.args.rest) _ s.facts (subst (λ (k : ℕ × ℕ). (y : _) × TheFirst told w s.seat.me k.0 y × GaveUp told w s.seat.me k.0 k.1 c.match-rest.new c.store.new.seat.me y) (λ i. (here i, more i)) f.2) c.args.self.now.seat.me.0 same.1 c.args.self.now.seat.me.1 c.bring.ensures.kept in
+    let t = gave_up told w s.seat.me c.store.new.seat.me s.seat.table_id s.held.items _ c.args.p (downs_of c.args.rest) s.facts (subst (λ (k : ℕ × ℕ). (y : _) × TheFirst told w s.seat.me k.0 y × GaveUp told w s.seat.me k.0 k.1 c.store.new.seat.me y) (λ i. (here i, more i)) f.2) c.args.self.now.seat.me.0 same.1 c.args.self.now.seat.me.1 c.bring.ensures.kept in
     ((f.0 ∙ same.0.0, f.1 ∙ same.0.1), t.0, t.1)
