@@ -225,10 +225,3 @@ module _ {T : Type 0} (told : T → Option Tale) (belongs : ℕ → T → Type 0
         },
         refl,
       )
-
-  pub not_two : (m m' : Sat T) → m' ≡ (noted_view m.0, m.1) → m.0.seen ≢ 2 → m'.0.seen ≢ 2
-  not_two m m' is ne two = ne (sym (ap (λ (k : Sat T). k.0.seen) is) ∙ two)
-
-  -- after steps that leave what a seat keeps of its own view
-  pub still_fit : (m m' : Sat T) (v : View) → m' ≡ (v, m.1) → v.parts ≡ m.0.parts → v.hands ≡ m.0.hands → v.flushed ≡ m.0.flushed → v.got ≡ m.0.got → Fit told w m → Fit told w m'
-  still_fit m m' v is parts hands flushed got f = subst (Fit told w) (sym is) record { alive = omega (arith, f.alive); hands_long = ap length hands ∙ f.hands_long; flushed_long = ap length flushed ∙ f.flushed_long; got_long = ap length got ∙ f.got_long }

@@ -25,3 +25,4 @@ pub mod Left
 pub mod Passed
 pub mod Joined
 pub mod Kept
+pub mod Placed

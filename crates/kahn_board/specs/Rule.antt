@@ -13,7 +13,6 @@ use Rattle.kahn_board.specs.Tale.{Tale, TellsWait, TellsEnd, TellsEvents, Flushe
 use Rattle.kahn_board.specs.Wires.{Wires}
 use Rattle.kahn_board.specs.Place.{Place, ready, held, parked, over, word_code, held_by, mark_of, total}
 use Rattle.kahn_board.specs.Counts.{Owes, is_up, below}
-use Rattle.kahn_board.specs.Quiet.{Quiet}
 use Rattle.kahn_board.specs.declared.view.View.{View}
 
 -- the parts of a board's first seat
@@ -87,6 +86,10 @@ pub record Deal : Type 0 where
 -- a seat halted the run, and knows it
 abbrev pub IsHalter : List View → Type 0
 IsHalter views = (j : ℕ) × (v : View) × (get_elem? views j ≡ some v) × (v.seen ≡ 2) × (0 < v.raised)
+
+-- every instance is parked or over, and nobody owes
+abbrev pub Quiet : ℕ → (ℕ → Place) → List View → Type 0
+Quiet n place views = ((p : ℕ) → p < n → is_up (place p) ≡ 0) × (total (λ v. length v.owed) views ≡ 0) × (total (λ v. v.down) views ≡ 0)
 
 module _ {T : Type 0} where
   -- the cell y of the instance p is at home
@@ -188,8 +191,7 @@ module _ {T : Type 0} where
     pub place : ℕ → Place
     pub ruled : Ruled told w place s
     pub reckoned : Reckoned told belongs w d place s
-    -- where the count is 0 every instance is parked or over, and nobody owes
-    pub quiet : count w s.words ≡ 0 → Quiet (λ (v : View). v.hands) (λ (v : View). v.owed) (λ (v : View). v.down) w.instances place s.views
+    pub quiet : count w s.words ≡ 0 → Quiet w.instances place s.views
 
   -- there was a moment at which the rule held, the seat id had the view v, and the word i the number r
   abbrev pub WordWas : (St T → Type 0) → ℕ → View → ℕ → ℕ → Type 0

@@ -1,21 +1,21 @@
 use Rattle.std.proofs.Common.{rules, Some, ◌≡◌, ap, refl, arith, ◌%◌, ◌∙◌}
-use Rattle.kahn_board.specs.Dealt.{belongs, dealt, wired}
+use Rattle.kahn_board.specs.Dealt.{belongs, wired}
 use Rattle.kahn_board.proofs.Owed.{publishes_at}
 use Rattle.kahn_board.proofs.Returns.{woke}
 use Rattle.kahn_board.proofs.Wired.{reader_in, writer_in}
-use Rattle.kahn_board.proofs.Seats.{fit, room_for, facts_took, facts_waking}
+use Rattle.kahn_board.proofs.Placed.{placed}
+use Rattle.kahn_board.proofs.Seats.{room_for, facts_took, facts_waking}
 use Rattle.kahn_board.specs.Plays.{waking}
 use Rattle.atomic_table.specs.Seated.{TableId}
 use Rattle.kahn_board.proofs.board.Seat.publish.Goals as goal
 
 pub swap-found-requires : goal.swap-found-requires
-swap-found-requires g c = let b = c.args.board.now in let told = g.T.Told.told in let k = b.table.shared.key in let own = belongs g.T.Told.after k in let w = wired k in let d = dealt told k in let t = c.requires.writer in
-    let writer = t.2 in (
-      search rules,
-      omega (arith, t.0, b.sized.0),
-      publishes_at told own w d _ _ _ c.args.channel _ _ writer.0 c.args.count _ (fit told w _ _ _ _ _ b.instances b.channels c.args.self.now.facts c.requires.board b.sized b.counts) (omega (arith, b.counts.0)) (omega (arith, b.counts.0)) (omega (arith, t.0, b.counts.1)) writer.1
-          (writer_in k.network.value _ _ writer.1) writer.2 (reader_in k.network.value c.args.channel) (omega (arith, b.counts.0)),
-    )
+swap-found-requires g c = let b = c.args.board.now in let k = b.table.shared.key in let t = c.requires.writer in let writer = t.2 in (
+  search rules,
+  omega (arith, t.0, b.sized.0),
+  publishes_at _ _ _ _ _ _ _ c.args.channel _ _ writer.0 c.args.count _ (placed g.T.Told.told b c.args.self.now c.requires.board) (omega (arith, b.counts.0)) (omega (arith, b.counts.0)) (omega (arith, t.0, b.counts.1)) writer.1
+      (writer_in k.network.value _ _ writer.1) writer.2 (reader_in k.network.value c.args.channel) (omega (arith, b.counts.0)),
+)
 
 pub reader-reader-requires : goal.reader-reader-requires
 reader-reader-requires g c = let b = c.args.board.now in let k = b.table.shared.key in let t = c.requires.writer in
