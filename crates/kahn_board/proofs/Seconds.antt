@@ -11,7 +11,7 @@ use Rattle.kahn_board.specs.Wires.{Wires}
 use Rattle.kahn_board.specs.Counts.{Owed, Owes, is_up, below}
 use Rattle.kahn_board.specs.Calls.{Unowed}
 use Rattle.kahn_board.specs.Place.{Place, held, held_by, moved}
-use Rattle.kahn_board.specs.Plays.{Sat, IsIn, SeesMore, took, gave}
+use Rattle.kahn_board.specs.Plays.{Sat, IsIn, SeesMore, noted_view, took, gave}
 use Rattle.kahn_board.specs.Rule.{St, Deal, published, budget, count, halted, Ruled, IsHome, Reckoned}
 use Rattle.kahn_board.specs.declared.view.View.{View}
 use Rattle.kahn_board.proofs.Moved.{held_no}
@@ -85,6 +85,31 @@ module _ {T : Type 0} (told : T → Option Tale) (belongs : ℕ → T → Type 0
     belonging = q₀.lasting.belonging;
     fixed = m.fixed;
     leaves = m.leaves;
+  }
+
+  -- a step of a seat that keeps its hands, and what it saw and halted
+  pub still : (s : St T) (place : ℕ → Place) (q₀ : Reckoned told belongs w d place s) (id : ℕ) (v : View) (flushed : List ℕ) (drawn done loose : ℕ) (owed : Owed) (down : ℕ) (ws : List ℕ) → get_elem? s.views id ≡ some v
+      → budget w ws + drawn + done ≡ budget w s.words + v.drawn + v.done → loose + v.done ≡ v.loose + done → count w ws + length owed + v.down ≡ count w s.words + length v.owed + down → Owes v.hands owed → down ≤ v.down
+      → (count w s.words ≡ 0 → count w ws ≡ 0) → halted w ws ≡ halted w s.words → ((c : ℕ) → c < w.channels → w.writer c ≡ None → published w ws c ≡ published w s.words c)
+      → Idle s v (record (noted_view v) { flushed = flushed; drawn = drawn; done = done; loose = loose; owed = owed; down = down }) ws
+  still s place q₀ id v flushed drawn done loose owed down ws me drawing tallying counting pairs less quiet halts fixed = record {
+    hands_same = refl;
+    got_same = refl;
+    drawing = drawing;
+    tallying = tallying;
+    counting = counting;
+    pairs = pairs;
+    few = omega (arith, less, q₀.counted.few id v me);
+    still_quiet = quiet;
+    still_halted = λ ne e. ne (sym halts ∙ e);
+    saw_quiet = λ e. quiet (q₀.lasting.saw_quiet id v me e);
+    saw_halted = λ e z. q₀.lasting.saw_halted id v me e (sym halts ∙ z);
+    knows = λ e. e;
+    raises = omega arith;
+    halter = λ ne. inl (λ z. ne (halts ∙ z));
+    sights = q₀.lasting.sights id v me;
+    fixed = fixed;
+    leaves = λ h. absurd (omega arith);
   }
 
   -- a step that takes the instance p, with the counts up that are owed after it

@@ -11,7 +11,7 @@ use Rattle.kahn_board.specs.Calls.{Leaves}
 use Rattle.kahn_board.specs.Plays.{SeesMore, took, gave, flushed_view, waking}
 use Rattle.kahn_board.specs.Rule.{Deal, Whole, halted, count}
 use Rattle.kahn_board.proofs.Turns.{whole}
-use Rattle.kahn_board.proofs.Seconds.{hot, idles, takes_second, gives_second, replaced}
+use Rattle.kahn_board.proofs.Seconds.{hot, idles, still, takes_second, gives_second, replaced}
 use Rattle.kahn_board.proofs.Changes.{owes_more, owes_woken, one_longer}
 use prog.Atomic.{either}
 use Rattle.atomic_table.specs.Table.{step, Act, keeps, takes, gives, Valid, carried_after, stepped, Allows}
@@ -183,25 +183,8 @@ module _ {T : Type 0} (told : T → Option Tale) (belongs : ℕ → T → Type 0
   pub unchanged : (s : St T) (a : Whole told belongs w d s) (i id : ℕ) (m : Sat T) → get_elem? s.views id ≡ some m.0 → Fit told w m → Whole told belongs w d (stepped s i (get_or s.words i 0) id m.1 (noted_view m.0) keeps)
   unchanged s a i id m me fit = subst (λ (l : List ℕ). Whole told belongs w d (state told w l s.homes (set s.views id (noted_view m.0)))) (sym (set-get_or s.words i 0)) (whole told belongs w d _ a.place
       (stays told w s a.place a.ruled s.words id m (noted_view m.0) me fit refl refl refl refl (λ q h. refl))
-      (idles told belongs w d s a.place a.reckoned id m.0 (noted_view m.0) s.words me record {
-        hands_same = refl;
-        got_same = refl;
-        drawing = refl;
-        tallying = refl;
-        counting = refl;
-        pairs = a.reckoned.counted.pairs id m.0 me;
-        few = a.reckoned.counted.few id m.0 me;
-        still_quiet = λ e. e;
-        still_halted = λ e. e;
-        saw_quiet = a.reckoned.lasting.saw_quiet id m.0 me;
-        saw_halted = a.reckoned.lasting.saw_halted id m.0 me;
-        knows = λ e. e;
-        raises = omega arith;
-        halter = λ ne. inl ne;
-        sights = a.reckoned.lasting.sights id m.0 me;
-        fixed = λ c h none. refl;
-        leaves = λ h. absurd (omega arith);
-      }))
+      (idles told belongs w d s a.place a.reckoned id m.0 (noted_view m.0) s.words me (still told belongs w d s a.place a.reckoned id m.0 m.0.flushed m.0.drawn m.0.done m.0.loose m.0.owed m.0.down s.words me
+      refl refl refl (a.reckoned.counted.pairs id m.0 me) (omega arith) (λ e. e) refl (λ c h none. refl))))
 
   -- the events of a cell, and those that a seat drew, are a number of 48 bits
   few_drawn : (s : St T) (a : Whole told belongs w d s) (id : ℕ) (m : Sat T) (p : ℕ) → get_elem? s.views id ≡ some m.0 → Fit told w m → p < w.instances → get_or (set m.0.got p (a.reckoned.tally p)) p 0 + m.0.drawn < 2 ^ 48
@@ -378,25 +361,8 @@ module _ {T : Type 0} (told : T → Option Tale) (belongs : ℕ → T → Type 0
               alive = fit.alive;
               parts = refl;
             })
-            (replaced told belongs w d _ place (moved place q₀ (held id)) (λ q. sym (stay q)) (idles told belongs w d s place a.reckoned id m.0 v' ws me record {
-              hands_same = refl;
-              got_same = refl;
-              drawing = omega (arith, hots.budget_same);
-              tallying = refl;
-              counting = omega (arith, hots.count_same);
-              pairs = a.reckoned.counted.pairs id m.0 me;
-              few = a.reckoned.counted.few id m.0 me;
-              still_quiet = λ e. hots.count_same ∙ e;
-              still_halted = λ ne e. ne (sym hots.halted_same ∙ e);
-              saw_quiet = λ e. hots.count_same ∙ a.reckoned.lasting.saw_quiet id m.0 me e;
-              saw_halted = λ e z. a.reckoned.lasting.saw_halted id m.0 me e (sym hots.halted_same ∙ z);
-              knows = λ e. e;
-              raises = omega arith;
-              halter = λ ne. inl (λ z. ne (hots.halted_same ∙ z));
-              sights = a.reckoned.lasting.sights id m.0 me;
-              fixed = fixed;
-              leaves = λ h. absurd (omega arith);
-            })),
+            (replaced told belongs w d _ place (moved place q₀ (held id)) (λ q. sym (stay q)) (idles told belongs w d s place a.reckoned id m.0 v' ws me (still told belongs w d s place a.reckoned id m.0 (set m.0.flushed c (new / 2)) m.0.drawn m.0.done m.0.loose m.0.owed m.0.down ws me
+            (omega (arith, hots.budget_same)) refl (omega (arith, hots.count_same)) (a.reckoned.counted.pairs id m.0 me) (omega arith) (λ e. hots.count_same ∙ e) hots.halted_same fixed))),
         ((λ _. refl), λ odd. absurd (omega arith)),
       ))
       (λ not_even. let odd : x % 2 ≡ 1 = omega arith in let t = marked place (w.reader c) c (sym (r.parking.marks c near) ∙ (ap (λ (k : ℕ). k % 2) x_is ∙ odd)) in
