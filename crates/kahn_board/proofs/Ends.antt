@@ -12,18 +12,15 @@ use Rattle.kahn_board.specs.Rule.{St, Deal, spent, all_parts, published, budget,
 use Rattle.kahn_board.specs.Cuts.{IsFree}
 use Rattle.kahn_board.specs.Closing.{IsQuietCell, Closes}
 use Rattle.kahn_board.specs.declared.view.View.{View}
-use Rattle.kahn_board.proofs.Sums.{terms_le}
-use Rattle.kahn_board.proofs.Turns.{quiet_here, all_none}
+use Rattle.kahn_board.proofs.Sums.{terms_le, all_none}
+use Rattle.kahn_board.proofs.Turns.{quiet_here}
 use Rattle.kahn_board.proofs.Steps.{same_some}
 use Rattle.kahn_board.proofs.Reseats.{all_home}
-
-none_left : (f : View → ℕ) (vs : List View) → ((j : ℕ) (v : View) → get_elem? vs j ≡ some v → f v ≡ 0) → total f vs ≡ 0
-none_left f vs h = all_none f vs h
 
 -- a sum of one term, the others being 0
 one_term : (f : View → ℕ) (vs : List View) (id : ℕ) (v : View) → get_elem? vs id ≡ some v → ((j : ℕ) (u : View) → j ≢ id → get_elem? vs j ≡ some u → f u ≡ 0) → total f vs ≡ f v
 one_term f [] id v e h = absurd (some-ne-none v (sym e))
-one_term f (x ∷ xs) zero v e h = let rest_zero : total f xs ≡ 0 = none_left f xs (λ j u k. h (suc j) u (λ z. omega arith) k) in omega (arith, rest_zero, ap f (some-injective x v e))
+one_term f (x ∷ xs) zero v e h = let rest_zero : total f xs ≡ 0 = all_none f xs (λ j u k. h (suc j) u (λ z. omega arith) k) in omega (arith, rest_zero, ap f (some-injective x v e))
 one_term f (x ∷ xs) (suc id) v e h = omega (arith, h 0 x (λ z. omega arith) refl, one_term f xs id v e (λ j u ne k. h (suc j) u (λ z. ne (omega arith)) k))
 
 module _ {T : Type 0} (told : T → Option Tale) (belongs : ℕ → T → Type 0) (w : Wires) (d : Deal) where

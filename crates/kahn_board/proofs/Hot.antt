@@ -1,5 +1,5 @@
 -- The steps on the words budget, count and halted.
-use Rattle.std.proofs.Common.{◌≡◌, ℕ, ◌+◌, ◌-◌, ◌*◌, ◌/◌, ◌%◌, ◌^◌, ◌<◌, ◌≤◌, ◌≢◌, ◌⊎◌, inl, inr, eqb, List, length, get_or, set, sym, refl, ap, ◌∙◌, subst, arith, Option, length-set, get_or-set_same, get_or-set_other}
+use Rattle.std.proofs.Common.{◌≡◌, ℕ, ◌+◌, ◌-◌, ◌*◌, ◌/◌, ◌%◌, ◌^◌, ◌<◌, ◌≤◌, ◌≢◌, ◌⊎◌, inl, inr, eqb, List, drop, length, get_or, set, sym, refl, ap, ◌∙◌, subst, arith, Option, None, length-set, get_or-set_same, get_or-set_other}
 use mathlib.Core.Logic.{dite}
 use native.Mathlib.Decide.{ℕ_discrete}
 use mathlib.Core.Option.{some, none}
@@ -10,16 +10,16 @@ use Rattle.atomic_table.specs.Table.{step, keeps, stepped, Allows}
 use Rattle.atomic_table.proofs.Lists.{exchanged}
 use Rattle.kahn_board.specs.Tale.{Tale}
 use Rattle.kahn_board.specs.Wires.{Wires}
-use Rattle.kahn_board.specs.Counts.{Owes, is_up}
+use Rattle.kahn_board.specs.Counts.{Owed, Owes, is_up}
 use Rattle.kahn_board.specs.Place.{Place, ready, held, parked, over}
-use Rattle.kahn_board.specs.Rule.{St, Deal, Whole, budget, count, halted}
+use Rattle.kahn_board.specs.Rule.{St, Deal, Whole, published, budget, count, halted}
 use Rattle.kahn_board.specs.Plays.{Sat, noted_view, saw, leaves_as, with_draw, used, undrawn, paid_up, paid_down, halting, looked, drew, uses, gave_back, counted_up, counted_down, halts, sees_halted, sees_count, sees_budget}
 use Rattle.kahn_board.specs.declared.view.View.{View}
 use Rattle.kahn_board.proofs.Sums.{term_le}
 use Rattle.kahn_board.proofs.Counting.{below-le, below-term}
 use Rattle.kahn_board.proofs.Keeps.{state}
 use Rattle.kahn_board.proofs.Turns.{quiet_here, owed_less_here, downs_few, whole}
-use Rattle.kahn_board.proofs.Seconds.{Idle, idles}
+use Rattle.kahn_board.proofs.Seconds.{Idle, idles, still}
 use Rattle.kahn_board.proofs.Changes.{one_less, owes_paid, leaves_free}
 use Rattle.kahn_board.proofs.Steps.{Fit, Goes, stays, unchanged}
 
@@ -37,6 +37,10 @@ module _ {T : Type 0} (told : T → Option Tale) (belongs : ℕ → T → Type 0
       (stays told w s a.place a.ruled (set s.words i k) id m v me fit parts hands flushed (length-set s.words i k) (λ q h. get_or-set_other s.words i (8 * q) k 0 (λ e. omega arith)))
       (idles told belongs w d s a.place a.reckoned id m.0 v (set s.words i k) me idle)
 
+  -- the words of channels stay
+  unwritten : (s : St T) (i k : ℕ) → 8 * (w.instances + w.channels) ≤ i → (c : ℕ) → c < w.channels → w.writer c ≡ None → published w (set s.words i k) c ≡ published w s.words c
+  unwritten s i k past c h e = ap (λ (j : ℕ). j / 2) (get_or-set_other s.words i (8 * (w.instances + c)) k 0 (λ f. omega arith))
+
   -- a load
   at_load : (s : St T) (a : Whole told belongs w d s) (i id : ℕ) (m : Sat T) (v : View) → get_elem? s.views id ≡ some m.0 → Fit told w m → v.parts ≡ m.0.parts → v.hands ≡ m.0.hands → v.flushed ≡ m.0.flushed
       → Idle told belongs w d s m.0 v s.words → Whole told belongs w d (stepped s i (get_or s.words i 0) id m.1 v keeps)
@@ -45,9 +49,9 @@ module _ {T : Type 0} (told : T → Option Tale) (belongs : ℕ → T → Type 0
       (idles told belongs w d s a.place a.reckoned id m.0 v s.words me idle))
 
   -- what a look sees, where it is true
-  sights : (s : St T) (a : Whole told belongs w d s) (i id : ℕ) (m : Sat T) (seen r : ℕ) → get_elem? s.views id ≡ some m.0 → Fit told w m → (seen ≡ 1 → count w s.words ≡ 0) → (seen ≡ 2 → halted w s.words ≢ 0)
-      → (m.0.seen ≡ 2 → seen ≡ 2) → seen ≤ 2 → (halted w s.words ≢ 0) ⊎ ((count w s.words ≡ 0) ⊎ (budget w s.words ≡ 0)) → Whole told belongs w d (stepped s i (get_or s.words i 0) id m.1 (saw m.0 seen (leaves_as m.0) r) keeps)
-  sights s a i id m seen r me fit quiet_is halted_is knows small stopped = at_load s a i id m (saw m.0 seen (leaves_as m.0) r) me fit refl refl refl record {
+  sights : (s : St T) (a : Whole told belongs w d s) (i id : ℕ) (m : Sat T) (seen : ℕ) → get_elem? s.views id ≡ some m.0 → Fit told w m → (seen ≡ 1 → count w s.words ≡ 0) → (seen ≡ 2 → halted w s.words ≢ 0)
+      → (m.0.seen ≡ 2 → seen ≡ 2) → seen ≤ 2 → (halted w s.words ≢ 0) ⊎ ((count w s.words ≡ 0) ⊎ (budget w s.words ≡ 0)) → Whole told belongs w d (stepped s i (get_or s.words i 0) id m.1 (saw m.0 seen (leaves_as m.0)) keeps)
+  sights s a i id m seen me fit quiet_is halted_is knows small stopped = at_load s a i id m (saw m.0 seen (leaves_as m.0)) me fit refl refl refl record {
     hands_same = refl;
     got_same = refl;
     drawing = refl;
@@ -70,63 +74,45 @@ module _ {T : Type 0} (told : T → Option Tale) (belongs : ℕ → T → Type 0
   pub looks_halted : (n id : ℕ) (m : Sat T) (i : ℕ) → Fit told w m → i ≡ 8 * (w.instances + w.channels) + 16 → Allows (Whole told belongs w d) n id m i (λ y. y) (sees_halted (step n i 0 0 none) m)
   looks_halted n id m i fit at s a wide me _ = let r : ℕ = get_or s.words i 0 in let is : r ≡ halted w s.words = ap (λ (k : ℕ). get_or s.words k 0) at in
       dite (ℕ_discrete r 0)
-      (λ z. (noted_view m.0 r, keeps, tt, unchanged told belongs w d s a i id m r me fit, ((λ ne. absurd (ne z)), λ _. ((λ two. a.reckoned.lasting.saw_halted id m.0 me two (sym is ∙ z)), refl))))
+      (λ z. (noted_view m.0, keeps, tt, unchanged told belongs w d s a i id m me fit, ((λ ne. absurd (ne z)), λ _. ((λ two. a.reckoned.lasting.saw_halted id m.0 me two (sym is ∙ z)), refl))))
       (λ ne. let yes : halted w s.words ≢ 0 = (λ z. ne (is ∙ z)) in
-      (saw m.0 2 (leaves_as m.0) r, keeps, tt, sights s a i id m 2 r me fit (λ e. absurd (omega (arith, e))) (λ _. yes) (λ _. refl) (omega arith) (inl yes), ((λ _. refl), λ z. absurd (ne z))))
+      (saw m.0 2 (leaves_as m.0), keeps, tt, sights s a i id m 2 me fit (λ e. absurd (omega (arith, e))) (λ _. yes) (λ _. refl) (omega arith) (inl yes), ((λ _. refl), λ z. absurd (ne z))))
 
   pub looks_count : (n id : ℕ) (m : Sat T) (i : ℕ) → Fit told w m → m.0.seen ≢ 2 → i ≡ 8 * (w.instances + w.channels) + 8 → Allows (Whole told belongs w d) n id m i (λ y. y) (sees_count (step n i 0 0 none) m)
   looks_count n id m i fit alive at s a wide me _ = let r : ℕ = get_or s.words i 0 in let is : r ≡ count w s.words = ap (λ (k : ℕ). get_or s.words k 0) at in
       dite (ℕ_discrete r 0)
       (λ z. let yes : count w s.words ≡ 0 = sym is ∙ z in
-      (saw m.0 1 (leaves_as m.0) r, keeps, tt, sights s a i id m 1 r me fit (λ _. yes) (λ e. absurd (omega (arith, e))) (λ two. absurd (alive two)) (omega arith) (inr (inl yes)), ((λ _. refl), λ ne. absurd (ne z))))
-      (λ ne. (noted_view m.0 r, keeps, tt, unchanged told belongs w d s a i id m r me fit, ((λ z. absurd (ne z)), λ _. ((λ one. ne (is ∙ a.reckoned.lasting.saw_quiet id m.0 me one)), refl))))
+      (saw m.0 1 (leaves_as m.0), keeps, tt, sights s a i id m 1 me fit (λ _. yes) (λ e. absurd (omega (arith, e))) (λ two. absurd (alive two)) (omega arith) (inr (inl yes)), ((λ _. refl), λ ne. absurd (ne z))))
+      (λ ne. (noted_view m.0, keeps, tt, unchanged told belongs w d s a i id m me fit, ((λ z. absurd (ne z)), λ _. ((λ one. ne (is ∙ a.reckoned.lasting.saw_quiet id m.0 me one)), refl))))
 
   pub looks_budget : (n id : ℕ) (m : Sat T) (i : ℕ) → Fit told w m → i ≡ 8 * (w.instances + w.channels) → Allows (Whole told belongs w d) n id m i (λ y. y) (sees_budget (step n i 0 0 none) m)
   looks_budget n id m i fit at s a wide me _ = let r : ℕ = get_or s.words i 0 in let is : r ≡ budget w s.words = ap (λ (k : ℕ). get_or s.words k 0) at in
       dite (ℕ_discrete r 0)
-      (λ z. (saw m.0 m.0.seen (leaves_as m.0) r, keeps, tt, sights s a i id m m.0.seen r me fit (a.reckoned.lasting.saw_quiet id m.0 me) (a.reckoned.lasting.saw_halted id m.0 me) (λ e. e) (a.reckoned.lasting.sights id m.0 me).0 (inr (inr (sym is ∙ z))), ((λ _. refl), λ ne. absurd (ne z))))
-      (λ ne. (noted_view m.0 r, keeps, tt, unchanged told belongs w d s a i id m r me fit, ((λ z. absurd (ne z)), λ _. refl)))
+      (λ z. (saw m.0 m.0.seen (leaves_as m.0), keeps, tt, sights s a i id m m.0.seen me fit (a.reckoned.lasting.saw_quiet id m.0 me) (a.reckoned.lasting.saw_halted id m.0 me) (λ e. e) (a.reckoned.lasting.sights id m.0 me).0 (inr (inr (sym is ∙ z))), ((λ _. refl), λ ne. absurd (ne z))))
+      (λ ne. (noted_view m.0, keeps, tt, unchanged told belongs w d s a i id m me fit, ((λ z. absurd (ne z)), λ _. refl)))
 
   pub notes : (n id : ℕ) (m : Sat T) (i : ℕ) → Fit told w m → Allows (Whole told belongs w d) n id m i (λ y. y) (looked (step n i 0 0 none) m)
-  notes n id m i fit s a wide me _ = (noted_view m.0 (get_or s.words i 0), keeps, tt, unchanged told belongs w d s a i id m (get_or s.words i 0) me fit, refl)
+  notes n id m i fit s a wide me _ = (noted_view m.0, keeps, tt, unchanged told belongs w d s a i id m me fit, refl)
 
   -- a step that moves events between the budget, the draw and those done
-  budgets : (s : St T) (a : Whole told belongs w d s) (i k id : ℕ) (m : Sat T) (drawn done loose r : ℕ) → get_elem? s.views id ≡ some m.0 → Fit told w m → i ≡ 8 * (w.instances + w.channels) → k + drawn + done ≡ get_or s.words i 0 + m.0.drawn + m.0.done → loose + m.0.done ≡ m.0.loose + done
-      → (v : View) → v ≡ record { parts = m.0.parts; hands = m.0.hands; flushed = m.0.flushed; got = m.0.got; drawn = drawn; done = done; loose = loose; owed = m.0.owed; down = m.0.down; seen = m.0.seen; stage = 2; steps = m.0.steps + 1; found = r; raised = m.0.raised }
-      → Whole told belongs w d (stepped s i k id m.1 v keeps)
-  budgets s a i k id m drawn done loose r me fit at sum moved v is = let wide = a.ruled.wide in let ws = set s.words i k in
+  budgets : (s : St T) (a : Whole told belongs w d s) (i k id : ℕ) (m : Sat T) (drawn done loose : ℕ) → get_elem? s.views id ≡ some m.0 → Fit told w m → i ≡ 8 * (w.instances + w.channels) → k + drawn + done ≡ get_or s.words i 0 + m.0.drawn + m.0.done → loose + m.0.done ≡ m.0.loose + done
+      → Whole told belongs w d (stepped s i k id m.1 (record (noted_view m.0) { drawn = drawn; done = done; loose = loose }) keeps)
+  budgets s a i k id m drawn done loose me fit at sum moved = let wide = a.ruled.wide in let ws = set s.words i k in
       let now : budget w ws ≡ k = ap (λ (j : ℕ). get_or ws j 0) (sym at) ∙ get_or-set_same s.words i k 0 (omega arith) in
       let was : budget w s.words ≡ get_or s.words i 0 = ap (λ (j : ℕ). get_or s.words j 0) (sym at) in
       let counts : count w ws ≡ count w s.words = get_or-set_other s.words i (8 * (w.instances + w.channels) + 8) k 0 (λ e. omega arith) in
       let halts_same : halted w ws ≡ halted w s.words = get_or-set_other s.words i (8 * (w.instances + w.channels) + 16) k 0 (λ e. omega arith) in
-      at_hot s a i k id m v me fit (omega arith) (ap (λ (u : View). u.parts) is) (ap (λ (u : View). u.hands) is) (ap (λ (u : View). u.flushed) is) record {
-        hands_same = ap (λ (u : View). u.hands) is;
-        got_same = ap (λ (u : View). u.got) is;
-        drawing = omega (arith, now, was, sum, ap (λ (u : View). u.drawn) is, ap (λ (u : View). u.done) is);
-        tallying = omega (arith, moved, ap (λ (u : View). u.loose) is, ap (λ (u : View). u.done) is);
-        counting = omega (arith, counts, ap (λ (u : View). length u.owed) is, ap (λ (u : View). u.down) is);
-        pairs = subst (λ (u : View). Owes u.hands u.owed) (sym is) (a.reckoned.counted.pairs id m.0 me);
-        few = subst (λ (u : View). u.down ≤ 2 ^ 32 * u.parts) (sym is) (a.reckoned.counted.few id m.0 me);
-        still_quiet = λ e. counts ∙ e;
-        still_halted = λ ne e. ne (sym halts_same ∙ e);
-        saw_quiet = λ e. counts ∙ a.reckoned.lasting.saw_quiet id m.0 me (sym (ap (λ (u : View). u.seen) is) ∙ e);
-        saw_halted = λ e z. a.reckoned.lasting.saw_halted id m.0 me (sym (ap (λ (u : View). u.seen) is) ∙ e) (sym halts_same ∙ z);
-        knows = λ e. ap (λ (u : View). u.seen) is ∙ e;
-        raises = omega (arith, ap (λ (u : View). u.raised) is);
-        halter = λ ne. inl (λ z. ne (halts_same ∙ z));
-        sights = let t = a.reckoned.lasting.sights id m.0 me in (omega (arith, ap (λ (u : View). u.seen) is, t.0), λ up. ap (λ (u : View). u.seen) is ∙ t.1 (omega (arith, ap (λ (u : View). u.raised) is, up)));
-        fixed = λ c h none. ap (λ (j : ℕ). j / 2) (get_or-set_other s.words i (8 * (w.instances + c)) k 0 (λ e. omega arith));
-        leaves = λ h. absurd (omega (arith, ap (λ (u : View). u.stage) is));
-      }
+      at_hot s a i k id m (record (noted_view m.0) { drawn = drawn; done = done; loose = loose }) me fit (omega arith) refl refl refl (still told belongs w d s a.place a.reckoned id m.0 m.0.flushed drawn done loose m.0.owed m.0.down ws me
+      (omega (arith, now, was, sum)) moved (omega (arith, counts)) (a.reckoned.counted.pairs id m.0 me) (omega arith) (λ e. counts ∙ e) halts_same (unwritten s i k (omega arith)))
 
   pub draws : (n id : ℕ) (m : Sat T) (i old new : ℕ) → Fit told w m → i ≡ 8 * (w.instances + w.channels) → new ≤ old → m.0.drawn ≡ 0 → Allows (Whole told belongs w d) n id m i (λ y. either (eqb y old) new y) (drew (step n i old new none) m)
   draws n id m i old new fit at less none_left s a wide me _ = let r : ℕ = get_or s.words i 0 in
       exchanged r old new (Goes told belongs w d s i id m (drew (step n i old new none) m))
       (λ hit. (
-        with_draw m.0 (old - new) r,
+        with_draw m.0 (old - new),
         keeps,
         tt,
-        budgets s a i new id m (old - new) m.0.done m.0.loose r me fit at (omega (arith, hit)) refl (with_draw m.0 (old - new) r) refl,
+        budgets s a i new id m (old - new) m.0.done m.0.loose me fit at (omega (arith, hit)) refl,
         (
           (λ _. (
             refl,
@@ -137,49 +123,30 @@ module _ {T : Type 0} (told : T → Option Tale) (belongs : ℕ → T → Type 0
           (λ miss. absurd (miss hit)),
         ),
       ))
-      (λ miss. (noted_view m.0 r, keeps, tt, unchanged told belongs w d s a i id m r me fit, ((λ hit. absurd (miss hit)), λ _. refl)))
+      (λ miss. (noted_view m.0, keeps, tt, unchanged told belongs w d s a i id m me fit, ((λ hit. absurd (miss hit)), λ _. refl)))
 
   pub uses_some : (n id : ℕ) (m : Sat T) (i k : ℕ) → Fit told w m → i ≡ 8 * (w.instances + w.channels) → k ≤ m.0.drawn → Allows (Whole told belongs w d) n id m i (λ y. y) (uses k (step n i 0 0 none) m)
   uses_some n id m i k fit at less s a wide me _ = let r : ℕ = get_or s.words i 0 in
-      (used m.0 k r, keeps, tt, budgets s a i r id m (m.0.drawn - k) (m.0.done + k) (m.0.loose + k) r me fit at (omega (arith, less)) (omega arith) (used m.0 k r) refl, refl)
+      (used m.0 k, keeps, tt, budgets s a i r id m (m.0.drawn - k) (m.0.done + k) (m.0.loose + k) me fit at (omega (arith, less)) (omega arith), refl)
 
   pub gives_back : (n id : ℕ) (m : Sat T) (i k : ℕ) → Fit told w m → i ≡ 8 * (w.instances + w.channels) → k ≤ m.0.drawn → Allows (Whole told belongs w d) n id m i (λ y. (y + k) % 2 ^ 64) (gave_back (step n i k 0 none) m)
   gives_back n id m i k fit at less s a wide me _ = let r : ℕ = get_or s.words i 0 in let new : ℕ = (r + k) % 2 ^ 64 in let b = a.reckoned.budgeted in let small = b.small in let sum = b.adds_up in
       let mine = term_le (λ (v : View). v.drawn) s.views id m.0 me in
       let was : budget w s.words ≡ r = ap (λ (j : ℕ). get_or s.words j 0) (sym at) in
       let is : new ≡ r + k = omega arith in
-      (undrawn m.0 k r, keeps, tt, budgets s a i new id m 0 (m.0.done + (m.0.drawn - k)) (m.0.loose + (m.0.drawn - k)) r me fit at (omega arith) (omega arith) (undrawn m.0 k r) refl, refl)
+      (undrawn m.0 k, keeps, tt, budgets s a i new id m 0 (m.0.done + (m.0.drawn - k)) (m.0.loose + (m.0.drawn - k)) me fit at (omega arith) (omega arith), refl)
 
   -- a step on the count
-  counts : (s : St T) (a : Whole told belongs w d s) (i k id : ℕ) (m : Sat T) (v : View) → get_elem? s.views id ≡ some m.0 → Fit told w m → i ≡ 8 * (w.instances + w.channels) + 8
-      → k + length v.owed + m.0.down ≡ get_or s.words i 0 + length m.0.owed + v.down → Owes m.0.hands v.owed → v.down ≤ m.0.down → get_or s.words i 0 ≢ 0
-      → v.parts ≡ m.0.parts → v.hands ≡ m.0.hands → v.flushed ≡ m.0.flushed → v.got ≡ m.0.got → v.drawn ≡ m.0.drawn → v.done ≡ m.0.done → v.loose ≡ m.0.loose → v.seen ≡ m.0.seen → v.raised ≡ m.0.raised → v.stage ≡ 2
-      → Whole told belongs w d (stepped s i k id m.1 v keeps)
-  counts s a i k id m v me fit at sum pairs less some_left parts hands flushed got drawn done loose seen raised stage = let wide = a.ruled.wide in let ws = set s.words i k in
+  counts : (s : St T) (a : Whole told belongs w d s) (i k id : ℕ) (m : Sat T) (owed : Owed) (down : ℕ) → get_elem? s.views id ≡ some m.0 → Fit told w m → i ≡ 8 * (w.instances + w.channels) + 8
+      → k + length owed + m.0.down ≡ get_or s.words i 0 + length m.0.owed + down → Owes m.0.hands owed → down ≤ m.0.down → get_or s.words i 0 ≢ 0
+      → Whole told belongs w d (stepped s i k id m.1 (record (noted_view m.0) { owed = owed; down = down }) keeps)
+  counts s a i k id m owed down me fit at sum pairs less some_left = let wide = a.ruled.wide in let ws = set s.words i k in
       let now : count w ws ≡ k = ap (λ (j : ℕ). get_or ws j 0) (sym at) ∙ get_or-set_same s.words i k 0 (omega arith) in
       let was : count w s.words ≡ get_or s.words i 0 = ap (λ (j : ℕ). get_or s.words j 0) (sym at) in
       let budgets_same : budget w ws ≡ budget w s.words = get_or-set_other s.words i (8 * (w.instances + w.channels)) k 0 (λ e. omega arith) in
       let halts_same : halted w ws ≡ halted w s.words = get_or-set_other s.words i (8 * (w.instances + w.channels) + 16) k 0 (λ e. omega arith) in
-      let not_quiet : count w s.words ≢ 0 = (λ e. some_left (sym was ∙ e)) in
-      at_hot s a i k id m v me fit (omega arith) parts hands flushed record {
-        hands_same = hands;
-        got_same = got;
-        drawing = omega (arith, budgets_same, drawn, done);
-        tallying = omega (arith, loose, done);
-        counting = omega (arith, now, was, sum);
-        pairs = subst (λ (l : List ℕ). Owes l v.owed) (sym hands) pairs;
-        few = omega (arith, less, parts, a.reckoned.counted.few id m.0 me);
-        still_quiet = λ e. absurd (not_quiet e);
-        still_halted = λ ne e. ne (sym halts_same ∙ e);
-        saw_quiet = λ e. absurd (not_quiet (a.reckoned.lasting.saw_quiet id m.0 me (sym seen ∙ e)));
-        saw_halted = λ e z. a.reckoned.lasting.saw_halted id m.0 me (sym seen ∙ e) (sym halts_same ∙ z);
-        knows = λ e. seen ∙ e;
-        raises = omega (arith, raised);
-        halter = λ ne. inl (λ z. ne (halts_same ∙ z));
-        sights = let t = a.reckoned.lasting.sights id m.0 me in (omega (arith, seen, t.0), λ up. seen ∙ t.1 (omega (arith, raised, up)));
-        fixed = λ c h none. ap (λ (j : ℕ). j / 2) (get_or-set_other s.words i (8 * (w.instances + c)) k 0 (λ e. omega arith));
-        leaves = λ h. absurd (omega (arith, stage));
-      }
+      at_hot s a i k id m (record (noted_view m.0) { owed = owed; down = down }) me fit (omega arith) refl refl refl (still told belongs w d s a.place a.reckoned id m.0 m.0.flushed m.0.drawn m.0.done m.0.loose owed down ws me
+      (omega (arith, budgets_same)) refl (omega (arith, now, was, sum)) pairs less (λ e. absurd (some_left (sym was ∙ e))) halts_same (unwritten s i k (omega arith)))
 
   pub counts_up : (n id : ℕ) (m : Sat T) (i : ℕ) → Fit told w m → i ≡ 8 * (w.instances + w.channels) + 8 → w.instances ≤ 256 → 0 < length m.0.owed → Allows (Whole told belongs w d) n id m i (λ y. (y + 1) % 2 ^ 64) (counted_up (step n i 1 0 none) m)
   counts_up n id m i fit at few owes s a wide me _ = let r : ℕ = get_or s.words i 0 in let new : ℕ = (r + 1) % 2 ^ 64 in let c = a.reckoned.counted in let sum = c.adds_up in
@@ -187,24 +154,24 @@ module _ {T : Type 0} (told : T → Option Tale) (belongs : ℕ → T → Type 0
       let downs = downs_few told belongs w d s a.place a.ruled c in let ups = below-le (λ p. is_up (a.place p)) w.instances (λ q. up_small (a.place q)) in
       let is : new ≡ r + 1 = omega arith in let mine = term_le (λ (v : View). length v.owed) s.views id m.0 me in
       let some_left : r ≢ 0 = (λ z. let q = quiet_here told belongs w d s a.place a.ruled c (was ∙ z) in absurd (omega (arith, q.1))) in
-      (paid_up m.0 r, keeps, tt, counts s a i new id m (paid_up m.0 r) me fit at (omega (arith, one_less m.0.owed owes)) (owes_paid m.0.hands m.0.owed (c.pairs id m.0 me)) (omega arith) some_left refl refl refl refl refl refl refl refl refl refl, refl)
+      (paid_up m.0, keeps, tt, counts s a i new id m (drop 1 m.0.owed) m.0.down me fit at (omega (arith, one_less m.0.owed owes)) (owes_paid m.0.hands m.0.owed (c.pairs id m.0 me)) (omega arith) some_left, refl)
 
   pub counts_down : (n id : ℕ) (m : Sat T) (i : ℕ) → Fit told w m → i ≡ 8 * (w.instances + w.channels) + 8 → 0 < m.0.down → Allows (Whole told belongs w d) n id m i (λ y. (y + (2 ^ 64 - 1)) % 2 ^ 64) (counted_down (step n i 1 0 none) m)
   counts_down n id m i fit at owes s a wide me small = let r : ℕ = get_or s.words i 0 in let new : ℕ = (r + (2 ^ 64 - 1)) % 2 ^ 64 in let c = a.reckoned.counted in let sum = c.adds_up in
       let was : count w s.words ≡ r = ap (λ (j : ℕ). get_or s.words j 0) (sym at) in
       let mine = term_le (λ (v : View). v.down) s.views id m.0 me in let less = (owed_less_here told belongs w d s a.place a.ruled c).0 in
       let is : new + 1 ≡ r = omega arith in
-      (paid_down m.0 r, keeps, tt, counts s a i new id m (paid_down m.0 r) me fit at (omega arith) (c.pairs id m.0 me) (omega arith) (λ z. omega arith) refl refl refl refl refl refl refl refl refl refl, refl)
+      (paid_down m.0, keeps, tt, counts s a i new id m m.0.owed (m.0.down - 1) me fit at (omega arith) (c.pairs id m.0 me) (omega arith) (λ z. omega arith), refl)
 
   pub stops : (n id : ℕ) (m : Sat T) (i new : ℕ) → Fit told w m → i ≡ 8 * (w.instances + w.channels) + 16 → new ≡ 1 → Allows (Whole told belongs w d) n id m i (λ _. new) (λ _. halts (step n i new 0 none) m new)
   stops n id m i new fit at one s a wide me _ = let long = a.ruled.wide in let ws = set s.words i new in
       let now : halted w ws ≢ 0 = (λ z. absurd (omega (arith, z, one, ap (λ (j : ℕ). get_or ws j 0) (sym at), get_or-set_same s.words i new 0 (omega arith)))) in
       let counts_same : count w ws ≡ count w s.words = get_or-set_other s.words i (8 * (w.instances + w.channels) + 8) new 0 (λ e. omega arith) in
       let budgets_same : budget w ws ≡ budget w s.words = get_or-set_other s.words i (8 * (w.instances + w.channels)) new 0 (λ e. omega arith) in (
-        halting m.0 new,
+        halting m.0,
         keeps,
         tt,
-        at_hot s a i new id m (halting m.0 new) me fit (omega arith) refl refl refl record {
+        at_hot s a i new id m (halting m.0) me fit (omega arith) refl refl refl record {
           hands_same = refl;
           got_same = refl;
           drawing = omega (arith, budgets_same);
@@ -220,15 +187,8 @@ module _ {T : Type 0} (told : T → Option Tale) (belongs : ℕ → T → Type 0
           raises = omega arith;
           halter = λ _. inr (refl, omega arith);
           sights = (omega arith, λ _. refl);
-          fixed = λ c h none. ap (λ (j : ℕ). j / 2) (get_or-set_other s.words i (8 * (w.instances + c)) new 0 (λ e. omega arith));
+          fixed = unwritten s i new (omega arith);
           leaves = λ h. absurd (omega arith);
         },
         refl,
       )
-
-  pub not_two : (m m' : Sat T) (r : ℕ) → m' ≡ (noted_view m.0 r, m.1) → m.0.seen ≢ 2 → m'.0.seen ≢ 2
-  not_two m m' r is ne two = ne (sym (ap (λ (k : Sat T). k.0.seen) is) ∙ two)
-
-  -- after steps that leave what a seat keeps of its own view
-  pub still_fit : (m m' : Sat T) (v : View) → m' ≡ (v, m.1) → v.parts ≡ m.0.parts → v.hands ≡ m.0.hands → v.flushed ≡ m.0.flushed → v.got ≡ m.0.got → Fit told w m → Fit told w m'
-  still_fit m m' v is parts hands flushed got f = subst (Fit told w) (sym is) record { alive = omega (arith, f.alive); hands_long = ap length hands ∙ f.hands_long; flushed_long = ap length flushed ∙ f.flushed_long; got_long = ap length got ∙ f.got_long }

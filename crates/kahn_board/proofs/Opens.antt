@@ -1,5 +1,5 @@
 -- The rule holds of a new board.
-use Rattle.std.proofs.Common.{◌≡◌, ℕ, zero, suc, ◌+◌, ◌*◌, ◌%◌, ◌^◌, ◌<◌, ◌≤◌, subst, List, [], ◌∷◌, map, drop, length, replicate, get_or, sym, refl, ap, ◌∙◌, arith, Option, Some, None}
+use Rattle.std.proofs.Common.{◌≡◌, ℕ, zero, suc, ◌+◌, ◌*◌, ◌%◌, ◌^◌, ◌<◌, ◌≤◌, subst, List, [], ◌∷◌, map, drop, length, get_or, sym, refl, ap, ◌∙◌, arith, Option, Some, None}
 use mathlib.Core.Option.{some, some-injective, some-ne-none}
 use lib.ListN.{get_elem?}
 use Rattle.std.proofs.lemmas.List.{length-map}
@@ -13,19 +13,17 @@ use Rattle.kahn_board.specs.Dealt.{events_told}
 use Rattle.kahn_board.specs.Counts.{Owes, below}
 use Rattle.kahn_board.proofs.Changes.{tells_past}
 use Rattle.kahn_board.specs.Opening.{Opens}
+use Rattle.kahn_board.specs.inner.First.{AreFirstWords}
 use Rattle.kahn_board.specs.declared.view.View.{View}
 use Rattle.kahn_board.proofs.Moved.{is_ready}
 use Rattle.kahn_board.proofs.Turns.{whole}
 use Rattle.kahn_board.proofs.Steps.{same_some}
+use Rattle.kahn_board.proofs.Sums.{is_there}
+use Rattle.kahn_board.proofs.Seats.{zeros}
 
 at_first : {A : Type 0} (a b : A) (j : ℕ) → get_elem? (a ∷ []) j ≡ some b → (j ≡ 0) × (a ≡ b)
 at_first a b zero e = (refl, some-injective a b e)
 at_first a b (suc j) e = absurd (some-ne-none b (sym e))
-
-all_zero : (n i : ℕ) → get_or {A = ℕ} (replicate n 0) i 0 ≡ 0
-all_zero zero i = refl
-all_zero (suc n) zero = refl
-all_zero (suc n) (suc i) = all_zero n i
 
 no_marks : (reader : Option ℕ) (c : ℕ) → mark_of (λ _. ready) reader c ≡ 0
 no_marks None c = refl
@@ -38,11 +36,6 @@ below_first f (suc n) = omega (arith, below_first f n)
 below_ones : (n : ℕ) → below (λ q. 1) n ≡ n
 below_ones zero = refl
 below_ones (suc n) = omega (arith, below_ones n)
-
-there_is : {A : Type 0} (l : List A) (i : ℕ) → i < length l → (y : A) × (get_elem? l i ≡ some y)
-there_is [] i h = absurd (omega arith)
-there_is (x ∷ xs) zero h = (x, refl)
-there_is (x ∷ xs) (suc i) h = there_is xs i (omega arith)
 
 module _ {T : Type 0} where
   pub map_some_once : (xs ys : List T) → map Some xs ≡ map Some ys → xs ≡ ys
@@ -85,76 +78,53 @@ module _ {T : Type 0} (told : T → Option Tale) (after : T → T → Type 0) (w
   abbrev start : List ℕ → List T → St T
   start words cells = opening words (map Some cells) (opening_view w)
 
-  opens_first : (bound : ℕ) (words numbers : List ℕ) (cells : List T) → Opens told after w bound numbers cells → length words ≡ 8 * (w.instances + length numbers) + 24 → ((p : ℕ) → p < w.instances → get_or words (8 * p) 0 ≡ 0)
-      → ((c : ℕ) → c < length numbers → get_or words (8 * (w.instances + c)) 0 ≡ 2 * get_or numbers c 0) → Ruled told w (λ _. ready) (start words cells)
-  opens_first bound words numbers cells o long zeros twice = record {
-    wide = omega (arith, long, o.numbers_are);
+  opens_first : (bound : ℕ) (words numbers : List ℕ) (cells : List T) → Opens told after w bound numbers cells → AreFirstWords w.instances bound numbers words → Ruled told w (λ _. ready) (start words cells)
+  opens_first bound words numbers cells o b = record {
+    wide = omega (arith, b.long, o.numbers_are);
     deep = length-map (map Some cells) some ∙ (length-map cells Some ∙ o.cells_are);
     one_pair = record {
-      word_is = zeros;
-      hands_are = λ j v e p h. let t = at_first (opening_view w) v j e in ap (λ (u : View). get_or u.hands p 0) (sym t.1) ∙ all_zero w.instances p;
+      word_is = b.ready;
+      hands_are = λ j v e p h. let t = at_first (opening_view w) v j e in ap (λ (u : View). get_or u.hands p 0) (sym t.1) ∙ zeros w.instances p;
       seated = λ p j h e. absurd (omega (arith, ap is_ready e));
-      cell_is = λ p h. let t = there_is cells p (omega (arith, o.cells_are)) in (t.0, at_map some (map Some cells) p (Some t.0) (at_map Some cells p t.0 t.1));
+      cell_is = λ p h. let t = is_there cells p (omega (arith, o.cells_are)) in (t.0, at_map some (map Some cells) p (Some t.0) (at_map Some cells p t.0 t.1));
     };
     parking = record {
-      marks = λ c near. let t = twice c (omega (arith, o.numbers_are)) in let even : get_or words (8 * (w.instances + c)) 0 % 2 ≡ 0 = omega arith in even ∙ sym (no_marks (w.reader c) c);
+      marks = λ c near. let t = b.twice c (omega (arith, o.numbers_are)) in let even : get_or words (8 * (w.instances + c)) 0 % 2 ≡ 0 = omega arith in even ∙ sym (no_marks (w.reader c) c);
       reads = λ p c h e. absurd (omega (arith, ap is_ready e));
       waits = λ p c y h e. absurd (omega (arith, ap is_ready e));
       ends = λ p y h e. absurd (omega (arith, ap is_ready e));
-      flushes = λ p c k y h home tells. let t = o.flushes p c k y (of_home cells p y home) tells in let d = twice c (omega (arith, o.numbers_are, t.0)) in (t.0, t.1, omega (arith, t.2));
+      flushes = λ p c k y h home tells. let t = o.flushes p c k y (of_home cells p y home) tells in let d = b.twice c (omega (arith, o.numbers_are, t.0)) in (t.0, t.1, omega (arith, t.2));
     };
-    known = λ j v e p c h one. let t = at_first (opening_view w) v j e in absurd (omega (arith, ap (λ (u : View). get_or u.hands p 0) (sym t.1) ∙ all_zero w.instances p, one));
+    known = λ j v e p c h one. let t = at_first (opening_view w) v j e in absurd (omega (arith, ap (λ (u : View). get_or u.hands p 0) (sym t.1) ∙ zeros w.instances p, one));
     parts = record {
       all = refl;
       none_spent = λ j v e none_left. let t = at_first (opening_view w) v j e in absurd (omega (arith, ap (λ (u : View). u.parts) t.1, none_left));
     };
   }
 
-  -- what the words say at the start
-  pub record Starts (bound : ℕ) (words numbers : List ℕ) : Type 0 where
-    pub long : length words ≡ 8 * (w.instances + length numbers) + 24
-    pub zeros : (p : ℕ) → p < w.instances → get_or words (8 * p) 0 ≡ 0
-    pub budget_is : get_or words (8 * (w.instances + length numbers)) 0 ≡ bound
-    pub count_is : get_or words (8 * (w.instances + length numbers) + 8) 0 ≡ w.instances
-    pub not_halted : get_or words (8 * (w.instances + length numbers) + 16) 0 ≡ 0
-    pub twice : (c : ℕ) → c < length numbers → get_or words (8 * (w.instances + c)) 0 ≡ 2 * get_or numbers c 0
-
-  -- by the number of instances that the code has
-  pub start_by : (n bound : ℕ) (words numbers : List ℕ) → n ≡ w.instances → length words ≡ 8 * (n + length numbers) + 24 → ((p : ℕ) → p < n → get_or words (8 * p) 0 ≡ 0)
-      → (get_or words (8 * (n + length numbers)) 0 ≡ bound) × (get_or words (8 * (n + length numbers) + 8) 0 ≡ n) × (get_or words (8 * (n + length numbers) + 16) 0 ≡ 0)
-      → ((c : ℕ) → c < length numbers → get_or words (8 * (n + c)) 0 ≡ 2 * get_or numbers c 0) → Starts bound words numbers
-  start_by n bound words numbers same long zeros hot twice = let at : (k : ℕ) → get_or words (8 * (n + length numbers) + k) 0 ≡ get_or words (8 * (w.instances + length numbers) + k) 0 = λ k. ap (λ (j : ℕ). get_or words (8 * (j + length numbers) + k) 0) same in record {
-    long = omega (arith, long, same);
-    zeros = λ p h. zeros p (omega (arith, same));
-    budget_is = sym (ap (λ (j : ℕ). get_or words (8 * (j + length numbers)) 0) same) ∙ hot.0;
-    count_is = sym (at 8) ∙ (hot.1 ∙ same);
-    not_halted = sym (at 16) ∙ hot.2;
-    twice = λ c h. sym (ap (λ (j : ℕ). get_or words (8 * (j + c)) 0) same) ∙ twice c h;
-  }
-
-  pub opens : (bound : ℕ) (words numbers : List ℕ) (cells : List T) → Opens told after w bound numbers cells → Starts bound words numbers
+  pub opens : (bound : ℕ) (words numbers : List ℕ) (cells : List T) → Opens told after w bound numbers cells → AreFirstWords w.instances bound numbers words
       → Whole told (given after cells) w record { bound = bound; events = events_told told cells; published = published w words } (start words cells)
   opens bound words numbers cells o b = let at : (k : ℕ) → get_or words (8 * (w.instances + length numbers) + k) 0 ≡ get_or words (8 * (w.instances + w.channels) + k) 0 = λ k. ap (λ (j : ℕ). get_or words (8 * (w.instances + j) + k) 0) o.numbers_are in (whole told (given after cells) w _ _ (λ _. ready)
-      (opens_first bound words numbers cells o b.long b.zeros b.twice)
+      (opens_first bound words numbers cells o b)
       (record {
         tally = tally_of told cells;
         budgeted = record {
           small = o.few;
-          adds_up = omega (arith, b.budget_is, ap (λ (j : ℕ). get_or words (8 * (w.instances + j)) 0) o.numbers_are);
+          adds_up = omega (arith, b.budget, ap (λ (j : ℕ). get_or words (8 * (w.instances + j)) 0) o.numbers_are);
           tallied = omega (arith, all_events told cells, ap (below (tally_of told cells)) o.cells_are);
           tells = λ p y h home. of_cell told cells p y (of_home cells p y home);
-          got_is = λ j v e p h one. let t = at_first (opening_view w) v j e in absurd (omega (arith, ap (λ (u : View). get_or u.hands p 0) (sym t.1) ∙ all_zero w.instances p, one));
+          got_is = λ j v e p h one. let t = at_first (opening_view w) v j e in absurd (omega (arith, ap (λ (u : View). get_or u.hands p 0) (sym t.1) ∙ zeros w.instances p, one));
         };
         counted = record {
-          adds_up = omega (arith, b.count_is, at 8, below_ones w.instances);
+          adds_up = omega (arith, b.count, at 8, below_ones w.instances);
           pairs = λ j v e. let t = at_first (opening_view w) v j e in subst (λ (u : View). Owes u.hands u.owed) t.1 tt;
-          inside = λ j v e p some_held. let t = at_first (opening_view w) v j e in absurd (omega (arith, ap (λ (u : View). get_or u.hands p 0) (sym t.1) ∙ all_zero w.instances p));
+          inside = λ j v e p some_held. let t = at_first (opening_view w) v j e in absurd (omega (arith, ap (λ (u : View). get_or u.hands p 0) (sym t.1) ∙ zeros w.instances p));
           few = λ j v e. let t = at_first (opening_view w) v j e in subst (λ (u : View). u.down ≤ 2 ^ 32 * u.parts) t.1 (omega arith);
         };
         lasting = record {
           saw_quiet = λ j v e one. let t = at_first (opening_view w) v j e in absurd (omega (arith, ap (λ (u : View). u.seen) t.1, one));
           saw_halted = λ j v e two. let t = at_first (opening_view w) v j e in absurd (omega (arith, ap (λ (u : View). u.seen) t.1, two));
-          halter = λ ne. absurd (ne (sym (at 16) ∙ b.not_halted));
+          halter = λ ne. absurd (ne (sym (at 16) ∙ b.halted));
           sights = λ j v e. let t = at_first (opening_view w) v j e in subst (λ (u : View). (u.seen ≤ 2) × (0 < u.raised → u.seen ≡ 2)) t.1 (omega arith, λ up. absurd (omega (arith, up)));
           flushed_all = λ p y h home _. o.flushed_all p y (of_home cells p y home);
           belonging = λ p y h home. (let there = of_home cells p y home in itself after cells p y there (o.selves p y there));

@@ -1,20 +1,22 @@
 -- The steps that give an instance up, as a seat's call owes them.
-use Rattle.std.proofs.Common.{◌≡◌, ℕ, ◌+◌, ◌*◌, ◌^◌, ◌<◌, eqb, List, ◌∷◌, arith, sym, refl, ap, subst, Option, Some}
+use Rattle.std.proofs.Common.{◌≡◌, ℕ, ◌+◌, ◌*◌, ◌^◌, ◌<◌, eqb, ◌∷◌, arith, sym, refl, ap, ◌∙◌, subst, Option, Some}
 use mathlib.Core.Option.{none}
 use mathlib.Core.Option as maybe
 use prog.Atomic.{either}
-use Rattle.atomic_table.specs.Seated.{TableId}
 use Rattle.atomic_table.specs.Table.{rest, step, Allows}
 use Rattle.kahn_board.specs.Tale.{Tale, TellsWait, TellsEnd}
 use Rattle.kahn_board.specs.Wires.{Wires}
 use Rattle.kahn_board.specs.Rule.{Deal, Whole}
 use Rattle.kahn_board.specs.Place.{ready, over, word_code}
-use Rattle.kahn_board.specs.Hands.{Facts, Carries}
 use Rattle.kahn_board.specs.Plays.{Sat, IsIn, set_down, parked_or_not, first_of, publishes}
 use Rattle.kahn_board.proofs.Steps.{Fit, sets_down, parks, publishing}
-use Rattle.kahn_board.specs.Calls.{Leaves}
+use Rattle.kahn_board.specs.Calls.{IsFirstSlot, IsSameSeat, KeepsAll, Leaves, MayLeave, OwesFew}
+use Rattle.kahn_board.specs.Dealt.{belongs as belong, wired}
+use Rattle.kahn_board.specs.declared.board.Board.{Board}
+use Rattle.kahn_board.specs.declared.board.Seat.{Seat}
 use Rattle.kahn_board.proofs.Counting.{inside_of}
-use Rattle.kahn_board.proofs.Seats.{at_front, fit}
+use Rattle.kahn_board.proofs.Placed.{placed}
+use Rattle.kahn_board.proofs.Seats.{at_front}
 
 module _ {T : Type 0} (told : T → Option Tale) (belongs : ℕ → T → Type 0) (w : Wires) where
   -- a seat of this board, with the cell y of the instance p first
@@ -25,11 +27,6 @@ module _ {T : Type 0} (told : T → Option Tale) (belongs : ℕ → T → Type 0
     pub inside : p < w.instances
     pub leaves : Leaves told belongs w m.0 p y
     pub few : m.0.down < 2 ^ 32
-
-  pub up : (m : Sat T) (z z' : TableId) (items : List ℕ) (room p : ℕ) (y : T) (n k : ℕ) → Facts m z items room → z ≡ z' → (z'.words ≡ 8 * (n + k) + 24) × (z'.slots ≡ n) → (w.instances ≡ n) × (w.channels ≡ k)
-      → (x : Option T) × (m.1 ≡ (p, x) ∷ rest m.1) → Carries m.1 p (Some y) → IsIn m.0 p → Leaves told belongs w m.0 p y → m.0.down < 2 ^ 32 → Up m p y
-  up m z z' items room p y n k f same sized wired first has is_in leaves few = let fits = fit told w m z z' items room n k f same sized wired in
-      record { fit = fits; is = at_front m z items room p y f first has; is_in = is_in; inside = (let near = inside_of m.0.hands p (omega (arith, is_in)) in omega (arith, fits.hands_long)); leaves = leaves; few = few }
 
   refit : (m : Sat T) (p : ℕ) (y : T) → Up m p y → Fit told w (m.0, (p, Some y) ∷ rest m.1)
   refit m p y u = subst (Fit told w) u.is u.fit
@@ -52,3 +49,16 @@ module _ {T : Type 0} (told : T → Option Tale) (belongs : ℕ → T → Type 0
       → Allows (Whole told belongs w d) n id m i (λ _. new) (publishes told belongs w c' (step n i new 0 none) m)
   publishes_at n id m c i c' q count new f at same near writes writer_in is_in reader_in news = subst (λ (k : ℕ). Allows (Whole told belongs w d) n id m i (λ _. new) (publishes told belongs w k (step n i new 0 none) m)) (sym same)
       (publishing told belongs w d n id m c i q count new f at near writes writer_in is_in reader_in news)
+
+-- a seat that may leave the instance p, once the slot of p comes first
+module _ {T : Type 0} (told : T → Option Tale) (after : T → T → Type 0) (b : Board T) where
+  pub brought : (s t : Seat T) (p : ℕ) (so : T → Type 0) → s.seat.table_id ≡ b.table.shared.table_id → (h : MayLeave told after b.table.shared.key s p so) → OwesFew s.seat.me.0
+      → IsSameSeat s t × (t.seat.me.0 ≡ s.seat.me.0) → IsFirstSlot t p → KeepsAll s t → Up told (belong after b.table.shared.key) (wired b.table.shared.key) t.seat.me p h.1.0
+  brought s t p so at h few same first keeps = let fits = placed told b t (same.0.0 ∙ at) in let is_in = subst (λ v. IsIn v p) (sym same.1) h.0 in record {
+    fit = fits;
+    is = at_front t.seat.me t.seat.table_id t.held.items _ p h.1.0 t.facts first (keeps p _ h.1.1);
+    is_in = is_in;
+    inside = (let near = inside_of t.seat.me.0.hands p (omega (arith, is_in)) in omega (arith, fits.hands_long));
+    leaves = subst (λ v. Leaves told (belong after b.table.shared.key) (wired b.table.shared.key) v p h.1.0) (sym same.1) h.1.2;
+    few = omega (arith, ap (λ v. v.down) same.1, few);
+  }

@@ -90,8 +90,8 @@ module _ {T : Type 0} (told : T → Option Tale) (w : Wires) where
   fit m z z' items room n k f same sized wired = let a = ap (λ (k : TableId). k.words) same in let b = ap (λ (k : TableId). k.slots) same in
       record { alive = f.0; hands_long = f.1 ∙ (b ∙ (sized.1 ∙ sym wired.0)); flushed_long = omega (arith, f.2, sized.0, sized.1, wired.1); got_long = f.7 ∙ (b ∙ (sized.1 ∙ sym wired.0)) }
 
-  pub facts_noted : (m m' : Sat T) (z z' : TableId) (items : List ℕ) (room r : ℕ) → Facts m z items room → z' ≡ z → m' ≡ (noted_view m.0 r, m.1) → Facts m' z' items room
-  facts_noted m m' z z' items room r f same is = subst (λ (k : TableId × Sat T). Facts k.1 k.0 items room) (λ i. (sym same i, sym is i)) f
+  pub facts_noted : (m m' : Sat T) (z z' : TableId) (items : List ℕ) (room : ℕ) → Facts m z items room → z' ≡ z → m' ≡ (noted_view m.0, m.1) → Facts m' z' items room
+  facts_noted m m' z z' items room f same is = subst (λ (k : TableId × Sat T). Facts k.1 k.0 items room) (λ i. (sym same i, sym is i)) f
 
   -- a seat that woke a reader
   pub facts_waking : (m : Sat T) (z : TableId) (items : List ℕ) (room c count p q : ℕ) → Facts m z items room → Facts (waking m.0 c count p q, m.1) z items room
@@ -101,12 +101,12 @@ module _ {T : Type 0} (told : T → Option Tale) (w : Wires) where
   room_for m z items room p f free inside = omega (arith, has_room items m.0.hands p f.4 f.5 (omega (arith, f.1)) free, f.1, f.6)
 
   -- the slot that comes first is given back
-  pub facts_gave : (m m' : Sat T) (z z' : TableId) (items items' : List ℕ) (room room' p more r : ℕ) (x : Option T) (y : T) → Facts m z items room → z' ≡ z → m.1 ≡ (p, x) ∷ rest m.1 → GaveUp told w m p more r m' y → items' ≡ drop 1 items → room' ≡ room → Facts m' z' items' room'
-  facts_gave m m' z z' items items' room room' p more r x y f same first given is_items same_room =
+  pub facts_gave : (m m' : Sat T) (z z' : TableId) (items items' : List ℕ) (room room' p more : ℕ) (x : Option T) (y : T) → Facts m z items room → z' ≡ z → m.1 ≡ (p, x) ∷ rest m.1 → GaveUp told w m p more m' y → items' ≡ drop 1 items → room' ≡ room → Facts m' z' items' room'
+  facts_gave m m' z z' items items' room room' p more x y f same first given is_items same_room =
       let listed : items ≡ p ∷ numbers (rest m.1) = sym f.3 ∙ ap (λ (c : Slots T). numbers c) first in
       let mine : ListsHands (p ∷ numbers (rest m.1)) m.0.hands = subst (λ (l : List ℕ). ListsHands l m.0.hands) listed f.4 in
       let inside : p < length m.0.hands = inside_of m.0.hands p (omega (arith, mine p, only_yes p)) in
-      let now : Facts (gave m.0 p (told y) more r, rest m.1) z (numbers (rest m.1)) room = (
+      let now : Facts (gave m.0 p (told y) more, rest m.1) z (numbers (rest m.1)) room = (
         f.0,
         length-set m.0.hands p 0 ∙ f.1,
         f.2,
@@ -119,9 +119,9 @@ module _ {T : Type 0} (told : T → Option Tale) (w : Wires) where
       subst (λ (k : TableId × Sat T × List ℕ × ℕ). Facts k.1 k.0 k.2 k.3) (λ i. (sym same i, sym given i, sym (is_items ∙ ap (drop 1) listed) i, sym same_room i)) now
 
 module _ {T : Type 0} (told : T → Option Tale) (belongs : ℕ → T → Type 0) (w : Wires) where
-  pub facts_took : (m m' : Sat T) (z z' : TableId) (items items' : List ℕ) (room room' p r : ℕ) (y : T) → Facts m z items room → z' ≡ z → Got told belongs w m p r m' y → items' ≡ p ∷ items → room' ≡ room → p < z.slots → Facts m' z' items' room'
-  facts_took m m' z z' items items' room room' p r y f same got is same_room inside =
-      let v = took m.0 p got.0 got.1 got.2 r in
+  pub facts_took : (m m' : Sat T) (z z' : TableId) (items items' : List ℕ) (room room' p : ℕ) (y : T) → Facts m z items room → z' ≡ z → Got told belongs w m p m' y → items' ≡ p ∷ items → room' ≡ room → p < z.slots → Facts m' z' items' room'
+  facts_took m m' z z' items items' room room' p y f same got is same_room inside =
+      let v = took m.0 p got.0 got.1 got.2 in
       let now : Facts (v, (p, Some y) ∷ m.1) z (p ∷ items) room = (
         f.0,
         length-set m.0.hands p 1 ∙ f.1,

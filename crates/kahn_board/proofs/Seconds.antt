@@ -11,8 +11,8 @@ use Rattle.kahn_board.specs.Wires.{Wires}
 use Rattle.kahn_board.specs.Counts.{Owed, Owes, is_up, below}
 use Rattle.kahn_board.specs.Calls.{Unowed}
 use Rattle.kahn_board.specs.Place.{Place, held, held_by, moved}
-use Rattle.kahn_board.specs.Plays.{Sat, IsIn, SeesMore, gave}
-use Rattle.kahn_board.specs.Rule.{St, Deal, view, published, budget, count, halted, Ruled, IsHome, Reckoned}
+use Rattle.kahn_board.specs.Plays.{Sat, IsIn, SeesMore, noted_view, took, gave}
+use Rattle.kahn_board.specs.Rule.{St, Deal, published, budget, count, halted, Ruled, IsHome, Reckoned}
 use Rattle.kahn_board.specs.declared.view.View.{View}
 use Rattle.kahn_board.proofs.Moved.{held_no}
 use Rattle.kahn_board.proofs.Counting.{inside_of}
@@ -87,15 +87,40 @@ module _ {T : Type 0} (told : T → Option Tale) (belongs : ℕ → T → Type 0
     leaves = m.leaves;
   }
 
+  -- a step of a seat that keeps its hands, and what it saw and halted
+  pub still : (s : St T) (place : ℕ → Place) (q₀ : Reckoned told belongs w d place s) (id : ℕ) (v : View) (flushed : List ℕ) (drawn done loose : ℕ) (owed : Owed) (down : ℕ) (ws : List ℕ) → get_elem? s.views id ≡ some v
+      → budget w ws + drawn + done ≡ budget w s.words + v.drawn + v.done → loose + v.done ≡ v.loose + done → count w ws + length owed + v.down ≡ count w s.words + length v.owed + down → Owes v.hands owed → down ≤ v.down
+      → (count w s.words ≡ 0 → count w ws ≡ 0) → halted w ws ≡ halted w s.words → ((c : ℕ) → c < w.channels → w.writer c ≡ None → published w ws c ≡ published w s.words c)
+      → Idle s v (record (noted_view v) { flushed = flushed; drawn = drawn; done = done; loose = loose; owed = owed; down = down }) ws
+  still s place q₀ id v flushed drawn done loose owed down ws me drawing tallying counting pairs less quiet halts fixed = record {
+    hands_same = refl;
+    got_same = refl;
+    drawing = drawing;
+    tallying = tallying;
+    counting = counting;
+    pairs = pairs;
+    few = omega (arith, less, q₀.counted.few id v me);
+    still_quiet = quiet;
+    still_halted = λ ne e. ne (sym halts ∙ e);
+    saw_quiet = λ e. quiet (q₀.lasting.saw_quiet id v me e);
+    saw_halted = λ e z. q₀.lasting.saw_halted id v me e (sym halts ∙ z);
+    knows = λ e. e;
+    raises = omega arith;
+    halter = λ ne. inl (λ z. ne (halts ∙ z));
+    sights = q₀.lasting.sights id v me;
+    fixed = fixed;
+    leaves = λ h. absurd (omega arith);
+  }
+
   -- a step that takes the instance p, with the counts up that are owed after it
-  pub takes_second : (s : St T) (place : ℕ → Place) (r : Ruled told w place s) (q₀ : Reckoned told belongs w d place s) (i k id : ℕ) (m : Sat T) (p : ℕ) (L : List ℕ) (owed : Owed) (seen found : ℕ)
+  pub takes_second : (s : St T) (place : ℕ → Place) (r : Ruled told w place s) (q₀ : Reckoned told belongs w d place s) (i k id : ℕ) (m : Sat T) (p : ℕ) (L : List ℕ) (owed : Owed) (seen : ℕ)
       → get_elem? s.views id ≡ some m.0 → p < w.instances → length m.0.hands ≡ w.instances → length m.0.got ≡ w.instances → i < 8 * (w.instances + w.channels)
       → get_or m.0.hands p 0 ≡ 0 → is_up (place p) + length owed ≡ length m.0.owed + 1 → Owes (set m.0.hands p 1) owed → SeesMore m.0.seen seen → (seen ≡ 2 → halted w s.words ≢ 0)
       → ((c : ℕ) → c < w.channels → w.writer c ≡ None → published w (set s.words i k) c ≡ published w s.words c)
-      → Reckoned told belongs w d (moved place p (held id)) (state told w (set s.words i k) (set s.homes p none) (set s.views id (view m.0.parts (set m.0.hands p 1) L (set m.0.got p (q₀.tally p)) m.0.drawn m.0.done m.0.loose owed m.0.down seen 2 (m.0.steps + 1) found m.0.raised)))
-  takes_second s place r q₀ i k id m p L owed seen found me inside long got_long near free counts pairs sees halted_is fixed =
+      → Reckoned told belongs w d (moved place p (held id)) (state told w (set s.words i k) (set s.homes p none) (set s.views id (record (took m.0 p L (q₀.tally p) seen) { owed = owed })))
+  takes_second s place r q₀ i k id m p L owed seen me inside long got_long near free counts pairs sees halted_is fixed =
       let ws = set s.words i k in let same = hot s.words i k near in let v = m.0 in let hs : List (maybe.Option (Option T)) = set s.homes p none in
-      let v' : View = view v.parts (set v.hands p 1) L (set v.got p (q₀.tally p)) v.drawn v.done v.loose owed v.down seen 2 (v.steps + 1) found v.raised in
+      let v' : View = record (took v p L (q₀.tally p) seen) { owed = owed } in
       let was_home : (q : ℕ) (y : T) → get_elem? hs q ≡ some (some (Some y)) → IsHome s q y = λ q y home. dite (ℕ_discrete q p)
       (λ e. absurd (some-ne-none (Some y) (some-injective (some (Some y)) none (sym home ∙ (ap (λ (j : ℕ). get_elem? hs j) e ∙ set_here s.homes p none (omega (arith, r.deep)))))))
       (λ ne. sym (set_else s.homes p q none ne) ∙ home) in
@@ -127,14 +152,14 @@ module _ {T : Type 0} (told : T → Option Tale) (belongs : ℕ → T → Type 0
       }
 
   -- a step that gives the instance p with the cell y up, which then stands at x, with `more` counts down to pay
-  pub gives_second : (s : St T) (place : ℕ → Place) (r : Ruled told w place s) (q₀ : Reckoned told belongs w d place s) (i k id : ℕ) (v : View) (p : ℕ) (y : T) (x : Place) (more found : ℕ)
+  pub gives_second : (s : St T) (place : ℕ → Place) (r : Ruled told w place s) (q₀ : Reckoned told belongs w d place s) (i k id : ℕ) (v : View) (p : ℕ) (y : T) (x : Place) (more : ℕ)
       → get_elem? s.views id ≡ some v → p < w.instances → length v.hands ≡ w.instances → i < 8 * (w.instances + w.channels) → 0 < v.parts
       → place p ≡ held id → IsIn v p → is_up x + more ≡ 1 → Unowed p v.owed → v.down < 2 ^ 32 → Accounts (told y) (get_or v.got p 0) v.loose → (v.seen ≡ 2) ⊎ FlushedAll (told y) → belongs p y
       → ((c : ℕ) → c < w.channels → published w (set s.words i k) c ≡ published w s.words c)
-      → Reckoned told belongs w d (moved place p x) (state told w (set s.words i k) (set s.homes p (some (Some y))) (set s.views id (gave v p (told y) more found)))
-  gives_second s place r q₀ i k id v p y x more found me inside long near alive is is_in ups free few accounts flushed of_p fixed =
+      → Reckoned told belongs w d (moved place p x) (state told w (set s.words i k) (set s.homes p (some (Some y))) (set s.views id (gave v p (told y) more)))
+  gives_second s place r q₀ i k id v p y x more me inside long near alive is is_in ups free few accounts flushed of_p fixed =
       let ws = set s.words i k in let same = hot s.words i k near in let hs : List (maybe.Option (Option T)) = set s.homes p (some (Some y)) in
-      let v' : View = gave v p (told y) more found in let g = get_or v.got p 0 in let e' = events_past (told y) g in
+      let v' : View = gave v p (told y) more in let g = get_or v.got p 0 in let e' = events_past (told y) g in
       let g_is : g ≡ q₀.tally p = q₀.budgeted.got_is id v me p inside is_in in
       let tally' : ℕ → ℕ = putting q₀.tally p e' in
       let acc = accounted (told y) g v.loose accounts in let acc₀ = acc.0 in let acc₁ = acc.1 in

@@ -35,9 +35,6 @@ any_passes f [] q h e = absurd (omega arith)
 any_passes f (a ∷ xs) zero h e = ap (λ b. if b then true else any_is f xs) e
 any_passes f (a ∷ xs) (suc q) h e = or_so (f a) (any_is f xs) (any_passes f xs q (omega arith) e)
 
-same_some : (k p : ℕ) → k ≡ p → Some k ≡ Some p
-same_some k p e = ap Some e
-
 skip_by : (b : Bool) (k : ℕ) (more : Option ℕ) (o : Option ℕ) → (b ≡ true → ⊥) → more ≡ o → (if b then Some k else more) ≡ o
 skip_by true k more o not e = absurd (not refl)
 skip_by false k more o not e = e
@@ -49,9 +46,9 @@ none_first f (i ∷ is) k none = skip_by (any_is f i.actuals) k (first_with f is
 
 pub sole_first : (f : Actual → Bool) (is : List Instance) (k p q : ℕ) → Passes f is p q → ((p' q' : ℕ) → Passes f is p' q' → p' ≡ p) → first_with f is k ≡ Some (k + p)
 sole_first f [] k p q h only = absurd (omega (arith, h.0))
-sole_first f (i ∷ is) k zero q h only = ap (λ b. if b then Some k else first_with f is (suc k)) (any_passes f i.actuals q h.1 h.2) ∙ same_some k (k + 0) (omega arith)
+sole_first f (i ∷ is) k zero q h only = ap (λ b. if b then Some k else first_with f is (suc k)) (any_passes f i.actuals q h.1 h.2) ∙ ap Some (omega arith)
 sole_first f (i ∷ is) k (suc p) q h only = skip_by (any_is f i.actuals) k (first_with f is (suc k)) (Some (k + suc p)) (λ e. let t = one_passes f i.actuals e in absurd (omega (arith, only 0 t.0 (omega arith, t.1, t.2))))
-    (sole_first f is (suc k) p q (omega (arith, h.0), h.1, h.2) (λ p' q' t. omega (arith, only (suc p') q' (omega (arith, t.0), t.1, t.2))) ∙ same_some (suc k + p) (k + suc p) (omega arith))
+    (sole_first f is (suc k) p q (omega (arith, h.0), h.1, h.2) (λ p' q' t. omega (arith, only (suc p') q' (omega (arith, t.0), t.1, t.2))) ∙ ap Some (omega arith))
 
 read_is : (a : Actual) (c : ℕ) → is_read a c ≡ true → a ≡ Reads c
 read_is (Reads d) c e = ap Reads (eqb-true d c e)
@@ -70,7 +67,7 @@ Is n a p q = (p < length n.instances) × (q < length (slice_index_or n.instances
 pub sole_reader : (program : Program) (c p q : ℕ) → Is (network_of program) (Reads c) p q → ((p' q' : ℕ) → Is (network_of program) (Reads c) p' q' → p' ≡ p) → (wires program).reader c ≡ Some p
 unfolding wires
 sole_reader program c p q h only = sole_first (λ a. is_read a c) (network_of program).instances 0 p q (h.0, h.1, ap (λ a. is_read a c) h.2 ∙ eq-eqb c c refl) (λ p' q' t. only p' q' (t.0, t.1, read_is _ c t.2))
-    ∙ same_some (0 + p) p (omega arith)
+    ∙ ap Some (omega arith)
 
 pub no_reader : (program : Program) (c : ℕ) → ((p q : ℕ) → Is (network_of program) (Reads c) p q → ⊥) → (wires program).reader c ≡ None
 unfolding wires
@@ -79,7 +76,7 @@ no_reader program c none = none_first (λ a. is_read a c) (network_of program).i
 pub sole_writer : (program : Program) (c p q : ℕ) → Is (network_of program) (Writes c) p q → ((p' q' : ℕ) → Is (network_of program) (Writes c) p' q' → p' ≡ p) → (wires program).writer c ≡ Some p
 unfolding wires
 sole_writer program c p q h only = sole_first (λ a. is_written a c) (network_of program).instances 0 p q (h.0, h.1, ap (λ a. is_written a c) h.2 ∙ eq-eqb c c refl) (λ p' q' t. only p' q' (t.0, t.1, written_is _ c t.2))
-    ∙ same_some (0 + p) p (omega arith)
+    ∙ ap Some (omega arith)
 
 pub no_writer : (program : Program) (c : ℕ) → ((p q : ℕ) → Is (network_of program) (Writes c) p q → ⊥) → (wires program).writer c ≡ None
 unfolding wires

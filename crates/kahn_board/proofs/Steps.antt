@@ -11,7 +11,7 @@ use Rattle.kahn_board.specs.Calls.{Leaves}
 use Rattle.kahn_board.specs.Plays.{SeesMore, took, gave, flushed_view, waking}
 use Rattle.kahn_board.specs.Rule.{Deal, Whole, halted, count}
 use Rattle.kahn_board.proofs.Turns.{whole}
-use Rattle.kahn_board.proofs.Seconds.{hot, idles, takes_second, gives_second, replaced}
+use Rattle.kahn_board.proofs.Seconds.{hot, idles, still, takes_second, gives_second, replaced}
 use Rattle.kahn_board.proofs.Changes.{owes_more, owes_woken, one_longer}
 use prog.Atomic.{either}
 use Rattle.atomic_table.specs.Table.{step, Act, keeps, takes, gives, Valid, carried_after, stepped, Allows}
@@ -180,28 +180,11 @@ module _ {T : Type 0} (told : T → Option Tale) (belongs : ℕ → T → Type 0
   Goes s i id m then k = (v : View) × (a : Act (Option T)) × Valid s.homes m.1 a × Whole told belongs w d (stepped s i k id m.1 v a) × then (get_or s.words i 0) (v, carried_after m.1 a)
 
   -- a step that changes nothing
-  pub unchanged : (s : St T) (a : Whole told belongs w d s) (i id : ℕ) (m : Sat T) (r : ℕ) → get_elem? s.views id ≡ some m.0 → Fit told w m → Whole told belongs w d (stepped s i (get_or s.words i 0) id m.1 (noted_view m.0 r) keeps)
-  unchanged s a i id m r me fit = subst (λ (l : List ℕ). Whole told belongs w d (state told w l s.homes (set s.views id (noted_view m.0 r)))) (sym (set-get_or s.words i 0)) (whole told belongs w d _ a.place
-      (stays told w s a.place a.ruled s.words id m (noted_view m.0 r) me fit refl refl refl refl (λ q h. refl))
-      (idles told belongs w d s a.place a.reckoned id m.0 (noted_view m.0 r) s.words me record {
-        hands_same = refl;
-        got_same = refl;
-        drawing = refl;
-        tallying = refl;
-        counting = refl;
-        pairs = a.reckoned.counted.pairs id m.0 me;
-        few = a.reckoned.counted.few id m.0 me;
-        still_quiet = λ e. e;
-        still_halted = λ e. e;
-        saw_quiet = a.reckoned.lasting.saw_quiet id m.0 me;
-        saw_halted = a.reckoned.lasting.saw_halted id m.0 me;
-        knows = λ e. e;
-        raises = omega arith;
-        halter = λ ne. inl ne;
-        sights = a.reckoned.lasting.sights id m.0 me;
-        fixed = λ c h none. refl;
-        leaves = λ h. absurd (omega arith);
-      }))
+  pub unchanged : (s : St T) (a : Whole told belongs w d s) (i id : ℕ) (m : Sat T) → get_elem? s.views id ≡ some m.0 → Fit told w m → Whole told belongs w d (stepped s i (get_or s.words i 0) id m.1 (noted_view m.0) keeps)
+  unchanged s a i id m me fit = subst (λ (l : List ℕ). Whole told belongs w d (state told w l s.homes (set s.views id (noted_view m.0)))) (sym (set-get_or s.words i 0)) (whole told belongs w d _ a.place
+      (stays told w s a.place a.ruled s.words id m (noted_view m.0) me fit refl refl refl refl (λ q h. refl))
+      (idles told belongs w d s a.place a.reckoned id m.0 (noted_view m.0) s.words me (still told belongs w d s a.place a.reckoned id m.0 m.0.flushed m.0.drawn m.0.done m.0.loose m.0.owed m.0.down s.words me
+      refl refl refl (a.reckoned.counted.pairs id m.0 me) (omega arith) (λ e. e) refl (λ c h none. refl))))
 
   -- the events of a cell, and those that a seat drew, are a number of 48 bits
   few_drawn : (s : St T) (a : Whole told belongs w d s) (id : ℕ) (m : Sat T) (p : ℕ) → get_elem? s.views id ≡ some m.0 → Fit told w m → p < w.instances → get_or (set m.0.got p (a.reckoned.tally p)) p 0 + m.0.drawn < 2 ^ 48
@@ -223,7 +206,7 @@ module _ {T : Type 0} (told : T → Option Tale) (belongs : ℕ → T → Type 0
       let cell = subst (λ (z : Place). HasSlot z (get_elem? s.homes p)) is (r.one_pair.cell_is p inside) in
       let y : T = cell.0 in let ws = set s.words (8 * p) 1 in let L : List ℕ = halves w ws in
       let wide' = r.wide in let e : ℕ = a.reckoned.tally p in let saw_it = sees s a id m.0 p y me inside cell.1 in let seen : ℕ = saw_it.0 in
-      let v' : View = took m.0 p L e seen 0 in
+      let v' : View = took m.0 p L e seen in
       let free : get_or m.0.hands p 0 ≡ 0 = r.one_pair.hands_are id m.0 me p inside ∙ ap (held_by id) is in
       let pub_same : (c : ℕ) → published w ws c ≡ published w s.words c = λ c. ap half (get_or-set_other s.words (8 * p) (8 * (w.instances + c)) 1 0 (λ e. omega arith)) in (
         v',
@@ -234,7 +217,7 @@ module _ {T : Type 0} (told : T → Option Tale) (belongs : ℕ → T → Type 0
             (λ q h. at_moved (λ k z. k < w.instances → get_or ws (8 * k) 0 ≡ word_code z) place p (held id) q (λ _. get_or-set_same s.words (8 * p) 1 0 (omega arith)) (λ ne l. get_or-set_other s.words (8 * p) (8 * q) 1 0 (λ e. ne (omega arith)) ∙ r.one_pair.word_is q l) h)
             (λ c near. ap (λ (k : ℕ). k % 2) (get_or-set_other s.words (8 * p) (8 * (w.instances + c)) 1 0 (λ e. omega arith)) ∙ (r.parking.marks c near ∙ sym (mark_same place p (held id) (w.reader c) c (sym (ap (parked_on c) is)))))
             (λ c near. inl (pub_same c)))
-            (takes_second told belongs w d s place r a.reckoned (8 * p) 1 id m p L m.0.owed seen 0 me inside fit.hands_long fit.got_long (omega arith) free
+            (takes_second told belongs w d s place r a.reckoned (8 * p) 1 id m p L m.0.owed seen me inside fit.hands_long fit.got_long (omega arith) free
             (omega (arith, ap is_up is)) (owes_more m.0.hands p m.0.owed free (a.reckoned.counted.pairs id m.0 me)) saw_it.1 saw_it.2 (λ c near none. pub_same c)),
         (
           (λ _. (
@@ -258,7 +241,7 @@ module _ {T : Type 0} (told : T → Option Tale) (belongs : ℕ → T → Type 0
           (λ miss. absurd (miss hit)),
         ),
       ))
-      (λ miss. (noted_view m.0 x, keeps, tt, unchanged s a (8 * p) id m x me fit, ((λ hit. absurd (miss hit)), λ _. refl)))
+      (λ miss. (noted_view m.0, keeps, tt, unchanged s a (8 * p) id m me fit, ((λ hit. absurd (miss hit)), λ _. refl)))
 
   -- the instance read off the word
   pub claims_at : (n id : ℕ) (m : Sat T) (p p' : ℕ) (said : maybe.Option (Option T)) → Fit told w m → p < w.instances → p' ≡ p → Allows (Whole told belongs w d) n id m (8 * p) (λ y. either (eqb y 0) 1 y) (claimed told belongs w p' (step n (8 * p) 0 1 said) m)
@@ -269,18 +252,18 @@ module _ {T : Type 0} (told : T → Option Tale) (belongs : ℕ → T → Type 0
       → Allows (Whole told belongs w d) n id (v, (p, Some y) ∷ more) (8 * p) (λ _. new) (λ _. set_down told w p (step n (8 * p) new 0 none) (v, (p, Some y) ∷ more) new)
   sets_down n id v more p y x new fit inside is_in codes free unparked stands ends ups leaves few s a wide me _ = let place = a.place in let r = a.ruled in let wide' = r.wide in let ws = set s.words (8 * p) new in
       let is = mine_is told w s place r id (v, []) p me inside is_in in (
-        gave v p (told y) (new / 2) new,
+        gave v p (told y) (new / 2),
         gives,
         tt,
         whole told belongs w d _ (moved place p x)
-            (gives_up told w s place r (8 * p) new id v more p y x (gave v p (told y) (new / 2) new) refl refl refl me fit inside is_in free
+            (gives_up told w s place r (8 * p) new id v more p y x (gave v p (told y) (new / 2)) refl refl refl me fit inside is_in free
             (λ q h. at_moved (λ k z. k < w.instances → get_or ws (8 * k) 0 ≡ word_code z) place p x q (λ _. get_or-set_same s.words (8 * p) new 0 (omega arith) ∙ codes) (λ ne l. get_or-set_other s.words (8 * p) (8 * q) new 0 (λ e. ne (omega arith)) ∙ r.one_pair.word_is q l) h)
             (λ c near. ap (λ (k : ℕ). k % 2) (get_or-set_other s.words (8 * p) (8 * (w.instances + c)) new 0 (λ e. omega arith)) ∙ (r.parking.marks c near ∙ sym (mark_same place p x (w.reader c) c (unparked c ∙ sym (ap (parked_on c) is)))))
             (λ c near. ap half (get_or-set_other s.words (8 * p) (8 * (w.instances + c)) new 0 (λ e. omega arith)))
             stands
             (λ c e. absurd (omega (arith, unparked c, ap (parked_on c) e, parked_yes c)))
             ends leaves.0)
-            (gives_second told belongs w d s place r a.reckoned (8 * p) new id v p y x (new / 2) new me inside fit.hands_long (omega arith) fit.alive is is_in ups leaves.3 few leaves.1 leaves.2 leaves.4
+            (gives_second told belongs w d s place r a.reckoned (8 * p) new id v p y x (new / 2) me inside fit.hands_long (omega arith) fit.alive is is_in ups leaves.3 few leaves.1 leaves.2 leaves.4
             (λ c near. ap half (get_or-set_other s.words (8 * p) (8 * (w.instances + c)) new 0 (λ e. omega arith)))),
         (y, refl, refl),
       )
@@ -298,11 +281,11 @@ module _ {T : Type 0} (told : T → Option Tale) (belongs : ℕ → T → Type 0
       let was : get_or s.words (8 * (w.instances + c)) 0 ≡ old = ap (λ (k : ℕ). get_or s.words k 0) (sym at) ∙ hit in
       let num : published w ws c ≡ taken = omega (arith, now) in let num' : published w s.words c ≡ taken = omega (arith, was) in
       let same : (d : ℕ) → d < w.channels → published w ws d ≡ published w s.words d = λ d near_d. dite (ℕ_discrete d c) (λ e. subst (λ (k : ℕ). published w ws k ≡ published w s.words k) (sym e) (num ∙ sym num')) (λ ne. ap half (else_where (8 * (w.instances + d)) (λ e. ne (omega arith)))) in (
-        gave v p (told y) 1 x,
+        gave v p (told y) 1,
         gives,
         tt,
         whole told belongs w d _ (moved place p (parked c))
-            (gives_up told w s place r i new id v more p y (parked c) (gave v p (told y) 1 x) refl refl refl me fit inside is_in (λ j. refl)
+            (gives_up told w s place r i new id v more p y (parked c) (gave v p (told y) 1) refl refl refl me fit inside is_in (λ j. refl)
             (λ q h. at_moved (λ k z. k < w.instances → get_or ws (8 * k) 0 ≡ word_code z) place p (parked c) q
             (λ l. else_where (8 * p) (λ e. omega arith) ∙ (r.one_pair.word_is p l ∙ ap word_code is)) (λ ne l. else_where (8 * q) (λ e. omega arith) ∙ r.one_pair.word_is q l) h)
             (λ d near_d. dite (ℕ_discrete d c)
@@ -314,12 +297,12 @@ module _ {T : Type 0} (told : T → Option Tale) (belongs : ℕ → T → Type 0
             (λ d e. subst (λ (k : ℕ). (k < w.channels) × (w.reader k ≡ Some p) × TellsWait (told y) k (published w ws k)) (parked_apart c d e) (near, reads, subst (TellsWait (told y) c) (sym num) waits))
             (λ e. absurd (omega (arith, ap word_code e)))
             leaves.0)
-            (gives_second told belongs w d s place r a.reckoned i new id v p y (parked c) 1 x me inside fit.hands_long (omega arith) fit.alive is is_in refl leaves.3 few leaves.1 leaves.2 leaves.4 same),
+            (gives_second told belongs w d s place r a.reckoned i new id v p y (parked c) 1 me inside fit.hands_long (omega arith) fit.alive is is_in refl leaves.3 few leaves.1 leaves.2 leaves.4 same),
         ((λ _. (y, refl, refl)), λ miss. absurd (miss hit)),
       ))
       (λ miss. let is = mine_is told w s place r id (v, []) p me inside is_in in
       let even : x % 2 ≡ 0 = ap (λ (k : ℕ). get_or s.words k 0 % 2) at ∙ (r.parking.marks c near ∙ (ap (λ (o : Option ℕ). mark_of place o c) reads ∙ ap (parked_on c) is)) in
-      (noted_view v x, keeps, tt, unchanged s a i id m x me fit, ((λ hit. absurd (miss hit)), λ _. (even, refl))))
+      (noted_view v, keeps, tt, unchanged s a i id m me fit, ((λ hit. absurd (miss hit)), λ _. (even, refl))))
 
   marked : (place : ℕ → Place) (reader : Option ℕ) (c : ℕ) → mark_of place reader c ≡ 1 → (p : ℕ) × (reader ≡ Some p) × (place p ≡ parked c)
   marked place None c e = absurd (omega arith)
@@ -341,7 +324,7 @@ module _ {T : Type 0} (told : T → Option Tale) (belongs : ℕ → T → Type 0
       (λ e. subst (λ (k : ℕ). get_or (set m.0.flushed c (new / 2)) k 0 ≡ published w ws k) (sym e) (get_or-set_same m.0.flushed c (new / 2) 0 (omega (arith, fit.flushed_long)) ∙ ap half (sym now)))
       (λ ne. get_or-set_other m.0.flushed c d (new / 2) 0 ne ∙ (r.known id m.0 me q d h one near_d wr ∙ sym (elsewhere_same d ne))) in
       dite (ℕ_discrete (x % 2) 0)
-      (λ even. let cell = subst (λ (z : Place). HasSlot z (get_elem? s.homes q₀)) is (r.one_pair.cell_is q₀ writer_in) in let v' : View = noted_view (flushed_view m.0 c (new / 2)) x in
+      (λ even. let cell = subst (λ (z : Place). HasSlot z (get_elem? s.homes q₀)) is (r.one_pair.cell_is q₀ writer_in) in let v' : View = noted_view (flushed_view m.0 c (new / 2)) in
       let stay : (q : ℕ) → moved place q₀ (held id) q ≡ place q = λ q. at_moved (λ k z. z ≡ place k) place q₀ (held id) q (sym is) (λ _. refl) in
       let unmarked : (d : ℕ) → mark_of (moved place q₀ (held id)) (w.reader d) d ≡ mark_of place (w.reader d) d = λ d. mark_same place q₀ (held id) (w.reader d) d (sym (ap (parked_on d) is)) in
       let hots = hot told belongs w d s.words i new (omega arith) in (
@@ -378,25 +361,8 @@ module _ {T : Type 0} (told : T → Option Tale) (belongs : ℕ → T → Type 0
               alive = fit.alive;
               parts = refl;
             })
-            (replaced told belongs w d _ place (moved place q₀ (held id)) (λ q. sym (stay q)) (idles told belongs w d s place a.reckoned id m.0 v' ws me record {
-              hands_same = refl;
-              got_same = refl;
-              drawing = omega (arith, hots.budget_same);
-              tallying = refl;
-              counting = omega (arith, hots.count_same);
-              pairs = a.reckoned.counted.pairs id m.0 me;
-              few = a.reckoned.counted.few id m.0 me;
-              still_quiet = λ e. hots.count_same ∙ e;
-              still_halted = λ ne e. ne (sym hots.halted_same ∙ e);
-              saw_quiet = λ e. hots.count_same ∙ a.reckoned.lasting.saw_quiet id m.0 me e;
-              saw_halted = λ e z. a.reckoned.lasting.saw_halted id m.0 me e (sym hots.halted_same ∙ z);
-              knows = λ e. e;
-              raises = omega arith;
-              halter = λ ne. inl (λ z. ne (hots.halted_same ∙ z));
-              sights = a.reckoned.lasting.sights id m.0 me;
-              fixed = fixed;
-              leaves = λ h. absurd (omega arith);
-            })),
+            (replaced told belongs w d _ place (moved place q₀ (held id)) (λ q. sym (stay q)) (idles told belongs w d s place a.reckoned id m.0 v' ws me (still told belongs w d s place a.reckoned id m.0 (set m.0.flushed c (new / 2)) m.0.drawn m.0.done m.0.loose m.0.owed m.0.down ws me
+            (omega (arith, hots.budget_same)) refl (omega (arith, hots.count_same)) (a.reckoned.counted.pairs id m.0 me) (omega arith) (λ e. hots.count_same ∙ e) hots.halted_same fixed))),
         ((λ _. refl), λ odd. absurd (omega arith)),
       ))
       (λ not_even. let odd : x % 2 ≡ 1 = omega arith in let t = marked place (w.reader c) c (sym (r.parking.marks c near) ∙ (ap (λ (k : ℕ). k % 2) x_is ∙ odd)) in
@@ -404,7 +370,7 @@ module _ {T : Type 0} (told : T → Option Tale) (belongs : ℕ → T → Type 0
       let cell = subst (λ (z : Place). HasSlot z (get_elem? s.homes p)) on_c (r.one_pair.cell_is p inside) in let y : T = cell.0 in let L : List ℕ = halves w ws in
       let e : ℕ = a.reckoned.tally p in let saw_it = sees s a id m.0 p y me inside cell.1 in let seen : ℕ = saw_it.0 in
       let free : get_or m.0.hands p 0 ≡ 0 = r.one_pair.hands_are id m.0 me p inside ∙ ap (held_by id) on_c in
-      let v' : View = took (waking m.0 c (new / 2) p q₀) p L e seen x in (
+      let v' : View = took (waking m.0 c (new / 2) p q₀) p L e seen in (
         v',
         takes p (Some y),
         cell.1,
@@ -422,7 +388,7 @@ module _ {T : Type 0} (told : T → Option Tale) (belongs : ℕ → T → Type 0
               (λ wr. the_writer q (ap w.writer (sym e) ∙ wr)),
             )))
             (λ ne. inl (elsewhere_same d ne))))
-            (takes_second told belongs w d s place r a.reckoned i new id m p L (m.0.owed ++ (p, q₀) ∷ []) seen x me inside fit.hands_long fit.got_long (omega arith) free
+            (takes_second told belongs w d s place r a.reckoned i new id m p L (m.0.owed ++ (p, q₀) ∷ []) seen me inside fit.hands_long fit.got_long (omega arith) free
             (omega (arith, ap is_up on_c, one_longer m.0.owed (p, q₀)))
             (owes_woken m.0.hands p q₀ m.0.owed free (get_or-set_same m.0.hands p 1 0 (omega (arith, fit.hands_long))) is_in (a.reckoned.counted.pairs id m.0 me)) saw_it.1 saw_it.2 fixed),
         (

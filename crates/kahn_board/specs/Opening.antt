@@ -1,15 +1,10 @@
 -- Believed. What a board is made of.
-use Rattle.std.specs.Prelude.{◌≡◌, ℕ, ◌+◌, ◌*◌, ◌^◌, ◌<◌, List, length, slice_index, Option, Some}
+use Rattle.std.specs.Prelude.{◌≡◌, ℕ, ◌+◌, ◌^◌, ◌<◌, List, length, slice_index, Option, Some}
 use mathlib.Core.Option.{some}
 use lib.ListN.{get_elem?}
 use Rattle.kahn_board.specs.Tale.{Tale, FlushedAll, flushed_of}
 use Rattle.kahn_board.specs.Dealt.{events_told}
 use Rattle.kahn_board.specs.Wires.{Wires}
-
--- the last words among n instances and m channels: the bound, the number of instances, and not halted
-abbrev pub AreHot : ℕ → ℕ → ℕ → List ℕ → Type 0
-AreHot n m bound words =
-    (slice_index words (8 * (n + m)) ≡ bound) × (slice_index words (8 * (n + m) + 8) ≡ n) × (slice_index words (8 * (n + m) + 16) ≡ 0)
 
 module _ {T : Type 0} where
   pub record Opens (told : T → Option Tale) (after : T → T → Type 0) (w : Wires) (bound : ℕ) (published : List ℕ) (cells : List T) : Type 0 where

@@ -6,7 +6,7 @@ use Rattle.atomic_table.specs.Table.{Allows, Me, Step, rest, step}
 use Rattle.atomic_table.specs.declared.shared.Seat as shared
 use Rattle.kahn_board.specs.Tale.{Tale, TellsWait, TellsEvents, FlushedAll, flushed_of, events_past}
 use Rattle.kahn_board.specs.Wires.{Wires}
-use Rattle.kahn_board.specs.Rule.{St, WordWas, view}
+use Rattle.kahn_board.specs.Rule.{St, WordWas}
 use Rattle.kahn_board.specs.Place.{total}
 use Rattle.kahn_board.specs.declared.view.View.{View}
 
@@ -16,52 +16,54 @@ Sat T = Me (Option T) View
 abbrev pub Play : Type 0 → Type 1
 Play T = Step (Option T) → Sat T → ℕ → Sat T → Type 0
 
--- the view after a step that found r and told the seat nothing else
-abbrev pub noted_view : View → ℕ → View
-noted_view v r = view v.parts v.hands v.flushed v.got v.drawn v.done v.loose v.owed v.down v.seen 2 (v.steps + 1) r v.raised
+-- the view after a step that told the seat nothing else: it is busy
+abbrev pub noted_view : View → View
+noted_view v = record v { stage = 2; steps = v.steps + 1 }
 
 abbrev pub IsIn : View → ℕ → Type 0
 IsIn v p = slice_index v.hands p ≡ 1
 
 -- the instance p is got: `flushed` is published, its cell told `events`
-abbrev pub took : View → ℕ → List ℕ → ℕ → ℕ → ℕ → View
-took v p flushed events seen r = view v.parts (slice_set v.hands p 1) flushed (slice_set v.got p events) v.drawn v.done v.loose v.owed v.down seen 2 (v.steps + 1) r v.raised
+abbrev pub took : View → ℕ → List ℕ → ℕ → ℕ → View
+took v p flushed events seen =
+    record (noted_view v) { hands = slice_set v.hands p 1; flushed = flushed; got = slice_set v.got p events; seen = seen }
 
 -- the instance p is given up, by a cell that tells t, with `more` counts down to pay
-abbrev pub gave : View → ℕ → Option Tale → ℕ → ℕ → View
-gave v p t more r = view v.parts (slice_set v.hands p 0) v.flushed v.got v.drawn v.done (v.loose - (events_past t (slice_index v.got p) - slice_index v.got p)) v.owed (v.down + more) v.seen 2 (v.steps + 1) r v.raised
+abbrev pub gave : View → ℕ → Option Tale → ℕ → View
+gave v p t more =
+    record (noted_view v) { hands = slice_set v.hands p 0; loose = v.loose - (events_past t (slice_index v.got p) - slice_index v.got p); down = v.down + more }
 
 -- `count` tokens of the channel c are published
 abbrev pub flushed_view : View → ℕ → ℕ → View
-flushed_view v c count = view v.parts v.hands (slice_set v.flushed c count) v.got v.drawn v.done v.loose v.owed v.down v.seen v.stage v.steps v.found v.raised
+flushed_view v c count = record v { flushed = slice_set v.flushed c count }
 
 -- the same, and q woke p
 abbrev pub waking : View → ℕ → ℕ → ℕ → ℕ → View
-waking v c count p q = view v.parts v.hands (slice_set v.flushed c count) v.got v.drawn v.done v.loose (v.owed ++ (p, q) ∷ []) v.down v.seen v.stage v.steps v.found v.raised
+waking v c count p q = record (flushed_view v c count) { owed = v.owed ++ (p, q) ∷ [] }
 
-abbrev pub with_draw : View → ℕ → ℕ → View
-with_draw v k r = view v.parts v.hands v.flushed v.got k v.done v.loose v.owed v.down v.seen 2 (v.steps + 1) r v.raised
+abbrev pub with_draw : View → ℕ → View
+with_draw v k = record (noted_view v) { drawn = k }
 
 -- n events of the draw were done, the others may still be done
-abbrev pub used : View → ℕ → ℕ → View
-used v n r = view v.parts v.hands v.flushed v.got (v.drawn - n) (v.done + n) (v.loose + n) v.owed v.down v.seen 2 (v.steps + 1) r v.raised
+abbrev pub used : View → ℕ → View
+used v n = record (noted_view v) { drawn = v.drawn - n; done = v.done + n; loose = v.loose + n }
 
 -- n events of the draw weren't done, the others were
-abbrev pub undrawn : View → ℕ → ℕ → View
-undrawn v n r = view v.parts v.hands v.flushed v.got 0 (v.done + (v.drawn - n)) (v.loose + (v.drawn - n)) v.owed v.down v.seen 2 (v.steps + 1) r v.raised
+abbrev pub undrawn : View → ℕ → View
+undrawn v n = record (noted_view v) { drawn = 0; done = v.done + (v.drawn - n); loose = v.loose + (v.drawn - n) }
 
-abbrev pub paid_up : View → ℕ → View
-paid_up v r = view v.parts v.hands v.flushed v.got v.drawn v.done v.loose (drop 1 v.owed) v.down v.seen 2 (v.steps + 1) r v.raised
+abbrev pub paid_up : View → View
+paid_up v = record (noted_view v) { owed = drop 1 v.owed }
 
-abbrev pub paid_down : View → ℕ → View
-paid_down v r = view v.parts v.hands v.flushed v.got v.drawn v.done v.loose v.owed (v.down - 1) v.seen 2 (v.steps + 1) r v.raised
+abbrev pub paid_down : View → View
+paid_down v = record (noted_view v) { down = v.down - 1 }
 
-abbrev pub saw : View → ℕ → ℕ → ℕ → View
-saw v seen stage r = view v.parts v.hands v.flushed v.got v.drawn v.done v.loose v.owed v.down seen stage (v.steps + 1) r v.raised
+abbrev pub saw : View → ℕ → ℕ → View
+saw v seen stage = record (noted_view v) { seen = seen; stage = stage }
 
 -- it halted the run
-abbrev pub halting : View → ℕ → View
-halting v r = view v.parts v.hands v.flushed v.got v.drawn v.done v.loose v.owed v.down 2 2 (v.steps + 1) r (v.raised + 1)
+abbrev pub halting : View → View
+halting v = record (noted_view v) { seen = 2; raised = v.raised + 1 }
 
 -- done where it holds, drew and owes nothing, else busy
 abbrev pub burden : View → ℕ
@@ -80,8 +82,8 @@ SeesMore old new = (new ≡ old) ⊎ (new ≡ 2)
 
 module _ {T : Type 0} (told : T → Option Tale) (w : Wires) where
   -- the seat gave up the instance p with the cell y, whose slot it took last
-  abbrev pub GaveUp : Sat T → ℕ → ℕ → ℕ → Sat T → T → Type 0
-  GaveUp m p more r n y = n ≡ (gave m.0 p (told y) more r, rest m.1)
+  abbrev pub GaveUp : Sat T → ℕ → ℕ → Sat T → T → Type 0
+  GaveUp m p more n y = n ≡ (gave m.0 p (told y) more, rest m.1)
 
   -- the cell that comes first
   abbrev pub TheFirst : Sat T → ℕ → T → Type 0
@@ -89,27 +91,27 @@ module _ {T : Type 0} (told : T → Option Tale) (w : Wires) where
 
   -- over: a count down is owed
   abbrev pub set_down : ℕ → Play T
-  set_down p st m r n = (y : T) × TheFirst m p y × GaveUp m p (r / 2) r n y
+  set_down p st m r n = (y : T) × TheFirst m p y × GaveUp m p (r / 2) n y
 
   abbrev pub parked_or_not : ℕ → Play T
-  parked_or_not p st m r n = (r ≡ st.first → (y : T) × TheFirst m p y × GaveUp m p 1 r n y) × (r ≢ st.first → (r % 2 ≡ 0) × (n ≡ (noted_view m.0 r, m.1)))
+  parked_or_not p st m r n = (r ≡ st.first → (y : T) × TheFirst m p y × GaveUp m p 1 n y) × (r ≢ st.first → (r % 2 ≡ 0) × (n ≡ (noted_view m.0, m.1)))
 
 module _ {T : Type 0} (told : T → Option Tale) (belongs : ℕ → T → Type 0) (w : Wires) where
   -- the seat took the cell y of the instance p: what y tells as flushed is published; it has flushed all that it sent, or the run is halted; it belongs to p;
   -- its events and those drawn are a number of 48 bits
-  abbrev pub Got : Sat T → ℕ → ℕ → Sat T → T → Type 0
-  Got m p r n y = (L : List ℕ) × (e : ℕ) × (seen : ℕ) × (n ≡ (took m.0 p L e seen r, (p, Some y) ∷ m.1)) × (slice_index m.0.hands p ≡ 0) × (length L ≡ length m.0.flushed)
+  abbrev pub Got : Sat T → ℕ → Sat T → T → Type 0
+  Got m p n y = (L : List ℕ) × (e : ℕ) × (seen : ℕ) × (n ≡ (took m.0 p L e seen, (p, Some y) ∷ m.1)) × (slice_index m.0.hands p ≡ 0) × (length L ≡ length m.0.flushed)
       × AgreesOnFlushed w m.0 L × ((c k : ℕ) → flushed_of (told y) c ≡ Some k → (w.writer c ≡ Some p) × (c < w.channels) × (k ≡ slice_index L c))
       × TellsEvents (told y) e × SeesMore m.0.seen seen × ((seen ≡ 2) ⊎ FlushedAll (told y)) × belongs p y
       × (slice_index (slice_set m.0.got p e) p + m.0.drawn < 2 ^ 48)
 
   abbrev pub claimed : ℕ → Play T
-  claimed p st m r n = (r ≡ 0 → (y : T) × Got m p 0 n y) × (r ≢ 0 → n ≡ (noted_view m.0 r, m.1))
+  claimed p st m r n = (r ≡ 0 → (y : T) × Got m p n y) × (r ≢ 0 → n ≡ (noted_view m.0, m.1))
 
   -- where the number found was odd, the seat took the reader's cell, which waits on the channel c and took all that was published
   abbrev pub publishes : ℕ → Play T
-  publishes c st m r n = (r % 2 ≡ 0 → n ≡ (noted_view (flushed_view m.0 c (st.first / 2)) r, m.1))
-      × (r % 2 ≡ 1 → (p : ℕ) × (q : ℕ) × (y : T) × (w.reader c ≡ Some p) × (w.writer c ≡ Some q) × TellsWait (told y) c (r / 2) × Got (waking m.0 c (st.first / 2) p q, m.1) p r n y)
+  publishes c st m r n = (r % 2 ≡ 0 → n ≡ (noted_view (flushed_view m.0 c (st.first / 2)), m.1))
+      × (r % 2 ≡ 1 → (p : ℕ) × (q : ℕ) × (y : T) × (w.reader c ≡ Some p) × (w.writer c ≡ Some q) × TellsWait (told y) c (r / 2) × Got (waking m.0 c (st.first / 2) p q, m.1) p n y)
 
 module _ {T : Type 0} where
   -- the word was as found when the view of the seat id was as before
@@ -126,35 +128,35 @@ module _ {T : Type 0} where
       (t.table_id ≡ s.table_id) × (t.id ≡ s.id) × at_moment holds s.id play (step z.slots word old new none) s.me r t.me
 
   abbrev pub looked : Play T
-  looked st m r n = n ≡ (noted_view m.0 r, m.1)
+  looked st m r n = n ≡ (noted_view m.0, m.1)
 
   -- it drew the difference where the budget was still what it had found
   abbrev pub drew : Play T
-  drew st m r n = (r ≡ st.first → (n ≡ (with_draw m.0 (st.first - st.second) r, m.1)) × ((p : ℕ) → IsIn m.0 p → slice_index m.0.got p + (st.first - st.second) < 2 ^ 48)) × (r ≢ st.first → n ≡ (noted_view m.0 r, m.1))
+  drew st m r n = (r ≡ st.first → (n ≡ (with_draw m.0 (st.first - st.second), m.1)) × ((p : ℕ) → IsIn m.0 p → slice_index m.0.got p + (st.first - st.second) < 2 ^ 48)) × (r ≢ st.first → n ≡ (noted_view m.0, m.1))
 
   abbrev pub uses : ℕ → Play T
-  uses k st m r n = n ≡ (used m.0 k r, m.1)
+  uses k st m r n = n ≡ (used m.0 k, m.1)
 
   abbrev pub gave_back : Play T
-  gave_back st m r n = n ≡ (undrawn m.0 st.first r, m.1)
+  gave_back st m r n = n ≡ (undrawn m.0 st.first, m.1)
 
   abbrev pub counted_up : Play T
-  counted_up st m r n = n ≡ (paid_up m.0 r, m.1)
+  counted_up st m r n = n ≡ (paid_up m.0, m.1)
 
   abbrev pub counted_down : Play T
-  counted_down st m r n = n ≡ (paid_down m.0 r, m.1)
+  counted_down st m r n = n ≡ (paid_down m.0, m.1)
 
   abbrev pub halts : Play T
-  halts st m r n = n ≡ (halting m.0 r, m.1)
+  halts st m r n = n ≡ (halting m.0, m.1)
 
   abbrev pub sees_halted : Play T
-  sees_halted st m r n = (r ≢ 0 → n ≡ (saw m.0 2 (leaves_as m.0) r, m.1)) × (r ≡ 0 → (m.0.seen ≢ 2) × (n ≡ (noted_view m.0 r, m.1)))
+  sees_halted st m r n = (r ≢ 0 → n ≡ (saw m.0 2 (leaves_as m.0), m.1)) × (r ≡ 0 → (m.0.seen ≢ 2) × (n ≡ (noted_view m.0, m.1)))
 
   abbrev pub sees_count : Play T
-  sees_count st m r n = (r ≡ 0 → n ≡ (saw m.0 1 (leaves_as m.0) r, m.1)) × (r ≢ 0 → (m.0.seen ≢ 1) × (n ≡ (noted_view m.0 r, m.1)))
+  sees_count st m r n = (r ≡ 0 → n ≡ (saw m.0 1 (leaves_as m.0), m.1)) × (r ≢ 0 → (m.0.seen ≢ 1) × (n ≡ (noted_view m.0, m.1)))
 
   abbrev pub sees_budget : Play T
-  sees_budget st m r n = (r ≡ 0 → n ≡ (saw m.0 m.0.seen (leaves_as m.0) r, m.1)) × (r ≢ 0 → n ≡ (noted_view m.0 r, m.1))
+  sees_budget st m r n = (r ≡ 0 → n ≡ (saw m.0 m.0.seen (leaves_as m.0), m.1)) × (r ≢ 0 → n ≡ (noted_view m.0, m.1))
 
 -- the slot that a seat took last
 abbrev pub first_of : {T : Type 0} → List (ℕ × Option T) → ℕ

@@ -12,39 +12,34 @@ use Rattle.atomic_table.specs.Table.{State, Seen}
 use Rattle.kahn_board.specs.Tale.{Tale, TellsWait, TellsEnd, TellsEvents, FlushedAll, flushed_of}
 use Rattle.kahn_board.specs.Wires.{Wires}
 use Rattle.kahn_board.specs.Place.{Place, ready, held, parked, over, word_code, held_by, mark_of, total}
-use Rattle.kahn_board.specs.Counts.{Owed, Owes, is_up, below}
-use Rattle.kahn_board.specs.Quiet.{Quiet}
+use Rattle.kahn_board.specs.Counts.{Owes, is_up, below}
 use Rattle.kahn_board.specs.declared.view.View.{View}
 
 -- the parts of a board's first seat
 abbrev pub all_parts : ℕ
 all_parts = 65536
 
-abbrev pub view : ℕ → List ℕ → List ℕ → List ℕ → ℕ → ℕ → ℕ → Owed → ℕ → ℕ → ℕ → ℕ → ℕ → ℕ → View
-view parts hands flushed got drawn done loose owed down seen stage steps found raised = record {
-  parts = parts;
-  hands = hands;
-  flushed = flushed;
-  got = got;
-  drawn = drawn;
-  done = done;
-  loose = loose;
-  owed = owed;
-  down = down;
-  seen = seen;
-  stage = stage;
-  steps = steps;
-  found = found;
-  raised = raised;
-}
-
 -- the view of a seat that was joined to another
 abbrev pub spent : View
-spent = view 0 [] [] [] 0 0 0 [] 0 0 0 0 0 0
+spent = record {
+  parts = 0;
+  hands = [];
+  flushed = [];
+  got = [];
+  drawn = 0;
+  done = 0;
+  loose = 0;
+  owed = [];
+  down = 0;
+  seen = 0;
+  stage = 0;
+  steps = 0;
+  raised = 0;
+}
 
 -- the view of a seat that has so many parts, and has and knows nothing, among n instances and k channels
 abbrev pub blank : ℕ → ℕ → ℕ → View
-blank n k parts = view parts (replicate n 0) (replicate k 0) (replicate n 0) 0 0 0 [] 0 0 0 0 0 0
+blank n k parts = record spent { parts = parts; hands = replicate n 0; flushed = replicate k 0; got = replicate n 0 }
 
 -- the view of the first seat
 abbrev pub opening_view : Wires → View
@@ -91,6 +86,10 @@ pub record Deal : Type 0 where
 -- a seat halted the run, and knows it
 abbrev pub IsHalter : List View → Type 0
 IsHalter views = (j : ℕ) × (v : View) × (get_elem? views j ≡ some v) × (v.seen ≡ 2) × (0 < v.raised)
+
+-- every instance is parked or over, and nobody owes
+abbrev pub Quiet : ℕ → (ℕ → Place) → List View → Type 0
+Quiet n place views = ((p : ℕ) → p < n → is_up (place p) ≡ 0) × (total (λ v. length v.owed) views ≡ 0) × (total (λ v. v.down) views ≡ 0)
 
 module _ {T : Type 0} where
   -- the cell y of the instance p is at home
@@ -192,8 +191,7 @@ module _ {T : Type 0} where
     pub place : ℕ → Place
     pub ruled : Ruled told w place s
     pub reckoned : Reckoned told belongs w d place s
-    -- where the count is 0 every instance is parked or over, and nobody owes
-    pub quiet : count w s.words ≡ 0 → Quiet (λ (v : View). v.hands) (λ (v : View). v.owed) (λ (v : View). v.down) w.instances place s.views
+    pub quiet : count w s.words ≡ 0 → Quiet w.instances place s.views
 
   -- there was a moment at which the rule held, the seat id had the view v, and the word i the number r
   abbrev pub WordWas : (St T → Type 0) → ℕ → View → ℕ → ℕ → Type 0

@@ -6,6 +6,7 @@ mod closing;
 mod opening;
 mod plays;
 mod rule;
+mod turn;
 mod view;
 mod wiring;
 
@@ -13,6 +14,11 @@ pub use board::{Board, Draw, Look, Rest, Seat};
 pub use closing::Closed;
 
 // For the crates above.
+pub use closing::{join_all, split_all};
 pub use rule::{Rule, Terms, Told};
+pub use turn::{
+    draw_some, give, go_on, looks_ready, pick, put, rest_dry, rest_over, rest_ready, stop,
+    take_cell, tell, tell_done,
+};
 pub use view::View;
 pub use wiring::{reader_of, writer_of};

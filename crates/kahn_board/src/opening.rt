@@ -3,7 +3,8 @@
 ghost use Rattle.std.specs.Prelude.{◌≡◌, ℕ, ◌+◌, ◌*◌, ◌^◌, ◌<◌, ◌≤◌, List, length, slice_index, slice_index_or, replicate, [], IfOk, IfErr, Some, None, map};
 ghost use Rattle.std.specs.Vec.{vec_capacity};
 ghost use Rattle.std.specs.VecDeque.{deque_capacity};
-ghost use Rattle.kahn_board.specs.Opening.{AreHot, Opens};
+ghost use Rattle.kahn_board.specs.Opening.{Opens};
+ghost use Rattle.kahn_board.specs.inner.First.{AreFirstWords, IsWiringOf};
 ghost use Rattle.kahn_board.specs.Wires.{wires};
 ghost use Rattle.kahn_board.specs.Dealt.{dealt};
 ghost use Rattle.kahn_board.specs.Rule.{opening_view};
@@ -27,10 +28,7 @@ fn lay_words(
     bound: u64,
 ) -> Result<Vec<u64>, AllocError>
     requires { (instances ≤ 256) × (length published.now ≤ 1024) × ((c : ℕ) → c < length published.now → slice_index published.now c < 2 ^ 48) }
-    ensures long { IfOk result (λ v. length v.items ≡ 8 * (instances + length published.now) + 24) }
-    ensures ready { IfOk result (λ v. (p : ℕ) → p < instances → slice_index v.items (8 * p) ≡ 0) }
-    ensures hot { IfOk result (λ v. AreHot instances (length published.now) bound v.items) }
-    ensures numbers { IfOk result (λ v. (c : ℕ) → c < length published.now → slice_index v.items (8 * (instances + c)) ≡ 2 * slice_index published.now c) }
+    ensures { IfOk result (λ v. AreFirstWords instances bound published.now v.items) }
 {
     let hot = 8 * (instances + published.len());
     let mut words = Vec::from_elem(alloc, 0, hot + 24)?;
@@ -89,13 +87,8 @@ impl<T> Grown<T> {
         bound: u64,
     ) -> Result<Grown<T>, NoMemory>
         requires { (length published.now ≡ (wires network.now).channels) × ((c : ℕ) → c < length published.now → slice_index published.now c < 2 ^ 48) }
-        ensures counts { IfOk result (λ w. (w.wiring.instances ≡ (wires network.now).instances) × (w.wiring.channels ≡ (wires network.now).channels)) }
-        ensures limits { IfOk result (λ w. (w.wiring.instances ≤ 256) × (w.wiring.channels ≤ 1024)) }
-        ensures readers { IfOk result (λ w. (length w.wiring.readers.items ≡ w.wiring.channels) × ((c : ℕ) → c < w.wiring.channels → slice_index_or w.wiring.readers.items c None ≡ (wires network.now).reader c)) }
-        ensures long { IfOk result (λ w. length w.words.items ≡ 8 * (w.wiring.instances + length published.now) + 24) }
-        ensures ready { IfOk result (λ w. (p : ℕ) → p < w.wiring.instances → slice_index w.words.items (8 * p) ≡ 0) }
-        ensures hot { IfOk result (λ w. AreHot w.wiring.instances (length published.now) bound w.words.items) }
-        ensures numbers { IfOk result (λ w. (c : ℕ) → c < length published.now → slice_index w.words.items (8 * (w.wiring.instances + c)) ≡ 2 * slice_index published.now c) }
+        ensures wiring { IfOk result (λ w. IsWiringOf network.now w.wiring) }
+        ensures words { IfOk result (λ w. AreFirstWords w.wiring.instances bound published.now w.words.items) }
         ensures held { IfOk result (λ w. (w.held.items ≡ []) × (w.wiring.instances ≤ deque_capacity w.held)) }
         ensures room { IfOk result (λ w. (w.room.items ≡ []) × (w.wiring.instances ≤ vec_capacity w.room)) }
         ensures slots { IfOk result (λ w. (w.slots.items ≡ []) × (w.wiring.instances ≤ vec_capacity w.slots)) }

@@ -2,6 +2,7 @@
 
 ghost use Rattle.std.specs.Prelude.{◌≡◌, ◌≤◌, ◌<◌, ℕ, IfOk, length, slice_index_or, None};
 ghost use Rattle.kahn_board.specs.Wires.{wires};
+ghost use Rattle.kahn_board.specs.inner.First.{IsWiringOf};
 
 use kahn_network::Network;
 use kahn_tree::NoMemory;
@@ -40,9 +41,7 @@ pub fn writer_of(network: &Network, channel: usize) -> Option<usize>
 impl Wiring {
     /// That of a network.
     pub fn of(alloc: Global, network: &Network) -> Result<Wiring, NoMemory>
-        ensures counts { IfOk result (λ w. (w.instances ≡ (wires network.now).instances) × (w.channels ≡ (wires network.now).channels)) }
-        ensures limits { IfOk result (λ w. (w.instances ≤ 256) × (w.channels ≤ 1024)) }
-        ensures readers { IfOk result (λ w. (length w.readers.items ≡ w.channels) × ((c : ℕ) → c < w.channels → slice_index_or w.readers.items c None ≡ (wires network.now).reader c)) }
+        ensures { IfOk result (IsWiringOf network.now) }
     {
         let _program = network.program();
         let instances = network.instances();

@@ -7,12 +7,12 @@ use Rattle.std.proofs.lemmas.List.Elements.{All-push}
 use Rattle.std.proofs.lemmas.List.Sums.{sum_by_push, sum_by-cons}
 use Rattle.atomic_table.specs.Seated.{TableId}
 use Rattle.kahn_board.specs.declared.board.Seat.{Seat}
-use Rattle.kahn_desk.specs.inner.Crew.{IsDoneAt, SitsAt, parts_of, raised_of}
+use Rattle.kahn_board.specs.inner.Shared.{IsDoneAt, SitsAt, parts_of, raised_of}
 use Rattle.kahn_crew.specs.inner.Crews.{HasCause, HasGone, HasSeat, crew_parts, crew_raised}
 use Rattle.kahn_crew.specs.inner.Turns.{Heeds}
 use Rattle.kahn_crew.specs.inner.Tasks.{Tasked}
 use Rattle.kahn_crew.specs.declared.worker.Worker.{Worker}
-use Rattle.kahn_desk.proofs.Joined.{all_but_last}
+use Rattle.kahn_board.proofs.Joined.{all_but_last}
 
 -- sums of lists that are alike at each place
 sum_same : {A : Type 0} (f : A → ℕ) (xs ys : List A) → length ys ≡ length xs → ((i : ℕ) (d : A) → i < length xs → f (slice_index_or ys i d) ≡ f (slice_index_or xs i d)) → sum_by f ys ≡ sum_by f xs

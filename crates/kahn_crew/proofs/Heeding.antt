@@ -1,7 +1,7 @@
 -- A worker that halts the run where memory is wanted, and nowhere else.
 use Rattle.std.proofs.Common.{arith, ◌≡◌, inl, inr, ℕ, Bool, ◌∙◌}
 use Rattle.kahn_board.specs.declared.board.Seat.{Seat}
-use Rattle.kahn_desk.specs.inner.Turn.{IsSeatOf}
+use Rattle.kahn_board.specs.inner.Turn.{IsSeatOf}
 use Rattle.kahn_crew.specs.inner.Turns.{Heeds, RaisesAsWanted}
 use Rattle.kahn_crew.specs.inner.Tasks.{Tasked}
 

@@ -14,7 +14,7 @@ use Rattle.kahn_board.specs.Wires.{wires}
 use Rattle.kahn_board.specs.declared.view.View.{View}
 use Rattle.kahn_job.specs.inner.Berths.{end_at}
 use Rattle.kahn_job.specs.inner.Works.{Work, width_of}
-use Rattle.kahn_desk.specs.inner.Turn.{HasPublished}
+use Rattle.kahn_board.specs.inner.Turn.{HasPublished}
 use Rattle.kahn_board.specs.Plays.{SeesMore}
 use Rattle.kahn_job.specs.inner.Works.{IsJob}
 use Rattle.kahn_code.specs.Told.{AreCounts}

@@ -16,7 +16,7 @@ use Rattle.kahn_board.specs.Plays.{SeesMore}
 use Rattle.kahn_board.specs.Tale.{FlushedAll, flushed_of, second_of}
 use Rattle.kahn_board.specs.declared.rule.Terms.{Terms}
 use Rattle.kahn_board.specs.declared.view.View.{View}
-use Rattle.kahn_desk.specs.inner.Turn.{Fits, Knows}
+use Rattle.kahn_board.specs.inner.Turn.{Fits, Knows}
 use Rattle.kahn_job.specs.inner.Berths.{end_at}
 use Rattle.kahn_job.specs.inner.Works.{Work, IsDelivered}
 use Rattle.kahn_crew.specs.declared.standing.Standing.TheVariants as standing

@@ -8,7 +8,7 @@ use Rattle.kahn_board.specs.declared.board.Seat.{Seat}
 use Rattle.kahn_board.specs.declared.rule.Terms.{Terms}
 use Rattle.kahn_board.specs.declared.view.View.{View}
 use Rattle.kahn_job.specs.inner.Works.{IsDelivered}
-use Rattle.kahn_desk.specs.inner.Turn.{Fits, HasPublished, HoldsInTurn, Knows}
+use Rattle.kahn_board.specs.inner.Turn.{Fits, HasPublished, HoldsInTurn, Knows}
 use Rattle.kahn_crew.specs.declared.run.Run.{Run}
 use Rattle.kahn_crew.specs.declared.turn.Due.{Due}
 use Rattle.kahn_crew.specs.inner.Lent.{IsTaskOf}

@@ -3,7 +3,7 @@
 ghost use Rattle.std.specs.Prelude.{◌≡◌, ◌<◌, ◌≤◌, [], true, List, length, map, Some};
 ghost use Rattle.std.specs.Vec.{vec_capacity};
 ghost use Rattle.kahn_network.specs.Network.{network_of};
-ghost use Rattle.kahn_desk.specs.inner.Crew.{IsLoneSeat};
+ghost use Rattle.kahn_board.specs.inner.Shared.{IsLoneSeat};
 ghost use Rattle.kahn_crew.specs.inner.Begins.{HasBegun};
 ghost use Rattle.kahn_crew.specs.inner.Left.{IsLeftOf, IsOver, IsUntouched};
 ghost use Rattle.kahn_crew.specs.inner.Tasks.{Tasked};

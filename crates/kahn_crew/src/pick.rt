@@ -1,14 +1,13 @@
 //! Which instance is taken next.
 
 ghost use Rattle.std.specs.Prelude.{◌≡◌, ℕ, ◌<◌, false, true, IfSome, IfNone};
-ghost use Rattle.kahn_desk.specs.inner.Turn.{IsSeatOf};
+ghost use Rattle.kahn_board.specs.inner.Turn.{IsSeatOf};
 ghost use Rattle.kahn_crew.specs.inner.Turns.{HasTask, SitsWith, WasNotReady};
 
 use crate::boxes::Boxed;
 use crate::hints::Hints;
 use crate::run::Run;
-use kahn_board::Seat;
-use kahn_desk::{looks_ready, pick};
+use kahn_board::{Seat, looks_ready, pick};
 
 // Takes the instance, where there is one of that number that is ready. It looks first, since a claim writes a word.
 fn pick_one<'n>(run: &Run<'_, 'n>, seat: &mut Seat<Boxed<'n>>, p: usize) -> bool

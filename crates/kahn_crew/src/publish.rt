@@ -3,7 +3,7 @@
 ghost use Rattle.std.specs.Prelude.{◌≡◌, ◌≢◌, ◌⊎◌, ℕ, ◌<◌, true, false, IfNone};
 ghost use Rattle.kahn_code.specs.Standing.{count};
 ghost use Rattle.kahn_board.specs.Plays.{SeesMore};
-ghost use Rattle.kahn_desk.specs.inner.Turn.{HasHalted, IsSeatOf};
+ghost use Rattle.kahn_board.specs.inner.Turn.{HasHalted, IsSeatOf};
 ghost use Rattle.kahn_job.specs.inner.Works.{width_of};
 ghost use Rattle.kahn_crew.specs.inner.Tasks.{IsPublished};
 ghost use Rattle.kahn_crew.specs.inner.Turns.{Heeds, IsAtWork, SitsIn, StandsStill};
@@ -13,8 +13,7 @@ use crate::hints::Hints;
 use crate::run::Run;
 use crate::target::target;
 use crate::task::Task;
-use kahn_board::Seat;
-use kahn_desk::{stop, tell};
+use kahn_board::{Seat, stop, tell};
 
 // Publishes what was flushed on a parameter, where it is more than before. Answers the reader that it woke.
 pub(crate) fn publish_one<'n>(

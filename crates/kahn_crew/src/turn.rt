@@ -4,7 +4,7 @@ ghost use Rattle.std.specs.Prelude.{◌≡◌, ◌⊎◌, ℕ, ◌+◌, ◌-◌,
 ghost use Rattle.kahn_board.specs.Dealt.{wired};
 ghost use Rattle.kahn_code.specs.declared.progress.Pause.TheVariants.{NoMemory as IsWant};
 ghost use Rattle.kahn_job.specs.inner.Works.{IsDelivered};
-ghost use Rattle.kahn_desk.specs.inner.Turn.{IsBetweenTurns};
+ghost use Rattle.kahn_board.specs.inner.Turn.{IsBetweenTurns};
 ghost use Rattle.kahn_crew.specs.inner.Rests.{CanRest, IsDue, IsSetDown};
 ghost use Rattle.kahn_crew.specs.inner.Tasks.{IsPublished};
 ghost use Rattle.kahn_crew.specs.inner.Turns.{HasTask, Heeds, IsAtWork, IsTaskIn, SitsIn, SitsWith, StandsStill};
@@ -18,11 +18,10 @@ use crate::publish::{hint, publish_all};
 use crate::run::Run;
 use crate::standing::Standing;
 use crate::task::Task;
-use kahn_board::{Draw, Seat};
-use kahn_code::{Pause, Steps};
-use kahn_desk::{
-    draw_some, give, put, rest_dry, rest_over, rest_ready, stop, take_cell, tell_done,
+use kahn_board::{
+    Draw, Seat, draw_some, give, put, rest_dry, rest_over, rest_ready, stop, take_cell, tell_done,
 };
+use kahn_code::{Pause, Steps};
 use kahn_streams::NoMemory;
 use std::sync::ledger::Ledger;
 

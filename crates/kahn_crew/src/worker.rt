@@ -1,7 +1,7 @@
 //! A worker: it takes one instance after another, until there is a reason to leave.
 
 ghost use Rattle.std.specs.Prelude.{◌≡◌, ◌<◌, IfSome, IfNone};
-ghost use Rattle.kahn_desk.specs.inner.Turn.{IsBetweenTurns, IsSeatOf};
+ghost use Rattle.kahn_board.specs.inner.Turn.{IsBetweenTurns, IsSeatOf};
 ghost use Rattle.kahn_crew.specs.inner.Turns.{HasTask, Heeds, SitsWith};
 
 use crate::boxes::Boxed;
@@ -11,9 +11,8 @@ use crate::pick::{pick_any, pick_hinted};
 use crate::rest::Rest;
 use crate::run::Run;
 use crate::turn::turn;
-use kahn_board::Seat;
+use kahn_board::{Seat, go_on};
 use kahn_code::Steps;
-use kahn_desk::go_on;
 use std::marker::Brand;
 use std::sync::Wait;
 use std::sync::ledger::{Blank, Ledger};

@@ -6,7 +6,7 @@ use Rattle.kahn_board.specs.Rule.{channel_at}
 use Rattle.kahn_board.specs.Tale.{TellsEnd, TellsWait}
 use Rattle.kahn_board.specs.Wires.{Wires}
 use Rattle.kahn_board.specs.declared.board.Seat.{Seat}
-use Rattle.kahn_desk.specs.inner.Turn.{EndsTurn, SetsStill}
+use Rattle.kahn_board.specs.inner.Turn.{EndsTurn, SetsStill}
 use Rattle.kahn_crew.specs.declared.run.Run.{Run}
 use Rattle.kahn_crew.specs.declared.turn.Due.{Due}
 use Rattle.kahn_crew.specs.declared.turn.Due.TheVariants as due

@@ -6,7 +6,7 @@ use Rattle.kahn_board.specs.Plays.{SeesMore}
 use Rattle.kahn_board.specs.declared.board.Seat.{Seat}
 use Rattle.kahn_board.specs.declared.rule.Terms.{Terms}
 use Rattle.kahn_board.specs.declared.view.View.{View}
-use Rattle.kahn_desk.specs.inner.Turn.{BeginsTurn, HoldsInTurn, IsBetween}
+use Rattle.kahn_board.specs.inner.Turn.{BeginsTurn, HoldsInTurn, IsBetween}
 use Rattle.kahn_crew.specs.declared.run.Run.{Run}
 use Rattle.kahn_crew.specs.inner.Lent.{IsTaskOf}
 use Rattle.kahn_crew.specs.inner.Tasks.{AgreesWith, Continues, IsLater, Tasked, told_tale}

@@ -1,5 +1,5 @@
 use Rattle.std.proofs.Common.{ℕ, ◌+◌, ◌%◌, ◌<◌}
-use Rattle.kahn_desk.specs.inner.Turn.{IsSeatOf}
+use Rattle.kahn_board.specs.inner.Turn.{IsSeatOf}
 use Rattle.kahn_crew.specs.inner.Turns.{SitsWith, WasNotReady}
 use Rattle.kahn_crew.proofs.pick.pick_any.Given as goal
 

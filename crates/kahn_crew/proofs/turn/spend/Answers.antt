@@ -2,7 +2,7 @@ use Rattle.std.proofs.Common.{sym, ◌∙◌, subst, ℕ, Some}
 use Rattle.kahn_network.specs.Wiring.{IsWellWired}
 use Rattle.kahn_board.specs.Dealt.{wired}
 use Rattle.kahn_board.specs.declared.view.View.{View}
-use Rattle.kahn_desk.specs.inner.Turn.{IsBetween, Knows}
+use Rattle.kahn_board.specs.inner.Turn.{IsBetween, Knows}
 use Rattle.kahn_crew.specs.inner.Rests.{IsDue}
 use Rattle.kahn_crew.specs.inner.Tasks.{Tasked}
 use Rattle.kahn_crew.specs.inner.Turns.{IsTaskIn, terms_of}

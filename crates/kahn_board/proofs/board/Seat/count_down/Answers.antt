@@ -1,17 +1,16 @@
 use Rattle.std.proofs.Common.{rules, arith, refl}
-use Rattle.kahn_board.specs.Dealt.{belongs, dealt, holds, wired}
+use Rattle.kahn_board.specs.Dealt.{holds}
 use Rattle.kahn_board.proofs.Hot.{counts_down}
 use Rattle.kahn_board.proofs.Turns.{was_at}
-use Rattle.kahn_board.proofs.Seats.{fit}
+use Rattle.kahn_board.proofs.Placed.{placed}
 use Rattle.kahn_board.proofs.board.Seat.count_down.Goals as goal
 
 pub fetch_sub-requires : goal.fetch_sub-requires
-fetch_sub-requires g c = let b = c.args.board.now in let told = g.T.Told.told in let k = b.table.shared.key in let own = belongs g.T.Told.after k in let w = wired k in let d = dealt told k in
-    let me = c.args.self.now in let f = fit told w me.seat.me me.seat.table_id _ me.held.items _ b.instances b.channels me.facts c.requires.board b.sized b.counts in (
-      search rules,
-      omega (arith, b.sized.0),
-      counts_down told own w d _ _ _ _ f (omega (arith, b.counts.0, b.counts.1)) c.requires.owes,
-    )
+fetch_sub-requires g c = let b = c.args.board.now in (
+  search rules,
+  omega (arith, b.sized.0),
+  counts_down _ _ _ _ _ _ _ _ (placed g.T.Told.told b c.args.self.now c.requires.board) (omega (arith, b.counts.0, b.counts.1)) c.requires.owes,
+)
 
 pub returns : goal.returns
 returns g c = let b = c.args.board.now in let rule = holds g.T.Told.told g.T.Told.after b.table.shared.key in let e = c.fetch_sub.ensures in

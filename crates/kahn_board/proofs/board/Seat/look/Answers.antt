@@ -1,44 +1,37 @@
-use Rattle.std.proofs.Common.{rules, ◌≡◌, refl, arith, ap, ◌∙◌}
-use Rattle.kahn_board.specs.Dealt.{belongs, dealt, holds, wired}
+use Rattle.std.proofs.Common.{rules, ◌≡◌, refl, sym, arith, ap, ◌∙◌}
+use Rattle.kahn_board.specs.Dealt.{holds}
 use Rattle.kahn_board.specs.Plays.{noted_view}
-use Rattle.kahn_board.proofs.Hot.{looks_halted, looks_count, looks_budget, not_two, still_fit}
+use Rattle.kahn_board.proofs.Hot.{looks_halted, looks_count, looks_budget}
 use Rattle.kahn_board.proofs.Turns.{was_at}
-use Rattle.kahn_board.proofs.Seats.{fit}
+use Rattle.kahn_board.proofs.Placed.{placed, noted}
 use Rattle.kahn_board.proofs.board.Seat.look.Goals as goal
 
 pub load-requires : goal.load-requires
-load-requires g c = let b = c.args.board.now in let told = g.T.Told.told in let k = b.table.shared.key in let own = belongs g.T.Told.after k in let w = wired k in let d = dealt told k in
-    let me = c.args.self.now in let f = fit told w me.seat.me me.seat.table_id _ me.held.items _ b.instances b.channels me.facts c.requires.board b.sized b.counts in (
-      search rules,
-      omega (arith, b.sized.0),
-      looks_halted told own w d _ _ _ _ f (omega (arith, b.counts.0, b.counts.1)),
-    )
+load-requires g c = let b = c.args.board.now in (
+  search rules,
+  omega (arith, b.sized.0),
+  looks_halted _ _ _ _ _ _ _ _ (placed g.T.Told.told b c.args.self.now c.requires.board) (omega (arith, b.counts.0, b.counts.1)),
+)
 
 pub load-requires-2 : goal.load-requires-2
-load-requires-2 g c = let b = c.args.board.now in let told = g.T.Told.told in let k = b.table.shared.key in let own = belongs g.T.Told.after k in let w = wired k in let d = dealt told k in
-    let me = c.args.self.now in let f = fit told w me.seat.me me.seat.table_id _ me.held.items _ b.instances b.channels me.facts c.requires.board b.sized b.counts in let e = c.load.ensures in let z = e.2.0.1 c.if-load-ne0.false in
-    let f' = still_fit told own w d me.seat.me c.load.new.seat.me (noted_view me.seat.me.0 c.load.result) z.1 refl refl refl refl f in (
-      search rules,
-      omega (arith, b.sized.0),
-      looks_count told own w d _ _ _ _ f' (not_two told own w d me.seat.me c.load.new.seat.me c.load.result z.1 z.0) (omega (arith, b.counts.0, b.counts.1)),
-    )
+load-requires-2 g c = let b = c.args.board.now in let z = c.load.ensures.2.0.1 c.if-load-ne0.false in (
+  search rules,
+  omega (arith, b.sized.0),
+  looks_count _ _ _ _ _ _ _ _ (noted g.T.Told.told _ _ _ z.1 (placed _ b c.args.self.now c.requires.board)) (λ two. z.0 (ap (λ k. k.0.seen) (sym z.1) ∙ two)) (omega (arith, b.counts.0, b.counts.1)),
+)
 
 pub load-requires-3 : goal.load-requires-3
-load-requires-3 g c = let b = c.args.board.now in let told = g.T.Told.told in let k = b.table.shared.key in let own = belongs g.T.Told.after k in let w = wired k in let d = dealt told k in
-    let me = c.args.self.now in let f = fit told w me.seat.me me.seat.table_id _ me.held.items _ b.instances b.channels me.facts c.requires.board b.sized b.counts in let e = c.load.ensures in let z = e.2.0.1 c.if-load-ne0.false in
-    let f' = still_fit told own w d me.seat.me c.load.new.seat.me (noted_view me.seat.me.0 c.load.result) z.1 refl refl refl refl f in
-    let e' = c.load-2.ensures in let z' = e'.2.0.1 c.if-load-eq0.false in
-    let f'' = still_fit told own w d c.load.new.seat.me c.load-2.new.seat.me (noted_view c.load.new.seat.me.0 c.load-2.result) z'.1 refl refl refl refl f' in (
-      search rules,
-      omega (arith, b.sized.0),
-      looks_budget told own w d _ _ _ _ f'' (omega (arith, b.counts.0, b.counts.1)),
-    )
+load-requires-3 g c = let b = c.args.board.now in let z = c.load.ensures.2.0.1 c.if-load-ne0.false in let z' = c.load-2.ensures.2.0.1 c.if-load-eq0.false in (
+  search rules,
+  omega (arith, b.sized.0),
+  looks_budget _ _ _ _ _ _ _ _ (noted g.T.Told.told _ _ _ z'.1 (noted _ _ _ _ z.1 (placed _ b c.args.self.now c.requires.board))) (omega (arith, b.counts.0, b.counts.1)),
+)
 
 pub returns-else-load-eq0-2 : goal.returns-else-load-eq0-2
 returns-else-load-eq0-2 g c = let b = c.args.board.now in let rule = holds g.T.Told.told g.T.Told.after b.table.shared.key in let m = c.args.self.now.seat in let none = c.if-load-ne0.false in
     let e = c.load.ensures in let e' = c.load-2.ensures in let e'' = c.load-3.ensures in let z = e.2.0.1 none in let z' = e'.2.0.1 c.if-load-eq0.false in
-    let one : c.load.new.seat.me ≡ (noted_view m.me.0 0, m.me.1) = z.1 ∙ ap (λ k. (noted_view m.me.0 k, m.me.1)) none in
-    let two : c.load-2.new.seat.me ≡ (noted_view (noted_view m.me.0 0) c.load-2.result, m.me.1) = z'.1 ∙ ap (λ k. (noted_view k.0 c.load-2.result, k.1)) one in (
+    let one : c.load.new.seat.me ≡ (noted_view m.me.0, m.me.1) = z.1 in
+    let two : c.load-2.new.seat.me ≡ (noted_view (noted_view m.me.0), m.me.1) = z'.1 ∙ ap (λ k. (noted_view k.0, k.1)) one in (
       (e''.0 ∙ (e'.0 ∙ e.0), e''.1 ∙ (e'.1 ∙ e.1)),
       z.0,
       (λ is. z'.0 (ap (λ k. k.0.seen) one ∙ is)),
@@ -50,6 +43,6 @@ returns-else-load-eq0-2 g c = let b = c.args.board.now in let rule = holds g.T.T
         c.if-load-eq0-2.false,
         was_at rule _ _ _ _ _ _ _ _ e.1 (ap (λ k. k.0) one) (omega (arith, b.counts.0, b.counts.1)) refl e'.2.1,
         was_at rule _ _ _ _ _ _ _ _ (e'.1 ∙ e.1) (ap (λ k. k.0) two) (omega (arith, b.counts.0, b.counts.1)) refl e''.2.1,
-        e''.2.0.1 c.if-load-eq0-2.false ∙ ap (λ k. (noted_view k.0 c.load-3.result, k.1)) two,
+        e''.2.0.1 c.if-load-eq0-2.false ∙ ap (λ k. (noted_view k.0, k.1)) two,
       ),
     )

@@ -1,21 +1,21 @@
 use Rattle.std.proofs.Common.{rules, Some, ◌≡◌, ap, refl, arith, ◌%◌, ◌∙◌}
-use Rattle.kahn_board.specs.Dealt.{belongs, dealt, wired}
+use Rattle.kahn_board.specs.Dealt.{belongs, wired}
 use Rattle.kahn_board.proofs.Owed.{publishes_at}
 use Rattle.kahn_board.proofs.Returns.{woke}
 use Rattle.kahn_board.proofs.Wired.{reader_in, writer_in}
-use Rattle.kahn_board.proofs.Seats.{fit, room_for, facts_took, facts_waking}
+use Rattle.kahn_board.proofs.Placed.{placed}
+use Rattle.kahn_board.proofs.Seats.{room_for, facts_took, facts_waking}
 use Rattle.kahn_board.specs.Plays.{waking}
 use Rattle.atomic_table.specs.Seated.{TableId}
 use Rattle.kahn_board.proofs.board.Seat.publish.Goals as goal
 
 pub swap-found-requires : goal.swap-found-requires
-swap-found-requires g c = let b = c.args.board.now in let told = g.T.Told.told in let k = b.table.shared.key in let own = belongs g.T.Told.after k in let w = wired k in let d = dealt told k in let t = c.requires.writer in
-    let writer = t.2 in (
-      search rules,
-      omega (arith, t.0, b.sized.0),
-      publishes_at told own w d _ _ _ c.args.channel _ _ writer.0 c.args.count _ (fit told w _ _ _ _ _ b.instances b.channels c.args.self.now.facts c.requires.board b.sized b.counts) (omega (arith, b.counts.0)) (omega (arith, b.counts.0)) (omega (arith, t.0, b.counts.1)) writer.1
-          (writer_in k.network.value _ _ writer.1) writer.2 (reader_in k.network.value c.args.channel) (omega (arith, b.counts.0)),
-    )
+swap-found-requires g c = let b = c.args.board.now in let k = b.table.shared.key in let t = c.requires.writer in let writer = t.2 in (
+  search rules,
+  omega (arith, t.0, b.sized.0),
+  publishes_at _ _ _ _ _ _ _ c.args.channel _ _ writer.0 c.args.count _ (placed g.T.Told.told b c.args.self.now c.requires.board) (omega (arith, b.counts.0)) (omega (arith, b.counts.0)) (omega (arith, t.0, b.counts.1)) writer.1
+      (writer_in k.network.value _ _ writer.1) writer.2 (reader_in k.network.value c.args.channel) (omega (arith, b.counts.0)),
+)
 
 pub reader-reader-requires : goal.reader-reader-requires
 reader-reader-requires g c = let b = c.args.board.now in let k = b.table.shared.key in let t = c.requires.writer in
@@ -32,7 +32,7 @@ invariant_of-self-2 g c = let b = c.args.board.now in let k = b.table.shared.key
     let reads : w.reader c.args.channel ≡ Some c.reader-reader.result = c.reader-reader.ensures in
     let t = woke told own w _ me.seat.me c.swap-found.new.seat.me _ c.args.channel c.swap-found.result c.reader-reader.result c.args.count (omega (arith, b.counts.0)) f.2 odd refl reads in
     let inside = reader_in k.network.value c.args.channel c.reader-reader.result reads in record {
-      facts = facts_took told own w (waking me.seat.me.0 c.args.channel c.args.count c.reader-reader.result t.0, me.seat.me.1) c.swap-found.new.seat.me me.seat.table_id _ me.held.items _ _ _ _ _ t.1
+      facts = facts_took told own w (waking me.seat.me.0 c.args.channel c.args.count c.reader-reader.result t.0, me.seat.me.1) c.swap-found.new.seat.me me.seat.table_id _ me.held.items _ _ _ _ t.1
           (facts_waking told w me.seat.me me.seat.table_id me.held.items _ c.args.channel c.args.count c.reader-reader.result t.0 me.facts) f.0 t.4 c.push_front_reserved.ensures.items c.push_front_reserved.ensures.capacity
           (omega (arith, inside, b.counts.0, b.sized.1, ap (λ (z : TableId). z.slots) c.requires.board));
     }

@@ -1,0 +1,29 @@
+use Rattle.std.proofs.Common.{refl, ap, ◌∙◌}
+use Rattle.kahn_board.specs.Dealt.{belongs, holds, wired}
+use Rattle.kahn_board.specs.Plays.{gave, paid_down}
+use Rattle.kahn_board.proofs.Turns.{was_at}
+use Rattle.kahn_board.proofs.Kept.{kept_turn, kept_fits}
+use Rattle.kahn_board.proofs.turn.rest_dry.Goals as goal
+
+pub rest_ready-requires-clause-holds : goal.rest_ready-requires-clause-holds
+rest_ready-requires-clause-holds g c = let k = c.args.board.now.table.shared.key in let h = c.requires.holds in let e = c.if-not-park.ensures.1 refl in let m = c.args.seat.now.seat.me in let n = c.park.new.self.seat.me in (
+  h.0,
+  h.1,
+  h.2,
+  kept_turn _ _ _ _ m n e.1.3 e.2 h.3,
+  kept_fits g.T.Told.told (belongs g.T.Told.after k) (wired k) _ _ m n e.1.3 h.4,
+  tt,
+)
+
+pub returns-then-not-park-clause-late : goal.returns-then-not-park-clause-late
+returns-then-not-park-clause-late g c = λ _.
+    let e = c.if-not-park.ensures.1 refl in
+    let k = e.1 in
+    (k.0, k.1, k.2, λ y had. c.rest_ready.ensures.ready y (e.2 c.args.p _ had) ∙ ap (λ v. gave v c.args.p (g.T.Told.told y) 0) k.3)
+
+pub returns-clause-parked : goal.returns-clause-parked
+returns-clause-parked g c = λ _ y had.
+    let up = c.if-not-park.ensures.0 refl in
+    let e = up.1 y had in
+    let d = c.count_down.ensures.1 in
+    (d.0, was_at (holds g.T.Told.told g.T.Told.after c.args.board.now.table.shared.key) _ _ _ _ _ _ _ _ up.0.1 e refl refl d.1, ap (λ m. m.0) d.2 ∙ ap paid_down e)

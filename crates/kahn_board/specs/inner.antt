@@ -1,0 +1,4 @@
+pub mod Drawn
+pub mod First
+pub mod Shared
+pub mod Turn

@@ -1,0 +1,205 @@
+//! A worker's turn: its calls on the board in their order, from the pick of an instance until it is set down.
+
+ghost use Rattle.std.specs.Prelude.{◌≡◌, ◌≢◌, ℕ, ◌+◌, ◌-◌, ◌*◌, ◌^◌, ◌<◌, ◌≤◌, slice_index, true, false, Option, Some, None, IfSome, IfNone};
+ghost use Rattle.kahn_board.specs.Dealt.{wired};
+ghost use Rattle.kahn_board.specs.Tale.{TellsEnd, TellsWait};
+ghost use Rattle.kahn_board.specs.Calls.{Was, Looks, LooksAt, Uses, GivesBack};
+ghost use Rattle.kahn_board.specs.declared.board.Look.{Look};
+ghost use Rattle.kahn_board.specs.declared.board.Look.TheVariants.{Go};
+ghost use Rattle.kahn_board.specs.inner.Drawn.{DrawsAgain, FitsDraw, drawn_of};
+ghost use Rattle.kahn_board.specs.inner.Turn.{BeginsTurn, EndsTurn, IsBetween, IsBetweenTurns, IsSeatOf, HasHalted, HoldsInTurn, Knows, HasPublished, SetsLate, SetsReady, SetsStill};
+
+use crate::board::{Board, Draw, Look, Rest, Seat};
+use crate::rule::Told;
+
+// How often it draws at most, where another worker comes between.
+const DRAWS: usize = 64;
+
+/// Whether the instance is ready. False where it wasn't at a moment of the call.
+pub fn looks_ready<T: Told>(seat: &mut Seat<T>, board: &Board<T>, p: usize) -> bool
+    requires board { seat.old.seat.table_id ≡ board.now.table.shared.table_id }
+    requires inside { p < board.now.instances }
+    ensures same { IsSeatOf seat.old seat.new }
+    ensures rests { (n : ℕ) → IsBetween n seat.old → IsBetween n seat.new }
+    ensures looks { LooksAt T.told T.after board.now.table.shared.key seat.old seat.new p result }
+{
+    seat.looks_ready(board, p)
+}
+
+/// Takes the instance, where it is ready, for what is left of a draw. False where it is not, since another worker has it,
+/// or it waits, or it is over: its word was not 0 then.
+pub fn pick<T: Told>(seat: &mut Seat<T>, board: &Board<T>, p: usize) -> bool
+    requires board { seat.old.seat.table_id ≡ board.now.table.shared.table_id }
+    requires rests { (n : ℕ) × IsBetween n seat.old }
+    requires inside { p < board.now.instances }
+    ensures same { IsSeatOf seat.old seat.new }
+    ensures picked { result ≡ true → (n : ℕ) → IsBetween n seat.old → BeginsTurn T.told T.after board.now.table.shared.key p n seat.new }
+    ensures few { result ≡ true → slice_index seat.new.seat.me.0.got p + seat.new.seat.me.0.drawn < 2 ^ 48 }
+    ensures missed { result ≡ false → (n : ℕ) → IsBetween n seat.old → IsBetween n seat.new }
+    ensures late { result ≡ false → (r : ℕ) × (r ≢ 0) × Was T.told T.after board.now.table.shared.key seat.old seat.old.seat.me.0 (8 * p) r }
+{
+    seat.claim(board, p).is_some()
+}
+
+/// Draws events from the budget, again where another worker comes between: the smaller of `quantum` and the budget at that
+/// moment. `Empty` where the budget was 0, `Lost` where another worker came between 64 times.
+pub fn draw_some<T: Told>(seat: &mut Seat<T>, board: &Board<T>, p: usize, quantum: u64) -> Draw
+    requires board { seat.old.seat.table_id ≡ board.now.table.shared.table_id }
+    requires holds { (x : Option T) × HoldsInTurn p 0 0 x seat.old }
+    requires some { 0 < quantum }
+    ensures same { IsSeatOf seat.old seat.new }
+    ensures knows { Knows (wired board.now.table.shared.key) p seat.old.seat.me.0 seat.new.seat.me.0 }
+    ensures draws { DrawsAgain T.told T.after board.now.table.shared.key 64 quantum seat.old seat.new result }
+    ensures fits { FitsDraw quantum (slice_index seat.new.seat.me.0.got p) result }
+    ensures drawn { (x : Option T) → HoldsInTurn p 0 0 x seat.old → HoldsInTurn p (drawn_of result) 0 x seat.new }
+{
+    for _ in 1..DRAWS {
+        match seat.draw(board, quantum) {
+            Draw::Got(n) => return Draw::Got(n),
+            Draw::Empty => return Draw::Empty,
+            Draw::Lost => {}
+        }
+    }
+    seat.draw(board, quantum)
+}
+
+/// Moves the cell out of its slot.
+pub fn take_cell<T: Told>(seat: &mut Seat<T>, board: &Board<T>, p: usize) -> T
+    requires board { seat.old.seat.table_id ≡ board.now.table.shared.table_id }
+    requires holds { (n : ℕ) × (l : ℕ) × (y : T) × HoldsInTurn p n l (Some y) seat.old }
+    ensures same { IsSeatOf seat.old seat.new × (seat.new.seat.me.0 ≡ seat.old.seat.me.0) }
+    ensures holds { (n l : ℕ) (y : T) → HoldsInTurn p n l (Some y) seat.old → HoldsInTurn p n l None seat.new }
+    ensures cell { (n l : ℕ) (y : T) → HoldsInTurn p n l (Some y) seat.old → y ≡ result }
+{
+    seat.cell(board, p)
+}
+
+/// Puts the cell into its slot.
+pub fn put<T: Told>(seat: &mut Seat<T>, board: &Board<T>, p: usize, cell: T)
+    requires board { seat.old.seat.table_id ≡ board.now.table.shared.table_id }
+    requires holds { (n : ℕ) × (l : ℕ) × HoldsInTurn p n l None seat.old }
+    ensures same { IsSeatOf seat.old seat.new × (seat.new.seat.me.0 ≡ seat.old.seat.me.0) }
+    ensures holds { (n l : ℕ) → HoldsInTurn p n l None seat.old → HoldsInTurn p n l (Some cell) seat.new }
+{
+    seat.put_back(board, p, cell);
+}
+
+/// So many tokens of the channel are published. Answers the reader where it waited on the channel: it is ready again.
+/// `None` where the one step was all there was to do.
+pub fn tell<T: Told>(
+    seat: &mut Seat<T>,
+    board: &Board<T>,
+    p: usize,
+    channel: usize,
+    count: u64,
+) -> Option<usize>
+    requires board { seat.old.seat.table_id ≡ board.now.table.shared.table_id }
+    requires holds { (n : ℕ) × (l : ℕ) × (x : Option T) × HoldsInTurn p n l x seat.old }
+    requires writes { (channel < board.now.channels) × ((wired board.now.table.shared.key).writer channel ≡ Some p) × (count < 2 ^ 48) }
+    ensures same { IsSeatOf seat.old seat.new }
+    ensures holds { (n l : ℕ) (x : Option T) → HoldsInTurn p n l x seat.old → HoldsInTurn p n l x seat.new }
+    ensures tells { HasPublished (wired board.now.table.shared.key) p channel count seat.old.seat.me.0 seat.new.seat.me.0 }
+    ensures woken { IfSome result (λ r. (r < board.now.instances) × ((wired board.now.table.shared.key).reader channel ≡ Some r)) }
+    ensures alone { IfNone result (seat.new.seat.me.0.steps ≡ seat.old.seat.me.0.steps + 1) }
+{
+    let reader = seat.publish(board, channel, count)?;
+    seat.count_up(board);
+    seat.set_down(board, reader, Rest::Ready);
+    Some(reader)
+}
+
+/// The run is to stop: each worker leaves after its turn.
+pub fn stop<T: Told>(seat: &mut Seat<T>, board: &Board<T>)
+    requires { seat.old.seat.table_id ≡ board.now.table.shared.table_id }
+    ensures same { HasHalted seat.old seat.new }
+    ensures holds { (p n l : ℕ) (x : Option T) → HoldsInTurn p n l x seat.old → HoldsInTurn p n l x seat.new }
+    ensures idle { IsBetweenTurns seat.old → IsBetweenTurns seat.new }
+    ensures rests { (n : ℕ) → IsBetween n seat.old → IsBetween n seat.new }
+    ensures halted { (seat.new.seat.me.0.seen ≡ 2) × (seat.new.seat.me.0.flushed ≡ seat.old.seat.me.0.flushed) × (seat.new.seat.me.0.got ≡ seat.old.seat.me.0.got) }
+{
+    seat.halt(board);
+}
+
+/// So many events of the draw were done. The others may still be done.
+pub fn tell_done<T: Told>(seat: &mut Seat<T>, board: &Board<T>, p: usize, done: u64)
+    requires board { seat.old.seat.table_id ≡ board.now.table.shared.table_id }
+    requires holds { (n : ℕ) × (x : Option T) × HoldsInTurn p n 0 x seat.old × (done ≤ n) }
+    ensures same { IsSeatOf seat.old seat.new }
+    ensures knows { Knows (wired board.now.table.shared.key) p seat.old.seat.me.0 seat.new.seat.me.0 }
+    ensures holds { (n : ℕ) (x : Option T) → HoldsInTurn p n 0 x seat.old → HoldsInTurn p (n - done) done x seat.new }
+    ensures used { Uses seat.old seat.new done }
+{
+    seat.spend(board, done);
+}
+
+/// What is left of the draw is not done.
+pub fn give<T: Told>(seat: &mut Seat<T>, board: &Board<T>, undone: u64)
+    requires board { seat.old.seat.table_id ≡ board.now.table.shared.table_id }
+    requires rests { IsBetween undone seat.old }
+    ensures same { IsSeatOf seat.old seat.new }
+    ensures idle { IsBetweenTurns seat.new }
+    ensures back { GivesBack seat.old seat.new undone }
+{
+    seat.give_back(board, undone);
+}
+
+/// The instance is ready for another turn.
+pub fn rest_ready<T: Told>(seat: &mut Seat<T>, board: &Board<T>, p: usize)
+    requires board { seat.old.seat.table_id ≡ board.now.table.shared.table_id }
+    requires holds { EndsTurn T.told T.after board.now.table.shared.key p (λ y. Unit {0}) seat.old }
+    ensures same { IsSeatOf seat.old seat.new }
+    ensures rests { IsBetween seat.old.seat.me.0.drawn seat.new }
+    ensures ready { SetsReady T.told seat.old seat.old.seat.me.0 seat.new p }
+{
+    seat.set_down(board, p, Rest::Ready);
+}
+
+/// The instance has ended.
+pub fn rest_over<T: Told>(seat: &mut Seat<T>, board: &Board<T>, p: usize)
+    requires board { seat.old.seat.table_id ≡ board.now.table.shared.table_id }
+    requires holds { EndsTurn T.told T.after board.now.table.shared.key p (λ y. TellsEnd (T.told y)) seat.old }
+    ensures same { IsSeatOf seat.old seat.new }
+    ensures rests { IsBetween seat.old.seat.me.0.drawn seat.new }
+    ensures over { SetsStill T.told T.after board.now.table.shared.key seat.old seat.new p }
+{
+    seat.set_down(board, p, Rest::Over);
+    seat.count_down(board);
+}
+
+/// The instance waits on the channel, of which it took so many tokens. False where another number was published: then it
+/// is ready for another turn.
+pub fn rest_dry<T: Told>(
+    seat: &mut Seat<T>,
+    board: &Board<T>,
+    p: usize,
+    channel: usize,
+    taken: u64,
+) -> bool
+    requires board { seat.old.seat.table_id ≡ board.now.table.shared.table_id }
+    requires reads { (channel < board.now.channels) × ((wired board.now.table.shared.key).reader channel ≡ Some p) × (taken < 2 ^ 48) }
+    requires holds { EndsTurn T.told T.after board.now.table.shared.key p (λ y. TellsWait (T.told y) channel taken) seat.old }
+    ensures same { IsSeatOf seat.old seat.new }
+    ensures rests { IsBetween seat.old.seat.me.0.drawn seat.new }
+    ensures parked { result ≡ true → SetsStill T.told T.after board.now.table.shared.key seat.old seat.new p }
+    ensures late { result ≡ false → SetsLate T.told T.after board.now.table.shared.key channel taken seat.old seat.new p }
+{
+    if !seat.park(board, p, channel, taken) {
+        rest_ready(seat, board, p);
+        return false;
+    }
+    seat.count_down(board);
+    true
+}
+
+/// Whether another turn comes. False where it saw that the run is halted, that no instance can go on, or that the budget
+/// is empty: then it has left.
+pub fn go_on<T: Told>(seat: &mut Seat<T>, board: &Board<T>) -> bool
+    requires board { seat.old.seat.table_id ≡ board.now.table.shared.table_id }
+    requires idle { IsBetweenTurns seat.old }
+    ensures same { IsSeatOf seat.old seat.new }
+    ensures idle { IsBetweenTurns seat.new }
+    ensures goes { result ≡ true → Looks T.told T.after board.now.table.shared.key seat.old seat.new Go }
+    ensures left { result ≡ false → (seat.new.seat.me.0.stage ≡ 1) × ((k : Look) × (k ≢ Go) × Looks T.told T.after board.now.table.shared.key seat.old seat.new k) }
+{
+    matches!(seat.look(board), Look::Go)
+}

@@ -1,3 +1,0 @@
-pub mod Crew
-pub mod Drawn
-pub mod Turn
