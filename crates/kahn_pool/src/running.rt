@@ -21,7 +21,7 @@ use kahn_network::Network;
 use kahn_streams::{Input, channel_named};
 use std::alloc::Global;
 use std::sync::Wait;
-use std::thread::Threads;
+use std::thread::{Threads, available_parallelism};
 
 // How many events a process may do before the next one while a run of several workers is on one thread, whatever their quantum is: a
 // round of all comes soon to an end, so that it is seen whether there is work for them.
@@ -29,6 +29,14 @@ fn first_quantum(instances: usize) -> u64
     ensures { 0 < result }
 {
     (30_000 / instances.max(1) as u64).max(100).min(1000)
+}
+
+// How many threads may run side by side, where the system tells.
+fn processors<R: Threads>(rt: &R) -> usize {
+    match available_parallelism(rt) {
+        Ok(count) => count.get(),
+        Err(_) => usize::MAX,
+    }
 }
 
 // The channel that is to be watched.
@@ -45,8 +53,8 @@ pub(crate) fn watched(network: &Network, name: &Option<String>) -> Result<Option
 }
 
 // Runs a network by several workers where the gate is open: at first on the caller's thread alone, over plain queues. Where
-// there is work for several, the run begins anew with all workers, of which nobody sees anything; where memory is refused for
-// them it is made to the end alone.
+// there is work for several, the run begins anew with as many workers as may run side by side, of which nobody sees anything;
+// where that is one, or memory is refused for them, it is made to the end alone.
 fn run_first<R: Threads + Wait + Sync, G: Gate + Sync>(
     rt: &R,
     alloc: Global,
@@ -67,7 +75,10 @@ fn run_first<R: Threads + Wait + Sync, G: Gate + Sync>(
     if let Some(answer) = first {
         return Ok(answer);
     }
-    let crew = crew_plan(plan, network.instances());
+    let crew = crew_plan(plan, network.instances().min(processors(rt)));
+    if crew.workers == 1 {
+        return Ok(run_watched(alloc, gate, network, input, watch, quantum, bound)?);
+    }
     match run_workers(rt, alloc, network, input, crew, gate) {
         Err(RunFault::NoMemory) => Ok(run_watched(
             alloc, gate, network, input, watch, quantum, bound,
@@ -86,7 +97,7 @@ fn run_first<R: Threads + Wait + Sync, G: Gate + Sync>(
 /// with `NoThread` where a thread couldn't be started, which one worker never takes: it has the caller's thread, where it
 /// runs one process after another over plain queues. Of several each other one has a thread of its own. Where the gate is
 /// open several begin as one does, and start threads only once there is work for two, for as many workers as there are
-/// instances at most. Memory that is refused later stops the run: its answer has the verdict `Memory`, by one worker only where
+/// instances and processors at most. Memory that is refused later stops the run: its answer has the verdict `Memory`, by one worker only where
 /// an instance has a next event and the bound isn't used up. Before each quantum of an instance a gate that isn't open is
 /// entered.
 pub fn run<R: Threads + Wait + Sync, G: Gate + Sync>(
