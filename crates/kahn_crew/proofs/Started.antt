@@ -1,5 +1,5 @@
 -- The first tasks, and the board that is made of them.
-use Rattle.std.proofs.Common.{arith, ◌≡◌, ℕ, zero, suc, ◌+◌, ◌<◌, ◌≤◌, ◌^◌, List, [], ◌∷◌, ◌++◌, length, map, replicate, reverse, refl, sym, ap, ◌∙◌, subst, false, Option, Some, None, slice_get, slice_index, slice_index_or}
+use Rattle.std.proofs.Common.{arith, ◌≡◌, ℕ, zero, suc, ◌+◌, ◌<◌, ◌≤◌, ◌^◌, List, [], ◌∷◌, ◌++◌, length, map, reverse, refl, sym, ap, ◌∙◌, subst, true, false, Option, Some, None, slice_get, slice_index, slice_index_or}
 use mathlib.Core.Option.{some, some-injective, some-ne-none}
 use lib.ListN.{get_elem?}
 use Rattle.std.proofs.lemmas.List.{append_assoc, append-nil, length-map, map-append, reverse-append, reverse-reverse}
@@ -16,19 +16,22 @@ use Rattle.kahn_code.specs.Cells.{is_output}
 use Rattle.kahn_code.specs.Lines.{Joins}
 use Rattle.kahn_code.specs.Standing.{count}
 use Rattle.kahn_code.specs.Told.{AreCounts}
-use Rattle.kahn_job.specs.inner.Berths.{end_at}
-use Rattle.kahn_job.specs.inner.Ends.{ShareLane}
-use Rattle.kahn_job.specs.inner.Openings.{AreOpening, IsOpening}
-use Rattle.kahn_job.specs.inner.Works.{Work}
+use Rattle.kahn_job.specs.inner.Berths.{Serves, end_at}
+use Rattle.kahn_job.specs.inner.Idles.{AreIdle, CanGoOn, HaveSettled, rows_of}
+use Rattle.kahn_job.specs.inner.Lanes.{AreJoinedOn}
+use Rattle.kahn_job.specs.inner.Openings.{AreOpening}
+use Rattle.kahn_job.specs.inner.Works.{IsDelivered, Work}
+use Rattle.kahn_job.proofs.Idles.{idle_goes_on, row_there}
+use Rattle.kahn_job.proofs.Settles.{stood_same}
 use Rattle.kahn_board.specs.Dealt.{events_told}
 use Rattle.kahn_board.specs.Opening.{Opens}
 use Rattle.kahn_board.specs.Rule.{view}
 use Rattle.kahn_board.specs.Wires.{wires}
 use Rattle.kahn_board.specs.declared.rule.Terms.{Terms}
 use Rattle.kahn_board.specs.declared.view.View.{View}
-use Rattle.kahn_crew.specs.inner.Begins.{AreReadyTasks, HasBegun, IsNumber, IsReadyTask, ready_task}
+use Rattle.kahn_crew.specs.inner.Begins.{AreReadyTasks, HasBegun, IsNumber, IsReadyTask, woken_task}
 use Rattle.kahn_crew.specs.inner.Lent.{FitTogether}
-use Rattle.kahn_crew.specs.inner.Tasks.{AgreesWith, IsLater, IsPublished, Tasked, told_tale}
+use Rattle.kahn_crew.specs.inner.Tasks.{AgreesWith, IsLater, IsPublished, Tasked, task_rows, told_tale}
 use Rattle.kahn_crew.proofs.Found.{none_some, some_same}
 use Rattle.kahn_crew.proofs.Publishing.{handed_is}
 use Rattle.kahn_crew.proofs.Resting.{flushed_all, instances_of, continues_here, published_is}
@@ -109,14 +112,9 @@ module _ (task : Work → Tasked) where
 
 -- ---- what is told at the opening
 
-zero_at : (n o : ℕ) → count (replicate n 0) o ≡ 0
-zero_at zero o = refl
-zero_at (suc n) zero = refl
-zero_at (suc n) (suc o) = zero_at n o
-
-pub no_events : (ws : List Work) → ((p : ℕ) (w : Work) → slice_get ws p ≡ Some w → w.cell.events ≡ 0) → events_told told_tale (map ready_task ws) ≡ 0
-no_events [] h = refl
-no_events (w ∷ ws) h = let a : w.cell.events ≡ 0 = h 0 w refl in let b = no_events ws (λ p. h (suc p)) in omega (arith, a, b)
+pub no_events : (lists : Lists) (ws : List Work) → ((p : ℕ) (w : Work) → slice_get ws p ≡ Some w → w.cell.events ≡ 0) → events_told told_tale (map (woken_task lists) ws) ≡ 0
+no_events lists [] h = refl
+no_events lists (w ∷ ws) h = let a : w.cell.events ≡ 0 = h 0 w refl in let b = no_events lists ws (λ p. h (suc p)) in omega (arith, a, b)
 
 -- one did no more than all
 pub at_most_all : (xs : List Tasked) (p : ℕ) (x : Tasked) → slice_get xs p ≡ Some x → x.work.cell.events ≤ events_told told_tale xs
@@ -126,39 +124,55 @@ at_most_all (y ∷ xs) zero x e =
     omega (arith, s)
 at_most_all (y ∷ xs) (suc p) x e = let r : x.work.cell.events ≤ events_told told_tale xs = at_most_all xs p x e in omega (arith, r)
 
-module _ (t : Program) (lists : Lists) (watch : Option ℕ) (jobs : List Work) (tasks : List Tasked) (opened : AreOpening t lists watch jobs) (are : tasks ≡ map ready_task jobs) where
-  job_at : (p : ℕ) (y : Tasked) → slice_get tasks p ≡ Some y → (w : Work) × (slice_get jobs p ≡ Some w) × (y ≡ ready_task w)
-  job_at p y e = mapped_at ready_task jobs p y (subst (λ (l : List Tasked). slice_get l p ≡ Some y) are e)
+-- ---- idle jobs become tasks
 
-  -- nothing was sent or flushed
-  ready_first : (p : ℕ) (w : Work) → slice_get jobs p ≡ Some w → IsReadyTask t lists watch p (ready_task w)
-  ready_first p w e =
-      let o = (opened.each p w e).0 in
-      record {
-        network = o.network;
-        input = o.input;
-        instance = o.instance;
-        watched = o.watched;
-        published = refl;
-        delivered = λ q d h inner. ((opened.each p w e).1 q).1 ∙ sym (ap (λ xs. count xs q) o.sent ∙ zero_at (width_of_opening o) q);
-      }
-    where
-      width_of_opening : IsOpening t lists watch p w.cell → ℕ
-      width_of_opening o = length (instance_at (network_of t) p).actuals
+rows_woken : (lists : Lists) (ws : List Work) → task_rows (map (woken_task lists) ws) ≡ rows_of ws
+rows_woken lists [] = refl
+rows_woken lists (w ∷ ws) = ap (λ rows. w.ends ∷ rows) (rows_woken lists ws)
 
-  pub first_ready : AreReadyTasks t lists watch tasks
-  first_ready = record {
-    count = ap (λ (l : List Tasked). length l) are ∙ length-map jobs ready_task ∙ opened.count;
-    each = λ p y e. let j = job_at p y e in subst (IsReadyTask t lists watch p) (sym j.2) (ready_first p j.0 j.1);
-    joined = λ p r o q d x y e f i k.
-        let a = job_at p x e in
-        let b = job_at r y f in
-        subst (λ (z : Tasked). ShareLane (end_at z.work.ends o) (end_at y.work.ends q)) (sym a.2)
-        (subst (λ (z : Tasked). ShareLane (end_at a.0.ends o) (end_at z.work.ends q)) (sym b.2) (opened.joined p r o q d a.0 b.0 a.1 b.1 i k));
+module _ (t : Program) (lists : Lists) (ws : List Work) (idle : AreIdle t lists ws) (settled : HaveSettled t lists (rows_of ws)) where
+  pub goes_on : (p : ℕ) (w : Work) → slice_get ws p ≡ Some w → CanGoOn t lists w
+  goes_on = idle_goes_on t lists ws idle ws refl (λ p q. stood_same _ _ refl) settled
+
+  writes_there : (w : Work) → CanGoOn t lists w → (q d : ℕ) → actual_at (instance_at (network_of t) w.cell.instance) q ≡ Writes d →
+      is_output (role_at (network_of t) d) ≡ false → (end_at w.ends q).writes ≡ true
+  writes_there w x q d i o = (subst (λ a. Serves t lists a (end_at w.ends q)) i (x.served.each q) o).0
+
+  delivered : (p : ℕ) (w : Work) → slice_get ws p ≡ Some w → IsDelivered w
+  delivered p w e q d i o =
+      let x = goes_on p w e in
+      let is = (idle.each p w e).instance in
+      let at : actual_at (instance_at (network_of t) w.cell.instance) q ≡ Writes d = subst (λ k. actual_at (instance_at (network_of k) w.cell.instance) q ≡ Writes d) x.network i in
+      let inner : is_output (role_at (network_of t) d) ≡ false = subst (λ k. is_output (role_at (network_of k) d) ≡ false) x.network o in
+      let flushed = settled.flushed p q d (subst (λ n. actual_at (instance_at (network_of t) n) q ≡ Writes d) is at) inner in
+      let row : slice_index_or (rows_of ws) p [] ≡ w.ends = row_there ws p w e in
+      subst (λ es. (end_at es q).writes ≡ true → (end_at es q).flushed ≡ (end_at es q).next) row flushed (writes_there w x q d at inner)
+      ∙ x.at.writes q d i o
+
+  pub woken_ready : (watch : Option ℕ) → ((p : ℕ) (w : Work) → slice_get ws p ≡ Some w → w.cell.watch ≡ watch) → AreReadyTasks t lists watch (map (woken_task lists) ws)
+  woken_ready watch watched = record {
+    count = length-map ws (woken_task lists) ∙ idle.count;
+    each = λ p y e. let m = mapped_at (woken_task lists) ws p y e in subst (IsReadyTask t lists watch p) (sym m.2) (ready p m.0 m.1);
+    joined = λ d. subst (λ rows. AreJoinedOn (network_of t) rows d) (sym (rows_woken lists ws)) (settled.joined d);
   }
+    where
+      ready : (p : ℕ) (w : Work) → slice_get ws p ≡ Some w → IsReadyTask t lists watch p (woken_task lists w)
+      ready p w e = record {
+        network = (goes_on p w e).network;
+        input = refl;
+        instance = (idle.each p w e).instance;
+        watched = watched p w e;
+        published = refl;
+        delivered = delivered p w e;
+      }
+
+-- before their first events
+module _ (t : Program) (lists : Lists) (watch : Option ℕ) (ws : List Work) (tasks : List Tasked) (opened : AreOpening t lists watch ws) (are : tasks ≡ map (woken_task lists) ws) where
+  pub first_ready : AreReadyTasks t lists watch tasks
+  first_ready = subst (AreReadyTasks t lists watch) (sym are) (woken_ready t lists ws opened.idle opened.settled watch (λ p w e. (opened.each p w e).watched))
 
   pub first_silent : events_told told_tale tasks ≡ 0
-  first_silent = ap (events_told told_tale) are ∙ no_events jobs (λ p w e. ((opened.each p w e).0).events)
+  first_silent = ap (events_told told_tale) are ∙ no_events lists ws (λ p w e. (opened.each p w e).events)
 
 -- ---- how many tokens are published
 

@@ -1,34 +1,23 @@
 //! How a run begins: its tasks, and the board on which they are.
 
-ghost use Rattle.std.specs.Prelude.{◌≡◌, ℕ, ◌+◌, ◌<◌, ◌^◌, [], length, map, slice_index, IfOk, IfErr};
+ghost use Rattle.std.specs.Prelude.{◌≡◌, ℕ, ◌+◌, ◌<◌, ◌^◌, [], length, slice_index, IfOk, IfErr};
 ghost use Rattle.kahn_network.specs.Network.{network_of};
 ghost use Rattle.kahn_board.specs.Dealt.{events_told};
 ghost use Rattle.kahn_board.specs.Rule.{opening_view};
 ghost use Rattle.kahn_board.specs.Wires.{wires};
-ghost use Rattle.kahn_crew.specs.inner.Begins.{AreNumbersOf, AreReadyTasks, HasBegun, IsNumber, ready_task};
+ghost use Rattle.kahn_crew.specs.inner.Begins.{AreNumbersOf, AreReadyTasks, HasBegun, IsNumber};
 ghost use Rattle.kahn_crew.specs.inner.Tasks.{told_tale};
 
 use crate::boxes::{Boxed, box_all, unbox_all};
 use crate::task::Task;
+use crate::waking::wake_all;
 use kahn_board::{Board, Seat};
 use kahn_code::Code;
-use kahn_job::{Job, jobs};
+use kahn_job::jobs;
 use kahn_network::Network;
 use kahn_streams::{Input, NoMemory};
 use kahn_tree::Role;
 use std::alloc::Global;
-
-// The first tasks of the jobs of all instances.
-fn first_of<'n>(alloc: Global, mut jobs: Vec<Job<'n>>) -> Result<Vec<Task<'n>>, NoMemory>
-    ensures { IfOk result (λ tasks. tasks.items ≡ map ready_task jobs.entry.items) }
-{
-    let mut tasks = Vec::with_capacity(alloc, jobs.len())?;
-    jobs.reverse();
-    while let Some(job) = jobs.pop() {
-        tasks.push(Task::new(alloc, job)?)?;
-    }
-    Ok(tasks)
-}
 
 /// The tasks of all instances before their first events. It refuses only where memory was refused.
 pub fn first_tasks<'n>(
@@ -42,11 +31,9 @@ pub fn first_tasks<'n>(
     ensures ready { IfOk result (λ tasks. AreReadyTasks network.now input.now watch tasks.items) }
     ensures none { IfOk result (λ tasks. events_told told_tale tasks.items ≡ 0) }
 {
-    let Ok(jobs) = jobs(alloc, network, input, code, watch) else {
-        return Err(NoMemory);
-    };
-    let tasks = first_of(alloc, jobs)?;
-    Ok(tasks)
+    let room = Vec::with_capacity(alloc, network.instances())?;
+    let idles = jobs(alloc, network, input, code, watch)?;
+    Ok(wake_all(network, input, idles, room))
 }
 
 // How many tokens of a channel are published at the start.

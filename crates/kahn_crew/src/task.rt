@@ -1,24 +1,21 @@
 //! A task: a job with what the workers have to know of it.
 
-ghost use Rattle.std.specs.Prelude.{◌≡◌, ℕ, ◌+◌, ◌*◌, ◌^◌, ◌<◌, ◌≤◌, true, length, map, slice_set, slice_index_or, IfOk, OnOk};
+ghost use Rattle.std.specs.Prelude.{◌≡◌, ℕ, ◌+◌, ◌*◌, ◌^◌, ◌<◌, ◌≤◌, true, length, slice_set, OnOk};
 ghost use Rattle.kahn_network.specs.Network.{network_of, instance_at};
 ghost use Rattle.kahn_code.specs.Flat.{stmt_code};
 ghost use Rattle.kahn_code.specs.Standing.{count};
 ghost use Rattle.kahn_code.specs.Told.{AreCounts};
-ghost use Rattle.kahn_job.specs.inner.Ends.{MayMeet, Meets};
 ghost use Rattle.kahn_job.specs.inner.Berths.{HaveFlushed, IsWithinInput, end_at};
 ghost use Rattle.kahn_job.specs.inner.Idles.{CanGoOn};
 ghost use Rattle.kahn_job.specs.inner.Works.{HasPaused, IsDelivered, IsJob, width_of};
-ghost use Rattle.kahn_crew.specs.inner.Begins.{ready_task, woken_task};
-ghost use Rattle.kahn_crew.specs.declared.standing.Standing.TheVariants.{Going as IsGoing};
-ghost use Rattle.kahn_crew.specs.inner.Tasks.{Continues, HasMet, IsTrueOf, standing_after};
+ghost use Rattle.kahn_crew.specs.inner.Begins.{woken_task};
+ghost use Rattle.kahn_crew.specs.inner.Tasks.{Continues, IsTrueOf, standing_after};
 
 use crate::standing::Standing;
-use kahn_code::{Code, Kept, Pause, Steps};
+use kahn_code::{Code, Pause, Steps};
 use kahn_job::{Idle, Job};
 use kahn_network::Network;
 use kahn_streams::{Input, NoMemory};
-use std::alloc::Global;
 use std::marker::Model;
 use std::sync::ledger::Ledger;
 
@@ -48,20 +45,7 @@ impl<'n> Model for Task<'n> {
     ghost invariant = { λ t. IsTrueOf t.job t.standing × (length t.published.items ≡ width_of t.job) };
 }
 
-// How many tokens a job sent on each of its parameters.
-fn sent_by(alloc: Global, job: &Job) -> Result<Vec<u64>, NoMemory>
-    ensures { IfOk result (λ v. v.items ≡ job.now.cell.sent) }
-{
-    job.sized();
-    let parameters = job.parameters();
-    let mut sent = Vec::with_capacity(alloc, parameters)?;
-    for parameter in 0..parameters {
-        sent.push_reserved(job.sent(parameter));
-    }
-    Ok(sent)
-}
-
-// The same numbers, written into a list with as many places.
+// How many tokens a job sent on each of its parameters, written into a list with as many places.
 fn sent_into(job: &Job, mut numbers: Vec<u64>) -> Vec<u64>
     requires { length numbers.items ≡ width_of job.now }
     ensures { result.items ≡ job.now.cell.sent }
@@ -74,14 +58,6 @@ fn sent_into(job: &Job, mut numbers: Vec<u64>) -> Vec<u64>
 }
 
 impl<'n> Task<'n> {
-    /// The task of a job whose process may go on. All that it sent counts as published.
-    pub fn new(alloc: Global, job: Job<'n>) -> Result<Task<'n>, NoMemory>
-        ensures { IfOk result (λ t. t ≡ ready_task job.entry) }
-    {
-        let published = sent_by(alloc, &job)?;
-        Ok(Task::going(job, published))
-    }
-
     /// The task of an idle job that goes on with an input for which its ends have settled. All that it sent counts as
     /// published. It takes no memory.
     pub fn woken(idle: Idle, network: &'n Network, input: &'n Input) -> Task<'n>
@@ -90,14 +66,6 @@ impl<'n> Task<'n> {
     {
         let (job, numbers) = idle.wake(network, input);
         let published = sent_into(&job, numbers);
-        Task::going(job, published)
-    }
-
-    // The task of a job whose process may go on, with the number of tokens published by each parameter.
-    fn going(job: Job<'n>, published: Vec<u64>) -> Task<'n>
-        requires { length published.items ≡ width_of job }
-        ensures { result ≡ record { work = job.entry; standing = IsGoing; published = published.items } }
-    {
         Task {
             job,
             standing: Standing::Going,
@@ -207,41 +175,11 @@ impl<'n> Task<'n> {
         self.published[parameter] = number;
     }
 
-    /// With the task of its reader in one thread: how many tokens were flushed on an output and not taken. Both tasks stay
-    /// where they are. It takes no memory.
-    pub fn meet(&mut self, output: usize, reader: &mut Task<'n>, input: usize) -> u64
-        requires { MayMeet (end_at self.old.work.ends output) (end_at reader.old.work.ends input) }
-        ensures writer { HasMet self.old self.new }
-        ensures reader { HasMet reader.old reader.new }
-        ensures met { Meets (end_at self.old.work.ends output) (end_at reader.old.work.ends input) (end_at reader.new.work.ends input) result }
-    {
-        self.job.meet(output, &mut reader.job, input)
-    }
-
-    /// The same, where it reads what it writes.
-    pub fn meet_self(&mut self, output: usize, input: usize) -> u64
-        requires apart { output ≡ input → ⊥ }
-        requires can { MayMeet (end_at self.old.work.ends output) (end_at self.old.work.ends input) }
-        ensures task { HasMet self.old self.new }
-        ensures met { Meets (end_at self.old.work.ends output) (end_at self.old.work.ends input) (end_at self.new.work.ends input) result }
-    {
-        self.job.meet_self(output, input)
-    }
-
     /// Says that of an input channel no more is ready on a parameter than its list has: its contract is what it does.
     pub fn fed(&self, parameter: usize)
         requires { parameter < length self.now.work.ends }
         ensures { IsWithinInput (end_at self.now.work.ends parameter) }
     {
         self.job.fed(parameter);
-    }
-
-    /// What its cell kept, without the task. It takes no memory.
-    pub fn into_lists(self) -> Kept
-        ensures kept { map (λ v. v.items) result.kept.items ≡ self.entry.work.cell.kept }
-        ensures printed { result.printed.items ≡ self.entry.work.cell.printed }
-        ensures parameters { length result.kept.items ≡ width_of self.entry.work }
-    {
-        self.job.into_lists()
     }
 }

@@ -1,9 +1,9 @@
 //! Idle jobs become tasks, and tasks become idle jobs again.
 
-ghost use Rattle.std.specs.Prelude.{◌≡◌, ℕ, ◌≤◌, [], All, Some, length, map, slice_get};
+ghost use Rattle.std.specs.Prelude.{◌≡◌, ◌≤◌, [], All, length, map};
 ghost use Rattle.std.specs.Vec.{vec_capacity};
-ghost use Rattle.kahn_job.specs.inner.Idles.{CanGoOn};
-ghost use Rattle.kahn_job.specs.inner.Works.{IsJob, Work};
+ghost use Rattle.kahn_job.specs.inner.Idles.{AreIdle, HaveSettled, rows_of};
+ghost use Rattle.kahn_job.specs.inner.Works.{IsJob};
 ghost use Rattle.kahn_crew.specs.inner.Begins.{woken_task};
 ghost use Rattle.kahn_crew.specs.inner.Tasks.{work_of};
 
@@ -12,7 +12,7 @@ use kahn_job::Idle;
 use kahn_network::Network;
 use kahn_streams::Input;
 
-/// The tasks of idle jobs that go on with an input. The list that is given has room for all. It takes no memory.
+/// The tasks of idle jobs that go on with an input for which their ends have settled. The list that is given has room for all. It takes no memory.
 pub fn wake_all<'n>(
     network: &'n Network,
     input: &'n Input,
@@ -20,7 +20,8 @@ pub fn wake_all<'n>(
     mut tasks: Vec<Task<'n>>,
 ) -> Vec<Task<'n>>
     requires room { (tasks.items ≡ []) × (length idles.items ≤ vec_capacity tasks) }
-    requires each { (p : ℕ) (w : Work) → slice_get idles.items p ≡ Some w → CanGoOn network.now input.now w }
+    requires idle { AreIdle network.now input.now idles.items }
+    requires settled { HaveSettled network.now input.now (rows_of idles.items) }
     ensures { result.items ≡ map (woken_task input.now) idles.items }
 {
     idles.reverse();

@@ -1,5 +1,5 @@
 -- Ends of an instance's channels, one of which changes.
-use Rattle.std.proofs.Common.{arith, ◌≡◌, ◌⊎◌, inl, inr, ⊎_elim, ℕ, zero, suc, ◌+◌, ◌<◌, ◌≤◌, List, [], ◌∷◌, length, refl, sym, ap, ◌∙◌, subst, true, false, Some, slice_set, slice_index_or, le_of_suc-le-suc}
+use Rattle.std.proofs.Common.{arith, ◌≡◌, ◌⊎◌, inl, inr, ⊎_elim, ℕ, zero, suc, ◌<◌, ◌≤◌, List, [], ◌∷◌, length, refl, sym, ap, ◌∙◌, subst, true, false, Some, slice_set, slice_index_or, le_of_suc-le-suc}
 use Rattle.std.proofs.lemmas.Bool.{cases_eq, cases_lt}
 use Rattle.std.proofs.lemmas.List.{length-set, get_or_default, get_or_past, get_or-set_same, get_or-set_other}
 use Rattle.kahn_tree.specs.declared.tree.Program.{Program}
@@ -12,9 +12,9 @@ use Rattle.kahn_code.specs.Lines.{Joins}
 use Rattle.kahn_code.specs.Seats.{DoesRead, DoesWrite, Grows, IsNext}
 use Rattle.kahn_lane.specs.Places.{lane_name, token_name}
 use Rattle.kahn_lane.proofs.Places.{token_name-is_of, is_of-token_name}
-use Rattle.kahn_job.specs.inner.Ends.{Advances, End, Identity, IsSame, IsFlushed, Meets, identity_of}
+use Rattle.kahn_job.specs.inner.Ends.{Advances, End, Identity, IsSame, IsFlushed, identity_of}
 use Rattle.kahn_job.specs.inner.Ways.{no_end}
-use Rattle.kahn_job.specs.inner.Berths.{Berth, AreServed, Serves, end_at, identities, seat_at, HaveAdvanced, HasStayed, HaveStayed}
+use Rattle.kahn_job.specs.inner.Berths.{Berth, AreServed, Serves, end_at, identities, seat_at, HaveAdvanced, HasStayed}
 
 pub set_here : (es : List End) (q : ℕ) (e : End) → q < length es → end_at (slice_set es q e) q ≡ e
 set_here es q e l = get_or-set_same es q e no_end l
@@ -169,52 +169,3 @@ within_reads es q r = by (past_none es q)
 
 pub stayed_self : (e : End) → HasStayed e e
 stayed_self e = record { same = same_self e; next = refl; flushed = refl; ready = λ r. r }
-
--- two ends stay so, of which one was away meanwhile
-pub stayed_two : (es : List End) (o q : ℕ) (none w r : End) → (o ≡ q → ⊥) → o < length es → q < length es → HasStayed (end_at es o) w →
-    HasStayed (end_at es q) r → HaveStayed es (slice_set (slice_set (slice_set es q none) o w) q r)
-stayed_two es o q none w r apart lo lq sw sr = record {
-  count = length-set (slice_set away o w) q r ∙ length-set away o w ∙ length-set es q none;
-  each = at_set (λ k x. HasStayed (end_at es k) x) (slice_set away o w) q r there sr (λ k n. others k n);
-}
-  where
-    away : List End
-    away = slice_set es q none
-
-    there : q < length (slice_set away o w)
-    there = let one = length-set away o w in let two = length-set es q none in omega (arith, one, two, lq)
-
-    here : o < length away
-    here = let two = length-set es q none in omega (arith, two, lo)
-
-    others : (k : ℕ) → (k ≡ q → ⊥) → HasStayed (end_at es k) (end_at (slice_set away o w) k)
-    others k n = at_set (λ k x. (k ≡ q → ⊥) → HasStayed (end_at es k) x) away o w here (λ n. sw)
-        (λ k m n. subst (λ x. HasStayed (end_at es k) x) (sym (set_else es q k none n)) (stayed_self (end_at es k))) k n
-
--- an end that is away meets another one, and comes back
-module _ (es : List End) (o q : ℕ) (apart : o ≡ q → ⊥) (writes : (end_at es o).writes ≡ true) (reads : (end_at es q).reads ≡ true) (none d a : End)
-    (is : a ≡ slice_index_or es q d) where
-  reader_is : a ≡ end_at es q
-  reader_is = is ∙ any_end es q d (within_reads es q reads)
-
-  writer_is : (d : End) → slice_index_or (slice_set es q none) o d ≡ end_at es o
-  writer_is d =
-      let l = within_writes es o writes in
-      let n = length-set es q none in
-      any_end (slice_set es q none) o d (omega (arith, l, n)) ∙ set_else es q o none apart
-
-  pub met_ends : (w r b : End) → HasStayed (slice_index_or (slice_set es q none) o b) w → HasStayed a r →
-      HaveStayed es (slice_set (slice_set (slice_set es q none) o w) q r)
-  met_ends w r b hw hr =
-      stayed_two es o q none w r apart (within_writes es o writes) (within_reads es q reads) (subst (λ x. HasStayed x w) (writer_is b) hw)
-      (subst (λ x. HasStayed x r) reader_is hr)
-
-  pub met_at : (b w r : End) (n : ℕ) → Meets (slice_index_or (slice_set es q none) o b) a r n →
-      Meets (end_at es o) (end_at es q) (end_at (slice_set (slice_set (slice_set es q none) o w) q r) q) n
-  met_at b w r n m =
-      let one = length-set (slice_set es q none) o w in
-      let two = length-set es q none in
-      let l = within_reads es q reads in
-      let here = set_here (slice_set (slice_set es q none) o w) q r (omega (arith, one, two, l)) in
-      subst (λ z. Meets (end_at es o) (end_at es q) z n) (sym here)
-      (subst (λ x. Meets x (end_at es q) r n) (writer_is b) (subst (λ x. Meets (slice_index_or (slice_set es q none) o b) x r n) reader_is m))

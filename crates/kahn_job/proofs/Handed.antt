@@ -18,7 +18,8 @@ use Rattle.kahn_code.specs.Cells.{is_output}
 use Rattle.kahn_code.specs.Lines.{Joins}
 use Rattle.kahn_job.specs.inner.Ends.{End, ShareLane}
 use Rattle.kahn_job.specs.inner.Berths.{Serves, end_at}
-use Rattle.kahn_job.specs.inner.Openings.{AreEndsOf, AreHanded, IsFresh, end_in, placed}
+use Rattle.kahn_job.specs.inner.Lanes.{AreJoinedOn, end_in}
+use Rattle.kahn_job.specs.inner.Openings.{AreEndsOf, AreHanded, IsFresh, placed}
 use Rattle.kahn_job.proofs.Berthed as ends
 
 pub row_here : (rows : List (List End)) (p : ℕ) (r : List End) → p < length rows → slice_index_or (slice_set rows p r) p [] ≡ r
@@ -187,26 +188,25 @@ module _ (t : Program) (wired : IsWellWired t) (lists : Lists) (c : ℕ) (x y : 
         by (inl f) = absurd ((writes t wired p o c i).1 f.1)
         by (inr f) = f.4
 
-    both_ends : (p s o q d : ℕ) → actual_at (instance_at N p) o ≡ Writes d → actual_at (instance_at N s) q ≡ Reads d → d < c + 1 → (d ≡ c) ⊎ (d ≡ c → ⊥) →
-        ShareLane (end_in (placed first r y) p o) (end_in (placed first r y) s q)
-    both_ends p s o q d i j l (inl same) =
+    both_ends : (d : ℕ) → d < c + 1 → (d ≡ c) ⊎ (d ≡ c → ⊥) → AreJoinedOn N (placed first r y) d
+    both_ends d l (inl same) p s o q i j =
         let i' : actual_at (instance_at N p) o ≡ Writes c = i ∙ ap Writes same in
         let j' : actual_at (instance_at N s) q ≡ Reads c = j ∙ ap Reads same in
         subst (λ z. ShareLane z (end_in (placed first r y) s q)) (sym (writer_end p o i' (found first r y place_r p o) (found rows w x place_w p o)))
         (subst (λ z. ShareLane x z) (sym (reader_end s q j' (found first r y place_r s q))) (e.lane (is_inner p q s o i' j')))
-    both_ends p s o q d i j l (inr n) =
+    both_ends d l (inr n) p s o q i j =
         subst (λ z. ShareLane z (end_in (placed first r y) s q))
         (sym (else_end p o d (subst (λ a. Joins a d) (sym i) refl) n (found first r y place_r p o) (found rows w x place_w p o)))
         (subst (λ z. ShareLane (end_in rows p o) z)
         (sym (else_end s q d (subst (λ a. Joins a d) (sym j) refl) n (found first r y place_r s q) (found rows w x place_w s q)))
-        (h.joined p s o q d i j (omega arith)))
+        (h.joined d (omega arith) p s o q i j))
 
     pub handed_more : AreHanded t lists (c + 1) (placed first r y)
     handed_more = record {
       count = placed_count first r y ∙ placed_count rows w x ∙ h.count;
       sizes = λ p. placed_sizes first r y place_r p ∙ placed_sizes rows w x place_w p ∙ h.sizes p;
       each = λ p q d j l. at p q d j l (found first r y place_r p q) (found rows w x place_w p q);
-      joined = λ p s o q d i j l. both_ends p s o q d i j l (cases_eq d c);
+      joined = λ d l. both_ends d l (cases_eq d c);
       fresh = λ p q. new p q (found first r y place_r p q) (found rows w x place_w p q);
     }
       where

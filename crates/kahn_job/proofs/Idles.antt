@@ -11,13 +11,13 @@ use Rattle.kahn_network.proofs.Sourced.{reads_listed, writes_listed}
 use Rattle.kahn_streams.specs.Tokens.{Lists, inputs_of}
 use Rattle.kahn_streams.proofs.Proved.{prefix_refl, prefix_trans}
 use Rattle.kahn_code.specs.Told.{Told, IsAt}
-use Rattle.kahn_code.specs.Lines.{Joins}
-use Rattle.kahn_job.specs.inner.Ends.{End, ShareLane}
+use Rattle.kahn_job.specs.inner.Ends.{End}
 use Rattle.kahn_job.specs.inner.Berths.{AreServed, Serves, end_at}
-use Rattle.kahn_job.specs.inner.Openings.{end_in}
+use Rattle.kahn_job.specs.inner.Lanes.{end_in}
 use Rattle.kahn_job.specs.inner.Works.{Work, IsManned}
-use Rattle.kahn_job.specs.inner.Idles.{AreIdle, AreJoinedJobs, CanGoOn, HaveSettled, IsIdle, cells_of, rows_of}
+use Rattle.kahn_job.specs.inner.Idles.{AreIdle, AreJoinedJobs, CanGoOn, HaveMet, HaveSettled, IsIdle, cells_of, rows_of}
 use Rattle.kahn_job.specs.inner.Settling.{ServedBefore, AreResting, HaveStood, IsOfBefore}
+use Rattle.kahn_job.proofs.Meeting_ends.{all_stayed, all_stayed_then, rests_met, stood_still}
 use Rattle.kahn_job.proofs.Settles.{AreGoing, carried_read, carried_write}
 
 pub rows_length : (ws : List Work) → length (rows_of ws) ≡ length ws
@@ -84,11 +84,25 @@ all_settled t wired lists old new g = record {
 
 -- ---- jobs come to rest
 
+before_too : (t : Program) (lists after : Lists) → AreInputsExtended (inputs_of lists) (inputs_of after) → (a : Actual) (e : End) → Serves t lists a e → ServedBefore t after a e
+before_too t lists after grown (Reads d) e s = (s.0, (lists, s.1, grown), s.2)
+before_too t lists after grown (Writes d) e s = λ o. let x = s o in (x.0, (lists, x.1, grown))
+before_too t lists after grown (Hands v) e s = tt
+
+pub settled_rest : (t : Program) (lists : Lists) (rows : List (List End)) → length rows ≡ length (network_of t).instances → HaveSettled t lists rows → AreResting t lists rows
+settled_rest t lists rows count h = record {
+  count = count;
+  sizes = λ p. (h.served p).count;
+  each = λ p q. before_too t lists lists (λ c. prefix_refl (inputs_of lists c)) (actual_at (instance_at (network_of t) p) q) (end_in rows p q) ((h.served p).each q);
+  behind = λ p. (h.served p).behind;
+  joined = h.joined;
+}
+
 -- the job of an instance, or there is none
-abbrev Here : List Work → ℕ → Type 0
+abbrev pub Here : List Work → ℕ → Type 0
 Here ws p = ((w : Work) × (slice_get ws p ≡ Some w) × (slice_index_or (rows_of ws) p [] ≡ w.ends)) ⊎ ((length ws ≤ p) × (slice_index_or (rows_of ws) p [] ≡ []))
 
-here_or : (ws : List Work) (p : ℕ) → Here ws p
+pub here_or : (ws : List Work) (p : ℕ) → Here ws p
 here_or [] p = inr (omega arith, refl)
 here_or (w ∷ ws) zero = inl (w, refl, refl)
 here_or (w ∷ ws) (suc p) = step (here_or ws p)
@@ -110,13 +124,6 @@ module _ (t : Program) (lists : Lists) (ws : List Work) (h : AreJoinedJobs t lis
   past : (p : ℕ) → length ws ≤ p → instance_at (network_of t) p ≡ idle
   past p l = let n = h.count in get_or_past (network_of t).instances p idle (omega (arith, n, l))
 
-  handed_here : (p q d : ℕ) → Joins (actual_at (instance_at (network_of t) p) q) d → (w : Work) × (slice_get ws p ≡ Some w) × (slice_index_or (rows_of ws) p [] ≡ w.ends)
-  handed_here p q d j = by (here_or ws p)
-    where
-      by : Here ws p → (w : Work) × (slice_get ws p ≡ Some w) × (slice_index_or (rows_of ws) p [] ≡ w.ends)
-      by (inl a) = a
-      by (inr b) = absurd (subst (λ i. Joins (actual_at i q) d) (past p b.0) j)
-
   -- they rest for every input whose lists begin with those of theirs
   pub all_rest : (after : Lists) → AreInputsExtended (inputs_of lists) (inputs_of after) → AreResting t after (rows_of ws)
   all_rest after grown = record {
@@ -124,26 +131,17 @@ module _ (t : Program) (lists : Lists) (ws : List Work) (h : AreJoinedJobs t lis
     sizes = λ p. size p (here_or ws p);
     each = λ p q. serves p q (here_or ws p);
     behind = λ p q. behind p q (here_or ws p);
-    joined = λ p r o q d i j.
-        let a = handed_here p o d (subst (λ x. Joins x d) (sym i) refl) in
-        let b = handed_here r q d (subst (λ x. Joins x d) (sym j) refl) in
-        subst (λ es. ShareLane (end_at es o) (end_in (rows_of ws) r q)) (sym a.2)
-        (subst (λ es. ShareLane (end_at a.0.ends o) (end_at es q)) (sym b.2) (h.joined p r o q d a.0 b.0 a.1 b.1 i j));
+    joined = h.joined;
   }
     where
       size : (p : ℕ) → Here ws p → length (slice_index_or (rows_of ws) p []) ≡ length (instance_at (network_of t) p).actuals
       size p (inl a) = ap (λ (es : List End). length es) a.2 ∙ (job_served p a.0 a.1).count
       size p (inr b) = ap (λ (es : List End). length es) b.1 ∙ sym (ap (λ i. length i.actuals) (past p b.0))
 
-      before : (a : Actual) (e : End) → Serves t lists a e → ServedBefore t after a e
-      before (Reads d) e s = (s.0, (lists, s.1, grown), s.2)
-      before (Writes d) e s = λ o. let x = s o in (x.0, (lists, x.1, grown))
-      before (Hands v) e s = tt
-
       serves : (p q : ℕ) → Here ws p → ServedBefore t after (actual_at (instance_at (network_of t) p) q) (end_in (rows_of ws) p q)
       serves p q (inl a) =
           subst (λ es. ServedBefore t after (actual_at (instance_at (network_of t) p) q) (end_at es q)) (sym a.2)
-          (before (actual_at (instance_at (network_of t) p) q) (end_at a.0.ends q) ((job_served p a.0 a.1).each q))
+          (before_too t lists after grown (actual_at (instance_at (network_of t) p) q) (end_at a.0.ends q) ((job_served p a.0 a.1).each q))
       serves p q (inr b) = subst (λ i. ServedBefore t after (actual_at i q) (end_in (rows_of ws) p q)) (sym (past p b.0)) tt
 
       behind : (p q : ℕ) → Here ws p → (end_in (rows_of ws) p q).flushed ≤ (end_in (rows_of ws) p q).next
@@ -258,3 +256,15 @@ module _ (t : Program) (lists : Lists) (ws : List Work) (h : AreIdle t lists ws)
           served = subst (λ n. AreServed t lists n w.ends) (sym x.instance) (subst (AreServed t lists p) row (settled.served p));
           at = x.at;
         }
+
+  -- where their ends have met
+  pub idle_met : (new : List Work) → HaveMet ws new → AreIdle t lists new
+  idle_met new m = idle_still new m.cells (stood_still (rows_of ws) (rows_of new) m.rows) (rests_met t lists (rows_of ws) (rows_of new) m.rows h.resting)
+
+-- ---- meetings
+
+pub met_self : (ws : List Work) → HaveMet ws ws
+met_self ws = record { cells = refl; rows = all_stayed (rows_of ws) }
+
+pub met_then : (old mid new : List Work) → HaveMet old mid → HaveMet mid new → HaveMet old new
+met_then old mid new a b = record { cells = b.cells ∙ a.cells; rows = all_stayed_then (rows_of old) (rows_of mid) (rows_of new) a.rows b.rows }

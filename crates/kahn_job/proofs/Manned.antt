@@ -1,5 +1,5 @@
 -- Cells with the ends of their channels.
-use Rattle.std.proofs.Common.{◌≡◌, List, ◌∙◌, subst}
+use Rattle.std.proofs.Common.{List, ◌∙◌, subst}
 use Rattle.kahn_code.specs.Seats.{Seat}
 use Rattle.kahn_code.specs.Told.{Told}
 use Rattle.kahn_job.specs.inner.Ends.{End}

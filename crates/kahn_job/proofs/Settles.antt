@@ -1,7 +1,6 @@
 -- The ends of channels go on with an input that has grown, channel by channel.
 use Rattle.std.proofs.Common.{arith, ◌≡◌, ◌⊎◌, inl, inr, ⊎_elim, ℕ, ◌+◌, ◌<◌, ◌≤◌, Bool, true, false, List, length, refl, sym, ap, ◌∙◌, subst, None, Some, Result, Ok, Err, MatchResult}
 use Rattle.std.proofs.lemmas.Bool.{cases_eq}
-use Rattle.std.proofs.lemmas.Option.{same_Some}
 use Rattle.kahn_tree.specs.declared.tree.Program.{Program}
 use Rattle.kahn_tree.specs.declared.tree.Role.{Role}
 use Rattle.kahn_tree.specs.declared.tree.Role.TheVariants.{Inner, Input, Output}
@@ -16,141 +15,42 @@ use Rattle.kahn_streams.specs.Tokens.{Lists, inputs_of}
 use Rattle.kahn_streams.proofs.Proved.{prefix_refl}
 use Rattle.kahn_code.specs.Cells.{is_output}
 use Rattle.kahn_code.specs.Lines.{Joins}
-use Rattle.kahn_lane.specs.declared.name.LaneName.{LaneName}
-use Rattle.kahn_lane.specs.Places.{lane_name, moved_to}
-use Rattle.kahn_job.specs.inner.Ends.{End, ShareLane}
-use Rattle.kahn_job.specs.inner.Ways.{no_end}
-use Rattle.kahn_job.specs.inner.Openings.{end_in, placed}
-use Rattle.kahn_job.specs.inner.Settling.{AreAlike, AreElsewhere, AreResting, AreSettled, CanFeed, CanSettle, HasExchanged, HasPlace, HasSettled, HaveExchanged, HasStood, HaveStood, IsCarried, IsOfBefore, ServedBefore, end_of_side}
-use Rattle.kahn_job.proofs.Handed as handed
-use Rattle.kahn_job.proofs.Handed.{found, placed_count, placed_sizes}
-
--- ---- ends that come and go
-
-option_place : (rows : List (List End)) (s : Side) → HasPlace rows s → handed.HasPlace rows (Some s)
-option_place rows s h u e = subst (HasPlace rows) (same_Some _ _ e) h
-
-pub kept_place : (rows : List (List End)) (s u : Side) (e : End) → HasPlace rows s → HasPlace rows u → HasPlace (placed rows (Some s) e) u
-kept_place rows s u e hs hu = (
-  subst (λ n. u.instance < n) (sym (placed_count rows (Some s) e)) hu.0,
-  subst (λ n. u.parameter < n) (sym (placed_sizes rows (Some s) e (option_place rows s hs) u.instance)) hu.1,
-)
-
-here_at : (rows : List (List End)) (s : Side) (e : End) → HasPlace rows s → end_of_side (placed rows (Some s) e) s ≡ e
-here_at rows s e h = by (found rows (Some s) e (option_place rows s h) s.instance s.parameter)
-  where
-    by : handed.Found rows (Some s) e s.instance s.parameter → end_of_side (placed rows (Some s) e) s ≡ e
-    by (inl a) = a.1
-    by (inr b) = absurd (b.0 refl)
-
-else_at : (rows : List (List End)) (s : Side) (e : End) → HasPlace rows s → (p q : ℕ) → (side_at p q ≡ s → ⊥) →
-    end_in (placed rows (Some s) e) p q ≡ end_in rows p q
-else_at rows s e h p q n = by (found rows (Some s) e (option_place rows s h) p q)
-  where
-    by : handed.Found rows (Some s) e p q → end_in (placed rows (Some s) e) p q ≡ end_in rows p q
-    by (inl a) = absurd (n (sym (same_Some _ _ a.0)))
-    by (inr b) = b.1
-
--- either it is this one or it isn't
-side_or : (rows : List (List End)) (s : Side) → HasPlace rows s → (p q : ℕ) → (side_at p q ≡ s) ⊎ (side_at p q ≡ s → ⊥)
-side_or rows s h p q = by (found rows (Some s) no_end (option_place rows s h) p q)
-  where
-    by : handed.Found rows (Some s) no_end p q → (side_at p q ≡ s) ⊎ (side_at p q ≡ s → ⊥)
-    by (inl a) = inl (sym (same_Some _ _ a.0))
-    by (inr b) = inr (λ e. b.0 (ap Some (sym e)))
-
--- two ends were taken out, and two came back
-module _ (rows : List (List End)) (w r : Side) (pw : HasPlace rows w) (pr : HasPlace rows r) (apart : w ≡ r → ⊥) (x y : End) where
-  abbrev one : List (List End)
-  one = placed rows (Some w) no_end
-
-  abbrev two : List (List End)
-  two = placed one (Some r) no_end
-
-  abbrev three : List (List End)
-  three = placed two (Some w) x
-
-  abbrev four : List (List End)
-  four = placed three (Some r) y
-
-  pub one_r : HasPlace one r
-  one_r = kept_place rows w r no_end pw pr
-
-  one_w : HasPlace one w
-  one_w = kept_place rows w w no_end pw pw
-
-  pub two_w : HasPlace two w
-  two_w = kept_place one r w no_end one_r one_w
-
-  pub two_r : HasPlace two r
-  two_r = kept_place one r r no_end one_r one_r
-
-  three_r : HasPlace three r
-  three_r = kept_place two w r x two_w two_r
-
-  pub reader_kept : end_of_side one r ≡ end_of_side rows r
-  reader_kept = else_at rows w no_end pw r.instance r.parameter (λ e. apart (sym e))
-
-  pub at_reader : end_of_side four r ≡ y
-  at_reader = here_at three r y three_r
-
-  pub at_writer : end_of_side four w ≡ x
-  at_writer = else_at three r y three_r w.instance w.parameter apart ∙ here_at two w x two_w
-
-  pub elsewhere : AreElsewhere (λ s. (s ≡ w) ⊎ (s ≡ r)) rows four
-  elsewhere = record {
-    count = placed_count three (Some r) y ∙ placed_count two (Some w) x ∙ placed_count one (Some r) no_end ∙ placed_count rows (Some w) no_end;
-    sizes = λ p. placed_sizes three (Some r) y (option_place three r three_r) p ∙ placed_sizes two (Some w) x (option_place two w two_w) p ∙
-        placed_sizes one (Some r) no_end (option_place one r one_r) p ∙ placed_sizes rows (Some w) no_end (option_place rows w pw) p;
-    others = λ p q n. else_at three r y three_r p q (λ e. n (inr e)) ∙ else_at two w x two_w p q (λ e. n (inl e)) ∙
-        else_at one r no_end one_r p q (λ e. n (inr e)) ∙ else_at rows w no_end pw p q (λ e. n (inl e));
-  }
-
-  -- the same two came back
-  pub alike : x ≡ end_of_side rows w → y ≡ end_of_side rows r → AreAlike rows four
-  alike ex ey = record {
-    count = elsewhere.count;
-    sizes = elsewhere.sizes;
-    same = λ p q. by p q (side_or rows w pw p q) (side_or rows r pr p q);
-  }
-    where
-      by : (p q : ℕ) → (side_at p q ≡ w) ⊎ (side_at p q ≡ w → ⊥) → (side_at p q ≡ r) ⊎ (side_at p q ≡ r → ⊥) → end_in four p q ≡ end_in rows p q
-      by p q (inl a) b = ap (end_of_side four) a ∙ at_writer ∙ ex ∙ ap (end_of_side rows) (sym a)
-      by p q (inr a) (inl b) = ap (end_of_side four) b ∙ at_reader ∙ ey ∙ ap (end_of_side rows) (sym b)
-      by p q (inr a) (inr b) = elsewhere.others p q (neither a b)
-        where
-          neither : (side_at p q ≡ w → ⊥) → (side_at p q ≡ r → ⊥) → (side_at p q ≡ w) ⊎ (side_at p q ≡ r) → ⊥
-          neither a b (inl e) = a e
-          neither a b (inr e) = b e
-
-  pub exchanged : (lists : Lists) → ShareLane x y →
-      ((n : LaneName) → (end_of_side rows w).name ≡ Some n → HasSettled (moved_to lists n) (end_of_side rows w) x × HasSettled (moved_to lists n) (end_of_side rows r) y) →
-      HaveExchanged lists w r rows four
-  exchanged lists lane settled = record {
-    elsewhere = elsewhere;
-    lane = subst (λ z. ShareLane z (end_of_side four r)) (sym at_writer) (subst (ShareLane x) (sym at_reader) lane);
-    writes = λ n e. subst (HasSettled (moved_to lists n) (end_of_side rows w)) (sym at_writer) (settled n e).0;
-    reads = λ n e. subst (HasSettled (moved_to lists n) (end_of_side rows r)) (sym at_reader) (settled n e).1;
-  }
-
--- one end was taken out, and one came back
-module _ (rows : List (List End)) (r : Side) (pr : HasPlace rows r) (y : End) where
-  pub gone_r : HasPlace (placed rows (Some r) no_end) r
-  gone_r = kept_place rows r r no_end pr pr
-
-  pub fed_on : (lists : Lists) → ((n : LaneName) → (end_of_side rows r).name ≡ Some n → HasSettled (moved_to lists n) (end_of_side rows r) y) →
-      HasExchanged lists r rows (placed (placed rows (Some r) no_end) (Some r) y)
-  fed_on lists settled = record {
-    elsewhere = record {
-      count = placed_count (placed rows (Some r) no_end) (Some r) y ∙ placed_count rows (Some r) no_end;
-      sizes = λ p. placed_sizes (placed rows (Some r) no_end) (Some r) y (option_place (placed rows (Some r) no_end) r gone_r) p ∙
-          placed_sizes rows (Some r) no_end (option_place rows r pr) p;
-      others = λ p q n. else_at (placed rows (Some r) no_end) r y gone_r p q n ∙ else_at rows r no_end pr p q n;
-    };
-    reads = λ n e. subst (HasSettled (moved_to lists n) (end_of_side rows r)) (sym (here_at (placed rows (Some r) no_end) r y gone_r)) (settled n e);
-  }
+use Rattle.kahn_lane.specs.Places.{lane_name}
+use Rattle.kahn_job.specs.inner.Ends.{End, MayMeet, ShareLane}
+use Rattle.kahn_job.specs.inner.Lanes.{AreJoinedOn, AreSoOn, HasPlace, end_in, end_of_side}
+use Rattle.kahn_job.specs.inner.Settling.{AreAlike, AreResting, AreSettled, CanFeed, CanSettle, HasExchanged, HasSettled, HaveExchanged, HasStood, HaveStood, IsCarried, IsOfBefore, ServedBefore}
 
 -- ---- one channel
+
+pub joins_one : (a : Actual) (c d : ℕ) → Joins a c → Joins a d → c ≡ d
+joins_one (Reads b) c d i j = sym i ∙ j
+joins_one (Writes b) c d i j = sym i ∙ j
+joins_one (Hands v) c d i j = absurd i
+
+-- the two ends of a channel
+module _ (so : End → End → Type 0) (N : Network) where
+  module _ (c : ℕ) (new : List (List End)) where
+    pub on_only : (w r : Side) → IsOnly (IsWriter N c) (Some w) → IsOnly (IsReader N c) (Some r) → so (end_of_side new w) (end_of_side new r) → AreSoOn so N new c
+    on_only w r ow oo x p s o q i j =
+        subst (λ u. so (end_of_side new u) (end_in new s q)) (sym (ow.1 (side_at p o) (handed_within N p o c (subst (λ a. Joins a c) (sym i) refl), i)))
+        (subst (λ u. so (end_of_side new w) (end_of_side new u)) (sym (oo.1 (side_at s q) (handed_within N s q c (subst (λ a. Joins a c) (sym j) refl), j))) x)
+
+    pub none_writes : IsOnly (IsWriter N c) None → AreSoOn so N new c
+    none_writes none p s o q i j = absurd (none (side_at p o) (handed_within N p o c (subst (λ a. Joins a c) (sym i) refl), i))
+
+    pub none_reads : IsOnly (IsReader N c) None → AreSoOn so N new c
+    none_reads none p s o q i j = absurd (none (side_at s q) (handed_within N s q c (subst (λ a. Joins a c) (sym j) refl), j))
+
+  -- they are as they were
+  pub so_still : (old new : List (List End)) (d : ℕ) → ((p q : ℕ) → Joins (actual_at (instance_at N p) q) d → end_in new p q ≡ end_in old p q) →
+      AreSoOn so N old d → AreSoOn so N new d
+  so_still old new d same h p r o q i j =
+      subst (λ x. so x (end_in new r q)) (sym (same p o (subst (λ a. Joins a d) (sym i) refl)))
+      (subst (λ x. so (end_in old p o) x) (sym (same r q (subst (λ a. Joins a d) (sym j) refl))) (h p r o q i j))
+
+-- they are ends of the same lanes
+pub same_lanes : (N : Network) (old new : List (List End)) (d : ℕ) → ((p q : ℕ) → (end_in new p q).lane ≡ (end_in old p q).lane) → AreJoinedOn N old d → AreJoinedOn N new d
+same_lanes N old new d same h p r o q i j = let s = h p r o q i j in (s.0, same p o ∙ s.1, same r q ∙ s.2)
 
 -- an end that is as it was stands where it stood
 pub stood_same : (old new : End) → new ≡ old → HasStood old new
@@ -218,9 +118,12 @@ module _ (t : Program) (wired : IsWellWired t) (lists : Lists) (rows : List (Lis
         record {
           writes = a.0;
           reads = b.0;
-          lane = h.joined w.instance r.instance w.parameter r.parameter c ow.0.1 oo.0.1;
+          lane = h.joined c w.instance r.instance w.parameter r.parameter ow.0.1 oo.0.1;
           grown = (lane_name t a.1.0 c, a.1.1, a.1.2);
         }
+
+    pub may_meet : (w r : Side) → IsOnly (IsWriter N c) (Some w) → IsOnly (IsReader N c) (Some r) → MayMeet (end_of_side rows w) (end_of_side rows r)
+    may_meet w r ow oo = let h = can_settle w r ow oo in record { writes = h.writes; reads = h.reads; lane = h.lane }
 
     pub can_feed : (r : Side) → IsOnly (IsWriter N c) None → IsOnly (IsReader N c) (Some r) → CanFeed lists (end_of_side rows r)
     can_feed r none oo =
@@ -252,7 +155,7 @@ module _ (t : Program) (wired : IsWellWired t) (lists : Lists) (rows : List (Lis
       sizes = x.elsewhere.sizes;
       each = λ p q d j e. subst (λ k. HasSettled (lane_name t lists k) (end_in rows p q) (end_in new p q)) (sym e) (one p q (side_of p q (subst (Joins (actual_at (instance_at N p) q)) e j.0)));
       others = λ p q n. x.elsewhere.others p q (never p q n);
-      joined = λ p s o q d i j e. both p s o q (i ∙ ap Writes e) (j ∙ ap Reads e);
+      joined = λ d e. subst (AreJoinedOn N new) (sym e) (on_only ShareLane N c new w r ow oo x.lane);
     }
       where
         named : IsOfBefore t lists c (end_of_side rows w)
@@ -265,11 +168,6 @@ module _ (t : Program) (wired : IsWellWired t) (lists : Lists) (rows : List (Lis
         never : (p q : ℕ) → ((d : ℕ) → IsCarried t (actual_at (instance_at N p) q) d → d ≡ c → ⊥) → (side_at p q ≡ w) ⊎ (side_at p q ≡ r) → ⊥
         never p q n (inl e) = n c (carried_write p q c (ap (λ (s : Side). actual_at (instance_at N s.instance) s.parameter) e ∙ ow.0.1) (inner_role (is_inner w r ow.0 oo.0))) refl
         never p q n (inr e) = n c (carried_read p q c (ap (λ (s : Side). actual_at (instance_at N s.instance) s.parameter) e ∙ oo.0.1)) refl
-
-        both : (p s o q : ℕ) → actual_at (instance_at N p) o ≡ Writes c → actual_at (instance_at N s) q ≡ Reads c → ShareLane (end_in new p o) (end_in new s q)
-        both p s o q i j =
-            subst (λ u. ShareLane (end_of_side new u) (end_in new s q)) (sym (ow.1 (side_at p o) (handed_within N p o c (subst (λ a. Joins a c) (sym i) refl), i)))
-            (subst (λ u. ShareLane (end_of_side new w) (end_of_side new u)) (sym (oo.1 (side_at s q) (handed_within N s q c (subst (λ a. Joins a c) (sym j) refl), j))) x.lane)
 
     -- it has settled, or memory was refused
     pub lane_or : (w r : Side) → IsOnly (IsWriter N c) (Some w) → IsOnly (IsReader N c) (Some r) → (new : List (List End)) {A E : Type 0} (result : Result A E) →
@@ -286,8 +184,7 @@ module _ (t : Program) (wired : IsWellWired t) (lists : Lists) (rows : List (Lis
       each = λ p q d j e. subst (λ k. HasSettled (lane_name t lists k) (end_in rows p q) (end_in new p q)) (sym e) (one p q (side_of p q (subst (Joins (actual_at (instance_at N p) q)) e j.0)));
       others = λ p q n. x.elsewhere.others p q
           (λ e. n c (carried_read p q c (ap (λ (s : Side). actual_at (instance_at N s.instance) s.parameter) e ∙ oo.0.1)) refl);
-      joined = λ p s o q d i j e. absurd (none (side_at p o)
-          (handed_within N p o c (subst (λ a. Joins a c) (sym (i ∙ ap Writes e)) refl), i ∙ ap Writes e));
+      joined = λ d e. subst (AreJoinedOn N new) (sym e) (none_writes ShareLane N c new none);
     }
       where
         one : (p q : ℕ) → IsReader N c (side_at p q) ⊎ IsWriter N c (side_at p q) → HasSettled (lane_name t lists c) (end_in rows p q) (end_in new p q)
@@ -302,7 +199,7 @@ module _ (t : Program) (wired : IsWellWired t) (lists : Lists) (rows : List (Lis
       sizes = λ p. refl;
       each = λ p q d j e. absurd (one p q (side_of p q (subst (Joins (actual_at (instance_at N p) q)) e j.0)) (subst (λ k. is_output (role_at N k) ≡ false) e j.1));
       others = λ p q n. refl;
-      joined = λ p s o q d i j e. absurd (none (side_at s q) (handed_within N s q c (subst (λ a. Joins a c) (sym (j ∙ ap Reads e)) refl), j ∙ ap Reads e));
+      joined = λ d e. subst (AreJoinedOn N rows) (sym e) (none_reads ShareLane N c rows none);
     }
       where
         by : (role : Role) → role_at N c ≡ role → IsServed N c role → is_output role ≡ false → ⊥
@@ -352,7 +249,7 @@ module _ (t : Program) (wired : IsWellWired t) (lists : Lists) (rows : List (Lis
       sizes = λ p. s.sizes p ∙ h.sizes p;
       each = λ p q. served p q (actual_at (instance_at N p) q) refl (h.each p q);
       behind = λ p q. behind p q (end_or new s p q (actual_at (instance_at N p) q) refl);
-      joined = λ p u o q d i j. share p u o q d i j (cases_eq d c);
+      joined = λ d. share d (cases_eq d c);
     }
       where
         behind : (p q : ℕ) → HasSettled (lane_name t lists c) (end_in rows p q) (end_in new p q) ⊎ (end_in new p q ≡ end_in rows p q) →
@@ -380,21 +277,13 @@ module _ (t : Program) (wired : IsWellWired t) (lists : Lists) (rows : List (Lis
             by (inr n) o = subst (ServedBefore t lists (Writes d)) (sym (s.others p q (λ k j e. n (subst (λ a. Joins a k) i j.0 ∙ e)))) b o
         served p q (Hands v) i b = tt
 
-        share : (p u o q d : ℕ) → actual_at (instance_at N p) o ≡ Writes d → actual_at (instance_at N u) q ≡ Reads d → (d ≡ c) ⊎ (d ≡ c → ⊥) →
-            ShareLane (end_in new p o) (end_in new u q)
-        share p u o q d i j (inl e) = s.joined p u o q d i j e
-        share p u o q d i j (inr n) =
-            subst (λ x. ShareLane x (end_in new u q)) (sym (s.others p o (λ k z e. n (subst (λ a. Joins a k) i z.0 ∙ e))))
-            (subst (λ x. ShareLane (end_in rows p o) x) (sym (s.others u q (λ k z e. n (subst (λ a. Joins a k) j z.0 ∙ e)))) (h.joined p u o q d i j))
+        share : (d : ℕ) → (d ≡ c) ⊎ (d ≡ c → ⊥) → AreJoinedOn N new d
+        share d (inl e) = s.joined d e
+        share d (inr n) = so_still ShareLane N rows new d (λ p q j. s.others p q (λ k z e. n (joins_one (actual_at (instance_at N p) q) d k j z.0 ∙ e))) (h.joined d)
 
 -- ---- channel after channel
 
-joins_one : (a : Actual) (c d : ℕ) → Joins a c → Joins a d → c ≡ d
-joins_one (Reads b) c d i j = sym i ∙ j
-joins_one (Writes b) c d i j = sym i ∙ j
-joins_one (Hands v) c d i j = absurd i
-
-below_or : (d k : ℕ) → d < k + 1 → (d < k) ⊎ (d ≡ k)
+pub below_or : (d k : ℕ) → d < k + 1 → (d < k) ⊎ (d ≡ k)
 below_or d k l = ⊎_elim inr (λ n. inl (omega arith)) (cases_eq d k)
 
 pub none_settled : (t : Program) (lists : Lists) (rows : List (List End)) → AreSettled t lists (λ c. c < 0) rows rows
@@ -403,7 +292,7 @@ none_settled t lists rows = record {
   sizes = λ p. refl;
   each = λ p q d j l. absurd (omega (arith, l));
   others = λ p q n. refl;
-  joined = λ p r o q d i j l. absurd (omega (arith, l));
+  joined = λ d l. absurd (omega (arith, l));
 }
 
 abbrev actual_in : Program → ℕ → ℕ → Actual
@@ -416,7 +305,7 @@ more_settled t lists k old mid new a b = record {
   sizes = λ p. b.sizes p ∙ a.sizes p;
   each = λ p q d j l. one p q d j (below_or d k l);
   others = λ p q n. b.others p q (λ d j e. n d j (omega (arith, e))) ∙ a.others p q (λ d j l. n d j (omega (arith, l)));
-  joined = λ p r o q d i j l. both p r o q d i j (below_or d k l);
+  joined = λ d l. both d (below_or d k l);
 }
   where
     -- of another channel
@@ -429,11 +318,9 @@ more_settled t lists k old mid new a b = record {
         subst (λ x. HasSettled (lane_name t lists d) x (end_in new p q))
         (a.others p q (λ c i l. let same = joins_one (actual_in t p q) c d i.0 j.0 in absurd (omega (arith, e, same, l)))) (b.each p q d j e)
 
-    both : (p r o q d : ℕ) → actual_in t p o ≡ Writes d → actual_in t r q ≡ Reads d → (d < k) ⊎ (d ≡ k) → ShareLane (end_in new p o) (end_in new r q)
-    both p r o q d i j (inr e) = b.joined p r o q d i j e
-    both p r o q d i j (inl l) =
-        subst (λ x. ShareLane x (end_in new r q)) (sym (later p o d (subst (λ a. Joins a d) (sym i) refl) l))
-        (subst (λ x. ShareLane (end_in mid p o) x) (sym (later r q d (subst (λ a. Joins a d) (sym j) refl) l)) (a.joined p r o q d i j l))
+    both : (d : ℕ) → (d < k) ⊎ (d ≡ k) → AreJoinedOn (network_of t) new d
+    both d (inr e) = b.joined d e
+    both d (inl l) = so_still ShareLane (network_of t) mid new d (λ p q j. later p q d j l) (a.joined d l)
 
 pub rests_alike : (t : Program) (lists : Lists) (old new : List (List End)) → AreAlike old new → AreResting t lists old → AreResting t lists new
 rests_alike t lists old new a h = record {
@@ -441,8 +328,7 @@ rests_alike t lists old new a h = record {
   sizes = λ p. a.sizes p ∙ h.sizes p;
   each = λ p q. subst (ServedBefore t lists (actual_at (instance_at (network_of t) p) q)) (sym (a.same p q)) (h.each p q);
   behind = λ p q. subst (λ (x : End). x.flushed ≤ x.next) (sym (a.same p q)) (h.behind p q);
-  joined = λ p r o q d i j. subst (λ x. ShareLane x (end_in new r q)) (sym (a.same p o))
-      (subst (λ x. ShareLane (end_in old p o) x) (sym (a.same r q)) (h.joined p r o q d i j));
+  joined = λ d. so_still ShareLane (network_of t) old new d (λ p q j. a.same p q) (h.joined d);
 }
 
 pub stood_then : (old mid new : List (List End)) → HaveStood old mid → HaveStood mid new → HaveStood old new

@@ -2,6 +2,7 @@ pub mod Berths
 pub mod Ends
 pub mod Feeding
 pub mod Idles
+pub mod Lanes
 pub mod Openings
 pub mod Settling
 pub mod Ways

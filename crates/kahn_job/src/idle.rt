@@ -91,6 +91,15 @@ impl Idle {
         lists_of(alloc, &self.cell)
     }
 
+    /// What its cell kept, without the job. It takes no memory.
+    pub fn into_lists(self) -> Kept
+        ensures kept { map (λ v. v.items) result.kept.items ≡ self.cell.kept }
+        ensures printed { result.printed.items ≡ self.cell.printed }
+        ensures parameters { length result.kept.items ≡ width_of self }
+    {
+        self.cell.into_lists()
+    }
+
     /// The job, with its hold on an input for which its ends have settled, and a list with a number for each parameter. It
     /// takes no memory.
     #[tactic(auto, using(crate::proofs::Idles::manned_again))]

@@ -1,17 +1,16 @@
 //! A job: one process of a network on its way, with the ends of its channels.
 
-ghost use Rattle.std.specs.Prelude.{◌≡◌, ◌+◌, ◌*◌, ◌^◌, ◌<◌, ◌≤◌, length, map, slice_index_or, OnOk};
+ghost use Rattle.std.specs.Prelude.{◌≡◌, ◌+◌, ◌*◌, ◌^◌, ◌<◌, ◌≤◌, length, slice_index_or, OnOk};
 ghost use Rattle.kahn_network.specs.Network.{network_of, instance_at};
 ghost use Rattle.kahn_code.specs.Flat.{stmt_code};
 ghost use Rattle.kahn_code.specs.Told.{AreCounts, IsStill};
 ghost use Rattle.kahn_code.specs.inner.Tapped.{IsSameProcess};
-ghost use Rattle.kahn_job.specs.inner.Ends.{MayMeet, Meets};
-ghost use Rattle.kahn_job.specs.inner.Berths.{HaveAdvanced, HaveFlushed, HaveStayed, IsWithinInput, end_at};
+ghost use Rattle.kahn_job.specs.inner.Berths.{HaveAdvanced, HaveFlushed, IsWithinInput, end_at};
 ghost use Rattle.kahn_job.specs.inner.Works.{HasPaused, IsDelivered, IsJob, IsManned, width_of};
 
 use crate::idle::Idle;
 use crate::ports::Ends;
-use kahn_code::{Cell, Code, Kept, Pause, Steps};
+use kahn_code::{Cell, Code, Pause, Steps};
 use kahn_streams::NoMemory;
 use std::marker::Model;
 use std::sync::ledger::Ledger;
@@ -76,29 +75,6 @@ impl<'n> Job<'n> {
         let flushed = self.ends.flush();
         self.ends.served();
         flushed
-    }
-
-    /// With the job of its reader in one thread: how many tokens were flushed on an output and not taken. Both jobs stay as
-    /// they are, but for what the reader knows: all that were flushed. It takes no memory.
-    pub fn meet(&mut self, output: usize, reader: &mut Job<'n>, input: usize) -> u64
-        requires { MayMeet (end_at self.old.ends output) (end_at reader.old.ends input) }
-        ensures cells { (self.new.cell ≡ self.old.cell) × (reader.new.cell ≡ reader.old.cell) }
-        ensures writer { HaveStayed self.old.ends self.new.ends }
-        ensures reader { HaveStayed reader.old.ends reader.new.ends }
-        ensures met { Meets (end_at self.old.ends output) (end_at reader.old.ends input) (end_at reader.new.ends input) result }
-    {
-        self.ends.meet(output, &mut reader.ends, input)
-    }
-
-    /// The same, where it reads what it writes.
-    pub fn meet_self(&mut self, output: usize, input: usize) -> u64
-        requires apart { output ≡ input → ⊥ }
-        requires can { MayMeet (end_at self.old.ends output) (end_at self.old.ends input) }
-        ensures cell { self.new.cell ≡ self.old.cell }
-        ensures ends { HaveStayed self.old.ends self.new.ends }
-        ensures met { Meets (end_at self.old.ends output) (end_at self.old.ends input) (end_at self.new.ends input) result }
-    {
-        self.ends.meet_self(output, input)
     }
 
     /// Says that the ends are those of its cell's channels, and stand where the cell stands: its contract is what it does.
@@ -171,14 +147,5 @@ impl<'n> Job<'n> {
         self.manned();
         let (instance, ports) = self.ends.into_parts();
         Idle::new(self.cell, instance, ports, numbers)
-    }
-
-    /// What its cell kept, without the job. It takes no memory.
-    pub fn into_lists(self) -> Kept
-        ensures kept { map (λ v. v.items) result.kept.items ≡ self.entry.cell.kept }
-        ensures printed { result.printed.items ≡ self.entry.cell.printed }
-        ensures parameters { length result.kept.items ≡ length (instance_at (network_of self.entry.cell.network) self.entry.cell.instance).actuals }
-    {
-        self.cell.into_lists()
     }
 }

@@ -2,19 +2,20 @@
 #![tactic(auto)]
 
 mod copies;
-mod fault;
+mod exchanging;
 mod feed;
+mod handing;
 mod idle;
 mod job;
+mod meeting;
 mod opening;
 mod port;
 mod ports;
-mod rows;
 mod settling;
 
 // For the crates above.
-pub use fault::JobFault;
 pub use idle::Idle;
 pub use job::Job;
+pub use meeting::meet;
 pub use opening::jobs;
 pub use settling::settle;

@@ -3,15 +3,14 @@
 ghost use Rattle.std.specs.Prelude.{◌≡◌, ◌<◌, length, IfOk};
 ghost use Rattle.kahn_network.specs.Network.{network_of};
 ghost use Rattle.kahn_streams.specs.Tokens.{Lists};
-ghost use Rattle.kahn_job.specs.inner.Openings.{AreOpening, IsOpening, IsReadyRow};
+ghost use Rattle.kahn_job.specs.inner.Openings.{HaveNoEnds, AreOpening, HasNoEnds, IsOpening};
 
-use crate::fault::JobFault;
-use crate::job::Job;
-use crate::ports::Ends;
-use crate::rows::{Row, all_rows, take_row};
+use crate::handing::hand_all;
+use crate::idle::Idle;
+use crate::port::Port;
 use kahn_code::{Cell, Code};
 use kahn_network::Network;
-use kahn_streams::Input;
+use kahn_streams::{Input, NoMemory};
 use std::alloc::Global;
 
 // The cell of an instance at its opening, for the input that is named.
@@ -22,13 +21,16 @@ fn named_cell(
     instance: usize,
     watch: Option<usize>,
     _input: &Input,
-) -> Result<Cell, JobFault>
+) -> Result<Cell, NoMemory>
     ghost input: { Lists }
     requires code { code.now.network.value ≡ network.now }
     requires here { instance < length (network_of network.now).instances }
     ensures { IfOk result (IsOpening network.now input watch instance) }
 {
-    Ok(Cell::new(alloc, code, instance, watch)?)
+    match Cell::new(alloc, code, instance, watch) {
+        Ok(cell) => Ok(cell),
+        Err(_) => Err(NoMemory),
+    }
 }
 
 // The cell of an instance at its opening.
@@ -39,7 +41,7 @@ fn opening_cell(
     instance: usize,
     watch: Option<usize>,
     input: &Input,
-) -> Result<Cell, JobFault>
+) -> Result<Cell, NoMemory>
     requires code { code.now.network.value ≡ network.now }
     requires here { instance < length (network_of network.now).instances }
     ensures { IfOk result (IsOpening network.now input.now watch instance) }
@@ -47,45 +49,62 @@ fn opening_cell(
     named_cell(alloc, network, code, instance, watch, input)
 }
 
-// The job of an instance before its first event, with these ends.
-#[tactic(auto, using(crate::proofs::Begun::manned_first))]
-fn opening_job<'n>(
+// The job of an instance before its first event, whose parameters have no ends yet.
+fn bare_job(
     alloc: Global,
-    network: &'n Network,
-    input: &'n Input,
+    network: &Network,
+    input: &Input,
     code: &Code,
     instance: usize,
     watch: Option<usize>,
-    row: Row,
-) -> Result<Job<'n>, JobFault>
+) -> Result<Idle, NoMemory>
     requires code { code.now.network.value ≡ network.now }
     requires here { instance < length (network_of network.now).instances }
-    requires row { IsReadyRow network.now input.now instance row }
-    ensures { IfOk result (λ job. IsOpening network.now input.now watch instance job.cell × (job.ends ≡ row)) }
+    ensures { IfOk result (HasNoEnds network.now input.now watch instance) }
 {
     let cell = opening_cell(alloc, network, code, instance, watch, input)?;
-    let ends = Ends::new(network, input, instance, row.into_ports());
-    Ok(Job::new(cell, ends))
+    let parameters = cell.parameters();
+    let mut ports = Vec::with_capacity(alloc, parameters)?;
+    let mut numbers = Vec::with_capacity(alloc, parameters)?;
+    for _ in 0..parameters {
+        ports.push_reserved(Port::nothing());
+        numbers.push_reserved(0);
+    }
+    Ok(Idle::new(cell, instance, ports, numbers))
+}
+
+// The jobs of all instances, whose parameters have no ends yet.
+fn bare_jobs(
+    alloc: Global,
+    network: &Network,
+    input: &Input,
+    code: &Code,
+    watch: Option<usize>,
+) -> Result<Vec<Idle>, NoMemory>
+    requires { code.now.network.value ≡ network.now }
+    ensures { IfOk result (λ idles. HaveNoEnds network.now input.now watch idles.items) }
+{
+    let mut idles = Vec::new(alloc);
+    for instance in 0..network.instances() {
+        idles.push(bare_job(alloc, network, input, code, instance, watch)?)?;
+    }
+    Ok(idles)
 }
 
 /// The jobs of all instances before their first events, in order. Each inner channel has a new lane, whose ends are with
 /// the channel's writer and reader. It refuses only where memory was refused.
-pub fn jobs<'n>(
+pub fn jobs(
     alloc: Global,
-    network: &'n Network,
-    input: &'n Input,
+    network: &Network,
+    input: &Input,
     code: &Code,
     watch: Option<usize>,
-) -> Result<Vec<Job<'n>>, JobFault>
+) -> Result<Vec<Idle>, NoMemory>
     requires { code.now.network.value ≡ network.now }
-    ensures { IfOk result (λ jobs. AreOpening network.now input.now watch jobs.items) }
+    ensures { IfOk result (λ idles. AreOpening network.now input.now watch idles.items) }
 {
     let _program = network.program();
-    let mut rows = all_rows(alloc, network, input)?;
-    let mut jobs = Vec::new(alloc);
-    for instance in 0..network.instances() {
-        let row = take_row(alloc, &mut rows, instance);
-        jobs.push(opening_job(alloc, network, input, code, instance, watch, row)?)?;
-    }
-    Ok(jobs)
+    let bare = bare_jobs(alloc, network, input, code, watch)?;
+    let idles = hand_all(alloc, network, input, bare)?;
+    Ok(idles)
 }

@@ -1,12 +1,12 @@
 //! The end of a channel that a parameter has.
 
-ghost use Rattle.std.specs.Prelude.{◌≡◌, ◌⊎◌, ℕ, ◌<◌, ◌+◌, ◌^◌, true, length, Some, IfSome, IfNone, IfOk, IfErr, IsOk, IsSome, IsTrue, IsFalse, OnOk, OnErr, MatchResult};
+ghost use Rattle.std.specs.Prelude.{◌≡◌, ◌⊎◌, ℕ, ◌<◌, ◌≤◌, ◌+◌, ◌^◌, true, length, Some, IfSome, IfNone, IfOk, IfErr, IsOk, IsSome, IsTrue, IsFalse, OnOk, OnErr, MatchResult};
 ghost use Rattle.kahn_network.specs.Network.{network_of, role_at};
 ghost use Rattle.kahn_lane.specs.LaneEnds.{SameSender, flushed, left, sender_lane, sender_name, sent};
 ghost use Rattle.kahn_lane.specs.Places.{moved_to, token_name};
 ghost use Rattle.kahn_lane.specs.declared.name.LaneName.{LaneName};
 ghost use Rattle.kahn_tree.specs.declared.tree.Role.TheVariants.{Input as InputRole};
-ghost use Rattle.kahn_job.specs.inner.Ends.{Advances, FlushesFull, MayMeet, Meets, HasRoom, IsDry, IsFlushed, IsReady, IsSame, ShareLane};
+ghost use Rattle.kahn_job.specs.inner.Ends.{Advances, FlushesFull, HasRoom, IsDry, IsFlushed, IsReady, IsSame, MayMeet, ShareLane};
 ghost use Rattle.kahn_job.specs.inner.Berths.{HasStayed, IsWithinInput, IsFor};
 ghost use Rattle.kahn_job.specs.inner.Settling.{BothSettle, CanFeed, CanSettle, HasSettled};
 ghost use Rattle.kahn_job.specs.inner.Ways.{taking, feeding, putting, no_end};
@@ -217,12 +217,10 @@ impl Port {
         requires { CanFeed input.now self.old }
         ensures { (n : LaneName) → self.old.name ≡ Some n → HasSettled (moved_to input.now n) self.old self.new }
     {
-        match &mut self.way {
-            Way::Takes(_, _) => unreachable!(),
-            Way::Feeds(feed) => feed.regrow(input),
-            Way::Puts(_) => unreachable!(),
-            Way::Nothing => unreachable!(),
-        }
+        let Way::Feeds(feed) = &mut self.way else {
+            unreachable!()
+        };
+        feed.regrow(input);
     }
 
     /// With the reader's end of its lane: the two ends of a lane for an input that has grown. Where memory is refused both
@@ -237,12 +235,10 @@ impl Port {
         ensures settled { IfOk result (λ r. (n : LaneName) → self.name ≡ Some n → BothSettle (moved_to input.now n) self reader r.0 r.1) }
         ensures refused { IfErr result (λ e. (e.1 ≡ self) × (e.2 ≡ reader)) }
     {
-        match self.way {
-            Way::Takes(_, _) => unreachable!(),
-            Way::Feeds(_) => unreachable!(),
-            Way::Puts(sender) => reader.settle_sender(sender, input),
-            Way::Nothing => unreachable!(),
-        }
+        let Way::Puts(sender) = self.way else {
+            unreachable!()
+        };
+        reader.settle_sender(sender, input)
     }
 
     // The same, where this is the reader's end.
@@ -270,20 +266,19 @@ impl Port {
         }
     }
 
-    /// With the reader's end of its lane in one thread: how many tokens were flushed and not taken. The reader knows then
-    /// of all that were flushed. It takes no memory.
+    /// With the reader's end of its lane in one thread: how many tokens were flushed and not taken, which are no fewer than
+    /// those at hand. It takes no memory.
     pub(crate) fn meet(&mut self, reader: &mut Port) -> u64
         requires { MayMeet self.old reader.old }
         ensures writer { HasStayed self.old self.new }
         ensures reader { HasStayed reader.old reader.new }
-        ensures met { Meets self.old reader.old reader.new result }
+        ensures count { reader.old.next + result ≡ self.old.flushed }
+        ensures held { reader.old.waiting ≤ result }
     {
-        match &mut self.way {
-            Way::Takes(_, _) => unreachable!(),
-            Way::Feeds(_) => unreachable!(),
-            Way::Puts(sender) => reader.meet_sender(sender),
-            Way::Nothing => unreachable!(),
-        }
+        let Way::Puts(sender) = &mut self.way else {
+            unreachable!()
+        };
+        reader.meet_sender(sender)
     }
 
     // The same, where this is the reader's end.
@@ -292,18 +287,13 @@ impl Port {
         requires lane { self.old.lane ≡ Some (sender_lane sender.old) }
         ensures writer { SameSender sender.old sender.new × (sent sender.new ≡ sent sender.old) × (flushed sender.new ≡ flushed sender.old) }
         ensures reader { HasStayed self.old self.new }
-        ensures met { Meets (putting sender.old) self.old self.new result }
+        ensures count { self.old.next + result ≡ flushed sender.old }
+        ensures held { self.old.waiting ≤ result }
     {
-        match &mut self.way {
-            Way::Takes(receiver, asked) => {
-                let waiting = meet(sender, receiver);
-                *asked = left_of(receiver);
-                waiting
-            }
-            Way::Feeds(_) => unreachable!(),
-            Way::Puts(_) => unreachable!(),
-            Way::Nothing => unreachable!(),
-        }
+        let Way::Takes(receiver, _) = &mut self.way else {
+            unreachable!()
+        };
+        meet(sender, receiver)
     }
 
     /// Says that of an input channel no more is ready than its list has: its contract is what it does.

@@ -1,15 +1,13 @@
 //! The ends of the channels of an instance.
 
 ghost use Rattle.std.specs.Prelude.{◌≡◌, ◌<◌, ◌≤◌, ◌+◌, true, length, OnOk};
-ghost use Rattle.kahn_job.specs.inner.Berths.{AreFlushed, AreServed, HaveFlushed, HaveStayed, IsWithinInput, end_at, seat_at};
-ghost use Rattle.kahn_job.specs.inner.Ends.{MayMeet, Meets};
+ghost use Rattle.kahn_job.specs.inner.Berths.{AreFlushed, AreServed, HaveFlushed, IsWithinInput, end_at, seat_at};
 
 use crate::port::Port;
 use kahn_code::Ports;
 use kahn_network::Network;
 use kahn_streams::{Input, NoMemory, Token};
 use std::marker::Model;
-use std::mem;
 
 /// The ends of the channels of an instance, one for each parameter. What the instance reads it takes from a lane or from
 /// the list of an input channel; what it writes it puts into a lane. Nothing is put on an output channel.
@@ -119,29 +117,6 @@ impl<'n> Ends<'n> {
         let _instance = self.instance;
     }
 
-    /// With the ends of its reader in one thread: how many tokens were flushed on an output and not taken. It takes no
-    /// memory.
-    pub(crate) fn meet(&mut self, output: usize, reader: &mut Ends<'n>, input: usize) -> u64
-        requires { MayMeet (end_at self.old.ends output) (end_at reader.old.ends input) }
-        ensures seats { (seat_at self.new ≡ seat_at self.old) × (seat_at reader.new ≡ seat_at reader.old) }
-        ensures writer { HaveStayed self.old.ends self.new.ends }
-        ensures reader { HaveStayed reader.old.ends reader.new.ends }
-        ensures met { Meets (end_at self.old.ends output) (end_at reader.old.ends input) (end_at reader.new.ends input) result }
-    {
-        meet_at(&mut self.ports, output, &mut reader.ports, input)
-    }
-
-    /// The same, of an output that it reads itself.
-    pub(crate) fn meet_self(&mut self, output: usize, input: usize) -> u64
-        requires apart { output ≡ input → ⊥ }
-        requires can { MayMeet (end_at self.old.ends output) (end_at self.old.ends input) }
-        ensures seat { seat_at self.new ≡ seat_at self.old }
-        ensures ends { HaveStayed self.old.ends self.new.ends }
-        ensures met { Meets (end_at self.old.ends output) (end_at self.old.ends input) (end_at self.new.ends input) result }
-    {
-        meet_within(&mut self.ports, output, input)
-    }
-
     /// Says that of an input channel no more is ready on a parameter than its list has: its contract is what it does.
     pub fn fed(&self, parameter: usize)
         requires { parameter < length self.now.ends }
@@ -157,29 +132,6 @@ impl<'n> Ends<'n> {
     {
         self.ports[parameter].flushed()
     }
-}
-
-// A meeting of an end with one of another instance.
-fn meet_at(writers: &mut [Port], output: usize, readers: &mut [Port], input: usize) -> u64
-    requires { MayMeet (end_at writers.old output) (end_at readers.old input) }
-    ensures writer { HaveStayed writers.old writers.new }
-    ensures reader { HaveStayed readers.old readers.new }
-    ensures met { Meets (end_at writers.old output) (end_at readers.old input) (end_at readers.new input) result }
-{
-    writers[output].meet(&mut readers[input])
-}
-
-// A meeting of two ends of one instance.
-fn meet_within(ports: &mut [Port], output: usize, input: usize) -> u64
-    requires apart { output ≡ input → ⊥ }
-    requires can { MayMeet (end_at ports.old output) (end_at ports.old input) }
-    ensures ends { HaveStayed ports.old ports.new }
-    ensures met { Meets (end_at ports.old output) (end_at ports.old input) (end_at ports.new input) result }
-{
-    let mut reader = mem::replace(&mut ports[input], Port::nothing());
-    let waiting = ports[output].meet(&mut reader);
-    ports[input] = reader;
-    waiting
 }
 
 // Flushes each end, up to the first refusal.

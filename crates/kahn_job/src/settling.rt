@@ -1,35 +1,16 @@
 //! The ends of all channels go on with an input that has grown.
 
-ghost use Rattle.std.specs.Prelude.{◌≡◌, ◌<◌, length, Some, OnOk};
+ghost use Rattle.std.specs.Prelude.{◌≡◌, ◌<◌, length, OnOk};
 ghost use Rattle.kahn_network.specs.Network.{network_of};
 ghost use Rattle.kahn_job.specs.inner.Idles.{HaveSettled, cells_of, rows_of};
-ghost use Rattle.kahn_job.specs.inner.Openings.{placed};
-ghost use Rattle.kahn_job.specs.inner.Settling.{GoesOrStays, AreResting, AreSettled, CanFeed, CanSettle, HasExchanged, HasPlace, HaveExchanged, HaveStood, end_of_side};
+ghost use Rattle.kahn_job.specs.inner.Lanes.{HasPlace, end_of_side};
+ghost use Rattle.kahn_job.specs.inner.Settling.{GoesOrStays, AreResting, AreSettled, CanFeed, CanSettle, HasExchanged, HaveExchanged, HaveStood};
 
+use crate::exchanging::{exchange, put_two, take_two};
 use crate::idle::Idle;
 use crate::port::Port;
 use kahn_network::{Network, Side};
 use kahn_streams::{Input, NoMemory};
-
-// Gives a parameter another end, and gives out the one it had.
-fn exchange(idles: &mut [Idle], side: Side, port: Port) -> Port
-    requires { HasPlace (rows_of idles.old) side }
-    ensures port { result ≡ end_of_side (rows_of idles.old) side }
-    ensures rows { rows_of idles.new ≡ placed (rows_of idles.old) (Some side) port }
-    ensures cells { cells_of idles.new ≡ cells_of idles.old }
-{
-    idles[side.instance].replace(side.parameter, port)
-}
-
-// Two ends come to their parameters.
-fn put_back(idles: &mut [Idle], writer: Side, sender: Port, reader: Side, receiver: Port)
-    requires { HasPlace (rows_of idles.old) writer × HasPlace (rows_of idles.old) reader }
-    ensures rows { rows_of idles.new ≡ placed (placed (rows_of idles.old) (Some writer) sender) (Some reader) receiver }
-    ensures cells { cells_of idles.new ≡ cells_of idles.old }
-{
-    let _none = exchange(idles, writer, sender);
-    let _none = exchange(idles, reader, receiver);
-}
 
 // The lane between two parameters goes on with the input.
 fn settle_lane(
@@ -44,15 +25,14 @@ fn settle_lane(
     ensures ends { GoesOrStays result (HaveExchanged input.now writer reader) (rows_of idles.old) (rows_of idles.new) }
     ensures cells { cells_of idles.new ≡ cells_of idles.old }
 {
-    let sender = exchange(idles, writer, Port::nothing());
-    let receiver = exchange(idles, reader, Port::nothing());
+    let (sender, receiver) = take_two(idles, writer, reader);
     match sender.settle(receiver, input) {
         Ok((sender, receiver)) => {
-            put_back(idles, writer, sender, reader, receiver);
+            put_two(idles, writer, sender, reader, receiver);
             Ok(())
         }
         Err((fault, sender, receiver)) => {
-            put_back(idles, writer, sender, reader, receiver);
+            put_two(idles, writer, sender, reader, receiver);
             Err(fault)
         }
     }

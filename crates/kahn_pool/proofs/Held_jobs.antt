@@ -1,41 +1,38 @@
 -- The jobs of a held run: how they become tasks, and how tasks come to rest.
-use Rattle.std.proofs.Common.{arith, ◌≡◌, ℕ, suc, ◌+◌, ◌≤◌, List, [], ◌∷◌, All, length, map, sum_by, refl, sym, ap, ◌∙◌, subst, Some, slice_get, slice_index_or, Bool, true, false, Option, Result, Ok, Err, MatchResult}
+use Rattle.std.proofs.Common.{arith, ◌≡◌, ℕ, suc, ◌+◌, ◌≤◌, List, [], ◌∷◌, length, map, sum_by, refl, sym, ap, ◌∙◌, subst, Some, slice_get, Bool, Option, Result, Ok, Err, MatchResult}
 use Rattle.std.proofs.lemmas.List.{length-map}
 use Rattle.std.proofs.lemmas.List.Sums.{sum_by-cons}
 use Rattle.kahn_tree.specs.declared.tree.Program.{Program}
-use Rattle.kahn_network.specs.Network.{Writes, network_of, instance_at, actual_at, role_at}
+use Rattle.kahn_network.specs.Network.{network_of}
 use Rattle.kahn_streams.specs.Laws.{AreInputsExtended}
 use Rattle.kahn_streams.specs.Tokens.{Lists, inputs_of}
-use Rattle.kahn_code.specs.Cells.{StoodBy, is_output}
+use Rattle.kahn_code.specs.Cells.{StoodBy}
 use Rattle.kahn_code.specs.Told.{Told, told_view}
-use Rattle.kahn_job.specs.inner.Berths.{Serves, end_at}
-use Rattle.kahn_job.specs.inner.Ends.{ShareLane}
-use Rattle.kahn_job.specs.inner.Idles.{AreIdle, AreJoinedJobs, CanGoOn, HaveSettled as RowsSettled, cells_of, rows_of}
-use Rattle.kahn_job.specs.inner.Works.{IsDelivered, IsJob, Work}
-use Rattle.kahn_job.proofs.Idles.{all_idle, cell_there, idle_goes_on, idle_grown, row_there}
-use Rattle.kahn_job.proofs.Settles.{stood_same}
+use Rattle.kahn_job.specs.inner.Idles.{AreIdle, AreJoinedJobs, HaveMet, cells_of, rows_of}
+use Rattle.kahn_job.specs.inner.Lanes.{AreJoinedOn}
+use Rattle.kahn_job.specs.inner.Works.{IsJob, Work}
+use Rattle.kahn_job.proofs.Idles.{all_idle, cell_there, idle_grown, idle_met}
 use Rattle.kahn_board.specs.Dealt.{events_told}
-use Rattle.kahn_crew.specs.inner.Begins.{AreReadyTasks, IsReadyTask, woken_task}
+use Rattle.kahn_crew.specs.inner.Begins.{woken_task}
 use Rattle.kahn_crew.specs.inner.Left.{AreUntouched, HaveGone, task_events}
 use Rattle.kahn_crew.specs.inner.Tasks.{Tasked, told_tale, work_of}
 use Rattle.kahn_crew.proofs.Ended.{all_told}
-use Rattle.kahn_crew.proofs.Started.{at_mapped, at_most_all, mapped_at, read_there}
+use Rattle.kahn_crew.proofs.Started.{at_mapped, at_most_all, mapped_at}
 use Rattle.kahn_pool.specs.inner.Concluded.{IsConcluded}
 use Rattle.kahn_pool.specs.HeldRuns.{seen_of}
-use Rattle.kahn_pool.specs.inner.Holding.{AreEnded, AreHeld, HasRisen, HasStopped, HaveRisen, cell_alone, held_state, work_events}
-use Rattle.kahn_pool.specs.inner.Meetings.{HaveMet}
+use Rattle.kahn_pool.specs.inner.Holding.{AreEnded, AreHeld, AreHeldBy, HasRisen, HasStoppedPart, HaveRisen, cell_alone, held_state, seen_by, work_events}
 use Rattle.kahn_pool.specs.inner.Rested.{HaveSettledTasks, IsInstanceTask, cell_of, state_of_tasks}
 use Rattle.kahn_pool.specs.inner.Bench.{RunState}
 use Rattle.kahn_pool.specs.declared.answer.End.{End as RunEnd}
 use Rattle.kahn_pool.specs.declared.answer.Verdict.{Verdict}
+use Rattle.kahn_pool.specs.declared.part.Part.{Part}
 use Rattle.kahn_pool.specs.declared.part.Stopped.{Stopped}
 use Rattle.kahn_crew.specs.inner.Wants.{IsLack}
 use Rattle.kahn_crew.specs.declared.fault.CrewFault.{CrewFault}
 use Rattle.kahn_crew.specs.declared.fault.CrewFault.TheVariants.{NoMemory}
 use Rattle.kahn_streams.proofs.Proved.{prefix_refl}
-use Rattle.kahn_pool.proofs.Benched.{got, some_one, within_get}
+use Rattle.kahn_pool.proofs.Benched.{some_one}
 use Rattle.kahn_pool.proofs.Over as over
-use Rattle.kahn_pool.proofs.Over.{same_cells}
 
 -- ---- idle jobs become tasks
 
@@ -52,49 +49,6 @@ woken_events lists (w ∷ ws) =
 
 pub events_woken : (lists : Lists) (ws : List Work) → events_told told_tale (map (woken_task lists) ws) ≡ sum_by work_events ws
 events_woken lists ws = sym (all_told (map (woken_task lists) ws)) ∙ woken_events lists ws
-
-module _ (t : Program) (lists : Lists) (watch : Option ℕ) (bound : ℕ) (ws : List Work) (budget : ℕ) (h : AreHeld t lists watch bound ws budget)
-    (settled : RowsSettled t lists (rows_of ws)) where
-  pub goes_on : (p : ℕ) (w : Work) → slice_get ws p ≡ Some w → CanGoOn t lists w
-  goes_on = idle_goes_on t lists ws h.idle ws refl (λ p q. stood_same _ _ refl) settled
-
-  writes_there : (w : Work) → CanGoOn t lists w → (q d : ℕ) → actual_at (instance_at (network_of t) w.cell.instance) q ≡ Writes d →
-      is_output (role_at (network_of t) d) ≡ false → (end_at w.ends q).writes ≡ true
-  writes_there w x q d i o = (subst (λ a. Serves t lists a (end_at w.ends q)) i (x.served.each q) o).0
-
-  delivered : (p : ℕ) (w : Work) → slice_get ws p ≡ Some w → IsDelivered w
-  delivered p w e q d i o =
-      let x = goes_on p w e in
-      let is = (h.idle.each p w e).instance in
-      let at : actual_at (instance_at (network_of t) w.cell.instance) q ≡ Writes d = subst (λ k. actual_at (instance_at (network_of k) w.cell.instance) q ≡ Writes d) x.network i in
-      let inner : is_output (role_at (network_of t) d) ≡ false = subst (λ k. is_output (role_at (network_of k) d) ≡ false) x.network o in
-      let flushed = settled.flushed p q d (subst (λ n. actual_at (instance_at (network_of t) n) q ≡ Writes d) is at) inner in
-      let row : slice_index_or (rows_of ws) p [] ≡ w.ends = row_there ws p w e in
-      subst (λ es. (end_at es q).writes ≡ true → (end_at es q).flushed ≡ (end_at es q).next) row flushed (writes_there w x q d at inner)
-      ∙ x.at.writes q d i o
-
-  pub woken_ready : AreReadyTasks t lists watch (map (woken_task lists) ws)
-  woken_ready = record {
-    count = length-map ws (woken_task lists) ∙ h.idle.count;
-    each = λ p y e. let m = mapped_at (woken_task lists) ws p y e in subst (IsReadyTask t lists watch p) (sym m.2) (ready p m.0 m.1);
-    joined = λ p r o q d x y e f i j.
-        let a = mapped_at (woken_task lists) ws p x e in
-        let b = mapped_at (woken_task lists) ws r y f in
-        subst (λ (z : Tasked). ShareLane (end_at z.work.ends o) (end_at y.work.ends q)) (sym a.2)
-        (subst (λ (z : Tasked). ShareLane (end_at a.0.ends o) (end_at z.work.ends q)) (sym b.2)
-        (subst (λ es. ShareLane (end_at es o) (end_at b.0.ends q)) (row_there ws p a.0 a.1)
-        (subst (λ es. ShareLane (end_at (slice_index_or (rows_of ws) p []) o) (end_at es q)) (row_there ws r b.0 b.1) (settled.joined p r o q d i j))));
-  }
-    where
-      ready : (p : ℕ) (w : Work) → slice_get ws p ≡ Some w → IsReadyTask t lists watch p (woken_task lists w)
-      ready p w e = record {
-        network = (goes_on p w e).network;
-        input = refl;
-        instance = (h.idle.each p w e).instance;
-        watched = h.watched p w e;
-        published = refl;
-        delivered = delivered p w e;
-      }
 
 -- ---- tasks come to rest
 
@@ -131,55 +85,36 @@ sum_cells (w ∷ ws) (x ∷ xs) e =
     rest e = cc
 
 module _ (t : Program) (lists : Lists) (watch : Option ℕ) (bound : ℕ) (first old : List Tasked) (budget : ℕ)
-    (gone : HaveGone t lists watch bound first old budget) (new : List Tasked) (asked : HaveSettledTasks old new) (met : List Tasked) (meets : HaveMet new met)
-    (ws : List Work) (same : ws ≡ map work_of met) (jobs : All IsJob ws) where
-  cells_met : cells_of ws ≡ map cell_of met
-  cells_met = ap cells_of same ∙ works_of met
+    (gone : HaveGone t lists watch bound first old budget) (new : List Tasked) (asked : HaveSettledTasks old new) (ws : List Work) (same : ws ≡ map work_of new) where
+  cells_new : cells_of ws ≡ map cell_of new
+  cells_new = ap cells_of same ∙ works_of new
 
   pub cells_after : cells_of ws ≡ map cell_of old
-  cells_after = cells_met ∙ same_cells new met meets ∙ settled_cells old new asked
+  cells_after = cells_new ∙ settled_cells old new asked
 
-  pub cells_new : cells_of ws ≡ map cell_of new
-  cells_new = cells_met ∙ same_cells new met meets
-
-  met_at : (p : ℕ) (w : Work) → slice_get ws p ≡ Some w → (y : Tasked) × (slice_get met p ≡ Some y) × (w ≡ y.work)
-  met_at p w e = mapped_at work_of met p w (subst (λ (l : List Work). slice_get l p ≡ Some w) same e)
-
-  new_at : (p : ℕ) (y : Tasked) → slice_get met p ≡ Some y → (x : Tasked) × (slice_get new p ≡ Some x)
-  new_at p y e = let l = within_get met p y e in let n = meets.count in got new p (omega (arith, l, n))
+  new_at : (p : ℕ) (w : Work) → slice_get ws p ≡ Some w → (x : Tasked) × (slice_get new p ≡ Some x) × (w ≡ x.work)
+  new_at p w e = mapped_at work_of new p w (subst (λ (l : List Work). slice_get l p ≡ Some w) same e)
 
   -- the cell of a job is that of the task that was asked
   cell_at : (p : ℕ) (w : Work) (e : slice_get ws p ≡ Some w) → (x : Tasked) × (slice_get new p ≡ Some x) × (w.cell ≡ x.work.cell)
-  cell_at p w e =
-      let y = met_at p w e in
-      let x = new_at p y.0 y.1 in
-      (x.0, x.1, ap (λ (z : Work). z.cell) y.2 ∙ (meets.each p x.0 y.0 x.1 y.1).cell)
+  cell_at p w e = let x = new_at p w e in (x.0, x.1, ap (λ (z : Work). z.cell) x.2)
 
   task_at : (p : ℕ) (x : Tasked) → slice_get new p ≡ Some x → IsInstanceTask t lists watch p x
   task_at = over.of_new t lists watch bound first old budget gone new asked
 
   together : AreJoinedJobs t lists ws
   together = record {
-    count = ap (λ (l : List Work). length l) same ∙ length-map met work_of ∙ meets.count ∙ asked.count ∙ gone.count;
+    count = ap (λ (l : List Work). length l) same ∙ length-map new work_of ∙ asked.count ∙ gone.count;
     each = λ p w e.
-        let x = cell_at p w e in
-        let o = task_at p x.0 x.1 in (
-          subst IsJob (read_there ws p w w e) (jobs p w (within_get ws p w e)),
-          ap (λ (c : Told). c.network) x.2 ∙ o.network,
-          ap (λ (c : Told). c.input) x.2 ∙ o.input,
-          ap (λ (c : Told). c.instance) x.2 ∙ o.instance,
+        let x = new_at p w e in
+        let o = task_at p x.0 x.1 in
+        let c = ap (λ (z : Work). z.cell) x.2 in (
+          subst IsJob (sym x.2) (over.step t lists watch bound first old budget gone new asked p x.0 x.1).settled.job,
+          ap (λ (c : Told). c.network) c ∙ o.network,
+          ap (λ (c : Told). c.input) c ∙ o.input,
+          ap (λ (c : Told). c.instance) c ∙ o.instance,
         );
-    joined = λ p r o q d w v e f i j.
-        let a = met_at p w e in
-        let b = met_at r v f in
-        let x = new_at p a.0 a.1 in
-        let y = new_at r b.0 b.1 in
-        let s = (over.joined_new t lists watch bound first old budget gone new asked).joined p r o q d x.0 y.0 x.1 y.1 i j in
-        let la : (end_at w.ends o).lane ≡ (end_at x.0.work.ends o).lane =
-        ap (λ (z : Work). (end_at z.ends o).lane) a.2 ∙ (((meets.each p x.0 a.0 x.1 a.1).ends.each o).same).lane in
-        let lb : (end_at v.ends q).lane ≡ (end_at y.0.work.ends q).lane =
-        ap (λ (z : Work). (end_at z.ends q).lane) b.2 ∙ (((meets.each r y.0 b.0 y.1 b.1).ends.each q).same).lane in
-        (s.0, la ∙ s.1, lb ∙ s.2);
+    joined = λ d. subst (λ l. AreJoinedOn (network_of t) (rows_of l) d) (sym same) (over.joined_new t lists watch bound first old budget gone new asked d);
   }
 
   stood_at : (p : ℕ) (w : Work) → slice_get ws p ≡ Some w → StoodBy (network_of t) (inputs_of w.cell.input) watch p (told_view w.cell)
@@ -201,11 +136,12 @@ module _ (t : Program) (lists : Lists) (watch : Option ℕ) (bound : ℕ) (first
     events = let a = gone.events in let b = sum_cells ws old cells_after in omega (arith, a, b);
   }
 
-  pub held_concluded : (halted : Bool) (v : Verdict) (ends : List RunEnd) → IsConcluded (state_of_tasks t lists watch new) bound budget halted v ends →
-      IsConcluded (held_state t lists watch ws) bound budget halted v ends
-  held_concluded halted v ends c =
+  -- also where their ends have met
+  pub held_concluded : (us : List Work) → cells_of us ≡ cells_of ws → (halted : Bool) (v : Verdict) (ends : List RunEnd) →
+      IsConcluded (state_of_tasks t lists watch new) bound budget halted v ends → IsConcluded (held_state t lists watch us) bound budget halted v ends
+  held_concluded us met halted v ends c =
       subst (λ cs. IsConcluded (let r : RunState = record { network = network_of t; input = inputs_of lists; watch = watch; cells = map told_view cs } in r) bound budget halted v ends)
-      (sym cells_new) c
+      (sym (met ∙ cells_new)) c
 
 -- before their first events
 pub none_done : (old new : List Tasked) → HaveSettledTasks old new → (ws : List Work) → ws ≡ map work_of new → events_told told_tale old ≡ 0 →
@@ -319,6 +255,10 @@ module _ (t : Program) (lists : Lists) (watch : Option ℕ) (bound : ℕ) (us ws
           rest : v.cell ∷ cells_of us ≡ w.cell ∷ cells_of ws → cells_of us ≡ cells_of ws
           rest e = cc
 
+  -- where their ends have met
+  pub held_met : HaveMet ws us → AreHeld t lists watch bound us budget
+  held_met m = held_alike m.cells (idle_met t lists ws h.idle us m)
+
   -- so many events more are allowed
   pub held_more : (more total : ℕ) → total ≡ bound + more → AreHeld t lists watch total ws (budget + more)
   held_more more total e = record { idle = h.idle; watched = h.watched; stood = h.stood; events = let a = h.events in omega (arith, a, e) }
@@ -333,34 +273,22 @@ module _ (t : Program) (lists : Lists) (watch : Option ℕ) (bound : ℕ) (us ws
 
 -- ---- how a part stopped
 
-ok_err : {A B : Type 0} {a : A} {b : B} → ◌≡◌ {A = Result A B} (Ok a) (Err b) → ⊥
+pub ok_err : {A B : Type 0} {a : A} {b : B} → ◌≡◌ {A = Result A B} (Ok a) (Err b) → ⊥
 ok_err e = cc
 
 err_same : {A B : Type 0} {a b : B} → ◌≡◌ {A = Result A B} (Err a) (Err b) → a ≡ b
 err_same e = cc
 
-module _ (t : Program) (lists : Lists) (watch : Option ℕ) (workers bound : ℕ) (old : List Work) (more : ℕ) (r : Stopped)
-    (held : AreHeld t lists watch bound r.idles.items r.budget) (risen : HaveRisen old r.idles.items) where
-  abbrev Concludes : Verdict → Type 0
-  Concludes v = (halted : Bool) × IsConcluded (held_state t lists watch r.idles.items) bound r.budget halted v r.ends.items
-
-  pub stopped_so : (v : Verdict) (halted : Bool) → r.outcome ≡ Ok v → IsConcluded (held_state t lists watch r.idles.items) bound r.budget halted v r.ends.items →
-      HasStopped t lists watch workers bound old more r
-  stopped_so v halted e c = record {
-    held = held;
-    risen = risen;
-    outcome = subst (λ o. MatchResult o Concludes (IsLack workers)) (sym e) (halted, c);
-    untouched = λ f. absurd (ok_err (sym e ∙ f));
-  }
-
-  pub refused_so : (fault : CrewFault) → IsLack workers fault → r.outcome ≡ Err fault →
-      (fault ≡ NoMemory → (r.budget ≡ more) × (map cell_alone (cells_of r.idles.items) ≡ map cell_alone (cells_of old))) → HasStopped t lists watch workers bound old more r
-  refused_so fault want e still = record {
-    held = held;
-    risen = risen;
-    outcome = subst (λ o. MatchResult o Concludes (IsLack workers)) (sym e) want;
-    untouched = λ f. still (err_same (sym e ∙ f));
-  }
+-- it was refused, with the jobs as they are
+pub refused_so : (part : Part) (old : List Work) (r : Stopped) → AreHeldBy part r.idles.items r.budget → HaveRisen old r.idles.items → (fault : CrewFault) →
+    IsLack part.plan.workers fault → r.outcome ≡ Err fault →
+    (fault ≡ NoMemory → (r.budget ≡ part.plan.bound) × (map cell_alone (cells_of r.idles.items) ≡ map cell_alone (cells_of old))) → HasStoppedPart part old r
+refused_so part old r held risen fault want e still = record {
+  held = held;
+  risen = risen;
+  outcome = subst (λ o. MatchResult o (λ v. (halted : Bool) × IsConcluded (seen_by part r.idles.items) part.bound r.budget halted v r.ends.items) (IsLack part.plan.workers)) (sym e) want;
+  untouched = λ f. still (err_same (sym e ∙ f));
+}
 
 -- jobs whose cells are the same
 pub rises_since : (ws vs us : List Work) → cells_of us ≡ cells_of ws → HaveRisen us vs → HaveRisen ws vs
@@ -376,9 +304,8 @@ pub risen_here : (ws : List Work) → HaveRisen ws ws
 risen_here ws p w v e f =
     subst (HasRisen w) (some_one (sym e ∙ f)) (record { events = omega arith; input = λ c. prefix_refl (inputs_of w.cell.input c) })
 
-pub stopped_since : (t : Program) (lists : Lists) (watch : Option ℕ) (workers bound : ℕ) (ws us : List Work) (more : ℕ) (r : Stopped) → cells_of us ≡ cells_of ws →
-    HasStopped t lists watch workers bound us more r → HasStopped t lists watch workers bound ws more r
-stopped_since t lists watch workers bound ws us more r cells h = record {
+pub stopped_since : (part : Part) (ws us : List Work) (r : Stopped) → cells_of us ≡ cells_of ws → HasStoppedPart part us r → HasStoppedPart part ws r
+stopped_since part ws us r cells h = record {
   held = h.held;
   risen = rises_since ws r.idles.items us cells h.risen;
   outcome = h.outcome;

@@ -15,10 +15,7 @@ use Rattle.kahn_streams.specs.Tokens.{Lists, inputs_of}
 use Rattle.kahn_streams.proofs.Proved.{prefix_refl}
 use Rattle.kahn_code.specs.Cells.{StoodBy, View, token_value}
 use Rattle.kahn_code.specs.Told.{Told, told_view}
-use Rattle.kahn_job.specs.inner.Idles.{cells_of, rows_of}
-use Rattle.kahn_job.specs.inner.Settling.{AreResting, HaveStood}
-use Rattle.kahn_job.proofs.Idles.{idle_still}
-use Rattle.kahn_job.proofs.Settles.{stood_same}
+use Rattle.kahn_job.specs.inner.Idles.{cells_of}
 use Rattle.kahn_crew.specs.inner.Wants.{IsLack}
 use Rattle.kahn_crew.specs.declared.fault.CrewFault.TheVariants.{NoMemory, NoThread}
 use Rattle.kahn_pool.specs.declared.part.Stopped.{Stopped}
@@ -28,7 +25,7 @@ use Rattle.kahn_pool.specs.inner.Concluded.{IsConcluded}
 use Rattle.kahn_pool.specs.Exact.{Settles}
 use Rattle.kahn_pool.specs.inner.Gathered.{IsFrom, IsGathered, no_view, view_at}
 use Rattle.kahn_pool.specs.HeldRuns.{GoesOn, HasResumed, HeldRun, IsAnswerOf, IsResumed, IsSoFar, Seen, seen_at, seen_events, seen_of, unseen}
-use Rattle.kahn_pool.specs.inner.Holding.{AreEnded, AreHeld, HasStopped, HaveRisen, IsHolding, cell_alone, cells_seen, held_state, work_events}
+use Rattle.kahn_pool.specs.inner.Holding.{AreHeld, HasStopped, HaveRisen, IsHolding, cells_seen, held_state, work_events}
 use Rattle.kahn_pool.specs.Right.{IsRight, stream_lines}
 use Rattle.kahn_pool.specs.inner.Workbench.{AllStandBy}
 use Rattle.kahn_pool.specs.declared.answer.Answer.{Answer}
@@ -37,7 +34,7 @@ use Rattle.kahn_pool.specs.declared.answer.Verdict.{Verdict}
 use Rattle.kahn_pool.proofs.Assembling.{are_right}
 use Rattle.kahn_pool.proofs.Benched.{mapped}
 use Rattle.kahn_pool.proofs.Final.{gathered, stopped}
-use Rattle.kahn_pool.proofs.Held_jobs.{ended_alike, held_again, held_alike, held_grown, held_more, rises_since, risen_here, same_seen}
+use Rattle.kahn_pool.proofs.Held_jobs.{ended_alike, held_again, held_grown, risen_here, same_seen}
 use Rattle.kahn_pool.proofs.Going_on as Going
 use Rattle.kahn_pool.proofs.Going_on.{HasRisenTo}
 use Rattle.kahn_pool.proofs.Sizes.{settles_ends}
@@ -213,73 +210,16 @@ module _ (t : Program) (wired : IsWellWired t) (compiled : Program) (lists : Lis
         goes_on t wired lists after grown watch workers quantum bound bound ws ws budget budget h.held (held_grown t lists watch bound ws ws budget h.held after grown)
         (risen_here ws) verdict None
 
-  -- the ends of the channels have settled, or were about to
-  module _ (us : List Work) (cells : cells_of us ≡ cells_of ws) (stood : HaveStood (rows_of ws) (rows_of us)) (resting : AreResting t lists (rows_of us)) where
-    held_now : AreHeld t lists watch bound us budget
-    held_now = held_alike t lists watch bound us ws budget h.held cells (idle_still t lists ws h.held.idle us cells stood resting)
-
-    alone : map cell_alone (cells_of us) ≡ map cell_alone (cells_of ws)
-    alone = ap (λ (cs : List Told). map cell_alone cs) cells
-
-    pub holding_now : IsHolding t compiled lists watch workers quantum bound us budget ends verdict
-    holding_now = record {
-      code = h.code;
-      fits = h.fits;
-      range = h.range;
-      held = held_now;
-      ended = ended_alike us ws alone t lists watch bound budget ends verdict h.ended;
-    }
-
-    pub same_now : held_run bound us verdict ≡ held_run bound ws verdict
-    same_now = ap (λ (cs : List Seen). record { network = t; input = lists; watch = watch; workers = workers; quantum = quantum; bound = bound; cells = cs; verdict = verdict }) (same_seen us ws alone)
-
-    module _ (more total : ℕ) (sum : total ≡ bound + more) (few : total < 2 ^ 48) where
-      pub part_held : AreHeld t lists watch total us (budget + more)
-      part_held = held_more t lists watch bound us us budget held_now more total sum
-
-      module _ (vs : List Work) (left : ℕ) (after : AreHeld t lists watch total vs left) (risen : HaveRisen us vs) where
-        pub goes_on_then : (next : Option Verdict) → GoesOn (held_run bound ws verdict) (held_run total vs next)
-        goes_on_then next =
-            goes_on t wired lists lists (λ c. prefix_refl (inputs_of lists c)) watch workers quantum bound total ws vs budget left h.held after (rises_since ws vs us cells risen)
-            verdict next
-
-        pub has_resumed : (next : Option Verdict) → HasResumed more (held_run bound ws verdict) (held_run total vs next)
-        has_resumed next = record { goes_on = goes_on_then next; input = refl; bound = sum; few = subst (λ n. n < 2 ^ 48) sum few }
-
-        pub holding_then : (its : List End) (next : Option Verdict) → AreEnded (held_state t lists watch vs) total left its next →
-            IsHolding t compiled lists watch workers quantum total vs left its next
-        holding_then its next ended = record {
-          code = h.code;
-          fits = h.fits;
-          range = let r = h.range in (r.0, r.1, r.2, r.3, few);
-          held = after;
-          ended = ended;
-        }
-
-        -- memory was refused before the first event
-        module _ (unused : left ≡ budget + more) (same : map cell_alone (cells_of vs) ≡ map cell_alone (cells_of us)) where
-          pub holding_still : IsHolding t compiled lists watch workers quantum bound vs budget ends verdict
-          holding_still = record {
-            code = h.code;
-            fits = h.fits;
-            range = h.range;
-            held = held_again t lists watch total vs vs left after more bound budget (sym sum) (sym unused);
-            ended = ended_alike vs ws (same ∙ alone) t lists watch bound budget ends verdict h.ended;
-          }
-
-          pub same_still : held_run bound vs verdict ≡ held_run bound ws verdict
-          same_still = ap (λ (cs : List Seen). record { network = t; input = lists; watch = watch; workers = workers; quantum = quantum; bound = bound; cells = cs; verdict = verdict }) (same_seen vs ws (same ∙ alone))
-
   -- a part with so many events more
   module _ (more : ℕ) (few : bound + more < 2 ^ 48) (r : Stopped) (s : HasStopped t lists watch workers (bound + more) ws (budget + more) r) where
-    abbrev resting : AreResting t lists (rows_of ws)
-    resting = h.held.idle.resting
-
-    stood : HaveStood (rows_of ws) (rows_of ws)
-    stood p q = stood_same _ _ refl
-
     pub resumed : (next : Option Verdict) → HasResumed more (held_run bound ws verdict) (held_run (bound + more) r.idles.items next)
-    resumed next = has_resumed ws refl stood resting more (bound + more) refl few r.idles.items r.budget s.held s.risen next
+    resumed next = record {
+      goes_on = goes_on t wired lists lists (λ c. prefix_refl (inputs_of lists c)) watch workers quantum bound (bound + more) ws r.idles.items budget r.budget h.held s.held s.risen
+          verdict next;
+      input = refl;
+      bound = refl;
+      few = few;
+    }
 
     pub resumed_ok : (v : Verdict) → r.outcome ≡ Ok v → IsResumed more (held_run bound ws verdict) (held_run (bound + more) r.idles.items (Some v)) v
     resumed_ok v e =
@@ -289,12 +229,18 @@ module _ (t : Program) (wired : IsWellWired t) (compiled : Program) (lists : Lis
     pub still_holding : r.outcome ≡ Err NoMemory → IsHolding t compiled lists watch workers quantum bound r.idles.items budget ends verdict
     still_holding e =
         let u = s.untouched e in
-        holding_still ws refl stood resting more (bound + more) refl few r.idles.items r.budget s.held s.risen u.0 u.1
+        record {
+          code = h.code;
+          fits = h.fits;
+          range = h.range;
+          held = held_again t lists watch (bound + more) r.idles.items r.idles.items r.budget s.held more bound budget refl (sym u.0);
+          ended = ended_alike r.idles.items ws u.1 t lists watch bound budget ends verdict h.ended;
+        }
 
     pub still_same : r.outcome ≡ Err NoMemory → held_run bound r.idles.items verdict ≡ held_run bound ws verdict
     still_same e =
-        let u = s.untouched e in
-        same_still ws refl stood resting more (bound + more) refl few r.idles.items r.budget s.held s.risen u.0 u.1
+        ap (λ (cs : List Seen). record { network = t; input = lists; watch = watch; workers = workers; quantum = quantum; bound = bound; cells = cs; verdict = verdict })
+        (same_seen r.idles.items ws (s.untouched e).1)
 
     pub several : r.outcome ≡ Err NoThread → 1 < workers
     several e =

@@ -1,5 +1,5 @@
--- What the cells of tasks keep.
-use Rattle.std.proofs.Common.{◌≡◌, ℕ, ◌<◌, List, length, map, sym, ap, ◌∙◌, subst, Option, Some, slice_get}
+-- What the cells of jobs keep.
+use Rattle.std.proofs.Common.{◌≡◌, ℕ, ◌<◌, List, length, sym, ap, ◌∙◌, subst, Some, slice_get}
 use Rattle.std.proofs.lemmas.List.{length-map}
 use Rattle.kahn_tree.specs.declared.tree.Program.{Program}
 use Rattle.kahn_network.specs.Network.{network_of, instance_at}
@@ -8,9 +8,7 @@ use Rattle.kahn_code.specs.declared.cell.Kept.{Kept}
 use Rattle.kahn_code.specs.Told.{Told}
 use Rattle.kahn_job.specs.inner.Idles.{AreIdle, cells_of}
 use Rattle.kahn_job.specs.inner.Works.{Work}
-use Rattle.kahn_crew.specs.inner.Tasks.{Tasked}
 use Rattle.kahn_crew.proofs.Started.{mapped_at}
-use Rattle.kahn_pool.specs.inner.Rested.{AreTasks, cell_of}
 use Rattle.kahn_pool.specs.inner.Streams.{AreLists, kept_lists}
 use Rattle.kahn_pool.specs.inner.Workbench.{AreKeptOf, actual_count, parameter_count}
 use Rattle.kahn_pool.proofs.Benched.{get_map, got, some_one, within_get}
@@ -31,16 +29,6 @@ lists_of_cells {A = A} t cells count each kept h = record {
         let o = each p c.0 c.1 in
         some_one (sym (get_map parameter_count kept p l e) ∙ ap (λ ns. slice_get ns p) h.parameters ∙ get_map actual_count cells p c.0 c.1) ∙
         ap (λ k. length (instance_at (network_of k) c.0.instance).actuals) o.0 ∙ ap (λ i. length (instance_at (network_of t) i).actuals) o.1
-
-pub are_lists : {A : Type 0} (t : Program) (lists : Lists) (watch : Option ℕ) (tasks : List Tasked) → AreTasks t lists watch tasks → (kept : List (Kept A)) →
-    AreKeptOf (map cell_of tasks) kept → AreLists (network_of t) kept
-are_lists t lists watch tasks of kept h =
-    lists_of_cells t (map cell_of tasks) (length-map tasks cell_of ∙ of.count)
-    (λ p c e.
-    let x = mapped_at cell_of tasks p c e in
-    let o = of.each p x.0 x.1 in
-    (ap (λ (d : Told). d.network) x.2 ∙ o.network, ap (λ (d : Told). d.instance) x.2 ∙ o.instance))
-    kept h
 
 pub idle_lists : {A : Type 0} (t : Program) (lists : Lists) (ws : List Work) → AreIdle t lists ws → (kept : List (Kept A)) → AreKeptOf (cells_of ws) kept →
     AreLists (network_of t) kept

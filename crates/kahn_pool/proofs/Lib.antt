@@ -20,7 +20,6 @@ pub mod Printing
 pub mod Seen
 pub mod Kept_sizes
 pub mod Settled
-pub mod Meets
 pub mod Ended
 pub mod Rests
 pub mod Over

@@ -3,23 +3,26 @@ use Rattle.std.proofs.Common.{arith, ◌≡◌, ◌⊎◌, inl, inr, ℕ, zero, 
 use Rattle.std.proofs.lemmas.List.{length-map}
 use Rattle.std.proofs.lemmas.List.Sums.{sum_by-cons}
 use Rattle.kahn_tree.specs.declared.tree.Program.{Program}
-use Rattle.kahn_network.specs.Network.{Reads}
+use Rattle.kahn_network.specs.Network.{Reads, network_of}
 use Rattle.kahn_network.specs.Wiring.{IsWellWired}
 use Rattle.kahn_streams.specs.Tokens.{Lists}
 use Rattle.kahn_code.specs.Standing.{count}
-use Rattle.kahn_code.specs.Told.{Told, told_view}
+use Rattle.kahn_code.specs.Told.{told_view}
 use Rattle.kahn_job.specs.inner.Berths.{end_at}
+use Rattle.kahn_job.specs.inner.Lanes.{AreBehindOn, AreJoinedOn, end_in}
+use Rattle.kahn_job.specs.inner.Works.{Work}
+use Rattle.kahn_job.proofs.Idles.{Here, here_or}
+use Rattle.kahn_job.proofs.Settles.{same_lanes}
 use Rattle.kahn_crew.specs.declared.standing.Standing.TheVariants as standing
-use Rattle.kahn_crew.specs.inner.Tasks.{Tasked, handed_to_task, is_over}
+use Rattle.kahn_crew.specs.inner.Tasks.{Tasked, handed_to_task, is_over, task_rows, work_of}
 use Rattle.kahn_crew.specs.inner.Left.{AreAll, HaveGone, IsQuietTask, IsOver, task_events}
-use Rattle.kahn_pool.specs.inner.Meetings.{AreJoined, HaveMet, IsBehindOn}
-use Rattle.kahn_pool.specs.inner.Rested.{AreEndsOfTasks, AreTasks, HaveSettledTasks, IsInstanceTask, IsToldAs, SettlesTo, cell_of, state_of_tasks}
-use Rattle.kahn_pool.specs.inner.Gathers.{HasEnded}
+use Rattle.kahn_pool.specs.inner.Rested.{AreEndsOfTasks, AreTasks, HaveSettledTasks, IsInstanceTask, IsSettledTask, IsToldAs, SettlesTo, cell_of, state_of_tasks}
 use Rattle.kahn_pool.specs.declared.answer.End.{End}
 use Rattle.kahn_pool.specs.declared.answer.Outcome.TheVariants as outcome
 use Rattle.kahn_pool.specs.declared.answer.Verdict.{Verdict}
 use Rattle.kahn_pool.specs.declared.answer.Verdict.TheVariants as verdict
 use Rattle.kahn_pool.specs.inner.Bench.{IsLast, IsVerdict, HasEndIn, view_events}
+use Rattle.kahn_crew.proofs.Started.{mapped_at}
 use Rattle.kahn_pool.proofs.Benched.{got, some_one, within_get}
 use Rattle.kahn_pool.proofs.Rests as rests
 
@@ -106,19 +109,23 @@ module _ (t : Program) (lists : Lists) (watch : Option ℕ) (bound : ℕ) (first
         let x = was p y e in
         ((step p y e).later.ends.same q).lane ∙ lane_of p q x.0 (first_at p x.0 x.1).0 (first_at p x.0 x.1).1 x.1
 
-    pub joined_new : AreJoined t new
-    joined_new = record {
-      count = h.count ∙ gone.count;
-      network = λ p y e. (of_new p y e).network;
-      instance = λ p y e. (of_new p y e).instance;
-      joined = λ p r o q d y z e f w k.
-          let x = was p y e in
-          let u = was r z f in
-          let a = first_at p x.0 x.1 in
-          let b = first_at r u.0 u.1 in
-          let s = gone.ready.joined p r o q d a.0 b.0 a.1 b.1 w k in
-          (s.0, lane_new p o y e ∙ s.1, lane_new r q z f ∙ s.2);
-    }
+    pub joined_new : (d : ℕ) → AreJoinedOn (network_of t) (task_rows new) d
+    joined_new d = same_lanes (network_of t) (task_rows first) (task_rows new) d (λ p q. lanes p q (here_or (map work_of new) p) (here_or (map work_of first) p)) (gone.ready.joined d)
+      where
+        long : length (map work_of new) ≡ length (map work_of first)
+        long = length-map new work_of ∙ h.count ∙ gone.count ∙ sym gone.ready.count ∙ sym (length-map first work_of)
+
+        lanes : (p q : ℕ) → Here (map work_of new) p → Here (map work_of first) p → (end_in (task_rows new) p q).lane ≡ (end_in (task_rows first) p q).lane
+        lanes p q (inl a) (inl b) =
+            let y = mapped_at work_of new p a.0 a.1 in
+            let x = was p y.0 y.1 in
+            let f = first_at p x.0 x.1 in
+            let z = mapped_at work_of first p b.0 b.1 in
+            ap (λ es. (end_at es q).lane) (a.2 ∙ ap (λ (w : Work). w.ends) y.2) ∙ lane_new p q y.0 y.1 ∙
+            ap (λ (v : Tasked). (end_at v.work.ends q).lane) (some_one (sym f.1 ∙ z.1)) ∙ sym (ap (λ es. (end_at es q).lane) (b.2 ∙ ap (λ (w : Work). w.ends) z.2))
+        lanes p q (inl a) (inr b) = absurd (let l = within_get (map work_of new) p a.0 a.1 in let k = b.0 in let n = long in omega (arith, l, k, n))
+        lanes p q (inr a) (inl b) = absurd (let l = within_get (map work_of first) p b.0 b.1 in let k = a.0 in let n = long in omega (arith, l, k, n))
+        lanes p q (inr a) (inr b) = ap (λ es. (end_at es q).lane) (a.1 ∙ sym b.1)
 
     going_apart : (x : Tasked) → IsQuietTask t lists old x → x.standing ≡ standing.Going → ⊥
     going_apart x (inl o) g = going_over (sym o ∙ ap is_over g)
@@ -148,20 +155,19 @@ module _ (t : Program) (lists : Lists) (watch : Option ℕ) (bound : ℕ) (first
         by x (inl o) = inl o
         by x (inr (q, d, s, r, a)) = inr (q, d, s, r, all d (count x.work.cell.taken q) a)
 
-    pub has_ended : (halted : Bool) → IsOver t lists old budget halted → HasEnded t lists watch bound new budget halted
-    has_ended halted is_over = record {
-      tasks_of = record { count = h.count ∙ gone.count; each = of_new };
-      joined = joined_new;
-      settled = λ p y e. (step p y e).settled;
-      events = let a = gone.events in let b = same_sum old new h.count (λ p x y e f. (h.each p x y e f).events) in omega (arith, a, b);
-      over = over is_over;
-    }
-      where
-        over : (halted ≡ true) ⊎ ((budget ≡ 0) ⊎ ((p : ℕ) (x : Tasked) → slice_get old p ≡ Some x → IsQuietTask t lists old x)) →
-            (halted ≡ true) ⊎ ((budget ≡ 0) ⊎ ((p : ℕ) (x : Tasked) → slice_get new p ≡ Some x → IsQuietTask t lists new x))
-        over (inl a) = inl a
-        over (inr (inl b)) = inr (inl b)
-        over (inr (inr c)) = inr (inr (rest_new c))
+    pub tasks_new : AreTasks t lists watch new
+    tasks_new = record { count = h.count ∙ gone.count; each = of_new }
+
+    pub settled_new : (p : ℕ) (y : Tasked) → slice_get new p ≡ Some y → IsSettledTask y
+    settled_new p y e = (step p y e).settled
+
+    pub events_new : budget + sum_by task_events new ≡ bound
+    events_new = let a = gone.events in let b = same_sum old new h.count (λ p x y e f. (h.each p x y e f).events) in omega (arith, a, b)
+
+    pub over_new : (halted : Bool) → IsOver t lists old budget halted → IsOver t lists new budget halted
+    over_new halted (inl a) = inl a
+    over_new halted (inr (inl b)) = inr (inl b)
+    over_new halted (inr (inr c)) = inr (inr (rest_new c))
 
 -- ---- the answer
 
@@ -177,7 +183,8 @@ sum_views (x ∷ xs) =
     s
 
 module _ (t : Program) (wired : IsWellWired t) (lists : Lists) (watch : Option ℕ) (bound : ℕ) (tasks : List Tasked) (budget : ℕ) (halted : Bool)
-    (h : HasEnded t lists watch bound tasks budget halted) (behind : (c : ℕ) → IsBehindOn t tasks c) (ends : List End)
+    (of : AreTasks t lists watch tasks) (settled : (p : ℕ) (x : Tasked) → slice_get tasks p ≡ Some x → IsSettledTask x)
+    (sum : budget + sum_by task_events tasks ≡ bound) (over : IsOver t lists tasks budget halted) (behind : (c : ℕ) → AreBehindOn (network_of t) (task_rows tasks) c) (ends : List End)
     (are : AreEndsOfTasks t lists tasks ends (length tasks)) where
   -- a task at rest wants no more
   no_more : (x : Tasked) → IsQuietTask t lists tasks x → IsToldAs t lists tasks x outcome.More → ⊥
@@ -200,9 +207,9 @@ module _ (t : Program) (wired : IsWellWired t) (lists : Lists) (watch : Option �
 
   pub is_last : IsLast (state_of_tasks t lists watch tasks) bound budget halted ends
   is_last = record {
-    known = length-map (map cell_of tasks) told_view ∙ length-map tasks cell_of ∙ h.tasks_of.count;
-    total = let a = sum_views tasks in let b = h.events in omega (arith, a, b);
-    size = are.count ∙ h.tasks_of.count;
+    known = length-map (map cell_of tasks) told_view ∙ length-map tasks cell_of ∙ of.count;
+    total = let a = sum_views tasks in omega (arith, a, sum);
+    size = are.count ∙ of.count;
     ends = λ p y e. one p y e (task p y e);
   }
     where
@@ -219,36 +226,10 @@ module _ (t : Program) (wired : IsWellWired t) (lists : Lists) (watch : Option �
           HasEndIn (state_of_tasks t lists watch tasks) p y × (y.outcome ≡ outcome.More → (budget ≡ 0) ⊎ (halted ≡ true))
       one p y e x =
           let k = are.each p x.0 y x.1 e in
-          (rests.rests t wired lists watch tasks h.tasks_of h.settled behind p x.0 y x.1 k, λ m. more x.0 p x.1 (subst (IsToldAs t lists tasks x.0) m k.told) h.over)
+          (rests.rests t wired lists watch tasks of settled behind p x.0 y x.1 k, λ m. more x.0 p x.1 (subst (IsToldAs t lists tasks x.0) m k.told) over)
 
 -- the verdict is that of want of memory exactly where memory was refused
 pub memory_alone : (memory : Bool) (ends : List End) (v : Verdict) → IsVerdict memory ends v → (v ≡ verdict.Memory → memory ≡ true) × (memory ≡ true → v ≡ verdict.Memory)
 memory_alone memory ends verdict.Memory h = (λ e. h, λ m. refl)
 memory_alone memory ends verdict.Finished h = (λ e. absurd cc, λ m. absurd (going_over (sym m ∙ h.0)))
 memory_alone memory ends verdict.Bound h = (λ e. absurd cc, λ m. absurd (going_over (sym m ∙ h.0)))
-
-pub same_cells : (xs ys : List Tasked) → HaveMet xs ys → map cell_of ys ≡ map cell_of xs
-same_cells [] [] h = refl
-same_cells [] (y ∷ ys) h = absurd (let n = h.count in omega (arith, n))
-same_cells (x ∷ xs) [] h = absurd (let n = h.count in omega (arith, n))
-same_cells (x ∷ xs) (y ∷ ys) h =
-    let a = (h.each 0 x y refl refl).cell in
-    let b = same_cells xs ys (record { count = let n = h.count in omega (arith, n); each = λ p. h.each (suc p) }) in
-    λ i. a i ∷ b i
-
-pub tasks_met : (t : Program) (lists : Lists) (watch : Option ℕ) (xs ys : List Tasked) → AreTasks t lists watch xs → HaveMet xs ys → AreTasks t lists watch ys
-tasks_met t lists watch xs ys of m = record { count = m.count ∙ of.count; each = λ p y e. by p y e (was p y e) }
-  where
-    was : (p : ℕ) (y : Tasked) → slice_get ys p ≡ Some y → (x : Tasked) × (slice_get xs p ≡ Some x)
-    was p y e = let l = within_get ys p y e in let n = m.count in got xs p (omega (arith, l, n))
-
-    by : (p : ℕ) (y : Tasked) → slice_get ys p ≡ Some y → (x : Tasked) × (slice_get xs p ≡ Some x) → IsInstanceTask t lists watch p y
-    by p y e x =
-        let c = (m.each p x.0 y x.1 e).cell in
-        let o = of.each p x.0 x.1 in
-        record {
-          network = ap (λ (k : Told). k.network) c ∙ o.network;
-          input = ap (λ (k : Told). k.input) c ∙ o.input;
-          instance = ap (λ (k : Told). k.instance) c ∙ o.instance;
-          watched = ap (λ (k : Told). k.watch) c ∙ o.watched;
-        }

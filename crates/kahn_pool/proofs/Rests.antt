@@ -15,18 +15,20 @@ use Rattle.kahn_streams.specs.Script.{Dry}
 use Rattle.kahn_streams.specs.Solution.{Inputs, exec_at, fed, iterate, out, source}
 use Rattle.kahn_streams.specs.Tokens.{Lists, inputs_of}
 use Rattle.kahn_streams.proofs.Dry.{dry_reads}
-use Rattle.kahn_code.specs.Cells.{AllStand, View, exec_on}
+use Rattle.kahn_code.specs.Cells.{AllStand, View, exec_on, is_output}
 use Rattle.kahn_code.specs.Lines.{Joins}
 use Rattle.kahn_code.specs.Progress as code
 use Rattle.kahn_code.specs.Standing.{count}
 use Rattle.kahn_code.specs.Told.{told_view}
 use Rattle.kahn_code.proofs.Readers.{joins_within, reads_once, driven}
-use Rattle.kahn_job.specs.inner.Ends.{IsReady}
+use Rattle.kahn_job.specs.inner.Ends.{IsBehind, IsReady}
+use Rattle.kahn_job.specs.inner.Lanes.{AreBehindOn, end_in}
+use Rattle.kahn_job.proofs.Idles.{row_there}
 use Rattle.kahn_job.specs.inner.Berths.{Serves, end_at}
 use Rattle.kahn_crew.specs.declared.standing.Standing.TheVariants as standing
-use Rattle.kahn_crew.specs.inner.Tasks.{Tasked, handed_to_task}
+use Rattle.kahn_crew.specs.inner.Tasks.{Tasked, handed_to_task, task_rows, work_of}
+use Rattle.kahn_crew.proofs.Started.{at_mapped}
 use Rattle.kahn_crew.specs.inner.Left.{AreAll}
-use Rattle.kahn_pool.specs.inner.Meetings.{IsBehindOn}
 use Rattle.kahn_pool.specs.inner.Rested.{AreTasks, AreTold, IsDryOf, IsEndOf, IsSaid, IsSettledTask, IsInstanceTask, IsToldAs, cell_of, state_of_tasks}
 use Rattle.kahn_pool.specs.declared.answer.End.{End}
 use Rattle.kahn_pool.specs.declared.answer.Outcome.{Outcome}
@@ -104,7 +106,10 @@ module _ (t : Program) (wired : IsWellWired t) (lists : Lists) (watch : Option �
     dry = dry_of;
   }
 
-  module _ (behind : (c : ℕ) → IsBehindOn t tasks c) where
+  module _ (behind : (c : ℕ) → AreBehindOn N (task_rows tasks) c) where
+    row_end : (p q : ℕ) (x : Tasked) → slice_get tasks p ≡ Some x → end_in (task_rows tasks) p q ≡ end_at x.work.ends q
+    row_end p q x e = ap (λ es. end_at es q) (row_there (map work_of tasks) p x.work (at_mapped work_of tasks p x e))
+
     -- what was given to a channel that is read, and what its reader took of it
     record IsCounted (p q d : ℕ) (x : Tasked) (n : ℕ) : Type 0 where
       pub given : IsGiven N I cells d (source N (Channel d)) n
@@ -154,7 +159,13 @@ module _ (t : Program) (wired : IsWellWired t) (lists : Lists) (watch : Option �
         )
         by (inr f) =
             let y = task_at f.0 (joins_write f.0 f.1 d f.3) in
-            let h = behind d f.0 p f.1 q y.0 x y.1 e f.3 r in (
+            let h : IsBehind (end_at y.0.work.ends f.1) (end_at x.work.ends q) =
+            subst (λ z. IsBehind z (end_at x.work.ends q)) (row_end f.0 f.1 y.0 y.1) (subst (IsBehind (end_in (task_rows tasks) f.0 f.1)) (row_end p q x e) (behind d f.0 p f.1 q f.3 r))
+            in
+            let k = (settled f.0 y.0 y.1).job in
+            let few = k.served.behind f.1 in
+            let sent = k.at.writes f.1 d (handed_as f.0 f.1 y.0 y.1 ∙ f.3) (ap (λ k. is_output (role_at (network_of k) d)) (of.each f.0 y.0 y.1).network ∙ ap is_output f.4) in
+            let next = next_is in (
               count y.0.work.cell.sent f.1,
               record {
                 given = subst (λ s. IsGiven N I cells d s (count y.0.work.cell.sent f.1)) (sym f.2) (f.1, f.3, ap (λ v. v.sent f.1) (viewed f.0 y.0 y.1));
@@ -167,8 +178,8 @@ module _ (t : Program) (wired : IsWellWired t) (lists : Lists) (watch : Option �
                       let v : w ≡ f.1 = (driven t wired).once f.0 w f.1 d (subst (λ n. actual_at (instance_at N n) w ≡ Writes d) i a) f.3 in
                       ap (λ u. count u.work.cell.sent w) same ∙ ap (count y.0.work.cell.sent) v;
                 };
-                within = h.within;
-                more = h.more;
+                within = let w = h.within in omega (arith, w, few, sent, next);
+                more = λ ready. let m = h.more ready in omega (arith, m, few, sent, next);
               },
             )
 

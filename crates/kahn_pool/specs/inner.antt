@@ -4,7 +4,6 @@ pub mod FlowBench
 pub mod Gathered
 pub mod Gathers
 pub mod Holding
-pub mod Meetings
 pub mod Parameters
 pub mod Rested
 pub mod Streams

@@ -1,51 +1,57 @@
-//! How a run stopped: the ends of all instances, and the verdict.
+//! How a run stopped: its jobs at rest, the ends of all instances, and the verdict.
 
-ghost use Rattle.std.specs.Prelude.{◌≡◌, ◌↔◌, ◌≤◌, length, true, vec_capacity};
+ghost use Rattle.std.specs.Prelude.{◌≡◌, ◌↔◌, ◌≤◌, [], length, map, true, vec_capacity};
 ghost use Rattle.kahn_network.specs.Network.{network_of};
-ghost use Rattle.kahn_pool.specs.inner.Concluded.{IsConcluded};
-ghost use Rattle.kahn_pool.specs.inner.Gathers.{HasEnded};
-ghost use Rattle.kahn_pool.specs.inner.Meetings.{HaveMet};
-ghost use Rattle.kahn_pool.specs.inner.Rested.{state_of_tasks};
+ghost use Rattle.kahn_crew.specs.inner.Left.{IsOver};
+ghost use Rattle.kahn_job.specs.inner.Idles.{cells_of};
+ghost use Rattle.kahn_pool.specs.inner.Holding.{HaveAllLeft, IsConclusion};
+ghost use Rattle.kahn_pool.specs.inner.Rested.{cell_of};
 ghost use Rattle.kahn_pool.specs.declared.answer.Verdict.TheVariants as verdict;
 
 use crate::answer::{End, Verdict};
 use crate::ends::ends_of;
-use crate::meeting::meet_all;
+use crate::part::Part;
 use crate::rounds::verdict_of;
-use kahn_crew::{Left, Task};
-use kahn_network::Network;
-use kahn_streams::Input;
+use crate::settle::settle_all;
+use kahn_code::Steps;
+use kahn_crew::{Left, rest_all};
+use kahn_job::{Idle, meet};
+use std::sync::ledger::Ledger;
 
-/// The tasks of a run that stopped, the end of each instance, and why it stopped.
+/// The jobs of a run that stopped, what is left of its bound, the end of each instance, and why it stopped.
 #[derive(Drop)]
-pub(crate) struct Conclusion<'n> {
-    pub(crate) tasks: Vec<Task<'n>>,
+pub(crate) struct Conclusion {
+    pub(crate) idles: Vec<Idle>,
+    pub(crate) budget: u64,
     pub(crate) ends: Vec<End>,
     pub(crate) verdict: Verdict,
 }
 
-/// The ends and the verdict of a run whose tasks were asked what comes next. The list that is given has room for the ends.
-/// It takes no memory.
-pub(crate) fn conclude<'n>(
-    network: &'n Network,
-    input: &'n Input,
-    _watch: Option<usize>,
-    _bound: u64,
+/// The jobs, the ends and the verdict of a run that is over: `Memory` exactly where it was halted. The lists that are given
+/// have room for the jobs and for the ends. It takes no memory.
+pub(crate) fn conclude<'n, L: Ledger>(
+    part: &Part<'n>,
     mut left: Left<'n>,
+    idles: Vec<Idle>,
     ends: Vec<End>,
-) -> Conclusion<'n>
-    requires ended { HasEnded network.now input.now _watch _bound left.tasks.items left.budget left.halted }
-    requires room { length (network_of network.now).instances ≤ vec_capacity ends }
-    ensures met { HaveMet left.entry.tasks.items result.tasks.items }
-    ensures concluded { IsConcluded (state_of_tasks network.now input.now _watch left.entry.tasks.items) _bound left.entry.budget left.entry.halted result.verdict result.ends.items }
+    steps: &mut Steps<L>,
+) -> Conclusion
+    requires left { HaveAllLeft part.now left }
+    requires over { IsOver part.now.network.now part.now.input.now left.tasks.items left.budget left.halted }
+    requires idles { (idles.items ≡ []) × (length (network_of part.now.network.now).instances ≤ vec_capacity idles) }
+    requires ends { length (network_of part.now.network.now).instances ≤ vec_capacity ends }
+    ensures concluded { IsConclusion part.now left.entry.halted result }
+    ensures cells { cells_of result.idles.items ≡ map cell_of left.entry.tasks.items }
     ensures verdict { result.verdict ≡ verdict.Memory ↔ left.entry.halted ≡ true }
 {
-    let _program = network.program();
-    let ends = ends_of(network, input, &left.tasks, ends);
-    meet_all(network, &mut left.tasks);
+    let _program = part.network.program();
+    settle_all(&mut left.tasks, part.code, steps);
+    let ends = ends_of(part.network, part.input, &left.tasks, ends);
     let verdict = verdict_of(left.halted, &ends);
+    let idles = rest_all(left.tasks, idles);
     Conclusion {
-        tasks: left.tasks,
+        idles: meet(part.network, idles),
+        budget: left.budget,
         ends,
         verdict,
     }

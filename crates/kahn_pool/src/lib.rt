@@ -15,7 +15,6 @@ mod held_fault;
 mod laws;
 mod lent;
 mod looks;
-mod meeting;
 mod one;
 mod part;
 mod part_alone;

@@ -1,17 +1,12 @@
 //! A part of a held run: idle jobs go on, and come to rest again.
 
-ghost use Rattle.std.specs.Prelude.{◌≡◌, ℕ, ◌≤◌, ◌<◌, ◌^◌, Bool, List, [], Ok, Err, Some, true, length, map, slice_get, vec_capacity, IfOk, OnOk};
+ghost use Rattle.std.specs.Prelude.{◌≡◌, ℕ, ◌≤◌, ◌<◌, [], Err, Some, length, map, slice_get, vec_capacity, IfOk, OnOk};
 ghost use Rattle.kahn_network.specs.Network.{network_of};
-ghost use Rattle.kahn_crew.specs.inner.Left.{HaveGone, HaveLeft};
-ghost use Rattle.kahn_crew.specs.inner.Tasks.{Tasked};
 ghost use Rattle.kahn_job.specs.inner.Idles.{HaveSettled, cells_of, rows_of};
 ghost use Rattle.kahn_job.specs.inner.Settling.{AreResting, HaveStood};
 ghost use Rattle.kahn_job.specs.inner.Works.{Work};
-ghost use Rattle.kahn_pool.specs.inner.Concluded.{IsConcluded};
-ghost use Rattle.kahn_pool.specs.inner.Holding.{AreHeld, HasStopped, IsHeldPart, IsPartOf, IsRoomFor, held_state};
+ghost use Rattle.kahn_pool.specs.inner.Holding.{AreHeld, AreHeldBy, HasStoppedPart, HaveAllLeft, IsHeldPart, IsPartOf, IsRoomFor};
 ghost use Rattle.kahn_pool.specs.inner.Rested.{cell_of};
-ghost use Rattle.kahn_pool.specs.declared.answer.Verdict.{Verdict as VerdictOf};
-ghost use Rattle.kahn_pool.specs.declared.answer.Verdict.TheVariants as verdict;
 
 use crate::answer::{End, Verdict};
 use crate::conclude::{Conclusion, conclude};
@@ -107,47 +102,6 @@ pub(crate) fn first_idles(
     first_counted::<Brand>(alloc, Blank::new(1), network, input, code, watch)
 }
 
-// The jobs, the ends and the verdict of a run that is over: `Memory` only where memory was refused to a worker.
-fn finish<'n, L: Ledger>(
-    part: &Part<'n>,
-    mut left: Left<'n>,
-    idles: Vec<Idle>,
-    ends: Vec<End>,
-    steps: &mut Steps<L>,
-) -> Stopped
-    requires left { HaveLeft part.now.network.now part.now.input.now part.now.plan.watch part.now.bound left.tasks.items left.budget left.halted }
-    requires code { part.now.code.now.network.value ≡ part.now.network.now }
-    requires bound { part.now.bound < 2 ^ 48 }
-    requires idles { (idles.items ≡ []) × (length (network_of part.now.network.now).instances ≤ vec_capacity idles) }
-    requires ends { length (network_of part.now.network.now).instances ≤ vec_capacity ends }
-    requires cause { left.halted ≡ true → left.wanted ≡ true }
-    ensures held { AreHeld part.now.network.now part.now.input.now part.now.plan.watch part.now.bound result.idles.items result.budget }
-    ensures cells { cells_of result.idles.items ≡ map cell_of left.entry.tasks.items }
-    ensures outcome { (v : VerdictOf) × (halted : Bool) × (result.outcome ≡ Ok v) × IsConcluded (held_state part.now.network.now part.now.input.now part.now.plan.watch result.idles.items) part.now.bound result.budget halted v result.ends.items }
-    ensures memory { IfOk result.outcome (λ v. v ≡ verdict.Memory → left.entry.wanted ≡ true) }
-{
-    settle_all(&mut left.tasks, part.code, steps);
-    let budget = left.budget;
-    let Conclusion {
-        tasks,
-        ends,
-        verdict,
-    } = conclude(
-        part.network,
-        part.input,
-        part.plan.watch,
-        part.bound,
-        left,
-        ends,
-    );
-    Stopped {
-        idles: rest_all(tasks, idles),
-        budget,
-        ends,
-        outcome: Ok(verdict),
-    }
-}
-
 // The jobs of a run that was given up.
 fn give_up<'n, L: Ledger>(
     fault: CrewFault,
@@ -157,11 +111,9 @@ fn give_up<'n, L: Ledger>(
     ends: Vec<End>,
     steps: &mut Steps<L>,
 ) -> Stopped
-    requires left { (first : List Tasked) × HaveGone part.now.network.now part.now.input.now part.now.plan.watch part.now.bound first left.tasks.items left.budget }
-    requires code { part.now.code.now.network.value ≡ part.now.network.now }
-    requires bound { part.now.bound < 2 ^ 48 }
+    requires left { HaveAllLeft part.now left }
     requires idles { (idles.items ≡ []) × (length (network_of part.now.network.now).instances ≤ vec_capacity idles) }
-    ensures held { AreHeld part.now.network.now part.now.input.now part.now.plan.watch part.now.bound result.idles.items result.budget }
+    ensures held { AreHeldBy part.now result.idles.items result.budget }
     ensures cells { cells_of result.idles.items ≡ map cell_of left.entry.tasks.items }
     ensures outcome { (result.outcome ≡ Err fault) × (result.budget ≡ left.entry.budget) }
 {
@@ -188,10 +140,10 @@ fn run_settled<'n, R: Threads + Wait + Sync, G: Gate + Sync, L: Ledger>(
     requires name { blank.name ≡ L.name }
     requires parts { blank.parts ≡ L.parts }
     requires some { 0 < blank.parts }
-    requires part { IsHeldPart part.now.network.now part.now.code.now.network.value part.now.input.now part.now.plan part.now.bound idles.items }
+    requires part { IsHeldPart part.now idles.items }
     requires settled { HaveSettled part.now.network.now part.now.input.now (rows_of idles.items) }
     requires room { IsRoomFor (length (network_of part.now.network.now).instances) room }
-    ensures { HasStopped part.now.network.now part.now.input.now part.now.plan.watch part.now.plan.workers part.now.bound idles.items part.now.plan.bound result }
+    ensures { HasStoppedPart part.now idles.items result }
 {
     let mut steps = Steps::<L>::open(blank);
     let PartRoom {
@@ -203,7 +155,20 @@ fn run_settled<'n, R: Threads + Wait + Sync, G: Gate + Sync, L: Ledger>(
     let _program = network.program();
     let tasks = wake_all(network, input, idles, tasks);
     match run_tasks(rt, alloc, network, input, part.code, part.plan, tasks, gate) {
-        Ok(left) => finish(part, left, rest, ends, &mut steps),
+        Ok(left) => {
+            let Conclusion {
+                idles,
+                budget,
+                ends,
+                verdict,
+            } = conclude(part, left, rest, ends, &mut steps);
+            Stopped {
+                idles,
+                budget,
+                ends,
+                outcome: Ok(verdict),
+            }
+        }
         Err((fault, left)) => give_up(fault, part, left, rest, ends, &mut steps),
     }
 }
@@ -217,10 +182,10 @@ fn run_marked<'n, R: Threads + Wait + Sync, G: Gate + Sync>(
     room: PartRoom<'n>,
     gate: &G,
 ) -> Stopped
-    requires part { IsHeldPart part.now.network.now part.now.code.now.network.value part.now.input.now part.now.plan part.now.bound idles.items }
+    requires part { IsHeldPart part.now idles.items }
     requires settled { HaveSettled part.now.network.now part.now.input.now (rows_of idles.items) }
     requires room { IsRoomFor (length (network_of part.now.network.now).instances) room }
-    ensures { HasStopped part.now.network.now part.now.input.now part.now.plan.watch part.now.plan.workers part.now.bound idles.items part.now.plan.bound result }
+    ensures { HasStoppedPart part.now idles.items result }
 {
     run_settled::<R, G, Brand>(rt, alloc, Blank::new(1), part, idles, room, gate)
 }
@@ -256,10 +221,10 @@ pub(crate) fn run_part<'n, R: Threads + Wait + Sync, G: Gate + Sync>(
     room: PartRoom<'n>,
     gate: &G,
 ) -> Stopped
-    requires part { IsHeldPart part.now.network.now part.now.code.now.network.value part.now.input.now part.now.plan part.now.bound idles.items }
+    requires part { IsHeldPart part.now idles.items }
     requires plan { IsPartOf _whole part.now.plan }
     requires room { IsRoomFor (length (network_of part.now.network.now).instances) room }
-    ensures { HasStopped part.now.network.now part.now.input.now part.now.plan.watch part.now.plan.workers part.now.bound idles.items part.now.plan.bound result }
+    ensures { HasStoppedPart part.now idles.items result }
 {
     let (idles, settled) = settle_ends(part.network, part.input, idles);
     if settled.is_err() {

@@ -11,6 +11,7 @@ ghost use Rattle.std.specs.Prelude.{◌≡◌, ◌<◌, ◌≤◌, ◌^◌, Matc
 use crate::answer::Answer;
 use crate::config::RunFault;
 use crate::gather::{Room, answer_of};
+use crate::part::Part;
 use kahn_code::{Code, Steps, compile};
 use kahn_crew::{CrewFault, Gate, Plan, run_crew};
 use kahn_network::Network;
@@ -41,9 +42,14 @@ fn run_reserved<R: Threads + Wait + Sync, G: Gate + Sync, L: Ledger>(
     ensures { MatchResult result (IsRight (network_of network.now) (inputs_of input.now) plan.bound plan.watch) (LacksWorker plan.workers) }
 {
     let left = run_crew(rt, alloc, network, input, code, plan, gate)?;
-    Ok(answer_of(
-        network, input, plan.watch, plan.bound, left, code, room, steps,
-    ))
+    let part = Part {
+        network,
+        input,
+        code,
+        plan,
+        bound: plan.bound,
+    };
+    Ok(answer_of(&part, left, room, steps))
 }
 
 // Counts the steps of the last look at each task on a ledger of its own, and runs.

@@ -2,17 +2,16 @@
 use Rattle.std.specs.Prelude.{◌≡◌, ℕ, ◌+◌, ◌^◌, ◌<◌, false, List, length, Option, Some, slice_get, slice_index}
 use Rattle.kahn_tree.specs.declared.tree.Program.{Program}
 use Rattle.kahn_tree.specs.declared.tree.Role.TheVariants as role
-use Rattle.kahn_network.specs.Network.{Reads, Writes, network_of, instance_at, actual_at, role_at}
+use Rattle.kahn_network.specs.Network.{Writes, network_of, instance_at, actual_at, role_at}
 use Rattle.kahn_streams.specs.Tokens.{Lists, inputs_of}
 use Rattle.kahn_code.specs.Cells.{is_output}
 use Rattle.kahn_code.specs.Standing.{count}
-use Rattle.kahn_job.specs.inner.Berths.{end_at}
-use Rattle.kahn_job.specs.inner.Ends.{ShareLane}
+use Rattle.kahn_job.specs.inner.Lanes.{AreJoinedOn}
 use Rattle.kahn_job.specs.inner.Works.{Work, IsDelivered}
 use Rattle.kahn_board.specs.Dealt.{dealt, events_told}
 use Rattle.kahn_board.specs.declared.rule.Terms.{Terms}
 use Rattle.kahn_crew.specs.declared.standing.Standing.TheVariants as standing
-use Rattle.kahn_crew.specs.inner.Tasks.{Tasked, told_tale}
+use Rattle.kahn_crew.specs.inner.Tasks.{Tasked, task_rows, told_tale}
 
 -- the task of a job that may go on, of which all that it sent is published
 abbrev pub ready_task : Work → Tasked
@@ -35,10 +34,7 @@ pub record IsReadyTask (t : Program) (lists : Lists) (watch : Option ℕ) (p : �
 pub record AreReadyTasks (t : Program) (lists : Lists) (watch : Option ℕ) (tasks : List Tasked) : Type 0 where
   pub count : length tasks ≡ length (network_of t).instances
   pub each : (p : ℕ) (x : Tasked) → slice_get tasks p ≡ Some x → IsReadyTask t lists watch p x
-  -- a channel from one instance to another, or to itself, is one lane: its writer and its reader have the two ends
-  pub joined : (p r o q d : ℕ) (x y : Tasked) → slice_get tasks p ≡ Some x → slice_get tasks r ≡ Some y →
-      actual_at (instance_at (network_of t) p) o ≡ Writes d → actual_at (instance_at (network_of t) r) q ≡ Reads d →
-      ShareLane (end_at x.work.ends o) (end_at y.work.ends q)
+  pub joined : (d : ℕ) → AreJoinedOn (network_of t) (task_rows tasks) d
 
 -- n tokens of the channel c are published at the start: the whole list of an input, and what the writer of an inner channel sent
 pub record IsNumber (t : Program) (lists : Lists) (tasks : List Tasked) (c n : ℕ) : Type 0 where

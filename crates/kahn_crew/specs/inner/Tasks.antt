@@ -1,5 +1,5 @@
 -- Inner. What contracts see of a task, and what it tells the board.
-use Rattle.std.specs.Prelude.{◌≡◌, ◌≤◌, ℕ, suc, Bool, true, false, List, [], ◌∷◌, Option, Some, None, if◌then◌else◌, ◌==◌}
+use Rattle.std.specs.Prelude.{◌≡◌, ◌≤◌, ℕ, suc, Bool, true, false, List, [], ◌∷◌, map, Option, Some, None, if◌then◌else◌, ◌==◌}
 use Rattle.kahn_network.specs.Network.{Network, Actual, Reads, Writes, Hands, network_of, instance_at, actual_at, role_at}
 use Rattle.kahn_streams.specs.Meaning.{Store}
 use Rattle.kahn_streams.specs.Script.{Outcome, Dry as IsDryAt}
@@ -12,7 +12,9 @@ use Rattle.kahn_code.specs.Cells.{is_output}
 use Rattle.kahn_code.specs.Progress.{Paused}
 use Rattle.kahn_code.specs.Standing.{count}
 use Rattle.kahn_code.specs.Told.{told_view}
-use Rattle.kahn_job.specs.inner.Berths.{HaveAdvanced, HaveStayed, end_at}
+use Rattle.kahn_job.specs.inner.Berths.{HaveAdvanced, end_at}
+use Rattle.kahn_job.specs.inner.Ends.{End}
+use Rattle.kahn_job.specs.inner.Idles.{rows_of}
 use Rattle.kahn_job.specs.inner.Works.{Work}
 use Rattle.kahn_board.specs.Tale.{Tale}
 use Rattle.kahn_crew.specs.declared.standing.Standing.{Standing}
@@ -26,6 +28,10 @@ pub record Tasked : Type 0 where
 
 abbrev pub work_of : Tasked → Work
 work_of x = x.work
+
+-- the ends of all tasks
+abbrev pub task_rows : List Tasked → List (List End)
+task_rows xs = rows_of (map work_of xs)
 
 abbrev pub standing_after : Pause → Standing
 standing_after pause.Spent = standing.Going
@@ -132,13 +138,6 @@ pub record Continues (old new : Tasked) : Type 0 where
   pub ends : HaveAdvanced old.work.ends new.work.ends
   pub events : old.work.cell.events ≤ new.work.cell.events
   pub still : new.work.cell.events ≡ old.work.cell.events → new.work.cell ≡ old.work.cell
-
--- the second is the first after it met another one: its ends at most know more
-pub record HasMet (old new : Tasked) : Type 0 where
-  pub cell : new.work.cell ≡ old.work.cell
-  pub standing : new.standing ≡ old.standing
-  pub published : new.published ≡ old.published
-  pub ends : HaveStayed old.work.ends new.work.ends
 
 -- the number of tokens published by each parameter that writes a channel between processes is the one that is known of the channel
 abbrev pub AgreesWith : Work → List ℕ → List ℕ → Type 0

@@ -61,11 +61,6 @@ pub record HasStayed (old new : End) : Type 0 where
   pub flushed : new.flushed ≡ old.flushed
   pub ready : IsReady old → IsReady new
 
--- so for all ends
-pub record HaveStayed (old new : List End) : Type 0 where
-  pub count : length new ≡ length old
-  pub each : (q : ℕ) → HasStayed (end_at old q) (end_at new q)
-
 -- it is the same end, where it stood, and all that was put was flushed or as much is flushed as before
 pub record HasFlushed (old new : End) : Type 0 where
   pub same : IsSame old new

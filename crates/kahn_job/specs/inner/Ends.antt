@@ -54,13 +54,10 @@ pub record MayMeet (writer reader : End) : Type 0 where
   pub reads : reader.reads ≡ true
   pub lane : ShareLane writer reader
 
--- the two ends met: n tokens that the writer's flushed weren't taken, which are no fewer than those at hand, and the reader's
--- is `now` and knows of all that were flushed
-pub record Meets (writer reader now : End) (n : ℕ) : Type 0 where
-  pub count : reader.next + n ≡ writer.flushed
-  pub held : reader.waiting ≤ n
-  pub known : now.known ≡ writer.flushed
-  pub asked : now.asked ≡ now.left
+-- no more was taken than was flushed, and less where the next take gives a token
+pub record IsBehind (writer reader : End) : Type 0 where
+  pub within : reader.next ≤ writer.flushed
+  pub more : 0 < reader.waiting → reader.next < writer.flushed
 
 -- nothing that was flushed is taken back, and no more is flushed than was put
 abbrev pub Advances : End → End → Type 0

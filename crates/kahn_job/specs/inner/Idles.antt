@@ -1,14 +1,14 @@
 -- Inner. Jobs on which nobody works.
 use Rattle.std.specs.Prelude.{◌≡◌, ℕ, ◌<◌, false, List, [], length, map, Some, slice_get, slice_index_or}
 use Rattle.kahn_tree.specs.declared.tree.Program.{Program}
-use Rattle.kahn_network.specs.Network.{Reads, Writes, network_of, instance_at, actual_at, role_at}
+use Rattle.kahn_network.specs.Network.{Writes, network_of, instance_at, actual_at, role_at}
 use Rattle.kahn_streams.specs.Laws.{AreInputsExtended}
 use Rattle.kahn_streams.specs.Tokens.{Lists, inputs_of}
 use Rattle.kahn_code.specs.Cells.{is_output}
 use Rattle.kahn_code.specs.Told.{Told, IsAt}
-use Rattle.kahn_job.specs.inner.Ends.{End, IsFlushed, ShareLane}
+use Rattle.kahn_job.specs.inner.Ends.{End, IsFlushed}
 use Rattle.kahn_job.specs.inner.Berths.{AreServed, end_at}
-use Rattle.kahn_job.specs.inner.Openings.{end_in}
+use Rattle.kahn_job.specs.inner.Lanes.{AreJoinedOn, HaveStayed, end_in}
 use Rattle.kahn_job.specs.inner.Settling.{AreResting}
 use Rattle.kahn_job.specs.inner.Works.{Work, IsJob}
 
@@ -18,13 +18,16 @@ rows_of ws = map (λ w. w.ends) ws
 abbrev pub cells_of : List Work → List Told
 cells_of ws = map (λ w. w.cell) ws
 
+-- the cells are the same, and each end stands where it stood
+pub record HaveMet (old new : List Work) : Type 0 where
+  pub cells : cells_of new ≡ cells_of old
+  pub rows : HaveStayed (rows_of old) (rows_of new)
+
 -- the jobs of all instances, with this input; the two ends of each lane are among them
 pub record AreJoinedJobs (t : Program) (lists : Lists) (ws : List Work) : Type 0 where
   pub count : length ws ≡ length (network_of t).instances
   pub each : (p : ℕ) (w : Work) → slice_get ws p ≡ Some w → IsJob w × (w.cell.network ≡ t) × (w.cell.input ≡ lists) × (w.cell.instance ≡ p)
-  pub joined : (p r o q d : ℕ) (w v : Work) → slice_get ws p ≡ Some w → slice_get ws r ≡ Some v →
-      actual_at (instance_at (network_of t) p) o ≡ Writes d → actual_at (instance_at (network_of t) r) q ≡ Reads d →
-      ShareLane (end_at w.ends o) (end_at v.ends q)
+  pub joined : (d : ℕ) → AreJoinedOn (network_of t) (rows_of ws) d
 
 -- the job of instance p on which nobody works: its input has lists that begin those of this one, and its ends stand where
 -- the cell stands
@@ -53,6 +56,4 @@ pub record HaveSettled (t : Program) (lists : Lists) (rows : List (List End)) : 
   pub served : (p : ℕ) → AreServed t lists p (slice_index_or rows p [])
   pub flushed : (p q d : ℕ) → actual_at (instance_at (network_of t) p) q ≡ Writes d → is_output (role_at (network_of t) d) ≡ false →
       IsFlushed (end_in rows p q)
-  -- a channel from one instance to another, or to itself, is one lane: its writer and its reader have the two ends
-  pub joined : (p r o q d : ℕ) → actual_at (instance_at (network_of t) p) o ≡ Writes d → actual_at (instance_at (network_of t) r) q ≡ Reads d →
-      ShareLane (end_in rows p o) (end_in rows r q)
+  pub joined : (d : ℕ) → AreJoinedOn (network_of t) rows d

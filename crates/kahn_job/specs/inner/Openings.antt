@@ -2,14 +2,17 @@
 use Rattle.std.specs.Prelude.{◌≡◌, ℕ, ◌<◌, true, List, [], length, replicate, Option, None, Some, slice_get, slice_set, slice_index_or}
 use Rattle.kahn_tree.specs.declared.tree.Program.{Program}
 use Rattle.kahn_tree.specs.declared.tree.Role.TheVariants.{Inner, Input, Output}
-use Rattle.kahn_network.specs.Network.{Reads, Writes, network_of, instance_at, actual_at, role_at}
+use Rattle.kahn_network.specs.Network.{network_of, instance_at, actual_at, role_at}
 use Rattle.kahn_network.specs.declared.sides.Side.{Side}
 use Rattle.kahn_streams.specs.Tokens.{Lists}
 use Rattle.kahn_code.specs.Lines.{Joins}
 use Rattle.kahn_code.specs.Told.{Told}
 use Rattle.kahn_lane.specs.Places.{lane_name}
 use Rattle.kahn_job.specs.inner.Ends.{End, ShareLane}
-use Rattle.kahn_job.specs.inner.Berths.{AreServed, Serves, end_at}
+use Rattle.kahn_job.specs.inner.Idles.{AreIdle, HaveSettled, rows_of}
+use Rattle.kahn_job.specs.inner.Lanes.{AreJoinedOn, end_in}
+use Rattle.kahn_job.specs.inner.Berths.{Serves}
+use Rattle.kahn_job.specs.inner.Ways.{no_end}
 use Rattle.kahn_job.specs.inner.Works.{Work}
 
 -- nothing was taken, put or flushed
@@ -26,9 +29,6 @@ pub record AreEndsOf (t : Program) (lists : Lists) (c : ℕ) (writer reader : En
   pub new_writer : IsFresh writer
   pub new_reader : IsFresh reader
 
-abbrev pub end_in : List (List End) → ℕ → ℕ → End
-end_in rows p q = end_at (slice_index_or rows p []) q
-
 -- the end comes to that parameter of that instance
 abbrev pub placed : List (List End) → Option Side → End → List (List End)
 placed rows None e = rows
@@ -40,8 +40,7 @@ pub record AreHanded (t : Program) (lists : Lists) (k : ℕ) (rows : List (List 
   pub sizes : (p : ℕ) → length (slice_index_or rows p []) ≡ length (instance_at (network_of t) p).actuals
   pub each : (p q d : ℕ) → Joins (actual_at (instance_at (network_of t) p) q) d → d < k →
       Serves t lists (actual_at (instance_at (network_of t) p) q) (end_in rows p q)
-  pub joined : (p r o q d : ℕ) → actual_at (instance_at (network_of t) p) o ≡ Writes d → actual_at (instance_at (network_of t) r) q ≡ Reads d →
-      d < k → ShareLane (end_in rows p o) (end_in rows r q)
+  pub joined : (d : ℕ) → d < k → AreJoinedOn (network_of t) rows d
   pub fresh : (p q : ℕ) → IsFresh (end_in rows p q)
 
 -- the cell of instance p before its first event
@@ -56,17 +55,17 @@ pub record IsOpening (t : Program) (lists : Lists) (watch : Option ℕ) (p : ℕ
   pub kept : c.kept ≡ replicate (length (instance_at (network_of t) p).actuals) []
   pub printed : c.printed ≡ []
 
--- the jobs of all instances before their first events
-pub record AreOpening (t : Program) (lists : Lists) (watch : Option ℕ) (jobs : List Work) : Type 0 where
-  pub count : length jobs ≡ length (network_of t).instances
-  -- nothing was taken, put or flushed
-  pub each : (p : ℕ) (w : Work) → slice_get jobs p ≡ Some w → IsOpening t lists watch p w.cell × ((q : ℕ) → IsFresh (end_at w.ends q))
-  -- a channel from one instance to another, or to itself, is one lane: its writer and its reader have the two ends
-  pub joined : (p r o q d : ℕ) (w v : Work) → slice_get jobs p ≡ Some w → slice_get jobs r ≡ Some v →
-      actual_at (instance_at (network_of t) p) o ≡ Writes d → actual_at (instance_at (network_of t) r) q ≡ Reads d →
-      ShareLane (end_at w.ends o) (end_at v.ends q)
+-- the job of instance p before its first event, whose parameters have no ends yet
+abbrev pub HasNoEnds : Program → Lists → Option ℕ → ℕ → Work → Type 0
+HasNoEnds t lists watch p w = IsOpening t lists watch p w.cell × (w.ends ≡ replicate (length (instance_at (network_of t) p).actuals) no_end)
 
--- the ends of instance p, before anything was taken or put
-pub record IsReadyRow (t : Program) (lists : Lists) (p : ℕ) (row : List End) : Type 0 where
-  pub served : AreServed t lists p row
-  pub fresh : (q : ℕ) → IsFresh (end_at row q)
+-- so for all instances
+pub record HaveNoEnds (t : Program) (lists : Lists) (watch : Option ℕ) (ws : List Work) : Type 0 where
+  pub count : length ws ≡ length (network_of t).instances
+  pub each : (p : ℕ) (w : Work) → slice_get ws p ≡ Some w → HasNoEnds t lists watch p w
+
+-- the jobs of all instances before their first events
+pub record AreOpening (t : Program) (lists : Lists) (watch : Option ℕ) (ws : List Work) : Type 0 where
+  pub idle : AreIdle t lists ws
+  pub settled : HaveSettled t lists (rows_of ws)
+  pub each : (p : ℕ) (w : Work) → slice_get ws p ≡ Some w → IsOpening t lists watch p w.cell

@@ -1,5 +1,5 @@
 -- Inner. The ends of channels go on with an input that has grown.
-use Rattle.std.specs.Prelude.{◌≡◌, ◌⊎◌, ℕ, ◌<◌, ◌≤◌, true, false, List, [], length, None, Some, slice_index_or, Result, MatchResult}
+use Rattle.std.specs.Prelude.{◌≡◌, ◌⊎◌, ℕ, ◌≤◌, true, false, List, [], length, None, Some, slice_index_or, Result, MatchResult}
 use Rattle.kahn_tree.specs.declared.tree.Program.{Program}
 use Rattle.kahn_tree.specs.declared.tree.Role.TheVariants.{Input}
 use Rattle.kahn_network.specs.declared.sides.Side.{Side}
@@ -13,7 +13,7 @@ use Rattle.kahn_lane.specs.declared.name.LaneName.{LaneName}
 use Rattle.kahn_lane.specs.Places.{lane_name, moved_to}
 use Rattle.kahn_lane.specs.inner.Settles.{IsGrown}
 use Rattle.kahn_job.specs.inner.Ends.{End, IsFlushed, ShareLane}
-use Rattle.kahn_job.specs.inner.Openings.{end_in}
+use Rattle.kahn_job.specs.inner.Lanes.{AreJoinedOn, end_in, end_of_side}
 
 -- it has become an end of what the name says: it stands where it stood, and what was put is flushed
 pub record HasSettled (name : LaneName) (old new : End) : Type 0 where
@@ -41,9 +41,11 @@ pub record AreResting (t : Program) (lists : Lists) (rows : List (List End)) : T
   pub sizes : (p : ℕ) → length (slice_index_or rows p []) ≡ length (instance_at (network_of t) p).actuals
   pub each : (p q : ℕ) → ServedBefore t lists (actual_at (instance_at (network_of t) p) q) (end_in rows p q)
   pub behind : (p q : ℕ) → (end_in rows p q).flushed ≤ (end_in rows p q).next
-  -- a channel from one instance to another, or to itself, is one lane: its writer and its reader have the two ends
-  pub joined : (p r o q d : ℕ) → actual_at (instance_at (network_of t) p) o ≡ Writes d → actual_at (instance_at (network_of t) r) q ≡ Reads d →
-      ShareLane (end_in rows p o) (end_in rows r q)
+  pub joined : (d : ℕ) → AreJoinedOn (network_of t) rows d
+
+-- they are at rest for some input
+abbrev pub AreAtRest : Program → List (List End) → Type 0
+AreAtRest t rows = (lists : Lists) × AreResting t lists rows
 
 -- a channel that isn't an output is handed over there
 abbrev pub IsCarried : Program → Actual → ℕ → Type 0
@@ -56,8 +58,7 @@ pub record AreSettled (t : Program) (lists : Lists) (passes : ℕ → Type 0) (o
   pub each : (p q d : ℕ) → IsCarried t (actual_at (instance_at (network_of t) p) q) d → passes d →
       HasSettled (lane_name t lists d) (end_in old p q) (end_in new p q)
   pub others : (p q : ℕ) → ((d : ℕ) → IsCarried t (actual_at (instance_at (network_of t) p) q) d → passes d → ⊥) → end_in new p q ≡ end_in old p q
-  pub joined : (p r o q d : ℕ) → actual_at (instance_at (network_of t) p) o ≡ Writes d → actual_at (instance_at (network_of t) r) q ≡ Reads d →
-      passes d → ShareLane (end_in new p o) (end_in new r q)
+  pub joined : (d : ℕ) → passes d → AreJoinedOn (network_of t) new d
 
 -- the end stands where it stood, and nothing that was flushed there is taken back
 pub record HasStood (old new : End) : Type 0 where
@@ -83,13 +84,6 @@ pub record CanFeed (lists : Lists) (reader : End) : Type 0 where
   pub reads : reader.reads ≡ true
   pub bare : reader.lane ≡ None
   pub grown : (n : LaneName) × (reader.name ≡ Some n) × IsGrown n lists
-
--- the instance and the parameter are there
-abbrev pub HasPlace : List (List End) → Side → Type 0
-HasPlace rows s = (s.instance < length rows) × (s.parameter < length (slice_index_or rows s.instance []))
-
-abbrev pub end_of_side : List (List End) → Side → End
-end_of_side rows s = end_in rows s.instance s.parameter
 
 -- the ends of the others are as they were
 pub record AreElsewhere (here : Side → Type 0) (old new : List (List End)) : Type 0 where

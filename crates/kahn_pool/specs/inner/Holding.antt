@@ -15,9 +15,14 @@ use Rattle.kahn_pool.specs.inner.Concluded.{IsConcluded}
 use Rattle.kahn_config.specs.Limits.{IsInRange}
 use Rattle.kahn_pool.specs.declared.answer.End.{End}
 use Rattle.kahn_pool.specs.declared.answer.Verdict.{Verdict}
+use Rattle.kahn_pool.specs.declared.conclude.Conclusion.{Conclusion}
+use Rattle.kahn_pool.specs.declared.part.Part.{Part}
 use Rattle.kahn_pool.specs.declared.part.PartRoom.{PartRoom}
 use Rattle.kahn_pool.specs.declared.part.Stopped.{Stopped}
+use Rattle.kahn_crew.specs.inner.Left.{HaveGone}
+use Rattle.kahn_crew.specs.inner.Tasks.{Tasked}
 use Rattle.kahn_crew.specs.inner.Wants.{IsLack}
+use Rattle.kahn_crew.specs.declared.left.Left.{Left}
 use Rattle.kahn_crew.specs.declared.plan.Plan.{Plan}
 use Rattle.kahn_crew.specs.declared.fault.CrewFault.TheVariants.{NoMemory}
 
@@ -69,13 +74,32 @@ pub record HasRisen (w v : Work) : Type 0 where
 abbrev pub HaveRisen : List Work → List Work → Type 0
 HaveRisen old new = (p : ℕ) (w v : Work) → slice_get old p ≡ Some w → slice_get new p ≡ Some v → HasRisen w v
 
+-- the jobs of a part at rest, with so much left of the bound of all, and what rounds see of them
+abbrev pub AreHeldBy : Part → List Work → ℕ → Type 0
+AreHeldBy part ws budget = AreHeld part.network.now part.input.now part.plan.watch part.bound ws budget
+
+abbrev pub seen_by : Part → List Work → RunState
+seen_by part ws = held_state part.network.now part.input.now part.plan.watch ws
+
 -- such a part may run: the code is the network's, the numbers are within their limits, and the jobs are those of a held run
-pub record IsHeldPart (t compiled : Program) (lists : Lists) (plan : Plan) (bound : ℕ) (ws : List Work) : Type 0 where
-  pub code : compiled ≡ t
-  pub few : (1 ≤ plan.workers) × (plan.workers ≤ 16)
-  pub quantum : 0 < plan.quantum
-  pub bounded : bound < 2 ^ 48
-  pub held : AreHeld t lists plan.watch bound ws plan.bound
+pub record IsHeldPart (part : Part) (ws : List Work) : Type 0 where
+  pub code : part.code.now.network.value ≡ part.network.now
+  pub few : (1 ≤ part.plan.workers) × (part.plan.workers ≤ 16)
+  pub quantum : 0 < part.plan.quantum
+  pub bounded : part.bound < 2 ^ 48
+  pub held : AreHeldBy part ws part.plan.bound
+
+-- all workers have left the part
+pub record HaveAllLeft (part : Part) (left : Left) : Type 0 where
+  pub code : part.code.now.network.value ≡ part.network.now
+  pub bounded : part.bound < 2 ^ 48
+  pub first : List Tasked
+  pub gone : HaveGone part.network.now part.input.now part.plan.watch part.bound first left.tasks.items left.budget
+
+-- so a part that is over has stopped
+pub record IsConclusion (part : Part) (halted : Bool) (r : Conclusion) : Type 0 where
+  pub held : AreHeldBy part r.idles.items r.budget
+  pub rule : IsConcluded (seen_by part r.idles.items) part.bound r.budget halted r.verdict r.ends.items
 
 -- a part goes by the plan of its run: with its workers and its quantum
 abbrev pub IsPartOf : Plan → Plan → Type 0
@@ -90,6 +114,10 @@ pub record HasStopped (t : Program) (lists : Lists) (watch : Option ℕ) (worker
       (λ v. (halted : Bool) × IsConcluded (held_state t lists watch r.idles.items) bound r.budget halted v r.ends.items)
       (IsLack workers)
   pub untouched : r.outcome ≡ Err NoMemory → (r.budget ≡ more) × (map cell_alone (cells_of r.idles.items) ≡ map cell_alone (cells_of old))
+
+-- so of this part
+abbrev pub HasStoppedPart : Part → List Work → Stopped → Type 0
+HasStoppedPart part old r = HasStopped part.network.now part.input.now part.plan.watch part.plan.workers part.bound old part.plan.bound r
 
 -- there is room for so many tasks, jobs and ends
 pub record IsRoomFor (n : ℕ) (r : PartRoom) : Type 0 where

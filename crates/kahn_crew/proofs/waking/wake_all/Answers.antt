@@ -1,6 +1,6 @@
 use Rattle.std.proofs.Common.{arith, rules, length}
 use Rattle.kahn_crew.specs.inner.Begins.{woken_task}
-use Rattle.kahn_crew.proofs.Started.{all_taken, next_at, none_taken, one_taken, room_for}
+use Rattle.kahn_crew.proofs.Started.{all_taken, goes_on, next_at, none_taken, one_taken, room_for}
 use Rattle.kahn_crew.proofs.waking.wake_all.Goals as goal
 
 pub loop-idle-init : goal.loop-idle-init
@@ -9,7 +9,7 @@ loop-idle-init c = (none_taken (woken_task c.args.input.now) c.args.idles.items 
 pub woken-requires : goal.woken-requires
 woken-requires c =
     let at = next_at (woken_task c.args.input.now) c.args.idles.items c.loop-idle.idles.items c.loop-idle.tasks.items c.pop.new.self.items c.in-Some.idle c.loop-idle.invariant.0 c.in-Some.ensures.items in
-    c.requires.each (length c.loop-idle.tasks.items) c.in-Some.idle at
+    goes_on c.args.network.now c.args.input.now c.args.idles.items c.requires.idle c.requires.settled (length c.loop-idle.tasks.items) c.in-Some.idle at
 
 pub push_reserved-requires : goal.push_reserved-requires
 push_reserved-requires c =

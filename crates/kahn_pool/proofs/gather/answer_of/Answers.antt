@@ -1,20 +1,20 @@
-use Rattle.std.proofs.Common.{sym, ◌∙◌}
-use Rattle.kahn_pool.proofs.Over.{has_ended, left_bound, left_network}
+use Rattle.std.proofs.Common.{◌≡◌, ◌+◌, ◌-◌, sum_by, arith}
+use Rattle.kahn_pool.specs.inner.Holding.{seen_by, work_events}
+use Rattle.kahn_pool.specs.declared.answer.Answer.{Answer}
+use Rattle.kahn_pool.proofs.Final.{gathered}
 use Rattle.kahn_pool.proofs.gather.answer_of.Goals as goal
 
-pub settle_all-requires-clause-code : goal.settle_all-requires-clause-code
-settle_all-requires-clause-code g c p x e =
-    let l = c.requires.left in
-    c.requires.code ∙
-    sym (left_network c.args.network.now c.args.input.now c.args.watch c.args.bound l.first c.args.left.tasks.items c.args.left.budget l.gone p x e)
+pub streams_of-requires-clause-idle : goal.streams_of-requires-clause-idle
+streams_of-requires-clause-idle g c = c.conclude-idles.ensures.concluded.held.idle
 
-pub settle_all-requires-clause-bound : goal.settle_all-requires-clause-bound
-settle_all-requires-clause-bound g c p x e =
-    let l = c.requires.left in
-    left_bound c.args.network.now c.args.input.now c.args.watch c.args.bound l.first c.args.left.tasks.items c.args.left.budget l.gone c.requires.bound p x e
-
-pub gather-requires-clause-ended : goal.gather-requires-clause-ended
-gather-requires-clause-ended g c =
-    let l = c.requires.left in
-    has_ended c.args.network.now c.args.input.now c.args.watch c.args.bound l.first c.args.left.tasks.items c.args.left.budget l.gone
-    c.settle_all.new.tasks.items c.settle_all.ensures c.args.left.halted l.over
+pub returns-clause-right : goal.returns-clause-right
+returns-clause-right g c =
+    let part = c.args.part.now in
+    let r = c.conclude-idles.result in
+    let ws = r.idles.items in
+    let done = c.conclude-idles.ensures.concluded in
+    let s = seen_by part ws in
+    let a : Answer = record { verdict = r.verdict; streams = c.streams_of.result; ends = r.ends; events = part.bound - r.budget } in
+    let sum : r.budget + sum_by work_events ws ≡ part.bound = done.held.events in
+    c.assembled.ensures s.network s.input part.bound part.plan.watch a
+    (gathered s part.bound r.budget c.args.left.halted a done.rule.last c.streams_of.ensures done.rule.rule done.rule.within (omega (arith, sum)))

@@ -5,7 +5,6 @@ use Rattle.kahn_crew.proofs.Ended.{untouched_gone}
 use Rattle.kahn_crew.proofs.Started.{at_most_all}
 use Rattle.kahn_pool.specs.inner.Holding.{AreHeld}
 use Rattle.kahn_pool.proofs.Held_jobs.{held_after, none_done}
-use Rattle.kahn_pool.proofs.Meets.{have_met_self}
 use Rattle.kahn_pool.proofs.part.first_counted.Goals as goal
 
 pub settle_all-requires-clause-code : goal.settle_all-requires-clause-code
@@ -28,8 +27,7 @@ returns-clause-held g c bound =
     let ws = c.rest_all.result.items in
     subst (λ b. AreHeld t lists c.args.watch b ws bound) all
     (held_after t lists c.args.watch (bound + events_told told_tale tasks) tasks tasks bound
-    (untouched_gone t lists c.args.watch bound tasks tasks bound c.in_ok-tasks.ensures.ready refl refl) new c.settle_all.ensures new (have_met_self new) ws c.rest_all.ensures.same
-    c.rest_all.ensures.jobs)
+    (untouched_gone t lists c.args.watch bound tasks tasks bound c.in_ok-tasks.ensures.ready refl refl) new c.settle_all.ensures ws c.rest_all.ensures.same)
 
 pub returns-clause-none : goal.returns-clause-none
 returns-clause-none g c =

@@ -9,6 +9,7 @@ use Rattle.kahn_pool.proofs.part.run_part.Goals as goal
 
 pub run_marked-requires-clause-part : goal.run_marked-requires-clause-part
 run_marked-requires-clause-part g c κs within =
+    let t = c.args.part.now in
     let p = c.requires.part in
     let e = c.settle_ends-idles.ensures in
     let us = c.settle_ends-idles.result.0.items in
@@ -17,22 +18,21 @@ run_marked-requires-clause-part g c κs within =
       few = p.few;
       quantum = p.quantum;
       bounded = p.bounded;
-      held = held_alike c.args.part.now.network.now c.args.part.now.input.now c.args.part.now.plan.watch c.args.part.now.bound us c.args.idles.items c.args.part.now.plan.bound p.held e.cells
-          (idle_still c.args.part.now.network.now c.args.part.now.input.now c.args.idles.items p.held.idle us e.cells e.stood e.resting);
+      held = held_alike t.network.now t.input.now t.plan.watch t.bound us c.args.idles.items t.plan.bound p.held e.cells
+          (idle_still t.network.now t.input.now c.args.idles.items p.held.idle us e.cells e.stood e.resting);
     }
 
 pub returns-then-is_err : goal.returns-then-is_err
 returns-then-is_err g c =
+    let t = c.args.part.now in
     let e = c.settle_ends-idles.ensures in
     let ws = c.args.idles.items in
     let us = c.settle_ends-idles.result.0.items in
-    let r : Stopped = record { idles = c.settle_ends-idles.result.0; budget = c.args.part.now.plan.bound; ends = c.args.room.ends; outcome = Err NoMemory } in
-    refused_so c.args.part.now.network.now c.args.part.now.input.now c.args.part.now.plan.watch c.args.part.now.plan.workers c.args.part.now.bound ws c.args.part.now.plan.bound r
-    (held_alike c.args.part.now.network.now c.args.part.now.input.now c.args.part.now.plan.watch c.args.part.now.bound us ws c.args.part.now.plan.bound c.requires.part.held e.cells
-    (idle_still c.args.part.now.network.now c.args.part.now.input.now ws c.requires.part.held.idle us e.cells e.stood e.resting))
+    let r : Stopped = record { idles = c.settle_ends-idles.result.0; budget = t.plan.bound; ends = c.args.room.ends; outcome = Err NoMemory } in
+    refused_so t ws r
+    (held_alike t.network.now t.input.now t.plan.watch t.bound us ws t.plan.bound c.requires.part.held e.cells
+    (idle_still t.network.now t.input.now ws c.requires.part.held.idle us e.cells e.stood e.resting))
     (rises_since ws us us e.cells (risen_here us)) NoMemory tt refl (λ f. (refl, ap (λ (cs : List Told). map cell_alone cs) e.cells))
 
 pub returns : goal.returns
-returns g c =
-    stopped_since c.args.part.now.network.now c.args.part.now.input.now c.args.part.now.plan.watch c.args.part.now.plan.workers c.args.part.now.bound c.args.idles.items c.settle_ends-idles.result.0.items c.args.part.now.plan.bound
-    c.run_marked.result c.settle_ends-idles.ensures.cells c.run_marked.ensures
+returns g c = stopped_since c.args.part.now c.args.idles.items c.settle_ends-idles.result.0.items c.run_marked.result c.settle_ends-idles.ensures.cells c.run_marked.ensures

@@ -1,0 +1,6 @@
+use Rattle.kahn_code.proofs.Lists.{AreFirst}
+use Rattle.kahn_job.specs.inner.Openings.{HasNoEnds}
+use Rattle.kahn_job.proofs.opening.bare_jobs.Given as goal
+
+abbrev pub invariant-loop-instance : goal.invariant-loop-instance
+invariant-loop-instance l = AreFirst (HasNoEnds l.network l.input l.watch) l.idles.items l.instance

@@ -1,0 +1,63 @@
+//! The two ends of each channel between processes meet, and tell that no reader took more than was flushed.
+
+ghost use Rattle.std.specs.Prelude.{◌≡◌, ℕ, ◌<◌, length};
+ghost use Rattle.kahn_network.specs.Network.{network_of};
+ghost use Rattle.kahn_job.specs.inner.Ends.{IsBehind, MayMeet};
+ghost use Rattle.kahn_job.specs.inner.Idles.{HaveMet, rows_of};
+ghost use Rattle.kahn_job.specs.inner.Lanes.{AreBehindOn, HasPlace, end_of_side};
+ghost use Rattle.kahn_job.specs.inner.Settling.{AreAtRest};
+
+use crate::exchanging::{put_two, take_two};
+use crate::idle::Idle;
+use kahn_network::{Network, Side};
+
+// The two ends of a lane meet.
+fn meet_sides(idles: &mut [Idle], writer: Side, reader: Side)
+    requires places { HasPlace (rows_of idles.old) writer × HasPlace (rows_of idles.old) reader }
+    requires apart { writer ≡ reader → ⊥ }
+    requires lane { MayMeet (end_of_side (rows_of idles.old) writer) (end_of_side (rows_of idles.old) reader) }
+    ensures met { HaveMet idles.old idles.new }
+    ensures behind { IsBehind (end_of_side (rows_of idles.old) writer) (end_of_side (rows_of idles.old) reader) }
+{
+    let (mut sender, mut receiver) = take_two(idles, writer, reader);
+    let _waiting = sender.meet(&mut receiver);
+    put_two(idles, writer, sender, reader, receiver);
+}
+
+// The two ends of a channel meet, where it has two.
+fn meet_on(network: &Network, idles: &mut [Idle], channel: usize)
+    requires here { channel < length (network_of network.now).channels }
+    requires resting { AreAtRest network.now (rows_of idles.old) }
+    ensures met { HaveMet idles.old idles.new }
+    ensures behind { AreBehindOn (network_of network.now) (rows_of idles.old) channel }
+{
+    let _program = network.program();
+    if let Some(writer) = network.writer(channel) {
+        if let Some(reader) = network.reader(channel) {
+            meet_sides(idles, writer, reader);
+        }
+    }
+}
+
+// The two ends of each channel meet.
+fn meet_each(network: &Network, idles: &mut [Idle])
+    requires { AreAtRest network.now (rows_of idles.old) }
+    ensures met { HaveMet idles.old idles.new }
+    ensures behind { (c : ℕ) → AreBehindOn (network_of network.now) (rows_of idles.old) c }
+{
+    let _program = network.program();
+    for channel in 0..network.channels() {
+        meet_on(network, idles, channel);
+    }
+}
+
+/// The two ends of each channel meet, which tells that no reader took more than was flushed. The jobs stay as they are, but for
+/// what their ends know. It takes no memory.
+pub fn meet(network: &Network, mut idles: Vec<Idle>) -> Vec<Idle>
+    requires { AreAtRest network.now (rows_of idles.items) }
+    ensures met { HaveMet idles.items result.items }
+    ensures behind { (c : ℕ) → AreBehindOn (network_of network.now) (rows_of idles.items) c }
+{
+    meet_each(network, &mut idles);
+    idles
+}
