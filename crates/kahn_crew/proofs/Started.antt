@@ -25,7 +25,7 @@ use Rattle.kahn_job.proofs.Idles.{idle_goes_on, row_there}
 use Rattle.kahn_job.proofs.Settles.{stood_same}
 use Rattle.kahn_board.specs.Dealt.{events_told}
 use Rattle.kahn_board.specs.Opening.{Opens}
-use Rattle.kahn_board.specs.Rule.{view}
+use Rattle.kahn_board.specs.Rule.{spent}
 use Rattle.kahn_board.specs.Wires.{wires}
 use Rattle.kahn_board.specs.declared.rule.Terms.{Terms}
 use Rattle.kahn_board.specs.declared.view.View.{View}
@@ -227,7 +227,7 @@ module _ (t : Program) (wired : IsWellWired t) (lists : Lists) (watch : Option �
     (long : length numbers ≡ length (network_of t).channels)
     (each : (c : ℕ) → c < length numbers → IsNumber t lists tasks c (slice_index numbers c) × (slice_index numbers c < 2 ^ 48)) where
   abbrev known : View
-  known = view 0 [] numbers [] 0 0 0 [] 0 0 0 0 0 0
+  known = record spent { flushed = numbers }
 
   inner_here : (p : ℕ) (y : Tasked) (c : ℕ) → IsReadyTask t lists watch p y → is_output (role_at (network_of y.work.cell.network) c) ≡ false → is_output (role_at (network_of t) c) ≡ false
   inner_here p y c o inner = subst (λ (k : Program). is_output (role_at (network_of k) c) ≡ false) o.network inner
