@@ -1,12 +1,11 @@
 -- What the parameters of an instance are for.
 use Rattle.std.proofs.Common.{◌≡◌, ℕ, zero, suc, List, [], ◌∷◌, map, refl, ap, ◌∙◌, slice_index_or, pos, Option, Some, None, Bool, sym}
 use Rattle.kahn_code.proofs.Common.{Number, Network, Actual, Reads, Writes, Hands, instance_at, actual_at, role_at}
-use Rattle.kahn_code.specs.declared.body.Body.{Body}
 use Rattle.kahn_code.specs.declared.body.Use.{Use}
 use Rattle.kahn_code.specs.declared.body.Use.TheVariants as u
 use Rattle.kahn_code.specs.Cells.{is_output}
 use Rattle.kahn_code.specs.Lines.{route_of}
-use Rattle.kahn_code.specs.Machines.{use_of, IsBody}
+use Rattle.kahn_code.specs.Machines.{use_of, AreUses}
 
 use_map : (N : Network) (acts : List Actual) (q : ℕ) →
     slice_index_or (map (use_of N) acts) q u.Value ≡ use_of N (slice_index_or acts q (Hands (Number (pos 0))))
@@ -14,8 +13,8 @@ use_map N [] q = refl
 use_map N (a ∷ acts) zero = refl
 use_map N (a ∷ acts) (suc q) = use_map N acts q
 
-pub use_at : {A : Type 0} (N : Network) (p : ℕ) (b : Body A) (q : ℕ) → IsBody N p b → slice_index_or b.uses.items q u.Value ≡ use_of N (actual_at (instance_at N p) q)
-use_at N p b q h = ap (λ l. slice_index_or l q u.Value) h.uses ∙ use_map N (instance_at N p).actuals q
+pub use_at : (N : Network) (p : ℕ) (uses : List Use) (q : ℕ) → AreUses N p uses → slice_index_or uses q u.Value ≡ use_of N (actual_at (instance_at N p) q)
+use_at N p uses q h = ap (λ l. slice_index_or l q u.Value) h ∙ use_map N (instance_at N p).actuals q
 
 -- the channel of a use
 abbrev route_by : Use → Option ℕ

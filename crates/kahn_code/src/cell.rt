@@ -1,13 +1,12 @@
 //! A cell: one process of a network on its way.
 
-ghost use Rattle.std.specs.Prelude.{◌≡◌, ℕ, ◌+◌, ◌*◌, ◌^◌, ◌<◌, ◌≤◌, length, [], map, replicate, slice_index_or, IfOk};
+ghost use Rattle.std.specs.Prelude.{◌≡◌, ℕ, ◌+◌, ◌*◌, ◌^◌, ◌<◌, ◌≤◌, length, [], map, slice_index_or, IfOk};
 ghost use Rattle.kahn_network.specs.Network.{network_of, instance_at};
 ghost use Rattle.kahn_streams.specs.Tokens.{Lists, inputs_of};
 ghost use Rattle.kahn_code.specs.Flat.{stmt_code};
 ghost use Rattle.kahn_streams.specs.Laws.{AreInputsExtended};
-ghost use Rattle.kahn_code.specs.Progress.{Paused, IsPause};
 ghost use Rattle.kahn_code.specs.Seats.{LeavesOthers, Grows};
-ghost use Rattle.kahn_code.specs.Told.{AreCounts, seat_of, told_view, IsAt, IsStill, WantsRoom};
+ghost use Rattle.kahn_code.specs.Told.{AreCounts, AreUnused, seat_of, IsAt, IsPausedBy, IsSameProcess, IsStill, WantsRoom};
 
 use crate::code::{Code, CodeFault};
 use crate::ports::Ports;
@@ -64,7 +63,7 @@ impl<A: Allocator + Copy + Drop> Cell<A> {
         requires { instance < length (network_of code.now.network.value).instances }
         ensures names { IfOk result (λ c. (c.network ≡ code.now.network.value) × (c.input ≡ input) × (c.instance ≡ instance) × (c.watch ≡ watch)) }
         ensures none { IfOk result (λ c. (c.events ≡ 0) × (c.printed ≡ [])) }
-        ensures parameters { IfOk result (λ c. let n = length (instance_at (network_of code.now.network.value) instance).actuals in (c.taken ≡ replicate n 0) × (c.sent ≡ replicate n 0) × (c.kept ≡ replicate n [])) }
+        ensures parameters { IfOk result (λ c. AreUnused (length (instance_at (network_of code.now.network.value) instance).actuals) c) }
     {
         Ok(Cell {
             tap: Tap::new(alloc, code, instance, watch)?,
@@ -84,14 +83,14 @@ impl<A: Allocator + Copy + Drop> Cell<A> {
         requires ports { P.seat ports.old ≡ seat_of self.old }
         requires at { IsAt self.old (P.next ports.old) }
         requires events { self.old.events + quantum < 2 ^ 48 }
-        ensures names { (self.new.network ≡ self.old.network) × (self.new.input ≡ self.old.input) × (self.new.instance ≡ self.old.instance) × (self.new.watch ≡ self.old.watch) }
+        ensures names { IsSameProcess self.old self.new }
         ensures ports { P.seat ports.new ≡ seat_of self.new }
         ensures others { LeavesOthers (P.seat ports.old) (P.others ports.old) (P.others ports.new) }
         ensures which { P.which ports.new ≡ P.which ports.old }
         ensures delivered { Grows (P.delivered ports.old) (P.delivered ports.new) }
         ensures at { IsAt self.new (P.next ports.new) }
         // What the source says of the cell and of the pause.
-        ensures paused { Paused (network_of self.new.network) (inputs_of self.new.input) self.new.watch self.new.instance (told_view self.new) (IsPause (network_of self.new.network) self.new.instance (P.is_dry ports.new) (P.is_ready ports.new) (self.new.events ≡ self.old.events + quantum) result) }
+        ensures paused { IsPausedBy self.new (P.is_dry ports.new) (P.is_ready ports.new) (self.new.events ≡ self.old.events + quantum) result }
         ensures events { (self.old.events ≤ self.new.events) × (self.new.events ≤ self.old.events + quantum) }
         // Where no event was done, counts and lists are as before, and for how many tokens more lists have room.
         ensures still { self.new.events ≡ self.old.events → IsStill self.old self.new }

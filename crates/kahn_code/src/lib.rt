@@ -3,6 +3,7 @@
 
 mod body;
 mod cell;
+mod changes;
 mod code;
 mod depth;
 mod emit;

@@ -1,4 +1,4 @@
-use Rattle.kahn_code.proofs.progress.named_gone.Given as goal
+use Rattle.kahn_code.proofs.changes.named_gone.Given as goal
 
 abbrev pub ghost-named : goal.ghost-named
 ghost-named g a = g.gone
