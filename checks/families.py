@@ -159,7 +159,7 @@ def long_processes():
 
 
 def copies():
-    """What a process counts comes out of three copies in order: a segment of a channel has room for 64 values at first."""
+    """What a process counts comes out of three copies in order: a segment of a channel holds 64 values."""
     for count in (64, 65, 1000):
         program = f"""begin integer channel X0, X1, X2; integer output channel W;
           process count(integer out W; integer N);

@@ -38,7 +38,7 @@ module _ {A : Type 0} where
 
   -- there is place for a token
   abbrev pub CanPut : Sender A → Type 0
-  CanPut s = (filled s < 1024) × (filled s < capacity s)
+  CanPut s = (filled s < 64) × (filled s < capacity s)
 
   -- how many tokens were taken
   abbrev pub received : Receiver A → ℕ

@@ -25,12 +25,8 @@ use std::mem;
 // How often a steal that came between two others is tried again.
 const TRIES: usize = 64;
 
-// How many tokens a segment has at most: more than a process sends in a quantum of the usual size, so that its reader sees a
-// segment hardly before it is published.
-const SEGMENT: usize = 1024;
-
-// For how many tokens an open segment takes room at least.
-const LEAST: usize = 64;
+// How many tokens a segment has at most.
+const SEGMENT: usize = 64;
 
 // The deque of a new lane that begins at the tag's place, with its name known to both ends.
 fn opened<A: Allocator + Clone + Drop>(
@@ -108,13 +104,13 @@ pub fn lane<A: Allocator + Clone + Drop>(
 }
 
 impl<A: Allocator + Clone + Drop> Sender<A> {
-    /// Makes place for one token. Where the open segment has 1,024 tokens it is flushed first. Where memory is refused
+    /// Makes place for one token. Where the open segment has 64 tokens it is flushed first. Where memory is refused
     /// all tokens stay, those of a full segment may have been flushed, and there is no place. Where there is place already
     /// it takes none.
     pub fn room(&mut self) -> Result<(), NoMemory>
         ensures same { SameSender self.old self.new × (sent self.new ≡ sent self.old) }
         ensures room { IfOk result (λ _. CanPut self.new) }
-        ensures flushed { (flushed self.new ≡ flushed self.old) ⊎ ((sent self.old ≡ flushed self.old + 1024) × (flushed self.new ≡ sent self.old)) }
+        ensures flushed { (flushed self.new ≡ flushed self.old) ⊎ ((sent self.old ≡ flushed self.old + 64) × (flushed self.new ≡ sent self.old)) }
         ensures spare { CanPut self.old → IsOk result }
         ensures full { OnErr result (CanPut self.new → ⊥) }
     {
@@ -124,7 +120,7 @@ impl<A: Allocator + Clone + Drop> Sender<A> {
         if self.current.len() < self.current.capacity() {
             return Ok(());
         }
-        match self.current.reserve(LEAST) {
+        match self.current.reserve_exact(SEGMENT - self.current.len()) {
             Ok(()) => Ok(()),
             Err(_) => Err(NoMemory),
         }
@@ -183,10 +179,10 @@ impl<A: Allocator + Clone + Drop> Sender<A> {
         let Ok(alloc) = self.current.allocator().clone() else {
             return Err(NoMemory);
         };
-        let count = self.current.len();
-        let Ok(next) = Vec::with_capacity(alloc, count.max(LEAST)) else {
+        let Ok(next) = Vec::with_capacity(alloc, SEGMENT) else {
             return Err(NoMemory);
         };
+        let count = self.current.len() as u64;
         let tokens = mem::replace(&mut self.current, next);
         match self.worker.push_as::<Flushed>(Segment {
             tag: None,
@@ -194,7 +190,7 @@ impl<A: Allocator + Clone + Drop> Sender<A> {
             tokens,
         }) {
             Ok(()) => {
-                self.flushed += count as u64;
+                self.flushed += count;
                 Ok(self.flushed)
             }
             Err(segment) => {

@@ -186,7 +186,7 @@ pub struct Sender<A: Allocator = Global> {
     ghost named: { (worker_view worker).writes_on ≡ Some (tag_name tag) } by { name-prop (worker_view worker).writes_on (Some (tag_name tag)) },
     ghost counted: { (worker_view worker).flushed ≡ flushed },
     ghost placed: { StandFrom (worker_view worker).writes_on flushed current.items } by { Placed-prop (worker_view worker).writes_on flushed current.items },
-    ghost short: { vec_len current ≤ 1024 },
+    ghost short: { vec_len current ≤ 64 },
     ghost limited: { flushed + vec_len current ≤ 2 ^ 48 },
 }
 

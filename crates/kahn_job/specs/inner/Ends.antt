@@ -65,7 +65,7 @@ Advances old new = (old.flushed ≤ new.flushed) × (new.flushed ≤ new.next)
 
 -- nothing was flushed, or a full segment
 abbrev pub FlushesFull : End → End → Type 0
-FlushesFull old new = (new.next ≡ old.next) × ((new.flushed ≡ old.flushed) ⊎ ((old.next ≡ old.flushed + 1024) × (new.flushed ≡ old.next)))
+FlushesFull old new = (new.next ≡ old.next) × ((new.flushed ≡ old.flushed) ⊎ ((old.next ≡ old.flushed + 64) × (new.flushed ≡ old.next)))
 
 -- the next take gives a token
 abbrev pub IsReady : End → Type 0
@@ -78,7 +78,7 @@ IsDry e = (e.known ≤ e.next) ⊎ (e.asked + 64 ≤ e.left)
 
 -- there is room for one token
 abbrev pub HasRoom : End → Type 0
-HasRoom e = (e.filled < 1024) × (e.filled < e.capacity)
+HasRoom e = (e.filled < 64) × (e.filled < e.capacity)
 
 -- what was put was flushed
 abbrev pub IsFlushed : End → Type 0

@@ -119,21 +119,21 @@ fn take_all<A: Allocator + Drop>(rt: &impl Abort, receiver: &mut Receiver<A>, fr
 
 #[test]
 fn a_full_segment_is_flushed_by_the_next_room(rt: HostRuntime) -> Result<(), Fail> {
-    let (network, input) = doubling(rt.alloc(), 1025)?;
+    let (network, input) = doubling(rt.alloc(), 65)?;
     let (mut sender, mut receiver) = lane(rt.alloc(), &network, &input, 0)?;
-    assert_eq!(rt; put_some(&rt, &mut sender, &network, &input, 1024), Ok(0));
+    assert_eq!(rt; put_some(&rt, &mut sender, &network, &input, 64), Ok(0));
     assert_eq!(rt; take(&mut receiver), None);
     sender.room()?;
     assert_eq!(rt; take(&mut receiver), Some(0));
     assert_eq!(rt; put_some(&rt, &mut sender, &network, &input, 1), Ok(0));
-    assert_eq!(rt; sender.flush(), Ok(1025));
-    take_all(&rt, &mut receiver, 1, 1025);
-    assert_eq!(rt; sender.flush(), Ok(1025));
+    assert_eq!(rt; sender.flush(), Ok(65));
+    take_all(&rt, &mut receiver, 1, 65);
+    assert_eq!(rt; sender.flush(), Ok(65));
     assert_eq!(rt; meet(&mut sender, &mut receiver), 0);
     Ok(())
 }
 
-// 2049 tokens pass through a lane. The growth of this number is refused, and the call that wanted it is made again: whether
+// 129 tokens pass through a lane. The growth of this number is refused, and the call that wanted it is made again: whether
 // there was one.
 fn passed<A: Allocator + Clone + Drop>(
     rt: &impl Abort,
@@ -147,22 +147,22 @@ fn passed<A: Allocator + Clone + Drop>(
 {
     let (mut sender, mut receiver) = lane(alloc, network, input, 0)?;
     memory.refuse(number);
-    let refused = put_some(rt, &mut sender, network, input, 2049)?;
-    take_all(rt, &mut receiver, 0, 2048);
-    let at_last = flush(rt, &mut sender, 2049);
-    take_all(rt, &mut receiver, 2048, 2049);
+    let refused = put_some(rt, &mut sender, network, input, 129)?;
+    take_all(rt, &mut receiver, 0, 128);
+    let at_last = flush(rt, &mut sender, 129);
+    take_all(rt, &mut receiver, 128, 129);
     assert!(rt; refused == 0 || refused == 1 && !at_last);
     Ok(refused == 1 || at_last)
 }
 
 #[test]
 fn two_segments_and_a_token_with_each_growth_refused(rt: HostRuntime) -> Result<(), Fail> {
-    let (network, input) = doubling(rt.alloc(), 2049)?;
+    let (network, input) = doubling(rt.alloc(), 129)?;
     let memory = Rationed::new(rt.alloc());
     assert!(rt; !passed(&rt, &memory, &memory, &network, &input, 0)?);
     for number in 1..100 {
         if !passed(&rt, &memory, &memory, &network, &input, number)? {
-            assert_eq!(rt; number, 9);
+            assert_eq!(rt; number, 5);
             return Ok(());
         }
     }
