@@ -5,10 +5,6 @@ ghost use Rattle.std.specs.Prelude.{◌≡◌, false, true};
 use crossbeam_deque::{Steal, Stealer, Worker};
 use kahn_streams::NoMemory;
 use std::alloc::AllocError;
-use std::mem;
-
-// How many come before the one that is late, one after another.
-const BEFORE: usize = 16;
 
 /// The hints of one worker: its own, and those of the others, which it may steal. A hint that is out of date does no harm.
 /// The oldest two of its own stand beside the deque, where no step on a word that others see is needed for them.
@@ -18,11 +14,6 @@ pub struct Hints {
     second: Option<usize>,
     own: Worker<usize>,
     others: Vec<Stealer<usize>>,
-    // The instance that published last for a reader that hasn't come to what was published before.
-    ahead: Option<usize>,
-    // Such an instance that goes on: it comes behind the others, of which so many came since.
-    late: Option<usize>,
-    passed: usize,
     // Whether memory was refused to the worker: for a hint, an event or a segment.
     pub(crate) wanted: bool,
 }
@@ -37,9 +28,6 @@ impl Hints {
             second: None,
             own,
             others,
-            ahead: None,
-            late: None,
-            passed: 0,
             wanted: false,
         }
     }
@@ -63,34 +51,8 @@ impl Hints {
         Ok(())
     }
 
-    /// Notes that an instance published more, and which reader it woke. One that woke none is ahead of its reader.
-    pub(crate) fn note(&mut self, instance: usize, woken: Option<usize>)
-        ensures { self.new.wanted ≡ self.old.wanted }
-    {
-        self.ahead = match woken {
-            Some(_) => None,
-            None => Some(instance),
-        };
-    }
-
-    /// One hint more: an instance that is ahead of its reader comes behind the others. False where memory was refused, which
-    /// stays noted.
+    /// One hint more. False where memory was refused, which stays noted.
     pub fn push(&mut self, instance: usize) -> bool
-        ensures told { result ≡ true → self.new.wanted ≡ self.old.wanted }
-        ensures noted { result ≡ false → self.new.wanted ≡ true }
-    {
-        if self.ahead != Some(instance) {
-            return self.push_last(instance);
-        }
-        self.ahead = None;
-        match mem::replace(&mut self.late, Some(instance)) {
-            Some(other) => self.push_last(other),
-            None => true,
-        }
-    }
-
-    // One hint more, behind all but the one that is late.
-    fn push_last(&mut self, instance: usize) -> bool
         ensures told { result ≡ true → self.new.wanted ≡ self.old.wanted }
         ensures noted { result ≡ false → self.new.wanted ≡ true }
     {
@@ -114,32 +76,10 @@ impl Hints {
         self.wanted = true;
     }
 
-    /// The one that is late.
-    pub(crate) fn late(&self) -> Option<usize> {
-        self.late
-    }
-
-    /// Notes that an instance was picked while one was late, which stays so where it was another.
-    pub(crate) fn picked(&mut self, found: Option<usize>)
-        ensures { self.new.wanted ≡ self.old.wanted }
-    {
-        if found.is_none() || found == self.late {
-            self.late = None;
-            self.passed = 0;
-        }
-    }
-
-    /// The oldest hint of its own. The one that is late comes once many others came before it.
+    /// The oldest hint of its own.
     pub fn next(&mut self) -> Option<usize>
         ensures { self.new.wanted ≡ self.old.wanted }
     {
-        if self.late.is_some() {
-            self.passed = self.passed.wrapping_add(1);
-            if self.passed > BEFORE {
-                self.passed = 0;
-                return mem::replace(&mut self.late, None);
-            }
-        }
         let oldest = self.first;
         self.first = self.second;
         self.second = None;

@@ -19,7 +19,6 @@ use kahn_board::{Seat, stop, tell};
 pub(crate) fn publish_one<'n>(
     run: &Run<'_, 'n>,
     seat: &mut Seat<Boxed<'n>>,
-    hints: &mut Hints,
     task: &mut Task<'n>,
     p: usize,
     parameter: usize,
@@ -27,7 +26,6 @@ pub(crate) fn publish_one<'n>(
     requires works { (n : ℕ) × (k : ℕ) × IsAtWork run.now p n k task.old seat.old }
     requires inside { parameter < width_of task.old.work }
     ensures same { IsSeatOf seat.old seat.new }
-    ensures kept { hints.new.wanted ≡ hints.old.wanted }
     ensures works { (n k : ℕ) → IsAtWork run.now p n k task.old seat.old → IsAtWork run.now p n k task.new seat.new }
     ensures seen { SeesMore seat.old.seat.me.0.seen seat.new.seat.me.0.seen }
     ensures task { (task.new.work ≡ task.old.work) × (task.new.standing ≡ task.old.standing) }
@@ -42,9 +40,7 @@ pub(crate) fn publish_one<'n>(
     }
     let channel = target(run.network, run.code, p, parameter)?;
     task.mark(parameter, count);
-    let woken = tell(seat, run.board, p, channel, count);
-    hints.note(p, woken);
-    woken
+    tell(seat, run.board, p, channel, count)
 }
 
 // Where memory was refused for a hint the run is to stop. Otherwise the seat stays as it is.
@@ -96,7 +92,7 @@ pub(crate) fn publish_all<'n>(
     ensures all { (r : ℕ) → IsPublished task.new r }
 {
     for parameter in 0..task.parameters() {
-        let woken = publish_one(run, seat, hints, task, p, parameter);
+        let woken = publish_one(run, seat, task, p, parameter);
         hint(run, seat, hints, woken);
     }
 }

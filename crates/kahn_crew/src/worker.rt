@@ -72,34 +72,6 @@ fn pick_elsewhere<'n>(run: &Run<'_, 'n>, worker: &mut Worker<'n>, rest: &Rest) -
     }
 }
 
-// Picks an instance where one of the worker's own is ahead of its reader: another that is ready, or else that one.
-fn pick_late<'n>(run: &Run<'_, 'n>, worker: &mut Worker<'n>) -> Option<usize>
-    requires { SitsWith run.now 0 worker.old.seat }
-    ensures same { IsSeatOf worker.old.seat worker.new.seat }
-    ensures picked { IfSome result (λ p. HasTask run.now p 0 worker.new.seat) }
-    ensures left { IfNone result (SitsWith run.now 0 worker.new.seat) }
-    ensures kept { worker.new.hints.wanted ≡ worker.old.hints.wanted }
-{
-    let late = worker.hints.late()?;
-    let found = pick_any(run, &mut worker.seat, late.wrapping_add(1));
-    worker.hints.picked(found);
-    found
-}
-
-// Picks an instance where the worker has no hints of its own.
-fn pick_other<'n>(run: &Run<'_, 'n>, worker: &mut Worker<'n>, rest: &Rest) -> Option<usize>
-    requires { SitsWith run.now 0 worker.old.seat }
-    ensures same { IsSeatOf worker.old.seat worker.new.seat }
-    ensures picked { IfSome result (λ p. HasTask run.now p 0 worker.new.seat) }
-    ensures left { IfNone result (SitsWith run.now 0 worker.new.seat) }
-    ensures kept { worker.new.hints.wanted ≡ worker.old.hints.wanted }
-{
-    match pick_late(run, worker) {
-        Some(p) => Some(p),
-        None => pick_elsewhere(run, worker, rest),
-    }
-}
-
 // Picks an instance.
 fn pick_next<'n>(run: &Run<'_, 'n>, worker: &mut Worker<'n>, rest: &Rest) -> Option<usize>
     requires { SitsWith run.now 0 worker.old.seat }
@@ -110,7 +82,7 @@ fn pick_next<'n>(run: &Run<'_, 'n>, worker: &mut Worker<'n>, rest: &Rest) -> Opt
 {
     match pick_hinted(run, &mut worker.seat, &mut worker.hints, false) {
         Some(p) => Some(p),
-        None => pick_other(run, worker, rest),
+        None => pick_elsewhere(run, worker, rest),
     }
 }
 

@@ -14,14 +14,14 @@ target-requires-clause-code c = let fits = c.args.run.now.fits in fits.code ∙ 
 pub target-requires-clause-inside : goal.target-requires-clause-inside
 target-requires-clause-inside c = inside_lent c.args.run.now c.args.p c.requires.works.2.inside
 
-pub tell-woken-requires-clause-board : goal.tell-woken-requires-clause-board
-tell-woken-requires-clause-board c = c.requires.works.2.seated
+pub tell-requires-clause-board : goal.tell-requires-clause-board
+tell-requires-clause-board c = c.requires.works.2.seated
 
-pub tell-woken-requires-clause-holds : goal.tell-woken-requires-clause-holds
-tell-woken-requires-clause-holds c = let w = c.requires.works in (w.0, 0, None, w.2.holds)
+pub tell-requires-clause-holds : goal.tell-requires-clause-holds
+tell-requires-clause-holds c = let w = c.requires.works in (w.0, 0, None, w.2.holds)
 
-pub tell-woken-requires-clause-writes : goal.tell-woken-requires-clause-writes
-tell-woken-requires-clause-writes c =
+pub tell-requires-clause-writes : goal.tell-requires-clause-writes
+tell-requires-clause-writes c =
     let run = c.args.run.now in
     let well = subst IsWellWired run.fits.network c.program-program.ensures.wired in
     let t = (terms_of run).network.value in
@@ -54,7 +54,7 @@ returns-clause-works c = λ n k a.
     let lists = c.parameters.ensures.lists.0 in
     let width = c.parameters.ensures.width in
     let inside = c.requires.inside in
-    subst (λ (y : Tasked). IsAtWork run c.args.p n k y c.tell-woken.new.seat) (sym c.mark.ensures)
-    (told run well c.args.p n k c.args.parameter c.in_ok-channel.channel c.flushed-count.result c.args.task.now c.args.seat.now c.tell-woken.new.seat a
-    (c.tell-woken.ensures.holds n 0 None a.holds) c.tell-woken.ensures.same.0 c.tell-woken.ensures.tells (written_here run c.args.p c.args.parameter (Some c.in_ok-channel.channel) c.in_ok-channel.ensures)
+    subst (λ (y : Tasked). IsAtWork run c.args.p n k y c.tell.new.seat) (sym c.mark.ensures)
+    (told run well c.args.p n k c.args.parameter c.in_ok-channel.channel c.flushed-count.result c.args.task.now c.args.seat.now c.tell.new.seat a
+    (c.tell.ensures.holds n 0 None a.holds) c.tell.ensures.same.0 c.tell.ensures.tells (written_here run c.args.p c.args.parameter (Some c.in_ok-channel.channel) c.in_ok-channel.ensures)
     (omega (arith, lists, width, inside)))
