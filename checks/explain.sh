@@ -73,7 +73,7 @@ gives "an input" 0 "1 copy waits on B from 2 copy, as 2 copy waits on A, an inpu
 finished 14" '' input --input values
 network fault 'integer channel A, B; integer output channel W;' 'copy(B, W) par divide(A, B) par count(A, 3)'
 gives "a fault" 8 "1 copy waits on B from 2 divide, as 2 divide has a fault: for ever
-2 divide has a fault, division
+2 divide has a fault, division at 4:72
 finished 10" '' fault
 network both 'integer channel A, B, C; integer output channel W;' 'copy(C, C) par divide(A, B) par count(A, 3) par copy(B, W)'
 "$explain" both > output 2> error

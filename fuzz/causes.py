@@ -4,7 +4,8 @@
 
 Who waits on whom is read off the report's end lines and the wiring of reference.py. Whoever has gone as many waits onward as there are
 instances, and still waits on one of them, is in a ring. What is said to be for ever is tried: the interpreter of reference.py runs the
-network on a longer input, and each such process has to end there as it did. A difference is printed, and its texts are kept.
+network on a longer input, and each such process has to end there as it did; where it has a fault, the place where that came has to be
+one of those that are told. A difference is printed, and its texts are kept.
 """
 import os
 import random
@@ -20,6 +21,7 @@ import fuzz
 import reference as ref
 
 WARNED = re.compile(r"[^\n]*:\d+:\d+: warning: ")
+FAULTED = re.compile(r"(?m)^(\d+)( \w+ has a fault, \w+)( at \d+:\d+(?: or at \d+:\d+)*)$")
 FOR_EVER = ("ring", "ended", "fault overflow", "fault division")
 
 
@@ -120,7 +122,13 @@ def wanted_of(checked, ends, last):
     return text, status, causes
 
 
-def lasts(checked, inputs, ends, causes, rng):
+def without_places(told):
+    """The same without the places of faults, and these: the lines and columns by the number of the process."""
+    places = {int(p) - 1: re.findall(r"\d+:\d+", at) for p, _, at in FAULTED.findall(told)}
+    return FAULTED.sub(r"\1\2", told), places
+
+
+def lasts(checked, inputs, ends, causes, text, places, rng):
     """What isn't for ever of what is said to be, by a longer input; or how many processes were looked at."""
     longer = {}
     for c, (_, kind, role, _) in enumerate(checked.channels):
@@ -136,6 +144,8 @@ def lasts(checked, inputs, ends, causes, rng):
             now = it.state if it.state != "more" else "wants more" if it.waits() is None else "waits on " + checked.channels[it.waits()][0]
             if it.events > ends[p][2] or finished and (now, it.events) != (ends[p][0], ends[p][2]):
                 return f"{p + 1} {ends[p]}, and with a longer input {now} after {it.events}"
+            if it.failed_at is not None and "{}:{}".format(*ref.place(text.encode(), it.failed_at)) not in places.get(p, []):
+                return f"{p + 1} {now} at {ref.place(text.encode(), it.failed_at)}, which isn't told"
             count += finished
     return count
 
@@ -158,11 +168,12 @@ def one(explain, kahn, room, seed):
         number += 1
     workers = str(rng.choice((1, 4, 16))) if last.startswith("finished") else "1"
     ran = subprocess.run([explain, *words, workers], stdin=subprocess.DEVNULL, capture_output=True, timeout=60)
-    got = ran.stdout.decode()
+    got, places = without_places(ran.stdout.decode())
     before = got[:-len(wanted)]
-    if not got.endswith(wanted) or before and not WARNED.match(before) or ran.returncode != status or ran.stderr:
+    faulted = {p for p, (word, _, _) in enumerate(ends) if word.startswith("fault")}
+    if not got.endswith(wanted) or set(places) != faulted or before and not WARNED.match(before) or ran.returncode != status or ran.stderr:
         return f"status {ran.returncode}, not {status}, {got!r}, not {wanted!r}, {ran.stderr[:200]!r}", " ".join(words)
-    tried = lasts(checked, inputs, ends, causes, rng)
+    tried = lasts(checked, inputs, ends, causes, text, places, rng)
     if isinstance(tried, str):
         return tried, " ".join(words)
     os.remove(path)

@@ -3,8 +3,8 @@ use Rattle.std.proofs.Common.{◌≡◌, ℕ, Bool, true, List, [], ◌++◌, Op
 use Rattle.std.specs.Io.KnownBytes.{Appends}
 use Rattle.kahn_report.specs.declared.working.WorkFault.TheVariants.{Syntax, Check, Text, Run, Write}
 use Rattle.kahn_report.specs.declared.working.WorkFault.{WorkFault}
-use Rattle.kahn_why.specs.declared.reported.Reported.{Reported}
-use Rattle.kahn_why.specs.declared.told.Told.{Told}
+use Rattle.kahn_explain.specs.declared.why.reported.Reported.{Reported}
+use Rattle.kahn_explain.specs.declared.why.told.Told.{Told}
 use Rattle.kahn_explain.specs.Explaining.{AreAllowed, AreNotesOn}
 use Rattle.kahn_explain.specs.Reporting.{HasReported, IsReportTold, IsReportedOf, came_of}
 use Rattle.kahn_explain.specs.inner.Told.{HasRefused, HasWarned}

@@ -12,8 +12,8 @@ use Rattle.kahn_report.specs.Work.{IsChecked, IsUnanswered}
 use Rattle.kahn_report.specs.declared.working.WorkFault.{WorkFault}
 use Rattle.kahn_report.specs.declared.working.WorkFault.TheVariants.{Syntax, Check, Text, Run, Write}
 use Rattle.kahn_write.specs.Written.{AppendsFront}
-use Rattle.kahn_why.specs.Words.{IsAnswer, IsExplained}
-use Rattle.kahn_why.specs.declared.told.Explanation.{Explanation}
+use Rattle.kahn_explain.specs.Words.{IsAnswer, IsExplained}
+use Rattle.kahn_explain.specs.declared.why.told.Explanation.{Explanation}
 use Rattle.kahn_explain.specs.Explaining.{AreAllowed, AreNotesOn, IsExplanationOf, HasExplained}
 use Rattle.kahn_explain.specs.inner.Told.{HasRefused, HasWarned}
 use Rattle.kahn_explain.specs.declared.explaining.Came.{Came}
@@ -24,7 +24,7 @@ pub run_answer : (program : List ℕ) (t : Program) (config : Config) (lists : L
 run_answer program t config lists a checked ran = (checked.1, inputs_of lists, config.bound, ran.1.0, ran.1.2)
 
 pub explains : (program input : List ℕ) (config : Config) (t : Program) (a : Answer) (e : Explanation) → IsChecked program t
-    → (lists : Lists) × StandsFor t input lists × IsRightRun t lists config a → IsExplained t a e → IsExplanationOf program input config e
+    → (lists : Lists) × StandsFor t input lists × IsRightRun t lists config a → IsExplained program t a e → IsExplanationOf program input config e
 explains program input config t a e checked ran is = (t, ran.0, a, (checked, ran.1, ran.2), is)
 
 pub went_out : (old new : Option (List ℕ)) (text : List ℕ) → Appends old new (text ++ []) → Appends old new text

@@ -6,7 +6,7 @@ use Rattle.kahn_pool.specs.declared.config.RunFault.TheVariants.{NoMemory}
 use Rattle.kahn_report.specs.Work.{IsChecked}
 use Rattle.kahn_report.specs.declared.working.WorkFault.{WorkFault}
 use Rattle.kahn_report.specs.declared.working.WorkFault.TheVariants.{Syntax, Check, Text, Run, Write}
-use Rattle.kahn_trace.specs.Histories.{IsUntraced}
+use Rattle.kahn_explain.specs.Histories.{IsUntraced}
 use Rattle.kahn_explain.specs.Explaining.{AreAllowed, AreNotesOn}
 use Rattle.kahn_explain.specs.Tracing.{HasTraced}
 use Rattle.kahn_explain.specs.inner.Told.{HasRefused, HasWarned}

@@ -19,15 +19,15 @@ use Rattle.kahn_explain.specs.Refusing.{IsNoteOn, IsRefusal}
 use Rattle.kahn_explain.specs.declared.explaining.Came.{Came}
 use Rattle.kahn_explain.specs.declared.explaining.Came.TheVariants.{Stopped, Refused}
 use Rattle.kahn_warnings.specs.Telling.{AreWarningNotes}
-use Rattle.kahn_why.specs.Words.{IsExplained}
-use Rattle.kahn_why.specs.declared.told.Explanation.{Explanation}
-use Rattle.kahn_why.specs.declared.told.Told.{Told}
-use Rattle.kahn_why.specs.declared.told.Told.TheVariants as told
+use Rattle.kahn_explain.specs.Words.{IsExplained}
+use Rattle.kahn_explain.specs.declared.why.told.Explanation.{Explanation}
+use Rattle.kahn_explain.specs.declared.why.told.Told.{Told}
+use Rattle.kahn_explain.specs.declared.why.told.Told.TheVariants as told
 
 -- why a right answer of the run of these texts stopped
 abbrev pub IsExplanationOf : List ℕ → List ℕ → Config → Explanation → Type 0
 IsExplanationOf program input config e =
-    (t : Program) × (lists : Lists) × (a : Answer) × IsAnswered program input config t lists a × IsExplained t a e
+    (t : Program) × (lists : Lists) × (a : Answer) × IsAnswered program input config t lists a × IsExplained program t a e
 
 -- the notes on what is warned of in the program of this text
 abbrev pub AreNotesOn : List ℕ → List ℕ → List ℕ → Type 0

@@ -7,9 +7,9 @@ use Rattle.kahn_report.specs.Work.{IsChecked, IsUnchecked}
 use Rattle.kahn_write.specs.Written.{AppendsFront}
 use Rattle.kahn_report.specs.declared.working.WorkFault.{WorkFault}
 use Rattle.kahn_report.specs.declared.working.WorkFault.TheVariants.{Syntax, Check, Text, Run, Write}
-use Rattle.kahn_why.specs.Reported.{IsReported}
-use Rattle.kahn_why.specs.declared.reported.Reported.{Reported}
-use Rattle.kahn_why.specs.declared.told.Told.{Told}
+use Rattle.kahn_explain.specs.Reported.{IsReported}
+use Rattle.kahn_explain.specs.declared.why.reported.Reported.{Reported}
+use Rattle.kahn_explain.specs.declared.why.told.Told.{Told}
 use Rattle.kahn_explain.specs.Explaining.{AreAllowed, IsRefusedFor}
 use Rattle.kahn_explain.specs.Refusing.{IsRefusal}
 use Rattle.kahn_explain.specs.declared.explaining.Came.{Came}
@@ -22,7 +22,7 @@ came_of None = Refused
 
 -- what is said of the report of a run of these texts
 abbrev pub IsReportedOf : List ℕ → List ℕ → Reported → Type 0
-IsReportedOf program report r = (t : Program) × IsChecked program t × IsReported t report r
+IsReportedOf program report r = (t : Program) × IsChecked program t × IsReported program t report r
 
 -- the notes on what is warned of, and what is said of the report, whose run came to that
 abbrev pub IsReportTold : List ℕ → List ℕ → List ℕ → Bool → Option Told → List ℕ → Type 0

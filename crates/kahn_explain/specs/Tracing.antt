@@ -12,13 +12,13 @@ use Rattle.kahn_report.specs.Work.{IsChecked, IsUnchecked}
 use Rattle.kahn_write.specs.Written.{AppendsFront}
 use Rattle.kahn_report.specs.declared.working.WorkFault.{WorkFault}
 use Rattle.kahn_report.specs.declared.working.WorkFault.TheVariants.{Syntax, Check, Text, Run, Write}
-use Rattle.kahn_trace.specs.Histories.{IsTraced, unwatched}
-use Rattle.kahn_trace.specs.Table.{trace_text}
-use Rattle.kahn_trace.specs.declared.histories.Traced.{Traced}
-use Rattle.kahn_why.specs.Words.{IsExplained}
-use Rattle.kahn_why.specs.declared.told.Explanation.{Explanation}
-use Rattle.kahn_why.specs.declared.told.Told.{Told}
-use Rattle.kahn_why.specs.declared.told.Told.TheVariants as told
+use Rattle.kahn_explain.specs.Histories.{IsTraced, unwatched}
+use Rattle.kahn_explain.specs.Table.{trace_text}
+use Rattle.kahn_explain.specs.declared.tracing.histories.Traced.{Traced}
+use Rattle.kahn_explain.specs.Words.{IsExplained}
+use Rattle.kahn_explain.specs.declared.why.told.Explanation.{Explanation}
+use Rattle.kahn_explain.specs.declared.why.told.Told.{Told}
+use Rattle.kahn_explain.specs.declared.why.told.Told.TheVariants as told
 use Rattle.kahn_explain.specs.Explaining.{AreAllowed, IsRefusedFor}
 use Rattle.kahn_explain.specs.Refusing.{IsRefusal}
 use Rattle.kahn_explain.specs.declared.explaining.Came.{Came}
@@ -35,7 +35,7 @@ beside (told.Stop Memory) text = text
 -- the table of the histories of these texts, and why the run stopped of which it is
 abbrev pub IsTableOf : List ℕ → List ℕ → Config → List ℕ → Explanation → Type 0
 IsTableOf program input config text e =
-    (t : Program) × (x : Traced) × IsChecked program t × IsTraced t input config x × IsExplained t x.answer e × (text ≡ trace_text t x.columns.items)
+    (t : Program) × (x : Traced) × IsChecked program t × IsTraced t input config x × IsExplained program t x.answer e × (text ≡ trace_text t x.columns.items)
 
 -- and the notes on what is warned of in the program
 abbrev pub IsTracedOf : List ℕ → List ℕ → List ℕ → Config → Bool → List ℕ → List ℕ → Explanation → Type 0

@@ -1,2 +1,4 @@
 -- What only proofs and clauses below the surface read.
+pub mod Columns
+pub mod Stuck
 pub mod Told

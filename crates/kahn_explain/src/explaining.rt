@@ -8,12 +8,12 @@ ghost use Rattle.kahn_explain.specs.Tracing.{HasTraced, beside};
 ghost use Rattle.kahn_explain.specs.inner.Told.{HasRefused, HasWarned};
 
 use crate::refusing::refusal_note;
+use crate::tracing::{answered, histories_of, trace_text};
+use crate::why::{Told, explained, explained_report};
 use kahn_pool::{Config, RunFault, Verdict};
 use kahn_report::{WorkFault, checked, write_line};
-use kahn_trace::{answered, histories_of, trace_text};
 use kahn_tree::NoMemory;
 use kahn_warnings::warning_notes;
-use kahn_why::{Told, explained, explained_report};
 use std::alloc::Global;
 use std::io::Write;
 use std::sync::Wait;
@@ -97,7 +97,7 @@ pub(crate) fn explain<R: Threads + Wait + Sync, W: Write>(
         Ok(answer) => answer,
         Err(fault) => return Err(fault),
     };
-    let Ok(explanation) = explained(alloc, &network, &answer) else {
+    let Ok(explanation) = explained(alloc, program, &network, &answer) else {
         return Err(WorkFault::Run(RunFault::NoMemory));
     };
     match write_line(writer, &[notes.as_bytes(), explanation.text.as_bytes()]) {
@@ -140,7 +140,7 @@ pub(crate) fn explain_report<W: Write>(
     if is_refused(strict, notes.as_str()) {
         return refuse_warned(notes.as_str(), writer);
     }
-    let Ok(reported) = explained_report(alloc, &network, report) else {
+    let Ok(reported) = explained_report(alloc, program, &network, report) else {
         return Err(WorkFault::Run(RunFault::NoMemory));
     };
     match write_line(writer, &[notes.as_bytes(), reported.text.as_bytes()]) {
@@ -193,7 +193,7 @@ pub(crate) fn trace<R: Threads + Wait + Sync, T: Write, W: Write>(
     let Ok(table) = trace_text(alloc, &network, &found.columns) else {
         return Err(WorkFault::Run(RunFault::NoMemory));
     };
-    let Ok(explanation) = explained(alloc, &network, &found.answer) else {
+    let Ok(explanation) = explained(alloc, program, &network, &found.answer) else {
         return Err(WorkFault::Run(RunFault::NoMemory));
     };
     if let Err(fault) = write_line(csv, &[table.as_bytes()]) {

@@ -6,9 +6,12 @@ ghost use Rattle.std.specs.Prelude.{◌≡◌, IfOk, string_bytes};
 ghost use Rattle.kahn_explain.specs.Explaining.{path_name};
 
 mod explaining;
+mod laws;
 mod noting;
 mod refusing;
 mod telling;
+mod tracing;
+mod why;
 
 use explaining::{Came, explain, explain_report, status, trace};
 use kahn_fault::Fault;

@@ -1,9 +1,9 @@
 use Rattle.std.proofs.Common.{◌≡◌, ◌∙◌, true, [], All, ap, inl, inr, refl, string_bytes, subst, sym}
 use Rattle.kahn_tree.specs.declared.tree.Program.{Program}
 use Rattle.kahn_report.specs.Report.{IsLine}
-use Rattle.kahn_trace.specs.Histories.{unwatched}
+use Rattle.kahn_explain.specs.Histories.{unwatched}
 use Rattle.kahn_warnings.specs.Telling.{AreWarningNotes}
-use Rattle.kahn_trace.specs.Table.{trace_text}
+use Rattle.kahn_explain.specs.Table.{trace_text}
 use Rattle.kahn_explain.specs.Tracing.{IsTracedOf, beside}
 use Rattle.kahn_explain.proofs.Told.{both_broke_off, both_out, broke_off, run_answer, went_out}
 use Rattle.kahn_explain.proofs.Traced_texts.{no_table, refused_table, warned_table}

@@ -1,4 +1,0 @@
-mod Begun
-mod Lines
-mod Tables
-mod Watched_columns

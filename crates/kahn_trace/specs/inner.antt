@@ -1,2 +1,0 @@
--- What only proofs and clauses below the surface read.
-pub mod Columns

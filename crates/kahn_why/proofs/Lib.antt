@@ -1,6 +1,0 @@
-mod Back
-mod Good
-mod Lined
-mod Numbers
-mod Read
-mod Stands
