@@ -1,7 +1,7 @@
 -- Readers and writers are instances of the network.
 use Rattle.std.proofs.Common.{◌≡◌, ℕ, suc, ◌+◌, ◌<◌, List, [], ◌∷◌, length, ap, arith, Bool, true, false, if◌then◌else◌, Option, Some, None}
-use Rattle.kahn_tree.specs.declared.tree.Program.{Program}
-use Rattle.kahn_network.specs.Network.{Instance, Actual, is_written, network_of}
+use Rattle.kahn_streams.specs.Types.{Program}
+use Rattle.kahn_streams.specs.Network.{Instance, Actual, is_written, network_of}
 use Rattle.kahn_board.specs.Wires.{wires, is_read, any_is, first_with}
 
 abbrev number_of : ℕ → Option ℕ → ℕ

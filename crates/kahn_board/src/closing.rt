@@ -13,7 +13,7 @@ use crate::board::{Board, Seat};
 use crate::rule::Told;
 use crate::view::View;
 use atomic_table::{Join, Split};
-use kahn_tree::NoMemory;
+use kahn_streams::NoMemory;
 use std::alloc::Global;
 use std::collections::VecDeque;
 

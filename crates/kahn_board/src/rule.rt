@@ -5,7 +5,7 @@ ghost use Rattle.kahn_board.specs.Tale.{Tale};
 
 use crate::view::View;
 use atomic_table::TableRule;
-use kahn_network::Network;
+use kahn_streams::Network;
 use std::alloc::Global;
 use std::marker::PhantomData;
 use std::snapshot::Snapshot;

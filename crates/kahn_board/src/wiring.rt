@@ -4,8 +4,7 @@ ghost use Rattle.std.specs.Prelude.{◌≡◌, ◌≤◌, ◌<◌, ℕ, IfOk, le
 ghost use Rattle.kahn_board.specs.Wires.{wires};
 ghost use Rattle.kahn_board.specs.inner.First.{IsWiringOf};
 
-use kahn_network::Network;
-use kahn_tree::NoMemory;
+use kahn_streams::{Network, NoMemory};
 use std::alloc::Global;
 
 /// How many instances and channels a network has, and who reads each channel.

@@ -1,7 +1,7 @@
 -- Causes that are found one after another.
 use Rattle.std.proofs.Common.{◌≡◌, ℕ, zero, suc, ◌+◌, ◌<◌, ◌⊎◌, inl, inr, List, [], ◌∷◌, ◌++◌, length, Some, refl, ap, subst, ◌∙◌, arith, length-append}
 use Rattle.std.specs.List.{slice_get}
-use Rattle.kahn_network.specs.Network.{Network}
+use Rattle.kahn_streams.specs.Network.{Network}
 use Rattle.kahn_chain.specs.Chain.{IsCause}
 use Rattle.kahn_chain.specs.declared.standing.Standing.{Standing}
 use Rattle.kahn_chain.specs.declared.standing.Cause.{Cause}

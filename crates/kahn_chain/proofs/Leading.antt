@@ -1,7 +1,7 @@
 -- Chains of waits: each has one end.
 use Rattle.std.proofs.Common.{◌≡◌, ℕ, ◌⊎◌, inl, inr, ⊎_elim, List, Some, refl, sym, subst, ◌∙◌, ap, ap₂, arith}
 use Rattle.std.specs.List.{slice_get}
-use Rattle.kahn_network.specs.Network.{Network, Given, Written, channel_source}
+use Rattle.kahn_streams.specs.Network.{Network, Given, Written, channel_source}
 use Rattle.kahn_chain.specs.Chain.{Awaits, Leads, stays, onward, LeadsOn, IsLeastOfRing, IsNoWait, IsCause}
 use Rattle.kahn_chain.specs.declared.standing.Standing.{Standing}
 use Rattle.kahn_chain.specs.declared.standing.Standing.TheVariants.{Ended, Waits, Faulted, More}

@@ -3,7 +3,7 @@ use Rattle.std.proofs.Common.{◌≡◌, ℕ, zero, suc, ◌+◌, ◌<◌, ◌�
 use Rattle.std.proofs.lemmas.Bool.{cases_eq, cases_lt}
 use Rattle.std.proofs.lemmas.List.{length-replicate}
 use Rattle.std.specs.List.{slice_get}
-use Rattle.kahn_network.specs.Network.{Network}
+use Rattle.kahn_streams.specs.Network.{Network}
 use Rattle.kahn_chain.specs.Chain.{Awaits, Leads, stays, onward, LeadsOn, IsLeastOfRing}
 use Rattle.kahn_chain.specs.inner.Walk.{IsHere, IsStop, IsWalked}
 use Rattle.kahn_chain.specs.declared.standing.Standing.{Standing}

@@ -1,7 +1,7 @@
 -- Believed. Why an instance of a network goes no further. Each instance waits on at most one channel, which has at most one writer, so
 -- its waits are one chain.
 use Rattle.std.specs.Prelude.{◌≡◌, ℕ, ◌<◌, ◌≤◌, List, Bool, true, false, length, Some, slice_get}
-use Rattle.kahn_network.specs.Network.{Network, Given, Written, channel_source}
+use Rattle.kahn_streams.specs.Network.{Network, Given, Written, channel_source}
 use Rattle.kahn_chain.specs.declared.standing.Standing.{Standing}
 use Rattle.kahn_chain.specs.declared.standing.Standing.TheVariants.{Ended, Waits, Faulted, More}
 use Rattle.kahn_chain.specs.declared.standing.Cause.{Cause}

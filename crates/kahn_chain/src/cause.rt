@@ -1,12 +1,12 @@
 //! Why an instance goes no further.
 
 ghost use Rattle.std.specs.Prelude.{◌<◌, IfOk, length};
-ghost use Rattle.kahn_network.specs.Network.{network_of};
+ghost use Rattle.kahn_streams.specs.Network.{network_of};
 ghost use Rattle.kahn_chain.specs.Chain.{AreCauses, AreStandings, IsCause};
 
 use crate::standing::{Cause, Standing};
 use crate::walk::walk;
-use kahn_network::Network;
+use kahn_streams::Network;
 use std::alloc::{AllocError, Global};
 
 /// Why an instance goes no further, where the instances stand so: its waits lead to one that waits on an input, to one that

@@ -1,7 +1,7 @@
 //! The law of causes. The function does nothing: its contract is the law.
 
 ghost use Rattle.std.specs.Prelude.{◌≡◌, ℕ, List};
-ghost use Rattle.kahn_network.specs.Network.{Network};
+ghost use Rattle.kahn_streams.specs.Network.{Network};
 ghost use Rattle.kahn_chain.specs.Chain.{IsCause};
 ghost use Rattle.kahn_chain.specs.declared.standing.Cause.{Cause};
 ghost use Rattle.kahn_chain.specs.declared.standing.Standing.{Standing};

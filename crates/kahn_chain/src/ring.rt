@@ -1,13 +1,13 @@
 //! Which instances wait on one another in rings.
 
 ghost use Rattle.std.specs.Prelude.{◌<◌, IfOk, length};
-ghost use Rattle.kahn_network.specs.Network.{network_of};
+ghost use Rattle.kahn_streams.specs.Network.{network_of};
 ghost use Rattle.kahn_chain.specs.Chain.{AreRings, AreStandings, IsRingMark};
 ghost use Rattle.kahn_chain.specs.inner.Walk.{AreOnChain};
 
 use crate::standing::Standing;
 use crate::walk::{Step, next};
-use kahn_network::Network;
+use kahn_streams::Network;
 use std::alloc::{AllocError, Global};
 
 /// Marks an instance and all others to which its waits lead.

@@ -1,12 +1,12 @@
 //! A walk along the waits of an instance.
 
 ghost use Rattle.std.specs.Prelude.{◌≡◌, ◌<◌, IfOk, length};
-ghost use Rattle.kahn_network.specs.Network.{network_of};
+ghost use Rattle.kahn_streams.specs.Network.{network_of};
 ghost use Rattle.kahn_chain.specs.Chain.{AreStandings};
 ghost use Rattle.kahn_chain.specs.inner.Walk.{IsStepFrom, IsWalked};
 
 use crate::standing::{Cause, Standing};
-use kahn_network::Network;
+use kahn_streams::Network;
 use std::alloc::{AllocError, Global};
 
 /// What comes behind an instance on its chain of waits.

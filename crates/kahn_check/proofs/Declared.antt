@@ -1,22 +1,17 @@
 -- The declarations in turn.
 use Rattle.std.proofs.Common.{◌≡◌, ℕ, suc, ◌+◌, ◌≤◌, ◌<◌, Bool, true, false, cond, List, [], ◌∷◌, ◌++◌, Option, None, Some, IsSome, Err, refl, ap, sym, ◌∙◌, subst, bytes_eq, append_assoc, arith, nat_lt, length, inl, inr}
 use Rattle.std.specs.Map.{lookup}
-use Rattle.kahn_tree.specs.declared.tree.Name.{Name}
-use Rattle.kahn_tree.specs.declared.tree.Kind.{Kind}
-use Rattle.kahn_tree.specs.declared.tree.Role.{Role}
-use Rattle.kahn_tree.specs.View.{bytes_of}
+use Rattle.kahn_streams.specs.Types.{Name, Kind, Role, Process, Declaration}
+use Rattle.kahn_streams.specs.View.{bytes_of}
 use Rattle.kahn_check.specs.declared.fault.CheckFault.{CheckFault}
 use Rattle.kahn_check.specs.declared.fault.CheckFault.TheVariants.{DeclaredTwice, TooMany}
-use Rattle.kahn_check.specs.Faults.{verdict, IsMet}
-use Rattle.kahn_network.specs.Wiring as Wiring
-use Rattle.kahn_network.specs.Wiring.{entries, declared_of, IsChannel, IsProcess}
-use Rattle.kahn_check.specs.Order.{most_channels, repeated, channel_faults, process_faults, declaration_faults}
-use Rattle.kahn_network.proofs.Handed.{Table, as_channels}
+use Rattle.kahn_check.specs.Faults.{verdict, IsMet, most_channels, repeated, channel_faults, process_faults, declaration_faults}
+use Rattle.kahn_streams.specs.Wiring
+use Rattle.kahn_streams.specs.Wiring.{entries, declared_of, IsChannel, IsProcess}
+use Rattle.kahn_streams.proofs.Handed.{Table, as_channels}
 use Rattle.kahn_check.proofs.Walk.{verdict_err}
 use Rattle.std.proofs.lemmas.List.{map-append}
-use Rattle.kahn_tree.specs.declared.tree.Process.{Process}
-use Rattle.kahn_tree.specs.declared.tree.Declaration.{Declaration}
-use Rattle.kahn_tree.specs.declared.tree.Declaration.TheVariants as D
+use Rattle.kahn_streams.specs.declared.tree.Declaration.TheVariants as D
 use Rattle.std.specs.declared.vec.Vec.{Vec}
 use Rattle.std.specs.declared.alloc.Global.{Global}
 

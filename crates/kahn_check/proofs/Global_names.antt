@@ -3,15 +3,13 @@ use Rattle.std.proofs.Common.{◌≡◌, ◌⊎◌, inl, inr, Result, Ok, Err, M
 use Rattle.std.proofs.lemmas.List.{map-append}
 use Rattle.std.specs.Map.{lookup}
 use Rattle.std.specs.List.{AllByRecursion}
-use Rattle.kahn_tree.specs.declared.tree.Process.{Process}
-use Rattle.kahn_tree.specs.declared.tree.Declaration.{Declaration}
-use Rattle.kahn_tree.specs.declared.tree.Declaration.TheVariants as D
-use Rattle.kahn_tree.specs.declared.span.Span.{Span}
+use Rattle.kahn_streams.specs.Types.{Process, Declaration, Span}
+use Rattle.kahn_streams.specs.declared.tree.Declaration.TheVariants as D
 use Rattle.kahn_check.specs.declared.fault.CheckFault.{CheckFault}
 use Rattle.kahn_check.specs.declared.fault.CheckFault.TheVariants.{NoMemory, DeclaredTwice}
 use Rattle.kahn_check.specs.declared.globals.Entry.{Entry}
-use Rattle.kahn_network.specs.Wires.{the_process, process_at}
-use Rattle.kahn_network.specs.Wiring.{Global}
+use Rattle.kahn_streams.specs.Wires.{the_process, process_at}
+use Rattle.kahn_streams.specs.Wiring.{Global}
 use Rattle.kahn_check.specs.inner.Globals.{global_of, option_global, IsPlaced}
 use Rattle.kahn_check.specs.inner.Firsts.{kept_first, kept_as}
 

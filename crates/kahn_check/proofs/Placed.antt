@@ -1,27 +1,19 @@
 -- Arguments and instances in turn, by tables.
 use Rattle.std.proofs.Common.{◌≡◌, ℕ, suc, ◌+◌, ◌≤◌, ◌<◌, Bool, true, false, cond, inr, List, [], ◌∷◌, ◌++◌, map, length, Option, None, Some, refl, ap, sym, ◌∙◌, subst, append_assoc, arith, nat_eq}
-use Rattle.kahn_tree.specs.declared.tree.Kind.{Kind}
-use Rattle.kahn_tree.specs.declared.tree.Role.{Role}
-use Rattle.kahn_tree.specs.declared.tree.Direction.{Direction}
-use Rattle.kahn_tree.specs.declared.tree.Direction.TheVariants.{In, Out}
-use Rattle.kahn_tree.specs.declared.tree.Process.{Process}
-use Rattle.kahn_tree.specs.declared.tree.Parameter.{Parameter}
-use Rattle.kahn_tree.specs.declared.tree.Argument.{Argument}
-use Rattle.kahn_tree.specs.declared.tree.Instance.{Instance}
-use Rattle.kahn_tree.specs.View.{bytes_of}
+use Rattle.kahn_streams.specs.Types.{Kind, Role, Direction, Process, Parameter, Argument, Instance, Declaration}
+use Rattle.kahn_streams.specs.declared.tree.Direction.TheVariants.{In, Out}
+use Rattle.kahn_streams.specs.View.{bytes_of}
 use Rattle.kahn_check.specs.declared.fault.CheckFault.{CheckFault}
 use Rattle.kahn_check.specs.declared.fault.CheckFault.TheVariants.{TooMany, Unknown, WrongCount}
-use Rattle.kahn_check.specs.Faults.{verdict, IsMet}
-use Rattle.kahn_network.specs.Wiring.{Global, IsChannel, IsProcess, Handover, handed, handed_in, parameters_of, same_direction, side_at}
-use Rattle.kahn_check.specs.Order.{most_instances, miscounted}
+use Rattle.kahn_check.specs.Faults.{verdict, IsMet, most_instances, miscounted}
+use Rattle.kahn_streams.specs.Wiring.{Global, IsChannel, IsProcess, Handover, handed, handed_in, parameters_of, same_direction, side_at}
 use Rattle.kahn_check.specs.inner.Tables.{Ends, taken, place_faults, places_faults, made_in, meant, handed_to, handed_all, seats_faults}
-use Rattle.kahn_network.proofs.Handed.{Table}
-use Rattle.kahn_network.proofs.Numbered.{the_process}
-use Rattle.kahn_network.specs.Network.{process_of}
-use Rattle.kahn_network.specs.Wires.{process_at}
+use Rattle.kahn_streams.proofs.Handed.{Table}
+use Rattle.kahn_streams.proofs.By_number.{the_process}
+use Rattle.kahn_streams.specs.Network.{process_of}
+use Rattle.kahn_streams.specs.Wires.{process_at}
 use Rattle.kahn_check.specs.inner.Globals.{known, IsTable}
 use Rattle.kahn_check.specs.declared.globals.Globals.{Globals}
-use Rattle.kahn_tree.specs.declared.tree.Declaration.{Declaration}
 use Rattle.std.proofs.lemmas.List.{map-append}
 use Rattle.kahn_check.proofs.Declared.{within, beyond, met_first, met_after}
 

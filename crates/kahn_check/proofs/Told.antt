@@ -4,32 +4,22 @@ use Rattle.std.specs.Option.{option_or}
 use Rattle.std.specs.Result.{result_err}
 use Rattle.std.proofs.lemmas.List.{append-nil, map-append}
 use Rattle.std.specs.Map.{lookup}
-use Rattle.kahn_tree.specs.declared.tree.Name.{Name}
-use Rattle.kahn_tree.specs.declared.tree.Kind.{Kind}
-use Rattle.kahn_tree.specs.declared.tree.Role.{Role}
-use Rattle.kahn_tree.specs.declared.tree.Direction.{Direction}
-use Rattle.kahn_tree.specs.declared.tree.Direction.TheVariants.{In, Out}
-use Rattle.kahn_tree.specs.declared.tree.Process.{Process}
-use Rattle.kahn_tree.specs.declared.tree.Parameter.{Parameter}
-use Rattle.kahn_tree.specs.declared.tree.Argument.{Argument}
-use Rattle.kahn_tree.specs.declared.tree.Declaration.{Declaration}
-use Rattle.kahn_tree.specs.declared.tree.Declaration.TheVariants as D
-use Rattle.kahn_tree.specs.declared.tree.Instance.{Instance}
-use Rattle.kahn_tree.specs.declared.tree.Program.{Program}
-use Rattle.kahn_tree.specs.View.{bytes_of}
+use Rattle.kahn_streams.specs.Types.{Name, Kind, Role, Direction, Process, Parameter, Argument, Declaration, Instance, Program}
+use Rattle.kahn_streams.specs.declared.tree.Direction.TheVariants.{In, Out}
+use Rattle.kahn_streams.specs.declared.tree.Declaration.TheVariants as D
+use Rattle.kahn_streams.specs.View.{bytes_of}
 use Rattle.std.specs.declared.vec.Vec.{Vec}
 use Rattle.std.specs.declared.alloc.Global.{Global}
-use Rattle.kahn_network.specs.Wiring as Wiring
-use Rattle.kahn_network.specs.Wiring.{entries, IsChannel, IsProcess, declared_of, declared_channels, handed, handed_in, handed_from, parameters_of, side_at, Handover, global, handed_by}
+use Rattle.kahn_streams.specs.Wiring
+use Rattle.kahn_streams.specs.Wiring.{entries, IsChannel, IsProcess, declared_of, declared_channels, handed, handed_in, handed_from, parameters_of, side_at, Handover, global, handed_by}
 use Rattle.kahn_check.specs.declared.fault.CheckFault.{CheckFault}
 use Rattle.kahn_check.specs.declared.fault.CheckFault.TheVariants.{NoMemory, Unknown}
-use Rattle.kahn_check.specs.Faults.{verdict, IsMet}
-use Rattle.kahn_check.specs.Order.{most_channels, most_instances, too_many, repeated, process_faults, miscounted, made_faults, side_faults}
+use Rattle.kahn_check.specs.Faults.{verdict, IsMet, most_channels, most_instances, too_many, repeated, process_faults, miscounted, made_faults, side_faults}
 use Rattle.kahn_check.specs.Parts.{channel_parts, declaration_parts, instance_parts, parts, side_parts, firsts, first_alone, faults_by_part, unless_empty}
 use Rattle.kahn_check.specs.inner.Firsts.{StandAlike, kept_first, AreAsMany, HaveKept, HasTold, HaveToldNames, first_fault, fault_alone, first_then, name_faults, HasAdded, HasAddedFirst, seat_faults, seats_parts, sides_parts}
 use Rattle.kahn_check.specs.inner.Tables.{Ends, taken, place_faults, places_faults, made_in, meant, handed_to, handed_all, side_in}
 use Rattle.kahn_check.specs.inner.Wires.{as_lines}
-use Rattle.kahn_network.proofs.Handed.{Table, as_channels}
+use Rattle.kahn_streams.proofs.Handed.{Table, as_channels}
 use Rattle.kahn_check.proofs.Alike.{alike_more, alike_kept, alike_then, alike_is, same_names, same_declarations, same_places, same_seats, same_sides}
 use Rattle.kahn_check.proofs.Declared.{more_channels, more_declared, more_process}
 use Rattle.kahn_check.proofs.Linked.{table, link_made, link_side, handed_same}

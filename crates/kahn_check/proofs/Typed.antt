@@ -2,23 +2,15 @@
 use Rattle.std.proofs.Common.{◌≡◌, ℕ, suc, Bool, true, false, cond, List, [], ◌∷◌, ◌++◌, map, Option, None, Some, refl, sym, ◌∙◌, subst, bytes_eq}
 use Rattle.std.specs.Prelude.{slice_get}
 use Rattle.std.specs.Map.{lookup}
-use Rattle.kahn_tree.specs.Syntax as S
-use Rattle.kahn_tree.specs.declared.span.Span.{Span}
-use Rattle.kahn_tree.specs.declared.tree.Kind.{Kind}
-use Rattle.kahn_tree.specs.declared.tree.Kind.TheVariants.{Integer, Logical}
-use Rattle.kahn_tree.specs.declared.tree.Direction.{Direction}
-use Rattle.kahn_tree.specs.declared.tree.Direction.TheVariants.{In, Out}
-use Rattle.kahn_tree.specs.declared.tree.Taking.{Taking}
-use Rattle.kahn_tree.specs.declared.tree.Taking.TheVariants.{Channel, Value}
-use Rattle.kahn_tree.specs.declared.tree.Form as F
-use Rattle.kahn_tree.specs.declared.tree.Form.{Form, Number, Variable, Wait, Negate', Not', Bracket', Level', Conditional', Row_of-Operand, end_of-Operand, more_of-Operand}
-use Rattle.kahn_tree.specs.declared.tree.Expression.{Expression}
-use Rattle.kahn_tree.specs.declared.tree.Action.{Action, Empty, Assign, Send, Print, Block', If', While', Repeat', Row_of-Statement, end_of-Statement, more_of-Statement, Held-Action-If-2, None', Some'}
-use Rattle.kahn_tree.specs.declared.tree.Statement.{Statement}
-use Rattle.kahn_tree.specs.View.{bytes_of, place_of, expr_of, level_of, expression_of, stmt_of, row_of, else_of, body_of}
-use Rattle.kahn_network.specs.Kinds.{takes, gives, IsTaken, HasKind, Agrees}
+use Rattle.kahn_streams.specs.Syntax as S
+use Rattle.kahn_streams.specs.Types.{Span, Kind, Direction, Taking, Form, Number, Variable, Wait, Negate', Not', Bracket', Level', Conditional', Row_of-Operand, end_of-Operand, more_of-Operand, Expression, Action, Empty, Assign, Send, Print, Block', If', While', Repeat', Row_of-Statement, end_of-Statement, more_of-Statement, Held-Action-If-2, None', Some', Statement}
+use Rattle.kahn_streams.specs.declared.tree.Kind.TheVariants.{Integer, Logical}
+use Rattle.kahn_streams.specs.declared.tree.Direction.TheVariants.{In, Out}
+use Rattle.kahn_streams.specs.declared.tree.Taking.TheVariants.{Channel, Value}
+use Rattle.kahn_streams.specs.declared.tree.Form as F
+use Rattle.kahn_streams.specs.View.{bytes_of, place_of, expr_of, level_of, expression_of, stmt_of, row_of, else_of, body_of}
+use Rattle.kahn_streams.specs.Wiring.{takes, gives, IsTaken, HasKind, Agrees, Scope}
 use Rattle.kahn_check.specs.Faults.{find, wrong, misread, misused, kind_in, level_kind, kind_of, wrong_first, wrong_second, spanning, faults_in, level_faults, faults_as, faults_of, row_faults, else_faults, body_faults}
-use Rattle.kahn_network.specs.Wiring.{Scope}
 
 abbrev pub names : Scope → List (List ℕ)
 names s = map (λ e. e.0) s

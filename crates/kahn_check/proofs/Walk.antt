@@ -4,17 +4,12 @@ use Rattle.std.specs.Map.{lookup}
 use Rattle.std.specs.String.{string_eq}
 use Rattle.indexmap.specs.IndexMap.{insert_entry}
 use Rattle.std.specs.declared.string.String.{String}
-use Rattle.kahn_tree.specs.declared.span.Span.{Span}
-use Rattle.kahn_tree.specs.declared.tree.Kind.{Kind}
-use Rattle.kahn_tree.specs.declared.tree.Form.{Row_of-Operand, end_of-Operand, more_of-Operand}
-use Rattle.kahn_tree.specs.declared.tree.Form.TheBlock.{items-the_row-Operand}
-use Rattle.kahn_tree.specs.declared.tree.Operand.{Operand}
-use Rattle.kahn_tree.specs.declared.tree.Action.{Row_of-Statement, end_of-Statement, more_of-Statement}
-use Rattle.kahn_tree.specs.declared.tree.Action.TheBlock.{items-the_row-Statement}
-use Rattle.kahn_network.specs.Kinds.{takes, gives}
+use Rattle.kahn_streams.specs.Types.{Span, Kind, Row_of-Operand, end_of-Operand, more_of-Operand, Operand, Row_of-Statement, end_of-Statement, more_of-Statement}
+use Rattle.kahn_streams.specs.declared.tree.Form.TheBlock.{items-the_row-Operand}
+use Rattle.kahn_streams.specs.declared.tree.Action.TheBlock.{items-the_row-Statement}
+use Rattle.kahn_streams.specs.Wiring.{takes, gives, Scope}
 use Rattle.kahn_check.specs.declared.fault.CheckFault.{CheckFault}
 use Rattle.kahn_check.specs.Faults.{verdict, wrong_first, wrong_second, spanning, faults_in, kind_of, level_faults, level_kind, row_faults, body_faults, faults_of}
-use Rattle.kahn_network.specs.Wiring.{Scope}
 
 pub find_named : {A X : Type 0} (x : List ℕ) (es : List (String A × X)) →
     lookup (λ k. bytes_eq x (string_bytes k)) es ≡ lookup (bytes_eq x) (map (λ e. (string_bytes e.0, e.1)) es)

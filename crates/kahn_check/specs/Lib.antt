@@ -1,4 +1,3 @@
 pub mod Faults
-pub mod Order
 pub mod Parts
 pub mod inner

@@ -2,17 +2,12 @@
 use Rattle.std.specs.Prelude.{ℕ, suc, ◌+◌, List, [], ◌∷◌, ◌++◌, map, length}
 use Rattle.std.proofs.Common.{bytes_eq}
 use Rattle.std.specs.Map.{lookup}
-use Rattle.kahn_tree.specs.declared.tree.Name.{Name}
-use Rattle.kahn_tree.specs.declared.tree.Kind.{Kind}
-use Rattle.kahn_tree.specs.declared.tree.Role.{Role}
-use Rattle.kahn_tree.specs.declared.tree.Declaration.{Declaration}
-use Rattle.kahn_tree.specs.declared.tree.Declaration.TheVariants as D
-use Rattle.kahn_tree.specs.declared.tree.Instance.{Instance}
-use Rattle.kahn_tree.specs.declared.tree.Program.{Program}
-use Rattle.kahn_tree.specs.View.{bytes_of}
-use Rattle.kahn_network.specs.Wiring.{entries, Global, IsChannel, IsProcess, declared_channels, global, Handover, handed_by}
+use Rattle.kahn_streams.specs.Types.{Name, Kind, Role, Declaration, Instance, Program}
+use Rattle.kahn_streams.specs.declared.tree.Declaration.TheVariants as D
+use Rattle.kahn_streams.specs.View.{bytes_of}
+use Rattle.kahn_streams.specs.Wiring.{entries, Global, IsChannel, IsProcess, declared_channels, global, Handover, handed_by}
 use Rattle.kahn_check.specs.declared.fault.CheckFault.{CheckFault}
-use Rattle.kahn_check.specs.Order.{most_channels, most_instances, too_many, repeated, process_faults, made_faults, side_faults}
+use Rattle.kahn_check.specs.Faults.{most_channels, most_instances, too_many, repeated, process_faults, made_faults, side_faults}
 
 -- ---- the faults of each part, in the order of the walk
 

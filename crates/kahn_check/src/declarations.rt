@@ -1,15 +1,14 @@
 //! The declarations of a program, in text order.
 
 ghost use Rattle.std.specs.Prelude.{◌≡◌, ◌≤◌, ◌+◌, [], List, OnOk, length};
-ghost use Rattle.kahn_check.specs.Faults.{Checks};
+ghost use Rattle.kahn_check.specs.Faults.{Checks, most_channels, channel_faults, declaration_faults};
 ghost use Rattle.kahn_check.specs.inner.Globals.{known, ArePlaced, HaveMore, IsTable};
-ghost use Rattle.kahn_tree.specs.declared.tree.Declaration.{Declaration};
-ghost use Rattle.kahn_check.specs.Order.{most_channels, channel_faults, declaration_faults};
+ghost use Rattle.kahn_streams.specs.Types.{Declaration};
 
 use crate::fault::CheckFault;
 use crate::globals::{Entry, Globals};
 use crate::process::check_process;
-use kahn_tree::{Declaration, Kind, Name, Program, Role};
+use kahn_streams::{Declaration, Kind, Name, Program, Role};
 use std::alloc::Global;
 
 /// The most channels of a program.

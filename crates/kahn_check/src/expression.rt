@@ -2,12 +2,12 @@
 
 ghost use Rattle.std.specs.Prelude.{◌≡◌, Option, Some, None};
 ghost use Rattle.kahn_check.specs.Faults.{verdict, wrong, wrong_first, wrong_second, misread, misused, kind_in, find, faults_in, kind_of, faults_as};
-ghost use Rattle.kahn_network.specs.Kinds.{takes, gives};
-ghost use Rattle.kahn_tree.specs.View.{bytes_of};
+ghost use Rattle.kahn_streams.specs.Wiring.{takes, gives};
+ghost use Rattle.kahn_streams.specs.View.{bytes_of};
 
 use crate::fault::CheckFault;
 use crate::names::Scope;
-use kahn_tree::{Direction, Expression, Form, Kind, Name, Operator, Span, Taking};
+use kahn_streams::{Direction, Expression, Form, Kind, Name, Operator, Span, Taking};
 
 /// The kind that an operator takes. The operands of `=` and `<>` are of any one kind.
 pub fn operand_kind(operator: Operator) -> Option<Kind>

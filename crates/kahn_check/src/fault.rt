@@ -1,6 +1,6 @@
 //! What can be wrong with a program.
 
-use kahn_tree::Span;
+use kahn_streams::Span;
 use std::alloc::{AllocError, AllocFailed};
 use thiserror::Error;
 

@@ -10,8 +10,7 @@ use crate::argument::place;
 use crate::fault::CheckFault;
 use crate::globals::{Entry, Globals};
 use crate::names::Sides;
-use kahn_network::Side;
-use kahn_tree::{Argument, Parameter, Program};
+use kahn_streams::{Argument, Parameter, Program, Side};
 use std::alloc::Global;
 
 /// The most instances of a program.

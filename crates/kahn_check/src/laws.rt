@@ -1,11 +1,10 @@
 //! The laws of the definitions. Each function does nothing: its contract is the law.
 
-ghost use Rattle.kahn_tree.specs.declared.tree.Program.{Program};
+ghost use Rattle.kahn_streams.specs.Types.{Program};
 ghost use Rattle.std.specs.Prelude.{◌≡◌, ◌++◌, []};
 ghost use Rattle.kahn_check.specs.Parts.{parts, side_parts, faults_by_part, together};
-ghost use Rattle.kahn_check.specs.Faults.{verdict};
-ghost use Rattle.kahn_check.specs.Order.{faults};
-ghost use Rattle.kahn_network.specs.Wiring.{IsWellWired};
+ghost use Rattle.kahn_check.specs.Faults.{verdict, faults};
+ghost use Rattle.kahn_streams.specs.Wiring.{IsWellWired};
 
 /// A program is well wired exactly where the walk finds no fault.
 pub fn exact()

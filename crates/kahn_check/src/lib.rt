@@ -17,7 +17,7 @@ mod statement;
 mod wires;
 
 pub use fault::CheckFault;
-pub use kahn_network::{Channel, Instance, Network, Side};
+pub use kahn_streams::{Channel, Network, NetworkInstance, Side};
 pub use laws::{exact, part_by_part};
 pub use network::check;
 pub use part::every;

@@ -3,14 +3,13 @@
 ghost use Rattle.std.specs.Prelude.{◌≡◌, ◌++◌, ◌∷◌, [], IfOk, MatchResult, None};
 ghost use Rattle.std.specs.Map.{lookup};
 ghost use Rattle.std.proofs.Common.{bytes_eq};
-ghost use Rattle.kahn_tree.specs.View.{bytes_of};
+ghost use Rattle.kahn_streams.specs.View.{bytes_of};
 ghost use Rattle.kahn_check.specs.Faults.{Declares};
 ghost use Rattle.kahn_check.specs.inner.Firsts.{kept_first};
 
 use crate::fault::CheckFault;
 use indexmap::IndexMap;
-use kahn_network::Side;
-use kahn_tree::{Name, NoMemory, Taking};
+use kahn_streams::{Name, NoMemory, Side, Taking};
 use std::alloc::Global;
 use std::hash::{BuildHasherDefault, DefaultHasher};
 use std::marker::Model;

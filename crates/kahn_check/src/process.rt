@@ -1,14 +1,13 @@
 //! Whether a process is sound: its names, and then its statements.
 
 ghost use Rattle.std.specs.Prelude.{◌≡◌, [], MatchResult};
-ghost use Rattle.kahn_check.specs.Faults.{Checks, IsMet};
-ghost use Rattle.kahn_network.specs.Wiring.{locals_of, scope_of};
-ghost use Rattle.kahn_check.specs.Order.{twice, process_faults};
+ghost use Rattle.kahn_check.specs.Faults.{Checks, IsMet, twice, process_faults};
+ghost use Rattle.kahn_streams.specs.Wiring.{locals_of, scope_of};
 
 use crate::fault::CheckFault;
 use crate::names::Scope;
 use crate::statement::body;
-use kahn_tree::{Process, Taking};
+use kahn_streams::{Process, Taking};
 use std::alloc::Global;
 
 /// The names of a process, its parameters first and then its variables.

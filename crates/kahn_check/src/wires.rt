@@ -4,13 +4,12 @@ ghost use Rattle.std.specs.Prelude.{◌≡◌};
 ghost use Rattle.kahn_check.specs.Faults.{verdict, Checks};
 ghost use Rattle.kahn_check.specs.inner.Tables.{side_in};
 ghost use Rattle.kahn_check.specs.inner.Wires.{AreWiresOf, HaveWires, as_lines, line_in};
-ghost use Rattle.kahn_network.specs.Wires.{shown};
-ghost use Rattle.kahn_network.specs.Wiring.{declared_channels};
+ghost use Rattle.kahn_streams.specs.Wires.{shown};
+ghost use Rattle.kahn_streams.specs.Wiring.{declared_channels};
 
 use crate::fault::CheckFault;
 use crate::names::Sides;
-use kahn_network::Wire;
-use kahn_tree::{Declaration, Kind, Name, Role};
+use kahn_streams::{Declaration, Kind, Name, Role, Wire};
 use std::alloc::Global;
 
 /// Whether the sides of a channel that must be taken are taken.

@@ -8,7 +8,8 @@ use Rattle.kahn_code.proofs.Common.{Number, Network, Actual, Reads, Writes, Hand
 use Rattle.std.proofs.Common.{pos, slice_index_or}
 use Rattle.kahn_streams.proofs.Framed.{Begins}
 use Rattle.kahn_streams.proofs.Framed.{and_more, grows_play}
-use Rattle.kahn_code.specs.Cells.{AllStand, AreKeptTokens, IsOwn, token_value, exec_on, sent_on}
+use Rattle.kahn_code.specs.Cells.{AllStand, AreKeptTokens, exec_on, sent_on}
+use Rattle.kahn_streams.specs.Tokens.{IsOwn, token_value}
 
 -- a list all of whose values stand in another begins it
 pub found_in : (xs ys : List Value) → ((k : ℕ) (v : Value) → slice_get xs k ≡ Some v → slice_get ys k ≡ Some v) → IsPrefix xs ys

@@ -3,7 +3,7 @@ use Rattle.std.proofs.Common.{◌≡◌, ℕ, zero, suc, List, [], ◌∷◌, ma
 use Rattle.kahn_code.proofs.Common.{Number, Network, Actual, Reads, Writes, Hands, instance_at, actual_at, role_at}
 use Rattle.kahn_code.specs.declared.body.Use.{Use}
 use Rattle.kahn_code.specs.declared.body.Use.TheVariants as u
-use Rattle.kahn_code.specs.Cells.{is_output}
+use Rattle.kahn_streams.specs.Answers.{is_output}
 use Rattle.kahn_code.specs.Lines.{route_of}
 use Rattle.kahn_code.specs.Machines.{use_of, AreUses}
 

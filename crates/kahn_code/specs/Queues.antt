@@ -1,7 +1,7 @@
 -- Believed. What contracts see of the plain queue of a channel.
 use Rattle.std.specs.Prelude.{ℕ}
-use Rattle.kahn_tree.specs.declared.tree.Program.{Program}
-use Rattle.kahn_streams.specs.Tokens.{Lists}
+use Rattle.kahn_streams.specs.Types.{Program}
+use Rattle.kahn_streams.specs.Inputs.{Lists}
 
 -- the network, the input and the channel that its tokens are of; how many were taken; how many wait; for how many more
 -- there is room

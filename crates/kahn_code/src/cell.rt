@@ -1,10 +1,10 @@
 //! A cell: one process of a network on its way.
 
 ghost use Rattle.std.specs.Prelude.{◌≡◌, ℕ, ◌+◌, ◌*◌, ◌^◌, ◌<◌, ◌≤◌, length, [], map, slice_index_or, IfOk};
-ghost use Rattle.kahn_network.specs.Network.{network_of, instance_at};
-ghost use Rattle.kahn_streams.specs.Tokens.{Lists, inputs_of};
+ghost use Rattle.kahn_streams.specs.Network.{network_of, instance_at};
+ghost use Rattle.kahn_streams.specs.Inputs.{Lists, inputs_of};
 ghost use Rattle.kahn_code.specs.Flat.{stmt_code};
-ghost use Rattle.kahn_streams.specs.Laws.{AreInputsExtended};
+ghost use Rattle.kahn_streams.specs.Solution.{AreInputsExtended};
 ghost use Rattle.kahn_code.specs.Seats.{LeavesOthers, Grows};
 ghost use Rattle.kahn_code.specs.Told.{AreCounts, AreUnused, seat_of, IsAt, IsPausedBy, IsSameProcess, IsStill, WantsRoom};
 
@@ -12,8 +12,7 @@ use crate::code::{Code, CodeFault};
 use crate::ports::Ports;
 use crate::progress::Pause;
 use crate::tap::Tap;
-use kahn_streams::{Carried, Input};
-use kahn_tree::Steps;
+use kahn_streams::{Carried, Input, Steps};
 use std::alloc::{Allocator, Global};
 use std::marker::Model;
 use std::sync::ledger::Ledger;
@@ -34,8 +33,8 @@ pub struct Kept<A: Allocator + Drop = Global> {
 }
 
 impl<A: Allocator + Copy + Drop> Model for Cell<A> {
-    ghost use Rattle.kahn_tree.specs.contracts.tree.Action as action;
-    ghost use Rattle.kahn_tree.specs.contracts.tree.Form as form;
+    ghost use Rattle.kahn_streams.specs.contracts.tree.Action as action;
+    ghost use Rattle.kahn_streams.specs.contracts.tree.Form as form;
     ghost use Rattle.std.specs.Coded.{codes};
     ghost use Rattle.std.specs.Prelude.{◌≡◌};
     ghost use Rattle.kahn_code.specs.inner.Gone.{nothing_gone};

@@ -1,10 +1,10 @@
 //! What flat code means. The function does nothing: its contract is the law.
 
 ghost use Rattle.std.specs.Prelude.{◌≡◌, ℕ, List, length};
-ghost use Rattle.kahn_streams.specs.declared.value.Value.{Value};
+ghost use Rattle.kahn_streams.specs.Types.{Value};
 ghost use Rattle.kahn_streams.specs.Meaning.{Store, exec};
 ghost use Rattle.kahn_streams.specs.Script.{Tapes, play};
-ghost use Rattle.kahn_tree.specs.Syntax.{Stmt};
+ghost use Rattle.kahn_streams.specs.Syntax.{Stmt};
 ghost use Rattle.kahn_code.specs.Flat.{stmt_code, depth, code_script, opened};
 
 /// With any number of events and on any tapes, the flat code of a statement does what the statement does, where it

@@ -24,7 +24,7 @@ mod word;
 
 pub use cell::{Cell, Kept};
 pub use code::{Code, CodeFault, compile};
-pub use kahn_tree::Steps;
+pub use kahn_streams::Steps;
 pub use laws::compiles;
 pub use plain::Plain;
 pub use ports::Ports;

@@ -1,13 +1,12 @@
 //! The plain queues at the start of a run.
 
 ghost use Rattle.std.specs.Prelude.{◌≡◌, ◌<◌, length, map, IfOk};
-ghost use Rattle.kahn_network.specs.Network.{network_of};
-ghost use Rattle.kahn_network.specs.Wiring.{IsWellWired};
+ghost use Rattle.kahn_streams.specs.Network.{network_of};
+ghost use Rattle.kahn_streams.specs.Wiring.{IsWellWired};
 ghost use Rattle.kahn_code.specs.Lines.{AreFirst, IsFirst};
 
 use crate::queue::Queue;
-use kahn_network::Network;
-use kahn_streams::{Input, NoMemory};
+use kahn_streams::{Input, Network, NoMemory};
 use std::alloc::Allocator;
 
 // The queue of a channel, with the tokens of the channel's list where it is an input channel.

@@ -6,8 +6,8 @@ use std::marker::Model;
 pub struct Past;
 
 impl Model for Past {
-    ghost use Rattle.kahn_tree.specs.contracts.tree.Action as action;
-    ghost use Rattle.kahn_tree.specs.contracts.tree.Form as form;
+    ghost use Rattle.kahn_streams.specs.contracts.tree.Action as action;
+    ghost use Rattle.kahn_streams.specs.contracts.tree.Form as form;
     ghost use Rattle.std.specs.Coded.{codes};
     ghost use Rattle.kahn_code.specs.inner.Gone.{Gone, nothing_gone};
 

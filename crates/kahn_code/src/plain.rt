@@ -1,10 +1,10 @@
 //! Every channel of a network in a plain queue, for a run on one thread.
 
 ghost use Rattle.std.specs.Prelude.{◌≡◌, ◌<◌, ◌^◌, IfOk, MatchResult, length, slice_get};
-ghost use Rattle.kahn_tree.specs.declared.tree.Role.TheVariants.{Input as InputRole};
-ghost use Rattle.kahn_network.specs.Network.{network_of, role_at};
-ghost use Rattle.kahn_network.specs.Wiring.{IsWellWired};
-ghost use Rattle.kahn_streams.specs.Tokens.{Lists, Names, inputs_of};
+ghost use Rattle.kahn_streams.specs.declared.tree.Role.TheVariants.{Input as InputRole};
+ghost use Rattle.kahn_streams.specs.Network.{network_of, role_at};
+ghost use Rattle.kahn_streams.specs.Wiring.{IsWellWired};
+ghost use Rattle.kahn_streams.specs.Inputs.{Lists, inputs_of, Names};
 ghost use Rattle.kahn_code.specs.Lines.{AreFirst, AreQueued, HasPoured, IsPoured, taken_of, waiting_of};
 
 use crate::code::CodeFault;
@@ -12,8 +12,7 @@ use crate::opening::first_queues;
 use crate::ports::Ports;
 use crate::pouring::{give_all, regrow_all};
 use crate::queue::Queue;
-use kahn_network::Network;
-use kahn_streams::{About, Input, NoMemory, Token, Value};
+use kahn_streams::{About, Input, Network, NoMemory, Token, Value};
 use std::alloc::Allocator;
 use std::marker::Model;
 
@@ -27,8 +26,8 @@ pub struct Plain<A: Allocator> {
 }
 
 impl<A: Allocator> Model for Plain<A> {
-    ghost use Rattle.kahn_tree.specs.contracts.tree.Action as action;
-    ghost use Rattle.kahn_tree.specs.contracts.tree.Form as form;
+    ghost use Rattle.kahn_streams.specs.contracts.tree.Action as action;
+    ghost use Rattle.kahn_streams.specs.contracts.tree.Form as form;
     ghost use Rattle.std.specs.Coded.{codes};
     ghost use Rattle.kahn_code.specs.Lines.{Lines, AreQueued};
 

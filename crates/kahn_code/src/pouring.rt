@@ -1,10 +1,10 @@
 //! More input for the plain queues.
 
 ghost use Rattle.std.specs.Prelude.{◌≡◌, ◌+◌, ◌<◌, ◌≤◌, ◌^◌, ℕ, Some, drop, length, map, slice_get};
-ghost use Rattle.kahn_tree.specs.declared.tree.Role.TheVariants.{Input as InputRole};
-ghost use Rattle.kahn_network.specs.Network.{network_of, role_at};
-ghost use Rattle.kahn_streams.specs.Laws.{AreInputsExtended};
-ghost use Rattle.kahn_streams.specs.Tokens.{Lists, inputs_of};
+ghost use Rattle.kahn_streams.specs.declared.tree.Role.TheVariants.{Input as InputRole};
+ghost use Rattle.kahn_streams.specs.Network.{network_of, role_at};
+ghost use Rattle.kahn_streams.specs.Solution.{AreInputsExtended};
+ghost use Rattle.kahn_streams.specs.Inputs.{Lists, inputs_of};
 ghost use Rattle.kahn_code.specs.Queues.{Waiting};
 ghost use Rattle.kahn_code.specs.inner.Regrown.{regrown};
 

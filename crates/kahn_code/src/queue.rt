@@ -1,15 +1,14 @@
 //! The plain queue of a channel.
 
 ghost use Rattle.std.specs.Prelude.{◌≡◌, ◌<◌, ◌≤◌, ◌+◌, ◌^◌, [], length, slice_get, IfSome, IfNone, OnOk, OnErr, IsOk, Some};
-ghost use Rattle.kahn_network.specs.Network.{network_of, role_at};
-ghost use Rattle.kahn_tree.specs.declared.tree.Role.TheVariants.{Input as InputRole};
+ghost use Rattle.kahn_streams.specs.Network.{network_of, role_at};
+ghost use Rattle.kahn_streams.specs.declared.tree.Role.TheVariants.{Input as InputRole};
 ghost use Rattle.kahn_streams.specs.declared.value.Line.TheVariants.{Channel};
-ghost use Rattle.kahn_streams.specs.Laws.{AreInputsExtended};
-ghost use Rattle.kahn_streams.specs.Streams.{IsOf};
-ghost use Rattle.kahn_streams.specs.Tokens.{Holds, Lists, Names, inputs_of};
+ghost use Rattle.kahn_streams.specs.Solution.{AreInputsExtended};
+ghost use Rattle.kahn_streams.specs.Tokens.{IsOf};
+ghost use Rattle.kahn_streams.specs.Inputs.{Holds, Names, Lists, inputs_of};
 
-use kahn_network::Network;
-use kahn_streams::{About, Carried, Input, Line, NoMemory, Token, Value, Word};
+use kahn_streams::{About, Carried, Input, Line, Network, NoMemory, Token, Value, Word};
 use std::alloc::Allocator;
 use std::collections::VecDeque;
 use std::marker::Model;
@@ -25,13 +24,13 @@ pub struct Queue<A: Allocator> {
 }
 
 impl<A: Allocator> Model for Queue<A> {
-    ghost use Rattle.kahn_tree.specs.contracts.tree.Action as action;
-    ghost use Rattle.kahn_tree.specs.contracts.tree.Form as form;
+    ghost use Rattle.kahn_streams.specs.contracts.tree.Action as action;
+    ghost use Rattle.kahn_streams.specs.contracts.tree.Form as form;
     ghost use Rattle.std.specs.Coded.{codes};
     ghost use Rattle.std.specs.Prelude.{◌-◌, length};
     ghost use Rattle.std.specs.VecDeque.{deque_len, deque_capacity};
     ghost use Rattle.kahn_streams.specs.declared.value.Line.TheVariants.{Channel};
-    ghost use Rattle.kahn_streams.specs.Streams.{Follow};
+    ghost use Rattle.kahn_streams.specs.Tokens.{Follow};
     ghost use Rattle.kahn_code.specs.Queues.{Waiting};
     ghost use Rattle.kahn_code.specs.inner.Begins.{AllBegin};
 

@@ -1,12 +1,10 @@
 //! A tap: one process of a network on its way, which lets go of what it kept.
 
 ghost use Rattle.std.specs.Prelude.{◌≡◌, ℕ, ◌+◌, ◌*◌, ◌^◌, ◌<◌, ◌≤◌, length, [], map, replicate, ◌++◌, slice_get, slice_index_or, IfOk, Some};
-ghost use Rattle.kahn_network.specs.Network.{network_of, instance_at};
-ghost use Rattle.kahn_streams.specs.Tokens.{Lists, inputs_of};
+ghost use Rattle.kahn_streams.specs.Network.{network_of, instance_at};
+ghost use Rattle.kahn_streams.specs.Inputs.{Lists, inputs_of, Names};
 ghost use Rattle.kahn_code.specs.Flat.{stmt_code, depth, registers_of};
-ghost use Rattle.kahn_streams.specs.Laws.{AreInputsExtended};
-ghost use Rattle.kahn_streams.specs.Solution.{opening};
-ghost use Rattle.kahn_streams.specs.Tokens.{Names};
+ghost use Rattle.kahn_streams.specs.Solution.{AreInputsExtended, opening};
 ghost use Rattle.kahn_code.specs.Cells.{StoodBy};
 ghost use Rattle.kahn_code.specs.inner.Gone.{kept_behind, nothing_gone};
 ghost use Rattle.kahn_code.specs.Progress.{core_of, opening_core};
@@ -20,9 +18,7 @@ use crate::code::{Code, CodeFault};
 use crate::plain::Plain;
 use crate::ports::Ports;
 use crate::progress::{Pause, Progress};
-use kahn_network::Network;
-use kahn_streams::{About, Carried, Input, NoMemory};
-use kahn_tree::Steps;
+use kahn_streams::{About, Carried, Input, Network, NoMemory, Steps};
 use std::alloc::{Allocator, Global};
 use std::marker::Model;
 use std::sync::ledger::Ledger;
@@ -37,8 +33,8 @@ pub struct Tap<A: Allocator + Copy + Drop = Global> {
 }
 
 impl<A: Allocator + Copy + Drop> Model for Tap<A> {
-    ghost use Rattle.kahn_tree.specs.contracts.tree.Action as action;
-    ghost use Rattle.kahn_tree.specs.contracts.tree.Form as form;
+    ghost use Rattle.kahn_streams.specs.contracts.tree.Action as action;
+    ghost use Rattle.kahn_streams.specs.contracts.tree.Form as form;
     ghost use Rattle.std.specs.Coded.{codes};
     ghost use Rattle.kahn_code.specs.Told.{IsStanding};
     ghost use Rattle.kahn_code.specs.inner.Tapped.{Tapped, tapped_of};

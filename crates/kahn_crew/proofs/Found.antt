@@ -1,6 +1,6 @@
 -- The first one that passes.
 use Rattle.std.proofs.Common.{arith, ◌≡◌, ℕ, zero, suc, ◌+◌, ◌<◌, Bool, true, false, List, [], ◌∷◌, length, refl, sym, ap, ◌∙◌, Option, Some, None, slice_index_or}
-use Rattle.kahn_network.specs.Network.{Actual, Instance, idle}
+use Rattle.kahn_streams.specs.Network.{Actual, Instance, idle}
 use Rattle.kahn_board.specs.Wires.{any_is, first_with}
 use Rattle.kahn_crew.specs.inner.Tasks.{first_that}
 

@@ -4,15 +4,13 @@ use mathlib.Core.Option.{some, some-injective, some-ne-none}
 use lib.ListN.{get_elem?}
 use Rattle.std.proofs.lemmas.List.{append_assoc, append-nil, length-map, map-append, reverse-append, reverse-reverse}
 use Rattle.std.proofs.lemmas.Option.{slice_get_within}
-use Rattle.kahn_tree.specs.declared.tree.Program.{Program}
-use Rattle.kahn_network.specs.Network.{Writes, network_of, instance_at, actual_at, role_at}
-use Rattle.kahn_tree.specs.declared.tree.Role.TheVariants.{Inner, Input}
-use Rattle.kahn_network.specs.declared.sides.Side.{Side}
-use Rattle.kahn_network.specs.Sides.{IsOnly, IsWriter}
-use Rattle.kahn_network.specs.Wiring.{IsWellWired, side_at}
-use Rattle.kahn_network.proofs.Sourced
-use Rattle.kahn_streams.specs.Tokens.{Lists, inputs_of}
-use Rattle.kahn_code.specs.Cells.{is_output}
+use Rattle.kahn_streams.specs.Types.{Program, Side}
+use Rattle.kahn_streams.specs.Network.{Writes, network_of, instance_at, actual_at, role_at, IsOnly, IsWriter}
+use Rattle.kahn_streams.specs.declared.tree.Role.TheVariants.{Inner, Input}
+use Rattle.kahn_streams.specs.Wiring.{IsWellWired, side_at}
+use Rattle.kahn_streams.proofs.Sourced
+use Rattle.kahn_streams.specs.Inputs.{Lists, inputs_of}
+use Rattle.kahn_streams.specs.Answers.{is_output}
 use Rattle.kahn_code.specs.Lines.{Joins}
 use Rattle.kahn_code.specs.Standing.{count}
 use Rattle.kahn_code.specs.Told.{AreCounts}

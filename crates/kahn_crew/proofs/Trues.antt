@@ -1,7 +1,7 @@
 -- What a task's standing says of its process.
 use Rattle.std.proofs.Common.{◌≡◌, ℕ, length, sym, ap, ◌∙◌, subst}
-use Rattle.kahn_network.specs.Network.{network_of, instance_at}
-use Rattle.kahn_streams.specs.Tokens.{inputs_of}
+use Rattle.kahn_streams.specs.Network.{network_of, instance_at}
+use Rattle.kahn_streams.specs.Inputs.{inputs_of}
 use Rattle.kahn_code.specs.declared.progress.Pause.{Pause}
 use Rattle.kahn_code.specs.declared.progress.Pause.TheVariants as pause
 use Rattle.kahn_code.specs.Progress.{Paused, IsPause}

@@ -1,13 +1,11 @@
 -- Who reads and who writes a channel, by the numbers of instances and parameters.
 use Rattle.std.proofs.Common.{arith, ◌≡◌, ℕ, ◌+◌, ◌<◌, ◌==◌, Bool, true, false, length, refl, sym, ap, ◌∙◌, subst, Option, Some, None, eqb-true, pos, if◌then◌else◌}
-use Rattle.kahn_tree.specs.declared.tree.Program.{Program}
-use Rattle.kahn_tree.specs.Syntax.{Number}
-use Rattle.kahn_network.specs.Network.{Network, Actual, Reads, Writes, Hands, Written, is_written, network_of, instance_at, actual_at, role_at}
-use Rattle.kahn_network.specs.Sides.{IsOnly, IsWriter}
-use Rattle.kahn_network.specs.declared.sides.Side.{Side}
-use Rattle.kahn_network.specs.Wiring.{IsWellWired}
-use Rattle.kahn_network.proofs.Sourced.{reads_listed, writes_listed}
-use Rattle.kahn_code.specs.Cells.{is_output}
+use Rattle.kahn_streams.specs.Types.{Program, Side}
+use Rattle.kahn_streams.specs.Syntax.{Number}
+use Rattle.kahn_streams.specs.Network.{Network, Actual, Reads, Writes, Hands, Written, is_written, network_of, instance_at, actual_at, role_at, IsOnly, IsWriter}
+use Rattle.kahn_streams.specs.Wiring.{IsWellWired}
+use Rattle.kahn_streams.proofs.Sourced.{reads_listed, writes_listed}
+use Rattle.kahn_streams.specs.Answers.{is_output}
 use Rattle.kahn_code.specs.Lines.{Joins, route_of}
 use Rattle.kahn_code.proofs.Readers.{joins_within, joins_parameter, reads_once, driven}
 use Rattle.kahn_board.specs.Wires.{wires, is_read}

@@ -2,7 +2,7 @@
 
 ghost use Rattle.std.specs.Prelude.{◌≡◌, ◌<◌, ◌≤◌, [], true, List, length, map, Some};
 ghost use Rattle.std.specs.Vec.{vec_capacity};
-ghost use Rattle.kahn_network.specs.Network.{network_of};
+ghost use Rattle.kahn_streams.specs.Network.{network_of};
 ghost use Rattle.kahn_board.specs.inner.Shared.{IsLoneSeat};
 ghost use Rattle.kahn_crew.specs.inner.Begins.{HasBegun};
 ghost use Rattle.kahn_crew.specs.inner.Left.{IsLeftOf, IsOver, IsUntouched};
@@ -12,8 +12,7 @@ use crate::boxes::Boxed;
 use crate::left::Left;
 use crate::task::Task;
 use kahn_board::{Board, Closed, Seat};
-use kahn_network::Network;
-use kahn_streams::Input;
+use kahn_streams::{Input, Network};
 
 // The tasks of cells that are all there, in their order.
 fn out_of_cells<'n>(mut cells: Vec<Option<Boxed<'n>>>, mut tasks: Vec<Task<'n>>) -> Vec<Task<'n>>

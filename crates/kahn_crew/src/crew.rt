@@ -2,7 +2,7 @@
 
 ghost use Rattle.std.specs.Prelude.{◌≡◌, ◌+◌, ◌<◌, ◌≤◌, ◌^◌, [], true, false, length, All, IfOk, IfErr, MatchResult};
 ghost use Rattle.std.specs.Vec.{vec_capacity};
-ghost use Rattle.kahn_network.specs.Network.{network_of};
+ghost use Rattle.kahn_streams.specs.Network.{network_of};
 ghost use Rattle.kahn_board.specs.Dealt.{events_told};
 ghost use Rattle.kahn_board.specs.inner.Shared.{IsDoneAt, IsLoneSeat, SitsAt, parts_of, raised_of};
 ghost use Rattle.kahn_crew.specs.inner.Crews.{HasCause, HasGone, HasSeat, crew_parts, crew_raised};
@@ -27,8 +27,7 @@ use crate::task::Task;
 use crate::worker::Worker;
 use kahn_board::{Board, Seat, join_all, split_all, stop};
 use kahn_code::Code;
-use kahn_network::Network;
-use kahn_streams::{Input, NoMemory};
+use kahn_streams::{Input, Network, NoMemory};
 use std::alloc::Global;
 use std::sync::Wait;
 use std::thread::Threads;

@@ -1,7 +1,7 @@
 //! How a run begins: its tasks, and the board on which they are.
 
 ghost use Rattle.std.specs.Prelude.{◌≡◌, ℕ, ◌+◌, ◌<◌, ◌^◌, [], length, slice_index, IfOk, IfErr};
-ghost use Rattle.kahn_network.specs.Network.{network_of};
+ghost use Rattle.kahn_streams.specs.Network.{network_of};
 ghost use Rattle.kahn_board.specs.Dealt.{events_told};
 ghost use Rattle.kahn_board.specs.Rule.{opening_view};
 ghost use Rattle.kahn_board.specs.Wires.{wires};
@@ -14,9 +14,7 @@ use crate::waking::wake_all;
 use kahn_board::{Board, Seat};
 use kahn_code::Code;
 use kahn_job::jobs;
-use kahn_network::Network;
-use kahn_streams::{Input, NoMemory};
-use kahn_tree::Role;
+use kahn_streams::{Input, Network, NoMemory, Role};
 use std::alloc::Global;
 
 /// The tasks of all instances before their first events. It refuses only where memory was refused.

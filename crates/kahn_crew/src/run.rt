@@ -6,7 +6,7 @@ ghost use Rattle.kahn_crew.specs.inner.Lent.{FitTogether};
 use crate::boxes::Boxed;
 use kahn_board::Board;
 use kahn_code::Code;
-use kahn_network::Network;
+use kahn_streams::Network;
 
 /// The board on which the tasks are, their network and its code, and how many events a task may do before another one is
 /// looked for, at least 1.

@@ -1,12 +1,11 @@
 //! The channel between processes that a parameter writes.
 
 ghost use Rattle.std.specs.Prelude.{◌≡◌, ◌<◌, length};
-ghost use Rattle.kahn_network.specs.Network.{network_of, instance_at, actual_at};
+ghost use Rattle.kahn_streams.specs.Network.{network_of, instance_at, actual_at};
 ghost use Rattle.kahn_crew.specs.inner.Tasks.{written_by};
 
 use kahn_code::Code;
-use kahn_network::Network;
-use kahn_tree::Role;
+use kahn_streams::{Network, Role};
 
 /// The channel between processes that a parameter writes.
 pub(crate) fn target(

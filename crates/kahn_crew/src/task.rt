@@ -1,7 +1,7 @@
 //! A task: a job with what the workers have to know of it.
 
 ghost use Rattle.std.specs.Prelude.{◌≡◌, ℕ, ◌+◌, ◌*◌, ◌^◌, ◌<◌, ◌≤◌, true, length, slice_set, OnOk};
-ghost use Rattle.kahn_network.specs.Network.{network_of, instance_at};
+ghost use Rattle.kahn_streams.specs.Network.{network_of, instance_at};
 ghost use Rattle.kahn_code.specs.Flat.{stmt_code};
 ghost use Rattle.kahn_code.specs.Standing.{count};
 ghost use Rattle.kahn_code.specs.Told.{AreCounts};
@@ -14,8 +14,7 @@ ghost use Rattle.kahn_crew.specs.inner.Tasks.{Continues, IsTrueOf, standing_afte
 use crate::standing::Standing;
 use kahn_code::{Code, Pause, Steps};
 use kahn_job::{Idle, Job};
-use kahn_network::Network;
-use kahn_streams::{Input, NoMemory};
+use kahn_streams::{Input, Network, NoMemory};
 use std::marker::Model;
 use std::sync::ledger::Ledger;
 
@@ -29,8 +28,8 @@ pub struct Task<'n> {
 }
 
 impl<'n> Model for Task<'n> {
-    ghost use Rattle.kahn_tree.specs.contracts.tree.Action as action;
-    ghost use Rattle.kahn_tree.specs.contracts.tree.Form as form;
+    ghost use Rattle.kahn_streams.specs.contracts.tree.Action as action;
+    ghost use Rattle.kahn_streams.specs.contracts.tree.Form as form;
     ghost use Rattle.std.specs.Coded.{codes};
     ghost use Rattle.std.specs.Prelude.{◌≡◌, length};
     ghost use Rattle.kahn_crew.specs.inner.Tasks.{Tasked, IsTrueOf};

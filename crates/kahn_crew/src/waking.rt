@@ -9,8 +9,7 @@ ghost use Rattle.kahn_crew.specs.inner.Tasks.{work_of};
 
 use crate::task::Task;
 use kahn_job::Idle;
-use kahn_network::Network;
-use kahn_streams::Input;
+use kahn_streams::{Input, Network};
 
 /// The tasks of idle jobs that go on with an input for which their ends have settled. The list that is given has room for all. It takes no memory.
 pub fn wake_all<'n>(

@@ -3,10 +3,9 @@
 ghost use Rattle.std.specs.Prelude.{IsTrue};
 ghost use Rattle.kahn_report.specs.Report.{HasItsLines, IsLine};
 
-use kahn_network::Network;
 use kahn_pool::{Answer, Config, Gate, Held, HeldFault, RunFault, Verdict};
 use kahn_report::{WorkFault, checked, read_input, write_report};
-use kahn_streams::{Line, NoMemory};
+use kahn_streams::{Line, Network, NoMemory};
 use std::io::Write;
 use std::rt::Runtime;
 use std::sync::Wait;

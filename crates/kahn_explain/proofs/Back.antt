@@ -11,27 +11,24 @@ use Rattle.std.proofs.lemmas.Slice.Eq.{bytes_eq-Decides}
 use Rattle.std.proofs.lemmas.List.{length-map}
 use Rattle.std.proofs.lemmas.Option.{slice_get-get_or}
 use Rattle.std.proofs.lemmas.Fmt.{decimal_nonempty, digits_decimal, digits_value-decimal}
-use Rattle.kahn_tree.specs.View.{bytes_of}
-use Rattle.kahn_tree.specs.declared.tree.Instance.{Instance}
-use Rattle.kahn_tree.specs.declared.tree.Program.{Program}
-use Rattle.kahn_network.specs.Network.{channels_of, network_of}
-use Rattle.kahn_network.specs.Sides.{channel_names}
-use Rattle.kahn_network.specs.Wiring.{IsWellWired}
-use Rattle.kahn_network.proofs.Numbered.{distinct_channels}
+use Rattle.kahn_streams.specs.View.{bytes_of}
+use Rattle.kahn_streams.specs.Types.{Instance, Program}
+use Rattle.kahn_streams.specs.Network.{channels_of, network_of, channel_names}
+use Rattle.kahn_streams.specs.Wiring.{IsWellWired}
+use Rattle.kahn_streams.proofs.By_number.{distinct_channels}
 use Rattle.kahn_chain.specs.Chain.{AreStandings}
 use Rattle.kahn_chain.specs.declared.standing.Standing.TheVariants as S
 use Rattle.kahn_streams.specs.declared.value.Failure.TheVariants.{Overflow, Division}
 use Rattle.kahn_graph.specs.Report.{end_heading, without}
 use Rattle.kahn_graph.specs.Stands.{wait_pieces}
-use Rattle.kahn_pool.specs.declared.answer.Answer.{Answer}
-use Rattle.kahn_pool.specs.declared.answer.End.{End}
-use Rattle.kahn_pool.specs.declared.answer.Outcome.{Outcome}
-use Rattle.kahn_pool.specs.declared.answer.Outcome.TheVariants.{Ended, Waits, Faulted, More}
-use Rattle.kahn_pool.specs.declared.answer.Stream.{Stream}
-use Rattle.kahn_pool.specs.declared.answer.Verdict.{Verdict}
-use Rattle.kahn_pool.specs.declared.answer.Verdict.TheVariants.{Finished, Bound, Memory}
-use Rattle.kahn_report.specs.Names.{channel_name, process_name}
-use Rattle.kahn_report.specs.Report.{end_text, ends_text, last_line, last_text, line_head, outcome_word, report_text, stream_text, token_text, verdict_text, waited_name}
+use Rattle.kahn_streams.specs.declared.answer.Answer.{Answer}
+use Rattle.kahn_streams.specs.declared.answer.End.{End}
+use Rattle.kahn_streams.specs.declared.answer.Outcome.{Outcome}
+use Rattle.kahn_streams.specs.declared.answer.Outcome.TheVariants.{Ended, Waits, Faulted, More}
+use Rattle.kahn_streams.specs.declared.answer.Stream.{Stream}
+use Rattle.kahn_streams.specs.declared.answer.Verdict.{Verdict}
+use Rattle.kahn_streams.specs.declared.answer.Verdict.TheVariants.{Finished, Bound, Memory}
+use Rattle.kahn_report.specs.Report.{channel_name, process_name, end_text, ends_text, last_line, last_text, line_head, outcome_word, report_text, stream_text, token_text, verdict_text, waited_name}
 use Rattle.kahn_explain.specs.Back.{HasDarkNames, HasNumbers, IsDark, IsReadBack}
 use Rattle.kahn_explain.specs.Why.{standing_of, stands}
 use Rattle.kahn_explain.specs.Reading.{counted, end_as, end_behind, end_told, ends_told, first_end, last_in, last_lines, last_told, line_told, number_behind, number_told, verdict_as, waits_told}

@@ -1,14 +1,13 @@
 -- A column of a right answer is a history.
 use Rattle.std.proofs.Common.{◌≡◌, ℕ, List, sym, subst, ◌∙◌, Option}
-use Rattle.kahn_network.specs.Network.{Network}
-use Rattle.kahn_streams.specs.declared.value.Line.{Line}
-use Rattle.kahn_streams.specs.declared.value.Value.{Value}
+use Rattle.kahn_streams.specs.Network.{Network}
+use Rattle.kahn_streams.specs.Types.{Line, Value}
 use Rattle.kahn_streams.specs.Solution.{Inputs, IsPrefix, IsWhole, iterate}
-use Rattle.kahn_pool.specs.Right.{HasStream, IsRight, values_of}
-use Rattle.kahn_pool.specs.declared.answer.Answer.{Answer}
-use Rattle.kahn_pool.specs.declared.answer.Stream.{Stream}
-use Rattle.kahn_pool.specs.declared.answer.Verdict.{Verdict}
-use Rattle.kahn_pool.specs.declared.answer.Verdict.TheVariants.{Finished}
+use Rattle.kahn_streams.specs.Answers.{HasStream, IsRight, values_of}
+use Rattle.kahn_streams.specs.declared.answer.Answer.{Answer}
+use Rattle.kahn_streams.specs.declared.answer.Stream.{Stream}
+use Rattle.kahn_streams.specs.declared.answer.Verdict.{Verdict}
+use Rattle.kahn_streams.specs.declared.answer.Verdict.TheVariants.{Finished}
 use Rattle.kahn_explain.specs.Histories.{IsHistory}
 use Rattle.kahn_explain.specs.inner.Columns.{HasValuesOf}
 use Rattle.kahn_explain.specs.declared.tracing.column.Column.{Column}

@@ -6,24 +6,20 @@ use Rattle.std.proofs.lemmas.List.{map-append}
 use Rattle.std.proofs.lemmas.List.Elements.{All-append}
 use Rattle.std.proofs.lemmas.List.Folds.{flat_map-map}
 use Rattle.std.proofs.lemmas.Option.{slice_get-get_or}
-use Rattle.kahn_tree.specs.declared.tree.Kind.{Kind}
-use Rattle.kahn_tree.specs.declared.tree.Kind.TheVariants.{Integer}
-use Rattle.kahn_tree.specs.declared.tree.Program.{Program}
-use Rattle.kahn_tree.specs.declared.tree.Role.{Role}
-use Rattle.kahn_tree.specs.declared.tree.Role.TheVariants.{Inner, Output}
-use Rattle.kahn_tree.specs.Syntax.{prints_in}
-use Rattle.kahn_tree.specs.View.{place_of}
-use Rattle.kahn_network.specs.Network.{Instance, Network, role_at}
-use Rattle.kahn_network.specs.Sides.{channel_names}
-use Rattle.kahn_network.specs.Wiring.{IsWellWired}
-use Rattle.kahn_network.proofs.Handed.{bytes_self}
-use Rattle.kahn_network.proofs.Numbered.{distinct_channels, number_test}
-use Rattle.kahn_streams.specs.declared.value.Line.{Line}
+use Rattle.kahn_streams.specs.Types.{Kind, Program, Role, Line}
+use Rattle.kahn_streams.specs.declared.tree.Kind.TheVariants.{Integer}
+use Rattle.kahn_streams.specs.declared.tree.Role.TheVariants.{Inner, Output}
+use Rattle.kahn_streams.specs.Syntax.{prints_in}
+use Rattle.kahn_streams.specs.View.{place_of}
+use Rattle.kahn_streams.specs.Network.{Instance, Network, role_at, channel_names}
+use Rattle.kahn_streams.specs.Wiring.{IsWellWired}
+use Rattle.kahn_streams.proofs.Handed.{bytes_self}
+use Rattle.kahn_streams.proofs.By_number.{distinct_channels, number_test}
 use Rattle.kahn_streams.specs.declared.value.Line.TheVariants.{Channel, Print}
-use Rattle.kahn_code.specs.Cells.{is_output, is_streamed, is_watched}
-use Rattle.kahn_pool.specs.Right.{HasStream, channel_lines, stream_line, print_lines, stream_lines}
-use Rattle.kahn_pool.specs.declared.answer.Answer.{Answer}
-use Rattle.kahn_pool.specs.declared.answer.Stream.{Stream}
+use Rattle.kahn_code.specs.Cells.{is_streamed}
+use Rattle.kahn_streams.specs.Answers.{is_output, is_watched, HasStream, channel_lines, stream_line, print_lines, stream_lines}
+use Rattle.kahn_streams.specs.declared.answer.Answer.{Answer}
+use Rattle.kahn_streams.specs.declared.answer.Stream.{Stream}
 use Rattle.kahn_explain.specs.Histories.{column_line}
 use Rattle.kahn_explain.specs.inner.Columns.{AddsPrint, AddsPrints, HasLine, HasValuesOf, print_line, print_part}
 use Rattle.kahn_explain.specs.declared.tracing.column.Column.{Column}

@@ -8,14 +8,13 @@ use Rattle.std.proofs.Common.{le_trans}
 use Rattle.std.proofs.Common.{le_refl}
 use Rattle.std.proofs.Common.{max}
 use Rattle.kahn_streams.specs.Meaning.{Store}
-use Rattle.kahn_tree.specs.Syntax.{Number}
-use Rattle.kahn_network.specs.Network.{Network, Source, Given, Written, Nobody, Hands, Instance, instance_at}
-use Rattle.kahn_streams.specs.declared.value.Value.{Value}
-use Rattle.kahn_streams.specs.declared.value.Line.{Line}
+use Rattle.kahn_streams.specs.Syntax.{Number}
+use Rattle.kahn_streams.specs.Network.{Network, Source, Given, Written, Nobody, Hands, Instance, instance_at}
+use Rattle.kahn_streams.specs.Types.{Value, Line}
 use Rattle.kahn_streams.specs.declared.value.Line.TheVariants.{Channel}
 use Rattle.kahn_streams.specs.Script.{Outcome, Got, Dry, Fault, Cut, Reached, Tapes, play}
-use Rattle.kahn_streams.specs.Laws.{AreSame, AreInputsExtended, IsExtended, IsSolution, KeepsTape}
-use Rattle.kahn_streams.specs.Solution.{Histories, Inputs, Ending, HasEnd, IsPrefix, ending, exec_at, fed, input_list, iterate, out, source, tape_of, tapes_of, values_at, goes_to}
+use Rattle.kahn_streams.specs.Laws.{AreSame, IsSolution, KeepsTape}
+use Rattle.kahn_streams.specs.Solution.{IsExtended, AreInputsExtended, Histories, Inputs, Ending, HasEnd, IsPrefix, ending, exec_at, fed, input_list, iterate, out, source, tape_of, tapes_of, values_at, goes_to}
 use Rattle.kahn_streams.proofs.Framed.{Stays, widened, frame_play}
 use Rattle.kahn_streams.proofs.Finished.{more_events, inputs_grow}
 use Rattle.kahn_streams.proofs.Proved.{prefix_refl, prefix_trans, Feeds, feeds, script_at, out_grows, chain, least, solves, iterates_rise, fits_all}

@@ -4,22 +4,22 @@ use Rattle.std.proofs.lemmas.List.{length-map}
 use Rattle.std.specs.List.{slice_get}
 use Rattle.std.specs.Prelude.{option_map}
 use Rattle.std.proofs.lemmas.Option.{slice_get-map, slice_get-get_or, slice_get_within}
-use Rattle.kahn_tree.specs.declared.tree.Program.{Program}
-use Rattle.kahn_network.specs.Network.{Network, network_of, Reads, instance_at, actual_at}
-use Rattle.kahn_network.proofs.Sourced.{reads_listed}
+use Rattle.kahn_streams.specs.Types.{Program}
+use Rattle.kahn_streams.specs.Network.{Network, network_of, Reads, instance_at, actual_at}
+use Rattle.kahn_streams.proofs.Sourced.{reads_listed}
 use Rattle.kahn_streams.specs.Solution.{Histories}
 use Rattle.kahn_chain.specs.Chain.{AreCauses, AreStandings, IsCause}
 use Rattle.kahn_chain.specs.declared.standing.Standing.{Standing}
 use Rattle.kahn_chain.specs.declared.standing.Standing.TheVariants as S
 use Rattle.kahn_chain.specs.declared.standing.Cause.{Cause}
 use Rattle.kahn_chain.specs.declared.standing.Cause.TheVariants.{Input, Stopped, Ring}
-use Rattle.kahn_pool.specs.Right.{IsOutcome, IsWaiting}
-use Rattle.kahn_pool.specs.declared.answer.Answer.{Answer}
-use Rattle.kahn_pool.specs.declared.answer.End.{End}
-use Rattle.kahn_pool.specs.declared.answer.Outcome.{Outcome}
-use Rattle.kahn_pool.specs.declared.answer.Outcome.TheVariants.{Waits}
-use Rattle.kahn_pool.specs.declared.answer.Verdict.{Verdict}
-use Rattle.kahn_pool.specs.declared.answer.Verdict.TheVariants.{Finished, Bound, Memory}
+use Rattle.kahn_streams.specs.Answers.{IsOutcome, IsWaiting}
+use Rattle.kahn_streams.specs.declared.answer.Answer.{Answer}
+use Rattle.kahn_streams.specs.declared.answer.End.{End}
+use Rattle.kahn_streams.specs.declared.answer.Outcome.{Outcome}
+use Rattle.kahn_streams.specs.declared.answer.Outcome.TheVariants.{Waits}
+use Rattle.kahn_streams.specs.declared.answer.Verdict.{Verdict}
+use Rattle.kahn_streams.specs.declared.answer.Verdict.TheVariants.{Finished, Bound, Memory}
 use Rattle.kahn_explain.specs.Why.{standing_of, standings_of, stands}
 use Rattle.kahn_explain.specs.Words.{AreOfNetwork, IsAnswer, IsOfNetwork, ends_at}
 use Rattle.kahn_explain.proofs.Stands.{end_of, waiting}

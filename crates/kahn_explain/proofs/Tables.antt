@@ -5,23 +5,17 @@ use Rattle.std.proofs.lemmas.List.Elements.{All-append, All-push}
 use Rattle.std.specs.Prelude.{⊤, None, OnOk, Result, Ok, Err}
 use Rattle.std.specs.Result.{is_err}
 use Rattle.std.specs.List.{AllByRecursion}
-use Rattle.kahn_config.specs.declared.Config.{Config}
-use Rattle.kahn_tree.specs.declared.memory.NoMemory.{NoMemory}
-use Rattle.kahn_tree.specs.declared.tree.Kind.{Kind}
-use Rattle.kahn_tree.specs.declared.tree.Program.{Program}
-use Rattle.kahn_tree.specs.declared.tree.Role.{Role}
-use Rattle.kahn_network.specs.Network.{channels_of, network_of}
+use Rattle.kahn_streams.specs.Types.{Config, Kind, Program, Role, Line}
+use Rattle.kahn_streams.specs.declared.memory.NoMemory.{NoMemory}
+use Rattle.kahn_streams.specs.Network.{channels_of, network_of}
 use Rattle.kahn_streams.specs.Solution.{Inputs}
-use Rattle.kahn_streams.specs.Tokens.{Lists, inputs_of}
-use Rattle.kahn_streams.specs.declared.value.Line.{Line}
+use Rattle.kahn_streams.specs.Inputs.{Lists, inputs_of}
 use Rattle.kahn_streams.specs.declared.value.Line.TheVariants.{Channel}
-use Rattle.kahn_pool.specs.Right.{channel_lines, print_lines}
-use Rattle.kahn_pool.specs.Runs.{IsRightRun}
-use Rattle.kahn_pool.specs.declared.answer.Answer.{Answer}
-use Rattle.kahn_pool.specs.declared.answer.Verdict.{Verdict}
+use Rattle.kahn_streams.specs.Answers.{channel_lines, print_lines, IsRightRun}
+use Rattle.kahn_streams.specs.declared.answer.Answer.{Answer}
+use Rattle.kahn_streams.specs.declared.answer.Verdict.{Verdict}
 use Rattle.kahn_report.specs.Inputs.{StandsFor}
-use Rattle.kahn_report.specs.Names.{channel_count}
-use Rattle.kahn_report.specs.Report.{IsLine}
+use Rattle.kahn_report.specs.Report.{channel_count, IsLine}
 use Rattle.kahn_report.proofs.Right_lines.{streamed_lines}
 use Rattle.kahn_explain.specs.Histories.{AreHistories, IsHistory, all_channels, column_line}
 use Rattle.kahn_explain.specs.inner.Columns.{AddsPrints, AreColumns, IsAny, IsHistoryOf}

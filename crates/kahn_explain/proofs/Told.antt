@@ -1,11 +1,10 @@
 -- An explanation that was written as the last piece of a line.
 use Rattle.std.proofs.Common.{◌≡◌, ℕ, Bool, true, List, [], ◌++◌, Option, Result, Ok, Err, inl, inr, refl, string_bytes, subst, append-nil}
 use Rattle.std.specs.Io.KnownBytes.{Appends}
-use Rattle.kahn_config.specs.declared.Config.{Config}
-use Rattle.kahn_tree.specs.declared.tree.Program.{Program}
-use Rattle.kahn_streams.specs.Tokens.{Lists, inputs_of}
-use Rattle.kahn_pool.specs.Runs.{IsRightRun}
-use Rattle.kahn_pool.specs.declared.answer.Answer.{Answer}
+use Rattle.kahn_streams.specs.Types.{Config, Program}
+use Rattle.kahn_streams.specs.Inputs.{Lists, inputs_of}
+use Rattle.kahn_streams.specs.Answers.{IsRightRun}
+use Rattle.kahn_streams.specs.declared.answer.Answer.{Answer}
 use Rattle.kahn_report.specs.Inputs.{StandsFor}
 use Rattle.kahn_pool.specs.declared.config.RunFault.TheVariants.{NoMemory}
 use Rattle.kahn_report.specs.Work.{IsChecked, IsUnanswered}

@@ -3,26 +3,23 @@ use Rattle.std.proofs.Common.{◌≡◌, ◌∙◌, ℕ, ◌<◌, ◌==◌, true
 use Rattle.std.specs.Prelude.{MatchResult}
 use Rattle.std.specs.declared.alloc.Global.{Global}
 use Rattle.std.specs.declared.string.String.{String}
-use Rattle.kahn_config.specs.declared.Config.{Config}
-use Rattle.kahn_tree.specs.declared.tree.Program.{Program}
-use Rattle.kahn_tree.specs.declared.tree.Role.TheVariants.{Output}
-use Rattle.kahn_tree.specs.View.{place_of}
-use Rattle.kahn_network.specs.Network.{network_of, role_at}
-use Rattle.kahn_network.specs.Sides.{channel_names}
-use Rattle.kahn_network.specs.Wiring.{IsWellWired}
+use Rattle.kahn_streams.specs.Types.{Config, Program, Line}
+use Rattle.kahn_streams.specs.declared.tree.Role.TheVariants.{Output}
+use Rattle.kahn_streams.specs.View.{place_of}
+use Rattle.kahn_streams.specs.Network.{network_of, role_at, channel_names}
+use Rattle.kahn_streams.specs.Wiring.{IsWellWired}
 use Rattle.kahn_streams.specs.Solution.{Inputs}
-use Rattle.kahn_streams.specs.Tokens.{Lists, inputs_of}
+use Rattle.kahn_streams.specs.Inputs.{Lists, inputs_of}
 use Rattle.kahn_code.specs.Cells.{is_streamed}
-use Rattle.kahn_streams.specs.declared.value.Line.{Line}
 use Rattle.kahn_streams.specs.declared.value.Line.TheVariants.{Channel}
-use Rattle.kahn_pool.specs.Runs.{IsRightRun, IsUnrun, IsWatched}
-use Rattle.kahn_pool.specs.declared.answer.Answer.{Answer}
-use Rattle.kahn_pool.specs.declared.answer.Verdict.{Verdict}
-use Rattle.kahn_pool.specs.declared.answer.Verdict.TheVariants.{Finished}
+use Rattle.kahn_pool.specs.Runs.{IsUnrun}
+use Rattle.kahn_streams.specs.Answers.{IsRightRun, IsWatched}
+use Rattle.kahn_streams.specs.declared.answer.Answer.{Answer}
+use Rattle.kahn_streams.specs.declared.answer.Verdict.{Verdict}
+use Rattle.kahn_streams.specs.declared.answer.Verdict.TheVariants.{Finished}
 use Rattle.kahn_pool.specs.declared.config.RunFault.{RunFault}
 use Rattle.kahn_pool.specs.declared.config.RunFault.TheVariants as fault
-use Rattle.kahn_report.specs.Entries.{text_lines}
-use Rattle.kahn_report.specs.Inputs.{StandsFor}
+use Rattle.kahn_report.specs.Inputs.{text_lines, StandsFor}
 use Rattle.kahn_report.specs.Work.{IsUnanswered}
 use Rattle.kahn_report.specs.declared.working.WorkFault.{WorkFault}
 use Rattle.kahn_report.specs.declared.working.WorkFault.TheVariants.{Syntax, Check, Text, Run, Write}

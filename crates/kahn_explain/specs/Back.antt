@@ -1,13 +1,12 @@
 -- Believed. The law that a report is read as it was written.
 use Rattle.std.specs.Prelude.{◌≡◌, ℕ, ◌^◌, ◌<◌, List, Some, Ok, length, map, slice_get}
 use Rattle.std.specs.List.{AllByRecursion}
-use Rattle.kahn_tree.specs.View.{bytes_of}
-use Rattle.kahn_tree.specs.declared.tree.Program.{Program}
-use Rattle.kahn_network.specs.Network.{network_of}
-use Rattle.kahn_network.specs.Sides.{channel_names}
-use Rattle.kahn_network.specs.Wiring.{IsWellWired}
+use Rattle.kahn_streams.specs.View.{bytes_of}
+use Rattle.kahn_streams.specs.Types.{Program}
+use Rattle.kahn_streams.specs.Network.{network_of, channel_names}
+use Rattle.kahn_streams.specs.Wiring.{IsWellWired}
 use Rattle.kahn_chain.specs.Chain.{AreStandings}
-use Rattle.kahn_pool.specs.declared.answer.Answer.{Answer}
+use Rattle.kahn_streams.specs.declared.answer.Answer.{Answer}
 use Rattle.kahn_report.specs.Report.{report_text}
 use Rattle.kahn_explain.specs.Reading.{ends_told, last_in, last_lines}
 use Rattle.kahn_explain.specs.Why.{stands}

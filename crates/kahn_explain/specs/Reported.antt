@@ -1,8 +1,8 @@
 -- Believed. What is said of a report: why its run stopped, or why it isn't the report of a run of the program.
 use Rattle.std.specs.Prelude.{◌≡◌, ℕ, List, [], ◌∷◌, Option, Some, None, codes, string_bytes}
 use Rattle.std.specs.List.{concat}
-use Rattle.kahn_tree.specs.declared.tree.Program.{Program}
-use Rattle.kahn_pool.specs.declared.answer.Answer.{Answer}
+use Rattle.kahn_streams.specs.Types.{Program}
+use Rattle.kahn_streams.specs.declared.answer.Answer.{Answer}
 use Rattle.kahn_explain.specs.Reading.{IsReportRead, IsReportUnread}
 use Rattle.kahn_explain.specs.Words.{IsExplained, who_text}
 use Rattle.kahn_explain.specs.declared.why.reading.ReportFault.{ReportFault}

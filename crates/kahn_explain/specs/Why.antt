@@ -1,18 +1,17 @@
 -- Believed. Why the instances of an answer go no further, and which of them never will.
 use Rattle.std.specs.Prelude.{ℕ, List, map}
-use Rattle.kahn_network.specs.Network.{Network}
-use Rattle.kahn_streams.specs.Solution.{Inputs}
-use Rattle.kahn_streams.specs.Laws.{AreInputsExtended}
+use Rattle.kahn_streams.specs.Network.{Network}
+use Rattle.kahn_streams.specs.Solution.{Inputs, AreInputsExtended}
 use Rattle.kahn_chain.specs.Chain.{IsCause}
 use Rattle.kahn_chain.specs.declared.standing.Standing.{Standing}
 use Rattle.kahn_chain.specs.declared.standing.Standing.TheVariants as S
 use Rattle.kahn_chain.specs.declared.standing.Cause.{Cause}
 use Rattle.kahn_chain.specs.declared.standing.Cause.TheVariants.{Input, Stopped, Ring}
-use Rattle.kahn_pool.specs.Right.{HasEndAt, IsEnd}
-use Rattle.kahn_pool.specs.declared.answer.Answer.{Answer}
-use Rattle.kahn_pool.specs.declared.answer.End.{End}
-use Rattle.kahn_pool.specs.declared.answer.Outcome.{Outcome}
-use Rattle.kahn_pool.specs.declared.answer.Outcome.TheVariants.{Ended, Waits, Faulted, More}
+use Rattle.kahn_streams.specs.Answers.{HasEndAt, IsEnd}
+use Rattle.kahn_streams.specs.declared.answer.Answer.{Answer}
+use Rattle.kahn_streams.specs.declared.answer.End.{End}
+use Rattle.kahn_streams.specs.declared.answer.Outcome.{Outcome}
+use Rattle.kahn_streams.specs.declared.answer.Outcome.TheVariants.{Ended, Waits, Faulted, More}
 
 abbrev pub standing_of : Outcome → Standing
 standing_of Ended = S.Ended

@@ -1,31 +1,26 @@
 -- Believed. What is said of a run that stopped: a line for each process that waits or has a fault, and how the run ended.
 use Rattle.std.specs.Prelude.{◌≡◌, ℕ, ◌+◌, ◌<◌, ◌==◌, List, [], ◌∷◌, ◌++◌, Bool, true, false, codes, decimal, if◌then◌else◌, flat_map, length, map, string_bytes, Option, Some, None, slice_index_or}
 use Rattle.std.specs.List.{concat, list_any}
-use Rattle.kahn_tree.specs.declared.span.Span.{Span}
-use Rattle.kahn_tree.specs.declared.tree.Process.{Process}
-use Rattle.kahn_tree.specs.declared.tree.Program.{Program}
-use Rattle.kahn_tree.specs.declared.tree.Statement.{Statement}
-use Rattle.kahn_network.specs.Network.{Source, Given, Written, Nobody, channel_source, network_of, process_of}
-use Rattle.kahn_network.specs.Wiring.{IsWellWired}
+use Rattle.kahn_streams.specs.Types.{Span, Process, Program, Statement, Failure}
+use Rattle.kahn_streams.specs.Network.{Source, Given, Written, Nobody, channel_source, network_of, process_of}
+use Rattle.kahn_streams.specs.Wiring.{IsWellWired}
 use Rattle.kahn_chain.specs.Chain.{AreCauses, AreStandings}
 use Rattle.kahn_chain.specs.declared.standing.Standing.{Standing}
 use Rattle.kahn_chain.specs.declared.standing.Standing.TheVariants as S
 use Rattle.kahn_chain.specs.declared.standing.Cause.{Cause}
 use Rattle.kahn_chain.specs.declared.standing.Cause.TheVariants.{Input, Stopped, Ring}
-use Rattle.kahn_streams.specs.declared.value.Failure.{Failure}
 use Rattle.kahn_streams.specs.declared.value.Failure.TheVariants.{Overflow, Division}
 use Rattle.kahn_streams.specs.Solution.{Inputs}
-use Rattle.kahn_pool.specs.Right.{IsRight}
-use Rattle.kahn_pool.specs.declared.answer.Answer.{Answer}
-use Rattle.kahn_pool.specs.declared.answer.End.{End}
-use Rattle.kahn_pool.specs.declared.answer.Outcome.{Outcome}
-use Rattle.kahn_pool.specs.declared.answer.Outcome.TheVariants.{Ended, Waits, Faulted, More}
-use Rattle.kahn_pool.specs.declared.answer.Verdict.{Verdict}
-use Rattle.kahn_pool.specs.declared.answer.Verdict.TheVariants.{Finished, Bound, Memory}
+use Rattle.kahn_streams.specs.Answers.{IsRight}
+use Rattle.kahn_streams.specs.declared.answer.Answer.{Answer}
+use Rattle.kahn_streams.specs.declared.answer.End.{End}
+use Rattle.kahn_streams.specs.declared.answer.Outcome.{Outcome}
+use Rattle.kahn_streams.specs.declared.answer.Outcome.TheVariants.{Ended, Waits, Faulted, More}
+use Rattle.kahn_streams.specs.declared.answer.Verdict.{Verdict}
+use Rattle.kahn_streams.specs.declared.answer.Verdict.TheVariants.{Finished, Bound, Memory}
 use Rattle.kahn_notes.specs.Blocked.{at_words}
 use Rattle.kahn_warnings.specs.Faults.{fault_places}
-use Rattle.kahn_report.specs.Names.{channel_name, process_name}
-use Rattle.kahn_report.specs.Report.{last_text}
+use Rattle.kahn_report.specs.Report.{channel_name, process_name, last_text}
 use Rattle.kahn_explain.specs.Why.{standings_of, stands}
 use Rattle.kahn_explain.specs.declared.why.told.Explanation.{Explanation}
 use Rattle.kahn_explain.specs.declared.why.told.Told.{Told}

@@ -12,7 +12,7 @@ use crate::tracing::{answered, histories_of, trace_text};
 use crate::why::{Told, explained, explained_report};
 use kahn_pool::{Config, RunFault, Verdict};
 use kahn_report::{WorkFault, checked, write_line};
-use kahn_tree::NoMemory;
+use kahn_streams::NoMemory;
 use kahn_warnings::warning_notes;
 use std::alloc::Global;
 use std::io::Write;

@@ -1,10 +1,10 @@
 //! The laws of what is for ever, and of reports that are read. Each function does nothing: its contract is the law.
 
 ghost use Rattle.std.specs.Prelude.{◌≡◌, ℕ, Option};
-ghost use Rattle.kahn_network.specs.Network.{Network};
-ghost use Rattle.kahn_pool.specs.Right.{IsRight};
-ghost use Rattle.kahn_pool.specs.declared.answer.Answer.{Answer};
-ghost use Rattle.kahn_pool.specs.declared.answer.Verdict.TheVariants.{Memory};
+ghost use Rattle.kahn_streams.specs.Network.{Network};
+ghost use Rattle.kahn_streams.specs.Answers.{IsRight};
+ghost use Rattle.kahn_streams.specs.declared.answer.Answer.{Answer};
+ghost use Rattle.kahn_streams.specs.declared.answer.Verdict.TheVariants.{Memory};
 ghost use Rattle.kahn_streams.specs.Solution.{Inputs};
 ghost use Rattle.kahn_explain.specs.Back.{ReportsAreReadBack};
 ghost use Rattle.kahn_explain.specs.Why.{StayForGood};

@@ -9,7 +9,7 @@ use kahn_fault::{check_span, check_words};
 use kahn_hints::check_note;
 use kahn_marks::add;
 use kahn_notes::held_remark;
-use kahn_tree::{NoMemory, Program, Span};
+use kahn_streams::{NoMemory, Program, Span};
 use std::alloc::{AllocError, Global};
 
 /// The most faults on which there is a note.

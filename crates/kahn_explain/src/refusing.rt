@@ -11,8 +11,8 @@ use kahn_check::{CheckFault, every, part_by_part};
 use kahn_fault::{check_span, syntax_span, syntax_words};
 use kahn_notes::{character_help, commented_note, unexpected_note};
 use kahn_report::WorkFault;
+use kahn_streams::{NoMemory, Span};
 use kahn_syntax::{SyntaxFault, What, parse};
-use kahn_tree::{NoMemory, Span};
 use kahn_wanted::comments_of;
 use std::alloc::{AllocError, Global};
 

@@ -6,7 +6,7 @@ use crate::explaining::Came;
 use kahn_inputs::input_note;
 use kahn_pool::RunFault;
 use kahn_report::{TextFault, WorkFault, checked, write_line};
-use kahn_tree::NoMemory;
+use kahn_streams::NoMemory;
 use std::alloc::Global;
 use std::io::Write;
 

@@ -2,28 +2,15 @@
 use Rattle.std.proofs.Common.{◌≡◌, ℕ, ◌+◌, List, [], ◌∷◌, ◌++◌, length, inl, inr, sym, subst, arith, map, bytes_eq, Bool, true, false, Option, None, Some, suc}
 use Rattle.std.specs.Prelude.{⊤, Err, IfSome, nat_lt, nat_eq}
 use Rattle.std.specs.Map.{lookup}
-use Rattle.kahn_tree.specs.declared.span.Span.{Span}
-use Rattle.kahn_tree.specs.declared.tree.Name.{Name}
-use Rattle.kahn_tree.specs.declared.tree.Kind.{Kind}
-use Rattle.kahn_tree.specs.declared.tree.Kind.TheVariants.{Integer, Logical}
-use Rattle.kahn_tree.specs.declared.tree.Role.{Role}
-use Rattle.kahn_tree.specs.declared.tree.Role.TheVariants as role
-use Rattle.kahn_tree.specs.declared.tree.Direction.{Direction}
-use Rattle.kahn_tree.specs.declared.tree.Direction.TheVariants.{In, Out}
-use Rattle.kahn_tree.specs.declared.tree.Taking.{Taking}
-use Rattle.kahn_tree.specs.declared.tree.Taking.TheVariants as T
-use Rattle.kahn_tree.specs.declared.tree.Parameter.{Parameter}
-use Rattle.kahn_tree.specs.declared.tree.Variable.{Variable as OneVariable}
-use Rattle.kahn_tree.specs.declared.tree.Process.{Process}
-use Rattle.kahn_tree.specs.declared.tree.Declaration.{Declaration}
-use Rattle.kahn_tree.specs.declared.tree.Declaration.TheVariants as D
-use Rattle.kahn_tree.specs.declared.tree.Argument.{Argument}
-use Rattle.kahn_tree.specs.declared.tree.Argument.TheVariants as A
-use Rattle.kahn_tree.specs.declared.tree.Instance.{Instance}
-use Rattle.kahn_tree.specs.declared.tree.Program.{Program}
-use Rattle.kahn_tree.specs.View.{bytes_of}
-use Rattle.kahn_network.specs.declared.sides.Side.{Side}
-use Rattle.kahn_network.specs.Wiring.{Global, IsChannel, IsProcess, Handover, locals_of, scope_of, entries, declared_channels, global, handed, handed_by, ends, writers, readers, side_at, is_closed}
+use Rattle.kahn_streams.specs.Types.{Span, Name, Kind, Role, Direction, Taking, Parameter, OneVariable, Process, Declaration, Argument, Instance, Program, Side}
+use Rattle.kahn_streams.specs.declared.tree.Kind.TheVariants.{Integer, Logical}
+use Rattle.kahn_streams.specs.declared.tree.Role.TheVariants as role
+use Rattle.kahn_streams.specs.declared.tree.Direction.TheVariants.{In, Out}
+use Rattle.kahn_streams.specs.declared.tree.Taking.TheVariants as T
+use Rattle.kahn_streams.specs.declared.tree.Declaration.TheVariants as D
+use Rattle.kahn_streams.specs.declared.tree.Argument.TheVariants as A
+use Rattle.kahn_streams.specs.View.{bytes_of}
+use Rattle.kahn_streams.specs.Wiring.{Global, IsChannel, IsProcess, Handover, locals_of, scope_of, entries, declared_channels, global, handed, handed_by, ends, writers, readers, side_at, is_closed}
 use Rattle.kahn_syntax.specs.declared.lexeme.Lexeme.{Lexeme}
 use Rattle.kahn_syntax.specs.Lexemes.{IsLexFault, IsLongest, Terminal}
 use Rattle.kahn_syntax.specs.declared.fault.SyntaxFault.{SyntaxFault}
@@ -37,9 +24,7 @@ use Rattle.kahn_syntax.specs.Spans.{NamesSpan, GroupsSpan, TogethersSpan, parame
 use Rattle.kahn_syntax.specs.Programs.{Further, Grouped, group, all_members}
 use Rattle.kahn_check.specs.declared.fault.CheckFault.{CheckFault}
 use Rattle.kahn_check.specs.declared.fault.CheckFault.TheVariants as checked
-use Rattle.kahn_check.specs.Faults.{wrong}
-use Rattle.kahn_check.specs.Order.{too_many, repeated, twice, process_faults, channel_faults, declaration_faults, overtaken, misplaced, argument_faults, arguments_faults, miscounted, made_faults, instance_faults, missing, side_faults, sides_faults, faults, most_channels, most_instances}
-use Rattle.kahn_check.specs.Faults.{verdict}
+use Rattle.kahn_check.specs.Faults.{wrong, too_many, repeated, twice, process_faults, channel_faults, declaration_faults, overtaken, misplaced, argument_faults, arguments_faults, miscounted, made_faults, instance_faults, missing, side_faults, sides_faults, faults, most_channels, most_instances, verdict}
 use Rattle.kahn_report.specs.declared.working.WorkFault.{WorkFault}
 use Rattle.kahn_report.specs.declared.working.WorkFault.TheVariants as work
 use Rattle.kahn_report.specs.Work.{IsUnchecked}

@@ -4,24 +4,15 @@
 use Rattle.std.specs.Prelude.{◌≡◌, ℕ, ◌+◌, List, [], ◌∷◌, ◌++◌, length, codes, decimal, Bool, true, false, Option, None, Some, slice_get}
 use Rattle.std.specs.Fmt.{signed_decimal}
 use Rattle.std.specs.List.{concat}
-use Rattle.kahn_tree.specs.declared.tree.Kind.{Kind}
-use Rattle.kahn_tree.specs.declared.tree.Kind.TheVariants as K
-use Rattle.kahn_tree.specs.declared.tree.Role.{Role}
-use Rattle.kahn_tree.specs.declared.tree.Role.TheVariants.{Inner, Input, Output}
-use Rattle.kahn_tree.specs.declared.tree.Argument.{Argument}
-use Rattle.kahn_tree.specs.declared.tree.Argument.TheVariants as A
-use Rattle.kahn_tree.specs.declared.tree.Instance.{Instance}
-use Rattle.kahn_tree.specs.declared.tree.Name.{Name}
-use Rattle.kahn_tree.specs.declared.tree.Parameter.{Parameter}
-use Rattle.kahn_tree.specs.declared.tree.Process.{Process}
-use Rattle.kahn_tree.specs.declared.tree.Program.{Program}
-use Rattle.kahn_tree.specs.Place.{line_of, column_of}
-use Rattle.kahn_tree.specs.Prints.{process_prints}
-use Rattle.kahn_tree.specs.View.{bytes_of}
-use Rattle.kahn_network.specs.declared.sides.Side.{Side}
-use Rattle.kahn_network.specs.Made.{IsMadeOf}
-use Rattle.kahn_network.specs.Network.{network_of, kind_at, role_at}
-use Rattle.kahn_network.specs.Sides.{IsOnly, IsWriter, IsReader, channel_names}
+use Rattle.kahn_streams.specs.Types.{Kind, Role, Argument, Instance, Name, Parameter, Process, Program, Side}
+use Rattle.kahn_streams.specs.declared.tree.Kind.TheVariants as K
+use Rattle.kahn_streams.specs.declared.tree.Role.TheVariants.{Inner, Input, Output}
+use Rattle.kahn_streams.specs.declared.tree.Argument.TheVariants as A
+use Rattle.kahn_streams.specs.Place.{line_of, column_of}
+use Rattle.kahn_streams.specs.Prints.{process_prints}
+use Rattle.kahn_streams.specs.View.{bytes_of}
+use Rattle.kahn_streams.specs.Made.{IsMadeOf}
+use Rattle.kahn_streams.specs.Network.{network_of, kind_at, role_at, IsOnly, IsWriter, IsReader, channel_names}
 use Rattle.kahn_chain.specs.declared.standing.Standing.{Standing}
 use Rattle.kahn_chain.specs.declared.standing.Standing.TheVariants as Stands
 use Rattle.kahn_graph.specs.Report.{ended_text, carried_text}

@@ -1,7 +1,7 @@
 //! The edges of a picture.
 
 ghost use Rattle.std.specs.Prelude.{◌≡◌, ◌<◌, ◌++◌, Option, IfOk, length, string_bytes};
-ghost use Rattle.kahn_network.specs.Network.{network_of};
+ghost use Rattle.kahn_streams.specs.Network.{network_of};
 ghost use Rattle.kahn_graph.specs.Graph.{place_text, mark_text, style_text, awaited_text, edge_text, IsEdge, AreEdges};
 ghost use Rattle.kahn_graph.specs.inner.Adding.{Adds, IsKnown, said};
 
@@ -11,8 +11,7 @@ use crate::report::add_carried;
 use crate::stands::is_ring_channel;
 use itoa::Buffer;
 use kahn_chain::Standing;
-use kahn_network::{Channel, Network, Side};
-use kahn_tree::{Kind, Role};
+use kahn_streams::{Channel, Kind, Network, Role, Side};
 use std::alloc::AllocError;
 
 // Adds where an edge of a channel begins or ends.

@@ -1,7 +1,7 @@
 //! The nodes of a picture.
 
 ghost use Rattle.std.specs.Prelude.{◌≡◌, ◌<◌, ◌++◌, IfOk, codes, length, string_bytes};
-ghost use Rattle.kahn_network.specs.Network.{network_of};
+ghost use Rattle.kahn_streams.specs.Network.{network_of};
 ghost use Rattle.kahn_graph.specs.Graph.{named_text, values_text, node_text, IsNode, AreNodes, border_text, colour_text, ring_text, truth_text};
 ghost use Rattle.kahn_graph.specs.inner.Adding.{Adds, AddsValue, IsKnown, said};
 
@@ -11,8 +11,7 @@ use crate::stands::{is_ring_instance, standing};
 use crate::tips::add_tip;
 use itoa::Buffer;
 use kahn_chain::Standing;
-use kahn_network::Network;
-use kahn_tree::{Argument, Parameter, Process, process_prints};
+use kahn_streams::{Argument, Network, Parameter, Process, process_prints};
 use std::alloc::AllocError;
 
 // A logical value as it is written.

@@ -11,7 +11,7 @@ use crate::pieces::add;
 use crate::report::lines;
 use crate::stands::standings;
 use kahn_chain::{Standing, rings};
-use kahn_network::Network;
+use kahn_streams::Network;
 use std::alloc::{AllocError, Global};
 
 // The picture of a network, with what the lines of a report say of it, and which instances are on rings.

@@ -1,13 +1,12 @@
 //! The names at the ends of the edges of a picture.
 
 ghost use Rattle.std.specs.Prelude.{IfOk, IfSome, string_bytes};
-ghost use Rattle.kahn_network.specs.Network.{network_of};
-ghost use Rattle.kahn_network.specs.Sides.{IsWithin};
+ghost use Rattle.kahn_streams.specs.Network.{network_of, IsWithin};
 ghost use Rattle.kahn_graph.specs.Graph.{IsPort, IsPortText};
 ghost use Rattle.kahn_graph.specs.inner.Adding.{Adds};
 
 use crate::pieces::add;
-use kahn_network::{Network, Side};
+use kahn_streams::{Network, Side};
 use std::alloc::AllocError;
 
 // The name of the parameter at a side.

@@ -1,16 +1,14 @@
 //! How the instances stand by a run's report.
 
 ghost use Rattle.std.specs.Prelude.{◌≡◌, ◌<◌, IfOk, length, map};
-ghost use Rattle.kahn_network.specs.Network.{network_of};
-ghost use Rattle.kahn_network.specs.Sides.{channel_names};
+ghost use Rattle.kahn_streams.specs.Network.{network_of, channel_names};
 ghost use Rattle.kahn_chain.specs.Chain.{AreRings, IsRingMark};
 ghost use Rattle.kahn_graph.specs.Stands.{begins_with, told_wait, worded_standing, told_standing, standings_from, told_standings, IsWaitMark};
 ghost use Rattle.kahn_graph.specs.inner.Adding.{is_wait as is_wait_on, said, IsKnown, IsWaitAt};
 
 use crate::report::{ending, without};
 use kahn_chain::Standing;
-use kahn_network::Network;
-use kahn_tree::Instance;
+use kahn_streams::{Instance, Network};
 use std::alloc::{AllocError, Global};
 
 // Whether words begin with these pieces.

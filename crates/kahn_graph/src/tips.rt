@@ -1,15 +1,14 @@
 //! Where the instances of a picture stand in the program text.
 
 ghost use Rattle.std.specs.Prelude.{◌≡◌, ◌<◌, ◌++◌, IfOk, length, string_bytes};
-ghost use Rattle.kahn_network.specs.Network.{network_of};
-ghost use Rattle.kahn_tree.specs.Place.{line_of, column_of};
+ghost use Rattle.kahn_streams.specs.Network.{network_of};
+ghost use Rattle.kahn_streams.specs.Place.{line_of, column_of};
 ghost use Rattle.kahn_graph.specs.Graph.{tip_text};
 ghost use Rattle.kahn_graph.specs.inner.Adding.{Adds, IsTip};
 
 use crate::pieces::add;
 use itoa::Buffer;
-use kahn_network::Network;
-use kahn_tree::{Name, Span};
+use kahn_streams::{Name, Network, Span};
 use std::alloc::AllocError;
 
 // The line and the column of a byte of a text, or of its end where the text has no such byte.

@@ -3,23 +3,12 @@ use Rattle.std.specs.Prelude.{ℕ, Bool, ◌&&◌, ◌||◌, List, [], ◌∷◌
 use Rattle.std.specs.List.{find, list_any}
 use Rattle.std.specs.Option.{option_or}
 use Rattle.std.proofs.Common.{bytes_eq}
-use Rattle.kahn_tree.specs.View.{bytes_of}
-use Rattle.kahn_tree.specs.declared.span.Span.{Span}
-use Rattle.kahn_tree.specs.declared.tree.Name.{Name}
-use Rattle.kahn_tree.specs.declared.tree.Kind.{Kind}
-use Rattle.kahn_tree.specs.declared.tree.Role.{Role}
-use Rattle.kahn_tree.specs.declared.tree.Declaration.{Declaration}
-use Rattle.kahn_tree.specs.declared.tree.Declaration.TheVariants as D
-use Rattle.kahn_tree.specs.declared.tree.Direction.{Direction}
-use Rattle.kahn_tree.specs.declared.tree.Taking.{Taking}
-use Rattle.kahn_tree.specs.declared.tree.Taking.TheVariants as T
-use Rattle.kahn_tree.specs.declared.tree.Parameter.{Parameter}
-use Rattle.kahn_tree.specs.declared.tree.Process.{Process}
-use Rattle.kahn_tree.specs.declared.tree.Argument.{Argument}
-use Rattle.kahn_tree.specs.declared.tree.Argument.TheVariants as A
-use Rattle.kahn_tree.specs.declared.tree.Instance.{Instance}
-use Rattle.kahn_tree.specs.declared.tree.Program.{Program}
-use Rattle.kahn_network.specs.Wiring.{processes_of, same_direction}
+use Rattle.kahn_streams.specs.View.{bytes_of}
+use Rattle.kahn_streams.specs.Types.{Span, Name, Kind, Role, Declaration, Direction, Taking, Parameter, Process, Argument, Instance, Program}
+use Rattle.kahn_streams.specs.declared.tree.Declaration.TheVariants as D
+use Rattle.kahn_streams.specs.declared.tree.Taking.TheVariants as T
+use Rattle.kahn_streams.specs.declared.tree.Argument.TheVariants as A
+use Rattle.kahn_streams.specs.Wiring.{processes_of, same_direction}
 use Rattle.kahn_hints.specs.declared.names.Sort.{Sort}
 use Rattle.kahn_hints.specs.Names.{process_names, program_names}
 use Rattle.kahn_hints.specs.Uses.{body_use, same_span}

@@ -14,7 +14,7 @@ use crate::uses::{Use, body_use, instances_use, same_span};
 use itoa::Buffer;
 use kahn_check::CheckFault;
 use kahn_marks::{add, marked, marked_too};
-use kahn_tree::{Direction, Instance, Kind, NoMemory, Process, Program, Role, Span};
+use kahn_streams::{Direction, Instance, Kind, NoMemory, Process, Program, Role, Span};
 use std::alloc::{AllocError, Global};
 
 /// Why another place is told beside that of a fault.

@@ -5,7 +5,7 @@ ghost use Rattle.kahn_hints.specs.Inputs.{input_names, inputs_in, inputs_lead, i
 
 use crate::near::nearest;
 use crate::sight::{add_meant, add_names};
-use kahn_tree::{Declaration, Name, Program, Role};
+use kahn_streams::{Declaration, Name, Program, Role};
 use std::alloc::{AllocError, Global};
 
 /// Adds names of channels of a role, where that is an input.

@@ -2,12 +2,11 @@
 
 ghost use Rattle.std.specs.Prelude.{◌≡◌};
 ghost use Rattle.std.proofs.Common.{bytes_eq};
-ghost use Rattle.kahn_tree.specs.View.{bytes_of};
-ghost use Rattle.kahn_network.specs.Kinds.{gives};
-ghost use Rattle.kahn_network.specs.Wiring.{scope_of};
+ghost use Rattle.kahn_streams.specs.View.{bytes_of};
+ghost use Rattle.kahn_streams.specs.Wiring.{gives, scope_of};
 ghost use Rattle.kahn_check.specs.Faults.{find, kind_in, kind_of};
 
-use kahn_tree::{Expression, Form, Kind, Name, Operator, Process, Taking};
+use kahn_streams::{Expression, Form, Kind, Name, Operator, Process, Taking};
 
 /// Whether two words have the same letters.
 pub(crate) fn same_bytes(first: &[u8], second: &[u8]) -> bool

@@ -3,7 +3,7 @@
 ghost use Rattle.std.specs.Prelude.{◌≡◌, ◌++◌, ◌==◌, IfOk, map};
 ghost use Rattle.kahn_hints.specs.Names.{globals_of, is_sort, kept, kept_parameter, kept_variable, program_names, process_names, taking_sort};
 
-use kahn_tree::{Declaration, Direction, Name, Parameter, Process, Program, Taking, Variable};
+use kahn_streams::{Declaration, Direction, Name, Parameter, Process, Program, Taking, Variable};
 use std::alloc::{AllocError, Global};
 
 /// What a name stands for.

@@ -2,13 +2,13 @@
 
 ghost use Rattle.std.specs.Prelude.{◌≡◌, IfOk, map, option_map};
 ghost use Rattle.std.specs.List.{find, list_any};
-ghost use Rattle.kahn_network.specs.Wiring.{processes_of, same_direction};
+ghost use Rattle.kahn_streams.specs.Wiring.{processes_of, same_direction};
 ghost use Rattle.kahn_hints.specs.Places.{called_first, channel_kind, declares, is_called, names_seen, passed, passed_by, passed_if, passed_in, process_called, process_declaring, process_using, has_use, role_called, word_at};
 
 use crate::kinds::same_bytes;
 use crate::names::{Sort, process_names, program_names};
 use crate::uses::{body_use, same_span};
-use kahn_tree::{
+use kahn_streams::{
     Argument, Declaration, Direction, Instance, Kind, Name, Parameter, Process, Program, Role,
     Span, Taking,
 };

@@ -3,11 +3,9 @@ use Rattle.std.proofs.Common.{◌≡◌, inl, inr, ◌⊎◌, ℕ, zero, suc, �
 use Rattle.std.specs.Prelude.{MatchOption}
 use Rattle.std.specs.declared.alloc.Global.{Global}
 use Rattle.std.specs.declared.string.String.{String}
-use Rattle.kahn_tree.specs.declared.tree.Program.{Program}
-use Rattle.kahn_streams.specs.Entries.{Entry, FailsFirst, asked_of_entry}
-use Rattle.kahn_streams.specs.declared.entries.InputFault.{InputFault}
-use Rattle.kahn_report.specs.Entries.{AreBlanks, AreEntries, HasHead, HasNoHead, HasNoValues, IsEntry, IsGood, content, text_lines}
-use Rattle.kahn_report.specs.Inputs.{IsInputTextFault}
+use Rattle.kahn_streams.specs.Types.{Program, InputFault}
+use Rattle.kahn_streams.specs.Inputs.{Entry, FailsFirst, asked_of_entry}
+use Rattle.kahn_report.specs.Inputs.{AreBlanks, AreEntries, HasHead, HasNoHead, HasNoValues, IsEntry, IsGood, content, text_lines, IsInputTextFault}
 use Rattle.kahn_report.specs.declared.input.TextFault.{TextFault}
 use Rattle.kahn_report.specs.declared.input.TextFault.TheVariants.{BadLine, BadValue, Input, TooLong, NoMemory}
 use Rattle.kahn_report.proofs.Same_inputs.{one_list}

@@ -1,8 +1,8 @@
 -- The lines before the one that is looked for, one after another.
 use Rattle.std.proofs.Common.{◌≡◌, inl, inr, ℕ, ◌+◌, ◌≤◌, List, [], ◌∷◌, ◌++◌, length, take, arith, subst, sym}
 use Rattle.std.proofs.lemmas.List.{length_push}
-use Rattle.kahn_streams.specs.Entries.{Entry}
-use Rattle.kahn_report.specs.Entries.{AreBlanks, AreEntries, IsEntry, content}
+use Rattle.kahn_streams.specs.Inputs.{Entry}
+use Rattle.kahn_report.specs.Inputs.{AreBlanks, AreEntries, IsEntry, content}
 use Rattle.kahn_inputs.specs.Seeking.{IsNotSought, IsSort, entries_in}
 use Rattle.kahn_inputs.specs.declared.seeking.Sort.{Sort}
 use Rattle.kahn_inputs.specs.declared.seeking.Sort.TheVariants.{Blank, NoHead, NoValues}

@@ -11,10 +11,8 @@ use crate::seeking::{Found, Sort, find_line, first_named};
 use crate::strange::strange_words;
 use kahn_hints::{add_inputs, add_unknown_input};
 use kahn_marks::{marked, marked_too};
-use kahn_network::Network;
 use kahn_report::TextFault;
-use kahn_streams::{InputFault, channel_named};
-use kahn_tree::{Kind, NoMemory, Span};
+use kahn_streams::{InputFault, Kind, Network, NoMemory, Span, channel_named};
 use std::alloc::{AllocError, Global};
 use std::str;
 

@@ -7,9 +7,9 @@ use denote.Param.Send.{IsSend, IsSync, sendable, struct_send, recorded_send, vie
 use Rattle.std.proofs.Crossing as std
 use Rattle.std.specs.contracts.alloc.Global as Heap
 use Rattle.std.specs.contracts.impls.GlobalAllocator.TheImpl.{ghosts}
-use Rattle.kahn_tree.proofs.tree.Action.TheLaws.TheKnot as actions
-use Rattle.kahn_tree.proofs.tree.Form.TheLaws.TheKnot as forms
-use Rattle.kahn_network.specs.contracts.network.Network as Network
+use Rattle.kahn_streams.proofs.tree.Action.TheLaws.TheKnot as actions
+use Rattle.kahn_streams.proofs.tree.Form.TheLaws.TheKnot as forms
+use Rattle.kahn_streams.specs.contracts.network.Network as Network
 use Rattle.kahn_streams.specs.contracts.input.Input as Input
 use Rattle.kahn_streams.proofs.input.Input.TheSendSync as input
 use Rattle.kahn_code.specs.contracts.cell.Cell as Cell

@@ -1,10 +1,10 @@
 -- Ends of parameters that come and go.
 use Rattle.std.proofs.Common.{◌≡◌, ◌⊎◌, inl, inr, ℕ, ◌<◌, List, refl, sym, ap, ◌∙◌, subst, Some}
 use Rattle.std.proofs.lemmas.Option.{same_Some}
-use Rattle.kahn_network.specs.declared.sides.Side.{Side}
-use Rattle.kahn_network.specs.Wiring.{side_at}
-use Rattle.kahn_network.proofs.Sourced.{reads, writes}
-use Rattle.kahn_streams.specs.Tokens.{Lists}
+use Rattle.kahn_streams.specs.Types.{Side}
+use Rattle.kahn_streams.specs.Wiring.{side_at}
+use Rattle.kahn_streams.proofs.Sourced.{reads, writes}
+use Rattle.kahn_streams.specs.Inputs.{Lists}
 use Rattle.kahn_lane.specs.declared.name.LaneName.{LaneName}
 use Rattle.kahn_lane.specs.Places.{moved_to}
 use Rattle.kahn_job.specs.inner.Ends.{End, ShareLane}

@@ -1,7 +1,7 @@
 -- What is ready at the end of an input channel is a value of its list.
 use Rattle.std.proofs.Common.{arith, ◌≡◌, ℕ, length, ap, ◌∙◌, Some, None}
 use Rattle.kahn_streams.specs.declared.value.Line.TheVariants.{Channel}
-use Rattle.kahn_streams.specs.Tokens.{inputs_of}
+use Rattle.kahn_streams.specs.Inputs.{inputs_of}
 use Rattle.kahn_lane.specs.declared.name.LaneName.{LaneName}
 use Rattle.kahn_lane.specs.Places.{lane_name}
 use Rattle.kahn_job.specs.inner.Ends.{Lane}

@@ -4,17 +4,14 @@ use Rattle.std.proofs.lemmas.Bool.{cases_eq}
 pub use Rattle.std.proofs.lemmas.List.{replicate_more}
 use Rattle.std.proofs.lemmas.List.{length-set, get_or-set_same, get_or-set_other}
 use Rattle.std.proofs.lemmas.Option.{none-some, same_Some}
-use Rattle.kahn_tree.specs.declared.tree.Program.{Program}
-use Rattle.kahn_tree.specs.declared.tree.Role.{Role}
-use Rattle.kahn_tree.specs.declared.tree.Role.TheVariants.{Inner, Input, Output}
-use Rattle.kahn_network.specs.Network.{Network, Actual, Reads, Writes, Hands, network_of, instance_at, actual_at, role_at}
-use Rattle.kahn_network.specs.Sides.{IsWriter, IsReader, IsOnly, IsWithin}
-use Rattle.kahn_network.specs.Wiring.{IsWellWired, side_at}
-use Rattle.kahn_network.specs.inner.Sources.{IsFed}
-use Rattle.kahn_network.specs.declared.sides.Side.{Side}
-use Rattle.kahn_network.proofs.Sourced.{handed_within, reads, writes}
-use Rattle.kahn_streams.specs.Tokens.{Lists}
-use Rattle.kahn_code.specs.Cells.{is_output}
+use Rattle.kahn_streams.specs.Types.{Program, Role, Side}
+use Rattle.kahn_streams.specs.declared.tree.Role.TheVariants.{Inner, Input, Output}
+use Rattle.kahn_streams.specs.Network.{Network, Actual, Reads, Writes, Hands, network_of, instance_at, actual_at, role_at, IsWriter, IsReader, IsOnly, IsWithin}
+use Rattle.kahn_streams.specs.Wiring.{IsWellWired, side_at}
+use Rattle.kahn_streams.specs.inner.Sources.{IsFed}
+use Rattle.kahn_streams.proofs.Sourced.{handed_within, reads, writes}
+use Rattle.kahn_streams.specs.Inputs.{Lists}
+use Rattle.kahn_streams.specs.Answers.{is_output}
 use Rattle.kahn_code.specs.Lines.{Joins}
 use Rattle.kahn_job.specs.inner.Ends.{End, ShareLane}
 use Rattle.kahn_job.specs.inner.Berths.{Serves, end_at}

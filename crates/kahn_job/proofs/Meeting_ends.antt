@@ -1,9 +1,9 @@
 -- The two ends of channels that meet.
 use Rattle.std.proofs.Common.{arith, ℕ, List, refl, ◌∙◌}
-use Rattle.kahn_tree.specs.declared.tree.Program.{Program}
-use Rattle.kahn_network.specs.Network.{Network, Actual, Reads, Writes, Hands, network_of, instance_at, actual_at}
-use Rattle.kahn_network.proofs.Sourced.{reads, writes}
-use Rattle.kahn_streams.specs.Tokens.{Lists}
+use Rattle.kahn_streams.specs.Types.{Program}
+use Rattle.kahn_streams.specs.Network.{Network, Actual, Reads, Writes, Hands, network_of, instance_at, actual_at}
+use Rattle.kahn_streams.proofs.Sourced.{reads, writes}
+use Rattle.kahn_streams.specs.Inputs.{Lists}
 use Rattle.kahn_job.specs.inner.Ends.{End}
 use Rattle.kahn_job.specs.inner.Berths.{HasStayed}
 use Rattle.kahn_job.specs.inner.Lanes.{AreBehindOn, HaveStayed, end_in}

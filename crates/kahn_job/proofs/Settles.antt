@@ -1,19 +1,16 @@
 -- The ends of channels go on with an input that has grown, channel by channel.
 use Rattle.std.proofs.Common.{arith, ◌≡◌, ◌⊎◌, inl, inr, ⊎_elim, ℕ, ◌+◌, ◌<◌, ◌≤◌, Bool, true, false, List, length, refl, sym, ap, ◌∙◌, subst, None, Some, Result, Ok, Err, MatchResult}
 use Rattle.std.proofs.lemmas.Bool.{cases_eq}
-use Rattle.kahn_tree.specs.declared.tree.Program.{Program}
-use Rattle.kahn_tree.specs.declared.tree.Role.{Role}
-use Rattle.kahn_tree.specs.declared.tree.Role.TheVariants.{Inner, Input, Output}
-use Rattle.kahn_network.specs.declared.sides.Side.{Side}
-use Rattle.kahn_network.specs.Network.{Network, Actual, Reads, Writes, Hands, network_of, instance_at, actual_at, role_at}
-use Rattle.kahn_network.specs.Sides.{IsWriter, IsReader, IsOnly, IsServed}
-use Rattle.kahn_network.specs.inner.Sources.{IsFed}
-use Rattle.kahn_network.specs.Wiring.{IsWellWired, side_at}
-use Rattle.kahn_network.proofs.Sided.{channel_served}
-use Rattle.kahn_network.proofs.Sourced.{handed_within, reads, writes}
-use Rattle.kahn_streams.specs.Tokens.{Lists, inputs_of}
+use Rattle.kahn_streams.specs.Types.{Program, Role, Side}
+use Rattle.kahn_streams.specs.declared.tree.Role.TheVariants.{Inner, Input, Output}
+use Rattle.kahn_streams.specs.Network.{Network, Actual, Reads, Writes, Hands, network_of, instance_at, actual_at, role_at, IsWriter, IsReader, IsOnly, IsServed}
+use Rattle.kahn_streams.specs.inner.Sources.{IsFed}
+use Rattle.kahn_streams.specs.Wiring.{IsWellWired, side_at}
+use Rattle.kahn_streams.proofs.Sided.{channel_served}
+use Rattle.kahn_streams.proofs.Sourced.{handed_within, reads, writes}
+use Rattle.kahn_streams.specs.Inputs.{Lists, inputs_of}
 use Rattle.kahn_streams.proofs.Proved.{prefix_refl}
-use Rattle.kahn_code.specs.Cells.{is_output}
+use Rattle.kahn_streams.specs.Answers.{is_output}
 use Rattle.kahn_code.specs.Lines.{Joins}
 use Rattle.kahn_lane.specs.Places.{lane_name}
 use Rattle.kahn_job.specs.inner.Ends.{End, MayMeet, ShareLane}

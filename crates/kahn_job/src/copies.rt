@@ -1,7 +1,7 @@
 //! Copies of what a cell kept.
 
 ghost use Rattle.std.specs.Prelude.{◌≡◌, length, map, IfOk};
-ghost use Rattle.kahn_network.specs.Network.{network_of, instance_at};
+ghost use Rattle.kahn_streams.specs.Network.{network_of, instance_at};
 
 use kahn_code::{Cell, Kept};
 use kahn_streams::{Carried, NoMemory};

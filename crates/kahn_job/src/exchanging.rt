@@ -8,7 +8,7 @@ ghost use Rattle.kahn_job.specs.inner.Ways.{no_end};
 
 use crate::idle::Idle;
 use crate::port::Port;
-use kahn_network::Side;
+use kahn_streams::Side;
 
 /// Gives a parameter another end, and gives out the one it had.
 pub(crate) fn exchange(idles: &mut [Idle], side: Side, port: Port) -> Port

@@ -1,13 +1,12 @@
 //! The values of an input channel, taken as tokens one by one.
 
 ghost use Rattle.std.specs.Prelude.{◌≡◌, ◌<◌, ◌≤◌, ◌+◌, ◌^◌, length, IfSome, IfNone, IsTrue, ◌↔◌};
-ghost use Rattle.kahn_network.specs.Network.{network_of, role_at};
+ghost use Rattle.kahn_streams.specs.Network.{network_of, role_at};
 ghost use Rattle.kahn_lane.specs.Places.{lane_name, token_name};
-ghost use Rattle.kahn_streams.specs.Tokens.{Lists, Names, inputs_of};
-ghost use Rattle.kahn_tree.specs.declared.tree.Role.TheVariants.{Input as InputRole};
+ghost use Rattle.kahn_streams.specs.Inputs.{Lists, inputs_of, Names};
+ghost use Rattle.kahn_streams.specs.declared.tree.Role.TheVariants.{Input as InputRole};
 
-use kahn_network::Network;
-use kahn_streams::{About, Input, Token};
+use kahn_streams::{About, Input, Network, Token};
 use std::marker::Model;
 
 /// An input channel, and the place of the token that is taken next. Of which network it is and for which input, contracts
@@ -21,12 +20,12 @@ pub(crate) struct Feed {
 }
 
 impl Model for Feed {
-    ghost use Rattle.kahn_tree.specs.contracts.tree.Action as action;
-    ghost use Rattle.kahn_tree.specs.contracts.tree.Form as form;
-    ghost use Rattle.kahn_tree.specs.declared.tree.Role.TheVariants.{Input};
+    ghost use Rattle.kahn_streams.specs.contracts.tree.Action as action;
+    ghost use Rattle.kahn_streams.specs.contracts.tree.Form as form;
+    ghost use Rattle.kahn_streams.specs.declared.tree.Role.TheVariants.{Input};
     ghost use Rattle.std.specs.Coded.{codes};
     ghost use Rattle.std.specs.Prelude.{◌≡◌, ◌<◌, length};
-    ghost use Rattle.kahn_network.specs.Network.{network_of, role_at};
+    ghost use Rattle.kahn_streams.specs.Network.{network_of, role_at};
     ghost use Rattle.kahn_job.specs.inner.Feeding.{Feeding};
 
     ghost Value = { Feeding };

@@ -1,8 +1,8 @@
 //! The ends of all channels come to the parameters that they are handed to.
 
 ghost use Rattle.std.specs.Prelude.{◌≡◌, ◌+◌, ◌<◌, length, Some, IfOk, OnOk};
-ghost use Rattle.kahn_network.specs.Network.{network_of};
-ghost use Rattle.kahn_network.specs.declared.sides.Side.{Side as SideOf};
+ghost use Rattle.kahn_streams.specs.Network.{network_of};
+ghost use Rattle.kahn_streams.specs.Types.{Side as SideOf};
 ghost use Rattle.kahn_job.specs.inner.Idles.{cells_of, rows_of};
 ghost use Rattle.kahn_job.specs.inner.Lanes.{HasPlace};
 ghost use Rattle.kahn_job.specs.inner.Openings.{AreEndsOf, AreHanded, placed};
@@ -11,9 +11,7 @@ use crate::exchanging::exchange;
 use crate::idle::Idle;
 use crate::port::Port;
 use kahn_lane::lane;
-use kahn_network::{Network, Side};
-use kahn_streams::{Input, NoMemory};
-use kahn_tree::Role;
+use kahn_streams::{Input, Network, NoMemory, Role, Side};
 use std::alloc::Global;
 
 // Puts an end where it belongs.

@@ -10,8 +10,7 @@ use crate::job::Job;
 use crate::port::Port;
 use crate::ports::Ends;
 use kahn_code::{Cell, Kept};
-use kahn_network::Network;
-use kahn_streams::{Carried, Input, NoMemory};
+use kahn_streams::{Carried, Input, Network, NoMemory};
 use std::alloc::Global;
 use std::marker::Model;
 use std::mem;
@@ -27,8 +26,8 @@ pub struct Idle {
 }
 
 impl Model for Idle {
-    ghost use Rattle.kahn_tree.specs.contracts.tree.Action as action;
-    ghost use Rattle.kahn_tree.specs.contracts.tree.Form as form;
+    ghost use Rattle.kahn_streams.specs.contracts.tree.Action as action;
+    ghost use Rattle.kahn_streams.specs.contracts.tree.Form as form;
     ghost use Rattle.std.specs.Coded.{codes};
     ghost use Rattle.std.specs.Prelude.{◌≡◌, length};
     ghost use Rattle.kahn_job.specs.inner.Works.{Work, width_of};

@@ -1,7 +1,7 @@
 //! A job: one process of a network on its way, with the ends of its channels.
 
 ghost use Rattle.std.specs.Prelude.{◌≡◌, ◌+◌, ◌*◌, ◌^◌, ◌<◌, ◌≤◌, length, slice_index_or, OnOk};
-ghost use Rattle.kahn_network.specs.Network.{network_of, instance_at};
+ghost use Rattle.kahn_streams.specs.Network.{network_of, instance_at};
 ghost use Rattle.kahn_code.specs.Flat.{stmt_code};
 ghost use Rattle.kahn_code.specs.Told.{AreCounts, IsStill};
 ghost use Rattle.kahn_code.specs.inner.Tapped.{IsSameProcess};
@@ -24,8 +24,8 @@ pub struct Job<'n> {
 }
 
 impl<'n> Model for Job<'n> {
-    ghost use Rattle.kahn_tree.specs.contracts.tree.Action as action;
-    ghost use Rattle.kahn_tree.specs.contracts.tree.Form as form;
+    ghost use Rattle.kahn_streams.specs.contracts.tree.Action as action;
+    ghost use Rattle.kahn_streams.specs.contracts.tree.Form as form;
     ghost use Rattle.std.specs.Coded.{codes};
     ghost use Rattle.kahn_job.specs.inner.Works.{Work, IsManned};
 

@@ -1,7 +1,7 @@
 //! The two ends of each channel between processes meet, and tell that no reader took more than was flushed.
 
 ghost use Rattle.std.specs.Prelude.{◌≡◌, ℕ, ◌<◌, length};
-ghost use Rattle.kahn_network.specs.Network.{network_of};
+ghost use Rattle.kahn_streams.specs.Network.{network_of};
 ghost use Rattle.kahn_job.specs.inner.Ends.{IsBehind, MayMeet};
 ghost use Rattle.kahn_job.specs.inner.Idles.{HaveMet, rows_of};
 ghost use Rattle.kahn_job.specs.inner.Lanes.{AreBehindOn, HasPlace, end_of_side};
@@ -9,7 +9,7 @@ ghost use Rattle.kahn_job.specs.inner.Settling.{AreAtRest};
 
 use crate::exchanging::{put_two, take_two};
 use crate::idle::Idle;
-use kahn_network::{Network, Side};
+use kahn_streams::{Network, Side};
 
 // The two ends of a lane meet.
 fn meet_sides(idles: &mut [Idle], writer: Side, reader: Side)

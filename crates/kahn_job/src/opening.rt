@@ -1,16 +1,15 @@
 //! The jobs of a network before their first events.
 
 ghost use Rattle.std.specs.Prelude.{◌≡◌, ◌<◌, length, IfOk};
-ghost use Rattle.kahn_network.specs.Network.{network_of};
-ghost use Rattle.kahn_streams.specs.Tokens.{Lists};
+ghost use Rattle.kahn_streams.specs.Network.{network_of};
+ghost use Rattle.kahn_streams.specs.Inputs.{Lists};
 ghost use Rattle.kahn_job.specs.inner.Openings.{HaveNoEnds, AreOpening, HasNoEnds, IsOpening};
 
 use crate::handing::hand_all;
 use crate::idle::Idle;
 use crate::port::Port;
 use kahn_code::{Cell, Code};
-use kahn_network::Network;
-use kahn_streams::{Input, NoMemory};
+use kahn_streams::{Input, Network, NoMemory};
 use std::alloc::Global;
 
 // The cell of an instance at its opening, for the input that is named.

@@ -1,11 +1,11 @@
 //! The end of a channel that a parameter has.
 
 ghost use Rattle.std.specs.Prelude.{◌≡◌, ◌⊎◌, ℕ, ◌<◌, ◌≤◌, ◌+◌, ◌^◌, true, length, Some, IfSome, IfNone, IfOk, IfErr, IsOk, IsSome, IsTrue, IsFalse, OnOk, OnErr, MatchResult};
-ghost use Rattle.kahn_network.specs.Network.{network_of, role_at};
+ghost use Rattle.kahn_streams.specs.Network.{network_of, role_at};
 ghost use Rattle.kahn_lane.specs.LaneEnds.{SameSender, flushed, left, sender_lane, sender_name, sent};
 ghost use Rattle.kahn_lane.specs.Places.{moved_to, token_name};
 ghost use Rattle.kahn_lane.specs.declared.name.LaneName.{LaneName};
-ghost use Rattle.kahn_tree.specs.declared.tree.Role.TheVariants.{Input as InputRole};
+ghost use Rattle.kahn_streams.specs.declared.tree.Role.TheVariants.{Input as InputRole};
 ghost use Rattle.kahn_job.specs.inner.Ends.{Advances, FlushesFull, HasRoom, IsDry, IsFlushed, IsReady, IsSame, MayMeet, ShareLane};
 ghost use Rattle.kahn_job.specs.inner.Berths.{HasStayed, IsWithinInput, IsFor};
 ghost use Rattle.kahn_job.specs.inner.Settling.{BothSettle, CanFeed, CanSettle, HasSettled};
@@ -13,8 +13,7 @@ ghost use Rattle.kahn_job.specs.inner.Ways.{taking, feeding, putting, no_end};
 
 use crate::feed::Feed;
 use kahn_lane::{Receiver, Sender, meet, settle};
-use kahn_network::Network;
-use kahn_streams::{About, Input, NoMemory, Token};
+use kahn_streams::{About, Input, Network, NoMemory, Token};
 use std::marker::Model;
 
 // What a parameter does. The reader's end of a lane remembers, for contracts alone, how many segments it knew to have left
@@ -35,8 +34,8 @@ pub(crate) struct Port {
 }
 
 impl Model for Port {
-    ghost use Rattle.kahn_tree.specs.contracts.tree.Action as action;
-    ghost use Rattle.kahn_tree.specs.contracts.tree.Form as form;
+    ghost use Rattle.kahn_streams.specs.contracts.tree.Action as action;
+    ghost use Rattle.kahn_streams.specs.contracts.tree.Form as form;
     ghost use Rattle.std.specs.Coded.{codes};
     ghost use Rattle.kahn_job.specs.inner.Ends.{End};
 

@@ -5,8 +5,7 @@ ghost use Rattle.kahn_job.specs.inner.Berths.{AreFlushed, AreServed, HaveFlushed
 
 use crate::port::Port;
 use kahn_code::Ports;
-use kahn_network::Network;
-use kahn_streams::{Input, NoMemory, Token};
+use kahn_streams::{Input, Network, NoMemory, Token};
 use std::marker::Model;
 
 /// The ends of the channels of an instance, one for each parameter. What the instance reads it takes from a lane or from
@@ -20,8 +19,8 @@ pub struct Ends<'n> {
 }
 
 impl<'n> Model for Ends<'n> {
-    ghost use Rattle.kahn_tree.specs.contracts.tree.Action as action;
-    ghost use Rattle.kahn_tree.specs.contracts.tree.Form as form;
+    ghost use Rattle.kahn_streams.specs.contracts.tree.Action as action;
+    ghost use Rattle.kahn_streams.specs.contracts.tree.Form as form;
     ghost use Rattle.std.specs.Coded.{codes};
     ghost use Rattle.kahn_job.specs.inner.Berths.{Berth, AreServed};
 

@@ -1,7 +1,7 @@
 //! The ends of all channels go on with an input that has grown.
 
 ghost use Rattle.std.specs.Prelude.{◌≡◌, ◌<◌, length, OnOk};
-ghost use Rattle.kahn_network.specs.Network.{network_of};
+ghost use Rattle.kahn_streams.specs.Network.{network_of};
 ghost use Rattle.kahn_job.specs.inner.Idles.{HaveSettled, cells_of, rows_of};
 ghost use Rattle.kahn_job.specs.inner.Lanes.{HasPlace, end_of_side};
 ghost use Rattle.kahn_job.specs.inner.Settling.{GoesOrStays, AreResting, AreSettled, CanFeed, CanSettle, HasExchanged, HaveExchanged, HaveStood};
@@ -9,8 +9,7 @@ ghost use Rattle.kahn_job.specs.inner.Settling.{GoesOrStays, AreResting, AreSett
 use crate::exchanging::{exchange, put_two, take_two};
 use crate::idle::Idle;
 use crate::port::Port;
-use kahn_network::{Network, Side};
-use kahn_streams::{Input, NoMemory};
+use kahn_streams::{Input, Network, NoMemory, Side};
 
 // The lane between two parameters goes on with the input.
 fn settle_lane(

@@ -1,8 +1,8 @@
 -- Tokens at consecutive places, and what they are of.
 use Rattle.std.proofs.Common.{◌≡◌, ◌<◌, ℕ, zero, suc, ◌+◌, ◌-◌, List, [], ◌∷◌, ◌++◌, length, slice_index_or, Option, Some, None, arith, ap, sym, ◌∙◌, subst}
-use Rattle.kahn_tree.specs.declared.tree.Program.{Program}
-use Rattle.kahn_streams.specs.Tokens.{Lists}
-use Rattle.kahn_streams.specs.Streams.{IsOf}
+use Rattle.kahn_streams.specs.Types.{Program}
+use Rattle.kahn_streams.specs.Inputs.{Lists}
+use Rattle.kahn_streams.specs.Tokens.{IsOf}
 use Rattle.kahn_streams.specs.declared.token.Token.{Token}
 use Rattle.kahn_streams.specs.declared.value.Line.TheVariants.{Channel}
 use Rattle.kahn_lane.specs.declared.name.LaneName.{LaneName}

@@ -1,11 +1,10 @@
 -- Believed. Tokens at consecutive places, and what a pass of a lane knows.
 use Rattle.std.specs.Prelude.{◌≡◌, ℕ, ◌+◌, Bool, true, false, List, [], ◌∷◌, ⊤, Option, Some, None}
 use Rattle.std.specs.Coded.{Coded-set, coded_ℕ, coded_option, ×_prop, Unit-prop}
-use Rattle.kahn_tree.specs.declared.tree.Program.{Program}
-use Rattle.kahn_streams.specs.Tokens.{Lists}
+use Rattle.kahn_streams.specs.Types.{Program, Line}
+use Rattle.kahn_streams.specs.Inputs.{Lists}
 use Rattle.kahn_streams.specs.declared.value.Line.TheVariants.{Channel}
 use Rattle.kahn_streams.specs.declared.token.Token.{Token}
-use Rattle.kahn_streams.specs.declared.value.Line.{Line}
 use Rattle.kahn_streams.specs.contracts.value.Line as line_type
 use Rattle.kahn_lane.specs.contracts.name.LaneName as lane_name_type
 use Rattle.kahn_lane.specs.contracts.segments.Stage as stage_type

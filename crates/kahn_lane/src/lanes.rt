@@ -17,8 +17,7 @@ use crate::segments::{
     Stolen, Telling,
 };
 use crossbeam_deque::Steal;
-use kahn_network::Network;
-use kahn_streams::{Carried, Input, Line, NoMemory, Token};
+use kahn_streams::{Carried, Input, Line, Network, NoMemory, Token};
 use std::alloc::Allocator;
 use std::mem;
 

@@ -4,10 +4,9 @@
 //! alone: a `LaneName` is never made, and a `Tag` has the bytes of its line and its number alone.
 
 ghost use Rattle.std.specs.Prelude.{◌≡◌, ◌≤◌, ◌^◌};
-ghost use Rattle.kahn_streams.specs.Tokens.{Names};
+ghost use Rattle.kahn_streams.specs.Inputs.{Names};
 
-use kahn_network::Network;
-use kahn_streams::{About, Input, Line};
+use kahn_streams::{About, Input, Line, Network};
 
 /// A network, an input and a line. Contracts alone speak of it: no value of it is made.
 pub struct LaneName {

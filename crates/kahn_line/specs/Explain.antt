@@ -3,7 +3,7 @@ use Rattle.std.specs.Prelude.{◌≡◌, ⊤, ℕ, List, [], Bool, not, ◌==◌
 use Rattle.std.specs.declared.result.Result.TheVariants.{Ok, Err}
 use Rattle.clap.specs.Words.{App, Rule, Text, IsAmong, count_of, fault_of, first_of, kind_of, matches_of, new_rule, one_of, with_rule}
 use Rattle.clap.specs.declared.builder.ArgAction.TheVariants.{Count}
-use Rattle.kahn_config.specs.Limits.{IsInRange}
+use Rattle.kahn_streams.specs.Answers.{IsInRange}
 use Rattle.kahn_line.specs.Line.{bare_app, number_or, number_rule, text_rule}
 use Rattle.kahn_line.specs.declared.line.LineFault.{LineFault}
 use Rattle.kahn_line.specs.declared.line.LineFault.TheVariants.{Refused, NoMemory}

@@ -9,7 +9,7 @@ use crate::line::{
     workers_arg,
 };
 use clap::{Arg, ArgAction, Command};
-use kahn_config::Config;
+use kahn_streams::Config;
 use std::alloc::{AllocError, Global};
 use std::convert::AsStr;
 

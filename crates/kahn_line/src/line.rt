@@ -8,7 +8,7 @@ ghost use Rattle.kahn_line.specs.declared.line.LineFault.TheVariants.{NoMemory};
 use clap::builder::ValueParser;
 use clap::error::ErrorKind;
 use clap::{Arg, ArgMatches, Command};
-use kahn_config::Config;
+use kahn_streams::Config;
 use std::alloc::{AllocError, Global};
 use std::convert::AsStr;
 use thiserror::Error;

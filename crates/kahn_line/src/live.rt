@@ -11,7 +11,7 @@ use crate::line::{
 };
 use crate::parts::{Plain, plain_of, set_lines};
 use clap::{Arg, ArgAction, ArgMatches, Command};
-use kahn_config::Config;
+use kahn_streams::Config;
 use std::alloc::{AllocError, Global};
 use std::convert::AsStr;
 

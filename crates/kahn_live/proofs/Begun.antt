@@ -1,20 +1,18 @@
 -- What went out of each stream begins the history of its line.
 use Rattle.std.proofs.Common.{arith, ◌≡◌, ◌∙◌, ◌⊎◌, inl, inr, ⊎_elim, ℕ, zero, suc, ◌+◌, pos, Bool, true, false, eqb-true, List, [], ◌∷◌, ◌++◌, append-nil, map, Some, if◌then◌else◌, refl, sym, ap, subst, slice_get, slice_index_or}
 use Rattle.std.proofs.lemmas.Option.{same_Some}
-use Rattle.kahn_tree.specs.Syntax.{Number}
-use Rattle.kahn_tree.specs.declared.tree.Role.{Role}
-use Rattle.kahn_tree.specs.declared.tree.Role.TheVariants.{Input, Inner, Output}
-use Rattle.kahn_network.specs.Network.{Network, Instance, Actual, Hands, Reads, Source, Given, Written, Nobody, Writes, actual_at, any_written, channel_source, first_writer, idle, instance_at, is_written, network_of, role_at, source_by}
-use Rattle.kahn_streams.specs.declared.value.Value.{Value}
-use Rattle.kahn_streams.specs.declared.value.Line.{Line}
+use Rattle.kahn_streams.specs.Syntax.{Number}
+use Rattle.kahn_streams.specs.Types.{Role, Value, Line}
+use Rattle.kahn_streams.specs.declared.tree.Role.TheVariants.{Input, Inner, Output}
+use Rattle.kahn_streams.specs.Network.{Network, Instance, Actual, Hands, Reads, Source, Given, Written, Nobody, Writes, actual_at, any_written, channel_source, first_writer, idle, instance_at, is_written, network_of, role_at, source_by}
 use Rattle.kahn_streams.specs.declared.value.Line.TheVariants.{Channel, Print}
 use Rattle.kahn_streams.specs.Solution.{IsPrefix, IsWhole, fed, iterate, out, source}
-use Rattle.kahn_streams.specs.Tokens.{inputs_of}
+use Rattle.kahn_streams.specs.Inputs.{inputs_of}
 use Rattle.kahn_pool.specs.Flows.{flow_lines}
 use Rattle.kahn_pool.specs.HeldRuns.{HeldRun, IsRightSoFar, IsSoFar, given_so_far, so_far, writing}
-use Rattle.kahn_pool.specs.declared.answer.End.{End}
-use Rattle.kahn_pool.specs.declared.answer.Verdict.{Verdict}
-use Rattle.kahn_pool.specs.declared.answer.Verdict.TheVariants.{Finished}
+use Rattle.kahn_streams.specs.declared.answer.End.{End}
+use Rattle.kahn_streams.specs.declared.answer.Verdict.{Verdict}
+use Rattle.kahn_streams.specs.declared.answer.Verdict.TheVariants.{Finished}
 use Rattle.kahn_pool.proofs.Named.{has_line}
 use Rattle.kahn_session.specs.Live.{Live}
 use Rattle.kahn_live.specs.Histories.{HasHistories, IsShown}

@@ -1,6 +1,6 @@
 -- Lines that are fed behind those of the input, and that what went out stays right.
 use Rattle.std.proofs.Common.{◌≡◌, inl, inr, ℕ, zero, suc, Bool, true, false, true≢false, List, [], ◌∷◌, Option, Result, Ok, Err, sym, ap, subst}
-use Rattle.kahn_pool.specs.declared.answer.Verdict.{Verdict}
+use Rattle.kahn_streams.specs.declared.answer.Verdict.{Verdict}
 use Rattle.kahn_fault.specs.declared.fault.Fault.{Fault}
 use Rattle.kahn_session.specs.Live.{IsTakenLine, Live}
 use Rattle.kahn_session.specs.declared.fault.TakeFault.{TakeFault}

@@ -2,7 +2,7 @@
 use Rattle.std.proofs.Common.{◌≡◌, ◌∙◌, inl, inr, ℕ, suc, Bool, true, false, true≢false, List, None, Some, Option, Result, Ok, Err, IfOk, MatchResult, refl, sym, ap, subst}
 use Rattle.std.proofs.KnownBytes.{Keeps-refl}
 use Rattle.std.specs.Io.KnownBytes.{IsAtEnd}
-use Rattle.kahn_pool.specs.declared.answer.Verdict.{Verdict}
+use Rattle.kahn_streams.specs.declared.answer.Verdict.{Verdict}
 use Rattle.kahn_fault.specs.declared.fault.Fault.{Fault}
 use Rattle.kahn_session.specs.Live.{IsTakenLine, Live, breaks}
 use Rattle.kahn_session.specs.declared.fault.TakeFault.{TakeFault}

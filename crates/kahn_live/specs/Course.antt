@@ -1,8 +1,8 @@
 -- Believed. What lines make, one after the other, of a session, of what goes out and of what is told (this project's profile).
 use Rattle.std.specs.Prelude.{◌≡◌, ◌⊎◌, ℕ, zero, suc, ◌-◌, ◌^◌, min, Bool, true, false, not, ◌||◌, List, [], ◌∷◌, map, take, Option, None, Some, option_copied, string_bytes, Result, Ok, Err}
 use Rattle.std.specs.Io.KnownBytes.{Appends, IsAtEnd, Keeps}
-use Rattle.kahn_pool.specs.declared.answer.Verdict.{Verdict}
-use Rattle.kahn_pool.specs.declared.answer.Verdict.TheVariants.{Finished, Bound, Memory}
+use Rattle.kahn_streams.specs.declared.answer.Verdict.{Verdict}
+use Rattle.kahn_streams.specs.declared.answer.Verdict.TheVariants.{Finished, Bound, Memory}
 use Rattle.kahn_pool.specs.declared.config.RunFault.TheVariants.{NoMemory as NoMemoryRun}
 use Rattle.kahn_streams.specs.declared.feeds.FeedFault.TheVariants.{NoMemory as NoMemoryFeed}
 use Rattle.kahn_write.specs.Written.{AppendsFront}

@@ -1,14 +1,14 @@
 -- Believed. That what goes out of a session is right (this project's profile, over the solution of Kahn's paper).
 use Rattle.std.specs.Prelude.{◌≡◌, ℕ, List, [], map, Some, slice_get, slice_index_or}
-use Rattle.kahn_network.specs.Network.{network_of}
-use Rattle.kahn_streams.specs.declared.value.Line.{Line}
+use Rattle.kahn_streams.specs.Network.{network_of}
+use Rattle.kahn_streams.specs.Types.{Line}
 use Rattle.kahn_streams.specs.Solution.{IsPrefix, IsWhole, iterate}
-use Rattle.kahn_streams.specs.Tokens.{inputs_of}
+use Rattle.kahn_streams.specs.Inputs.{inputs_of}
 use Rattle.kahn_pool.specs.Flows.{flow_lines}
 use Rattle.kahn_pool.specs.HeldRuns.{IsRightSoFar, so_far}
-use Rattle.kahn_pool.specs.declared.answer.End.{End}
-use Rattle.kahn_pool.specs.declared.answer.Verdict.{Verdict}
-use Rattle.kahn_pool.specs.declared.answer.Verdict.TheVariants.{Finished}
+use Rattle.kahn_streams.specs.declared.answer.End.{End}
+use Rattle.kahn_streams.specs.declared.answer.Verdict.{Verdict}
+use Rattle.kahn_streams.specs.declared.answer.Verdict.TheVariants.{Finished}
 use Rattle.kahn_session.specs.Live.{Live}
 
 -- the run has a verdict with ends that are right, and all that there is of its streams went out

@@ -2,11 +2,10 @@
 use Rattle.std.specs.Prelude.{◌≡◌, ◌⊎◌, ℕ, Bool, true, false, List, [], map, Option, None, Some, Result, Ok, Err, option_map, option_copied, is_some, string_bytes}
 use Rattle.std.specs.declared.alloc.Global.{Global}
 use Rattle.std.specs.declared.string.String.{String}
-use Rattle.kahn_config.specs.declared.Config.{Config}
-use Rattle.kahn_tree.specs.declared.tree.Program.{Program}
+use Rattle.kahn_streams.specs.Types.{Config, Program}
 use Rattle.kahn_pool.specs.HeldRuns.{HeldRun}
-use Rattle.kahn_pool.specs.declared.answer.Verdict.{Verdict}
-use Rattle.kahn_pool.specs.declared.answer.Verdict.TheVariants.{Finished}
+use Rattle.kahn_streams.specs.declared.answer.Verdict.{Verdict}
+use Rattle.kahn_streams.specs.declared.answer.Verdict.TheVariants.{Finished}
 use Rattle.kahn_pool.specs.declared.config.RunFault.{RunFault}
 use Rattle.kahn_pool.specs.declared.config.RunFault.TheVariants.{UnknownWatch}
 use Rattle.kahn_report.specs.Work.{IsChecked, IsUnchecked}

@@ -12,10 +12,10 @@ use crate::taking::{Fed, wants_memory};
 use crate::telling::Teller;
 use kahn_fault::{Fault, live_status};
 use kahn_line::{LiveOptions, Plain};
-use kahn_network::Network;
 use kahn_pool::{Config, RunFault, Verdict};
 use kahn_report::{WorkFault, checked};
 use kahn_session::Session;
+use kahn_streams::Network;
 use std::alloc::{AllocError, Global};
 use std::io::{BufWriter, Read, Write};
 

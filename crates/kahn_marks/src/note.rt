@@ -7,7 +7,7 @@ ghost use Rattle.kahn_marks.specs.Marks.{carets_of, heading, line_at, marked, ma
 use crate::columns::{Row, row_of};
 use crate::pieces::{add, add_repeated};
 use itoa::Buffer;
-use kahn_tree::Span;
+use kahn_streams::Span;
 use std::alloc::{AllocError, Global};
 
 /// The lines of a text.

@@ -1,7 +1,7 @@
 -- Believed. What is said of blocks where a text goes wrong.
 use Rattle.std.specs.Prelude.{ℕ, Bool, true, false, not, ◌&&◌, ◌-◌, List, [], ◌∷◌, ◌++◌, Option, Some, None, codes, decimal, drop, if◌then◌else◌, length, min}
 use Rattle.std.specs.List.{concat}
-use Rattle.kahn_tree.specs.Place.{line_of, column_of}
+use Rattle.kahn_streams.specs.Place.{line_of, column_of}
 use Rattle.kahn_syntax.specs.declared.lexeme.Class.{Class}
 use Rattle.kahn_syntax.specs.declared.lexeme.Class.TheVariants as class
 use Rattle.kahn_syntax.specs.declared.lexeme.Keyword.TheVariants as word

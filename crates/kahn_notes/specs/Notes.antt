@@ -4,8 +4,8 @@ use Rattle.std.specs.Fmt.{signed_decimal}
 use Rattle.std.specs.List.{concat}
 use Rattle.std.specs.declared.alloc.Global.{Global}
 use Rattle.std.specs.declared.string.String.{String}
-use Rattle.kahn_tree.specs.Place.{line_of}
-use Rattle.kahn_tree.specs.declared.span.Span.{Span}
+use Rattle.kahn_streams.specs.Place.{line_of}
+use Rattle.kahn_streams.specs.Types.{Span}
 use Rattle.kahn_syntax.specs.declared.fault.What.{What}
 use Rattle.kahn_syntax.specs.declared.fault.What.TheVariants.{More, Nothing, Other}
 use Rattle.kahn_syntax.specs.declared.lexeme.Class.{Class}

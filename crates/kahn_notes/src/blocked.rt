@@ -1,7 +1,7 @@
 //! What is said of blocks where a text goes wrong: of those that no `end` has closed, and of statements without one.
 
 ghost use Rattle.std.specs.Prelude.{◌≡◌, ◌++◌, IfOk, map, option_map, string_bytes};
-ghost use Rattle.kahn_tree.specs.Place.{line_of, column_of};
+ghost use Rattle.kahn_streams.specs.Place.{line_of, column_of};
 ghost use Rattle.kahn_notes.specs.Blocked.{at_words, bare_item, bare_words, begin_words, block_item, blocks_words, column_there, is_closing, is_outside, is_told, last_few, line_there, listed_bare, listed_blocks, open_told, open_words};
 
 use crate::listing::separator;

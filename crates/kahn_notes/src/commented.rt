@@ -6,8 +6,8 @@ ghost use Rattle.kahn_notes.specs.Notes.{IsCommented, comment_text, comment_verb
 use crate::blocked::{add_at, place};
 use crate::mended::add_remark;
 use kahn_marks::marked;
+use kahn_streams::NoMemory;
 use kahn_syntax::Span;
-use kahn_tree::NoMemory;
 use kahn_wanted::comment_before;
 use std::alloc::{AllocError, Global};
 

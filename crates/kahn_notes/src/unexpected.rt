@@ -12,8 +12,8 @@ use crate::mended::add_help;
 use crate::words::{keyword_words, sign_words};
 use itoa::Buffer;
 use kahn_marks::{add, marked};
+use kahn_streams::NoMemory;
 use kahn_syntax::{Class, Lexeme, Span, What};
-use kahn_tree::NoMemory;
 use kahn_wanted::{Unexpected, blocks_at, comment_before, mends_at, wanted_at};
 use std::alloc::{AllocError, Global};
 

@@ -1,29 +1,30 @@
 -- An answer put together from cells at rest is right.
 use mathlib.Core.Path.{fun_ext}
 use Rattle.std.proofs.Common.{arith, ◌≡◌, ◌⊎◌, inl, inr, ℕ, zero, suc, ◌<◌, ◌≤◌, max, List, [], ◌∷◌, length, map, refl, sym, ap, ◌∙◌, subst, true, le_refl, not-suc-le-zero, Option, Some, None, slice_get, slice_index_or, pos}
-use Rattle.kahn_streams.specs.declared.value.Line.{Line}
+use Rattle.kahn_streams.specs.Types.{Line}
 use Rattle.kahn_streams.specs.declared.value.Line.TheVariants.{Channel, Print}
-use Rattle.kahn_tree.specs.Syntax.{Number}
+use Rattle.kahn_streams.specs.Syntax.{Number}
 use Rattle.kahn_streams.specs.Script as script
 use Rattle.kahn_streams.specs.Script.{Dry, Cut, Got, Fault}
 use Rattle.kahn_streams.specs.Meaning.{Store}
 use Rattle.kahn_streams.specs.Solution as net
-use Rattle.kahn_network.specs.Network.{Network, Instance, idle, Reads, Writes, Hands, instance_at, actual_at, Source, Given, Written, Nobody}
-use Rattle.kahn_streams.specs.Solution.{Histories, Inputs, tapes_of, exec_at, out, values_at, goes_to, source, fed, input_list, iterate, IsPrefix, Stands, IsWhole, HasEnd, Ending, ending}
-use Rattle.kahn_streams.specs.Laws.{IsExtended, IsQuiet, IsSettled, KeepsTape}
+use Rattle.kahn_streams.specs.Network.{Network, Instance, idle, Reads, Writes, Hands, instance_at, actual_at, Source, Given, Written, Nobody}
+use Rattle.kahn_streams.specs.Solution.{Histories, Inputs, tapes_of, exec_at, out, values_at, goes_to, source, fed, input_list, iterate, IsPrefix, Stands, IsWhole, HasEnd, Ending, ending, IsExtended}
+use Rattle.kahn_streams.specs.Laws.{IsQuiet, IsSettled, KeepsTape}
 use Rattle.kahn_streams.proofs.Framed.{begins_nil}
 use Rattle.kahn_streams.proofs.Proved.{prefix_refl, prefix_trans, Feeds, out_grows, chain, solves, fits_all}
 use Rattle.kahn_streams.proofs.Finished.{settled}
-use Rattle.kahn_code.specs.Cells.{AllStand, View, AreKeptTokens, is_streamed, token_value}
-use Rattle.kahn_pool.specs.declared.answer.Answer.{Answer}
-use Rattle.kahn_pool.specs.declared.answer.Stream.{Stream}
-use Rattle.kahn_pool.specs.declared.answer.End.{End}
+use Rattle.kahn_code.specs.Cells.{AllStand, View, AreKeptTokens, is_streamed}
+use Rattle.kahn_streams.specs.Tokens.{token_value}
+use Rattle.kahn_streams.specs.declared.answer.Answer.{Answer}
+use Rattle.kahn_streams.specs.declared.answer.Stream.{Stream}
+use Rattle.kahn_streams.specs.declared.answer.End.{End}
 use Rattle.kahn_streams.specs.declared.token.Token.{Token}
-use Rattle.kahn_pool.specs.declared.answer.Verdict.{Verdict}
-use Rattle.kahn_pool.specs.declared.answer.Verdict.TheVariants.{Finished, Bound, Memory}
-use Rattle.kahn_pool.specs.declared.answer.Outcome.{Outcome}
-use Rattle.kahn_pool.specs.declared.answer.Outcome.TheVariants.{Ended, Waits, Faulted, More}
-use Rattle.kahn_pool.specs.Right.{AreRight, IsRight, IsOutcome, IsWaiting, IsDryOn, IsEnd, HasStream, values_of}
+use Rattle.kahn_streams.specs.declared.answer.Verdict.{Verdict}
+use Rattle.kahn_streams.specs.declared.answer.Verdict.TheVariants.{Finished, Bound, Memory}
+use Rattle.kahn_streams.specs.declared.answer.Outcome.{Outcome}
+use Rattle.kahn_streams.specs.declared.answer.Outcome.TheVariants.{Ended, Waits, Faulted, More}
+use Rattle.kahn_streams.specs.Answers.{AreRight, IsRight, IsOutcome, IsWaiting, IsDryOn, IsEnd, HasStream, values_of}
 use Rattle.kahn_pool.specs.inner.Gathered.{IsGathered, IsStopped, Stood, no_view, view_at, EndsWith, IsFrom, IsGiven, IsOutcomeOf, tapes_from}
 use Rattle.kahn_code.proofs.Lists.{stand_in}
 use Rattle.kahn_pool.proofs.Lists.{prefix_stands, both_stand, all_of_it, more_of_it, map_get}

@@ -3,14 +3,15 @@ use Rattle.std.proofs.Common.{arith, ◌≡◌, inl, inr, ℕ, ◌+◌, ◌<◌,
 use Rattle.std.proofs.Math.Seq.{map-set_same}
 use Rattle.std.proofs.lemmas.List.{map-set}
 use Rattle.std.proofs.lemmas.Option.{get_or_from_slice_get, slice_get_read}
-use Rattle.kahn_network.specs.Network.{Network, Reads, Writes, network_of, instance_at, actual_at, role_at}
-use Rattle.kahn_network.specs.inner.Sources.{IsFed}
-pub use Rattle.kahn_network.proofs.Numbered.{there as got, within as within_get, mapped as get_map}
-use Rattle.kahn_network.proofs.Sourced.{reads, reads_listed}
+use Rattle.kahn_streams.specs.Network.{Network, Reads, Writes, network_of, instance_at, actual_at, role_at}
+use Rattle.kahn_streams.specs.inner.Sources.{IsFed}
+pub use Rattle.kahn_streams.proofs.By_number.{there as got, within as within_get, mapped as get_map}
+use Rattle.kahn_streams.proofs.Sourced.{reads, reads_listed}
 use Rattle.kahn_streams.specs.declared.value.Line.TheVariants.{Channel}
 use Rattle.kahn_streams.specs.Solution.{Inputs, source}
-use Rattle.kahn_streams.specs.Tokens.{inputs_of}
-use Rattle.kahn_code.specs.Cells.{View, exec_on, is_output}
+use Rattle.kahn_streams.specs.Inputs.{inputs_of}
+use Rattle.kahn_code.specs.Cells.{View, exec_on}
+use Rattle.kahn_streams.specs.Answers.{is_output}
 use Rattle.kahn_code.specs.Lines.{Lines as Queues, AreQueued, Joins, queue_of, route_of, actual_here, place_at, next_at, taken_of, given_of, waiting_of}
 use Rattle.kahn_code.specs.Queues.{Waiting}
 use Rattle.kahn_code.specs.Seats.{Seat, LeavesOthers}
@@ -19,10 +20,9 @@ use Rattle.kahn_code.specs.Told.{Told, told_view, seat_of, IsAt, IsStill}
 use Rattle.kahn_code.proofs.Queued.{set_each, set_here}
 use Rattle.kahn_code.proofs.Readers.{joins_within, reads_once}
 use Rattle.kahn_pool.specs.inner.Gathered.{IsGiven, TookNoMore, TookAll, view_at, no_view}
-use Rattle.kahn_pool.specs.inner.Bench.{RunState}
-use Rattle.kahn_streams.specs.declared.value.Value.{Value}
+use Rattle.kahn_pool.specs.inner.Bench.{RunState, PausedAt, events_at}
+use Rattle.kahn_streams.specs.Types.{Value}
 use Rattle.kahn_pool.specs.inner.Workbench.{Table, IsLaid, IsSeated, sight_of}
-use Rattle.kahn_pool.specs.inner.Bench.{PausedAt, events_at}
 use Rattle.kahn_code.specs.declared.progress.Pause.{Pause}
 use Rattle.kahn_code.specs.declared.progress.Pause.TheVariants as pause
 use Rattle.kahn_code.specs.Progress as code

@@ -2,7 +2,7 @@
 use Rattle.std.proofs.Common.{◌≡◌, ◌⊎◌, inl, inr, ℕ, ◌<◌, sym, subst}
 use Rattle.kahn_streams.specs.declared.value.Line.TheVariants.{Channel}
 use Rattle.kahn_streams.specs.Script.{Tapes, Dry, Cut}
-use Rattle.kahn_network.specs.Network.{Reads, instance_at, actual_at}
+use Rattle.kahn_streams.specs.Network.{Reads, instance_at, actual_at}
 use Rattle.kahn_streams.specs.Solution.{exec_at, source}
 use Rattle.kahn_code.specs.declared.progress.Pause.{Pause}
 use Rattle.kahn_code.specs.declared.progress.Pause.TheVariants as pause

@@ -1,13 +1,12 @@
 -- From tapes by parameter to tapes by channel.
 use mathlib.Core.Path.{fun_ext}
 use Rattle.std.proofs.Common.{arith, ◌≡◌, ◌⊎◌, inl, inr, ℕ, zero, suc, ◌==◌, Bool, true, false, List, [], ◌∷◌, length, refl, sym, ap, ◌∙◌, subst, eqb-true, Option, slice_index_or, pos, if◌then◌else◌}
-use Rattle.kahn_streams.specs.declared.value.Value.{Value}
-use Rattle.kahn_streams.specs.declared.value.Line.{Line}
+use Rattle.kahn_streams.specs.Types.{Value, Line}
 use Rattle.kahn_streams.specs.declared.value.Line.TheVariants.{Channel, Print}
-use Rattle.kahn_tree.specs.Syntax.{Number}
+use Rattle.kahn_streams.specs.Syntax.{Number}
 use Rattle.kahn_streams.specs.Script.{Tapes, Outcome}
 use Rattle.kahn_streams.specs.Meaning.{Store, exec}
-use Rattle.kahn_network.specs.Network.{Network, Actual, Reads, Writes, Hands, instance_at, actual_at}
+use Rattle.kahn_streams.specs.Network.{Network, Actual, Reads, Writes, Hands, instance_at, actual_at}
 use Rattle.kahn_streams.specs.Solution.{Inputs, Histories, tape_of, tapes_of, exec_at, out, opening, values_at, goes_to}
 use Rattle.kahn_code.specs.Cells.{View, AllStand, AreKeptTokens, exec_on, sent_on, StoodBy}
 use Rattle.kahn_pool.specs.inner.Gathered.{Stood}

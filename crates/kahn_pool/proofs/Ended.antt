@@ -1,13 +1,11 @@
 -- The ends of tasks.
 use Rattle.std.proofs.Common.{arith, ◌≡◌, ◌⊎◌, inl, inr, ℕ, suc, ◌<◌, List, [], ◌∷◌, ◌++◌, length, refl, sym, ap, ◌∙◌, subst, Some, None, slice_get, length-append}
-use Rattle.kahn_tree.specs.declared.tree.Program.{Program}
-use Rattle.kahn_network.specs.Network.{Reads, Writes, network_of, instance_at, actual_at}
-use Rattle.kahn_network.specs.Sides.{IsWriter, IsReader, IsOnly}
-use Rattle.kahn_network.specs.inner.Sources.{IsFed}
-use Rattle.kahn_network.specs.Wiring.{IsWellWired, side_at}
-use Rattle.kahn_network.specs.declared.sides.Side.{Side}
-use Rattle.kahn_network.proofs.Sourced.{handed_within, reads, reads_listed, writes}
-use Rattle.kahn_streams.specs.Tokens.{Lists, inputs_of}
+use Rattle.kahn_streams.specs.Types.{Program, Side}
+use Rattle.kahn_streams.specs.Network.{Reads, Writes, network_of, instance_at, actual_at, IsWriter, IsReader, IsOnly}
+use Rattle.kahn_streams.specs.inner.Sources.{IsFed}
+use Rattle.kahn_streams.specs.Wiring.{IsWellWired, side_at}
+use Rattle.kahn_streams.proofs.Sourced.{handed_within, reads, reads_listed, writes}
+use Rattle.kahn_streams.specs.Inputs.{Lists, inputs_of}
 use Rattle.kahn_code.specs.Lines.{Joins}
 use Rattle.kahn_code.proofs.Lists.{at_last}
 use Rattle.kahn_code.proofs.Readers.{joins_parameter}
@@ -16,8 +14,8 @@ use Rattle.kahn_crew.specs.declared.standing.Standing.TheVariants as standing
 use Rattle.kahn_crew.specs.inner.Tasks.{Tasked, handed_to_task}
 use Rattle.kahn_crew.specs.inner.Left.{AreAll}
 use Rattle.kahn_pool.specs.inner.Rested.{AreEndsOfTasks, AreTold, IsEndOf, IsToldAs}
-use Rattle.kahn_pool.specs.declared.answer.End.{End}
-use Rattle.kahn_pool.specs.declared.answer.Outcome.TheVariants as outcome
+use Rattle.kahn_streams.specs.declared.answer.End.{End}
+use Rattle.kahn_streams.specs.declared.answer.Outcome.TheVariants as outcome
 use Rattle.kahn_pool.proofs.Benched.{got, some_one}
 
 pub writer_side : (t : Program) (p q c : ℕ) → actual_at (instance_at (network_of t) p) q ≡ Writes c → IsWriter (network_of t) c (side_at p q)

@@ -1,13 +1,13 @@
 -- What longer tapes and one more event bring.
 use mathlib.Core.Path.{fun_ext}
 use Rattle.std.proofs.Common.{arith, ◌≡◌, ◌⊎◌, inl, inr, ℕ, suc, ◌+◌, List, [], ◌∷◌, ◌++◌, length, refl, sym, ap, ◌∙◌, subst, append-nil, le_refl}
-use Rattle.kahn_streams.specs.declared.value.Value.{Value}
+use Rattle.kahn_streams.specs.Types.{Value}
 use Rattle.kahn_streams.specs.Script.{Tapes, Script, Give, Fail, Waits, Sends, Turns, Rest, Outcome, Got, Dry, Fault, Cut, Reached, wait_at, play}
 use Rattle.kahn_streams.specs.Steps.{Step, empty, values_taken, since, and_then, halted, RanBy}
 use Rattle.kahn_streams.specs.Meaning.{Store}
-use Rattle.kahn_network.specs.Network.{Network, Instance, instance_at}
-use Rattle.kahn_streams.specs.Solution.{Histories, opening, tapes_of, exec_at}
-use Rattle.kahn_streams.specs.Laws.{AreSame, KeepsTape, IsExtended}
+use Rattle.kahn_streams.specs.Network.{Network, Instance, instance_at}
+use Rattle.kahn_streams.specs.Solution.{Histories, opening, tapes_of, exec_at, IsExtended}
+use Rattle.kahn_streams.specs.Laws.{AreSame, KeepsTape}
 use Rattle.kahn_streams.proofs.Framed.{and_more}
 use Rattle.kahn_streams.proofs.Runs.{play_on, play_taken, ran, cut_is_full}
 use Rattle.kahn_streams.proofs.Proved.{feeds, script_at, exec_alike, frame}

@@ -3,17 +3,17 @@ use Rattle.std.proofs.Common.{arith, ◌≡◌, ◌⊎◌, inl, inr, ℕ, zero, 
 use Rattle.std.proofs.lemmas.Bool.{cases_eq}
 use Rattle.std.proofs.lemmas.List.{map-set, length-map, length-set, get_or-set_same, get_or-set_other, get_or-map}
 use Rattle.std.proofs.lemmas.Option.{slice_get_within, slice_get-get_or}
-use Rattle.kahn_streams.specs.declared.value.Line.{Line}
+use Rattle.kahn_streams.specs.Types.{Line}
 use Rattle.kahn_streams.specs.declared.value.Line.TheVariants.{Channel, Print}
 use Rattle.kahn_streams.specs.declared.token.Token.{Token}
 use Rattle.kahn_streams.specs.Solution.{source}
-use Rattle.kahn_network.specs.Network.{Network, Writes, Source, Given, Written, Nobody, instance_at, actual_at}
+use Rattle.kahn_streams.specs.Network.{Network, Writes, Source, Given, Written, Nobody, instance_at, actual_at}
 use Rattle.kahn_code.specs.declared.cell.Kept.{Kept}
 use Rattle.kahn_code.specs.Cells.{AreKeptTokens}
-use Rattle.kahn_pool.specs.declared.answer.Stream.{Stream}
+use Rattle.kahn_streams.specs.declared.answer.Stream.{Stream}
 use Rattle.kahn_pool.specs.inner.Bench.{RunState, AreStreams}
 use Rattle.kahn_pool.specs.inner.Gathered.{view_at, IsFrom}
-use Rattle.kahn_pool.specs.Right.{stream_line, stream_lines}
+use Rattle.kahn_streams.specs.Answers.{stream_line, stream_lines}
 use Rattle.kahn_pool.specs.inner.Streams.{AreNamed, IsDeclared, IsFilled, AreFilled, AreLists, KeepsOtherLines, HasInputs, kept_lists, kept_in, printed_list, printed_in}
 use Rattle.kahn_pool.proofs.Lists.{set_get, set_else}
 use Rattle.kahn_pool.proofs.Named.{HasLine, has_line, line_at, stream_before, declared, once}

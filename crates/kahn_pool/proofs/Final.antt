@@ -1,16 +1,16 @@
 -- The answer after the last round.
 use Rattle.std.proofs.Common.{arith, ◌≡◌, ◌⊎◌, inl, inr, ℕ, zero, suc, ◌+◌, List, [], ◌∷◌, ◌++◌, length, map, sum_by, take, refl, sym, ap, ◌∙◌, subst, Some, slice_get, Bool, true, false}
 use Rattle.std.proofs.lemmas.List.Sums.{sum_by-cons}
-use Rattle.kahn_streams.specs.declared.value.Line.{Line}
+use Rattle.kahn_streams.specs.Types.{Line}
 use Rattle.kahn_streams.specs.Solution.{source}
 use Rattle.kahn_code.specs.Cells.{View}
-use Rattle.kahn_pool.specs.declared.answer.Answer.{Answer}
-use Rattle.kahn_pool.specs.declared.answer.End.{End}
-use Rattle.kahn_pool.specs.declared.answer.Stream.{Stream}
-use Rattle.kahn_pool.specs.declared.answer.Outcome.TheVariants.{More}
-use Rattle.kahn_pool.specs.declared.answer.Verdict.{Verdict}
-use Rattle.kahn_pool.specs.declared.answer.Verdict.TheVariants.{Finished, Bound}
-use Rattle.kahn_pool.specs.Right.{end_events, stream_line, stream_lines}
+use Rattle.kahn_streams.specs.declared.answer.Answer.{Answer}
+use Rattle.kahn_streams.specs.declared.answer.End.{End}
+use Rattle.kahn_streams.specs.declared.answer.Stream.{Stream}
+use Rattle.kahn_streams.specs.declared.answer.Outcome.TheVariants.{More}
+use Rattle.kahn_streams.specs.declared.answer.Verdict.{Verdict}
+use Rattle.kahn_streams.specs.declared.answer.Verdict.TheVariants.{Finished, Bound}
+use Rattle.kahn_streams.specs.Answers.{end_events, stream_line, stream_lines}
 use Rattle.kahn_pool.specs.inner.Gathered.{view_at, TookNoMore, IsFrom, IsGathered, IsStopped}
 use Rattle.kahn_pool.specs.inner.Bench.{RunState, view_events, IsLast, IsVerdict, AreStreams}
 use Rattle.kahn_code.proofs.Lists.{at_last}

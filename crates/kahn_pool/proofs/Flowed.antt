@@ -2,29 +2,28 @@
 use Rattle.std.proofs.Common.{arith, ◌≡◌, ℕ, zero, suc, ◌+◌, ◌-◌, ◌<◌, ◌≤◌, ◌^◌, Bool, List, [], ◌∷◌, ◌++◌, length, map, replicate, take, sum_by, refl, sym, ap, ◌∙◌, subst, append-nil, Option, Some, slice_get, slice_index_or}
 use Rattle.std.proofs.lemmas.List.{length-append, length-map, map-append, take_all, take_at}
 use Rattle.std.proofs.lemmas.List.Sums.{sum_by-cons}
-use Rattle.kahn_network.specs.Network.{Source, Given, Written, Nobody, Writes, channel_source, network_of, instance_at, actual_at, role_at}
+use Rattle.kahn_streams.specs.Network.{Source, Given, Written, Nobody, Writes, channel_source, network_of, instance_at, actual_at, role_at}
 use Rattle.kahn_streams.specs.declared.token.Token.{Token}
-use Rattle.kahn_streams.specs.declared.value.Value.{Value}
-use Rattle.kahn_streams.specs.declared.value.Line.{Line}
+use Rattle.kahn_streams.specs.Types.{Value, Line}
 use Rattle.kahn_streams.specs.declared.value.Line.TheVariants.{Channel, Print}
-use Rattle.kahn_streams.specs.Laws.{AreInputsExtended}
-use Rattle.kahn_streams.specs.Solution.{source}
-use Rattle.kahn_streams.specs.Tokens.{Lists, inputs_of}
+use Rattle.kahn_streams.specs.Solution.{AreInputsExtended, source}
+use Rattle.kahn_streams.specs.Inputs.{Lists, inputs_of}
 use Rattle.kahn_streams.proofs.Entered.{none_of}
 use Rattle.kahn_streams.proofs.Proved.{prefix_refl}
-use Rattle.kahn_code.specs.Cells.{View, token_value}
+use Rattle.kahn_code.specs.Cells.{View}
+use Rattle.kahn_streams.specs.Tokens.{token_value}
 use Rattle.kahn_code.specs.Lines.{IsPoured}
 use Rattle.kahn_code.specs.Standing.{tokens}
 use Rattle.kahn_code.specs.Told.{Told, told_view}
 use Rattle.kahn_code.specs.inner.Gone.{Gone, nothing_gone}
 use Rattle.kahn_code.proofs.Poured.{poured_grown}
 use Rattle.kahn_pool.specs.HeldRuns.{GoesOn, IsLineOf, HeldRun, given_so_far, seen_at, seen_of, so_far, writing}
-use Rattle.kahn_pool.specs.Right.{stream_lines}
-use Rattle.kahn_pool.specs.declared.answer.Verdict.{Verdict}
+use Rattle.kahn_streams.specs.Answers.{stream_lines}
+use Rattle.kahn_streams.specs.declared.answer.Verdict.{Verdict}
 use Rattle.kahn_pool.specs.inner.Bench.{RunState, all_events, view_events}
 use Rattle.kahn_pool.specs.inner.Concluded.{IsConcluded}
 use Rattle.kahn_pool.specs.inner.Holding.{AreEnded}
-use Rattle.kahn_pool.specs.declared.answer.End.{End}
+use Rattle.kahn_streams.specs.declared.answer.End.{End}
 use Rattle.kahn_pool.specs.Flows.{AreNew, HasLetGo, IsRunOn}
 use Rattle.kahn_pool.specs.inner.FlowBench.{AreLast, AreLent, IsFlowing, flow_of, let_go_by, let_go_of, run_of_bench, waits_of}
 use Rattle.kahn_pool.specs.inner.Gathered.{no_view}

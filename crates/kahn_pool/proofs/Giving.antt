@@ -3,17 +3,16 @@ use Rattle.std.proofs.Common.{arith, ◌≡◌, ◌⊎◌, inl, inr, ℕ, suc, �
 use Rattle.std.specs.List.{All}
 use Rattle.std.proofs.lemmas.List.{length-map, map-append}
 use Rattle.std.proofs.lemmas.Option.{slice_get_within, get_or_from_slice_get}
-use Rattle.kahn_tree.specs.declared.tree.Role.{Role}
-use Rattle.kahn_tree.specs.declared.tree.Role.TheVariants.{Inner, Input, Output}
-use Rattle.kahn_streams.specs.declared.value.Value.{Value}
-use Rattle.kahn_streams.specs.declared.value.Line.{Line}
+use Rattle.kahn_streams.specs.Types.{Role, Value, Line}
+use Rattle.kahn_streams.specs.declared.tree.Role.TheVariants.{Inner, Input, Output}
 use Rattle.kahn_streams.specs.declared.value.Line.TheVariants.{Channel, Print}
 use Rattle.kahn_streams.specs.declared.token.Token.{Token}
 use Rattle.kahn_streams.specs.Solution.{Inputs, source, IsPrefix}
-use Rattle.kahn_network.specs.Network.{Network, Instance, Source, Given, Written, Nobody, any_written, first_writer, source_by, channel_source, role_at}
-use Rattle.kahn_code.specs.Cells.{AreKeptTokens, IsOwn, token_value}
-use Rattle.kahn_pool.specs.declared.answer.Stream.{Stream}
-use Rattle.kahn_pool.specs.Right.{stream_line}
+use Rattle.kahn_streams.specs.Network.{Network, Instance, Source, Given, Written, Nobody, any_written, first_writer, source_by, channel_source, role_at}
+use Rattle.kahn_code.specs.Cells.{AreKeptTokens}
+use Rattle.kahn_streams.specs.Tokens.{IsOwn, token_value}
+use Rattle.kahn_streams.specs.declared.answer.Stream.{Stream}
+use Rattle.kahn_streams.specs.Answers.{stream_line}
 use Rattle.kahn_pool.specs.inner.Streams.{AreNamed, IsBegun, IsDeclared, IsBare, HasInput, HaveInput, HasInputs}
 use Rattle.kahn_pool.proofs.Named.{declared, stream_before}
 use Rattle.kahn_code.proofs.Lists.{at_last}

@@ -1,22 +1,20 @@
 -- Cells that have done no fewer events: their streams have grown.
 use Rattle.std.proofs.Common.{arith, ◌≡◌, ◌⊎◌, inl, inr, ℕ, zero, suc, ◌≤◌, List, [], ◌∷◌, length, map, refl, sym, ap, ◌∙◌, subst, Option, Some, slice_get, slice_index_or, true}
-use Rattle.kahn_tree.specs.declared.tree.Program.{Program}
-use Rattle.kahn_network.specs.Network.{Network, Source, Given, Written, Nobody, Writes, network_of, instance_at, actual_at}
-use Rattle.kahn_network.specs.Wiring.{IsWellWired}
-use Rattle.kahn_streams.specs.declared.value.Value.{Value}
-use Rattle.kahn_streams.specs.declared.value.Line.{Line}
+use Rattle.kahn_streams.specs.Types.{Program, Value, Line}
+use Rattle.kahn_streams.specs.Network.{Network, Source, Given, Written, Nobody, Writes, network_of, instance_at, actual_at}
+use Rattle.kahn_streams.specs.Wiring.{IsWellWired}
 use Rattle.kahn_streams.specs.declared.value.Line.TheVariants.{Channel, Print}
-use Rattle.kahn_streams.specs.Laws.{AreInputsExtended}
-use Rattle.kahn_streams.specs.Solution.{IsPrefix, source}
-use Rattle.kahn_streams.specs.Tokens.{Lists, inputs_of}
+use Rattle.kahn_streams.specs.Solution.{AreInputsExtended, IsPrefix, source}
+use Rattle.kahn_streams.specs.Inputs.{Lists, inputs_of}
 use Rattle.kahn_streams.proofs.Framed.{begins_nil}
-use Rattle.kahn_code.specs.Cells.{is_streamed, token_value}
+use Rattle.kahn_code.specs.Cells.{is_streamed}
+use Rattle.kahn_streams.specs.Tokens.{token_value}
 use Rattle.kahn_code.specs.Lines.{Joins}
 use Rattle.kahn_code.specs.Told.{Told, told_view}
 use Rattle.kahn_code.proofs.Readers.{joins_within}
 use Rattle.kahn_pool.specs.HeldRuns.{GoesOn, HeldRun, IsSoFar, Seen, seen_at, seen_of, unseen}
 use Rattle.kahn_pool.specs.inner.Workbench.{AllStandBy}
-use Rattle.kahn_pool.specs.declared.answer.Verdict.{Verdict}
+use Rattle.kahn_streams.specs.declared.answer.Verdict.{Verdict}
 use Rattle.kahn_pool.proofs.Benched.{got, mapped, within_get}
 use Rattle.kahn_pool.proofs.Growing.{kept_grows, printed_grows, stood_by_channel}
 

@@ -1,18 +1,17 @@
 -- What a process sent by some of its events is a prefix of what it sent by more of them, also for longer inputs.
 use Rattle.std.proofs.Common.{◌≡◌, ◌⊎◌, inl, inr, ℕ, suc, ◌≤◌, max, [], map, sym, ap, subst, Option, true, pos}
 use Rattle.std.proofs.Math.Nat.{le-max_left, le-max_right}
-use Rattle.kahn_tree.specs.Syntax.{Number}
-use Rattle.kahn_tree.specs.declared.tree.Program.{Program}
-use Rattle.kahn_network.specs.Network.{Network, Reads, Writes, Hands, network_of, instance_at, actual_at}
-use Rattle.kahn_network.specs.Wiring.{IsWellWired}
-use Rattle.kahn_streams.specs.declared.value.Line.{Line}
+use Rattle.kahn_streams.specs.Syntax.{Number}
+use Rattle.kahn_streams.specs.Types.{Program, Line}
+use Rattle.kahn_streams.specs.Network.{Network, Reads, Writes, Hands, network_of, instance_at, actual_at}
+use Rattle.kahn_streams.specs.Wiring.{IsWellWired}
 use Rattle.kahn_streams.specs.declared.value.Line.TheVariants.{Channel, Print}
-use Rattle.kahn_streams.specs.Laws.{AreInputsExtended, IsExtended}
-use Rattle.kahn_streams.specs.Solution.{Histories, Inputs, IsPrefix, goes_to, iterate, out, tape_of, values_at}
+use Rattle.kahn_streams.specs.Solution.{AreInputsExtended, Histories, Inputs, IsPrefix, goes_to, iterate, out, tape_of, values_at, IsExtended}
 use Rattle.kahn_streams.proofs.Finished.{inputs_grow}
 use Rattle.kahn_streams.proofs.Framed.{begins_nil}
 use Rattle.kahn_streams.proofs.Proved.{chain, fits_all, iterates_rise, out_grows, prefix_refl, prefix_trans}
-use Rattle.kahn_code.specs.Cells.{StoodBy, View, is_streamed, token_value}
+use Rattle.kahn_code.specs.Cells.{StoodBy, View, is_streamed}
+use Rattle.kahn_streams.specs.Tokens.{token_value}
 use Rattle.kahn_code.proofs.Readers.{reads_once}
 use Rattle.kahn_pool.specs.inner.Gathered.{Stood}
 use Rattle.kahn_pool.proofs.Channels.{by_channel}

@@ -2,10 +2,10 @@
 use Rattle.std.proofs.Common.{arith, ◌≡◌, ℕ, suc, ◌+◌, ◌≤◌, List, [], ◌∷◌, length, map, sum_by, refl, sym, ap, ◌∙◌, subst, Some, slice_get, Bool, Option, Result, Ok, Err, MatchResult}
 use Rattle.std.proofs.lemmas.List.{length-map}
 use Rattle.std.proofs.lemmas.List.Sums.{sum_by-cons}
-use Rattle.kahn_tree.specs.declared.tree.Program.{Program}
-use Rattle.kahn_network.specs.Network.{network_of}
-use Rattle.kahn_streams.specs.Laws.{AreInputsExtended}
-use Rattle.kahn_streams.specs.Tokens.{Lists, inputs_of}
+use Rattle.kahn_streams.specs.Types.{Program}
+use Rattle.kahn_streams.specs.Network.{network_of}
+use Rattle.kahn_streams.specs.Solution.{AreInputsExtended}
+use Rattle.kahn_streams.specs.Inputs.{Lists, inputs_of}
 use Rattle.kahn_code.specs.Cells.{StoodBy}
 use Rattle.kahn_code.specs.Told.{Told, told_view}
 use Rattle.kahn_job.specs.inner.Idles.{AreIdle, AreJoinedJobs, HaveMet, cells_of, rows_of}
@@ -23,8 +23,8 @@ use Rattle.kahn_pool.specs.HeldRuns.{seen_of}
 use Rattle.kahn_pool.specs.inner.Holding.{AreEnded, AreHeld, AreHeldBy, HasRisen, HasStoppedPart, HaveRisen, cell_alone, held_state, seen_by, work_events}
 use Rattle.kahn_pool.specs.inner.Rested.{HaveSettledTasks, IsInstanceTask, cell_of, state_of_tasks}
 use Rattle.kahn_pool.specs.inner.Bench.{RunState}
-use Rattle.kahn_pool.specs.declared.answer.End.{End as RunEnd}
-use Rattle.kahn_pool.specs.declared.answer.Verdict.{Verdict}
+use Rattle.kahn_streams.specs.declared.answer.End.{End as RunEnd}
+use Rattle.kahn_streams.specs.declared.answer.Verdict.{Verdict}
 use Rattle.kahn_pool.specs.declared.part.Part.{Part}
 use Rattle.kahn_pool.specs.declared.part.Stopped.{Stopped}
 use Rattle.kahn_crew.specs.inner.Wants.{IsLack}

@@ -2,18 +2,17 @@
 use Rattle.std.proofs.Common.{arith, ◌≡◌, ◌⊎◌, inl, inr, ℕ, zero, suc, ◌+◌, ◌<◌, ◌≤◌, ◌^◌, List, [], ◌∷◌, length, map, sum_by, refl, sym, ap, ◌∙◌, subst, Bool, Option, Some, None, Ok, Err, MatchResult, slice_get, slice_index_or}
 use Rattle.std.proofs.lemmas.List.{length-map}
 use Rattle.std.proofs.lemmas.List.Sums.{sum_by-cons}
-use Rattle.kahn_tree.specs.declared.tree.Program.{Program}
-use Rattle.kahn_config.specs.Limits.{IsInRange}
-use Rattle.kahn_network.specs.Network.{Network, Source, Given, Written, Nobody, network_of}
-use Rattle.kahn_network.specs.Wiring.{IsWellWired}
+use Rattle.kahn_streams.specs.Types.{Program, Line}
+use Rattle.kahn_streams.specs.Answers.{IsInRange, Settles, IsRight, stream_lines}
+use Rattle.kahn_streams.specs.Network.{Network, Source, Given, Written, Nobody, network_of}
+use Rattle.kahn_streams.specs.Wiring.{IsWellWired}
 use Rattle.kahn_streams.specs.declared.token.Token.{Token}
-use Rattle.kahn_streams.specs.declared.value.Line.{Line}
 use Rattle.kahn_streams.specs.declared.value.Line.TheVariants.{Channel, Print}
-use Rattle.kahn_streams.specs.Laws.{AreInputsExtended}
-use Rattle.kahn_streams.specs.Solution.{source}
-use Rattle.kahn_streams.specs.Tokens.{Lists, inputs_of}
+use Rattle.kahn_streams.specs.Solution.{AreInputsExtended, source}
+use Rattle.kahn_streams.specs.Inputs.{Lists, inputs_of}
 use Rattle.kahn_streams.proofs.Proved.{prefix_refl}
-use Rattle.kahn_code.specs.Cells.{StoodBy, View, token_value}
+use Rattle.kahn_code.specs.Cells.{StoodBy, View}
+use Rattle.kahn_streams.specs.Tokens.{token_value}
 use Rattle.kahn_code.specs.Told.{Told, told_view}
 use Rattle.kahn_job.specs.inner.Idles.{cells_of}
 use Rattle.kahn_crew.specs.inner.Wants.{IsLack}
@@ -22,15 +21,13 @@ use Rattle.kahn_pool.specs.declared.part.Stopped.{Stopped}
 use Rattle.kahn_job.specs.inner.Works.{Work}
 use Rattle.kahn_pool.specs.inner.Bench.{AreStreams}
 use Rattle.kahn_pool.specs.inner.Concluded.{IsConcluded}
-use Rattle.kahn_pool.specs.Exact.{Settles}
 use Rattle.kahn_pool.specs.inner.Gathered.{IsFrom, IsGathered, no_view, view_at}
 use Rattle.kahn_pool.specs.HeldRuns.{GoesOn, HasResumed, HeldRun, IsAnswerOf, IsResumed, IsSoFar, Seen, seen_at, seen_events, seen_of, unseen}
 use Rattle.kahn_pool.specs.inner.Holding.{AreHeld, HasStopped, HaveRisen, IsHolding, cells_seen, held_state, work_events}
-use Rattle.kahn_pool.specs.Right.{IsRight, stream_lines}
 use Rattle.kahn_pool.specs.inner.Workbench.{AllStandBy}
-use Rattle.kahn_pool.specs.declared.answer.Answer.{Answer}
-use Rattle.kahn_pool.specs.declared.answer.End.{End}
-use Rattle.kahn_pool.specs.declared.answer.Verdict.{Verdict}
+use Rattle.kahn_streams.specs.declared.answer.Answer.{Answer}
+use Rattle.kahn_streams.specs.declared.answer.End.{End}
+use Rattle.kahn_streams.specs.declared.answer.Verdict.{Verdict}
 use Rattle.kahn_pool.proofs.Assembling.{are_right}
 use Rattle.kahn_pool.proofs.Benched.{mapped}
 use Rattle.kahn_pool.proofs.Final.{gathered, stopped}

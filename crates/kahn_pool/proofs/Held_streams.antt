@@ -1,23 +1,22 @@
 -- The streams of a held run so far: what is lent of them, and that they are those of a right answer.
 use Rattle.std.proofs.Common.{arith, ◌≡◌, ℕ, ◌+◌, ◌<◌, length, slice_get, Some, Bool, true, List, [], map, sum_by, sym, ap, ◌∙◌, subst, Option, slice_index_or}
-use Rattle.kahn_tree.specs.declared.tree.Program.{Program}
-use Rattle.kahn_network.specs.Network.{Network, Given, Written, Writes, channel_source, network_of, instance_at, actual_at}
+use Rattle.kahn_streams.specs.Types.{Program, Line}
+use Rattle.kahn_streams.specs.Network.{Network, Given, Written, Writes, channel_source, network_of, instance_at, actual_at}
 use Rattle.kahn_streams.specs.declared.token.Token.{Token}
-use Rattle.kahn_streams.specs.declared.value.Line.{Line}
 use Rattle.kahn_streams.specs.declared.value.Line.TheVariants.{Channel, Print}
-use Rattle.kahn_streams.specs.Solution.{Inputs, source}
-use Rattle.kahn_streams.specs.Laws.{AreInputsExtended}
+use Rattle.kahn_streams.specs.Solution.{Inputs, source, AreInputsExtended}
 use Rattle.kahn_streams.proofs.Proved.{prefix_trans}
-use Rattle.kahn_streams.specs.Tokens.{Lists, inputs_of}
-use Rattle.kahn_code.specs.Cells.{is_streamed, token_value}
+use Rattle.kahn_streams.specs.Inputs.{Lists, inputs_of}
+use Rattle.kahn_code.specs.Cells.{is_streamed}
+use Rattle.kahn_streams.specs.Tokens.{token_value}
 use Rattle.kahn_job.specs.inner.Idles.{AreIdle, cells_of}
 use Rattle.kahn_job.specs.inner.Works.{Work, width_of}
 use Rattle.kahn_pool.specs.inner.Concluded.{IsConcluded}
 use Rattle.kahn_pool.specs.inner.Streams.{AreAllGiven, AreGiven}
 use Rattle.kahn_pool.specs.inner.Holding.{held_state, work_events}
 use Rattle.kahn_pool.specs.HeldRuns.{HasSoFar, HeldRun, IsLineOf, IsRightSoFar, IsSoFar, Seen}
-use Rattle.kahn_pool.specs.declared.answer.End.{End}
-use Rattle.kahn_pool.specs.declared.answer.Verdict.{Verdict}
+use Rattle.kahn_streams.specs.declared.answer.End.{End}
+use Rattle.kahn_streams.specs.declared.answer.Verdict.{Verdict}
 use Rattle.kahn_pool.proofs.Held_runs.{all_seen, run_of, seen_there}
 use Rattle.kahn_pool.proofs.Giving.{input_role}
 pub use Rattle.kahn_pool.proofs.Once_written.{so_far_is}

@@ -1,7 +1,7 @@
 -- What the cells kept has a list for each parameter.
 use Rattle.std.proofs.Common.{◌≡◌, ℕ, ◌<◌, List, length, sym, ap, ◌∙◌, subst, Some, slice_get}
 use Rattle.std.proofs.lemmas.List.{length-map}
-use Rattle.kahn_network.specs.Network.{network_of, instance_at}
+use Rattle.kahn_streams.specs.Network.{network_of, instance_at}
 use Rattle.kahn_code.specs.declared.cell.Kept.{Kept}
 use Rattle.kahn_code.specs.Told.{Told}
 use Rattle.kahn_pool.specs.inner.Streams.{AreLists, kept_lists}

@@ -2,9 +2,9 @@
 use mathlib.Core.Path.{fun_ext}
 use Rattle.std.proofs.Common.{arith, ◌≡◌, ◌⊎◌, inl, inr, ℕ, ◌+◌, [], length, refl, sym, ap, ◌∙◌, subst, Option, Bool, true}
 use Rattle.std.proofs.lemmas.Option.{none-some}
-use Rattle.kahn_network.proofs.Numbered.{there}
-use Rattle.kahn_network.specs.Network.{Network, Reads, instance_at, actual_at}
-use Rattle.kahn_streams.specs.declared.value.Line.{Line}
+use Rattle.kahn_streams.proofs.By_number.{there}
+use Rattle.kahn_streams.specs.Network.{Network, Reads, instance_at, actual_at}
+use Rattle.kahn_streams.specs.Types.{Line}
 use Rattle.kahn_streams.specs.declared.value.Line.TheVariants.{Channel}
 use Rattle.kahn_streams.specs.Script as script
 use Rattle.kahn_streams.specs.Script.{Cut}
@@ -12,11 +12,11 @@ use Rattle.kahn_streams.specs.Meaning.{Store}
 use Rattle.kahn_streams.specs.Solution.{Histories, Inputs, exec_at, ending}
 use Rattle.kahn_code.specs.Cells.{View}
 use Rattle.kahn_code.specs.declared.progress.Pause.TheVariants as pause
-use Rattle.kahn_pool.specs.declared.answer.Answer.{Answer}
-use Rattle.kahn_pool.specs.declared.answer.End.{End}
-use Rattle.kahn_pool.specs.declared.answer.Outcome.{Outcome}
-use Rattle.kahn_pool.specs.declared.answer.Outcome.TheVariants.{Ended, Waits, Faulted, More}
-use Rattle.kahn_pool.specs.Exact.{IsCutShort}
+use Rattle.kahn_streams.specs.declared.answer.Answer.{Answer}
+use Rattle.kahn_streams.specs.declared.answer.End.{End}
+use Rattle.kahn_streams.specs.declared.answer.Outcome.{Outcome}
+use Rattle.kahn_streams.specs.declared.answer.Outcome.TheVariants.{Ended, Waits, Faulted, More}
+use Rattle.kahn_streams.specs.Answers.{IsCutShort}
 use Rattle.kahn_pool.specs.inner.Gathered.{view_at, IsOutcomeOf, Stood}
 use Rattle.kahn_pool.specs.inner.Bench.{RunState, events_at, IsLast, IsVerdict, LacksMemory, PausedAt, HasEndIn}
 use Rattle.kahn_pool.proofs.Lists.{all_of_it, both_stand}

@@ -1,16 +1,14 @@
 -- The lines of an answer: each is of the network, and none stands twice.
 use Rattle.std.proofs.Common.{arith, ◌≡◌, ◌⊎◌, inl, inr, ℕ, zero, suc, ◌+◌, ◌<◌, ◌||◌, Bool, true, false, if◌then◌else◌, List, [], ◌∷◌, ◌++◌, length, map, Option, Some, None, refl, sym, ap, ◌∙◌, subst, slice_get, slice_index_or}
-use Rattle.kahn_tree.specs.declared.tree.Kind.{Kind}
-use Rattle.kahn_tree.specs.declared.tree.Kind.TheVariants.{Integer}
-use Rattle.kahn_tree.specs.declared.tree.Role.{Role}
-use Rattle.kahn_tree.specs.declared.tree.Role.TheVariants.{Inner}
-use Rattle.kahn_tree.specs.Syntax.{prints_in}
-use Rattle.kahn_streams.specs.declared.value.Line.{Line}
+use Rattle.kahn_streams.specs.Types.{Kind, Role, Line}
+use Rattle.kahn_streams.specs.declared.tree.Kind.TheVariants.{Integer}
+use Rattle.kahn_streams.specs.declared.tree.Role.TheVariants.{Inner}
+use Rattle.kahn_streams.specs.Syntax.{prints_in}
 use Rattle.kahn_streams.specs.declared.value.Line.TheVariants.{Channel, Print}
-use Rattle.kahn_network.specs.Network.{Network, Instance}
-use Rattle.kahn_code.specs.Cells.{is_output, is_watched, is_streamed}
-use Rattle.kahn_pool.specs.declared.answer.Stream.{Stream}
-use Rattle.kahn_pool.specs.Right.{stream_line, channel_lines, print_lines, stream_lines}
+use Rattle.kahn_streams.specs.Network.{Network, Instance}
+use Rattle.kahn_code.specs.Cells.{is_streamed}
+use Rattle.kahn_streams.specs.Answers.{is_output, is_watched, stream_line, channel_lines, print_lines, stream_lines}
+use Rattle.kahn_streams.specs.declared.answer.Stream.{Stream}
 use Rattle.kahn_pool.specs.inner.Streams.{AreNamed, IsDeclared}
 
 -- ---- what the lines are

@@ -1,15 +1,15 @@
 -- What a run has of a line so far: the parameter that writes a channel is one, and an input channel with a stream is watched.
 use Rattle.std.proofs.Common.{◌≡◌, ℕ, zero, suc, ◌||◌, eqb-true, eq-eqb, Some, None, Bool, true, false, true≢false, List, [], ◌∷◌, map, refl, sym, ap, ◌∙◌, subst, Option, slice_index_or, pos, if◌then◌else◌}
-use Rattle.kahn_tree.specs.Syntax.{Number}
-use Rattle.kahn_tree.specs.declared.tree.Program.{Program}
-use Rattle.kahn_tree.specs.declared.tree.Role.TheVariants.{Input}
-use Rattle.kahn_network.specs.Network.{Network, Actual, Hands, Reads, Source, Given, Written, Nobody, Writes, network_of, instance_at, actual_at, is_written, role_at}
-use Rattle.kahn_network.specs.Wiring.{IsWellWired}
-use Rattle.kahn_streams.specs.declared.value.Value.{Value}
-use Rattle.kahn_streams.specs.declared.value.Line.{Line}
+use Rattle.kahn_streams.specs.Syntax.{Number}
+use Rattle.kahn_streams.specs.Types.{Program, Value, Line}
+use Rattle.kahn_streams.specs.declared.tree.Role.TheVariants.{Input}
+use Rattle.kahn_streams.specs.Network.{Network, Actual, Hands, Reads, Source, Given, Written, Nobody, Writes, network_of, instance_at, actual_at, is_written, role_at}
+use Rattle.kahn_streams.specs.Wiring.{IsWellWired}
 use Rattle.kahn_streams.specs.declared.value.Line.TheVariants.{Channel, Print}
 use Rattle.kahn_streams.specs.Solution.{source}
-use Rattle.kahn_code.specs.Cells.{is_output, is_streamed, is_watched, token_value}
+use Rattle.kahn_code.specs.Cells.{is_streamed}
+use Rattle.kahn_streams.specs.Answers.{is_output, is_watched}
+use Rattle.kahn_streams.specs.Tokens.{token_value}
 use Rattle.kahn_code.proofs.Readers.{driven}
 use Rattle.kahn_pool.specs.HeldRuns.{HasSoFar, HeldRun, IsSoFar, seen_at, so_far, given_so_far, writing}
 

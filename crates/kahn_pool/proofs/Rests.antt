@@ -1,21 +1,20 @@
 -- What settled tasks whose ends have met say of the cells.
 use Rattle.std.proofs.Common.{arith, ◌≡◌, inl, inr, ℕ, zero, suc, ◌+◌, ◌<◌, ◌≤◌, List, [], length, map, refl, sym, ap, ◌∙◌, subst, Option, Some, slice_get, length-append}
-use Rattle.kahn_tree.specs.declared.tree.Program.{Program}
-use Rattle.kahn_tree.specs.declared.tree.Role.{Role}
-use Rattle.kahn_tree.specs.declared.tree.Role.TheVariants.{Inner, Input}
-use Rattle.kahn_network.specs.Network.{Network, Reads, Writes, Given, Written, network_of, instance_at, actual_at, role_at}
-use Rattle.kahn_network.specs.inner.Sources.{IsFed as IsFedBy}
-use Rattle.kahn_network.specs.Wiring.{IsWellWired}
-use Rattle.kahn_network.proofs.Sourced.{reads, writes}
-use Rattle.kahn_streams.specs.declared.value.Value.{Value}
+use Rattle.kahn_streams.specs.Types.{Program, Role, Value}
+use Rattle.kahn_streams.specs.declared.tree.Role.TheVariants.{Inner, Input}
+use Rattle.kahn_streams.specs.Network.{Network, Reads, Writes, Given, Written, network_of, instance_at, actual_at, role_at}
+use Rattle.kahn_streams.specs.inner.Sources.{IsFed as IsFedBy}
+use Rattle.kahn_streams.specs.Wiring.{IsWellWired}
+use Rattle.kahn_streams.proofs.Sourced.{reads, writes}
 use Rattle.kahn_streams.specs.declared.value.Line.TheVariants.{Channel}
 use Rattle.kahn_streams.specs.Meaning.{Store}
 use Rattle.kahn_streams.specs.Script as script
 use Rattle.kahn_streams.specs.Script.{Dry}
 use Rattle.kahn_streams.specs.Solution.{Inputs, exec_at, fed, iterate, out, source}
-use Rattle.kahn_streams.specs.Tokens.{Lists, inputs_of}
+use Rattle.kahn_streams.specs.Inputs.{Lists, inputs_of}
 use Rattle.kahn_streams.proofs.Dry.{dry_reads}
-use Rattle.kahn_code.specs.Cells.{AllStand, View, exec_on, is_output}
+use Rattle.kahn_code.specs.Cells.{AllStand, View, exec_on}
+use Rattle.kahn_streams.specs.Answers.{is_output}
 use Rattle.kahn_code.specs.Lines.{Joins}
 use Rattle.kahn_code.specs.Progress as code
 use Rattle.kahn_code.specs.Standing.{count}
@@ -30,9 +29,9 @@ use Rattle.kahn_crew.specs.inner.Tasks.{Tasked, handed_to_task, task_rows, work_
 use Rattle.kahn_crew.proofs.Started.{at_mapped}
 use Rattle.kahn_crew.specs.inner.Left.{AreAll}
 use Rattle.kahn_pool.specs.inner.Rested.{AreTasks, AreTold, IsDryOf, IsEndOf, IsSaid, IsSettledTask, IsInstanceTask, IsToldAs, cell_of, state_of_tasks}
-use Rattle.kahn_pool.specs.declared.answer.End.{End}
-use Rattle.kahn_pool.specs.declared.answer.Outcome.{Outcome}
-use Rattle.kahn_pool.specs.declared.answer.Outcome.TheVariants as outcome
+use Rattle.kahn_streams.specs.declared.answer.End.{End}
+use Rattle.kahn_streams.specs.declared.answer.Outcome.{Outcome}
+use Rattle.kahn_streams.specs.declared.answer.Outcome.TheVariants as outcome
 use Rattle.kahn_pool.specs.inner.Bench.{HasEndIn}
 use Rattle.kahn_pool.specs.inner.Gathered.{TookNoMore, IsGiven, IsOutcomeOf, Stood, no_view, view_at}
 use Rattle.kahn_pool.proofs.Benched.{get_map, got, mapped, some_one}

@@ -1,23 +1,21 @@
 -- A run with these cells is right so far: what its streams have are the tapes of the right answer.
 use Rattle.std.proofs.Common.{arith, ◌≡◌, ℕ, zero, suc, ◌+◌, Bool, List, [], ◌∷◌, map, sum_by, refl, sym, ap, ◌∙◌, subst, Option, slice_index_or}
 use Rattle.std.proofs.lemmas.List.Sums.{sum_by-cons}
-use Rattle.kahn_tree.specs.declared.tree.Program.{Program}
-use Rattle.kahn_network.specs.Network.{Network, Source, Given, Written, Nobody, network_of}
-use Rattle.kahn_streams.specs.declared.value.Value.{Value}
-use Rattle.kahn_streams.specs.declared.value.Line.{Line}
+use Rattle.kahn_streams.specs.Types.{Program, Value, Line}
+use Rattle.kahn_streams.specs.Network.{Network, Source, Given, Written, Nobody, network_of}
 use Rattle.kahn_streams.specs.declared.value.Line.TheVariants.{Channel, Print}
 use Rattle.kahn_streams.specs.Solution.{Inputs, IsWhole, source}
-use Rattle.kahn_streams.specs.Tokens.{Lists, inputs_of}
-use Rattle.kahn_code.specs.Cells.{View, token_value}
+use Rattle.kahn_streams.specs.Inputs.{Lists, inputs_of}
+use Rattle.kahn_code.specs.Cells.{View}
+use Rattle.kahn_streams.specs.Tokens.{token_value}
 use Rattle.kahn_code.specs.Told.{Told, told_view}
-use Rattle.kahn_pool.specs.Exact.{Settles}
+use Rattle.kahn_streams.specs.Answers.{Settles, AreRight}
 use Rattle.kahn_pool.specs.HeldRuns.{HasSoFar, HeldRun, IsRightSoFar, IsSoFar, seen_at, seen_events, seen_of}
-use Rattle.kahn_pool.specs.Right.{AreRight}
 use Rattle.kahn_pool.specs.inner.Bench.{RunState, all_events, view_events}
 use Rattle.kahn_pool.specs.inner.Concluded.{IsConcluded}
 use Rattle.kahn_pool.specs.inner.Gathered.{IsStopped, view_at}
-use Rattle.kahn_pool.specs.declared.answer.End.{End}
-use Rattle.kahn_pool.specs.declared.answer.Verdict.{Verdict}
+use Rattle.kahn_streams.specs.declared.answer.End.{End}
+use Rattle.kahn_streams.specs.declared.answer.Verdict.{Verdict}
 use Rattle.kahn_pool.proofs.Assembling.{are_right, kept_values, printed_values, whole_tapes}
 use Rattle.kahn_pool.proofs.Final.{stopped, stopped_cells}
 use Rattle.kahn_pool.proofs.Going_on.{run_with}

@@ -1,10 +1,10 @@
 -- Tasks that are asked what comes next.
 use Rattle.std.proofs.Common.{arith, ◌≡◌, ◌⊎◌, inl, inr, ℕ, zero, suc, ◌+◌, ◌<◌, ◌≤◌, List, [], ◌∷◌, length, refl, sym, ap, ◌∙◌, subst, le_refl, Some, slice_get, slice_set}
 use Rattle.std.proofs.lemmas.List.{length-set}
-use Rattle.kahn_network.specs.Network.{network_of}
+use Rattle.kahn_streams.specs.Network.{network_of}
 use Rattle.kahn_streams.specs.Meaning.{Store}
 use Rattle.kahn_streams.specs.Script as script
-use Rattle.kahn_streams.specs.Tokens.{inputs_of}
+use Rattle.kahn_streams.specs.Inputs.{inputs_of}
 use Rattle.kahn_code.specs.declared.progress.Pause.{Pause}
 use Rattle.kahn_code.specs.declared.progress.Pause.TheVariants as pause
 use Rattle.kahn_code.specs.Progress.{Paused, IsPause}

@@ -4,9 +4,9 @@ use Rattle.std.proofs.Math.Seq.{map-set_same}
 use Rattle.std.proofs.lemmas.List.{get_or-set_other, length-map, map-set}
 use Rattle.std.proofs.lemmas.Bool.{cases_eq}
 use Rattle.std.proofs.lemmas.Option.{slice_get_read}
-use Rattle.kahn_tree.specs.declared.tree.Program.{Program}
-use Rattle.kahn_network.specs.Network.{network_of}
-use Rattle.kahn_streams.specs.Tokens.{Lists}
+use Rattle.kahn_streams.specs.Types.{Program}
+use Rattle.kahn_streams.specs.Network.{network_of}
+use Rattle.kahn_streams.specs.Inputs.{Lists}
 use Rattle.kahn_code.specs.inner.Gone.{Gone, kept_behind, nothing_gone}
 use Rattle.kahn_code.specs.inner.Tapped.{Tapped}
 use Rattle.kahn_code.specs.Lines.{Lines as Queues}
@@ -14,7 +14,7 @@ use Rattle.kahn_code.specs.Cells.{View}
 use Rattle.kahn_code.specs.Told.{Told}
 use Rattle.kahn_code.specs.declared.progress.Pause.{Pause}
 use Rattle.kahn_code.specs.declared.cell.Kept.{Kept}
-use Rattle.kahn_pool.specs.declared.answer.Stream.{Stream}
+use Rattle.kahn_streams.specs.declared.answer.Stream.{Stream}
 use Rattle.kahn_pool.specs.inner.Bench.{HasRunCell, RunState, events_at}
 use Rattle.kahn_pool.specs.inner.Gathered.{no_view, view_at}
 use Rattle.kahn_pool.specs.inner.Streams.{kept_lists, printed_list}

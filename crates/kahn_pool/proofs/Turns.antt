@@ -6,12 +6,12 @@ use Rattle.kahn_streams.specs.Script as script
 use Rattle.kahn_streams.specs.Meaning.{Store}
 use Rattle.kahn_code.specs.Cells.{View}
 use Rattle.kahn_code.proofs.Lists.{at_last}
-use Rattle.kahn_pool.specs.declared.answer.End.{End}
-use Rattle.kahn_pool.specs.declared.answer.Outcome.{Outcome}
+use Rattle.kahn_streams.specs.declared.answer.End.{End}
+use Rattle.kahn_streams.specs.declared.answer.Outcome.{Outcome}
 use Rattle.kahn_code.specs.declared.progress.Pause.{Pause}
 use Rattle.kahn_code.specs.declared.progress.Pause.TheVariants as pause
-use Rattle.kahn_pool.specs.declared.answer.Outcome.TheVariants.{More, Waits}
-use Rattle.kahn_network.specs.Network.{Reads, actual_at, instance_at}
+use Rattle.kahn_streams.specs.declared.answer.Outcome.TheVariants.{More, Waits}
+use Rattle.kahn_streams.specs.Network.{Reads, actual_at, instance_at}
 use Rattle.kahn_pool.specs.inner.Gathered.{view_at, IsOutcomeOf, TookAll}
 use Rattle.kahn_pool.specs.declared.rounds.Round.{Round}
 use Rattle.kahn_pool.specs.inner.Bench.{RunState, IsPaused, HasEndIn, events_at, view_events, all_events, weight, AreEnds, Goes, GoesIn, HasMoved, HasTakenTurn, HasRunCell, LacksMemory, Marked, PausedAt}

@@ -1,22 +1,17 @@
 -- Believed. A run that is fed as it goes, and that lets go of what it kept: what contracts see of it, and what its calls make of it (this
 -- project's profile).
 use Rattle.std.specs.Prelude.{◌≡◌, ◌⊎◌, ℕ, ◌+◌, ◌-◌, ◌<◌, ◌≤◌, ◌^◌, List, [], ◌++◌, length, map, replicate, None, Some, slice_get, slice_index_or}
-use Rattle.kahn_tree.specs.declared.tree.Program.{Program}
-use Rattle.kahn_network.specs.Network.{network_of}
-use Rattle.kahn_streams.specs.declared.feeds.FeedFault.{FeedFault}
+use Rattle.kahn_streams.specs.Types.{Program, FeedFault, Line, Value, Config}
+use Rattle.kahn_streams.specs.Network.{network_of}
 use Rattle.kahn_streams.specs.declared.feeds.FeedFault.TheVariants.{UnknownName, NotAnInput, WrongKind, TooMany, NoMemory}
-use Rattle.kahn_streams.specs.declared.value.Line.{Line}
 use Rattle.kahn_streams.specs.declared.token.Token.{Token}
-use Rattle.kahn_streams.specs.declared.value.Value.{Value}
-use Rattle.kahn_streams.specs.Entries.{Entry, channel_of, most_values}
+use Rattle.kahn_streams.specs.Inputs.{Entry, channel_of, most_values, Lists}
 use Rattle.kahn_streams.specs.Feeds.{IsMeant, IsNotMeant, total_after}
-use Rattle.kahn_streams.specs.Tokens.{Lists}
-use Rattle.kahn_code.specs.Cells.{token_value}
+use Rattle.kahn_streams.specs.Tokens.{token_value}
 use Rattle.kahn_code.specs.Lines.{IsPoured}
-use Rattle.kahn_config.specs.declared.Config.{Config}
 use Rattle.kahn_pool.specs.HeldRuns.{GoesOn, HasStarted, HeldRun, IsResumed, so_far}
-use Rattle.kahn_pool.specs.Right.{stream_lines}
-use Rattle.kahn_pool.specs.declared.answer.Verdict.{Verdict}
+use Rattle.kahn_streams.specs.Answers.{stream_lines}
+use Rattle.kahn_streams.specs.declared.answer.Verdict.{Verdict}
 use Rattle.kahn_pool.specs.declared.held_fault.HeldFault.{HeldFault}
 use Rattle.kahn_pool.specs.declared.held_fault.HeldFault.TheVariants.{BadMore}
 

@@ -1,5 +1,3 @@
-pub mod Right
-pub mod Exact
 pub mod Limits
 pub mod Runs
 pub mod HeldRuns

@@ -1,10 +1,8 @@
 //! Who may go on in a run on one thread, and who waits for what.
 
-use crate::answer::Outcome;
 use crate::run_queue::RunQueue;
 use kahn_code::Plain;
-use kahn_network::Network;
-use kahn_streams::NoMemory;
+use kahn_streams::{Network, NoMemory, Outcome};
 use std::alloc::Global;
 
 /// Who may go on. A reader that finds its channel empty sleeps until something was sent there. It is a hint, as the run queue

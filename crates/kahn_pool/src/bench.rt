@@ -1,23 +1,20 @@
 //! The processes of a network over its plain queues.
 
-ghost use Rattle.kahn_network.specs.Network.{Reads, network_of, instance_at, actual_at, role_at};
-ghost use Rattle.kahn_streams.specs.Tokens.{Lists, inputs_of};
+ghost use Rattle.kahn_streams.specs.Network.{Reads, network_of, instance_at, actual_at, role_at};
+ghost use Rattle.kahn_streams.specs.Inputs.{Lists, inputs_of};
 ghost use Rattle.kahn_code.specs.Lines.{AreQueued, IsPoured};
 ghost use Rattle.kahn_code.specs.Standing.{tokens};
 ghost use Rattle.kahn_code.specs.inner.Tapped.{Tapped};
-ghost use Rattle.kahn_tree.specs.declared.tree.Role.TheVariants.{Input as InputRole};
+ghost use Rattle.kahn_streams.specs.declared.tree.Role.TheVariants.{Input as InputRole};
 ghost use Rattle.kahn_pool.specs.inner.Bench.{HasRunCell, all_events, events_at};
 ghost use Rattle.kahn_pool.specs.inner.Gathered.{TookNoMore};
 ghost use Rattle.kahn_pool.specs.inner.Workbench.{AllStandBy, AreOpeningCells, AreWhole, HasEmptied, HasFresh, HasFreshPrints, HasTakenIn, HasWorked, HaveForgotten, IsCrowded, IsLaid, IsNextPlace, StandsAsTold, gone_in, sight_of, table_of, told_in};
 ghost use Rattle.std.specs.Prelude.{◌≡◌, ◌<◌, ◌+◌, ◌++◌, ◌^◌, ℕ, Some, length, map, slice_get, IfOk, IfErr, IfSome, MatchOption, SomeIff};
 
-use crate::answer::Outcome;
 use crate::awake::Awake;
 use crate::looks::Looks;
 use kahn_code::{Code, CodeFault, Pause, Plain, Steps, Tap, compile, regrow_taps};
-use kahn_config::MOST_BOUND;
-use kahn_network::Network;
-use kahn_streams::{About, Carried, Input, NoMemory, Value};
+use kahn_streams::{About, Carried, Input, MOST_BOUND, Network, NoMemory, Outcome, Value};
 use std::alloc::Global;
 use std::marker::Model;
 use std::sync::ledger::Ledger;
@@ -39,8 +36,8 @@ pub(crate) struct Bench<'n> {
 }
 
 impl<'n> Model for Bench<'n> {
-    ghost use Rattle.kahn_tree.specs.contracts.tree.Action as action;
-    ghost use Rattle.kahn_tree.specs.contracts.tree.Form as form;
+    ghost use Rattle.kahn_streams.specs.contracts.tree.Action as action;
+    ghost use Rattle.kahn_streams.specs.contracts.tree.Form as form;
     ghost use Rattle.std.specs.Coded.{codes};
     ghost use Rattle.kahn_pool.specs.inner.Workbench.{Table, IsLaid, table_of};
 
@@ -242,7 +239,16 @@ impl<'n> Bench<'n> {
 
     /// Whether there is work for several, as far as is known.
     pub(crate) fn is_wide(&self) -> bool {
-        self.looks.is_wide()
+        self.looks.is_wide() && self.looks.is_apart(self.taken())
+    }
+
+    // How many tokens were taken from all channels.
+    fn taken(&self) -> u64 {
+        let mut sum = 0_u64;
+        for channel in 0..self.network.channels() {
+            sum = sum.saturating_add(self.queues.taken(channel));
+        }
+        sum
     }
 
     /// Says that no reader took more than was given: its contract is what it does.

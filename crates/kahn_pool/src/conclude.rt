@@ -1,14 +1,13 @@
 //! How a run stopped: its jobs at rest, the ends of all instances, and the verdict.
 
 ghost use Rattle.std.specs.Prelude.{◌≡◌, ◌↔◌, ◌≤◌, [], length, map, true, vec_capacity};
-ghost use Rattle.kahn_network.specs.Network.{network_of};
+ghost use Rattle.kahn_streams.specs.Network.{network_of};
 ghost use Rattle.kahn_crew.specs.inner.Left.{IsOver};
 ghost use Rattle.kahn_job.specs.inner.Idles.{cells_of};
 ghost use Rattle.kahn_pool.specs.inner.Holding.{HaveAllLeft, IsConclusion};
 ghost use Rattle.kahn_pool.specs.inner.Rested.{cell_of};
-ghost use Rattle.kahn_pool.specs.declared.answer.Verdict.TheVariants as verdict;
+ghost use Rattle.kahn_streams.specs.declared.answer.Verdict.TheVariants as verdict;
 
-use crate::answer::{End, Verdict};
 use crate::ends::ends_of;
 use crate::part::Part;
 use crate::rounds::verdict_of;
@@ -16,6 +15,7 @@ use crate::settle::settle_all;
 use kahn_code::Steps;
 use kahn_crew::{Left, rest_all};
 use kahn_job::{Idle, meet};
+use kahn_streams::{End, Verdict};
 use std::sync::ledger::Ledger;
 
 /// The jobs of a run that stopped, what is left of its bound, the end of each instance, and why it stopped.

@@ -1,20 +1,18 @@
 //! Copies of what a held run keeps.
 
 ghost use Rattle.std.specs.Prelude.{◌≡◌, IfOk};
-ghost use Rattle.kahn_network.specs.Network.{network_of};
+ghost use Rattle.kahn_streams.specs.Network.{network_of};
 ghost use Rattle.kahn_job.specs.inner.Idles.{AreIdle, cells_of};
 ghost use Rattle.kahn_pool.specs.inner.Bench.{AreStreams};
 ghost use Rattle.kahn_pool.specs.inner.Holding.{held_state};
-ghost use Rattle.kahn_pool.specs.Right.{stream_lines};
+ghost use Rattle.kahn_streams.specs.Answers.{stream_lines};
 ghost use Rattle.kahn_pool.specs.inner.Workbench.{AreKeptOf};
 
-use crate::answer::{End, Stream};
 use crate::streams::fill;
 use crate::workbench::opening_streams;
 use kahn_code::Kept;
 use kahn_job::Idle;
-use kahn_network::Network;
-use kahn_streams::{Input, NoMemory};
+use kahn_streams::{End, Input, Network, NoMemory, Stream};
 use std::alloc::Global;
 
 // What the cell of each job kept.

@@ -1,16 +1,14 @@
 //! The ends of all instances, from where their tasks stand.
 
 ghost use Rattle.std.specs.Prelude.{◌≡◌, ◌↔◌, ℕ, ◌<◌, ◌≤◌, length, Some, IfSome, IfNone, IsTrue, slice_get, vec_capacity};
-ghost use Rattle.kahn_network.specs.Network.{network_of, instance_at, actual_at, Reads};
+ghost use Rattle.kahn_streams.specs.Network.{network_of, instance_at, actual_at, Reads};
 ghost use Rattle.kahn_crew.specs.inner.Left.{AreAll};
 ghost use Rattle.kahn_crew.specs.inner.Tasks.{Tasked};
 ghost use Rattle.kahn_pool.specs.inner.Rested.{AreEndsOfTasks, AreTold, IsDryOf, IsEndOf, IsToldAs};
 ghost use Rattle.kahn_crew.specs.declared.standing.Standing.TheVariants as standing;
 
-use crate::answer::{End, Outcome};
 use kahn_crew::{Standing, Task};
-use kahn_network::{Network, Side};
-use kahn_streams::Input;
+use kahn_streams::{End, Input, Network, Outcome, Side};
 
 // Whether it is this parameter of this instance.
 fn is_side(side: Side, instance: usize, parameter: usize) -> bool

@@ -1,13 +1,12 @@
 //! Runs on one thread that are fed as they go, and let go of what they kept.
 
 ghost use Rattle.std.specs.Prelude.{◌≡◌, ◌↔◌, ◌≤◌, ◌+◌, Some, length, sum_by, vec_capacity, IfOk, IsTrue, MatchResult};
-ghost use Rattle.kahn_network.specs.Network.{network_of};
+ghost use Rattle.kahn_streams.specs.Network.{network_of};
 ghost use Rattle.kahn_pool.specs.HeldRuns.{IsLineOf, IsRightSoFar, IsUnstarted, seen_events};
-ghost use Rattle.kahn_pool.specs.Right.{stream_lines};
+ghost use Rattle.kahn_streams.specs.Answers.{stream_lines};
 ghost use Rattle.kahn_pool.specs.Flows.{AreNew, HasFlowed, HasLetGo, HasPouredIn, IsNotRun, IsRunOn, IsUnpoured};
-ghost use Rattle.kahn_pool.specs.declared.answer.Verdict.{Verdict as VerdictOf};
+ghost use Rattle.kahn_streams.specs.declared.answer.Verdict.{Verdict as VerdictOf};
 
-use crate::answer::{End, Verdict};
 use crate::bench::Bench;
 use crate::config::RunFault;
 use crate::held::lines_of;
@@ -17,10 +16,11 @@ use crate::part_alone::run_part_alone;
 use crate::plan::plan_of;
 use crate::running::watched;
 use crate::streams::{empty_streams, give_watched};
-use kahn_config::{Config, MOST_BOUND};
 use kahn_crew::{Gate, Plan};
-use kahn_network::{Network, Side};
-use kahn_streams::{Carried, FeedFault, Input, Line, NoMemory, Value, channel_meant};
+use kahn_streams::{
+    Carried, Config, End, FeedFault, Input, Line, MOST_BOUND, Network, NoMemory, Side, Value,
+    Verdict, channel_meant,
+};
 use std::alloc::Global;
 use std::marker::Model;
 use std::mem;
@@ -43,8 +43,8 @@ pub struct Flow<'n> {
 }
 
 impl<'n> Model for Flow<'n> {
-    ghost use Rattle.kahn_tree.specs.contracts.tree.Action as action;
-    ghost use Rattle.kahn_tree.specs.contracts.tree.Form as form;
+    ghost use Rattle.kahn_streams.specs.contracts.tree.Action as action;
+    ghost use Rattle.kahn_streams.specs.contracts.tree.Form as form;
     ghost use Rattle.std.specs.Coded.{codes};
     ghost use Rattle.std.specs.Prelude.{length, vec_capacity};
     ghost use Rattle.kahn_pool.specs.Flows.{Flowing};

@@ -1,18 +1,17 @@
 //! The answer of the tasks that the workers left.
 
 ghost use Rattle.std.specs.Prelude.{◌≡◌, ◌↔◌, ◌≤◌, [], length, true, vec_capacity, IfOk};
-ghost use Rattle.kahn_network.specs.Network.{network_of};
-ghost use Rattle.kahn_streams.specs.Tokens.{inputs_of};
+ghost use Rattle.kahn_streams.specs.Network.{network_of};
+ghost use Rattle.kahn_streams.specs.Inputs.{inputs_of};
 ghost use Rattle.kahn_crew.specs.inner.Left.{IsOver};
 ghost use Rattle.kahn_job.specs.inner.Idles.{AreIdle, cells_of};
 ghost use Rattle.kahn_pool.specs.inner.Bench.{AreStreams};
 ghost use Rattle.kahn_pool.specs.inner.Gathers.{IsRoom};
 ghost use Rattle.kahn_pool.specs.inner.Holding.{HaveAllLeft, held_state};
 ghost use Rattle.kahn_pool.specs.inner.Workbench.{AreKeptOf, AreStreamsReady};
-ghost use Rattle.kahn_pool.specs.Right.{IsRight, stream_lines};
-ghost use Rattle.kahn_pool.specs.declared.answer.Verdict.TheVariants as verdict;
+ghost use Rattle.kahn_streams.specs.Answers.{IsRight, stream_lines};
+ghost use Rattle.kahn_streams.specs.declared.answer.Verdict.TheVariants as verdict;
 
-use crate::answer::{Answer, End, Stream};
 use crate::conclude::{Conclusion, conclude};
 use crate::laws;
 use crate::part::Part;
@@ -21,8 +20,7 @@ use crate::workbench::opening_streams;
 use kahn_code::{CodeFault, Kept, Steps};
 use kahn_crew::Left;
 use kahn_job::Idle;
-use kahn_network::Network;
-use kahn_streams::Input;
+use kahn_streams::{Answer, End, Input, Network, Stream};
 use std::alloc::Global;
 use std::sync::ledger::Ledger;
 

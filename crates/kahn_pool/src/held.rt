@@ -1,13 +1,12 @@
 //! Runs that are cut into parts: between two parts a run is held, more events may be allowed and more values fed.
 
 ghost use Rattle.std.specs.Prelude.{◌≡◌, ◌↔◌, ℕ, ◌+◌, Some, length, map, slice_get, sum_by, IfOk, IsTrue, MatchResult};
-ghost use Rattle.kahn_network.specs.Network.{network_of};
-ghost use Rattle.kahn_code.specs.Cells.{token_value};
+ghost use Rattle.kahn_streams.specs.Network.{network_of};
+ghost use Rattle.kahn_streams.specs.Tokens.{token_value};
 ghost use Rattle.kahn_pool.specs.HeldRuns.{HasFed, HasSoFar, HasStarted, IsAnswerOf, IsLineOf, IsResumed, IsRightSoFar, IsUnfed, IsUnresumed, IsUnstarted, seen_events};
-ghost use Rattle.kahn_pool.specs.Right.{stream_line, stream_lines};
-ghost use Rattle.kahn_pool.specs.declared.answer.Verdict.{Verdict as VerdictOf};
+ghost use Rattle.kahn_streams.specs.Answers.{stream_line, stream_lines};
+ghost use Rattle.kahn_streams.specs.declared.answer.Verdict.{Verdict as VerdictOf};
 
-use crate::answer::{Answer, End, Stream, Verdict};
 use crate::config::RunFault;
 use crate::copies::{copied_ends, copied_streams};
 use crate::held_fault::HeldFault;
@@ -17,11 +16,12 @@ use crate::plan::plan_of;
 use crate::running::watched;
 use crate::streams::{empty_streams, give_watched};
 use kahn_code::{Code, compile};
-use kahn_config::{Config, MOST_BOUND};
 use kahn_crew::{CrewFault, Gate, Plan};
 use kahn_job::Idle;
-use kahn_network::{Network, Side};
-use kahn_streams::{Carried, FeedFault, Input, Line, NoMemory, Value};
+use kahn_streams::{
+    Answer, Carried, Config, End, FeedFault, Input, Line, MOST_BOUND, Network, NoMemory, Side,
+    Stream, Value, Verdict,
+};
 use std::alloc::Global;
 use std::marker::Model;
 use std::mem;
@@ -59,8 +59,8 @@ pub struct Held<'n> {
 }
 
 impl<'n> Model for Held<'n> {
-    ghost use Rattle.kahn_tree.specs.contracts.tree.Action as action;
-    ghost use Rattle.kahn_tree.specs.contracts.tree.Form as form;
+    ghost use Rattle.kahn_streams.specs.contracts.tree.Action as action;
+    ghost use Rattle.kahn_streams.specs.contracts.tree.Form as form;
     ghost use Rattle.std.specs.Coded.{codes};
     ghost use Rattle.std.specs.Prelude.{map};
     ghost use Rattle.kahn_job.specs.inner.Idles.{cells_of};

@@ -1,18 +1,16 @@
 //! Laws of answers. Each function does nothing: its contract is the law.
 
-ghost use Rattle.kahn_network.specs.Network.{Network};
-ghost use Rattle.kahn_network.specs.Wiring.{IsWellWired};
+ghost use Rattle.kahn_streams.specs.Network.{Network};
+ghost use Rattle.kahn_streams.specs.Wiring.{IsWellWired};
 ghost use Rattle.kahn_streams.specs.Solution.{HasSize, Inputs};
-ghost use Rattle.kahn_streams.specs.declared.value.Line.{Line};
-ghost use Rattle.kahn_streams.specs.declared.value.Value.{Value};
+ghost use Rattle.kahn_streams.specs.Types.{Line, Value};
 ghost use Rattle.kahn_code.specs.Cells.{StoodBy, View};
 ghost use Rattle.kahn_pool.specs.inner.Gathered.{IsGathered, Stood};
-ghost use Rattle.kahn_pool.specs.Exact.{AreBegun, Settles};
+ghost use Rattle.kahn_streams.specs.Answers.{AreBegun, Settles, AreOne, IsRight};
 ghost use Rattle.kahn_pool.specs.HeldRuns.{AreCalls, GoesOn, HeldRun, IsAnswerOf, SaysNoLess, last_of};
 ghost use Rattle.kahn_pool.specs.inner.Parameters.{ReadsOnce};
-ghost use Rattle.kahn_pool.specs.Right.{AreOne, IsRight};
-ghost use Rattle.kahn_pool.specs.declared.answer.Answer.{Answer};
-ghost use Rattle.kahn_pool.specs.declared.answer.Verdict.TheVariants.{Finished, Memory};
+ghost use Rattle.kahn_streams.specs.declared.answer.Answer.{Answer};
+ghost use Rattle.kahn_streams.specs.declared.answer.Verdict.TheVariants.{Finished, Memory};
 ghost use Rattle.std.specs.Prelude.{◌≡◌, ℕ, List, Option};
 
 /// What a cell says by the numbers of its parameters says the same by channels.

@@ -1,10 +1,11 @@
 //! The tokens that are lent of a watched input channel.
 
 ghost use Rattle.std.specs.Prelude.{◌≡◌, ◌+◌, ◌++◌, ◌<◌, ◌≤◌, ◌^◌, Some, drop, length, map, slice_get, false, true, OnOk, vec_capacity};
-ghost use Rattle.kahn_tree.specs.declared.tree.Role.TheVariants.{Input as InputRole};
-ghost use Rattle.kahn_network.specs.Network.{network_of, role_at};
-ghost use Rattle.kahn_streams.specs.Tokens.{Holds, Names, inputs_of};
-ghost use Rattle.kahn_code.specs.Cells.{is_watched, token_value};
+ghost use Rattle.kahn_streams.specs.declared.tree.Role.TheVariants.{Input as InputRole};
+ghost use Rattle.kahn_streams.specs.Network.{network_of, role_at};
+ghost use Rattle.kahn_streams.specs.Inputs.{Holds, Names, inputs_of};
+ghost use Rattle.kahn_streams.specs.Tokens.{token_value};
+ghost use Rattle.kahn_streams.specs.Answers.{is_watched};
 
 use crate::bench::Bench;
 use kahn_streams::{Carried, Line, NoMemory, Token, Value, Word};

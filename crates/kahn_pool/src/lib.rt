@@ -1,7 +1,6 @@
 //! Runs of a network, and what their answers mean.
 #![tactic(auto)]
 
-mod answer;
 mod awake;
 mod bench;
 mod conclude;
@@ -27,12 +26,13 @@ mod streams;
 mod workbench;
 mod workers;
 
-pub use answer::{Answer, End, Outcome, Stream, Verdict};
 pub use config::RunFault;
 pub use held::Held;
 pub use held_fault::HeldFault;
-pub use kahn_config::{Config, MOST_BOUND, MOST_QUANTUM, MOST_WORKERS};
 pub use kahn_crew::{Gate, Open};
+pub use kahn_streams::{
+    Answer, Config, End, MOST_BOUND, MOST_QUANTUM, MOST_WORKERS, Outcome, Stream, Verdict,
+};
 pub use laws::{
     calls_go_on, finished_exactly, finished_is_one, goes_on_same, goes_on_then, stopped_begins,
     verdict_is_one,

@@ -1,22 +1,18 @@
 //! A run on the caller's thread.
 
-ghost use Rattle.kahn_network.specs.Network.{network_of};
-ghost use Rattle.kahn_pool.specs.Exact.{IsCutShort, Settles};
+ghost use Rattle.kahn_streams.specs.Network.{network_of};
+ghost use Rattle.kahn_streams.specs.Answers.{IsCutShort, Settles, IsRight};
 ghost use Rattle.kahn_pool.specs.Limits.{IsRefusedRun};
-ghost use Rattle.kahn_pool.specs.Right.{IsRight};
-ghost use Rattle.kahn_streams.specs.Tokens.{inputs_of};
+ghost use Rattle.kahn_streams.specs.Inputs.{inputs_of};
 ghost use Rattle.std.specs.Prelude.{◌≡◌, ◌<◌, ◌^◌, ℕ, length, true, IfOk, IfErr, IfSome, MatchOption, MatchResult, None};
 
-use crate::answer::Answer;
 use crate::config::RunFault;
 use crate::laws;
 use crate::rounds::run_bench;
 use crate::workbench::Workbench;
 use kahn_code::{CodeFault, Steps};
-use kahn_config::MOST_BOUND;
 use kahn_crew::{Gate, Open};
-use kahn_network::Network;
-use kahn_streams::Input;
+use kahn_streams::{Answer, Input, MOST_BOUND, Network};
 use std::alloc::Global;
 use std::marker::Brand;
 use std::sync::ledger::{Blank, Ledger};

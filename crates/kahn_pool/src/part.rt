@@ -1,21 +1,19 @@
 //! A part of a held run: idle jobs go on, and come to rest again.
 
 ghost use Rattle.std.specs.Prelude.{◌≡◌, ℕ, ◌≤◌, ◌<◌, [], Err, Some, length, map, slice_get, vec_capacity, IfOk, OnOk};
-ghost use Rattle.kahn_network.specs.Network.{network_of};
+ghost use Rattle.kahn_streams.specs.Network.{network_of};
 ghost use Rattle.kahn_job.specs.inner.Idles.{HaveSettled, cells_of, rows_of};
 ghost use Rattle.kahn_job.specs.inner.Settling.{AreResting, HaveStood};
 ghost use Rattle.kahn_job.specs.inner.Works.{Work};
 ghost use Rattle.kahn_pool.specs.inner.Holding.{AreHeld, AreHeldBy, HasStoppedPart, HaveAllLeft, IsHeldPart, IsPartOf, IsRoomFor};
 ghost use Rattle.kahn_pool.specs.inner.Rested.{cell_of};
 
-use crate::answer::{End, Verdict};
 use crate::conclude::{Conclusion, conclude};
 use crate::settle::settle_all;
 use kahn_code::{Code, Steps};
 use kahn_crew::{CrewFault, Gate, Left, Plan, Task, first_tasks, rest_all, run_tasks, wake_all};
 use kahn_job::{Idle, settle};
-use kahn_network::Network;
-use kahn_streams::{Input, NoMemory};
+use kahn_streams::{End, Input, Network, NoMemory, Verdict};
 use std::alloc::Global;
 use std::marker::Brand;
 use std::sync::Wait;

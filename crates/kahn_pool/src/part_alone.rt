@@ -5,11 +5,11 @@ ghost use Rattle.kahn_pool.specs.inner.Bench.{all_events};
 ghost use Rattle.kahn_pool.specs.inner.FlowBench.{IsPartEnd};
 ghost use Rattle.kahn_pool.specs.inner.Workbench.{HasWorked, sight_of};
 
-use crate::answer::{End, Verdict};
 use crate::bench::Bench;
 use crate::rounds::{last_round, verdict_of};
 use kahn_code::Steps;
 use kahn_crew::Gate;
+use kahn_streams::{End, Verdict};
 use std::marker::Brand;
 use std::sync::ledger::{Blank, Ledger};
 

@@ -2,8 +2,8 @@
 
 ghost use Rattle.std.specs.Prelude.{◌≡◌, ◌≤◌, max, min};
 
-use kahn_config::Config;
 use kahn_crew::Plan;
+use kahn_streams::Config;
 
 /// The plan of a run of that configuration, with the channel that is to be watched.
 pub(crate) fn plan_of(config: &Config, watch: Option<usize>) -> Plan

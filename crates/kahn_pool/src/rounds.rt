@@ -4,21 +4,20 @@
 ghost use Rattle.kahn_streams.specs.Solution.{source};
 ghost use Rattle.kahn_pool.specs.inner.Bench.{RunState, HasRunCell, PausedAt, HasEndIn, Goes, GoesIn, HasMoved, LacksMemory, HasTakenTurn, HasVisited, IsSameRun, Marked, AreEnds, IsLast, IsVerdict, AreStreams, events_at, all_events, turn_of, weight};
 ghost use Rattle.kahn_pool.specs.inner.Gathered.{IsFrom};
-ghost use Rattle.kahn_pool.specs.Exact.{IsCutShort};
-ghost use Rattle.kahn_pool.specs.Right.{IsRight, stream_line, stream_lines};
+ghost use Rattle.kahn_streams.specs.Answers.{IsCutShort, IsRight, stream_line, stream_lines};
 ghost use Rattle.kahn_pool.specs.inner.Workbench.{HasWorked, sight_of};
-ghost use Rattle.kahn_pool.specs.declared.answer.Outcome.TheVariants as outcome;
-ghost use Rattle.kahn_pool.specs.declared.answer.Stream.{Stream};
+ghost use Rattle.kahn_streams.specs.declared.answer.Outcome.TheVariants as outcome;
+ghost use Rattle.kahn_streams.specs.declared.answer.Stream.{Stream};
 ghost use Rattle.kahn_code.specs.declared.progress.Pause.TheVariants as pause;
 ghost use Rattle.std.specs.Prelude.{vec_len, vec_capacity};
 ghost use Rattle.std.specs.Prelude.{◌≡◌, ◌⊎◌, ◌<◌, ◌≤◌, ◌+◌, ◌^◌, ℕ, suc, length, map, true, false, IsTrue, IsFalse, slice_get, Some, None, IfOk, IfSome, IsOk, MatchOption, cond};
 
-use crate::answer::{Answer, End, Outcome, Verdict};
 use crate::bench::Bench;
 use crate::laws;
 use crate::workbench::Workbench;
 use kahn_code::{Pause, Steps};
 use kahn_crew::Gate;
+use kahn_streams::{Answer, End, Outcome, Verdict};
 use std::sync::ledger::Ledger;
 
 // How many visits of those that may go on come between two rounds of all at most, for each instance.

@@ -1,24 +1,20 @@
 //! Runs of a network.
 
-ghost use Rattle.kahn_network.specs.Network.{network_of};
-ghost use Rattle.kahn_pool.specs.Exact.{IsCutShort, Settles};
+ghost use Rattle.kahn_streams.specs.Network.{network_of};
+ghost use Rattle.kahn_streams.specs.Answers.{IsCutShort, Settles, IsRight, IsRightRun, IsUndeclared, IsWatched};
 ghost use Rattle.kahn_pool.specs.Limits.{IsWant};
-ghost use Rattle.kahn_pool.specs.Right.{IsRight};
-ghost use Rattle.kahn_pool.specs.Runs.{IsRightRun, IsUndeclared, IsUnrun, IsWatched};
+ghost use Rattle.kahn_pool.specs.Runs.{IsUnrun};
 ghost use Rattle.kahn_pool.specs.declared.config.RunFault.TheVariants.{UnknownWatch};
-ghost use Rattle.kahn_streams.specs.Tokens.{inputs_of};
+ghost use Rattle.kahn_streams.specs.Inputs.{inputs_of};
 ghost use Rattle.std.specs.Prelude.{◌≡◌, ◌<◌, ◌≤◌, ◌^◌, length, IfOk, MatchResult};
 
-use crate::answer::Answer;
 use crate::config::RunFault;
 use crate::laws;
 use crate::one::{run_alone, run_watched};
 use crate::plan::{crew_plan, plan_of};
 use crate::workers::run_workers;
-use kahn_config::Config;
 use kahn_crew::{Gate, Plan};
-use kahn_network::Network;
-use kahn_streams::{Input, channel_named};
+use kahn_streams::{Answer, Config, Input, Network, channel_named};
 use std::alloc::Global;
 use std::sync::Wait;
 use std::thread::{Threads, available_parallelism};

@@ -2,22 +2,21 @@
 
 ghost use Rattle.std.specs.Prelude.{◌≡◌, ◌<◌, ◌++◌, ◌∷◌, [], length, map, slice_set, slice_index_or, IfOk, OnOk};
 ghost use Rattle.std.specs.List.{All};
-ghost use Rattle.kahn_tree.specs.Prints.{declaration_prints};
-ghost use Rattle.kahn_tree.specs.Syntax.{prints_in};
-ghost use Rattle.kahn_network.specs.Network.{network_of, instance_at, role_at};
-ghost use Rattle.kahn_tree.specs.declared.tree.Role.TheVariants.{Input as InputRole};
+ghost use Rattle.kahn_streams.specs.Prints.{declaration_prints};
+ghost use Rattle.kahn_streams.specs.Syntax.{prints_in};
+ghost use Rattle.kahn_streams.specs.Network.{network_of, instance_at, role_at};
+ghost use Rattle.kahn_streams.specs.declared.tree.Role.TheVariants.{Input as InputRole};
 ghost use Rattle.kahn_streams.specs.declared.value.Line.TheVariants.{Channel as ChannelLine};
 ghost use Rattle.kahn_streams.specs.Solution.{source};
-ghost use Rattle.kahn_streams.specs.Tokens.{inputs_of};
+ghost use Rattle.kahn_streams.specs.Inputs.{inputs_of};
 ghost use Rattle.kahn_code.specs.Cells.{AreKeptTokens, is_streamed};
-ghost use Rattle.kahn_pool.specs.Right.{stream_line, channel_lines, print_lines, stream_lines};
+ghost use Rattle.kahn_streams.specs.Answers.{stream_line, channel_lines, print_lines, stream_lines};
 ghost use Rattle.kahn_pool.specs.inner.Streams.{AreAllGiven, AreGiven, AreNamed, IsBegun, IsDeclared, IsBare, kept_lists, AreLists, IsFilled, AreFilled, KeepsOtherLines, HasInput, HasInputs, HaveInput};
 
-use crate::answer::Stream;
 use kahn_code::Kept;
-use kahn_network::{Network, Side};
-use kahn_streams::{Carried, Input, Line, NoMemory};
-use kahn_tree::{Role, declaration_prints};
+use kahn_streams::{
+    Carried, Input, Line, Network, NoMemory, Role, Side, Stream, declaration_prints,
+};
 use std::alloc::Global;
 use std::mem;
 

@@ -1,18 +1,16 @@
 //! The processes of a network over its plain queues, with room for all that the answer of a run wants.
 
-ghost use Rattle.kahn_network.specs.Network.{network_of};
+ghost use Rattle.kahn_streams.specs.Network.{network_of};
 ghost use Rattle.kahn_pool.specs.inner.Bench.{AreStreams, all_events};
 ghost use Rattle.kahn_pool.specs.inner.Gathered.{TookNoMore};
-ghost use Rattle.kahn_pool.specs.Right.{stream_lines};
+ghost use Rattle.kahn_streams.specs.Answers.{stream_lines};
 ghost use Rattle.kahn_pool.specs.inner.Workbench.{AreLeft, AreOpen, sight_of};
 ghost use Rattle.std.specs.Prelude.{◌≡◌, ◌≤◌, [], length, IfOk, vec_capacity};
 
-use crate::answer::Stream;
 use crate::bench::Bench;
 use crate::streams::{empty_streams, fill, watched_input};
 use kahn_code::{CodeFault, Kept, Tap};
-use kahn_network::Network;
-use kahn_streams::{Input, NoMemory};
+use kahn_streams::{Input, Network, NoMemory, Stream};
 use std::alloc::Global;
 use std::marker::Model;
 
@@ -26,11 +24,11 @@ pub struct Workbench<'n> {
 }
 
 impl<'n> Model for Workbench<'n> {
-    ghost use Rattle.kahn_tree.specs.contracts.tree.Action as action;
-    ghost use Rattle.kahn_tree.specs.contracts.tree.Form as form;
+    ghost use Rattle.kahn_streams.specs.contracts.tree.Action as action;
+    ghost use Rattle.kahn_streams.specs.contracts.tree.Form as form;
     ghost use Rattle.std.specs.Coded.{codes};
     ghost use Rattle.std.specs.Prelude.{◌≡◌, length, vec_capacity};
-    ghost use Rattle.kahn_network.specs.Network.{network_of};
+    ghost use Rattle.kahn_streams.specs.Network.{network_of};
     ghost use Rattle.kahn_pool.specs.inner.Workbench.{Table, AreStreamsReady, AreWhole};
 
     ghost Value = { Table };

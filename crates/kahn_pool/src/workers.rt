@@ -1,21 +1,19 @@
 //! A run by several workers.
 
-ghost use Rattle.kahn_network.specs.Network.{network_of};
+ghost use Rattle.kahn_streams.specs.Network.{network_of};
 ghost use Rattle.kahn_crew.specs.inner.Wants.{IsLack as LacksWorker};
 ghost use Rattle.kahn_pool.specs.Limits.{IsWant};
-ghost use Rattle.kahn_pool.specs.Right.{IsRight};
+ghost use Rattle.kahn_streams.specs.Answers.{IsRight};
 ghost use Rattle.kahn_pool.specs.inner.Gathers.{IsRoom};
-ghost use Rattle.kahn_streams.specs.Tokens.{inputs_of};
+ghost use Rattle.kahn_streams.specs.Inputs.{inputs_of};
 ghost use Rattle.std.specs.Prelude.{◌≡◌, ◌<◌, ◌≤◌, ◌^◌, MatchResult};
 
-use crate::answer::Answer;
 use crate::config::RunFault;
 use crate::gather::{Room, answer_of};
 use crate::part::Part;
 use kahn_code::{Code, Steps, compile};
 use kahn_crew::{CrewFault, Gate, Plan, run_crew};
-use kahn_network::Network;
-use kahn_streams::Input;
+use kahn_streams::{Answer, Input, Network};
 use std::alloc::Global;
 use std::marker::Brand;
 use std::sync::Wait;

@@ -2,19 +2,14 @@
 use Rattle.std.proofs.Common.{◌≡◌, ◌+◌, ◌≤◌, ◌||◌, ℕ, zero, suc, Bool, true, false, if◌then◌else◌, Option, List, [], ◌∷◌, ◌++◌, length, map, All, arith, subst, sym}
 use Rattle.std.proofs.lemmas.List.{length-map}
 use Rattle.std.specs.List.{AllByRecursion}
-use Rattle.kahn_tree.specs.declared.tree.Kind.{Kind}
-use Rattle.kahn_tree.specs.declared.tree.Role.{Role}
-use Rattle.kahn_tree.specs.declared.tree.Program.{Program}
-use Rattle.kahn_tree.specs.Syntax.{prints_in}
-use Rattle.kahn_network.specs.Network.{Instance, network_of, channels_of}
-use Rattle.kahn_streams.specs.declared.value.Line.{Line}
+use Rattle.kahn_streams.specs.Types.{Kind, Role, Program, Line}
+use Rattle.kahn_streams.specs.Syntax.{prints_in}
+use Rattle.kahn_streams.specs.Network.{Instance, network_of, channels_of}
 use Rattle.kahn_streams.specs.declared.value.Line.TheVariants.{Channel, Print}
-use Rattle.kahn_pool.specs.declared.answer.Stream.{Stream}
-use Rattle.kahn_pool.specs.declared.answer.Answer.{Answer}
-use Rattle.kahn_code.specs.Cells.{is_output, is_watched}
-use Rattle.kahn_pool.specs.Right.{channel_lines, print_lines, stream_lines, stream_line}
-use Rattle.kahn_report.specs.Names.{channel_count, instance_count}
-use Rattle.kahn_report.specs.Report.{IsLine, HasItsLines}
+use Rattle.kahn_streams.specs.declared.answer.Stream.{Stream}
+use Rattle.kahn_streams.specs.declared.answer.Answer.{Answer}
+use Rattle.kahn_streams.specs.Answers.{is_output, is_watched, channel_lines, print_lines, stream_lines, stream_line}
+use Rattle.kahn_report.specs.Report.{channel_count, instance_count, IsLine, HasItsLines}
 
 each_if : (P : Line → Type 0) (b : Bool) (x : Line) (r : List Line) → P x → AllByRecursion P r → AllByRecursion P (if b then x ∷ r else r)
 each_if P true x r p h = (p, h)

@@ -7,15 +7,13 @@ use Rattle.std.specs.Char.{to_ascii_lowercase}
 use Rattle.std.specs.List.{slice_split}
 use Rattle.std.specs.Str.{str_eq_ignore_ascii_case, str_to_ascii_lowercase}
 use Rattle.std.specs.Str.Parse.{AllDigits}
-use Rattle.kahn_tree.specs.declared.tree.Program.{Program}
-use Rattle.kahn_tree.specs.View.{Scope, place_of}
-use Rattle.kahn_network.specs.Sides.{channel_names}
-use Rattle.kahn_network.proofs.Handed.{bytes_true}
-use Rattle.kahn_streams.specs.declared.value.Value.{Value}
+use Rattle.kahn_streams.specs.Types.{Program, Value}
+use Rattle.kahn_streams.specs.View.{Scope, place_of}
+use Rattle.kahn_streams.specs.Network.{channel_names}
+use Rattle.kahn_streams.proofs.Handed.{bytes_true}
 use Rattle.kahn_streams.specs.declared.value.Value.TheVariants.{Integer, Logical}
-use Rattle.kahn_streams.specs.Entries.{Entry, IsInputOf, list_for}
-use Rattle.kahn_streams.specs.Tokens.{Lists, inputs_of}
-use Rattle.kahn_report.specs.Entries.{IsName, AreBlanks, IsValue, SpellsValues, AreValues, IsEntry, AreEntries, is_blank, content}
+use Rattle.kahn_streams.specs.Inputs.{Entry, IsInputOf, list_for, Lists, inputs_of}
+use Rattle.kahn_report.specs.Inputs.{IsName, AreBlanks, IsValue, SpellsValues, AreValues, IsEntry, AreEntries, is_blank, content}
 use Rattle.kahn_report.proofs.Scanned.{scanned, same_tail}
 use Rattle.kahn_report.proofs.Words.{letter_dark}
 

@@ -1,24 +1,13 @@
 -- One text spells one network: the network and the names are those of the tree without its spans.
 use Rattle.std.proofs.Common.{◌≡◌, ℕ, pos, Bool, true, false, List, [], ◌∷◌, ◌++◌, map, Some, Option, refl, sym, ap, ◌∙◌, bytes_eq, if◌then◌else◌}
-use Rattle.kahn_tree.specs.declared.tree.Form.{Form, Number, Logical, Variable, Wait, Negate', Not', Bracket', Level', Conditional', Row_of-Operand, end_of-Operand, more_of-Operand}
-use Rattle.kahn_tree.specs.declared.tree.Action.{Action, Empty, Assign, Send, Print, Block', If', While', Repeat', Row_of-Statement, end_of-Statement, more_of-Statement, None', Some'}
-use Rattle.kahn_tree.specs.declared.tree.Statement.{Statement}
-use Rattle.kahn_tree.specs.declared.tree.Kind.{Kind}
-use Rattle.kahn_tree.specs.declared.tree.Role.{Role}
-use Rattle.kahn_tree.specs.declared.tree.Direction.TheVariants.{In, Out}
-use Rattle.kahn_tree.specs.declared.tree.Taking.{Taking}
-use Rattle.kahn_tree.specs.declared.tree.Taking.TheVariants as taking
-use Rattle.kahn_tree.specs.declared.tree.Parameter.{Parameter}
-use Rattle.kahn_tree.specs.declared.tree.Process.{Process}
-use Rattle.kahn_tree.specs.declared.tree.Declaration.{Declaration}
-use Rattle.kahn_tree.specs.declared.tree.Declaration.TheVariants as declared
-use Rattle.kahn_tree.specs.declared.tree.Argument.{Argument}
-use Rattle.kahn_tree.specs.declared.tree.Argument.TheVariants as argued
-use Rattle.kahn_tree.specs.declared.tree.Instance.{Instance as OneInstance}
-use Rattle.kahn_tree.specs.declared.tree.Program.{Program}
-use Rattle.kahn_tree.specs.Syntax as S
-use Rattle.kahn_tree.specs.View.{Scope, place_of, expr_of, level_of, stmt_of, row_of, body_of, bytes_of, names_of}
-use Rattle.kahn_network.specs.Network.{Actual, Reads, Writes, Hands, Instance, Network, idle, channels_of, process_of, actual_of, actuals_of, instance_from, network_of}
+use Rattle.kahn_streams.specs.Types.{Form, Number, Logical, Variable, Wait, Negate', Not', Bracket', Level', Conditional', Row_of-Operand, end_of-Operand, more_of-Operand, Action, Empty, Assign, Send, Print, Block', If', While', Repeat', Row_of-Statement, end_of-Statement, more_of-Statement, None', Some', Statement, Kind, Role, Taking, Parameter, Process, Declaration, Argument, Instance as OneInstance, Program}
+use Rattle.kahn_streams.specs.declared.tree.Direction.TheVariants.{In, Out}
+use Rattle.kahn_streams.specs.declared.tree.Taking.TheVariants as taking
+use Rattle.kahn_streams.specs.declared.tree.Declaration.TheVariants as declared
+use Rattle.kahn_streams.specs.declared.tree.Argument.TheVariants as argued
+use Rattle.kahn_streams.specs.Syntax as S
+use Rattle.kahn_streams.specs.View.{Scope, place_of, expr_of, level_of, stmt_of, row_of, body_of, bytes_of, names_of}
+use Rattle.kahn_streams.specs.Network.{Actual, Reads, Writes, Hands, Instance, Network, idle, channels_of, process_of, actual_of, actuals_of, instance_from, network_of}
 use Rattle.kahn_syntax.specs.Trees.{ExpressionTree, number, truth, variable, wait, negation, denial, bracket, level, conditional, OperandTrees, no_operand, operand, StatementTree, empty, assign, send, print, block, if_then, if_else, while_do, repeat, StatementTrees, no_statement, statement}
 use Rattle.kahn_syntax.specs.Programs as whole
 use Rattle.kahn_syntax.specs.Programs.{ParameterTree, VariableTree, DeclarationTree, ArgumentTree, InstanceTree, ProgramTree}

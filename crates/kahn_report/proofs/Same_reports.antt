@@ -6,13 +6,12 @@ use Rattle.std.specs.Io.KnownBytes.{Appends}
 use Rattle.std.specs.List.{concat}
 use Rattle.std.specs.declared.string.String.{String}
 use Rattle.std.specs.declared.alloc.Global.{Global}
-use Rattle.kahn_tree.specs.declared.tree.Program.{Program}
-use Rattle.kahn_tree.specs.View.{Scope, place_of}
-use Rattle.kahn_network.specs.Network.{Network, network_of}
-use Rattle.kahn_network.specs.Sides.{channel_names}
-use Rattle.kahn_network.specs.Wiring.{IsWellWired}
-use Rattle.kahn_network.proofs.Handed.{bytes_self}
-use Rattle.kahn_network.proofs.Numbered.{distinct_channels, number_test}
+use Rattle.kahn_streams.specs.Types.{Program, Value, Line, Config}
+use Rattle.kahn_streams.specs.View.{Scope, place_of}
+use Rattle.kahn_streams.specs.Network.{Network, network_of, channel_names}
+use Rattle.kahn_streams.specs.Wiring.{IsWellWired}
+use Rattle.kahn_streams.proofs.Handed.{bytes_self}
+use Rattle.kahn_streams.proofs.By_number.{distinct_channels, number_test}
 use Rattle.kahn_syntax.specs.declared.lexeme.Lexeme.{Lexeme}
 use Rattle.kahn_syntax.specs.Spans.{program_of}
 use Rattle.kahn_syntax.specs.Programs.{Spells}
@@ -21,24 +20,20 @@ use Rattle.kahn_syntax.specs.Texts.{IsProgram}
 use Rattle.kahn_syntax.proofs.OneTree.{one_tree}
 use Rattle.kahn_syntax.proofs.OneList.{same_lexemes}
 use Rattle.kahn_streams.specs.Solution.{Inputs}
-use Rattle.kahn_streams.specs.Tokens.{inputs_of}
-use Rattle.kahn_streams.specs.declared.value.Value.{Value}
-use Rattle.kahn_streams.specs.declared.value.Line.{Line}
+use Rattle.kahn_streams.specs.Inputs.{inputs_of}
 use Rattle.kahn_streams.specs.declared.value.Line.TheVariants.{Channel, Print}
-use Rattle.kahn_code.specs.Cells.{token_value}
-use Rattle.kahn_config.specs.declared.Config.{Config}
-use Rattle.kahn_pool.specs.declared.answer.Answer.{Answer}
-use Rattle.kahn_pool.specs.declared.answer.End.{End}
-use Rattle.kahn_pool.specs.declared.answer.Outcome.{Outcome}
-use Rattle.kahn_pool.specs.declared.answer.Outcome.TheVariants.{Ended, Waits, Faulted, More}
-use Rattle.kahn_pool.specs.declared.answer.Stream.{Stream}
-use Rattle.kahn_pool.specs.declared.answer.Verdict.TheVariants.{Finished}
-use Rattle.kahn_pool.specs.Right.{AreOne, IsRight, stream_line, values_of}
-use Rattle.kahn_pool.specs.Runs.{IsWatched}
+use Rattle.kahn_streams.specs.Tokens.{token_value}
+use Rattle.kahn_streams.specs.declared.answer.Answer.{Answer}
+use Rattle.kahn_streams.specs.declared.answer.End.{End}
+use Rattle.kahn_streams.specs.declared.answer.Outcome.{Outcome}
+use Rattle.kahn_streams.specs.declared.answer.Outcome.TheVariants.{Ended, Waits, Faulted, More}
+use Rattle.kahn_streams.specs.declared.answer.Stream.{Stream}
+use Rattle.kahn_streams.specs.declared.answer.Verdict.TheVariants.{Finished}
+use Rattle.kahn_streams.specs.Answers.{AreOne, IsRight, stream_line, values_of, IsWatched}
 use Rattle.kahn_pool.proofs.Unique.{finished_is_one}
-use Rattle.kahn_report.specs.Names as name
-use Rattle.kahn_report.specs.Entries.{text_lines}
-use Rattle.kahn_write.specs.Values.{line_feed, spaced_text}
+use Rattle.kahn_report.specs.Report as name
+use Rattle.kahn_report.specs.Inputs.{text_lines}
+use Rattle.kahn_write.specs.Written.{line_feed, spaced_text}
 use Rattle.kahn_report.specs.Report.{line_head, stream_text, outcome_word, waited_name, end_words, end_text, ends_text, verdict_text, last_text, report_text}
 use Rattle.kahn_report.specs.Work.{IsOneReport, watched_name}
 use Rattle.kahn_report.proofs.Same_programs.{one_network, one_channels, one_processes}

@@ -1,13 +1,11 @@
 -- The network of the sample text.
 use Rattle.std.proofs.Common.{◌≡◌, ℕ, List, [], ◌∷◌, codes, pos, length, refl, sym, ap, ◌∙◌, subst, arith, inl, inr, true}
-use Rattle.kahn_tree.specs.declared.tree.Kind.TheVariants as kind
-use Rattle.kahn_tree.specs.declared.tree.Role.TheVariants as role
-use Rattle.kahn_tree.specs.declared.tree.Direction.TheVariants as direction
-use Rattle.kahn_tree.specs.declared.tree.Taking.TheVariants as taking
-use Rattle.kahn_tree.specs.declared.tree.Kind.{Kind}
-use Rattle.kahn_tree.specs.declared.tree.Taking.{Taking}
-use Rattle.kahn_tree.specs.declared.tree.Program.{Program}
-use Rattle.kahn_network.specs.Network.{network_of}
+use Rattle.kahn_streams.specs.declared.tree.Kind.TheVariants as kind
+use Rattle.kahn_streams.specs.declared.tree.Role.TheVariants as role
+use Rattle.kahn_streams.specs.declared.tree.Direction.TheVariants as direction
+use Rattle.kahn_streams.specs.declared.tree.Taking.TheVariants as taking
+use Rattle.kahn_streams.specs.Types.{Kind, Taking, Program}
+use Rattle.kahn_streams.specs.Network.{network_of}
 use Rattle.kahn_syntax.specs.Spans.{program_of}
 use Rattle.kahn_syntax.specs.declared.lexeme.Keyword.TheVariants as keyword
 use Rattle.kahn_syntax.specs.declared.lexeme.Sign.TheVariants as mark

@@ -1,13 +1,11 @@
 -- Faults of the entries and of the input, as faults of the text.
 use Rattle.std.proofs.Common.{◌≡◌, ◌⊎◌, inl, inr, ℕ, List}
-use Rattle.kahn_tree.specs.declared.tree.Program.{Program}
-use Rattle.kahn_streams.specs.declared.entries.InputFault.{InputFault}
+use Rattle.kahn_streams.specs.Types.{Program, InputFault}
 use Rattle.kahn_streams.specs.declared.entries.InputFault.TheVariants.{UnknownName, NotAnInput, GivenTwice, WrongKind, TooMany, NoMemory}
-use Rattle.kahn_streams.specs.Entries.{Entry, IsFirstRefused}
+use Rattle.kahn_streams.specs.Inputs.{Entry, IsFirstRefused}
 use Rattle.kahn_report.specs.declared.input.TextFault.{TextFault}
 use Rattle.kahn_report.specs.declared.input.TextFault.TheVariants as text_fault
-use Rattle.kahn_report.specs.Entries.{IsInputText, IsEntriesFault}
-use Rattle.kahn_report.specs.Inputs.{IsInputTextFault, told_of_input}
+use Rattle.kahn_report.specs.Inputs.{IsInputText, IsEntriesFault, IsInputTextFault, told_of_input}
 
 pub entries_told : (t : Program) (text : List ℕ) (fault : TextFault) → IsEntriesFault text fault → IsInputTextFault t text fault
 entries_told t text (text_fault.BadLine n) h = h

@@ -1,8 +1,6 @@
-pub mod Names
 pub mod Report
 pub mod News
 pub mod Reading
-pub mod Entries
 pub mod Inputs
 pub mod Work
 pub mod SampleText

@@ -1,21 +1,41 @@
 -- Believed. The report text of an answer of a network: a function of the program and the answer, line by line. Each line ends
--- with a line feed and has no blank at its end.
-use Rattle.std.specs.Prelude.{ℕ, ◌+◌, ◌<◌, List, [], ◌∷◌, ◌++◌, codes, decimal, flat_map, All}
+-- with a line feed and has no blank at its end. First the names in a network, by number, counted from 0.
+use Rattle.std.specs.Prelude.{ℕ, List, [], length, map, slice_index_or, ◌+◌, ◌<◌, ◌∷◌, ◌++◌, codes, decimal, flat_map, All}
+use Rattle.kahn_streams.specs.Types.{Declaration, Program, Line}
+use Rattle.kahn_streams.specs.View.{bytes_of}
+use Rattle.kahn_streams.specs.Network.{channels_of}
 use Rattle.std.specs.List.{concat}
-use Rattle.kahn_write.specs.Values.{line_feed, spaced_text}
-use Rattle.kahn_report.specs.Names.{channel_name, process_name, channel_count, instance_count}
-use Rattle.kahn_tree.specs.declared.tree.Program.{Program}
-use Rattle.kahn_streams.specs.declared.value.Line.{Line}
+use Rattle.kahn_write.specs.Written.{line_feed, spaced_text}
 use Rattle.kahn_streams.specs.declared.value.Line.TheVariants.{Channel, Print}
 use Rattle.kahn_streams.specs.declared.value.Failure.TheVariants.{Overflow, Division}
 use Rattle.kahn_streams.specs.declared.token.Token.{Token}
-use Rattle.kahn_pool.specs.declared.answer.Stream.{Stream}
-use Rattle.kahn_pool.specs.declared.answer.Outcome.{Outcome}
-use Rattle.kahn_pool.specs.declared.answer.Outcome.TheVariants.{Ended, Waits, Faulted, More}
-use Rattle.kahn_pool.specs.declared.answer.End.{End}
-use Rattle.kahn_pool.specs.declared.answer.Verdict.{Verdict}
-use Rattle.kahn_pool.specs.declared.answer.Verdict.TheVariants.{Finished, Bound, Memory}
-use Rattle.kahn_pool.specs.declared.answer.Answer.{Answer}
+use Rattle.kahn_streams.specs.declared.answer.Stream.{Stream}
+use Rattle.kahn_streams.specs.declared.answer.Outcome.{Outcome}
+use Rattle.kahn_streams.specs.declared.answer.Outcome.TheVariants.{Ended, Waits, Faulted, More}
+use Rattle.kahn_streams.specs.declared.answer.End.{End}
+use Rattle.kahn_streams.specs.declared.answer.Verdict.{Verdict}
+use Rattle.kahn_streams.specs.declared.answer.Verdict.TheVariants.{Finished, Bound, Memory}
+use Rattle.kahn_streams.specs.declared.answer.Answer.{Answer}
+
+-- how many channels are declared
+abbrev pub channel_count : Program → ℕ
+channel_count program = length (channels_of program.declarations.items)
+
+-- how many instances the program composes
+abbrev pub instance_count : Program → ℕ
+instance_count program = length program.instances.items
+
+-- the names of the declared channels, in order of declaration
+abbrev pub declared_names : List Declaration → List (List ℕ)
+declared_names declarations = map (λ c. c.0) (channels_of declarations)
+
+-- the declared name of a channel, and nothing past the last
+abbrev pub channel_name : Program → ℕ → List ℕ
+channel_name program channel = slice_index_or (declared_names program.declarations.items) channel []
+
+-- the name of an instance's process, and nothing past the last
+abbrev pub process_name : Program → ℕ → List ℕ
+process_name program instance = slice_index_or (map (λ i. bytes_of i.process) program.instances.items) instance []
 
 -- a space and the value
 abbrev pub token_text : Token → List ℕ

@@ -3,21 +3,19 @@ use Rattle.std.specs.Prelude.{◌≡◌, ℕ, ◌≤◌, ◌⊎◌, List, Option
 use Rattle.std.specs.declared.string.String.{String}
 use Rattle.std.specs.declared.alloc.Global.{Global}
 use Rattle.std.specs.Io.KnownBytes.{Appends}
-use Rattle.kahn_tree.specs.declared.tree.Program.{Program}
+use Rattle.kahn_streams.specs.Types.{Program, Config}
 use Rattle.kahn_syntax.specs.Spans.{program_of}
 use Rattle.kahn_syntax.specs.Programs.{nesting}
 use Rattle.kahn_syntax.specs.Texts.{IsProgram, IsTextFault as IsSyntaxFault}
-use Rattle.kahn_network.specs.Network.{network_of}
-use Rattle.kahn_check.specs.Order.{faults}
-use Rattle.kahn_check.specs.Faults.{IsMet}
-use Rattle.kahn_network.specs.Wiring.{IsWellWired}
-use Rattle.kahn_streams.specs.Tokens.{Lists, inputs_of}
-use Rattle.kahn_pool.specs.declared.answer.Answer.{Answer}
-use Rattle.kahn_pool.specs.declared.answer.Verdict.{Verdict}
-use Rattle.kahn_pool.specs.declared.answer.Verdict.TheVariants.{Finished}
-use Rattle.kahn_config.specs.declared.Config.{Config}
-use Rattle.kahn_pool.specs.Exact.{Settles}
-use Rattle.kahn_pool.specs.Runs.{IsRightRun, IsUnrun}
+use Rattle.kahn_streams.specs.Network.{network_of}
+use Rattle.kahn_check.specs.Faults.{faults, IsMet}
+use Rattle.kahn_streams.specs.Wiring.{IsWellWired}
+use Rattle.kahn_streams.specs.Inputs.{Lists, inputs_of}
+use Rattle.kahn_streams.specs.declared.answer.Answer.{Answer}
+use Rattle.kahn_streams.specs.declared.answer.Verdict.{Verdict}
+use Rattle.kahn_streams.specs.declared.answer.Verdict.TheVariants.{Finished}
+use Rattle.kahn_streams.specs.Answers.{Settles, IsRightRun}
+use Rattle.kahn_pool.specs.Runs.{IsUnrun}
 use Rattle.kahn_report.specs.declared.working.WorkFault.{WorkFault}
 use Rattle.kahn_report.specs.declared.working.WorkFault.TheVariants.{Syntax, Check, Text, Run, Write}
 use Rattle.kahn_report.specs.Inputs.{StandsFor, IsInputTextFault}

@@ -1,8 +1,8 @@
 //! The entries of an input text, line by line.
 
 ghost use Rattle.std.specs.Prelude.{◌≡◌, ◌↔◌, IsTrue, List, MatchResult, MatchOption, map};
-ghost use Rattle.kahn_report.specs.Entries.{AreBlanks, IsEntry, IsLineFault, IsEntriesFault, IsInputText, IsReadLine, content as content_of};
-ghost use Rattle.kahn_streams.specs.Entries.{entry_of};
+ghost use Rattle.kahn_report.specs.Inputs.{AreBlanks, IsEntry, IsLineFault, IsEntriesFault, IsInputText, IsReadLine, content as content_of};
+ghost use Rattle.kahn_streams.specs.Inputs.{entry_of};
 
 use crate::heads::{head_of, is_blank};
 use crate::input::TextFault;

@@ -1,13 +1,12 @@
 //! The input that an input text stands for.
 
 ghost use Rattle.std.specs.Prelude.{IfOk, MatchResult};
-ghost use Rattle.kahn_network.specs.Network.{network_of};
-ghost use Rattle.kahn_streams.specs.Kinded.{IsInputFor};
+ghost use Rattle.kahn_streams.specs.Network.{network_of};
+ghost use Rattle.kahn_streams.specs.Inputs.{IsInputFor};
 ghost use Rattle.kahn_report.specs.Inputs.{IsInputTextFault, StandsFor};
 
 use crate::entries::read_entries;
-use kahn_network::Network;
-use kahn_streams::{Input, InputFault};
+use kahn_streams::{Input, InputFault, Network};
 use std::alloc::Global;
 use thiserror::Error;
 

@@ -1,9 +1,8 @@
 //! Laws of reports. Each function does nothing: its contract is the law.
 
 ghost use Rattle.kahn_report.specs.Work.{IsOneReport};
-ghost use Rattle.kahn_config.specs.declared.Config.{Config};
-ghost use Rattle.kahn_tree.specs.declared.tree.Program.{Program};
-ghost use Rattle.kahn_network.specs.Network.{network_of};
+ghost use Rattle.kahn_streams.specs.Types.{Config, Program};
+ghost use Rattle.kahn_streams.specs.Network.{network_of};
 ghost use Rattle.kahn_syntax.specs.Texts.{IsProgram};
 ghost use Rattle.kahn_streams.specs.Sample.{sample_network};
 ghost use Rattle.kahn_report.specs.SampleText.{IsSampleText};

@@ -1,10 +1,9 @@
 //! The names of a network's channels and processes.
 
 ghost use Rattle.std.specs.Prelude.{◌≡◌};
-ghost use Rattle.kahn_report.specs.Names.{channel_name, process_name};
+ghost use Rattle.kahn_report.specs.Report.{channel_name, process_name};
 
-use kahn_network::Network;
-use kahn_tree::Declaration;
+use kahn_streams::{Declaration, Network};
 
 /// The declared name of a channel, or nothing past the last. It takes no memory.
 pub fn channel_name(network: &Network, channel: usize) -> &str

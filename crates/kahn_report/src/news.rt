@@ -1,16 +1,14 @@
 //! What goes out while a run goes on: what is new on a stream, and at its end how it ended.
 
 ghost use Rattle.std.specs.Prelude.{◌≡◌, ◌+◌, ◌<◌, ◌≤◌, length, map};
-ghost use Rattle.kahn_code.specs.Cells.{token_value};
+ghost use Rattle.kahn_streams.specs.Tokens.{token_value};
 ghost use Rattle.kahn_report.specs.Report.{IsLine};
 ghost use Rattle.kahn_report.specs.News.{more_text, closing_text};
 ghost use Rattle.kahn_write.specs.Written.{Writes};
 
 use crate::write::{put_ends, put_last, put_tokens};
-use kahn_network::Network;
 use kahn_pool::{End, Verdict};
-use kahn_streams::{Carried, Line};
-use kahn_tree::Steps;
+use kahn_streams::{Carried, Line, Network, Steps};
 use kahn_write::{WriteFault, flush};
 use std::io::Write;
 use std::marker::Brand;

@@ -1,12 +1,11 @@
 //! What is new on a stream, its values alone, one a line.
 
 ghost use Rattle.std.specs.Prelude.{◌≡◌, ◌<◌, map};
-ghost use Rattle.kahn_code.specs.Cells.{token_value};
+ghost use Rattle.kahn_streams.specs.Tokens.{token_value};
 ghost use Rattle.kahn_report.specs.News.{plain_text};
 ghost use Rattle.kahn_write.specs.Written.{Writes};
 
-use kahn_streams::Carried;
-use kahn_tree::Steps;
+use kahn_streams::{Carried, Steps};
 use kahn_write::{Lined, WriteFault, put_values};
 use std::io::Write;
 use std::marker::Brand;

@@ -4,7 +4,7 @@ ghost use Rattle.std.specs.Prelude.{◌≡◌, ◌+◌, ◌<◌, ◌≤◌, Matc
 ghost use Rattle.std.specs.Str.{IsUtf8};
 ghost use Rattle.kahn_report.specs.Reading.{IsTextRead};
 
-use kahn_tree::Steps;
+use kahn_streams::Steps;
 use std::alloc::Global;
 use std::io::Read;
 use std::marker::Brand;

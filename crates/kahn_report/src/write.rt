@@ -6,10 +6,8 @@ ghost use Rattle.kahn_report.specs.Report.{report_text, line_head, tokens_text, 
 
 use crate::names::{channel_name, process_name};
 use itoa::Buffer;
-use kahn_network::Network;
 use kahn_pool::{Answer, End, Outcome, Stream, Verdict};
-use kahn_streams::{Carried, Failure, Line};
-use kahn_tree::Steps;
+use kahn_streams::{Carried, Failure, Line, Network, Steps};
 use kahn_write::{Spaced, WriteFault, flush, put, put_all, put_values};
 use std::io::Write;
 use std::marker::Brand;

@@ -1,10 +1,10 @@
 //! A token that was answered before its run was fed is lifted to the longer input.
 
 ghost use Rattle.std.specs.Prelude.{◌≡◌, ℕ, Some, slice_get};
-ghost use Rattle.kahn_pool.specs.Right.{HasStream};
-ghost use Rattle.kahn_pool.specs.declared.answer.Stream.{Stream as StreamOf};
-ghost use Rattle.kahn_streams.specs.Laws.{AreInputsExtended};
-ghost use Rattle.kahn_streams.specs.Tokens.{inputs_of};
+ghost use Rattle.kahn_streams.specs.Answers.{HasStream};
+ghost use Rattle.kahn_streams.specs.declared.answer.Stream.{Stream as StreamOf};
+ghost use Rattle.kahn_streams.specs.Solution.{AreInputsExtended};
+ghost use Rattle.kahn_streams.specs.Inputs.{inputs_of};
 ghost use Rattle.kahn_streams.specs.declared.token.Token.{Token as TokenOf};
 
 use crate::held::network_of;

@@ -2,16 +2,14 @@
 use Rattle.std.proofs.Common.{arith, ◌≡◌, ◌∙◌, ◌⊎◌, inl, inr, ℕ, zero, suc, ◌+◌, ◌<◌, ◌≤◌, subst, List, [], ◌∷◌, ◌++◌, length, map, drop, Option, Some, refl, sym, ap, ap₂}
 use Rattle.std.specs.Prelude.{slice_get, slice_index_or}
 use Rattle.std.proofs.lemmas.Option.{same_Some}
-use Rattle.kahn_network.specs.Network.{network_of}
-use Rattle.kahn_streams.specs.declared.value.Value.{Value}
-use Rattle.kahn_streams.specs.declared.value.Line.{Line}
+use Rattle.kahn_streams.specs.Network.{network_of}
+use Rattle.kahn_streams.specs.Types.{Value, Line, Program}
 use Rattle.kahn_pool.specs.HeldRuns.{GoesOn, HeldRun, so_far}
 use Rattle.kahn_pool.specs.Flows.{AreNew, Flowing, flow_lines}
-use Rattle.kahn_code.specs.Cells.{token_value}
+use Rattle.kahn_streams.specs.Tokens.{token_value}
 use Rattle.kahn_streams.specs.declared.token.Token.{Token}
-use Rattle.kahn_pool.specs.Right.{stream_lines}
+use Rattle.kahn_streams.specs.Answers.{stream_lines}
 use Rattle.kahn_report.specs.News.{joined}
-use Rattle.kahn_tree.specs.declared.tree.Program.{Program}
 use Rattle.kahn_session.specs.Live.{form_text}
 use Rattle.kahn_session.specs.inner.Shown.{OutBegins, news_of, values_behind}
 

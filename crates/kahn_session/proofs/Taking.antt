@@ -1,12 +1,12 @@
 -- What a line makes of a session.
 use Rattle.std.proofs.Common.{◌≡◌, ◌∙◌, inl, inr, ℕ, ◌+◌, Bool, List, sum_by, Option, refl, sym, ap, subst}
 use Rattle.std.specs.Prelude.{min}
-use Rattle.kahn_network.specs.Wiring.{IsWellWired}
-use Rattle.kahn_streams.specs.declared.value.Value.{Value}
+use Rattle.kahn_streams.specs.Wiring.{IsWellWired}
+use Rattle.kahn_streams.specs.Types.{Value}
 use Rattle.kahn_pool.specs.HeldRuns.{GoesOn, HeldRun, IsRightSoFar, Seen, seen_events}
 use Rattle.kahn_pool.specs.Flows.{Flowing, flow_lines}
-use Rattle.kahn_pool.specs.declared.answer.End.{End}
-use Rattle.kahn_pool.specs.declared.answer.Verdict.{Verdict}
+use Rattle.kahn_streams.specs.declared.answer.End.{End}
+use Rattle.kahn_streams.specs.declared.answer.Verdict.{Verdict}
 use Rattle.kahn_pool.proofs.Held_calls.{goes_on_same, goes_on_then}
 use Rattle.kahn_report.specs.News.{joined}
 use Rattle.kahn_session.specs.Live.{HasAnswered, IsFedBy}

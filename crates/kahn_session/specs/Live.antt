@@ -3,28 +3,23 @@ use Rattle.std.specs.Prelude.{◌≡◌, ◌⊎◌, ℕ, ◌<◌, ◌≤◌, Boo
 use Rattle.std.specs.Io.KnownBytes.{Appends}
 use Rattle.std.specs.List.{list_any}
 use Rattle.std.specs.Str.{IsUtf8}
-use Rattle.kahn_config.specs.declared.Config.{Config}
-use Rattle.kahn_tree.specs.declared.tree.Program.{Program}
-use Rattle.kahn_tree.specs.declared.tree.Role.{Role}
-use Rattle.kahn_tree.specs.declared.tree.Role.TheVariants as role
-use Rattle.kahn_network.specs.Network.{Network, network_of, role_at}
-use Rattle.kahn_streams.specs.declared.value.Value.{Value}
-use Rattle.kahn_streams.specs.declared.value.Line.{Line}
+use Rattle.kahn_streams.specs.Types.{Config, Program, Role, Value, Line}
+use Rattle.kahn_streams.specs.declared.tree.Role.TheVariants as role
+use Rattle.kahn_streams.specs.Network.{Network, network_of, role_at}
 use Rattle.kahn_streams.specs.declared.value.Line.TheVariants.{Channel}
-use Rattle.kahn_streams.specs.Entries.{Entry}
-use Rattle.kahn_streams.specs.Tokens.{inputs_of}
-use Rattle.kahn_pool.specs.Exact.{Settles}
+use Rattle.kahn_streams.specs.Inputs.{Entry, inputs_of}
+use Rattle.kahn_streams.specs.Answers.{Settles}
 use Rattle.kahn_pool.specs.HeldRuns.{GoesOn, HeldRun, IsRightSoFar, IsUnstarted, so_far}
 use Rattle.kahn_pool.specs.Flows.{Flowing, HasFlowed, HasPouredIn, IsUnpoured, flow_lines}
-use Rattle.kahn_pool.specs.declared.answer.End.{End}
-use Rattle.kahn_pool.specs.declared.answer.Outcome.{Outcome}
-use Rattle.kahn_pool.specs.declared.answer.Outcome.TheVariants.{Faulted, Waits}
-use Rattle.kahn_pool.specs.declared.answer.Verdict.{Verdict}
-use Rattle.kahn_pool.specs.declared.answer.Verdict.TheVariants.{Finished}
+use Rattle.kahn_streams.specs.declared.answer.End.{End}
+use Rattle.kahn_streams.specs.declared.answer.Outcome.{Outcome}
+use Rattle.kahn_streams.specs.declared.answer.Outcome.TheVariants.{Faulted, Waits}
+use Rattle.kahn_streams.specs.declared.answer.Verdict.{Verdict}
+use Rattle.kahn_streams.specs.declared.answer.Verdict.TheVariants.{Finished}
 use Rattle.kahn_pool.specs.declared.config.RunFault.{RunFault}
 use Rattle.kahn_pool.specs.declared.config.RunFault.TheVariants as fault
-use Rattle.kahn_report.specs.Entries.{AreBlanks, IsEntry, HasNoHead, HasNoValues, content, most_input_bytes}
-use Rattle.kahn_report.specs.Names.{channel_name}
+use Rattle.kahn_report.specs.Inputs.{AreBlanks, IsEntry, HasNoHead, HasNoValues, content, most_input_bytes}
+use Rattle.kahn_report.specs.Report.{channel_name}
 use Rattle.kahn_report.specs.News.{closing_text, joined, news_text, plain_text}
 use Rattle.kahn_write.specs.Written.{AppendsFront}
 use Rattle.kahn_write.specs.declared.bytes.WriteFault.{WriteFault}

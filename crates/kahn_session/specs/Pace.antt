@@ -1,11 +1,11 @@
 -- Believed. A run that is fed as it goes, each part of which may take so many events (this project's profile).
 use Rattle.std.specs.Prelude.{◌≡◌, ℕ, ◌+◌, min, sum_by, Some}
-use Rattle.kahn_network.specs.Network.{network_of}
-use Rattle.kahn_streams.specs.Tokens.{inputs_of}
-use Rattle.kahn_pool.specs.Exact.{Settles}
+use Rattle.kahn_streams.specs.Network.{network_of}
+use Rattle.kahn_streams.specs.Inputs.{inputs_of}
+use Rattle.kahn_streams.specs.Answers.{Settles}
 use Rattle.kahn_pool.specs.HeldRuns.{GoesOn, HeldRun, seen_events}
 use Rattle.kahn_pool.specs.Flows.{Flowing}
-use Rattle.kahn_pool.specs.declared.answer.Verdict.{Verdict}
+use Rattle.kahn_streams.specs.declared.answer.Verdict.{Verdict}
 
 pub record Pace : Type 0 where
   pub flow : Flowing

@@ -2,13 +2,12 @@
 
 ghost use Rattle.std.specs.Prelude.{◌≡◌, ℕ, ◌+◌, Some, IfOk, MatchResult};
 ghost use Rattle.kahn_pool.specs.HeldRuns.{IsLineOf, IsRightSoFar, IsUnstarted};
-ghost use Rattle.kahn_pool.specs.declared.answer.Verdict.{Verdict as VerdictOf};
+ghost use Rattle.kahn_streams.specs.declared.answer.Verdict.{Verdict as VerdictOf};
 ghost use Rattle.kahn_pool.specs.Flows.{AreNew, HasFlowed, HasLetGo, HasPouredIn, IsUnpoured, flow_lines};
 ghost use Rattle.kahn_session.specs.Pace.{IsPart, events_of, part_bound};
 
-use kahn_network::Network;
 use kahn_pool::{Config, End, Flow, Gate, MOST_BOUND, RunFault, Verdict};
-use kahn_streams::{Carried, FeedFault, Input, Line, NoMemory, Value};
+use kahn_streams::{Carried, FeedFault, Input, Line, Network, NoMemory, Value};
 use std::alloc::Global;
 use std::marker::Model;
 
@@ -22,8 +21,8 @@ pub(crate) struct Paced<'n> {
 }
 
 impl<'n> Model for Paced<'n> {
-    ghost use Rattle.kahn_tree.specs.contracts.tree.Action as action;
-    ghost use Rattle.kahn_tree.specs.contracts.tree.Form as form;
+    ghost use Rattle.kahn_streams.specs.contracts.tree.Action as action;
+    ghost use Rattle.kahn_streams.specs.contracts.tree.Form as form;
     ghost use Rattle.std.specs.Coded.{codes};
     ghost use Rattle.std.specs.Prelude.{◌≡◌, ◌+◌, ◌≤◌};
     ghost use Rattle.kahn_session.specs.Pace.{Pace, events_of, most_bound};

@@ -2,11 +2,11 @@
 
 ghost use Rattle.std.specs.Prelude.{◌≡◌, ◌↔◌, ◌&&◌, not, ℕ, List, Some, false, slice_index_or, true, [], IsTrue, MatchOption, MatchResult};
 ghost use Rattle.std.specs.List.{list_any};
-ghost use Rattle.kahn_network.specs.Network.{network_of};
-ghost use Rattle.kahn_streams.specs.Entries.{entry_of};
+ghost use Rattle.kahn_streams.specs.Network.{network_of};
+ghost use Rattle.kahn_streams.specs.Inputs.{entry_of};
 ghost use Rattle.kahn_pool.specs.Flows.{Flowing, flow_lines};
-ghost use Rattle.kahn_report.specs.Entries.{AreBlanks, IsEntry, content};
-ghost use Rattle.kahn_report.specs.Names.{channel_name};
+ghost use Rattle.kahn_report.specs.Inputs.{AreBlanks, IsEntry, content};
+ghost use Rattle.kahn_report.specs.Report.{channel_name};
 ghost use Rattle.kahn_report.specs.News.{news_text, plain_text};
 ghost use Rattle.kahn_write.specs.Written.{Writes};
 ghost use Rattle.kahn_session.specs.Live.{HasOpened, IsClosed, IsDeaf, IsFaulty, IsFedBy, HasVerdict, IsNamedAt, IsNamedLine, IsStreamOf, IsTakenLine, IsText, IsUnfedBy, IsUnopened, breaks, form_text, is_faulted, is_finished, waits_on_input, wants_input};
@@ -14,14 +14,12 @@ ghost use Rattle.kahn_session.specs.inner.Shown.{OutBegins, news_of};
 
 use crate::fault::TakeFault;
 use crate::pace::Paced;
-use kahn_network::Network;
 use kahn_pool::{Config, End, Gate, Outcome, RunFault, Verdict};
 use kahn_report::{
     LineFault, MOST_BYTES, WriteFault, channel_name, read_line, write_closing, write_news,
     write_plain,
 };
-use kahn_streams::{Input, Line, Value};
-use kahn_tree::Role;
+use kahn_streams::{Input, Line, Network, Role, Value};
 use std::alloc::Global;
 use std::io::Write;
 use std::marker::Model;
@@ -41,8 +39,8 @@ pub struct Session<'n> {
 }
 
 impl<'n> Model for Session<'n> {
-    ghost use Rattle.kahn_tree.specs.contracts.tree.Action as action;
-    ghost use Rattle.kahn_tree.specs.contracts.tree.Form as form;
+    ghost use Rattle.kahn_streams.specs.contracts.tree.Action as action;
+    ghost use Rattle.kahn_streams.specs.contracts.tree.Form as form;
     ghost use Rattle.std.specs.Coded.{codes};
     ghost use Rattle.std.specs.Prelude.{◌≡◌};
     ghost use Rattle.kahn_pool.specs.Flows.{flow_lines};

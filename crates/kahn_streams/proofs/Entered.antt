@@ -5,16 +5,12 @@ use Rattle.std.proofs.lemmas.Bool.{cases_eq, eqb-true}
 use Rattle.std.proofs.lemmas.List.{length-map, length-replicate, take-append-le, take-map}
 use Rattle.std.proofs.lemmas.Option.{slice_get_read, slice_get-map}
 use Rattle.std.specs.Option.{option_map}
-use Rattle.kahn_tree.specs.declared.tree.Program.{Program}
-use Rattle.kahn_tree.specs.declared.tree.Role.TheVariants.{Input}
-use Rattle.kahn_tree.specs.View.{Scope, place_of}
-use Rattle.kahn_network.specs.Network.{network_of, kind_at, role_at, channels_of}
-use Rattle.kahn_network.specs.Sides.{channel_names}
-use Rattle.kahn_streams.specs.declared.entries.InputFault.{InputFault}
+use Rattle.kahn_streams.specs.Types.{Program, InputFault}
+use Rattle.kahn_streams.specs.declared.tree.Role.TheVariants.{Input}
+use Rattle.kahn_streams.specs.View.{Scope, place_of}
+use Rattle.kahn_streams.specs.Network.{network_of, kind_at, role_at, channels_of, channel_names}
 use Rattle.kahn_streams.specs.declared.entries.InputFault.TheVariants.{NoMemory}
-use Rattle.kahn_streams.specs.Kinded.{AreOfKind, IsInputFor}
-use Rattle.kahn_streams.specs.Tokens.{Lists, inputs_of}
-use Rattle.kahn_streams.specs.Entries.{Entry, FailsFirst, asked_of_entry, channel_of, is_given, list_for, AreFit, IsFirstRefused, IsInputOf}
+use Rattle.kahn_streams.specs.Inputs.{AreOfKind, IsInputFor, Lists, inputs_of, Entry, FailsFirst, asked_of_entry, channel_of, is_given, list_for, AreFit, IsFirstRefused, IsInputOf}
 use Rattle.kahn_streams.specs.inner.Marked.{IsFitHere}
 
 -- ---- the number of a name

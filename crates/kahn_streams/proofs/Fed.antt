@@ -3,21 +3,13 @@ use Rattle.std.proofs.Common.{arith, ◌≡◌, ◌≢◌, inl, inr, ℕ, ◌<�
 use Rattle.std.proofs.Math.Logic.{∥∥₁_elim, ∥∥₁_prop}
 use Rattle.std.proofs.lemmas.Bool.{cases_eq}
 use Rattle.std.proofs.lemmas.List.{get_or-map, get_or_past, length-map, map-set, set-get_or}
-use Rattle.kahn_tree.specs.declared.tree.Kind.{Kind}
-use Rattle.kahn_tree.specs.declared.tree.Role.TheVariants.{Input}
-use Rattle.kahn_tree.specs.declared.tree.Program.{Program}
-use Rattle.kahn_network.specs.Network.{Network, network_of, kind_at, role_at}
-use Rattle.kahn_network.specs.Sides.{channel_names}
-use Rattle.kahn_streams.specs.declared.value.Value.{Value}
-use Rattle.kahn_streams.specs.declared.value.Line.{Line}
-use Rattle.kahn_streams.specs.Entries.{Entry, channel_of, most_values}
+use Rattle.kahn_streams.specs.Types.{Kind, Program, Value, Line, FeedFault}
+use Rattle.kahn_streams.specs.declared.tree.Role.TheVariants.{Input}
+use Rattle.kahn_streams.specs.Network.{Network, network_of, kind_at, role_at, channel_names}
+use Rattle.kahn_streams.specs.Inputs.{Entry, channel_of, most_values, AreOfKind, IsListFor, IsInputFor, Lists, inputs_of, Holds}
 use Rattle.kahn_streams.specs.Feeds.{IsMeant, IsNotMeant, IsUnwelcome, IsEntryFed, fed_to, total_after}
-use Rattle.kahn_streams.specs.declared.feeds.FeedFault.{FeedFault}
 use Rattle.kahn_streams.specs.declared.feeds.FeedFault.TheVariants.{UnknownName, NotAnInput, WrongKind, TooMany, NoMemory}
-use Rattle.kahn_streams.specs.Kinded.{AreOfKind, IsListFor, IsInputFor}
-use Rattle.kahn_streams.specs.Laws.{AreInputsExtended}
-use Rattle.kahn_streams.specs.Solution.{Stands}
-use Rattle.kahn_streams.specs.Tokens.{Lists, inputs_of, Holds}
+use Rattle.kahn_streams.specs.Solution.{AreInputsExtended, Stands}
 use Rattle.kahn_streams.proofs.Proved.{prefix_get}
 use Rattle.kahn_streams.proofs.Finished.{inputs_grow}
 use Rattle.kahn_streams.proofs.Entered.{names_count}

@@ -6,10 +6,9 @@ use Rattle.std.proofs.Math.Bool.{Bool-set}
 use Rattle.std.proofs.lemmas.Bool.{ltb-true, lt-ltb}
 use Rattle.std.proofs.lemmas.Option.{slice_get_within, slice_get-get_or}
 use Rattle.std.proofs.Common.{arith, ◌≡◌, ◌⊎◌, inl, inr, ℕ, zero, suc, ◌<◌, ltb, get_or, length, Bool, true, false, not, ◌&&◌, refl, sym, ap, ◌∙◌, subst, Some, slice_get}
-use Rattle.kahn_streams.specs.declared.value.Value.{Value}
-use Rattle.kahn_streams.specs.declared.value.Line.{Line}
+use Rattle.kahn_streams.specs.Types.{Value, Line}
 use Rattle.kahn_streams.specs.contracts.value.Value as value
-use Rattle.kahn_network.specs.Network.{Network}
+use Rattle.kahn_streams.specs.Network.{Network}
 use Rattle.kahn_streams.specs.Solution.{Inputs, iterate, Stands}
 use Rattle.kahn_streams.proofs.Proved.{one_value}
 

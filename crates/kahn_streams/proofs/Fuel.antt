@@ -1,9 +1,8 @@
 -- How far a loop is unrolled makes no difference to n events, where it is unrolled to n turns.
 use Rattle.std.proofs.Common.{◌≡◌, ℕ, zero, suc, ◌≤◌, Bool, true, false, List, [], ◌∷◌, refl, ap, Result, Ok, Err, neg_ℤ, not, slice_set, le_of_suc-le-suc, not-suc-le-zero, arith}
-use Rattle.kahn_streams.specs.declared.value.Value.{Value}
+use Rattle.kahn_streams.specs.Types.{Value, Failure}
 use Rattle.kahn_streams.specs.declared.value.Value.TheVariants.{Logical}
-use Rattle.kahn_streams.specs.declared.value.Failure.{Failure}
-use Rattle.kahn_tree.specs.Syntax.{Expr, Literal, Variable, Wait, Negate, Not, Binary, Conditional, Stmt, Skip, Assign, Send, Print, Seq, If, While, Repeat}
+use Rattle.kahn_streams.specs.Syntax.{Expr, Literal, Variable, Wait, Negate, Not, Binary, Conditional, Stmt, Skip, Assign, Send, Print, Seq, If, While, Repeat}
 use Rattle.kahn_streams.specs.Arithmetic.{number, truth, ranged, apply}
 use Rattle.kahn_streams.specs.Script.{Port, Parameter, Printer, Tapes, Script, Give, Fail, Waits, Sends, Turns, Reached, after_event, after_send, put, wait_at, play}
 use Rattle.kahn_streams.specs.Meaning.{Store, constant, read, settle, value_of, turns_of, script_of}

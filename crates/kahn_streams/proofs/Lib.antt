@@ -1,3 +1,12 @@
+pub mod By_number
+pub mod Picked
+pub mod Sided
+pub mod Fitted
+pub mod Sourced
+pub mod Kept_network
+pub mod Handed
+pub mod Noted
+pub mod Printing
 pub mod Computed
 pub mod Framed
 pub mod Fuel

@@ -1,7 +1,7 @@
 -- The rules of the loops, with nothing said of unrolling.
 use Rattle.std.proofs.Common.{◌≡◌, ℕ, suc, true, refl, ap, le_refl, arith}
 use Rattle.kahn_streams.specs.declared.value.Value.TheVariants.{Logical}
-use Rattle.kahn_tree.specs.Syntax.{Expr, Stmt, While, Repeat, Seq, If, Skip}
+use Rattle.kahn_streams.specs.Syntax.{Expr, Stmt, While, Repeat, Seq, If, Skip}
 use Rattle.kahn_streams.specs.Arithmetic.{truth}
 use Rattle.kahn_streams.specs.Script.{Tapes, Give, after_event}
 use Rattle.kahn_streams.specs.Meaning.{Store, exec}

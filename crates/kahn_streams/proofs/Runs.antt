@@ -1,7 +1,7 @@
 -- A run is its steps.
 use mathlib.Core.Path.{fun_ext}
 use Rattle.std.proofs.Common.{◌≡◌, ℕ, zero, suc, ◌==◌, Bool, true, false, List, [], ◌∷◌, ◌++◌, length, refl, sym, ap, ◌∙◌, subst, eqb-true, if◌then◌else◌, append-nil, arith}
-use Rattle.kahn_streams.specs.declared.value.Value.{Value}
+use Rattle.kahn_streams.specs.Types.{Value}
 use Rattle.kahn_streams.specs.Script.{Tapes, Script, Give, Fail, Waits, Sends, Turns, Rest, Outcome, Dry, Cut, Reached, at_once, after_event, after_send, put, wait_at, play}
 use Rattle.kahn_streams.specs.Steps.{Step, Took, Sent, Turned, Follows, here, took, sent, turned, empty, values_taken, sends_of, and_then, since, halted, RanBy}
 use Rattle.kahn_streams.proofs.Framed.{and_more}

@@ -1,18 +1,15 @@
 -- The history on X of the sample network.
 use Rattle.std.proofs.Common.{◌≡◌, ℕ, zero, suc, ◌+◌, ◌*◌, ◌-◌, ◌%◌, ◌≤◌, true, List, [], ◌∷◌, ◌++◌, length, refl, sym, ap, ◌∙◌, subst, slice_get, Some, pos, arith}
 use mathlib.Core.Path.{fun_ext}
-use Rattle.kahn_streams.specs.declared.value.Value.{Value}
+use Rattle.kahn_streams.specs.Types.{Value, Line}
 use Rattle.kahn_streams.specs.declared.value.Value.TheVariants.{Integer, Logical}
-use Rattle.kahn_streams.specs.declared.value.Line.{Line}
 use Rattle.kahn_streams.specs.declared.value.Line.TheVariants.{Channel}
 use Rattle.kahn_streams.specs.Script.{Parameter, Printer, Tapes, Script, Give, play}
 use Rattle.kahn_streams.specs.Meaning.{Store, turns_of, script_of}
 use Rattle.kahn_streams.specs.Steps.{Step, Took, Sent, Turned, Follows, here, took, sent, turned, values_taken, sends_of, and_then}
-use Rattle.kahn_network.specs.Network.{Network, instance_at}
-use Rattle.kahn_streams.specs.Solution.{Histories, tapes_of, out, values_at, goes_to, iterate, IsPrefix, Stands}
-use Rattle.kahn_tree.specs.Syntax as S
-use Rattle.kahn_network.specs.Network.{Written}
-use Rattle.kahn_streams.specs.Solution.{source}
+use Rattle.kahn_streams.specs.Network.{Network, instance_at, Written}
+use Rattle.kahn_streams.specs.Solution.{Histories, tapes_of, out, values_at, goes_to, iterate, IsPrefix, Stands, source}
+use Rattle.kahn_streams.specs.Syntax as S
 use Rattle.kahn_streams.proofs.Proved.{values_append, prefix_trans, prefix_get, script_at, solves, one_value, iterates_rise}
 use Rattle.std.proofs.Math.Nat.{le-max_left, le-max_right}
 use Rattle.std.proofs.Common.{max, ne_eqb, ◌==◌, if◌then◌else◌}

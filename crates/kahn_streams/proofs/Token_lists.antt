@@ -3,11 +3,10 @@ use Rattle.std.proofs.Common.{◌≡◌, ℕ, zero, suc, ◌+◌, List, [], ◌�
 use Rattle.std.proofs.Math.Nat.{suc-add, add-suc, zero-add, add-zero}
 use Rattle.std.proofs.Math.Logic.{∥∥₁_prop}
 use mathlib.Core.HLevel.{is_prop→PathP}
-use Rattle.kahn_streams.specs.declared.value.Line.{Line}
-use Rattle.kahn_tree.specs.declared.tree.Program.{Program}
+use Rattle.kahn_streams.specs.Types.{Line, Program}
 use Rattle.kahn_streams.specs.declared.token.Token.{Token}
-use Rattle.kahn_streams.specs.Tokens.{Lists, Holds}
-use Rattle.kahn_streams.specs.Streams.{IsOf, Follow, AllOf, IsRightStream}
+use Rattle.kahn_streams.specs.Inputs.{Lists, Holds}
+use Rattle.kahn_streams.specs.Tokens.{IsOf, Follow, AllOf, IsRightStream}
 
 pub follow_push : (line : Line) (from : ℕ) (ts : List Token) (t : Token) → Follow line from ts → t.line ≡ line → t.place ≡ from + length ts → Follow line from (ts ++ t ∷ [])
 follow_push line from [] t f l p = (l, p ∙ add-zero from, tt)

@@ -1,7 +1,7 @@
 -- Believed. The meaning of a whole by the meanings of its parts, told apart from the continuations.
 use Rattle.std.specs.Prelude.{◌≡◌, ℕ, ◌+◌, ◌-◌, ◌++◌, suc}
-use Rattle.kahn_streams.specs.declared.value.Value.{Value}
-use Rattle.kahn_tree.specs.Syntax.{Expr, Stmt, While, If, Seq, Skip, Repeat}
+use Rattle.kahn_streams.specs.Types.{Value}
+use Rattle.kahn_streams.specs.Syntax.{Expr, Stmt, While, If, Seq, Skip, Repeat}
 use Rattle.kahn_streams.specs.Script.{Tapes, Script, Give, Outcome, Got, Dry, Fault, Cut, Reached, play, at_once, after_event}
 use Rattle.kahn_streams.specs.Meaning.{Store, value_of, script_of, eval, exec}
 

@@ -3,12 +3,12 @@ use Rattle.std.specs.Prelude.{◌≡◌, true, ℕ, zero, suc, [], ◌∷◌, po
 use Rattle.kahn_streams.specs.declared.value.Value.TheVariants.{Integer}
 use Rattle.kahn_streams.specs.declared.value.Failure.TheVariants.{Overflow}
 use Rattle.kahn_streams.specs.declared.value.Line.TheVariants.{Channel, Print}
-use Rattle.kahn_tree.specs.declared.tree.Kind.TheVariants as KindOf
-use Rattle.kahn_tree.specs.declared.tree.Role.TheVariants.{Inner, Input, Output}
-use Rattle.kahn_tree.specs.declared.tree.Operator.TheVariants as Op
-use Rattle.kahn_tree.specs.Syntax as S
+use Rattle.kahn_streams.specs.declared.tree.Kind.TheVariants as KindOf
+use Rattle.kahn_streams.specs.declared.tree.Role.TheVariants.{Inner, Input, Output}
+use Rattle.kahn_streams.specs.declared.tree.Operator.TheVariants as Op
+use Rattle.kahn_streams.specs.Syntax as S
 use Rattle.kahn_streams.specs.Sample.{no_input, g_body, h_of}
-use Rattle.kahn_network.specs.Network.{Network, Reads, Writes, Hands}
+use Rattle.kahn_streams.specs.Network.{Network, Reads, Writes, Hands}
 use Rattle.kahn_streams.specs.Solution.{Inputs, iterate, exec_at, ending, Ended, Waiting, Faulted}
 
 abbrev pub number_literal : ℕ → S.Expr

@@ -1,15 +1,10 @@
 -- Believed. Values that are fed to an input which stands already (this project's profile).
 use Rattle.std.specs.Prelude.{◌≡◌, ℕ, ◌+◌, ◌<◌, ◌≤◌, ◌==◌, List, [], ◌∷◌, ◌++◌, length, if◌then◌else◌, MatchResult, Result}
-use Rattle.kahn_tree.specs.declared.tree.Program.{Program}
-use Rattle.kahn_tree.specs.declared.tree.Role.TheVariants.{Input}
-use Rattle.kahn_network.specs.Network.{network_of, kind_at, role_at}
-use Rattle.kahn_network.specs.Sides.{channel_names}
-use Rattle.kahn_streams.specs.declared.value.Value.{Value}
-use Rattle.kahn_streams.specs.declared.feeds.FeedFault.{FeedFault}
+use Rattle.kahn_streams.specs.Types.{Program, Value, FeedFault}
+use Rattle.kahn_streams.specs.declared.tree.Role.TheVariants.{Input}
+use Rattle.kahn_streams.specs.Network.{network_of, kind_at, role_at, channel_names}
 use Rattle.kahn_streams.specs.declared.feeds.FeedFault.TheVariants.{UnknownName, NotAnInput, WrongKind, TooMany, NoMemory}
-use Rattle.kahn_streams.specs.Entries.{AllHold, Entry, FailsFirst, channel_of, most_values}
-use Rattle.kahn_streams.specs.Kinded.{AreOfKind}
-use Rattle.kahn_streams.specs.Tokens.{Lists, inputs_of}
+use Rattle.kahn_streams.specs.Inputs.{AllHold, Entry, FailsFirst, channel_of, most_values, AreOfKind, Lists, inputs_of}
 
 -- what the entry has to be, in this order: its name that of an input channel, and its values of the channel's kind
 abbrev pub asked_of_feed : Program → Entry → List (Type 0 × FeedFault)

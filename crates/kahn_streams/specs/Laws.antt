@@ -1,12 +1,13 @@
 -- Believed. The laws of the meaning.
 use Rattle.std.specs.Prelude.{◌≡◌, ◌≤◌, ℕ, suc, max, List, ◌++◌, slice_get, Some}
-use Rattle.kahn_streams.specs.declared.value.Value.{Value}
-use Rattle.kahn_streams.specs.declared.value.Line.{Line}
+use Rattle.kahn_streams.specs.Types.{Value, Line}
 use Rattle.kahn_streams.specs.Script.{Give, Tapes, play, Port, Outcome, Got, Dry, Fault, Cut, Reached}
 use Rattle.kahn_streams.specs.Meaning.{Store, script_of, exec}
-use Rattle.kahn_tree.specs.Syntax.{Stmt}
-use Rattle.kahn_network.specs.Network.{Network, Instance, Reads, actual_at, instance_at, Given, Written}
-use Rattle.kahn_streams.specs.Solution.{Histories, Inputs, tapes_of, exec_at, out, source, input_list, iterate, opening, IsPrefix, Stands, IsWhole, HasEnd, HasSize, Ending, ending}
+use Rattle.kahn_streams.specs.Syntax.{Stmt}
+use Rattle.kahn_streams.specs.Inputs.{AreOfKind}
+use Rattle.kahn_streams.specs.Network.{kind_at, Network, Instance, Reads, actual_at, instance_at, Given, Written}
+use Rattle.kahn_streams.specs.Solution.{Histories, Inputs, tapes_of, exec_at, out, source, input_list, iterate, opening, IsPrefix, Stands, IsWhole, HasEnd, HasSize, Ending, ending, IsExtended, AreInputsExtended}
+use Rattle.kahn_streams.specs.declared.value.Line.TheVariants.{Channel}
 
 -- each iterate is a prefix of the next
 abbrev pub IsChain : Network → Inputs → Type 0
@@ -50,10 +51,6 @@ pub record IsFramed (N : Network) (n p : ℕ) (H G : Histories) : Type 0 where
       ((exec_at N n p G).outcome ≡ Cut) × ((exec_at N n p G).events ≡ n) × ((exec_at N n p G).sent ≡ (exec_at N n p H).sent)
   pub grows : (rest : List (Port × Value)) × ((exec_at N n p G).sent ≡ (exec_at N n p H).sent ++ rest)
 
--- each tape of H is a prefix of that of G
-abbrev pub IsExtended : Histories → Histories → Type 0
-IsExtended H G = (c : Line) → IsPrefix (H c) (G c)
-
 abbrev pub Frame : Network → Type 0
 Frame N = (n p : ℕ) (H G : Histories) → IsExtended H G → IsFramed N n p H G
 
@@ -61,10 +58,6 @@ Frame N = (n p : ℕ) (H G : Histories) → IsExtended H G → IsFramed N n p H 
 abbrev pub RunsDryAtReads : Network → Type 0
 RunsDryAtReads N = (n p q : ℕ) (T : Tapes) → (exec n (instance_at N p).body (opening (instance_at N p)) T).outcome ≡ Dry q
     → (d : ℕ) × (actual_at (instance_at N p) q ≡ Reads d)
-
--- each input list of I is a prefix of that of J
-abbrev pub AreInputsExtended : Inputs → Inputs → Type 0
-AreInputsExtended I J = (c : ℕ) → IsPrefix (I c) (J c)
 
 -- longer inputs give longer iterates
 abbrev pub InputsGrow : Network → Type 0
@@ -102,3 +95,11 @@ pub record IsDetermined (N : Network) (I : Inputs) : Type 0 where
   pub one_whole : (c : Line) (L M : List Value) → IsWhole N I c L → IsWhole N I c M → L ≡ M
   pub one_end : (p e f : ℕ) (o x : Ending) → HasEnd N I p o e → HasEnd N I p x f → (o ≡ x) × (e ≡ f)
   pub one_size : (a b : ℕ) → HasSize N I a → HasSize N I b → a ≡ b
+
+-- each channel's history has the channel's kind
+abbrev pub AreKinded : Network → Histories → Type 0
+AreKinded N H = (c : ℕ) → AreOfKind (kind_at N c) (H (Channel c))
+
+-- so is each iterate
+abbrev pub AreIteratesKinded : Network → Inputs → Type 0
+AreIteratesKinded N I = (n : ℕ) → AreKinded N (iterate N I n)

@@ -1,3 +1,14 @@
+pub mod Types
+pub mod Inputs
+pub mod Answers
+pub mod Network
+pub mod Wiring
+pub mod Made
+pub mod Wires
+pub mod Place
+pub mod View
+pub mod Syntax
+pub mod Prints
 pub mod Arithmetic
 pub mod Script
 pub mod Meaning
@@ -7,9 +18,6 @@ pub mod Steps
 pub mod Compose
 pub mod Sample
 pub mod Tokens
-pub mod Streams
 pub mod Examples
-pub mod Kinded
-pub mod Entries
 pub mod Feeds
 pub mod inner

@@ -1,7 +1,6 @@
 -- Believed. What a process does next, and how far it comes with given tapes and a given number of events.
 use Rattle.std.specs.Prelude.{ℕ, zero, suc, ◌==◌, List, [], ◌∷◌, if◌then◌else◌}
-use Rattle.kahn_streams.specs.declared.value.Value.{Value}
-use Rattle.kahn_streams.specs.declared.value.Failure.{Failure}
+use Rattle.kahn_streams.specs.Types.{Value, Failure}
 
 -- where a process sends: an `out` parameter, or its print stream
 pub data Port : Type 0 where

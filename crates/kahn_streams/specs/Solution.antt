@@ -2,14 +2,11 @@
 -- as the limit of the iterates that start from empty histories (Kahn's paper, section 3). Events, ends and the
 -- size are this project's profile.
 use Rattle.std.specs.Prelude.{◌≡◌, ℕ, zero, suc, ◌+◌, ◌≤◌, ◌==◌, Bool, false, List, [], ◌∷◌, ◌++◌, map, Option, Some, None, pos, if◌then◌else◌, slice_get}
-use Rattle.kahn_streams.specs.declared.value.Value.{Value}
+use Rattle.kahn_streams.specs.Types.{Value, Failure, Line, Kind}
 use Rattle.kahn_streams.specs.declared.value.Value.TheVariants.{Integer, Logical}
-use Rattle.kahn_streams.specs.declared.value.Failure.{Failure}
-use Rattle.kahn_streams.specs.declared.value.Line.{Line}
 use Rattle.kahn_streams.specs.declared.value.Line.TheVariants.{Channel, Print}
-use Rattle.kahn_tree.specs.declared.tree.Kind.{Kind}
-use Rattle.kahn_tree.specs.declared.tree.Kind.TheVariants as KindOf
-use Rattle.kahn_network.specs.Network.{Actual, Instance, Network, Reads, Writes, Hands, instance_at, actual_at, is_written, Source, Given, Written, Nobody, channel_source}
+use Rattle.kahn_streams.specs.declared.tree.Kind.TheVariants as KindOf
+use Rattle.kahn_streams.specs.Network.{Actual, Instance, Network, Reads, Writes, Hands, instance_at, actual_at, is_written, Source, Given, Written, Nobody, channel_source}
 use Rattle.kahn_streams.specs.Script.{Port, Parameter, Printer, Tapes, Outcome, Got, Dry, Fault, Cut, Reached}
 use Rattle.kahn_streams.specs.Meaning.{Store, constant, exec}
 
@@ -123,3 +120,13 @@ pub data HasSizes : Network → Inputs → ℕ → List Instance → ℕ → Typ
 
 abbrev pub HasSize : Network → Inputs → ℕ → Type 0
 HasSize N I total = HasSizes N I 0 N.instances total
+
+-- ---- longer histories and inputs
+
+-- each tape of H is a prefix of that of G
+abbrev pub IsExtended : Histories → Histories → Type 0
+IsExtended H G = (c : Line) → IsPrefix (H c) (G c)
+
+-- each input list of I is a prefix of that of J
+abbrev pub AreInputsExtended : Inputs → Inputs → Type 0
+AreInputsExtended I J = (c : ℕ) → IsPrefix (I c) (J c)

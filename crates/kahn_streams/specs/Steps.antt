@@ -1,6 +1,6 @@
 -- Believed. The events of a run, one by one.
 use Rattle.std.specs.Prelude.{◌≡◌, ℕ, suc, ◌==◌, List, [], ◌∷◌, ◌++◌, length, if◌then◌else◌}
-use Rattle.kahn_streams.specs.declared.value.Value.{Value}
+use Rattle.kahn_streams.specs.Types.{Value}
 use Rattle.kahn_streams.specs.Script.{Port, Tapes, Script, Waits, Sends, Turns, Reached, Outcome, play}
 
 pub data Step : Type 0 where

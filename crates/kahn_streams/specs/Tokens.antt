@@ -1,24 +1,33 @@
 -- Believed. What contracts say of tokens and inputs. A token is a value with its place on its line (this project's profile);
--- that its value stands there in the least solution is what its type keeps.
-use Rattle.std.specs.Prelude.{ℕ, List, [], slice_index_or}
-use Rattle.kahn_tree.specs.declared.tree.Program.{Program}
-use Rattle.kahn_network.specs.Network.{network_of}
-use Rattle.kahn_streams.specs.declared.value.Value.{Value}
-use Rattle.kahn_streams.specs.declared.value.Line.{Line}
-use Rattle.kahn_streams.specs.Solution.{Inputs, Stands}
+use Rattle.std.specs.Prelude.{ℕ, List, [], ◌≡◌, suc, ◌∷◌, Some, slice_get}
+use Rattle.kahn_streams.specs.Types.{Program, Value, Line}
+use Rattle.kahn_streams.specs.Network.{network_of, Network}
+use Rattle.kahn_streams.specs.Solution.{Inputs, AreInputsExtended}
+use Rattle.kahn_streams.specs.declared.token.Token.{Token}
+use Rattle.kahn_streams.specs.Inputs.{Holds, Lists, inputs_of}
 
--- the lists of an input, one for each channel in order of declaration
-abbrev pub Lists : Type 0
-Lists = List (List Value)
+abbrev pub token_value : Token → Value
+token_value t = t.value
 
-abbrev pub inputs_of : Lists → Inputs
-inputs_of lists c = slice_index_or lists c []
+-- the token is of this network, and of an input whose lists begin those of this one
+abbrev pub IsOwn : Network → Inputs → Token → Type 0
+IsOwn N I t = (network_of t.network.value ≡ N) × AreInputsExtended (inputs_of t.input.value) I
 
--- the value stands at the place of the line, in the solution of this program's network for this input
-abbrev pub Holds : Program → Lists → Line → ℕ → Value → Type 0
-Holds program lists line place v = ∥ (Stands (network_of program) (inputs_of lists) line place v) ∥₁
+-- the token is of this network and this input
+abbrev pub IsOf : Program → Lists → Token → Type 0
+IsOf network input t = (t.network.value ≡ network) × (t.input.value ≡ input)
 
--- what a token is of
-pub record Names : Type 0 where
-  pub network : Program
-  pub input : Lists
+-- these are tokens of the line, at the places from this one on
+abbrev pub Follow : Line → ℕ → List Token → Type 0
+Follow line from [] = Unit {0}
+Follow line from (t ∷ ts) = (t.line ≡ line) × (t.place ≡ from) × Follow line (suc from) ts
+
+-- these are tokens of this network and this input
+abbrev pub AllOf : Program → Lists → List Token → Type 0
+AllOf network input [] = Unit {0}
+AllOf network input (t ∷ ts) = IsOf network input t × AllOf network input ts
+
+-- the stream of a line: the token at each index stands on the line, at that place, in the solution
+abbrev pub IsRightStream : Program → Lists → Line → List Token → Type 0
+IsRightStream network input line ts =
+    (k : ℕ) (t : Token) → slice_get ts k ≡ Some t → (t.line ≡ line) × (t.place ≡ k) × Holds network input line k t.value

@@ -1,2 +1,4 @@
 pub mod Marked
 pub mod Words
+pub mod Numbers
+pub mod Sources

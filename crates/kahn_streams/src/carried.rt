@@ -4,7 +4,7 @@
 //! place. Contracts see the token, so the one that comes out has the fact that the one that went in had.
 
 ghost use Rattle.std.specs.Prelude.{◌≡◌, ◌<◌, ◌^◌};
-ghost use Rattle.kahn_streams.specs.Tokens.{Holds, Names};
+ghost use Rattle.kahn_streams.specs.Inputs.{Holds, Names};
 ghost use Rattle.kahn_streams.specs.declared.token.Token.{Token};
 
 use crate::about::About;
@@ -21,8 +21,8 @@ pub struct Carried {
 }
 
 impl Model for Carried {
-    ghost use Rattle.kahn_tree.specs.contracts.tree.Action as action;
-    ghost use Rattle.kahn_tree.specs.contracts.tree.Form as form;
+    ghost use Rattle.kahn_streams.specs.contracts.tree.Action as action;
+    ghost use Rattle.kahn_streams.specs.contracts.tree.Form as form;
     ghost use Rattle.std.specs.Coded.{codes};
     ghost use Rattle.std.specs.Prelude.{◌≡◌, ◌<◌, ◌^◌};
     ghost use Rattle.kahn_streams.specs.declared.token.Token.{Token as Meant};

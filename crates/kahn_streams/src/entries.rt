@@ -1,14 +1,14 @@
 //! The entries from which an input is made: names of channels, each with its values.
 
 ghost use Rattle.std.specs.Prelude.{◌≡◌, ◌↔◌, IsTrue, MatchOption, MatchResult, length};
-ghost use Rattle.kahn_network.specs.Network.{network_of};
-ghost use Rattle.kahn_streams.specs.Entries.{IsNameOf, IsNoName};
+ghost use Rattle.kahn_streams.specs.Network.{network_of};
+ghost use Rattle.kahn_streams.specs.Inputs.{IsNameOf, IsNoName, AreOfKind};
 ghost use Rattle.kahn_streams.specs.inner.Marked.{IsRefusedAt, IsTakenAt};
-ghost use Rattle.kahn_streams.specs.Kinded.{AreOfKind};
 
+use crate::memory::NoMemory;
+use crate::network::Network;
+use crate::tree::{Kind, Role};
 use crate::value::Value;
-use kahn_network::Network;
-use kahn_tree::{Kind, NoMemory, Role};
 use std::alloc::AllocError;
 use thiserror::Error;
 

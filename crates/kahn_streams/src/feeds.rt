@@ -4,9 +4,10 @@ ghost use Rattle.std.specs.Prelude.{MatchResult};
 ghost use Rattle.kahn_streams.specs.Feeds.{IsMeantFor, IsNotMeant};
 
 use crate::entries::{are_of_kind, channel_named};
+use crate::memory::NoMemory;
+use crate::network::Network;
+use crate::tree::Role;
 use crate::value::Value;
-use kahn_network::Network;
-use kahn_tree::{NoMemory, Role};
 use thiserror::Error;
 
 /// Why values aren't fed to an input, by the first of these that holds.

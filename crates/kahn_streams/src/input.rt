@@ -1,22 +1,21 @@
 //! The lists that are fed to the input channels.
 
 ghost use Rattle.std.specs.Prelude.{◌≡◌, ◌+◌, ◌++◌, ◌<◌, ◌≤◌, ◌↔◌, if◌then◌else◌, is_ok, IsTrue, IfSome, IfNone, IfOk, IfErr, OnErr, MatchResult, false, length, map, slice_get, slice_index_or, slice_set, [], replicate, vec_capacity};
-ghost use Rattle.kahn_streams.specs.Entries.{entry_of, most_values, IsInputOf, IsNotMade, IsFirstRefused};
+ghost use Rattle.kahn_streams.specs.Inputs.{entry_of, most_values, IsInputOf, IsNotMade, IsFirstRefused, IsListFor, IsInputFor, inputs_of};
 ghost use Rattle.kahn_streams.specs.Feeds.{LeavesFed};
-ghost use Rattle.kahn_streams.specs.Laws.{AreInputsExtended};
-ghost use Rattle.kahn_streams.specs.Kinded.{IsListFor, IsInputFor};
-ghost use Rattle.kahn_streams.specs.Tokens.{inputs_of};
+ghost use Rattle.kahn_streams.specs.Solution.{AreInputsExtended};
 ghost use Rattle.kahn_streams.specs.declared.value.Line.TheVariants.{Channel};
-ghost use Rattle.kahn_network.specs.Network.{network_of, role_at};
-ghost use Rattle.kahn_tree.specs.declared.tree.Role.TheVariants.{Input as InputRole};
+ghost use Rattle.kahn_streams.specs.Network.{network_of, role_at};
+ghost use Rattle.kahn_streams.specs.declared.tree.Role.TheVariants.{Input as InputRole};
 
 use crate::entries::{InputFault, MOST_VALUES, are_of_kind, channel_for};
 use crate::feeds::{FeedFault, channel_meant};
+use crate::memory::NoMemory;
+use crate::network::Network;
 use crate::token::Token;
+use crate::tree::Role;
 use crate::value::{Line, Value};
 use crate::word::Word;
-use kahn_network::Network;
-use kahn_tree::{NoMemory, Role};
 use std::alloc::Global;
 use std::marker::Model;
 
@@ -29,8 +28,7 @@ pub struct Input {
 
 impl Model for Input {
     ghost use Rattle.std.specs.Prelude.{map};
-    ghost use Rattle.kahn_streams.specs.Entries.{AreFew};
-    ghost use Rattle.kahn_streams.specs.Tokens.{Lists};
+    ghost use Rattle.kahn_streams.specs.Inputs.{AreFew, Lists};
 
     ghost Value = { Lists };
 

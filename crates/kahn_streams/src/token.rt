@@ -5,13 +5,13 @@
 //! fact of its type, so nothing about a schedule is needed to know it.
 
 ghost use Rattle.std.specs.Prelude.{◌≡◌};
-ghost use Rattle.kahn_streams.specs.Tokens.{Holds, Names};
+ghost use Rattle.kahn_streams.specs.Inputs.{Holds, Names};
 
 use crate::about::About;
 use crate::input::Input;
+use crate::network::Network;
 use crate::value::{Line, Value};
 use crate::word::Word;
-use kahn_network::Network;
 
 /// A value that stands at its place of its line, in the solution of its network for its input.
 #[derive(Drop)]

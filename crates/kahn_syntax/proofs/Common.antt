@@ -12,11 +12,11 @@ pub use Rattle.kahn_syntax.specs.declared.parser.cursor.Stop.TheVariants.{NoMemo
 pub use Rattle.kahn_syntax.specs.inner.Items.{IsFaultAt}
 pub use Rattle.kahn_syntax.specs.inner.Machine.{ArgumentPart, ArgumentsPart, ArgumentsTail, DeclarationPart, DeclarationsPart, ElseTail, ExpressionPart, Fate, GroupPart, GroupsPart, GroupsTail, InstancePart, InstancesTail, LastTail, LevelPart, NamesTail, OperatorsPart, Part, ProcessPart, ProgramPart, Refuses, RolePart, Rule, SimplePart, StatementPart, StatementsTail, TakingPart, Token, TokenPart, TooFar, VariablesPart, Whole, a_kind, a_name, a_number, a_sign, a_word, an_operator, argument_rules, class_of, declaration_rules, denial_rules, either, enters, expression_rules, factor_rules, fate, followed, group_rules, leads, levels, may_end, onward, opened_by, operand_rules, operator_rules, or_rules, other_rules, process_rules, relation_rules, rules_of, simple_rules, starts, step, accepts, Rung, ands, at, denials, factors, operator_of, ors, rank_or, relations, rung_of, sums, terms, tighter, whole}
 pub use Rattle.kahn_syntax.specs.inner.Reads.{AreSound, ExpressionBefore, ExpressionRead, FitsLevel, Halts, IsAbsent, IsFormed, StopsAs, Moves, Reads, StatementRead, Stops, head_parts, level_or_first}
-pub use Rattle.kahn_tree.specs.declared.tree.Action.{items-the_row-Statement, items_hidden-the_row-Statement-0}
-pub use Rattle.kahn_tree.specs.declared.tree.Action.TheBlock.{hidden-the_row-Statement-0}
-pub use Rattle.kahn_tree.specs.declared.tree.Form.{items-the_row-Operand, items_hidden-the_row-Operand-0}
-pub use Rattle.kahn_tree.specs.declared.tree.Form.TheBlock.{hidden-the_row-Operand-0}
-pub use Rattle.kahn_tree.specs.declared.tree.Variable.{Variable}
+pub use Rattle.kahn_streams.specs.declared.tree.Action.{items-the_row-Statement, items_hidden-the_row-Statement-0}
+pub use Rattle.kahn_streams.specs.declared.tree.Action.TheBlock.{hidden-the_row-Statement-0}
+pub use Rattle.kahn_streams.specs.declared.tree.Form.{items-the_row-Operand, items_hidden-the_row-Operand-0}
+pub use Rattle.kahn_streams.specs.declared.tree.Form.TheBlock.{hidden-the_row-Operand-0}
+pub use Rattle.kahn_streams.specs.Types.{OneVariable as Variable}
 pub use Rattle.std.proofs.Common.{Bool, Err, Global, IfNone, List, None, Ok, Option, Result, Some, Vec, [], add-one, ap, append_assoc, arith, bytes_eq, cond, drop, false, find, get_or, inl, inr, length, length-append, length-drop, length-take, lit<, lit≤, map, max, neg_ℤ, pos, refl, rules, subst, suc, sym, take, true, true≢false, vec_len, w64, zero, ℕ, ℤ, ⊎_elim, ◌*◌, ◌++◌, ◌+◌, ◌-◌, ◌<◌, ◌==◌, ◌∙◌, ◌∷◌, ◌≡◌, ◌≢◌, ◌≤◌, ◌⊎◌}
 pub use Rattle.std.proofs.Math.Seq.{drop-cons}
 pub use Rattle.std.proofs.lemmas.Bool.Decides.{nat_tests}

@@ -1,9 +1,9 @@
 -- No two trees spell one list: declarations, instances and programs.
 use Rattle.kahn_syntax.proofs.Common.{◌≡◌, ℕ, List, [], ◌∷◌, true, false, ⊎_elim, refl, sym, ap, ◌∙◌, subst, true≢false, Token, a_kind, accepts, leads, AreAny, Further, Grouped, group, all_members, AreGroups, Kind, Role, Taking, Terminal, word, sign, name, empty, StatementTrees, no_statement, statement, statements_words, AreSome, ParameterTree, VariableTree, DeclarationTree, channels, process, ArgumentTree, channel, InstanceTree, instance, ProgramTree, program, kind_terminal, role_words, taking_words, names_words, further_names_words, group_words, groups_words, further_groups_words, Parameters, togethers_words, Variables, SpellsDeclaration, Declarations, Argues, Arguments, Instantiates, Instances, MaybeSemicolon, Spells, StandsFirst, parameter, a_sign, a_word, Begin, Channel, Close, Comma, End, Integer, Logical, Open, Par, Process, Semicolon}
-use Rattle.kahn_tree.specs.declared.tree.Kind.TheVariants as kind
-use Rattle.kahn_tree.specs.declared.tree.Role.TheVariants as role
-use Rattle.kahn_tree.specs.declared.tree.Direction.TheVariants as direction
-use Rattle.kahn_tree.specs.declared.tree.Taking.TheVariants as taking
+use Rattle.kahn_streams.specs.declared.tree.Kind.TheVariants as kind
+use Rattle.kahn_streams.specs.declared.tree.Role.TheVariants as role
+use Rattle.kahn_streams.specs.declared.tree.Direction.TheVariants as direction
+use Rattle.kahn_streams.specs.declared.tree.Taking.TheVariants as taking
 use Rattle.kahn_syntax.specs.Programs.{number, truth, variable}
 use Rattle.kahn_syntax.proofs.Unique.{tail_is}
 use Rattle.kahn_syntax.proofs.Blocks.{same_statements}

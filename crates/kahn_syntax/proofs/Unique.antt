@@ -1,6 +1,6 @@
 -- No two trees spell one list: expressions.
 use Rattle.kahn_syntax.proofs.Common.{◌-◌, tighter, ◌≡◌, ℕ, zero, suc, ◌+◌, ◌*◌, ◌≤◌, ◌<◌, ◌≢◌, List, [], ◌∷◌, true, false, Some, ◌⊎◌, ⊎_elim, refl, sym, ap, ◌∙◌, subst, arith, nat_tests, Operator, Terminal, word, sign, ExpressionTree, number, truth, variable, wait, negation, denial, bracket, level, conditional, OperandTrees, no_operand, operand, operator_terminal, expression_words, operands_words, expression_nesting, operands_nesting, rank, IsOneOperand, Formed, FormedOperands, FitsLevel, level_or_first, operator_of, rank_or, leads, a_word, true≢false, Rung, whole, ors, denials, relations, factors, at, Close, Else, If, NotWord, Then}
-use Rattle.kahn_tree.specs.declared.tree.Operator.TheVariants as operator
+use Rattle.kahn_streams.specs.declared.tree.Operator.TheVariants as operator
 use Rattle.kahn_syntax.proofs.Levels.{joined_words}
 
 -- the list doesn't go on with an operator of this level or of a tighter one

@@ -2,11 +2,11 @@
 use Rattle.kahn_syntax.proofs.Common.{◌<◌, ◌≡◌, ℕ, ◌+◌, ◌≤◌, ◌==◌, ℤ, pos, List, [], ◌∷◌, Bool, true, false, cond, Option, Some, None, refl, sym, ap, ◌∙◌, subst, arith, ⊎_elim, ◌⊎◌, inl, inr, true≢false, Further, Grouped, group, all_members, IsGroup, AreGroups, nat_tests, Kind, Role, Taking, Operator, Terminal, word, sign, name, ExpressionTree, number, truth, variable, wait, negation, denial, bracket, conditional, OperandTrees, no_operand, operand, StatementTree, empty, assign, send, print, block, if_then, if_else, while_do, repeat, StatementTrees, no_statement, statement, operator_terminal, rank, expression_words, operands_words, statement_words, further_words, expression_nesting, operands_nesting, statement_nesting, statements_nesting, FormedOperands, FormedStatement, FormedStatements, IsSimple, DeclarationTree, channels, process, ArgumentTree, channel, InstanceTree, instance, kind_terminal, role_words, taking_words, further_names_words, group_words, groups_words, further_groups_words, togethers_words, SpellsDeclaration, Declarations, Argues, Arguments, Instantiates, Instances, MaybeSemicolon, declaration_nesting, declarations_nesting, StandsFirst, level_or_first, Rung, whole, ors, ands, denials, relations, sums, terms, factors, at, tighter, operator_of, Token, accepts, NamesTail, StatementsTail, GroupsTail, ArgumentsTail, InstancesTail, ElseTail, LastTail, Part, ProgramPart, DeclarationsPart, DeclarationPart, ProcessPart, RolePart, GroupsPart, GroupPart, TakingPart, VariablesPart, StatementPart, SimplePart, ExpressionPart, OperatorsPart, InstancePart, ArgumentsPart, ArgumentPart, TokenPart, LevelPart, levels, may_end, step, opened_by, enters, followed, rules_of, Rule, process_rules, declaration_rules, group_rules, simple_rules, other_rules, argument_rules, factor_rules, operand_rules, relation_rules, denial_rules, or_rules, expression_rules, operator_rules, either, an_operator, rank_or, letters_of, bytes_of_sign, bytes_eq, truth_terminal, append_assoc, Keyword, Sign, ◌++◌, a_sign, a_word, a_name, a_number, And, AtLeast, AtMost, Becomes, Begin, Channel, Close, Comma, Div, Do, Else, End, Equal, False, Greater, If, Integer, Less, Logical, Minus, Mod, NotWord, On, Open, OrWord, Par, Plus, Print, Process, Repeat, Semicolon, Send, Then, Times, True, Unequal, Wait, While}
 use Rattle.std.specs.Prelude.{◌||◌}
 use Rattle.std.specs.Prelude.{neg_ℤ}
-use Rattle.kahn_tree.specs.declared.tree.Kind.TheVariants as kind
-use Rattle.kahn_tree.specs.declared.tree.Role.TheVariants as role
-use Rattle.kahn_tree.specs.declared.tree.Direction.TheVariants as direction
-use Rattle.kahn_tree.specs.declared.tree.Taking.TheVariants as taking
-use Rattle.kahn_tree.specs.declared.tree.Operator.TheVariants as operator
+use Rattle.kahn_streams.specs.declared.tree.Kind.TheVariants as kind
+use Rattle.kahn_streams.specs.declared.tree.Role.TheVariants as role
+use Rattle.kahn_streams.specs.declared.tree.Direction.TheVariants as direction
+use Rattle.kahn_streams.specs.declared.tree.Taking.TheVariants as taking
+use Rattle.kahn_streams.specs.declared.tree.Operator.TheVariants as operator
 use Rattle.kahn_syntax.specs.Lexemes as terminal
 use Rattle.kahn_syntax.specs.Programs as tree
 use Rattle.kahn_syntax.specs.inner.Reads as reads

@@ -1,9 +1,9 @@
 -- A list that a tree spells is read whole: declarations, instances and programs.
 use Rattle.kahn_syntax.proofs.Common.{a_kind, ◌≡◌, ℕ, ◌+◌, ◌≤◌, List, [], ◌∷◌, true, false, Some, ⊎_elim, refl, ap, ◌∙◌, arith, AreAny, Further, Grouped, group, IsGroup, AreGroups, Kind, Role, Taking, Terminal, word, sign, name, statements_words, ParameterTree, VariableTree, DeclarationTree, channels, process, ArgumentTree, channel, InstanceTree, instance, ProgramTree, program, kind_terminal, role_words, taking_words, names_words, further_names_words, group_words, groups_words, further_groups_words, Parameters, togethers_words, Variables, SpellsDeclaration, Declarations, Argues, Arguments, Instantiates, Instances, MaybeSemicolon, Spells, declaration_nesting, declarations_nesting, nesting, StandsFirst, leads, NamesTail, StatementsTail, GroupsTail, ArgumentsTail, InstancesTail, LastTail, Part, ProgramPart, DeclarationsPart, DeclarationPart, RolePart, GroupsPart, GroupPart, TakingPart, VariablesPart, StatementPart, InstancePart, ArgumentsPart, ArgumentPart, TokenPart, levels, step, Whole, fate, a_word, a_sign, a_name, a_number, Begin, Channel, Close, Comma, End, False, In, Input, Integer, Logical, Minus, Open, Out, Output, Par, Process, Semicolon, True}
-use Rattle.kahn_tree.specs.declared.tree.Kind.TheVariants as kind
-use Rattle.kahn_tree.specs.declared.tree.Role.TheVariants as role
-use Rattle.kahn_tree.specs.declared.tree.Direction.TheVariants as direction
-use Rattle.kahn_tree.specs.declared.tree.Taking.TheVariants as taking
+use Rattle.kahn_streams.specs.declared.tree.Kind.TheVariants as kind
+use Rattle.kahn_streams.specs.declared.tree.Role.TheVariants as role
+use Rattle.kahn_streams.specs.declared.tree.Direction.TheVariants as direction
+use Rattle.kahn_streams.specs.declared.tree.Taking.TheVariants as taking
 use Rattle.kahn_syntax.specs.Lexemes as terminal
 use Rattle.kahn_syntax.specs.Programs.{number, truth}
 use Rattle.kahn_syntax.proofs.OneTree.{statements_start, Named, named_instances, no_par_end, no_comma}

@@ -3,16 +3,16 @@
 -- expression has the span from the first of them to the last.
 use Rattle.std.specs.Prelude.{ℕ, List, [], ◌∷◌, map, string_bytes, ◌≡◌, ℤ, ◌+◌, ◌⊎◌, ◌++◌, Option, Some, None, length, neg_ℤ}
 use Rattle.kahn_syntax.specs.Names.{Name, Form, Number, Logical, Variable, Wait, Negate', Not', Bracket', Level', Conditional', Row_of-Operand, end_of-Operand, more_of-Operand, Expression, Operand, Action, Empty, Assign, Send, Print, Block', If', While', Repeat', Row_of-Statement, end_of-Statement, more_of-Statement, Held-Action-If-2, None', Some', Statement, Parameter, OneVariable, Process, Declaration, Argument, Instance, Program, Lexeme, Span, Kind, Taking, Role}
-use Rattle.kahn_tree.specs.declared.tree.Declaration.TheVariants as declared
-use Rattle.kahn_tree.specs.declared.tree.Argument.TheVariants as argued
+use Rattle.kahn_streams.specs.declared.tree.Declaration.TheVariants as declared
+use Rattle.kahn_streams.specs.declared.tree.Argument.TheVariants as argued
 use Rattle.kahn_syntax.specs.Programs as whole
 use Rattle.kahn_syntax.specs.Programs.{ParameterTree, VariableTree, DeclarationTree, ArgumentTree, InstanceTree, ProgramTree, kind_terminal, Between, SomeBetween, Grouped, group, all_members}
 use Rattle.kahn_syntax.specs.Trees.{ExpressionTree, number, truth, variable, wait, negation, denial, bracket, level, conditional, OperandTrees, no_operand, operand, StatementTree, empty, assign, send, print, block, if_then, if_else, while_do, repeat, StatementTrees, no_statement, statement, operator_terminal, truth_terminal}
 use Rattle.kahn_syntax.specs.declared.lexeme.Keyword.TheVariants as keyword
 use Rattle.kahn_syntax.specs.declared.lexeme.Sign.TheVariants as mark
-use Rattle.kahn_tree.specs.declared.tree.Taking.TheVariants as taking
-use Rattle.kahn_tree.specs.declared.tree.Direction.TheVariants as direction
-use Rattle.kahn_tree.specs.declared.tree.Role.TheVariants as role
+use Rattle.kahn_streams.specs.declared.tree.Taking.TheVariants as taking
+use Rattle.kahn_streams.specs.declared.tree.Direction.TheVariants as direction
+use Rattle.kahn_streams.specs.declared.tree.Role.TheVariants as role
 use Rattle.kahn_syntax.specs.Lexemes as terminal
 use Rattle.kahn_syntax.specs.Lexemes.{Terminal, word, sign, name}
 

@@ -1,6 +1,6 @@
 //! Why a text is no program.
 
-use kahn_tree::Span;
+use kahn_streams::Span;
 use std::alloc::{AllocError, AllocFailed};
 use thiserror::Error;
 

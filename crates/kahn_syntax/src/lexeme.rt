@@ -1,6 +1,6 @@
 //! Lexemes: the words, names, numbers and signs of a text.
 
-use kahn_tree::Span;
+use kahn_streams::Span;
 
 /// A keyword. It is written in any letter case.
 #[derive(Clone, Copy, Debug, PartialEq, Eq)]

@@ -10,7 +10,7 @@ ghost use Rattle.kahn_syntax.specs.inner.Items.{IsItem, IsFaultAt};
 use crate::fault::SyntaxFault;
 use crate::lexeme::{Class, Keyword, Lexeme};
 use crate::lexer::forms::{Form, comment_end, form_at, is_blank};
-use kahn_tree::Span;
+use kahn_streams::Span;
 use std::alloc::Global;
 
 /// The most bytes that a text may have.

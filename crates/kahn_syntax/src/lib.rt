@@ -1,4 +1,4 @@
-//! The source text of Kahn's language: lexemes, and the parser to the tree of `kahn_tree`.
+//! The source text of Kahn's language: lexemes, and the parser to the tree of `kahn_streams`.
 #![tactic(auto)]
 
 mod fault;
@@ -8,7 +8,7 @@ mod lexer;
 mod parser;
 
 pub use fault::{SyntaxFault, What};
-pub use kahn_tree::{
+pub use kahn_streams::{
     Action, Argument, Declaration, Direction, Expression, Form, Instance, Kind, Name, Operand,
     Operator, Parameter, Process, Program, Role, Span, Statement, Taking, Variable,
 };

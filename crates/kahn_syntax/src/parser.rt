@@ -22,7 +22,7 @@ mod statement;
 
 use crate::fault::SyntaxFault;
 use crate::lexer::lex;
-use kahn_tree::Program;
+use kahn_streams::Program;
 use program::parse_lexemes;
 use std::alloc::Global;
 

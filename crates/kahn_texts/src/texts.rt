@@ -2,7 +2,7 @@
 
 ghost use Rattle.std.specs.Prelude.{◌≡◌, ◌≤◌, IfOk, MatchResult, None, [], length, string_bytes};
 ghost use Rattle.kahn_report.specs.Reading.{GivesAll};
-ghost use Rattle.kahn_report.specs.Entries.{most_input_bytes};
+ghost use Rattle.kahn_report.specs.Inputs.{most_input_bytes};
 ghost use Rattle.kahn_texts.specs.Texts.{most_program_bytes, AreWithin, IsOfProgram, IsOfInput, IsOfTexts, StandsForProgram, StandsForInput};
 
 use kahn_fault::Fault;

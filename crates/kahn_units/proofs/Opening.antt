@@ -1,11 +1,11 @@
 -- A cell and plain queues at their openings.
 use Rattle.std.proofs.Common.{arith, ◌≡◌, ℕ, ◌<◌, length, replicate, refl, sym, ap, ◌∙◌, subst, slice_index_or}
-use Rattle.kahn_tree.specs.declared.tree.Program.{Program}
-use Rattle.kahn_network.specs.Network.{Writes, network_of, instance_at, actual_at, role_at}
-use Rattle.kahn_network.specs.Wiring.{IsWellWired}
-use Rattle.kahn_network.proofs.Sourced.{writes}
-use Rattle.kahn_streams.specs.Tokens.{Lists}
-use Rattle.kahn_code.specs.Cells.{is_output}
+use Rattle.kahn_streams.specs.Types.{Program}
+use Rattle.kahn_streams.specs.Network.{Writes, network_of, instance_at, actual_at, role_at}
+use Rattle.kahn_streams.specs.Wiring.{IsWellWired}
+use Rattle.kahn_streams.proofs.Sourced.{writes}
+use Rattle.kahn_streams.specs.Inputs.{Lists}
+use Rattle.kahn_streams.specs.Answers.{is_output}
 use Rattle.kahn_code.specs.Lines.{Lines as Queues, AreFirst, next_at}
 use Rattle.kahn_code.specs.Told.{Told}
 use Rattle.kahn_streams.proofs.Entered.{none_of}

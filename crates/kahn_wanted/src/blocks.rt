@@ -8,8 +8,8 @@ ghost use Rattle.kahn_wanted.specs.Blocks.{AreBlocks, AreBlocksAt, AreBlocksOf, 
 
 use crate::changes::lexeme_before;
 use crate::mended::place_of;
+use kahn_streams::NoMemory;
 use kahn_syntax::{Class, Keyword, Lexeme, Span, What, lex};
-use kahn_tree::NoMemory;
 use std::alloc::{AllocError, Global};
 
 /// A block that no `end` has closed.

@@ -10,8 +10,8 @@ ghost use Rattle.kahn_wanted.specs.inner.Passing.{EndWithin, Passed};
 
 use crate::blocks::is_broken;
 use crate::swallowing::{is_blank, swallows};
+use kahn_streams::NoMemory;
 use kahn_syntax::{Span, lex};
-use kahn_tree::NoMemory;
 use std::alloc::{AllocError, Global};
 
 /// Where a comment ends that begins here.

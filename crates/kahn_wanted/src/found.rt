@@ -10,8 +10,8 @@ ghost use Rattle.kahn_wanted.specs.inner.Asked.{StandsBehind};
 
 use crate::asked::classes;
 use crate::groups::{Wanted, grouped};
+use kahn_streams::NoMemory;
 use kahn_syntax::{Lexeme, Span, What, lex};
-use kahn_tree::NoMemory;
 use std::alloc::Global;
 
 /// What stands where a text goes wrong, and what may stand there.

@@ -11,8 +11,8 @@ ghost use Rattle.kahn_wanted.specs.inner.Tried.{AreTried, IsPlain, Makes};
 
 use crate::changes::{Change, changed, has_spot, lexeme_before, near_changes};
 use crate::found::count_before;
+use kahn_streams::NoMemory;
 use kahn_syntax::{Lexeme, Span, SyntaxFault, What, lex, parse_lexemes};
-use kahn_tree::NoMemory;
 use std::alloc::Global;
 
 /// Of how many lexemes a text may be for which changes are looked for: each is tried by a parse of the whole text.

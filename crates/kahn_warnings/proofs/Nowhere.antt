@@ -1,21 +1,14 @@
 -- A body without a place never ends with that fault.
 use Rattle.std.proofs.Common.{arith, ◌≡◌, ◌∙◌, ℕ, zero, suc, neg_ℤ, ◌++◌, ◌==◌, not, Bool, true, false, List, [], ◌∷◌, Option, Some, None, Result, Ok, Err, refl, sym, ap, subst, slice_set, if◌then◌else◌}
 use Rattle.std.specs.List.{AllByRecursion}
-use Rattle.kahn_tree.specs.declared.span.Span.{Span}
-use Rattle.kahn_tree.specs.declared.tree.Operator.{Operator}
-use Rattle.kahn_tree.specs.declared.tree.Form as form
-use Rattle.kahn_tree.specs.declared.tree.Form.{Form, Negate', Not', Bracket', Level', Conditional', Row_of-Operand, end_of-Operand, more_of-Operand}
-use Rattle.kahn_tree.specs.declared.tree.Action as action
-use Rattle.kahn_tree.specs.declared.tree.Action.{Action, Block', If', While', Repeat', Row_of-Statement, end_of-Statement, more_of-Statement, Held-Action-If-2, None', Some'}
-use Rattle.kahn_tree.specs.declared.tree.Statement.{Statement}
-use Rattle.kahn_tree.specs.Syntax.{Expr, Literal, Variable, Wait, Negate, Not, Binary, Conditional, Stmt, Skip, Assign, Send, Print, Seq, If, While, Repeat}
-use Rattle.kahn_tree.specs.View.{Scope, body_of, else_of, expr_of, level_of, row_of, stmt_of}
-use Rattle.kahn_streams.specs.declared.value.Value.{Value}
+use Rattle.kahn_streams.specs.Types.{Span, Operator, Form, Negate', Not', Bracket', Level', Conditional', Row_of-Operand, end_of-Operand, more_of-Operand, Action, Block', If', While', Repeat', Row_of-Statement, end_of-Statement, more_of-Statement, Held-Action-If-2, None', Some', Statement, Value, Failure, Line}
+use Rattle.kahn_streams.specs.declared.tree.Form as form
+use Rattle.kahn_streams.specs.declared.tree.Action as action
+use Rattle.kahn_streams.specs.Syntax.{Expr, Literal, Variable, Wait, Negate, Not, Binary, Conditional, Stmt, Skip, Assign, Send, Print, Seq, If, While, Repeat}
+use Rattle.kahn_streams.specs.View.{Scope, body_of, else_of, expr_of, level_of, row_of, stmt_of}
 use Rattle.kahn_streams.specs.declared.value.Value.TheVariants.{Logical}
-use Rattle.kahn_streams.specs.declared.value.Failure.{Failure}
 use Rattle.kahn_streams.specs.Arithmetic.{apply, number, ranged, truth}
-use Rattle.kahn_network.specs.Network.{Actual, Given, Hands, Network, Nobody, Reads, Source, Writes, Written, actual_at, instance_at}
-use Rattle.kahn_streams.specs.declared.value.Line.{Line}
+use Rattle.kahn_streams.specs.Network.{Actual, Given, Hands, Network, Nobody, Reads, Source, Writes, Written, actual_at, instance_at}
 use Rattle.kahn_streams.specs.declared.value.Line.TheVariants.{Channel}
 use Rattle.kahn_streams.specs.declared.value.Line.TheVariants as line
 use Rattle.kahn_streams.specs.Solution.{Faulted, HasEnd, Histories, Inputs, ending, exec_at, fed, goes_to, input_list, iterate, opening, out, source, tape_of, tapes_of, values_at}

@@ -3,10 +3,9 @@ use mathlib.Core.Path.{fun_ext}
 use Rattle.std.proofs.Common.{arith, ◌≡◌, ◌∙◌, ℕ, zero, suc, ◌||◌, Bool, true, false, true≢false, Option, Some, None, Result, Ok, Err, neg_ℤ, pos, not, ap, sym, refl, nat_eq, slice_set}
 use Rattle.std.proofs.lemmas.List.{get_or-set_other}
 use Rattle.std.proofs.lemmas.Option.{none-some, same_Some}
-use Rattle.kahn_tree.specs.Syntax.{Expr, Literal, Variable, Wait, Negate, Not, Binary, Conditional, Stmt, Skip, Assign, Send, Print, Seq, If, While, Repeat}
-use Rattle.kahn_streams.specs.declared.value.Value.{Value}
+use Rattle.kahn_streams.specs.Syntax.{Expr, Literal, Variable, Wait, Negate, Not, Binary, Conditional, Stmt, Skip, Assign, Send, Print, Seq, If, While, Repeat}
+use Rattle.kahn_streams.specs.Types.{Value, Failure}
 use Rattle.kahn_streams.specs.declared.value.Value.TheVariants.{Integer, Logical}
-use Rattle.kahn_streams.specs.declared.value.Failure.{Failure}
 use Rattle.kahn_streams.specs.Arithmetic.{apply, number, ranged, truth}
 use Rattle.kahn_streams.specs.Meaning.{Store, constant, eval, exec, read, script_of, settle, turns_of, value_of}
 use Rattle.kahn_streams.specs.Script.{Cut, Dry, Fail, Fault, Give, Got, Outcome, Parameter, Printer, Reached, Script, Sends, Tapes, Turns, Waits, at_once, play}

@@ -1,15 +1,10 @@
 -- Believed. What is warned of constants: operators that fail wherever they are reached, and tests that come out one way.
 use Rattle.std.specs.Prelude.{◌≡◌, ℕ, Bool, true, false, not, ◌&&◌, neg_ℤ, List, [], ◌∷◌, ◌++◌, Option, Some, None, Result, Ok, Err, if◌then◌else◌}
-use Rattle.kahn_tree.specs.declared.span.Span.{Span}
-use Rattle.kahn_tree.specs.declared.tree.Operator.{Operator}
-use Rattle.kahn_tree.specs.declared.tree.Operator.TheVariants.{Divide, Remainder}
-use Rattle.kahn_tree.specs.declared.tree.Form.{Form, Number, Logical, Variable, Wait, Negate', Not', Bracket', Level', Conditional', Row_of-Operand, end_of-Operand, more_of-Operand}
-use Rattle.kahn_tree.specs.declared.tree.Action.{Action, Empty, Assign, Send, Print, Block', If', While', Repeat', Row_of-Statement, end_of-Statement, more_of-Statement, Held-Action-If-2, None', Some'}
-use Rattle.kahn_tree.specs.Syntax as S
-use Rattle.kahn_tree.specs.View.{expr_of, expression_of}
-use Rattle.kahn_streams.specs.declared.value.Value.{Value}
+use Rattle.kahn_streams.specs.Types.{Span, Operator, Form, Number, Logical, Variable, Wait, Negate', Not', Bracket', Level', Conditional', Row_of-Operand, end_of-Operand, more_of-Operand, Action, Empty, Assign, Send, Print, Block', If', While', Repeat', Row_of-Statement, end_of-Statement, more_of-Statement, Held-Action-If-2, None', Some', Value, Failure}
+use Rattle.kahn_streams.specs.declared.tree.Operator.TheVariants.{Divide, Remainder}
+use Rattle.kahn_streams.specs.Syntax as S
+use Rattle.kahn_streams.specs.View.{expr_of, expression_of}
 use Rattle.kahn_streams.specs.declared.value.Value.TheVariants as value
-use Rattle.kahn_streams.specs.declared.value.Failure.{Failure}
 use Rattle.kahn_streams.specs.declared.value.Failure.TheVariants.{Overflow, Division}
 use Rattle.kahn_streams.specs.Arithmetic.{apply, is_zero, number, ranged, truth}
 use Rattle.kahn_streams.specs.Meaning.{Store, constant, eval, exec, value_of}

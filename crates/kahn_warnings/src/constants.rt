@@ -1,12 +1,11 @@
 //! The values that expressions have wherever they are reached, and the faults of operators on these.
 
 ghost use Rattle.std.specs.Prelude.{◌≡◌};
-ghost use Rattle.kahn_tree.specs.View.{Scope, expression_of};
+ghost use Rattle.kahn_streams.specs.View.{Scope, expression_of};
 ghost use Rattle.kahn_warnings.specs.Constants.{bad, chosen, constant_of, divides, combined, good, inverted, is_true, negate_fault, negated, sure_fault};
 
 use crate::arithmetic::{apply, is_zero, negate, truth};
-use kahn_streams::{Failure, Value};
-use kahn_tree::{Expression, Form, Operator};
+use kahn_streams::{Expression, Failure, Form, Operator, Value};
 
 /// The value, where there is no fault.
 fn good(outcome: Result<Value, Failure>) -> Option<Value>

@@ -1,12 +1,12 @@
 //! Statements that never end, and loops that nobody sees.
 
 ghost use Rattle.std.specs.Prelude.{◌≡◌};
-ghost use Rattle.kahn_tree.specs.View.{Scope, expression_of, statement_of};
+ghost use Rattle.kahn_streams.specs.View.{Scope, expression_of, statement_of};
 ghost use Rattle.kahn_warnings.specs.Loops.{is_seen, never_ends};
 ghost use Rattle.kahn_warnings.specs.Uses.{waits_in};
 
 use crate::constants::{constant_of, is_true};
-use kahn_tree::{Action, Expression, Form, Statement};
+use kahn_streams::{Action, Expression, Form, Statement};
 
 /// Whether a statement never ends, by its form.
 pub(crate) fn never_ends(statement: &Statement) -> bool

@@ -7,7 +7,7 @@ ghost use Rattle.kahn_warnings.specs.Warned.{warned};
 
 use crate::uses::{assigns, uses};
 use crate::warning::{Warning, WarningKind};
-use kahn_tree::{Instance, Name, Process, Span};
+use kahn_streams::{Instance, Name, Process, Span};
 use std::alloc::AllocError;
 
 /// A warning of a part of the text.

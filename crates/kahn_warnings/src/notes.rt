@@ -6,7 +6,7 @@ ghost use Rattle.kahn_warnings.specs.Telling.{AreWarningNotes, end_note, last_by
 use crate::program::warnings;
 use crate::warning::{Warning, WarningKind};
 use kahn_marks::{marked_too, marked_warning};
-use kahn_tree::{NoMemory, Program, Span};
+use kahn_streams::{NoMemory, Program, Span};
 use std::alloc::{AllocError, Global};
 
 /// What is said of a warning.

@@ -1,7 +1,7 @@
 //! All that is warned of in a program.
 
 ghost use Rattle.std.specs.Prelude.{◌≡◌, ◌++◌, IfOk};
-ghost use Rattle.kahn_tree.specs.View.{stmt_of};
+ghost use Rattle.kahn_streams.specs.View.{stmt_of};
 ghost use Rattle.kahn_warnings.specs.Warnings.{AreWarnings, body_constants, body_warnings, declaration_warnings, endless_warnings, first_standing, first_unreached, idle_warnings, statement_warnings};
 ghost use Rattle.kahn_warnings.specs.Warned.{warned_where};
 
@@ -11,7 +11,7 @@ use crate::loops::{is_seen, never_ends};
 use crate::names::{add_names, add_process, warned};
 use crate::surely::add_constants;
 use crate::warning::{Warning, WarningKind};
-use kahn_tree::{Action, Declaration, Expression, Instance, NoMemory, Program, Span, Statement};
+use kahn_streams::{Action, Declaration, Expression, Instance, NoMemory, Program, Span, Statement};
 use std::alloc::{AllocError, Global};
 
 /// Adds a warning of a part, where that stands anywhere.

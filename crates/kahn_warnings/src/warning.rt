@@ -1,6 +1,6 @@
 //! A warning.
 
-use kahn_tree::Span;
+use kahn_streams::Span;
 
 /// What is warned of.
 #[derive(Clone, Copy, Debug, PartialEq, Eq)]

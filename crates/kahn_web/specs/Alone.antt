@@ -1,11 +1,10 @@
 -- Believed. How the work is set up for one thread.
 use Rattle.std.specs.Prelude.{ℕ, List, None}
-use Rattle.kahn_tree.specs.declared.tree.Program.{Program}
-use Rattle.kahn_config.specs.declared.Config.{Config}
-use Rattle.kahn_pool.specs.declared.answer.Answer.{Answer}
-use Rattle.kahn_pool.specs.Runs.{IsRightRun}
+use Rattle.kahn_streams.specs.Types.{Program, Config}
+use Rattle.kahn_streams.specs.declared.answer.Answer.{Answer}
+use Rattle.kahn_streams.specs.Answers.{IsRightRun}
 use Rattle.kahn_report.specs.Inputs.{StandsFor}
-use Rattle.kahn_streams.specs.Tokens.{Lists}
+use Rattle.kahn_streams.specs.Inputs.{Lists}
 
 -- one worker with a quantum of a thousand events, which watches no channel
 abbrev pub alone : ℕ → Config

@@ -4,7 +4,7 @@ ghost use Rattle.std.specs.Prelude.{◌≡◌, ◌+◌, ◌<◌, ◌≤◌, leng
 ghost use Rattle.std.specs.Io.KnownBytes.{Keeps};
 ghost use Rattle.kahn_write.specs.Written.{Writes};
 
-use kahn_tree::Steps;
+use kahn_streams::Steps;
 use std::io::Write;
 use std::marker::Brand;
 use std::sync::ledger::{Blank, Ledger};

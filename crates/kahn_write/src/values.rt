@@ -2,14 +2,12 @@
 
 ghost use Rattle.std.specs.Prelude.{◌≡◌, ℕ, List, ◌+◌, ◌*◌, ◌≤◌, length, drop, ◌++◌, flat_map};
 ghost use Rattle.std.specs.Fmt.{signed_decimal};
-ghost use Rattle.kahn_streams.specs.declared.value.Value.{Value as ValueView};
-ghost use Rattle.kahn_write.specs.Values.{value_text};
-ghost use Rattle.kahn_write.specs.Written.{Writes};
+ghost use Rattle.kahn_streams.specs.Types.{Value as ValueView};
+ghost use Rattle.kahn_write.specs.Written.{value_text, Writes};
 
 use crate::bytes::{WriteFault, put};
 use itoa::write_digits;
-use kahn_streams::{Carried, Value};
-use kahn_tree::Steps;
+use kahn_streams::{Carried, Steps, Value};
 use std::io::Write;
 use std::sync::ledger::Ledger;
 
@@ -77,7 +75,7 @@ pub trait Layout {
 pub struct Spaced;
 
 impl Layout for Spaced {
-    ghost use Rattle.kahn_write.specs.Values.{spaced_text};
+    ghost use Rattle.kahn_write.specs.Written.{spaced_text};
 
     ghost text = { spaced_text };
 
@@ -92,7 +90,7 @@ impl Layout for Spaced {
 pub struct Lined;
 
 impl Layout for Lined {
-    ghost use Rattle.kahn_write.specs.Values.{plain_line};
+    ghost use Rattle.kahn_write.specs.Written.{plain_line};
 
     ghost text = { plain_line };
 

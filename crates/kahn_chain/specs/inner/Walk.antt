@@ -1,7 +1,7 @@
 -- Inner. A walk along the waits of an instance.
 use Rattle.std.specs.Prelude.{◌≡◌, ℕ, ◌<◌, ◌≤◌, List, Bool, true, false, length}
 use Rattle.std.proofs.Common.{get_or}
-use Rattle.kahn_network.specs.Network.{Network}
+use Rattle.kahn_streams.specs.Network.{Network}
 use Rattle.kahn_chain.specs.Chain.{Awaits, Leads, LeadsOn, IsCause}
 use Rattle.kahn_chain.specs.declared.standing.Standing.{Standing}
 use Rattle.kahn_chain.specs.declared.standing.Cause.{Cause}

@@ -2,18 +2,13 @@
 use Rattle.std.specs.Prelude.{◌≡◌, ◌⊎◌, ◌≤◌, ℕ, suc, ◌+◌, List, [], ◌∷◌, ◌++◌, map, length, Option, None, Some, if◌then◌else◌}
 use Rattle.std.proofs.Common.{bytes_eq}
 use Rattle.std.specs.Map.{lookup}
-use Rattle.kahn_tree.specs.declared.tree.Name.{Name}
-use Rattle.kahn_tree.specs.declared.tree.Kind.{Kind}
-use Rattle.kahn_tree.specs.declared.tree.Role.{Role}
-use Rattle.kahn_tree.specs.declared.tree.Direction.{Direction}
-use Rattle.kahn_tree.specs.declared.tree.Direction.TheVariants.{In, Out}
-use Rattle.kahn_tree.specs.declared.tree.Declaration.{Declaration}
-use Rattle.kahn_tree.specs.declared.tree.Instance.{Instance}
-use Rattle.kahn_tree.specs.View.{bytes_of}
-use Rattle.kahn_network.specs.Wiring.{Global, Handover, IsChannel, declared_of, entries, same_direction}
+use Rattle.kahn_streams.specs.Types.{Name, Kind, Role, Direction, Declaration, Instance}
+use Rattle.kahn_streams.specs.declared.tree.Direction.TheVariants.{In, Out}
+use Rattle.kahn_streams.specs.View.{bytes_of}
+use Rattle.kahn_streams.specs.Wiring.{Global, Handover, IsChannel, declared_of, entries, same_direction}
 use Rattle.kahn_check.specs.declared.fault.CheckFault.{CheckFault}
 use Rattle.kahn_check.specs.Parts.{channel_parts, declaration_parts, first_alone, firsts}
-use Rattle.kahn_check.specs.Order.{most_channels, most_instances, repeated, too_many}
+use Rattle.kahn_check.specs.Faults.{most_channels, most_instances, repeated, too_many}
 use Rattle.kahn_check.specs.inner.Tables.{Ends, handed_to, made_in, meant, side_in, taken}
 
 -- ---- tables

@@ -1,11 +1,11 @@
 -- Inner. What the instances of a program make of it.
 use Rattle.std.specs.Prelude.{◌≡◌, ℕ, List, [], map}
-use Rattle.kahn_tree.specs.declared.tree.Direction.TheVariants.{In, Out}
-use Rattle.kahn_tree.specs.declared.tree.Program.{Program}
-use Rattle.kahn_tree.specs.View.{bytes_of}
-use Rattle.kahn_network.specs.Network.{process_of}
-use Rattle.kahn_network.specs.Wires.{process_at}
-use Rattle.kahn_network.specs.Wiring.{Global}
+use Rattle.kahn_streams.specs.declared.tree.Direction.TheVariants.{In, Out}
+use Rattle.kahn_streams.specs.Types.{Program}
+use Rattle.kahn_streams.specs.View.{bytes_of}
+use Rattle.kahn_streams.specs.Network.{process_of}
+use Rattle.kahn_streams.specs.Wires.{process_at}
+use Rattle.kahn_streams.specs.Wiring.{Global}
 use Rattle.kahn_check.specs.declared.instance.Seats.{Seats}
 use Rattle.kahn_check.specs.inner.Tables.{taken, handed_all, seats_faults}
 

@@ -2,24 +2,15 @@
 use Rattle.std.specs.Prelude.{◌≡◌, ℕ, suc, List, [], ◌∷◌, ◌++◌, length, Option, None, Some, Result, if◌then◌else◌}
 use Rattle.std.proofs.Common.{bytes_eq}
 use Rattle.std.specs.Map.{lookup}
-use Rattle.kahn_tree.specs.declared.tree.Name.{Name}
-use Rattle.kahn_tree.specs.declared.tree.Kind.{Kind}
-use Rattle.kahn_tree.specs.declared.tree.Kind.TheVariants as K
-use Rattle.kahn_tree.specs.declared.tree.Role.{Role}
-use Rattle.kahn_tree.specs.declared.tree.Role.TheVariants.{Inner, Input, Output}
-use Rattle.kahn_tree.specs.declared.tree.Direction.{Direction}
-use Rattle.kahn_tree.specs.declared.tree.Direction.TheVariants.{In, Out}
-use Rattle.kahn_tree.specs.declared.tree.Taking.{Taking}
-use Rattle.kahn_tree.specs.declared.tree.Taking.TheVariants as T
-use Rattle.kahn_tree.specs.declared.tree.Parameter.{Parameter}
-use Rattle.kahn_tree.specs.declared.tree.Argument.{Argument}
-use Rattle.kahn_tree.specs.declared.tree.Argument.TheVariants as A
-use Rattle.kahn_tree.specs.View.{bytes_of}
-use Rattle.kahn_check.specs.Faults.{Checks, wrong}
-use Rattle.kahn_tree.specs.declared.tree.Instance.{Instance}
-use Rattle.kahn_network.specs.Wiring.{Global, IsChannel, IsProcess, Handover, handed, handed_in, parameters_of, same_direction, side_at}
-use Rattle.kahn_network.specs.declared.sides.Side.{Side}
-use Rattle.kahn_check.specs.Order.{most_instances, misplaced, too_many, miscounted, missing}
+use Rattle.kahn_streams.specs.Types.{Name, Kind, Role, Direction, Taking, Parameter, Argument, Instance, Side}
+use Rattle.kahn_streams.specs.declared.tree.Kind.TheVariants as K
+use Rattle.kahn_streams.specs.declared.tree.Role.TheVariants.{Inner, Input, Output}
+use Rattle.kahn_streams.specs.declared.tree.Direction.TheVariants.{In, Out}
+use Rattle.kahn_streams.specs.declared.tree.Taking.TheVariants as T
+use Rattle.kahn_streams.specs.declared.tree.Argument.TheVariants as A
+use Rattle.kahn_streams.specs.View.{bytes_of}
+use Rattle.kahn_check.specs.Faults.{Checks, wrong, most_instances, misplaced, too_many, miscounted, missing}
+use Rattle.kahn_streams.specs.Wiring.{Global, IsChannel, IsProcess, Handover, handed, handed_in, parameters_of, same_direction, side_at}
 use Rattle.kahn_check.specs.declared.fault.CheckFault.{CheckFault}
 use Rattle.kahn_check.specs.declared.fault.CheckFault.TheVariants.{Unknown, ChannelExpected, ValueExpected, NoWriter, NoReader}
 

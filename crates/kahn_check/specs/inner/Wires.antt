@@ -4,15 +4,13 @@ use Rattle.std.proofs.Common.{bytes_eq}
 use Rattle.std.specs.Map.{lookup}
 use Rattle.std.specs.declared.alloc.Global.{Global}
 use Rattle.std.specs.declared.vec.Vec.{Vec}
-use Rattle.kahn_tree.specs.declared.tree.Name.{Name}
-use Rattle.kahn_tree.specs.declared.tree.Kind.{Kind}
-use Rattle.kahn_tree.specs.declared.tree.Role.{Role}
-use Rattle.kahn_tree.specs.View.{bytes_of}
+use Rattle.kahn_streams.specs.Types.{Name, Kind, Role}
+use Rattle.kahn_streams.specs.View.{bytes_of}
 use Rattle.kahn_check.specs.Faults.{Checks}
 use Rattle.kahn_check.specs.declared.fault.CheckFault.{CheckFault}
 use Rattle.kahn_check.specs.inner.Tables.{Ends, sides_in}
-use Rattle.kahn_network.specs.Wires.{Line, shown}
-use Rattle.kahn_network.specs.declared.wires.Wire.{Wire}
+use Rattle.kahn_streams.specs.Wires.{Line, shown}
+use Rattle.kahn_streams.specs.declared.wires.Wire.{Wire}
 
 -- the channels of one declaration
 abbrev pub as_lines : Kind → Role → List Name → List (Name × (Kind × Role))

@@ -1,5 +1,5 @@
 -- Inner. Queues that go on for a longer input.
-use Rattle.kahn_streams.specs.Tokens.{Lists}
+use Rattle.kahn_streams.specs.Inputs.{Lists}
 use Rattle.kahn_code.specs.Queues.{Waiting}
 
 -- the same queue, for this input

@@ -1,10 +1,10 @@
 -- Inner. A run before its next events.
 use Rattle.std.specs.Prelude.{◌≡◌, ℕ, ◌+◌, ◌^◌, ◌<◌, false, List, length, Option, Some, slice_get, slice_index}
-use Rattle.kahn_tree.specs.declared.tree.Program.{Program}
-use Rattle.kahn_tree.specs.declared.tree.Role.TheVariants as role
-use Rattle.kahn_network.specs.Network.{Writes, network_of, instance_at, actual_at, role_at}
-use Rattle.kahn_streams.specs.Tokens.{Lists, inputs_of}
-use Rattle.kahn_code.specs.Cells.{is_output}
+use Rattle.kahn_streams.specs.Types.{Program}
+use Rattle.kahn_streams.specs.declared.tree.Role.TheVariants as role
+use Rattle.kahn_streams.specs.Network.{Writes, network_of, instance_at, actual_at, role_at}
+use Rattle.kahn_streams.specs.Inputs.{Lists, inputs_of}
+use Rattle.kahn_streams.specs.Answers.{is_output}
 use Rattle.kahn_code.specs.Standing.{count}
 use Rattle.kahn_job.specs.inner.Lanes.{AreJoinedOn}
 use Rattle.kahn_job.specs.inner.Works.{Work, IsDelivered}

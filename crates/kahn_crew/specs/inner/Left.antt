@@ -1,9 +1,9 @@
 -- Inner. How the tasks of a run stand once all workers have left.
 use Rattle.std.specs.Prelude.{◌≡◌, ◌⊎◌, ℕ, ◌+◌, Bool, true, List, length, sum_by, Option, Some, slice_get}
-use Rattle.kahn_tree.specs.declared.tree.Program.{Program}
-use Rattle.kahn_tree.specs.declared.tree.Role.TheVariants.{Input}
-use Rattle.kahn_network.specs.Network.{Reads, Writes, network_of, role_at}
-use Rattle.kahn_streams.specs.Tokens.{Lists, inputs_of}
+use Rattle.kahn_streams.specs.Types.{Program}
+use Rattle.kahn_streams.specs.declared.tree.Role.TheVariants.{Input}
+use Rattle.kahn_streams.specs.Network.{Reads, Writes, network_of, role_at}
+use Rattle.kahn_streams.specs.Inputs.{Lists, inputs_of}
 use Rattle.kahn_code.specs.Standing.{count}
 use Rattle.kahn_board.specs.Dealt.{events_told}
 use Rattle.kahn_board.specs.declared.rule.Terms.{Terms}

@@ -1,14 +1,14 @@
 -- Inner. What contracts see of a task, and what it tells the board.
 use Rattle.std.specs.Prelude.{◌≡◌, ◌≤◌, ℕ, suc, Bool, true, false, List, [], ◌∷◌, map, Option, Some, None, if◌then◌else◌, ◌==◌}
-use Rattle.kahn_network.specs.Network.{Network, Actual, Reads, Writes, Hands, network_of, instance_at, actual_at, role_at}
+use Rattle.kahn_streams.specs.Network.{Network, Actual, Reads, Writes, Hands, network_of, instance_at, actual_at, role_at}
 use Rattle.kahn_streams.specs.Meaning.{Store}
 use Rattle.kahn_streams.specs.Script.{Outcome, Dry as IsDryAt}
 use Rattle.kahn_streams.specs.Solution as end
 use Rattle.kahn_streams.specs.Solution.{ending}
-use Rattle.kahn_streams.specs.Tokens.{inputs_of}
+use Rattle.kahn_streams.specs.Inputs.{inputs_of}
 use Rattle.kahn_code.specs.declared.progress.Pause.{Pause}
 use Rattle.kahn_code.specs.declared.progress.Pause.TheVariants as pause
-use Rattle.kahn_code.specs.Cells.{is_output}
+use Rattle.kahn_streams.specs.Answers.{is_output}
 use Rattle.kahn_code.specs.Progress.{Paused}
 use Rattle.kahn_code.specs.Standing.{count}
 use Rattle.kahn_code.specs.Told.{told_view}

@@ -1,7 +1,7 @@
 //! The columns of a table, and the streams of which they are made.
 
 ghost use Rattle.std.specs.Prelude.{◌≡◌, IfOk, MatchOption, MatchResult};
-ghost use Rattle.kahn_pool.specs.Right.{HasStream};
+ghost use Rattle.kahn_streams.specs.Answers.{HasStream};
 ghost use Rattle.kahn_pool.specs.declared.config.RunFault.TheVariants.{NoMemory as Wants};
 ghost use Rattle.kahn_report.specs.declared.working.WorkFault.TheVariants.{Run};
 ghost use Rattle.kahn_explain.specs.inner.Columns.{HasLine, IsColumnOf, HasValuesOf};

@@ -2,15 +2,14 @@
 
 ghost use Rattle.std.specs.Prelude.{◌≡◌, ◌<◌, ◌++◌, All, IfOk, codes, flat_map, length, string_bytes};
 ghost use Rattle.kahn_report.specs.Report.{IsLine};
-ghost use Rattle.kahn_write.specs.Values.{value_text};
+ghost use Rattle.kahn_write.specs.Written.{value_text};
 ghost use Rattle.kahn_explain.specs.Table.{cell_text, cells_text, head_row, head_text, heads_text, longest, row_text, place_rows, trace_text};
 
 use crate::tracing::column::Column;
 use itoa::Buffer;
 use kahn_marks::add;
-use kahn_network::Network;
 use kahn_report::{channel_name, process_name};
-use kahn_streams::{Line, Value};
+use kahn_streams::{Line, Network, Value};
 use std::alloc::{AllocError, Global};
 
 /// Adds what heads the column of a line.

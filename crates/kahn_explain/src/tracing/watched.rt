@@ -1,18 +1,16 @@
 //! The column of a channel, by a run that watches it.
 
 ghost use Rattle.std.specs.Prelude.{◌≡◌, ◌<◌, IfOk, MatchResult, length};
-ghost use Rattle.kahn_network.specs.Network.{network_of};
+ghost use Rattle.kahn_streams.specs.Network.{network_of};
 ghost use Rattle.kahn_report.specs.Work.{IsUnanswered};
 ghost use Rattle.kahn_streams.specs.declared.value.Line.TheVariants.{Channel};
 ghost use Rattle.kahn_explain.specs.Histories.{IsUntraced, unwatched};
 ghost use Rattle.kahn_explain.specs.inner.Columns.{IsHistoryOf, IsLess, IsTextRun, IsWatching};
 
 use crate::tracing::column::{Column, line_column};
-use kahn_network::Network;
 use kahn_pool::{Answer, Config, Open, RunFault, Verdict, run};
 use kahn_report::{WorkFault, read_input};
-use kahn_streams::Line;
-use kahn_tree::Role;
+use kahn_streams::{Line, Network, Role};
 use std::alloc::{AllocError, Global};
 use std::sync::Wait;
 use std::thread::Threads;

@@ -1,17 +1,16 @@
 //! The lines of an explanation.
 
 ghost use Rattle.std.specs.Prelude.{◌≡◌, ◌<◌, ◌++◌, IfOk, length, string_bytes};
-ghost use Rattle.kahn_network.specs.Network.{network_of};
+ghost use Rattle.kahn_streams.specs.Network.{network_of};
 ghost use Rattle.kahn_explain.specs.Words.{as_text, cause_text, faulted_text, line_text, lines_text, waits_text, ends_at, AreOfNetwork, IsOfNetwork};
 
 use crate::why::pieces::{add_source, add_who, fault_word, for_ever, lasting, stopped_word};
 use crate::why::places::places_text;
 use kahn_chain::Cause;
 use kahn_marks::add;
-use kahn_network::Network;
 use kahn_pool::{End, Outcome, Verdict};
 use kahn_report::channel_name;
-use kahn_streams::Failure;
+use kahn_streams::{Failure, Network};
 use std::alloc::{AllocError, Global};
 
 /// Adds an instance to which waits lead, and what is said of it.

@@ -1,16 +1,15 @@
 //! Texts that grow by pieces.
 
 ghost use Rattle.std.specs.Prelude.{◌≡◌, ◌<◌, ◌++◌, IfOk, length, string_bytes};
-ghost use Rattle.kahn_network.specs.Network.{channel_source, network_of};
+ghost use Rattle.kahn_streams.specs.Network.{channel_source, network_of};
 ghost use Rattle.kahn_explain.specs.Words.{failure_words, for_ever_text, lasting_text, source_text, stopped_text, who_text};
 
 use itoa::Buffer;
 use kahn_chain::Standing;
 use kahn_marks::add;
-use kahn_network::Network;
 use kahn_pool::Verdict;
 use kahn_report::process_name;
-use kahn_streams::Failure;
+use kahn_streams::{Failure, Network};
 use std::alloc::AllocError;
 
 /// Adds an instance, by its number and its process.

@@ -4,10 +4,8 @@ ghost use Rattle.std.specs.Prelude.{◌≡◌, ◌<◌, ◌++◌, IfOk, length, 
 ghost use Rattle.kahn_warnings.specs.Faults.{fault_places};
 ghost use Rattle.kahn_explain.specs.Words.{instance_body, or_places, places_words};
 
-use kahn_network::Network;
 use kahn_notes::add_at;
-use kahn_streams::Failure;
-use kahn_tree::{Span, Statement};
+use kahn_streams::{Failure, Network, Span, Statement};
 use kahn_warnings::fault_places;
 use std::alloc::{AllocError, Global};
 

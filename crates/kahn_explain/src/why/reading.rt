@@ -3,15 +3,13 @@
 ghost use Rattle.std.specs.Prelude.{◌≡◌, ◌<◌, ◌+◌, ◌-◌, MatchResult, drop, length, map, option_map};
 ghost use Rattle.std.specs.Char.{is_ascii_digit};
 ghost use Rattle.std.specs.List.{list_all};
-ghost use Rattle.kahn_network.specs.Sides.{channel_names};
+ghost use Rattle.kahn_streams.specs.Network.{channel_names};
 ghost use Rattle.kahn_explain.specs.Reading.{AreEndsRead, AreEndsUnread, IsReportRead, IsReadBy, IsReportUnread, IsUnreadBy, counted, end_told, last_in, last_told, line_told, number_told, said_lines, waits_told};
 
 use itoa::Buffer;
 use kahn_graph::{lines, without};
-use kahn_network::Network;
 use kahn_pool::{Answer, End, Outcome, Verdict};
-use kahn_streams::Failure;
-use kahn_tree::Instance;
+use kahn_streams::{Failure, Instance, Network};
 use std::alloc::{AllocError, Global};
 
 /// Why a text isn't the report of a run of a network.

@@ -8,8 +8,7 @@ use crate::why::reading::{ReportFault, read_answer};
 use crate::why::telling::explained_ends;
 use crate::why::told::Told;
 use kahn_marks::add;
-use kahn_network::Network;
-use kahn_tree::NoMemory;
+use kahn_streams::{Network, NoMemory};
 use std::alloc::{AllocError, Global};
 
 /// What is said of a report.

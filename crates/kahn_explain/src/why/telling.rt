@@ -2,7 +2,7 @@
 
 ghost use Rattle.std.specs.Prelude.{◌≡◌, ◌++◌, IfOk, map, string_bytes};
 ghost use Rattle.kahn_report.specs.Report.{last_text};
-ghost use Rattle.kahn_network.specs.Network.{network_of};
+ghost use Rattle.kahn_streams.specs.Network.{network_of};
 ghost use Rattle.kahn_chain.specs.Chain.{AreStandings};
 ghost use Rattle.kahn_explain.specs.Why.{standing_of, standings_of, stands};
 ghost use Rattle.kahn_explain.specs.Words.{IsAnswer, IsExplained};
@@ -12,8 +12,8 @@ use crate::why::told::{Explanation, came_to};
 use itoa::Buffer;
 use kahn_chain::{Standing, causes};
 use kahn_marks::add;
-use kahn_network::Network;
 use kahn_pool::{Answer, End, Outcome, Verdict};
+use kahn_streams::Network;
 use std::alloc::{AllocError, Global};
 
 /// How an instance stands that has this outcome.

@@ -1,11 +1,8 @@
 -- Inner. Texts that grow by the texts of items.
 use Rattle.std.specs.Prelude.{◌≡◌, ℕ, Bool, true, false, ◌==◌, List, ◌∷◌, ◌++◌, map, Some, slice_get}
 use Rattle.std.proofs.Common.{Bor}
-use Rattle.kahn_tree.specs.declared.tree.Argument.{Argument}
-use Rattle.kahn_tree.specs.declared.tree.Instance.{Instance}
-use Rattle.kahn_tree.specs.declared.tree.Parameter.{Parameter}
-use Rattle.kahn_tree.specs.declared.tree.Program.{Program}
-use Rattle.kahn_network.specs.Network.{Network, network_of}
+use Rattle.kahn_streams.specs.Types.{Argument, Instance, Parameter, Program}
+use Rattle.kahn_streams.specs.Network.{Network, network_of}
 use Rattle.kahn_chain.specs.declared.standing.Standing.{Standing}
 use Rattle.kahn_chain.specs.declared.standing.Standing.TheVariants.{Ended, Waits, Faulted, More}
 use Rattle.kahn_chain.specs.Chain.{AreRings, LeadsOn}

@@ -1,10 +1,9 @@
 -- Inner. Jobs before their first event.
 use Rattle.std.specs.Prelude.{◌≡◌, ℕ, ◌<◌, true, List, [], length, replicate, Option, None, Some, slice_get, slice_set, slice_index_or}
-use Rattle.kahn_tree.specs.declared.tree.Program.{Program}
-use Rattle.kahn_tree.specs.declared.tree.Role.TheVariants.{Inner, Input, Output}
-use Rattle.kahn_network.specs.Network.{network_of, instance_at, actual_at, role_at}
-use Rattle.kahn_network.specs.declared.sides.Side.{Side}
-use Rattle.kahn_streams.specs.Tokens.{Lists}
+use Rattle.kahn_streams.specs.Types.{Program, Side}
+use Rattle.kahn_streams.specs.declared.tree.Role.TheVariants.{Inner, Input, Output}
+use Rattle.kahn_streams.specs.Network.{network_of, instance_at, actual_at, role_at}
+use Rattle.kahn_streams.specs.Inputs.{Lists}
 use Rattle.kahn_code.specs.Lines.{Joins}
 use Rattle.kahn_code.specs.Told.{Told}
 use Rattle.kahn_lane.specs.Places.{lane_name}

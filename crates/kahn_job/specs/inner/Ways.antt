@@ -1,7 +1,7 @@
 -- Inner. What is seen of an end, by what it does.
 use Rattle.std.specs.Prelude.{◌-◌, ℕ, true, false, length, Some, None}
 use Rattle.std.specs.declared.alloc.Global.{Global}
-use Rattle.kahn_streams.specs.Tokens.{inputs_of}
+use Rattle.kahn_streams.specs.Inputs.{inputs_of}
 use Rattle.kahn_lane.specs.declared.segments.Sender.{Sender}
 use Rattle.kahn_lane.specs.declared.segments.Receiver.{Receiver}
 use Rattle.kahn_lane.specs.LaneEnds.{sender_lane, receiver_lane, sender_name, receiver_name, flushed, sent, filled, capacity, received, waiting, heard, left}

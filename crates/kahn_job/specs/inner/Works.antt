@@ -1,9 +1,9 @@
 -- Inner. What contracts see of a job: a cell with the ends of its channels.
 use Rattle.std.specs.Prelude.{◌≡◌, ℕ, ◌+◌, ◌<◌, false, List, length}
-use Rattle.kahn_network.specs.Network.{Writes, network_of, instance_at, actual_at, role_at}
-use Rattle.kahn_streams.specs.Tokens.{inputs_of}
+use Rattle.kahn_streams.specs.Network.{Writes, network_of, instance_at, actual_at, role_at}
+use Rattle.kahn_streams.specs.Inputs.{inputs_of}
 use Rattle.kahn_code.specs.declared.progress.Pause.{Pause}
-use Rattle.kahn_code.specs.Cells.{is_output}
+use Rattle.kahn_streams.specs.Answers.{is_output}
 use Rattle.kahn_code.specs.Progress.{Paused, IsPause}
 use Rattle.kahn_code.specs.Standing.{count}
 use Rattle.kahn_code.specs.Told.{Told, IsAt, seat_of, told_view}

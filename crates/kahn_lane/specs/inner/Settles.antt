@@ -1,7 +1,7 @@
 -- Inner. A lane goes on with an input that has grown.
 use Rattle.std.specs.Prelude.{◌≡◌, ℕ, true, Some, vec_capacity}
-use Rattle.kahn_streams.specs.Laws.{AreInputsExtended}
-use Rattle.kahn_streams.specs.Tokens.{Lists, inputs_of}
+use Rattle.kahn_streams.specs.Solution.{AreInputsExtended}
+use Rattle.kahn_streams.specs.Inputs.{Lists, inputs_of}
 use Rattle.kahn_lane.specs.Places.{tag_name}
 use Rattle.kahn_lane.specs.declared.name.LaneName.{LaneName}
 use Rattle.kahn_lane.specs.declared.lifted.Lifted.{Lifted}

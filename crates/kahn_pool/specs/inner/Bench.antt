@@ -4,20 +4,20 @@ use Rattle.kahn_streams.specs.Script as script
 use Rattle.kahn_streams.specs.Script.{Dry, Cut}
 use Rattle.kahn_streams.specs.Meaning.{Store}
 use Rattle.kahn_streams.specs.Solution as net
-use Rattle.kahn_network.specs.Network.{Network, Reads, instance_at, actual_at}
+use Rattle.kahn_streams.specs.Network.{Network, Reads, instance_at, actual_at}
 use Rattle.kahn_streams.specs.Solution.{Inputs, exec_at, source, ending}
 use Rattle.kahn_code.specs.declared.progress.Pause.{Pause}
 use Rattle.kahn_code.specs.declared.progress.Pause.TheVariants as pause
 use Rattle.kahn_code.specs.Cells.{View}
-use Rattle.kahn_pool.specs.declared.answer.End.{End}
-use Rattle.kahn_pool.specs.declared.answer.Outcome.TheVariants.{More}
-use Rattle.kahn_pool.specs.declared.answer.Verdict.{Verdict}
+use Rattle.kahn_streams.specs.declared.answer.End.{End}
+use Rattle.kahn_streams.specs.declared.answer.Outcome.TheVariants.{More}
+use Rattle.kahn_streams.specs.declared.answer.Verdict.{Verdict}
 use Rattle.kahn_pool.specs.inner.Gathered.{view_at, Stood, TookAll, HasUntaken, EndsWith, IsFrom}
-use Rattle.kahn_pool.specs.Right.{stream_line}
-use Rattle.kahn_pool.specs.declared.answer.Stream.{Stream}
+use Rattle.kahn_streams.specs.Answers.{stream_line}
+use Rattle.kahn_streams.specs.declared.answer.Stream.{Stream}
 use Rattle.kahn_pool.specs.declared.rounds.Round.{Round}
-use Rattle.kahn_pool.specs.declared.answer.Verdict.TheVariants.{Finished, Bound, Memory}
-use Rattle.kahn_streams.specs.declared.value.Line.{Line}
+use Rattle.kahn_streams.specs.declared.answer.Verdict.TheVariants.{Finished, Bound, Memory}
+use Rattle.kahn_streams.specs.Types.{Line}
 
 pub record RunState : Type 0 where
   pub network : Network

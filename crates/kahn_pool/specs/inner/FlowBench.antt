@@ -1,22 +1,20 @@
 -- Inner. A flow over a bench: what contracts see of it, and what its type keeps.
 use Rattle.std.specs.Prelude.{◌≡◌, ℕ, ◌+◌, ◌-◌, ◌<◌, ◌≤◌, ◌^◌, Bool, List, [], ◌++◌, length, map, take, Option, Some, slice_index_or}
-use Rattle.kahn_tree.specs.declared.tree.Program.{Program}
-use Rattle.kahn_tree.specs.declared.tree.Role.TheVariants.{Input}
-use Rattle.kahn_network.specs.Network.{Source, Given, Written, Nobody, network_of, instance_at, role_at}
-use Rattle.kahn_streams.specs.declared.value.Line.{Line}
+use Rattle.kahn_streams.specs.Types.{Program, Line, Value}
+use Rattle.kahn_streams.specs.declared.tree.Role.TheVariants.{Input}
+use Rattle.kahn_streams.specs.Network.{Source, Given, Written, Nobody, network_of, instance_at, role_at}
 use Rattle.kahn_streams.specs.declared.value.Line.TheVariants.{Channel, Print}
 use Rattle.kahn_streams.specs.declared.token.Token.{Token}
-use Rattle.kahn_streams.specs.declared.value.Value.{Value}
 use Rattle.kahn_streams.specs.Solution.{source}
-use Rattle.kahn_streams.specs.Tokens.{inputs_of}
-use Rattle.kahn_code.specs.Cells.{token_value}
+use Rattle.kahn_streams.specs.Inputs.{inputs_of}
+use Rattle.kahn_streams.specs.Tokens.{token_value}
 use Rattle.kahn_code.specs.Standing.{tokens}
 use Rattle.kahn_code.specs.inner.Gone.{nothing_gone}
 use Rattle.kahn_code.specs.Lines.{Lines as Queues}
 use Rattle.kahn_pool.specs.HeldRuns.{HeldRun, seen_of, writing}
-use Rattle.kahn_pool.specs.Right.{stream_lines}
-use Rattle.kahn_pool.specs.declared.answer.End.{End}
-use Rattle.kahn_pool.specs.declared.answer.Verdict.{Verdict}
+use Rattle.kahn_streams.specs.Answers.{stream_lines}
+use Rattle.kahn_streams.specs.declared.answer.End.{End}
+use Rattle.kahn_streams.specs.declared.answer.Verdict.{Verdict}
 use Rattle.kahn_pool.specs.inner.Bench.{all_events}
 use Rattle.kahn_crew.specs.declared.plan.Plan.{Plan}
 use Rattle.kahn_pool.specs.declared.part_alone.PartEnd.{PartEnd}

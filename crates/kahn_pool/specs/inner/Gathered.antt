@@ -1,24 +1,24 @@
 -- Inner. Cells at rest, and the answer that is put together from them.
 use Rattle.std.specs.Prelude.{◌≡◌, ◌⊎◌, ℕ, ◌<◌, ◌≤◌, List, [], length, map, sum_by, Option, Some, slice_get, slice_index_or, true}
-use Rattle.kahn_streams.specs.declared.value.Line.{Line}
+use Rattle.kahn_streams.specs.Types.{Line}
 use Rattle.kahn_streams.specs.declared.value.Line.TheVariants.{Channel, Print}
 use Rattle.kahn_streams.specs.Script as script
 use Rattle.kahn_streams.specs.Script.{Dry, Cut}
 use Rattle.kahn_streams.specs.Steps.{empty}
 use Rattle.kahn_streams.specs.Meaning.{Store}
 use Rattle.kahn_streams.specs.Solution as net
-use Rattle.kahn_network.specs.Network.{Network, Reads, Writes, instance_at, actual_at, Source, Given, Written, Nobody}
+use Rattle.kahn_streams.specs.Network.{Network, Reads, Writes, instance_at, actual_at, Source, Given, Written, Nobody}
 use Rattle.kahn_streams.specs.Solution.{Histories, Inputs, exec_at, out, source, fed, ending}
-use Rattle.kahn_pool.specs.declared.answer.Answer.{Answer}
-use Rattle.kahn_pool.specs.declared.answer.Stream.{Stream}
-use Rattle.kahn_pool.specs.declared.answer.End.{End}
+use Rattle.kahn_streams.specs.declared.answer.Answer.{Answer}
+use Rattle.kahn_streams.specs.declared.answer.Stream.{Stream}
+use Rattle.kahn_streams.specs.declared.answer.End.{End}
 use Rattle.kahn_streams.specs.declared.token.Token.{Token}
-use Rattle.kahn_pool.specs.declared.answer.Verdict.{Verdict}
-use Rattle.kahn_pool.specs.declared.answer.Verdict.TheVariants.{Finished, Bound}
-use Rattle.kahn_pool.specs.declared.answer.Outcome.{Outcome}
-use Rattle.kahn_pool.specs.declared.answer.Outcome.TheVariants.{Ended, Waits, Faulted, More}
+use Rattle.kahn_streams.specs.declared.answer.Verdict.{Verdict}
+use Rattle.kahn_streams.specs.declared.answer.Verdict.TheVariants.{Finished, Bound}
+use Rattle.kahn_streams.specs.declared.answer.Outcome.{Outcome}
+use Rattle.kahn_streams.specs.declared.answer.Outcome.TheVariants.{Ended, Waits, Faulted, More}
 use Rattle.kahn_code.specs.Cells.{AllStand, View, AreKeptTokens, is_streamed}
-use Rattle.kahn_pool.specs.Right.{stream_line, end_events, stream_lines, HasStream}
+use Rattle.kahn_streams.specs.Answers.{stream_line, end_events, stream_lines, HasStream}
 
 abbrev pub no_view : View
 no_view = record { events = 0; taken = λ q. 0; sent = λ q. 0; kept = λ q. []; printed = [] }

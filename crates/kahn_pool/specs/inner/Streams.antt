@@ -1,16 +1,16 @@
 -- Inner. The streams of an answer, and the lists from which they are filled.
 use Rattle.std.specs.Prelude.{◌≡◌, ℕ, ◌<◌, List, [], length, map, Option, Some, slice_get, slice_index_or}
-use Rattle.kahn_tree.specs.declared.tree.Role.TheVariants.{Input}
-use Rattle.kahn_streams.specs.declared.value.Value.{Value}
-use Rattle.kahn_streams.specs.declared.value.Line.{Line}
+use Rattle.kahn_streams.specs.declared.tree.Role.TheVariants.{Input}
+use Rattle.kahn_streams.specs.Types.{Value, Line}
 use Rattle.kahn_streams.specs.declared.value.Line.TheVariants.{Channel, Print}
 use Rattle.kahn_streams.specs.declared.token.Token.{Token}
 use Rattle.kahn_streams.specs.Solution.{Inputs, IsPrefix, source}
-use Rattle.kahn_network.specs.Network.{Network, Writes, Source, Given, Written, Nobody, instance_at, actual_at, role_at}
+use Rattle.kahn_streams.specs.Network.{Network, Writes, Source, Given, Written, Nobody, instance_at, actual_at, role_at}
 use Rattle.kahn_code.specs.declared.cell.Kept.{Kept}
-use Rattle.kahn_code.specs.Cells.{AreKeptTokens, IsOwn, token_value}
-use Rattle.kahn_pool.specs.declared.answer.Stream.{Stream}
-use Rattle.kahn_pool.specs.Right.{stream_line, stream_lines}
+use Rattle.kahn_code.specs.Cells.{AreKeptTokens}
+use Rattle.kahn_streams.specs.Tokens.{IsOwn, token_value}
+use Rattle.kahn_streams.specs.declared.answer.Stream.{Stream}
+use Rattle.kahn_streams.specs.Answers.{stream_line, stream_lines}
 
 -- the lines of the streams, for some watched channel
 abbrev pub AreNamed : Network → List Stream → Type 0

@@ -1,11 +1,10 @@
 -- Inner. The cells of a network over its plain queues, as a run on one thread has them.
 use Rattle.std.specs.Prelude.{◌≡◌, ◌⊎◌, ℕ, ◌+◌, ◌<◌, ◌≤◌, ◌^◌, ◌==◌, List, [], ◌∷◌, ◌++◌, length, map, replicate, Option, Some, slice_get, slice_index_or, if◌then◌else◌}
-use Rattle.kahn_tree.specs.declared.tree.Program.{Program}
-use Rattle.kahn_network.specs.Network.{network_of, instance_at}
-use Rattle.kahn_network.specs.Wiring.{IsWellWired}
+use Rattle.kahn_streams.specs.Types.{Program}
+use Rattle.kahn_streams.specs.Network.{network_of, instance_at}
+use Rattle.kahn_streams.specs.Wiring.{IsWellWired}
 use Rattle.kahn_streams.specs.declared.token.Token.{Token}
-use Rattle.kahn_streams.specs.Entries.{most_values}
-use Rattle.kahn_streams.specs.Tokens.{Lists, inputs_of}
+use Rattle.kahn_streams.specs.Inputs.{most_values, Lists, inputs_of}
 use Rattle.kahn_code.specs.Lines.{Lines as Queues, place_at, waiting_of}
 use Rattle.kahn_code.specs.Cells.{StoodBy}
 use Rattle.kahn_code.specs.Standing.{tokens}
@@ -15,9 +14,9 @@ use Rattle.kahn_code.specs.inner.Gone.{Gone, kept_behind, nothing_gone}
 use Rattle.kahn_code.specs.inner.Tapped.{HasForgotten, Tapped}
 use Rattle.kahn_pool.specs.inner.Bench.{RunState, events_at}
 use Rattle.kahn_pool.specs.HeldRuns.{seen_at, seen_of}
-use Rattle.kahn_pool.specs.Right.{stream_line, stream_lines}
+use Rattle.kahn_streams.specs.Answers.{stream_line, stream_lines}
 use Rattle.kahn_pool.specs.inner.Streams.{HasInputs, kept_lists, printed_list}
-use Rattle.kahn_pool.specs.declared.answer.Stream.{Stream}
+use Rattle.kahn_streams.specs.declared.answer.Stream.{Stream}
 
 -- the program and the input, the watched channel, the program of the code, the cells, what they let go of, and the queues
 pub record Table : Type 0 where

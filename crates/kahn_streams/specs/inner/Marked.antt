@@ -1,8 +1,7 @@
 -- Inner. An entry where those before it are known by marks: a list that has true at the number of each channel that they name.
 use Rattle.std.specs.Prelude.{◌≡◌, ℕ, Bool, false, List, slice_index_or}
-use Rattle.kahn_tree.specs.declared.tree.Program.{Program}
-use Rattle.kahn_streams.specs.declared.entries.InputFault.{InputFault}
-use Rattle.kahn_streams.specs.Entries.{AllHold, Entry, FailsFirst, asked_of_entry, channel_of}
+use Rattle.kahn_streams.specs.Types.{Program, InputFault}
+use Rattle.kahn_streams.specs.Inputs.{AllHold, Entry, FailsFirst, asked_of_entry, channel_of}
 
 -- whether the channel of the entry is marked
 abbrev pub is_marked : Program → List Bool → Entry → Bool

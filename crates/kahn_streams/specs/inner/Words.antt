@@ -1,6 +1,6 @@
 -- Inner. Which value a word is.
 use Rattle.std.specs.Prelude.{◌≡◌, refl, ℤ, pos, Bool, true, false, if◌then◌else◌}
-use Rattle.kahn_streams.specs.declared.value.Value.{Value}
+use Rattle.kahn_streams.specs.Types.{Value}
 use Rattle.kahn_streams.specs.declared.value.Value.TheVariants.{Integer, Logical}
 use Rattle.kahn_streams.specs.declared.word.Word.TheInside.{Inside}
 

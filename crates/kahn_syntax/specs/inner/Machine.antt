@@ -5,7 +5,7 @@ use Rattle.kahn_syntax.specs.Names.{Keyword, Sign, Class, Operator, Level, Or, A
 use Rattle.kahn_syntax.specs.declared.lexeme.Keyword.TheVariants as keyword
 use Rattle.kahn_syntax.specs.declared.lexeme.Sign.TheVariants as mark
 use Rattle.kahn_syntax.specs.declared.lexeme.Class.TheVariants as class
-use Rattle.kahn_tree.specs.declared.tree.Operator.TheVariants as operator
+use Rattle.kahn_streams.specs.declared.tree.Operator.TheVariants as operator
 use Rattle.kahn_syntax.specs.Lexemes.{letters_of, bytes_of_sign, Terminal, word, sign, name, number}
 use Rattle.kahn_syntax.specs.Trees.{rank}
 

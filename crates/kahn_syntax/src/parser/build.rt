@@ -8,7 +8,7 @@ ghost use Rattle.kahn_syntax.specs.inner.Reads.{SpansOperation};
 
 use crate::lexeme::Lexeme;
 use crate::parser::cursor::{Read, Stop, reach};
-use kahn_tree::{Expression, Form, Operand, Operator};
+use kahn_streams::{Expression, Form, Operand, Operator};
 use std::alloc::Global;
 
 /// An expression of this form, from the first lexeme of the input to the last one before the rest.

@@ -7,7 +7,7 @@ ghost use Rattle.kahn_syntax.specs.inner.Reads.{IsAbsent};
 ghost use Rattle.kahn_syntax.specs.declared.parser.cursor.Stop.TheVariants.{Refused, TooDeep, NoMemory};
 
 use crate::lexeme::{Class, Lexeme};
-use kahn_tree::Span;
+use kahn_streams::Span;
 use std::alloc::{AllocError, AllocFailed};
 
 /// The most levels of nesting.

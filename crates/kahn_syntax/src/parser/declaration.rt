@@ -14,7 +14,9 @@ use crate::lexeme::{Class, Keyword, Lexeme, Sign};
 use crate::parser::cursor::{Read, Stop, expect, next, past};
 use crate::parser::names::{read_name, read_names};
 use crate::parser::statement::read_statements;
-use kahn_tree::{Declaration, Direction, Kind, Name, Parameter, Process, Role, Taking, Variable};
+use kahn_streams::{
+    Declaration, Direction, Kind, Name, Parameter, Process, Role, Taking, Variable,
+};
 use std::alloc::Global;
 
 // The kind that stands first, and the lexemes after it.

@@ -13,7 +13,7 @@ use crate::parser::build::{compared, made};
 use crate::parser::cursor::{Read, Stop, deeper, expect, next, past};
 use crate::parser::names::read_name;
 use crate::parser::operator::{Level, next_comparison, next_not, next_operator};
-use kahn_tree::{Expression, Form, Operand};
+use kahn_streams::{Expression, Form, Operand};
 use std::alloc::Global;
 
 /// An expression.

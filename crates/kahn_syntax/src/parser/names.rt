@@ -9,7 +9,7 @@ ghost use Rattle.kahn_syntax.specs.inner.Reads.{ParsesPart};
 
 use crate::lexeme::{Class, Lexeme, Sign};
 use crate::parser::cursor::{Read, Stop, past};
-use kahn_tree::Name;
+use kahn_streams::Name;
 use std::alloc::Global;
 
 /// The name that stands first.

@@ -9,7 +9,7 @@ ghost use Rattle.kahn_syntax.specs.Spans.{IsPast};
 
 use crate::lexeme::{Class, Keyword, Lexeme, Sign};
 use crate::parser::cursor::next;
-use kahn_tree::Operator;
+use kahn_streams::Operator;
 
 /// A level whose operators may follow one another. From `Or` to `Term` they bind tighter.
 #[derive(Clone, Copy)]

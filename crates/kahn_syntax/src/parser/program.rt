@@ -17,7 +17,7 @@ use crate::lexeme::{Class, Keyword, Lexeme, Sign};
 use crate::parser::cursor::{Read, Stop, expect, next, past, reach, span_at};
 use crate::parser::declaration::read_declarations;
 use crate::parser::names::read_name;
-use kahn_tree::{Argument, Instance, Program, Span};
+use kahn_streams::{Argument, Instance, Program, Span};
 use std::alloc::Global;
 
 /// The program that the lexemes of a text are.

@@ -12,7 +12,7 @@ use crate::lexeme::{Class, Keyword, Lexeme, Sign};
 use crate::parser::cursor::{Read, deeper, expect, next, past, reach};
 use crate::parser::expression::{read_before, read_expression};
 use crate::parser::names::read_name;
-use kahn_tree::{Action, Statement};
+use kahn_streams::{Action, Statement};
 use std::alloc::Global;
 
 /// One statement or more, with semicolons between.

@@ -1,6 +1,6 @@
 -- Inner. A cell that stands where its plain queues stand.
 use Rattle.std.specs.Prelude.{◌≡◌, ◌<◌, length}
-use Rattle.kahn_network.specs.Network.{network_of}
+use Rattle.kahn_streams.specs.Network.{network_of}
 use Rattle.kahn_code.specs.Lines.{Lines, actual_here, next_at}
 use Rattle.kahn_code.specs.Seats.{Seat}
 use Rattle.kahn_code.specs.Told.{Told, seat_of, IsAt}

@@ -1,7 +1,7 @@
 //! Tokens of an input channel pass through a lane, also where a growth is refused.
 
 ghost use Rattle.std.specs.Prelude.{◌≡◌, ◌<◌, Some, IfErr, IfOk, length};
-ghost use Rattle.kahn_network.specs.Network.{network_of};
+ghost use Rattle.kahn_streams.specs.Network.{network_of};
 ghost use Rattle.kahn_lane.specs.Places.{lane_name};
 ghost use Rattle.kahn_lane.specs.LaneEnds.{sender_lane, receiver_lane, sender_name, sent, CanPut, SameSender, SameReceiver};
 

@@ -1,4 +1,4 @@
-use Rattle.kahn_network.specs.Network.{network_of}
+use Rattle.kahn_streams.specs.Network.{network_of}
 use Rattle.kahn_chain.proofs.Walking.{least_of}
 use Rattle.kahn_chain.proofs.cause.cause.Goals as goal
 

@@ -1,5 +1,5 @@
 -- The causes so far.
-use Rattle.kahn_network.specs.Network.{network_of}
+use Rattle.kahn_streams.specs.Network.{network_of}
 use Rattle.kahn_chain.proofs.Caused.{AreFirst}
 use Rattle.kahn_chain.proofs.cause.causes.Given as goal
 

@@ -1,6 +1,6 @@
 use Rattle.std.proofs.Common.{rules, arith, refl, length, subst, sym, ◌∙◌, false}
 use Rattle.std.proofs.lemmas.List.{get_or_default}
-use Rattle.kahn_network.specs.Network.{network_of}
+use Rattle.kahn_streams.specs.Network.{network_of}
 use Rattle.kahn_chain.proofs.Walking.{one_less}
 use Rattle.kahn_chain.proofs.Chaining.{Follows, follows_first, follows_on, comes_back, comes_to_end, halts_here}
 use Rattle.kahn_chain.proofs.ring.chain.Goals as goal

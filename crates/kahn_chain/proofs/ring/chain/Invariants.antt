@@ -1,5 +1,5 @@
 -- The chain so far.
-use Rattle.kahn_network.specs.Network.{network_of}
+use Rattle.kahn_streams.specs.Network.{network_of}
 use Rattle.kahn_chain.proofs.Walking.{unmarked}
 use Rattle.kahn_chain.proofs.Chaining.{Follows}
 use Rattle.kahn_chain.proofs.ring.chain.Given as goal

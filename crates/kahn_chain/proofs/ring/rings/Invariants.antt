@@ -1,5 +1,5 @@
 -- The marks so far.
-use Rattle.kahn_network.specs.Network.{network_of}
+use Rattle.kahn_streams.specs.Network.{network_of}
 use Rattle.kahn_chain.proofs.Chaining.{AreFirstMarks}
 use Rattle.kahn_chain.proofs.ring.rings.Given as goal
 

@@ -1,5 +1,5 @@
 -- The walk so far.
-use Rattle.kahn_network.specs.Network.{network_of}
+use Rattle.kahn_streams.specs.Network.{network_of}
 use Rattle.kahn_chain.proofs.Walking.{Walks, unmarked}
 use Rattle.kahn_chain.proofs.walk.walk.Given as goal
 

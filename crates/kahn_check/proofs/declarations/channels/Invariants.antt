@@ -1,9 +1,9 @@
 use Rattle.std.proofs.Common.{◌≡◌, ◌≤◌, ◌+◌, ◌++◌, List, drop}
-use Rattle.kahn_tree.specs.declared.tree.Declaration.{Declaration}
+use Rattle.kahn_streams.specs.Types.{Declaration}
 use Rattle.kahn_check.specs.inner.Globals.{known, ArePlaced}
-use Rattle.kahn_network.specs.Wiring.{entries}
-use Rattle.kahn_check.specs.Order.{most_channels, channel_faults}
-use Rattle.kahn_network.proofs.Handed.{as_channels}
+use Rattle.kahn_streams.specs.Wiring.{entries}
+use Rattle.kahn_check.specs.Faults.{most_channels, channel_faults}
+use Rattle.kahn_streams.proofs.Handed.{as_channels}
 use Rattle.kahn_check.proofs.declarations.channels.Given as goal
 
 abbrev pub invariant-loop-name : goal.invariant-loop-name

@@ -1,12 +1,12 @@
 use Rattle.std.proofs.Common.{rules, arith, ◌≡◌, ◌≤◌, ◌+◌, ◌++◌, ◌∷◌, [], drop, length, None, ap, sym, ◌∙◌, bytes_eq}
 use Rattle.std.proofs.lemmas.Grind.{common_steps}
 use Rattle.std.specs.Map.{lookup}
-use Rattle.kahn_tree.specs.declared.tree.Declaration.TheVariants as D
-use Rattle.kahn_tree.specs.View.{bytes_of}
+use Rattle.kahn_streams.specs.declared.tree.Declaration.TheVariants as D
+use Rattle.kahn_streams.specs.View.{bytes_of}
 use Rattle.kahn_check.specs.inner.Globals.{known, ArePlaced}
-use Rattle.kahn_check.specs.Order.{most_channels, channel_faults, process_faults, declaration_faults}
-use Rattle.kahn_network.specs.Wiring.{entries, declared_of, IsProcess}
-use Rattle.kahn_network.proofs.Handed.{as_channels}
+use Rattle.kahn_check.specs.Faults.{most_channels, channel_faults, process_faults, declaration_faults}
+use Rattle.kahn_streams.specs.Wiring.{entries, declared_of, IsProcess}
+use Rattle.kahn_streams.proofs.Handed.{as_channels}
 use Rattle.kahn_check.proofs.Declared.{channels_done, more_declared, process_done, more_process}
 use Rattle.kahn_check.proofs.Global_names.{placed_here}
 use Rattle.kahn_check.proofs.declarations.declarations.Goals as goal

@@ -1,7 +1,7 @@
 use Rattle.std.proofs.Common.{rules, ◌≡◌, Ok}
 use Rattle.kahn_check.proofs.Walk.{list_start, level_listed, level_kinds}
 use Rattle.kahn_check.specs.Faults.{verdict, faults_in, kind_of}
-use Rattle.kahn_tree.specs.declared.tree.Form.TheViews.{the_lemmas}
+use Rattle.kahn_streams.specs.declared.tree.Form.TheViews.{the_lemmas}
 use Rattle.kahn_check.proofs.expression.+kind.Goals as goal
 
 pub loop-operand-init : goal.loop-operand-init

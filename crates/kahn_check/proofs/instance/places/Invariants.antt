@@ -1,7 +1,7 @@
 use Rattle.std.proofs.Common.{◌≡◌, ◌++◌, drop}
-use Rattle.kahn_tree.specs.declared.tree.Direction.TheVariants.{In, Out}
+use Rattle.kahn_streams.specs.declared.tree.Direction.TheVariants.{In, Out}
 use Rattle.kahn_check.specs.inner.Globals.{known}
-use Rattle.kahn_network.specs.Wiring.{handed_in}
+use Rattle.kahn_streams.specs.Wiring.{handed_in}
 use Rattle.kahn_check.specs.inner.Tables.{places_faults, taken}
 use Rattle.kahn_check.proofs.instance.places.Given as goal
 

@@ -2,7 +2,7 @@ use Rattle.std.proofs.Common.{arith, ◌≡◌, ◌+◌, ◌∷◌, ◌++◌, dr
 use Rattle.std.proofs.lemmas.Grind.{common_steps}
 use Rattle.kahn_check.specs.Parts.{firsts}
 use Rattle.kahn_check.specs.inner.Firsts.{sides_parts}
-use Rattle.kahn_network.specs.Wiring.{declared_channels}
+use Rattle.kahn_streams.specs.Wiring.{declared_channels}
 use Rattle.kahn_check.proofs.Told.{sides_onward}
 use Rattle.kahn_check.proofs.part.add_all_sides.Goals as goal
 

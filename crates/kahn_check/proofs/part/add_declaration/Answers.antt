@@ -1,7 +1,7 @@
 use Rattle.std.proofs.Common.{◌≡◌, sym, subst, ◌∙◌}
 use Rattle.std.specs.Prelude.{IfOk}
 use Rattle.std.proofs.lemmas.Result.{IfOk-weaker}
-use Rattle.kahn_tree.specs.declared.tree.Declaration.TheVariants as D
+use Rattle.kahn_streams.specs.declared.tree.Declaration.TheVariants as D
 use Rattle.kahn_check.specs.inner.Firsts.{HasTold, HaveToldNames}
 use Rattle.kahn_check.specs.inner.Globals.{known}
 use Rattle.kahn_check.proofs.Told.{channels_told, process_told}

@@ -4,7 +4,7 @@ use Rattle.std.proofs.lemmas.List.{append-nil}
 use Rattle.kahn_check.specs.Parts.{declaration_parts, firsts}
 use Rattle.kahn_check.specs.inner.Firsts.{StandAlike}
 use Rattle.kahn_check.specs.inner.Globals.{known}
-use Rattle.kahn_network.specs.Wiring.{entries, declared_of}
+use Rattle.kahn_streams.specs.Wiring.{entries, declared_of}
 use Rattle.kahn_check.proofs.Alike.{alike_then}
 use Rattle.kahn_check.proofs.part.add_declarations.Goals as goal
 

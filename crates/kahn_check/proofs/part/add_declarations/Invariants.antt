@@ -2,8 +2,8 @@ use Rattle.std.proofs.Common.{◌≡◌, ◌≤◌, ◌++◌, [], drop}
 use Rattle.kahn_check.specs.Parts.{declaration_parts, firsts}
 use Rattle.kahn_check.specs.inner.Firsts.{StandAlike}
 use Rattle.kahn_check.specs.inner.Globals.{known}
-use Rattle.kahn_check.specs.Order.{most_channels}
-use Rattle.kahn_network.specs.Wiring.{entries, declared_of}
+use Rattle.kahn_check.specs.Faults.{most_channels}
+use Rattle.kahn_streams.specs.Wiring.{entries, declared_of}
 use Rattle.kahn_check.proofs.part.add_declarations.Given as goal
 
 abbrev pub invariant-loop-number : goal.invariant-loop-number

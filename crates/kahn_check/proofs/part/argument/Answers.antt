@@ -1,4 +1,4 @@
-use Rattle.kahn_network.specs.Wiring.{handed}
+use Rattle.kahn_streams.specs.Wiring.{handed}
 use Rattle.kahn_check.proofs.Alike.{got_kept}
 use Rattle.kahn_check.proofs.part.argument.Goals as goal
 

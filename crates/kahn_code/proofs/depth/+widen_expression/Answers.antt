@@ -1,7 +1,7 @@
 use Rattle.std.proofs.Common.{rules, ◌≡◌, ◌+◌, max, drop, ◌∷◌, sym, ap, ◌∙◌, arith}
 use Rattle.std.proofs.lemmas.Grind.{common_steps}
 use Rattle.kahn_code.proofs.Common.{names_of, expression_of}
-use Rattle.kahn_tree.specs.declared.tree.Form.TheViews.{the_lemmas}
+use Rattle.kahn_streams.specs.declared.tree.Form.TheViews.{the_lemmas}
 use Rattle.kahn_code.specs.Flat.{need, widened}
 use Rattle.kahn_code.proofs.Widths.{widened_more, widened_up, thrice_ok, operands_need, level_need}
 use Rattle.kahn_code.proofs.depth.+widen_expression.Goals as goal

@@ -1,7 +1,7 @@
 use Rattle.std.proofs.Common.{rules, ◌≡◌, ◌+◌, max, ◌∷◌, drop, sym, ap, ◌∙◌, arith}
 use Rattle.std.proofs.lemmas.Grind.{common_steps}
 use Rattle.kahn_code.proofs.Common.{names_of, expression_of, statement_of}
-use Rattle.kahn_tree.specs.declared.tree.Action.TheViews.{the_lemmas}
+use Rattle.kahn_streams.specs.declared.tree.Action.TheViews.{the_lemmas}
 use Rattle.kahn_code.specs.Flat.{need, depth, widened}
 use Rattle.kahn_code.proofs.Widths.{widened_more, twice_ok, thrice_ok, rows_depth, block_depth}
 use Rattle.kahn_code.proofs.depth.+widen_statement.Goals as goal

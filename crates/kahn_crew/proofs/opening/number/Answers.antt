@@ -1,6 +1,5 @@
 use Rattle.std.proofs.Common.{sym, ◌∙◌, subst}
-use Rattle.kahn_network.specs.Network.{network_of}
-use Rattle.kahn_network.specs.Sides.{IsOnly, IsWriter}
+use Rattle.kahn_streams.specs.Network.{network_of, IsOnly, IsWriter}
 use Rattle.kahn_crew.proofs.Started.{number_few, number_given, number_none, number_sent, writer_there}
 use Rattle.kahn_crew.proofs.opening.number.Goals as goal
 

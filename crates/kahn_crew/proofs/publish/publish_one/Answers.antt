@@ -1,6 +1,6 @@
 use Rattle.std.proofs.Common.{arith, ◌≡◌, ◌∙◌, sym, subst, Some, None}
-use Rattle.kahn_network.specs.Wiring.{IsWellWired}
-use Rattle.kahn_network.specs.Network.{Writes, network_of, instance_at, actual_at}
+use Rattle.kahn_streams.specs.Wiring.{IsWellWired}
+use Rattle.kahn_streams.specs.Network.{Writes, network_of, instance_at, actual_at}
 use Rattle.kahn_crew.specs.inner.Tasks.{Tasked}
 use Rattle.kahn_crew.specs.inner.Turns.{IsAtWork, terms_of}
 use Rattle.kahn_crew.proofs.Wirings.{writer_is, written_inside}

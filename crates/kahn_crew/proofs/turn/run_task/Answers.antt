@@ -1,5 +1,5 @@
 use Rattle.std.proofs.Common.{arith, ◌≡◌, ◌⊎◌, ℕ, ◌+◌, ◌-◌, inl, inr, ⊎_elim, refl, sym, ap, ◌∙◌, subst, Result, Ok, Err, OnOk, OnErr}
-use Rattle.kahn_network.specs.Network.{Network, network_of}
+use Rattle.kahn_streams.specs.Network.{Network, network_of}
 use Rattle.kahn_streams.specs.Meaning.{Store}
 use Rattle.kahn_streams.specs.Script.{Outcome}
 use Rattle.kahn_code.specs.declared.progress.Pause.{Pause}

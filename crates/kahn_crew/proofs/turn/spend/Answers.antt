@@ -1,5 +1,5 @@
 use Rattle.std.proofs.Common.{sym, ◌∙◌, subst, ℕ, Some}
-use Rattle.kahn_network.specs.Wiring.{IsWellWired}
+use Rattle.kahn_streams.specs.Wiring.{IsWellWired}
 use Rattle.kahn_board.specs.Dealt.{wired}
 use Rattle.kahn_board.specs.declared.view.View.{View}
 use Rattle.kahn_board.specs.inner.Turn.{IsBetween, Knows}

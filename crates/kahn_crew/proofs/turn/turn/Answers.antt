@@ -1,5 +1,5 @@
 use Rattle.std.proofs.Common.{arith, subst, Some}
-use Rattle.kahn_network.specs.Wiring.{IsWellWired}
+use Rattle.kahn_streams.specs.Wiring.{IsWellWired}
 use Rattle.kahn_board.specs.inner.Turn.{RestsWith}
 use Rattle.kahn_crew.proofs.Working.{still_has}
 use Rattle.kahn_crew.proofs.turn.turn.Goals as goal

@@ -1,5 +1,5 @@
 use Rattle.std.proofs.Common.{map}
-use Rattle.kahn_network.specs.Network.{network_of}
+use Rattle.kahn_streams.specs.Network.{network_of}
 use Rattle.kahn_graph.proofs.Named.{edge_of, five_grown, reader_within, writer_within}
 use Rattle.kahn_graph.proofs.edges.add_edge.Goals as goal
 

@@ -1,6 +1,5 @@
 use Rattle.std.proofs.Common.{rules}
-use Rattle.kahn_network.specs.Network.{network_of}
-use Rattle.kahn_network.specs.Sides.{channel_names}
+use Rattle.kahn_streams.specs.Network.{network_of, channel_names}
 use Rattle.kahn_graph.proofs.Named.{at_index, port_within}
 use Rattle.kahn_graph.proofs.ports.port_name.Goals as goal
 

@@ -1,5 +1,5 @@
 use Rattle.std.proofs.Common.{◌∙◌, sym}
-use Rattle.kahn_network.specs.Sides.{channel_names}
+use Rattle.kahn_streams.specs.Network.{channel_names}
 use Rattle.kahn_graph.proofs.Waits.{waits_here, waits_later}
 use Rattle.kahn_graph.proofs.stands.awaited.Goals as goal
 

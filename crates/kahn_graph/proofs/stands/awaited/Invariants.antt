@@ -1,6 +1,6 @@
 -- The words name no channel so far.
 use Rattle.std.proofs.Common.{◌≡◌, drop}
-use Rattle.kahn_network.specs.Sides.{channel_names}
+use Rattle.kahn_streams.specs.Network.{channel_names}
 use Rattle.kahn_graph.specs.Stands.{told_wait}
 use Rattle.kahn_graph.proofs.stands.awaited.Given as goal
 

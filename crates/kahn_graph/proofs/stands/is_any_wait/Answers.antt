@@ -1,5 +1,5 @@
 use Rattle.std.proofs.Common.{subst}
-use Rattle.kahn_network.specs.Network.{network_of}
+use Rattle.kahn_streams.specs.Network.{network_of}
 use Rattle.kahn_graph.specs.inner.Adding.{IsWaitAt}
 use Rattle.kahn_graph.proofs.Marked.{no_wait_more, some_wait}
 use Rattle.kahn_graph.proofs.stands.is_any_wait.Goals as goal

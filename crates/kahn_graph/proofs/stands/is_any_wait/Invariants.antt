@@ -1,6 +1,6 @@
 -- No instance so far is on a ring and waits on the channel.
 use Rattle.std.proofs.Common.{ℕ, ◌<◌, false}
-use Rattle.kahn_network.specs.Network.{network_of}
+use Rattle.kahn_streams.specs.Network.{network_of}
 use Rattle.kahn_graph.specs.inner.Adding.{IsWaitAt}
 use Rattle.kahn_graph.proofs.stands.is_any_wait.Given as goal
 

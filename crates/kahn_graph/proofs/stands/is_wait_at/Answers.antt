@@ -1,5 +1,5 @@
 use Rattle.std.proofs.Common.{false, sym}
-use Rattle.kahn_network.specs.Network.{network_of}
+use Rattle.kahn_streams.specs.Network.{network_of}
 use Rattle.kahn_chain.specs.declared.standing.Standing.TheVariants.{Ended}
 use Rattle.kahn_graph.proofs.Marked.{off_ring, on_ring}
 use Rattle.kahn_graph.proofs.stands.is_wait_at.Goals as goal

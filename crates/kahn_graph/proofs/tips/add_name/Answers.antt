@@ -1,6 +1,6 @@
 use Rattle.std.proofs.Common.{◌≡◌, decimal, rules}
-use Rattle.kahn_tree.specs.Place.{column_of, line_of}
-use Rattle.kahn_tree.specs.View.{bytes_of}
+use Rattle.kahn_streams.specs.Place.{column_of, line_of}
+use Rattle.kahn_streams.specs.View.{bytes_of}
 use Rattle.kahn_graph.proofs.Named.{tip_grown}
 use Rattle.kahn_graph.proofs.tips.add_name.Goals as goal
 

@@ -1,5 +1,5 @@
 use Rattle.std.proofs.Common.{rules}
-use Rattle.kahn_tree.specs.declared.tree.Form.TheViews.{the_lemmas}
+use Rattle.kahn_streams.specs.declared.tree.Form.TheViews.{the_lemmas}
 use Rattle.kahn_hints.proofs.Rows.{level_kinds}
 use Rattle.kahn_hints.proofs.kinds.+kind_of.Goals as goal
 

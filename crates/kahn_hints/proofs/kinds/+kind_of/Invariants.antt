@@ -1,6 +1,6 @@
 -- What the rest of the operands makes of the kind so far.
 use Rattle.std.proofs.Common.{◌≡◌, drop}
-use Rattle.kahn_network.specs.Wiring.{scope_of}
+use Rattle.kahn_streams.specs.Wiring.{scope_of}
 use Rattle.kahn_check.specs.Faults.{kind_of}
 use Rattle.kahn_hints.proofs.Rows.{list_kind}
 use Rattle.kahn_hints.proofs.kinds.+kind_of.Given as goal

@@ -1,8 +1,8 @@
 -- None of the names so far is called so.
 use Rattle.std.proofs.Common.{◌≡◌, ◌++◌, drop, map}
-use Rattle.kahn_tree.specs.View.{bytes_of}
-use Rattle.kahn_tree.specs.declared.tree.Taking.TheVariants as T
-use Rattle.kahn_network.specs.Wiring.{entries, scope_of}
+use Rattle.kahn_streams.specs.View.{bytes_of}
+use Rattle.kahn_streams.specs.declared.tree.Taking.TheVariants as T
+use Rattle.kahn_streams.specs.Wiring.{entries, scope_of}
 use Rattle.kahn_check.specs.Faults.{find}
 use Rattle.kahn_hints.proofs.kinds.taking_of.Given as goal
 

@@ -1,7 +1,7 @@
 -- None of the processes so far is called so.
 use Rattle.std.proofs.Common.{◌≡◌, drop}
 use Rattle.std.specs.List.{find}
-use Rattle.kahn_network.specs.Wiring.{processes_of}
+use Rattle.kahn_streams.specs.Wiring.{processes_of}
 use Rattle.kahn_hints.specs.Places.{is_called, process_called}
 use Rattle.kahn_hints.proofs.places.process_called.Given as goal
 

@@ -1,7 +1,7 @@
 -- None of the processes so far is it.
 use Rattle.std.proofs.Common.{◌≡◌, drop}
 use Rattle.std.specs.List.{find}
-use Rattle.kahn_network.specs.Wiring.{processes_of}
+use Rattle.kahn_streams.specs.Wiring.{processes_of}
 use Rattle.kahn_hints.specs.Places.{has_use, process_using}
 use Rattle.kahn_hints.proofs.places.process_using.Given as goal
 

@@ -1,6 +1,6 @@
 -- None of the operands so far has that span.
 use Rattle.std.proofs.Common.{◌≡◌, drop}
-use Rattle.kahn_network.specs.Wiring.{scope_of}
+use Rattle.kahn_streams.specs.Wiring.{scope_of}
 use Rattle.kahn_hints.specs.Uses.{use_inside}
 use Rattle.kahn_hints.proofs.Rows.{operands_use}
 use Rattle.kahn_hints.proofs.uses.+expression_use.Given as goal

@@ -1,6 +1,6 @@
 -- None of the statements so far has that span.
 use Rattle.std.proofs.Common.{◌≡◌, drop}
-use Rattle.kahn_network.specs.Wiring.{scope_of}
+use Rattle.kahn_streams.specs.Wiring.{scope_of}
 use Rattle.kahn_hints.specs.Uses.{statement_use, statements_use}
 use Rattle.kahn_hints.proofs.uses.+statement_use.Given as goal
 

@@ -1,4 +1,4 @@
-use Rattle.kahn_streams.specs.Entries.{entry_of}
+use Rattle.kahn_streams.specs.Inputs.{entry_of}
 use Rattle.kahn_inputs.proofs.seeking.sort_of.Goals as goal
 
 pub returns-in-Ok-Some : goal.returns-in-Ok-Some

@@ -1,6 +1,6 @@
 use Rattle.std.proofs.Common.{arith, ⊎_elim, sym, subst}
-use Rattle.kahn_network.specs.Network.{network_of}
-use Rattle.kahn_network.proofs.Sourced.{reads_listed}
+use Rattle.kahn_streams.specs.Network.{network_of}
+use Rattle.kahn_streams.proofs.Sourced.{reads_listed}
 use Rattle.kahn_job.specs.inner.Idles.{rows_of}
 use Rattle.kahn_job.specs.inner.Lanes.{AreBehindOn}
 use Rattle.kahn_job.proofs.Idles.{met_self, met_then}

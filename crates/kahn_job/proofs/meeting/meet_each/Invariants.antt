@@ -1,5 +1,5 @@
 use Rattle.std.proofs.Common.{ℕ, ◌<◌}
-use Rattle.kahn_network.specs.Network.{network_of}
+use Rattle.kahn_streams.specs.Network.{network_of}
 use Rattle.kahn_job.specs.inner.Idles.{HaveMet, rows_of}
 use Rattle.kahn_job.specs.inner.Lanes.{AreBehindOn}
 use Rattle.kahn_job.proofs.meeting.meet_each.Given as goal

@@ -1,5 +1,5 @@
 use Rattle.std.proofs.Common.{arith, ℕ, List, length, sym, ap, ◌∙◌, subst}
-use Rattle.kahn_network.specs.Network.{network_of}
+use Rattle.kahn_streams.specs.Network.{network_of}
 use Rattle.kahn_job.specs.inner.Lanes.{AreBehindOn}
 use Rattle.kahn_job.specs.inner.Idles.{rows_of}
 use Rattle.kahn_crew.specs.inner.Tasks.{Tasked, task_rows}

@@ -1,5 +1,5 @@
 use Rattle.std.proofs.Common.{rules, ◌≡◌, length, add-one}
-use Rattle.kahn_network.specs.Network.{network_of, instance_at, actual_at, Reads}
+use Rattle.kahn_streams.specs.Network.{network_of, instance_at, actual_at, Reads}
 use Rattle.kahn_pool.proofs.Ended.{none_all}
 use Rattle.kahn_pool.proofs.Lists.{below_more}
 use Rattle.kahn_pool.proofs.ends.channel_read.Goals as goal

@@ -1,5 +1,5 @@
 use Rattle.std.proofs.Common.{◌≡◌, ℕ, ◌<◌}
-use Rattle.kahn_network.specs.Network.{network_of, instance_at, actual_at, Reads}
+use Rattle.kahn_streams.specs.Network.{network_of, instance_at, actual_at, Reads}
 use Rattle.kahn_pool.proofs.ends.channel_read.Given as goal
 
 abbrev pub invariant-loop-channel : goal.invariant-loop-channel

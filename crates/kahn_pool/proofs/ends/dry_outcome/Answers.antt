@@ -1,6 +1,6 @@
 use Rattle.std.proofs.Common.{◌≡◌, sym, ap, ◌∙◌, Some, slice_get}
 use Rattle.std.proofs.lemmas.Option.{slice_get-get_or}
-use Rattle.kahn_network.proofs.Sourced.{reads_listed}
+use Rattle.kahn_streams.proofs.Sourced.{reads_listed}
 use Rattle.kahn_code.specs.Standing.{count}
 use Rattle.kahn_crew.specs.inner.Tasks.{Tasked}
 use Rattle.kahn_pool.proofs.Ended.{dry_told, taken_long}

@@ -1,6 +1,6 @@
 use Rattle.std.proofs.Common.{◌≡◌, ◌+◌, ◌-◌, sum_by, arith}
 use Rattle.kahn_pool.specs.inner.Holding.{seen_by, work_events}
-use Rattle.kahn_pool.specs.declared.answer.Answer.{Answer}
+use Rattle.kahn_streams.specs.declared.answer.Answer.{Answer}
 use Rattle.kahn_pool.proofs.Final.{gathered}
 use Rattle.kahn_pool.proofs.gather.answer_of.Goals as goal
 

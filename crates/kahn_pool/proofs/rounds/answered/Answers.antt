@@ -1,6 +1,6 @@
 use Rattle.std.proofs.Common.{◌≡◌, ◌+◌, ◌-◌, subst, arith}
 use Rattle.kahn_pool.specs.inner.Bench.{all_events, IsVerdict}
-use Rattle.kahn_pool.specs.declared.answer.Answer.{Answer}
+use Rattle.kahn_streams.specs.declared.answer.Answer.{Answer}
 use Rattle.kahn_pool.specs.inner.Workbench.{sight_of}
 use Rattle.kahn_pool.proofs.Final.{gathered}
 use Rattle.kahn_pool.proofs.Lacking.{cut_short}

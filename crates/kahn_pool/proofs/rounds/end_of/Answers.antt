@@ -1,6 +1,6 @@
 use Rattle.std.proofs.Common.{inl}
 use Rattle.std.proofs.Common.{sym, ap, ◌∙◌, subst}
-use Rattle.kahn_network.specs.Network.{Reads}
+use Rattle.kahn_streams.specs.Network.{Reads}
 use Rattle.kahn_streams.specs.Solution.{exec_at}
 use Rattle.kahn_pool.specs.inner.Bench.{IsPaused, events_at}
 use Rattle.kahn_pool.specs.inner.Workbench.{sight_of}

@@ -1,6 +1,6 @@
 use Rattle.std.proofs.Common.{◌≡◌, ◌+◌, ap, ◌∙◌, subst, arith}
 use Rattle.kahn_pool.specs.inner.Bench.{RunState, all_events, IsLast}
-use Rattle.kahn_pool.specs.Right.{IsRight}
+use Rattle.kahn_streams.specs.Answers.{IsRight}
 use Rattle.kahn_pool.specs.inner.Workbench.{Table, sight_of}
 use Rattle.kahn_pool.proofs.rounds.run_bench.Goals as goal
 

@@ -1,8 +1,8 @@
 use Rattle.std.proofs.Common.{rules, ◌≡◌, ◌<◌, length, sym, ap, ◌∙◌, Some, slice_get, add-one}
 use Rattle.std.proofs.lemmas.List.{length-set}
 use Rattle.std.proofs.lemmas.Option.{slice_get-get_or}
-use Rattle.kahn_network.specs.Network.{network_of}
-use Rattle.kahn_pool.specs.declared.answer.Stream.{Stream}
+use Rattle.kahn_streams.specs.Network.{network_of}
+use Rattle.kahn_streams.specs.declared.answer.Stream.{Stream}
 use Rattle.kahn_pool.proofs.Filled.{next_declared, filling_goes, filling_ends}
 use Rattle.kahn_pool.proofs.streams.fill.Goals as goal
 

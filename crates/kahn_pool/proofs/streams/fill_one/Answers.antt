@@ -1,5 +1,5 @@
 use Rattle.std.proofs.Common.{arith, ◌≡◌, ◌<◌, length, refl, sym, ap, ◌∙◌, subst}
-use Rattle.kahn_network.specs.Network.{network_of}
+use Rattle.kahn_streams.specs.Network.{network_of}
 use Rattle.kahn_pool.specs.inner.Streams.{IsDeclared}
 use Rattle.kahn_pool.proofs.Filled.{kept_taken, printed_taken}
 use Rattle.kahn_pool.proofs.streams.fill_one.Goals as goal

@@ -1,7 +1,7 @@
 use Rattle.std.proofs.Common.{sym, subst}
-use Rattle.kahn_network.specs.Network.{network_of}
+use Rattle.kahn_streams.specs.Network.{network_of}
 use Rattle.kahn_streams.specs.Solution.{source}
-use Rattle.kahn_streams.specs.Tokens.{inputs_of}
+use Rattle.kahn_streams.specs.Inputs.{inputs_of}
 use Rattle.kahn_pool.specs.inner.Streams.{HasInput}
 use Rattle.kahn_pool.proofs.Giving.{begun_none, channel_given}
 use Rattle.kahn_pool.proofs.streams.give_input.Goals as goal

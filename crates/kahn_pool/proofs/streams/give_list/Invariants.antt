@@ -1,7 +1,7 @@
 use Rattle.std.proofs.Common.{◌≡◌, ◌⊎◌, ◌-◌, length}
-use Rattle.kahn_tree.specs.declared.tree.Role.TheVariants.{Input}
-use Rattle.kahn_network.specs.Network.{network_of, role_at}
-use Rattle.kahn_streams.specs.Tokens.{inputs_of}
+use Rattle.kahn_streams.specs.declared.tree.Role.TheVariants.{Input}
+use Rattle.kahn_streams.specs.Network.{network_of, role_at}
+use Rattle.kahn_streams.specs.Inputs.{inputs_of}
 use Rattle.kahn_pool.specs.inner.Streams.{IsBegun}
 use Rattle.kahn_pool.proofs.streams.give_list.Given as goal
 

@@ -1,9 +1,9 @@
 use Rattle.std.proofs.Common.{rules, ◌≡◌, ◌<◌, length, sym, ap, ◌∙◌, Some, slice_get, add-one}
 use Rattle.std.proofs.lemmas.List.{length-set}
 use Rattle.std.proofs.lemmas.Option.{slice_get-get_or}
-use Rattle.kahn_network.specs.Network.{network_of}
-use Rattle.kahn_streams.specs.Tokens.{inputs_of}
-use Rattle.kahn_pool.specs.declared.answer.Stream.{Stream}
+use Rattle.kahn_streams.specs.Network.{network_of}
+use Rattle.kahn_streams.specs.Inputs.{inputs_of}
+use Rattle.kahn_streams.specs.declared.answer.Stream.{Stream}
 use Rattle.kahn_pool.proofs.Giving.{giving_declared, giving_bare, giving_goes, giving_ends, have_inputs}
 use Rattle.kahn_pool.proofs.streams.watched_input.Goals as goal
 

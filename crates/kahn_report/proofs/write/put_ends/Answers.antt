@@ -1,7 +1,7 @@
 use Rattle.std.proofs.Common.{rules, ◌<◌, length, ◌++◌, get_or, subst, sym}
 use Rattle.std.proofs.KnownBytes.{Appends-trans}
-use Rattle.kahn_pool.specs.declared.answer.End.{End}
-use Rattle.kahn_pool.specs.declared.answer.Outcome.TheVariants.{Ended}
+use Rattle.kahn_streams.specs.declared.answer.End.{End}
+use Rattle.kahn_streams.specs.declared.answer.Outcome.TheVariants.{Ended}
 use Rattle.kahn_report.specs.Report.{end_text}
 use Rattle.kahn_write.specs.Written.{AppendsFront}
 use Rattle.kahn_write.proofs.Pieces.{fails, few_on, goes_on_front, stops}

@@ -1,7 +1,7 @@
 use Rattle.std.proofs.Common.{◌≡◌, ◌∙◌, subst, sym}
 use Rattle.kahn_streams.proofs.Proved.{prefix_trans}
-use Rattle.kahn_streams.specs.Laws.{AreInputsExtended}
-use Rattle.kahn_streams.specs.Tokens.{Lists, inputs_of}
+use Rattle.kahn_streams.specs.Solution.{AreInputsExtended}
+use Rattle.kahn_streams.specs.Inputs.{Lists, inputs_of}
 use Rattle.kahn_rows.proofs.lifted.an_answered_token_is_lifted.Goals as goal
 
 pub first_lifted-token-requires : goal.first_lifted-token-requires

@@ -1,6 +1,6 @@
 use Rattle.std.proofs.Common.{string_bytes}
-use Rattle.kahn_streams.specs.Entries.{Entry}
-use Rattle.kahn_report.specs.Entries.{IsEntry, content}
+use Rattle.kahn_streams.specs.Inputs.{Entry}
+use Rattle.kahn_report.specs.Inputs.{IsEntry, content}
 use Rattle.kahn_session.specs.Live.{IsText}
 use Rattle.kahn_session.proofs.Steps.{one_pace, unpoured}
 use Rattle.kahn_session.proofs.session.feed_line.Goals as goal

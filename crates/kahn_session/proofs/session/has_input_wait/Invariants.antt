@@ -1,7 +1,7 @@
 -- None of the ends so far is one.
 use Rattle.std.proofs.Common.{◌≡◌, drop}
 use Rattle.std.specs.List.{list_any}
-use Rattle.kahn_network.specs.Network.{network_of}
+use Rattle.kahn_streams.specs.Network.{network_of}
 use Rattle.kahn_session.specs.Live.{waits_on_input}
 use Rattle.kahn_session.proofs.session.has_input_wait.Given as goal
 

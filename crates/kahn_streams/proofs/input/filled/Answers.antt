@@ -3,7 +3,7 @@ use Rattle.std.proofs.lemmas.List.{length_push, map-append}
 use Rattle.std.proofs.lemmas.Iterator.Adapters.{YieldsList-from_vec}
 use Rattle.std.proofs.lemmas.Iterator.Consumers.{YieldsList-so_far, YieldsList-turn}
 use Rattle.std.proofs.lemmas.Result.{err_from_is_err_and}
-use Rattle.kahn_streams.specs.Entries.{Entry, entry_of, channel_of}
+use Rattle.kahn_streams.specs.Inputs.{Entry, entry_of, channel_of}
 use Rattle.kahn_streams.specs.inner.Marked.{IsFitHere, IsRefusedAt}
 use Rattle.kahn_streams.proofs.Entered.{more_filled, first_refused, made_fits, read_here, read_so_far}
 use Rattle.kahn_streams.proofs.input.filled.Goals as goal

@@ -1,6 +1,6 @@
 -- What the entries so far give.
 use Rattle.std.proofs.Common.{◌≡◌, length, map}
-use Rattle.kahn_streams.specs.Entries.{entry_of}
+use Rattle.kahn_streams.specs.Inputs.{entry_of}
 use Rattle.kahn_streams.proofs.Entered.{AreFilled}
 use Rattle.kahn_streams.proofs.input.filled.Given as goal
 

@@ -1,6 +1,6 @@
 use Rattle.std.proofs.Common.{rules, arith, ◌≡◌, ◌++◌, ◌∙◌, ap, sym, flat_map, take}
 use Rattle.std.proofs.lemmas.Grind.{common_steps}
-use Rattle.kahn_tree.specs.declared.tree.Action.TheViews.{the_lemmas}
+use Rattle.kahn_streams.specs.declared.tree.Action.TheViews.{the_lemmas}
 use Rattle.kahn_warnings.specs.Faults.{action_places}
 use Rattle.kahn_warnings.proofs.Placing.{placed_in, row_placed}
 use Rattle.kahn_warnings.proofs.faults.+add_statement.Goals as goal

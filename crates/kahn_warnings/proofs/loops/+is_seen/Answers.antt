@@ -1,5 +1,5 @@
 use Rattle.std.proofs.Common.{rules}
-use Rattle.kahn_tree.specs.declared.tree.Action.TheViews.{the_lemmas}
+use Rattle.kahn_streams.specs.declared.tree.Action.TheViews.{the_lemmas}
 use Rattle.kahn_warnings.proofs.Lists.{block_is_seen}
 use Rattle.kahn_warnings.proofs.loops.+is_seen.Goals as goal
 

@@ -1,6 +1,6 @@
 -- None of the statements so far does.
 use Rattle.std.proofs.Common.{◌≡◌, drop}
-use Rattle.kahn_tree.specs.View.{Scope, statement_of}
+use Rattle.kahn_streams.specs.View.{Scope, statement_of}
 use Rattle.kahn_warnings.specs.Loops.{is_seen}
 use Rattle.kahn_warnings.proofs.Lists.{any_in}
 use Rattle.kahn_warnings.proofs.loops.+is_seen.Given as goal

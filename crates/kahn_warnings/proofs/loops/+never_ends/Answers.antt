@@ -1,5 +1,5 @@
 use Rattle.std.proofs.Common.{rules}
-use Rattle.kahn_tree.specs.declared.tree.Action.TheViews.{the_lemmas}
+use Rattle.kahn_streams.specs.declared.tree.Action.TheViews.{the_lemmas}
 use Rattle.kahn_warnings.proofs.Lists.{block_never_ends}
 use Rattle.kahn_warnings.proofs.loops.+never_ends.Goals as goal
 

@@ -1,6 +1,6 @@
 -- None of the statements so far does.
 use Rattle.std.proofs.Common.{◌≡◌, drop}
-use Rattle.kahn_tree.specs.View.{Scope, statement_of}
+use Rattle.kahn_streams.specs.View.{Scope, statement_of}
 use Rattle.kahn_warnings.specs.Loops.{never_ends}
 use Rattle.kahn_warnings.proofs.Lists.{any_in}
 use Rattle.kahn_warnings.proofs.loops.+never_ends.Given as goal

@@ -1,6 +1,6 @@
 -- None of the operands so far waits.
 use Rattle.std.proofs.Common.{◌≡◌, drop}
-use Rattle.kahn_tree.specs.View.{Scope, expression_of}
+use Rattle.kahn_streams.specs.View.{Scope, expression_of}
 use Rattle.kahn_warnings.specs.Uses.{waits_in}
 use Rattle.kahn_warnings.proofs.Lists.{operands_wait}
 use Rattle.kahn_warnings.proofs.loops.+waits_in.Given as goal

@@ -1,7 +1,7 @@
 use Rattle.std.proofs.Common.{rules, arith, ◌≡◌, ◌++◌, ◌∙◌, ap, sym, append_assoc, flat_map, take}
 use Rattle.std.proofs.lemmas.Grind.{common_steps}
 use Rattle.std.proofs.lemmas.Result.{IfOk-weaker}
-use Rattle.kahn_tree.specs.declared.tree.Action.TheViews.{the_lemmas}
+use Rattle.kahn_streams.specs.declared.tree.Action.TheViews.{the_lemmas}
 use Rattle.kahn_warnings.specs.Warned.{warned_where}
 use Rattle.kahn_warnings.specs.Warnings.{first_unreached, statement_warnings}
 use Rattle.kahn_warnings.specs.declared.warning.WarningKind.TheVariants.{Unreached}

@@ -1,6 +1,6 @@
 use Rattle.std.proofs.Common.{rules, arith, ◌≡◌, ◌++◌, ◌∙◌, ap, sym, flat_map, take}
 use Rattle.std.proofs.lemmas.Grind.{common_steps}
-use Rattle.kahn_tree.specs.declared.tree.Action.TheViews.{the_lemmas}
+use Rattle.kahn_streams.specs.declared.tree.Action.TheViews.{the_lemmas}
 use Rattle.kahn_warnings.specs.Constants.{constant_warnings}
 use Rattle.kahn_warnings.proofs.Folding.{constants_in, row_warned}
 use Rattle.kahn_warnings.proofs.surely.+add_constants.Goals as goal

@@ -1,7 +1,7 @@
 use Rattle.std.proofs.Common.{rules, arith, ◌≡◌, ◌++◌, ◌∙◌, [], ap, sym, append-nil, append_assoc, drop}
 use Rattle.std.proofs.lemmas.Grind.{common_steps}
-use Rattle.kahn_tree.specs.View.{expression_of}
-use Rattle.kahn_tree.specs.declared.tree.Form.TheViews.{the_lemmas}
+use Rattle.kahn_streams.specs.View.{expression_of}
+use Rattle.kahn_streams.specs.declared.tree.Form.TheViews.{the_lemmas}
 use Rattle.kahn_warnings.specs.Constants.{constant_of, expression_warnings}
 use Rattle.kahn_warnings.proofs.Folding.{level_warned, operands_warned}
 use Rattle.kahn_warnings.proofs.surely.+add_expression.Goals as goal

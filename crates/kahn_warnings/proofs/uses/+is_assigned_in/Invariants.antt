@@ -1,6 +1,6 @@
 -- None of the statements so far does it.
 use Rattle.std.proofs.Common.{◌≡◌, [], ◌∷◌, drop}
-use Rattle.kahn_tree.specs.View.{statement_of}
+use Rattle.kahn_streams.specs.View.{statement_of}
 use Rattle.kahn_warnings.specs.Uses.{is_assigned_in}
 use Rattle.kahn_warnings.proofs.Lists.{any_in}
 use Rattle.kahn_warnings.proofs.uses.+is_assigned_in.Given as goal

@@ -1,5 +1,5 @@
 use Rattle.std.proofs.Common.{rules}
-use Rattle.kahn_tree.specs.declared.tree.Form.TheViews.{the_lemmas}
+use Rattle.kahn_streams.specs.declared.tree.Form.TheViews.{the_lemmas}
 use Rattle.kahn_warnings.proofs.Lists.{level_named}
 use Rattle.kahn_warnings.proofs.uses.+is_named.Goals as goal
 

@@ -1,6 +1,6 @@
 -- None of the operands so far has the name.
 use Rattle.std.proofs.Common.{◌≡◌, [], ◌∷◌, drop}
-use Rattle.kahn_tree.specs.View.{expression_of}
+use Rattle.kahn_streams.specs.View.{expression_of}
 use Rattle.kahn_warnings.specs.Uses.{is_named}
 use Rattle.kahn_warnings.proofs.Lists.{operands_named}
 use Rattle.kahn_warnings.proofs.uses.+is_named.Given as goal

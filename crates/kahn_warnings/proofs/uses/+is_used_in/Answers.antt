@@ -1,5 +1,5 @@
 use Rattle.std.proofs.Common.{rules}
-use Rattle.kahn_tree.specs.declared.tree.Action.TheViews.{the_lemmas}
+use Rattle.kahn_streams.specs.declared.tree.Action.TheViews.{the_lemmas}
 use Rattle.kahn_warnings.proofs.Lists.{block_is_used_in}
 use Rattle.kahn_warnings.proofs.uses.+is_used_in.Goals as goal
 

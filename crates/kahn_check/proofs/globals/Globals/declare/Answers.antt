@@ -1,4 +1,4 @@
-use Rattle.kahn_tree.specs.View.{bytes_of}
+use Rattle.kahn_streams.specs.View.{bytes_of}
 use Rattle.kahn_check.proofs.Global_names.{declared_global}
 use Rattle.kahn_check.proofs.globals.Globals.declare.Goals as goal
 

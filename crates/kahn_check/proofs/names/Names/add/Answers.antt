@@ -1,6 +1,6 @@
 use Rattle.std.proofs.Common.{◌∙◌, ap}
 use Rattle.kahn_check.proofs.Walk.{declared_name, named}
-use Rattle.kahn_tree.specs.View.{bytes_of}
+use Rattle.kahn_streams.specs.View.{bytes_of}
 use Rattle.kahn_check.proofs.names.Names.add.Goals as goal
 
 pub returns : goal.returns

@@ -1,6 +1,6 @@
 use Rattle.std.proofs.Common.{arith}
 use Rattle.kahn_check.proofs.Walk.{find_named}
-use Rattle.kahn_tree.specs.View.{bytes_of}
+use Rattle.kahn_streams.specs.View.{bytes_of}
 use Rattle.kahn_check.proofs.names.Names.find.Goals as goal
 
 pub returns : goal.returns

@@ -1,6 +1,6 @@
 -- The values so far.
 use Rattle.std.proofs.Common.{◌≡◌, map, take}
-use Rattle.kahn_code.specs.Cells.{token_value}
+use Rattle.kahn_streams.specs.Tokens.{token_value}
 use Rattle.kahn_explain.proofs.tracing.column.column_of.Given as goal
 
 abbrev pub invariant-loop-token : goal.invariant-loop-token

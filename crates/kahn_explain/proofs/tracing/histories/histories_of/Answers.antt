@@ -1,5 +1,5 @@
 use Rattle.std.proofs.Common.{◌∙◌, subst, sym}
-use Rattle.kahn_streams.specs.Tokens.{inputs_of}
+use Rattle.kahn_streams.specs.Inputs.{inputs_of}
 use Rattle.kahn_explain.specs.Histories.{unwatched}
 use Rattle.kahn_explain.specs.inner.Columns.{IsTextRun}
 use Rattle.kahn_explain.proofs.Tables.{all_lines, all_well, are_histories}

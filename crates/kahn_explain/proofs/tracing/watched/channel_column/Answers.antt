@@ -1,6 +1,6 @@
 use Rattle.std.proofs.Common.{◌≡◌, ◌∙◌, sym}
-use Rattle.kahn_tree.specs.declared.tree.Role.TheVariants.{Output}
-use Rattle.kahn_network.specs.Network.{network_of, role_at}
+use Rattle.kahn_streams.specs.declared.tree.Role.TheVariants.{Output}
+use Rattle.kahn_streams.specs.Network.{network_of, role_at}
 use Rattle.kahn_streams.specs.declared.value.Line.TheVariants.{Channel}
 use Rattle.kahn_explain.specs.Histories.{unwatched}
 use Rattle.kahn_explain.proofs.Watched_columns.{output_line, told_for}

@@ -1,6 +1,6 @@
 use Rattle.std.proofs.Common.{rules}
 use Rattle.kahn_chain.specs.declared.standing.Cause.TheVariants.{Input}
-use Rattle.kahn_pool.specs.declared.answer.Outcome.TheVariants.{Ended}
+use Rattle.kahn_streams.specs.declared.answer.Outcome.TheVariants.{Ended}
 use Rattle.kahn_explain.proofs.Lined.{of_network}
 use Rattle.kahn_explain.proofs.why.lines.add_lines.Goals as goal
 

@@ -1,5 +1,5 @@
 use Rattle.std.proofs.Common.{◌≡◌, ◌∙◌, ◌++◌, ◌+◌, ◌<◌, ◌∷◌, Some, ap, drop, length, option_copied, rules, subst, sym}
-use Rattle.kahn_network.specs.Sides.{channel_names}
+use Rattle.kahn_streams.specs.Network.{channel_names}
 use Rattle.kahn_explain.specs.Reading.{ends_joined, ends_told, line_told, said_lines}
 use Rattle.kahn_explain.proofs.Read.{end_there, lent, no_end_there, read_at}
 use Rattle.kahn_explain.proofs.why.reading.ends_told.Goals as goal

@@ -1,5 +1,5 @@
 use Rattle.std.proofs.Common.{◌∙◌, None, Some, sym}
-use Rattle.kahn_network.specs.Sides.{channel_names}
+use Rattle.kahn_streams.specs.Network.{channel_names}
 use Rattle.kahn_explain.proofs.Read.{waits_step}
 use Rattle.kahn_explain.proofs.why.reading.waits_told.Goals as goal
 

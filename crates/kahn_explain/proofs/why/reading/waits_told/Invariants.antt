@@ -1,6 +1,6 @@
 -- The words name no channel so far.
 use Rattle.std.proofs.Common.{◌≡◌, drop}
-use Rattle.kahn_network.specs.Sides.{channel_names}
+use Rattle.kahn_streams.specs.Network.{channel_names}
 use Rattle.kahn_explain.specs.Reading.{waits_told}
 use Rattle.kahn_explain.proofs.why.reading.waits_told.Given as goal
 

@@ -1,5 +1,5 @@
 use Rattle.std.proofs.Common.{◌∙◌, ap, map, subst, sym}
-use Rattle.kahn_network.specs.Network.{network_of}
+use Rattle.kahn_streams.specs.Network.{network_of}
 use Rattle.kahn_chain.specs.Chain.{AreStandings}
 use Rattle.kahn_explain.specs.Why.{stands}
 use Rattle.kahn_explain.proofs.Lined.{all_of}

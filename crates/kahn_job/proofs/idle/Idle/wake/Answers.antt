@@ -1,6 +1,6 @@
 use Rattle.std.proofs.Common.{sym, subst}
-use Rattle.kahn_streams.specs.Laws.{AreInputsExtended}
-use Rattle.kahn_streams.specs.Tokens.{inputs_of}
+use Rattle.kahn_streams.specs.Solution.{AreInputsExtended}
+use Rattle.kahn_streams.specs.Inputs.{inputs_of}
 use Rattle.kahn_job.specs.inner.Works.{Work}
 use Rattle.kahn_job.proofs.idle.Idle.wake.Goals as goal
 

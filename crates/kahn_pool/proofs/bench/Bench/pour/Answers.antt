@@ -1,7 +1,7 @@
 use Rattle.std.proofs.Common.{length, sym, ap, ◌∙◌, subst}
-use Rattle.kahn_network.specs.Network.{network_of, role_at}
-use Rattle.kahn_streams.specs.Laws.{AreInputsExtended}
-use Rattle.kahn_streams.specs.Tokens.{inputs_of}
+use Rattle.kahn_streams.specs.Network.{network_of, role_at}
+use Rattle.kahn_streams.specs.Solution.{AreInputsExtended}
+use Rattle.kahn_streams.specs.Inputs.{inputs_of}
 use Rattle.kahn_code.specs.Lines.{HasPoured}
 use Rattle.kahn_code.proofs.Poured.{poured_grown}
 use Rattle.kahn_pool.specs.inner.Workbench.{HasTakenIn, IsLaid, Table, table_of}

@@ -3,7 +3,7 @@ use Rattle.kahn_pool.specs.HeldRuns.{IsRightSoFar}
 use Rattle.kahn_pool.specs.Flows.{Flowing}
 use Rattle.kahn_pool.specs.inner.Holding.{AreEnded}
 use Rattle.kahn_pool.specs.inner.Workbench.{sight_of}
-use Rattle.kahn_pool.specs.declared.answer.End.{End}
+use Rattle.kahn_streams.specs.declared.answer.End.{End}
 use Rattle.kahn_pool.proofs.Righted.{events_seen, right_with}
 use Rattle.kahn_pool.proofs.flow.Flow.ends.Goals as goal
 

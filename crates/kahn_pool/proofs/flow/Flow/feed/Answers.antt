@@ -1,12 +1,12 @@
 use Rattle.std.proofs.Common.{arith, ◌≡◌, ◌+◌, ◌++◌, false, true, List, drop, length, map, None, refl, sym, ap, ◌∙◌, subst}
 use Rattle.std.proofs.lemmas.Result.{err_from_is_err_and}
-use Rattle.kahn_tree.specs.declared.tree.Role.TheVariants.{Input}
-use Rattle.kahn_network.specs.Network.{network_of, role_at}
-use Rattle.kahn_streams.specs.Entries.{Entry, channel_of}
+use Rattle.kahn_streams.specs.declared.tree.Role.TheVariants.{Input}
+use Rattle.kahn_streams.specs.Network.{network_of, role_at}
+use Rattle.kahn_streams.specs.Inputs.{Entry, channel_of, Lists, inputs_of}
 use Rattle.kahn_streams.specs.Feeds.{IsMeant}
-use Rattle.kahn_streams.specs.Tokens.{Lists, inputs_of}
 use Rattle.kahn_streams.specs.declared.token.Token.{Token}
-use Rattle.kahn_code.specs.Cells.{is_watched, token_value}
+use Rattle.kahn_streams.specs.Answers.{is_watched}
+use Rattle.kahn_streams.specs.Tokens.{token_value}
 use Rattle.kahn_streams.proofs.Fed.{meant_input}
 use Rattle.kahn_code.proofs.Poured.{poured_length, poured_rest}
 use Rattle.kahn_pool.specs.Flows.{Flowing, HasPouredIn}

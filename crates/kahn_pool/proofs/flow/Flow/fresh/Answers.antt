@@ -1,5 +1,5 @@
 use Rattle.std.proofs.Common.{◌≡◌, ◌<◌, length, sym, subst}
-use Rattle.kahn_network.specs.Network.{Given, Written, Writes, channel_source, network_of, instance_at, actual_at}
+use Rattle.kahn_streams.specs.Network.{Given, Written, Writes, channel_source, network_of, instance_at, actual_at}
 use Rattle.kahn_pool.specs.HeldRuns.{IsLineOf}
 use Rattle.kahn_pool.specs.Flows.{AreNew, Flowing}
 use Rattle.kahn_pool.proofs.Flowed.{line_here, new_given, new_kept, new_printed}

@@ -1,8 +1,7 @@
 use Rattle.std.proofs.Common.{arith, rules, ◌≤◌, length, vec_capacity, refl, sym, ◌∙◌, subst}
-use Rattle.kahn_config.specs.Limits.{IsInRange}
-use Rattle.kahn_network.specs.Network.{network_of}
-use Rattle.kahn_streams.specs.Tokens.{inputs_of}
-use Rattle.kahn_pool.specs.Runs.{IsWatched}
+use Rattle.kahn_streams.specs.Answers.{IsInRange, IsWatched}
+use Rattle.kahn_streams.specs.Network.{network_of}
+use Rattle.kahn_streams.specs.Inputs.{inputs_of}
 use Rattle.kahn_pool.specs.inner.Streams.{AreAllGiven}
 use Rattle.kahn_pool.proofs.Flowed.{all_lent, none_done, none_let_go}
 use Rattle.kahn_pool.proofs.Giving.{begun_none}

@@ -1,14 +1,14 @@
 use Rattle.std.proofs.Common.{arith, ◌-◌, List, sym, ◌∙◌, subst}
-use Rattle.kahn_network.specs.Network.{network_of}
-use Rattle.kahn_streams.specs.Tokens.{inputs_of}
+use Rattle.kahn_streams.specs.Network.{network_of}
+use Rattle.kahn_streams.specs.Inputs.{inputs_of}
 use Rattle.kahn_job.specs.inner.Works.{Work}
 use Rattle.kahn_pool.specs.inner.Bench.{AreStreams}
 use Rattle.kahn_pool.specs.inner.Concluded.{IsConcluded}
 use Rattle.kahn_pool.specs.HeldRuns.{HeldRun, IsAnswerOf}
 use Rattle.kahn_pool.specs.inner.Holding.{AreEnded, held_state}
-use Rattle.kahn_pool.specs.Right.{stream_lines}
-use Rattle.kahn_pool.specs.declared.answer.Answer.{Answer}
-use Rattle.kahn_pool.specs.declared.answer.End.{End}
+use Rattle.kahn_streams.specs.Answers.{stream_lines}
+use Rattle.kahn_streams.specs.declared.answer.Answer.{Answer}
+use Rattle.kahn_streams.specs.declared.answer.End.{End}
 use Rattle.kahn_pool.proofs.Held_runs.{answer_gathered, answer_is}
 use Rattle.kahn_pool.proofs.held.Held.answer.Goals as goal
 

@@ -1,7 +1,7 @@
 use Rattle.std.proofs.Common.{◌≡◌, List, Some, sym, subst}
 use Rattle.kahn_pool.specs.HeldRuns.{HeldRun, IsRightSoFar}
 use Rattle.kahn_pool.specs.inner.Holding.{AreEnded, held_state}
-use Rattle.kahn_pool.specs.declared.answer.End.{End}
+use Rattle.kahn_streams.specs.declared.answer.End.{End}
 use Rattle.kahn_pool.proofs.Held_streams.{right_so_far}
 use Rattle.kahn_pool.proofs.held.Held.ends.Goals as goal
 

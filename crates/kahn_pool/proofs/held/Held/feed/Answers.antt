@@ -1,8 +1,8 @@
 use Rattle.std.proofs.Common.{ap, refl, subst, None}
 use Rattle.std.proofs.lemmas.Result.{err_from_is_err_and}
 use Rattle.kahn_pool.specs.HeldRuns.{HasFed, HeldRun, IsUnfed}
-use Rattle.kahn_network.specs.Network.{network_of}
-use Rattle.kahn_streams.specs.Tokens.{inputs_of}
+use Rattle.kahn_streams.specs.Network.{network_of}
+use Rattle.kahn_streams.specs.Inputs.{inputs_of}
 use Rattle.kahn_pool.proofs.Held_runs.{goes_on_fed, holding_fed, run_of}
 use Rattle.kahn_pool.proofs.Held_streams.{given_on}
 use Rattle.kahn_pool.proofs.held.Held.feed.Goals as goal

@@ -1,9 +1,8 @@
 use Rattle.std.proofs.Common.{rules, refl, sym, subst}
-use Rattle.kahn_network.specs.Network.{network_of}
-use Rattle.kahn_streams.specs.Tokens.{inputs_of}
+use Rattle.kahn_streams.specs.Network.{network_of}
+use Rattle.kahn_streams.specs.Inputs.{inputs_of}
 use Rattle.kahn_pool.proofs.Giving.{begun_none}
-use Rattle.kahn_config.specs.Limits.{IsInRange}
-use Rattle.kahn_pool.specs.Runs.{IsWatched}
+use Rattle.kahn_streams.specs.Answers.{IsInRange, IsWatched}
 use Rattle.kahn_pool.proofs.Held_runs.{in_range_alike, none_seen}
 use Rattle.kahn_pool.proofs.held.Held.start.Goals as goal
 

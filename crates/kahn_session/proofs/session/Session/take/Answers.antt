@@ -1,6 +1,6 @@
 use Rattle.std.proofs.Common.{◌≡◌, ◌∙◌, ℕ, map, true, ap, sym, subst}
 use Rattle.std.specs.Io.KnownBytes.{Appends}
-use Rattle.kahn_network.specs.Wiring.{IsWellWired}
+use Rattle.kahn_streams.specs.Wiring.{IsWellWired}
 use Rattle.kahn_pool.specs.HeldRuns.{so_far}
 use Rattle.kahn_pool.specs.Flows.{Flowing, flow_lines}
 use Rattle.std.proofs.Common.{refl}

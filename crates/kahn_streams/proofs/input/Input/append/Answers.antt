@@ -1,7 +1,6 @@
 use Rattle.std.proofs.Common.{rules, arith, ◌≡◌, ◌≤◌, ◌+◌, ◌++◌, length, length-append, map, slice_set, sym}
 use Rattle.std.proofs.lemmas.Result.{err_from_is_err_and}
-use Rattle.kahn_streams.specs.Entries.{most_values}
-use Rattle.kahn_streams.specs.Tokens.{inputs_of}
+use Rattle.kahn_streams.specs.Inputs.{most_values, inputs_of}
 use Rattle.kahn_streams.proofs.Fed.{item_fed, item_kept}
 use Rattle.kahn_streams.proofs.Few.{put_few, same_few}
 use Rattle.kahn_streams.proofs.input.Input.append.Goals as goal

@@ -1,8 +1,7 @@
 -- The lists so far fit their channels.
 use Rattle.std.proofs.Common.{ℕ, ◌<◌}
-use Rattle.kahn_network.specs.Network.{network_of}
-use Rattle.kahn_streams.specs.Kinded.{IsListFor}
-use Rattle.kahn_streams.specs.Tokens.{inputs_of}
+use Rattle.kahn_streams.specs.Network.{network_of}
+use Rattle.kahn_streams.specs.Inputs.{IsListFor, inputs_of}
 use Rattle.kahn_streams.proofs.input.Input.fits.Given as goal
 
 abbrev pub invariant-loop-channel : goal.invariant-loop-channel

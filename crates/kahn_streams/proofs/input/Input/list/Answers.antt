@@ -1,6 +1,6 @@
 use Rattle.std.proofs.Common.{arith, ◌≡◌, map}
 use Rattle.std.proofs.lemmas.Grind.{common_steps}
-use Rattle.kahn_streams.specs.Tokens.{inputs_of}
+use Rattle.kahn_streams.specs.Inputs.{inputs_of}
 use Rattle.kahn_streams.proofs.Few.{list_few}
 use Rattle.kahn_streams.proofs.input.Input.list.Goals as goal
 

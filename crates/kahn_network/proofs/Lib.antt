@@ -1,7 +1,0 @@
-pub mod Numbered
-pub mod Picked
-pub mod Sided
-pub mod Fitted
-pub mod Sourced
-pub mod Kept_network
-pub mod Handed

@@ -1,0 +1,7 @@
+use Rattle.std.proofs.Common.{rules}
+use Rattle.kahn_streams.specs.declared.tree.Action.TheViews.{the_lemmas}
+use Rattle.kahn_streams.proofs.Printing.{block_prints}
+use Rattle.kahn_streams.proofs.prints.+prints.Goals as goal
+
+pub loop-inner-init : goal.loop-inner-init
+loop-inner-init t c names = search (rules, the_lemmas, block_prints)

@@ -1,0 +1,9 @@
+use Rattle.std.proofs.Common.{◌≡◌, drop}
+use Rattle.kahn_streams.specs.Syntax.{prints_in}
+use Rattle.kahn_streams.specs.View.{Scope, statement_of}
+use Rattle.kahn_streams.proofs.Printing.{any_prints}
+use Rattle.kahn_streams.proofs.prints.+prints.Given as goal
+
+abbrev pub invariant-loop-inner : goal.invariant-loop-inner
+invariant-loop-inner l =
+    (names : Scope) → any_prints names (drop l.inner-index l.inner-items) ≡ prints_in (statement_of names l.statement)

@@ -1,0 +1,10 @@
+-- Believed. What the instances of a program are made of.
+use Rattle.std.specs.Prelude.{◌≡◌, ℕ, List, Some, slice_get}
+use Rattle.kahn_streams.specs.Types.{Process, Argument, Instance, Program}
+use Rattle.kahn_streams.specs.View.{bytes_of}
+use Rattle.kahn_streams.specs.Network.{process_of}
+
+-- instance p of the program names that process, which the program declares, and has these arguments
+abbrev pub IsMadeOf : Program → ℕ → Process → List Argument → Type 0
+IsMadeOf t p process arguments =
+    (i : Instance) × (slice_get t.instances.items p ≡ Some i) × (process_of t.declarations.items (bytes_of i.process) ≡ Some process) × (i.arguments.items ≡ arguments)

@@ -1,0 +1,44 @@
+//! Answers of a run.
+
+use crate::carried::Carried;
+use crate::value::{Failure, Line};
+
+/// Why a run stopped.
+#[derive(Clone, Copy, Debug, PartialEq, Eq)]
+pub enum Verdict {
+    Finished,
+    Bound,
+    Memory,
+}
+
+/// Where an instance stands.
+#[derive(Clone, Copy, Debug, PartialEq, Eq)]
+pub enum Outcome {
+    Ended,
+    Waits(usize),
+    Faulted(Failure),
+    More,
+}
+
+/// The end of an instance.
+#[derive(Clone, Copy, Debug, PartialEq, Eq)]
+pub struct End {
+    pub outcome: Outcome,
+    pub events: u64,
+}
+
+/// What was sent on a line: its tokens in place order, from place 0 on, each kept as its value alone.
+#[derive(Drop)]
+pub struct Stream {
+    pub line: Line,
+    pub tokens: Vec<Carried>,
+}
+
+/// The answer of a run.
+#[derive(Drop)]
+pub struct Answer {
+    pub verdict: Verdict,
+    pub streams: Vec<Stream>,
+    pub ends: Vec<End>,
+    pub events: u64,
+}

@@ -1,0 +1,145 @@
+//! A checked network.
+
+ghost use Rattle.std.specs.Prelude.{◌≡◌, ◌<◌, Some, length, slice_get, slice_index_or, ℕ};
+ghost use Rattle.kahn_streams.specs.View.{bytes_of};
+ghost use Rattle.kahn_streams.specs.Made.{IsMadeOf};
+ghost use Rattle.kahn_streams.specs.Network.{network_of, instance_at, instance_from, kind_at, role_at, channel_source, process_of, IsOnly, IsWriter, IsReader, source_of, channel_names};
+ghost use Rattle.kahn_streams.specs.Wires.{IsKept, process_at};
+ghost use Rattle.kahn_streams.specs.Wiring.{IsWellWired};
+
+use crate::sides::Side;
+use crate::tree::{Argument, Declaration, Kind, Process, Program, Role};
+use crate::wires::Wire;
+use std::marker::Model;
+
+/// A well wired program. Contracts see the program that it was made from.
+#[derive(Drop)]
+pub struct Network {
+    program: Program,
+    wires: Vec<Wire>,
+    processes: Vec<usize>,
+}
+
+impl Model for Network {
+    ghost use Rattle.kahn_streams.specs.contracts.tree.Action as action;
+    ghost use Rattle.kahn_streams.specs.contracts.tree.Form as form;
+    ghost use Rattle.kahn_streams.specs.declared.tree.Program.{Program};
+    ghost use Rattle.std.specs.Coded.{codes};
+    ghost use Rattle.kahn_streams.specs.Wires.{IsKept};
+
+    ghost Value = { Program };
+
+    ghost coded = { Prim.hlevel (codes, action.the_row.coded, form.the_row.coded) };
+
+    ghost view = { λ n. n.program };
+
+    ghost invariant = { λ n. IsKept n.program n.wires.items n.processes.items };
+}
+
+/// A channel of a network.
+#[derive(Clone, Copy)]
+pub struct Channel<'n> {
+    /// Its declared name.
+    pub name: &'n str,
+    /// The kind of its values.
+    pub kind: Kind,
+    /// Whether it is written or read from outside.
+    pub role: Role,
+}
+
+/// An instance of a network.
+#[derive(Clone, Copy)]
+pub struct NetworkInstance<'n> {
+    /// The number of the declaration of its process, counted from 0 in text order.
+    pub declaration: usize,
+    /// The process that it runs.
+    pub process: &'n Process,
+    /// What is handed to the parameters of the process, one for each.
+    pub arguments: &'n [Argument],
+}
+
+/// The network of a well wired program, with its tables.
+pub fn kept(program: Program, wires: Vec<Wire>, processes: Vec<usize>) -> Network
+    requires { IsKept program wires.items processes.items }
+    ensures { result ≡ program }
+{
+    Network {
+        program,
+        wires,
+        processes,
+    }
+}
+
+impl Network {
+    /// The program that was checked. It is well wired.
+    pub fn program(&self) -> &Program
+        ensures same { result.now ≡ self.now }
+        ensures wired { IsWellWired self.now }
+    {
+        &self.program
+    }
+
+    /// The number of channels.
+    pub fn channels(&self) -> usize
+        ensures { result ≡ length (network_of self.now).channels }
+    {
+        self.wires.len()
+    }
+
+    /// The number of instances.
+    pub fn instances(&self) -> usize
+        ensures { result ≡ length (network_of self.now).instances }
+    {
+        self.program.instances.len()
+    }
+
+    /// The channel with that number, counted from 0 in order of declaration.
+    pub fn channel(&self, channel: usize) -> Channel<'_>
+        requires { channel < length (network_of self.now).channels }
+        ensures name { slice_get (channel_names self.now) channel ≡ Some result.name.now }
+        ensures kind { result.kind ≡ kind_at (network_of self.now) channel }
+        ensures role { result.role ≡ role_at (network_of self.now) channel }
+    {
+        let wire = &self.wires[channel];
+        Channel {
+            name: wire.name.as_str(),
+            kind: wire.kind,
+            role: wire.role,
+        }
+    }
+
+    /// Who writes the channel with that number; nobody does where it is an input.
+    pub fn writer(&self, channel: usize) -> Option<Side>
+        requires { channel < length (network_of self.now).channels }
+        ensures only { IsOnly (IsWriter (network_of self.now) channel) result }
+        ensures source { channel_source (network_of self.now) channel ≡ source_of result }
+    {
+        self.wires[channel].writer
+    }
+
+    /// Who reads the channel with that number; nobody does where it is an output.
+    pub fn reader(&self, channel: usize) -> Option<Side>
+        requires { channel < length (network_of self.now).channels }
+        ensures only { IsOnly (IsReader (network_of self.now) channel) result }
+    {
+        self.wires[channel].reader
+    }
+
+    /// The instance with that number, counted from 0 in text order.
+    pub fn instance(&self, instance: usize) -> NetworkInstance<'_>
+        requires { instance < length (network_of self.now).instances }
+        ensures number { process_at self.now.declarations.items result.declaration ≡ Some result.process.now }
+        ensures declared { IsMadeOf self.now instance result.process.now result.arguments.now }
+        ensures made { instance_at (network_of self.now) instance ≡ instance_from (channel_names self.now) (Some result.process.now) result.arguments.now }
+    {
+        let declaration = self.processes[instance];
+        match &self.program.declarations[declaration] {
+            Declaration::Process(process) => NetworkInstance {
+                declaration,
+                process,
+                arguments: &self.program.instances[instance].arguments,
+            },
+            Declaration::Channels(_, _, _) => unreachable!(),
+        }
+    }
+}

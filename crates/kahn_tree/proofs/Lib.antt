@@ -1,2 +1,0 @@
-mod Noted
-mod Printing

@@ -1,7 +1,0 @@
-use Rattle.std.proofs.Common.{rules}
-use Rattle.kahn_tree.specs.declared.tree.Action.TheViews.{the_lemmas}
-use Rattle.kahn_tree.proofs.Printing.{block_prints}
-use Rattle.kahn_tree.proofs.prints.+prints.Goals as goal
-
-pub loop-inner-init : goal.loop-inner-init
-loop-inner-init t c names = search (rules, the_lemmas, block_prints)

@@ -1,9 +1,0 @@
-use Rattle.std.proofs.Common.{◌≡◌, drop}
-use Rattle.kahn_tree.specs.Syntax.{prints_in}
-use Rattle.kahn_tree.specs.View.{Scope, statement_of}
-use Rattle.kahn_tree.proofs.Printing.{any_prints}
-use Rattle.kahn_tree.proofs.prints.+prints.Given as goal
-
-abbrev pub invariant-loop-inner : goal.invariant-loop-inner
-invariant-loop-inner l =
-    (names : Scope) → any_prints names (drop l.inner-index l.inner-items) ≡ prints_in (statement_of names l.statement)

@@ -1,9 +1,0 @@
-use Rattle.std.proofs.Common.{sym, ap, ◌∙◌}
-use Rattle.kahn_tree.specs.View.{names_of}
-use Rattle.kahn_tree.proofs.Printing.{any_prints, body_prints}
-use Rattle.kahn_tree.proofs.prints.process_prints.Goals as goal
-
-pub loop-statement-init : goal.loop-statement-init
-loop-statement-init c =
-    let names = names_of c.args.process.now in
-    ap (any_prints names) c.deref-statement-items.ensures.value ∙ sym (body_prints names c.args.process.now.statements.items)
